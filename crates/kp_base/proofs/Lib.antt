@@ -1,0 +1,5 @@
+pub mod Places
+pub mod First
+pub mod Checks
+pub mod Bytes
+pub mod Pieces
