@@ -1,0 +1,4 @@
+pub mod Grammar
+pub mod Tables
+pub mod Machine
+pub mod Sample
