@@ -1,0 +1,161 @@
+ghost use Rattle.std.specs.Prelude.{◌≡◌, ◌+◌, ◌<◌, ◌≤◌, ◌↔◌, length, slice_index, IfOk, OnOk, OnErr, IsErr};
+ghost use Rattle.kp_region.specs.Words.{IsSound, IsWithin, IsDisjoint, fresh, next_span, carved, written, copied, released};
+
+use crate::span::Span;
+use kp_base::NoMemory;
+use std::alloc::Global;
+use std::marker::Model;
+
+/// A region has fewer words left than are asked for.
+#[derive(Clone, Copy, Debug, PartialEq, Eq)]
+pub struct Full;
+
+/// How many words of a region were used at some moment.
+#[derive(Clone, Copy, Debug, PartialEq, Eq)]
+pub struct Mark {
+    used: u32,
+}
+
+impl Model for Mark {
+    ghost use Rattle.std.specs.Prelude.{ℕ};
+
+    ghost Value = { ℕ };
+
+    ghost view = { λ m. m.used };
+
+    ghost inverse = { λ n. record { used = n } };
+}
+
+/// Words of 64 bits, seen as the list of all of them and the number of those that are used.
+#[derive(Debug, Drop)]
+pub struct Region {
+    words: Vec<u64>,
+    used: u32,
+}
+
+impl Model for Region {
+    ghost use Rattle.std.specs.Prelude.{◌≤◌, ◌<◌, ◌^◌, length};
+    ghost use Rattle.kp_region.specs.Words.{Words};
+
+    ghost Value = { Words };
+
+    ghost view = { λ r. record { words = r.words.items; used = r.used } };
+
+    ghost invariant = { λ r. (r.used ≤ length r.words.items) × (length r.words.items < 2 ^ 32) };
+}
+
+impl Region {
+    /// A region of so many words. Want of memory is the one refusal.
+    pub fn take(alloc: Global, words: u32) -> Result<Region, NoMemory>
+        ensures { IfOk result (λ r. r ≡ fresh words) }
+    {
+        let words = vec![in alloc; 0; words as usize]?;
+        Ok(Region { words, used: 0 })
+    }
+
+    /// The next `n` words, as a span of their own.
+    pub fn carve(&mut self, n: u32) -> Result<Span, Full>
+        ensures span { IfOk result (λ s. s ≡ next_span self.old n) }
+        ensures carved { OnOk result (self.new ≡ carved self.old n) }
+        ensures full { IsErr result ↔ (length self.old.words < self.old.used + n) }
+        ensures unchanged { OnErr result (self.new ≡ self.old) }
+        ensures sound { IsSound self.new }
+    {
+        let start = self.used as usize;
+        if n as usize > self.words.len() - start {
+            return Err(Full);
+        }
+        self.words[start..start + n as usize].fill(0);
+        let span = Span {
+            start: self.used,
+            len: n,
+        };
+        self.used += n;
+        Ok(span)
+    }
+
+    /// The word of the span at this place in it.
+    pub fn get(&self, s: Span, i: u32) -> u64
+        requires within { IsWithin s self.now }
+        requires in_span { i < s.len }
+        ensures { result ≡ slice_index self.now.words (s.start + i) }
+    {
+        self.words[s.start as usize + i as usize]
+    }
+
+    /// Writes the word of the span at this place in it.
+    pub fn put(&mut self, s: Span, i: u32, v: u64)
+        requires within { IsWithin s self.old }
+        requires in_span { i < s.len }
+        ensures written { self.new ≡ written self.old s i v }
+        ensures sound { IsSound self.new }
+    {
+        self.words[s.start as usize + i as usize] = v;
+    }
+
+    /// Copies the words of one span over those of another.
+    pub fn copy(&mut self, from: Span, to: Span)
+        requires same_length { from.len ≡ to.len }
+        requires from_within { IsWithin from self.old }
+        requires to_within { IsWithin to self.old }
+        requires disjoint { IsDisjoint from to }
+        ensures copied { self.new ≡ copied self.old from to }
+        ensures sound { IsSound self.new }
+    {
+        let start = from.start as usize;
+        let end = start + from.len as usize;
+        self.words.copy_within(start..end, to.start as usize);
+    }
+
+    /// How many words are used now.
+    pub fn mark(&self) -> Mark
+        ensures mark { result ≡ self.now.used }
+        ensures sound { IsSound self.now }
+    {
+        Mark { used: self.used }
+    }
+
+    /// Goes back to a mark: what was carved since is free again.
+    pub fn release(&mut self, m: Mark)
+        requires { m ≤ self.old.used }
+        ensures released { self.new ≡ released self.old m }
+        ensures sound { IsSound self.new }
+    {
+        self.used = m.used;
+    }
+}
+
+#[cfg(test)]
+mod tests {
+    use super::*;
+    use std::test::Fail;
+
+    #[test]
+    fn carves_until_full(rt: HostRuntime) -> Result<(), Fail> {
+        let mut region = Region::take(rt.alloc(), 4)?;
+        assert_eq!(rt; region.carve(3), Ok(Span { start: 0, len: 3 }));
+        assert_eq!(rt; region.carve(2), Err(Full));
+        assert_eq!(rt; region.carve(1), Ok(Span { start: 3, len: 1 }));
+        assert_eq!(rt; region.carve(0), Ok(Span { start: 4, len: 0 }));
+        assert_eq!(rt; region.carve(u32::MAX), Err(Full));
+        Ok(())
+    }
+
+    #[test]
+    fn copies_and_releases(rt: HostRuntime) -> Result<(), Fail> {
+        let mut region = Region::take(rt.alloc(), 6)?;
+        let low = region.carve(3)?;
+        let mark = region.mark();
+        let high = region.carve(3)?;
+        region.put(low, 2, u64::MAX);
+        region.copy(low, high);
+        region.put(high, 0, 9);
+        assert_eq!(rt; [region.get(low, 0), region.get(low, 2)], [0, u64::MAX]);
+        assert_eq!(rt; [region.get(high, 0), region.get(high, 2)], [9, u64::MAX]);
+        region.release(mark);
+        let again = region.carve(2)?;
+        assert_eq!(rt; again, Span { start: 3, len: 2 });
+        assert_eq!(rt; [region.get(again, 0), region.get(low, 2)], [0, u64::MAX]);
+        Ok(())
+    }
+}
