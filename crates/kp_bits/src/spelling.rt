@@ -1,0 +1,72 @@
+ghost use Rattle.std.specs.Prelude.{◌≡◌, ◌+◌, ◌/◌, ◌%◌, ◌^◌, ◌<◌, ◌≤◌, ◌++◌, length, drop};
+ghost use Rattle.std.specs.Char.{digit_char};
+ghost use Rattle.kp_bits.specs.Spelling.{decimal_digits, hex_digits, spelling};
+
+use crate::bits::Bits;
+
+impl Bits {
+    /// Writes the canonical form, as `8'h0b`, at the front of `out`, and gives its length: the width in decimal, `'h`,
+    /// and a hexadecimal digit for each four bits or part of them, in lower case.
+    pub fn spell(self, out: &mut [u8; 20]) -> usize
+        ensures length { result ≡ length (spelling self) }
+        ensures written { out.new ≡ spelling self ++ drop (length (spelling self)) out.old }
+    {
+        let quote = write_width(self.width(), out);
+        out[quote] = b'\'';
+        out[quote + 1] = b'h';
+        let start = quote + 2;
+        let end = start + usize::from(self.width().div_ceil(4));
+        write_hex(self.value(), &mut out[start..end]);
+        end
+    }
+}
+
+// Writes a width in decimal at the front of `out`, and gives the length.
+#[tactic(auto, using(crate::proofs::Spellings::one_digit_long, crate::proofs::Spellings::two_digits_long, crate::proofs::Spellings::one_digit_written, crate::proofs::Spellings::two_digits_written))]
+fn write_width(width: u8, out: &mut [u8; 20]) -> usize
+    requires positive { 1 ≤ width }
+    requires at_most { width ≤ 64 }
+    ensures length { result ≡ length (decimal_digits width) }
+    ensures short { result ≤ 2 }
+    ensures written { out.new ≡ decimal_digits width ++ drop (length (decimal_digits width)) out.old }
+{
+    if width < 10 {
+        out[0] = b'0' + width;
+        return 1;
+    }
+    out[0] = b'0' + width / 10;
+    out[1] = b'0' + width % 10;
+    2
+}
+
+// Fills `out` with the last digits of the number in hexadecimal.
+#[tactic(auto, using(crate::proofs::Spellings::hex_more, crate::proofs::Spellings::hex_all))]
+fn write_hex(n: u64, out: &mut [u8])
+    requires { length out.old ≤ 16 }
+    ensures { out.new ≡ hex_digits (length out.old) n }
+{
+    let count = out.len();
+    for i in 0..count {
+        out[i] = hex_digit(n, count - 1 - i);
+    }
+}
+
+// The digit at a place of the number in hexadecimal, counted from the lowest.
+#[tactic(auto, using(crate::proofs::Spellings::digit_at))]
+fn hex_digit(n: u64, place: usize) -> u8
+    requires { place < 16 }
+    ensures { result ≡ digit_char (n / 16 ^ place % 16) }
+{
+    digit_char(((n >> (4 * place)) % 16) as u8)
+}
+
+fn digit_char(digit: u8) -> u8
+    requires { digit < 16 }
+    ensures { result ≡ digit_char digit }
+{
+    if digit < 10 {
+        b'0' + digit
+    } else {
+        b'a' + (digit - 10)
+    }
+}
