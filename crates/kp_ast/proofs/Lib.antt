@@ -1,0 +1,6 @@
+pub mod Levels
+pub mod Induction
+pub mod Bodies
+pub mod Weight
+pub mod Agree
+pub mod Depends

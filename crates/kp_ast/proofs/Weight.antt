@@ -1,0 +1,13 @@
+-- How much work is in the bodies of functions.
+use Rattle.std.proofs.Common.{ℕ, ◌+◌, List}
+use Rattle.std.specs.Prelude.{sum_by}
+use Rattle.kp_ast.specs.declared.tree.Decl.{Decl}
+use Rattle.kp_ast.specs.declared.tree.Decl.TheVariants as decls
+use Rattle.kp_ast.specs.declared.tree.ExprKind.TheViews.{size-Expr}
+
+abbrev pub weight_of : Decl → ℕ
+weight_of (decls.Func f) = 1 + size-Expr f.body
+weight_of _ = 1
+
+abbrev pub weight : List Decl → ℕ
+weight ds = sum_by weight_of ds

@@ -1,0 +1,100 @@
+-- The value of an expression, where each operation in it has operands of the widths that it is meant for, and each name and
+-- function is known. The plain program gives this one, since a value of a program has 1 to 64 bits.
+use Rattle.std.specs.Prelude.{ℕ, ◌+◌, Bool, ◌&&◌, ◌||◌, ◌==◌, nat_lt, nat_le, if◌then◌else◌, List, [], ◌∷◌, length, fold, Option, None, Some, option_map, option_and_then}
+use Rattle.std.specs.Result.{result_ok}
+use Rattle.kp_bits.specs.Literals.{fit_of}
+use Rattle.kp_bits.specs.Word.{Word, not_of, mux_of, concat_of, slice_of, zext_of, sext_of}
+use Rattle.kp_bits.specs.declared.literal.Literal.{Literal}
+use Rattle.kp_ast.specs.Expressions.{is_shift, Values, look_up, arguments_of, binary_of, is_function}
+use Rattle.kp_ast.specs.declared.tree.BinOp.{BinOp}
+use Rattle.kp_ast.specs.declared.tree.Decl.{Decl}
+use Rattle.kp_ast.specs.declared.tree.Decl.TheVariants as decls
+use Rattle.kp_ast.specs.declared.tree.Expr.{Expr}
+use Rattle.kp_ast.specs.declared.tree.ExprKind.TheOpen.{ExprKind-F, Expr-F}
+use Rattle.kp_ast.specs.declared.tree.ExprKind.TheOpen as level
+use Rattle.kp_ast.specs.declared.tree.ExprKind.TheFolds.{fold-Expr}
+
+-- the known values of names, and of calls at the values of their arguments
+pub record Known : Type 0 where
+  pub names : List ℕ → Option Word
+  pub calls : List ℕ → List Word → Option Word
+
+-- a value where a test passes
+abbrev pub where_so : Bool → Word → Option Word
+where_so test value = if test then Some value else None
+
+-- the width is in 1 to 64, and the value fits it
+abbrev pub checked_literal : Literal → Option Word
+checked_literal l = result_ok (fit_of l)
+
+-- the operands have one width, but for a shift
+abbrev pub checked_binary : BinOp → Word → Word → Option Word
+checked_binary op a b = where_so (is_shift op || a.width == b.width) (binary_of op a b)
+
+-- the test has one bit, and the branches have one width
+abbrev pub checked_mux : Word → Word → Word → Option Word
+checked_mux test a b = where_so (test.width == 1 && a.width == b.width) (mux_of test a b)
+
+-- the parts have at most 64 bits together
+abbrev pub checked_join : Word → List Word → Option Word
+checked_join a [] = Some a
+checked_join a (b ∷ rest) = if nat_le (a.width + b.width) 64 then checked_join (concat_of a b) rest else None
+
+abbrev pub checked_joined : List Word → Option Word
+checked_joined [] = None
+checked_joined (a ∷ rest) = checked_join a rest
+
+-- the bits are there, in this order
+abbrev pub checked_slice : ℕ → ℕ → Word → Option Word
+checked_slice hi lo a = where_so (nat_le lo hi && nat_lt hi a.width) (slice_of a hi lo)
+
+-- an extension to no fewer bits than there are, and to 64 at most
+abbrev pub is_extension : ℕ → Word → Bool
+is_extension width a = nat_le a.width width && nat_le width 64
+
+abbrev pub checked_zext : ℕ → Word → Option Word
+checked_zext width a = where_so (is_extension width a) (zext_of a width)
+
+abbrev pub checked_sext : ℕ → Word → Option Word
+checked_sext width a = where_so (is_extension width a) (sext_of a width)
+
+-- all values, where each is there
+abbrev pub all_there : List (Option Word) → Option (List Word)
+all_there [] = Some []
+all_there (a ∷ rest) = option_and_then (λ x. option_map (λ xs. x ∷ xs) (all_there rest)) a
+
+-- one level: the value of an expression from those of its parts
+abbrev pub checked_kind : Known → ExprKind-F (Option Word) (Option Word) → Option Word
+checked_kind known (level.Lit l) = checked_literal l
+checked_kind known (level.Name name) = known.names name
+checked_kind known (level.Not a) = option_map not_of a
+checked_kind known (level.Binary op a b) = option_and_then (λ x. option_and_then (λ y. checked_binary op x y) b) a
+checked_kind known (level.Mux test a b) =
+    option_and_then (λ t. option_and_then (λ x. option_and_then (λ y. checked_mux t x y) b) a) test
+checked_kind known (level.Concat parts) = option_and_then checked_joined (all_there parts)
+checked_kind known (level.Slice a hi lo) = option_and_then (checked_slice hi lo) a
+checked_kind known (level.Zext a width) = option_and_then (checked_zext width.value) a
+checked_kind known (level.Sext a width) = option_and_then (checked_sext width.value) a
+checked_kind known (level.Call name args) = option_and_then (known.calls name) (all_there args)
+
+abbrev pub checked_level : Expr-F (Option Word) (Option Word) → Option Word
+checked_level e = e.kind
+
+abbrev pub checked : Known → Expr → Option Word
+checked known = fold-Expr (Option Word) (Option Word) (checked_kind known) checked_level
+
+-- a call has as many arguments as the function has parameters
+abbrev pub checked_call : (List ℕ → List Word → Option Word) → Decl → List Word → Option Word
+checked_call calls (decls.Func f) args =
+    if length args == length f.params then checked (record { names = look_up (arguments_of f.params args); calls = calls }) f.body else None
+checked_call calls _ args = None
+
+abbrev pub checked_calls_after : (List ℕ → List Word → Option Word) → Decl → List ℕ → List Word → Option Word
+checked_calls_after calls d name args = if is_function name d then checked_call calls d args else calls name args
+
+abbrev pub checked_calls_of : List Decl → List ℕ → List Word → Option Word
+checked_calls_of ds = fold checked_calls_after (λ name args. None) ds
+
+-- what is known after these declarations, where names have these values
+abbrev pub known_of : List Decl → Values → Known
+known_of ds values = record { names = look_up values; calls = checked_calls_of ds }

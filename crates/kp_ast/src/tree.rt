@@ -1,0 +1,229 @@
+use crate::boxed::Boxed;
+use crate::name::Name;
+use kp_base::{List, Place};
+use kp_bits::{Bits, Literal};
+
+/// A binary operator: `& | ^ + - * == < << >>`, in this order.
+#[derive(Clone, Copy, Debug, PartialEq, Eq)]
+pub enum BinOp {
+    And,
+    Or,
+    Xor,
+    Add,
+    Sub,
+    Mul,
+    Eq,
+    Lt,
+    Shl,
+    Shr,
+}
+
+impl BinOp {
+    ghost use Rattle.std.specs.Prelude.{◌≡◌, false};
+    ghost use Rattle.kp_ast.specs.Expressions.{is_shift, binary_of};
+
+    /// Whether the right operand may have any width.
+    pub fn is_shift(self) -> bool
+        ensures { result ≡ is_shift self }
+    {
+        matches!(self, BinOp::Shl | BinOp::Shr)
+    }
+
+    /// The value of the operator at these operands.
+    pub fn apply(self, a: Bits, b: Bits) -> Bits
+        requires { is_shift self ≡ false → a.width ≡ b.width }
+        ensures { result ≡ binary_of self a b }
+    {
+        match self {
+            BinOp::And => a.and(b),
+            BinOp::Or => a.or(b),
+            BinOp::Xor => a.xor(b),
+            BinOp::Add => a.add(b),
+            BinOp::Sub => a.sub(b),
+            BinOp::Mul => a.mul(b),
+            BinOp::Eq => a.eq(b),
+            BinOp::Lt => a.lt(b),
+            BinOp::Shl => a.shl(b),
+            BinOp::Shr => a.shr(b),
+        }
+    }
+}
+
+/// A number as it is written, and where.
+#[derive(Clone, Copy, Debug, PartialEq, Eq)]
+pub struct Num {
+    pub value: u64,
+    pub at: Place,
+}
+
+/// A literal as it is written, and where.
+#[derive(Clone, Copy, Debug, PartialEq, Eq)]
+pub struct Lit {
+    pub literal: Literal,
+    pub at: Place,
+}
+
+/// A name, and where it stands.
+#[derive(Debug, Drop)]
+pub struct Named {
+    pub name: Name,
+    pub at: Place,
+}
+
+/// An expression.
+///
+/// Its place is that of its outermost operator, name, literal, call name, extension word, `?`, opening `[` of a slice or
+/// opening `{`.
+#[cycle(tree)]
+#[derive(Debug, Drop)]
+pub struct Expr {
+    pub place: Place,
+    pub kind: ExprKind,
+}
+
+/// What an expression is.
+#[cycle(tree)]
+#[derive(Debug, Drop)]
+pub enum ExprKind {
+    Lit(Literal),
+    Name(Name),
+    /// `~ a`
+    Not(Boxed<Expr>),
+    /// `a + b`
+    Binary(BinOp, Boxed<Expr>, Boxed<Expr>),
+    /// `test ? yes : no`, in this order.
+    Mux(Boxed<Expr>, Boxed<Expr>, Boxed<Expr>),
+    /// `{ a, b }`, with the high bits first.
+    Concat(List<Expr>),
+    /// `a[hi:lo]`, with `hi` before `lo`.
+    Slice(Boxed<Expr>, u64, u64),
+    /// `zext(a, width)`
+    Zext(Boxed<Expr>, Num),
+    /// `sext(a, width)`
+    Sext(Boxed<Expr>, Num),
+    /// `f(a, b)`
+    Call(Name, List<Expr>),
+}
+
+/// `read name = target[address] when when;` or `.. guess guess;`
+#[derive(Debug, Drop)]
+pub struct ReadStmt {
+    pub name: Named,
+    pub target: Named,
+    pub address: Option<Expr>,
+    pub when: Option<Expr>,
+    pub guess: Option<Expr>,
+}
+
+/// What a statement does.
+#[derive(Debug, Drop)]
+pub enum StmtKind {
+    Read(ReadStmt),
+    /// `let name = value;`
+    Let(Named, Expr),
+    /// `put pipe = value;`
+    Put(Named, Expr),
+    /// `set result = value when condition;`
+    Set(Named, Expr, Option<Expr>),
+    /// `aim hint = value;`
+    Aim(Named, Expr),
+}
+
+/// A statement, and the place of its first token.
+#[derive(Debug, Drop)]
+pub struct Stmt {
+    pub at: Place,
+    pub kind: StmtKind,
+}
+
+/// `stage number { .. }`
+#[derive(Debug, Drop)]
+pub struct Block {
+    pub number: Num,
+    pub stmts: List<Stmt>,
+}
+
+/// A parameter of a function.
+#[derive(Debug, Drop)]
+pub struct Param {
+    pub name: Named,
+    pub width: Num,
+}
+
+/// `result name : width -> target[address] when enable at stage;`
+#[derive(Debug, Drop)]
+pub struct ResultDecl {
+    pub name: Named,
+    pub width: Num,
+    pub target: Named,
+    pub address: Option<Named>,
+    pub enable: Option<Named>,
+    pub stage: Num,
+}
+
+/// `fn name(params) : width = body;`
+#[derive(Debug, Drop)]
+pub struct FuncDecl {
+    pub name: Named,
+    pub params: List<Param>,
+    pub width: Num,
+    pub body: Expr,
+}
+
+/// A declaration.
+#[derive(Debug, Drop)]
+pub enum Decl {
+    /// `reg name : width = start;`
+    Reg(Named, Num, Lit),
+    /// `file name : width [address width];`
+    File(Named, Num, Num),
+    /// `pipe name : width;`
+    Pipe(Named, Num),
+    /// `hint name : width = start;`
+    Hint(Named, Num, Lit),
+    Target(ResultDecl),
+    Func(FuncDecl),
+}
+
+/// An entry of the image section: `name[address] = value, value;`
+#[derive(Debug, Drop)]
+pub struct Image {
+    pub name: Named,
+    pub address: Option<Num>,
+    pub values: List<Lit>,
+}
+
+/// An entry of the stalls section: `stage from a to b step p;`
+#[derive(Debug, Drop)]
+pub struct Stalls {
+    pub stage: Num,
+    pub from: Num,
+    pub to: Num,
+    pub step: Option<Num>,
+}
+
+/// A whole job. A section that stands in the text and has no entries is an empty list.
+#[derive(Debug, Drop)]
+pub struct Job {
+    pub name: Named,
+    pub stages: Num,
+    pub decls: List<Decl>,
+    pub blocks: List<Block>,
+    pub image: Option<List<Image>>,
+    pub stalls: Option<List<Stalls>>,
+}
+
+impl Decl {
+    ghost use Rattle.std.specs.Prelude.{◌≡◌};
+    ghost use Rattle.kp_ast.specs.Expressions.{is_function};
+
+    /// Whether this is the declaration of a function of this name.
+    pub fn is_function(&self, name: &Name) -> bool
+        ensures { result ≡ is_function name.now self.now }
+    {
+        match self {
+            Decl::Func(f) => f.name.name == *name,
+            _ => false,
+        }
+    }
+}
