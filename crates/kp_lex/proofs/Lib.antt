@@ -1,0 +1,5 @@
+pub mod Fits
+pub mod Along
+pub mod Outcome
+pub mod Stands
+pub mod Names
