@@ -1,0 +1,4 @@
+mod Entries
+pub mod Functions
+mod Sums
+pub mod Unbroken

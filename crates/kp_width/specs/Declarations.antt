@@ -1,0 +1,115 @@
+-- Declarations: rules E5 to E14 on them, from left to right.
+use Rattle.std.specs.Prelude.{ℕ, ◌+◌, List, [], ◌∷◌, Option, Some, None, Bool, ◌&&◌, if◌then◌else◌, ◌==◌, nat_le, is_some}
+use Rattle.kp_base.specs.Check.{Check, ok, ◌>>=◌, wants}
+use Rattle.kp_base.specs.Refusal.{e_rule}
+use Rattle.kp_ast.specs.declared.tree.Num.{Num}
+use Rattle.kp_ast.specs.declared.tree.Lit.{Lit}
+use Rattle.kp_ast.specs.declared.tree.Named.{Named}
+use Rattle.kp_ast.specs.declared.tree.Param.{Param}
+use Rattle.kp_ast.specs.declared.tree.ResultDecl.{ResultDecl}
+use Rattle.kp_ast.specs.declared.tree.FuncDecl.{FuncDecl}
+use Rattle.kp_ast.specs.declared.tree.Decl.{Decl}
+use Rattle.kp_ast.specs.declared.tree.Decl.TheVariants as decls
+use Rattle.kp_ast.specs.declared.widths.Scope.TheVariants as scopes
+use Rattle.kp_ast.specs.declared.widths.NameKind.{NameKind}
+use Rattle.kp_ast.specs.declared.widths.NameKind.TheVariants as kinds
+use Rattle.kp_width.specs.Names.{Sense, sense, is_register, is_file, is_pipe, Checked, passed, Scoped, fresh, used, opened, with_entry, with_text, declared_text, declared_local}
+use Rattle.kp_width.specs.Expressions.{is_width, literal_of, part_of, value_of}
+
+-- E8: a declared width is one
+abbrev pub declared : Num → Check ℕ
+declared n = wants (is_width n.value) (e_rule 8 n.at) (ok n.value)
+
+-- E10: a start value, once it is a literal, is as wide as what it starts
+abbrev pub start_of : Lit → ℕ → Checked
+start_of l w = literal_of l.literal l.at >>= (λ x. wants (x == w) (e_rule 10 l.at) passed)
+
+-- the width of a register or a hint, which has a start value
+abbrev pub started_of : Num → Lit → Check ℕ
+started_of width start = declared width >>= (λ w. start_of start w >>= (λ x. ok w))
+
+-- E14: the addresses of a file are 1 to 16 bits wide
+abbrev pub addresses_of : Num → Check ℕ
+addresses_of n = wants (nat_le 1 n.value && nat_le n.value 16) (e_rule 14 n.at) (ok n.value)
+
+-- a part that may be left out
+abbrev pub kept : {X : Type 0} → Option X → (X → Checked) → Checked
+kept None check = passed
+kept (Some x) check = check x
+
+-- E6 and E7: what a read or a result names is a file where an address stands, and a register where none does
+abbrev pub storage_of : Scoped → Named → Bool → Check Sense
+storage_of s n addressed = used s (if addressed then is_file else is_register) n.name n.at
+
+abbrev pub address_width : NameKind → ℕ
+address_width (kinds.File a) = a
+address_width _ = 0
+
+-- a pipe that is to have this width, by the rule of this number
+abbrev pub pipe_of : Scoped → ℕ → ℕ → Named → Checked
+pipe_of s width number n = used s is_pipe n.name n.at >>= (λ m. wants (m.width == width) (e_rule number n.at) passed)
+
+-- a result after its width. E10: its target is as wide; E14: its address pipe is as wide as the addresses of the file; and
+-- E11: its enable pipe is one bit wide
+abbrev pub target_of : Scoped → ResultDecl → ℕ → Checked
+target_of s r w =
+    storage_of s r.target (is_some r.address)
+    >>= (λ t. wants (t.width == w) (e_rule 10 r.target.at) (kept r.address (pipe_of s (address_width t.kind) 14)
+    >>= (λ a. kept r.enable (pipe_of s 1 11))))
+
+-- the width of a result
+abbrev pub result_of : Scoped → ResultDecl → Check ℕ
+result_of s r = declared r.width >>= (λ w. target_of s r w >>= (λ x. ok w))
+
+-- the parameters of the function that the declaration of this number declares
+abbrev pub parameters_of : ℕ → Scoped → List Param → Check Scoped
+parameters_of i s [] = ok s
+parameters_of i s (p ∷ ps) =
+    fresh s p.name.name p.name.at (declared p.width >>= (λ w. parameters_of i (declared_local s p.name.name (sense kinds.Param w i)) ps))
+
+-- a width, or 0 where it isn't one
+abbrev pub width_or_zero : ℕ → ℕ
+width_or_zero w = if is_width w then w else 0
+
+-- a function begins, as the one of this number among the functions: its entry comes before those of its parameters, but its
+-- width is checked after them
+abbrev pub function_opened : Scoped → ℕ → FuncDecl → Scoped
+function_opened s k f = opened (with_entry s scopes.Text f.name.name (sense kinds.Func (width_or_zero f.width.value) 0)) (scopes.Function k)
+
+-- a function after its name: the number of its declaration, and its number among the functions. It comes into scope at its
+-- end, so a parameter may have its name. E10: its body is as wide as the function
+abbrev pub function_of : List Decl → ℕ → ℕ → Scoped → FuncDecl → Check Scoped
+function_of ds i k s f =
+    parameters_of i (function_opened s k f) f.params
+    >>= (λ t. declared f.width >>= (λ w. value_of (part_of ds i t f.body) w >>= (λ x. ok (with_text t f.name.name (sense kinds.Func w i)))))
+
+abbrev pub name_of : Decl → Named
+name_of (decls.Reg n width start) = n
+name_of (decls.File n width address) = n
+name_of (decls.Pipe n width) = n
+name_of (decls.Hint n width start) = n
+name_of (decls.Target r) = r.name
+name_of (decls.Func f) = f.name
+
+-- a declaration after its name: the number of the declaration, and its number among the functions
+abbrev pub after_name : List Decl → ℕ → ℕ → Scoped → Decl → Check Scoped
+after_name ds i k s (decls.Reg n width start) = started_of width start >>= (λ w. ok (declared_text s n.name (sense kinds.Reg w i)))
+after_name ds i k s (decls.File n width address) =
+    declared width >>= (λ w. addresses_of address >>= (λ a. ok (declared_text s n.name (sense (kinds.File a) w i))))
+after_name ds i k s (decls.Pipe n width) = declared width >>= (λ w. ok (declared_text s n.name (sense kinds.Pipe w i)))
+after_name ds i k s (decls.Hint n width start) = started_of width start >>= (λ w. ok (declared_text s n.name (sense kinds.Hint w i)))
+after_name ds i k s (decls.Target r) = result_of s r >>= (λ w. ok (declared_text s r.name.name (sense kinds.Target w i)))
+after_name ds i k s (decls.Func f) = function_of ds i k s f
+
+-- a declaration, before which i declarations and k functions stand
+abbrev pub declaration_of : List Decl → ℕ → ℕ → Scoped → Decl → Check Scoped
+declaration_of ds i k s d = fresh s (name_of d).name (name_of d).at (after_name ds i k s d)
+
+abbrev pub functions_in : Decl → ℕ
+functions_in (decls.Func f) = 1
+functions_in _ = 0
+
+-- the declarations from one on
+abbrev pub declarations_of : List Decl → ℕ → ℕ → Scoped → List Decl → Check Scoped
+declarations_of ds i k s [] = ok s
+declarations_of ds i k s (d ∷ rest) = declaration_of ds i k s d >>= (λ t. declarations_of ds (i + 1) (k + functions_in d) t rest)

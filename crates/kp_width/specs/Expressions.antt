@@ -1,0 +1,139 @@
+-- Widths of expressions: rules E8 to E13 and E26, each at its place and in its turn.
+--
+-- The parts of an expression are checked from left to right, and an operator after its operands.
+use Rattle.std.specs.Prelude.{ℕ, ◌+◌, ◌-◌, ◌^◌, List, [], ◌∷◌, Option, Some, None, Bool, true, false, ◌&&◌, ◌||◌, not, if◌then◌else◌, ◌==◌, nat_lt, nat_le, is_some, min, length, drop, slice_get}
+use Rattle.std.specs.List.{list_any}
+use Rattle.kp_base.specs.Check.{Check, ok, ◌>>=◌, wants}
+use Rattle.kp_base.specs.Refusal.{e_rule}
+use Rattle.kp_base.specs.declared.place.Place.{Place}
+use Rattle.kp_bits.specs.declared.literal.Literal.{Literal}
+use Rattle.kp_ast.specs.Expressions.{is_function}
+use Rattle.kp_ast.specs.declared.tree.BinOp.{BinOp}
+use Rattle.kp_ast.specs.declared.tree.Num.{Num}
+use Rattle.kp_ast.specs.declared.tree.Param.{Param}
+use Rattle.kp_ast.specs.declared.tree.Decl.{Decl}
+use Rattle.kp_ast.specs.declared.tree.Decl.TheVariants as decls
+use Rattle.kp_ast.specs.declared.tree.Expr.{Expr}
+use Rattle.kp_ast.specs.declared.tree.ExprKind.TheOpen.{ExprKind-F, Expr-F}
+use Rattle.kp_ast.specs.declared.tree.ExprKind.TheOpen as level
+use Rattle.kp_ast.specs.declared.tree.ExprKind.TheFolds.{fold-Expr}
+use Rattle.kp_width.specs.Names.{Sense, is_callee, is_value_in, Checked, passed, Scoped, find, used}
+
+-- an expression where it is a part of something: its place, and the check that finds its width
+pub record Part : Type 0 where
+  pub at : Place
+  pub width : Check ℕ
+
+abbrev pub is_shift : BinOp → Bool
+is_shift BinOp.Shl = true
+is_shift BinOp.Shr = true
+is_shift _ = false
+
+abbrev pub is_test : BinOp → Bool
+is_test BinOp.Eq = true
+is_test BinOp.Lt = true
+is_test _ = false
+
+-- widths are 1 to 64
+abbrev pub is_width : ℕ → Bool
+is_width w = nat_le 1 w && nat_le w 64
+
+-- E8 and E13: a literal's width is one, and its value is below 2^width
+abbrev pub literal_of : Literal → Place → Check ℕ
+literal_of l at = wants (is_width l.width) (e_rule 8 at) (wants (nat_lt l.value (2 ^ l.width)) (e_rule 13 at) (ok l.width))
+
+-- E9: two operands have one width, but a shift takes any amount; `==` and `<` give one bit
+abbrev pub binary_of : BinOp → Place → ℕ → ℕ → Check ℕ
+binary_of op at a b = wants (is_shift op || a == b) (e_rule 9 at) (ok (if is_test op then 1 else a))
+
+-- E11 and E9: the test of a choice is one bit wide, and its branches have one width
+abbrev pub choice_of : Place → ℕ → ℕ → ℕ → Check ℕ
+choice_of at test a b = wants (test == 1) (e_rule 11 at) (wants (a == b) (e_rule 9 at) (ok a))
+
+-- E12: a slice takes bits that are there, the high one first
+abbrev pub slice_of : ℕ → ℕ → Place → ℕ → Check ℕ
+slice_of hi lo at w = wants (nat_le lo hi && nat_lt hi w) (e_rule 12 at) (ok (hi - lo + 1))
+
+-- E8 and E12: an extension is to a width, and to no fewer bits than there are
+abbrev pub extension_of : Num → Place → ℕ → Check ℕ
+extension_of n at w = wants (is_width n.value) (e_rule 8 n.at) (wants (nat_le w n.value) (e_rule 12 at) (ok n.value))
+
+-- the widths of the parts of a concatenation together; over 64 it doesn't matter by how much
+abbrev pub sum_of : ℕ → List Part → Check ℕ
+sum_of sum [] = ok sum
+sum_of sum (e ∷ es) = e.width >>= (λ w. sum_of (min (sum + w) 65) es)
+
+-- E8: so is a concatenation
+abbrev pub concatenation_of : Place → ℕ → Check ℕ
+concatenation_of at w = wants (is_width w) (e_rule 8 at) (ok w)
+
+-- E10: a value is as wide as what it is given to
+abbrev pub value_of : Part → ℕ → Checked
+value_of e w = e.width >>= (λ x. wants (x == w) (e_rule 10 e.at) passed)
+
+-- E11: a condition is one bit wide
+abbrev pub condition_of : Part → Checked
+condition_of e = e.width >>= (λ x. wants (x == 1) (e_rule 11 e.at) passed)
+
+-- whether a function of this name is declared by one of these
+abbrev pub is_declared : List Decl → List ℕ → Bool
+is_declared ds name = list_any (is_function name) ds
+
+-- the parameters of the function that the declaration of this number declares
+abbrev pub params_in : Option Decl → List Param
+params_in (Some (decls.Func f)) = f.params
+params_in _ = []
+
+abbrev pub params_of : List Decl → ℕ → List Param
+params_of ds i = params_in (slice_get ds i)
+
+abbrev pub width_in : Option Param → ℕ
+width_in (Some p) = p.width.value
+width_in None = 0
+
+abbrev pub width_at : List Param → ℕ → ℕ
+width_at ps i = width_in (slice_get ps i)
+
+-- the arguments of a call, from the one of this number on: each in turn, and its E10 at once after it
+abbrev pub arguments_of : List Param → ℕ → List Part → Checked
+arguments_of ps i [] = passed
+arguments_of ps i (e ∷ es) = value_of e (width_at ps i) >>= (λ x. arguments_of ps (i + 1) es)
+
+-- E26: a call is of a function that is declared before, and so not of one that is declared here or later, where `done`
+-- declarations stand before the call. A name in scope, as a parameter, hides such a function.
+abbrev pub callee_of : List Decl → ℕ → Scoped → List ℕ → Place → Check Sense
+callee_of ds done s name at =
+    wants (is_some (find s name) || not (is_declared (drop done ds) name)) (e_rule 26 at) (used s is_callee name at)
+
+-- E7: a call has as many arguments as its function has parameters
+abbrev pub called_of : List Decl → ℕ → Scoped → List ℕ → ℕ → Place → Check Sense
+called_of ds done s name count at =
+    callee_of ds done s name at >>= (λ m. wants (count == length (params_of ds m.from)) (e_rule 7 at) (ok m))
+
+-- a call: its name and the number of its arguments come first, then the arguments
+abbrev pub call_of : List Decl → ℕ → Scoped → List ℕ → List Part → Place → Check ℕ
+call_of ds done s name es at =
+    called_of ds done s name (length es) at >>= (λ m. arguments_of (params_of ds m.from) 0 es >>= (λ x. ok m.width))
+
+-- one level: the width of an expression from the widths of its parts
+abbrev pub width_of_kind : List Decl → ℕ → Scoped → ExprKind-F (Place → Check ℕ) Part → Place → Check ℕ
+width_of_kind ds done s (level.Lit l) at = literal_of l at
+width_of_kind ds done s (level.Name name) at = used s (is_value_in s.here) name at >>= (λ m. ok m.width)
+width_of_kind ds done s (level.Not a) at = a.width
+width_of_kind ds done s (level.Binary op a b) at = a.width >>= (λ x. b.width >>= (λ y. binary_of op at x y))
+width_of_kind ds done s (level.Mux test a b) at = test.width >>= (λ t. a.width >>= (λ x. b.width >>= (λ y. choice_of at t x y)))
+width_of_kind ds done s (level.Concat parts) at = sum_of 0 parts >>= (λ w. concatenation_of at w)
+width_of_kind ds done s (level.Slice a hi lo) at = a.width >>= (λ w. slice_of hi lo at w)
+width_of_kind ds done s (level.Zext a n) at = a.width >>= (λ w. extension_of n at w)
+width_of_kind ds done s (level.Sext a n) at = a.width >>= (λ w. extension_of n at w)
+width_of_kind ds done s (level.Call name args) at = call_of ds done s name args at
+
+abbrev pub part_of_level : Expr-F (Place → Check ℕ) Part → Part
+part_of_level e = record { at = e.place; width = e.kind e.place }
+
+-- an expression at a place in the text before which `done` declarations stand
+abbrev pub part_of : List Decl → ℕ → Scoped → Expr → Part
+part_of ds done s = fold-Expr (Place → Check ℕ) Part (width_of_kind ds done s) part_of_level
+
+abbrev pub width_of : List Decl → ℕ → Scoped → Expr → Check ℕ
+width_of ds done s e = (part_of ds done s e).width

@@ -1,0 +1,134 @@
+-- Names and their scopes: rules E5, E6 and E7.
+--
+-- A name that is declared before the stages is in scope from the end of its declaration to the end of the text. A parameter is
+-- in scope to the end of its function, and what a `read` or a `let` names from the end of its statement to the end of its block.
+use Rattle.std.specs.Prelude.{ℕ, List, [], ◌∷◌, ◌++◌, Option, Some, None, Bool, true, false, is_some, not, nat_eq}
+use Rattle.std.specs.Map.{lookup}
+use Rattle.std.specs.Cmp.Lexicographic.{pointwise}
+use Rattle.kp_base.specs.Check.{Check, ok, wants}
+use Rattle.kp_base.specs.Refusal.{e_rule}
+use Rattle.kp_base.specs.declared.place.Place.{Place}
+use Rattle.kp_ast.specs.declared.widths.Entry.{Entry}
+use Rattle.kp_ast.specs.declared.widths.Scope.{Scope}
+use Rattle.kp_ast.specs.declared.widths.Scope.TheVariants as scopes
+use Rattle.kp_ast.specs.declared.widths.NameKind.{NameKind}
+use Rattle.kp_ast.specs.declared.widths.NameKind.TheVariants as kinds
+
+-- a check that finds nothing but that no rule is broken
+abbrev pub Checked : Type 0
+Checked = Check (Unit {0})
+
+abbrev pub passed : Checked
+passed = ok tt
+
+-- what a name names: its kind, the width of its values, and the number of its declaration
+pub record Sense : Type 0 where
+  pub kind : NameKind
+  pub width : ℕ
+  pub from : ℕ
+
+abbrev pub sense : NameKind → ℕ → ℕ → Sense
+sense kind width from = record { kind = kind; width = width; from = from }
+
+abbrev pub Names : Type 0
+Names = List (List ℕ × Sense)
+
+-- a place in the text: the names of the text that are in scope, those of the function or block that is open, which one that
+-- is, and the entries of all names that were declared so far
+pub record Scoped : Type 0 where
+  pub text : Names
+  pub local : Names
+  pub here : Scope
+  pub entries : List Entry
+
+-- names are equal where their bytes are
+abbrev pub look_up : Names → List ℕ → Option Sense
+look_up names name = lookup (pointwise nat_eq name) names
+
+abbrev pub or_else : Option Sense → Option Sense → Option Sense
+or_else None other = other
+or_else (Some m) other = Some m
+
+-- what a name names, if it is in scope
+abbrev pub find : Scoped → List ℕ → Option Sense
+find s name = or_else (look_up s.local name) (look_up s.text name)
+
+-- where the text begins
+abbrev pub nothing : Scoped
+nothing = record { text = []; local = []; here = scopes.Text; entries = [] }
+
+-- a function or a block begins: what was declared in the one before is out of scope
+abbrev pub opened : Scoped → Scope → Scoped
+opened s scope = record { text = s.text; local = []; here = scope; entries = s.entries }
+
+-- a name gets its entry
+abbrev pub with_entry : Scoped → Scope → List ℕ → Sense → Scoped
+with_entry s scope name m = record {
+  text = s.text;
+  local = s.local;
+  here = s.here;
+  entries = s.entries ++ record { name = name; scope = scope; kind = m.kind; width = m.width } ∷ [];
+}
+
+-- a name comes into scope to the end of the text, and what is open ends
+abbrev pub with_text : Scoped → List ℕ → Sense → Scoped
+with_text s name m = record { text = s.text ++ (name, m) ∷ []; local = []; here = scopes.Text; entries = s.entries }
+
+-- a name comes into scope to the end of the function or block that is open
+abbrev pub with_local : Scoped → List ℕ → Sense → Scoped
+with_local s name m = record { text = s.text; local = s.local ++ (name, m) ∷ []; here = s.here; entries = s.entries }
+
+-- a name of the text, and one of the function or block that is open, are declared
+abbrev pub declared_text : Scoped → List ℕ → Sense → Scoped
+declared_text s name m = with_text (with_entry s scopes.Text name m) name m
+
+abbrev pub declared_local : Scoped → List ℕ → Sense → Scoped
+declared_local s name m = with_local (with_entry s s.here name m) name m
+
+-- E5: a name is declared only where it isn't in scope
+abbrev pub fresh : {X : Type 0} → Scoped → List ℕ → Place → Check X → Check X
+fresh s name at next = wants (not (is_some (find s name))) (e_rule 5 at) next
+
+-- E6: a name that is used is in scope; and E7: it is of a kind that its position takes
+abbrev pub used_as : (NameKind → Bool) → Place → Option Sense → Check Sense
+used_as takes at None = wants false (e_rule 6 at) (ok (sense kinds.Reg 0 0))
+used_as takes at (Some m) = wants (takes m.kind) (e_rule 7 at) (ok m)
+
+abbrev pub used : Scoped → (NameKind → Bool) → List ℕ → Place → Check Sense
+used s takes name at = used_as takes at (find s name)
+
+-- An expression in a function may use the function's parameters. One in a stage may use the names that the stage has read or
+-- let, pipes, and hints; that a hint stands only where a guess or an aim is, is a rule of its own (E25), which comes later.
+abbrev pub is_value_in : Scope → NameKind → Bool
+is_value_in (scopes.Function k) kinds.Param = true
+is_value_in (scopes.Function k) _ = false
+is_value_in _ kinds.Pipe = true
+is_value_in _ kinds.Hint = true
+is_value_in _ kinds.Read = true
+is_value_in _ kinds.Let = true
+is_value_in _ _ = false
+
+-- the kinds that the other positions take
+abbrev pub is_register : NameKind → Bool
+is_register kinds.Reg = true
+is_register _ = false
+
+abbrev pub is_file : NameKind → Bool
+is_file (kinds.File a) = true
+is_file _ = false
+
+abbrev pub is_pipe : NameKind → Bool
+is_pipe kinds.Pipe = true
+is_pipe _ = false
+
+abbrev pub is_result : NameKind → Bool
+is_result kinds.Target = true
+is_result _ = false
+
+abbrev pub is_hint : NameKind → Bool
+is_hint kinds.Hint = true
+is_hint _ = false
+
+abbrev pub is_callee : NameKind → Bool
+is_callee kinds.Func = true
+is_callee _ = false

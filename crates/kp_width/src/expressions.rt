@@ -1,0 +1,270 @@
+ghost use Rattle.std.specs.Prelude.{◌≡◌, ◌<◌, ◌+◌, ◌-◌, ◌≤◌, Ok, map, drop, length, slice_get, min};
+ghost use Rattle.kp_width.specs.Expressions.{literal_of, is_shift, is_test, is_width, binary_of, choice_of, slice_of, extension_of, sum_of, concatenation_of, is_declared, params_of, width_at, arguments_of, callee_of, called_of, part_of, width_of, value_of, condition_of};
+
+use crate::names::{Meaning, Names, Position};
+use kp_ast::{BinOp, Decl, Expr, ExprKind, Name, Num, Param};
+use kp_base::{Place, Refusal};
+use kp_bits::Literal;
+
+// The width of an expression before which `done` declarations stand.
+#[cycle(width)]
+pub(crate) fn width(decls: &[Decl], done: usize, names: &Names, e: &Expr) -> Result<u8, Refusal>
+    requires { done ≤ length decls.now }
+    ensures { result ≡ (width_of decls.now done names.now e.now).found }
+{
+    let at = e.place;
+    match &e.kind {
+        ExprKind::Lit(literal) => literal_width(*literal, at),
+        ExprKind::Name(name) => {
+            let meaning = names.used(Position::Value, name, at)?;
+            Ok(meaning.width)
+        }
+        ExprKind::Not(a) => width(decls, done, names, a.get()),
+        ExprKind::Binary(op, a, b) => {
+            let x = width(decls, done, names, a.get())?;
+            let y = width(decls, done, names, b.get())?;
+            binary_width(*op, at, x, y)
+        }
+        ExprKind::Mux(test, yes, no) => {
+            let t = width(decls, done, names, test.get())?;
+            let x = width(decls, done, names, yes.get())?;
+            let y = width(decls, done, names, no.get())?;
+            choice_width(at, t, x, y)
+        }
+        ExprKind::Concat(parts) => {
+            let all = sum(decls, done, names, parts.as_slice())?;
+            concatenation_width(at, all)
+        }
+        ExprKind::Slice(a, hi, lo) => {
+            let w = width(decls, done, names, a.get())?;
+            slice_width(*hi, *lo, at, w)
+        }
+        ExprKind::Zext(a, number) | ExprKind::Sext(a, number) => {
+            let w = width(decls, done, names, a.get())?;
+            extended_width(*number, at, w)
+        }
+        ExprKind::Call(name, args) => {
+            let args = args.as_slice();
+            let meaning = called(decls, done, names, name, args.len(), at)?;
+            let params = params(decls, meaning.from);
+            check_args(decls, done, names, params, args)?;
+            Ok(meaning.width)
+        }
+    }
+}
+
+// The sum of the widths, up to 65.
+#[cycle(width)]
+fn sum(decls: &[Decl], done: usize, names: &Names, es: &[Expr]) -> Result<u8, Refusal>
+    requires { done ≤ length decls.now }
+    ensures { result ≡ (sum_of 0 (map (part_of decls.now done names.now) es.now)).found }
+{
+    let mut all = 0u8;
+    for e in es {
+        let w = width(decls, done, names, e)?;
+        all = capped(all, w);
+    }
+    Ok(all)
+}
+
+// The sum, up to 65.
+fn capped(a: u8, b: u8) -> u8
+    requires { a ≤ 65 }
+    ensures { result ≡ min (a + b) 65 }
+{
+    a.saturating_add(b).min(65)
+}
+
+#[cycle(width)]
+fn check_args(
+    decls: &[Decl],
+    done: usize,
+    names: &Names,
+    params: &[Param],
+    es: &[Expr],
+) -> Result<(), Refusal>
+    requires { done ≤ length decls.now }
+    ensures { result ≡ (arguments_of params.now 0 (map (part_of decls.now done names.now) es.now)).found }
+{
+    for (i, e) in es.iter().enumerate() {
+        let w = width(decls, done, names, e)?;
+        if u64::from(w) != param_width(params, i) {
+            return Err(Refusal::e(10, e.place));
+        }
+    }
+    Ok(())
+}
+
+// An expression that is to have this width.
+pub(crate) fn value(
+    decls: &[Decl],
+    done: usize,
+    names: &Names,
+    e: &Expr,
+    w: u64,
+) -> Result<(), Refusal>
+    requires { done ≤ length decls.now }
+    ensures { result ≡ (value_of (part_of decls.now done names.now e.now) w).found }
+{
+    let x = width(decls, done, names, e)?;
+    if u64::from(x) != w {
+        return Err(Refusal::e(10, e.place));
+    }
+    Ok(())
+}
+
+// An expression that is to be one bit wide.
+pub(crate) fn condition(decls: &[Decl], done: usize, names: &Names, e: &Expr) -> Result<(), Refusal>
+    requires { done ≤ length decls.now }
+    ensures { result ≡ (condition_of (part_of decls.now done names.now e.now)).found }
+{
+    let x = width(decls, done, names, e)?;
+    if x != 1 {
+        return Err(Refusal::e(11, e.place));
+    }
+    Ok(())
+}
+
+#[tactic(auto, using(kp_bits::proofs::Powers::mask_of, std::proofs::lemmas::Nat::pow_pos))]
+pub(crate) fn literal_width(literal: Literal, at: Place) -> Result<u8, Refusal>
+    ensures { result ≡ (literal_of literal at).found }
+{
+    if literal.width == 0 || literal.width > 64 {
+        return Err(Refusal::e(8, at));
+    }
+    if literal.value > u64::MAX >> (64 - literal.width) {
+        return Err(Refusal::e(13, at));
+    }
+    Ok(literal.width as u8)
+}
+
+fn binary_width(op: BinOp, at: Place, a: u8, b: u8) -> Result<u8, Refusal>
+    ensures { result ≡ (binary_of op at a b).found }
+{
+    if is_shift_op(op) {
+        return Ok(a);
+    }
+    if a != b {
+        return Err(Refusal::e(9, at));
+    }
+    Ok(if is_test_op(op) { 1 } else { a })
+}
+
+fn choice_width(at: Place, test: u8, a: u8, b: u8) -> Result<u8, Refusal>
+    ensures { result ≡ (choice_of at test a b).found }
+{
+    if test != 1 {
+        return Err(Refusal::e(11, at));
+    }
+    if a != b {
+        return Err(Refusal::e(9, at));
+    }
+    Ok(a)
+}
+
+fn concatenation_width(at: Place, all: u8) -> Result<u8, Refusal>
+    ensures { result ≡ (concatenation_of at all).found }
+{
+    if !is_in_range(u64::from(all)) {
+        return Err(Refusal::e(8, at));
+    }
+    Ok(all)
+}
+
+fn slice_width(hi: u64, lo: u64, at: Place, w: u8) -> Result<u8, Refusal>
+    ensures { result ≡ (slice_of hi lo at w).found }
+{
+    if hi < lo || hi >= u64::from(w) {
+        return Err(Refusal::e(12, at));
+    }
+    Ok((hi - lo + 1) as u8)
+}
+
+fn extended_width(number: Num, at: Place, w: u8) -> Result<u8, Refusal>
+    ensures { result ≡ (extension_of number at w).found }
+{
+    if !is_in_range(number.value) {
+        return Err(Refusal::e(8, number.at));
+    }
+    if number.value < u64::from(w) {
+        return Err(Refusal::e(12, at));
+    }
+    Ok(number.value as u8)
+}
+
+pub(crate) fn is_in_range(w: u64) -> bool
+    ensures { result ≡ is_width w }
+{
+    1 <= w && w <= 64
+}
+
+fn callee(
+    decls: &[Decl],
+    done: usize,
+    names: &Names,
+    name: &Name,
+    at: Place,
+) -> Result<Meaning, Refusal>
+    requires { done ≤ length decls.now }
+    ensures { result ≡ (callee_of decls.now done names.now name.now at).found }
+{
+    if names.find(name).is_none() && is_declared(&decls[done..], name) {
+        return Err(Refusal::e(26, at));
+    }
+    names.used(Position::Callee, name, at)
+}
+
+// The function that a call with this many arguments names.
+fn called(
+    decls: &[Decl],
+    done: usize,
+    names: &Names,
+    name: &Name,
+    count: usize,
+    at: Place,
+) -> Result<Meaning, Refusal>
+    requires { done ≤ length decls.now }
+    ensures { result ≡ (called_of decls.now done names.now name.now count at).found }
+{
+    let meaning = callee(decls, done, names, name, at)?;
+    if count != params(decls, meaning.from).len() {
+        return Err(Refusal::e(7, at));
+    }
+    Ok(meaning)
+}
+
+fn is_declared(decls: &[Decl], name: &Name) -> bool
+    ensures { result ≡ is_declared decls.now name.now }
+{
+    decls.iter().any(|d| d.is_function(name))
+}
+
+fn params(decls: &[Decl], i: usize) -> &[Param]
+    ensures { result.now ≡ params_of decls.now i }
+{
+    match decls.get(i) {
+        Some(Decl::Func(f)) => f.params.as_slice(),
+        _ => &[],
+    }
+}
+
+fn param_width(params: &[Param], i: usize) -> u64
+    ensures { result ≡ width_at params.now i }
+{
+    match params.get(i) {
+        Some(p) => p.width.value,
+        None => 0,
+    }
+}
+
+fn is_shift_op(op: BinOp) -> bool
+    ensures { result ≡ is_shift op }
+{
+    matches!(op, BinOp::Shl | BinOp::Shr)
+}
+
+fn is_test_op(op: BinOp) -> bool
+    ensures { result ≡ is_test op }
+{
+    matches!(op, BinOp::Eq | BinOp::Lt)
+}

@@ -1,0 +1,14 @@
+//! Names and widths of a job: every name is declared once and used where it may be, and every value is as wide as it has to be.
+#![tactic(auto)]
+
+mod declarations;
+mod expressions;
+mod job;
+pub mod laws;
+mod names;
+mod statements;
+
+pub use job::widths;
+
+#[cfg(test)]
+mod tests;

@@ -1,0 +1,217 @@
+// The names in scope, in tables that find one in about constant time.
+ghost use Rattle.std.specs.Prelude.{◌≡◌, ◌++◌, ◌∷◌, [], None, OnOk, MatchOption, ⊤};
+ghost use Rattle.kp_width.specs.Names.{look_up, find, nothing, opened, with_entry, with_text, with_local, declared_text, declared_local, used};
+ghost use Rattle.kp_width.specs.Positions.{takes};
+
+use indexmap::IndexMap;
+use kp_ast::{Entry, Name, NameKind, Scope};
+use kp_base::{NoMemory, Place, Refusal};
+use std::alloc::Global;
+use std::marker::Model;
+
+// What a name names: its kind and width, and the number of its declaration.
+#[derive(Clone, Copy, Debug)]
+pub(crate) struct Meaning {
+    pub kind: NameKind,
+    pub width: u8,
+    pub from: usize,
+}
+
+impl Model for Meaning {
+    ghost use Rattle.kp_width.specs.Names.{Sense};
+
+    ghost Value = { Sense };
+
+    ghost view = { λ m. record { kind = m.kind; width = m.width; from = m.from } };
+
+    ghost inverse = { λ s. record { kind = s.kind; width = s.width; from = s.from } };
+}
+
+// Where a name is used: each position takes other kinds.
+#[derive(Clone, Copy, Debug)]
+pub(crate) enum Position {
+    Value,
+    Register,
+    File,
+    Pipe,
+    Result,
+    Hint,
+    Callee,
+}
+
+// Names with what they name, in the order in which they came.
+#[derive(Drop)]
+pub(crate) struct Table {
+    meanings: IndexMap<Name, Meaning>,
+}
+
+impl Model for Table {
+    ghost use Rattle.std.specs.Prelude.{List, ℕ};
+    ghost use Rattle.kp_width.specs.Names.{Sense};
+
+    ghost Value = { List (List ℕ × Sense) };
+
+    ghost view = { λ t. t.meanings.entries };
+}
+
+impl Table {
+    fn new(alloc: Global) -> Table
+        ensures { result ≡ [] }
+    {
+        Table {
+            meanings: IndexMap::new(alloc),
+        }
+    }
+
+    fn get(&self, name: &Name) -> Option<Meaning>
+        ensures { result ≡ look_up self.now name.now }
+    {
+        self.meanings.get(name).copied()
+    }
+
+    // Adds a name that is not there yet.
+    fn add(&mut self, name: Name, meaning: Meaning) -> Result<(), NoMemory>
+        requires { look_up self.old name ≡ None }
+        ensures { OnOk result (self.new ≡ self.old ++ (name, meaning) ∷ []) }
+    {
+        self.meanings.insert(name, meaning)?;
+        Ok(())
+    }
+}
+
+// The names in scope at a place in the text, and the entries of all that were declared before it.
+#[derive(Drop)]
+pub(crate) struct Names {
+    text: Table,
+    local: Table,
+    here: Scope,
+    entries: Vec<Entry>,
+}
+
+impl Model for Names {
+    ghost use Rattle.kp_width.specs.Names.{Scoped};
+
+    ghost Value = { Scoped };
+
+    ghost view = { λ n. record { text = n.text; local = n.local; here = n.here; entries = n.entries.items } };
+}
+
+impl Names {
+    pub fn new(alloc: Global) -> Names
+        ensures { result ≡ nothing }
+    {
+        Names {
+            text: Table::new(alloc),
+            local: Table::new(alloc),
+            here: Scope::Text,
+            entries: Vec::new(alloc),
+        }
+    }
+
+    // A function, a block or the text itself begins.
+    pub fn open(&mut self, scope: Scope)
+        ensures { self.new ≡ opened self.old scope }
+    {
+        self.local = Table::new(*self.entries.allocator());
+        self.here = scope;
+    }
+
+    pub fn find(&self, name: &Name) -> Option<Meaning>
+        ensures value { result ≡ find self.now name.now }
+        ensures text { MatchOption result (look_up self.now.text name.now ≡ None) (λ _. ⊤) }
+    {
+        match self.local.get(name) {
+            Some(meaning) => Some(meaning),
+            None => self.text.get(name),
+        }
+    }
+
+    // The meaning of a name in scope that the position takes.
+    pub fn used(&self, position: Position, name: &Name, at: Place) -> Result<Meaning, Refusal>
+        ensures { result ≡ (used self.now (takes position self.now.here) name.now at).found }
+    {
+        match self.find(name) {
+            None => Err(Refusal::e(6, at)),
+            Some(meaning) => {
+                if fits(self.here, position, meaning.kind) {
+                    Ok(meaning)
+                } else {
+                    Err(Refusal::e(7, at))
+                }
+            }
+        }
+    }
+
+    // Gives a name its entry.
+    pub fn enter(&mut self, scope: Scope, name: &Name, meaning: Meaning) -> Result<(), NoMemory>
+        ensures { OnOk result (self.new ≡ with_entry self.old scope name.now meaning) }
+    {
+        self.entries.push(Entry {
+            name: name.clone()?,
+            scope,
+            kind: meaning.kind,
+            width: meaning.width,
+        })?;
+        Ok(())
+    }
+
+    // Brings a name into scope to the end of the text, and closes what is open.
+    pub fn add_text(&mut self, name: &Name, meaning: Meaning) -> Result<(), NoMemory>
+        requires { look_up self.old.text name.now ≡ None }
+        ensures { OnOk result (self.new ≡ with_text self.old name.now meaning) }
+    {
+        self.open(Scope::Text);
+        self.text.add(name.clone()?, meaning)
+    }
+
+    // Declares a name of the text.
+    pub fn declare_text(&mut self, name: &Name, meaning: Meaning) -> Result<(), NoMemory>
+        requires { look_up self.old.text name.now ≡ None }
+        ensures { OnOk result (self.new ≡ declared_text self.old name.now meaning) }
+    {
+        self.enter(Scope::Text, name, meaning)?;
+        self.add_text(name, meaning)
+    }
+
+    // Declares a name of the function or block that is open.
+    pub fn declare_local(&mut self, name: &Name, meaning: Meaning) -> Result<(), NoMemory>
+        requires { find self.old name.now ≡ None }
+        ensures { OnOk result (self.new ≡ declared_local self.old name.now meaning) }
+    {
+        self.enter(self.here, name, meaning)?;
+        self.local.add(name.clone()?, meaning)
+    }
+
+    pub fn into_entries(self) -> Vec<Entry>
+        ensures { result.items ≡ self.entries }
+    {
+        let Names {
+            text: _,
+            local: _,
+            here: _,
+            entries,
+        } = self;
+        entries
+    }
+}
+
+fn fits(here: Scope, position: Position, kind: NameKind) -> bool
+    ensures { result ≡ takes position here kind }
+{
+    match (position, kind) {
+        (Position::Value, _) => match here {
+            Scope::Function(_) => matches!(kind, NameKind::Param),
+            Scope::Text | Scope::Stage(_) => matches!(
+                kind,
+                NameKind::Pipe | NameKind::Hint | NameKind::Read | NameKind::Let
+            ),
+        },
+        (Position::Register, NameKind::Reg)
+        | (Position::File, NameKind::File(_))
+        | (Position::Pipe, NameKind::Pipe)
+        | (Position::Result, NameKind::Target)
+        | (Position::Hint, NameKind::Hint)
+        | (Position::Callee, NameKind::Func) => true,
+        _ => false,
+    }
+}
