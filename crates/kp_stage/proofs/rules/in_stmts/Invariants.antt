@@ -1,0 +1,8 @@
+use Rattle.std.proofs.Common.{◌≡◌, drop}
+use Rattle.kp_base.specs.First.{first}
+use Rattle.kp_stage.specs.Rules.{ask_stmts}
+use Rattle.kp_stage.specs.Tables.{facts_in}
+use Rattle.kp_stage.proofs.rules.in_stmts.Given as goal
+
+abbrev pub invariant-loop-j : goal.invariant-loop-j
+invariant-loop-j l = first (ask_stmts (facts_in l.facts) l.rule l.k l.j (drop l.j l.stmts)) ≡ first (ask_stmts (facts_in l.facts) l.rule l.k 0 l.stmts)

@@ -1,0 +1,138 @@
+-- E29: how many registers, files, pipes, results, hints, functions, reads and guesses a machine has.
+use Rattle.std.specs.Prelude.{ℕ, ◌+◌, List, [], ◌∷◌, Option, Some, None, Bool, ◌&&◌, nat_le, sum_by}
+use Rattle.kp_base.specs.Check.{Check, ok, wants, ◌>>=◌}
+use Rattle.kp_base.specs.Refusal.{e_rule}
+use Rattle.kp_base.specs.declared.place.Place.{Place}
+use Rattle.kp_ast.specs.declared.tree.Expr.{Expr}
+use Rattle.kp_ast.specs.declared.tree.Decl.{Decl}
+use Rattle.kp_ast.specs.declared.tree.Decl.TheVariants as decls
+use Rattle.kp_ast.specs.declared.tree.Stmt.{Stmt}
+use Rattle.kp_ast.specs.declared.tree.StmtKind.{StmtKind}
+use Rattle.kp_ast.specs.declared.tree.StmtKind.TheVariants as stmts
+use Rattle.kp_ast.specs.declared.tree.Block.{Block}
+use Rattle.kp_ast.specs.declared.tree.Job.{Job}
+use Rattle.kp_stage.specs.declared.counts.Counts.{Counts}
+use Rattle.kp_stage.specs.declared.counts.Summary.{Summary}
+use Rattle.kp_stage.specs.Sizes.{size_of_job}
+
+-- each is 1 or 0: whether it is one of these
+abbrev pub regs_in : Decl → ℕ
+regs_in (decls.Reg n width start) = 1
+regs_in _ = 0
+
+abbrev pub files_in : Decl → ℕ
+files_in (decls.File n width address) = 1
+files_in _ = 0
+
+abbrev pub pipes_in : Decl → ℕ
+pipes_in (decls.Pipe n width) = 1
+pipes_in _ = 0
+
+abbrev pub results_in : Decl → ℕ
+results_in (decls.Target r) = 1
+results_in _ = 0
+
+abbrev pub hints_in : Decl → ℕ
+hints_in (decls.Hint n width start) = 1
+hints_in _ = 0
+
+abbrev pub functions_in : Decl → ℕ
+functions_in (decls.Func f) = 1
+functions_in _ = 0
+
+abbrev pub one_if_some : Option Expr → ℕ
+one_if_some None = 0
+one_if_some (Some e) = 1
+
+abbrev pub reads_of : StmtKind → ℕ
+reads_of (stmts.Read r) = 1
+reads_of _ = 0
+
+abbrev pub guesses_of : StmtKind → ℕ
+guesses_of (stmts.Read r) = one_if_some r.guess
+guesses_of _ = 0
+
+abbrev pub reads_in : Stmt → ℕ
+reads_in s = reads_of s.kind
+
+abbrev pub guesses_in : Stmt → ℕ
+guesses_in s = guesses_of s.kind
+
+-- the limits of the counts
+abbrev pub is_within : Counts → Bool
+is_within c =
+    nat_le c.regs 64 && nat_le c.files 16 && nat_le c.pipes 128 && nat_le c.results 64 && nat_le c.hints 16 && nat_le c.functions 64
+    && nat_le c.reads 256 && nat_le c.guesses 8
+
+abbrev pub nothing_counted : Counts
+nothing_counted = record { regs = 0; files = 0; pipes = 0; results = 0; hints = 0; functions = 0; reads = 0; guesses = 0 }
+
+-- the counts with one more declaration
+abbrev pub with_decl : Counts → Decl → Counts
+with_decl c d = record {
+  regs = c.regs + regs_in d;
+  files = c.files + files_in d;
+  pipes = c.pipes + pipes_in d;
+  results = c.results + results_in d;
+  hints = c.hints + hints_in d;
+  functions = c.functions + functions_in d;
+  reads = c.reads;
+  guesses = c.guesses;
+}
+
+-- the counts with one more statement
+abbrev pub with_stmt : Counts → Stmt → Counts
+with_stmt c s = record {
+  regs = c.regs;
+  files = c.files;
+  pipes = c.pipes;
+  results = c.results;
+  hints = c.hints;
+  functions = c.functions;
+  reads = c.reads + reads_in s;
+  guesses = c.guesses + guesses_in s;
+}
+
+-- where a declared name stands
+abbrev pub place_of_decl : Decl → Place
+place_of_decl (decls.Reg n width start) = n.at
+place_of_decl (decls.File n width address) = n.at
+place_of_decl (decls.Pipe n width) = n.at
+place_of_decl (decls.Hint n width start) = n.at
+place_of_decl (decls.Target r) = r.name.at
+place_of_decl (decls.Func f) = f.name.at
+
+-- where the name stands that a read gives
+abbrev pub place_of_read : Stmt → StmtKind → Place
+place_of_read s (stmts.Read r) = r.name.at
+place_of_read s _ = s.at
+
+-- E29 names the first declared name, or the first name that a read gives, at which a count passes its limit
+abbrev pub decls_counted : Counts → List Decl → Check Counts
+decls_counted c [] = ok c
+decls_counted c (d ∷ ds) = wants (is_within (with_decl c d)) (e_rule 29 (place_of_decl d)) (decls_counted (with_decl c d) ds)
+
+abbrev pub stmts_counted : Counts → List Stmt → Check Counts
+stmts_counted c [] = ok c
+stmts_counted c (s ∷ ss) = wants (is_within (with_stmt c s)) (e_rule 29 (place_of_read s s.kind)) (stmts_counted (with_stmt c s) ss)
+
+abbrev pub blocks_counted : Counts → List Block → Check Counts
+blocks_counted c [] = ok c
+blocks_counted c (b ∷ bs) = stmts_counted c b.stmts >>= (λ t. blocks_counted t bs)
+
+unfoldable pub counts_of : Job → Check Counts
+counts_of job = decls_counted nothing_counted job.decls >>= (λ c. blocks_counted c job.blocks)
+
+-- the numbers of a job in the order of its summary
+unfoldable pub summary_of : Job → Summary
+summary_of job = record {
+  stages = job.stages.value;
+  regs = sum_by regs_in job.decls;
+  files = sum_by files_in job.decls;
+  pipes = sum_by pipes_in job.decls;
+  results = sum_by results_in job.decls;
+  hints = sum_by hints_in job.decls;
+  reads = sum_by (λ b. sum_by reads_in b.stmts) job.blocks;
+  guesses = sum_by (λ b. sum_by guesses_in b.stmts) job.blocks;
+  size = size_of_job job;
+}

@@ -1,0 +1,28 @@
+-- A job that breaks no rule of names, widths and stages.
+use Rattle.std.specs.Prelude.{◌≡◌, List, None}
+use Rattle.kp_base.specs.First.{first}
+use Rattle.kp_ast.specs.declared.tree.Job.{Job}
+use Rattle.kp_ast.specs.declared.widths.Entry.{Entry}
+use Rattle.kp_width.specs.Widths.{widths_of}
+use Rattle.kp_stage.specs.declared.counts.Summary.{Summary}
+use Rattle.kp_stage.specs.Stages.{broken_of}
+use Rattle.kp_stage.specs.Counts.{summary_of}
+
+-- a job and the widths of its names
+pub record Plan : Type 0 where
+  pub job : Job
+  pub entries : List Entry
+
+abbrev pub plan : Job → List Entry → Plan
+plan job entries = record { job = job; entries = entries }
+
+-- no rule of names and widths is broken, the widths are the job's, and no rule of stages is broken
+pub record IsSound (p : Plan) : Type 0 where
+  pub names : first (widths_of p.job).asked ≡ None
+  pub widths : p.entries ≡ (widths_of p.job).value
+  pub stages : broken_of p.job ≡ None
+
+-- and its numbers are kept beside it
+pub record IsKept (p : Plan) (summary : Summary) : Type 0 where
+  pub sound : IsSound p
+  pub numbers : summary ≡ summary_of p.job

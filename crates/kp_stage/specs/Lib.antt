@@ -1,0 +1,7 @@
+pub mod Counts
+pub mod Design
+pub mod Facts
+pub mod Rules
+pub mod Sizes
+pub mod Stages
+pub mod Tables

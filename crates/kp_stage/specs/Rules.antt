@@ -1,0 +1,166 @@
+-- The rules E15 to E25 of stages. Each is a question that is put to the head of the job, to each declaration, to the number of each
+-- block, and to each statement; its first true answer in the text is the place where it is broken.
+--
+-- Names and widths are right before: a name that is put is a pipe, one that is set is a result, one that is aimed is a hint, and a
+-- target that is read or written with an address is a file. And each rule may take it that those of lower numbers hold.
+use Rattle.std.specs.Prelude.{ℕ, ◌+◌, List, [], ◌∷◌, Option, Some, None, Bool, false, ◌&&◌, ◌||◌, not, ◌==◌, nat_lt, nat_le, is_some, map, length}
+use Rattle.kp_base.specs.First.{first}
+use Rattle.kp_base.specs.Check.{Answer, answer}
+use Rattle.kp_base.specs.Refusal.{e_rule}
+use Rattle.kp_base.specs.declared.place.Place.{Place}
+use Rattle.kp_ast.specs.declared.tree.Named.{Named}
+use Rattle.kp_ast.specs.declared.tree.Expr.{Expr}
+use Rattle.kp_ast.specs.declared.tree.ExprKind.TheOpen.{ExprKind-F, Expr-F}
+use Rattle.kp_ast.specs.declared.tree.ExprKind.TheOpen as level
+use Rattle.kp_ast.specs.declared.tree.ExprKind.TheFolds.{fold-Expr}
+use Rattle.kp_ast.specs.declared.tree.ReadStmt.{ReadStmt}
+use Rattle.kp_ast.specs.declared.tree.Decl.{Decl}
+use Rattle.kp_ast.specs.declared.tree.Decl.TheVariants as decls
+use Rattle.kp_ast.specs.declared.tree.Stmt.{Stmt}
+use Rattle.kp_ast.specs.declared.tree.StmtKind.{StmtKind}
+use Rattle.kp_ast.specs.declared.tree.StmtKind.TheVariants as stmts
+use Rattle.kp_ast.specs.declared.tree.Block.{Block}
+use Rattle.kp_ast.specs.declared.tree.Job.{Job}
+use Rattle.kp_stage.specs.declared.rules.Rule.{Rule}
+use Rattle.kp_stage.specs.Facts.{At, Facts}
+
+-- is it, where it is there
+abbrev pub holds_of : {X : Type 0} → (X → Bool) → Option X → Bool
+holds_of test None = false
+holds_of test (Some x) = test x
+
+abbrev pub is_at : ℕ → ℕ → At → Bool
+is_at k j at = (at.stage == k) && (at.index == j)
+
+-- The questions to the head.
+
+-- E15: there are 2 to 12 stages, and no fewer blocks
+abbrev pub ask_head : Rule → Job → Answer
+ask_head Rule.E15 job = answer (nat_le 2 job.stages.value && nat_le job.stages.value 12 && nat_le job.stages.value (length job.blocks)) (e_rule 15 job.stages.at)
+ask_head _ job = None
+
+-- The questions to the declaration of number i.
+
+-- E19: the address and the enable pipe of a result are put in stages before the write stage w
+abbrev pub put_before : Facts → List ℕ → ℕ → Bool
+put_before facts name w = holds_of (λ at. nat_lt at.stage w) (facts.put name)
+
+abbrev pub ask_pipe : Facts → ℕ → Option Named → Answer
+ask_pipe facts w None = None
+ask_pipe facts w (Some n) = answer (put_before facts n.name w) (e_rule 19 n.at)
+
+-- E15: a write stage is one of the stages
+-- E16: a pipe is put
+-- E22: a target has one result
+-- E24: a write stage is no less than W-1, where W is the largest write stage of a guessed register
+abbrev pub ask_decl : Facts → Rule → ℕ → Decl → Answer
+ask_decl facts Rule.E15 i (decls.Target r) = answer (nat_lt r.stage.value facts.stages) (e_rule 15 r.stage.at)
+ask_decl facts Rule.E16 i (decls.Pipe n width) = answer (is_some (facts.put n.name)) (e_rule 16 n.at)
+ask_decl facts Rule.E19 i (decls.Target r) = first (ask_pipe facts r.stage.value r.address ∷ ask_pipe facts r.stage.value r.enable ∷ [])
+ask_decl facts Rule.E22 i (decls.Target r) = answer (holds_of (λ j. j == i) (facts.result r.target.name)) (e_rule 22 r.target.at)
+ask_decl facts Rule.E24 i (decls.Target r) = answer (nat_le facts.top (r.stage.value + 1)) (e_rule 24 r.stage.at)
+ask_decl facts _ i d = None
+
+-- The question to the block of number k.
+
+-- E15: its number is its place, and one of the stages
+abbrev pub ask_block : Facts → Rule → ℕ → Block → Answer
+ask_block facts Rule.E15 k b = answer (b.number.value == k && nat_lt k facts.stages) (e_rule 15 b.number.at)
+ask_block facts _ k b = None
+
+-- The questions to a name that is used as a value in stage k.
+
+-- E17: a pipe is used in stages after that of its put
+-- E25: a hint is no value, outside a guess and an aim
+abbrev pub ask_name : Facts → Rule → ℕ → List ℕ → Place → Answer
+ask_name facts Rule.E17 k name at = answer (not (holds_of (λ p. nat_le k p.stage) (facts.put name))) (e_rule 17 at)
+ask_name facts Rule.E25 k name at = answer (not (is_some (facts.hint name))) (e_rule 25 at)
+ask_name facts _ k name at = None
+
+-- the answer at the first name in an expression that has one
+abbrev pub ask_kind : Facts → Rule → ℕ → ExprKind-F (Place → Answer) Answer → Place → Answer
+ask_kind facts rule k (level.Lit l) at = None
+ask_kind facts rule k (level.Name name) at = ask_name facts rule k name at
+ask_kind facts rule k (level.Not a) at = a
+ask_kind facts rule k (level.Binary op a b) at = first (a ∷ b ∷ [])
+ask_kind facts rule k (level.Mux test a b) at = first (test ∷ a ∷ b ∷ [])
+ask_kind facts rule k (level.Concat parts) at = first parts
+ask_kind facts rule k (level.Slice a hi lo) at = a
+ask_kind facts rule k (level.Zext a width) at = a
+ask_kind facts rule k (level.Sext a width) at = a
+ask_kind facts rule k (level.Call name args) at = first args
+
+abbrev pub ask_level : Expr-F (Place → Answer) Answer → Answer
+ask_level e = e.kind e.place
+
+abbrev pub ask_expr : Facts → Rule → ℕ → Expr → Answer
+ask_expr facts rule k = fold-Expr (Place → Answer) Answer (ask_kind facts rule k) ask_level
+
+abbrev pub ask_option : Facts → Rule → ℕ → Option Expr → Answer
+ask_option facts rule k None = None
+ask_option facts rule k (Some e) = ask_expr facts rule k e
+
+-- the names in a statement outside a guess and an aim
+abbrev pub ask_values : Facts → Rule → ℕ → StmtKind → Answer
+ask_values facts rule k (stmts.Read r) = first (ask_option facts rule k r.address ∷ ask_option facts rule k r.when ∷ [])
+ask_values facts rule k (stmts.Let n e) = ask_expr facts rule k e
+ask_values facts rule k (stmts.Put n e) = ask_expr facts rule k e
+ask_values facts rule k (stmts.Set n e when) = first (ask_expr facts rule k e ∷ ask_option facts rule k when ∷ [])
+ask_values facts rule k (stmts.Aim n e) = None
+
+-- the names in a guess or an aim
+abbrev pub ask_guesses : Facts → Rule → ℕ → StmtKind → Answer
+ask_guesses facts rule k (stmts.Read r) = ask_option facts rule k r.guess
+ask_guesses facts rule k (stmts.Aim n e) = ask_expr facts rule k e
+ask_guesses facts rule k _ = None
+
+-- The questions to the statement of number j in stage k.
+
+-- E23: a guess is of a register with a result, and stands two stages or more before the write stage
+abbrev pub may_guess : Facts → ℕ → ReadStmt → Bool
+may_guess facts k r = not (is_some r.guess) || (not (is_some r.address) && holds_of (λ w. nat_le (k + 2) w) (facts.written r.target.name))
+
+-- E16: a put is the first of its pipe
+-- E17 and E25: of the names in it, from left to right
+-- E18: a target is read in no stage after its write stage
+-- E20: a result is set in no stage after its write stage
+-- E21: a set is the first of its result in the stage, and an aim the first of its hint
+abbrev pub ask_stmt : Facts → Rule → ℕ → ℕ → StmtKind → Answer
+ask_stmt facts Rule.E16 k j (stmts.Put n e) = answer (holds_of (is_at k j) (facts.put n.name)) (e_rule 16 n.at)
+ask_stmt facts Rule.E17 k j s = first (ask_values facts Rule.E17 k s ∷ ask_guesses facts Rule.E17 k s ∷ [])
+ask_stmt facts Rule.E18 k j (stmts.Read r) = answer (not (holds_of (λ w. nat_lt w k) (facts.written r.target.name))) (e_rule 18 r.target.at)
+ask_stmt facts Rule.E20 k j (stmts.Set n e when) = answer (not (holds_of (λ w. nat_lt w k) (facts.stage n.name))) (e_rule 20 n.at)
+ask_stmt facts Rule.E21 k j (stmts.Set n e when) = answer (holds_of (λ i. i == j) (facts.set_in k n.name)) (e_rule 21 n.at)
+ask_stmt facts Rule.E21 k j (stmts.Aim n e) = answer (holds_of (is_at k j) (facts.aim n.name)) (e_rule 21 n.at)
+ask_stmt facts Rule.E23 k j (stmts.Read r) = answer (may_guess facts k r) (e_rule 23 r.target.at)
+ask_stmt facts Rule.E25 k j s = ask_values facts Rule.E25 k s
+ask_stmt facts _ k j s = None
+
+-- The answers in text order.
+
+abbrev pub ask_decls : Facts → Rule → ℕ → List Decl → List Answer
+ask_decls facts rule i [] = []
+ask_decls facts rule i (d ∷ ds) = ask_decl facts rule i d ∷ ask_decls facts rule (i + 1) ds
+
+abbrev pub ask_stmts : Facts → Rule → ℕ → ℕ → List Stmt → List Answer
+ask_stmts facts rule k j [] = []
+ask_stmts facts rule k j (s ∷ ss) = ask_stmt facts rule k j s.kind ∷ ask_stmts facts rule k (j + 1) ss
+
+-- the first answer in a block: to its number, or to its statements
+unfoldable pub ask_in_block : Facts → Rule → ℕ → Block → Answer
+ask_in_block facts rule k b = first (ask_block facts rule k b ∷ ask_stmts facts rule k 0 b.stmts)
+
+abbrev pub ask_blocks : Facts → Rule → ℕ → List Block → List Answer
+ask_blocks facts rule k [] = []
+ask_blocks facts rule k (b ∷ bs) = ask_in_block facts rule k b ∷ ask_blocks facts rule (k + 1) bs
+
+-- the first place in a job that breaks a rule
+unfoldable pub broken_at : Facts → Job → Rule → Answer
+broken_at facts job rule = first (ask_head rule job ∷ first (ask_decls facts rule 0 job.decls) ∷ first (ask_blocks facts rule 0 job.blocks) ∷ [])
+
+abbrev pub all_rules : List Rule
+all_rules = Rule.E15 ∷ Rule.E16 ∷ Rule.E17 ∷ Rule.E18 ∷ Rule.E19 ∷ Rule.E20 ∷ Rule.E21 ∷ Rule.E22 ∷ Rule.E23 ∷ Rule.E24 ∷ Rule.E25 ∷ []
+
+-- the first of these rules that a job breaks, at the first place where it does
+unfoldable pub broken_by : Facts → Job → Answer
+broken_by facts job = first (map (broken_at facts job) all_rules)

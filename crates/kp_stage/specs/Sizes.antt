@@ -1,0 +1,46 @@
+-- E28: the expanded size of a machine, the sum over all expressions that stand in stages, is at most 100,000.
+use Rattle.std.specs.Prelude.{ℕ, ◌+◌, List, [], ◌∷◌, Option, Some, None, nat_le, sum_by}
+use Rattle.kp_base.specs.Check.{Check, ok, wants, ◌>>=◌}
+use Rattle.kp_base.specs.Refusal.{e_rule}
+use Rattle.kp_ast.specs.Size.{size}
+use Rattle.kp_ast.specs.declared.tree.Expr.{Expr}
+use Rattle.kp_ast.specs.declared.tree.Decl.{Decl}
+use Rattle.kp_ast.specs.declared.tree.Stmt.{Stmt}
+use Rattle.kp_ast.specs.declared.tree.StmtKind.{StmtKind}
+use Rattle.kp_ast.specs.declared.tree.StmtKind.TheVariants as stmts
+use Rattle.kp_ast.specs.declared.tree.Block.{Block}
+use Rattle.kp_ast.specs.declared.tree.Job.{Job}
+
+abbrev pub size_of_option : List Decl → Option Expr → ℕ
+size_of_option ds None = 0
+size_of_option ds (Some e) = size ds e
+
+-- the size of the expressions in a statement
+abbrev pub size_of_kind : List Decl → StmtKind → ℕ
+size_of_kind ds (stmts.Read r) = size_of_option ds r.address + (size_of_option ds r.when + size_of_option ds r.guess)
+size_of_kind ds (stmts.Let n e) = size ds e
+size_of_kind ds (stmts.Put n e) = size ds e
+size_of_kind ds (stmts.Set n e when) = size ds e + size_of_option ds when
+size_of_kind ds (stmts.Aim n e) = size ds e
+
+abbrev pub size_of_stmt : List Decl → Stmt → ℕ
+size_of_stmt ds s = size_of_kind ds s.kind
+
+abbrev pub size_of_block : List Decl → Block → ℕ
+size_of_block ds b = sum_by (size_of_stmt ds) b.stmts
+
+-- the size of a machine
+abbrev pub size_of_job : Job → ℕ
+size_of_job job = sum_by (size_of_block job.decls) job.blocks
+
+-- E28 names the first statement at which the sum, from `total` on, passes 100,000
+abbrev pub stmts_sized : List Decl → ℕ → List Stmt → Check ℕ
+stmts_sized ds total [] = ok total
+stmts_sized ds total (s ∷ ss) = wants (nat_le (total + size_of_stmt ds s) 100000) (e_rule 28 s.at) (stmts_sized ds (total + size_of_stmt ds s) ss)
+
+abbrev pub blocks_sized : List Decl → ℕ → List Block → Check ℕ
+blocks_sized ds total [] = ok total
+blocks_sized ds total (b ∷ bs) = stmts_sized ds total b.stmts >>= (λ t. blocks_sized ds t bs)
+
+unfoldable pub sizes_of : Job → Check ℕ
+sizes_of job = blocks_sized job.decls 0 job.blocks

@@ -1,0 +1,13 @@
+-- The first broken rule of stages.
+use Rattle.std.specs.Prelude.{[], ◌∷◌}
+use Rattle.kp_base.specs.First.{first}
+use Rattle.kp_base.specs.Check.{Answer}
+use Rattle.kp_ast.specs.declared.tree.Job.{Job}
+use Rattle.kp_stage.specs.Facts.{facts_of}
+use Rattle.kp_stage.specs.Rules.{broken_by}
+use Rattle.kp_stage.specs.Sizes.{sizes_of}
+use Rattle.kp_stage.specs.Counts.{counts_of}
+
+-- E15 to E25, then E28, then E29: the first rule by number, at the first place in the text
+unfoldable pub broken_of : Job → Answer
+broken_of job = first (broken_by (facts_of job) job ∷ first (sizes_of job).asked ∷ first (counts_of job).asked ∷ [])
