@@ -1,0 +1,7 @@
+pub mod Cells
+pub mod Exact
+pub mod Growing
+pub mod Rightness
+pub mod Runs
+pub mod Same
+pub mod Values

@@ -1,0 +1,39 @@
+//! Laws of the definitions of this crate. Each function does nothing: its contract is the law.
+ghost use Rattle.std.specs.Prelude.{◌≡◌, ℕ, ◌+◌, ◌<◌, ◌^◌, List, [], ◌∷◌, ◌++◌, length, get_or, true, false};
+ghost use Rattle.kp_bits.specs.Word.{word};
+ghost use Rattle.kp_net.specs.declared.node.Node.{Node};
+ghost use Rattle.kp_net.specs.Nodes.{Cells, word_of_kind, word_of_node, word_at, at};
+ghost use Rattle.kp_net.specs.Widths.{wide, no_node, is_cell, AllRight};
+ghost use Rattle.kp_net.specs.Netlist.{Net, Input, State, start_regs, state_after, row_of, run, last_of};
+
+/// The word of a node has the node's width and fits it, whatever the cells hold.
+#[tactic(auto, using(crate::proofs::Values::word_is, crate::proofs::Values::at_fits))]
+pub fn words_fit()
+    ensures width { (c : Cells) (ns : List Node) (i : ℕ) → i < length ns → word_at c ns i ≡ word (wide ns i) (at c ns i) }
+    ensures value { (c : Cells) (ns : List Node) (i : ℕ) → i < length ns → at c ns i < 2 ^ wide ns i }
+{}
+
+/// In a right list each node has the word that it says of its operands, as an equation of the netlist.
+#[tactic(auto, using(crate::proofs::Values::word_there))]
+pub fn equations_hold()
+    ensures { (c : Cells) (ns : List Node) (i : ℕ) → AllRight ns → i < length ns
+        → word_at c ns i ≡ word_of_node c (word_at c ns) (get_or ns i no_node) }
+{}
+
+/// And nothing of a constant or of what an operation gives is cut off there.
+pub fn operations_are_exact()
+    ensures { (c : Cells) (ns : List Node) (i : ℕ) → AllRight ns → i < length ns
+        → is_cell (get_or ns i no_node).kind ≡ false
+        → word_at c ns i ≡ word_of_kind c (word_at c ns) (wide ns i) (get_or ns i no_node).kind }
+{}
+
+/// One more input gives one more state and one more row, which are those of one cycle from the last state.
+#[tactic(auto, using(crate::proofs::Runs::states_more, crate::proofs::Runs::rows_more, crate::proofs::Runs::last_more))]
+pub fn runs_go_on()
+    ensures states { (net : Net) (inputs : List Input) (i : Input)
+        → (run net (inputs ++ i ∷ [])).states ≡ (run net inputs).states ++ state_after net i (last_of net inputs) ∷ [] }
+    ensures rows { (net : Net) (inputs : List Input) (i : Input)
+        → (run net (inputs ++ i ∷ [])).rows ≡ (run net inputs).rows ++ row_of net i (last_of net inputs) ∷ [] }
+    ensures last { (net : Net) (inputs : List Input) (i : Input)
+        → last_of net (inputs ++ i ∷ []) ≡ state_after net i (last_of net inputs) }
+{}

@@ -1,0 +1,119 @@
+ghost use Rattle.std.specs.Prelude.{◌≡◌};
+ghost use Rattle.kp_net.specs.Netlist.{Net};
+ghost use Rattle.kp_net.specs.Parts.{PartsOk, NetOk};
+ghost use Rattle.kp_net.specs.Widths.{Distinct};
+
+use crate::label::Label;
+use crate::node::{Node, NodeId};
+use crate::pool::Pool;
+use kp_base::List;
+use kp_bits::Bits;
+use std::marker::Model;
+
+/// An input port beside the stall word. Its values have `width` bits.
+#[derive(Debug, Drop)]
+pub struct Port {
+    pub name: Label,
+    pub width: u8,
+}
+
+/// A register: its value at the start, and the node whose value it takes at the end of each cycle.
+#[derive(Debug, Drop)]
+pub struct NetReg {
+    pub name: Label,
+    pub start: Bits,
+    pub next: NodeId,
+}
+
+/// The write port of a file: at the end of a cycle in which `enable` is 1, the word at `address` becomes `value`.
+#[derive(Clone, Copy, Debug, PartialEq, Eq)]
+pub struct WritePort {
+    pub enable: NodeId,
+    pub address: NodeId,
+    pub value: NodeId,
+}
+
+/// A file of 2^`address_width` words of `width` bits, with its words at the start.
+#[derive(Debug, Drop)]
+pub struct NetFile {
+    pub name: Label,
+    pub width: u8,
+    pub address_width: u8,
+    pub words: List<u64>,
+    pub port: Option<WritePort>,
+}
+
+/// What stands beside the nodes of a netlist.
+#[derive(Debug, Drop)]
+pub struct Parts {
+    pub name: Label,
+    /// The width of the stall word.
+    pub ext: u8,
+    /// Whether there is a reset, which gives each register its start value.
+    pub reset: bool,
+    pub samples: List<Port>,
+    pub regs: List<NetReg>,
+    pub files: List<NetFile>,
+    /// The output that shows the stages that hold an instruction.
+    pub full: NodeId,
+    /// The output that shows the stages that update.
+    pub ue: NodeId,
+    /// The output that shows the stage of a wrong guess.
+    pub back: NodeId,
+}
+
+/// A netlist: operands stand before the nodes that use them, widths fit, and all that is named is there.
+#[derive(Debug, Drop)]
+pub struct Netlist {
+    nodes: Vec<Node>,
+    parts: Parts,
+}
+
+impl Model for Netlist {
+    ghost use Rattle.kp_net.specs.Netlist.{Net};
+    ghost use Rattle.kp_net.specs.Parts.{NetOk};
+
+    ghost Value = { Net };
+
+    ghost view = { λ n. record { nodes = n.nodes.items; parts = n.parts } };
+
+    ghost invariant = { λ n. NetOk (record { nodes = n.nodes.items; parts = n.parts }) };
+}
+
+impl Netlist {
+    /// The nodes of the pool, in their order, with these parts. Takes no memory.
+    pub fn close(pool: Pool, parts: Parts) -> Netlist
+        requires { PartsOk pool.nodes parts }
+        ensures net { result ≡ record { nodes = pool.nodes; parts = parts } }
+        ensures distinct { Distinct result.nodes }
+    {
+        Netlist {
+            nodes: pool.into_nodes(),
+            parts,
+        }
+    }
+
+    /// These nodes, in this order, with these parts. Takes no memory.
+    pub fn from_nodes(nodes: Vec<Node>, parts: Parts) -> Netlist
+        requires { NetOk (record { nodes = nodes.items; parts = parts }) }
+        ensures { result ≡ record { nodes = nodes.items; parts = parts } }
+    {
+        Netlist { nodes, parts }
+    }
+
+    /// The nodes, by their numbers.
+    pub fn nodes(&self) -> &[Node]
+        ensures nodes { result.now ≡ self.now.nodes }
+        ensures right { NetOk self.now }
+    {
+        self.nodes.as_slice()
+    }
+
+    /// All that stands beside the nodes.
+    pub fn parts(&self) -> &Parts
+        ensures parts { result.now ≡ self.now.parts }
+        ensures right { NetOk self.now }
+    {
+        &self.parts
+    }
+}

@@ -1,0 +1,63 @@
+ghost use Rattle.std.specs.Prelude.{◌≡◌, ◌≤◌, length};
+ghost use Rattle.std.proofs.Common.{rules};
+ghost use Rattle.std.specs.Cmp.Lexicographic.{pointwise};
+ghost use Rattle.std.specs.Cmp.Rules.{comparing};
+ghost use Rattle.kp_net.specs.Operands.{same_id};
+
+use crate::node::NodeId;
+use smallvec::SmallVec;
+use std::alloc::Global;
+use std::marker::Model;
+
+/// 2 to 12 nodes, in place: they stand in the value itself, and no memory is taken for them.
+#[derive(Debug, Drop)]
+pub struct Operands {
+    nodes: SmallVec<NodeId, 12>,
+}
+
+impl Model for Operands {
+    ghost use Rattle.std.specs.Prelude.{◌≤◌, ◌≡◌, List, length};
+    ghost use Rattle.kp_net.specs.declared.node.NodeId.{NodeId};
+
+    ghost Value = { List NodeId };
+
+    ghost view = { λ o. o.nodes.items };
+
+    ghost invariant = { λ o. (2 ≤ length o.nodes.items) × (length o.nodes.items ≤ 12) × (o.nodes.capacity ≡ 12) };
+}
+
+impl Operands {
+    /// These nodes, in this order. Takes no memory.
+    pub fn new(alloc: Global, parts: &[NodeId]) -> Operands
+        requires at_least { 2 ≤ length parts.now }
+        requires at_most { length parts.now ≤ 12 }
+        ensures { result ≡ parts.now }
+    {
+        Operands {
+            nodes: SmallVec::from_slice(alloc, parts).unwrap(),
+        }
+    }
+
+    /// The nodes, in the order in which they were given.
+    pub fn nodes(&self) -> &[NodeId]
+        ensures nodes { result.now ≡ self.now }
+        ensures at_least { 2 ≤ length self.now }
+        ensures at_most { length self.now ≤ 12 }
+    {
+        self.nodes.as_slice()
+    }
+}
+
+impl PartialEq for Operands {
+    ghost eq = { pointwise same_id };
+
+    ghost laws = { Prim.search (comparing, rules) };
+
+    fn eq(&self, other: &Operands) -> bool {
+        self.nodes() == other.nodes()
+    }
+}
+
+impl Eq for Operands {
+    ghost laws = { Prim.search (comparing, rules) };
+}
