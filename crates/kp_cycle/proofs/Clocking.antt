@@ -1,0 +1,127 @@
+-- Registers and files take the values of nodes.
+use Rattle.std.proofs.Common.{◌≡◌, ◌==◌, ◌&&◌, ℕ, Bool, true, false, cond, suc, ◌+◌, ◌<◌, ◌≤◌, ◌^◌, List, [], ◌∷◌, length, get_or, set, map, refl, sym, subst, ap, ◌∙◌, arith, ⊎_elim, Option, None, Some}
+use Rattle.std.specs.List.{zip}
+use Rattle.std.proofs.lemmas.Bool.{cases_lt}
+use Rattle.std.proofs.lemmas.List.{get_or-set_other, length-set, get_or-map, same_lists, get_or_default}
+use Rattle.std.proofs.lemmas.Grind.{get_or-set_at}
+use Rattle.std.proofs.lemmas.List.Elements.{All-get_or}
+use Rattle.std.proofs.lemmas.Slice.Zip.{get_or-zip, length-zip}
+use Rattle.kp_net.specs.declared.node.Node.{Node}
+use Rattle.kp_net.specs.declared.netlist.NetReg.{NetReg}
+use Rattle.kp_net.specs.declared.netlist.NetFile.{NetFile}
+use Rattle.kp_net.specs.declared.netlist.WritePort.{WritePort}
+use Rattle.kp_net.specs.Nodes.{Cells, at, on}
+use Rattle.kp_net.specs.Netlist.{Net, State, port_after, files_after, regs_after, state_after, stalled, cells_of}
+use Rattle.kp_net.specs.Parts.{NetOk, RegOk, FileOk, WriteOk, no_reg, no_file}
+use Rattle.kp_cycle.specs.Steps.{Stored, Fits, FitsBelow, PortReady, regs_from, port_from}
+
+pub length_map : {X Y : Type 0} (f : X → Y) (xs : List X) → length (map f xs) ≡ length xs
+length_map f [] = refl
+length_map f (x ∷ xs) = ap (λ n. suc n) (length_map f xs)
+
+-- lists with the same elements
+pub same_elements : {X : Type 0} (xs ys : List X) (d : X) → length xs ≡ length ys → ((k : ℕ) → k < length xs → get_or xs k d ≡ get_or ys k d) → xs ≡ ys
+same_elements xs ys d e f = same_lists xs ys e (λ k d' l. get_or_default xs k d' d l ∙ f k l ∙ get_or_default ys k d d' (omega (arith, e)))
+
+-- one more register
+pub reg_more : (regs : List NetReg) (old values : List ℕ) (i v : ℕ) → i < length old → v ≡ get_or values (get_or regs i no_reg).next.0 0
+    → ((j : ℕ) → j < i → get_or old j 0 ≡ get_or values (get_or regs j no_reg).next.0 0)
+    → (j : ℕ) → j < i + 1 → get_or (set old i v) j 0 ≡ get_or values (get_or regs j no_reg).next.0 0
+reg_more regs old values i v h e known j l =
+    ⊎_elim
+    (λ (k : j < i). get_or-set_other old i j v 0 (λ z. omega arith) ∙ known j k)
+    (λ (k : i ≤ j). let z : j ≡ i = omega arith in get_or-set_at old i j v 0 z h ∙ e ∙ ap (λ (x : ℕ). get_or values (get_or regs x no_reg).next.0 0) (sym z))
+    (cases_lt j i)
+
+pub regs_all : (regs : List NetReg) (new values : List ℕ) → length new ≡ length regs → ((j : ℕ) → j < length regs → get_or new j 0 ≡ get_or values (get_or regs j no_reg).next.0 0) → new ≡ regs_from regs values
+regs_all regs new values e known =
+    let f : NetReg → ℕ = λ r. get_or values r.next.0 0 in
+    same_elements new (map f regs) 0 (e ∙ sym (length_map f regs)) (λ k l. known k (omega (arith, e)) ∙ sym (get_or-map f regs k no_reg 0 (omega (arith, e))))
+
+pub fits_reg : (net : Net) (m : Stored) (i v : ℕ) → Fits net m → Fits net (record m { regs = set m.regs i v })
+fits_reg net m i v h = record { right = h.right; nodes = h.nodes; regs = length-set m.regs i v ∙ h.regs; files = h.files; words = h.words }
+
+-- one more file
+pub port_length : (port : Option WritePort) (values words : List ℕ) → length (port_from port values words) ≡ length words
+port_length None values words = refl
+port_length (Some p) values words =
+    let b : Bool = get_or values p.enable.0 0 == 1 in let ws : List ℕ = set words (get_or values p.address.0 0) (get_or values p.value.0 0) in
+    elim b as (λ x. length (cond x ws words) ≡ length words) [ true ↦ length-set words (get_or values p.address.0 0) (get_or values p.value.0 0) | false ↦ refl ]
+
+pub fits_file : (net : Net) (m : Stored) (i : ℕ) (ws : List ℕ) → Fits net m → i < length m.files → length ws ≡ length (get_or m.files i []) → Fits net (record m { files = set m.files i ws })
+fits_file net m i ws h l e = record {
+  right = h.right;
+  nodes = h.nodes;
+  regs = h.regs;
+  files = length-set m.files i ws ∙ h.files;
+  words = λ f k. ⊎_elim
+      (λ (x : f < i). ap length (get_or-set_other m.files i f ws [] (λ z. omega arith)) ∙ h.words f k)
+      (λ (x : i ≤ f). ⊎_elim
+      (λ (y : i < f). ap length (get_or-set_other m.files i f ws [] (λ z. omega arith)) ∙ h.words f k)
+      (λ (y : f ≤ i). let z : f ≡ i = omega arith in ap length (get_or-set_at m.files i f ws [] z l) ∙ e ∙ ap (λ (j : ℕ). length (get_or m.files j [])) (sym z) ∙ h.words f k)
+      (cases_lt i f))
+      (cases_lt f i);
+}
+
+-- the files up to here have taken what their ports say, and the others stand
+pub record Written (files : List NetFile) (values : List ℕ) (old new : List (List ℕ)) (i : ℕ) : Type 0 where
+  pub done : (f : ℕ) → f < i → get_or new f [] ≡ port_from (get_or files f no_file).port values (get_or old f [])
+  pub rest : (f : ℕ) → i ≤ f → get_or new f [] ≡ get_or old f []
+
+pub written_more : (files : List NetFile) (values : List ℕ) (old new : List (List ℕ)) (i : ℕ) → i < length new → Written files values old new i
+    → Written files values old (set new i (port_from (get_or files i no_file).port values (get_or new i []))) (i + 1)
+written_more files values old new i h w =
+    let ws : List ℕ = port_from (get_or files i no_file).port values (get_or new i []) in
+    record {
+      done = λ f l. ⊎_elim
+          (λ (k : f < i). get_or-set_other new i f ws [] (λ z. omega arith) ∙ w.done f k)
+          (λ (k : i ≤ f). let z : i ≡ f = omega arith in
+          get_or-set_at new i f ws [] (sym z) h ∙ ap (port_from (get_or files i no_file).port values) (w.rest i (omega arith)) ∙ ap (λ (x : ℕ). port_from (get_or files x no_file).port values (get_or old x [])) z)
+          (cases_lt f i);
+      rest = λ f l. get_or-set_other new i f ws [] (λ z. omega arith) ∙ w.rest f (omega arith);
+    }
+
+-- the ports of a right netlist are ready
+ready : (ns : List Node) (m : Stored) (f w a : ℕ) (port : Option WritePort) → length m.nodes ≡ length ns → FitsBelow ns m.nodes (length ns) → length (get_or m.files f []) ≡ 2 ^ a → WriteOk ns w a port → PortReady m f port
+ready ns m f w a None e fits l ok = tt
+ready ns m f w a (Some p) e fits l ok =
+    let k : get_or m.nodes p.address.0 0 < 2 ^ a = (let P : ℕ → Type 0 = λ x. get_or m.nodes p.address.0 0 < 2 ^ x in subst P ok.1.1 (fits p.address.0 ok.1.0)) in
+    (omega (arith, ok.0.0, e), omega (arith, ok.1.0, e), omega (arith, ok.2.0, e), omega (arith, k, l))
+
+pub port_ready : (net : Net) (m : Stored) (f : ℕ) → Fits net m → FitsBelow net.nodes m.nodes (length net.nodes) → f < length net.parts.files → PortReady m f (get_or net.parts.files f no_file).port
+port_ready net m f h fits l =
+    let ok : FileOk net.nodes (get_or net.parts.files f no_file) = All-get_or (FileOk net.nodes) net.parts.files f no_file l h.right.parts.files in
+    ready net.nodes m f _ _ (get_or net.parts.files f no_file).port h.nodes fits (h.words f l) ok.port
+
+-- a cycle without a reset
+not_reset : (b : Bool) (x y : State) → cond (b && false) x y ≡ y
+not_reset true x y = refl
+not_reset false x y = refl
+
+port_same : (c : Cells) (ns : List Node) (values : List ℕ) (w a : ℕ) (port : Option WritePort) (words : List ℕ) → WriteOk ns w a port → ((j : ℕ) → j < length ns → get_or values j 0 ≡ at c ns j) → port_from port values words ≡ port_after c ns port words
+unfolding on
+port_same c ns values w a None words ok known = refl
+port_same c ns values w a (Some p) words ok known =
+    let x = known p.enable.0 ok.0.0 in let y = known p.address.0 ok.1.0 in let z = known p.value.0 ok.2.0 in
+    λ i. cond (x i == 1) (set words (y i) (z i)) words
+
+-- all registers and files together
+pub state_is : (net : Net) (ext : ℕ) (st : State) (values regs : List ℕ) (files : List (List ℕ)) → NetOk net → length st.files ≡ length net.parts.files → length files ≡ length net.parts.files
+    → ((j : ℕ) → j < length net.nodes → get_or values j 0 ≡ at (cells_of (stalled ext) st) net.nodes j)
+    → regs ≡ regs_from net.parts.regs values
+    → ((f : ℕ) → f < length net.parts.files → get_or files f [] ≡ port_from (get_or net.parts.files f no_file).port values (get_or st.files f []))
+    → record { regs = regs; files = files } ≡ state_after net (stalled ext) st
+state_is net ext st values regs files ok e l known r w =
+    let c : Cells = cells_of (stalled ext) st in
+    let rs : regs ≡ regs_after net c = r ∙ same_elements _ _ 0 (length_map (λ (x : NetReg). get_or values x.next.0 0) net.parts.regs ∙ sym (length_map (λ (x : NetReg). at c net.nodes x.next.0) net.parts.regs))
+    (λ k h. let h' : k < length net.parts.regs = omega (arith, length_map (λ (x : NetReg). get_or values x.next.0 0) net.parts.regs) in
+    let n : RegOk net.nodes (get_or net.parts.regs k no_reg) = All-get_or (RegOk net.nodes) net.parts.regs k no_reg h' ok.parts.regs in
+    get_or-map (λ (x : NetReg). get_or values x.next.0 0) net.parts.regs k no_reg 0 h' ∙ known _ n.next.0 ∙ sym (get_or-map (λ (x : NetReg). at c net.nodes x.next.0) net.parts.regs k no_reg 0 h')) in
+    let g : NetFile × List ℕ → List ℕ = λ p. port_after c net.nodes p.0.port p.1 in
+    let lz : length (zip net.parts.files st.files) ≡ length net.parts.files = omega (arith, length-zip net.parts.files st.files, e) in
+    let fs : files ≡ files_after net c st.files = same_elements _ _ [] (l ∙ sym lz ∙ sym (length_map g (zip net.parts.files st.files)))
+    (λ k h. let h' : k < length net.parts.files = omega (arith, l) in
+    let n : FileOk net.nodes (get_or net.parts.files k no_file) = All-get_or (FileOk net.nodes) net.parts.files k no_file h' ok.parts.files in
+    w k h' ∙ port_same c net.nodes values _ _ (get_or net.parts.files k no_file).port (get_or st.files k []) n.port known
+    ∙ sym (get_or-map g (zip net.parts.files st.files) k (no_file, []) [] (omega (arith, lz)) ∙ ap g (get_or-zip net.parts.files st.files k (no_file, []) h' (omega (arith, e))))) in
+    (λ i. record { regs = rs i; files = fs i }) ∙ sym (not_reset net.parts.reset _ _)

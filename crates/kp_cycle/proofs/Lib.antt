@@ -1,0 +1,5 @@
+pub mod Clocking
+pub mod Counter
+pub mod Reached
+pub mod Settling
+pub mod Spans

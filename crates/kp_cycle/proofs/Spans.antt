@@ -1,0 +1,164 @@
+-- Words are read and written in spans that lie side by side.
+use Rattle.std.proofs.Common.{◌≡◌, ◌≢◌, ℕ, ◌+◌, ◌-◌, ◌^◌, ◌<◌, ◌≤◌, List, [], ◌∷◌, ◌++◌, length, get_or, set, map, take, drop, replicate, suc, sym, subst, ap, ◌∙◌, arith, ⊎_elim, inl, inr, length-append, length-drop}
+use Rattle.std.proofs.lemmas.Bool.{cases_lt}
+use Rattle.std.proofs.lemmas.List.{get_or-set_other, length-set, get_or-map, drop-set-add, drop-set-lt, take-set-le, get_or_append_left, get_or_default, length-take-le, length-replicate, take_more, drop_more, set-set, get_or-set_same, map-append, append_assoc}
+use Rattle.std.proofs.lemmas.Slice.{between_is}
+use Rattle.std.proofs.lemmas.List.Edits.{length-between}
+use Rattle.std.proofs.lemmas.Grind.{get_or-set_at}
+use Rattle.std.proofs.lemmas.List.Elements.{All-get_or}
+use Rattle.std.proofs.Math.Seq.{take-set-lt, get_or-append_right, set-append_seam}
+use Rattle.kp_region.specs.declared.span.Span.{Span}
+use Rattle.kp_region.specs.Words.{Words, IsSound, IsWithin, IsDisjoint, span_words, next_span, carved, written}
+use Rattle.kp_cycle.specs.Spans.{Apart, no_span}
+use Rattle.kp_net.specs.declared.netlist.NetFile.{NetFile}
+use Rattle.kp_net.specs.Netlist.{Net}
+use Rattle.kp_net.specs.Parts.{NetOk, FileOk, no_file}
+use Rattle.kp_cycle.specs.Steps.{Stored, Fits}
+use Rattle.kp_cycle.proofs.Clocking.{length_map, same_elements}
+
+-- a span holds as many words as its length says
+pub span_length : (r : Words) (s : Span) → IsSound r → IsWithin s r → length (span_words r s) ≡ s.len
+span_length r s sound within = omega (arith, length-between r.words s.start (s.start + s.len) (omega (arith, sound, within)))
+
+-- a write into a span is a write into what it holds, and leaves what spans hold that share no word with it
+span_lands : (r : Words) (s : Span) (i v : ℕ) → i < s.len → span_words (written r s i v) s ≡ set (span_words r s) i v
+span_lands r s i v h = ap (take (s.start + s.len - s.start)) (drop-set-add s.start r.words i v) ∙ take-set-lt (s.start + s.len - s.start) (drop s.start r.words) i v (omega arith)
+
+span_stays : (r : Words) (s t : Span) (i v : ℕ) → IsDisjoint s t → i < t.len → span_words (written r t i v) s ≡ span_words r s
+span_stays r s t i v apart h =
+    ⊎_elim
+    (λ below. between_is (set r.words (t.start + i) v) s.start (s.start + s.len) ∙ ap (drop s.start) (take-set-le (s.start + s.len) r.words (t.start + i) v (omega arith)) ∙ sym (between_is r.words s.start (s.start + s.len)))
+    (λ above. ap (take (s.start + s.len - s.start)) (drop-set-lt s.start r.words (t.start + i) v (omega arith)))
+    apart
+
+-- a write into one of the spans is a write into what that one holds
+pub write_one : (r : Words) (spans : List Span) (k i v : ℕ) → Apart r spans → k < length spans → i < (get_or spans k no_span).len
+    → map (span_words (written r (get_or spans k no_span) i v)) spans ≡ set (map (span_words r) spans) k (set (span_words r (get_or spans k no_span)) i v)
+write_one r spans k i v h l m =
+    let t : Span = get_or spans k no_span in
+    let r' : Words = written r t i v in
+    let old : List (List ℕ) = map (span_words r) spans in
+    let ws : List ℕ = set (span_words r t) i v in
+    let other : (j : ℕ) → j < length spans → IsDisjoint (get_or spans j no_span) t → j ≢ k → get_or (map (span_words r') spans) j [] ≡ get_or (set old k ws) j [] =
+    λ j n apart z. get_or-map (span_words r') spans j no_span [] n ∙ span_stays r (get_or spans j no_span) t i v apart m ∙ sym (get_or-map (span_words r) spans j no_span [] n) ∙ sym (get_or-set_other old k j ws [] z) in
+    same_elements (map (span_words r') spans) (set old k ws) []
+    (length_map (span_words r') spans ∙ sym (length_map (span_words r) spans) ∙ sym (length-set old k ws))
+    (λ j n'. let n : j < length spans = omega (arith, length_map (span_words r') spans) in
+    ⊎_elim
+    (λ (x : j < k). other j n (h.apart j k x l) (λ z. omega arith))
+    (λ (x : k ≤ j). ⊎_elim
+    (λ (y : k < j). other j n (⊎_elim (λ a. inr a) (λ b. inl b) (h.apart k j y n)) (λ z. omega arith))
+    (λ (y : j ≤ k). let z : j ≡ k = omega arith in
+    get_or-map (span_words r') spans j no_span [] n ∙ ap (λ x. span_words r' (get_or spans x no_span)) z ∙ span_lands r t i v m ∙ sym (get_or-set_at old k j ws [] z (omega (arith, length_map (span_words r) spans))))
+    (cases_lt k j))
+    (cases_lt j k))
+
+-- and all spans stay side by side
+pub apart_written : (r : Words) (spans : List Span) (s : Span) (i v : ℕ) → Apart r spans → Apart (written r s i v) spans
+apart_written r spans s i v h = record { sound = omega (arith, h.sound, length-set r.words (s.start + i) v); few = h.few; within = h.within; apart = h.apart }
+
+-- so does the span that is carved next
+pub apart_carved : (r : Words) (spans : List Span) (n : ℕ) → Apart r spans → IsSound (carved r n) → r.used + n < 2 ^ 32 → Apart (carved r n) (spans ++ next_span r n ∷ [])
+apart_carved r spans n h sound few =
+    let s : Span = next_span r n in
+    let more : length (spans ++ s ∷ []) ≡ length spans + 1 = length-append spans (s ∷ []) in
+    let last : (k : ℕ) → length spans ≤ k → k < length spans + 1 → get_or (spans ++ s ∷ []) k no_span ≡ s =
+    λ k a b. let z : k - length spans ≡ 0 = omega arith in get_or-append_right spans (s ∷ []) k no_span a ∙ ap (λ x. get_or (s ∷ []) x no_span) z in
+    record {
+      sound = sound;
+      few = few;
+      within = λ k l. ⊎_elim
+          (λ (x : k < length spans). let w = h.within k x in rw (get_or_append_left spans (s ∷ []) no_span k x) (omega (arith, w)))
+          (λ (x : length spans ≤ k). rw (last k x (omega (arith, more))) (omega arith))
+          (cases_lt k (length spans));
+      apart = λ j k x l. ⊎_elim
+          (λ (y : k < length spans). rw (get_or_append_left spans (s ∷ []) no_span k y, get_or_append_left spans (s ∷ []) no_span j (omega arith)) (h.apart j k x y))
+          (λ (y : length spans ≤ k). let jl : j < length spans = omega (arith, more) in
+          rw (last k y (omega (arith, more)), get_or_append_left spans (s ∷ []) no_span j jl) (inl (h.within j jl)))
+          (cases_lt k (length spans));
+    }
+
+-- carving leaves the number of words
+pub length_carved : (r : Words) (n : ℕ) → r.used + n ≤ length r.words → length (carved r n).words ≡ length r.words
+length_carved r n h =
+    let zero : ℕ = 0 in
+    let zeros : List ℕ = replicate n zero in
+    let rest : List ℕ = drop (r.used + length zeros) r.words in
+    omega (arith, length-append (take r.used r.words) (zeros ++ rest), length-append zeros rest, length-replicate n zero, length-take-le r.used r.words (omega (arith, h)), length-drop (r.used + length zeros) r.words)
+
+-- a memory, as what its spans hold
+abbrev pub stored : List (List ℕ) → Stored
+stored l = record { nodes = get_or l 0 []; regs = get_or l 1 []; files = drop 2 l }
+
+abbrev pub stored_in : Span → Span → List Span → Words → Stored
+stored_in n g fs r = record { nodes = span_words r n; regs = span_words r g; files = map (span_words r) fs }
+
+-- the span of a file
+pub file_is : (r : Words) (fs : List Span) (file : ℕ) → file < length fs → get_or (map (span_words r) fs) file [] ≡ span_words r (get_or fs file no_span)
+file_is r fs file h = get_or-map (span_words r) fs file no_span [] h
+
+-- an address of a file is one in its span
+pub address_in : (r : Words) (n g : Span) (fs : List Span) (file address : ℕ) → Apart r (n ∷ g ∷ fs) → file < length fs → address < length (get_or (map (span_words r) fs) file []) → address < (get_or fs file no_span).len
+address_in r n g fs file address h l m = omega (arith, m, ap length (file_is r fs file l), span_length r (get_or fs file no_span) h.sound (h.within (suc (suc file)) (omega arith)))
+
+-- spans of the right lengths fit the netlist
+pub fits_laid : (net : Net) (r : Words) (n g : Span) (fs : List Span) → NetOk net → Apart r (n ∷ g ∷ fs) → n.len ≡ length net.nodes → g.len ≡ length net.parts.regs
+    → map (λ (s : Span). s.len) fs ≡ map (λ (f : NetFile). length f.words) net.parts.files → Fits net (stored_in n g fs r)
+fits_laid net r n g fs ok h a b e =
+    let len : Span → ℕ = λ s. s.len in
+    let size : NetFile → ℕ = λ f. length f.words in
+    let same : length fs ≡ length net.parts.files = sym (length_map len fs) ∙ ap length e ∙ length_map size net.parts.files in
+    record {
+      right = ok;
+      nodes = span_length r n h.sound (h.within 0 (omega arith)) ∙ a;
+      regs = span_length r g h.sound (h.within 1 (omega arith)) ∙ b;
+      files = length_map (span_words r) fs ∙ same;
+      words = λ f l. let l' : f < length fs = omega (arith, same) in
+          let file : FileOk net.nodes (get_or net.parts.files f no_file) = All-get_or (FileOk net.nodes) net.parts.files f no_file l ok.parts.files in
+          ap length (file_is r fs f l') ∙ span_length r (get_or fs f no_span) h.sound (h.within (suc (suc f)) (omega arith))
+          ∙ sym (get_or-map len fs f no_span 0 l') ∙ ap (λ (xs : List ℕ). get_or xs f 0) e ∙ get_or-map size net.parts.files f no_file 0 l ∙ file.full;
+    }
+
+-- the span that a memory has of a file holds each address of it
+pub file_span : (r : Words) (n g : Span) (fs : List Span) (m : Stored) (file address : ℕ) (s : Span) → Apart r (n ∷ g ∷ fs) → stored_in n g fs r ≡ m → file < length m.files → address < length (get_or m.files file []) → s ≡ get_or fs file s
+    → IsWithin s r × (address < s.len) × (s ≡ get_or fs file no_span) × (file < length fs)
+file_span r n g fs m file address s h v l a e =
+    let l' : file < length fs = omega (arith, l, ap (λ (x : Stored). length x.files) v, length_map (span_words r) fs) in
+    let i : s ≡ get_or fs file no_span = e ∙ get_or_default fs file s no_span l' in
+    let a' : address < length (get_or (map (span_words r) fs) file []) = omega (arith, a, ap (λ (x : Stored). length (get_or x.files file [])) v) in
+    let P : Span → Type 0 = λ x. IsWithin x r in
+    (subst P (sym i) (h.within (suc (suc file)) (omega arith)), omega (arith, address_in r n g fs file address h l' a', ap (λ (x : Span). x.len) i), i, l')
+
+-- a write into the span of a file is a write into the file
+pub write_file : (r : Words) (n g : Span) (fs : List Span) (file address v : ℕ) → Apart r (n ∷ g ∷ fs) → file < length fs → address < (get_or fs file no_span).len
+    → stored_in n g fs (written r (get_or fs file no_span) address v) ≡ record (stored_in n g fs r) { files = set (map (span_words r) fs) file (set (get_or (map (span_words r) fs) file []) address v) }
+write_file r n g fs file address v h l m =
+    ap stored (write_one r (n ∷ g ∷ fs) (suc (suc file)) address v h (omega arith) m)
+    ∙ ap (λ (ws : List ℕ). record (stored_in n g fs r) { files = set (map (span_words r) fs) file (set ws address v) }) (sym (file_is r fs file l))
+
+-- the spans of files have their lengths, one by one
+pub lens_more : (files : List NetFile) (spans : List Span) (i : ℕ) (s : Span) (x : NetFile) → i < length files → s.len ≡ length x.words → x ≡ get_or files i x
+    → map (λ (t : Span). t.len) spans ≡ map (λ (f : NetFile). length f.words) (take i files) → map (λ (t : Span). t.len) (spans ++ s ∷ []) ≡ map (λ (f : NetFile). length f.words) (take (i + 1) files)
+lens_more files spans i s x h a b e =
+    let len : Span → ℕ = λ t. t.len in
+    let size : NetFile → ℕ = λ f. length f.words in
+    let l : s.len ≡ size (get_or files i x) = a ∙ ap size b in
+    map-append len spans (s ∷ []) ∙ (λ j. e j ++ l j ∷ []) ∙ sym (map-append size (take i files) (get_or files i x ∷ [])) ∙ ap (map size) (sym (take_more files i x h))
+
+-- one more word of a file is filled in
+pub filled_more : (files : List (List ℕ)) (file i : ℕ) (ws : List ℕ) → file < length files → length ws ≡ length (get_or files file []) → i < length ws
+    → let x : List ℕ = take i ws ++ drop i (get_or files file []) in set (set files file x) file (set (get_or (set files file x) file []) i (get_or ws i 0)) ≡ set files file (take (i + 1) ws ++ drop (i + 1) (get_or files file []))
+filled_more files file i ws h e l =
+    let old : List ℕ = get_or files file [] in
+    let x : List ℕ = take i ws ++ drop i old in
+    let v : ℕ = get_or ws i 0 in
+    let n : length (take i ws) ≡ i = length-take-le i ws (omega arith) in
+    let one : set x i v ≡ take (i + 1) ws ++ drop (i + 1) old =
+    ap (λ (ys : List ℕ). set (take i ws ++ ys) i v) (drop_more old i 0 (omega (arith, e)))
+    ∙ ap (λ (k : ℕ). set (take i ws ++ get_or old i 0 ∷ drop (i + 1) old) k v) (sym n)
+    ∙ set-append_seam (take i ws) (get_or old i 0) (drop (i + 1) old) v
+    ∙ sym (append_assoc (take i ws) (v ∷ []) (drop (i + 1) old))
+    ∙ ap (λ (ys : List ℕ). ys ++ drop (i + 1) old) (sym (take_more ws i 0 l)) in
+    set-set files file x (set (get_or (set files file x) file []) i v)
+    ∙ ap (λ (ys : List ℕ). set files file (set ys i v)) (get_or-set_same files file x [] h)
+    ∙ ap (set files file) one

@@ -1,0 +1,54 @@
+use Rattle.std.proofs.Common.{◌≡◌, ◌+◌, ◌^◌, ◌<◌, ◌≤◌, ℕ, ◌∷◌, length, map, take, subst, ap, ◌∙◌, arith, Result}
+use Rattle.std.specs.Prelude.{IfOk, OnOk}
+use Rattle.std.specs.List.{sum_by}
+use Rattle.std.proofs.lemmas.List.Sums.{sum_by_more, sum_by_more_le}
+use Rattle.std.proofs.Math.Seq.{take-length}
+use Rattle.kp_net.specs.declared.netlist.NetFile.{NetFile}
+use Rattle.kp_net.specs.declared.netlist.Parts.{Parts}
+use Rattle.kp_region.specs.declared.span.Span.{Span}
+use Rattle.kp_region.specs.declared.region.Full.{Full}
+use Rattle.kp_region.specs.Words.{Words, IsSound, next_span, carved}
+use Rattle.kp_cycle.proofs.Spans.{apart_carved, length_carved, lens_more, fits_laid}
+use Rattle.kp_cycle.proofs.memory.Memory.lay_out.Goals as goal
+
+pub loop-file-preserved : goal.loop-file-preserved
+loop-file-preserved c =
+    let net = c.args.net.now in
+    let files = c.as_slice-files.result.now in
+    let i = c.loop-file.file-index in
+    let x = c.file-item.result in
+    let size : NetFile → ℕ = λ f. length f.words in
+    let k = length c.as_slice-in-loop-file.result.now in
+    let r = c.loop-file.region in
+    let s = c.unwrap-span.result in
+    let a = c.carve-in-loop-file.ensures in
+    let inv = c.loop-file.invariant in
+    let is : s ≡ next_span r k = (let P : Result Span Full → Type 0 = λ o. IfOk o (λ t. t ≡ next_span r k) in subst P c.unwrap-span.ensures a.span) in
+    let new : c.carve-in-loop-file.new.self ≡ carved r k = (let P : Result Span Full → Type 0 = λ o. OnOk o (c.carve-in-loop-file.new.self ≡ carved r k) in subst P c.unwrap-span.ensures a.carved) in
+    let nodes : length c.nodes.result.now ≡ length net.nodes = ap length c.nodes.ensures.nodes in
+    let regs : length c.as_slice.result.now ≡ length net.parts.regs = ap length (c.as_slice.ensures ∙ ap (λ (p : Parts). p.regs) c.parts-2.ensures.parts) in
+    let ks : k ≡ size x = ap length c.as_slice-in-loop-file.ensures in
+    let fit : sum_by size (take i files) + k ≤ sum_by size files = omega (arith, sum_by_more_le size files i x c.loop-file-test.true, ap size c.file-item.is, ks) in
+    let few : r.used + k < 2 ^ 32 = omega (arith, fit, inv.2, c.words_of-file_words.ensures.sum, c.words_of-file_words.ensures.at_most, nodes, regs, c.nodes.ensures.right.count, c.nodes.ensures.right.parts.reg_count) in
+    let room : r.used + k ≤ length r.words = omega (arith, fit, inv.2, inv.3, c.words_of-file_words.ensures.sum) in
+    let apart = apart_carved r (c.unwrap-nodes.result ∷ c.unwrap-regs.result ∷ c.loop-file.spans.items) k inv.0 (subst IsSound new a.sound) few in (
+      rw (new, c.in_ok-push.ensures.items, is) apart,
+      ap (map (λ (t : Span). t.len)) c.in_ok-push.ensures.items ∙ lens_more files c.loop-file.spans.items i s x c.loop-file-test.true (ap (λ (t : Span). t.len) is ∙ ks) c.file-item.is inv.1,
+      omega (arith, ap (λ (w : Words). w.used) new, inv.2, sum_by_more size files i x c.loop-file-test.true, ap size c.file-item.is, ks),
+      ap (λ (w : Words). length w.words) new ∙ length_carved r k room ∙ inv.3,
+      inv.4,
+      inv.5,
+    )
+
+pub returns : goal.returns
+returns c =
+    let net = c.args.net.now in
+    let files = c.as_slice-files.result.now in
+    let inv = c.loop-file.invariant in
+    let size : NetFile → ℕ = λ f. length f.words in
+    let end : c.loop-file.file-index ≡ length files = omega (arith, c.loop-file.auto.file-index-end, c.loop-file-test.false) in
+    let all : take c.loop-file.file-index files ≡ net.parts.files = ap (λ (n : ℕ). take n files) end ∙ take-length files ∙ c.as_slice-files.ensures ∙ ap (λ (p : Parts). p.files) c.parts.ensures.parts in
+    fits_laid net c.loop-file.region c.unwrap-nodes.result c.unwrap-regs.result c.loop-file.spans.items c.nodes.ensures.right inv.0
+    (inv.4 ∙ ap length c.nodes.ensures.nodes)
+    (inv.5 ∙ ap length (c.as_slice.ensures ∙ ap (λ (p : Parts). p.regs) c.parts-2.ensures.parts))
+    (inv.1 ∙ ap (map size) all)

@@ -1,0 +1,6 @@
+use Rattle.std.proofs.Common.{◌≡◌, length, take}
+use Rattle.std.specs.List.{sum_by}
+use Rattle.kp_cycle.proofs.memory.words_of.Given as goal
+
+abbrev pub invariant-loop-file : goal.invariant-loop-file
+invariant-loop-file l = l.sum ≡ sum_by (λ f. length f.words) (take l.file-index l.files)

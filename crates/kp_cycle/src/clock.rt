@@ -1,0 +1,53 @@
+ghost use Rattle.std.specs.Prelude.{◌≡◌, ◌<◌, ◌≤◌, ◌^◌, [], ℕ, length, get_or, set};
+ghost use Rattle.kp_net.specs.Parts.{NetOk, no_file};
+ghost use Rattle.kp_net.specs.Widths.{wide};
+ghost use Rattle.kp_cycle.specs.Steps.{Fits, FitsBelow, PortReady, regs_from, port_from};
+
+use crate::memory::Memory;
+use kp_net::{Netlist, WritePort};
+
+/// Gives each register the value of its next node.
+pub fn clock_regs(net: &Netlist, memory: &mut Memory)
+    requires { Fits net.now memory.old }
+    ensures fits { Fits net.now memory.new }
+    ensures regs { memory.new.regs ≡ regs_from net.now.parts.regs memory.old.nodes }
+    ensures nodes { memory.new.nodes ≡ memory.old.nodes }
+    ensures files { memory.new.files ≡ memory.old.files }
+{
+    let regs = net.parts().regs.as_slice();
+    for i in 0..regs.len() {
+        let value = memory.node(regs[i].next.0);
+        memory.set_reg(i as u32, value);
+    }
+}
+
+/// Writes the word of each file whose port is enabled.
+pub fn clock_files(net: &Netlist, memory: &mut Memory)
+    requires fits { Fits net.now memory.old }
+    requires known { FitsBelow net.now.nodes memory.old.nodes (length net.now.nodes) }
+    ensures fits { Fits net.now memory.new }
+    ensures files { (f : ℕ) → f < length net.now.parts.files → get_or memory.new.files f [] ≡ port_from (get_or net.now.parts.files f no_file).port memory.old.nodes (get_or memory.old.files f []) }
+    ensures nodes { memory.new.nodes ≡ memory.old.nodes }
+    ensures regs { memory.new.regs ≡ memory.old.regs }
+{
+    let files = net.parts().files.as_slice();
+    for i in 0..files.len() {
+        write(memory, i as u32, files[i].port);
+    }
+}
+
+// What the port of a file does, if it has one.
+fn write(memory: &mut Memory, file: u32, port: Option<WritePort>)
+    requires file { file < length memory.old.files }
+    requires ready { PortReady memory.old file port }
+    ensures { memory.new ≡ record memory.old { files = set memory.old.files file (port_from port memory.old.nodes (get_or memory.old.files file [])) } }
+{
+    let Some(port) = port else {
+        return;
+    };
+    if memory.node(port.enable.0) == 1 {
+        let address = memory.node(port.address.0);
+        let value = memory.node(port.value.0);
+        memory.set_word(file, address, value);
+    }
+}

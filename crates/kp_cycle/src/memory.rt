@@ -1,0 +1,173 @@
+ghost use Rattle.std.specs.Prelude.{◌≡◌, ◌<◌, ◌≤◌, [], length, get_or, set, IfOk, All};
+ghost use Rattle.std.specs.List.{sum_by};
+ghost use Rattle.kp_net.specs.Netlist.{Net, start_regs, start_of};
+ghost use Rattle.kp_cycle.specs.Steps.{Stored, Fits};
+
+use kp_base::NoMemory;
+use kp_net::{NetFile, Netlist};
+use kp_region::{Region, Span};
+use std::alloc::Global;
+use std::marker::Model;
+
+/// The values of the nodes and of the registers of a netlist, and the words of its files, each in a span of one
+/// region.
+#[derive(Debug, Drop)]
+pub struct Memory {
+    region: Region,
+    nodes: Span,
+    regs: Span,
+    files: Vec<Span>,
+}
+
+impl Model for Memory {
+    ghost use Rattle.std.specs.Prelude.{map, ◌∷◌};
+    ghost use Rattle.kp_region.specs.Words.{span_words};
+    ghost use Rattle.kp_cycle.specs.Steps.{Stored};
+    ghost use Rattle.kp_cycle.specs.Spans.{Apart};
+
+    ghost Value = { Stored };
+
+    ghost view = { λ m. record { nodes = span_words m.region m.nodes; regs = span_words m.region m.regs; files = map (span_words m.region) m.files.items } };
+
+    ghost invariant = { λ m. Apart m.region (m.nodes ∷ m.regs ∷ m.files.items) };
+}
+
+impl Memory {
+    /// The memory of a netlist that has not run: each register and file as at the start. Want of memory is the one
+    /// refusal, and nothing later takes any.
+    pub fn open(alloc: Global, net: &Netlist) -> Result<Memory, NoMemory>
+        ensures fits { IfOk result (λ m. Fits net.now m) }
+        ensures regs { IfOk result (λ m. m.regs ≡ start_regs net.now) }
+        ensures files { IfOk result (λ m. m.files ≡ (start_of net.now).files) }
+    {
+        let mut memory = Memory::lay_out(alloc, net)?;
+        fill_regs(net, &mut memory);
+        fill_files(net, &mut memory);
+        Ok(memory)
+    }
+
+    // A span for the nodes, one for the registers, and one for each file.
+    #[tactic(auto, using(std::proofs::lemmas::List::Sums::sum_by_more_le))]
+    fn lay_out(alloc: Global, net: &Netlist) -> Result<Memory, NoMemory>
+        ensures { IfOk result (λ m. Fits net.now m) }
+    {
+        let files = net.parts().files.as_slice();
+        let node_count = net.nodes().len() as u32;
+        let reg_count = net.parts().regs.as_slice().len() as u32;
+        let file_words = words_of(files);
+        let mut spans = Vec::with_capacity(alloc, files.len())?;
+        let mut region = Region::take(alloc, node_count + reg_count + file_words)?;
+        let nodes = region.carve(node_count).unwrap();
+        let regs = region.carve(reg_count).unwrap();
+        for file in files {
+            let span = region.carve(file.words.as_slice().len() as u32).unwrap();
+            spans.push(span)?;
+        }
+        Ok(Memory {
+            region,
+            nodes,
+            regs,
+            files: spans,
+        })
+    }
+
+    /// The value of a node.
+    pub fn node(&self, i: u32) -> u64
+        requires { i < length self.now.nodes }
+        ensures { result ≡ get_or self.now.nodes i 0 }
+    {
+        self.region.get(self.nodes, i)
+    }
+
+    /// Gives a node a value.
+    pub fn set_node(&mut self, i: u32, value: u64)
+        requires { i < length self.old.nodes }
+        ensures { self.new ≡ record self.old { nodes = set self.old.nodes i value } }
+    {
+        self.region.put(self.nodes, i, value);
+    }
+
+    /// The value of a register.
+    pub fn reg(&self, i: u32) -> u64
+        requires { i < length self.now.regs }
+        ensures { result ≡ get_or self.now.regs i 0 }
+    {
+        self.region.get(self.regs, i)
+    }
+
+    /// Gives a register a value.
+    pub fn set_reg(&mut self, i: u32, value: u64)
+        requires { i < length self.old.regs }
+        ensures { self.new ≡ record self.old { regs = set self.old.regs i value } }
+    {
+        self.region.put(self.regs, i, value);
+    }
+
+    /// The word of a file at an address.
+    pub fn word(&self, file: u32, address: u64) -> u64
+        requires file { file < length self.now.files }
+        requires address { address < length (get_or self.now.files file []) }
+        ensures { result ≡ get_or (get_or self.now.files file []) address 0 }
+    {
+        self.region.get(self.files[file as usize], address as u32)
+    }
+
+    /// Writes the word of a file at an address.
+    pub fn set_word(&mut self, file: u32, address: u64, value: u64)
+        requires file { file < length self.old.files }
+        requires address { address < length (get_or self.old.files file []) }
+        ensures { self.new ≡ record self.old { files = set self.old.files file (set (get_or self.old.files file []) address value) } }
+    {
+        let span = self.files[file as usize];
+        self.region.put(span, address as u32, value);
+    }
+}
+
+// How many words all files have.
+fn words_of(files: &[NetFile]) -> u32
+    requires few { length files.now ≤ 16 }
+    requires small { All (λ f. length f.words ≤ 65536) files.now }
+    ensures sum { result ≡ sum_by (λ f. length f.words) files.now }
+    ensures at_most { result ≤ 1048576 }
+{
+    let mut sum = 0;
+    for file in files {
+        sum += file.words.as_slice().len() as u32;
+    }
+    sum
+}
+
+// Gives each register its start value.
+fn fill_regs(net: &Netlist, memory: &mut Memory)
+    requires { Fits net.now memory.old }
+    ensures fits { Fits net.now memory.new }
+    ensures regs { memory.new.regs ≡ start_regs net.now }
+{
+    let regs = net.parts().regs.as_slice();
+    for i in 0..regs.len() {
+        memory.set_reg(i as u32, regs[i].start.value());
+    }
+}
+
+// Gives each file its words.
+fn fill_files(net: &Netlist, memory: &mut Memory)
+    requires { Fits net.now memory.old }
+    ensures fits { Fits net.now memory.new }
+    ensures regs { memory.new.regs ≡ memory.old.regs }
+    ensures files { memory.new.files ≡ (start_of net.now).files }
+{
+    let files = net.parts().files.as_slice();
+    for i in 0..files.len() {
+        fill_file(memory, i as u32, files[i].words.as_slice());
+    }
+}
+
+fn fill_file(memory: &mut Memory, file: u32, words: &[u64])
+    requires file { file < length memory.old.files }
+    requires size { length words.now ≡ length (get_or memory.old.files file []) }
+    ensures { memory.new ≡ record memory.old { files = set memory.old.files file words.now } }
+{
+    for i in 0..words.len() {
+        memory.set_word(file, i as u64, words[i]);
+    }
+}

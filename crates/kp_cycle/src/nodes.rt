@@ -1,0 +1,141 @@
+ghost use Rattle.std.specs.Prelude.{◌≡◌, ◌<◌, ◌≤◌, ◌+◌, ◌%◌, ◌^◌, length, get_or, map, All};
+ghost use Rattle.std.specs.List.{sum_by};
+ghost use Rattle.kp_ast.specs.Expressions.{binary_of, joined_of};
+ghost use Rattle.kp_bits.specs.Word.{IsWord, word};
+ghost use Rattle.kp_net.specs.Nodes.{word_of_node, at};
+ghost use Rattle.kp_net.specs.Widths.{BinaryOk, wide, no_node};
+ghost use Rattle.kp_net.specs.Parts.{NetOk};
+ghost use Rattle.kp_cycle.specs.Steps.{Fits, FitsBelow, KnownBelow, cells, seen, state_of};
+
+use crate::memory::Memory;
+use kp_ast::BinOp;
+use kp_bits::Bits;
+use kp_net::{Kind, Netlist, NodeId};
+
+/// Gives each node its value in the cycle with this stall word.
+pub fn settle(net: &Netlist, memory: &mut Memory, ext: u64)
+    requires { Fits net.now memory.old }
+    ensures fits { Fits net.now memory.new }
+    ensures known { KnownBelow net.now.nodes ext memory.new (length net.now.nodes) }
+    ensures widths { FitsBelow net.now.nodes memory.new.nodes (length net.now.nodes) }
+    ensures regs { memory.new.regs ≡ memory.old.regs }
+    ensures files { memory.new.files ≡ memory.old.files }
+{
+    let count = net.nodes().len();
+    for i in 0..count {
+        let value = value_of(net, memory, ext, i);
+        memory.set_node(i as u32, value);
+    }
+}
+
+// The value of node i, from those of the nodes before it.
+fn value_of(net: &Netlist, memory: &Memory, ext: u64, i: usize) -> u64
+    requires inside { i < length net.now.nodes }
+    requires fits { Fits net.now memory.now }
+    requires known { FitsBelow net.now.nodes memory.now.nodes i }
+    ensures { result ≡ (word_of_node (cells ext memory.now) (seen net.now.nodes memory.now.nodes) (get_or net.now.nodes i no_node)).value }
+{
+    let node = &net.nodes()[i];
+    match &node.kind {
+        Kind::Const(value) => *value,
+        Kind::Ext => low_bits(ext, node.width),
+        Kind::Sample(_) => 0,
+        Kind::Reg(reg) => low_bits(memory.reg(*reg), node.width),
+        Kind::Word(file, address) => low_bits(
+            memory.word(*file, memory.node(address.0)),
+            node.width,
+        ),
+        Kind::Not(a) => operand(net, memory, *a).not().value(),
+        Kind::Binary(op, a, b) => {
+            let left = operand(net, memory, *a);
+            let right = operand(net, memory, *b);
+            binary(*op, left, right).value()
+        }
+        Kind::Mux(test, yes, no) => {
+            let test = operand(net, memory, *test);
+            let yes = operand(net, memory, *yes);
+            let no = operand(net, memory, *no);
+            test.mux(yes, no).value()
+        }
+        Kind::Concat(parts) => joined(net, memory, parts.nodes()).value(),
+        Kind::Slice(a, hi, lo) => operand(net, memory, *a).slice(*hi, *lo).value(),
+    }
+}
+
+// The word of a node that has its value already.
+fn operand(net: &Netlist, memory: &Memory, a: NodeId) -> Bits
+    requires inside { a.0 < length net.now.nodes }
+    requires fits { Fits net.now memory.now }
+    requires known { get_or memory.now.nodes a.0 0 < 2 ^ wide net.now.nodes a.0 }
+    ensures word { result ≡ seen net.now.nodes memory.now.nodes a.0 }
+    ensures is_word { IsWord result }
+{
+    let width = width_of(net, a);
+    let value = memory.node(a.0);
+    word(width, value)
+}
+
+fn width_of(net: &Netlist, a: NodeId) -> u8
+    requires { a.0 < length net.now.nodes }
+    ensures width { result ≡ wide net.now.nodes a.0 }
+    ensures positive { 1 ≤ result }
+    ensures at_most { result ≤ 64 }
+{
+    net.nodes()[a.0 as usize].width
+}
+
+/// A number of so many bits.
+pub fn word(width: u8, value: u64) -> Bits
+    requires positive { 1 ≤ width }
+    requires at_most { width ≤ 64 }
+    requires fits { value < 2 ^ width }
+    ensures word { result ≡ word width value }
+    ensures is_word { IsWord result }
+{
+    Bits::new(width, value).unwrap()
+}
+
+fn binary(op: BinOp, a: Bits, b: Bits) -> Bits
+    requires { BinaryOk op (binary_of op a b).width a.width b.width }
+    ensures { result ≡ binary_of op a b }
+{
+    match op {
+        BinOp::And => a.and(b),
+        BinOp::Or => a.or(b),
+        BinOp::Xor => a.xor(b),
+        BinOp::Add => a.add(b),
+        BinOp::Sub => a.sub(b),
+        BinOp::Mul => a.mul(b),
+        BinOp::Eq => a.eq(b),
+        BinOp::Lt => a.lt(b),
+        BinOp::Shl => a.shl(b),
+        BinOp::Shr => a.shr(b),
+    }
+}
+
+// All parts in a row, the first on top.
+#[tactic(auto, using(std::proofs::lemmas::List::Sums::sum_by_more_le))]
+fn joined(net: &Netlist, memory: &Memory, parts: &[NodeId]) -> Bits
+    requires fits { Fits net.now memory.now }
+    requires some { 1 ≤ length parts.now }
+    requires inside { All (λ a. a.0 < length net.now.nodes) parts.now }
+    requires known { All (λ a. get_or memory.now.nodes a.0 0 < 2 ^ wide net.now.nodes a.0) parts.now }
+    requires widths { sum_by (λ a. wide net.now.nodes a.0) parts.now ≤ 64 }
+    ensures { result ≡ joined_of (map (λ a. seen net.now.nodes memory.now.nodes a.0) parts.now) }
+{
+    let mut word = operand(net, memory, parts[0]);
+    for i in 1..parts.len() {
+        word = word.concat(operand(net, memory, parts[i]));
+    }
+    word
+}
+
+// The lowest bits of a number.
+#[tactic(auto, using(std::proofs::lemmas::Nat::and_mask, kp_bits::proofs::Powers::mask_of))]
+fn low_bits(n: u64, width: u8) -> u64
+    requires positive { 1 ≤ width }
+    requires at_most { width ≤ 64 }
+    ensures { result ≡ n % 2 ^ width }
+{
+    n & (u64::MAX >> (64 - width))
+}

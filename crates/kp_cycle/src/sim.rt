@@ -1,0 +1,122 @@
+ghost use Rattle.std.specs.Prelude.{◌≡◌, ◌<◌, ◌≤◌, ◌^◌, length, get_or, IfOk};
+ghost use Rattle.kp_net.specs.Netlist.{Net, State, start_of, state_after, row_of, stalled};
+ghost use Rattle.kp_net.specs.Widths.{wide};
+ghost use Rattle.kp_net.specs.Parts.{no_reg, no_file};
+ghost use Rattle.kp_cycle.specs.Steps.{Running, ShowsRows, Fits, FitsBelow, StateFits, state_of, reg_shown, word_shown};
+
+use crate::clock::{clock_files, clock_regs};
+use crate::memory::Memory;
+use crate::nodes::{settle, word};
+use kp_base::{NoMemory, Row};
+use kp_bits::Bits;
+use kp_net::{Netlist, NodeId};
+use std::alloc::Global;
+use std::marker::Model;
+
+/// A netlist that runs, seen as the netlist and the state that it is in.
+#[derive(Debug, Drop)]
+pub struct Sim<'n> {
+    net: &'n Netlist,
+    memory: Memory,
+}
+
+impl<'n> Model for Sim<'n> {
+    ghost use Rattle.kp_cycle.specs.Steps.{Running, ShowsRows, Fits, StateFits, state_of};
+
+    ghost Value = { Running };
+
+    ghost view = { λ s. record { net = s.net.now; state = state_of s.memory } };
+
+    ghost invariant = { λ s. Fits s.net.now s.memory × ShowsRows s.net.now × StateFits s.net.now (state_of s.memory) };
+}
+
+impl<'n> Sim<'n> {
+    /// The netlist in its start state. Takes all its memory here, and want of it is the one refusal.
+    #[tactic(auto, using(crate::proofs::Reached::start_fits))]
+    pub fn open(alloc: Global, net: &'n Netlist) -> Result<Sim<'n>, NoMemory>
+        requires { ShowsRows net.now }
+        ensures { IfOk result (λ s. s ≡ record { net = net.now; state = start_of net.now }) }
+    {
+        let memory = Memory::open(alloc, net)?;
+        Ok(Sim { net, memory })
+    }
+
+    /// Runs one cycle under this stall word, of which bits from the netlist's width on are ignored. No sample port
+    /// has a value but 0. Takes no memory.
+    pub fn step(&mut self, ext: u16) -> Row
+        ensures row { result ≡ row_of self.old.net (stalled ext) self.old.state }
+        ensures state { self.new ≡ record { net = self.old.net; state = state_after self.old.net (stalled ext) self.old.state } }
+    {
+        cycle(self.net, &mut self.memory, ext)
+    }
+
+    /// The value of a register.
+    pub fn value(&self, reg: u32) -> Bits
+        requires { reg < length self.now.net.parts.regs }
+        ensures { result ≡ reg_shown self.now reg }
+    {
+        let width = reg_width(self.net, reg);
+        word(width, self.memory.reg(reg))
+    }
+
+    /// The word of a file at an address.
+    pub fn word(&self, file: u32, address: u32) -> Bits
+        requires file { file < length self.now.net.parts.files }
+        requires address { address < 2 ^ (get_or self.now.net.parts.files file no_file).address_width }
+        ensures { result ≡ word_shown self.now file address }
+    {
+        let width = file_width(self.net, file);
+        word(width, self.memory.word(file, u64::from(address)))
+    }
+}
+
+fn reg_width(net: &Netlist, reg: u32) -> u8
+    requires { reg < length net.now.parts.regs }
+    ensures width { result ≡ (get_or net.now.parts.regs reg no_reg).start.width }
+    ensures positive { 1 ≤ result }
+    ensures at_most { result ≤ 64 }
+{
+    net.parts().regs.as_slice()[reg as usize].start.width()
+}
+
+fn file_width(net: &Netlist, file: u32) -> u8
+    requires { file < length net.now.parts.files }
+    ensures width { result ≡ (get_or net.now.parts.files file no_file).width }
+    ensures positive { 1 ≤ result }
+    ensures at_most { result ≤ 64 }
+{
+    net.parts().files.as_slice()[file as usize].width
+}
+
+fn cycle(net: &Netlist, memory: &mut Memory, ext: u16) -> Row
+    requires fits { Fits net.now memory.old }
+    requires shows { ShowsRows net.now }
+    requires widths { StateFits net.now (state_of memory.old) }
+    ensures widths { StateFits net.now (state_of memory.new) }
+    ensures fits { Fits net.now memory.new }
+    ensures row { result ≡ row_of net.now (stalled ext) (state_of memory.old) }
+    ensures state { state_of memory.new ≡ state_after net.now (stalled ext) (state_of memory.old) }
+{
+    settle(net, memory, u64::from(ext));
+    let parts = net.parts();
+    let row = Row {
+        full: output(net, memory, parts.full),
+        ue: output(net, memory, parts.ue),
+        back: output(net, memory, parts.back) as u8,
+    };
+    clock_regs(net, memory);
+    clock_files(net, memory);
+    row
+}
+
+// The value of a node that an output shows.
+fn output(net: &Netlist, memory: &Memory, a: NodeId) -> u16
+    requires inside { a.0 < length net.now.nodes }
+    requires fits { Fits net.now memory.now }
+    requires narrow { wide net.now.nodes a.0 ≤ 12 }
+    requires widths { FitsBelow net.now.nodes memory.now.nodes (length net.now.nodes) }
+    ensures value { result ≡ get_or memory.now.nodes a.0 0 }
+    ensures width { result < 2 ^ wide net.now.nodes a.0 }
+{
+    memory.node(a.0) as u16
+}
