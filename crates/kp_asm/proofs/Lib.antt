@@ -1,0 +1,4 @@
+pub mod Skips
+pub mod NoTokens
+pub mod Lines
+pub mod Images

@@ -1,0 +1,11 @@
+-- Where no token is left, none breaks a rule.
+use Rattle.std.proofs.Common.{◌≡◌, ℕ, ◌<◌, List, [], ◌∷◌, length, None, refl, arith}
+use Rattle.kp_asm.specs.Mnemonics.{first_breaking}
+use Rattle.kp_asm.specs.declared.token.Token.{Token}
+use Rattle.kp_asm.specs.declared.mnemonic.Piece.{Piece}
+use Rattle.kp_asm.specs.declared.operands.Rule.{Rule}
+
+pub none_left : (text : List ℕ) (rule : Rule) (form : List Piece) (tokens : List Token) → length tokens < 1 → first_breaking text rule form tokens ≡ None
+none_left text rule [] tokens h = refl
+none_left text rule (piece ∷ more) [] h = refl
+none_left text rule (piece ∷ more) (token ∷ tokens) h = absurd (omega arith)

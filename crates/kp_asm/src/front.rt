@@ -1,0 +1,186 @@
+// What begins with a byte of a text.
+ghost use Rattle.std.specs.Prelude.{◌≡◌, ◌≤◌, ◌<◌, length, drop};
+ghost use Rattle.kp_asm.specs.Tokens.{is_layout, is_letter, is_word, is_digit, is_hex, is_in_line, run_length, begins_hex, name, number_more, negative, dot_word, mark, front_of, more_of};
+
+use crate::token::TokenKind;
+
+/// What begins with a byte, and how many bytes stand behind that byte.
+#[derive(Clone, Copy)]
+pub enum Front {
+    /// Layout or a comment.
+    Gap(usize),
+    Token(TokenKind, usize),
+    /// No token begins here, or a name is too long.
+    Broken,
+}
+
+/// What begins with the byte `first`, which stands before `rest`.
+pub fn read_front(first: u8, rest: &[u8]) -> Front
+    ensures value { result ≡ front_of first rest.now }
+    ensures within { more_of result ≤ length rest.now }
+{
+    if is_layout(first) {
+        Front::Gap(0)
+    } else if first == b';' {
+        Front::Gap(comment_length(rest))
+    } else if is_letter(first) {
+        name(word_length(rest))
+    } else if is_digit(first) {
+        Front::Token(TokenKind::Number, number_more(first, rest))
+    } else if first == b'-' {
+        negative(digits_length(rest))
+    } else if first == b'.' {
+        dot_word(rest)
+    } else {
+        mark(first)
+    }
+}
+
+fn is_layout(byte: u8) -> bool
+    ensures { result ≡ is_layout byte }
+{
+    matches!(byte, b' ' | b'\t' | b'\r')
+}
+
+fn is_letter(byte: u8) -> bool
+    ensures { result ≡ is_letter byte }
+{
+    byte.is_ascii_alphabetic() || byte == b'_'
+}
+
+fn is_word(byte: u8) -> bool
+    ensures { result ≡ is_word byte }
+{
+    byte.is_ascii_alphanumeric() || byte == b'_'
+}
+
+pub fn is_digit(byte: u8) -> bool
+    ensures { result ≡ is_digit byte }
+{
+    byte.is_ascii_digit()
+}
+
+fn is_hex(byte: u8) -> bool
+    ensures { result ≡ is_hex byte }
+{
+    byte.is_ascii_hexdigit()
+}
+
+// How many bytes stand before the next line feed.
+fn comment_length(text: &[u8]) -> usize
+    ensures value { result ≡ run_length is_in_line text.now }
+    ensures within { result ≤ length text.now }
+{
+    for (i, byte) in text.iter().enumerate() {
+        if *byte == b'\n' {
+            return i;
+        }
+    }
+    text.len()
+}
+
+// How many letters, digits and `_` stand at the front.
+fn word_length(text: &[u8]) -> usize
+    ensures value { result ≡ run_length is_word text.now }
+    ensures within { result ≤ length text.now }
+{
+    for (i, byte) in text.iter().enumerate() {
+        if !is_word(*byte) {
+            return i;
+        }
+    }
+    text.len()
+}
+
+// How many decimal digits stand at the front.
+fn digits_length(text: &[u8]) -> usize
+    ensures value { result ≡ run_length is_digit text.now }
+    ensures within { result ≤ length text.now }
+{
+    for (i, byte) in text.iter().enumerate() {
+        if !is_digit(*byte) {
+            return i;
+        }
+    }
+    text.len()
+}
+
+// How many hexadecimal digits stand at the front.
+fn hex_length(text: &[u8]) -> usize
+    ensures value { result ≡ run_length is_hex text.now }
+    ensures within { result ≤ length text.now }
+{
+    for (i, byte) in text.iter().enumerate() {
+        if !is_hex(*byte) {
+            return i;
+        }
+    }
+    text.len()
+}
+
+// A name, unless it is too long.
+fn name(more: usize) -> Front
+    ensures value { result ≡ name more }
+    ensures within { more_of result ≤ more }
+{
+    if more > 63 {
+        Front::Broken
+    } else {
+        Front::Token(TokenKind::Name, more)
+    }
+}
+
+// The length of a number behind its first digit.
+fn number_more(first: u8, rest: &[u8]) -> usize
+    ensures value { result ≡ number_more first rest.now }
+    ensures within { result ≤ length rest.now }
+{
+    if first == b'0'
+        && let [b'x', digits @ ..] = rest
+    {
+        let len = hex_length(digits);
+        if len > 0 {
+            return len + 1;
+        }
+    }
+    digits_length(rest)
+}
+
+// A number with a `-`, if digits stand behind it.
+fn negative(more: usize) -> Front
+    ensures value { result ≡ negative more }
+    ensures within { more_of result ≤ more }
+{
+    if more == 0 {
+        Front::Broken
+    } else {
+        Front::Token(TokenKind::Number, more)
+    }
+}
+
+// What a `.` before this begins.
+fn dot_word(rest: &[u8]) -> Front
+    ensures value { result ≡ dot_word rest.now }
+    ensures within { more_of result ≤ length rest.now }
+{
+    if let [b'w', b'o', b'r', b'd', ..] = rest {
+        Front::Token(TokenKind::DotWord, 4)
+    } else {
+        Front::Broken
+    }
+}
+
+// A token of one byte.
+fn mark(byte: u8) -> Front
+    ensures value { result ≡ mark byte }
+    ensures within { more_of result ≤ 0 }
+{
+    match byte {
+        b'\n' => Front::Token(TokenKind::LineEnd, 0),
+        b',' => Front::Token(TokenKind::Comma, 0),
+        b'(' => Front::Token(TokenKind::Open, 0),
+        b')' => Front::Token(TokenKind::Close, 0),
+        b':' => Front::Token(TokenKind::Colon, 0),
+        _ => Front::Broken,
+    }
+}

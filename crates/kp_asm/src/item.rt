@@ -1,0 +1,28 @@
+// What a line says.
+use crate::mnemonic::Mnemonic;
+use crate::token::Token;
+
+/// A label that is declared, and the address of the word behind it.
+#[derive(Clone, Copy, Debug, PartialEq, Eq)]
+pub struct Label {
+    pub name: Token,
+    pub address: u32,
+}
+
+/// An instruction: its operands in their order, without the marks, and its address. An operand that it hasn't got is
+/// its mnemonic.
+#[derive(Clone, Copy, Debug, PartialEq, Eq)]
+pub struct Instruction {
+    pub mnemonic: Mnemonic,
+    pub first: Token,
+    pub second: Token,
+    pub third: Token,
+    pub address: u32,
+}
+
+/// A label or an instruction.
+#[derive(Clone, Copy, Debug, PartialEq, Eq)]
+pub enum Item {
+    Label(Label),
+    Instruction(Instruction),
+}

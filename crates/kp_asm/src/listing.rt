@@ -1,0 +1,180 @@
+// What the lines of a program say.
+ghost use Rattle.std.specs.Prelude.{◌≡◌, ◌≤◌, ◌<◌, ◌-◌, ◌^◌, ℕ, length, OnOk, OnErr, slice_get, unwrap_or};
+ghost use Rattle.kp_base.specs.Check.{Gives};
+ghost use Rattle.kp_asm.specs.Tokens.{bytes_of};
+ghost use Rattle.kp_asm.specs.Mnemonics.{mnemonic_of};
+ghost use Rattle.kp_asm.specs.Listing.{instructions_in};
+ghost use Rattle.kp_asm.specs.Program.{is_line_end, line_length, lines_of, with_label, with_instruction, mnemonic_read, instruction_read, declares, line_read, lines_read, nothing_read};
+
+use crate::item::{Instruction, Item, Label};
+use crate::mnemonic::{Mnemonic, mnemonic_of};
+use crate::operands::broken_operand;
+use crate::token::{Token, TokenKind, broken, bytes_of};
+use kp_base::{NoMemory, Refused};
+use std::alloc::Global;
+use std::marker::Model;
+
+// The most words of a program.
+const MOST_WORDS: u32 = 1024;
+
+/// The labels and the instructions of a program in text order, and how many are instructions.
+#[derive(Drop)]
+pub struct Program {
+    items: Vec<Item>,
+    count: u32,
+}
+
+impl Model for Program {
+    ghost use Rattle.std.specs.Prelude.{◌≡◌, ◌≤◌};
+    ghost use Rattle.kp_asm.specs.Listing.{Listing, instructions_in};
+
+    ghost Value = { Listing };
+
+    ghost view = { λ p. record { items = p.items.items; count = p.count } };
+
+    ghost invariant = { λ p. (instructions_in p.items.items ≡ p.count) × (p.count ≤ 1024) };
+}
+
+impl Program {
+    fn new(alloc: Global) -> Program
+        ensures { result ≡ nothing_read }
+    {
+        Program {
+            items: Vec::new(alloc),
+            count: 0,
+        }
+    }
+
+    /// The labels and the instructions.
+    pub fn items(&self) -> &[Item]
+        ensures value { result.now ≡ self.now.items }
+        ensures most { instructions_in result.now ≤ 1024 }
+    {
+        self.items.as_slice()
+    }
+
+    fn add_label(&mut self, name: Token) -> Result<(), NoMemory>
+        ensures { OnOk result (self.new ≡ with_label self.old name) }
+    {
+        self.items.push(Item::Label(Label {
+            name,
+            address: 4 * self.count,
+        }))?;
+        Ok(())
+    }
+
+    fn add_instruction(
+        &mut self,
+        mnemonic: Mnemonic,
+        token: Token,
+        operands: &[Token],
+    ) -> Result<(), NoMemory>
+        requires { self.old.count < 1024 }
+        ensures { OnOk result (self.new ≡ with_instruction self.old mnemonic token operands.now) }
+    {
+        self.items.push(Item::Instruction(Instruction {
+            mnemonic,
+            first: operand(operands, 0, token),
+            second: operand(operands, 2, token),
+            third: operand(operands, 4, token),
+            address: 4 * self.count,
+        }))?;
+        self.count += 1;
+        Ok(())
+    }
+
+    fn read_mnemonic(
+        &mut self,
+        text: &[u8],
+        token: Token,
+        operands: &[Token],
+    ) -> Result<(), Refused>
+        requires { length text.now ≤ 2 ^ 32 - 2 }
+        ensures { Gives result (mnemonic_read text.now self.old token operands.now (mnemonic_of (bytes_of text.now token))) (λ _. self.new) }
+    {
+        let Some(mnemonic) = mnemonic_of(bytes_of(text, token)) else {
+            return Err(Refused::Rule(broken(text, 2, token.start)));
+        };
+        if let Some(refusal) = broken_operand(text, mnemonic.form(), operands) {
+            return Err(Refused::Rule(refusal));
+        }
+        if self.count >= MOST_WORDS {
+            return Err(Refused::Rule(broken(text, 7, token.start)));
+        }
+        self.add_instruction(mnemonic, token, operands)?;
+        Ok(())
+    }
+
+    fn read_instruction(&mut self, text: &[u8], line: &[Token]) -> Result<(), Refused>
+        requires { length text.now ≤ 2 ^ 32 - 2 }
+        ensures { Gives result (instruction_read text.now self.old line.now) (λ _. self.new) }
+    {
+        let [token, operands @ ..] = line else {
+            return Ok(());
+        };
+        if is_line_end(token.kind) {
+            return Ok(());
+        }
+        self.read_mnemonic(text, *token, operands)
+    }
+
+    fn read_line(&mut self, text: &[u8], line: &[Token]) -> Result<(), Refused>
+        requires { length text.now ≤ 2 ^ 32 - 2 }
+        ensures { Gives result (line_read text.now self.old line.now) (λ _. self.new) }
+    {
+        if let [first, second, rest @ ..] = line
+            && declares(first.kind, second.kind)
+        {
+            self.add_label(*first)?;
+            return self.read_instruction(text, rest);
+        }
+        self.read_instruction(text, line)
+    }
+}
+
+// The operand at a place, or the mnemonic where there is none.
+fn operand(operands: &[Token], place: usize, token: Token) -> Token
+    ensures { result ≡ unwrap_or (slice_get operands.now place) token }
+{
+    operands.get(place).copied().unwrap_or(token)
+}
+
+fn is_line_end(kind: TokenKind) -> bool
+    ensures { result ≡ is_line_end kind }
+{
+    matches!(kind, TokenKind::LineEnd)
+}
+
+// A name and a `:` declare a label.
+fn declares(first: TokenKind, second: TokenKind) -> bool
+    ensures { result ≡ declares first second }
+{
+    matches!((first, second), (TokenKind::Name, TokenKind::Colon))
+}
+
+// How many tokens the first line has.
+fn line_length(tokens: &[Token]) -> usize
+    ensures { result ≡ line_length tokens.now }
+{
+    for (i, token) in tokens.iter().enumerate() {
+        if is_line_end(token.kind) {
+            return i + 1;
+        }
+    }
+    tokens.len()
+}
+
+/// What the lines of these tokens say. Refuses A2 to A5 and A7.
+pub fn read_lines(alloc: Global, text: &[u8], tokens: &[Token]) -> Result<Program, Refused>
+    requires { length text.now ≤ 2 ^ 32 - 2 }
+    ensures { Gives result (lines_read text.now nothing_read (lines_of tokens.now)) (λ program. program) }
+{
+    let mut program = Program::new(alloc);
+    let mut rest = tokens;
+    while !rest.is_empty() {
+        let (line, after) = rest.split_at(line_length(rest));
+        program.read_line(text, line)?;
+        rest = after;
+    }
+    Ok(program)
+}

@@ -1,0 +1,49 @@
+// What a program is made of.
+ghost use Rattle.std.specs.Prelude.{◌≡◌, ◌≤◌, ◌^◌, ◌-◌, length};
+ghost use Rattle.kp_asm.specs.Tokens.{broken, bytes_of};
+
+use kp_base::{Refusal, place_of};
+
+/// The kind of a token.
+#[derive(Clone, Copy, Debug, PartialEq, Eq)]
+pub enum TokenKind {
+    /// A letter or `_`, and then letters, digits and `_`: at most 64 bytes.
+    Name,
+    /// `.word`.
+    DotWord,
+    Number,
+    Comma,
+    Open,
+    Close,
+    Colon,
+    /// A line feed, or the end of the text.
+    LineEnd,
+}
+
+/// A token: the offset of its first byte, its length in bytes, and its kind.
+#[derive(Clone, Copy, Debug, PartialEq, Eq)]
+pub struct Token {
+    pub start: u32,
+    pub len: u32,
+    pub kind: TokenKind,
+}
+
+/// The bytes of a token of the text.
+pub fn bytes_of<'a>(text: &'a [u8], token: Token) -> &'a [u8]
+    ensures { result.now ≡ bytes_of text.now token }
+{
+    let start = text.len().min(token.start as usize);
+    let (_before, rest) = text.split_at(start);
+    let len = rest.len().min(token.len as usize);
+    let (bytes, _after) = rest.split_at(len);
+    bytes
+}
+
+/// The refusal by the A rule of this number at this offset.
+pub fn broken(text: &[u8], number: u8, offset: u32) -> Refusal
+    requires { length text.now ≤ 2 ^ 32 - 2 }
+    ensures { result ≡ broken text.now number offset }
+{
+    let offset = text.len().min(offset as usize);
+    Refusal::a(number, place_of(text, offset as u32))
+}
