@@ -1,0 +1,92 @@
+-- What is due: a status and a text for the words and the bytes of the source.
+use Rattle.std.specs.Prelude.{◌≡◌, ◌≢◌, ◌⊎◌, Bool, true, false, ℕ, List, [], length, nat_lt, if◌then◌else◌, Ok, Err, Some, None, Option, Result}
+use Rattle.std.specs.Io.KnownBytes.{Consumes, Appends, IsAtEnd}
+use Rattle.kp_base.specs.Bytes.{AppendsPart}
+use Rattle.kp_base.specs.declared.refusal.Refusal.{Refusal}
+use Rattle.kp_base.specs.Refusal.{e_rule}
+use Rattle.kp_asm.specs.Image.{image_text_of}
+use Rattle.kp_asm.specs.Program.{assembled}
+use Rattle.kp_tool.specs.declared.words.Command.{Command}
+use Rattle.kp_tool.specs.declared.words.Command.TheVariants.{OnJob, Assemble}
+use Rattle.kp_tool.specs.declared.words.JobCommand.{JobCommand}
+use Rattle.kp_tool.specs.declared.words.JobCommand.TheVariants.{Seq}
+use Rattle.kp_tool.specs.Words.{command_of, reads_input}
+use Rattle.kp_tool.specs.Form.{Job, job_of}
+use Rattle.kp_tool.specs.Machine.{value_at}
+use Rattle.kp_tool.specs.Texts.{bad_words, refusal_line, state_text}
+
+-- this status with this text
+abbrev pub Says : ℕ → List ℕ → ℕ → List ℕ → Type 0
+Says due_status due_text status text = (status ≡ due_status) × (text ≡ due_text)
+
+-- an input of more bytes than fit
+abbrev pub too_long : Refusal
+too_long = e_rule 3 (record { line = 1; col = 1 })
+
+-- an input of a form that is not built
+abbrev pub not_built : Refusal
+not_built = e_rule 33 (record { line = 1; col = 1 })
+
+-- the job, where the form is built
+abbrev pub job_or_refusal : Option Job → Result Job Refusal
+job_or_refusal None = Err not_built
+job_or_refusal (Some job) = Ok job
+
+-- the job of an input, or the first rule that it breaks
+unfoldable pub Judges : List ℕ → Result Job Refusal → Type 0
+Judges input verdict = verdict ≡ (if nat_lt 16777216 (length input) then Err too_long else job_or_refusal (job_of input))
+
+-- what a command says of a job
+abbrev pub DueOfJob : JobCommand → Job → ℕ → List ℕ → Type 0
+DueOfJob (Seq count) job = Says 0 (state_text count job.name (value_at job.machine count))
+
+-- what a command says of a verdict on its input
+abbrev pub DueOfVerdict : JobCommand → Result Job Refusal → ℕ → List ℕ → Type 0
+DueOfVerdict command (Ok job) status text = DueOfJob command job status text
+DueOfVerdict command (Err refusal) status text = Says 2 (refusal_line refusal) status text
+
+-- the words of an assembler program, or the first rule that it breaks
+unfoldable pub program_of : List ℕ → Result (List ℕ) Refusal
+program_of input = if nat_lt 16777216 (length input) then Err too_long else assembled input
+
+-- what `asm` says of a program: the section with its words, or the rule
+abbrev pub DueOfProgram : Result (List ℕ) Refusal → ℕ → List ℕ → Type 0
+DueOfProgram (Ok words) status text = Says 0 (image_text_of words) status text
+DueOfProgram (Err refusal) status text = Says 2 (refusal_line refusal) status text
+
+-- what is due of a command
+abbrev pub DueFor : Option Command → List ℕ → ℕ → List ℕ → Type 0
+DueFor None input status text = Says 1 bad_words status text
+DueFor (Some (OnJob command)) input status text =
+    (verdict : Result Job Refusal) × Judges input verdict × DueOfVerdict command verdict status text
+DueFor (Some Assemble) input status text = DueOfProgram (program_of input) status text
+
+-- what is due of any words
+abbrev pub Due : List (List ℕ) → List ℕ → ℕ → List ℕ → Type 0
+Due words input status text = DueFor (command_of words) input status text
+
+-- a source was read as far as is due: not at all, or to its end, or one byte past the most that fit
+abbrev pub IsWhole : Bool → List ℕ → Option (List ℕ) → Type 0
+IsWhole false taken left = taken ≡ []
+IsWhole true taken left = IsAtEnd left ⊎ (length taken ≡ 16777217)
+
+-- status and text are due of the bytes that a source gave
+pub record IsDue (words : List (List ℕ)) (old new : Option (List ℕ)) (status : ℕ) (text : List ℕ) : Type 0 where
+  pub taken : List ℕ
+  pub consumed : Consumes old new taken
+  pub whole : IsWhole (reads_input (command_of words)) taken new
+  pub due : Due words taken status text
+
+-- a status that is due
+abbrev pub IsFinal : ℕ → Type 0
+IsFinal status = (status ≢ 3) × (status ≢ 4) × (status ≢ 5)
+
+-- the status is due, and the whole due text was appended
+abbrev pub Completes : List (List ℕ) → (left left_after held held_after : Option (List ℕ)) → ℕ → Type 0
+Completes words left left_after held held_after status =
+    (text : List ℕ) × IsDue words left left_after status text × Appends held held_after text
+
+-- the beginning of a due text was appended
+abbrev pub Begins : List (List ℕ) → (left left_after held held_after : Option (List ℕ)) → Type 0
+Begins words left left_after held held_after =
+    (status : ℕ) × (text : List ℕ) × IsDue words left left_after status text × AppendsPart held held_after text
