@@ -1,0 +1,6 @@
+pub mod Taking
+pub mod Predictive
+pub mod Picks
+pub mod Steps
+pub mod Operators
+pub mod Text

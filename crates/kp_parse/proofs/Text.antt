@@ -1,0 +1,77 @@
+-- What the outcome of the machine says of a text.
+use Rattle.std.proofs.Common.{ℕ, ◌≡◌, List, [], ◌∷◌, length, drop, map, take, Bool, true, false, Result, Ok, Err, All, MatchResult, IsTrue, ◌||◌, ◌&&◌, ◌==◌, nat_le, refl, sym, ap, ◌∙◌, subst, arith}
+use Rattle.std.proofs.lemmas.List.Elements.{All-weaker}
+use Rattle.kp_base.specs.declared.place.Place.{Place}
+use Rattle.kp_ast.specs.Name.{IsName, is_name_byte}
+use Rattle.kp_ast.specs.declared.tree.Job.{Job}
+use Rattle.kp_grammar.specs.Grammar.{IsSentence, IsWrongAt, IsWithin, IsOverAt, IsLimit}
+use Rattle.kp_grammar.specs.Machine.{Outcome, Accepts, Stops, Exceeds}
+use Rattle.kp_grammar.proofs.Laws.{sentence, one_state, wrong_at, within_stop, over_at, over_ends}
+use Rattle.kp_lex.specs.declared.token.Token.{Token}
+use Rattle.kp_lex.specs.declared.token.Lexed.{Lexed}
+use Rattle.kp_lex.specs.Text.{HasOutcome, StandsIn, IsIdentifier, is_word, is_letter, is_digit}
+use Rattle.kp_lex.proofs.Stands.{tokens_stand}
+use Rattle.kp_lex.proofs.Names.{name_is_identifier}
+use Rattle.kp_parse.specs.declared.fault.Fault.{Fault}
+use Rattle.kp_parse.specs.declared.fault.Fault.TheVariants as faults
+use Rattle.kp_parse.specs.Tokens.{Lexeme, IsSpelled, lexemes}
+use Rattle.kp_parse.specs.Language.{State, Step, Way, JOB, job, language}
+use Rattle.kp_parse.specs.Follow.{tables}
+use Rattle.kp_parse.specs.Reading.{at, is_over, FaultIs, JobGoes}
+use Rattle.kp_parse.specs.Sentence.{IsTree, IsWrong, IsTooDeep, place_from}
+use Rattle.kp_parse.proofs.Predictive.{is_predictive}
+
+stays : (way : Way) (t : Lexeme) (v : State) → is_over v ≡ true → is_over (language.reads way t v) ≡ true
+stays way t v h = rw h refl
+
+limit : IsLimit language is_over
+limit = record { keeps = λ a v. refl; stays = stays }
+
+same_job : (i j : Job) → at [] (job i ∷ []) ≡ at [] (job j ∷ []) → i ≡ j
+same_job i j h = cc (ap (λ (v : State). v.values) h)
+
+module _ (text : List ℕ) (tokens : List Token) where
+  pub is_tree : (j : Job) → JobGoes (lexemes text tokens) (Accepts (at [] (job j ∷ []))) → IsTree text tokens j
+  is_tree j l = sentence language tables JOB is_predictive l
+
+  pub is_only : (i j : Job) → JobGoes (lexemes text tokens) (Accepts (at [] (job i ∷ []))) → IsTree text tokens j → i ≡ j
+  is_only i j l d = same_job i j (one_state language tables JOB is_predictive (is_tree i l) d)
+
+  pub is_wrong : (i : ℕ) (p : Place) → p ≡ place_from text (drop i tokens) → JobGoes (lexemes text tokens) (Stops (length (drop i (lexemes text tokens)))) → IsWrong text tokens p
+  is_wrong i p e l = record {
+    prefix = i;
+    wrong = wrong_at language tables JOB is_predictive l;
+    within = within_stop language tables JOB is_predictive is_over limit refl l;
+    place = e;
+  }
+
+  pub is_too_deep : (i : ℕ) (p : Place) → p ≡ place_from text (drop i tokens) → JobGoes (lexemes text tokens) (Exceeds (length (drop i (lexemes text tokens)))) → IsTooDeep text tokens p
+  is_too_deep i p e l = record { prefix = i; over = over_at language tables JOB is_predictive is_over limit refl l; place = e }
+
+  pub no_tree_wrong : (i : ℕ) (j : Job) → JobGoes (lexemes text tokens) (Stops (length (drop i (lexemes text tokens)))) → IsTree text tokens j → ⊥
+  no_tree_wrong i j l d = (is_wrong i _ refl l).wrong.unfinished (at [] (job j ∷ [])) d
+
+  pub no_tree_deep : (i : ℕ) (j : Job) → JobGoes (lexemes text tokens) (Exceeds (length (drop i (lexemes text tokens)))) → IsTree text tokens j → ⊥
+  no_tree_deep i j l d = cc (over_ends language tables JOB is_predictive is_over limit (is_too_deep i _ refl l).over d)
+
+-- A name that the lexer gives is a name of a tree.
+same_tests : (u l s d : Bool) → ((u || l || s) || d) ≡ true → ((l || u) || (d || s)) ≡ true
+same_tests true true s d h = refl
+same_tests true false s d h = refl
+same_tests false true s d h = refl
+same_tests false false true true h = refl
+same_tests false false true false h = refl
+same_tests false false false true h = refl
+same_tests false false false false h = h
+
+name_byte : (b : ℕ) → is_word b ≡ true → IsTrue (is_name_byte b)
+name_byte b h = same_tests (nat_le 65 b && nat_le b 90) (nat_le 97 b && nat_le b 122) (b == 95) (nat_le 48 b && nat_le b 57) h
+
+names : (bytes : List ℕ) → IsIdentifier bytes → IsName bytes
+names bytes h = record { not_empty = h.not_empty; within = h.within; spelled = All-weaker (λ b. is_word b ≡ true) (λ b. IsTrue (is_name_byte b)) name_byte bytes h.spelled }
+
+spelled_one : (text : List ℕ) (t : Token) → StandsIn text t → IsSpelled text t
+spelled_one text t h = record { within = h.within; name = λ e. names _ (name_is_identifier text t h e) }
+
+pub spelled_all : (text : List ℕ) (lexed : Lexed) → HasOutcome text (Ok lexed) → All (IsSpelled text) lexed.tokens
+spelled_all text lexed h = All-weaker (StandsIn text) (IsSpelled text) (spelled_one text) lexed.tokens (tokens_stand text lexed h).0

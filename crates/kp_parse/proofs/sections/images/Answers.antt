@@ -1,0 +1,23 @@
+use Rattle.std.proofs.Common.{◌≡◌, ℕ, ◌+◌, ◌≤◌, ◌<◌, List, [], ◌∷◌, ◌++◌, refl, arith, ap, sym, length, drop, true, false}
+use Rattle.std.proofs.lemmas.Result.{err_from_is_err_and}
+use Rattle.kp_grammar.specs.Machine.{make}
+use Rattle.kp_parse.proofs.Steps.{by_dropped, by_placed, one, miss_end, end_end, fail_end}
+use Rattle.kp_parse.proofs.Picks.{words_1, words_else}
+use Rattle.kp_parse.proofs.sections.images.Goals as goal
+
+pub returns-in_err-one : goal.returns-in_err-one
+returns-in_err-one c =
+    let p = err_from_is_err_and c.from_residual.result c.from_residual.ensures.1 in
+    rw (p.1, p.2) (end_end c.in_err-one.ensures (λ o h s cs vs. c.all.invariant.leads _ _ _ _ (words_1 (cc c.is_name.ensures) (h _ _ _))))
+
+pub all-preserved : goal.all-preserved
+all-preserved c = rw c.in_ok-push.ensures.items (record {
+  leads = λ s cs vs o h. c.all.invariant.leads _ _ _ _ (words_1 (cc c.is_name.ensures) (c.in_ok-one.ensures.leads _ _ _ _ (make (h))));
+  shrinks = omega (arith, c.all.invariant.shrinks, c.in_ok-one.ensures.shrinks);
+})
+
+pub returns : goal.returns
+returns c = record {
+  leads = λ s cs vs o h. c.all.invariant.leads _ _ _ _ (words_else (cc c.is_name.ensures) h);
+  shrinks = omega (arith, c.all.invariant.shrinks);
+}

@@ -1,0 +1,11 @@
+use Rattle.std.proofs.Common.{[], ◌∷◌, length, drop}
+use Rattle.kp_grammar.specs.Grammar.{Nonterminal}
+use Rattle.kp_parse.specs.Language.{SPANS, stalls}
+use Rattle.kp_parse.specs.Reading.{TurnsYet}
+use Rattle.kp_parse.proofs.sections.spans.Given as goal
+
+abbrev pub invariant-all : goal.invariant-all
+invariant-all l = TurnsYet l.tokens (Nonterminal SPANS) (stalls [] ∷ []) (stalls l.all.items ∷ []) l.at l.here
+
+abbrev pub decreases-all : goal.decreases-all
+decreases-all l = length (drop l.here l.tokens)

@@ -1,0 +1,22 @@
+use Rattle.std.proofs.Common.{◌≡◌, ℕ, ◌+◌, ◌≤◌, ◌<◌, List, [], ◌∷◌, ◌++◌, refl, arith, ap, sym, length, drop, true, false}
+use Rattle.std.proofs.lemmas.Result.{err_from_is_err_and}
+use Rattle.kp_grammar.specs.Machine.{make}
+use Rattle.kp_parse.proofs.Steps.{by_dropped, by_placed, one, miss_end, end_end, fail_end}
+use Rattle.kp_parse.proofs.Picks.{hedge_1}
+use Rattle.kp_parse.proofs.stage.condition.Goals as goal
+
+pub returns-in_err-_when : goal.returns-in_err-_when
+returns-in_err-_when c =
+    let p = err_from_is_err_and c.from_residual.result c.from_residual.ensures.1 in
+    rw (p.1, p.2) (miss_end c.in_err-_when.ensures (λ o h s cs vs. hedge_1 c.requires (h _ _ _)))
+
+pub returns-in_err-condition : goal.returns-in_err-condition
+returns-in_err-condition c =
+    let p = err_from_is_err_and c.from_residual-in_err-condition.result c.from_residual-in_err-condition.ensures.1 in
+    rw (p.1, p.2) (end_end c.in_err-condition.ensures (λ o h s cs vs. hedge_1 c.requires (by_dropped c.in_ok-_when.ensures (h _ _ _))))
+
+pub returns : goal.returns
+returns c = record {
+  leads = λ s cs vs o h. hedge_1 c.requires (by_dropped c.in_ok-_when.ensures (c.in_ok-condition.ensures.leads _ _ _ _ (make (h))));
+  shrinks = omega (arith, one c.in_ok-_when.ensures, c.in_ok-condition.ensures.shrinks);
+}

@@ -1,0 +1,28 @@
+use Rattle.std.proofs.Common.{◌≡◌, ℕ, ◌+◌, ◌≤◌, ◌<◌, List, [], ◌∷◌, ◌++◌, refl, arith, ap, sym, length, drop, true, false}
+use Rattle.std.proofs.lemmas.Result.{err_from_is_err_and}
+use Rattle.kp_grammar.specs.Machine.{make}
+use Rattle.kp_parse.proofs.Steps.{by_dropped, by_placed, one, miss_end, end_end, fail_end}
+use Rattle.kp_parse.proofs.Picks.{when_1, when_else}
+use Rattle.kp_parse.proofs.stage.when.Goals as goal
+
+pub returns-then-not-is_keyword : goal.returns-then-not-is_keyword
+returns-then-not-is_keyword c = record {
+  leads = λ s cs vs o h. when_else (cc c.is_keyword.ensures) (make h);
+  shrinks = omega arith;
+}
+
+pub returns-in_err-_when : goal.returns-in_err-_when
+returns-in_err-_when c =
+    let p = err_from_is_err_and c.from_residual.result c.from_residual.ensures.1 in
+    rw (p.1, p.2) (miss_end c.in_err-_when.ensures (λ o h s cs vs. when_1 (cc c.is_keyword.ensures) (h _ _ _)))
+
+pub returns-in_err-condition : goal.returns-in_err-condition
+returns-in_err-condition c =
+    let p = err_from_is_err_and c.from_residual-in_err-condition.result c.from_residual-in_err-condition.ensures.1 in
+    rw (p.1, p.2) (end_end c.in_err-condition.ensures (λ o h s cs vs. when_1 (cc c.is_keyword.ensures) (by_dropped c.in_ok-_when.ensures (h _ _ _))))
+
+pub returns : goal.returns
+returns c = record {
+  leads = λ s cs vs o h. when_1 (cc c.is_keyword.ensures) (by_dropped c.in_ok-_when.ensures (c.in_ok-condition.ensures.leads _ _ _ _ (make (h))));
+  shrinks = omega (arith, one c.in_ok-_when.ensures, c.in_ok-condition.ensures.shrinks);
+}

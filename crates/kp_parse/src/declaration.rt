@@ -1,0 +1,237 @@
+// Declarations.
+ghost use Rattle.std.specs.Prelude.{◌≡◌, ◌==◌, [], ◌∷◌, MatchResult, true, false};
+ghost use Rattle.kp_grammar.specs.Grammar.{Nonterminal};
+ghost use Rattle.kp_grammar.specs.Tables.{among};
+ghost use Rattle.kp_lex.specs.declared.token.Keyword.TheVariants as keywords;
+ghost use Rattle.kp_parse.specs.Tokens.{keyword_class};
+ghost use Rattle.kp_parse.specs.Follow.{decl_words};
+ghost use Rattle.kp_parse.specs.Language.{decls, decl as decl_value, param as param_value, params as params_value, perhaps_named, DECLS, DECL, INDEX, ENABLE, PAR, PARS};
+ghost use Rattle.kp_parse.specs.Reading.{class_at, Turns, Ends};
+
+use crate::expression::whole_expression;
+use crate::fault::Fault;
+use crate::tokens::Tokens;
+use kp_ast::{Decl, FuncDecl, Named, Param, ResultDecl};
+use kp_base::List;
+use kp_lex::{Keyword, Mark};
+use std::alloc::Global;
+
+/// All declarations that stand here, and the number of the next token.
+pub(crate) fn declarations(
+    alloc: Global,
+    tokens: &Tokens<'_>,
+    at: usize,
+) -> Result<(Vec<Decl>, usize), Fault>
+    ensures { MatchResult result (λ x. Turns tokens.now (Nonterminal DECLS) (decls [] ∷ []) (decls x.0.items ∷ []) at x.1 0) (Ends tokens.now (Nonterminal DECLS) (decls [] ∷ []) at) }
+{
+    let mut all = Vec::new(alloc);
+    let mut here = at;
+    'all: while begins_declaration(tokens, here) {
+        let (one, next) = declaration(alloc, tokens, here)?;
+        all.push(one)?;
+        here = next;
+    }
+    Ok((all, here))
+}
+
+fn begins_declaration(tokens: &Tokens<'_>, at: usize) -> bool
+    ensures { result ≡ among (class_at tokens.now at) decl_words }
+{
+    if tokens.is_keyword(Keyword::Reg, at) {
+        return true;
+    }
+    if tokens.is_keyword(Keyword::File, at) {
+        return true;
+    }
+    if tokens.is_keyword(Keyword::Pipe, at) {
+        return true;
+    }
+    if tokens.is_keyword(Keyword::Result, at) {
+        return true;
+    }
+    if tokens.is_keyword(Keyword::Hint, at) {
+        return true;
+    }
+    tokens.is_keyword(Keyword::Fn, at)
+}
+
+fn declaration(alloc: Global, tokens: &Tokens<'_>, at: usize) -> Result<(Decl, usize), Fault>
+    ensures { MatchResult result (λ x. Turns tokens.now (Nonterminal DECL) [] (decl_value x.0 ∷ []) at x.1 1) (Ends tokens.now (Nonterminal DECL) [] at) }
+{
+    if tokens.is_keyword(Keyword::Reg, at) {
+        return register(alloc, tokens, at);
+    }
+    if tokens.is_keyword(Keyword::File, at) {
+        return file(alloc, tokens, at);
+    }
+    if tokens.is_keyword(Keyword::Pipe, at) {
+        return pipe(alloc, tokens, at);
+    }
+    if tokens.is_keyword(Keyword::Result, at) {
+        return target(alloc, tokens, at);
+    }
+    if tokens.is_keyword(Keyword::Hint, at) {
+        return hint(alloc, tokens, at);
+    }
+    function(alloc, tokens, at)
+}
+
+// `reg name : width = start;`
+fn register(alloc: Global, tokens: &Tokens<'_>, at: usize) -> Result<(Decl, usize), Fault>
+    requires { true ≡ (class_at tokens.now at == keyword_class keywords.Reg) }
+    ensures { MatchResult result (λ x. Turns tokens.now (Nonterminal DECL) [] (decl_value x.0 ∷ []) at x.1 1) (Ends tokens.now (Nonterminal DECL) [] at) }
+{
+    let (_reg, next) = tokens.keyword(Keyword::Reg, at)?;
+    let (typed, next) = parameter(alloc, tokens, next)?;
+    let (_equals, next) = tokens.mark(Mark::Equals, next)?;
+    let (start, next) = tokens.literal(next)?;
+    let (_end, next) = tokens.mark(Mark::Semicolon, next)?;
+    Ok((Decl::Reg(typed.name, typed.width, start), next))
+}
+
+// `file name : width [address width];`
+fn file(alloc: Global, tokens: &Tokens<'_>, at: usize) -> Result<(Decl, usize), Fault>
+    requires { true ≡ (class_at tokens.now at == keyword_class keywords.File) }
+    ensures { MatchResult result (λ x. Turns tokens.now (Nonterminal DECL) [] (decl_value x.0 ∷ []) at x.1 1) (Ends tokens.now (Nonterminal DECL) [] at) }
+{
+    let (_file, next) = tokens.keyword(Keyword::File, at)?;
+    let (typed, next) = parameter(alloc, tokens, next)?;
+    let (_open, next) = tokens.mark(Mark::OpenBracket, next)?;
+    let (address, next) = tokens.number(next)?;
+    let (_close, next) = tokens.mark(Mark::CloseBracket, next)?;
+    let (_end, next) = tokens.mark(Mark::Semicolon, next)?;
+    Ok((Decl::File(typed.name, typed.width, address), next))
+}
+
+// `pipe name : width;`
+fn pipe(alloc: Global, tokens: &Tokens<'_>, at: usize) -> Result<(Decl, usize), Fault>
+    requires { true ≡ (class_at tokens.now at == keyword_class keywords.Pipe) }
+    ensures { MatchResult result (λ x. Turns tokens.now (Nonterminal DECL) [] (decl_value x.0 ∷ []) at x.1 1) (Ends tokens.now (Nonterminal DECL) [] at) }
+{
+    let (_pipe, next) = tokens.keyword(Keyword::Pipe, at)?;
+    let (typed, next) = parameter(alloc, tokens, next)?;
+    let (_end, next) = tokens.mark(Mark::Semicolon, next)?;
+    Ok((Decl::Pipe(typed.name, typed.width), next))
+}
+
+// `result name : width -> target[address] when enable at stage;`
+fn target(alloc: Global, tokens: &Tokens<'_>, at: usize) -> Result<(Decl, usize), Fault>
+    requires { true ≡ (class_at tokens.now at == keyword_class keywords.Result) }
+    ensures { MatchResult result (λ x. Turns tokens.now (Nonterminal DECL) [] (decl_value x.0 ∷ []) at x.1 1) (Ends tokens.now (Nonterminal DECL) [] at) }
+{
+    let (_result, next) = tokens.keyword(Keyword::Result, at)?;
+    let (typed, next) = parameter(alloc, tokens, next)?;
+    let (_arrow, next) = tokens.mark(Mark::Arrow, next)?;
+    let (target, next) = tokens.name(alloc, next)?;
+    let (address, next) = index(alloc, tokens, next)?;
+    let (enable, next) = enable(alloc, tokens, next)?;
+    let (_at, next) = tokens.keyword(Keyword::At, next)?;
+    let (stage, next) = tokens.number(next)?;
+    let (_end, next) = tokens.mark(Mark::Semicolon, next)?;
+    let result = ResultDecl {
+        name: typed.name,
+        width: typed.width,
+        target,
+        address,
+        enable,
+        stage,
+    };
+    Ok((Decl::Target(result), next))
+}
+
+fn index(alloc: Global, tokens: &Tokens<'_>, at: usize) -> Result<(Option<Named>, usize), Fault>
+    ensures { MatchResult result (λ x. Turns tokens.now (Nonterminal INDEX) [] (perhaps_named x.0 ∷ []) at x.1 0) (Ends tokens.now (Nonterminal INDEX) [] at) }
+{
+    if !tokens.is_mark(Mark::OpenBracket, at) {
+        return Ok((None, at));
+    }
+    let (_open, next) = tokens.mark(Mark::OpenBracket, at)?;
+    let (name, next) = tokens.name(alloc, next)?;
+    let (_close, next) = tokens.mark(Mark::CloseBracket, next)?;
+    Ok((Some(name), next))
+}
+
+fn enable(alloc: Global, tokens: &Tokens<'_>, at: usize) -> Result<(Option<Named>, usize), Fault>
+    ensures { MatchResult result (λ x. Turns tokens.now (Nonterminal ENABLE) [] (perhaps_named x.0 ∷ []) at x.1 0) (Ends tokens.now (Nonterminal ENABLE) [] at) }
+{
+    if !tokens.is_keyword(Keyword::When, at) {
+        return Ok((None, at));
+    }
+    let (_when, next) = tokens.keyword(Keyword::When, at)?;
+    let (name, next) = tokens.name(alloc, next)?;
+    Ok((Some(name), next))
+}
+
+// `hint name : width = start;`
+fn hint(alloc: Global, tokens: &Tokens<'_>, at: usize) -> Result<(Decl, usize), Fault>
+    requires { true ≡ (class_at tokens.now at == keyword_class keywords.Hint) }
+    ensures { MatchResult result (λ x. Turns tokens.now (Nonterminal DECL) [] (decl_value x.0 ∷ []) at x.1 1) (Ends tokens.now (Nonterminal DECL) [] at) }
+{
+    let (_hint, next) = tokens.keyword(Keyword::Hint, at)?;
+    let (typed, next) = parameter(alloc, tokens, next)?;
+    let (_equals, next) = tokens.mark(Mark::Equals, next)?;
+    let (start, next) = tokens.literal(next)?;
+    let (_end, next) = tokens.mark(Mark::Semicolon, next)?;
+    Ok((Decl::Hint(typed.name, typed.width, start), next))
+}
+
+// `fn name(params) : width = body;`
+fn function(alloc: Global, tokens: &Tokens<'_>, at: usize) -> Result<(Decl, usize), Fault>
+    requires no_reg { false ≡ (class_at tokens.now at == keyword_class keywords.Reg) }
+    requires no_file { false ≡ (class_at tokens.now at == keyword_class keywords.File) }
+    requires no_pipe { false ≡ (class_at tokens.now at == keyword_class keywords.Pipe) }
+    requires no_result { false ≡ (class_at tokens.now at == keyword_class keywords.Result) }
+    requires no_hint { false ≡ (class_at tokens.now at == keyword_class keywords.Hint) }
+    ensures { MatchResult result (λ x. Turns tokens.now (Nonterminal DECL) [] (decl_value x.0 ∷ []) at x.1 1) (Ends tokens.now (Nonterminal DECL) [] at) }
+{
+    let (_fn, next) = tokens.keyword(Keyword::Fn, at)?;
+    let (name, next) = tokens.name(alloc, next)?;
+    let (_open, next) = tokens.mark(Mark::OpenParenthesis, next)?;
+    let (first, next) = parameter(alloc, tokens, next)?;
+    let (params, next) = parameters(alloc, tokens, first, next)?;
+    let (_close, next) = tokens.mark(Mark::CloseParenthesis, next)?;
+    let (_colon, next) = tokens.mark(Mark::Colon, next)?;
+    let (width, next) = tokens.number(next)?;
+    let (_equals, next) = tokens.mark(Mark::Equals, next)?;
+    let (body, next) = whole_expression(alloc, tokens, next)?;
+    let (_end, next) = tokens.mark(Mark::Semicolon, next)?;
+    let params = List::new(params);
+    let function = FuncDecl {
+        name,
+        params,
+        width,
+        body,
+    };
+    Ok((Decl::Func(function), next))
+}
+
+// The parameters of which this is the first.
+fn parameters(
+    alloc: Global,
+    tokens: &Tokens<'_>,
+    first: Param,
+    at: usize,
+) -> Result<(Vec<Param>, usize), Fault>
+    ensures { MatchResult result (λ x. Turns tokens.now (Nonterminal PARS) (params_value (first ∷ []) ∷ []) (params_value x.0.items ∷ []) at x.1 0) (Ends tokens.now (Nonterminal PARS) (params_value (first ∷ []) ∷ []) at) }
+{
+    let mut all = Vec::new(alloc);
+    all.push(first)?;
+    let mut here = at;
+    'all: while tokens.is_mark(Mark::Comma, here) {
+        let (_comma, next) = tokens.mark(Mark::Comma, here)?;
+        let (one, next) = parameter(alloc, tokens, next)?;
+        all.push(one)?;
+        here = next;
+    }
+    Ok((all, here))
+}
+
+// `name : width`
+fn parameter(alloc: Global, tokens: &Tokens<'_>, at: usize) -> Result<(Param, usize), Fault>
+    ensures { MatchResult result (λ x. Turns tokens.now (Nonterminal PAR) [] (param_value x.0 ∷ []) at x.1 1) (Ends tokens.now (Nonterminal PAR) [] at) }
+{
+    let (name, next) = tokens.name(alloc, at)?;
+    let (_colon, next) = tokens.mark(Mark::Colon, next)?;
+    let (width, next) = tokens.number(next)?;
+    Ok((Param { name, width }, next))
+}

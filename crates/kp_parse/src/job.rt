@@ -1,0 +1,88 @@
+// Whole jobs.
+ghost use Rattle.std.specs.Prelude.{◌≡◌, ◌≤◌, ◌-◌, ◌^◌, [], ◌∷◌, Ok, length, drop, MatchResult, IfOk};
+ghost use Rattle.kp_grammar.specs.Machine.{Accepts};
+ghost use Rattle.kp_lex.specs.Text.{HasOutcome};
+ghost use Rattle.kp_base.specs.declared.refusal.Refused.TheVariants as refused;
+ghost use Rattle.kp_ast.specs.declared.tree.Job.{Job as JobTree};
+ghost use Rattle.kp_parse.specs.Language.{job as job_value};
+ghost use Rattle.kp_parse.specs.Reading.{at as state_at, JobGoes, FaultIs};
+ghost use Rattle.kp_parse.specs.Sentence.{IsTree, AnswersTree, place_from};
+
+use crate::declaration::declarations;
+use crate::fault::Fault;
+use crate::sections::{image_section, stall_section};
+use crate::stage::{stage, stages};
+use crate::tokens::Tokens;
+use kp_ast::Job;
+use kp_base::{List, Place, Refusal, Refused, place_of};
+use kp_lex::{Keyword, Lexed, Mark, Token};
+use std::alloc::Global;
+
+/// A job, and the offset behind its `end`.
+#[derive(Debug, Drop)]
+pub struct Parsed {
+    pub job: Job,
+    pub rest: u32,
+}
+
+fn job(alloc: Global, tokens: &Tokens<'_>) -> Result<Job, Fault>
+    ensures { MatchResult result (λ j. JobGoes tokens.now (Accepts (state_at [] (job_value j ∷ [])))) (FaultIs tokens.now (JobGoes tokens.now)) }
+{
+    let (_machine, next) = tokens.keyword(Keyword::Machine, 0)?;
+    let (name, next) = tokens.name(alloc, next)?;
+    let (_semicolon, next) = tokens.mark(Mark::Semicolon, next)?;
+    let (_stages, next) = tokens.keyword(Keyword::Stages, next)?;
+    let (count, next) = tokens.number(next)?;
+    let (_second, next) = tokens.mark(Mark::Semicolon, next)?;
+    let (decls, next) = declarations(alloc, tokens, next)?;
+    let (first, next) = stage(alloc, tokens, next)?;
+    let (blocks, next) = stages(alloc, tokens, first, next)?;
+    let (image, next) = image_section(alloc, tokens, next)?;
+    let (stalls, next) = stall_section(alloc, tokens, next)?;
+    let (_end, next) = tokens.keyword(Keyword::End, next)?;
+    tokens.nothing_follows(next)?;
+    Ok(Job {
+        name,
+        stages: count,
+        decls: List::new(decls),
+        blocks: List::new(blocks),
+        image,
+        stalls,
+    })
+}
+
+/// The tree of a job, from the tokens that `lex` gives for the text.
+///
+/// Refuses E4 at the token behind the longest prefix with which some job begins, or at the end of the text, and E27 at
+/// the first token that passes the nesting count of 64, whichever comes first.
+pub fn parse(alloc: Global, lexed: &Lexed, text: &[u8]) -> Result<Parsed, Refused>
+    requires lexed { HasOutcome text.now (Ok lexed.now) }
+    requires fits { length text.now ≤ 2 ^ 32 - 2 }
+    // The tree of the sentence, or the first broken rule.
+    ensures answer { AnswersTree text.now lexed.now.tokens lexed.now.rest result }
+
+    // Each job whose tokens these are is the one that is given, unless memory runs out.
+    ensures only { (j : JobTree) → IsTree text.now lexed.now.tokens j → MatchResult result (λ p. p.job ≡ j) (λ e. e ≡ refused.NoMemory) }
+{
+    let all = lexed.tokens.as_slice();
+    match job(alloc, &Tokens::new(text, all)) {
+        Ok(job) => Ok(Parsed {
+            job,
+            rest: lexed.rest,
+        }),
+        Err(Fault::NoMemory) => Err(Refused::NoMemory),
+        Err(Fault::Wrong(at)) => Err(Refused::Rule(Refusal::e(4, place(text, all, at)))),
+        Err(Fault::TooDeep(at)) => Err(Refused::Rule(Refusal::e(27, place(text, all, at)))),
+    }
+}
+
+// The place of a token, or of the end of the text.
+fn place(text: &[u8], tokens: &[Token], at: usize) -> Place
+    requires { length text.now ≤ 2 ^ 32 - 2 }
+    ensures { result ≡ place_from text.now (drop at tokens.now) }
+{
+    match tokens.get(at) {
+        Some(token) => token.place,
+        None => place_of(text, text.len() as u32),
+    }
+}

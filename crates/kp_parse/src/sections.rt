@@ -1,0 +1,156 @@
+// The sections behind the stages.
+ghost use Rattle.std.specs.Prelude.{◌≡◌, ◌==◌, [], ◌∷◌, MatchResult, option_map, true, false};
+ghost use Rattle.kp_grammar.specs.Grammar.{Nonterminal};
+ghost use Rattle.kp_parse.specs.Language.{perhaps_images, images as images_value, image as image_value, perhaps_stalls, stalls as stalls_value, stall as stall_value, perhaps_number, literals as literals_value, IMAGE, WORDS, WORD, NUMBERED, LITS, STALLS, SPANS, SPAN, STEP};
+ghost use Rattle.kp_parse.specs.Reading.{class_at, Turns, Ends};
+
+use crate::fault::Fault;
+use crate::tokens::Tokens;
+use kp_ast::{Image, Lit, Num, Stalls};
+use kp_base::List;
+use kp_lex::{Keyword, Mark};
+use std::alloc::Global;
+
+/// The image section, if it stands here, and the number of the next token.
+pub(crate) fn image_section(
+    alloc: Global,
+    tokens: &Tokens<'_>,
+    at: usize,
+) -> Result<(Option<List<Image>>, usize), Fault>
+    ensures { MatchResult result (λ x. Turns tokens.now (Nonterminal IMAGE) [] (perhaps_images x.0 ∷ []) at x.1 0) (Ends tokens.now (Nonterminal IMAGE) [] at) }
+{
+    if !tokens.is_keyword(Keyword::Image, at) {
+        return Ok((None, at));
+    }
+    let (_image, next) = tokens.keyword(Keyword::Image, at)?;
+    let (_open, next) = tokens.mark(Mark::OpenBrace, next)?;
+    let (all, next) = images(alloc, tokens, next)?;
+    let (_close, next) = tokens.mark(Mark::CloseBrace, next)?;
+    Ok((Some(List::new(all)), next))
+}
+
+fn images(alloc: Global, tokens: &Tokens<'_>, at: usize) -> Result<(Vec<Image>, usize), Fault>
+    ensures { MatchResult result (λ x. Turns tokens.now (Nonterminal WORDS) (images_value [] ∷ []) (images_value x.0.items ∷ []) at x.1 0) (Ends tokens.now (Nonterminal WORDS) (images_value [] ∷ []) at) }
+{
+    let mut all = Vec::new(alloc);
+    let mut here = at;
+    'all: while tokens.is_name(here) {
+        let (one, next) = image(alloc, tokens, here)?;
+        all.push(one)?;
+        here = next;
+    }
+    Ok((all, here))
+}
+
+// `name[address] = value, value;`
+fn image(alloc: Global, tokens: &Tokens<'_>, at: usize) -> Result<(Image, usize), Fault>
+    ensures { MatchResult result (λ x. Turns tokens.now (Nonterminal WORD) [] (image_value x.0 ∷ []) at x.1 1) (Ends tokens.now (Nonterminal WORD) [] at) }
+{
+    let (name, next) = tokens.name(alloc, at)?;
+    let (address, next) = numbered(tokens, next)?;
+    let (_equals, next) = tokens.mark(Mark::Equals, next)?;
+    let (first, next) = tokens.literal(next)?;
+    let (all, next) = literals(alloc, tokens, first, next)?;
+    let (_end, next) = tokens.mark(Mark::Semicolon, next)?;
+    let image = Image {
+        name,
+        address,
+        values: List::new(all),
+    };
+    Ok((image, next))
+}
+
+fn numbered(tokens: &Tokens<'_>, at: usize) -> Result<(Option<Num>, usize), Fault>
+    ensures { MatchResult result (λ x. Turns tokens.now (Nonterminal NUMBERED) [] (perhaps_number x.0 ∷ []) at x.1 0) (Ends tokens.now (Nonterminal NUMBERED) [] at) }
+{
+    if !tokens.is_mark(Mark::OpenBracket, at) {
+        return Ok((None, at));
+    }
+    let (_open, next) = tokens.mark(Mark::OpenBracket, at)?;
+    let (number, next) = tokens.number(next)?;
+    let (_close, next) = tokens.mark(Mark::CloseBracket, next)?;
+    Ok((Some(number), next))
+}
+
+// The literals of which this is the first.
+fn literals(
+    alloc: Global,
+    tokens: &Tokens<'_>,
+    first: Lit,
+    at: usize,
+) -> Result<(Vec<Lit>, usize), Fault>
+    ensures { MatchResult result (λ x. Turns tokens.now (Nonterminal LITS) (literals_value (first ∷ []) ∷ []) (literals_value x.0.items ∷ []) at x.1 0) (Ends tokens.now (Nonterminal LITS) (literals_value (first ∷ []) ∷ []) at) }
+{
+    let mut all = Vec::new(alloc);
+    all.push(first)?;
+    let mut here = at;
+    'all: while tokens.is_mark(Mark::Comma, here) {
+        let (_comma, next) = tokens.mark(Mark::Comma, here)?;
+        let (one, next) = tokens.literal(next)?;
+        all.push(one)?;
+        here = next;
+    }
+    Ok((all, here))
+}
+
+/// The stalls section, if it stands here, and the number of the next token.
+pub(crate) fn stall_section(
+    alloc: Global,
+    tokens: &Tokens<'_>,
+    at: usize,
+) -> Result<(Option<List<Stalls>>, usize), Fault>
+    ensures { MatchResult result (λ x. Turns tokens.now (Nonterminal STALLS) [] (perhaps_stalls x.0 ∷ []) at x.1 0) (Ends tokens.now (Nonterminal STALLS) [] at) }
+{
+    if !tokens.is_keyword(Keyword::Stalls, at) {
+        return Ok((None, at));
+    }
+    let (_stalls, next) = tokens.keyword(Keyword::Stalls, at)?;
+    let (_open, next) = tokens.mark(Mark::OpenBrace, next)?;
+    let (all, next) = spans(alloc, tokens, next)?;
+    let (_close, next) = tokens.mark(Mark::CloseBrace, next)?;
+    Ok((Some(List::new(all)), next))
+}
+
+fn spans(alloc: Global, tokens: &Tokens<'_>, at: usize) -> Result<(Vec<Stalls>, usize), Fault>
+    ensures { MatchResult result (λ x. Turns tokens.now (Nonterminal SPANS) (stalls_value [] ∷ []) (stalls_value x.0.items ∷ []) at x.1 0) (Ends tokens.now (Nonterminal SPANS) (stalls_value [] ∷ []) at) }
+{
+    let mut all = Vec::new(alloc);
+    let mut here = at;
+    'all: while tokens.is_number(here) {
+        let (one, next) = span(tokens, here)?;
+        all.push(one)?;
+        here = next;
+    }
+    Ok((all, here))
+}
+
+// `stage from a to b step p;`
+fn span(tokens: &Tokens<'_>, at: usize) -> Result<(Stalls, usize), Fault>
+    ensures { MatchResult result (λ x. Turns tokens.now (Nonterminal SPAN) [] (stall_value x.0 ∷ []) at x.1 1) (Ends tokens.now (Nonterminal SPAN) [] at) }
+{
+    let (stage, next) = tokens.number(at)?;
+    let (_from, next) = tokens.keyword(Keyword::From, next)?;
+    let (from, next) = tokens.number(next)?;
+    let (_to, next) = tokens.keyword(Keyword::To, next)?;
+    let (to, next) = tokens.number(next)?;
+    let (step, next) = step(tokens, next)?;
+    let (_end, next) = tokens.mark(Mark::Semicolon, next)?;
+    let span = Stalls {
+        stage,
+        from,
+        to,
+        step,
+    };
+    Ok((span, next))
+}
+
+fn step(tokens: &Tokens<'_>, at: usize) -> Result<(Option<Num>, usize), Fault>
+    ensures { MatchResult result (λ x. Turns tokens.now (Nonterminal STEP) [] (perhaps_number x.0 ∷ []) at x.1 0) (Ends tokens.now (Nonterminal STEP) [] at) }
+{
+    if !tokens.is_keyword(Keyword::Step, at) {
+        return Ok((None, at));
+    }
+    let (_step, next) = tokens.keyword(Keyword::Step, at)?;
+    let (number, next) = tokens.number(next)?;
+    Ok((Some(number), next))
+}

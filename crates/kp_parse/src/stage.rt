@@ -1,0 +1,242 @@
+// Stages and their statements.
+ghost use Rattle.std.specs.Prelude.{◌≡◌, ◌==◌, [], ◌∷◌, MatchResult, true, false};
+ghost use Rattle.kp_grammar.specs.Grammar.{Nonterminal};
+ghost use Rattle.kp_grammar.specs.Tables.{among};
+ghost use Rattle.kp_lex.specs.declared.token.Keyword.TheVariants as keywords;
+ghost use Rattle.kp_parse.specs.Tokens.{keyword_class};
+ghost use Rattle.kp_parse.specs.Follow.{stmt_words};
+ghost use Rattle.kp_parse.specs.Language.{blocks, block as block_value, stmts, stmt as stmt_value, named as named_value, expr as expr_value, perhaps_expr, STAGE, STAGES, STMTS, STMT, BINDING, ADDRESS, HEDGE, WHEN};
+ghost use Rattle.kp_parse.specs.Reading.{class_at, Turns, Ends};
+
+use crate::expression::whole_expression;
+use crate::fault::Fault;
+use crate::tokens::Tokens;
+use kp_ast::{Block, Expr, Named, ReadStmt, Stmt, StmtKind};
+use kp_base::List;
+use kp_lex::{Keyword, Mark};
+use std::alloc::Global;
+
+/// The stages of which this is the first, and the number of the next token.
+pub(crate) fn stages(
+    alloc: Global,
+    tokens: &Tokens<'_>,
+    first: Block,
+    at: usize,
+) -> Result<(Vec<Block>, usize), Fault>
+    ensures { MatchResult result (λ x. Turns tokens.now (Nonterminal STAGES) (blocks (first ∷ []) ∷ []) (blocks x.0.items ∷ []) at x.1 0) (Ends tokens.now (Nonterminal STAGES) (blocks (first ∷ []) ∷ []) at) }
+{
+    let mut all = Vec::new(alloc);
+    all.push(first)?;
+    let mut here = at;
+    'all: while tokens.is_keyword(Keyword::Stage, here) {
+        let (one, next) = stage(alloc, tokens, here)?;
+        all.push(one)?;
+        here = next;
+    }
+    Ok((all, here))
+}
+
+/// `stage number { .. }`, and the number of the next token.
+pub(crate) fn stage(alloc: Global, tokens: &Tokens<'_>, at: usize) -> Result<(Block, usize), Fault>
+    ensures { MatchResult result (λ x. Turns tokens.now (Nonterminal STAGE) [] (block_value x.0 ∷ []) at x.1 1) (Ends tokens.now (Nonterminal STAGE) [] at) }
+{
+    let (_stage, next) = tokens.keyword(Keyword::Stage, at)?;
+    let (number, next) = tokens.number(next)?;
+    let (_open, next) = tokens.mark(Mark::OpenBrace, next)?;
+    let (all, next) = statements(alloc, tokens, next)?;
+    let (_close, next) = tokens.mark(Mark::CloseBrace, next)?;
+    let stmts = List::new(all);
+    Ok((Block { number, stmts }, next))
+}
+
+fn statements(alloc: Global, tokens: &Tokens<'_>, at: usize) -> Result<(Vec<Stmt>, usize), Fault>
+    ensures { MatchResult result (λ x. Turns tokens.now (Nonterminal STMTS) (stmts [] ∷ []) (stmts x.0.items ∷ []) at x.1 0) (Ends tokens.now (Nonterminal STMTS) (stmts [] ∷ []) at) }
+{
+    let mut all = Vec::new(alloc);
+    let mut here = at;
+    'all: while begins_statement(tokens, here) {
+        let (one, next) = statement(alloc, tokens, here)?;
+        all.push(one)?;
+        here = next;
+    }
+    Ok((all, here))
+}
+
+fn begins_statement(tokens: &Tokens<'_>, at: usize) -> bool
+    ensures { result ≡ among (class_at tokens.now at) stmt_words }
+{
+    tokens.is_keyword(Keyword::Read, at)
+        || tokens.is_keyword(Keyword::Let, at)
+        || tokens.is_keyword(Keyword::Put, at)
+        || tokens.is_keyword(Keyword::Set, at)
+        || tokens.is_keyword(Keyword::Aim, at)
+}
+
+fn statement(alloc: Global, tokens: &Tokens<'_>, at: usize) -> Result<(Stmt, usize), Fault>
+    ensures { MatchResult result (λ x. Turns tokens.now (Nonterminal STMT) [] (stmt_value x.0 ∷ []) at x.1 1) (Ends tokens.now (Nonterminal STMT) [] at) }
+{
+    if tokens.is_keyword(Keyword::Read, at) {
+        return read(alloc, tokens, at);
+    }
+    if tokens.is_keyword(Keyword::Let, at) {
+        return local(alloc, tokens, at);
+    }
+    if tokens.is_keyword(Keyword::Put, at) {
+        return put(alloc, tokens, at);
+    }
+    if tokens.is_keyword(Keyword::Set, at) {
+        return set(alloc, tokens, at);
+    }
+    aim(alloc, tokens, at)
+}
+
+// `read name = target[address] when condition;` or `.. guess guess;`
+fn read(alloc: Global, tokens: &Tokens<'_>, at: usize) -> Result<(Stmt, usize), Fault>
+    requires { true ≡ (class_at tokens.now at == keyword_class keywords.Read) }
+    ensures { MatchResult result (λ x. Turns tokens.now (Nonterminal STMT) [] (stmt_value x.0 ∷ []) at x.1 1) (Ends tokens.now (Nonterminal STMT) [] at) }
+{
+    let (place, next) = tokens.keyword(Keyword::Read, at)?;
+    let (name, next) = tokens.name(alloc, next)?;
+    let (_equals, next) = tokens.mark(Mark::Equals, next)?;
+    let (target, next) = tokens.name(alloc, next)?;
+    let (address, next) = address(alloc, tokens, next)?;
+    let (when, guess, next) = hedge(alloc, tokens, next)?;
+    let (_end, next) = tokens.mark(Mark::Semicolon, next)?;
+    let read = ReadStmt {
+        name,
+        target,
+        address,
+        when,
+        guess,
+    };
+    let kind = StmtKind::Read(read);
+    Ok((Stmt { at: place, kind }, next))
+}
+
+fn address(alloc: Global, tokens: &Tokens<'_>, at: usize) -> Result<(Option<Expr>, usize), Fault>
+    ensures { MatchResult result (λ x. Turns tokens.now (Nonterminal ADDRESS) [] (perhaps_expr x.0 ∷ []) at x.1 0) (Ends tokens.now (Nonterminal ADDRESS) [] at) }
+{
+    if !tokens.is_mark(Mark::OpenBracket, at) {
+        return Ok((None, at));
+    }
+    let (_open, next) = tokens.mark(Mark::OpenBracket, at)?;
+    let (inner, next) = whole_expression(alloc, tokens, next)?;
+    let (_close, next) = tokens.mark(Mark::CloseBracket, next)?;
+    Ok((Some(inner), next))
+}
+
+// The condition or the guess of a read, in this order.
+fn hedge(
+    alloc: Global,
+    tokens: &Tokens<'_>,
+    at: usize,
+) -> Result<(Option<Expr>, Option<Expr>, usize), Fault>
+    ensures { MatchResult result (λ x. Turns tokens.now (Nonterminal HEDGE) [] (perhaps_expr x.1 ∷ perhaps_expr x.0 ∷ []) at x.2 0) (Ends tokens.now (Nonterminal HEDGE) [] at) }
+{
+    if tokens.is_keyword(Keyword::When, at) {
+        return condition(alloc, tokens, at);
+    }
+    guess(alloc, tokens, at)
+}
+
+fn condition(
+    alloc: Global,
+    tokens: &Tokens<'_>,
+    at: usize,
+) -> Result<(Option<Expr>, Option<Expr>, usize), Fault>
+    requires { true ≡ (class_at tokens.now at == keyword_class keywords.When) }
+    ensures { MatchResult result (λ x. Turns tokens.now (Nonterminal HEDGE) [] (perhaps_expr x.1 ∷ perhaps_expr x.0 ∷ []) at x.2 0) (Ends tokens.now (Nonterminal HEDGE) [] at) }
+{
+    let (_when, next) = tokens.keyword(Keyword::When, at)?;
+    let (condition, next) = whole_expression(alloc, tokens, next)?;
+    Ok((Some(condition), None, next))
+}
+
+fn guess(
+    alloc: Global,
+    tokens: &Tokens<'_>,
+    at: usize,
+) -> Result<(Option<Expr>, Option<Expr>, usize), Fault>
+    requires { false ≡ (class_at tokens.now at == keyword_class keywords.When) }
+    ensures { MatchResult result (λ x. Turns tokens.now (Nonterminal HEDGE) [] (perhaps_expr x.1 ∷ perhaps_expr x.0 ∷ []) at x.2 0) (Ends tokens.now (Nonterminal HEDGE) [] at) }
+{
+    if !tokens.is_keyword(Keyword::Guess, at) {
+        return Ok((None, None, at));
+    }
+    let (_guess, next) = tokens.keyword(Keyword::Guess, at)?;
+    let (guess, next) = whole_expression(alloc, tokens, next)?;
+    Ok((None, Some(guess), next))
+}
+
+fn when(alloc: Global, tokens: &Tokens<'_>, at: usize) -> Result<(Option<Expr>, usize), Fault>
+    ensures { MatchResult result (λ x. Turns tokens.now (Nonterminal WHEN) [] (perhaps_expr x.0 ∷ []) at x.1 0) (Ends tokens.now (Nonterminal WHEN) [] at) }
+{
+    if !tokens.is_keyword(Keyword::When, at) {
+        return Ok((None, at));
+    }
+    let (_when, next) = tokens.keyword(Keyword::When, at)?;
+    let (condition, next) = whole_expression(alloc, tokens, next)?;
+    Ok((Some(condition), next))
+}
+
+// `name = value`
+fn binding(alloc: Global, tokens: &Tokens<'_>, at: usize) -> Result<(Named, Expr, usize), Fault>
+    ensures { MatchResult result (λ x. Turns tokens.now (Nonterminal BINDING) [] (expr_value x.1 ∷ named_value x.0 ∷ []) at x.2 1) (Ends tokens.now (Nonterminal BINDING) [] at) }
+{
+    let (name, next) = tokens.name(alloc, at)?;
+    let (_equals, next) = tokens.mark(Mark::Equals, next)?;
+    let (value, next) = whole_expression(alloc, tokens, next)?;
+    Ok((name, value, next))
+}
+
+// `let name = value;`
+fn local(alloc: Global, tokens: &Tokens<'_>, at: usize) -> Result<(Stmt, usize), Fault>
+    requires { true ≡ (class_at tokens.now at == keyword_class keywords.Let) }
+    ensures { MatchResult result (λ x. Turns tokens.now (Nonterminal STMT) [] (stmt_value x.0 ∷ []) at x.1 1) (Ends tokens.now (Nonterminal STMT) [] at) }
+{
+    let (place, next) = tokens.keyword(Keyword::Let, at)?;
+    let (name, value, next) = binding(alloc, tokens, next)?;
+    let (_end, next) = tokens.mark(Mark::Semicolon, next)?;
+    let kind = StmtKind::Let(name, value);
+    Ok((Stmt { at: place, kind }, next))
+}
+
+// `put pipe = value;`
+fn put(alloc: Global, tokens: &Tokens<'_>, at: usize) -> Result<(Stmt, usize), Fault>
+    requires { true ≡ (class_at tokens.now at == keyword_class keywords.Put) }
+    ensures { MatchResult result (λ x. Turns tokens.now (Nonterminal STMT) [] (stmt_value x.0 ∷ []) at x.1 1) (Ends tokens.now (Nonterminal STMT) [] at) }
+{
+    let (place, next) = tokens.keyword(Keyword::Put, at)?;
+    let (name, value, next) = binding(alloc, tokens, next)?;
+    let (_end, next) = tokens.mark(Mark::Semicolon, next)?;
+    let kind = StmtKind::Put(name, value);
+    Ok((Stmt { at: place, kind }, next))
+}
+
+// `set result = value when condition;`
+fn set(alloc: Global, tokens: &Tokens<'_>, at: usize) -> Result<(Stmt, usize), Fault>
+    requires { true ≡ (class_at tokens.now at == keyword_class keywords.Set) }
+    ensures { MatchResult result (λ x. Turns tokens.now (Nonterminal STMT) [] (stmt_value x.0 ∷ []) at x.1 1) (Ends tokens.now (Nonterminal STMT) [] at) }
+{
+    let (place, next) = tokens.keyword(Keyword::Set, at)?;
+    let (name, value, next) = binding(alloc, tokens, next)?;
+    let (condition, next) = when(alloc, tokens, next)?;
+    let (_end, next) = tokens.mark(Mark::Semicolon, next)?;
+    let kind = StmtKind::Set(name, value, condition);
+    Ok((Stmt { at: place, kind }, next))
+}
+
+// `aim hint = value;`
+fn aim(alloc: Global, tokens: &Tokens<'_>, at: usize) -> Result<(Stmt, usize), Fault>
+    requires no_read { false ≡ (class_at tokens.now at == keyword_class keywords.Read) }
+    requires no_let { false ≡ (class_at tokens.now at == keyword_class keywords.Let) }
+    requires no_put { false ≡ (class_at tokens.now at == keyword_class keywords.Put) }
+    requires no_set { false ≡ (class_at tokens.now at == keyword_class keywords.Set) }
+    ensures { MatchResult result (λ x. Turns tokens.now (Nonterminal STMT) [] (stmt_value x.0 ∷ []) at x.1 1) (Ends tokens.now (Nonterminal STMT) [] at) }
+{
+    let (place, next) = tokens.keyword(Keyword::Aim, at)?;
+    let (name, value, next) = binding(alloc, tokens, next)?;
+    let (_end, next) = tokens.mark(Mark::Semicolon, next)?;
+    let kind = StmtKind::Aim(name, value);
+    Ok((Stmt { at: place, kind }, next))
+}
