@@ -3,3 +3,4 @@ pub mod Along
 pub mod Outcome
 pub mod Stands
 pub mod Names
+pub mod Counted

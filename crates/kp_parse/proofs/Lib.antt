@@ -4,3 +4,4 @@ pub mod Picks
 pub mod Steps
 pub mod Operators
 pub mod Text
+pub mod Unique

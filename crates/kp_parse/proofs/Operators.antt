@@ -1,24 +1,20 @@
 -- Operators of a level.
-use Rattle.std.proofs.Common.{ℕ, suc, ◌≡◌, ◌==◌, ◌<◌, ◌≤◌, ◌+◌, nat_lt, List, [], ◌∷◌, ◌++◌, length, drop, Bool, true, false, ◌||◌, cond, Option, Some, None, refl, sym, ap, ◌∙◌, subst, arith}
-use Rattle.std.proofs.lemmas.Bool.{le-ltb, eqb-true}
-use Rattle.std.specs.Prelude.{find}
+use Rattle.std.proofs.Common.{ℕ, ◌≡◌, ◌==◌, ◌<◌, ◌+◌, List, [], ◌∷◌, ◌++◌, drop, Bool, true, false, ◌||◌, cond, Option, Some, None, refl, sym, ap, subst, arith}
 use Rattle.kp_base.specs.declared.place.Place.{Place}
 use Rattle.kp_ast.specs.declared.tree.BinOp.{BinOp}
-use Rattle.kp_grammar.specs.Grammar.{Symbol, Terminal, Nonterminal, Action}
+use Rattle.kp_grammar.specs.Grammar.{Nonterminal, Action}
 use Rattle.kp_grammar.specs.Tables.{pick}
-use Rattle.kp_grammar.specs.Machine.{Outcome, Stops, Exceeds, look, goes, make}
-use Rattle.kp_grammar.proofs.Ways.{took, exceeded}
+use Rattle.kp_grammar.specs.Machine.{Outcome, goes, make}
 use Rattle.kp_lex.specs.declared.token.Mark.{Mark}
 use Rattle.kp_parse.specs.declared.level.Level.{Level}
 use Rattle.kp_parse.specs.declared.level.Level.TheVariants as levels
 use Rattle.kp_parse.specs.declared.fault.Fault.{Fault}
-use Rattle.kp_parse.specs.declared.fault.Fault.TheVariants as faults
-use Rattle.kp_parse.specs.Tokens.{Lexeme, kind_class, mark_class}
+use Rattle.kp_parse.specs.Tokens.{Lexeme, mark_class}
 use Rattle.kp_parse.specs.Operators.{operators_of, operator_at}
-use Rattle.kp_parse.specs.Language.{Sym, State, Value, Way, place, dropped, as_place, counts_one, opens, opens_at, closes, separates, language, rules, counted, make_binary, CHAIN, OPERAND, MORE, EXPRS, JOB}
+use Rattle.kp_parse.specs.Language.{Sym, State, Value, rules, counted, make_binary, CHAIN, OPERAND, MORE}
 use Rattle.kp_parse.specs.Follow.{tables}
 use Rattle.kp_parse.proofs.Steps.{fail_fail}
-use Rattle.kp_parse.specs.Reading.{Goes, at, class_at, is_over, Finds, FaultIs, Misses, Turns, Ends, Reads, Fails, Lists, FailsList}
+use Rattle.kp_parse.specs.Reading.{Goes, at, class_at, Finds, Reads, Fails}
 use Rattle.std.proofs.Common.{Result, Ok, Err, MatchResult}
 use Rattle.kp_ast.specs.declared.tree.Expr.{Expr}
 use Rattle.kp_ast.specs.declared.tree.ExprKind.TheViews as expressions

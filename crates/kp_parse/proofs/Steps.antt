@@ -1,23 +1,16 @@
 -- Steps of the machine, in the form in which the readers take them.
-use Rattle.std.proofs.Common.{ℕ, suc, ◌≡◌, ◌==◌, ◌<◌, ◌≤◌, ◌+◌, nat_lt, List, [], ◌∷◌, ◌++◌, length, drop, Bool, true, false, ◌||◌, cond, Option, Some, None, refl, sym, ap, ◌∙◌, subst, arith}
-use Rattle.std.proofs.lemmas.Bool.{le-ltb, eqb-true}
-use Rattle.std.specs.Prelude.{find}
+use Rattle.std.proofs.Common.{ℕ, suc, ◌≡◌, ◌<◌, ◌≤◌, ◌+◌, nat_lt, List, [], ◌∷◌, ◌++◌, length, drop, Bool, false, refl, sym, ap, ◌∙◌, subst, arith}
+use Rattle.std.proofs.lemmas.Bool.{le-ltb}
 use Rattle.kp_base.specs.declared.place.Place.{Place}
-use Rattle.kp_ast.specs.declared.tree.BinOp.{BinOp}
-use Rattle.kp_grammar.specs.Grammar.{Symbol, Terminal, Nonterminal, Action}
-use Rattle.kp_grammar.specs.Tables.{pick}
-use Rattle.kp_grammar.specs.Machine.{Outcome, Accepts, Stops, Exceeds, look, goes, make, accept, more}
+use Rattle.kp_grammar.specs.Grammar.{Terminal, Nonterminal}
+use Rattle.kp_grammar.specs.Machine.{Outcome, Accepts, Stops, Exceeds, accept, more}
 use Rattle.kp_grammar.proofs.Ways.{took, exceeded}
-use Rattle.kp_lex.specs.declared.token.Mark.{Mark}
-use Rattle.kp_parse.specs.declared.level.Level.{Level}
-use Rattle.kp_parse.specs.declared.level.Level.TheVariants as levels
 use Rattle.kp_parse.specs.declared.fault.Fault.{Fault}
 use Rattle.kp_parse.specs.declared.fault.Fault.TheVariants as faults
-use Rattle.kp_parse.specs.Tokens.{Lexeme, kind_class, mark_class}
-use Rattle.kp_parse.specs.Operators.{operators_of, operator_at}
-use Rattle.kp_parse.specs.Language.{Sym, State, Value, Way, place, dropped, as_place, counts_one, opens, opens_at, closes, separates, language, rules, counted, make_binary, CHAIN, OPERAND, MORE, EXPRS, JOB}
+use Rattle.kp_parse.specs.Tokens.{Lexeme}
+use Rattle.kp_parse.specs.Language.{Sym, State, Value, Way, place, dropped, as_place, counts_one, opens, opens_at, closes, separates, language, EXPRS}
 use Rattle.kp_parse.specs.Follow.{tables}
-use Rattle.kp_parse.specs.Reading.{Goes, at, class_at, is_over, Finds, FaultIs, Misses, Turns, Ends, Reads, Fails, Lists, FailsList, Follows, JobGoes}
+use Rattle.kp_parse.specs.Reading.{Goes, at, is_over, Finds, FaultIs, Misses, Ends, Fails, FailsList, Follows, JobGoes}
 
 fits : (c : ℕ) → c < 64 → nat_lt 64 (c + 1) ≡ false
 fits c h = le-ltb 64 (c + 1) (omega arith)

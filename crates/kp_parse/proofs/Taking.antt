@@ -1,11 +1,10 @@
 -- What stands at a place among the tokens.
-use Rattle.std.proofs.Common.{ℕ, suc, ◌≡◌, ◌==◌, ◌<◌, ◌≤◌, ◌+◌, ◌-◌, List, [], ◌∷◌, length, drop, take, map, Bool, true, false, refl, sym, ap, ◌∙◌, subst, arith}
+use Rattle.std.proofs.Common.{ℕ, suc, ◌≡◌, ◌==◌, ◌<◌, ◌≤◌, ◌+◌, ◌-◌, List, [], ◌∷◌, length, drop, take, map, true, false, refl, sym, ap, ◌∙◌, arith}
 use Rattle.std.proofs.lemmas.Bool.{eqb-true}
 use Rattle.std.proofs.lemmas.List.{drop_more, drop-map}
 use Rattle.std.specs.Prelude.{slice_index_or}
-use Rattle.kp_base.specs.declared.place.Place.{Place}
 use Rattle.kp_grammar.specs.Grammar.{Terminal}
-use Rattle.kp_grammar.specs.Machine.{Outcome, Stops, look, wrong}
+use Rattle.kp_grammar.specs.Machine.{Stops, look, wrong}
 use Rattle.kp_lex.specs.declared.token.Token.{Token}
 use Rattle.kp_lex.specs.declared.token.Keyword.{Keyword}
 use Rattle.kp_lex.specs.declared.token.Keyword.TheVariants as keywords
@@ -14,13 +13,11 @@ use Rattle.kp_lex.specs.declared.token.Mark.TheVariants as marks
 use Rattle.kp_lex.specs.declared.token.TokenKind.{TokenKind}
 use Rattle.kp_lex.specs.declared.token.TokenKind.TheVariants as kinds
 use Rattle.kp_bits.specs.declared.literal.Literal.{Literal}
-use Rattle.kp_ast.specs.declared.tree.Num.{Num}
-use Rattle.kp_ast.specs.declared.tree.Lit.{Lit}
 use Rattle.kp_grammar.proofs.Ways.{took}
-use Rattle.kp_parse.specs.Tokens.{Lexeme, lexeme_of, lexemes, kind_class, keyword_class, mark_class, IDENTIFIER, named_of, number_in, number_of, literal_in, literal_of}
+use Rattle.kp_parse.specs.Tokens.{Lexeme, lexeme_of, lexemes, kind_class, keyword_class, mark_class, IDENTIFIER, named_of}
 use Rattle.kp_parse.specs.Follow.{tables}
-use Rattle.kp_parse.specs.Language.{Sym, State, Way, Value, NAME, NUM, LIT, as_name, as_number, as_literal, named, number, literal, language}
-use Rattle.kp_parse.specs.Reading.{Goes, class_at, is_over, Turns, Ends, Misses}
+use Rattle.kp_parse.specs.Language.{Sym, State, Way, NAME, NUM, LIT, named, number, literal, language}
+use Rattle.kp_parse.specs.Reading.{Goes, class_at, is_over, Turns}
 
 -- the bytes of a token from its start to its end
 same_span : (a b : ℕ) → (a + b) - a ≡ b

@@ -1,33 +1,31 @@
 -- What the outcome of the machine says of a text.
-use Rattle.std.proofs.Common.{ℕ, ◌≡◌, List, [], ◌∷◌, length, drop, map, take, Bool, true, false, Result, Ok, Err, All, MatchResult, IsTrue, ◌||◌, ◌&&◌, ◌==◌, nat_le, refl, sym, ap, ◌∙◌, subst, arith}
+use Rattle.std.proofs.Common.{ℕ, ◌≡◌, List, [], ◌∷◌, length, drop, Bool, true, false, Ok, All, IsTrue, ◌||◌, ◌&&◌, ◌==◌, nat_le, refl, ap}
 use Rattle.std.proofs.lemmas.List.Elements.{All-weaker}
 use Rattle.kp_base.specs.declared.place.Place.{Place}
 use Rattle.kp_ast.specs.Name.{IsName, is_name_byte}
 use Rattle.kp_ast.specs.declared.tree.Job.{Job}
-use Rattle.kp_grammar.specs.Grammar.{IsSentence, IsWrongAt, IsWithin, IsOverAt, IsLimit}
-use Rattle.kp_grammar.specs.Machine.{Outcome, Accepts, Stops, Exceeds}
+use Rattle.kp_grammar.specs.Grammar.{IsLimit}
+use Rattle.kp_grammar.specs.Machine.{Accepts, Stops, Exceeds}
 use Rattle.kp_grammar.proofs.Laws.{sentence, one_state, wrong_at, within_stop, over_at, over_ends}
 use Rattle.kp_lex.specs.declared.token.Token.{Token}
 use Rattle.kp_lex.specs.declared.token.Lexed.{Lexed}
-use Rattle.kp_lex.specs.Text.{HasOutcome, StandsIn, IsIdentifier, is_word, is_letter, is_digit}
+use Rattle.kp_lex.specs.Text.{HasOutcome, StandsIn, IsIdentifier, is_word}
 use Rattle.kp_lex.proofs.Stands.{tokens_stand}
 use Rattle.kp_lex.proofs.Names.{name_is_identifier}
-use Rattle.kp_parse.specs.declared.fault.Fault.{Fault}
-use Rattle.kp_parse.specs.declared.fault.Fault.TheVariants as faults
 use Rattle.kp_parse.specs.Tokens.{Lexeme, IsSpelled, lexemes}
-use Rattle.kp_parse.specs.Language.{State, Step, Way, JOB, job, language}
+use Rattle.kp_parse.specs.Language.{State, Way, JOB, job, language}
 use Rattle.kp_parse.specs.Follow.{tables}
-use Rattle.kp_parse.specs.Reading.{at, is_over, FaultIs, JobGoes}
+use Rattle.kp_parse.specs.Reading.{at, is_over, JobGoes}
 use Rattle.kp_parse.specs.Sentence.{IsTree, IsWrong, IsTooDeep, place_from}
 use Rattle.kp_parse.proofs.Predictive.{is_predictive}
 
 stays : (way : Way) (t : Lexeme) (v : State) → is_over v ≡ true → is_over (language.reads way t v) ≡ true
 stays way t v h = rw h refl
 
-limit : IsLimit language is_over
+pub limit : IsLimit language is_over
 limit = record { keeps = λ a v. refl; stays = stays }
 
-same_job : (i j : Job) → at [] (job i ∷ []) ≡ at [] (job j ∷ []) → i ≡ j
+pub same_job : (i j : Job) → at [] (job i ∷ []) ≡ at [] (job j ∷ []) → i ≡ j
 same_job i j h = cc (ap (λ (v : State). v.values) h)
 
 module _ (text : List ℕ) (tokens : List Token) where

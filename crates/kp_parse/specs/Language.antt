@@ -1,5 +1,5 @@
 -- The grammar of machine descriptions, with what it builds.
-use Rattle.std.specs.Prelude.{ℕ, ◌+◌, ◌||◌, nat_lt, List, [], ◌∷◌, ◌++◌, Bool, true, false, Option, Some, None}
+use Rattle.std.specs.Prelude.{ℕ, ◌+◌, ◌||◌, nat_lt, List, [], ◌∷◌, ◌++◌, Bool, false, Option, Some, None}
 use Rattle.kp_base.specs.declared.place.Place.{Place}
 use Rattle.kp_grammar.specs.Grammar.{Symbol, Terminal, Nonterminal, Action, Rules, Grammar}
 use Rattle.kp_ast.specs.declared.tree.BinOp.{BinOp}
@@ -10,7 +10,6 @@ use Rattle.kp_ast.specs.declared.tree.Lit.{Lit}
 use Rattle.kp_ast.specs.declared.tree.Expr.{Expr}
 use Rattle.kp_ast.specs.declared.tree.ExprKind.TheVariants as leaves
 use Rattle.kp_ast.specs.declared.tree.ExprKind.TheViews as expressions
-use Rattle.kp_ast.specs.declared.tree.ReadStmt.{ReadStmt}
 use Rattle.kp_ast.specs.declared.tree.Stmt.{Stmt}
 use Rattle.kp_ast.specs.declared.tree.StmtKind.TheVariants as statements
 use Rattle.kp_ast.specs.declared.tree.Block.{Block}

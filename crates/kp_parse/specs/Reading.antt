@@ -50,10 +50,10 @@ pub record Turns (ts : List Lexeme) (x : Sym) (before after : List Value) (i j l
   pub leads : (s : List Sym) (cs : List ℕ) (vs : List Value) (o : Outcome State) → Goes s (at cs (after ++ vs)) (drop j ts) o → Goes (x ∷ s) (at cs (before ++ vs)) (drop i ts) o
   pub shrinks : length (drop j ts) + least ≤ length (drop i ts)
 
--- It has come so far, and the symbol is still to be read.
-pub record TurnsYet (ts : List Lexeme) (x : Sym) (before after : List Value) (i j : ℕ) : Type 0 where
+-- It has come so far, and the symbol is still to be read; it has read at least so many tokens.
+pub record TurnsYet (ts : List Lexeme) (x : Sym) (before after : List Value) (i j least : ℕ) : Type 0 where
   pub leads : (s : List Sym) (cs : List ℕ) (vs : List Value) (o : Outcome State) → Goes (x ∷ s) (at cs (after ++ vs)) (drop j ts) o → Goes (x ∷ s) (at cs (before ++ vs)) (drop i ts) o
-  pub shrinks : length (drop j ts) ≤ length (drop i ts)
+  pub shrinks : length (drop j ts) + least ≤ length (drop i ts)
 
 -- Reading the symbol from token i on ends so.
 pub record Ends (ts : List Lexeme) (x : Sym) (before : List Value) (i : ℕ) (e : Fault) : Type 0 where

@@ -1,5 +1,5 @@
 // Declarations.
-ghost use Rattle.std.specs.Prelude.{◌≡◌, ◌==◌, [], ◌∷◌, MatchResult, true, false};
+ghost use Rattle.std.specs.Prelude.{◌≡◌, ◌==◌, [], ◌∷◌, length, MatchResult, true, false};
 ghost use Rattle.kp_grammar.specs.Grammar.{Nonterminal};
 ghost use Rattle.kp_grammar.specs.Tables.{among};
 ghost use Rattle.kp_lex.specs.declared.token.Keyword.TheVariants as keywords;
@@ -16,13 +16,13 @@ use kp_base::List;
 use kp_lex::{Keyword, Mark};
 use std::alloc::Global;
 
-/// All declarations that stand here, and the number of the next token.
+/// All declarations that stand here, and the number of the next token. Each takes a token at least.
 pub(crate) fn declarations(
     alloc: Global,
     tokens: &Tokens<'_>,
     at: usize,
 ) -> Result<(Vec<Decl>, usize), Fault>
-    ensures { MatchResult result (λ x. Turns tokens.now (Nonterminal DECLS) (decls [] ∷ []) (decls x.0.items ∷ []) at x.1 0) (Ends tokens.now (Nonterminal DECLS) (decls [] ∷ []) at) }
+    ensures { MatchResult result (λ x. Turns tokens.now (Nonterminal DECLS) (decls [] ∷ []) (decls x.0.items ∷ []) at x.1 (length x.0.items)) (Ends tokens.now (Nonterminal DECLS) (decls [] ∷ []) at) }
 {
     let mut all = Vec::new(alloc);
     let mut here = at;

@@ -26,7 +26,8 @@ pub struct Parsed {
 }
 
 fn job(alloc: Global, tokens: &Tokens<'_>) -> Result<Job, Fault>
-    ensures { MatchResult result (λ j. JobGoes tokens.now (Accepts (state_at [] (job_value j ∷ [])))) (FaultIs tokens.now (JobGoes tokens.now)) }
+    ensures goes { MatchResult result (λ j. JobGoes tokens.now (Accepts (state_at [] (job_value j ∷ [])))) (FaultIs tokens.now (JobGoes tokens.now)) }
+    ensures few { IfOk result (λ j. (length j.decls ≤ length tokens.now) × (length j.blocks ≤ length tokens.now)) }
 {
     let (_machine, next) = tokens.keyword(Keyword::Machine, 0)?;
     let (name, next) = tokens.name(alloc, next)?;
@@ -63,6 +64,9 @@ pub fn parse(alloc: Global, lexed: &Lexed, text: &[u8]) -> Result<Parsed, Refuse
 
     // Each job whose tokens these are is the one that is given, unless memory runs out.
     ensures only { (j : JobTree) → IsTree text.now lexed.now.tokens j → MatchResult result (λ p. p.job ≡ j) (λ e. e ≡ refused.NoMemory) }
+
+    // A declaration and a stage take a byte of the text at least.
+    ensures few { IfOk result (λ p. (length p.job.decls ≤ length text.now) × (length p.job.blocks ≤ length text.now)) }
 {
     let all = lexed.tokens.as_slice();
     match job(alloc, &Tokens::new(text, all)) {

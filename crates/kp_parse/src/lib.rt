@@ -5,9 +5,13 @@ mod declaration;
 mod expression;
 mod fault;
 mod job;
+pub mod laws;
 mod level;
 mod sections;
 mod stage;
 mod tokens;
 
 pub use job::{Parsed, parse};
+
+#[cfg(test)]
+mod tests;

@@ -1,5 +1,5 @@
 // Stages and their statements.
-ghost use Rattle.std.specs.Prelude.{◌≡◌, ◌==◌, [], ◌∷◌, MatchResult, true, false};
+ghost use Rattle.std.specs.Prelude.{◌≡◌, ◌==◌, [], ◌∷◌, MatchResult, true, false, ◌-◌, length};
 ghost use Rattle.kp_grammar.specs.Grammar.{Nonterminal};
 ghost use Rattle.kp_grammar.specs.Tables.{among};
 ghost use Rattle.kp_lex.specs.declared.token.Keyword.TheVariants as keywords;
@@ -16,14 +16,14 @@ use kp_base::List;
 use kp_lex::{Keyword, Mark};
 use std::alloc::Global;
 
-/// The stages of which this is the first, and the number of the next token.
+/// The stages of which this is the first, and the number of the next token. Each but the first takes a token at least.
 pub(crate) fn stages(
     alloc: Global,
     tokens: &Tokens<'_>,
     first: Block,
     at: usize,
 ) -> Result<(Vec<Block>, usize), Fault>
-    ensures { MatchResult result (λ x. Turns tokens.now (Nonterminal STAGES) (blocks (first ∷ []) ∷ []) (blocks x.0.items ∷ []) at x.1 0) (Ends tokens.now (Nonterminal STAGES) (blocks (first ∷ []) ∷ []) at) }
+    ensures { MatchResult result (λ x. Turns tokens.now (Nonterminal STAGES) (blocks (first ∷ []) ∷ []) (blocks x.0.items ∷ []) at x.1 (length x.0.items - 1)) (Ends tokens.now (Nonterminal STAGES) (blocks (first ∷ []) ∷ []) at) }
 {
     let mut all = Vec::new(alloc);
     all.push(first)?;

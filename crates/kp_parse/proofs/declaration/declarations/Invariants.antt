@@ -5,7 +5,7 @@ use Rattle.kp_parse.specs.Reading.{TurnsYet}
 use Rattle.kp_parse.proofs.declaration.declarations.Given as goal
 
 abbrev pub invariant-all : goal.invariant-all
-invariant-all l = TurnsYet l.tokens (Nonterminal DECLS) (decls [] ∷ []) (decls l.all.items ∷ []) l.at l.here
+invariant-all l = TurnsYet l.tokens (Nonterminal DECLS) (decls [] ∷ []) (decls l.all.items ∷ []) l.at l.here (length l.all.items)
 
 abbrev pub decreases-all : goal.decreases-all
 decreases-all l = length (drop l.here l.tokens)

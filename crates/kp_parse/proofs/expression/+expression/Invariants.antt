@@ -1,4 +1,4 @@
-use Rattle.std.proofs.Common.{ℕ, ◌-◌, ◌*◌, ◌+◌, [], ◌∷◌, length, drop}
+use Rattle.std.proofs.Common.{◌-◌, ◌*◌, ◌+◌, [], ◌∷◌, length, drop}
 use Rattle.kp_parse.specs.Rank.{rank}
 use Rattle.kp_parse.specs.Language.{expr, POST, SLICES, CHAIN, MORE}
 use Rattle.kp_parse.specs.Reading.{ReadsYet, ListsYet}

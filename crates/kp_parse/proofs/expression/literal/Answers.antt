@@ -1,9 +1,7 @@
-use Rattle.std.proofs.Common.{◌≡◌, ℕ, ◌+◌, ◌≤◌, ◌<◌, List, [], ◌∷◌, ◌++◌, refl, arith, ap, sym, length, drop, true, false}
+use Rattle.std.proofs.Common.{arith}
 use Rattle.std.proofs.lemmas.Result.{err_from_is_err_and}
-use Rattle.kp_grammar.specs.Grammar.{Nonterminal, Action}
 use Rattle.kp_grammar.specs.Machine.{make}
-use Rattle.kp_parse.specs.Language.{closes, separates, as_number}
-use Rattle.kp_parse.proofs.Steps.{by_dropped, by_placed, by_closed, by_separated, by_counted, by_opened, by_opened_at, over_counted, over_opened, over_opened_at, one, miss_end, end_end, fail_end, miss_fail, end_fail, fail_fail, list_fail, deep_fail, fail_list, miss_list}
+use Rattle.kp_parse.proofs.Steps.{end_fail}
 use Rattle.kp_parse.proofs.Picks.{prim_1}
 use Rattle.kp_parse.proofs.expression.literal.Goals as goal
 

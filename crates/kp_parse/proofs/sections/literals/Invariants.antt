@@ -5,7 +5,7 @@ use Rattle.kp_parse.specs.Reading.{TurnsYet}
 use Rattle.kp_parse.proofs.sections.literals.Given as goal
 
 abbrev pub invariant-all : goal.invariant-all
-invariant-all l = TurnsYet l.tokens (Nonterminal LITS) (literals (l.fn.first ∷ []) ∷ []) (literals l.all.items ∷ []) l.at l.here
+invariant-all l = TurnsYet l.tokens (Nonterminal LITS) (literals (l.fn.first ∷ []) ∷ []) (literals l.all.items ∷ []) l.at l.here 0
 
 abbrev pub decreases-all : goal.decreases-all
 decreases-all l = length (drop l.here l.tokens)

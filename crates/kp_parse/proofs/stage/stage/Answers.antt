@@ -1,7 +1,7 @@
-use Rattle.std.proofs.Common.{◌≡◌, ℕ, ◌+◌, ◌≤◌, ◌<◌, List, [], ◌∷◌, ◌++◌, refl, arith, ap, sym, length, drop, true, false}
+use Rattle.std.proofs.Common.{arith}
 use Rattle.std.proofs.lemmas.Result.{err_from_is_err_and}
 use Rattle.kp_grammar.specs.Machine.{make}
-use Rattle.kp_parse.proofs.Steps.{by_dropped, by_placed, one, miss_end, end_end, fail_end}
+use Rattle.kp_parse.proofs.Steps.{by_dropped, one, miss_end, end_end}
 use Rattle.kp_parse.proofs.Picks.{stage_all}
 use Rattle.kp_parse.proofs.stage.stage.Goals as goal
 

@@ -1,7 +1,9 @@
 use Rattle.std.proofs.Common.{◌≡◌, ℕ, ◌+◌, ◌≤◌, ◌<◌, List, [], ◌∷◌, ◌++◌, refl, arith, ap, sym, length, drop, true, false}
+use Rattle.std.proofs.lemmas.List.{length_push}
 use Rattle.std.proofs.lemmas.Result.{err_from_is_err_and}
+use Rattle.kp_ast.specs.declared.tree.Block.{Block}
 use Rattle.kp_grammar.specs.Machine.{make}
-use Rattle.kp_parse.proofs.Steps.{by_dropped, by_placed, one, miss_end, end_end, fail_end}
+use Rattle.kp_parse.proofs.Steps.{end_end}
 use Rattle.kp_parse.proofs.Picks.{stages_1, stages_else}
 use Rattle.kp_parse.proofs.stage.stages.Goals as goal
 
@@ -19,7 +21,7 @@ returns-in_err-one c =
 pub all-preserved : goal.all-preserved
 all-preserved c = rw c.in_ok-push-2.ensures.items (record {
   leads = λ s cs vs o h. c.all.invariant.leads _ _ _ _ (stages_1 (cc c.is_keyword.ensures) (c.in_ok-one.ensures.leads _ _ _ _ (make (h))));
-  shrinks = omega (arith, c.all.invariant.shrinks, c.in_ok-one.ensures.shrinks);
+  shrinks = omega (arith, c.all.invariant.shrinks, c.in_ok-one.ensures.shrinks, length_push {X = Block});
 })
 
 pub returns : goal.returns
