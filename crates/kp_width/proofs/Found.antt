@@ -1,0 +1,272 @@
+-- An expression that breaks no rule has a value that a plain program finds: each operation in it has operands that it takes. A
+-- name may be asked about too: where no name in the expression is answered, only such names need to be known.
+use Rattle.std.proofs.Common.{◌≡◌, ◌≤◌, ◌<◌, ◌+◌, ℕ, List, [], ◌∷◌, map, min, fold, Option, Some, None, Ok, Err, Bool, true, false, cond, ◌==◌, ◌&&◌, ◌||◌, refl, ap, sym, subst, ◌∙◌, arith}
+use Rattle.std.specs.Option.{option_map, option_and_then}
+use Rattle.std.specs.Result.{result_ok}
+use Rattle.std.proofs.lemmas.Bool.{cond_both, eq-eqb, le-leb, lt-ltb}
+use Rattle.std.proofs.lemmas.List.{length-map}
+use Rattle.kp_base.specs.First.{first}
+use Rattle.kp_base.specs.Check.{Check, Answer}
+use Rattle.kp_base.specs.declared.place.Place.{Place}
+use Rattle.kp_bits.specs.Word.{Word, IsWord, not_of, concat_of}
+use Rattle.kp_bits.specs.declared.literal.LiteralFault.TheVariants.{TooBig, BadWidth}
+use Rattle.kp_bits.proofs.Words.{not_word, concat_word, slice_word, zext_word, sext_word}
+use Rattle.kp_ast.specs.declared.tree.Decl.{Decl}
+use Rattle.kp_ast.specs.declared.tree.Expr.{Expr}
+use Rattle.kp_ast.specs.declared.tree.ExprKind.TheOpen.{ExprKind-F, Expr-F}
+use Rattle.kp_ast.specs.declared.tree.ExprKind.TheOpen as level
+use Rattle.kp_ast.specs.declared.tree.ExprKind.TheFolds.{fold-Expr}
+use Rattle.kp_ast.specs.Expressions.{Env, eval}
+use Rattle.kp_ast.specs.Expressions as values
+use Rattle.kp_ast.specs.Checked.{Known, checked, checked_kind, checked_level, where_so, checked_join, checked_joined, checked_binary, checked_mux, checked_slice, checked_zext, checked_sext, all_there}
+use Rattle.kp_ast.proofs.Levels.{fold-Lit, fold-Name, fold-Not, fold-Binary, fold-Mux, fold-Concat, fold-Slice, fold-Zext, fold-Sext, fold-Call}
+use Rattle.kp_ast.proofs.Induction.{Every, induction}
+use Rattle.kp_width.specs.Names.{Sense, is_value_in, is_callee, Scoped, find}
+use Rattle.kp_width.specs.Expressions.{Part, is_test, params_of, part_of, width_of, sum_of, arguments_of}
+use Rattle.kp_ast.specs.declared.tree.Param.{Param}
+use Rattle.kp_width.proofs.Unbroken.{Unbroken, width-Lit, width-Not}
+use Rattle.kp_width.proofs.Parts.{lit_parts, name_parts, not_parts, binary_parts, mux_parts, concat_parts, sum_parts, sum_grows, slice_parts, zext_parts, sext_parts, argument_parts, call_parts}
+use Rattle.kp_width.proofs.Sound.{HasWidth, FitFrom, AreArguments, is_shift-same, binary_width}
+
+-- the first answer to a question that is put to each name which stands for a value, from left to right
+abbrev pub name_kind : (List ℕ → Place → Answer) → ExprKind-F (Place → Answer) Answer → Place → Answer
+name_kind ask (level.Lit l) at = None
+name_kind ask (level.Name name) at = ask name at
+name_kind ask (level.Not a) at = a
+name_kind ask (level.Binary op a b) at = first (a ∷ b ∷ [])
+name_kind ask (level.Mux test a b) at = first (test ∷ a ∷ b ∷ [])
+name_kind ask (level.Concat parts) at = first parts
+name_kind ask (level.Slice a hi lo) at = a
+name_kind ask (level.Zext a width) at = a
+name_kind ask (level.Sext a width) at = a
+name_kind ask (level.Call name args) at = first args
+
+abbrev pub name_level : Expr-F (Place → Answer) Answer → Answer
+name_level e = e.kind e.place
+
+abbrev pub first_name : (List ℕ → Place → Answer) → Expr → Answer
+first_name ask = fold-Expr (Place → Answer) Answer (name_kind ask) name_level
+
+-- a value that is found, and its width
+pub record Found (w : ℕ) (o : Option Word) (v : Word) : Type 0 where
+  pub there : o ≡ Some v
+  pub has : HasWidth w v
+
+-- what is known has the values of the environment, for the names that are not answered and for all calls
+pub record Meets (ds : List Decl) (s : Scoped) (known : Known) (env : Env) (ask : List ℕ → Place → Answer) : Type 0 where
+  pub names : (q : List ℕ) (m : Sense) (at : Place) → find s q ≡ Some m → is_value_in s.here m.kind ≡ true → ask q at ≡ None → Found m.width (known.names q) (env.names q)
+  pub calls : (q : List ℕ) (m : Sense) → find s q ≡ Some m → is_callee m.kind ≡ true → (vs : List Word) → AreArguments (params_of ds m.from) vs → Found m.width (known.calls q vs) (env.calls q vs)
+
+by_all : (u v : ℕ) (o p : Option Word) (x y : Word) → u ≡ v → o ≡ p → x ≡ y → Found v p y → Found u o x
+by_all u v o p x y e f g h = record { there = f ∙ h.there ∙ ap Some (sym g); has = record { word = rw g h.has.word; width = rw (g, e) h.has.width } }
+
+pub none_of_two : (a b : Answer) → first (a ∷ b ∷ []) ≡ None → (a ≡ None) × (b ≡ None)
+none_of_two None None e = (refl, refl)
+none_of_two None (Some r) e = cc
+none_of_two (Some r) b e = cc
+
+none_of_three : (a b c : Answer) → first (a ∷ b ∷ c ∷ []) ≡ None → (a ≡ None) × (b ≡ None) × (c ≡ None)
+none_of_three None b c e = let h = none_of_two b c e in (refl, h.0, h.1)
+none_of_three (Some r) b c e = cc
+
+none_of_more : (a : Answer) (more : List Answer) → first (a ∷ more) ≡ None → (a ≡ None) × (first more ≡ None)
+none_of_more None more e = (refl, e)
+none_of_more (Some r) more e = cc
+
+so_there : (test : Bool) (w : Word) → test ≡ true → where_so test w ≡ Some w
+so_there true w e = refl
+so_there false w e = cc
+
+fits_there : (a b : Bool) (w : Word) → a ≡ true → b ≡ true → result_ok (cond a (cond b (Ok w) (Err TooBig)) (Err BadWidth)) ≡ Some w
+fits_there true true w e f = refl
+fits_there true false w e f = cc
+fits_there false b w e f = cc
+
+both_pass : (a b : Bool) → a ≡ true → b ≡ true → (a && b) ≡ true
+both_pass true b e f = f
+both_pass false b e f = cc
+
+one_passes : (a b : Bool) → (a ≡ false → b ≡ true) → (a || b) ≡ true
+one_passes true b h = refl
+one_passes false b h = h refl
+
+join_on : (acc b : Word) (rest : List Word) → acc.width + b.width ≤ 64 → checked_join acc (b ∷ rest) ≡ checked_join (concat_of acc b) rest
+join_on acc b rest l = ap (λ t. cond t (checked_join (concat_of acc b) rest) None) (le-leb _ _ l)
+
+two : (f : Word → Word → Option Word) (o p : Option Word) (x y : Word) → o ≡ Some x → p ≡ Some y → option_and_then (λ v. option_and_then (f v) p) o ≡ f x y
+two f o p x y e g = ap (λ a. option_and_then (λ v. option_and_then (f v) p) a) e ∙ ap (option_and_then (f x)) g
+
+cons_there : (o : Option Word) (v : Word) (os : List (Option Word)) (vs : List Word) → o ≡ Some v → all_there os ≡ Some vs → all_there (o ∷ os) ≡ Some (v ∷ vs)
+cons_there o v os vs e f = ap (λ x. all_there (x ∷ os)) e ∙ ap (option_map (λ xs. v ∷ xs)) f
+
+-- a question to names that has no answer
+pub no_answer : (e : Expr) → first_name (λ q at. None) e ≡ None
+no_answer = induction (λ e. first_name (λ q at. None) e ≡ None) (record {
+  literal = λ p l. fold-Lit _ _ _ _ p l;
+  name = λ p q. fold-Name _ _ _ _ p q;
+  not_ = λ p a h. fold-Not _ _ _ _ p a ∙ h;
+  binary = λ p op a b h k. fold-Binary _ _ _ _ p op a b ∙ ap (λ x. first (x ∷ first_name (λ q at. None) b ∷ [])) h ∙ ap (λ x. first (x ∷ [])) k;
+  mux = λ p t a b g h k. fold-Mux _ _ _ _ p t a b ∙ ap (λ x. first (x ∷ first_name (λ q at. None) a ∷ first_name (λ q at. None) b ∷ [])) g ∙ ap (λ x. first (x ∷ first_name (λ q at. None) b ∷ [])) h ∙ ap (λ x. first (x ∷ [])) k;
+  concat = λ p es hs. fold-Concat _ _ _ _ p es ∙ none_each es hs;
+  slice = λ p a hi lo h. fold-Slice _ _ _ _ p a hi lo ∙ h;
+  zext = λ p a n h. fold-Zext _ _ _ _ p a n ∙ h;
+  sext = λ p a n h. fold-Sext _ _ _ _ p a n ∙ h;
+  call = λ p q es hs. fold-Call _ _ _ _ p q es ∙ none_each es hs;
+})
+  where
+    none_each : (es : List Expr) → Every (λ e. first_name (λ q at. None) e ≡ None) es → first (map (first_name (λ q at. None)) es) ≡ None
+    none_each [] hs = refl
+    none_each (e ∷ es) hs = ap (λ x. first (x ∷ map (first_name (λ q at. None)) es)) hs.0 ∙ none_each es hs.1
+
+module _ (ds : List Decl) (done : ℕ) (s : Scoped) (known : Known) (env : Env) (ask : List ℕ → Place → Answer) (meets : Meets ds s known env ask) where
+  abbrev width : Expr → Check ℕ
+  width = width_of ds done s
+
+  abbrev value : Expr → Word
+  value = eval env
+
+  abbrev there : Expr → Option Word
+  there = checked known
+
+  abbrev asked : Expr → Answer
+  asked = first_name ask
+
+  abbrev part : Expr → Part
+  part = part_of ds done s
+
+  abbrev Holds : Expr → Type 0
+  Holds e = asked e ≡ None → Unbroken (width e) → Found (width e).value (there e) (value e)
+
+  -- the parts of a concatenation, after bits that there are already
+  joined : (acc : Word) (es : List Expr) → IsWord acc → Every Holds es → first (map asked es) ≡ None → Unbroken (sum_of acc.width (map part es)) → (sum_of acc.width (map part es)).value ≤ 64
+      → Found (sum_of acc.width (map part es)).value (checked_join acc (map value es)) (fold concat_of acc (map value es))
+  joined acc [] h hs a u l = record { there = refl; has = record { word = h; width = refl } }
+  joined acc (e ∷ es) h hs a u l =
+      let n = none_of_more (asked e) (map asked es) a in
+      let p = sum_parts ds done s acc.width e es u in
+      let v = (hs.0 n.0 p.head).has in
+      let vw : (value e).width ≡ (width e).value = v.width in
+      let g = sum_grows ds done s (min (acc.width + (width e).value) 65) es (omega arith) in
+      let same : min (acc.width + (width e).value) 65 ≡ acc.width + (value e).width = omega arith in
+      let fits : acc.width + (value e).width ≤ 64 = omega arith in
+      let c = concat_word acc (value e) h v.word fits in
+      let more = joined (concat_of acc (value e)) es c hs.1 n.1 (subst (λ n. Unbroken (sum_of n (map part es))) same p.rest) (subst (λ n. (sum_of n (map part es)).value ≤ 64) same l) in
+      record {
+        there = join_on acc (value e) (map value es) fits ∙ more.there;
+        has = subst (λ n. HasWidth (sum_of n (map part es)).value (fold concat_of (concat_of acc (value e)) (map value es))) (sym same) more.has;
+      }
+
+  concat_found : (es : List Expr) → Every Holds es → first (map asked es) ≡ None → Unbroken (sum_of 0 (map part es)) → 1 ≤ (sum_of 0 (map part es)).value → (sum_of 0 (map part es)).value ≤ 64
+      → Found (sum_of 0 (map part es)).value (checked_joined (map value es)) (values.joined_of (map value es))
+  concat_found [] hs a u l k = absurd (omega arith)
+  concat_found (e ∷ es) hs a u l k =
+      let n = none_of_more (asked e) (map asked es) a in
+      let p = sum_parts ds done s 0 e es u in
+      let v = (hs.0 n.0 p.head).has in
+      let vw : (value e).width ≡ (width e).value = v.width in
+      let b : (value e).width ≤ 64 = v.word.at_most in
+      let same : min (0 + (width e).value) 65 ≡ (value e).width = omega arith in
+      let more = joined (value e) es v.word hs.1 n.1 (subst (λ n. Unbroken (sum_of n (map part es))) same p.rest) (subst (λ n. (sum_of n (map part es)).value ≤ 64) same k) in
+      record { there = more.there; has = subst (λ n. HasWidth (sum_of n (map part es)).value (fold concat_of (value e) (map value es))) (sym same) more.has }
+
+  -- each part of a concatenation is found
+  all_found : (n : ℕ) (es : List Expr) → Every Holds es → first (map asked es) ≡ None → Unbroken (sum_of n (map part es)) → all_there (map there es) ≡ Some (map value es)
+  all_found n [] hs a u = refl
+  all_found n (e ∷ es) hs a u =
+      let b = none_of_more (asked e) (map asked es) a in
+      let p = sum_parts ds done s n e es u in
+      cons_there (there e) (value e) (map there es) (map value es) (hs.0 b.0 p.head).there (all_found (min (n + (width e).value) 65) es hs.1 b.1 p.rest)
+
+  -- and each argument of a call, which fits its parameter
+  arguments_found : (ps : List Param) (i : ℕ) (es : List Expr) → Every Holds es → first (map asked es) ≡ None → Unbroken (arguments_of ps i (map part es))
+      → FitFrom ps i (map value es) × (all_there (map there es) ≡ Some (map value es))
+  arguments_found ps i [] hs a u = (tt, refl)
+  arguments_found ps i (e ∷ es) hs a u =
+      let b = none_of_more (asked e) (map asked es) a in
+      let p = argument_parts ds done s ps i e es u in
+      let f = hs.0 b.0 p.head in
+      let more = arguments_found ps (i + 1) es hs.1 b.1 p.rest in
+      ((subst (λ w. HasWidth w (value e)) p.same f.has, more.0), cons_there (there e) (value e) (map there es) (map value es) f.there more.1)
+
+  pub found : (e : Expr) → Holds e
+  found = induction Holds (record {
+    literal = λ p l a u. let b = lit_parts ds done s p l u in
+        by_all _ _ _ _ _ _ (ap (λ c. c.value) (width-Lit ds done s p l)) (fold-Lit _ _ (checked_kind known) checked_level p l) (fold-Lit _ _ _ _ p l)
+        (record {
+          there = fits_there _ _ _ (both_pass _ _ (le-leb _ _ b.positive) (le-leb _ _ b.at_most)) (lt-ltb _ _ b.fits);
+          has = record { word = record { positive = b.positive; at_most = b.at_most; fits = b.fits }; width = refl };
+        });
+    name = λ p q a u. let b = name_parts ds done s p q u in
+        by_all _ _ _ _ _ _ b.value (fold-Name _ _ (checked_kind known) checked_level p q) (fold-Name _ _ _ _ p q)
+        (meets.names q b.sense p b.found b.kind_fits (sym (fold-Name _ _ (name_kind ask) name_level p q) ∙ a));
+    not_ = λ p x h a u.
+        let f = h (sym (fold-Not _ _ (name_kind ask) name_level p x) ∙ a) (not_parts ds done s p x u) in
+        by_all _ _ _ _ _ _ (ap (λ c. c.value) (width-Not ds done s p x)) (fold-Not _ _ (checked_kind known) checked_level p x) (fold-Not _ _ _ _ p x)
+        (record { there = ap (option_map not_of) f.there; has = record { word = not_word (value x) f.has.word; width = f.has.width } });
+    binary = λ p op x y h k a u.
+        let c = binary_parts ds done s p op x y u in
+        let b = none_of_two (asked x) (asked y) (sym (fold-Binary _ _ (name_kind ask) name_level p op x y) ∙ a) in
+        let f = h b.0 c.left in
+        let g = k b.1 c.right in
+        let same : values.is_shift op ≡ false → (value x).width ≡ (value y).width = λ e. f.has.width ∙ c.same (sym (is_shift-same op) ∙ e) ∙ sym g.has.width in
+        by_all _ _ _ _ _ _ (c.value ∙ ap (λ w. cond (is_test op) 1 w) (sym f.has.width)) (fold-Binary _ _ (checked_kind known) checked_level p op x y) (fold-Binary _ _ _ _ p op x y)
+        (record {
+          there = two (checked_binary op) (there x) (there y) (value x) (value y) f.there g.there
+              ∙ so_there _ _ (one_passes (values.is_shift op) ((value x).width == (value y).width) (λ e. eq-eqb _ _ (same e)));
+          has = binary_width op (value x) (value y) f.has.word g.has.word same;
+        });
+    mux = λ p t x y g h k a u.
+        let c = mux_parts ds done s p t x y u in
+        let b = none_of_three (asked t) (asked x) (asked y) (sym (fold-Mux _ _ (name_kind ask) name_level p t x y) ∙ a) in
+        let ft = g b.0 c.chooses in
+        let fx = h b.1 c.left in
+        let fy = k b.2 c.right in
+        by_all _ _ _ _ _ _ c.value (fold-Mux _ _ (checked_kind known) checked_level p t x y) (fold-Mux _ _ _ _ p t x y)
+        (record {
+          there = ap (λ o. option_and_then (λ v. option_and_then (λ w. option_and_then (checked_mux v w) (there y)) (there x)) o) ft.there
+              ∙ two (checked_mux (value t)) (there x) (there y) (value x) (value y) fx.there fy.there
+              ∙ so_there _ _ (both_pass _ _ (eq-eqb _ _ (ft.has.width ∙ c.one_bit)) (eq-eqb _ _ (fx.has.width ∙ c.same ∙ sym fy.has.width)));
+          has = cond_both ((value t).value == 1) (value x) (value y) (HasWidth (width x).value) (λ _. fx.has) (λ _. subst (λ w. HasWidth w (value y)) (sym c.same) fy.has);
+        });
+    concat = λ p es hs a u.
+        let c = concat_parts ds done s p es u in
+        let b : first (map asked es) ≡ None = sym (fold-Concat _ _ (name_kind ask) name_level p es) ∙ a in
+        let f = concat_found es hs b c.parts c.positive c.at_most in
+        by_all _ _ _ _ _ _ c.value (fold-Concat _ _ (checked_kind known) checked_level p es) (fold-Concat _ _ _ _ p es)
+        (record { there = ap (option_and_then checked_joined) (all_found 0 es hs b c.parts) ∙ f.there; has = f.has });
+    slice = λ p x hi lo h a u.
+        let c = slice_parts ds done s p x hi lo u in
+        let f = h (sym (fold-Slice _ _ (name_kind ask) name_level p x hi lo) ∙ a) c.part in
+        let o = c.ordered in
+        let i : hi < (value x).width = rw f.has.width c.inside in
+        by_all _ _ _ _ _ _ c.value (fold-Slice _ _ (checked_kind known) checked_level p x hi lo) (fold-Slice _ _ _ _ p x hi lo)
+        (record {
+          there = ap (option_and_then (checked_slice hi lo)) f.there ∙ so_there _ _ (both_pass _ _ (le-leb _ _ o) (lt-ltb _ _ i));
+          has = record { word = slice_word (value x) hi lo f.has.word o i; width = omega arith };
+        });
+    zext = λ p x n h a u.
+        let c = zext_parts ds done s p x n u in
+        let f = h (sym (fold-Zext _ _ (name_kind ask) name_level p x n) ∙ a) c.part in
+        let w : (value x).width ≤ n.value = rw f.has.width c.wider in
+        by_all _ _ _ _ _ _ c.value (fold-Zext _ _ (checked_kind known) checked_level p x n) (fold-Zext _ _ _ _ p x n)
+        (record {
+          there = ap (option_and_then (checked_zext n.value)) f.there ∙ so_there _ _ (both_pass _ _ (le-leb _ _ w) (le-leb _ _ c.at_most));
+          has = record { word = zext_word (value x) n.value f.has.word w c.at_most; width = refl };
+        });
+    sext = λ p x n h a u.
+        let c = sext_parts ds done s p x n u in
+        let f = h (sym (fold-Sext _ _ (name_kind ask) name_level p x n) ∙ a) c.part in
+        let w : (value x).width ≤ n.value = rw f.has.width c.wider in
+        by_all _ _ _ _ _ _ c.value (fold-Sext _ _ (checked_kind known) checked_level p x n) (fold-Sext _ _ _ _ p x n)
+        (record {
+          there = ap (option_and_then (checked_sext n.value)) f.there ∙ so_there _ _ (both_pass _ _ (le-leb _ _ w) (le-leb _ _ c.at_most));
+          has = record { word = sext_word (value x) n.value f.has.word w c.at_most; width = refl };
+        });
+    call = λ p q es hs a u.
+        let c = call_parts ds done s p q es u in
+        let b : first (map asked es) ≡ None = sym (fold-Call _ _ (name_kind ask) name_level p q es) ∙ a in
+        let args = arguments_found (params_of ds c.sense.from) 0 es hs b c.arguments in
+        let f = meets.calls q c.sense c.found c.kind_fits (map value es) (record { count = length-map es value ∙ c.count; fit = args.0 }) in
+        by_all _ _ _ _ _ _ c.value (fold-Call _ _ (checked_kind known) checked_level p q es) (fold-Call _ _ _ _ p q es)
+        (record { there = ap (option_and_then (known.calls q)) args.1 ∙ f.there; has = f.has });
+  })
