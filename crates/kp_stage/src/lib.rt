@@ -6,8 +6,10 @@ mod design;
 mod facts;
 mod rules;
 mod sizes;
+mod start;
 #[cfg(test)]
 mod tests;
 
 pub use counts::Summary;
 pub use design::Design;
+pub use start::Start;

@@ -2,6 +2,9 @@
 //
 // An expression is in postfix form and ends with `.`, and is left out where nothing stands before the `.`. A name that is left
 // out is `-`. A declaration or statement has its parts in the order of the tree; `fn` has one parameter, and `end` ends a block.
+ghost use Rattle.std.specs.Prelude.{IsTrue};
+ghost use Rattle.kp_ast.specs.Name.{is_name_byte};
+
 use crate::{Design, Summary};
 use kp_ast::{
     BinOp, Block, Boxed, Decl, Expr, ExprKind, FuncDecl, Job, Lit, Name, Named, Num, Param,
@@ -190,11 +193,17 @@ impl<'a> Words<'a> {
 }
 
 fn name(alloc: Global, word: &str) -> Result<Name, Fail> {
-    let byte = *word.as_bytes().first().ok_or("an empty word")?;
-    if !byte.is_ascii_alphabetic() {
-        return Err("no letter")?;
+    let bytes = word.as_bytes();
+    if bytes.is_empty() || bytes.len() > 64 || !bytes.iter().all(is_letter_or_digit) {
+        return Err("no name")?;
     }
-    Ok(Name::new(alloc, &[byte])?)
+    Ok(Name::new(alloc, bytes)?)
+}
+
+fn is_letter_or_digit(byte: &u8) -> bool
+    ensures { IsTrue result → IsTrue (is_name_byte byte.now) }
+{
+    matches!(*byte, b'a'..=b'z' | b'A'..=b'Z' | b'0'..=b'9')
 }
 
 fn operand(alloc: Global, stack: &mut Vec<Expr>) -> Result<Boxed<Expr>, Fail> {
@@ -349,6 +358,102 @@ const CASES: &[(&str, u8, u32)] = &[
         21,
         32,
     ),
+    (
+        "stages 3 reg X 8 8'd0 pipe P 8 result C 8 X - - 2 stage 0 put P 8'd1 . read x X . . P . end stage 1 end stage 2 set C P . . end",
+        17,
+        28,
+    ),
+    (
+        "stages 3 file F 8 2 pipe A 2 result C 8 F A - 1 stage 0 put A 2'd1 . end stage 1 set C 8'd1 . . end stage 2 read x F 2'd1 . . . end",
+        18,
+        36,
+    ),
+    (
+        "stages 3 reg X 8 8'd0 result C 8 X - - 0 stage 0 set C 8'd1 . . end stage 1 read x X . 1'd0 . . end stage 2 end",
+        18,
+        26,
+    ),
+    (
+        "stages 3 file F 8 2 pipe A 2 pipe E 1 result C 8 F A E 1 stage 0 put A 2'd1 . end stage 1 put E 1'd1 . end stage 2 end",
+        19,
+        18,
+    ),
+    (
+        "stages 4 reg X 8 8'd0 result C 8 X - - 1 stage 0 end stage 1 end stage 2 end stage 3 set C 8'd1 . 1'd0 . end",
+        20,
+        26,
+    ),
+    (
+        "stages 3 reg X 8 8'd0 reg Y 8 8'd0 result C 8 X - - 2 result D 8 Y - - 0 stage 0 end stage 1 set C 8'd1 . . set D 8'd1 . . end stage 2 end",
+        20,
+        36,
+    ),
+    (
+        "stages 2 reg X 8 8'd0 result C 8 X - - 1 stage 0 end stage 1 set C 8'd1 . 1'd1 . set C 8'd2 . 1'd0 . end",
+        21,
+        26,
+    ),
+    (
+        "stages 2 file F 8 2 pipe A 2 result C 8 F A - 1 result D 8 F A - 1 stage 0 put A 2'd1 . end stage 1 end",
+        22,
+        20,
+    ),
+    (
+        "stages 2 reg X 8 8'd0 reg Y 8 8'd0 result C 8 X - - 1 result D 8 Y - - 1 result E 8 X - - 1 stage 0 end stage 1 end",
+        22,
+        28,
+    ),
+    (
+        "stages 4 reg X 8 8'd0 file F 8 2 pipe A 2 result C 8 X - - 3 result D 8 F A - 1 stage 0 put A 2'd1 . read x X . . 8'd0 . end stage 1 end stage 2 end stage 3 end",
+        24,
+        27,
+    ),
+    (
+        "stages 5 reg X 8 8'd0 reg Y 8 8'd0 result D 8 Y - - 2 result C 8 X - - 4 stage 0 read y Y . . 8'd0 . read x X . . 8'd0 . end stage 1 end stage 2 end stage 3 end stage 4 end",
+        24,
+        17,
+    ),
+    (
+        "stages 2 reg X 8 8'd0 hint G 1 1'd0 result C 8 X - - 1 stage 0 end stage 1 set C 8'd1 . G . end",
+        25,
+        27,
+    ),
+    ("stages 13 pipe P 8 stage 0 end stage 1 end", 15, 2),
+    (
+        "stages 2 file F 8 2 pipe A 2 result C 8 F A - 1 stage 0 end stage 1 end",
+        16,
+        8,
+    ),
+    (
+        "stages 3 reg X 8 8'd0 pipe P 8 result C 8 X - - 0 stage 0 end stage 1 read x X . . . put P P . end stage 2 end",
+        17,
+        30,
+    ),
+    (
+        "stages 3 reg X 8 8'd0 result C 8 X - - 0 stage 0 end stage 1 set C 8'd1 . . read x X . . . end stage 2 end",
+        18,
+        26,
+    ),
+    (
+        "stages 2 reg X 8 8'd0 pipe E 1 result C 8 X - - 1 result D 8 X - E 1 stage 0 end stage 1 put E 1'd1 . end",
+        19,
+        22,
+    ),
+    (
+        "stages 3 reg X 8 8'd0 result C 8 X - - 2 result D 8 X - - 2 stage 0 end stage 1 read x X . . 8'd0 . end stage 2 end",
+        22,
+        17,
+    ),
+    (
+        "stages 4 reg X 8 8'd0 reg Y 8 8'd0 result C 8 X - - 3 result D 8 Y - - 1 stage 0 read x X . . 8'd0 . end stage 1 end stage 2 read z X . . 8'd0 . end stage 3 end",
+        23,
+        42,
+    ),
+    (
+        "stages 4 reg X 8 8'd0 reg Y 8 8'd0 hint G 8 8'd0 result C 8 X - - 3 result D 8 Y - - 1 stage 0 read x X . . 8'd0 . let a G . end stage 1 end stage 2 end stage 3 end",
+        24,
+        28,
+    ),
 ];
 
 // Functions `a` to `u`, each of which calls the one before twice.
@@ -364,6 +469,17 @@ fn doubled(alloc: Global, called: char) -> Result<String, Fail> {
         " result C 8 X - - 1 stage 0 read x X . . . set C x call {called} . . end stage 1 end"
     )?;
     text.push_str(rest.as_str())?;
+    Ok(text)
+}
+
+// A job of so many registers.
+fn registers(alloc: Global, count: u32) -> Result<String, Fail> {
+    let mut text = format!(in alloc; "stages 2")?;
+    for i in 0..count {
+        let line = format!(in alloc; " reg r{i} 8 8'd0")?;
+        text.push_str(line.as_str())?;
+    }
+    text.push_str(" stage 0 end stage 1 end")?;
     Ok(text)
 }
 
@@ -399,5 +515,10 @@ fn rules(rt: HostRuntime) -> Result<(), Fail> {
     assert_eq!(rt; summary.size, 65533);
     let refused = doubled(alloc, 'u')?;
     assert_eq!(rt; outcome(alloc, refused.as_str())?, Err((28, 291)));
+    let accepted = registers(alloc, 64)?;
+    let summary = outcome(alloc, accepted.as_str())?.ok().ok_or("refused")?;
+    assert_eq!(rt; summary.regs, 64);
+    let refused = registers(alloc, 65)?;
+    assert_eq!(rt; outcome(alloc, refused.as_str())?, Err((29, 260)));
     Ok(())
 }

@@ -1,0 +1,10 @@
+use kp_base::List;
+use kp_bits::Bits;
+
+/// The state in which a machine starts: a value for each register, and for each file its words, in the order of
+/// declaration.
+#[derive(Debug, Drop)]
+pub struct Start {
+    pub regs: List<Bits>,
+    pub files: List<List<u64>>,
+}
