@@ -1,0 +1,10 @@
+pub mod Accepting
+pub mod Declared
+pub mod Fitting
+pub mod Guessless
+pub mod Names
+pub mod Results
+pub mod Rules
+pub mod Sampleless
+pub mod Showing
+pub mod WorkedRuns

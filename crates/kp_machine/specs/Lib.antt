@@ -1,0 +1,4 @@
+pub mod Slots
+pub mod Trees
+pub mod Machine
+pub mod Examples

@@ -1,0 +1,148 @@
+-- THE MACHINE OF A JOB: the abstract machine that its declarations and blocks describe, with its start state and its inputs.
+use Rattle.std.specs.Prelude.{ℕ, zero, suc, ◌-◌, max, List, [], ◌∷◌, length, take, Option, Some, None, Bool, true, is_some, ◌==◌, slice_get, slice_index, if◌then◌else◌}
+use Rattle.std.specs.List.{filter}
+use Rattle.kp_bits.specs.Word.{Word}
+use Rattle.kp_ast.specs.declared.tree.Named.{Named}
+use Rattle.kp_ast.specs.declared.tree.ResultDecl.{ResultDecl}
+use Rattle.kp_ast.specs.declared.tree.Decl.{Decl}
+use Rattle.kp_ast.specs.declared.tree.Decl.TheVariants as decls
+use Rattle.kp_ast.specs.declared.tree.Job.{Job}
+use Rattle.kp_stage.specs.Facts.{At, Facts, facts_of, stmts_in}
+use Rattle.kp_stage.specs.Start.{start_of, is_stalled, stalls_of}
+use Rattle.kp_stage.specs.declared.start.Start.{Start}
+use Rattle.kp_law.specs.Machine.{Machine, Tree}
+use Rattle.kp_law.specs.Pipeline.{Inputs}
+use Rattle.kp_law.specs.Rows.{Trace, pipe}
+use Rattle.kp_law.specs.Sequential.{seq}
+use Rattle.kp_law.specs.Timeline.{no_samples}
+use Rattle.kp_machine.specs.Slots.{Slot, targets_of, pipes_of, hints_of, number_of, is_register, result_to}
+use Rattle.kp_machine.specs.Trees.{entered, tree_of}
+
+-- What stage k does, over the values of the pipes.
+unfoldable pub stage_tree : Job → ℕ → (ℕ → ℕ) → Tree
+stage_tree job k pipes = tree_of job.decls (entered job.decls pipes) (stmts_in (slice_get job.blocks k))
+
+-- The result of a target: the first that names it.
+unfoldable pub result_for : Job → ℕ → Option ResultDecl
+result_for job t = result_to (targets_of job.decls) job.decls t
+
+abbrev pub write_stage_of : Option ResultDecl → ℕ
+write_stage_of None = 0
+write_stage_of (Some r) = r.stage.value
+
+-- The first stage after the put of a pipe, and 0 where there is none.
+abbrev pub after_put : Option At → ℕ
+after_put None = 0
+after_put (Some at) = suc at.stage
+
+abbrev pub known_after : Facts → Option Named → ℕ
+known_after facts None = 0
+known_after facts (Some pipe) = after_put (facts.put pipe.name)
+
+-- The intent of a result is known after the puts of its address and its enable pipe.
+abbrev pub known_from_of : Facts → Option ResultDecl → ℕ
+known_from_of facts None = 0
+known_from_of facts (Some r) = max (known_after facts r.address) (known_after facts r.enable)
+
+-- The value of a pipe among these pipes.
+abbrev pub pipe_value : List Slot → (ℕ → ℕ) → Named → ℕ
+pipe_value pipes values pipe = values (number_of pipes pipe.name)
+
+-- A result is enabled where its enable pipe is 1, and where it has none.
+abbrev pub is_enabled_by : List Slot → (ℕ → ℕ) → Option Named → Bool
+is_enabled_by pipes values None = true
+is_enabled_by pipes values (Some pipe) = pipe_value pipes values pipe == 1
+
+-- It writes at the address in its address pipe. A register is written at address 0.
+abbrev pub address_by : List Slot → (ℕ → ℕ) → Option Named → ℕ
+address_by pipes values None = 0
+address_by pipes values (Some pipe) = pipe_value pipes values pipe
+
+abbrev pub enabled_of : List Slot → (ℕ → ℕ) → Option ResultDecl → Bool
+enabled_of pipes values None = true
+enabled_of pipes values (Some r) = is_enabled_by pipes values r.enable
+
+abbrev pub address_in : List Slot → (ℕ → ℕ) → Option ResultDecl → ℕ
+address_in pipes values None = 0
+address_in pipes values (Some r) = address_by pipes values r.address
+
+-- The stage that aims a hint, and 0 where none does.
+abbrev pub stage_or_zero : Option At → ℕ
+stage_or_zero None = 0
+stage_or_zero (Some at) = at.stage
+
+abbrev pub aim_stage : Facts → Option Slot → ℕ
+aim_stage facts None = 0
+aim_stage facts (Some hint) = stage_or_zero (facts.aim hint.name)
+
+-- The machine of a job. The language has no samples yet: no stage looks at one.
+unfoldable pub machine_of : Job → Machine
+machine_of job = record {
+  stages = job.stages.value;
+  body = λ k samples pipes. stage_tree job k pipes;
+  sample_stage = λ x. job.stages.value;
+  hint_stage = λ h. aim_stage (facts_of job) (slice_get (hints_of job.decls) h);
+  has_result = λ t. is_some (result_for job t);
+  write_stage = λ t. write_stage_of (result_for job t);
+  known_from = λ t. known_from_of (facts_of job) (result_for job t);
+  enabled = λ t pipes. enabled_of (pipes_of job.decls) pipes (result_for job t);
+  address = λ t pipes. address_in (pipes_of job.decls) pipes (result_for job t);
+  last_guessed = (facts_of job).top;
+}
+
+-- How many of the targets before the one of number t are registers, and how many are files.
+abbrev pub registers_before : List Slot → ℕ → ℕ
+registers_before targets t = length (filter is_register (take t targets))
+
+abbrev pub files_before : List Slot → ℕ → ℕ
+files_before targets t = t - registers_before targets t
+
+-- The words of a register, which is one, and those of a file.
+abbrev pub register_words : Option Word → List ℕ
+register_words None = []
+register_words (Some w) = w.value ∷ []
+
+abbrev pub file_words : Option (List ℕ) → List ℕ
+file_words None = []
+file_words (Some words) = words
+
+-- The words of the target of number t in a state that has the values of the registers and the words of the files, each in the
+-- order of declaration.
+abbrev pub target_words : List Slot → Start → ℕ → Option Slot → List ℕ
+target_words targets state t None = []
+target_words targets state t (Some s) =
+    if is_register s
+    then register_words (slice_get state.regs (registers_before targets t))
+    else file_words (slice_get state.files (files_before targets t))
+
+-- The value of the target of number t at an address in such a state. Where there is no such word it is 0.
+unfoldable pub state_of : Job → Start → ℕ → ℕ → ℕ
+state_of job state t a =
+    let targets = targets_of job.decls in
+    slice_index (target_words targets state t (slice_get targets t)) a
+
+-- The start values of the hints, in the order of declaration.
+abbrev pub hint_starts : List Decl → List ℕ
+hint_starts [] = []
+hint_starts (decls.Hint n width start ∷ ds) = start.literal.value ∷ hint_starts ds
+hint_starts (_ ∷ ds) = hint_starts ds
+
+abbrev pub start_hints : Job → ℕ → ℕ
+start_hints job h = slice_index (hint_starts job.decls) h
+
+-- What comes from outside in a cycle: the stalls section gives the stall word.
+abbrev pub stall_inputs : Job → ℕ → Inputs
+stall_inputs job cycle = record { ext = λ k. is_stalled (stalls_of job) k cycle; samples = λ x. 0 }
+
+-- The inputs of so many cycles from this one on.
+abbrev pub inputs_from : Job → ℕ → ℕ → List Inputs
+inputs_from job cycle zero = []
+inputs_from job cycle (suc n) = stall_inputs job cycle ∷ inputs_from job (suc cycle) n
+
+-- The state of the sequential machine of a job after i instructions.
+abbrev pub sequential : Job → ℕ → ℕ → ℕ → ℕ
+sequential job i = seq (machine_of job) (state_of job (start_of job)) no_samples i
+
+-- The run of the pipelined machine of a job with these inputs.
+abbrev pub pipe_of : Job → List Inputs → Trace
+pipe_of job inputs = pipe (machine_of job) (state_of job (start_of job)) (start_hints job) inputs
