@@ -1,0 +1,4 @@
+pub mod Declared
+pub mod Given
+pub mod Loops
+pub mod Patterns

@@ -1,0 +1,4 @@
+pub mod Sections
+pub mod Fits
+pub mod Laid
+pub mod Spans
