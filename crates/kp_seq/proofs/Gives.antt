@@ -1,0 +1,168 @@
+-- A put and a set: what they change in the lists is what they change in the abstract machine, and values keep their widths.
+use Rattle.std.proofs.Common.{◌≡◌, ◌∙◌, ℕ, suc, ◌^◌, ◌<◌, List, [], ◌∷◌, Option, Some, None, Bool, true, false, cond, length, get_or, refl, ap, sym, subst, arith}
+use Rattle.std.specs.Prelude.{is_some, slice_get, slice_index, unwrap_or, ◌==◌}
+use Rattle.std.proofs.lemmas.Bool.{eqb-true}
+use Rattle.std.proofs.lemmas.List.{length-set}
+use Rattle.kp_bits.specs.Word.{Word}
+use Rattle.kp_ast.specs.Expressions.{is_same_name}
+use Rattle.kp_ast.specs.declared.tree.Expr.{Expr}
+use Rattle.kp_ast.specs.declared.tree.Named as tree
+use Rattle.kp_ast.specs.declared.tree.ResultDecl.{ResultDecl}
+use Rattle.kp_ast.specs.declared.tree.Decl.{Decl}
+use Rattle.kp_ast.specs.declared.tree.Job.{Job}
+use Rattle.kp_ast.specs.declared.widths.NameKind.{NameKind}
+use Rattle.kp_ast.specs.declared.widths.NameKind.TheVariants as kinds
+use Rattle.kp_width.specs.Names.{Sense, Names, Scoped, nothing, look_up, find, used, is_pipe, is_result}
+use Rattle.kp_width.specs.Expressions.{part_of, value_of}
+use Rattle.kp_width.specs.Declarations.{address_width}
+use Rattle.kp_width.specs.Statements.{given}
+use Rattle.kp_width.specs.Widths.{widths_of}
+use Rattle.kp_width.proofs.Unbroken.{Unbroken, bind_unbroken}
+use Rattle.kp_stage.specs.Facts.{facts_of}
+use Rattle.kp_stage.specs.Rules.{ask_expr, all_rules}
+use Rattle.kp_law.specs.Sequential.{Instruction, first_value}
+use Rattle.kp_machine.specs.Slots.{Slot, targets_of, pipes_of, number_of, width_of, result_named}
+use Rattle.kp_machine.specs.Trees.{Progress, with_value, with_put, with_set}
+use Rattle.kp_machine.specs.Trees as trees
+use Rattle.kp_machine.proofs.Results.{named_stands}
+use Rattle.kp_seq.specs.Tables.{Laid}
+use Rattle.kp_seq.specs.Steps.{Under, word_in, with_pipe, with_first, with_result}
+use Rattle.kp_seq.specs.Ready.{AreTables}
+use Rattle.kp_seq.proofs.Scopes.{IsSlot, found_sense, results_fit, storage_kind}
+use Rattle.kp_seq.proofs.Stage.{Named, text, placed, declared_right, is_local, found_where}
+use Rattle.kp_seq.proofs.Changes.{set_seen, put_same, set_same}
+use Rattle.kp_seq.proofs.Turns.{given_fits}
+
+by_test : {G : Type 0} (b : Bool) → (b ≡ true → G) → (b ≡ false → G) → G
+by_test true then_so else_so = then_so refl
+by_test false then_so else_so = else_so refl
+
+-- the entry of a name is the one of its number
+number_slot : (ss : List Slot) (q : List ℕ) (x : Slot) → slice_get ss (number_of ss q) ≡ Some x → x.width ≡ width_of ss q
+number_slot [] q x e = cc
+number_slot (s ∷ ss) q x e = by_test (is_same_name q s.name)
+    (λ y.
+    let f : Some s ≡ Some x = sym (ap (λ b. slice_get (s ∷ ss) (cond b 0 (suc (number_of ss q)))) y) ∙ e in
+    let g : s ≡ x = cc in
+    ap (λ (z : Slot). z.width) (sym g) ∙ sym (ap (λ b. cond b s.width (width_of ss q)) y))
+    (λ y.
+    number_slot ss q x (sym (ap (λ b. slice_get (s ∷ ss) (cond b 0 (suc (number_of ss q)))) y) ∙ e)
+    ∙ sym (ap (λ b. cond b s.width (width_of ss q)) y))
+
+local_no_pipe : {G : Type 0} (kind : NameKind) → is_local kind ≡ true → is_pipe kind ≡ true → G
+local_no_pipe kinds.Read e f = cc
+local_no_pipe kinds.Let e f = cc
+local_no_pipe kinds.Pipe e f = cc
+local_no_pipe kinds.Hint e f = cc
+local_no_pipe kinds.Reg e f = cc
+local_no_pipe (kinds.File a) e f = cc
+local_no_pipe kinds.Target e f = cc
+local_no_pipe kinds.Func e f = cc
+local_no_pipe kinds.Param e f = cc
+
+local_no_result : {G : Type 0} (kind : NameKind) → is_local kind ≡ true → is_result kind ≡ true → G
+local_no_result kinds.Read e f = cc
+local_no_result kinds.Let e f = cc
+local_no_result kinds.Pipe e f = cc
+local_no_result kinds.Hint e f = cc
+local_no_result kinds.Reg e f = cc
+local_no_result (kinds.File a) e f = cc
+local_no_result kinds.Target e f = cc
+local_no_result kinds.Func e f = cc
+local_no_result kinds.Param e f = cc
+
+first_fits : (o : Option ℕ) (v b w : ℕ) → v < 2 ^ w → ((x : ℕ) → o ≡ Some x → x < 2 ^ w) → first_value o (Some v) ≡ Some b → b < 2 ^ w
+first_fits None v b w h old e = let i : v ≡ b = cc in subst (λ z. z < 2 ^ w) i h
+first_fits (Some x) v b w h old e = old b e
+
+-- the lists of pipes and results, for an instruction as it entered the stage
+pub record Lists (ds : List Decl) (c : Instruction) (done : Progress) (u : Under) : Type 0 where
+  pub pipes : (p : ℕ) → slice_index u.pipes p ≡ unwrap_or (done.puts p) (c.pipes p)
+  pub results : (r : ℕ) → get_or u.results r None ≡ first_value (c.results r) (done.sets r)
+  pub pipe_fits : (p : ℕ) (x : Slot) → slice_get (pipes_of ds) p ≡ Some x → slice_index u.pipes p < 2 ^ x.width
+  pub result_fits : (r : ℕ) (x : Slot) (v : ℕ) → slice_get (targets_of ds) r ≡ Some x → get_or u.results r None ≡ Some v → v < 2 ^ x.width
+  pub pipe_count : length u.pipes ≡ length (pipes_of ds)
+  pub result_count : length u.results ≡ length (targets_of ds)
+
+module _ (job : Job) (unbroken : Unbroken (widths_of job)) (t : Laid) (tables : AreTables job t) (rule : _) (is25 : slice_get all_rules 10 ≡ Some rule) (k : ℕ) (s : Scoped) (done : Progress) (u : Under) (now : Named job unbroken t tables rule is25 k s done u) (c : Instruction) (lists : Lists job.decls c done u) where
+  abbrev text_names : Names
+  text_names = text job unbroken t tables rule is25
+
+  of_text : (q : List ℕ) (m : Sense) → look_up s.text q ≡ Some m → look_up text_names q ≡ Some m
+  of_text q m e = ap (λ (names : Names). look_up names q) (sym now.of_text) ∙ e
+
+  -- a pipe that is put
+  pub put_turn : (n : tree.Named) (e : Expr) → ask_expr (facts_of job) rule k e ≡ None → Unbroken (given job.decls s is_pipe n e)
+      → Lists job.decls c (with_put done (number_of (pipes_of job.decls) n.name) (trees.value_of job.decls done e)) (with_pipe u (number_of t.pipes n.name) (word_in t u e).value)
+  put_turn n e free right =
+      let x = bind_unbroken (used s is_pipe n.name n.at) (λ m. value_of (part_of job.decls (length job.decls) s e) m.width) right in
+      let f = found_sense is_pipe n.at (find s n.name) x.0 in
+      let g = given_fits job unbroken t tables rule is25 k s done u now e (used s is_pipe n.name n.at).value.width free x.1 in
+      let at : IsSlot (pipes_of job.decls) n.name f.0.width 0 = found_where s n.name f.0 f.1
+      (λ l. local_no_pipe f.0.kind (now.locals n.name f.0 l) f.2)
+      (λ none z. (placed job unbroken t tables rule is25 n.name f.0 (of_text n.name f.0 z)).pipe f.2) in
+      let p : ℕ = number_of (pipes_of job.decls) n.name in
+      let v : ℕ = trees.value_of job.decls done e in
+      let w : f.0.width ≡ (used s is_pipe n.name n.at).value.width = ap (λ (m : Sense). m.width) f.3 in
+      let inside : p < length u.pipes = let i = at.inside in let o = lists.pipe_count in omega arith in
+      let fits : v < 2 ^ width_of (pipes_of job.decls) n.name = subst (λ y. v < 2 ^ y) (g.1.width ∙ sym w ∙ sym at.width) g.1.word.fits in
+      subst (λ y. Lists job.decls c (with_put done p v) (with_pipe u y (word_in t u e).value)) (sym (ap (λ ss. number_of ss n.name) tables.pipes))
+      (subst (λ y. Lists job.decls c (with_put done p v) (with_pipe u p y)) (sym (ap (λ (y : Word). y.value) g.0))
+      (record {
+        pipes = put_same u.pipes done.puts c.pipes p v inside lists.pipes;
+        results = lists.results;
+        pipe_fits = λ i y is. subst (λ b. b < 2 ^ y.width) (sym (set_seen u.pipes p v 0 i inside))
+            (by_test (i == p)
+            (λ yes. let j : i ≡ p = eqb-true i p yes in
+            let wy : y.width ≡ width_of (pipes_of job.decls) n.name = number_slot (pipes_of job.decls) n.name y (ap (slice_get (pipes_of job.decls)) (sym j) ∙ is) in
+            subst (λ b. cond b v (slice_index u.pipes i) < 2 ^ y.width) (sym yes) (subst (λ z. v < 2 ^ z) (sym wy) fits))
+            (λ no_. subst (λ b. cond b v (slice_index u.pipes i) < 2 ^ y.width) (sym no_) (lists.pipe_fits i y is)));
+        result_fits = lists.result_fits;
+        pipe_count = length-set u.pipes p v ∙ lists.pipe_count;
+        result_count = lists.result_count;
+      }))
+
+  -- the target of a result, which is as wide
+  target_is : (n : List ℕ) (m : Sense) → look_up s.text n ≡ Some m → is_result m.kind ≡ true
+      → (r : ResultDecl) × (result_named job.decls n ≡ Some r) × ((a : ℕ) × IsSlot (targets_of job.decls) r.target.name m.width a)
+  target_is n m e h =
+      let p = (placed job unbroken t tables rule is25 n m (of_text n m e)).result h in
+      let stands = (named_stands job.decls n p.0 p.1).0 in
+      let fit = results_fit job.decls 0 0 nothing job.decls refl (declared_right job unbroken t tables rule is25) stands.index p.0 stands.there in
+      let at = (placed job unbroken t tables rule is25 p.0.target.name fit.sense fit.found).target (storage_kind (is_some p.0.address) fit.sense.kind fit.stored) in
+      (p.0, p.1, (address_width fit.sense.kind, subst (λ w. IsSlot (targets_of job.decls) p.0.target.name w (address_width fit.sense.kind)) (fit.width ∙ p.2) at))
+
+  -- a result that is set, where its condition holds
+  pub set_turn : (n : tree.Named) (e : Expr) → ask_expr (facts_of job) rule k e ≡ None → Unbroken (given job.decls s is_result n e)
+      → Lists job.decls c (with_set job.decls done (result_named job.decls n.name) (trees.value_of job.decls done e)) (with_result t u (result_named t.decls n.name) (word_in t u e).value)
+  set_turn n e free right =
+      let x = bind_unbroken (used s is_result n.name n.at) (λ m. value_of (part_of job.decls (length job.decls) s e) m.width) right in
+      let f = found_sense is_result n.at (find s n.name) x.0 in
+      let g = given_fits job unbroken t tables rule is25 k s done u now e (used s is_result n.name n.at).value.width free x.1 in
+      let r = found_where s n.name f.0 f.1
+      (λ l. local_no_result f.0.kind (now.locals n.name f.0 l) f.2)
+      (λ none z. target_is n.name f.0 z f.2) in
+      let p : ℕ = number_of (targets_of job.decls) r.0.target.name in
+      let v : ℕ = trees.value_of job.decls done e in
+      let w : f.0.width ≡ (used s is_result n.name n.at).value.width = ap (λ (m : Sense). m.width) f.3 in
+      let inside : p < length u.results = let i = r.2.1.inside in let o = lists.result_count in omega arith in
+      let fits : v < 2 ^ width_of (targets_of job.decls) r.0.target.name = subst (λ y. v < 2 ^ y) (g.1.width ∙ sym w ∙ sym r.2.1.width) g.1.word.fits in
+      let here : Lists job.decls c (with_set job.decls done (Some r.0) v) (with_first u p v) = record {
+        pipes = lists.pipes;
+        results = set_same u.results done.sets c.results p v inside lists.results;
+        pipe_fits = lists.pipe_fits;
+        result_fits = λ i y b is held. by_test (i == p)
+            (λ yes. let j : i ≡ p = eqb-true i p yes in
+            let wy : y.width ≡ width_of (targets_of job.decls) r.0.target.name = number_slot (targets_of job.decls) r.0.target.name y (ap (slice_get (targets_of job.decls)) (sym j) ∙ is) in
+            let h : first_value (get_or u.results p None) (Some v) ≡ Some b =
+            sym (ap (λ z. cond z (first_value (get_or u.results p None) (Some v)) (get_or u.results i None)) yes) ∙ sym (set_seen u.results p (first_value (get_or u.results p None) (Some v)) None i inside) ∙ held in
+            first_fits (get_or u.results p None) v b y.width (subst (λ z. v < 2 ^ z) (sym wy) fits)
+            (λ old o. lists.result_fits p y old (ap (slice_get (targets_of job.decls)) (sym j) ∙ is) o) h)
+            (λ no_. lists.result_fits i y b is (sym (ap (λ z. cond z (first_value (get_or u.results p None) (Some v)) (get_or u.results i None)) no_) ∙ sym (set_seen u.results p (first_value (get_or u.results p None) (Some v)) None i inside) ∙ held));
+        pipe_count = lists.pipe_count;
+        result_count = length-set u.results p _ ∙ lists.result_count;
+      } in
+      subst (λ y. Lists job.decls c (with_set job.decls done (result_named job.decls n.name) v) (with_result t u (result_named y n.name) (word_in t u e).value)) (sym tables.decls)
+      (subst (λ y. Lists job.decls c (with_set job.decls done (result_named job.decls n.name) v) (with_result t u (result_named job.decls n.name) y)) (sym (ap (λ (y : Word). y.value) g.0))
+      (subst (λ o. Lists job.decls c (with_set job.decls done o v) (with_result t u o v)) (sym r.1)
+      (subst (λ y. Lists job.decls c (with_set job.decls done (Some r.0) v) (with_first u y v)) (sym (ap (λ ss. number_of ss r.0.target.name) tables.targets)) here)))

@@ -1,0 +1,231 @@
+-- Each name that a job declares has a place in its tables.
+use Rattle.std.proofs.Common.{◌≡◌, ◌∙◌, ℕ, zero, suc, ◌+◌, ◌<◌, List, [], ◌∷◌, ◌++◌, Option, Some, None, Bool, true, false, cond, not, ◌||◌, nat_eq, length, refl, ap, sym, arith}
+use Rattle.std.specs.Prelude.{is_some, slice_get}
+use Rattle.std.specs.List.{list_any, flat_map, position, position_or_len}
+use Rattle.std.specs.Cmp.Lexicographic.{pointwise, bytes_decides}
+use Rattle.std.proofs.lemmas.Bool.{or_left, or_right, lt-ltb}
+use Rattle.std.proofs.lemmas.List.Folds.{list_any-append}
+use Rattle.indexmap.specs.IndexSet.{insert_key}
+use Rattle.kp_ast.specs.Expressions.{is_same_name}
+use Rattle.kp_ast.specs.declared.tree.Param.{Param}
+use Rattle.kp_ast.specs.declared.tree.Decl.{Decl}
+use Rattle.kp_ast.specs.declared.tree.Decl.TheVariants as decls
+use Rattle.kp_ast.specs.declared.tree.Stmt.{Stmt}
+use Rattle.kp_ast.specs.declared.tree.StmtKind.{StmtKind}
+use Rattle.kp_ast.specs.declared.tree.StmtKind.TheVariants as stmts
+use Rattle.kp_ast.specs.declared.tree.Block.{Block}
+use Rattle.kp_ast.specs.declared.tree.Job.{Job}
+use Rattle.kp_ast.specs.declared.widths.Entry.{Entry}
+use Rattle.kp_ast.specs.declared.widths.Scope.{Scope}
+use Rattle.kp_ast.specs.declared.widths.Scope.TheVariants as scopes
+use Rattle.kp_ast.specs.declared.widths.NameKind.TheVariants as kinds
+use Rattle.kp_width.specs.Names.{Sense, sense, Scoped, nothing, look_up, find, or_else, opened, with_entry, declared_local}
+use Rattle.kp_width.specs.Expressions.{width_of}
+use Rattle.kp_width.specs.Declarations.{width_or_zero, parameters_of, function_opened, declaration_of, declarations_of, functions_in}
+use Rattle.kp_width.specs.Statements.{read_of, statement_of, statements_of, blocks_of}
+use Rattle.kp_width.specs.TextOrder.{names_in_stmt, names_in_block}
+use Rattle.kp_width.specs.Widths.{widths_of}
+use Rattle.kp_width.proofs.Unbroken.{Unbroken}
+use Rattle.kp_width.proofs.Calls.{pushed}
+use Rattle.kp_stage.specs.Rules.{all_rules}
+use Rattle.kp_law.specs.Sequential.{Instruction}
+use Rattle.kp_machine.specs.Slots.{Slot, slot, targets_of, pipes_of}
+use Rattle.kp_seq.specs.Tables.{Laid, keys_of}
+use Rattle.kp_seq.specs.Ready.{AreTables, FitSlots}
+use Rattle.kp_seq.proofs.Turns.{find_none}
+use Rattle.kp_seq.proofs.Blocks.{HasPlace, Keyed}
+
+by_test : {G : Type 0} (b : Bool) → (b ≡ true → G) → (b ≡ false → G) → G
+by_test true then_so else_so = then_so refl
+by_test false then_so else_so = else_so refl
+
+by_option : {X G : Type 0} (o : Option X) → (o ≡ None → G) → ((x : X) → o ≡ Some x → G) → G
+by_option None none some = none refl
+by_option (Some x) none some = some x refl
+
+one_of_two : {G : Type 0} (a b : Bool) → (a || b) ≡ true → (a ≡ true → G) → (b ≡ true → G) → G
+one_of_two true b e left right = left refl
+one_of_two false b e left right = right e
+
+-- a name is one of these, and it is that of one of these entries
+abbrev IsKey : List ℕ → List (List ℕ) → Type 0
+IsKey q keys = list_any (is_same_name q) keys ≡ true
+
+abbrev HasEntry : List ℕ → List Entry → Type 0
+HasEntry q es = list_any (λ e. is_same_name q e.name) es ≡ true
+
+-- a name that is one of these has a place
+inside : (p : List ℕ → Bool) (keys : List (List ℕ)) → list_any p keys ≡ true → position_or_len p keys < length keys
+inside p [] h = cc
+inside p (x ∷ xs) h = by_test (p x)
+    (λ y. let e : position_or_len p (x ∷ xs) ≡ 0 = ap (λ b. cond (not b) (1 + position_or_len p xs) 0) y in omega arith)
+    (λ y.
+    let e : position_or_len p (x ∷ xs) ≡ 1 + position_or_len p xs = ap (λ b. cond (not b) (1 + position_or_len p xs) 0) y in
+    let r = inside p xs (sym (ap (λ b. b || list_any p xs) y) ∙ h) in omega arith)
+
+place_of : (keys : List (List ℕ)) (q : List ℕ) → IsKey q keys → (i : ℕ) × (position (is_same_name q) keys ≡ Some i)
+place_of keys q h =
+    let i = position_or_len (is_same_name q) keys in
+    (i, ap (λ b. cond b (Some i) None) (lt-ltb i (length keys) (inside (is_same_name q) keys h)))
+
+-- a name that is added is one of the names, and those before it stay
+key_stays : (keys : List (List ℕ)) (n q : List ℕ) → IsKey q keys → IsKey q (insert_key (pointwise nat_eq) keys n)
+key_stays keys n q h = by_test (list_any (is_same_name n) keys)
+    (λ y. ap (λ b. list_any (is_same_name q) (cond b keys (keys ++ n ∷ []))) y ∙ h)
+    (λ y.
+    ap (λ b. list_any (is_same_name q) (cond b keys (keys ++ n ∷ []))) y
+    ∙ list_any-append (is_same_name q) keys (n ∷ []) ∙ or_left (list_any (is_same_name q) keys) (list_any (is_same_name q) (n ∷ [])) h)
+
+key_added : (keys : List (List ℕ)) (n q : List ℕ) → is_same_name q n ≡ true → IsKey q (insert_key (pointwise nat_eq) keys n)
+key_added keys n q same = by_test (list_any (is_same_name n) keys)
+    (λ y.
+    ap (λ b. list_any (is_same_name q) (cond b keys (keys ++ n ∷ []))) y
+    ∙ ap (λ x. list_any (is_same_name x) keys) ((bytes_decides q n).0 same) ∙ y)
+    (λ y.
+    ap (λ b. list_any (is_same_name q) (cond b keys (keys ++ n ∷ []))) y
+    ∙ list_any-append (is_same_name q) keys (n ∷ [])
+    ∙ or_right (list_any (is_same_name q) keys) (list_any (is_same_name q) (n ∷ [])) (or_left (is_same_name q n) false same))
+
+keys_stay : (keys : List (List ℕ)) (es : List Entry) (q : List ℕ) → IsKey q keys → IsKey q (keys_of keys es)
+keys_stay keys [] q h = h
+keys_stay keys (e ∷ es) q h = keys_stay (insert_key (pointwise nat_eq) keys e.name) es q (key_stays keys e.name q h)
+
+entry_is_key : (keys : List (List ℕ)) (es : List Entry) (q : List ℕ) → HasEntry q es → IsKey q (keys_of keys es)
+entry_is_key keys [] q h = cc
+entry_is_key keys (e ∷ es) q h = one_of_two (is_same_name q e.name) (list_any (λ e. is_same_name q e.name) es) h
+    (λ y. keys_stay (insert_key (pointwise nat_eq) keys e.name) es q (key_added keys e.name q y))
+    (λ y. entry_is_key (insert_key (pointwise nat_eq) keys e.name) es q y)
+
+module _ (q : List ℕ) where
+  -- of the entries too, one that is added is one of them, and those before it stay
+  stays : (s : Scoped) (scope : Scope) (name : List ℕ) (m : Sense) → HasEntry q s.entries → HasEntry q (with_entry s scope name m).entries
+  stays s scope name m h =
+      list_any-append (λ e. is_same_name q e.name) s.entries (record { name = name; scope = scope; kind = m.kind; width = m.width } ∷ [])
+      ∙ or_left (list_any (λ e. is_same_name q e.name) s.entries) (is_same_name q name || false) h
+
+  added : (s : Scoped) (scope : Scope) (name : List ℕ) (m : Sense) → is_same_name q name ≡ true → HasEntry q (with_entry s scope name m).entries
+  added s scope name m y =
+      list_any-append (λ e. is_same_name q e.name) s.entries (record { name = name; scope = scope; kind = m.kind; width = m.width } ∷ [])
+      ∙ or_right (list_any (λ e. is_same_name q e.name) s.entries) (is_same_name q name || false) (or_left (is_same_name q name) false y)
+
+  parameters_keep : (i : ℕ) (s : Scoped) (ps : List Param) → HasEntry q s.entries → HasEntry q (parameters_of i s ps).value.entries
+  parameters_keep i s [] h = h
+  parameters_keep i s (p ∷ ps) h =
+      let m = sense kinds.Param p.width.value i in
+      parameters_keep i (declared_local s p.name.name m) ps (stays s s.here p.name.name m h)
+
+  declaration_keeps : (ds : List Decl) (i k : ℕ) (s : Scoped) (d : Decl) → HasEntry q s.entries → HasEntry q (declaration_of ds i k s d).value.entries
+  declaration_keeps ds i k s (decls.Reg n width start) h = stays s scopes.Text n.name (sense kinds.Reg width.value i) h
+  declaration_keeps ds i k s (decls.File n width address) h = stays s scopes.Text n.name (sense (kinds.File address.value) width.value i) h
+  declaration_keeps ds i k s (decls.Pipe n width) h = stays s scopes.Text n.name (sense kinds.Pipe width.value i) h
+  declaration_keeps ds i k s (decls.Hint n width start) h = stays s scopes.Text n.name (sense kinds.Hint width.value i) h
+  declaration_keeps ds i k s (decls.Target r) h = stays s scopes.Text r.name.name (sense kinds.Target r.width.value i) h
+  declaration_keeps ds i k s (decls.Func f) h =
+      parameters_keep i (function_opened s k f) f.params (stays s scopes.Text f.name.name (sense kinds.Func (width_or_zero f.width.value) 0) h)
+
+  declarations_keep : (ds : List Decl) (i k : ℕ) (s : Scoped) (rest : List Decl) → HasEntry q s.entries → HasEntry q (declarations_of ds i k s rest).value.entries
+  declarations_keep ds i k s [] h = h
+  declarations_keep ds i k s (d ∷ rest) h = declarations_keep ds (i + 1) (k + functions_in d) (declaration_of ds i k s d).value rest (declaration_keeps ds i k s d h)
+
+  statement_keeps : (ds : List Decl) (s : Scoped) (x : StmtKind) → HasEntry q s.entries → HasEntry q (statement_of ds s x).value.entries
+  statement_keeps ds s (stmts.Read r) h = stays s s.here r.name.name (sense kinds.Read (read_of ds s r).value 0) h
+  statement_keeps ds s (stmts.Let n e) h = stays s s.here n.name (sense kinds.Let (width_of ds (length ds) s e).value 0) h
+  statement_keeps ds s (stmts.Put n e) h = h
+  statement_keeps ds s (stmts.Set n e when) h = h
+  statement_keeps ds s (stmts.Aim n e) h = h
+
+  statements_keep : (ds : List Decl) (s : Scoped) (xs : List Stmt) → HasEntry q s.entries → HasEntry q (statements_of ds s xs).value.entries
+  statements_keep ds s [] h = h
+  statements_keep ds s (x ∷ xs) h = statements_keep ds (statement_of ds s x.kind).value xs (statement_keeps ds s x.kind h)
+
+  blocks_keep : (ds : List Decl) (k : ℕ) (s : Scoped) (bs : List Block) → HasEntry q s.entries → HasEntry q (blocks_of ds k s bs).value.entries
+  blocks_keep ds k s [] h = h
+  blocks_keep ds k s (b ∷ bs) h =
+      blocks_keep ds (k + 1) (statements_of ds (opened s (scopes.Stage k)) b.stmts).value bs (statements_keep ds (opened s (scopes.Stage k)) b.stmts h)
+
+  -- the names of pipes, of statements and of blocks have entries
+  pipe_has : (ds : List Decl) (i k : ℕ) (s : Scoped) (rest : List Decl) (p : ℕ) (x : Slot) → slice_get (pipes_of rest) p ≡ Some x → x.name ≡ q
+      → HasEntry q (declarations_of ds i k s rest).value.entries
+  pipe_has ds i k s [] p x at is = cc
+  pipe_has ds i k s (decls.Pipe n width ∷ rest) zero x at is =
+      let f : slot n width 0 ≡ x = cc in
+      declarations_keep ds (i + 1) (k + 0) (declaration_of ds i k s (decls.Pipe n width)).value rest
+      (added s scopes.Text n.name (sense kinds.Pipe width.value i) ((bytes_decides q n.name).1 (sym (ap (λ (z : Slot). z.name) f ∙ is))))
+  pipe_has ds i k s (decls.Pipe n width ∷ rest) (suc p) x at is = pipe_has ds (i + 1) (k + 0) _ rest p x at is
+  pipe_has ds i k s (decls.Reg n width start ∷ rest) p x at is = pipe_has ds (i + 1) (k + 0) _ rest p x at is
+  pipe_has ds i k s (decls.File n width address ∷ rest) p x at is = pipe_has ds (i + 1) (k + 0) _ rest p x at is
+  pipe_has ds i k s (decls.Hint n width start ∷ rest) p x at is = pipe_has ds (i + 1) (k + 0) _ rest p x at is
+  pipe_has ds i k s (decls.Target r ∷ rest) p x at is = pipe_has ds (i + 1) (k + 0) _ rest p x at is
+  pipe_has ds i k s (decls.Func f ∷ rest) p x at is = pipe_has ds (i + 1) (k + 1) _ rest p x at is
+
+  statement_has : (ds : List Decl) (s : Scoped) (x : StmtKind) → IsKey q (names_in_stmt x) → HasEntry q (statement_of ds s x).value.entries
+  statement_has ds s (stmts.Read r) h = one_of_two (is_same_name q r.name.name) false h
+      (λ y. added s s.here r.name.name (sense kinds.Read (read_of ds s r).value 0) y) (λ n. cc)
+  statement_has ds s (stmts.Let n e) h = one_of_two (is_same_name q n.name) false h
+      (λ y. added s s.here n.name (sense kinds.Let (width_of ds (length ds) s e).value 0) y) (λ n. cc)
+  statement_has ds s (stmts.Put n e) h = cc
+  statement_has ds s (stmts.Set n e when) h = cc
+  statement_has ds s (stmts.Aim n e) h = cc
+
+  statements_have : (ds : List Decl) (s : Scoped) (xs : List Stmt) → IsKey q (flat_map (λ x. names_in_stmt x.kind) xs) → HasEntry q (statements_of ds s xs).value.entries
+  statements_have ds s [] h = cc
+  statements_have ds s (x ∷ xs) h =
+      let more = flat_map (λ x. names_in_stmt x.kind) xs in
+      one_of_two (list_any (is_same_name q) (names_in_stmt x.kind)) (list_any (is_same_name q) more) (sym (list_any-append (is_same_name q) (names_in_stmt x.kind) more) ∙ h)
+      (λ y. statements_keep ds (statement_of ds s x.kind).value xs (statement_has ds s x.kind y))
+      (λ y. statements_have ds (statement_of ds s x.kind).value xs y)
+
+  blocks_have : (ds : List Decl) (k : ℕ) (s : Scoped) (bs : List Block) (j : ℕ) (b : Block) → slice_get bs j ≡ Some b → IsKey q (names_in_block b)
+      → HasEntry q (blocks_of ds k s bs).value.entries
+  blocks_have ds k s [] j b at h = cc
+  blocks_have ds k s (x ∷ bs) zero b at h =
+      let f : b ≡ x = cc in
+      blocks_keep ds (k + 1) (statements_of ds (opened s (scopes.Stage k)) x.stmts).value bs
+      (statements_have ds (opened s (scopes.Stage k)) x.stmts (sym (ap (λ z. list_any (is_same_name q) (names_in_block z)) f) ∙ h))
+  blocks_have ds k s (x ∷ bs) (suc j) b at h = blocks_have ds (k + 1) (statements_of ds (opened s (scopes.Stage k)) x.stmts).value bs j b at h
+
+-- what comes into scope by a name that is declared is that name
+one_new : (s : Scoped) (n q : List ℕ) (m : Sense) → find s q ≡ None → is_some (find (declared_local s n m) q) ≡ true → is_same_name q n ≡ true
+one_new s n q m none some = by_option (look_up (s.local ++ (n, m) ∷ []) q)
+    (λ e.
+    let a : find (declared_local s n m) q ≡ None = ap (λ o. or_else o (look_up s.text q)) e ∙ (find_none s q none).1 in
+    let f : false ≡ true = sym (ap is_some a) ∙ some in cc)
+    (λ z e. pushed s.local n q m z
+    (λ b. let f : None ≡ Some z = sym (find_none s q none).0 ∙ b in cc)
+    (λ w same is. (bytes_decides q n).1 same) e)
+
+-- and so what comes into scope by a statement
+new_in_stmt : (ds : List Decl) (s : Scoped) (x : StmtKind) (q : List ℕ) → find s q ≡ None → is_some (find (statement_of ds s x).value q) ≡ true → IsKey q (names_in_stmt x)
+new_in_stmt ds s (stmts.Read r) q none some = or_left (is_same_name q r.name.name) false (one_new s r.name.name q (sense kinds.Read (read_of ds s r).value 0) none some)
+new_in_stmt ds s (stmts.Let n e) q none some = or_left (is_same_name q n.name) false (one_new s n.name q (sense kinds.Let (width_of ds (length ds) s e).value 0) none some)
+new_in_stmt ds s (stmts.Put n e) q none some = let f : false ≡ true = sym (ap is_some none) ∙ some in cc
+new_in_stmt ds s (stmts.Set n e when) q none some = let f : false ≡ true = sym (ap is_some none) ∙ some in cc
+new_in_stmt ds s (stmts.Aim n e) q none some = let f : false ≡ true = sym (ap is_some none) ∙ some in cc
+
+module _ (job : Job) (unbroken : Unbroken (widths_of job)) (t : Laid) (tables : AreTables job t) (rule : _) (is25 : slice_get all_rules 10 ≡ Some rule) (k : ℕ) (words : List (List ℕ)) (fit : FitSlots (targets_of job.decls) words) (c : Instruction) where
+  -- a name that has an entry has a place
+  has_place : (q : List ℕ) → HasEntry q (widths_of job).value → HasPlace job unbroken t tables rule is25 k words fit c q
+  has_place q h = place_of t.names q (ap (λ keys. list_any (is_same_name q) keys) tables.names ∙ entry_is_key [] (widths_of job).value q h)
+
+  -- each pipe has a place
+  pub pipe_placed : (p : ℕ) (x : Slot) → slice_get (pipes_of job.decls) p ≡ Some x → HasPlace job unbroken t tables rule is25 k words fit c x.name
+  pipe_placed p x at =
+      has_place x.name (blocks_keep x.name job.decls 0 (declarations_of job.decls 0 0 nothing job.decls).value job.blocks
+      (pipe_has x.name job.decls 0 0 nothing job.decls p x at refl))
+
+  -- statements whose names have places
+  keys_of_stmts : (s : Scoped) (xs : List Stmt) → ((q : List ℕ) → IsKey q (flat_map (λ x. names_in_stmt x.kind) xs) → HasPlace job unbroken t tables rule is25 k words fit c q)
+      → Keyed job unbroken t tables rule is25 k words fit c s xs
+  keys_of_stmts s [] h = tt
+  keys_of_stmts s (x ∷ xs) h =
+      let here = names_in_stmt x.kind in
+      let more = flat_map (λ x. names_in_stmt x.kind) xs in (
+        λ q none some. h q (list_any-append (is_same_name q) here more ∙ or_left (list_any (is_same_name q) here) (list_any (is_same_name q) more) (new_in_stmt job.decls s x.kind q none some)),
+        keys_of_stmts (statement_of job.decls s x.kind).value xs
+            (λ q y. h q (list_any-append (is_same_name q) here more ∙ or_right (list_any (is_same_name q) here) (list_any (is_same_name q) more) y)),
+      )
+
+  -- each name that a block declares has a place
+  pub keyed : (j : ℕ) (b : Block) (s : Scoped) → slice_get job.blocks j ≡ Some b → Keyed job unbroken t tables rule is25 k words fit c s b.stmts
+  keyed j b s at =
+      keys_of_stmts s b.stmts (λ q h. has_place q (blocks_have q job.decls 0 (declarations_of job.decls 0 0 nothing job.decls).value job.blocks j b at h))

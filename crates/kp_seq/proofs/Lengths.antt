@@ -1,0 +1,86 @@
+-- No step of an instruction changes how many names, pipes and results there are, or how many words a target has.
+use Rattle.std.proofs.Common.{◌≡◌, ◌∙◌, ℕ, ◌+◌, List, [], ◌∷◌, Option, Some, None, Bool, true, false, cond, length, replicate, refl}
+use Rattle.std.specs.Prelude.{slice_index}
+use Rattle.std.specs.List.{position}
+use Rattle.std.proofs.lemmas.List.{length-set, length-replicate}
+use Rattle.kp_bits.specs.Word.{Word}
+use Rattle.kp_ast.specs.Expressions.{is_same_name}
+use Rattle.kp_ast.specs.declared.tree.ResultDecl.{ResultDecl}
+use Rattle.kp_ast.specs.declared.tree.Stmt.{Stmt}
+use Rattle.kp_ast.specs.declared.tree.StmtKind.{StmtKind}
+use Rattle.kp_ast.specs.declared.tree.StmtKind.TheVariants as stmts
+use Rattle.kp_ast.specs.declared.tree.Block.{Block}
+use Rattle.kp_machine.specs.Slots.{Slot, number_of, width_of, result_named}
+use Rattle.kp_seq.specs.Names.{set_place}
+use Rattle.kp_seq.specs.Tables.{Laid}
+use Rattle.kp_seq.specs.Steps.{Under, holds, word_in, fitted, value_read, with_name, with_pipe, with_result, after_stmt, after_stmts, with_pipes, entered, after_block, after_blocks, begun}
+
+pub record SameLengths (u v : Under) : Type 0 where
+  pub names : length v.names ≡ length u.names
+  pub pipes : length v.pipes ≡ length u.pipes
+  pub results : length v.results ≡ length u.results
+
+pub same : (u : Under) → SameLengths u u
+same u = record { names = refl; pipes = refl; results = refl }
+
+pub then_same : (u v w : Under) → SameLengths u v → SameLengths v w → SameLengths u w
+then_same u v w h k = record { names = k.names ∙ h.names; pipes = k.pipes ∙ h.pipes; results = k.results ∙ h.results }
+
+at_place : (vs : List (Option Word)) (o : Option ℕ) (w : Word) → length (set_place vs o w) ≡ length vs
+at_place vs None w = refl
+at_place vs (Some i) w = length-set vs i (Some w)
+
+module _ (t : Laid) where
+  name_same : (u : Under) (n : List ℕ) (w : Word) → SameLengths u (with_name t u n w)
+  name_same u n w = record { names = at_place u.names (position (is_same_name n) t.names) w; pipes = refl; results = refl }
+
+  pipe_same : (u : Under) (p v : ℕ) → SameLengths u (with_pipe u p v)
+  pipe_same u p v = record { names = refl; pipes = length-set u.pipes p v; results = refl }
+
+  result_same : (u : Under) (o : Option ResultDecl) (v : ℕ) → SameLengths u (with_result t u o v)
+  result_same u None v = same u
+  result_same u (Some r) v = record { names = refl; pipes = refl; results = length-set u.results (number_of t.targets r.target.name) _ }
+
+  chosen : (b : Bool) (u v w : Under) → SameLengths u v → SameLengths u w → SameLengths u (cond b v w)
+  chosen true u v w h k = h
+  chosen false u v w h k = k
+
+  pub pipes_same : (u : Under) (i : ℕ) (ss : List Slot) → SameLengths u (with_pipes t u i ss)
+  pipes_same u i [] = same u
+  pipes_same u i (s ∷ ss) =
+      let w : Word = fitted s.width (slice_index u.pipes i) in
+      then_same u (with_name t u s.name w) _ (name_same u s.name w) (pipes_same (with_name t u s.name w) (i + 1) ss)
+
+  pub entered_same : (u : Under) → SameLengths u (entered t u)
+  entered_same u =
+      let none : Option Word = None in
+      let v : Under = record u { names = replicate (length u.names) none } in
+      then_same u v _ (record { names = length-replicate (length u.names) none; pipes = refl; results = refl }) (pipes_same v 0 t.pipes)
+
+  pub begun_same : (u : Under) → SameLengths u (begun u)
+  begun_same u =
+      let zero : ℕ = 0 in
+      let none : Option ℕ = None in
+      record { names = refl; pipes = length-replicate (length u.pipes) zero; results = length-replicate (length u.results) none }
+
+  module _ (words : List (List ℕ)) where
+    pub stmt_same : (u : Under) (s : StmtKind) → SameLengths u (after_stmt t words u s)
+    stmt_same u (stmts.Read r) = name_same u r.name.name (fitted (width_of t.targets r.target.name) (value_read t words u r))
+    stmt_same u (stmts.Let n e) = name_same u n.name (word_in t u e)
+    stmt_same u (stmts.Put n e) = pipe_same u (number_of t.pipes n.name) (word_in t u e).value
+    stmt_same u (stmts.Set n e when) = chosen (holds t u when) u _ u (result_same u (result_named t.decls n.name) (word_in t u e).value) (same u)
+    stmt_same u (stmts.Aim n e) = same u
+
+    pub stmts_same : (u : Under) (ss : List Stmt) → SameLengths u (after_stmts t words u ss)
+    stmts_same u [] = same u
+    stmts_same u (s ∷ ss) = then_same u (after_stmt t words u s.kind) _ (stmt_same u s.kind) (stmts_same (after_stmt t words u s.kind) ss)
+
+    pub block_same : (u : Under) (b : Block) → SameLengths u (after_block t words u b)
+    block_same u b = then_same u (entered t u) _ (entered_same u) (stmts_same (entered t u) b.stmts)
+
+    pub blocks_same : (u : Under) (bs : List Block) → SameLengths u (after_blocks t words u bs)
+    blocks_same u [] = same u
+    blocks_same u (b ∷ bs) = then_same u (after_block t words u b) _ (block_same u b) (blocks_same (after_block t words u b) bs)
+
+    pub all_same : (u : Under) (bs : List Block) → SameLengths u (after_blocks t words (begun u) bs)
+    all_same u bs = then_same u (begun u) _ (begun_same u) (blocks_same (begun u) bs)

@@ -1,0 +1,108 @@
+-- A read: what it gives is what it gives in the abstract machine, as a word of its target's width.
+use Rattle.std.proofs.Common.{◌≡◌, ◌∙◌, ℕ, suc, ◌^◌, ◌<◌, ◌≤◌, List, [], ◌∷◌, Option, Some, None, Bool, true, false, cond, not, ◌||◌, length, get_or, refl, ap, sym, subst, arith}
+use Rattle.std.specs.Prelude.{is_some, slice_get}
+use Rattle.std.specs.List.{position}
+use Rattle.std.proofs.lemmas.Bool.{cond_both}
+use Rattle.std.proofs.lemmas.Nat.{pow_pos}
+use Rattle.kp_base.specs.Check.{ok, ◌>>=◌}
+use Rattle.kp_base.specs.Refusal.{e_rule}
+use Rattle.kp_bits.specs.Word.{Word}
+use Rattle.kp_ast.specs.Expressions.{is_same_name}
+use Rattle.kp_ast.specs.Expressions as values
+use Rattle.kp_ast.specs.declared.tree.Expr.{Expr}
+use Rattle.kp_ast.specs.declared.tree.ReadStmt.{ReadStmt}
+use Rattle.kp_ast.specs.declared.tree.StmtKind.TheVariants as stmts
+use Rattle.kp_ast.specs.declared.tree.Job.{Job}
+use Rattle.kp_ast.specs.declared.widths.NameKind.{NameKind}
+use Rattle.kp_ast.specs.declared.widths.NameKind.TheVariants as kinds
+use Rattle.kp_width.specs.Names.{Sense, sense, Names, Scoped, look_up, find, is_register, is_file, declared_local}
+use Rattle.kp_width.specs.Expressions.{part_of, value_of}
+use Rattle.kp_width.specs.Declarations.{kept, storage_of, address_width}
+use Rattle.kp_width.specs.Statements.{when_of, address_of, read_of, statement_of}
+use Rattle.kp_width.specs.Widths.{widths_of}
+use Rattle.kp_width.proofs.Unbroken.{Unbroken, bind_unbroken, answer_unbroken}
+use Rattle.kp_width.proofs.Found.{none_of_two}
+use Rattle.kp_stage.specs.Facts.{facts_of}
+use Rattle.kp_stage.specs.Rules.{ask_option, ask_values, all_rules}
+use Rattle.kp_machine.specs.Slots.{Slot, targets_of, number_of, width_of}
+use Rattle.kp_machine.specs.Trees.{Progress, with_name, word_read}
+use Rattle.kp_machine.specs.Trees as trees
+use Rattle.kp_seq.specs.Running.{no_slot, state_in}
+use Rattle.kp_seq.specs.Tables.{Laid}
+use Rattle.kp_seq.specs.Steps.{Under, fitted, holds, address_in}
+use Rattle.kp_seq.specs.Steps as steps
+use Rattle.kp_seq.specs.Ready.{AreTables, FitSlots}
+use Rattle.kp_seq.proofs.Scopes.{IsSlot, found_sense, storage_kind, fresh_none}
+use Rattle.kp_seq.proofs.Stage.{Named, placed, is_local, found_where}
+use Rattle.kp_seq.proofs.Start.{job_fine, target_width, word_fits, fitted_is}
+use Rattle.kp_seq.proofs.Trees.{value_read, address_read}
+use Rattle.kp_seq.proofs.Turns.{holds_same, address_same, name_bound}
+
+by_test : {G : Type 0} (b : Bool) → (b ≡ true → G) → (b ≡ false → G) → G
+by_test true then_so else_so = then_so refl
+by_test false then_so else_so = else_so refl
+
+number_get : (ss : List Slot) (q : List ℕ) → number_of ss q < length ss → (get_or ss (number_of ss q) no_slot).width ≡ width_of ss q
+number_get [] q h = absurd (omega arith)
+number_get (s ∷ ss) q h = by_test (is_same_name q s.name)
+    (λ y. ap (λ b. (get_or (s ∷ ss) (cond b 0 (suc (number_of ss q))) no_slot).width) y ∙ sym (ap (λ b. cond b s.width (width_of ss q)) y))
+    (λ y.
+    let e : number_of (s ∷ ss) q ≡ suc (number_of ss q) = ap (λ b. cond b 0 (suc (number_of ss q))) y in
+    let l : number_of ss q < length ss = omega arith in
+    ap (λ b. (get_or (s ∷ ss) (cond b 0 (suc (number_of ss q))) no_slot).width) y ∙ number_get ss q l ∙ sym (ap (λ b. cond b s.width (width_of ss q)) y))
+
+local_no_target : {G : Type 0} (kind : NameKind) → is_local kind ≡ true → (is_register kind || is_file kind) ≡ true → G
+local_no_target kinds.Read e f = cc
+local_no_target kinds.Let e f = cc
+local_no_target kinds.Pipe e f = cc
+local_no_target kinds.Hint e f = cc
+local_no_target kinds.Reg e f = cc
+local_no_target (kinds.File a) e f = cc
+local_no_target kinds.Target e f = cc
+local_no_target kinds.Func e f = cc
+local_no_target kinds.Param e f = cc
+
+module _ (job : Job) (unbroken : Unbroken (widths_of job)) (t : Laid) (tables : AreTables job t) (rule : _) (is25 : slice_get all_rules 10 ≡ Some rule) (k : ℕ) (s : Scoped) (done : Progress) (u : Under) (now : Named job unbroken t tables rule is25 k s done u) (words : List (List ℕ)) (fit : FitSlots (targets_of job.decls) words) where
+  address_read_same : (r : ReadStmt) (guess : Option Expr) → address_in t u r.address ≡ trees.address_of job.decls done r.address
+      → steps.address_read t u r guess ≡ address_read job.decls (state_in words) done r guess
+  address_read_same r None e = e
+  address_read_same r (Some g) e = refl
+
+  pub read_turn : (r : ReadStmt) (i : ℕ) → ask_values (facts_of job) rule k (stmts.Read r) ≡ None → Unbroken (statement_of job.decls s (stmts.Read r))
+      → values.look_up done.names r.name.name ≡ None → position (is_same_name r.name.name) t.names ≡ Some i → i < length u.names
+      → Named job unbroken t tables rule is25 k (statement_of job.decls s (stmts.Read r)).value
+      (with_name done r.name.name (word_read job.decls r (value_read job.decls (state_in words) done r)))
+      (steps.with_name t u r.name.name (fitted (width_of t.targets r.target.name) (steps.value_read t words u r)))
+  read_turn r i free right none place inside =
+      let b = none_of_two (ask_option (facts_of job) rule k r.address) (ask_option (facts_of job) rule k r.when) free in
+      let a = answer_unbroken (not (is_some (find s r.name.name))) (e_rule 5 r.name.at) (read_of job.decls s r >>= (λ w. ok (declared_local s r.name.name (sense kinds.Read w 0)))).asked right in
+      let x = (bind_unbroken (read_of job.decls s r) (λ w. ok (declared_local s r.name.name (sense kinds.Read w 0))) a.1).0 in
+      let st = storage_of s r.target (is_some r.address) in
+      let y = bind_unbroken st (λ z. kept r.address (λ e. address_of (part_of job.decls (length job.decls) s e) (address_width z.kind)) >>= (λ v. when_of job.decls s r.when >>= (λ p. kept r.guess (λ e. value_of (part_of job.decls (length job.decls) s e) z.width) >>= (λ q. ok z.width)))) x in
+      let z = bind_unbroken (kept r.address (λ e. address_of (part_of job.decls (length job.decls) s e) (address_width st.value.kind))) (λ v. when_of job.decls s r.when >>= (λ p. kept r.guess (λ e. value_of (part_of job.decls (length job.decls) s e) st.value.width) >>= (λ q. ok st.value.width))) y.1 in
+      let w = (bind_unbroken (when_of job.decls s r.when) (λ p. kept r.guess (λ e. value_of (part_of job.decls (length job.decls) s e) st.value.width) >>= (λ q. ok st.value.width)) z.1).0 in
+      let f = found_sense (cond (is_some r.address) is_file is_register) r.target.at (find s r.target.name) y.0 in
+      let kind = storage_kind (is_some r.address) f.0.kind f.2 in
+      let at : IsSlot (targets_of job.decls) r.target.name f.0.width (address_width f.0.kind) = found_where s r.target.name f.0 f.1
+      (λ l. local_no_target f.0.kind (now.locals r.target.name f.0 l) kind)
+      (λ n g. (placed job unbroken t tables rule is25 r.target.name f.0 (ap (λ (names : Names). look_up names r.target.name) (sym now.of_text) ∙ g)).target kind) in
+      let tw : ℕ = width_of (targets_of job.decls) r.target.name in
+      let v : ℕ = value_read job.decls (state_in words) done r in
+      let size : tw ≡ st.value.width = at.width ∙ ap (λ (m : Sense). m.width) f.3 in
+      let number = number_get (targets_of job.decls) r.target.name at.inside in
+      let bounds = target_width job.decls (number_of (targets_of job.decls) r.target.name) (job_fine job unbroken) at.inside in
+      let low : 1 ≤ tw = subst (λ n. 1 ≤ n) number bounds.0 in
+      let high : tw ≤ 64 = subst (λ n. n ≤ 64) number bounds.1 in
+      let small : v < 2 ^ tw = cond_both (trees.holds job.decls done r.when) (state_in words (number_of (targets_of job.decls) r.target.name) (address_read job.decls (state_in words) done r r.guess)) 0 (λ n. n < 2 ^ tw)
+      (λ h. subst (λ n. state_in words (number_of (targets_of job.decls) r.target.name) (address_read job.decls (state_in words) done r r.guess) < 2 ^ n) number (word_fits (targets_of job.decls) words _ _ fit at.inside))
+      (λ h. pow_pos tw) in
+      let same : steps.value_read t words u r ≡ v =
+      ap (λ c. cond c (steps.word_at words (number_of t.targets r.target.name) (steps.address_read t u r r.guess)) 0) (holds_same job unbroken t tables rule is25 k s done u now r.when b.1 w)
+      ∙ ap (λ ss. cond (trees.holds job.decls done r.when) (steps.word_at words (number_of ss r.target.name) (steps.address_read t u r r.guess)) 0) tables.targets
+      ∙ ap (λ n. cond (trees.holds job.decls done r.when) (steps.word_at words (number_of (targets_of job.decls) r.target.name) n) 0)
+      (address_read_same r r.guess (address_same job unbroken t tables rule is25 k s done u now r.address (address_width st.value.kind) b.0 z.0)) in
+      let is : fitted (width_of t.targets r.target.name) (steps.value_read t words u r) ≡ word_read job.decls r v =
+      ap (λ ss. fitted (width_of ss r.target.name) (steps.value_read t words u r)) tables.targets ∙ ap (fitted tw) same ∙ fitted_is tw v low high small in
+      subst (λ (n : Word). Named job unbroken t tables rule is25 k (declared_local s r.name.name (sense kinds.Read st.value.width 0)) (with_name done r.name.name (word_read job.decls r v)) (steps.with_name t u r.name.name n)) (sym is)
+      (name_bound job unbroken t tables rule is25 k s done u now r.name.name (sense kinds.Read st.value.width 0) (word_read job.decls r v) i refl (fresh_none (find s r.name.name) a.0) none place inside
+      (record { word = record { positive = low; at_most = high; fits = small }; width = size }))

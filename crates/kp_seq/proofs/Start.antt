@@ -1,0 +1,188 @@
+-- The words that a start state gives are those of its state, and they fit their targets.
+use Rattle.std.proofs.Common.{◌≡◌, ◌∙◌, ℕ, zero, suc, ◌+◌, ◌-◌, ◌^◌, ◌<◌, ◌≤◌, List, [], ◌∷◌, Option, Some, None, Bool, true, false, cond, ◌&&◌, length, get_or, take, refl, ap, sym, subst, arith}
+use Rattle.std.specs.Prelude.{slice_index, slice_get, ◌==◌, nat_le, nat_lt, is_some, not}
+use Rattle.std.specs.List.{filter}
+use Rattle.std.proofs.lemmas.Bool.{cases_lt, and_parts, leb-true, cond-true, le-leb, lt-ltb}
+use Rattle.std.proofs.lemmas.List.{get_or_past}
+use Rattle.std.proofs.lemmas.Nat.{pow_pos}
+use Rattle.std.proofs.Common.{⊎_elim}
+use Rattle.std.proofs.Math.Dec.{eqb-suc-zero}
+use Rattle.kp_base.specs.Refusal.{e_rule}
+use Rattle.kp_base.specs.Check.{ok, ◌>>=◌}
+use Rattle.kp_bits.specs.Word.{Word, word}
+use Rattle.kp_ast.specs.declared.tree.Decl.{Decl}
+use Rattle.kp_ast.specs.declared.tree.Decl.TheVariants as decls
+use Rattle.kp_ast.specs.declared.widths.NameKind.TheVariants as kinds
+use Rattle.kp_ast.specs.declared.tree.Job.{Job}
+use Rattle.kp_width.specs.Widths.{widths_of}
+use Rattle.kp_width.specs.Statements.{blocks_of}
+use Rattle.kp_width.specs.Names.{Scoped, nothing, sense, find, declared_text}
+use Rattle.kp_width.specs.Expressions.{is_width}
+use Rattle.kp_width.specs.Declarations.{declared, start_of, started_of, addresses_of, after_name, declaration_of, declarations_of}
+use Rattle.kp_width.proofs.Unbroken.{Unbroken, bind_unbroken, answer_unbroken}
+use Rattle.kp_stage.specs.Start.{AreRegs, AreFiles, IsStartOf}
+use Rattle.kp_stage.specs.declared.start.Start.{Start}
+use Rattle.kp_machine.specs.Slots.{Slot, slot, targets_of, is_register}
+use Rattle.kp_machine.specs.Machine.{registers_before, files_before, register_words, file_words, target_words, state_of}
+use Rattle.kp_seq.specs.Running.{Running, HasWord, no_slot, target, words_of_start, state_in, state, word_shown}
+use Rattle.kp_seq.specs.Steps.{fitted, zero_bit}
+use Rattle.kp_seq.specs.Ready.{FitSlots}
+
+-- the width of a target is 1 to 64, and that of the addresses of a file is not 0
+abbrev pub Fine : List Decl → Type 0
+Fine [] = Unit {0}
+Fine (decls.Reg n width start ∷ ds) = (1 ≤ width.value) × (width.value ≤ 64) × Fine ds
+Fine (decls.File n width address ∷ ds) = (1 ≤ width.value) × (width.value ≤ 64) × (1 ≤ address.value) × Fine ds
+Fine (_ ∷ ds) = Fine ds
+
+bounds : (w : ℕ) → is_width w ≡ true → (1 ≤ w) × (w ≤ 64)
+bounds w e = let p = and_parts (nat_le 1 w) (nat_le w 64) e in (leb-true 1 w p.0, leb-true w 64 p.1)
+
+-- which phase 3 checks
+pub all_fine : (ds : List Decl) (i k : ℕ) (s : Scoped) (rest : List Decl) → Unbroken (declarations_of ds i k s rest) → Fine rest
+all_fine ds i k s [] u = tt
+all_fine ds i k s (decls.Reg n width start ∷ rest) u =
+    let x = bind_unbroken (declaration_of ds i k s (decls.Reg n width start)) (λ t. declarations_of ds (i + 1) (k + 0) t rest) u in
+    let y = (answer_unbroken (not (is_some (find s n.name))) (e_rule 5 n.at) (after_name ds i k s (decls.Reg n width start)).asked x.0).1 in
+    let z = (bind_unbroken (started_of width start) (λ w. ok (declared_text s n.name (sense kinds.Reg w i))) y).0 in
+    let d = (bind_unbroken (declared width) (λ w. start_of start w >>= (λ v. ok w)) z).0 in
+    let b = bounds width.value (answer_unbroken (is_width width.value) (e_rule 8 width.at) [] d).0 in
+    (b.0, b.1, all_fine ds (i + 1) (k + 0) _ rest x.1)
+all_fine ds i k s (decls.File n width address ∷ rest) u =
+    let x = bind_unbroken (declaration_of ds i k s (decls.File n width address)) (λ t. declarations_of ds (i + 1) (k + 0) t rest) u in
+    let y = (answer_unbroken (not (is_some (find s n.name))) (e_rule 5 n.at) (after_name ds i k s (decls.File n width address)).asked x.0).1 in
+    let z = bind_unbroken (declared width) (λ w. addresses_of address >>= (λ a. ok (declared_text s n.name (sense (kinds.File a) w i)))) y in
+    let b = bounds width.value (answer_unbroken (is_width width.value) (e_rule 8 width.at) [] z.0).0 in
+    let v = (bind_unbroken (addresses_of address) (λ a. ok (declared_text s n.name (sense (kinds.File a) width.value i))) z.1).0 in
+    let a = and_parts (nat_le 1 address.value) (nat_le address.value 16) (answer_unbroken (nat_le 1 address.value && nat_le address.value 16) (e_rule 14 address.at) [] v).0 in
+    (b.0, b.1, leb-true 1 address.value a.0, all_fine ds (i + 1) (k + 0) _ rest x.1)
+all_fine ds i k s (decls.Pipe n width ∷ rest) u = all_fine ds (i + 1) (k + 0) _ rest (bind_unbroken (declaration_of ds i k s (decls.Pipe n width)) (λ t. declarations_of ds (i + 1) (k + 0) t rest) u).1
+all_fine ds i k s (decls.Hint n width start ∷ rest) u = all_fine ds (i + 1) (k + 0) _ rest (bind_unbroken (declaration_of ds i k s (decls.Hint n width start)) (λ t. declarations_of ds (i + 1) (k + 0) t rest) u).1
+all_fine ds i k s (decls.Target r ∷ rest) u = all_fine ds (i + 1) (k + 0) _ rest (bind_unbroken (declaration_of ds i k s (decls.Target r)) (λ t. declarations_of ds (i + 1) (k + 0) t rest) u).1
+all_fine ds i k s (decls.Func f ∷ rest) u = all_fine ds (i + 1) (k + 1) _ rest (bind_unbroken (declaration_of ds i k s (decls.Func f)) (λ t. declarations_of ds (i + 1) (k + 1) t rest) u).1
+
+one_word : (v w : ℕ) (a : ℕ) → v < 2 ^ w → slice_index (v ∷ []) a < 2 ^ w
+one_word v w zero h = h
+one_word v w (suc a) h = pow_pos w
+
+some_word : (words : List ℕ) (w a : ℕ) → ((k d : ℕ) → k < length words → get_or words k d < 2 ^ w) → slice_index words a < 2 ^ w
+some_word words w a h = ⊎_elim (λ (x : a < length words). h a 0 x) (λ (x : length words ≤ a). rw (get_or_past words a 0 x) (pow_pos w)) (cases_lt a (length words))
+
+-- the words of a start state fit
+pub start_fits : (ds : List Decl) (regs : List Word) (files : List (List ℕ)) → AreRegs ds regs → AreFiles ds files → FitSlots (targets_of ds) (words_of_start ds regs files)
+start_fits [] regs files r f = refl
+start_fits (decls.Reg n width start ∷ ds) [] files r f = absurd r
+start_fits (decls.Reg n width start ∷ ds) (v ∷ regs) files r f =
+    (record { count = refl; fits = λ a. one_word v.value width.value a (subst (λ w. v.value < 2 ^ w) r.0 r.1.fits) }, start_fits ds regs files r.2 f)
+start_fits (decls.File n width address ∷ ds) regs [] r f = absurd f
+start_fits (decls.File n width address ∷ ds) regs (w ∷ files) r f =
+    (record { count = f.0; fits = λ a. some_word w width.value a f.1 }, start_fits ds regs files r f.2)
+start_fits (decls.Pipe n width ∷ ds) regs files r f = start_fits ds regs files r f
+start_fits (decls.Hint n width start ∷ ds) regs files r f = start_fits ds regs files r f
+start_fits (decls.Target q ∷ ds) regs files r f = start_fits ds regs files r f
+start_fits (decls.Func q ∷ ds) regs files r f = start_fits ds regs files r f
+
+abbrev pub started : List Word → List (List ℕ) → Start
+started regs files = record { regs = regs; files = files }
+
+before_le : (ss : List Slot) (t : ℕ) → registers_before ss t ≤ t
+before_le [] zero = omega arith
+before_le [] (suc t) = omega arith
+before_le (s ∷ ss) zero = omega arith
+before_le (s ∷ ss) (suc t) = counted (is_register s) s (take t ss) t (before_le ss t)
+  where
+    counted : (b : Bool) (s : Slot) (xs : List Slot) (t : ℕ) → length (filter is_register xs) ≤ t → length (cond b (s ∷ filter is_register xs) (filter is_register xs)) ≤ suc t
+    counted true s xs t h = omega arith
+    counted false s xs t h = omega arith
+
+not_zero : (a : ℕ) → 1 ≤ a → (a == 0) ≡ false
+not_zero zero h = absurd (omega arith)
+not_zero (suc a) h = eqb-suc-zero a
+
+-- behind a register, and behind a file
+past_register : (s : Slot) (ss : List Slot) (v : Word) (regs : List Word) (files : List (List ℕ)) (t : ℕ) (o : Option Slot) → is_register s ≡ true
+    → target_words (s ∷ ss) (started (v ∷ regs) files) (suc t) o ≡ target_words ss (started regs files) t o
+past_register s ss v regs files t None h = refl
+past_register s ss v regs files t (Some x) h =
+    let n : registers_before (s ∷ ss) (suc t) ≡ suc (registers_before ss t) = ap (λ b. length (cond b (s ∷ filter is_register (take t ss)) (filter is_register (take t ss)))) h in
+    let m : suc t - suc (registers_before ss t) ≡ files_before ss t = omega arith in
+    ap (λ k. cond (is_register x) (register_words (slice_get (v ∷ regs) k)) (file_words (slice_get files (suc t - k)))) n
+    ∙ ap (λ k. cond (is_register x) (register_words (slice_get regs (registers_before ss t))) (file_words (slice_get files k))) m
+
+past_file : (s : Slot) (ss : List Slot) (w : List ℕ) (regs : List Word) (files : List (List ℕ)) (t : ℕ) (o : Option Slot) → is_register s ≡ false
+    → target_words (s ∷ ss) (started regs (w ∷ files)) (suc t) o ≡ target_words ss (started regs files) t o
+past_file s ss w regs files t None h = refl
+past_file s ss w regs files t (Some x) h =
+    let l = before_le ss t in
+    let n : registers_before (s ∷ ss) (suc t) ≡ registers_before ss t = ap (λ b. length (cond b (s ∷ filter is_register (take t ss)) (filter is_register (take t ss)))) h in
+    let m : suc t - registers_before ss t ≡ suc (files_before ss t) = omega arith in
+    ap (λ k. cond (is_register x) (register_words (slice_get regs k)) (file_words (slice_get (w ∷ files) (suc t - k)))) n
+    ∙ ap (λ k. cond (is_register x) (register_words (slice_get regs (registers_before ss t))) (file_words (slice_get (w ∷ files) k))) m
+
+-- the words of a target in a start state
+pub start_words : (ds : List Decl) (regs : List Word) (files : List (List ℕ)) (t : ℕ) → Fine ds → AreRegs ds regs → AreFiles ds files
+    → get_or (words_of_start ds regs files) t [] ≡ target_words (targets_of ds) (started regs files) t (slice_get (targets_of ds) t)
+start_words [] regs files t g r f = refl
+start_words (decls.Reg n width start ∷ ds) [] files t g r f = absurd r
+start_words (decls.Reg n width start ∷ ds) (v ∷ regs) files zero g r f = refl
+start_words (decls.Reg n width start ∷ ds) (v ∷ regs) files (suc t) g r f =
+    start_words ds regs files t g.2 r.2 f ∙ sym (past_register (slot n width 0) (targets_of ds) v regs files t (slice_get (targets_of ds) t) refl)
+start_words (decls.File n width address ∷ ds) regs [] t g r f = absurd f
+start_words (decls.File n width address ∷ ds) regs (w ∷ files) zero g r f =
+    sym (ap (λ b. cond b (register_words (slice_get regs 0)) w) (not_zero address.value g.2))
+start_words (decls.File n width address ∷ ds) regs (w ∷ files) (suc t) g r f =
+    start_words ds regs files t g.3 r f.2 ∙ sym (past_file (slot n width address.value) (targets_of ds) w regs files t (slice_get (targets_of ds) t) (not_zero address.value g.2))
+start_words (decls.Pipe n width ∷ ds) regs files t g r f = start_words ds regs files t g r f
+start_words (decls.Hint n width start ∷ ds) regs files t g r f = start_words ds regs files t g r f
+start_words (decls.Target q ∷ ds) regs files t g r f = start_words ds regs files t g r f
+start_words (decls.Func q ∷ ds) regs files t g r f = start_words ds regs files t g r f
+
+-- the declarations of a job whose names and widths are right
+pub job_fine : (job : Job) → Unbroken (widths_of job) → Fine job.decls
+job_fine job u =
+    all_fine job.decls 0 0 nothing job.decls
+    (bind_unbroken (declarations_of job.decls 0 0 nothing job.decls) (λ s. blocks_of job.decls 0 s job.blocks >>= (λ t. ok t.entries)) u).0
+
+-- the state of a machine that starts
+pub start_state : (job : Job) (start : Start) (ds : List Decl) → Unbroken (widths_of job) → IsStartOf job start → ds ≡ job.decls
+    → state_in (words_of_start ds start.regs start.files) ≡ state_of job start
+unfolding state_of
+start_state job start ds u suits e =
+    ap (λ (x : List Decl). state_in (words_of_start x start.regs start.files)) e
+    ∙ (λ i t a. slice_index (start_words job.decls start.regs start.files t (job_fine job u) suits.regs suits.files i) a)
+
+-- a target among those of these declarations has a width
+pub target_width : (ds : List Decl) (t : ℕ) → Fine ds → t < length (targets_of ds) → (1 ≤ (get_or (targets_of ds) t no_slot).width) × ((get_or (targets_of ds) t no_slot).width ≤ 64)
+target_width [] t g l = absurd (omega arith)
+target_width (decls.Reg n width start ∷ ds) zero g l = (g.0, g.1)
+target_width (decls.Reg n width start ∷ ds) (suc t) g l = target_width ds t g.2 (omega arith)
+target_width (decls.File n width address ∷ ds) zero g l = (g.0, g.1)
+target_width (decls.File n width address ∷ ds) (suc t) g l = target_width ds t g.3 (omega arith)
+target_width (decls.Pipe n width ∷ ds) t g l = target_width ds t g l
+target_width (decls.Hint n width start ∷ ds) t g l = target_width ds t g l
+target_width (decls.Target q ∷ ds) t g l = target_width ds t g l
+target_width (decls.Func q ∷ ds) t g l = target_width ds t g l
+
+-- and its words fit it
+pub word_fits : (ss : List Slot) (words : List (List ℕ)) (t a : ℕ) → FitSlots ss words → t < length ss → slice_index (get_or words t []) a < 2 ^ (get_or ss t no_slot).width
+word_fits [] words t a h l = absurd (omega arith)
+word_fits (s ∷ ss) [] t a h l = absurd h
+word_fits (s ∷ ss) (w ∷ words) zero a h l = h.0.fits a
+word_fits (s ∷ ss) (w ∷ words) (suc t) a h l = word_fits ss words t a h.1 (omega arith)
+
+both_pass : (a b : Bool) → a ≡ true → b ≡ true → (a && b) ≡ true
+both_pass true b e f = f
+both_pass false b e f = cc
+
+pub fitted_is : (w v : ℕ) → 1 ≤ w → w ≤ 64 → v < 2 ^ w → fitted w v ≡ word w v
+fitted_is w v h k l =
+    cond-true ((nat_le 1 w && nat_le w 64) && nat_lt v (2 ^ w)) (word w v) zero_bit
+    (both_pass _ _ (both_pass _ _ (le-leb 1 w h) (le-leb w 64 k)) (lt-ltb v (2 ^ w) l))
+
+-- a value of a target is shown as it is
+pub shown_is : (m : Running) (t a w : ℕ) → Unbroken (widths_of m.job) → FitSlots (targets_of m.job.decls) m.words → HasWord m.job t a → w ≡ (target m.job t).width
+    → fitted w (state m t a) ≡ word_shown m t a
+shown_is m t a w u fit has e =
+    let b = target_width m.job.decls t (job_fine m.job u) has.target in
+    ap (λ n. fitted n (state m t a)) e
+    ∙ fitted_is (target m.job t).width (state m t a) b.0 b.1 (word_fits (targets_of m.job.decls) m.words t a fit has.target)

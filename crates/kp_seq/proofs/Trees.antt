@@ -1,0 +1,66 @@
+-- A stage of the abstract machine that sees a state, statement by statement.
+use Rattle.std.proofs.Common.{◌≡◌, ◌∙◌, ℕ, List, [], ◌∷◌, Option, Some, None, Bool, true, false, cond, refl}
+use Rattle.kp_ast.specs.declared.tree.Expr.{Expr}
+use Rattle.kp_ast.specs.declared.tree.ReadStmt.{ReadStmt}
+use Rattle.kp_ast.specs.declared.tree.Decl.{Decl}
+use Rattle.kp_ast.specs.declared.tree.Stmt.{Stmt}
+use Rattle.kp_ast.specs.declared.tree.StmtKind.{StmtKind}
+use Rattle.kp_ast.specs.declared.tree.StmtKind.TheVariants as stmts
+use Rattle.kp_law.specs.Machine.{Tree, Done}
+use Rattle.kp_law.specs.Sequential.{StageOutcome, run}
+use Rattle.kp_machine.specs.Slots.{targets_of, pipes_of, hints_of, number_of, result_named}
+use Rattle.kp_machine.specs.Trees.{Progress, holds, value_of, address_of, value_with_hints, word_of, word_read, with_name, with_put, with_set, with_aim, read_of, statement_of, tree_of}
+
+module _ (ds : List Decl) (s : ℕ → ℕ → ℕ) where
+  -- what a stage sees
+  abbrev pub seen : ℕ → ℕ → Option ℕ
+  seen t a = Some (s t a)
+
+  abbrev pub no_hints : ℕ → ℕ
+  no_hints h = 0
+
+  abbrev pub address_read : Progress → ReadStmt → Option Expr → ℕ
+  address_read done r None = address_of ds done r.address
+  address_read done r (Some e) = 0
+
+  -- what a read gives
+  abbrev pub value_read : Progress → ReadStmt → ℕ
+  value_read done r = cond (holds ds done r.when) (s (number_of (targets_of ds) r.target.name) (address_read done r r.guess)) 0
+
+  -- what is done after a statement
+  abbrev pub next : Progress → StmtKind → Progress
+  next done (stmts.Read r) = with_name done r.name.name (word_read ds r (value_read done r))
+  next done (stmts.Let n e) = with_name done n.name (word_of ds done e)
+  next done (stmts.Put n e) = with_put done (number_of (pipes_of ds) n.name) (value_of ds done e)
+  next done (stmts.Set n e when) = cond (holds ds done when) (with_set ds done (result_named ds n.name) (value_of ds done e)) done
+  next done (stmts.Aim n e) = with_aim done (number_of (hints_of ds) n.name) (value_with_hints ds done e)
+
+  abbrev pub nexts : Progress → List Stmt → Progress
+  nexts done [] = done
+  nexts done (x ∷ xs) = nexts (next done x.kind) xs
+
+  abbrev outcome : Tree → StageOutcome
+  outcome = run seen no_hints
+
+  read_runs : (done : Progress) (r : ReadStmt) (guess : Option Expr) (b : Bool) (rest : Progress → Tree)
+      → outcome (cond b (read_of ds done r guess (λ v. rest (with_name done r.name.name (word_read ds r v)))) (rest (with_name done r.name.name (word_read ds r 0))))
+      ≡ outcome (rest (with_name done r.name.name (word_read ds r (cond b (s (number_of (targets_of ds) r.target.name) (address_read done r guess)) 0))))
+  read_runs done r None true rest = refl
+  read_runs done r (Some e) true rest = refl
+  read_runs done r guess false rest = refl
+
+  set_runs : (done more : Progress) (b : Bool) (rest : Progress → Tree) → outcome (cond b (rest more) (rest done)) ≡ outcome (rest (cond b more done))
+  set_runs done more true rest = refl
+  set_runs done more false rest = refl
+
+  one_runs : (done : Progress) (x : StmtKind) (rest : Progress → Tree) → outcome (statement_of ds done x rest) ≡ outcome (rest (next done x))
+  one_runs done (stmts.Read r) rest = read_runs done r r.guess (holds ds done r.when) rest
+  one_runs done (stmts.Let n e) rest = refl
+  one_runs done (stmts.Put n e) rest = refl
+  one_runs done (stmts.Set n e when) rest = set_runs done (with_set ds done (result_named ds n.name) (value_of ds done e)) (holds ds done when) rest
+  one_runs done (stmts.Aim n e) rest = refl
+
+  -- a stage runs as its statements go, one after another
+  pub stage_runs : (done : Progress) (xs : List Stmt) → outcome (tree_of ds done xs) ≡ outcome (Done (nexts done xs).puts (nexts done xs).sets (nexts done xs).aims)
+  stage_runs done [] = refl
+  stage_runs done (x ∷ xs) = one_runs done x.kind (λ more. tree_of ds more xs) ∙ stage_runs (next done x.kind) xs

@@ -1,0 +1,6 @@
+pub mod Running
+pub mod Tables
+pub mod Names
+pub mod Values
+pub mod Steps
+pub mod Ready

@@ -1,0 +1,11 @@
+//! The sequential machine of a design: it runs one instruction at a time.
+#![tactic(auto)]
+
+mod instruction;
+pub mod laws;
+mod machine;
+mod tables;
+mod value;
+mod words;
+
+pub use machine::SeqMachine;

@@ -1,0 +1,81 @@
+ghost use Rattle.std.specs.Prelude.{◌≡◌, IfOk};
+ghost use Rattle.kp_stage.specs.Start.{IsStartOf};
+ghost use Rattle.kp_machine.specs.Machine.{state_of};
+ghost use Rattle.kp_seq.specs.Running.{HasWord, state, after_one, word_shown};
+
+use crate::instruction::{Instruction, execute, fitted, zero_bit};
+use crate::tables::Tables;
+use crate::words::Words;
+use kp_base::NoMemory;
+use kp_bits::Bits;
+use kp_stage::{Design, Start};
+use std::alloc::Global;
+use std::marker::Model;
+
+/// A machine that runs one instruction at a time, seen as the job of its design and the state that it is in.
+#[derive(Drop)]
+pub struct SeqMachine<'a> {
+    design: &'a Design,
+    tables: Tables<'a>,
+    under: Instruction,
+    room: Vec<Bits>,
+    words: Words,
+}
+
+impl<'a> Model for SeqMachine<'a> {
+    ghost use Rattle.std.specs.Coded.{codes};
+    ghost use Rattle.std.specs.Prelude.{length};
+    ghost use Rattle.kp_ast.specs.contracts.tree.ExprKind as e;
+    ghost use Rattle.kp_seq.specs.Running.{Running};
+    ghost use Rattle.kp_seq.specs.Ready.{IsReady};
+
+    ghost Value = { Running };
+
+    ghost coded = { Prim.hlevel (codes, e.the_row.coded) };
+
+    ghost view = { λ m. record { job = m.design.now.job; words = m.words } };
+
+    ghost invariant = { λ m. IsReady m.design.now.job m.tables m.under (length m.room.items) m.words };
+}
+
+impl<'a> SeqMachine<'a> {
+    /// The machine of a design in a start state. Takes all its memory here, and want of it is the one refusal.
+    pub fn open(alloc: Global, d: &'a Design, start: &Start) -> Result<SeqMachine<'a>, NoMemory>
+        requires suits { IsStartOf d.now.job start.now }
+        ensures job { IfOk result (λ m. m.job ≡ d.now.job) }
+        ensures state { IfOk result (λ m. state m ≡ state_of d.now.job start.now) }
+    {
+        let tables = Tables::lay_out(alloc, d)?;
+        let under = Instruction::new(alloc, &tables)?;
+        let room = vec![in alloc; zero_bit(); d.summary().size as usize]?;
+        let words = Words::start(alloc, d.job().decls.as_slice(), start)?;
+        Ok(SeqMachine {
+            design: d,
+            tables,
+            under,
+            room,
+            words,
+        })
+    }
+
+    /// Runs one instruction. Takes no memory.
+    pub fn step(&mut self)
+        ensures job { self.new.job ≡ self.old.job }
+        ensures state { state self.new ≡ after_one self.old.job (state self.old) }
+    {
+        let blocks = self.design.job().blocks.as_slice();
+        let room = self.room.as_mut_slice();
+        execute(&self.tables, &mut self.under, room, blocks, &mut self.words);
+    }
+
+    /// The value of a target at an address. The targets are the registers and files in the order of declaration. A register
+    /// has address 0.
+    pub fn value(&self, target: u32, address: u32) -> Bits
+        requires { HasWord self.now.job target address }
+        ensures { result ≡ word_shown self.now target address }
+    {
+        let target = target as usize;
+        let width = self.tables.target_width(target);
+        fitted(width, self.words.word(target, u64::from(address)))
+    }
+}

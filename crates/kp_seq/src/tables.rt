@@ -1,0 +1,241 @@
+//! What is looked up while instructions run. It is laid out once, at the opening.
+ghost use Rattle.std.specs.Prelude.{[], ◌≡◌, ◌<◌, ℕ, length, IfOk, OnOk, get_or, IfSome};
+ghost use Rattle.std.specs.List.{position};
+ghost use Rattle.kp_ast.specs.Expressions.{is_same_name};
+ghost use Rattle.kp_machine.specs.Slots.{targets_of, pipes_of, number_of, width_of, result_to, result_named};
+ghost use Rattle.kp_seq.specs.Ready.{AreTables};
+ghost use Rattle.kp_seq.specs.Running.{no_slot};
+ghost use Rattle.kp_seq.specs.Tables.{keys_of, port_of, ports_of, pipe_number};
+
+use indexmap::IndexSet;
+use kp_ast::{Decl, Name, Named, Num, Widths};
+use kp_base::NoMemory;
+use kp_stage::Design;
+use std::alloc::Global;
+use std::marker::Model;
+
+/// What holds values: a register, a file or a pipe. A register and a pipe have no addresses, so their width is 0.
+#[derive(Drop)]
+pub(crate) struct Slot {
+    pub name: Name,
+    pub width: u64,
+    pub address: u64,
+}
+
+impl Model for Slot {
+    ghost use Rattle.kp_machine.specs.Slots.{Slot};
+
+    ghost Value = { Slot };
+
+    ghost view = { λ s. record { name = s.name; width = s.width; address = s.address } };
+}
+
+impl Slot {
+    ghost use Rattle.kp_machine.specs.Slots.{slot};
+
+    fn new(named: &Named, width: &Num, address: u64) -> Result<Slot, NoMemory>
+        ensures { IfOk result (λ s. s ≡ slot named.now width.now address) }
+    {
+        let name = named.name.clone()?;
+        Ok(Slot {
+            name,
+            width: width.value,
+            address,
+        })
+    }
+}
+
+/// The registers and files in the order of declaration.
+pub(crate) fn targets(alloc: Global, decls: &[Decl]) -> Result<Vec<Slot>, NoMemory>
+    ensures { IfOk result (λ slots. slots.items ≡ targets_of decls.now) }
+{
+    let mut slots = Vec::new(alloc);
+    for decl in decls {
+        match decl {
+            Decl::Reg(name, width, _) => slots.push(Slot::new(name, width, 0)?)?,
+            Decl::File(name, width, address) => slots.push(Slot::new(name, width, address.value)?)?,
+            _ => {}
+        }
+    }
+    Ok(slots)
+}
+
+/// The pipes in the order of declaration.
+pub(crate) fn pipes(alloc: Global, decls: &[Decl]) -> Result<Vec<Slot>, NoMemory>
+    ensures { IfOk result (λ slots. slots.items ≡ pipes_of decls.now) }
+{
+    let mut slots = Vec::new(alloc);
+    for decl in decls {
+        if let Decl::Pipe(name, width) = decl {
+            slots.push(Slot::new(name, width, 0)?)?;
+        }
+    }
+    Ok(slots)
+}
+
+/// The number of the first of this name, or how many there are where none has it.
+pub(crate) fn number_of(slots: &[Slot], name: &Name) -> usize
+    ensures { result ≡ number_of slots.now name.now }
+{
+    for (i, slot) in slots.iter().enumerate() {
+        if *name == slot.name {
+            return i;
+        }
+    }
+    slots.len()
+}
+
+/// The width of the values of the first of this name, or 0 where none has it.
+pub(crate) fn width_of(slots: &[Slot], name: &Name) -> u64
+    ensures { result ≡ width_of slots.now name.now }
+{
+    for slot in slots {
+        if *name == slot.name {
+            return slot.width;
+        }
+    }
+    0
+}
+
+/// How a target is written: the numbers of the pipes that enable it and that have its address.
+#[derive(Clone, Copy)]
+pub(crate) struct Port {
+    pub enable: Option<usize>,
+    pub address: Option<usize>,
+}
+
+/// The port of each target: that of its first result, where it has one.
+pub(crate) fn ports(
+    alloc: Global,
+    decls: &[Decl],
+    targets: &[Slot],
+    pipes: &[Slot],
+) -> Result<Vec<Option<Port>>, NoMemory>
+    requires targets { targets.now ≡ targets_of decls.now }
+    requires pipes { pipes.now ≡ pipes_of decls.now }
+    ensures { IfOk result (λ ports. ports.items ≡ ports_of decls.now) }
+{
+    let mut ports = Vec::new(alloc);
+    for t in 0..targets.len() {
+        ports.push(port_to(decls, targets, pipes, t))?;
+    }
+    Ok(ports)
+}
+
+fn port_to(decls: &[Decl], targets: &[Slot], pipes: &[Slot], t: usize) -> Option<Port>
+    ensures { result ≡ port_of pipes.now (result_to targets.now decls.now t) }
+{
+    for decl in decls {
+        if let Decl::Target(r) = decl {
+            if number_of(targets, &r.target.name) == t {
+                return Some(Port {
+                    enable: pipe_number(pipes, &r.enable),
+                    address: pipe_number(pipes, &r.address),
+                });
+            }
+        }
+    }
+    None
+}
+
+fn pipe_number(pipes: &[Slot], name: &Option<Named>) -> Option<usize>
+    ensures { result ≡ pipe_number pipes.now name.now }
+{
+    match name {
+        Some(named) => Some(number_of(pipes, &named.name)),
+        None => None,
+    }
+}
+
+/// What a machine looks up, with the declarations that it borrows.
+#[derive(Drop)]
+pub(crate) struct Tables<'a> {
+    pub decls: &'a [Decl],
+    pub targets: Vec<Slot>,
+    pub pipes: Vec<Slot>,
+    pub ports: Vec<Option<Port>>,
+    pub names: Keys,
+}
+
+impl<'a> Model for Tables<'a> {
+    ghost use Rattle.std.specs.Coded.{codes};
+    ghost use Rattle.kp_ast.specs.contracts.tree.ExprKind as e;
+    ghost use Rattle.kp_seq.specs.Tables.{Laid};
+
+    ghost Value = { Laid };
+
+    ghost coded = { Prim.hlevel (codes, e.the_row.coded) };
+
+    ghost view = { λ t. record { decls = t.decls.now; targets = t.targets.items; pipes = t.pipes.items; ports = t.ports.items; names = t.names } };
+}
+
+impl<'a> Tables<'a> {
+    /// The width of the values of a target.
+    #[tactic(auto, using(std::proofs::lemmas::List::get_or_default))]
+    pub fn target_width(&self, target: usize) -> u64
+        requires { target < length self.now.targets }
+        ensures { result ≡ (get_or self.now.targets target no_slot).width }
+    {
+        self.targets[target].width
+    }
+
+    /// The tables of a design.
+    pub fn lay_out(alloc: Global, d: &'a Design) -> Result<Tables<'a>, NoMemory>
+        ensures { IfOk result (λ t. AreTables d.now.job t) }
+    {
+        let decls = d.job().decls.as_slice();
+        let targets = targets(alloc, decls)?;
+        let pipes = pipes(alloc, decls)?;
+        let ports = ports(alloc, decls, targets.as_slice(), pipes.as_slice())?;
+        let names = Keys::of(alloc, d.widths())?;
+        Ok(Tables {
+            decls,
+            targets,
+            pipes,
+            ports,
+            names,
+        })
+    }
+}
+
+/// Names, each with a place.
+#[derive(Drop)]
+pub(crate) struct Keys {
+    names: IndexSet<Name>,
+}
+
+impl Model for Keys {
+    ghost use Rattle.std.specs.Prelude.{List, ℕ};
+
+    ghost Value = { List (List ℕ) };
+
+    ghost view = { λ k. k.names.keys };
+}
+
+impl Keys {
+    /// The names that are declared, each once.
+    fn of(alloc: Global, widths: &Widths) -> Result<Keys, NoMemory>
+        ensures { IfOk result (λ keys. keys ≡ keys_of [] widths.now.entries) }
+    {
+        let mut names = IndexSet::new(alloc);
+        for entry in widths.entries.as_slice() {
+            names.insert(entry.name.clone()?)?;
+        }
+        Ok(Keys { names })
+    }
+
+    /// How many names there are.
+    pub fn len(&self) -> usize
+        ensures { result ≡ length self.now }
+    {
+        self.names.len()
+    }
+
+    /// The place of a name.
+    pub fn place(&self, name: &Name) -> Option<usize>
+        ensures place { result ≡ position (is_same_name name.now) self.now }
+        ensures within { IfSome result (λ i. i < length self.now) }
+    {
+        self.names.get_index_of(name)
+    }
+}
