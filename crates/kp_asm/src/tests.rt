@@ -16,6 +16,16 @@ fn outcome(alloc: Global, text: &[u8]) -> (u8, u32, u32) {
     }
 }
 
+// The outcome of a text behind 1,024 words.
+fn outcome_behind(alloc: Global, text: &[u8]) -> Result<(u8, u32, u32), Fail> {
+    let mut long = Vec::new(alloc);
+    for _ in 0..1024 {
+        long.extend_from_slice(b"nop\n")?;
+    }
+    long.extend_from_slice(text)?;
+    Ok(outcome(alloc, long.as_slice()))
+}
+
 #[test]
 fn programs(rt: HostRuntime) -> Result<(), Fail> {
     let alloc = rt.alloc();
@@ -142,17 +152,150 @@ fn programs(rt: HostRuntime) -> Result<(), Fail> {
         assert_eq!(rt; outcome(alloc, text), *want);
     }
 
-    let mut long = Vec::new(alloc);
-    for _ in 0..1024 {
-        long.extend_from_slice(b"nop\n")?;
+    let behind: &[(&[u8], (u8, u32, u32))] = &[
+        (b"", (0, 1024, 0)),
+        (b"nop", (7, 1025, 1)),
+        (b"x:\nx: .word 1", (7, 1026, 4)),
+        (
+            b"; no word\n\n  y:\n  y: add r1, r2, r3 ; one\nnop",
+            (7, 1028, 6),
+        ),
+        (b"add r1, r2", (3, 1025, 11)),
+        (b"lhi r1, 65536", (5, 1025, 9)),
+        (b"j z", (7, 1025, 1)),
+    ];
+    for (text, want) in behind {
+        assert_eq!(rt; outcome_behind(alloc, text)?, *want);
     }
-    assert_eq!(rt; outcome(alloc, long.as_slice()), (0, 1024, 0));
-    long.extend_from_slice(b"x:\nx: .word 1")?;
-    assert_eq!(rt; outcome(alloc, long.as_slice()), (7, 1026, 4));
 
     let text = image_text(alloc, &[0x2001_0003, 0, 0xffff_ffff])?;
     let want =
         b"image {\n  IM[0] = 32'h20010003;\n  IM[1] = 32'h00000000;\n  IM[2] = 32'hffffffff;\n}\n";
     assert_eq!(rt; text.as_slice(), want.as_slice());
+    Ok(())
+}
+
+#[test]
+fn random_programs(rt: HostRuntime) -> Result<(), Fail> {
+    let alloc = rt.alloc();
+    let programs: &[(&[u8], &[u32])] = &[
+        (
+            b"L0:jalr r31\nL1:addi r4,r1,18\nL2:or r1,r2,r3\nL3:xori r3,r1,42\nL4:j L4\nL5:lhi r3,27045\n",
+            &[
+                0x5fe00000, 0x20240012, 0x00430825, 0x3823002a, 0x0bfffffc, 0x3c0369a5,
+            ],
+        ),
+        (
+            b"L0:bnez r2 , L5\nL1:slt r5 , r2 , r1\nL2:add r2 , r5 , r1\nL3:mul r4 , r1 , r0\nL4:jalr r4\nL5:slt r2 , r1 , r5\n",
+            &[
+                0x14400010, 0x0041282a, 0x00a11020, 0x00202018, 0x5c800000, 0x0025102a,
+            ],
+        ),
+        (
+            b"L0:xori r1,r5,0xdda5 ; x\r\nL1:jr r31 ; x\r\nL2:bnez r31,L4 ; x\r\nL3:mul r0,r4,r0 ; x\r\nL4:ori r1,r1,15051 ; x\r\nL5:addi r5,r5,19935 ; x\r\nL6:sll r0,r3,r4 ; x\r\n",
+            &[
+                0x38a1dda5, 0x5be00000, 0x17e00004, 0x00800018, 0x34213acb, 0x20a54ddf, 0x00640004,
+            ],
+        ),
+        (
+            b"L0:jr r5\nL1:j L2\nL2:jal L6\nL3:sub r31,r0,r1\nL4:jr r5\nL5:beqz r5,L5\nL6:lw r1,0(r2)\n",
+            &[
+                0x58a00000, 0x08000000, 0x0c00000c, 0x0001f822, 0x58a00000, 0x10a0fffc, 0x8c410000,
+            ],
+        ),
+        (
+            b"L0:srl r1,r1,r31\nL1:j L1\nL2:xor r5,r0,r3\nL3:sll r1,r31,r5\nL4:slt r3,r31,r0\n",
+            &[0x003f0806, 0x0bfffffc, 0x00032826, 0x03e50804, 0x03e0182a],
+        ),
+        (
+            b"L0:jr r2\nL1:jalr r0\nL2:beqz r3 , L2\nL3:slt r3 , r31 , r3\nL4:and r4 , r3 , r1\nL5:add r5 , r5 , r4\nL6:and r31 , r4 , r4\n",
+            &[
+                0x58400000, 0x5c000000, 0x1060fffc, 0x03e3182a, 0x00612024, 0x00a42820, 0x0084f824,
+            ],
+        ),
+        (
+            b"L0:sll r2,r2,r4 ; x\r\nL1:or r0,r0,r1 ; x\r\nL2:bnez r3,L5 ; x\r\nL3:beqz r31,L2 ; x\r\nL4:xori r0,r31,50 ; x\r\nL5:jal L0 ; x\r\nL6:nop  ; x\r\n",
+            &[
+                0x00441004, 0x00010025, 0x14600008, 0x13e0fff8, 0x3be00032, 0x0fffffe8, 0x00000000,
+            ],
+        ),
+        (
+            b"L0:nop \nL1:jal L5\nL2:bnez r0,L5\nL3:beqz r5,L5\nL4:beqz r3,L3\nL5:slt r31,r5,r0\nL6:j L5\nL7:lw r1,6(r4)\n",
+            &[
+                0x00000000, 0x0c00000c, 0x14000008, 0x10a00004, 0x1060fff8, 0x00a0f82a, 0x0bfffff8,
+                0x8c810006,
+            ],
+        ),
+        (
+            b"L0:jal L6\nL1:jr r2\nL2:j L4\nL3:nop \nL4:jal L4\nL5:xor r3,r5,r5\nL6:lhi r1,0xa7c8\nL7:seq r5,r0,r4\n",
+            &[
+                0x0c000014, 0x58400000, 0x08000004, 0x00000000, 0x0ffffffc, 0x00a51826, 0x3c01a7c8,
+                0x00042828,
+            ],
+        ),
+        (
+            b"L0:srl r4 , r4 , r5\nL1:lhi r5 , 16\nL2:beqz r5 , L0\nL3:sll r2 , r2 , r1\nL4:jal L2\nL5:and r1 , r2 , r2\n",
+            &[
+                0x00852006, 0x3c050010, 0x10a0fff4, 0x00411004, 0x0ffffff4, 0x00420824,
+            ],
+        ),
+        (
+            b"L0:beqz r3,L0 ; x\r\nL1:lhi r3,0x11 ; x\r\nL2:ori r1,r3,0xf7a1 ; x\r\nL3:j L0 ; x\r\nL4:srl r3,r3,r3 ; x\r\n",
+            &[0x1060fffc, 0x3c030011, 0x3461f7a1, 0x0bfffff0, 0x00631806],
+        ),
+        (
+            b"L0:nop \nL1:sw r0,-4272(r5)\nL2:srl r4,r2,r3\nL3:or r2,r4,r1\nL4:sll r4,r4,r2\n",
+            &[0x00000000, 0xaca0ef50, 0x00432006, 0x00811025, 0x00822004],
+        ),
+        (
+            b"L0:j L6\nL1:slt r4,r31,r5\nL2:beqz r1,L4\nL3:lw r0,9(r4)\nL4:sw r1,20(r5)\nL5:jalr r1\nL6:sll r31,r31,r0\n",
+            &[
+                0x08000014, 0x03e5202a, 0x10200004, 0x8c800009, 0xaca10014, 0x5c200000, 0x03e0f804,
+            ],
+        ),
+        (
+            b"L0:beqz r5 , L4\nL1:j L3\nL2:jr r5\nL3:xori r3 , r2 , 7\nL4:beqz r2 , L0\nL5:nop \nL6:slt r4 , r3 , r5\nL7:and r5 , r31 , r2\n",
+            &[
+                0x10a0000c, 0x08000004, 0x58a00000, 0x38430007, 0x1040ffec, 0x00000000, 0x0065202a,
+                0x03e22824,
+            ],
+        ),
+        (
+            b"L0:jalr r31 ; x\r\nL1:sll r1,r5,r0 ; x\r\nL2:ori r31,r0,49 ; x\r\nL3:jal L4 ; x\r\nL4:slt r2,r0,r3 ; x\r\n",
+            &[0x5fe00000, 0x00a00804, 0x341f0031, 0x0c000000, 0x0003102a],
+        ),
+        (
+            b"L0:jalr r0\nL1:slti r1,r5,-6175\nL2:beqz r0,L1\nL3:lw r5,34(r4)\nL4:nop \nL5:sw r1,8981(r31)\n",
+            &[
+                0x5c000000, 0x28a1e7e1, 0x1000fff8, 0x8c850022, 0x00000000, 0xafe12315,
+            ],
+        ),
+        (
+            b"L0:lw r3,-9541(r4)\nL1:slti r1,r1,5420\nL2:slt r31,r3,r1\nL3:or r1,r0,r4\nL4:xor r4,r31,r2\n",
+            &[0x8c83dabb, 0x2821152c, 0x0061f82a, 0x00040825, 0x03e22026],
+        ),
+        (
+            b"L0:jalr r31\nL1:jalr r0\nL2:addi r31 , r2 , 21\nL3:beqz r0 , L0\nL4:slt r3 , r2 , r3\nL5:seq r0 , r31 , r31\nL6:ori r31 , r5 , 3223\n",
+            &[
+                0x5fe00000, 0x5c000000, 0x205f0015, 0x1000fff0, 0x0043182a, 0x03ff0028, 0x34bf0c97,
+            ],
+        ),
+        (
+            b"L0:nop  ; x\r\nL1:lw r4,-23923(r31) ; x\r\nL2:or r3,r3,r0 ; x\r\nL3:add r5,r0,r5 ; x\r\nL4:jr r31 ; x\r\nL5:sub r4,r1,r3 ; x\r\nL6:mul r2,r2,r4 ; x\r\n",
+            &[
+                0x00000000, 0x8fe4a28d, 0x00601825, 0x00052820, 0x5be00000, 0x00232022, 0x00441018,
+            ],
+        ),
+        (
+            b"L0:or r5,r0,r1\nL1:seq r4,r3,r31\nL2:sub r0,r31,r31\nL3:nop \nL4:xori r0,r1,28379\n",
+            &[0x00012825, 0x007f2028, 0x03ff0022, 0x00000000, 0x38206edb],
+        ),
+    ];
+    for (text, want) in programs {
+        if text.len() < 100_000 {
+            let words = assemble(alloc, text)?;
+            assert_eq!(rt; words.as_slice(), *want);
+        }
+    }
     Ok(())
 }

@@ -1,5 +1,6 @@
 pub mod Clocking
 pub mod Counter
 pub mod Reached
+pub mod Running
 pub mod Settling
 pub mod Spans

@@ -2,6 +2,7 @@
 #![tactic(auto)]
 
 mod clock;
+pub mod laws;
 mod memory;
 mod nodes;
 mod sim;
