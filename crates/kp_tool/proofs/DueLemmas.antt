@@ -1,25 +1,30 @@
 -- The laws of what is due that the top call needs.
-use Rattle.std.proofs.Common.{sym, subst, IfSome, ap, [], ◌++◌, ◌⊎◌, ◌∙◌, inl, None, arith, append-nil, length-append, ◌≡◌, ℕ, ◌<◌, List, length, refl, inr, Some, Err}
+use Rattle.std.proofs.Common.{sym, subst, IfSome, ap, [], ◌++◌, ◌⊎◌, ◌∙◌, inl, None, arith, append-nil, length-append, ◌≡◌, ℕ, ◌<◌, ◌≤◌, List, length, refl, inr, Some, Ok, Err}
 use Rattle.std.specs.declared.option.Option.{Option}
 use Rattle.std.proofs.lemmas.Bool.{lt-ltb}
-use Rattle.std.specs.Io.KnownBytes.{Consumes}
+use Rattle.std.specs.Io.KnownBytes.{Consumes, Appends}
+use Rattle.kp_tool.specs.declared.answer.Answer.{Answer}
+use Rattle.kp_tool.specs.declared.answer.Answer.TheVariants as answers
+use Rattle.kp_tool.specs.declared.answer.Ready.{Ready}
+use Rattle.kp_tool.specs.Answer.{status_of, text_of, ready_status, ready_text}
 use Rattle.kp_tool.specs.declared.words.Command.TheVariants.{OnJob, Assemble}
 use Rattle.kp_tool.specs.declared.words.Command.{Command}
 use Rattle.std.specs.declared.result.Result.{Result}
 use Rattle.kp_base.specs.declared.refusal.Refusal.{Refusal}
-use Rattle.kp_tool.specs.Form.{Job}
+use Rattle.kp_ast.specs.declared.tree.Job.{Job}
+use Rattle.kp_tool.specs.declared.words.JobCommand.{JobCommand}
+use Rattle.kp_tool.specs.Judging.{Judges, JudgesText, too_long, most_bytes}
+use Rattle.kp_tool.specs.Judging.Judges.{over, within}
 use Rattle.kp_tool.specs.Words.{command_of, reads_input}
 use Rattle.kp_tool.specs.Texts.{refusal_line}
-use Rattle.kp_tool.specs.Due.{Completes, Due, DueFor, DueOfProgram, program_of, IsDue, IsWhole, Judges, too_long}
+use Rattle.kp_tool.specs.Due.{Completes, Due, DueFor, DueOfJob, DueOfProgram, program_of, IsDue, IsFinal, IsWhole}
 
 too_long_due : (command : Command) (old new : Option (List ℕ)) (taken : List ℕ) → Consumes old new taken → length taken ≡ 16777217 → IsWhole (reads_input (Some command)) taken new × DueFor (Some command) taken 2 (refusal_line too_long)
-unfolding Judges program_of
-too_long_due (OnJob command) old new taken consumed count =
-    let over : 16777216 < length taken = omega arith in
-    (inr count, (Err too_long, rw (lt-ltb 16777216 (length taken) over) refl, (refl, refl)))
+unfolding program_of
+too_long_due (OnJob command) old new taken consumed count = (inr count, (Err too_long, over (omega arith), (refl, refl)))
 too_long_due Assemble old new taken consumed count =
-    let over : 16777216 < length taken = omega arith in
-    (inr count, rw (lt-ltb 16777216 (length taken) over) (refl, refl))
+    let long : 16777216 < length taken = omega arith in
+    (inr count, rw (lt-ltb 16777216 (length taken) long) (refl, refl))
 
 -- past the most bytes that fit, the refusal is due, whatever the source has left
 pub too_long_is_due : (words : List (List ℕ)) (command : Command) (old new : Option (List ℕ)) (taken : List ℕ) → command_of words ≡ Some command → Consumes old new taken → length taken ≡ 16777217 → IsDue words old new 2 (refusal_line too_long)
@@ -33,26 +38,23 @@ too_long_is_due words command old new taken is_command consumed count =
     }
 
 -- what is judged of the bytes that were taken is judged of all
-judges_all : (taken rest : List ℕ) (verdict : Result Job Refusal) → ((rest ≡ []) ⊎ (length taken ≡ 16777217)) → Judges taken verdict → Judges (taken ++ rest) verdict
-unfolding Judges
-judges_all taken rest verdict (inl none) judged = rw (none, append-nil) judged
-judges_all taken rest verdict (inr over) judged =
-    let taken_over : 16777216 < length taken = omega arith in
-    let all_over : 16777216 < length (taken ++ rest) = simp length-append (omega arith) in
-    judged ∙ rw (lt-ltb 16777216 (length taken) taken_over, lt-ltb 16777216 (length (taken ++ rest)) all_over) refl
+judges_all : (taken rest : List ℕ) {verdict : Result Job Refusal} → ((rest ≡ []) ⊎ (length taken ≡ 16777217)) → Judges taken verdict → Judges (taken ++ rest) verdict
+judges_all taken rest {verdict} (inl none) judged = subst (λ (bytes : List ℕ). Judges bytes verdict) (sym (ap (λ (r : List ℕ). taken ++ r) none ∙ append-nil taken)) judged
+judges_all taken rest (inr count) (over long) = over (simp length-append (omega arith))
+judges_all taken rest (inr count) (within short judged) = absurd (omega arith)
 
 -- the same of a program
 program_all : (taken rest : List ℕ) → ((rest ≡ []) ⊎ (length taken ≡ 16777217)) → program_of (taken ++ rest) ≡ program_of taken
 unfolding program_of
 program_all taken rest (inl none) = rw (none, append-nil) refl
-program_all taken rest (inr over) =
+program_all taken rest (inr count) =
     let taken_over : 16777216 < length taken = omega arith in
     let all_over : 16777216 < length (taken ++ rest) = simp length-append (omega arith) in
     rw (lt-ltb 16777216 (length taken) taken_over, lt-ltb 16777216 (length (taken ++ rest)) all_over) refl
 
 due_all_for : (command : Option Command) (taken rest : List ℕ) (status : ℕ) (text : List ℕ) → IsWhole (reads_input command) taken (Some rest) → DueFor command taken status text → DueFor command (taken ++ rest) status text
 due_all_for None taken rest status text whole due = due
-due_all_for (Some (OnJob command)) taken rest status text whole (verdict, judged, said) = (verdict, judges_all taken rest verdict whole judged, said)
+due_all_for (Some (OnJob command)) taken rest status text whole (verdict, judged, said) = (verdict, judges_all taken rest whole judged, said)
 due_all_for (Some Assemble) taken rest status text whole due =
     subst (λ (found : Result (List ℕ) Refusal). DueOfProgram found status text) (sym (program_all taken rest whole)) due
 
@@ -69,3 +71,24 @@ told words (Some input) (Some rest) (Some before) None status (text, is_due, wri
 told words (Some input) (Some rest) (Some before) (Some after) status (text, is_due, written) =
     let due = due_all words is_due.taken rest status text is_due.whole is_due.due in
     (text, rw is_due.consumed due, ap Some written)
+
+-- a broken rule of a text is due, and so is what a command says of a job that breaks none
+pub refused_is_due : (command : JobCommand) (text : List ℕ) (refusal : Refusal) → length text ≤ 16777216 → JudgesText text (Err refusal) → DueFor (Some (OnJob command)) text 2 (refusal_line refusal)
+refused_is_due command text refusal short judged = (Err refusal, within short judged, (refl, refl))
+
+pub accepted_is_due : (command : JobCommand) (text : List ℕ) (job : Job) (status : ℕ) (answer : List ℕ) → length text ≤ 16777216 → JudgesText text (Ok job) → DueOfJob command job status answer → DueFor (Some (OnJob command)) text status answer
+accepted_is_due command text job status answer short judged due = (Ok job, within short judged, due)
+
+final : (answer : Answer) → IsFinal (status_of answer)
+final answers.BadWords = (λ e. omega arith, λ e. omega arith, λ e. omega arith)
+final (answers.Refused refusal) = (λ e. omega arith, λ e. omega arith, λ e. omega arith)
+final (answers.After steps) = (λ e. omega arith, λ e. omega arith, λ e. omega arith)
+final (answers.Checked design) = (λ e. omega arith, λ e. omega arith, λ e. omega arith)
+final (answers.Image section) = (λ e. omega arith, λ e. omega arith, λ e. omega arith)
+
+-- an answer that was got ready is written as it is due
+pub ready_completes : (words : List (List ℕ)) (left left_after held held_after : Option (List ℕ)) (answer : Answer) (ready : Ready) (status : ℕ) → IsDue words left left_after (status_of answer) (text_of answer)
+    → ready_status ready ≡ status_of answer → ready_text ready ≡ text_of answer → status ≡ ready_status ready → Appends held held_after (ready_text ready)
+    → IsFinal status × Completes words left left_after held held_after status
+ready_completes words left left_after held held_after answer ready status due same_status same_text says appended =
+    rw (says ∙ same_status) (final answer, (text_of answer, due, rw (← same_text) appended))

@@ -1,1 +1,5 @@
 pub mod DueLemmas
+pub mod Matching
+pub mod Judged
+pub mod Lines
+pub mod Running

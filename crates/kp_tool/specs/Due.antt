@@ -3,42 +3,27 @@ use Rattle.std.specs.Prelude.{◌≡◌, ◌≢◌, ◌⊎◌, Bool, true, false
 use Rattle.std.specs.Io.KnownBytes.{Consumes, Appends, IsAtEnd}
 use Rattle.kp_base.specs.Bytes.{AppendsPart}
 use Rattle.kp_base.specs.declared.refusal.Refusal.{Refusal}
-use Rattle.kp_base.specs.Refusal.{e_rule}
+use Rattle.kp_ast.specs.declared.tree.Job.{Job}
+use Rattle.kp_stage.specs.Counts.{summary_of}
 use Rattle.kp_asm.specs.Image.{image_text_of}
 use Rattle.kp_asm.specs.Program.{assembled}
 use Rattle.kp_tool.specs.declared.words.Command.{Command}
 use Rattle.kp_tool.specs.declared.words.Command.TheVariants.{OnJob, Assemble}
 use Rattle.kp_tool.specs.declared.words.JobCommand.{JobCommand}
-use Rattle.kp_tool.specs.declared.words.JobCommand.TheVariants.{Seq}
+use Rattle.kp_tool.specs.declared.words.JobCommand.TheVariants.{Seq, Check}
 use Rattle.kp_tool.specs.Words.{command_of, reads_input}
-use Rattle.kp_tool.specs.Form.{Job, job_of}
-use Rattle.kp_tool.specs.Machine.{value_at}
-use Rattle.kp_tool.specs.Texts.{bad_words, refusal_line, state_text}
+use Rattle.kp_tool.specs.Judging.{Judges, too_long}
+use Rattle.kp_tool.specs.Texts.{bad_words, refusal_line, accepted_line}
+use Rattle.kp_tool.specs.States.{sequential_text}
 
 -- this status with this text
 abbrev pub Says : ℕ → List ℕ → ℕ → List ℕ → Type 0
 Says due_status due_text status text = (status ≡ due_status) × (text ≡ due_text)
 
--- an input of more bytes than fit
-abbrev pub too_long : Refusal
-too_long = e_rule 3 (record { line = 1; col = 1 })
-
--- an input of a form that is not built
-abbrev pub not_built : Refusal
-not_built = e_rule 33 (record { line = 1; col = 1 })
-
--- the job, where the form is built
-abbrev pub job_or_refusal : Option Job → Result Job Refusal
-job_or_refusal None = Err not_built
-job_or_refusal (Some job) = Ok job
-
--- the job of an input, or the first rule that it breaks
-unfoldable pub Judges : List ℕ → Result Job Refusal → Type 0
-Judges input verdict = verdict ≡ (if nat_lt 16777216 (length input) then Err too_long else job_or_refusal (job_of input))
-
--- what a command says of a job
+-- what a command says of an accepted job
 abbrev pub DueOfJob : JobCommand → Job → ℕ → List ℕ → Type 0
-DueOfJob (Seq count) job = Says 0 (state_text count job.name (value_at job.machine count))
+DueOfJob (Seq count) job = Says 0 (sequential_text count job)
+DueOfJob Check job = Says 0 (accepted_line job.name.name (summary_of job))
 
 -- what a command says of a verdict on its input
 abbrev pub DueOfVerdict : JobCommand → Result Job Refusal → ℕ → List ℕ → Type 0

@@ -1,8 +1,10 @@
-pub mod Form
-pub mod Machine
 pub mod Words
-pub mod Lexing
+pub mod Matching
 pub mod Texts
+pub mod States
+pub mod Targets
+pub mod Judging
+pub mod Accepting
 pub mod Due
 pub mod Answer
 pub mod Stop

@@ -3,8 +3,9 @@ use Rattle.std.specs.Prelude.{ℕ, List, ◌++◌, codes, decimal}
 use Rattle.kp_base.specs.declared.refusal.Family.{Family}
 use Rattle.kp_base.specs.declared.refusal.Family.TheVariants.{E, V, A}
 use Rattle.kp_base.specs.declared.refusal.Refusal.{Refusal}
-use Rattle.kp_bits.specs.Word.{Word, word}
+use Rattle.kp_bits.specs.Word.{Word}
 use Rattle.kp_bits.specs.Spelling.{spelling}
+use Rattle.kp_stage.specs.declared.counts.Summary.{Summary}
 
 abbrev pub bad_words : List ℕ
 bad_words = codes "bad words\n"
@@ -28,6 +29,23 @@ after_line count = codes "after " ++ decimal count ++ codes "\n"
 unfoldable pub register_line : List ℕ → Word → List ℕ
 register_line name value = name ++ codes " = " ++ spelling value ++ codes "\n"
 
--- the count of instructions, and the register of 8 bits
-abbrev pub state_text : ℕ → List ℕ → ℕ → List ℕ
-state_text count name value = after_line count ++ register_line name (word 8 value)
+-- `F[5] = 8'h0b`
+unfoldable pub word_line : List ℕ → ℕ → Word → List ℕ
+word_line name address value = name ++ codes "[" ++ decimal address ++ codes "] = " ++ spelling value ++ codes "\n"
+
+-- `accepted acc3 stages 3 regs 1 files 0`
+unfoldable pub targets_counted : List ℕ → Summary → List ℕ
+targets_counted name s =
+    codes "accepted " ++ name ++ codes " stages " ++ decimal s.stages ++ codes " regs " ++ decimal s.regs ++ codes " files " ++ decimal s.files
+
+-- ` pipes 1 results 1 hints 0`
+unfoldable pub pipes_counted : Summary → List ℕ
+pipes_counted s = codes " pipes " ++ decimal s.pipes ++ codes " results " ++ decimal s.results ++ codes " hints " ++ decimal s.hints
+
+-- ` reads 1 guesses 0 size 4`
+unfoldable pub reads_counted : Summary → List ℕ
+reads_counted s = codes " reads " ++ decimal s.reads ++ codes " guesses " ++ decimal s.guesses ++ codes " size " ++ decimal s.size ++ codes "\n"
+
+-- the three in one line: the name and the numbers of an accepted job
+abbrev pub accepted_line : List ℕ → Summary → List ℕ
+accepted_line name s = targets_counted name s ++ (pipes_counted s ++ reads_counted s)

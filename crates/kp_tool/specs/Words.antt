@@ -4,7 +4,7 @@ use Rattle.std.specs.Str.{bytes_eq}
 use Rattle.kp_bits.specs.Literals.{number_of}
 use Rattle.kp_tool.specs.declared.words.Command.{Command}
 use Rattle.kp_tool.specs.declared.words.Command.TheVariants.{OnJob, Assemble}
-use Rattle.kp_tool.specs.declared.words.JobCommand.TheVariants.{Seq}
+use Rattle.kp_tool.specs.declared.words.JobCommand.TheVariants.{Seq, Check}
 
 abbrev pub at_most : ℕ → ℕ → Option ℕ
 at_most most number = if nat_le number most then Some number else None
@@ -17,9 +17,15 @@ count_of word = if nat_le (length word) 20 then option_and_then (at_most 100000)
 abbrev pub counted_command : List ℕ → ℕ → Option Command
 counted_command name count = if bytes_eq name (codes "seq") then Some (OnJob (Seq count)) else None
 
+-- the command of this name alone
+abbrev pub plain_command : List ℕ → Option Command
+plain_command name =
+    if bytes_eq name (codes "check") then Some (OnJob Check)
+    else (if bytes_eq name (codes "asm") then Some Assemble else None)
+
 -- the command of an accepted list
 abbrev pub command_of : List (List ℕ) → Option Command
-command_of (name ∷ []) = if bytes_eq name (codes "asm") then Some Assemble else None
+command_of (name ∷ []) = plain_command name
 command_of (name ∷ count ∷ []) = option_and_then (counted_command name) (count_of count)
 command_of _ = None
 

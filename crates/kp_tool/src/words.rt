@@ -1,8 +1,16 @@
 // The words of a command line.
-ghost use Rattle.std.specs.Prelude.{◌≡◌, ◌≤◌, map, IfSome, string_bytes};
-ghost use Rattle.kp_tool.specs.Words.{counted_command, command_of, count_of};
+ghost use Rattle.std.specs.Prelude.{◌≡◌, map, string_bytes, option_map, Ok, None, IfOk, true, false};
+ghost use Rattle.std.specs.List.{list_any};
+ghost use Rattle.clap.specs.Words.{app_of, shape_of, subcommand_rows_of};
+ghost use Rattle.clap.specs.declared.builder.command.Command.TheViews.{out-Command};
+ghost use Rattle.kp_tool.specs.Words.{plain_command, counted_command, command_of, count_of};
+ghost use Rattle.kp_tool.specs.Matching.{is_barred, known_forms, program_of, shape_of_form, command_by, command_of_rows};
 
+use clap::error::ErrorKind;
+use clap::{Arg, ArgMatches};
+use kp_base::NoMemory;
 use kp_bits::read_number;
+use std::alloc::{AllocError, Global};
 
 /// The greatest number of instructions.
 const MOST_COUNT: u32 = 100_000;
@@ -12,6 +20,8 @@ const MOST_COUNT: u32 = 100_000;
 pub enum JobCommand {
     /// The state after so many instructions.
     Seq(u32),
+    /// One line of counts.
+    Check,
 }
 
 /// What is to be done, by what is read for it.
@@ -24,17 +34,37 @@ pub enum Command {
 }
 
 impl Command {
-    /// The command of an accepted list of words.
-    pub fn of(words: &[String]) -> Option<Self>
-        ensures { result ≡ command_of (map string_bytes words.now) }
+    /// The command of an accepted list of words, and `None` of any other list. An error only where no memory was found;
+    /// a list with a word that begins with `-` or is `help` needs none.
+    pub fn of(alloc: Global, words: &[String]) -> Result<Option<Self>, NoMemory>
+        ensures command { IfOk result (λ command. command ≡ command_of (map string_bytes words.now)) }
+        ensures barred { list_any (λ word. is_barred (string_bytes word)) words.now ≡ true → result ≡ Ok None }
     {
-        match words {
-            [name] if name.as_str() == "asm" => Some(Command::Assemble),
-            [name, count] => {
-                let count = count_of(count.as_bytes())?;
-                Self::counted(name, count)
-            }
-            _ => None,
+        if has_barred(words) {
+            return Ok(None);
+        }
+        match program(alloc)?.try_get_matches_from(words) {
+            Ok(matches) => Ok(Self::of_matches(&matches)),
+            Err(error) if error.kind() == ErrorKind::OutOfMemory => Err(NoMemory),
+            Err(_) => Ok(None),
+        }
+    }
+
+    // The command that was matched.
+    fn of_matches(matches: &ArgMatches<'_>) -> Option<Self>
+        ensures { result ≡ command_of_rows (subcommand_rows_of matches.now) }
+    {
+        let (name, found) = matches.subcommand()?;
+        Self::by(name, found.get_str("number"))
+    }
+
+    // The command of this name, and of a number word if there is one.
+    fn by(name: &str, number: Option<&str>) -> Option<Self>
+        ensures { result ≡ command_by name.now (option_map (λ word. word.now) number.entry) }
+    {
+        match number {
+            None => Self::plain(name),
+            Some(number) => Self::counted(name, count_of(number.as_bytes())?),
         }
     }
 
@@ -47,6 +77,61 @@ impl Command {
             _ => None,
         }
     }
+
+    // The command of this name alone.
+    fn plain(name: &str) -> Option<Self>
+        ensures { result ≡ plain_command name.now }
+    {
+        match name {
+            "check" => Some(Command::OnJob(JobCommand::Check)),
+            "asm" => Some(Command::Assemble),
+            _ => None,
+        }
+    }
+}
+
+// One of the words is refused before the match.
+fn has_barred(words: &[String]) -> bool
+    ensures { result ≡ list_any (λ word. is_barred (string_bytes word)) words.now }
+{
+    words.iter().any(|word| is_barred(word.as_str()))
+}
+
+// The word begins with `-`, or is `help`, so it is in no command.
+fn is_barred(word: &str) -> bool
+    ensures { result ≡ is_barred word.now }
+{
+    matches!(word.as_bytes(), [b'-', ..]) || word == "help"
+}
+
+// The program, with each command as a subcommand. It answers to no call for help.
+fn program<'a>(alloc: Global) -> Result<clap::Command<'a>, AllocError>
+    ensures { IfOk result (λ program. app_of program ≡ program_of known_forms) }
+{
+    clap::Command::new(alloc, "kp")
+        .no_binary_name(true)
+        .disable_help_flag(true)
+        .disable_help_subcommand(true)
+        .subcommand(with_number(alloc, "seq")?)?
+        .subcommand(alone(alloc, "check"))?
+        .subcommand(alone(alloc, "asm"))
+}
+
+// The command of this name and a number word.
+fn with_number<'a>(alloc: Global, name: &'a str) -> Result<clap::Command<'a>, AllocError>
+    ensures shape { IfOk result (λ command. shape_of command
+        ≡ shape_of_form (record { name = name.entry.now; has_number = true })) }
+    ensures local { IfOk result (λ command. (out-Command command).has_globals ≡ false) }
+{
+    alone(alloc, name).arg(Arg::new(alloc, "number").required(true))
+}
+
+// The command of this name alone.
+fn alone<'a>(alloc: Global, name: &'a str) -> clap::Command<'a>
+    ensures shape { shape_of result ≡ shape_of_form (record { name = name.entry.now; has_number = false }) }
+    ensures local { (out-Command result).has_globals ≡ false }
+{
+    clap::Command::new(alloc, name)
 }
 
 // The number that a word of 1 to 20 decimal digits gives, up to 100,000.
@@ -62,5 +147,61 @@ fn count_of(word: &[u8]) -> Option<u32>
         Some(number as u32)
     } else {
         None
+    }
+}
+
+#[cfg(test)]
+mod tests {
+    use super::*;
+    use std::test::Fail;
+
+    fn texts(alloc: Global, words: &[&str]) -> Result<Vec<String>, AllocError> {
+        let mut texts = Vec::new(alloc);
+        for word in words {
+            texts.push(String::from_str(alloc, word)?)?;
+        }
+        Ok(texts)
+    }
+
+    #[test]
+    fn rows(rt: HostRuntime) -> Result<(), Fail> {
+        let alloc = rt.alloc();
+        let seq = |count| Some(Command::OnJob(JobCommand::Seq(count)));
+        let check = Some(Command::OnJob(JobCommand::Check));
+        for (words, command) in [
+            (["seq", "2"].as_slice(), seq(2)),
+            (["seq", "003"].as_slice(), seq(3)),
+            (["seq", "100000"].as_slice(), seq(100_000)),
+            (["seq", "00000000000000000007"].as_slice(), seq(7)),
+            (["seq", "000000000000000000007"].as_slice(), None),
+            (["seq", "100001"].as_slice(), None),
+            (["seq", "-1"].as_slice(), None),
+            (["seq", "+3"].as_slice(), None),
+            (["seq", ""].as_slice(), None),
+            (["seq"].as_slice(), None),
+            (["seq", "2", "3"].as_slice(), None),
+            (["seq", "check"].as_slice(), None),
+            (["seq", "--", "2"].as_slice(), None),
+            (["seq", "help"].as_slice(), None),
+            (["se", "2"].as_slice(), None),
+            (["SEQ", "2"].as_slice(), None),
+            (["check"].as_slice(), check),
+            (["check", "1"].as_slice(), None),
+            (["check", "asm"].as_slice(), None),
+            (["asm"].as_slice(), Some(Command::Assemble)),
+            (["asm", "x"].as_slice(), None),
+            (["--", "asm"].as_slice(), None),
+            (["help"].as_slice(), None),
+            (["help", "seq"].as_slice(), None),
+            (["-h"].as_slice(), None),
+            (["--version"].as_slice(), None),
+            (["kp", "check"].as_slice(), None),
+            ([""].as_slice(), None),
+            ([].as_slice(), None),
+        ] {
+            let words = texts(alloc, words)?;
+            assert!(rt; Command::of(alloc, &words)? == command);
+        }
+        Ok(())
     }
 }

@@ -1,0 +1,46 @@
+-- The text of a state: each register and file in the order of declaration.
+use Rattle.std.specs.Prelude.{ℕ, zero, suc, ◌+◌, ◌^◌, ◌==◌, List, [], ◌∷◌, ◌++◌, if◌then◌else◌}
+use Rattle.kp_bits.specs.Word.{word}
+use Rattle.kp_ast.specs.declared.tree.Decl.{Decl}
+use Rattle.kp_ast.specs.declared.tree.Decl.TheVariants as decls
+use Rattle.kp_ast.specs.declared.tree.Job.{Job}
+use Rattle.kp_machine.specs.Machine.{sequential}
+use Rattle.kp_tool.specs.Texts.{after_line, register_line, word_line}
+
+-- the values of targets, which are numbered from 0 in the order of declaration, at their addresses
+abbrev pub State : Type 0
+State = ℕ → ℕ → ℕ
+
+-- a word of a file has a line where it isn't 0
+abbrev pub line_of_word : List ℕ → ℕ → ℕ → ℕ → List ℕ
+line_of_word name width address v = if v == 0 then [] else word_line name address (word width v)
+
+-- the lines of so many words, from an address on
+unfoldable pub lines_of_words : List ℕ → ℕ → (ℕ → ℕ) → ℕ → ℕ → List ℕ
+lines_of_words name width values address zero = []
+lines_of_words name width values address (suc n) =
+    line_of_word name width address (values address) ++ lines_of_words name width values (address + 1) n
+
+-- the lines of a register or file with these values at its addresses; what is declared otherwise has none
+abbrev pub lines_of : Decl → (ℕ → ℕ) → List ℕ
+lines_of (decls.Reg n width start) values = register_line n.name (word width.value (values 0))
+lines_of (decls.File n width address) values = lines_of_words n.name width.value values 0 (2 ^ address.value)
+lines_of _ values = []
+
+-- how many targets a declaration declares
+abbrev pub targets_in : Decl → ℕ
+targets_in (decls.Reg n width start) = 1
+targets_in (decls.File n width address) = 1
+targets_in _ = 0
+
+-- the lines of declarations, of which the first target has the number t
+abbrev pub state_lines : ℕ → State → List Decl → List ℕ
+state_lines t state [] = []
+state_lines t state (d ∷ ds) = lines_of d (state t) ++ state_lines (t + targets_in d) state ds
+
+-- the count of instructions, and the state after them
+abbrev pub text_after : ℕ → List Decl → State → List ℕ
+text_after count ds state = after_line count ++ state_lines 0 state ds
+
+abbrev pub sequential_text : ℕ → Job → List ℕ
+sequential_text count job = text_after count job.decls (sequential job count)
