@@ -5,8 +5,8 @@ use Rattle.kp_base.specs.Check.{Gives, bind}
 use Rattle.kp_base.specs.declared.refusal.Refusal.{Refusal}
 use Rattle.kp_base.specs.declared.refusal.Refused.{Refused}
 use Rattle.kp_base.specs.declared.refusal.Refused.TheVariants.{Rule, NoMemory}
-use Rattle.kp_asm.specs.Listing.{Listing}
-use Rattle.kp_asm.specs.Program.{is_line_end, line_length, lines_of, prepend, line_read, lines_read}
+use Rattle.kp_asm.specs.inner.Listing.{line_length}
+use Rattle.kp_asm.specs.Program.{Listing, is_line_end, lines_of, prepend, line_read, lines_read}
 use Rattle.kp_asm.specs.declared.token.Token.{Token}
 
 -- the first line, and the lines of what stands behind it

@@ -2,6 +2,6 @@ pub mod Tokens
 pub mod Numbers
 pub mod Mnemonics
 pub mod Words
-pub mod Listing
 pub mod Program
 pub mod Image
+pub mod inner

@@ -1,8 +1,8 @@
 -- The numbers and the registers that tokens write.
 use Rattle.std.specs.Prelude.{ℕ, ◌-◌, ◌%◌, ◌^◌, ◌==◌, ◌&&◌, nat_le, List, [], ◌∷◌, length, drop, Bool, false, if◌then◌else◌, Option, Some, None, unwrap_or}
 use Rattle.std.specs.List.{list_all}
+use Rattle.kp_base.specs.Characters.{is_digit}
 use Rattle.kp_bits.specs.Literals.{numeral_value, number_within, number_of}
-use Rattle.kp_asm.specs.Tokens.{is_digit}
 
 -- it begins with `-`
 abbrev pub is_negative : List ℕ → Bool

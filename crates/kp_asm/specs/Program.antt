@@ -7,7 +7,6 @@ use Rattle.kp_base.specs.declared.refusal.Refusal.{Refusal}
 use Rattle.kp_asm.specs.Tokens.{bytes_of, broken, tokens_of}
 use Rattle.kp_asm.specs.Mnemonics.{mnemonic_of, form, broken_operand}
 use Rattle.kp_asm.specs.Words.{word_of}
-use Rattle.kp_asm.specs.Listing.{Listing}
 use Rattle.kp_asm.specs.declared.token.Token.{Token}
 use Rattle.kp_asm.specs.declared.token.TokenKind.{TokenKind}
 use Rattle.kp_asm.specs.declared.token.TokenKind.TheVariants as kinds
@@ -23,11 +22,6 @@ abbrev pub is_line_end : TokenKind → Bool
 is_line_end kinds.LineEnd = true
 is_line_end _ = false
 
--- how many tokens the first line has, with its end
-abbrev pub line_length : List Token → ℕ
-line_length [] = 0
-line_length (t ∷ ts) = if is_line_end t.kind then 1 else line_length ts + 1
-
 -- one more token in front of the first line
 abbrev pub prepend : Token → List (List Token) → List (List Token)
 prepend t [] = (t ∷ []) ∷ []
@@ -37,6 +31,11 @@ prepend t (line ∷ lines) = (t ∷ line) ∷ lines
 abbrev pub lines_of : List Token → List (List Token)
 lines_of [] = []
 lines_of (t ∷ ts) = if is_line_end t.kind then (t ∷ []) ∷ lines_of ts else prepend t (lines_of ts)
+
+-- What the lines so far say: labels and instructions in text order, and how many are instructions
+pub record Listing : Type 0 where
+  pub items : List Item
+  pub count : ℕ
 
 -- the label stands for the address of the next word
 abbrev pub with_label : Listing → Token → Listing

@@ -1,5 +1,6 @@
 -- The tokens of an assembler program.
 use Rattle.std.specs.Prelude.{ℕ, zero, suc, ◌+◌, ◌==◌, ◌||◌, ◌&&◌, nat_lt, nat_le, not, List, [], ◌∷◌, ◌++◌, drop, take, Bool, false, if◌then◌else◌, Result, Ok, Err}
+use Rattle.kp_base.specs.Characters.{is_digit, is_letter, is_word, run_length}
 use Rattle.kp_base.specs.Place.{place_after}
 use Rattle.kp_base.specs.Refusal.{a_rule}
 use Rattle.kp_base.specs.declared.refusal.Refusal.{Refusal}
@@ -13,18 +14,6 @@ use Rattle.kp_asm.specs.declared.front.Front.TheVariants as fronts
 abbrev pub is_layout : ℕ → Bool
 is_layout byte = byte == 32 || byte == 9 || byte == 13
 
--- 0 to 9
-abbrev pub is_digit : ℕ → Bool
-is_digit byte = nat_le 48 byte && nat_le byte 57
-
--- A to Z, a to z, and `_`
-abbrev pub is_letter : ℕ → Bool
-is_letter byte = (nat_le 65 byte && nat_le byte 90) || (nat_le 97 byte && nat_le byte 122) || byte == 95
-
--- what a name goes on with
-abbrev pub is_word : ℕ → Bool
-is_word byte = is_letter byte || is_digit byte
-
 -- 0 to 9, A to F, and a to f
 abbrev pub is_hex : ℕ → Bool
 is_hex byte = is_digit byte || (nat_le 65 byte && nat_le byte 70) || (nat_le 97 byte && nat_le byte 102)
@@ -32,11 +21,6 @@ is_hex byte = is_digit byte || (nat_le 65 byte && nat_le byte 70) || (nat_le 97 
 -- a comment goes on to the line feed
 abbrev pub is_in_line : ℕ → Bool
 is_in_line byte = not (byte == 10)
-
--- how many bytes at the front pass the test: as long as possible
-abbrev pub run_length : (ℕ → Bool) → List ℕ → ℕ
-run_length test [] = 0
-run_length test (byte ∷ rest) = if test byte then run_length test rest + 1 else 0
 
 -- an `x` and a hexadecimal digit
 abbrev pub begins_hex : List ℕ → Bool

@@ -1,8 +1,10 @@
 // What begins with a byte of a text.
 ghost use Rattle.std.specs.Prelude.{◌≡◌, ◌≤◌, ◌<◌, length, drop};
-ghost use Rattle.kp_asm.specs.Tokens.{is_layout, is_letter, is_word, is_digit, is_hex, is_in_line, run_length, begins_hex, name, number_more, negative, dot_word, mark, front_of, more_of};
+ghost use Rattle.kp_base.specs.Characters.{is_digit, run_length};
+ghost use Rattle.kp_asm.specs.Tokens.{is_layout, is_hex, is_in_line, begins_hex, name, number_more, negative, dot_word, mark, front_of, more_of};
 
 use crate::token::TokenKind;
+use kp_base::{is_digit, is_letter, run_length, word_length};
 
 /// What begins with a byte, and how many bytes stand behind that byte.
 #[derive(Clone, Copy)]
@@ -42,24 +44,7 @@ fn is_layout(byte: u8) -> bool
     matches!(byte, b' ' | b'\t' | b'\r')
 }
 
-fn is_letter(byte: u8) -> bool
-    ensures { result ≡ is_letter byte }
-{
-    byte.is_ascii_alphabetic() || byte == b'_'
-}
-
-fn is_word(byte: u8) -> bool
-    ensures { result ≡ is_word byte }
-{
-    byte.is_ascii_alphanumeric() || byte == b'_'
-}
-
-pub fn is_digit(byte: u8) -> bool
-    ensures { result ≡ is_digit byte }
-{
-    byte.is_ascii_digit()
-}
-
+// A hexadecimal digit.
 fn is_hex(byte: u8) -> bool
     ensures { result ≡ is_hex byte }
 {
@@ -71,25 +56,7 @@ fn comment_length(text: &[u8]) -> usize
     ensures value { result ≡ run_length is_in_line text.now }
     ensures within { result ≤ length text.now }
 {
-    for (i, byte) in text.iter().enumerate() {
-        if *byte == b'\n' {
-            return i;
-        }
-    }
-    text.len()
-}
-
-// How many letters, digits and `_` stand at the front.
-fn word_length(text: &[u8]) -> usize
-    ensures value { result ≡ run_length is_word text.now }
-    ensures within { result ≤ length text.now }
-{
-    for (i, byte) in text.iter().enumerate() {
-        if !is_word(*byte) {
-            return i;
-        }
-    }
-    text.len()
+    run_length(text, |byte| byte != b'\n')
 }
 
 // How many decimal digits stand at the front.
@@ -97,12 +64,7 @@ fn digits_length(text: &[u8]) -> usize
     ensures value { result ≡ run_length is_digit text.now }
     ensures within { result ≤ length text.now }
 {
-    for (i, byte) in text.iter().enumerate() {
-        if !is_digit(*byte) {
-            return i;
-        }
-    }
-    text.len()
+    run_length(text, |byte| is_digit(byte))
 }
 
 // How many hexadecimal digits stand at the front.
@@ -110,12 +72,7 @@ fn hex_length(text: &[u8]) -> usize
     ensures value { result ≡ run_length is_hex text.now }
     ensures within { result ≤ length text.now }
 {
-    for (i, byte) in text.iter().enumerate() {
-        if !is_hex(*byte) {
-            return i;
-        }
-    }
-    text.len()
+    run_length(text, is_hex)
 }
 
 // A name, unless it is too long.

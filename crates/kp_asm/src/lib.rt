@@ -16,6 +16,3 @@ mod words;
 
 pub use image::image_text;
 pub use words::assemble;
-
-#[cfg(test)]
-mod tests;

@@ -3,8 +3,8 @@ ghost use Rattle.std.specs.Prelude.{◌≡◌, ◌≤◌, ◌<◌, ◌-◌, ◌^
 ghost use Rattle.kp_base.specs.Check.{Gives};
 ghost use Rattle.kp_asm.specs.Tokens.{bytes_of};
 ghost use Rattle.kp_asm.specs.Mnemonics.{mnemonic_of};
-ghost use Rattle.kp_asm.specs.Listing.{instructions_in};
-ghost use Rattle.kp_asm.specs.Program.{is_line_end, line_length, lines_of, with_label, with_instruction, mnemonic_read, instruction_read, declares, line_read, lines_read, nothing_read};
+ghost use Rattle.kp_asm.specs.inner.Listing.{line_length, instructions_in};
+ghost use Rattle.kp_asm.specs.Program.{is_line_end, lines_of, with_label, with_instruction, mnemonic_read, instruction_read, declares, line_read, lines_read, nothing_read};
 
 use crate::item::{Instruction, Item, Label};
 use crate::mnemonic::{Mnemonic, mnemonic_of};
@@ -26,7 +26,8 @@ pub struct Program {
 
 impl Model for Program {
     ghost use Rattle.std.specs.Prelude.{◌≡◌, ◌≤◌};
-    ghost use Rattle.kp_asm.specs.Listing.{Listing, instructions_in};
+    ghost use Rattle.kp_asm.specs.Program.{Listing};
+    ghost use Rattle.kp_asm.specs.inner.Listing.{instructions_in};
 
     ghost Value = { Listing };
 

@@ -1,13 +1,12 @@
 // The numbers and the registers that tokens write.
 ghost use Rattle.std.specs.Prelude.{◌≡◌, ◌≤◌, ◌<◌, ◌^◌, drop};
-ghost use Rattle.std.specs.Char.{digit_value};
 ghost use Rattle.std.specs.List.{list_all};
-ghost use Rattle.kp_bits.specs.Literals.{numeral_value, numeral_next, number_within, number_of};
-ghost use Rattle.kp_asm.specs.Tokens.{is_digit};
+ghost use Rattle.kp_bits.specs.Literals.{number_of};
+ghost use Rattle.kp_base.specs.Characters.{is_digit};
 ghost use Rattle.kp_asm.specs.Numbers.{is_negative, magnitude, is_at_most, in_range, number as number_in, is_register, is_low, register as register_of};
 
-use crate::front::is_digit;
-use kp_bits::read_number;
+use kp_base::is_digit;
+use kp_bits::{read_number, read_numeral};
 
 fn is_negative(run: &[u8]) -> bool
     ensures { result ≡ is_negative run.now }
@@ -20,35 +19,12 @@ fn magnitude(run: &[u8]) -> Option<u64>
     ensures { result ≡ magnitude run.now }
 {
     if let [b'0', b'x', digits @ ..] = run {
-        return numeral_value(16, digits);
+        return read_numeral(16, digits);
     }
     if let [b'-', digits @ ..] = run {
-        return numeral_value(10, digits);
+        return read_numeral(10, digits);
     }
-    numeral_value(10, run)
-}
-
-// What digits write in a base, if 64 bits hold it.
-#[tactic(auto, using(kp_bits::proofs::Numerals::too_big, kp_bits::proofs::Numerals::all_read))]
-fn numeral_value(base: u64, digits: &[u8]) -> Option<u64>
-    requires { 1 ≤ base }
-    ensures { result ≡ number_within (numeral_value base digits.now) }
-{
-    let mut value = 0;
-    for digit in digits {
-        value = numeral_next(base, value, *digit)?;
-    }
-    Some(value)
-}
-
-// What is written once another digit stands at the end.
-fn numeral_next(base: u64, value: u64, digit: u8) -> Option<u64>
-    ensures { result ≡ number_within (numeral_next base value digit) }
-{
-    if digit == b'_' {
-        return Some(value);
-    }
-    value.checked_mul(base)?.checked_add(digit_value(digit))
+    read_numeral(10, run)
 }
 
 fn is_at_most(n: Option<u64>, limit: u64) -> bool
@@ -127,16 +103,4 @@ pub fn register(run: &[u8]) -> u32
     ensures fits { result < 2 ^ 5 }
 {
     (register_number(run).unwrap_or(0) % 32) as u32
-}
-
-// The value of a digit or a letter, from 0 for `0` to 35 for `Z` and `z`, and 36 for any other byte.
-fn digit_value(c: u8) -> u64
-    ensures { result ≡ digit_value c }
-{
-    match c {
-        b'0'..=b'9' => u64::from(c - b'0'),
-        b'A'..=b'Z' => u64::from(c - b'A') + 10,
-        b'a'..=b'z' => u64::from(c - b'a') + 10,
-        _ => 36,
-    }
 }

@@ -2,7 +2,7 @@
 ghost use Rattle.std.specs.Prelude.{◌≡◌, ◌≤◌, ◌+◌, ◌-◌, ◌^◌, ◌<◌, length, vec_len, IfOk, OnOk, [], if◌then◌else◌};
 ghost use Rattle.kp_base.specs.Check.{Gives};
 ghost use Rattle.kp_asm.specs.Tokens.{bytes_of};
-ghost use Rattle.kp_asm.specs.Listing.{is_instruction, instructions_in};
+ghost use Rattle.kp_asm.specs.inner.Listing.{is_instruction, instructions_in};
 ghost use Rattle.kp_asm.specs.Program.{declared, used_label, target_of, word_at, is_at, item_read, words_from, assembled};
 
 use crate::encode::word_of;

@@ -1,12 +1,12 @@
 -- Known bytes over several calls.
-use Rattle.std.proofs.Common.{◌∙◌, append_assoc, ℕ, List, ◌+◌, ◌≤◌, [], ◌++◌, take, drop, sym, subst, refl, arith, Ok, Err}
+use Rattle.std.proofs.Common.{◌∙◌, append_assoc, ℕ, List, ◌+◌, [], ◌++◌, take, drop, sym, subst, refl, arith, Ok, Err}
 use Rattle.std.specs.declared.option.Option.{Option}
 use Rattle.std.specs.declared.result.Result.{Result}
 use Rattle.std.proofs.Math.Seq.{take-add}
 use Rattle.std.specs.Io.KnownBytes.{Appends}
 use Rattle.std.proofs.KnownBytes.{Appends-nil, Appends-trans}
-use Rattle.kp_base.specs.Bytes.{AppendsPart, Writes, WrittenUpTo}
-use Rattle.kp_base.specs.Causes.{Rose}
+use Rattle.kp_base.specs.Bytes.{AppendsPart, Writes}
+use Rattle.kp_base.specs.inner.Bytes.{WrittenUpTo}
 
 -- the next bytes of a piece, after those that were taken
 pub appends_next : (a b c : Option (List ℕ)) (piece : List ℕ) (done count : ℕ) → Appends a b (take done piece) → Appends b c (take count (drop done piece)) → Appends a c (take (done + count) piece)
@@ -27,10 +27,6 @@ pub writes_next : {T E : Type 0} (a b c : Option (List ℕ)) (before text : List
 writes_next a b c before text (Ok value) appended written = Appends-trans a b c before text appended written
 writes_next a b c before text (Err error) appended (front, rest, split, part) =
     (before ++ front, rest, grind (arith, append_assoc), Appends-trans a b c before front appended part)
-
--- a fault since a later moment is one since an earlier one
-pub rose_since : (before between now : ℕ) → before ≤ between → Rose between now → Rose before now
-rose_since before between now later rose = omega arith
 
 -- nothing is written yet
 pub written_none : (whole : List ℕ) (a : Option (List ℕ)) → WrittenUpTo whole whole a a
@@ -58,8 +54,3 @@ written_rest whole rest a b c result so_far written =
 pub rest_whole : (whole rest : List ℕ) (a b c : Option (List ℕ)) → WrittenUpTo whole rest a b → Appends b c rest → Appends a c whole
 rest_whole whole rest a b c so_far appended =
     written_rest {T = ℕ} {E = ℕ} whole rest a b c (Ok 0) so_far appended
-
--- a part of what was left is appended
-pub rest_part : (whole rest : List ℕ) (a b c : Option (List ℕ)) → WrittenUpTo whole rest a b → AppendsPart b c rest → AppendsPart a c whole
-rest_part whole rest a b c so_far part =
-    written_rest {T = ℕ} {E = ℕ} whole rest a b c (Err 0) so_far part

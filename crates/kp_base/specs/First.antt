@@ -1,5 +1,5 @@
 -- The first broken rule: each rule is a question, and the first true answer in the list of answers is named.
-use Rattle.std.specs.Prelude.{◌≡◌, List, [], ◌∷◌, ◌++◌, Option, Some, None, Result, Ok, Err, ⊤}
+use Rattle.std.specs.Prelude.{◌≡◌, List, [], ◌∷◌, Option, Some, None, Result, Ok, Err, ⊤}
 use Rattle.kp_base.specs.declared.refusal.Refusal.{Refusal}
 use Rattle.kp_base.specs.declared.refusal.Refused.{Refused}
 use Rattle.kp_base.specs.declared.refusal.Refused.TheVariants.{Rule, NoMemory}
@@ -9,11 +9,6 @@ abbrev pub first : {X : Type 0} → List (Option X) → Option X
 first [] = None
 first (None ∷ xs) = first xs
 first (Some x ∷ xs) = Some x
-
--- the answers to a question that is put to each element, with those before it
-abbrev pub answers : {X R : Type 0} → (List X → X → Option R) → List X → List X → List (Option R)
-answers ask seen [] = []
-answers ask seen (x ∷ xs) = ask seen x ∷ answers ask (seen ++ x ∷ []) xs
 
 -- what a checking call answers: Ok where no rule is broken, and P holds; a rule only where it is the first; and memory may run out
 abbrev pub Answers : {T : Type 0} → Result T Refused → Option Refusal → (T → Type 0) → Type 0

@@ -1,3 +1,4 @@
+pub mod Characters
 pub mod Place
 pub mod Refusal
 pub mod First
@@ -6,3 +7,4 @@ pub mod Causes
 pub mod Bytes
 pub mod Memory
 pub mod formers
+pub mod inner

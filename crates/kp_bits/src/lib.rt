@@ -1,13 +1,13 @@
-//! Values of 1 to 64 bits, and how they are written.
+//! Values of 1 to 64 bits, what is computed with them, and how they are written.
 #![tactic(auto)]
 
 mod bits;
+pub mod checked;
 pub mod laws;
 mod literal;
+mod operator;
 mod spelling;
 
 pub use bits::Bits;
-pub use literal::{Literal, LiteralFault, read_literal, read_number};
-
-#[cfg(test)]
-mod tests;
+pub use literal::{Literal, LiteralFault, read_literal, read_number, read_numeral};
+pub use operator::BinOp;

@@ -73,10 +73,25 @@ pub fn read_number(run: &[u8]) -> Option<u64>
     ensures { result ≡ number_of run.now }
 {
     if is_number(run) {
-        numeral_value(10, run)
+        read_numeral(10, run)
     } else {
         None
     }
+}
+
+/// Reads digits in a base from 2 to 36, as a byte for each digit: its value is 0 for `0` to 35 for `Z` and `z`, and `_`
+/// counts for nothing. That no other byte stands there, and that each digit is below the base, is for the caller to know.
+/// `None` where the number is over 2^64 - 1.
+#[tactic(auto, using(crate::proofs::Numerals::too_big, crate::proofs::Numerals::all_read))]
+pub fn read_numeral(base: u64, digits: &[u8]) -> Option<u64>
+    requires { 1 ≤ base }
+    ensures { result ≡ number_within (numeral_value base digits.now) }
+{
+    let mut value = 0;
+    for digit in digits {
+        value = numeral_next(base, value, *digit)?;
+    }
+    Some(value)
 }
 
 fn find_quote(run: &[u8]) -> Option<usize>
@@ -110,8 +125,8 @@ fn read_in_base(base: u64, width: &[u8], digits: &[u8]) -> Result<Literal, Liter
     if !is_numeral(base, digits) {
         return Err(LiteralFault::BadDigit);
     }
-    let width = numeral_value(10, width).ok_or(LiteralFault::TooBig)?;
-    let value = numeral_value(base, digits).ok_or(LiteralFault::TooBig)?;
+    let width = read_numeral(10, width).ok_or(LiteralFault::TooBig)?;
+    let value = read_numeral(base, digits).ok_or(LiteralFault::TooBig)?;
     Ok(Literal { width, value })
 }
 
@@ -179,19 +194,6 @@ fn digit_value(c: u8) -> u64
         b'a'..=b'z' => u64::from(c - b'a') + 10,
         _ => 36,
     }
-}
-
-// What digits write in a base, if 64 bits hold it.
-#[tactic(auto, using(crate::proofs::Numerals::too_big, crate::proofs::Numerals::all_read))]
-fn numeral_value(base: u64, digits: &[u8]) -> Option<u64>
-    requires { 1 ≤ base }
-    ensures { result ≡ number_within (numeral_value base digits.now) }
-{
-    let mut value = 0;
-    for digit in digits {
-        value = numeral_next(base, value, *digit)?;
-    }
-    Some(value)
 }
 
 // What is written once another byte stands at the end.

@@ -1,5 +1,5 @@
 -- A text has no more tokens than bytes.
-use Rattle.std.proofs.Common.{ℕ, ◌+◌, ◌-◌, ◌≤◌, ◌≡◌, List, [], ◌∷◌, ◌++◌, length, drop, length-append, length-drop, Result, Ok, Err, arith}
+use Rattle.std.proofs.Common.{ℕ, ◌+◌, ◌≤◌, ◌≡◌, List, [], ◌∷◌, ◌++◌, length, length-append, length-drop, Result, Ok, Err, arith}
 use Rattle.std.specs.Prelude.{⊤}
 use Rattle.kp_base.specs.declared.refusal.Refusal.{Refusal}
 use Rattle.kp_lex.specs.declared.token.Token.{Token}

@@ -1,6 +1,7 @@
 -- What stands at the front is at least one byte, and no longer than the text.
 use Rattle.std.proofs.Common.{ℕ, suc, ◌+◌, ◌≤◌, ◌<◌, ◌≡◌, List, [], ◌∷◌, length, length-take-le, ◌==◌, nat_lt, Bool, true, false, not, cond, ◌||◌, Option, Some, None, Result, Ok, Err, refl, subst, arith}
 use Rattle.std.proofs.lemmas.Bool.{ltb-true}
+use Rattle.kp_base.specs.Characters.{is_digit, is_letter, is_word, run_length}
 use Rattle.kp_bits.specs.Literals.{number_of, literal_of}
 use Rattle.kp_bits.specs.declared.literal.Literal.{Literal}
 use Rattle.kp_bits.specs.declared.literal.LiteralFault.{LiteralFault}
@@ -9,7 +10,7 @@ use Rattle.kp_lex.specs.declared.front.Front.TheVariants as fronts
 use Rattle.kp_lex.specs.declared.token.Mark.{Mark}
 use Rattle.kp_lex.specs.declared.token.TokenKind.{TokenKind}
 use Rattle.kp_lex.specs.Words.{keyword_of, single_mark, double_mark}
-use Rattle.kp_lex.specs.Text.{is_layout, begins_comment, gap_length, is_digit, is_letter, is_word, is_in_run, run_length, run_of, keyword_or_name, identifier, literal_or_broken, number_or_literal, number_run, mark_or_broken, mark_or_shorter, mark, token_of, front_of}
+use Rattle.kp_lex.specs.Text.{is_layout, begins_comment, gap_length, is_in_run, run_of, keyword_or_name, identifier, literal_or_broken, number_or_literal, number_run, mark_or_broken, mark_or_shorter, mark, token_of, front_of}
 
 -- the length of what stands at the front of a text of this length; a rule that is broken is E1 or E2
 abbrev pub Fits : ℕ → Front → Type 0

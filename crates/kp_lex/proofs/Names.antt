@@ -3,6 +3,7 @@ use Rattle.std.proofs.Common.{ℕ, zero, suc, ◌+◌, ◌≤◌, ◌≡◌, Lis
 use Rattle.std.specs.Prelude.{slice_get}
 use Rattle.std.proofs.lemmas.Bool.{ltb-false}
 use Rattle.std.proofs.lemmas.List.Elements.{All-nil, All-cons}
+use Rattle.kp_base.specs.Characters.{is_digit, is_letter, is_word, run_length}
 use Rattle.kp_bits.specs.Literals.{number_of, literal_of}
 use Rattle.kp_bits.specs.declared.literal.Literal.{Literal}
 use Rattle.kp_bits.specs.declared.literal.LiteralFault.{LiteralFault}
@@ -14,7 +15,7 @@ use Rattle.kp_lex.specs.declared.token.TokenKind.{TokenKind}
 use Rattle.kp_lex.specs.declared.token.TokenKind.TheVariants as kinds
 use Rattle.kp_lex.specs.declared.token.Token.{Token}
 use Rattle.kp_lex.specs.Words.{keyword_of, single_mark, double_mark}
-use Rattle.kp_lex.specs.Text.{gap_length, is_digit, is_letter, is_word, is_in_run, run_length, run_of, keyword_or_name, identifier, literal_or_broken, number_or_literal, number_run, mark_or_broken, mark_or_shorter, mark, token_of, StandsIn, IsIdentifier}
+use Rattle.kp_lex.specs.Text.{gap_length, is_in_run, run_of, keyword_or_name, identifier, literal_or_broken, number_or_literal, number_run, mark_or_broken, mark_or_shorter, mark, token_of, StandsIn, IsIdentifier}
 use Rattle.kp_lex.proofs.Fits.{run_within, run_fits, or_left}
 
 pass_step : (test : ℕ → Bool) (byte : ℕ) (rest : List ℕ) (b : Bool) (n : ℕ) → test byte ≡ b

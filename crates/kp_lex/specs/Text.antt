@@ -1,5 +1,6 @@
 -- What stands at the front of a text, and the tokens of a text.
-use Rattle.std.specs.Prelude.{ℕ, ◌+◌, ◌≤◌, ◌≡◌, ◌==◌, nat_lt, nat_le, List, [], ◌∷◌, ◌++◌, length, drop, take, Bool, true, false, not, ◌||◌, ◌&&◌, if◌then◌else◌, Option, Some, None, IfSome, Result, Ok, Err, All, slice_get, ⊤}
+use Rattle.std.specs.Prelude.{ℕ, ◌+◌, ◌≤◌, ◌≡◌, ◌==◌, nat_lt, List, [], ◌∷◌, ◌++◌, length, drop, take, Bool, true, false, not, ◌||◌, ◌&&◌, if◌then◌else◌, Option, Some, None, IfSome, Result, Ok, Err, All, slice_get, ⊤}
+use Rattle.kp_base.specs.Characters.{is_digit, is_letter, is_word, run_length}
 use Rattle.kp_base.specs.Place.{place_after}
 use Rattle.kp_base.specs.Refusal.{e_rule}
 use Rattle.kp_base.specs.declared.place.Place.{Place}
@@ -38,26 +39,11 @@ gap_length false (byte ∷ rest) =
     else if is_layout byte then gap_length false rest + 1
     else 0
 
-abbrev pub is_digit : ℕ → Bool
-is_digit byte = nat_le 48 byte && nat_le byte 57
-
--- A to Z, a to z, and `_`
-abbrev pub is_letter : ℕ → Bool
-is_letter byte = (nat_le 65 byte && nat_le byte 90) || (nat_le 97 byte && nat_le byte 122) || byte == 95
-
--- what an identifier goes on with
-abbrev pub is_word : ℕ → Bool
-is_word byte = is_letter byte || is_digit byte
-
 -- what a run goes on with that begins with a digit
 abbrev pub is_in_run : ℕ → Bool
 is_in_run byte = is_word byte || byte == 39
 
--- how many bytes at the front pass the test: as long as possible
-abbrev pub run_length : (ℕ → Bool) → List ℕ → ℕ
-run_length test [] = 0
-run_length test (byte ∷ rest) = if test byte then run_length test rest + 1 else 0
-
+-- the bytes at the front that pass the test
 abbrev pub run_of : (ℕ → Bool) → List ℕ → List ℕ
 run_of test text = take (run_length test text) text
 

@@ -1,10 +1,12 @@
 // What stands at the front of a text.
 ghost use Rattle.std.specs.Prelude.{◌≡◌, ◌≤◌, ◌<◌, ◌^◌, length, find, true, false};
 ghost use Rattle.std.specs.Str.{bytes_eq};
+ghost use Rattle.kp_base.specs.Characters.{run_length};
 ghost use Rattle.kp_lex.specs.Words.{spelling, keyword_of, single_mark, double_mark};
-ghost use Rattle.kp_lex.specs.Text.{is_layout, begins_comment, gap_length, is_letter, is_word, is_in_run, run_length, identifier, number_run, mark, front_of};
+ghost use Rattle.kp_lex.specs.Text.{is_layout, begins_comment, gap_length, is_in_run, identifier, number_run, mark, front_of};
 
 use crate::{Keyword, Mark, TokenKind};
+use kp_base::{is_letter, is_word, run_length, word_length};
 use kp_bits::{read_literal, read_number};
 
 /// What stands at the front of a text.
@@ -74,35 +76,11 @@ fn begins_comment(text: &[u8]) -> bool
     matches!(text, [b'/', b'/', ..])
 }
 
-fn is_letter(byte: u8) -> bool
-    ensures { result ≡ is_letter byte }
-{
-    byte.is_ascii_alphabetic() || byte == b'_'
-}
-
-fn is_word(byte: u8) -> bool
-    ensures { result ≡ is_word byte }
-{
-    byte.is_ascii_alphanumeric() || byte == b'_'
-}
-
+// What a run goes on with that begins with a digit.
 fn is_in_run(byte: u8) -> bool
     ensures { result ≡ is_in_run byte }
 {
     is_word(byte) || byte == b'\''
-}
-
-// How many letters, digits and `_` stand at the front.
-fn word_length(text: &[u8]) -> usize
-    ensures value { result ≡ run_length is_word text.now }
-    ensures within { result ≤ length text.now }
-{
-    for (i, byte) in text.iter().enumerate() {
-        if !is_word(*byte) {
-            return i;
-        }
-    }
-    text.len()
 }
 
 // How many letters, digits, `_` and `'` stand at the front.
@@ -110,12 +88,7 @@ fn number_length(text: &[u8]) -> usize
     ensures value { result ≡ run_length is_in_run text.now }
     ensures within { result ≤ length text.now }
 {
-    for (i, byte) in text.iter().enumerate() {
-        if !is_in_run(*byte) {
-            return i;
-        }
-    }
-    text.len()
+    run_length(text, is_in_run)
 }
 
 // A keyword or a name, unless it is too long.

@@ -8,6 +8,3 @@ mod token;
 
 pub use lexer::{lex, tail};
 pub use token::{Keyword, Lexed, Mark, Token, TokenKind};
-
-#[cfg(test)]
-mod tests;

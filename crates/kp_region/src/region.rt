@@ -124,38 +124,3 @@ impl Region {
         self.used = m.used;
     }
 }
-
-#[cfg(test)]
-mod tests {
-    use super::*;
-    use std::test::Fail;
-
-    #[test]
-    fn carves_until_full(rt: HostRuntime) -> Result<(), Fail> {
-        let mut region = Region::take(rt.alloc(), 4)?;
-        assert_eq!(rt; region.carve(3), Ok(Span { start: 0, len: 3 }));
-        assert_eq!(rt; region.carve(2), Err(Full));
-        assert_eq!(rt; region.carve(1), Ok(Span { start: 3, len: 1 }));
-        assert_eq!(rt; region.carve(0), Ok(Span { start: 4, len: 0 }));
-        assert_eq!(rt; region.carve(u32::MAX), Err(Full));
-        Ok(())
-    }
-
-    #[test]
-    fn copies_and_releases(rt: HostRuntime) -> Result<(), Fail> {
-        let mut region = Region::take(rt.alloc(), 6)?;
-        let low = region.carve(3)?;
-        let mark = region.mark();
-        let high = region.carve(3)?;
-        region.put(low, 2, u64::MAX);
-        region.copy(low, high);
-        region.put(high, 0, 9);
-        assert_eq!(rt; [region.get(low, 0), region.get(low, 2)], [0, u64::MAX]);
-        assert_eq!(rt; [region.get(high, 0), region.get(high, 2)], [9, u64::MAX]);
-        region.release(mark);
-        let again = region.carve(2)?;
-        assert_eq!(rt; again, Span { start: 3, len: 2 });
-        assert_eq!(rt; [region.get(again, 0), region.get(low, 2)], [0, u64::MAX]);
-        Ok(())
-    }
-}

@@ -1,5 +1,5 @@
 use Rattle.std.proofs.Common.{◌≡◌, ◌+◌, drop}
-use Rattle.kp_asm.specs.Program.{line_length}
+use Rattle.kp_asm.specs.inner.Listing.{line_length}
 use Rattle.kp_asm.proofs.listing.line_length.Given as goal
 
 abbrev pub invariant-loop-i : goal.invariant-loop-i

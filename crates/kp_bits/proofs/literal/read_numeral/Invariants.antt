@@ -1,7 +1,7 @@
 -- The bytes that are left, read after those that are read, give what all of them do.
 use Rattle.std.proofs.Common.{◌≡◌, ◌<◌, ◌^◌, drop, fold}
 use Rattle.kp_bits.specs.Literals.{numeral_value, numeral_next}
-use Rattle.kp_bits.proofs.literal.numeral_value.Given as goal
+use Rattle.kp_bits.proofs.literal.read_numeral.Given as goal
 
 abbrev pub invariant-loop-digit : goal.invariant-loop-digit
 invariant-loop-digit l =

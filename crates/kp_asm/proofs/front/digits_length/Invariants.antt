@@ -1,6 +1,0 @@
-use Rattle.std.proofs.Common.{◌≡◌, ◌+◌, drop}
-use Rattle.kp_asm.specs.Tokens.{run_length, is_digit}
-use Rattle.kp_asm.proofs.front.digits_length.Given as goal
-
-abbrev pub invariant-loop-i : goal.invariant-loop-i
-invariant-loop-i l = l.i + run_length is_digit (drop l.i l.text) ≡ run_length is_digit l.text

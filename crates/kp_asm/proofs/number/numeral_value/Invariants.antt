@@ -1,8 +1,0 @@
--- The bytes that are left, read after those that are read, give what all of them do.
-use Rattle.std.proofs.Common.{◌≡◌, ◌<◌, ◌^◌, drop, fold}
-use Rattle.kp_bits.specs.Literals.{numeral_value, numeral_next}
-use Rattle.kp_asm.proofs.number.numeral_value.Given as goal
-
-abbrev pub invariant-loop-digit : goal.invariant-loop-digit
-invariant-loop-digit l =
-    (fold (numeral_next l.base) l.value (drop l.digit-index l.digits) ≡ numeral_value l.base l.digits) × (l.value < 2 ^ 64)

@@ -1,0 +1,9 @@
+-- A text that is written piece by piece.
+use Rattle.std.specs.Prelude.{◌≡◌, ℕ, List, ◌++◌, Option}
+use Rattle.std.specs.Io.KnownBytes.{Appends}
+
+-- a whole text is written up to this rest of it
+pub record WrittenUpTo (whole rest : List ℕ) (old new : Option (List ℕ)) : Type 0 where
+  pub done : List ℕ
+  pub split : whole ≡ done ++ rest
+  pub appended : Appends old new done

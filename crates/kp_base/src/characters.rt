@@ -1,0 +1,46 @@
+// Bytes of a text, and how far those of one kind go on.
+ghost use Rattle.std.specs.Prelude.{◌≡◌, ◌≤◌, ℕ, Bool, length};
+ghost use Rattle.kp_base.specs.Characters.{is_digit, is_letter, is_word, run_length, Tells};
+
+/// A decimal digit.
+pub fn is_digit(byte: u8) -> bool
+    ensures { result ≡ is_digit byte }
+{
+    byte.is_ascii_digit()
+}
+
+/// A letter or `_`: what a name begins with.
+pub fn is_letter(byte: u8) -> bool
+    ensures { result ≡ is_letter byte }
+{
+    byte.is_ascii_alphabetic() || byte == b'_'
+}
+
+/// A letter, a digit or `_`: what a name goes on with.
+pub fn is_word(byte: u8) -> bool
+    ensures { result ≡ is_word byte }
+{
+    byte.is_ascii_alphanumeric() || byte == b'_'
+}
+
+/// How many bytes at the front of the text pass the test: as long as possible.
+pub fn run_length<F: Fn(u8) -> bool>(text: &[u8], test: F) -> usize
+    requires { F.IsAlwaysCallable test }
+    ensures value { (passes : ℕ → Bool) → Tells (F.post test) passes → result ≡ run_length passes text.now }
+    ensures within { result ≤ length text.now }
+{
+    for (i, byte) in text.iter().enumerate() {
+        if !test(*byte) {
+            return i;
+        }
+    }
+    text.len()
+}
+
+/// How many letters, digits and `_` stand at the front of the text.
+pub fn word_length(text: &[u8]) -> usize
+    ensures value { result ≡ run_length is_word text.now }
+    ensures within { result ≤ length text.now }
+{
+    run_length(text, is_word)
+}

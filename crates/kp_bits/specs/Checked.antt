@@ -1,0 +1,47 @@
+-- The operations on words where they are of the widths that each is meant for, and none else.
+use Rattle.std.specs.Prelude.{ℕ, ◌+◌, Bool, ◌&&◌, ◌||◌, ◌==◌, nat_lt, nat_le, if◌then◌else◌, List, [], ◌∷◌, Option, None, Some}
+use Rattle.std.specs.Result.{result_ok}
+use Rattle.kp_bits.specs.Literals.{fit_of}
+use Rattle.kp_bits.specs.Operators.{is_shift, binary_of}
+use Rattle.kp_bits.specs.Word.{Word, mux_of, concat_of, slice_of, zext_of, sext_of}
+use Rattle.kp_bits.specs.declared.literal.Literal.{Literal}
+use Rattle.kp_bits.specs.declared.operator.BinOp.{BinOp}
+
+-- a value where a test passes
+abbrev pub where_so : Bool → Word → Option Word
+where_so test value = if test then Some value else None
+
+-- the width is in 1 to 64, and the value fits it
+abbrev pub checked_literal : Literal → Option Word
+checked_literal l = result_ok (fit_of l)
+
+-- the operands have one width, but for a shift
+abbrev pub checked_binary : BinOp → Word → Word → Option Word
+checked_binary op a b = where_so (is_shift op || a.width == b.width) (binary_of op a b)
+
+-- the test has one bit, and the branches have one width
+abbrev pub checked_mux : Word → Word → Word → Option Word
+checked_mux test a b = where_so (test.width == 1 && a.width == b.width) (mux_of test a b)
+
+-- the parts have at most 64 bits together
+abbrev pub checked_join : Word → List Word → Option Word
+checked_join a [] = Some a
+checked_join a (b ∷ rest) = if nat_le (a.width + b.width) 64 then checked_join (concat_of a b) rest else None
+
+abbrev pub checked_joined : List Word → Option Word
+checked_joined [] = None
+checked_joined (a ∷ rest) = checked_join a rest
+
+-- the bits are there, in this order
+abbrev pub checked_slice : ℕ → ℕ → Word → Option Word
+checked_slice hi lo a = where_so (nat_le lo hi && nat_lt hi a.width) (slice_of a hi lo)
+
+-- an extension to no fewer bits than there are, and to 64 at most
+abbrev pub is_extension : ℕ → Word → Bool
+is_extension width a = nat_le a.width width && nat_le width 64
+
+abbrev pub checked_zext : ℕ → Word → Option Word
+checked_zext width a = where_so (is_extension width a) (zext_of a width)
+
+abbrev pub checked_sext : ℕ → Word → Option Word
+checked_sext width a = where_so (is_extension width a) (sext_of a width)
