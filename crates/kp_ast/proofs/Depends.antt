@@ -5,7 +5,8 @@ use Rattle.std.specs.List.{flat_map}
 use Rattle.std.proofs.lemmas.List.Elements.{Contains-append_left, Contains-append_right}
 use Rattle.kp_bits.specs.Word.{not_of, mux_of, slice_of, zext_of, sext_of}
 use Rattle.kp_ast.specs.declared.tree.Expr.{Expr}
-use Rattle.kp_ast.specs.Expressions.{Env, eval, joined_of, binary_of, names_in, names_in_kind, names_in_level, IsSameAt}
+use Rattle.kp_ast.specs.Expressions.{Env, eval, names_in, names_in_kind, names_in_level, IsSameAt}
+use Rattle.kp_bits.specs.Operators.{joined_of, binary_of}
 use Rattle.kp_ast.proofs.Levels.{fold-Lit, fold-Name, fold-Not, fold-Binary, fold-Mux, fold-Concat, fold-Slice, fold-Zext, fold-Sext, fold-Call}
 use Rattle.kp_ast.proofs.Induction.{Every, induction}
 

@@ -2,7 +2,7 @@
 use Rattle.std.proofs.Common.{◌≡◌, ℕ, List, [], ◌∷◌, map, subst}
 use Rattle.kp_base.specs.declared.place.Place.{Place}
 use Rattle.kp_bits.specs.declared.literal.Literal.{Literal}
-use Rattle.kp_ast.specs.declared.tree.BinOp.{BinOp}
+use Rattle.kp_bits.specs.declared.operator.BinOp.{BinOp}
 use Rattle.kp_ast.specs.declared.tree.Num.{Num}
 use Rattle.kp_ast.specs.declared.tree.Expr.{Expr}
 use Rattle.kp_ast.specs.declared.tree.ExprKind.{ExprKind}

@@ -2,5 +2,4 @@ pub mod Levels
 pub mod Induction
 pub mod Bodies
 pub mod Weight
-pub mod Agree
 pub mod Depends

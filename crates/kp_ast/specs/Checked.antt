@@ -1,12 +1,9 @@
 -- The value of an expression, where each operation in it has operands of the widths that it is meant for, and each name and
 -- function is known. The plain program gives this one, since a value of a program has 1 to 64 bits.
-use Rattle.std.specs.Prelude.{ℕ, ◌+◌, Bool, ◌&&◌, ◌||◌, ◌==◌, nat_lt, nat_le, if◌then◌else◌, List, [], ◌∷◌, length, fold, Option, None, Some, option_map, option_and_then}
-use Rattle.std.specs.Result.{result_ok}
-use Rattle.kp_bits.specs.Literals.{fit_of}
-use Rattle.kp_bits.specs.Word.{Word, not_of, mux_of, concat_of, slice_of, zext_of, sext_of}
-use Rattle.kp_bits.specs.declared.literal.Literal.{Literal}
-use Rattle.kp_ast.specs.Expressions.{is_shift, Values, look_up, arguments_of, binary_of, is_function}
-use Rattle.kp_ast.specs.declared.tree.BinOp.{BinOp}
+use Rattle.std.specs.Prelude.{ℕ, ◌==◌, if◌then◌else◌, List, [], ◌∷◌, length, fold, Option, None, Some, option_map, option_and_then}
+use Rattle.kp_bits.specs.Checked.{checked_literal, checked_binary, checked_mux, checked_joined, checked_slice, checked_zext, checked_sext}
+use Rattle.kp_bits.specs.Word.{Word, not_of}
+use Rattle.kp_ast.specs.Expressions.{Values, look_up, arguments_of, is_function}
 use Rattle.kp_ast.specs.declared.tree.Decl.{Decl}
 use Rattle.kp_ast.specs.declared.tree.Decl.TheVariants as decls
 use Rattle.kp_ast.specs.declared.tree.Expr.{Expr}
@@ -18,45 +15,6 @@ use Rattle.kp_ast.specs.declared.tree.ExprKind.TheFolds.{fold-Expr}
 pub record Known : Type 0 where
   pub names : List ℕ → Option Word
   pub calls : List ℕ → List Word → Option Word
-
--- a value where a test passes
-abbrev pub where_so : Bool → Word → Option Word
-where_so test value = if test then Some value else None
-
--- the width is in 1 to 64, and the value fits it
-abbrev pub checked_literal : Literal → Option Word
-checked_literal l = result_ok (fit_of l)
-
--- the operands have one width, but for a shift
-abbrev pub checked_binary : BinOp → Word → Word → Option Word
-checked_binary op a b = where_so (is_shift op || a.width == b.width) (binary_of op a b)
-
--- the test has one bit, and the branches have one width
-abbrev pub checked_mux : Word → Word → Word → Option Word
-checked_mux test a b = where_so (test.width == 1 && a.width == b.width) (mux_of test a b)
-
--- the parts have at most 64 bits together
-abbrev pub checked_join : Word → List Word → Option Word
-checked_join a [] = Some a
-checked_join a (b ∷ rest) = if nat_le (a.width + b.width) 64 then checked_join (concat_of a b) rest else None
-
-abbrev pub checked_joined : List Word → Option Word
-checked_joined [] = None
-checked_joined (a ∷ rest) = checked_join a rest
-
--- the bits are there, in this order
-abbrev pub checked_slice : ℕ → ℕ → Word → Option Word
-checked_slice hi lo a = where_so (nat_le lo hi && nat_lt hi a.width) (slice_of a hi lo)
-
--- an extension to no fewer bits than there are, and to 64 at most
-abbrev pub is_extension : ℕ → Word → Bool
-is_extension width a = nat_le a.width width && nat_le width 64
-
-abbrev pub checked_zext : ℕ → Word → Option Word
-checked_zext width a = where_so (is_extension width a) (zext_of a width)
-
-abbrev pub checked_sext : ℕ → Word → Option Word
-checked_sext width a = where_so (is_extension width a) (sext_of a width)
 
 -- all values, where each is there
 abbrev pub all_there : List (Option Word) → Option (List Word)

@@ -1,10 +1,10 @@
 -- What an expression means: its value, where an environment gives names and calls theirs.
-use Rattle.std.specs.Prelude.{◌≡◌, ℕ, Bool, true, false, List, [], ◌∷◌, ◌++◌, if◌then◌else◌, nat_eq, Option, unwrap_or, fold, map}
+use Rattle.std.specs.Prelude.{◌≡◌, ℕ, Bool, false, List, [], ◌∷◌, ◌++◌, if◌then◌else◌, nat_eq, Option, unwrap_or, fold, map}
 use Rattle.std.specs.List.{zip, flat_map}
 use Rattle.std.specs.Map.{lookup}
 use Rattle.std.specs.Cmp.Lexicographic.{pointwise}
-use Rattle.kp_bits.specs.Word.{Word, word, not_of, and_of, or_of, xor_of, add_of, sub_of, mul_of, eq_of, lt_of, shl_of, shr_of, mux_of, concat_of, slice_of, zext_of, sext_of}
-use Rattle.kp_ast.specs.declared.tree.BinOp.{BinOp}
+use Rattle.kp_bits.specs.Operators.{no_word, binary_of, joined_of}
+use Rattle.kp_bits.specs.Word.{Word, word, not_of, mux_of, slice_of, zext_of, sext_of}
 use Rattle.kp_ast.specs.declared.tree.Param.{Param}
 use Rattle.kp_ast.specs.declared.tree.FuncDecl.{FuncDecl}
 use Rattle.kp_ast.specs.declared.tree.Decl.{Decl}
@@ -28,34 +28,6 @@ pub record Env : Type 0 where
 -- two names are one where their bytes are
 abbrev pub is_same_name : List ℕ → List ℕ → Bool
 is_same_name a b = pointwise nat_eq a b
-
--- what stands for a value where nothing gives one; in an accepted job that happens nowhere
-abbrev pub no_word : Word
-no_word = word 0 0
-
--- `<<` and `>>`, whose right operand may have any width
-abbrev pub is_shift : BinOp → Bool
-is_shift BinOp.Shl = true
-is_shift BinOp.Shr = true
-is_shift _ = false
-
--- what a binary operator gives
-abbrev pub binary_of : BinOp → Word → Word → Word
-binary_of BinOp.And a b = and_of a b
-binary_of BinOp.Or a b = or_of a b
-binary_of BinOp.Xor a b = xor_of a b
-binary_of BinOp.Add a b = add_of a b
-binary_of BinOp.Sub a b = sub_of a b
-binary_of BinOp.Mul a b = mul_of a b
-binary_of BinOp.Eq a b = eq_of a b
-binary_of BinOp.Lt a b = lt_of a b
-binary_of BinOp.Shl a b = shl_of a b
-binary_of BinOp.Shr a b = shr_of a b
-
--- `{a, b, c}`: the bits of all parts in a row, those of the first on top
-abbrev pub joined_of : List Word → Word
-joined_of [] = no_word
-joined_of (a ∷ rest) = fold concat_of a rest
 
 -- one level: the value of an expression from those of its parts
 abbrev pub value_of_kind : Env → ExprKind-F Word Word → Word

@@ -1,6 +1,6 @@
 -- The expanded size of an expression: how many literals, names, operators and calls it has once each call counts the body of its
 -- function too. Nothing is expanded for it.
-use Rattle.std.specs.Prelude.{ℕ, ◌+◌, min, List, [], ◌∷◌, if◌then◌else◌, fold, sum, sum_by}
+use Rattle.std.specs.Prelude.{ℕ, ◌+◌, min, List, [], ◌∷◌, if◌then◌else◌, fold, sum}
 use Rattle.kp_ast.specs.Expressions.{is_function}
 use Rattle.kp_ast.specs.declared.tree.Decl.{Decl}
 use Rattle.kp_ast.specs.declared.tree.Decl.TheVariants as decls
@@ -32,9 +32,6 @@ size_of_level e = e.kind
 -- the size of an expression, where the bodies of functions have these sizes
 abbrev pub size_with : Bodies → Expr → ℕ
 size_with bodies = fold-Expr ℕ ℕ (size_of_kind bodies) size_of_level
-
-abbrev pub sizes_with : Bodies → List Expr → ℕ
-sizes_with bodies es = sum_by (size_with bodies) es
 
 -- the size of the body in a declaration, or 0 where it has none
 abbrev pub body_size_of : Bodies → Decl → ℕ

@@ -26,14 +26,6 @@ impl<T> Boxed<T> {
     {
         &self.inner
     }
-
-    /// Gives back what the box holds.
-    pub fn into_inner(self) -> T
-        ensures { result ≡ self }
-    {
-        let Boxed { inner } = self;
-        Box::into_inner(inner)
-    }
 }
 
 impl<T: Drop> Boxed<T> {

@@ -44,10 +44,3 @@ pub fn call_is_its_body()
         ≡ eval (env_of ds (arguments_of f.params (map (eval env) args))) f.body }
     ensures size { (ds : List Decl) (f : FuncDecl) → bodies_of (ds ++ decls.Func f ∷ []) f.name.name ≡ size ds f.body }
 {}
-
-/// A tree has no more than its parts: trees that are equal have the same value, size and names.
-pub fn equal_trees_mean_the_same()
-    ensures value { (env : Env) (a b : Expr) → a ≡ b → eval env a ≡ eval env b }
-    ensures size { (ds : List Decl) (a b : Expr) → a ≡ b → size ds a ≡ size ds b }
-    ensures names { (a b : Expr) → a ≡ b → names_in a ≡ names_in b }
-{}

@@ -1,7 +1,8 @@
 //! The expanded size of expressions, up to a limit, without expanding anything.
 ghost use Rattle.std.specs.Prelude.{◌≡◌, ◌+◌, ◌≤◌, min, IfOk};
 ghost use Rattle.kp_ast.specs.Expressions.{is_function};
-ghost use Rattle.kp_ast.specs.Size.{size, sizes_with, body_size_of, bodies_of, capped_bodies};
+ghost use Rattle.kp_ast.specs.inner.Sizes.{sizes_with};
+ghost use Rattle.kp_ast.specs.Size.{size, body_size_of, bodies_of, capped_bodies};
 
 use crate::name::Name;
 use crate::tree::{Decl, Expr, ExprKind};

@@ -1,53 +1,7 @@
 use crate::boxed::Boxed;
 use crate::name::Name;
 use kp_base::{List, Place};
-use kp_bits::{Bits, Literal};
-
-/// A binary operator: `& | ^ + - * == < << >>`, in this order.
-#[derive(Clone, Copy, Debug, PartialEq, Eq)]
-pub enum BinOp {
-    And,
-    Or,
-    Xor,
-    Add,
-    Sub,
-    Mul,
-    Eq,
-    Lt,
-    Shl,
-    Shr,
-}
-
-impl BinOp {
-    ghost use Rattle.std.specs.Prelude.{◌≡◌, false};
-    ghost use Rattle.kp_ast.specs.Expressions.{is_shift, binary_of};
-
-    /// Whether the right operand may have any width.
-    pub fn is_shift(self) -> bool
-        ensures { result ≡ is_shift self }
-    {
-        matches!(self, BinOp::Shl | BinOp::Shr)
-    }
-
-    /// The value of the operator at these operands.
-    pub fn apply(self, a: Bits, b: Bits) -> Bits
-        requires { is_shift self ≡ false → a.width ≡ b.width }
-        ensures { result ≡ binary_of self a b }
-    {
-        match self {
-            BinOp::And => a.and(b),
-            BinOp::Or => a.or(b),
-            BinOp::Xor => a.xor(b),
-            BinOp::Add => a.add(b),
-            BinOp::Sub => a.sub(b),
-            BinOp::Mul => a.mul(b),
-            BinOp::Eq => a.eq(b),
-            BinOp::Lt => a.lt(b),
-            BinOp::Shl => a.shl(b),
-            BinOp::Shr => a.shr(b),
-        }
-    }
-}
+use kp_bits::{BinOp, Literal};
 
 /// A number as it is written, and where.
 #[derive(Clone, Copy, Debug, PartialEq, Eq)]
@@ -183,6 +137,8 @@ pub enum Decl {
     Hint(Named, Num, Lit),
     Target(ResultDecl),
     Func(FuncDecl),
+    /// `sample name : width at stage;`
+    Sample(Named, Num, Num),
 }
 
 /// An entry of the image section: `name[address] = value, value;`
@@ -202,6 +158,16 @@ pub struct Stalls {
     pub step: Option<Num>,
 }
 
+/// An entry of the inputs section: `name = value from a to b step p;`
+#[derive(Debug, Drop)]
+pub struct Inputs {
+    pub name: Named,
+    pub value: Lit,
+    pub from: Num,
+    pub to: Num,
+    pub step: Option<Num>,
+}
+
 /// A whole job. A section that stands in the text and has no entries is an empty list.
 #[derive(Debug, Drop)]
 pub struct Job {
@@ -211,6 +177,7 @@ pub struct Job {
     pub blocks: List<Block>,
     pub image: Option<List<Image>>,
     pub stalls: Option<List<Stalls>>,
+    pub inputs: Option<List<Inputs>>,
 }
 
 impl Decl {

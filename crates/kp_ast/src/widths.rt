@@ -18,6 +18,7 @@ pub enum NameKind {
     Pipe,
     Target,
     Hint,
+    Sample,
     Func,
     Param,
     Read,

@@ -6,11 +6,11 @@ use Rattle.kp_grammar.specs.Tables.{Tables, among, within, apart, first_of, empt
 use Rattle.kp_grammar.proofs.Conditions.{Follows, Decides}
 use Rattle.kp_grammar.proofs.Exact.{and_true, or_true}
 
-implied : (a b : Bool) → (not a || b) ≡ true → a ≡ true → b ≡ true
+pub implied : (a b : Bool) → (not a || b) ≡ true → a ≡ true → b ≡ true
 implied true b h k = h
 implied false b h k = cc
 
-not_true : (a : Bool) → not a ≡ true → a ≡ false
+pub not_true : (a : Bool) → not a ≡ true → a ≡ false
 not_true true h = cc
 not_true false h = refl
 

@@ -1,9 +1,11 @@
 -- The laws at the small grammar.
-use Rattle.std.proofs.Common.{◌≡◌, [], ◌∷◌, true, false, refl}
+use Rattle.std.proofs.Common.{ℕ, ◌≡◌, [], ◌∷◌, true, false, refl, arith}
+use Rattle.std.specs.Prelude.{nat_lt}
 use Rattle.kp_grammar.specs.Grammar.{stay, IsSentence, IsWrongAt, IsLimit, IsOverAt}
 use Rattle.kp_grammar.specs.Tables.{IsPredictive}
 use Rattle.kp_grammar.specs.Machine.{goes, take, wrong, exceed}
-use Rattle.kp_grammar.specs.Sample.{Token, number, plus, opening, closing, State, Way, plainly, as_value, as_opening, as_closing, Step, add, SUM, tables, sums, start, is_over}
+use Rattle.kp_grammar.specs.Ranks.{Ranks, ranks_fit}
+use Rattle.kp_grammar.specs.Sample.{round, Token, number, plus, opening, closing, State, Way, plainly, as_value, as_opening, as_closing, Step, add, SUM, tables, sums, start, is_over}
 use Rattle.kp_grammar.proofs.Laws.{wrong_at, over_at, computed}
 
 pub predictive : IsPredictive sums tables SUM
@@ -34,3 +36,10 @@ wrong_third = wrong_at sums tables SUM predictive {over = is_over}
 pub over_third : IsOverAt sums is_over SUM start (opening ∷ opening ∷ opening ∷ []) 1
 over_third = over_at sums tables SUM predictive is_over limit refl
     (goes _ refl (goes _ refl (take refl refl (goes _ refl (goes _ refl (take refl refl (goes _ refl (goes _ refl (exceed refl refl)))))))))
+
+not_below_itself : (n : ℕ) → nat_lt n n ≡ false
+not_below_itself n = grind arith
+
+-- A name that leads back to itself would be of lower rank than itself.
+pub unranked : (some : Ranks) → ranks_fit tables some round ≡ false
+unranked some = rw (not_below_itself (some SUM)) refl

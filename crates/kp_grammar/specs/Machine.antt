@@ -1,4 +1,5 @@
--- The machine that goes on as the next token says. Only proofs and private contracts speak of it.
+-- The machine that goes on as the next token says. The laws of this crate tie it to derivations; a reader's private contracts speak of
+-- it, its public ones don't.
 use Rattle.std.specs.Prelude.{ℕ, zero, suc, ◌≡◌, ◌==◌, List, [], ◌∷◌, ◌++◌, length, Bool, true, false, cond, Option, Some, None}
 use Rattle.kp_grammar.specs.Grammar.{Symbol, Terminal, Nonterminal, Action, Grammar}
 use Rattle.kp_grammar.specs.Tables.{Tables, END_OF_TEXT, pick}

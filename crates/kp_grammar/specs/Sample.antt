@@ -2,9 +2,10 @@
 --
 -- sum  = term { '+' term }
 -- term = NUMBER | '(' sum ')'
-use Rattle.std.specs.Prelude.{ℕ, ◌+◌, ◌-◌, nat_lt, List, [], ◌∷◌, Bool, true, false, ◌||◌}
+use Rattle.std.specs.Prelude.{ℕ, ◌+◌, ◌-◌, ◌==◌, nat_lt, List, [], ◌∷◌, Bool, true, false, cond, ◌||◌}
 use Rattle.kp_grammar.specs.Grammar.{Terminal, Nonterminal, Action, Rules, Grammar}
 use Rattle.kp_grammar.specs.Tables.{Tables}
+use Rattle.kp_grammar.specs.Ranks.{Ranks}
 
 pub data Token : Type 0 where
   number : ℕ → Token
@@ -73,6 +74,10 @@ tables =
     ∷ (record { name = TERM; first = 1 ∷ 3 ∷ []; empty = false; after = 0 ∷ 2 ∷ 4 ∷ [] })
     ∷ []
 
+-- a sum begins with a term, and is above it
+abbrev pub ranks : Ranks
+ranks n = cond (n == SUM) 1 0
+
 abbrev pub sums : Grammar Way Step Token State
 sums = record { class = class; rules = rules; reads = read_token; builds = built }
 
@@ -95,3 +100,7 @@ followed = (MORE, (Terminal 2 plainly ∷ []) ∷ [] ∷ []) ∷ []
 
 abbrev pub followed_tables : Tables
 followed_tables = (record { name = MORE; first = 2 ∷ []; empty = true; after = 2 ∷ [] }) ∷ []
+
+-- a rule that no ranks fit: before a token is read, its name leads back to itself
+abbrev pub round : Rules Way Step
+round = (SUM, (Nonterminal SUM ∷ Terminal 2 plainly ∷ []) ∷ (Terminal 1 plainly ∷ []) ∷ []) ∷ []

@@ -9,8 +9,9 @@
 ghost use Rattle.std.specs.Prelude.{◌≡◌, ◌++◌, [], ◌∷◌, ℕ, List, Bool, true, false, Some};
 ghost use Rattle.kp_grammar.specs.Grammar.{Symbol, Nonterminal, Grammar, Derives, IsSentence, IsWrongAt, IsLimit, IsWithin, IsOverAt};
 ghost use Rattle.kp_grammar.specs.Tables.{Tables, rules_fit, IsPredictive};
-ghost use Rattle.kp_grammar.specs.Machine.{Accepts, Stops, Exceeds, Leads, Config, advance};
-ghost use Rattle.kp_grammar.specs.Sample.{number, plus, opening, closing, SUM, tables, sums, start, is_over, alike, two_vanish, followed, followed_tables};
+ghost use Rattle.kp_grammar.specs.Machine.{Outcome, Accepts, Stops, Exceeds, Leads, Config, advance};
+ghost use Rattle.kp_grammar.specs.Ranks.{Ranks, ranks_fit};
+ghost use Rattle.kp_grammar.specs.Sample.{number, plus, opening, closing, SUM, tables, sums, start, is_over, alike, two_vanish, followed, followed_tables, ranks, round};
 
 /// Uniqueness: by a predictive grammar a sentence builds one state.
 pub fn a_sentence_builds_one_state<W, B, X, S>()
@@ -56,6 +57,13 @@ pub fn an_excess_stays<W, B, X, S>()
         → IsOverAt g over n v ts k → IsSentence g n v ts w → over w ≡ true }
 {}
 
+/// The machine ends: where, before a token is read, each name leads to names of lower rank alone, it accepts
+/// each text, stops in it, or finds the limit passed.
+pub fn the_machine_ends<W, B, X, S>()
+    ensures { (g : Grammar W B X S) (tables : Tables) (rank : Ranks) → rules_fit tables g.rules ≡ true → ranks_fit tables rank g.rules ≡ true
+        → (over : S → Bool) (n : ℕ) (v : S) (ts : List X) → (o : Outcome S) × Leads g over tables (Nonterminal n ∷ []) v ts o }
+{}
+
 /// A derivation reads a front of the tokens, and reads it alike before any others: whether a prefix is
 /// viable is a matter of the prefix alone.
 pub fn a_derivation_reads_a_front<W, B, X, S>()
@@ -72,11 +80,14 @@ pub fn computed_steps_are_a_derivation<W, B, X, S>()
 
 /// The laws at work on sums with brackets, of which two may be open: the grammar is predictive, `1 + (2 + 3)`
 /// is a sentence that builds 6, in `1 + )` the last token is wrong, and in `( ( (` the last one passes the
-/// limit. Rules that the next token doesn't decide fail the test.
+/// limit. Rules that the next token doesn't decide fail the test, and no ranks fit a name that leads back to
+/// itself before a token is read.
 pub fn sums_are_an_example()
     ensures predictive { IsPredictive sums tables SUM }
+    ensures ranked { ranks_fit tables ranks sums.rules ≡ true }
     ensures sentence { IsSentence sums SUM start (number 1 ∷ plus ∷ opening ∷ number 2 ∷ plus ∷ number 3 ∷ closing ∷ []) (record { depth = 0; over = false; sums = 6 ∷ [] }) }
     ensures wrong { IsWrongAt sums SUM start (number 1 ∷ plus ∷ closing ∷ []) 1 }
     ensures over { IsOverAt sums is_over SUM start (opening ∷ opening ∷ opening ∷ []) 1 }
     ensures refused { (rules_fit tables alike ≡ false) × (rules_fit tables two_vanish ≡ false) × (rules_fit followed_tables followed ≡ false) }
+    ensures unranked { (some : Ranks) → ranks_fit tables some round ≡ false }
 {}

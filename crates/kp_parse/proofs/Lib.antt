@@ -5,3 +5,6 @@ pub mod Steps
 pub mod Operators
 pub mod Text
 pub mod Unique
+pub mod Ranked
+pub mod Shapes
+pub mod Verdict

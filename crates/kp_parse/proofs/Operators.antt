@@ -1,7 +1,7 @@
 -- Operators of a level.
 use Rattle.std.proofs.Common.{ℕ, ◌≡◌, ◌==◌, ◌<◌, ◌+◌, List, [], ◌∷◌, ◌++◌, drop, Bool, true, false, ◌||◌, cond, Option, Some, None, refl, sym, ap, subst, arith}
 use Rattle.kp_base.specs.declared.place.Place.{Place}
-use Rattle.kp_ast.specs.declared.tree.BinOp.{BinOp}
+use Rattle.kp_bits.specs.declared.operator.BinOp.{BinOp}
 use Rattle.kp_grammar.specs.Grammar.{Nonterminal, Action}
 use Rattle.kp_grammar.specs.Tables.{pick}
 use Rattle.kp_grammar.specs.Machine.{Outcome, goes, make}
@@ -10,17 +10,16 @@ use Rattle.kp_parse.specs.declared.level.Level.{Level}
 use Rattle.kp_parse.specs.declared.level.Level.TheVariants as levels
 use Rattle.kp_parse.specs.declared.fault.Fault.{Fault}
 use Rattle.kp_parse.specs.Tokens.{Lexeme, mark_class}
-use Rattle.kp_parse.specs.Operators.{operators_of, operator_at}
-use Rattle.kp_parse.specs.Language.{Sym, State, Value, rules, counted, make_binary, CHAIN, OPERAND, MORE}
-use Rattle.kp_parse.specs.Follow.{tables}
+use Rattle.kp_parse.specs.inner.Operators.{operators_of, operator_at}
+use Rattle.kp_parse.specs.Language.{Sym, State, Value, at, rules, counted, make_binary, expr, CHAIN, OPERAND, MORE, UNARY, POST}
+use Rattle.kp_parse.specs.inner.Follow.{tables}
 use Rattle.kp_parse.proofs.Steps.{fail_fail}
-use Rattle.kp_parse.specs.Reading.{Goes, at, class_at, Finds, Reads, Fails}
+use Rattle.kp_parse.specs.inner.Reading.{Goes, class_at, Finds, Reads, Fails}
 use Rattle.std.proofs.Common.{Result, Ok, Err, MatchResult}
 use Rattle.kp_ast.specs.declared.tree.Expr.{Expr}
 use Rattle.kp_ast.specs.declared.tree.ExprKind.TheViews as expressions
 use Rattle.kp_lex.specs.declared.token.Mark.TheVariants as marks
-use Rattle.kp_parse.specs.Language.{expr, UNARY, POST}
-use Rattle.kp_parse.specs.Reading.{ReadsYet}
+use Rattle.kp_parse.specs.inner.Reading.{ReadsYet}
 use Rattle.kp_parse.proofs.Steps.{by_counted, one}
 use Rattle.kp_parse.proofs.Picks.{unary_else}
 

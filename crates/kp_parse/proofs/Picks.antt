@@ -8,9 +8,9 @@ use Rattle.kp_lex.specs.declared.token.Keyword.TheVariants as keywords
 use Rattle.kp_lex.specs.declared.token.Mark.TheVariants as marks
 use Rattle.kp_parse.specs.declared.level.Level.TheVariants as levels
 use Rattle.kp_parse.specs.Tokens.{Lexeme, keyword_class, mark_class, IDENTIFIER, NUMBER, LITERAL}
-use Rattle.kp_parse.specs.Language.{Sym, State, Step, rules, language, ADDRESS, BINDING, CALL, CHAIN, CHOICE, DECL, DECLS, ENABLE, EXPR, EXPRS, EXTENDED, HEDGE, IMAGE, INDEX, JOB, LIT, LITS, LOW, NAME, NUM, NUMBERED, PAR, PARS, PARTS, POST, PRIM, SLICES, SPAN, SPANS, STAGE, STAGES, STALLS, STEP, STMT, STMTS, UNARY, WHEN, WHOLE, WORD, WORDS, closing, counted, enter, image_section, leave, make_aim, make_block, make_call, make_choice, make_concat, make_file, make_fn, make_hint, make_image, make_job, make_let, make_literal, make_name, make_not, make_param, make_pipe, make_put, make_read, make_reg, make_result, make_set, make_sext, make_slice, make_stall, make_zext, mark, no_blocks, no_decls, no_expr, no_exprs, no_hedge, no_image_section, no_images, no_literals, no_name, no_number, no_params, no_stall_section, no_stalls, no_stmts, one_block, one_decl, one_expr, one_image, one_literal, one_param, one_stall, one_stmt, opening, opening_at, placed, same_bit, separating, some_expr, some_guess, some_name, some_number, some_when, stall_section, word}
-use Rattle.kp_parse.specs.Follow.{tables, decl_words, stmt_words}
-use Rattle.kp_parse.specs.Reading.{Goes}
+use Rattle.kp_parse.specs.Language.{Sym, State, Step, rules, language, ADDRESS, BINDING, CALL, CHAIN, CHOICE, DECL, DECLS, ENABLE, ENTRIES, ENTRY, EXPR, EXPRS, EXTENDED, HEDGE, IMAGE, INDEX, INPUTS, JOB, LIT, LITS, LOW, NAME, NUM, NUMBERED, PAR, PARS, PARTS, POST, PRIM, SLICES, SPAN, SPANS, STAGE, STAGES, STALLS, STEP, STMT, STMTS, UNARY, WHEN, WHOLE, WORD, WORDS, closing, counted, enter, image_section, input_section, leave, make_aim, make_block, make_call, make_choice, make_concat, make_file, make_fn, make_hint, make_image, make_input, make_job, make_let, make_literal, make_name, make_not, make_param, make_pipe, make_put, make_read, make_reg, make_result, make_sample, make_set, make_sext, make_slice, make_stall, make_zext, mark, no_blocks, no_decls, no_expr, no_exprs, no_hedge, no_image_section, no_images, no_input_section, no_inputs, no_literals, no_name, no_number, no_params, no_stall_section, no_stalls, no_stmts, one_block, one_decl, one_expr, one_image, one_input, one_literal, one_param, one_stall, one_stmt, opening, opening_at, placed, same_bit, separating, some_expr, some_guess, some_name, some_number, some_when, stall_section, word}
+use Rattle.kp_parse.specs.inner.Follow.{tables, decl_words, stmt_words}
+use Rattle.kp_parse.specs.inner.Reading.{Goes}
 
 abbrev N : ℕ → Sym
 N n = Nonterminal n
@@ -34,8 +34,8 @@ at_class : (n c k : ℕ) (body : List Sym) → pick rules tables n c ≡ Some bo
 at_class n c k body p h = subst (λ (d : ℕ). pick rules tables n d ≡ Some body) (sym (eqb-true k c (sym h))) p
 
 module _ {s : List Sym} {v : State} {ts : List Lexeme} {o : Outcome State} where
-  pub job_all : Goes (word keywords.Machine ∷ NAME ∷ mark marks.Semicolon ∷ word keywords.Stages ∷ NUM ∷ mark marks.Semicolon ∷ A no_decls ∷ N DECLS ∷ A no_blocks ∷ N STAGE ∷ A one_block ∷ N STAGES ∷ N IMAGE ∷ N STALLS ∷ word keywords.End ∷ A make_job ∷ s) v ts o → Goes (N JOB ∷ s) v ts o
-  job_all h = goes (word keywords.Machine ∷ NAME ∷ mark marks.Semicolon ∷ word keywords.Stages ∷ NUM ∷ mark marks.Semicolon ∷ A no_decls ∷ N DECLS ∷ A no_blocks ∷ N STAGE ∷ A one_block ∷ N STAGES ∷ N IMAGE ∷ N STALLS ∷ word keywords.End ∷ A make_job ∷ []) refl h
+  pub job_all : Goes (word keywords.Machine ∷ NAME ∷ mark marks.Semicolon ∷ word keywords.Stages ∷ NUM ∷ mark marks.Semicolon ∷ A no_decls ∷ N DECLS ∷ A no_blocks ∷ N STAGE ∷ A one_block ∷ N STAGES ∷ N IMAGE ∷ N STALLS ∷ N INPUTS ∷ word keywords.End ∷ A make_job ∷ s) v ts o → Goes (N JOB ∷ s) v ts o
+  job_all h = goes (word keywords.Machine ∷ NAME ∷ mark marks.Semicolon ∷ word keywords.Stages ∷ NUM ∷ mark marks.Semicolon ∷ A no_decls ∷ N DECLS ∷ A no_blocks ∷ N STAGE ∷ A one_block ∷ N STAGES ∷ N IMAGE ∷ N STALLS ∷ N INPUTS ∷ word keywords.End ∷ A make_job ∷ []) refl h
 
   pub decls_1 : true ≡ among (look language ts) decl_words → Goes (N DECL ∷ A one_decl ∷ N DECLS ∷ s) v ts o → Goes (N DECLS ∷ s) v ts o
   decls_1 h l = goes (N DECL ∷ A one_decl ∷ N DECLS ∷ []) (chosen (among (look language ts) decl_words) _ _ h) l
@@ -58,8 +58,11 @@ module _ {s : List Sym} {v : State} {ts : List Lexeme} {o : Outcome State} where
   pub decl_5 : true ≡ (look language ts == keyword_class keywords.Hint) → Goes (word keywords.Hint ∷ N PAR ∷ mark marks.Equals ∷ LIT ∷ mark marks.Semicolon ∷ A make_hint ∷ s) v ts o → Goes (N DECL ∷ s) v ts o
   decl_5 h l = goes (word keywords.Hint ∷ N PAR ∷ mark marks.Equals ∷ LIT ∷ mark marks.Semicolon ∷ A make_hint ∷ []) (at_class DECL (keyword_class keywords.Hint) (look language ts) (word keywords.Hint ∷ N PAR ∷ mark marks.Equals ∷ LIT ∷ mark marks.Semicolon ∷ A make_hint ∷ []) refl h) l
 
-  pub decl_else : false ≡ (look language ts == keyword_class keywords.Reg) → false ≡ (look language ts == keyword_class keywords.File) → false ≡ (look language ts == keyword_class keywords.Pipe) → false ≡ (look language ts == keyword_class keywords.Result) → false ≡ (look language ts == keyword_class keywords.Hint) → Goes (word keywords.Fn ∷ NAME ∷ mark marks.OpenParenthesis ∷ A no_params ∷ N PAR ∷ A one_param ∷ N PARS ∷ mark marks.CloseParenthesis ∷ mark marks.Colon ∷ NUM ∷ mark marks.Equals ∷ N WHOLE ∷ mark marks.Semicolon ∷ A make_fn ∷ s) v ts o → Goes (N DECL ∷ s) v ts o
-  decl_else h1 h2 h3 h4 h5 l = goes (word keywords.Fn ∷ NAME ∷ mark marks.OpenParenthesis ∷ A no_params ∷ N PAR ∷ A one_param ∷ N PARS ∷ mark marks.CloseParenthesis ∷ mark marks.Colon ∷ NUM ∷ mark marks.Equals ∷ N WHOLE ∷ mark marks.Semicolon ∷ A make_fn ∷ []) (other _ _ _ _ h1 (other _ _ _ _ h2 (other _ _ _ _ h3 (other _ _ _ _ h4 (other _ _ _ _ h5 refl))))) l
+  pub decl_6 : true ≡ (look language ts == keyword_class keywords.Sample) → Goes (word keywords.Sample ∷ N PAR ∷ word keywords.At ∷ NUM ∷ mark marks.Semicolon ∷ A make_sample ∷ s) v ts o → Goes (N DECL ∷ s) v ts o
+  decl_6 h l = goes (word keywords.Sample ∷ N PAR ∷ word keywords.At ∷ NUM ∷ mark marks.Semicolon ∷ A make_sample ∷ []) (at_class DECL (keyword_class keywords.Sample) (look language ts) (word keywords.Sample ∷ N PAR ∷ word keywords.At ∷ NUM ∷ mark marks.Semicolon ∷ A make_sample ∷ []) refl h) l
+
+  pub decl_else : false ≡ (look language ts == keyword_class keywords.Reg) → false ≡ (look language ts == keyword_class keywords.File) → false ≡ (look language ts == keyword_class keywords.Pipe) → false ≡ (look language ts == keyword_class keywords.Result) → false ≡ (look language ts == keyword_class keywords.Hint) → false ≡ (look language ts == keyword_class keywords.Sample) → Goes (word keywords.Fn ∷ NAME ∷ mark marks.OpenParenthesis ∷ A no_params ∷ N PAR ∷ A one_param ∷ N PARS ∷ mark marks.CloseParenthesis ∷ mark marks.Colon ∷ NUM ∷ mark marks.Equals ∷ N WHOLE ∷ mark marks.Semicolon ∷ A make_fn ∷ s) v ts o → Goes (N DECL ∷ s) v ts o
+  decl_else h1 h2 h3 h4 h5 h6 l = goes (word keywords.Fn ∷ NAME ∷ mark marks.OpenParenthesis ∷ A no_params ∷ N PAR ∷ A one_param ∷ N PARS ∷ mark marks.CloseParenthesis ∷ mark marks.Colon ∷ NUM ∷ mark marks.Equals ∷ N WHOLE ∷ mark marks.Semicolon ∷ A make_fn ∷ []) (other _ _ _ _ h1 (other _ _ _ _ h2 (other _ _ _ _ h3 (other _ _ _ _ h4 (other _ _ _ _ h5 (other _ _ _ _ h6 refl)))))) l
 
   pub index_1 : true ≡ (look language ts == mark_class marks.OpenBracket) → Goes (mark marks.OpenBracket ∷ NAME ∷ mark marks.CloseBracket ∷ A some_name ∷ s) v ts o → Goes (N INDEX ∷ s) v ts o
   index_1 h l = goes (mark marks.OpenBracket ∷ NAME ∷ mark marks.CloseBracket ∷ A some_name ∷ []) (at_class INDEX (mark_class marks.OpenBracket) (look language ts) (mark marks.OpenBracket ∷ NAME ∷ mark marks.CloseBracket ∷ A some_name ∷ []) refl h) l
@@ -186,6 +189,21 @@ module _ {s : List Sym} {v : State} {ts : List Lexeme} {o : Outcome State} where
 
   pub step_else : false ≡ (look language ts == keyword_class keywords.Step) → Goes (A no_number ∷ s) v ts o → Goes (N STEP ∷ s) v ts o
   step_else h l = goes (A no_number ∷ []) (other _ _ _ _ h refl) l
+
+  pub inputs_1 : true ≡ (look language ts == keyword_class keywords.Inputs) → Goes (word keywords.Inputs ∷ mark marks.OpenBrace ∷ A no_inputs ∷ N ENTRIES ∷ mark marks.CloseBrace ∷ A input_section ∷ s) v ts o → Goes (N INPUTS ∷ s) v ts o
+  inputs_1 h l = goes (word keywords.Inputs ∷ mark marks.OpenBrace ∷ A no_inputs ∷ N ENTRIES ∷ mark marks.CloseBrace ∷ A input_section ∷ []) (at_class INPUTS (keyword_class keywords.Inputs) (look language ts) (word keywords.Inputs ∷ mark marks.OpenBrace ∷ A no_inputs ∷ N ENTRIES ∷ mark marks.CloseBrace ∷ A input_section ∷ []) refl h) l
+
+  pub inputs_else : false ≡ (look language ts == keyword_class keywords.Inputs) → Goes (A no_input_section ∷ s) v ts o → Goes (N INPUTS ∷ s) v ts o
+  inputs_else h l = goes (A no_input_section ∷ []) (other _ _ _ _ h refl) l
+
+  pub entries_1 : true ≡ (look language ts == IDENTIFIER) → Goes (N ENTRY ∷ A one_input ∷ N ENTRIES ∷ s) v ts o → Goes (N ENTRIES ∷ s) v ts o
+  entries_1 h l = goes (N ENTRY ∷ A one_input ∷ N ENTRIES ∷ []) (at_class ENTRIES (IDENTIFIER) (look language ts) (N ENTRY ∷ A one_input ∷ N ENTRIES ∷ []) refl h) l
+
+  pub entries_else : false ≡ (look language ts == IDENTIFIER) → Goes (s) v ts o → Goes (N ENTRIES ∷ s) v ts o
+  entries_else h l = goes ([]) (other _ _ _ _ h refl) l
+
+  pub entry_all : Goes (NAME ∷ mark marks.Equals ∷ LIT ∷ word keywords.From ∷ NUM ∷ word keywords.To ∷ NUM ∷ N STEP ∷ mark marks.Semicolon ∷ A make_input ∷ s) v ts o → Goes (N ENTRY ∷ s) v ts o
+  entry_all h = goes (NAME ∷ mark marks.Equals ∷ LIT ∷ word keywords.From ∷ NUM ∷ word keywords.To ∷ NUM ∷ N STEP ∷ mark marks.Semicolon ∷ A make_input ∷ []) refl h
 
   pub expr_all : Goes (N (CHAIN levels.Or) ∷ N CHOICE ∷ s) v ts o → Goes (N EXPR ∷ s) v ts o
   expr_all h = goes (N (CHAIN levels.Or) ∷ N CHOICE ∷ []) refl h

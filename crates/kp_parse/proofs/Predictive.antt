@@ -2,7 +2,7 @@
 use Rattle.std.proofs.Common.{refl}
 use Rattle.kp_grammar.specs.Tables.{IsPredictive}
 use Rattle.kp_parse.specs.Language.{language, JOB}
-use Rattle.kp_parse.specs.Follow.{tables}
+use Rattle.kp_parse.specs.inner.Follow.{tables}
 
 pub is_predictive : IsPredictive language tables JOB
 is_predictive = record { fits = refl; ends = refl }

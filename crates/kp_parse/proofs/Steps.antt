@@ -8,9 +8,9 @@ use Rattle.kp_grammar.proofs.Ways.{took, exceeded}
 use Rattle.kp_parse.specs.declared.fault.Fault.{Fault}
 use Rattle.kp_parse.specs.declared.fault.Fault.TheVariants as faults
 use Rattle.kp_parse.specs.Tokens.{Lexeme}
-use Rattle.kp_parse.specs.Language.{Sym, State, Value, Way, place, dropped, as_place, counts_one, opens, opens_at, closes, separates, language, EXPRS}
-use Rattle.kp_parse.specs.Follow.{tables}
-use Rattle.kp_parse.specs.Reading.{Goes, at, is_over, Finds, FaultIs, Misses, Ends, Fails, FailsList, Follows, JobGoes}
+use Rattle.kp_parse.specs.Language.{Sym, State, Value, Way, place, dropped, as_place, counts_one, opens, opens_at, closes, separates, language, EXPRS, at, is_over}
+use Rattle.kp_parse.specs.inner.Follow.{tables}
+use Rattle.kp_parse.specs.inner.Reading.{Goes, Finds, FaultIs, Misses, Ends, Fails, FailsList, Follows, JobGoes}
 
 fits : (c : ℕ) → c < 64 → nat_lt 64 (c + 1) ≡ false
 fits c h = le-ltb 64 (c + 1) (omega arith)

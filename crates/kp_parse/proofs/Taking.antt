@@ -15,9 +15,9 @@ use Rattle.kp_lex.specs.declared.token.TokenKind.TheVariants as kinds
 use Rattle.kp_bits.specs.declared.literal.Literal.{Literal}
 use Rattle.kp_grammar.proofs.Ways.{took}
 use Rattle.kp_parse.specs.Tokens.{Lexeme, lexeme_of, lexemes, kind_class, keyword_class, mark_class, IDENTIFIER, named_of}
-use Rattle.kp_parse.specs.Follow.{tables}
-use Rattle.kp_parse.specs.Language.{Sym, State, Way, NAME, NUM, LIT, named, number, literal, language}
-use Rattle.kp_parse.specs.Reading.{Goes, class_at, is_over, Turns}
+use Rattle.kp_parse.specs.inner.Follow.{tables}
+use Rattle.kp_parse.specs.Language.{Sym, State, Way, NAME, NUM, LIT, named, number, literal, language, is_over}
+use Rattle.kp_parse.specs.inner.Reading.{Goes, class_at, Turns}
 
 -- the bytes of a token from its start to its end
 same_span : (a b : ℕ) → (a + b) - a ≡ b

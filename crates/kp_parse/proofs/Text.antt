@@ -1,21 +1,21 @@
 -- What the outcome of the machine says of a text.
-use Rattle.std.proofs.Common.{ℕ, ◌≡◌, List, [], ◌∷◌, length, drop, Bool, true, false, Ok, All, IsTrue, ◌||◌, ◌&&◌, ◌==◌, nat_le, refl, ap}
+use Rattle.std.proofs.Common.{ℕ, ◌≡◌, List, [], ◌∷◌, length, drop, true, Ok, All, refl, ap}
 use Rattle.std.proofs.lemmas.List.Elements.{All-weaker}
 use Rattle.kp_base.specs.declared.place.Place.{Place}
-use Rattle.kp_ast.specs.Name.{IsName, is_name_byte}
+use Rattle.kp_ast.specs.Name.{IsName}
 use Rattle.kp_ast.specs.declared.tree.Job.{Job}
 use Rattle.kp_grammar.specs.Grammar.{IsLimit}
 use Rattle.kp_grammar.specs.Machine.{Accepts, Stops, Exceeds}
 use Rattle.kp_grammar.proofs.Laws.{sentence, one_state, wrong_at, within_stop, over_at, over_ends}
 use Rattle.kp_lex.specs.declared.token.Token.{Token}
 use Rattle.kp_lex.specs.declared.token.Lexed.{Lexed}
-use Rattle.kp_lex.specs.Text.{HasOutcome, StandsIn, IsIdentifier, is_word}
+use Rattle.kp_lex.specs.Text.{HasOutcome, StandsIn, IsIdentifier}
 use Rattle.kp_lex.proofs.Stands.{tokens_stand}
 use Rattle.kp_lex.proofs.Names.{name_is_identifier}
 use Rattle.kp_parse.specs.Tokens.{Lexeme, IsSpelled, lexemes}
-use Rattle.kp_parse.specs.Language.{State, Way, JOB, job, language}
-use Rattle.kp_parse.specs.Follow.{tables}
-use Rattle.kp_parse.specs.Reading.{at, is_over, JobGoes}
+use Rattle.kp_parse.specs.Language.{State, Way, JOB, job, language, at, is_over}
+use Rattle.kp_parse.specs.inner.Follow.{tables}
+use Rattle.kp_parse.specs.inner.Reading.{JobGoes}
 use Rattle.kp_parse.specs.Sentence.{IsTree, IsWrong, IsTooDeep, place_from}
 use Rattle.kp_parse.proofs.Predictive.{is_predictive}
 
@@ -53,20 +53,8 @@ module _ (text : List ℕ) (tokens : List Token) where
   no_tree_deep i j l d = cc (over_ends language tables JOB is_predictive is_over limit (is_too_deep i _ refl l).over d)
 
 -- A name that the lexer gives is a name of a tree.
-same_tests : (u l s d : Bool) → ((u || l || s) || d) ≡ true → ((l || u) || (d || s)) ≡ true
-same_tests true true s d h = refl
-same_tests true false s d h = refl
-same_tests false true s d h = refl
-same_tests false false true true h = refl
-same_tests false false true false h = refl
-same_tests false false false true h = refl
-same_tests false false false false h = h
-
-name_byte : (b : ℕ) → is_word b ≡ true → IsTrue (is_name_byte b)
-name_byte b h = same_tests (nat_le 65 b && nat_le b 90) (nat_le 97 b && nat_le b 122) (b == 95) (nat_le 48 b && nat_le b 57) h
-
 names : (bytes : List ℕ) → IsIdentifier bytes → IsName bytes
-names bytes h = record { not_empty = h.not_empty; within = h.within; spelled = All-weaker (λ b. is_word b ≡ true) (λ b. IsTrue (is_name_byte b)) name_byte bytes h.spelled }
+names bytes h = record { not_empty = h.not_empty; within = h.within; spelled = h.spelled }
 
 spelled_one : (text : List ℕ) (t : Token) → StandsIn text t → IsSpelled text t
 spelled_one text t h = record { within = h.within; name = λ e. names _ (name_is_identifier text t h e) }

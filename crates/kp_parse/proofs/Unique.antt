@@ -9,9 +9,8 @@ use Rattle.kp_ast.specs.declared.tree.Job.{Job}
 use Rattle.kp_grammar.proofs.Laws.{one_state, one_wrong, one_over, not_over, over_ends}
 use Rattle.kp_lex.specs.declared.token.Token.{Token}
 use Rattle.kp_parse.specs.Tokens.{lexeme_of, lexemes}
-use Rattle.kp_parse.specs.Language.{JOB, job, language}
-use Rattle.kp_parse.specs.Follow.{tables}
-use Rattle.kp_parse.specs.Reading.{at, is_over}
+use Rattle.kp_parse.specs.Language.{JOB, job, language, at, is_over}
+use Rattle.kp_parse.specs.inner.Follow.{tables}
 use Rattle.kp_parse.specs.Sentence.{IsTree, IsWrong, IsTooDeep, Breaks, place_from}
 use Rattle.kp_parse.proofs.Predictive.{is_predictive}
 use Rattle.kp_parse.proofs.Text.{limit, same_job}

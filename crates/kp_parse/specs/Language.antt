@@ -2,8 +2,8 @@
 use Rattle.std.specs.Prelude.{ℕ, ◌+◌, ◌||◌, nat_lt, List, [], ◌∷◌, ◌++◌, Bool, false, Option, Some, None}
 use Rattle.kp_base.specs.declared.place.Place.{Place}
 use Rattle.kp_grammar.specs.Grammar.{Symbol, Terminal, Nonterminal, Action, Rules, Grammar}
-use Rattle.kp_ast.specs.declared.tree.BinOp.{BinOp}
-use Rattle.kp_ast.specs.declared.tree.BinOp.TheVariants as ops
+use Rattle.kp_bits.specs.declared.operator.BinOp.{BinOp}
+use Rattle.kp_bits.specs.declared.operator.BinOp.TheVariants as ops
 use Rattle.kp_ast.specs.declared.tree.Named.{Named}
 use Rattle.kp_ast.specs.declared.tree.Num.{Num}
 use Rattle.kp_ast.specs.declared.tree.Lit.{Lit}
@@ -18,6 +18,7 @@ use Rattle.kp_ast.specs.declared.tree.Decl.{Decl}
 use Rattle.kp_ast.specs.declared.tree.Decl.TheVariants as declarations
 use Rattle.kp_ast.specs.declared.tree.Image.{Image}
 use Rattle.kp_ast.specs.declared.tree.Stalls.{Stalls}
+use Rattle.kp_ast.specs.declared.tree.Inputs.{Inputs}
 use Rattle.kp_ast.specs.declared.tree.Job.{Job}
 use Rattle.kp_lex.specs.declared.token.Keyword.{Keyword}
 use Rattle.kp_lex.specs.declared.token.Keyword.TheVariants as keywords
@@ -53,6 +54,9 @@ pub data Value : Type 0 where
   stall : Stalls → Value
   stalls : List Stalls → Value
   perhaps_stalls : Option (List Stalls) → Value
+  input : Inputs → Value
+  inputs : List Inputs → Value
+  perhaps_inputs : Option (List Inputs) → Value
   job : Job → Value
 
 -- The counts of the brackets that are open, the innermost first; whether a count has passed the limit; and what has been read and
@@ -61,6 +65,14 @@ pub record State : Type 0 where
   pub counts : List ℕ
   pub over : Bool
   pub values : List Value
+
+-- whether a count has passed the limit
+abbrev pub is_over : State → Bool
+is_over v = v.over
+
+-- a state in which no count has passed the limit
+abbrev pub at : List ℕ → List Value → State
+at cs vs = record { counts = cs; over = false; values = vs }
 
 -- How a token is read: it is dropped; its place, its name, its number or its literal is kept; it counts one, and its place is kept; it
 -- opens a bracket, and is dropped, or its place is kept; it closes the bracket; it separates what stands in the bracket.
@@ -110,6 +122,7 @@ pub data Step : Type 0 where
   make_pipe : Step
   make_result : Step
   make_hint : Step
+  make_sample : Step
   make_fn : Step
   no_decls : Step
   one_decl : Step
@@ -135,6 +148,11 @@ pub data Step : Type 0 where
   one_stall : Step
   no_stall_section : Step
   stall_section : Step
+  make_input : Step
+  no_inputs : Step
+  one_input : Step
+  no_input_section : Step
+  input_section : Step
   make_job : Step
 
 abbrev pub Sym : Type 0
@@ -251,6 +269,18 @@ SPAN = 24
 abbrev pub STEP : ℕ
 STEP = 25
 
+abbrev pub INPUTS : ℕ
+INPUTS = 26
+
+abbrev pub ENTRIES : ℕ
+ENTRIES = 27
+
+abbrev pub ENTRY : ℕ
+ENTRY = 28
+
+abbrev pub EXTENDED : ℕ
+EXTENDED = 29
+
 abbrev pub EXPR : ℕ
 EXPR = 30
 
@@ -277,9 +307,6 @@ CALL = 37
 
 abbrev pub EXPRS : ℕ
 EXPRS = 38
-
-abbrev pub EXTENDED : ℕ
-EXTENDED = 29
 
 abbrev pub PARTS : ℕ
 PARTS = 39
@@ -332,12 +359,12 @@ comparison m op = counted m ∷ N (OPERAND levels.Compare) ∷ A (make_binary op
 
 abbrev pub rules : Rules Way Step
 rules =
-    -- job = 'machine' NAME ';' 'stages' NUM ';' { decl } stage { stage } [ image ] [ stalls ] 'end'
+    -- job = 'machine' NAME ';' 'stages' NUM ';' { decl } stage { stage } [ image ] [ stalls ] [ inputs ] 'end'
     (
       JOB,
       (
           word keywords.Machine ∷ NAME ∷ mark marks.Semicolon ∷ word keywords.Stages ∷ NUM ∷ mark marks.Semicolon
-          ∷ A no_decls ∷ N DECLS ∷ A no_blocks ∷ N STAGE ∷ A one_block ∷ N STAGES ∷ N IMAGE ∷ N STALLS ∷ word keywords.End ∷ A make_job ∷ []
+          ∷ A no_decls ∷ N DECLS ∷ A no_blocks ∷ N STAGE ∷ A one_block ∷ N STAGES ∷ N IMAGE ∷ N STALLS ∷ N INPUTS ∷ word keywords.End ∷ A make_job ∷ []
           ) ∷ [],
     )
     ∷ (DECLS, (N DECL ∷ A one_decl ∷ N DECLS ∷ []) ∷ [] ∷ [])
@@ -346,6 +373,7 @@ rules =
     --      | 'pipe' par ';'
     --      | 'result' par '->' NAME [ '[' NAME ']' ] [ 'when' NAME ] 'at' NUM ';'
     --      | 'hint' par '=' LIT ';'
+    --      | 'sample' par 'at' NUM ';'
     --      | 'fn' NAME '(' par { ',' par } ')' ':' NUM '=' expr ';'
     ∷ (
       DECL,
@@ -354,6 +382,7 @@ rules =
           ∷ (word keywords.Pipe ∷ N PAR ∷ mark marks.Semicolon ∷ A make_pipe ∷ [])
           ∷ (word keywords.Result ∷ N PAR ∷ mark marks.Arrow ∷ NAME ∷ N INDEX ∷ N ENABLE ∷ word keywords.At ∷ NUM ∷ mark marks.Semicolon ∷ A make_result ∷ [])
           ∷ (word keywords.Hint ∷ N PAR ∷ mark marks.Equals ∷ LIT ∷ mark marks.Semicolon ∷ A make_hint ∷ [])
+          ∷ (word keywords.Sample ∷ N PAR ∷ word keywords.At ∷ NUM ∷ mark marks.Semicolon ∷ A make_sample ∷ [])
           ∷ (
           word keywords.Fn ∷ NAME ∷ mark marks.OpenParenthesis ∷ A no_params ∷ N PAR ∷ A one_param ∷ N PARS ∷ mark marks.CloseParenthesis
           ∷ mark marks.Colon ∷ NUM ∷ mark marks.Equals ∷ N WHOLE ∷ mark marks.Semicolon ∷ A make_fn ∷ []
@@ -396,6 +425,10 @@ rules =
     ∷ (SPANS, (N SPAN ∷ A one_stall ∷ N SPANS ∷ []) ∷ [] ∷ [])
     ∷ (SPAN, (NUM ∷ word keywords.From ∷ NUM ∷ word keywords.To ∷ NUM ∷ N STEP ∷ mark marks.Semicolon ∷ A make_stall ∷ []) ∷ [])
     ∷ (STEP, (word keywords.Step ∷ NUM ∷ A some_number ∷ []) ∷ (A no_number ∷ []) ∷ [])
+    -- inputs = 'inputs' '{' { NAME '=' LIT 'from' NUM 'to' NUM [ 'step' NUM ] ';' } '}'
+    ∷ (INPUTS, (word keywords.Inputs ∷ mark marks.OpenBrace ∷ A no_inputs ∷ N ENTRIES ∷ mark marks.CloseBrace ∷ A input_section ∷ []) ∷ (A no_input_section ∷ []) ∷ [])
+    ∷ (ENTRIES, (N ENTRY ∷ A one_input ∷ N ENTRIES ∷ []) ∷ [] ∷ [])
+    ∷ (ENTRY, (NAME ∷ mark marks.Equals ∷ LIT ∷ word keywords.From ∷ NUM ∷ word keywords.To ∷ NUM ∷ N STEP ∷ mark marks.Semicolon ∷ A make_input ∷ []) ∷ [])
     -- expr = or [ '?' expr ':' expr ]
     ∷ (EXPR, (N (CHAIN levels.Or) ∷ N CHOICE ∷ []) ∷ [])
     ∷ (CHOICE, (counted marks.Question ∷ N EXPR ∷ mark marks.Colon ∷ N EXPR ∷ A make_choice ∷ []) ∷ [] ∷ [])
@@ -519,6 +552,7 @@ values_built make_pipe (param p ∷ vs) = decl (declarations.Pipe p.name p.width
 values_built make_result (number s ∷ perhaps_named g ∷ perhaps_named a ∷ named t ∷ param p ∷ vs) =
     decl (declarations.Target (record { name = p.name; width = p.width; target = t; address = a; enable = g; stage = s })) ∷ vs
 values_built make_hint (literal l ∷ param p ∷ vs) = decl (declarations.Hint p.name p.width l) ∷ vs
+values_built make_sample (number s ∷ param p ∷ vs) = decl (declarations.Sample p.name p.width s) ∷ vs
 values_built make_fn (expr e ∷ number w ∷ params ps ∷ named n ∷ vs) = decl (declarations.Func (record { name = n; params = ps; width = w; body = e })) ∷ vs
 values_built no_decls vs = decls [] ∷ vs
 values_built one_decl (decl d ∷ decls ds ∷ vs) = decls (ds ++ d ∷ []) ∷ vs
@@ -545,8 +579,13 @@ values_built no_stalls vs = stalls [] ∷ vs
 values_built one_stall (stall s ∷ stalls ss ∷ vs) = stalls (ss ++ s ∷ []) ∷ vs
 values_built no_stall_section vs = perhaps_stalls None ∷ vs
 values_built stall_section (stalls ss ∷ vs) = perhaps_stalls (Some ss) ∷ vs
-values_built make_job (perhaps_stalls st ∷ perhaps_images im ∷ blocks bs ∷ decls ds ∷ number k ∷ named n ∷ vs) =
-    job (record { name = n; stages = k; decls = ds; blocks = bs; image = im; stalls = st }) ∷ vs
+values_built make_input (perhaps_number p ∷ number b ∷ number a ∷ literal l ∷ named n ∷ vs) = input (record { name = n; value = l; «from» = a; to = b; step = p }) ∷ vs
+values_built no_inputs vs = inputs [] ∷ vs
+values_built one_input (input i ∷ inputs is ∷ vs) = inputs (is ++ i ∷ []) ∷ vs
+values_built no_input_section vs = perhaps_inputs None ∷ vs
+values_built input_section (inputs is ∷ vs) = perhaps_inputs (Some is) ∷ vs
+values_built make_job (perhaps_inputs ii ∷ perhaps_stalls st ∷ perhaps_images im ∷ blocks bs ∷ decls ds ∷ number k ∷ named n ∷ vs) =
+    job (record { name = n; stages = k; decls = ds; blocks = bs; image = im; stalls = st; inputs = ii }) ∷ vs
 values_built _ vs = vs
 
 abbrev pub build_step : Step → State → State

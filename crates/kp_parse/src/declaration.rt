@@ -4,16 +4,16 @@ ghost use Rattle.kp_grammar.specs.Grammar.{Nonterminal};
 ghost use Rattle.kp_grammar.specs.Tables.{among};
 ghost use Rattle.kp_lex.specs.declared.token.Keyword.TheVariants as keywords;
 ghost use Rattle.kp_parse.specs.Tokens.{keyword_class};
-ghost use Rattle.kp_parse.specs.Follow.{decl_words};
+ghost use Rattle.kp_parse.specs.inner.Follow.{decl_words};
 ghost use Rattle.kp_parse.specs.Language.{decls, decl as decl_value, param as param_value, params as params_value, perhaps_named, DECLS, DECL, INDEX, ENABLE, PAR, PARS};
-ghost use Rattle.kp_parse.specs.Reading.{class_at, Turns, Ends};
+ghost use Rattle.kp_parse.specs.inner.Reading.{class_at, Turns, Ends};
 
 use crate::expression::whole_expression;
 use crate::fault::Fault;
 use crate::tokens::Tokens;
 use kp_ast::{Decl, FuncDecl, Named, Param, ResultDecl};
 use kp_base::List;
-use kp_lex::{Keyword, Mark};
+use kp_lex::{Keyword, Mark, TokenKind};
 use std::alloc::Global;
 
 /// All declarations that stand here, and the number of the next token. Each takes a token at least.
@@ -52,28 +52,24 @@ fn begins_declaration(tokens: &Tokens<'_>, at: usize) -> bool
     if tokens.is_keyword(Keyword::Hint, at) {
         return true;
     }
+    if tokens.is_keyword(Keyword::Sample, at) {
+        return true;
+    }
     tokens.is_keyword(Keyword::Fn, at)
 }
 
 fn declaration(alloc: Global, tokens: &Tokens<'_>, at: usize) -> Result<(Decl, usize), Fault>
     ensures { MatchResult result (λ x. Turns tokens.now (Nonterminal DECL) [] (decl_value x.0 ∷ []) at x.1 1) (Ends tokens.now (Nonterminal DECL) [] at) }
 {
-    if tokens.is_keyword(Keyword::Reg, at) {
-        return register(alloc, tokens, at);
+    match tokens.kind(at) {
+        Some(TokenKind::Keyword(Keyword::Reg)) => register(alloc, tokens, at),
+        Some(TokenKind::Keyword(Keyword::File)) => file(alloc, tokens, at),
+        Some(TokenKind::Keyword(Keyword::Pipe)) => pipe(alloc, tokens, at),
+        Some(TokenKind::Keyword(Keyword::Result)) => target(alloc, tokens, at),
+        Some(TokenKind::Keyword(Keyword::Hint)) => hint(alloc, tokens, at),
+        Some(TokenKind::Keyword(Keyword::Sample)) => sample(alloc, tokens, at),
+        _ => function(alloc, tokens, at),
     }
-    if tokens.is_keyword(Keyword::File, at) {
-        return file(alloc, tokens, at);
-    }
-    if tokens.is_keyword(Keyword::Pipe, at) {
-        return pipe(alloc, tokens, at);
-    }
-    if tokens.is_keyword(Keyword::Result, at) {
-        return target(alloc, tokens, at);
-    }
-    if tokens.is_keyword(Keyword::Hint, at) {
-        return hint(alloc, tokens, at);
-    }
-    function(alloc, tokens, at)
 }
 
 // `reg name : width = start;`
@@ -175,6 +171,19 @@ fn hint(alloc: Global, tokens: &Tokens<'_>, at: usize) -> Result<(Decl, usize), 
     Ok((Decl::Hint(typed.name, typed.width, start), next))
 }
 
+// `sample name : width at stage;`
+fn sample(alloc: Global, tokens: &Tokens<'_>, at: usize) -> Result<(Decl, usize), Fault>
+    requires { true ≡ (class_at tokens.now at == keyword_class keywords.Sample) }
+    ensures { MatchResult result (λ x. Turns tokens.now (Nonterminal DECL) [] (decl_value x.0 ∷ []) at x.1 1) (Ends tokens.now (Nonterminal DECL) [] at) }
+{
+    let (_sample, next) = tokens.keyword(Keyword::Sample, at)?;
+    let (typed, next) = parameter(alloc, tokens, next)?;
+    let (_at, next) = tokens.keyword(Keyword::At, next)?;
+    let (stage, next) = tokens.number(next)?;
+    let (_end, next) = tokens.mark(Mark::Semicolon, next)?;
+    Ok((Decl::Sample(typed.name, typed.width, stage), next))
+}
+
 // `fn name(params) : width = body;`
 fn function(alloc: Global, tokens: &Tokens<'_>, at: usize) -> Result<(Decl, usize), Fault>
     requires no_reg { false ≡ (class_at tokens.now at == keyword_class keywords.Reg) }
@@ -182,6 +191,7 @@ fn function(alloc: Global, tokens: &Tokens<'_>, at: usize) -> Result<(Decl, usiz
     requires no_pipe { false ≡ (class_at tokens.now at == keyword_class keywords.Pipe) }
     requires no_result { false ≡ (class_at tokens.now at == keyword_class keywords.Result) }
     requires no_hint { false ≡ (class_at tokens.now at == keyword_class keywords.Hint) }
+    requires no_sample { false ≡ (class_at tokens.now at == keyword_class keywords.Sample) }
     ensures { MatchResult result (λ x. Turns tokens.now (Nonterminal DECL) [] (decl_value x.0 ∷ []) at x.1 1) (Ends tokens.now (Nonterminal DECL) [] at) }
 {
     let (_fn, next) = tokens.keyword(Keyword::Fn, at)?;

@@ -7,16 +7,17 @@ ghost use Rattle.kp_lex.specs.declared.token.Mark.TheVariants as marks;
 ghost use Rattle.kp_lex.specs.declared.token.Keyword.TheVariants as keywords;
 ghost use Rattle.kp_parse.specs.declared.fault.Fault.TheVariants as faults;
 ghost use Rattle.kp_parse.specs.Tokens.{mark_class, keyword_class, IDENTIFIER, LITERAL};
-ghost use Rattle.kp_parse.specs.Operators.{operators_of, operator_at};
+ghost use Rattle.kp_parse.specs.inner.Operators.{operators_of, operator_at};
 ghost use Rattle.kp_parse.specs.Language.{concat_of, expr as expr_value, number as number_value, EXPR, CHAIN, OPERAND, UNARY, POST, PRIM, EXTENDED, LOW, WHOLE};
-ghost use Rattle.kp_parse.specs.Reading.{class_at, Reads, Fails, Lists, FailsList, Turns, Ends};
+ghost use Rattle.kp_parse.specs.inner.Reading.{class_at, Reads, Fails, Lists, FailsList, Turns, Ends};
 
 use crate::fault::Fault;
 use crate::level::Level;
 use crate::tokens::Tokens;
-use kp_ast::{BinOp, Boxed, Expr, ExprKind, Num};
+use kp_ast::{Boxed, Expr, ExprKind, Num};
 use kp_base::{List, NoMemory, Place};
-use kp_lex::{Keyword, Mark};
+use kp_bits::BinOp;
+use kp_lex::{Keyword, Mark, TokenKind};
 use std::alloc::Global;
 
 // The nesting count that no expression passes.
@@ -259,22 +260,14 @@ fn prim(
     requires { count ≤ 64 }
     ensures { MatchResult result (λ x. Reads tokens.now PRIM count (expr_value x.0 ∷ []) x.1 at x.2) (Fails tokens.now PRIM count at) }
 {
-    if tokens.is_literal(at) {
-        return literal(tokens, count, at);
+    match tokens.kind(at) {
+        Some(TokenKind::Literal(_)) => literal(tokens, count, at),
+        Some(TokenKind::Ident) => named(alloc, tokens, count, at),
+        Some(TokenKind::Mark(Mark::OpenParenthesis)) => bracket(alloc, tokens, count, at),
+        Some(TokenKind::Mark(Mark::OpenBrace)) => concatenation(alloc, tokens, count, at),
+        Some(TokenKind::Keyword(Keyword::Zext)) => zext(alloc, tokens, count, at),
+        _ => sext(alloc, tokens, count, at),
     }
-    if tokens.is_name(at) {
-        return named(alloc, tokens, count, at);
-    }
-    if tokens.is_mark(Mark::OpenParenthesis, at) {
-        return bracket(alloc, tokens, count, at);
-    }
-    if tokens.is_mark(Mark::OpenBrace, at) {
-        return concatenation(alloc, tokens, count, at);
-    }
-    if tokens.is_keyword(Keyword::Zext, at) {
-        return zext(alloc, tokens, count, at);
-    }
-    sext(alloc, tokens, count, at)
 }
 
 fn literal(tokens: &Tokens<'_>, count: u32, at: usize) -> Result<(Expr, u32, usize), Fault>

@@ -4,13 +4,13 @@ ghost use Rattle.kp_grammar.specs.Machine.{Accepts};
 ghost use Rattle.kp_lex.specs.Text.{HasOutcome};
 ghost use Rattle.kp_base.specs.declared.refusal.Refused.TheVariants as refused;
 ghost use Rattle.kp_ast.specs.declared.tree.Job.{Job as JobTree};
-ghost use Rattle.kp_parse.specs.Language.{job as job_value};
-ghost use Rattle.kp_parse.specs.Reading.{at as state_at, JobGoes, FaultIs};
+ghost use Rattle.kp_parse.specs.Language.{job as job_value, at as state_at};
+ghost use Rattle.kp_parse.specs.inner.Reading.{JobGoes, FaultIs};
 ghost use Rattle.kp_parse.specs.Sentence.{IsTree, AnswersTree, place_from};
 
 use crate::declaration::declarations;
 use crate::fault::Fault;
-use crate::sections::{image_section, stall_section};
+use crate::sections::{image_section, input_section, stall_section};
 use crate::stage::{stage, stages};
 use crate::tokens::Tokens;
 use kp_ast::Job;
@@ -40,6 +40,7 @@ fn job(alloc: Global, tokens: &Tokens<'_>) -> Result<Job, Fault>
     let (blocks, next) = stages(alloc, tokens, first, next)?;
     let (image, next) = image_section(alloc, tokens, next)?;
     let (stalls, next) = stall_section(alloc, tokens, next)?;
+    let (inputs, next) = input_section(alloc, tokens, next)?;
     let (_end, next) = tokens.keyword(Keyword::End, next)?;
     tokens.nothing_follows(next)?;
     Ok(Job {
@@ -49,6 +50,7 @@ fn job(alloc: Global, tokens: &Tokens<'_>) -> Result<Job, Fault>
         blocks: List::new(blocks),
         image,
         stalls,
+        inputs,
     })
 }
 

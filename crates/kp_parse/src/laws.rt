@@ -1,5 +1,5 @@
 // What holds of the tokens of every text.
-ghost use Rattle.std.specs.Prelude.{◌≡◌, ℕ, List};
+ghost use Rattle.std.specs.Prelude.{◌≡◌, ◌⊎◌, ℕ, List};
 ghost use Rattle.kp_base.specs.declared.refusal.Refusal.{Refusal};
 ghost use Rattle.kp_ast.specs.declared.tree.Job.{Job};
 ghost use Rattle.kp_lex.specs.declared.token.Token.{Token};
@@ -14,4 +14,9 @@ pub fn a_text_has_one_tree()
 pub fn a_text_breaks_one_rule()
     ensures one { (text : List ℕ) (tokens : List Token) (r s : Refusal) → Breaks text tokens r → Breaks text tokens s → r ≡ s }
     ensures none { (text : List ℕ) (tokens : List Token) (j : Job) (r : Refusal) → IsTree text tokens j → Breaks text tokens r → ⊥ }
+{}
+
+/// A text has a tree, or it breaks one of the two rules.
+pub fn a_text_has_a_verdict()
+    ensures { (text : List ℕ) (tokens : List Token) → ((j : Job) × IsTree text tokens j) ⊎ ((r : Refusal) × Breaks text tokens r) }
 {}

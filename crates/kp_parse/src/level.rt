@@ -1,8 +1,8 @@
 // Operators and how tightly they bind.
 ghost use Rattle.std.specs.Prelude.{◌≡◌};
-ghost use Rattle.kp_parse.specs.Operators.{operators_of};
+ghost use Rattle.kp_parse.specs.inner.Operators.{operators_of};
 
-use kp_ast::BinOp;
+use kp_bits::BinOp;
 use kp_lex::Mark;
 
 /// The operators that bind equally, from the loosest level to the tightest.

@@ -12,6 +12,3 @@ mod stage;
 mod tokens;
 
 pub use job::{Parsed, parse};
-
-#[cfg(test)]
-mod tests;

@@ -1,12 +1,12 @@
 // The sections behind the stages.
 ghost use Rattle.std.specs.Prelude.{◌≡◌, ◌==◌, [], ◌∷◌, MatchResult, option_map, true, false};
 ghost use Rattle.kp_grammar.specs.Grammar.{Nonterminal};
-ghost use Rattle.kp_parse.specs.Language.{perhaps_images, images as images_value, image as image_value, perhaps_stalls, stalls as stalls_value, stall as stall_value, perhaps_number, literals as literals_value, IMAGE, WORDS, WORD, NUMBERED, LITS, STALLS, SPANS, SPAN, STEP};
-ghost use Rattle.kp_parse.specs.Reading.{class_at, Turns, Ends};
+ghost use Rattle.kp_parse.specs.Language.{perhaps_images, images as images_value, image as image_value, perhaps_stalls, stalls as stalls_value, stall as stall_value, perhaps_inputs, inputs as inputs_value, input as input_value, perhaps_number, literals as literals_value, IMAGE, WORDS, WORD, NUMBERED, LITS, STALLS, SPANS, SPAN, STEP, INPUTS, ENTRIES, ENTRY};
+ghost use Rattle.kp_parse.specs.inner.Reading.{class_at, Turns, Ends};
 
 use crate::fault::Fault;
 use crate::tokens::Tokens;
-use kp_ast::{Image, Lit, Num, Stalls};
+use kp_ast::{Image, Inputs, Lit, Num, Stalls};
 use kp_base::List;
 use kp_lex::{Keyword, Mark};
 use std::alloc::Global;
@@ -153,4 +153,58 @@ fn step(tokens: &Tokens<'_>, at: usize) -> Result<(Option<Num>, usize), Fault>
     let (_step, next) = tokens.keyword(Keyword::Step, at)?;
     let (number, next) = tokens.number(next)?;
     Ok((Some(number), next))
+}
+
+/// The inputs section, if it stands here, and the number of the next token.
+pub(crate) fn input_section(
+    alloc: Global,
+    tokens: &Tokens<'_>,
+    at: usize,
+) -> Result<(Option<List<Inputs>>, usize), Fault>
+    ensures { MatchResult result (λ x. Turns tokens.now (Nonterminal INPUTS) [] (perhaps_inputs x.0 ∷ []) at x.1 0) (Ends tokens.now (Nonterminal INPUTS) [] at) }
+{
+    if !tokens.is_keyword(Keyword::Inputs, at) {
+        return Ok((None, at));
+    }
+    let (_inputs, next) = tokens.keyword(Keyword::Inputs, at)?;
+    let (_open, next) = tokens.mark(Mark::OpenBrace, next)?;
+    let (all, next) = entries(alloc, tokens, next)?;
+    let (_close, next) = tokens.mark(Mark::CloseBrace, next)?;
+    Ok((Some(List::new(all)), next))
+}
+
+fn entries(alloc: Global, tokens: &Tokens<'_>, at: usize) -> Result<(Vec<Inputs>, usize), Fault>
+    ensures { MatchResult result (λ x. Turns tokens.now (Nonterminal ENTRIES) (inputs_value [] ∷ []) (inputs_value x.0.items ∷ []) at x.1 0) (Ends tokens.now (Nonterminal ENTRIES) (inputs_value [] ∷ []) at) }
+{
+    let mut all = Vec::new(alloc);
+    let mut here = at;
+    'all: while tokens.is_name(here) {
+        let (one, next) = entry(alloc, tokens, here)?;
+        all.push(one)?;
+        here = next;
+    }
+    Ok((all, here))
+}
+
+// `name = value from a to b step p;`
+fn entry(alloc: Global, tokens: &Tokens<'_>, at: usize) -> Result<(Inputs, usize), Fault>
+    ensures { MatchResult result (λ x. Turns tokens.now (Nonterminal ENTRY) [] (input_value x.0 ∷ []) at x.1 1) (Ends tokens.now (Nonterminal ENTRY) [] at) }
+{
+    let (name, next) = tokens.name(alloc, at)?;
+    let (_equals, next) = tokens.mark(Mark::Equals, next)?;
+    let (value, next) = tokens.literal(next)?;
+    let (_from, next) = tokens.keyword(Keyword::From, next)?;
+    let (from, next) = tokens.number(next)?;
+    let (_to, next) = tokens.keyword(Keyword::To, next)?;
+    let (to, next) = tokens.number(next)?;
+    let (step, next) = step(tokens, next)?;
+    let (_end, next) = tokens.mark(Mark::Semicolon, next)?;
+    let entry = Inputs {
+        name,
+        value,
+        from,
+        to,
+        step,
+    };
+    Ok((entry, next))
 }

@@ -4,16 +4,16 @@ ghost use Rattle.kp_grammar.specs.Grammar.{Nonterminal};
 ghost use Rattle.kp_grammar.specs.Tables.{among};
 ghost use Rattle.kp_lex.specs.declared.token.Keyword.TheVariants as keywords;
 ghost use Rattle.kp_parse.specs.Tokens.{keyword_class};
-ghost use Rattle.kp_parse.specs.Follow.{stmt_words};
+ghost use Rattle.kp_parse.specs.inner.Follow.{stmt_words};
 ghost use Rattle.kp_parse.specs.Language.{blocks, block as block_value, stmts, stmt as stmt_value, named as named_value, expr as expr_value, perhaps_expr, STAGE, STAGES, STMTS, STMT, BINDING, ADDRESS, HEDGE, WHEN};
-ghost use Rattle.kp_parse.specs.Reading.{class_at, Turns, Ends};
+ghost use Rattle.kp_parse.specs.inner.Reading.{class_at, Turns, Ends};
 
 use crate::expression::whole_expression;
 use crate::fault::Fault;
 use crate::tokens::Tokens;
 use kp_ast::{Block, Expr, Named, ReadStmt, Stmt, StmtKind};
 use kp_base::List;
-use kp_lex::{Keyword, Mark};
+use kp_lex::{Keyword, Mark, TokenKind};
 use std::alloc::Global;
 
 /// The stages of which this is the first, and the number of the next token. Each but the first takes a token at least.
@@ -65,29 +65,26 @@ fn statements(alloc: Global, tokens: &Tokens<'_>, at: usize) -> Result<(Vec<Stmt
 fn begins_statement(tokens: &Tokens<'_>, at: usize) -> bool
     ensures { result ≡ among (class_at tokens.now at) stmt_words }
 {
-    tokens.is_keyword(Keyword::Read, at)
-        || tokens.is_keyword(Keyword::Let, at)
-        || tokens.is_keyword(Keyword::Put, at)
-        || tokens.is_keyword(Keyword::Set, at)
-        || tokens.is_keyword(Keyword::Aim, at)
+    match tokens.kind(at) {
+        Some(
+            TokenKind::Keyword(
+                Keyword::Read | Keyword::Let | Keyword::Put | Keyword::Set | Keyword::Aim,
+            ),
+        ) => true,
+        _ => false,
+    }
 }
 
 fn statement(alloc: Global, tokens: &Tokens<'_>, at: usize) -> Result<(Stmt, usize), Fault>
     ensures { MatchResult result (λ x. Turns tokens.now (Nonterminal STMT) [] (stmt_value x.0 ∷ []) at x.1 1) (Ends tokens.now (Nonterminal STMT) [] at) }
 {
-    if tokens.is_keyword(Keyword::Read, at) {
-        return read(alloc, tokens, at);
+    match tokens.kind(at) {
+        Some(TokenKind::Keyword(Keyword::Read)) => read(alloc, tokens, at),
+        Some(TokenKind::Keyword(Keyword::Let)) => local(alloc, tokens, at),
+        Some(TokenKind::Keyword(Keyword::Put)) => put(alloc, tokens, at),
+        Some(TokenKind::Keyword(Keyword::Set)) => set(alloc, tokens, at),
+        _ => aim(alloc, tokens, at),
     }
-    if tokens.is_keyword(Keyword::Let, at) {
-        return local(alloc, tokens, at);
-    }
-    if tokens.is_keyword(Keyword::Put, at) {
-        return put(alloc, tokens, at);
-    }
-    if tokens.is_keyword(Keyword::Set, at) {
-        return set(alloc, tokens, at);
-    }
-    aim(alloc, tokens, at)
 }
 
 // `read name = target[address] when condition;` or `.. guess guess;`
@@ -133,10 +130,10 @@ fn hedge(
 ) -> Result<(Option<Expr>, Option<Expr>, usize), Fault>
     ensures { MatchResult result (λ x. Turns tokens.now (Nonterminal HEDGE) [] (perhaps_expr x.1 ∷ perhaps_expr x.0 ∷ []) at x.2 0) (Ends tokens.now (Nonterminal HEDGE) [] at) }
 {
-    if tokens.is_keyword(Keyword::When, at) {
-        return condition(alloc, tokens, at);
+    match tokens.kind(at) {
+        Some(TokenKind::Keyword(Keyword::When)) => condition(alloc, tokens, at),
+        _ => guess(alloc, tokens, at),
     }
-    guess(alloc, tokens, at)
 }
 
 fn condition(

@@ -2,9 +2,9 @@
 ghost use Rattle.std.specs.Prelude.{◌≡◌, ◌==◌, ◌+◌, [], ◌∷◌, drop, MatchOption, MatchResult, IfSome, All};
 ghost use Rattle.kp_ast.specs.Name.{IsName};
 ghost use Rattle.kp_lex.specs.declared.token.TokenKind.TheVariants as kinds;
-ghost use Rattle.kp_parse.specs.Tokens.{kind_class, keyword_class, mark_class, IDENTIFIER, NUMBER, LITERAL, IsSpelled, lexemes};
+ghost use Rattle.kp_parse.specs.Tokens.{kind_class, keyword_class, mark_class, IDENTIFIER, NUMBER, IsSpelled, lexemes};
 ghost use Rattle.kp_parse.specs.Language.{NAME, NUM, LIT, named, number as number_value, literal as literal_value};
-ghost use Rattle.kp_parse.specs.Reading.{class_at, Finds, Misses, Follows, Turns, Ends};
+ghost use Rattle.kp_parse.specs.inner.Reading.{class_at, class_of, Finds, Misses, Follows, Turns, Ends};
 
 use crate::fault::Fault;
 use kp_ast::{Lit, Name, Named, Num};
@@ -75,6 +75,14 @@ impl<'t> Tokens<'t> {
         Some((spelled, at + 1))
     }
 
+    /// What the token is; `None` from the end of the text on.
+    pub(crate) fn kind(&self, at: usize) -> Option<TokenKind>
+        ensures { class_of result ≡ class_at self.now at }
+    {
+        let (token, _next) = self.token(at)?;
+        Some(token.kind)
+    }
+
     /// Whether the token is this keyword.
     pub(crate) fn is_keyword(&self, keyword: Keyword, at: usize) -> bool
         ensures { result ≡ (class_at self.now at == keyword_class keyword) }
@@ -111,16 +119,6 @@ impl<'t> Tokens<'t> {
     {
         match self.token(at) {
             Some((token, _)) => is_number(token.kind),
-            None => false,
-        }
-    }
-
-    /// Whether the token is a literal.
-    pub(crate) fn is_literal(&self, at: usize) -> bool
-        ensures { result ≡ (class_at self.now at == LITERAL) }
-    {
-        match self.token(at) {
-            Some((token, _)) => is_literal(token.kind),
             None => false,
         }
     }
@@ -223,10 +221,4 @@ fn is_number(kind: TokenKind) -> bool
     ensures { result ≡ (kind_class kind == NUMBER) }
 {
     matches!(kind, TokenKind::Number(_))
-}
-
-fn is_literal(kind: TokenKind) -> bool
-    ensures { result ≡ (kind_class kind == LITERAL) }
-{
-    matches!(kind, TokenKind::Literal(_))
 }

@@ -1,5 +1,6 @@
 use Rattle.std.proofs.Common.{◌≡◌, ◌+◌, ◌≤◌, min, drop}
-use Rattle.kp_ast.specs.Size.{sizes_with, bodies_of}
+use Rattle.kp_ast.specs.Size.{bodies_of}
+use Rattle.kp_ast.specs.inner.Sizes.{sizes_with}
 use Rattle.kp_ast.proofs.size.+size.Given as goal
 
 abbrev pub invariant-expanded_sizes-loop-e : goal.invariant-expanded_sizes-loop-e

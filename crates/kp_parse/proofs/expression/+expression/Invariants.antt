@@ -1,7 +1,7 @@
 use Rattle.std.proofs.Common.{◌-◌, ◌*◌, ◌+◌, [], ◌∷◌, length, drop}
-use Rattle.kp_parse.specs.Rank.{rank}
+use Rattle.kp_parse.specs.inner.Rank.{rank}
 use Rattle.kp_parse.specs.Language.{expr, POST, SLICES, CHAIN, MORE}
-use Rattle.kp_parse.specs.Reading.{ReadsYet, ListsYet}
+use Rattle.kp_parse.specs.inner.Reading.{ReadsYet, ListsYet}
 use Rattle.kp_parse.proofs.expression.+expression.Given as goal
 
 abbrev pub decreases-expression : goal.decreases-expression

@@ -1,6 +1,6 @@
 use Rattle.std.proofs.Common.{◌≡◌, drop}
-use Rattle.kp_parse.specs.Operators.{operator_at}
-use Rattle.kp_parse.specs.Reading.{class_at}
+use Rattle.kp_parse.specs.inner.Operators.{operator_at}
+use Rattle.kp_parse.specs.inner.Reading.{class_at}
 use Rattle.kp_parse.proofs.expression.operator_among.Given as goal
 
 abbrev pub invariant-loop-operator : goal.invariant-loop-operator

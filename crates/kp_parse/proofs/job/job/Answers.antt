@@ -1,4 +1,4 @@
-use Rattle.std.proofs.Common.{◌≡◌, ℕ, List, [], ◌∷◌, refl, arith, length-drop}
+use Rattle.std.proofs.Common.{arith, length-drop}
 use Rattle.std.proofs.lemmas.Result.{err_from_is_err_and}
 use Rattle.kp_grammar.specs.Machine.{make}
 use Rattle.kp_parse.specs.Tokens.{Lexeme}
@@ -61,18 +61,23 @@ returns-in_err-stalls-clause-goes c =
     let p = err_from_is_err_and c.from_residual-in_err-stalls.result c.from_residual-in_err-stalls.ensures.1 in
     rw (p.1, p.2) (end_job c.in_err-stalls.ensures (λ o h. job_all (by_dropped c.in_ok-_machine.ensures (c.in_ok-name.ensures.leads _ _ _ _ (by_dropped c.in_ok-_semicolon.ensures (by_dropped c.in_ok-_stages.ensures (c.in_ok-count.ensures.leads _ _ _ _ (by_dropped c.in_ok-_second.ensures (make (c.in_ok-decls.ensures.leads _ _ _ _ (make (c.in_ok-first.ensures.leads _ _ _ _ (make (c.in_ok-blocks.ensures.leads _ _ _ _ (c.in_ok-image.ensures.leads _ _ _ _ (h _ _ _))))))))))))))))
 
+pub returns-in_err-inputs-clause-goes : goal.returns-in_err-inputs-clause-goes
+returns-in_err-inputs-clause-goes c =
+    let p = err_from_is_err_and c.from_residual-in_err-inputs.result c.from_residual-in_err-inputs.ensures.1 in
+    rw (p.1, p.2) (end_job c.in_err-inputs.ensures (λ o h. job_all (by_dropped c.in_ok-_machine.ensures (c.in_ok-name.ensures.leads _ _ _ _ (by_dropped c.in_ok-_semicolon.ensures (by_dropped c.in_ok-_stages.ensures (c.in_ok-count.ensures.leads _ _ _ _ (by_dropped c.in_ok-_second.ensures (make (c.in_ok-decls.ensures.leads _ _ _ _ (make (c.in_ok-first.ensures.leads _ _ _ _ (make (c.in_ok-blocks.ensures.leads _ _ _ _ (c.in_ok-image.ensures.leads _ _ _ _ (c.in_ok-stalls.ensures.leads _ _ _ _ (h _ _ _)))))))))))))))))
+
 pub returns-in_err-_end-clause-goes : goal.returns-in_err-_end-clause-goes
 returns-in_err-_end-clause-goes c =
     let p = err_from_is_err_and c.from_residual-in_err-_end.result c.from_residual-in_err-_end.ensures.1 in
-    rw (p.1, p.2) (miss_job c.in_err-_end.ensures (λ o h. job_all (by_dropped c.in_ok-_machine.ensures (c.in_ok-name.ensures.leads _ _ _ _ (by_dropped c.in_ok-_semicolon.ensures (by_dropped c.in_ok-_stages.ensures (c.in_ok-count.ensures.leads _ _ _ _ (by_dropped c.in_ok-_second.ensures (make (c.in_ok-decls.ensures.leads _ _ _ _ (make (c.in_ok-first.ensures.leads _ _ _ _ (make (c.in_ok-blocks.ensures.leads _ _ _ _ (c.in_ok-image.ensures.leads _ _ _ _ (c.in_ok-stalls.ensures.leads _ _ _ _ (h _ _ _)))))))))))))))))
+    rw (p.1, p.2) (miss_job c.in_err-_end.ensures (λ o h. job_all (by_dropped c.in_ok-_machine.ensures (c.in_ok-name.ensures.leads _ _ _ _ (by_dropped c.in_ok-_semicolon.ensures (by_dropped c.in_ok-_stages.ensures (c.in_ok-count.ensures.leads _ _ _ _ (by_dropped c.in_ok-_second.ensures (make (c.in_ok-decls.ensures.leads _ _ _ _ (make (c.in_ok-first.ensures.leads _ _ _ _ (make (c.in_ok-blocks.ensures.leads _ _ _ _ (c.in_ok-image.ensures.leads _ _ _ _ (c.in_ok-stalls.ensures.leads _ _ _ _ (c.in_ok-inputs.ensures.leads _ _ _ _ (h _ _ _))))))))))))))))))
 
 pub returns-in_err-nothing_follows-clause-goes : goal.returns-in_err-nothing_follows-clause-goes
 returns-in_err-nothing_follows-clause-goes c =
     let p = err_from_is_err_and c.from_residual-in_err-nothing_follows.result c.from_residual-in_err-nothing_follows.ensures.1 in
-    rw (p.1, p.2) (follow_job c.in_err-nothing_follows.ensures (λ o h. job_all (by_dropped c.in_ok-_machine.ensures (c.in_ok-name.ensures.leads _ _ _ _ (by_dropped c.in_ok-_semicolon.ensures (by_dropped c.in_ok-_stages.ensures (c.in_ok-count.ensures.leads _ _ _ _ (by_dropped c.in_ok-_second.ensures (make (c.in_ok-decls.ensures.leads _ _ _ _ (make (c.in_ok-first.ensures.leads _ _ _ _ (make (c.in_ok-blocks.ensures.leads _ _ _ _ (c.in_ok-image.ensures.leads _ _ _ _ (c.in_ok-stalls.ensures.leads _ _ _ _ (by_dropped c.in_ok-_end.ensures (make (h _)))))))))))))))))))
+    rw (p.1, p.2) (follow_job c.in_err-nothing_follows.ensures (λ o h. job_all (by_dropped c.in_ok-_machine.ensures (c.in_ok-name.ensures.leads _ _ _ _ (by_dropped c.in_ok-_semicolon.ensures (by_dropped c.in_ok-_stages.ensures (c.in_ok-count.ensures.leads _ _ _ _ (by_dropped c.in_ok-_second.ensures (make (c.in_ok-decls.ensures.leads _ _ _ _ (make (c.in_ok-first.ensures.leads _ _ _ _ (make (c.in_ok-blocks.ensures.leads _ _ _ _ (c.in_ok-image.ensures.leads _ _ _ _ (c.in_ok-stalls.ensures.leads _ _ _ _ (c.in_ok-inputs.ensures.leads _ _ _ _ (by_dropped c.in_ok-_end.ensures (make (h _))))))))))))))))))))
 
 pub returns-clause-goes : goal.returns-clause-goes
-returns-clause-goes c = rw (c.new.ensures, c.new-2.ensures) (job_all (by_dropped c.in_ok-_machine.ensures (c.in_ok-name.ensures.leads _ _ _ _ (by_dropped c.in_ok-_semicolon.ensures (by_dropped c.in_ok-_stages.ensures (c.in_ok-count.ensures.leads _ _ _ _ (by_dropped c.in_ok-_second.ensures (make (c.in_ok-decls.ensures.leads _ _ _ _ (make (c.in_ok-first.ensures.leads _ _ _ _ (make (c.in_ok-blocks.ensures.leads _ _ _ _ (c.in_ok-image.ensures.leads _ _ _ _ (c.in_ok-stalls.ensures.leads _ _ _ _ (by_dropped c.in_ok-_end.ensures (make (accepted c.args.tokens.now c.in_ok-_end.next c.in_ok-nothing_follows.ensures))))))))))))))))))
+returns-clause-goes c = rw (c.new.ensures, c.new-2.ensures) (job_all (by_dropped c.in_ok-_machine.ensures (c.in_ok-name.ensures.leads _ _ _ _ (by_dropped c.in_ok-_semicolon.ensures (by_dropped c.in_ok-_stages.ensures (c.in_ok-count.ensures.leads _ _ _ _ (by_dropped c.in_ok-_second.ensures (make (c.in_ok-decls.ensures.leads _ _ _ _ (make (c.in_ok-first.ensures.leads _ _ _ _ (make (c.in_ok-blocks.ensures.leads _ _ _ _ (c.in_ok-image.ensures.leads _ _ _ _ (c.in_ok-stalls.ensures.leads _ _ _ _ (c.in_ok-inputs.ensures.leads _ _ _ _ (by_dropped c.in_ok-_end.ensures (make (accepted c.args.tokens.now c.in_ok-_end.next c.in_ok-nothing_follows.ensures)))))))))))))))))))
 
 pub returns-clause-few : goal.returns-clause-few
 returns-clause-few c = rw (c.new.ensures, c.new-2.ensures) (

@@ -1,6 +1,5 @@
 use Rattle.std.proofs.Common.{refl}
-use Rattle.kp_parse.specs.Language.{as_literal}
-use Rattle.kp_parse.specs.Reading.{at}
+use Rattle.kp_parse.specs.Language.{as_literal, at}
 use Rattle.kp_parse.proofs.Taking.{missed_end, missed_kind, no_literal, reads_literal}
 use Rattle.kp_parse.proofs.tokens.Tokens.literal.Goals as goal
 

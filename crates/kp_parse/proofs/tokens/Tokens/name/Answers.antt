@@ -1,6 +1,5 @@
 use Rattle.std.proofs.Common.{refl}
-use Rattle.kp_parse.specs.Language.{as_name}
-use Rattle.kp_parse.specs.Reading.{at}
+use Rattle.kp_parse.specs.Language.{as_name, at}
 use Rattle.kp_parse.proofs.Taking.{missed_end, missed_kind, is_identifier, reads_name}
 use Rattle.kp_parse.proofs.tokens.Tokens.name.Goals as goal
 

@@ -1,6 +1,5 @@
 use Rattle.std.proofs.Common.{refl}
-use Rattle.kp_parse.specs.Language.{as_number}
-use Rattle.kp_parse.specs.Reading.{at}
+use Rattle.kp_parse.specs.Language.{as_number, at}
 use Rattle.kp_parse.proofs.Taking.{missed_end, missed_kind, no_number, reads_number}
 use Rattle.kp_parse.proofs.tokens.Tokens.number.Goals as goal
 

@@ -1,7 +1,7 @@
 -- The operators of each level.
 use Rattle.std.specs.Prelude.{ℕ, ◌==◌, List, [], ◌∷◌, Option, find}
-use Rattle.kp_ast.specs.declared.tree.BinOp.{BinOp}
-use Rattle.kp_ast.specs.declared.tree.BinOp.TheVariants as ops
+use Rattle.kp_bits.specs.declared.operator.BinOp.{BinOp}
+use Rattle.kp_bits.specs.declared.operator.BinOp.TheVariants as ops
 use Rattle.kp_lex.specs.declared.token.Mark.{Mark}
 use Rattle.kp_lex.specs.declared.token.Mark.TheVariants as marks
 use Rattle.kp_parse.specs.declared.level.Level.{Level}

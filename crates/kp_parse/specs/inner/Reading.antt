@@ -1,28 +1,28 @@
 -- What the functions of the parser promise: where the machine goes. Tokens are numbered from 0.
-use Rattle.std.specs.Prelude.{ℕ, ◌+◌, ◌≤◌, ◌≡◌, List, [], ◌∷◌, ◌++◌, length, drop, Bool, false}
+use Rattle.std.specs.Prelude.{ℕ, ◌+◌, ◌≤◌, ◌≡◌, List, [], ◌∷◌, ◌++◌, length, drop, Option, None, Some}
 use Rattle.kp_base.specs.declared.place.Place.{Place}
 use Rattle.kp_ast.specs.declared.tree.Expr.{Expr}
 use Rattle.kp_grammar.specs.Grammar.{Terminal, Nonterminal}
+use Rattle.kp_grammar.specs.Tables.{END_OF_TEXT}
 use Rattle.kp_grammar.specs.Machine.{Outcome, Stops, Exceeds, Leads, look}
+use Rattle.kp_lex.specs.declared.token.TokenKind.{TokenKind}
 use Rattle.kp_parse.specs.declared.fault.Fault.{Fault}
 use Rattle.kp_parse.specs.declared.fault.Fault.TheVariants as faults
 use Rattle.kp_parse.specs.Tokens.{Lexeme, kind_class}
-use Rattle.kp_parse.specs.Language.{Sym, State, Value, Way, exprs, language, EXPRS, PARTS, JOB}
-use Rattle.kp_parse.specs.Follow.{tables}
-
-abbrev pub is_over : State → Bool
-is_over v = v.over
+use Rattle.kp_parse.specs.Language.{Sym, State, Value, Way, at, is_over, exprs, language, EXPRS, PARTS, JOB}
+use Rattle.kp_parse.specs.inner.Follow.{tables}
 
 abbrev pub Goes : List Sym → State → List Lexeme → Outcome State → Type 0
 Goes s v ts o = Leads language is_over tables s v ts o
 
--- a state in which no count has passed the limit
-abbrev pub at : List ℕ → List Value → State
-at cs vs = record { counts = cs; over = false; values = vs }
-
 -- the class of token i
 abbrev pub class_at : List Lexeme → ℕ → ℕ
 class_at ts i = look language (drop i ts)
+
+-- the class of what stands there, if anything does
+abbrev pub class_of : Option TokenKind → ℕ
+class_of None = END_OF_TEXT
+class_of (Some kind) = kind_class kind
 
 -- Token i is of the class and stands at the place, and token j is the next one.
 pub record Finds (ts : List Lexeme) (c : ℕ) (p : Place) (i j : ℕ) : Type 0 where

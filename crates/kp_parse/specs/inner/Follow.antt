@@ -5,7 +5,7 @@ use Rattle.kp_lex.specs.declared.token.Keyword.TheVariants as keywords
 use Rattle.kp_lex.specs.declared.token.Mark.TheVariants as marks
 use Rattle.kp_parse.specs.declared.level.Level.TheVariants as levels
 use Rattle.kp_parse.specs.Tokens.{IDENTIFIER, NUMBER, LITERAL, keyword_class, mark_class}
-use Rattle.kp_parse.specs.Language.{JOB, DECLS, DECL, INDEX, ENABLE, PAR, PARS, STAGE, STAGES, STMTS, STMT, BINDING, ADDRESS, HEDGE, WHEN, WHOLE, IMAGE, WORDS, WORD, NUMBERED, LITS, STALLS, SPANS, SPAN, STEP, EXPR, CHOICE, UNARY, POST, SLICES, LOW, PRIM, EXTENDED, CALL, EXPRS, PARTS, CHAIN, MORE}
+use Rattle.kp_parse.specs.Language.{JOB, DECLS, DECL, INDEX, ENABLE, PAR, PARS, STAGE, STAGES, STMTS, STMT, BINDING, ADDRESS, HEDGE, WHEN, WHOLE, IMAGE, WORDS, WORD, NUMBERED, LITS, STALLS, SPANS, SPAN, STEP, INPUTS, ENTRIES, ENTRY, EXPR, CHOICE, UNARY, POST, SLICES, LOW, PRIM, EXTENDED, CALL, EXPRS, PARTS, CHAIN, MORE}
 
 abbrev row : ℕ → List ℕ → List ℕ → Row
 row n first after = record { name = n; first = first; empty = false; after = after }
@@ -16,7 +16,7 @@ maybe n first after = record { name = n; first = first; empty = true; after = af
 
 -- what a declaration begins with
 abbrev pub decl_words : List ℕ
-decl_words = keyword_class keywords.Reg ∷ keyword_class keywords.File ∷ keyword_class keywords.Pipe ∷ keyword_class keywords.Result ∷ keyword_class keywords.Hint ∷ keyword_class keywords.Fn ∷ []
+decl_words = keyword_class keywords.Reg ∷ keyword_class keywords.File ∷ keyword_class keywords.Pipe ∷ keyword_class keywords.Result ∷ keyword_class keywords.Hint ∷ keyword_class keywords.Sample ∷ keyword_class keywords.Fn ∷ []
 
 -- what a statement begins with
 abbrev pub stmt_words : List ℕ
@@ -74,13 +74,13 @@ abbrev pub tables : Tables
 tables =
     row JOB (keyword_class keywords.Machine ∷ []) (END_OF_TEXT ∷ [])
     ∷ maybe DECLS decl_words (keyword_class keywords.Stage ∷ [])
-    ∷ row DECL decl_words (keyword_class keywords.Reg ∷ keyword_class keywords.File ∷ keyword_class keywords.Pipe ∷ keyword_class keywords.Result ∷ keyword_class keywords.Hint ∷ keyword_class keywords.Fn ∷ keyword_class keywords.Stage ∷ [])
+    ∷ row DECL decl_words (keyword_class keywords.Reg ∷ keyword_class keywords.File ∷ keyword_class keywords.Pipe ∷ keyword_class keywords.Result ∷ keyword_class keywords.Hint ∷ keyword_class keywords.Sample ∷ keyword_class keywords.Fn ∷ keyword_class keywords.Stage ∷ [])
     ∷ maybe INDEX (mark_class marks.OpenBracket ∷ []) (keyword_class keywords.When ∷ keyword_class keywords.At ∷ [])
     ∷ maybe ENABLE (keyword_class keywords.When ∷ []) (keyword_class keywords.At ∷ [])
-    ∷ row PAR (IDENTIFIER ∷ []) (mark_class marks.Equals ∷ mark_class marks.OpenBracket ∷ mark_class marks.Semicolon ∷ mark_class marks.Arrow ∷ mark_class marks.Comma ∷ mark_class marks.CloseParenthesis ∷ [])
+    ∷ row PAR (IDENTIFIER ∷ []) (mark_class marks.Equals ∷ mark_class marks.OpenBracket ∷ mark_class marks.Semicolon ∷ mark_class marks.Arrow ∷ mark_class marks.Comma ∷ mark_class marks.CloseParenthesis ∷ keyword_class keywords.At ∷ [])
     ∷ maybe PARS (mark_class marks.Comma ∷ []) (mark_class marks.CloseParenthesis ∷ [])
-    ∷ row STAGE (keyword_class keywords.Stage ∷ []) (keyword_class keywords.Stage ∷ keyword_class keywords.Image ∷ keyword_class keywords.Stalls ∷ keyword_class keywords.End ∷ [])
-    ∷ maybe STAGES (keyword_class keywords.Stage ∷ []) (keyword_class keywords.Image ∷ keyword_class keywords.Stalls ∷ keyword_class keywords.End ∷ [])
+    ∷ row STAGE (keyword_class keywords.Stage ∷ []) (keyword_class keywords.Stage ∷ keyword_class keywords.Image ∷ keyword_class keywords.Stalls ∷ keyword_class keywords.Inputs ∷ keyword_class keywords.End ∷ [])
+    ∷ maybe STAGES (keyword_class keywords.Stage ∷ []) (keyword_class keywords.Image ∷ keyword_class keywords.Stalls ∷ keyword_class keywords.Inputs ∷ keyword_class keywords.End ∷ [])
     ∷ maybe STMTS stmt_words (mark_class marks.CloseBrace ∷ [])
     ∷ row STMT stmt_words (keyword_class keywords.Read ∷ keyword_class keywords.Let ∷ keyword_class keywords.Put ∷ keyword_class keywords.Set ∷ keyword_class keywords.Aim ∷ mark_class marks.CloseBrace ∷ [])
     ∷ row BINDING (IDENTIFIER ∷ []) (mark_class marks.Semicolon ∷ keyword_class keywords.When ∷ [])
@@ -88,15 +88,18 @@ tables =
     ∷ maybe HEDGE (keyword_class keywords.When ∷ keyword_class keywords.Guess ∷ []) (mark_class marks.Semicolon ∷ [])
     ∷ maybe WHEN (keyword_class keywords.When ∷ []) (mark_class marks.Semicolon ∷ [])
     ∷ row WHOLE expr_starts (mark_class marks.Semicolon ∷ keyword_class keywords.When ∷ mark_class marks.CloseBracket ∷ [])
-    ∷ maybe IMAGE (keyword_class keywords.Image ∷ []) (keyword_class keywords.Stalls ∷ keyword_class keywords.End ∷ [])
+    ∷ maybe IMAGE (keyword_class keywords.Image ∷ []) (keyword_class keywords.Stalls ∷ keyword_class keywords.Inputs ∷ keyword_class keywords.End ∷ [])
     ∷ maybe WORDS (IDENTIFIER ∷ []) (mark_class marks.CloseBrace ∷ [])
     ∷ row WORD (IDENTIFIER ∷ []) (IDENTIFIER ∷ mark_class marks.CloseBrace ∷ [])
     ∷ maybe NUMBERED (mark_class marks.OpenBracket ∷ []) (mark_class marks.Equals ∷ [])
     ∷ maybe LITS (mark_class marks.Comma ∷ []) (mark_class marks.Semicolon ∷ [])
-    ∷ maybe STALLS (keyword_class keywords.Stalls ∷ []) (keyword_class keywords.End ∷ [])
+    ∷ maybe STALLS (keyword_class keywords.Stalls ∷ []) (keyword_class keywords.Inputs ∷ keyword_class keywords.End ∷ [])
     ∷ maybe SPANS (NUMBER ∷ []) (mark_class marks.CloseBrace ∷ [])
     ∷ row SPAN (NUMBER ∷ []) (NUMBER ∷ mark_class marks.CloseBrace ∷ [])
     ∷ maybe STEP (keyword_class keywords.Step ∷ []) (mark_class marks.Semicolon ∷ [])
+    ∷ maybe INPUTS (keyword_class keywords.Inputs ∷ []) (keyword_class keywords.End ∷ [])
+    ∷ maybe ENTRIES (IDENTIFIER ∷ []) (mark_class marks.CloseBrace ∷ [])
+    ∷ row ENTRY (IDENTIFIER ∷ []) (IDENTIFIER ∷ mark_class marks.CloseBrace ∷ [])
     ∷ row EXPR expr_starts behind_expr
     ∷ maybe CHOICE (mark_class marks.Question ∷ []) behind_expr
     ∷ row (CHAIN levels.Or) expr_starts behind_or

@@ -1,3 +1,4 @@
+-- With this number the functions of an expression end: it falls from each call that takes no token to the next.
 use Rattle.std.specs.Prelude.{ℕ}
 use Rattle.kp_parse.specs.declared.level.Level.{Level}
 use Rattle.kp_parse.specs.declared.level.Level.TheVariants as levels

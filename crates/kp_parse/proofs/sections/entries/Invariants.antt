@@ -1,0 +1,11 @@
+use Rattle.std.proofs.Common.{[], ◌∷◌, length, drop}
+use Rattle.kp_grammar.specs.Grammar.{Nonterminal}
+use Rattle.kp_parse.specs.Language.{ENTRIES, inputs}
+use Rattle.kp_parse.specs.inner.Reading.{TurnsYet}
+use Rattle.kp_parse.proofs.sections.entries.Given as goal
+
+abbrev pub invariant-all : goal.invariant-all
+invariant-all l = TurnsYet l.tokens (Nonterminal ENTRIES) (inputs [] ∷ []) (inputs l.all.items ∷ []) l.at l.here 0
+
+abbrev pub decreases-all : goal.decreases-all
+decreases-all l = length (drop l.here l.tokens)
