@@ -1,25 +1,23 @@
 -- Declarations that break no rule: their numbers fit, and a register or file is found under its name.
-use Rattle.std.proofs.Common.{◌≡◌, ◌∙◌, ℕ, zero, suc, ◌+◌, ◌^◌, ◌<◌, ◌≤◌, List, [], ◌∷◌, ◌++◌, length, map, Option, Some, None, Bool, true, false, cond, refl, ap, sym, subst, arith}
-use Rattle.std.specs.Prelude.{◌&&◌, not, nat_eq, nat_le, nat_lt, is_some}
+use Rattle.std.proofs.Common.{◌≡◌, ◌∙◌, ℕ, zero, suc, ◌+◌, ◌^◌, ◌<◌, ◌≤◌, List, [], ◌∷◌, ◌++◌, map, Option, Some, None, Bool, true, false, cond, refl, ap, sym, subst, arith}
+use Rattle.std.specs.Prelude.{◌&&◌, not, nat_eq, is_some}
 use Rattle.std.specs.List.{All}
-use Rattle.std.specs.Cmp.Lexicographic.{pointwise, bytes_decides, nat_list_eq_equiv}
+use Rattle.std.specs.Cmp.Lexicographic.{pointwise, nat_list_eq_equiv}
 use Rattle.std.proofs.lemmas.Bool.{leb-true, ltb-true, eqb-true}
 use Rattle.std.proofs.lemmas.List.{map-append, append_assoc}
 use Rattle.kp_base.specs.First.{first}
 use Rattle.kp_base.specs.Check.{ok, ◌>>=◌}
 use Rattle.kp_base.proofs.First.{first_append_none}
 use Rattle.kp_bits.specs.Word.{IsWord, word}
-use Rattle.kp_ast.specs.declared.tree.Num.{Num}
 use Rattle.kp_ast.specs.declared.tree.Lit.{Lit}
 use Rattle.kp_ast.specs.declared.tree.Param.{Param}
 use Rattle.kp_ast.specs.declared.tree.Decl.{Decl}
 use Rattle.kp_ast.specs.declared.tree.Decl.TheVariants as decls
 use Rattle.kp_ast.specs.declared.widths.NameKind.TheVariants as kinds
 use Rattle.kp_width.specs.Names.{Names, Sense, sense, Scoped, look_up, or_else, declared_text, declared_local}
-use Rattle.kp_width.specs.Expressions.{is_width}
-use Rattle.kp_width.specs.Declarations.{declared, start_of, started_of, addresses_of, function_opened, parameters_of, name_of, after_name, declaration_of, declarations_of, functions_in, result_of, function_of}
+use Rattle.kp_width.specs.Declarations.{declared, start_of, started_of, function_opened, parameters_of, name_of, after_name, declaration_of, declarations_of, functions_in}
 use Rattle.kp_width.proofs.Unbroken.{Unbroken, bind_unbroken, answer_unbroken}
-use Rattle.kp_image.specs.Sections.{Storage, storage_in, storage_named, storage_of}
+use Rattle.kp_image.specs.Sections.{storage_in, storage_named, storage_of}
 
 pub all_none : {X : Type 0} (P : X → Type 0) → All P []
 all_none P k d h = absurd (omega arith)
@@ -60,6 +58,7 @@ fits l w e =
 abbrev pub IsRight : Decl → Type 0
 IsRight (decls.Reg n width start) = IsWord (word width.value start.literal.value)
 IsRight (decls.File n width address) = (1 ≤ width.value) × (width.value ≤ 64) × (address.value ≤ 16)
+IsRight (decls.Sample n width stage) = (1 ≤ width.value) × (width.value ≤ 64)
 IsRight _ = Unit {0}
 
 right : (ds : List Decl) (i k : ℕ) (s : Scoped) (d : Decl) → Unbroken (after_name ds i k s d) → IsRight d
@@ -76,6 +75,9 @@ right ds i k s (decls.File n width address) e =
     (leb-true _ _ wide.0, leb-true _ _ wide.1, leb-true _ _ few.1)
 right ds i k s (decls.Pipe n width) e = tt
 right ds i k s (decls.Hint n width start) e = tt
+right ds i k s (decls.Sample n width stage) e =
+    let wide = both_true _ _ (answer_unbroken _ _ _ e).0 in
+    (leb-true _ _ wide.0, leb-true _ _ wide.1)
 right ds i k s (decls.Target r) e = tt
 right ds i k s (decls.Func f) e = tt
 
@@ -92,6 +94,7 @@ adds ds i k s (decls.Reg n width start) = (sense kinds.Reg width.value i, refl)
 adds ds i k s (decls.File n width address) = (sense (kinds.File address.value) width.value i, refl)
 adds ds i k s (decls.Pipe n width) = (sense kinds.Pipe width.value i, refl)
 adds ds i k s (decls.Hint n width start) = (sense kinds.Hint width.value i, refl)
+adds ds i k s (decls.Sample n width stage) = (sense kinds.Sample width.value i, refl)
 adds ds i k s (decls.Target r) = (sense kinds.Target r.width.value i, refl)
 adds ds i k s (decls.Func f) =
     let m = sense kinds.Func f.width.value i in
@@ -122,6 +125,7 @@ not_named (decls.Reg n width start) q e = rw (nat_list_eq_equiv.symm n.name q �
 not_named (decls.File n width address) q e = rw (nat_list_eq_equiv.symm n.name q ∙ e) refl
 not_named (decls.Pipe n width) q e = refl
 not_named (decls.Hint n width start) q e = refl
+not_named (decls.Sample n width stage) q e = rw (nat_list_eq_equiv.symm n.name q ∙ e) refl
 not_named (decls.Target r) q e = refl
 not_named (decls.Func f) q e = refl
 
@@ -140,6 +144,7 @@ hides_more front d old new hides (m, e) q none =
 abbrev pub IsFound : List Decl → Decl → Type 0
 IsFound all (decls.Reg n width start) = storage_of all n.name ≡ storage_in (decls.Reg n width start)
 IsFound all (decls.File n width address) = storage_of all n.name ≡ storage_in (decls.File n width address)
+IsFound all (decls.Sample n width stage) = storage_of all n.name ≡ storage_in (decls.Sample n width stage)
 IsFound all _ = Unit {0}
 
 found_here : (d : Decl) (rest : List Decl) → IsFound (d ∷ rest) d
@@ -147,6 +152,7 @@ found_here (decls.Reg n width start) rest = rw (nat_list_eq_equiv.refl n.name) r
 found_here (decls.File n width address) rest = rw (nat_list_eq_equiv.refl n.name) refl
 found_here (decls.Pipe n width) rest = tt
 found_here (decls.Hint n width start) rest = tt
+found_here (decls.Sample n width stage) rest = rw (nat_list_eq_equiv.refl n.name) refl
 found_here (decls.Target r) rest = tt
 found_here (decls.Func f) rest = tt
 
@@ -155,6 +161,7 @@ found_past front rest (decls.Reg n width start) none found = storage_past front 
 found_past front rest (decls.File n width address) none found = storage_past front rest n.name none ∙ found
 found_past front rest (decls.Pipe n width) none found = tt
 found_past front rest (decls.Hint n width start) none found = tt
+found_past front rest (decls.Sample n width stage) none found = storage_past front rest n.name none ∙ found
 found_past front rest (decls.Target r) none found = tt
 found_past front rest (decls.Func f) none found = tt
 

@@ -1,6 +1,6 @@
 -- Sections that break no rule: each entry ends within its target's words, and each value fits its target.
-use Rattle.std.proofs.Common.{◌≡◌, ◌∙◌, ℕ, zero, suc, ◌+◌, ◌-◌, ◌^◌, ◌<◌, ◌≤◌, List, [], ◌∷◌, ◌++◌, length, Option, Some, None, Bool, true, false, refl, ap, sym, subst, arith}
-use Rattle.std.specs.Prelude.{◌&&◌, nat_le, nat_lt, unwrap_or, if◌then◌else◌, option_map, slice_get}
+use Rattle.std.proofs.Common.{◌≡◌, ◌∙◌, ℕ, zero, suc, ◌+◌, ◌-◌, ◌^◌, ◌<◌, ◌≤◌, List, [], ◌∷◌, length, Option, Some, None, Bool, true, false, refl, ap, sym, subst, arith}
+use Rattle.std.specs.Prelude.{◌&&◌, not, ◌==◌, nat_le, unwrap_or, if◌then◌else◌, option_map, slice_get}
 use Rattle.std.specs.List.{All}
 use Rattle.std.specs.Cmp.Lexicographic.{bytes_decides}
 use Rattle.std.proofs.lemmas.Bool.{ltb-true}
@@ -14,20 +14,24 @@ use Rattle.kp_ast.specs.declared.tree.Lit.{Lit}
 use Rattle.kp_ast.specs.declared.tree.Decl.{Decl}
 use Rattle.kp_ast.specs.declared.tree.Decl.TheVariants as decls
 use Rattle.kp_ast.specs.declared.tree.Image.{Image}
+use Rattle.kp_ast.specs.declared.tree.Inputs.{Inputs}
 use Rattle.kp_ast.specs.declared.tree.Job.{Job}
 use Rattle.kp_width.specs.Names.{nothing}
 use Rattle.kp_width.specs.Declarations.{start_of, declarations_of}
 use Rattle.kp_width.specs.Statements.{blocks_of}
 use Rattle.kp_width.specs.Widths.{widths_of}
 use Rattle.kp_width.proofs.Unbroken.{Unbroken, bind_unbroken, answer_unbroken}
-use Rattle.kp_stage.specs.Start.{number_or, first_address, given_by, laid_over, start_regs, words_from, start_files, image_of, stalls_of, AreRegs, AreFiles, IsStartOf}
+use Rattle.kp_stage.specs.Start.{number_or, first_address, given_by, laid_over, start_regs, words_from, start_files, image_of, stalls_of, inputs_of, input, input_row, input_over, gives_at, AreRegs, AreFiles, AreSamples, IsStartOf}
 use Rattle.kp_stage.specs.Start as start
 use Rattle.kp_stage.specs.Stages.{broken_of}
 use Rattle.kp_stage.specs.Facts.{facts_of}
-use Rattle.kp_stage.proofs.Unbroken.{few_stages, first_none}
-use Rattle.kp_image.specs.Sections.{Storage, storage_in, storage_of, target_of, address_of, values_of, given_of, entry_of, entries_of, stalls_checked, sections_of}
-use Rattle.kp_image.specs.Fits.{HasFewWords, EndsWithin, StartFits}
-use Rattle.kp_image.proofs.Declared.{all_none, all_more, all_head, all_tail, IsFit, fits, IsRight, IsSettled, settled}
+use Rattle.kp_stage.proofs.Unbroken.{few_stages}
+use Rattle.kp_stage.proofs.Kept.{rules_kept}
+use Rattle.kp_image.specs.Sections.{Storage, storage_of, target_of, address_of, values_of, given_of, entry_of, entries_of, stalls_checked, sample_of, step_of, input_of, inputs_checked, sections_of}
+use Rattle.kp_image.specs.Feeds.{FitsFeed}
+use Rattle.kp_image.specs.inner.Kept.{FitsSample, InputsFit, kept_by}
+use Rattle.kp_image.specs.inner.Fits.{HasFewWords, EndsWithin, StartFits}
+use Rattle.kp_image.proofs.Declared.{all_none, all_more, all_head, all_tail, fits, IsSettled, settled}
 
 -- values that are below a limit
 abbrev AreBelow : ℕ → List Lit → Type 0
@@ -129,6 +133,7 @@ module _ (ds : List Decl) (es : List Image) (given : All (IsGiven ds) es) where
   start_fits_one (decls.Hint n width start) d = tt
   start_fits_one (decls.Target r) d = tt
   start_fits_one (decls.Func f) d = tt
+  start_fits_one (decls.Sample n width stage) d = tt
 
   start_fits_all : (rest : List Decl) → All (IsSettled ds) rest → All (StartFits es) rest
   start_fits_all [] all = all_none _
@@ -145,6 +150,7 @@ module _ (ds : List Decl) (es : List Image) (given : All (IsGiven ds) es) where
   regs_start (decls.Hint n width start ∷ rest) all = regs_start rest (all_tail (IsSettled ds) (decls.Hint n width start) rest all)
   regs_start (decls.Target r ∷ rest) all = regs_start rest (all_tail (IsSettled ds) (decls.Target r) rest all)
   regs_start (decls.Func f ∷ rest) all = regs_start rest (all_tail (IsSettled ds) (decls.Func f) rest all)
+  regs_start (decls.Sample n width stage ∷ rest) all = regs_start rest (all_tail (IsSettled ds) (decls.Sample n width stage) rest all)
 
   words_length : (n : List ℕ) (count a : ℕ) → length (words_from es n a count) ≡ count
   words_length n zero a = refl
@@ -165,6 +171,7 @@ module _ (ds : List Decl) (es : List Image) (given : All (IsGiven ds) es) where
   files_start (decls.Hint n width start ∷ rest) all = files_start rest (all_tail (IsSettled ds) (decls.Hint n width start) rest all)
   files_start (decls.Target r ∷ rest) all = files_start rest (all_tail (IsSettled ds) (decls.Target r) rest all)
   files_start (decls.Func f ∷ rest) all = files_start rest (all_tail (IsSettled ds) (decls.Func f) rest all)
+  files_start (decls.Sample n width stage ∷ rest) all = files_start rest (all_tail (IsSettled ds) (decls.Sample n width stage) rest all)
 
 few_one : (ds : List Decl) (d : Decl) → IsSettled ds d → HasFewWords d
 few_one ds (decls.File n width address) d = d.right.2
@@ -173,6 +180,7 @@ few_one ds (decls.Pipe n width) d = tt
 few_one ds (decls.Hint n width start) d = tt
 few_one ds (decls.Target r) d = tt
 few_one ds (decls.Func f) d = tt
+few_one ds (decls.Sample n width stage) d = tt
 
 few_all : (ds rest : List Decl) → All (IsSettled ds) rest → All HasFewWords rest
 few_all ds [] all = all_none _
@@ -192,7 +200,7 @@ job_given : (job : Job) → first (sections_of job).asked ≡ None → All (IsGi
 unfolding sections_of
 job_given job e =
     entries_right job.decls (image_of job)
-    (bind_unbroken (entries_of job.decls (image_of job)) (λ x. stalls_checked job.stages.value (stalls_of job)) e).0
+    (bind_unbroken (entries_of job.decls (image_of job)) (λ x. stalls_checked job.stages.value (stalls_of job) >>= (λ y. inputs_checked job.decls (inputs_of job))) e).0
 
 -- and where its sections are right too, its start state fits, and the stalls are right
 pub start_fits : (job : Job) → first (widths_of job).asked ≡ None → first (sections_of job).asked ≡ None → All (StartFits (image_of job)) job.decls
@@ -201,7 +209,8 @@ start_fits job widths sections = start_fits_all job.decls (image_of job) (job_gi
 pub stalls_right : (job : Job) → first (sections_of job).asked ≡ None → first (stalls_checked job.stages.value (stalls_of job)).asked ≡ None
 unfolding sections_of
 stalls_right job e =
-    (bind_unbroken (entries_of job.decls (image_of job)) (λ x. stalls_checked job.stages.value (stalls_of job)) e).1
+    (bind_unbroken (stalls_checked job.stages.value (stalls_of job)) (λ y. inputs_checked job.decls (inputs_of job))
+    (bind_unbroken (entries_of job.decls (image_of job)) (λ x. stalls_checked job.stages.value (stalls_of job) >>= (λ y. inputs_checked job.decls (inputs_of job))) e).1).0
 
 -- a machine can start in it
 pub starts : (job : Job) → first (widths_of job).asked ≡ None → first (sections_of job).asked ≡ None → IsStartOf job (start.start_of job)
@@ -213,5 +222,99 @@ starts job widths sections = record {
 
 -- a design has few stages
 pub few_stages_of : (job : Job) → broken_of job ≡ None → job.stages.value ≤ 12
-unfolding broken_of
-few_stages_of job e = few_stages (facts_of job) job (first_none _ _ e).0
+few_stages_of job e = few_stages (facts_of job) job (rules_kept job e)
+
+step_right : (o : Option Num) → Unbroken (step_of 37 o) → 0 < number_or o 1
+step_right None e = omega arith
+step_right (Some n) e = not_zero n.value (answer_unbroken (not (n.value == 0)) _ _ e).0
+  where
+    not_zero : (n : ℕ) → not (n == 0) ≡ true → 0 < n
+    not_zero zero e = cc
+    not_zero (suc n) e = omega arith
+
+-- an inputs entry that breaks no rule has a sample, whose width its value fits
+record IsInput (ds : List Decl) (e : Inputs) : Type 0 where
+  pub target : Storage
+  pub found : storage_of ds e.name.name ≡ Some target
+  pub fits : FitsFeed target.width (kept_by e)
+
+input_right_of : (ds : List Decl) (e : Inputs) (s : Storage) → storage_of ds e.name.name ≡ Some s → Unbroken (start_of e.value s.width >>= (λ x. step_of 37 e.step)) → IsInput ds e
+input_right_of ds e s found u =
+    let a = bind_unbroken (start_of e.value s.width) (λ x. step_of 37 e.step) u in
+    record { target = s; found = found; fits = ((fits e.value s.width a.0).word.fits, step_right e.step a.1) }
+
+sample_right : (ds : List Decl) (e : Inputs) (o : Option Storage) → storage_of ds e.name.name ≡ o → Unbroken (sample_of e o)
+    → Unbroken (start_of e.value (sample_of e o).value.width >>= (λ x. step_of 37 e.step)) → IsInput ds e
+sample_right ds e None found u rest = cc
+sample_right ds e (Some s) found u rest = input_right_of ds e s found rest
+
+inputs_right : (ds : List Decl) (es : List Inputs) → Unbroken (inputs_checked ds es) → All (IsInput ds) es
+unfolding input_of
+inputs_right ds [] u = all_none _
+inputs_right ds (e ∷ es) u =
+    let a = bind_unbroken (input_of ds e) (λ x. inputs_checked ds es) u in
+    let b = bind_unbroken (sample_of e (storage_of ds e.name.name)) (λ s. start_of e.value s.width >>= (λ x. step_of 37 e.step)) a.0 in
+    all_more (IsInput ds) e es (sample_right ds e (storage_of ds e.name.name) refl b.0 b.1) (inputs_right ds es a.1)
+
+-- the sample of an entry for this name is what is found under the name
+fits_found : (ds : List Decl) (name : List ℕ) (s : Storage) (e : Inputs) → storage_of ds name ≡ Some s → IsInput ds e → FitsSample name s.width e
+fits_found ds name s e found given same =
+    let there = ap (storage_of ds) (sym (names_equal e.name.name name same)) ∙ given.found in
+    subst (λ (t : Storage). FitsFeed t.width (kept_by e)) (same_target given.target s (storage_of ds name) there found) given.fits
+
+all_fit : (ds : List Decl) (name : List ℕ) (s : Storage) → storage_of ds name ≡ Some s → (es : List Inputs) → All (IsInput ds) es → All (FitsSample name s.width) es
+all_fit ds name s found [] all = all_none _
+all_fit ds name s found (e ∷ es) all =
+    all_more (FitsSample name s.width) e es (fits_found ds name s e found (all_head (IsInput ds) e es all)) (all_fit ds name s found es (all_tail (IsInput ds) e es all))
+
+input_fits_one : (ds : List Decl) (es : List Inputs) → All (IsInput ds) es → (d : Decl) → IsSettled ds d → InputsFit es d
+input_fits_one ds es given (decls.Sample n width stage) d = (d.right.0, d.right.1, all_fit ds n.name _ d.found es given)
+input_fits_one ds es given (decls.Reg n width start) d = tt
+input_fits_one ds es given (decls.File n width address) d = tt
+input_fits_one ds es given (decls.Pipe n width) d = tt
+input_fits_one ds es given (decls.Hint n width start) d = tt
+input_fits_one ds es given (decls.Target r) d = tt
+input_fits_one ds es given (decls.Func f) d = tt
+
+input_fits_all : (ds : List Decl) (es : List Inputs) → All (IsInput ds) es → (rest : List Decl) → All (IsSettled ds) rest → All (InputsFit es) rest
+input_fits_all ds es given [] all = all_none _
+input_fits_all ds es given (d ∷ rest) all =
+    all_more (InputsFit es) d rest (input_fits_one ds es given d (all_head (IsSettled ds) d rest all)) (input_fits_all ds es given rest (all_tail (IsSettled ds) d rest all))
+
+-- the inputs fit the samples
+pub inputs_fit : (job : Job) → first (widths_of job).asked ≡ None → first (sections_of job).asked ≡ None → All (InputsFit (inputs_of job)) job.decls
+unfolding sections_of
+inputs_fit job widths sections =
+    input_fits_all job.decls (inputs_of job)
+    (inputs_right job.decls (inputs_of job)
+    (bind_unbroken (stalls_checked job.stages.value (stalls_of job)) (λ y. inputs_checked job.decls (inputs_of job))
+    (bind_unbroken (entries_of job.decls (image_of job)) (λ x. stalls_checked job.stages.value (stalls_of job) >>= (λ y. inputs_checked job.decls (inputs_of job))) sections).1).1)
+    job.decls (job_settled job widths)
+
+over_where : (limit : ℕ) (b c : Bool) (x v : ℕ) → (b ≡ true → x < limit) → v < limit → (if b && c then x else v) < limit
+over_where limit true true x v here low = here refl
+over_where limit true false x v here low = low
+over_where limit false c x v here low = low
+
+over_below : (name : List ℕ) (w : ℕ) (es : List Inputs) → All (FitsSample name w) es → (cycle v : ℕ) → v < 2 ^ w → input_over es name cycle v < 2 ^ w
+over_below name w [] all cycle v low = low
+over_below name w (e ∷ es) all cycle v low =
+    over_below name w es (all_tail (FitsSample name w) e es all) cycle _
+    (over_where (2 ^ w) (is_same_name e.name.name name) (gives_at e cycle) e.value.literal.value v (λ same. (all_head (FitsSample name w) e es all same).0) low)
+
+row_fits : (es : List Inputs) (ds : List Decl) → All (InputsFit es) ds → (cycle : ℕ) → AreSamples ds (input_row es ds cycle)
+row_fits es [] all cycle = refl
+row_fits es (decls.Sample n width stage ∷ ds) all cycle =
+    let h = all_head (InputsFit es) (decls.Sample n width stage) ds all in
+    (refl, record { positive = h.0; at_most = h.1; fits = over_below n.name width.value es h.2 cycle 0 (pow_pos width.value) }, row_fits es ds (all_tail (InputsFit es) (decls.Sample n width stage) ds all) cycle)
+row_fits es (decls.Reg n width start ∷ ds) all cycle = row_fits es ds (all_tail (InputsFit es) (decls.Reg n width start) ds all) cycle
+row_fits es (decls.File n width address ∷ ds) all cycle = row_fits es ds (all_tail (InputsFit es) (decls.File n width address) ds all) cycle
+row_fits es (decls.Pipe n width ∷ ds) all cycle = row_fits es ds (all_tail (InputsFit es) (decls.Pipe n width) ds all) cycle
+row_fits es (decls.Hint n width start ∷ ds) all cycle = row_fits es ds (all_tail (InputsFit es) (decls.Hint n width start) ds all) cycle
+row_fits es (decls.Target r ∷ ds) all cycle = row_fits es ds (all_tail (InputsFit es) (decls.Target r) ds all) cycle
+row_fits es (decls.Func f ∷ ds) all cycle = row_fits es ds (all_tail (InputsFit es) (decls.Func f) ds all) cycle
+
+-- and so does each row of them
+pub rows_fit : (job : Job) → first (widths_of job).asked ≡ None → first (sections_of job).asked ≡ None → (cycle : ℕ) → AreSamples job.decls (input job cycle)
+unfolding input
+rows_fit job widths sections cycle = row_fits (inputs_of job) job.decls (inputs_fit job widths sections) cycle

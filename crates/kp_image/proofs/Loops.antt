@@ -1,13 +1,14 @@
 -- The steps of the loops over words and over stages.
-use Rattle.std.proofs.Common.{◌≡◌, ◌≢◌, ◌∙◌, ◌⊎◌, inl, inr, ℕ, zero, suc, ◌+◌, ◌-◌, ◌<◌, ◌≤◌, List, [], ◌∷◌, length, take, drop, get_or, set, Option, Some, None, Bool, true, false, cond, refl, ap, sym, subst, arith}
-use Rattle.std.specs.Prelude.{◌&&◌, ◌||◌, ◌==◌, ◌^◌, ◌%◌, nat_le, unwrap_or, if◌then◌else◌, option_map, slice_get}
+use Rattle.std.proofs.Common.{◌≡◌, ◌≢◌, ◌∙◌, inl, inr, ℕ, zero, suc, ◌+◌, ◌-◌, ◌<◌, ◌≤◌, List, [], ◌∷◌, length, take, drop, get_or, set, None, Bool, true, false, refl, ap, sym, subst, arith}
+use Rattle.std.specs.Prelude.{◌&&◌, ◌||◌, ◌==◌, ◌^◌, nat_le, unwrap_or, if◌then◌else◌, option_map, slice_get}
 use Rattle.std.specs.List.{All}
-use Rattle.std.proofs.lemmas.Bool.{cases_lt, cases_eq, lt-leb, le-leb, eq-eqb, ne_eqb}
+use Rattle.std.proofs.lemmas.Bool.{cases_lt, cases_eq, lt-leb, le-leb, ne_eqb}
 use Rattle.std.proofs.lemmas.List.{drop_more, nil_from_length, get_or-set_same, get_or-set_other, get_or-take, length-take-le}
 use Rattle.kp_ast.specs.declared.tree.Lit.{Lit}
 use Rattle.kp_ast.specs.declared.tree.Image.{Image}
 use Rattle.kp_stage.specs.Start.{laid_over, words_from, bits_below}
-use Rattle.kp_image.specs.Laid.{laid_from}
+use Rattle.kp_image.specs.inner.Laid.{laid_from}
+use Rattle.kp_image.specs.Cycles.{is_in}
 use Rattle.kp_image.specs.Spans.{span_stalls, some_stalls, IsSpan}
 use Rattle.kp_image.specs.declared.stalls.Span.{Span}
 
@@ -78,7 +79,7 @@ words_from_start es name ws n e right =
 
 -- an entry at its own stage, and at another
 abbrev holds_at : Bool → Span → ℕ → Bool
-holds_at b s cycle = b && nat_le s.from cycle && nat_le cycle s.to && (cycle - s.from) % s.step == 0
+holds_at b s cycle = b && is_in s.cycles cycle
 
 other_stage : (s : Span) (k cycle : ℕ) → k ≢ s.stage → span_stalls s k cycle ≡ false
 other_stage s k cycle other =

@@ -1,14 +1,15 @@
 -- What the code keeps and answers is what the definitions say.
-use Rattle.std.proofs.Common.{◌≡◌, ◌∙◌, ℕ, zero, suc, ◌+◌, ◌^◌, List, [], ◌∷◌, Bool, true, false, cond, map, Some, None, Result, Ok, Err, MatchResult, refl, ap, sym}
+use Rattle.std.proofs.Common.{◌≡◌, ◌∙◌, ℕ, List, [], ◌∷◌, Bool, map, Some, None, Result, Ok, Err, MatchResult, refl, ap}
 use Rattle.std.specs.Prelude.{◌||◌}
 use Rattle.kp_base.specs.First.{first}
-use Rattle.kp_base.specs.Check.{Answer, after, Check}
+use Rattle.kp_base.specs.Check.{Answer, after}
 use Rattle.kp_base.specs.declared.refusal.Refusal.{Refusal}
 use Rattle.kp_ast.specs.declared.tree.Stalls.{Stalls}
 use Rattle.kp_ast.specs.declared.tree.Job.{Job}
 use Rattle.kp_stage.specs.Start.{stalls_at, is_stalled, bits_below, stalls_of, stall_word}
 use Rattle.kp_width.specs.Names.{Checked}
-use Rattle.kp_image.specs.Spans.{some_stalls, span_of, word_in, pattern_of}
+use Rattle.kp_image.specs.Spans.{some_stalls, word_in}
+use Rattle.kp_image.specs.inner.Kept.{span_of, pattern_of}
 
 same_stalls : (es : List Stalls) (k cycle : ℕ) → some_stalls (map span_of es) k cycle ≡ is_stalled es k cycle
 same_stalls [] k cycle = refl

@@ -1,4 +1,5 @@
 pub mod Sections
-pub mod Fits
-pub mod Laid
+pub mod Cycles
 pub mod Spans
+pub mod Feeds
+pub mod inner

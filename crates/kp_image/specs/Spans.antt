@@ -1,13 +1,13 @@
--- The stall pattern as it is kept: each entry of the stalls section as four numbers.
-use Rattle.std.specs.Prelude.{ℕ, ◌-◌, ◌%◌, ◌<◌, List, Bool, ◌&&◌, ◌==◌, nat_le, map}
+-- The stall pattern as it is kept: each entry of the stalls section as a stage and its cycles.
+use Rattle.std.specs.Prelude.{ℕ, ◌<◌, List, Bool, ◌&&◌, ◌==◌}
 use Rattle.std.specs.List.{list_any}
-use Rattle.kp_ast.specs.declared.tree.Stalls.{Stalls}
-use Rattle.kp_stage.specs.Start.{number_or, bits_below}
+use Rattle.kp_stage.specs.Start.{bits_below}
 use Rattle.kp_image.specs.declared.stalls.Span.{Span}
+use Rattle.kp_image.specs.Cycles.{is_in}
 
 -- it stalls this stage in this cycle
 abbrev pub span_stalls : Span → ℕ → ℕ → Bool
-span_stalls s k cycle = s.stage == k && nat_le s.from cycle && nat_le cycle s.to && (cycle - s.from) % s.step == 0
+span_stalls s k cycle = s.stage == k && is_in s.cycles cycle
 
 abbrev pub some_stalls : List Span → ℕ → ℕ → Bool
 some_stalls spans k cycle = list_any (λ s. span_stalls s k cycle) spans
@@ -23,11 +23,4 @@ word_in p cycle = bits_below p.stages (λ k. some_stalls p.spans k cycle)
 
 -- its stage is one of 12, and its step isn't 0
 abbrev pub IsSpan : Span → Type 0
-IsSpan s = (s.stage < 12) × (0 < s.step)
-
-abbrev pub span_of : Stalls → Span
-span_of e = record { stage = e.stage.value; from = e.from.value; to = e.to.value; step = number_or e.step 1 }
-
--- the pattern of the entries of a section
-abbrev pub pattern_of : ℕ → List Stalls → Pattern
-pattern_of stages es = record { stages = stages; spans = map span_of es }
+IsSpan s = (s.stage < 12) × (0 < s.cycles.step)

@@ -1,23 +1,24 @@
-// Rules of the two sections.
+// Rules of the sections.
 ghost use Rattle.std.specs.Prelude.{◌≡◌, MatchResult, Some, None};
 ghost use Rattle.std.specs.List.{All};
 ghost use Rattle.kp_base.specs.First.{first};
 ghost use Rattle.kp_width.specs.Declarations.{start_of};
-ghost use Rattle.kp_image.specs.Fits.{HasFewWords};
-ghost use Rattle.kp_stage.specs.Start.{first_address, image_of, stalls_of};
-ghost use Rattle.kp_image.specs.Sections.{storage_in, storage_named, storage_of, suits, target_of, address_of, values_of, given_of, entry_of, entries_of, step_of, stall_of, stalls_checked, sections_of};
+ghost use Rattle.kp_image.specs.inner.Fits.{HasFewWords};
+ghost use Rattle.kp_stage.specs.Start.{first_address, image_of, stalls_of, inputs_of};
+ghost use Rattle.kp_image.specs.Sections.{storage_in, storage_named, storage_of, suits, target_of, address_of, values_of, given_of, entry_of, entries_of, step_of, stall_of, stalls_checked, sample_of, input_of, inputs_checked, sections_of};
 
-use kp_ast::{Decl, Image, Job, Lit, Name, Num, Stalls};
+use kp_ast::{Decl, Image, Inputs, Job, Lit, Name, Num, Stalls};
 use kp_base::Refusal;
 use kp_bits::LiteralFault;
 use std::marker::Model;
 
-// What an image entry gives values to.
+// What an entry gives values to.
 #[derive(Clone, Copy, Debug)]
 struct Storage {
     width: u64,
     words: u64,
     addressed: bool,
+    sampled: bool,
 }
 
 impl Model for Storage {
@@ -25,12 +26,12 @@ impl Model for Storage {
 
     ghost Value = { Storage };
 
-    ghost view = { λ s. record { width = s.width; words = s.words; addressed = s.addressed } };
+    ghost view = { λ s. record { width = s.width; words = s.words; addressed = s.addressed; sampled = s.sampled } };
 
-    ghost inverse = { λ s. record { width = s.width; words = s.words; addressed = s.addressed } };
+    ghost inverse = { λ s. record { width = s.width; words = s.words; addressed = s.addressed; sampled = s.sampled } };
 }
 
-/// The first of the rules E30 to E32, E8, E10 and E13 that a section breaks, in text order.
+/// The first of the rules E30 to E32, E36, E37, E8, E10 and E13 that a section breaks, in text order.
 #[tactic(auto, using(crate::proofs::Patterns::outcome_of_steps))]
 pub(crate) fn check(job: &Job) -> Result<(), Refusal>
     requires { All HasFewWords job.now.decls }
@@ -45,7 +46,8 @@ fn by_steps(job: &Job) -> Result<(), Refusal>
     ensures { result ≡ (sections_of job.now).found }
 {
     check_entries(job.decls.as_slice(), image(job))?;
-    check_stalls(job.stages.value, stalls(job))
+    check_stalls(job.stages.value, stalls(job))?;
+    check_inputs(job.decls.as_slice(), inputs(job))
 }
 
 // The entries of the image section.
@@ -63,6 +65,16 @@ pub(crate) fn stalls(job: &Job) -> &[Stalls]
     ensures { result.now ≡ stalls_of job.now }
 {
     match &job.stalls {
+        Some(entries) => entries.as_slice(),
+        None => &[],
+    }
+}
+
+// The entries of the inputs section.
+pub(crate) fn inputs(job: &Job) -> &[Inputs]
+    ensures { result.now ≡ inputs_of job.now }
+{
+    match &job.inputs {
         Some(entries) => entries.as_slice(),
         None => &[],
     }
@@ -97,7 +109,7 @@ fn check_entry(decls: &[Decl], e: &Image) -> Result<(), Refusal>
     check_given(e, storage)
 }
 
-// The register or file of this name.
+// The register, file or sample of this name.
 fn find_storage(decls: &[Decl], name: &Name) -> Option<Storage>
     requires { All HasFewWords decls.now }
     ensures { result ≡ storage_of decls.now name.now }
@@ -119,11 +131,19 @@ fn storage_named(name: &Name, decl: &Decl) -> Option<Storage>
             width: width.value,
             words: 1,
             addressed: false,
+            sampled: false,
         }),
         Decl::File(n, width, address) if n.name == *name => Some(Storage {
             width: width.value,
             words: 1 << address.value,
             addressed: true,
+            sampled: false,
+        }),
+        Decl::Sample(n, width, _) if n.name == *name => Some(Storage {
+            width: width.value,
+            words: 1,
+            addressed: false,
+            sampled: true,
         }),
         _ => None,
     }
@@ -133,7 +153,9 @@ fn target(e: &Image, storage: Option<Storage>) -> Result<Storage, Refusal>
     ensures { result ≡ (target_of e.now storage).found }
 {
     match storage {
-        Some(storage) if storage.addressed == e.address.is_some() => Ok(storage),
+        Some(storage) if !storage.sampled && storage.addressed == e.address.is_some() => Ok(
+            storage,
+        ),
         _ => Err(Refusal::e(30, e.name.at)),
     }
 }
@@ -201,14 +223,44 @@ fn check_stall(stages: u64, e: &Stalls) -> Result<(), Refusal>
     if e.stage.value >= stages {
         return Err(Refusal::e(32, e.stage.at));
     }
-    check_step(e.step)
+    check_step(32, e.step)
 }
 
-fn check_step(step: Option<Num>) -> Result<(), Refusal>
-    ensures { result ≡ (step_of step).found }
+// A step, by the rule of this number.
+fn check_step(rule: u8, step: Option<Num>) -> Result<(), Refusal>
+    ensures { result ≡ (step_of rule step).found }
 {
     match step {
-        Some(n) if n.value == 0 => Err(Refusal::e(32, n.at)),
+        Some(n) if n.value == 0 => Err(Refusal::e(rule, n.at)),
         _ => Ok(()),
+    }
+}
+
+fn check_inputs(decls: &[Decl], entries: &[Inputs]) -> Result<(), Refusal>
+    requires { All HasFewWords decls.now }
+    ensures { result ≡ (inputs_checked decls.now entries.now).found }
+{
+    for e in entries {
+        check_input(decls, e)?;
+    }
+    Ok(())
+}
+
+#[tactic(auto, unfolding(crate::specs::Sections::input_of))]
+fn check_input(decls: &[Decl], e: &Inputs) -> Result<(), Refusal>
+    requires { All HasFewWords decls.now }
+    ensures { result ≡ (input_of decls.now e.now).found }
+{
+    let storage = sample(e, find_storage(decls, &e.name.name))?;
+    check_literal(&e.value, storage.width)?;
+    check_step(37, e.step)
+}
+
+fn sample(e: &Inputs, storage: Option<Storage>) -> Result<Storage, Refusal>
+    ensures { result ≡ (sample_of e.now storage).found }
+{
+    match storage {
+        Some(storage) if storage.sampled => Ok(storage),
+        _ => Err(Refusal::e(36, e.name.at)),
     }
 }

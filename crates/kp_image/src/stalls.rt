@@ -3,20 +3,20 @@ ghost use Rattle.std.specs.List.{All};
 ghost use Rattle.kp_base.specs.First.{first};
 ghost use Rattle.kp_stage.specs.Start.{bits_below};
 ghost use Rattle.kp_image.specs.Sections.{stalls_checked, stall_of};
-ghost use Rattle.kp_image.specs.Spans.{span_stalls, some_stalls, IsSpan, word_in, pattern_of, span_of};
+ghost use Rattle.kp_image.specs.Spans.{span_stalls, some_stalls, IsSpan, word_in};
+ghost use Rattle.kp_image.specs.inner.Kept.{pattern_of, span_of};
 
+use crate::cycles::Cycles;
 use kp_ast::Stalls;
 use kp_base::NoMemory;
 use std::alloc::Global;
 use std::marker::Model;
 
-// An entry: a stage, and its cycles from one to another, by steps of so many.
+// An entry: a stage, and the cycles in which it is stalled.
 #[derive(Clone, Copy, Debug)]
 pub(crate) struct Span {
     stage: u8,
-    from: u64,
-    to: u64,
-    step: u64,
+    cycles: Cycles,
 }
 
 impl Span {
@@ -25,7 +25,7 @@ impl Span {
         requires { IsSpan self }
         ensures { result ≡ span_stalls self self.stage cycle }
     {
-        self.from <= cycle && cycle <= self.to && (cycle - self.from) % self.step == 0
+        self.cycles.contains(cycle)
     }
 }
 
@@ -98,12 +98,7 @@ fn span_for(stages: u64, e: &Stalls) -> Span
 {
     Span {
         stage: e.stage.value as u8,
-        from: e.from.value,
-        to: e.to.value,
-        step: match e.step {
-            Some(n) => n.value,
-            None => 1,
-        },
+        cycles: Cycles::of(e.from, e.to, e.step),
     }
 }
 

@@ -3,8 +3,8 @@ ghost use Rattle.std.specs.Prelude.{◌≡◌, ◌+◌, ◌^◌, ◌≤◌, ◌<
 ghost use Rattle.std.specs.List.{All};
 ghost use Rattle.kp_bits.specs.Word.{IsWord, word};
 ghost use Rattle.kp_stage.specs.Start.{given_by, laid_over, start_regs, words_from, start_files, start_of, image_of};
-ghost use Rattle.kp_image.specs.Fits.{EndsWithin, StartFits};
-ghost use Rattle.kp_image.specs.Laid.{laid_from};
+ghost use Rattle.kp_image.specs.inner.Fits.{EndsWithin, StartFits};
+ghost use Rattle.kp_image.specs.inner.Laid.{laid_from};
 
 use crate::check::{first_address, image};
 use kp_ast::{Decl, Image, Job, Lit, Name};

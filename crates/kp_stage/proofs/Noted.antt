@@ -10,9 +10,9 @@ use Rattle.kp_ast.specs.declared.tree.StmtKind.{StmtKind}
 use Rattle.kp_ast.specs.declared.tree.StmtKind.TheVariants as stmts
 use Rattle.kp_ast.specs.declared.tree.Block.{Block}
 use Rattle.kp_ast.specs.declared.tree.Job.{Job}
-use Rattle.kp_stage.specs.Facts.{At, put_at, puts_in, puts_of, aim_at, aims_in, aims_of, set_at, sets_in, first_set, hint_at, hints_of, result_at, results_of, stage_at, write_at, less, least, largest, facts_of}
+use Rattle.kp_stage.specs.Facts.{At, put_at, puts_in, puts_of, aim_at, aims_in, aims_of, set_at, sets_in, first_set, hint_at, hints_of, result_at, results_of, sample_at, stage_at, write_at, less, least, largest, facts_of}
 use Rattle.kp_stage.specs.Rules.{broken_by}
-use Rattle.kp_stage.specs.Tables.{Entries, look_up, with_entry, with_first, with_less, less_than, put_noted, puts_noted, all_puts_noted, aim_noted, aims_noted, all_aims_noted, set_noted, sets_noted, sets_of, table_in, write_noted, writes_noted, hint_noted, hints_noted, result_noted, results_noted, stage_noted, stages_noted, tables_of, facts_in}
+use Rattle.kp_stage.specs.inner.Tables.{Entries, look_up, with_entry, with_first, with_less, less_than, put_noted, puts_noted, all_puts_noted, aim_noted, aims_noted, all_aims_noted, set_noted, sets_noted, sets_of, table_in, write_noted, writes_noted, hint_noted, hints_noted, result_noted, results_noted, sample_noted, samples_noted, stage_noted, stages_noted, tables_of, facts_in}
 
 -- the first of two that is there
 abbrev or_else : {X : Type 0} → Option X → Option X → Option X
@@ -31,11 +31,12 @@ first_cons : {X : Type 0} (o : Option X) (os : List (Option X)) → first (o ∷
 first_cons None os = refl
 first_cons (Some x) os = refl
 
-by_test : {G : Type 0} (b : Bool) → (b ≡ true → G) → (b ≡ false → G) → G
+-- by cases of a test, and of what may be there
+pub by_test : {G : Type 0} (b : Bool) → (b ≡ true → G) → (b ≡ false → G) → G
 by_test true then_so else_so = then_so refl
 by_test false then_so else_so = else_so refl
 
-by_option : {X G : Type 0} (o : Option X) → (o ≡ None → G) → ((x : X) → o ≡ Some x → G) → G
+pub by_option : {X G : Type 0} (o : Option X) → (o ≡ None → G) → ((x : X) → o ≡ Some x → G) → G
 by_option None none some = none refl
 by_option (Some x) none some = some x refl
 
@@ -169,6 +170,7 @@ module _ (q : List ℕ) where
   write_seen es (decls.Pipe n w) = sym (less_none (look_up es q))
   write_seen es (decls.Hint n w l) = sym (less_none (look_up es q))
   write_seen es (decls.Func f) = sym (less_none (look_up es q))
+  write_seen es (decls.Sample n w k) = sym (less_none (look_up es q))
 
   writes_seen : (es : Entries ℕ) (ds : List Decl) → look_up (writes_noted es ds) q ≡ less (look_up es q) (least (map (write_at q) ds))
   writes_seen es [] = sym (less_none (look_up es q))
@@ -184,6 +186,7 @@ module _ (q : List ℕ) where
   result_seen es i (decls.Pipe n w) = sym (or_none (look_up es q))
   result_seen es i (decls.Hint n w l) = sym (or_none (look_up es q))
   result_seen es i (decls.Func f) = sym (or_none (look_up es q))
+  result_seen es i (decls.Sample n w k) = sym (or_none (look_up es q))
 
   results_seen : (es : Entries ℕ) (i : ℕ) (ds : List Decl) → look_up (results_noted es i ds) q ≡ or_else (look_up es q) (first (results_of q i ds))
   results_seen es i [] = sym (or_none (look_up es q))
@@ -200,6 +203,7 @@ module _ (q : List ℕ) where
   hint_seen es i (decls.Pipe n w) = sym (or_none (look_up es q))
   hint_seen es i (decls.Hint n w l) = look_up-with_first q n.name i es
   hint_seen es i (decls.Func f) = sym (or_none (look_up es q))
+  hint_seen es i (decls.Sample n w k) = sym (or_none (look_up es q))
 
   hints_seen : (es : Entries ℕ) (i : ℕ) (ds : List Decl) → look_up (hints_noted es i ds) q ≡ or_else (look_up es q) (first (hints_of q i ds))
   hints_seen es i [] = sym (or_none (look_up es q))
@@ -216,6 +220,7 @@ module _ (q : List ℕ) where
   stage_seen es (decls.Pipe n w) = sym (or_none (look_up es q))
   stage_seen es (decls.Hint n w l) = sym (or_none (look_up es q))
   stage_seen es (decls.Func f) = sym (or_none (look_up es q))
+  stage_seen es (decls.Sample n w k) = sym (or_none (look_up es q))
 
   stages_seen : (es : Entries ℕ) (ds : List Decl) → look_up (stages_noted es ds) q ≡ or_else (look_up es q) (first (map (stage_at q) ds))
   stages_seen es [] = sym (or_none (look_up es q))
@@ -224,6 +229,23 @@ module _ (q : List ℕ) where
       ∙ ap (λ o. or_else o (first (map (stage_at q) ds))) (stage_seen es d)
       ∙ or_assoc (look_up es q) (stage_at q d) _
       ∙ ap (or_else (look_up es q)) (sym (first_cons (stage_at q d) (map (stage_at q) ds)))
+
+  sample_seen : (es : Entries ℕ) (d : Decl) → look_up (sample_noted es d) q ≡ or_else (look_up es q) (sample_at q d)
+  sample_seen es (decls.Sample n w k) = look_up-with_first q n.name k.value es
+  sample_seen es (decls.Reg n w l) = sym (or_none (look_up es q))
+  sample_seen es (decls.File n w a) = sym (or_none (look_up es q))
+  sample_seen es (decls.Pipe n w) = sym (or_none (look_up es q))
+  sample_seen es (decls.Hint n w l) = sym (or_none (look_up es q))
+  sample_seen es (decls.Func f) = sym (or_none (look_up es q))
+  sample_seen es (decls.Target r) = sym (or_none (look_up es q))
+
+  samples_seen : (es : Entries ℕ) (ds : List Decl) → look_up (samples_noted es ds) q ≡ or_else (look_up es q) (first (map (sample_at q) ds))
+  samples_seen es [] = sym (or_none (look_up es q))
+  samples_seen es (d ∷ ds) =
+      samples_seen (sample_noted es d) ds
+      ∙ ap (λ o. or_else o (first (map (sample_at q) ds))) (sample_seen es d)
+      ∙ or_assoc (look_up es q) (sample_at q d) _
+      ∙ ap (or_else (look_up es q)) (sym (first_cons (sample_at q d) (map (sample_at q) ds)))
 
 module _ (q : List ℕ) where
   set_seen : (es : Entries ℕ) (j : ℕ) (s : StmtKind) → look_up (set_noted es j s) q ≡ or_else (look_up es q) (set_at q j s)
@@ -256,6 +278,7 @@ tables_fit job = λ i. record {
   set_in = λ k q. all_sets_seen q job.blocks k i;
   hint = λ q. hints_seen q [] 0 job.decls i;
   result = λ q. results_seen q [] 0 job.decls i;
+  sample = λ q. samples_seen q [] job.decls i;
   stage = λ q. stages_seen q [] job.decls i;
   written = λ q. writes_seen q [] job.decls i;
   top = largest (λ q. writes_seen q [] job.decls i) 0 job.blocks;

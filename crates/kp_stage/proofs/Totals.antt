@@ -6,9 +6,10 @@ use Rattle.kp_ast.specs.declared.tree.Decl.{Decl}
 use Rattle.kp_ast.specs.declared.tree.Stmt.{Stmt}
 use Rattle.kp_ast.specs.declared.tree.Block.{Block}
 use Rattle.kp_ast.specs.declared.tree.Job.{Job}
+use Rattle.kp_width.specs.Declarations.{functions_in}
 use Rattle.kp_stage.specs.declared.counts.Counts.{Counts}
 use Rattle.kp_stage.specs.Sizes.{size_of_stmt, size_of_block, size_of_job, stmts_sized, blocks_sized, sizes_of}
-use Rattle.kp_stage.specs.Counts.{regs_in, files_in, pipes_in, results_in, hints_in, functions_in, reads_in, guesses_in, with_decl, with_stmt, nothing_counted, decls_counted, stmts_counted, blocks_counted, counts_of}
+use Rattle.kp_stage.specs.Counts.{regs_in, files_in, pipes_in, results_in, hints_in, samples_in, reads_in, guesses_in, with_decl, with_stmt, nothing_counted, decls_counted, stmts_counted, blocks_counted, counts_of}
 
 -- a sum that begins with a number
 abbrev sum_from : {X : Type 0} → (X → ℕ) → ℕ → List X → ℕ
@@ -37,6 +38,7 @@ decls_total : (c : Counts) (ds : List Decl) → (decls_counted c ds).value ≡ r
   functions = sum_from functions_in c.functions ds;
   reads = c.reads;
   guesses = c.guesses;
+  samples = sum_from samples_in c.samples ds;
 }
 decls_total c [] = refl
 decls_total c (d ∷ ds) = decls_total (with_decl c d) ds
@@ -52,6 +54,7 @@ with_reads c reads guesses = record {
   functions = c.functions;
   reads = reads;
   guesses = guesses;
+  samples = c.samples;
 }
 
 reads_total : (c : Counts) (ss : List Stmt) → (stmts_counted c ss).value ≡ with_reads c (sum_from reads_in c.reads ss) (sum_from guesses_in c.guesses ss)
@@ -80,6 +83,7 @@ pub counts_total : (job : Job) → (counts_of job).value ≡ record {
   functions = sum_by functions_in job.decls;
   reads = sum_by block_reads job.blocks;
   guesses = sum_by block_guesses job.blocks;
+  samples = sum_by samples_in job.decls;
 }
 unfolding counts_of
 counts_total job =

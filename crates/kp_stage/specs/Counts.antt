@@ -1,5 +1,5 @@
--- E29: how many registers, files, pipes, results, hints, functions, reads and guesses a machine has.
-use Rattle.std.specs.Prelude.{ℕ, ◌+◌, List, [], ◌∷◌, Option, Some, None, Bool, ◌&&◌, nat_le, sum_by}
+-- E29: how many registers, files, pipes, results, hints, functions, samples, reads and guesses a machine has.
+use Rattle.std.specs.Prelude.{ℕ, ◌≤◌, ◌+◌, List, [], ◌∷◌, Option, Some, None, Bool, ◌&&◌, nat_le, sum_by}
 use Rattle.kp_base.specs.Check.{Check, ok, wants, ◌>>=◌}
 use Rattle.kp_base.specs.Refusal.{e_rule}
 use Rattle.kp_base.specs.declared.place.Place.{Place}
@@ -11,6 +11,7 @@ use Rattle.kp_ast.specs.declared.tree.StmtKind.{StmtKind}
 use Rattle.kp_ast.specs.declared.tree.StmtKind.TheVariants as stmts
 use Rattle.kp_ast.specs.declared.tree.Block.{Block}
 use Rattle.kp_ast.specs.declared.tree.Job.{Job}
+use Rattle.kp_width.specs.Declarations.{functions_in, name_of}
 use Rattle.kp_stage.specs.declared.counts.Counts.{Counts}
 use Rattle.kp_stage.specs.declared.counts.Summary.{Summary}
 use Rattle.kp_stage.specs.Sizes.{size_of_job}
@@ -36,9 +37,9 @@ abbrev pub hints_in : Decl → ℕ
 hints_in (decls.Hint n width start) = 1
 hints_in _ = 0
 
-abbrev pub functions_in : Decl → ℕ
-functions_in (decls.Func f) = 1
-functions_in _ = 0
+abbrev pub samples_in : Decl → ℕ
+samples_in (decls.Sample n width stage) = 1
+samples_in _ = 0
 
 abbrev pub one_if_some : Option Expr → ℕ
 one_if_some None = 0
@@ -62,10 +63,10 @@ guesses_in s = guesses_of s.kind
 abbrev pub is_within : Counts → Bool
 is_within c =
     nat_le c.regs 64 && nat_le c.files 16 && nat_le c.pipes 128 && nat_le c.results 64 && nat_le c.hints 16 && nat_le c.functions 64
-    && nat_le c.reads 256 && nat_le c.guesses 8
+    && nat_le c.reads 256 && nat_le c.guesses 8 && nat_le c.samples 16
 
 abbrev pub nothing_counted : Counts
-nothing_counted = record { regs = 0; files = 0; pipes = 0; results = 0; hints = 0; functions = 0; reads = 0; guesses = 0 }
+nothing_counted = record { regs = 0; files = 0; pipes = 0; results = 0; hints = 0; functions = 0; reads = 0; guesses = 0; samples = 0 }
 
 -- the counts with one more declaration
 abbrev pub with_decl : Counts → Decl → Counts
@@ -78,6 +79,7 @@ with_decl c d = record {
   functions = c.functions + functions_in d;
   reads = c.reads;
   guesses = c.guesses;
+  samples = c.samples + samples_in d;
 }
 
 -- the counts with one more statement
@@ -91,16 +93,8 @@ with_stmt c s = record {
   functions = c.functions;
   reads = c.reads + reads_in s;
   guesses = c.guesses + guesses_in s;
+  samples = c.samples;
 }
-
--- where a declared name stands
-abbrev pub place_of_decl : Decl → Place
-place_of_decl (decls.Reg n width start) = n.at
-place_of_decl (decls.File n width address) = n.at
-place_of_decl (decls.Pipe n width) = n.at
-place_of_decl (decls.Hint n width start) = n.at
-place_of_decl (decls.Target r) = r.name.at
-place_of_decl (decls.Func f) = f.name.at
 
 -- where the name stands that a read gives
 abbrev pub place_of_read : Stmt → StmtKind → Place
@@ -110,7 +104,7 @@ place_of_read s _ = s.at
 -- E29 names the first declared name, or the first name that a read gives, at which a count passes its limit
 abbrev pub decls_counted : Counts → List Decl → Check Counts
 decls_counted c [] = ok c
-decls_counted c (d ∷ ds) = wants (is_within (with_decl c d)) (e_rule 29 (place_of_decl d)) (decls_counted (with_decl c d) ds)
+decls_counted c (d ∷ ds) = wants (is_within (with_decl c d)) (e_rule 29 (name_of d).at) (decls_counted (with_decl c d) ds)
 
 abbrev pub stmts_counted : Counts → List Stmt → Check Counts
 stmts_counted c [] = ok c
@@ -135,4 +129,18 @@ summary_of job = record {
   reads = sum_by (λ b. sum_by reads_in b.stmts) job.blocks;
   guesses = sum_by (λ b. sum_by guesses_in b.stmts) job.blocks;
   size = size_of_job job;
+  samples = sum_by samples_in job.decls;
 }
+
+-- the numbers of a machine are within the limits of E15, E28 and E29
+pub record AreFew (s : Summary) : Type 0 where
+  pub stages : s.stages ≤ 12
+  pub regs : s.regs ≤ 64
+  pub files : s.files ≤ 16
+  pub pipes : s.pipes ≤ 128
+  pub results : s.results ≤ 64
+  pub hints : s.hints ≤ 16
+  pub reads : s.reads ≤ 256
+  pub guesses : s.guesses ≤ 8
+  pub size : s.size ≤ 100000
+  pub samples : s.samples ≤ 16

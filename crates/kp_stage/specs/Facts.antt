@@ -28,6 +28,8 @@ pub record Facts : Type 0 where
   pub hint : List ℕ → Option ℕ
   -- the number of the first declaration of a result of a target
   pub result : List ℕ → Option ℕ
+  -- the stage of a sample
+  pub sample : List ℕ → Option ℕ
   -- the write stage of a result
   pub stage : List ℕ → Option ℕ
   -- the write stage of a target; where it has several results, the least
@@ -80,7 +82,7 @@ stmts_in (Some b) = b.stmts
 abbrev pub first_set : List Block → ℕ → List ℕ → Option ℕ
 first_set blocks k name = first (sets_in name 0 (stmts_in (slice_get blocks k)))
 
--- hints and results
+-- hints, results and samples
 abbrev pub hint_at : List ℕ → ℕ → Decl → Option ℕ
 hint_at name i (decls.Hint n width start) = where_same name n.name i
 hint_at name i _ = None
@@ -100,6 +102,10 @@ results_of name i (d ∷ ds) = result_at name i d ∷ results_of name (i + 1) ds
 abbrev pub stage_at : List ℕ → Decl → Option ℕ
 stage_at name (decls.Target r) = where_same name r.name.name r.stage.value
 stage_at name _ = None
+
+abbrev pub sample_at : List ℕ → Decl → Option ℕ
+sample_at name (decls.Sample n width stage) = where_same name n.name stage.value
+sample_at name _ = None
 
 abbrev pub write_at : List ℕ → Decl → Option ℕ
 write_at name (decls.Target r) = where_same name r.target.name r.stage.value
@@ -144,6 +150,7 @@ facts_of job = record {
   set_in = first_set job.blocks;
   hint = λ name. first (hints_of name 0 job.decls);
   result = λ name. first (results_of name 0 job.decls);
+  sample = λ name. first (map (sample_at name) job.decls);
   stage = λ name. first (map (stage_at name) job.decls);
   written = written_of job.decls;
   top = largest (written_of job.decls) 0 job.blocks;

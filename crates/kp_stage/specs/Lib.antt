@@ -5,4 +5,5 @@ pub mod Rules
 pub mod Sizes
 pub mod Start
 pub mod Stages
-pub mod Tables
+pub mod Uses
+pub mod inner

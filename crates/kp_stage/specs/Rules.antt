@@ -1,5 +1,5 @@
--- The rules E15 to E25 of stages. Each is a question that is put to the head of the job, to each declaration, to the number of each
--- block, and to each statement; its first true answer in the text is the place where it is broken.
+-- The rules E15 to E25, E34 and E35 of stages. Each is a question that is put to the head of the job, to each declaration, to the
+-- number of each block, and to each statement; its first true answer in the text is the place where it is broken.
 --
 -- Names and widths are right before: a name that is put is a pipe, one that is set is a result, one that is aimed is a hint, and a
 -- target that is read or written with an address is a file. And each rule may take it that those of lower numbers hold.
@@ -24,6 +24,26 @@ use Rattle.kp_ast.specs.declared.tree.Job.{Job}
 use Rattle.kp_stage.specs.declared.rules.Rule.{Rule}
 use Rattle.kp_stage.specs.Facts.{At, Facts}
 
+-- the number of a rule, as it stands in a refusal
+abbrev pub number_of : Rule → ℕ
+number_of Rule.E15 = 15
+number_of Rule.E16 = 16
+number_of Rule.E17 = 17
+number_of Rule.E18 = 18
+number_of Rule.E19 = 19
+number_of Rule.E20 = 20
+number_of Rule.E21 = 21
+number_of Rule.E22 = 22
+number_of Rule.E23 = 23
+number_of Rule.E24 = 24
+number_of Rule.E25 = 25
+number_of Rule.E34 = 34
+number_of Rule.E35 = 35
+
+-- a rule is broken at a place where this doesn't hold
+abbrev pub broken_unless : Bool → Rule → Place → Answer
+broken_unless holds rule at = answer holds (e_rule (number_of rule) at)
+
 -- is it, where it is there
 abbrev pub holds_of : {X : Type 0} → (X → Bool) → Option X → Bool
 holds_of test None = false
@@ -36,7 +56,7 @@ is_at k j at = (at.stage == k) && (at.index == j)
 
 -- E15: there are 2 to 12 stages, and no fewer blocks
 abbrev pub ask_head : Rule → Job → Answer
-ask_head Rule.E15 job = answer (nat_le 2 job.stages.value && nat_le job.stages.value 12 && nat_le job.stages.value (length job.blocks)) (e_rule 15 job.stages.at)
+ask_head Rule.E15 job = broken_unless (nat_le 2 job.stages.value && nat_le job.stages.value 12 && nat_le job.stages.value (length job.blocks)) Rule.E15 job.stages.at
 ask_head _ job = None
 
 -- The questions to the declaration of number i.
@@ -47,34 +67,38 @@ put_before facts name w = holds_of (λ at. nat_lt at.stage w) (facts.put name)
 
 abbrev pub ask_pipe : Facts → ℕ → Option Named → Answer
 ask_pipe facts w None = None
-ask_pipe facts w (Some n) = answer (put_before facts n.name w) (e_rule 19 n.at)
+ask_pipe facts w (Some n) = broken_unless (put_before facts n.name w) Rule.E19 n.at
 
--- E15: a write stage is one of the stages
+-- E15: a write stage is one of the stages, and so is the stage of a sample
 -- E16: a pipe is put
 -- E22: a target has one result
--- E24: a write stage is no less than W-1, where W is the largest write stage of a guessed register
+-- E24 and E35: a write stage, and the stage of a sample, is no less than W-1, where W is the largest write stage of a guessed register
 abbrev pub ask_decl : Facts → Rule → ℕ → Decl → Answer
-ask_decl facts Rule.E15 i (decls.Target r) = answer (nat_lt r.stage.value facts.stages) (e_rule 15 r.stage.at)
-ask_decl facts Rule.E16 i (decls.Pipe n width) = answer (is_some (facts.put n.name)) (e_rule 16 n.at)
+ask_decl facts Rule.E15 i (decls.Target r) = broken_unless (nat_lt r.stage.value facts.stages) Rule.E15 r.stage.at
+ask_decl facts Rule.E15 i (decls.Sample n width stage) = broken_unless (nat_lt stage.value facts.stages) Rule.E15 stage.at
+ask_decl facts Rule.E16 i (decls.Pipe n width) = broken_unless (is_some (facts.put n.name)) Rule.E16 n.at
 ask_decl facts Rule.E19 i (decls.Target r) = first (ask_pipe facts r.stage.value r.address ∷ ask_pipe facts r.stage.value r.enable ∷ [])
-ask_decl facts Rule.E22 i (decls.Target r) = answer (holds_of (λ j. j == i) (facts.result r.target.name)) (e_rule 22 r.target.at)
-ask_decl facts Rule.E24 i (decls.Target r) = answer (nat_le facts.top (r.stage.value + 1)) (e_rule 24 r.stage.at)
+ask_decl facts Rule.E22 i (decls.Target r) = broken_unless (holds_of (λ j. j == i) (facts.result r.target.name)) Rule.E22 r.target.at
+ask_decl facts Rule.E24 i (decls.Target r) = broken_unless (nat_le facts.top (r.stage.value + 1)) Rule.E24 r.stage.at
+ask_decl facts Rule.E35 i (decls.Sample n width stage) = broken_unless (nat_le facts.top (stage.value + 1)) Rule.E35 stage.at
 ask_decl facts _ i d = None
 
 -- The question to the block of number k.
 
 -- E15: its number is its place, and one of the stages
 abbrev pub ask_block : Facts → Rule → ℕ → Block → Answer
-ask_block facts Rule.E15 k b = answer (b.number.value == k && nat_lt k facts.stages) (e_rule 15 b.number.at)
+ask_block facts Rule.E15 k b = broken_unless (b.number.value == k && nat_lt k facts.stages) Rule.E15 b.number.at
 ask_block facts _ k b = None
 
 -- The questions to a name that is used as a value in stage k.
 
 -- E17: a pipe is used in stages after that of its put
 -- E25: a hint is no value, outside a guess and an aim
+-- E34: a sample is used in its own stage
 abbrev pub ask_name : Facts → Rule → ℕ → List ℕ → Place → Answer
-ask_name facts Rule.E17 k name at = answer (not (holds_of (λ p. nat_le k p.stage) (facts.put name))) (e_rule 17 at)
-ask_name facts Rule.E25 k name at = answer (not (is_some (facts.hint name))) (e_rule 25 at)
+ask_name facts Rule.E17 k name at = broken_unless (not (holds_of (λ p. nat_le k p.stage) (facts.put name))) Rule.E17 at
+ask_name facts Rule.E25 k name at = broken_unless (not (is_some (facts.hint name))) Rule.E25 at
+ask_name facts Rule.E34 k name at = broken_unless (not (holds_of (λ w. not (w == k)) (facts.sample name))) Rule.E34 at
 ask_name facts _ k name at = None
 
 -- the answer at the first name in an expression that has one
@@ -121,19 +145,20 @@ abbrev pub may_guess : Facts → ℕ → ReadStmt → Bool
 may_guess facts k r = not (is_some r.guess) || (not (is_some r.address) && holds_of (λ w. nat_le (k + 2) w) (facts.written r.target.name))
 
 -- E16: a put is the first of its pipe
--- E17 and E25: of the names in it, from left to right
+-- E17, E25 and E34: of the names in it, from left to right
 -- E18: a target is read in no stage after its write stage
 -- E20: a result is set in no stage after its write stage
 -- E21: a set is the first of its result in the stage, and an aim the first of its hint
 abbrev pub ask_stmt : Facts → Rule → ℕ → ℕ → StmtKind → Answer
-ask_stmt facts Rule.E16 k j (stmts.Put n e) = answer (holds_of (is_at k j) (facts.put n.name)) (e_rule 16 n.at)
+ask_stmt facts Rule.E16 k j (stmts.Put n e) = broken_unless (holds_of (is_at k j) (facts.put n.name)) Rule.E16 n.at
 ask_stmt facts Rule.E17 k j s = first (ask_values facts Rule.E17 k s ∷ ask_guesses facts Rule.E17 k s ∷ [])
-ask_stmt facts Rule.E18 k j (stmts.Read r) = answer (not (holds_of (λ w. nat_lt w k) (facts.written r.target.name))) (e_rule 18 r.target.at)
-ask_stmt facts Rule.E20 k j (stmts.Set n e when) = answer (not (holds_of (λ w. nat_lt w k) (facts.stage n.name))) (e_rule 20 n.at)
-ask_stmt facts Rule.E21 k j (stmts.Set n e when) = answer (holds_of (λ i. i == j) (facts.set_in k n.name)) (e_rule 21 n.at)
-ask_stmt facts Rule.E21 k j (stmts.Aim n e) = answer (holds_of (is_at k j) (facts.aim n.name)) (e_rule 21 n.at)
-ask_stmt facts Rule.E23 k j (stmts.Read r) = answer (may_guess facts k r) (e_rule 23 r.target.at)
+ask_stmt facts Rule.E18 k j (stmts.Read r) = broken_unless (not (holds_of (λ w. nat_lt w k) (facts.written r.target.name))) Rule.E18 r.target.at
+ask_stmt facts Rule.E20 k j (stmts.Set n e when) = broken_unless (not (holds_of (λ w. nat_lt w k) (facts.stage n.name))) Rule.E20 n.at
+ask_stmt facts Rule.E21 k j (stmts.Set n e when) = broken_unless (holds_of (λ i. i == j) (facts.set_in k n.name)) Rule.E21 n.at
+ask_stmt facts Rule.E21 k j (stmts.Aim n e) = broken_unless (holds_of (is_at k j) (facts.aim n.name)) Rule.E21 n.at
+ask_stmt facts Rule.E23 k j (stmts.Read r) = broken_unless (may_guess facts k r) Rule.E23 r.target.at
 ask_stmt facts Rule.E25 k j s = ask_values facts Rule.E25 k s
+ask_stmt facts Rule.E34 k j s = first (ask_values facts Rule.E34 k s ∷ ask_guesses facts Rule.E34 k s ∷ [])
 ask_stmt facts _ k j s = None
 
 -- The answers in text order.
@@ -159,7 +184,7 @@ unfoldable pub broken_at : Facts → Job → Rule → Answer
 broken_at facts job rule = first (ask_head rule job ∷ first (ask_decls facts rule 0 job.decls) ∷ first (ask_blocks facts rule 0 job.blocks) ∷ [])
 
 abbrev pub all_rules : List Rule
-all_rules = Rule.E15 ∷ Rule.E16 ∷ Rule.E17 ∷ Rule.E18 ∷ Rule.E19 ∷ Rule.E20 ∷ Rule.E21 ∷ Rule.E22 ∷ Rule.E23 ∷ Rule.E24 ∷ Rule.E25 ∷ []
+all_rules = Rule.E15 ∷ Rule.E16 ∷ Rule.E17 ∷ Rule.E18 ∷ Rule.E19 ∷ Rule.E20 ∷ Rule.E21 ∷ Rule.E22 ∷ Rule.E23 ∷ Rule.E24 ∷ Rule.E25 ∷ Rule.E34 ∷ Rule.E35 ∷ []
 
 -- the first of these rules that a job breaks, at the first place where it does
 unfoldable pub broken_by : Facts → Job → Answer

@@ -8,6 +8,6 @@ use Rattle.kp_stage.specs.Rules.{broken_by}
 use Rattle.kp_stage.specs.Sizes.{sizes_of}
 use Rattle.kp_stage.specs.Counts.{counts_of}
 
--- E15 to E25, then E28, then E29: the first rule by number, at the first place in the text
+-- E15 to E25, then E34 and E35, then E28, then E29: the first rule by number, at the first place in the text
 unfoldable pub broken_of : Job → Answer
 broken_of job = first (broken_by (facts_of job) job ∷ first (sizes_of job).asked ∷ first (counts_of job).asked ∷ [])

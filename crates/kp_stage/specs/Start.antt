@@ -1,8 +1,9 @@
--- The start state of a job, and the stall word of a cycle.
+-- The start state of a job, and what comes from outside in a cycle: the stall word and the values of the samples.
 --
 -- A register starts with the value of its declaration, and the words of a file with 0. The entries of the image section are laid
 -- over that in text order: an entry gives its literals to the words from its address on. A register is a word of address 0.
--- An entry of the stalls section stalls its stage in the cycles from A to B, by steps of P.
+-- An entry of the stalls section stalls its stage in the cycles from A to B, by steps of P. An entry of the inputs section gives a
+-- sample its value in such cycles, and a later entry counts. In all other cycles a sample is 0.
 use Rattle.std.specs.Prelude.{◌≡◌, ℕ, zero, suc, ◌+◌, ◌-◌, ◌^◌, ◌%◌, ◌<◌, length, List, [], ◌∷◌, Option, Some, None, Bool, ◌&&◌, ◌==◌, nat_le, if◌then◌else◌, option_map, unwrap_or, slice_get}
 use Rattle.std.specs.List.{list_any, All}
 use Rattle.kp_bits.specs.Word.{Word, word, IsWord}
@@ -12,6 +13,7 @@ use Rattle.kp_ast.specs.declared.tree.Decl.{Decl}
 use Rattle.kp_ast.specs.declared.tree.Decl.TheVariants as decls
 use Rattle.kp_ast.specs.declared.tree.Image.{Image}
 use Rattle.kp_ast.specs.declared.tree.Stalls.{Stalls}
+use Rattle.kp_ast.specs.declared.tree.Inputs.{Inputs}
 use Rattle.kp_ast.specs.declared.tree.Job.{Job}
 use Rattle.kp_stage.specs.declared.start.Start.{Start}
 
@@ -78,11 +80,13 @@ pub record IsStartOf (job : Job) (start : Start) : Type 0 where
   pub regs : AreRegs job.decls start.regs
   pub files : AreFiles job.decls start.files
 
+-- a cycle is one of those from one to another, by steps
+abbrev pub is_among : (first last step cycle : ℕ) → Bool
+is_among first last step cycle = nat_le first cycle && nat_le cycle last && (cycle - first) % step == 0
+
 -- an entry stalls this stage in this cycle
 abbrev pub stalls_at : Stalls → ℕ → ℕ → Bool
-stalls_at e k cycle =
-    e.stage.value == k && nat_le e.from.value cycle && nat_le cycle e.to.value
-    && (cycle - e.from.value) % number_or e.step 1 == 0
+stalls_at e k cycle = e.stage.value == k && is_among e.from.value e.to.value (number_or e.step 1) cycle
 
 -- some entry does
 abbrev pub is_stalled : List Stalls → ℕ → ℕ → Bool
@@ -99,3 +103,33 @@ stalls_of job = unwrap_or job.stalls []
 -- the stall word of a cycle
 unfoldable pub stall_word : Job → ℕ → ℕ
 stall_word job cycle = bits_below job.stages.value (λ k. is_stalled (stalls_of job) k cycle)
+
+-- an entry gives its value in this cycle
+abbrev pub gives_at : Inputs → ℕ → Bool
+gives_at e cycle = is_among e.from.value e.to.value (number_or e.step 1) cycle
+
+-- the value of a sample in a cycle, from the one before these entries: the last entry that gives one counts
+abbrev pub input_over : List Inputs → List ℕ → ℕ → ℕ → ℕ
+input_over [] name cycle v = v
+input_over (e ∷ es) name cycle v =
+    input_over es name cycle (if is_same_name e.name.name name && gives_at e cycle then e.value.literal.value else v)
+
+-- the values of the samples in a cycle, in the order of declaration
+abbrev pub input_row : List Inputs → List Decl → ℕ → List Word
+input_row es [] cycle = []
+input_row es (decls.Sample n width stage ∷ ds) cycle = word width.value (input_over es n.name cycle 0) ∷ input_row es ds cycle
+input_row es (_ ∷ ds) cycle = input_row es ds cycle
+
+abbrev pub inputs_of : Job → List Inputs
+inputs_of job = unwrap_or job.inputs []
+
+-- the row of the samples' values in a cycle
+unfoldable pub input : Job → ℕ → List Word
+input job cycle = input_row (inputs_of job) job.decls cycle
+
+-- a row of samples: for each one a word of its width
+abbrev pub AreSamples : List Decl → List Word → Type 0
+AreSamples [] row = row ≡ []
+AreSamples (decls.Sample n width stage ∷ ds) [] = ⊥
+AreSamples (decls.Sample n width stage ∷ ds) (v ∷ row) = (v.width ≡ width.value) × IsWord v × AreSamples ds row
+AreSamples (_ ∷ ds) row = AreSamples ds row

@@ -2,13 +2,14 @@
 ghost use Rattle.std.specs.Prelude.{◌≡◌, true, IfOk};
 ghost use Rattle.kp_base.specs.First.{Answers, first};
 ghost use Rattle.kp_base.specs.Check.{Gives};
-ghost use Rattle.kp_stage.specs.Counts.{is_within, nothing_counted, with_decl, with_stmt, place_of_decl, place_of_read, decls_counted, stmts_counted, blocks_counted, counts_of};
+ghost use Rattle.kp_width.specs.Declarations.{name_of};
+ghost use Rattle.kp_stage.specs.Counts.{is_within, nothing_counted, with_decl, with_stmt, place_of_read, decls_counted, stmts_counted, blocks_counted, counts_of};
 
 use kp_ast::{Block, Decl, Job, Stmt, StmtKind};
 use kp_base::{Place, Refusal, Refused};
 
 /// The numbers of a machine: how many stages and declared things of each kind it has, how many reads, how many of these
-/// guess, and its expanded size.
+/// guess, its expanded size, and how many samples.
 #[derive(Clone, Copy, Debug, PartialEq, Eq)]
 pub struct Summary {
     pub stages: u32,
@@ -20,6 +21,7 @@ pub struct Summary {
     pub reads: u32,
     pub guesses: u32,
     pub size: u32,
+    pub samples: u32,
 }
 
 #[derive(Clone, Copy, Debug)]
@@ -32,6 +34,7 @@ pub(crate) struct Counts {
     pub functions: u32,
     pub reads: u32,
     pub guesses: u32,
+    pub samples: u32,
 }
 
 impl Counts {
@@ -47,6 +50,7 @@ impl Counts {
             functions: 0,
             reads: 0,
             guesses: 0,
+            samples: 0,
         }
     }
 
@@ -61,6 +65,7 @@ impl Counts {
             && self.functions <= 64
             && self.reads <= 256
             && self.guesses <= 8
+            && self.samples <= 16
     }
 
     fn with_decl(self, decl: &Decl) -> Counts
@@ -75,6 +80,7 @@ impl Counts {
             Decl::Target(_) => counts.results += 1,
             Decl::Hint(_, _, _) => counts.hints += 1,
             Decl::Func(_) => counts.functions += 1,
+            Decl::Sample(_, _, _) => counts.samples += 1,
         }
         counts
     }
@@ -153,13 +159,14 @@ fn add_stmts(from: Counts, stmts: &[Stmt]) -> Result<Counts, Refusal>
 }
 
 fn decl_place(decl: &Decl) -> Place
-    ensures { result ≡ place_of_decl decl.now }
+    ensures { result ≡ (name_of decl.now).at }
 {
     match decl {
         Decl::Reg(named, _, _)
         | Decl::File(named, _, _)
         | Decl::Pipe(named, _)
-        | Decl::Hint(named, _, _) => named.at,
+        | Decl::Hint(named, _, _)
+        | Decl::Sample(named, _, _) => named.at,
         Decl::Target(result) => result.name.at,
         Decl::Func(func) => func.name.at,
     }

@@ -40,8 +40,8 @@ impl Model for Design {
 }
 
 impl Design {
-    /// The design of a job whose names and widths are right, or the first of the rules E15 to E25, E28 and E29 that it breaks,
-    /// by number, at the first place in the text. After a refusal the job and the widths are gone.
+    /// The design of a job whose names and widths are right, or the first of the rules E15 to E25, E34, E35, E28 and E29
+    /// that it breaks, in this order, at the first place in the text. After a refusal the job and the widths are gone.
     pub fn new(alloc: Global, job: Job, widths: Widths) -> Result<Design, Refused>
         requires names { first (widths_of job).asked ≡ None }
         requires widths { widths.entries ≡ (widths_of job).value }
@@ -91,7 +91,7 @@ fn examine(alloc: Global, job: &Job) -> Result<Summary, Refused>
     Ok(summarize(job, size, counts))
 }
 
-// The first of the rules E15 to E25 that is broken.
+// The first of the rules E15 to E25, E34 and E35 that is broken.
 #[tactic(auto, using(crate::proofs::Noted::broken_same))]
 fn broken_rule(alloc: Global, job: &Job) -> Result<Option<Refusal>, NoMemory>
     ensures { IfOk result (λ broken. broken ≡ broken_by (facts_of job.now) job.now) }
@@ -117,6 +117,7 @@ fn summarize(job: &Job, size: u32, counts: Counts) -> Summary
         reads: counts.reads,
         guesses: counts.guesses,
         size,
+        samples: counts.samples,
     }
 }
 

@@ -1,7 +1,7 @@
 // What the rules look up, in tables that find a name in about constant time.
 ghost use Rattle.std.specs.Prelude.{◌≡◌, [], OnOk, IfOk, map};
 ghost use Rattle.kp_stage.specs.Facts.{largest, largest_in, guessed};
-ghost use Rattle.kp_stage.specs.Tables.{look_up, with_entry, with_first, with_less, puts_noted, all_puts_noted, aims_noted, all_aims_noted, sets_noted, sets_of, hints_noted, results_noted, stages_noted, writes_noted, tables_of};
+ghost use Rattle.kp_stage.specs.inner.Tables.{look_up, with_entry, with_first, with_less, puts_noted, all_puts_noted, aims_noted, all_aims_noted, sets_noted, sets_of, hints_noted, results_noted, samples_noted, stages_noted, writes_noted, tables_of};
 
 use indexmap::IndexMap;
 use kp_ast::{Block, Decl, Job, Name, Stmt, StmtKind};
@@ -49,6 +49,7 @@ impl<V: Copy> Table<V> {
         }
     }
 
+    /// The value of a name, where it has one.
     pub fn get(&self, name: &Name) -> Option<V>
         ensures { result ≡ look_up self.now name.now }
     {
@@ -92,6 +93,8 @@ pub(crate) struct OfDecls {
     pub hints: Table<usize>,
     /// The number of the first result of a target.
     pub results: Table<usize>,
+    /// The stage of a sample.
+    pub samples: Table<u64>,
     /// The write stage of a result.
     pub write_stages: Table<u64>,
     /// The least write stage of a target.
@@ -102,6 +105,7 @@ impl OfDecls {
     fn new(alloc: Global, decls: &[Decl]) -> Result<OfDecls, NoMemory>
         ensures hints { IfOk result (λ t. t.hints ≡ hints_noted [] 0 decls.now) }
         ensures results { IfOk result (λ t. t.results ≡ results_noted [] 0 decls.now) }
+        ensures samples { IfOk result (λ t. t.samples ≡ samples_noted [] decls.now) }
         ensures stages { IfOk result (λ t. t.write_stages ≡ stages_noted [] decls.now) }
         ensures writes { IfOk result (λ t. t.writes ≡ writes_noted [] decls.now) }
     {
@@ -109,6 +113,8 @@ impl OfDecls {
         note_hints(&mut hints, decls)?;
         let mut results = Table::new(alloc);
         note_results(&mut results, decls)?;
+        let mut samples = Table::new(alloc);
+        note_samples(&mut samples, decls)?;
         let mut write_stages = Table::new(alloc);
         note_stages(&mut write_stages, decls)?;
         let mut writes = Table::new(alloc);
@@ -116,6 +122,7 @@ impl OfDecls {
         Ok(OfDecls {
             hints,
             results,
+            samples,
             write_stages,
             writes,
         })
@@ -159,15 +166,15 @@ pub(crate) struct Facts {
 }
 
 impl Model for Facts {
-    ghost use Rattle.kp_stage.specs.Tables.{Tables};
+    ghost use Rattle.kp_stage.specs.inner.Tables.{Tables};
 
     ghost Value = { Tables };
 
-    ghost view = { λ f. record { stages = f.stages; puts = f.given.puts; aims = f.given.aims; sets = f.given.sets.items; hints = f.named.hints; results = f.named.results; write_stages = f.named.write_stages; writes = f.named.writes; top = f.top } };
+    ghost view = { λ f. record { stages = f.stages; puts = f.given.puts; aims = f.given.aims; sets = f.given.sets.items; hints = f.named.hints; results = f.named.results; samples = f.named.samples; write_stages = f.named.write_stages; writes = f.named.writes; top = f.top } };
 }
 
 impl Facts {
-    #[tactic(auto, unfolding(crate::specs::Tables::tables_of))]
+    #[tactic(auto, unfolding(crate::specs::inner::Tables::tables_of))]
     pub fn of(alloc: Global, job: &Job) -> Result<Facts, NoMemory>
         ensures { IfOk result (λ f. f ≡ tables_of job.now) }
     {
@@ -200,6 +207,17 @@ fn note_results(results: &mut Table<usize>, decls: &[Decl]) -> Result<(), NoMemo
     for (i, decl) in decls.iter().enumerate() {
         if let Decl::Target(result) = decl {
             results.set_first(&result.target.name, i)?;
+        }
+    }
+    Ok(())
+}
+
+fn note_samples(samples: &mut Table<u64>, decls: &[Decl]) -> Result<(), NoMemory>
+    ensures { OnOk result (samples.new ≡ samples_noted samples.old decls.now) }
+{
+    for decl in decls {
+        if let Decl::Sample(named, _, stage) = decl {
+            samples.set_first(&named.name, stage.value)?;
         }
     }
     Ok(())

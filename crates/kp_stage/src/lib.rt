@@ -4,12 +4,12 @@
 mod counts;
 mod design;
 mod facts;
+pub mod laws;
 mod rules;
 mod sizes;
 mod start;
-#[cfg(test)]
-mod tests;
 
 pub use counts::Summary;
 pub use design::Design;
+pub use rules::Rule;
 pub use start::Start;

@@ -1,18 +1,16 @@
-// The rules E15 to E25.
-ghost use Rattle.std.specs.Prelude.{◌≡◌, ◌∷◌, [], map, nat_lt, ◌==◌};
+// The rules E15 to E25, E34 and E35.
+ghost use Rattle.std.specs.Prelude.{◌≡◌, ◌∷◌, [], map, nat_lt, nat_le, ◌+◌, ◌==◌, not};
 ghost use Rattle.kp_base.specs.First.{first};
-ghost use Rattle.kp_base.specs.Check.{answer};
-ghost use Rattle.kp_base.specs.Refusal.{e_rule};
-ghost use Rattle.kp_stage.specs.Rules.{ask_head, ask_decl, ask_block, ask_stmt, ask_decls, ask_stmts, ask_in_block, ask_blocks, ask_name, ask_expr, ask_option, ask_values, ask_guesses, ask_pipe, put_before, may_guess, holds_of, is_at, broken_at, broken_by};
-ghost use Rattle.kp_stage.specs.Tables.{facts_in};
+ghost use Rattle.kp_stage.specs.Rules.{number_of, broken_unless, ask_head, ask_decl, ask_block, ask_stmt, ask_decls, ask_stmts, ask_in_block, ask_blocks, ask_name, ask_expr, ask_option, ask_values, ask_guesses, ask_pipe, put_before, may_guess, holds_of, is_at, broken_at, broken_by};
+ghost use Rattle.kp_stage.specs.inner.Tables.{facts_in};
 
 use crate::facts::{Facts, Spot};
 use kp_ast::{Block, Decl, Expr, ExprKind, Job, Name, Named, ReadStmt, Stmt, StmtKind};
 use kp_base::{Place, Refusal};
 
-// The rules, in their order.
+/// A rule of stages, by its number. The variants stand in the order in which the rules are asked.
 #[derive(Clone, Copy, Debug)]
-pub(crate) enum Rule {
+pub enum Rule {
     E15,
     E16,
     E17,
@@ -24,6 +22,31 @@ pub(crate) enum Rule {
     E23,
     E24,
     E25,
+    E34,
+    E35,
+}
+
+impl Rule {
+    /// The number, as it stands in a refusal.
+    pub fn number(self) -> u8
+        ensures { result ≡ number_of self }
+    {
+        match self {
+            Rule::E15 => 15,
+            Rule::E16 => 16,
+            Rule::E17 => 17,
+            Rule::E18 => 18,
+            Rule::E19 => 19,
+            Rule::E20 => 20,
+            Rule::E21 => 21,
+            Rule::E22 => 22,
+            Rule::E23 => 23,
+            Rule::E24 => 24,
+            Rule::E25 => 25,
+            Rule::E34 => 34,
+            Rule::E35 => 35,
+        }
+    }
 }
 
 // The first of the rules that is broken, at the first place where it is.
@@ -43,6 +66,8 @@ pub(crate) fn first_broken(facts: &Facts, job: &Job) -> Option<Refusal>
         Rule::E23,
         Rule::E24,
         Rule::E25,
+        Rule::E34,
+        Rule::E35,
     ];
     in_rules(facts, job, &rules)
 }
@@ -80,7 +105,7 @@ fn of_head(rule: Rule, job: &Job) -> Option<Refusal>
         Rule::E15 => {
             let stages = job.stages.value;
             let holds = stages >= 2 && stages <= 12 && stages <= job.blocks.as_slice().len() as u64;
-            unless(holds, 15, job.stages.at)
+            broken_unless(holds, rule, job.stages.at)
         }
         _ => None,
     }
@@ -126,7 +151,7 @@ fn of_block(facts: &Facts, rule: Rule, k: usize, block: &Block) -> Option<Refusa
     match rule {
         Rule::E15 => {
             let holds = block.number.value == k as u64 && (k as u64) < facts.stages;
-            unless(holds, 15, block.number.at)
+            broken_unless(holds, rule, block.number.at)
         }
         _ => None,
     }
@@ -148,13 +173,18 @@ fn of_decl(facts: &Facts, rule: Rule, i: usize, decl: &Decl) -> Option<Refusal>
     ensures { result ≡ ask_decl (facts_in facts.now) rule i decl.now }
 {
     match (rule, decl) {
-        (Rule::E15, Decl::Target(result)) => unless(
+        (Rule::E15, Decl::Target(result)) => broken_unless(
             result.stage.value < facts.stages,
-            15,
+            rule,
             result.stage.at,
         ),
+        (Rule::E15, Decl::Sample(_, _, stage)) => broken_unless(
+            stage.value < facts.stages,
+            rule,
+            stage.at,
+        ),
         (Rule::E16, Decl::Pipe(named, _)) => {
-            unless(facts.given.puts.get(&named.name).is_some(), 16, named.at)
+            broken_unless(facts.given.puts.get(&named.name).is_some(), rule, named.at)
         }
         (Rule::E19, Decl::Target(result)) => {
             let stage = result.stage.value;
@@ -169,21 +199,34 @@ fn of_decl(facts: &Facts, rule: Rule, i: usize, decl: &Decl) -> Option<Refusal>
                 Some(j) => j == i,
                 None => false,
             };
-            unless(is_first, 22, target.at)
+            broken_unless(is_first, rule, target.at)
         }
         (Rule::E24, Decl::Target(result)) => {
-            let holds = facts.top <= result.stage.value || facts.top - 1 <= result.stage.value;
-            unless(holds, 24, result.stage.at)
+            broken_unless(is_late(facts, result.stage.value), rule, result.stage.at)
+        }
+        (Rule::E35, Decl::Sample(_, _, stage)) => {
+            broken_unless(is_late(facts, stage.value), rule, stage.at)
         }
         _ => None,
     }
+}
+
+// The stage is no less than W-1.
+fn is_late(facts: &Facts, stage: u64) -> bool
+    ensures { result ≡ nat_le (facts_in facts.now).top (stage + 1) }
+{
+    facts.top <= stage || facts.top - 1 <= stage
 }
 
 fn of_pipe(facts: &Facts, stage: u64, pipe: &Option<Named>) -> Option<Refusal>
     ensures { result ≡ ask_pipe (facts_in facts.now) stage pipe.now }
 {
     match pipe {
-        Some(named) => unless(is_put_before(facts, &named.name, stage), 19, named.at),
+        Some(named) => broken_unless(
+            is_put_before(facts, &named.name, stage),
+            Rule::E19,
+            named.at,
+        ),
         None => None,
     }
 }
@@ -202,9 +245,9 @@ fn of_stmt(facts: &Facts, rule: Rule, k: usize, j: usize, stmt: &StmtKind) -> Op
 {
     match (rule, stmt) {
         (Rule::E16, StmtKind::Put(named, _)) => {
-            unless(
+            broken_unless(
                 is_here(facts.given.puts.get(&named.name), k, j),
-                16,
+                rule,
                 named.at,
             )
         }
@@ -214,24 +257,32 @@ fn of_stmt(facts: &Facts, rule: Rule, k: usize, j: usize, stmt: &StmtKind) -> Op
         ),
         (Rule::E18, StmtKind::Read(read)) => {
             let late = is_before(facts.named.writes.get(&read.target.name), k);
-            unless(!late, 18, read.target.at)
+            broken_unless(!late, rule, read.target.at)
         }
         (Rule::E20, StmtKind::Set(named, _, _)) => {
             let late = is_before(facts.named.write_stages.get(&named.name), k);
-            unless(!late, 20, named.at)
+            broken_unless(!late, rule, named.at)
         }
         (Rule::E21, StmtKind::Set(named, _, _)) => {
-            unless(is_first_set(facts, k, j, &named.name), 21, named.at)
+            broken_unless(is_first_set(facts, k, j, &named.name), rule, named.at)
         }
         (Rule::E21, StmtKind::Aim(named, _)) => {
-            unless(
+            broken_unless(
                 is_here(facts.given.aims.get(&named.name), k, j),
-                21,
+                rule,
                 named.at,
             )
         }
-        (Rule::E23, StmtKind::Read(read)) => unless(may_guess(facts, k, read), 23, read.target.at),
+        (Rule::E23, StmtKind::Read(read)) => broken_unless(
+            may_guess(facts, k, read),
+            rule,
+            read.target.at,
+        ),
         (Rule::E25, _) => in_values(facts, Rule::E25, k, stmt),
+        (Rule::E34, _) => first_of(
+            in_values(facts, Rule::E34, k, stmt),
+            in_guesses(facts, Rule::E34, k, stmt),
+        ),
         _ => None,
     }
 }
@@ -331,9 +382,10 @@ fn of_name(facts: &Facts, rule: Rule, k: usize, name: &Name, at: Place) -> Optio
                 Some(spot) => k <= spot.stage,
                 None => false,
             };
-            unless(!early, 17, at)
+            broken_unless(!early, rule, at)
         }
-        Rule::E25 => unless(facts.named.hints.get(name).is_none(), 25, at),
+        Rule::E25 => broken_unless(facts.named.hints.get(name).is_none(), rule, at),
+        Rule::E34 => broken_unless(!is_elsewhere(facts.named.samples.get(name), k), rule, at),
         _ => None,
     }
 }
@@ -343,6 +395,16 @@ fn is_here(spot: Option<Spot>, k: usize, j: usize) -> bool
 {
     match spot {
         Some(spot) => spot.stage == k && spot.index == j,
+        None => false,
+    }
+}
+
+// Where it is a sample, its stage is another one.
+fn is_elsewhere(stage: Option<u64>, k: usize) -> bool
+    ensures { result ≡ holds_of (λ w. not (w == k)) stage }
+{
+    match stage {
+        Some(w) => w != k as u64,
         None => false,
     }
 }
@@ -385,11 +447,11 @@ fn may_guess(facts: &Facts, k: usize, read: &ReadStmt) -> bool
 }
 
 // The rule is broken where the test fails.
-fn unless(holds: bool, number: u8, place: Place) -> Option<Refusal>
-    ensures { result ≡ answer holds (e_rule number place) }
+fn broken_unless(holds: bool, rule: Rule, place: Place) -> Option<Refusal>
+    ensures { result ≡ broken_unless holds rule place }
 {
     if holds {
         return None;
     }
-    Some(Refusal::e(number, place))
+    Some(Refusal::e(rule.number(), place))
 }

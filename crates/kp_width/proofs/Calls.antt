@@ -6,7 +6,8 @@ use Rattle.std.proofs.lemmas.Bool.{eq-eqb}
 use Rattle.kp_base.specs.Check.{ok, ◌>>=◌}
 use Rattle.kp_base.specs.Refusal.{e_rule}
 use Rattle.kp_bits.specs.Word.{Word}
-use Rattle.kp_ast.specs.Expressions.{Env, Calls, eval, no_word, names_of, arguments_of, is_function, calls_after, calls_of, no_calls, value_of_call}
+use Rattle.kp_ast.specs.Expressions.{Env, Calls, eval, names_of, arguments_of, is_function, calls_after, calls_of, no_calls, value_of_call}
+use Rattle.kp_bits.specs.Operators.{no_word}
 use Rattle.kp_ast.specs.Expressions as values
 use Rattle.kp_ast.specs.Checked.{Known, checked, checked_call, checked_calls_after, checked_calls_of}
 use Rattle.kp_ast.specs.declared.tree.Param.{Param}
@@ -21,7 +22,7 @@ use Rattle.kp_width.specs.Expressions.{params_of, params_in, part_of, width_at, 
 use Rattle.kp_width.specs.Declarations.{declared, parameters_of, function_opened, function_of, declaration_of, declarations_of, functions_in}
 use Rattle.kp_width.proofs.Unbroken.{Unbroken, bind_unbroken, answer_unbroken}
 use Rattle.kp_width.proofs.Parts.{given_parts}
-use Rattle.kp_width.proofs.Sound.{HasWidth, FitFrom, AreArguments}
+use Rattle.kp_width.specs.Soundness.{HasWidth, FitFrom, AreArguments}
 use Rattle.kp_width.proofs.Found.{Found, Meets, found, no_answer}
 
 by_test : {G : Type 0} (b : Bool) → (b ≡ true → G) → (b ≡ false → G) → G
@@ -130,6 +131,7 @@ only_params k kinds.Reg e f = cc
 only_params k (kinds.File a) e f = cc
 only_params k kinds.Pipe e f = cc
 only_params k kinds.Hint e f = cc
+only_params k kinds.Sample e f = cc
 only_params k kinds.Target e f = cc
 only_params k kinds.Func e f = cc
 only_params k kinds.Read e f = cc
@@ -252,6 +254,7 @@ module _ (ds : List Decl) where
   one_more known calls i k s (decls.Pipe n width) o here u = record { local = refl; fits = plain known calls s.text n.name (sense kinds.Pipe width.value i) o.fits refl refl }
   one_more known calls i k s (decls.Hint n width start) o here u = record { local = refl; fits = plain known calls s.text n.name (sense kinds.Hint width.value i) o.fits refl refl }
   one_more known calls i k s (decls.Target r) o here u = record { local = refl; fits = plain known calls s.text r.name.name (sense kinds.Target r.width.value i) o.fits refl refl }
+  one_more known calls i k s (decls.Sample n width stage) o here u = record { local = refl; fits = plain known calls s.text n.name (sense kinds.Sample width.value i) o.fits refl refl }
   one_more known calls i k s (decls.Func f) o here u =
       let a = answer_unbroken (not (is_some (find s f.name.name))) (e_rule 5 f.name.at) (function_of ds i k s f).asked u in
       record {

@@ -45,6 +45,7 @@ declaration ds i k s (decls.Reg n width start) = entered_next s scopes.Text n.na
 declaration ds i k s (decls.File n width address) = entered_next s scopes.Text n.name (sense (kinds.File address.value) width.value i)
 declaration ds i k s (decls.Pipe n width) = entered_next s scopes.Text n.name (sense kinds.Pipe width.value i)
 declaration ds i k s (decls.Hint n width start) = entered_next s scopes.Text n.name (sense kinds.Hint width.value i)
+declaration ds i k s (decls.Sample n width stage) = entered_next s scopes.Text n.name (sense kinds.Sample width.value i)
 declaration ds i k s (decls.Target r) = entered_next s scopes.Text r.name.name (sense kinds.Target r.width.value i)
 declaration ds i k s (decls.Func f) =
     after_next (entered s) (entered (function_opened s k f)) _ (f.name.name ∷ []) (map (λ p. p.name.name) f.params)

@@ -17,8 +17,10 @@ use Rattle.kp_ast.specs.declared.tree.ExprKind.TheOpen.{ExprKind-F, Expr-F}
 use Rattle.kp_ast.specs.declared.tree.ExprKind.TheOpen as level
 use Rattle.kp_ast.specs.declared.tree.ExprKind.TheFolds.{fold-Expr}
 use Rattle.kp_ast.specs.Expressions.{Env, eval}
-use Rattle.kp_ast.specs.Expressions as values
-use Rattle.kp_ast.specs.Checked.{Known, checked, checked_kind, checked_level, where_so, checked_join, checked_joined, checked_binary, checked_mux, checked_slice, checked_zext, checked_sext, all_there}
+use Rattle.kp_ast.specs.Checked.{Known, checked, checked_kind, checked_level, all_there}
+use Rattle.kp_bits.specs.Operators.{is_shift}
+use Rattle.kp_bits.specs.Operators as operators
+use Rattle.kp_bits.specs.Checked.{where_so, checked_join, checked_joined, checked_binary, checked_mux, checked_slice, checked_zext, checked_sext}
 use Rattle.kp_ast.proofs.Levels.{fold-Lit, fold-Name, fold-Not, fold-Binary, fold-Mux, fold-Concat, fold-Slice, fold-Zext, fold-Sext, fold-Call}
 use Rattle.kp_ast.proofs.Induction.{Every, induction}
 use Rattle.kp_width.specs.Names.{Sense, is_value_in, is_callee, Scoped, find}
@@ -26,7 +28,8 @@ use Rattle.kp_width.specs.Expressions.{Part, is_test, params_of, part_of, width_
 use Rattle.kp_ast.specs.declared.tree.Param.{Param}
 use Rattle.kp_width.proofs.Unbroken.{Unbroken, width-Lit, width-Not}
 use Rattle.kp_width.proofs.Parts.{lit_parts, name_parts, not_parts, binary_parts, mux_parts, concat_parts, sum_parts, sum_grows, slice_parts, zext_parts, sext_parts, argument_parts, call_parts}
-use Rattle.kp_width.proofs.Sound.{HasWidth, FitFrom, AreArguments, is_shift-same, binary_width}
+use Rattle.kp_width.specs.Soundness.{HasWidth, FitFrom, AreArguments}
+use Rattle.kp_width.proofs.Sound.{binary_width}
 
 -- the first answer to a question that is put to each name which stands for a value, from left to right
 abbrev pub name_kind : (List ℕ → Place → Answer) → ExprKind-F (Place → Answer) Answer → Place → Answer
@@ -157,7 +160,7 @@ module _ (ds : List Decl) (done : ℕ) (s : Scoped) (known : Known) (env : Env) 
       }
 
   concat_found : (es : List Expr) → Every Holds es → first (map asked es) ≡ None → Unbroken (sum_of 0 (map part es)) → 1 ≤ (sum_of 0 (map part es)).value → (sum_of 0 (map part es)).value ≤ 64
-      → Found (sum_of 0 (map part es)).value (checked_joined (map value es)) (values.joined_of (map value es))
+      → Found (sum_of 0 (map part es)).value (checked_joined (map value es)) (operators.joined_of (map value es))
   concat_found [] hs a u l k = absurd (omega arith)
   concat_found (e ∷ es) hs a u l k =
       let n = none_of_more (asked e) (map asked es) a in
@@ -208,11 +211,11 @@ module _ (ds : List Decl) (done : ℕ) (s : Scoped) (known : Known) (env : Env) 
         let b = none_of_two (asked x) (asked y) (sym (fold-Binary _ _ (name_kind ask) name_level p op x y) ∙ a) in
         let f = h b.0 c.left in
         let g = k b.1 c.right in
-        let same : values.is_shift op ≡ false → (value x).width ≡ (value y).width = λ e. f.has.width ∙ c.same (sym (is_shift-same op) ∙ e) ∙ sym g.has.width in
+        let same : is_shift op ≡ false → (value x).width ≡ (value y).width = λ e. f.has.width ∙ c.same e ∙ sym g.has.width in
         by_all _ _ _ _ _ _ (c.value ∙ ap (λ w. cond (is_test op) 1 w) (sym f.has.width)) (fold-Binary _ _ (checked_kind known) checked_level p op x y) (fold-Binary _ _ _ _ p op x y)
         (record {
           there = two (checked_binary op) (there x) (there y) (value x) (value y) f.there g.there
-              ∙ so_there _ _ (one_passes (values.is_shift op) ((value x).width == (value y).width) (λ e. eq-eqb _ _ (same e)));
+              ∙ so_there _ _ (one_passes (is_shift op) ((value x).width == (value y).width) (λ e. eq-eqb _ _ (same e)));
           has = binary_width op (value x) (value y) f.has.word g.has.word same;
         });
     mux = λ p t x y g h k a u.

@@ -13,6 +13,7 @@ at_most_one (decls.File n width address) = omega arith
 at_most_one (decls.Pipe n width) = omega arith
 at_most_one (decls.Hint n width start) = omega arith
 at_most_one (decls.Target r) = omega arith
+at_most_one (decls.Sample n width stage) = omega arith
 
 pub functions_within : (ds : List Decl) → sum_by functions_in ds ≤ length ds
 functions_within [] = omega arith

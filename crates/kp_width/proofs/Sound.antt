@@ -1,64 +1,33 @@
 -- An expression that breaks no rule keeps widths: where each name and each call has a word of its width, so has the expression.
-use Rattle.std.proofs.Common.{◌≡◌, ◌≤◌, ◌+◌, ℕ, List, [], ◌∷◌, map, length, min, fold, Some, true, false, cond, ◌==◌, refl, ap, sym, subst, ◌∙◌, arith}
+use Rattle.std.proofs.Common.{◌≡◌, ◌≤◌, ◌+◌, ℕ, List, [], ◌∷◌, map, min, fold, false, cond, ◌==◌, refl, ap, sym, subst, ◌∙◌, arith}
 use Rattle.std.proofs.lemmas.Bool.{cond_both}
 use Rattle.std.proofs.lemmas.List.{length-map}
 use Rattle.kp_base.specs.Check.{Check}
 use Rattle.kp_bits.specs.Word.{Word, IsWord, mux_of, concat_of}
 use Rattle.kp_bits.proofs.Words.{not_word, and_word, or_word, xor_word, add_word, sub_word, mul_word, eq_word, lt_word, shl_word, shr_word, concat_word, slice_word, zext_word, sext_word}
-use Rattle.kp_ast.specs.declared.tree.BinOp.{BinOp}
+use Rattle.kp_bits.specs.declared.operator.BinOp.{BinOp}
 use Rattle.kp_ast.specs.declared.tree.Param.{Param}
 use Rattle.kp_ast.specs.declared.tree.Decl.{Decl}
 use Rattle.kp_ast.specs.declared.tree.Expr.{Expr}
 use Rattle.kp_ast.specs.Expressions.{Env, eval}
-use Rattle.kp_ast.specs.Expressions as values
 use Rattle.kp_ast.proofs.Levels.{fold-Lit, fold-Name, fold-Not, fold-Binary, fold-Mux, fold-Concat, fold-Slice, fold-Zext, fold-Sext, fold-Call}
 use Rattle.kp_ast.proofs.Induction.{Every, induction}
-use Rattle.kp_width.specs.Names.{Sense, is_value_in, is_callee, Scoped, find}
-use Rattle.kp_width.specs.Expressions.{Part, is_shift, is_test, params_of, part_of, width_of, width_at, sum_of, arguments_of}
+use Rattle.kp_width.specs.Names.{Scoped}
+use Rattle.kp_width.specs.Soundness.{HasWidth, FitFrom, Suits}
+use Rattle.kp_width.specs.Expressions.{Part, is_test, params_of, part_of, width_of, sum_of, arguments_of}
+use Rattle.kp_bits.specs.Operators.{is_shift}
+use Rattle.kp_bits.specs.Operators as operators
 use Rattle.kp_width.proofs.Unbroken.{Unbroken, width-Lit, width-Not}
 use Rattle.kp_width.proofs.Parts.{lit_parts, name_parts, not_parts, binary_parts, mux_parts, concat_parts, sum_parts, sum_grows, slice_parts, zext_parts, sext_parts, argument_parts, call_parts}
-
--- a word of this width
-pub record HasWidth (w : ℕ) (v : Word) : Type 0 where
-  pub word : IsWord v
-  pub width : v.width ≡ w
-
--- values for the parameters from the one of this number on, each a word of its width
-abbrev pub FitFrom : List Param → ℕ → List Word → Type 0
-FitFrom ps i [] = Unit {0}
-FitFrom ps i (v ∷ vs) = HasWidth (width_at ps i) v × FitFrom ps (i + 1) vs
-
--- arguments of a call: one for each parameter
-pub record AreArguments (ps : List Param) (vs : List Word) : Type 0 where
-  pub count : length vs ≡ length ps
-  pub fit : FitFrom ps 0 vs
-
--- an environment gives a word of its width to each name that may stand in an expression here, and to each call at fitting
--- arguments
-pub record Suits (ds : List Decl) (s : Scoped) (env : Env) : Type 0 where
-  pub names : (q : List ℕ) (m : Sense) → find s q ≡ Some m → is_value_in s.here m.kind ≡ true → HasWidth m.width (env.names q)
-  pub calls : (q : List ℕ) (m : Sense) → find s q ≡ Some m → is_callee m.kind ≡ true → (vs : List Word) → AreArguments (params_of ds m.from) vs → HasWidth m.width (env.calls q vs)
 
 by_both : (u v : ℕ) (x y : Word) → u ≡ v → x ≡ y → HasWidth v y → HasWidth u x
 by_both u v x y e f h = record { word = rw f h.word; width = rw (f, e) h.width }
 
 -- operands that a binary operator takes
 abbrev pub AreOperands : BinOp → Word → Word → Type 0
-AreOperands op a b = values.is_shift op ≡ false → a.width ≡ b.width
+AreOperands op a b = is_shift op ≡ false → a.width ≡ b.width
 
-pub is_shift-same : (op : BinOp) → values.is_shift op ≡ is_shift op
-is_shift-same BinOp.And = refl
-is_shift-same BinOp.Or = refl
-is_shift-same BinOp.Xor = refl
-is_shift-same BinOp.Add = refl
-is_shift-same BinOp.Sub = refl
-is_shift-same BinOp.Mul = refl
-is_shift-same BinOp.Eq = refl
-is_shift-same BinOp.Lt = refl
-is_shift-same BinOp.Shl = refl
-is_shift-same BinOp.Shr = refl
-
-pub binary_width : (op : BinOp) (a b : Word) → IsWord a → IsWord b → AreOperands op a b → HasWidth (cond (is_test op) 1 a.width) (values.binary_of op a b)
+pub binary_width : (op : BinOp) (a b : Word) → IsWord a → IsWord b → AreOperands op a b → HasWidth (cond (is_test op) 1 a.width) (operators.binary_of op a b)
 binary_width BinOp.And a b h k e = record { word = and_word a b h; width = refl }
 binary_width BinOp.Or a b h k e = record { word = or_word a b h k (e refl); width = refl }
 binary_width BinOp.Xor a b h k e = record { word = xor_word a b h k (e refl); width = refl }
@@ -101,7 +70,7 @@ module _ (ds : List Decl) (done : ℕ) (s : Scoped) (env : Env) (suits : Suits d
       (joined (concat_of acc (value e)) es c hs.1 (subst (λ n. Unbroken (sum_of n (map part es))) same p.rest) (subst (λ n. (sum_of n (map part es)).value ≤ 64) same l))
 
   concat_width : (es : List Expr) → Every Holds es → Unbroken (sum_of 0 (map part es)) → 1 ≤ (sum_of 0 (map part es)).value → (sum_of 0 (map part es)).value ≤ 64
-      → HasWidth (sum_of 0 (map part es)).value (values.joined_of (map value es))
+      → HasWidth (sum_of 0 (map part es)).value (operators.joined_of (map value es))
   concat_width [] hs u l k = absurd (omega arith)
   concat_width (e ∷ es) hs u l k =
       let p = sum_parts ds done s 0 e es u in
@@ -134,7 +103,7 @@ module _ (ds : List Decl) (done : ℕ) (s : Scoped) (env : Env) (suits : Suits d
         let x = h c.left in
         let y = k c.right in
         by_both _ _ _ _ (c.value ∙ ap (λ w. cond (is_test op) 1 w) (sym x.width)) (fold-Binary _ _ _ _ p op a b)
-        (binary_width op (value a) (value b) x.word y.word (λ e. x.width ∙ c.same (sym (is_shift-same op) ∙ e) ∙ sym y.width));
+        (binary_width op (value a) (value b) x.word y.word (λ e. x.width ∙ c.same e ∙ sym y.width));
     mux = λ p test a b t h k u.
         let c = mux_parts ds done s p test a b u in
         by_both _ _ _ _ c.value (fold-Mux _ _ _ _ p test a b)

@@ -5,7 +5,7 @@ use Rattle.kp_base.specs.Check.{Check, Answer, answer, ok, ◌>>=◌}
 use Rattle.kp_base.specs.declared.place.Place.{Place}
 use Rattle.kp_base.specs.declared.refusal.Refusal.{Refusal}
 use Rattle.kp_bits.specs.declared.literal.Literal.{Literal}
-use Rattle.kp_ast.specs.declared.tree.BinOp.{BinOp}
+use Rattle.kp_bits.specs.declared.operator.BinOp.{BinOp}
 use Rattle.kp_ast.specs.declared.tree.Num.{Num}
 use Rattle.kp_ast.specs.declared.tree.Decl.{Decl}
 use Rattle.kp_ast.specs.declared.tree.Expr.{Expr}

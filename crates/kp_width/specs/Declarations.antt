@@ -90,6 +90,7 @@ name_of (decls.Pipe n width) = n
 name_of (decls.Hint n width start) = n
 name_of (decls.Target r) = r.name
 name_of (decls.Func f) = f.name
+name_of (decls.Sample n width stage) = n
 
 -- a declaration after its name: the number of the declaration, and its number among the functions
 abbrev pub after_name : List Decl → ℕ → ℕ → Scoped → Decl → Check Scoped
@@ -100,6 +101,7 @@ after_name ds i k s (decls.Pipe n width) = declared width >>= (λ w. ok (declare
 after_name ds i k s (decls.Hint n width start) = started_of width start >>= (λ w. ok (declared_text s n.name (sense kinds.Hint w i)))
 after_name ds i k s (decls.Target r) = result_of s r >>= (λ w. ok (declared_text s r.name.name (sense kinds.Target w i)))
 after_name ds i k s (decls.Func f) = function_of ds i k s f
+after_name ds i k s (decls.Sample n width stage) = declared width >>= (λ w. ok (declared_text s n.name (sense kinds.Sample w i)))
 
 -- a declaration, before which i declarations and k functions stand
 abbrev pub declaration_of : List Decl → ℕ → ℕ → Scoped → Decl → Check Scoped

@@ -8,7 +8,8 @@ use Rattle.kp_base.specs.Refusal.{e_rule}
 use Rattle.kp_base.specs.declared.place.Place.{Place}
 use Rattle.kp_bits.specs.declared.literal.Literal.{Literal}
 use Rattle.kp_ast.specs.Expressions.{is_function}
-use Rattle.kp_ast.specs.declared.tree.BinOp.{BinOp}
+use Rattle.kp_bits.specs.Operators.{is_shift}
+use Rattle.kp_bits.specs.declared.operator.BinOp.{BinOp}
 use Rattle.kp_ast.specs.declared.tree.Num.{Num}
 use Rattle.kp_ast.specs.declared.tree.Param.{Param}
 use Rattle.kp_ast.specs.declared.tree.Decl.{Decl}
@@ -23,11 +24,6 @@ use Rattle.kp_width.specs.Names.{Sense, is_callee, is_value_in, Checked, passed,
 pub record Part : Type 0 where
   pub at : Place
   pub width : Check ℕ
-
-abbrev pub is_shift : BinOp → Bool
-is_shift BinOp.Shl = true
-is_shift BinOp.Shr = true
-is_shift _ = false
 
 abbrev pub is_test : BinOp → Bool
 is_test BinOp.Eq = true

@@ -98,12 +98,14 @@ abbrev pub used : Scoped → (NameKind → Bool) → List ℕ → Place → Chec
 used s takes name at = used_as takes at (find s name)
 
 -- An expression in a function may use the function's parameters. One in a stage may use the names that the stage has read or
--- let, pipes, and hints; that a hint stands only where a guess or an aim is, is a rule of its own (E25), which comes later.
+-- let, pipes, samples, and hints. That a sample stands only in its own stage (E34), and a hint only where a guess or an aim is
+-- (E25), are rules of their own, which come later.
 abbrev pub is_value_in : Scope → NameKind → Bool
 is_value_in (scopes.Function k) kinds.Param = true
 is_value_in (scopes.Function k) _ = false
 is_value_in _ kinds.Pipe = true
 is_value_in _ kinds.Hint = true
+is_value_in _ kinds.Sample = true
 is_value_in _ kinds.Read = true
 is_value_in _ kinds.Let = true
 is_value_in _ _ = false

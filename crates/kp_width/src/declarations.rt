@@ -51,7 +51,8 @@ fn declared_name(decl: &Decl) -> &Named
         Decl::Reg(name, _, _)
         | Decl::File(name, _, _)
         | Decl::Pipe(name, _)
-        | Decl::Hint(name, _, _) => name,
+        | Decl::Hint(name, _, _)
+        | Decl::Sample(name, _, _) => name,
         Decl::Target(result) => &result.name,
         Decl::Func(func) => &func.name,
     }
@@ -92,6 +93,10 @@ fn add_new(
             add_plain(names, &result.name, NameKind::Target, width, i)
         }
         Decl::Func(func) => add_func(names, decls, i, functions, func),
+        Decl::Sample(name, number, _) => {
+            let width = declared_width(*number)?;
+            add_plain(names, name, NameKind::Sample, width, i)
+        }
     }
 }
 

@@ -1,10 +1,10 @@
 ghost use Rattle.std.specs.Prelude.{◌≡◌, ◌<◌, ◌+◌, ◌-◌, ◌≤◌, Ok, map, drop, length, slice_get, min};
-ghost use Rattle.kp_width.specs.Expressions.{literal_of, is_shift, is_test, is_width, binary_of, choice_of, slice_of, extension_of, sum_of, concatenation_of, is_declared, params_of, width_at, arguments_of, callee_of, called_of, part_of, width_of, value_of, condition_of};
+ghost use Rattle.kp_width.specs.Expressions.{literal_of, is_test, is_width, binary_of, choice_of, slice_of, extension_of, sum_of, concatenation_of, is_declared, params_of, width_at, arguments_of, callee_of, called_of, part_of, width_of, value_of, condition_of};
 
 use crate::names::{Meaning, Names, Position};
-use kp_ast::{BinOp, Decl, Expr, ExprKind, Name, Num, Param};
+use kp_ast::{Decl, Expr, ExprKind, Name, Num, Param};
 use kp_base::{Place, Refusal};
-use kp_bits::Literal;
+use kp_bits::{BinOp, Literal};
 
 // The width of an expression before which `done` declarations stand.
 #[cycle(width)]
@@ -141,7 +141,7 @@ pub(crate) fn literal_width(literal: Literal, at: Place) -> Result<u8, Refusal>
 fn binary_width(op: BinOp, at: Place, a: u8, b: u8) -> Result<u8, Refusal>
     ensures { result ≡ (binary_of op at a b).found }
 {
-    if is_shift_op(op) {
+    if op.is_shift() {
         return Ok(a);
     }
     if a != b {
@@ -255,12 +255,6 @@ fn param_width(params: &[Param], i: usize) -> u64
         Some(p) => p.width.value,
         None => 0,
     }
-}
-
-fn is_shift_op(op: BinOp) -> bool
-    ensures { result ≡ is_shift op }
-{
-    matches!(op, BinOp::Shl | BinOp::Shr)
 }
 
 fn is_test_op(op: BinOp) -> bool

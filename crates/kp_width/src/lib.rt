@@ -9,6 +9,3 @@ mod names;
 mod statements;
 
 pub use job::widths;
-
-#[cfg(test)]
-mod tests;

@@ -1,7 +1,7 @@
 // The names in scope, in tables that find one in about constant time.
 ghost use Rattle.std.specs.Prelude.{◌≡◌, ◌++◌, ◌∷◌, [], None, OnOk, MatchOption, ⊤};
 ghost use Rattle.kp_width.specs.Names.{look_up, find, nothing, opened, with_entry, with_text, with_local, declared_text, declared_local, used};
-ghost use Rattle.kp_width.specs.Positions.{takes};
+ghost use Rattle.kp_width.specs.inner.Positions.{takes};
 
 use indexmap::IndexMap;
 use kp_ast::{Entry, Name, NameKind, Scope};
@@ -97,6 +97,7 @@ impl Model for Names {
 }
 
 impl Names {
+    /// Where the text begins: no name is in scope, and there are no entries.
     pub fn new(alloc: Global) -> Names
         ensures { result ≡ nothing }
     {
@@ -108,7 +109,7 @@ impl Names {
         }
     }
 
-    // A function, a block or the text itself begins.
+    /// A function, a block or the text itself begins.
     pub fn open(&mut self, scope: Scope)
         ensures { self.new ≡ opened self.old scope }
     {
@@ -116,6 +117,7 @@ impl Names {
         self.here = scope;
     }
 
+    /// What a name names, if it is in scope.
     pub fn find(&self, name: &Name) -> Option<Meaning>
         ensures value { result ≡ find self.now name.now }
         ensures text { MatchOption result (look_up self.now.text name.now ≡ None) (λ _. ⊤) }
@@ -126,7 +128,7 @@ impl Names {
         }
     }
 
-    // The meaning of a name in scope that the position takes.
+    /// The meaning of a name in scope that the position takes. E6: it isn't in scope. E7: the position doesn't take its kind.
     pub fn used(&self, position: Position, name: &Name, at: Place) -> Result<Meaning, Refusal>
         ensures { result ≡ (used self.now (takes position self.now.here) name.now at).found }
     {
@@ -142,7 +144,7 @@ impl Names {
         }
     }
 
-    // Gives a name its entry.
+    /// Gives a name its entry.
     pub fn enter(&mut self, scope: Scope, name: &Name, meaning: Meaning) -> Result<(), NoMemory>
         ensures { OnOk result (self.new ≡ with_entry self.old scope name.now meaning) }
     {
@@ -155,7 +157,7 @@ impl Names {
         Ok(())
     }
 
-    // Brings a name into scope to the end of the text, and closes what is open.
+    /// Brings a name into scope to the end of the text, and closes what is open.
     pub fn add_text(&mut self, name: &Name, meaning: Meaning) -> Result<(), NoMemory>
         requires { look_up self.old.text name.now ≡ None }
         ensures { OnOk result (self.new ≡ with_text self.old name.now meaning) }
@@ -164,7 +166,7 @@ impl Names {
         self.text.add(name.clone()?, meaning)
     }
 
-    // Declares a name of the text.
+    /// Declares a name of the text.
     pub fn declare_text(&mut self, name: &Name, meaning: Meaning) -> Result<(), NoMemory>
         requires { look_up self.old.text name.now ≡ None }
         ensures { OnOk result (self.new ≡ declared_text self.old name.now meaning) }
@@ -173,7 +175,7 @@ impl Names {
         self.add_text(name, meaning)
     }
 
-    // Declares a name of the function or block that is open.
+    /// Declares a name of the function or block that is open.
     pub fn declare_local(&mut self, name: &Name, meaning: Meaning) -> Result<(), NoMemory>
         requires { find self.old name.now ≡ None }
         ensures { OnOk result (self.new ≡ declared_local self.old name.now meaning) }
@@ -182,6 +184,7 @@ impl Names {
         self.local.add(name.clone()?, meaning)
     }
 
+    /// The entries of all names that were declared, in text order.
     pub fn into_entries(self) -> Vec<Entry>
         ensures { result.items ≡ self.entries }
     {
@@ -203,7 +206,7 @@ fn fits(here: Scope, position: Position, kind: NameKind) -> bool
             Scope::Function(_) => matches!(kind, NameKind::Param),
             Scope::Text | Scope::Stage(_) => matches!(
                 kind,
-                NameKind::Pipe | NameKind::Hint | NameKind::Read | NameKind::Let
+                NameKind::Pipe | NameKind::Hint | NameKind::Sample | NameKind::Read | NameKind::Let
             ),
         },
         (Position::Register, NameKind::Reg)

@@ -2,7 +2,7 @@ ghost use Rattle.std.specs.Prelude.{◌≡◌, ◌<◌, ◌^◌, length, None, O
 ghost use Rattle.kp_base.specs.declared.refusal.Refused.TheVariants as refused;
 ghost use Rattle.kp_base.specs.Check.{Gives};
 ghost use Rattle.kp_width.specs.Names.{find, sense, declared_local};
-ghost use Rattle.kp_width.specs.Positions.{takes};
+ghost use Rattle.kp_width.specs.inner.Positions.{takes};
 ghost use Rattle.kp_width.specs.Expressions.{part_of};
 ghost use Rattle.kp_width.specs.Statements.{when_of, address_of, read_of, given, statement_of, statements_of, blocks_of};
 

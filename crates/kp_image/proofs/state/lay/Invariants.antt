@@ -1,5 +1,5 @@
 use Rattle.std.proofs.Common.{◌≡◌, ◌+◌, ℕ, drop, get_or}
-use Rattle.kp_image.specs.Laid.{laid_from}
+use Rattle.kp_image.specs.inner.Laid.{laid_from}
 use Rattle.kp_image.proofs.state.lay.Given as goal
 
 abbrev pub invariant-loop-i : goal.invariant-loop-i

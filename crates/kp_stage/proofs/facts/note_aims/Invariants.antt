@@ -1,5 +1,5 @@
 use Rattle.std.proofs.Common.{◌≡◌, drop}
-use Rattle.kp_stage.specs.Tables.{aims_noted}
+use Rattle.kp_stage.specs.inner.Tables.{aims_noted}
 use Rattle.kp_stage.proofs.facts.note_aims.Given as goal
 
 abbrev pub invariant-loop-j : goal.invariant-loop-j

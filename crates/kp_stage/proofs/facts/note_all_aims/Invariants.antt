@@ -1,5 +1,5 @@
 use Rattle.std.proofs.Common.{◌≡◌, drop}
-use Rattle.kp_stage.specs.Tables.{all_aims_noted}
+use Rattle.kp_stage.specs.inner.Tables.{all_aims_noted}
 use Rattle.kp_stage.proofs.facts.note_all_aims.Given as goal
 
 abbrev pub invariant-loop-k : goal.invariant-loop-k

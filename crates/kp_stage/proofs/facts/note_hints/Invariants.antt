@@ -1,5 +1,5 @@
 use Rattle.std.proofs.Common.{◌≡◌, drop}
-use Rattle.kp_stage.specs.Tables.{hints_noted}
+use Rattle.kp_stage.specs.inner.Tables.{hints_noted}
 use Rattle.kp_stage.proofs.facts.note_hints.Given as goal
 
 abbrev pub invariant-loop-i : goal.invariant-loop-i

@@ -40,6 +40,7 @@ pub record Tables : Type 0 where
   pub sets : List (Entries ℕ)
   pub hints : Entries ℕ
   pub results : Entries ℕ
+  pub samples : Entries ℕ
   pub write_stages : Entries ℕ
   pub writes : Entries ℕ
   pub top : ℕ
@@ -56,6 +57,7 @@ facts_in t = record {
   set_in = λ k. look_up (table_in (slice_get t.sets k));
   hint = look_up t.hints;
   result = look_up t.results;
+  sample = look_up t.samples;
   stage = look_up t.write_stages;
   written = look_up t.writes;
   top = t.top;
@@ -112,6 +114,14 @@ abbrev pub results_noted : Entries ℕ → ℕ → List Decl → Entries ℕ
 results_noted es i [] = es
 results_noted es i (d ∷ ds) = results_noted (result_noted es i d) (i + 1) ds
 
+abbrev pub sample_noted : Entries ℕ → Decl → Entries ℕ
+sample_noted es (decls.Sample n width stage) = with_first es n.name stage.value
+sample_noted es _ = es
+
+abbrev pub samples_noted : Entries ℕ → List Decl → Entries ℕ
+samples_noted es [] = es
+samples_noted es (d ∷ ds) = samples_noted (sample_noted es d) ds
+
 abbrev pub stage_noted : Entries ℕ → Decl → Entries ℕ
 stage_noted es (decls.Target r) = with_first es r.name.name r.stage.value
 stage_noted es _ = es
@@ -136,6 +146,7 @@ tables_of job = let writes = writes_noted [] job.decls in record {
   sets = map sets_of job.blocks;
   hints = hints_noted [] 0 job.decls;
   results = results_noted [] 0 job.decls;
+  samples = samples_noted [] job.decls;
   write_stages = stages_noted [] job.decls;
   writes = writes;
   top = largest (look_up writes) 0 job.blocks;

@@ -1,5 +1,5 @@
 -- What holds of declarations and entries that break no rule: every number that the start state is made of fits its place.
-use Rattle.std.specs.Prelude.{◌≡◌, ℕ, ◌+◌, ◌^◌, ◌<◌, ◌≤◌, List, length, true}
+use Rattle.std.specs.Prelude.{◌≡◌, ℕ, ◌+◌, ◌^◌, ◌≤◌, List, length, true}
 use Rattle.std.specs.List.{All}
 use Rattle.kp_bits.specs.Word.{IsWord, word}
 use Rattle.kp_ast.specs.Expressions.{is_same_name}

@@ -1,0 +1,46 @@
+-- What is kept for each sample gives the rows of the inputs section.
+use Rattle.std.proofs.Common.{◌≡◌, ◌∙◌, ℕ, zero, suc, List, [], ◌∷◌, Some, Bool, true, false, refl, ap, sym}
+use Rattle.std.proofs.Math.Path.{fun_ext}
+use Rattle.std.specs.Prelude.{◌&&◌, if◌then◌else◌, slice_get}
+use Rattle.kp_bits.specs.Word.{word}
+use Rattle.kp_ast.specs.Expressions.{is_same_name}
+use Rattle.kp_ast.specs.declared.tree.Decl.{Decl}
+use Rattle.kp_ast.specs.declared.tree.Decl.TheVariants as decls
+use Rattle.kp_ast.specs.declared.tree.Inputs.{Inputs}
+use Rattle.kp_ast.specs.declared.tree.Job.{Job}
+use Rattle.kp_stage.specs.Start.{gives_at, input_over, input_row, inputs_of, input}
+use Rattle.kp_image.specs.declared.inputs.Given.{Given}
+use Rattle.kp_image.specs.Cycles.{is_in}
+use Rattle.kp_image.specs.Feeds.{Fed, given_over, row_in, word_fed}
+use Rattle.kp_image.specs.inner.Kept.{kept_by, givens_of, feeds_of}
+
+by_name : (b c : Bool) (g : Given) (gs : List Given) (cycle v : ℕ) → c ≡ is_in g.cycles cycle
+    → given_over (if b then g ∷ gs else gs) cycle v ≡ given_over gs cycle (if b && c then g.value else v)
+by_name true c g gs cycle v e = ap (λ x. given_over gs cycle (if x then g.value else v)) (sym e)
+by_name false c g gs cycle v e = refl
+
+given_same : (es : List Inputs) (name : List ℕ) (cycle v : ℕ) → given_over (givens_of es name) cycle v ≡ input_over es name cycle v
+given_same [] name cycle v = refl
+given_same (e ∷ es) name cycle v =
+    by_name (is_same_name e.name.name name) (gives_at e cycle) (kept_by e) (givens_of es name) cycle v refl ∙ given_same es name cycle _
+
+row_same : (es : List Inputs) (ds : List Decl) (cycle : ℕ) → row_in (feeds_of es ds) cycle ≡ input_row es ds cycle
+row_same es [] cycle = refl
+row_same es (decls.Sample n width stage ∷ ds) cycle = λ i. word width.value (given_same es n.name cycle 0 i) ∷ row_same es ds cycle i
+row_same es (decls.Reg n width start ∷ ds) cycle = row_same es ds cycle
+row_same es (decls.File n width address ∷ ds) cycle = row_same es ds cycle
+row_same es (decls.Pipe n width ∷ ds) cycle = row_same es ds cycle
+row_same es (decls.Hint n width start ∷ ds) cycle = row_same es ds cycle
+row_same es (decls.Target r ∷ ds) cycle = row_same es ds cycle
+row_same es (decls.Func f ∷ ds) cycle = row_same es ds cycle
+
+-- the rows of a job
+pub rows_of_feeds : (job : Job) → row_in (feeds_of (inputs_of job) job.decls) ≡ input job
+unfolding input
+rows_of_feeds job = fun_ext (row_same (inputs_of job) job.decls)
+
+-- what stands at a place of a row
+pub row_at : (feeds : List Fed) (cycle i : ℕ) (f : Fed) → slice_get feeds i ≡ Some f → slice_get (row_in feeds cycle) i ≡ Some (word_fed f cycle)
+row_at [] cycle i f e = cc
+row_at (x ∷ feeds) cycle zero f e = let same : x ≡ f = cc in ap (λ (y : Fed). Some (word_fed y cycle)) same
+row_at (x ∷ feeds) cycle (suc i) f e = row_at feeds cycle i f e

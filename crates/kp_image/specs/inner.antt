@@ -1,0 +1,4 @@
+-- Only private contracts and proofs use the definitions below here: no public clause stands on them.
+pub mod Fits
+pub mod Kept
+pub mod Laid

@@ -1,0 +1,163 @@
+-- Questions to the names in expressions that have no answer.
+use Rattle.std.proofs.Common.{◌≡◌, ◌∙◌, ℕ, zero, suc, ◌<◌, List, [], ◌∷◌, ◌++◌, map, length, get_or, Option, Some, None, Bool, true, false, refl, ap, sym, subst, arith}
+use Rattle.std.specs.Prelude.{◌||◌, Contains}
+use Rattle.std.specs.List.{list_any}
+use Rattle.std.specs.Cmp.Lexicographic.{bytes_decides}
+use Rattle.kp_base.specs.First.{first}
+use Rattle.kp_base.specs.Check.{Answer}
+use Rattle.kp_base.specs.declared.place.Place.{Place}
+use Rattle.kp_bits.specs.Word.{Word, not_of, mux_of, slice_of, zext_of, sext_of}
+use Rattle.kp_bits.specs.Operators.{binary_of, joined_of}
+use Rattle.kp_ast.specs.Expressions.{Env, eval, value_of_kind, value_of_level}
+use Rattle.kp_ast.specs.declared.tree.Expr.{Expr}
+use Rattle.kp_ast.specs.declared.tree.StmtKind.{StmtKind}
+use Rattle.kp_ast.specs.declared.tree.StmtKind.TheVariants as stmts
+use Rattle.kp_ast.proofs.Levels.{fold-Lit, fold-Name, fold-Not, fold-Binary, fold-Mux, fold-Concat, fold-Slice, fold-Zext, fold-Sext, fold-Call}
+use Rattle.kp_ast.proofs.Induction.{Every, induction}
+use Rattle.kp_width.proofs.Found.{none_of_two}
+use Rattle.kp_stage.specs.declared.rules.Rule.{Rule}
+use Rattle.kp_stage.specs.Facts.{Facts}
+use Rattle.kp_stage.specs.Rules.{ask_name, ask_kind, ask_level, ask_expr, ask_option, ask_values, ask_guesses}
+use Rattle.kp_stage.specs.Uses.{listed, plain_in, guessed_in, exprs_in, uses, uses_in_kind, uses_in_level}
+use Rattle.kp_stage.proofs.Unbroken.{first_none}
+
+pub either : {G : Type 0} (a b : Bool) → (a || b) ≡ true → (a ≡ true → G) → (b ≡ true → G) → G
+either true b e left right = left refl
+either false b e left right = right e
+
+module _ (facts : Facts) (rule : Rule) (k : ℕ) where
+  abbrev asked : Expr → Answer
+  asked = ask_expr facts rule k
+
+  -- a name that an expression uses
+  module _ (q : List ℕ) where
+    abbrev Unanswered : Type 0
+    Unanswered = (at : Place) × (ask_name facts rule k q at ≡ None)
+
+    abbrev IsAsked : Expr → Type 0
+    IsAsked e = uses q e ≡ true → asked e ≡ None → Unanswered
+
+    some_asked : (es : List Expr) → Every IsAsked es → list_any (λ x. x) (map (uses q) es) ≡ true → first (map asked es) ≡ None → Unanswered
+    some_asked [] hs u n = cc
+    some_asked (e ∷ es) hs u n =
+        let both = first_none (asked e) (map asked es) n in
+        either (uses q e) (list_any (λ x. x) (map (uses q) es)) u (λ y. hs.0 y both.0) (λ y. some_asked es hs.1 y both.1)
+
+    pub name_asked : (e : Expr) → IsAsked e
+    name_asked = induction IsAsked (record {
+      literal = λ p l u n. let no : false ≡ true = sym (fold-Lit _ _ (uses_in_kind q) uses_in_level p l) ∙ u in cc;
+      name = λ p name u n.
+          let same : q ≡ name = (bytes_decides q name).0 (sym (fold-Name _ _ (uses_in_kind q) uses_in_level p name) ∙ u) in
+          (p, ap (λ x. ask_name facts rule k x p) same ∙ sym (fold-Name _ _ (ask_kind facts rule k) ask_level p name) ∙ n);
+      not_ = λ p a h u n. h (sym (fold-Not _ _ (uses_in_kind q) uses_in_level p a) ∙ u) (sym (fold-Not _ _ (ask_kind facts rule k) ask_level p a) ∙ n);
+      binary = λ p op a b h g u n.
+          let both = none_of_two (asked a) (asked b) (sym (fold-Binary _ _ (ask_kind facts rule k) ask_level p op a b) ∙ n) in
+          either (uses q a) (uses q b) (sym (fold-Binary _ _ (uses_in_kind q) uses_in_level p op a b) ∙ u) (λ y. h y both.0) (λ y. g y both.1);
+      mux = λ p t a b f h g u n.
+          let all = first_none (asked t) (asked a ∷ asked b ∷ []) (sym (fold-Mux _ _ (ask_kind facts rule k) ask_level p t a b) ∙ n) in
+          let both = none_of_two (asked a) (asked b) all.1 in
+          either (uses q t) (uses q a || uses q b) (sym (fold-Mux _ _ (uses_in_kind q) uses_in_level p t a b) ∙ u)
+          (λ y. f y all.0)
+          (λ y. either (uses q a) (uses q b) y (λ z. h z both.0) (λ z. g z both.1));
+      concat = λ p es hs u n. some_asked es hs (sym (fold-Concat _ _ (uses_in_kind q) uses_in_level p es) ∙ u) (sym (fold-Concat _ _ (ask_kind facts rule k) ask_level p es) ∙ n);
+      slice = λ p a hi lo h u n. h (sym (fold-Slice _ _ (uses_in_kind q) uses_in_level p a hi lo) ∙ u) (sym (fold-Slice _ _ (ask_kind facts rule k) ask_level p a hi lo) ∙ n);
+      zext = λ p a w h u n. h (sym (fold-Zext _ _ (uses_in_kind q) uses_in_level p a w) ∙ u) (sym (fold-Zext _ _ (ask_kind facts rule k) ask_level p a w) ∙ n);
+      sext = λ p a w h u n. h (sym (fold-Sext _ _ (uses_in_kind q) uses_in_level p a w) ∙ u) (sym (fold-Sext _ _ (ask_kind facts rule k) ask_level p a w) ∙ n);
+      call = λ p name es hs u n. some_asked es hs (sym (fold-Call _ _ (uses_in_kind q) uses_in_level p name es) ∙ u) (sym (fold-Call _ _ (ask_kind facts rule k) ask_level p name es) ∙ n);
+    })
+
+  -- environments that give the same value to each name without an answer, and to each call
+  module _ (a b : Env) (names : (q : List ℕ) (at : Place) → ask_name facts rule k q at ≡ None → a.names q ≡ b.names q) (calls : (q : List ℕ) (args : List Word) → a.calls q args ≡ b.calls q args) where
+    abbrev Same : Expr → Type 0
+    Same e = asked e ≡ None → eval a e ≡ eval b e
+
+    all_same : (es : List Expr) → Every Same es → first (map asked es) ≡ None → map (eval a) es ≡ map (eval b) es
+    all_same [] hs n = refl
+    all_same (e ∷ es) hs n =
+        let both = first_none (asked e) (map asked es) n in
+        λ i. hs.0 both.0 i ∷ all_same es hs.1 both.1 i
+
+    pub same_value : (e : Expr) → Same e
+    same_value = induction Same (record {
+      literal = λ p l n. fold-Lit _ _ (value_of_kind a) value_of_level p l ∙ sym (fold-Lit _ _ (value_of_kind b) value_of_level p l);
+      name = λ p q n.
+          fold-Name _ _ (value_of_kind a) value_of_level p q
+          ∙ names q p (sym (fold-Name _ _ (ask_kind facts rule k) ask_level p q) ∙ n)
+          ∙ sym (fold-Name _ _ (value_of_kind b) value_of_level p q);
+      not_ = λ p x h n.
+          fold-Not _ _ (value_of_kind a) value_of_level p x ∙ ap not_of (h (sym (fold-Not _ _ (ask_kind facts rule k) ask_level p x) ∙ n))
+          ∙ sym (fold-Not _ _ (value_of_kind b) value_of_level p x);
+      binary = λ p op x y h g n.
+          let both = none_of_two (asked x) (asked y) (sym (fold-Binary _ _ (ask_kind facts rule k) ask_level p op x y) ∙ n) in
+          fold-Binary _ _ (value_of_kind a) value_of_level p op x y ∙ (λ i. binary_of op (h both.0 i) (g both.1 i))
+          ∙ sym (fold-Binary _ _ (value_of_kind b) value_of_level p op x y);
+      mux = λ p t x y f h g n.
+          let all = first_none (asked t) (asked x ∷ asked y ∷ []) (sym (fold-Mux _ _ (ask_kind facts rule k) ask_level p t x y) ∙ n) in
+          let both = none_of_two (asked x) (asked y) all.1 in
+          fold-Mux _ _ (value_of_kind a) value_of_level p t x y ∙ (λ i. mux_of (f all.0 i) (h both.0 i) (g both.1 i))
+          ∙ sym (fold-Mux _ _ (value_of_kind b) value_of_level p t x y);
+      concat = λ p es hs n.
+          fold-Concat _ _ (value_of_kind a) value_of_level p es
+          ∙ ap joined_of (all_same es hs (sym (fold-Concat _ _ (ask_kind facts rule k) ask_level p es) ∙ n))
+          ∙ sym (fold-Concat _ _ (value_of_kind b) value_of_level p es);
+      slice = λ p x hi lo h n.
+          fold-Slice _ _ (value_of_kind a) value_of_level p x hi lo
+          ∙ ap (λ (z : Word). slice_of z hi lo) (h (sym (fold-Slice _ _ (ask_kind facts rule k) ask_level p x hi lo) ∙ n))
+          ∙ sym (fold-Slice _ _ (value_of_kind b) value_of_level p x hi lo);
+      zext = λ p x w h n.
+          fold-Zext _ _ (value_of_kind a) value_of_level p x w
+          ∙ ap (λ (z : Word). zext_of z w.value) (h (sym (fold-Zext _ _ (ask_kind facts rule k) ask_level p x w) ∙ n))
+          ∙ sym (fold-Zext _ _ (value_of_kind b) value_of_level p x w);
+      sext = λ p x w h n.
+          fold-Sext _ _ (value_of_kind a) value_of_level p x w
+          ∙ ap (λ (z : Word). sext_of z w.value) (h (sym (fold-Sext _ _ (ask_kind facts rule k) ask_level p x w) ∙ n))
+          ∙ sym (fold-Sext _ _ (value_of_kind b) value_of_level p x w);
+      call = λ p q es hs n.
+          fold-Call _ _ (value_of_kind a) value_of_level p q es
+          ∙ ap (a.calls q) (all_same es hs (sym (fold-Call _ _ (ask_kind facts rule k) ask_level p q es) ∙ n))
+          ∙ calls q (map (eval b) es)
+          ∙ sym (fold-Call _ _ (value_of_kind b) value_of_level p q es);
+    })
+
+  -- the expressions of a statement
+  none_append : (xs ys : List Expr) → first (map asked xs) ≡ None → first (map asked ys) ≡ None → first (map asked (xs ++ ys)) ≡ None
+  none_append [] ys e f = f
+  none_append (x ∷ xs) ys e f =
+      let both = first_none (asked x) (map asked xs) e in
+      ap (λ o. first (o ∷ map asked (xs ++ ys))) both.0 ∙ none_append xs ys both.1 f
+
+  none_listed : (o : Option Expr) → ask_option facts rule k o ≡ None → first (map asked (listed o)) ≡ None
+  none_listed None e = refl
+  none_listed (Some x) e = ap (λ o. first (o ∷ [])) e
+
+  pub plain_asked : (s : StmtKind) → ask_values facts rule k s ≡ None → first (map asked (plain_in s)) ≡ None
+  plain_asked (stmts.Read r) e =
+      let both = none_of_two (ask_option facts rule k r.address) (ask_option facts rule k r.when) e in
+      none_append (listed r.address) (listed r.when) (none_listed r.address both.0) (none_listed r.when both.1)
+  plain_asked (stmts.Let n x) e = ap (λ o. first (o ∷ [])) e
+  plain_asked (stmts.Put n x) e = ap (λ o. first (o ∷ [])) e
+  plain_asked (stmts.Set n x when) e =
+      let both = none_of_two (asked x) (ask_option facts rule k when) e in
+      ap (λ o. first (o ∷ map asked (listed when))) both.0 ∙ none_listed when both.1
+  plain_asked (stmts.Aim n x) e = refl
+
+  guessed_asked : (s : StmtKind) → ask_guesses facts rule k s ≡ None → first (map asked (guessed_in s)) ≡ None
+  guessed_asked (stmts.Read r) e = none_listed r.guess e
+  guessed_asked (stmts.Let n x) e = refl
+  guessed_asked (stmts.Put n x) e = refl
+  guessed_asked (stmts.Set n x when) e = refl
+  guessed_asked (stmts.Aim n x) e = ap (λ o. first (o ∷ [])) e
+
+  pub exprs_asked : (s : StmtKind) → first (ask_values facts rule k s ∷ ask_guesses facts rule k s ∷ []) ≡ None → first (map asked (exprs_in s)) ≡ None
+  exprs_asked s e =
+      let both = none_of_two (ask_values facts rule k s) (ask_guesses facts rule k s) e in
+      none_append (plain_in s) (guessed_in s) (plain_asked s both.0) (guessed_asked s both.1)
+
+  none_at : (es : List Expr) (e : Expr) (i : ℕ) → i < length es → get_or es i e ≡ e → first (map asked es) ≡ None → asked e ≡ None
+  none_at [] e i l is n = absurd (omega arith)
+  none_at (x ∷ es) e zero l is n = subst (λ y. asked y ≡ None) is (first_none (asked x) (map asked es) n).0
+  none_at (x ∷ es) e (suc i) l is n = none_at es e i (omega arith) is (first_none (asked x) (map asked es) n).1
+
+  -- each of them
+  pub one_asked : (es : List Expr) (e : Expr) → Contains es e → first (map asked es) ≡ None → asked e ≡ None
+  one_asked es e c n = none_at es e c.0 c.1 c.2 n
