@@ -27,17 +27,3 @@ number_tells [] a b h e = absurd (omega arith)
 number_tells (s ∷ ss) a b h e =
     here_or_later (is_same_name a s.name) (is_same_name b s.name) (number_of ss a) (number_of ss b) (length ss)
     (λ x y. same_name a s.name x ∙ sym (same_name b s.name y)) (number_tells ss a b) h e
-
-front : (b : Bool) (n k : ℕ) → b ≡ true → cond b 0 (suc n) < suc k
-front true n k e = omega arith
-front false n k e = cc
-
-pub in_front : (s : Slot) (ss : List Slot) → IsIn (s ∷ ss) s.name
-in_front s ss = front (is_same_name s.name s.name) (number_of ss s.name) (length ss) (is_same s.name s.name refl)
-
-later : (b : Bool) (n k : ℕ) → n < k → cond b 0 (suc n) < suc k
-later true n k h = omega arith
-later false n k h = omega arith
-
-pub in_rest : (s : Slot) (ss : List Slot) (name : List ℕ) → IsIn ss name → IsIn (s ∷ ss) name
-in_rest s ss name h = later (is_same_name name s.name) (number_of ss name) (length ss) h

@@ -10,11 +10,8 @@ use Rattle.kp_ast.specs.declared.tree.Decl.TheVariants as decls
 use Rattle.kp_stage.specs.Facts.{results_of, stage_at, write_at, less, least, written_of}
 use Rattle.kp_stage.specs.Rules.{holds_of}
 use Rattle.kp_machine.specs.Slots.{Slot, number_of, result_named, result_to}
+use Rattle.kp_machine.proofs.Cases.{by_test}
 use Rattle.kp_machine.proofs.Names.{IsIn, same_name, is_same, number_tells}
-
-pub by_test : {G : Type 0} (b : Bool) → (b ≡ true → G) → (b ≡ false → G) → G
-by_test true then_so else_so = then_so refl
-by_test false then_so else_so = else_so refl
 
 -- a result stands among the declarations
 pub record Stands (ds : List Decl) (r : ResultDecl) : Type 0 where

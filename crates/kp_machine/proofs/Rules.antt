@@ -6,9 +6,15 @@ use Rattle.kp_base.specs.Check.{Answer}
 use Rattle.kp_ast.specs.declared.tree.Decl.{Decl}
 use Rattle.kp_ast.specs.declared.tree.Block.{Block}
 use Rattle.kp_ast.specs.declared.tree.Job.{Job}
-use Rattle.kp_stage.specs.Facts.{Facts, stmts_in}
+use Rattle.kp_stage.specs.Facts.{Facts, facts_of, stmts_in}
 use Rattle.kp_stage.specs.Rules.{ask_head, ask_decl, ask_decls, ask_block, ask_stmts, ask_in_block, ask_blocks, broken_at, broken_by, all_rules}
+use Rattle.kp_stage.specs.Stages.{broken_of}
 use Rattle.kp_stage.proofs.Unbroken.{first_none}
+
+-- no rule is broken where no answer is given
+pub rules_kept : (job : Job) → broken_of job ≡ None → broken_by (facts_of job) job ≡ None
+unfolding broken_of
+rules_kept job e = (first_none _ _ e).0
 
 none_at : (xs : List Answer) (n : ℕ) (a : Answer) → first xs ≡ None → slice_get xs n ≡ Some a → a ≡ None
 none_at [] n a e at = cc

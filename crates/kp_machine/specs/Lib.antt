@@ -1,4 +1,3 @@
 pub mod Slots
 pub mod Trees
 pub mod Machine
-pub mod Examples

@@ -1,5 +1,5 @@
--- THE MACHINE OF A JOB: the abstract machine that its declarations and blocks describe, with its start state and its inputs.
-use Rattle.std.specs.Prelude.{ℕ, zero, suc, ◌-◌, max, List, [], ◌∷◌, length, take, Option, Some, None, Bool, true, is_some, ◌==◌, slice_get, slice_index, if◌then◌else◌}
+-- The machine of a job: the abstract machine that its declarations and blocks describe, with its start state and its inputs.
+use Rattle.std.specs.Prelude.{ℕ, zero, suc, ◌-◌, max, List, [], ◌∷◌, length, take, Option, Some, None, Bool, true, is_some, ◌==◌, get_or, map, slice_get, slice_index, if◌then◌else◌}
 use Rattle.std.specs.List.{filter}
 use Rattle.kp_bits.specs.Word.{Word}
 use Rattle.kp_ast.specs.declared.tree.Named.{Named}
@@ -8,19 +8,18 @@ use Rattle.kp_ast.specs.declared.tree.Decl.{Decl}
 use Rattle.kp_ast.specs.declared.tree.Decl.TheVariants as decls
 use Rattle.kp_ast.specs.declared.tree.Job.{Job}
 use Rattle.kp_stage.specs.Facts.{At, Facts, facts_of, stmts_in}
-use Rattle.kp_stage.specs.Start.{start_of, is_stalled, stalls_of}
+use Rattle.kp_stage.specs.Start.{start_of, is_stalled, stalls_of, input}
 use Rattle.kp_stage.specs.declared.start.Start.{Start}
 use Rattle.kp_law.specs.Machine.{Machine, Tree}
 use Rattle.kp_law.specs.Pipeline.{Inputs}
-use Rattle.kp_law.specs.Rows.{Trace, pipe}
+use Rattle.kp_law.specs.Rows.{Trace, pipe, taken}
 use Rattle.kp_law.specs.Sequential.{seq}
-use Rattle.kp_law.specs.Timeline.{no_samples}
-use Rattle.kp_machine.specs.Slots.{Slot, targets_of, pipes_of, hints_of, number_of, is_register, result_to}
+use Rattle.kp_machine.specs.Slots.{Slot, targets_of, pipes_of, hints_of, sample_stages, number_of, is_register, result_to}
 use Rattle.kp_machine.specs.Trees.{entered, tree_of}
 
--- What stage k does, over the values of the pipes.
-unfoldable pub stage_tree : Job → ℕ → (ℕ → ℕ) → Tree
-stage_tree job k pipes = tree_of job.decls (entered job.decls pipes) (stmts_in (slice_get job.blocks k))
+-- What stage k does, over the values of the samples and of the pipes.
+unfoldable pub stage_tree : Job → ℕ → (ℕ → ℕ) → (ℕ → ℕ) → Tree
+stage_tree job k samples pipes = tree_of job.decls (entered job.decls samples pipes) (stmts_in (slice_get job.blocks k))
 
 -- The result of a target: the first that names it.
 unfoldable pub result_for : Job → ℕ → Option ResultDecl
@@ -75,12 +74,12 @@ abbrev pub aim_stage : Facts → Option Slot → ℕ
 aim_stage facts None = 0
 aim_stage facts (Some hint) = stage_or_zero (facts.aim hint.name)
 
--- The machine of a job. The language has no samples yet: no stage looks at one.
+-- The machine of a job. No stage looks at a sample that isn't declared.
 unfoldable pub machine_of : Job → Machine
 machine_of job = record {
   stages = job.stages.value;
-  body = λ k samples pipes. stage_tree job k pipes;
-  sample_stage = λ x. job.stages.value;
+  body = λ k samples pipes. stage_tree job k samples pipes;
+  sample_stage = λ x. get_or (sample_stages job.decls) x job.stages.value;
   hint_stage = λ h. aim_stage (facts_of job) (slice_get (hints_of job.decls) h);
   has_result = λ t. is_some (result_for job t);
   write_stage = λ t. write_stage_of (result_for job t);
@@ -130,19 +129,28 @@ hint_starts (_ ∷ ds) = hint_starts ds
 abbrev pub start_hints : Job → ℕ → ℕ
 start_hints job h = slice_index (hint_starts job.decls) h
 
--- What comes from outside in a cycle: the stalls section gives the stall word.
-abbrev pub stall_inputs : Job → ℕ → Inputs
-stall_inputs job cycle = record { ext = λ k. is_stalled (stalls_of job) k cycle; samples = λ x. 0 }
+-- The values of the samples in a row of words, and 0 past its end.
+abbrev pub values_in : List Word → ℕ → ℕ
+values_in row x = slice_index (map (λ w. w.value) row) x
+
+-- What comes from outside in a cycle: the stalls section gives the stall word, and the inputs section the values of the samples.
+abbrev pub inputs_at : Job → ℕ → Inputs
+inputs_at job cycle = record { ext = λ k. is_stalled (stalls_of job) k cycle; samples = values_in (input job cycle) }
 
 -- The inputs of so many cycles from this one on.
 abbrev pub inputs_from : Job → ℕ → ℕ → List Inputs
 inputs_from job cycle zero = []
-inputs_from job cycle (suc n) = stall_inputs job cycle ∷ inputs_from job (suc cycle) n
+inputs_from job cycle (suc n) = inputs_at job cycle ∷ inputs_from job (suc cycle) n
 
--- The state of the sequential machine of a job after i instructions.
-abbrev pub sequential : Job → ℕ → ℕ → ℕ → ℕ
-sequential job i = seq (machine_of job) (state_of job (start_of job)) no_samples i
+-- The state of the sequential machine of a job after i instructions, of which instruction j is given the sample values `given j`.
+abbrev pub sequential : Job → (ℕ → ℕ → ℕ) → ℕ → ℕ → ℕ → ℕ
+sequential job given i = seq (machine_of job) (state_of job (start_of job)) given i
 
 -- The run of the pipelined machine of a job with these inputs.
 abbrev pub pipe_of : Job → List Inputs → Trace
 pipe_of job inputs = pipe (machine_of job) (state_of job (start_of job)) (start_hints job) inputs
+
+-- What its instructions take of the samples in that run, `taken_of job inputs i x` for instruction i and sample x: the value that the
+-- sample has in the cycle in which the instruction leaves the sample's stage.
+abbrev pub taken_of : Job → List Inputs → ℕ → ℕ → ℕ
+taken_of job inputs = taken (machine_of job) inputs (pipe_of job inputs).rows

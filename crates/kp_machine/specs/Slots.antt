@@ -1,5 +1,5 @@
--- WHAT HOLDS VALUES in a job: its targets, which are the registers and the files together, its pipes and its hints. The entries
--- of each list are numbered from 0 in the order of declaration.
+-- What holds values in a job: its targets, which are the registers and the files together, its pipes, its hints and its samples. The
+-- entries of each list are numbered from 0 in the order of declaration.
 use Rattle.std.specs.Prelude.{ℕ, suc, List, [], ◌∷◌, Option, Some, None, Bool, ◌==◌, if◌then◌else◌}
 use Rattle.kp_bits.specs.Word.{word}
 use Rattle.kp_ast.specs.Expressions.{Values, is_same_name}
@@ -33,6 +33,17 @@ abbrev pub hints_of : List Decl → List Slot
 hints_of [] = []
 hints_of (decls.Hint n width start ∷ ds) = slot n width 0 ∷ hints_of ds
 hints_of (_ ∷ ds) = hints_of ds
+
+abbrev pub samples_of : List Decl → List Slot
+samples_of [] = []
+samples_of (decls.Sample n width stage ∷ ds) = slot n width 0 ∷ samples_of ds
+samples_of (_ ∷ ds) = samples_of ds
+
+-- The stages of the samples.
+abbrev pub sample_stages : List Decl → List ℕ
+sample_stages [] = []
+sample_stages (decls.Sample n width stage ∷ ds) = stage.value ∷ sample_stages ds
+sample_stages (_ ∷ ds) = sample_stages ds
 
 -- The number of a name is that of the first entry that has it. A name that no entry has gets the number of entries.
 abbrev pub number_of : List Slot → List ℕ → ℕ

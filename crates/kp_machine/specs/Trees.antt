@@ -1,7 +1,8 @@
--- WHAT A STAGE DOES, as a tree: its reads one after another, and at the end what it puts, sets and aims.
+-- What a stage does, as a tree: its reads one after another, and at the end what it puts, sets and aims.
 --
 -- The statements of the block are gone through in text order. A name has the value that a read or a let of the stage gave it, or it
--- is a pipe, which has the value that it had when the instruction entered the stage. In a guess and an aim, it may be a hint too.
+-- is a pipe, which has the value that it had when the instruction entered the stage, or a sample, which has the value that is given.
+-- In a guess and an aim, it may be a hint too.
 -- No name is declared twice where it is in scope, so it doesn't matter which of these is looked at first.
 use Rattle.std.specs.Prelude.{ℕ, List, [], ◌∷◌, ◌++◌, Option, Some, None, Bool, true, ◌==◌, if◌then◌else◌}
 use Rattle.kp_bits.specs.Word.{Word, word}
@@ -15,19 +16,24 @@ use Rattle.kp_ast.specs.declared.tree.StmtKind.{StmtKind}
 use Rattle.kp_ast.specs.declared.tree.StmtKind.TheVariants as stmts
 use Rattle.kp_law.specs.Machine.{Tree, Done, Ask, Guess}
 use Rattle.kp_law.specs.Sequential.{first_value}
-use Rattle.kp_machine.specs.Slots.{targets_of, pipes_of, hints_of, number_of, width_of, words_of, result_named}
+use Rattle.kp_machine.specs.Slots.{targets_of, pipes_of, hints_of, samples_of, number_of, width_of, words_of, result_named}
 
--- What the statements so far have done: the names that have values (the pipes, and then those of the reads and lets), and what was
--- put, set and aimed, by number. What is aimed depends on the values of the hints.
+-- What the statements so far have done: the names that have values (the pipes, the samples, and then those of the reads and lets),
+-- and what was put, set and aimed, by number. What is aimed depends on the values of the hints.
 pub record Progress : Type 0 where
   pub names : Values
   pub puts : ℕ → Option ℕ
   pub sets : ℕ → Option ℕ
   pub aims : (ℕ → ℕ) → ℕ → Option ℕ
 
--- Nothing is done yet, and the pipes have these values.
-abbrev pub entered : List Decl → (ℕ → ℕ) → Progress
-entered ds pipes = record { names = words_of (pipes_of ds) pipes; puts = λ p. None; sets = λ t. None; aims = λ hints h. None }
+-- Nothing is done yet, and the samples and the pipes have these values.
+abbrev pub entered : List Decl → (ℕ → ℕ) → (ℕ → ℕ) → Progress
+entered ds samples pipes = record {
+  names = words_of (pipes_of ds) pipes ++ words_of (samples_of ds) samples;
+  puts = λ p. None;
+  sets = λ t. None;
+  aims = λ hints h. None;
+}
 
 -- The value of an expression of the stage, and that of one that may use the hints.
 abbrev pub word_of : List Decl → Progress → Expr → Word

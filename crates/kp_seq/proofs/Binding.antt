@@ -1,20 +1,13 @@
--- A name that gets its value: in the list of values by places, and at the end of the list of names that have values.
-use Rattle.std.proofs.Common.{◌≡◌, ◌≢◌, ◌∙◌, ℕ, ◌<◌, List, [], ◌∷◌, ◌++◌, Option, Some, None, Bool, true, false, cond, get_or, set, length, refl, ap, sym}
+-- A name that gets its value, in the list of values by places.
+use Rattle.std.proofs.Common.{◌≡◌, ◌≢◌, ◌∙◌, ℕ, ◌<◌, List, [], Option, Some, None, true, false, cond, get_or, set, length, ap, sym}
 use Rattle.std.specs.List.{position}
 use Rattle.std.specs.Cmp.Lexicographic.{bytes_decides}
 use Rattle.std.proofs.lemmas.List.{get_or-set_same, get_or-set_other}
 use Rattle.std.proofs.lemmas.List.Quantifiers.{position-Some}
 use Rattle.kp_bits.specs.Word.{Word}
-use Rattle.kp_ast.specs.Expressions.{Values, is_same_name, look_up}
-use Rattle.kp_seq.specs.Names.{at_place, held, set_place, bound}
-
-by_test : {G : Type 0} (b : Bool) → (b ≡ true → G) → (b ≡ false → G) → G
-by_test true then_so else_so = then_so refl
-by_test false then_so else_so = else_so refl
-
-by_option : {X G : Type 0} (o : Option X) → (o ≡ None → G) → ((x : X) → o ≡ Some x → G) → G
-by_option None none some = none refl
-by_option (Some x) none some = some x refl
+use Rattle.kp_ast.specs.Expressions.{is_same_name}
+use Rattle.kp_machine.proofs.Cases.{by_test, by_option}
+use Rattle.kp_seq.specs.inner.Names.{at_place, held, set_place, bound}
 
 module _ (keys : List (List ℕ)) (vs : List (Option Word)) (n : List ℕ) (w : Word) (i : ℕ) (is : position (is_same_name n) keys ≡ Some i) (inside : i < length vs) where
   bound_is : bound keys vs n w ≡ set vs i (Some w)
@@ -44,23 +37,3 @@ module _ (keys : List (List ℕ)) (vs : List (Option Word)) (n : List ℕ) (w : 
       let e : q ≡ n = (bytes_decides q n).0 y in
       ap (λ x. held keys (bound keys vs n w) x) e ∙ held_same ∙ sym (ap (λ b. cond b (Some w) (held keys vs q)) y))
       (λ y. held_other q y ∙ sym (ap (λ b. cond b (Some w) (held keys vs q)) y))
-
--- a new name at the end
-pub look_up_end : (names : Values) (n q : List ℕ) (w : Word) → look_up names n ≡ None → look_up (names ++ (n, w) ∷ []) q ≡ cond (is_same_name q n) (Some w) (look_up names q)
-look_up_end [] n q w none = refl
-look_up_end ((k, v) ∷ names) n q w none = by_test (is_same_name n k)
-    (λ y. let f : Some v ≡ None = sym (ap (λ b. cond b (Some v) (look_up names n)) y) ∙ none in cc)
-    (λ y.
-    let rest : look_up names n ≡ None = sym (ap (λ b. cond b (Some v) (look_up names n)) y) ∙ none in
-    by_test (is_same_name q k)
-    (λ z.
-    let e : q ≡ k = (bytes_decides q k).0 z in
-    let m : is_same_name q n ≡ false = by_test (is_same_name q n)
-    (λ t. let s : n ≡ k = sym ((bytes_decides q n).0 t) ∙ e in let f : is_same_name n k ≡ true = (bytes_decides n k).1 s in let g : true ≡ false = sym f ∙ y in cc)
-    (λ t. t) in
-    ap (λ b. cond b (Some v) (look_up (names ++ (n, w) ∷ []) q)) z
-    ∙ sym (ap (λ b. cond b (Some w) (look_up ((k, v) ∷ names) q)) m ∙ ap (λ b. cond b (Some v) (look_up names q)) z))
-    (λ z.
-    ap (λ b. cond b (Some v) (look_up (names ++ (n, w) ∷ []) q)) z
-    ∙ look_up_end names n q w rest
-    ∙ ap (cond (is_same_name q n) (Some w)) (sym (ap (λ b. cond b (Some v) (look_up names q)) z))))

@@ -29,15 +29,15 @@ use Rattle.kp_machine.specs.Slots.{targets_of, result_named}
 use Rattle.kp_machine.specs.Trees.{Progress}
 use Rattle.kp_machine.specs.Trees as trees
 use Rattle.kp_seq.specs.Running.{state_in}
-use Rattle.kp_seq.specs.Names.{held}
-use Rattle.kp_seq.specs.Tables.{Laid}
-use Rattle.kp_seq.specs.Steps.{Under, holds, word_in, with_result, after_stmt, after_stmts}
-use Rattle.kp_seq.specs.Ready.{AreTables, FitSlots}
+use Rattle.kp_seq.specs.inner.Names.{held}
+use Rattle.kp_seq.specs.inner.Tables.{Laid}
+use Rattle.kp_seq.specs.inner.Steps.{Under, holds, word_in, with_result, after_stmt, after_stmts}
+use Rattle.kp_seq.specs.inner.Ready.{AreTables, FitSlots}
 use Rattle.kp_seq.proofs.Lengths.{stmt_same}
-use Rattle.kp_seq.proofs.Scopes.{fresh_none, look_last}
+use Rattle.kp_machine.proofs.Scopes.{fresh_none, look_last, find_none}
 use Rattle.kp_seq.proofs.Stage.{Named}
 use Rattle.kp_seq.proofs.Trees.{next, nexts}
-use Rattle.kp_seq.proofs.Turns.{find_none, holds_same, let_turn}
+use Rattle.kp_seq.proofs.Turns.{holds_same, let_turn}
 use Rattle.kp_seq.proofs.Gives.{Lists, put_turn, set_turn}
 use Rattle.kp_seq.proofs.Reading.{read_turn}
 

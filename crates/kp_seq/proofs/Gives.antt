@@ -1,17 +1,14 @@
 -- A put and a set: what they change in the lists is what they change in the abstract machine, and values keep their widths.
-use Rattle.std.proofs.Common.{◌≡◌, ◌∙◌, ℕ, suc, ◌^◌, ◌<◌, List, [], ◌∷◌, Option, Some, None, Bool, true, false, cond, length, get_or, refl, ap, sym, subst, arith}
+use Rattle.std.proofs.Common.{◌≡◌, ◌∙◌, ℕ, ◌^◌, ◌<◌, List, Option, Some, None, true, cond, length, get_or, refl, ap, sym, subst, arith}
 use Rattle.std.specs.Prelude.{is_some, slice_get, slice_index, unwrap_or, ◌==◌}
 use Rattle.std.proofs.lemmas.Bool.{eqb-true}
 use Rattle.std.proofs.lemmas.List.{length-set}
 use Rattle.kp_bits.specs.Word.{Word}
-use Rattle.kp_ast.specs.Expressions.{is_same_name}
 use Rattle.kp_ast.specs.declared.tree.Expr.{Expr}
 use Rattle.kp_ast.specs.declared.tree.Named as tree
 use Rattle.kp_ast.specs.declared.tree.ResultDecl.{ResultDecl}
 use Rattle.kp_ast.specs.declared.tree.Decl.{Decl}
 use Rattle.kp_ast.specs.declared.tree.Job.{Job}
-use Rattle.kp_ast.specs.declared.widths.NameKind.{NameKind}
-use Rattle.kp_ast.specs.declared.widths.NameKind.TheVariants as kinds
 use Rattle.kp_width.specs.Names.{Sense, Names, Scoped, nothing, look_up, find, used, is_pipe, is_result}
 use Rattle.kp_width.specs.Expressions.{part_of, value_of}
 use Rattle.kp_width.specs.Declarations.{address_width}
@@ -25,51 +22,15 @@ use Rattle.kp_machine.specs.Slots.{Slot, targets_of, pipes_of, number_of, width_
 use Rattle.kp_machine.specs.Trees.{Progress, with_value, with_put, with_set}
 use Rattle.kp_machine.specs.Trees as trees
 use Rattle.kp_machine.proofs.Results.{named_stands}
-use Rattle.kp_seq.specs.Tables.{Laid}
-use Rattle.kp_seq.specs.Steps.{Under, word_in, with_pipe, with_first, with_result}
-use Rattle.kp_seq.specs.Ready.{AreTables}
-use Rattle.kp_seq.proofs.Scopes.{IsSlot, found_sense, results_fit, storage_kind}
-use Rattle.kp_seq.proofs.Stage.{Named, text, placed, declared_right, is_local, found_where}
+use Rattle.kp_seq.specs.inner.Tables.{Laid}
+use Rattle.kp_seq.specs.inner.Steps.{Under, word_in, with_pipe, with_first, with_result}
+use Rattle.kp_seq.specs.inner.Ready.{AreTables}
+use Rattle.kp_machine.proofs.Scopes.{IsSlot, number_slot, found_sense, results_fit, storage_kind}
+use Rattle.kp_machine.proofs.Cases.{by_test}
+use Rattle.kp_machine.proofs.Text.{text, placed, declared_right, local_no, found_where}
+use Rattle.kp_seq.proofs.Stage.{Named}
 use Rattle.kp_seq.proofs.Changes.{set_seen, put_same, set_same}
 use Rattle.kp_seq.proofs.Turns.{given_fits}
-
-by_test : {G : Type 0} (b : Bool) → (b ≡ true → G) → (b ≡ false → G) → G
-by_test true then_so else_so = then_so refl
-by_test false then_so else_so = else_so refl
-
--- the entry of a name is the one of its number
-number_slot : (ss : List Slot) (q : List ℕ) (x : Slot) → slice_get ss (number_of ss q) ≡ Some x → x.width ≡ width_of ss q
-number_slot [] q x e = cc
-number_slot (s ∷ ss) q x e = by_test (is_same_name q s.name)
-    (λ y.
-    let f : Some s ≡ Some x = sym (ap (λ b. slice_get (s ∷ ss) (cond b 0 (suc (number_of ss q)))) y) ∙ e in
-    let g : s ≡ x = cc in
-    ap (λ (z : Slot). z.width) (sym g) ∙ sym (ap (λ b. cond b s.width (width_of ss q)) y))
-    (λ y.
-    number_slot ss q x (sym (ap (λ b. slice_get (s ∷ ss) (cond b 0 (suc (number_of ss q)))) y) ∙ e)
-    ∙ sym (ap (λ b. cond b s.width (width_of ss q)) y))
-
-local_no_pipe : {G : Type 0} (kind : NameKind) → is_local kind ≡ true → is_pipe kind ≡ true → G
-local_no_pipe kinds.Read e f = cc
-local_no_pipe kinds.Let e f = cc
-local_no_pipe kinds.Pipe e f = cc
-local_no_pipe kinds.Hint e f = cc
-local_no_pipe kinds.Reg e f = cc
-local_no_pipe (kinds.File a) e f = cc
-local_no_pipe kinds.Target e f = cc
-local_no_pipe kinds.Func e f = cc
-local_no_pipe kinds.Param e f = cc
-
-local_no_result : {G : Type 0} (kind : NameKind) → is_local kind ≡ true → is_result kind ≡ true → G
-local_no_result kinds.Read e f = cc
-local_no_result kinds.Let e f = cc
-local_no_result kinds.Pipe e f = cc
-local_no_result kinds.Hint e f = cc
-local_no_result kinds.Reg e f = cc
-local_no_result (kinds.File a) e f = cc
-local_no_result kinds.Target e f = cc
-local_no_result kinds.Func e f = cc
-local_no_result kinds.Param e f = cc
 
 first_fits : (o : Option ℕ) (v b w : ℕ) → v < 2 ^ w → ((x : ℕ) → o ≡ Some x → x < 2 ^ w) → first_value o (Some v) ≡ Some b → b < 2 ^ w
 first_fits None v b w h old e = let i : v ≡ b = cc in subst (λ z. z < 2 ^ w) i h
@@ -86,7 +47,7 @@ pub record Lists (ds : List Decl) (c : Instruction) (done : Progress) (u : Under
 
 module _ (job : Job) (unbroken : Unbroken (widths_of job)) (t : Laid) (tables : AreTables job t) (rule : _) (is25 : slice_get all_rules 10 ≡ Some rule) (k : ℕ) (s : Scoped) (done : Progress) (u : Under) (now : Named job unbroken t tables rule is25 k s done u) (c : Instruction) (lists : Lists job.decls c done u) where
   abbrev text_names : Names
-  text_names = text job unbroken t tables rule is25
+  text_names = text job unbroken
 
   of_text : (q : List ℕ) (m : Sense) → look_up s.text q ≡ Some m → look_up text_names q ≡ Some m
   of_text q m e = ap (λ (names : Names). look_up names q) (sym now.of_text) ∙ e
@@ -99,8 +60,8 @@ module _ (job : Job) (unbroken : Unbroken (widths_of job)) (t : Laid) (tables : 
       let f = found_sense is_pipe n.at (find s n.name) x.0 in
       let g = given_fits job unbroken t tables rule is25 k s done u now e (used s is_pipe n.name n.at).value.width free x.1 in
       let at : IsSlot (pipes_of job.decls) n.name f.0.width 0 = found_where s n.name f.0 f.1
-      (λ l. local_no_pipe f.0.kind (now.locals n.name f.0 l) f.2)
-      (λ none z. (placed job unbroken t tables rule is25 n.name f.0 (of_text n.name f.0 z)).pipe f.2) in
+      (λ l. local_no is_pipe refl refl f.0.kind (now.locals n.name f.0 l) f.2)
+      (λ none z. (placed job unbroken n.name f.0 (of_text n.name f.0 z)).pipe f.2) in
       let p : ℕ = number_of (pipes_of job.decls) n.name in
       let v : ℕ = trees.value_of job.decls done e in
       let w : f.0.width ≡ (used s is_pipe n.name n.at).value.width = ap (λ (m : Sense). m.width) f.3 in
@@ -114,7 +75,7 @@ module _ (job : Job) (unbroken : Unbroken (widths_of job)) (t : Laid) (tables : 
         pipe_fits = λ i y is. subst (λ b. b < 2 ^ y.width) (sym (set_seen u.pipes p v 0 i inside))
             (by_test (i == p)
             (λ yes. let j : i ≡ p = eqb-true i p yes in
-            let wy : y.width ≡ width_of (pipes_of job.decls) n.name = number_slot (pipes_of job.decls) n.name y (ap (slice_get (pipes_of job.decls)) (sym j) ∙ is) in
+            let wy : y.width ≡ width_of (pipes_of job.decls) n.name = number_slot (pipes_of job.decls) n.name y at.inside (ap (slice_get (pipes_of job.decls)) (sym j) ∙ is) in
             subst (λ b. cond b v (slice_index u.pipes i) < 2 ^ y.width) (sym yes) (subst (λ z. v < 2 ^ z) (sym wy) fits))
             (λ no_. subst (λ b. cond b v (slice_index u.pipes i) < 2 ^ y.width) (sym no_) (lists.pipe_fits i y is)));
         result_fits = lists.result_fits;
@@ -126,10 +87,10 @@ module _ (job : Job) (unbroken : Unbroken (widths_of job)) (t : Laid) (tables : 
   target_is : (n : List ℕ) (m : Sense) → look_up s.text n ≡ Some m → is_result m.kind ≡ true
       → (r : ResultDecl) × (result_named job.decls n ≡ Some r) × ((a : ℕ) × IsSlot (targets_of job.decls) r.target.name m.width a)
   target_is n m e h =
-      let p = (placed job unbroken t tables rule is25 n m (of_text n m e)).result h in
+      let p = (placed job unbroken n m (of_text n m e)).result h in
       let stands = (named_stands job.decls n p.0 p.1).0 in
-      let fit = results_fit job.decls 0 0 nothing job.decls refl (declared_right job unbroken t tables rule is25) stands.index p.0 stands.there in
-      let at = (placed job unbroken t tables rule is25 p.0.target.name fit.sense fit.found).target (storage_kind (is_some p.0.address) fit.sense.kind fit.stored) in
+      let fit = results_fit job.decls 0 0 nothing job.decls refl (declared_right job unbroken) stands.index p.0 stands.there in
+      let at = (placed job unbroken p.0.target.name fit.sense fit.found).target (storage_kind (is_some p.0.address) fit.sense.kind fit.stored) in
       (p.0, p.1, (address_width fit.sense.kind, subst (λ w. IsSlot (targets_of job.decls) p.0.target.name w (address_width fit.sense.kind)) (fit.width ∙ p.2) at))
 
   -- a result that is set, where its condition holds
@@ -140,7 +101,7 @@ module _ (job : Job) (unbroken : Unbroken (widths_of job)) (t : Laid) (tables : 
       let f = found_sense is_result n.at (find s n.name) x.0 in
       let g = given_fits job unbroken t tables rule is25 k s done u now e (used s is_result n.name n.at).value.width free x.1 in
       let r = found_where s n.name f.0 f.1
-      (λ l. local_no_result f.0.kind (now.locals n.name f.0 l) f.2)
+      (λ l. local_no is_result refl refl f.0.kind (now.locals n.name f.0 l) f.2)
       (λ none z. target_is n.name f.0 z f.2) in
       let p : ℕ = number_of (targets_of job.decls) r.0.target.name in
       let v : ℕ = trees.value_of job.decls done e in
@@ -153,7 +114,7 @@ module _ (job : Job) (unbroken : Unbroken (widths_of job)) (t : Laid) (tables : 
         pipe_fits = lists.pipe_fits;
         result_fits = λ i y b is held. by_test (i == p)
             (λ yes. let j : i ≡ p = eqb-true i p yes in
-            let wy : y.width ≡ width_of (targets_of job.decls) r.0.target.name = number_slot (targets_of job.decls) r.0.target.name y (ap (slice_get (targets_of job.decls)) (sym j) ∙ is) in
+            let wy : y.width ≡ width_of (targets_of job.decls) r.0.target.name = number_slot (targets_of job.decls) r.0.target.name y r.2.1.inside (ap (slice_get (targets_of job.decls)) (sym j) ∙ is) in
             let h : first_value (get_or u.results p None) (Some v) ≡ Some b =
             sym (ap (λ z. cond z (first_value (get_or u.results p None) (Some v)) (get_or u.results i None)) yes) ∙ sym (set_seen u.results p (first_value (get_or u.results p None) (Some v)) None i inside) ∙ held in
             first_fits (get_or u.results p None) v b y.width (subst (λ z. v < 2 ^ z) (sym wy) fits)

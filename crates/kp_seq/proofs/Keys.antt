@@ -1,9 +1,9 @@
 -- Each name that a job declares has a place in its tables.
-use Rattle.std.proofs.Common.{◌≡◌, ◌∙◌, ℕ, zero, suc, ◌+◌, ◌<◌, List, [], ◌∷◌, ◌++◌, Option, Some, None, Bool, true, false, cond, not, ◌||◌, nat_eq, length, refl, ap, sym, arith}
+use Rattle.std.proofs.Common.{◌≡◌, ◌∙◌, ℕ, zero, suc, ◌+◌, ◌<◌, List, [], ◌∷◌, ◌++◌, Some, None, Bool, true, false, cond, not, ◌||◌, nat_eq, length, refl, ap, sym, arith}
 use Rattle.std.specs.Prelude.{is_some, slice_get}
 use Rattle.std.specs.List.{list_any, flat_map, position, position_or_len}
 use Rattle.std.specs.Cmp.Lexicographic.{pointwise, bytes_decides}
-use Rattle.std.proofs.lemmas.Bool.{or_left, or_right, lt-ltb}
+use Rattle.std.proofs.lemmas.Bool.{cond_both, or_left, or_right, lt-ltb}
 use Rattle.std.proofs.lemmas.List.Folds.{list_any-append}
 use Rattle.indexmap.specs.IndexSet.{insert_key}
 use Rattle.kp_ast.specs.Expressions.{is_same_name}
@@ -18,10 +18,11 @@ use Rattle.kp_ast.specs.declared.tree.Job.{Job}
 use Rattle.kp_ast.specs.declared.widths.Entry.{Entry}
 use Rattle.kp_ast.specs.declared.widths.Scope.{Scope}
 use Rattle.kp_ast.specs.declared.widths.Scope.TheVariants as scopes
+use Rattle.kp_ast.specs.declared.widths.NameKind.{NameKind}
 use Rattle.kp_ast.specs.declared.widths.NameKind.TheVariants as kinds
-use Rattle.kp_width.specs.Names.{Sense, sense, Scoped, nothing, look_up, find, or_else, opened, with_entry, declared_local}
+use Rattle.kp_width.specs.Names.{Sense, sense, Scoped, nothing, look_up, find, or_else, is_pipe, opened, with_entry, declared_local}
 use Rattle.kp_width.specs.Expressions.{width_of}
-use Rattle.kp_width.specs.Declarations.{width_or_zero, parameters_of, function_opened, declaration_of, declarations_of, functions_in}
+use Rattle.kp_width.specs.Declarations.{width_or_zero, name_of, parameters_of, function_opened, declaration_of, declarations_of, functions_in}
 use Rattle.kp_width.specs.Statements.{read_of, statement_of, statements_of, blocks_of}
 use Rattle.kp_width.specs.TextOrder.{names_in_stmt, names_in_block}
 use Rattle.kp_width.specs.Widths.{widths_of}
@@ -29,19 +30,13 @@ use Rattle.kp_width.proofs.Unbroken.{Unbroken}
 use Rattle.kp_width.proofs.Calls.{pushed}
 use Rattle.kp_stage.specs.Rules.{all_rules}
 use Rattle.kp_law.specs.Sequential.{Instruction}
-use Rattle.kp_machine.specs.Slots.{Slot, slot, targets_of, pipes_of}
-use Rattle.kp_seq.specs.Tables.{Laid, keys_of}
-use Rattle.kp_seq.specs.Ready.{AreTables, FitSlots}
-use Rattle.kp_seq.proofs.Turns.{find_none}
+use Rattle.kp_machine.specs.Slots.{Slot, targets_of, pipes_of, samples_of}
+use Rattle.kp_machine.proofs.Apart.{is_pipe_or_sample, slot_by, slots_by, pipes_by, samples_by}
+use Rattle.kp_machine.proofs.Cases.{by_test, by_option}
+use Rattle.kp_machine.proofs.Scopes.{sense_of, is_sample, find_none}
+use Rattle.kp_seq.specs.inner.Tables.{Laid, keys_of}
+use Rattle.kp_seq.specs.inner.Ready.{AreTables, FitSlots}
 use Rattle.kp_seq.proofs.Blocks.{HasPlace, Keyed}
-
-by_test : {G : Type 0} (b : Bool) → (b ≡ true → G) → (b ≡ false → G) → G
-by_test true then_so else_so = then_so refl
-by_test false then_so else_so = else_so refl
-
-by_option : {X G : Type 0} (o : Option X) → (o ≡ None → G) → ((x : X) → o ≡ Some x → G) → G
-by_option None none some = none refl
-by_option (Some x) none some = some x refl
 
 one_of_two : {G : Type 0} (a b : Bool) → (a || b) ≡ true → (a ≡ true → G) → (b ≡ true → G) → G
 one_of_two true b e left right = left refl
@@ -96,6 +91,10 @@ entry_is_key keys (e ∷ es) q h = one_of_two (is_same_name q e.name) (list_any 
     (λ y. keys_stay (insert_key (pointwise nat_eq) keys e.name) es q (key_added keys e.name q y))
     (λ y. entry_is_key (insert_key (pointwise nat_eq) keys e.name) es q y)
 
+first_or_later : {G : Type 0} (s x : Slot) (ss : List Slot) (p : ℕ) → (s ≡ x → G) → ((j : ℕ) → slice_get ss j ≡ Some x → G) → slice_get (s ∷ ss) p ≡ Some x → G
+first_or_later s x ss zero here later e = here cc
+first_or_later s x ss (suc j) here later e = later j e
+
 module _ (q : List ℕ) where
   -- of the entries too, one that is added is one of them, and those before it stay
   stays : (s : Scoped) (scope : Scope) (name : List ℕ) (m : Sense) → HasEntry q s.entries → HasEntry q (with_entry s scope name m).entries
@@ -115,13 +114,9 @@ module _ (q : List ℕ) where
       parameters_keep i (declared_local s p.name.name m) ps (stays s s.here p.name.name m h)
 
   declaration_keeps : (ds : List Decl) (i k : ℕ) (s : Scoped) (d : Decl) → HasEntry q s.entries → HasEntry q (declaration_of ds i k s d).value.entries
-  declaration_keeps ds i k s (decls.Reg n width start) h = stays s scopes.Text n.name (sense kinds.Reg width.value i) h
-  declaration_keeps ds i k s (decls.File n width address) h = stays s scopes.Text n.name (sense (kinds.File address.value) width.value i) h
-  declaration_keeps ds i k s (decls.Pipe n width) h = stays s scopes.Text n.name (sense kinds.Pipe width.value i) h
-  declaration_keeps ds i k s (decls.Hint n width start) h = stays s scopes.Text n.name (sense kinds.Hint width.value i) h
-  declaration_keeps ds i k s (decls.Target r) h = stays s scopes.Text r.name.name (sense kinds.Target r.width.value i) h
   declaration_keeps ds i k s (decls.Func f) h =
       parameters_keep i (function_opened s k f) f.params (stays s scopes.Text f.name.name (sense kinds.Func (width_or_zero f.width.value) 0) h)
+  declaration_keeps ds i k s d h = stays s scopes.Text (name_of d).name (sense_of i d) h
 
   declarations_keep : (ds : List Decl) (i k : ℕ) (s : Scoped) (rest : List Decl) → HasEntry q s.entries → HasEntry q (declarations_of ds i k s rest).value.entries
   declarations_keep ds i k s [] h = h
@@ -143,20 +138,27 @@ module _ (q : List ℕ) where
   blocks_keep ds k s (b ∷ bs) h =
       blocks_keep ds (k + 1) (statements_of ds (opened s (scopes.Stage k)) b.stmts).value bs (statements_keep ds (opened s (scopes.Stage k)) b.stmts h)
 
-  -- the names of pipes, of statements and of blocks have entries
-  pipe_has : (ds : List Decl) (i k : ℕ) (s : Scoped) (rest : List Decl) (p : ℕ) (x : Slot) → slice_get (pipes_of rest) p ≡ Some x → x.name ≡ q
+  -- the names of pipes, of samples, of statements and of blocks have entries
+  declaration_has : (ds : List Decl) (i k : ℕ) (s : Scoped) (d : Decl) → is_pipe_or_sample (sense_of i d).kind ≡ true → is_same_name q (name_of d).name ≡ true
+      → HasEntry q (declaration_of ds i k s d).value.entries
+  declaration_has ds i k s (decls.Pipe n width) e y = added s scopes.Text n.name (sense kinds.Pipe width.value i) y
+  declaration_has ds i k s (decls.Sample n width stage) e y = added s scopes.Text n.name (sense kinds.Sample width.value i) y
+  declaration_has ds i k s d e y = cc
+
+  slot_has : (takes : NameKind → Bool) (either : (kind : NameKind) → takes kind ≡ true → is_pipe_or_sample kind ≡ true)
+      → (ds : List Decl) (i k : ℕ) (s : Scoped) (rest : List Decl) (p : ℕ) (x : Slot) → slice_get (slots_by takes i rest) p ≡ Some x → x.name ≡ q
       → HasEntry q (declarations_of ds i k s rest).value.entries
-  pipe_has ds i k s [] p x at is = cc
-  pipe_has ds i k s (decls.Pipe n width ∷ rest) zero x at is =
-      let f : slot n width 0 ≡ x = cc in
-      declarations_keep ds (i + 1) (k + 0) (declaration_of ds i k s (decls.Pipe n width)).value rest
-      (added s scopes.Text n.name (sense kinds.Pipe width.value i) ((bytes_decides q n.name).1 (sym (ap (λ (z : Slot). z.name) f ∙ is))))
-  pipe_has ds i k s (decls.Pipe n width ∷ rest) (suc p) x at is = pipe_has ds (i + 1) (k + 0) _ rest p x at is
-  pipe_has ds i k s (decls.Reg n width start ∷ rest) p x at is = pipe_has ds (i + 1) (k + 0) _ rest p x at is
-  pipe_has ds i k s (decls.File n width address ∷ rest) p x at is = pipe_has ds (i + 1) (k + 0) _ rest p x at is
-  pipe_has ds i k s (decls.Hint n width start ∷ rest) p x at is = pipe_has ds (i + 1) (k + 0) _ rest p x at is
-  pipe_has ds i k s (decls.Target r ∷ rest) p x at is = pipe_has ds (i + 1) (k + 0) _ rest p x at is
-  pipe_has ds i k s (decls.Func f ∷ rest) p x at is = pipe_has ds (i + 1) (k + 1) _ rest p x at is
+  slot_has takes either ds i k s [] p x at is = cc
+  slot_has takes either ds i k s (d ∷ rest) p x at is =
+      let next : Scoped = (declaration_of ds i k s d).value in
+      let more = slot_has takes either ds (i + 1) (k + functions_in d) next rest in
+      cond_both (takes (sense_of i d).kind) (slot_by i d ∷ slots_by takes (i + 1) rest) (slots_by takes (i + 1) rest)
+      (λ ss. slice_get ss p ≡ Some x → HasEntry q (declarations_of ds i k s (d ∷ rest)).value.entries)
+      (λ y e. first_or_later (slot_by i d) x (slots_by takes (i + 1) rest) p
+      (λ f. declarations_keep ds (i + 1) (k + functions_in d) next rest
+      (declaration_has ds i k s d (either (sense_of i d).kind y) ((bytes_decides q (name_of d).name).1 (sym (ap (λ (z : Slot). z.name) f ∙ is)))))
+      (λ j f. more j x f is) e)
+      (λ _ e. more p x e is) at
 
   statement_has : (ds : List Decl) (s : Scoped) (x : StmtKind) → IsKey q (names_in_stmt x) → HasEntry q (statement_of ds s x).value.entries
   statement_has ds s (stmts.Read r) h = one_of_two (is_same_name q r.name.name) false h
@@ -211,7 +213,13 @@ module _ (job : Job) (unbroken : Unbroken (widths_of job)) (t : Laid) (tables : 
   pub pipe_placed : (p : ℕ) (x : Slot) → slice_get (pipes_of job.decls) p ≡ Some x → HasPlace job unbroken t tables rule is25 k words fit c x.name
   pipe_placed p x at =
       has_place x.name (blocks_keep x.name job.decls 0 (declarations_of job.decls 0 0 nothing job.decls).value job.blocks
-      (pipe_has x.name job.decls 0 0 nothing job.decls p x at refl))
+      (slot_has x.name is_pipe (λ kind e. or_left (is_pipe kind) (is_sample kind) e) job.decls 0 0 nothing job.decls p x (ap (λ ss. slice_get ss p) (sym (pipes_by 0 job.decls)) ∙ at) refl))
+
+  -- and so each sample
+  pub sample_placed : (p : ℕ) (x : Slot) → slice_get (samples_of job.decls) p ≡ Some x → HasPlace job unbroken t tables rule is25 k words fit c x.name
+  sample_placed p x at =
+      has_place x.name (blocks_keep x.name job.decls 0 (declarations_of job.decls 0 0 nothing job.decls).value job.blocks
+      (slot_has x.name is_sample (λ kind e. or_right (is_pipe kind) (is_sample kind) e) job.decls 0 0 nothing job.decls p x (ap (λ ss. slice_get ss p) (sym (samples_by 0 job.decls)) ∙ at) refl))
 
   -- statements whose names have places
   keys_of_stmts : (s : Scoped) (xs : List Stmt) → ((q : List ℕ) → IsKey q (flat_map (λ x. names_in_stmt x.kind) xs) → HasPlace job unbroken t tables rule is25 k words fit c q)

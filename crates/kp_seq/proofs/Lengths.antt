@@ -1,6 +1,5 @@
 -- No step of an instruction changes how many names, pipes and results there are, or how many words a target has.
-use Rattle.std.proofs.Common.{◌≡◌, ◌∙◌, ℕ, ◌+◌, List, [], ◌∷◌, Option, Some, None, Bool, true, false, cond, length, replicate, refl}
-use Rattle.std.specs.Prelude.{slice_index}
+use Rattle.std.proofs.Common.{◌≡◌, ◌∙◌, ℕ, List, [], ◌∷◌, Option, Some, None, Bool, true, false, cond, length, replicate, refl}
 use Rattle.std.specs.List.{position}
 use Rattle.std.proofs.lemmas.List.{length-set, length-replicate}
 use Rattle.kp_bits.specs.Word.{Word}
@@ -11,9 +10,9 @@ use Rattle.kp_ast.specs.declared.tree.StmtKind.{StmtKind}
 use Rattle.kp_ast.specs.declared.tree.StmtKind.TheVariants as stmts
 use Rattle.kp_ast.specs.declared.tree.Block.{Block}
 use Rattle.kp_machine.specs.Slots.{Slot, number_of, width_of, result_named}
-use Rattle.kp_seq.specs.Names.{set_place}
-use Rattle.kp_seq.specs.Tables.{Laid}
-use Rattle.kp_seq.specs.Steps.{Under, holds, word_in, fitted, value_read, with_name, with_pipe, with_result, after_stmt, after_stmts, with_pipes, entered, after_block, after_blocks, begun}
+use Rattle.kp_seq.specs.inner.Names.{set_place}
+use Rattle.kp_seq.specs.inner.Tables.{Laid}
+use Rattle.kp_seq.specs.inner.Steps.{Under, holds, word_in, fitted, value_read, with_name, with_pipe, with_result, after_stmt, after_stmts, with_row, pipe_words, entered, after_block, after_blocks, begun}
 
 pub record SameLengths (u v : Under) : Type 0 where
   pub names : length v.names ≡ length u.names
@@ -45,17 +44,18 @@ module _ (t : Laid) where
   chosen true u v w h k = h
   chosen false u v w h k = k
 
-  pub pipes_same : (u : Under) (i : ℕ) (ss : List Slot) → SameLengths u (with_pipes t u i ss)
-  pipes_same u i [] = same u
-  pipes_same u i (s ∷ ss) =
-      let w : Word = fitted s.width (slice_index u.pipes i) in
-      then_same u (with_name t u s.name w) _ (name_same u s.name w) (pipes_same (with_name t u s.name w) (i + 1) ss)
+  pub row_same : (u : Under) (ss : List Slot) (row : List Word) → SameLengths u (with_row t u ss row)
+  row_same u [] row = same u
+  row_same u (s ∷ ss) [] = same u
+  row_same u (s ∷ ss) (w ∷ row) = then_same u (with_name t u s.name w) _ (name_same u s.name w) (row_same (with_name t u s.name w) ss row)
 
-  pub entered_same : (u : Under) → SameLengths u (entered t u)
-  entered_same u =
+  pub entered_same : (row : List Word) (u : Under) → SameLengths u (entered t row u)
+  entered_same row u =
       let none : Option Word = None in
       let v : Under = record u { names = replicate (length u.names) none } in
-      then_same u v _ (record { names = length-replicate (length u.names) none; pipes = refl; results = refl }) (pipes_same v 0 t.pipes)
+      let m : Under = with_row t v t.samples row in
+      then_same u v _ (record { names = length-replicate (length u.names) none; pipes = refl; results = refl })
+      (then_same v m _ (row_same v t.samples row) (row_same m t.pipes (pipe_words m.pipes 0 t.pipes)))
 
   pub begun_same : (u : Under) → SameLengths u (begun u)
   begun_same u =
@@ -75,12 +75,12 @@ module _ (t : Laid) where
     stmts_same u [] = same u
     stmts_same u (s ∷ ss) = then_same u (after_stmt t words u s.kind) _ (stmt_same u s.kind) (stmts_same (after_stmt t words u s.kind) ss)
 
-    pub block_same : (u : Under) (b : Block) → SameLengths u (after_block t words u b)
-    block_same u b = then_same u (entered t u) _ (entered_same u) (stmts_same (entered t u) b.stmts)
+    pub block_same : (row : List Word) (u : Under) (b : Block) → SameLengths u (after_block t words row u b)
+    block_same row u b = then_same u (entered t row u) _ (entered_same row u) (stmts_same (entered t row u) b.stmts)
 
-    pub blocks_same : (u : Under) (bs : List Block) → SameLengths u (after_blocks t words u bs)
-    blocks_same u [] = same u
-    blocks_same u (b ∷ bs) = then_same u (after_block t words u b) _ (block_same u b) (blocks_same (after_block t words u b) bs)
+    pub blocks_same : (row : List Word) (u : Under) (bs : List Block) → SameLengths u (after_blocks t words row u bs)
+    blocks_same row u [] = same u
+    blocks_same row u (b ∷ bs) = then_same u (after_block t words row u b) _ (block_same row u b) (blocks_same row (after_block t words row u b) bs)
 
-    pub all_same : (u : Under) (bs : List Block) → SameLengths u (after_blocks t words (begun u) bs)
-    all_same u bs = then_same u (begun u) _ (begun_same u) (blocks_same (begun u) bs)
+    pub all_same : (row : List Word) (u : Under) (bs : List Block) → SameLengths u (after_blocks t words row (begun u) bs)
+    all_same row u bs = then_same u (begun u) _ (begun_same u) (blocks_same row (begun u) bs)

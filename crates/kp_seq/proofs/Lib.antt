@@ -1,9 +1,9 @@
 pub mod Rooms
 pub mod Stored
+pub mod Sampling
 pub mod Lengths
 pub mod Start
 pub mod Runs
-pub mod Scopes
 pub mod Stage
 pub mod Trees
 pub mod Changes

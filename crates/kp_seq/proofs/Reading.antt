@@ -1,9 +1,10 @@
 -- A read: what it gives is what it gives in the abstract machine, as a word of its target's width.
-use Rattle.std.proofs.Common.{◌≡◌, ◌∙◌, ℕ, suc, ◌^◌, ◌<◌, ◌≤◌, List, [], ◌∷◌, Option, Some, None, Bool, true, false, cond, not, ◌||◌, length, get_or, refl, ap, sym, subst, arith}
+use Rattle.std.proofs.Common.{◌≡◌, ◌∙◌, ℕ, ◌^◌, ◌<◌, ◌≤◌, List, Option, Some, None, cond, not, ◌||◌, length, get_or, refl, ap, sym, subst}
 use Rattle.std.specs.Prelude.{is_some, slice_get}
 use Rattle.std.specs.List.{position}
 use Rattle.std.proofs.lemmas.Bool.{cond_both}
 use Rattle.std.proofs.lemmas.Nat.{pow_pos}
+use Rattle.std.proofs.lemmas.Option.{get_or_from_slice_get}
 use Rattle.kp_base.specs.Check.{ok, ◌>>=◌}
 use Rattle.kp_base.specs.Refusal.{e_rule}
 use Rattle.kp_bits.specs.Word.{Word}
@@ -13,7 +14,6 @@ use Rattle.kp_ast.specs.declared.tree.Expr.{Expr}
 use Rattle.kp_ast.specs.declared.tree.ReadStmt.{ReadStmt}
 use Rattle.kp_ast.specs.declared.tree.StmtKind.TheVariants as stmts
 use Rattle.kp_ast.specs.declared.tree.Job.{Job}
-use Rattle.kp_ast.specs.declared.widths.NameKind.{NameKind}
 use Rattle.kp_ast.specs.declared.widths.NameKind.TheVariants as kinds
 use Rattle.kp_width.specs.Names.{Sense, sense, Names, Scoped, look_up, find, is_register, is_file, declared_local}
 use Rattle.kp_width.specs.Expressions.{part_of, value_of}
@@ -28,39 +28,23 @@ use Rattle.kp_machine.specs.Slots.{Slot, targets_of, number_of, width_of}
 use Rattle.kp_machine.specs.Trees.{Progress, with_name, word_read}
 use Rattle.kp_machine.specs.Trees as trees
 use Rattle.kp_seq.specs.Running.{no_slot, state_in}
-use Rattle.kp_seq.specs.Tables.{Laid}
-use Rattle.kp_seq.specs.Steps.{Under, fitted, holds, address_in}
-use Rattle.kp_seq.specs.Steps as steps
-use Rattle.kp_seq.specs.Ready.{AreTables, FitSlots}
-use Rattle.kp_seq.proofs.Scopes.{IsSlot, found_sense, storage_kind, fresh_none}
-use Rattle.kp_seq.proofs.Stage.{Named, placed, is_local, found_where}
-use Rattle.kp_seq.proofs.Start.{job_fine, target_width, word_fits, fitted_is}
+use Rattle.kp_seq.specs.inner.Tables.{Laid}
+use Rattle.kp_seq.specs.inner.Steps.{Under, fitted, holds, address_in}
+use Rattle.kp_seq.specs.inner.Steps as steps
+use Rattle.kp_seq.specs.inner.Ready.{AreTables, FitSlots}
+use Rattle.kp_machine.proofs.Scopes.{IsSlot, slot_of, found_sense, storage_kind, fresh_none}
+use Rattle.kp_machine.proofs.Names.{IsIn}
+use Rattle.kp_machine.proofs.Text.{placed, local_no, found_where}
+use Rattle.kp_machine.proofs.Widths.{job_fine}
+use Rattle.kp_seq.proofs.Stage.{Named}
+use Rattle.kp_seq.proofs.Start.{target_width, word_fits, fitted_is}
 use Rattle.kp_seq.proofs.Trees.{value_read, address_read}
 use Rattle.kp_seq.proofs.Turns.{holds_same, address_same, name_bound}
 
-by_test : {G : Type 0} (b : Bool) → (b ≡ true → G) → (b ≡ false → G) → G
-by_test true then_so else_so = then_so refl
-by_test false then_so else_so = else_so refl
-
-number_get : (ss : List Slot) (q : List ℕ) → number_of ss q < length ss → (get_or ss (number_of ss q) no_slot).width ≡ width_of ss q
-number_get [] q h = absurd (omega arith)
-number_get (s ∷ ss) q h = by_test (is_same_name q s.name)
-    (λ y. ap (λ b. (get_or (s ∷ ss) (cond b 0 (suc (number_of ss q))) no_slot).width) y ∙ sym (ap (λ b. cond b s.width (width_of ss q)) y))
-    (λ y.
-    let e : number_of (s ∷ ss) q ≡ suc (number_of ss q) = ap (λ b. cond b 0 (suc (number_of ss q))) y in
-    let l : number_of ss q < length ss = omega arith in
-    ap (λ b. (get_or (s ∷ ss) (cond b 0 (suc (number_of ss q))) no_slot).width) y ∙ number_get ss q l ∙ sym (ap (λ b. cond b s.width (width_of ss q)) y))
-
-local_no_target : {G : Type 0} (kind : NameKind) → is_local kind ≡ true → (is_register kind || is_file kind) ≡ true → G
-local_no_target kinds.Read e f = cc
-local_no_target kinds.Let e f = cc
-local_no_target kinds.Pipe e f = cc
-local_no_target kinds.Hint e f = cc
-local_no_target kinds.Reg e f = cc
-local_no_target (kinds.File a) e f = cc
-local_no_target kinds.Target e f = cc
-local_no_target kinds.Func e f = cc
-local_no_target kinds.Param e f = cc
+number_get : (ss : List Slot) (q : List ℕ) → IsIn ss q → (get_or ss (number_of ss q) no_slot).width ≡ width_of ss q
+number_get ss q h =
+    let s = slot_of ss q h in
+    ap (λ (z : Slot). z.width) (get_or_from_slice_get ss (number_of ss q) s.0 no_slot s.1) ∙ s.2
 
 module _ (job : Job) (unbroken : Unbroken (widths_of job)) (t : Laid) (tables : AreTables job t) (rule : _) (is25 : slice_get all_rules 10 ≡ Some rule) (k : ℕ) (s : Scoped) (done : Progress) (u : Under) (now : Named job unbroken t tables rule is25 k s done u) (words : List (List ℕ)) (fit : FitSlots (targets_of job.decls) words) where
   address_read_same : (r : ReadStmt) (guess : Option Expr) → address_in t u r.address ≡ trees.address_of job.decls done r.address
@@ -84,8 +68,8 @@ module _ (job : Job) (unbroken : Unbroken (widths_of job)) (t : Laid) (tables : 
       let f = found_sense (cond (is_some r.address) is_file is_register) r.target.at (find s r.target.name) y.0 in
       let kind = storage_kind (is_some r.address) f.0.kind f.2 in
       let at : IsSlot (targets_of job.decls) r.target.name f.0.width (address_width f.0.kind) = found_where s r.target.name f.0 f.1
-      (λ l. local_no_target f.0.kind (now.locals r.target.name f.0 l) kind)
-      (λ n g. (placed job unbroken t tables rule is25 r.target.name f.0 (ap (λ (names : Names). look_up names r.target.name) (sym now.of_text) ∙ g)).target kind) in
+      (λ l. local_no (λ kind. is_register kind || is_file kind) refl refl f.0.kind (now.locals r.target.name f.0 l) kind)
+      (λ n g. (placed job unbroken r.target.name f.0 (ap (λ (names : Names). look_up names r.target.name) (sym now.of_text) ∙ g)).target kind) in
       let tw : ℕ = width_of (targets_of job.decls) r.target.name in
       let v : ℕ = value_read job.decls (state_in words) done r in
       let size : tw ≡ st.value.width = at.width ∙ ap (λ (m : Sense). m.width) f.3 in
@@ -97,9 +81,9 @@ module _ (job : Job) (unbroken : Unbroken (widths_of job)) (t : Laid) (tables : 
       (λ h. subst (λ n. state_in words (number_of (targets_of job.decls) r.target.name) (address_read job.decls (state_in words) done r r.guess) < 2 ^ n) number (word_fits (targets_of job.decls) words _ _ fit at.inside))
       (λ h. pow_pos tw) in
       let same : steps.value_read t words u r ≡ v =
-      ap (λ c. cond c (steps.word_at words (number_of t.targets r.target.name) (steps.address_read t u r r.guess)) 0) (holds_same job unbroken t tables rule is25 k s done u now r.when b.1 w)
-      ∙ ap (λ ss. cond (trees.holds job.decls done r.when) (steps.word_at words (number_of ss r.target.name) (steps.address_read t u r r.guess)) 0) tables.targets
-      ∙ ap (λ n. cond (trees.holds job.decls done r.when) (steps.word_at words (number_of (targets_of job.decls) r.target.name) n) 0)
+      ap (λ c. cond c (state_in words (number_of t.targets r.target.name) (steps.address_read t u r r.guess)) 0) (holds_same job unbroken t tables rule is25 k s done u now r.when b.1 w)
+      ∙ ap (λ ss. cond (trees.holds job.decls done r.when) (state_in words (number_of ss r.target.name) (steps.address_read t u r r.guess)) 0) tables.targets
+      ∙ ap (λ n. cond (trees.holds job.decls done r.when) (state_in words (number_of (targets_of job.decls) r.target.name) n) 0)
       (address_read_same r r.guess (address_same job unbroken t tables rule is25 k s done u now r.address (address_width st.value.kind) b.0 z.0)) in
       let is : fitted (width_of t.targets r.target.name) (steps.value_read t words u r) ≡ word_read job.decls r v =
       ap (λ ss. fitted (width_of ss r.target.name) (steps.value_read t words u r)) tables.targets ∙ ap (fitted tw) same ∙ fitted_is tw v low high small in

@@ -1,12 +1,19 @@
 -- Steps, one after another, are the sequential run.
-use Rattle.std.proofs.Common.{◌≡◌, ℕ, zero, suc, refl, ap}
+use Rattle.std.proofs.Common.{◌≡◌, ◌∙◌, ℕ, zero, suc, List, [], ◌∷◌, length, refl, ap, sym}
+use Rattle.kp_bits.specs.Word.{Word}
 use Rattle.kp_ast.specs.declared.tree.Job.{Job}
-use Rattle.kp_law.specs.Sequential.{seq}
-use Rattle.kp_law.specs.Timeline.{no_samples}
+use Rattle.kp_law.specs.Machine.{Machine}
+use Rattle.kp_law.specs.Sequential.{exec, seq}
 use Rattle.kp_machine.specs.Machine.{machine_of}
-use Rattle.kp_seq.specs.Running.{state_after, after_one}
+use Rattle.kp_seq.specs.Running.{after_rows, after_one, given_by}
 
-pub is_run : (job : Job) (s : ℕ → ℕ → ℕ) (i : ℕ) → state_after job s i ≡ seq (machine_of job) s no_samples i
+-- a run is its first instruction, and then the others
+from_second : (m : Machine) (s : ℕ → ℕ → ℕ) (given : ℕ → ℕ → ℕ) (i : ℕ) → seq m s given (suc i) ≡ seq m (exec m s (given 0)) (λ j. given (suc j)) i
 unfolding seq
-is_run job s zero = refl
-is_run job s (suc i) = ap (after_one job) (is_run job s i)
+from_second m s given zero = refl
+from_second m s given (suc i) = ap (λ (x : ℕ → ℕ → ℕ). exec m x (given (suc i))) (from_second m s given i)
+
+pub is_run : (job : Job) (s : ℕ → ℕ → ℕ) (rows : List (List Word)) → after_rows job s rows ≡ seq (machine_of job) s (given_by rows) (length rows)
+unfolding seq
+is_run job s [] = refl
+is_run job s (row ∷ rows) = is_run job (after_one job s row) rows ∙ sym (from_second (machine_of job) s (given_by (row ∷ rows)) (length rows))

@@ -1,65 +1,26 @@
 -- The words that a start state gives are those of its state, and they fit their targets.
-use Rattle.std.proofs.Common.{◌≡◌, ◌∙◌, ℕ, zero, suc, ◌+◌, ◌-◌, ◌^◌, ◌<◌, ◌≤◌, List, [], ◌∷◌, Option, Some, None, Bool, true, false, cond, ◌&&◌, length, get_or, take, refl, ap, sym, subst, arith}
-use Rattle.std.specs.Prelude.{slice_index, slice_get, ◌==◌, nat_le, nat_lt, is_some, not}
+use Rattle.std.proofs.Common.{◌≡◌, ◌∙◌, ℕ, zero, suc, ◌-◌, ◌^◌, ◌<◌, ◌≤◌, List, [], ◌∷◌, Option, Some, None, Bool, true, false, cond, ◌&&◌, length, get_or, take, refl, ap, sym, subst, arith}
+use Rattle.std.specs.Prelude.{slice_index, slice_get, ◌==◌, nat_le, nat_lt}
 use Rattle.std.specs.List.{filter}
-use Rattle.std.proofs.lemmas.Bool.{cases_lt, and_parts, leb-true, cond-true, le-leb, lt-ltb}
+use Rattle.std.proofs.lemmas.Bool.{cases_lt, cond-true, le-leb, lt-ltb}
 use Rattle.std.proofs.lemmas.List.{get_or_past}
 use Rattle.std.proofs.lemmas.Nat.{pow_pos}
 use Rattle.std.proofs.Common.{⊎_elim}
 use Rattle.std.proofs.Math.Dec.{eqb-suc-zero}
-use Rattle.kp_base.specs.Refusal.{e_rule}
-use Rattle.kp_base.specs.Check.{ok, ◌>>=◌}
 use Rattle.kp_bits.specs.Word.{Word, word}
 use Rattle.kp_ast.specs.declared.tree.Decl.{Decl}
 use Rattle.kp_ast.specs.declared.tree.Decl.TheVariants as decls
-use Rattle.kp_ast.specs.declared.widths.NameKind.TheVariants as kinds
 use Rattle.kp_ast.specs.declared.tree.Job.{Job}
 use Rattle.kp_width.specs.Widths.{widths_of}
-use Rattle.kp_width.specs.Statements.{blocks_of}
-use Rattle.kp_width.specs.Names.{Scoped, nothing, sense, find, declared_text}
-use Rattle.kp_width.specs.Expressions.{is_width}
-use Rattle.kp_width.specs.Declarations.{declared, start_of, started_of, addresses_of, after_name, declaration_of, declarations_of}
-use Rattle.kp_width.proofs.Unbroken.{Unbroken, bind_unbroken, answer_unbroken}
+use Rattle.kp_width.proofs.Unbroken.{Unbroken}
 use Rattle.kp_stage.specs.Start.{AreRegs, AreFiles, IsStartOf}
 use Rattle.kp_stage.specs.declared.start.Start.{Start}
 use Rattle.kp_machine.specs.Slots.{Slot, slot, targets_of, is_register}
 use Rattle.kp_machine.specs.Machine.{registers_before, files_before, register_words, file_words, target_words, state_of}
-use Rattle.kp_seq.specs.Running.{Running, HasWord, no_slot, target, words_of_start, state_in, state, word_shown}
-use Rattle.kp_seq.specs.Steps.{fitted, zero_bit}
-use Rattle.kp_seq.specs.Ready.{FitSlots}
-
--- the width of a target is 1 to 64, and that of the addresses of a file is not 0
-abbrev pub Fine : List Decl → Type 0
-Fine [] = Unit {0}
-Fine (decls.Reg n width start ∷ ds) = (1 ≤ width.value) × (width.value ≤ 64) × Fine ds
-Fine (decls.File n width address ∷ ds) = (1 ≤ width.value) × (width.value ≤ 64) × (1 ≤ address.value) × Fine ds
-Fine (_ ∷ ds) = Fine ds
-
-bounds : (w : ℕ) → is_width w ≡ true → (1 ≤ w) × (w ≤ 64)
-bounds w e = let p = and_parts (nat_le 1 w) (nat_le w 64) e in (leb-true 1 w p.0, leb-true w 64 p.1)
-
--- which phase 3 checks
-pub all_fine : (ds : List Decl) (i k : ℕ) (s : Scoped) (rest : List Decl) → Unbroken (declarations_of ds i k s rest) → Fine rest
-all_fine ds i k s [] u = tt
-all_fine ds i k s (decls.Reg n width start ∷ rest) u =
-    let x = bind_unbroken (declaration_of ds i k s (decls.Reg n width start)) (λ t. declarations_of ds (i + 1) (k + 0) t rest) u in
-    let y = (answer_unbroken (not (is_some (find s n.name))) (e_rule 5 n.at) (after_name ds i k s (decls.Reg n width start)).asked x.0).1 in
-    let z = (bind_unbroken (started_of width start) (λ w. ok (declared_text s n.name (sense kinds.Reg w i))) y).0 in
-    let d = (bind_unbroken (declared width) (λ w. start_of start w >>= (λ v. ok w)) z).0 in
-    let b = bounds width.value (answer_unbroken (is_width width.value) (e_rule 8 width.at) [] d).0 in
-    (b.0, b.1, all_fine ds (i + 1) (k + 0) _ rest x.1)
-all_fine ds i k s (decls.File n width address ∷ rest) u =
-    let x = bind_unbroken (declaration_of ds i k s (decls.File n width address)) (λ t. declarations_of ds (i + 1) (k + 0) t rest) u in
-    let y = (answer_unbroken (not (is_some (find s n.name))) (e_rule 5 n.at) (after_name ds i k s (decls.File n width address)).asked x.0).1 in
-    let z = bind_unbroken (declared width) (λ w. addresses_of address >>= (λ a. ok (declared_text s n.name (sense (kinds.File a) w i)))) y in
-    let b = bounds width.value (answer_unbroken (is_width width.value) (e_rule 8 width.at) [] z.0).0 in
-    let v = (bind_unbroken (addresses_of address) (λ a. ok (declared_text s n.name (sense (kinds.File a) width.value i))) z.1).0 in
-    let a = and_parts (nat_le 1 address.value) (nat_le address.value 16) (answer_unbroken (nat_le 1 address.value && nat_le address.value 16) (e_rule 14 address.at) [] v).0 in
-    (b.0, b.1, leb-true 1 address.value a.0, all_fine ds (i + 1) (k + 0) _ rest x.1)
-all_fine ds i k s (decls.Pipe n width ∷ rest) u = all_fine ds (i + 1) (k + 0) _ rest (bind_unbroken (declaration_of ds i k s (decls.Pipe n width)) (λ t. declarations_of ds (i + 1) (k + 0) t rest) u).1
-all_fine ds i k s (decls.Hint n width start ∷ rest) u = all_fine ds (i + 1) (k + 0) _ rest (bind_unbroken (declaration_of ds i k s (decls.Hint n width start)) (λ t. declarations_of ds (i + 1) (k + 0) t rest) u).1
-all_fine ds i k s (decls.Target r ∷ rest) u = all_fine ds (i + 1) (k + 0) _ rest (bind_unbroken (declaration_of ds i k s (decls.Target r)) (λ t. declarations_of ds (i + 1) (k + 0) t rest) u).1
-all_fine ds i k s (decls.Func f ∷ rest) u = all_fine ds (i + 1) (k + 1) _ rest (bind_unbroken (declaration_of ds i k s (decls.Func f)) (λ t. declarations_of ds (i + 1) (k + 1) t rest) u).1
+use Rattle.kp_machine.proofs.Widths.{Fine, job_fine}
+use Rattle.kp_seq.specs.Running.{Running, HasWord, no_slot, target, state_in, state, word_shown}
+use Rattle.kp_seq.specs.inner.Steps.{fitted, zero_bit}
+use Rattle.kp_seq.specs.inner.Ready.{words_of_start, FitSlots}
 
 one_word : (v w : ℕ) (a : ℕ) → v < 2 ^ w → slice_index (v ∷ []) a < 2 ^ w
 one_word v w zero h = h
@@ -77,10 +38,7 @@ start_fits (decls.Reg n width start ∷ ds) (v ∷ regs) files r f =
 start_fits (decls.File n width address ∷ ds) regs [] r f = absurd f
 start_fits (decls.File n width address ∷ ds) regs (w ∷ files) r f =
     (record { count = f.0; fits = λ a. some_word w width.value a f.1 }, start_fits ds regs files r f.2)
-start_fits (decls.Pipe n width ∷ ds) regs files r f = start_fits ds regs files r f
-start_fits (decls.Hint n width start ∷ ds) regs files r f = start_fits ds regs files r f
-start_fits (decls.Target q ∷ ds) regs files r f = start_fits ds regs files r f
-start_fits (decls.Func q ∷ ds) regs files r f = start_fits ds regs files r f
+start_fits (_ ∷ ds) regs files r f = start_fits ds regs files r f
 
 abbrev pub started : List Word → List (List ℕ) → Start
 started regs files = record { regs = regs; files = files }
@@ -132,16 +90,7 @@ start_words (decls.File n width address ∷ ds) regs (w ∷ files) zero g r f =
     sym (ap (λ b. cond b (register_words (slice_get regs 0)) w) (not_zero address.value g.2))
 start_words (decls.File n width address ∷ ds) regs (w ∷ files) (suc t) g r f =
     start_words ds regs files t g.3 r f.2 ∙ sym (past_file (slot n width address.value) (targets_of ds) w regs files t (slice_get (targets_of ds) t) (not_zero address.value g.2))
-start_words (decls.Pipe n width ∷ ds) regs files t g r f = start_words ds regs files t g r f
-start_words (decls.Hint n width start ∷ ds) regs files t g r f = start_words ds regs files t g r f
-start_words (decls.Target q ∷ ds) regs files t g r f = start_words ds regs files t g r f
-start_words (decls.Func q ∷ ds) regs files t g r f = start_words ds regs files t g r f
-
--- the declarations of a job whose names and widths are right
-pub job_fine : (job : Job) → Unbroken (widths_of job) → Fine job.decls
-job_fine job u =
-    all_fine job.decls 0 0 nothing job.decls
-    (bind_unbroken (declarations_of job.decls 0 0 nothing job.decls) (λ s. blocks_of job.decls 0 s job.blocks >>= (λ t. ok t.entries)) u).0
+start_words (_ ∷ ds) regs files t g r f = start_words ds regs files t g r f
 
 -- the state of a machine that starts
 pub start_state : (job : Job) (start : Start) (ds : List Decl) → Unbroken (widths_of job) → IsStartOf job start → ds ≡ job.decls
@@ -158,10 +107,7 @@ target_width (decls.Reg n width start ∷ ds) zero g l = (g.0, g.1)
 target_width (decls.Reg n width start ∷ ds) (suc t) g l = target_width ds t g.2 (omega arith)
 target_width (decls.File n width address ∷ ds) zero g l = (g.0, g.1)
 target_width (decls.File n width address ∷ ds) (suc t) g l = target_width ds t g.3 (omega arith)
-target_width (decls.Pipe n width ∷ ds) t g l = target_width ds t g l
-target_width (decls.Hint n width start ∷ ds) t g l = target_width ds t g l
-target_width (decls.Target q ∷ ds) t g l = target_width ds t g l
-target_width (decls.Func q ∷ ds) t g l = target_width ds t g l
+target_width (_ ∷ ds) t g l = target_width ds t g l
 
 -- and its words fit it
 pub word_fits : (ss : List Slot) (words : List (List ℕ)) (t a : ℕ) → FitSlots ss words → t < length ss → slice_index (get_or words t []) a < 2 ^ (get_or ss t no_slot).width

@@ -1,11 +1,9 @@
 -- One instruction, stage by stage: what the steps leave is what the abstract machine has.
-use Rattle.std.proofs.Common.{◌≡◌, ◌∙◌, ℕ, suc, ◌+◌, ◌<◌, ◌≤◌, List, [], ◌∷◌, Some, None, length, refl, ap, sym, subst, arith}
-use Rattle.std.specs.Option.{option_map}
-use Rattle.std.specs.Prelude.{◌&&◌, ◌==◌, nat_lt, nat_le, slice_get, unwrap_or}
-use Rattle.std.proofs.lemmas.Bool.{and_parts, ltb-true, leb-true}
+use Rattle.std.proofs.Common.{◌≡◌, ◌∙◌, ℕ, suc, ◌+◌, List, [], ◌∷◌, Some, None, length, refl, ap, sym, subst, arith}
+use Rattle.std.specs.Prelude.{slice_get}
 use Rattle.kp_base.specs.First.{first}
 use Rattle.kp_base.specs.Check.{ok, ◌>>=◌}
-use Rattle.kp_base.specs.Refusal.{e_rule}
+use Rattle.kp_bits.specs.Word.{Word}
 use Rattle.kp_ast.specs.declared.tree.Block.{Block}
 use Rattle.kp_ast.specs.declared.tree.Job.{Job}
 use Rattle.kp_ast.specs.declared.widths.Scope.TheVariants as scopes
@@ -15,104 +13,67 @@ use Rattle.kp_width.specs.Statements.{statements_of, blocks_of}
 use Rattle.kp_width.specs.Widths.{widths_of}
 use Rattle.kp_width.proofs.Unbroken.{Unbroken, bind_unbroken}
 use Rattle.kp_stage.specs.Facts.{facts_of, stmts_in}
-use Rattle.kp_stage.specs.Rules.{ask_head, ask_decls, ask_block, ask_stmts, ask_in_block, ask_blocks, broken_at, broken_by, all_rules}
+use Rattle.kp_stage.specs.Rules.{ask_stmts, all_rules}
 use Rattle.kp_stage.specs.Stages.{broken_of}
-use Rattle.kp_stage.proofs.Unbroken.{first_none, answer_none}
+use Rattle.kp_stage.specs.Start.{AreSamples}
 use Rattle.kp_law.specs.Sequential.{Instruction, after_stage, before_stage, run}
 use Rattle.kp_machine.specs.Slots.{targets_of}
 use Rattle.kp_machine.specs.Trees.{Progress, tree_of}
 use Rattle.kp_machine.specs.Trees as trees
-use Rattle.kp_machine.specs.Machine.{machine_of, stage_tree}
-use Rattle.kp_machine.proofs.Rules.{head_kept, stmts_kept}
-use Rattle.kp_seq.specs.Running.{state_in, no_sample, after_one}
-use Rattle.kp_seq.specs.Tables.{Laid}
-use Rattle.kp_seq.specs.Steps.{Under, begun, entered, after_block, after_blocks, executed}
-use Rattle.kp_seq.specs.Ready.{AreTables, FitSlots, HasPlaces}
+use Rattle.kp_machine.specs.Machine.{machine_of, stage_tree, values_in}
+use Rattle.kp_machine.proofs.Rules.{rules_kept, stmts_kept}
+use Rattle.kp_machine.proofs.Stages.{stages_inside}
+use Rattle.kp_machine.proofs.Text.{text}
+use Rattle.kp_seq.specs.Running.{state_in, after_one}
+use Rattle.kp_seq.specs.inner.Tables.{Laid}
+use Rattle.kp_seq.specs.inner.Steps.{Under, begun, entered, after_block, after_blocks, executed}
+use Rattle.kp_seq.specs.inner.Ready.{AreTables, FitSlots, HasPlaces}
 use Rattle.kp_seq.proofs.Lengths.{SameLengths, begun_same, block_same}
-use Rattle.kp_seq.proofs.Stage.{text}
 use Rattle.kp_seq.proofs.Trees.{seen, no_hints, nexts, stage_runs}
 use Rattle.kp_seq.proofs.Blocks.{all_turn}
 use Rattle.kp_seq.proofs.Entering.{enters}
-use Rattle.kp_seq.proofs.Keys.{pipe_placed, keyed}
+use Rattle.kp_seq.proofs.Keys.{pipe_placed, sample_placed, keyed}
 use Rattle.kp_seq.proofs.Written.{Ended, stage_ended, begun_ended, written_after, written_fits}
-
--- the first rule asks the number of a block to be one of the stages
-block_inside : (job : Job) (rule : _) (is15 : slice_get all_rules 0 ≡ Some rule) (k : ℕ) (b : Block) → ask_block (facts_of job) rule k b ≡ None → k < job.stages.value
-block_inside job rule is15 k b e =
-    ltb-true k job.stages.value (and_parts (b.number.value == k) (nat_lt k job.stages.value)
-    (answer_none (b.number.value == k && nat_lt k job.stages.value) (e_rule 15 b.number.at)
-    (ap (λ o. unwrap_or (option_map (λ r. ask_block (facts_of job) r k b) o) None) is15 ∙ e))).1
-
-blocks_inside : (job : Job) (rule : _) (is15 : slice_get all_rules 0 ≡ Some rule) (k : ℕ) (bs : List Block) → k ≤ job.stages.value → first (ask_blocks (facts_of job) rule k bs) ≡ None → k + length bs ≤ job.stages.value
-unfolding ask_in_block
-blocks_inside job rule is15 k [] l e = omega (arith, l)
-blocks_inside job rule is15 k (b ∷ bs) l e =
-    let x = first_none (ask_in_block (facts_of job) rule k b) (ask_blocks (facts_of job) rule (k + 1) bs) e in
-    let i = block_inside job rule is15 k b (first_none (ask_block (facts_of job) rule k b) (ask_stmts (facts_of job) rule k 0 b.stmts) x.0).0 in
-    let r = blocks_inside job rule is15 (k + 1) bs (omega (arith, i)) x.1 in
-    omega (arith, r)
-
-stages_by : (job : Job) (rule : _) (is15 : slice_get all_rules 0 ≡ Some rule) → ask_head rule job ≡ None → broken_at (facts_of job) job rule ≡ None → length job.blocks ≡ job.stages.value
-unfolding broken_at
-stages_by job rule is15 head e =
-    let n = job.stages.value in
-    let decls = first (ask_decls (facts_of job) rule 0 job.decls) in
-    let blocks = first (ask_blocks (facts_of job) rule 0 job.blocks) in
-    let free = (first_none blocks [] (first_none decls (blocks ∷ []) (first_none (ask_head rule job) (decls ∷ blocks ∷ []) e).1).1).0 in
-    let few = blocks_inside job rule is15 0 job.blocks (omega arith) free in
-    let holds = answer_none (nat_le 2 n && nat_le n 12 && nat_le n (length job.blocks)) (e_rule 15 job.stages.at)
-    (ap (λ o. unwrap_or (option_map (λ r. ask_head r job) o) None) is15 ∙ head) in
-    let many = leb-true n (length job.blocks) (and_parts (nat_le 2 n && nat_le n 12) (nat_le n (length job.blocks)) holds).1 in
-    omega (arith, few, many)
-
--- so there is a block for each stage
-stages_inside : (job : Job) → broken_by (facts_of job) job ≡ None → length job.blocks ≡ job.stages.value
-unfolding broken_by
-stages_inside job e = stages_by job _ refl (head_kept (facts_of job) job e 0 _ refl) (first_none _ _ e).0
-
-rules_kept : (job : Job) → broken_of job ≡ None → broken_by (facts_of job) job ≡ None
-unfolding broken_of
-rules_kept job e = (first_none _ _ e).0
 
 still_placed : (t : Laid) (u v : Under) → SameLengths u v → HasPlaces t u → HasPlaces t v
 still_placed t u v s h = record { names = s.names ∙ h.names; pipes = s.pipes ∙ h.pipes; results = s.results ∙ h.results }
 
-module _ (job : Job) (unbroken : Unbroken (widths_of job)) (kept : broken_of job ≡ None) (t : Laid) (tables : AreTables job t) (rule : _) (is25 : slice_get all_rules 10 ≡ Some rule) (words : List (List ℕ)) (fit : FitSlots (targets_of job.decls) words) where
+module _ (job : Job) (unbroken : Unbroken (widths_of job)) (kept : broken_of job ≡ None) (t : Laid) (tables : AreTables job t) (rule : _) (is25 : slice_get all_rules 10 ≡ Some rule) (words : List (List ℕ)) (fit : FitSlots (targets_of job.decls) words) (row : List Word) (fits : AreSamples job.decls row) where
   -- the instruction of the abstract machine before a stage
   abbrev before : ℕ → Instruction
-  before k = before_stage (machine_of job) (state_in words) no_sample k
+  before k = before_stage (machine_of job) (state_in words) (values_in row) k
 
   stage_is : (k : ℕ) (b : Block) → slice_get job.blocks k ≡ Some b
-      → before (suc k) ≡ after_stage (before k) (run (seen job.decls (state_in words)) (no_hints job.decls (state_in words)) (tree_of job.decls (trees.entered job.decls (before k).pipes) b.stmts))
+      → before (suc k) ≡ after_stage (before k) (run (seen job.decls (state_in words)) (no_hints job.decls (state_in words)) (tree_of job.decls (trees.entered job.decls (values_in row) (before k).pipes) b.stmts))
   unfolding before_stage machine_of stage_tree
-  stage_is k b e = ap (λ o. after_stage (before k) (run (seen job.decls (state_in words)) (no_hints job.decls (state_in words)) (tree_of job.decls (trees.entered job.decls (before k).pipes) (stmts_in o)))) e
+  stage_is k b e = ap (λ o. after_stage (before k) (run (seen job.decls (state_in words)) (no_hints job.decls (state_in words)) (tree_of job.decls (trees.entered job.decls (values_in row) (before k).pipes) (stmts_in o)))) e
 
   -- what holds before a stage with this scope, and after it
   record Reached (k : ℕ) (s : Scoped) (u : Under) : Type 0 where
-    pub of_text : s.text ≡ text job unbroken t tables rule is25
+    pub of_text : s.text ≡ text job unbroken
     pub ended : Ended job.decls (before k) u
     pub places : HasPlaces t u
 
   block_end : (k : ℕ) (b : Block) (s : Scoped) (u : Under) → slice_get job.blocks k ≡ Some b → Unbroken (statements_of job.decls (opened s (scopes.Stage k)) b.stmts)
-      → Reached k s u → Reached (suc k) (statements_of job.decls (opened s (scopes.Stage k)) b.stmts).value (after_block t words u b)
+      → Reached k s u → Reached (suc k) (statements_of job.decls (opened s (scopes.Stage k)) b.stmts).value (after_block t words row u b)
   block_end k b s u at right h =
       let c = before k in
-      let done = trees.entered job.decls c.pipes in
-      let there = enters job unbroken t tables rule is25 k words fit s c u h.of_text h.ended h.places.names h.places.pipes h.places.results (pipe_placed job unbroken t tables rule is25 k words fit c) in
+      let done = trees.entered job.decls (values_in row) c.pipes in
+      let there = enters job unbroken t tables rule is25 k words fit row fits s c u h.of_text h.ended h.places.names h.places.pipes h.places.results (pipe_placed job unbroken t tables rule is25 k words fit c) (sample_placed job unbroken t tables rule is25 k words fit c) in
       let free = subst (λ o. first (ask_stmts (facts_of job) rule k 0 (stmts_in o)) ≡ None) at (stmts_kept (facts_of job) job (rules_kept job kept) 10 rule is25 k) in
-      let turned = all_turn job unbroken t tables rule is25 k words fit c (opened s (scopes.Stage k)) done (entered t u) 0 b.stmts there free right (keyed job unbroken t tables rule is25 k words fit c k b (opened s (scopes.Stage k)) at) in
+      let turned = all_turn job unbroken t tables rule is25 k words fit c (opened s (scopes.Stage k)) done (entered t row u) 0 b.stmts there free right (keyed job unbroken t tables rule is25 k words fit c k b (opened s (scopes.Stage k)) at) in
       let runs = stage_runs job.decls (state_in words) done b.stmts in
       let out = run (seen job.decls (state_in words)) (no_hints job.decls (state_in words)) (tree_of job.decls done b.stmts) in
       record {
         of_text = turned.named.of_text;
-        ended = subst (λ x. Ended job.decls x (after_block t words u b)) (sym (stage_is k b at))
-            (stage_ended job.decls c (nexts job.decls (state_in words) done b.stmts) out (after_block t words u b) (ap (λ o. o.puts) runs) (ap (λ o. o.sets) runs) turned.lists);
-        places = still_placed t u (after_block t words u b) (block_same t words u b) h.places;
+        ended = subst (λ x. Ended job.decls x (after_block t words row u b)) (sym (stage_is k b at))
+            (stage_ended job.decls c (nexts job.decls (state_in words) done b.stmts) out (after_block t words row u b) (ap (λ o. o.puts) runs) (ap (λ o. o.sets) runs) turned.lists);
+        places = still_placed t u (after_block t words row u b) (block_same t words row u b) h.places;
       }
 
   -- the blocks from the one of number k on
   blocks_end : (k : ℕ) (bs : List Block) (s : Scoped) (u : Under) → ((i : ℕ) (b : Block) → slice_get bs i ≡ Some b → slice_get job.blocks (k + i) ≡ Some b)
-      → Unbroken (blocks_of job.decls k s bs) → Reached k s u → Ended job.decls (before (k + length bs)) (after_blocks t words u bs)
+      → Unbroken (blocks_of job.decls k s bs) → Reached k s u → Ended job.decls (before (k + length bs)) (after_blocks t words row u bs)
   blocks_end k [] s u at right h = let z : k ≡ k + 0 = omega arith in subst (λ n. Ended job.decls (before n) u) z h.ended
   blocks_end k (b ∷ bs) s u at right h =
       let z : k + 0 ≡ k = omega arith in
@@ -121,30 +82,30 @@ module _ (job : Job) (unbroken : Unbroken (widths_of job)) (kept : broken_of job
       let here : slice_get job.blocks k ≡ Some b = subst (λ n. slice_get job.blocks n ≡ Some b) z (at 0 b refl) in
       let x = bind_unbroken (statements_of job.decls (opened s (scopes.Stage k)) b.stmts) (λ y. blocks_of job.decls (k + 1) y bs) right in
       let after : Scoped = (statements_of job.decls (opened s (scopes.Stage k)) b.stmts).value in
-      let reached = subst (λ n. Reached n after (after_block t words u b)) next (block_end k b s u here x.0 h) in
-      subst (λ n. Ended job.decls (before n) (after_blocks t words (after_block t words u b) bs)) more
-      (blocks_end (k + 1) bs after (after_block t words u b)
+      let reached = subst (λ n. Reached n after (after_block t words row u b)) next (block_end k b s u here x.0 h) in
+      subst (λ n. Ended job.decls (before n) (after_blocks t words row (after_block t words row u b) bs)) more
+      (blocks_end (k + 1) bs after (after_block t words row u b)
       (λ i y e. let w : k + suc i ≡ (k + 1) + i = omega arith in subst (λ n. slice_get job.blocks n ≡ Some y) w (at (suc i) y e))
       x.1 reached)
 
   -- after the last stage
-  all_ended : (u : Under) → HasPlaces t u → Ended job.decls (before (machine_of job).stages) (after_blocks t words (begun u) job.blocks)
+  all_ended : (u : Under) → HasPlaces t u → Ended job.decls (before (machine_of job).stages) (after_blocks t words row (begun u) job.blocks)
   unfolding machine_of before_stage
   all_ended u places =
       let d = declarations_of job.decls 0 0 nothing job.decls in
       let more = (bind_unbroken d (λ s. blocks_of job.decls 0 s job.blocks >>= (λ y. ok y.entries)) unbroken).1 in
       let right = (bind_unbroken (blocks_of job.decls 0 d.value job.blocks) (λ y. ok y.entries) more).0 in
-      let z : 0 + length job.blocks ≡ job.stages.value = let n = stages_inside job (rules_kept job kept) in omega (arith, n) in
-      subst (λ n. Ended job.decls (before n) (after_blocks t words (begun u) job.blocks)) z
+      let z : 0 + length job.blocks ≡ job.stages.value = let n = stages_inside job kept in omega (arith, n) in
+      subst (λ n. Ended job.decls (before n) (after_blocks t words row (begun u) job.blocks)) z
       (blocks_end 0 job.blocks d.value (begun u)
       (λ i b e. let w : i ≡ 0 + i = omega arith in subst (λ n. slice_get job.blocks n ≡ Some b) w e)
       right
       (record { of_text = refl; ended = begun_ended job.decls u; places = still_placed t u (begun u) (begun_same t u) places }))
 
   -- an instruction leaves the state after it, and its words fit the targets
-  pub step_state : (u : Under) → HasPlaces t u → state_in (executed t u job.blocks words) ≡ after_one job (state_in words)
-  step_state u places = written_after job unbroken t tables words (after_blocks t words (begun u) job.blocks) fit (all_ended u places)
+  pub step_state : (u : Under) → HasPlaces t u → state_in (executed t row u job.blocks words) ≡ after_one job (state_in words) row
+  step_state u places = written_after job unbroken t tables words row (after_blocks t words row (begun u) job.blocks) fit (all_ended u places)
 
-  pub step_fits : (u : Under) → HasPlaces t u → FitSlots (targets_of job.decls) (executed t u job.blocks words)
+  pub step_fits : (u : Under) → HasPlaces t u → FitSlots (targets_of job.decls) (executed t row u job.blocks words)
   step_fits u places =
-      written_fits job unbroken t tables (before (machine_of job).stages) (after_blocks t words (begun u) job.blocks) (all_ended u places) words fit
+      written_fits job unbroken t tables (before (machine_of job).stages) (after_blocks t words row (begun u) job.blocks) (all_ended u places) words fit

@@ -6,8 +6,8 @@ use Rattle.std.proofs.lemmas.List.{set_past, set-get_or, map-set}
 use Rattle.kp_ast.specs.declared.tree.Decl.{Decl}
 use Rattle.kp_machine.specs.Slots.{Slot, result_to}
 use Rattle.kp_seq.specs.declared.tables.Port.{Port}
-use Rattle.kp_seq.specs.Tables.{port_of, ports_from}
-use Rattle.kp_seq.specs.Steps.{with_word}
+use Rattle.kp_seq.specs.inner.Tables.{port_of, ports_from}
+use Rattle.kp_seq.specs.inner.Steps.{with_word}
 
 pub past_targets : (words : List (List ℕ)) (t a v : ℕ) → length words ≤ t → with_word words t a v ≡ words
 past_targets words t a v h = set_past words t (set (get_or words t []) a v) h

@@ -1,12 +1,13 @@
 -- A statement of a stage: what it does to the lists is what it does in the abstract machine.
-use Rattle.std.proofs.Common.{◌≡◌, ◌∙◌, ℕ, ◌<◌, List, [], ◌∷◌, ◌++◌, Option, Some, None, Bool, true, false, cond, not, length, refl, ap, sym, subst}
+use Rattle.std.proofs.Common.{◌≡◌, ◌∙◌, ℕ, ◌<◌, List, [], ◌∷◌, ◌++◌, Option, Some, None, true, false, cond, not, length, refl, ap, sym, subst}
 use Rattle.std.specs.Prelude.{is_some, slice_get, unwrap_or, ◌==◌}
 use Rattle.std.specs.List.{position}
 use Rattle.std.specs.Cmp.Lexicographic.{bytes_decides}
 use Rattle.kp_base.specs.Check.{ok, ◌>>=◌, wants}
 use Rattle.kp_base.specs.Refusal.{e_rule}
 use Rattle.kp_bits.specs.Word.{Word}
-use Rattle.kp_ast.specs.Expressions.{env_of, names_of, eval, is_same_name, no_word}
+use Rattle.kp_ast.specs.Expressions.{env_of, names_of, eval, is_same_name}
+use Rattle.kp_bits.specs.Operators.{no_word}
 use Rattle.kp_ast.specs.Expressions as values
 use Rattle.kp_ast.specs.declared.tree.Expr.{Expr}
 use Rattle.kp_ast.specs.declared.tree.Named as tree
@@ -21,30 +22,22 @@ use Rattle.kp_width.specs.Statements as statements
 use Rattle.kp_width.specs.Widths.{widths_of}
 use Rattle.kp_width.proofs.Unbroken.{Unbroken, bind_unbroken, answer_unbroken}
 use Rattle.kp_width.proofs.Parts.{given_parts}
-use Rattle.kp_width.proofs.Sound.{HasWidth}
+use Rattle.kp_width.specs.Soundness.{HasWidth}
 use Rattle.kp_width.proofs.Calls.{pushed}
 use Rattle.kp_stage.specs.Facts.{facts_of}
 use Rattle.kp_stage.specs.Rules.{ask_expr, ask_option, all_rules}
 use Rattle.kp_machine.specs.Trees.{Progress, with_name}
 use Rattle.kp_machine.specs.Trees as trees
-use Rattle.kp_seq.specs.Tables.{Laid}
-use Rattle.kp_seq.specs.Steps.{Under, word_in, holds, address_in}
-use Rattle.kp_seq.specs.Steps as steps
-use Rattle.kp_seq.specs.Ready.{AreTables}
-use Rattle.kp_seq.proofs.Stage.{Named, is_local, value_found, word_is}
-use Rattle.kp_seq.proofs.Binding.{held_bound, look_up_end}
-use Rattle.kp_seq.proofs.Scopes.{look_last, fresh_none}
-
-by_test : {G : Type 0} (b : Bool) → (b ≡ true → G) → (b ≡ false → G) → G
-by_test true then_so else_so = then_so refl
-by_test false then_so else_so = else_so refl
-
-pub find_none : (s : Scoped) (n : List ℕ) → find s n ≡ None → (look_up s.local n ≡ None) × (look_up s.text n ≡ None)
-find_none s n e = parts (look_up s.local n) (look_up s.text n) e
-  where
-    parts : (a b : Option Sense) → or_else a b ≡ None → (a ≡ None) × (b ≡ None)
-    parts None b e = (refl, e)
-    parts (Some m) b e = cc
+use Rattle.kp_seq.specs.inner.Tables.{Laid}
+use Rattle.kp_seq.specs.inner.Steps.{Under, word_in, holds, address_in}
+use Rattle.kp_seq.specs.inner.Steps as steps
+use Rattle.kp_seq.specs.inner.Ready.{AreTables}
+use Rattle.kp_seq.proofs.Stage.{Named, value_found, word_is}
+use Rattle.kp_seq.proofs.Binding.{held_bound}
+use Rattle.kp_machine.proofs.Scopes.{look_last, fresh_none, find_none}
+use Rattle.kp_machine.proofs.Cases.{by_test}
+use Rattle.kp_machine.proofs.LookUp.{look_up_end}
+use Rattle.kp_machine.proofs.Text.{is_local}
 
 look_past : (names : Names) (n q : List ℕ) (m : Sense) → is_same_name q n ≡ false → look_up (names ++ (n, m) ∷ []) q ≡ look_up names q
 look_past [] n q m y = ap (λ b. cond b (Some m) None) y

@@ -5,30 +5,27 @@ use Rattle.std.proofs.lemmas.Bool.{cases_lt}
 use Rattle.std.proofs.lemmas.List.{length-set, get_or-set_other}
 use Rattle.std.proofs.lemmas.Nat.{pow_pos}
 use Rattle.std.proofs.Math.Dec.{eqb-suc-zero, eqb-zero-suc, eqb-suc-suc}
-use Rattle.kp_base.specs.Check.{ok, ◌>>=◌}
-use Rattle.kp_ast.specs.Expressions.{is_same_name}
+use Rattle.kp_bits.specs.Word.{Word}
 use Rattle.kp_ast.specs.declared.tree.Named.{Named}
 use Rattle.kp_ast.specs.declared.tree.ResultDecl.{ResultDecl}
 use Rattle.kp_ast.specs.declared.tree.Decl.{Decl}
 use Rattle.kp_ast.specs.declared.tree.Job.{Job}
-use Rattle.kp_width.specs.Names.{Names, nothing}
-use Rattle.kp_width.specs.Declarations.{address_width, declarations_of}
-use Rattle.kp_width.specs.Statements.{blocks_of}
+use Rattle.kp_width.specs.Declarations.{address_width}
 use Rattle.kp_width.specs.Widths.{widths_of}
-use Rattle.kp_width.proofs.Unbroken.{Unbroken, bind_unbroken}
+use Rattle.kp_width.proofs.Unbroken.{Unbroken}
 use Rattle.kp_law.specs.Sequential.{Instruction, StageOutcome, first_value, fresh_instruction, after_stage, before_stage, is_written}
-use Rattle.kp_machine.specs.Slots.{Slot, targets_of, pipes_of, number_of, width_of, result_to}
+use Rattle.kp_machine.specs.Slots.{Slot, targets_of, pipes_of, number_of, result_to}
 use Rattle.kp_machine.specs.Trees.{Progress}
-use Rattle.kp_machine.specs.Machine.{machine_of, result_for, is_enabled_by, enabled_of, address_in}
+use Rattle.kp_machine.specs.Machine.{machine_of, values_in, result_for, is_enabled_by, enabled_of, address_in}
 use Rattle.kp_machine.specs.Machine as machines
-use Rattle.kp_machine.proofs.Names.{IsIn}
-use Rattle.kp_machine.proofs.Results.{by_test, to_stands}
 use Rattle.kp_seq.specs.declared.tables.Port.{Port}
-use Rattle.kp_seq.specs.Tables.{Laid, pipe_number, port_of, ports_from}
-use Rattle.kp_seq.specs.Running.{state_in, no_sample, after_one}
-use Rattle.kp_seq.specs.Steps.{Under, begun, is_enabled, address_by, with_word, written_by, written_from}
-use Rattle.kp_seq.specs.Ready.{AreTables, FitsSlot, FitSlots}
-use Rattle.kp_seq.proofs.Scopes.{IsSlot, PipeFits, ResultFits, addresses, all_placed, results_fit, storage_kind}
+use Rattle.kp_seq.specs.inner.Tables.{Laid, pipe_number, port_of, ports_from}
+use Rattle.kp_seq.specs.Running.{state_in, after_one}
+use Rattle.kp_seq.specs.inner.Steps.{Under, begun, is_enabled, address_by, with_word, written_by, written_from}
+use Rattle.kp_seq.specs.inner.Ready.{AreTables, FitsSlot, FitSlots}
+use Rattle.kp_machine.proofs.Scopes.{PipeFits, slot_of}
+use Rattle.kp_machine.proofs.Cases.{by_option}
+use Rattle.kp_machine.proofs.Text.{text, placed, fits_text, target_slot}
 use Rattle.kp_seq.proofs.Changes.{set_seen}
 use Rattle.kp_seq.proofs.Gives.{Lists}
 
@@ -131,25 +128,6 @@ slots_count [] words h = ap length h
 slots_count (s ∷ ss) [] h = absurd h
 slots_count (s ∷ ss) (w ∷ words) h = ap (λ n. suc n) (slots_count ss words h.1)
 
--- the slot of a name
-slot_of : (ss : List Slot) (q : List ℕ) → IsIn ss q → (s : Slot) × (slice_get ss (number_of ss q) ≡ Some s) × (s.width ≡ width_of ss q) × (s.address ≡ addresses ss q)
-slot_of [] q h = absurd (omega arith)
-slot_of (s ∷ ss) q h = by_test (is_same_name q s.name)
-    (λ y. (
-      s,
-      ap (λ b. slice_get (s ∷ ss) (cond b 0 (suc (number_of ss q)))) y,
-      sym (ap (λ b. cond b s.width (width_of ss q)) y),
-      sym (ap (λ b. cond b s.address (addresses ss q)) y),
-    ))
-    (λ n.
-    let l : suc (number_of ss q) < suc (length ss) = subst (λ b. cond b 0 (suc (number_of ss q)) < suc (length ss)) n h in
-    let r = slot_of ss q (omega arith) in (
-      r.0,
-      ap (λ b. slice_get (s ∷ ss) (cond b 0 (suc (number_of ss q)))) n ∙ r.1,
-      r.2 ∙ sym (ap (λ b. cond b s.width (width_of ss q)) n),
-      r.3 ∙ sym (ap (λ b. cond b s.address (addresses ss q)) n),
-    ))
-
 eqb_turned : (a b : ℕ) → eqb a b ≡ eqb b a
 eqb_turned zero zero = refl
 eqb_turned zero (suc b) = eqb-zero-suc b ∙ sym (eqb-suc-zero b)
@@ -167,10 +145,6 @@ either_fits false v w n h k = k
 or_zero_fits : (o : Option ℕ) (w : ℕ) → ((v : ℕ) → o ≡ Some v → v < 2 ^ w) → unwrap_or o 0 < 2 ^ w
 or_zero_fits None w h = pow_pos w
 or_zero_fits (Some v) w h = h v refl
-
-by_option : {X G : Type 0} (o : Option X) → (o ≡ None → G) → ((x : X) → o ≡ Some x → G) → G
-by_option None none some = none refl
-by_option (Some x) none some = some x refl
 
 -- An instruction that is done: the lists of its pipes and results have the values of the abstract instruction, and these fit.
 pub record Ended (ds : List Decl) (c : Instruction) (u : Under) : Type 0 where
@@ -204,29 +178,12 @@ begun_ended ds u = record {
 }
 
 module _ (job : Job) (unbroken : Unbroken (widths_of job)) (t : Laid) (tables : AreTables job t) where
-  abbrev text : Names
-  text = (declarations_of job.decls 0 0 nothing job.decls).value.text
-
-  declared_right : Unbroken (declarations_of job.decls 0 0 nothing job.decls)
-  declared_right = (bind_unbroken (declarations_of job.decls 0 0 nothing job.decls) (λ s. blocks_of job.decls 0 s job.blocks >>= (λ u. ok u.entries)) unbroken).0
-
-  -- the result of a target is one of the text
-  fits_text : (x : ℕ) (r : ResultDecl) → result_to (targets_of job.decls) job.decls x ≡ Some r → ResultFits text r × (number_of (targets_of job.decls) r.target.name ≡ x)
-  fits_text x r e =
-      let s = to_stands (targets_of job.decls) job.decls x r e in
-      (results_fit job.decls 0 0 nothing job.decls refl declared_right s.0.index r s.0.there, s.1)
-
-  -- the target of a result
-  target_slot : (r : ResultDecl) (f : ResultFits text r) → IsSlot (targets_of job.decls) r.target.name f.sense.width (address_width f.sense.kind)
-  target_slot r f =
-      (all_placed job.decls 0 0 nothing job.decls refl declared_right r.target.name f.sense refl f.found).target (storage_kind (is_some r.address) f.sense.kind f.stored)
-
   -- a target past the last has no result
   no_result : (x : ℕ) → length (targets_of job.decls) ≤ x → result_to (targets_of job.decls) job.decls x ≡ None
   no_result x l = by_option (result_to (targets_of job.decls) job.decls x) (λ e. e)
       (λ r e.
-      let f = fits_text x r e in
-      let i : number_of (targets_of job.decls) r.target.name < length (targets_of job.decls) = (target_slot r f.0).inside in
+      let f = fits_text job unbroken x r e in
+      let i : number_of (targets_of job.decls) r.target.name < length (targets_of job.decls) = (target_slot job unbroken r f.0).inside in
       let n = f.1 in
       absurd (omega (arith, i, n, l)))
 
@@ -253,10 +210,10 @@ module _ (job : Job) (unbroken : Unbroken (widths_of job)) (t : Laid) (tables : 
     address_same (Some n) = done.pipes (number_of (pipes_of job.decls) n.name)
 
     -- a value of an address pipe is an address
-    address_fits : (w : ℕ) (o : Option Named) → PipeFits text w o → address_by u (pipe_number (pipes_of job.decls) o) < 2 ^ w
+    address_fits : (w : ℕ) (o : Option Named) → PipeFits (text job unbroken) w o → address_by u (pipe_number (pipes_of job.decls) o) < 2 ^ w
     address_fits w None h = pow_pos w
     address_fits w (Some n) h =
-        let at = (all_placed job.decls 0 0 nothing job.decls refl declared_right n.name h.0 refl h.1).pipe h.2 in
+        let at = (placed job unbroken n.name h.0 h.1).pipe h.2 in
         let s = slot_of (pipes_of job.decls) n.name at.inside in
         let e : s.0.width ≡ w = s.2 ∙ at.width ∙ h.3 in
         subst (λ y. slice_index u.pipes (number_of (pipes_of job.decls) n.name) < 2 ^ y) e (done.pipe_fits (number_of (pipes_of job.decls) n.name) s.0 s.1)
@@ -278,8 +235,8 @@ module _ (job : Job) (unbroken : Unbroken (widths_of job)) (t : Laid) (tables : 
       inside : (x : ℕ) (r : ResultDecl) → result_to (targets_of job.decls) job.decls x ≡ Some r
           → address_by u (pipe_number (pipes_of job.decls) r.address) < length (get_or words x [])
       inside x r e =
-          let f = fits_text x r e in
-          let at = target_slot r f.0 in
+          let f = fits_text job unbroken x r e in
+          let at = target_slot job unbroken r f.0 in
           let s = slot_of (targets_of job.decls) r.target.name at.inside in
           let there : slice_get (targets_of job.decls) x ≡ Some s.0 = ap (slice_get (targets_of job.decls)) (sym f.1) ∙ s.1 in
           let n : length (get_or words x []) ≡ 2 ^ address_width f.0.sense.kind =
@@ -316,7 +273,7 @@ module _ (job : Job) (unbroken : Unbroken (widths_of job)) (t : Laid) (tables : 
           })
 
   -- After the last stage the words that are written are the state after one instruction.
-  pub written_after : (words : List (List ℕ)) (u : Under) → FitSlots (targets_of job.decls) words
-      → Ended job.decls (before_stage (machine_of job) (state_in words) no_sample (machine_of job).stages) u
-      → state_in (written_from u words 0 t.ports) ≡ after_one job (state_in words)
-  written_after words u fits done = written_state (before_stage (machine_of job) (state_in words) no_sample (machine_of job).stages) u done words fits
+  pub written_after : (words : List (List ℕ)) (row : List Word) (u : Under) → FitSlots (targets_of job.decls) words
+      → Ended job.decls (before_stage (machine_of job) (state_in words) (values_in row) (machine_of job).stages) u
+      → state_in (written_from u words 0 t.ports) ≡ after_one job (state_in words) row
+  written_after words row u fits done = written_state (before_stage (machine_of job) (state_in words) (values_in row) (machine_of job).stages) u done words fits

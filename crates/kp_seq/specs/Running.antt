@@ -1,11 +1,9 @@
--- A sequential machine that runs.
-use Rattle.std.specs.Prelude.{ℕ, zero, suc, ◌^◌, ◌<◌, List, [], ◌∷◌, length, get_or, slice_index}
+-- A sequential machine that runs: the state that it is in, and the state after steps.
+use Rattle.std.specs.Prelude.{ℕ, ◌^◌, ◌<◌, List, [], ◌∷◌, length, get_or, slice_index}
 use Rattle.kp_bits.specs.Word.{Word, word}
 use Rattle.kp_ast.specs.declared.tree.Job.{Job}
-use Rattle.kp_ast.specs.declared.tree.Decl.{Decl}
-use Rattle.kp_ast.specs.declared.tree.Decl.TheVariants as decls
 use Rattle.kp_law.specs.Sequential.{exec}
-use Rattle.kp_machine.specs.Machine.{machine_of}
+use Rattle.kp_machine.specs.Machine.{machine_of, values_in}
 use Rattle.kp_machine.specs.Slots.{Slot, targets_of}
 
 -- a job, and the words of the targets of its machine
@@ -37,24 +35,15 @@ state m = state_in m.words
 abbrev pub word_shown : Running → ℕ → ℕ → Word
 word_shown m t a = word (target m.job t).width (state m t a)
 
--- no instruction looks at a sample
-abbrev pub no_sample : ℕ → ℕ
-no_sample x = 0
+-- the state after one instruction, which takes a row of samples
+abbrev pub after_one : Job → (ℕ → ℕ → ℕ) → List Word → (ℕ → ℕ → ℕ)
+after_one job s row = exec (machine_of job) s (values_in row)
 
--- the state after one instruction
-abbrev pub after_one : Job → (ℕ → ℕ → ℕ) → (ℕ → ℕ → ℕ)
-after_one job s = exec (machine_of job) s no_sample
+-- the state of the machine of a job after a step for each of these rows
+abbrev pub after_rows : Job → (ℕ → ℕ → ℕ) → List (List Word) → (ℕ → ℕ → ℕ)
+after_rows job s [] = s
+after_rows job s (row ∷ rows) = after_rows job (after_one job s row) rows
 
--- the state of the machine of a job after i steps from s
-abbrev pub state_after : Job → (ℕ → ℕ → ℕ) → ℕ → (ℕ → ℕ → ℕ)
-state_after job s zero = s
-state_after job s (suc i) = after_one job (state_after job s i)
-
--- the words of the targets of these declarations, of which the registers have these values and the files these words
-abbrev pub words_of_start : List Decl → List Word → List (List ℕ) → List (List ℕ)
-words_of_start [] regs files = []
-words_of_start (decls.Reg n width start ∷ ds) [] files = [] ∷ words_of_start ds [] files
-words_of_start (decls.Reg n width start ∷ ds) (r ∷ regs) files = (r.value ∷ []) ∷ words_of_start ds regs files
-words_of_start (decls.File n width address ∷ ds) regs [] = [] ∷ words_of_start ds regs []
-words_of_start (decls.File n width address ∷ ds) regs (f ∷ files) = f ∷ words_of_start ds regs files
-words_of_start (_ ∷ ds) regs files = words_of_start ds regs files
+-- the values of the samples in the rows of a list, and 0 past its end
+abbrev pub given_by : List (List Word) → ℕ → ℕ → ℕ
+given_by rows i = values_in (get_or rows i [])

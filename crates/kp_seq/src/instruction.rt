@@ -4,8 +4,8 @@ ghost use Rattle.std.specs.Option.{option_map};
 ghost use Rattle.kp_stage.specs.Sizes.{size_of_option, size_of_kind, size_of_stmt, size_of_block};
 ghost use Rattle.kp_ast.specs.Size.{size};
 ghost use Rattle.kp_machine.specs.Slots.{number_of, result_named};
-ghost use Rattle.kp_seq.specs.Ready.{HasPlaces};
-ghost use Rattle.kp_seq.specs.Steps.{zero_bit, word_in, holds, address_in, address_read, fitted, value_read, with_name, with_pipe, with_first, with_result, after_stmt, after_stmts, with_pipes, entered, after_block, after_blocks, begun, is_enabled, address_by, written_by, written_from, executed};
+ghost use Rattle.kp_seq.specs.inner.Ready.{HasPlaces};
+ghost use Rattle.kp_seq.specs.inner.Steps.{zero_bit, word_in, holds, address_in, address_read, fitted, value_read, with_name, with_pipe, with_first, with_result, after_stmt, after_stmts, with_pipes, with_row, entered, after_block, after_blocks, begun, is_enabled, address_by, written_by, written_from, executed};
 
 use crate::tables::{Port, Tables, number_of, width_of};
 use crate::value::{Names, find_value};
@@ -26,7 +26,7 @@ pub(crate) struct Instruction {
 }
 
 impl Model for Instruction {
-    ghost use Rattle.kp_seq.specs.Steps.{Under};
+    ghost use Rattle.kp_seq.specs.inner.Steps.{Under};
 
     ghost Value = { Under };
 
@@ -104,11 +104,33 @@ impl Instruction {
         }
     }
 
-    // A stage begins: of the names the pipes have values.
-    fn enter(&mut self, tables: &Tables)
-        ensures { self.new ≡ entered tables.now self.old }
+    // Gives the samples the words of a row.
+    fn sample(&mut self, tables: &Tables, row: &[Bits])
+        ensures { self.new ≡ with_row tables.now self.old tables.now.samples row.now }
+    {
+        let samples = tables.samples.as_slice();
+        for i in 0..samples.len() {
+            if i >= row.len() {
+                return;
+            }
+            let slot = &samples[i];
+            self.bind(tables, &slot.name, row[i]);
+        }
+    }
+
+    // A stage begins: of the names the samples and the pipes have values.
+    fn enter(&mut self, tables: &Tables, row: &[Bits])
+        ensures { self.new ≡ entered tables.now row.now self.old }
     {
         self.names.as_mut_slice().fill(None);
+        self.sample(tables, row);
+        self.bring_pipes(tables);
+    }
+
+    // The pipes are names of the stage.
+    fn bring_pipes(&mut self, tables: &Tables)
+        ensures { self.new ≡ with_pipes tables.now self.old 0 tables.now.pipes }
+    {
         let pipes = tables.pipes.as_slice();
         for (i, slot) in pipes.iter().enumerate() {
             let value = fitted(slot.width, self.pipe(i));
@@ -134,39 +156,41 @@ pub(crate) fn zero_bit() -> Bits
     Bits::new(1, 0).unwrap()
 }
 
-/// Runs one instruction on these words.
+/// Runs one instruction on these words, with these words of the samples.
 pub(crate) fn execute(
     tables: &Tables,
+    row: &[Bits],
     under: &mut Instruction,
     room: &mut [Bits],
     blocks: &[Block],
     words: &mut Words,
 )
     requires { All (λ b. size_of_block tables.now.decls b ≤ length room.old) blocks.now }
-    ensures words { words.new ≡ executed tables.now under.old blocks.now words.old }
+    ensures words { words.new ≡ executed tables.now row.now under.old blocks.now words.old }
     ensures names { length under.new.names ≡ length under.old.names }
     ensures pipes { length under.new.pipes ≡ length under.old.pipes }
     ensures results { length under.new.results ≡ length under.old.results }
     ensures room { length room.new ≡ length room.old }
 {
     under.begin();
-    run_blocks(tables, under, room, blocks, words);
+    run_blocks(tables, row, under, room, blocks, words);
     write(tables, under, words);
 }
 
 fn run_blocks(
     tables: &Tables,
+    row: &[Bits],
     under: &mut Instruction,
     room: &mut [Bits],
     blocks: &[Block],
     words: &Words,
 )
     requires { All (λ b. size_of_block tables.now.decls b ≤ length room.old) blocks.now }
-    ensures under { under.new ≡ after_blocks tables.now words.now under.old blocks.now }
+    ensures under { under.new ≡ after_blocks tables.now words.now row.now under.old blocks.now }
     ensures room { length room.new ≡ length room.old }
 {
     for block in blocks {
-        under.enter(tables);
+        under.enter(tables, row);
         run_stmts(tables, under, room, block.stmts.as_slice(), words);
     }
 }

@@ -1,5 +1,6 @@
-ghost use Rattle.std.specs.Prelude.{◌≡◌, IfOk};
-ghost use Rattle.kp_stage.specs.Start.{IsStartOf};
+ghost use Rattle.std.specs.Prelude.{◌≡◌, [], IfOk};
+ghost use Rattle.kp_stage.specs.Start.{IsStartOf, AreSamples};
+ghost use Rattle.kp_machine.specs.Slots.{samples_of};
 ghost use Rattle.kp_machine.specs.Machine.{state_of};
 ghost use Rattle.kp_seq.specs.Running.{HasWord, state, after_one, word_shown};
 
@@ -27,7 +28,7 @@ impl<'a> Model for SeqMachine<'a> {
     ghost use Rattle.std.specs.Prelude.{length};
     ghost use Rattle.kp_ast.specs.contracts.tree.ExprKind as e;
     ghost use Rattle.kp_seq.specs.Running.{Running};
-    ghost use Rattle.kp_seq.specs.Ready.{IsReady};
+    ghost use Rattle.kp_seq.specs.inner.Ready.{IsReady};
 
     ghost Value = { Running };
 
@@ -58,14 +59,33 @@ impl<'a> SeqMachine<'a> {
         })
     }
 
-    /// Runs one instruction. Takes no memory.
+    /// Runs one instruction of a machine without samples. Takes no memory.
+    #[tactic(auto, using(crate::proofs::Sampling::no_row))]
     pub fn step(&mut self)
+        requires { samples_of self.old.job.decls ≡ [] }
         ensures job { self.new.job ≡ self.old.job }
-        ensures state { state self.new ≡ after_one self.old.job (state self.old) }
+        ensures state { state self.new ≡ after_one self.old.job (state self.old) [] }
+    {
+        self.step_with(&[]);
+    }
+
+    /// Runs one instruction, which takes a row of samples: a value for each one, of its width, in the order of declaration. Takes no
+    /// memory.
+    pub fn step_with(&mut self, row: &[Bits])
+        requires { AreSamples self.old.job.decls row.now }
+        ensures job { self.new.job ≡ self.old.job }
+        ensures state { state self.new ≡ after_one self.old.job (state self.old) row.now }
     {
         let blocks = self.design.job().blocks.as_slice();
         let room = self.room.as_mut_slice();
-        execute(&self.tables, &mut self.under, room, blocks, &mut self.words);
+        execute(
+            &self.tables,
+            row,
+            &mut self.under,
+            room,
+            blocks,
+            &mut self.words,
+        );
     }
 
     /// The value of a target at an address. The targets are the registers and files in the order of declaration. A register

@@ -2,10 +2,10 @@
 ghost use Rattle.std.specs.Prelude.{[], ◌≡◌, ◌<◌, ℕ, length, IfOk, OnOk, get_or, IfSome};
 ghost use Rattle.std.specs.List.{position};
 ghost use Rattle.kp_ast.specs.Expressions.{is_same_name};
-ghost use Rattle.kp_machine.specs.Slots.{targets_of, pipes_of, number_of, width_of, result_to, result_named};
-ghost use Rattle.kp_seq.specs.Ready.{AreTables};
+ghost use Rattle.kp_machine.specs.Slots.{targets_of, pipes_of, samples_of, number_of, width_of, result_to, result_named};
+ghost use Rattle.kp_seq.specs.inner.Ready.{AreTables};
 ghost use Rattle.kp_seq.specs.Running.{no_slot};
-ghost use Rattle.kp_seq.specs.Tables.{keys_of, port_of, ports_of, pipe_number};
+ghost use Rattle.kp_seq.specs.inner.Tables.{keys_of, port_of, ports_of, pipe_number};
 
 use indexmap::IndexSet;
 use kp_ast::{Decl, Name, Named, Num, Widths};
@@ -14,7 +14,7 @@ use kp_stage::Design;
 use std::alloc::Global;
 use std::marker::Model;
 
-/// What holds values: a register, a file or a pipe. A register and a pipe have no addresses, so their width is 0.
+/// What holds values: a register, a file, a pipe or a sample. All but files have no addresses, so their width is 0.
 #[derive(Drop)]
 pub(crate) struct Slot {
     pub name: Name,
@@ -67,6 +67,19 @@ pub(crate) fn pipes(alloc: Global, decls: &[Decl]) -> Result<Vec<Slot>, NoMemory
     let mut slots = Vec::new(alloc);
     for decl in decls {
         if let Decl::Pipe(name, width) = decl {
+            slots.push(Slot::new(name, width, 0)?)?;
+        }
+    }
+    Ok(slots)
+}
+
+/// The samples in the order of declaration.
+pub(crate) fn samples(alloc: Global, decls: &[Decl]) -> Result<Vec<Slot>, NoMemory>
+    ensures { IfOk result (λ slots. slots.items ≡ samples_of decls.now) }
+{
+    let mut slots = Vec::new(alloc);
+    for decl in decls {
+        if let Decl::Sample(name, width, _) = decl {
             slots.push(Slot::new(name, width, 0)?)?;
         }
     }
@@ -153,6 +166,7 @@ pub(crate) struct Tables<'a> {
     pub decls: &'a [Decl],
     pub targets: Vec<Slot>,
     pub pipes: Vec<Slot>,
+    pub samples: Vec<Slot>,
     pub ports: Vec<Option<Port>>,
     pub names: Keys,
 }
@@ -160,13 +174,13 @@ pub(crate) struct Tables<'a> {
 impl<'a> Model for Tables<'a> {
     ghost use Rattle.std.specs.Coded.{codes};
     ghost use Rattle.kp_ast.specs.contracts.tree.ExprKind as e;
-    ghost use Rattle.kp_seq.specs.Tables.{Laid};
+    ghost use Rattle.kp_seq.specs.inner.Tables.{Laid};
 
     ghost Value = { Laid };
 
     ghost coded = { Prim.hlevel (codes, e.the_row.coded) };
 
-    ghost view = { λ t. record { decls = t.decls.now; targets = t.targets.items; pipes = t.pipes.items; ports = t.ports.items; names = t.names } };
+    ghost view = { λ t. record { decls = t.decls.now; targets = t.targets.items; pipes = t.pipes.items; samples = t.samples.items; ports = t.ports.items; names = t.names } };
 }
 
 impl<'a> Tables<'a> {
@@ -186,12 +200,14 @@ impl<'a> Tables<'a> {
         let decls = d.job().decls.as_slice();
         let targets = targets(alloc, decls)?;
         let pipes = pipes(alloc, decls)?;
+        let samples = samples(alloc, decls)?;
         let ports = ports(alloc, decls, targets.as_slice(), pipes.as_slice())?;
         let names = Keys::of(alloc, d.widths())?;
         Ok(Tables {
             decls,
             targets,
             pipes,
+            samples,
             ports,
             names,
         })

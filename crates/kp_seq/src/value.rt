@@ -2,14 +2,16 @@
 ghost use Rattle.std.specs.Prelude.{◌≡◌, ◌≤◌, ◌+◌, length, map, All};
 ghost use Rattle.std.specs.Option.{option_and_then};
 ghost use Rattle.kp_ast.specs.Expressions.{look_up, arguments_of};
-ghost use Rattle.kp_ast.specs.Size.{size, sizes_with, bodies_of, body_size_of};
-ghost use Rattle.kp_ast.specs.Checked.{checked, checked_calls_of, checked_call, all_there, checked_joined, checked_literal, checked_binary, checked_mux, checked_slice, checked_zext, checked_sext};
-ghost use Rattle.kp_seq.specs.Names.{named, held};
-ghost use Rattle.kp_seq.specs.Values.{known_by, Fills};
+ghost use Rattle.kp_ast.specs.Size.{size, bodies_of, body_size_of};
+ghost use Rattle.kp_ast.specs.inner.Sizes.{sizes_with};
+ghost use Rattle.kp_ast.specs.Checked.{checked, checked_calls_of, checked_call, all_there};
+ghost use Rattle.kp_bits.specs.Checked.{checked_joined, checked_literal, checked_binary, checked_mux, checked_slice, checked_zext, checked_sext};
+ghost use Rattle.kp_seq.specs.inner.Names.{named, held};
+ghost use Rattle.kp_seq.specs.inner.Values.{known_by, Fills};
 
 use crate::tables::Keys;
-use kp_ast::{BinOp, Decl, Expr, ExprKind, Name, Param};
-use kp_bits::{Bits, Literal};
+use kp_ast::{Decl, Expr, ExprKind, Name, Param};
+use kp_bits::{Bits, checked};
 
 /// Where the names of an expression have their values: in a stage, or in the call of a function.
 #[derive(Clone, Copy)]
@@ -27,27 +29,31 @@ pub(crate) fn find_value(decls: &[Decl], names: Names, room: &mut [Bits], e: &Ex
     ensures room { length room.new ≡ length room.old }
 {
     match &e.kind {
-        ExprKind::Lit(literal) => value_of_literal(*literal),
+        ExprKind::Lit(literal) => checked::literal(*literal),
         ExprKind::Name(name) => value_of_name(names, name),
         ExprKind::Not(a) => Some(find_value(decls, names, room, a.get())?.not()),
         ExprKind::Binary(op, a, b) => {
             let a = find_value(decls, names, room, a.get())?;
             let b = find_value(decls, names, room, b.get())?;
-            binary(*op, a, b)
+            checked::binary(*op, a, b)
         }
         ExprKind::Mux(test, a, b) => {
             let test = find_value(decls, names, room, test.get())?;
             let a = find_value(decls, names, room, a.get())?;
             let b = find_value(decls, names, room, b.get())?;
-            choice(test, a, b)
+            checked::choice(test, a, b)
         }
         ExprKind::Concat(parts) => find_joined(decls, names, room, parts.as_slice()),
-        ExprKind::Slice(a, hi, lo) => slice(find_value(decls, names, room, a.get())?, *hi, *lo),
+        ExprKind::Slice(a, hi, lo) => checked::slice(
+            find_value(decls, names, room, a.get())?,
+            *hi,
+            *lo,
+        ),
         ExprKind::Zext(a, width) => {
-            zero_extended(find_value(decls, names, room, a.get())?, width.value)
+            checked::zero_extended(find_value(decls, names, room, a.get())?, width.value)
         }
         ExprKind::Sext(a, width) => {
-            sign_extended(find_value(decls, names, room, a.get())?, width.value)
+            checked::sign_extended(find_value(decls, names, room, a.get())?, width.value)
         }
         ExprKind::Call(name, args) => find_applied(decls, names, room, name, args.as_slice()),
     }
@@ -62,7 +68,7 @@ fn find_joined(decls: &[Decl], names: Names, room: &mut [Bits], parts: &[Expr]) 
 {
     let (values, rest) = room.split_at_mut(parts.len());
     find_values(decls, names, values, rest, parts)?;
-    joined(values)
+    checked::joined(values)
 }
 
 // The value of a call at these arguments.
@@ -178,75 +184,4 @@ fn argument(params: &[Param], args: &[Bits], name: &Name) -> Option<Bits>
         }
     }
     None
-}
-
-fn value_of_literal(literal: Literal) -> Option<Bits>
-    ensures { result ≡ checked_literal literal }
-{
-    literal.fit().ok()
-}
-
-fn binary(op: BinOp, a: Bits, b: Bits) -> Option<Bits>
-    ensures { result ≡ checked_binary op a b }
-{
-    if op.is_shift() || a.width() == b.width() {
-        Some(op.apply(a, b))
-    } else {
-        None
-    }
-}
-
-fn choice(test: Bits, a: Bits, b: Bits) -> Option<Bits>
-    ensures { result ≡ checked_mux test a b }
-{
-    if test.width() == 1 && a.width() == b.width() {
-        Some(test.mux(a, b))
-    } else {
-        None
-    }
-}
-
-// The parts in a row, the first on top.
-fn joined(parts: &[Bits]) -> Option<Bits>
-    ensures { result ≡ checked_joined parts.now }
-{
-    let (first, rest) = parts.split_first()?;
-    let mut all = *first;
-    for part in rest {
-        if all.width() + part.width() > 64 {
-            return None;
-        }
-        all = all.concat(*part);
-    }
-    Some(all)
-}
-
-fn slice(a: Bits, hi: u64, lo: u64) -> Option<Bits>
-    ensures { result ≡ checked_slice hi lo a }
-{
-    if lo <= hi && hi < u64::from(a.width()) {
-        Some(a.slice(hi as u8, lo as u8))
-    } else {
-        None
-    }
-}
-
-fn zero_extended(a: Bits, width: u64) -> Option<Bits>
-    ensures { result ≡ checked_zext width a }
-{
-    if u64::from(a.width()) <= width && width <= 64 {
-        Some(a.zext(width as u8))
-    } else {
-        None
-    }
-}
-
-fn sign_extended(a: Bits, width: u64) -> Option<Bits>
-    ensures { result ≡ checked_sext width a }
-{
-    if u64::from(a.width()) <= width && width <= 64 {
-        Some(a.sext(width as u8))
-    } else {
-        None
-    }
 }

@@ -1,8 +1,9 @@
 //! The words of the targets.
 ghost use Rattle.std.specs.Prelude.{◌≡◌, IfOk};
 ghost use Rattle.kp_stage.specs.Start.{AreRegs, AreFiles};
-ghost use Rattle.kp_seq.specs.Steps.{word_at, with_word};
-ghost use Rattle.kp_seq.specs.Running.{words_of_start};
+ghost use Rattle.kp_seq.specs.Running.{state_in};
+ghost use Rattle.kp_seq.specs.inner.Steps.{with_word};
+ghost use Rattle.kp_seq.specs.inner.Ready.{words_of_start};
 
 use kp_ast::Decl;
 use kp_base::NoMemory;
@@ -54,7 +55,7 @@ impl Words {
 
     /// The word of a target at an address, and 0 where there is none.
     pub fn word(&self, target: usize, address: u64) -> u64
-        ensures { result ≡ word_at self.now target address }
+        ensures { result ≡ state_in self.now target address }
     {
         if target >= self.targets.len() {
             return 0;
@@ -66,8 +67,8 @@ impl Words {
         words[address as usize]
     }
 
-    #[tactic(auto, using(crate::proofs::Stored::past_targets, crate::proofs::Stored::past_words))]
     /// Writes the word of a target at an address, if there is one.
+    #[tactic(auto, using(crate::proofs::Stored::past_targets, crate::proofs::Stored::past_words))]
     pub fn set_word(&mut self, target: usize, address: u64, value: u64)
         ensures { self.new ≡ with_word self.old target address value }
     {

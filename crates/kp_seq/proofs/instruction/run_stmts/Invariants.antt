@@ -1,5 +1,5 @@
 use Rattle.std.proofs.Common.{◌≡◌, drop, length}
-use Rattle.kp_seq.specs.Steps.{after_stmts}
+use Rattle.kp_seq.specs.inner.Steps.{after_stmts}
 use Rattle.kp_seq.proofs.instruction.run_stmts.Given as goal
 
 abbrev pub invariant-loop-stmt : goal.invariant-loop-stmt

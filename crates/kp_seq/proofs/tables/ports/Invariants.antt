@@ -1,5 +1,5 @@
 use Rattle.std.proofs.Common.{◌≡◌, ◌-◌, ◌++◌, length}
-use Rattle.kp_seq.specs.Tables.{ports_from}
+use Rattle.kp_seq.specs.inner.Tables.{ports_from}
 use Rattle.kp_seq.proofs.tables.ports.Given as goal
 
 abbrev pub invariant-loop-t : goal.invariant-loop-t

@@ -1,7 +1,7 @@
 use Rattle.std.proofs.Common.{arith, sym, length-set, ◌∙◌}
 use Rattle.kp_ast.specs.Checked.{checked}
 use Rattle.kp_ast.specs.Size.{size_with, bodies_of}
-use Rattle.kp_seq.specs.Values.{known_by}
+use Rattle.kp_seq.specs.inner.Values.{known_by}
 use Rattle.kp_seq.proofs.Rooms.{sized, as_many, each_fits, fills_more, fills_none}
 use Rattle.kp_seq.proofs.value.+value.Goals as goal
 

@@ -2,7 +2,7 @@ use Rattle.std.proofs.Common.{◌≡◌, ◌+◌, ◌*◌, map, take, length}
 use Rattle.std.specs.Prelude.{Some}
 use Rattle.kp_ast.specs.Checked.{checked, all_there}
 use Rattle.kp_ast.proofs.Weight.{weight, weight_of}
-use Rattle.kp_seq.specs.Values.{known_by}
+use Rattle.kp_seq.specs.inner.Values.{known_by}
 use Rattle.kp_seq.proofs.value.+value.Given as goal
 
 abbrev pub decreases-find_value : goal.decreases-find_value

@@ -1,6 +1,6 @@
 use Rattle.std.proofs.Common.{◌≡◌, ap, ◌∙◌, subst, sym, get_or}
-use Rattle.kp_seq.specs.Running.{Running, HasWord, no_slot, target, word_shown}
-use Rattle.kp_seq.specs.Steps.{fitted, word_at}
+use Rattle.kp_seq.specs.Running.{Running, HasWord, no_slot, target, state_in, word_shown}
+use Rattle.kp_seq.specs.inner.Steps.{fitted}
 use Rattle.kp_seq.proofs.Start.{shown_is}
 use Rattle.kp_seq.proofs.machine.SeqMachine.value.Goals as goal
 
@@ -13,6 +13,6 @@ returns c =
     let has : HasWord v.job t a = subst (λ (x : Running). HasWord x.job t a) (sym c.self.view_is) c.requires in
     let w : c.target_width-width.result ≡ (target v.job t).width = c.target_width-width.ensures ∙ ap (λ ss. (get_or ss t no_slot).width) c.self.invariant.tables.targets in
     c.fitted.ensures
-    ∙ ap (fitted c.target_width-width.result) (c.word.ensures ∙ ap (word_at m.words t) c.from.ensures)
+    ∙ ap (fitted c.target_width-width.result) (c.word.ensures ∙ ap (state_in m.words t) c.from.ensures)
     ∙ shown_is v t a c.target_width-width.result c.self.invariant.names c.self.invariant.words has w
     ∙ ap (λ x. word_shown x t a) c.self.view_is

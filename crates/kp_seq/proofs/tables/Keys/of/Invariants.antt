@@ -1,5 +1,5 @@
 use Rattle.std.proofs.Common.{◌≡◌, [], drop}
-use Rattle.kp_seq.specs.Tables.{keys_of}
+use Rattle.kp_seq.specs.inner.Tables.{keys_of}
 use Rattle.kp_seq.proofs.tables.Keys.of.Given as goal
 
 abbrev pub invariant-loop-entry : goal.invariant-loop-entry

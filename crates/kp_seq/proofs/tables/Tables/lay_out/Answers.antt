@@ -1,7 +1,7 @@
 use Rattle.std.proofs.Common.{[], ap, ◌∙◌}
 use Rattle.kp_ast.specs.declared.tree.Job.{Job}
-use Rattle.kp_seq.specs.Tables.{ports_of, keys_of}
-use Rattle.kp_machine.specs.Slots.{targets_of, pipes_of}
+use Rattle.kp_seq.specs.inner.Tables.{ports_of, keys_of}
+use Rattle.kp_machine.specs.Slots.{targets_of, pipes_of, samples_of}
 use Rattle.kp_seq.proofs.tables.Tables.lay_out.Goals as goal
 
 pub returns : goal.returns
@@ -11,6 +11,7 @@ returns c =
       decls = e;
       targets = c.in_ok-targets.ensures ∙ ap targets_of e;
       pipes = c.in_ok-pipes.ensures ∙ ap pipes_of e;
+      samples = c.in_ok-samples.ensures ∙ ap samples_of e;
       ports = c.in_ok-ports.ensures ∙ ap ports_of e;
       names = c.in_ok-names.ensures ∙ ap (keys_of []) (c.widths.ensures ∙ c.job.ensures.sound.widths);
     }

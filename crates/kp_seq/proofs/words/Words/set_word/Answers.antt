@@ -2,7 +2,7 @@ use Rattle.std.proofs.Common.{◌<◌, [], length, refl, ap, sym, ◌∙◌, ari
 use Rattle.std.specs.Prelude.{ℕ, Vec}
 use Rattle.std.specs.declared.alloc.Global.{Global}
 use Rattle.std.proofs.lemmas.List.{get_or-map}
-use Rattle.kp_seq.specs.Steps.{with_word}
+use Rattle.kp_seq.specs.inner.Steps.{with_word}
 use Rattle.kp_seq.proofs.Stored.{word_stored}
 use Rattle.kp_seq.proofs.words.Words.set_word.Goals as goal
 

@@ -1,6 +1,6 @@
 use Rattle.std.proofs.Common.{◌≡◌, ◌++◌, map, drop}
 use Rattle.kp_stage.specs.Start.{AreRegs, AreFiles}
-use Rattle.kp_seq.specs.Running.{words_of_start}
+use Rattle.kp_seq.specs.inner.Ready.{words_of_start}
 use Rattle.kp_seq.proofs.words.Words.start.Given as goal
 
 abbrev pub invariant-loop-decl : goal.invariant-loop-decl

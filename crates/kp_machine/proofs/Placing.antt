@@ -1,0 +1,68 @@
+-- The results of a job that breaks no rule: the names of each are declared, and each is the one result of its target.
+use Rattle.std.proofs.Common.{◌≡◌, ℕ, ◌+◌, List, Option, Some, None, true, eqb, refl, subst, arith}
+use Rattle.kp_base.specs.Refusal.{e_rule}
+use Rattle.kp_ast.specs.declared.tree.Named.{Named}
+use Rattle.kp_ast.specs.declared.tree.ResultDecl.{ResultDecl}
+use Rattle.kp_ast.specs.declared.tree.Decl.TheVariants as decls
+use Rattle.kp_ast.specs.declared.tree.Job.{Job}
+use Rattle.kp_width.specs.Declarations.{address_width}
+use Rattle.kp_width.specs.Names.{nothing}
+use Rattle.kp_width.specs.Widths.{widths_of}
+use Rattle.kp_width.proofs.Unbroken.{Unbroken}
+use Rattle.kp_stage.specs.Facts.{Facts, facts_of}
+use Rattle.kp_stage.specs.Rules.{holds_of}
+use Rattle.kp_stage.specs.Stages.{broken_of}
+use Rattle.kp_stage.proofs.Unbroken.{answer_none}
+use Rattle.kp_machine.specs.Slots.{Slot, targets_of, pipes_of, number_of}
+use Rattle.kp_machine.specs.Machine.{result_for}
+use Rattle.kp_machine.proofs.Names.{IsIn}
+use Rattle.kp_machine.proofs.Results.{Stands, to_stands, first_result}
+use Rattle.kp_machine.proofs.Rules.{rules_kept, decl_kept}
+use Rattle.kp_machine.proofs.Scopes.{PipeFits, results_fit}
+use Rattle.kp_machine.proofs.Text.{text, declared_right, placed, target_slot}
+
+-- a pipe that is named is declared
+abbrev pub IsPipeIn : List Slot → Option Named → Type 0
+IsPipeIn pipes None = Unit {0}
+IsPipeIn pipes (Some n) = IsIn pipes n.name
+
+-- the names of a result are declared
+pub record IsPlaced (targets pipes : List Slot) (r : ResultDecl) : Type 0 where
+  pub target : IsIn targets r.target.name
+  pub address : IsPipeIn pipes r.address
+  pub enable : IsPipeIn pipes r.enable
+
+module _ (job : Job) (names : Unbroken (widths_of job)) where
+  abbrev targets : List Slot
+  targets = targets_of job.decls
+
+  abbrev pipes : List Slot
+  pipes = pipes_of job.decls
+
+  pipe_placed : (w : ℕ) (o : Option Named) → PipeFits (text job names) w o → IsPipeIn pipes o
+  pipe_placed w None f = tt
+  pipe_placed w (Some n) f = ((placed job names n.name f.0 f.1).pipe f.2).inside
+
+  pub result_placed : (r : ResultDecl) → Stands job.decls r → IsPlaced targets pipes r
+  result_placed r s =
+      let f = results_fit job.decls 0 0 nothing job.decls refl (declared_right job names) s.index r s.there in
+      record {
+        target = (target_slot job names r f).inside;
+        address = pipe_placed (address_width f.sense.kind) r.address f.address;
+        enable = pipe_placed 1 r.enable f.enable;
+      }
+
+  pub stands : (t : ℕ) (r : ResultDecl) → result_for job t ≡ Some r → Stands job.decls r × (number_of targets r.target.name ≡ t)
+  unfolding result_for
+  stands t r e = to_stands targets job.decls t r e
+
+  -- what stands among the declarations for a target is what is found
+  pub own : broken_of job ≡ None → (r : ResultDecl) → Stands job.decls r → result_for job (number_of targets r.target.name) ≡ Some r
+  unfolding result_for
+  own kept r s =
+      let facts : Facts = facts_of job in
+      let e : holds_of (λ j. eqb j s.index) (facts.result r.target.name) ≡ true =
+      answer_none _ (e_rule 22 r.target.at) (decl_kept facts job (rules_kept job kept) 7 _ refl s.index (decls.Target r) s.there) in
+      let z : s.index ≡ 0 + s.index = omega arith in
+      first_result targets job.decls 0 s.index r (result_placed r s).target s.there
+      (subst (λ n. holds_of (λ j. eqb j n) (facts.result r.target.name) ≡ true) z e)

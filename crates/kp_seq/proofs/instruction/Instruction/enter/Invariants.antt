@@ -1,6 +1,0 @@
-use Rattle.std.proofs.Common.{◌≡◌, drop}
-use Rattle.kp_seq.specs.Steps.{with_pipes}
-use Rattle.kp_seq.proofs.instruction.Instruction.enter.Given as goal
-
-abbrev pub invariant-loop-i : goal.invariant-loop-i
-invariant-loop-i l = with_pipes l.tables l.self l.i (drop l.i l.tables.pipes) ≡ with_pipes l.tables l.initial.self 0 l.tables.pipes

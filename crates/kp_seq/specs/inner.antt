@@ -1,0 +1,6 @@
+-- The definitions below here are for private contracts and proofs alone: no public clause of the crate cites them.
+pub mod Steps
+pub mod Tables
+pub mod Names
+pub mod Values
+pub mod Ready

@@ -1,0 +1,56 @@
+-- What a machine has when it starts, and what it keeps between its instructions.
+use Rattle.std.specs.Prelude.{◌≡◌, ℕ, ◌^◌, ◌<◌, ◌≤◌, List, [], ◌∷◌, None, length, slice_index}
+use Rattle.kp_base.specs.First.{first}
+use Rattle.kp_bits.specs.Word.{Word}
+use Rattle.kp_ast.specs.declared.tree.Decl.{Decl}
+use Rattle.kp_ast.specs.declared.tree.Decl.TheVariants as decls
+use Rattle.kp_ast.specs.declared.tree.Job.{Job}
+use Rattle.kp_width.specs.Widths.{widths_of}
+use Rattle.kp_stage.specs.Sizes.{size_of_job}
+use Rattle.kp_stage.specs.Stages.{broken_of}
+use Rattle.kp_machine.specs.Slots.{Slot, targets_of, pipes_of, samples_of}
+use Rattle.kp_seq.specs.inner.Tables.{Laid, ports_of, keys_of}
+use Rattle.kp_seq.specs.inner.Steps.{Under}
+
+-- the tables of a job, in which each name that the job declares has a place
+pub record AreTables (job : Job) (t : Laid) : Type 0 where
+  pub decls : t.decls ≡ job.decls
+  pub targets : t.targets ≡ targets_of job.decls
+  pub pipes : t.pipes ≡ pipes_of job.decls
+  pub samples : t.samples ≡ samples_of job.decls
+  pub ports : t.ports ≡ ports_of job.decls
+  pub names : t.names ≡ keys_of [] (widths_of job).value
+
+-- the words of a target: one for each address, each of the target's width
+pub record FitsSlot (s : Slot) (words : List ℕ) : Type 0 where
+  pub count : length words ≡ 2 ^ s.address
+  pub fits : (a : ℕ) → slice_index words a < 2 ^ s.width
+
+-- the words of all of these targets
+abbrev pub FitSlots : List Slot → List (List ℕ) → Type 0
+FitSlots [] words = words ≡ []
+FitSlots (s ∷ ss) [] = ⊥
+FitSlots (s ∷ ss) (w ∷ words) = FitsSlot s w × FitSlots ss words
+
+-- a place for each name, pipe and result
+pub record HasPlaces (t : Laid) (u : Under) : Type 0 where
+  pub names : length u.names ≡ length t.names
+  pub pipes : length u.pipes ≡ length t.pipes
+  pub results : length u.results ≡ length t.targets
+
+pub record IsReady (job : Job) (t : Laid) (u : Under) (space : ℕ) (held : List (List ℕ)) : Type 0 where
+  pub names : first (widths_of job).asked ≡ None
+  pub stages : broken_of job ≡ None
+  pub tables : AreTables job t
+  pub places : HasPlaces t u
+  pub room : size_of_job job ≤ space
+  pub words : FitSlots (targets_of job.decls) held
+
+-- the words of the targets of these declarations, of which the registers have these values and the files these words
+abbrev pub words_of_start : List Decl → List Word → List (List ℕ) → List (List ℕ)
+words_of_start [] regs files = []
+words_of_start (decls.Reg n width start ∷ ds) [] files = [] ∷ words_of_start ds [] files
+words_of_start (decls.Reg n width start ∷ ds) (r ∷ regs) files = (r.value ∷ []) ∷ words_of_start ds regs files
+words_of_start (decls.File n width address ∷ ds) regs [] = [] ∷ words_of_start ds regs []
+words_of_start (decls.File n width address ∷ ds) regs (f ∷ files) = f ∷ words_of_start ds regs files
+words_of_start (_ ∷ ds) regs files = words_of_start ds regs files
