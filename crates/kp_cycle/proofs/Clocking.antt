@@ -1,5 +1,5 @@
 -- Registers and files take the values of nodes.
-use Rattle.std.proofs.Common.{◌≡◌, ◌==◌, ◌&&◌, ℕ, Bool, true, false, cond, suc, ◌+◌, ◌<◌, ◌≤◌, ◌^◌, List, [], ◌∷◌, length, get_or, set, map, refl, sym, subst, ap, ◌∙◌, arith, ⊎_elim, Option, None, Some}
+use Rattle.std.proofs.Common.{◌≡◌, ◌==◌, ℕ, Bool, true, false, cond, suc, ◌+◌, ◌<◌, ◌≤◌, ◌^◌, List, [], ◌∷◌, length, get_or, set, map, refl, sym, subst, ap, ◌∙◌, arith, ⊎_elim, Option, None, Some}
 use Rattle.std.specs.List.{zip}
 use Rattle.std.proofs.lemmas.Bool.{cases_lt}
 use Rattle.std.proofs.lemmas.List.{get_or-set_other, length-set, get_or-map, same_lists, get_or_default}
@@ -11,9 +11,9 @@ use Rattle.kp_net.specs.declared.netlist.NetReg.{NetReg}
 use Rattle.kp_net.specs.declared.netlist.NetFile.{NetFile}
 use Rattle.kp_net.specs.declared.netlist.WritePort.{WritePort}
 use Rattle.kp_net.specs.Nodes.{Cells, at, on}
-use Rattle.kp_net.specs.Netlist.{Net, State, port_after, files_after, regs_after, state_after, stalled, cells_of}
+use Rattle.kp_net.specs.Netlist.{Net, Input, State, start_regs, port_after, files_after, regs_after, resets, state_after, cells_of}
 use Rattle.kp_net.specs.Parts.{NetOk, RegOk, FileOk, WriteOk, no_reg, no_file}
-use Rattle.kp_cycle.specs.Steps.{Stored, Fits, FitsBelow, PortReady, regs_from, port_from}
+use Rattle.kp_cycle.specs.inner.Storage.{Stored, Fits, FitsBelow, PortReady, regs_from, port_from}
 
 pub length_map : {X Y : Type 0} (f : X → Y) (xs : List X) → length (map f xs) ≡ length xs
 length_map f [] = refl
@@ -93,11 +93,6 @@ port_ready net m f h fits l =
     let ok : FileOk net.nodes (get_or net.parts.files f no_file) = All-get_or (FileOk net.nodes) net.parts.files f no_file l h.right.parts.files in
     ready net.nodes m f _ _ (get_or net.parts.files f no_file).port h.nodes fits (h.words f l) ok.port
 
--- a cycle without a reset
-not_reset : (b : Bool) (x y : State) → cond (b && false) x y ≡ y
-not_reset true x y = refl
-not_reset false x y = refl
-
 port_same : (c : Cells) (ns : List Node) (values : List ℕ) (w a : ℕ) (port : Option WritePort) (words : List ℕ) → WriteOk ns w a port → ((j : ℕ) → j < length ns → get_or values j 0 ≡ at c ns j) → port_from port values words ≡ port_after c ns port words
 unfolding on
 port_same c ns values w a None words ok known = refl
@@ -106,13 +101,13 @@ port_same c ns values w a (Some p) words ok known =
     λ i. cond (x i == 1) (set words (y i) (z i)) words
 
 -- all registers and files together
-pub state_is : (net : Net) (ext : ℕ) (st : State) (values regs : List ℕ) (files : List (List ℕ)) → NetOk net → length st.files ≡ length net.parts.files → length files ≡ length net.parts.files
-    → ((j : ℕ) → j < length net.nodes → get_or values j 0 ≡ at (cells_of (stalled ext) st) net.nodes j)
+pub state_is : (net : Net) (input : Input) (st : State) (values regs : List ℕ) (files : List (List ℕ)) → NetOk net → resets net input ≡ false → length st.files ≡ length net.parts.files → length files ≡ length net.parts.files
+    → ((j : ℕ) → j < length net.nodes → get_or values j 0 ≡ at (cells_of input st) net.nodes j)
     → regs ≡ regs_from net.parts.regs values
     → ((f : ℕ) → f < length net.parts.files → get_or files f [] ≡ port_from (get_or net.parts.files f no_file).port values (get_or st.files f []))
-    → record { regs = regs; files = files } ≡ state_after net (stalled ext) st
-state_is net ext st values regs files ok e l known r w =
-    let c : Cells = cells_of (stalled ext) st in
+    → record { regs = regs; files = files } ≡ state_after net input st
+state_is net input st values regs files ok off e l known r w =
+    let c : Cells = cells_of input st in
     let rs : regs ≡ regs_after net c = r ∙ same_elements _ _ 0 (length_map (λ (x : NetReg). get_or values x.next.0 0) net.parts.regs ∙ sym (length_map (λ (x : NetReg). at c net.nodes x.next.0) net.parts.regs))
     (λ k h. let h' : k < length net.parts.regs = omega (arith, length_map (λ (x : NetReg). get_or values x.next.0 0) net.parts.regs) in
     let n : RegOk net.nodes (get_or net.parts.regs k no_reg) = All-get_or (RegOk net.nodes) net.parts.regs k no_reg h' ok.parts.regs in
@@ -124,4 +119,4 @@ state_is net ext st values regs files ok e l known r w =
     let n : FileOk net.nodes (get_or net.parts.files k no_file) = All-get_or (FileOk net.nodes) net.parts.files k no_file h' ok.parts.files in
     w k h' ∙ port_same c net.nodes values _ _ (get_or net.parts.files k no_file).port (get_or st.files k []) n.port known
     ∙ sym (get_or-map g (zip net.parts.files st.files) k (no_file, []) [] (omega (arith, lz)) ∙ ap g (get_or-zip net.parts.files st.files k (no_file, []) h' (omega (arith, e))))) in
-    (λ i. record { regs = rs i; files = fs i }) ∙ sym (not_reset net.parts.reset _ _)
+    (λ i. record { regs = rs i; files = fs i }) ∙ sym (ap (λ b. cond b (record { regs = start_regs net; files = st.files }) (record { regs = regs_after net c; files = files_after net c st.files })) off)

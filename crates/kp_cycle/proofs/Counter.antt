@@ -1,9 +1,9 @@
 -- The netlist of a counter is right.
-use Rattle.std.proofs.Common.{◌≡◌, ℕ, ◌<◌, ◌≤◌, ◌^◌, zero, suc, List, [], ◌∷◌, length, get_or, false, refl, subst, arith, ⊎_elim}
+use Rattle.std.proofs.Common.{◌≡◌, ℕ, ◌<◌, ◌≤◌, ◌^◌, zero, suc, List, [], ◌∷◌, length, get_or, true, refl, subst, arith, ⊎_elim}
 use Rattle.std.proofs.lemmas.Bool.{cases_lt}
 use Rattle.std.proofs.lemmas.List.Elements.{All-cons, All-nil}
 use Rattle.std.specs.List.{All}
-use Rattle.kp_ast.specs.declared.tree.BinOp.{BinOp}
+use Rattle.kp_bits.specs.declared.operator.BinOp.{BinOp}
 use Rattle.kp_bits.specs.Word.{Word, word}
 use Rattle.kp_net.specs.declared.node.NodeId.{NodeId}
 use Rattle.kp_net.specs.declared.node.Kind.{Kind}
@@ -38,7 +38,7 @@ regs_of a b v w = record { name = a; start = v; next = n 13 } ∷ record { name 
 abbrev pub counter : List ℕ → List ℕ → List ℕ → Net
 counter name a b = record {
   nodes = nodes;
-  parts = record { name = name; ext = 2; reset = false; samples = []; regs = regs_of a b (word 4 0) (word 1 0); files = []; full = n 15; ue = n 16; back = n 17 };
+  parts = record { name = name; ext = 2; reset = true; samples = []; regs = regs_of a b (word 4 0) (word 1 0); files = []; full = n 15; ue = n 16; back = n 17 };
 }
 
 -- what holds of each number below a bound, one after another

@@ -9,11 +9,11 @@ use Rattle.std.proofs.lemmas.List.Elements.{All-get_or}
 use Rattle.std.proofs.Math.Seq.{take-set-lt, get_or-append_right, set-append_seam}
 use Rattle.kp_region.specs.declared.span.Span.{Span}
 use Rattle.kp_region.specs.Words.{Words, IsSound, IsWithin, IsDisjoint, span_words, next_span, carved, written}
-use Rattle.kp_cycle.specs.Spans.{Apart, no_span}
+use Rattle.kp_cycle.specs.inner.Spans.{Apart, no_span}
 use Rattle.kp_net.specs.declared.netlist.NetFile.{NetFile}
 use Rattle.kp_net.specs.Netlist.{Net}
 use Rattle.kp_net.specs.Parts.{NetOk, FileOk, no_file}
-use Rattle.kp_cycle.specs.Steps.{Stored, Fits}
+use Rattle.kp_cycle.specs.inner.Storage.{Stored, Fits}
 use Rattle.kp_cycle.proofs.Clocking.{length_map, same_elements}
 
 -- a span holds as many words as its length says

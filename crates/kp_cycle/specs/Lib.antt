@@ -1,3 +1,3 @@
 pub mod Runs
-pub mod Spans
 pub mod Steps
+pub mod inner

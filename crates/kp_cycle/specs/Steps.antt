@@ -1,27 +1,15 @@
--- What a simulator holds, and how it fits its netlist.
-use Rattle.std.specs.Prelude.{ℕ, ◌^◌, ◌<◌, ◌≤◌, ◌≡◌, ◌==◌, if◌then◌else◌, List, [], length, get_or, map, set, Option, None, Some}
+-- A simulator as its callers see it: what goes in, and what it shows.
+use Rattle.std.specs.Prelude.{ℕ, Bool, ◌<◌, ◌≤◌, ◌≡◌, List, [], length, get_or, map}
 use Rattle.kp_bits.specs.Word.{Word, word}
-use Rattle.kp_net.specs.declared.node.Node.{Node}
-use Rattle.kp_net.specs.declared.netlist.NetReg.{NetReg}
-use Rattle.kp_net.specs.declared.netlist.WritePort.{WritePort}
 use Rattle.kp_net.specs.Widths.{wide}
-use Rattle.kp_net.specs.Nodes.{Cells, at}
-use Rattle.kp_net.specs.Netlist.{Net, State, cells_of, stalled}
-use Rattle.kp_net.specs.Parts.{NetOk, no_reg, no_file}
+use Rattle.kp_bits.specs.Operators.{no_word}
+use Rattle.kp_net.specs.Netlist.{Net, Input, State}
+use Rattle.kp_net.specs.Parts.{no_port, no_reg, no_file}
 
 -- a netlist and the state that it is in
 pub record Running : Type 0 where
   pub net : Net
   pub state : State
-
--- the values of the nodes and of the registers, and the words of the files
-pub record Stored : Type 0 where
-  pub nodes : List ℕ
-  pub regs : List ℕ
-  pub files : List (List ℕ)
-
-abbrev pub state_of : Stored → State
-state_of m = record { regs = m.regs; files = m.files }
 
 -- full and ue are as wide as ext, which has at most 12 bits, and back has 4
 pub record ShowsRows (net : Net) : Type 0 where
@@ -30,47 +18,14 @@ pub record ShowsRows (net : Net) : Type 0 where
   pub ue : wide net.nodes net.parts.ue.0 ≡ net.parts.ext
   pub back : wide net.nodes net.parts.back.0 ≡ 4
 
--- there is a value for each node and register, and a word for each address of each file
-pub record Fits (net : Net) (m : Stored) : Type 0 where
-  pub right : NetOk net
-  pub nodes : length m.nodes ≡ length net.nodes
-  pub regs : length m.regs ≡ length net.parts.regs
-  pub files : length m.files ≡ length net.parts.files
-  pub words : (f : ℕ) → f < length net.parts.files → length (get_or m.files f []) ≡ 2 ^ (get_or net.parts.files f no_file).address_width
+-- what a call gives in: the stall word, whether the reset is raised, and the values of the sample ports
+abbrev pub given : ℕ → Bool → List Word → Input
+given ext rst samples = record { ext = ext; reset = rst; samples = map (λ w. w.value) samples }
 
--- registers and words fit their widths
-pub record StateFits (net : Net) (st : State) : Type 0 where
-  pub regs : (r : ℕ) → r < length net.parts.regs → get_or st.regs r 0 < 2 ^ (get_or net.parts.regs r no_reg).start.width
-  pub words : (f a : ℕ) → f < length net.parts.files → get_or (get_or st.files f []) a 0 < 2 ^ (get_or net.parts.files f no_file).width
-
--- the cells that nodes read in a cycle with this stall word
-abbrev pub cells : ℕ → Stored → Cells
-cells ext m = cells_of (stalled ext) (state_of m)
-
--- the words of nodes, as they are held
-abbrev pub seen : List Node → List ℕ → ℕ → Word
-seen ns values i = word (wide ns i) (get_or values i 0)
-
--- the first n nodes hold numbers of their widths
-abbrev pub FitsBelow : List Node → List ℕ → ℕ → Type 0
-FitsBelow ns values n = (i : ℕ) → i < n → get_or values i 0 < 2 ^ wide ns i
-
--- the first n nodes hold their values of this cycle
-abbrev pub KnownBelow : List Node → ℕ → Stored → ℕ → Type 0
-KnownBelow ns ext m n = (i : ℕ) → i < n → get_or m.nodes i 0 ≡ at (cells ext m) ns i
-
--- what registers and files take from the values of nodes
-abbrev pub regs_from : List NetReg → List ℕ → List ℕ
-regs_from regs values = map (λ r. get_or values r.next.0 0) regs
-
-abbrev pub port_from : Option WritePort → List ℕ → List ℕ → List ℕ
-port_from None values words = words
-port_from (Some p) values words = if get_or values p.enable.0 0 == 1 then set words (get_or values p.address.0 0) (get_or values p.value.0 0) else words
-
--- all that a port names is held, and its address is one of the file's
-abbrev pub PortReady : Stored → ℕ → Option WritePort → Type 0
-PortReady m f None = Unit {0}
-PortReady m f (Some p) = (p.enable.0 < length m.nodes) × (p.address.0 < length m.nodes) × (p.value.0 < length m.nodes) × (get_or m.nodes p.address.0 0 < length (get_or m.files f []))
+-- there is a value for each sample port, of its width
+pub record SamplesFit (net : Net) (samples : List Word) : Type 0 where
+  pub count : length samples ≡ length net.parts.samples
+  pub widths : (s : ℕ) → s < length samples → (get_or samples s no_word).width ≡ (get_or net.parts.samples s no_port).width
 
 -- a register, and a word of a file
 abbrev pub reg_shown : Running → ℕ → Word

@@ -1,13 +1,33 @@
-ghost use Rattle.std.specs.Prelude.{◌≡◌, ◌<◌, ◌≤◌, ◌^◌, [], ℕ, length, get_or, set};
+ghost use Rattle.std.specs.Prelude.{◌≡◌, ◌<◌, ◌≤◌, ◌^◌, ◌&&◌, true, false, [], ℕ, length, get_or, set};
+ghost use Rattle.kp_net.specs.Netlist.{start_regs};
 ghost use Rattle.kp_net.specs.Parts.{NetOk, no_file};
 ghost use Rattle.kp_net.specs.Widths.{wide};
-ghost use Rattle.kp_cycle.specs.Steps.{Fits, FitsBelow, PortReady, regs_from, port_from};
+ghost use Rattle.kp_cycle.specs.inner.Storage.{Fits, FitsBelow, PortReady, regs_from, port_from};
 
-use crate::memory::Memory;
+use crate::memory::{Memory, fill_regs};
 use kp_net::{Netlist, WritePort};
 
-/// Gives each register the value of its next node.
-pub fn clock_regs(net: &Netlist, memory: &mut Memory)
+/// The end of a cycle: in a netlist with a reset that is raised each register takes its start value, and else registers and files take
+/// what the nodes say.
+pub fn clock(net: &Netlist, memory: &mut Memory, rst: bool)
+    requires fits { Fits net.now memory.old }
+    requires known { FitsBelow net.now.nodes memory.old.nodes (length net.now.nodes) }
+    ensures fits { Fits net.now memory.new }
+    ensures reset { (net.now.parts.reset && rst) ≡ true → (memory.new.regs ≡ start_regs net.now) × (memory.new.files ≡ memory.old.files) }
+    ensures regs { (net.now.parts.reset && rst) ≡ false → memory.new.regs ≡ regs_from net.now.parts.regs memory.old.nodes }
+    ensures files { (net.now.parts.reset && rst) ≡ false → (f : ℕ) → f < length net.now.parts.files
+        → get_or memory.new.files f [] ≡ port_from (get_or net.now.parts.files f no_file).port memory.old.nodes (get_or memory.old.files f []) }
+{
+    if net.parts().reset && rst {
+        fill_regs(net, memory);
+    } else {
+        clock_regs(net, memory);
+        clock_files(net, memory);
+    }
+}
+
+// Gives each register the value of its next node.
+fn clock_regs(net: &Netlist, memory: &mut Memory)
     requires { Fits net.now memory.old }
     ensures fits { Fits net.now memory.new }
     ensures regs { memory.new.regs ≡ regs_from net.now.parts.regs memory.old.nodes }
@@ -21,8 +41,8 @@ pub fn clock_regs(net: &Netlist, memory: &mut Memory)
     }
 }
 
-/// Writes the word of each file whose port is enabled.
-pub fn clock_files(net: &Netlist, memory: &mut Memory)
+// Writes the word of each file whose port is enabled.
+fn clock_files(net: &Netlist, memory: &mut Memory)
     requires fits { Fits net.now memory.old }
     requires known { FitsBelow net.now.nodes memory.old.nodes (length net.now.nodes) }
     ensures fits { Fits net.now memory.new }

@@ -8,6 +8,3 @@ mod nodes;
 mod sim;
 
 pub use sim::Sim;
-
-#[cfg(test)]
-mod tests;

@@ -1,7 +1,7 @@
 ghost use Rattle.std.specs.Prelude.{◌≡◌, ◌<◌, ◌≤◌, [], length, get_or, set, IfOk, All};
 ghost use Rattle.std.specs.List.{sum_by};
 ghost use Rattle.kp_net.specs.Netlist.{Net, start_regs, start_of};
-ghost use Rattle.kp_cycle.specs.Steps.{Stored, Fits};
+ghost use Rattle.kp_cycle.specs.inner.Storage.{Stored, Fits};
 
 use kp_base::NoMemory;
 use kp_net::{NetFile, Netlist};
@@ -22,8 +22,8 @@ pub struct Memory {
 impl Model for Memory {
     ghost use Rattle.std.specs.Prelude.{map, ◌∷◌};
     ghost use Rattle.kp_region.specs.Words.{span_words};
-    ghost use Rattle.kp_cycle.specs.Steps.{Stored};
-    ghost use Rattle.kp_cycle.specs.Spans.{Apart};
+    ghost use Rattle.kp_cycle.specs.inner.Storage.{Stored};
+    ghost use Rattle.kp_cycle.specs.inner.Spans.{Apart};
 
     ghost Value = { Stored };
 
@@ -137,11 +137,12 @@ fn words_of(files: &[NetFile]) -> u32
     sum
 }
 
-// Gives each register its start value.
-fn fill_regs(net: &Netlist, memory: &mut Memory)
+/// Gives each register its start value.
+pub fn fill_regs(net: &Netlist, memory: &mut Memory)
     requires { Fits net.now memory.old }
     ensures fits { Fits net.now memory.new }
     ensures regs { memory.new.regs ≡ start_regs net.now }
+    ensures files { memory.new.files ≡ memory.old.files }
 {
     let regs = net.parts().regs.as_slice();
     for i in 0..regs.len() {

@@ -1,45 +1,47 @@
-ghost use Rattle.std.specs.Prelude.{◌≡◌, ◌<◌, ◌≤◌, ◌+◌, ◌%◌, ◌^◌, length, get_or, map, All};
+ghost use Rattle.std.specs.Prelude.{◌≡◌, ◌<◌, ◌≤◌, ◌+◌, ◌%◌, ◌^◌, false, length, get_or, map, All};
 ghost use Rattle.std.specs.List.{sum_by};
-ghost use Rattle.kp_ast.specs.Expressions.{binary_of, joined_of};
+ghost use Rattle.kp_bits.specs.Operators.{joined_of};
 ghost use Rattle.kp_bits.specs.Word.{IsWord, word};
 ghost use Rattle.kp_net.specs.Nodes.{word_of_node, at};
-ghost use Rattle.kp_net.specs.Widths.{BinaryOk, wide, no_node};
+ghost use Rattle.kp_net.specs.Widths.{wide, no_node};
 ghost use Rattle.kp_net.specs.Parts.{NetOk};
-ghost use Rattle.kp_cycle.specs.Steps.{Fits, FitsBelow, KnownBelow, cells, seen, state_of};
+ghost use Rattle.kp_cycle.specs.Steps.{given};
+ghost use Rattle.kp_cycle.specs.inner.Storage.{Fits, FitsBelow, KnownBelow, cells, seen, state_of};
 
 use crate::memory::Memory;
-use kp_ast::BinOp;
 use kp_bits::Bits;
 use kp_net::{Kind, Netlist, NodeId};
 
-/// Gives each node its value in the cycle with this stall word.
-pub fn settle(net: &Netlist, memory: &mut Memory, ext: u64)
-    requires { Fits net.now memory.old }
+/// Gives each node its value in the cycle with this stall word and these values of the sample ports.
+pub fn settle(net: &Netlist, memory: &mut Memory, ext: u64, samples: &[Bits])
+    requires fits { Fits net.now memory.old }
+    requires samples { length samples.now ≡ length net.now.parts.samples }
     ensures fits { Fits net.now memory.new }
-    ensures known { KnownBelow net.now.nodes ext memory.new (length net.now.nodes) }
+    ensures known { KnownBelow net.now.nodes (given ext false samples.now) memory.new (length net.now.nodes) }
     ensures widths { FitsBelow net.now.nodes memory.new.nodes (length net.now.nodes) }
     ensures regs { memory.new.regs ≡ memory.old.regs }
     ensures files { memory.new.files ≡ memory.old.files }
 {
     let count = net.nodes().len();
     for i in 0..count {
-        let value = value_of(net, memory, ext, i);
+        let value = value_of(net, memory, ext, samples, i);
         memory.set_node(i as u32, value);
     }
 }
 
 // The value of node i, from those of the nodes before it.
-fn value_of(net: &Netlist, memory: &Memory, ext: u64, i: usize) -> u64
+fn value_of(net: &Netlist, memory: &Memory, ext: u64, samples: &[Bits], i: usize) -> u64
     requires inside { i < length net.now.nodes }
+    requires samples { length samples.now ≡ length net.now.parts.samples }
     requires fits { Fits net.now memory.now }
     requires known { FitsBelow net.now.nodes memory.now.nodes i }
-    ensures { result ≡ (word_of_node (cells ext memory.now) (seen net.now.nodes memory.now.nodes) (get_or net.now.nodes i no_node)).value }
+    ensures { result ≡ (word_of_node (cells (given ext false samples.now) memory.now) (seen net.now.nodes memory.now.nodes) (get_or net.now.nodes i no_node)).value }
 {
     let node = &net.nodes()[i];
     match &node.kind {
         Kind::Const(value) => *value,
         Kind::Ext => low_bits(ext, node.width),
-        Kind::Sample(_) => 0,
+        Kind::Sample(port) => low_bits(samples[*port as usize].value(), node.width),
         Kind::Reg(reg) => low_bits(memory.reg(*reg), node.width),
         Kind::Word(file, address) => low_bits(
             memory.word(*file, memory.node(address.0)),
@@ -49,7 +51,7 @@ fn value_of(net: &Netlist, memory: &Memory, ext: u64, i: usize) -> u64
         Kind::Binary(op, a, b) => {
             let left = operand(net, memory, *a);
             let right = operand(net, memory, *b);
-            binary(*op, left, right).value()
+            op.apply(left, right).value()
         }
         Kind::Mux(test, yes, no) => {
             let test = operand(net, memory, *test);
@@ -93,24 +95,6 @@ pub fn word(width: u8, value: u64) -> Bits
     ensures is_word { IsWord result }
 {
     Bits::new(width, value).unwrap()
-}
-
-fn binary(op: BinOp, a: Bits, b: Bits) -> Bits
-    requires { BinaryOk op (binary_of op a b).width a.width b.width }
-    ensures { result ≡ binary_of op a b }
-{
-    match op {
-        BinOp::And => a.and(b),
-        BinOp::Or => a.or(b),
-        BinOp::Xor => a.xor(b),
-        BinOp::Add => a.add(b),
-        BinOp::Sub => a.sub(b),
-        BinOp::Mul => a.mul(b),
-        BinOp::Eq => a.eq(b),
-        BinOp::Lt => a.lt(b),
-        BinOp::Shl => a.shl(b),
-        BinOp::Shr => a.shr(b),
-    }
 }
 
 // All parts in a row, the first on top.

@@ -1,10 +1,11 @@
-ghost use Rattle.std.specs.Prelude.{◌≡◌, ◌<◌, ◌≤◌, ◌^◌, length, get_or, IfOk};
+ghost use Rattle.std.specs.Prelude.{◌≡◌, ◌<◌, ◌≤◌, ◌^◌, [], length, get_or, IfOk};
 ghost use Rattle.kp_net.specs.Netlist.{Net, State, start_of, state_after, row_of, stalled};
 ghost use Rattle.kp_net.specs.Widths.{wide};
 ghost use Rattle.kp_net.specs.Parts.{no_reg, no_file};
-ghost use Rattle.kp_cycle.specs.Steps.{Running, ShowsRows, Fits, FitsBelow, StateFits, state_of, reg_shown, word_shown};
+ghost use Rattle.kp_cycle.specs.Steps.{Running, ShowsRows, SamplesFit, given, reg_shown, word_shown};
+ghost use Rattle.kp_cycle.specs.inner.Storage.{Fits, FitsBelow, StateFits, state_of};
 
-use crate::clock::{clock_files, clock_regs};
+use crate::clock::clock;
 use crate::memory::Memory;
 use crate::nodes::{settle, word};
 use kp_base::{NoMemory, Row};
@@ -21,7 +22,8 @@ pub struct Sim<'n> {
 }
 
 impl<'n> Model for Sim<'n> {
-    ghost use Rattle.kp_cycle.specs.Steps.{Running, ShowsRows, Fits, StateFits, state_of};
+    ghost use Rattle.kp_cycle.specs.Steps.{Running, ShowsRows};
+    ghost use Rattle.kp_cycle.specs.inner.Storage.{Fits, StateFits, state_of};
 
     ghost Value = { Running };
 
@@ -41,13 +43,30 @@ impl<'n> Sim<'n> {
         Ok(Sim { net, memory })
     }
 
-    /// Runs one cycle under this stall word, of which bits from the netlist's width on are ignored. No sample port
-    /// has a value but 0. Takes no memory.
+    /// The netlist that runs.
+    pub fn netlist(&self) -> &'n Netlist
+        ensures { result.now ≡ self.now.net }
+    {
+        self.net
+    }
+
+    /// Runs one cycle under this stall word, of which bits from the netlist's width on are ignored, with no reset: `step_with` where there
+    /// are no sample ports. Takes no memory.
     pub fn step(&mut self, ext: u16) -> Row
+        requires { self.old.net.parts.samples ≡ [] }
         ensures row { result ≡ row_of self.old.net (stalled ext) self.old.state }
         ensures state { self.new ≡ record { net = self.old.net; state = state_after self.old.net (stalled ext) self.old.state } }
     {
-        cycle(self.net, &mut self.memory, ext)
+        self.step_with(ext, false, &[])
+    }
+
+    /// Runs one cycle under this stall word, with the reset raised or not, and with a value for each sample port. Takes no memory.
+    pub fn step_with(&mut self, ext: u16, rst: bool, samples: &[Bits]) -> Row
+        requires { SamplesFit self.old.net samples.now }
+        ensures row { result ≡ row_of self.old.net (given ext rst samples.now) self.old.state }
+        ensures state { self.new ≡ record { net = self.old.net; state = state_after self.old.net (given ext rst samples.now) self.old.state } }
+    {
+        cycle(self.net, &mut self.memory, ext, rst, samples)
     }
 
     /// The value of a register.
@@ -88,24 +107,24 @@ fn file_width(net: &Netlist, file: u32) -> u8
     net.parts().files.as_slice()[file as usize].width
 }
 
-fn cycle(net: &Netlist, memory: &mut Memory, ext: u16) -> Row
+fn cycle(net: &Netlist, memory: &mut Memory, ext: u16, rst: bool, samples: &[Bits]) -> Row
     requires fits { Fits net.now memory.old }
     requires shows { ShowsRows net.now }
     requires widths { StateFits net.now (state_of memory.old) }
+    requires samples { length samples.now ≡ length net.now.parts.samples }
     ensures widths { StateFits net.now (state_of memory.new) }
     ensures fits { Fits net.now memory.new }
-    ensures row { result ≡ row_of net.now (stalled ext) (state_of memory.old) }
-    ensures state { state_of memory.new ≡ state_after net.now (stalled ext) (state_of memory.old) }
+    ensures row { result ≡ row_of net.now (given ext rst samples.now) (state_of memory.old) }
+    ensures state { state_of memory.new ≡ state_after net.now (given ext rst samples.now) (state_of memory.old) }
 {
-    settle(net, memory, u64::from(ext));
+    settle(net, memory, u64::from(ext), samples);
     let parts = net.parts();
     let row = Row {
         full: output(net, memory, parts.full),
         ue: output(net, memory, parts.ue),
         back: output(net, memory, parts.back) as u8,
     };
-    clock_regs(net, memory);
-    clock_files(net, memory);
+    clock(net, memory, rst);
     row
 }
 

@@ -1,12 +1,13 @@
-ghost use Rattle.std.specs.Prelude.{◌≡◌, ◌+◌, ◌-◌, ◌<◌, ◌≤◌, ◌^◌, All, cond, length, map};
+ghost use Rattle.std.specs.Prelude.{◌≡◌, ℕ, ◌+◌, ◌-◌, ◌<◌, ◌≤◌, ◌^◌, All, cond, length, map};
 ghost use Rattle.std.specs.List.{sum_by};
 ghost use Rattle.kp_bits.specs.Word.{word, not_of, mux_of, slice_of};
-ghost use Rattle.kp_ast.specs.Expressions.{binary_of, joined_of};
+ghost use Rattle.kp_bits.specs.Operators.{binary_of, joined_of};
 ghost use Rattle.kp_net.specs.Nodes.{Cells, word_at, at, on};
 ghost use Rattle.kp_net.specs.Widths.{BinaryOk, wide};
+ghost use Rattle.kp_net.specs.Depth.{depth, IsNoDeeper};
 ghost use Rattle.kp_net.specs.Growth.{Held, Wire, Grown};
 
-use kp_ast::BinOp;
+use kp_bits::BinOp;
 use kp_net::{Kind, Node, NodeId, Operands, Pool};
 
 /// A number.
@@ -18,6 +19,7 @@ pub fn constant(pool: &mut Pool, width: u8, value: u64) -> NodeId
     ensures wire { Wire pool.new result width }
     ensures word { (c : Cells) → word_at c pool.new.nodes result.0 ≡ word width value }
     ensures value { (c : Cells) → at c pool.new.nodes result.0 ≡ value }
+    ensures depth { depth pool.new.nodes result.0 ≡ 0 }
     ensures grown { Grown pool.old pool.new 1 }
 {
     pool.node(Node {
@@ -34,6 +36,7 @@ pub fn complement(pool: &mut Pool, a: NodeId, width: u8) -> NodeId
     requires wire { Wire pool.old a width }
     ensures wire { Wire pool.new result width }
     ensures word { (c : Cells) → word_at c pool.new.nodes result.0 ≡ not_of (word_at c pool.old.nodes a.0) }
+    ensures depth { (d : ℕ) → IsNoDeeper pool.old.nodes a d → IsNoDeeper pool.new.nodes result (d + 1) }
     ensures grown { Grown pool.old pool.new 1 }
 {
     pool.node(Node {
@@ -52,6 +55,7 @@ pub fn binary(pool: &mut Pool, op: BinOp, a: NodeId, b: NodeId, width: u8) -> No
     requires widths { BinaryOk op width (wide pool.old.nodes a.0) (wide pool.old.nodes b.0) }
     ensures wire { Wire pool.new result width }
     ensures word { (c : Cells) → word_at c pool.new.nodes result.0 ≡ binary_of op (word_at c pool.old.nodes a.0) (word_at c pool.old.nodes b.0) }
+    ensures depth { (d : ℕ) → IsNoDeeper pool.old.nodes a d → IsNoDeeper pool.old.nodes b d → IsNoDeeper pool.new.nodes result (d + 1) }
     ensures grown { Grown pool.old pool.new 1 }
 {
     pool.node(Node {
@@ -71,6 +75,7 @@ pub fn choose(pool: &mut Pool, test: NodeId, yes: NodeId, no: NodeId, width: u8)
     ensures wire { Wire pool.new result width }
     ensures word { (c : Cells) → word_at c pool.new.nodes result.0 ≡ mux_of (word_at c pool.old.nodes test.0) (word_at c pool.old.nodes yes.0) (word_at c pool.old.nodes no.0) }
     ensures value { (c : Cells) → at c pool.new.nodes result.0 ≡ cond (on c pool.old.nodes test.0) (at c pool.old.nodes yes.0) (at c pool.old.nodes no.0) }
+    ensures depth { (d : ℕ) → IsNoDeeper pool.old.nodes test d → IsNoDeeper pool.old.nodes yes d → IsNoDeeper pool.old.nodes no d → IsNoDeeper pool.new.nodes result (d + 1) }
     ensures grown { Grown pool.old pool.new 1 }
 {
     pool.node(Node {
@@ -90,6 +95,7 @@ pub fn join(pool: &mut Pool, parts: Operands, width: u8) -> NodeId
     requires widths { sum_by (λ a. wide pool.old.nodes a.0) parts ≡ width }
     ensures wire { Wire pool.new result width }
     ensures word { (c : Cells) → word_at c pool.new.nodes result.0 ≡ joined_of (map (λ a. word_at c pool.old.nodes a.0) parts) }
+    ensures depth { (d : ℕ) → All (λ a. IsNoDeeper pool.old.nodes a d) parts → IsNoDeeper pool.new.nodes result (d + 1) }
     ensures grown { Grown pool.old pool.new 1 }
 {
     pool.node(Node {
@@ -107,6 +113,7 @@ pub fn part(pool: &mut Pool, a: NodeId, hi: u8, lo: u8, width: u8) -> NodeId
     requires within { hi < width }
     ensures wire { Wire pool.new result (hi + 1 - lo) }
     ensures word { (c : Cells) → word_at c pool.new.nodes result.0 ≡ slice_of (word_at c pool.old.nodes a.0) hi lo }
+    ensures depth { (d : ℕ) → IsNoDeeper pool.old.nodes a d → IsNoDeeper pool.new.nodes result (d + 1) }
     ensures grown { Grown pool.old pool.new 1 }
 {
     pool.node(Node {

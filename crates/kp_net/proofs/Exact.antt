@@ -8,8 +8,8 @@ use Rattle.std.specs.List.{sum_by}
 use Rattle.kp_bits.specs.Word.{IsWord, concat_of, slice_of, not_of}
 use Rattle.kp_bits.specs.Word as bits
 use Rattle.kp_bits.proofs.Words.{not_word, and_word, or_word, xor_word, add_word, sub_word, mul_word, eq_word, lt_word, shl_word, shr_word, concat_word, slice_word}
-use Rattle.kp_ast.specs.declared.tree.BinOp.{BinOp}
-use Rattle.kp_ast.specs.Expressions.{binary_of, joined_of}
+use Rattle.kp_bits.specs.declared.operator.BinOp.{BinOp}
+use Rattle.kp_bits.specs.Operators.{is_shift, binary_of, joined_of}
 use Rattle.kp_net.specs.declared.node.NodeId.{NodeId}
 use Rattle.kp_net.specs.declared.node.Kind.{Kind}
 use Rattle.kp_net.specs.declared.node.Kind.TheVariants.{Const, Ext, Sample, Reg, Word, Not, Binary, Mux, Concat, Slice}
@@ -37,6 +37,19 @@ binary_has BinOp.Eq k x y a b h l ok = has k 1 _ (eq_word a b) refl (sym ok.0)
 binary_has BinOp.Lt k x y a b h l ok = has k 1 _ (lt_word a b) refl (sym ok.0)
 binary_has BinOp.Shl k x y a b h l ok = has k x _ (shl_word a b h.word) h.width ok
 binary_has BinOp.Shr k x y a b h l ok = has k x _ (shr_word a b h.word) h.width ok
+
+-- but for a shift, both operands have one width
+pub operand_widths : (op : BinOp) (k a b : ℕ) → BinaryOk op k a b → is_shift op ≡ false → a ≡ b
+operand_widths BinOp.And k a b ok s = ok.0 ∙ sym ok.1
+operand_widths BinOp.Or k a b ok s = ok.0 ∙ sym ok.1
+operand_widths BinOp.Xor k a b ok s = ok.0 ∙ sym ok.1
+operand_widths BinOp.Add k a b ok s = ok.0 ∙ sym ok.1
+operand_widths BinOp.Sub k a b ok s = ok.0 ∙ sym ok.1
+operand_widths BinOp.Mul k a b ok s = ok.0 ∙ sym ok.1
+operand_widths BinOp.Eq k a b ok s = ok.1
+operand_widths BinOp.Lt k a b ok s = ok.1
+operand_widths BinOp.Shl k a b ok s = absurd (true≢false s)
+operand_widths BinOp.Shr k a b ok s = absurd (true≢false s)
 
 rest_has : (w : Words) (v : ℕ → ℕ) (m k : ℕ) (a : bits.Word) (rest : List NodeId) → Has k a → All (λ b. b.0 < m) rest → ((j : ℕ) → j < m → Has (v j) (w j))
     → k + sum_by (λ b. v b.0) rest ≤ 64 → Has (k + sum_by (λ b. v b.0) rest) (fold concat_of a (map (λ b. w b.0) rest))

@@ -10,7 +10,8 @@ use Rattle.kp_net.specs.declared.node.NodeId.{NodeId}
 use Rattle.kp_net.specs.declared.node.Kind.{Kind}
 use Rattle.kp_net.specs.declared.node.Kind.TheVariants.{Const, Ext, Sample, Reg, Word, Not, Binary, Mux, Concat, Slice}
 use Rattle.kp_net.specs.declared.node.Node.{Node}
-use Rattle.kp_net.specs.Widths.{wide, no_node, BinaryOk, KindOk, NodeOk, AllRight, Distinct, LacksBelow}
+use Rattle.kp_net.specs.Widths.{wide, no_node, BinaryOk, KindOk, NodeOk, AllRight, Distinct}
+use Rattle.kp_net.specs.inner.Lookup.{LacksBelow}
 use Rattle.kp_net.proofs.Values.{wide_front}
 
 sums_agree : (v w : ℕ → ℕ) (m : ℕ) (parts : List NodeId) → All (λ a. a.0 < m) parts → ((j : ℕ) → j < m → v j ≡ w j) → sum_by (λ a. v a.0) parts ≡ sum_by (λ a. w a.0) parts

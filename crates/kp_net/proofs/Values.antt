@@ -9,7 +9,7 @@ use Rattle.std.proofs.lemmas.List.Sums.{fold-append}
 use Rattle.std.proofs.lemmas.List.Elements.{All-head, All-tail}
 use Rattle.kp_bits.specs.Word.{IsWord}
 use Rattle.kp_bits.specs.Word as bits
-use Rattle.kp_ast.specs.Expressions.{no_word, binary_of, joined_of}
+use Rattle.kp_bits.specs.Operators.{no_word, binary_of, joined_of}
 use Rattle.kp_net.specs.declared.node.NodeId.{NodeId}
 use Rattle.kp_net.specs.declared.node.Kind.{Kind}
 use Rattle.kp_net.specs.declared.node.Kind.TheVariants.{Const, Ext, Sample, Reg, Word, Not, Binary, Mux, Concat, Slice}

@@ -1,6 +1,10 @@
+pub mod Depth
+pub mod Folding
 pub mod Growth
+pub mod Names
 pub mod Netlist
 pub mod Nodes
 pub mod Operands
 pub mod Parts
 pub mod Widths
+pub mod inner

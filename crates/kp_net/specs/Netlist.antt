@@ -92,6 +92,10 @@ last_from net st inputs = fold (λ s i. state_after net i s) st inputs
 abbrev pub last_of : Net → List Input → State
 last_of net inputs = last_from net (start_of net) inputs
 
+-- the same netlist, whose files start with these words
+abbrev pub restarted : Net → List (List ℕ) → Net
+restarted net files = record { nodes = net.nodes; parts = record net.parts { files = map (λ p. record p.0 { words = p.1 }) (zip net.parts.files files) } }
+
 -- a cycle with this stall word, no reset, and no sample ports
 abbrev pub stalled : ℕ → Input
 stalled ext = record { ext = ext; reset = false; samples = [] }

@@ -1,7 +1,7 @@
 -- Which nodes are right: their operands stand before them, and the widths fit.
 use Rattle.std.specs.Prelude.{ℕ, ◌+◌, ◌^◌, ◌<◌, ◌≤◌, ◌≡◌, Bool, true, false, List, length, get_or, All}
 use Rattle.std.specs.List.{sum_by}
-use Rattle.kp_ast.specs.declared.tree.BinOp.{BinOp}
+use Rattle.kp_bits.specs.declared.operator.BinOp.{BinOp}
 use Rattle.kp_net.specs.declared.node.Kind.{Kind}
 use Rattle.kp_net.specs.declared.node.Kind.TheVariants.{Const, Ext, Sample, Reg, Word, Not, Binary, Mux, Concat, Slice}
 use Rattle.kp_net.specs.declared.node.Node.{Node}
@@ -53,10 +53,6 @@ AllRight ns = (i : ℕ) → i < length ns → NodeOk ns i (get_or ns i no_node)
 -- no two nodes are equal
 abbrev pub Distinct : List Node → Type 0
 Distinct ns = (i j : ℕ) → i < j → j < length ns → get_or ns i no_node ≡ get_or ns j no_node → ⊥
-
--- none of the first m nodes is this one
-abbrev pub LacksBelow : List Node → Node → ℕ → Type 0
-LacksBelow ns n m = (i : ℕ) → i < m → get_or ns i no_node ≡ n → ⊥
 
 -- a node that reads an input, a register or a file; all others are constants and operations
 abbrev pub is_cell : Kind → Bool

@@ -4,7 +4,9 @@ ghost use Rattle.kp_bits.specs.Word.{word};
 ghost use Rattle.kp_net.specs.declared.node.Node.{Node};
 ghost use Rattle.kp_net.specs.Nodes.{Cells, word_of_kind, word_of_node, word_at, at};
 ghost use Rattle.kp_net.specs.Widths.{wide, no_node, is_cell, AllRight};
-ghost use Rattle.kp_net.specs.Netlist.{Net, Input, State, start_regs, state_after, row_of, run, last_of};
+ghost use Rattle.kp_net.specs.Depth.{depth, depth_of};
+ghost use Rattle.kp_net.specs.Growth.{Held, Kept};
+ghost use Rattle.kp_net.specs.Netlist.{Net, Input, State, start_regs, state_after, row_of, run, last_of, resets, states_from, rows_from, restarted};
 
 /// The word of a node has the node's width and fits it, whatever the cells hold.
 #[tactic(auto, using(crate::proofs::Values::word_is, crate::proofs::Values::at_fits))]
@@ -36,4 +38,23 @@ pub fn runs_go_on()
         → (run net (inputs ++ i ∷ [])).rows ≡ (run net inputs).rows ++ row_of net i (last_of net inputs) ∷ [] }
     ensures last { (net : Net) (inputs : List Input) (i : Input)
         → last_of net (inputs ++ i ∷ []) ≡ state_after net i (last_of net inputs) }
+{}
+
+/// A reset gives each register its start value and changes no file, and from there on the run is that of the same netlist, whose files
+/// start with the words that they have then.
+#[tactic(auto, using(crate::proofs::Resets::reset_state, crate::proofs::Resets::states_anew, crate::proofs::Resets::rows_anew))]
+pub fn a_reset_starts_anew()
+    ensures state { (net : Net) (i : Input) (st : State) → resets net i ≡ true
+        → state_after net i st ≡ record { regs = start_regs net; files = st.files } }
+    ensures states { (net : Net) (before : List Input) (i : Input) (inputs : List Input) → resets net i ≡ true
+        → states_from net (state_after net i (last_of net before)) inputs ≡ (run (restarted net (last_of net before).files) inputs).states }
+    ensures rows { (net : Net) (before : List Input) (i : Input) (inputs : List Input) → resets net i ≡ true
+        → rows_from net (state_after net i (last_of net before)) inputs ≡ (run (restarted net (last_of net before).files) inputs).rows }
+{}
+
+/// A right node is as deep as its operands say, and keeps its depth while a pool grows.
+#[tactic(auto, using(crate::proofs::Depths::depth_there, crate::proofs::Depths::depth_kept))]
+pub fn depths_stay()
+    ensures of_operands { (ns : List Node) (i : ℕ) → AllRight ns → i < length ns → depth ns i ≡ depth_of (depth ns) (get_or ns i no_node).kind }
+    ensures kept { (p q : Held) (k i : ℕ) → Kept p q k → i < length p.nodes → depth q.nodes i ≡ depth p.nodes i }
 {}

@@ -1,6 +1,8 @@
 //! Netlists: nodes, the pool that they are made in, and what they mean.
 #![tactic(auto)]
 
+mod fold;
+mod index;
 mod label;
 pub mod laws;
 mod netlist;
@@ -13,6 +15,3 @@ pub use netlist::{NetFile, NetReg, Netlist, Parts, Port, WritePort};
 pub use node::{Kind, Node, NodeId};
 pub use operands::Operands;
 pub use pool::Pool;
-
-#[cfg(test)]
-mod tests;

@@ -1,12 +1,15 @@
+ghost use Rattle.std.specs.Prelude.{◌≡◌};
+
 use crate::operands::Operands;
-use kp_ast::BinOp;
+use kp_bits::BinOp;
+use std::alloc::Global;
 
 /// A node, by its place in the list of nodes, counted from 0.
 #[derive(Clone, Copy, Debug, Default, PartialEq, Eq, Hash)]
 pub struct NodeId(pub u32);
 
 /// What a node does.
-#[derive(Debug, Drop, PartialEq, Eq)]
+#[derive(Debug, Drop, PartialEq, Eq, Hash)]
 pub enum Kind {
     /// This number.
     Const(u64),
@@ -31,8 +34,39 @@ pub enum Kind {
 }
 
 /// A node, which has `width` bits.
-#[derive(Debug, Drop, PartialEq, Eq)]
+#[derive(Debug, Drop, PartialEq, Eq, Hash)]
 pub struct Node {
     pub width: u8,
     pub kind: Kind,
+}
+
+impl Node {
+    // The same node once more. Takes no memory.
+    pub(crate) fn copied(&self, alloc: Global) -> Node
+        ensures { result ≡ self.now }
+    {
+        Node {
+            width: self.width,
+            kind: self.kind.copied(alloc),
+        }
+    }
+}
+
+impl Kind {
+    fn copied(&self, alloc: Global) -> Kind
+        ensures { result ≡ self.now }
+    {
+        match self {
+            Kind::Const(value) => Kind::Const(*value),
+            Kind::Ext => Kind::Ext,
+            Kind::Sample(port) => Kind::Sample(*port),
+            Kind::Reg(reg) => Kind::Reg(*reg),
+            Kind::Word(file, address) => Kind::Word(*file, *address),
+            Kind::Not(a) => Kind::Not(*a),
+            Kind::Binary(op, a, b) => Kind::Binary(*op, *a, *b),
+            Kind::Mux(test, yes, no) => Kind::Mux(*test, *yes, *no),
+            Kind::Concat(parts) => Kind::Concat(Operands::new(alloc, parts.nodes())),
+            Kind::Slice(a, hi, lo) => Kind::Slice(*a, *hi, *lo),
+        }
+    }
 }

@@ -1,12 +1,15 @@
 ghost use Rattle.std.specs.Prelude.{◌≡◌, ◌≤◌, length};
 ghost use Rattle.std.proofs.Common.{rules};
 ghost use Rattle.std.specs.Cmp.Lexicographic.{pointwise};
+ghost use Rattle.std.specs.Cmp.{unsigned_Decides};
 ghost use Rattle.std.specs.Cmp.Rules.{comparing};
-ghost use Rattle.kp_net.specs.Operands.{same_id};
+ghost use Rattle.std.specs.Hash as fed;
+ghost use Rattle.kp_net.specs.Operands.{same_id, number_of};
 
 use crate::node::NodeId;
 use smallvec::SmallVec;
 use std::alloc::Global;
+use std::hash::{Hash, Hasher};
 use std::marker::Model;
 
 /// 2 to 12 nodes, in place: they stand in the value itself, and no memory is taken for them.
@@ -60,4 +63,14 @@ impl PartialEq for Operands {
 
 impl Eq for Operands {
     ghost laws = { Prim.search (comparing, rules) };
+}
+
+impl Hash for Operands {
+    ghost hash_input = { fed.slice (λ a. fed.u32 (number_of a)) };
+
+    ghost respects_eq = { (fed.items_Alike (fed.on_Alike number_of (fed.same_Alike fed.u32 unsigned_Decides))).fed };
+
+    fn hash<H: Hasher>(&self, state: &mut H) {
+        self.nodes().hash(state);
+    }
 }

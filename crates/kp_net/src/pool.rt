@@ -1,30 +1,39 @@
 ghost use Rattle.std.specs.Prelude.{◌≡◌, ◌+◌, ◌<◌, ◌≤◌, ◌++◌, ◌∷◌, [], length, IfOk, false, get_or, MatchOption, vec_len, vec_capacity};
 ghost use Rattle.kp_net.specs.Nodes.{Cells, word_at, word_of_kind, word_of_node};
-ghost use Rattle.kp_net.specs.Widths.{NodeOk, AllRight, Distinct, LacksBelow, is_cell, no_node, wide};
+ghost use Rattle.kp_net.specs.Widths.{NodeOk, AllRight, Distinct, is_cell, no_node, wide};
+ghost use Rattle.kp_net.specs.Depth.{depth, depth_of};
+ghost use Rattle.kp_net.specs.Folding.{foldable, NoneFoldable};
 ghost use Rattle.kp_net.specs.Growth.{Held, Wire, Kept, Grown, AddsOnly};
+ghost use Rattle.kp_net.specs.inner.Lookup.{LacksBelow, IsFront};
 
-use crate::node::{Node, NodeId};
+use crate::fold::{Folded, fold};
+use crate::index::Index;
+use crate::node::{Kind, Node, NodeId};
 use kp_base::NoMemory;
 use std::alloc::Global;
 use std::marker::Model;
 
-/// Nodes, of which no two are equal, and room for more.
+/// Nodes, of which no two are equal and none is foldable, and room for more.
 #[derive(Debug, Drop)]
 pub struct Pool {
     nodes: Vec<Node>,
     spare: u32,
+    // The first nodes: all of them, as long as memory was found.
+    index: Index,
 }
 
 impl Model for Pool {
     ghost use Rattle.std.specs.Prelude.{◌+◌, ◌≤◌, length, vec_len, vec_capacity};
     ghost use Rattle.kp_net.specs.Widths.{AllRight, Distinct};
+    ghost use Rattle.kp_net.specs.Folding.{NoneFoldable};
     ghost use Rattle.kp_net.specs.Growth.{Held};
+    ghost use Rattle.kp_net.specs.inner.Lookup.{IsFront};
 
     ghost Value = { Held };
 
     ghost view = { λ p. record { nodes = p.nodes.items; spare = p.spare } };
 
-    ghost invariant = { λ p. (vec_len p.nodes + p.spare ≤ vec_capacity p.nodes) × (vec_len p.nodes + p.spare ≤ 16777216) × AllRight p.nodes.items × Distinct p.nodes.items };
+    ghost invariant = { λ p. (vec_len p.nodes + p.spare ≤ vec_capacity p.nodes) × (vec_len p.nodes + p.spare ≤ 16777216) × AllRight p.nodes.items × Distinct p.nodes.items × NoneFoldable p.nodes.items × IsFront p.index p.nodes.items };
 }
 
 impl Pool {
@@ -37,6 +46,7 @@ impl Pool {
         Ok(Pool {
             nodes: room,
             spare: nodes,
+            index: Index::new(alloc),
         })
     }
 
@@ -47,6 +57,13 @@ impl Pool {
         ensures distinct { Distinct self.now.nodes }
     {
         self.spare
+    }
+
+    /// All nodes, by their numbers.
+    pub fn nodes(&self) -> &[Node]
+        ensures { result.now ≡ self.now.nodes }
+    {
+        self.nodes.as_slice()
     }
 
     /// The node of this number.
@@ -79,23 +96,52 @@ impl Pool {
         nodes
     }
 
-    /// A node with the value of `n`: one that is there already, or `n`, which is added.
+    /// A node with the value of `n`, no deeper: one that is there already, a constant in place of it, or `n` itself, which is added.
     pub fn node(&mut self, n: Node) -> NodeId
         requires room { 1 ≤ self.old.spare }
         requires right { NodeOk self.old.nodes (length self.old.nodes) n }
         ensures wire { Wire self.new result n.width }
         ensures value { (c : Cells) → word_at c self.new.nodes result.0 ≡ word_of_node c (word_at c self.old.nodes) n }
         ensures exact { (c : Cells) → is_cell n.kind ≡ false → word_at c self.new.nodes result.0 ≡ word_of_kind c (word_at c self.old.nodes) n.width n.kind }
+        ensures depth { depth self.new.nodes result.0 ≤ depth_of (depth self.old.nodes) n.kind }
         ensures kept { Kept self.old self.new 1 }
         ensures added { AddsOnly n self.old self.new }
         ensures grown { is_cell n.kind ≡ false → Grown self.old self.new 1 }
         ensures right { AllRight self.new.nodes }
         ensures distinct { Distinct self.new.nodes }
+        ensures folded { NoneFoldable self.new.nodes }
     {
-        match find(self.nodes.as_slice(), &n) {
+        match fold(self.nodes.as_slice(), &n) {
+            Folded::There(i) => i,
+            Folded::Number(word) => self.shared(Node {
+                width: word.width(),
+                kind: Kind::Const(word.value()),
+            }),
+            Folded::Asked => self.shared(n),
+        }
+    }
+
+    // The same of a node that is not foldable.
+    fn shared(&mut self, n: Node) -> NodeId
+        requires room { 1 ≤ self.old.spare }
+        requires right { NodeOk self.old.nodes (length self.old.nodes) n }
+        requires unfolded { foldable self.old.nodes n ≡ false }
+        ensures wire { Wire self.new result n.width }
+        ensures value { (c : Cells) → word_at c self.new.nodes result.0 ≡ word_of_node c (word_at c self.old.nodes) n }
+        ensures exact { (c : Cells) → is_cell n.kind ≡ false → word_at c self.new.nodes result.0 ≡ word_of_kind c (word_at c self.old.nodes) n.width n.kind }
+        ensures depth { depth self.new.nodes result.0 ≤ depth_of (depth self.old.nodes) n.kind }
+        ensures kept { Kept self.old self.new 1 }
+        ensures added { AddsOnly n self.old self.new }
+        ensures grown { is_cell n.kind ≡ false → Grown self.old self.new 1 }
+        ensures right { AllRight self.new.nodes }
+        ensures distinct { Distinct self.new.nodes }
+        ensures folded { NoneFoldable self.new.nodes }
+    {
+        match find(self.nodes.as_slice(), &self.index, &n) {
             Some(i) => NodeId(i as u32),
             None => {
                 let i = self.nodes.len() as u32;
+                note(&mut self.index, self.nodes.as_slice(), &n);
                 add(&mut self.nodes, n);
                 self.spare -= 1;
                 NodeId(i)
@@ -114,12 +160,36 @@ fn add(nodes: &mut Vec<Node>, n: Node)
     let _ = nodes.push(n);
 }
 
-// The first node that equals `n`.
-fn find(nodes: &[Node], n: &Node) -> Option<usize>
+// Takes the node that comes after these into the index. Once no memory was found for a node, the index stays as it is.
+fn note(index: &mut Index, nodes: &[Node], n: &Node)
+    requires front { IsFront index.old nodes.now }
+    requires lacks { LacksBelow nodes.now n.now (length nodes.now) }
+    ensures { IsFront index.new (nodes.now ++ n.now ∷ []) }
+{
+    if index.len() == nodes.len() {
+        index.add(n);
+    }
+}
+
+// The first node that equals `n`: by the index, and by a search of what the index lacks.
+fn find(nodes: &[Node], index: &Index, n: &Node) -> Option<usize>
+    requires { IsFront index.now nodes.now }
     ensures { MatchOption result (LacksBelow nodes.now n.now (length nodes.now)) (λ i. (i < length nodes.now) × (get_or nodes.now i no_node ≡ n.now)) }
 {
-    for (i, x) in nodes.iter().enumerate() {
-        if *x == *n {
+    match index.number(n) {
+        Some(i) => Some(i),
+        None => search(nodes, index.len(), n),
+    }
+}
+
+// The first node from this number on that equals `n`.
+fn search(nodes: &[Node], from: usize, n: &Node) -> Option<usize>
+    requires within { from ≤ length nodes.now }
+    requires lacks { LacksBelow nodes.now n.now from }
+    ensures { MatchOption result (LacksBelow nodes.now n.now (length nodes.now)) (λ i. (i < length nodes.now) × (get_or nodes.now i no_node ≡ n.now)) }
+{
+    for i in from..nodes.len() {
+        if nodes[i] == *n {
             return Some(i);
         }
     }

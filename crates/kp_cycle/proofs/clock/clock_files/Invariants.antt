@@ -1,5 +1,5 @@
 use Rattle.std.proofs.Common.{◌≡◌}
-use Rattle.kp_cycle.specs.Steps.{Fits}
+use Rattle.kp_cycle.specs.inner.Storage.{Fits}
 use Rattle.kp_cycle.proofs.Clocking.{Written}
 use Rattle.kp_cycle.proofs.clock.clock_files.Given as goal
 

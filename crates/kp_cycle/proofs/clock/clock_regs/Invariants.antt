@@ -1,6 +1,6 @@
 use Rattle.std.proofs.Common.{◌≡◌, ◌<◌, ℕ, get_or}
 use Rattle.kp_net.specs.Parts.{no_reg}
-use Rattle.kp_cycle.specs.Steps.{Fits}
+use Rattle.kp_cycle.specs.inner.Storage.{Fits}
 use Rattle.kp_cycle.proofs.clock.clock_regs.Given as goal
 
 abbrev pub invariant-loop-i : goal.invariant-loop-i

@@ -1,5 +1,5 @@
 use Rattle.std.proofs.Common.{◌≡◌, map, take}
-use Rattle.kp_cycle.specs.Steps.{Fits}
+use Rattle.kp_cycle.specs.inner.Storage.{Fits}
 use Rattle.kp_cycle.proofs.memory.fill_files.Given as goal
 
 abbrev pub invariant-loop-i : goal.invariant-loop-i

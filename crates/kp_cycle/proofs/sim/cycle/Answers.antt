@@ -1,31 +1,38 @@
-use Rattle.std.proofs.Common.{◌≡◌, [], get_or, ◌∙◌, sym, subst}
+use Rattle.std.proofs.Common.{◌≡◌, Bool, true, false, [], get_or, refl, ◌∙◌, sym, subst}
 use Rattle.kp_net.specs.Nodes.{at}
-use Rattle.kp_net.specs.Netlist.{State, cells_of, stalled}
+use Rattle.kp_net.specs.Netlist.{Input, State, cells_of, resets, state_after}
 use Rattle.kp_net.specs.Parts.{no_file}
-use Rattle.kp_cycle.specs.Steps.{StateFits, port_from, state_of}
+use Rattle.kp_net.proofs.Resets.{reset_state}
+use Rattle.kp_cycle.specs.Steps.{given}
+use Rattle.kp_cycle.specs.inner.Storage.{StateFits, port_from, state_of}
 use Rattle.kp_cycle.proofs.Clocking.{state_is}
 use Rattle.kp_cycle.proofs.Reached.{fits_after}
 use Rattle.kp_cycle.proofs.sim.cycle.Goals as goal
 
+on_or_off : (b : Bool) (A : Type 0) → (b ≡ true → A) → (b ≡ false → A) → A
+on_or_off true A f g = f refl
+on_or_off false A f g = g refl
+
 pub returns-clause-state : goal.returns-clause-state
 returns-clause-state c =
     let net = c.args.net.now in
+    let input : Input = given c.args.ext c.args.rst c.args.samples.now in
     let m0 = c.args.memory.now in
     let m1 = c.settle.new.memory in
-    let m2 = c.clock_regs.new.memory in
-    let m3 = c.clock_files.new.memory in
+    let m2 = c.clock.new.memory in
     let er : m1.regs ≡ m0.regs = c.settle.ensures.regs in
     let ef : m1.files ≡ m0.files = c.settle.ensures.files in
     let s : state_of m1 ≡ state_of m0 = λ i. record { regs = er i; files = ef i } in
     let x : c.from.result ≡ c.args.ext = c.from.ensures in
-    let g : m2.files ≡ m0.files = c.clock_regs.ensures.files ∙ ef in
-    let n : m2.nodes ≡ m1.nodes = c.clock_regs.ensures.nodes in
-    state_is net c.args.ext (state_of m0) m1.nodes m3.regs m3.files c.requires.fits.right c.requires.fits.files c.clock_files.ensures.fits.files
-    (λ j l. c.settle.ensures.known j l ∙ (λ i. at (cells_of (stalled (x i)) (s i)) net.nodes j))
-    (c.clock_files.ensures.regs ∙ c.clock_regs.ensures.regs)
-    (λ f l. c.clock_files.ensures.files f l ∙ (λ i. port_from (get_or net.parts.files f no_file).port (n i) (get_or (g i) f [])))
+    on_or_off (resets net input) (state_of m2 ≡ state_after net input (state_of m0))
+    (λ on. let k = c.clock.ensures.reset on in let f : m2.files ≡ m0.files = k.1 ∙ ef in
+    (λ i. record { regs = k.0 i; files = f i }) ∙ sym (reset_state net input (state_of m0) on))
+    (λ off. state_is net input (state_of m0) m1.nodes m2.regs m2.files c.requires.fits.right off c.requires.fits.files c.clock.ensures.fits.files
+    (λ j l. c.settle.ensures.known j l ∙ (λ i. at (cells_of (given (x i) false c.args.samples.now) (s i)) net.nodes j))
+    (c.clock.ensures.regs off)
+    (λ f l. c.clock.ensures.files off f l ∙ (λ i. port_from (get_or net.parts.files f no_file).port m1.nodes (get_or (ef i) f []))))
 
 pub returns-clause-widths : goal.returns-clause-widths
 returns-clause-widths c =
     let P : State → Type 0 = StateFits c.args.net.now in
-    subst P (sym (returns-clause-state c)) (fits_after c.args.net.now (stalled c.args.ext) (state_of c.args.memory.now) c.requires.fits.right c.requires.fits.files c.requires.widths)
+    subst P (sym (returns-clause-state c)) (fits_after c.args.net.now (given c.args.ext c.args.rst c.args.samples.now) (state_of c.args.memory.now) c.requires.fits.right c.requires.fits.files c.requires.widths)

@@ -1,6 +1,6 @@
 use Rattle.std.proofs.Common.{◌≡◌, ◌+◌, ◌∷◌, map, length, take}
 use Rattle.std.specs.List.{sum_by}
-use Rattle.kp_cycle.specs.Spans.{Apart}
+use Rattle.kp_cycle.specs.inner.Spans.{Apart}
 use Rattle.kp_cycle.proofs.memory.Memory.lay_out.Given as goal
 
 abbrev pub invariant-loop-file : goal.invariant-loop-file

@@ -1,5 +1,5 @@
 use Rattle.std.proofs.Common.{◌<◌, ◌∷◌, length, set, ap, ◌∙◌, arith}
-use Rattle.kp_cycle.specs.Steps.{Stored}
+use Rattle.kp_cycle.specs.inner.Storage.{Stored}
 use Rattle.kp_cycle.proofs.Spans.{span_length, write_one, stored, stored_in}
 use Rattle.kp_cycle.proofs.memory.Memory.set_node.Goals as goal
 

@@ -1,7 +1,7 @@
 use Rattle.std.proofs.Common.{get_or, set, [], ap, ◌∙◌, arith}
 use Rattle.kp_region.specs.declared.span.Span.{Span}
 use Rattle.kp_region.specs.Words.{written}
-use Rattle.kp_cycle.specs.Steps.{Stored}
+use Rattle.kp_cycle.specs.inner.Storage.{Stored}
 use Rattle.kp_cycle.proofs.Spans.{file_span, write_file, stored_in}
 use Rattle.kp_cycle.proofs.memory.Memory.set_word.Goals as goal
 

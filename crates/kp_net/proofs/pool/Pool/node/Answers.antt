@@ -1,96 +1,16 @@
-use Rattle.std.proofs.Common.{◌≡◌, ◌<◌, ◌++◌, ◌∷◌, [], length, List, sym, ap, ◌∙◌, get_or, subst, arith}
+use Rattle.std.proofs.Common.{◌≡◌, List, ap, sym, subst, ◌∙◌}
 use Rattle.kp_net.specs.declared.node.Node.{Node}
-use Rattle.kp_net.specs.Widths.{NodeOk, AllRight, Distinct, LacksBelow, no_node}
+use Rattle.kp_net.specs.Widths.{AllRight}
 use Rattle.kp_net.specs.Growth.{Held}
+use Rattle.kp_net.specs.inner.Folds.{StandsFor}
 use Rattle.kp_net.proofs.Exact.{node_whole}
-use Rattle.kp_net.proofs.Rightness.{right_more, distinct_more}
-use Rattle.kp_net.proofs.Growing.{kept_new, grown_new, added_new, wire_new, value_new, wire_there, value_there}
 use Rattle.kp_net.proofs.pool.Pool.node.Goals as goal
 
--- the lists that the pool holds before and after an addition
-stays_right : (ns ms old : List Node) (n : Node) → ms ≡ ns ++ n ∷ [] → ns ≡ old → AllRight ns → NodeOk old (length old) n → AllRight ms
-stays_right ns ms old n e f right ok =
-    let P : List Node → Type 0 = λ xs. NodeOk xs (length xs) n in let Q : List Node → Type 0 = AllRight in
-    subst Q (sym e) (right_more ns n right (subst P (sym f) ok))
-
-stays_distinct : (ns ms slice : List Node) (n : Node) → ms ≡ ns ++ n ∷ [] → slice ≡ ns → Distinct ns → LacksBelow slice n (length slice) → Distinct ms
-stays_distinct ns ms slice n e f distinct lacks =
-    let P : List Node → Type 0 = λ xs. LacksBelow xs n (length xs) in let Q : List Node → Type 0 = Distinct in
-    subst Q (sym e) (distinct_more ns n distinct (subst P f lacks))
-
-stands : (slice old : List Node) (n : Node) (i : _) → slice ≡ old → (i < length slice) × (get_or slice i no_node ≡ n) → (i < length old) × (get_or old i no_node ≡ n)
-stands slice old n i e h = let P : List Node → Type 0 = λ ns. (i < length ns) × (get_or ns i no_node ≡ n) in subst P e h
-
-pub invariant_of-self : goal.invariant_of-self
-invariant_of-self c =
-    let vn : c.self.inside.nodes.items ≡ c.args.self.now.nodes = ap (λ (h : Held). h.nodes) c.self.view_is in
-    let vs : c.self.inside.spare ≡ c.args.self.now.spare = ap (λ (h : Held). h.spare) c.self.view_is in
-    let a = c.self.invariant in
-    (omega (arith, a.0), omega (arith, a.1), stays_right _ _ _ _ c.add.ensures.items vn a.2 c.requires.right, stays_distinct _ _ _ _ c.add.ensures.items c.as_slice.ensures.value a.3 c.in-None.ensures)
-
-pub returns-in-Some-clause-wire : goal.returns-in-Some-clause-wire
-returns-in-Some-clause-wire c =
-    let vn : c.self.inside.nodes.items ≡ c.args.self.now.nodes = ap (λ (h : Held). h.nodes) c.self.view_is in
-    let r = stands _ c.args.self.now.nodes c.args.n c.in-Some.i (c.as_slice.ensures.value ∙ vn) c.in-Some.ensures in
-    wire_there _ _ _ r.0 r.1
-
-pub returns-in-Some-clause-value : goal.returns-in-Some-clause-value
-returns-in-Some-clause-value c =
-    let vn : c.self.inside.nodes.items ≡ c.args.self.now.nodes = ap (λ (h : Held). h.nodes) c.self.view_is in
-    let r = stands _ c.args.self.now.nodes c.args.n c.in-Some.i (c.as_slice.ensures.value ∙ vn) c.in-Some.ensures in
-    let s : AllRight c.args.self.now.nodes = let P : List Node → Type 0 = AllRight in subst P vn c.self.invariant.2 in
-    λ x. value_there x c.args.self.now.nodes c.args.n c.in-Some.i s r.0 r.1
-
-pub returns-in-Some-clause-exact : goal.returns-in-Some-clause-exact
-returns-in-Some-clause-exact c =
-    let vn : c.self.inside.nodes.items ≡ c.args.self.now.nodes = ap (λ (h : Held). h.nodes) c.self.view_is in
-    let r = stands _ c.args.self.now.nodes c.args.n c.in-Some.i (c.as_slice.ensures.value ∙ vn) c.in-Some.ensures in
-    let s : AllRight c.args.self.now.nodes = let P : List Node → Type 0 = AllRight in subst P vn c.self.invariant.2 in
-    λ x f. value_there x c.args.self.now.nodes c.args.n c.in-Some.i s r.0 r.1 ∙ node_whole x c.args.self.now.nodes c.args.n s c.requires.right f
-
-pub returns-in-None-clause-exact : goal.returns-in-None-clause-exact
-returns-in-None-clause-exact c =
-    let vn : c.self.inside.nodes.items ≡ c.args.self.now.nodes = ap (λ (h : Held). h.nodes) c.self.view_is in
-    let e : c.add.new.nodes.items ≡ c.args.self.now.nodes ++ c.args.n ∷ [] = c.add.ensures.items ∙ ap (λ (ns : List Node). ns ++ c.args.n ∷ []) vn in
-    let s : AllRight c.args.self.now.nodes = let P : List Node → Type 0 = AllRight in subst P vn c.self.invariant.2 in
-    λ x f. value_new c.args.self.now (record { nodes = c.add.new.nodes.items; spare = 0 }) c.args.n e x _ (omega (arith, ap length vn)) ∙ node_whole x c.args.self.now.nodes c.args.n s c.requires.right f
-
-pub returns-in-None-clause-wire : goal.returns-in-None-clause-wire
-returns-in-None-clause-wire c =
-    let vn : c.self.inside.nodes.items ≡ c.args.self.now.nodes = ap (λ (h : Held). h.nodes) c.self.view_is in
-    let e : c.add.new.nodes.items ≡ c.args.self.now.nodes ++ c.args.n ∷ [] = c.add.ensures.items ∙ ap (λ (ns : List Node). ns ++ c.args.n ∷ []) vn in
-    wire_new c.args.self.now _ c.args.n e _ (omega (arith, ap length vn))
-
-pub returns-in-None-clause-value : goal.returns-in-None-clause-value
-returns-in-None-clause-value c =
-    let vn : c.self.inside.nodes.items ≡ c.args.self.now.nodes = ap (λ (h : Held). h.nodes) c.self.view_is in
-    let e : c.add.new.nodes.items ≡ c.args.self.now.nodes ++ c.args.n ∷ [] = c.add.ensures.items ∙ ap (λ (ns : List Node). ns ++ c.args.n ∷ []) vn in
-    λ x. value_new c.args.self.now (record { nodes = c.add.new.nodes.items; spare = 0 }) c.args.n e x _ (omega (arith, ap length vn))
-
-pub returns-in-None-clause-kept : goal.returns-in-None-clause-kept
-returns-in-None-clause-kept c =
-    let vn : c.self.inside.nodes.items ≡ c.args.self.now.nodes = ap (λ (h : Held). h.nodes) c.self.view_is in
-    let vs : c.self.inside.spare ≡ c.args.self.now.spare = ap (λ (h : Held). h.spare) c.self.view_is in
-    let e : c.add.new.nodes.items ≡ c.args.self.now.nodes ++ c.args.n ∷ [] = c.add.ensures.items ∙ ap (λ (ns : List Node). ns ++ c.args.n ∷ []) vn in
-    kept_new c.args.self.now _ c.args.n e (omega arith)
-
-pub returns-in-None-clause-added : goal.returns-in-None-clause-added
-returns-in-None-clause-added c =
-    let vn : c.self.inside.nodes.items ≡ c.args.self.now.nodes = ap (λ (h : Held). h.nodes) c.self.view_is in
-    let e : c.add.new.nodes.items ≡ c.args.self.now.nodes ++ c.args.n ∷ [] = c.add.ensures.items ∙ ap (λ (ns : List Node). ns ++ c.args.n ∷ []) vn in
-    added_new c.args.self.now (record { nodes = c.add.new.nodes.items; spare = 0 }) c.args.n e
-
-pub returns-in-None-clause-grown : goal.returns-in-None-clause-grown
-returns-in-None-clause-grown c =
-    let vn : c.self.inside.nodes.items ≡ c.args.self.now.nodes = ap (λ (h : Held). h.nodes) c.self.view_is in
-    let vs : c.self.inside.spare ≡ c.args.self.now.spare = ap (λ (h : Held). h.spare) c.self.view_is in
-    let e : c.add.new.nodes.items ≡ c.args.self.now.nodes ++ c.args.n ∷ [] = c.add.ensures.items ∙ ap (λ (ns : List Node). ns ++ c.args.n ∷ []) vn in
-    grown_new c.args.self.now _ c.args.n e (omega arith)
-
-pub returns-in-None-clause-right : goal.returns-in-None-clause-right
-returns-in-None-clause-right c =
-    let vn : c.self.inside.nodes.items ≡ c.args.self.now.nodes = ap (λ (h : Held). h.nodes) c.self.view_is in
-    stays_right _ _ _ _ c.add.ensures.items vn c.self.invariant.2 c.requires.right
-
-pub returns-in-None-clause-distinct : goal.returns-in-None-clause-distinct
-returns-in-None-clause-distinct c = stays_distinct _ _ _ _ c.add.ensures.items c.as_slice.ensures.value c.self.invariant.3 c.in-None.ensures
+pub returns-in-There-clause-value : goal.returns-in-There-clause-value
+returns-in-There-clause-value c =
+    let ns = c.args.self.now.nodes in
+    let vn : c.self.inside.nodes.items ≡ ns = ap (λ (h : Held). h.nodes) c.self.view_is in
+    let P : List Node → Type 0 = AllRight in
+    let Q : List Node → Type 0 = λ xs. StandsFor xs c.args.n.width c.args.n.kind c.in-There.i in
+    let stands : StandsFor ns c.args.n.width c.args.n.kind c.in-There.i = subst Q (c.as_slice.ensures.value ∙ vn) c.in-There.ensures in
+    λ x. stands.word x ∙ sym (node_whole x ns c.args.n (subst P vn c.self.invariant.2) c.requires.right stands.plain)

@@ -1,0 +1,70 @@
+-- Where a node stands in a list, by the test that compares nodes.
+use Rattle.std.proofs.Common.{◌≡◌, ◌⊎◌, ℕ, ◌<◌, ◌≤◌, ◌++◌, ◌∷◌, [], Bool, true, false, List, length, get_or, refl, sym, subst, ap, ◌∙◌, arith, ⊎_elim, Option, None, Some, MatchOption, length-append, if◌then◌else◌, IfOk, OnErr, Result, Ok, Err, inl, inr}
+use Rattle.std.proofs.lemmas.Bool.{cases_lt, false≢true}
+use Rattle.std.proofs.lemmas.Grind.{common_steps}
+use Rattle.std.proofs.lemmas.List.{get_or_default}
+use Rattle.std.proofs.lemmas.List.Quantifiers.{position-Some}
+use Rattle.std.proofs.lemmas.List.Sums.{fails_before_first}
+use Rattle.std.proofs.lemmas.List.Folds.{list_any_none}
+use Rattle.std.proofs.Math.ListN.{get_or-append}
+use Rattle.std.proofs.Math.Seq.{get_or-append_seam}
+use Rattle.std.specs.List.{position, position_or_len, list_any}
+use Rattle.kp_net.specs.declared.node.Node.{Node}
+use Rattle.kp_net.specs.Widths.{no_node}
+use Rattle.kp_net.specs.inner.Lookup.{LacksBelow, IsFront}
+use Rattle.kp_net.specs.contracts.node.NodePartialEq.TheImpl as nodes
+use Rattle.kp_net.proofs.Same.{node_from_eq, node_eq_itself}
+
+abbrev pub is : Node → Node → Bool
+is = nodes.eq-value.it
+
+refused : (b : Bool) → (b ≡ true → ⊥) → b ≡ false
+refused true h = absurd (h refl)
+refused false h = refl
+
+fails : (n x : Node) → (x ≡ n → ⊥) → is n x ≡ false
+fails n x h = refused (is n x) (λ e. h (sym (node_from_eq n x e)))
+
+differs : (n x : Node) → is n x ≡ false → x ≡ n → ⊥
+differs n x f e = false≢true (sym f ∙ ap (is n) e ∙ node_eq_itself n)
+
+pub not_any : (n : Node) (ns : List Node) → LacksBelow ns n (length ns) → list_any (is n) ns ≡ false
+not_any n ns lacks = list_any_none (is n) ns (λ k d l. fails n (get_or ns k d) (λ e. lacks k l (sym (get_or_default ns k d no_node l) ∙ e)))
+
+-- the first place at which the test passes is the node's, and without one the list lacks it
+pub placed : (n : Node) (ns : List Node) (r : Option ℕ) → r ≡ position (is n) ns → MatchOption r (LacksBelow ns n (length ns)) (λ i. (i < length ns) × (get_or ns i no_node ≡ n))
+placed n ns (Some i) e = let p = position-Some (is n) ns i no_node (sym e) in (p.0, sym (node_from_eq n (get_or ns i no_node) p.1))
+placed n ns None e =
+    let past : length ns ≤ position_or_len (is n) ns = grind (arith, common_steps) in
+    λ i h same. differs n (get_or ns i no_node) (fails_before_first (is n) ns i no_node (omega (arith, h, past))) same
+
+-- what an insertion leaves
+pub inserted : {A E : Type 0} (n : Node) (old new : List Node) (r : Result A E) → LacksBelow old n (length old)
+    → IfOk r (λ x. new ≡ (if list_any (is n) old then old else old ++ n ∷ [])) → OnErr r (new ≡ old) → (new ≡ old) ⊎ (new ≡ old ++ n ∷ [])
+inserted n old new (Ok x) lacks put stays = inr (put ∙ ap (λ (b : Bool). if b then old else old ++ n ∷ []) (not_any n old lacks))
+inserted n old new (Err x) lacks put stays = inl stays
+
+-- the first nodes of a list
+pub front_stays : (ks ns : List Node) (n : Node) → IsFront ks ns → IsFront ks (ns ++ n ∷ [])
+front_stays ks ns n h = record {
+  shorter = omega (arith, h.shorter, length-append ns (n ∷ []));
+  same = λ i l. h.same i l ∙ sym (get_or-append ns (n ∷ []) no_node i (omega (arith, h.shorter)));
+}
+
+pub front_more : (ks ns : List Node) (n : Node) → IsFront ks ns → length ks ≡ length ns → IsFront (ks ++ n ∷ []) (ns ++ n ∷ [])
+front_more ks ns n h e = record {
+  shorter = omega (arith, e, length-append ns (n ∷ []), length-append ks (n ∷ []));
+  same = λ i l. ⊎_elim
+      (λ (m : i < length ks). get_or-append ks (n ∷ []) no_node i m ∙ h.same i m ∙ sym (get_or-append ns (n ∷ []) no_node i (omega (arith, e))))
+      (λ (m : length ks ≤ i). let z : i ≡ length ks = omega (arith, length-append ks (n ∷ [])) in
+      ap (λ k. get_or (ks ++ n ∷ []) k no_node) z ∙ get_or-append_seam ks n [] no_node ∙ sym (get_or-append_seam ns n [] no_node) ∙ ap (λ k. get_or (ns ++ n ∷ []) k no_node) (sym e ∙ sym z))
+      (cases_lt i (length ks));
+}
+
+pub front_put : (old new ns : List Node) (n : Node) → IsFront old ns → length old ≡ length ns → (new ≡ old) ⊎ (new ≡ old ++ n ∷ []) → IsFront new (ns ++ n ∷ [])
+front_put old new ns n h e put =
+    let P : List Node → Type 0 = λ ks. IsFront ks (ns ++ n ∷ []) in
+    ⊎_elim (λ same. subst P (sym same) (front_stays old ns n h)) (λ more. subst P (sym more) (front_more old ns n h e)) put
+
+pub lacks_front : (ks ns : List Node) (n : Node) → IsFront ks ns → LacksBelow ks n (length ks) → LacksBelow ns n (length ks)
+lacks_front ks ns n h lacks i l e = lacks i l (h.same i l ∙ e)

@@ -1,0 +1,12 @@
+use Rattle.std.proofs.Common.{◌≡◌, map, take, true, get_or}
+use Rattle.std.specs.List.{sum_by, list_all}
+use Rattle.kp_bits.specs.Word.{IsWord}
+use Rattle.kp_bits.specs.Operators.{joined_of}
+use Rattle.kp_net.specs.Widths.{wide, no_node}
+use Rattle.kp_net.specs.Folding.{is_const}
+use Rattle.kp_net.specs.inner.Folds.{number_at}
+use Rattle.kp_net.proofs.fold.joined.Given as goal
+
+abbrev pub invariant-loop-i : goal.invariant-loop-i
+invariant-loop-i l = IsWord l.word × (l.word ≡ joined_of (map (λ a. number_at l.nodes a.0) (take l.i l.parts))) × (l.word.width ≡ sum_by (λ a. wide l.nodes a.0) (take l.i l.parts))
+    × (list_all (λ a. is_const (get_or l.nodes a.0 no_node).kind) (take l.i l.parts) ≡ true)

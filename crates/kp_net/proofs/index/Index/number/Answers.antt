@@ -1,0 +1,8 @@
+use Rattle.std.proofs.Common.{List, ap, ◌∙◌}
+use Rattle.std.specs.List.{position}
+use Rattle.kp_net.specs.declared.node.Node.{Node}
+use Rattle.kp_net.proofs.Found.{is, placed}
+use Rattle.kp_net.proofs.index.Index.number.Goals as goal
+
+pub returns : goal.returns
+returns c = placed c.args.n.now c.args.self.now c.get_index_of.result (c.get_index_of.ensures.index ∙ ap (λ (ns : List Node). position (is c.args.n.now) ns) c.self.view_is)
