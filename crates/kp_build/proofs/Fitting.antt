@@ -1,0 +1,99 @@
+-- Operations at nodes: what their having a value says of the widths of the nodes, and what a node with that value shows.
+use Rattle.std.proofs.Common.{◌≡◌, ◌∙◌, ℕ, ◌<◌, ◌≤◌, ◌&&◌, ◌||◌, ◌==◌, Bool, true, false, List, Some, length, refl, ap, sym, arith}
+use Rattle.std.specs.Prelude.{is_some, nat_lt, nat_le}
+use Rattle.std.proofs.lemmas.Bool.{ltb-true, leb-true, eqb-true}
+use Rattle.kp_bits.specs.Word.{Word, IsWord}
+use Rattle.kp_bits.specs.Operators.{is_shift}
+use Rattle.kp_bits.specs.Checked.{where_so, checked_binary, checked_mux, checked_slice, is_extension}
+use Rattle.kp_bits.specs.declared.operator.BinOp.{BinOp}
+use Rattle.kp_net.specs.declared.node.NodeId.{NodeId}
+use Rattle.kp_net.specs.declared.node.Node.{Node}
+use Rattle.kp_net.specs.Nodes.{Cells, word_at, at}
+use Rattle.kp_net.specs.Widths.{wide, BinaryOk}
+use Rattle.kp_net.specs.Growth.{Held}
+use Rattle.kp_net.proofs.Values.{word_wide, at_fits}
+use Rattle.kp_build.specs.inner.Showing.{IsThere, Shows, width_after}
+
+-- what holds whatever the cells hold, holds where they hold nothing
+abbrev pub no_cells : Cells
+no_cells = record { ext = 0; sample = λ s. 0; reg = λ r. 0; word = λ f a. 0 }
+
+pub so_true : (t : Bool) (w : Word) → is_some (where_so t w) ≡ true → t ≡ true
+so_true true w h = refl
+so_true false w h = h
+
+so_some : (t : Bool) (w : Word) → is_some (where_so t w) ≡ true → where_so t w ≡ Some w
+so_some true w h = refl
+so_some false w h = cc
+
+-- a node that has the value behind a test which passes, whatever the cells hold
+pub shown : (t : Cells → Bool) (w : Cells → Word) (q : Held) (n : NodeId) → IsThere (λ c. where_so (t c) (w c)) → ((c : Cells) → word_at c q.nodes n.0 ≡ w c)
+    → Shows q n (λ c. where_so (t c) (w c))
+unfolding IsThere Shows
+shown t w q n h k = λ c. so_some (t c) (w c) (h c) ∙ ap Some (sym (k c))
+
+passes : (t : Cells → Bool) (w : Cells → Word) → IsThere (λ c. where_so (t c) (w c)) → t no_cells ≡ true
+unfolding IsThere
+passes t w h = so_true (t no_cells) (w no_cells) (h no_cells)
+
+both : (a b : Bool) → (a && b) ≡ true → (a ≡ true) × (b ≡ true)
+both true b h = (refl, h)
+both false b h = cc
+
+second : (a b : Bool) → a ≡ false → (a || b) ≡ true → b ≡ true
+second true b h k = cc
+second false b h k = k
+
+binary_ok : (op : BinOp) (a b : ℕ) → (is_shift op ≡ false → a ≡ b) → BinaryOk op (width_after op a) a b
+binary_ok BinOp.And a b h = (refl, sym (h refl))
+binary_ok BinOp.Or a b h = (refl, sym (h refl))
+binary_ok BinOp.Xor a b h = (refl, sym (h refl))
+binary_ok BinOp.Add a b h = (refl, sym (h refl))
+binary_ok BinOp.Sub a b h = (refl, sym (h refl))
+binary_ok BinOp.Mul a b h = (refl, sym (h refl))
+binary_ok BinOp.Eq a b h = (refl, h refl)
+binary_ok BinOp.Lt a b h = (refl, h refl)
+binary_ok BinOp.Shl a b h = refl
+binary_ok BinOp.Shr a b h = refl
+
+-- the word of a node with a width
+pub is_word : (c : Cells) (ns : List Node) (i : ℕ) → i < length ns → 1 ≤ wide ns i → wide ns i ≤ 64 → IsWord (word_at c ns i)
+unfolding at
+is_word c ns i h k l =
+    let w = word_wide c ns i h in
+    let f = at_fits c ns i h in
+    record { positive = omega arith; at_most = omega arith; fits = rw w f }
+
+module _ (ns : List Node) where
+  width_at : (i : ℕ) → i < length ns → (word_at no_cells ns i).width ≡ wide ns i
+  width_at i h = word_wide no_cells ns i h
+
+  -- the operands of a binary operator
+  pub operands_ok : (op : BinOp) (a b : ℕ) → a < length ns → b < length ns → IsThere (λ c. checked_binary op (word_at c ns a) (word_at c ns b))
+      → BinaryOk op (width_after op (wide ns a)) (wide ns a) (wide ns b)
+  operands_ok op a b h k there = binary_ok op (wide ns a) (wide ns b) (λ e.
+      let t = passes (λ c. is_shift op || (word_at c ns a).width == (word_at c ns b).width) _ there in
+      sym (width_at a h) ∙ eqb-true _ _ (second _ _ e t) ∙ width_at b k)
+
+  -- the test and the branches of a choice
+  pub branches_ok : (t a b : ℕ) → t < length ns → a < length ns → b < length ns → IsThere (λ c. checked_mux (word_at c ns t) (word_at c ns a) (word_at c ns b))
+      → (wide ns t ≡ 1) × (wide ns b ≡ wide ns a)
+  branches_ok t a b h k l there =
+      let e = both _ _ (passes (λ c. (word_at c ns t).width == 1 && (word_at c ns a).width == (word_at c ns b).width) _ there) in
+      (sym (width_at t h) ∙ eqb-true _ _ e.0, sym (width_at b l) ∙ sym (eqb-true _ _ e.1) ∙ width_at a k)
+
+  -- the bits of a slice
+  pub bits_ok : (hi lo a : ℕ) → a < length ns → IsThere (λ c. checked_slice hi lo (word_at c ns a)) → (lo ≤ hi) × (hi < wide ns a)
+  bits_ok hi lo a h there =
+      let e = both _ _ (passes (λ c. nat_le lo hi && nat_lt hi (word_at c ns a).width) _ there) in
+      let w = width_at a h in
+      let below : hi < (word_at no_cells ns a).width = ltb-true _ _ e.1 in
+      (leb-true _ _ e.0, omega arith)
+
+  -- an extension
+  pub extension_ok : (width a : ℕ) (w : Cells → Word) → a < length ns → IsThere (λ c. where_so (is_extension width (word_at c ns a)) (w c)) → (wide ns a ≤ width) × (width ≤ 64)
+  extension_ok width a w h there =
+      let e = both _ _ (passes (λ c. is_extension width (word_at c ns a)) w there) in
+      let k = width_at a h in
+      let above : (word_at no_cells ns a).width ≤ width = leb-true _ _ e.0 in
+      (omega arith, leb-true _ _ e.1)

@@ -1,0 +1,98 @@
+-- What nodes give of expressions, as the pool grows and from part to whole.
+use Rattle.std.proofs.Common.{◌≡◌, ◌∙◌, ℕ, ◌<◌, true, List, Option, Some, None, length, refl, ap, sym}
+use Rattle.std.specs.Prelude.{is_some}
+use Rattle.std.specs.Option.{option_map, option_and_then}
+use Rattle.kp_bits.specs.Word.{Word}
+use Rattle.kp_ast.specs.declared.tree.Expr.{Expr}
+use Rattle.kp_ast.specs.Checked.{checked}
+use Rattle.kp_net.specs.declared.node.NodeId.{NodeId}
+use Rattle.kp_net.specs.Nodes.{Cells, word_at}
+use Rattle.kp_net.specs.Growth.{Held, Grown}
+use Rattle.kp_build.specs.Names.{Scope, AreInside, IsSound, Gives}
+use Rattle.kp_build.specs.inner.Showing.{IsThere, Shows, AllShow, words_at, value_in, values_in}
+use Rattle.kp_build.proofs.Names.{same_known}
+
+-- what comes of a value that is there
+pub then_in : {X Y : Type 0} (f : X → Option Y) (o : Option X) → is_some (option_and_then f o) ≡ true → (u : X) × ((o ≡ Some u) × (is_some (f u) ≡ true))
+then_in f None h = cc
+then_in f (Some u) h = (u, (refl, h))
+
+there_by : {X : Type 0} (o : Option X) (u : X) → o ≡ Some u → is_some o ≡ true
+there_by o u e = ap is_some e
+
+pub first_there : {X Y : Type 0} (f : X → Option Y) (o : Option X) → is_some (option_and_then f o) ≡ true → is_some o ≡ true
+first_there f None h = h
+first_there f (Some u) h = refl
+
+pub mapped_there : {X Y : Type 0} (f : X → Y) (o : Option X) → is_some (option_map f o) ≡ true → is_some o ≡ true
+mapped_there f None h = h
+mapped_there f (Some u) h = refl
+
+pub second_there : {X Y Z : Type 0} (g : X → Y → Option Z) (o : Option X) (r : Option Y) → is_some (option_and_then (λ u. option_and_then (g u) r) o) ≡ true → is_some r ≡ true
+second_there g None r h = cc
+second_there g (Some u) r h = first_there (g u) r h
+
+pub third_there : {W X Y Z : Type 0} (g : W → X → Y → Option Z) (i : Option W) (o : Option X) (r : Option Y)
+    → is_some (option_and_then (λ t. option_and_then (λ u. option_and_then (g t u) r) o) i) ≡ true → (is_some o ≡ true) × (is_some r ≡ true)
+third_there g None o r h = cc
+third_there g (Some t) o r h = (first_there (λ u. option_and_then (g t u) r) o h, second_there (g t) o r h)
+
+module _ (p q : Held) (k : ℕ) (g : Grown p q k) (env : Scope) (inside : AreInside p env) where
+  value_same : (e : Expr) (c : Cells) → value_in q env e c ≡ value_in p env e c
+  value_same e c = ap (λ known. checked known e) (same_known p q k env g inside c)
+
+  pub sound_later : (e : Expr) → IsSound p env e → IsSound q env e
+  unfolding IsSound
+  sound_later e h = λ c. ap is_some (value_same e c) ∙ h c
+
+  pub gives_earlier : (e : Expr) (r : Held) (n : NodeId) → Gives q env e r n → Gives p env e r n
+  unfolding Gives
+  gives_earlier e r n h = λ c. sym (value_same e c) ∙ h c
+
+pub gives_later : (p : Held) (env : Scope) (e : Expr) (q r : Held) (k : ℕ) (n : NodeId) → Grown q r k → n.0 < length q.nodes → Gives p env e q n → Gives p env e r n
+unfolding Gives
+gives_later p env e q r k n g l h = λ c. h c ∙ ap Some (sym (g.kept.words c n.0 l))
+
+-- a whole by its one part, its two and its three
+module _ (p : Held) (env : Scope) (e : Expr) where
+  module _ (f : Cells → Option Word) (same : (c : Cells) → value_in p env e c ≡ f c) where
+    pub fit_by : IsSound p env e → IsThere f
+    unfolding IsSound IsThere
+    fit_by h = λ c. sym (ap is_some (same c)) ∙ h c
+
+    pub gives_by : (r : Held) (n : NodeId) → Shows r n f → Gives p env e r n
+    unfolding Gives Shows
+    gives_by r n h = λ c. same c ∙ h c
+
+  pub sound_by : (x : Expr) → ((c : Cells) → is_some (value_in p env e c) ≡ true → is_some (value_in p env x c) ≡ true) → IsSound p env e → IsSound p env x
+  unfolding IsSound
+  sound_by x h s = λ c. h c (s c)
+
+  pub one_part : (F : Cells → Option Word → Option Word) (x : Expr) (q : Held) (n : NodeId) → ((c : Cells) → value_in p env e c ≡ F c (value_in p env x c)) → Gives p env x q n
+      → (c : Cells) → value_in p env e c ≡ F c (Some (word_at c q.nodes n.0))
+  unfolding Gives
+  one_part F x q n h g c = h c ∙ ap (F c) (g c)
+
+  pub two_parts : (F : Option Word → Option Word → Option Word) (x y : Expr) (q : Held) (n m : NodeId) → ((c : Cells) → value_in p env e c ≡ F (value_in p env x c) (value_in p env y c))
+      → Gives p env x q n → Gives p env y q m → (c : Cells) → value_in p env e c ≡ F (Some (word_at c q.nodes n.0)) (Some (word_at c q.nodes m.0))
+  unfolding Gives
+  two_parts F x y q n m h g k c = h c ∙ ap (λ o. F o (value_in p env y c)) (g c) ∙ ap (F (Some (word_at c q.nodes n.0))) (k c)
+
+  pub three_parts : (F : Option Word → Option Word → Option Word → Option Word) (s x y : Expr) (q : Held) (l n m : NodeId)
+      → ((c : Cells) → value_in p env e c ≡ F (value_in p env s c) (value_in p env x c) (value_in p env y c)) → Gives p env s q l → Gives p env x q n → Gives p env y q m
+      → (c : Cells) → value_in p env e c ≡ F (Some (word_at c q.nodes l.0)) (Some (word_at c q.nodes n.0)) (Some (word_at c q.nodes m.0))
+  unfolding Gives
+  three_parts F s x y q l n m h i g k c =
+      h c
+      ∙ ap (λ o. F o (value_in p env x c) (value_in p env y c)) (i c)
+      ∙ ap (λ o. F (Some (word_at c q.nodes l.0)) o (value_in p env y c)) (g c)
+      ∙ ap (F (Some (word_at c q.nodes l.0)) (Some (word_at c q.nodes n.0))) (k c)
+
+  pub all_parts : (F : Option (List Word) → Option Word) (xs : List Expr) (q : Held) (ns : List NodeId) → ((c : Cells) → value_in p env e c ≡ F (values_in p env xs c))
+      → AllShow q ns (values_in p env xs) → (c : Cells) → value_in p env e c ≡ F (Some (words_at c q ns))
+  unfolding AllShow
+  all_parts F xs q ns h g c = h c ∙ ap F (g c)
+
+  pub all_sound : (F : List Word → Option Word) (xs : List Expr) → ((c : Cells) → value_in p env e c ≡ option_and_then F (values_in p env xs c)) → IsSound p env e → IsThere (values_in p env xs)
+  unfolding IsSound IsThere
+  all_sound F xs h s = λ c. first_there F (values_in p env xs c) (sym (ap is_some (h c)) ∙ s c)

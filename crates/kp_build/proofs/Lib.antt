@@ -1,0 +1,11 @@
+pub mod Fitting
+pub mod Extending
+pub mod Rows
+pub mod Names
+pub mod Parts
+pub mod Giving
+pub mod Lists
+pub mod Forms
+pub mod Agree
+pub mod Calls
+pub mod Work

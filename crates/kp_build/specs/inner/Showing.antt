@@ -1,0 +1,47 @@
+-- Nodes that show values.
+use Rattle.std.specs.Prelude.{◌≡◌, ◌<◌, ◌-◌, ℕ, List, map, length, All, Option, Some, true, is_some}
+use Rattle.kp_bits.specs.declared.operator.BinOp.{BinOp}
+use Rattle.kp_ast.specs.declared.tree.Expr.{Expr}
+use Rattle.kp_ast.specs.Checked.{checked, all_there}
+use Rattle.kp_bits.specs.Word.{Word, word, not_of, mux_of, slice_of}
+use Rattle.kp_net.specs.declared.node.NodeId.{NodeId}
+use Rattle.kp_net.specs.Nodes.{Cells, word_at}
+use Rattle.kp_net.specs.Growth.{Held}
+use Rattle.kp_build.specs.Names.{Scope, known_at}
+
+-- the words of nodes
+abbrev pub words_at : Cells → Held → List NodeId → List Word
+words_at c p ns = map (λ n. word_at c p.nodes n.0) ns
+
+-- the value is there, whatever the cells hold
+unfoldable pub IsThere : {X : Type 0} → (Cells → Option X) → Type 0
+IsThere f = (c : Cells) → is_some (f c) ≡ true
+
+-- the node has this value, whatever the cells hold
+unfoldable pub Shows : Held → NodeId → (Cells → Option Word) → Type 0
+Shows q n f = (c : Cells) → f c ≡ Some (word_at c q.nodes n.0)
+
+-- and so have nodes these values
+unfoldable pub AllShow : Held → List NodeId → (Cells → Option (List Word)) → Type 0
+AllShow q ns f = (c : Cells) → f c ≡ Some (words_at c q ns)
+
+-- all nodes are in the pool
+abbrev pub AllInside : Held → List NodeId → Type 0
+AllInside p ns = All (λ n. n.0 < length p.nodes) ns
+
+-- the value of an expression, and those of expressions
+abbrev pub value_in : Held → Scope → Expr → Cells → Option Word
+value_in p env e c = checked (known_at c p env) e
+
+abbrev pub values_in : Held → Scope → List Expr → Cells → Option (List Word)
+values_in p env es c = all_there (map (checked (known_at c p env)) es)
+
+-- the width of what an operator gives, where its left operand has this width
+abbrev pub width_after : BinOp → ℕ → ℕ
+width_after BinOp.Eq a = 1
+width_after BinOp.Lt a = 1
+width_after _ a = a
+
+-- so many copies of the top bit: all ones or all zeros
+abbrev pub copies : ℕ → Word → Word
+copies count a = mux_of (slice_of a (a.width - 1) (a.width - 1)) (not_of (word count 0)) (word count 0)

@@ -1,0 +1,11 @@
+//! Expressions as nodes.
+#![tactic(auto)]
+
+mod env;
+mod expression;
+mod joined;
+mod operation;
+mod walk;
+
+pub use env::Env;
+pub use expression::expr;
