@@ -1,0 +1,11 @@
+use Rattle.std.proofs.Common.{◌≡◌, length}
+use Rattle.kp_cells.specs.Telling.{Added}
+use Rattle.kp_cells.specs.inner.First.{FirstSamples}
+use Rattle.kp_cells.proofs.registers.samples.Given as goal
+
+abbrev pub invariant-loop-x : goal.invariant-loop-x
+invariant-loop-x l = record {
+  count : length l.nodes.items ≡ l.x;
+  read : FirstSamples l.layout l.pool l.nodes.items;
+  added : Added l.layout l.fn.pool l.pool l.x;
+}
