@@ -1,0 +1,8 @@
+-- The next token says how to go on.
+use Rattle.std.proofs.Common.{refl}
+use Rattle.kp_grammar.specs.Tables.{IsPredictive}
+use Rattle.kp_vlog.specs.Language.{verilog, MODULE}
+use Rattle.kp_vlog.specs.inner.Follow.{tables}
+
+pub is_predictive : IsPredictive verilog tables MODULE
+is_predictive = record { fits = refl; ends = refl }

@@ -1,0 +1,148 @@
+-- A text has one list of tokens and one module, or breaks one rule.
+use Rattle.std.proofs.Common.{◌≡◌, ◌∙◌, ℕ, ◌+◌, ◌≤◌, List, [], ◌∷◌, length, drop, Some, None, refl, sym, ap, subst, arith, inl, inr}
+use Rattle.std.proofs.lemmas.Bool.{cases_lt}
+use Rattle.std.proofs.lemmas.List.{length-drop, drop_all}
+use Rattle.kp_grammar.specs.Grammar.{Nonterminal, Derives}
+use Rattle.kp_grammar.proofs.Laws.{one_state, one_wrong}
+use Rattle.kp_net.specs.Netlist.{Net}
+use Rattle.kp_vlog.specs.declared.tree.VModule.{VModule}
+use Rattle.kp_vlog.specs.Tokens.{Word, name, Token, Front, finish, skips, takes, broken, front, Lexes, at_end, past, token, LexesTo, here, past_gap, past_token}
+use Rattle.kp_vlog.specs.Language.{Value, whole, MODULE, verilog}
+use Rattle.kp_vlog.specs.inner.Follow.{tables}
+use Rattle.kp_vlog.specs.Rules.{Fault}
+use Rattle.kp_vlog.specs.Rules as rules
+use Rattle.kp_vlog.specs.Denote.{net_of, IsModule, Denotes}
+use Rattle.kp_vlog.specs.Verdict.{fault, offset_of, IsWrong, Breaks, no_token, wrong_token, broken_rule}
+use Rattle.kp_vlog.proofs.Predictive.{is_predictive}
+
+-- What stands at the front stands there alone.
+abbrev length_in : Front → ℕ
+length_in (skips n) = n
+length_in (takes w n) = n
+length_in _ = 0
+
+abbrev word_in : Front → Word
+word_in (takes w n) = w
+word_in _ = name []
+
+apart : {A : Type 0} (f g h : Front) → f ≡ g → f ≡ h → (g ≡ h → ⊥) → A
+apart f g h a b differ = absurd (differ (sym a ∙ b))
+
+finish_skips : (n : ℕ) → finish ≡ skips n → ⊥
+finish_skips n e = cc
+
+finish_takes : (w : Word) (n : ℕ) → finish ≡ takes w n → ⊥
+finish_takes w n e = cc
+
+finish_broken : finish ≡ broken → ⊥
+finish_broken e = cc
+
+skips_takes : (k : ℕ) (w : Word) (n : ℕ) → skips k ≡ takes w n → ⊥
+skips_takes k w n e = cc
+
+skips_broken : (k : ℕ) → skips k ≡ broken → ⊥
+skips_broken k e = cc
+
+takes_broken : (w : Word) (k : ℕ) → takes w k ≡ broken → ⊥
+takes_broken w k e = cc
+
+pub one_lexing : {at : ℕ} {text : List ℕ} {ts us : List Token} → Lexes at text ts → Lexes at text us → ts ≡ us
+one_lexing {text = text} (at_end e) (at_end f) = refl
+one_lexing {text = text} (at_end e) (past n f l) = apart (front text) finish (skips n) e f (finish_skips n)
+one_lexing {text = text} (at_end e) (token w n f l) = apart (front text) finish (takes w n) e f (finish_takes w n)
+one_lexing {text = text} (past n e k) (at_end f) = apart (front text) finish (skips n) f e (finish_skips n)
+one_lexing {at = at} {text = text} {us = us} (past n e k) (past n' f l) =
+    let z : n' ≡ n = ap length_in (sym f ∙ e) in one_lexing k (subst (λ (i : ℕ). Lexes (at + i) (drop i text) us) z l)
+one_lexing {text = text} (past n e k) (token w n' f l) = apart (front text) (skips n) (takes w n') e f (skips_takes n w n')
+one_lexing {text = text} (token w n e k) (at_end f) = apart (front text) finish (takes w n) f e (finish_takes w n)
+one_lexing {text = text} (token w n e k) (past n' f l) = apart (front text) (skips n') (takes w n) f e (skips_takes n' w n)
+one_lexing {at = at} {text = text} (token w n e k) (token {ts = us} w' n' f l) =
+    let z : n' ≡ n = ap length_in (sym f ∙ e) in let y : w ≡ w' = ap word_in (sym e ∙ f) in
+    let rest = one_lexing k (subst (λ (i : ℕ). Lexes (at + i) (drop i text) us) z l) in
+    λ i. record { word = y i; at = at } ∷ rest i
+
+one_bad : {at : ℕ} {text : List ℕ} {a b : ℕ} → LexesTo at text a → LexesTo at text b → a ≡ b
+one_bad (here e) (here f) = refl
+one_bad {text = text} (here e) (past_gap n f l) = apart (front text) (skips n) broken f e (skips_broken n)
+one_bad {text = text} (here e) (past_token w n f l) = apart (front text) (takes w n) broken f e (takes_broken w n)
+one_bad {text = text} (past_gap n e k) (here f) = apart (front text) (skips n) broken e f (skips_broken n)
+one_bad {at = at} {text = text} {b = b} (past_gap n e k) (past_gap n' f l) =
+    let z : n' ≡ n = ap length_in (sym f ∙ e) in one_bad k (subst (λ (i : ℕ). LexesTo (at + i) (drop i text) b) z l)
+one_bad {text = text} (past_gap n e k) (past_token w n' f l) = apart (front text) (skips n) (takes w n') e f (skips_takes n w n')
+one_bad {text = text} (past_token w n e k) (here f) = apart (front text) (takes w n) broken e f (takes_broken w n)
+one_bad {text = text} (past_token w n e k) (past_gap n' f l) = apart (front text) (skips n') (takes w n) f e (skips_takes n' w n)
+one_bad {at = at} {text = text} {b = b} (past_token w n e k) (past_token w' n' f l) =
+    let z : n' ≡ n = ap length_in (sym f ∙ e) in one_bad k (subst (λ (i : ℕ). LexesTo (at + i) (drop i text) b) z l)
+
+not_both : {at : ℕ} {text : List ℕ} {ts : List Token} {b : ℕ} → Lexes at text ts → LexesTo at text b → ⊥
+not_both {text = text} (at_end e) (here f) = apart (front text) finish broken e f finish_broken
+not_both {text = text} (at_end e) (past_gap n f l) = apart (front text) finish (skips n) e f (finish_skips n)
+not_both {text = text} (at_end e) (past_token w n f l) = apart (front text) finish (takes w n) e f (finish_takes w n)
+not_both {text = text} (past n e k) (here f) = apart (front text) (skips n) broken e f (skips_broken n)
+not_both {at = at} {text = text} {b = b} (past n e k) (past_gap n' f l) =
+    let z : n' ≡ n = ap length_in (sym f ∙ e) in not_both k (subst (λ (i : ℕ). LexesTo (at + i) (drop i text) b) z l)
+not_both {text = text} (past n e k) (past_token w n' f l) = apart (front text) (skips n) (takes w n') e f (skips_takes n w n')
+not_both {text = text} (token w n e k) (here f) = apart (front text) (takes w n) broken e f (takes_broken w n)
+not_both {text = text} (token w n e k) (past_gap n' f l) = apart (front text) (skips n') (takes w n) f e (skips_takes n' w n)
+not_both {at = at} {text = text} {b = b} (token w n e k) (past_token w' n' f l) =
+    let z : n' ≡ n = ap length_in (sym f ∙ e) in not_both k (subst (λ (i : ℕ). LexesTo (at + i) (drop i text) b) z l)
+
+-- Modules.
+
+abbrev module_in : VModule → List Value → VModule
+module_in d (whole m ∷ []) = m
+module_in d _ = d
+
+same_module : (m n : VModule) → (whole m ∷ []) ≡ (whole n ∷ []) → m ≡ n
+same_module m n e = ap (module_in m) e
+
+pub one_module : (at : ℕ) (text : List ℕ) (m n : VModule) → IsModule at text m → IsModule at text n → m ≡ n
+one_module at text m n a b =
+    let e : b.tokens ≡ a.tokens = one_lexing b.lexes a.lexes in
+    same_module m n (one_state verilog tables MODULE is_predictive a.sentence (subst (λ (ts : List Token). Derives verilog (Nonterminal MODULE ∷ []) [] ts [] (whole n ∷ []) []) e b.sentence))
+
+pub one_net : (at : ℕ) (text : List ℕ) (net other : Net) → Denotes at text net → Denotes at text other → net ≡ other
+one_net at text net other a b = sym a.same_net ∙ ap net_of (one_module at text a.shown b.shown a.is b.is) ∙ b.same_net
+
+-- Broken rules.
+
+-- two ends of a list that are equally long
+same_drop : {A : Type 0} (xs : List A) (i j : ℕ) → length (drop i xs) ≡ length (drop j xs) → drop i xs ≡ drop j xs
+same_drop xs i j e =
+    let a = length-drop i xs in let b = length-drop j xs in
+    elim (cases_lt i (length xs)) [
+      | inl h ↦ let same : i ≡ j = omega arith in ap (λ (k : ℕ). drop k xs) same
+      | inr h ↦ let far : length xs ≤ j = omega arith in drop_all i xs h ∙ sym (drop_all j xs far)
+    ]
+
+wrong_once : (end : ℕ) (ts : List Token) (a b : ℕ) → IsWrong end ts a → IsWrong end ts b → a ≡ b
+wrong_once end ts a b p q = p.place ∙ ap (offset_of end) (same_drop ts p.prefix q.prefix (one_wrong verilog MODULE p.wrong q.wrong)) ∙ sym q.place
+
+some_fault : (f g : Fault) → Some f ≡ Some g → f ≡ g
+some_fault f g e = cc
+
+no_fault : (f : Fault) → None ≡ Some f → ⊥
+no_fault f e = cc
+
+wrong_is_no_module : (at : ℕ) (text : List ℕ) (m : VModule) (ts : List Token) (end k : ℕ) → IsModule at text m → Lexes at text ts → IsWrong end ts k → ⊥
+wrong_is_no_module at text m ts end k a l w =
+    let e : a.tokens ≡ ts = one_lexing a.lexes l in
+    w.wrong.unfinished (whole m ∷ []) (subst (λ (us : List Token). Derives verilog (Nonterminal MODULE ∷ []) [] us [] (whole m ∷ []) []) e a.sentence)
+
+pub one_rule : (from : ℕ) (text : List ℕ) (f g : Fault) → Breaks from text f → Breaks from text g → f ≡ g
+one_rule from text _ _ (no_token a) (no_token b) = ap (fault 1) (one_bad a b)
+one_rule from text _ _ (no_token a) (wrong_token ts l w) = absurd (not_both l a)
+one_rule from text _ g (no_token a) (broken_rule m i e) = absurd (not_both i.lexes a)
+one_rule from text _ _ (wrong_token ts l w) (no_token b) = absurd (not_both l b)
+one_rule from text _ _ (wrong_token {at = a} ts l w) (wrong_token {at = b} us k v) =
+    let e : us ≡ ts = one_lexing k l in ap (fault 2) (wrong_once (from + length text) ts a b w (subst (λ (xs : List Token). IsWrong (from + length text) xs b) e v))
+one_rule from text _ g (wrong_token {at = a} ts l w) (broken_rule m i e) = absurd (wrong_is_no_module from text m ts (from + length text) a i l w)
+one_rule from text f _ (broken_rule m i e) (no_token b) = absurd (not_both i.lexes b)
+one_rule from text f _ (broken_rule m i e) (wrong_token {at = b} ts l w) = absurd (wrong_is_no_module from text m ts (from + length text) b i l w)
+one_rule from text f g (broken_rule m i e) (broken_rule n j k) =
+    some_fault f g (sym e ∙ ap rules.broken (one_module from text m n i j) ∙ k)
+
+pub no_rule : (from : ℕ) (text : List ℕ) (net : Net) (f : Fault) → Denotes from text net → Breaks from text f → ⊥
+no_rule from text net _ d (no_token a) = not_both d.is.lexes a
+no_rule from text net _ d (wrong_token {at = a} ts l w) = wrong_is_no_module from text d.shown ts (from + length text) a d.is l w
+no_rule from text net f d (broken_rule m i e) = no_fault f (sym d.sound ∙ ap rules.broken (one_module from text d.shown m d.is i) ∙ e)

@@ -1,0 +1,13 @@
+pub mod Words
+pub mod Tokens
+pub mod Language
+pub mod Scope
+pub mod Occurrences
+pub mod Rules
+pub mod Denote
+pub mod Verdict
+pub mod Outcome
+pub mod Canon
+pub mod Examples
+pub mod Wrong
+pub mod inner

@@ -1,0 +1,142 @@
+// What a module says, with the offsets of what the rules name.
+use kp_base::List;
+use kp_bits::{BinOp, Literal};
+use kp_net::Label;
+
+/// A number as it is written, and where.
+#[derive(Clone, Copy, Debug, PartialEq, Eq)]
+pub struct Num {
+    pub value: u64,
+    pub at: u32,
+}
+
+/// A literal as it is written, and where.
+#[derive(Clone, Copy, Debug, PartialEq, Eq)]
+pub struct Lit {
+    pub literal: Literal,
+    pub at: u32,
+}
+
+/// A name, and where it stands.
+#[derive(Debug, Drop)]
+pub struct Named {
+    pub name: Label,
+    pub at: u32,
+}
+
+/// `[high:low]`
+#[derive(Clone, Copy, Debug, PartialEq, Eq)]
+pub struct Range {
+    pub high: Num,
+    pub low: Num,
+}
+
+/// A port with a range.
+#[derive(Debug, Drop)]
+pub struct VPort {
+    pub range: Range,
+    pub port: Named,
+}
+
+/// The right side of an assignment.
+#[derive(Debug, Drop)]
+pub enum Right {
+    /// `8'h01`
+    Literal(Lit),
+    /// `r_X`, `s_Q` or `ext`, or the wire of an output.
+    Name(Named),
+    /// `~n1`
+    Not(Named),
+    /// `n1 + n2`, or with another operator.
+    Binary(BinOp, Named, Named),
+    /// `n1 ? n2 : n3`
+    Choice(Named, Named, Named),
+    /// `n1[7:0]`
+    Slice(Named, Num, Num),
+    /// `f_M[n4]`
+    Word(Named, Named),
+    /// `{n1, n2}`
+    Concat(List<Named>),
+}
+
+/// What stands in front of `initial`.
+#[derive(Debug, Drop)]
+pub enum Item {
+    /// `reg [7:0] r_X;`
+    Reg(Range, Named),
+    /// `reg [31:0] f_M [0:31];`
+    File(Range, Named, Range),
+    /// `integer i;`
+    Integer(Named),
+    /// `wire [7:0] n2;`
+    Wire(Range, Named),
+    /// `assign n2 = n0 + n1;`
+    Assign(Named, Right),
+}
+
+/// `for (counter = from; tested < limit; stepped = old + by) file[index] = value;`
+#[derive(Debug, Drop)]
+pub struct Fill {
+    pub counter: Named,
+    pub from: Num,
+    pub tested: Named,
+    pub limit: Num,
+    pub stepped: Named,
+    pub old: Named,
+    pub by: Num,
+    pub file: Named,
+    pub index: Named,
+    pub value: Lit,
+}
+
+/// What stands under `initial`.
+#[derive(Debug, Drop)]
+pub enum Init {
+    /// `r_X = 8'h01;`
+    Reg(Named, Lit),
+    /// `f_M[3] = 32'h0000000a;`
+    Word(Named, Num, Lit),
+    Fill(Fill),
+}
+
+/// `r_X <= 8'h01;` in the reset list.
+#[derive(Debug, Drop)]
+pub struct ResetValue {
+    pub name: Named,
+    pub value: Lit,
+}
+
+/// `if (reset) begin .. end else ..`
+#[derive(Debug, Drop)]
+pub struct ResetList {
+    pub reset: Named,
+    pub values: List<ResetValue>,
+}
+
+/// What happens at the clock edge.
+#[derive(Debug, Drop)]
+pub enum Update {
+    /// `r_X <= n3;`
+    Reg(Named, Named),
+    /// `if (n1) f_M[n2] <= n3;`, with `n1` first.
+    File(Named, Named, Named, Named),
+}
+
+/// A module.
+#[derive(Debug, Drop)]
+pub struct VModule {
+    pub name: Named,
+    pub clk: Named,
+    /// The port without a range.
+    pub rst: Option<Named>,
+    pub ext: VPort,
+    pub samples: List<VPort>,
+    pub full: VPort,
+    pub ue: VPort,
+    pub back: VPort,
+    pub items: List<Item>,
+    pub inits: List<Init>,
+    pub clock: Named,
+    pub reset: Option<ResetList>,
+    pub updates: List<Update>,
+}

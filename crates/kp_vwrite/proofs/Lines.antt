@@ -1,0 +1,139 @@
+-- One more line of each list of lines.
+use Rattle.std.proofs.Common.{◌≡◌, ◌∙◌, ℕ, ◌+◌, ◌-◌, ◌^◌, ◌≤◌, List, [], ◌∷◌, ◌++◌, length, get_or, take, drop, arith, refl, sym, ap, append_assoc, append-nil}
+use Rattle.std.specs.Prelude.{codes, decimal, Option, Some, None}
+use Rattle.kp_bits.specs.Word.{word}
+use Rattle.kp_bits.specs.Spelling.{spelling}
+use Rattle.kp_net.specs.declared.node.NodeId.{NodeId}
+use Rattle.kp_net.specs.declared.node.Node.{Node}
+use Rattle.kp_net.specs.declared.netlist.Port.{Port}
+use Rattle.kp_net.specs.declared.netlist.WritePort.{WritePort}
+use Rattle.kp_net.specs.declared.netlist.NetReg.{NetReg}
+use Rattle.kp_net.specs.declared.netlist.NetFile.{NetFile}
+use Rattle.kp_net.specs.declared.netlist.Parts.{Parts}
+use Rattle.std.proofs.lemmas.List.{take_all}
+use Rattle.kp_vlog.specs.Canon.{text_of, right_side, more_parts, wire, sample_ports, reg_lines, file_lines, node_lines, start_lines, word_line, word_lines, fill_lines, update_lines, port_line, port_lines, reset_lines}
+use Rattle.kp_vwrite.specs.inner.Texts.{sample_text, samples_text, reg_text, regs_text, file_text, files_text, front_text, right_text, semicolon_text, node_text, nodes_text, part_text, parts_text, first_text, brace_text, joined_text, start_text, starts_text, for_text, count_text, next_text, fill_text, word_text, words_text, contents_text, fills_text, update_text, updates_text, enable_text, store_text, write_text, port_text, ports_text, back_to_text, resets_text}
+
+pub text_append : (ps qs : List (List ℕ)) → text_of (ps ++ qs) ≡ text_of ps ++ text_of qs
+text_append [] qs = refl
+text_append (p ∷ ps) qs = ap (λ t. p ++ t) (text_append ps qs) ∙ sym (append_assoc p (text_of ps) (text_of qs))
+
+pub sample_more : (s : Port) (ss : List Port) → samples_text (s ∷ ss) ≡ sample_text s ++ samples_text ss
+unfolding samples_text sample_text
+sample_more s ss = text_append (codes "input wire [" ∷ decimal (s.width - 1) ∷ codes ":0] " ∷ s.name ∷ codes ", " ∷ []) (sample_ports ss)
+
+pub sample_none : samples_text [] ≡ []
+unfolding samples_text
+sample_none = refl
+
+pub reg_more : (r : NetReg) (rs : List NetReg) → regs_text (r ∷ rs) ≡ reg_text r ++ regs_text rs
+unfolding regs_text reg_text
+reg_more r rs = text_append (codes "  reg [" ∷ decimal (r.start.width - 1) ∷ codes ":0] " ∷ r.name ∷ codes ";\n" ∷ []) (reg_lines rs)
+
+pub reg_none : regs_text [] ≡ []
+unfolding regs_text
+reg_none = refl
+
+pub file_more : (f : NetFile) (fs : List NetFile) → files_text (f ∷ fs) ≡ file_text f ++ files_text fs
+unfolding files_text file_text
+file_more f fs =
+    text_append (codes "  reg [" ∷ decimal (f.width - 1) ∷ codes ":0] " ∷ f.name ∷ codes " [0:" ∷ decimal (2 ^ f.address_width - 1) ∷ codes "];\n" ∷ []) (file_lines fs)
+
+pub file_none : files_text [] ≡ []
+unfolding files_text
+file_none = refl
+
+pub node_more : (p : Parts) (j : ℕ) (n : Node) (ns : List Node) → nodes_text p j (n ∷ ns) ≡ node_text p j n ++ nodes_text p (j + 1) ns
+unfolding nodes_text node_text front_text right_text semicolon_text
+node_more p j n ns =
+    ap (λ t. codes "  wire [" ++ (decimal (n.width - 1) ++ (codes ":0] n" ++ (decimal j ++ (codes ";\n  assign n" ++ (decimal j ++ (codes " = " ++ t)))))))
+    (text_append (right_side p n.width n.kind) (codes ";\n" ∷ node_lines p (j + 1) ns))
+    ∙ simp append_assoc
+
+pub node_none : (p : Parts) (j : ℕ) → nodes_text p j [] ≡ []
+unfolding nodes_text
+node_none p j = refl
+
+pub part_more : (a : NodeId) (parts : List NodeId) → parts_text (a ∷ parts) ≡ part_text a ++ parts_text parts
+unfolding parts_text
+part_more a parts = refl
+
+pub part_none : parts_text [] ≡ []
+unfolding parts_text
+part_none = refl
+
+parts_are : (parts : List NodeId) → text_of (more_parts parts) ≡ parts_text parts ++ brace_text
+unfolding parts_text part_text brace_text
+parts_are [] = refl
+parts_are (a ∷ parts) =
+    ap (λ t. codes ", " ++ (wire a ++ t)) (parts_are parts)
+    ∙ ap (λ t. codes ", n" ++ (t ++ (parts_text parts ++ brace_text))) (sym (append-nil (decimal a.0)))
+    ∙ sym (append_assoc (part_text a) (parts_text parts) brace_text)
+
+pub joined_is : (a : NodeId) (parts : List NodeId) → joined_text (a ∷ parts) ≡ first_text a ++ (parts_text parts ++ brace_text)
+unfolding joined_text first_text
+joined_is a parts =
+    ap (λ t. codes "{" ++ (wire a ++ t)) (parts_are parts) ∙ ap (λ t. codes "{n" ++ (t ++ (parts_text parts ++ brace_text))) (sym (append-nil (decimal a.0)))
+
+abbrev pub no_id : NodeId
+no_id = record { 0 = 0 }
+
+pub joined_at : (parts : List NodeId) → 1 ≤ length parts → joined_text parts ≡ first_text (get_or parts 0 no_id) ++ (parts_text (take (length parts - 1) (drop 1 parts)) ++ brace_text)
+joined_at [] h = absurd (omega arith)
+joined_at (a ∷ parts) h = joined_is a parts ∙ ap (λ (t : List NodeId). first_text a ++ (parts_text t ++ brace_text)) (sym (take_all (length (a ∷ parts) - 1) parts (omega arith)))
+
+pub start_more : (r : NetReg) (rs : List NetReg) → starts_text (r ∷ rs) ≡ start_text r ++ starts_text rs
+unfolding starts_text start_text
+start_more r rs = text_append (codes "    " ∷ r.name ∷ codes " = " ∷ spelling r.start ∷ codes ";\n" ∷ []) (start_lines rs)
+
+pub start_none : starts_text [] ≡ []
+unfolding starts_text
+start_none = refl
+
+pub word_more : (name : List ℕ) (width a v : ℕ) (vs : List ℕ) → words_text name width a (v ∷ vs) ≡ word_text name width a v ++ words_text name width (a + 1) vs
+unfolding words_text word_text
+word_more name width a v vs = text_append (word_line name width a v) (word_lines name width (a + 1) vs)
+
+pub word_none : (name : List ℕ) (width a : ℕ) → words_text name width a [] ≡ []
+unfolding words_text
+word_none name width a = refl
+
+pub fill_more : (f : NetFile) (fs : List NetFile) → fills_text (f ∷ fs) ≡ contents_text f ++ fills_text fs
+unfolding fills_text contents_text count_text next_text for_text fill_text words_text
+fill_more f fs =
+    ap (λ t. codes "    for (i = 0; i < " ++ (decimal (2 ^ f.address_width) ++ (codes "; i = i + 1) " ++ (f.name ++ (codes "[i] = " ++ (spelling (word f.width 0) ++ (codes ";\n" ++ t)))))))
+    (text_append (word_lines f.name f.width 0 f.words) (fill_lines fs))
+    ∙ simp append_assoc
+
+pub fill_none : fills_text [] ≡ []
+unfolding fills_text
+fill_none = refl
+
+pub update_more : (margin : List ℕ) (r : NetReg) (rs : List NetReg) → updates_text margin (r ∷ rs) ≡ update_text margin r ++ updates_text margin rs
+unfolding updates_text update_text
+update_more margin r rs = text_append (margin ∷ r.name ∷ codes " <= " ∷ wire r.next ∷ codes ";\n" ∷ []) (update_lines margin rs)
+
+pub update_none : (margin : List ℕ) → updates_text margin [] ≡ []
+unfolding updates_text
+update_none margin = refl
+
+write_is : (margin name : List ℕ) (port : Option WritePort) → text_of (port_line margin name port) ≡ write_text margin name port
+unfolding enable_text store_text
+write_is margin name None = refl
+write_is margin name (Some w) = simp (append_assoc, append-nil)
+
+pub port_more : (margin : List ℕ) (f : NetFile) (fs : List NetFile) → ports_text margin (f ∷ fs) ≡ port_text margin f ++ ports_text margin fs
+unfolding ports_text port_text
+port_more margin f fs = text_append (port_line margin f.name f.port) (port_lines margin fs) ∙ ap (λ t. t ++ ports_text margin fs) (write_is margin f.name f.port)
+
+pub port_none : (margin : List ℕ) → ports_text margin [] ≡ []
+unfolding ports_text
+port_none margin = refl
+
+pub reset_more : (r : NetReg) (rs : List NetReg) → resets_text (r ∷ rs) ≡ back_to_text r ++ resets_text rs
+unfolding resets_text back_to_text
+reset_more r rs = text_append (codes "      " ∷ r.name ∷ codes " <= " ∷ spelling r.start ∷ codes ";\n" ∷ []) (reset_lines rs)
+
+pub reset_none : resets_text [] ≡ []
+unfolding resets_text
+reset_none = refl

@@ -1,0 +1,18 @@
+use Rattle.std.proofs.Common.{arith}
+use Rattle.std.proofs.lemmas.Result.{err_from_is_err_and}
+use Rattle.kp_vwrite.specs.inner.Texts.{files_text, file_text}
+use Rattle.kp_vwrite.proofs.Passing.{line_passed, line_stopped, lines_end}
+use Rattle.kp_vwrite.proofs.Lines.{file_more, file_none}
+use Rattle.kp_vwrite.proofs.header.write_files.Goals as goal
+
+pub returns-in_err-write_file-clause-text : goal.returns-in_err-write_file-clause-text
+returns-in_err-write_file-clause-text g c =
+    let exit = err_from_is_err_and c.from_residual.result c.from_residual.ensures.1 in
+    rw exit.1 (line_stopped (λ _. files_text) (λ _. file_text) (λ _. file_more) (λ _. file_none) c.args.files.now c.loop-file.file-index _ _ _ _ _ _ c.loop-file-test.true c.file-item.is c.loop-file.invariant.0 c.in_err-write_file.ensures.text)
+
+pub loop-file-preserved : goal.loop-file-preserved
+loop-file-preserved g c =
+    (line_passed (λ _. files_text) (λ _. file_text) (λ _. file_more) (λ _. file_none) c.args.files.now c.loop-file.file-index _ _ _ _ _ _ _ c.loop-file-test.true c.file-item.is c.loop-file.invariant.0 c.in_ok-write_file.ensures.text, omega arith)
+
+pub returns-clause-text : goal.returns-clause-text
+returns-clause-text g c = lines_end (λ _. files_text) (λ _. file_text) (λ _. file_more) (λ _. file_none) c.args.files.now c.loop-file.file-index _ _ _ _ c.loop-file-test.false c.loop-file.invariant.0

@@ -1,0 +1,9 @@
+use Rattle.std.proofs.Common.{◌≤◌, drop}
+use Rattle.kp_vwrite.specs.inner.Texts.{files_text}
+use Rattle.kp_vwrite.proofs.Passing.{PassedUpTo}
+use Rattle.kp_vwrite.proofs.header.write_files.Given as goal
+
+abbrev pub invariant-loop-file : goal.invariant-loop-file
+invariant-loop-file g l =
+    PassedUpTo (files_text l.files) (files_text (drop l.file-index l.files)) (g.K.Sink.held l.initial.sink) l.initial.page (g.K.Sink.held l.sink) l.page
+    × (g.K.Sink.faults l.initial.sink ≤ g.K.Sink.faults l.sink)

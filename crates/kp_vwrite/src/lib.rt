@@ -1,0 +1,10 @@
+//! Writes the canonical text of a netlist.
+#![tactic(auto)]
+
+mod header;
+mod nodes;
+mod page;
+mod state;
+mod writer;
+
+pub use writer::write_verilog;

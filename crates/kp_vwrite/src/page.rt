@@ -1,0 +1,92 @@
+// The page that a text passes on its way to the sink, so that the sink is called once for many lines.
+ghost use Rattle.std.specs.Prelude.{◌≡◌, ◌+◌, ◌-◌, ◌≤◌, ℕ, List, [], ◌++◌, length, flat_map, OnOk};
+ghost use Rattle.kp_base.specs.Bytes.{Writes};
+ghost use Rattle.kp_base.specs.Causes.{HasCause};
+ghost use Rattle.kp_vwrite.specs.inner.Passing.{Sends};
+
+use kp_base::{Sink, SinkFault, write_all};
+use std::marker::Model;
+
+const SIZE: usize = 8192;
+
+/// Bytes that the sink has not got yet. Contracts see the list of them.
+#[derive(Drop)]
+pub struct Page {
+    bytes: [u8; 8192],
+    len: usize,
+}
+
+impl Model for Page {
+    ghost use Rattle.std.specs.Prelude.{ℕ, ◌≤◌, List, take};
+
+    ghost Value = { List ℕ };
+
+    ghost view = { λ p. take p.len p.bytes };
+
+    ghost invariant = { λ p. p.len ≤ 8192 };
+}
+
+impl Page {
+    /// An empty page. Takes no memory.
+    pub fn new() -> Page
+        ensures { result ≡ [] }
+    {
+        Page {
+            bytes: [0; 8192],
+            len: 0,
+        }
+    }
+
+    // How many more bytes there is room for.
+    fn room(&self) -> usize
+        ensures { length self.now + result ≡ 8192 }
+    {
+        SIZE - self.len
+    }
+
+    fn push(&mut self, piece: &[u8])
+        requires { length self.old + length piece.now ≤ 8192 }
+        ensures { self.new ≡ self.old ++ piece.now }
+    {
+        let end = self.len + piece.len();
+        self.bytes[self.len..end].copy_from_slice(piece);
+        self.len = end;
+    }
+
+    /// Hands all bytes to the sink.
+    pub fn flush<K: Sink>(&mut self, sink: &mut K) -> Result<(), SinkFault>
+        ensures text { Writes (K.held sink.old) (K.held sink.new) self.old result }
+        ensures empty { OnOk result (self.new ≡ []) }
+        ensures cause { HasCause (K.faults sink.old) (K.faults sink.new) result }
+    {
+        write_all(sink, &self.bytes[..self.len])?;
+        self.len = 0;
+        Ok(())
+    }
+}
+
+/// Puts a piece of text on the page, which goes to the sink where it is full.
+pub fn put<K: Sink>(page: &mut Page, sink: &mut K, piece: &[u8]) -> Result<(), SinkFault>
+    ensures text { Sends (K.held sink.old) page.old (K.held sink.new) page.new piece.now result }
+    ensures cause { HasCause (K.faults sink.old) (K.faults sink.new) result }
+{
+    if page.room() < piece.len() {
+        page.flush(sink)?;
+        if SIZE < piece.len() {
+            return write_all(sink, piece);
+        }
+    }
+    page.push(piece);
+    Ok(())
+}
+
+/// Puts the pieces on the page, one after another.
+pub fn put_pieces<K: Sink>(page: &mut Page, sink: &mut K, pieces: &[&[u8]]) -> Result<(), SinkFault>
+    ensures text { Sends (K.held sink.old) page.old (K.held sink.new) page.new (flat_map (λ piece. piece.now) pieces.now) result }
+    ensures cause { HasCause (K.faults sink.old) (K.faults sink.new) result }
+{
+    for piece in pieces {
+        put(page, sink, piece)?;
+    }
+    Ok(())
+}
