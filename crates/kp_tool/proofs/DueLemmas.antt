@@ -6,14 +6,14 @@ use Rattle.std.specs.Io.KnownBytes.{Consumes, Appends}
 use Rattle.kp_tool.specs.declared.answer.Answer.{Answer}
 use Rattle.kp_tool.specs.declared.answer.Answer.TheVariants as answers
 use Rattle.kp_tool.specs.declared.answer.Ready.{Ready}
-use Rattle.kp_tool.specs.Answer.{status_of, text_of, ready_status, ready_text}
+use Rattle.kp_tool.specs.inner.Answer.{status_of, text_of, ready_status, ready_text}
 use Rattle.kp_tool.specs.declared.words.Command.TheVariants.{OnJob, Assemble}
 use Rattle.kp_tool.specs.declared.words.Command.{Command}
 use Rattle.std.specs.declared.result.Result.{Result}
 use Rattle.kp_base.specs.declared.refusal.Refusal.{Refusal}
 use Rattle.kp_ast.specs.declared.tree.Job.{Job}
 use Rattle.kp_tool.specs.declared.words.JobCommand.{JobCommand}
-use Rattle.kp_tool.specs.Judging.{Judges, JudgesText, too_long, most_bytes}
+use Rattle.kp_tool.specs.Judging.{Judges, JudgesText, too_long}
 use Rattle.kp_tool.specs.Judging.Judges.{over, within}
 use Rattle.kp_tool.specs.Words.{command_of, reads_input}
 use Rattle.kp_tool.specs.Texts.{refusal_line}

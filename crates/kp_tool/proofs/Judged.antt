@@ -9,12 +9,11 @@ use Rattle.kp_ast.specs.declared.tree.Job.{Job}
 use Rattle.kp_lex.specs.Text.{HasOutcome, AnswersOutcome, tail_of}
 use Rattle.kp_lex.specs.declared.token.Lexed.{Lexed}
 use Rattle.kp_parse.specs.Sentence.{IsTree, AnswersTree}
-use Rattle.kp_parse.specs.declared.job.Parsed.{Parsed}
 use Rattle.kp_width.proofs.Functions.{functions_within}
-use Rattle.kp_tool.specs.Judging.{IsSentenceOf, Describes, JudgesText, broken_in, most_bytes}
+use Rattle.kp_tool.specs.Judging.{Describes, JudgesText, broken_in, most_bytes}
 use Rattle.kp_tool.specs.Judging.JudgesText.{no_tokens, no_sentence, no_end, no_job, accepted}
-use Rattle.kp_tool.specs.Accepting.{AnswersText, IsCountable}
-use Rattle.kp_tool.specs.Accepting as accepting
+use Rattle.kp_tool.specs.inner.Accepting.{AnswersText, IsCountable}
+use Rattle.kp_tool.specs.inner.Accepting as accepting
 use Rattle.kp_tool.specs.declared.accepted.Accepted.{Accepted}
 
 -- tokens that are wrong, and a sentence that is wrong

@@ -3,3 +3,4 @@ pub mod Matching
 pub mod Judged
 pub mod Lines
 pub mod Running
+pub mod Verdicts

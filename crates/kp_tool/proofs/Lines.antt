@@ -1,17 +1,17 @@
 -- The steps of the loops that write a state.
-use Rattle.std.proofs.Common.{◌≡◌, ◌∙◌, ℕ, zero, suc, ◌+◌, ◌-◌, ◌<◌, ◌≤◌, List, [], ◌∷◌, ◌++◌, length, get_or, drop, refl, ap, sym, subst, arith}
+use Rattle.std.proofs.Common.{◌≡◌, ◌∙◌, ℕ, zero, suc, ◌+◌, ◌-◌, ◌<◌, ◌≤◌, List, [], ◌∷◌, ◌++◌, length, get_or, drop, ap, sym, subst, arith}
 use Rattle.std.specs.declared.option.Option.{Option}
 use Rattle.std.specs.List.{All}
 use Rattle.std.proofs.lemmas.List.{drop_more, drop_all, drop-drop}
-use Rattle.kp_base.specs.Bytes.{WrittenUpTo}
+use Rattle.kp_base.specs.inner.Bytes.{WrittenUpTo}
 use Rattle.kp_ast.specs.declared.tree.Decl.{Decl}
 use Rattle.kp_ast.specs.declared.tree.Decl.TheVariants as decls
 use Rattle.kp_ast.specs.declared.tree.Job.{Job}
-use Rattle.kp_image.specs.Fits.{HasFewWords}
-use Rattle.kp_machine.specs.Slots.{Slot, slot, targets_of}
+use Rattle.kp_image.specs.inner.Fits.{HasFewWords}
+use Rattle.kp_machine.specs.Slots.{Slot, targets_of}
 use Rattle.kp_seq.specs.Running.{no_slot}
 use Rattle.kp_tool.specs.States.{State, line_of_word, lines_of_words, lines_of, targets_in, state_lines}
-use Rattle.kp_tool.specs.Targets.{IsTarget, StandsAt}
+use Rattle.kp_tool.specs.inner.Targets.{IsTarget, StandsAt}
 
 -- what is left is the same text
 pub left_is : (whole rest same : List ℕ) (a b : Option (List ℕ)) → rest ≡ same → WrittenUpTo whole rest a b → WrittenUpTo whole same a b
@@ -51,6 +51,7 @@ module _ (ds : List Decl) (i : ℕ) (x : Decl) (h : i < length ds) (is : x ≡ g
   stands_by job t (decls.Reg n width start) same small e = target_at job t _ _ same e
   stands_by job t (decls.File n width address) same small e = (target_at job t _ _ same e, small)
   stands_by job t (decls.Pipe n width) same small e = tt
+  stands_by job t (decls.Sample n width stage) same small e = tt
   stands_by job t (decls.Hint n width start) same small e = tt
   stands_by job t (decls.Target r) same small e = tt
   stands_by job t (decls.Func f) same small e = tt
@@ -69,6 +70,7 @@ module _ (ds : List Decl) (i : ℕ) (x : Decl) (h : i < length ds) (is : x ≡ g
   past_by t (decls.Reg n width start) e = past_one t _ _ e
   past_by t (decls.File n width address) e = past_one t _ _ e
   past_by t (decls.Pipe n width) e = past_none t _ e
+  past_by t (decls.Sample n width stage) e = past_none t _ e
   past_by t (decls.Hint n width start) e = past_none t _ e
   past_by t (decls.Target r) e = past_none t _ e
   past_by t (decls.Func f) e = past_none t _ e
@@ -85,6 +87,7 @@ pub at_most_one : (d : Decl) → targets_in d ≤ 1
 at_most_one (decls.Reg n width start) = omega arith
 at_most_one (decls.File n width address) = omega arith
 at_most_one (decls.Pipe n width) = omega arith
+at_most_one (decls.Sample n width stage) = omega arith
 at_most_one (decls.Hint n width start) = omega arith
 at_most_one (decls.Target r) = omega arith
 at_most_one (decls.Func f) = omega arith

@@ -19,7 +19,7 @@ use Rattle.clap.proofs.FaultLemmas.{stopped_fault}
 use Rattle.std.proofs.lemmas.Bool.{eqb-true}
 use Rattle.kp_bits.specs.Literals.{number_of, number_within, numeral_value}
 use Rattle.kp_tool.specs.Words.{at_most, command_of, count_of, counted_command, plain_command}
-use Rattle.kp_tool.specs.Matching.{Form, command_by, begins_with_dash, is_barred, known_forms, shape_of_form, program_shape, program_of, command_of_rows}
+use Rattle.kp_tool.specs.inner.Matching.{Form, command_by, begins_with_dash, is_barred, known_forms, shape_of_form, program_shape, program_of, command_of_rows}
 
 -- ---- a word that does not begin with `-`
 

@@ -2,7 +2,7 @@
 --
 -- Rules are tried in this order: E3; E1 and E2 on the tokens up to the first `end`; E4 and E27 on the tree; then the rules of names
 -- and widths, of stages, and of the sections. The first that is broken is named, at the first place in the text.
-use Rattle.std.specs.Prelude.{◌≡◌, ◌<◌, ◌≤◌, ℕ, List, [], ◌∷◌, length, Option, Some, None, Result, Ok, Err}
+use Rattle.std.specs.Prelude.{◌≡◌, ◌<◌, ◌≤◌, ℕ, List, [], ◌∷◌, length, Some, None, Result, Ok, Err}
 use Rattle.kp_base.specs.First.{first}
 use Rattle.kp_base.specs.Check.{Answer}
 use Rattle.kp_base.specs.Refusal.{e_rule}
@@ -47,7 +47,7 @@ pub data JudgesText (text : List ℕ) : Result Job Refusal → Type 0 where
   no_sentence : {lexed : Lexed} {refusal : Refusal} → HasOutcome text (Ok lexed) → Breaks text lexed.tokens refusal → JudgesText text (Err refusal)
   -- E4: something stands behind the end
   no_end : {lexed : Lexed} {job : Job} {p : Place} → IsSentenceOf text lexed job → tail_of text lexed.rest ≡ Some p → JudgesText text (Err (e_rule 4 p))
-  -- E5 to E26, and E28 to E32: the tree breaks a rule
+  -- E5 to E26, E28 to E32, and E34 to E37: the tree breaks a rule
   no_job : {job : Job} {refusal : Refusal} → Describes text job → broken_in job ≡ Some refusal → JudgesText text (Err refusal)
   -- no rule is broken
   accepted : {job : Job} → Describes text job → broken_in job ≡ None → JudgesText text (Ok job)

@@ -1,10 +1,6 @@
 pub mod Words
-pub mod Matching
 pub mod Texts
 pub mod States
-pub mod Targets
 pub mod Judging
-pub mod Accepting
 pub mod Due
-pub mod Answer
-pub mod Stop
+pub mod inner

@@ -4,7 +4,8 @@ use Rattle.kp_bits.specs.Word.{word}
 use Rattle.kp_ast.specs.declared.tree.Decl.{Decl}
 use Rattle.kp_ast.specs.declared.tree.Decl.TheVariants as decls
 use Rattle.kp_ast.specs.declared.tree.Job.{Job}
-use Rattle.kp_machine.specs.Machine.{sequential}
+use Rattle.kp_machine.specs.Machine.{sequential, values_in}
+use Rattle.kp_stage.specs.Start.{input}
 use Rattle.kp_tool.specs.Texts.{after_line, register_line, word_line}
 
 -- the values of targets, which are numbered from 0 in the order of declaration, at their addresses
@@ -42,5 +43,6 @@ state_lines t state (d ∷ ds) = lines_of d (state t) ++ state_lines (t + target
 abbrev pub text_after : ℕ → List Decl → State → List ℕ
 text_after count ds state = after_line count ++ state_lines 0 state ds
 
+-- instruction i is given the values that the samples have in cycle i
 abbrev pub sequential_text : ℕ → Job → List ℕ
-sequential_text count job = text_after count job.decls (sequential job count)
+sequential_text count job = text_after count job.decls (sequential job (λ i. values_in (input job i)) count)

@@ -1,5 +1,5 @@
 -- The texts that are written.
-use Rattle.std.specs.Prelude.{ℕ, List, ◌++◌, codes, decimal}
+use Rattle.std.specs.Prelude.{ℕ, List, ◌++◌, ◌==◌, if◌then◌else◌, codes, decimal}
 use Rattle.kp_base.specs.declared.refusal.Family.{Family}
 use Rattle.kp_base.specs.declared.refusal.Family.TheVariants.{E, V, A}
 use Rattle.kp_base.specs.declared.refusal.Refusal.{Refusal}
@@ -44,8 +44,12 @@ pipes_counted s = codes " pipes " ++ decimal s.pipes ++ codes " results " ++ dec
 
 -- ` reads 1 guesses 0 size 4`
 unfoldable pub reads_counted : Summary → List ℕ
-reads_counted s = codes " reads " ++ decimal s.reads ++ codes " guesses " ++ decimal s.guesses ++ codes " size " ++ decimal s.size ++ codes "\n"
+reads_counted s = codes " reads " ++ decimal s.reads ++ codes " guesses " ++ decimal s.guesses ++ codes " size " ++ decimal s.size
 
--- the three in one line: the name and the numbers of an accepted job
+-- ` samples 1`, where there are any, and the end of the line
+unfoldable pub samples_counted : Summary → List ℕ
+samples_counted s = if s.samples == 0 then codes "\n" else codes " samples " ++ decimal s.samples ++ codes "\n"
+
+-- all in one line: the name and the numbers of an accepted job
 abbrev pub accepted_line : List ℕ → Summary → List ℕ
-accepted_line name s = targets_counted name s ++ (pipes_counted s ++ reads_counted s)
+accepted_line name s = targets_counted name s ++ (pipes_counted s ++ (reads_counted s ++ samples_counted s))

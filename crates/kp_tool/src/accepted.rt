@@ -1,9 +1,10 @@
 // A job that breaks no rule.
 ghost use Rattle.std.specs.Prelude.{◌≡◌, ◌<◌, ◌^◌, length, None};
 ghost use Rattle.kp_base.specs.First.{first};
-ghost use Rattle.kp_stage.specs.Start.{start_of, stall_word};
+ghost use Rattle.kp_stage.specs.Start.{start_of, stall_word, input};
 ghost use Rattle.kp_image.specs.Sections.{sections_of};
 ghost use Rattle.kp_image.specs.Spans.{word_in};
+ghost use Rattle.kp_image.specs.Feeds.{row_in};
 
 use kp_image::Sections;
 use kp_stage::Design;
@@ -16,5 +17,6 @@ pub struct Accepted {
     ghost few: { length design.job.decls < 2 ^ 32 },
     ghost start: { sections.start ≡ start_of design.job },
     ghost stalls: { word_in sections.stalls ≡ stall_word design.job },
+    ghost inputs: { row_in sections.inputs ≡ input design.job },
     ghost unbroken: { first (sections_of design.job).asked ≡ None },
 }

@@ -1,6 +1,6 @@
 // An answer, and how it gets ready to be written.
 ghost use Rattle.std.specs.Prelude.{◌≡◌, IfOk};
-ghost use Rattle.kp_tool.specs.Answer.{status_of, text_of, ready_status, ready_text};
+ghost use Rattle.kp_tool.specs.inner.Answer.{status_of, text_of, ready_status, ready_text};
 
 use crate::accepted::Accepted;
 use crate::stepping::{Run, run_of};

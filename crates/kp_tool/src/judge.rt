@@ -2,7 +2,7 @@
 ghost use Rattle.std.specs.Prelude.{◌≡◌, ◌≤◌, length};
 ghost use Rattle.kp_base.specs.First.{Answers};
 ghost use Rattle.kp_tool.specs.Judging.{broken_in, most_bytes};
-ghost use Rattle.kp_tool.specs.Accepting.{AnswersTree, AnswersText, IsCountable};
+ghost use Rattle.kp_tool.specs.inner.Accepting.{AnswersTree, AnswersText, IsCountable};
 
 use crate::accepted::Accepted;
 use kp_ast::Job;

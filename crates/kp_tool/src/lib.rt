@@ -5,8 +5,8 @@ ghost use Rattle.std.specs.Prelude.{◌≡◌, ◌≢◌, ◌≤◌, ◌++◌, m
 ghost use Rattle.kp_base.specs.Causes.{Rose};
 ghost use Rattle.kp_base.specs.Refusal.{e_rule};
 ghost use Rattle.kp_tool.specs.Words.{command_of, reads_input};
-ghost use Rattle.kp_tool.specs.Answer.{status_of, text_of};
-ghost use Rattle.kp_tool.specs.Stop.{stop_status};
+ghost use Rattle.kp_tool.specs.inner.Answer.{status_of, text_of};
+ghost use Rattle.kp_tool.specs.inner.Stop.{stop_status};
 ghost use Rattle.kp_tool.specs.Due.{Due, DueFor, DueOfJob, IsDue, IsFinal, Completes, Begins};
 ghost use Rattle.kp_tool.specs.declared.Stop.TheVariants as stop;
 ghost use Rattle.kp_tool.specs.declared.words.Command.TheVariants.{OnJob, Assemble};
@@ -14,9 +14,8 @@ ghost use Rattle.kp_tool.specs.declared.words.Command.TheVariants.{OnJob, Assemb
 mod accepted;
 mod answer;
 mod judge;
+pub mod laws;
 mod stepping;
-#[cfg(test)]
-mod tests;
 mod words;
 mod writing;
 
@@ -26,17 +25,13 @@ use judge::judge;
 use kp_asm::{assemble, image_text};
 use kp_base::{NoMemory, Place, ReadAll, Refusal, Refused, Sink, SinkFault, Source, read_all};
 use std::alloc::{AllocError, Global};
-use thiserror::Error;
 use words::{Command, JobCommand};
 
 /// Why no due outcome was reached.
-#[derive(Clone, Copy, Debug, PartialEq, Eq, Error)]
+#[derive(Clone, Copy, Debug, PartialEq, Eq)]
 enum Stop {
-    #[error("the source failed")]
     ReadFault,
-    #[error("the sink failed")]
     WriteFault,
-    #[error("out of memory")]
     NoMemory,
 }
 
@@ -139,7 +134,7 @@ fn prepare<S: Source>(alloc: Global, words: &[String], source: &mut S) -> Result
     };
     match read_all(alloc, source) {
         Ok(input) => Ok(carry_out(alloc, command, &input)?),
-        Err(ReadAll::TooLong) => Ok(Answer::Refused(refusal(3))),
+        Err(ReadAll::TooLong) => Ok(Answer::Refused(too_long())),
         Err(ReadAll::Fault) => Err(Stop::ReadFault),
         Err(ReadAll::NoMemory) => Err(Stop::NoMemory),
     }
@@ -192,9 +187,9 @@ fn on_program(alloc: Global, input: &[u8]) -> Result<Answer, NoMemory>
     }
 }
 
-// A refusal of the whole input.
-fn refusal(number: u8) -> Refusal
-    ensures { result ≡ e_rule number (record { line = 1; col = 1 }) }
+// The refusal of an input that is longer than it may be.
+fn too_long() -> Refusal
+    ensures { result ≡ e_rule 3 (record { line = 1; col = 1 }) }
 {
-    Refusal::e(number, Place::START)
+    Refusal::e(3, Place::START)
 }

@@ -1,11 +1,15 @@
 // The sequential machine of a job, run.
-ghost use Rattle.std.specs.Prelude.{◌≡◌, ◌<◌, ◌^◌, length, IfOk};
-ghost use Rattle.kp_machine.specs.Machine.{sequential};
+ghost use Rattle.std.specs.Prelude.{◌≡◌, ◌<◌, ◌^◌, ℕ, length, IfOk, OnOk};
+ghost use Rattle.kp_law.specs.Sequential.{seq};
+ghost use Rattle.kp_stage.specs.Start.{AreSamples, input};
+ghost use Rattle.kp_image.specs.Feeds.{row_in};
+ghost use Rattle.kp_machine.specs.Machine.{machine_of, sequential, values_in};
 ghost use Rattle.kp_machine.specs.Slots.{targets_of};
-ghost use Rattle.kp_seq.specs.Running.{state, state_after};
+ghost use Rattle.kp_seq.specs.Running.{state};
 
 use crate::accepted::Accepted;
 use kp_base::NoMemory;
+use kp_image::InputPattern;
 use kp_seq::SeqMachine;
 use kp_stage::Design;
 use std::alloc::Global;
@@ -20,17 +24,18 @@ pub struct Run<'a> {
     ghost few: { length design.now.job.decls < 2 ^ 32 },
 }
 
-/// The machine of a job after so many instructions.
+/// The machine of a job after so many instructions, of which instruction i takes the samples of cycle i.
 #[tactic(auto, using(crate::proofs::Running::run_is_sequential))]
 pub fn run_of(alloc: Global, count: u32, job: &Accepted) -> Result<Run<'_>, NoMemory>
     ensures count { IfOk result (λ r. r.count ≡ count) }
     ensures job { IfOk result (λ r. r.design.now.job ≡ job.now.design.job) }
-    ensures state { IfOk result (λ r. state r.machine ≡ sequential job.now.design.job count) }
+    ensures state { IfOk result (λ r. state r.machine ≡ sequential job.now.design.job (λ i. values_in (input job.now.design.job i)) count) }
 {
     let design = &job.design;
+    // What the type keeps of the job, for the proof alone.
     let _kept = design.job();
     let mut machine = SeqMachine::open(alloc, design, &job.sections.start)?;
-    advance(&mut machine, count);
+    advance(alloc, &mut machine, &job.sections.inputs, count)?;
     Ok(Run {
         count,
         design,
@@ -39,11 +44,20 @@ pub fn run_of(alloc: Global, count: u32, job: &Accepted) -> Result<Run<'_>, NoMe
 }
 
 // Runs so many instructions.
-fn advance(machine: &mut SeqMachine<'_>, count: u32)
-    ensures job { machine.new.job ≡ machine.old.job }
-    ensures state { state machine.new ≡ state_after machine.old.job (state machine.old) count }
+#[tactic(auto, using(crate::proofs::Running::one_step))]
+fn advance(
+    alloc: Global,
+    machine: &mut SeqMachine<'_>,
+    inputs: &InputPattern,
+    count: u32,
+) -> Result<(), NoMemory>
+    requires { (cycle : ℕ) → AreSamples machine.old.job.decls (row_in inputs.now cycle) }
+    ensures job { OnOk result (machine.new.job ≡ machine.old.job) }
+    ensures state { OnOk result (state machine.new ≡ seq (machine_of machine.old.job) (state machine.old) (λ i. values_in (row_in inputs.now i)) count) }
 {
-    for _ in 0..count {
-        machine.step();
+    for i in 0..count {
+        let row = inputs.row(alloc, u64::from(i))?;
+        machine.step_with(row.as_slice());
     }
+    Ok(())
 }

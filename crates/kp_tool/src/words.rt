@@ -4,7 +4,7 @@ ghost use Rattle.std.specs.List.{list_any};
 ghost use Rattle.clap.specs.Words.{app_of, shape_of, subcommand_rows_of};
 ghost use Rattle.clap.specs.declared.builder.command.Command.TheViews.{out-Command};
 ghost use Rattle.kp_tool.specs.Words.{plain_command, counted_command, command_of, count_of};
-ghost use Rattle.kp_tool.specs.Matching.{is_barred, known_forms, program_of, shape_of_form, command_by, command_of_rows};
+ghost use Rattle.kp_tool.specs.inner.Matching.{is_barred, known_forms, program_of, shape_of_form, command_by, command_of_rows};
 
 use clap::error::ErrorKind;
 use clap::{Arg, ArgMatches};
@@ -147,61 +147,5 @@ fn count_of(word: &[u8]) -> Option<u32>
         Some(number as u32)
     } else {
         None
-    }
-}
-
-#[cfg(test)]
-mod tests {
-    use super::*;
-    use std::test::Fail;
-
-    fn texts(alloc: Global, words: &[&str]) -> Result<Vec<String>, AllocError> {
-        let mut texts = Vec::new(alloc);
-        for word in words {
-            texts.push(String::from_str(alloc, word)?)?;
-        }
-        Ok(texts)
-    }
-
-    #[test]
-    fn rows(rt: HostRuntime) -> Result<(), Fail> {
-        let alloc = rt.alloc();
-        let seq = |count| Some(Command::OnJob(JobCommand::Seq(count)));
-        let check = Some(Command::OnJob(JobCommand::Check));
-        for (words, command) in [
-            (["seq", "2"].as_slice(), seq(2)),
-            (["seq", "003"].as_slice(), seq(3)),
-            (["seq", "100000"].as_slice(), seq(100_000)),
-            (["seq", "00000000000000000007"].as_slice(), seq(7)),
-            (["seq", "000000000000000000007"].as_slice(), None),
-            (["seq", "100001"].as_slice(), None),
-            (["seq", "-1"].as_slice(), None),
-            (["seq", "+3"].as_slice(), None),
-            (["seq", ""].as_slice(), None),
-            (["seq"].as_slice(), None),
-            (["seq", "2", "3"].as_slice(), None),
-            (["seq", "check"].as_slice(), None),
-            (["seq", "--", "2"].as_slice(), None),
-            (["seq", "help"].as_slice(), None),
-            (["se", "2"].as_slice(), None),
-            (["SEQ", "2"].as_slice(), None),
-            (["check"].as_slice(), check),
-            (["check", "1"].as_slice(), None),
-            (["check", "asm"].as_slice(), None),
-            (["asm"].as_slice(), Some(Command::Assemble)),
-            (["asm", "x"].as_slice(), None),
-            (["--", "asm"].as_slice(), None),
-            (["help"].as_slice(), None),
-            (["help", "seq"].as_slice(), None),
-            (["-h"].as_slice(), None),
-            (["--version"].as_slice(), None),
-            (["kp", "check"].as_slice(), None),
-            ([""].as_slice(), None),
-            ([].as_slice(), None),
-        ] {
-            let words = texts(alloc, words)?;
-            assert!(rt; Command::of(alloc, &words)? == command);
-        }
-        Ok(())
     }
 }

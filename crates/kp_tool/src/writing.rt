@@ -4,13 +4,13 @@ ghost use Rattle.std.specs.List.{All};
 ghost use Rattle.kp_base.specs.Bytes.{Writes};
 ghost use Rattle.kp_base.specs.Causes.{HasCause};
 ghost use Rattle.kp_stage.specs.Counts.{summary_of};
-ghost use Rattle.kp_image.specs.Fits.{HasFewWords};
+ghost use Rattle.kp_image.specs.inner.Fits.{HasFewWords};
 ghost use Rattle.kp_machine.specs.Slots.{targets_of};
 ghost use Rattle.kp_seq.specs.Running.{state, target};
-ghost use Rattle.kp_tool.specs.Answer.{ready_status, ready_text};
+ghost use Rattle.kp_tool.specs.inner.Answer.{ready_status, ready_text};
 ghost use Rattle.kp_tool.specs.States.{line_of_word, lines_of_words, lines_of, targets_in, state_lines, text_after};
-ghost use Rattle.kp_tool.specs.Targets.{StandsAt, HasWords};
-ghost use Rattle.kp_tool.specs.Texts.{refusal_line, family_letter, after_line, register_line, word_line, targets_counted, pipes_counted, reads_counted, accepted_line};
+ghost use Rattle.kp_tool.specs.inner.Targets.{StandsAt, HasWords};
+ghost use Rattle.kp_tool.specs.Texts.{refusal_line, family_letter, after_line, register_line, word_line, targets_counted, pipes_counted, reads_counted, samples_counted, accepted_line};
 
 use crate::answer::Ready;
 use crate::stepping::Run;
@@ -101,11 +101,20 @@ fn write_numbers<K: Sink>(name: &[u8], numbers: Summary, sink: &mut K) -> Result
 
 #[tactic(auto, using(kp_base::proofs::Bytes::writes_next, kp_base::proofs::Bytes::part_more))]
 fn write_rest<K: Sink>(numbers: Summary, sink: &mut K) -> Result<(), SinkFault>
-    ensures text { Writes (K.held sink.old) (K.held sink.new) (pipes_counted numbers ++ reads_counted numbers) result }
+    ensures text { Writes (K.held sink.old) (K.held sink.new) (pipes_counted numbers ++ (reads_counted numbers ++ samples_counted numbers)) result }
     ensures cause { HasCause (K.faults sink.old) (K.faults sink.new) result }
 {
     write_pipes(numbers, sink)?;
-    write_reads(numbers, sink)
+    write_last(numbers, sink)
+}
+
+#[tactic(auto, using(kp_base::proofs::Bytes::writes_next, kp_base::proofs::Bytes::part_more))]
+fn write_last<K: Sink>(numbers: Summary, sink: &mut K) -> Result<(), SinkFault>
+    ensures text { Writes (K.held sink.old) (K.held sink.new) (reads_counted numbers ++ samples_counted numbers) result }
+    ensures cause { HasCause (K.faults sink.old) (K.faults sink.new) result }
+{
+    write_reads(numbers, sink)?;
+    write_samples(numbers, sink)
 }
 
 #[tactic(auto, unfolding(crate::specs::Texts::targets_counted))]
@@ -157,6 +166,22 @@ fn write_reads<K: Sink>(numbers: Summary, sink: &mut K) -> Result<(), SinkFault>
         guesses.format(numbers.guesses).as_bytes(),
         b" size ".as_slice(),
         size.format(numbers.size).as_bytes(),
+    ];
+    write_pieces(sink, &pieces)
+}
+
+#[tactic(auto, unfolding(crate::specs::Texts::samples_counted))]
+fn write_samples<K: Sink>(numbers: Summary, sink: &mut K) -> Result<(), SinkFault>
+    ensures text { Writes (K.held sink.old) (K.held sink.new) (samples_counted numbers) result }
+    ensures cause { HasCause (K.faults sink.old) (K.faults sink.new) result }
+{
+    if numbers.samples == 0 {
+        return write_all(sink, b"\n");
+    }
+    let mut samples = Buffer::new();
+    let pieces = [
+        b" samples ".as_slice(),
+        samples.format(numbers.samples).as_bytes(),
         b"\n".as_slice(),
     ];
     write_pieces(sink, &pieces)

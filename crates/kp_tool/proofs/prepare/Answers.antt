@@ -5,4 +5,4 @@ use Rattle.kp_tool.proofs.prepare.Goals as goal
 pub returns-in-Err-TooLong-clause-due : goal.returns-in-Err-TooLong-clause-due
 returns-in-Err-TooLong-clause-due g c =
     let (taken, consumed, count) = c.read_all.ensures.too_long (c.in-Err-TooLong.is ∙ ap Err c.in-Err-TooLong.field-0-is) in
-    rw c.refusal.ensures (too_long_is_due _ c.in-Some.command _ _ taken (sym c.in_ok-of.ensures.command ∙ c.in-Some.is) consumed count)
+    rw c.too_long.ensures (too_long_is_due _ c.in-Some.command _ _ taken (sym c.in_ok-of.ensures.command ∙ c.in-Some.is) consumed count)

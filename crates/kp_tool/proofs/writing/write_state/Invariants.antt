@@ -1,5 +1,5 @@
 use Rattle.std.proofs.Common.{◌≡◌, ◌≤◌, drop}
-use Rattle.kp_base.specs.Bytes.{WrittenUpTo}
+use Rattle.kp_base.specs.inner.Bytes.{WrittenUpTo}
 use Rattle.kp_machine.specs.Slots.{targets_of}
 use Rattle.kp_seq.specs.Running.{state}
 use Rattle.kp_tool.specs.States.{state_lines}

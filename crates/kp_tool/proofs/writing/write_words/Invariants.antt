@@ -1,5 +1,5 @@
 use Rattle.std.proofs.Common.{◌-◌, ◌≤◌}
-use Rattle.kp_base.specs.Bytes.{WrittenUpTo}
+use Rattle.kp_base.specs.inner.Bytes.{WrittenUpTo}
 use Rattle.kp_seq.specs.Running.{state, target}
 use Rattle.kp_tool.specs.States.{lines_of_words}
 use Rattle.kp_tool.proofs.writing.write_words.Given as goal

@@ -6,7 +6,7 @@ use Rattle.clap.specs.Simple.{App, subcommand_of}
 use Rattle.clap.specs.Faults.{fault_of, is_simple_and_free}
 use Rattle.clap.specs.Words.{is_simple}
 use Rattle.clap.proofs.WalkLemmas.{list_any-map}
-use Rattle.kp_tool.specs.Matching.{is_barred, command_of_rows, known_forms}
+use Rattle.kp_tool.specs.inner.Matching.{is_barred, command_of_rows, known_forms}
 use Rattle.kp_tool.proofs.Matching.{matched, unmatched, barred_none}
 use Rattle.kp_tool.proofs.words.Command.of.Goals as goal
 

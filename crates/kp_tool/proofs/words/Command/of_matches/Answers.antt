@@ -1,7 +1,7 @@
 use Rattle.std.proofs.Common.{◌∙◌, ap, codes}
 use Rattle.clap.specs.Matches.{found_of}
 use Rattle.clap.proofs.WalkLemmas.{first_value-rows}
-use Rattle.kp_tool.specs.Matching.{command_by, command_of_rows}
+use Rattle.kp_tool.specs.inner.Matching.{command_by, command_of_rows}
 use Rattle.kp_tool.proofs.Matching.{rows_read}
 use Rattle.kp_tool.proofs.words.Command.of_matches.Goals as goal
 

@@ -1,0 +1,5 @@
+pub mod Matching
+pub mod Accepting
+pub mod Answer
+pub mod Targets
+pub mod Stop
