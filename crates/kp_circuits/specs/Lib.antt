@@ -1,2 +1,1 @@
 pub mod Circuits
-pub mod Judged
