@@ -11,5 +11,5 @@ awk 'BEGIN { for (i = 0; i < 1100000; i++) printf "label_%07d:\n", i }' > "$work
 echo "nop" | "$top/kp" asm > "$work/out"
 for text in comments labels; do
     echo "$text: $(wc -c < "$work/$text") bytes"
-    /usr/bin/time -f '%e s by the clock, %U s in the program, %M KiB' "$top/kp" asm < "$work/$text" > "$work/out"
+    /usr/bin/time -f '%e s by the clock, %U s in the program, %M KiB' "$top/crates/kp/out/kp" asm < "$work/$text" > "$work/out"
 done

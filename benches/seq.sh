@@ -23,7 +23,7 @@ seq 90000 | awk '{ printf "let name_%d = 8'"'"'h01; // %140s\n", $1, "a comment 
 seq 600000 | awk '{ printf "let n%06d = 8'"'"'h01 + 8'"'"'h02;\n", $1 }' | head -c 16777000 | sed '$d' | around > "$work/refused"
 
 measured() {
-    /usr/bin/time -f '%e s by the clock, %U s in the program, %M KiB' "$top/kp" "$@"
+    /usr/bin/time -f '%e s by the clock, %U s in the program, %M KiB' "$top/crates/kp/out/kp" "$@"
 }
 echo "seq 100000 on the sample processor"
 measured seq 100000 < "$work/processor" | head -n 3
