@@ -2,7 +2,7 @@
 # Fills a pool with 1,300,000 different nodes, asks for all of them once more, and runs netlists of 400 and of 1,000,000 nodes. Prints
 # the seconds and the memory of each: sh benches/nodes.sh
 #
-# The program of kp_circuits, with another main, is built by `rt run` in a folder that is made for it and removed.
+# The gates, checks and runs of kp_circuits, with another main, are built by `rt run` in a folder that is made for it and removed.
 set -eu
 top=$(cd "$(dirname "$0")/.." && pwd)
 work=$(mktemp -d)
@@ -10,18 +10,16 @@ trap 'rm -rf "$work"' EXIT
 mkdir -p "$work/crates"
 for name in kp_base kp_bits kp_region kp_net kp_gate kp_cycle kp_circuits; do
     cp -r "$top/crates/$name" "$work/crates/"
-    grep "^$name:" "$top/crates.txt" >> "$work/crates.txt"
+    grep "^$name:" "$top/crates.txt" | sed 's/ kp_fwd kp_engine//' >> "$work/crates.txt"
 done
 cp "$top/HANDLES" "$work/"
 cd "$work/crates/kp_circuits"
-rm -rf must-fail
+rm -rf must-fail src/asked.rt src/circuit.rt src/controls.rt src/nodes.rt src/parts.rt proofs/controls
 cat > src/main.rt <<'PROGRAM'
 #![tactic(auto)]
 
 mod checks;
-mod circuit;
 mod gates;
-mod nodes;
 mod run;
 
 use anyhow::{Context, Result, bail};
@@ -30,7 +28,7 @@ use kp_base::List;
 use kp_bits::{BinOp, Bits};
 use kp_cycle::Sim;
 use kp_net::{Kind, Label, NetReg, Netlist, NodeId, Parts, Pool};
-use run::{Cycle, print_state, shows_rows, step};
+use run::{print_state, shows_rows, step};
 use std::alloc::Global;
 use std::io;
 
@@ -62,7 +60,7 @@ fn empty(alloc: Global, room: u32) -> Result<Pool> {
 // Asks for so many nodes, so many times: half of them are numbers, and the others sums of a register and a number.
 fn fill(alloc: Global, count: u32, times: u32) -> Result<usize> {
     let mut pool = empty(alloc, count)?;
-    let reg = gates::read(&mut pool, 64, Kind::Reg(0))?;
+    let reg = gates::read(&mut pool, 64, Kind::Reg(0)).context("no node")?;
     for _ in 0..times {
         turn(&mut pool, reg, count / 2 - 1)?;
     }
@@ -71,8 +69,8 @@ fn fill(alloc: Global, count: u32, times: u32) -> Result<usize> {
 
 fn turn(pool: &mut Pool, reg: NodeId, count: u32) -> Result<()> {
     for i in 0..count {
-        let number = gates::number(pool, 64, u64::from(i) + 1)?;
-        gates::operation(pool, BinOp::Add, reg, number)?;
+        let number = gates::number(pool, 64, u64::from(i) + 1).context("no node")?;
+        gates::operation(pool, BinOp::Add, reg, number).context("no node")?;
     }
     Ok(())
 }
@@ -81,30 +79,25 @@ fn turn(pool: &mut Pool, reg: NodeId, count: u32) -> Result<()> {
 fn run_chain(rt: &impl Print, alloc: Global, count: u32, cycles: u32) -> Result<()> {
     let mut pool = empty(alloc, count)?;
     let sum = chain(&mut pool, count)?;
-    let on = gates::single(&mut pool, true)?;
-    let none = gates::number(&mut pool, 4, 0)?;
+    let on = gates::single(&mut pool, true).context("no node")?;
+    let none = gates::number(&mut pool, 4, 0).context("no node")?;
     let parts = parts(alloc, sum, on, none)?;
     if !parts_fit(&pool, &parts) || !shows_rows(&pool, &parts) {
         bail!("the parts do not fit");
     }
     let net = Netlist::close(pool, parts);
     let mut sim = Sim::open(alloc, &net)?;
-    let cycle = Cycle {
-        ext: 0,
-        reset: false,
-        samples: Vec::new(alloc),
-    };
     for _ in 0..cycles {
-        step(alloc, &mut sim, &cycle)?;
+        step(alloc, &mut sim, 0, false, &[])?;
     }
     print_state(rt, alloc, &sim)
 }
 
 fn chain(pool: &mut Pool, count: u32) -> Result<NodeId> {
-    let reg = gates::read(pool, 64, Kind::Reg(0))?;
+    let reg = gates::read(pool, 64, Kind::Reg(0)).context("no node")?;
     let mut sum = reg;
     for _ in 3..count {
-        sum = gates::operation(pool, BinOp::Add, sum, reg)?;
+        sum = gates::operation(pool, BinOp::Add, sum, reg).context("no node")?;
     }
     Ok(sum)
 }

@@ -7,26 +7,41 @@
 //! - `NAME = OPERATION ..`: a node that is asked for. The operations are `const W VALUE`, `bit VALUE`, `not A`, `and A B` and so for
 //!   `or xor add sub mul eq lt shl shr`, `mux TEST YES NO`, `join A B ..`, `part A HI LO`; of single bits `inverse A`, `both A B`,
 //!   `either A B`, `pick TEST YES NO`; `same A B`; and `ext`, `sample PORT`, `reg REGISTER`, `file FILE ADDRESS`;
+//! - `NAME = CALL ..`: the nodes of a pipeline's control. The calls are `hit FULL KNOWN ENABLE [A B]`, where KNOWN is 0 or 1 and ENABLE
+//!   is `-` where there is none; `stall FULL HAZARD EXT ABOVE`, `update FULL STALL SWEPT`, `full-next UPDATE STALL SWEPT` and
+//!   `mismatch FULL PENDING KNOWN TRUTH GUESS`; `select NONE HIT OK VALUE ..`, with the nearest row first, which names NAME.any, NAME.ok
+//!   and NAME.value; `carried VALID STORED LAST [ENABLE VALUE]`, where LAST is 0 or 1, which names NAME.has, NAME.fresh and NAME.value;
+//!   and `sweep N MISS ..`, with a miss for each of the stages 0 to 11, which names NAME.back and NAME.0 to NAME.11;
 //! - `next REGISTER A`, `write FILE ENABLE ADDRESS VALUE`, `full A`, `ue A`, `back A`: what registers and files take, and the outputs;
-//! - `cycle EXT VALUE..`, `reset-cycle EXT VALUE..`: a cycle with this stall word and these values of the sample ports.
+//! - `cycle EXT VALUE..`, `reset-cycle EXT VALUE..`: a cycle with this stall word and these values of the sample ports;
+//! - `only rows`: no nodes of this circuit are printed.
 //!
-//! All numbers are decimal. For each node that is asked for, the one that the pool gives is printed, with its number, its width, its
-//! depth and what it is. Then come the number of nodes; the registers, and the words of files that are not 0; and for each cycle its
-//! row, and registers and files behind it.
+//! All numbers are decimal. For each operation that is asked for, the node that the pool gives is printed, with its number, its width,
+//! its depth and what it is. Then come the number of nodes; the registers, and the words of files that are not 0; and for each cycle
+//! its row, and registers and files behind it. What is not right, or finds no room, is `refused`.
 #![tactic(auto)]
 
+mod asked;
 mod checks;
 mod circuit;
+mod controls;
 mod gates;
 mod nodes;
+mod parts;
 mod run;
 
 use anyhow::Result;
-use circuit::{Circuit, value, word};
+use asked::made;
+use circuit::{Circuit, Given};
+use kp_net::{NodeId, Pool};
 use nodes::{add_depths, print_kind};
-use run::{Cycle, print_run};
+use parts::parts_of;
+use run::{is_cycle, print_run};
 use std::alloc::Global;
 use std::io;
+
+/// The room of a circuit's pool.
+const ROOM: u32 = 256;
 
 fn main(rt: HostRuntime) -> Result<()> {
     let alloc = rt.alloc();
@@ -38,68 +53,93 @@ fn main(rt: HostRuntime) -> Result<()> {
 }
 
 fn print_case(rt: &impl Print, alloc: Global, case: &str) -> Result<()> {
-    let mut circuit = Circuit::new(alloc)?;
-    let mut depths = Vec::new(alloc);
-    let mut cycles = Vec::new(alloc);
-    for (i, line) in case.lines().enumerate() {
-        if i == 0 {
-            println!(rt; "==== {line}")?;
-            continue;
-        }
-        let words = line.split_whitespace().collect::<Vec<&str>>(alloc)?;
-        match words.first().copied().unwrap_or("") {
-            "" => {}
-            "cycle" => cycles.push(cycle_of(alloc, &words, false)?)?,
-            "reset-cycle" => cycles.push(cycle_of(alloc, &words, true)?)?,
-            _ => print_line(rt, alloc, &mut circuit, &mut depths, &words)?,
-        }
-    }
-    println!(rt; "nodes {}", circuit.pool.nodes().len())?;
-    if !cycles.is_empty() {
-        if let Err(error) = print_run(rt, alloc, circuit, &cycles) {
-            println!(rt; "{error}")?;
-        }
-    }
-    println!(rt; "")?;
+    let title = case.lines().next().unwrap_or("");
+    println!(rt; "==== {title}")?;
+    let mut circuit = Circuit::new(alloc);
+    print_circuit(rt, alloc, &mut circuit, case)?;
+    rt.println("")?;
     Ok(())
 }
 
-// Takes a line into the circuit, and prints the node that it names.
-fn print_line(
+fn print_circuit<'t>(
     rt: &impl Print,
     alloc: Global,
-    circuit: &mut Circuit,
-    depths: &mut Vec<u32>,
-    words: &[&str],
+    circuit: &mut Circuit<'t>,
+    case: &'t str,
 ) -> Result<()> {
-    let name = word(words, 0)?;
-    match circuit.take(alloc, words) {
-        Ok(Some(id)) => {
-            let nodes = circuit.pool.nodes();
-            add_depths(depths, nodes)?;
-            let place = id.0 as usize;
-            let (Some(node), Some(depth)) = (nodes.get(place), depths.get(place)) else {
-                return Ok(());
-            };
-            print!(rt; "{name} = {place}, width {}, depth {depth}: ", node.width)?;
-            print_kind(rt, &node.kind)?;
-            rt.println("")?;
-        }
-        Ok(None) => {}
-        Err(error) => println!(rt; "{name}: {error}")?,
+    let mut pool = Pool::reserve(alloc, ROOM)?;
+    print_lines(rt, alloc, &mut pool, circuit, case)?;
+    if !case.lines().any(is_cycle) {
+        return Ok(());
+    }
+    match parts_of(alloc, &mut pool, circuit)? {
+        Some(parts) => print_run(rt, alloc, pool, parts, case),
+        None => Ok(rt.println("refused")?),
+    }
+}
+
+// Takes the lines into the circuit, and prints the nodes that they name.
+fn print_lines<'t>(
+    rt: &impl Print,
+    alloc: Global,
+    pool: &mut Pool,
+    circuit: &mut Circuit<'t>,
+    case: &'t str,
+) -> Result<()> {
+    let mut depths = Vec::new(alloc);
+    for line in case.lines().skip(1) {
+        let words = line.split_whitespace().collect::<Vec<&str>>(alloc)?;
+        print_line(rt, alloc, pool, circuit, &mut depths, line, &words)?;
+    }
+    if !circuit.only_rows {
+        println!(rt; "nodes {}", pool.nodes().len())?;
     }
     Ok(())
 }
 
-fn cycle_of(alloc: Global, words: &[&str], reset: bool) -> Result<Cycle> {
-    let ext = word(words, 1)?.parse::<u16>()?;
-    let mut samples = Vec::new(alloc);
-    for i in 2..words.len() {
-        samples.push(value(words, i)?)?;
+fn print_line<'t>(
+    rt: &impl Print,
+    alloc: Global,
+    pool: &mut Pool,
+    circuit: &mut Circuit<'t>,
+    depths: &mut Vec<u32>,
+    line: &'t str,
+    words: &[&'t str],
+) -> Result<()> {
+    let name = words.first().copied().unwrap_or("");
+    if words.get(1).copied().unwrap_or("") != "=" {
+        if !circuit.take(line, words)? {
+            println!(rt; "{name}: refused")?;
+        }
+        return Ok(());
     }
-    Ok(Cycle {
-        ext,
-        reset,
-        samples,
-    })
+    match made(alloc, pool, circuit, words) {
+        Some(given) => {
+            circuit.name(name, given)?;
+            match given {
+                Given::Node(id) if !circuit.only_rows => print_node(rt, pool, depths, name, id),
+                _ => Ok(()),
+            }
+        }
+        None => Ok(println!(rt; "{name}: refused")?),
+    }
+}
+
+fn print_node(
+    rt: &impl Print,
+    pool: &Pool,
+    depths: &mut Vec<u32>,
+    name: &str,
+    id: NodeId,
+) -> Result<()> {
+    let nodes = pool.nodes();
+    add_depths(depths, nodes)?;
+    let place = id.0 as usize;
+    let (Some(node), Some(depth)) = (nodes.get(place), depths.get(place)) else {
+        return Ok(());
+    };
+    print!(rt; "{name} = {place}, width {}, depth {depth}: ", node.width)?;
+    print_kind(rt, &node.kind)?;
+    rt.println("")?;
+    Ok(())
 }

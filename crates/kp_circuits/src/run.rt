@@ -1,46 +1,83 @@
 //! The run of a circuit.
-ghost use Rattle.std.specs.Prelude.{◌≡◌, ◌<◌, ◌≤◌, ◌^◌, length, get_or, IsTrue};
+ghost use Rattle.std.specs.Prelude.{◌≡◌, ◌<◌, ◌≤◌, ◌^◌, length, get_or, IsTrue, IfSome};
 ghost use Rattle.kp_net.specs.Netlist.{Net};
 ghost use Rattle.kp_net.specs.Widths.{wide};
 ghost use Rattle.kp_net.specs.Growth.{Held};
 ghost use Rattle.kp_net.specs.Parts.{PartsOk};
-ghost use Rattle.kp_cycle.specs.Steps.{SamplesFit};
+ghost use Rattle.kp_cycle.specs.Steps.{SamplesFit, ShowsRows};
 
 use crate::checks::parts_fit;
-use crate::circuit::Circuit;
-use anyhow::{Context, Result, bail};
+use anyhow::Result;
 use kp_base::Row;
 use kp_bits::Bits;
 use kp_cycle::Sim;
 use kp_net::{Netlist, Parts, Pool};
-use std::alloc::Global;
+use std::alloc::{AllocError, Global};
 
-/// What comes from outside in a cycle.
-#[derive(Drop)]
-pub struct Cycle {
-    pub ext: u16,
-    pub reset: bool,
-    pub samples: Vec<u64>,
+/// Runs the cycles of a circuit, and prints each row and the states before and after.
+pub fn print_run(
+    rt: &impl Print,
+    alloc: Global,
+    pool: Pool,
+    parts: Parts,
+    case: &str,
+) -> Result<()> {
+    match closed(pool, parts) {
+        Some(net) => print_net(rt, alloc, &net, case),
+        None => Ok(rt.println("refused")?),
+    }
 }
 
-/// Runs the cycles, and prints each row and the states before and after.
-pub fn print_run(rt: &impl Print, alloc: Global, circuit: Circuit, cycles: &[Cycle]) -> Result<()> {
-    let (pool, parts) = circuit.into_parts(alloc)?;
-    if !parts_fit(&pool, &parts) {
-        bail!("the parts do not fit");
+// The netlist, if its parts fit and its outputs are as a simulator asks for.
+fn closed(pool: Pool, parts: Parts) -> Option<Netlist>
+    ensures { IfSome result (λ net. ShowsRows net) }
+{
+    if !parts_fit(&pool, &parts) || !shows_rows(&pool, &parts) {
+        return None;
     }
-    if !shows_rows(&pool, &parts) {
-        bail!("the outputs do not fit");
-    }
-    let net = Netlist::close(pool, parts);
-    let mut sim = Sim::open(alloc, &net)?;
-    print_state(rt, alloc, &sim)?;
-    for cycle in cycles {
-        let row = step(alloc, &mut sim, cycle)?;
-        println!(rt; "row {} {} {}", row.full, row.ue, row.back)?;
-        print_state(rt, alloc, &sim)?;
+    Some(Netlist::close(pool, parts))
+}
+
+fn print_net(rt: &impl Print, alloc: Global, net: &Netlist, case: &str) -> Result<()>
+    requires { ShowsRows net.now }
+{
+    let mut sim = Sim::open(alloc, net)?;
+    print_cycles(rt, alloc, &mut sim, case)
+}
+
+fn print_cycles(rt: &impl Print, alloc: Global, sim: &mut Sim<'_>, case: &str) -> Result<()> {
+    print_state(rt, alloc, sim)?;
+    for line in case.lines().filter(|line| is_cycle(line)) {
+        match cycle(alloc, sim, line)? {
+            Some(row) => println!(rt; "row {} {} {}", row.full, row.ue, row.back)?,
+            None => return Ok(rt.println("refused")?),
+        }
+        print_state(rt, alloc, sim)?;
     }
     Ok(())
+}
+
+/// Whether a line is a cycle.
+pub fn is_cycle(line: &str) -> bool {
+    line.starts_with("cycle ") || line.starts_with("reset-cycle ")
+}
+
+// Runs the cycle of a line.
+fn cycle(alloc: Global, sim: &mut Sim<'_>, line: &str) -> Result<Option<Row>, AllocError> {
+    let mut values = Vec::new(alloc);
+    for word in line.split_whitespace().skip(1) {
+        values.push(word.parse::<u64>().unwrap_or(0))?;
+    }
+    let Some((ext, values)) = values.split_first() else {
+        return Ok(None);
+    };
+    step(
+        alloc,
+        sim,
+        (*ext % 65536) as u16,
+        line.starts_with("reset"),
+        values,
+    )
 }
 
 /// Whether the outputs have the widths that a simulator asks for.
@@ -54,21 +91,34 @@ pub fn shows_rows(pool: &Pool, parts: &Parts) -> bool
         && pool.width(parts.back) == 4
 }
 
-/// Runs a cycle.
-pub fn step(alloc: Global, sim: &mut Sim<'_>, cycle: &Cycle) -> Result<Row> {
+/// Runs a cycle with these values of the sample ports, if there is one for each and it fits.
+pub fn step(
+    alloc: Global,
+    sim: &mut Sim<'_>,
+    ext: u16,
+    is_reset: bool,
+    values: &[u64],
+) -> Result<Option<Row>, AllocError> {
     let net = sim.netlist();
-    let ports = net.parts().samples.as_slice();
-    if ports.is_empty() && !cycle.reset {
-        return Ok(sim.step(cycle.ext));
+    if !is_reset && net.parts().samples.as_slice().is_empty() {
+        return Ok(Some(sim.step(ext)));
     }
-    let mut samples = Vec::new(alloc);
-    for (port, value) in ports.iter().zip(&cycle.samples) {
-        samples.push(Bits::new(port.width, *value).context("no such value")?)?;
-    }
+    let samples = samples_of(alloc, net, values)?;
     if !samples_fit(net, samples.as_slice()) {
-        bail!("the values do not fit");
+        return Ok(None);
     }
-    Ok(sim.step_with(cycle.ext, cycle.reset, samples.as_slice()))
+    Ok(Some(sim.step_with(ext, is_reset, samples.as_slice())))
+}
+
+// The values of the sample ports, but those that do not fit.
+fn samples_of(alloc: Global, net: &Netlist, values: &[u64]) -> Result<Vec<Bits>, AllocError> {
+    let mut samples = Vec::new(alloc);
+    for (port, value) in net.parts().samples.as_slice().iter().zip(values) {
+        if let Some(sample) = Bits::new(port.width, *value) {
+            samples.push(sample)?;
+        }
+    }
+    Ok(samples)
 }
 
 fn samples_fit(net: &Netlist, samples: &[Bits]) -> bool
