@@ -62,7 +62,7 @@ fn fill(alloc: Global, count: u32, times: u32) -> Result<usize> {
     let mut pool = empty(alloc, count)?;
     let reg = gates::read(&mut pool, 64, Kind::Reg(0)).context("no node")?;
     for _ in 0..times {
-        turn(&mut pool, reg, count / 2 - 1)?;
+        turn(&mut pool, reg, (count / 2).saturating_sub(1))?;
     }
     Ok(pool.nodes().len())
 }
