@@ -101,29 +101,29 @@ pub added_more : (job : Job) (p q : Held) (j k : ℕ) → Added job p q j → j 
 added_more job p q j k a h = record { kept = kept_more p q j k a.kept h; fits = a.fits }
 
 -- what a stage says
-put_kept : (c : Cells) (p q : Held) (j w : ℕ) (o : Option NodeId) → Kept p q j → PutFits p w o → put_value c q o ≡ put_value c p o
+pub put_kept : (c : Cells) (p q : Held) (j w : ℕ) (o : Option NodeId) → Kept p q j → PutFits p w o → put_value c q o ≡ put_value c p o
 put_kept c p q j w None a h = refl
 put_kept c p q j w (Some n) a h = ap Some (a.same c n.0 h.inside)
 
-put_fits : (p q : Held) (j w : ℕ) (o : Option NodeId) → Kept p q j → PutFits p w o → PutFits q w o
+pub put_fits : (p q : Held) (j w : ℕ) (o : Option NodeId) → Kept p q j → PutFits p w o → PutFits q w o
 put_fits p q j w None a h = tt
 put_fits p q j w (Some n) a h = wire_kept p q j n w a h
 
-set_kept : (c : Cells) (p q : Held) (j w : ℕ) (o : Option Set) → Kept p q j → SetFits p w o → set_value c q o ≡ set_value c p o
+pub set_kept : (c : Cells) (p q : Held) (j w : ℕ) (o : Option Set) → Kept p q j → SetFits p w o → set_value c q o ≡ set_value c p o
 set_kept c p q j w None a h = refl
 set_kept c p q j w (Some s) a h = same_optional _ _ _ _ (a.tests c s.enabled.0 h.0.inside) (a.same c s.value.0 h.1.inside)
 
-set_fits : (p q : Held) (j w : ℕ) (o : Option Set) → Kept p q j → SetFits p w o → SetFits q w o
+pub set_fits : (p q : Held) (j w : ℕ) (o : Option Set) → Kept p q j → SetFits p w o → SetFits q w o
 set_fits p q j w None a h = tt
 set_fits p q j w (Some s) a h = (wire_kept p q j s.enabled 1 a h.0, wire_kept p q j s.value w a h.1)
 
-made_fit : (p q : Held) (j : ℕ) (ss : List GuessSlot) (made : List Made) → Kept p q j → MadeFit p ss made → MadeFit q ss made
+pub made_fit : (p q : Held) (j : ℕ) (ss : List GuessSlot) (made : List Made) → Kept p q j → MadeFit p ss made → MadeFit q ss made
 made_fit p q j [] [] a h = tt
 made_fit p q j [] (m ∷ made) a h = absurd h
 made_fit p q j (s ∷ ss) [] a h = absurd h
 made_fit p q j (s ∷ ss) (m ∷ made) a h = (wire_kept p q j m.pending 1 a h.0, wire_kept p q j m.value s.width a h.1, made_fit p q j ss made a h.2)
 
-made_kept : (c : Cells) (p q : Held) (j : ℕ) (ss : List GuessSlot) (made : List Made) → Kept p q j → MadeFit p ss made → made_values c q ss made ≡ made_values c p ss made
+pub made_kept : (c : Cells) (p q : Held) (j : ℕ) (ss : List GuessSlot) (made : List Made) → Kept p q j → MadeFit p ss made → made_values c q ss made ≡ made_values c p ss made
 made_kept c p q j [] [] a h = refl
 made_kept c p q j [] (m ∷ made) a h = absurd h
 made_kept c p q j (s ∷ ss) [] a h = absurd h

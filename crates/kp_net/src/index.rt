@@ -7,7 +7,7 @@ use indexmap::IndexSet;
 use std::alloc::Global;
 use std::marker::Model;
 
-// Nodes by their numbers, from 0 on, and the number of each, which is found in about constant time.
+/// Nodes by their numbers, from 0 on, and the number of each, which is found in about constant time.
 #[derive(Debug, Drop)]
 pub(crate) struct Index {
     nodes: IndexSet<Node>,
@@ -23,6 +23,7 @@ impl Model for Index {
 }
 
 impl Index {
+    /// No nodes; memory is taken as they come.
     pub fn new(alloc: Global) -> Index
         ensures { result ≡ [] }
     {
@@ -31,20 +32,21 @@ impl Index {
         }
     }
 
+    /// How many nodes there are.
     pub fn len(&self) -> usize
         ensures { result ≡ length self.now }
     {
         self.nodes.len()
     }
 
-    // The number of a node.
+    /// The number of a node, `None` where it is not among them.
     pub fn number(&self, n: &Node) -> Option<usize>
         ensures { MatchOption result (LacksBelow self.now n.now (length self.now)) (λ i. (i < length self.now) × (get_or self.now i no_node ≡ n.now)) }
     {
         self.nodes.get_index_of(n)
     }
 
-    // Adds a node under the next number, where memory is found for it.
+    /// Adds a node under the next number, where memory is found for it.
     pub fn add(&mut self, n: &Node)
         requires { LacksBelow self.old n.now (length self.old) }
         ensures { (self.new ≡ self.old) ⊎ (self.new ≡ self.old ++ n.now ∷ []) }

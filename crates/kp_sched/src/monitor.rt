@@ -84,7 +84,7 @@ impl Monitor {
     }
 }
 
-// Stage k updates in this word.
+/// Whether stage k updates in this word of update enables, whose bit k is stage k's.
 pub fn is_set(word: u16, k: u8) -> bool
     requires { k < 16 }
     ensures { result ≡ bit_of word k }
