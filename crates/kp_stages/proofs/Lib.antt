@@ -1,0 +1,10 @@
+pub mod Stalling
+pub mod Downward
+pub mod Ports
+pub mod Rising
+pub mod Wrong
+pub mod Entered
+pub mod Spoken
+pub mod Following
+pub mod Rules
+pub mod Rooms
