@@ -1,0 +1,3 @@
+-- The definitions below here are for private contracts and proofs alone: no public clause of the crate cites them.
+pub mod After
+pub mod Written

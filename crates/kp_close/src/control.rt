@@ -1,0 +1,23 @@
+use kp_net::NodeId;
+
+/// What the stages do together in a cycle. Of the 12 nodes of a list those of the stages that there are count.
+#[derive(Debug, Drop)]
+pub struct Control {
+    /// One more than the greatest stage that mismatches, or 0, in 4 bits.
+    pub back: NodeId,
+    /// For each stage, whether it is squashed.
+    pub swept: [NodeId; 12],
+    /// For each stage, whether it updates.
+    pub updates: [NodeId; 12],
+}
+
+/// The words that the netlist shows in a cycle.
+#[derive(Clone, Copy, Debug, PartialEq, Eq)]
+pub struct RowNodes {
+    /// Bit k says whether stage k holds an instruction.
+    pub full: NodeId,
+    /// Bit k says whether stage k updates.
+    pub ue: NodeId,
+    /// One more than the greatest stage that mismatches, or 0, in 4 bits.
+    pub back: NodeId,
+}

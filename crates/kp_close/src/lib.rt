@@ -1,0 +1,24 @@
+//! What closes the netlist of a pipelined machine: from the nodes of the stages to the next value of each register, the write
+//! ports of the files, and the words that are shown.
+//!
+//! The definitions stand in `specs/`: what the control nodes, the next nodes and the write ports mean (`Control`, `Nexts`), what
+//! a finished netlist has (`Closed`), and when it shows the pipeline of a job (`Shows`). That it does is the law in `laws`.
+#![tactic(auto)]
+
+mod control;
+mod ends;
+pub mod laws;
+mod moving;
+mod nexts;
+mod outputs;
+mod pending;
+mod results;
+mod steering;
+mod writing;
+
+pub use control::{Control, RowNodes};
+pub use ends::{Ends, close_nodes};
+pub use nexts::next_nodes;
+pub use outputs::row_nodes;
+pub use steering::steer;
+pub use writing::write_ports;

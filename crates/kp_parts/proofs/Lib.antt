@@ -1,0 +1,8 @@
+pub mod Spelled
+pub mod Numbers
+pub mod Making
+pub mod Begins
+pub mod Visible
+pub mod Finish
+pub mod Assembled
+pub mod Named
