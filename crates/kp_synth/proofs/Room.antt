@@ -1,0 +1,46 @@
+-- The room for the nodes.
+use Rattle.std.proofs.Common.{ap, ◌≡◌, ℕ, zero, suc, ◌+◌, ◌*◌, ◌≤◌, [], length, None, arith}
+use Rattle.std.proofs.Math.Nat.{suc-mul}
+use Rattle.kp_ast.specs.declared.tree.Job.{Job}
+use Rattle.kp_width.specs.Widths.{widths_of}
+use Rattle.kp_width.proofs.Unbroken.{Unbroken}
+use Rattle.kp_stage.specs.Counts.{summary_of}
+use Rattle.kp_stage.specs.Stages.{broken_of}
+use Rattle.kp_net.specs.Growth.{Held}
+use Rattle.kp_tables.proofs.Fitting.{fits}
+use Rattle.kp_tables.proofs.Limits.{limits, samples_counted}
+use Rattle.kp_cells.specs.Telling.{CellsFit}
+use Rattle.kp_close.specs.Bound.{node_bound}
+use Rattle.kp_close.proofs.Bounding.{closing_few}
+use Rattle.kp_stages.proofs.Rooms.{stages_few}
+use Rattle.kp_synth.specs.inner.Rooms.{reading_room, inside_room, closing_room}
+
+-- a product of small numbers is small
+pub times_few : (a b : ℕ) → a ≤ 12 → b ≤ 4096 → a * b ≤ 49152
+times_few a b l h = go a 12 l
+  where
+    go : (a k : ℕ) → a ≤ k → a * b ≤ k * 4096
+    go zero k l = omega arith
+    go (suc a) zero l = absurd (omega (arith, l))
+    go (suc a) (suc k) l =
+        let r = go a k (omega (arith, l)) in
+        let x : suc a * b ≡ a * b + b = suc-mul a b in
+        omega (arith, r, x, h)
+
+-- the bound is enough for all
+pub enough : (job : Job) → Unbroken (widths_of job) → broken_of job ≡ None → reading_room job + inside_room job + closing_room job ≤ node_bound (summary_of job)
+unfolding inside_room
+enough job right kept =
+    let f = fits job right kept in
+    let n = f.at_least in
+    let c = limits job kept in
+    let s = c.samples in
+    let x = samples_counted job.decls in
+    let a = closing_few job (omega (arith, n)) (omega (arith, s, x)) in
+    let b = stages_few job right kept in
+    omega (arith, a, b)
+
+-- a pool without nodes has no cells
+pub no_cells : (job : Job) (p : Held) → p.nodes ≡ [] → CellsFit job p
+unfolding CellsFit
+no_cells job p e i l = let n = ap length e in absurd (omega (arith, l, n))

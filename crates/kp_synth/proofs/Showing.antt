@@ -1,0 +1,216 @@
+-- What a netlist shows by the places of its parts it shows by their names.
+use Rattle.std.proofs.Common.{◌≡◌, ◌∙◌, ℕ, zero, suc, ◌+◌, ◌-◌, ◌<◌, ◌≤◌, Bool, true, false, not, List, [], ◌∷◌, ◌++◌, take, drop, length, get_or, map, refl, ap, sym, subst, arith, ⊎_elim}
+use Rattle.std.specs.Prelude.{codes, decimal}
+use Rattle.std.proofs.lemmas.List.{length-map, get_or-map, get_or-drop, length-drop, take-append-drop, map-append}
+use Rattle.std.proofs.Math.Seq.{take-length}
+use Rattle.std.proofs.lemmas.Bool.{cases_lt, cases_Bool}
+use Rattle.kp_ast.specs.declared.tree.Job.{Job}
+use Rattle.kp_machine.specs.Slots.{Slot, targets_of, samples_of, is_register}
+use Rattle.kp_machine.specs.Machine.{pipe_of, registers_before, files_before}
+use Rattle.kp_net.specs.declared.netlist.NetReg.{NetReg}
+use Rattle.kp_net.specs.declared.netlist.NetFile.{NetFile}
+use Rattle.kp_net.specs.declared.netlist.Port.{Port}
+use Rattle.kp_net.specs.Netlist.{Net, Input, State, rows_from, run}
+use Rattle.kp_net.specs.Names.{IsNamed}
+use Rattle.kp_net.specs.Parts.{no_reg, no_file}
+use Rattle.kp_seq.specs.Running.{no_slot, target}
+use Rattle.kp_sched.specs.Runs.{ShowsAlike}
+use Rattle.kp_shows.specs.Naming.{register_name, file_name, sample_port, hidden_names, registers_of, files_of, register_names, file_names, register_of, file_of, value_shown, place_among}
+use Rattle.kp_shows.specs.Traces.{trace_of, inputs_seen, state_at, AreQuiet}
+use Rattle.kp_shows.specs.Shows.{Shows, IsInOrder, HasRegister, HasFile}
+use Rattle.kp_close.specs.Shows as place
+use Rattle.kp_close.specs.Shows.{NamedBy, reg_slot, file_slot, port_slot, named_with, shown_word}
+use Rattle.kp_synth.proofs.Places.{passes_at, comes_from, stands_at, first_at, file_number}
+
+-- names by way of slots
+names_by : {X : Type 0} (f : X → Slot) (g : X → List ℕ) (e : (x : X) → (f x).name ≡ g x) (xs : List X) → map (λ (s : Slot). s.name) (map f xs) ≡ map g xs
+names_by f g e [] = refl
+names_by f g e (x ∷ xs) = rw (e x, names_by f g e xs) refl
+
+-- a port by its slot
+ports_by : (ps : List Port) (ss : List Slot) → map port_slot ps ≡ map (named_with (codes "s_")) ss → ps ≡ map sample_port ss
+ports_by [] [] h = refl
+ports_by [] (s ∷ ss) h = let e = ap length h in absurd (omega (arith, e))
+ports_by (p ∷ ps) [] h = let e = ap length h in absurd (omega (arith, e))
+ports_by (p ∷ ps) (s ∷ ss) h =
+    let head : port_slot p ≡ named_with (codes "s_") s = ap (λ l. get_or l 0 no_slot) h in
+    let rest : map port_slot ps ≡ map (named_with (codes "s_")) ss = ap (drop 1) h in
+    let own : p ≡ sample_port s = port_is p (sample_port s) (ap (λ (x : Slot). x.name) head) (ap (λ (x : Slot). x.width) head) in
+    rw (own, ports_by ps ss rest) refl
+  where
+    port_is : (p q : Port) → p.name ≡ q.name → p.width ≡ q.width → p ≡ q
+    port_is p q a b = rw (a, b) refl
+
+-- a hidden name has its letter
+hidden_at : (i n k : ℕ) → k < n → take 2 (get_or (hidden_names i n) k []) ≡ codes "q_"
+hidden_at i zero k l = absurd (omega arith)
+hidden_at i (suc n) zero l = refl
+hidden_at i (suc n) (suc k) l = hidden_at (suc i) n k (omega arith)
+
+q_not_r : codes "q_" ≡ codes "r_" → ⊥
+q_not_r e = let x : 113 ≡ 114 = ap (λ l. get_or l 0 0) e in absurd (omega (arith, x))
+
+rows_are : (net : Net) (ins : List Input) (st : State) → length (rows_from net st ins) ≡ length ins
+rows_are net [] st = refl
+rows_are net (i ∷ ins) st = ap suc (rows_are net ins _)
+
+hidden_same : (i n : ℕ) → place.other_names i n ≡ hidden_names i n
+hidden_same i zero = refl
+hidden_same i (suc n) = ap (λ l. (codes "q_" ++ decimal i) ∷ l) (hidden_same (suc i) n)
+
+module _ (net : Net) (job : Job) (h : place.Shows net job) (n : IsNamed net) where
+  abbrev targets : List Slot
+  targets = targets_of job.decls
+
+  abbrev regs : List NetReg
+  regs = net.parts.regs
+
+  abbrev shown : ℕ
+  shown = length (registers_of job)
+
+  -- a register by its place
+  reg_is : (i : ℕ) → i < shown → (i < length regs) × (reg_slot (get_or regs i no_reg) ≡ named_with (codes "r_") (get_or (registers_of job) i no_slot))
+  reg_is i l =
+      let m = length-map (registers_of job) (named_with (codes "r_")) in
+      let r = first_at reg_slot regs (map (named_with (codes "r_")) (registers_of job)) shown i no_reg (named_with (codes "r_") no_slot) h.names.visible (omega (arith, m, l)) in
+      (r.0, r.1 ∙ get_or-map (named_with (codes "r_")) (registers_of job) i no_slot (named_with (codes "r_") no_slot) l)
+
+  file_is : (i : ℕ) → i < length (files_of job) → (i < length net.parts.files) × (file_slot (get_or net.parts.files i no_file) ≡ named_with (codes "f_") (get_or (files_of job) i no_slot))
+  file_is i l =
+      let m = length-map (files_of job) (named_with (codes "f_")) in
+      let all : map file_slot (take (length net.parts.files) net.parts.files) ≡ map (named_with (codes "f_")) (files_of job) = ap (map file_slot) (take-length net.parts.files) ∙ h.names.files in
+      let r = first_at file_slot net.parts.files (map (named_with (codes "f_")) (files_of job)) (length net.parts.files) i no_file (named_with (codes "f_") no_slot) all (omega (arith, m, l)) in
+      (r.0, r.1 ∙ get_or-map (named_with (codes "f_")) (files_of job) i no_slot (named_with (codes "f_") no_slot) l)
+
+  reg_name_is : (i : ℕ) → i < shown → get_or (register_names net) i [] ≡ register_name (get_or (registers_of job) i no_slot)
+  reg_name_is i l = let r = reg_is i l in get_or-map (λ (x : NetReg). x.name) regs i no_reg [] r.0 ∙ ap (λ (s : Slot). s.name) r.1
+
+  file_name_is : (i : ℕ) → i < length (files_of job) → get_or (file_names net) i [] ≡ file_name (get_or (files_of job) i no_slot)
+  file_name_is i l = let r = file_is i l in get_or-map (λ (x : NetFile). x.name) net.parts.files i no_file [] r.0 ∙ ap (λ (s : Slot). s.name) r.1
+
+  -- the register of a target, and the file
+  reg_of : (t : ℕ) → t < length targets → is_register (target job t) ≡ true
+      → (registers_before targets t < shown) × (get_or (registers_of job) (registers_before targets t) no_slot ≡ target job t)
+  reg_of t l e = let p = passes_at is_register targets t no_slot l e in (p.few, p.here)
+
+  file_of_target : (t : ℕ) → t < length targets → is_register (target job t) ≡ false
+      → (files_before targets t < length (files_of job)) × (get_or (files_of job) (files_before targets t) no_slot ≡ target job t)
+  file_of_target t l e =
+      let p = passes_at (λ (s : Slot). not (is_register s)) targets t no_slot l (ap not e) in
+      let k = file_number targets t (omega (arith, l)) in
+      (subst (λ x. x < length (files_of job)) (sym k) p.few, ap (λ x. get_or (files_of job) x no_slot) k ∙ p.here)
+
+  register_number : (t : ℕ) → t < length targets → is_register (target job t) ≡ true → register_of net (target job t) ≡ registers_before targets t
+  register_number t l e =
+      let r = reg_of t l e in
+      let i = registers_before targets t in
+      let s = reg_is i r.0 in
+      let m = length-map regs (λ (x : NetReg). x.name) in
+      ap (place_among (register_names net)) (sym (reg_name_is i r.0 ∙ ap register_name r.1)) ∙ stands_at (register_names net) i n.regs_differ (let z = s.0 in omega (arith, m, z))
+
+  file_number_is : (t : ℕ) → t < length targets → is_register (target job t) ≡ false → file_of net (target job t) ≡ files_before targets t
+  file_number_is t l e =
+      let r = file_of_target t l e in
+      let i = files_before targets t in
+      let s = file_is i r.0 in
+      let m = length-map net.parts.files (λ (x : NetFile). x.name) in
+      ap (place_among (file_names net)) (sym (file_name_is i r.0 ∙ ap file_name r.1)) ∙ stands_at (file_names net) i n.files_differ (let z = s.0 in omega (arith, m, z))
+
+  has_register : (t : ℕ) → t < length targets → is_register (target job t) ≡ true → HasRegister net (target job t)
+  has_register t l e =
+      let r = reg_of t l e in
+      let s = reg_is (registers_before targets t) r.0 in
+      let k = register_number t l e in
+      record {
+        there = subst (λ x. x < length regs) (sym k) s.0;
+        width = ap (λ x. (get_or regs x no_reg).start.width) k ∙ ap (λ (z : Slot). z.width) s.1 ∙ ap (λ (z : Slot). z.width) r.1;
+      }
+
+  has_file : (t : ℕ) → t < length targets → is_register (target job t) ≡ false → HasFile net (target job t)
+  has_file t l e =
+      let r = file_of_target t l e in
+      let s = file_is (files_before targets t) r.0 in
+      let k = file_number_is t l e in
+      record {
+        there = subst (λ x. x < length net.parts.files) (sym k) s.0;
+        width = ap (λ x. (get_or net.parts.files x no_file).width) k ∙ ap (λ (z : Slot). z.width) s.1 ∙ ap (λ (z : Slot). z.width) r.1;
+        address = ap (λ x. (get_or net.parts.files x no_file).address_width) k ∙ ap (λ (z : Slot). z.address) s.1 ∙ ap (λ (z : Slot). z.address) r.1;
+      }
+
+  -- no register has such a name but those of the job
+  hidden_is : (r : ℕ) → shown ≤ r → r < length regs → take 2 (get_or (register_names net) r []) ≡ codes "q_"
+  hidden_is r l m =
+      let a : get_or (map (λ (x : NetReg). x.name) (drop shown regs)) (r - shown) [] ≡ get_or (hidden_names 0 (length regs - shown)) (r - shown) [] =
+      ap (λ (xs : List (List ℕ)). get_or xs (r - shown) []) (h.names.others ∙ hidden_same 0 (length regs - shown)) in
+      let d = length-drop shown regs in
+      let b = get_or-map (λ (x : NetReg). x.name) (drop shown regs) (r - shown) no_reg [] (omega (arith, d)) in
+      let c : get_or (drop shown regs) (r - shown) no_reg ≡ get_or regs r no_reg = get_or-drop shown regs (r - shown) no_reg ∙ ap (λ k. get_or regs k no_reg) (let z : shown + (r - shown) ≡ r = omega arith in z) in
+      let own : get_or (register_names net) r [] ≡ get_or (hidden_names 0 (length regs - shown)) (r - shown) [] =
+      get_or-map (λ (x : NetReg). x.name) regs r no_reg [] m ∙ sym (ap (λ (x : NetReg). x.name) c) ∙ sym b ∙ a in
+      ap (take 2) own ∙ hidden_at 0 (length regs - shown) (r - shown) (omega arith)
+
+  is_own : (r : ℕ) → r < length regs → take 2 (get_or (register_names net) r []) ≡ codes "r_"
+      → (t : ℕ) × (t < length targets) × (is_register (target job t) ≡ true) × (get_or (register_names net) r [] ≡ register_name (target job t))
+  is_own r l e = ⊎_elim
+      (λ (a : r < shown). let c = comes_from is_register targets r no_slot a in (c.at, c.there, c.passes, reg_name_is r a ∙ ap register_name c.is))
+      (λ (a : shown ≤ r). absurd (q_not_r (sym (hidden_is r a l) ∙ e)))
+      (cases_lt r shown)
+
+  not_false : (b : Bool) → not b ≡ true → b ≡ false
+  not_false false e = refl
+  not_false true e = sym e
+
+  is_own_file : (f : ℕ) → f < length net.parts.files
+      → (t : ℕ) × (t < length targets) × (is_register (target job t) ≡ false) × (get_or (file_names net) f [] ≡ file_name (target job t))
+  is_own_file f l =
+      let m : length net.parts.files ≡ length (files_of job) = sym (length-map net.parts.files file_slot) ∙ ap length h.names.files ∙ length-map (files_of job) (named_with (codes "f_")) in
+      let a : f < length (files_of job) = omega (arith, m, l) in
+      let c = comes_from (λ (s : Slot). not (is_register s)) targets f no_slot a in
+      (c.at, c.there, not_false _ c.passes, file_name_is f a ∙ ap file_name c.is)
+
+  -- the values
+  value_is : (st : State) (t a : ℕ) → t < length targets → value_shown job net st t a ≡ shown_word job st t a
+  unfolding value_shown
+  value_is st t a l = ⊎_elim
+      (λ (e : is_register (target job t) ≡ true). rw (e, register_number t l e) refl)
+      (λ (e : is_register (target job t) ≡ false). rw (e, file_number_is t l e) refl)
+      (cases_Bool (is_register (target job t)))
+
+  alike : (ins : List Input) → AreQuiet ins → ShowsAlike job (trace_of job net ins) (pipe_of job (inputs_seen job ins))
+  unfolding trace_of
+  alike ins q =
+      let s = h.runs ins q in
+      record {
+        rows = s.rows;
+        values = λ T t x l w.
+            let k : length (map (place.row_bits job.stages.value) (run net ins).rows) ≡ length ins = length-map (run net ins).rows (place.row_bits job.stages.value) ∙ rows_are net ins _ in
+            value_is (state_at net ins T) t x w.target ∙ s.visible T t x (omega (arith, k, l)) w.target w.address;
+      }
+
+  pub shows : job.stages.value ≤ 12 → Shows net job
+  shows few = record {
+    name = h.names.name;
+    outputs = record { few = let e = h.ext in omega (arith, e, few); full = h.full ∙ sym h.ext; ue = h.ue ∙ sym h.ext; back = h.back };
+    reset = h.reset;
+    of_job = record {
+      ext = h.ext;
+      samples = ports_by net.parts.samples (samples_of job.decls) h.names.samples;
+      registers = has_register;
+      files = has_file;
+      no_more_registers = is_own;
+      no_more_files = is_own_file;
+    };
+    runs = alike;
+  }
+
+  pub in_order : IsInOrder net job
+  in_order = record {
+    others = length regs - shown;
+    registers =
+        ap (map (λ (x : NetReg). x.name)) (sym (take-append-drop shown regs))
+        ∙ map-append (λ (x : NetReg). x.name) (take shown regs) (drop shown regs)
+        ∙ ap (λ (l : List (List ℕ)). l ++ map (λ (x : NetReg). x.name) (drop shown regs))
+        (sym (names_by reg_slot (λ (x : NetReg). x.name) (λ x. refl) (take shown regs)) ∙ ap (map (λ (s : Slot). s.name)) h.names.visible ∙ names_by (named_with (codes "r_")) register_name (λ x. refl) (registers_of job))
+        ∙ ap (λ (l : List (List ℕ)). map register_name (registers_of job) ++ l) (h.names.others ∙ hidden_same 0 (length regs - shown));
+    files = sym (names_by file_slot (λ (x : NetFile). x.name) (λ x. refl) net.parts.files) ∙ ap (map (λ (s : Slot). s.name)) h.names.files ∙ names_by (named_with (codes "f_")) file_name (λ x. refl) (files_of job);
+  }
