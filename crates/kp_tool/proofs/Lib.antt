@@ -1,6 +1,3 @@
-pub mod DueLemmas
-pub mod Matching
-pub mod Judged
-pub mod Lines
+pub mod Ends
+pub mod IfOks
 pub mod Running
-pub mod Verdicts

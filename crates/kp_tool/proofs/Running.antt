@@ -1,12 +1,12 @@
 -- What a machine shows that has run is the sequential machine of its job.
-use Rattle.std.proofs.Common.{◌≡◌, ◌∙◌, ℕ, zero, suc, ◌+◌, List, refl, ap, sym, arith}
+use Rattle.std.proofs.Common.{◌≡◌, ◌∙◌, ℕ, suc, ◌+◌, List, refl, ap, sym, arith}
 use Rattle.kp_bits.specs.Word.{Word}
 use Rattle.kp_ast.specs.declared.tree.Job.{Job}
 use Rattle.kp_stage.specs.Start.{start_of, input}
 use Rattle.kp_stage.specs.declared.start.Start.{Start}
 use Rattle.kp_law.specs.Sequential.{exec, seq}
 use Rattle.kp_machine.specs.Machine.{machine_of, state_of, sequential, values_in}
-use Rattle.kp_tool.specs.States.{State}
+use Rattle.kp_show.specs.States.{State}
 
 -- the run with these rows
 abbrev run : Job → State → (ℕ → List Word) → ℕ → State

@@ -1,5 +1,3 @@
-pub mod Matching
-pub mod Accepting
+-- What stands here is for private contracts and proofs: a reader need not believe it.
 pub mod Answer
-pub mod Targets
 pub mod Stop

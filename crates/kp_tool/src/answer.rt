@@ -1,14 +1,16 @@
 // An answer, and how it gets ready to be written.
-ghost use Rattle.std.specs.Prelude.{◌≡◌, IfOk};
-ghost use Rattle.kp_tool.specs.inner.Answer.{status_of, text_of, ready_status, ready_text};
+ghost use Rattle.std.specs.Prelude.{IfOk};
+ghost use Rattle.kp_tool.specs.inner.Answer.{Tells};
 
-use crate::accepted::Accepted;
+use crate::simulating::simulated;
 use crate::stepping::{Run, run_of};
 use kp_base::{NoMemory, Refusal};
+use kp_judge::Accepted;
+use kp_run::Board;
 use kp_stage::Design;
 use std::alloc::Global;
 
-/// A job and a count of instructions.
+/// A job and a count of instructions or of cycles.
 #[derive(Drop)]
 pub struct Steps {
     pub count: u32,
@@ -24,6 +26,8 @@ pub enum Answer {
     Refused(Refusal),
     /// The state after so many instructions.
     After(Steps),
+    /// The run of the pipelined machine over so many cycles.
+    Simulation(Steps),
     /// The numbers of a job that breaks no rule.
     Checked(Design),
     /// The image section of an assembler program.
@@ -36,20 +40,24 @@ pub enum Ready<'a> {
     BadWords,
     Refused(Refusal),
     After(Run<'a>),
+    Ran(Board<'a>),
     Checked(&'a Design),
     Image(&'a [u8]),
 }
 
 impl Answer {
     /// Opens what is to be run, and runs it. After a refusal nothing is left of it.
+    #[tactic(auto, unfolding(crate::specs::inner::Answer::Tells))]
     pub fn ready(&self, alloc: Global) -> Result<Ready<'_>, NoMemory>
-        ensures status { IfOk result (λ r. ready_status r ≡ status_of self.now) }
-        ensures text { IfOk result (λ r. ready_text r ≡ text_of self.now) }
+        ensures { IfOk result (λ ready. Tells self.now ready) }
     {
         match self {
             Answer::BadWords => Ok(Ready::BadWords),
             Answer::Refused(refusal) => Ok(Ready::Refused(*refusal)),
             Answer::After(steps) => Ok(Ready::After(run_of(alloc, steps.count, &steps.job)?)),
+            Answer::Simulation(steps) => {
+                Ok(Ready::Ran(simulated(alloc, steps.count, &steps.job)?))
+            }
             Answer::Checked(design) => Ok(Ready::Checked(design)),
             Answer::Image(section) => Ok(Ready::Image(section.as_slice())),
         }

@@ -1,31 +1,31 @@
 //! The top call: from the words of a command line and a source to a status and a sink.
 #![tactic(auto)]
 
-ghost use Rattle.std.specs.Prelude.{◌≡◌, ◌≢◌, ◌≤◌, ◌++◌, map, string_bytes, length, List, ℕ, false, None, Some, IfOk, IfSome, Ok, Err, MatchResult, IsErrOf};
+ghost use Rattle.std.specs.Prelude.{◌≡◌, ◌≢◌, ◌++◌, map, string_bytes, List, ℕ, false, None, Some, IfOk, IfSome, IsErrOf};
+ghost use Rattle.std.specs.Io.KnownBytes.{Consumes, Appends};
+ghost use Rattle.kp_base.specs.Bytes.{AppendsPart};
 ghost use Rattle.kp_base.specs.Causes.{Rose};
 ghost use Rattle.kp_base.specs.Refusal.{e_rule};
-ghost use Rattle.kp_tool.specs.Words.{command_of, reads_input};
-ghost use Rattle.kp_tool.specs.inner.Answer.{status_of, text_of};
+ghost use Rattle.kp_words.specs.Words.{command_of, reads_input};
+ghost use Rattle.kp_words.specs.declared.words.Command.TheVariants.{OnJob};
+ghost use Rattle.kp_words.specs.declared.words.JobCommand.TheVariants.{Sim};
+ghost use Rattle.kp_due.specs.Due.{Due, IsFinal, Completes, Begins};
+ghost use Rattle.kp_due.specs.Headline.{IsLegalRun};
+ghost use Rattle.kp_tool.specs.inner.Answer.{Decides, Finishes, BreaksOff, ready_status, ready_text};
 ghost use Rattle.kp_tool.specs.inner.Stop.{stop_status};
-ghost use Rattle.kp_tool.specs.Due.{Due, DueFor, DueOfJob, IsDue, IsFinal, Completes, Begins};
 ghost use Rattle.kp_tool.specs.declared.Stop.TheVariants as stop;
-ghost use Rattle.kp_tool.specs.declared.words.Command.TheVariants.{OnJob, Assemble};
 
-mod accepted;
 mod answer;
-mod judge;
-pub mod laws;
+mod deciding;
+mod simulating;
 mod stepping;
-mod words;
 mod writing;
 
-use accepted::Accepted;
-use answer::{Answer, Steps};
-use judge::judge;
-use kp_asm::{assemble, image_text};
-use kp_base::{NoMemory, Place, ReadAll, Refusal, Refused, Sink, SinkFault, Source, read_all};
+use answer::{Answer, Ready};
+use deciding::carry_out;
+use kp_base::{NoMemory, Place, ReadAll, Refusal, Sink, SinkFault, Source, read_all};
+use kp_words::Command;
 use std::alloc::{AllocError, Global};
-use words::{Command, JobCommand};
 
 /// Why no due outcome was reached.
 #[derive(Clone, Copy, Debug, PartialEq, Eq)]
@@ -94,6 +94,11 @@ pub fn tool<S: Source, K: Sink>(alloc: Global, words: &[String], source: &mut S,
     // Exactly where the words are not accepted.
     ensures bad_words { result ≡ 1 → command_of (map string_bytes words.now) ≡ None }
     ensures bad_words_only { command_of (map string_bytes words.now) ≡ None → IsFinal result → result ≡ 1 }
+
+    // The headline: what `sim N` writes tells a run of the pipelined machine that is legal and moves.
+    ensures sim_is_legal { (n : ℕ) → command_of (map string_bytes words.now) ≡ Some (OnJob (Sim n)) → result ≡ 0
+        → (input text : List ℕ) × Consumes (S.left source.old) (S.left source.new) input × Appends (K.held sink.old) (K.held sink.new) text
+        × IsLegalRun n input text }
 {
     match run(alloc, words, source, sink) {
         Ok(status) => status,
@@ -115,15 +120,40 @@ fn run<S: Source, K: Sink>(
         × Begins (map string_bytes words.now) (S.left source.old) (S.left source.new) (K.held sink.old) (K.held sink.new) }
     ensures no_memory { IsErrOf result Stop.NoMemory → sink.new ≡ sink.old }
 {
-    let answer = prepare(alloc, words, source)?;
-    let ready = answer.ready(alloc)?;
+    match prepare(alloc, words, source) {
+        Ok(answer) => finish(alloc, &answer, sink),
+        Err(stop) => Err(stop),
+    }
+}
+
+// Gets an answer ready, and writes it.
+fn finish<K: Sink>(alloc: Global, answer: &Answer, sink: &mut K) -> Result<u8, Stop>
+    ensures due { IfOk result (λ status. Finishes answer.now (K.held sink.old) (K.held sink.new) status) }
+    ensures no_read_fault { IsErrOf result Stop.ReadFault → ⊥ }
+    ensures write_fault { IsErrOf result Stop.WriteFault → Rose (K.faults sink.old) (K.faults sink.new)
+        × BreaksOff answer.now (K.held sink.old) (K.held sink.new) }
+    ensures no_memory { IsErrOf result Stop.NoMemory → sink.new ≡ sink.old }
+{
+    match answer.ready(alloc) {
+        Ok(ready) => told(&ready, sink),
+        Err(NoMemory) => Err(Stop::NoMemory),
+    }
+}
+
+// Writes an answer that is ready.
+fn told<K: Sink>(ready: &Ready<'_>, sink: &mut K) -> Result<u8, Stop>
+    ensures due { IfOk result (λ status. (status ≡ ready_status ready.now) × Appends (K.held sink.old) (K.held sink.new) (ready_text ready.now)) }
+    ensures no_read_fault { IsErrOf result Stop.ReadFault → ⊥ }
+    ensures write_fault { IsErrOf result Stop.WriteFault → Rose (K.faults sink.old) (K.faults sink.new)
+        × AppendsPart (K.held sink.old) (K.held sink.new) (ready_text ready.now) }
+    ensures no_memory { IsErrOf result Stop.NoMemory → ⊥ }
+{
     Ok(ready.write(sink)?)
 }
 
 // Reads what is to be read, and decides on it.
 fn prepare<S: Source>(alloc: Global, words: &[String], source: &mut S) -> Result<Answer, Stop>
-    ensures due { IfOk result (λ answer. IsDue (map string_bytes words.now) (S.left source.old) (S.left source.new)
-        (status_of answer) (text_of answer)) }
+    ensures due { IfOk result (λ answer. Decides (map string_bytes words.now) (S.left source.old) (S.left source.new) answer) }
     ensures unread { reads_input (command_of (map string_bytes words.now)) ≡ false → source.new ≡ source.old }
     ensures no_write_fault { IsErrOf result Stop.WriteFault → ⊥ }
     ensures fault { IsErrOf result Stop.ReadFault → Rose (S.faults source.old) (S.faults source.new) }
@@ -137,53 +167,6 @@ fn prepare<S: Source>(alloc: Global, words: &[String], source: &mut S) -> Result
         Err(ReadAll::TooLong) => Ok(Answer::Refused(too_long())),
         Err(ReadAll::Fault) => Err(Stop::ReadFault),
         Err(ReadAll::NoMemory) => Err(Stop::NoMemory),
-    }
-}
-
-// The answer to a command over an input.
-fn carry_out(alloc: Global, command: Command, input: &[u8]) -> Result<Answer, NoMemory>
-    requires { length input.now ≤ 16777216 }
-    ensures { IfOk result (λ answer. DueFor (Some command) input.now (status_of answer) (text_of answer)) }
-{
-    match command {
-        Command::OnJob(command) => on_job(alloc, command, input),
-        Command::Assemble => on_program(alloc, input),
-    }
-}
-
-// The answer to a command over a job.
-#[tactic(auto, using(crate::proofs::DueLemmas::refused_is_due, crate::proofs::DueLemmas::accepted_is_due))]
-fn on_job(alloc: Global, command: JobCommand, input: &[u8]) -> Result<Answer, NoMemory>
-    requires { length input.now ≤ 16777216 }
-    ensures { IfOk result (λ answer. DueFor (Some (OnJob command)) input.now (status_of answer) (text_of answer)) }
-{
-    match judge(alloc, input) {
-        Ok(accepted) => Ok(answer_to(command, accepted)),
-        Err(Refused::Rule(refusal)) => Ok(Answer::Refused(refusal)),
-        Err(Refused::NoMemory) => Err(NoMemory),
-    }
-}
-
-// The answer over a job that breaks no rule.
-fn answer_to(command: JobCommand, job: Accepted) -> Answer
-    ensures { DueOfJob command job.design.job (status_of result) (text_of result) }
-{
-    match command {
-        JobCommand::Seq(count) => Answer::After(Steps { count, job }),
-        JobCommand::Check => Answer::Checked(job.design),
-    }
-}
-
-// The image section of an assembler program, or the first rule that it breaks.
-#[tactic(auto, unfolding(crate::specs::Due::program_of))]
-fn on_program(alloc: Global, input: &[u8]) -> Result<Answer, NoMemory>
-    requires { length input.now ≤ 16777216 }
-    ensures { IfOk result (λ answer. DueFor (Some Assemble) input.now (status_of answer) (text_of answer)) }
-{
-    match assemble(alloc, input) {
-        Ok(words) => Ok(Answer::Image(image_text(alloc, &words)?)),
-        Err(Refused::Rule(refusal)) => Ok(Answer::Refused(refusal)),
-        Err(Refused::NoMemory) => Err(NoMemory),
     }
 }
 

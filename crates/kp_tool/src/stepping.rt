@@ -7,9 +7,9 @@ ghost use Rattle.kp_machine.specs.Machine.{machine_of, sequential, values_in};
 ghost use Rattle.kp_machine.specs.Slots.{targets_of};
 ghost use Rattle.kp_seq.specs.Running.{state};
 
-use crate::accepted::Accepted;
 use kp_base::NoMemory;
 use kp_image::InputPattern;
+use kp_judge::Accepted;
 use kp_seq::SeqMachine;
 use kp_stage::Design;
 use std::alloc::Global;

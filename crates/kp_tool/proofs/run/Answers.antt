@@ -1,6 +1,18 @@
-use Rattle.kp_tool.proofs.DueLemmas.{ready_completes}
+use Rattle.kp_tool.proofs.IfOks.{if_ok_map}
+use Rattle.kp_tool.proofs.Ends.{completes, begins}
 use Rattle.kp_tool.proofs.run.Goals as goal
 
-pub returns-clause-due : goal.returns-clause-due
-returns-clause-due g c =
-    ready_completes _ _ _ _ _ c.in_ok-answer.answer c.in_ok-ready.ready c.in_ok-write.field-0 c.in_ok-answer.ensures.due c.in_ok-ready.ensures.status c.in_ok-ready.ensures.text c.in_ok-write.ensures.status c.in_ok-write.ensures.text
+pub returns-in-Ok-clause-due : goal.returns-in-Ok-clause-due
+returns-in-Ok-clause-due g c =
+    if_ok_map c.finish.result _ _ (λ status finished. completes _ _ _ _ _ c.in-Ok.answer status c.in-Ok.ensures.due finished) c.finish.ensures.due
+
+pub returns-in-Ok-clause-write_fault : goal.returns-in-Ok-clause-write_fault
+returns-in-Ok-clause-write_fault g c is =
+    let fault = c.finish.ensures.write_fault is in
+    (fault.0, begins _ _ _ _ _ c.in-Ok.answer c.in-Ok.ensures.due fault.1)
+
+pub returns-in-Ok-clause-read_fault : goal.returns-in-Ok-clause-read_fault
+returns-in-Ok-clause-read_fault g c is = absurd (c.finish.ensures.no_read_fault is)
+
+pub returns-in-Ok-clause-no_memory : goal.returns-in-Ok-clause-no_memory
+returns-in-Ok-clause-no_memory g c = c.finish.ensures.no_memory

@@ -1,4 +1,4 @@
-use Rattle.std.proofs.Common.{◌≡◌, ◌∙◌, ℕ, refl, sym, ap}
+use Rattle.std.proofs.Common.{◌∙◌, refl, ap}
 use Rattle.kp_image.specs.Feeds.{row_in}
 use Rattle.kp_seq.specs.Running.{state}
 use Rattle.kp_tool.proofs.Running.{at_first, one_step}

@@ -1,0 +1,76 @@
+-- The laws of what is due that the top call needs.
+use Rattle.std.proofs.Common.{sym, subst, IfSome, ap, [], ◌++◌, ◌⊎◌, ◌∙◌, inl, None, arith, append-nil, length-append, ◌≡◌, ℕ, ◌<◌, ◌≤◌, List, length, refl, inr, Some, Ok, Err}
+use Rattle.std.specs.declared.option.Option.{Option}
+use Rattle.std.proofs.lemmas.Bool.{lt-ltb}
+use Rattle.std.specs.Io.KnownBytes.{Consumes}
+use Rattle.kp_words.specs.declared.words.Command.TheVariants.{OnJob, Assemble}
+use Rattle.kp_words.specs.declared.words.Command.{Command}
+use Rattle.std.specs.declared.result.Result.{Result}
+use Rattle.kp_base.specs.declared.refusal.Refusal.{Refusal}
+use Rattle.kp_ast.specs.declared.tree.Job.{Job}
+use Rattle.kp_words.specs.declared.words.JobCommand.{JobCommand}
+use Rattle.kp_judge.specs.Judging.{Judges, JudgesText, too_long}
+use Rattle.kp_judge.specs.Judging.Judges.{over, within}
+use Rattle.kp_words.specs.Words.{command_of, reads_input}
+use Rattle.kp_show.specs.Texts.{refusal_line}
+use Rattle.kp_due.specs.Due.{Completes, Due, DueFor, DueOfJob, DueOfProgram, program_of, IsDue, IsWhole}
+
+too_long_due : (command : Command) (old new : Option (List ℕ)) (taken : List ℕ) → Consumes old new taken → length taken ≡ 16777217 → IsWhole (reads_input (Some command)) taken new × DueFor (Some command) taken 2 (refusal_line too_long)
+unfolding program_of
+too_long_due (OnJob command) old new taken consumed count = (inr count, (Err too_long, over (omega arith), (refl, refl)))
+too_long_due Assemble old new taken consumed count =
+    let long : 16777216 < length taken = omega arith in
+    (inr count, rw (lt-ltb 16777216 (length taken) long) (refl, refl))
+
+-- past the most bytes that fit, the refusal is due, whatever the source has left
+pub too_long_is_due : (words : List (List ℕ)) (command : Command) (old new : Option (List ℕ)) (taken : List ℕ) → command_of words ≡ Some command → Consumes old new taken → length taken ≡ 16777217 → IsDue words old new 2 (refusal_line too_long)
+too_long_is_due words command old new taken is_command consumed count =
+    let (whole, due) = too_long_due command old new taken consumed count in
+    record {
+      taken = taken;
+      consumed = consumed;
+      whole = rw is_command whole;
+      due = rw is_command due;
+    }
+
+-- what is judged of the bytes that were taken is judged of all
+judges_all : (taken rest : List ℕ) {verdict : Result Job Refusal} → ((rest ≡ []) ⊎ (length taken ≡ 16777217)) → Judges taken verdict → Judges (taken ++ rest) verdict
+judges_all taken rest {verdict} (inl none) judged = subst (λ (bytes : List ℕ). Judges bytes verdict) (sym (ap (λ (r : List ℕ). taken ++ r) none ∙ append-nil taken)) judged
+judges_all taken rest (inr count) (over long) = over (simp length-append (omega arith))
+judges_all taken rest (inr count) (within short judged) = absurd (omega arith)
+
+-- the same of a program
+program_all : (taken rest : List ℕ) → ((rest ≡ []) ⊎ (length taken ≡ 16777217)) → program_of (taken ++ rest) ≡ program_of taken
+unfolding program_of
+program_all taken rest (inl none) = rw (none, append-nil) refl
+program_all taken rest (inr count) =
+    let taken_over : 16777216 < length taken = omega arith in
+    let all_over : 16777216 < length (taken ++ rest) = simp length-append (omega arith) in
+    rw (lt-ltb 16777216 (length taken) taken_over, lt-ltb 16777216 (length (taken ++ rest)) all_over) refl
+
+due_all_for : (command : Option Command) (taken rest : List ℕ) (status : ℕ) (text : List ℕ) → IsWhole (reads_input command) taken (Some rest) → DueFor command taken status text → DueFor command (taken ++ rest) status text
+due_all_for None taken rest status text whole due = due
+due_all_for (Some (OnJob command)) taken rest status text whole (verdict, judged, said) = (verdict, judges_all taken rest whole judged, said)
+due_all_for (Some Assemble) taken rest status text whole due =
+    subst (λ (found : Result (List ℕ) Refusal). DueOfProgram found status text) (sym (program_all taken rest whole)) due
+
+-- what is due of the bytes that were taken is due of all
+pub due_all : (words : List (List ℕ)) (taken rest : List ℕ) (status : ℕ) (text : List ℕ) → IsWhole (reads_input (command_of words)) taken (Some rest) → Due words taken status text → Due words (taken ++ rest) status text
+due_all words = due_all_for (command_of words)
+
+-- what is completed, where the source and the sink tell their bytes
+pub told : (words : List (List ℕ)) (left left_after held held_after : Option (List ℕ)) (status : ℕ) → Completes words left left_after held held_after status → IfSome left (λ input. IfSome held (λ before. (text : List ℕ) × Due words input status text × (held_after ≡ Some (before ++ text))))
+told words None left_after held held_after status completes = tt
+told words (Some input) left_after None held_after status completes = tt
+told words (Some input) None (Some before) held_after status (text, is_due, written) = absurd is_due.consumed
+told words (Some input) (Some rest) (Some before) None status (text, is_due, written) = absurd written
+told words (Some input) (Some rest) (Some before) (Some after) status (text, is_due, written) =
+    let due = due_all words is_due.taken rest status text is_due.whole is_due.due in
+    (text, rw is_due.consumed due, ap Some written)
+
+-- a broken rule of a text is due, and so is what a command says of a job that breaks none
+pub refused_is_due : (command : JobCommand) (text : List ℕ) (refusal : Refusal) → length text ≤ 16777216 → JudgesText text (Err refusal) → DueFor (Some (OnJob command)) text 2 (refusal_line refusal)
+refused_is_due command text refusal short judged = (Err refusal, within short judged, (refl, refl))
+
+pub accepted_is_due : (command : JobCommand) (text : List ℕ) (job : Job) (status : ℕ) (answer : List ℕ) → length text ≤ 16777216 → JudgesText text (Ok job) → DueOfJob command job status answer → DueFor (Some (OnJob command)) text status answer
+accepted_is_due command text job status answer short judged due = (Ok job, within short judged, due)

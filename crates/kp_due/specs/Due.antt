@@ -1,0 +1,79 @@
+-- What is due: a status and a text for the words and the bytes of the source.
+use Rattle.std.specs.Prelude.{◌≡◌, ◌≢◌, ◌⊎◌, Bool, true, false, ℕ, List, [], length, nat_lt, if◌then◌else◌, Ok, Err, Some, None, Option, Result}
+use Rattle.std.specs.Io.KnownBytes.{Consumes, Appends, IsAtEnd}
+use Rattle.kp_base.specs.Bytes.{AppendsPart}
+use Rattle.kp_base.specs.declared.refusal.Refusal.{Refusal}
+use Rattle.kp_ast.specs.declared.tree.Job.{Job}
+use Rattle.kp_stage.specs.Counts.{summary_of}
+use Rattle.kp_asm.specs.Image.{image_text_of}
+use Rattle.kp_asm.specs.Program.{assembled}
+use Rattle.kp_words.specs.declared.words.Command.{Command}
+use Rattle.kp_words.specs.declared.words.Command.TheVariants.{OnJob, Assemble}
+use Rattle.kp_words.specs.declared.words.JobCommand.{JobCommand}
+use Rattle.kp_words.specs.declared.words.JobCommand.TheVariants.{Seq, Check, Sim}
+use Rattle.kp_words.specs.Words.{command_of, reads_input}
+use Rattle.kp_judge.specs.Judging.{Judges, too_long}
+use Rattle.kp_show.specs.Texts.{bad_words, refusal_line, accepted_line}
+use Rattle.kp_show.specs.States.{sequential_text}
+use Rattle.kp_show.specs.Runs.{sim_text}
+
+-- this status with this text
+abbrev pub Says : ℕ → List ℕ → ℕ → List ℕ → Type 0
+Says due_status due_text status text = (status ≡ due_status) × (text ≡ due_text)
+
+-- what a command says of an accepted job
+abbrev pub DueOfJob : JobCommand → Job → ℕ → List ℕ → Type 0
+DueOfJob (Seq count) job = Says 0 (sequential_text count job)
+DueOfJob Check job = Says 0 (accepted_line job.name.name (summary_of job))
+DueOfJob (Sim count) job = Says 0 (sim_text count job)
+
+-- what a command says of a verdict on its input
+abbrev pub DueOfVerdict : JobCommand → Result Job Refusal → ℕ → List ℕ → Type 0
+DueOfVerdict command (Ok job) status text = DueOfJob command job status text
+DueOfVerdict command (Err refusal) status text = Says 2 (refusal_line refusal) status text
+
+-- the words of an assembler program, or the first rule that it breaks
+unfoldable pub program_of : List ℕ → Result (List ℕ) Refusal
+program_of input = if nat_lt 16777216 (length input) then Err too_long else assembled input
+
+-- what `asm` says of a program: the section with its words, or the rule
+abbrev pub DueOfProgram : Result (List ℕ) Refusal → ℕ → List ℕ → Type 0
+DueOfProgram (Ok words) status text = Says 0 (image_text_of words) status text
+DueOfProgram (Err refusal) status text = Says 2 (refusal_line refusal) status text
+
+-- what is due of a command
+abbrev pub DueFor : Option Command → List ℕ → ℕ → List ℕ → Type 0
+DueFor None input status text = Says 1 bad_words status text
+DueFor (Some (OnJob command)) input status text =
+    (verdict : Result Job Refusal) × Judges input verdict × DueOfVerdict command verdict status text
+DueFor (Some Assemble) input status text = DueOfProgram (program_of input) status text
+
+-- what is due of any words
+abbrev pub Due : List (List ℕ) → List ℕ → ℕ → List ℕ → Type 0
+Due words input status text = DueFor (command_of words) input status text
+
+-- a source was read as far as is due: not at all, or to its end, or one byte past the most that fit
+abbrev pub IsWhole : Bool → List ℕ → Option (List ℕ) → Type 0
+IsWhole false taken left = taken ≡ []
+IsWhole true taken left = IsAtEnd left ⊎ (length taken ≡ 16777217)
+
+-- status and text are due of the bytes that a source gave
+pub record IsDue (words : List (List ℕ)) (old new : Option (List ℕ)) (status : ℕ) (text : List ℕ) : Type 0 where
+  pub taken : List ℕ
+  pub consumed : Consumes old new taken
+  pub whole : IsWhole (reads_input (command_of words)) taken new
+  pub due : Due words taken status text
+
+-- a status that is due
+abbrev pub IsFinal : ℕ → Type 0
+IsFinal status = (status ≢ 3) × (status ≢ 4) × (status ≢ 5)
+
+-- the status is due, and the whole due text was appended
+abbrev pub Completes : List (List ℕ) → (left left_after held held_after : Option (List ℕ)) → ℕ → Type 0
+Completes words left left_after held held_after status =
+    (text : List ℕ) × IsDue words left left_after status text × Appends held held_after text
+
+-- the beginning of a due text was appended
+abbrev pub Begins : List (List ℕ) → (left left_after held held_after : Option (List ℕ)) → Type 0
+Begins words left left_after held held_after =
+    (status : ℕ) × (text : List ℕ) × IsDue words left left_after status text × AppendsPart held held_after text

@@ -1,0 +1,28 @@
+-- THE HEADLINE: what the due text of `sim N` shows of an accepted job.
+use Rattle.std.specs.Prelude.{◌≡◌, ℕ, List, length, Ok}
+use Rattle.kp_ast.specs.declared.tree.Job.{Job}
+use Rattle.kp_stage.specs.Counts.{summary_of}
+use Rattle.kp_stage.specs.Start.{start_of}
+use Rattle.kp_law.specs.Claims.{Moves}
+use Rattle.kp_law.specs.Timeline.{start_hold, timeline_rows}
+use Rattle.kp_machine.specs.Machine.{machine_of, state_of, pipe_of, inputs_from}
+use Rattle.kp_seq.specs.Running.{HasWord}
+use Rattle.kp_sched.specs.Runs.{due_value}
+use Rattle.kp_judge.specs.Judging.{Judges}
+use Rattle.kp_show.specs.Runs.{run_text}
+
+-- The text tells the run of the pipelined machine of the input's job over n cycles of the job's own stall words and samples: its rows, and
+-- the values that the run itself shows, which are those of the sequential machine. The run moves, and without guesses and samples its rows
+-- are those of the timeline: no stall is needless.
+pub record IsLegalRun (n : ℕ) (input text : List ℕ) : Type 0 where
+  pub job : Job
+  pub judged : Judges input (Ok job)
+  pub told : text ≡ run_text job (pipe_of job (inputs_from job 0 n)).rows
+      (λ t a. due_value job (inputs_from job 0 n) (pipe_of job (inputs_from job 0 n)).rows n t a)
+  pub cycles : length (pipe_of job (inputs_from job 0 n)).rows ≡ n
+  pub shown : (t a : ℕ) → HasWord job t a
+      → (pipe_of job (inputs_from job 0 n)).visible n t a ≡ due_value job (inputs_from job 0 n) (pipe_of job (inputs_from job 0 n)).rows n t a
+  pub moves : Moves (machine_of job) (inputs_from job 0 n) (pipe_of job (inputs_from job 0 n))
+  pub no_needless_stall : (summary_of job).guesses ≡ 0 → (summary_of job).samples ≡ 0
+      → (pipe_of job (inputs_from job 0 n)).rows
+      ≡ timeline_rows (machine_of job) (state_of job (start_of job)) start_hold (inputs_from job 0 n)

@@ -1,0 +1,11 @@
+//! What holds of the definitions of this crate. Each function does nothing: its contract is the law.
+ghost use Rattle.std.specs.Prelude.{◌≡◌, ℕ, List, Result};
+ghost use Rattle.kp_base.specs.declared.refusal.Refusal.{Refusal};
+ghost use Rattle.kp_ast.specs.declared.tree.Job.{Job};
+ghost use Rattle.kp_judge.specs.Judging.{Judges};
+
+/// An input has one verdict: one job, or one first broken rule at one place.
+pub fn an_input_has_one_verdict()
+    ensures some { (input : List ℕ) → (verdict : Result Job Refusal) × Judges input verdict }
+    ensures one { (input : List ℕ) (a b : Result Job Refusal) → Judges input a → Judges input b → a ≡ b }
+{}

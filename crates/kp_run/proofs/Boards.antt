@@ -1,0 +1,60 @@
+-- The machines behind a run show what is due.
+use Rattle.std.proofs.Common.{◌≡◌, ◌∙◌, ℕ, ◌+◌, ◌<◌, ◌≤◌, ◌^◌, List, length, get_or, refl, ap, sym, subst, arith}
+use Rattle.std.specs.List.{All}
+use Rattle.kp_base.specs.declared.row.Row.{Row}
+use Rattle.kp_ast.specs.declared.tree.Job.{Job}
+use Rattle.kp_law.specs.Accepted.{Accepted}
+use Rattle.kp_law.specs.Rows as law
+use Rattle.kp_law.specs.Rows.{taken}
+use Rattle.kp_stage.specs.Start.{input, AreSamples}
+use Rattle.kp_machine.specs.Machine.{machine_of, sequential, inputs_from, values_in}
+use Rattle.kp_machine.specs.Slots.{Slot, targets_of}
+use Rattle.kp_sched.specs.Rows.{rows_seen}
+use Rattle.kp_sched.specs.Runs.{passes, due_value}
+use Rattle.kp_sched.proofs.Counting.{seen_length}
+use Rattle.kp_seq.specs.Running.{Running, HasWord, no_slot, state}
+use Rattle.kp_run.specs.Boards.{due_behind, passes_behind}
+use Rattle.kp_run.specs.inner.Boards.{IsBoard}
+use Rattle.kp_run.specs.inner.Columns.{Taken, row_taken, AreColumns}
+use Rattle.kp_run.specs.inner.Lanes.{AreHomes, HaveRun, home_of, lane_state}
+use Rattle.kp_run.proofs.Gathering.{taken_is}
+use Rattle.kp_run.proofs.Machines.{homes_within, home_passes, home_shows, lane_at, default}
+
+pub board_is : (job : Job) (rows : List Row) (columns : List Taken) (machines : List Running) (homes : List ℕ) → Accepted (machine_of job)
+    → ((cycle : ℕ) → AreSamples job.decls (input job cycle)) → AreColumns job rows columns
+    → HaveRun job (λ i. values_in (row_taken columns i)) (rows_seen job.stages.value rows) machines → AreHomes job homes → IsBoard job rows machines homes
+unfolding due_value
+board_is job rows columns machines homes acc given are ran shown =
+    let seen : List law.Row = rows_seen job.stages.value rows in
+    let many : length seen ≡ length rows = seen_length job.stages.value rows in
+    record {
+      homes = shown;
+      count = λ t. omega (arith, homes_within job acc t, ran.count);
+      jobs = ran.jobs;
+      passes = λ t. home_passes job seen acc t ∙ ap (λ (T : ℕ). passes job seen T t) many;
+      values = λ t a.
+          home_shows job seen acc (λ i. values_in (row_taken columns i)) machines ran t a
+          ∙ ap (λ (g : ℕ → ℕ → ℕ). sequential job g (passes job seen (length seen) t) t a) (taken_is job rows columns given are)
+          ∙ ap (λ (T : ℕ). sequential job (taken (machine_of job) (inputs_from job 0 T) seen) (passes job seen T t) t a) many;
+    }
+
+module _ (job : Job) (rows : List Row) (machines : List Running) (homes : List ℕ) (is : IsBoard job rows machines homes) where
+  -- the machine at the home of a target
+  pub home_at : (t d : ℕ) → t < length (targets_of job.decls) → get_or homes t d ≡ home_of job t
+  home_at t d h =
+      let there : t < length homes = omega (arith, h, is.homes.count) in
+      default homes t d there ∙ is.homes.homes t there
+
+  pub machine_shows : (k t a : ℕ) (d : Running) → k ≡ home_of job t → state (get_or machines k d) t a ≡ due_behind job rows t a
+  machine_shows k t a d at =
+      let there : k < length machines = omega (arith, at, is.count t) in
+      ap (λ (s : ℕ → ℕ → ℕ). s t a) (sym (lane_at machines k d there) ∙ ap (lane_state machines) at) ∙ is.values t a
+
+  pub targets_alike : (k : ℕ) (d : Running) → k < length machines → targets_of (get_or machines k d).job.decls ≡ targets_of job.decls
+  targets_alike k d h = is.jobs k d h
+
+pub word_there : (job other : Job) (t a : ℕ) → targets_of other.decls ≡ targets_of job.decls → HasWord job t a → HasWord other t a
+word_there job other t a same has = record {
+  target = subst (λ (ss : List Slot). t < length ss) (sym same) has.target;
+  address = subst (λ (ss : List Slot). a < 2 ^ (get_or ss t no_slot).address) (sym same) has.address;
+}

@@ -1,0 +1,7 @@
+use Rattle.std.proofs.Common.{◌≡◌, length}
+use Rattle.std.specs.Prelude.{take}
+use Rattle.kp_run.specs.inner.Columns.{row_taken}
+use Rattle.kp_run.proofs.lanes.take.Given as goal
+
+abbrev pub invariant-loop-x : goal.invariant-loop-x
+invariant-loop-x l = (length l.room ≡ length l.columns) × (take l.x l.room ≡ take l.x (row_taken l.columns l.i))

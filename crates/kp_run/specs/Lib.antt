@@ -1,0 +1,3 @@
+pub mod Cycles
+pub mod Boards
+pub mod inner

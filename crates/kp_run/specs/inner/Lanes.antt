@@ -1,0 +1,34 @@
+-- The machines behind a run: one for each stage, which runs the instructions that the stage lets pass, and one more that runs none.
+use Rattle.std.specs.Prelude.{◌≡◌, ℕ, zero, suc, ◌+◌, ◌<◌, ◌≤◌, List, [], ◌∷◌, length, get_or, nat_lt, if◌then◌else◌}
+use Rattle.std.specs.List.{All}
+use Rattle.kp_ast.specs.declared.tree.Job.{Job}
+use Rattle.kp_law.specs.Rows.{Row, passed}
+use Rattle.kp_machine.specs.Machine.{machine_of, sequential}
+use Rattle.kp_machine.specs.Slots.{targets_of}
+use Rattle.kp_seq.specs.Running.{Running, state}
+
+-- the state of machine k
+abbrev pub lane_state : List Running → ℕ → ℕ → ℕ → ℕ
+lane_state [] k = λ t a. 0
+lane_state (m ∷ ms) zero = state m
+lane_state (m ∷ ms) (suc k) = lane_state ms k
+
+-- the machine that shows a target: that of its write stage, or the one that runs nothing where the target has no result
+unfoldable pub home_of : Job → ℕ → ℕ
+home_of job t = if (machine_of job).has_result t then (machine_of job).write_stage t else job.stages.value
+
+-- for each target the number of that machine
+pub record AreHomes (job : Job) (given : List ℕ) : Type 0 where
+  pub count : length given ≡ length (targets_of job.decls)
+  pub homes : (t : ℕ) → t < length given → get_or given t 0 ≡ home_of job t
+  pub within : (t : ℕ) → home_of job t ≤ job.stages.value
+
+-- how many instructions machine k has run behind these rows
+abbrev pub lane_passes : Job → List Row → ℕ → ℕ
+lane_passes job rows k = if nat_lt k job.stages.value then passed rows k (length rows) else 0
+
+-- the machines of a job behind these rows, where instructions are given these values of the samples
+pub record HaveRun (job : Job) (given : ℕ → ℕ → ℕ) (rows : List Row) (machines : List Running) : Type 0 where
+  pub count : length machines ≡ job.stages.value + 1
+  pub jobs : All (λ m. targets_of m.job.decls ≡ targets_of job.decls) machines
+  pub states : (k : ℕ) → k ≤ job.stages.value → lane_state machines k ≡ sequential job given (lane_passes job rows k)

@@ -1,0 +1,94 @@
+// The sequential machines behind a run.
+ghost use Rattle.std.specs.Prelude.{◌≡◌, ℕ, ◌+◌, ◌<◌, ◌≤◌, List, length, IfOk};
+ghost use Rattle.std.specs.List.{All};
+ghost use Rattle.kp_base.specs.declared.row.Row.{Row};
+ghost use Rattle.kp_law.specs.Sequential.{seq};
+ghost use Rattle.kp_stage.specs.Start.{AreSamples};
+ghost use Rattle.kp_machine.specs.Machine.{machine_of, sequential, values_in};
+ghost use Rattle.kp_sched.specs.Monitors.{HasSeen};
+ghost use Rattle.kp_sched.specs.Rows.{rows_seen};
+ghost use Rattle.kp_seq.specs.Running.{state};
+ghost use Rattle.kp_run.specs.inner.Columns.{AreColumns, row_taken};
+ghost use Rattle.kp_run.specs.inner.Lanes.{HaveRun};
+
+use crate::columns::Column;
+use kp_base::NoMemory;
+use kp_bits::Bits;
+use kp_judge::Accepted;
+use kp_sched::Monitor;
+use kp_seq::SeqMachine;
+use std::alloc::Global;
+
+/// For each stage the machine after the instructions that the stage let pass, by the monitor, and one that ran none. Instruction i takes
+/// word i of each column.
+pub(crate) fn machines_after<'a>(
+    alloc: Global,
+    job: &'a Accepted,
+    monitor: &Monitor,
+    columns: &[Column],
+) -> Result<Vec<SeqMachine<'a>>, NoMemory>
+    requires stages { monitor.now.stages ≡ job.now.design.job.stages.value }
+    requires samples { (i : ℕ) → AreSamples job.now.design.job.decls (row_taken columns.now i) }
+    ensures run { IfOk result (λ ms. (rows : List Row) → HasSeen monitor.now rows
+        → HaveRun job.now.design.job (λ i. values_in (row_taken columns.now i)) (rows_seen job.now.design.job.stages.value rows) ms.items) }
+    ensures jobs { IfOk result (λ ms. All (λ m. m.job ≡ job.now.design.job) ms.items) }
+{
+    // What the type keeps of the job, for the proof alone.
+    let _kept = job.design.job();
+    let mut kept = job.sections.inputs.row(alloc, 0)?;
+    let room = kept.as_mut_slice();
+    let mut machines = Vec::new(alloc);
+    let stages = monitor.stages();
+    for k in 0..stages {
+        let count = monitor.passed(k);
+        machines.push(machine_after(alloc, job, columns, room, count)?)?;
+    }
+    machines.push(machine_after(alloc, job, columns, room, 0)?)?;
+    Ok(machines)
+}
+
+// The machine of a job after so many instructions. There is room for the words that one of them takes.
+fn machine_after<'a>(
+    alloc: Global,
+    job: &'a Accepted,
+    columns: &[Column],
+    room: &mut [Bits],
+    count: u64,
+) -> Result<SeqMachine<'a>, NoMemory>
+    requires room { length room.old ≡ length columns.now }
+    requires samples { (i : ℕ) → AreSamples job.now.design.job.decls (row_taken columns.now i) }
+    ensures room { length room.new ≡ length room.old }
+    ensures job { IfOk result (λ m. m.job ≡ job.now.design.job) }
+    ensures state { IfOk result (λ m. state m ≡ sequential job.now.design.job (λ i. values_in (row_taken columns.now i)) count) }
+{
+    let design = &job.design;
+    // What the type keeps of the job, for the proof alone.
+    let _kept = design.job();
+    let mut machine = SeqMachine::open(alloc, design, &job.sections.start)?;
+    advance(&mut machine, columns, room, count);
+    Ok(machine)
+}
+
+// Runs so many instructions.
+fn advance(machine: &mut SeqMachine<'_>, columns: &[Column], room: &mut [Bits], count: u64)
+    requires room { length room.old ≡ length columns.now }
+    requires samples { (i : ℕ) → AreSamples machine.old.job.decls (row_taken columns.now i) }
+    ensures room { length room.new ≡ length room.old }
+    ensures job { machine.new.job ≡ machine.old.job }
+    ensures state { state machine.new ≡ seq (machine_of machine.old.job) (state machine.old) (λ i. values_in (row_taken columns.now i)) count }
+{
+    for i in 0..count {
+        take(columns, i, room);
+        machine.step_with(room);
+    }
+}
+
+// The words that an instruction takes.
+fn take(columns: &[Column], i: u64, room: &mut [Bits])
+    requires { length room.old ≡ length columns.now }
+    ensures { room.new ≡ row_taken columns.now i }
+{
+    for x in 0..room.len() {
+        room[x] = columns[x].word(i);
+    }
+}

@@ -1,0 +1,4 @@
+pub mod Texts
+pub mod States
+pub mod Runs
+pub mod inner

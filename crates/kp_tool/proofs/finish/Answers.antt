@@ -1,0 +1,18 @@
+use Rattle.kp_tool.proofs.IfOks.{if_ok_map}
+use Rattle.kp_tool.proofs.Ends.{finishes, breaks_off}
+use Rattle.kp_tool.proofs.finish.Goals as goal
+
+pub returns-in-Ok-clause-due : goal.returns-in-Ok-clause-due
+returns-in-Ok-clause-due g c =
+    if_ok_map c.told.result _ _ (λ status is. finishes c.args.answer.now c.in-Ok.ready _ _ status c.in-Ok.ensures is.0 is.1) c.told.ensures.due
+
+pub returns-in-Ok-clause-no_read_fault : goal.returns-in-Ok-clause-no_read_fault
+returns-in-Ok-clause-no_read_fault g c = c.told.ensures.no_read_fault
+
+pub returns-in-Ok-clause-write_fault : goal.returns-in-Ok-clause-write_fault
+returns-in-Ok-clause-write_fault g c is =
+    let fault = c.told.ensures.write_fault is in
+    (fault.0, breaks_off c.args.answer.now c.in-Ok.ready _ _ c.in-Ok.ensures fault.1)
+
+pub returns-in-Ok-clause-no_memory : goal.returns-in-Ok-clause-no_memory
+returns-in-Ok-clause-no_memory g c is = absurd (c.told.ensures.no_memory is)

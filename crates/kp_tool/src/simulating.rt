@@ -1,0 +1,24 @@
+// The pipelined machine of a job, run.
+ghost use Rattle.std.specs.Prelude.{◌≡◌, IfOk};
+ghost use Rattle.kp_sched.specs.Rows.{rows_seen};
+ghost use Rattle.kp_run.specs.Boards.{due_behind};
+ghost use Rattle.kp_show.specs.Runs.{run_text, sim_text};
+
+use kp_base::NoMemory;
+use kp_judge::Accepted;
+use kp_run::laws::a_run_tells_of_the_pipeline;
+use kp_run::{Board, board_of};
+use kp_synth::synth;
+use std::alloc::Global;
+
+/// The run of the job's pipelined machine over so many cycles, with the values that are due behind it. Its netlist is gone when this ends.
+pub fn simulated(alloc: Global, count: u32, job: &Accepted) -> Result<Board<'_>, NoMemory>
+    ensures { IfOk result (λ b. run_text b.design.now.job (rows_seen b.design.now.job.stages.value b.cycles.rows.items)
+        (due_behind b.design.now.job b.cycles.rows.items) ≡ sim_text count job.now.design.job) }
+{
+    // What the type keeps of the job, for the proof alone.
+    let _kept = job.design.job();
+    let net = synth(alloc, &job.design, &job.sections.start)?;
+    a_run_tells_of_the_pipeline(job);
+    board_of(alloc, job, &net, count)
+}

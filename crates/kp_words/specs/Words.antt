@@ -1,0 +1,46 @@
+-- The lists of words that are accepted.
+use Rattle.std.specs.Prelude.{◌==◌, ◌||◌, ℕ, Bool, true, false, List, [], ◌∷◌, length, nat_le, if◌then◌else◌, codes, Option, Some, None, option_and_then}
+use Rattle.std.specs.Str.{bytes_eq}
+use Rattle.kp_bits.specs.Literals.{number_of}
+use Rattle.kp_words.specs.declared.words.Command.{Command}
+use Rattle.kp_words.specs.declared.words.Command.TheVariants.{OnJob, Assemble}
+use Rattle.kp_words.specs.declared.words.JobCommand.TheVariants.{Seq, Check, Sim}
+
+abbrev pub at_most : ℕ → ℕ → Option ℕ
+at_most most number = if nat_le number most then Some number else None
+
+-- the number of 1 to 20 decimal digits, leading zeros among them, up to 100,000
+unfoldable pub count_of : List ℕ → Option ℕ
+count_of word = if nat_le (length word) 20 then option_and_then (at_most 100000) (number_of word) else None
+
+-- the command of this name with a count
+abbrev pub counted_command : List ℕ → ℕ → Option Command
+counted_command name count =
+    if bytes_eq name (codes "seq") then Some (OnJob (Seq count))
+    else (if bytes_eq name (codes "sim") then Some (OnJob (Sim count)) else None)
+
+-- the command of this name alone
+abbrev pub plain_command : List ℕ → Option Command
+plain_command name =
+    if bytes_eq name (codes "check") then Some (OnJob Check)
+    else (if bytes_eq name (codes "asm") then Some Assemble else None)
+
+-- the command of an accepted list
+abbrev pub command_of : List (List ℕ) → Option Command
+command_of (name ∷ []) = plain_command name
+command_of (name ∷ count ∷ []) = option_and_then (counted_command name) (count_of count)
+command_of _ = None
+
+-- the commands that read the source
+abbrev pub reads_input : Option Command → Bool
+reads_input None = false
+reads_input (Some command) = true
+
+-- the word begins with `-`
+abbrev pub begins_with_dash : List ℕ → Bool
+begins_with_dash [] = false
+begins_with_dash (c ∷ cs) = c == 45
+
+-- the words that are in no accepted list, whatever stands beside them
+abbrev pub is_barred : List ℕ → Bool
+is_barred word = begins_with_dash word || bytes_eq word (codes "help")

@@ -1,0 +1,172 @@
+// The words of a command line.
+ghost use Rattle.std.specs.Prelude.{◌≡◌, map, string_bytes, option_map, Ok, None, IfOk, true, false};
+ghost use Rattle.std.specs.List.{list_any};
+ghost use Rattle.clap.specs.Words.{app_of, shape_of, subcommand_rows_of};
+ghost use Rattle.clap.specs.declared.builder.command.Command.TheViews.{out-Command};
+ghost use Rattle.kp_words.specs.Words.{is_barred, plain_command, counted_command, command_of, count_of};
+ghost use Rattle.kp_words.specs.inner.Matching.{job_forms, known_forms, program_of, shape_of_form, command_by, command_of_rows};
+
+use clap::error::ErrorKind;
+use clap::{Arg, ArgMatches};
+use kp_base::NoMemory;
+use kp_bits::read_number;
+use std::alloc::{AllocError, Global};
+
+/// The greatest number of instructions and of cycles.
+const MOST_COUNT: u32 = 100_000;
+
+/// What is to be done with a job.
+#[derive(Clone, Copy, Debug, PartialEq, Eq)]
+pub enum JobCommand {
+    /// The state after so many instructions.
+    Seq(u32),
+    /// One line of counts.
+    Check,
+    /// The rows of so many cycles of the pipelined machine, with the counts and the state after them.
+    Sim(u32),
+}
+
+/// What is to be done, by what is read for it.
+#[derive(Clone, Copy, Debug, PartialEq, Eq)]
+pub enum Command {
+    /// A job is read.
+    OnJob(JobCommand),
+    /// An assembler program is read: `asm`.
+    Assemble,
+}
+
+impl Command {
+    /// The command of an accepted list of words, and `None` of any other list. An error only where no memory was found;
+    /// a list with a word that begins with `-` or is `help` needs none.
+    pub fn of(alloc: Global, words: &[String]) -> Result<Option<Self>, NoMemory>
+        ensures command { IfOk result (λ command. command ≡ command_of (map string_bytes words.now)) }
+        ensures barred { list_any (λ word. is_barred (string_bytes word)) words.now ≡ true → result ≡ Ok None }
+    {
+        if has_barred(words) {
+            return Ok(None);
+        }
+        match program(alloc)?.try_get_matches_from(words) {
+            Ok(matches) => Ok(Self::of_matches(&matches)),
+            Err(error) if error.kind() == ErrorKind::OutOfMemory => Err(NoMemory),
+            Err(_) => Ok(None),
+        }
+    }
+
+    // The command that was matched.
+    fn of_matches(matches: &ArgMatches<'_>) -> Option<Self>
+        ensures { result ≡ command_of_rows (subcommand_rows_of matches.now) }
+    {
+        let (name, found) = matches.subcommand()?;
+        Self::by(name, found.get_str("number"))
+    }
+
+    // The command of this name, and of a number word if there is one.
+    fn by(name: &str, number: Option<&str>) -> Option<Self>
+        ensures { result ≡ command_by name.now (option_map (λ word. word.now) number.entry) }
+    {
+        match number {
+            None => Self::plain(name),
+            Some(number) => Self::counted(name, count_of(number.as_bytes())?),
+        }
+    }
+
+    // The command of this name with a count.
+    fn counted(name: &str, count: u32) -> Option<Self>
+        ensures { result ≡ counted_command name.now count }
+    {
+        match name {
+            "seq" => Some(Command::OnJob(JobCommand::Seq(count))),
+            "sim" => Some(Command::OnJob(JobCommand::Sim(count))),
+            _ => None,
+        }
+    }
+
+    // The command of this name alone.
+    fn plain(name: &str) -> Option<Self>
+        ensures { result ≡ plain_command name.now }
+    {
+        match name {
+            "check" => Some(Command::OnJob(JobCommand::Check)),
+            "asm" => Some(Command::Assemble),
+            _ => None,
+        }
+    }
+}
+
+// One of the words is refused before the match.
+fn has_barred(words: &[String]) -> bool
+    ensures { result ≡ list_any (λ word. is_barred (string_bytes word)) words.now }
+{
+    words.iter().any(|word| is_barred(word.as_str()))
+}
+
+// The word begins with `-`, or is `help`, so it is in no command.
+fn is_barred(word: &str) -> bool
+    ensures { result ≡ is_barred word.now }
+{
+    matches!(word.as_bytes(), [b'-', ..]) || word == "help"
+}
+
+// The program, with each command as a subcommand. It answers to no call for help.
+fn program<'a>(alloc: Global) -> Result<clap::Command<'a>, AllocError>
+    ensures { IfOk result (λ program. app_of program ≡ program_of known_forms) }
+{
+    with_pipeline(alloc, with_jobs(alloc)?)
+}
+
+// The program, with the commands that run no pipeline.
+fn with_jobs<'a>(alloc: Global) -> Result<clap::Command<'a>, AllocError>
+    ensures { IfOk result (λ program. app_of program ≡ program_of job_forms) }
+{
+    clap::Command::new(alloc, "kp")
+        .no_binary_name(true)
+        .disable_help_flag(true)
+        .disable_help_subcommand(true)
+        .subcommand(with_number(alloc, "seq")?)?
+        .subcommand(alone(alloc, "check"))?
+        .subcommand(alone(alloc, "asm"))
+}
+
+// The same program, and those that run one.
+fn with_pipeline<'a>(
+    alloc: Global,
+    program: clap::Command<'a>,
+) -> Result<clap::Command<'a>, AllocError>
+    requires { app_of program ≡ program_of job_forms }
+    ensures { IfOk result (λ program. app_of program ≡ program_of known_forms) }
+{
+    program.subcommand(with_number(alloc, "sim")?)
+}
+
+// The command of this name and a number word.
+fn with_number<'a>(alloc: Global, name: &'a str) -> Result<clap::Command<'a>, AllocError>
+    ensures shape { IfOk result (λ command. shape_of command
+        ≡ shape_of_form (record { name = name.entry.now; has_number = true })) }
+    ensures local { IfOk result (λ command. (out-Command command).has_globals ≡ false) }
+{
+    alone(alloc, name).arg(Arg::new(alloc, "number").required(true))
+}
+
+// The command of this name alone.
+fn alone<'a>(alloc: Global, name: &'a str) -> clap::Command<'a>
+    ensures shape { shape_of result ≡ shape_of_form (record { name = name.entry.now; has_number = false }) }
+    ensures local { (out-Command result).has_globals ≡ false }
+{
+    clap::Command::new(alloc, name)
+}
+
+// The number that a word of 1 to 20 decimal digits gives, up to 100,000.
+#[tactic(auto, unfolding(crate::specs::Words::count_of))]
+fn count_of(word: &[u8]) -> Option<u32>
+    ensures { result ≡ count_of word.now }
+{
+    if word.len() > 20 {
+        return None;
+    }
+    let number = read_number(word)?;
+    if number <= u64::from(MOST_COUNT) {
+        Some(number as u32)
+    } else {
+        None
+    }
+}
