@@ -1,0 +1,14 @@
+//! The module of a Verilog text, or the first wrong token.
+#![tactic(auto)]
+
+mod edges;
+mod fault;
+mod inits;
+mod items;
+mod module;
+mod parse;
+mod ports;
+mod rights;
+mod tokens;
+
+pub use parse::vparse;

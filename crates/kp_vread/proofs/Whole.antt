@@ -1,0 +1,27 @@
+-- The netlist of a module that breaks no rule.
+use Rattle.std.proofs.Common.{◌≡◌, ◌∙◌, ℕ, ◌≤◌, List, length, None, sym, ap, subst}
+use Rattle.kp_net.specs.declared.node.Node.{Node}
+use Rattle.kp_net.specs.declared.netlist.Parts.{Parts}
+use Rattle.kp_net.specs.Netlist.{Net}
+use Rattle.kp_net.specs.Parts.{NetOk}
+use Rattle.kp_vlog.specs.declared.tree.VModule.{VModule}
+use Rattle.kp_vlog.specs.Scope.{scope_of, sizes_of}
+use Rattle.kp_vlog.specs.Rules.{broken}
+use Rattle.kp_vlog.specs.Denote.{made_by, parts_of, net_of}
+use Rattle.kp_vlog.proofs.Sound.{sound}
+use Rattle.kp_vrules.specs.Tables.{AlikeSizes}
+use Rattle.kp_vread.specs.inner.Numbering.{Numbered, AreNumbered}
+use Rattle.kp_vread.specs.inner.Building.{Numbers, IsScope, IsMade}
+
+net : List Node → Parts → Net
+net nodes parts = record { nodes = nodes; parts = parts }
+
+pub net_same : (m : VModule) (t : Numbers) (wires : Numbered) (nodes : List Node) (parts : Parts) → IsScope t (scope_of m) → IsMade wires nodes (made_by (scope_of m) m.items)
+    → ((ks : List (List ℕ)) → AreNumbered wires ks → AlikeSizes t.sizes (sizes_of m) → parts ≡ parts_of ks m) → record { nodes = nodes; parts = parts } ≡ net_of m
+unfolding net_of net
+net_same m t wires nodes parts s h p =
+    let made = made_by (scope_of m) m.items in
+    ap (λ ns. net ns parts) h.nodes ∙ ap (net made.nodes) (p made.wires h.wires s.sizes)
+
+pub net_ok : (m : VModule) (n : Net) → length m.samples ≤ 16777216 → length m.items ≤ 16777216 → broken m ≡ None → n ≡ net_of m → NetOk n
+net_ok m n few more b e = subst NetOk (sym e) (sound m (record { items = more; samples = few }) b)

@@ -1,0 +1,43 @@
+use Rattle.std.proofs.Common.{◌∙◌, List, All, refl, sym, subst}
+use Rattle.kp_vlog.specs.declared.tree.Item.{Item}
+use Rattle.kp_vlog.specs.Scope.{scope_of}
+use Rattle.kp_vlog.specs.Denote.{made_by, net_of}
+use Rattle.kp_vlog.proofs.Sound.{holds}
+use Rattle.kp_vread.specs.inner.Building.{ItemFits, IsMade}
+use Rattle.kp_vread.proofs.Fitting.{narrow, all_fit, ext_fits, samples_fit, started}
+use Rattle.kp_vread.proofs.Whole.{net_same, net_ok}
+use Rattle.kp_vread.proofs.build.build.Goals as goal
+
+pub new-requires-2-clause-fit : goal.new-requires-2-clause-fit
+new-requires-2-clause-fit c = subst (λ (xs : List Item). All ItemFits xs) (sym c.as_slice.ensures) (all_fit c.args.whole.now (holds c.args.whole.now c.requires.sound))
+
+pub new-requires-2-clause-narrow : goal.new-requires-2-clause-narrow
+new-requires-2-clause-narrow c = narrow c.args.whole.now (holds c.args.whole.now c.requires.sound) c.in_ok-numbers.numbers.sizes c.in_ok-numbers.ensures.sizes
+
+pub parts-requires-clause-narrow : goal.parts-requires-clause-narrow
+parts-requires-clause-narrow c = narrow c.args.whole.now (holds c.args.whole.now c.requires.sound) c.in_ok-numbers.numbers.sizes c.in_ok-numbers.ensures.sizes
+
+pub parts-requires-clause-ext : goal.parts-requires-clause-ext
+parts-requires-clause-ext c = ext_fits c.args.whole.now (holds c.args.whole.now c.requires.sound)
+
+pub parts-requires-clause-samples : goal.parts-requires-clause-samples
+parts-requires-clause-samples c = samples_fit c.args.whole.now (holds c.args.whole.now c.requires.sound)
+
+pub parts-requires-clause-regs : goal.parts-requires-clause-regs
+parts-requires-clause-regs c = started c.args.whole.now (net_ok c.args.whole.now (net_of c.args.whole.now) c.requires.samples c.requires.items c.requires.sound refl)
+
+pub from_nodes-requires : goal.from_nodes-requires
+from_nodes-requires c =
+    let m = c.args.whole.now in
+    let made = c.in_ok-made.made in
+    net_ok m _ c.requires.samples c.requires.items c.requires.sound
+    (net_same m c.in_ok-numbers.numbers made.wires made.nodes.items c.in_ok-parts.parts c.in_ok-numbers.ensures
+    (subst (λ (xs : List Item). IsMade made.wires made.nodes.items (made_by (scope_of m) xs)) c.as_slice.ensures (c.in_ok-made.ensures (scope_of m) c.in_ok-numbers.ensures)) c.in_ok-parts.ensures)
+
+pub returns : goal.returns
+returns c =
+    let m = c.args.whole.now in
+    let made = c.in_ok-made.made in
+    c.from_nodes.ensures
+    ∙ net_same m c.in_ok-numbers.numbers made.wires made.nodes.items c.in_ok-parts.parts c.in_ok-numbers.ensures
+    (subst (λ (xs : List Item). IsMade made.wires made.nodes.items (made_by (scope_of m) xs)) c.as_slice.ensures (c.in_ok-made.ensures (scope_of m) c.in_ok-numbers.ensures)) c.in_ok-parts.ensures

@@ -1,0 +1,17 @@
+use Rattle.std.proofs.Common.{ℕ, List, subst, arith}
+use Rattle.std.proofs.lemmas.List.{take_all}
+use Rattle.kp_vlog.specs.declared.tree.Item.{Item}
+use Rattle.kp_vlog.specs.Scope.{file_names}
+use Rattle.kp_vread.specs.inner.Numbering.{AreNumbered}
+use Rattle.kp_vread.proofs.Numbering.{more_files}
+use Rattle.kp_vread.proofs.numbers.file_places.Goals as goal
+
+pub loop-item-preserved : goal.loop-item-preserved
+loop-item-preserved c = (
+  omega (arith, c.in_ok-add_file.ensures.count, c.loop-item.invariant.0),
+  subst (λ (ks : List (List ℕ)). AreNumbered c.add_file.new.places ks) (more_files c.args.items.now c.loop-item.item-index c.item-item.result c.loop-item-test.true c.item-item.is)
+      (c.in_ok-add_file.ensures.numbered _ c.loop-item.invariant.1),
+)
+
+pub returns : goal.returns
+returns c = subst (λ (xs : List Item). AreNumbered c.loop-item.places (file_names xs)) (take_all c.loop-item.item-index c.args.items.now (omega (arith, c.loop-item-test.false))) c.loop-item.invariant.1

@@ -1,0 +1,20 @@
+-- The next values of registers, as a table has them.
+use Rattle.std.specs.Prelude.{ℕ, ◌≡◌, List, Option, Some, None}
+use Rattle.std.specs.Map.{lookup}
+use Rattle.kp_net.specs.declared.node.NodeId.{NodeId}
+use Rattle.kp_net.specs.Names.{same}
+use Rattle.kp_vlog.specs.declared.tree.Update.{Update}
+use Rattle.kp_vlog.specs.Denote.{next_of}
+use Rattle.kp_vread.specs.inner.Numbering.{Numbered, AreNumbered}
+
+abbrev pub node_or_first : Option NodeId → NodeId
+node_or_first None = record { 0 = 0 }
+node_or_first (Some a) = a
+
+-- the node that a table has for a register
+abbrev pub next_by : List (List ℕ × NodeId) → List ℕ → NodeId
+next_by entries n = node_or_first (lookup (same n) entries)
+
+-- The table has the next values that the updates give, where wires are numbered so.
+pub record AreNexts (wires : Numbered) (entries : List (List ℕ × NodeId)) (xs : List Update) : Type 0 where
+  pub nexts : (ks : List (List ℕ)) → AreNumbered wires ks → (n : List ℕ) → next_by entries n ≡ next_of ks xs n

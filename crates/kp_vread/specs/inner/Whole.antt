@@ -1,0 +1,13 @@
+-- What reading the module of a text answers.
+use Rattle.std.specs.Prelude.{ℕ, List, drop, Result, Ok, Err, ⊤}
+use Rattle.kp_base.specs.declared.refusal.Refused.{Refused}
+use Rattle.kp_base.specs.declared.refusal.Refused.TheVariants as refused
+use Rattle.kp_vlog.specs.declared.tree.VModule.{VModule}
+use Rattle.kp_vlog.specs.Denote.{IsModule}
+use Rattle.kp_vlog.specs.Verdict.{IsRefused}
+
+-- the module of a text from an offset on, or V1 or V2; and memory may run out
+abbrev pub AnswersWhole : List ℕ → ℕ → Result VModule Refused → Type 0
+AnswersWhole text from (Ok m) = IsModule from (drop from text) m
+AnswersWhole text from (Err (refused.Rule r)) = IsRefused text from r
+AnswersWhole text from (Err refused.NoMemory) = ⊤

@@ -1,0 +1,103 @@
+// What the names of a module stand for, by tables.
+ghost use Rattle.std.specs.Prelude.{◌+◌, ◌-◌, ◌^◌, ◌<◌, ◌≤◌, ◌++◌, ◌∷◌, [], ℕ, List, length, map, IfOk, OnOk};
+ghost use Rattle.kp_vlog.specs.Scope.{scope_of, reg_names, file_names};
+ghost use Rattle.kp_vread.specs.inner.Numbering.{AreNumbered};
+ghost use Rattle.kp_vread.specs.inner.Building.{IsScope};
+
+use crate::places::Places;
+use kp_base::NoMemory;
+use kp_vlog::{Item, VModule, VPort};
+use kp_vrules::Sizes;
+use std::alloc::Global;
+use std::marker::Model;
+
+#[derive(Drop)]
+pub(crate) struct Numbers<'m> {
+    pub sizes: Sizes<'m>,
+    pub samples: Places<'m>,
+    pub regs: Places<'m>,
+    pub files: Places<'m>,
+}
+
+impl<'m> Model for Numbers<'m> {
+    ghost use Rattle.kp_vread.specs.inner.Building.{Numbers as Listed};
+
+    ghost Value = { Listed };
+
+    ghost view = { λ n. record { sizes = n.sizes; samples = n.samples; regs = n.regs; files = n.files } };
+}
+
+impl<'m> Numbers<'m> {
+    // The numbers of the names of a module.
+    pub fn new(alloc: Global, whole: &'m VModule) -> Result<Numbers<'m>, NoMemory>
+        requires samples { length whole.now.samples ≤ 16777216 }
+        requires items { length whole.now.items ≤ 16777216 }
+        ensures { IfOk result (λ n. IsScope n (scope_of whole.now)) }
+    {
+        let sizes = Sizes::new(alloc, whole)?;
+        let samples = sample_places(alloc, whole.samples.as_slice())?;
+        let regs = reg_places(alloc, whole.items.as_slice())?;
+        let files = file_places(alloc, whole.items.as_slice())?;
+        Ok(Numbers {
+            sizes,
+            samples,
+            regs,
+            files,
+        })
+    }
+}
+
+fn sample_places<'m>(alloc: Global, ports: &'m [VPort]) -> Result<Places<'m>, NoMemory>
+    requires { length ports.now ≤ 16777216 }
+    ensures { IfOk result (λ p. AreNumbered p (map (λ p. p.port.name) ports.now)) }
+{
+    let mut places = Places::new(alloc);
+    for port in ports {
+        places.add(&port.port.name)?;
+    }
+    Ok(places)
+}
+
+fn reg_places<'m>(alloc: Global, items: &'m [Item]) -> Result<Places<'m>, NoMemory>
+    requires { length items.now ≤ 16777216 }
+    ensures { IfOk result (λ p. AreNumbered p (reg_names items.now)) }
+{
+    let mut places = Places::new(alloc);
+    for item in items {
+        add_reg(&mut places, item)?;
+    }
+    Ok(places)
+}
+
+fn file_places<'m>(alloc: Global, items: &'m [Item]) -> Result<Places<'m>, NoMemory>
+    requires { length items.now ≤ 16777216 }
+    ensures { IfOk result (λ p. AreNumbered p (file_names items.now)) }
+{
+    let mut places = Places::new(alloc);
+    for item in items {
+        add_file(&mut places, item)?;
+    }
+    Ok(places)
+}
+
+fn add_reg<'m>(places: &mut Places<'m>, item: &'m Item) -> Result<(), NoMemory>
+    requires { places.old.count < 2 ^ 32 - 1 }
+    ensures numbered { OnOk result ((ks : List (List ℕ)) → AreNumbered places.old ks → AreNumbered places.new (ks ++ reg_names (item.now ∷ []))) }
+    ensures count { OnOk result (places.new.count ≤ places.old.count + 1) }
+{
+    match item {
+        Item::Reg(_, name) => places.add(&name.name),
+        _ => Ok(()),
+    }
+}
+
+fn add_file<'m>(places: &mut Places<'m>, item: &'m Item) -> Result<(), NoMemory>
+    requires { places.old.count < 2 ^ 32 - 1 }
+    ensures numbered { OnOk result ((ks : List (List ℕ)) → AreNumbered places.old ks → AreNumbered places.new (ks ++ file_names (item.now ∷ []))) }
+    ensures count { OnOk result (places.new.count ≤ places.old.count + 1) }
+{
+    match item {
+        Item::File(_, name, _) => places.add(&name.name),
+        _ => Ok(()),
+    }
+}

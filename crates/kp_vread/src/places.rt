@@ -1,0 +1,66 @@
+// Names by their numbers, found in about constant time.
+ghost use Rattle.std.specs.Prelude.{◌≡◌, ◌+◌, ◌<◌, ◌-◌, ◌^◌, ◌++◌, ◌∷◌, [], ℕ, List, OnOk};
+ghost use Rattle.kp_vread.specs.inner.Numbering.{place_by, AreNumbered};
+
+use indexmap::IndexMap;
+use kp_base::NoMemory;
+use kp_net::Label;
+use kp_vrules::Key;
+use std::alloc::Global;
+use std::marker::Model;
+
+#[derive(Drop)]
+pub(crate) struct Places<'m> {
+    table: IndexMap<Key<'m>, u32>,
+    count: u32,
+}
+
+impl<'m> Model for Places<'m> {
+    ghost use Rattle.kp_vread.specs.inner.Numbering.{Numbered};
+
+    ghost Value = { Numbered };
+
+    ghost view = { λ p. record { entries = p.table.entries; count = p.count } };
+}
+
+impl<'m> Places<'m> {
+    #[tactic(auto, using(crate::proofs::Numbering::none_numbered))]
+    pub fn new(alloc: Global) -> Places<'m>
+        ensures numbered { AreNumbered result [] }
+        ensures count { result.count ≡ 0 }
+    {
+        Places {
+            table: IndexMap::new(alloc),
+            count: 0,
+        }
+    }
+
+    // The number of a name: how many came before it.
+    pub fn place(&self, name: &'m Label) -> u32
+        ensures { result ≡ place_by self.now name.now }
+    {
+        match self.table.get(&Key::new(name)) {
+            Some(place) => *place,
+            None => self.count,
+        }
+    }
+
+    // One name more; where it came before, it keeps its number.
+    pub fn add(&mut self, name: &'m Label) -> Result<(), NoMemory>
+        requires { self.old.count < 2 ^ 32 - 1 }
+        ensures numbered { OnOk result ((ks : List (List ℕ)) → AreNumbered self.old ks → AreNumbered self.new (ks ++ name.now ∷ [])) }
+        ensures count { OnOk result (self.new.count ≡ self.old.count + 1) }
+    {
+        match self.table.get(&Key::new(name)).copied() {
+            Some(_) => {
+                self.count += 1;
+                Ok(())
+            }
+            None => {
+                self.table.insert(Key::new(name), self.count)?;
+                self.count += 1;
+                Ok(())
+            }
+        }
+    }
+}

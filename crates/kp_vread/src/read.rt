@@ -1,0 +1,37 @@
+// Reading a text.
+ghost use Rattle.std.specs.Prelude.{◌≡◌, ◌≤◌, ◌-◌, ◌^◌, Ok, Err, length, MatchResult};
+ghost use Rattle.kp_vlog.specs.Verdict.{AnswersNet};
+ghost use Rattle.kp_vread.specs.inner.Whole.{AnswersWhole};
+
+use crate::build::build;
+use kp_base::Refused;
+use kp_net::Netlist;
+use kp_vlog::{VModule, vlex};
+use kp_vparse::vparse;
+use kp_vrules::check_module;
+use std::alloc::Global;
+
+/// The netlist that a Verilog text denotes from an offset on. Nodes are the wires of the text in the order of their assignments, each one kept.
+///
+/// Refuses V1 where no token begins, else V2 at the first token behind which no module goes on, else the first of V3, V4 and V5 that the
+/// module breaks, each at its first place. Places count from the start of the text.
+pub fn read_verilog(alloc: Global, text: &[u8], from: u32) -> Result<Netlist, Refused>
+    requires within { from ≤ length text.now }
+    requires fits { length text.now ≤ 16777216 }
+    ensures { MatchResult result (λ net. AnswersNet text.now from (Ok net)) (λ refused. AnswersNet text.now from (Err refused)) }
+{
+    let whole = read_module(alloc, text, from)?;
+    check_module(alloc, text, &whole)?;
+    let netlist = build(alloc, &whole)?;
+    Ok(netlist)
+}
+
+// The module of a text.
+fn read_module(alloc: Global, text: &[u8], from: u32) -> Result<VModule, Refused>
+    requires within { from ≤ length text.now }
+    requires fits { length text.now ≤ 2 ^ 32 - 2 }
+    ensures { MatchResult result (λ m. AnswersWhole text.now from (Ok m)) (λ refused. AnswersWhole text.now from (Err refused)) }
+{
+    let tokens = vlex(alloc, text, from)?;
+    vparse(alloc, text, tokens.as_slice())
+}

@@ -1,0 +1,8 @@
+pub mod Sets
+pub mod Turns
+pub mod Drives
+pub mod AllDriven
+pub mod Starting
+pub mod Breaking
+pub mod Firsts
+pub mod Sizing

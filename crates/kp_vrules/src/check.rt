@@ -1,0 +1,52 @@
+// The rules V3 to V5 of a module.
+ghost use Rattle.std.specs.Prelude.{◌≡◌, ◌≤◌, ◌-◌, ◌^◌, None, length, MatchResult};
+ghost use Rattle.kp_vlog.specs.Rules.{broken};
+ghost use Rattle.kp_vrules.specs.Broken.{IsBroken};
+ghost use Rattle.kp_vrules.specs.inner.Refusing.{refusal_at};
+
+use crate::driver_rule::check_module_drivers;
+use crate::fault::Fault;
+use crate::name_rule::check_names;
+use crate::names::Names;
+use crate::width_rule::check_widths;
+use kp_base::{Refusal, Refused, place_of};
+use kp_vlog::VModule;
+use std::alloc::Global;
+
+/// Whether a module of the text breaks none of the rules V3 to V5.
+///
+/// Refuses the first of V3, V4 and V5 that it breaks, at the first place in the text where it does. Places count from the start of the text.
+pub fn check_module(alloc: Global, text: &[u8], whole: &VModule) -> Result<(), Refused>
+    requires { length text.now ≤ 2 ^ 32 - 2 }
+    ensures { MatchResult result (λ _. broken whole.now ≡ None) (IsBroken text.now whole.now) }
+{
+    let names = Names::new(alloc, whole)?;
+    if let Err(fault) = check_names(alloc, &names) {
+        return Err(refuse(text, 3, fault));
+    }
+    if let Err(fault) = check_widths(alloc, whole) {
+        return Err(refuse(text, 4, fault));
+    }
+    if let Err(fault) = check_module_drivers(alloc, whole, &names) {
+        return Err(refuse(text, 5, fault));
+    }
+    Ok(())
+}
+
+// A rule that is broken at an offset. No offset lies behind the text; if one did, its place would be the end.
+fn refuse(text: &[u8], rule: u8, fault: Fault) -> Refused
+    requires { length text.now ≤ 2 ^ 32 - 2 }
+    ensures { result ≡ refusal_at text.now rule fault }
+{
+    match fault {
+        Fault::Broken(at) => {
+            let end = text.len() as u32;
+            if at < end {
+                Refused::Rule(Refusal::v(rule, place_of(text, at)))
+            } else {
+                Refused::Rule(Refusal::v(rule, place_of(text, end)))
+            }
+        }
+        Fault::NoMemory => Refused::NoMemory,
+    }
+}

@@ -1,0 +1,140 @@
+// Rule V5: each wire, output, register and file is driven as often as it must be, and no wire is used before it has a value.
+ghost use Rattle.std.specs.Prelude.{◌≡◌, [], map, Bool, OnOk, IfOk};
+ghost use Rattle.kp_vlog.specs.Rules.{Driven as Drivers, driver_fits, drives, bad_driver, module_driver, nothing};
+ghost use Rattle.kp_vlog.specs.Occurrences.{names as names_of};
+ghost use Rattle.kp_vrules.specs.inner.Roles.{role_of};
+ghost use Rattle.kp_vrules.specs.inner.Listed.{occurrence_of};
+ghost use Rattle.kp_vrules.specs.inner.Sets.{AlikeDriven, all_by};
+ghost use Rattle.kp_vrules.specs.inner.Says.{Says};
+
+use crate::fault::Fault;
+use crate::name_set::NameSet;
+use crate::names::{Names, Occurrence};
+use crate::role::Role;
+use crate::spelling::is_output;
+use kp_base::NoMemory;
+use kp_net::Label;
+use kp_vlog::VModule;
+use std::alloc::Global;
+use std::marker::Model;
+
+// The names that are assigned, started, filled and reset, the registers that are updated, and the files that are written.
+#[derive(Drop)]
+pub(crate) struct Driven<'m> {
+    pub given: NameSet<'m>,
+    pub started: NameSet<'m>,
+    pub filled: NameSet<'m>,
+    pub reset: NameSet<'m>,
+    pub updated: NameSet<'m>,
+    pub written: NameSet<'m>,
+}
+
+impl<'m> Model for Driven<'m> {
+    ghost use Rattle.kp_vlog.specs.Rules.{Driven};
+
+    ghost Value = { Driven };
+
+    ghost view = { λ d. record { given = d.given; started = d.started; filled = d.filled; reset = d.reset; updated = d.updated; written = d.written } };
+}
+
+impl<'m> Driven<'m> {
+    pub fn new(alloc: Global) -> Driven<'m>
+        ensures { result ≡ nothing }
+    {
+        Driven {
+            given: NameSet::new(alloc),
+            started: NameSet::new(alloc),
+            filled: NameSet::new(alloc),
+            reset: NameSet::new(alloc),
+            updated: NameSet::new(alloc),
+            written: NameSet::new(alloc),
+        }
+    }
+
+    #[tactic(auto, using(crate::proofs::Drives::given_more, crate::proofs::Drives::started_more, crate::proofs::Drives::filled_more, crate::proofs::Drives::reset_more, crate::proofs::Drives::updated_more, crate::proofs::Drives::written_more, crate::proofs::Drives::as_before))]
+    fn drive(&mut self, role: Role, name: &'m Label) -> Result<(), NoMemory>
+        ensures { OnOk result (AlikeDriven self.new (drives self.old (role_of role) name.now)) }
+    {
+        match role {
+            Role::IsGiven => self.given.add(name),
+            Role::StartsReg => self.started.add(name),
+            Role::FillsFile => self.filled.add(name),
+            Role::ResetsReg => self.reset.add(name),
+            Role::UpdatesReg => self.updated.add(name),
+            Role::UpdatesFile => self.written.add(name),
+            _ => Ok(()),
+        }
+    }
+
+    // With what the whole module drives, and what is driven so far.
+    fn fits(&self, resets: bool, all: &Driven<'m>, role: Role, name: &'m Label) -> bool
+        ensures { result ≡ driver_fits resets all.now self.now (role_of role) name.now }
+    {
+        match role {
+            Role::DeclaresPort(_) => !is_output(name.bytes()) || all.given.has(name),
+            Role::DeclaresWire => all.given.has(name),
+            Role::DeclaresReg => all.started.has(name)
+                && (all.updated.has(name) && (!resets || all.reset.has(name))),
+            Role::DeclaresFile => all.filled.has(name),
+            Role::Gives => !self.given.has(name),
+            Role::UsesWire => self.given.has(name),
+            Role::StartsReg => !self.started.has(name),
+            Role::StartsWord => self.filled.has(name),
+            Role::FillsFile => !self.filled.has(name),
+            Role::ResetsReg => !self.reset.has(name),
+            Role::UpdatesReg => !self.updated.has(name),
+            Role::UpdatesFile => !self.written.has(name),
+            Role::Needs(holds) => holds,
+            _ => true,
+        }
+    }
+}
+
+// What the whole module drives: its names, from the last one on.
+pub(crate) fn drive_all<'m>(alloc: Global, names: &[Occurrence<'m>]) -> Result<Driven<'m>, NoMemory>
+    ensures { IfOk result (λ d. AlikeDriven d (all_by (map occurrence_of names.now) nothing)) }
+{
+    let mut all = Driven::new(alloc);
+    let mut left = names.len();
+    'names: while left > 0 {
+        left -= 1;
+        let occurrence = &names[left];
+        all.drive(occurrence.role, &occurrence.named.name)?;
+    }
+    Ok(all)
+}
+
+// The first name of a module that breaks the rule, or none.
+pub(crate) fn check_module_drivers(
+    alloc: Global,
+    whole: &VModule,
+    names: &Names<'_>,
+) -> Result<(), Fault>
+    requires { names.now ≡ names_of whole.now }
+    ensures { Says result (module_driver whole.now) }
+{
+    let all = drive_all(alloc, names.list())?;
+    check_drivers(alloc, whole.reset.is_some(), &all, names.list())
+}
+
+// The first name that breaks the rule, or none.
+pub(crate) fn check_drivers<'m>(
+    alloc: Global,
+    resets: bool,
+    all: &Driven<'m>,
+    names: &[Occurrence<'m>],
+) -> Result<(), Fault>
+    ensures { Says result (bad_driver resets all.now nothing (map occurrence_of names.now)) }
+{
+    let mut so_far = Driven::new(alloc);
+    for occurrence in names {
+        let name = &occurrence.named.name;
+        if !so_far.fits(resets, all, occurrence.role, name) {
+            return Err(Fault::Broken(occurrence.named.at));
+        }
+        let Ok(()) = so_far.drive(occurrence.role, name) else {
+            return Err(Fault::NoMemory);
+        };
+    }
+    Ok(())
+}

@@ -1,0 +1,20 @@
+// Why a check ends early.
+use kp_base::NoMemory;
+
+#[derive(Clone, Copy, Debug)]
+pub(crate) enum Fault {
+    // The rule is broken at this offset.
+    Broken(u32),
+    NoMemory,
+}
+
+impl From<NoMemory> for Fault {
+    ghost use Rattle.std.specs.Prelude.{◌≡◌};
+    ghost use Rattle.kp_vrules.specs.declared.fault.Fault.TheVariants as faults;
+
+    ghost from_gives = { λ _ e. e ≡ faults.NoMemory };
+
+    fn from(_: NoMemory) -> Self {
+        Fault::NoMemory
+    }
+}

@@ -1,0 +1,79 @@
+// Rule V3: each name is declared once, before its uses, and is one that its place takes.
+ghost use Rattle.std.specs.Prelude.{◌≡◌, [], map, OnOk};
+ghost use Rattle.kp_vlog.specs.Rules.{name_fits, learns, bad_name};
+ghost use Rattle.kp_vrules.specs.inner.Roles.{role_of};
+ghost use Rattle.kp_vrules.specs.inner.Listed.{occurrence_of};
+ghost use Rattle.kp_vrules.specs.inner.Sets.{Alike};
+ghost use Rattle.kp_vrules.specs.inner.Says.{Says};
+
+use crate::fault::Fault;
+use crate::name_set::NameSet;
+use crate::names::{Names, Occurrence};
+use crate::role::Role;
+use crate::spelling::{is_file, is_module, is_output, is_reg, is_sample, is_wire};
+use kp_base::NoMemory;
+use kp_net::Label;
+use std::alloc::Global;
+
+// The first name that breaks the rule, or none.
+pub(crate) fn check_names(alloc: Global, names: &Names<'_>) -> Result<(), Fault>
+    ensures { Says result (bad_name [] names.now) }
+{
+    check_list(alloc, names.list())
+}
+
+fn check_list<'m>(alloc: Global, names: &[Occurrence<'m>]) -> Result<(), Fault>
+    ensures { Says result (bad_name [] (map occurrence_of names.now)) }
+{
+    let mut known = NameSet::new(alloc);
+    for occurrence in names {
+        let name = &occurrence.named.name;
+        if !fits(&known, occurrence.role, name) {
+            return Err(Fault::Broken(occurrence.named.at));
+        }
+        learn(&mut known, occurrence.role, name)?;
+    }
+    Ok(())
+}
+
+fn fits<'m>(known: &NameSet<'m>, role: Role, name: &'m Label) -> bool
+    ensures { result ≡ name_fits known.now (role_of role) name.now }
+{
+    let bytes = name.bytes();
+    match role {
+        Role::NamesModule => is_module(bytes),
+        Role::DeclaresPort(port) => bytes == port.bytes() && !known.has(name),
+        Role::DeclaresSample => is_sample(bytes) && !known.has(name),
+        Role::DeclaresReg => is_reg(bytes) && !known.has(name),
+        Role::DeclaresFile => is_file(bytes) && !known.has(name),
+        Role::DeclaresInteger => matches!(bytes, b"i") && !known.has(name),
+        Role::DeclaresWire => is_wire(bytes) && !known.has(name),
+        Role::Gives => is_output(bytes) || is_wire(bytes) && known.has(name),
+        Role::UsesWire => is_wire(bytes) && known.has(name),
+        Role::UsesSource => matches!(bytes, b"ext")
+            || (is_reg(bytes) || is_sample(bytes)) && known.has(name),
+        Role::UsesInteger => matches!(bytes, b"i") && known.has(name),
+        Role::UsesPort(port) => bytes == port.bytes() && known.has(name),
+        Role::UsesFile | Role::StartsWord | Role::FillsFile | Role::UpdatesFile => {
+            is_file(bytes) && known.has(name)
+        }
+        Role::StartsReg | Role::ResetsReg | Role::UpdatesReg => is_reg(bytes) && known.has(name),
+        Role::GivesNoWire => false,
+        Role::IsGiven | Role::Needs(_) => true,
+    }
+}
+
+#[tactic(auto, using(crate::proofs::Turns::alike_added, crate::proofs::Turns::alike_itself))]
+fn learn<'m>(known: &mut NameSet<'m>, role: Role, name: &'m Label) -> Result<(), NoMemory>
+    ensures { OnOk result (Alike known.new (learns known.old (role_of role) name.now)) }
+{
+    match role {
+        Role::DeclaresPort(_)
+        | Role::DeclaresSample
+        | Role::DeclaresReg
+        | Role::DeclaresFile
+        | Role::DeclaresInteger
+        | Role::DeclaresWire => known.add(name),
+        _ => Ok(()),
+    }
+}

@@ -1,0 +1,53 @@
+// How names of each sort are spelled.
+ghost use Rattle.std.specs.Prelude.{◌≡◌};
+ghost use Rattle.std.specs.List.{list_all};
+ghost use Rattle.kp_base.specs.Characters.{is_digit};
+ghost use Rattle.kp_net.specs.Names.{is_module_name, is_reg_name, is_file_name, is_sample_name};
+ghost use Rattle.kp_vlog.specs.Scope.{is_wire_name, is_output_name};
+
+pub(crate) fn is_module(name: &[u8]) -> bool
+    ensures { result ≡ is_module_name name.now }
+{
+    matches!(name, [b'm', b'_', ..])
+}
+
+pub(crate) fn is_reg(name: &[u8]) -> bool
+    ensures { result ≡ is_reg_name name.now }
+{
+    matches!(name, [b'r' | b'q', b'_', _, ..])
+}
+
+pub(crate) fn is_file(name: &[u8]) -> bool
+    ensures { result ≡ is_file_name name.now }
+{
+    matches!(name, [b'f', b'_', _, ..])
+}
+
+/// Whether a name is `s_` and at least one more byte.
+pub fn is_sample(name: &[u8]) -> bool
+    ensures { result ≡ is_sample_name name.now }
+{
+    matches!(name, [b's', b'_', _, ..])
+}
+
+pub(crate) fn is_wire(name: &[u8]) -> bool
+    ensures { result ≡ is_wire_name name.now }
+{
+    match name {
+        [b'n', digits @ ..] => !digits.is_empty() && all_digits(digits),
+        _ => false,
+    }
+}
+
+fn all_digits(bytes: &[u8]) -> bool
+    ensures { result ≡ list_all is_digit bytes.now }
+{
+    bytes.iter().all(|byte| byte.is_ascii_digit())
+}
+
+/// Whether a name is that of an output.
+pub fn is_output(name: &[u8]) -> bool
+    ensures { result ≡ is_output_name name.now }
+{
+    matches!(name, b"full" | b"ue" | b"back")
+}
