@@ -1,5 +1,5 @@
 -- The headline, from what is due.
-use Rattle.std.proofs.Common.{◌≡◌, ◌≤◌, ℕ, List, length, None, Some, Ok, Err, refl, arith}
+use Rattle.std.proofs.Common.{◌∙◌, ◌≡◌, ◌≤◌, ℕ, List, length, None, Some, Ok, Err, refl, arith}
 use Rattle.kp_ast.specs.declared.tree.Job.{Job}
 use Rattle.kp_stage.specs.Start.{start_of}
 use Rattle.kp_stage.proofs.Unbroken.{first_none}
@@ -12,16 +12,18 @@ use Rattle.kp_lawful.proofs.Accepting.{accepted}
 use Rattle.kp_lawful.proofs.Guessless.{guessless}
 use Rattle.kp_machine.specs.Machine.{machine_of, state_of, start_hints, pipe_of, inputs_from}
 use Rattle.kp_sched.specs.Runs.{IsLegal}
-use Rattle.kp_sched.proofs.Runs.{alike_is_legal}
+use Rattle.kp_sched.proofs.Runs.{alike_is_legal, alike_moves}
+use Rattle.kp_shows.specs.Traces.{inputs_seen}
 use Rattle.kp_judge.specs.Judging.{Judges, broken_in}
 use Rattle.kp_judge.specs.Judging.Judges.{within}
 use Rattle.kp_judge.specs.Judging.JudgesText.{accepted as no_rule_broken}
-use Rattle.kp_words.specs.declared.words.JobCommand.TheVariants.{Sim}
+use Rattle.kp_words.specs.declared.words.JobCommand.TheVariants.{Sim, Pipe}
 use Rattle.kp_words.specs.declared.words.Command.TheVariants.{OnJob}
 use Rattle.kp_show.specs.Runs.{sim_text}
 use Rattle.kp_show.proofs.Sims.{rows_many}
 use Rattle.kp_due.specs.Due.{DueFor}
-use Rattle.kp_due.specs.Headline.{IsLegalRun}
+use Rattle.kp_due.specs.Headline.{IsLegalRun, IsLegalVerilog}
+use Rattle.kp_due.specs.Written.{IsVerilogOf}
 
 judged_unbroken : (input : List ℕ) (job : Job) → Judges input (Ok job) → broken_in job ≡ None
 judged_unbroken input job (within short (no_rule_broken describes none)) = none
@@ -57,3 +59,23 @@ legal_run n input text job judged told =
 pub sim_headline : (n : ℕ) (input text : List ℕ) → DueFor (Some (OnJob (Sim n))) input 0 text → IsLegalRun n input text
 sim_headline n input text (Ok job, judged, due) = legal_run n input text job judged due.1
 sim_headline n input text (Err refusal, judged, due) = absurd (omega (arith, due.0))
+
+legal_verilog : (input text : List ℕ) (job : Job) → Judges input (Ok job) → IsVerilogOf job text → IsLegalVerilog input text
+legal_verilog input text job judged verilog =
+    let acc : Accepted (machine_of job) = accepted_machine job (judged_unbroken input job judged) in
+    record {
+      job = job;
+      judged = judged;
+      net = verilog.net;
+      denotes = verilog.denotes;
+      legal = λ ins quiet. alike_is_legal job (inputs_seen job ins) _ _ (verilog.shows.runs ins quiet)
+          (legal (machine_of job) (state_of job (start_of job)) (start_hints job) (inputs_seen job ins) acc);
+      moves = λ ins quiet. alike_moves job (inputs_seen job ins) _ _ (verilog.shows.runs ins quiet)
+          (moves (machine_of job) (state_of job (start_of job)) (start_hints job) (inputs_seen job ins) acc);
+      no_needless_stall = λ guesses samples ins quiet. (verilog.shows.runs ins quiet).rows
+          ∙ same-rows (machine_of job) (state_of job (start_of job)) (start_hints job) (inputs_seen job ins) acc (guessless job guesses samples);
+    }
+
+pub pipe_headline : (input text : List ℕ) → DueFor (Some (OnJob Pipe)) input 0 text → IsLegalVerilog input text
+pipe_headline input text (Ok job, judged, due) = legal_verilog input text job judged due.1
+pipe_headline input text (Err refusal, judged, due) = absurd (omega (arith, due.0))

@@ -8,13 +8,13 @@ use Rattle.kp_ast.specs.declared.tree.Job.{Job}
 use Rattle.kp_words.specs.declared.words.Command.{Command}
 use Rattle.kp_words.specs.declared.words.Command.TheVariants.{OnJob}
 use Rattle.kp_words.specs.declared.words.JobCommand.{JobCommand}
-use Rattle.kp_words.specs.declared.words.JobCommand.TheVariants.{Sim}
+use Rattle.kp_words.specs.declared.words.JobCommand.TheVariants.{Sim, Pipe}
 use Rattle.kp_words.specs.Words.{command_of}
 use Rattle.kp_judge.specs.Judging.{JudgesText, too_long}
 use Rattle.kp_due.proofs.Dues.{too_long_is_due, refused_is_due, accepted_is_due}
-use Rattle.kp_due.proofs.Headline.{sim_headline}
+use Rattle.kp_due.proofs.Headline.{sim_headline, pipe_headline}
 use Rattle.kp_due.specs.Due.{DueFor, DueOfJob, IsFinal, Completes, Begins}
-use Rattle.kp_due.specs.Headline.{IsLegalRun}
+use Rattle.kp_due.specs.Headline.{IsLegalRun, IsLegalVerilog}
 use Rattle.kp_tool.specs.inner.Stop.{stop_status}
 use Rattle.kp_tool.specs.declared.Stop.{Stop}
 use Rattle.kp_tool.specs.declared.Stop.TheVariants.{ReadFault, WriteFault, NoMemory}
@@ -72,6 +72,7 @@ final readies.BadWords = (λ e. omega arith, λ e. omega arith, λ e. omega arit
 final (readies.Refused refusal) = (λ e. omega arith, λ e. omega arith, λ e. omega arith)
 final (readies.After run) = (λ e. omega arith, λ e. omega arith, λ e. omega arith)
 final (readies.Ran board) = (λ e. omega arith, λ e. omega arith, λ e. omega arith)
+final (readies.Verilog net) = (λ e. omega arith, λ e. omega arith, λ e. omega arith)
 final (readies.Checked design) = (λ e. omega arith, λ e. omega arith, λ e. omega arith)
 final (readies.Image section) = (λ e. omega arith, λ e. omega arith, λ e. omega arith)
 
@@ -104,6 +105,13 @@ module _ (words : List (List ℕ)) (left left_after held held_after : Option (Li
   sim_told n status command zero (text, is_due, written) =
       let due = subst (λ (s : ℕ). DueFor (Some (OnJob (Sim n))) is_due.taken s text) zero (subst (λ (c : Option Command). DueFor c is_due.taken status text) command is_due.due) in
       (is_due.taken, text, is_due.consumed, written, sim_headline n is_due.taken text due)
+
+  -- and what is written of `pipe` denotes a legal netlist
+  pub pipe_told : (status : ℕ) → command_of words ≡ Some (OnJob Pipe) → status ≡ 0 → Completes words left left_after held held_after status
+      → (input text : List ℕ) × Consumes left left_after input × Appends held held_after text × IsLegalVerilog input text
+  pipe_told status command zero (text, is_due, written) =
+      let due = subst (λ (s : ℕ). DueFor (Some (OnJob Pipe)) is_due.taken s text) zero (subst (λ (c : Option Command). DueFor c is_due.taken status text) command is_due.due) in
+      (is_due.taken, text, is_due.consumed, written, pipe_headline is_due.taken text due)
 
 -- the ends that are not due have statuses of their own
 pub never_zero : (stop : Stop) (status : ℕ) → status ≡ stop_status stop → status ≡ 0 → ⊥

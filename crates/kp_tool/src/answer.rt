@@ -4,8 +4,10 @@ ghost use Rattle.kp_tool.specs.inner.Answer.{Tells};
 
 use crate::simulating::simulated;
 use crate::stepping::{Run, run_of};
+use crate::verilog::pipelined;
 use kp_base::{NoMemory, Refusal};
 use kp_judge::Accepted;
+use kp_net::Netlist;
 use kp_run::Board;
 use kp_stage::Design;
 use std::alloc::Global;
@@ -28,6 +30,8 @@ pub enum Answer {
     After(Steps),
     /// The run of the pipelined machine over so many cycles.
     Simulation(Steps),
+    /// The Verilog of the pipelined machine.
+    Pipelined(Accepted),
     /// The numbers of a job that breaks no rule.
     Checked(Design),
     /// The image section of an assembler program.
@@ -41,6 +45,7 @@ pub enum Ready<'a> {
     Refused(Refusal),
     After(Run<'a>),
     Ran(Board<'a>),
+    Verilog(Netlist),
     Checked(&'a Design),
     Image(&'a [u8]),
 }
@@ -58,6 +63,7 @@ impl Answer {
             Answer::Simulation(steps) => {
                 Ok(Ready::Ran(simulated(alloc, steps.count, &steps.job)?))
             }
+            Answer::Pipelined(job) => Ok(Ready::Verilog(pipelined(alloc, job)?)),
             Answer::Checked(design) => Ok(Ready::Checked(design)),
             Answer::Image(section) => Ok(Ready::Image(section.as_slice())),
         }

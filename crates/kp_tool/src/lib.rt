@@ -8,9 +8,9 @@ ghost use Rattle.kp_base.specs.Causes.{Rose};
 ghost use Rattle.kp_base.specs.Refusal.{e_rule};
 ghost use Rattle.kp_words.specs.Words.{command_of, reads_input};
 ghost use Rattle.kp_words.specs.declared.words.Command.TheVariants.{OnJob};
-ghost use Rattle.kp_words.specs.declared.words.JobCommand.TheVariants.{Sim};
+ghost use Rattle.kp_words.specs.declared.words.JobCommand.TheVariants.{Sim, Pipe};
 ghost use Rattle.kp_due.specs.Due.{Due, IsFinal, Completes, Begins};
-ghost use Rattle.kp_due.specs.Headline.{IsLegalRun};
+ghost use Rattle.kp_due.specs.Headline.{IsLegalRun, IsLegalVerilog};
 ghost use Rattle.kp_tool.specs.inner.Answer.{Decides, Finishes, BreaksOff, ready_status, ready_text};
 ghost use Rattle.kp_tool.specs.inner.Stop.{stop_status};
 ghost use Rattle.kp_tool.specs.declared.Stop.TheVariants as stop;
@@ -19,6 +19,7 @@ mod answer;
 mod deciding;
 mod simulating;
 mod stepping;
+mod verilog;
 mod writing;
 
 use answer::{Answer, Ready};
@@ -95,7 +96,12 @@ pub fn tool<S: Source, K: Sink>(alloc: Global, words: &[String], source: &mut S,
     ensures bad_words { result ≡ 1 → command_of (map string_bytes words.now) ≡ None }
     ensures bad_words_only { command_of (map string_bytes words.now) ≡ None → IsFinal result → result ≡ 1 }
 
-    // The headline: what `sim N` writes tells a run of the pipelined machine that is legal and moves.
+    // The headline: what `pipe` writes denotes a netlist that is legal and moves, whatever its inputs are.
+    ensures pipe_is_legal { command_of (map string_bytes words.now) ≡ Some (OnJob Pipe) → result ≡ 0
+        → (input text : List ℕ) × Consumes (S.left source.old) (S.left source.new) input × Appends (K.held sink.old) (K.held sink.new) text
+        × IsLegalVerilog input text }
+
+    // And what `sim N` writes tells a run of the pipelined machine that is legal and moves.
     ensures sim_is_legal { (n : ℕ) → command_of (map string_bytes words.now) ≡ Some (OnJob (Sim n)) → result ≡ 0
         → (input text : List ℕ) × Consumes (S.left source.old) (S.left source.new) input × Appends (K.held sink.old) (K.held sink.new) text
         × IsLegalRun n input text }

@@ -7,6 +7,7 @@ ghost use Rattle.kp_tool.specs.inner.Answer.{ready_status, ready_text};
 use crate::answer::Ready;
 use kp_base::{Sink, SinkFault, write_all};
 use kp_show::{write_accepted, write_board, write_refusal, write_run_after};
+use kp_vwrite::write_verilog;
 
 impl Ready<'_> {
     /// Writes the text, and answers the status.
@@ -30,6 +31,10 @@ impl Ready<'_> {
             }
             Ready::Ran(board) => {
                 write_board(board, sink)?;
+                Ok(0)
+            }
+            Ready::Verilog(net) => {
+                write_verilog(net, sink)?;
                 Ok(0)
             }
             Ready::Checked(design) => {

@@ -259,6 +259,9 @@ has_name name text h = sym ((bytes_eq-Decides name text).0 h)
 check_passes : fault_of (program_of known_forms) (codes "check" ∷ []) ≡ []
 check_passes = known_refused known_forms (codes "check") false [] refl refl ∙ alone_passes (codes "check")
 
+pipe_passes : fault_of (program_of known_forms) (codes "pipe" ∷ []) ≡ []
+pipe_passes = known_refused known_forms (codes "pipe") false [] refl refl ∙ alone_passes (codes "pipe")
+
 asm_passes : fault_of (program_of known_forms) (codes "asm" ∷ []) ≡ []
 asm_passes = known_refused known_forms (codes "asm") false [] refl refl ∙ alone_passes (codes "asm")
 
@@ -273,12 +276,14 @@ IsPassed words = fault_of (program_of known_forms) words ≡ []
 
 -- a name of none of the commands without a number
 plain_unmatched : (name : Text) → (IsPassed (name ∷ []) → ⊥) → plain_command name ≡ None
-plain_unmatched name refused = go (bytes_eq name (codes "check")) (bytes_eq name (codes "asm")) refl refl
+plain_unmatched name refused = go (bytes_eq name (codes "check")) (bytes_eq name (codes "pipe")) (bytes_eq name (codes "asm")) refl refl refl
   where
-    go : (check asm : Bool) → bytes_eq name (codes "check") ≡ check → bytes_eq name (codes "asm") ≡ asm → plain_command name ≡ None
-    go true asm e f = absurd (refused (subst (λ n. IsPassed (n ∷ [])) (has_name name (codes "check") e) check_passes))
-    go false true e f = absurd (refused (subst (λ n. IsPassed (n ∷ [])) (has_name name (codes "asm") f) asm_passes))
-    go false false e f = rw (e, f) refl
+    go : (check pipe asm : Bool) → bytes_eq name (codes "check") ≡ check → bytes_eq name (codes "pipe") ≡ pipe → bytes_eq name (codes "asm") ≡ asm
+        → plain_command name ≡ None
+    go true pipe asm e p f = absurd (refused (subst (λ n. IsPassed (n ∷ [])) (has_name name (codes "check") e) check_passes))
+    go false true asm e p f = absurd (refused (subst (λ n. IsPassed (n ∷ [])) (has_name name (codes "pipe") p) pipe_passes))
+    go false false true e p f = absurd (refused (subst (λ n. IsPassed (n ∷ [])) (has_name name (codes "asm") f) asm_passes))
+    go false false false e p f = rw (e, p, f) refl
 
 counted_none : (name : Text) (count : Option ℕ) → bytes_eq name (codes "seq") ≡ false → bytes_eq name (codes "sim") ≡ false
     → option_and_then (counted_command name) count ≡ None
@@ -309,7 +314,7 @@ not_named name text h fine = go (bytes_eq name text) refl
     go false e = e
 
 plain_barred : (name : Text) → is_barred name ≡ true → plain_command name ≡ None
-plain_barred name h = rw (not_named name (codes "check") h refl, not_named name (codes "asm") h refl) refl
+plain_barred name h = rw (not_named name (codes "check") h refl, not_named name (codes "pipe") h refl, not_named name (codes "asm") h refl) refl
 
 counted_barred : (name : Text) (count : Option ℕ) → is_barred name ≡ true → option_and_then (counted_command name) count ≡ None
 counted_barred name count h = counted_none name count (not_named name (codes "seq") h refl) (not_named name (codes "sim") h refl)

@@ -4,7 +4,7 @@ use Rattle.std.specs.Str.{bytes_eq}
 use Rattle.kp_bits.specs.Literals.{number_of}
 use Rattle.kp_words.specs.declared.words.Command.{Command}
 use Rattle.kp_words.specs.declared.words.Command.TheVariants.{OnJob, Assemble}
-use Rattle.kp_words.specs.declared.words.JobCommand.TheVariants.{Seq, Check, Sim}
+use Rattle.kp_words.specs.declared.words.JobCommand.TheVariants.{Seq, Check, Sim, Pipe}
 
 abbrev pub at_most : ℕ → ℕ → Option ℕ
 at_most most number = if nat_le number most then Some number else None
@@ -23,7 +23,8 @@ counted_command name count =
 abbrev pub plain_command : List ℕ → Option Command
 plain_command name =
     if bytes_eq name (codes "check") then Some (OnJob Check)
-    else (if bytes_eq name (codes "asm") then Some Assemble else None)
+    else (if bytes_eq name (codes "pipe") then Some (OnJob Pipe)
+    else (if bytes_eq name (codes "asm") then Some Assemble else None))
 
 -- the command of an accepted list
 abbrev pub command_of : List (List ℕ) → Option Command

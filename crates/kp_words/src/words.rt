@@ -24,6 +24,8 @@ pub enum JobCommand {
     Check,
     /// The rows of so many cycles of the pipelined machine, with the counts and the state after them.
     Sim(u32),
+    /// The pipelined machine as a Verilog module.
+    Pipe,
 }
 
 /// What is to be done, by what is read for it.
@@ -87,6 +89,7 @@ impl Command {
     {
         match name {
             "check" => Some(Command::OnJob(JobCommand::Check)),
+            "pipe" => Some(Command::OnJob(JobCommand::Pipe)),
             "asm" => Some(Command::Assemble),
             _ => None,
         }
@@ -114,7 +117,7 @@ fn program<'a>(alloc: Global) -> Result<clap::Command<'a>, AllocError>
     with_pipeline(alloc, with_jobs(alloc)?)
 }
 
-// The program, with the commands that run no pipeline.
+// The program, with the commands that make no pipeline.
 fn with_jobs<'a>(alloc: Global) -> Result<clap::Command<'a>, AllocError>
     ensures { IfOk result (λ program. app_of program ≡ program_of job_forms) }
 {
@@ -127,7 +130,7 @@ fn with_jobs<'a>(alloc: Global) -> Result<clap::Command<'a>, AllocError>
         .subcommand(alone(alloc, "asm"))
 }
 
-// The same program, and those that run one.
+// The same program, and those that make one.
 fn with_pipeline<'a>(
     alloc: Global,
     program: clap::Command<'a>,
@@ -135,7 +138,9 @@ fn with_pipeline<'a>(
     requires { app_of program ≡ program_of job_forms }
     ensures { IfOk result (λ program. app_of program ≡ program_of known_forms) }
 {
-    program.subcommand(with_number(alloc, "sim")?)
+    program
+        .subcommand(with_number(alloc, "sim")?)?
+        .subcommand(alone(alloc, "pipe"))
 }
 
 // The command of this name and a number word.

@@ -1,5 +1,5 @@
 -- What an answer says: the status and the text that are due where it was found, and those of an answer that is ready to be written.
-use Rattle.std.specs.Prelude.{ℕ, List, Option, Some}
+use Rattle.std.specs.Prelude.{◌≡◌, ℕ, List, Option, Some}
 use Rattle.std.specs.Io.KnownBytes.{Appends}
 use Rattle.kp_base.specs.Bytes.{AppendsPart}
 use Rattle.kp_stage.specs.Counts.{summary_of}
@@ -11,6 +11,8 @@ use Rattle.kp_show.specs.Texts.{bad_words, refusal_line, accepted_line}
 use Rattle.kp_show.specs.States.{text_after, sequential_text}
 use Rattle.kp_show.specs.Runs.{run_text, sim_text}
 use Rattle.kp_due.specs.Due.{Says, DueFor, IsDue, IsFinal}
+use Rattle.kp_due.specs.Written.{IsVerilogOf}
+use Rattle.kp_vlog.specs.Canon.{canon}
 use Rattle.kp_tool.specs.declared.answer.Answer.{Answer}
 use Rattle.kp_tool.specs.declared.answer.Answer.TheVariants as answers
 use Rattle.kp_tool.specs.declared.answer.Ready.{Ready}
@@ -21,6 +23,7 @@ AnswerSays answers.BadWords = Says 1 bad_words
 AnswerSays (answers.Refused refusal) = Says 2 (refusal_line refusal)
 AnswerSays (answers.After steps) = Says 0 (sequential_text steps.count steps.job.design.job)
 AnswerSays (answers.Simulation steps) = Says 0 (sim_text steps.count steps.job.design.job)
+AnswerSays (answers.Pipelined job) = λ status text. (status ≡ 0) × IsVerilogOf job.design.job text
 AnswerSays (answers.Checked design) = Says 0 (accepted_line design.job.name.name (summary_of design.job))
 AnswerSays (answers.Image section) = Says 0 section.items
 
@@ -29,6 +32,7 @@ ready_status readies.BadWords = 1
 ready_status (readies.Refused refusal) = 2
 ready_status (readies.After run) = 0
 ready_status (readies.Ran board) = 0
+ready_status (readies.Verilog net) = 0
 ready_status (readies.Checked design) = 0
 ready_status (readies.Image section) = 0
 
@@ -38,6 +42,7 @@ ready_text (readies.Refused refusal) = refusal_line refusal
 ready_text (readies.After run) = text_after run.count run.design.now.job.decls (state run.machine)
 ready_text (readies.Ran board) =
     run_text board.design.now.job (rows_seen board.design.now.job.stages.value board.cycles.rows.items) (due_behind board.design.now.job board.cycles.rows.items)
+ready_text (readies.Verilog net) = canon net
 ready_text (readies.Checked design) = accepted_line design.now.job.name.name (summary_of design.now.job)
 ready_text (readies.Image section) = section.now
 

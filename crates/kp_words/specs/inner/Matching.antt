@@ -19,7 +19,11 @@ job_forms =
     ∷ []
 
 abbrev pub known_forms : List Form
-known_forms = job_forms ++ record { name = codes "sim"; has_number = true } ∷ []
+known_forms =
+    job_forms
+    ++ record { name = codes "sim"; has_number = true }
+    ∷ record { name = codes "pipe"; has_number = false }
+    ∷ []
 
 -- A number word is required, and any text passes as one.
 abbrev pub number_rule : Rule
