@@ -4,3 +4,4 @@ pub mod Outcome
 pub mod Stands
 pub mod Names
 pub mod Counted
+pub mod Lengths

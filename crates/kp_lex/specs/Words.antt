@@ -1,5 +1,5 @@
 -- The keywords and the marks of the language.
-use Rattle.std.specs.Prelude.{ℕ, ◌==◌, ◌&&◌, List, [], ◌∷◌, Option, Some, None, if◌then◌else◌, codes, find}
+use Rattle.std.specs.Prelude.{ℕ, ◌==◌, ◌&&◌, List, [], ◌∷◌, length, Option, Some, None, if◌then◌else◌, codes, find, filter}
 use Rattle.std.specs.Str.{bytes_eq}
 use Rattle.kp_lex.specs.declared.token.Keyword.{Keyword}
 use Rattle.kp_lex.specs.declared.token.Keyword.TheVariants as keywords
@@ -41,6 +41,10 @@ all_keywords =
     keywords.Machine ∷ keywords.Stages ∷ keywords.Reg ∷ keywords.File ∷ keywords.Pipe ∷ keywords.Result ∷ keywords.Hint ∷ keywords.Fn ∷ keywords.Stage
     ∷ keywords.Read ∷ keywords.Let ∷ keywords.Put ∷ keywords.Set ∷ keywords.Aim ∷ keywords.Image ∷ keywords.Stalls ∷ keywords.End ∷ keywords.At ∷ keywords.When
     ∷ keywords.Guess ∷ keywords.From ∷ keywords.To ∷ keywords.Step ∷ keywords.Zext ∷ keywords.Sext ∷ keywords.Sample ∷ keywords.Inputs ∷ []
+
+-- the keywords of so many letters
+abbrev pub keywords_of_length : ℕ → List Keyword
+keywords_of_length n = filter (λ k. length (spelling k) == n) all_keywords
 
 -- the keyword that is written so
 abbrev pub keyword_of : List ℕ → Option Keyword

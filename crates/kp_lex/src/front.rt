@@ -108,7 +108,7 @@ fn identifier(run: &[u8]) -> Front
 fn keyword(run: &[u8]) -> Option<Keyword>
     ensures { result ≡ keyword_of run.now }
 {
-    keyword_among(&Keyword::ALL, run)
+    keyword_among(Keyword::of_length(run.len()), run)
 }
 
 fn keyword_among(keywords: &[Keyword], run: &[u8]) -> Option<Keyword>

@@ -1,6 +1,6 @@
 // What a text is made of.
 ghost use Rattle.std.specs.Prelude.{◌≡◌};
-ghost use Rattle.kp_lex.specs.Words.{all_keywords, spelling as spelling_of};
+ghost use Rattle.kp_lex.specs.Words.{all_keywords, keywords_of_length, spelling as spelling_of};
 
 use kp_base::{List, Place};
 use kp_bits::Literal;
@@ -68,6 +68,44 @@ impl Keyword {
         Keyword::Sample,
         Keyword::Inputs,
     ];
+
+    /// All keywords of so many letters.
+    pub(crate) fn of_length(length: usize) -> &'static [Keyword]
+        ensures { result.now ≡ keywords_of_length length }
+    {
+        match length {
+            2 => &[Keyword::Fn, Keyword::At, Keyword::To],
+            3 => &[
+                Keyword::Reg,
+                Keyword::Let,
+                Keyword::Put,
+                Keyword::Set,
+                Keyword::Aim,
+                Keyword::End,
+            ],
+            4 => &[
+                Keyword::File,
+                Keyword::Pipe,
+                Keyword::Hint,
+                Keyword::Read,
+                Keyword::When,
+                Keyword::From,
+                Keyword::Step,
+                Keyword::Zext,
+                Keyword::Sext,
+            ],
+            5 => &[Keyword::Stage, Keyword::Image, Keyword::Guess],
+            6 => &[
+                Keyword::Stages,
+                Keyword::Result,
+                Keyword::Stalls,
+                Keyword::Sample,
+                Keyword::Inputs,
+            ],
+            7 => &[Keyword::Machine],
+            _ => &[],
+        }
+    }
 
     /// How the word is written: in small letters.
     pub fn spelling(self) -> &'static [u8]
