@@ -5,3 +5,4 @@ pub mod Noted
 pub mod Placed
 pub mod Totals
 pub mod Unbroken
+pub mod Unasked

@@ -1,5 +1,5 @@
 // What the rules look up, in tables that find a name in about constant time.
-ghost use Rattle.std.specs.Prelude.{◌≡◌, [], OnOk, IfOk, map};
+ghost use Rattle.std.specs.Prelude.{◌≡◌, ◌==◌, [], length, OnOk, IfOk, map};
 ghost use Rattle.kp_stage.specs.Facts.{largest, largest_in, guessed};
 ghost use Rattle.kp_stage.specs.inner.Tables.{look_up, with_entry, with_first, with_less, puts_noted, all_puts_noted, aims_noted, all_aims_noted, sets_noted, sets_of, hints_noted, results_noted, samples_noted, stages_noted, writes_noted, tables_of};
 
@@ -47,6 +47,13 @@ impl<V: Copy> Table<V> {
         Table {
             values: IndexMap::new(alloc),
         }
+    }
+
+    /// Whether no name has a value.
+    pub fn is_empty(&self) -> bool
+        ensures { result ≡ (length self.now == 0) }
+    {
+        self.values.is_empty()
     }
 
     /// The value of a name, where it has one.

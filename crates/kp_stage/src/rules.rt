@@ -3,6 +3,7 @@ ghost use Rattle.std.specs.Prelude.{◌≡◌, ◌∷◌, [], map, nat_lt, nat_l
 ghost use Rattle.kp_base.specs.First.{first};
 ghost use Rattle.kp_stage.specs.Rules.{number_of, broken_unless, ask_head, ask_decl, ask_block, ask_stmt, ask_decls, ask_stmts, ask_in_block, ask_blocks, ask_name, ask_expr, ask_option, ask_values, ask_guesses, ask_pipe, put_before, may_guess, holds_of, is_at, broken_at, broken_by};
 ghost use Rattle.kp_stage.specs.inner.Tables.{facts_in};
+ghost use Rattle.kp_stage.specs.inner.Asked.{asks_blocks};
 
 use crate::facts::{Facts, Spot};
 use kp_ast::{Block, Decl, Expr, ExprKind, Job, Name, Named, ReadStmt, Stmt, StmtKind};
@@ -123,7 +124,31 @@ fn in_decls(facts: &Facts, rule: Rule, decls: &[Decl]) -> Option<Refusal>
     None
 }
 
+#[tactic(auto, using(crate::proofs::Unasked::no_answer))]
 fn in_blocks(facts: &Facts, rule: Rule, blocks: &[Block]) -> Option<Refusal>
+    ensures { result ≡ first (ask_blocks (facts_in facts.now) rule 0 blocks.now) }
+{
+    if asks_blocks(facts, rule) {
+        in_each_block(facts, rule, blocks)
+    } else {
+        None
+    }
+}
+
+// Whether a block can break the rule: some rules speak of declarations alone, and some of names of a kind that the job may not have.
+fn asks_blocks(facts: &Facts, rule: Rule) -> bool
+    ensures { result ≡ asks_blocks facts.now rule }
+{
+    match rule {
+        Rule::E17 => !facts.given.puts.is_empty(),
+        Rule::E22 | Rule::E24 | Rule::E35 => false,
+        Rule::E25 => !facts.named.hints.is_empty(),
+        Rule::E34 => !facts.named.samples.is_empty(),
+        _ => true,
+    }
+}
+
+fn in_each_block(facts: &Facts, rule: Rule, blocks: &[Block]) -> Option<Refusal>
     ensures { result ≡ first (ask_blocks (facts_in facts.now) rule 0 blocks.now) }
 {
     for (k, block) in blocks.iter().enumerate() {
