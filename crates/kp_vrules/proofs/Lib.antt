@@ -4,5 +4,3 @@ pub mod Drives
 pub mod AllDriven
 pub mod Starting
 pub mod Breaking
-pub mod Firsts
-pub mod Sizing

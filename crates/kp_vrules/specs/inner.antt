@@ -4,5 +4,4 @@ pub mod Roles
 pub mod Listed
 pub mod Says
 pub mod Starting
-pub mod Sizing
 pub mod Refusing

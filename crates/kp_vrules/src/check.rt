@@ -1,16 +1,19 @@
 // The rules V3 to V5 of a module.
-ghost use Rattle.std.specs.Prelude.{◌≡◌, ◌≤◌, ◌-◌, ◌^◌, None, length, MatchResult};
-ghost use Rattle.kp_vlog.specs.Rules.{broken};
+ghost use Rattle.std.specs.Prelude.{◌≡◌, ◌≤◌, ◌-◌, ◌^◌, [], None, length, MatchResult};
+ghost use Rattle.kp_base.specs.First.{first};
+ghost use Rattle.kp_vlog.specs.Occurrences.{names};
+ghost use Rattle.kp_vlog.specs.Rules.{broken, bad_name, width_answers};
 ghost use Rattle.kp_vrules.specs.Broken.{IsBroken};
 ghost use Rattle.kp_vrules.specs.inner.Refusing.{refusal_at};
+ghost use Rattle.kp_vrules.specs.inner.Says.{Says};
 
 use crate::driver_rule::check_module_drivers;
 use crate::fault::Fault;
 use crate::name_rule::check_names;
 use crate::names::Names;
-use crate::width_rule::check_widths;
 use kp_base::{Refusal, Refused, place_of};
 use kp_vlog::VModule;
+use kp_vwidths::bad_width;
 use std::alloc::Global;
 
 /// Whether a module of the text breaks none of the rules V3 to V5.
@@ -31,6 +34,17 @@ pub fn check_module(alloc: Global, text: &[u8], whole: &VModule) -> Result<(), R
         return Err(refuse(text, 5, fault));
     }
     Ok(())
+}
+
+// Whether a module whose names are right keeps the rule of widths.
+fn check_widths(alloc: Global, whole: &VModule) -> Result<(), Fault>
+    requires { bad_name [] (names whole.now) ≡ None }
+    ensures { Says result (first (width_answers whole.now)) }
+{
+    match bad_width(alloc, whole)? {
+        Some(at) => Err(Fault::Broken(at)),
+        None => Ok(()),
+    }
 }
 
 // A rule that is broken at an offset. No offset lies behind the text; if one did, its place would be the end.

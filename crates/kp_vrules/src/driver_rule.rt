@@ -18,7 +18,7 @@ use kp_vlog::VModule;
 use std::alloc::Global;
 use std::marker::Model;
 
-// The names that are assigned, started, filled and reset, the registers that are updated, and the files that are written.
+/// The names that are assigned, started, filled and reset, the registers that are updated, and the files that are written.
 #[derive(Drop)]
 pub(crate) struct Driven<'m> {
     pub given: NameSet<'m>,
@@ -38,6 +38,7 @@ impl<'m> Model for Driven<'m> {
 }
 
 impl<'m> Driven<'m> {
+    /// No names.
     pub fn new(alloc: Global) -> Driven<'m>
         ensures { result ≡ nothing }
     {
@@ -90,7 +91,7 @@ impl<'m> Driven<'m> {
     }
 }
 
-// What the whole module drives: its names, from the last one on.
+/// What the whole module drives: its names, from the last one on. Refuses only where memory runs out.
 pub(crate) fn drive_all<'m>(alloc: Global, names: &[Occurrence<'m>]) -> Result<Driven<'m>, NoMemory>
     ensures { IfOk result (λ d. AlikeDriven d (all_by (map occurrence_of names.now) nothing)) }
 {
@@ -104,7 +105,8 @@ pub(crate) fn drive_all<'m>(alloc: Global, names: &[Occurrence<'m>]) -> Result<D
     Ok(all)
 }
 
-// The first name of a module that breaks the rule, or none.
+/// Whether a module breaks the rule nowhere. Refuses the place of the first of its names that does, or
+/// that memory ran out.
 pub(crate) fn check_module_drivers(
     alloc: Global,
     whole: &VModule,
@@ -117,7 +119,8 @@ pub(crate) fn check_module_drivers(
     check_drivers(alloc, whole.reset.is_some(), &all, names.list())
 }
 
-// The first name that breaks the rule, or none.
+/// Whether no name of the list breaks the rule, with what the whole module drives. Refuses the place of the first one that
+/// does, or that memory ran out.
 pub(crate) fn check_drivers<'m>(
     alloc: Global,
     resets: bool,

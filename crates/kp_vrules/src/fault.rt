@@ -1,9 +1,10 @@
-// Why a check ends early.
+// How a check ends that finds a rule broken, or finds no memory.
 use kp_base::NoMemory;
 
+/// Why a check ends early.
 #[derive(Clone, Copy, Debug)]
 pub(crate) enum Fault {
-    // The rule is broken at this offset.
+    /// The rule is broken at this offset.
     Broken(u32),
     NoMemory,
 }

@@ -15,7 +15,7 @@ use kp_base::NoMemory;
 use kp_net::Label;
 use std::alloc::Global;
 
-// The first name that breaks the rule, or none.
+/// Whether no name breaks the rule. Refuses the place of the first one that does, or that memory ran out.
 pub(crate) fn check_names(alloc: Global, names: &Names<'_>) -> Result<(), Fault>
     ensures { Says result (bad_name [] names.now) }
 {

@@ -3,13 +3,14 @@ ghost use Rattle.std.specs.Prelude.{◌≡◌, [], OnOk};
 ghost use Rattle.kp_net.specs.Names.{among};
 ghost use Rattle.kp_vrules.specs.inner.Sets.{Adds};
 
-use crate::key::Key;
 use indexmap::IndexSet;
 use kp_base::NoMemory;
 use kp_net::Label;
+use kp_vwidths::Key;
 use std::alloc::Global;
 use std::marker::Model;
 
+/// Names that are found in about constant time. Contracts see the list of them.
 #[derive(Drop)]
 pub(crate) struct NameSet<'m> {
     names: IndexSet<Key<'m>>,
@@ -24,6 +25,7 @@ impl<'m> Model for NameSet<'m> {
 }
 
 impl<'m> NameSet<'m> {
+    /// No names.
     pub fn new(alloc: Global) -> NameSet<'m>
         ensures { result ≡ [] }
     {
@@ -32,13 +34,14 @@ impl<'m> NameSet<'m> {
         }
     }
 
+    /// Whether a name is among them.
     pub fn has(&self, name: &'m Label) -> bool
         ensures { result ≡ among self.now name.now }
     {
         self.names.contains(&Key::new(name))
     }
 
-    // Adds a name, which may be there.
+    /// Adds a name, which may be there. Refuses only where memory runs out.
     pub fn add(&mut self, name: &'m Label) -> Result<(), NoMemory>
         ensures { OnOk result (Adds self.old self.new name.now) }
     {

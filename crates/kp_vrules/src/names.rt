@@ -2,27 +2,28 @@
 ghost use Rattle.std.specs.Prelude.{◌≡◌, ◌++◌, ◌∷◌, [], codes, map, if◌then◌else◌, IfOk, OnOk};
 ghost use Rattle.kp_vlog.specs.Occurrences.{uses_wire, uses_source, occurs, wires_used, operands, right_names, item_names, items_names, init_names, inits_names, update_names, updates_names, declares_port, samples_names, reset_port_names, wide_port_names, header_names, body_names, names, is_literal, reset_names};
 ghost use Rattle.kp_vrules.specs.inner.Roles.{port_name, role_of};
+ghost use Rattle.kp_vwidths.specs.Tables.{found};
 ghost use Rattle.kp_vrules.specs.inner.Listed.{occurrence_of};
-ghost use Rattle.kp_vrules.specs.Tables.{found};
 ghost use Rattle.kp_vrules.specs.inner.Starting.{values_by};
 
 use crate::role::{PortName, Role};
 use crate::spelling::is_output;
-use crate::starts::Starts;
 use kp_base::NoMemory;
 use kp_bits::Literal;
 use kp_net::Label;
 use kp_vlog::{Init, Item, Named, ResetList, ResetValue, Right, Update, VModule, VPort};
+use kp_vwidths::Starts;
 use std::alloc::Global;
 use std::marker::Model;
 
-// A name, and what it stands for in its place.
+/// A name, and what it stands for in its place.
 #[derive(Clone, Copy)]
 pub(crate) struct Occurrence<'m> {
     pub role: Role,
     pub named: &'m Named,
 }
 
+/// The names of a module, in the order of the text. Contracts see the list of them that the rules go along.
 #[derive(Drop)]
 pub(crate) struct Names<'m> {
     list: Vec<Occurrence<'m>>,
@@ -39,7 +40,7 @@ impl<'m> Model for Names<'m> {
 }
 
 impl<'m> Names<'m> {
-    // All names of a module.
+    /// All names of a module. Refuses only where memory runs out.
     pub fn new(alloc: Global, whole: &'m VModule) -> Result<Names<'m>, NoMemory>
         ensures { IfOk result (λ n. n ≡ names whole.now) }
     {
@@ -276,7 +277,7 @@ impl<'m> Names<'m> {
         }
     }
 
-    // As an occurrence list of the rules.
+    /// The names, as a list.
     pub fn list(&self) -> &[Occurrence<'m>]
         ensures { map occurrence_of result.now ≡ self.now }
     {

@@ -2,7 +2,7 @@
 ghost use Rattle.std.specs.Prelude.{◌≡◌};
 ghost use Rattle.kp_vrules.specs.inner.Roles.{port_name};
 
-// A port that every module has, or that each may have.
+/// A port that every module has, or that each may have.
 #[derive(Clone, Copy, Debug)]
 pub(crate) enum PortName {
     Clk,
@@ -14,6 +14,7 @@ pub(crate) enum PortName {
 }
 
 impl PortName {
+    /// How the port is spelled.
     pub fn bytes(self) -> &'static [u8]
         ensures { result.now ≡ port_name self }
     {
@@ -28,7 +29,7 @@ impl PortName {
     }
 }
 
-// What a name stands for in its place. The last three stand behind a name, and are none of their own.
+/// What a name stands for in its place. The last three stand behind a name, and are none of their own.
 #[derive(Clone, Copy, Debug)]
 pub(crate) enum Role {
     NamesModule,

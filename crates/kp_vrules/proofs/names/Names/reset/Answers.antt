@@ -1,4 +1,4 @@
-use Rattle.kp_vrules.specs.Tables.{found}
+use Rattle.kp_vwidths.specs.Tables.{found}
 use Rattle.kp_vrules.proofs.Starting.{reset_done}
 use Rattle.kp_vrules.proofs.names.Names.reset.Goals as goal
 

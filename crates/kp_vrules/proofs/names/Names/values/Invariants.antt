@@ -1,5 +1,5 @@
 use Rattle.std.proofs.Common.{◌≡◌, ◌++◌, drop}
-use Rattle.kp_vrules.specs.Tables.{found}
+use Rattle.kp_vwidths.specs.Tables.{found}
 use Rattle.kp_vrules.specs.inner.Starting.{values_by}
 use Rattle.kp_vrules.proofs.names.Names.values.Given as goal
 

@@ -1,0 +1,3 @@
+-- What only private contracts and proofs of this crate speak of: no public clause rests on it.
+pub mod Starting
+pub mod Sizing
