@@ -22,7 +22,7 @@ use Rattle.kp_vlog.proofs.Tests.{first_true, second_true, le_of, lt_of}
 use Rattle.kp_vlog.proofs.Scans.{NoneOf, none_front, none_behind}
 use Rattle.kp_vlog.proofs.Declared.{want_none, range_width}
 use Rattle.kp_vlog.proofs.Sound.{Holds}
-use Rattle.kp_vrules.specs.Tables.{AlikeSizes, found}
+use Rattle.kp_vwidths.specs.Tables.{AlikeSizes, found}
 use Rattle.kp_vread.specs.inner.Building.{RightFits, ItemFits, AreNarrow, start_from}
 use Rattle.kp_vread.specs.inner.Parts.{PortFits, RegFits, AreStarted}
 use Rattle.kp_vread.proofs.Beside.{start_same}

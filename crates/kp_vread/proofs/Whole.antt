@@ -9,7 +9,7 @@ use Rattle.kp_vlog.specs.Scope.{scope_of, sizes_of}
 use Rattle.kp_vlog.specs.Rules.{broken}
 use Rattle.kp_vlog.specs.Denote.{made_by, parts_of, net_of}
 use Rattle.kp_vlog.proofs.Sound.{sound}
-use Rattle.kp_vrules.specs.Tables.{AlikeSizes}
+use Rattle.kp_vwidths.specs.Tables.{AlikeSizes}
 use Rattle.kp_vread.specs.inner.Numbering.{Numbered, AreNumbered}
 use Rattle.kp_vread.specs.inner.Building.{Numbers, IsScope, IsMade}
 

@@ -3,7 +3,7 @@ ghost use Rattle.std.specs.Prelude.{◌≡◌, ◌≤◌, ℕ, List, None, All, 
 ghost use Rattle.kp_vlog.specs.Scope.{sizes_of};
 ghost use Rattle.kp_vlog.specs.Rules.{broken};
 ghost use Rattle.kp_vlog.specs.Denote.{net_of, parts_of};
-ghost use Rattle.kp_vrules.specs.Tables.{AlikeSizes};
+ghost use Rattle.kp_vwidths.specs.Tables.{AlikeSizes};
 ghost use Rattle.kp_vread.specs.inner.Numbering.{AreNumbered};
 ghost use Rattle.kp_vread.specs.inner.Building.{AreNarrow};
 ghost use Rattle.kp_vread.specs.inner.Parts.{PortFits, AreStarted};
@@ -15,10 +15,10 @@ use crate::parts::{Sources, files, output, regs, samples};
 use kp_base::{List, NoMemory};
 use kp_net::{Label, Netlist, Parts};
 use kp_vlog::VModule;
-use kp_vrules::Starts;
+use kp_vwidths::Starts;
 use std::alloc::Global;
 
-// The netlist of a module that breaks no rule.
+/// The netlist of a module that breaks no rule. Refuses only where memory runs out.
 pub(crate) fn build(alloc: Global, whole: &VModule) -> Result<Netlist, NoMemory>
     requires sound { broken whole.now ≡ None }
     requires samples { length whole.now.samples ≤ 16777216 }

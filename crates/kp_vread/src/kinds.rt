@@ -10,7 +10,7 @@ use kp_vlog::{Named, Right};
 use kp_vrules::is_sample;
 use std::alloc::Global;
 
-// What a wire with this right side does. Its operands are wires that are numbered so far.
+/// What a wire with this right side does. Its operands are wires that are numbered so far. Refuses only where memory runs out.
 pub(crate) fn kind<'m>(
     alloc: Global,
     numbers: &Numbers<'m>,
@@ -41,7 +41,7 @@ pub(crate) fn kind<'m>(
     }
 }
 
-// The node of a wire.
+/// The node of a wire.
 pub(crate) fn node<'m>(wires: &Places<'m>, name: &'m Named) -> NodeId
     ensures { result ≡ node_by wires.now name.now }
 {

@@ -9,10 +9,13 @@ use indexmap::IndexMap;
 use kp_base::NoMemory;
 use kp_net::{Label, NodeId};
 use kp_vlog::Update;
-use kp_vrules::Key;
+use kp_vwidths::Key;
 use std::alloc::Global;
 use std::marker::Model;
 
+/// The nodes whose values registers take, found in about constant time.
+///
+/// Contracts see the names with their nodes.
 #[derive(Drop)]
 pub(crate) struct Nexts<'m> {
     table: IndexMap<Key<'m>, NodeId>,
@@ -28,7 +31,8 @@ impl<'m> Model for Nexts<'m> {
 }
 
 impl<'m> Nexts<'m> {
-    // The first update of each register counts, so from the last line on.
+    /// The next values by these updates, of nodes that are the places of wires. Where a register has several, its first one counts. Refuses
+    /// only where memory runs out.
     pub fn new(
         alloc: Global,
         wires: &Places<'m>,
@@ -65,7 +69,7 @@ impl<'m> Nexts<'m> {
         }
     }
 
-    // The node whose value the register takes; the first one where it takes none.
+    /// The node whose value the register takes; node 0 where it takes none.
     pub fn get(&self, name: &'m Label) -> NodeId
         ensures { result ≡ next_by self.now name.now }
     {

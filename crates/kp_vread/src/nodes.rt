@@ -13,7 +13,7 @@ use kp_vlog::{Item, Named, Right};
 use kp_vrules::is_output;
 use std::alloc::Global;
 
-// The wires that are assigned so far, by their numbers, and their nodes.
+/// The wires that are assigned so far, by their numbers, and their nodes.
 #[derive(Drop)]
 pub(crate) struct Made<'m> {
     pub wires: Places<'m>,
@@ -21,7 +21,7 @@ pub(crate) struct Made<'m> {
 }
 
 impl<'m> Made<'m> {
-    // The wires of a module, and their nodes.
+    /// The wires of a module and their nodes, in the order of their assignments. Refuses only where memory runs out.
     pub fn new(
         alloc: Global,
         numbers: &Numbers<'m>,

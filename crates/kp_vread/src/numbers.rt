@@ -7,10 +7,12 @@ ghost use Rattle.kp_vread.specs.inner.Building.{IsScope};
 use crate::places::Places;
 use kp_base::NoMemory;
 use kp_vlog::{Item, VModule, VPort};
-use kp_vrules::Sizes;
+use kp_vwidths::Sizes;
 use std::alloc::Global;
 use std::marker::Model;
 
+/// What the names of a module stand for: the sizes of all, and the places of the samples, registers and files, each in the order of
+/// declaration.
 #[derive(Drop)]
 pub(crate) struct Numbers<'m> {
     pub sizes: Sizes<'m>,
@@ -28,7 +30,7 @@ impl<'m> Model for Numbers<'m> {
 }
 
 impl<'m> Numbers<'m> {
-    // The numbers of the names of a module.
+    /// The numbers of the names of a module. Refuses only where memory runs out.
     pub fn new(alloc: Global, whole: &'m VModule) -> Result<Numbers<'m>, NoMemory>
         requires samples { length whole.now.samples ≤ 16777216 }
         requires items { length whole.now.items ≤ 16777216 }

@@ -5,10 +5,13 @@ ghost use Rattle.kp_vread.specs.inner.Numbering.{place_by, AreNumbered};
 use indexmap::IndexMap;
 use kp_base::NoMemory;
 use kp_net::Label;
-use kp_vrules::Key;
+use kp_vwidths::Key;
 use std::alloc::Global;
 use std::marker::Model;
 
+/// Names by their numbers, found in about constant time.
+///
+/// Contracts see the names with their numbers, and how many were added.
 #[derive(Drop)]
 pub(crate) struct Places<'m> {
     table: IndexMap<Key<'m>, u32>,
@@ -24,6 +27,7 @@ impl<'m> Model for Places<'m> {
 }
 
 impl<'m> Places<'m> {
+    /// No names.
     #[tactic(auto, using(crate::proofs::Numbering::none_numbered))]
     pub fn new(alloc: Global) -> Places<'m>
         ensures numbered { AreNumbered result [] }
@@ -35,7 +39,7 @@ impl<'m> Places<'m> {
         }
     }
 
-    // The number of a name: how many came before it.
+    /// The number of a name: how many were added before it. Of a name that was not added, how many were.
     pub fn place(&self, name: &'m Label) -> u32
         ensures { result ≡ place_by self.now name.now }
     {
@@ -45,7 +49,7 @@ impl<'m> Places<'m> {
         }
     }
 
-    // One name more; where it came before, it keeps its number.
+    /// Adds a name; where it is there, it keeps its number, and the count grows all the same. Refuses only where memory runs out.
     pub fn add(&mut self, name: &'m Label) -> Result<(), NoMemory>
         requires { self.old.count < 2 ^ 32 - 1 }
         ensures numbered { OnOk result ((ks : List (List ℕ)) → AreNumbered self.old ks → AreNumbered self.new (ks ++ name.now ∷ [])) }

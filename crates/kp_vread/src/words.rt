@@ -8,7 +8,7 @@ use kp_net::Label;
 use kp_vlog::Init;
 use std::alloc::Global;
 
-// The words of a file of this name, so many of them.
+/// The words that a file of this name starts with, so many of them. Refuses only where memory runs out.
 pub(crate) fn words(
     alloc: Global,
     inits: &[Init],

@@ -1,5 +1,5 @@
 -- The names of a reset list, by a table of start values.
-use Rattle.std.proofs.Common.{◌≡◌, ◌∙◌, ℕ, List, [], ◌∷◌, ◌++◌, Option, Result, Ok, Err, OnOk, codes, refl, ap}
+use Rattle.std.proofs.Common.{◌≡◌, ◌∙◌, ℕ, List, [], ◌∷◌, ◌++◌, Option, Some, Result, Ok, Err, OnOk, codes, refl, ap}
 use Rattle.kp_bits.specs.declared.literal.Literal.{Literal}
 use Rattle.kp_vlog.specs.declared.tree.Init.{Init}
 use Rattle.kp_vlog.specs.declared.tree.ResetValue.{ResetValue}

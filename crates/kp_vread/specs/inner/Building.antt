@@ -14,7 +14,7 @@ use Rattle.kp_vlog.specs.declared.tree.Item.{Item}
 use Rattle.kp_vlog.specs.declared.tree.Item.TheVariants as lines
 use Rattle.kp_vlog.specs.Scope.{Scope, Sizes, width_in}
 use Rattle.kp_vlog.specs.Denote.{Made}
-use Rattle.kp_vrules.specs.Tables.{AlikeSizes}
+use Rattle.kp_vwidths.specs.Tables.{AlikeSizes}
 use Rattle.kp_vread.specs.inner.Numbering.{Numbered, place_by, AreNumbered}
 
 pub record Numbers : Type 0 where
