@@ -59,6 +59,24 @@ impl<'a> SeqMachine<'a> {
         })
     }
 
+    /// A copy of the machine: it has the same job and is in the same state, and the machine stays as it is. The copy takes all its memory
+    /// here, and want of it is the one refusal.
+    pub fn copied(&self, alloc: Global) -> Result<SeqMachine<'a>, NoMemory>
+        ensures { IfOk result (λ m. m ≡ self.now) }
+    {
+        let tables = Tables::lay_out(alloc, self.design)?;
+        let under = Instruction::new(alloc, &tables)?;
+        let room = vec![in alloc; zero_bit(); self.room.len()]?;
+        let words = self.words.copied(alloc)?;
+        Ok(SeqMachine {
+            design: self.design,
+            tables,
+            under,
+            room,
+            words,
+        })
+    }
+
     /// Runs one instruction of a machine without samples. Takes no memory.
     #[tactic(auto, using(crate::proofs::Sampling::no_row))]
     pub fn step(&mut self)

@@ -53,6 +53,17 @@ impl Words {
         Ok(Words { targets })
     }
 
+    /// A copy of the words.
+    pub fn copied(&self, alloc: Global) -> Result<Words, NoMemory>
+        ensures { IfOk result (λ words. words ≡ self.now) }
+    {
+        let mut targets = Vec::new(alloc);
+        for words in self.targets.as_slice() {
+            targets.push(Vec::from_slice(alloc, words.as_slice())?)?;
+        }
+        Ok(Words { targets })
+    }
+
     /// The word of a target at an address, and 0 where there is none.
     pub fn word(&self, target: usize, address: u64) -> u64
         ensures { result ≡ state_in self.now target address }

@@ -1,0 +1,22 @@
+use Rattle.std.proofs.Common.{◌∙◌, ap, subst, sym, arith}
+use Rattle.kp_machine.specs.Slots.{targets_of}
+use Rattle.kp_seq.specs.inner.Ready.{FitSlots}
+use Rattle.kp_seq.proofs.machine.SeqMachine.copied.Goals as goal
+
+pub invariant_of-result : goal.invariant_of-result
+invariant_of-result c =
+    let m = c.self.inside in
+    let i = c.self.invariant in
+    record {
+      names = i.names;
+      stages = i.stages;
+      tables = c.in_ok-tables.ensures;
+      places = c.in_ok-under.ensures;
+      room = omega (arith, c.in_ok-room.ensures.len, c.in_ok-room.room.ok.0, m.room.ok.0, i.room);
+      words = subst (FitSlots (targets_of m.design.now.job.decls)) (sym c.in_ok-words.ensures) i.words;
+    }
+
+pub returns : goal.returns
+returns c =
+    let m = c.self.inside in
+    ap (λ words. record { job = m.design.now.job; words = words }) c.in_ok-words.ensures ∙ c.self.view_is
