@@ -1,5 +1,5 @@
 -- An input has one verdict: one job, or one first broken rule at one place.
-use Rattle.std.proofs.Common.{◌≡◌, ℕ, List, length, Result, Ok, Err, Some, None, inl, inr, ap, subst, refl, arith}
+use Rattle.std.proofs.Common.{◌≡◌, ℕ, List, length, Result, Ok, Err, Some, None, inl, inr, ap, subst, refl, sym, ◌∙◌, arith}
 use Rattle.std.specs.declared.option.Option.{Option}
 use Rattle.std.proofs.lemmas.Bool.{cases_lt}
 use Rattle.kp_base.specs.Refusal.{e_rule}
@@ -12,9 +12,11 @@ use Rattle.kp_lex.proofs.Outcome.{one_outcome, some_outcome}
 use Rattle.kp_parse.specs.Sentence.{IsTree, Breaks}
 use Rattle.kp_parse.proofs.Unique.{one_tree, one_rule, no_rule}
 use Rattle.kp_parse.proofs.Verdict.{has_verdict}
-use Rattle.kp_judge.specs.Judging.{IsSentenceOf, Describes, JudgesText, Judges, broken_in, most_bytes}
+use Rattle.kp_judge.specs.Judging.{IsSentenceOf, Describes, JudgesText, Judges, JudgesHeadText, JudgesHead, broken_in, most_bytes}
 use Rattle.kp_judge.specs.Judging.JudgesText.{no_tokens, no_sentence, no_end, no_job, accepted}
 use Rattle.kp_judge.specs.Judging.Judges.{over, within}
+use Rattle.kp_judge.specs.Judging.JudgesHeadText.{no_head_tokens, no_head_sentence, no_head_job, head_accepted}
+use Rattle.kp_judge.specs.Judging.JudgesHead.{head_over, head_within}
 
 module _ (text : List ℕ) where
   same_tokens : (l m : Lexed) → HasOutcome text (Ok l) → HasOutcome text (Ok m) → m ≡ l
@@ -101,4 +103,54 @@ pub some_verdict : (input : List ℕ) → (v : Result Job Refusal) × Judges inp
 some_verdict input = elim (cases_lt most_bytes (length input)) [
   | inl long ↦ (_, over long)
   | inr short ↦ let o = some_outcome input in let v = of_outcome input o.0 o.1 in (v.0, within short v.1)
+]
+
+-- The head of an input has one verdict ..
+module _ (text : List ℕ) where
+  one_head_text : {a b : Result (Job × ℕ) Refusal} → JudgesHeadText text a → JudgesHeadText text b → a ≡ b
+  one_head_text (no_head_tokens h) (no_head_tokens i) = cc (one_outcome h i)
+  one_head_text (no_head_tokens {refusal = r} h) (no_head_sentence {lexed = m} i b) = absurd (no_both text m r i h)
+  one_head_text (no_head_tokens {refusal = r} h) (no_head_job {lexed = m} s e) = absurd (no_both text m r s.tokens h)
+  one_head_text (no_head_tokens {refusal = r} h) (head_accepted {lexed = m} s e) = absurd (no_both text m r s.tokens h)
+  one_head_text (no_head_sentence {lexed = l} h b) (no_head_tokens {refusal = r} i) = absurd (no_both text l r h i)
+  one_head_text (no_head_sentence {lexed = l} {refusal = r} h b) (no_head_sentence {lexed = m} {refusal = s} i c) = ap Err (same_break text l m r s h i b c)
+  one_head_text (no_head_sentence {lexed = l} {refusal = r} h b) (no_head_job {lexed = m} {job = j} s e) = absurd (no_break text m l j r s h b)
+  one_head_text (no_head_sentence {lexed = l} {refusal = r} h b) (head_accepted {lexed = m} {job = j} s e) = absurd (no_break text m l j r s h b)
+  one_head_text (no_head_job {lexed = l} s e) (no_head_tokens {refusal = r} i) = absurd (no_both text l r s.tokens i)
+  one_head_text (no_head_job {lexed = l} {job = j} s e) (no_head_sentence {lexed = m} {refusal = r} i c) = absurd (no_break text l m j r s i c)
+  one_head_text (no_head_job {lexed = l} {job = i} {refusal = r} s e) (no_head_job {lexed = m} {job = j} {refusal = q} t f) =
+      let same : r ≡ q = cc (ap broken_in (same_job text l m i j s t), e, f) in ap Err same
+  one_head_text (no_head_job {lexed = l} {job = i} s e) (head_accepted {lexed = m} {job = j} t f) = cc (ap broken_in (same_job text l m i j s t), e, f)
+  one_head_text (head_accepted {lexed = l} s e) (no_head_tokens {refusal = r} i) = absurd (no_both text l r s.tokens i)
+  one_head_text (head_accepted {lexed = l} {job = j} s e) (no_head_sentence {lexed = m} {refusal = r} i c) = absurd (no_break text l m j r s i c)
+  one_head_text (head_accepted {lexed = l} {job = i} s e) (no_head_job {lexed = m} {job = j} t f) = cc (ap broken_in (same_job text l m i j s t), e, f)
+  one_head_text (head_accepted {lexed = l} {job = i} s e) (head_accepted {lexed = m} {job = j} t f) =
+      ap (λ (k : Job). Ok (k, l.rest)) (same_job text l m i j s t) ∙ ap (λ (x : Lexed). Ok (j, x.rest)) (sym (same_tokens text l m s.tokens t.tokens))
+
+pub one_head : (input : List ℕ) (a b : Result (Job × ℕ) Refusal) → JudgesHead input a → JudgesHead input b → a ≡ b
+one_head input _ _ (head_over h) (head_over i) = refl
+one_head input _ _ (head_over h) (head_within i j) = absurd (omega arith)
+one_head input _ _ (head_within h j) (head_over i) = absurd (omega arith)
+one_head input _ _ (head_within h j) (head_within i k) = one_head_text input j k
+
+-- .. and it has one
+module _ (text : List ℕ) where
+  head_of_job : (l : Lexed) (j : Job) (broken : Option Refusal) → broken_in j ≡ broken → IsSentenceOf text l j → (v : Result (Job × ℕ) Refusal) × JudgesHeadText text v
+  head_of_job l j None e s = (Ok (j, l.rest), head_accepted s e)
+  head_of_job l j (Some r) e s = (Err r, no_head_job s e)
+
+  head_of_tokens : (l : Lexed) → HasOutcome text (Ok l) → (v : Result (Job × ℕ) Refusal) × JudgesHeadText text v
+  head_of_tokens l h = elim (has_verdict text l.tokens) [
+    | inl j ↦ head_of_job l j.0 (broken_in j.0) refl (record { tokens = h; tree = j.1 })
+    | inr r ↦ (Err r.0, no_head_sentence h r.1)
+  ]
+
+  head_of_outcome : (o : Result Lexed Refusal) → HasOutcome text o → (v : Result (Job × ℕ) Refusal) × JudgesHeadText text v
+  head_of_outcome (Ok l) h = head_of_tokens l h
+  head_of_outcome (Err r) h = (Err r, no_head_tokens h)
+
+pub some_head : (input : List ℕ) → (v : Result (Job × ℕ) Refusal) × JudgesHead input v
+some_head input = elim (cases_lt most_bytes (length input)) [
+  | inl long ↦ (_, head_over long)
+  | inr short ↦ let o = some_outcome input in let v = head_of_outcome input o.0 o.1 in (v.0, head_within short v.1)
 ]

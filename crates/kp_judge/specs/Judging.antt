@@ -57,3 +57,20 @@ pub data Judges (input : List ℕ) : Result Job Refusal → Type 0 where
   -- E3
   over : most_bytes < length input → Judges input (Err too_long)
   within : {verdict : Result Job Refusal} → length input ≤ most_bytes → JudgesText input verdict → Judges input verdict
+
+-- What the rules say of the head of a text that is not too long: its job, and the offset behind its `end`. What stands there is asked nothing.
+pub data JudgesHeadText (text : List ℕ) : Result (Job × ℕ) Refusal → Type 0 where
+  -- E1 or E2: some token up to the first `end` is wrong in itself
+  no_head_tokens : {refusal : Refusal} → HasOutcome text (Err refusal) → JudgesHeadText text (Err refusal)
+  -- E4 or E27: these tokens are no sentence, or one that is too deep
+  no_head_sentence : {lexed : Lexed} {refusal : Refusal} → HasOutcome text (Ok lexed) → Breaks text lexed.tokens refusal → JudgesHeadText text (Err refusal)
+  -- E5 to E26, E28 to E32, and E34 to E37: the tree breaks a rule
+  no_head_job : {lexed : Lexed} {job : Job} {refusal : Refusal} → IsSentenceOf text lexed job → broken_in job ≡ Some refusal → JudgesHeadText text (Err refusal)
+  -- no rule is broken
+  head_accepted : {lexed : Lexed} {job : Job} → IsSentenceOf text lexed job → broken_in job ≡ None → JudgesHeadText text (Ok (job, lexed.rest))
+
+-- What the rules say of the head of an input.
+pub data JudgesHead (input : List ℕ) : Result (Job × ℕ) Refusal → Type 0 where
+  -- E3
+  head_over : most_bytes < length input → JudgesHead input (Err too_long)
+  head_within : {verdict : Result (Job × ℕ) Refusal} → length input ≤ most_bytes → JudgesHeadText input verdict → JudgesHead input verdict

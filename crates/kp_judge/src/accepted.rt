@@ -1,4 +1,4 @@
-// A job that breaks no rule.
+// A job that breaks no rule, alone or at the head of an input.
 ghost use Rattle.std.specs.Prelude.{◌≡◌, ◌<◌, ◌^◌, length, None};
 ghost use Rattle.kp_base.specs.First.{first};
 ghost use Rattle.kp_stage.specs.Start.{start_of, stall_word, input};
@@ -19,4 +19,11 @@ pub struct Accepted {
     pub ghost stalls: { word_in sections.stalls ≡ stall_word design.job },
     pub ghost inputs: { row_in sections.inputs ≡ input design.job },
     pub ghost unbroken: { first (sections_of design.job).asked ≡ None },
+}
+
+/// A job at the head of an input, and the offset behind its `end`, where the rest begins.
+#[derive(Drop)]
+pub struct Head {
+    pub job: Accepted,
+    pub rest: u32,
 }

@@ -1,11 +1,11 @@
 // The job that an input describes, or the first rule that the input breaks.
-ghost use Rattle.std.specs.Prelude.{◌≡◌, ◌≤◌, length};
+ghost use Rattle.std.specs.Prelude.{◌≡◌, ◌≤◌, length, IfOk};
 ghost use Rattle.kp_base.specs.First.{Answers};
 ghost use Rattle.kp_judge.specs.Judging.{broken_in, most_bytes};
-ghost use Rattle.kp_judge.specs.Accepting.{AnswersText};
-ghost use Rattle.kp_judge.specs.inner.Reading.{AnswersTree, IsCountable};
+ghost use Rattle.kp_judge.specs.Accepting.{AnswersText, AnswersHead};
+ghost use Rattle.kp_judge.specs.inner.Reading.{AnswersTree, AnswersRead, IsCountable};
 
-use crate::accepted::Accepted;
+use crate::accepted::{Accepted, Head};
 use kp_ast::Job;
 use kp_base::{Refusal, Refused};
 use kp_image::start;
@@ -25,17 +25,37 @@ pub fn judge(alloc: Global, text: &[u8]) -> Result<Accepted, Refused>
     accept(alloc, job)
 }
 
+/// What the rules say of the head of a text that is not too long: its job, and the offset where the rest begins, behind the job's `end`; or
+/// the first rule that the head breaks. What stands behind the `end` isn't looked at. `NoMemory` says nothing of the text.
+pub fn judge_head(alloc: Global, text: &[u8]) -> Result<Head, Refused>
+    requires { length text.now ≤ most_bytes }
+    ensures answer { AnswersHead text.now result }
+    ensures within { IfOk result (λ h. h.rest ≤ length text.now) }
+{
+    let Parsed { job: tree, rest } = read_head(alloc, text)?;
+    let job = accept(alloc, tree)?;
+    Ok(Head { job, rest })
+}
+
 // The tree of a text with nothing behind its end.
 fn read_tree(alloc: Global, text: &[u8]) -> Result<Job, Refused>
     requires { length text.now ≤ most_bytes }
     ensures { AnswersTree text.now result }
 {
-    let lexed = lex(alloc, text)?;
-    let Parsed { job, rest } = parse(alloc, &lexed, text)?;
+    let Parsed { job, rest } = read_head(alloc, text)?;
     match tail(text, rest) {
         Some(place) => Err(Refused::Rule(Refusal::e(4, place))),
         None => Ok(job),
     }
+}
+
+// The tree at the head of a text.
+fn read_head(alloc: Global, text: &[u8]) -> Result<Parsed, Refused>
+    requires { length text.now ≤ most_bytes }
+    ensures { AnswersRead text.now result }
+{
+    let lexed = lex(alloc, text)?;
+    parse(alloc, &lexed, text)
 }
 
 // The design and the sections of a tree, or the first rule that it breaks.

@@ -2,10 +2,16 @@
 ghost use Rattle.std.specs.Prelude.{◌≡◌, ℕ, List, Result};
 ghost use Rattle.kp_base.specs.declared.refusal.Refusal.{Refusal};
 ghost use Rattle.kp_ast.specs.declared.tree.Job.{Job};
-ghost use Rattle.kp_judge.specs.Judging.{Judges};
+ghost use Rattle.kp_judge.specs.Judging.{Judges, JudgesHead};
 
 /// An input has one verdict: one job, or one first broken rule at one place.
 pub fn an_input_has_one_verdict()
     ensures some { (input : List ℕ) → (verdict : Result Job Refusal) × Judges input verdict }
     ensures one { (input : List ℕ) (a b : Result Job Refusal) → Judges input a → Judges input b → a ≡ b }
+{}
+
+/// The head of an input has one verdict: one job and one place where the rest begins, or one first broken rule at one place.
+pub fn a_head_has_one_verdict()
+    ensures some { (input : List ℕ) → (verdict : Result (Job × ℕ) Refusal) × JudgesHead input verdict }
+    ensures one { (input : List ℕ) (a b : Result (Job × ℕ) Refusal) → JudgesHead input a → JudgesHead input b → a ≡ b }
 {}
