@@ -265,6 +265,9 @@ pipe_passes = known_refused known_forms (codes "pipe") false [] refl refl ∙ al
 asm_passes : fault_of (program_of known_forms) (codes "asm" ∷ []) ≡ []
 asm_passes = known_refused known_forms (codes "asm") false [] refl refl ∙ alone_passes (codes "asm")
 
+read_passes : fault_of (program_of known_forms) (codes "read" ∷ []) ≡ []
+read_passes = known_refused known_forms (codes "read") false [] refl refl ∙ alone_passes (codes "read")
+
 seq_passes : (word : Text) → begins_with_dash word ≡ false → fault_of (program_of known_forms) (codes "seq" ∷ word ∷ []) ≡ []
 seq_passes word h = known_refused known_forms (codes "seq") true (word ∷ []) refl refl ∙ number_passes (codes "seq") word h
 
@@ -276,14 +279,19 @@ IsPassed words = fault_of (program_of known_forms) words ≡ []
 
 -- a name of none of the commands without a number
 plain_unmatched : (name : Text) → (IsPassed (name ∷ []) → ⊥) → plain_command name ≡ None
-plain_unmatched name refused = go (bytes_eq name (codes "check")) (bytes_eq name (codes "pipe")) (bytes_eq name (codes "asm")) refl refl refl
+plain_unmatched name refused =
+    go (bytes_eq name (codes "check")) (bytes_eq name (codes "pipe")) (bytes_eq name (codes "asm")) (bytes_eq name (codes "read")) refl refl refl refl
   where
-    go : (check pipe asm : Bool) → bytes_eq name (codes "check") ≡ check → bytes_eq name (codes "pipe") ≡ pipe → bytes_eq name (codes "asm") ≡ asm
-        → plain_command name ≡ None
-    go true pipe asm e p f = absurd (refused (subst (λ n. IsPassed (n ∷ [])) (has_name name (codes "check") e) check_passes))
-    go false true asm e p f = absurd (refused (subst (λ n. IsPassed (n ∷ [])) (has_name name (codes "pipe") p) pipe_passes))
-    go false false true e p f = absurd (refused (subst (λ n. IsPassed (n ∷ [])) (has_name name (codes "asm") f) asm_passes))
-    go false false false e p f = rw (e, p, f) refl
+    named : (word : List ℕ) → bytes_eq name word ≡ true → IsPassed (word ∷ []) → ⊥
+    named word e passes = refused (subst (λ n. IsPassed (n ∷ [])) (has_name name word e) passes)
+
+    go : (check pipe asm read : Bool) → bytes_eq name (codes "check") ≡ check → bytes_eq name (codes "pipe") ≡ pipe → bytes_eq name (codes "asm") ≡ asm
+        → bytes_eq name (codes "read") ≡ read → plain_command name ≡ None
+    go true pipe asm read e p f r = absurd (named (codes "check") e check_passes)
+    go false true asm read e p f r = absurd (named (codes "pipe") p pipe_passes)
+    go false false true read e p f r = absurd (named (codes "asm") f asm_passes)
+    go false false false true e p f r = absurd (named (codes "read") r read_passes)
+    go false false false false e p f r = rw (e, p, f, r) refl
 
 counted_none : (name : Text) (count : Option ℕ) → bytes_eq name (codes "seq") ≡ false → bytes_eq name (codes "sim") ≡ false
     → option_and_then (counted_command name) count ≡ None
@@ -314,7 +322,8 @@ not_named name text h fine = go (bytes_eq name text) refl
     go false e = e
 
 plain_barred : (name : Text) → is_barred name ≡ true → plain_command name ≡ None
-plain_barred name h = rw (not_named name (codes "check") h refl, not_named name (codes "pipe") h refl, not_named name (codes "asm") h refl) refl
+plain_barred name h =
+    rw (not_named name (codes "check") h refl, not_named name (codes "pipe") h refl, not_named name (codes "asm") h refl, not_named name (codes "read") h refl) refl
 
 counted_barred : (name : Text) (count : Option ℕ) → is_barred name ≡ true → option_and_then (counted_command name) count ≡ None
 counted_barred name count h = counted_none name count (not_named name (codes "seq") h refl) (not_named name (codes "sim") h refl)

@@ -3,7 +3,7 @@ use Rattle.std.specs.Prelude.{◌==◌, ◌||◌, ℕ, Bool, true, false, List, 
 use Rattle.std.specs.Str.{bytes_eq}
 use Rattle.kp_bits.specs.Literals.{number_of}
 use Rattle.kp_words.specs.declared.words.Command.{Command}
-use Rattle.kp_words.specs.declared.words.Command.TheVariants.{OnJob, Assemble}
+use Rattle.kp_words.specs.declared.words.Command.TheVariants.{OnJob, Assemble, Read}
 use Rattle.kp_words.specs.declared.words.JobCommand.TheVariants.{Seq, Check, Sim, Pipe}
 
 abbrev pub at_most : ℕ → ℕ → Option ℕ
@@ -24,7 +24,8 @@ abbrev pub plain_command : List ℕ → Option Command
 plain_command name =
     if bytes_eq name (codes "check") then Some (OnJob Check)
     else (if bytes_eq name (codes "pipe") then Some (OnJob Pipe)
-    else (if bytes_eq name (codes "asm") then Some Assemble else None))
+    else (if bytes_eq name (codes "asm") then Some Assemble
+    else (if bytes_eq name (codes "read") then Some Read else None)))
 
 -- the command of an accepted list
 abbrev pub command_of : List (List ℕ) → Option Command

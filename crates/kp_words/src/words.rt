@@ -35,6 +35,8 @@ pub enum Command {
     OnJob(JobCommand),
     /// An assembler program is read: `asm`.
     Assemble,
+    /// A Verilog text is read: `read`.
+    Read,
 }
 
 impl Command {
@@ -91,6 +93,7 @@ impl Command {
             "check" => Some(Command::OnJob(JobCommand::Check)),
             "pipe" => Some(Command::OnJob(JobCommand::Pipe)),
             "asm" => Some(Command::Assemble),
+            "read" => Some(Command::Read),
             _ => None,
         }
     }
@@ -130,7 +133,7 @@ fn with_jobs<'a>(alloc: Global) -> Result<clap::Command<'a>, AllocError>
         .subcommand(alone(alloc, "asm"))
 }
 
-// The same program, and those that make one.
+// The same program, and those that make one or read one.
 fn with_pipeline<'a>(
     alloc: Global,
     program: clap::Command<'a>,
@@ -140,7 +143,8 @@ fn with_pipeline<'a>(
 {
     program
         .subcommand(with_number(alloc, "sim")?)?
-        .subcommand(alone(alloc, "pipe"))
+        .subcommand(alone(alloc, "pipe"))?
+        .subcommand(alone(alloc, "read"))
 }
 
 // The command of this name and a number word.

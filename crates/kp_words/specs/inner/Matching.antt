@@ -23,6 +23,7 @@ known_forms =
     job_forms
     ++ record { name = codes "sim"; has_number = true }
     ∷ record { name = codes "pipe"; has_number = false }
+    ∷ record { name = codes "read"; has_number = false }
     ∷ []
 
 -- A number word is required, and any text passes as one.
