@@ -3,7 +3,7 @@ use Rattle.std.proofs.Common.{sym, subst, IfSome, ap, [], ◌++◌, ◌⊎◌, �
 use Rattle.std.specs.declared.option.Option.{Option}
 use Rattle.std.proofs.lemmas.Bool.{lt-ltb}
 use Rattle.std.specs.Io.KnownBytes.{Consumes}
-use Rattle.kp_words.specs.declared.words.Command.TheVariants.{OnJob, Assemble}
+use Rattle.kp_words.specs.declared.words.Command.TheVariants.{OnJob, Assemble, Read}
 use Rattle.kp_words.specs.declared.words.Command.{Command}
 use Rattle.std.specs.declared.result.Result.{Result}
 use Rattle.kp_base.specs.declared.refusal.Refusal.{Refusal}
@@ -13,7 +13,10 @@ use Rattle.kp_judge.specs.Judging.{Judges, JudgesText, too_long}
 use Rattle.kp_judge.specs.Judging.Judges.{over, within}
 use Rattle.kp_words.specs.Words.{command_of, reads_input}
 use Rattle.kp_show.specs.Texts.{refusal_line}
+use Rattle.kp_net.specs.Netlist.{Net}
+use Rattle.kp_vlog.specs.Canon.{canon}
 use Rattle.kp_due.specs.Due.{Completes, Due, DueFor, DueOfJob, DueOfProgram, program_of, IsDue, IsWhole}
+use Rattle.kp_due.specs.Read.{ReadsVerilog, DueOfRead, read_over, read_within}
 
 too_long_due : (command : Command) (old new : Option (List ℕ)) (taken : List ℕ) → Consumes old new taken → length taken ≡ 16777217 → IsWhole (reads_input (Some command)) taken new × DueFor (Some command) taken 2 (refusal_line too_long)
 unfolding program_of
@@ -21,6 +24,7 @@ too_long_due (OnJob command) old new taken consumed count = (inr count, (Err too
 too_long_due Assemble old new taken consumed count =
     let long : 16777216 < length taken = omega arith in
     (inr count, rw (lt-ltb 16777216 (length taken) long) (refl, refl))
+too_long_due Read old new taken consumed count = (inr count, read_over (omega arith) (refl, refl))
 
 -- past the most bytes that fit, the refusal is due, whatever the source has left
 pub too_long_is_due : (words : List (List ℕ)) (command : Command) (old new : Option (List ℕ)) (taken : List ℕ) → command_of words ≡ Some command → Consumes old new taken → length taken ≡ 16777217 → IsDue words old new 2 (refusal_line too_long)
@@ -48,11 +52,19 @@ program_all taken rest (inr count) =
     let all_over : 16777216 < length (taken ++ rest) = simp length-append (omega arith) in
     rw (lt-ltb 16777216 (length taken) taken_over, lt-ltb 16777216 (length (taken ++ rest)) all_over) refl
 
+-- and of a Verilog text
+read_all : (taken rest : List ℕ) (status : ℕ) (text : List ℕ) → ((rest ≡ []) ⊎ (length taken ≡ 16777217)) → DueOfRead taken status text → DueOfRead (taken ++ rest) status text
+read_all taken rest status text (inl none) due =
+    subst (λ (bytes : List ℕ). DueOfRead bytes status text) (sym (ap (λ (r : List ℕ). taken ++ r) none ∙ append-nil taken)) due
+read_all taken rest status text (inr count) (read_over long said) = read_over (simp length-append (omega arith)) said
+read_all taken rest status text (inr count) (read_within verdict short read said) = absurd (omega arith)
+
 due_all_for : (command : Option Command) (taken rest : List ℕ) (status : ℕ) (text : List ℕ) → IsWhole (reads_input command) taken (Some rest) → DueFor command taken status text → DueFor command (taken ++ rest) status text
 due_all_for None taken rest status text whole due = due
 due_all_for (Some (OnJob command)) taken rest status text whole (verdict, judged, said) = (verdict, judges_all taken rest whole judged, said)
 due_all_for (Some Assemble) taken rest status text whole due =
     subst (λ (found : Result (List ℕ) Refusal). DueOfProgram found status text) (sym (program_all taken rest whole)) due
+due_all_for (Some Read) taken rest status text whole due = read_all taken rest status text whole due
 
 -- what is due of the bytes that were taken is due of all
 pub due_all : (words : List (List ℕ)) (taken rest : List ℕ) (status : ℕ) (text : List ℕ) → IsWhole (reads_input (command_of words)) taken (Some rest) → Due words taken status text → Due words (taken ++ rest) status text
@@ -74,3 +86,10 @@ refused_is_due command text refusal short judged = (Err refusal, within short ju
 
 pub accepted_is_due : (command : JobCommand) (text : List ℕ) (job : Job) (status : ℕ) (answer : List ℕ) → length text ≤ 16777216 → JudgesText text (Ok job) → DueOfJob command job status answer → DueFor (Some (OnJob command)) text status answer
 accepted_is_due command text job status answer short judged due = (Ok job, within short judged, due)
+
+-- the netlist that a text denotes is due of `read`, and so is the rule that the text breaks
+pub denoted_is_due : (text : List ℕ) (net : Net) → length text ≤ 16777216 → ReadsVerilog text 0 (Ok net) → DueFor (Some Read) text 0 (canon net)
+denoted_is_due text net short denotes = read_within (Ok net) short denotes (refl, refl)
+
+pub misread_is_due : (text : List ℕ) (refusal : Refusal) → length text ≤ 16777216 → ReadsVerilog text 0 (Err refusal) → DueFor (Some Read) text 6 (refusal_line refusal)
+misread_is_due text refusal short refused = read_within (Err refusal) short refused (refl, refl)

@@ -1,3 +1,5 @@
 pub mod Dues
 pub mod Headline
+pub mod VerilogShapes
+pub mod Readings
 pub mod Outcomes

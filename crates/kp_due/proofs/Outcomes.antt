@@ -1,20 +1,29 @@
 -- One outcome is due for words and an input: one status with one text.
-use Rattle.std.proofs.Common.{◌≡◌, ◌∙◌, ℕ, List, Result, Ok, Err, Some, None, sym, subst, refl}
+use Rattle.std.proofs.Common.{◌≡◌, ◌∙◌, ℕ, List, drop, Result, Ok, Err, Some, None, length, inl, inr, sym, subst, refl, ap, arith}
+use Rattle.std.proofs.lemmas.Bool.{cases_lt}
 use Rattle.std.specs.declared.option.Option.{Option}
 use Rattle.kp_base.specs.declared.refusal.Refusal.{Refusal}
 use Rattle.kp_ast.specs.declared.tree.Job.{Job}
 use Rattle.kp_stage.specs.Counts.{summary_of}
 use Rattle.kp_asm.specs.Image.{image_text_of}
 use Rattle.kp_words.specs.declared.words.Command.{Command}
-use Rattle.kp_words.specs.declared.words.Command.TheVariants.{OnJob, Assemble}
+use Rattle.kp_words.specs.declared.words.Command.TheVariants.{OnJob, Assemble, Read}
 use Rattle.kp_words.specs.declared.words.JobCommand.{JobCommand}
 use Rattle.kp_words.specs.declared.words.JobCommand.TheVariants.{Seq, Check, Sim, Pipe}
 use Rattle.kp_words.specs.Words.{command_of}
+use Rattle.kp_judge.specs.Judging.{most_bytes, too_long}
 use Rattle.kp_judge.proofs.Verdicts.{one_verdict, some_verdict}
 use Rattle.kp_show.specs.Texts.{bad_words, refusal_line, accepted_line}
 use Rattle.kp_show.specs.States.{sequential_text}
 use Rattle.kp_show.specs.Runs.{sim_text}
+use Rattle.kp_net.specs.Netlist.{Net}
+use Rattle.kp_vlog.specs.Canon.{canon}
+use Rattle.kp_vlog.specs.Rules.{Fault}
+use Rattle.kp_vlog.specs.Verdict.{refusal_of}
+use Rattle.kp_vlog.proofs.Unique.{one_net, one_rule, no_rule}
 use Rattle.kp_due.specs.Due.{Due, DueFor, DueOfJob, DueOfVerdict, DueOfProgram, program_of}
+use Rattle.kp_due.specs.Read.{ReadsVerilog, DueOfVerilog, DueOfRead, read_over, read_within}
+use Rattle.kp_due.proofs.Readings.{some_reading}
 
 -- the texts are one but for those that `pipe` may write of a job
 abbrev SameText : Option Command → List ℕ → List ℕ → Type 0
@@ -34,11 +43,32 @@ said_of_program : (p : Result (List ℕ) Refusal) (s t : ℕ) (x y : List ℕ) �
 said_of_program (Ok words) s t x y (a, b) (c, d) = (a ∙ sym c, b ∙ sym d)
 said_of_program (Err refusal) s t x y (a, b) (c, d) = (a ∙ sym c, b ∙ sym d)
 
+-- a Verilog text denotes one netlist, or breaks one rule
+pub one_reading : (input : List ℕ) (from : ℕ) (v w : Result Net Refusal) → ReadsVerilog input from v → ReadsVerilog input from w → v ≡ w
+one_reading input from (Ok net) (Ok other) a b = ap Ok (one_net from (drop from input) net other a b)
+one_reading input from (Ok net) (Err refusal) a b = absurd (no_rule from (drop from input) net b.0 a b.1)
+one_reading input from (Err refusal) (Ok net) a b = absurd (no_rule from (drop from input) net a.0 b a.1)
+one_reading input from (Err refusal) (Err other) a b =
+    let same = one_rule from (drop from input) a.0 b.0 a.1 b.1 in
+    ap Err (a.2 ∙ ap (λ (f : Fault). refusal_of input f) same ∙ sym b.2)
+
+said_of_verilog : (v : Result Net Refusal) (s t : ℕ) (x y : List ℕ) → DueOfVerilog v s x → DueOfVerilog v t y → (s ≡ t) × (x ≡ y)
+said_of_verilog (Ok net) s t x y (a, b) (c, d) = (a ∙ sym c, b ∙ sym d)
+said_of_verilog (Err refusal) s t x y (a, b) (c, d) = (a ∙ sym c, b ∙ sym d)
+
+said_of_read : (input : List ℕ) (s t : ℕ) (x y : List ℕ) → DueOfRead input s x → DueOfRead input t y → (s ≡ t) × (x ≡ y)
+said_of_read input s t x y (read_over h (a, b)) (read_over i (c, d)) = (a ∙ sym c, b ∙ sym d)
+said_of_read input s t x y (read_over h a) (read_within v i r b) = absurd (omega arith)
+said_of_read input s t x y (read_within v h r a) (read_over i b) = absurd (omega arith)
+said_of_read input s t x y (read_within v h r a) (read_within w i q b) =
+    said_of_verilog v s t x y a (subst (λ (z : Result Net Refusal). DueOfVerilog z t y) (one_reading input 0 w v q r) b)
+
 said_for : (command : Option Command) (input : List ℕ) (s t : ℕ) (x y : List ℕ) → DueFor command input s x → DueFor command input t y → (s ≡ t) × SameText command x y
 said_for None input s t x y (a, b) (c, d) = (a ∙ sym c, λ other. b ∙ sym d)
 said_for (Some (OnJob command)) input s t x y (v, a, b) (w, c, d) =
     said_of_verdict command v s t x y b (subst (λ (z : Result Job Refusal). DueOfVerdict command z t y) (one_verdict input w v c a) d)
 said_for (Some Assemble) input s t x y a b = let p = said_of_program (program_of input) s t x y a b in (p.0, λ other. p.1)
+said_for (Some Read) input s t x y a b = let p = said_of_read input s t x y a b in (p.0, λ other. p.1)
 
 pub one_status : (words : List (List ℕ)) (input : List ℕ) (s t : ℕ) (x y : List ℕ) → Due words input s x → Due words input t y → s ≡ t
 one_status words input s t x y a b = (said_for (command_of words) input s t x y a b).0
@@ -61,11 +91,22 @@ program_said : (p : Result (List ℕ) Refusal) → (s : ℕ) × (x : List ℕ) �
 program_said (Ok words) = (0, image_text_of words, (refl, refl))
 program_said (Err refusal) = (2, refusal_line refusal, (refl, refl))
 
+verilog_said : (v : Result Net Refusal) → (s : ℕ) × (x : List ℕ) × DueOfVerilog v s x
+verilog_said (Ok net) = (0, canon net, (refl, refl))
+verilog_said (Err refusal) = (6, refusal_line refusal, (refl, refl))
+
+read_said : (input : List ℕ) → (s : ℕ) × (x : List ℕ) × DueOfRead input s x
+read_said input = elim (cases_lt most_bytes (length input)) [
+  | inl long ↦ (2, refusal_line too_long, read_over long (refl, refl))
+  | inr short ↦ let v = some_reading input 0 in let said = verilog_said v.0 in (said.0, said.1, read_within v.0 short v.1 said.2)
+]
+
 some_for : (command : Option Command) (input : List ℕ) → (command ≡ Some (OnJob Pipe) → ⊥) → (s : ℕ) × (x : List ℕ) × DueFor command input s x
 some_for None input other = (1, bad_words, (refl, refl))
 some_for (Some (OnJob command)) input other =
     let v = some_verdict input in let said = verdict_said command v.0 other in (said.0, said.1, (v.0, v.1, said.2))
 some_for (Some Assemble) input other = program_said (program_of input)
+some_for (Some Read) input other = read_said input
 
 pub some_due : (words : List (List ℕ)) (input : List ℕ) → (command_of words ≡ Some (OnJob Pipe) → ⊥) → (s : ℕ) × (x : List ℕ) × Due words input s x
 some_due words input other = some_for (command_of words) input other

@@ -8,7 +8,7 @@ use Rattle.kp_stage.specs.Counts.{summary_of}
 use Rattle.kp_asm.specs.Image.{image_text_of}
 use Rattle.kp_asm.specs.Program.{assembled}
 use Rattle.kp_words.specs.declared.words.Command.{Command}
-use Rattle.kp_words.specs.declared.words.Command.TheVariants.{OnJob, Assemble}
+use Rattle.kp_words.specs.declared.words.Command.TheVariants.{OnJob, Assemble, Read}
 use Rattle.kp_words.specs.declared.words.JobCommand.{JobCommand}
 use Rattle.kp_words.specs.declared.words.JobCommand.TheVariants.{Seq, Check, Sim, Pipe}
 use Rattle.kp_words.specs.Words.{command_of, reads_input}
@@ -16,11 +16,9 @@ use Rattle.kp_judge.specs.Judging.{Judges, too_long}
 use Rattle.kp_show.specs.Texts.{bad_words, refusal_line, accepted_line}
 use Rattle.kp_show.specs.States.{sequential_text}
 use Rattle.kp_show.specs.Runs.{sim_text}
+use Rattle.kp_due.specs.Saying.{Says}
 use Rattle.kp_due.specs.Written.{IsVerilogOf}
-
--- this status with this text
-abbrev pub Says : ℕ → List ℕ → ℕ → List ℕ → Type 0
-Says due_status due_text status text = (status ≡ due_status) × (text ≡ due_text)
+use Rattle.kp_due.specs.Read.{DueOfRead}
 
 -- what a command says of an accepted job
 abbrev pub DueOfJob : JobCommand → Job → ℕ → List ℕ → Type 0
@@ -49,6 +47,7 @@ DueFor None input status text = Says 1 bad_words status text
 DueFor (Some (OnJob command)) input status text =
     (verdict : Result Job Refusal) × Judges input verdict × DueOfVerdict command verdict status text
 DueFor (Some Assemble) input status text = DueOfProgram (program_of input) status text
+DueFor (Some Read) input status text = DueOfRead input status text
 
 -- what is due of any words
 abbrev pub Due : List (List ℕ) → List ℕ → ℕ → List ℕ → Type 0
