@@ -6,14 +6,16 @@ use Rattle.kp_base.specs.Bytes.{AppendsPart}
 use Rattle.kp_base.specs.declared.refusal.Refusal.{Refusal}
 use Rattle.kp_ast.specs.declared.tree.Job.{Job}
 use Rattle.kp_words.specs.declared.words.Command.{Command}
-use Rattle.kp_words.specs.declared.words.Command.TheVariants.{OnJob}
+use Rattle.kp_words.specs.declared.words.Command.TheVariants.{OnJob, Read}
 use Rattle.kp_words.specs.declared.words.JobCommand.{JobCommand}
 use Rattle.kp_words.specs.declared.words.JobCommand.TheVariants.{Sim, Pipe}
 use Rattle.kp_words.specs.Words.{command_of}
 use Rattle.kp_judge.specs.Judging.{JudgesText, too_long}
-use Rattle.kp_due.proofs.Dues.{too_long_is_due, refused_is_due, accepted_is_due}
+use Rattle.kp_net.specs.Netlist.{Net}
+use Rattle.kp_due.proofs.Dues.{too_long_is_due, refused_is_due, accepted_is_due, denoted_is_due, misread_is_due}
 use Rattle.kp_due.proofs.Headline.{sim_headline, pipe_headline}
 use Rattle.kp_due.specs.Due.{DueFor, DueOfJob, IsFinal, Completes, Begins}
+use Rattle.kp_due.specs.Read.{ReadsVerilog}
 use Rattle.kp_due.specs.Headline.{IsLegalRun, IsLegalVerilog}
 use Rattle.kp_tool.specs.inner.Stop.{stop_status}
 use Rattle.kp_tool.specs.declared.Stop.{Stop}
@@ -34,6 +36,15 @@ pub accepted_answers : (command : JobCommand) (input : List ℕ) (job : Job) (an
     → ((status : ℕ) (text : List ℕ) → AnswerSays answer status text → DueOfJob command job status text) → Answers (OnJob command) input answer
 unfolding Answers
 accepted_answers command input job answer short judged due = λ status text says. accepted_is_due command input job status text short judged (due status text says)
+
+-- the netlist that a Verilog text denotes is due, and so is the rule that the text breaks
+pub denoted_answers : (input : List ℕ) (net : Net) → length input ≤ 16777216 → ReadsVerilog input 0 (Ok net) → Answers Read input (answers.Denoted net)
+unfolding Answers
+denoted_answers input net short denotes = λ status text says. rw (says.0, says.1) (denoted_is_due input net short denotes)
+
+pub misread_answers : (input : List ℕ) (refusal : Refusal) → length input ≤ 16777216 → ReadsVerilog input 0 (Err refusal) → Answers Read input (answers.Misread refusal)
+unfolding Answers
+misread_answers input refusal short refused = λ status text says. rw (says.0, says.1) (misread_is_due input refusal short refused)
 
 nothing_taken : (left : Option (List ℕ)) → Consumes left left []
 nothing_taken None = tt
@@ -70,11 +81,13 @@ too_long_decided words command old new taken refusal is consumed count same = λ
 final : (ready : Ready) → IsFinal (ready_status ready)
 final readies.BadWords = (λ e. omega arith, λ e. omega arith, λ e. omega arith)
 final (readies.Refused refusal) = (λ e. omega arith, λ e. omega arith, λ e. omega arith)
+final (readies.Misread refusal) = (λ e. omega arith, λ e. omega arith, λ e. omega arith)
 final (readies.After run) = (λ e. omega arith, λ e. omega arith, λ e. omega arith)
 final (readies.Ran board) = (λ e. omega arith, λ e. omega arith, λ e. omega arith)
 final (readies.Verilog net) = (λ e. omega arith, λ e. omega arith, λ e. omega arith)
 final (readies.Checked design) = (λ e. omega arith, λ e. omega arith, λ e. omega arith)
 final (readies.Image section) = (λ e. omega arith, λ e. omega arith, λ e. omega arith)
+final (readies.Denoted net) = (λ e. omega arith, λ e. omega arith, λ e. omega arith)
 
 -- an answer that was got ready is written whole, or its beginning
 pub finishes : (answer : Answer) (ready : Ready) (held held_after : Option (List ℕ)) (status : ℕ) → Tells answer ready → status ≡ ready_status ready

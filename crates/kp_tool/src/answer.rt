@@ -26,6 +26,8 @@ pub enum Answer {
     BadWords,
     /// The input breaks a rule of the language.
     Refused(Refusal),
+    /// The Verilog text breaks a rule.
+    Misread(Refusal),
     /// The state after so many instructions.
     After(Steps),
     /// The run of the pipelined machine over so many cycles.
@@ -36,6 +38,8 @@ pub enum Answer {
     Checked(Design),
     /// The image section of an assembler program.
     Image(Vec<u8>),
+    /// The netlist that a Verilog text denotes.
+    Denoted(Netlist),
 }
 
 /// An answer that is ready to be written: from here on no memory is taken.
@@ -43,11 +47,13 @@ pub enum Answer {
 pub enum Ready<'a> {
     BadWords,
     Refused(Refusal),
+    Misread(Refusal),
     After(Run<'a>),
     Ran(Board<'a>),
     Verilog(Netlist),
     Checked(&'a Design),
     Image(&'a [u8]),
+    Denoted(&'a Netlist),
 }
 
 impl Answer {
@@ -59,6 +65,7 @@ impl Answer {
         match self {
             Answer::BadWords => Ok(Ready::BadWords),
             Answer::Refused(refusal) => Ok(Ready::Refused(*refusal)),
+            Answer::Misread(refusal) => Ok(Ready::Misread(*refusal)),
             Answer::After(steps) => Ok(Ready::After(run_of(alloc, steps.count, &steps.job)?)),
             Answer::Simulation(steps) => {
                 Ok(Ready::Ran(simulated(alloc, steps.count, &steps.job)?))
@@ -66,6 +73,7 @@ impl Answer {
             Answer::Pipelined(job) => Ok(Ready::Verilog(pipelined(alloc, job)?)),
             Answer::Checked(design) => Ok(Ready::Checked(design)),
             Answer::Image(section) => Ok(Ready::Image(section.as_slice())),
+            Answer::Denoted(net) => Ok(Ready::Denoted(net)),
         }
     }
 }

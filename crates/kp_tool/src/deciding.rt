@@ -1,6 +1,6 @@
 // The answer to a command over an input.
 ghost use Rattle.std.specs.Prelude.{◌≤◌, ℕ, List, length, IfOk};
-ghost use Rattle.kp_words.specs.declared.words.Command.TheVariants.{OnJob, Assemble};
+ghost use Rattle.kp_words.specs.declared.words.Command.TheVariants.{OnJob, Assemble, Read};
 ghost use Rattle.kp_due.specs.Due.{DueOfJob};
 ghost use Rattle.kp_tool.specs.inner.Answer.{AnswerSays, Answers};
 
@@ -8,6 +8,7 @@ use crate::answer::{Answer, Steps};
 use kp_asm::{assemble, image_text};
 use kp_base::{NoMemory, Refused};
 use kp_judge::{Accepted, judge};
+use kp_vread::read_verilog;
 use kp_words::{Command, JobCommand};
 use std::alloc::Global;
 
@@ -19,6 +20,7 @@ pub fn carry_out(alloc: Global, command: Command, input: &[u8]) -> Result<Answer
     match command {
         Command::OnJob(command) => on_job(alloc, command, input),
         Command::Assemble => on_program(alloc, input),
+        Command::Read => on_verilog(alloc, input),
     }
 }
 
@@ -55,6 +57,18 @@ fn on_program(alloc: Global, input: &[u8]) -> Result<Answer, NoMemory>
     match assemble(alloc, input) {
         Ok(words) => Ok(Answer::Image(image_text(alloc, &words)?)),
         Err(Refused::Rule(refusal)) => Ok(Answer::Refused(refusal)),
+        Err(Refused::NoMemory) => Err(NoMemory),
+    }
+}
+
+// The netlist of a Verilog text, or the first rule that it breaks.
+fn on_verilog(alloc: Global, input: &[u8]) -> Result<Answer, NoMemory>
+    requires { length input.now ≤ 16777216 }
+    ensures { IfOk result (λ answer. Answers Read input.now answer) }
+{
+    match read_verilog(alloc, input, 0) {
+        Ok(net) => Ok(Answer::Denoted(net)),
+        Err(Refused::Rule(refusal)) => Ok(Answer::Misread(refusal)),
         Err(Refused::NoMemory) => Err(NoMemory),
     }
 }

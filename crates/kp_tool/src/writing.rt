@@ -25,6 +25,10 @@ impl Ready<'_> {
                 write_refusal(*refusal, sink)?;
                 Ok(2)
             }
+            Ready::Misread(refusal) => {
+                write_refusal(*refusal, sink)?;
+                Ok(6)
+            }
             Ready::After(run) => {
                 write_run_after(run.count, &run.machine, run.design, sink)?;
                 Ok(0)
@@ -43,6 +47,10 @@ impl Ready<'_> {
             }
             Ready::Image(section) => {
                 write_all(sink, section)?;
+                Ok(0)
+            }
+            Ready::Denoted(net) => {
+                write_verilog(net, sink)?;
                 Ok(0)
             }
         }

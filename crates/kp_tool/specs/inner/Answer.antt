@@ -10,7 +10,8 @@ use Rattle.kp_words.specs.declared.words.Command.{Command}
 use Rattle.kp_show.specs.Texts.{bad_words, refusal_line, accepted_line}
 use Rattle.kp_show.specs.States.{text_after, sequential_text}
 use Rattle.kp_show.specs.Runs.{run_text, sim_text}
-use Rattle.kp_due.specs.Due.{Says, DueFor, IsDue, IsFinal}
+use Rattle.kp_due.specs.Saying.{Says}
+use Rattle.kp_due.specs.Due.{DueFor, IsDue, IsFinal}
 use Rattle.kp_due.specs.Written.{IsVerilogOf}
 use Rattle.kp_vlog.specs.Canon.{canon}
 use Rattle.kp_tool.specs.declared.answer.Answer.{Answer}
@@ -21,30 +22,36 @@ use Rattle.kp_tool.specs.declared.answer.Ready.TheVariants as readies
 abbrev pub AnswerSays : Answer → ℕ → List ℕ → Type 0
 AnswerSays answers.BadWords = Says 1 bad_words
 AnswerSays (answers.Refused refusal) = Says 2 (refusal_line refusal)
+AnswerSays (answers.Misread refusal) = Says 6 (refusal_line refusal)
 AnswerSays (answers.After steps) = Says 0 (sequential_text steps.count steps.job.design.job)
 AnswerSays (answers.Simulation steps) = Says 0 (sim_text steps.count steps.job.design.job)
 AnswerSays (answers.Pipelined job) = λ status text. (status ≡ 0) × IsVerilogOf job.design.job text
 AnswerSays (answers.Checked design) = Says 0 (accepted_line design.job.name.name (summary_of design.job))
 AnswerSays (answers.Image section) = Says 0 section.items
+AnswerSays (answers.Denoted net) = Says 0 (canon net)
 
 abbrev pub ready_status : Ready → ℕ
 ready_status readies.BadWords = 1
 ready_status (readies.Refused refusal) = 2
+ready_status (readies.Misread refusal) = 6
 ready_status (readies.After run) = 0
 ready_status (readies.Ran board) = 0
 ready_status (readies.Verilog net) = 0
 ready_status (readies.Checked design) = 0
 ready_status (readies.Image section) = 0
+ready_status (readies.Denoted net) = 0
 
 abbrev pub ready_text : Ready → List ℕ
 ready_text readies.BadWords = bad_words
 ready_text (readies.Refused refusal) = refusal_line refusal
+ready_text (readies.Misread refusal) = refusal_line refusal
 ready_text (readies.After run) = text_after run.count run.design.now.job.decls (state run.machine)
 ready_text (readies.Ran board) =
     run_text board.design.now.job (rows_seen board.design.now.job.stages.value board.cycles.rows.items) (due_behind board.design.now.job board.cycles.rows.items)
 ready_text (readies.Verilog net) = canon net
 ready_text (readies.Checked design) = accepted_line design.now.job.name.name (summary_of design.now.job)
 ready_text (readies.Image section) = section.now
+ready_text (readies.Denoted net) = canon net.now
 
 -- Whatever the answer says is due of a command and its input.
 unfoldable pub Answers : Command → List ℕ → Answer → Type 0
