@@ -23,7 +23,7 @@ use Rattle.kp_run.specs.Boards.{due_behind}
 use Rattle.kp_run.specs.Cycles.{inputs_to, HasRows}
 use Rattle.kp_run.proofs.Inputs.{seen_to, quiet_to}
 
-inputs_many : (job : Job) (cycle n : ℕ) → length (inputs_from job cycle n) ≡ n
+pub inputs_many : (job : Job) (cycle n : ℕ) → length (inputs_from job cycle n) ≡ n
 inputs_many job cycle zero = refl
 inputs_many job cycle (suc n) = ap suc (inputs_many job (suc cycle) n)
 

@@ -1,10 +1,9 @@
 -- The machines behind a run, and which of them shows a target.
-use Rattle.std.proofs.Common.{◌≡◌, ◌∙◌, ℕ, zero, suc, ◌+◌, ◌-◌, ◌<◌, ◌≤◌, List, [], ◌∷◌, ◌++◌, length, get_or, Bool, true, false, Option, Some, None, refl, ap, sym, subst, arith, length-append}
+use Rattle.std.proofs.Common.{◌≡◌, ◌∙◌, ℕ, zero, suc, ◌+◌, ◌-◌, ◌<◌, ◌≤◌, List, [], ◌∷◌, ◌++◌, length, get_or, Bool, true, false, Option, Some, None, refl, ap, sym, subst, arith}
 use Rattle.std.specs.Prelude.{cond, is_some, nat_lt, nat_le, ◌&&◌, if◌then◌else◌}
 use Rattle.std.specs.List.{All}
 use Rattle.std.proofs.lemmas.Bool.{ltb-true, ltb-false, leb-true, and_parts, lt-ltb, le-ltb}
 use Rattle.std.proofs.lemmas.List.{get_or_append_left, get_or_at}
-use Rattle.std.proofs.lemmas.List.Elements.{All-push}
 use Rattle.kp_base.specs.Refusal.{e_rule}
 use Rattle.kp_base.specs.declared.row.Row.{Row}
 use Rattle.kp_bits.specs.Word.{Word}
@@ -12,7 +11,6 @@ use Rattle.kp_ast.specs.declared.tree.Job.{Job}
 use Rattle.kp_ast.specs.declared.tree.ResultDecl.{ResultDecl}
 use Rattle.kp_stage.specs.Facts.{facts_of}
 use Rattle.kp_stage.specs.Start.{start_of}
-use Rattle.kp_stage.specs.declared.start.Start.{Start}
 use Rattle.kp_stage.specs.Stages.{broken_of}
 use Rattle.kp_stage.proofs.Unbroken.{first_none, answer_none}
 use Rattle.kp_machine.proofs.Rules.{head_kept}
@@ -27,7 +25,7 @@ use Rattle.kp_sched.specs.Rows.{rows_seen}
 use Rattle.kp_sched.specs.Runs.{passes}
 use Rattle.kp_sched.proofs.Counting.{seen_length}
 use Rattle.kp_seq.specs.Running.{Running, state}
-use Rattle.kp_run.specs.inner.Lanes.{lane_state, lane_passes, home_of, HaveRun}
+use Rattle.kp_run.specs.inner.Lanes.{lane_state, lane_passes, lane_count, home_of, HaveRun, HaveRunFrom}
 use Rattle.kp_run.specs.inner.Homes.{home_by}
 
 abbrev State : Type 0
@@ -92,29 +90,19 @@ one_step job now s rows i before after row same is this stepped =
     ∙ next_is job s rows i
     ∙ ap (run job s rows) e
 
-none_done : (job : Job) (s : State) (rows : ℕ → List Word) → run job s rows 0 ≡ s
+-- an opened machine is at the begin of the run
+pub opened_is : (job : Job) (given : ℕ → ℕ → ℕ) → state_of job (start_of job) ≡ sequential job given 0
 unfolding seq
-none_done job s rows = refl
+opened_is job given = refl
 
-pub at_first : (job : Job) (s : State) (rows : ℕ → List Word) → s ≡ run job s rows 0
-at_first job s rows = sym (none_done job s rows)
-
-pub run_is_sequential : (job opened : Job) (begin : Start) (rows : ℕ → List Word) (first last : State) (i : ℕ) → opened ≡ job → begin ≡ start_of job
-    → first ≡ state_of job begin → last ≡ run opened first rows i → last ≡ sequential job (λ j. values_in (rows j)) i
-run_is_sequential job opened begin rows first last i same begins starts ran =
-    ran ∙ ap (λ (j : Job). run j first rows i) same
-    ∙ ap (λ (s : State). run job s rows i) (starts ∙ ap (state_of job) begins)
+-- a machine of the job that ran on from there stands further in the same run
+pub ran_on : (job now : Job) (given : ℕ → ℕ → ℕ) (from to : ℕ) (before after : State) → now ≡ job → before ≡ sequential job given from
+    → ((s : State) → before ≡ seq (machine_of now) s given from → after ≡ seq (machine_of now) s given to) → after ≡ sequential job given to
+ran_on job now given from to before after same at run =
+    let s = state_of job (start_of job) in
+    run s (at ∙ sym (ap (λ (j : Job). seq (machine_of j) s given from) same)) ∙ ap (λ (j : Job). seq (machine_of j) s given to) same
 
 -- ---- machines behind each other
-
-pub lane_kept : (ms : List Running) (m : Running) (k : ℕ) → k < length ms → lane_state (ms ++ m ∷ []) k ≡ lane_state ms k
-lane_kept [] m k h = absurd (omega arith)
-lane_kept (x ∷ ms) m zero h = refl
-lane_kept (x ∷ ms) m (suc k) h = lane_kept ms m k (omega arith)
-
-pub lane_last : (ms : List Running) (m : Running) → lane_state (ms ++ m ∷ []) (length ms) ≡ state m
-lane_last [] m = refl
-lane_last (x ∷ ms) m = lane_last ms m
 
 pub lane_at : (ms : List Running) (k : ℕ) (d : Running) → k < length ms → lane_state ms k ≡ state (get_or ms k d)
 lane_at [] k d h = absurd (omega arith)
@@ -127,46 +115,81 @@ default (x ∷ xs) zero d h = refl
 default (x ∷ xs) (suc i) d h = default xs i d (omega arith)
 
 module _ (job : Job) (given : ℕ → ℕ → ℕ) where
-  pub lanes_more : (values : ℕ → ℕ) (ms : List Running) (m : Running) (n : ℕ) → length ms ≡ n → ((j : ℕ) → j < n → lane_state ms j ≡ sequential job given (values j))
-      → state m ≡ sequential job given (values n) → (j : ℕ) → j < n + 1 → lane_state (ms ++ m ∷ []) j ≡ sequential job given (values j)
-  lanes_more values ms m n many kept last j h = go (nat_lt j n) refl
-    where
-      go : (b : Bool) → nat_lt j n ≡ b → lane_state (ms ++ m ∷ []) j ≡ sequential job given (values j)
-      go true e = let below : j < n = ltb-true j n e in lane_kept ms m j (omega arith) ∙ kept j below
-      go false e =
-          let above : n ≤ j = ltb-false j n e in
-          let same : j ≡ length ms = omega arith in
-          let there : n ≡ j = omega arith in
-          ap (lane_state (ms ++ m ∷ [])) same ∙ lane_last ms m ∙ last ∙ ap (λ (i : ℕ). sequential job given (values i)) there
+  -- the machine that ran none stands behind those of all stages
+  pub none_counted : (counts : List ℕ) (n : ℕ) → n ≡ job.stages.value → 0 ≡ lane_count job.stages.value counts n
+  none_counted counts n is = let last : job.stages.value ≤ n = omega (arith, is) in rw (le-ltb n job.stages.value last) refl
 
-  pub have_run : (rows : List Row) (kept : Kept) (ms : List Running) (last : Running) → kept.stages ≡ job.stages.value → HasSeen kept rows → length ms ≡ job.stages.value
-      → All (λ m. m.job ≡ job) ms → last.job ≡ job
-      → ((j : ℕ) → j < job.stages.value → lane_state ms j ≡ sequential job given (get_or kept.passed j 0)) → state last ≡ sequential job given 0
-      → HaveRun job given (rows_seen job.stages.value rows) (ms ++ last ∷ [])
-  have_run rows kept ms last stages seen many jobs job_last states begin =
-      let n = job.stages.value in
+  pub lanes_begin : (counts : List ℕ) (n : ℕ) (m : Running) → n ≡ job.stages.value → m.job ≡ job → state m ≡ sequential job given 0
+      → HaveRunFrom job given counts n (m ∷ [])
+  lanes_begin counts n m is same at = record { count = omega (arith, is); jobs = one_job; states = none_run }
+    where
+      one_job : All (λ x. x.job ≡ job) (m ∷ [])
+      one_job zero d h = same
+      one_job (suc i) d h = absurd (omega (arith, h))
+
+      none_run : (j : ℕ) → j < 1 → lane_state (m ∷ []) j ≡ sequential job given (lane_count job.stages.value counts (j + n))
+      none_run zero h =
+          let e : n ≡ 0 + n = omega arith in
+          at ∙ ap (sequential job given) (none_counted counts n is) ∙ ap (λ (i : ℕ). sequential job given (lane_count job.stages.value counts i)) e
+      none_run (suc j) h = absurd (omega (arith, h))
+
+  -- and the machine of a stage before those behind it
+  pub stage_counted : (counts : List ℕ) (k ran : ℕ) → k < job.stages.value → ran ≡ get_or counts k 0 → ran ≡ lane_count job.stages.value counts k
+  stage_counted counts k ran below is = rw (lt-ltb k job.stages.value below) is
+
+  pub lanes_before : (counts : List ℕ) (k next ran : ℕ) (m : Running) (ms : List Running) → next ≡ k + 1 → k < job.stages.value → ran ≡ get_or counts k 0
+      → m.job ≡ job → state m ≡ sequential job given ran → HaveRunFrom job given counts next ms → HaveRunFrom job given counts k (m ∷ ms)
+  lanes_before counts k next ran m ms is below counted same at behind = record { count = omega (arith, is, behind.count); jobs = all_jobs; states = all_run }
+    where
+      all_jobs : All (λ x. x.job ≡ job) (m ∷ ms)
+      all_jobs zero d h = same
+      all_jobs (suc i) d h = behind.jobs i d (omega (arith, h))
+
+      all_run : (j : ℕ) → j < suc (length ms) → lane_state (m ∷ ms) j ≡ sequential job given (lane_count job.stages.value counts (j + k))
+      all_run zero h =
+          let e : k ≡ 0 + k = omega arith in
+          at ∙ ap (sequential job given) (stage_counted counts k ran below counted) ∙ ap (λ (i : ℕ). sequential job given (lane_count job.stages.value counts i)) e
+      all_run (suc j) h =
+          let e : j + next ≡ suc j + k = omega (arith, is) in
+          behind.states j (omega (arith, h)) ∙ ap (λ (i : ℕ). sequential job given (lane_count job.stages.value counts i)) e
+
+  -- the first of them
+  pub first_runs : (counts : List ℕ) (k ran : ℕ) (m : Running) (ms : List Running) → k ≤ job.stages.value → HaveRunFrom job given counts k ms
+      → ran ≡ lane_count job.stages.value counts k → m ≡ get_or ms 0 m → (m.job ≡ job) × (state m ≡ sequential job given ran)
+  first_runs counts k ran m ms below behind is this =
+      let some : 0 < length ms = omega (arith, behind.count, below) in
+      let e : 0 + k ≡ k = omega arith in (
+        ap (λ (x : Running). x.job) this ∙ behind.jobs 0 m some,
+        ap state this ∙ sym (lane_at ms 0 m some) ∙ behind.states 0 some
+            ∙ ap (λ (i : ℕ). sequential job given (lane_count job.stages.value counts i)) e
+            ∙ ap (sequential job given) (sym is),
+      )
+
+  pub have_run : (rows : List Row) (kept : Kept) (ms : List Running) → kept.stages ≡ job.stages.value → HasSeen kept rows
+      → HaveRunFrom job given kept.passed 0 ms → HaveRun job given (rows_seen job.stages.value rows) ms
+  have_run rows kept ms stages seen behind =
       record {
-        count = simp length-append (omega arith);
-        jobs = λ i d h. ap (λ (j : Job). targets_of j.decls) (All-push (λ m. m.job ≡ job) ms last jobs job_last i d h);
-        states = λ k h. go k h (nat_lt k n) refl;
+        count = omega (arith, behind.count);
+        jobs = λ i d h. ap (λ (j : Job). targets_of j.decls) (behind.jobs i d h);
+        states = λ k h. states_at k h;
       }
     where
-      passes_are : (k : ℕ) → k < job.stages.value → get_or kept.passed k 0 ≡ passed (rows_seen job.stages.value rows) k (length (rows_seen job.stages.value rows))
-      passes_are k h =
-          let below : k < kept.stages = omega arith in
+      passes_are : (k : ℕ) (b : Bool) → nat_lt k job.stages.value ≡ b
+          → (if b then get_or kept.passed k 0 else 0) ≡ (if b then passed (rows_seen job.stages.value rows) k (length (rows_seen job.stages.value rows)) else 0)
+      passes_are k false e = refl
+      passes_are k true e =
+          let here : k < job.stages.value = ltb-true k job.stages.value e in
+          let below : k < kept.stages = omega (arith, here, stages) in
           seen.passed k below
           ∙ ap (λ (n : ℕ). passed (rows_seen n rows) k (length rows)) stages
           ∙ ap (passed (rows_seen job.stages.value rows) k) (sym (seen_length job.stages.value rows))
 
-      go : (k : ℕ) → k ≤ job.stages.value → (b : Bool) → nat_lt k job.stages.value ≡ b
-          → lane_state (ms ++ last ∷ []) k ≡ sequential job given (if nat_lt k job.stages.value then passed (rows_seen job.stages.value rows) k (length (rows_seen job.stages.value rows)) else 0)
-      go k h true e =
-          let below : k < job.stages.value = ltb-true k job.stages.value e in
-          rw e (lane_kept ms last k (omega arith) ∙ states k below ∙ ap (sequential job given) (passes_are k below))
-      go k h false e =
-          let above : job.stages.value ≤ k = ltb-false k job.stages.value e in
-          let same : k ≡ length ms = omega arith in
-          rw e (ap (lane_state (ms ++ last ∷ [])) same ∙ lane_last ms last ∙ begin)
+      states_at : (k : ℕ) → k ≤ job.stages.value → lane_state ms k ≡ sequential job given (lane_passes job (rows_seen job.stages.value rows) k)
+      states_at k h =
+          let none : k + 0 ≡ k = omega arith in
+          behind.states k (omega (arith, h, behind.count))
+          ∙ ap (λ (i : ℕ). sequential job given (lane_count job.stages.value kept.passed i)) none
+          ∙ ap (sequential job given) (passes_are k (nat_lt k job.stages.value) refl)
 
 -- ---- what a machine shows
 

@@ -3,8 +3,8 @@ ghost use Rattle.std.specs.Prelude.{◌≡◌, ℕ, ◌+◌, ◌<◌, ◌≤◌,
 ghost use Rattle.std.specs.List.{All};
 ghost use Rattle.kp_base.specs.declared.row.Row.{Row};
 ghost use Rattle.kp_law.specs.Sequential.{seq};
-ghost use Rattle.kp_stage.specs.Start.{AreSamples};
-ghost use Rattle.kp_machine.specs.Machine.{machine_of, sequential, values_in};
+ghost use Rattle.kp_stage.specs.Start.{AreSamples, start_of};
+ghost use Rattle.kp_machine.specs.Machine.{machine_of, sequential, state_of, values_in};
 ghost use Rattle.kp_sched.specs.Monitors.{HasSeen};
 ghost use Rattle.kp_sched.specs.Rows.{rows_seen};
 ghost use Rattle.kp_seq.specs.Running.{state};
@@ -20,7 +20,8 @@ use kp_seq::SeqMachine;
 use std::alloc::Global;
 
 /// For each stage the machine after the instructions that the stage let pass, by the monitor, and one that ran none. Instruction i takes
-/// word i of each column.
+/// word i of each column. Each machine goes on from a copy of the one behind it, so where the counts ascend from the last stage to the
+/// first no instruction runs twice.
 pub(crate) fn machines_after<'a>(
     alloc: Global,
     job: &'a Accepted,
@@ -38,46 +39,69 @@ pub(crate) fn machines_after<'a>(
     let mut kept = job.sections.inputs.row(alloc, 0)?;
     let room = kept.as_mut_slice();
     let mut machines = Vec::new(alloc);
-    let stages = monitor.stages();
-    for k in 0..stages {
+    machines.push(opened(alloc, job)?)?;
+    let mut ran = 0;
+    for k in (0..monitor.stages()).rev() {
         let count = monitor.passed(k);
-        machines.push(machine_after(alloc, job, columns, room, count)?)?;
+        let machine = machine_after(alloc, job, columns, room, &machines[0], ran, count)?;
+        machines.insert(0, machine)?;
+        ran = count;
     }
-    machines.push(machine_after(alloc, job, columns, room, 0)?)?;
     Ok(machines)
 }
 
-// The machine of a job after so many instructions. There is room for the words that one of them takes.
+// The machine of a job that ran no instruction.
+fn opened<'a>(alloc: Global, job: &'a Accepted) -> Result<SeqMachine<'a>, NoMemory>
+    ensures job { IfOk result (λ m. m.job ≡ job.now.design.job) }
+    ensures state { IfOk result (λ m. state m ≡ state_of job.now.design.job (start_of job.now.design.job)) }
+{
+    let design = &job.design;
+    // What the type keeps of the job, for the proof alone.
+    let _kept = design.job();
+    SeqMachine::open(alloc, design, &job.sections.start)
+}
+
+// The machine of a job after so many instructions. It goes on from a copy of one that ran no more than these, and begins anew where that
+// one ran more. There is room for the words that an instruction takes.
 fn machine_after<'a>(
     alloc: Global,
     job: &'a Accepted,
     columns: &[Column],
     room: &mut [Bits],
+    last: &SeqMachine<'a>,
+    ran: u64,
     count: u64,
 ) -> Result<SeqMachine<'a>, NoMemory>
     requires room { length room.old ≡ length columns.now }
     requires samples { (i : ℕ) → AreSamples job.now.design.job.decls (row_taken columns.now i) }
+    requires job { last.now.job ≡ job.now.design.job }
+    requires state { state last.now ≡ sequential job.now.design.job (λ i. values_in (row_taken columns.now i)) ran }
     ensures room { length room.new ≡ length room.old }
     ensures job { IfOk result (λ m. m.job ≡ job.now.design.job) }
     ensures state { IfOk result (λ m. state m ≡ sequential job.now.design.job (λ i. values_in (row_taken columns.now i)) count) }
 {
-    let design = &job.design;
-    // What the type keeps of the job, for the proof alone.
-    let _kept = design.job();
-    let mut machine = SeqMachine::open(alloc, design, &job.sections.start)?;
-    advance(&mut machine, columns, room, count);
-    Ok(machine)
+    if ran <= count {
+        let mut machine = last.copied(alloc)?;
+        advance(&mut machine, columns, room, ran, count);
+        Ok(machine)
+    } else {
+        let mut machine = opened(alloc, job)?;
+        advance(&mut machine, columns, room, 0, count);
+        Ok(machine)
+    }
 }
 
-// Runs so many instructions.
-fn advance(machine: &mut SeqMachine<'_>, columns: &[Column], room: &mut [Bits], count: u64)
+// Runs the instructions from one number up to another.
+fn advance(machine: &mut SeqMachine<'_>, columns: &[Column], room: &mut [Bits], from: u64, to: u64)
+    requires forward { from ≤ to }
     requires room { length room.old ≡ length columns.now }
     requires samples { (i : ℕ) → AreSamples machine.old.job.decls (row_taken columns.now i) }
     ensures room { length room.new ≡ length room.old }
     ensures job { machine.new.job ≡ machine.old.job }
-    ensures state { state machine.new ≡ seq (machine_of machine.old.job) (state machine.old) (λ i. values_in (row_taken columns.now i)) count }
+    ensures state { (s : ℕ → ℕ → ℕ) → state machine.old ≡ seq (machine_of machine.old.job) s (λ i. values_in (row_taken columns.now i)) from
+        → state machine.new ≡ seq (machine_of machine.old.job) s (λ i. values_in (row_taken columns.now i)) to }
 {
-    for i in 0..count {
+    for i in from..to {
         take(columns, i, room);
         machine.step_with(room);
     }

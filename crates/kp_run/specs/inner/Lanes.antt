@@ -27,6 +27,16 @@ pub record AreHomes (job : Job) (given : List ℕ) : Type 0 where
 abbrev pub lane_passes : Job → List Row → ℕ → ℕ
 lane_passes job rows k = if nat_lt k job.stages.value then passed rows k (length rows) else 0
 
+-- how many instructions machine k has run, by the counts of n stages
+abbrev pub lane_count : ℕ → List ℕ → ℕ → ℕ
+lane_count n counts k = if nat_lt k n then get_or counts k 0 else 0
+
+-- the machines of a job from number k on, by the counts of its stages
+pub record HaveRunFrom (job : Job) (given : ℕ → ℕ → ℕ) (counts : List ℕ) (k : ℕ) (machines : List Running) : Type 0 where
+  pub count : length machines + k ≡ job.stages.value + 1
+  pub jobs : All (λ m. m.job ≡ job) machines
+  pub states : (j : ℕ) → j < length machines → lane_state machines j ≡ sequential job given (lane_count job.stages.value counts (j + k))
+
 -- the machines of a job behind these rows, where instructions are given these values of the samples
 pub record HaveRun (job : Job) (given : ℕ → ℕ → ℕ) (rows : List Row) (machines : List Running) : Type 0 where
   pub count : length machines ≡ job.stages.value + 1
