@@ -1,5 +1,5 @@
 -- The text of a run that has the pipeline's rows is the one that is due of `sim`.
-use Rattle.std.proofs.Common.{◌≡◌, ◌∙◌, ℕ, zero, suc, List, length, refl, ap, sym}
+use Rattle.std.proofs.Common.{◌≡◌, ◌∙◌, ℕ, List, length, ap, sym}
 use Rattle.kp_base.specs.declared.row.Row.{Row}
 use Rattle.kp_ast.specs.declared.tree.Job.{Job}
 use Rattle.kp_stage.specs.Start.{start_of}
@@ -11,11 +11,8 @@ use Rattle.kp_sched.specs.Rows.{rows_seen}
 use Rattle.kp_sched.specs.Runs.{due_value}
 use Rattle.kp_sched.proofs.Counting.{seen_length}
 use Rattle.kp_run.specs.Boards.{due_behind}
+use Rattle.kp_run.proofs.Legal.{inputs_many}
 use Rattle.kp_show.specs.Runs.{run_text, sim_text}
-
-inputs_many : (job : Job) (cycle n : ℕ) → length (inputs_from job cycle n) ≡ n
-inputs_many job cycle zero = refl
-inputs_many job cycle (suc n) = ap suc (inputs_many job (suc cycle) n)
 
 -- a row for each cycle
 pub rows_many : (job : Job) (n : ℕ) → length (pipe_of job (inputs_from job 0 n)).rows ≡ n
