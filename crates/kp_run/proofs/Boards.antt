@@ -15,8 +15,9 @@ use Rattle.kp_sched.proofs.Counting.{seen_length}
 use Rattle.kp_seq.specs.Running.{Running, HasWord, no_slot, state}
 use Rattle.kp_run.specs.Boards.{due_behind, passes_behind}
 use Rattle.kp_run.specs.inner.Boards.{IsBoard}
-use Rattle.kp_run.specs.inner.Columns.{Taken, row_taken, AreColumns}
-use Rattle.kp_run.specs.inner.Lanes.{AreHomes, HaveRun, home_of, lane_state}
+use Rattle.kp_run.specs.Columns.{Taken, row_taken, AreColumns}
+use Rattle.kp_run.specs.Homes.{AreHomes, home_of}
+use Rattle.kp_run.specs.inner.Lanes.{HaveRun, lane_state}
 use Rattle.kp_run.proofs.Gathering.{taken_is}
 use Rattle.kp_run.proofs.Machines.{homes_within, home_passes, home_shows, lane_at, default}
 

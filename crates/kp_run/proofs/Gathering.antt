@@ -19,7 +19,7 @@ use Rattle.kp_machine.specs.Machine.{machine_of, inputs_at, inputs_from, values_
 use Rattle.kp_machine.specs.Slots.{samples_of, sample_stages}
 use Rattle.kp_sched.specs.Rows.{bit_of, row_seen, rows_seen}
 use Rattle.kp_seq.specs.Running.{no_slot}
-use Rattle.kp_run.specs.inner.Columns.{Taken, word_taken, row_taken, words_taken, no_column, HasColumn, AreColumns}
+use Rattle.kp_run.specs.Columns.{Taken, word_taken, row_taken, words_taken, no_column, HasColumn, AreColumns}
 use Rattle.kp_run.proofs.Samples.{IsOf, many, width_at, word_at, fit_when, value_at, value_past}
 
 -- ---- all words of a column

@@ -25,7 +25,8 @@ use Rattle.kp_sched.specs.Rows.{rows_seen}
 use Rattle.kp_sched.specs.Runs.{passes}
 use Rattle.kp_sched.proofs.Counting.{seen_length}
 use Rattle.kp_seq.specs.Running.{Running, state}
-use Rattle.kp_run.specs.inner.Lanes.{lane_state, lane_passes, lane_count, home_of, HaveRun, HaveRunFrom}
+use Rattle.kp_run.specs.Homes.{home_of}
+use Rattle.kp_run.specs.inner.Lanes.{lane_state, lane_passes, lane_count, HaveRun, HaveRunFrom}
 use Rattle.kp_run.specs.inner.Homes.{home_by}
 
 abbrev State : Type 0

@@ -1,3 +1,5 @@
 pub mod Cycles
+pub mod Columns
+pub mod Homes
 pub mod Boards
 pub mod inner

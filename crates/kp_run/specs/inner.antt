@@ -1,5 +1,4 @@
 -- What stands here is for private contracts and proofs: a reader need not believe it.
-pub mod Columns
 pub mod Homes
 pub mod Lanes
 pub mod Boards

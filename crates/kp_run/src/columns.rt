@@ -6,7 +6,7 @@ ghost use Rattle.kp_law.specs.Rows.{bit, bits};
 ghost use Rattle.kp_image.specs.Feeds.{row_in};
 ghost use Rattle.kp_machine.specs.Slots.{sample_stages};
 ghost use Rattle.kp_sched.specs.Rows.{bit_of, rows_seen};
-ghost use Rattle.kp_run.specs.inner.Columns.{AreColumns, words_taken, word_taken};
+ghost use Rattle.kp_run.specs.Columns.{AreColumns, words_taken, word_taken};
 
 use kp_ast::Decl;
 use kp_base::{NoMemory, Row};
@@ -18,13 +18,13 @@ use std::marker::Model;
 
 /// What instructions take of a sample: a word for each one that leaves the sample's stage, in their order, and the word of all others.
 #[derive(Drop)]
-pub(crate) struct Column {
+pub struct Column {
     words: Vec<Bits>,
     none: Bits,
 }
 
 impl Model for Column {
-    ghost use Rattle.kp_run.specs.inner.Columns.{Taken};
+    ghost use Rattle.kp_run.specs.Columns.{Taken};
 
     ghost Value = { Taken };
 
@@ -46,11 +46,7 @@ impl Column {
 }
 
 /// For each sample of a job what the instructions of a run with these rows take of it.
-pub(crate) fn columns_of(
-    alloc: Global,
-    job: &Accepted,
-    rows: &[Row],
-) -> Result<Vec<Column>, NoMemory>
+pub fn columns_of(alloc: Global, job: &Accepted, rows: &[Row]) -> Result<Vec<Column>, NoMemory>
     ensures { IfOk result (λ columns. AreColumns job.now.design.job rows.now columns.items) }
 {
     let tree = job.design.job();
@@ -108,8 +104,8 @@ fn zero(width: u8) -> Bits
     Bits::new(width, 0).unwrap()
 }
 
-// Whether stage k of n updates in this word of update enables.
-fn updates(ue: u16, k: u64, n: u64) -> bool
+/// Whether stage k of n updates in this word of update enables.
+pub fn updates(ue: u16, k: u64, n: u64) -> bool
     requires { n ≤ 12 }
     ensures { result ≡ bit (bits (bit_of ue) n 0) k }
 {

@@ -51,8 +51,9 @@ pub fn cycles_of(
     Ok(Cycles { rows, monitor })
 }
 
-// One cycle under what the sections give in it. There is room for the values of the samples.
-fn step(sim: &mut Sim<'_>, sections: &Sections, room: &mut [Bits], cycle: u64) -> Row
+/// Runs one cycle of a netlist under the stall word and the samples of a job, with the reset not raised. There is room for the values of
+/// the samples. Takes no memory.
+pub fn step(sim: &mut Sim<'_>, sections: &Sections, room: &mut [Bits], cycle: u64) -> Row
     requires room { length room.old ≡ length sections.now.inputs }
     requires few { length room.old < 2 ^ 32 }
     requires fits { SamplesFit sim.old.net (row_in sections.now.inputs cycle) }

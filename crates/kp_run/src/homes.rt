@@ -3,7 +3,7 @@ ghost use Rattle.std.specs.Prelude.{◌≡◌, ◌+◌, ◌<◌, ◌≤◌, ◌^
 ghost use Rattle.std.specs.List.{All};
 ghost use Rattle.kp_machine.specs.Machine.{write_stage_of};
 ghost use Rattle.kp_machine.specs.Slots.{targets_of, number_of, result_to};
-ghost use Rattle.kp_run.specs.inner.Lanes.{AreHomes};
+ghost use Rattle.kp_run.specs.Homes.{AreHomes};
 ghost use Rattle.kp_run.specs.inner.Homes.{home_by, targets_in, declares};
 
 use kp_ast::{Decl, Name};
@@ -12,8 +12,8 @@ use kp_lawful::laws::a_design_is_accepted;
 use kp_stage::Design;
 use std::alloc::Global;
 
-/// For each target the number of the machine that shows it.
-pub(crate) fn homes_of(alloc: Global, design: &Design) -> Result<Vec<u8>, NoMemory>
+/// For each target the number of the machine that shows it: that of its write stage, and the number of stages where it has no result.
+pub fn homes_of(alloc: Global, design: &Design) -> Result<Vec<u8>, NoMemory>
     ensures { IfOk result (λ homes. AreHomes design.now.job homes.items) }
 {
     a_design_is_accepted(design);

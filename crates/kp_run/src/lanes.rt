@@ -8,7 +8,7 @@ ghost use Rattle.kp_machine.specs.Machine.{machine_of, sequential, state_of, val
 ghost use Rattle.kp_sched.specs.Monitors.{HasSeen};
 ghost use Rattle.kp_sched.specs.Rows.{rows_seen};
 ghost use Rattle.kp_seq.specs.Running.{state};
-ghost use Rattle.kp_run.specs.inner.Columns.{AreColumns, row_taken};
+ghost use Rattle.kp_run.specs.Columns.{AreColumns, row_taken};
 ghost use Rattle.kp_run.specs.inner.Lanes.{HaveRun};
 
 use crate::columns::Column;
@@ -107,8 +107,8 @@ fn advance(machine: &mut SeqMachine<'_>, columns: &[Column], room: &mut [Bits], 
     }
 }
 
-// The words that an instruction takes.
-fn take(columns: &[Column], i: u64, room: &mut [Bits])
+/// Puts the words that instruction i takes into a room for them.
+pub fn take(columns: &[Column], i: u64, room: &mut [Bits])
     requires { length room.old ≡ length columns.now }
     ensures { room.new ≡ row_taken columns.now i }
 {

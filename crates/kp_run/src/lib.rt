@@ -14,4 +14,7 @@ mod lanes;
 pub mod laws;
 
 pub use board::{Board, board_of};
-pub use cycles::{Cycles, cycles_of};
+pub use columns::{Column, columns_of, updates};
+pub use cycles::{Cycles, cycles_of, step};
+pub use homes::homes_of;
+pub use lanes::take;

@@ -7,7 +7,8 @@ use Rattle.kp_machine.specs.Slots.{targets_of}
 use Rattle.kp_sched.specs.Rows.{rows_seen}
 use Rattle.kp_seq.specs.Running.{Running}
 use Rattle.kp_run.specs.Boards.{passes_behind, due_behind}
-use Rattle.kp_run.specs.inner.Lanes.{AreHomes, lane_state, lane_passes, home_of}
+use Rattle.kp_run.specs.Homes.{AreHomes, home_of}
+use Rattle.kp_run.specs.inner.Lanes.{lane_state, lane_passes}
 
 -- each target is shown by one of the machines, which has run the instructions that stand behind the target
 pub record IsBoard (job : Job) (rows : List Row) (machines : List Running) (given : List ℕ) : Type 0 where

@@ -3,7 +3,7 @@ use Rattle.std.specs.Prelude.{◌≡◌, ℕ, zero, suc, ◌+◌, ◌<◌, ◌�
 use Rattle.std.specs.List.{All}
 use Rattle.kp_ast.specs.declared.tree.Job.{Job}
 use Rattle.kp_law.specs.Rows.{Row, passed}
-use Rattle.kp_machine.specs.Machine.{machine_of, sequential}
+use Rattle.kp_machine.specs.Machine.{sequential}
 use Rattle.kp_machine.specs.Slots.{targets_of}
 use Rattle.kp_seq.specs.Running.{Running, state}
 
@@ -12,16 +12,6 @@ abbrev pub lane_state : List Running → ℕ → ℕ → ℕ → ℕ
 lane_state [] k = λ t a. 0
 lane_state (m ∷ ms) zero = state m
 lane_state (m ∷ ms) (suc k) = lane_state ms k
-
--- the machine that shows a target: that of its write stage, or the one that runs nothing where the target has no result
-unfoldable pub home_of : Job → ℕ → ℕ
-home_of job t = if (machine_of job).has_result t then (machine_of job).write_stage t else job.stages.value
-
--- for each target the number of that machine
-pub record AreHomes (job : Job) (given : List ℕ) : Type 0 where
-  pub count : length given ≡ length (targets_of job.decls)
-  pub homes : (t : ℕ) → t < length given → get_or given t 0 ≡ home_of job t
-  pub within : (t : ℕ) → home_of job t ≤ job.stages.value
 
 -- how many instructions machine k has run behind these rows
 abbrev pub lane_passes : Job → List Row → ℕ → ℕ

@@ -1,6 +1,6 @@
 use Rattle.std.proofs.Common.{◌≡◌, ◌∙◌, ℕ, sym, ap}
 use Rattle.kp_stage.specs.Start.{input, AreSamples}
-use Rattle.kp_run.specs.inner.Columns.{AreColumns}
+use Rattle.kp_run.specs.Columns.{AreColumns}
 use Rattle.kp_run.proofs.Boards.{board_is}
 use Rattle.kp_run.proofs.Gathering.{rows_fit_taken}
 use Rattle.kp_run.proofs.Given.{rows_given}

@@ -2,7 +2,7 @@ use Rattle.std.proofs.Common.{◌≡◌, ◌∙◌, ℕ, ap, sym}
 use Rattle.kp_bits.specs.Word.{Word, word}
 use Rattle.kp_image.specs.Feeds.{row_in}
 use Rattle.kp_sched.specs.Rows.{rows_seen}
-use Rattle.kp_run.specs.inner.Columns.{words_taken}
+use Rattle.kp_run.specs.Columns.{words_taken}
 use Rattle.kp_run.proofs.Gathering.{one_taken, none_taken}
 use Rattle.kp_run.proofs.Samples.{is_got}
 use Rattle.kp_run.proofs.columns.column_for.Goals as goal

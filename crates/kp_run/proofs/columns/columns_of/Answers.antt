@@ -2,7 +2,7 @@ use Rattle.std.proofs.Common.{◌≡◌, ◌<◌, ◌≤◌, ◌+◌, ◌^◌, �
 use Rattle.kp_bits.specs.Word.{Word}
 use Rattle.kp_image.specs.Feeds.{row_in}
 use Rattle.kp_machine.specs.Slots.{sample_stages}
-use Rattle.kp_run.specs.inner.Columns.{HasColumn}
+use Rattle.kp_run.specs.Columns.{HasColumn}
 use Rattle.kp_run.proofs.Gathering.{columns_more}
 use Rattle.kp_run.proofs.Given.{feeds_many}
 use Rattle.kp_run.proofs.Machines.{stages_fit}

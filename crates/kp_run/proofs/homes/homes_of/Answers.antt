@@ -1,5 +1,5 @@
 use Rattle.std.proofs.Common.{◌≡◌, ◌≤◌, ◌∙◌, arith, length-append}
-use Rattle.kp_run.specs.inner.Lanes.{home_of}
+use Rattle.kp_run.specs.Homes.{home_of}
 use Rattle.kp_run.proofs.Machines.{home_is, homes_within, homes_more, stages_fit}
 use Rattle.kp_run.proofs.homes.homes_of.Goals as goal
 

@@ -1,5 +1,5 @@
 use Rattle.std.proofs.Common.{◌≡◌, ◌<◌, ℕ, length, get_or}
-use Rattle.kp_run.specs.inner.Lanes.{home_of}
+use Rattle.kp_run.specs.Homes.{home_of}
 use Rattle.kp_run.proofs.homes.homes_of.Given as goal
 
 abbrev pub invariant-loop-t : goal.invariant-loop-t

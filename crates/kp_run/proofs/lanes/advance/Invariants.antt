@@ -2,7 +2,7 @@ use Rattle.std.proofs.Common.{◌≡◌, ℕ, length}
 use Rattle.kp_law.specs.Sequential.{seq}
 use Rattle.kp_machine.specs.Machine.{machine_of, values_in}
 use Rattle.kp_seq.specs.Running.{state}
-use Rattle.kp_run.specs.inner.Columns.{row_taken}
+use Rattle.kp_run.specs.Columns.{row_taken}
 use Rattle.kp_run.proofs.lanes.advance.Given as goal
 
 abbrev pub invariant-loop-i : goal.invariant-loop-i

@@ -3,7 +3,7 @@ use Rattle.std.proofs.lemmas.List.{length-map}
 use Rattle.kp_bits.specs.Word.{Word}
 use Rattle.kp_machine.specs.Machine.{values_in}
 use Rattle.kp_machine.specs.Slots.{sample_stages}
-use Rattle.kp_run.specs.inner.Columns.{Taken, word_taken, row_taken}
+use Rattle.kp_run.specs.Columns.{Taken, word_taken, row_taken}
 use Rattle.kp_run.specs.inner.Lanes.{HaveRunFrom}
 use Rattle.kp_run.proofs.Given.{feeds_many, as_feeds}
 use Rattle.kp_run.proofs.Samples.{many}

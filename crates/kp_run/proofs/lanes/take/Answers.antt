@@ -1,7 +1,7 @@
 use Rattle.std.proofs.Common.{◌≡◌, ◌<◌, ◌∙◌, sym, ap, arith, length, get_or, length-set}
 use Rattle.std.proofs.lemmas.List.{length-map, get_or-map}
 use Rattle.kp_bits.specs.Operators.{no_word}
-use Rattle.kp_run.specs.inner.Columns.{Taken, word_taken, row_taken}
+use Rattle.kp_run.specs.Columns.{Taken, word_taken, row_taken}
 use Rattle.kp_run.proofs.Samples.{set_next}
 use Rattle.kp_run.proofs.lanes.take.Goals as goal
 

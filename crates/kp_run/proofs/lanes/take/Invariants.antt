@@ -1,6 +1,6 @@
 use Rattle.std.proofs.Common.{◌≡◌, length}
 use Rattle.std.specs.Prelude.{take}
-use Rattle.kp_run.specs.inner.Columns.{row_taken}
+use Rattle.kp_run.specs.Columns.{row_taken}
 use Rattle.kp_run.proofs.lanes.take.Given as goal
 
 abbrev pub invariant-loop-x : goal.invariant-loop-x
