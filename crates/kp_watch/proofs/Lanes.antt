@@ -1,0 +1,226 @@
+-- The machines beside a run, one row after another.
+use Rattle.std.proofs.Common.{◌≡◌, ◌≢◌, ◌∙◌, ℕ, zero, suc, ◌+◌, ◌<◌, ◌≤◌, List, [], ◌∷◌, ◌++◌, length, get_or, set, map, Bool, true, false, refl, ap, sym, subst, arith, length-append, length-set}
+use Rattle.std.specs.Prelude.{nat_lt, if◌then◌else◌}
+use Rattle.std.specs.List.{All}
+use Rattle.std.proofs.lemmas.Bool.{ltb-true, ltb-false, lt-ltb, le-ltb}
+use Rattle.std.proofs.lemmas.List.{get_or-map, get_or_append_left, get_or_at, get_or-set_other}
+use Rattle.std.proofs.lemmas.List.Elements.{All-set, All-push}
+use Rattle.std.proofs.lemmas.Grind.{get_or-set_at}
+use Rattle.kp_base.specs.declared.row.Row as masks
+use Rattle.kp_ast.specs.declared.tree.Job.{Job}
+use Rattle.kp_law.specs.Accepted.{Accepted}
+use Rattle.kp_law.specs.Rows.{Row, bit, bits, one_if, passed}
+use Rattle.kp_law.specs.Sequential.{exec, seq}
+use Rattle.kp_machine.specs.Machine.{machine_of, sequential, state_of, result_for, write_stage_of}
+use Rattle.kp_machine.specs.Slots.{targets_of}
+use Rattle.kp_sched.specs.Rows.{bit_of, rows_seen}
+use Rattle.kp_sched.specs.Runs.{passes}
+use Rattle.kp_seq.specs.Running.{Running, state}
+use Rattle.kp_stage.specs.Start.{start_of}
+use Rattle.kp_stage.specs.declared.start.Start.{Start}
+use Rattle.kp_run.specs.Homes.{home_of, AreHomes}
+use Rattle.kp_run.proofs.Machines.{homes_within, default}
+use Rattle.kp_watch.specs.inner.Machines.{ran, HaveRun, HaveRunFirst, due_by}
+use Rattle.kp_watch.proofs.Prefixes.{passed_next}
+use Rattle.std.specs.Prelude.{is_some}
+
+abbrev State : Type 0
+State = ℕ → ℕ → ℕ
+
+-- ---- at the start
+
+-- machines of the job in its start state
+pub record AreOpened (job : Job) (machines : List Running) : Type 0 where
+  pub jobs : All (λ m. m.job ≡ job) machines
+  pub starts : All (λ m. state m ≡ state_of job (start_of job)) machines
+
+pub opened_more : (job : Job) (machines : List Running) (m : Running) (begin : Start) → AreOpened job machines → m.job ≡ job → begin ≡ start_of job
+    → state m ≡ state_of job begin → AreOpened job (machines ++ m ∷ [])
+opened_more job machines m begin opened same begins starts = record {
+  jobs = All-push (λ m. m.job ≡ job) machines m opened.jobs same;
+  starts = All-push (λ m. state m ≡ state_of job (start_of job)) machines m opened.starts (starts ∙ ap (state_of job) begins);
+}
+
+either : (b : Bool) (x : ℕ) → (if b then x else x) ≡ x
+either true x = refl
+either false x = refl
+
+none_ran : (n : ℕ) (rows : List Row) (k : ℕ) → ran n rows 0 k ≡ 0
+none_ran n rows k = either (nat_lt k n) 0
+
+starts_are : (job : Job) (values : ℕ → ℕ → ℕ) → state_of job (start_of job) ≡ sequential job values 0
+unfolding seq
+starts_are job values = refl
+
+pub have_begun : (job : Job) (values : ℕ → ℕ → ℕ) (rows : List Row) (machines : List Running) → length machines ≡ job.stages.value + 1 → AreOpened job machines
+    → HaveRun job values rows 0 machines
+have_begun job values rows machines many opened = record {
+  count = many;
+  jobs = opened.jobs;
+  states = λ k d h. opened.starts k d h ∙ starts_are job values ∙ ap (sequential job values) (sym (none_ran job.stages.value rows k));
+}
+
+-- ---- one machine
+
+next_is : (job : Job) (values : ℕ → ℕ → ℕ) (i : ℕ) → exec (machine_of job) (sequential job values i) (values i) ≡ sequential job values (suc i)
+unfolding seq
+next_is job values i = refl
+
+-- ---- those of the first stages have run one row more
+
+module _ (job : Job) (values : ℕ → ℕ → ℕ) (rows : List masks.Row) (T : ℕ) where
+  abbrev n : ℕ
+  n = job.stages.value
+
+  abbrev seen : List Row
+  seen = rows_seen n rows
+
+  abbrev after : ℕ → ℕ → State
+  after i j = sequential job values (ran n seen i j)
+
+  pub first_begin : (machines : List Running) → HaveRun job values seen T machines → HaveRunFirst job values seen T 0 machines
+  first_begin machines run = record {
+    count = run.count;
+    jobs = run.jobs;
+    states = λ j d h. run.states j d h ∙ ap (λ (b : Bool). after (if b then T + 1 else T) j) (sym (le-ltb j 0 (let e : 0 ≤ j = omega arith in e)));
+  }
+
+  pub first_end : (machines : List Running) → HaveRunFirst job values seen T n machines → HaveRun job values seen (T + 1) machines
+  first_end machines run = record {
+    count = run.count;
+    jobs = run.jobs;
+    states = λ j d h. run.states j d h ∙ go j (nat_lt j n) refl;
+  }
+    where
+      go : (j : ℕ) (b : Bool) → nat_lt j n ≡ b → after (if nat_lt j n then T + 1 else T) j ≡ after (T + 1) j
+      go j true e = rw e refl
+      go j false e = rw e refl
+
+  -- machine k has run, and all others stand where they stood
+  others : (k j : ℕ) → j ≢ k → after (if nat_lt j k then T + 1 else T) j ≡ after (if nat_lt j (k + 1) then T + 1 else T) j
+  others k j other = go (nat_lt j k) refl
+    where
+      go : (b : Bool) → nat_lt j k ≡ b → after (if nat_lt j k then T + 1 else T) j ≡ after (if nat_lt j (k + 1) then T + 1 else T) j
+      go true e =
+          let low : j < k = ltb-true j k e in
+          rw (e, lt-ltb j (k + 1) (omega (arith, low))) refl
+      go false e =
+          let high : k ≤ j = ltb-false j k e in
+          let above : k + 1 ≤ j = grind (arith, high, other) in
+          rw (e, le-ltb j (k + 1) above) refl
+
+  this : (k : ℕ) → after (if nat_lt k (k + 1) then T + 1 else T) k ≡ after (T + 1) k
+  this k = rw (lt-ltb k (k + 1) (let h : k < k + 1 = omega arith in h)) refl
+
+  before : (k : ℕ) → after (if nat_lt k k then T + 1 else T) k ≡ after T k
+  before k = rw (le-ltb k k (let h : k ≤ k = omega arith in h)) refl
+
+  counted : (k : ℕ) (d : masks.Row) (b : Bool) → k < n → T < length rows → bit (bits (bit_of (get_or rows T d).ue) n 0) k ≡ b
+      → ran n seen (T + 1) k ≡ ran n seen T k + one_if b
+  counted k d b low there e =
+      rw (lt-ltb k n low) (passed_next n rows k T d there ∙ ap (λ (c : Bool). passed seen k T + one_if c) e)
+
+  pub first_moves : (k i : ℕ) (machines : List Running) (m new d : Running) (r : masks.Row) → HaveRunFirst job values seen T k machines → k < n → T < length rows
+      → bit (bits (bit_of (get_or rows T r).ue) n 0) k ≡ true → i ≡ passed seen k T → m ≡ get_or machines k d
+      → new.job ≡ m.job → state new ≡ exec (machine_of m.job) (state m) (values i) → HaveRunFirst job values seen T (k + 1) (set machines k new)
+  first_moves k i machines m new d r run low there moves count is same stepped = record {
+    count = length-set machines k new ∙ run.count;
+    jobs = All-set (λ m. m.job ≡ job) machines k new (same ∙ of_job) run.jobs;
+    states = λ j e h. go j e (omega (arith, h, length-set machines k new)) (nat_lt j k) (nat_lt k j) refl refl;
+  }
+    where
+      in_list : k < length machines
+      in_list = omega (arith, low, run.count)
+
+      of_job : m.job ≡ job
+      of_job = ap (λ (x : Running). x.job) is ∙ run.jobs k d in_list
+
+      begins : state m ≡ after T k
+      begins = ap state is ∙ run.states k d in_list ∙ before k
+
+      ran_is : ran n seen T k ≡ i
+      ran_is = rw (lt-ltb k n low) (sym count)
+
+      moved : state new ≡ after (T + 1) k
+      moved =
+          stepped
+          ∙ ap (λ (x : Job). exec (machine_of x) (state m) (values i)) of_job
+          ∙ ap (λ (s : State). exec (machine_of job) s (values i)) (begins ∙ ap (sequential job values) ran_is)
+          ∙ next_is job values i
+          ∙ ap (sequential job values) (let e = counted k r true low there moves in omega (arith, e, ran_is))
+
+      other : (j : ℕ) (e : Running) → j < length machines → j ≢ k → state (get_or (set machines k new) j e) ≡ after (if nat_lt j (k + 1) then T + 1 else T) j
+      other j e h apart = ap state (get_or-set_other machines k j new e apart) ∙ run.states j e h ∙ others k j apart
+
+      go : (j : ℕ) (e : Running) → j < length machines → (b c : Bool) → nat_lt j k ≡ b → nat_lt k j ≡ c
+          → state (get_or (set machines k new) j e) ≡ after (if nat_lt j (k + 1) then T + 1 else T) j
+      go j e h true c is_low f = let below : j < k = ltb-true j k is_low in other j e h (λ z. omega (arith, below, z))
+      go j e h false true is_low is_high = let above : k < j = ltb-true k j is_high in other j e h (λ z. omega (arith, above, z))
+      go j e h false false is_low is_high =
+          let at_least : k ≤ j = ltb-false j k is_low in
+          let at_most : j ≤ k = ltb-false k j is_high in
+          let at : j ≡ k = omega (arith, at_least, at_most) in
+          ap state (get_or-set_at machines k j new e at in_list)
+          ∙ moved ∙ sym (this k)
+          ∙ ap (λ (l : ℕ). after (if nat_lt l (k + 1) then T + 1 else T) l) (sym at)
+
+  pub first_stays : (k : ℕ) (machines : List Running) (r : masks.Row) → HaveRunFirst job values seen T k machines → k < n → T < length rows
+      → bit (bits (bit_of (get_or rows T r).ue) n 0) k ≡ false → HaveRunFirst job values seen T (k + 1) machines
+  first_stays k machines r run low there rests = record {
+    count = run.count;
+    jobs = run.jobs;
+    states = λ j e h. go j e h (nat_lt j k) (nat_lt k j) refl refl;
+  }
+    where
+      still : after T k ≡ after (T + 1) k
+      still = ap (sequential job values) (let e = counted k r false low there rests in omega (arith, e))
+
+      go : (j : ℕ) (e : Running) → j < length machines → (b c : Bool) → nat_lt j k ≡ b → nat_lt k j ≡ c
+          → state (get_or machines j e) ≡ after (if nat_lt j (k + 1) then T + 1 else T) j
+      go j e h true c is_low f = let below : j < k = ltb-true j k is_low in run.states j e h ∙ others k j (λ z. omega (arith, below, z))
+      go j e h false true is_low is_high = let above : k < j = ltb-true k j is_high in run.states j e h ∙ others k j (λ z. omega (arith, above, z))
+      go j e h false false is_low is_high =
+          let at_least : k ≤ j = ltb-false j k is_low in
+          let at_most : j ≤ k = ltb-false k j is_high in
+          let at : j ≡ k = omega (arith, at_least, at_most) in
+          run.states j e h
+          ∙ ap (λ (l : ℕ). after (if nat_lt l k then T + 1 else T) l) at
+          ∙ before k ∙ still ∙ sym (this k)
+          ∙ ap (λ (l : ℕ). after (if nat_lt l (k + 1) then T + 1 else T) l) (sym at)
+
+-- ---- what they show
+
+-- what is shown of a target is the state of the machine at its home
+at_home : (job : Job) (machines : List Running) (t k : ℕ) (m d : Running) → k ≡ home_of job t → k < length machines → m ≡ get_or machines k d → due_by job machines t ≡ state m t
+at_home job machines t k m d home there is =
+    ap (λ (h : ℕ). get_or (map state machines) h (λ s a. 0) t) (sym home)
+    ∙ ap (λ (s : State). s t) (get_or-map state machines k d (λ s a. 0) there)
+    ∙ ap (λ (x : Running). state x t) (sym is)
+
+pub machine_at : (job : Job) (machines : List Running) (homes : List ℕ) (t d k : ℕ) (m : Running) → AreHomes job homes → length machines ≡ job.stages.value + 1
+    → All (λ m. m.job ≡ job) machines → t < length (targets_of job.decls) → k ≡ get_or homes t d → m ≡ get_or machines k m → (m.job ≡ job) × (due_by job machines t ≡ state m t)
+machine_at job machines homes t d k m are many jobs within place is =
+    let there : t < length homes = omega (arith, within, are.count) in
+    let home : k ≡ home_of job t = place ∙ default homes t d there ∙ are.homes t there in
+    let low : k < length machines = omega (arith, home, are.within t, many) in
+    (ap (λ (x : Running). x.job) is ∙ jobs k m low, at_home job machines t k m m home low is)
+
+module _ (job : Job) (acc : Accepted (machine_of job)) (rows : List Row) (T : ℕ) where
+  ran_by : (has : Bool) (w : ℕ) → (has ≡ true → w < job.stages.value) → ran job.stages.value rows T (if has then w else job.stages.value) ≡ (if has then passed rows w T else 0)
+  ran_by true w h = rw (lt-ltb w job.stages.value (h refl)) refl
+  ran_by false w h = rw (le-ltb job.stages.value job.stages.value (let e : job.stages.value ≤ job.stages.value = omega arith in e)) refl
+
+  -- the machine at the home of a target has run the instructions that stand behind it
+  home_ran : (t : ℕ) → ran job.stages.value rows T (home_of job t) ≡ passes job rows T t
+  unfolding home_of passes machine_of
+  home_ran t = ran_by (is_some (result_for job t)) (write_stage_of (result_for job t)) (acc.writes t)
+
+  pub due_at : (values : ℕ → ℕ → ℕ) (machines : List Running) → HaveRun job values rows T machines → (t a : ℕ) → due_by job machines t a ≡ sequential job values (passes job rows T t) t a
+  due_at values machines run t a = go machines refl
+    where
+      go : (ms : List Running) → machines ≡ ms → due_by job machines t a ≡ sequential job values (passes job rows T t) t a
+      go [] none = absurd (let many = run.count in let e : length machines ≡ 0 = ap (λ (l : List Running). length l) none in omega (arith, many, e))
+      go (d ∷ ms) some =
+          let within : home_of job t < length machines = omega (arith, homes_within job acc t, run.count) in
+          ap (λ (s : State). s t a) (get_or-map state machines (home_of job t) d (λ s a. 0) within ∙ run.states (home_of job t) d within)
+          ∙ ap (λ (i : ℕ). sequential job values i t a) (home_ran t)

@@ -1,0 +1,5 @@
+pub mod Prefixes
+pub mod Lanes
+pub mod Placing
+pub mod Comparing
+pub mod Whole

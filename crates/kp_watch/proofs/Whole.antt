@@ -1,0 +1,114 @@
+-- From the states of a run to the whole run.
+use Rattle.std.proofs.Common.{◌≡◌, ◌≢◌, ◌∙◌, ℕ, ◌+◌, ◌<◌, ◌≤◌, ◌⊎◌, List, length, Bool, true, false, Option, Some, None, refl, ap, sym, subst, arith}
+use Rattle.std.proofs.Math.Path.{fun_ext}
+use Rattle.std.specs.Prelude.{nat_lt, MatchOption}
+use Rattle.std.proofs.lemmas.Bool.{ltb-true, ltb-false}
+use Rattle.kp_base.specs.declared.row.Row as masks
+use Rattle.kp_bits.specs.Word.{word}
+use Rattle.kp_ast.specs.declared.tree.Job.{Job}
+use Rattle.kp_cycle.specs.Steps.{Running as Simulated}
+use Rattle.kp_law.specs.Accepted.{Accepted}
+use Rattle.kp_law.specs.Rows as law
+use Rattle.kp_law.specs.Rows.{taken}
+use Rattle.kp_stage.specs.Start.{input, AreSamples}
+use Rattle.kp_machine.specs.Machine.{machine_of, sequential, inputs_from}
+use Rattle.kp_net.specs.Netlist.{Net, State as NetState, run, last_of}
+use Rattle.kp_sched.specs.Rows.{rows_seen}
+use Rattle.kp_sched.specs.Runs.{passes, due_value}
+use Rattle.kp_sched.proofs.Counting.{seen_length}
+use Rattle.kp_seq.specs.Running.{Running, HasWord, target}
+use Rattle.kp_shows.specs.Naming.{value_shown}
+use Rattle.kp_shows.specs.Traces.{trace_of}
+use Rattle.kp_run.specs.Columns.{Taken, AreColumns}
+use Rattle.kp_run.specs.Cycles.{inputs_to}
+use Rattle.kp_run.proofs.Gathering.{taken_is}
+use Rattle.kp_watch.specs.Watching.{own_trace, own_due, Agrees, IsFirstDifference}
+use Rattle.kp_watch.specs.declared.compare.Difference.{Difference}
+use Rattle.kp_watch.specs.inner.Beside.{IsTold, Answers}
+use Rattle.kp_watch.specs.inner.Comparing.{IsFirstIn, Compares}
+use Rattle.kp_watch.specs.inner.Machines.{given, HaveRun, due_by}
+use Rattle.kp_watch.proofs.Lanes.{due_at}
+use Rattle.kp_watch.proofs.Prefixes.{state_is, rows_many}
+
+abbrev State : Type 0
+State = ℕ → ℕ → ℕ
+
+compares_alike : (job : Job) (shown owed a b : State) (T : ℕ) (result : Option Difference) → shown ≡ a → owed ≡ b → Compares job shown owed T result → Compares job a b T result
+compares_alike job shown owed a b T result e f compares =
+    subst (λ (s : State). Compares job a s T result) f (subst (λ (s : State). Compares job s owed T result) e compares)
+
+module _ (job : Job) (net : Net) (n : ℕ) where
+  abbrev seen : List law.Row
+  seen = rows_seen job.stages.value (run net (inputs_to job n)).rows
+
+  -- ---- one state
+
+  shown_is : (T : ℕ) → T ≤ n → value_shown job net (last_of net (inputs_to job T)) ≡ (own_trace job net n).visible T
+  unfolding trace_of
+  shown_is T h = ap (λ (st : NetState). value_shown job net st) (sym (state_is job net n T h))
+
+  cycles : length seen ≡ n
+  cycles = seen_length job.stages.value (run net (inputs_to job n)).rows ∙ rows_many job net n
+
+  module _ (acc : Accepted (machine_of job)) (samples : (cycle : ℕ) → AreSamples job.decls (input job cycle))
+      (rows : List masks.Row) (is : rows ≡ (run net (inputs_to job n)).rows) (columns : List Taken) (are : AreColumns job rows columns) where
+    values_are : given columns ≡ taken (machine_of job) (inputs_from job 0 n) seen
+    values_are =
+        taken_is job rows columns samples are
+        ∙ ap (λ (l : List masks.Row). taken (machine_of job) (inputs_from job 0 (length (rows_seen job.stages.value l))) (rows_seen job.stages.value l)) is
+        ∙ ap (λ (m : ℕ). taken (machine_of job) (inputs_from job 0 m) seen) cycles
+
+    due_is : (T : ℕ) (machines : List Running) → HaveRun job (given columns) (rows_seen job.stages.value rows) T machines → due_by job machines ≡ own_due job net n T
+    unfolding due_value trace_of
+    due_is T machines have = fun_ext (λ t. fun_ext (λ a.
+        due_at job acc (rows_seen job.stages.value rows) T (given columns) machines have t a
+        ∙ ap (λ (l : List masks.Row). sequential job (given columns) (passes job (rows_seen job.stages.value l) T t) t a) is
+        ∙ ap (λ (g : ℕ → ℕ → ℕ). sequential job g (passes job seen T t) t a) values_are))
+
+    -- what a comparison says of one state, it says of that state of the run
+    pub compares_own : (T : ℕ) (sim : Simulated) (machines have_run : List Running) (result : Option Difference) → T ≤ n
+        → sim ≡ record { net = net; state = last_of net (inputs_to job T) } → machines ≡ have_run
+        → HaveRun job (given columns) (rows_seen job.stages.value rows) T have_run
+        → Compares job (value_shown job sim.net sim.state) (due_by job machines) T result
+        → Compares job ((own_trace job net n).visible T) (own_due job net n T) T result
+    compares_own T sim machines have_run result h at same have =
+        compares_alike job (value_shown job sim.net sim.state) (due_by job machines) ((own_trace job net n).visible T) (own_due job net n T) T result
+        (ap (λ (s : Simulated). value_shown job s.net s.state) at ∙ shown_is T h) (ap (due_by job) same ∙ due_is T have_run have)
+
+  -- ---- all states
+
+  -- both agree in all states before T
+  abbrev pub AgreeTo : ℕ → Type 0
+  AgreeTo T = (U t a : ℕ) → U < T → HasWord job t a → (own_trace job net n).visible U t a ≡ own_due job net n U t a
+
+  pub agree_more : (T : ℕ) → AgreeTo T → Compares job ((own_trace job net n).visible T) (own_due job net n T) T None → AgreeTo (T + 1)
+  agree_more T agreed last U t a h there = go (nat_lt U T) refl
+    where
+      go : (c : Bool) → nat_lt U T ≡ c → (own_trace job net n).visible U t a ≡ own_due job net n U t a
+      go true e = agreed U t a (ltb-true U T e) there
+      go false e =
+          let above : T ≤ U = ltb-false U T e in
+          let same : T ≡ U = omega (arith, above, h) in
+          subst (λ (m : ℕ). (own_trace job net n).visible m t a ≡ own_due job net n m t a) same (last t a there)
+
+  -- the first difference of a state is that of the run
+  pub is_told : (T : ℕ) (d : Difference) → T ≤ n → AgreeTo T → IsFirstIn job ((own_trace job net n).visible T) (own_due job net n T) T d → IsTold job net n d
+  is_told T d h agreed first = (
+    subst (λ (c : ℕ). IsFirstDifference job net n c d.target d.address) (sym first.cycle_is) (record {
+      within = h;
+      there = first.there;
+      differs = first.differs;
+      cycles_before = λ U s b low there. agreed U s b low there;
+      words_before = first.before;
+    }),
+    subst (λ (c : ℕ). d.found ≡ word (target job d.target).width ((own_trace job net n).visible c d.target d.address)) (sym first.cycle_is) first.found_is,
+    subst (λ (c : ℕ). d.due ≡ word (target job d.target).width (own_due job net n c d.target d.address)) (sym first.cycle_is) first.due_is,
+  )
+
+  agrees : AgreeTo (n + 1) → Agrees job net n
+  unfolding trace_of
+  agrees agreed T t a h there = agreed T t a (omega (arith, h, cycles)) there
+
+  pub answers : (result : Option Difference) → AgreeTo n → Compares job ((own_trace job net n).visible n) (own_due job net n n) n result → Answers job net n result
+  answers None agreed last = agrees (agree_more n agreed last)
+  answers (Some d) agreed last = is_told n d (let h : n ≤ n = omega arith in h) agreed last

@@ -1,0 +1,35 @@
+use Rattle.std.proofs.Common.{◌≡◌, ◌∙◌, ◌≤◌, ap, sym, arith, length, List}
+use Rattle.kp_bits.specs.Word.{Word}
+use Rattle.kp_run.proofs.Given.{as_feeds, feeds_many}
+use Rattle.kp_run.proofs.Machines.{stages_fit}
+use Rattle.kp_sched.specs.Rows.{rows_seen}
+use Rattle.kp_watch.specs.inner.Machines.{given}
+use Rattle.kp_watch.proofs.beside.Beside.open.Goals as goal
+
+pub overflow_cast-stages : goal.overflow_cast-stages
+overflow_cast-stages c =
+    let few : c.job.result.now.stages.value ≤ 12 = rw c.job.ensures.job (stages_fit c.args.job.now.design.job c.job.ensures.sound.stages).1 in
+    omega (arith, few)
+
+pub open-monitor-requires-clause-some : goal.open-monitor-requires-clause-some
+open-monitor-requires-clause-some c = rw c.job.ensures.job (stages_fit c.args.job.now.design.job c.job.ensures.sound.stages).0
+
+pub open-monitor-requires-clause-few : goal.open-monitor-requires-clause-few
+open-monitor-requires-clause-few c = rw c.job.ensures.job (stages_fit c.args.job.now.design.job c.job.ensures.sound.stages).1
+
+pub returns : goal.returns
+returns c =
+    let accepted = c.args.job.now in
+    let job = accepted.design.job in
+    let columns = c.args.tables.now.columns.items in
+    record {
+      sim = c.in_ok-sim.ensures;
+      machines = c.in_ok-machines.ensures (given columns) (rows_seen job.stages.value c.args.rows.now);
+      stages = rw c.job.ensures.job at c.open-monitor.ensures.stages;
+      seen = c.open-monitor.ensures.seen;
+      room =
+          ap (λ (l : List Word). length l) c.in_ok-room.ensures
+          ∙ as_feeds accepted.sections.inputs 0
+          ∙ feeds_many job accepted.sections.inputs c.job.ensures.sound.names accepted.unbroken accepted.inputs
+          ∙ sym c.requires.tables.columns.count;
+    }

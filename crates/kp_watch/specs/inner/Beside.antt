@@ -1,0 +1,42 @@
+-- A netlist and the machines of its job after some cycles of a run.
+use Rattle.std.specs.Prelude.{◌≡◌, ℕ, List, length, take, Option, MatchOption}
+use Rattle.kp_base.specs.declared.row.Row.{Row}
+use Rattle.kp_bits.specs.Word.{word}
+use Rattle.kp_ast.specs.declared.tree.Job.{Job}
+use Rattle.kp_net.specs.Netlist.{Net, last_of}
+use Rattle.kp_sched.specs.Monitors.{HasSeen}
+use Rattle.kp_sched.specs.Rows.{rows_seen}
+use Rattle.kp_seq.specs.Running.{target}
+use Rattle.kp_run.specs.Columns.{AreColumns}
+use Rattle.kp_run.specs.Cycles.{inputs_to}
+use Rattle.kp_run.specs.Homes.{AreHomes}
+use Rattle.kp_watch.specs.Watching.{own_trace, own_due, Agrees, IsFirstDifference}
+use Rattle.kp_watch.specs.declared.compare.Difference.{Difference}
+use Rattle.kp_watch.specs.declared.compare.Tables.{Tables}
+use Rattle.kp_watch.specs.declared.beside.Beside.{Beside}
+use Rattle.kp_watch.specs.inner.Machines.{given, HaveRun}
+use Rattle.kp_watch.specs.inner.Places.{places_in}
+
+-- what stays the same in all cycles
+pub record AreTables (job : Job) (net : Net) (rows : List Row) (tables : Tables) : Type 0 where
+  pub places : tables.places.items ≡ places_in job net
+  pub homes : AreHomes job tables.homes.items
+  pub columns : AreColumns job rows tables.columns.items
+
+-- both have run the first T cycles, of which these are rows
+pub record HaveCome (job : Job) (net : Net) (rows : List Row) (tables : Tables) (T : ℕ) (both : Beside) : Type 0 where
+  pub sim : both.sim ≡ record { net = net; state = last_of net (inputs_to job T) }
+  pub machines : HaveRun job (given tables.columns.items) (rows_seen job.stages.value rows) T both.machines.items
+  pub stages : both.monitor.stages ≡ job.stages.value
+  pub seen : HasSeen both.monitor (take T rows)
+  pub room : length both.room.items ≡ length tables.columns.items
+
+-- the answer for a run of n cycles
+abbrev pub IsTold : Job → Net → ℕ → Difference → Type 0
+IsTold job net n d =
+    IsFirstDifference job net n d.cycle d.target d.address
+    × (d.found ≡ word (target job d.target).width ((own_trace job net n).visible d.cycle d.target d.address))
+    × (d.due ≡ word (target job d.target).width (own_due job net n d.cycle d.target d.address))
+
+abbrev pub Answers : Job → Net → ℕ → Option Difference → Type 0
+Answers job net n result = MatchOption result (Agrees job net n) (IsTold job net n)

@@ -1,0 +1,37 @@
+-- Two states of a job, word by word.
+use Rattle.std.specs.Prelude.{◌≡◌, ◌≢◌, ℕ, ◌<◌, ◌⊎◌, Option, MatchOption}
+use Rattle.kp_bits.specs.Word.{word}
+use Rattle.kp_ast.specs.declared.tree.Job.{Job}
+use Rattle.kp_seq.specs.Running.{HasWord, target}
+use Rattle.kp_watch.specs.declared.compare.Difference.{Difference}
+
+-- The first address of a target at which two differ.
+pub record IsFirstAt (job : Job) (shown owed : ℕ → ℕ) (cycle t : ℕ) (d : Difference) : Type 0 where
+  pub cycle_is : d.cycle ≡ cycle
+  pub target_is : d.target ≡ t
+  pub there : HasWord job t d.address
+  pub differs : shown d.address ≢ owed d.address
+  pub before : (b : ℕ) → b < d.address → HasWord job t b → shown b ≡ owed b
+  pub found_is : d.found ≡ word (target job t).width (shown d.address)
+  pub due_is : d.due ≡ word (target job t).width (owed d.address)
+
+abbrev pub ComparesTarget : Job → (shown owed : ℕ → ℕ) → (cycle t : ℕ) → Option Difference → Type 0
+ComparesTarget job shown owed cycle t result =
+    MatchOption result ((a : ℕ) → HasWord job t a → shown a ≡ owed a) (IsFirstAt job shown owed cycle t)
+
+-- Both agree in all words of the targets before t.
+abbrev pub AgreeBelow : Job → (shown owed : ℕ → ℕ → ℕ) → ℕ → Type 0
+AgreeBelow job shown owed t = (s b : ℕ) → s < t → HasWord job s b → shown s b ≡ owed s b
+
+-- The first word, by target and address, in which two states differ.
+pub record IsFirstIn (job : Job) (shown owed : ℕ → ℕ → ℕ) (cycle : ℕ) (d : Difference) : Type 0 where
+  pub cycle_is : d.cycle ≡ cycle
+  pub there : HasWord job d.target d.address
+  pub differs : shown d.target d.address ≢ owed d.target d.address
+  pub before : (s b : ℕ) → HasWord job s b → (s < d.target) ⊎ ((s ≡ d.target) × (b < d.address)) → shown s b ≡ owed s b
+  pub found_is : d.found ≡ word (target job d.target).width (shown d.target d.address)
+  pub due_is : d.due ≡ word (target job d.target).width (owed d.target d.address)
+
+abbrev pub Compares : Job → (shown owed : ℕ → ℕ → ℕ) → ℕ → Option Difference → Type 0
+Compares job shown owed cycle result =
+    MatchOption result ((t a : ℕ) → HasWord job t a → shown t a ≡ owed t a) (IsFirstIn job shown owed cycle)

@@ -1,0 +1,95 @@
+// A netlist and the sequential machines of its job, side by side.
+ghost use Rattle.std.specs.Prelude.{◌≡◌, ◌+◌, ◌<◌, length, IfOk};
+ghost use Rattle.kp_net.specs.Netlist.{Net};
+ghost use Rattle.kp_shows.specs.Naming.{sample_ports, value_shown};
+ghost use Rattle.kp_shows.specs.Shows.{HasOutputs, IsOfJob};
+ghost use Rattle.kp_run.specs.Columns.{AreColumns};
+ghost use Rattle.kp_watch.specs.inner.Beside.{AreTables, HaveCome};
+
+use crate::compare::Tables;
+use crate::machines::{advance, machines_of};
+use crate::places::places_of;
+use kp_base::{NoMemory, Row};
+use kp_bits::Bits;
+use kp_cycle::Sim;
+use kp_judge::Accepted;
+use kp_net::Netlist;
+use kp_run::{columns_of, homes_of, step};
+use kp_sched::Monitor;
+use kp_seq::SeqMachine;
+use std::alloc::Global;
+
+/// A netlist and the sequential machines of its job, with a monitor of the rows that have passed, and room for the values of the samples
+/// in a cycle.
+#[derive(Drop)]
+pub(crate) struct Beside<'a, 'n> {
+    pub sim: Sim<'n>,
+    pub machines: Vec<SeqMachine<'a>>,
+    pub monitor: Monitor,
+    pub room: Vec<Bits>,
+}
+
+/// The tables of a run with these rows.
+pub(crate) fn tables_of(
+    alloc: Global,
+    job: &Accepted,
+    net: &Netlist,
+    rows: &[Row],
+) -> Result<Tables, NoMemory>
+    requires { IsOfJob net.now job.now.design.job }
+    ensures { IfOk result (λ tables. AreTables job.now.design.job net.now rows.now tables) }
+{
+    let places = places_of(alloc, &job.design, net)?;
+    let homes = homes_of(alloc, &job.design)?;
+    let columns = columns_of(alloc, job, rows)?;
+    Ok(Tables {
+        places,
+        homes,
+        columns,
+    })
+}
+
+impl<'a, 'n> Beside<'a, 'n> {
+    /// Both at the start.
+    pub fn open(
+        alloc: Global,
+        job: &'a Accepted,
+        net: &'n Netlist,
+        rows: &[Row],
+        tables: &Tables,
+    ) -> Result<Beside<'a, 'n>, NoMemory>
+        requires outputs { HasOutputs net.now }
+        requires tables { AreTables job.now.design.job net.now rows.now tables.now }
+        ensures { IfOk result (λ both. HaveCome job.now.design.job net.now rows.now tables.now 0 both) }
+    {
+        let stages = job.design.job().stages.value;
+        let sim = Sim::open(alloc, net)?;
+        let machines = machines_of(alloc, job)?;
+        let room = job.sections.inputs.row(alloc, 0)?;
+        let monitor = Monitor::open(stages as u8);
+        Ok(Beside {
+            sim,
+            machines,
+            monitor,
+            room,
+        })
+    }
+
+    /// Both run one cycle more: the netlist under what the job gives, and the machines by the row of the cycle.
+    pub fn step(&mut self, job: &Accepted, rows: &[Row], tables: &Tables, cycle: u32)
+        requires samples { self.old.sim.net.parts.samples ≡ sample_ports job.now.design.job }
+        requires there { cycle < length rows.now }
+        requires tables { AreTables job.now.design.job self.old.sim.net rows.now tables.now }
+        requires come { HaveCome job.now.design.job self.old.sim.net rows.now tables.now cycle self.old }
+        ensures { HaveCome job.now.design.job self.old.sim.net rows.now tables.now (cycle + 1) self.new }
+    {
+        // What the type keeps of the job, for the proof alone.
+        let _kept = job.design.job();
+        let room = self.room.as_mut_slice();
+        step(&mut self.sim, &job.sections, room, u64::from(cycle));
+        let columns = tables.columns.as_slice();
+        let machines = self.machines.as_mut_slice();
+        advance(job, columns, machines, &self.monitor, room, rows, cycle);
+        self.monitor.cycle(rows[cycle as usize]);
+    }
+}

@@ -1,0 +1,112 @@
+// The words of a netlist and those of the machines beside it.
+ghost use Rattle.std.specs.Prelude.{◌≡◌, ◌+◌, ◌<◌, length};
+ghost use Rattle.std.specs.List.{All};
+ghost use Rattle.kp_bits.specs.Word.{word};
+ghost use Rattle.kp_machine.specs.Slots.{targets_of};
+ghost use Rattle.kp_run.specs.Homes.{AreHomes};
+ghost use Rattle.kp_seq.specs.Running.{HasWord, state, target};
+ghost use Rattle.kp_shows.specs.Naming.{value_shown};
+ghost use Rattle.kp_shows.specs.Shows.{IsOfJob};
+ghost use Rattle.kp_watch.specs.inner.Comparing.{Compares, ComparesTarget};
+ghost use Rattle.kp_watch.specs.inner.Machines.{due_by};
+ghost use Rattle.kp_watch.specs.inner.Places.{place_in, places_in, words_at};
+
+use crate::places::Place;
+use kp_bits::Bits;
+use kp_cycle::Sim;
+use kp_judge::Accepted;
+use kp_run::Column;
+use kp_seq::SeqMachine;
+
+/// Where a netlist first shows another value than the one that is due.
+#[derive(Clone, Copy, Debug)]
+pub struct Difference {
+    /// How many cycles have passed.
+    pub cycle: u32,
+    /// The number of the register or file, in the order of declaration.
+    pub target: u32,
+    /// The address of the word, 0 in a register.
+    pub address: u32,
+    /// The value that the netlist shows.
+    pub found: Bits,
+    /// The value of the sequential machine.
+    pub due: Bits,
+}
+
+/// What is known of a run before it begins: for each target where the netlist keeps it and which machine shows it, and for each sample
+/// what instructions take of it.
+#[derive(Drop)]
+pub(crate) struct Tables {
+    pub places: Vec<Place>,
+    pub homes: Vec<u8>,
+    pub columns: Vec<Column>,
+}
+
+/// The first word, by target and address, in which a netlist and the machines of its job differ after so many cycles.
+pub(crate) fn difference_in(
+    job: &Accepted,
+    tables: &Tables,
+    sim: &Sim<'_>,
+    machines: &[SeqMachine<'_>],
+    cycle: u32,
+) -> Option<Difference>
+    requires of_job { IsOfJob sim.now.net job.now.design.job }
+    requires places { tables.now.places.items ≡ places_in job.now.design.job sim.now.net }
+    requires homes { AreHomes job.now.design.job tables.now.homes.items }
+    requires count { length machines.now ≡ job.now.design.job.stages.value + 1 }
+    requires jobs { All (λ m. m.job ≡ job.now.design.job) machines.now }
+    ensures { Compares job.now.design.job (value_shown job.now.design.job sim.now.net sim.now.state) (due_by job.now.design.job machines.now) cycle result }
+{
+    // What the type keeps of the job, for the proof alone.
+    let _kept = job.design.job();
+    for t in 0..tables.places.len() {
+        let machine = &machines[usize::from(tables.homes[t])];
+        if let Some(difference) = difference_at(sim, machine, t as u32, tables.places[t], cycle) {
+            return Some(difference);
+        }
+    }
+    None
+}
+
+// The first address of a target at which a netlist and a machine differ.
+fn difference_at(
+    sim: &Sim<'_>,
+    machine: &SeqMachine<'_>,
+    t: u32,
+    place: Place,
+    cycle: u32,
+) -> Option<Difference>
+    requires of_job { IsOfJob sim.now.net machine.now.job }
+    requires target { t < length (targets_of machine.now.job.decls) }
+    requires place { place ≡ place_in sim.now.net (target machine.now.job t) }
+    ensures { ComparesTarget machine.now.job (value_shown machine.now.job sim.now.net sim.now.state t) (state machine.now t) cycle t result }
+{
+    for address in 0..place.words() {
+        let found = shown(sim, machine, t, place, address);
+        let due = machine.value(t, address);
+        if found.value() != due.value() {
+            return Some(Difference {
+                cycle,
+                target: t,
+                address,
+                found,
+                due,
+            });
+        }
+    }
+    None
+}
+
+// The value that a netlist shows of a target of the job of a machine.
+fn shown(sim: &Sim<'_>, _machine: &SeqMachine<'_>, _t: u32, place: Place, address: u32) -> Bits
+    requires of_job { IsOfJob sim.now.net _machine.now.job }
+    requires target { _t < length (targets_of _machine.now.job.decls) }
+    requires place { place ≡ place_in sim.now.net (target _machine.now.job _t) }
+    requires address { address < words_at place }
+    ensures { result ≡ word (target _machine.now.job _t).width (value_shown _machine.now.job sim.now.net sim.now.state _t address) }
+{
+    match place {
+        Place::Register(number) => sim.value(number),
+        Place::File(number, _) => sim.word(number, address),
+    }
+}

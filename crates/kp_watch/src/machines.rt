@@ -1,0 +1,61 @@
+// The sequential machines beside a run.
+ghost use Rattle.std.specs.Prelude.{◌≡◌, ℕ, ◌+◌, ◌<◌, ◌≤◌, List, length, take, IfOk};
+ghost use Rattle.kp_law.specs.Rows as law;
+ghost use Rattle.kp_stage.specs.Start.{AreSamples};
+ghost use Rattle.kp_run.specs.Columns.{row_taken};
+ghost use Rattle.kp_sched.specs.Monitors.{HasSeen};
+ghost use Rattle.kp_sched.specs.Rows.{rows_seen};
+ghost use Rattle.kp_watch.specs.inner.Machines.{given, HaveRun};
+
+use kp_base::{NoMemory, Row};
+use kp_bits::Bits;
+use kp_judge::Accepted;
+use kp_run::{Column, take, updates};
+use kp_sched::Monitor;
+use kp_seq::SeqMachine;
+use std::alloc::Global;
+
+/// The machines of a job at the start: one for each stage, and one more, which is to run nothing.
+pub(crate) fn machines_of(alloc: Global, job: &Accepted) -> Result<Vec<SeqMachine<'_>>, NoMemory>
+    ensures { IfOk result (λ ms. (values : ℕ → ℕ → ℕ) (rows : List law.Row) → HaveRun job.now.design.job values rows 0 ms.items) }
+{
+    let design = &job.design;
+    let stages = design.job().stages.value;
+    let mut machines = Vec::new(alloc);
+    for _ in 0..stages + 1 {
+        machines.push(SeqMachine::open(alloc, design, &job.sections.start)?)?;
+    }
+    Ok(machines)
+}
+
+/// The machine of each stage that updates in the row of a cycle runs one instruction more. The monitor counts those before it. There is
+/// room for the words that an instruction takes of the samples.
+pub(crate) fn advance(
+    job: &Accepted,
+    columns: &[Column],
+    machines: &mut [SeqMachine<'_>],
+    monitor: &Monitor,
+    room: &mut [Bits],
+    rows: &[Row],
+    cycle: u32,
+)
+    requires stages { monitor.now.stages ≡ job.now.design.job.stages.value }
+    requires seen { HasSeen monitor.now (take cycle rows.now) }
+    requires there { cycle < length rows.now }
+    requires room { length room.old ≡ length columns.now }
+    requires samples { (i : ℕ) → AreSamples job.now.design.job.decls (row_taken columns.now i) }
+    requires run { HaveRun job.now.design.job (given columns.now) (rows_seen job.now.design.job.stages.value rows.now) cycle machines.old }
+    ensures room { length room.new ≡ length columns.now }
+    ensures run { HaveRun job.now.design.job (given columns.now) (rows_seen job.now.design.job.stages.value rows.now) (cycle + 1) machines.new }
+{
+    // What the type keeps of the job, for the proof alone.
+    let _kept = job.design.job();
+    let stages = monitor.stages();
+    let ue = rows[cycle as usize].ue;
+    for k in 0..stages {
+        if updates(ue, u64::from(k), u64::from(stages)) {
+            take(columns, monitor.passed(k), room);
+            machines[usize::from(k)].step_with(room);
+        }
+    }
+}
