@@ -274,6 +274,9 @@ seq_passes word h = known_refused known_forms (codes "seq") true (word ∷ []) r
 sim_passes : (word : Text) → begins_with_dash word ≡ false → fault_of (program_of known_forms) (codes "sim" ∷ word ∷ []) ≡ []
 sim_passes word h = known_refused known_forms (codes "sim") true (word ∷ []) refl refl ∙ number_passes (codes "sim") word h
 
+watch_passes : (word : Text) → begins_with_dash word ≡ false → fault_of (program_of known_forms) (codes "watch" ∷ word ∷ []) ≡ []
+watch_passes word h = known_refused known_forms (codes "watch") true (word ∷ []) refl refl ∙ number_passes (codes "watch") word h
+
 abbrev IsPassed : List Text → Type 0
 IsPassed words = fault_of (program_of known_forms) words ≡ []
 
@@ -293,18 +296,23 @@ plain_unmatched name refused =
     go false false false true e p f r = absurd (named (codes "read") r read_passes)
     go false false false false e p f r = rw (e, p, f, r) refl
 
-counted_none : (name : Text) (count : Option ℕ) → bytes_eq name (codes "seq") ≡ false → bytes_eq name (codes "sim") ≡ false
+counted_none : (name : Text) (count : Option ℕ) → bytes_eq name (codes "seq") ≡ false → bytes_eq name (codes "sim") ≡ false → bytes_eq name (codes "watch") ≡ false
     → option_and_then (counted_command name) count ≡ None
-counted_none name None e f = refl
-counted_none name (Some count) e f = rw (e, f) refl
+counted_none name None e f g = refl
+counted_none name (Some count) e f g = rw (e, f, g) refl
 
 counted_unmatched : (name word : Text) → begins_with_dash word ≡ false → (IsPassed (name ∷ word ∷ []) → ⊥) → option_and_then (counted_command name) (count_of word) ≡ None
-counted_unmatched name word h refused = go (bytes_eq name (codes "seq")) (bytes_eq name (codes "sim")) refl refl
+counted_unmatched name word h refused = go (bytes_eq name (codes "seq")) (bytes_eq name (codes "sim")) (bytes_eq name (codes "watch")) refl refl refl
   where
-    go : (seq sim : Bool) → bytes_eq name (codes "seq") ≡ seq → bytes_eq name (codes "sim") ≡ sim → option_and_then (counted_command name) (count_of word) ≡ None
-    go true sim e f = absurd (refused (subst (λ n. IsPassed (n ∷ word ∷ [])) (has_name name (codes "seq") e) (seq_passes word h)))
-    go false true e f = absurd (refused (subst (λ n. IsPassed (n ∷ word ∷ [])) (has_name name (codes "sim") f) (sim_passes word h)))
-    go false false e f = counted_none name (count_of word) e f
+    named : (it : List ℕ) → bytes_eq name it ≡ true → IsPassed (it ∷ word ∷ []) → ⊥
+    named it e passes = refused (subst (λ n. IsPassed (n ∷ word ∷ [])) (has_name name it e) passes)
+
+    go : (seq sim watch : Bool) → bytes_eq name (codes "seq") ≡ seq → bytes_eq name (codes "sim") ≡ sim → bytes_eq name (codes "watch") ≡ watch
+        → option_and_then (counted_command name) (count_of word) ≡ None
+    go true sim watch e f g = absurd (named (codes "seq") e (seq_passes word h))
+    go false true watch e f g = absurd (named (codes "sim") f (sim_passes word h))
+    go false false true e f g = absurd (named (codes "watch") g (watch_passes word h))
+    go false false false e f g = counted_none name (count_of word) e f g
 
 -- words that the parse refuses are no command
 pub unmatched : (words : List Text) → list_any is_barred words ≡ false → (fault_of (program_of known_forms) words ≡ [] → ⊥) → command_of words ≡ None
@@ -326,7 +334,8 @@ plain_barred name h =
     rw (not_named name (codes "check") h refl, not_named name (codes "pipe") h refl, not_named name (codes "asm") h refl, not_named name (codes "read") h refl) refl
 
 counted_barred : (name : Text) (count : Option ℕ) → is_barred name ≡ true → option_and_then (counted_command name) count ≡ None
-counted_barred name count h = counted_none name count (not_named name (codes "seq") h refl) (not_named name (codes "sim") h refl)
+counted_barred name count h =
+    counted_none name count (not_named name (codes "seq") h refl) (not_named name (codes "sim") h refl) (not_named name (codes "watch") h refl)
 
 never_and : (b : Bool) (number : Option ℕ) → cond (b && false) number None ≡ None
 never_and true number = refl

@@ -3,7 +3,7 @@ use Rattle.std.specs.Prelude.{◌==◌, ◌||◌, ℕ, Bool, true, false, List, 
 use Rattle.std.specs.Str.{bytes_eq}
 use Rattle.kp_bits.specs.Literals.{number_of}
 use Rattle.kp_words.specs.declared.words.Command.{Command}
-use Rattle.kp_words.specs.declared.words.Command.TheVariants.{OnJob, Assemble, Read}
+use Rattle.kp_words.specs.declared.words.Command.TheVariants.{OnJob, Assemble, Read, Watch}
 use Rattle.kp_words.specs.declared.words.JobCommand.TheVariants.{Seq, Check, Sim, Pipe}
 
 abbrev pub at_most : ℕ → ℕ → Option ℕ
@@ -17,7 +17,8 @@ count_of word = if nat_le (length word) 20 then option_and_then (at_most 100000)
 abbrev pub counted_command : List ℕ → ℕ → Option Command
 counted_command name count =
     if bytes_eq name (codes "seq") then Some (OnJob (Seq count))
-    else (if bytes_eq name (codes "sim") then Some (OnJob (Sim count)) else None)
+    else (if bytes_eq name (codes "sim") then Some (OnJob (Sim count))
+    else (if bytes_eq name (codes "watch") then Some (Watch count) else None))
 
 -- the command of this name alone
 abbrev pub plain_command : List ℕ → Option Command

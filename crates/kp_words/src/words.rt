@@ -4,7 +4,7 @@ ghost use Rattle.std.specs.List.{list_any};
 ghost use Rattle.clap.specs.Words.{app_of, shape_of, subcommand_rows_of};
 ghost use Rattle.clap.specs.declared.builder.command.Command.TheViews.{out-Command};
 ghost use Rattle.kp_words.specs.Words.{is_barred, plain_command, counted_command, command_of, count_of};
-ghost use Rattle.kp_words.specs.inner.Matching.{job_forms, known_forms, program_of, shape_of_form, command_by, command_of_rows};
+ghost use Rattle.kp_words.specs.inner.Matching.{job_forms, pipeline_forms, known_forms, program_of, shape_of_form, command_by, command_of_rows};
 
 use clap::error::ErrorKind;
 use clap::{Arg, ArgMatches};
@@ -37,6 +37,8 @@ pub enum Command {
     Assemble,
     /// A Verilog text is read: `read`.
     Read,
+    /// A job is read, and a Verilog text behind it: `watch N`, the run of its netlist over so many cycles.
+    Watch(u32),
 }
 
 impl Command {
@@ -81,6 +83,7 @@ impl Command {
         match name {
             "seq" => Some(Command::OnJob(JobCommand::Seq(count))),
             "sim" => Some(Command::OnJob(JobCommand::Sim(count))),
+            "watch" => Some(Command::Watch(count)),
             _ => None,
         }
     }
@@ -117,7 +120,8 @@ fn is_barred(word: &str) -> bool
 fn program<'a>(alloc: Global) -> Result<clap::Command<'a>, AllocError>
     ensures { IfOk result (λ program. app_of program ≡ program_of known_forms) }
 {
-    with_pipeline(alloc, with_jobs(alloc)?)
+    let program = with_pipeline(alloc, with_jobs(alloc)?)?;
+    with_verilog(alloc, program)
 }
 
 // The program, with the commands that make no pipeline.
@@ -133,17 +137,29 @@ fn with_jobs<'a>(alloc: Global) -> Result<clap::Command<'a>, AllocError>
         .subcommand(alone(alloc, "asm"))
 }
 
-// The same program, and those that make one or read one.
+// The same program, and those that make one.
 fn with_pipeline<'a>(
     alloc: Global,
     program: clap::Command<'a>,
 ) -> Result<clap::Command<'a>, AllocError>
     requires { app_of program ≡ program_of job_forms }
-    ensures { IfOk result (λ program. app_of program ≡ program_of known_forms) }
+    ensures { IfOk result (λ program. app_of program ≡ program_of pipeline_forms) }
 {
     program
         .subcommand(with_number(alloc, "sim")?)?
-        .subcommand(alone(alloc, "pipe"))?
+        .subcommand(alone(alloc, "pipe"))
+}
+
+// The same program, and those that read Verilog.
+fn with_verilog<'a>(
+    alloc: Global,
+    program: clap::Command<'a>,
+) -> Result<clap::Command<'a>, AllocError>
+    requires { app_of program ≡ program_of pipeline_forms }
+    ensures { IfOk result (λ program. app_of program ≡ program_of known_forms) }
+{
+    program
+        .subcommand(with_number(alloc, "watch")?)?
         .subcommand(alone(alloc, "read"))
 }
 

@@ -18,11 +18,17 @@ job_forms =
     ∷ record { name = codes "asm"; has_number = false }
     ∷ []
 
-abbrev pub known_forms : List Form
-known_forms =
+abbrev pub pipeline_forms : List Form
+pipeline_forms =
     job_forms
     ++ record { name = codes "sim"; has_number = true }
     ∷ record { name = codes "pipe"; has_number = false }
+    ∷ []
+
+abbrev pub known_forms : List Form
+known_forms =
+    pipeline_forms
+    ++ record { name = codes "watch"; has_number = true }
     ∷ record { name = codes "read"; has_number = false }
     ∷ []
 
