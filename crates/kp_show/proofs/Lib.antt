@@ -1,3 +1,5 @@
+pub mod Alike
 pub mod Lines
+pub mod Numbers
 pub mod Sims
 pub mod Told

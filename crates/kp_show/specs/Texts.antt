@@ -6,6 +6,7 @@ use Rattle.kp_base.specs.declared.refusal.Refusal.{Refusal}
 use Rattle.kp_bits.specs.Word.{Word}
 use Rattle.kp_bits.specs.Spelling.{spelling}
 use Rattle.kp_stage.specs.declared.counts.Summary.{Summary}
+use Rattle.kp_machine.specs.Slots.{Slot, is_register}
 
 abbrev pub bad_words : List ℕ
 bad_words = codes "bad words\n"
@@ -43,6 +44,20 @@ word_value name address value = name ++ codes "[" ++ decimal address ++ codes "]
 
 abbrev pub word_line : List ℕ → ℕ → Word → Option ℕ → List ℕ
 word_line name address value behind = word_value name address value ++ ending_of behind
+
+-- `X`, or `F[1]` for a word of a file
+unfoldable pub word_named : Slot → ℕ → List ℕ
+word_named s address = if is_register s then s.name else s.name ++ codes "[" ++ decimal address ++ codes "]"
+
+-- `differs 6 `, `F[1]`, ` 8'h0c 8'h0d`: the cycle, the word, and its value behind which the one stands that is due
+unfoldable pub cycle_differing : ℕ → List ℕ
+cycle_differing cycle = codes "differs " ++ decimal cycle ++ codes " "
+
+unfoldable pub values_differing : Word → Word → List ℕ
+values_differing found due = codes " " ++ spelling found ++ codes " " ++ spelling due ++ codes "\n"
+
+abbrev pub differs_line : ℕ → Slot → ℕ → Word → Word → List ℕ
+differs_line cycle s address found due = cycle_differing cycle ++ (word_named s address ++ values_differing found due)
 
 -- `accepted acc3 stages 3 regs 1 files 0`
 unfoldable pub targets_counted : List ℕ → Summary → List ℕ

@@ -1,11 +1,13 @@
 //! The texts of answers, and their writers, which take no memory.
 #![tactic(auto)]
 
+mod differing;
 mod runs;
 mod states;
 mod values;
 mod writing;
 
+pub use differing::write_difference;
 pub use runs::write_board;
 pub use states::write_run_after;
 pub use writing::{write_accepted, write_refusal};

@@ -53,8 +53,8 @@ fn write_rest<K: Sink>(board: &Board<'_>, sink: &mut K) -> Result<(), SinkFault>
     write_values(board, board.design.job().decls.as_slice(), sink)
 }
 
-// The lines of rows of n stages, from cycle 0 on.
-fn write_rows<K: Sink>(rows: &[Row], n: u8, sink: &mut K) -> Result<(), SinkFault>
+/// Writes the lines of rows of n stages, from cycle 0 on.
+pub(crate) fn write_rows<K: Sink>(rows: &[Row], n: u8, sink: &mut K) -> Result<(), SinkFault>
     requires some { 2 ≤ n }
     requires few { n ≤ 12 }
     ensures text { Writes (K.held sink.old) (K.held sink.new) (row_lines 0 (rows_seen n rows.now)) result }
