@@ -3,13 +3,14 @@ use Rattle.std.proofs.Common.{sym, subst, IfSome, ap, [], ◌++◌, ◌⊎◌, �
 use Rattle.std.specs.declared.option.Option.{Option}
 use Rattle.std.proofs.lemmas.Bool.{lt-ltb}
 use Rattle.std.specs.Io.KnownBytes.{Consumes}
-use Rattle.kp_words.specs.declared.words.Command.TheVariants.{OnJob, Assemble, Read}
+use Rattle.kp_words.specs.declared.words.Command.TheVariants.{OnJob, Assemble, Read, Watch}
 use Rattle.kp_words.specs.declared.words.Command.{Command}
 use Rattle.std.specs.declared.result.Result.{Result}
 use Rattle.kp_base.specs.declared.refusal.Refusal.{Refusal}
 use Rattle.kp_ast.specs.declared.tree.Job.{Job}
 use Rattle.kp_words.specs.declared.words.JobCommand.{JobCommand}
-use Rattle.kp_judge.specs.Judging.{Judges, JudgesText, too_long}
+use Rattle.kp_judge.specs.Judging.{Judges, JudgesText, JudgesHeadText, too_long}
+use Rattle.kp_judge.specs.Judging.JudgesHead.{head_over, head_within}
 use Rattle.kp_judge.specs.Judging.Judges.{over, within}
 use Rattle.kp_words.specs.Words.{command_of, reads_input}
 use Rattle.kp_show.specs.Texts.{refusal_line}
@@ -17,6 +18,7 @@ use Rattle.kp_net.specs.Netlist.{Net}
 use Rattle.kp_vlog.specs.Canon.{canon}
 use Rattle.kp_due.specs.Due.{Completes, Due, DueFor, DueOfJob, DueOfProgram, program_of, IsDue, IsWhole}
 use Rattle.kp_due.specs.Read.{ReadsVerilog, DueOfRead, read_over, read_within}
+use Rattle.kp_due.specs.Watched.{DueOfWatch, DueOfText}
 
 too_long_due : (command : Command) (old new : Option (List ℕ)) (taken : List ℕ) → Consumes old new taken → length taken ≡ 16777217 → IsWhole (reads_input (Some command)) taken new × DueFor (Some command) taken 2 (refusal_line too_long)
 unfolding program_of
@@ -24,6 +26,7 @@ too_long_due (OnJob command) old new taken consumed count = (inr count, (Err too
 too_long_due Assemble old new taken consumed count =
     let long : 16777216 < length taken = omega arith in
     (inr count, rw (lt-ltb 16777216 (length taken) long) (refl, refl))
+too_long_due (Watch count) old new taken consumed many = (inr many, (Err too_long, head_over (omega arith), (refl, refl)))
 too_long_due Read old new taken consumed count = (inr count, read_over (omega arith) (refl, refl))
 
 -- past the most bytes that fit, the refusal is due, whatever the source has left
@@ -59,11 +62,19 @@ read_all taken rest status text (inl none) due =
 read_all taken rest status text (inr count) (read_over long said) = read_over (simp length-append (omega arith)) said
 read_all taken rest status text (inr count) (read_within verdict short read said) = absurd (omega arith)
 
+-- and of a job with a Verilog text behind it
+watch_all : (n : ℕ) (taken rest : List ℕ) (status : ℕ) (text : List ℕ) → ((rest ≡ []) ⊎ (length taken ≡ 16777217)) → DueOfWatch n taken status text → DueOfWatch n (taken ++ rest) status text
+watch_all n taken rest status text (inl none) due =
+    subst (λ (bytes : List ℕ). DueOfWatch n bytes status text) (sym (ap (λ (r : List ℕ). taken ++ r) none ∙ append-nil taken)) due
+watch_all n taken rest status text (inr count) (_, head_over long, said) = (Err too_long, head_over (simp length-append (omega arith)), said)
+watch_all n taken rest status text (inr count) (_, head_within short judged, said) = absurd (omega arith)
+
 due_all_for : (command : Option Command) (taken rest : List ℕ) (status : ℕ) (text : List ℕ) → IsWhole (reads_input command) taken (Some rest) → DueFor command taken status text → DueFor command (taken ++ rest) status text
 due_all_for None taken rest status text whole due = due
 due_all_for (Some (OnJob command)) taken rest status text whole (verdict, judged, said) = (verdict, judges_all taken rest whole judged, said)
 due_all_for (Some Assemble) taken rest status text whole due =
     subst (λ (found : Result (List ℕ) Refusal). DueOfProgram found status text) (sym (program_all taken rest whole)) due
+due_all_for (Some (Watch n)) taken rest status text whole due = watch_all n taken rest status text whole due
 due_all_for (Some Read) taken rest status text whole due = read_all taken rest status text whole due
 
 -- what is due of the bytes that were taken is due of all
@@ -93,3 +104,11 @@ denoted_is_due text net short denotes = read_within (Ok net) short denotes (refl
 
 pub misread_is_due : (text : List ℕ) (refusal : Refusal) → length text ≤ 16777216 → ReadsVerilog text 0 (Err refusal) → DueFor (Some Read) text 6 (refusal_line refusal)
 misread_is_due text refusal short refused = read_within (Err refusal) short refused (refl, refl)
+
+-- of `watch` a broken rule of the job is due, and else what is said of the text behind it
+pub head_refused_is_due : (n : ℕ) (text : List ℕ) (refusal : Refusal) → length text ≤ 16777216 → JudgesHeadText text (Err refusal) → DueFor (Some (Watch n)) text 2 (refusal_line refusal)
+head_refused_is_due n text refusal short judged = (Err refusal, head_within short judged, (refl, refl))
+
+pub head_accepted_is_due : (n : ℕ) (text : List ℕ) (job : Job) (rest : ℕ) (verdict : Result Net Refusal) (status : ℕ) (answer : List ℕ) → length text ≤ 16777216
+    → JudgesHeadText text (Ok (job, rest)) → ReadsVerilog text rest verdict → DueOfText n job verdict status answer → DueFor (Some (Watch n)) text status answer
+head_accepted_is_due n text job rest verdict status answer short judged read due = (Ok (job, rest), head_within short judged, (verdict, read, due))

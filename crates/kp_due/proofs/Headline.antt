@@ -18,11 +18,15 @@ use Rattle.kp_judge.specs.Judging.{Judges, broken_in}
 use Rattle.kp_judge.specs.Judging.Judges.{within}
 use Rattle.kp_judge.specs.Judging.JudgesText.{accepted as no_rule_broken}
 use Rattle.kp_words.specs.declared.words.JobCommand.TheVariants.{Sim, Pipe}
-use Rattle.kp_words.specs.declared.words.Command.TheVariants.{OnJob}
+use Rattle.kp_words.specs.declared.words.Command.TheVariants.{OnJob, Watch}
 use Rattle.kp_show.specs.Runs.{sim_text}
 use Rattle.kp_show.proofs.Sims.{rows_many}
 use Rattle.kp_due.specs.Due.{DueFor}
-use Rattle.kp_due.specs.Headline.{IsLegalRun, IsLegalVerilog}
+use Rattle.kp_net.specs.Netlist.{Net}
+use Rattle.kp_judge.specs.Judging.{JudgesHead}
+use Rattle.kp_due.specs.Read.{ReadsVerilog}
+use Rattle.kp_due.specs.Watched.{agrees, differs, DueOfNetlist, of_other, of_job}
+use Rattle.kp_due.specs.Headline.{IsLegalRun, IsLegalVerilog, IsLegalNetlist}
 use Rattle.kp_due.specs.Written.{IsVerilogOf}
 
 judged_unbroken : (input : List ℕ) (job : Job) → Judges input (Ok job) → broken_in job ≡ None
@@ -79,3 +83,23 @@ legal_verilog input text job judged verilog =
 pub pipe_headline : (input text : List ℕ) → DueFor (Some (OnJob Pipe)) input 0 text → IsLegalVerilog input text
 pipe_headline input text (Ok job, judged, due) = legal_verilog input text job judged due.1
 pipe_headline input text (Err refusal, judged, due) = absurd (omega (arith, due.0))
+
+module _ (n : ℕ) (input text : List ℕ) (job : Job) (rest : ℕ) (judged : JudgesHead input (Ok (job, rest))) (net : Net) (denotes : ReadsVerilog input rest (Ok net)) where
+  legal_netlist : DueOfNetlist n job net 0 text → IsLegalNetlist n input text
+  legal_netlist (of_other differs_from said) = absurd (omega (arith, said.0))
+  legal_netlist (of_job is (differs T t a first said)) = absurd (omega (arith, said.0))
+  legal_netlist (of_job is (agrees all said)) = record {
+    job = job;
+    rest = rest;
+    judged = judged;
+    net = net;
+    denotes = denotes;
+    of_job = is;
+    told = said.1;
+    legal = all;
+  }
+
+pub watch_headline : (n : ℕ) (input text : List ℕ) → DueFor (Some (Watch n)) input 0 text → IsLegalNetlist n input text
+watch_headline n input text (Ok (job, rest), judged, (Ok net, denotes, due)) = legal_netlist n input text job rest judged net denotes due
+watch_headline n input text (Ok (job, rest), judged, (Err refusal, misread, said)) = absurd (omega (arith, said.0))
+watch_headline n input text (Err refusal, judged, said) = absurd (omega (arith, said.0))

@@ -2,4 +2,5 @@ pub mod Dues
 pub mod Headline
 pub mod VerilogShapes
 pub mod Readings
+pub mod Differences
 pub mod Outcomes

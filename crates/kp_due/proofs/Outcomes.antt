@@ -1,18 +1,21 @@
 -- One outcome is due for words and an input: one status with one text.
-use Rattle.std.proofs.Common.{◌≡◌, ◌∙◌, ℕ, List, drop, Result, Ok, Err, Some, None, length, inl, inr, sym, subst, refl, ap, arith}
+use Rattle.std.proofs.Common.{◌≡◌, ◌∙◌, ℕ, List, drop, Bool, true, false, Result, Ok, Err, Some, None, length, inl, inr, sym, subst, refl, ap, arith}
 use Rattle.std.proofs.lemmas.Bool.{cases_lt}
+use Rattle.std.proofs.lemmas.Bool.Decides.{not_from_Decides}
+use Rattle.kp_match.specs.inner.Whole.{is_of_job}
+use Rattle.kp_match.proofs.Whole.{is_found}
 use Rattle.std.specs.declared.option.Option.{Option}
 use Rattle.kp_base.specs.declared.refusal.Refusal.{Refusal}
 use Rattle.kp_ast.specs.declared.tree.Job.{Job}
 use Rattle.kp_stage.specs.Counts.{summary_of}
 use Rattle.kp_asm.specs.Image.{image_text_of}
 use Rattle.kp_words.specs.declared.words.Command.{Command}
-use Rattle.kp_words.specs.declared.words.Command.TheVariants.{OnJob, Assemble, Read}
+use Rattle.kp_words.specs.declared.words.Command.TheVariants.{OnJob, Assemble, Read, Watch}
 use Rattle.kp_words.specs.declared.words.JobCommand.{JobCommand}
 use Rattle.kp_words.specs.declared.words.JobCommand.TheVariants.{Seq, Check, Sim, Pipe}
 use Rattle.kp_words.specs.Words.{command_of}
 use Rattle.kp_judge.specs.Judging.{most_bytes, too_long}
-use Rattle.kp_judge.proofs.Verdicts.{one_verdict, some_verdict}
+use Rattle.kp_judge.proofs.Verdicts.{one_verdict, some_verdict, one_head, some_head}
 use Rattle.kp_show.specs.Texts.{bad_words, refusal_line, accepted_line}
 use Rattle.kp_show.specs.States.{sequential_text}
 use Rattle.kp_show.specs.Runs.{sim_text}
@@ -23,7 +26,9 @@ use Rattle.kp_vlog.specs.Verdict.{refusal_of}
 use Rattle.kp_vlog.proofs.Unique.{one_net, one_rule, no_rule}
 use Rattle.kp_due.specs.Due.{Due, DueFor, DueOfJob, DueOfVerdict, DueOfProgram, program_of}
 use Rattle.kp_due.specs.Read.{ReadsVerilog, DueOfVerilog, DueOfRead, read_over, read_within}
+use Rattle.kp_due.specs.Watched.{wrong_netlist, DueOfNetlist, of_other, of_job, DueOfText, DueOfHead, DueOfWatch}
 use Rattle.kp_due.proofs.Readings.{some_reading}
+use Rattle.kp_due.proofs.Differences.{said_of_run, run_said}
 
 -- the texts are one but for those that `pipe` may write of a job
 abbrev SameText : Option Command → List ℕ → List ℕ → Type 0
@@ -63,11 +68,32 @@ said_of_read input s t x y (read_within v h r a) (read_over i b) = absurd (omega
 said_of_read input s t x y (read_within v h r a) (read_within w i q b) =
     said_of_verilog v s t x y a (subst (λ (z : Result Net Refusal). DueOfVerilog z t y) (one_reading input 0 w v q r) b)
 
+-- a netlist beside a job
+said_of_netlist : (n : ℕ) (job : Job) (net : Net) (s t : ℕ) (x y : List ℕ) → DueOfNetlist n job net s x → DueOfNetlist n job net t y → (s ≡ t) × (x ≡ y)
+said_of_netlist n job net s t x y (of_other h (a, b)) (of_other i (c, d)) = (a ∙ sym c, b ∙ sym d)
+said_of_netlist n job net s t x y (of_other h a) (of_job i b) = absurd (h i)
+said_of_netlist n job net s t x y (of_job h a) (of_other i b) = absurd (i h)
+said_of_netlist n job net s t x y (of_job h a) (of_job i b) = said_of_run job net n s t x y a b
+
+said_of_text : (n : ℕ) (job : Job) (v : Result Net Refusal) (s t : ℕ) (x y : List ℕ) → DueOfText n job v s x → DueOfText n job v t y → (s ≡ t) × (x ≡ y)
+said_of_text n job (Ok net) s t x y a b = said_of_netlist n job net s t x y a b
+said_of_text n job (Err refusal) s t x y (a, b) (c, d) = (a ∙ sym c, b ∙ sym d)
+
+said_of_head : (n : ℕ) (input : List ℕ) (v : Result (Job × ℕ) Refusal) (s t : ℕ) (x y : List ℕ) → DueOfHead n input v s x → DueOfHead n input v t y → (s ≡ t) × (x ≡ y)
+said_of_head n input (Ok (job, rest)) s t x y (v, a, b) (w, c, d) =
+    said_of_text n job v s t x y b (subst (λ (z : Result Net Refusal). DueOfText n job z t y) (one_reading input rest w v c a) d)
+said_of_head n input (Err refusal) s t x y (a, b) (c, d) = (a ∙ sym c, b ∙ sym d)
+
+said_of_watch : (n : ℕ) (input : List ℕ) (s t : ℕ) (x y : List ℕ) → DueOfWatch n input s x → DueOfWatch n input t y → (s ≡ t) × (x ≡ y)
+said_of_watch n input s t x y (v, a, b) (w, c, d) =
+    said_of_head n input v s t x y b (subst (λ (z : Result (Job × ℕ) Refusal). DueOfHead n input z t y) (one_head input w v c a) d)
+
 said_for : (command : Option Command) (input : List ℕ) (s t : ℕ) (x y : List ℕ) → DueFor command input s x → DueFor command input t y → (s ≡ t) × SameText command x y
 said_for None input s t x y (a, b) (c, d) = (a ∙ sym c, λ other. b ∙ sym d)
 said_for (Some (OnJob command)) input s t x y (v, a, b) (w, c, d) =
     said_of_verdict command v s t x y b (subst (λ (z : Result Job Refusal). DueOfVerdict command z t y) (one_verdict input w v c a) d)
 said_for (Some Assemble) input s t x y a b = let p = said_of_program (program_of input) s t x y a b in (p.0, λ other. p.1)
+said_for (Some (Watch n)) input s t x y a b = let p = said_of_watch n input s t x y a b in (p.0, λ other. p.1)
 said_for (Some Read) input s t x y a b = let p = said_of_read input s t x y a b in (p.0, λ other. p.1)
 
 pub one_status : (words : List (List ℕ)) (input : List ℕ) (s t : ℕ) (x y : List ℕ) → Due words input s x → Due words input t y → s ≡ t
@@ -101,12 +127,29 @@ read_said input = elim (cases_lt most_bytes (length input)) [
   | inr short ↦ let v = some_reading input 0 in let said = verilog_said v.0 in (said.0, said.1, read_within v.0 short v.1 said.2)
 ]
 
+netlist_said : (n : ℕ) (job : Job) (net : Net) (b : Bool) → is_of_job net.parts job ≡ b → (s : ℕ) × (x : List ℕ) × DueOfNetlist n job net s x
+netlist_said n job net true e = let said = run_said job net n in (said.0, said.1, of_job ((is_found net job).0 e) said.2)
+netlist_said n job net false e =
+    (6, refusal_line wrong_netlist, of_other (not_from_Decides (is_of_job net.parts job) (is_found net job) e) (refl, refl))
+
+text_said : (n : ℕ) (job : Job) (v : Result Net Refusal) → (s : ℕ) × (x : List ℕ) × DueOfText n job v s x
+text_said n job (Ok net) = netlist_said n job net (is_of_job net.parts job) refl
+text_said n job (Err refusal) = (6, refusal_line refusal, (refl, refl))
+
+head_said : (n : ℕ) (input : List ℕ) (v : Result (Job × ℕ) Refusal) → (s : ℕ) × (x : List ℕ) × DueOfHead n input v s x
+head_said n input (Ok (job, rest)) = let v = some_reading input rest in let said = text_said n job v.0 in (said.0, said.1, (v.0, v.1, said.2))
+head_said n input (Err refusal) = (2, refusal_line refusal, (refl, refl))
+
+watch_said : (n : ℕ) (input : List ℕ) → (s : ℕ) × (x : List ℕ) × DueOfWatch n input s x
+watch_said n input = let v = some_head input in let said = head_said n input v.0 in (said.0, said.1, (v.0, v.1, said.2))
+
 some_for : (command : Option Command) (input : List ℕ) → (command ≡ Some (OnJob Pipe) → ⊥) → (s : ℕ) × (x : List ℕ) × DueFor command input s x
 some_for None input other = (1, bad_words, (refl, refl))
 some_for (Some (OnJob command)) input other =
     let v = some_verdict input in let said = verdict_said command v.0 other in (said.0, said.1, (v.0, v.1, said.2))
 some_for (Some Assemble) input other = program_said (program_of input)
 some_for (Some Read) input other = read_said input
+some_for (Some (Watch n)) input other = watch_said n input
 
 pub some_due : (words : List (List ℕ)) (input : List ℕ) → (command_of words ≡ Some (OnJob Pipe) → ⊥) → (s : ℕ) × (x : List ℕ) × Due words input s x
 some_due words input other = some_for (command_of words) input other

@@ -8,7 +8,7 @@ use Rattle.kp_stage.specs.Counts.{summary_of}
 use Rattle.kp_asm.specs.Image.{image_text_of}
 use Rattle.kp_asm.specs.Program.{assembled}
 use Rattle.kp_words.specs.declared.words.Command.{Command}
-use Rattle.kp_words.specs.declared.words.Command.TheVariants.{OnJob, Assemble, Read}
+use Rattle.kp_words.specs.declared.words.Command.TheVariants.{OnJob, Assemble, Read, Watch}
 use Rattle.kp_words.specs.declared.words.JobCommand.{JobCommand}
 use Rattle.kp_words.specs.declared.words.JobCommand.TheVariants.{Seq, Check, Sim, Pipe}
 use Rattle.kp_words.specs.Words.{command_of, reads_input}
@@ -19,6 +19,7 @@ use Rattle.kp_show.specs.Runs.{sim_text}
 use Rattle.kp_due.specs.Saying.{Says}
 use Rattle.kp_due.specs.Written.{IsVerilogOf}
 use Rattle.kp_due.specs.Read.{DueOfRead}
+use Rattle.kp_due.specs.Watched.{DueOfWatch}
 
 -- what a command says of an accepted job
 abbrev pub DueOfJob : JobCommand → Job → ℕ → List ℕ → Type 0
@@ -48,6 +49,7 @@ DueFor (Some (OnJob command)) input status text =
     (verdict : Result Job Refusal) × Judges input verdict × DueOfVerdict command verdict status text
 DueFor (Some Assemble) input status text = DueOfProgram (program_of input) status text
 DueFor (Some Read) input status text = DueOfRead input status text
+DueFor (Some (Watch count)) input status text = DueOfWatch count input status text
 
 -- what is due of any words
 abbrev pub Due : List (List ℕ) → List ℕ → ℕ → List ℕ → Type 0
