@@ -6,13 +6,16 @@ use Rattle.kp_base.specs.Bytes.{AppendsPart}
 use Rattle.kp_base.specs.declared.refusal.Refusal.{Refusal}
 use Rattle.kp_ast.specs.declared.tree.Job.{Job}
 use Rattle.kp_words.specs.declared.words.Command.{Command}
-use Rattle.kp_words.specs.declared.words.Command.TheVariants.{OnJob, Read}
+use Rattle.kp_words.specs.declared.words.Command.TheVariants.{OnJob, Read, Watch}
 use Rattle.kp_words.specs.declared.words.JobCommand.{JobCommand}
 use Rattle.kp_words.specs.declared.words.JobCommand.TheVariants.{Sim, Pipe}
 use Rattle.kp_words.specs.Words.{command_of}
-use Rattle.kp_judge.specs.Judging.{JudgesText, too_long}
+use Rattle.kp_judge.specs.Judging.{JudgesText, JudgesHeadText, too_long}
+use Rattle.kp_watch.specs.declared.compare.Difference.{Difference}
+use Rattle.kp_due.specs.Watched.{DueOfNetlist}
+use Rattle.kp_tool.specs.inner.Watching.{status_by}
 use Rattle.kp_net.specs.Netlist.{Net}
-use Rattle.kp_due.proofs.Dues.{too_long_is_due, refused_is_due, accepted_is_due, denoted_is_due, misread_is_due}
+use Rattle.kp_due.proofs.Dues.{too_long_is_due, refused_is_due, accepted_is_due, denoted_is_due, misread_is_due, head_refused_is_due, head_accepted_is_due}
 use Rattle.kp_due.proofs.Headline.{sim_headline, pipe_headline}
 use Rattle.kp_due.specs.Due.{DueFor, DueOfJob, IsFinal, Completes, Begins}
 use Rattle.kp_due.specs.Read.{ReadsVerilog}
@@ -46,6 +49,23 @@ pub misread_answers : (input : List ℕ) (refusal : Refusal) → length input �
 unfolding Answers
 misread_answers input refusal short refused = λ status text says. rw (says.0, says.1) (misread_is_due input refusal short refused)
 
+-- of `watch` a broken rule of the job is due, and so is one of the text behind it, and else what is said of its netlist
+pub head_refused_answers : (n : ℕ) (input : List ℕ) (refusal : Refusal) → length input ≤ 16777216 → JudgesHeadText input (Err refusal) → Answers (Watch n) input (answers.Refused refusal)
+unfolding Answers
+head_refused_answers n input refusal short judged = λ status text says. rw (says.0, says.1) (head_refused_is_due n input refusal short judged)
+
+pub rest_misread_answers : (n : ℕ) (input : List ℕ) (job : Job) (rest : ℕ) (refusal : Refusal) → length input ≤ 16777216 → JudgesHeadText input (Ok (job, rest))
+    → ReadsVerilog input rest (Err refusal) → Answers (Watch n) input (answers.Misread refusal)
+unfolding Answers
+rest_misread_answers n input job rest refusal short judged misread = λ status text says.
+    head_accepted_is_due n input job rest (Err refusal) status text short judged misread says
+
+pub netlist_answers : (n : ℕ) (input : List ℕ) (job : Job) (rest : ℕ) (net : Net) (answer : Answer) → length input ≤ 16777216 → JudgesHeadText input (Ok (job, rest))
+    → ReadsVerilog input rest (Ok net) → ((status : ℕ) (text : List ℕ) → AnswerSays answer status text → DueOfNetlist n job net status text) → Answers (Watch n) input answer
+unfolding Answers
+netlist_answers n input job rest net answer short judged denotes due = λ status text says.
+    head_accepted_is_due n input job rest (Ok net) status text short judged denotes (due status text says)
+
 nothing_taken : (left : Option (List ℕ)) → Consumes left left []
 nothing_taken None = tt
 nothing_taken (Some bytes) = refl
@@ -78,6 +98,10 @@ unfolding Decides
 too_long_decided words command old new taken refusal is consumed count same = λ status text says.
     rw (says.0, says.1, same) (too_long_is_due words command old new taken is consumed count)
 
+final_by : (difference : Option Difference) → IsFinal (status_by difference)
+final_by None = (λ e. omega arith, λ e. omega arith, λ e. omega arith)
+final_by (Some d) = (λ e. omega arith, λ e. omega arith, λ e. omega arith)
+
 final : (ready : Ready) → IsFinal (ready_status ready)
 final readies.BadWords = (λ e. omega arith, λ e. omega arith, λ e. omega arith)
 final (readies.Refused refusal) = (λ e. omega arith, λ e. omega arith, λ e. omega arith)
@@ -88,6 +112,7 @@ final (readies.Verilog net) = (λ e. omega arith, λ e. omega arith, λ e. omega
 final (readies.Checked design) = (λ e. omega arith, λ e. omega arith, λ e. omega arith)
 final (readies.Image section) = (λ e. omega arith, λ e. omega arith, λ e. omega arith)
 final (readies.Denoted net) = (λ e. omega arith, λ e. omega arith, λ e. omega arith)
+final (readies.Watched watched) = final_by watched.difference
 
 -- an answer that was got ready is written whole, or its beginning
 pub finishes : (answer : Answer) (ready : Ready) (held held_after : Option (List ℕ)) (status : ℕ) → Tells answer ready → status ≡ ready_status ready

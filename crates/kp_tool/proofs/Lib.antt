@@ -1,3 +1,4 @@
 pub mod Ends
 pub mod IfOks
 pub mod Running
+pub mod Compared

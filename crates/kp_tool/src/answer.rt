@@ -2,9 +2,11 @@
 ghost use Rattle.std.specs.Prelude.{IfOk};
 ghost use Rattle.kp_tool.specs.inner.Answer.{Tells};
 
+use crate::comparing::compared;
 use crate::simulating::simulated;
 use crate::stepping::{Run, run_of};
 use crate::verilog::pipelined;
+use crate::watching::{Watch, Watched};
 use kp_base::{NoMemory, Refusal};
 use kp_judge::Accepted;
 use kp_net::Netlist;
@@ -40,6 +42,8 @@ pub enum Answer {
     Image(Vec<u8>),
     /// The netlist that a Verilog text denotes.
     Denoted(Netlist),
+    /// The run of the netlist of a text beside the sequential machine of its job.
+    Watch(Watch),
 }
 
 /// An answer that is ready to be written: from here on no memory is taken.
@@ -54,6 +58,7 @@ pub enum Ready<'a> {
     Checked(&'a Design),
     Image(&'a [u8]),
     Denoted(&'a Netlist),
+    Watched(Watched<'a>),
 }
 
 impl Answer {
@@ -74,6 +79,7 @@ impl Answer {
             Answer::Checked(design) => Ok(Ready::Checked(design)),
             Answer::Image(section) => Ok(Ready::Image(section.as_slice())),
             Answer::Denoted(net) => Ok(Ready::Denoted(net)),
+            Answer::Watch(watch) => Ok(Ready::Watched(compared(alloc, watch)?)),
         }
     }
 }

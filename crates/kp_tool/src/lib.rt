@@ -16,10 +16,12 @@ ghost use Rattle.kp_tool.specs.inner.Stop.{stop_status};
 ghost use Rattle.kp_tool.specs.declared.Stop.TheVariants as stop;
 
 mod answer;
+mod comparing;
 mod deciding;
 mod simulating;
 mod stepping;
 mod verilog;
+mod watching;
 mod writing;
 
 use answer::{Answer, Ready};

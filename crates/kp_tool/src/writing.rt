@@ -3,10 +3,12 @@ ghost use Rattle.std.specs.Prelude.{◌≡◌, IfOk};
 ghost use Rattle.kp_base.specs.Bytes.{Writes};
 ghost use Rattle.kp_base.specs.Causes.{HasCause};
 ghost use Rattle.kp_tool.specs.inner.Answer.{ready_status, ready_text};
+ghost use Rattle.kp_tool.specs.inner.Watching.{watched_status, watched_text};
 
 use crate::answer::Ready;
+use crate::watching::Watched;
 use kp_base::{Sink, SinkFault, write_all};
-use kp_show::{write_accepted, write_board, write_refusal, write_run_after};
+use kp_show::{write_accepted, write_board, write_difference, write_refusal, write_run_after};
 use kp_vwrite::write_verilog;
 
 impl Ready<'_> {
@@ -52,6 +54,27 @@ impl Ready<'_> {
             Ready::Denoted(net) => {
                 write_verilog(net, sink)?;
                 Ok(0)
+            }
+            Ready::Watched(watched) => watched.write(sink),
+        }
+    }
+}
+
+impl Watched<'_> {
+    /// Writes the whole run, or its rows up to the difference and the line of that, and answers the status.
+    fn write<K: Sink>(&self, sink: &mut K) -> Result<u8, SinkFault>
+        ensures text { Writes (K.held sink.old) (K.held sink.new) (watched_text self.now) result }
+        ensures status { IfOk result (λ status. status ≡ watched_status self.now) }
+        ensures cause { HasCause (K.faults sink.old) (K.faults sink.new) result }
+    {
+        match &self.difference {
+            None => {
+                write_board(&self.board, sink)?;
+                Ok(0)
+            }
+            Some(difference) => {
+                write_difference(&self.board, difference, sink)?;
+                Ok(7)
             }
         }
     }

@@ -13,6 +13,8 @@ use Rattle.kp_show.specs.Runs.{run_text, sim_text}
 use Rattle.kp_due.specs.Saying.{Says}
 use Rattle.kp_due.specs.Due.{DueFor, IsDue, IsFinal}
 use Rattle.kp_due.specs.Written.{IsVerilogOf}
+use Rattle.kp_due.specs.Watched.{DueOfRun}
+use Rattle.kp_tool.specs.inner.Watching.{watched_status, watched_text}
 use Rattle.kp_vlog.specs.Canon.{canon}
 use Rattle.kp_tool.specs.declared.answer.Answer.{Answer}
 use Rattle.kp_tool.specs.declared.answer.Answer.TheVariants as answers
@@ -29,6 +31,7 @@ AnswerSays (answers.Pipelined job) = λ status text. (status ≡ 0) × IsVerilog
 AnswerSays (answers.Checked design) = Says 0 (accepted_line design.job.name.name (summary_of design.job))
 AnswerSays (answers.Image section) = Says 0 section.items
 AnswerSays (answers.Denoted net) = Says 0 (canon net)
+AnswerSays (answers.Watch watch) = DueOfRun watch.count watch.job.design.job watch.net
 
 abbrev pub ready_status : Ready → ℕ
 ready_status readies.BadWords = 1
@@ -40,6 +43,7 @@ ready_status (readies.Verilog net) = 0
 ready_status (readies.Checked design) = 0
 ready_status (readies.Image section) = 0
 ready_status (readies.Denoted net) = 0
+ready_status (readies.Watched watched) = watched_status watched
 
 abbrev pub ready_text : Ready → List ℕ
 ready_text readies.BadWords = bad_words
@@ -52,6 +56,7 @@ ready_text (readies.Verilog net) = canon net
 ready_text (readies.Checked design) = accepted_line design.now.job.name.name (summary_of design.now.job)
 ready_text (readies.Image section) = section.now
 ready_text (readies.Denoted net) = canon net.now
+ready_text (readies.Watched watched) = watched_text watched
 
 -- Whatever the answer says is due of a command and its input.
 unfoldable pub Answers : Command → List ℕ → Answer → Type 0
