@@ -1,0 +1,8 @@
+-- The names that are written out.
+use Rattle.std.specs.Prelude.{ℕ, List, Bool, ◌&&◌, nat_le, length}
+use Rattle.std.specs.List.{list_all}
+use Rattle.kp_base.specs.Characters.{is_word}
+
+-- a test for names
+abbrev pub is_spelled : List ℕ → Bool
+is_spelled bytes = list_all is_word bytes && (nat_le 1 (length bytes) && nat_le (length bytes) 64)

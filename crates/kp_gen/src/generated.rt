@@ -1,0 +1,47 @@
+// The job that a number gives.
+ghost use Rattle.std.specs.Prelude.{◌≡◌, IfOk, [], ◌∷◌, ◌≤◌};
+ghost use Rattle.kp_gen.specs.Generated.{gen_job, all_stalls};
+
+use crate::declared::all_decls;
+use crate::draws::Shape;
+use crate::stated::all_blocks;
+use crate::trees::{named, num, spelled};
+use kp_ast::{Job, Stalls};
+use kp_base::{List, NoMemory};
+use std::alloc::Global;
+
+/// The generated job of this number.
+#[tactic(auto, unfolding(crate::specs::Generated::job_of))]
+pub fn generate(alloc: Global, start: u64) -> Result<Job, NoMemory>
+    ensures { IfOk result (λ job. job ≡ gen_job start) }
+{
+    let shape = Shape::drawn(alloc, start)?;
+    let routes = shape.routes.as_slice();
+    let name = named(spelled(alloc, b"gen")?);
+    let decls = all_decls(alloc, shape.stages, routes)?;
+    let blocks = all_blocks(alloc, shape.stages, routes)?;
+    let stalls = all_stalls(alloc, shape.stages)?;
+    Ok(Job {
+        name,
+        stages: num(shape.stages),
+        decls: List::new(decls),
+        blocks: List::new(blocks),
+        image: None,
+        stalls: Some(List::new(stalls)),
+        inputs: None,
+    })
+}
+
+fn all_stalls(alloc: Global, stages: u64) -> Result<Vec<Stalls>, NoMemory>
+    requires { 3 ≤ stages }
+    ensures { IfOk result (λ ss. ss.items ≡ all_stalls stages) }
+{
+    let mut stalls = Vec::new(alloc);
+    stalls.push(Stalls {
+        stage: num(stages - 1),
+        from: num(5),
+        to: num(100_000),
+        step: Some(num(7)),
+    })?;
+    Ok(stalls)
+}

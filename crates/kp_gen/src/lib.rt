@@ -1,0 +1,13 @@
+//! The texts of the sample processors, and the job that a number gives.
+#![tactic(auto)]
+
+mod declared;
+mod draws;
+mod generated;
+mod samples;
+mod stated;
+mod trees;
+
+pub use draws::Route;
+pub use generated::generate;
+pub use samples::{dlx5, dlxs};

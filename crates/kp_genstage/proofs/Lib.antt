@@ -1,0 +1,10 @@
+mod Walks
+mod Finds
+mod Declared
+mod Puts
+mod Sets
+mod Asked
+mod Kept
+mod Totals
+mod Small
+mod Holds
