@@ -1,9 +1,9 @@
 -- The laws of what is due that the top call needs.
-use Rattle.std.proofs.Common.{sym, subst, IfSome, ap, [], ◌++◌, ◌⊎◌, ◌∙◌, inl, None, arith, append-nil, length-append, ◌≡◌, ℕ, ◌<◌, ◌≤◌, List, length, refl, inr, Some, Ok, Err}
+use Rattle.std.proofs.Common.{true, sym, subst, IfSome, ap, [], ◌++◌, ◌⊎◌, ◌∙◌, inl, None, arith, append-nil, length-append, ◌≡◌, ℕ, ◌<◌, ◌≤◌, List, length, refl, inr, Some, Ok, Err}
 use Rattle.std.specs.declared.option.Option.{Option}
 use Rattle.std.proofs.lemmas.Bool.{lt-ltb}
 use Rattle.std.specs.Io.KnownBytes.{Consumes}
-use Rattle.kp_words.specs.declared.words.Command.TheVariants.{OnJob, Assemble, Read, Watch}
+use Rattle.kp_words.specs.declared.words.Command.TheVariants.{OnJob, Assemble, Read, Watch, Generate}
 use Rattle.kp_words.specs.declared.words.Command.{Command}
 use Rattle.std.specs.declared.result.Result.{Result}
 use Rattle.kp_base.specs.declared.refusal.Refusal.{Refusal}
@@ -20,19 +20,21 @@ use Rattle.kp_due.specs.Due.{Completes, Due, DueFor, DueOfJob, DueOfProgram, pro
 use Rattle.kp_due.specs.Read.{ReadsVerilog, DueOfRead, read_over, read_within}
 use Rattle.kp_due.specs.Watched.{DueOfWatch, DueOfText}
 
-too_long_due : (command : Command) (old new : Option (List ℕ)) (taken : List ℕ) → Consumes old new taken → length taken ≡ 16777217 → IsWhole (reads_input (Some command)) taken new × DueFor (Some command) taken 2 (refusal_line too_long)
+too_long_due : (command : Command) (old new : Option (List ℕ)) (taken : List ℕ) → reads_input (Some command) ≡ true → Consumes old new taken → length taken ≡ 16777217 → IsWhole (reads_input (Some command)) taken new × DueFor (Some command) taken 2 (refusal_line too_long)
 unfolding program_of
-too_long_due (OnJob command) old new taken consumed count = (inr count, (Err too_long, over (omega arith), (refl, refl)))
-too_long_due Assemble old new taken consumed count =
+too_long_due (OnJob command) old new taken reads consumed count = (inr count, (Err too_long, over (omega arith), (refl, refl)))
+too_long_due Assemble old new taken reads consumed count =
     let long : 16777216 < length taken = omega arith in
     (inr count, rw (lt-ltb 16777216 (length taken) long) (refl, refl))
-too_long_due (Watch count) old new taken consumed many = (inr many, (Err too_long, head_over (omega arith), (refl, refl)))
-too_long_due Read old new taken consumed count = (inr count, read_over (omega arith) (refl, refl))
+too_long_due (Watch count) old new taken reads consumed many = (inr many, (Err too_long, head_over (omega arith), (refl, refl)))
+too_long_due Read old new taken reads consumed count = (inr count, read_over (omega arith) (refl, refl))
+too_long_due (Generate number count) old new taken reads consumed many = cc reads
 
 -- past the most bytes that fit, the refusal is due, whatever the source has left
-pub too_long_is_due : (words : List (List ℕ)) (command : Command) (old new : Option (List ℕ)) (taken : List ℕ) → command_of words ≡ Some command → Consumes old new taken → length taken ≡ 16777217 → IsDue words old new 2 (refusal_line too_long)
-too_long_is_due words command old new taken is_command consumed count =
-    let (whole, due) = too_long_due command old new taken consumed count in
+pub too_long_is_due : (words : List (List ℕ)) (command : Command) (old new : Option (List ℕ)) (taken : List ℕ) → command_of words ≡ Some command → reads_input (Some command) ≡ true → Consumes old new taken
+    → length taken ≡ 16777217 → IsDue words old new 2 (refusal_line too_long)
+too_long_is_due words command old new taken is_command reads consumed count =
+    let (whole, due) = too_long_due command old new taken reads consumed count in
     record {
       taken = taken;
       consumed = consumed;
@@ -76,6 +78,7 @@ due_all_for (Some Assemble) taken rest status text whole due =
     subst (λ (found : Result (List ℕ) Refusal). DueOfProgram found status text) (sym (program_all taken rest whole)) due
 due_all_for (Some (Watch n)) taken rest status text whole due = watch_all n taken rest status text whole due
 due_all_for (Some Read) taken rest status text whole due = read_all taken rest status text whole due
+due_all_for (Some (Generate number count)) taken rest status text whole due = due
 
 -- what is due of the bytes that were taken is due of all
 pub due_all : (words : List (List ℕ)) (taken rest : List ℕ) (status : ℕ) (text : List ℕ) → IsWhole (reads_input (command_of words)) taken (Some rest) → Due words taken status text → Due words (taken ++ rest) status text

@@ -1,19 +1,20 @@
 -- The headline, from what is due.
-use Rattle.std.proofs.Common.{◌∙◌, ◌≡◌, ◌≤◌, ℕ, List, length, None, Some, Ok, Err, refl, arith}
+use Rattle.std.proofs.Common.{◌∙◌, ◌≡◌, ℕ, List, None, Some, Ok, Err, refl, arith}
 use Rattle.kp_ast.specs.declared.tree.Job.{Job}
 use Rattle.kp_stage.specs.Start.{start_of}
 use Rattle.kp_stage.proofs.Unbroken.{first_none}
 use Rattle.kp_law.specs.Accepted.{Accepted}
 use Rattle.kp_law.specs.Pipeline.{Inputs}
+use Rattle.kp_law.specs.Rows.{Trace}
 use Rattle.kp_law.proofs.Legality.{legal}
 use Rattle.kp_law.proofs.Progress.{moves}
 use Rattle.kp_law.proofs.Timeline.{same-rows}
 use Rattle.kp_lawful.proofs.Accepting.{accepted}
 use Rattle.kp_lawful.proofs.Guessless.{guessless}
 use Rattle.kp_machine.specs.Machine.{machine_of, state_of, start_hints, pipe_of, inputs_from}
-use Rattle.kp_sched.specs.Runs.{IsLegal}
+use Rattle.kp_sched.specs.Runs.{IsLegal, ShowsAlike}
 use Rattle.kp_sched.proofs.Runs.{alike_is_legal, alike_moves}
-use Rattle.kp_shows.specs.Traces.{inputs_seen}
+use Rattle.kp_shows.specs.Traces.{inputs_seen, trace_of}
 use Rattle.kp_judge.specs.Judging.{Judges, broken_in}
 use Rattle.kp_judge.specs.Judging.Judges.{within}
 use Rattle.kp_judge.specs.Judging.JudgesText.{accepted as no_rule_broken}
@@ -26,8 +27,7 @@ use Rattle.kp_net.specs.Netlist.{Net}
 use Rattle.kp_judge.specs.Judging.{JudgesHead}
 use Rattle.kp_due.specs.Read.{ReadsVerilog}
 use Rattle.kp_due.specs.Watched.{agrees, differs, DueOfNetlist, of_other, of_job}
-use Rattle.kp_due.specs.Headline.{IsLegalRun, IsLegalVerilog, IsLegalNetlist}
-use Rattle.kp_due.specs.Written.{IsVerilogOf}
+use Rattle.kp_due.specs.Headline.{IsMoving, HasNoNeedlessStall, IsVerilogWith, IsRunWith, IsNetlistWith}
 
 judged_unbroken : (input : List ℕ) (job : Job) → Judges input (Ok job) → broken_in job ≡ None
 judged_unbroken input job (within short (no_rule_broken describes none)) = none
@@ -45,47 +45,64 @@ legal_pipe job acc ins =
     alike_is_legal job ins _ _ (record { rows = refl; values = λ T t x h w. refl })
     (legal (machine_of job) (state_of job (start_of job)) (start_hints job) ins acc)
 
-legal_run : (n : ℕ) (input text : List ℕ) (job : Job) → Judges input (Ok job) → text ≡ sim_text n job → IsLegalRun n input text
+told_run : (Fact : Job → List Inputs → Trace → Type 0) (n : ℕ) (input text : List ℕ) (job : Job) → Judges input (Ok job) → text ≡ sim_text n job
+    → Fact job (inputs_from job 0 n) (pipe_of job (inputs_from job 0 n)) → IsRunWith Fact n input text
 unfolding sim_text
-legal_run n input text job judged told =
-    let acc : Accepted (machine_of job) = accepted_machine job (judged_unbroken input job judged) in
-    let ins = inputs_from job 0 n in
-    record {
-      job = job;
-      judged = judged;
-      told = told;
-      cycles = rows_many job n;
-      shown = λ t a there. legal_pipe job acc ins n t a (let h : n ≤ length (pipe_of job ins).rows = omega (arith, rows_many job n) in h) there;
-      moves = moves (machine_of job) (state_of job (start_of job)) (start_hints job) ins acc;
-      no_needless_stall = λ guesses samples. same-rows (machine_of job) (state_of job (start_of job)) (start_hints job) ins acc (guessless job guesses samples);
-    }
+told_run Fact n input text job judged told holds = record {
+  job = job;
+  judged = judged;
+  told = told;
+  cycles = rows_many job n;
+  holds = holds;
+}
 
-pub sim_headline : (n : ℕ) (input text : List ℕ) → DueFor (Some (OnJob (Sim n))) input 0 text → IsLegalRun n input text
-sim_headline n input text (Ok job, judged, due) = legal_run n input text job judged due.1
-sim_headline n input text (Err refusal, judged, due) = absurd (omega (arith, due.0))
+-- what holds of each accepted pipeline holds of the run that `sim` tells
+sim_with : (Fact : Job → List Inputs → Trace → Type 0) → ((job : Job) (ins : List Inputs) → Accepted (machine_of job) → Fact job ins (pipe_of job ins))
+    → (n : ℕ) (input text : List ℕ) → DueFor (Some (OnJob (Sim n))) input 0 text → IsRunWith Fact n input text
+sim_with Fact law n input text (Ok job, judged, due) =
+    told_run Fact n input text job judged due.1 (law job (inputs_from job 0 n) (accepted_machine job (judged_unbroken input job judged)))
+sim_with Fact law n input text (Err refusal, judged, due) = absurd (omega (arith, due.0))
 
-legal_verilog : (input text : List ℕ) (job : Job) → Judges input (Ok job) → IsVerilogOf job text → IsLegalVerilog input text
-legal_verilog input text job judged verilog =
-    let acc : Accepted (machine_of job) = accepted_machine job (judged_unbroken input job judged) in
-    record {
-      job = job;
-      judged = judged;
-      net = verilog.net;
-      denotes = verilog.denotes;
-      legal = λ ins quiet. alike_is_legal job (inputs_seen job ins) _ _ (verilog.shows.runs ins quiet)
-          (legal (machine_of job) (state_of job (start_of job)) (start_hints job) (inputs_seen job ins) acc);
-      moves = λ ins quiet. alike_moves job (inputs_seen job ins) _ _ (verilog.shows.runs ins quiet)
-          (moves (machine_of job) (state_of job (start_of job)) (start_hints job) (inputs_seen job ins) acc);
-      no_needless_stall = λ guesses samples ins quiet. (verilog.shows.runs ins quiet).rows
-          ∙ same-rows (machine_of job) (state_of job (start_of job)) (start_hints job) (inputs_seen job ins) acc (guessless job guesses samples);
-    }
+-- and what holds of each trace that shows an accepted pipeline holds of the netlist that `pipe` writes
+pipe_with : (Fact : Job → List Inputs → Trace → Type 0)
+    → ((job : Job) (ins : List Inputs) (trace : Trace) → Accepted (machine_of job) → ShowsAlike job trace (pipe_of job ins) → Fact job ins trace)
+    → (input text : List ℕ) → DueFor (Some (OnJob Pipe)) input 0 text → IsVerilogWith Fact input text
+pipe_with Fact law input text (Ok job, judged, (zero, verilog)) = record {
+  job = job;
+  judged = judged;
+  net = verilog.net;
+  denotes = verilog.denotes;
+  holds = λ ins quiet. law job (inputs_seen job ins) (trace_of job verilog.net ins) (accepted_machine job (judged_unbroken input job judged)) (verilog.shows.runs ins quiet);
+}
+pipe_with Fact law input text (Err refusal, judged, due) = absurd (omega (arith, due.0))
 
-pub pipe_headline : (input text : List ℕ) → DueFor (Some (OnJob Pipe)) input 0 text → IsLegalVerilog input text
-pipe_headline input text (Ok job, judged, due) = legal_verilog input text job judged due.1
-pipe_headline input text (Err refusal, judged, due) = absurd (omega (arith, due.0))
+moves_pipe : (job : Job) (ins : List Inputs) → Accepted (machine_of job) → IsMoving job ins (pipe_of job ins)
+moves_pipe job ins acc = moves (machine_of job) (state_of job (start_of job)) (start_hints job) ins acc
+
+waits_pipe : (job : Job) (ins : List Inputs) → Accepted (machine_of job) → HasNoNeedlessStall job ins (pipe_of job ins)
+waits_pipe job ins acc guesses samples = same-rows (machine_of job) (state_of job (start_of job)) (start_hints job) ins acc (guessless job guesses samples)
+
+pub sim_is_legal : (n : ℕ) (input text : List ℕ) → DueFor (Some (OnJob (Sim n))) input 0 text → IsRunWith IsLegal n input text
+sim_is_legal = sim_with IsLegal (λ job ins acc. legal_pipe job acc ins)
+
+pub sim_moves : (n : ℕ) (input text : List ℕ) → DueFor (Some (OnJob (Sim n))) input 0 text → IsRunWith IsMoving n input text
+sim_moves = sim_with IsMoving moves_pipe
+
+pub sim_waits : (n : ℕ) (input text : List ℕ) → DueFor (Some (OnJob (Sim n))) input 0 text → IsRunWith HasNoNeedlessStall n input text
+sim_waits = sim_with HasNoNeedlessStall waits_pipe
+
+pub pipe_is_legal : (input text : List ℕ) → DueFor (Some (OnJob Pipe)) input 0 text → IsVerilogWith IsLegal input text
+pipe_is_legal = pipe_with IsLegal (λ job ins trace acc alike. alike_is_legal job ins _ _ alike
+    (legal (machine_of job) (state_of job (start_of job)) (start_hints job) ins acc))
+
+pub pipe_moves : (input text : List ℕ) → DueFor (Some (OnJob Pipe)) input 0 text → IsVerilogWith IsMoving input text
+pipe_moves = pipe_with IsMoving (λ job ins trace acc alike. alike_moves job ins _ _ alike (moves_pipe job ins acc))
+
+pub pipe_waits : (input text : List ℕ) → DueFor (Some (OnJob Pipe)) input 0 text → IsVerilogWith HasNoNeedlessStall input text
+pipe_waits = pipe_with HasNoNeedlessStall (λ job ins trace acc alike guesses samples. alike.rows ∙ waits_pipe job ins acc guesses samples)
 
 module _ (n : ℕ) (input text : List ℕ) (job : Job) (rest : ℕ) (judged : JudgesHead input (Ok (job, rest))) (net : Net) (denotes : ReadsVerilog input rest (Ok net)) where
-  legal_netlist : DueOfNetlist n job net 0 text → IsLegalNetlist n input text
+  legal_netlist : DueOfNetlist n job net 0 text → IsNetlistWith IsLegal n input text
   legal_netlist (of_other differs_from said) = absurd (omega (arith, said.0))
   legal_netlist (of_job is (differs T t a first said)) = absurd (omega (arith, said.0))
   legal_netlist (of_job is (agrees all said)) = record {
@@ -96,10 +113,10 @@ module _ (n : ℕ) (input text : List ℕ) (job : Job) (rest : ℕ) (judged : Ju
     denotes = denotes;
     of_job = is;
     told = said.1;
-    legal = all;
+    holds = all;
   }
 
-pub watch_headline : (n : ℕ) (input text : List ℕ) → DueFor (Some (Watch n)) input 0 text → IsLegalNetlist n input text
-watch_headline n input text (Ok (job, rest), judged, (Ok net, denotes, due)) = legal_netlist n input text job rest judged net denotes due
-watch_headline n input text (Ok (job, rest), judged, (Err refusal, misread, said)) = absurd (omega (arith, said.0))
-watch_headline n input text (Err refusal, judged, said) = absurd (omega (arith, said.0))
+pub watch_is_legal : (n : ℕ) (input text : List ℕ) → DueFor (Some (Watch n)) input 0 text → IsNetlistWith IsLegal n input text
+watch_is_legal n input text (Ok (job, rest), judged, (Ok net, denotes, due)) = legal_netlist n input text job rest judged net denotes due
+watch_is_legal n input text (Ok (job, rest), judged, (Err refusal, misread, said)) = absurd (omega (arith, said.0))
+watch_is_legal n input text (Err refusal, judged, said) = absurd (omega (arith, said.0))

@@ -1,5 +1,6 @@
 pub mod Dues
 pub mod Headline
+pub mod Refusals
 pub mod VerilogShapes
 pub mod Readings
 pub mod Differences

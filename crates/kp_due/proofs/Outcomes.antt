@@ -10,7 +10,7 @@ use Rattle.kp_ast.specs.declared.tree.Job.{Job}
 use Rattle.kp_stage.specs.Counts.{summary_of}
 use Rattle.kp_asm.specs.Image.{image_text_of}
 use Rattle.kp_words.specs.declared.words.Command.{Command}
-use Rattle.kp_words.specs.declared.words.Command.TheVariants.{OnJob, Assemble, Read, Watch}
+use Rattle.kp_words.specs.declared.words.Command.TheVariants.{OnJob, Assemble, Read, Watch, Generate}
 use Rattle.kp_words.specs.declared.words.JobCommand.{JobCommand}
 use Rattle.kp_words.specs.declared.words.JobCommand.TheVariants.{Seq, Check, Sim, Pipe}
 use Rattle.kp_words.specs.Words.{command_of}
@@ -19,6 +19,7 @@ use Rattle.kp_judge.proofs.Verdicts.{one_verdict, some_verdict, one_head, some_h
 use Rattle.kp_show.specs.Texts.{bad_words, refusal_line, accepted_line}
 use Rattle.kp_show.specs.States.{sequential_text}
 use Rattle.kp_show.specs.Runs.{sim_text}
+use Rattle.kp_genshow.specs.Line.{gen_text}
 use Rattle.kp_net.specs.Netlist.{Net}
 use Rattle.kp_vlog.specs.Canon.{canon}
 use Rattle.kp_vlog.specs.Rules.{Fault}
@@ -94,6 +95,7 @@ said_for (Some (OnJob command)) input s t x y (v, a, b) (w, c, d) =
     said_of_verdict command v s t x y b (subst (λ (z : Result Job Refusal). DueOfVerdict command z t y) (one_verdict input w v c a) d)
 said_for (Some Assemble) input s t x y a b = let p = said_of_program (program_of input) s t x y a b in (p.0, λ other. p.1)
 said_for (Some (Watch n)) input s t x y a b = let p = said_of_watch n input s t x y a b in (p.0, λ other. p.1)
+said_for (Some (Generate number count)) input s t x y (a, b) (c, d) = (a ∙ sym c, λ other. b ∙ sym d)
 said_for (Some Read) input s t x y a b = let p = said_of_read input s t x y a b in (p.0, λ other. p.1)
 
 pub one_status : (words : List (List ℕ)) (input : List ℕ) (s t : ℕ) (x y : List ℕ) → Due words input s x → Due words input t y → s ≡ t
@@ -150,6 +152,7 @@ some_for (Some (OnJob command)) input other =
 some_for (Some Assemble) input other = program_said (program_of input)
 some_for (Some Read) input other = read_said input
 some_for (Some (Watch n)) input other = watch_said n input
+some_for (Some (Generate number count)) input other = (0, gen_text number count, (refl, refl))
 
 pub some_due : (words : List (List ℕ)) (input : List ℕ) → (command_of words ≡ Some (OnJob Pipe) → ⊥) → (s : ℕ) × (x : List ℕ) × Due words input s x
 some_due words input other = some_for (command_of words) input other

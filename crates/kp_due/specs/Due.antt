@@ -8,7 +8,7 @@ use Rattle.kp_stage.specs.Counts.{summary_of}
 use Rattle.kp_asm.specs.Image.{image_text_of}
 use Rattle.kp_asm.specs.Program.{assembled}
 use Rattle.kp_words.specs.declared.words.Command.{Command}
-use Rattle.kp_words.specs.declared.words.Command.TheVariants.{OnJob, Assemble, Read, Watch}
+use Rattle.kp_words.specs.declared.words.Command.TheVariants.{OnJob, Assemble, Read, Watch, Generate}
 use Rattle.kp_words.specs.declared.words.JobCommand.{JobCommand}
 use Rattle.kp_words.specs.declared.words.JobCommand.TheVariants.{Seq, Check, Sim, Pipe}
 use Rattle.kp_words.specs.Words.{command_of, reads_input}
@@ -16,6 +16,7 @@ use Rattle.kp_judge.specs.Judging.{Judges, too_long}
 use Rattle.kp_show.specs.Texts.{bad_words, refusal_line, accepted_line}
 use Rattle.kp_show.specs.States.{sequential_text}
 use Rattle.kp_show.specs.Runs.{sim_text}
+use Rattle.kp_genshow.specs.Line.{gen_text}
 use Rattle.kp_due.specs.Saying.{Says}
 use Rattle.kp_due.specs.Written.{IsVerilogOf}
 use Rattle.kp_due.specs.Read.{DueOfRead}
@@ -50,6 +51,7 @@ DueFor (Some (OnJob command)) input status text =
 DueFor (Some Assemble) input status text = DueOfProgram (program_of input) status text
 DueFor (Some Read) input status text = DueOfRead input status text
 DueFor (Some (Watch count)) input status text = DueOfWatch count input status text
+DueFor (Some (Generate number count)) input status text = Says 0 (gen_text number count) status text
 
 -- what is due of any words
 abbrev pub Due : List (List ℕ) → List ℕ → ℕ → List ℕ → Type 0
@@ -80,3 +82,8 @@ Completes words left left_after held held_after status =
 abbrev pub Begins : List (List ℕ) → (left left_after held held_after : Option (List ℕ)) → Type 0
 Begins words left left_after held held_after =
     (status : ℕ) × (text : List ℕ) × IsDue words left left_after status text × AppendsPart held held_after text
+
+-- the bytes that a source gave, and those that a sink was given for them
+abbrev pub Between : (left left_after held held_after : Option (List ℕ)) → (List ℕ → List ℕ → Type 0) → Type 0
+Between left left_after held held_after Fact =
+    (input : List ℕ) × (text : List ℕ) × Consumes left left_after input × Appends held held_after text × Fact input text

@@ -1,70 +1,28 @@
 -- The ends of the top call: from what is due of an answer to what is due of words and bytes.
-use Rattle.std.proofs.Common.{◌≡◌, ◌≤◌, ℕ, List, [], length, None, Some, Ok, Err, refl, subst, sym, inl, arith}
+use Rattle.std.proofs.Common.{true, false, ◌≡◌, ◌≢◌, ℕ, List, [], length, None, Some, refl, subst, sym, inl, arith}
 use Rattle.std.specs.declared.option.Option.{Option}
 use Rattle.std.specs.Io.KnownBytes.{Consumes, Appends, IsAtEnd}
 use Rattle.kp_base.specs.Bytes.{AppendsPart}
 use Rattle.kp_base.specs.declared.refusal.Refusal.{Refusal}
-use Rattle.kp_ast.specs.declared.tree.Job.{Job}
 use Rattle.kp_words.specs.declared.words.Command.{Command}
-use Rattle.kp_words.specs.declared.words.Command.TheVariants.{OnJob, Read, Watch}
-use Rattle.kp_words.specs.declared.words.JobCommand.{JobCommand}
-use Rattle.kp_words.specs.declared.words.JobCommand.TheVariants.{Sim, Pipe}
-use Rattle.kp_words.specs.Words.{command_of}
-use Rattle.kp_judge.specs.Judging.{JudgesText, JudgesHeadText, too_long}
+use Rattle.kp_words.specs.Words.{command_of, reads_input}
+use Rattle.kp_judge.specs.Judging.{too_long}
 use Rattle.kp_watch.specs.declared.compare.Difference.{Difference}
-use Rattle.kp_due.specs.Watched.{DueOfNetlist}
-use Rattle.kp_tool.specs.inner.Watching.{status_by}
-use Rattle.kp_net.specs.Netlist.{Net}
-use Rattle.kp_due.proofs.Dues.{too_long_is_due, refused_is_due, accepted_is_due, denoted_is_due, misread_is_due, head_refused_is_due, head_accepted_is_due}
-use Rattle.kp_due.proofs.Headline.{sim_headline, pipe_headline}
-use Rattle.kp_due.specs.Due.{DueFor, DueOfJob, IsFinal, Completes, Begins}
-use Rattle.kp_due.specs.Read.{ReadsVerilog}
-use Rattle.kp_due.specs.Headline.{IsLegalRun, IsLegalVerilog}
+use Rattle.kp_due.proofs.Dues.{too_long_is_due}
+use Rattle.kp_due.proofs.Refusals.{refused_where_broken}
+use Rattle.kp_due.specs.Due.{DueFor, IsFinal, Completes, Begins, Between}
+use Rattle.kp_due.specs.Refused.{Breaks}
+use Rattle.kp_decide.specs.Answers.{AnswerSays, Answers}
+use Rattle.kp_decide.specs.declared.answer.Answer.{Answer}
+use Rattle.kp_decide.specs.declared.answer.Answer.TheVariants as answers
+use Rattle.kp_ready.specs.Watching.{status_by}
+use Rattle.kp_ready.specs.Readies.{Tells, ready_status, ready_text}
+use Rattle.kp_ready.specs.declared.ready.Ready.{Ready}
+use Rattle.kp_ready.specs.declared.ready.Ready.TheVariants as readies
+use Rattle.kp_tool.specs.inner.Ends.{Decides, Finishes, BreaksOff}
 use Rattle.kp_tool.specs.inner.Stop.{stop_status}
 use Rattle.kp_tool.specs.declared.Stop.{Stop}
 use Rattle.kp_tool.specs.declared.Stop.TheVariants.{ReadFault, WriteFault, NoMemory}
-use Rattle.kp_tool.specs.inner.Answer.{AnswerSays, Answers, Decides, Tells, Finishes, BreaksOff, ready_status, ready_text}
-use Rattle.kp_tool.specs.declared.answer.Answer.{Answer}
-use Rattle.kp_tool.specs.declared.answer.Answer.TheVariants as answers
-use Rattle.kp_tool.specs.declared.answer.Ready.{Ready}
-use Rattle.kp_tool.specs.declared.answer.Ready.TheVariants as readies
-
--- a broken rule of a text is due, and so is what a command says of a job that breaks none
-pub refused_answers : (command : JobCommand) (input : List ℕ) (refusal : Refusal) → length input ≤ 16777216 → JudgesText input (Err refusal)
-    → Answers (OnJob command) input (answers.Refused refusal)
-unfolding Answers
-refused_answers command input refusal short judged = λ status text says. rw (says.0, says.1) (refused_is_due command input refusal short judged)
-
-pub accepted_answers : (command : JobCommand) (input : List ℕ) (job : Job) (answer : Answer) → length input ≤ 16777216 → JudgesText input (Ok job)
-    → ((status : ℕ) (text : List ℕ) → AnswerSays answer status text → DueOfJob command job status text) → Answers (OnJob command) input answer
-unfolding Answers
-accepted_answers command input job answer short judged due = λ status text says. accepted_is_due command input job status text short judged (due status text says)
-
--- the netlist that a Verilog text denotes is due, and so is the rule that the text breaks
-pub denoted_answers : (input : List ℕ) (net : Net) → length input ≤ 16777216 → ReadsVerilog input 0 (Ok net) → Answers Read input (answers.Denoted net)
-unfolding Answers
-denoted_answers input net short denotes = λ status text says. rw (says.0, says.1) (denoted_is_due input net short denotes)
-
-pub misread_answers : (input : List ℕ) (refusal : Refusal) → length input ≤ 16777216 → ReadsVerilog input 0 (Err refusal) → Answers Read input (answers.Misread refusal)
-unfolding Answers
-misread_answers input refusal short refused = λ status text says. rw (says.0, says.1) (misread_is_due input refusal short refused)
-
--- of `watch` a broken rule of the job is due, and so is one of the text behind it, and else what is said of its netlist
-pub head_refused_answers : (n : ℕ) (input : List ℕ) (refusal : Refusal) → length input ≤ 16777216 → JudgesHeadText input (Err refusal) → Answers (Watch n) input (answers.Refused refusal)
-unfolding Answers
-head_refused_answers n input refusal short judged = λ status text says. rw (says.0, says.1) (head_refused_is_due n input refusal short judged)
-
-pub rest_misread_answers : (n : ℕ) (input : List ℕ) (job : Job) (rest : ℕ) (refusal : Refusal) → length input ≤ 16777216 → JudgesHeadText input (Ok (job, rest))
-    → ReadsVerilog input rest (Err refusal) → Answers (Watch n) input (answers.Misread refusal)
-unfolding Answers
-rest_misread_answers n input job rest refusal short judged misread = λ status text says.
-    head_accepted_is_due n input job rest (Err refusal) status text short judged misread says
-
-pub netlist_answers : (n : ℕ) (input : List ℕ) (job : Job) (rest : ℕ) (net : Net) (answer : Answer) → length input ≤ 16777216 → JudgesHeadText input (Ok (job, rest))
-    → ReadsVerilog input rest (Ok net) → ((status : ℕ) (text : List ℕ) → AnswerSays answer status text → DueOfNetlist n job net status text) → Answers (Watch n) input answer
-unfolding Answers
-netlist_answers n input job rest net answer short judged denotes due = λ status text says.
-    head_accepted_is_due n input job rest (Ok net) status text short judged denotes (due status text says)
 
 nothing_taken : (left : Option (List ℕ)) → Consumes left left []
 nothing_taken None = tt
@@ -80,23 +38,34 @@ bad_words_decided words left none = λ status text says. record {
   due = rw none says;
 }
 
+-- of a command that reads nothing the answer is due, and the source is left as it is
+pub nothing_decided : (words : List (List ℕ)) (command : Command) (left : Option (List ℕ)) (answer : Answer) → command_of words ≡ Some command
+    → reads_input (Some command) ≡ false → Answers command [] answer → Decides words left left answer
+unfolding Answers Decides
+nothing_decided words command left answer is reads says = λ status text said. record {
+  taken = [];
+  consumed = nothing_taken left;
+  whole = rw (is, reads) refl;
+  due = rw is (says status text said);
+}
+
 -- an answer to a command over the whole input is due
 pub input_decided : (words : List (List ℕ)) (command : Command) (old new : Option (List ℕ)) (input : List ℕ) (answer : Answer) → command_of words ≡ Some command
-    → Consumes old new input → IsAtEnd new → Answers command input answer → Decides words old new answer
+    → reads_input (Some command) ≡ true → Consumes old new input → IsAtEnd new → Answers command input answer → Decides words old new answer
 unfolding Answers Decides
-input_decided words command old new input answer is consumed end says = λ status text said. record {
+input_decided words command old new input answer is reads consumed end says = λ status text said. record {
   taken = input;
   consumed = consumed;
-  whole = rw is (inl end);
+  whole = rw (is, reads) (inl end);
   due = rw is (says status text said);
 }
 
 -- and so is the refusal of an input of too many bytes
 pub too_long_decided : (words : List (List ℕ)) (command : Command) (old new : Option (List ℕ)) (taken : List ℕ) (refusal : Refusal) → command_of words ≡ Some command
-    → Consumes old new taken → length taken ≡ 16777217 → refusal ≡ too_long → Decides words old new (answers.Refused refusal)
+    → reads_input (Some command) ≡ true → Consumes old new taken → length taken ≡ 16777217 → refusal ≡ too_long → Decides words old new (answers.Refused refusal)
 unfolding Decides
-too_long_decided words command old new taken refusal is consumed count same = λ status text says.
-    rw (says.0, says.1, same) (too_long_is_due words command old new taken is consumed count)
+too_long_decided words command old new taken refusal is reads consumed count same = λ status text says.
+    rw (says.0, says.1, same) (too_long_is_due words command old new taken is reads consumed count)
 
 final_by : (difference : Option Difference) → IsFinal (status_by difference)
 final_by None = (λ e. omega arith, λ e. omega arith, λ e. omega arith)
@@ -113,6 +82,7 @@ final (readies.Checked design) = (λ e. omega arith, λ e. omega arith, λ e. om
 final (readies.Image section) = (λ e. omega arith, λ e. omega arith, λ e. omega arith)
 final (readies.Denoted net) = (λ e. omega arith, λ e. omega arith, λ e. omega arith)
 final (readies.Watched watched) = final_by watched.difference
+final (readies.Summed number totals) = (λ e. omega arith, λ e. omega arith, λ e. omega arith)
 
 -- an answer that was got ready is written whole, or its beginning
 pub finishes : (answer : Answer) (ready : Ready) (held held_after : Option (List ℕ)) (status : ℕ) → Tells answer ready → status ≡ ready_status ready
@@ -137,22 +107,33 @@ module _ (words : List (List ℕ)) (left left_after held held_after : Option (Li
   unfolding Decides BreaksOff
   begins answer due (status, text, says, part) = (status, text, due status text says, part)
 
-  -- what is written of `sim N` tells a legal run
-  pub sim_told : (n status : ℕ) → command_of words ≡ Some (OnJob (Sim n)) → status ≡ 0 → Completes words left left_after held held_after status
-      → (input text : List ℕ) × Consumes left left_after input × Appends held held_after text × IsLegalRun n input text
-  sim_told n status command zero (text, is_due, written) =
-      let due = subst (λ (s : ℕ). DueFor (Some (OnJob (Sim n))) is_due.taken s text) zero (subst (λ (c : Option Command). DueFor c is_due.taken status text) command is_due.due) in
-      (is_due.taken, text, is_due.consumed, written, sim_headline n is_due.taken text due)
+  -- what is due of a command holds of the bytes that were read and written
+  pub between : (command : Command) (end status : ℕ) (Fact : List ℕ → List ℕ → Type 0)
+      → ((input text : List ℕ) → DueFor (Some command) input end text → Fact input text)
+      → command_of words ≡ Some command → status ≡ end → Completes words left left_after held held_after status
+      → Between left left_after held held_after Fact
+  between command end status Fact law is same (text, is_due, written) =
+      let due = subst (λ (s : ℕ). DueFor (Some command) is_due.taken s text) same (subst (λ (c : Option Command). DueFor c is_due.taken status text) is is_due.due) in
+      (is_due.taken, text, is_due.consumed, written, law is_due.taken text due)
 
-  -- and what is written of `pipe` denotes a legal netlist
-  pub pipe_told : (status : ℕ) → command_of words ≡ Some (OnJob Pipe) → status ≡ 0 → Completes words left left_after held held_after status
-      → (input text : List ℕ) × Consumes left left_after input × Appends held held_after text × IsLegalVerilog input text
-  pipe_told status command zero (text, is_due, written) =
-      let due = subst (λ (s : ℕ). DueFor (Some (OnJob Pipe)) is_due.taken s text) zero (subst (λ (c : Option Command). DueFor c is_due.taken status text) command is_due.due) in
-      (is_due.taken, text, is_due.consumed, written, pipe_headline is_due.taken text due)
+  -- and where the status isn't that of a broken rule, no rule is broken
+  pub not_refused : (command : Command) (status : ℕ) → command_of words ≡ Some command → status ≢ 2 → Completes words left left_after held held_after status
+      → Between left left_after held held_after (λ input text. (refusal : Refusal) → Breaks command input refusal → ⊥)
+  not_refused command status is other completes =
+      between command status status _ (λ input text due refusal broken. other (refused_where_broken command input status text refusal due broken)) is refl completes
 
 -- the ends that are not due have statuses of their own
 pub never_zero : (stop : Stop) (status : ℕ) → status ≡ stop_status stop → status ≡ 0 → ⊥
 never_zero ReadFault status is zero = omega arith
 never_zero WriteFault status is zero = omega arith
 never_zero NoMemory status is zero = omega arith
+
+pub never_two : (stop : Stop) (status : ℕ) → status ≡ stop_status stop → status ≡ 2 → ⊥
+never_two ReadFault status is two = omega arith
+never_two WriteFault status is two = omega arith
+never_two NoMemory status is two = omega arith
+
+pub never_final : (stop : Stop) (status : ℕ) → status ≡ stop_status stop → IsFinal status → ⊥
+never_final ReadFault status is final = final.0 is
+never_final WriteFault status is final = final.1.0 is
+never_final NoMemory status is final = final.1.1 is

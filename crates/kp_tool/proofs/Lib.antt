@@ -1,4 +1,1 @@
 pub mod Ends
-pub mod IfOks
-pub mod Running
-pub mod Compared

@@ -1,32 +1,29 @@
 //! The top call: from the words of a command line and a source to a status and a sink.
 #![tactic(auto)]
 
-ghost use Rattle.std.specs.Prelude.{◌≡◌, ◌≢◌, ◌++◌, map, string_bytes, List, ℕ, false, None, Some, IfOk, IfSome, IsErrOf};
-ghost use Rattle.std.specs.Io.KnownBytes.{Consumes, Appends};
+ghost use Rattle.std.specs.Prelude.{◌≡◌, ◌≢◌, ◌++◌, map, string_bytes, List, ℕ, true, false, None, Some, IfOk, IfSome, IsErrOf};
+ghost use Rattle.std.specs.Io.KnownBytes.{Appends};
 ghost use Rattle.kp_base.specs.Bytes.{AppendsPart};
 ghost use Rattle.kp_base.specs.Causes.{Rose};
 ghost use Rattle.kp_base.specs.Refusal.{e_rule};
+ghost use Rattle.kp_base.specs.declared.refusal.Refusal.{Refusal};
 ghost use Rattle.kp_words.specs.Words.{command_of, reads_input};
-ghost use Rattle.kp_words.specs.declared.words.Command.TheVariants.{OnJob};
+ghost use Rattle.kp_words.specs.declared.words.Command.{Command};
+ghost use Rattle.kp_words.specs.declared.words.Command.TheVariants.{OnJob, Watch};
 ghost use Rattle.kp_words.specs.declared.words.JobCommand.TheVariants.{Sim, Pipe};
-ghost use Rattle.kp_due.specs.Due.{Due, IsFinal, Completes, Begins};
-ghost use Rattle.kp_due.specs.Headline.{IsLegalRun, IsLegalVerilog};
-ghost use Rattle.kp_tool.specs.inner.Answer.{Decides, Finishes, BreaksOff, ready_status, ready_text};
+ghost use Rattle.kp_sched.specs.Runs.{IsLegal};
+ghost use Rattle.kp_show.specs.Texts.{refusal_line};
+ghost use Rattle.kp_due.specs.Due.{Due, IsFinal, Completes, Begins, Between};
+ghost use Rattle.kp_due.specs.Headline.{IsMoving, HasNoNeedlessStall, IsVerilogWith, IsRunWith, IsNetlistWith};
+ghost use Rattle.kp_due.specs.Refused.{Breaks};
+ghost use Rattle.kp_ready.specs.Readies.{ready_status, ready_text};
+ghost use Rattle.kp_tool.specs.inner.Ends.{Decides, Finishes, BreaksOff};
 ghost use Rattle.kp_tool.specs.inner.Stop.{stop_status};
 ghost use Rattle.kp_tool.specs.declared.Stop.TheVariants as stop;
 
-mod answer;
-mod comparing;
-mod deciding;
-mod simulating;
-mod stepping;
-mod verilog;
-mod watching;
-mod writing;
-
-use answer::{Answer, Ready};
-use deciding::carry_out;
 use kp_base::{NoMemory, Place, ReadAll, Refusal, Sink, SinkFault, Source, read_all};
+use kp_decide::{Answer, carry_out};
+use kp_ready::{Ready, made_ready};
 use kp_words::Command;
 use std::alloc::{AllocError, Global};
 
@@ -98,15 +95,36 @@ pub fn tool<S: Source, K: Sink>(alloc: Global, words: &[String], source: &mut S,
     ensures bad_words { result ≡ 1 → command_of (map string_bytes words.now) ≡ None }
     ensures bad_words_only { command_of (map string_bytes words.now) ≡ None → IsFinal result → result ≡ 1 }
 
-    // The headline: what `pipe` writes denotes a netlist that is legal and moves, whatever its inputs are.
-    ensures pipe_is_legal { command_of (map string_bytes words.now) ≡ Some (OnJob Pipe) → result ≡ 0
-        → (input text : List ℕ) × Consumes (S.left source.old) (S.left source.new) input × Appends (K.held sink.old) (K.held sink.new) text
-        × IsLegalVerilog input text }
+    // Status 2 comes by the first rule that the input breaks, and wherever it breaks one.
+    ensures refused { (command : Command) → command_of (map string_bytes words.now) ≡ Some command → result ≡ 2
+        → Between (S.left source.old) (S.left source.new) (K.held sink.old) (K.held sink.new)
+        (λ input text. (refusal : Refusal) × Breaks command input refusal × (text ≡ refusal_line refusal)) }
+    ensures refused_only { (command : Command) → command_of (map string_bytes words.now) ≡ Some command → IsFinal result → result ≢ 2
+        → Between (S.left source.old) (S.left source.new) (K.held sink.old) (K.held sink.new)
+        (λ input text. (refusal : Refusal) → Breaks command input refusal → ⊥) }
 
-    // And what `sim N` writes tells a run of the pipelined machine that is legal and moves.
+    // The headline. What `pipe` writes denotes a netlist of which every run that never raises the reset, whatever comes in, is legal: each
+    // register and each word of a file has its value in the sequential machine after as many instructions as its stage let pass.
+    ensures pipe_is_legal { command_of (map string_bytes words.now) ≡ Some (OnJob Pipe) → result ≡ 0
+        → Between (S.left source.old) (S.left source.new) (K.held sink.old) (K.held sink.new) (IsVerilogWith IsLegal) }
+    // Any n stall-free cycles of it retire an instruction.
+    ensures pipe_moves { command_of (map string_bytes words.now) ≡ Some (OnJob Pipe) → result ≡ 0
+        → Between (S.left source.old) (S.left source.new) (K.held sink.old) (K.held sink.new) (IsVerilogWith IsMoving) }
+    // Without guesses and samples no stall of it is needless.
+    ensures pipe_has_no_needless_stall { command_of (map string_bytes words.now) ≡ Some (OnJob Pipe) → result ≡ 0
+        → Between (S.left source.old) (S.left source.new) (K.held sink.old) (K.held sink.new) (IsVerilogWith HasNoNeedlessStall) }
+
+    // What `sim N` writes tells the run of the pipelined machine over N cycles, which is legal, moves, and has no needless stall.
     ensures sim_is_legal { (n : ℕ) → command_of (map string_bytes words.now) ≡ Some (OnJob (Sim n)) → result ≡ 0
-        → (input text : List ℕ) × Consumes (S.left source.old) (S.left source.new) input × Appends (K.held sink.old) (K.held sink.new) text
-        × IsLegalRun n input text }
+        → Between (S.left source.old) (S.left source.new) (K.held sink.old) (K.held sink.new) (IsRunWith IsLegal n) }
+    ensures sim_moves { (n : ℕ) → command_of (map string_bytes words.now) ≡ Some (OnJob (Sim n)) → result ≡ 0
+        → Between (S.left source.old) (S.left source.new) (K.held sink.old) (K.held sink.new) (IsRunWith IsMoving n) }
+    ensures sim_has_no_needless_stall { (n : ℕ) → command_of (map string_bytes words.now) ≡ Some (OnJob (Sim n)) → result ≡ 0
+        → Between (S.left source.old) (S.left source.new) (K.held sink.old) (K.held sink.new) (IsRunWith HasNoNeedlessStall n) }
+
+    // What `watch N` writes with status 0 tells the run of the netlist behind the job, and this run is legal.
+    ensures watch_is_legal { (n : ℕ) → command_of (map string_bytes words.now) ≡ Some (Watch n) → result ≡ 0
+        → Between (S.left source.old) (S.left source.new) (K.held sink.old) (K.held sink.new) (IsNetlistWith IsLegal n) }
 {
     match run(alloc, words, source, sink) {
         Ok(status) => status,
@@ -142,7 +160,7 @@ fn finish<K: Sink>(alloc: Global, answer: &Answer, sink: &mut K) -> Result<u8, S
         × BreaksOff answer.now (K.held sink.old) (K.held sink.new) }
     ensures no_memory { IsErrOf result Stop.NoMemory → sink.new ≡ sink.old }
 {
-    match answer.ready(alloc) {
+    match made_ready(alloc, answer) {
         Ok(ready) => told(&ready, sink),
         Err(NoMemory) => Err(Stop::NoMemory),
     }
@@ -170,6 +188,21 @@ fn prepare<S: Source>(alloc: Global, words: &[String], source: &mut S) -> Result
         None => return Ok(Answer::BadWords),
         Some(command) => command,
     };
+    match command {
+        Command::Generate(_, _) => Ok(carry_out(alloc, command, &[])?),
+        Command::OnJob(_) | Command::Assemble | Command::Read | Command::Watch(_) => {
+            over_source(alloc, command, source)
+        }
+    }
+}
+
+// Reads the source, and decides on what it gave.
+fn over_source<S: Source>(alloc: Global, command: Command, source: &mut S) -> Result<Answer, Stop>
+    requires { reads_input (Some command) ≡ true }
+    ensures due { IfOk result (λ answer. (words : List (List ℕ)) → command_of words ≡ Some command → Decides words (S.left source.old) (S.left source.new) answer) }
+    ensures no_write_fault { IsErrOf result Stop.WriteFault → ⊥ }
+    ensures fault { IsErrOf result Stop.ReadFault → Rose (S.faults source.old) (S.faults source.new) }
+{
     match read_all(alloc, source) {
         Ok(input) => Ok(carry_out(alloc, command, &input)?),
         Err(ReadAll::TooLong) => Ok(Answer::Refused(too_long())),

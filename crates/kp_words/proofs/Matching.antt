@@ -6,7 +6,7 @@ use Rattle.std.specs.List.{list_any}
 use Rattle.std.specs.Option.{option_map_or}
 use Rattle.std.proofs.lemmas.Slice.Eq.{bytes_eq-Decides}
 use Rattle.clap.specs.Lexer.{long_of, short_of}
-use Rattle.clap.specs.Walk.{Held, Names, Row, Rule, Step, Text, Walk, idle, value, answers_to, arg_by_index, subcommand_met, word_met, walked, walk, walk_from, nothing_held, to_positional, after_step, rows_after, first_of, subcommand_or_other, settled, finished}
+use Rattle.clap.specs.Walk.{Held, Names, Row, Rule, Step, Text, Walk, idle, value, answers_to, arg_by_index, subcommand_met, word_met, walked, walk, walk_from, nothing_held, to_positional, after_step, rows_after, subcommand_or_other, settled, finished}
 use Rattle.clap.specs.Simple.{Shape, built, built_leaf, entered, rows_at, inherited, label_of, marked_built, subcommand_of, with_leaf_noted, with_filled_rules}
 use Rattle.std.specs.Box.{box_value}
 use Rattle.clap.specs.Simple.{subcommand_rows}
@@ -18,8 +18,10 @@ use Rattle.clap.proofs.WalkLemmas.{walk_stopped}
 use Rattle.clap.proofs.FaultLemmas.{stopped_fault}
 use Rattle.std.proofs.lemmas.Bool.{eqb-true}
 use Rattle.kp_bits.specs.Literals.{number_of, number_within, numeral_value}
-use Rattle.kp_words.specs.Words.{begins_with_dash, is_barred, at_most, command_of, count_of, counted_command, plain_command}
-use Rattle.kp_words.specs.inner.Matching.{Form, command_by, known_forms, shape_of_form, program_shape, program_of, command_of_rows}
+use Rattle.kp_words.specs.declared.words.Command.{Command}
+use Rattle.kp_words.specs.Words.{begins_with_dash, is_barred, at_most, command_of, count_of, seed_of, counted_command, plain_command, seeded_command}
+use Rattle.kp_words.specs.inner.Matching.{Form, Numbers, plain, counted, seeded, known_forms, shape_of_form}
+use Rattle.kp_words.specs.inner.Matching.{program_shape, program_of, command_of_rows}
 
 -- ---- a word that does not begin with `-`
 
@@ -65,8 +67,8 @@ plain_turn s names position word h dash none =
 abbrev top : Shape
 top = with_filled_rules (with_leaf_noted (marked_built program_shape))
 
-abbrev leaf_of : Text → Bool → Shape
-leaf_of name has_number = built_leaf (inherited (with_leaf_noted (marked_built program_shape)) (shape_of_form (record { name = name; has_number = has_number })))
+abbrev leaf_of : Text → Numbers → Shape
+leaf_of name numbers = built_leaf (inherited (with_leaf_noted (marked_built program_shape)) (shape_of_form (record { name = name; numbers = numbers })))
 
 abbrev leaves : List Form → List Shape
 leaves forms = map built_leaf (map (inherited (with_leaf_noted (marked_built program_shape))) (map shape_of_form forms))
@@ -85,7 +87,7 @@ abbrev IsUnknown : List Form → Text → Type 0
 IsUnknown forms name = (entry_of forms name ≡ None) × (met_of forms name ≡ None)
 
 abbrev IsKnown : List Form → Text → Type 0
-IsKnown forms name = (has_number : Bool) × (entry_of forms name ≡ Some (leaf_of name has_number)) × (met_of forms name ≡ Some name)
+IsKnown forms name = (numbers : Numbers) × (entry_of forms name ≡ Some (leaf_of name numbers)) × (met_of forms name ≡ Some name)
 
 -- a name is that of a command or of none
 known : (forms : List Form) (name : Text) → IsUnknown forms name ⊎ IsKnown forms name
@@ -94,34 +96,68 @@ known (form ∷ forms) name = go (bytes_eq form.name name) refl (known forms nam
   where
     go : (same : Bool) → bytes_eq form.name name ≡ same → IsUnknown forms name ⊎ IsKnown forms name → IsUnknown (form ∷ forms) name ⊎ IsKnown (form ∷ forms) name
     go false e (inl (entry, met)) = inl (rw e entry, rw e met)
-    go false e (inr (has_number, entry, met)) = inr (has_number, rw e entry, rw e met)
+    go false e (inr (numbers, entry, met)) = inr (numbers, rw e entry, rw e met)
     go true e rest =
         let is : form.name ≡ name = (bytes_eq-Decides form.name name).0 e in
-        let entry : entry_of (form ∷ forms) name ≡ Some (leaf_of form.name form.has_number) = rw e refl in
+        let entry : entry_of (form ∷ forms) name ≡ Some (leaf_of form.name form.numbers) = rw e refl in
         let met : met_of (form ∷ forms) name ≡ Some form.name = rw e refl in
-        inr (form.has_number, entry ∙ ap (λ n. Some (leaf_of n form.has_number)) is, met ∙ ap Some is)
+        inr (form.numbers, entry ∙ ap (λ n. Some (leaf_of n form.numbers)) is, met ∙ ap Some is)
 
 -- ---- the words after a command
 
-abbrev refused_after : Text → Bool → List Text → Kinds
-refused_after name has_number words = level_fault (leaf_of name has_number) [] nothing_held words false []
+abbrev refused_after : Text → Numbers → List Text → Kinds
+refused_after name numbers words = level_fault (leaf_of name numbers) [] nothing_held words false []
 
-abbrev found_after : Text → Bool → List Text → List Row
-found_after name has_number words = rows_after (leaf_of name has_number).rules [] words
+abbrev found_after : Text → Numbers → List Text → List Row
+found_after name numbers words = rows_after (leaf_of name numbers).rules [] words
 
-alone_passes : (name : Text) → refused_after name false [] ≡ []
+abbrev command_after : Text → Numbers → List Text → Option Command
+command_after name numbers words = command_of_rows (Some (name, found_after name numbers words))
+
+-- what is held after the first word
+abbrev first_held : Text → Numbers → Text → Held
+first_held name numbers word =
+    let rules = (leaf_of name numbers).rules in
+    (to_positional rules (arg_by_index rules 1) word (standing nothing_held 1) nothing_held).held
+
+-- and after the second
+abbrev second_held : Text → Text → Text → Held
+second_held name word second =
+    let rules = (leaf_of name seeded).rules in
+    let held = first_held name seeded word in
+    (to_positional rules (arg_by_index rules 2) second (standing held 2) held).held
+
+plain_passes : (name : Text) → refused_after name plain [] ≡ []
 unfolding walk_fault defaults_fault
-alone_passes name = refl
+plain_passes name = refl
 
-alone_rows : (name : Text) → first_of (codes "number") (found_after name false []) ≡ None
-alone_rows name = refl
+plain_rows : (name : Text) → command_after name plain [] ≡ command_of (name ∷ [])
+plain_rows name = refl
 
-number_passes : (name word : Text) → begins_with_dash word ≡ false → refused_after name true (word ∷ []) ≡ []
+counted_passes : (name word : Text) → begins_with_dash word ≡ false → refused_after name counted (word ∷ []) ≡ []
 unfolding walk_fault defaults_fault
-number_passes name word h = rw (plain_walked (leaf_of name true).rules [] 1 word nothing_held h refl, plain_turn (leaf_of name true) [] 1 word nothing_held h refl) refl
+counted_passes name word h =
+    rw (plain_walked (leaf_of name counted).rules [] 1 word nothing_held h refl, plain_turn (leaf_of name counted) [] 1 word nothing_held h refl) refl
 
-number_rows : (name word : Text) → begins_with_dash word ≡ false → first_of (codes "number") (found_after name true (word ∷ [])) ≡ Some word
-number_rows name word h = rw (plain_walked (leaf_of name true).rules [] 1 word nothing_held h refl) refl
+counted_rows : (name word : Text) → begins_with_dash word ≡ false → command_after name counted (word ∷ []) ≡ command_of (name ∷ word ∷ [])
+counted_rows name word h = rw (plain_walked (leaf_of name counted).rules [] 1 word nothing_held h refl) refl
+
+module _ (name word second : Text) (h : begins_with_dash word ≡ false) (k : begins_with_dash second ≡ false) where
+  seeded_passes : refused_after name seeded (word ∷ second ∷ []) ≡ []
+  unfolding walk_fault defaults_fault
+  seeded_passes =
+      let s = leaf_of name seeded in
+      rw (
+        plain_walked s.rules [] 1 word nothing_held h refl,
+        plain_turn s [] 1 word nothing_held h refl,
+        plain_walked s.rules [] 2 second (first_held name seeded word) k refl,
+        plain_turn s [] 2 second (first_held name seeded word) k refl,
+      ) (refl {a = []})
+
+  seeded_rows : command_after name seeded (word ∷ second ∷ []) ≡ command_of (name ∷ word ∷ second ∷ [])
+  seeded_rows =
+      let rules = (leaf_of name seeded).rules in
+      rw (plain_walked rules [] 1 word nothing_held h refl, plain_walked rules [] 2 second (first_held name seeded word) k refl) refl
 
 -- something is refused
 abbrev IsRefused : Kinds → Type 0
@@ -136,26 +172,48 @@ refused_second : (a b : Kinds) → IsRefused b → IsRefused (or_else a b)
 refused_second [] b h = h
 refused_second (k ∷ ks) b h = tt
 
-more_refused : (name word : Text) (words : List Text) → begins_with_dash word ≡ false → IsRefused (refused_after name false (word ∷ words))
+more_refused : (name word : Text) (words : List Text) → begins_with_dash word ≡ false → IsRefused (refused_after name plain (word ∷ words))
 unfolding walk_fault
 more_refused name word words h =
-    let s = leaf_of name false in
+    let s = leaf_of name plain in
     refused_first _ _ (refused_first (turn_fault s [] (standing nothing_held 1) word) (walk_fault s [] (walked s.rules [] (standing nothing_held 1) word) words)
     (subst IsRefused (sym (plain_turn s [] 1 word nothing_held h refl)) tt))
 
-missing_refused : (name : Text) → IsRefused (refused_after name true [])
+missing_refused : (name : Text) → IsRefused (refused_after name counted [])
 unfolding walk_fault defaults_fault
 missing_refused name = tt
 
 second_refused : (name word second : Text) (words : List Text) → begins_with_dash word ≡ false → begins_with_dash second ≡ false
-    → IsRefused (refused_after name true (word ∷ second ∷ words))
+    → IsRefused (refused_after name counted (word ∷ second ∷ words))
 unfolding walk_fault
 second_refused name word second words h k =
-    let s = leaf_of name true in
+    let s = leaf_of name counted in
     let w = walked s.rules [] (standing nothing_held 1) word in
     let turn = ap (λ v. turn_fault s [] v second) (plain_walked s.rules [] 1 word nothing_held h refl) ∙ plain_turn s [] 2 second _ k refl in
     refused_first _ _ (refused_second (turn_fault s [] (standing nothing_held 1) word) _
     (refused_first (turn_fault s [] w second) (walk_fault s [] (walked s.rules [] w second) words) (subst IsRefused (sym turn) tt)))
+
+both_missing_refused : (name : Text) → IsRefused (refused_after name seeded [])
+unfolding walk_fault defaults_fault
+both_missing_refused name = tt
+
+one_missing_refused : (name word : Text) → begins_with_dash word ≡ false → IsRefused (refused_after name seeded (word ∷ []))
+unfolding walk_fault defaults_fault
+one_missing_refused name word h =
+    rw (plain_walked (leaf_of name seeded).rules [] 1 word nothing_held h refl, plain_turn (leaf_of name seeded) [] 1 word nothing_held h refl) tt
+
+third_refused : (name word second third : Text) (words : List Text) → begins_with_dash word ≡ false → begins_with_dash second ≡ false
+    → begins_with_dash third ≡ false → IsRefused (refused_after name seeded (word ∷ second ∷ third ∷ words))
+unfolding walk_fault
+third_refused name word second third words h k l =
+    let s = leaf_of name seeded in
+    let one = walked s.rules [] (standing nothing_held 1) word in
+    let two = walked s.rules [] one second in
+    let turn = ap (λ v. turn_fault s [] (walked s.rules [] v second) third) (plain_walked s.rules [] 1 word nothing_held h refl)
+    ∙ ap (λ v. turn_fault s [] v third) (plain_walked s.rules [] 2 second (first_held name seeded word) k refl)
+    ∙ plain_turn s [] 3 third (second_held name word second) l refl in
+    refused_first _ _ (refused_second (turn_fault s [] (standing nothing_held 1) word) _ (refused_second (turn_fault s [] one second) _
+    (refused_first (turn_fault s [] two third) (walk_fault s [] (walked s.rules [] two third) words) (subst IsRefused (sym turn) tt))))
 
 -- ---- the whole parse
 
@@ -175,7 +233,7 @@ unknown_refused forms name words h none =
     refused_first _ _ (refused_first (turn_fault top names (standing nothing_held 1) name) (walk_fault top names (walked [] names (standing nothing_held 1) name) words)
     (subst IsRefused (sym (plain_turn top names 1 name nothing_held h none)) tt))
 
-module _ (forms : List Form) (name : Text) (has_number : Bool) (words : List Text) (entry : entry_of forms name ≡ Some (leaf_of name has_number)) (met : met_of forms name ≡ Some name) where
+module _ (forms : List Form) (name : Text) (numbers : Numbers) (words : List Text) (entry : entry_of forms name ≡ Some (leaf_of name numbers)) (met : met_of forms name ≡ Some name) where
   -- the walk stops at the name
   name_walked : walked [] (map label_of (leaves forms)) (walk_from nothing_held) name ≡ record (walk_from nothing_held) { stopped = Some (name, []) }
   unfolding walked
@@ -194,7 +252,7 @@ module _ (forms : List Form) (name : Text) (has_number : Bool) (words : List Tex
   walk_passes = ap₂ or_else name_passes (ap (λ w. walk_fault top (map label_of (leaves forms)) w words) name_walked
       ∙ stopped_fault top (map label_of (leaves forms)) (walk_from nothing_held) (name, []) words)
 
-  known_refused : fault_of (program_of forms) (name ∷ words) ≡ refused_after name has_number words
+  known_refused : fault_of (program_of forms) (name ∷ words) ≡ refused_after name numbers words
   unfolding defaults_fault
   known_refused =
       let a = built (program_of forms) in
@@ -203,7 +261,7 @@ module _ (forms : List Form) (name : Text) (has_number : Bool) (words : List Tex
       ∙ ap (λ (e : Option Shape). or_else (option_map_or (λ s. level_fault s [] nothing_held words false []) e []) (check_fault top [] (is_some (option_map (λ s. rows_at s words) e)))) entry
       ∙ or_else_nothing _
 
-  known_found : subcommand_of (program_of forms) (name ∷ words) ≡ Some (name, found_after name has_number words)
+  known_found : subcommand_of (program_of forms) (name ∷ words) ≡ Some (name, found_after name numbers words)
   known_found =
       ap (λ (w : Walk). entered (built (program_of forms)) w.stopped) name_stops ∙ ap (option_map (λ s. rows_at s words)) entry
 
@@ -219,15 +277,24 @@ first_word word words h =
     let both = either_false (is_barred word) (list_any is_barred words) h in
     ((either_false (begins_with_dash word) (bytes_eq word (codes "help")) both.0).0, both.1)
 
-after_name : (name : Text) (has_number : Bool) (words : List Text) → list_any is_barred words ≡ false → refused_after name has_number words ≡ []
-    → command_by name (first_of (codes "number") (found_after name has_number words)) ≡ command_of (name ∷ words)
-after_name name false [] h none = ap (command_by name) (alone_rows name)
-after_name name false (word ∷ words) h none = absurd (subst IsRefused none (more_refused name word words (first_word word words h).0))
-after_name name true [] h none = absurd (subst IsRefused none (missing_refused name))
-after_name name true (word ∷ []) h none = ap (command_by name) (number_rows name word (first_word word [] h).0)
-after_name name true (word ∷ second ∷ words) h none =
+after_name : (name : Text) (numbers : Numbers) (words : List Text) → list_any is_barred words ≡ false → refused_after name numbers words ≡ []
+    → command_after name numbers words ≡ command_of (name ∷ words)
+after_name name plain [] h none = plain_rows name
+after_name name plain (word ∷ words) h none = absurd (subst IsRefused none (more_refused name word words (first_word word words h).0))
+after_name name counted [] h none = absurd (subst IsRefused none (missing_refused name))
+after_name name counted (word ∷ []) h none = counted_rows name word (first_word word [] h).0
+after_name name counted (word ∷ second ∷ words) h none =
     let first = first_word word (second ∷ words) h in
     absurd (subst IsRefused none (second_refused name word second words first.0 (first_word second words first.1).0))
+after_name name seeded [] h none = absurd (subst IsRefused none (both_missing_refused name))
+after_name name seeded (word ∷ []) h none = absurd (subst IsRefused none (one_missing_refused name word (first_word word [] h).0))
+after_name name seeded (word ∷ second ∷ []) h none =
+    let first = first_word word (second ∷ []) h in
+    seeded_rows name word second first.0 (first_word second [] first.1).0
+after_name name seeded (word ∷ second ∷ third ∷ words) h none =
+    let first = first_word word (second ∷ third ∷ words) h in
+    let next = first_word second (third ∷ words) first.1 in
+    absurd (subst IsRefused none (third_refused name word second third words first.0 next.0 (first_word third words next.1).0))
 
 -- what the parse found is the command, whatever table of commands it has
 pub matched : (forms : List Form) (words : List Text) → list_any is_barred words ≡ false → fault_of (program_of forms) words ≡ []
@@ -240,9 +307,9 @@ matched forms (name ∷ words) h none = go (known forms name)
 
     go : IsUnknown forms name ⊎ IsKnown forms name → command_of_rows (subcommand_of (program_of forms) (name ∷ words)) ≡ command_of (name ∷ words)
     go (inl (entry, met)) = absurd (subst IsRefused none (unknown_refused forms name words first.0 met))
-    go (inr (has_number, entry, met)) =
-        ap command_of_rows (known_found forms name has_number words entry met)
-        ∙ after_name name has_number words first.1 (sym (known_refused forms name has_number words entry met) ∙ none)
+    go (inr (numbers, entry, met)) =
+        ap command_of_rows (known_found forms name numbers words entry met)
+        ∙ after_name name numbers words first.1 (sym (known_refused forms name numbers words entry met) ∙ none)
 
 -- what `subcommand` gives is what the parse found
 module _ {Z : Type 0} where
@@ -257,25 +324,30 @@ has_name : (name text : Text) → bytes_eq name text ≡ true → text ≡ name
 has_name name text h = sym ((bytes_eq-Decides name text).0 h)
 
 check_passes : fault_of (program_of known_forms) (codes "check" ∷ []) ≡ []
-check_passes = known_refused known_forms (codes "check") false [] refl refl ∙ alone_passes (codes "check")
+check_passes = known_refused known_forms (codes "check") plain [] refl refl ∙ plain_passes (codes "check")
 
 pipe_passes : fault_of (program_of known_forms) (codes "pipe" ∷ []) ≡ []
-pipe_passes = known_refused known_forms (codes "pipe") false [] refl refl ∙ alone_passes (codes "pipe")
+pipe_passes = known_refused known_forms (codes "pipe") plain [] refl refl ∙ plain_passes (codes "pipe")
 
 asm_passes : fault_of (program_of known_forms) (codes "asm" ∷ []) ≡ []
-asm_passes = known_refused known_forms (codes "asm") false [] refl refl ∙ alone_passes (codes "asm")
+asm_passes = known_refused known_forms (codes "asm") plain [] refl refl ∙ plain_passes (codes "asm")
 
 read_passes : fault_of (program_of known_forms) (codes "read" ∷ []) ≡ []
-read_passes = known_refused known_forms (codes "read") false [] refl refl ∙ alone_passes (codes "read")
+read_passes = known_refused known_forms (codes "read") plain [] refl refl ∙ plain_passes (codes "read")
 
 seq_passes : (word : Text) → begins_with_dash word ≡ false → fault_of (program_of known_forms) (codes "seq" ∷ word ∷ []) ≡ []
-seq_passes word h = known_refused known_forms (codes "seq") true (word ∷ []) refl refl ∙ number_passes (codes "seq") word h
+seq_passes word h = known_refused known_forms (codes "seq") counted (word ∷ []) refl refl ∙ counted_passes (codes "seq") word h
 
 sim_passes : (word : Text) → begins_with_dash word ≡ false → fault_of (program_of known_forms) (codes "sim" ∷ word ∷ []) ≡ []
-sim_passes word h = known_refused known_forms (codes "sim") true (word ∷ []) refl refl ∙ number_passes (codes "sim") word h
+sim_passes word h = known_refused known_forms (codes "sim") counted (word ∷ []) refl refl ∙ counted_passes (codes "sim") word h
 
 watch_passes : (word : Text) → begins_with_dash word ≡ false → fault_of (program_of known_forms) (codes "watch" ∷ word ∷ []) ≡ []
-watch_passes word h = known_refused known_forms (codes "watch") true (word ∷ []) refl refl ∙ number_passes (codes "watch") word h
+watch_passes word h = known_refused known_forms (codes "watch") counted (word ∷ []) refl refl ∙ counted_passes (codes "watch") word h
+
+gen_passes : (word second : Text) → begins_with_dash word ≡ false → begins_with_dash second ≡ false
+    → fault_of (program_of known_forms) (codes "gen" ∷ word ∷ second ∷ []) ≡ []
+gen_passes word second h k =
+    known_refused known_forms (codes "gen") seeded (word ∷ second ∷ []) refl refl ∙ seeded_passes (codes "gen") word second h k
 
 abbrev IsPassed : List Text → Type 0
 IsPassed words = fault_of (program_of known_forms) words ≡ []
@@ -314,12 +386,28 @@ counted_unmatched name word h refused = go (bytes_eq name (codes "seq")) (bytes_
     go false false true e f g = absurd (named (codes "watch") g (watch_passes word h))
     go false false false e f g = counted_none name (count_of word) e f g
 
+seeded_none : (name : Text) (seed count : Option ℕ) → bytes_eq name (codes "gen") ≡ false → seeded_command name seed count ≡ None
+seeded_none name None count e = refl
+seeded_none name (Some number) None e = refl
+seeded_none name (Some number) (Some count) e = rw e refl
+
+seeded_unmatched : (name word second : Text) → begins_with_dash word ≡ false → begins_with_dash second ≡ false
+    → (IsPassed (name ∷ word ∷ second ∷ []) → ⊥) → seeded_command name (seed_of word) (count_of second) ≡ None
+seeded_unmatched name word second h k refused = go (bytes_eq name (codes "gen")) refl
+  where
+    go : (gen : Bool) → bytes_eq name (codes "gen") ≡ gen → seeded_command name (seed_of word) (count_of second) ≡ None
+    go true e = absurd (refused (subst (λ n. IsPassed (n ∷ word ∷ second ∷ [])) (has_name name (codes "gen") e) (gen_passes word second h k)))
+    go false e = seeded_none name (seed_of word) (count_of second) e
+
 -- words that the parse refuses are no command
 pub unmatched : (words : List Text) → list_any is_barred words ≡ false → (fault_of (program_of known_forms) words ≡ [] → ⊥) → command_of words ≡ None
 unmatched [] h refused = refl
 unmatched (name ∷ []) h refused = plain_unmatched name refused
 unmatched (name ∷ word ∷ []) h refused = counted_unmatched name word (first_word word [] (first_word name (word ∷ []) h).1).0 refused
-unmatched (name ∷ word ∷ second ∷ words) h refused = refl
+unmatched (name ∷ word ∷ second ∷ []) h refused =
+    let first = first_word word (second ∷ []) (first_word name (word ∷ second ∷ []) h).1 in
+    seeded_unmatched name word second first.0 (first_word second [] first.1).0 refused
+unmatched (name ∷ word ∷ second ∷ third ∷ words) h refused = refl
 
 -- a barred word is no name
 not_named : (name text : Text) → is_barred name ≡ true → is_barred text ≡ false → bytes_eq name text ≡ false
@@ -344,23 +432,32 @@ never_and false number = refl
 dash_number : (cs : List ℕ) → number_of (45 ∷ cs) ≡ None
 dash_number cs = never_and (nat_lt 0 (length (45 ∷ cs))) (number_within (numeral_value 10 (45 ∷ cs)))
 
-no_count : (word : Text) → number_of word ≡ None → count_of word ≡ None
-unfolding count_of
-no_count word h = go (nat_le (length word) 20)
+no_seed : (word : Text) → number_of word ≡ None → seed_of word ≡ None
+unfolding seed_of
+no_seed word h = go (nat_le (length word) 20)
   where
-    go : (short : Bool) → cond short (option_and_then (at_most 100000) (number_of word)) None ≡ None
-    go true = ap (option_and_then (at_most 100000)) h
+    go : (short : Bool) → cond short (number_of word) None ≡ None
+    go true = h
     go false = refl
 
 -- a word that begins with no digit is no number
-count_barred : (word : Text) → is_barred word ≡ true → count_of word ≡ None
-count_barred [] h = absurd (true≢false (sym h))
-count_barred (c ∷ cs) h = go (c == 45) (bytes_eq (c ∷ cs) (codes "help")) refl refl
+seed_barred : (word : Text) → is_barred word ≡ true → seed_of word ≡ None
+seed_barred [] h = absurd (true≢false (sym h))
+seed_barred (c ∷ cs) h = go (c == 45) (bytes_eq (c ∷ cs) (codes "help")) refl refl
   where
-    go : (dash help : Bool) → (c == 45) ≡ dash → bytes_eq (c ∷ cs) (codes "help") ≡ help → count_of (c ∷ cs) ≡ None
-    go true help e f = subst (λ b. count_of (b ∷ cs) ≡ None) (sym (eqb-true c 45 e)) (no_count (45 ∷ cs) (dash_number cs))
-    go false true e f = subst (λ word. count_of word ≡ None) (has_name (c ∷ cs) (codes "help") f) (no_count (codes "help") refl)
+    go : (dash help : Bool) → (c == 45) ≡ dash → bytes_eq (c ∷ cs) (codes "help") ≡ help → seed_of (c ∷ cs) ≡ None
+    go true help e f = subst (λ b. seed_of (b ∷ cs) ≡ None) (sym (eqb-true c 45 e)) (no_seed (45 ∷ cs) (dash_number cs))
+    go false true e f = subst (λ word. seed_of word ≡ None) (has_name (c ∷ cs) (codes "help") f) (no_seed (codes "help") refl)
     go false false e f = let none : is_barred (c ∷ cs) ≡ false = rw (e, f) refl in absurd (true≢false (sym h ∙ none))
+
+count_barred : (word : Text) → is_barred word ≡ true → count_of word ≡ None
+unfolding count_of
+count_barred word h = ap (option_and_then (at_most 100000)) (seed_barred word h)
+
+-- a seed with no count gives no command
+no_count : (name : Text) (seed : Option ℕ) → seeded_command name seed None ≡ None
+no_count name None = refl
+no_count name (Some number) = refl
 
 -- a word with no place in a command leaves none
 pub barred_none : (words : List Text) → list_any is_barred words ≡ true → command_of words ≡ None
@@ -376,4 +473,12 @@ barred_none (name ∷ word ∷ []) h = go (is_barred name) (is_barred word) refl
     go true worse e f = counted_barred name (count_of word) e
     go false true e f = ap (option_and_then (counted_command name)) (count_barred word f)
     go false false e f = let all : list_any is_barred (name ∷ word ∷ []) ≡ false = rw (e, f) refl in absurd (true≢false (sym h ∙ all))
-barred_none (name ∷ word ∷ second ∷ words) h = refl
+barred_none (name ∷ word ∷ second ∷ []) h = go (is_barred name) (is_barred word) (is_barred second) refl refl refl
+  where
+    go : (bad worse worst : Bool) → is_barred name ≡ bad → is_barred word ≡ worse → is_barred second ≡ worst
+        → seeded_command name (seed_of word) (count_of second) ≡ None
+    go true worse worst e f g = seeded_none name (seed_of word) (count_of second) (not_named name (codes "gen") e refl)
+    go false true worst e f g = ap (λ seed. seeded_command name seed (count_of second)) (seed_barred word f)
+    go false false true e f g = ap (seeded_command name (seed_of word)) (count_barred second g) ∙ no_count name (seed_of word)
+    go false false false e f g = let all : list_any is_barred (name ∷ word ∷ second ∷ []) ≡ false = rw (e, f, g) refl in absurd (true≢false (sym h ∙ all))
+barred_none (name ∷ word ∷ second ∷ third ∷ words) h = refl

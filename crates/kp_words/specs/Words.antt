@@ -3,15 +3,24 @@ use Rattle.std.specs.Prelude.{◌==◌, ◌||◌, ℕ, Bool, true, false, List, 
 use Rattle.std.specs.Str.{bytes_eq}
 use Rattle.kp_bits.specs.Literals.{number_of}
 use Rattle.kp_words.specs.declared.words.Command.{Command}
-use Rattle.kp_words.specs.declared.words.Command.TheVariants.{OnJob, Assemble, Read, Watch}
+use Rattle.kp_words.specs.declared.words.Command.TheVariants.{OnJob, Assemble, Read, Watch, Generate}
 use Rattle.kp_words.specs.declared.words.JobCommand.TheVariants.{Seq, Check, Sim, Pipe}
 
 abbrev pub at_most : ℕ → ℕ → Option ℕ
 at_most most number = if nat_le number most then Some number else None
 
--- the number of 1 to 20 decimal digits, leading zeros among them, up to 100,000
+-- the number of 1 to 20 decimal digits, leading zeros among them, up to 2^64 - 1
+unfoldable pub seed_of : List ℕ → Option ℕ
+seed_of word = if nat_le (length word) 20 then number_of word else None
+
+-- the same, up to 100,000
 unfoldable pub count_of : List ℕ → Option ℕ
-count_of word = if nat_le (length word) 20 then option_and_then (at_most 100000) (number_of word) else None
+count_of word = option_and_then (at_most 100000) (seed_of word)
+
+-- the command of this name with a seed and a count, if there are both
+abbrev pub seeded_command : List ℕ → Option ℕ → Option ℕ → Option Command
+seeded_command name (Some seed) (Some count) = if bytes_eq name (codes "gen") then Some (Generate seed count) else None
+seeded_command name _ _ = None
 
 -- the command of this name with a count
 abbrev pub counted_command : List ℕ → ℕ → Option Command
@@ -32,11 +41,13 @@ plain_command name =
 abbrev pub command_of : List (List ℕ) → Option Command
 command_of (name ∷ []) = plain_command name
 command_of (name ∷ count ∷ []) = option_and_then (counted_command name) (count_of count)
+command_of (name ∷ seed ∷ count ∷ []) = seeded_command name (seed_of seed) (count_of count)
 command_of _ = None
 
 -- the commands that read the source
 abbrev pub reads_input : Option Command → Bool
 reads_input None = false
+reads_input (Some (Generate seed count)) = false
 reads_input (Some command) = true
 
 -- the word begins with `-`

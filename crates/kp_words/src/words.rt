@@ -1,10 +1,11 @@
 // The words of a command line.
-ghost use Rattle.std.specs.Prelude.{◌≡◌, map, string_bytes, option_map, Ok, None, IfOk, true, false};
+ghost use Rattle.std.specs.Prelude.{◌≡◌, map, string_bytes, option_map, Ok, None, Some, IfOk, true, false};
 ghost use Rattle.std.specs.List.{list_any};
 ghost use Rattle.clap.specs.Words.{app_of, shape_of, subcommand_rows_of};
 ghost use Rattle.clap.specs.declared.builder.command.Command.TheViews.{out-Command};
-ghost use Rattle.kp_words.specs.Words.{is_barred, plain_command, counted_command, command_of, count_of};
-ghost use Rattle.kp_words.specs.inner.Matching.{job_forms, pipeline_forms, known_forms, program_of, shape_of_form, command_by, command_of_rows};
+ghost use Rattle.kp_words.specs.Words.{is_barred, plain_command, counted_command, seeded_command, command_of, count_of, seed_of};
+ghost use Rattle.kp_words.specs.inner.Matching.{plain, counted, seeded, job_forms, pipeline_forms, verilog_forms, known_forms};
+ghost use Rattle.kp_words.specs.inner.Matching.{program_of, shape_of_form, command_by, command_of_rows};
 
 use clap::error::ErrorKind;
 use clap::{Arg, ArgMatches};
@@ -39,6 +40,8 @@ pub enum Command {
     Read,
     /// A job is read, and a Verilog text behind it: `watch N`, the run of its netlist over so many cycles.
     Watch(u32),
+    /// Nothing is read: `gen G N`, the generated job of number G over N cycles.
+    Generate(u64, u32),
 }
 
 impl Command {
@@ -63,16 +66,33 @@ impl Command {
         ensures { result ≡ command_of_rows (subcommand_rows_of matches.now) }
     {
         let (name, found) = matches.subcommand()?;
-        Self::by(name, found.get_str("number"))
+        Self::by(name, found.get_str("seed"), found.get_str("number"))
     }
 
-    // The command of this name, and of a number word if there is one.
-    fn by(name: &str, number: Option<&str>) -> Option<Self>
-        ensures { result ≡ command_by name.now (option_map (λ word. word.now) number.entry) }
+    // The command of this name, and of a number word if there is one, with a seed word before it or none.
+    fn by(name: &str, seed: Option<&str>, number: Option<&str>) -> Option<Self>
+        ensures { result ≡ command_by name.now (option_map (λ word. word.now) seed.entry) (option_map (λ word. word.now) number.entry) }
     {
-        match number {
-            None => Self::plain(name),
-            Some(number) => Self::counted(name, count_of(number.as_bytes())?),
+        match (seed, number) {
+            (_, None) => Self::plain(name),
+            (None, Some(number)) => Self::counted(name, count_of(number.as_bytes())?),
+            (Some(seed), Some(number)) => {
+                Self::seeded(
+                    name,
+                    seed_of(seed.as_bytes())?,
+                    count_of(number.as_bytes())?,
+                )
+            }
+        }
+    }
+
+    // The command of this name with a seed and a count.
+    fn seeded(name: &str, seed: u64, count: u32) -> Option<Self>
+        ensures { result ≡ seeded_command name.now (Some seed) (Some count) }
+    {
+        match name {
+            "gen" => Some(Command::Generate(seed, count)),
+            _ => None,
         }
     }
 
@@ -121,7 +141,8 @@ fn program<'a>(alloc: Global) -> Result<clap::Command<'a>, AllocError>
     ensures { IfOk result (λ program. app_of program ≡ program_of known_forms) }
 {
     let program = with_pipeline(alloc, with_jobs(alloc)?)?;
-    with_verilog(alloc, program)
+    let program = with_verilog(alloc, program)?;
+    with_generated(alloc, program)
 }
 
 // The program, with the commands that make no pipeline.
@@ -156,39 +177,69 @@ fn with_verilog<'a>(
     program: clap::Command<'a>,
 ) -> Result<clap::Command<'a>, AllocError>
     requires { app_of program ≡ program_of pipeline_forms }
-    ensures { IfOk result (λ program. app_of program ≡ program_of known_forms) }
+    ensures { IfOk result (λ program. app_of program ≡ program_of verilog_forms) }
 {
     program
         .subcommand(with_number(alloc, "watch")?)?
         .subcommand(alone(alloc, "read"))
 }
 
+// The same program, and the one that reads nothing.
+fn with_generated<'a>(
+    alloc: Global,
+    program: clap::Command<'a>,
+) -> Result<clap::Command<'a>, AllocError>
+    requires { app_of program ≡ program_of verilog_forms }
+    ensures { IfOk result (λ program. app_of program ≡ program_of known_forms) }
+{
+    program.subcommand(with_seed(alloc, "gen")?)
+}
+
 // The command of this name and a number word.
 fn with_number<'a>(alloc: Global, name: &'a str) -> Result<clap::Command<'a>, AllocError>
     ensures shape { IfOk result (λ command. shape_of command
-        ≡ shape_of_form (record { name = name.entry.now; has_number = true })) }
+        ≡ shape_of_form (record { name = name.entry.now; numbers = counted })) }
     ensures local { IfOk result (λ command. (out-Command command).has_globals ≡ false) }
 {
     alone(alloc, name).arg(Arg::new(alloc, "number").required(true))
 }
 
+// The command of this name, a seed word and a number word.
+fn with_seed<'a>(alloc: Global, name: &'a str) -> Result<clap::Command<'a>, AllocError>
+    ensures shape { IfOk result (λ command. shape_of command
+        ≡ shape_of_form (record { name = name.entry.now; numbers = seeded })) }
+    ensures local { IfOk result (λ command. (out-Command command).has_globals ≡ false) }
+{
+    alone(alloc, name)
+        .arg(Arg::new(alloc, "seed").required(true))?
+        .arg(Arg::new(alloc, "number").required(true))
+}
+
 // The command of this name alone.
 fn alone<'a>(alloc: Global, name: &'a str) -> clap::Command<'a>
-    ensures shape { shape_of result ≡ shape_of_form (record { name = name.entry.now; has_number = false }) }
+    ensures shape { shape_of result ≡ shape_of_form (record { name = name.entry.now; numbers = plain }) }
     ensures local { (out-Command result).has_globals ≡ false }
 {
     clap::Command::new(alloc, name)
 }
 
-// The number that a word of 1 to 20 decimal digits gives, up to 100,000.
-#[tactic(auto, unfolding(crate::specs::Words::count_of))]
-fn count_of(word: &[u8]) -> Option<u32>
-    ensures { result ≡ count_of word.now }
+// The number that a word of 1 to 20 decimal digits gives, up to 2^64 - 1.
+#[tactic(auto, unfolding(crate::specs::Words::seed_of))]
+fn seed_of(word: &[u8]) -> Option<u64>
+    ensures { result ≡ seed_of word.now }
 {
     if word.len() > 20 {
         return None;
     }
-    let number = read_number(word)?;
+    read_number(word)
+}
+
+// The same, up to 100,000.
+#[tactic(auto, unfolding(crate::specs::Words::count_of))]
+fn count_of(word: &[u8]) -> Option<u32>
+    ensures { result ≡ count_of word.now }
+{
+    let number = seed_of(word)?;
     if number <= u64::from(MOST_COUNT) {
         Some(number as u32)
     } else {

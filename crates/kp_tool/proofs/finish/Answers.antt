@@ -1,10 +1,10 @@
-use Rattle.kp_tool.proofs.IfOks.{if_ok_map}
+use Rattle.std.proofs.lemmas.Result.{IfOk-weaker}
 use Rattle.kp_tool.proofs.Ends.{finishes, breaks_off}
 use Rattle.kp_tool.proofs.finish.Goals as goal
 
 pub returns-in-Ok-clause-due : goal.returns-in-Ok-clause-due
 returns-in-Ok-clause-due g c =
-    if_ok_map c.told.result _ _ (λ status is. finishes c.args.answer.now c.in-Ok.ready _ _ status c.in-Ok.ensures is.0 is.1) c.told.ensures.due
+    IfOk-weaker c.told.result _ _ (λ status is. finishes c.args.answer.now c.in-Ok.ready _ _ status c.in-Ok.ensures is.0 is.1) c.told.ensures.due
 
 pub returns-in-Ok-clause-no_read_fault : goal.returns-in-Ok-clause-no_read_fault
 returns-in-Ok-clause-no_read_fault g c = c.told.ensures.no_read_fault

@@ -1,10 +1,10 @@
-use Rattle.kp_tool.proofs.IfOks.{if_ok_map}
+use Rattle.std.proofs.lemmas.Result.{IfOk-weaker}
 use Rattle.kp_tool.proofs.Ends.{completes, begins}
 use Rattle.kp_tool.proofs.run.Goals as goal
 
 pub returns-in-Ok-clause-due : goal.returns-in-Ok-clause-due
 returns-in-Ok-clause-due g c =
-    if_ok_map c.finish.result _ _ (λ status finished. completes _ _ _ _ _ c.in-Ok.answer status c.in-Ok.ensures.due finished) c.finish.ensures.due
+    IfOk-weaker c.finish.result _ _ (λ status finished. completes _ _ _ _ _ c.in-Ok.answer status c.in-Ok.ensures.due finished) c.finish.ensures.due
 
 pub returns-in-Ok-clause-write_fault : goal.returns-in-Ok-clause-write_fault
 returns-in-Ok-clause-write_fault g c is =

@@ -1,0 +1,32 @@
+-- WHAT AN ANSWER SAYS: the status and the text that are due where it was found.
+use Rattle.std.specs.Prelude.{◌≡◌, ℕ, List, Some}
+use Rattle.kp_stage.specs.Counts.{summary_of}
+use Rattle.kp_vlog.specs.Canon.{canon}
+use Rattle.kp_words.specs.declared.words.Command.{Command}
+use Rattle.kp_show.specs.Texts.{bad_words, refusal_line, accepted_line}
+use Rattle.kp_show.specs.States.{sequential_text}
+use Rattle.kp_show.specs.Runs.{sim_text}
+use Rattle.kp_genshow.specs.Line.{gen_text}
+use Rattle.kp_due.specs.Saying.{Says}
+use Rattle.kp_due.specs.Due.{DueFor}
+use Rattle.kp_due.specs.Written.{IsVerilogOf}
+use Rattle.kp_due.specs.Watched.{DueOfRun}
+use Rattle.kp_decide.specs.declared.answer.Answer.{Answer}
+use Rattle.kp_decide.specs.declared.answer.Answer.TheVariants as answers
+
+abbrev pub AnswerSays : Answer → ℕ → List ℕ → Type 0
+AnswerSays answers.BadWords = Says 1 bad_words
+AnswerSays (answers.Refused refusal) = Says 2 (refusal_line refusal)
+AnswerSays (answers.Misread refusal) = Says 6 (refusal_line refusal)
+AnswerSays (answers.After steps) = Says 0 (sequential_text steps.count steps.job.design.job)
+AnswerSays (answers.Simulation steps) = Says 0 (sim_text steps.count steps.job.design.job)
+AnswerSays (answers.Pipelined job) = λ status text. (status ≡ 0) × IsVerilogOf job.design.job text
+AnswerSays (answers.Checked design) = Says 0 (accepted_line design.job.name.name (summary_of design.job))
+AnswerSays (answers.Image section) = Says 0 section.items
+AnswerSays (answers.Denoted net) = Says 0 (canon net)
+AnswerSays (answers.Watch watch) = DueOfRun watch.count watch.job.design.job watch.net
+AnswerSays (answers.Generated generation) = Says 0 (gen_text generation.number generation.count)
+
+-- Whatever the answer says is due of a command and its input.
+unfoldable pub Answers : Command → List ℕ → Answer → Type 0
+Answers command input answer = (status : ℕ) (text : List ℕ) → AnswerSays answer status text → DueFor (Some command) input status text

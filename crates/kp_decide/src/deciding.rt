@@ -1,0 +1,134 @@
+// The answer to a command over an input.
+ghost use Rattle.std.specs.Prelude.{◌≤◌, ℕ, List, length, IfOk, Ok};
+ghost use Rattle.kp_words.specs.declared.words.Command.TheVariants.{OnJob, Assemble, Read, Watch as Watches, Generate};
+ghost use Rattle.kp_shows.specs.Shows.{HasOutputs};
+ghost use Rattle.kp_judge.specs.Judging.{JudgesHeadText};
+ghost use Rattle.kp_due.specs.Due.{DueOfJob};
+ghost use Rattle.kp_due.specs.Watched.{DueOfNetlist};
+ghost use Rattle.kp_decide.specs.Answers.{AnswerSays, Answers};
+
+use crate::answer::{Answer, Steps};
+use crate::generation::Generation;
+use crate::watch::Watch;
+use kp_asm::{assemble, image_text};
+use kp_base::{NoMemory, Refused};
+use kp_genjob::generated;
+use kp_judge::{Accepted, Head, judge, judge_head};
+use kp_match::laws::a_netlist_that_was_read_has_its_outputs;
+use kp_match::matches;
+use kp_net::Netlist;
+use kp_vread::read_verilog;
+use kp_words::{Command, JobCommand};
+use std::alloc::Global;
+
+/// The answer to a command over an input that is not too long.
+pub fn carry_out(alloc: Global, command: Command, input: &[u8]) -> Result<Answer, NoMemory>
+    requires { length input.now ≤ 16777216 }
+    ensures { IfOk result (λ answer. Answers command input.now answer) }
+{
+    match command {
+        Command::OnJob(command) => on_job(alloc, command, input),
+        Command::Assemble => on_program(alloc, input),
+        Command::Read => on_verilog(alloc, input),
+        Command::Watch(count) => on_head(alloc, count, input),
+        Command::Generate(number, count) => on_nothing(alloc, number, count),
+    }
+}
+
+// The answer of `gen`, whatever the input is.
+#[tactic(auto, unfolding(crate::specs::Answers::Answers))]
+fn on_nothing(alloc: Global, number: u64, count: u32) -> Result<Answer, NoMemory>
+    ensures { IfOk result (λ answer. (input : List ℕ) → Answers (Generate number count) input answer) }
+{
+    let job = generated(alloc, number)?;
+    Ok(Answer::Generated(Generation { number, count, job }))
+}
+
+// The answer to a command over a job.
+fn on_job(alloc: Global, command: JobCommand, input: &[u8]) -> Result<Answer, NoMemory>
+    requires { length input.now ≤ 16777216 }
+    ensures { IfOk result (λ answer. Answers (OnJob command) input.now answer) }
+{
+    match judge(alloc, input) {
+        Ok(accepted) => Ok(answer_to(command, accepted)),
+        Err(Refused::Rule(refusal)) => Ok(Answer::Refused(refusal)),
+        Err(Refused::NoMemory) => Err(NoMemory),
+    }
+}
+
+// The answer over a job that breaks no rule.
+fn answer_to(command: JobCommand, job: Accepted) -> Answer
+    ensures { (status : ℕ) (text : List ℕ) → AnswerSays result status text → DueOfJob command job.design.job status text }
+{
+    match command {
+        JobCommand::Seq(count) => Answer::After(Steps { count, job }),
+        JobCommand::Check => Answer::Checked(job.design),
+        JobCommand::Sim(count) => Answer::Simulation(Steps { count, job }),
+        JobCommand::Pipe => Answer::Pipelined(job),
+    }
+}
+
+// The image section of an assembler program, or the first rule that it breaks.
+#[tactic(auto, unfolding(crate::specs::Answers::Answers, kp_due::specs::Due::program_of))]
+fn on_program(alloc: Global, input: &[u8]) -> Result<Answer, NoMemory>
+    requires { length input.now ≤ 16777216 }
+    ensures { IfOk result (λ answer. Answers Assemble input.now answer) }
+{
+    match assemble(alloc, input) {
+        Ok(words) => Ok(Answer::Image(image_text(alloc, &words)?)),
+        Err(Refused::Rule(refusal)) => Ok(Answer::Refused(refusal)),
+        Err(Refused::NoMemory) => Err(NoMemory),
+    }
+}
+
+// The netlist of a Verilog text, or the first rule that it breaks.
+fn on_verilog(alloc: Global, input: &[u8]) -> Result<Answer, NoMemory>
+    requires { length input.now ≤ 16777216 }
+    ensures { IfOk result (λ answer. Answers Read input.now answer) }
+{
+    match read_verilog(alloc, input, 0) {
+        Ok(net) => Ok(Answer::Denoted(net)),
+        Err(Refused::Rule(refusal)) => Ok(Answer::Misread(refusal)),
+        Err(Refused::NoMemory) => Err(NoMemory),
+    }
+}
+
+// The answer of `watch` over a job with a Verilog text behind it.
+fn on_head(alloc: Global, count: u32, input: &[u8]) -> Result<Answer, NoMemory>
+    requires { length input.now ≤ 16777216 }
+    ensures { IfOk result (λ answer. Answers (Watches count) input.now answer) }
+{
+    match judge_head(alloc, input) {
+        Ok(head) => on_rest(alloc, count, head, input),
+        Err(Refused::Rule(refusal)) => Ok(Answer::Refused(refusal)),
+        Err(Refused::NoMemory) => Err(NoMemory),
+    }
+}
+
+// The same, where the job breaks no rule.
+fn on_rest(alloc: Global, count: u32, head: Head, input: &[u8]) -> Result<Answer, NoMemory>
+    requires short { length input.now ≤ 16777216 }
+    requires within { head.rest ≤ length input.now }
+    requires judged { JudgesHeadText input.now (Ok (head.job.design.job, head.rest)) }
+    ensures { IfOk result (λ answer. Answers (Watches count) input.now answer) }
+{
+    a_netlist_that_was_read_has_its_outputs();
+    match read_verilog(alloc, input, head.rest) {
+        Ok(net) => on_netlist(alloc, count, head.job, net),
+        Err(Refused::Rule(refusal)) => Ok(Answer::Misread(refusal)),
+        Err(Refused::NoMemory) => Err(NoMemory),
+    }
+}
+
+// The same, where the text breaks no rule but perhaps V6.
+#[tactic(auto, using(crate::proofs::Found::passes_test))]
+fn on_netlist(alloc: Global, count: u32, job: Accepted, net: Netlist) -> Result<Answer, NoMemory>
+    requires { HasOutputs net }
+    ensures { IfOk result (λ answer. (status : ℕ) (text : List ℕ) → AnswerSays answer status text → DueOfNetlist count job.design.job net status text) }
+{
+    match matches(alloc, &net, &job.design) {
+        Ok(()) => Ok(Answer::Watch(Watch { count, job, net })),
+        Err(Refused::Rule(refusal)) => Ok(Answer::Misread(refusal)),
+        Err(Refused::NoMemory) => Err(NoMemory),
+    }
+}

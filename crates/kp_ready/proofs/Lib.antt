@@ -1,0 +1,4 @@
+pub mod IfOks
+pub mod Running
+pub mod Compared
+pub mod Summing

@@ -1,0 +1,19 @@
+//! An answer, run and written.
+//!
+//! `made_ready` is given the allocator and no sink: it synthesises and runs what the answer wants. `Ready::write` is given the sink and no
+//! allocator: from there on only the sink can fail. The status and the text of what is ready are those of `specs/Readies.antt`, which are
+//! what the answer says.
+#![tactic(auto)]
+
+mod comparing;
+mod ready;
+mod simulating;
+mod stepping;
+mod summing;
+mod verilog;
+mod watched;
+mod writing;
+
+pub use ready::{Ready, made_ready};
+pub use stepping::Run;
+pub use watched::Watched;
