@@ -10,7 +10,7 @@ import re
 import sys
 
 TOP = os.path.dirname(os.path.dirname(os.path.abspath(__file__)))
-HEADLINE = ["kp_due.specs.Headline.IsLegalVerilog", "kp_due.specs.Headline.IsLegalRun"]
+HEADLINE = [f"kp_due.specs.Headline.{it}" for it in ("IsVerilogWith", "IsRunWith", "IsMoving", "HasNoNeedlessStall")] + ["kp_sched.specs.Runs.IsLegal"]
 USE = re.compile(r"^use Rattle\.([^\s{]+?)(?:\.\{([^}]*)\})?(?: as (\S+))?$", re.M)
 HEAD = re.compile(r"^(?:abbrev |unfoldable )?(?:pub )?(?:(?:record|data) (\S+)|(\S+) :(?= ))")
 NAME = re.compile(r"[A-Za-z_][\w'\-]*(?:\.\w+)?")
