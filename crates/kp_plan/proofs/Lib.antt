@@ -1,0 +1,5 @@
+mod Rooms
+mod Parts
+mod Levels
+mod Meaning
+mod Calling
