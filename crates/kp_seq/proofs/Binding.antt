@@ -7,7 +7,8 @@ use Rattle.std.proofs.lemmas.List.Quantifiers.{position-Some}
 use Rattle.kp_bits.specs.Word.{Word}
 use Rattle.kp_ast.specs.Expressions.{is_same_name}
 use Rattle.kp_machine.proofs.Cases.{by_test, by_option}
-use Rattle.kp_seq.specs.inner.Names.{at_place, held, set_place, bound}
+use Rattle.kp_plan.specs.Names.{at_place}
+use Rattle.kp_seq.specs.inner.Names.{held, set_place, bound}
 
 module _ (keys : List (List ℕ)) (vs : List (Option Word)) (n : List ℕ) (w : Word) (i : ℕ) (is : position (is_same_name n) keys ≡ Some i) (inside : i < length vs) where
   bound_is : bound keys vs n w ≡ set vs i (Some w)

@@ -29,7 +29,8 @@ use Rattle.kp_machine.specs.Trees as trees
 use Rattle.kp_machine.specs.Machine.{values_in}
 use Rattle.kp_machine.proofs.Names.{IsIn}
 use Rattle.kp_machine.proofs.LookUp.{or_else, or_none, look_up-append}
-use Rattle.kp_seq.specs.inner.Names.{at_place, held}
+use Rattle.kp_plan.specs.Names.{at_place}
+use Rattle.kp_seq.specs.inner.Names.{held}
 use Rattle.kp_seq.specs.inner.Tables.{Laid}
 use Rattle.kp_seq.specs.inner.Steps.{Under, fitted, pipe_words, with_name, with_pipes, with_row}
 use Rattle.kp_seq.specs.inner.Steps as steps

@@ -34,7 +34,8 @@ use Rattle.kp_machine.specs.Slots.{Slot, targets_of, pipes_of, samples_of}
 use Rattle.kp_machine.proofs.Apart.{is_pipe_or_sample, slot_by, slots_by, pipes_by, samples_by}
 use Rattle.kp_machine.proofs.Cases.{by_test, by_option}
 use Rattle.kp_machine.proofs.Scopes.{sense_of, is_sample, find_none}
-use Rattle.kp_seq.specs.inner.Tables.{Laid, keys_of}
+use Rattle.kp_plan.specs.Names.{keys_of}
+use Rattle.kp_seq.specs.inner.Tables.{Laid}
 use Rattle.kp_seq.specs.inner.Ready.{AreTables, FitSlots}
 use Rattle.kp_seq.proofs.Blocks.{HasPlace, Keyed}
 

@@ -1,4 +1,3 @@
-pub mod Rooms
 pub mod Stored
 pub mod Sampling
 pub mod Lengths
@@ -16,3 +15,4 @@ pub mod Written
 pub mod Entering
 pub mod Keys
 pub mod Step
+pub mod Resolved

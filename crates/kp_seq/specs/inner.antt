@@ -2,5 +2,5 @@
 pub mod Steps
 pub mod Tables
 pub mod Names
-pub mod Values
+pub mod Resolved
 pub mod Ready

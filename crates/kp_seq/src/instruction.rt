@@ -1,18 +1,16 @@
 //! One instruction.
-ghost use Rattle.std.specs.Prelude.{◌≡◌, ◌≤◌, ◌+◌, None, length, get_or, sum_by, All, IfOk, if◌then◌else◌, slice_index, unwrap_or};
-ghost use Rattle.std.specs.Option.{option_map};
-ghost use Rattle.kp_stage.specs.Sizes.{size_of_option, size_of_kind, size_of_stmt, size_of_block};
-ghost use Rattle.kp_ast.specs.Size.{size};
-ghost use Rattle.kp_machine.specs.Slots.{number_of, result_named};
+ghost use Rattle.std.specs.Prelude.{◌≡◌, ◌≤◌, ◌+◌, None, length, get_or, All, IfOk, if◌then◌else◌, slice_index, unwrap_or};
+ghost use Rattle.kp_plan.specs.Plans.{space};
 ghost use Rattle.kp_seq.specs.inner.Ready.{HasPlaces};
-ghost use Rattle.kp_seq.specs.inner.Steps.{zero_bit, word_in, holds, address_in, address_read, fitted, value_read, with_name, with_pipe, with_first, with_result, after_stmt, after_stmts, with_pipes, with_row, entered, after_block, after_blocks, begun, is_enabled, address_by, written_by, written_from, executed};
+ghost use Rattle.kp_seq.specs.inner.Steps.{zero_bit, fitted, with_pipe, with_first, begun, is_enabled, address_by, written_by, written_from};
+ghost use Rattle.kp_seq.specs.inner.Resolved.{word_at, holds_at, address_at, value_at, with_place, with_target, after_step, after_steps, with_row_at, with_carried, entered_at, after_stages, ran, option_space, step_space, steps_space};
 
-use crate::tables::{Port, Tables, number_of, width_of};
-use crate::value::{Names, find_value};
+use crate::program::{Carried, Program, Reading, Step};
+use crate::tables::{Port, Tables};
 use crate::words::Words;
-use kp_ast::{Block, Decl, Expr, Name, ReadStmt, Stmt, StmtKind};
 use kp_base::NoMemory;
 use kp_bits::Bits;
+use kp_plan::{Places, Plan, find_value};
 use std::alloc::Global;
 use std::marker::Model;
 
@@ -53,11 +51,11 @@ impl Instruction {
         self.results.as_mut_slice().fill(None);
     }
 
-    // Gives a name its value.
-    fn bind(&mut self, tables: &Tables, name: &Name, value: Bits)
-        ensures { self.new ≡ with_name tables.now self.old name.now value }
+    // Gives a place a value.
+    fn bind(&mut self, place: Option<usize>, value: Bits)
+        ensures { self.new ≡ with_place self.old place value }
     {
-        if let Some(place) = tables.names.place(name) {
+        if let Some(place) = place {
             if place < self.names.len() {
                 self.names[place] = Some(value);
             }
@@ -105,36 +103,33 @@ impl Instruction {
     }
 
     // Gives the samples the words of a row.
-    fn sample(&mut self, tables: &Tables, row: &[Bits])
-        ensures { self.new ≡ with_row tables.now self.old tables.now.samples row.now }
+    fn sample(&mut self, places: &[Option<usize>], row: &[Bits])
+        ensures { self.new ≡ with_row_at self.old places.now row.now }
     {
-        let samples = tables.samples.as_slice();
-        for i in 0..samples.len() {
+        for i in 0..places.len() {
             if i >= row.len() {
                 return;
             }
-            let slot = &samples[i];
-            self.bind(tables, &slot.name, row[i]);
+            self.bind(places[i], row[i]);
         }
     }
 
     // A stage begins: of the names the samples and the pipes have values.
-    fn enter(&mut self, tables: &Tables, row: &[Bits])
-        ensures { self.new ≡ entered tables.now row.now self.old }
+    fn enter(&mut self, program: &Program, row: &[Bits])
+        ensures { self.new ≡ entered_at program.now row.now self.old }
     {
         self.names.as_mut_slice().fill(None);
-        self.sample(tables, row);
-        self.bring_pipes(tables);
+        self.sample(program.samples.as_slice(), row);
+        self.bring_pipes(program.pipes.as_slice());
     }
 
     // The pipes are names of the stage.
-    fn bring_pipes(&mut self, tables: &Tables)
-        ensures { self.new ≡ with_pipes tables.now self.old 0 tables.now.pipes }
+    fn bring_pipes(&mut self, pipes: &[Carried])
+        ensures { self.new ≡ with_carried self.old 0 pipes.now }
     {
-        let pipes = tables.pipes.as_slice();
-        for (i, slot) in pipes.iter().enumerate() {
-            let value = fitted(slot.width, self.pipe(i));
-            self.bind(tables, &slot.name, value);
+        for (i, pipe) in pipes.iter().enumerate() {
+            let value = fitted(pipe.width, self.pipe(i));
+            self.bind(pipe.place, value);
         }
     }
 }
@@ -159,177 +154,140 @@ pub(crate) fn zero_bit() -> Bits
 /// Runs one instruction on these words, with these words of the samples.
 pub(crate) fn execute(
     tables: &Tables,
+    program: &Program,
     row: &[Bits],
     under: &mut Instruction,
     room: &mut [Bits],
-    blocks: &[Block],
     words: &mut Words,
 )
-    requires { All (λ b. size_of_block tables.now.decls b ≤ length room.old) blocks.now }
-    ensures words { words.new ≡ executed tables.now row.now under.old blocks.now words.old }
-    ensures names { length under.new.names ≡ length under.old.names }
-    ensures pipes { length under.new.pipes ≡ length under.old.pipes }
-    ensures results { length under.new.results ≡ length under.old.results }
+    requires { All (λ s. steps_space s ≤ length room.old) program.now.stages }
+    ensures words { words.new ≡ ran program.now tables.now.ports row.now under.old words.old }
+    ensures under { under.new ≡ after_stages program.now words.old row.now (begun under.old) program.now.stages }
     ensures room { length room.new ≡ length room.old }
 {
     under.begin();
-    run_blocks(tables, row, under, room, blocks, words);
+    run_stages(program, row, under, room, words);
     write(tables, under, words);
 }
 
-fn run_blocks(
-    tables: &Tables,
+fn run_stages(
+    program: &Program,
     row: &[Bits],
     under: &mut Instruction,
     room: &mut [Bits],
-    blocks: &[Block],
     words: &Words,
 )
-    requires { All (λ b. size_of_block tables.now.decls b ≤ length room.old) blocks.now }
-    ensures under { under.new ≡ after_blocks tables.now words.now row.now under.old blocks.now }
+    requires { All (λ s. steps_space s ≤ length room.old) program.now.stages }
+    ensures under { under.new ≡ after_stages program.now words.now row.now under.old program.now.stages }
     ensures room { length room.new ≡ length room.old }
 {
-    for block in blocks {
-        under.enter(tables, row);
-        run_stmts(tables, under, room, block.stmts.as_slice(), words);
+    let stages = program.stages.as_slice();
+    for steps in stages {
+        under.enter(program, row);
+        run_steps(under, room, steps.as_slice(), words);
     }
 }
 
-fn run_stmts(
-    tables: &Tables,
-    under: &mut Instruction,
-    room: &mut [Bits],
-    stmts: &[Stmt],
-    words: &Words,
-)
-    requires { sum_by (size_of_stmt tables.now.decls) stmts.now ≤ length room.old }
-    ensures under { under.new ≡ after_stmts tables.now words.now under.old stmts.now }
+fn run_steps(under: &mut Instruction, room: &mut [Bits], steps: &[Step], words: &Words)
+    requires { steps_space steps.now ≤ length room.old }
+    ensures under { under.new ≡ after_steps words.now under.old steps.now }
     ensures room { length room.new ≡ length room.old }
 {
-    for stmt in stmts {
-        run_stmt(tables, under, room, &stmt.kind, words);
+    for step in steps {
+        run_step(under, room, step, words);
     }
 }
 
-fn run_stmt(
-    tables: &Tables,
-    under: &mut Instruction,
-    room: &mut [Bits],
-    stmt: &StmtKind,
-    words: &Words,
-)
-    requires { size_of_kind tables.now.decls stmt.now ≤ length room.old }
-    ensures under { under.new ≡ after_stmt tables.now words.now under.old stmt.now }
+fn run_step(under: &mut Instruction, room: &mut [Bits], step: &Step, words: &Words)
+    requires { step_space step.now ≤ length room.old }
+    ensures under { under.new ≡ after_step words.now under.old step.now }
     ensures room { length room.new ≡ length room.old }
 {
-    match stmt {
-        StmtKind::Read(read) => {
-            let width = width_of(tables.targets.as_slice(), &read.target.name);
-            let value = value_read(tables, under, room, read, words);
-            under.bind(tables, &read.name.name, fitted(width, value));
+    match step {
+        Step::Read(reading) => {
+            let value = value_read(under, room, reading, words);
+            under.bind(reading.place, fitted(reading.width, value));
         }
-        StmtKind::Let(named, e) => {
-            let value = value_of(tables, under, room, e);
-            under.bind(tables, &named.name, value);
+        Step::Let(place, plan) => {
+            let value = value_of(under, room, plan);
+            under.bind(*place, value);
         }
-        StmtKind::Put(named, e) => {
-            let value = value_of(tables, under, room, e).value();
-            under.put(number_of(tables.pipes.as_slice(), &named.name), value);
+        Step::Put(pipe, plan) => {
+            let value = value_of(under, room, plan).value();
+            under.put(*pipe, value);
         }
-        StmtKind::Set(named, e, when) => set_result(tables, under, room, &named.name, e, when),
-        StmtKind::Aim(_, _) => {}
+        Step::Set(target, plan, when) => set_result(under, room, *target, plan, when),
+        Step::Nothing => {}
     }
 }
 
 // The first value of a result counts.
 fn set_result(
-    tables: &Tables,
     under: &mut Instruction,
     room: &mut [Bits],
-    name: &Name,
-    e: &Expr,
-    when: &Option<Expr>,
+    target: Option<usize>,
+    plan: &Plan,
+    when: &Option<Plan>,
 )
-    requires { size tables.now.decls e.now + size_of_option tables.now.decls when.now ≤ length room.old }
-    ensures under { under.new ≡ (if holds tables.now under.old when.now then with_result tables.now under.old (result_named tables.now.decls name.now) (word_in tables.now under.old e.now).value else under.old) }
+    requires { space plan.now + option_space when.now ≤ length room.old }
+    ensures under { under.new ≡ (if holds_at under.old when.now then with_target under.old target (word_at under.old plan.now).value else under.old) }
     ensures room { length room.new ≡ length room.old }
 {
-    if !holds(tables, under, room, when) {
+    if !holds(under, room, when) {
         return;
     }
-    let value = value_of(tables, under, room, e).value();
-    if let Some(target) = target_of(tables, name) {
+    let value = value_of(under, room, plan).value();
+    if let Some(target) = target {
         under.set(target, value);
     }
 }
 
-// The number of the target of a result, if there is such a result.
-fn target_of(tables: &Tables, name: &Name) -> Option<usize>
-    ensures { result ≡ option_map (λ r. number_of tables.now.targets r.target.name) (result_named tables.now.decls name.now) }
-{
-    for decl in tables.decls {
-        if let Decl::Target(r) = decl {
-            if *name == r.name.name {
-                return Some(number_of(tables.targets.as_slice(), &r.target.name));
-            }
-        }
-    }
-    None
-}
-
 // What a read gives: 0 where its condition fails. A guess is of a register, which is read at address 0.
-fn value_read(
-    tables: &Tables,
-    under: &Instruction,
-    room: &mut [Bits],
-    read: &ReadStmt,
-    words: &Words,
-) -> u64
-    requires { size_of_option tables.now.decls read.now.address + (size_of_option tables.now.decls read.now.when + size_of_option tables.now.decls read.now.guess) ≤ length room.old }
-    ensures value { result ≡ value_read tables.now words.now under.now read.now }
+fn value_read(under: &Instruction, room: &mut [Bits], reading: &Reading, words: &Words) -> u64
+    requires { option_space reading.now.address + option_space reading.now.when ≤ length room.old }
+    ensures value { result ≡ value_at words.now under.now reading.now }
     ensures room { length room.new ≡ length room.old }
 {
-    if !holds(tables, under, room, &read.when) {
+    if !holds(under, room, &reading.when) {
         return 0;
     }
-    let target = number_of(tables.targets.as_slice(), &read.target.name);
-    if read.guess.is_some() {
-        return words.word(target, 0);
+    if reading.is_guessed {
+        return words.word(reading.target, 0);
     }
-    let address = address(tables, under, room, &read.address);
-    words.word(target, address)
+    let address = address(under, room, &reading.address);
+    words.word(reading.target, address)
 }
 
-fn holds(tables: &Tables, under: &Instruction, room: &mut [Bits], when: &Option<Expr>) -> bool
-    requires { size_of_option tables.now.decls when.now ≤ length room.old }
-    ensures value { result ≡ holds tables.now under.now when.now }
+fn holds(under: &Instruction, room: &mut [Bits], when: &Option<Plan>) -> bool
+    requires { option_space when.now ≤ length room.old }
+    ensures value { result ≡ holds_at under.now when.now }
     ensures room { length room.new ≡ length room.old }
 {
     match when {
-        Some(e) => value_of(tables, under, room, e).value() == 1,
+        Some(plan) => value_of(under, room, plan).value() == 1,
         None => true,
     }
 }
 
-fn address(tables: &Tables, under: &Instruction, room: &mut [Bits], e: &Option<Expr>) -> u64
-    requires { size_of_option tables.now.decls e.now ≤ length room.old }
-    ensures value { result ≡ address_in tables.now under.now e.now }
+fn address(under: &Instruction, room: &mut [Bits], plan: &Option<Plan>) -> u64
+    requires { option_space plan.now ≤ length room.old }
+    ensures value { result ≡ address_at under.now plan.now }
     ensures room { length room.new ≡ length room.old }
 {
-    match e {
-        Some(e) => value_of(tables, under, room, e).value(),
+    match plan {
+        Some(plan) => value_of(under, room, plan).value(),
         None => 0,
     }
 }
 
-// The value of an expression. In an accepted machine each has one.
-fn value_of(tables: &Tables, under: &Instruction, room: &mut [Bits], e: &Expr) -> Bits
-    requires { size tables.now.decls e.now ≤ length room.old }
-    ensures value { result ≡ word_in tables.now under.now e.now }
+// The value of a plan. In an accepted machine each has one.
+fn value_of(under: &Instruction, room: &mut [Bits], plan: &Plan) -> Bits
+    requires { space plan.now ≤ length room.old }
+    ensures value { result ≡ word_at under.now plan.now }
     ensures room { length room.new ≡ length room.old }
 {
-    let names = Names::Stage(&tables.names, under.names.as_slice());
-    find_value(tables.decls, names, room, e).unwrap_or(zero_bit())
+    let places = Places::Stage(under.names.as_slice());
+    find_value(places, room, plan).unwrap_or(zero_bit())
 }
 
 // Each target takes its result where that is enabled.

@@ -4,8 +4,8 @@
 mod instruction;
 pub mod laws;
 mod machine;
+mod program;
 mod tables;
-mod value;
 mod words;
 
 pub use machine::SeqMachine;

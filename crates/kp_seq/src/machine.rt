@@ -5,6 +5,7 @@ ghost use Rattle.kp_machine.specs.Machine.{state_of};
 ghost use Rattle.kp_seq.specs.Running.{HasWord, state, after_one, word_shown};
 
 use crate::instruction::{Instruction, execute, fitted, zero_bit};
+use crate::program::Program;
 use crate::tables::Tables;
 use crate::words::Words;
 use kp_base::NoMemory;
@@ -18,6 +19,7 @@ use std::marker::Model;
 pub struct SeqMachine<'a> {
     design: &'a Design,
     tables: Tables<'a>,
+    program: Program,
     under: Instruction,
     room: Vec<Bits>,
     words: Words,
@@ -36,7 +38,7 @@ impl<'a> Model for SeqMachine<'a> {
 
     ghost view = { λ m. record { job = m.design.now.job; words = m.words } };
 
-    ghost invariant = { λ m. IsReady m.design.now.job m.tables m.under (length m.room.items) m.words };
+    ghost invariant = { λ m. IsReady m.design.now.job m.tables m.program m.under (length m.room.items) m.words };
 }
 
 impl<'a> SeqMachine<'a> {
@@ -47,12 +49,14 @@ impl<'a> SeqMachine<'a> {
         ensures state { IfOk result (λ m. state m ≡ state_of d.now.job start.now) }
     {
         let tables = Tables::lay_out(alloc, d)?;
+        let program = Program::of(alloc, &tables, d)?;
         let under = Instruction::new(alloc, &tables)?;
         let room = vec![in alloc; zero_bit(); d.summary().size as usize]?;
         let words = Words::start(alloc, d.job().decls.as_slice(), start)?;
         Ok(SeqMachine {
             design: d,
             tables,
+            program,
             under,
             room,
             words,
@@ -65,12 +69,14 @@ impl<'a> SeqMachine<'a> {
         ensures { IfOk result (λ m. m ≡ self.now) }
     {
         let tables = Tables::lay_out(alloc, self.design)?;
+        let program = Program::of(alloc, &tables, self.design)?;
         let under = Instruction::new(alloc, &tables)?;
         let room = vec![in alloc; zero_bit(); self.room.len()]?;
         let words = self.words.copied(alloc)?;
         Ok(SeqMachine {
             design: self.design,
             tables,
+            program,
             under,
             room,
             words,
@@ -94,14 +100,13 @@ impl<'a> SeqMachine<'a> {
         ensures job { self.new.job ≡ self.old.job }
         ensures state { state self.new ≡ after_one self.old.job (state self.old) row.now }
     {
-        let blocks = self.design.job().blocks.as_slice();
         let room = self.room.as_mut_slice();
         execute(
             &self.tables,
+            &self.program,
             row,
             &mut self.under,
             room,
-            blocks,
             &mut self.words,
         );
     }

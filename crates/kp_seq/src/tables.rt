@@ -1,15 +1,14 @@
 //! What is looked up while instructions run. It is laid out once, at the opening.
-ghost use Rattle.std.specs.Prelude.{[], ◌≡◌, ◌<◌, ℕ, length, IfOk, OnOk, get_or, IfSome};
-ghost use Rattle.std.specs.List.{position};
-ghost use Rattle.kp_ast.specs.Expressions.{is_same_name};
+ghost use Rattle.std.specs.Prelude.{◌≡◌, ◌<◌, length, IfOk, get_or};
+ghost use Rattle.std.specs.Option.{option_map};
 ghost use Rattle.kp_machine.specs.Slots.{targets_of, pipes_of, samples_of, number_of, width_of, result_to, result_named};
 ghost use Rattle.kp_seq.specs.inner.Ready.{AreTables};
 ghost use Rattle.kp_seq.specs.Running.{no_slot};
-ghost use Rattle.kp_seq.specs.inner.Tables.{keys_of, port_of, ports_of, pipe_number};
+ghost use Rattle.kp_seq.specs.inner.Tables.{port_of, ports_of, pipe_number};
 
-use indexmap::IndexSet;
-use kp_ast::{Decl, Name, Named, Num, Widths};
+use kp_ast::{Decl, Name, Named, Num};
 use kp_base::NoMemory;
+use kp_plan::Keys;
 use kp_stage::Design;
 use std::alloc::Global;
 use std::marker::Model;
@@ -214,44 +213,16 @@ impl<'a> Tables<'a> {
     }
 }
 
-/// Names, each with a place.
-#[derive(Drop)]
-pub(crate) struct Keys {
-    names: IndexSet<Name>,
-}
-
-impl Model for Keys {
-    ghost use Rattle.std.specs.Prelude.{List, ℕ};
-
-    ghost Value = { List (List ℕ) };
-
-    ghost view = { λ k. k.names.keys };
-}
-
-impl Keys {
-    /// The names that are declared, each once.
-    fn of(alloc: Global, widths: &Widths) -> Result<Keys, NoMemory>
-        ensures { IfOk result (λ keys. keys ≡ keys_of [] widths.now.entries) }
-    {
-        let mut names = IndexSet::new(alloc);
-        for entry in widths.entries.as_slice() {
-            names.insert(entry.name.clone()?)?;
+/// The number of the target of a result, if there is such a result.
+pub(crate) fn target_of(tables: &Tables, name: &Name) -> Option<usize>
+    ensures { result ≡ option_map (λ r. number_of tables.now.targets r.target.name) (result_named tables.now.decls name.now) }
+{
+    for decl in tables.decls {
+        if let Decl::Target(r) = decl {
+            if *name == r.name.name {
+                return Some(number_of(tables.targets.as_slice(), &r.target.name));
+            }
         }
-        Ok(Keys { names })
     }
-
-    /// How many names there are.
-    pub fn len(&self) -> usize
-        ensures { result ≡ length self.now }
-    {
-        self.names.len()
-    }
-
-    /// The place of a name.
-    pub fn place(&self, name: &Name) -> Option<usize>
-        ensures place { result ≡ position (is_same_name name.now) self.now }
-        ensures within { IfSome result (λ i. i < length self.now) }
-    {
-        self.names.get_index_of(name)
-    }
+    None
 }

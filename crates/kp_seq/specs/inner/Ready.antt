@@ -9,7 +9,9 @@ use Rattle.kp_width.specs.Widths.{widths_of}
 use Rattle.kp_stage.specs.Sizes.{size_of_job}
 use Rattle.kp_stage.specs.Stages.{broken_of}
 use Rattle.kp_machine.specs.Slots.{Slot, targets_of, pipes_of, samples_of}
-use Rattle.kp_seq.specs.inner.Tables.{Laid, ports_of, keys_of}
+use Rattle.kp_plan.specs.Names.{keys_of}
+use Rattle.kp_seq.specs.inner.Tables.{Laid, ports_of}
+use Rattle.kp_seq.specs.inner.Resolved.{Outline, Resolves}
 use Rattle.kp_seq.specs.inner.Steps.{Under}
 
 -- the tables of a job, in which each name that the job declares has a place
@@ -38,10 +40,11 @@ pub record HasPlaces (t : Laid) (u : Under) : Type 0 where
   pub pipes : length u.pipes ≡ length t.pipes
   pub results : length u.results ≡ length t.targets
 
-pub record IsReady (job : Job) (t : Laid) (u : Under) (space : ℕ) (held : List (List ℕ)) : Type 0 where
+pub record IsReady (job : Job) (t : Laid) (o : Outline) (u : Under) (space : ℕ) (held : List (List ℕ)) : Type 0 where
   pub names : first (widths_of job).asked ≡ None
   pub stages : broken_of job ≡ None
   pub tables : AreTables job t
+  pub program : Resolves t job.blocks o
   pub places : HasPlaces t u
   pub room : size_of_job job ≤ space
   pub words : FitSlots (targets_of job.decls) held

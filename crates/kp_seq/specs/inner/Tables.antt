@@ -1,12 +1,9 @@
 -- What a sequential machine looks up, as it is laid out at the opening.
-use Rattle.std.specs.Prelude.{ℕ, zero, suc, List, [], ◌∷◌, Option, Some, None, length, nat_eq}
+use Rattle.std.specs.Prelude.{ℕ, zero, suc, List, [], ◌∷◌, Option, Some, None, length}
 use Rattle.kp_ast.specs.declared.tree.Named.{Named}
 use Rattle.kp_ast.specs.declared.tree.ResultDecl.{ResultDecl}
 use Rattle.kp_ast.specs.declared.tree.Decl.{Decl}
 use Rattle.kp_machine.specs.Slots.{Slot, targets_of, pipes_of, number_of, result_to}
-use Rattle.std.specs.Cmp.Lexicographic.{pointwise}
-use Rattle.indexmap.specs.IndexSet.{insert_key}
-use Rattle.kp_ast.specs.declared.widths.Entry.{Entry}
 use Rattle.kp_seq.specs.declared.tables.Port.{Port}
 
 -- how a target is written: by the numbers of its enable and its address pipe, where it has them
@@ -37,8 +34,3 @@ pub record Laid : Type 0 where
   pub samples : List Slot
   pub ports : List (Option Port)
   pub names : List (List ℕ)
-
--- the names of these entries, after names that are known, each once
-abbrev pub keys_of : List (List ℕ) → List Entry → List (List ℕ)
-keys_of keys [] = keys
-keys_of keys (e ∷ es) = keys_of (insert_key (pointwise nat_eq) keys e.name) es

@@ -4,5 +4,4 @@ use Rattle.kp_seq.proofs.instruction.Instruction.sample.Goals as goal
 
 pub returns-then-i-row : goal.returns-then-i-row
 returns-then-i-row c =
-    let t = c.args.tables.now in
-    sym (row_ends t c.loop-i.self (drop c.loop-i.i t.samples) c.args.row.now c.loop-i.i c.if-i-row.true) ∙ c.loop-i.invariant
+    sym (row_ends c.loop-i.self (drop c.loop-i.i c.args.places.now) c.args.row.now c.loop-i.i c.if-i-row.true) ∙ c.loop-i.invariant

@@ -11,6 +11,7 @@ invariant_of-result c =
       names = i.names;
       stages = i.stages;
       tables = c.in_ok-tables.ensures;
+      program = c.in_ok-program.ensures;
       places = c.in_ok-under.ensures;
       room = omega (arith, c.in_ok-room.ensures.len, c.in_ok-room.room.ok.0, m.room.ok.0, i.room);
       words = subst (FitSlots (targets_of m.design.now.job.decls)) (sym c.in_ok-words.ensures) i.words;

@@ -21,6 +21,7 @@ invariant_of-result c =
       names = c.job.ensures.sound.names;
       stages = c.job.ensures.sound.stages;
       tables = c.in_ok-tables.ensures;
+      program = c.in_ok-program.ensures;
       places = c.in_ok-under.ensures;
       room = omega (arith, n, c.in_ok-room.ensures.len, c.in_ok-room.room.ok.0);
       words = subst (FitSlots (targets_of job.decls)) (sym (c.in_ok-words.ensures ∙ ap (λ (ds : List Decl). words_of_start ds c.args.start.now.regs c.args.start.now.files) e))

@@ -1,0 +1,8 @@
+use Rattle.std.proofs.Common.{◌≡◌, drop, length}
+use Rattle.kp_seq.specs.inner.Resolved.{after_steps}
+use Rattle.kp_seq.proofs.instruction.run_steps.Given as goal
+
+abbrev pub invariant-loop-step : goal.invariant-loop-step
+invariant-loop-step l =
+    (after_steps l.words l.under (drop l.step-index l.steps) ≡ after_steps l.words l.initial.under l.steps)
+    × (length l.room ≡ length l.initial.room)
