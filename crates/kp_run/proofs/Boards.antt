@@ -1,6 +1,5 @@
 -- The machines behind a run show what is due.
-use Rattle.std.proofs.Common.{◌≡◌, ◌∙◌, ℕ, ◌+◌, ◌<◌, ◌≤◌, ◌^◌, List, length, get_or, refl, ap, sym, subst, arith}
-use Rattle.std.specs.List.{All}
+use Rattle.std.proofs.Common.{◌≡◌, ◌∙◌, ℕ, ◌<◌, ◌^◌, List, length, get_or, ap, sym, subst, arith}
 use Rattle.kp_base.specs.declared.row.Row.{Row}
 use Rattle.kp_ast.specs.declared.tree.Job.{Job}
 use Rattle.kp_law.specs.Accepted.{Accepted}
@@ -13,7 +12,7 @@ use Rattle.kp_sched.specs.Rows.{rows_seen}
 use Rattle.kp_sched.specs.Runs.{passes, due_value}
 use Rattle.kp_sched.proofs.Counting.{seen_length}
 use Rattle.kp_seq.specs.Running.{Running, HasWord, no_slot, state}
-use Rattle.kp_run.specs.Boards.{due_behind, passes_behind}
+use Rattle.kp_run.specs.Boards.{due_behind}
 use Rattle.kp_run.specs.inner.Boards.{IsBoard}
 use Rattle.kp_run.specs.Columns.{Taken, row_taken, AreColumns}
 use Rattle.kp_run.specs.Homes.{AreHomes, home_of}

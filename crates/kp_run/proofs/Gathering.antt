@@ -1,24 +1,21 @@
 -- What is gathered for each sample is what the instructions of the run take.
-use Rattle.std.proofs.Common.{◌≡◌, ◌∙◌, ℕ, zero, suc, ◌+◌, ◌<◌, ◌≤◌, List, [], ◌∷◌, ◌++◌, map, length, get_or, drop, Bool, true, false, cond, eqb, eq-eqb, None, refl, ap, sym, subst, arith}
+use Rattle.std.proofs.Common.{◌≡◌, ◌∙◌, ℕ, zero, suc, ◌+◌, ◌<◌, ◌≤◌, List, [], ◌∷◌, ◌++◌, map, length, get_or, drop, Bool, true, false, cond, eqb, eq-eqb, refl, ap, sym, subst, arith}
 use Rattle.std.proofs.Math.Path.{fun_ext}
-use Rattle.std.specs.Prelude.{nat_lt, nat_le, ◌&&◌, if◌then◌else◌}
-use Rattle.std.specs.List.{All}
+use Rattle.std.specs.Prelude.{nat_lt, ◌&&◌, if◌then◌else◌}
 use Rattle.std.proofs.lemmas.Bool.{ltb-true, ltb-false, cond-true, cond-false, ne_eqb}
 use Rattle.std.proofs.lemmas.Nat.{pow_pos}
 use Rattle.std.proofs.lemmas.List.{get_or-map, length-map, append_assoc, drop_more, get_or_append_left, get_or_at}
 use Rattle.kp_base.specs.declared.row.Row as masks
-use Rattle.kp_bits.specs.Word.{Word, IsWord, word}
+use Rattle.kp_bits.specs.Word.{Word, word}
 use Rattle.kp_bits.specs.Operators.{no_word}
-use Rattle.kp_ast.specs.declared.tree.Decl.{Decl}
 use Rattle.kp_ast.specs.declared.tree.Job.{Job}
 use Rattle.kp_law.specs.Machine.{Machine}
 use Rattle.kp_law.specs.Pipeline.{Inputs}
 use Rattle.kp_law.specs.Rows.{Row, bit, bits, one_if, taken, taken_from}
 use Rattle.kp_stage.specs.Start.{input, AreSamples}
-use Rattle.kp_machine.specs.Machine.{machine_of, inputs_at, inputs_from, values_in}
-use Rattle.kp_machine.specs.Slots.{samples_of, sample_stages}
-use Rattle.kp_sched.specs.Rows.{bit_of, row_seen, rows_seen}
-use Rattle.kp_seq.specs.Running.{no_slot}
+use Rattle.kp_machine.specs.Machine.{machine_of, inputs_from, values_in}
+use Rattle.kp_machine.specs.Slots.{sample_stages}
+use Rattle.kp_sched.specs.Rows.{bit_of, rows_seen}
 use Rattle.kp_run.specs.Columns.{Taken, word_taken, row_taken, words_taken, no_column, HasColumn, AreColumns}
 use Rattle.kp_run.proofs.Samples.{IsOf, many, width_at, word_at, fit_when, value_at, value_past}
 

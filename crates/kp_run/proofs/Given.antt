@@ -1,5 +1,5 @@
 -- What the sections of an accepted job give: rows that fit its samples.
-use Rattle.std.proofs.Common.{◌≡◌, ◌∙◌, ℕ, ◌<◌, ◌^◌, List, length, None, refl, ap, sym, subst, arith}
+use Rattle.std.proofs.Common.{◌≡◌, ◌∙◌, ℕ, ◌<◌, ◌^◌, List, length, None, ap, sym, subst, arith}
 use Rattle.std.proofs.lemmas.List.{length-map}
 use Rattle.kp_base.specs.First.{first}
 use Rattle.kp_bits.specs.Word.{Word}

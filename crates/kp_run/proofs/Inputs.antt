@@ -3,31 +3,28 @@ use Rattle.std.proofs.Common.{◌≡◌, ◌∙◌, ℕ, zero, suc, ◌+◌, ◌
 use Rattle.std.proofs.Math.Path.{fun_ext}
 use Rattle.std.proofs.Math.Nat.{mod-eq_of_lt, div-eq_of_lt, add-mul-div_right, add-mul-mod_self_right}
 use Rattle.std.specs.Prelude.{◌==◌, nat_lt, ◌||◌, ◌&&◌, if◌then◌else◌, slice_index}
-use Rattle.std.specs.List.{All, list_any}
+use Rattle.std.specs.List.{All}
 use Rattle.std.proofs.lemmas.Bool.{ltb-true, ltb-false, eqb-true}
 use Rattle.std.proofs.lemmas.Nat.{pow_pos}
 use Rattle.std.proofs.lemmas.List.Elements.{All-push}
 use Rattle.kp_base.specs.First.{first}
-use Rattle.kp_base.specs.Refusal.{e_rule}
-use Rattle.kp_bits.specs.Word.{Word, IsWord}
+use Rattle.kp_bits.specs.Word.{Word}
 use Rattle.kp_bits.specs.Operators.{no_word}
 use Rattle.kp_bits.proofs.Powers.{pow_le}
 use Rattle.kp_ast.specs.declared.tree.Job.{Job}
 use Rattle.kp_ast.specs.declared.tree.Stalls.{Stalls}
 use Rattle.kp_width.proofs.Unbroken.{Unbroken, bind_unbroken, answer_unbroken}
 use Rattle.kp_width.specs.Widths.{widths_of}
-use Rattle.kp_stage.specs.Start.{stall_word, stalls_at, is_stalled, bits_below, stalls_of, input, is_among, number_or, AreSamples}
-use Rattle.kp_image.specs.Sections.{stall_of, step_of, stalls_checked, sections_of}
+use Rattle.kp_stage.specs.Start.{stall_word, stalls_at, is_stalled, bits_below, stalls_of, input, AreSamples}
+use Rattle.kp_image.specs.Sections.{stall_of, stalls_checked, sections_of}
 use Rattle.kp_image.proofs.Given.{stalls_right, rows_fit}
 use Rattle.kp_law.specs.Pipeline.{Inputs}
 use Rattle.kp_machine.specs.Machine.{inputs_at, inputs_from, values_in}
-use Rattle.kp_machine.specs.Slots.{samples_of, sample_stages}
 use Rattle.kp_net.specs.Netlist.{Input}
 use Rattle.kp_sched.specs.Rows.{bit_of}
-use Rattle.kp_seq.specs.Running.{no_slot}
 use Rattle.kp_shows.specs.Traces.{sample, input_seen, inputs_seen, AreQuiet}
 use Rattle.kp_run.specs.Cycles.{input_at, inputs_to}
-use Rattle.kp_run.proofs.Samples.{many, width_at, word_at, value_at, value_past}
+use Rattle.kp_run.proofs.Samples.{width_at, word_at, value_at, value_past}
 
 -- ---- the bits of a stall word
 

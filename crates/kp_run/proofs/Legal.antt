@@ -1,5 +1,5 @@
 -- What a netlist that shows the machine of a job tells of the job's pipeline.
-use Rattle.std.proofs.Common.{◌≡◌, ◌∙◌, ℕ, zero, suc, ◌+◌, ◌≤◌, List, [], ◌∷◌, length, None, refl, ap, sym, subst, arith}
+use Rattle.std.proofs.Common.{◌≡◌, ◌∙◌, ℕ, zero, suc, ◌≤◌, List, length, None, refl, ap, sym, arith}
 use Rattle.kp_base.specs.First.{first}
 use Rattle.kp_base.specs.declared.row.Row.{Row}
 use Rattle.kp_ast.specs.declared.tree.Job.{Job}
@@ -10,7 +10,7 @@ use Rattle.kp_law.specs.Rows as law
 use Rattle.kp_law.specs.Rows.{Trace}
 use Rattle.kp_law.proofs.Taken.{rows-length}
 use Rattle.kp_stage.specs.Start.{start_of}
-use Rattle.kp_machine.specs.Machine.{machine_of, state_of, start_hints, inputs_at, inputs_from, pipe_of}
+use Rattle.kp_machine.specs.Machine.{machine_of, state_of, start_hints, inputs_from, pipe_of}
 use Rattle.kp_net.specs.Netlist.{Net}
 use Rattle.kp_sched.specs.Monitors.{Kept}
 use Rattle.kp_sched.specs.Rows.{rows_seen}
@@ -18,7 +18,7 @@ use Rattle.kp_sched.specs.Runs.{due_value, IsLegal, ShowsAlike}
 use Rattle.kp_sched.proofs.Counting.{seen_length}
 use Rattle.kp_seq.specs.Running.{HasWord}
 use Rattle.kp_shows.specs.Shows.{Shows}
-use Rattle.kp_shows.specs.Traces.{trace_of, inputs_seen}
+use Rattle.kp_shows.specs.Traces.{trace_of}
 use Rattle.kp_run.specs.Boards.{due_behind}
 use Rattle.kp_run.specs.Cycles.{inputs_to, HasRows}
 use Rattle.kp_run.proofs.Inputs.{seen_to, quiet_to}

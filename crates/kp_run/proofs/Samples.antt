@@ -1,6 +1,6 @@
 -- Rows of samples, place by place.
-use Rattle.std.proofs.Common.{◌≡◌, ◌∙◌, ℕ, zero, suc, ◌<◌, ◌≤◌, ◌+◌, List, [], ◌∷◌, ◌++◌, map, length, get_or, refl, ap, sym, arith, Option, Some, None}
-use Rattle.std.specs.Prelude.{take, set, unwrap_or, slice_index, slice_get}
+use Rattle.std.proofs.Common.{◌≡◌, ◌∙◌, ℕ, zero, suc, ◌<◌, ◌≤◌, ◌+◌, List, [], ◌∷◌, ◌++◌, map, length, get_or, refl, ap, sym, arith, Option, Some}
+use Rattle.std.specs.Prelude.{take, set, unwrap_or, slice_get}
 use Rattle.std.proofs.lemmas.List.{get_or-map, length-map, take_all, take_more, take_more_set}
 use Rattle.std.proofs.lemmas.Option.{unwrap_or-slice_get}
 use Rattle.kp_bits.specs.Word.{Word, IsWord}
@@ -10,7 +10,7 @@ use Rattle.kp_ast.specs.declared.tree.Decl.TheVariants as decls
 use Rattle.kp_ast.specs.declared.tree.Job.{Job}
 use Rattle.kp_stage.specs.Start.{AreSamples}
 use Rattle.kp_machine.specs.Machine.{values_in}
-use Rattle.kp_machine.specs.Slots.{Slot, samples_of, sample_stages}
+use Rattle.kp_machine.specs.Slots.{samples_of, sample_stages}
 use Rattle.kp_net.specs.Netlist.{Net}
 use Rattle.kp_net.specs.Parts.{no_port}
 use Rattle.kp_net.specs.declared.netlist.Port.{Port}

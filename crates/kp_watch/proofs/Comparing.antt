@@ -1,6 +1,6 @@
 -- The steps of a comparison.
-use Rattle.std.proofs.Common.{◌≡◌, ◌≢◌, ◌∙◌, ℕ, ◌+◌, ◌<◌, ◌≤◌, ◌⊎◌, inl, inr, Bool, true, false, Option, Some, None, refl, ap, sym, subst, arith}
-use Rattle.std.specs.Prelude.{nat_lt, MatchOption}
+use Rattle.std.proofs.Common.{◌≡◌, ◌≢◌, ◌∙◌, ℕ, ◌+◌, ◌<◌, ◌≤◌, ◌⊎◌, inl, inr, Bool, true, false, refl, ap, sym, subst, arith}
+use Rattle.std.specs.Prelude.{nat_lt}
 use Rattle.std.proofs.lemmas.Bool.{ltb-true, ltb-false}
 use Rattle.kp_bits.specs.Word.{word}
 use Rattle.kp_ast.specs.declared.tree.Job.{Job}
@@ -8,7 +8,7 @@ use Rattle.kp_net.specs.Netlist.{Net, State}
 use Rattle.kp_seq.specs.Running.{HasWord, target}
 use Rattle.kp_shows.specs.Naming.{value_shown}
 use Rattle.kp_watch.specs.declared.compare.Difference.{Difference}
-use Rattle.kp_watch.specs.inner.Comparing.{IsFirstAt, ComparesTarget, AgreeBelow, IsFirstIn, Compares}
+use Rattle.kp_watch.specs.inner.Comparing.{IsFirstAt, AgreeBelow, IsFirstIn}
 
 -- one address more
 pub address_more : (shown owed : ℕ → ℕ) (a : ℕ) → ((b : ℕ) → b < a → shown b ≡ owed b) → shown a ≡ owed a → (b : ℕ) → b < a + 1 → shown b ≡ owed b

@@ -1,7 +1,6 @@
 -- Where a netlist keeps a target.
 use Rattle.std.proofs.Common.{◌≡◌, ◌∙◌, ℕ, zero, suc, ◌+◌, ◌<◌, ◌≤◌, ◌^◌, List, [], ◌∷◌, ◌++◌, map, length, get_or, Bool, true, false, drop, None, refl, ap, sym, subst, arith}
 use Rattle.std.specs.Prelude.{◌==◌, if◌then◌else◌}
-use Rattle.std.specs.List.{All}
 use Rattle.std.proofs.lemmas.Bool.{eqb-true}
 use Rattle.std.proofs.lemmas.List.{get_or-map, length-map, drop_more, append_assoc}
 use Rattle.kp_base.specs.First.{first}
@@ -17,10 +16,9 @@ use Rattle.kp_machine.proofs.Widths.{Fine, job_fine}
 use Rattle.kp_machine.specs.Slots.{Slot, slot, targets_of, is_register}
 use Rattle.kp_net.specs.Netlist.{Net, State}
 use Rattle.kp_net.specs.Parts.{NetOk, no_reg, no_file}
-use Rattle.kp_cycle.specs.Steps.{Running, reg_shown, word_shown}
 use Rattle.kp_seq.specs.Running.{HasWord, no_slot, target}
 use Rattle.kp_shows.specs.Naming.{register_of, file_of, value_shown}
-use Rattle.kp_shows.specs.Shows.{IsOfJob, HasRegister, HasFile}
+use Rattle.kp_shows.specs.Shows.{IsOfJob}
 use Rattle.kp_watch.specs.declared.places.Place.{Place}
 use Rattle.kp_watch.specs.declared.places.Place.TheVariants.{Register, File}
 use Rattle.kp_watch.specs.inner.Places.{place_in, places_in, words_at}

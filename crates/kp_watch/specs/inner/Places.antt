@@ -1,5 +1,5 @@
 -- Where a netlist keeps the targets of its job.
-use Rattle.std.specs.Prelude.{ℕ, ◌^◌, ◌==◌, List, map, if◌then◌else◌}
+use Rattle.std.specs.Prelude.{ℕ, ◌^◌, List, map, if◌then◌else◌}
 use Rattle.kp_ast.specs.declared.tree.Job.{Job}
 use Rattle.kp_machine.specs.Slots.{Slot, targets_of, is_register}
 use Rattle.kp_net.specs.Netlist.{Net}

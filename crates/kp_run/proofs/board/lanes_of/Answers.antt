@@ -1,5 +1,4 @@
-use Rattle.std.proofs.Common.{◌≡◌, ◌∙◌, ℕ, sym, ap}
-use Rattle.kp_stage.specs.Start.{input, AreSamples}
+use Rattle.kp_stage.specs.Start.{input}
 use Rattle.kp_run.specs.Columns.{AreColumns}
 use Rattle.kp_run.proofs.Boards.{board_is}
 use Rattle.kp_run.proofs.Gathering.{rows_fit_taken}

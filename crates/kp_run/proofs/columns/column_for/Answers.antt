@@ -1,4 +1,4 @@
-use Rattle.std.proofs.Common.{◌≡◌, ◌∙◌, ℕ, ap, sym}
+use Rattle.std.proofs.Common.{◌∙◌, ℕ, ap, sym}
 use Rattle.kp_bits.specs.Word.{Word, word}
 use Rattle.kp_image.specs.Feeds.{row_in}
 use Rattle.kp_sched.specs.Rows.{rows_seen}

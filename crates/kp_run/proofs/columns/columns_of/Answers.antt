@@ -1,9 +1,5 @@
-use Rattle.std.proofs.Common.{◌≡◌, ◌<◌, ◌≤◌, ◌+◌, ◌^◌, ◌∙◌, ℕ, List, sym, ap, arith, length, get_or, length-append}
-use Rattle.kp_bits.specs.Word.{Word}
-use Rattle.kp_image.specs.Feeds.{row_in}
+use Rattle.std.proofs.Common.{◌≡◌, ℕ, List, ap, arith, length}
 use Rattle.kp_machine.specs.Slots.{sample_stages}
-use Rattle.kp_run.specs.Columns.{HasColumn}
-use Rattle.kp_run.proofs.Gathering.{columns_more}
 use Rattle.kp_run.proofs.Given.{feeds_many}
 use Rattle.kp_run.proofs.Machines.{stages_fit}
 use Rattle.kp_run.proofs.Samples.{few}

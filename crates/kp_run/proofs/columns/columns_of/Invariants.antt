@@ -1,8 +1,5 @@
-use Rattle.std.proofs.Common.{◌≡◌, ◌<◌, ℕ, length, get_or}
-use Rattle.kp_bits.specs.Word.{word}
-use Rattle.kp_bits.specs.Operators.{no_word}
+use Rattle.std.proofs.Common.{◌≡◌, ◌<◌, ℕ, length}
 use Rattle.kp_image.specs.Feeds.{row_in}
-use Rattle.kp_sched.specs.Rows.{rows_seen}
 use Rattle.kp_run.specs.Columns.{HasColumn}
 use Rattle.kp_run.proofs.columns.columns_of.Given as goal
 

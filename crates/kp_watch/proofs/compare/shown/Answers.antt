@@ -1,4 +1,4 @@
-use Rattle.std.proofs.Common.{◌≡◌, ◌∙◌}
+use Rattle.std.proofs.Common.{◌∙◌}
 use Rattle.kp_watch.proofs.Placing.{register_there, register_shown, file_shown}
 use Rattle.kp_watch.proofs.compare.shown.Goals as goal
 

@@ -7,7 +7,7 @@ use Rattle.kp_law.specs.Sequential.{exec}
 use Rattle.kp_machine.specs.Machine.{machine_of, values_in}
 use Rattle.kp_run.specs.Columns.{Taken, word_taken}
 use Rattle.kp_sched.specs.Rows.{bit_of, rows_seen}
-use Rattle.kp_seq.specs.Running.{Running, state}
+use Rattle.kp_seq.specs.Running.{state}
 use Rattle.kp_watch.specs.inner.Machines.{given, HaveRunFirst}
 use Rattle.kp_watch.proofs.Lanes.{first_begin, first_moves, first_stays, first_end}
 use Rattle.kp_watch.proofs.Prefixes.{passed_before}

@@ -1,4 +1,4 @@
-use Rattle.std.proofs.Common.{◌≡◌, ◌∙◌, ◌+◌, ◌<◌, ◌≤◌, ℕ, ap, subst, arith, length, List, Some, None}
+use Rattle.std.proofs.Common.{◌≡◌, ◌∙◌, ◌+◌, ◌≤◌, ℕ, ap, subst, arith, length, List, Some, None}
 use Rattle.kp_base.specs.declared.row.Row.{Row}
 use Rattle.kp_cycle.specs.Steps.{Running}
 use Rattle.kp_net.specs.Netlist.{Net}

@@ -1,4 +1,4 @@
-use Rattle.std.proofs.Common.{◌≡◌, ◌<◌, ◌∙◌, get_or, length, ap, sym, arith}
+use Rattle.std.proofs.Common.{◌≡◌, ◌<◌, ◌∙◌, get_or, length, ap, arith}
 use Rattle.kp_bits.specs.Word.{word}
 use Rattle.kp_machine.specs.Slots.{targets_of}
 use Rattle.kp_seq.specs.Running.{Running, no_slot, state}

@@ -1,4 +1,4 @@
-use Rattle.std.proofs.Common.{◌≡◌, ◌∙◌, ◌≤◌, ap, sym, arith, length, List}
+use Rattle.std.proofs.Common.{◌∙◌, ◌≤◌, ap, sym, arith, length, List}
 use Rattle.kp_bits.specs.Word.{Word}
 use Rattle.kp_run.proofs.Given.{as_feeds, feeds_many}
 use Rattle.kp_run.proofs.Machines.{stages_fit}

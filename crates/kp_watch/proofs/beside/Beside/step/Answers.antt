@@ -1,4 +1,4 @@
-use Rattle.std.proofs.Common.{◌≡◌, ◌∙◌, ◌<◌, ◌^◌, ap, sym, arith, length, List}
+use Rattle.std.proofs.Common.{◌≡◌, ◌∙◌, ap, sym, arith, length, List}
 use Rattle.kp_bits.specs.Word.{Word}
 use Rattle.kp_image.specs.Feeds.{row_in}
 use Rattle.kp_run.proofs.Gathering.{rows_fit_taken}
