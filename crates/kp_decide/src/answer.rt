@@ -1,11 +1,10 @@
 // An answer: what is known once the rules are decided.
+use crate::generation::Generation;
+use crate::watch::Watch;
 use kp_base::Refusal;
 use kp_judge::Accepted;
 use kp_net::Netlist;
 use kp_stage::Design;
-
-use crate::generation::Generation;
-use crate::watch::Watch;
 
 /// A job and a count of instructions or of cycles.
 #[derive(Drop)]

@@ -19,4 +19,4 @@ returns c =
     let generation = c.args.generation.now in
     ap (totals_line generation.number) c.totals_of.ensures
     ∙ summed_is_due generation.number generation.count generation.job.design.job board.design.now.job board.cycles.rows.items generation.made c.in_ok-board.ensures.job
-        (c.a_run_tells_of_the_pipeline.ensures.rows c.in_ok-net.net generation.count board.cycles.rows.items board.cycles.monitor c.in_ok-net.ensures.shows c.in_ok-board.ensures.rows)
+    (c.a_run_tells_of_the_pipeline.ensures.rows c.in_ok-net.net generation.count board.cycles.rows.items board.cycles.monitor c.in_ok-net.ensures.shows c.in_ok-board.ensures.rows)
