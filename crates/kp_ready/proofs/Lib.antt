@@ -1,4 +1,4 @@
 pub mod IfOks
 pub mod Running
 pub mod Compared
-pub mod Summing
+pub mod Summed

@@ -1,7 +1,7 @@
 use Rattle.std.proofs.Common.{◌∙◌, ap}
 use Rattle.kp_image.proofs.Given.{starts}
 use Rattle.kp_genshow.specs.Line.{totals_line}
-use Rattle.kp_ready.proofs.Summing.{summed_is_due}
+use Rattle.kp_ready.proofs.Summed.{summed_is_due}
 use Rattle.kp_ready.proofs.summing.summed.Goals as goal
 
 pub synth-requires-clause-suits : goal.synth-requires-clause-suits
