@@ -341,6 +341,9 @@ seq_passes word h = known_refused known_forms (codes "seq") counted (word ∷ []
 sim_passes : (word : Text) → begins_with_dash word ≡ false → fault_of (program_of known_forms) (codes "sim" ∷ word ∷ []) ≡ []
 sim_passes word h = known_refused known_forms (codes "sim") counted (word ∷ []) refl refl ∙ counted_passes (codes "sim") word h
 
+vcd_passes : (word : Text) → begins_with_dash word ≡ false → fault_of (program_of known_forms) (codes "vcd" ∷ word ∷ []) ≡ []
+vcd_passes word h = known_refused known_forms (codes "vcd") counted (word ∷ []) refl refl ∙ counted_passes (codes "vcd") word h
+
 watch_passes : (word : Text) → begins_with_dash word ≡ false → fault_of (program_of known_forms) (codes "watch" ∷ word ∷ []) ≡ []
 watch_passes word h = known_refused known_forms (codes "watch") counted (word ∷ []) refl refl ∙ counted_passes (codes "watch") word h
 
@@ -368,23 +371,25 @@ plain_unmatched name refused =
     go false false false true e p f r = absurd (named (codes "read") r read_passes)
     go false false false false e p f r = rw (e, p, f, r) refl
 
-counted_none : (name : Text) (count : Option ℕ) → bytes_eq name (codes "seq") ≡ false → bytes_eq name (codes "sim") ≡ false → bytes_eq name (codes "watch") ≡ false
-    → option_and_then (counted_command name) count ≡ None
-counted_none name None e f g = refl
-counted_none name (Some count) e f g = rw (e, f, g) refl
+counted_none : (name : Text) (count : Option ℕ) → bytes_eq name (codes "seq") ≡ false → bytes_eq name (codes "sim") ≡ false → bytes_eq name (codes "vcd") ≡ false
+    → bytes_eq name (codes "watch") ≡ false → option_and_then (counted_command name) count ≡ None
+counted_none name None e f g i = refl
+counted_none name (Some count) e f g i = rw (e, f, g, i) refl
 
 counted_unmatched : (name word : Text) → begins_with_dash word ≡ false → (IsPassed (name ∷ word ∷ []) → ⊥) → option_and_then (counted_command name) (count_of word) ≡ None
-counted_unmatched name word h refused = go (bytes_eq name (codes "seq")) (bytes_eq name (codes "sim")) (bytes_eq name (codes "watch")) refl refl refl
+counted_unmatched name word h refused =
+    go (bytes_eq name (codes "seq")) (bytes_eq name (codes "sim")) (bytes_eq name (codes "vcd")) (bytes_eq name (codes "watch")) refl refl refl refl
   where
     named : (it : List ℕ) → bytes_eq name it ≡ true → IsPassed (it ∷ word ∷ []) → ⊥
     named it e passes = refused (subst (λ n. IsPassed (n ∷ word ∷ [])) (has_name name it e) passes)
 
-    go : (seq sim watch : Bool) → bytes_eq name (codes "seq") ≡ seq → bytes_eq name (codes "sim") ≡ sim → bytes_eq name (codes "watch") ≡ watch
-        → option_and_then (counted_command name) (count_of word) ≡ None
-    go true sim watch e f g = absurd (named (codes "seq") e (seq_passes word h))
-    go false true watch e f g = absurd (named (codes "sim") f (sim_passes word h))
-    go false false true e f g = absurd (named (codes "watch") g (watch_passes word h))
-    go false false false e f g = counted_none name (count_of word) e f g
+    go : (seq sim vcd watch : Bool) → bytes_eq name (codes "seq") ≡ seq → bytes_eq name (codes "sim") ≡ sim → bytes_eq name (codes "vcd") ≡ vcd
+        → bytes_eq name (codes "watch") ≡ watch → option_and_then (counted_command name) (count_of word) ≡ None
+    go true sim vcd watch e f g i = absurd (named (codes "seq") e (seq_passes word h))
+    go false true vcd watch e f g i = absurd (named (codes "sim") f (sim_passes word h))
+    go false false true watch e f g i = absurd (named (codes "vcd") g (vcd_passes word h))
+    go false false false true e f g i = absurd (named (codes "watch") i (watch_passes word h))
+    go false false false false e f g i = counted_none name (count_of word) e f g i
 
 seeded_none : (name : Text) (seed count : Option ℕ) → bytes_eq name (codes "gen") ≡ false → seeded_command name seed count ≡ None
 seeded_none name None count e = refl
@@ -423,7 +428,8 @@ plain_barred name h =
 
 counted_barred : (name : Text) (count : Option ℕ) → is_barred name ≡ true → option_and_then (counted_command name) count ≡ None
 counted_barred name count h =
-    counted_none name count (not_named name (codes "seq") h refl) (not_named name (codes "sim") h refl) (not_named name (codes "watch") h refl)
+    counted_none name count (not_named name (codes "seq") h refl) (not_named name (codes "sim") h refl) (not_named name (codes "vcd") h refl)
+    (not_named name (codes "watch") h refl)
 
 never_and : (b : Bool) (number : Option ℕ) → cond (b && false) number None ≡ None
 never_and true number = refl

@@ -4,7 +4,7 @@ use Rattle.std.specs.Str.{bytes_eq}
 use Rattle.kp_bits.specs.Literals.{number_of}
 use Rattle.kp_words.specs.declared.words.Command.{Command}
 use Rattle.kp_words.specs.declared.words.Command.TheVariants.{OnJob, Assemble, Read, Watch, Generate}
-use Rattle.kp_words.specs.declared.words.JobCommand.TheVariants.{Seq, Check, Sim, Pipe}
+use Rattle.kp_words.specs.declared.words.JobCommand.TheVariants.{Seq, Check, Sim, Vcd, Pipe}
 
 abbrev pub at_most : ℕ → ℕ → Option ℕ
 at_most most number = if nat_le number most then Some number else None
@@ -27,7 +27,8 @@ abbrev pub counted_command : List ℕ → ℕ → Option Command
 counted_command name count =
     if bytes_eq name (codes "seq") then Some (OnJob (Seq count))
     else (if bytes_eq name (codes "sim") then Some (OnJob (Sim count))
-    else (if bytes_eq name (codes "watch") then Some (Watch count) else None))
+    else (if bytes_eq name (codes "vcd") then Some (OnJob (Vcd count))
+    else (if bytes_eq name (codes "watch") then Some (Watch count) else None)))
 
 -- the command of this name alone
 abbrev pub plain_command : List ℕ → Option Command

@@ -25,6 +25,8 @@ pub enum JobCommand {
     Check,
     /// The rows of so many cycles of the pipelined machine, with the counts and the state after them.
     Sim(u32),
+    /// The changes of the pipelined machine over so many cycles, as a dump in the VCD form (IEEE 1364-2005, clause 18).
+    Vcd(u32),
     /// The pipelined machine as a Verilog module.
     Pipe,
 }
@@ -103,6 +105,7 @@ impl Command {
         match name {
             "seq" => Some(Command::OnJob(JobCommand::Seq(count))),
             "sim" => Some(Command::OnJob(JobCommand::Sim(count))),
+            "vcd" => Some(Command::OnJob(JobCommand::Vcd(count))),
             "watch" => Some(Command::Watch(count)),
             _ => None,
         }
@@ -168,6 +171,7 @@ fn with_pipeline<'a>(
 {
     program
         .subcommand(with_number(alloc, "sim")?)?
+        .subcommand(with_number(alloc, "vcd")?)?
         .subcommand(alone(alloc, "pipe"))
 }
 

@@ -34,6 +34,7 @@ abbrev pub pipeline_forms : List Form
 pipeline_forms =
     job_forms
     ++ record { name = codes "sim"; numbers = counted }
+    ∷ record { name = codes "vcd"; numbers = counted }
     ∷ record { name = codes "pipe"; numbers = plain }
     ∷ []
 
