@@ -7,6 +7,7 @@ use Rattle.kp_show.specs.Texts.{bad_words, refusal_line, accepted_line}
 use Rattle.kp_show.specs.States.{sequential_text}
 use Rattle.kp_show.specs.Runs.{sim_text}
 use Rattle.kp_genshow.specs.Line.{gen_text}
+use Rattle.kp_dump.specs.Dumps.{vcd_text}
 use Rattle.kp_due.specs.Saying.{Says}
 use Rattle.kp_due.specs.Due.{DueFor}
 use Rattle.kp_due.specs.Written.{IsVerilogOf}
@@ -20,6 +21,7 @@ AnswerSays (answers.Refused refusal) = Says 2 (refusal_line refusal)
 AnswerSays (answers.Misread refusal) = Says 6 (refusal_line refusal)
 AnswerSays (answers.After steps) = Says 0 (sequential_text steps.count steps.job.design.job)
 AnswerSays (answers.Simulation steps) = Says 0 (sim_text steps.count steps.job.design.job)
+AnswerSays (answers.Dump steps) = Says 0 (vcd_text steps.count steps.job.design.job)
 AnswerSays (answers.Pipelined job) = λ status text. (status ≡ 0) × IsVerilogOf job.design.job text
 AnswerSays (answers.Checked design) = Says 0 (accepted_line design.job.name.name (summary_of design.job))
 AnswerSays (answers.Image section) = Says 0 section.items

@@ -26,6 +26,8 @@ pub enum Answer {
     After(Steps),
     /// The run of the pipelined machine over so many cycles.
     Simulation(Steps),
+    /// The changes of the pipelined machine over so many cycles.
+    Dump(Steps),
     /// The Verilog of the pipelined machine.
     Pipelined(Accepted),
     /// The numbers of a job that breaks no rule.

@@ -64,6 +64,7 @@ fn answer_to(command: JobCommand, job: Accepted) -> Answer
         JobCommand::Seq(count) => Answer::After(Steps { count, job }),
         JobCommand::Check => Answer::Checked(job.design),
         JobCommand::Sim(count) => Answer::Simulation(Steps { count, job }),
+        JobCommand::Vcd(count) => Answer::Dump(Steps { count, job }),
         JobCommand::Pipe => Answer::Pipelined(job),
     }
 }

@@ -12,7 +12,7 @@ use Rattle.kp_asm.specs.Image.{image_text_of}
 use Rattle.kp_words.specs.declared.words.Command.{Command}
 use Rattle.kp_words.specs.declared.words.Command.TheVariants.{OnJob, Assemble, Read, Watch, Generate}
 use Rattle.kp_words.specs.declared.words.JobCommand.{JobCommand}
-use Rattle.kp_words.specs.declared.words.JobCommand.TheVariants.{Seq, Check, Sim, Pipe}
+use Rattle.kp_words.specs.declared.words.JobCommand.TheVariants.{Seq, Check, Sim, Pipe, Vcd}
 use Rattle.kp_words.specs.Words.{command_of}
 use Rattle.kp_judge.specs.Judging.{most_bytes, too_long}
 use Rattle.kp_judge.proofs.Verdicts.{one_verdict, some_verdict, one_head, some_head}
@@ -20,6 +20,7 @@ use Rattle.kp_show.specs.Texts.{bad_words, refusal_line, accepted_line}
 use Rattle.kp_show.specs.States.{sequential_text}
 use Rattle.kp_show.specs.Runs.{sim_text}
 use Rattle.kp_genshow.specs.Line.{gen_text}
+use Rattle.kp_dump.specs.Dumps.{vcd_text}
 use Rattle.kp_net.specs.Netlist.{Net}
 use Rattle.kp_vlog.specs.Canon.{canon}
 use Rattle.kp_vlog.specs.Rules.{Fault}
@@ -39,6 +40,7 @@ said_of_job : (command : JobCommand) (job : Job) (s t : ℕ) (x y : List ℕ) �
 said_of_job (Seq count) job s t x y (a, b) (c, d) = (a ∙ sym c, λ other. b ∙ sym d)
 said_of_job Check job s t x y (a, b) (c, d) = (a ∙ sym c, λ other. b ∙ sym d)
 said_of_job (Sim count) job s t x y (a, b) (c, d) = (a ∙ sym c, λ other. b ∙ sym d)
+said_of_job (Vcd count) job s t x y (a, b) (c, d) = (a ∙ sym c, λ other. b ∙ sym d)
 said_of_job Pipe job s t x y (a, b) (c, d) = (a ∙ sym c, λ other. absurd (other refl))
 
 said_of_verdict : (command : JobCommand) (v : Result Job Refusal) (s t : ℕ) (x y : List ℕ) → DueOfVerdict command v s x → DueOfVerdict command v t y → (s ≡ t) × SameText (Some (OnJob command)) x y
@@ -109,6 +111,7 @@ job_said : (command : JobCommand) (job : Job) → (Some (OnJob command) ≡ Some
 job_said (Seq count) job other = (0, sequential_text count job, (refl, refl))
 job_said Check job other = (0, accepted_line job.name.name (summary_of job), (refl, refl))
 job_said (Sim count) job other = (0, sim_text count job, (refl, refl))
+job_said (Vcd count) job other = (0, vcd_text count job, (refl, refl))
 job_said Pipe job other = absurd (other refl)
 
 verdict_said : (command : JobCommand) (v : Result Job Refusal) → (Some (OnJob command) ≡ Some (OnJob Pipe) → ⊥) → (s : ℕ) × (x : List ℕ) × DueOfVerdict command v s x

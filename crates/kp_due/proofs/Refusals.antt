@@ -6,7 +6,7 @@ use Rattle.kp_ast.specs.declared.tree.Job.{Job}
 use Rattle.kp_words.specs.declared.words.Command.{Command}
 use Rattle.kp_words.specs.declared.words.Command.TheVariants.{OnJob, Assemble, Read, Watch, Generate}
 use Rattle.kp_words.specs.declared.words.JobCommand.{JobCommand}
-use Rattle.kp_words.specs.declared.words.JobCommand.TheVariants.{Seq, Check, Sim, Pipe}
+use Rattle.kp_words.specs.declared.words.JobCommand.TheVariants.{Seq, Check, Sim, Pipe, Vcd}
 use Rattle.kp_judge.proofs.Verdicts.{one_verdict, one_head}
 use Rattle.kp_net.specs.Netlist.{Net}
 use Rattle.kp_show.specs.Texts.{refusal_line}
@@ -20,6 +20,7 @@ not_of_job : (command : JobCommand) (job : Job) (text : List ℕ) → DueOfJob c
 not_of_job (Seq count) job text said = omega (arith, said.0)
 not_of_job Check job text said = omega (arith, said.0)
 not_of_job (Sim count) job text said = omega (arith, said.0)
+not_of_job (Vcd count) job text said = omega (arith, said.0)
 not_of_job Pipe job text said = omega (arith, said.0)
 
 not_of_verilog : (verdict : Result Net Refusal) (text : List ℕ) → DueOfVerilog verdict 2 text → ⊥

@@ -10,13 +10,14 @@ use Rattle.kp_asm.specs.Program.{assembled}
 use Rattle.kp_words.specs.declared.words.Command.{Command}
 use Rattle.kp_words.specs.declared.words.Command.TheVariants.{OnJob, Assemble, Read, Watch, Generate}
 use Rattle.kp_words.specs.declared.words.JobCommand.{JobCommand}
-use Rattle.kp_words.specs.declared.words.JobCommand.TheVariants.{Seq, Check, Sim, Pipe}
+use Rattle.kp_words.specs.declared.words.JobCommand.TheVariants.{Seq, Check, Sim, Pipe, Vcd}
 use Rattle.kp_words.specs.Words.{command_of, reads_input}
 use Rattle.kp_judge.specs.Judging.{Judges, too_long}
 use Rattle.kp_show.specs.Texts.{bad_words, refusal_line, accepted_line}
 use Rattle.kp_show.specs.States.{sequential_text}
 use Rattle.kp_show.specs.Runs.{sim_text}
 use Rattle.kp_genshow.specs.Line.{gen_text}
+use Rattle.kp_dump.specs.Dumps.{vcd_text}
 use Rattle.kp_due.specs.Saying.{Says}
 use Rattle.kp_due.specs.Written.{IsVerilogOf}
 use Rattle.kp_due.specs.Read.{DueOfRead}
@@ -27,6 +28,7 @@ abbrev pub DueOfJob : JobCommand → Job → ℕ → List ℕ → Type 0
 DueOfJob (Seq count) job = Says 0 (sequential_text count job)
 DueOfJob Check job = Says 0 (accepted_line job.name.name (summary_of job))
 DueOfJob (Sim count) job = Says 0 (sim_text count job)
+DueOfJob (Vcd count) job = Says 0 (vcd_text count job)
 DueOfJob Pipe job = λ status text. (status ≡ 0) × IsVerilogOf job text
 
 -- what a command says of a verdict on its input

@@ -9,6 +9,7 @@ use Rattle.kp_show.specs.Texts.{bad_words, refusal_line, accepted_line}
 use Rattle.kp_show.specs.States.{text_after}
 use Rattle.kp_show.specs.Runs.{run_text}
 use Rattle.kp_genshow.specs.Line.{totals_line}
+use Rattle.kp_vcd.specs.Text.{dump_text}
 use Rattle.kp_decide.specs.declared.answer.Answer.{Answer}
 use Rattle.kp_decide.specs.Answers.{AnswerSays}
 use Rattle.kp_ready.specs.Watching.{watched_status, watched_text}
@@ -21,6 +22,7 @@ ready_status (readies.Refused refusal) = 2
 ready_status (readies.Misread refusal) = 6
 ready_status (readies.After run) = 0
 ready_status (readies.Ran board) = 0
+ready_status (readies.Dumped dump) = 0
 ready_status (readies.Verilog net) = 0
 ready_status (readies.Checked design) = 0
 ready_status (readies.Image section) = 0
@@ -35,6 +37,7 @@ ready_text (readies.Misread refusal) = refusal_line refusal
 ready_text (readies.After run) = text_after run.count run.design.now.job.decls (state run.machine)
 ready_text (readies.Ran board) =
     run_text board.design.now.job (rows_seen board.design.now.job.stages.value board.cycles.rows.items) (due_behind board.design.now.job board.cycles.rows.items)
+ready_text (readies.Dumped dump) = dump_text dump
 ready_text (readies.Verilog net) = canon net
 ready_text (readies.Checked design) = accepted_line design.now.job.name.name (summary_of design.now.job)
 ready_text (readies.Image section) = section.now

@@ -6,6 +6,7 @@
 #![tactic(auto)]
 
 mod comparing;
+mod dumping;
 mod ready;
 mod simulating;
 mod stepping;

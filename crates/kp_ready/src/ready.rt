@@ -3,6 +3,7 @@ ghost use Rattle.std.specs.Prelude.{IfOk};
 ghost use Rattle.kp_ready.specs.Readies.{Tells};
 
 use crate::comparing::compared;
+use crate::dumping::dumped;
 use crate::simulating::simulated;
 use crate::stepping::{Run, run_of};
 use crate::summing::summed;
@@ -14,6 +15,7 @@ use kp_genshow::Totals;
 use kp_net::Netlist;
 use kp_run::Board;
 use kp_stage::Design;
+use kp_vcd::Dump;
 use std::alloc::Global;
 
 /// An answer that is ready to be written: from here on no memory is taken.
@@ -24,6 +26,7 @@ pub enum Ready<'a> {
     Misread(Refusal),
     After(Run<'a>),
     Ran(Board<'a>),
+    Dumped(Dump),
     Verilog(Netlist),
     Checked(&'a Design),
     Image(&'a [u8]),
@@ -44,6 +47,7 @@ pub fn made_ready(alloc: Global, answer: &Answer) -> Result<Ready<'_>, NoMemory>
         Answer::Misread(refusal) => Ok(Ready::Misread(*refusal)),
         Answer::After(steps) => Ok(Ready::After(run_of(alloc, steps.count, &steps.job)?)),
         Answer::Simulation(steps) => Ok(Ready::Ran(simulated(alloc, steps.count, &steps.job)?)),
+        Answer::Dump(steps) => Ok(Ready::Dumped(dumped(alloc, steps.count, &steps.job)?)),
         Answer::Pipelined(job) => Ok(Ready::Verilog(pipelined(alloc, job)?)),
         Answer::Checked(design) => Ok(Ready::Checked(design)),
         Answer::Image(section) => Ok(Ready::Image(section.as_slice())),

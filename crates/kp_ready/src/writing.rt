@@ -10,6 +10,7 @@ use crate::watched::Watched;
 use kp_base::{Sink, SinkFault, write_all};
 use kp_genshow::write_totals;
 use kp_show::{write_accepted, write_board, write_difference, write_refusal, write_run_after};
+use kp_vcd::write_dump;
 use kp_vwrite::write_verilog;
 
 impl Ready<'_> {
@@ -38,6 +39,10 @@ impl Ready<'_> {
             }
             Ready::Ran(board) => {
                 write_board(board, sink)?;
+                Ok(0)
+            }
+            Ready::Dumped(dump) => {
+                write_dump(dump, sink)?;
                 Ok(0)
             }
             Ready::Verilog(net) => {

@@ -77,6 +77,7 @@ final (readies.Refused refusal) = (λ e. omega arith, λ e. omega arith, λ e. o
 final (readies.Misread refusal) = (λ e. omega arith, λ e. omega arith, λ e. omega arith)
 final (readies.After run) = (λ e. omega arith, λ e. omega arith, λ e. omega arith)
 final (readies.Ran board) = (λ e. omega arith, λ e. omega arith, λ e. omega arith)
+final (readies.Dumped dump) = (λ e. omega arith, λ e. omega arith, λ e. omega arith)
 final (readies.Verilog net) = (λ e. omega arith, λ e. omega arith, λ e. omega arith)
 final (readies.Checked design) = (λ e. omega arith, λ e. omega arith, λ e. omega arith)
 final (readies.Image section) = (λ e. omega arith, λ e. omega arith, λ e. omega arith)

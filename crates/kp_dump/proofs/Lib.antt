@@ -1,0 +1,5 @@
+pub mod Masks
+pub mod Placing
+pub mod Whole
+pub mod Naming
+pub mod Lasting

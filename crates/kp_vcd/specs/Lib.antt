@@ -1,0 +1,4 @@
+pub mod Name
+pub mod Text
+pub mod Held
+pub mod Recording
