@@ -136,5 +136,5 @@ never_two NoMemory status is two = omega arith
 
 pub never_final : (stop : Stop) (status : ℕ) → status ≡ stop_status stop → IsFinal status → ⊥
 never_final ReadFault status is final = final.0 is
-never_final WriteFault status is final = final.1.0 is
-never_final NoMemory status is final = final.1.1 is
+never_final WriteFault status is final = final.1 is
+never_final NoMemory status is final = final.2 is
