@@ -1,19 +1,12 @@
--- The names and the widths of signals.
-use Rattle.std.proofs.Common.{◌≡◌, ◌∙◌, ℕ, zero, suc, ◌+◌, ◌<◌, ◌≤◌, List, [], ◌∷◌, ◌++◌, length, get_or, drop, true, refl, ap, sym, append_assoc, arith}
-use Rattle.std.specs.Prelude.{All}
-use Rattle.std.specs.List.{list_all}
-use Rattle.std.proofs.lemmas.Bool.{and_parts, or_left}
-use Rattle.std.proofs.lemmas.List.Elements.{All-nil, All-cons}
+-- The widths of registers, and the signals of declarations.
+use Rattle.std.proofs.Common.{◌≡◌, ◌∙◌, ℕ, zero, suc, ◌+◌, ◌<◌, ◌≤◌, List, [], ◌∷◌, ◌++◌, length, get_or, drop, refl, ap, sym, append_assoc, arith}
 use Rattle.std.proofs.lemmas.List.{drop_more}
-use Rattle.kp_base.specs.Characters.{is_digit, is_letter, is_word}
-use Rattle.kp_ast.specs.Name.{IsName}
 use Rattle.kp_ast.specs.declared.tree.Decl.{Decl}
 use Rattle.kp_ast.specs.declared.tree.Decl.TheVariants as decls
 use Rattle.kp_ast.specs.declared.tree.Named.{Named}
 use Rattle.kp_ast.specs.declared.tree.Num.{Num}
 use Rattle.kp_ast.specs.declared.tree.Lit.{Lit}
 use Rattle.kp_machine.proofs.Widths.{Fine}
-use Rattle.kp_vcd.specs.Name as dumped
 use Rattle.kp_vcd.specs.declared.dump.Signal.{Signal}
 use Rattle.kp_dump.specs.Dumps.{register, register_signals}
 
@@ -33,24 +26,6 @@ width_at (_ ∷ ds) (suc i) d n width start fine h e = width_at ds i d n width s
 -- the width of a register
 pub width_fits : (ds : List Decl) (i : ℕ) (x : Decl) (n : Named) (width : Num) (start : Lit) → Fine ds → i < length ds → x ≡ get_or ds i x → x ≡ decls.Reg n width start → width.value ≤ 64
 width_fits ds i x n width start fine h is e = width_at ds i x n width start fine h (sym is ∙ e)
-
-abbrev spelled_by : ℕ → Type 0
-spelled_by byte = is_word byte ≡ true
-
-all_spelled : (bytes : List ℕ) → list_all is_word bytes ≡ true → All spelled_by bytes
-all_spelled [] e = All-nil spelled_by
-all_spelled (b ∷ bytes) e = let both = and_parts (is_word b) (list_all is_word bytes) e in All-cons spelled_by b bytes both.0 (all_spelled bytes both.1)
-
--- a name that is written out
-pub named : (bytes : List ℕ) → length bytes ≤ 66 → list_all is_word bytes ≡ true → dumped.IsName bytes
-named bytes few e = record { within = few; spelled = all_spelled bytes e }
-
--- a name behind a letter
-pub name_behind : (letter : ℕ) (name : List ℕ) → is_letter letter ≡ true → IsName name → dumped.IsName (letter ∷ 95 ∷ name)
-name_behind letter name is_one is = record {
-  within = let h = is.within in omega (arith, h);
-  spelled = All-cons spelled_by letter (95 ∷ name) (or_left (is_letter letter) (is_digit letter) is_one) (All-cons spelled_by 95 name refl is.spelled);
-}
 
 module _ (ds : List Decl) (i : ℕ) (x : Decl) (h : i < length ds) (is : x ≡ get_or ds i x) where
   pub signals_next : register_signals (drop i ds) ≡ register_signals (x ∷ drop (i + 1) ds)

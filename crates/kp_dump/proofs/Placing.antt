@@ -1,6 +1,6 @@
 -- Where a netlist keeps the registers of its job, and what it shows there.
 use Rattle.std.proofs.Common.{◌≡◌, ◌∙◌, ℕ, zero, suc, ◌+◌, ◌<◌, ◌≤◌, List, [], ◌∷◌, length, get_or, drop, true, Some, refl, ap, ap₂, sym, subst, arith}
-use Rattle.std.proofs.lemmas.List.{drop-drop, drop_more}
+use Rattle.std.proofs.lemmas.List.{drop-drop}
 use Rattle.kp_bits.specs.Word.{Word, word}
 use Rattle.kp_ast.specs.declared.tree.Decl.{Decl}
 use Rattle.kp_ast.specs.declared.tree.Decl.TheVariants as decls
@@ -88,9 +88,3 @@ alike_from f g (_ ∷ ds) t h = alike_from f g ds t h
 
 pub registers_alike : (job : Job) (f g : ℕ → ℕ) → ((t : ℕ) → t < length (targets_of job.decls) → f t ≡ g t) → register_values f 0 job.decls ≡ register_values g 0 job.decls
 registers_alike job f g h = alike_from f g job.decls 0 (λ u l. h u (omega (arith, l)))
-
--- ---- a list of places, one declaration after another
-
-module _ (names : List (List ℕ)) (ds : List Decl) (i : ℕ) (x : Decl) (h : i < length ds) (is : x ≡ get_or ds i x) where
-  pub places_next : places_from names (drop i ds) ≡ places_from names (x ∷ drop (i + 1) ds)
-  places_next = ap (places_from names) (drop_more ds i x h ∙ ap (λ (y : Decl). y ∷ drop (i + 1) ds) (sym is))
