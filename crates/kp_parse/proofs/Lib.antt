@@ -1,10 +1,3 @@
-pub mod Taking
-pub mod Predictive
-pub mod Picks
-pub mod Steps
-pub mod Operators
 pub mod Text
 pub mod Unique
-pub mod Ranked
-pub mod Shapes
 pub mod Verdict

@@ -12,12 +12,12 @@ use Rattle.kp_lex.specs.declared.token.Lexed.{Lexed}
 use Rattle.kp_lex.specs.Text.{HasOutcome, StandsIn, IsIdentifier}
 use Rattle.kp_lex.proofs.Stands.{tokens_stand}
 use Rattle.kp_lex.proofs.Names.{name_is_identifier}
-use Rattle.kp_parse.specs.Tokens.{Lexeme, IsSpelled, lexemes}
-use Rattle.kp_parse.specs.Language.{State, Way, JOB, job, language, at, is_over}
-use Rattle.kp_parse.specs.inner.Follow.{tables}
-use Rattle.kp_parse.specs.inner.Reading.{JobGoes}
+use Rattle.kp_syntax.specs.Tokens.{Lexeme, IsSpelled, lexemes}
+use Rattle.kp_syntax.specs.Language.{State, Way, JOB, job, language, at, is_over}
+use Rattle.kp_syntax.specs.inner.Follow.{tables}
+use Rattle.kp_syntax.specs.Reading.{JobGoes}
 use Rattle.kp_parse.specs.Sentence.{IsTree, IsWrong, IsTooDeep, place_from}
-use Rattle.kp_parse.proofs.Predictive.{is_predictive}
+use Rattle.kp_syntax.proofs.Predictive.{is_predictive}
 
 stays : (way : Way) (t : Lexeme) (v : State) → is_over v ≡ true → is_over (language.reads way t v) ≡ true
 stays way t v h = rw h refl

@@ -7,14 +7,14 @@ use Rattle.kp_grammar.specs.Machine.{Outcome, Accepts, Stops, Exceeds, Leads, ac
 use Rattle.kp_grammar.proofs.Check.{decides}
 use Rattle.kp_grammar.proofs.Ends.{ends}
 use Rattle.kp_lex.specs.declared.token.Token.{Token}
-use Rattle.kp_parse.specs.Tokens.{Lexeme, lexemes}
-use Rattle.kp_parse.specs.Language.{JOB, Sym, State, language, rules, at, is_over}
-use Rattle.kp_parse.specs.inner.Follow.{tables}
-use Rattle.kp_parse.specs.inner.Reading.{JobGoes}
+use Rattle.kp_syntax.specs.Tokens.{Lexeme, lexemes}
+use Rattle.kp_syntax.specs.Language.{JOB, Sym, State, language, rules, at, is_over}
+use Rattle.kp_syntax.specs.inner.Follow.{tables}
+use Rattle.kp_syntax.specs.Reading.{JobGoes}
 use Rattle.kp_parse.specs.Sentence.{IsTree, Breaks}
-use Rattle.kp_parse.proofs.Predictive.{is_predictive}
-use Rattle.kp_parse.proofs.Ranked.{rank, is_ranked}
-use Rattle.kp_parse.proofs.Shapes.{reads_job}
+use Rattle.kp_syntax.proofs.Predictive.{is_predictive}
+use Rattle.kp_syntax.proofs.Ranked.{rank, is_ranked}
+use Rattle.kp_syntax.proofs.Shapes.{reads_job}
 use Rattle.kp_parse.proofs.Text.{is_tree, is_wrong, is_too_deep}
 
 -- how many tokens are left where reading ends

@@ -1,4 +1,1 @@
-pub mod Tokens
-pub mod Language
 pub mod Sentence
-pub mod inner

@@ -10,8 +10,8 @@ use Rattle.kp_ast.specs.declared.tree.Job.{Job}
 use Rattle.kp_grammar.specs.Grammar.{IsSentence, IsWrongAt, IsWithin, IsOverAt}
 use Rattle.kp_lex.specs.declared.token.Token.{Token}
 use Rattle.kp_parse.specs.declared.job.Parsed.{Parsed}
-use Rattle.kp_parse.specs.Tokens.{lexemes}
-use Rattle.kp_parse.specs.Language.{JOB, language, job, at, is_over}
+use Rattle.kp_syntax.specs.Tokens.{lexemes}
+use Rattle.kp_syntax.specs.Language.{JOB, language, job, at, is_over}
 
 -- The tokens are a sentence of the language, and this job is its tree; no nesting count passes the limit.
 abbrev pub IsTree : List ℕ → List Token → Job → Type 0

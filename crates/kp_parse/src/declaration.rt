@@ -3,17 +3,15 @@ ghost use Rattle.std.specs.Prelude.{◌≡◌, ◌==◌, [], ◌∷◌, length, 
 ghost use Rattle.kp_grammar.specs.Grammar.{Nonterminal};
 ghost use Rattle.kp_grammar.specs.Tables.{among};
 ghost use Rattle.kp_lex.specs.declared.token.Keyword.TheVariants as keywords;
-ghost use Rattle.kp_parse.specs.Tokens.{keyword_class};
-ghost use Rattle.kp_parse.specs.inner.Follow.{decl_words};
-ghost use Rattle.kp_parse.specs.Language.{decls, decl as decl_value, param as param_value, params as params_value, perhaps_named, DECLS, DECL, INDEX, ENABLE, PAR, PARS};
-ghost use Rattle.kp_parse.specs.inner.Reading.{class_at, Turns, Ends};
+ghost use Rattle.kp_syntax.specs.Tokens.{keyword_class};
+ghost use Rattle.kp_syntax.specs.inner.Follow.{decl_words};
+ghost use Rattle.kp_syntax.specs.Language.{decls, decl as decl_value, param as param_value, params as params_value, perhaps_named, DECLS, DECL, INDEX, ENABLE, PAR, PARS};
+ghost use Rattle.kp_syntax.specs.Reading.{class_at, Turns, Ends};
 
-use crate::expression::whole_expression;
-use crate::fault::Fault;
-use crate::tokens::Tokens;
 use kp_ast::{Decl, FuncDecl, Named, Param, ResultDecl};
 use kp_base::List;
 use kp_lex::{Keyword, Mark, TokenKind};
+use kp_syntax::{Fault, Tokens, whole_expression};
 use std::alloc::Global;
 
 /// All declarations that stand here, and the number of the next token. Each takes a token at least.

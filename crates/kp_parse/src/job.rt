@@ -4,18 +4,17 @@ ghost use Rattle.kp_grammar.specs.Machine.{Accepts};
 ghost use Rattle.kp_lex.specs.Text.{HasOutcome};
 ghost use Rattle.kp_base.specs.declared.refusal.Refused.TheVariants as refused;
 ghost use Rattle.kp_ast.specs.declared.tree.Job.{Job as JobTree};
-ghost use Rattle.kp_parse.specs.Language.{job as job_value, at as state_at};
-ghost use Rattle.kp_parse.specs.inner.Reading.{JobGoes, FaultIs};
+ghost use Rattle.kp_syntax.specs.Language.{job as job_value, at as state_at};
+ghost use Rattle.kp_syntax.specs.Reading.{JobGoes, FaultIs};
 ghost use Rattle.kp_parse.specs.Sentence.{IsTree, AnswersTree, place_from};
 
 use crate::declaration::declarations;
-use crate::fault::Fault;
 use crate::sections::{image_section, input_section, stall_section};
 use crate::stage::{stage, stages};
-use crate::tokens::Tokens;
 use kp_ast::Job;
 use kp_base::{List, Place, Refusal, Refused, place_of};
 use kp_lex::{Keyword, Lexed, Mark, Token};
+use kp_syntax::{Fault, Tokens};
 use std::alloc::Global;
 
 /// A job, and the offset behind its `end`.

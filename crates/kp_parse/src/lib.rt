@@ -2,13 +2,9 @@
 #![tactic(auto)]
 
 mod declaration;
-mod expression;
-mod fault;
 mod job;
 pub mod laws;
-mod level;
 mod sections;
 mod stage;
-mod tokens;
 
 pub use job::{Parsed, parse};

@@ -1,14 +1,13 @@
 // The sections behind the stages.
 ghost use Rattle.std.specs.Prelude.{◌≡◌, ◌==◌, [], ◌∷◌, MatchResult, option_map, true, false};
 ghost use Rattle.kp_grammar.specs.Grammar.{Nonterminal};
-ghost use Rattle.kp_parse.specs.Language.{perhaps_images, images as images_value, image as image_value, perhaps_stalls, stalls as stalls_value, stall as stall_value, perhaps_inputs, inputs as inputs_value, input as input_value, perhaps_number, literals as literals_value, IMAGE, WORDS, WORD, NUMBERED, LITS, STALLS, SPANS, SPAN, STEP, INPUTS, ENTRIES, ENTRY};
-ghost use Rattle.kp_parse.specs.inner.Reading.{class_at, Turns, Ends};
+ghost use Rattle.kp_syntax.specs.Language.{perhaps_images, images as images_value, image as image_value, perhaps_stalls, stalls as stalls_value, stall as stall_value, perhaps_inputs, inputs as inputs_value, input as input_value, perhaps_number, literals as literals_value, IMAGE, WORDS, WORD, NUMBERED, LITS, STALLS, SPANS, SPAN, STEP, INPUTS, ENTRIES, ENTRY};
+ghost use Rattle.kp_syntax.specs.Reading.{class_at, Turns, Ends};
 
-use crate::fault::Fault;
-use crate::tokens::Tokens;
 use kp_ast::{Image, Inputs, Lit, Num, Stalls};
 use kp_base::List;
 use kp_lex::{Keyword, Mark};
+use kp_syntax::{Fault, Tokens};
 use std::alloc::Global;
 
 /// The image section, if it stands here, and the number of the next token.

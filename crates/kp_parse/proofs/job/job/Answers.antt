@@ -1,9 +1,9 @@
 use Rattle.std.proofs.Common.{arith, length-drop}
 use Rattle.std.proofs.lemmas.Result.{err_from_is_err_and}
 use Rattle.kp_grammar.specs.Machine.{make}
-use Rattle.kp_parse.specs.Tokens.{Lexeme}
-use Rattle.kp_parse.proofs.Steps.{by_dropped, miss_job, end_job, follow_job, accepted}
-use Rattle.kp_parse.proofs.Picks.{job_all}
+use Rattle.kp_syntax.specs.Tokens.{Lexeme}
+use Rattle.kp_syntax.proofs.Steps.{by_dropped, miss_job, end_job, follow_job, accepted}
+use Rattle.kp_syntax.proofs.Picks.{job_all}
 use Rattle.kp_parse.proofs.job.job.Goals as goal
 
 pub returns-in_err-_machine-clause-goes : goal.returns-in_err-_machine-clause-goes

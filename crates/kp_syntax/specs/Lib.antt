@@ -1,0 +1,4 @@
+pub mod Tokens
+pub mod Language
+pub mod Reading
+pub mod inner
