@@ -5,6 +5,7 @@ ghost use Rattle.kp_grammar.specs.Tables.{among};
 ghost use Rattle.kp_lex.specs.declared.token.Keyword.TheVariants as keywords;
 ghost use Rattle.kp_syntax.specs.Tokens.{keyword_class};
 ghost use Rattle.kp_syntax.specs.inner.Follow.{stmt_words};
+ghost use Rattle.kp_syntax.specs.inner.Stretch.{TurnsAll, EndsAll, source_symbols};
 ghost use Rattle.kp_syntax.specs.Language.{blocks, block as block_value, stmts, stmt as stmt_value, named as named_value, expr as expr_value, perhaps_expr, STAGE, STAGES, STMTS, STMT, BINDING, ADDRESS, HEDGE, WHEN};
 ghost use Rattle.kp_syntax.specs.Reading.{class_at, Turns, Ends};
 
@@ -93,10 +94,7 @@ fn read(alloc: Global, tokens: &Tokens<'_>, at: usize) -> Result<(Stmt, usize), 
     let (place, next) = tokens.keyword(Keyword::Read, at)?;
     let (name, next) = tokens.name(alloc, next)?;
     let (_equals, next) = tokens.mark(Mark::Equals, next)?;
-    let (target, next) = tokens.name(alloc, next)?;
-    let (address, next) = address(alloc, tokens, next)?;
-    let (when, guess, next) = hedge(alloc, tokens, next)?;
-    let (_end, next) = tokens.mark(Mark::Semicolon, next)?;
+    let (target, address, when, guess, next) = source(alloc, tokens, next)?;
     let read = ReadStmt {
         name,
         target,
@@ -106,6 +104,21 @@ fn read(alloc: Global, tokens: &Tokens<'_>, at: usize) -> Result<(Stmt, usize), 
     };
     let kind = StmtKind::Read(read);
     Ok((Stmt { at: place, kind }, next))
+}
+
+// The target of a read, its address, its condition and its guess, and the semicolon.
+fn source(
+    alloc: Global,
+    tokens: &Tokens<'_>,
+    at: usize,
+) -> Result<(Named, Option<Expr>, Option<Expr>, Option<Expr>, usize), Fault>
+    ensures { MatchResult result (λ x. TurnsAll tokens.now source_symbols (perhaps_expr x.3 ∷ perhaps_expr x.2 ∷ perhaps_expr x.1 ∷ named_value x.0 ∷ []) at x.4 1) (EndsAll tokens.now source_symbols at) }
+{
+    let (target, next) = tokens.name(alloc, at)?;
+    let (address, next) = address(alloc, tokens, next)?;
+    let (when, guess, next) = hedge(alloc, tokens, next)?;
+    let (_end, next) = tokens.mark(Mark::Semicolon, next)?;
+    Ok((target, address, when, guess, next))
 }
 
 fn address(alloc: Global, tokens: &Tokens<'_>, at: usize) -> Result<(Option<Expr>, usize), Fault>

@@ -11,6 +11,7 @@ use Rattle.kp_syntax.specs.Tokens.{Lexeme}
 use Rattle.kp_syntax.specs.Language.{Sym, State, Value, Way, place, dropped, as_place, counts_one, opens, opens_at, closes, separates, language, EXPRS, at, is_over}
 use Rattle.kp_syntax.specs.inner.Follow.{tables}
 use Rattle.kp_syntax.specs.Reading.{Goes, Finds, FaultIs, Misses, Ends, Fails, FailsList, Follows, JobGoes}
+use Rattle.kp_syntax.specs.inner.Stretch.{FailsAll, EndsAll}
 
 fits : (c : ℕ) → c < 64 → nat_lt 64 (c + 1) ≡ false
 fits c h = le-ltb 64 (c + 1) (omega arith)
@@ -86,6 +87,12 @@ AtName ts n c i o = (s : List Sym) (cs : List ℕ) (vs : List Value) → Goes (N
 abbrev pub AtList : List Lexeme → ℕ → ℕ → Outcome State → Type 0
 AtList ts d i o = (s : List Sym) (c : ℕ) (cs : List ℕ) (vs : List Value) → d ≡ c + 1 → Goes (Nonterminal EXPRS ∷ s) (at (d ∷ c ∷ cs) vs) (drop i ts) o
 
+abbrev pub AtStretch : List Lexeme → List Sym → ℕ → Outcome State → Type 0
+AtStretch ts xs i o = (s : List Sym) (cs : List ℕ) (vs : List Value) → Goes (xs ++ s) (at cs vs) (drop i ts) o
+
+abbrev pub AtAll : List Lexeme → List Sym → ℕ → ℕ → Outcome State → Type 0
+AtAll ts xs c i o = (s : List Sym) (cs : List ℕ) (vs : List Value) → Goes (xs ++ s) (at (c ∷ cs) vs) (drop i ts) o
+
 module _ {ts : List Lexeme} {e : Fault} where
   pub miss_end : {c i' : ℕ} {x : Sym} {before : List Value} {i : ℕ} → Misses ts c i' e → ((o : Outcome State) → AtToken ts c i' o → AtSymbol ts x before i o) → Ends ts x before i e
   miss_end {c} {i'} {x} {before} {i} m f = record { ends = mapped ts (AtToken ts c i') (AtSymbol ts x before i) e m.ends f }
@@ -116,6 +123,30 @@ module _ {ts : List Lexeme} {e : Fault} where
 
   pub miss_list : {k i' d i : ℕ} → Misses ts k i' e → ((o : Outcome State) → AtToken ts k i' o → AtList ts d i o) → FailsList ts d i e
   miss_list {k} {i'} {d} {i} h f = record { ends = mapped ts (AtToken ts k i') (AtList ts d i) e h.ends f }
+
+  pub miss_stretch : {k i' i : ℕ} {xs : List Sym} → Misses ts k i' e → ((o : Outcome State) → AtToken ts k i' o → AtStretch ts xs i o) → EndsAll ts xs i e
+  miss_stretch {k} {i'} {i} {xs} h f = record { ends = mapped ts (AtToken ts k i') (AtStretch ts xs i) e h.ends f }
+
+  pub end_stretch : {y : Sym} {b : List Value} {i' i : ℕ} {xs : List Sym} → Ends ts y b i' e → ((o : Outcome State) → AtSymbol ts y b i' o → AtStretch ts xs i o) → EndsAll ts xs i e
+  end_stretch {y} {b} {i'} {i} {xs} h f = record { ends = mapped ts (AtSymbol ts y b i') (AtStretch ts xs i) e h.ends f }
+
+  pub stretch_end : {xs : List Sym} {i' : ℕ} {x : Sym} {before : List Value} {i : ℕ} → EndsAll ts xs i' e → ((o : Outcome State) → AtStretch ts xs i' o → AtSymbol ts x before i o) → Ends ts x before i e
+  stretch_end {xs} {i'} {x} {before} {i} h f = record { ends = mapped ts (AtStretch ts xs i') (AtSymbol ts x before i) e h.ends f }
+
+  pub miss_all : {k i' c i : ℕ} {xs : List Sym} → Misses ts k i' e → ((o : Outcome State) → AtToken ts k i' o → AtAll ts xs c i o) → FailsAll ts xs c i e
+  miss_all {k} {i'} {c} {i} {xs} h f = record { ends = mapped ts (AtToken ts k i') (AtAll ts xs c i) e h.ends f }
+
+  pub end_all : {y : Sym} {b : List Value} {i' c i : ℕ} {xs : List Sym} → Ends ts y b i' e → ((o : Outcome State) → AtSymbol ts y b i' o → AtAll ts xs c i o) → FailsAll ts xs c i e
+  end_all {y} {b} {i'} {c} {i} {xs} h f = record { ends = mapped ts (AtSymbol ts y b i') (AtAll ts xs c i) e h.ends f }
+
+  pub fail_all : {m b i' c i : ℕ} {xs : List Sym} → Fails ts m b i' e → ((o : Outcome State) → AtName ts m b i' o → AtAll ts xs c i o) → FailsAll ts xs c i e
+  fail_all {m} {b} {i'} {c} {i} {xs} h f = record { ends = mapped ts (AtName ts m b i') (AtAll ts xs c i) e h.ends f }
+
+  pub deep_all : {b c i k : ℕ} {xs : List Sym} → (e ≡ faults.TooDeep k) × (b ≡ 64) → AtAll ts xs c i (Exceeds (length (drop k ts))) → FailsAll ts xs c i e
+  deep_all {b} {c} {i} {k} {xs} h p = record { ends = too_deep ts (AtAll ts xs c i) k e h.0 p }
+
+  pub all_fail : {xs : List Sym} {b i' n c i : ℕ} → FailsAll ts xs b i' e → ((o : Outcome State) → AtAll ts xs b i' o → AtName ts n c i o) → Fails ts n c i e
+  all_fail {xs} {b} {i'} {n} {c} {i} h f = record { ends = mapped ts (AtAll ts xs b i') (AtName ts n c i) e h.ends f }
 
   pub miss_job : {c i' : ℕ} → Misses ts c i' e → ((o : Outcome State) → AtToken ts c i' o → JobGoes ts o) → FaultIs ts (JobGoes ts) e
   miss_job {c} {i'} m f = mapped ts (AtToken ts c i') (JobGoes ts) e m.ends f

@@ -2,3 +2,4 @@
 pub mod Follow
 pub mod Rank
 pub mod Operators
+pub mod Stretch

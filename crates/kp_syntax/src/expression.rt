@@ -8,7 +8,8 @@ ghost use Rattle.kp_lex.specs.declared.token.Keyword.TheVariants as keywords;
 ghost use Rattle.kp_syntax.specs.declared.fault.Fault.TheVariants as faults;
 ghost use Rattle.kp_syntax.specs.Tokens.{mark_class, keyword_class, IDENTIFIER, LITERAL};
 ghost use Rattle.kp_syntax.specs.inner.Operators.{operators_of, operator_at};
-ghost use Rattle.kp_syntax.specs.Language.{concat_of, expr as expr_value, number as number_value, EXPR, CHAIN, OPERAND, UNARY, POST, PRIM, EXTENDED, LOW, WHOLE};
+ghost use Rattle.kp_syntax.specs.inner.Stretch.{ReadsAll, FailsAll, branch_symbols, bound_symbols};
+ghost use Rattle.kp_syntax.specs.Language.{concat_of, place as place_value, expr as expr_value, number as number_value, EXPR, CHAIN, OPERAND, UNARY, POST, PRIM, EXTENDED, LOW, WHOLE};
 ghost use Rattle.kp_syntax.specs.Reading.{class_at, Reads, Fails, Lists, FailsList, Turns, Ends};
 
 use crate::fault::Fault;
@@ -60,13 +61,28 @@ fn expression(
     if !tokens.is_mark(Mark::Question, at) {
         return Ok((test, count, at));
     }
+    let (place, yes, no, count, next) = branches(alloc, tokens, count, at)?;
+    let made = choice(alloc, place, test, yes, no)?;
+    Ok((made, count, next))
+}
+
+// `? yes : no`, with the place of the mark.
+#[cycle(expression)]
+fn branches(
+    alloc: Global,
+    tokens: &Tokens<'_>,
+    count: u32,
+    at: usize,
+) -> Result<(Place, Expr, Expr, u32, usize), Fault>
+    requires { count ≤ 64 }
+    ensures { MatchResult result (λ x. ReadsAll tokens.now branch_symbols count (expr_value x.2 ∷ expr_value x.1 ∷ place_value x.0 ∷ []) x.3 at x.4) (FailsAll tokens.now branch_symbols count at) }
+{
     let (place, next) = tokens.mark(Mark::Question, at)?;
     let deeper = counted(count, at)?;
-    let (yes, count, at) = expression(alloc, tokens, deeper, next)?;
-    let (_colon, next) = tokens.mark(Mark::Colon, at)?;
-    let (no, count, at) = expression(alloc, tokens, count, next)?;
-    let made = choice(alloc, place, test, yes, no)?;
-    Ok((made, count, at))
+    let (yes, count, behind) = expression(alloc, tokens, deeper, next)?;
+    let (_colon, next) = tokens.mark(Mark::Colon, behind)?;
+    let (no, count, next) = expression(alloc, tokens, count, next)?;
+    Ok((place, yes, no, count, next))
 }
 
 fn choice(alloc: Global, place: Place, test: Expr, yes: Expr, no: Expr) -> Result<Expr, NoMemory>
@@ -225,17 +241,31 @@ fn post(
 {
     let (mut inner, mut count, mut here) = prim(alloc, tokens, count, at)?;
     'slices: while tokens.is_mark(Mark::OpenBracket, here) {
-        let (place, next) = tokens.mark(Mark::OpenBracket, here)?;
-        let deeper = counted(count, here)?;
-        let (hi, next) = tokens.number(next)?;
-        let (lo, next) = low_of(tokens, hi, next)?;
-        let (_close, next) = tokens.mark(Mark::CloseBracket, next)?;
+        let (place, hi, lo, deeper, next) = bounds(tokens, count, here)?;
         let sliced = slice(alloc, place, inner, hi.value, lo.value)?;
         inner = sliced;
         count = deeper;
         here = next;
     }
     Ok((inner, count, here))
+}
+
+// `[hi:lo]`, with the place of the bracket that opens and the count behind it.
+fn bounds(
+    tokens: &Tokens<'_>,
+    count: u32,
+    at: usize,
+) -> Result<(Place, Num, Num, u32, usize), Fault>
+    requires { count ≤ 64 }
+    ensures bounds { MatchResult result (λ x. ReadsAll tokens.now bound_symbols count (number_value x.2 ∷ number_value x.1 ∷ place_value x.0 ∷ []) x.3 at x.4) (FailsAll tokens.now bound_symbols count at) }
+    ensures deeper { IfOk result (λ x. x.3 ≡ count + 1) }
+{
+    let (place, next) = tokens.mark(Mark::OpenBracket, at)?;
+    let deeper = counted(count, at)?;
+    let (hi, next) = tokens.number(next)?;
+    let (lo, next) = low_of(tokens, hi, next)?;
+    let (_close, next) = tokens.mark(Mark::CloseBracket, next)?;
+    Ok((place, hi, lo, deeper, next))
 }
 
 // The lower end of a slice, which is its upper one where none is given.

@@ -1,7 +1,7 @@
 use Rattle.std.proofs.Common.{arith}
 use Rattle.std.proofs.lemmas.Result.{err_from_is_err_and}
 use Rattle.kp_grammar.specs.Machine.{make}
-use Rattle.kp_syntax.proofs.Steps.{by_dropped, by_placed, one, miss_end, end_end}
+use Rattle.kp_syntax.proofs.Steps.{by_dropped, by_placed, one, miss_end, end_end, stretch_end}
 use Rattle.kp_syntax.proofs.Picks.{stmt_1}
 use Rattle.kp_parse.proofs.stage.read.Goals as goal
 
@@ -23,25 +23,10 @@ returns-in_err-_equals c =
 pub returns-in_err-target : goal.returns-in_err-target
 returns-in_err-target c =
     let p = err_from_is_err_and c.from_residual-in_err-target.result c.from_residual-in_err-target.ensures.1 in
-    rw (p.1, p.2) (end_end c.in_err-target.ensures (λ o h s cs vs. stmt_1 c.requires (by_placed c.in_ok-place.ensures (c.in_ok-name.ensures.leads _ _ _ _ (by_dropped c.in_ok-_equals.ensures (h _ _ _))))))
-
-pub returns-in_err-address : goal.returns-in_err-address
-returns-in_err-address c =
-    let p = err_from_is_err_and c.from_residual-in_err-address.result c.from_residual-in_err-address.ensures.1 in
-    rw (p.1, p.2) (end_end c.in_err-address.ensures (λ o h s cs vs. stmt_1 c.requires (by_placed c.in_ok-place.ensures (c.in_ok-name.ensures.leads _ _ _ _ (by_dropped c.in_ok-_equals.ensures (c.in_ok-target.ensures.leads _ _ _ _ (h _ _ _)))))))
-
-pub returns-in_err-when : goal.returns-in_err-when
-returns-in_err-when c =
-    let p = err_from_is_err_and c.from_residual-in_err-when.result c.from_residual-in_err-when.ensures.1 in
-    rw (p.1, p.2) (end_end c.in_err-when.ensures (λ o h s cs vs. stmt_1 c.requires (by_placed c.in_ok-place.ensures (c.in_ok-name.ensures.leads _ _ _ _ (by_dropped c.in_ok-_equals.ensures (c.in_ok-target.ensures.leads _ _ _ _ (c.in_ok-address.ensures.leads _ _ _ _ (h _ _ _))))))))
-
-pub returns-in_err-_end : goal.returns-in_err-_end
-returns-in_err-_end c =
-    let p = err_from_is_err_and c.from_residual-in_err-_end.result c.from_residual-in_err-_end.ensures.1 in
-    rw (p.1, p.2) (miss_end c.in_err-_end.ensures (λ o h s cs vs. stmt_1 c.requires (by_placed c.in_ok-place.ensures (c.in_ok-name.ensures.leads _ _ _ _ (by_dropped c.in_ok-_equals.ensures (c.in_ok-target.ensures.leads _ _ _ _ (c.in_ok-address.ensures.leads _ _ _ _ (c.in_ok-when.ensures.leads _ _ _ _ (h _ _ _)))))))))
+    rw (p.1, p.2) (stretch_end c.in_err-target.ensures (λ o h s cs vs. stmt_1 c.requires (by_placed c.in_ok-place.ensures (c.in_ok-name.ensures.leads _ _ _ _ (by_dropped c.in_ok-_equals.ensures (h _ _ _))))))
 
 pub returns : goal.returns
 returns c = record {
-  leads = λ s cs vs o h. stmt_1 c.requires (by_placed c.in_ok-place.ensures (c.in_ok-name.ensures.leads _ _ _ _ (by_dropped c.in_ok-_equals.ensures (c.in_ok-target.ensures.leads _ _ _ _ (c.in_ok-address.ensures.leads _ _ _ _ (c.in_ok-when.ensures.leads _ _ _ _ (by_dropped c.in_ok-_end.ensures (make (h)))))))));
-  shrinks = omega (arith, one c.in_ok-place.ensures, c.in_ok-name.ensures.shrinks, one c.in_ok-_equals.ensures, c.in_ok-target.ensures.shrinks, c.in_ok-address.ensures.shrinks, c.in_ok-when.ensures.shrinks, one c.in_ok-_end.ensures);
+  leads = λ s cs vs o h. stmt_1 c.requires (by_placed c.in_ok-place.ensures (c.in_ok-name.ensures.leads _ _ _ _ (by_dropped c.in_ok-_equals.ensures (c.in_ok-target.ensures.leads _ _ _ _ (make h)))));
+  shrinks = omega (arith, one c.in_ok-place.ensures, c.in_ok-name.ensures.shrinks, one c.in_ok-_equals.ensures, c.in_ok-target.ensures.shrinks);
 }

@@ -2,7 +2,7 @@
 use Rattle.std.proofs.Common.{arith}
 use Rattle.std.proofs.lemmas.Result.{err_from_is_err_and}
 use Rattle.kp_grammar.specs.Machine.{make}
-use Rattle.kp_syntax.proofs.Steps.{by_dropped, by_placed, by_closed, by_separated, by_counted, by_opened, by_opened_at, over_counted, over_opened, over_opened_at, one, miss_fail, end_fail, fail_fail, list_fail, deep_fail, fail_list, miss_list}
+use Rattle.kp_syntax.proofs.Steps.{by_dropped, by_placed, by_closed, by_separated, by_counted, by_opened, by_opened_at, over_counted, over_opened, over_opened_at, one, miss_fail, end_fail, fail_fail, list_fail, deep_fail, fail_list, miss_list, miss_all, fail_all, deep_all, all_fail}
 use Rattle.kp_syntax.proofs.Operators.{chain_start, more_start, more_none, operators_go_on, compare_ends, post_reads}
 use Rattle.kp_syntax.proofs.Picks.{expr_all, choice_1, choice_else, unary_1, post_all, slices_1, slices_else, prim_2, prim_3, prim_4, prim_5, prim_else, call_1, call_else, exprs_all, parts_1, parts_else, extended_all}
 use Rattle.kp_syntax.proofs.expression.+expression.Goals as goal
@@ -15,27 +15,7 @@ expression-returns-in_err-test t c =
 pub expression-returns-in_err-place : goal.expression-returns-in_err-place
 expression-returns-in_err-place t c =
     let p = err_from_is_err_and c.from_residual-in_err-place.result c.from_residual-in_err-place.ensures.1 in
-    rw (p.1, p.2) (miss_fail c.in_err-place.ensures (λ o h s cs vs. expr_all (c.in_ok-test.ensures.leads _ _ _ _ (choice_1 (cc c.is_mark.ensures) (h _ _ _)))))
-
-pub expression-returns-in_err-deeper : goal.expression-returns-in_err-deeper
-expression-returns-in_err-deeper t c =
-    let p = err_from_is_err_and c.from_residual-in_err-deeper.result c.from_residual-in_err-deeper.ensures.1 in
-    rw (p.1, p.2) (deep_fail c.in_err-deeper.ensures (λ s cs vs. expr_all (c.in_ok-test.ensures.leads _ _ _ _ (choice_1 (cc c.is_mark.ensures) (over_counted c.in_ok-place.ensures c.in_err-deeper.ensures.1)))))
-
-pub expression-returns-in_err-yes : goal.expression-returns-in_err-yes
-expression-returns-in_err-yes t c =
-    let p = err_from_is_err_and c.from_residual-in_err-yes.result c.from_residual-in_err-yes.ensures.1 in
-    rw (p.1, p.2) (fail_fail c.in_err-yes.ensures (λ o h s cs vs. expr_all (c.in_ok-test.ensures.leads _ _ _ _ (choice_1 (cc c.is_mark.ensures) (by_counted c.in_ok-place.ensures c.in_ok-deeper.ensures (h _ _ _))))))
-
-pub expression-returns-in_err-_colon : goal.expression-returns-in_err-_colon
-expression-returns-in_err-_colon t c =
-    let p = err_from_is_err_and c.from_residual-in_err-_colon.result c.from_residual-in_err-_colon.ensures.1 in
-    rw (p.1, p.2) (miss_fail c.in_err-_colon.ensures (λ o h s cs vs. expr_all (c.in_ok-test.ensures.leads _ _ _ _ (choice_1 (cc c.is_mark.ensures) (by_counted c.in_ok-place.ensures c.in_ok-deeper.ensures (c.in_ok-yes.ensures.leads _ _ _ _ (h _ _ _)))))))
-
-pub expression-returns-in_err-no : goal.expression-returns-in_err-no
-expression-returns-in_err-no t c =
-    let p = err_from_is_err_and c.from_residual-in_err-no.result c.from_residual-in_err-no.ensures.1 in
-    rw (p.1, p.2) (fail_fail c.in_err-no.ensures (λ o h s cs vs. expr_all (c.in_ok-test.ensures.leads _ _ _ _ (choice_1 (cc c.is_mark.ensures) (by_counted c.in_ok-place.ensures c.in_ok-deeper.ensures (c.in_ok-yes.ensures.leads _ _ _ _ (by_dropped c.in_ok-_colon.ensures (h _ _ _))))))))
+    rw (p.1, p.2) (all_fail c.in_err-place.ensures (λ o h s cs vs. expr_all (c.in_ok-test.ensures.leads _ _ _ _ (choice_1 (cc c.is_mark.ensures) (h _ _ _)))))
 
 pub expression-returns-then-not-is_mark : goal.expression-returns-then-not-is_mark
 expression-returns-then-not-is_mark t c = record {
@@ -47,11 +27,44 @@ expression-returns-then-not-is_mark t c = record {
 
 pub expression-returns : goal.expression-returns
 expression-returns t c = rw (c.in_ok-made.ensures) (record {
-  leads = λ s cs vs o h. expr_all (c.in_ok-test.ensures.leads _ _ _ _ (choice_1 (cc c.is_mark.ensures) (by_counted c.in_ok-place.ensures c.in_ok-deeper.ensures (c.in_ok-yes.ensures.leads _ _ _ _ (by_dropped c.in_ok-_colon.ensures (c.in_ok-no.ensures.leads _ _ _ _ (make (h))))))));
-  grows = omega (arith, c.in_ok-test.ensures.grows, c.in_ok-deeper.ensures.1, c.in_ok-yes.ensures.grows, c.in_ok-no.ensures.grows);
-  limit = c.in_ok-no.ensures.limit;
-  shrinks = omega (arith, c.in_ok-test.ensures.shrinks, one c.in_ok-place.ensures, c.in_ok-yes.ensures.shrinks, one c.in_ok-_colon.ensures, c.in_ok-no.ensures.shrinks);
+  leads = λ s cs vs o h. expr_all (c.in_ok-test.ensures.leads _ _ _ _ (choice_1 (cc c.is_mark.ensures) (c.in_ok-place.ensures.leads _ _ _ _ (make h))));
+  grows = omega (arith, c.in_ok-test.ensures.grows, c.in_ok-place.ensures.grows);
+  limit = c.in_ok-place.ensures.limit;
+  shrinks = omega (arith, c.in_ok-test.ensures.shrinks, c.in_ok-place.ensures.shrinks);
 })
+
+pub branches-returns-in_err-place : goal.branches-returns-in_err-place
+branches-returns-in_err-place t c =
+    let p = err_from_is_err_and c.from_residual.result c.from_residual.ensures.1 in
+    rw (p.1, p.2) (miss_all c.in_err-place.ensures (λ o h s cs vs. h _ _ _))
+
+pub branches-returns-in_err-deeper : goal.branches-returns-in_err-deeper
+branches-returns-in_err-deeper t c =
+    let p = err_from_is_err_and c.from_residual-in_err-deeper.result c.from_residual-in_err-deeper.ensures.1 in
+    rw (p.1, p.2) (deep_all c.in_err-deeper.ensures (λ s cs vs. over_counted c.in_ok-place.ensures c.in_err-deeper.ensures.1))
+
+pub branches-returns-in_err-yes : goal.branches-returns-in_err-yes
+branches-returns-in_err-yes t c =
+    let p = err_from_is_err_and c.from_residual-in_err-yes.result c.from_residual-in_err-yes.ensures.1 in
+    rw (p.1, p.2) (fail_all c.in_err-yes.ensures (λ o h s cs vs. by_counted c.in_ok-place.ensures c.in_ok-deeper.ensures (h _ _ _)))
+
+pub branches-returns-in_err-_colon : goal.branches-returns-in_err-_colon
+branches-returns-in_err-_colon t c =
+    let p = err_from_is_err_and c.from_residual-in_err-_colon.result c.from_residual-in_err-_colon.ensures.1 in
+    rw (p.1, p.2) (miss_all c.in_err-_colon.ensures (λ o h s cs vs. by_counted c.in_ok-place.ensures c.in_ok-deeper.ensures (c.in_ok-yes.ensures.leads _ _ _ _ (h _ _ _))))
+
+pub branches-returns-in_err-no : goal.branches-returns-in_err-no
+branches-returns-in_err-no t c =
+    let p = err_from_is_err_and c.from_residual-in_err-no.result c.from_residual-in_err-no.ensures.1 in
+    rw (p.1, p.2) (fail_all c.in_err-no.ensures (λ o h s cs vs. by_counted c.in_ok-place.ensures c.in_ok-deeper.ensures (c.in_ok-yes.ensures.leads _ _ _ _ (by_dropped c.in_ok-_colon.ensures (h _ _ _)))))
+
+pub branches-returns : goal.branches-returns
+branches-returns t c = record {
+  leads = λ s cs vs o h. by_counted c.in_ok-place.ensures c.in_ok-deeper.ensures (c.in_ok-yes.ensures.leads _ _ _ _ (by_dropped c.in_ok-_colon.ensures (c.in_ok-no.ensures.leads _ _ _ _ h)));
+  grows = omega (arith, c.in_ok-deeper.ensures.1, c.in_ok-yes.ensures.grows, c.in_ok-no.ensures.grows);
+  limit = c.in_ok-no.ensures.limit;
+  shrinks = omega (arith, one c.in_ok-place.ensures, c.in_ok-yes.ensures.shrinks, one c.in_ok-_colon.ensures, c.in_ok-no.ensures.shrinks);
+}
 
 pub chain-returns-in_err-left : goal.chain-returns-in_err-left
 chain-returns-in_err-left t c =
@@ -137,34 +150,14 @@ post-slices-init t c = record {
 pub post-returns-in_err-place : goal.post-returns-in_err-place
 post-returns-in_err-place t c =
     let p = err_from_is_err_and c.from_residual-in_err-place.result c.from_residual-in_err-place.ensures.1 in
-    rw (p.1, p.2) (miss_fail c.in_err-place.ensures (λ o h s cs vs. c.slices.invariant.leads _ _ _ _ (slices_1 (cc c.is_mark.ensures) (h _ _ _))))
-
-pub post-returns-in_err-deeper : goal.post-returns-in_err-deeper
-post-returns-in_err-deeper t c =
-    let p = err_from_is_err_and c.from_residual-in_err-deeper.result c.from_residual-in_err-deeper.ensures.1 in
-    rw (p.1, p.2) (deep_fail c.in_err-deeper.ensures (λ s cs vs. c.slices.invariant.leads _ _ _ _ (slices_1 (cc c.is_mark.ensures) (over_counted c.in_ok-place.ensures c.in_err-deeper.ensures.1))))
-
-pub post-returns-in_err-hi : goal.post-returns-in_err-hi
-post-returns-in_err-hi t c =
-    let p = err_from_is_err_and c.from_residual-in_err-hi.result c.from_residual-in_err-hi.ensures.1 in
-    rw (p.1, p.2) (end_fail c.in_err-hi.ensures (λ o h s cs vs. c.slices.invariant.leads _ _ _ _ (slices_1 (cc c.is_mark.ensures) (by_counted c.in_ok-place.ensures c.in_ok-deeper.ensures (h _ _ _)))))
-
-pub post-returns-in_err-lo : goal.post-returns-in_err-lo
-post-returns-in_err-lo t c =
-    let p = err_from_is_err_and c.from_residual-in_err-lo.result c.from_residual-in_err-lo.ensures.1 in
-    rw (p.1, p.2) (end_fail c.in_err-lo.ensures (λ o h s cs vs. c.slices.invariant.leads _ _ _ _ (slices_1 (cc c.is_mark.ensures) (by_counted c.in_ok-place.ensures c.in_ok-deeper.ensures (c.in_ok-hi.ensures.leads _ _ _ _ (h _ _ _))))))
-
-pub post-returns-in_err-_close : goal.post-returns-in_err-_close
-post-returns-in_err-_close t c =
-    let p = err_from_is_err_and c.from_residual-in_err-_close.result c.from_residual-in_err-_close.ensures.1 in
-    rw (p.1, p.2) (miss_fail c.in_err-_close.ensures (λ o h s cs vs. c.slices.invariant.leads _ _ _ _ (slices_1 (cc c.is_mark.ensures) (by_counted c.in_ok-place.ensures c.in_ok-deeper.ensures (c.in_ok-hi.ensures.leads _ _ _ _ (c.in_ok-lo.ensures.leads _ _ _ _ (h _ _ _)))))))
+    rw (p.1, p.2) (all_fail c.in_err-place.ensures.bounds (λ o h s cs vs. c.slices.invariant.leads _ _ _ _ (slices_1 (cc c.is_mark.ensures) (h _ _ _))))
 
 pub post-slices-preserved : goal.post-slices-preserved
 post-slices-preserved t c = rw (c.in_ok-sliced.ensures) (record {
-  leads = λ s cs vs o h. c.slices.invariant.leads _ _ _ _ (slices_1 (cc c.is_mark.ensures) (by_counted c.in_ok-place.ensures c.in_ok-deeper.ensures (c.in_ok-hi.ensures.leads _ _ _ _ (c.in_ok-lo.ensures.leads _ _ _ _ (by_dropped c.in_ok-_close.ensures (make (h)))))));
-  grows = omega (arith, c.slices.invariant.grows, c.in_ok-deeper.ensures.1);
-  limit = omega (arith, c.in_ok-deeper.ensures.0, c.in_ok-deeper.ensures.1);
-  shrinks = omega (arith, c.slices.invariant.shrinks, one c.in_ok-place.ensures, c.in_ok-hi.ensures.shrinks, c.in_ok-lo.ensures.shrinks, one c.in_ok-_close.ensures);
+  leads = λ s cs vs o h. c.slices.invariant.leads _ _ _ _ (slices_1 (cc c.is_mark.ensures) (c.in_ok-place.ensures.bounds.leads _ _ _ _ (make h)));
+  grows = omega (arith, c.slices.invariant.grows, c.in_ok-place.ensures.bounds.grows);
+  limit = c.in_ok-place.ensures.bounds.limit;
+  shrinks = omega (arith, c.slices.invariant.shrinks, c.in_ok-place.ensures.bounds.shrinks);
 })
 
 pub post-returns : goal.post-returns

@@ -7,6 +7,9 @@ use Rattle.kp_syntax.proofs.expression.+expression.Given as goal
 abbrev pub decreases-expression : goal.decreases-expression
 decreases-expression l = (65 - l.count) * 21 + 19
 
+abbrev pub decreases-branches : goal.decreases-branches
+decreases-branches l = (65 - l.count) * 21
+
 abbrev pub decreases-chain : goal.decreases-chain
 decreases-chain l = (65 - l.count) * 21 + (rank l.level + 2)
 
