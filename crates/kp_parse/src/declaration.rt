@@ -5,10 +5,12 @@ ghost use Rattle.kp_grammar.specs.Tables.{among};
 ghost use Rattle.kp_lex.specs.declared.token.Keyword.TheVariants as keywords;
 ghost use Rattle.kp_syntax.specs.Tokens.{keyword_class};
 ghost use Rattle.kp_syntax.specs.inner.Follow.{decl_words};
-ghost use Rattle.kp_syntax.specs.Language.{decls, decl as decl_value, param as param_value, params as params_value, perhaps_named, DECLS, DECL, INDEX, ENABLE, PAR, PARS};
+ghost use Rattle.kp_syntax.specs.Language.{decls, decl as decl_value, param as param_value, params as params_value, perhaps_named, number as number_value, literal as literal_value, DECLS, DECL, INDEX, ENABLE, PAR, PARS};
 ghost use Rattle.kp_syntax.specs.Reading.{class_at, Turns, Ends};
+ghost use Rattle.kp_syntax.specs.inner.Stretch.{TurnsAll, EndsAll};
+ghost use Rattle.kp_parse.specs.inner.Stretches.{start_symbols, stage_symbols};
 
-use kp_ast::{Decl, FuncDecl, Named, Param, ResultDecl};
+use kp_ast::{Decl, FuncDecl, Lit, Named, Num, Param, ResultDecl};
 use kp_base::List;
 use kp_lex::{Keyword, Mark, TokenKind};
 use kp_syntax::{Fault, Tokens, whole_expression};
@@ -77,9 +79,7 @@ fn register(alloc: Global, tokens: &Tokens<'_>, at: usize) -> Result<(Decl, usiz
 {
     let (_reg, next) = tokens.keyword(Keyword::Reg, at)?;
     let (typed, next) = parameter(alloc, tokens, next)?;
-    let (_equals, next) = tokens.mark(Mark::Equals, next)?;
-    let (start, next) = tokens.literal(next)?;
-    let (_end, next) = tokens.mark(Mark::Semicolon, next)?;
+    let (start, next) = start(tokens, next)?;
     Ok((Decl::Reg(typed.name, typed.width, start), next))
 }
 
@@ -119,9 +119,7 @@ fn target(alloc: Global, tokens: &Tokens<'_>, at: usize) -> Result<(Decl, usize)
     let (target, next) = tokens.name(alloc, next)?;
     let (address, next) = index(alloc, tokens, next)?;
     let (enable, next) = enable(alloc, tokens, next)?;
-    let (_at, next) = tokens.keyword(Keyword::At, next)?;
-    let (stage, next) = tokens.number(next)?;
-    let (_end, next) = tokens.mark(Mark::Semicolon, next)?;
+    let (stage, next) = stage(tokens, next)?;
     let result = ResultDecl {
         name: typed.name,
         width: typed.width,
@@ -163,9 +161,7 @@ fn hint(alloc: Global, tokens: &Tokens<'_>, at: usize) -> Result<(Decl, usize), 
 {
     let (_hint, next) = tokens.keyword(Keyword::Hint, at)?;
     let (typed, next) = parameter(alloc, tokens, next)?;
-    let (_equals, next) = tokens.mark(Mark::Equals, next)?;
-    let (start, next) = tokens.literal(next)?;
-    let (_end, next) = tokens.mark(Mark::Semicolon, next)?;
+    let (start, next) = start(tokens, next)?;
     Ok((Decl::Hint(typed.name, typed.width, start), next))
 }
 
@@ -176,10 +172,28 @@ fn sample(alloc: Global, tokens: &Tokens<'_>, at: usize) -> Result<(Decl, usize)
 {
     let (_sample, next) = tokens.keyword(Keyword::Sample, at)?;
     let (typed, next) = parameter(alloc, tokens, next)?;
-    let (_at, next) = tokens.keyword(Keyword::At, next)?;
+    let (stage, next) = stage(tokens, next)?;
+    Ok((Decl::Sample(typed.name, typed.width, stage), next))
+}
+
+// `= start;`
+fn start(tokens: &Tokens<'_>, at: usize) -> Result<(Lit, usize), Fault>
+    ensures { MatchResult result (λ x. TurnsAll tokens.now start_symbols (literal_value x.0 ∷ []) at x.1 1) (EndsAll tokens.now start_symbols at) }
+{
+    let (_equals, next) = tokens.mark(Mark::Equals, at)?;
+    let (start, next) = tokens.literal(next)?;
+    let (_end, next) = tokens.mark(Mark::Semicolon, next)?;
+    Ok((start, next))
+}
+
+// `at stage;`
+fn stage(tokens: &Tokens<'_>, at: usize) -> Result<(Num, usize), Fault>
+    ensures { MatchResult result (λ x. TurnsAll tokens.now stage_symbols (number_value x.0 ∷ []) at x.1 1) (EndsAll tokens.now stage_symbols at) }
+{
+    let (_at, next) = tokens.keyword(Keyword::At, at)?;
     let (stage, next) = tokens.number(next)?;
     let (_end, next) = tokens.mark(Mark::Semicolon, next)?;
-    Ok((Decl::Sample(typed.name, typed.width, stage), next))
+    Ok((stage, next))
 }
 
 // `fn name(params) : width = body;`

@@ -1,8 +1,10 @@
 // The sections behind the stages.
 ghost use Rattle.std.specs.Prelude.{◌≡◌, ◌==◌, [], ◌∷◌, MatchResult, option_map, true, false};
 ghost use Rattle.kp_grammar.specs.Grammar.{Nonterminal};
-ghost use Rattle.kp_syntax.specs.Language.{perhaps_images, images as images_value, image as image_value, perhaps_stalls, stalls as stalls_value, stall as stall_value, perhaps_inputs, inputs as inputs_value, input as input_value, perhaps_number, literals as literals_value, IMAGE, WORDS, WORD, NUMBERED, LITS, STALLS, SPANS, SPAN, STEP, INPUTS, ENTRIES, ENTRY};
+ghost use Rattle.kp_syntax.specs.Language.{perhaps_images, images as images_value, image as image_value, perhaps_stalls, stalls as stalls_value, stall as stall_value, perhaps_inputs, inputs as inputs_value, input as input_value, number as number_value, perhaps_number, literals as literals_value, IMAGE, WORDS, WORD, NUMBERED, LITS, STALLS, SPANS, SPAN, STEP, INPUTS, ENTRIES, ENTRY};
 ghost use Rattle.kp_syntax.specs.Reading.{class_at, Turns, Ends};
+ghost use Rattle.kp_syntax.specs.inner.Stretch.{TurnsAll, EndsAll};
+ghost use Rattle.kp_parse.specs.inner.Stretches.{cycle_symbols};
 
 use kp_ast::{Image, Inputs, Lit, Num, Stalls};
 use kp_base::List;
@@ -128,12 +130,7 @@ fn span(tokens: &Tokens<'_>, at: usize) -> Result<(Stalls, usize), Fault>
     ensures { MatchResult result (λ x. Turns tokens.now (Nonterminal SPAN) [] (stall_value x.0 ∷ []) at x.1 1) (Ends tokens.now (Nonterminal SPAN) [] at) }
 {
     let (stage, next) = tokens.number(at)?;
-    let (_from, next) = tokens.keyword(Keyword::From, next)?;
-    let (from, next) = tokens.number(next)?;
-    let (_to, next) = tokens.keyword(Keyword::To, next)?;
-    let (to, next) = tokens.number(next)?;
-    let (step, next) = step(tokens, next)?;
-    let (_end, next) = tokens.mark(Mark::Semicolon, next)?;
+    let (from, to, step, next) = cycles(tokens, next)?;
     let span = Stalls {
         stage,
         from,
@@ -141,6 +138,19 @@ fn span(tokens: &Tokens<'_>, at: usize) -> Result<(Stalls, usize), Fault>
         step,
     };
     Ok((span, next))
+}
+
+// `from a to b step p;`
+fn cycles(tokens: &Tokens<'_>, at: usize) -> Result<(Num, Num, Option<Num>, usize), Fault>
+    ensures { MatchResult result (λ x. TurnsAll tokens.now cycle_symbols (perhaps_number x.2 ∷ number_value x.1 ∷ number_value x.0 ∷ []) at x.3 1) (EndsAll tokens.now cycle_symbols at) }
+{
+    let (_from, next) = tokens.keyword(Keyword::From, at)?;
+    let (from, next) = tokens.number(next)?;
+    let (_to, next) = tokens.keyword(Keyword::To, next)?;
+    let (to, next) = tokens.number(next)?;
+    let (step, next) = step(tokens, next)?;
+    let (_end, next) = tokens.mark(Mark::Semicolon, next)?;
+    Ok((from, to, step, next))
 }
 
 fn step(tokens: &Tokens<'_>, at: usize) -> Result<(Option<Num>, usize), Fault>
@@ -192,12 +202,7 @@ fn entry(alloc: Global, tokens: &Tokens<'_>, at: usize) -> Result<(Inputs, usize
     let (name, next) = tokens.name(alloc, at)?;
     let (_equals, next) = tokens.mark(Mark::Equals, next)?;
     let (value, next) = tokens.literal(next)?;
-    let (_from, next) = tokens.keyword(Keyword::From, next)?;
-    let (from, next) = tokens.number(next)?;
-    let (_to, next) = tokens.keyword(Keyword::To, next)?;
-    let (to, next) = tokens.number(next)?;
-    let (step, next) = step(tokens, next)?;
-    let (_end, next) = tokens.mark(Mark::Semicolon, next)?;
+    let (from, to, step, next) = cycles(tokens, next)?;
     let entry = Inputs {
         name,
         value,

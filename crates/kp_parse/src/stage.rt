@@ -5,7 +5,8 @@ ghost use Rattle.kp_grammar.specs.Tables.{among};
 ghost use Rattle.kp_lex.specs.declared.token.Keyword.TheVariants as keywords;
 ghost use Rattle.kp_syntax.specs.Tokens.{keyword_class};
 ghost use Rattle.kp_syntax.specs.inner.Follow.{stmt_words};
-ghost use Rattle.kp_syntax.specs.inner.Stretch.{TurnsAll, EndsAll, source_symbols};
+ghost use Rattle.kp_syntax.specs.inner.Stretch.{TurnsAll, EndsAll};
+ghost use Rattle.kp_parse.specs.inner.Stretches.{source_symbols};
 ghost use Rattle.kp_syntax.specs.Language.{blocks, block as block_value, stmts, stmt as stmt_value, named as named_value, expr as expr_value, perhaps_expr, STAGE, STAGES, STMTS, STMT, BINDING, ADDRESS, HEDGE, WHEN};
 ghost use Rattle.kp_syntax.specs.Reading.{class_at, Turns, Ends};
 

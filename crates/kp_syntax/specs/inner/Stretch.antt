@@ -5,7 +5,7 @@ use Rattle.kp_grammar.specs.Machine.{Outcome}
 use Rattle.kp_lex.specs.declared.token.Mark.TheVariants as marks
 use Rattle.kp_syntax.specs.declared.fault.Fault.{Fault}
 use Rattle.kp_syntax.specs.Tokens.{Lexeme}
-use Rattle.kp_syntax.specs.Language.{Sym, State, Value, at, counted, mark, NAME, NUM, ADDRESS, HEDGE, EXPR, LOW}
+use Rattle.kp_syntax.specs.Language.{Sym, State, Value, at, counted, mark, NUM, EXPR, LOW}
 use Rattle.kp_syntax.specs.Reading.{Goes, FaultIs}
 
 -- `? yes : no`
@@ -15,10 +15,6 @@ branch_symbols = counted marks.Question ∷ Nonterminal EXPR ∷ mark marks.Colo
 -- `[hi:lo]`
 abbrev pub bound_symbols : List Sym
 bound_symbols = counted marks.OpenBracket ∷ NUM ∷ Nonterminal LOW ∷ mark marks.CloseBracket ∷ []
-
--- what a `read` reads, up to the semicolon
-abbrev pub source_symbols : List Sym
-source_symbols = NAME ∷ Nonterminal ADDRESS ∷ Nonterminal HEDGE ∷ mark marks.Semicolon ∷ []
 
 -- Reading the symbols leads from token i to token j, and puts values on top; it reads at least so many tokens.
 pub record TurnsAll (ts : List Lexeme) (xs : List Sym) (after : List Value) (i j least : ℕ) : Type 0 where

@@ -1,7 +1,7 @@
 use Rattle.std.proofs.Common.{arith}
 use Rattle.std.proofs.lemmas.Result.{err_from_is_err_and}
 use Rattle.kp_grammar.specs.Machine.{make}
-use Rattle.kp_syntax.proofs.Steps.{by_dropped, one, miss_end, end_end}
+use Rattle.kp_syntax.proofs.Steps.{by_dropped, one, miss_end, end_end, stretch_end}
 use Rattle.kp_syntax.proofs.Picks.{decl_5}
 use Rattle.kp_parse.proofs.declaration.hint.Goals as goal
 
@@ -15,23 +15,13 @@ returns-in_err-typed c =
     let p = err_from_is_err_and c.from_residual-in_err-typed.result c.from_residual-in_err-typed.ensures.1 in
     rw (p.1, p.2) (end_end c.in_err-typed.ensures (λ o h s cs vs. decl_5 c.requires (by_dropped c.in_ok-_hint.ensures (h _ _ _))))
 
-pub returns-in_err-_equals : goal.returns-in_err-_equals
-returns-in_err-_equals c =
-    let p = err_from_is_err_and c.from_residual-in_err-_equals.result c.from_residual-in_err-_equals.ensures.1 in
-    rw (p.1, p.2) (miss_end c.in_err-_equals.ensures (λ o h s cs vs. decl_5 c.requires (by_dropped c.in_ok-_hint.ensures (c.in_ok-typed.ensures.leads _ _ _ _ (h _ _ _)))))
-
 pub returns-in_err-start : goal.returns-in_err-start
 returns-in_err-start c =
     let p = err_from_is_err_and c.from_residual-in_err-start.result c.from_residual-in_err-start.ensures.1 in
-    rw (p.1, p.2) (end_end c.in_err-start.ensures (λ o h s cs vs. decl_5 c.requires (by_dropped c.in_ok-_hint.ensures (c.in_ok-typed.ensures.leads _ _ _ _ (by_dropped c.in_ok-_equals.ensures (h _ _ _))))))
-
-pub returns-in_err-_end : goal.returns-in_err-_end
-returns-in_err-_end c =
-    let p = err_from_is_err_and c.from_residual-in_err-_end.result c.from_residual-in_err-_end.ensures.1 in
-    rw (p.1, p.2) (miss_end c.in_err-_end.ensures (λ o h s cs vs. decl_5 c.requires (by_dropped c.in_ok-_hint.ensures (c.in_ok-typed.ensures.leads _ _ _ _ (by_dropped c.in_ok-_equals.ensures (c.in_ok-start.ensures.leads _ _ _ _ (h _ _ _)))))))
+    rw (p.1, p.2) (stretch_end c.in_err-start.ensures (λ o h s cs vs. decl_5 c.requires (by_dropped c.in_ok-_hint.ensures (c.in_ok-typed.ensures.leads _ _ _ _ (h _ _ _)))))
 
 pub returns : goal.returns
 returns c = record {
-  leads = λ s cs vs o h. decl_5 c.requires (by_dropped c.in_ok-_hint.ensures (c.in_ok-typed.ensures.leads _ _ _ _ (by_dropped c.in_ok-_equals.ensures (c.in_ok-start.ensures.leads _ _ _ _ (by_dropped c.in_ok-_end.ensures (make (h)))))));
-  shrinks = omega (arith, one c.in_ok-_hint.ensures, c.in_ok-typed.ensures.shrinks, one c.in_ok-_equals.ensures, c.in_ok-start.ensures.shrinks, one c.in_ok-_end.ensures);
+  leads = λ s cs vs o h. decl_5 c.requires (by_dropped c.in_ok-_hint.ensures (c.in_ok-typed.ensures.leads _ _ _ _ (c.in_ok-start.ensures.leads _ _ _ _ (make (h)))));
+  shrinks = omega (arith, one c.in_ok-_hint.ensures, c.in_ok-typed.ensures.shrinks, c.in_ok-start.ensures.shrinks);
 }

@@ -1,7 +1,7 @@
 use Rattle.std.proofs.Common.{arith}
 use Rattle.std.proofs.lemmas.Result.{err_from_is_err_and}
 use Rattle.kp_grammar.specs.Machine.{make}
-use Rattle.kp_syntax.proofs.Steps.{by_dropped, one, miss_end, end_end}
+use Rattle.kp_syntax.proofs.Steps.{by_dropped, one, miss_end, end_end, stretch_end}
 use Rattle.kp_syntax.proofs.Picks.{decl_6}
 use Rattle.kp_parse.proofs.declaration.sample.Goals as goal
 
@@ -15,23 +15,13 @@ returns-in_err-typed c =
     let p = err_from_is_err_and c.from_residual-in_err-typed.result c.from_residual-in_err-typed.ensures.1 in
     rw (p.1, p.2) (end_end c.in_err-typed.ensures (λ o h s cs vs. decl_6 c.requires (by_dropped c.in_ok-_sample.ensures (h _ _ _))))
 
-pub returns-in_err-_at : goal.returns-in_err-_at
-returns-in_err-_at c =
-    let p = err_from_is_err_and c.from_residual-in_err-_at.result c.from_residual-in_err-_at.ensures.1 in
-    rw (p.1, p.2) (miss_end c.in_err-_at.ensures (λ o h s cs vs. decl_6 c.requires (by_dropped c.in_ok-_sample.ensures (c.in_ok-typed.ensures.leads _ _ _ _ (h _ _ _)))))
-
 pub returns-in_err-stage : goal.returns-in_err-stage
 returns-in_err-stage c =
     let p = err_from_is_err_and c.from_residual-in_err-stage.result c.from_residual-in_err-stage.ensures.1 in
-    rw (p.1, p.2) (end_end c.in_err-stage.ensures (λ o h s cs vs. decl_6 c.requires (by_dropped c.in_ok-_sample.ensures (c.in_ok-typed.ensures.leads _ _ _ _ (by_dropped c.in_ok-_at.ensures (h _ _ _))))))
-
-pub returns-in_err-_end : goal.returns-in_err-_end
-returns-in_err-_end c =
-    let p = err_from_is_err_and c.from_residual-in_err-_end.result c.from_residual-in_err-_end.ensures.1 in
-    rw (p.1, p.2) (miss_end c.in_err-_end.ensures (λ o h s cs vs. decl_6 c.requires (by_dropped c.in_ok-_sample.ensures (c.in_ok-typed.ensures.leads _ _ _ _ (by_dropped c.in_ok-_at.ensures (c.in_ok-stage.ensures.leads _ _ _ _ (h _ _ _)))))))
+    rw (p.1, p.2) (stretch_end c.in_err-stage.ensures (λ o h s cs vs. decl_6 c.requires (by_dropped c.in_ok-_sample.ensures (c.in_ok-typed.ensures.leads _ _ _ _ (h _ _ _)))))
 
 pub returns : goal.returns
 returns c = record {
-  leads = λ s cs vs o h. decl_6 c.requires (by_dropped c.in_ok-_sample.ensures (c.in_ok-typed.ensures.leads _ _ _ _ (by_dropped c.in_ok-_at.ensures (c.in_ok-stage.ensures.leads _ _ _ _ (by_dropped c.in_ok-_end.ensures (make (h)))))));
-  shrinks = omega (arith, one c.in_ok-_sample.ensures, c.in_ok-typed.ensures.shrinks, one c.in_ok-_at.ensures, c.in_ok-stage.ensures.shrinks, one c.in_ok-_end.ensures);
+  leads = λ s cs vs o h. decl_6 c.requires (by_dropped c.in_ok-_sample.ensures (c.in_ok-typed.ensures.leads _ _ _ _ (c.in_ok-stage.ensures.leads _ _ _ _ (make (h)))));
+  shrinks = omega (arith, one c.in_ok-_sample.ensures, c.in_ok-typed.ensures.shrinks, c.in_ok-stage.ensures.shrinks);
 }

@@ -1,7 +1,7 @@
 use Rattle.std.proofs.Common.{arith}
 use Rattle.std.proofs.lemmas.Result.{err_from_is_err_and}
 use Rattle.kp_grammar.specs.Machine.{make}
-use Rattle.kp_syntax.proofs.Steps.{by_dropped, one, miss_end, end_end}
+use Rattle.kp_syntax.proofs.Steps.{end_end, stretch_end}
 use Rattle.kp_syntax.proofs.Picks.{span_all}
 use Rattle.kp_parse.proofs.sections.span.Goals as goal
 
@@ -10,38 +10,13 @@ returns-in_err-stage c =
     let p = err_from_is_err_and c.from_residual.result c.from_residual.ensures.1 in
     rw (p.1, p.2) (end_end c.in_err-stage.ensures (λ o h s cs vs. span_all (h _ _ _)))
 
-pub returns-in_err-_from : goal.returns-in_err-_from
-returns-in_err-_from c =
-    let p = err_from_is_err_and c.from_residual-in_err-_from.result c.from_residual-in_err-_from.ensures.1 in
-    rw (p.1, p.2) (miss_end c.in_err-_from.ensures (λ o h s cs vs. span_all (c.in_ok-stage.ensures.leads _ _ _ _ (h _ _ _))))
-
 pub returns-in_err-from : goal.returns-in_err-from
 returns-in_err-from c =
     let p = err_from_is_err_and c.from_residual-in_err-from.result c.from_residual-in_err-from.ensures.1 in
-    rw (p.1, p.2) (end_end c.in_err-from.ensures (λ o h s cs vs. span_all (c.in_ok-stage.ensures.leads _ _ _ _ (by_dropped c.in_ok-_from.ensures (h _ _ _)))))
-
-pub returns-in_err-_to : goal.returns-in_err-_to
-returns-in_err-_to c =
-    let p = err_from_is_err_and c.from_residual-in_err-_to.result c.from_residual-in_err-_to.ensures.1 in
-    rw (p.1, p.2) (miss_end c.in_err-_to.ensures (λ o h s cs vs. span_all (c.in_ok-stage.ensures.leads _ _ _ _ (by_dropped c.in_ok-_from.ensures (c.in_ok-from.ensures.leads _ _ _ _ (h _ _ _))))))
-
-pub returns-in_err-to : goal.returns-in_err-to
-returns-in_err-to c =
-    let p = err_from_is_err_and c.from_residual-in_err-to.result c.from_residual-in_err-to.ensures.1 in
-    rw (p.1, p.2) (end_end c.in_err-to.ensures (λ o h s cs vs. span_all (c.in_ok-stage.ensures.leads _ _ _ _ (by_dropped c.in_ok-_from.ensures (c.in_ok-from.ensures.leads _ _ _ _ (by_dropped c.in_ok-_to.ensures (h _ _ _)))))))
-
-pub returns-in_err-step : goal.returns-in_err-step
-returns-in_err-step c =
-    let p = err_from_is_err_and c.from_residual-in_err-step.result c.from_residual-in_err-step.ensures.1 in
-    rw (p.1, p.2) (end_end c.in_err-step.ensures (λ o h s cs vs. span_all (c.in_ok-stage.ensures.leads _ _ _ _ (by_dropped c.in_ok-_from.ensures (c.in_ok-from.ensures.leads _ _ _ _ (by_dropped c.in_ok-_to.ensures (c.in_ok-to.ensures.leads _ _ _ _ (h _ _ _))))))))
-
-pub returns-in_err-_end : goal.returns-in_err-_end
-returns-in_err-_end c =
-    let p = err_from_is_err_and c.from_residual-in_err-_end.result c.from_residual-in_err-_end.ensures.1 in
-    rw (p.1, p.2) (miss_end c.in_err-_end.ensures (λ o h s cs vs. span_all (c.in_ok-stage.ensures.leads _ _ _ _ (by_dropped c.in_ok-_from.ensures (c.in_ok-from.ensures.leads _ _ _ _ (by_dropped c.in_ok-_to.ensures (c.in_ok-to.ensures.leads _ _ _ _ (c.in_ok-step.ensures.leads _ _ _ _ (h _ _ _)))))))))
+    rw (p.1, p.2) (stretch_end c.in_err-from.ensures (λ o h s cs vs. span_all (c.in_ok-stage.ensures.leads _ _ _ _ (h _ _ _))))
 
 pub returns : goal.returns
 returns c = record {
-  leads = λ s cs vs o h. span_all (c.in_ok-stage.ensures.leads _ _ _ _ (by_dropped c.in_ok-_from.ensures (c.in_ok-from.ensures.leads _ _ _ _ (by_dropped c.in_ok-_to.ensures (c.in_ok-to.ensures.leads _ _ _ _ (c.in_ok-step.ensures.leads _ _ _ _ (by_dropped c.in_ok-_end.ensures (make (h)))))))));
-  shrinks = omega (arith, c.in_ok-stage.ensures.shrinks, one c.in_ok-_from.ensures, c.in_ok-from.ensures.shrinks, one c.in_ok-_to.ensures, c.in_ok-to.ensures.shrinks, c.in_ok-step.ensures.shrinks, one c.in_ok-_end.ensures);
+  leads = λ s cs vs o h. span_all (c.in_ok-stage.ensures.leads _ _ _ _ (c.in_ok-from.ensures.leads _ _ _ _ (make (h))));
+  shrinks = omega (arith, c.in_ok-stage.ensures.shrinks, c.in_ok-from.ensures.shrinks);
 }
