@@ -1,4 +1,4 @@
--- What the functions of the parser promise: where the machine goes. Tokens are numbered from 0.
+-- What the functions that read promise: where the machine goes. Tokens are numbered from 0. The clauses of `parse` speak of none of it.
 use Rattle.std.specs.Prelude.{ℕ, ◌+◌, ◌≤◌, ◌≡◌, List, [], ◌∷◌, ◌++◌, length, drop, Option, None, Some}
 use Rattle.kp_base.specs.declared.place.Place.{Place}
 use Rattle.kp_ast.specs.declared.tree.Expr.{Expr}

@@ -1,4 +1,4 @@
--- What private contracts and proofs speak of: a reader of the public contracts needs none of it.
+-- What private contracts and proofs speak of, here and in kp_parse: a reader of `parse` needs none of it.
 pub mod Follow
 pub mod Rank
 pub mod Operators

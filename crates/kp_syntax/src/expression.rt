@@ -24,7 +24,8 @@ use std::alloc::Global;
 // The nesting count that no expression passes.
 const LIMIT: u32 = 64;
 
-/// An expression that is no part of another one, and the number of the next token.
+/// An expression that is no part of another one, and the number of the next token. Fails at the first token that can't
+/// stand there, or that passes the nesting count of 64, whichever comes first.
 pub fn whole_expression(
     alloc: Global,
     tokens: &Tokens<'_>,

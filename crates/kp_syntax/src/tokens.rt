@@ -13,7 +13,8 @@ use kp_lex::{Keyword, Mark, Token, TokenKind};
 use std::alloc::Global;
 use std::marker::Model;
 
-/// The tokens of a text, with the text. Tokens are numbered from 0.
+/// The tokens of a text, with the text. Tokens are numbered from 0. A call that takes the token `at` fails with
+/// `Fault::Wrong(at)` where that is another one, or where the text has ended.
 #[derive(Drop)]
 pub struct Tokens<'t> {
     text: &'t [u8],
