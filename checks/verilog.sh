@@ -11,6 +11,7 @@ top=$(cd "$(dirname "$0")/.." && pwd)
 kp=${KP:-$top/kp}
 cycles=${CYCLES:-200}
 seconds=${MOST:-60}
+. "$top/checks/shaken.sh"
 work=$(mktemp -d)
 trap 'rm -rf "$work"' EXIT
 checked=0
@@ -55,30 +56,6 @@ lint() {
             *) says "$1" yosys "$(tail -n 1 "$work/said")" ;;
         esac
     }
-}
-
-# The job without its stalls and inputs, and with random ones for all stages and samples.
-shaken() {
-    awk -v cycles="$cycles" -v seed="$2" '
-        /^(stalls|inputs)[ {]/ { skipping = 1 }
-        skipping { if (/}/) skipping = 0; next }
-        /^stages / { n = $2 + 0 }
-        /^sample / { split($0, w, /[ :]+/); name[++samples] = w[2]; width[samples] = w[3] + 0 }
-        /^end/ { exit }
-        { print }
-        END {
-            srand(seed)
-            print "stalls {"
-            for (t = 0; t < cycles; t++) for (k = 0; k < n; k++) if (rand() < 0.25) printf "  %d from %d to %d;\n", k, t, t
-            print "}"
-            if (samples) {
-                print "inputs {"
-                for (t = 0; t < cycles; t++) for (s = 1; s <= samples; s++) if (rand() < 0.4)
-                    printf "  %s = %d%sd%d from %d to %d;\n", name[s], width[s], "\047", int(rand() * 2 ^ (width[s] < 30 ? width[s] : 30)), t, t
-                print "}"
-            }
-            print "end"
-        }' "$1"
 }
 
 # A test bench that drives the module as the sections of the job say, and writes what `sim` writes but the counts.
