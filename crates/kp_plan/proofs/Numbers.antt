@@ -167,7 +167,7 @@ mux_held t o p l i j z x y g h k one same =
     chosen (z == 1) (mux_found t o p) i j x y same h.word k.word
     (mux_at t o p l i j z x y g h k
     ∙ ap (λ c. where_so (c && i == j) (mux_of (word l z) (word i x) (word j y))) (eq_same l 1 one)
-    ∙ ap (λ c. where_so c (mux_of (word l z) (word i x) (word j y))) (eq_same i j test))
+    ∙ ap (λ c. where_so c (mux_of (word l z) (word i x) (word j y))) (eq_same i j same))
 
 pub mux_narrow : (t o p : Option Word) (l i j z x y : ℕ) → Holds t l z → Holds o i x → Holds p j y → l ≢ 1 → mux_found t o p ≡ None
 mux_narrow t o p l i j z x y g h k n =

@@ -286,7 +286,9 @@ fn slice(alloc: Global, a: Option<Typed>, hi: u64, lo: u64) -> Result<Option<Typ
 fn zero_extended(a: Option<Typed>, width: u64) -> Option<Typed>
     ensures { GivesOne (option_and_then (checked_zext width)) a result }
 {
-    let a = a?;
+    let Some(a) = a else {
+        return None;
+    };
     if a.width > width {
         return None;
     }

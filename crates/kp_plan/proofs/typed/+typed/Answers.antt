@@ -1,8 +1,8 @@
-use Rattle.std.proofs.Common.{arith, refl, subst, sym, take, None, Some}
+use Rattle.std.proofs.Common.{subst, sym, take, ◌+◌, ◌++◌, ◌∷◌, []}
 use Rattle.std.proofs.lemmas.Result.{IfOk-weaker}
 use Rattle.kp_plan.specs.Plans.{meaning, space}
 use Rattle.kp_plan.specs.Codes.{Gives, AreTyped}
-use Rattle.kp_plan.proofs.Typing.{typed_more, joined_first, joined_next, joined_done, joined_nothing}
+use Rattle.kp_plan.proofs.Typing.{typed_more, joined_first, joined_next}
 use Rattle.kp_plan.proofs.Arms.{arm_word, arm_not, arm_binary, arm_mux, arm_concat, arm_slice, arm_zext, arm_sext, arm_call, args_none}
 use Rattle.kp_plan.proofs.typed.+typed.Goals as goal
 
@@ -53,3 +53,24 @@ pub args_of-returns-in-None : goal.args_of-returns-in-None
 args_of-returns-in-None t c =
     args_none c.args.widths.now c.args.plans.now c.loop-plan.plan-index c.plan-item.result c.loop-plan-test.true c.plan-item.is
     (subst (Gives c.args.widths.now (meaning c.plan-item.result) (space c.plan-item.result)) c.in-None.is c.in_ok-arg.ensures)
+
+pub args_of-loop-plan-preserved : goal.args_of-loop-plan-preserved
+args_of-loop-plan-preserved t c =
+    let ws = c.args.widths.now in
+    let ps = c.args.plans.now in
+    let p = c.plan-item.result in
+    let i = c.loop-plan.plan-index in
+    let one = subst (Gives ws (meaning p) (space p)) c.in-Some.is c.in_ok-arg.ensures in
+    subst (λ xs. AreTyped ws (take (i + 1) ps) xs c.push-in-Some.new.self.items) (sym c.in_ok-push-in-Some.ensures.items)
+    (subst (AreTyped ws (take (i + 1) ps) (c.loop-plan.codes.items ++ c.in-Some.arg.code ∷ [])) (sym c.in_ok-push-in-Some-2.ensures.items)
+    (typed_more ws ps i p c.loop-plan.codes.items c.loop-plan.known.items c.in-Some.arg c.loop-plan-test.true c.plan-item.is c.loop-plan.invariant one))
+
+pub joined_of-loop-part-init : goal.joined_of-loop-part-init
+joined_of-loop-part-init t c = λ k h.
+    joined_first c.args.widths.now c.args.parts.now c.in-Some.first.now c.in-Some.rest.now c.in_ok-all.all k c.in-Some.ensures.cases.0 c.in_ok-all.ensures h
+
+pub joined_of-loop-part-preserved : goal.joined_of-loop-part-preserved
+joined_of-loop-part-preserved t c = λ k h.
+    c.loop-part.invariant k
+    (joined_next c.args.widths.now c.in-Some.rest.now c.loop-part.part-index c.part-item.result c.loop-part.all c.in_ok-low.low c.in_ok-all-2.all k c.loop-part-test.true c.part-item.is
+    c.in_ok-low.ensures c.in_ok-all-2.ensures h)
