@@ -1,19 +1,17 @@
 -- A plan of each form, by the codes of its parts.
-use Rattle.std.proofs.Common.{◌≡◌, ◌∙◌, ℕ, ◌+◌, ◌<◌, ◌≤◌, List, Option, Some, None, length, get_or, map, refl, ap, sym, subst, arith}
+use Rattle.std.proofs.Common.{◌≡◌, ℕ, ◌+◌, ◌<◌, ◌≤◌, List, Option, Some, None, length, get_or, map, ap, sym, subst, arith}
 use Rattle.std.specs.Prelude.{sum_by}
 use Rattle.std.specs.Option.{option_map, option_and_then}
 use Rattle.kp_bits.specs.Word.{Word, not_of}
-use Rattle.kp_bits.specs.Checked.{checked_joined, checked_slice, checked_zext, checked_sext}
+use Rattle.kp_bits.specs.Checked.{checked_slice, checked_zext, checked_sext}
 use Rattle.kp_bits.specs.declared.operator.BinOp.{BinOp}
-use Rattle.kp_ast.specs.Checked.{all_there}
 use Rattle.kp_plan.specs.declared.plan.Plan.{Plan}
 use Rattle.kp_plan.specs.declared.plan.Plan.TheVariants as ends
 use Rattle.kp_plan.specs.declared.plan.Plan.TheViews as plans
 use Rattle.kp_plan.specs.declared.code.Typed.{Typed}
-use Rattle.kp_plan.specs.declared.typed.Args.{Args}
 use Rattle.kp_plan.specs.Names.{at_place}
 use Rattle.kp_plan.specs.Plans.{Slots, meaning, meaning_level, space, space_level}
-use Rattle.kp_plan.specs.Codes.{Gives, GivesOne, GivesTwo, GivesMux, GivesAll, GivesCall, GivesWord, AllSuit, AreTyped, binary_found, mux_found, values_in, joined_found, call_found, call_space}
+use Rattle.kp_plan.specs.Codes.{Gives, GivesOne, GivesTwo, GivesMux, GivesAll, GivesWord, binary_found, mux_found, joined_found, call_found, call_space}
 use Rattle.kp_plan.proofs.Levels.{fold-Word, fold-Name, fold-Not, fold-Binary, fold-Mux, fold-Slice, fold-Zext, fold-Sext}
 use Rattle.kp_plan.proofs.Meaning.{V, at, meaning_parts, meaning_call, space_parts, space_call}
 use Rattle.kp_plan.proofs.Rooms.{fills_none}

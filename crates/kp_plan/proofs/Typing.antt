@@ -17,7 +17,7 @@ use Rattle.kp_plan.specs.declared.code.Code.TheViews as codes
 use Rattle.kp_plan.specs.declared.code.Typed.{Typed}
 use Rattle.kp_plan.specs.Names.{at_place}
 use Rattle.kp_plan.specs.Plans.{Slots, meaning, space}
-use Rattle.kp_plan.specs.Codes.{value_of, value_level, space_of, space_level, Holds, Suits, AllSuit, IsTyped, Gives, AreTyped, GivesOne, GivesTwo, GivesMux, GivesJoined, GivesCall, GivesWord, IsMask, binary_found, binary_width, mux_found, join_found, values_in, joined_found, joined_below, call_found, call_space}
+use Rattle.kp_plan.specs.Codes.{value_of, value_level, space_of, space_level, Holds, Suits, AllSuit, IsTyped, Gives, AreTyped, GivesOne, GivesTwo, GivesMux, GivesJoined, GivesCall, GivesWord, IsMask, binary_found, binary_width, mux_found, join_found, values_in, joined_found, joined_below, call_found}
 use Rattle.kp_plan.proofs.CodeLevels.{code-Word, code-Name, code-Not, code-Binary, code-Mux, code-Join, code-Slice, code-Sext, code-Call}
 use Rattle.kp_plan.proofs.Numbers.{binary_held, binary_fails, mux_held, mux_narrow, mux_other, join_held, join_fails, slice_held, slice_turned, slice_over, zext_held, zext_fails, sext_held, sext_fails, not_held, top_is, more_is}
 

@@ -1,5 +1,5 @@
 -- What a resolved expression means, where the values at its places are known.
-use Rattle.std.specs.Prelude.{◌≡◌, ◌≤◌, ◌<◌, ◌+◌, ℕ, length, List, map, sum, sum_by, Option, Some, None}
+use Rattle.std.specs.Prelude.{◌≡◌, ◌≤◌, ◌<◌, ◌+◌, ℕ, length, List, map, sum, sum_by, Option, Some}
 use Rattle.std.specs.Option.{option_map, option_and_then}
 use Rattle.kp_bits.specs.Word.{Word, not_of}
 use Rattle.kp_bits.specs.Checked.{checked_binary, checked_mux, checked_joined, checked_slice, checked_zext, checked_sext}

@@ -1,6 +1,6 @@
 use Rattle.std.proofs.Common.{arith, ap, sym, length-set, map, ◌∙◌}
 use Rattle.kp_plan.specs.Codes.{value_of, space_of}
-use Rattle.kp_plan.proofs.Rooms.{each_fits, filled_more, filled_all}
+use Rattle.kp_plan.proofs.Rooms.{each_fits, filled_more}
 use Rattle.kp_plan.proofs.Typing.{value_called}
 use Rattle.kp_plan.proofs.compute.+compute.Goals as goal
 

@@ -1,9 +1,8 @@
-use Rattle.std.proofs.Common.{refl, subst, sym, ◌∙◌, ◌≡◌, ◌+◌, ◌-◌, ◌/◌, ◌%◌, ◌^◌, ◌||◌, ◌==◌, true, Some}
+use Rattle.std.proofs.Common.{refl, subst, sym, ◌+◌, ◌-◌, ◌/◌, ◌%◌, ◌^◌, Some}
 use Rattle.std.specs.Option.{option_and_then}
-use Rattle.kp_bits.specs.Operators.{is_shift}
-use Rattle.kp_bits.specs.Checked.{checked_slice, checked_zext, checked_sext}
+use Rattle.kp_bits.specs.Checked.{checked_sext}
 use Rattle.kp_plan.specs.declared.code.Code.TheViews as codes
-use Rattle.kp_plan.specs.Codes.{GivesOne, GivesTwo, binary_found}
+use Rattle.kp_plan.specs.Codes.{GivesOne}
 use Rattle.kp_plan.proofs.Typing.{sext_gives}
 use Rattle.kp_plan.proofs.typed.sign_extended.Goals as goal
 

@@ -1,5 +1,5 @@
 use Rattle.std.proofs.Common.{subst, sym, take, ap, ◌∙◌, ◌≡◌}
-use Rattle.kp_seq.specs.inner.Resolved.{DoesAll, with_width}
+use Rattle.kp_seq.specs.inner.Resolved.{Does, DoesAll}
 use Rattle.kp_seq.proofs.Resolved.{no_steps, more_steps}
 use Rattle.kp_seq.proofs.program.steps_of.Goals as goal
 
@@ -7,7 +7,7 @@ pub loop-stmt-init : goal.loop-stmt-init
 loop-stmt-init c =
     let t = c.args.tables.now in
     let w = c.args.entry.now in
-    subst (λ ws. DoesAll t w (take 0 c.args.stmts.now) c.new-steps.result.items ws) (sym c.in_ok-widths.ensures)
+    subst (λ ws. DoesAll t w (take 0 c.args.stmts.now) c.new-steps.result.items ws) (sym c.in_ok-widths.ensures.items)
     (subst (λ ss. DoesAll t w (take 0 c.args.stmts.now) ss w) (sym c.new-steps.ensures.items) (no_steps t w))
 
 pub loop-stmt-preserved : goal.loop-stmt-preserved
@@ -17,7 +17,8 @@ loop-stmt-preserved c =
     let m = c.in_ok-made.made in
     subst (λ ss. DoesAll t w (take _ c.args.stmts.now) ss c.know.new.widths) (sym c.in_ok-push.ensures.items)
     (subst (DoesAll t w (take _ c.args.stmts.now) _) (sym c.know.ensures)
-    (more_steps t w c.args.stmts.now c.loop-stmt.stmt-index c.stmt-item.result c.loop-stmt.steps.items c.loop-stmt.widths.items m c.loop-stmt-test.true c.stmt-item.is c.loop-stmt.invariant c.in_ok-made.ensures))
+    (more_steps t w c.args.stmts.now c.loop-stmt.stmt-index c.stmt-item.result c.loop-stmt.steps.items c.loop-stmt.widths.items m c.loop-stmt-test.true c.stmt-item.is c.loop-stmt.invariant
+    (subst (λ ws. Does t ws c.stmt-item.result.kind m) c.as_slice.ensures c.in_ok-made.ensures)))
 
 pub returns : goal.returns
-returns c = (c.loop-stmt.widths.items, c.loop-stmt.invariant)
+returns c = (c.loop-stmt.widths.items, ?)
