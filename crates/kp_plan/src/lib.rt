@@ -9,8 +9,8 @@ mod resolve;
 mod typed;
 
 pub use code::{Code, Typed};
+pub use compute::value;
 pub use keys::Keys;
 pub use plan::Plan;
 pub use resolve::{Scope, plan_of};
 pub use typed::code_of;
-pub use compute::value;

@@ -18,7 +18,11 @@ use std::alloc::Global;
 /// The code of a plan, where the places of its names hold words of these widths, and nothing where there is none. None where the plan
 /// has no value then.
 #[cycle(typed)]
-pub fn code_of(alloc: Global, plan: &Plan, widths: &[Option<u64>]) -> Result<Option<Typed>, NoMemory>
+pub fn code_of(
+    alloc: Global,
+    plan: &Plan,
+    widths: &[Option<u64>],
+) -> Result<Option<Typed>, NoMemory>
     ensures { IfOk result (λ c. Gives widths.now (meaning plan.now) (space plan.now) c) }
 {
     match plan {
@@ -58,7 +62,11 @@ pub fn code_of(alloc: Global, plan: &Plan, widths: &[Option<u64>]) -> Result<Opt
 
 // The code of parts in a row, the first on top.
 #[cycle(typed)]
-fn joined_of(alloc: Global, parts: &[Plan], widths: &[Option<u64>]) -> Result<Option<Typed>, NoMemory>
+fn joined_of(
+    alloc: Global,
+    parts: &[Plan],
+    widths: &[Option<u64>],
+) -> Result<Option<Typed>, NoMemory>
     ensures { IfOk result (λ c. Gives widths.now (joined_found parts.now) (sum_by space parts.now) c) }
 {
     let Some((first, rest)) = parts.split_first() else {
@@ -74,7 +82,12 @@ fn joined_of(alloc: Global, parts: &[Plan], widths: &[Option<u64>]) -> Result<Op
 
 // The code of a call.
 #[cycle(typed)]
-fn call_of(alloc: Global, args: &[Plan], body: &Plan, widths: &[Option<u64>]) -> Result<Option<Typed>, NoMemory>
+fn call_of(
+    alloc: Global,
+    args: &[Plan],
+    body: &Plan,
+    widths: &[Option<u64>],
+) -> Result<Option<Typed>, NoMemory>
     ensures { IfOk result (λ c. Gives widths.now (call_found args.now (meaning body.now)) (call_space args.now (space body.now)) c) }
 {
     let Some(args) = args_of(alloc, args, widths)? else {
@@ -174,7 +187,12 @@ fn complement(alloc: Global, a: Option<Typed>) -> Result<Option<Typed>, NoMemory
 }
 
 #[tactic(auto, using(crate::proofs::Typing::binary_none, crate::proofs::Typing::binary_half, crate::proofs::Typing::binary_wrong, crate::proofs::Typing::binary_gives))]
-fn binary(alloc: Global, op: BinOp, a: Option<Typed>, b: Option<Typed>) -> Result<Option<Typed>, NoMemory>
+fn binary(
+    alloc: Global,
+    op: BinOp,
+    a: Option<Typed>,
+    b: Option<Typed>,
+) -> Result<Option<Typed>, NoMemory>
     ensures { IfOk result (λ c. GivesTwo (binary_found op) a b c) }
 {
     let Some(a) = a else {
@@ -214,7 +232,12 @@ fn binary_width(op: BinOp, width: u64) -> u64
 }
 
 #[tactic(auto, using(crate::proofs::Typing::mux_none, crate::proofs::Typing::mux_no_yes, crate::proofs::Typing::mux_no_no, crate::proofs::Typing::mux_wrong, crate::proofs::Typing::mux_gives))]
-fn choice(alloc: Global, test: Option<Typed>, a: Option<Typed>, b: Option<Typed>) -> Result<Option<Typed>, NoMemory>
+fn choice(
+    alloc: Global,
+    test: Option<Typed>,
+    a: Option<Typed>,
+    b: Option<Typed>,
+) -> Result<Option<Typed>, NoMemory>
     ensures { IfOk result (λ c. GivesMux test a b c) }
 {
     let Some(test) = test else {

@@ -87,8 +87,16 @@ fn widths_at_entry(alloc: Global, tables: &Tables) -> Result<Vec<Option<u64>>, N
     ensures { IfOk result (λ widths. widths.items ≡ entry_widths tables.now) }
 {
     let mut widths = vec![in alloc; None; tables.names.len()]?;
-    know_all(&tables.names, tables.samples.as_slice(), widths.as_mut_slice());
-    know_all(&tables.names, tables.pipes.as_slice(), widths.as_mut_slice());
+    know_all(
+        &tables.names,
+        tables.samples.as_slice(),
+        widths.as_mut_slice(),
+    );
+    know_all(
+        &tables.names,
+        tables.pipes.as_slice(),
+        widths.as_mut_slice(),
+    );
     Ok(widths)
 }
 
