@@ -3,3 +3,7 @@ mod Parts
 mod Levels
 mod Meaning
 mod Calling
+pub mod CodeLevels
+pub mod Numbers
+pub mod Typing
+mod Arms

@@ -1,5 +1,5 @@
 -- What a resolved expression means, where the values at its places are known.
-use Rattle.std.specs.Prelude.{◌≡◌, ◌≤◌, ◌<◌, ◌+◌, ℕ, length, List, map, sum, sum_by, Option, Some, None}
+use Rattle.std.specs.Prelude.{◌≡◌, ◌≤◌, ◌<◌, ◌+◌, ℕ, length, List, map, sum, sum_by, Option, Some}
 use Rattle.std.specs.Option.{option_map, option_and_then}
 use Rattle.kp_bits.specs.Word.{Word, not_of}
 use Rattle.kp_bits.specs.Checked.{checked_binary, checked_mux, checked_joined, checked_slice, checked_zext, checked_sext}
@@ -12,8 +12,6 @@ use Rattle.kp_plan.specs.declared.plan.Plan.{Plan}
 use Rattle.kp_plan.specs.declared.plan.Plan.TheOpen.{Plan-F}
 use Rattle.kp_plan.specs.declared.plan.Plan.TheOpen as level
 use Rattle.kp_plan.specs.declared.plan.Plan.TheFolds.{fold-Plan}
-use Rattle.kp_plan.specs.declared.value.Places.{Places}
-use Rattle.kp_plan.specs.declared.value.Places.TheVariants as places
 use Rattle.kp_plan.specs.declared.resolve.Scope.{Scope}
 use Rattle.kp_plan.specs.Names.{at_place, place_of}
 
@@ -54,16 +52,6 @@ space_level (level.Call args body) = body + (length args + sum args)
 
 abbrev pub space : Plan → ℕ
 space = fold-Plan ℕ space_level
-
--- what is held at the places of a stage, and at those of a call
-abbrev pub slots_of : Places → Slots
-slots_of (places.Stage values) = values.now
-slots_of (places.Call args) = map Some args.now
-
--- the values of a list of plans, where each has one
-abbrev pub Fills : Option (Unit {0}) → List Word → Option (List Word) → Type 0
-Fills (Some u) values known = known ≡ Some values
-Fills None values known = known ≡ None
 
 -- what is known of names by the values at their places, and of calls of the functions of these declarations
 abbrev pub known_by : List Decl → Scope → Slots → Known

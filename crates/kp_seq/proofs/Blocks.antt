@@ -32,7 +32,8 @@ use Rattle.kp_seq.specs.Running.{state_in}
 use Rattle.kp_seq.specs.inner.Names.{held}
 use Rattle.kp_seq.specs.inner.Tables.{Laid}
 use Rattle.kp_seq.specs.inner.Steps.{Under, holds, word_in, with_result, after_stmt, after_stmts}
-use Rattle.kp_seq.specs.inner.Ready.{AreTables, FitSlots}
+use Rattle.kp_seq.specs.inner.Fits.{FitSlots}
+use Rattle.kp_seq.specs.inner.Ready.{AreTables}
 use Rattle.kp_seq.proofs.Lengths.{stmt_same}
 use Rattle.kp_machine.proofs.Scopes.{fresh_none, look_last, find_none}
 use Rattle.kp_seq.proofs.Stage.{Named}

@@ -34,7 +34,11 @@ use Rattle.kp_seq.specs.inner.Names.{held}
 use Rattle.kp_seq.specs.inner.Tables.{Laid}
 use Rattle.kp_seq.specs.inner.Steps.{Under, fitted, pipe_words, with_name, with_pipes, with_row}
 use Rattle.kp_seq.specs.inner.Steps as steps
-use Rattle.kp_seq.specs.inner.Ready.{AreTables, FitSlots}
+use Rattle.kp_seq.specs.inner.Fits.{FitSlots}
+use Rattle.kp_seq.specs.inner.Ready.{AreTables}
+use Rattle.kp_plan.specs.Codes.{Holds, AllSuit}
+use Rattle.kp_seq.specs.inner.Resolved.{Outline, Raw, IsShown, with_place, with_row_at, with_carried, entered_at, place_in, places_of, with_width, with_widths, entry_widths}
+use Rattle.kp_seq.proofs.Resolved.{named, none_suit}
 use Rattle.kp_seq.proofs.Lengths.{row_same, entered_same}
 use Rattle.kp_seq.proofs.Start.{fitted_is}
 use Rattle.kp_machine.proofs.Scopes.{is_sample}
@@ -145,6 +149,33 @@ module _ (t : Laid) where
       (λ y.
       ap (λ b. or_else later (cond b (Some w) old)) y
       ∙ sym (ap (λ b. or_else (cond b (Some (word s.width (vs i))) later) old) y))
+
+  -- in numbers too, where their widths are known
+  row_shown : (vs : ℕ → ℕ) (i : ℕ) (ss : List Slot) (row : List Word) (ws : List (Option ℕ)) (u : Under) (r : Raw) → Apart ss → IsRow vs i ss row → IsShown ws u r
+      → IsShown (with_widths t.names ws ss) (with_row t u ss row) (with_row_at r (places_of t.names ss) row)
+  row_shown vs i [] row ws u r a is h = h
+  row_shown vs i (s ∷ ss) [] ws u r a is h = absurd is
+  row_shown vs i (s ∷ ss) (w ∷ row) ws u r a is h =
+      let wide : w.width ≡ s.width = ap (λ (x : Word). x.width) is.0 in
+      let value : vs i ≡ w.value = sym (ap (λ (x : Word). x.value) is.0) in
+      let held_so : Holds (Some w) s.width w.value = record {
+        there = λ j. Some (word (wide j) w.value);
+        word = record { positive = a.1; at_most = a.2; fits = subst (λ n. n < 2 ^ s.width) value is.1 };
+      } in
+      row_shown vs (suc i) ss row (with_width ws (place_in t.names s) s.width) (with_name t u s.name w) (with_place r (place_in t.names s) w.value) a.3 is.2
+      (named t ws u r s.name (place_in t.names s) w s.width w.value h refl held_so)
+
+  carried_row : (values : List ℕ) (i : ℕ) (ss : List Slot) (r : Raw) → r.pipes ≡ values → Apart ss → ((p : ℕ) (x : Slot) → slice_get ss p ≡ Some x → slice_index values (i + p) < 2 ^ x.width)
+      → with_carried r i (places_of t.names ss) ≡ with_row_at r (places_of t.names ss) (pipe_words values i ss)
+  carried_row values i [] r e a f = refl
+  carried_row values i (s ∷ ss) r e a f =
+      let z : i + 0 ≡ i = omega arith in
+      let v : ℕ = slice_index values i in
+      let small : v < 2 ^ s.width = subst (λ n. slice_index values n < 2 ^ s.width) z (f 0 s refl) in
+      let one : slice_index r.pipes i ≡ (fitted s.width v).value = ap (λ ps. slice_index ps i) e ∙ sym (ap (λ (x : Word). x.value) (fitted_is s.width v a.1 a.2 small)) in
+      let next : Raw = with_place r (place_in t.names s) (fitted s.width v).value in
+      ap (λ n. with_carried (with_place r (place_in t.names s) n) (i + 1) (places_of t.names ss)) one
+      ∙ carried_row values (i + 1) ss next e a.3 (λ p x q. let y : i + suc p ≡ (i + 1) + p = omega arith in subst (λ n. slice_index values n < 2 ^ x.width) y (f (suc p) x q))
 
 -- of the names of the text, only the pipes and the samples have values
 bound_kind : {G : Type 0} (kind : NameKind) → is_bound kind ≡ true → is_of_text kind ≡ true → (is_pipe kind ≡ true → G) → (is_sample kind ≡ true → G) → G
@@ -258,3 +289,33 @@ module _ (job : Job) (unbroken : Unbroken (widths_of job)) (t : Laid) (tables : 
           };
           places = (entered_same t row u).names ∙ names;
         }
+
+    -- So it is in numbers.
+    pub shown : Ended job.decls c u → length u.names ≡ length t.names → (o : Outline) → o.samples ≡ places_of t.names t.samples → o.pipes ≡ places_of t.names t.pipes → (r : Raw) → length r.names ≡ length t.names
+        → r.pipes ≡ u.pipes → r.results ≡ u.results → IsShown (entry_widths t) (steps.entered t row u) (entered_at o row r)
+    shown h names o samples pipes r room same_pipes same_results =
+        let none : Option Word = None in
+        let none_known : Option ℕ = None in
+        let q_values : ℕ → ℕ = values_in row in
+        let start : Under = record u { names = replicate (length u.names) none } in
+        let mid : Under = with_row t start t.samples row in
+        let start_raw : Raw = with_row_at r (places_of t.names t.samples) row in
+        let mid_pipes : mid.pipes ≡ u.pipes = row_pipes t start t.samples row in
+        let right = declared_right job unbroken in
+        let apart : Apart t.pipes = subst Apart (sym tables.pipes) (pipes_apart job.decls nothing right) in
+        let apart_samples : Apart t.samples = subst Apart (sym tables.samples) (samples_apart job.decls nothing right) in
+        let fit_pipe : (p : ℕ) (x : Slot) → slice_get t.pipes p ≡ Some x → slice_index mid.pipes (0 + p) < 2 ^ x.width = λ p x e.
+        let z : p ≡ 0 + p = omega arith in
+        subst (λ n. slice_index mid.pipes n < 2 ^ x.width) z (subst (λ ps. slice_index ps p < 2 ^ x.width) (sym mid_pipes) (h.pipe_fits p x (ap (λ ss. slice_get ss p) (sym tables.pipes) ∙ e))) in
+        let pipe_row : IsRow (λ p. slice_index mid.pipes p) 0 t.pipes (pipe_words mid.pipes 0 t.pipes) = pipes_row (λ p. slice_index mid.pipes p) mid.pipes 0 t.pipes apart (λ p. refl) fit_pipe in
+        let is_row : IsRow q_values 0 t.samples row = subst (λ xs. IsRow q_values 0 xs row) (sym tables.samples) (values_from q_values 0 job.decls row fits (λ p. let z : 0 + p ≡ p = omega arith in ap q_values z)) in
+        let before : IsShown (replicate (length t.names) none_known) start r = record {
+          names = subst (λ n. AllSuit (replicate (length t.names) none_known) (replicate n none) r.names) (sym names) (none_suit (length t.names) r.names room);
+          pipes = same_pipes;
+          results = same_results;
+        } in
+        let sampled = row_shown t q_values 0 t.samples row (replicate (length t.names) none_known) start r apart_samples is_row before in
+        let piped = row_shown t (λ p. slice_index mid.pipes p) 0 t.pipes (pipe_words mid.pipes 0 t.pipes) (with_widths t.names (replicate (length t.names) none_known) t.samples) mid start_raw apart pipe_row sampled in
+        let e : entered_at o row r ≡ with_row_at start_raw (places_of t.names t.pipes) (pipe_words mid.pipes 0 t.pipes) =
+        ap (λ ps. with_carried (with_row_at r ps row) 0 o.pipes) samples ∙ ap (with_carried start_raw 0) pipes ∙ carried_row t mid.pipes 0 t.pipes start_raw sampled.pipes apart fit_pipe in
+        subst (IsShown (entry_widths t) (steps.entered t row u)) (sym e) piped

@@ -36,7 +36,8 @@ use Rattle.kp_machine.proofs.Cases.{by_test, by_option}
 use Rattle.kp_machine.proofs.Scopes.{sense_of, is_sample, find_none}
 use Rattle.kp_plan.specs.Names.{keys_of}
 use Rattle.kp_seq.specs.inner.Tables.{Laid}
-use Rattle.kp_seq.specs.inner.Ready.{AreTables, FitSlots}
+use Rattle.kp_seq.specs.inner.Fits.{FitSlots}
+use Rattle.kp_seq.specs.inner.Ready.{AreTables}
 use Rattle.kp_seq.proofs.Blocks.{HasPlace, Keyed}
 
 one_of_two : {G : Type 0} (a b : Bool) → (a || b) ≡ true → (a ≡ true → G) → (b ≡ true → G) → G

@@ -12,7 +12,7 @@ pub mod Gives
 pub mod Reading
 pub mod Blocks
 pub mod Written
+pub mod Resolved
 pub mod Entering
 pub mod Keys
 pub mod Step
-pub mod Resolved

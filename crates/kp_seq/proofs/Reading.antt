@@ -31,7 +31,8 @@ use Rattle.kp_seq.specs.Running.{no_slot, state_in}
 use Rattle.kp_seq.specs.inner.Tables.{Laid}
 use Rattle.kp_seq.specs.inner.Steps.{Under, fitted, holds, address_in}
 use Rattle.kp_seq.specs.inner.Steps as steps
-use Rattle.kp_seq.specs.inner.Ready.{AreTables, FitSlots}
+use Rattle.kp_seq.specs.inner.Fits.{FitSlots}
+use Rattle.kp_seq.specs.inner.Ready.{AreTables}
 use Rattle.kp_machine.proofs.Scopes.{IsSlot, slot_of, found_sense, storage_kind, fresh_none}
 use Rattle.kp_machine.proofs.Names.{IsIn}
 use Rattle.kp_machine.proofs.Text.{placed, local_no, found_where}

@@ -1,12 +1,15 @@
--- What an instruction does by the resolved job is what it does by the job.
-use Rattle.std.proofs.Common.{◌≡◌, ◌∙◌, ℕ, ◌+◌, ◌<◌, ◌≤◌, List, [], ◌∷◌, ◌++◌, Option, Some, None, cond, length, map, take, get_or, replicate, refl, ap, sym, subst, arith}
-use Rattle.std.specs.Prelude.{All, sum_by, is_some, slice_index, unwrap_or, ◌==◌}
+-- What an instruction does by the resolved job, in numbers, is what it does by the job.
+use Rattle.std.proofs.Common.{◌≡◌, ◌∙◌, ℕ, zero, suc, ◌+◌, ◌^◌, ◌<◌, ◌≤◌, List, [], ◌∷◌, ◌++◌, Option, Some, None, Bool, true, false, cond, length, map, set, take, get_or, replicate, refl, ap, sym, subst, arith}
+use Rattle.std.proofs.Common.{⊎_elim}
+use Rattle.std.proofs.lemmas.Bool.{cases_lt}
+use Rattle.std.specs.Prelude.{All, sum_by, is_some, nat_le, nat_lt, ◌&&◌, slice_index, unwrap_or, ◌==◌}
 use Rattle.std.specs.Option.{option_map}
 use Rattle.std.specs.List.{position}
+use Rattle.std.proofs.lemmas.Nat.{pow_pos}
 use Rattle.std.proofs.lemmas.List.{take_more}
 use Rattle.std.proofs.lemmas.List.Elements.{All-nil, All-cons}
 use Rattle.std.proofs.lemmas.List.Sums.{sum_by-cons}
-use Rattle.kp_bits.specs.Word.{Word}
+use Rattle.kp_bits.specs.Word.{Word, word, IsWord}
 use Rattle.kp_ast.specs.Expressions.{is_same_name}
 use Rattle.kp_ast.specs.declared.tree.Expr.{Expr}
 use Rattle.kp_ast.specs.declared.tree.Named as tree
@@ -17,158 +20,261 @@ use Rattle.kp_ast.specs.declared.tree.StmtKind.{StmtKind}
 use Rattle.kp_ast.specs.declared.tree.StmtKind.TheVariants as stmts
 use Rattle.kp_ast.specs.declared.tree.Block.{Block}
 use Rattle.kp_stage.specs.Sizes.{size_of_stmt, size_of_block}
+use Rattle.kp_law.specs.Sequential.{first_value}
 use Rattle.kp_machine.specs.Slots.{Slot, number_of, width_of, result_named}
+use Rattle.kp_machine.proofs.Cases.{by_test}
 use Rattle.kp_plan.specs.declared.plan.Plan.{Plan}
+use Rattle.kp_plan.specs.declared.code.Code.{Code}
+use Rattle.kp_plan.specs.declared.code.Code.TheVariants as leaf
+use Rattle.kp_plan.specs.declared.code.Typed.{Typed}
 use Rattle.kp_plan.specs.declared.resolve.Scope.{Scope}
 use Rattle.kp_ast.specs.Checked.{checked, checked_calls_of}
 use Rattle.kp_plan.specs.Names.{at_place, place_of}
-use Rattle.kp_plan.specs.Plans.{Means}
+use Rattle.kp_plan.specs.Plans.{Slots, Means, meaning, space}
+use Rattle.kp_plan.specs.Codes.{Holds, Suits, AllSuit, Gives, value_of, value_level, space_of, space_level}
+use Rattle.kp_plan.proofs.CodeLevels.{code-Word}
+use Rattle.kp_plan.proofs.Numbers.{le_false}
 use Rattle.kp_seq.specs.declared.program.Reading.{Reading}
 use Rattle.kp_seq.specs.declared.program.Step.{Step}
 use Rattle.kp_seq.specs.declared.program.Step.TheVariants as moves
-use Rattle.kp_seq.specs.declared.program.Carried.{Carried}
+use Rattle.kp_seq.specs.declared.program.Made.{Made}
 use Rattle.kp_seq.specs.Running.{state_in}
+use Rattle.kp_seq.specs.inner.Names.{set_place}
+use Rattle.kp_seq.specs.inner.Fits.{FitsSlot, FitSlots}
 use Rattle.kp_seq.specs.inner.Tables.{Laid}
-use Rattle.kp_seq.specs.inner.Steps.{Under, zero_bit, fitted, holds, address_in, address_read, with_name, with_pipe, with_result, after_stmt, after_stmts, with_row, with_pipes, pipe_words, entered, after_block, after_blocks, begun, written_from, executed}
-use Rattle.kp_seq.specs.inner.Resolved.{Outline, Resolves, AllDo, DoesAll, Does, IsPlan, IsOptionPlan, IsReading, word_at, address_at, value_at, with_place, with_target, after_step, after_steps, with_row_at, with_carried, carried_words, entered_at, after_stages, ran, steps_space, step_space, places_of, carried_of}
+use Rattle.kp_seq.specs.inner.Steps.{Under, zero_bit, fitted, word_in, holds, address_in, address_read, value_read, with_name, with_pipe, with_result, after_stmt, after_stmts}
+use Rattle.kp_seq.specs.inner.Resolved.{Outline, Raw, Resolves, AllDo, DoesAll, DoesStage, Does, DoesRead, IsShown, IsCode, IsOptionCode, IsReading, unnamed, holds_at, address_at, value_at, put_place, with_place, put_pipe, set_first, with_target, with_width, after_step, after_steps, steps_space, step_space}
+use Rattle.kp_seq.proofs.Start.{fitted_is}
+
+-- a place that gets a value of a width
+suits_set : (ws : List (Option ℕ)) (slots : Slots) (vs : List ℕ) (i : ℕ) (w : Option ℕ) (s : Option Word) (v : ℕ) → AllSuit ws slots vs → Suits w s v → AllSuit (set ws i w) (set slots i s) (set vs i v)
+suits_set [] slots vs i w s v h one = (ap (λ x. set x i s) h.0, ap (λ x. set x i v) h.1)
+suits_set (x ∷ ws) [] vs i w s v h one = absurd h
+suits_set (x ∷ ws) (y ∷ slots) [] i w s v h one = absurd h
+suits_set (x ∷ ws) (y ∷ slots) (z ∷ vs) zero w s v h one = (one, h.1)
+suits_set (x ∷ ws) (y ∷ slots) (z ∷ vs) (suc i) w s v h one = (h.0, suits_set ws slots vs i w s v h.1 one)
+
+suits_place : (ws : List (Option ℕ)) (slots : Slots) (vs : List ℕ) (o : Option ℕ) (w : ℕ) (x : Word) (v : ℕ) → AllSuit ws slots vs → Holds (Some x) w v
+    → AllSuit (with_width ws o w) (set_place slots o x) (put_place vs o v)
+suits_place ws slots vs None w x v h one = h
+suits_place ws slots vs (Some i) w x v h one = suits_set ws slots vs i (Some w) (Some x) v h one
+
+pub suits_length : (ws : List (Option ℕ)) (slots : Slots) (vs : List ℕ) → AllSuit ws slots vs → length vs ≡ length slots
+suits_length [] slots vs h = ap length h.1 ∙ sym (ap length h.0)
+suits_length (x ∷ ws) [] vs h = absurd h
+suits_length (x ∷ ws) (y ∷ slots) [] h = absurd h
+suits_length (x ∷ ws) (y ∷ slots) (z ∷ vs) h = ap (λ n. suc n) (suits_length ws slots vs h.1)
+
+-- where no place has a value, all numbers suit
+pub none_suit : (n : ℕ) (vs : List ℕ) → length vs ≡ n → AllSuit (replicate n None) (replicate n None) vs
+none_suit zero [] e = (refl, refl)
+none_suit zero (v ∷ vs) e = absurd (omega (arith, e))
+none_suit (suc n) [] e = absurd (omega (arith, e))
+none_suit (suc n) (v ∷ vs) e = (refl, none_suit n vs (omega (arith, e)))
+
+-- the number of a word that is held
+number : (x : Word) (w v : ℕ) → Holds (Some x) w v → v ≡ x.value
+number x w v h = let e : x ≡ word w v = cc_of h.there in sym (ap (λ (y : Word). y.value) e)
+  where
+    cc_of : Some x ≡ Some (word w v) → x ≡ word w v
+    cc_of e = ap (λ o. unwrap_or o zero_bit) e
+
+bit_word : IsWord zero_bit
+bit_word = record { positive = omega arith; at_most = omega arith; fits = omega arith }
+
+zero_held : Holds (Some zero_bit) 1 0
+zero_held = record { there = refl; word = bit_word }
+
+-- the words of a target fit it
+words_fit : (ss : List Slot) (words : List (List ℕ)) → FitSlots ss words → (q : List ℕ) (a : ℕ) → state_in words (number_of ss q) a < 2 ^ width_of ss q
+words_fit [] words h q a = let e : words ≡ [] = h in let z : state_in words 0 a ≡ 0 = ap (λ x. state_in x 0 a) e in omega (arith, z, pow_pos 0)
+words_fit (s ∷ ss) [] h q a = absurd h
+words_fit (s ∷ ss) (w ∷ words) h q a = by_test (is_same_name q s.name)
+    (λ y. subst (λ b. state_in (w ∷ words) (cond b 0 (suc (number_of ss q))) a < 2 ^ cond b s.width (width_of ss q)) (sym y) (h.0.fits a))
+    (λ y. subst (λ b. state_in (w ∷ words) (cond b 0 (suc (number_of ss q))) a < 2 ^ cond b s.width (width_of ss q)) (sym y) (words_fit ss words h.1 q a))
+
+cond_below : (b : Bool) (x m : ℕ) → x < m → 0 < m → cond b x 0 < m
+cond_below true x m h k = h
+cond_below false x m h k = k
+
+-- where a width is none of a word, one bit of 0 stands for it
+no_fit : (w v : ℕ) → (nat_le 1 w && nat_le w 64) ≡ false → fitted w v ≡ zero_bit
+no_fit w v h = ap (λ b. cond (b && nat_lt v (2 ^ w)) (word w v) zero_bit) h
+
+both : (a b : Bool) → (a && b) ≡ true → (a ≡ true) × (b ≡ true)
+both true b e = (refl, e)
+both false b e = cc
+
+le_true : (a b : ℕ) → nat_le a b ≡ true → a ≤ b
+le_true a b h = ⊎_elim (λ (l : b < a). let f : true ≡ false = sym h ∙ le_false a b l in cc) (λ (l : a ≤ b). l) (cases_lt b a)
 
 module _ (t : Laid) where
-  row_at : (u : Under) (ss : List Slot) (row : List Word) → with_row_at u (places_of t.names ss) row ≡ with_row t u ss row
-  row_at u [] row = refl
-  row_at u (s ∷ ss) [] = refl
-  row_at u (s ∷ ss) (w ∷ row) = row_at (with_name t u s.name w) ss row
-
-  places_carried : (ss : List Slot) → map (λ (p : Carried). p.place) (carried_of t.names ss) ≡ places_of t.names ss
-  places_carried [] = refl
-  places_carried (s ∷ ss) = ap (λ ps. position (is_same_name s.name) t.names ∷ ps) (places_carried ss)
-
-  words_carried : (values : List ℕ) (i : ℕ) (ss : List Slot) → carried_words values i (carried_of t.names ss) ≡ pipe_words values i ss
-  words_carried values i [] = refl
-  words_carried values i (s ∷ ss) = ap (λ ws. fitted s.width (slice_index values i) ∷ ws) (words_carried values (i + 1) ss)
-
-  carried_at : (u : Under) (ss : List Slot) → with_carried u 0 (carried_of t.names ss) ≡ with_pipes t u 0 ss
-  carried_at u ss =
-      ap (λ ps. with_row_at u ps (carried_words u.pipes 0 (carried_of t.names ss))) (places_carried ss)
-      ∙ ap (with_row_at u (places_of t.names ss)) (words_carried u.pipes 0 ss)
-      ∙ row_at u ss (pipe_words u.pipes 0 ss)
-
-  module _ (blocks : List Block) (o : Outline) (h : Resolves t blocks o) where
-    enters : (row : List Word) (u : Under) → entered_at o row u ≡ entered t row u
-    enters row u =
-        let v : Under = record u { names = replicate (length u.names) None } in
-        ap (λ ps. with_carried (with_row_at v ps row) 0 o.pipes) h.samples
-        ∙ ap (λ x. with_carried x 0 o.pipes) (row_at v t.samples row)
-        ∙ ap (with_carried (with_row t v t.samples row) 0) h.pipes
-        ∙ carried_at (with_row t v t.samples row) t.pipes
-
-    stages_same : (words : List (List ℕ)) (row : List Word) (u : Under) (bs : List Block) (ss : List (List Step)) → AllDo t bs ss
-        → after_stages o words row u ss ≡ after_blocks t words row u bs
-    stages_same words row u [] ss d = ap (after_stages o words row u) d
-    stages_same words row u (b ∷ bs) [] d = absurd d
-    stages_same words row u (b ∷ bs) (s ∷ ss) d =
-        ap (λ x. after_stages o words row x ss) (ap (λ x. after_steps words x s) (enters row u) ∙ d.0.after words (entered t row u))
-        ∙ stages_same words row (after_block t words row u b) bs ss d.1
-
-    pub all_stages : (words : List (List ℕ)) (row : List Word) (u : Under) → after_stages o words row u o.stages ≡ after_blocks t words row u blocks
-    all_stages words row u = stages_same words row u blocks o.stages h.stages
-
-    pub ran_is : (row : List Word) (u : Under) (words : List (List ℕ)) → ran o t.ports row u words ≡ executed t row u blocks words
-    ran_is row u words = ap (λ x. written_from x words 0 t.ports) (all_stages words row (begun u))
-
   -- the room of all stages is enough for each
-  rooms : (bs : List Block) (ss : List (List Step)) (r : ℕ) → AllDo t bs ss → sum_by (size_of_block t.decls) bs ≤ r → All (λ s. steps_space s ≤ r) ss
-  rooms [] ss r d l = subst (All (λ s. steps_space s ≤ r)) (sym d) (All-nil (λ s. steps_space s ≤ r))
-  rooms (b ∷ bs) [] r d l = absurd d
-  rooms (b ∷ bs) (s ∷ ss) r d l =
+  rooms : (ws : List (Option ℕ)) (bs : List Block) (ss : List (List Step)) (r : ℕ) → AllDo t ws bs ss → sum_by (size_of_block t.decls) bs ≤ r → All (λ s. steps_space s ≤ r) ss
+  rooms ws [] ss r d l = subst (All (λ s. steps_space s ≤ r)) (sym d) (All-nil (λ s. steps_space s ≤ r))
+  rooms ws (b ∷ bs) [] r d l = absurd d
+  rooms ws (b ∷ bs) (s ∷ ss) r d l =
       let n = sum_by-cons (size_of_block t.decls) b bs in
-      let m = d.0.space in
-      All-cons (λ x. steps_space x ≤ r) s ss (omega arith) (rooms bs ss r d.1 (omega arith))
+      let m = d.0.1.space in
+      All-cons (λ x. steps_space x ≤ r) s ss (omega arith) (rooms ws bs ss r d.1 (omega arith))
 
-  pub enough : (blocks : List Block) (o : Outline) → Resolves t blocks o → (r : ℕ) → sum_by (size_of_block t.decls) blocks ≤ r → All (λ s. steps_space s ≤ r) o.stages
-  enough blocks o h r l = rooms blocks o.stages r h.stages l
+  pub enough : (ws : List (Option ℕ)) (blocks : List Block) (ss : List (List Step)) → AllDo t ws blocks ss → (r : ℕ) → sum_by (size_of_block t.decls) blocks ≤ r → All (λ s. steps_space s ≤ r) ss
+  enough ws blocks ss h r l = rooms ws blocks ss r h l
 
-  -- an expression
-  pub plan_is : (scope : Scope) (e : Expr) (p : Plan) → ((q : List ℕ) → place_of scope q ≡ position (is_same_name q) t.names) → Means t.decls scope e p → IsPlan t e p
-  plan_is scope e p places m = record {
-    word = λ u. ap (λ o. unwrap_or o zero_bit) (m.value u.names ∙ (λ i. checked (record { names = λ q. at_place u.names (places q i); calls = checked_calls_of t.decls }) e));
-    space = omega (arith, m.space);
-  }
+  module _ (ws : List (Option ℕ)) where
+    -- an expression
+    module _ (scope : Scope) (e : Expr) (p : Plan) (places : (q : List ℕ) → place_of scope q ≡ position (is_same_name q) t.names) (m : Means t.decls scope e p) where
+      found : (u : Under) → word_in t u e ≡ unwrap_or (meaning p u.names) zero_bit
+      found u = sym (ap (λ o. unwrap_or o zero_bit) (m.value u.names ∙ (λ i. checked (record { names = λ q. at_place u.names (places q i); calls = checked_calls_of t.decls }) e)))
 
-  pub none_is : IsOptionPlan t None None
-  none_is = record { holds = λ u. refl; address = λ u. refl; space = omega arith }
+      pub code_is : (o : Option Typed) (c : Typed) → o ≡ Some c → Gives ws (meaning p) (space p) o → IsCode t ws e c
+      code_is o c is h =
+          let g = subst (λ x. Gives ws (meaning p) (space p) x) is h in
+          record {
+            value = λ u vs suit.
+                let k = g.value u.names vs suit in
+                record { there = ap Some (found u ∙ ap (λ x. unwrap_or x zero_bit) k.there); word = k.word };
+            space = let a = g.space in let b = m.space in omega (arith, a, b);
+          }
 
-  pub some_is : (e : Expr) (p : Plan) → IsPlan t e p → IsOptionPlan t (Some e) (Some p)
-  some_is e p m = record {
-    holds = λ u. ap (λ (w : Word). w.value == 1) (m.word u);
-    address = λ u. ap (λ (w : Word). w.value) (m.word u);
-    space = m.space;
-  }
+      pub code_none : (o : Option Typed) (c : Typed) → o ≡ None → Gives ws (meaning p) (space p) o → c ≡ record { code = leaf.Word 0; width = 1 } → IsCode t ws e c
+      code_none o c is h z =
+          let g = subst (λ x. Gives ws (meaning p) (space p) x) is h in
+          subst (IsCode t ws e) (sym z) (record {
+            value = λ u vs suit. record {
+              there = ap Some (found u ∙ ap (λ x. unwrap_or x zero_bit) (g u.names vs suit)) ∙ sym (ap (λ (f : List ℕ → ℕ). Some (word 1 (f vs))) (code-Word (List ℕ → ℕ) value_level 0));
+              word = subst (λ n. IsWord (word 1 n)) (sym (ap (λ (f : List ℕ → ℕ). f vs) (code-Word (List ℕ → ℕ) value_level 0))) bit_word;
+            };
+            space = omega (arith, code-Word ℕ space_level 0);
+          })
 
-  -- a read
-  addressed : (u : Under) (r : ReadStmt) (guess : Option Expr) (a : ℕ) → a ≡ address_in t u r.address → cond (is_some guess) 0 a ≡ address_read t u r guess
-  addressed u r None a e = e
-  addressed u r (Some g) a e = refl
+    pub none_is : IsOptionCode t ws None None
+    none_is = record { holds = λ u r suit. refl; address = λ u r suit. refl; space = omega arith }
 
-  pub reading_is : (r : ReadStmt) (s : Reading) → s.place ≡ position (is_same_name r.name.name) t.names → s.target ≡ number_of t.targets r.target.name → s.width ≡ width_of t.targets r.target.name
-      → s.is_guessed ≡ is_some r.guess → IsOptionPlan t r.address s.address → IsOptionPlan t r.when s.when → IsReading t r s
-  reading_is r s place target width guessed address when = record {
-    place = place;
-    width = width;
-    value = λ words u.
-        ap (λ b. cond b (state_in words s.target (cond s.is_guessed 0 (address_at u s.address))) 0) (when.holds u)
-        ∙ ap (λ i. cond (holds t u r.when) (state_in words i (cond s.is_guessed 0 (address_at u s.address))) 0) target
-        ∙ ap (λ b. cond (holds t u r.when) (state_in words (number_of t.targets r.target.name) (cond b 0 (address_at u s.address))) 0) guessed
-        ∙ ap (λ a. cond (holds t u r.when) (state_in words (number_of t.targets r.target.name) a) 0) (addressed u r r.guess (address_at u s.address) (address.address u));
-    space = omega (arith, address.space, when.space);
-  }
+    pub some_is : (e : Expr) (c : Typed) → IsCode t ws e c → IsOptionCode t ws (Some e) (Some c.code)
+    some_is e c m = record {
+      holds = λ u r suit. ap (λ n. n == 1) (number (word_in t u e) c.width (value_of c.code r.names) (m.value u r.names suit));
+      address = λ u r suit. number (word_in t u e) c.width (value_of c.code r.names) (m.value u r.names suit);
+      space = m.space;
+    }
 
-  -- a step
-  pub does_read : (k : StmtKind) (r : ReadStmt) (s : Reading) → k ≡ stmts.Read r → IsReading t r s → Does t k (moves.Read s)
-  does_read k r s is m = subst (λ x. Does t x (moves.Read s)) (sym is) (record {
-    after = λ words u.
-        ap (λ o. with_place u o (fitted s.width (value_at words u s))) m.place
-        ∙ ap (λ w. with_name t u r.name.name (fitted w (value_at words u s))) m.width
-        ∙ ap (λ v. with_name t u r.name.name (fitted (width_of t.targets r.target.name) v)) (m.value words u);
-    space = omega (arith, m.space);
-  })
+    -- a read
+    addressed : (u : Under) (r : ReadStmt) (guess : Option Expr) (a : ℕ) → a ≡ address_in t u r.address → cond (is_some guess) 0 a ≡ address_read t u r guess
+    addressed u r None a e = e
+    addressed u r (Some g) a e = refl
 
-  pub does_let : (k : StmtKind) (n : tree.Named) (e : Expr) (o : Option ℕ) (p : Plan) → k ≡ stmts.Let n e → o ≡ position (is_same_name n.name) t.names → IsPlan t e p → Does t k (moves.Let o p)
-  does_let k n e o p is h m = subst (λ x. Does t x (moves.Let o p)) (sym is) (record {
-    after = λ words u. ap (λ i. with_place u i (word_at u p)) h ∙ ap (with_name t u n.name) (m.word u);
-    space = m.space;
-  })
+    pub reading_is : (r : ReadStmt) (s : Reading) → s.place ≡ position (is_same_name r.name.name) t.names → s.target ≡ number_of t.targets r.target.name
+        → s.is_guessed ≡ is_some r.guess → IsOptionCode t ws r.address s.address → IsOptionCode t ws r.when s.when → IsReading t ws r s
+    reading_is r s place target guessed address when = record {
+      place = place;
+      value = λ words u x suit.
+          ap (λ b. cond b (state_in words s.target (cond s.is_guessed 0 (address_at x s.address))) 0) (when.holds u x suit)
+          ∙ ap (λ i. cond (holds t u r.when) (state_in words i (cond s.is_guessed 0 (address_at x s.address))) 0) target
+          ∙ ap (λ b. cond (holds t u r.when) (state_in words (number_of t.targets r.target.name) (cond b 0 (address_at x s.address))) 0) guessed
+          ∙ ap (λ a. cond (holds t u r.when) (state_in words (number_of t.targets r.target.name) a) 0) (addressed u r r.guess (address_at x s.address) (address.address u x suit));
+      space = let a = address.space in let b = when.space in omega (arith, a, b);
+    }
 
-  pub does_put : (k : StmtKind) (n : tree.Named) (e : Expr) (i : ℕ) (p : Plan) → k ≡ stmts.Put n e → i ≡ number_of t.pipes n.name → IsPlan t e p → Does t k (moves.Put i p)
-  does_put k n e i p is h m = subst (λ x. Does t x (moves.Put i p)) (sym is) (record {
-    after = λ words u. ap (λ j. with_pipe u j (word_at u p).value) h ∙ ap (λ (w : Word). with_pipe u (number_of t.pipes n.name) w.value) (m.word u);
-    space = m.space;
-  })
+    -- a name that gets its value
+    pub named : (u : Under) (r : Raw) (n : List ℕ) (o : Option ℕ) (x : Word) (w v : ℕ) → IsShown ws u r → o ≡ position (is_same_name n) t.names → Holds (Some x) w v
+        → IsShown (with_width ws o w) (with_name t u n x) (with_place r o v)
+    named u r n o x w v h is one = record {
+      names = subst (λ p. AllSuit (with_width ws o w) (set_place u.names p x) (put_place r.names o v)) is (suits_place ws u.names r.names o w x v h.names one);
+      pipes = h.pipes;
+      results = h.results;
+    }
 
-  target_same : (u : Under) (r : Option ResultDecl) (v : ℕ) → with_target u (option_map (λ x. number_of t.targets x.target.name) r) v ≡ with_result t u r v
-  target_same u None v = refl
-  target_same u (Some r) v = refl
+    pub does_read : (r : ReadStmt) (s : Reading) (o : Option ℕ) (w : ℕ) → o ≡ position (is_same_name r.name.name) t.names
+        → w ≡ width_of t.targets r.target.name → (nat_le 1 w && nat_le w 64) ≡ true → IsReading t ws r s → DoesRead t ws r (record { step = moves.Read s; place = o; width = w })
+    does_read r s o w place width test h = record {
+      after = λ words u x fit shown.
+          let in_range = both (nat_le 1 w) (nat_le w 64) test in
+          let low : 1 ≤ w = le_true 1 w in_range.0 in
+          let high : w ≤ 64 = le_true w 64 in_range.1 in
+          let v : ℕ = value_read t words u r in
+          let tw : ℕ = width_of t.targets r.target.name in
+          let small : v < 2 ^ tw = cond_below (holds t u r.when) (state_in words (number_of t.targets r.target.name) (address_read t u r r.guess)) (2 ^ tw)
+          (words_fit t.targets words fit r.target.name (address_read t u r r.guess)) (pow_pos tw) in
+          let small_w : v < 2 ^ w = subst (λ n. v < 2 ^ n) (sym width) small in
+          let f : fitted tw v ≡ word w v = ap (λ n. fitted n v) (sym width) ∙ fitted_is w v low high small_w in
+          let one : Holds (Some (fitted tw v)) w (value_at words x s) =
+          subst (Holds (Some (fitted tw v)) w) (sym (h.value words u x shown.names)) (record { there = ap Some f; word = record { positive = low; at_most = high; fits = small_w } }) in
+          subst (λ p. IsShown (with_width ws o w) (with_name t u r.name.name (fitted tw v)) (with_place x p (value_at words x s))) (place ∙ sym h.place)
+          (named u x r.name.name o (fitted tw v) w (value_at words x s) shown place one);
+      space = let a = h.space in omega (arith, a);
+    }
 
-  pub does_set : (k : StmtKind) (n : tree.Named) (e : Expr) (when : Option Expr) (i : Option ℕ) (p : Plan) (c : Option Plan) → k ≡ stmts.Set n e when
-      → i ≡ option_map (λ x. number_of t.targets x.target.name) (result_named t.decls n.name) → IsPlan t e p → IsOptionPlan t when c → Does t k (moves.Set i p c)
-  does_set k n e when i p c is h m w = subst (λ x. Does t x (moves.Set i p c)) (sym is) (record {
-    after = λ words u.
-        ap (λ b. cond b (with_target u i (word_at u p).value) u) (w.holds u)
-        ∙ ap (λ j. cond (holds t u when) (with_target u j (word_at u p).value) u) h
-        ∙ ap (λ x. cond (holds t u when) x u) (target_same u (result_named t.decls n.name) (word_at u p).value)
-        ∙ ap (λ (x : Word). cond (holds t u when) (with_result t u (result_named t.decls n.name) x.value) u) (m.word u);
-    space = omega (arith, m.space, w.space);
-  })
+    pub does_nowhere : (r : ReadStmt) (o : Option ℕ) (w : ℕ) → o ≡ position (is_same_name r.name.name) t.names
+        → w ≡ width_of t.targets r.target.name → (nat_le 1 w && nat_le w 64) ≡ false → DoesRead t ws r (record { step = moves.Let o (leaf.Word 0); place = o; width = 1 })
+    does_nowhere r o w place width bad = record {
+      after = λ words u x fit shown.
+          let v : ℕ = value_read t words u r in
+          let f : fitted (width_of t.targets r.target.name) v ≡ zero_bit = ap (λ n. fitted n v) (sym width) ∙ no_fit w v bad in
+          let z : value_of (leaf.Word 0) x.names ≡ 0 = ap (λ (g : List ℕ → ℕ). g x.names) (code-Word (List ℕ → ℕ) value_level 0) in
+          subst (λ y. IsShown (with_width ws o 1) (with_name t u r.name.name y) (with_place x o (value_of (leaf.Word 0) x.names))) (sym f)
+          (named u x r.name.name o zero_bit 1 (value_of (leaf.Word 0) x.names) shown place (subst (Holds (Some zero_bit) 1) (sym z) zero_held));
+      space = omega (arith, code-Word ℕ space_level 0);
+    }
 
-  pub does_nothing : (k : StmtKind) (n : tree.Named) (e : Expr) → k ≡ stmts.Aim n e → Does t k moves.Nothing
-  does_nothing k n e is = subst (λ x. Does t x moves.Nothing) (sym is) (record { after = λ words u. refl; space = omega arith })
+    pub does_let : (k : StmtKind) (n : tree.Named) (e : Expr) (o : Option ℕ) (c : Typed) → k ≡ stmts.Let n e
+        → o ≡ position (is_same_name n.name) t.names → IsCode t ws e c → Does t ws k (record { step = moves.Let o c.code; place = o; width = c.width })
+    does_let k n e o c is place h = subst (λ x. Does t ws x (record { step = moves.Let o c.code; place = o; width = c.width })) (sym is) (record {
+      after = λ words u r fit shown. named u r n.name o (word_in t u e) c.width (value_of c.code r.names) shown place (h.value u r.names shown.names);
+      space = h.space;
+    })
+
+    pub does_put : (k : StmtKind) (n : tree.Named) (e : Expr) (m : Made) (i : ℕ) (c : Typed) → k ≡ stmts.Put n e → m ≡ unnamed (moves.Put i c.code) → i ≡ number_of t.pipes n.name → IsCode t ws e c → Does t ws k m
+    does_put k n e m i c is made place h = subst (λ x. Does t ws x m) (sym is) (subst (λ x. Does t ws (stmts.Put n e) x) (sym made) (record {
+      after = λ words u r fit shown. record {
+        names = shown.names;
+        pipes =
+            ap (λ ps. set ps i (value_of c.code r.names)) shown.pipes
+            ∙ ap (λ j. set u.pipes j (value_of c.code r.names)) place
+            ∙ ap (set u.pipes (number_of t.pipes n.name)) (number (word_in t u e) c.width (value_of c.code r.names) (h.value u r.names shown.names));
+        results = shown.results;
+      };
+      space = h.space;
+    }))
+
+    target_shown : (u : Under) (r : Raw) (o : Option ResultDecl) (v : ℕ) → IsShown ws u r
+        → IsShown ws (with_result t u o v) (with_target r (option_map (λ x. number_of t.targets x.target.name) o) v)
+    target_shown u r None v h = h
+    target_shown u r (Some x) v h = record {
+      names = h.names;
+      pipes = h.pipes;
+      results = ap (λ rs. set rs (number_of t.targets x.target.name) (first_value (get_or rs (number_of t.targets x.target.name) None) (Some v))) h.results;
+    }
+
+    either_shown : (b : Bool) (u v : Under) (r s : Raw) → IsShown ws u r → IsShown ws v s → IsShown ws (cond b v u) (cond b s r)
+    either_shown true u v r s h k = k
+    either_shown false u v r s h k = h
+
+    pub does_set : (k : StmtKind) (n : tree.Named) (e : Expr) (when : Option Expr) (m : Made) (i : Option ℕ) (c : Typed) (w : Option Code) → k ≡ stmts.Set n e when → m ≡ unnamed (moves.Set i c.code w)
+        → i ≡ option_map (λ x. number_of t.targets x.target.name) (result_named t.decls n.name) → IsCode t ws e c → IsOptionCode t ws when w → Does t ws k m
+    does_set k n e when m i c w is made place h g = subst (λ x. Does t ws x m) (sym is) (subst (λ x. Does t ws (stmts.Set n e when) x) (sym made) (record {
+      after = λ words u r fit shown.
+          let v : ℕ = value_of c.code r.names in
+          let x : ℕ = (word_in t u e).value in
+          let same : v ≡ x = number (word_in t u e) c.width v (h.value u r.names shown.names) in
+          let there : IsShown ws (with_result t u (result_named t.decls n.name) x) (with_target r i v) =
+          subst (λ j. IsShown ws (with_result t u (result_named t.decls n.name) x) (with_target r j v)) (sym place)
+          (subst (λ y. IsShown ws (with_result t u (result_named t.decls n.name) x) (with_target r (option_map (λ z. number_of t.targets z.target.name) (result_named t.decls n.name)) y)) (sym same)
+          (target_shown u r (result_named t.decls n.name) x shown)) in
+          subst (λ b. IsShown ws (cond (holds t u when) (with_result t u (result_named t.decls n.name) x) u) (cond b (with_target r i v) r)) (sym (g.holds u r shown.names))
+          (either_shown (holds t u when) u (with_result t u (result_named t.decls n.name) x) r (with_target r i v) shown there);
+      space = let a = h.space in let b = g.space in omega (arith, a, b);
+    }))
+
+    pub does_nothing : (k : StmtKind) (n : tree.Named) (e : Expr) (m : Made) → k ≡ stmts.Aim n e → m ≡ unnamed moves.Nothing → Does t ws k m
+    does_nothing k n e m is made = subst (λ x. Does t ws x m) (sym is) (subst (λ x. Does t ws (stmts.Aim n e) x) (sym made) (record { after = λ words u r fit shown. shown; space = omega arith }))
 
   -- some steps, and one more
-  pub no_steps : DoesAll t [] []
-  no_steps = record { after = λ words u. refl; space = omega arith }
+  pub no_steps : (ws : List (Option ℕ)) → DoesAll t ws [] [] ws
+  no_steps ws = record { shown = λ words u r fit h. h; space = omega arith }
 
-  steps_last : (words : List (List ℕ)) (u : Under) (ss : List Step) (s : Step) → after_steps words u (ss ++ s ∷ []) ≡ after_step words (after_steps words u ss) s
-  steps_last words u [] s = refl
-  steps_last words u (x ∷ ss) s = steps_last words (after_step words u x) ss s
+  steps_last : (words : List (List ℕ)) (r : Raw) (ss : List Step) (s : Step) → after_steps words r (ss ++ s ∷ []) ≡ after_step words (after_steps words r ss) s
+  steps_last words r [] s = refl
+  steps_last words r (x ∷ ss) s = steps_last words (after_step words r x) ss s
 
   stmts_last : (words : List (List ℕ)) (u : Under) (xs : List Stmt) (x : Stmt) → after_stmts t words u (xs ++ x ∷ []) ≡ after_stmt t words (after_stmts t words u xs) x.kind
   stmts_last words u [] x = refl
@@ -178,25 +284,28 @@ module _ (t : Laid) where
   sum_last f [] x = omega (arith, sum_by-cons f x [])
   sum_last f (y ∷ xs) x = omega (arith, sum_by-cons f y (xs ++ x ∷ []), sum_by-cons f y xs, sum_last f xs x)
 
-  more : (xs : List Stmt) (x : Stmt) (ss : List Step) (s : Step) → DoesAll t xs ss → Does t x.kind s → DoesAll t (xs ++ x ∷ []) (ss ++ s ∷ [])
-  more xs x ss s m one = record {
-    after = λ words u.
-        steps_last words u ss s ∙ ap (λ v. after_step words v s) (m.after words u) ∙ one.after words (after_stmts t words u xs) ∙ sym (stmts_last words u xs x);
-    space = omega (arith, m.space, one.space, sum_last step_space ss s, sum_last (size_of_stmt t.decls) xs x);
+  more : (ws : List (Option ℕ)) (xs : List Stmt) (x : Stmt) (ss : List Step) (mid : List (Option ℕ)) (m : Made) → DoesAll t ws xs ss mid → Does t mid x.kind m
+      → DoesAll t ws (xs ++ x ∷ []) (ss ++ m.step ∷ []) (with_width mid m.place m.width)
+  more ws xs x ss mid m h one = record {
+    shown = λ words u r fit shown.
+        subst (λ y. IsShown (with_width mid m.place m.width) y (after_steps words r (ss ++ m.step ∷ []))) (sym (stmts_last words u xs x))
+        (subst (λ y. IsShown (with_width mid m.place m.width) (after_stmt t words (after_stmts t words u xs) x.kind) y) (sym (steps_last words r ss m.step))
+        (one.after words (after_stmts t words u xs) (after_steps words r ss) fit (h.shown words u r fit shown)));
+    space = let a = h.space in let b = one.space in omega (arith, a, b, sum_last step_space ss m.step, sum_last (size_of_stmt t.decls) xs x);
   }
 
-  pub more_steps : (xs : List Stmt) (i : ℕ) (x : Stmt) (ss : List Step) (s : Step) → i < length xs → x ≡ get_or xs i x → DoesAll t (take i xs) ss → Does t x.kind s
-      → DoesAll t (take (i + 1) xs) (ss ++ s ∷ [])
-  more_steps xs i x ss s l is m one =
-      subst (λ ys. DoesAll t ys (ss ++ s ∷ [])) (sym (take_more xs i x l ∙ ap (λ y. take i xs ++ y ∷ []) (sym is))) (more (take i xs) x ss s m one)
+  pub more_steps : (ws : List (Option ℕ)) (xs : List Stmt) (i : ℕ) (x : Stmt) (ss : List Step) (mid : List (Option ℕ)) (m : Made) → i < length xs → x ≡ get_or xs i x → DoesAll t ws (take i xs) ss mid
+      → Does t mid x.kind m → DoesAll t ws (take (i + 1) xs) (ss ++ m.step ∷ []) (with_width mid m.place m.width)
+  more_steps ws xs i x ss mid m l is h one =
+      subst (λ ys. DoesAll t ws ys (ss ++ m.step ∷ []) (with_width mid m.place m.width)) (sym (take_more xs i x l ∙ ap (λ y. take i xs ++ y ∷ []) (sym is))) (more ws (take i xs) x ss mid m h one)
 
   -- some stages, and one more
-  do_more : (bs : List Block) (b : Block) (ss : List (List Step)) (s : List Step) → AllDo t bs ss → DoesAll t b.stmts s → AllDo t (bs ++ b ∷ []) (ss ++ s ∷ [])
-  do_more [] b ss s d one = subst (λ xs. AllDo t (b ∷ []) (xs ++ s ∷ [])) (sym d) (one, refl)
-  do_more (x ∷ bs) b [] s d one = absurd d
-  do_more (x ∷ bs) b (y ∷ ss) s d one = (d.0, do_more bs b ss s d.1 one)
+  do_more : (ws : List (Option ℕ)) (bs : List Block) (b : Block) (ss : List (List Step)) (s : List Step) → AllDo t ws bs ss → DoesStage t ws b.stmts s → AllDo t ws (bs ++ b ∷ []) (ss ++ s ∷ [])
+  do_more ws [] b ss s d one = subst (λ xs. AllDo t ws (b ∷ []) (xs ++ s ∷ [])) (sym d) (one, refl)
+  do_more ws (x ∷ bs) b [] s d one = absurd d
+  do_more ws (x ∷ bs) b (y ∷ ss) s d one = (d.0, do_more ws bs b ss s d.1 one)
 
-  pub more_stages : (bs : List Block) (i : ℕ) (b : Block) (ss : List (List Step)) (s : List Step) → i < length bs → b ≡ get_or bs i b → AllDo t (take i bs) ss → DoesAll t b.stmts s
-      → AllDo t (take (i + 1) bs) (ss ++ s ∷ [])
-  more_stages bs i b ss s l is d one =
-      subst (λ ys. AllDo t ys (ss ++ s ∷ [])) (sym (take_more bs i b l ∙ ap (λ y. take i bs ++ y ∷ []) (sym is))) (do_more (take i bs) b ss s d one)
+  pub more_stages : (ws : List (Option ℕ)) (bs : List Block) (i : ℕ) (b : Block) (ss : List (List Step)) (s : List Step) → i < length bs → b ≡ get_or bs i b → AllDo t ws (take i bs) ss
+      → DoesStage t ws b.stmts s → AllDo t ws (take (i + 1) bs) (ss ++ s ∷ [])
+  more_stages ws bs i b ss s l is d one =
+      subst (λ ys. AllDo t ws ys (ss ++ s ∷ [])) (sym (take_more bs i b l ∙ ap (λ y. take i bs ++ y ∷ []) (sym is))) (do_more ws (take i bs) b ss s d one)

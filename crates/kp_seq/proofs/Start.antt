@@ -20,7 +20,8 @@ use Rattle.kp_machine.specs.Machine.{registers_before, files_before, register_wo
 use Rattle.kp_machine.proofs.Widths.{Fine, job_fine}
 use Rattle.kp_seq.specs.Running.{Running, HasWord, no_slot, target, state_in, state, word_shown}
 use Rattle.kp_seq.specs.inner.Steps.{fitted, zero_bit}
-use Rattle.kp_seq.specs.inner.Ready.{words_of_start, FitSlots}
+use Rattle.kp_seq.specs.inner.Fits.{FitSlots}
+use Rattle.kp_seq.specs.inner.Ready.{words_of_start}
 
 one_word : (v w : ℕ) (a : ℕ) → v < 2 ^ w → slice_index (v ∷ []) a < 2 ^ w
 one_word v w zero h = h

@@ -1,6 +1,7 @@
 -- One instruction, stage by stage: what the steps leave is what the abstract machine has.
-use Rattle.std.proofs.Common.{◌≡◌, ◌∙◌, ℕ, suc, ◌+◌, List, [], ◌∷◌, Some, None, length, refl, ap, sym, subst, arith}
+use Rattle.std.proofs.Common.{◌≡◌, ◌∙◌, ℕ, suc, ◌+◌, List, [], ◌∷◌, Some, None, Option, length, replicate, cond, unwrap_or, get_or, refl, ap, sym, subst, arith}
 use Rattle.std.specs.Prelude.{slice_get}
+use Rattle.std.proofs.lemmas.List.{length-replicate}
 use Rattle.kp_base.specs.First.{first}
 use Rattle.kp_base.specs.Check.{ok, ◌>>=◌}
 use Rattle.kp_bits.specs.Word.{Word}
@@ -26,17 +27,64 @@ use Rattle.kp_machine.proofs.Stages.{stages_inside}
 use Rattle.kp_machine.proofs.Text.{text}
 use Rattle.kp_seq.specs.Running.{state_in, after_one}
 use Rattle.kp_seq.specs.inner.Tables.{Laid}
-use Rattle.kp_seq.specs.inner.Steps.{Under, begun, entered, after_block, after_blocks, executed}
-use Rattle.kp_seq.specs.inner.Ready.{AreTables, FitSlots, HasPlaces}
-use Rattle.kp_seq.proofs.Lengths.{SameLengths, begun_same, block_same}
+use Rattle.kp_seq.specs.inner.Steps.{Under, begun, entered, after_block, after_blocks, executed, is_enabled, address_by, with_word, written_by, written_from}
+use Rattle.kp_seq.specs.inner.Fits.{FitSlots}
+use Rattle.kp_seq.specs.inner.Ready.{AreTables, HasPlaces, HasRoom}
+use Rattle.kp_seq.specs.declared.program.Step.{Step}
+use Rattle.kp_seq.specs.declared.tables.Port.{Port}
+use Rattle.kp_seq.specs.inner.Resolved.{Outline, Raw, Resolves, AllDo, DoesStage, after_steps, entered_at, entry_widths, after_stages, begun_at, outputs, ran}
+use Rattle.kp_seq.proofs.Resolved.{suits_length}
+use Rattle.kp_seq.proofs.Lengths.{SameLengths, begun_same, block_same, stmts_same, entered_same}
 use Rattle.kp_seq.proofs.Trees.{seen, no_hints, nexts, stage_runs}
 use Rattle.kp_seq.proofs.Blocks.{all_turn}
-use Rattle.kp_seq.proofs.Entering.{enters}
+use Rattle.kp_seq.proofs.Entering.{enters, shown}
 use Rattle.kp_seq.proofs.Keys.{pipe_placed, sample_placed, keyed}
 use Rattle.kp_seq.proofs.Written.{Ended, stage_ended, begun_ended, written_after, written_fits}
 
+-- what a machine keeps in numbers, as an instruction
+abbrev pub as_under : Raw → Under
+as_under r = record { names = replicate (length r.names) None; pipes = r.pipes; results = r.results }
+
+pub as_placed : (t : Laid) (r : Raw) → HasRoom t r → HasPlaces t (as_under r)
+as_placed t r h = let none : Option Word = None in record { names = length-replicate (length r.names) none ∙ h.names; pipes = h.pipes; results = h.results }
+
 still_placed : (t : Laid) (u v : Under) → SameLengths u v → HasPlaces t u → HasPlaces t v
 still_placed t u v s h = record { names = s.names ∙ h.names; pipes = s.pipes ∙ h.pipes; results = s.results ∙ h.results }
+
+-- an instruction in numbers has the pipes and the results of an instruction
+pub record Follows (t : Laid) (u : Under) (r : Raw) : Type 0 where
+  pub names : length r.names ≡ length t.names
+  pub pipes : r.pipes ≡ u.pipes
+  pub results : r.results ≡ u.results
+
+-- what is written comes of pipes and results alone
+module _ (u : Under) (names : List (Option Word)) where
+  abbrev other : Under
+  other = record { names = names; pipes = u.pipes; results = u.results }
+
+  enabled_same : (o : Option ℕ) → is_enabled other o ≡ is_enabled u o
+  enabled_same None = refl
+  enabled_same (Some p) = refl
+
+  address_same : (o : Option ℕ) → address_by other o ≡ address_by u o
+  address_same None = refl
+  address_same (Some p) = refl
+
+  port_same : (words : List (List ℕ)) (i : ℕ) (p : Option Port) → written_by other words i p ≡ written_by u words i p
+  port_same words i None = refl
+  port_same words i (Some p) =
+      ap (λ b. cond b (with_word words i (address_by other p.address) (unwrap_or (get_or u.results i None) 0)) words) (enabled_same p.enable)
+      ∙ ap (λ a. cond (is_enabled u p.enable) (with_word words i a (unwrap_or (get_or u.results i None) 0)) words) (address_same p.address)
+
+  written_same : (words : List (List ℕ)) (i : ℕ) (ps : List (Option Port)) → written_from other words i ps ≡ written_from u words i ps
+  written_same words i [] = refl
+  written_same words i (p ∷ ps) = ap (λ ws. written_from other ws (i + 1) ps) (port_same words i p) ∙ written_same (written_by u words i p) (i + 1) ps
+
+written_by_numbers : (t : Laid) (u : Under) (r : Raw) → Follows t u r → (words : List (List ℕ)) (ps : List (Option Port)) → written_from (outputs r) words 0 ps ≡ written_from u words 0 ps
+written_by_numbers t u r h words ps =
+    ap (λ pipes. written_from (record { names = []; pipes = pipes; results = r.results }) words 0 ps) h.pipes
+    ∙ ap (λ results. written_from (record { names = []; pipes = u.pipes; results = results }) words 0 ps) h.results
+    ∙ written_same u [] words 0 ps
 
 module _ (job : Job) (unbroken : Unbroken (widths_of job)) (kept : broken_of job ≡ None) (t : Laid) (tables : AreTables job t) (rule : _) (is25 : slice_get all_rules 10 ≡ Some rule) (words : List (List ℕ)) (fit : FitSlots (targets_of job.decls) words) (row : List Word) (fits : AreSamples job.decls row) where
   -- the instruction of the abstract machine before a stage
@@ -101,6 +149,57 @@ module _ (job : Job) (unbroken : Unbroken (widths_of job)) (kept : broken_of job
       (λ i b e. let w : i ≡ 0 + i = omega arith in subst (λ n. slice_get job.blocks n ≡ Some b) w e)
       right
       (record { of_text = refl; ended = begun_ended job.decls u; places = still_placed t u (begun u) (begun_same t u) places }))
+
+  -- in numbers: a stage, and all
+  module _ (o : Outline) (resolved : Resolves t job.blocks o) where
+    block_follows : (k : ℕ) (b : Block) (s : Scoped) (u : Under) (r : Raw) (ss : List Step) → Reached k s u → Follows t u r → DoesStage t (entry_widths t) b.stmts ss
+        → Follows t (after_block t words row u b) (after_steps words (entered_at o row r) ss)
+    block_follows k b s u r ss h f d =
+        let there = shown job unbroken t tables rule is25 k words fit row fits s (before k) u h.ended h.places.names o resolved.samples resolved.pipes r f.names f.pipes f.results in
+        let done = d.1.shown words (entered t row u) (entered_at o row r) (subst (λ xs. FitSlots xs words) (sym tables.targets) fit) there in
+        record {
+          names = suits_length d.0 (after_block t words row u b).names (after_steps words (entered_at o row r) ss).names done.names ∙ (block_same t words row u b).names ∙ h.places.names;
+          pipes = done.pipes;
+          results = done.results;
+        }
+
+    blocks_follow : (k : ℕ) (bs : List Block) (s : Scoped) (u : Under) (r : Raw) (ss : List (List Step)) → ((i : ℕ) (b : Block) → slice_get bs i ≡ Some b → slice_get job.blocks (k + i) ≡ Some b)
+        → Unbroken (blocks_of job.decls k s bs) → Reached k s u → Follows t u r → AllDo t (entry_widths t) bs ss → Follows t (after_blocks t words row u bs) (after_stages o words row r ss)
+    blocks_follow k [] s u r ss at right h f d = subst (λ xs. Follows t u (after_stages o words row r xs)) (sym d) f
+    blocks_follow k (b ∷ bs) s u r [] at right h f d = absurd d
+    blocks_follow k (b ∷ bs) s u r (x ∷ ss) at right h f d =
+        let z : k + 0 ≡ k = omega arith in
+        let next : suc k ≡ k + 1 = omega arith in
+        let here : slice_get job.blocks k ≡ Some b = subst (λ n. slice_get job.blocks n ≡ Some b) z (at 0 b refl) in
+        let y = bind_unbroken (statements_of job.decls (opened s (scopes.Stage k)) b.stmts) (λ y. blocks_of job.decls (k + 1) y bs) right in
+        let after : Scoped = (statements_of job.decls (opened s (scopes.Stage k)) b.stmts).value in
+        let reached = subst (λ n. Reached n after (after_block t words row u b)) next (block_end k b s u here y.0 h) in
+        blocks_follow (k + 1) bs after (after_block t words row u b) (after_steps words (entered_at o row r) x) ss
+        (λ i v e. let w : k + suc i ≡ (k + 1) + i = omega arith in subst (λ n. slice_get job.blocks n ≡ Some v) w (at (suc i) v e))
+        y.1 reached (block_follows k b s u r x h f d.0) d.1
+
+    pub all_follow : (u : Under) (r : Raw) → HasPlaces t u → Follows t u r → Follows t (after_blocks t words row (begun u) job.blocks) (after_stages o words row (begun_at r) o.stages)
+    unfolding machine_of before_stage
+    all_follow u r places f =
+        let d = declarations_of job.decls 0 0 nothing job.decls in
+        let more = (bind_unbroken d (λ s. blocks_of job.decls 0 s job.blocks >>= (λ y. ok y.entries)) unbroken).1 in
+        let right = (bind_unbroken (blocks_of job.decls 0 d.value job.blocks) (λ y. ok y.entries) more).0 in
+        let zero : ℕ = 0 in
+        let none : Option ℕ = None in
+        blocks_follow 0 job.blocks d.value (begun u) (begun_at r) o.stages
+        (λ i b e. let w : i ≡ 0 + i = omega arith in subst (λ n. slice_get job.blocks n ≡ Some b) w e)
+        right
+        (record { of_text = refl; ended = begun_ended job.decls u; places = still_placed t u (begun u) (begun_same t u) places })
+        (record {
+          names = f.names;
+          pipes = ap (λ (xs : List ℕ). replicate (length xs) zero) f.pipes;
+          results = ap (λ (xs : List (Option ℕ)). replicate (length xs) none) f.results;
+        })
+        resolved.stages
+
+    pub ran_is : (u : Under) (r : Raw) → HasPlaces t u → Follows t u r → ran o t.ports row r words ≡ executed t row u job.blocks words
+    ran_is u r places f =
+        written_by_numbers t (after_blocks t words row (begun u) job.blocks) (after_stages o words row (begun_at r) o.stages) (all_follow u r places f) words t.ports
 
   -- an instruction leaves the state after it, and its words fit the targets
   pub step_state : (u : Under) → HasPlaces t u → state_in (executed t row u job.blocks words) ≡ after_one job (state_in words) row

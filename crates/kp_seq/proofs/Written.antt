@@ -22,7 +22,8 @@ use Rattle.kp_seq.specs.declared.tables.Port.{Port}
 use Rattle.kp_seq.specs.inner.Tables.{Laid, pipe_number, port_of, ports_from}
 use Rattle.kp_seq.specs.Running.{state_in, after_one}
 use Rattle.kp_seq.specs.inner.Steps.{Under, begun, is_enabled, address_by, with_word, written_by, written_from}
-use Rattle.kp_seq.specs.inner.Ready.{AreTables, FitsSlot, FitSlots}
+use Rattle.kp_seq.specs.inner.Fits.{FitsSlot, FitSlots}
+use Rattle.kp_seq.specs.inner.Ready.{AreTables}
 use Rattle.kp_machine.proofs.Scopes.{PipeFits, slot_of}
 use Rattle.kp_machine.proofs.Cases.{by_option}
 use Rattle.kp_machine.proofs.Text.{text, placed, fits_text, target_slot}

@@ -2,5 +2,6 @@
 pub mod Steps
 pub mod Tables
 pub mod Names
+pub mod Fits
 pub mod Resolved
 pub mod Ready

@@ -1,16 +1,16 @@
 //! One instruction.
 ghost use Rattle.std.specs.Prelude.{◌≡◌, ◌≤◌, ◌+◌, None, length, get_or, All, IfOk, if◌then◌else◌, slice_index, unwrap_or};
-ghost use Rattle.kp_plan.specs.Plans.{space};
-ghost use Rattle.kp_seq.specs.inner.Ready.{HasPlaces};
-ghost use Rattle.kp_seq.specs.inner.Steps.{zero_bit, fitted, with_pipe, with_first, begun, is_enabled, address_by, written_by, written_from};
-ghost use Rattle.kp_seq.specs.inner.Resolved.{word_at, holds_at, address_at, value_at, with_place, with_target, after_step, after_steps, with_row_at, with_carried, entered_at, after_stages, ran, option_space, step_space, steps_space};
+ghost use Rattle.kp_plan.specs.Codes.{value_of, space_of};
+ghost use Rattle.kp_seq.specs.inner.Ready.{HasRoom};
+ghost use Rattle.kp_seq.specs.inner.Steps.{is_enabled, address_by, written_by, written_from};
+ghost use Rattle.kp_seq.specs.inner.Resolved.{outputs, holds_at, address_at, value_at, with_place, put_pipe, set_first, with_target, begun_at, after_step, after_steps, with_row_at, with_carried, entered_at, after_stages, ran, option_space, step_space, steps_space};
 
-use crate::program::{Carried, Program, Reading, Step};
+use crate::program::{Program, Reading, Step};
 use crate::tables::{Port, Tables};
 use crate::words::Words;
 use kp_base::NoMemory;
 use kp_bits::Bits;
-use kp_plan::{Places, Plan, find_value};
+use kp_plan::Code;
 use std::alloc::Global;
 use std::marker::Model;
 
@@ -18,15 +18,15 @@ use std::marker::Model;
 /// by the numbers of their targets.
 #[derive(Drop)]
 pub(crate) struct Instruction {
-    pub names: Vec<Option<Bits>>,
+    pub names: Vec<u64>,
     pub pipes: Vec<u64>,
     pub results: Vec<Option<u64>>,
 }
 
 impl Model for Instruction {
-    ghost use Rattle.kp_seq.specs.inner.Steps.{Under};
+    ghost use Rattle.kp_seq.specs.inner.Resolved.{Raw};
 
-    ghost Value = { Under };
+    ghost Value = { Raw };
 
     ghost view = { λ u. record { names = u.names.items; pipes = u.pipes.items; results = u.results.items } };
 }
@@ -34,10 +34,10 @@ impl Model for Instruction {
 impl Instruction {
     /// Room for an instruction under way.
     pub fn new(alloc: Global, tables: &Tables) -> Result<Instruction, NoMemory>
-        ensures { IfOk result (λ u. HasPlaces tables.now u) }
+        ensures { IfOk result (λ u. HasRoom tables.now u) }
     {
         Ok(Instruction {
-            names: vec![in alloc; None; tables.names.len()]?,
+            names: vec![in alloc; 0; tables.names.len()]?,
             pipes: vec![in alloc; 0; tables.pipes.len()]?,
             results: vec![in alloc; None; tables.targets.len()]?,
         })
@@ -45,26 +45,26 @@ impl Instruction {
 
     // No pipe and no result has a value.
     fn begin(&mut self)
-        ensures { self.new ≡ begun self.old }
+        ensures { self.new ≡ begun_at self.old }
     {
         self.pipes.as_mut_slice().fill(0);
         self.results.as_mut_slice().fill(None);
     }
 
     // Gives a place a value.
-    fn bind(&mut self, place: Option<usize>, value: Bits)
+    fn bind(&mut self, place: Option<usize>, value: u64)
         ensures { self.new ≡ with_place self.old place value }
     {
         if let Some(place) = place {
             if place < self.names.len() {
-                self.names[place] = Some(value);
+                self.names[place] = value;
             }
         }
     }
 
     // Gives a pipe its value.
     fn put(&mut self, pipe: usize, value: u64)
-        ensures { self.new ≡ with_pipe self.old pipe value }
+        ensures { self.new ≡ put_pipe self.old pipe value }
     {
         if pipe < self.pipes.len() {
             self.pipes[pipe] = value;
@@ -73,7 +73,7 @@ impl Instruction {
 
     // Gives the result of a target its value, where it has none yet.
     fn set(&mut self, target: usize, value: u64)
-        ensures { self.new ≡ with_first self.old target value }
+        ensures { self.new ≡ set_first self.old target value }
     {
         if target < self.results.len() && self.results[target].is_none() {
             self.results[target] = Some(value);
@@ -110,45 +110,27 @@ impl Instruction {
             if i >= row.len() {
                 return;
             }
-            self.bind(places[i], row[i]);
+            self.bind(places[i], row[i].value());
         }
     }
 
-    // A stage begins: of the names the samples and the pipes have values.
+    // A stage begins: the names of the samples and of the pipes get their values.
     fn enter(&mut self, program: &Program, row: &[Bits])
         ensures { self.new ≡ entered_at program.now row.now self.old }
     {
-        self.names.as_mut_slice().fill(None);
         self.sample(program.samples.as_slice(), row);
         self.bring_pipes(program.pipes.as_slice());
     }
 
-    // The pipes are names of the stage.
-    fn bring_pipes(&mut self, pipes: &[Carried])
-        ensures { self.new ≡ with_carried self.old 0 pipes.now }
+    // The names of the pipes get the values of the pipes.
+    fn bring_pipes(&mut self, places: &[Option<usize>])
+        ensures { self.new ≡ with_carried self.old 0 places.now }
     {
-        for (i, pipe) in pipes.iter().enumerate() {
-            let value = fitted(pipe.width, self.pipe(i));
-            self.bind(pipe.place, value);
+        for i in 0..places.len() {
+            let value = self.pipe(i);
+            self.bind(places[i], value);
         }
     }
-}
-
-// The word of this width and this value. An accepted machine has no others.
-pub(crate) fn fitted(width: u64, value: u64) -> Bits
-    ensures { result ≡ fitted width value }
-{
-    if width >= 1 && width <= 64 {
-        Bits::new(width as u8, value).unwrap_or(zero_bit())
-    } else {
-        zero_bit()
-    }
-}
-
-pub(crate) fn zero_bit() -> Bits
-    ensures { result ≡ zero_bit }
-{
-    Bits::new(1, 0).unwrap()
 }
 
 /// Runs one instruction on these words, with these words of the samples.
@@ -157,12 +139,12 @@ pub(crate) fn execute(
     program: &Program,
     row: &[Bits],
     under: &mut Instruction,
-    room: &mut [Bits],
+    room: &mut [u64],
     words: &mut Words,
 )
     requires { All (λ s. steps_space s ≤ length room.old) program.now.stages }
     ensures words { words.new ≡ ran program.now tables.now.ports row.now under.old words.old }
-    ensures under { under.new ≡ after_stages program.now words.old row.now (begun under.old) program.now.stages }
+    ensures under { under.new ≡ after_stages program.now words.old row.now (begun_at under.old) program.now.stages }
     ensures room { length room.new ≡ length room.old }
 {
     under.begin();
@@ -174,7 +156,7 @@ fn run_stages(
     program: &Program,
     row: &[Bits],
     under: &mut Instruction,
-    room: &mut [Bits],
+    room: &mut [u64],
     words: &Words,
 )
     requires { All (λ s. steps_space s ≤ length room.old) program.now.stages }
@@ -188,7 +170,7 @@ fn run_stages(
     }
 }
 
-fn run_steps(under: &mut Instruction, room: &mut [Bits], steps: &[Step], words: &Words)
+fn run_steps(under: &mut Instruction, room: &mut [u64], steps: &[Step], words: &Words)
     requires { steps_space steps.now ≤ length room.old }
     ensures under { under.new ≡ after_steps words.now under.old steps.now }
     ensures room { length room.new ≡ length room.old }
@@ -198,7 +180,7 @@ fn run_steps(under: &mut Instruction, room: &mut [Bits], steps: &[Step], words: 
     }
 }
 
-fn run_step(under: &mut Instruction, room: &mut [Bits], step: &Step, words: &Words)
+fn run_step(under: &mut Instruction, room: &mut [u64], step: &Step, words: &Words)
     requires { step_space step.now ≤ length room.old }
     ensures under { under.new ≡ after_step words.now under.old step.now }
     ensures room { length room.new ≡ length room.old }
@@ -206,17 +188,17 @@ fn run_step(under: &mut Instruction, room: &mut [Bits], step: &Step, words: &Wor
     match step {
         Step::Read(reading) => {
             let value = value_read(under, room, reading, words);
-            under.bind(reading.place, fitted(reading.width, value));
+            under.bind(reading.place, value);
         }
-        Step::Let(place, plan) => {
-            let value = value_of(under, room, plan);
+        Step::Let(place, code) => {
+            let value = value_of(under, room, code);
             under.bind(*place, value);
         }
-        Step::Put(pipe, plan) => {
-            let value = value_of(under, room, plan).value();
+        Step::Put(pipe, code) => {
+            let value = value_of(under, room, code);
             under.put(*pipe, value);
         }
-        Step::Set(target, plan, when) => set_result(under, room, *target, plan, when),
+        Step::Set(target, code, when) => set_result(under, room, *target, code, when),
         Step::Nothing => {}
     }
 }
@@ -224,26 +206,26 @@ fn run_step(under: &mut Instruction, room: &mut [Bits], step: &Step, words: &Wor
 // The first value of a result counts.
 fn set_result(
     under: &mut Instruction,
-    room: &mut [Bits],
+    room: &mut [u64],
     target: Option<usize>,
-    plan: &Plan,
-    when: &Option<Plan>,
+    code: &Code,
+    when: &Option<Code>,
 )
-    requires { space plan.now + option_space when.now ≤ length room.old }
-    ensures under { under.new ≡ (if holds_at under.old when.now then with_target under.old target (word_at under.old plan.now).value else under.old) }
+    requires { space_of code.now + option_space when.now ≤ length room.old }
+    ensures under { under.new ≡ (if holds_at under.old when.now then with_target under.old target (value_of code.now under.old.names) else under.old) }
     ensures room { length room.new ≡ length room.old }
 {
     if !holds(under, room, when) {
         return;
     }
-    let value = value_of(under, room, plan).value();
+    let value = value_of(under, room, code);
     if let Some(target) = target {
         under.set(target, value);
     }
 }
 
 // What a read gives: 0 where its condition fails. A guess is of a register, which is read at address 0.
-fn value_read(under: &Instruction, room: &mut [Bits], reading: &Reading, words: &Words) -> u64
+fn value_read(under: &Instruction, room: &mut [u64], reading: &Reading, words: &Words) -> u64
     requires { option_space reading.now.address + option_space reading.now.when ≤ length room.old }
     ensures value { result ≡ value_at words.now under.now reading.now }
     ensures room { length room.new ≡ length room.old }
@@ -258,41 +240,39 @@ fn value_read(under: &Instruction, room: &mut [Bits], reading: &Reading, words: 
     words.word(reading.target, address)
 }
 
-fn holds(under: &Instruction, room: &mut [Bits], when: &Option<Plan>) -> bool
+fn holds(under: &Instruction, room: &mut [u64], when: &Option<Code>) -> bool
     requires { option_space when.now ≤ length room.old }
     ensures value { result ≡ holds_at under.now when.now }
     ensures room { length room.new ≡ length room.old }
 {
     match when {
-        Some(plan) => value_of(under, room, plan).value() == 1,
+        Some(code) => value_of(under, room, code) == 1,
         None => true,
     }
 }
 
-fn address(under: &Instruction, room: &mut [Bits], plan: &Option<Plan>) -> u64
-    requires { option_space plan.now ≤ length room.old }
-    ensures value { result ≡ address_at under.now plan.now }
+fn address(under: &Instruction, room: &mut [u64], code: &Option<Code>) -> u64
+    requires { option_space code.now ≤ length room.old }
+    ensures value { result ≡ address_at under.now code.now }
     ensures room { length room.new ≡ length room.old }
 {
-    match plan {
-        Some(plan) => value_of(under, room, plan).value(),
+    match code {
+        Some(code) => value_of(under, room, code),
         None => 0,
     }
 }
 
-// The value of a plan. In an accepted machine each has one.
-fn value_of(under: &Instruction, room: &mut [Bits], plan: &Plan) -> Bits
-    requires { space plan.now ≤ length room.old }
-    ensures value { result ≡ word_at under.now plan.now }
+fn value_of(under: &Instruction, room: &mut [u64], code: &Code) -> u64
+    requires { space_of code.now ≤ length room.old }
+    ensures value { result ≡ value_of code.now under.now.names }
     ensures room { length room.new ≡ length room.old }
 {
-    let places = Places::Stage(under.names.as_slice());
-    find_value(places, room, plan).unwrap_or(zero_bit())
+    kp_plan::value(code, under.names.as_slice(), room)
 }
 
 // Each target takes its result where that is enabled.
 fn write(tables: &Tables, under: &Instruction, words: &mut Words)
-    ensures { words.new ≡ written_from under.now words.old 0 tables.now.ports }
+    ensures { words.new ≡ written_from (outputs under.now) words.old 0 tables.now.ports }
 {
     let ports = tables.ports.as_slice();
     for t in 0..ports.len() {
@@ -301,7 +281,7 @@ fn write(tables: &Tables, under: &Instruction, words: &mut Words)
 }
 
 fn write_target(under: &Instruction, words: &mut Words, t: usize, port: Option<Port>)
-    ensures { words.new ≡ written_by under.now words.old t port }
+    ensures { words.new ≡ written_by (outputs under.now) words.old t port }
 {
     let Some(port) = port else {
         return;
@@ -313,7 +293,7 @@ fn write_target(under: &Instruction, words: &mut Words, t: usize, port: Option<P
 
 // A result is enabled where its enable pipe is 1, and where it has none.
 fn is_enabled(under: &Instruction, enable: Option<usize>) -> bool
-    ensures { result ≡ is_enabled under.now enable }
+    ensures { result ≡ is_enabled (outputs under.now) enable }
 {
     match enable {
         Some(pipe) => under.pipe(pipe) == 1,
@@ -322,7 +302,7 @@ fn is_enabled(under: &Instruction, enable: Option<usize>) -> bool
 }
 
 fn address_by(under: &Instruction, address: Option<usize>) -> u64
-    ensures { result ≡ address_by under.now address }
+    ensures { result ≡ address_by (outputs under.now) address }
 {
     match address {
         Some(pipe) => under.pipe(pipe),

@@ -3,8 +3,9 @@ ghost use Rattle.kp_stage.specs.Start.{IsStartOf, AreSamples};
 ghost use Rattle.kp_machine.specs.Slots.{samples_of};
 ghost use Rattle.kp_machine.specs.Machine.{state_of};
 ghost use Rattle.kp_seq.specs.Running.{HasWord, state, after_one, word_shown};
+ghost use Rattle.kp_seq.specs.inner.Steps.{zero_bit, fitted};
 
-use crate::instruction::{Instruction, execute, fitted, zero_bit};
+use crate::instruction::{Instruction, execute};
 use crate::program::Program;
 use crate::tables::Tables;
 use crate::words::Words;
@@ -21,7 +22,7 @@ pub struct SeqMachine<'a> {
     tables: Tables<'a>,
     program: Program,
     under: Instruction,
-    room: Vec<Bits>,
+    room: Vec<u64>,
     words: Words,
 }
 
@@ -51,7 +52,7 @@ impl<'a> SeqMachine<'a> {
         let tables = Tables::lay_out(alloc, d)?;
         let program = Program::of(alloc, &tables, d)?;
         let under = Instruction::new(alloc, &tables)?;
-        let room = vec![in alloc; zero_bit(); d.summary().size as usize]?;
+        let room = vec![in alloc; 0; d.summary().size as usize]?;
         let words = Words::start(alloc, d.job().decls.as_slice(), start)?;
         Ok(SeqMachine {
             design: d,
@@ -71,7 +72,7 @@ impl<'a> SeqMachine<'a> {
         let tables = Tables::lay_out(alloc, self.design)?;
         let program = Program::of(alloc, &tables, self.design)?;
         let under = Instruction::new(alloc, &tables)?;
-        let room = vec![in alloc; zero_bit(); self.room.len()]?;
+        let room = vec![in alloc; 0; self.room.len()]?;
         let words = self.words.copied(alloc)?;
         Ok(SeqMachine {
             design: self.design,
@@ -121,4 +122,21 @@ impl<'a> SeqMachine<'a> {
         let width = self.tables.target_width(target);
         fitted(width, self.words.word(target, u64::from(address)))
     }
+}
+
+// The word of this width and this value. An accepted machine has no others.
+fn fitted(width: u64, value: u64) -> Bits
+    ensures { result ≡ fitted width value }
+{
+    if width >= 1 && width <= 64 {
+        Bits::new(width as u8, value).unwrap_or(zero_bit())
+    } else {
+        zero_bit()
+    }
+}
+
+fn zero_bit() -> Bits
+    ensures { result ≡ zero_bit }
+{
+    Bits::new(1, 0).unwrap()
 }

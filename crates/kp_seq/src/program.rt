@@ -1,23 +1,22 @@
 //! A job that is resolved: what an instruction does at each stage, with numbers in the place of names.
-ghost use Rattle.std.specs.Prelude.{◌≡◌, IfOk};
-ghost use Rattle.kp_seq.specs.inner.Resolved.{IsPlan, IsOptionPlan, IsReading, Does, DoesAll, AllDo, Resolves, places_of, carried_of};
+ghost use Rattle.std.specs.Prelude.{◌≡◌, ◌&&◌, nat_le, IfOk};
+ghost use Rattle.kp_seq.specs.inner.Resolved.{IsCode, IsOptionCode, IsReading, Does, DoesRead, DoesStage, AllDo, Resolves, places_of, entry_widths, with_widths, with_width, unnamed};
 
 use crate::tables::{Slot, Tables, number_of, target_of, width_of};
 use kp_ast::{Block, Expr, ReadStmt, Stmt, StmtKind};
 use kp_base::{List, NoMemory};
-use kp_plan::{Keys, Plan, Scope, plan_of};
+use kp_plan::{Code, Keys, Scope, Typed, code_of, plan_of};
 use kp_stage::Design;
 use std::alloc::Global;
 use std::marker::Model;
 
-/// A read: the place of its name, the target's number and width, and whether it has a guess.
+/// A read: the place of its name, the target's number, and whether it has a guess.
 #[derive(Drop)]
 pub(crate) struct Reading {
     pub place: Option<usize>,
     pub target: usize,
-    pub width: u64,
-    pub address: Option<Plan>,
-    pub when: Option<Plan>,
+    pub address: Option<Code>,
+    pub when: Option<Code>,
     pub is_guessed: bool,
 }
 
@@ -26,33 +25,26 @@ pub(crate) struct Reading {
 pub(crate) enum Step {
     Read(Reading),
     /// A name's place gets a value.
-    Let(Option<usize>, Plan),
+    Let(Option<usize>, Code),
     /// A pipe gets a value.
-    Put(usize, Plan),
+    Put(usize, Code),
     /// The result of a target gets a value where a condition holds, if it is a result of a target.
-    Set(Option<usize>, Plan, Option<Plan>),
+    Set(Option<usize>, Code, Option<Code>),
     /// An aim: a sequential machine has no hints.
     Nothing,
 }
 
-/// The place of a pipe's name, and the width of its values.
-#[derive(Clone, Copy)]
-pub(crate) struct Carried {
-    pub place: Option<usize>,
-    pub width: u64,
-}
-
-/// The places of the samples, the pipes, and the steps of each stage.
+/// The places of the names of the samples and of the pipes, and the steps of each stage.
 #[derive(Drop)]
 pub(crate) struct Program {
     pub samples: Vec<Option<usize>>,
-    pub pipes: Vec<Carried>,
+    pub pipes: Vec<Option<usize>>,
     pub stages: Vec<List<Step>>,
 }
 
 impl Model for Program {
     ghost use Rattle.std.specs.Coded.{codes};
-    ghost use Rattle.kp_plan.specs.contracts.plan.Plan as e;
+    ghost use Rattle.kp_plan.specs.contracts.code.Code as e;
     ghost use Rattle.kp_seq.specs.inner.Resolved.{Outline};
 
     ghost Value = { Outline };
@@ -69,8 +61,9 @@ impl Program {
     {
         let blocks = d.job().blocks.as_slice();
         let samples = places_of(alloc, &tables.names, tables.samples.as_slice())?;
-        let pipes = carried_of(alloc, &tables.names, tables.pipes.as_slice())?;
-        let stages = stages_of(alloc, tables, blocks)?;
+        let pipes = places_of(alloc, &tables.names, tables.pipes.as_slice())?;
+        let widths = widths_at_entry(alloc, tables)?;
+        let stages = stages_of(alloc, tables, widths.as_slice(), blocks)?;
         Ok(Program {
             samples,
             pipes,
@@ -89,104 +82,223 @@ fn places_of(alloc: Global, keys: &Keys, slots: &[Slot]) -> Result<Vec<Option<us
     Ok(places)
 }
 
-fn carried_of(alloc: Global, keys: &Keys, slots: &[Slot]) -> Result<Vec<Carried>, NoMemory>
-    ensures { IfOk result (λ pipes. pipes.items ≡ carried_of keys.now slots.now) }
+// The widths of the names that have values where a stage begins, by their places.
+fn widths_at_entry(alloc: Global, tables: &Tables) -> Result<Vec<Option<u64>>, NoMemory>
+    ensures { IfOk result (λ widths. widths.items ≡ entry_widths tables.now) }
 {
-    let mut pipes = Vec::new(alloc);
-    for slot in slots {
-        pipes.push(Carried {
-            place: keys.place(&slot.name),
-            width: slot.width,
-        })?;
-    }
-    Ok(pipes)
+    let mut widths = vec![in alloc; None; tables.names.len()]?;
+    know_all(
+        &tables.names,
+        tables.samples.as_slice(),
+        widths.as_mut_slice(),
+    );
+    know_all(
+        &tables.names,
+        tables.pipes.as_slice(),
+        widths.as_mut_slice(),
+    );
+    Ok(widths)
 }
 
-fn stages_of(alloc: Global, tables: &Tables, blocks: &[Block]) -> Result<Vec<List<Step>>, NoMemory>
-    ensures { IfOk result (λ stages. AllDo tables.now blocks.now stages.items) }
+// The names of these have values of their widths.
+fn know_all(keys: &Keys, slots: &[Slot], widths: &mut [Option<u64>])
+    ensures { widths.new ≡ with_widths keys.now widths.old slots.now }
+{
+    for slot in slots {
+        know(keys.place(&slot.name), slot.width, widths);
+    }
+}
+
+// What is at a place has this width.
+fn know(place: Option<usize>, width: u64, widths: &mut [Option<u64>])
+    ensures { widths.new ≡ with_width widths.old place width }
+{
+    if let Some(place) = place {
+        if place < widths.len() {
+            widths[place] = Some(width);
+        }
+    }
+}
+
+fn stages_of(
+    alloc: Global,
+    tables: &Tables,
+    widths: &[Option<u64>],
+    blocks: &[Block],
+) -> Result<Vec<List<Step>>, NoMemory>
+    ensures { IfOk result (λ stages. AllDo tables.now widths.now blocks.now stages.items) }
 {
     let mut stages = Vec::new(alloc);
     for block in blocks {
-        let steps = steps_of(alloc, tables, block.stmts.as_slice())?;
+        let steps = steps_of(alloc, tables, widths, block.stmts.as_slice())?;
         stages.push(List::new(steps))?;
     }
     Ok(stages)
 }
 
-fn steps_of(alloc: Global, tables: &Tables, stmts: &[Stmt]) -> Result<Vec<Step>, NoMemory>
-    ensures { IfOk result (λ steps. DoesAll tables.now stmts.now steps.items) }
+// The steps of a stage, where the names that have values at its beginning have these widths.
+fn steps_of(
+    alloc: Global,
+    tables: &Tables,
+    entry: &[Option<u64>],
+    stmts: &[Stmt],
+) -> Result<Vec<Step>, NoMemory>
+    ensures { IfOk result (λ steps. DoesStage tables.now entry.now stmts.now steps.items) }
 {
+    let mut widths = Vec::from_slice(alloc, entry)?;
     let mut steps = Vec::new(alloc);
     for stmt in stmts {
-        let step = step_of(alloc, tables, &stmt.kind)?;
-        steps.push(step)?;
+        let made = step_of(alloc, tables, widths.as_slice(), &stmt.kind)?;
+        know(made.place, made.width, widths.as_mut_slice());
+        steps.push(made.step)?;
     }
     Ok(steps)
 }
 
-#[tactic(auto, using(crate::proofs::Resolved::does_read, crate::proofs::Resolved::does_let, crate::proofs::Resolved::does_put, crate::proofs::Resolved::does_set, crate::proofs::Resolved::does_nothing))]
-fn step_of(alloc: Global, tables: &Tables, stmt: &StmtKind) -> Result<Step, NoMemory>
-    ensures { IfOk result (λ step. Does tables.now stmt.now step) }
-{
-    match stmt {
-        StmtKind::Read(read) => {
-            let reading = reading_of(alloc, tables, read)?;
-            Ok(Step::Read(reading))
+/// A step, and the place that has a value after it, with the width of that.
+#[derive(Drop)]
+pub(crate) struct Made {
+    pub step: Step,
+    pub place: Option<usize>,
+    pub width: u64,
+}
+
+impl Made {
+    // A step that names no value.
+    fn unnamed(step: Step) -> Made
+        ensures { result ≡ unnamed step }
+    {
+        Made {
+            step,
+            place: None,
+            width: 0,
         }
-        StmtKind::Let(named, e) => {
-            let plan = plan_for(alloc, tables, e)?;
-            Ok(Step::Let(tables.names.place(&named.name), plan))
-        }
-        StmtKind::Put(named, e) => {
-            let plan = plan_for(alloc, tables, e)?;
-            let pipe = number_of(tables.pipes.as_slice(), &named.name);
-            Ok(Step::Put(pipe, plan))
-        }
-        StmtKind::Set(named, e, when) => {
-            let plan = plan_for(alloc, tables, e)?;
-            let when = option_plan_for(alloc, tables, when)?;
-            let target = target_of(tables, &named.name);
-            Ok(Step::Set(target, plan, when))
-        }
-        StmtKind::Aim(_, _) => Ok(Step::Nothing),
     }
 }
 
-#[tactic(auto, using(crate::proofs::Resolved::reading_is))]
-fn reading_of(alloc: Global, tables: &Tables, read: &ReadStmt) -> Result<Reading, NoMemory>
-    ensures { IfOk result (λ reading. IsReading tables.now read.now reading) }
+// The step of a statement, where names have values of these widths.
+#[tactic(auto, using(crate::proofs::Resolved::does_let, crate::proofs::Resolved::does_put, crate::proofs::Resolved::does_set, crate::proofs::Resolved::does_nothing))]
+fn step_of(
+    alloc: Global,
+    tables: &Tables,
+    widths: &[Option<u64>],
+    stmt: &StmtKind,
+) -> Result<Made, NoMemory>
+    ensures { IfOk result (λ made. Does tables.now widths.now stmt.now made) }
 {
-    let address = option_plan_for(alloc, tables, &read.address)?;
-    let when = option_plan_for(alloc, tables, &read.when)?;
+    match stmt {
+        StmtKind::Read(read) => read_of(alloc, tables, widths, read),
+        StmtKind::Let(named, e) => {
+            let value = code_for(alloc, tables, widths, e)?;
+            let place = tables.names.place(&named.name);
+            Ok(Made {
+                step: Step::Let(place, value.code),
+                place,
+                width: value.width,
+            })
+        }
+        StmtKind::Put(named, e) => {
+            let value = code_for(alloc, tables, widths, e)?;
+            let pipe = number_of(tables.pipes.as_slice(), &named.name);
+            Ok(Made::unnamed(Step::Put(pipe, value.code)))
+        }
+        StmtKind::Set(named, e, when) => {
+            let value = code_for(alloc, tables, widths, e)?;
+            let when = option_code_for(alloc, tables, widths, when)?;
+            let target = target_of(tables, &named.name);
+            Ok(Made::unnamed(Step::Set(target, value.code, when)))
+        }
+        StmtKind::Aim(_, _) => Ok(Made::unnamed(Step::Nothing)),
+    }
+}
+
+// The step of a read. Its name is one bit of 0 where the target's width is not in 1 to 64; in an accepted job that happens nowhere.
+#[tactic(auto, using(crate::proofs::Resolved::does_read, crate::proofs::Resolved::does_nowhere))]
+fn read_of(
+    alloc: Global,
+    tables: &Tables,
+    widths: &[Option<u64>],
+    read: &ReadStmt,
+) -> Result<Made, NoMemory>
+    ensures { IfOk result (λ made. DoesRead tables.now widths.now read.now made) }
+{
+    let place = tables.names.place(&read.name.name);
+    let width = width_of(tables.targets.as_slice(), &read.target.name);
+    if !is_width(width) {
+        return Ok(Made {
+            step: Step::Let(place, Code::Word(0)),
+            place,
+            width: 1,
+        });
+    }
+    let reading = reading_of(alloc, tables, widths, read)?;
+    Ok(Made {
+        step: Step::Read(reading),
+        place,
+        width,
+    })
+}
+
+// Whether a word may have this width.
+fn is_width(width: u64) -> bool
+    ensures { result ≡ (nat_le 1 width && nat_le width 64) }
+{
+    width >= 1 && width <= 64
+}
+
+#[tactic(auto, using(crate::proofs::Resolved::reading_is))]
+fn reading_of(
+    alloc: Global,
+    tables: &Tables,
+    widths: &[Option<u64>],
+    read: &ReadStmt,
+) -> Result<Reading, NoMemory>
+    ensures { IfOk result (λ reading. IsReading tables.now widths.now read.now reading) }
+{
+    let address = option_code_for(alloc, tables, widths, &read.address)?;
+    let when = option_code_for(alloc, tables, widths, &read.when)?;
     Ok(Reading {
         place: tables.names.place(&read.name.name),
         target: number_of(tables.targets.as_slice(), &read.target.name),
-        width: width_of(tables.targets.as_slice(), &read.target.name),
         address,
         when,
         is_guessed: read.guess.is_some(),
     })
 }
 
-fn option_plan_for(
+fn option_code_for(
     alloc: Global,
     tables: &Tables,
+    widths: &[Option<u64>],
     e: &Option<Expr>,
-) -> Result<Option<Plan>, NoMemory>
-    ensures { IfOk result (λ plan. IsOptionPlan tables.now e.now plan) }
+) -> Result<Option<Code>, NoMemory>
+    ensures { IfOk result (λ code. IsOptionCode tables.now widths.now e.now code) }
 {
     match e {
         Some(e) => {
-            let plan = plan_for(alloc, tables, e)?;
-            Ok(Some(plan))
+            let value = code_for(alloc, tables, widths, e)?;
+            Ok(Some(value.code))
         }
         None => Ok(None),
     }
 }
 
-// The plan of an expression of a stage.
-fn plan_for(alloc: Global, tables: &Tables, e: &Expr) -> Result<Plan, NoMemory>
-    ensures { IfOk result (λ plan. IsPlan tables.now e.now plan) }
+// The code of an expression of a stage, and that of one bit of 0 where it has no value; in an accepted job that happens nowhere.
+fn code_for(
+    alloc: Global,
+    tables: &Tables,
+    widths: &[Option<u64>],
+    e: &Expr,
+) -> Result<Typed, NoMemory>
+    ensures { IfOk result (λ value. IsCode tables.now widths.now e.now value) }
 {
-    plan_of(alloc, tables.decls, Scope::Stage(&tables.names), e)
+    let plan = plan_of(alloc, tables.decls, Scope::Stage(&tables.names), e)?;
+    let value = code_of(alloc, &plan, widths)?;
+    match value {
+        Some(value) => Ok(value),
+        None => Ok(Typed {
+            code: Code::Word(0),
+            width: 1,
+        }),
+    }
 }

@@ -1,5 +1,5 @@
 -- What a machine has when it starts, and what it keeps between its instructions.
-use Rattle.std.specs.Prelude.{◌≡◌, ℕ, ◌^◌, ◌<◌, ◌≤◌, List, [], ◌∷◌, None, length, slice_index}
+use Rattle.std.specs.Prelude.{◌≡◌, ℕ, ◌≤◌, List, [], ◌∷◌, None, length}
 use Rattle.kp_base.specs.First.{first}
 use Rattle.kp_bits.specs.Word.{Word}
 use Rattle.kp_ast.specs.declared.tree.Decl.{Decl}
@@ -8,10 +8,11 @@ use Rattle.kp_ast.specs.declared.tree.Job.{Job}
 use Rattle.kp_width.specs.Widths.{widths_of}
 use Rattle.kp_stage.specs.Sizes.{size_of_job}
 use Rattle.kp_stage.specs.Stages.{broken_of}
-use Rattle.kp_machine.specs.Slots.{Slot, targets_of, pipes_of, samples_of}
+use Rattle.kp_machine.specs.Slots.{targets_of, pipes_of, samples_of}
 use Rattle.kp_plan.specs.Names.{keys_of}
 use Rattle.kp_seq.specs.inner.Tables.{Laid, ports_of}
-use Rattle.kp_seq.specs.inner.Resolved.{Outline, Resolves}
+use Rattle.kp_seq.specs.inner.Fits.{FitSlots}
+use Rattle.kp_seq.specs.inner.Resolved.{Outline, Raw, Resolves}
 use Rattle.kp_seq.specs.inner.Steps.{Under}
 
 -- the tables of a job, in which each name that the job declares has a place
@@ -23,29 +24,23 @@ pub record AreTables (job : Job) (t : Laid) : Type 0 where
   pub ports : t.ports ≡ ports_of job.decls
   pub names : t.names ≡ keys_of [] (widths_of job).value
 
--- the words of a target: one for each address, each of the target's width
-pub record FitsSlot (s : Slot) (words : List ℕ) : Type 0 where
-  pub count : length words ≡ 2 ^ s.address
-  pub fits : (a : ℕ) → slice_index words a < 2 ^ s.width
-
--- the words of all of these targets
-abbrev pub FitSlots : List Slot → List (List ℕ) → Type 0
-FitSlots [] words = words ≡ []
-FitSlots (s ∷ ss) [] = ⊥
-FitSlots (s ∷ ss) (w ∷ words) = FitsSlot s w × FitSlots ss words
-
 -- a place for each name, pipe and result
 pub record HasPlaces (t : Laid) (u : Under) : Type 0 where
   pub names : length u.names ≡ length t.names
   pub pipes : length u.pipes ≡ length t.pipes
   pub results : length u.results ≡ length t.targets
 
-pub record IsReady (job : Job) (t : Laid) (o : Outline) (u : Under) (space : ℕ) (held : List (List ℕ)) : Type 0 where
+pub record HasRoom (t : Laid) (r : Raw) : Type 0 where
+  pub names : length r.names ≡ length t.names
+  pub pipes : length r.pipes ≡ length t.pipes
+  pub results : length r.results ≡ length t.targets
+
+pub record IsReady (job : Job) (t : Laid) (o : Outline) (r : Raw) (space : ℕ) (held : List (List ℕ)) : Type 0 where
   pub names : first (widths_of job).asked ≡ None
   pub stages : broken_of job ≡ None
   pub tables : AreTables job t
   pub program : Resolves t job.blocks o
-  pub places : HasPlaces t u
+  pub places : HasRoom t r
   pub room : size_of_job job ≤ space
   pub words : FitSlots (targets_of job.decls) held
 

@@ -1,5 +1,5 @@
--- A job that is resolved, and what an instruction does by it.
-use Rattle.std.specs.Prelude.{◌≡◌, ◌≤◌, ◌+◌, ℕ, List, [], ◌∷◌, Option, Some, None, Bool, true, ◌==◌, if◌then◌else◌, length, map, sum_by, replicate, unwrap_or, slice_index}
+-- A job that is resolved, and what an instruction does by it, in numbers alone.
+use Rattle.std.specs.Prelude.{◌≡◌, ◌≤◌, ◌+◌, ℕ, List, [], ◌∷◌, Option, Some, None, Bool, true, ◌==◌, if◌then◌else◌, length, map, sum_by, replicate, set, get_or, slice_index}
 use Rattle.std.specs.List.{position}
 use Rattle.kp_bits.specs.Word.{Word}
 use Rattle.kp_ast.specs.Expressions.{is_same_name}
@@ -8,133 +8,129 @@ use Rattle.kp_ast.specs.declared.tree.Expr.{Expr}
 use Rattle.kp_ast.specs.declared.tree.ReadStmt.{ReadStmt}
 use Rattle.kp_ast.specs.declared.tree.Stmt.{Stmt}
 use Rattle.kp_ast.specs.declared.tree.StmtKind.{StmtKind}
+use Rattle.kp_ast.specs.declared.tree.StmtKind.TheVariants as stmts
 use Rattle.kp_ast.specs.declared.tree.Block.{Block}
+use Rattle.kp_law.specs.Sequential.{first_value}
 use Rattle.kp_stage.specs.Sizes.{size_of_option, size_of_kind, size_of_stmt}
-use Rattle.kp_machine.specs.Slots.{Slot, width_of}
-use Rattle.kp_plan.specs.Plans.{meaning, space}
-use Rattle.kp_plan.specs.declared.plan.Plan.{Plan}
+use Rattle.kp_machine.specs.Slots.{Slot}
+use Rattle.kp_plan.specs.Codes.{value_of, space_of, Holds, AllSuit}
+use Rattle.kp_plan.specs.declared.code.Code.{Code}
+use Rattle.kp_plan.specs.declared.code.Typed.{Typed}
 use Rattle.kp_seq.specs.declared.program.Reading.{Reading}
 use Rattle.kp_seq.specs.declared.program.Step.{Step}
 use Rattle.kp_seq.specs.declared.program.Step.TheVariants as moves
-use Rattle.kp_seq.specs.declared.program.Carried.{Carried}
+use Rattle.kp_seq.specs.declared.program.Made.{Made}
 use Rattle.kp_seq.specs.declared.tables.Port.{Port}
 use Rattle.kp_seq.specs.Running.{state_in}
-use Rattle.kp_seq.specs.inner.Names.{set_place}
+use Rattle.kp_seq.specs.inner.Fits.{FitSlots}
 use Rattle.kp_seq.specs.inner.Tables.{Laid}
-use Rattle.kp_seq.specs.inner.Steps.{Under, zero_bit, fitted, word_in, holds, address_in, value_read, with_pipe, with_first, begun, after_stmt, after_stmts, written_from}
+use Rattle.kp_seq.specs.inner.Steps.{Under, word_in, holds, address_in, value_read, after_stmt, after_stmts, written_from}
 
--- the places of the samples, the pipes, and the steps of each stage
+-- the places of the names of the samples and of the pipes, and the steps of each stage
 pub record Outline : Type 0 where
   pub samples : List (Option ℕ)
-  pub pipes : List Carried
+  pub pipes : List (Option ℕ)
   pub stages : List (List Step)
 
--- the word of a plan, a condition and an address
-abbrev pub word_at : Under → Plan → Word
-word_at u p = unwrap_or (meaning p u.names) zero_bit
+-- an instruction under way in numbers alone: what is held at the places of names, the values of pipes, and results by their targets
+pub record Raw : Type 0 where
+  pub names : List ℕ
+  pub pipes : List ℕ
+  pub results : List (Option ℕ)
 
-abbrev pub holds_at : Under → Option Plan → Bool
-holds_at u None = true
-holds_at u (Some p) = (word_at u p).value == 1
+-- what is written of it
+abbrev pub outputs : Raw → Under
+outputs r = record { names = []; pipes = r.pipes; results = r.results }
 
-abbrev pub address_at : Under → Option Plan → ℕ
-address_at u None = 0
-address_at u (Some p) = (word_at u p).value
+-- a condition and an address
+abbrev pub holds_at : Raw → Option Code → Bool
+holds_at r None = true
+holds_at r (Some c) = value_of c r.names == 1
+
+abbrev pub address_at : Raw → Option Code → ℕ
+address_at r None = 0
+address_at r (Some c) = value_of c r.names
 
 -- what a read gives: 0 where its condition fails; a guess is of a register
-abbrev pub value_at : List (List ℕ) → Under → Reading → ℕ
-value_at words u r = if holds_at u r.when then state_in words r.target (if r.is_guessed then 0 else address_at u r.address) else 0
+abbrev pub value_at : List (List ℕ) → Raw → Reading → ℕ
+value_at words r s = if holds_at r s.when then state_in words s.target (if s.is_guessed then 0 else address_at r s.address) else 0
 
-abbrev pub with_place : Under → Option ℕ → Word → Under
-with_place u place w = record u { names = set_place u.names place w }
+abbrev pub put_place : List ℕ → Option ℕ → ℕ → List ℕ
+put_place values None v = values
+put_place values (Some i) v = set values i v
 
-abbrev pub with_target : Under → Option ℕ → ℕ → Under
-with_target u None v = u
-with_target u (Some t) v = with_first u t v
+abbrev pub with_place : Raw → Option ℕ → ℕ → Raw
+with_place r place v = record r { names = put_place r.names place v }
+
+abbrev pub put_pipe : Raw → ℕ → ℕ → Raw
+put_pipe r p v = record r { pipes = set r.pipes p v }
+
+-- the first value of a result counts
+abbrev pub set_first : Raw → ℕ → ℕ → Raw
+set_first r t v = record r { results = set r.results t (first_value (get_or r.results t None) (Some v)) }
+
+abbrev pub with_target : Raw → Option ℕ → ℕ → Raw
+with_target r None v = r
+with_target r (Some t) v = set_first r t v
 
 -- after a step
-abbrev pub after_step : List (List ℕ) → Under → Step → Under
-after_step words u (moves.Read r) = with_place u r.place (fitted r.width (value_at words u r))
-after_step words u (moves.Let place p) = with_place u place (word_at u p)
-after_step words u (moves.Put pipe p) = with_pipe u pipe (word_at u p).value
-after_step words u (moves.Set target p when) = if holds_at u when then with_target u target (word_at u p).value else u
-after_step words u moves.Nothing = u
+abbrev pub after_step : List (List ℕ) → Raw → Step → Raw
+after_step words r (moves.Read s) = with_place r s.place (value_at words r s)
+after_step words r (moves.Let place c) = with_place r place (value_of c r.names)
+after_step words r (moves.Put pipe c) = put_pipe r pipe (value_of c r.names)
+after_step words r (moves.Set target c when) = if holds_at r when then with_target r target (value_of c r.names) else r
+after_step words r moves.Nothing = r
 
-abbrev pub after_steps : List (List ℕ) → Under → List Step → Under
-after_steps words u [] = u
-after_steps words u (s ∷ ss) = after_steps words (after_step words u s) ss
+abbrev pub after_steps : List (List ℕ) → Raw → List Step → Raw
+after_steps words r [] = r
+after_steps words r (s ∷ ss) = after_steps words (after_step words r s) ss
 
--- these places get the words of a row
-abbrev pub with_row_at : Under → List (Option ℕ) → List Word → Under
-with_row_at u [] row = u
-with_row_at u (p ∷ ps) [] = u
-with_row_at u (p ∷ ps) (w ∷ row) = with_row_at (with_place u p w) ps row
+-- these places get the values of a row
+abbrev pub with_row_at : Raw → List (Option ℕ) → List Word → Raw
+with_row_at r [] row = r
+with_row_at r (p ∷ ps) [] = r
+with_row_at r (p ∷ ps) (w ∷ row) = with_row_at (with_place r p w.value) ps row
 
--- the words of these pipes, of which the first has this number
-abbrev pub carried_words : List ℕ → ℕ → List Carried → List Word
-carried_words values i [] = []
-carried_words values i (p ∷ ps) = fitted p.width (slice_index values i) ∷ carried_words values (i + 1) ps
+-- these places get the values of the pipes, of which the first has this number
+abbrev pub with_carried : Raw → ℕ → List (Option ℕ) → Raw
+with_carried r i [] = r
+with_carried r i (p ∷ ps) = with_carried (with_place r p (slice_index r.pipes i)) (i + 1) ps
 
-abbrev pub with_carried : Under → ℕ → List Carried → Under
-with_carried u i ps = with_row_at u (map (λ p. p.place) ps) (carried_words u.pipes i ps)
+-- a stage begins: the names of the samples and of the pipes get their values
+abbrev pub entered_at : Outline → List Word → Raw → Raw
+entered_at o row r = with_carried (with_row_at r o.samples row) 0 o.pipes
 
--- a stage begins: of the names the samples and the pipes have values
-abbrev pub entered_at : Outline → List Word → Under → Under
-entered_at o row u = with_carried (with_row_at (record u { names = replicate (length u.names) None }) o.samples row) 0 o.pipes
+abbrev pub after_stages : Outline → List (List ℕ) → List Word → Raw → List (List Step) → Raw
+after_stages o words row r [] = r
+after_stages o words row r (s ∷ ss) = after_stages o words row (after_steps words (entered_at o row r) s) ss
 
-abbrev pub after_stages : Outline → List (List ℕ) → List Word → Under → List (List Step) → Under
-after_stages o words row u [] = u
-after_stages o words row u (s ∷ ss) = after_stages o words row (after_steps words (entered_at o row u) s) ss
+-- an instruction begins: no pipe and no result has a value
+abbrev pub begun_at : Raw → Raw
+begun_at r = record { names = r.names; pipes = replicate (length r.pipes) 0; results = replicate (length r.results) None }
 
 -- the words after one instruction
-abbrev pub ran : Outline → List (Option Port) → List Word → Under → List (List ℕ) → List (List ℕ)
-ran o ports row u words = written_from (after_stages o words row (begun u) o.stages) words 0 ports
+abbrev pub ran : Outline → List (Option Port) → List Word → Raw → List (List ℕ) → List (List ℕ)
+ran o ports row r words = written_from (outputs (after_stages o words row (begun_at r) o.stages)) words 0 ports
 
 -- the room that a step takes
-abbrev pub option_space : Option Plan → ℕ
+abbrev pub option_space : Option Code → ℕ
 option_space None = 0
-option_space (Some p) = space p
+option_space (Some c) = space_of c
 
 abbrev pub step_space : Step → ℕ
-step_space (moves.Read r) = option_space r.address + option_space r.when
-step_space (moves.Let place p) = space p
-step_space (moves.Put pipe p) = space p
-step_space (moves.Set target p when) = space p + option_space when
+step_space (moves.Read s) = option_space s.address + option_space s.when
+step_space (moves.Let place c) = space_of c
+step_space (moves.Put pipe c) = space_of c
+step_space (moves.Set target c when) = space_of c + option_space when
 step_space moves.Nothing = 0
 
 abbrev pub steps_space : List Step → ℕ
 steps_space ss = sum_by step_space ss
 
--- a plan has the words of an expression of a stage
-pub record IsPlan (t : Laid) (e : Expr) (p : Plan) : Type 0 where
-  pub word : (u : Under) → word_at u p ≡ word_in t u e
-  pub space : space p ≤ size t.decls e
-
-pub record IsOptionPlan (t : Laid) (e : Option Expr) (p : Option Plan) : Type 0 where
-  pub holds : (u : Under) → holds_at u p ≡ holds t u e
-  pub address : (u : Under) → address_at u p ≡ address_in t u e
-  pub space : option_space p ≤ size_of_option t.decls e
-
-pub record IsReading (t : Laid) (r : ReadStmt) (s : Reading) : Type 0 where
-  pub place : s.place ≡ position (is_same_name r.name.name) t.names
-  pub width : s.width ≡ width_of t.targets r.target.name
-  pub value : (words : List (List ℕ)) (u : Under) → value_at words u s ≡ value_read t words u r
-  pub space : option_space s.address + option_space s.when ≤ size_of_option t.decls r.address + size_of_option t.decls r.when
-
--- a step does what a statement does
-pub record Does (t : Laid) (k : StmtKind) (s : Step) : Type 0 where
-  pub after : (words : List (List ℕ)) (u : Under) → after_step words u s ≡ after_stmt t words u k
-  pub space : step_space s ≤ size_of_kind t.decls k
-
-pub record DoesAll (t : Laid) (xs : List Stmt) (ss : List Step) : Type 0 where
-  pub after : (words : List (List ℕ)) (u : Under) → after_steps words u ss ≡ after_stmts t words u xs
-  pub space : steps_space ss ≤ sum_by (size_of_stmt t.decls) xs
-
--- stage by stage
-abbrev pub AllDo : Laid → List Block → List (List Step) → Type 0
-AllDo t [] ss = ss ≡ []
-AllDo t (b ∷ bs) [] = ⊥
-AllDo t (b ∷ bs) (s ∷ ss) = DoesAll t b.stmts s × AllDo t bs ss
+-- the widths of what places hold, where a stage has given them a value
+abbrev pub with_width : List (Option ℕ) → Option ℕ → ℕ → List (Option ℕ)
+with_width ws None w = ws
+with_width ws (Some i) w = set ws i (Some w)
 
 abbrev pub place_in : List (List ℕ) → Slot → Option ℕ
 place_in keys s = position (is_same_name s.name) keys
@@ -142,14 +138,63 @@ place_in keys s = position (is_same_name s.name) keys
 abbrev pub places_of : List (List ℕ) → List Slot → List (Option ℕ)
 places_of keys ss = map (place_in keys) ss
 
-abbrev pub carried_by : List (List ℕ) → Slot → Carried
-carried_by keys s = record { place = place_in keys s; width = s.width }
+abbrev pub with_widths : List (List ℕ) → List (Option ℕ) → List Slot → List (Option ℕ)
+with_widths keys ws [] = ws
+with_widths keys ws (s ∷ ss) = with_widths keys (with_width ws (place_in keys s) s.width) ss
 
-abbrev pub carried_of : List (List ℕ) → List Slot → List Carried
-carried_of keys ss = map (carried_by keys) ss
+abbrev pub entry_widths : Laid → List (Option ℕ)
+entry_widths t = with_widths t.names (with_widths t.names (replicate (length t.names) None) t.samples) t.pipes
+
+-- an instruction under way in numbers, where the names that have values have these widths
+pub record IsShown (ws : List (Option ℕ)) (u : Under) (r : Raw) : Type 0 where
+  pub names : AllSuit ws u.names r.names
+  pub pipes : r.pipes ≡ u.pipes
+  pub results : r.results ≡ u.results
+
+-- a code has the words of an expression of a stage
+pub record IsCode (t : Laid) (ws : List (Option ℕ)) (e : Expr) (c : Typed) : Type 0 where
+  pub value : (u : Under) (values : List ℕ) → AllSuit ws u.names values → Holds (Some (word_in t u e)) c.width (value_of c.code values)
+  pub space : space_of c.code ≤ size t.decls e
+
+pub record IsOptionCode (t : Laid) (ws : List (Option ℕ)) (e : Option Expr) (c : Option Code) : Type 0 where
+  pub holds : (u : Under) (r : Raw) → AllSuit ws u.names r.names → holds_at r c ≡ holds t u e
+  pub address : (u : Under) (r : Raw) → AllSuit ws u.names r.names → address_at r c ≡ address_in t u e
+  pub space : option_space c ≤ size_of_option t.decls e
+
+pub record IsReading (t : Laid) (ws : List (Option ℕ)) (r : ReadStmt) (s : Reading) : Type 0 where
+  pub place : s.place ≡ position (is_same_name r.name.name) t.names
+  pub value : (words : List (List ℕ)) (u : Under) (x : Raw) → AllSuit ws u.names x.names → value_at words x s ≡ value_read t words u r
+  pub space : option_space s.address + option_space s.when ≤ size_of_option t.decls r.address + size_of_option t.decls r.when
+
+-- a step does what a statement does, and a place has a width after it
+pub record Does (t : Laid) (ws : List (Option ℕ)) (k : StmtKind) (m : Made) : Type 0 where
+  pub after : (words : List (List ℕ)) (u : Under) (r : Raw) → FitSlots t.targets words → IsShown ws u r
+      → IsShown (with_width ws m.place m.width) (after_stmt t words u k) (after_step words r m.step)
+  pub space : step_space m.step ≤ size_of_kind t.decls k
+
+abbrev pub DoesRead : Laid → List (Option ℕ) → ReadStmt → Made → Type 0
+DoesRead t ws r m = Does t ws (stmts.Read r) m
+
+abbrev pub unnamed : Step → Made
+unnamed s = record { step = s; place = None; width = 0 }
+
+-- so do several, after which places have these widths
+pub record DoesAll (t : Laid) (ws : List (Option ℕ)) (xs : List Stmt) (ss : List Step) (after : List (Option ℕ)) : Type 0 where
+  pub shown : (words : List (List ℕ)) (u : Under) (r : Raw) → FitSlots t.targets words → IsShown ws u r
+      → IsShown after (after_stmts t words u xs) (after_steps words r ss)
+  pub space : steps_space ss ≤ sum_by (size_of_stmt t.decls) xs
+
+abbrev pub DoesStage : Laid → List (Option ℕ) → List Stmt → List Step → Type 0
+DoesStage t ws xs ss = (after : List (Option ℕ)) × DoesAll t ws xs ss after
+
+-- stage by stage
+abbrev pub AllDo : Laid → List (Option ℕ) → List Block → List (List Step) → Type 0
+AllDo t ws [] ss = ss ≡ []
+AllDo t ws (b ∷ bs) [] = ⊥
+AllDo t ws (b ∷ bs) (s ∷ ss) = DoesStage t ws b.stmts s × AllDo t ws bs ss
 
 -- the blocks of a job are resolved
 pub record Resolves (t : Laid) (blocks : List Block) (o : Outline) : Type 0 where
   pub samples : o.samples ≡ places_of t.names t.samples
-  pub pipes : o.pipes ≡ carried_of t.names t.pipes
-  pub stages : AllDo t blocks o.stages
+  pub pipes : o.pipes ≡ places_of t.names t.pipes
+  pub stages : AllDo t (entry_widths t) blocks o.stages

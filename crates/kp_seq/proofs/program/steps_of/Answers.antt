@@ -1,13 +1,28 @@
-use Rattle.std.proofs.Common.{subst, sym, take}
-use Rattle.kp_seq.specs.inner.Resolved.{DoesAll}
+use Rattle.std.proofs.Common.{subst, sym, take, ap, ◌∙◌, ◌≡◌}
+use Rattle.std.proofs.lemmas.List.{take_all}
+use Rattle.kp_seq.specs.inner.Resolved.{Does, DoesAll, with_width}
 use Rattle.kp_seq.proofs.Resolved.{no_steps, more_steps}
 use Rattle.kp_seq.proofs.program.steps_of.Goals as goal
 
 pub loop-stmt-init : goal.loop-stmt-init
 loop-stmt-init c =
-    subst (DoesAll c.args.tables.now (take 0 c.args.stmts.now)) (sym c.new-steps.ensures.items) (no_steps c.args.tables.now)
+    let t = c.args.tables.now in
+    let w = c.args.entry.now in
+    subst (λ ws. DoesAll t w (take 0 c.args.stmts.now) c.new-steps.result.items ws) (sym c.in_ok-widths.ensures.items)
+    (subst (λ ss. DoesAll t w (take 0 c.args.stmts.now) ss w) (sym c.new-steps.ensures.items) (no_steps t w))
 
 pub loop-stmt-preserved : goal.loop-stmt-preserved
 loop-stmt-preserved c =
-    subst (DoesAll c.args.tables.now (take _ c.args.stmts.now)) (sym c.in_ok-push.ensures.items)
-    (more_steps c.args.tables.now c.args.stmts.now c.loop-stmt.stmt-index c.stmt-item.result c.loop-stmt.steps.items c.in_ok-step.step c.loop-stmt-test.true c.stmt-item.is c.loop-stmt.invariant c.in_ok-step.ensures)
+    let t = c.args.tables.now in
+    let w = c.args.entry.now in
+    let m = c.in_ok-made.made in
+    subst (λ ss. DoesAll t w (take _ c.args.stmts.now) ss c.know.new.widths) (sym c.in_ok-push.ensures.items)
+    (subst (DoesAll t w (take _ c.args.stmts.now) _) (ap (λ ws. with_width ws m.place m.width) (sym c.as_mut_slice.ensures.value) ∙ sym c.know.ensures)
+    (more_steps t w c.args.stmts.now c.loop-stmt.stmt-index c.stmt-item.result c.loop-stmt.steps.items c.loop-stmt.widths.items m c.loop-stmt-test.true c.stmt-item.is c.loop-stmt.invariant
+    (subst (λ ws. Does t ws c.stmt-item.result.kind m) c.as_slice.ensures.value c.in_ok-made.ensures)))
+
+pub returns : goal.returns
+returns c = (
+  c.loop-stmt.widths.items,
+  subst (λ xs. DoesAll c.args.tables.now c.args.entry.now xs c.loop-stmt.steps.items c.loop-stmt.widths.items) (take_all c.loop-stmt.stmt-index c.args.stmts.now c.loop-stmt-test.false) c.loop-stmt.invariant,
+)

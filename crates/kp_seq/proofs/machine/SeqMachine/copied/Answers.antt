@@ -1,6 +1,6 @@
 use Rattle.std.proofs.Common.{◌∙◌, ap, subst, sym, arith}
 use Rattle.kp_machine.specs.Slots.{targets_of}
-use Rattle.kp_seq.specs.inner.Ready.{FitSlots}
+use Rattle.kp_seq.specs.inner.Fits.{FitSlots}
 use Rattle.kp_seq.proofs.machine.SeqMachine.copied.Goals as goal
 
 pub invariant_of-result : goal.invariant_of-result

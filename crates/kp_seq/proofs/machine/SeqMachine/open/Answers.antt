@@ -6,7 +6,8 @@ use Rattle.kp_stage.specs.Counts.{summary_of}
 use Rattle.kp_stage.specs.declared.counts.Summary.{Summary}
 use Rattle.kp_machine.specs.Slots.{targets_of}
 use Rattle.kp_seq.specs.Running.{state_in}
-use Rattle.kp_seq.specs.inner.Ready.{words_of_start, FitSlots}
+use Rattle.kp_seq.specs.inner.Fits.{FitSlots}
+use Rattle.kp_seq.specs.inner.Ready.{words_of_start}
 use Rattle.kp_seq.proofs.Start.{start_fits, start_state}
 use Rattle.kp_seq.proofs.machine.SeqMachine.open.Goals as goal
 

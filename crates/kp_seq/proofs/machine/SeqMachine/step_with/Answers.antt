@@ -6,10 +6,11 @@ use Rattle.kp_stage.specs.Start.{AreSamples}
 use Rattle.kp_machine.specs.Slots.{targets_of}
 use Rattle.kp_seq.specs.Running.{Running, state, state_in, after_one}
 use Rattle.kp_seq.specs.inner.Steps.{Under, begun, after_blocks, executed}
-use Rattle.kp_seq.specs.inner.Ready.{FitSlots}
+use Rattle.kp_seq.specs.inner.Fits.{FitSlots}
+use Rattle.kp_seq.specs.inner.Resolved.{Raw, entry_widths}
 use Rattle.kp_seq.proofs.Lengths.{all_same}
-use Rattle.kp_seq.proofs.Resolved.{ran_is, all_stages, enough}
-use Rattle.kp_seq.proofs.Step.{step_state, step_fits}
+use Rattle.kp_seq.proofs.Resolved.{enough}
+use Rattle.kp_seq.proofs.Step.{Follows, as_under, as_placed, step_state, step_fits, all_follow, ran_is}
 use Rattle.kp_seq.proofs.machine.SeqMachine.step_with.Goals as goal
 
 pub execute-requires : goal.execute-requires
@@ -18,7 +19,7 @@ execute-requires c =
     let i = c.self.invariant in
     let blocks = m.design.now.job.blocks in
     let e : sum_by (size_of_block m.tables.decls) blocks ≡ size_of_job m.design.now.job = ap (λ ds. sum_by (size_of_block ds) blocks) i.tables.decls in
-    enough m.tables blocks m.program i.program _ (omega (arith, e, i.room, m.room.ok.0))
+    enough m.tables (entry_widths m.tables) blocks m.program.stages i.program.stages _ (omega (arith, e, i.room, m.room.ok.0))
 
 pub invariant_of-self : goal.invariant_of-self
 invariant_of-self c =
@@ -26,22 +27,26 @@ invariant_of-self c =
     let i = c.self.invariant in
     let job = m.design.now.job in
     let fits : AreSamples job.decls c.args.row.now = subst (λ (x : Running). AreSamples x.job.decls c.args.row.now) (sym c.self.view_is) c.requires in
-    let w : c.execute.new.words ≡ executed m.tables c.args.row.now m.under job.blocks m.words = c.execute.ensures.words ∙ ran_is m.tables job.blocks m.program i.program c.args.row.now m.under m.words in
-    let u : c.execute.new.under ≡ after_blocks m.tables m.words c.args.row.now (begun m.under) job.blocks =
-    c.execute.ensures.under ∙ all_stages m.tables job.blocks m.program i.program m.words c.args.row.now (begun m.under) in
-    let same = all_same m.tables m.words c.args.row.now m.under job.blocks in
+    let u : Under = as_under m.under in
+    let places = as_placed m.tables m.under i.places in
+    let start : Follows m.tables u m.under = record { names = i.places.names; pipes = refl; results = refl } in
+    let w : c.execute.new.words ≡ executed m.tables c.args.row.now u job.blocks m.words =
+    c.execute.ensures.words ∙ ran_is job i.names i.stages m.tables i.tables _ refl m.words i.words c.args.row.now fits m.program i.program u m.under places start in
+    let f = all_follow job i.names i.stages m.tables i.tables _ refl m.words i.words c.args.row.now fits m.program i.program u m.under places start in
+    let same = all_same m.tables m.words c.args.row.now u job.blocks in
+    let v = c.execute.ensures.under in
     record {
       names = i.names;
       stages = i.stages;
       tables = i.tables;
       program = i.program;
       places = record {
-        names = ap (λ (x : Under). length x.names) u ∙ same.names ∙ i.places.names;
-        pipes = ap (λ (x : Under). length x.pipes) u ∙ same.pipes ∙ i.places.pipes;
-        results = ap (λ (x : Under). length x.results) u ∙ same.results ∙ i.places.results;
+        names = ap (λ (x : Raw). length x.names) v ∙ f.names;
+        pipes = ap (λ (x : Raw). length x.pipes) v ∙ ap length f.pipes ∙ same.pipes ∙ i.places.pipes;
+        results = ap (λ (x : Raw). length x.results) v ∙ ap length f.results ∙ same.results ∙ i.places.results;
       };
       room = omega (arith, length_refill m.room.len m.room.items c.execute.new.room m.room.ok.0, m.room.ok.0, i.room);
-      words = subst (FitSlots (targets_of job.decls)) (sym w) (step_fits job i.names i.stages m.tables i.tables _ refl m.words i.words c.args.row.now fits m.under i.places);
+      words = subst (FitSlots (targets_of job.decls)) (sym w) (step_fits job i.names i.stages m.tables i.tables _ refl m.words i.words c.args.row.now fits u places);
     }
 
 pub returns-clause-state : goal.returns-clause-state
@@ -50,7 +55,11 @@ returns-clause-state c =
     let i = c.self.invariant in
     let job = m.design.now.job in
     let fits : AreSamples job.decls c.args.row.now = subst (λ (x : Running). AreSamples x.job.decls c.args.row.now) (sym c.self.view_is) c.requires in
-    let w : c.execute.new.words ≡ executed m.tables c.args.row.now m.under job.blocks m.words = c.execute.ensures.words ∙ ran_is m.tables job.blocks m.program i.program c.args.row.now m.under m.words in
+    let u : Under = as_under m.under in
+    let places = as_placed m.tables m.under i.places in
+    let start : Follows m.tables u m.under = record { names = i.places.names; pipes = refl; results = refl } in
+    let w : c.execute.new.words ≡ executed m.tables c.args.row.now u job.blocks m.words =
+    c.execute.ensures.words ∙ ran_is job i.names i.stages m.tables i.tables _ refl m.words i.words c.args.row.now fits m.program i.program u m.under places start in
     ap state_in w
-    ∙ step_state job i.names i.stages m.tables i.tables _ refl m.words i.words c.args.row.now fits m.under i.places
+    ∙ step_state job i.names i.stages m.tables i.tables _ refl m.words i.words c.args.row.now fits u places
     ∙ ap (λ (x : Running). after_one x.job (state x) c.args.row.now) c.self.view_is

@@ -1,0 +1,17 @@
+use Rattle.std.proofs.Common.{◌∙◌, ap, subst, sym}
+use Rattle.std.specs.List.{position}
+use Rattle.kp_ast.specs.Expressions.{is_same_name}
+use Rattle.kp_seq.specs.inner.Tables.{Laid}
+use Rattle.kp_seq.proofs.Resolved.{does_let}
+use Rattle.std.proofs.lemmas.Result.{IfOk-weaker}
+use Rattle.kp_seq.specs.inner.Resolved.{Does}
+use Rattle.kp_seq.proofs.program.step_of.Goals as goal
+
+pub returns-in-Read : goal.returns-in-Read
+returns-in-Read c =
+    IfOk-weaker _ _ _ (λ m h. subst (λ k. Does c.args.tables.now c.args.widths.now k m) (sym c.in-Read.is) h) c.read_of.ensures
+
+pub returns-in_ok-value-in-Let : goal.returns-in_ok-value-in-Let
+returns-in_ok-value-in-Let c =
+    let place = c.place-place.ensures.place ∙ ap (λ (x : Laid). position (is_same_name c.in-Let.named.name) x.names) c.tables.view_is in
+    does_let c.args.tables.now c.args.widths.now c.args.stmt.now c.in-Let.named c.in-Let.e c.place-place.result c.in_ok-value-in-Let.value c.in-Let.is place c.in_ok-value-in-Let.ensures
