@@ -1,5 +1,5 @@
 -- Copies of the whole state stand beside it.
-use Rattle.std.proofs.Common.{◌≡◌, ◌≢◌, ℕ, ◌+◌, ◌-◌, ◌^◌, ◌<◌, ◌≤◌, Bool, true, false, cond, List, [], ◌∷◌, ◌++◌, length, get_or, set, map, take, drop, replicate, zero, suc, refl, sym, subst, ap, ◌∙◌, arith, ⊎_elim, inl, inr, Option, None, Some}
+use Rattle.std.proofs.Common.{◌≡◌, ◌≢◌, ℕ, ◌+◌, ◌-◌, ◌<◌, ◌≤◌, Bool, true, false, cond, List, [], ◌∷◌, ◌++◌, length, get_or, set, map, take, drop, replicate, zero, suc, refl, sym, subst, ap, ◌∙◌, arith, ⊎_elim, inl, inr, Option, None, Some}
 use Rattle.std.specs.Prelude.{IsSome}
 use Rattle.std.proofs.lemmas.Bool.{cases_lt}
 use Rattle.std.proofs.lemmas.List.{get_or-set_other, length-set, get_or-map, map-set, get_or_append_left, length-take-le, length-map, length-append, length-drop, get_or-replicate, get_or_past, length-replicate}
@@ -7,7 +7,7 @@ use Rattle.std.proofs.lemmas.List.Edits.{length-between, get_or-between}
 use Rattle.std.proofs.lemmas.Grind.{get_or-set_at}
 use Rattle.std.proofs.Math.Seq.{get_or-append_right, map-set_same}
 use Rattle.kp_region.specs.declared.span.Span.{Span}
-use Rattle.kp_region.specs.Words.{Words, IsSound, IsWithin, IsDisjoint, span_words, laid_over, written, copied}
+use Rattle.kp_region.specs.Words.{Words, IsSound, IsWithin, IsDisjoint, span_words, written, copied}
 use Rattle.kp_region.proofs.Laid.{laid_below, laid_above}
 use Rattle.kp_net.specs.Netlist.{Net, State}
 use Rattle.kp_cycle.specs.declared.slots.Slot.{Slot}

@@ -18,12 +18,12 @@ abbrev pub HasKept : Running → List Input → ℕ → Type 0
 HasKept sim inputs kept = (k : ℕ) → k < kept → saved_in sim k ≡ Some (last_of sim.net (take (k * 2048) inputs))
 
 -- a session after so many cycles: the simulator has run these, each multiple of 2048 up to there is kept, and one more slot is free
-pub record IsSession (sim : Running) (exts : List ℕ) (samples : List Word) (cycle kept : ℕ) : Type 0 where
+pub record IsSession (sim : Running) (exts : List ℕ) (samples : List Word) (cycle copies : ℕ) : Type 0 where
   pub few : length exts ≤ 100000
   pub fits : SamplesFitCycles sim.net (length exts) samples
   pub there : cycle ≤ length exts
   pub run : HasRun sim (inputs_of (length sim.net.parts.samples) exts samples) cycle
   pub slots : length sim.slots ≡ 50
-  pub at_most : kept ≤ 49
-  pub reached : cycle < kept * 2048
-  pub kept : HasKept sim (inputs_of (length sim.net.parts.samples) exts samples) kept
+  pub at_most : copies ≤ 49
+  pub reached : cycle < copies * 2048
+  pub kept : HasKept sim (inputs_of (length sim.net.parts.samples) exts samples) copies

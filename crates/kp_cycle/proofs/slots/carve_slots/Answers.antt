@@ -1,9 +1,8 @@
-use Rattle.std.proofs.Common.{◌≡◌, ◌+◌, ◌*◌, ◌^◌, ◌<◌, ◌≤◌, ℕ, List, [], ◌∷◌, ◌++◌, length, get_or, map, replicate, false, Bool, Result, Ok, Err, subst, sym, ap, ◌∙◌, refl, arith, append_assoc, ⊎_elim}
+use Rattle.std.proofs.Common.{◌≡◌, ◌+◌, ◌*◌, ◌^◌, ◌<◌, ◌≤◌, ℕ, List, [], ◌∷◌, ◌++◌, length, get_or, map, false, Bool, Result, Ok, Err, subst, sym, ap, ◌∙◌, refl, arith, append_assoc, ⊎_elim}
 use Rattle.std.specs.Prelude.{IsOk, IsErr, IfOk, OnOk}
 use Rattle.std.proofs.Math.Nat.{mul-le-mul_right}
 use Rattle.std.proofs.lemmas.List.{map-append, replicate_more, get_or_append_left, length-append, get_or_at}
 use Rattle.std.proofs.lemmas.Bool.{cases_lt}
-use Rattle.std.proofs.Math.Seq.{get_or-append_right}
 use Rattle.kp_region.specs.declared.span.Span.{Span}
 use Rattle.kp_region.specs.declared.region.Full.{Full}
 use Rattle.kp_region.specs.Words.{Words, IsSound, next_span, carved}

@@ -1,4 +1,4 @@
-use Rattle.std.proofs.Common.{◌≡◌, ◌+◌, ◌*◌, ◌^◌, ◌<◌, ◌≤◌, ℕ, List, [], ◌∷◌, ◌++◌, length, get_or, map, take, replicate, zero, suc, false, refl, All, subst, sym, ap, ◌∙◌, arith, Result}
+use Rattle.std.proofs.Common.{◌≡◌, ◌+◌, ◌^◌, ◌<◌, ◌≤◌, ℕ, List, ◌∷◌, length, get_or, map, take, zero, suc, refl, All, subst, sym, ap, ◌∙◌, arith, Result}
 use Rattle.std.specs.Prelude.{IfOk, OnOk}
 use Rattle.std.specs.List.{sum_by}
 use Rattle.std.proofs.lemmas.List.Elements.{All-get_or, All-push}
@@ -9,7 +9,7 @@ use Rattle.kp_net.specs.declared.netlist.Parts.{Parts}
 use Rattle.kp_region.specs.declared.span.Span.{Span}
 use Rattle.kp_region.specs.declared.region.Full.{Full}
 use Rattle.kp_region.specs.Words.{Words, IsSound, next_span, carved}
-use Rattle.kp_cycle.specs.inner.Spans.{Laid, no_span, held}
+use Rattle.kp_cycle.specs.inner.Spans.{no_span}
 use Rattle.kp_cycle.proofs.Spans.{apart_carved, length_carved, lens_more, fits_laid}
 use Rattle.kp_cycle.proofs.Copies.{laid_out, unsaved}
 use Rattle.kp_cycle.proofs.memory.Memory.lay_out.Goals as goal

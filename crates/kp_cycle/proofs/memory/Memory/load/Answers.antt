@@ -1,12 +1,11 @@
-use Rattle.std.proofs.Common.{◌≡◌, ◌<◌, ℕ, List, Some, None, true, length, get_or, map, set, sym, subst, ap, ◌∙◌, arith}
+use Rattle.std.proofs.Common.{◌≡◌, ◌<◌, ℕ, List, Some, None, true, length, get_or, map, sym, subst, ap, ◌∙◌, arith}
 use Rattle.std.specs.Prelude.{IsSome}
-use Rattle.std.proofs.lemmas.List.{get_or_default, length-map}
+use Rattle.std.proofs.lemmas.List.{get_or_default}
 use Rattle.kp_region.specs.declared.span.Span.{Span}
 use Rattle.kp_region.specs.Words.{Words, IsWithin, IsDisjoint, span_words, copied}
-use Rattle.kp_net.specs.Netlist.{State}
 use Rattle.kp_cycle.specs.declared.slots.Slot.{Slot}
 use Rattle.kp_cycle.specs.inner.Spans.{Laid, no_slot, state_in, held}
-use Rattle.kp_cycle.specs.inner.Storage.{Stored, state_of}
+use Rattle.kp_cycle.specs.inner.Storage.{Stored}
 use Rattle.kp_cycle.proofs.Copies.{is_marked, slot_within, beside_whole, held_loaded, nodes_loaded, slots_loaded}
 use Rattle.kp_cycle.proofs.memory.Memory.load.Goals as goal
 

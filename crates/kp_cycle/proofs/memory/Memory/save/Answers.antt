@@ -2,7 +2,6 @@ use Rattle.std.proofs.Common.{◌≡◌, ◌<◌, ℕ, List, Some, true, length,
 use Rattle.std.proofs.lemmas.List.{get_or_default, length-map}
 use Rattle.kp_region.specs.declared.span.Span.{Span}
 use Rattle.kp_region.specs.Words.{Words, IsWithin, IsDisjoint, span_words, copied}
-use Rattle.kp_net.specs.Netlist.{State}
 use Rattle.kp_cycle.specs.declared.slots.Slot.{Slot}
 use Rattle.kp_cycle.specs.inner.Spans.{Laid, no_slot, state_in, held}
 use Rattle.kp_cycle.specs.inner.Storage.{Stored, state_of}

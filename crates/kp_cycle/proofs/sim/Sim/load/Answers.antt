@@ -1,4 +1,4 @@
-use Rattle.std.proofs.Common.{sym, subst, ap, ◌∙◌, get_or, None}
+use Rattle.std.proofs.Common.{sym, subst, ap, ◌∙◌}
 use Rattle.std.specs.Prelude.{IsSome}
 use Rattle.kp_cycle.specs.Steps.{Running, saved_in}
 use Rattle.kp_cycle.specs.inner.Storage.{SlotsFit, state_of}
