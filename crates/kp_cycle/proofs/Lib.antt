@@ -1,4 +1,5 @@
 pub mod Clocking
+pub mod Copies
 pub mod Counter
 pub mod Reached
 pub mod Running

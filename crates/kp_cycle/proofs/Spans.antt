@@ -1,5 +1,5 @@
 -- Words are read and written in spans that lie side by side.
-use Rattle.std.proofs.Common.{◌≡◌, ◌≢◌, ℕ, ◌+◌, ◌-◌, ◌^◌, ◌<◌, ◌≤◌, List, [], ◌∷◌, ◌++◌, length, get_or, set, map, take, drop, replicate, suc, sym, subst, ap, ◌∙◌, arith, ⊎_elim, inl, inr, length-append, length-drop}
+use Rattle.std.proofs.Common.{◌≡◌, ◌≢◌, ℕ, ◌+◌, ◌-◌, ◌^◌, ◌<◌, ◌≤◌, List, [], ◌∷◌, ◌++◌, length, get_or, set, map, take, drop, replicate, suc, sym, subst, ap, ◌∙◌, arith, ⊎_elim, inl, inr, length-append, length-drop, Option}
 use Rattle.std.proofs.lemmas.Bool.{cases_lt}
 use Rattle.std.proofs.lemmas.List.{get_or-set_other, length-set, get_or-map, drop-set-add, drop-set-lt, take-set-le, get_or_append_left, get_or_default, length-take-le, length-replicate, take_more, drop_more, set-set, get_or-set_same, map-append, append_assoc}
 use Rattle.std.proofs.lemmas.Slice.{between_is}
@@ -11,7 +11,7 @@ use Rattle.kp_region.specs.declared.span.Span.{Span}
 use Rattle.kp_region.specs.Words.{Words, IsSound, IsWithin, IsDisjoint, span_words, next_span, carved, written}
 use Rattle.kp_cycle.specs.inner.Spans.{Apart, no_span}
 use Rattle.kp_net.specs.declared.netlist.NetFile.{NetFile}
-use Rattle.kp_net.specs.Netlist.{Net}
+use Rattle.kp_net.specs.Netlist.{Net, State}
 use Rattle.kp_net.specs.Parts.{NetOk, FileOk, no_file}
 use Rattle.kp_cycle.specs.inner.Storage.{Stored, Fits}
 use Rattle.kp_cycle.proofs.Clocking.{length_map, same_elements}
@@ -21,10 +21,10 @@ pub span_length : (r : Words) (s : Span) → IsSound r → IsWithin s r → leng
 span_length r s sound within = omega (arith, length-between r.words s.start (s.start + s.len) (omega (arith, sound, within)))
 
 -- a write into a span is a write into what it holds, and leaves what spans hold that share no word with it
-span_lands : (r : Words) (s : Span) (i v : ℕ) → i < s.len → span_words (written r s i v) s ≡ set (span_words r s) i v
+pub span_lands : (r : Words) (s : Span) (i v : ℕ) → i < s.len → span_words (written r s i v) s ≡ set (span_words r s) i v
 span_lands r s i v h = ap (take (s.start + s.len - s.start)) (drop-set-add s.start r.words i v) ∙ take-set-lt (s.start + s.len - s.start) (drop s.start r.words) i v (omega arith)
 
-span_stays : (r : Words) (s t : Span) (i v : ℕ) → IsDisjoint s t → i < t.len → span_words (written r t i v) s ≡ span_words r s
+pub span_stays : (r : Words) (s t : Span) (i v : ℕ) → IsDisjoint s t → i < t.len → span_words (written r t i v) s ≡ span_words r s
 span_stays r s t i v apart h =
     ⊎_elim
     (λ below. between_is (set r.words (t.start + i) v) s.start (s.start + s.len) ∙ ap (drop s.start) (take-set-le (s.start + s.len) r.words (t.start + i) v (omega arith)) ∙ sym (between_is r.words s.start (s.start + s.len)))
@@ -78,6 +78,11 @@ apart_carved r spans n h sound few =
           (cases_lt k (length spans));
     }
 
+-- spans side by side stay so where more of a region is used
+pub apart_grown : (r new : Words) (spans more : List Span) → Apart r spans → Apart new more → r.used ≤ new.used → Apart new spans
+apart_grown r new spans more h later grown =
+    record { sound = later.sound; few = later.few; within = λ k l. let w = h.within k l in omega (arith, w, grown); apart = h.apart }
+
 -- carving leaves the number of words
 pub length_carved : (r : Words) (n : ℕ) → r.used + n ≤ length r.words → length (carved r n).words ≡ length r.words
 length_carved r n h =
@@ -87,11 +92,11 @@ length_carved r n h =
     omega (arith, length-append (take r.used r.words) (zeros ++ rest), length-append zeros rest, length-replicate n zero, length-take-le r.used r.words (omega (arith, h)), length-drop (r.used + length zeros) r.words)
 
 -- a memory, as what its spans hold
-abbrev pub stored : List (List ℕ) → Stored
-stored l = record { nodes = get_or l 0 []; regs = get_or l 1 []; files = drop 2 l }
+abbrev pub stored : List (Option State) → List (List ℕ) → Stored
+stored slots l = record { nodes = get_or l 0 []; regs = get_or l 1 []; files = drop 2 l; slots = slots }
 
-abbrev pub stored_in : Span → Span → List Span → Words → Stored
-stored_in n g fs r = record { nodes = span_words r n; regs = span_words r g; files = map (span_words r) fs }
+abbrev pub stored_in : Span → Span → List Span → List (Option State) → Words → Stored
+stored_in n g fs slots r = record { nodes = span_words r n; regs = span_words r g; files = map (span_words r) fs; slots = slots }
 
 -- the span of a file
 pub file_is : (r : Words) (fs : List Span) (file : ℕ) → file < length fs → get_or (map (span_words r) fs) file [] ≡ span_words r (get_or fs file no_span)
@@ -102,9 +107,9 @@ pub address_in : (r : Words) (n g : Span) (fs : List Span) (file address : ℕ) 
 address_in r n g fs file address h l m = omega (arith, m, ap length (file_is r fs file l), span_length r (get_or fs file no_span) h.sound (h.within (suc (suc file)) (omega arith)))
 
 -- spans of the right lengths fit the netlist
-pub fits_laid : (net : Net) (r : Words) (n g : Span) (fs : List Span) → NetOk net → Apart r (n ∷ g ∷ fs) → n.len ≡ length net.nodes → g.len ≡ length net.parts.regs
-    → map (λ (s : Span). s.len) fs ≡ map (λ (f : NetFile). length f.words) net.parts.files → Fits net (stored_in n g fs r)
-fits_laid net r n g fs ok h a b e =
+pub fits_laid : (net : Net) (r : Words) (n g : Span) (fs : List Span) (slots : List (Option State)) → NetOk net → Apart r (n ∷ g ∷ fs) → n.len ≡ length net.nodes → g.len ≡ length net.parts.regs
+    → map (λ (s : Span). s.len) fs ≡ map (λ (f : NetFile). length f.words) net.parts.files → Fits net (stored_in n g fs slots r)
+fits_laid net r n g fs slots ok h a b e =
     let len : Span → ℕ = λ s. s.len in
     let size : NetFile → ℕ = λ f. length f.words in
     let same : length fs ≡ length net.parts.files = sym (length_map len fs) ∙ ap length e ∙ length_map size net.parts.files in
@@ -120,9 +125,9 @@ fits_laid net r n g fs ok h a b e =
     }
 
 -- the span that a memory has of a file holds each address of it
-pub file_span : (r : Words) (n g : Span) (fs : List Span) (m : Stored) (file address : ℕ) (s : Span) → Apart r (n ∷ g ∷ fs) → stored_in n g fs r ≡ m → file < length m.files → address < length (get_or m.files file []) → s ≡ get_or fs file s
+pub file_span : (r : Words) (n g : Span) (fs : List Span) (slots : List (Option State)) (m : Stored) (file address : ℕ) (s : Span) → Apart r (n ∷ g ∷ fs) → stored_in n g fs slots r ≡ m → file < length m.files → address < length (get_or m.files file []) → s ≡ get_or fs file s
     → IsWithin s r × (address < s.len) × (s ≡ get_or fs file no_span) × (file < length fs)
-file_span r n g fs m file address s h v l a e =
+file_span r n g fs slots m file address s h v l a e =
     let l' : file < length fs = omega (arith, l, ap (λ (x : Stored). length x.files) v, length_map (span_words r) fs) in
     let i : s ≡ get_or fs file no_span = e ∙ get_or_default fs file s no_span l' in
     let a' : address < length (get_or (map (span_words r) fs) file []) = omega (arith, a, ap (λ (x : Stored). length (get_or x.files file [])) v) in
@@ -130,11 +135,11 @@ file_span r n g fs m file address s h v l a e =
     (subst P (sym i) (h.within (suc (suc file)) (omega arith)), omega (arith, address_in r n g fs file address h l' a', ap (λ (x : Span). x.len) i), i, l')
 
 -- a write into the span of a file is a write into the file
-pub write_file : (r : Words) (n g : Span) (fs : List Span) (file address v : ℕ) → Apart r (n ∷ g ∷ fs) → file < length fs → address < (get_or fs file no_span).len
-    → stored_in n g fs (written r (get_or fs file no_span) address v) ≡ record (stored_in n g fs r) { files = set (map (span_words r) fs) file (set (get_or (map (span_words r) fs) file []) address v) }
-write_file r n g fs file address v h l m =
-    ap stored (write_one r (n ∷ g ∷ fs) (suc (suc file)) address v h (omega arith) m)
-    ∙ ap (λ (ws : List ℕ). record (stored_in n g fs r) { files = set (map (span_words r) fs) file (set ws address v) }) (sym (file_is r fs file l))
+pub write_file : (r : Words) (n g : Span) (fs : List Span) (slots : List (Option State)) (file address v : ℕ) → Apart r (n ∷ g ∷ fs) → file < length fs → address < (get_or fs file no_span).len
+    → stored_in n g fs slots (written r (get_or fs file no_span) address v) ≡ record (stored_in n g fs slots r) { files = set (map (span_words r) fs) file (set (get_or (map (span_words r) fs) file []) address v) }
+write_file r n g fs slots file address v h l m =
+    ap (stored slots) (write_one r (n ∷ g ∷ fs) (suc (suc file)) address v h (omega arith) m)
+    ∙ ap (λ (ws : List ℕ). record (stored_in n g fs slots r) { files = set (map (span_words r) fs) file (set ws address v) }) (sym (file_is r fs file l))
 
 -- the spans of files have their lengths, one by one
 pub lens_more : (files : List NetFile) (spans : List Span) (i : ℕ) (s : Span) (x : NetFile) → i < length files → s.len ≡ length x.words → x ≡ get_or files i x

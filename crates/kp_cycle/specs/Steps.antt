@@ -1,15 +1,20 @@
 -- A simulator as its callers see it: what goes in, and what it shows.
-use Rattle.std.specs.Prelude.{ℕ, Bool, ◌<◌, ◌≤◌, ◌≡◌, List, [], length, get_or, map}
+use Rattle.std.specs.Prelude.{ℕ, Bool, ◌<◌, ◌≤◌, ◌≡◌, List, [], length, get_or, map, Option, None}
 use Rattle.kp_bits.specs.Word.{Word, word}
 use Rattle.kp_net.specs.Widths.{wide}
 use Rattle.kp_bits.specs.Operators.{no_word}
 use Rattle.kp_net.specs.Netlist.{Net, Input, State}
 use Rattle.kp_net.specs.Parts.{no_port, no_reg, no_file}
 
--- a netlist and the state that it is in
+-- a netlist, the state that it is in, and its slots, each of which holds a state once it was saved
 pub record Running : Type 0 where
   pub net : Net
   pub state : State
+  pub slots : List (Option State)
+
+-- the state that a slot holds, if there is such a slot and it was saved
+abbrev pub saved_in : Running → ℕ → Option State
+saved_in s slot = get_or s.slots slot None
 
 -- full and ue are as wide as ext, which has at most 12 bits, and back has 4
 pub record ShowsRows (net : Net) : Type 0 where

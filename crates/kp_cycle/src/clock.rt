@@ -17,6 +17,7 @@ pub fn clock(net: &Netlist, memory: &mut Memory, rst: bool)
     ensures regs { (net.now.parts.reset && rst) ≡ false → memory.new.regs ≡ regs_from net.now.parts.regs memory.old.nodes }
     ensures files { (net.now.parts.reset && rst) ≡ false → (f : ℕ) → f < length net.now.parts.files
         → get_or memory.new.files f [] ≡ port_from (get_or net.now.parts.files f no_file).port memory.old.nodes (get_or memory.old.files f []) }
+    ensures slots { memory.new.slots ≡ memory.old.slots }
 {
     if net.parts().reset && rst {
         fill_regs(net, memory);
@@ -33,6 +34,7 @@ fn clock_regs(net: &Netlist, memory: &mut Memory)
     ensures regs { memory.new.regs ≡ regs_from net.now.parts.regs memory.old.nodes }
     ensures nodes { memory.new.nodes ≡ memory.old.nodes }
     ensures files { memory.new.files ≡ memory.old.files }
+    ensures slots { memory.new.slots ≡ memory.old.slots }
 {
     let regs = net.parts().regs.as_slice();
     for i in 0..regs.len() {
@@ -49,6 +51,7 @@ fn clock_files(net: &Netlist, memory: &mut Memory)
     ensures files { (f : ℕ) → f < length net.now.parts.files → get_or memory.new.files f [] ≡ port_from (get_or net.now.parts.files f no_file).port memory.old.nodes (get_or memory.old.files f []) }
     ensures nodes { memory.new.nodes ≡ memory.old.nodes }
     ensures regs { memory.new.regs ≡ memory.old.regs }
+    ensures slots { memory.new.slots ≡ memory.old.slots }
 {
     let files = net.parts().files.as_slice();
     for i in 0..files.len() {

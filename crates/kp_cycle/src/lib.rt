@@ -6,5 +6,6 @@ pub mod laws;
 mod memory;
 mod nodes;
 mod sim;
+mod slots;
 
 pub use sim::Sim;

@@ -1,8 +1,9 @@
-ghost use Rattle.std.specs.Prelude.{◌≡◌, ◌<◌, ◌≤◌, [], length, get_or, set, IfOk, All};
+ghost use Rattle.std.specs.Prelude.{◌≡◌, ◌<◌, ◌≤◌, [], length, get_or, set, replicate, None, Some, IsSome, IfOk, All};
 ghost use Rattle.std.specs.List.{sum_by};
 ghost use Rattle.kp_net.specs.Netlist.{Net, start_regs, start_of};
-ghost use Rattle.kp_cycle.specs.inner.Storage.{Stored, Fits};
+ghost use Rattle.kp_cycle.specs.inner.Storage.{Stored, Fits, state_of};
 
+use crate::slots::{Slot, carve_slots, words_of_slots};
 use kp_base::NoMemory;
 use kp_net::{NetFile, Netlist};
 use kp_region::{Region, Span};
@@ -10,64 +11,86 @@ use std::alloc::Global;
 use std::marker::Model;
 
 /// The values of the nodes and of the registers of a netlist, and the words of its files, each in a span of one
-/// region.
+/// region. The registers and files lie one behind another, so that the whole state is a span as well, and each slot is
+/// another of its size.
 #[derive(Debug, Drop)]
 pub struct Memory {
     region: Region,
     nodes: Span,
     regs: Span,
     files: Vec<Span>,
+    whole: Span,
+    slots: Vec<Slot>,
 }
 
 impl Model for Memory {
-    ghost use Rattle.std.specs.Prelude.{map, ◌∷◌};
+    ghost use Rattle.std.specs.Prelude.{map};
     ghost use Rattle.kp_region.specs.Words.{span_words};
     ghost use Rattle.kp_cycle.specs.inner.Storage.{Stored};
-    ghost use Rattle.kp_cycle.specs.inner.Spans.{Apart};
+    ghost use Rattle.kp_cycle.specs.inner.Spans.{held, Laid};
 
     ghost Value = { Stored };
 
-    ghost view = { λ m. record { nodes = span_words m.region m.nodes; regs = span_words m.region m.regs; files = map (span_words m.region) m.files.items } };
+    ghost view = { λ m. record {
+      nodes = span_words m.region m.nodes;
+      regs = span_words m.region m.regs;
+      files = map (span_words m.region) m.files.items;
+      slots = map (held m.region m.regs m.files.items m.whole) m.slots.items;
+    } };
 
-    ghost invariant = { λ m. Apart m.region (m.nodes ∷ m.regs ∷ m.files.items) };
+    ghost invariant = { λ m. Laid m.region m.nodes m.regs m.files.items m.whole m.slots.items };
 }
 
 impl Memory {
-    /// The memory of a netlist that has not run: each register and file as at the start. Want of memory is the one
-    /// refusal, and nothing later takes any.
-    pub fn open(alloc: Global, net: &Netlist) -> Result<Memory, NoMemory>
+    /// The memory of a netlist that has not run: each register and file as at the start, and so many slots, none of
+    /// them saved. Want of memory is the one refusal, and nothing later takes any.
+    pub fn open(alloc: Global, net: &Netlist, slots: u32) -> Result<Memory, NoMemory>
+        requires { slots ≤ 64 }
         ensures fits { IfOk result (λ m. Fits net.now m) }
         ensures regs { IfOk result (λ m. m.regs ≡ start_regs net.now) }
         ensures files { IfOk result (λ m. m.files ≡ (start_of net.now).files) }
+        ensures slots { IfOk result (λ m. m.slots ≡ replicate slots None) }
     {
-        let mut memory = Memory::lay_out(alloc, net)?;
+        let mut memory = Memory::lay_out(alloc, net, slots)?;
         fill_regs(net, &mut memory);
         fill_files(net, &mut memory);
         Ok(memory)
     }
 
-    // A span for the nodes, one for the registers, and one for each file.
+    // A span for the nodes, one for the registers, one for each file, and one of the size of the last two together for
+    // each slot.
     #[tactic(auto, using(std::proofs::lemmas::List::Sums::sum_by_more_le))]
-    fn lay_out(alloc: Global, net: &Netlist) -> Result<Memory, NoMemory>
-        ensures { IfOk result (λ m. Fits net.now m) }
+    fn lay_out(alloc: Global, net: &Netlist, slots: u32) -> Result<Memory, NoMemory>
+        requires { slots ≤ 64 }
+        ensures fits { IfOk result (λ m. Fits net.now m) }
+        ensures slots { IfOk result (λ m. m.slots ≡ replicate slots None) }
     {
         let files = net.parts().files.as_slice();
         let node_count = net.nodes().len() as u32;
         let reg_count = net.parts().regs.as_slice().len() as u32;
         let file_words = words_of(files);
+        let size = reg_count + file_words;
+        let slot_words = words_of_slots(slots, size);
         let mut spans = Vec::with_capacity(alloc, files.len())?;
-        let mut region = Region::take(alloc, node_count + reg_count + file_words)?;
+        let mut region = Region::take(alloc, node_count + size + slot_words)?;
         let nodes = region.carve(node_count).unwrap();
         let regs = region.carve(reg_count).unwrap();
         for file in files {
             let span = region.carve(file.words.as_slice().len() as u32).unwrap();
             spans.push(span)?;
         }
+        let whole = Span {
+            start: regs.start,
+            len: size,
+        };
+        let copies = carve_slots(alloc, &mut region, size, slots)?;
         Ok(Memory {
             region,
             nodes,
             regs,
             files: spans,
+            whole,
+            slots: copies,
         })
     }
 
@@ -121,6 +144,27 @@ impl Memory {
         let span = self.files[file as usize];
         self.region.put(span, address as u32, value);
     }
+
+    /// Copies the registers and files into a slot.
+    pub fn save(&mut self, slot: u32)
+        requires { slot < length self.old.slots }
+        ensures { self.new ≡ record self.old { slots = set self.old.slots slot (Some (state_of self.old)) } }
+    {
+        let copy = self.slots[slot as usize];
+        self.region.copy(self.whole, copy.span);
+        self.slots[slot as usize].is_saved = true;
+    }
+
+    /// Copies what a slot holds into the registers and files.
+    pub fn load(&mut self, slot: u32)
+        requires { IsSome (get_or self.old.slots slot None) }
+        ensures state { get_or self.old.slots slot None ≡ Some (state_of self.new) }
+        ensures nodes { self.new.nodes ≡ self.old.nodes }
+        ensures slots { self.new.slots ≡ self.old.slots }
+    {
+        let copy = self.slots[slot as usize];
+        self.region.copy(copy.span, self.whole);
+    }
 }
 
 // How many words all files have.
@@ -143,6 +187,7 @@ pub fn fill_regs(net: &Netlist, memory: &mut Memory)
     ensures fits { Fits net.now memory.new }
     ensures regs { memory.new.regs ≡ start_regs net.now }
     ensures files { memory.new.files ≡ memory.old.files }
+    ensures slots { memory.new.slots ≡ memory.old.slots }
 {
     let regs = net.parts().regs.as_slice();
     for i in 0..regs.len() {
@@ -156,6 +201,7 @@ fn fill_files(net: &Netlist, memory: &mut Memory)
     ensures fits { Fits net.now memory.new }
     ensures regs { memory.new.regs ≡ memory.old.regs }
     ensures files { memory.new.files ≡ (start_of net.now).files }
+    ensures slots { memory.new.slots ≡ memory.old.slots }
 {
     let files = net.parts().files.as_slice();
     for i in 0..files.len() {

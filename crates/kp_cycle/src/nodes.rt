@@ -21,6 +21,7 @@ pub fn settle(net: &Netlist, memory: &mut Memory, ext: u64, samples: &[Bits])
     ensures widths { FitsBelow net.now.nodes memory.new.nodes (length net.now.nodes) }
     ensures regs { memory.new.regs ≡ memory.old.regs }
     ensures files { memory.new.files ≡ memory.old.files }
+    ensures slots { memory.new.slots ≡ memory.old.slots }
 {
     let count = net.nodes().len();
     for i in 0..count {

@@ -1,8 +1,8 @@
-ghost use Rattle.std.specs.Prelude.{◌≡◌, ◌<◌, ◌≤◌, ◌^◌, [], length, get_or, IfOk};
+ghost use Rattle.std.specs.Prelude.{◌≡◌, ◌<◌, ◌≤◌, ◌^◌, [], length, get_or, set, replicate, Some, None, IsSome, IfOk};
 ghost use Rattle.kp_net.specs.Netlist.{Net, State, start_of, state_after, row_of, stalled};
 ghost use Rattle.kp_net.specs.Widths.{wide};
 ghost use Rattle.kp_net.specs.Parts.{no_reg, no_file};
-ghost use Rattle.kp_cycle.specs.Steps.{Running, ShowsRows, SamplesFit, given, reg_shown, word_shown};
+ghost use Rattle.kp_cycle.specs.Steps.{Running, ShowsRows, SamplesFit, given, reg_shown, word_shown, saved_in};
 ghost use Rattle.kp_cycle.specs.inner.Storage.{Fits, FitsBelow, StateFits, state_of};
 
 use crate::clock::clock;
@@ -14,7 +14,7 @@ use kp_net::{Netlist, NodeId};
 use std::alloc::Global;
 use std::marker::Model;
 
-/// A netlist that runs, seen as the netlist and the state that it is in.
+/// A netlist that runs, seen as the netlist, the state that it is in, and what its slots hold.
 #[derive(Debug, Drop)]
 pub struct Sim<'n> {
     net: &'n Netlist,
@@ -23,23 +23,32 @@ pub struct Sim<'n> {
 
 impl<'n> Model for Sim<'n> {
     ghost use Rattle.kp_cycle.specs.Steps.{Running, ShowsRows};
-    ghost use Rattle.kp_cycle.specs.inner.Storage.{Fits, StateFits, state_of};
+    ghost use Rattle.kp_cycle.specs.inner.Storage.{Fits, StateFits, SlotsFit, state_of};
 
     ghost Value = { Running };
 
-    ghost view = { λ s. record { net = s.net.now; state = state_of s.memory } };
+    ghost view = { λ s. record { net = s.net.now; state = state_of s.memory; slots = s.memory.slots } };
 
-    ghost invariant = { λ s. Fits s.net.now s.memory × ShowsRows s.net.now × StateFits s.net.now (state_of s.memory) };
+    ghost invariant = { λ s. Fits s.net.now s.memory × ShowsRows s.net.now × StateFits s.net.now (state_of s.memory) × SlotsFit s.net.now s.memory.slots };
 }
 
 impl<'n> Sim<'n> {
-    /// The netlist in its start state. Takes all its memory here, and want of it is the one refusal.
-    #[tactic(auto, using(crate::proofs::Reached::start_fits))]
+    /// The netlist in its start state, with no slots. Takes all its memory here, and want of it is the one refusal.
     pub fn open(alloc: Global, net: &'n Netlist) -> Result<Sim<'n>, NoMemory>
         requires { ShowsRows net.now }
-        ensures { IfOk result (λ s. s ≡ record { net = net.now; state = start_of net.now }) }
+        ensures { IfOk result (λ s. s ≡ record { net = net.now; state = start_of net.now; slots = [] }) }
     {
-        let memory = Memory::open(alloc, net)?;
+        Sim::open_with(alloc, net, 0)
+    }
+
+    /// The netlist in its start state, with room for so many copies of a state, none of them saved. Takes all its memory here, and want of
+    /// it is the one refusal.
+    pub fn open_with(alloc: Global, net: &'n Netlist, slots: u32) -> Result<Sim<'n>, NoMemory>
+        requires shows { ShowsRows net.now }
+        requires few { slots ≤ 64 }
+        ensures { IfOk result (λ s. s ≡ record { net = net.now; state = start_of net.now; slots = replicate slots None }) }
+    {
+        let memory = Memory::open(alloc, net, slots)?;
         Ok(Sim { net, memory })
     }
 
@@ -51,22 +60,40 @@ impl<'n> Sim<'n> {
     }
 
     /// Runs one cycle under this stall word, of which bits from the netlist's width on are ignored, with no reset: `step_with` where there
-    /// are no sample ports. Takes no memory.
+    /// are no sample ports. All slots stay. Takes no memory.
     pub fn step(&mut self, ext: u16) -> Row
         requires { self.old.net.parts.samples ≡ [] }
         ensures row { result ≡ row_of self.old.net (stalled ext) self.old.state }
-        ensures state { self.new ≡ record { net = self.old.net; state = state_after self.old.net (stalled ext) self.old.state } }
+        ensures state { self.new ≡ record self.old { state = state_after self.old.net (stalled ext) self.old.state } }
     {
         self.step_with(ext, false, &[])
     }
 
-    /// Runs one cycle under this stall word, with the reset raised or not, and with a value for each sample port. Takes no memory.
+    /// Runs one cycle under this stall word, with the reset raised or not, and with a value for each sample port. All slots stay.
+    /// Takes no memory.
     pub fn step_with(&mut self, ext: u16, rst: bool, samples: &[Bits]) -> Row
         requires { SamplesFit self.old.net samples.now }
         ensures row { result ≡ row_of self.old.net (given ext rst samples.now) self.old.state }
-        ensures state { self.new ≡ record { net = self.old.net; state = state_after self.old.net (given ext rst samples.now) self.old.state } }
+        ensures state { self.new ≡ record self.old { state = state_after self.old.net (given ext rst samples.now) self.old.state } }
     {
         cycle(self.net, &mut self.memory, ext, rst, samples)
+    }
+
+    /// Copies the present state into a slot. The state and the other slots stay. Takes no memory.
+    pub fn save(&mut self, slot: u32)
+        requires { slot < length self.old.slots }
+        ensures { self.new ≡ record self.old { slots = set self.old.slots slot (Some self.old.state) } }
+    {
+        self.memory.save(slot);
+    }
+
+    /// Goes to the state that a slot holds, which was saved. All slots stay. Takes no memory.
+    pub fn load(&mut self, slot: u32)
+        requires { IsSome (saved_in self.old slot) }
+        ensures state { saved_in self.old slot ≡ Some self.new.state }
+        ensures others { self.new ≡ record self.old { state = self.new.state } }
+    {
+        self.memory.load(slot);
     }
 
     /// The value of a register.
@@ -116,6 +143,7 @@ fn cycle(net: &Netlist, memory: &mut Memory, ext: u16, rst: bool, samples: &[Bit
     ensures fits { Fits net.now memory.new }
     ensures row { result ≡ row_of net.now (given ext rst samples.now) (state_of memory.old) }
     ensures state { state_of memory.new ≡ state_after net.now (given ext rst samples.now) (state_of memory.old) }
+    ensures slots { memory.new.slots ≡ memory.old.slots }
 {
     settle(net, memory, u64::from(ext), samples);
     let parts = net.parts();

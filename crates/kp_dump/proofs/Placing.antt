@@ -64,7 +64,7 @@ module _ (job : Job) (net : Net) (of_job : IsOfJob net job) where
   within_from (_ ∷ ds) t at i d h = within_from ds t at i d h
 
   shown_from : (st : State) (ds : List Decl) (t : ℕ) → drop t slots ≡ targets_of ds
-      → shown_at (record { net = net; state = st }) (places_from (register_names net) ds) ≡ register_values (λ u. value_shown job net st u 0) t ds
+      → shown_at (record { net = net; state = st; slots = [] }) (places_from (register_names net) ds) ≡ register_values (λ u. value_shown job net st u 0) t ds
   shown_from st [] t at = refl
   shown_from st (decls.Reg n width start ∷ ds) t at =
       ap₂ (λ (w : Word) (rest : Values). Some w ∷ rest) (shows t (slot n width 0) (targets_of ds) at refl st)

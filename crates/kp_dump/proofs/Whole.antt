@@ -100,7 +100,7 @@ module _ (job : Job) (net : Net) (n : ℕ) (shows : Shows net job) (seen : input
       ∙ alike.values T t 0 (omega (arith, h, many job net n)) (record { target = there; address = pow_pos (target job t).address })
 
   registers_are : (T : ℕ) (places : List ℕ) → T ≤ n → ArePlaces job net places
-      → shown_at (record { net = net; state = last_of net (inputs_to job T) }) places ≡ register_values (λ t. (own_run job n).visible T t 0) 0 job.decls
+      → shown_at (record { net = net; state = last_of net (inputs_to job T); slots = [] }) places ≡ register_values (λ t. (own_run job n).visible T t 0) 0 job.decls
   registers_are T places h are =
       are.shown (last_of net (inputs_to job T))
       ∙ registers_alike job (λ t. value_shown job net (last_of net (inputs_to job T)) t 0) (λ t. (own_run job n).visible T t 0) (visible_is T h)
@@ -114,7 +114,7 @@ module _ (job : Job) (net : Net) (n : ℕ) (shows : Shows net job) (seen : input
 
   -- the values in a cycle
   pub values_in_cycle : (T : ℕ) (places : List ℕ) → T < n → job.stages.value ≤ 12 → ArePlaces job net places
-      → mask_values job.stages.value (row_at job net T) ++ shown_at (record { net = net; state = last_of net (inputs_to job T) }) places ≡ values_at job (own_run job n) T
+      → mask_values job.stages.value (row_at job net T) ++ shown_at (record { net = net; state = last_of net (inputs_to job T); slots = [] }) places ≡ values_at job (own_run job n) T
   values_in_cycle T places h few are =
       let low = back_at job.stages.value (own_run job n).rows T (row_seen job.stages.value (row_at job net T)) below (omega (arith, h, count_is)) (outputs_are T h) in
       ap₂ (λ (xs ys : Values). xs ++ ys)
@@ -123,7 +123,7 @@ module _ (job : Job) (net : Net) (n : ℕ) (shows : Shows net job) (seen : input
 
   -- and behind the last one
   pub values_behind_all : (places : List ℕ) → ArePlaces job net places
-      → no_row ++ shown_at (record { net = net; state = last_of net (inputs_to job n) }) places ≡ values_at job (own_run job n) n
+      → no_row ++ shown_at (record { net = net; state = last_of net (inputs_to job n); slots = [] }) places ≡ values_at job (own_run job n) n
   values_behind_all places are =
       ap₂ (λ (xs ys : Values). xs ++ ys)
       (sym (output_none job.stages.value (own_run job n).rows n (omega (arith, count_is))))

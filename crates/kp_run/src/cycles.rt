@@ -58,8 +58,7 @@ pub fn step(sim: &mut Sim<'_>, sections: &Sections, room: &mut [Bits], cycle: u6
     requires few { length room.old < 2 ^ 32 }
     requires fits { SamplesFit sim.old.net (row_in sections.now.inputs cycle) }
     ensures row { result ≡ row_of sim.old.net (given (word_in sections.now.stalls cycle) false (row_in sections.now.inputs cycle)) sim.old.state }
-    ensures state { sim.new ≡ record {
-      net = sim.old.net;
+    ensures state { sim.new ≡ record sim.old {
       state = state_after sim.old.net (given (word_in sections.now.stalls cycle) false (row_in sections.now.inputs cycle)) sim.old.state;
     } }
     ensures room { length room.new ≡ length room.old }

@@ -1,5 +1,5 @@
 -- From the states of a run to the whole run.
-use Rattle.std.proofs.Common.{◌≡◌, ◌∙◌, ℕ, ◌+◌, ◌<◌, ◌≤◌, List, length, Bool, true, false, Option, Some, None, refl, ap, sym, subst, arith}
+use Rattle.std.proofs.Common.{◌≡◌, ◌∙◌, ℕ, ◌+◌, ◌<◌, ◌≤◌, List, [], length, Bool, true, false, Option, Some, None, refl, ap, sym, subst, arith}
 use Rattle.std.proofs.Math.Path.{fun_ext}
 use Rattle.std.specs.Prelude.{nat_lt}
 use Rattle.std.proofs.lemmas.Bool.{ltb-true, ltb-false}
@@ -67,7 +67,7 @@ module _ (job : Job) (net : Net) (n : ℕ) where
 
     -- what a comparison says of one state, it says of that state of the run
     pub compares_own : (T : ℕ) (sim : Simulated) (machines have_run : List Running) (result : Option Difference) → T ≤ n
-        → sim ≡ record { net = net; state = last_of net (inputs_to job T) } → machines ≡ have_run
+        → sim ≡ record { net = net; state = last_of net (inputs_to job T); slots = [] } → machines ≡ have_run
         → HaveRun job (given columns) (rows_seen job.stages.value rows) T have_run
         → Compares job (value_shown job sim.net sim.state) (due_by job machines) T result
         → Compares job ((own_trace job net n).visible T) (own_due job net n T) T result

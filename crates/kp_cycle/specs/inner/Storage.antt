@@ -9,11 +9,12 @@ use Rattle.kp_net.specs.Nodes.{Cells, at}
 use Rattle.kp_net.specs.Netlist.{Net, Input, State, cells_of}
 use Rattle.kp_net.specs.Parts.{NetOk, no_reg, no_file}
 
--- the values of the nodes and of the registers, and the words of the files
+-- the values of the nodes and of the registers, the words of the files, and the states that slots hold
 pub record Stored : Type 0 where
   pub nodes : List ℕ
   pub regs : List ℕ
   pub files : List (List ℕ)
+  pub slots : List (Option State)
 
 abbrev pub state_of : Stored → State
 state_of m = record { regs = m.regs; files = m.files }
@@ -30,6 +31,17 @@ pub record Fits (net : Net) (m : Stored) : Type 0 where
 pub record StateFits (net : Net) (st : State) : Type 0 where
   pub regs : (r : ℕ) → r < length net.parts.regs → get_or st.regs r 0 < 2 ^ (get_or net.parts.regs r no_reg).start.width
   pub words : (f a : ℕ) → f < length net.parts.files → get_or (get_or st.files f []) a 0 < 2 ^ (get_or net.parts.files f no_file).width
+
+-- a state of the netlist: a value for each register, and a word for each address of each file, of their widths
+pub record IsStateOf (net : Net) (st : State) : Type 0 where
+  pub regs : length st.regs ≡ length net.parts.regs
+  pub files : length st.files ≡ length net.parts.files
+  pub words : (f : ℕ) → f < length net.parts.files → length (get_or st.files f []) ≡ 2 ^ (get_or net.parts.files f no_file).address_width
+  pub fit : StateFits net st
+
+-- each state that a slot holds is one of the netlist
+abbrev pub SlotsFit : Net → List (Option State) → Type 0
+SlotsFit net slots = (k : ℕ) (st : State) → get_or slots k None ≡ Some st → IsStateOf net st
 
 -- the cells that nodes read in a cycle with this input
 abbrev pub cells : Input → Stored → Cells

@@ -25,7 +25,7 @@ shown_at sim places = map (λ p. Some (reg_shown sim p)) places
 pub record ArePlaces (job : Job) (net : Net) (places : List ℕ) : Type 0 where
   pub few : length places ≤ length job.decls
   pub within : (i d : ℕ) → i < length places → get_or places i d < length net.parts.regs
-  pub shown : (st : State) → shown_at (record { net = net; state = st }) places ≡ register_values (λ t. value_shown job net st t 0) 0 job.decls
+  pub shown : (st : State) → shown_at (record { net = net; state = st; slots = [] }) places ≡ register_values (λ t. value_shown job net st t 0) 0 job.decls
 
 -- the low bits of the masks of a row of n stages
 abbrev pub mask_values : ℕ → Row → Values

@@ -1,5 +1,5 @@
 -- A netlist and the machines of its job after some cycles of a run.
-use Rattle.std.specs.Prelude.{◌≡◌, ℕ, List, length, take, Option, MatchOption}
+use Rattle.std.specs.Prelude.{◌≡◌, ℕ, List, [], length, take, Option, MatchOption}
 use Rattle.kp_base.specs.declared.row.Row.{Row}
 use Rattle.kp_bits.specs.Word.{word}
 use Rattle.kp_ast.specs.declared.tree.Job.{Job}
@@ -25,7 +25,7 @@ pub record AreTables (job : Job) (net : Net) (rows : List Row) (tables : Tables)
 
 -- both have run the first T cycles, of which these are rows
 pub record HaveCome (job : Job) (net : Net) (rows : List Row) (tables : Tables) (T : ℕ) (both : Beside) : Type 0 where
-  pub sim : both.sim ≡ record { net = net; state = last_of net (inputs_to job T) }
+  pub sim : both.sim ≡ record { net = net; state = last_of net (inputs_to job T); slots = [] }
   pub machines : HaveRun job (given tables.columns.items) (rows_seen job.stages.value rows) T both.machines.items
   pub stages : both.monitor.stages ≡ job.stages.value
   pub seen : HasSeen both.monitor (take T rows)

@@ -1,4 +1,4 @@
-use Rattle.std.proofs.Common.{◌≡◌, ◌∙◌, ◌≤◌, ◌<◌, ◌+◌, ◌^◌, ◌++◌, ℕ, suc, List, length, false, ap, ap₂, sym, subst, refl, arith}
+use Rattle.std.proofs.Common.{◌≡◌, ◌∙◌, ◌≤◌, ◌<◌, ◌+◌, ◌^◌, ◌++◌, ℕ, suc, List, [], length, false, ap, ap₂, sym, subst, refl, arith}
 use Rattle.kp_base.specs.declared.row.Row.{Row}
 use Rattle.kp_bits.specs.Word.{Word}
 use Rattle.kp_image.specs.Spans.{word_in}
@@ -68,7 +68,7 @@ loop-cycle-preserved c =
     ∙ (λ i. given (accepted.stalls i n) false (accepted.inputs i n)) in
     let row_is : c.step-row.result ≡ row_of net (input_at job n) begin =
     c.step-row.ensures.row ∙ ap (λ (s : Running). row_of s.net taken s.state) kept.sim ∙ ap (λ (i : Input). row_of net i begin) is in
-    let registers_are : c.in_ok-registers.registers.items ≡ shown_at (record { net = net; state = begin }) c.args.places.now =
+    let registers_are : c.in_ok-registers.registers.items ≡ shown_at (record { net = net; state = begin; slots = [] }) c.args.places.now =
     c.in_ok-registers.ensures ∙ ap (λ (s : Running). shown_at s c.args.places.now) kept.sim in
     let few = (stages_fit job c.job.ensures.sound.stages).1 in
     let stages : c.job.result.now.stages.value ≡ job.stages.value = rw c.job.ensures.job refl in
@@ -81,8 +81,8 @@ loop-cycle-preserved c =
     record {
       sim =
           c.step-row.ensures.state
-          ∙ ap (λ (s : Running). record { net = s.net; state = state_after s.net taken s.state }) kept.sim
-          ∙ ap (λ (st : State). record { net = net; state = st }) (state_next job net n taken is begin refl);
+          ∙ ap (λ (s : Running). record s { state = state_after s.net taken s.state }) kept.sim
+          ∙ ap (λ (st : State). record { net = net; state = st; slots = [] }) (state_next job net n taken is begin refl);
       recorded =
           (let vals = values_at job (own_run job c.args.count) in
           let last = kept.recorded.last in
@@ -119,9 +119,9 @@ returns c =
     let within = c.loop-cycle.auto.cycle-end in
     let end : c.loop-cycle.cycle ≡ n = omega (arith, over, within) in
     let recorded : HasRecorded vals n n c.loop-cycle.recorder = subst (λ (m : ℕ). HasRecorded vals n m c.loop-cycle.recorder) end kept.recorded in
-    let sim : c.loop-cycle.sim ≡ record { net = net; state = last_of net (inputs_to job n) } =
-    kept.sim ∙ ap (λ (m : ℕ). record { net = net; state = last_of net (inputs_to job m) }) end in
-    let registers_are : c.in_ok-registers-2.registers.items ≡ shown_at (record { net = net; state = last_of net (inputs_to job n) }) c.args.places.now =
+    let sim : c.loop-cycle.sim ≡ record { net = net; state = last_of net (inputs_to job n); slots = [] } =
+    kept.sim ∙ ap (λ (m : ℕ). record { net = net; state = last_of net (inputs_to job m); slots = [] }) end in
+    let registers_are : c.in_ok-registers-2.registers.items ≡ shown_at (record { net = net; state = last_of net (inputs_to job n); slots = [] }) c.args.places.now =
     c.in_ok-registers-2.ensures ∙ ap (λ (s : Running). shown_at s c.args.places.now) sim in
     let now_is : c.in_ok-now-2.now.items ≡ vals n =
     c.in_ok-now-2.ensures

@@ -63,8 +63,8 @@ loop-cycle-preserved c =
     let items : c.push.new.self.items ≡ c.loop-cycle.rows.items ++ c.step-row.result ∷ [] = rw c.unwrap.ensures at c.push.ensures.items in
     let len : vec_len c.push.new.self ≡ vec_len c.loop-cycle.rows + 1 = rw c.unwrap.ensures at c.push.ensures.len in (
       c.step-row.ensures.state
-          ∙ ap (λ (s : Running). record { net = s.net; state = state_after s.net taken s.state }) kept.0
-          ∙ ap (λ (st : State). record { net = net; state = st }) (state_next job net n taken is begin refl),
+          ∙ ap (λ (s : Running). record s { state = state_after s.net taken s.state }) kept.0
+          ∙ ap (λ (st : State). record { net = net; state = st; slots = [] }) (state_next job net n taken is begin refl),
       rw items (rows_next job net n taken is begin c.step-row.result c.loop-cycle.rows.items c.loop-cycle.monitor c.cycle.new.self refl row_is kept.1
           c.cycle.ensures.stages c.cycle.ensures.seen),
       len ∙ (let e : vec_len c.loop-cycle.rows + 1 ≡ n + 1 = omega (arith, kept.2) in e),

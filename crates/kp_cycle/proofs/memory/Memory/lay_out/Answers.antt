@@ -1,6 +1,7 @@
-use Rattle.std.proofs.Common.{◌≡◌, ◌+◌, ◌^◌, ◌<◌, ◌≤◌, ℕ, ◌∷◌, length, map, take, subst, ap, ◌∙◌, arith, Result}
+use Rattle.std.proofs.Common.{◌≡◌, ◌+◌, ◌^◌, ◌<◌, ◌≤◌, ℕ, List, ◌∷◌, length, get_or, map, take, zero, suc, refl, All, subst, sym, ap, ◌∙◌, arith, Result}
 use Rattle.std.specs.Prelude.{IfOk, OnOk}
 use Rattle.std.specs.List.{sum_by}
+use Rattle.std.proofs.lemmas.List.Elements.{All-get_or, All-push}
 use Rattle.std.proofs.lemmas.List.Sums.{sum_by_more, sum_by_more_le}
 use Rattle.std.proofs.Math.Seq.{take-length}
 use Rattle.kp_net.specs.declared.netlist.NetFile.{NetFile}
@@ -8,8 +9,15 @@ use Rattle.kp_net.specs.declared.netlist.Parts.{Parts}
 use Rattle.kp_region.specs.declared.span.Span.{Span}
 use Rattle.kp_region.specs.declared.region.Full.{Full}
 use Rattle.kp_region.specs.Words.{Words, IsSound, next_span, carved}
+use Rattle.kp_cycle.specs.inner.Spans.{no_span}
 use Rattle.kp_cycle.proofs.Spans.{apart_carved, length_carved, lens_more, fits_laid}
+use Rattle.kp_cycle.proofs.Copies.{laid_out, unsaved}
 use Rattle.kp_cycle.proofs.memory.Memory.lay_out.Goals as goal
+
+-- the first of some spans and those behind it begin no earlier than it does
+all_behind : (g : Span) (fs : List Span) → All (λ s. g.start ≤ s.start) fs → (k : ℕ) → k < length (g ∷ fs) → g.start ≤ (get_or (g ∷ fs) k no_span).start
+all_behind g fs h zero l = omega arith
+all_behind g fs h (suc k) l = All-get_or (λ (s : Span). g.start ≤ s.start) fs k no_span (omega arith) h
 
 pub loop-file-preserved : goal.loop-file-preserved
 loop-file-preserved c =
@@ -31,24 +39,47 @@ loop-file-preserved c =
     let fit : sum_by size (take i files) + k ≤ sum_by size files = omega (arith, sum_by_more_le size files i x c.loop-file-test.true, ap size c.file-item.is, ks) in
     let few : r.used + k < 2 ^ 32 = omega (arith, fit, inv.2, c.words_of-file_words.ensures.sum, c.words_of-file_words.ensures.at_most, nodes, regs, c.nodes.ensures.right.count, c.nodes.ensures.right.parts.reg_count) in
     let room : r.used + k ≤ length r.words = omega (arith, fit, inv.2, inv.3, c.words_of-file_words.ensures.sum) in
-    let apart = apart_carved r (c.unwrap-nodes.result ∷ c.unwrap-regs.result ∷ c.loop-file.spans.items) k inv.0 (subst IsSound new a.sound) few in (
+    let apart = apart_carved r (c.unwrap-nodes.result ∷ c.unwrap-regs.result ∷ c.loop-file.spans.items) k inv.0 (subst IsSound new a.sound) few in
+    let first = inv.0.within 1 (omega arith) in
+    let behind : c.unwrap-regs.result.start ≤ s.start = omega (arith, first, ap (λ (t : Span). t.start) is) in (
       rw (new, c.in_ok-push.ensures.items, is) apart,
       ap (map (λ (t : Span). t.len)) c.in_ok-push.ensures.items ∙ lens_more files c.loop-file.spans.items i s x c.loop-file-test.true (ap (λ (t : Span). t.len) is ∙ ks) c.file-item.is inv.1,
       omega (arith, ap (λ (w : Words). w.used) new, inv.2, sum_by_more size files i x c.loop-file-test.true, ap size c.file-item.is, ks),
       ap (λ (w : Words). length w.words) new ∙ length_carved r k room ∙ inv.3,
       inv.4,
       inv.5,
+      (let P : List Span → Type 0 = All (λ (t : Span). c.unwrap-regs.result.start ≤ t.start) in subst P (sym c.in_ok-push.ensures.items) (All-push (λ (t : Span). c.unwrap-regs.result.start ≤ t.start) c.loop-file.spans.items s inv.6 behind)),
+      inv.7,
+      inv.8,
     )
 
-pub returns : goal.returns
-returns c =
+pub invariant_of-result : goal.invariant_of-result
+invariant_of-result c =
+    let net = c.args.net.now in
+    let files = c.as_slice-files.result.now in
+    let inv = c.loop-file.invariant in
+    let size : NetFile → ℕ = λ f. length f.words in
+    let end : c.loop-file.file-index ≡ length files = omega (arith, c.loop-file.auto.file-index-end, c.loop-file-test.false) in
+    let all : sum_by size (take c.loop-file.file-index files) ≡ sum_by size files = ap (λ (n : ℕ). sum_by size (take n files)) end ∙ ap (sum_by size) (take-length files) in
+    let slots = c.in_ok-copies.ensures in
+    laid_out c.loop-file.region c.carve_slots.new.region c.unwrap-nodes.result c.unwrap-regs.result c.loop-file.spans.items
+    (record { start = c.unwrap-regs.result.start; len = length c.as_slice.result.now + c.words_of-file_words.result }) c.in_ok-copies.copies.items c.args.slots
+    inv.0 (all_behind c.unwrap-regs.result c.loop-file.spans.items inv.6) refl (omega (arith, inv.2, inv.8, all, c.words_of-file_words.ensures.sum)) inv.7 slots.apart c.carve_slots.ensures.used slots.count slots.sizes
+
+pub returns-clause-fits : goal.returns-clause-fits
+returns-clause-fits c =
     let net = c.args.net.now in
     let files = c.as_slice-files.result.now in
     let inv = c.loop-file.invariant in
     let size : NetFile → ℕ = λ f. length f.words in
     let end : c.loop-file.file-index ≡ length files = omega (arith, c.loop-file.auto.file-index-end, c.loop-file-test.false) in
     let all : take c.loop-file.file-index files ≡ net.parts.files = ap (λ (n : ℕ). take n files) end ∙ take-length files ∙ c.as_slice-files.ensures ∙ ap (λ (p : Parts). p.files) c.parts.ensures.parts in
-    fits_laid net c.loop-file.region c.unwrap-nodes.result c.unwrap-regs.result c.loop-file.spans.items c.nodes.ensures.right inv.0
+    fits_laid net c.carve_slots.new.region c.unwrap-nodes.result c.unwrap-regs.result c.loop-file.spans.items _ c.nodes.ensures.right (invariant_of-result c).apart
     (inv.4 ∙ ap length c.nodes.ensures.nodes)
     (inv.5 ∙ ap length (c.as_slice.ensures ∙ ap (λ (p : Parts). p.regs) c.parts-2.ensures.parts))
     (inv.1 ∙ ap (map size) all)
+
+pub returns-clause-slots : goal.returns-clause-slots
+returns-clause-slots c =
+    unsaved c.carve_slots.new.region c.unwrap-regs.result c.loop-file.spans.items
+    (record { start = c.unwrap-regs.result.start; len = length c.as_slice.result.now + c.words_of-file_words.result }) c.in_ok-copies.copies.items c.args.slots c.in_ok-copies.ensures.count c.in_ok-copies.ensures.unsaved
