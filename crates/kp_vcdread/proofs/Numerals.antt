@@ -1,11 +1,11 @@
 -- What the numbers and the bits of a dump's text are read as.
-use Rattle.std.proofs.Common.{◌≡◌, ◌∙◌, refl, sym, ap, ap₂, subst, arith, ℕ, zero, suc, ◌+◌, ◌*◌, ◌/◌, ◌%◌, ◌^◌, ◌<◌, ◌≤◌, Bool, true, false, not, ltb, leb, List, [], ◌∷◌, length, map, fold, get_or, Option, None, Some, Result, Ok, Err}
-use Rattle.std.specs.Prelude.{codes, decimal, nat_le, nat_lt, ◌==◌, ◌&&◌, ◌||◌, ◌-◌, unwrap_or, if◌then◌else◌}
+use Rattle.std.proofs.Common.{◌≡◌, ◌∙◌, refl, sym, ap, ap₂, subst, arith, ℕ, zero, suc, ◌+◌, ◌*◌, ◌/◌, ◌%◌, ◌^◌, ◌<◌, ◌≤◌, Bool, true, false, not, ltb, List, [], ◌∷◌, length, map, fold, get_or, Option, None, Some, Ok, Err}
+use Rattle.std.specs.Prelude.{codes, decimal, nat_le, nat_lt, ◌==◌, ◌&&◌, ◌-◌, unwrap_or, if◌then◌else◌}
 use Rattle.std.specs.Fmt.{digits}
 use Rattle.std.specs.Char.{digit_char}
 use Rattle.std.specs.Int.Digits.{digits_of, AllBelowBase}
 use Rattle.std.specs.List.{list_all}
-use Rattle.std.proofs.lemmas.Bool.{cond-true, cond-false, and_from, and_parts, agree_below_at, lt-ltb, le-leb, ltb-true, leb-true}
+use Rattle.std.proofs.lemmas.Bool.{cond-true, and_from, agree_below_at, lt-ltb, le-leb}
 use Rattle.std.proofs.lemmas.Fmt.{decimal-digits_of}
 use Rattle.std.proofs.lemmas.Int.Digits.{all_below_base_digits_of, first_digits_of, length-digits_of_step}
 use Rattle.std.proofs.lemmas.List.{length-map}
@@ -13,10 +13,9 @@ use Rattle.std.proofs.lemmas.Nat.{mod-pow-add}
 use Rattle.std.proofs.Math.Nat.{mod-eq_of_lt, pow-suc, add-mul, mul_assoc, mul_comm}
 use Rattle.kp_bits.specs.Literals.{is_number, numeral_next, numeral_value, number_within, number_of}
 use Rattle.kp_bits.specs.Spelling.{decimal_digits}
-use Rattle.kp_bits.specs.Word.{Word, word}
-use Rattle.kp_bits.proofs.RoundTrips.{decimal_value, decimal_number, decimal_read}
+use Rattle.kp_bits.specs.Word.{word}
+use Rattle.kp_bits.proofs.RoundTrips.{decimal_value, decimal_number}
 use Rattle.kp_vcd.specs.Text.{bit_digits}
-use Rattle.kp_vcdread.specs.Words.{is_layout}
 use Rattle.kp_vcdread.specs.Forms.{capped, is_padded, index_in, width_of, is_bit, are_bits, value_of}
 use Rattle.kp_vcdread.proofs.Spots.{is_part}
 

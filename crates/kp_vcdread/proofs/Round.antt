@@ -1,6 +1,6 @@
 -- The text of a dump that fits the form is read as this dump.
-use Rattle.std.proofs.Common.{◌≡◌, ◌∙◌, refl, sym, ap, ap₂, subst, arith, ℕ, zero, suc, ◌+◌, ◌/◌, ◌%◌, ◌^◌, ◌<◌, ◌≤◌, Bool, true, false, not, List, [], ◌∷◌, ◌++◌, length, All, Option, None, Some, Result, Ok, Err, append_assoc, length-append, ◌⊎◌, inl, inr}
-use Rattle.std.specs.Prelude.{codes, decimal, nat_lt, nat_le, ◌==◌, ◌&&◌, ◌||◌, if◌then◌else◌}
+use Rattle.std.proofs.Common.{◌≡◌, ◌∙◌, refl, sym, ap, subst, arith, ℕ, zero, suc, ◌+◌, ◌/◌, ◌%◌, ◌^◌, ◌<◌, ◌≤◌, Bool, true, false, not, List, [], ◌∷◌, ◌++◌, length, All, Option, Some, Result, Ok, Err, append_assoc, length-append, ◌⊎◌, inl, inr}
+use Rattle.std.specs.Prelude.{codes, decimal, nat_lt, nat_le, ◌==◌, ◌&&◌, ◌||◌}
 use Rattle.std.specs.List.{list_all}
 use Rattle.std.proofs.lemmas.Bool.{and_from, and_parts, or_cases, eq-eqb, eqb-true, lt-ltb, leb-true, cond-true, cond-false}
 use Rattle.std.proofs.lemmas.List.{append-nil}
@@ -14,14 +14,14 @@ use Rattle.kp_vcd.specs.declared.dump.Change.{Change}
 use Rattle.kp_vcd.specs.declared.dump.Moment.{Moment}
 use Rattle.kp_vcd.specs.declared.dump.Dump.{Dump}
 use Rattle.kp_vcdread.specs.Words.{is_layout, words_from}
-use Rattle.kp_vcdread.specs.Forms.{is_name, same_bytes, name_of, kind_of, width_of, index_of, code_of, is_next, time_of, said_by, said_by_short, said_by_bits, value_of, are_bits, short_index_of, width_at, change_of, or_wrong}
+use Rattle.kp_vcdread.specs.Forms.{is_name, same_bytes, name_of, kind_of, code_of, is_next, said_by_short, value_of, are_bits, width_at, change_of, or_wrong}
 use Rattle.kp_vcdread.specs.Reading as reading
 use Rattle.kp_vcdread.specs.Reading.{Next, State, Step, step, walk, at, named, with_signal, with_moment, changed, these, end_word, begin, begins, goes_on, closes, says, verdict, Fault}
 use Rattle.kp_vcdread.specs.declared.forms.Said.{Said}
 use Rattle.kp_vcdread.specs.declared.forms.Said.TheVariants as said
 use Rattle.kp_vcdread.specs.Fitting.{IsSignal, IsChange, RisesAfter, Rises, FitsForm}
 use Rattle.kp_vcdread.proofs.Spots.{is_part}
-use Rattle.kp_vcdread.proofs.Numerals.{IsPlain, is_numeral, number_read, index_read, width_read, bits_length, bits_plain, bits_read, value_read}
+use Rattle.kp_vcdread.proofs.Numerals.{IsPlain, is_numeral, number_read, index_read, width_read, bits_plain, bits_read, value_read}
 use Rattle.kp_vcdread.proofs.Leading.{Leads, nothing, both, same_part, one_word, two_words}
 
 all_head : {X : Type 0} (P : X → Type 0) (x : X) (xs : List X) → All P (x ∷ xs) → P x
