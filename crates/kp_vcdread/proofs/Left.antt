@@ -5,7 +5,7 @@ use Rattle.std.proofs.Math.Seq.{take-add}
 use Rattle.kp_base.specs.Characters.{run_length}
 use Rattle.kp_base.specs.Place.{place_after}
 use Rattle.kp_vcdread.specs.Words.{is_layout, Spot, ended, words_from}
-use Rattle.kp_vcdread.specs.inner.Left.{Left, left_at, spot_at}
+use Rattle.kp_vcdread.specs.inner.Left.{left_at, spot_at}
 use Rattle.kp_vcdread.proofs.Spots.{is_part, layout_skipped, word_taken, nothing_left}
 
 whole_rest : (text : List ℕ) (i : ℕ) → take (length text - i) (drop i text) ≡ drop i text

@@ -4,3 +4,6 @@ pub mod Names
 pub mod Left
 pub mod Counted
 pub mod Meeting
+pub mod Numerals
+pub mod Leading
+pub mod Round

@@ -1,5 +1,5 @@
 -- A word of a name is a name.
-use Rattle.std.proofs.Common.{◌≡◌, List, ℕ, length, true, arith}
+use Rattle.std.proofs.Common.{◌≡◌, List, ℕ, length, true}
 use Rattle.std.specs.Prelude.{nat_le, ◌&&◌}
 use Rattle.std.specs.List.{list_all}
 use Rattle.std.proofs.lemmas.Bool.{and_parts, leb-true}

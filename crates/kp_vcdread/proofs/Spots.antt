@@ -1,9 +1,9 @@
 -- Words from the front of a text on.
-use Rattle.std.proofs.Common.{◌≡◌, ◌∙◌, ℕ, zero, suc, ◌+◌, ◌-◌, ◌^◌, ◌<◌, ◌≤◌, List, [], ◌∷◌, ◌++◌, length, take, drop, Bool, true, false, refl, ap, ap₂, sym, subst, add-one, arith, append_assoc}
-use Rattle.std.specs.Prelude.{not, if◌then◌else◌}
+use Rattle.std.proofs.Common.{◌≡◌, ◌∙◌, ℕ, ◌+◌, List, [], ◌∷◌, ◌++◌, take, drop, Bool, true, false, refl, ap, sym, subst, add-one, arith, append_assoc}
+use Rattle.std.specs.Prelude.{not}
 use Rattle.std.proofs.lemmas.List.{append-nil}
 use Rattle.kp_base.specs.Characters.{run_length}
-use Rattle.kp_vcdread.specs.Words.{is_layout, Spot, ended, words_from}
+use Rattle.kp_vcdread.specs.Words.{is_layout, ended, words_from}
 
 abbrev pub is_part : ℕ → Bool
 is_part byte = not (is_layout byte)

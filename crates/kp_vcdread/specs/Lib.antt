@@ -1,4 +1,5 @@
 pub mod Words
 pub mod Forms
 pub mod Reading
+pub mod Fitting
 pub mod inner

@@ -7,9 +7,7 @@ use Rattle.std.specs.Prelude.{ℕ, nat_lt, Bool, List, [], ◌∷◌, ◌++◌, 
 use Rattle.kp_base.specs.Place.{place_after}
 use Rattle.kp_base.specs.declared.place.Place.{Place}
 use Rattle.kp_bits.specs.Word.{Word}
-use Rattle.kp_vcd.specs.declared.dump.Signal.{Signal}
 use Rattle.kp_vcd.specs.declared.dump.Change.{Change}
-use Rattle.kp_vcd.specs.declared.dump.Moment.{Moment}
 use Rattle.kp_vcd.specs.declared.dump.Dump.{Dump}
 use Rattle.kp_vcdread.specs.Words.{Spot, words_of}
 use Rattle.kp_vcdread.specs.Forms.{Form, or_wrong, same_bytes, name_of, more_of, kind_of, width_of, code_of, index_of, time_of, said_by, change_of}

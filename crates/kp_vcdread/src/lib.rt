@@ -8,6 +8,7 @@
 mod body;
 mod forms;
 mod head;
+pub mod laws;
 mod reading;
 mod refused;
 mod words;

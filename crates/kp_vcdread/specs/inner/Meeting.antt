@@ -1,10 +1,10 @@
 -- What the parts of the reader promise.
-use Rattle.std.specs.Prelude.{◌≡◌, ℕ, List, Option, None, Some, Result, Ok, Err, ⊤, [], if◌then◌else◌}
+use Rattle.std.specs.Prelude.{◌≡◌, ℕ, List, Option, None, Some, Result, Ok, Err, ⊤, []}
 use Rattle.kp_base.specs.declared.place.Place.{Place}
 use Rattle.kp_vcd.specs.declared.dump.Dump.{Dump}
 use Rattle.kp_vcdread.specs.Words.{Spot}
 use Rattle.kp_vcdread.specs.Forms.{Form}
-use Rattle.kp_vcdread.specs.Reading.{Fault, State, Next, change, walk, at, ends, step, says}
+use Rattle.kp_vcdread.specs.Reading.{Fault, State, change, walk, at, ends, step, says}
 use Rattle.kp_vcdread.specs.inner.Left.{Left}
 use Rattle.kp_vcdread.specs.declared.refused.DumpRefused.{DumpRefused}
 use Rattle.kp_vcdread.specs.declared.refused.DumpRefused.TheVariants as refused

@@ -1,4 +1,4 @@
-use Rattle.std.proofs.Common.{◌≡◌, ◌∙◌, sym, ap}
+use Rattle.std.proofs.Common.{◌∙◌}
 use Rattle.std.proofs.lemmas.Result.{err_from_is_err_and}
 use Rattle.kp_vcdread.proofs.Meeting.{stops, change_on}
 use Rattle.kp_vcdread.proofs.body.read_changes.Goals as goal

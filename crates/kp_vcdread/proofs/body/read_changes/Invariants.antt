@@ -1,4 +1,4 @@
-use Rattle.std.proofs.Common.{◌≡◌, ◌≤◌, ℕ, length, []}
+use Rattle.std.proofs.Common.{◌≡◌, ◌≤◌, length, []}
 use Rattle.kp_vcd.specs.declared.dump.Dump.{Dump}
 use Rattle.kp_vcdread.specs.Reading.{change, at}
 use Rattle.kp_vcdread.specs.inner.Meeting.{gives_from}

@@ -1,4 +1,4 @@
-use Rattle.std.proofs.Common.{◌≡◌, ◌∙◌, ℕ, Option, sym, ap}
+use Rattle.std.proofs.Common.{◌∙◌, ℕ, Option, sym, ap}
 use Rattle.std.proofs.lemmas.Result.{err_from_is_err_and}
 use Rattle.kp_vcd.specs.declared.dump.Dump.{Dump}
 use Rattle.kp_vcdread.specs.inner.Meeting.{gives_behind}

@@ -1,4 +1,4 @@
-use Rattle.std.proofs.Common.{◌≡◌, ◌+◌, ℕ, length, []}
+use Rattle.std.proofs.Common.{◌≡◌, ◌+◌, length, []}
 use Rattle.std.specs.Prelude.{is_some, if◌then◌else◌}
 use Rattle.kp_vcd.specs.declared.dump.Dump.{Dump}
 use Rattle.kp_vcdread.specs.Reading.{first_time, at}

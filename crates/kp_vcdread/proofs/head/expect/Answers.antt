@@ -1,7 +1,7 @@
-use Rattle.std.proofs.Common.{◌≡◌, ◌∙◌, sym, ap, arith, ◌<◌, length, map, true, false}
+use Rattle.std.proofs.Common.{◌∙◌, ap, arith, ◌<◌, length, map, true, false}
 use Rattle.std.proofs.lemmas.List.{length-map}
 use Rattle.std.proofs.lemmas.Result.{err_from_is_err_and}
-use Rattle.kp_vcdread.proofs.Meeting.{stops, fails, given_ended, given_wrong, given_right, tested}
+use Rattle.kp_vcdread.proofs.Meeting.{fails, given_ended, given_wrong, given_right, tested}
 use Rattle.kp_vcdread.proofs.head.expect.Goals as goal
 
 pub returns-in_err-word-clause-meets : goal.returns-in_err-word-clause-meets

@@ -1,4 +1,4 @@
-use Rattle.std.proofs.Common.{◌≡◌, ◌∙◌, sym, ap, arith, refl, []}
+use Rattle.std.proofs.Common.{◌∙◌}
 use Rattle.std.proofs.lemmas.Result.{err_from_is_err_and}
 use Rattle.kp_vcdread.specs.Reading.{declaration, with_signal}
 use Rattle.kp_vcdread.proofs.Meeting.{stops, kind_wanted, width_wanted, code_wanted, signal_name_wanted}

@@ -1,4 +1,4 @@
-use Rattle.std.proofs.Common.{◌≡◌, ◌∙◌, ℕ, List, sym, ap, arith, true, false, length, []}
+use Rattle.std.proofs.Common.{◌∙◌, List, sym, ap, arith, true, false, length}
 use Rattle.std.proofs.lemmas.Result.{err_from_is_err_and}
 use Rattle.kp_vcd.specs.declared.dump.Signal.{Signal}
 use Rattle.kp_vcdread.specs.Reading.{declaration, first_time, at, named}

@@ -1,8 +1,8 @@
-use Rattle.std.proofs.Common.{◌≡◌, ◌∙◌, List, sym, ap, ap₂, arith, length, refl, Result, Ok}
+use Rattle.std.proofs.Common.{◌∙◌, List, sym, ap, ap₂, arith, length, refl, Ok}
 use Rattle.std.proofs.lemmas.Result.{err_from_is_err_and}
 use Rattle.kp_vcd.specs.declared.dump.Signal.{Signal}
 use Rattle.kp_vcd.specs.declared.dump.Moment.{Moment}
-use Rattle.kp_vcdread.specs.Reading.{named, Fault}
+use Rattle.kp_vcdread.specs.Reading.{named}
 use Rattle.kp_vcdread.specs.inner.Left.{Left}
 use Rattle.kp_vcdread.proofs.Counted.{left_few}
 use Rattle.kp_vcdread.proofs.Meeting.{stops, from_start}

@@ -1,5 +1,4 @@
-use Rattle.std.proofs.Common.{◌≡◌, ◌∙◌, ◌+◌, sym, ap, arith, length-take}
-use Rattle.kp_base.specs.declared.place.Place.{Place}
+use Rattle.std.proofs.Common.{◌∙◌, ◌+◌, sym, ap, arith}
 use Rattle.kp_vcdread.specs.inner.Left.{Left}
 use Rattle.kp_vcdread.proofs.Left.{next_word, no_word, same_end, part_is, within_is}
 use Rattle.kp_vcdread.proofs.words.Words.next.Goals as goal
