@@ -1,8 +1,8 @@
 -- What an instruction does by the resolved job, in numbers, is what it does by the job.
-use Rattle.std.proofs.Common.{◌≡◌, ◌∙◌, ℕ, zero, suc, ◌+◌, ◌^◌, ◌<◌, ◌≤◌, List, [], ◌∷◌, ◌++◌, Option, Some, None, Bool, true, false, cond, length, map, set, take, get_or, replicate, refl, ap, sym, subst, arith}
+use Rattle.std.proofs.Common.{◌≡◌, ◌∙◌, ℕ, zero, suc, ◌+◌, ◌^◌, ◌<◌, ◌≤◌, List, [], ◌∷◌, ◌++◌, Option, Some, None, Bool, true, false, cond, length, set, take, get_or, replicate, refl, ap, sym, subst, arith}
 use Rattle.std.proofs.Common.{⊎_elim}
 use Rattle.std.proofs.lemmas.Bool.{cases_lt}
-use Rattle.std.specs.Prelude.{All, sum_by, is_some, nat_le, nat_lt, ◌&&◌, slice_index, unwrap_or, ◌==◌}
+use Rattle.std.specs.Prelude.{All, sum_by, is_some, nat_le, nat_lt, ◌&&◌, unwrap_or, ◌==◌}
 use Rattle.std.specs.Option.{option_map}
 use Rattle.std.specs.List.{position}
 use Rattle.std.proofs.lemmas.Nat.{pow_pos}
@@ -31,7 +31,7 @@ use Rattle.kp_plan.specs.declared.resolve.Scope.{Scope}
 use Rattle.kp_ast.specs.Checked.{checked, checked_calls_of}
 use Rattle.kp_plan.specs.Names.{at_place, place_of}
 use Rattle.kp_plan.specs.Plans.{Slots, Means, meaning, space}
-use Rattle.kp_plan.specs.Codes.{Holds, Suits, AllSuit, Gives, value_of, value_level, space_of, space_level}
+use Rattle.kp_plan.specs.Codes.{Holds, Suits, AllSuit, Gives, value_of, value_level, space_level}
 use Rattle.kp_plan.proofs.CodeLevels.{code-Word}
 use Rattle.kp_plan.proofs.Numbers.{le_false}
 use Rattle.kp_seq.specs.declared.program.Reading.{Reading}
@@ -40,10 +40,10 @@ use Rattle.kp_seq.specs.declared.program.Step.TheVariants as moves
 use Rattle.kp_seq.specs.declared.program.Made.{Made}
 use Rattle.kp_seq.specs.Running.{state_in}
 use Rattle.kp_seq.specs.inner.Names.{set_place}
-use Rattle.kp_seq.specs.inner.Fits.{FitsSlot, FitSlots}
+use Rattle.kp_seq.specs.inner.Fits.{FitSlots}
 use Rattle.kp_seq.specs.inner.Tables.{Laid}
-use Rattle.kp_seq.specs.inner.Steps.{Under, zero_bit, fitted, word_in, holds, address_in, address_read, value_read, with_name, with_pipe, with_result, after_stmt, after_stmts}
-use Rattle.kp_seq.specs.inner.Resolved.{Outline, Raw, Resolves, AllDo, DoesAll, DoesStage, Does, DoesRead, IsShown, IsCode, IsOptionCode, IsReading, unnamed, holds_at, address_at, value_at, put_place, with_place, put_pipe, set_first, with_target, with_width, after_step, after_steps, steps_space, step_space}
+use Rattle.kp_seq.specs.inner.Steps.{Under, zero_bit, fitted, word_in, holds, address_in, address_read, value_read, with_name, with_result, after_stmt, after_stmts}
+use Rattle.kp_seq.specs.inner.Resolved.{Raw, AllDo, DoesAll, DoesStage, Does, DoesRead, IsShown, IsCode, IsOptionCode, IsReading, unnamed, address_at, value_at, put_place, with_place, with_target, with_width, after_step, after_steps, steps_space, step_space}
 use Rattle.kp_seq.proofs.Start.{fitted_is}
 
 -- a place that gets a value of a width

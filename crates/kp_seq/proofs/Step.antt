@@ -34,7 +34,7 @@ use Rattle.kp_seq.specs.declared.program.Step.{Step}
 use Rattle.kp_seq.specs.declared.tables.Port.{Port}
 use Rattle.kp_seq.specs.inner.Resolved.{Outline, Raw, Resolves, AllDo, DoesStage, after_steps, entered_at, entry_widths, after_stages, begun_at, outputs, ran}
 use Rattle.kp_seq.proofs.Resolved.{suits_length}
-use Rattle.kp_seq.proofs.Lengths.{SameLengths, begun_same, block_same, stmts_same, entered_same}
+use Rattle.kp_seq.proofs.Lengths.{SameLengths, begun_same, block_same}
 use Rattle.kp_seq.proofs.Trees.{seen, no_hints, nexts, stage_runs}
 use Rattle.kp_seq.proofs.Blocks.{all_turn}
 use Rattle.kp_seq.proofs.Entering.{enters, shown}

@@ -87,22 +87,14 @@ fn widths_at_entry(alloc: Global, tables: &Tables) -> Result<Vec<Option<u64>>, N
     ensures { IfOk result (λ widths. widths.items ≡ entry_widths tables.now) }
 {
     let mut widths = vec![in alloc; None; tables.names.len()]?;
-    know_all(
-        &tables.names,
-        tables.samples.as_slice(),
-        widths.as_mut_slice(),
-    );
-    know_all(
-        &tables.names,
-        tables.pipes.as_slice(),
-        widths.as_mut_slice(),
-    );
+    know_all(&tables.names, tables.samples.as_slice(), &mut widths);
+    know_all(&tables.names, tables.pipes.as_slice(), &mut widths);
     Ok(widths)
 }
 
 // The names of these have values of their widths.
-fn know_all(keys: &Keys, slots: &[Slot], widths: &mut [Option<u64>])
-    ensures { widths.new ≡ with_widths keys.now widths.old slots.now }
+fn know_all(keys: &Keys, slots: &[Slot], widths: &mut Vec<Option<u64>>)
+    ensures { widths.new.items ≡ with_widths keys.now widths.old.items slots.now }
 {
     for slot in slots {
         know(keys.place(&slot.name), slot.width, widths);
@@ -110,8 +102,8 @@ fn know_all(keys: &Keys, slots: &[Slot], widths: &mut [Option<u64>])
 }
 
 // What is at a place has this width.
-fn know(place: Option<usize>, width: u64, widths: &mut [Option<u64>])
-    ensures { widths.new ≡ with_width widths.old place width }
+fn know(place: Option<usize>, width: u64, widths: &mut Vec<Option<u64>>)
+    ensures { widths.new.items ≡ with_width widths.old.items place width }
 {
     if let Some(place) = place {
         if place < widths.len() {
@@ -149,7 +141,7 @@ fn steps_of(
     let mut steps = Vec::new(alloc);
     for stmt in stmts {
         let made = step_of(alloc, tables, widths.as_slice(), &stmt.kind)?;
-        know(made.place, made.width, widths.as_mut_slice());
+        know(made.place, made.width, &mut widths);
         steps.push(made.step)?;
     }
     Ok(steps)

@@ -1,4 +1,4 @@
-use Rattle.std.proofs.Common.{◌≡◌, ◌∙◌, ap, sym}
+use Rattle.std.proofs.Common.{◌∙◌, ap, sym}
 use Rattle.std.specs.List.{position}
 use Rattle.kp_ast.specs.Expressions.{is_same_name}
 use Rattle.kp_machine.specs.Slots.{width_of}

@@ -1,6 +1,6 @@
-use Rattle.std.proofs.Common.{subst, sym, take, ap, ◌∙◌, ◌≡◌}
+use Rattle.std.proofs.Common.{◌+◌, ◌++◌, ◌∷◌, [], subst, sym, take}
 use Rattle.std.proofs.lemmas.List.{take_all}
-use Rattle.kp_seq.specs.inner.Resolved.{Does, DoesAll, with_width}
+use Rattle.kp_seq.specs.inner.Resolved.{Does, DoesAll}
 use Rattle.kp_seq.proofs.Resolved.{no_steps, more_steps}
 use Rattle.kp_seq.proofs.program.steps_of.Goals as goal
 
@@ -16,8 +16,8 @@ loop-stmt-preserved c =
     let t = c.args.tables.now in
     let w = c.args.entry.now in
     let m = c.in_ok-made.made in
-    subst (λ ss. DoesAll t w (take _ c.args.stmts.now) ss c.know.new.widths) (sym c.in_ok-push.ensures.items)
-    (subst (DoesAll t w (take _ c.args.stmts.now) _) (ap (λ ws. with_width ws m.place m.width) (sym c.as_mut_slice.ensures.value) ∙ sym c.know.ensures)
+    subst (λ ss. DoesAll t w (take (c.loop-stmt.stmt-index + 1) c.args.stmts.now) ss c.know.new.widths.items) (sym c.in_ok-push.ensures.items)
+    (subst (DoesAll t w (take (c.loop-stmt.stmt-index + 1) c.args.stmts.now) (c.loop-stmt.steps.items ++ m.step ∷ [])) (sym c.know.ensures)
     (more_steps t w c.args.stmts.now c.loop-stmt.stmt-index c.stmt-item.result c.loop-stmt.steps.items c.loop-stmt.widths.items m c.loop-stmt-test.true c.stmt-item.is c.loop-stmt.invariant
     (subst (λ ws. Does t ws c.stmt-item.result.kind m) c.as_slice.ensures.value c.in_ok-made.ensures)))
 

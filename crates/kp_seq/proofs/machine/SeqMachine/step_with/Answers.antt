@@ -5,7 +5,7 @@ use Rattle.kp_stage.specs.Sizes.{size_of_block, size_of_job}
 use Rattle.kp_stage.specs.Start.{AreSamples}
 use Rattle.kp_machine.specs.Slots.{targets_of}
 use Rattle.kp_seq.specs.Running.{Running, state, state_in, after_one}
-use Rattle.kp_seq.specs.inner.Steps.{Under, begun, after_blocks, executed}
+use Rattle.kp_seq.specs.inner.Steps.{Under, executed}
 use Rattle.kp_seq.specs.inner.Fits.{FitSlots}
 use Rattle.kp_seq.specs.inner.Resolved.{Raw, entry_widths}
 use Rattle.kp_seq.proofs.Lengths.{all_same}
