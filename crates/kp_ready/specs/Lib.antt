@@ -1,2 +1,3 @@
 pub mod Watching
 pub mod Readies
+pub mod Ends

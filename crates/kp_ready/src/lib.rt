@@ -2,10 +2,11 @@
 //!
 //! `made_ready` is given the allocator and no sink: it synthesises and runs what the answer wants. `Ready::write` is given the sink and no
 //! allocator: from there on only the sink can fail. The status and the text of what is ready are those of `specs/Readies.antt`, which are
-//! what the answer says.
+//! what the answer says. `conclude` does both, and lets the answer go.
 #![tactic(auto)]
 
 mod comparing;
+mod concluding;
 mod dumping;
 mod ready;
 mod simulating;
@@ -15,6 +16,7 @@ mod verilog;
 mod watched;
 mod writing;
 
+pub use concluding::{Unfinished, conclude};
 pub use ready::{Ready, made_ready};
 pub use stepping::Run;
 pub use watched::Watched;

@@ -1,25 +1,20 @@
 -- The ends of the top call: from what is due of an answer to what is due of words and bytes.
-use Rattle.std.proofs.Common.{true, false, ◌≡◌, ◌≢◌, ℕ, List, [], length, None, Some, refl, subst, sym, inl, arith}
+use Rattle.std.proofs.Common.{true, false, ◌≡◌, ◌≢◌, ℕ, List, [], length, None, Some, refl, subst, inl, arith}
 use Rattle.std.specs.declared.option.Option.{Option}
-use Rattle.std.specs.Io.KnownBytes.{Consumes, Appends, IsAtEnd}
-use Rattle.kp_base.specs.Bytes.{AppendsPart}
+use Rattle.std.specs.Io.KnownBytes.{Consumes, IsAtEnd}
 use Rattle.kp_base.specs.declared.refusal.Refusal.{Refusal}
 use Rattle.kp_words.specs.declared.words.Command.{Command}
 use Rattle.kp_words.specs.Words.{command_of, reads_input}
 use Rattle.kp_judge.specs.Judging.{too_long}
-use Rattle.kp_watch.specs.declared.compare.Difference.{Difference}
 use Rattle.kp_due.proofs.Dues.{too_long_is_due}
 use Rattle.kp_due.proofs.Refusals.{refused_where_broken}
 use Rattle.kp_due.specs.Due.{DueFor, IsFinal, Completes, Begins, Between}
 use Rattle.kp_due.specs.Refused.{Breaks}
-use Rattle.kp_decide.specs.Answers.{AnswerSays, Answers}
+use Rattle.kp_decide.specs.Answers.{Answers}
 use Rattle.kp_decide.specs.declared.answer.Answer.{Answer}
 use Rattle.kp_decide.specs.declared.answer.Answer.TheVariants as answers
-use Rattle.kp_ready.specs.Watching.{status_by}
-use Rattle.kp_ready.specs.Readies.{Tells, ready_status, ready_text}
-use Rattle.kp_ready.specs.declared.ready.Ready.{Ready}
-use Rattle.kp_ready.specs.declared.ready.Ready.TheVariants as readies
-use Rattle.kp_tool.specs.inner.Ends.{Decides, Finishes, BreaksOff}
+use Rattle.kp_ready.specs.Ends.{Finishes, BreaksOff}
+use Rattle.kp_tool.specs.inner.Decides.{Decides}
 use Rattle.kp_tool.specs.inner.Stop.{stop_status}
 use Rattle.kp_tool.specs.declared.Stop.{Stop}
 use Rattle.kp_tool.specs.declared.Stop.TheVariants.{ReadFault, WriteFault, NoMemory}
@@ -66,36 +61,6 @@ pub too_long_decided : (words : List (List ℕ)) (command : Command) (old new : 
 unfolding Decides
 too_long_decided words command old new taken refusal is reads consumed count same = λ status text says.
     rw (says.0, says.1, same) (too_long_is_due words command old new taken is reads consumed count)
-
-final_by : (difference : Option Difference) → IsFinal (status_by difference)
-final_by None = (λ e. omega arith, λ e. omega arith, λ e. omega arith)
-final_by (Some d) = (λ e. omega arith, λ e. omega arith, λ e. omega arith)
-
-final : (ready : Ready) → IsFinal (ready_status ready)
-final readies.BadWords = (λ e. omega arith, λ e. omega arith, λ e. omega arith)
-final (readies.Refused refusal) = (λ e. omega arith, λ e. omega arith, λ e. omega arith)
-final (readies.Misread refusal) = (λ e. omega arith, λ e. omega arith, λ e. omega arith)
-final (readies.After run) = (λ e. omega arith, λ e. omega arith, λ e. omega arith)
-final (readies.Ran board) = (λ e. omega arith, λ e. omega arith, λ e. omega arith)
-final (readies.Dumped dump) = (λ e. omega arith, λ e. omega arith, λ e. omega arith)
-final (readies.Verilog net) = (λ e. omega arith, λ e. omega arith, λ e. omega arith)
-final (readies.Checked design) = (λ e. omega arith, λ e. omega arith, λ e. omega arith)
-final (readies.Image section) = (λ e. omega arith, λ e. omega arith, λ e. omega arith)
-final (readies.Denoted net) = (λ e. omega arith, λ e. omega arith, λ e. omega arith)
-final (readies.Watched watched) = final_by watched.difference
-final (readies.Summed number totals) = (λ e. omega arith, λ e. omega arith, λ e. omega arith)
-
--- an answer that was got ready is written whole, or its beginning
-pub finishes : (answer : Answer) (ready : Ready) (held held_after : Option (List ℕ)) (status : ℕ) → Tells answer ready → status ≡ ready_status ready
-    → Appends held held_after (ready_text ready) → Finishes answer held held_after status
-unfolding Tells Finishes
-finishes answer ready held held_after status says is appended =
-    subst (λ (s : ℕ). IsFinal s × (text : List ℕ) × AnswerSays answer s text × Appends held held_after text) (sym is) (final ready, ready_text ready, says, appended)
-
-pub breaks_off : (answer : Answer) (ready : Ready) (held held_after : Option (List ℕ)) → Tells answer ready → AppendsPart held held_after (ready_text ready)
-    → BreaksOff answer held held_after
-unfolding Tells BreaksOff
-breaks_off answer ready held held_after says part = (ready_status ready, ready_text ready, says, part)
 
 module _ (words : List (List ℕ)) (left left_after held held_after : Option (List ℕ)) where
   -- what is written of an answer is due where the answer was decided on

@@ -1,3 +1,3 @@
 -- What stands here is for private contracts and proofs: a reader need not believe it.
-pub mod Ends
+pub mod Decides
 pub mod Stop

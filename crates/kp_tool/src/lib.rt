@@ -2,8 +2,6 @@
 #![tactic(auto)]
 
 ghost use Rattle.std.specs.Prelude.{◌≡◌, ◌≢◌, ◌++◌, map, string_bytes, List, ℕ, true, false, None, Some, IfOk, IfSome, IsErrOf};
-ghost use Rattle.std.specs.Io.KnownBytes.{Appends};
-ghost use Rattle.kp_base.specs.Bytes.{AppendsPart};
 ghost use Rattle.kp_base.specs.Causes.{Rose};
 ghost use Rattle.kp_base.specs.Refusal.{e_rule};
 ghost use Rattle.kp_base.specs.declared.refusal.Refusal.{Refusal};
@@ -16,14 +14,14 @@ ghost use Rattle.kp_show.specs.Texts.{refusal_line};
 ghost use Rattle.kp_due.specs.Due.{Due, IsFinal, Completes, Begins, Between};
 ghost use Rattle.kp_due.specs.Headline.{IsMoving, HasNoNeedlessStall, IsVerilogWith, IsRunWith, IsNetlistWith};
 ghost use Rattle.kp_due.specs.Refused.{Breaks};
-ghost use Rattle.kp_ready.specs.Readies.{ready_status, ready_text};
-ghost use Rattle.kp_tool.specs.inner.Ends.{Decides, Finishes, BreaksOff};
+ghost use Rattle.kp_ready.specs.Ends.{Finishes, BreaksOff};
+ghost use Rattle.kp_tool.specs.inner.Decides.{Decides};
 ghost use Rattle.kp_tool.specs.inner.Stop.{stop_status};
 ghost use Rattle.kp_tool.specs.declared.Stop.TheVariants as stop;
 
-use kp_base::{NoMemory, Place, ReadAll, Refusal, Sink, SinkFault, Source, read_all};
+use kp_base::{NoMemory, Place, ReadAll, Refusal, Sink, Source, read_all};
 use kp_decide::{Answer, carry_out};
-use kp_ready::{Ready, made_ready};
+use kp_ready::{Unfinished, conclude};
 use kp_words::Command;
 use std::alloc::{AllocError, Global};
 
@@ -60,14 +58,6 @@ impl From<NoMemory> for Stop {
 
     fn from(_: NoMemory) -> Self {
         Stop::NoMemory
-    }
-}
-
-impl From<SinkFault> for Stop {
-    ghost from_gives = { λ _ e. e ≡ stop.WriteFault };
-
-    fn from(_: SinkFault) -> Self {
-        Stop::WriteFault
     }
 }
 
@@ -147,34 +137,24 @@ fn run<S: Source, K: Sink>(
     ensures no_memory { IsErrOf result Stop.NoMemory → sink.new ≡ sink.old }
 {
     match prepare(alloc, words, source) {
-        Ok(answer) => finish(alloc, &answer, sink),
+        Ok(answer) => finish(alloc, answer, sink),
         Err(stop) => Err(stop),
     }
 }
 
-// Gets an answer ready, and writes it.
-fn finish<K: Sink>(alloc: Global, answer: &Answer, sink: &mut K) -> Result<u8, Stop>
-    ensures due { IfOk result (λ status. Finishes answer.now (K.held sink.old) (K.held sink.new) status) }
+// Gives the answer away to be written.
+fn finish<K: Sink>(alloc: Global, answer: Answer, sink: &mut K) -> Result<u8, Stop>
+    ensures due { IfOk result (λ status. Finishes answer (K.held sink.old) (K.held sink.new) status) }
     ensures no_read_fault { IsErrOf result Stop.ReadFault → ⊥ }
     ensures write_fault { IsErrOf result Stop.WriteFault → Rose (K.faults sink.old) (K.faults sink.new)
-        × BreaksOff answer.now (K.held sink.old) (K.held sink.new) }
+        × BreaksOff answer (K.held sink.old) (K.held sink.new) }
     ensures no_memory { IsErrOf result Stop.NoMemory → sink.new ≡ sink.old }
 {
-    match made_ready(alloc, answer) {
-        Ok(ready) => told(&ready, sink),
-        Err(NoMemory) => Err(Stop::NoMemory),
+    match conclude(alloc, answer, sink) {
+        Ok(status) => Ok(status),
+        Err(Unfinished::NoMemory) => Err(Stop::NoMemory),
+        Err(Unfinished::SinkFault) => Err(Stop::WriteFault),
     }
-}
-
-// Writes an answer that is ready.
-fn told<K: Sink>(ready: &Ready<'_>, sink: &mut K) -> Result<u8, Stop>
-    ensures due { IfOk result (λ status. (status ≡ ready_status ready.now) × Appends (K.held sink.old) (K.held sink.new) (ready_text ready.now)) }
-    ensures no_read_fault { IsErrOf result Stop.ReadFault → ⊥ }
-    ensures write_fault { IsErrOf result Stop.WriteFault → Rose (K.faults sink.old) (K.faults sink.new)
-        × AppendsPart (K.held sink.old) (K.held sink.new) (ready_text ready.now) }
-    ensures no_memory { IsErrOf result Stop.NoMemory → ⊥ }
-{
-    Ok(ready.write(sink)?)
 }
 
 // Reads what is to be read, and decides on it.

@@ -1,16 +1,12 @@
--- Between the words and the sink: an answer that was decided on, and what was written of it.
+-- HOW AN ANSWER ENDS: what stands in the sink behind it.
 use Rattle.std.specs.Prelude.{ℕ, List, Option}
 use Rattle.std.specs.Io.KnownBytes.{Appends}
 use Rattle.kp_base.specs.Bytes.{AppendsPart}
-use Rattle.kp_due.specs.Due.{IsDue, IsFinal}
+use Rattle.kp_due.specs.Due.{IsFinal}
 use Rattle.kp_decide.specs.declared.answer.Answer.{Answer}
 use Rattle.kp_decide.specs.Answers.{AnswerSays}
 
--- Whatever the answer says is due of the words and of the bytes that a source gave.
-unfoldable pub Decides : List (List ℕ) → (old new : Option (List ℕ)) → Answer → Type 0
-Decides words old new answer = (status : ℕ) (text : List ℕ) → AnswerSays answer status text → IsDue words old new status text
-
--- The status is due, and a text that the answer says with it was appended whole.
+-- The status is a final one, and a text that the answer says with it was appended whole.
 unfoldable pub Finishes : Answer → (held held_after : Option (List ℕ)) → ℕ → Type 0
 Finishes answer held held_after status = IsFinal status × (text : List ℕ) × AnswerSays answer status text × Appends held held_after text
 

@@ -1,0 +1,80 @@
+// The end of an answer: it is made ready and written, and let go.
+ghost use Rattle.std.specs.Prelude.{◌≡◌, IfOk, IsErrOf};
+ghost use Rattle.std.specs.Io.KnownBytes.{Appends};
+ghost use Rattle.kp_base.specs.Bytes.{AppendsPart};
+ghost use Rattle.kp_base.specs.Causes.{Rose};
+ghost use Rattle.kp_ready.specs.Readies.{ready_status, ready_text};
+ghost use Rattle.kp_ready.specs.Ends.{Finishes, BreaksOff};
+ghost use Rattle.kp_ready.specs.declared.concluding.Unfinished.TheVariants as unfinished;
+
+use crate::ready::{Ready, made_ready};
+use kp_base::{NoMemory, Sink, SinkFault};
+use kp_decide::Answer;
+use std::alloc::Global;
+use thiserror::Error;
+
+/// Why an answer wasn't written whole.
+#[derive(Clone, Copy, Debug, PartialEq, Eq, Error)]
+pub enum Unfinished {
+    /// Nothing was written.
+    #[error("out of memory")]
+    NoMemory,
+    /// The beginning of the text was written.
+    #[error("the sink failed")]
+    SinkFault,
+}
+
+impl From<NoMemory> for Unfinished {
+    ghost from_gives = { λ _ e. e ≡ unfinished.NoMemory };
+
+    fn from(_: NoMemory) -> Self {
+        Unfinished::NoMemory
+    }
+}
+
+impl From<SinkFault> for Unfinished {
+    ghost from_gives = { λ _ e. e ≡ unfinished.SinkFault };
+
+    fn from(_: SinkFault) -> Self {
+        Unfinished::SinkFault
+    }
+}
+
+/// Gets an answer ready, writes it, and answers its status. The answer and what is ready are gone when this ends.
+pub fn conclude<K: Sink>(alloc: Global, answer: Answer, sink: &mut K) -> Result<u8, Unfinished>
+    ensures due { IfOk result (λ status. Finishes answer (K.held sink.old) (K.held sink.new) status) }
+    ensures write_fault { IsErrOf result Unfinished.SinkFault → Rose (K.faults sink.old) (K.faults sink.new)
+        × BreaksOff answer (K.held sink.old) (K.held sink.new) }
+    ensures no_memory { IsErrOf result Unfinished.NoMemory → sink.new ≡ sink.old }
+{
+    let end = finish(alloc, &answer, sink);
+    drop(answer);
+    end
+}
+
+// Gets an answer ready, and writes it.
+fn finish<K: Sink>(alloc: Global, answer: &Answer, sink: &mut K) -> Result<u8, Unfinished>
+    ensures due { IfOk result (λ status. Finishes answer.now (K.held sink.old) (K.held sink.new) status) }
+    ensures write_fault { IsErrOf result Unfinished.SinkFault → Rose (K.faults sink.old) (K.faults sink.new)
+        × BreaksOff answer.now (K.held sink.old) (K.held sink.new) }
+    ensures no_memory { IsErrOf result Unfinished.NoMemory → sink.new ≡ sink.old }
+{
+    match made_ready(alloc, answer) {
+        Ok(ready) => {
+            let end = told(&ready, sink);
+            drop(ready);
+            end
+        }
+        Err(NoMemory) => Err(Unfinished::NoMemory),
+    }
+}
+
+// Writes an answer that is ready.
+fn told<K: Sink>(ready: &Ready<'_>, sink: &mut K) -> Result<u8, Unfinished>
+    ensures due { IfOk result (λ status. (status ≡ ready_status ready.now) × Appends (K.held sink.old) (K.held sink.new) (ready_text ready.now)) }
+    ensures write_fault { IsErrOf result Unfinished.SinkFault → Rose (K.faults sink.old) (K.faults sink.new)
+        × AppendsPart (K.held sink.old) (K.held sink.new) (ready_text ready.now) }
+    ensures no_memory { IsErrOf result Unfinished.NoMemory → sink.new ≡ sink.old }
+{
+    Ok(ready.write(sink)?)
+}
