@@ -1,0 +1,53 @@
+-- What comes in in a cycle.
+use Rattle.std.proofs.Common.{◌≡◌, ℕ, zero, suc, ◌+◌, ◌-◌, ◌*◌, ◌<◌, ◌≤◌, false, List, [], ◌∷◌, length, get_or, take, drop, refl, sym, ap, ◌∙◌, arith}
+use Rattle.std.specs.Prelude.{slice_range}
+use Rattle.std.proofs.Math.Nat.{mul-le-mul_right}
+use Rattle.std.proofs.lemmas.List.{drop-drop}
+use Rattle.std.proofs.lemmas.List.Edits.{length-between, get_or-between}
+use Rattle.kp_bits.specs.Word.{Word}
+use Rattle.kp_bits.specs.Operators.{no_word}
+use Rattle.kp_net.specs.Netlist.{Net, Input}
+use Rattle.kp_net.specs.Parts.{no_port}
+use Rattle.kp_cycle.specs.Steps.{SamplesFit, given}
+use Rattle.kp_debug.specs.Sessions.{inputs_of, SamplesFitCycles}
+use Rattle.kp_debug.specs.inner.Kept.{no_input}
+
+pub inputs_many : (ports : ℕ) (exts : List ℕ) (samples : List Word) → length (inputs_of ports exts samples) ≡ length exts
+inputs_many ports [] samples = refl
+inputs_many ports (e ∷ exts) samples = ap (λ (n : ℕ). suc n) (inputs_many ports exts (drop ports samples))
+
+-- the input of a cycle is its stall word and its part of the samples
+pub input_there : (ports : ℕ) (exts : List ℕ) (samples : List Word) (k a b : ℕ) → k < length exts → a ≡ k * ports → b ≡ a + ports
+    → get_or (inputs_of ports exts samples) k no_input ≡ given (get_or exts k 0) false (slice_range samples a b)
+input_there ports [] samples k a b l e f = absurd (omega arith)
+input_there ports (ext ∷ exts) samples zero a b l e f =
+    let first : a ≡ 0 = omega arith in
+    let size : ports ≡ b - a = omega arith in
+    λ i. given ext false (take (size i) (drop (sym first i) samples))
+input_there ports (ext ∷ exts) samples (suc k) a b l e f =
+    let step : suc k * ports ≡ k * ports + ports = omega arith in
+    let start : ports + k * ports ≡ a = omega (arith, step) in
+    let size : k * ports + ports - k * ports ≡ b - a = omega (arith, step) in
+    input_there ports exts (drop ports samples) k (k * ports) (k * ports + ports) (omega arith) refl refl
+    ∙ ap (λ (ws : List Word). given (get_or exts k 0) false (take (k * ports + ports - k * ports) ws)) (drop-drop (k * ports) ports samples)
+    ∙ (λ i. given (get_or exts k 0) false (take (size i) (drop (start i) samples)))
+
+-- and these fit the ports
+pub part_inside : (cycle ports cycles many : ℕ) → cycle < cycles → many ≡ cycles * ports → cycle * ports + ports ≤ many
+part_inside cycle ports cycles many l is =
+    let more : (cycle + 1) * ports ≤ cycles * ports = mul-le-mul_right ports (let h : cycle + 1 ≤ cycles = omega arith in h) in
+    let step : (cycle + 1) * ports ≡ cycle * ports + ports = omega arith in
+    omega (arith, more, step, is)
+
+pub part_fits : (net : Net) (cycles cycle : ℕ) (samples : List Word) → SamplesFitCycles net cycles samples → cycle < cycles
+    → SamplesFit net (slice_range samples (cycle * length net.parts.samples) (cycle * length net.parts.samples + length net.parts.samples))
+part_fits net cycles cycle samples fit l =
+    let ports : ℕ = length net.parts.samples in
+    let a : ℕ = cycle * ports in
+    let inside : a + ports ≤ length samples = part_inside cycle ports cycles (length samples) l fit.count in
+    let many : length (slice_range samples a (a + ports)) ≡ ports = omega (arith, length-between samples a (a + ports) inside) in
+    record {
+      count = many;
+      widths = λ s h. let h' : s < ports = omega (arith, many) in
+          ap (λ (w : Word). w.width) (get_or-between samples a (a + ports) s no_word (omega arith)) ∙ fit.widths cycle s l h';
+    }

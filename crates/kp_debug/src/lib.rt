@@ -1,0 +1,8 @@
+//! A debugger of netlists: a session that goes through the cycles of a run, forward and back.
+#![tactic(auto)]
+
+mod cycles;
+pub mod laws;
+mod session;
+
+pub use session::Session;
