@@ -1,0 +1,5 @@
+pub mod Named
+pub mod Values
+pub mod Rising
+pub mod Fitting
+pub mod Telling
