@@ -1,9 +1,9 @@
 #!/bin/bash
 # What other tools say of the dumps that `vcd` writes for the examples: bash checks/waves.sh [JOB.kp ..]
 #
-# Under random stalls and samples, the Verilog that `pipe` writes runs in Icarus, and in each cycle `full`, `ue`, `back` and the registers must
-# have the values that the dump of `vcd 200` holds at that time, and the registers also behind the last cycle. `vcd2fst`, of GTKWave, must take
-# each dump without a message. A tool that isn't installed is skipped, and the line says so. The last line is `N checked, M wrong`, and the
+# Under random stalls and samples, the Verilog that `pipe` writes runs in Icarus, which dumps its changes. In each cycle `full`, `ue`, `back` and
+# the registers must have the values in this dump that the dump of `vcd 200` holds at that time, and the registers also behind the last cycle.
+# `vcd2fst`, of GTKWave, must take each dump of `vcd` without a message. A tool that isn't installed is skipped, and the line says so. The last line is `N checked, M wrong`, and the
 # status is 0 where M is 0. KP names another program than ./kp, CYCLES another number of cycles.
 set -u
 top=$(cd "$(dirname "$0")/.." && pwd)
@@ -45,9 +45,31 @@ held() {
         END { tell(cycles + 1) }' "$1"
 }
 
-# A test bench that drives the module as the sections of the job say, and writes the values of the signals of a dump in the same form.
-bench() {
+# The same of the dump that Icarus wrote of the bench below: cycle t is looked at 3 t + 1 units from the start. It leaves out leading zeros.
+dumped() {
     awk -v cycles="$cycles" '
+        function tell(until,  s, v) {
+            for (; told <= cycles && 3 * told + 1 < until; told++) for (s = 0; s < signals; s++) if (told < cycles || isreg[s]) {
+                v = value[id[(s < 3 ? "" : "dut.") name[s]]]
+                while (length(v) < width[s]) v = "0" v
+                print told + 0, name[s], v
+            }
+        }
+        BEGIN { signals = 0 }
+        FNR == NR { if ($1 == "$var") { isreg[signals] = $2 == "reg"; width[signals] = $3; name[signals++] = $5 } next }
+        $1 == "$scope" { scope[++depth] = $3 }
+        $1 == "$upscope" { depth-- }
+        $1 == "$var" && depth == 1 { id[$5] = $4 }
+        $1 == "$var" && depth == 2 && scope[2] == "dut" { id["dut." $5] = $4 }
+        /^#/ { tell(substr($1, 2) + 0) }
+        /^b/ { value[$2] = substr($1, 2) }
+        /^[01xz]/ { value[substr($1, 2)] = substr($1, 1, 1) }
+        END { tell(3 * cycles + 2) }' "$1" "$2"
+}
+
+# A test bench that drives the module as the sections of the job say, and has its changes dumped.
+bench() {
+    awk -v cycles="$cycles" -v dump="$work/icarus.vcd" '
         FNR == 1 { file++ }
         file == 1 && /^stages / { n = $2 + 0 }
         file == 1 && /^(stalls|inputs)/ { part = $1 }
@@ -60,27 +82,23 @@ bench() {
                 ports = substr(ports, RSTART + RLENGTH)
             }
             reset = /input wire rst/ }
-        file == 3 && $1 == "$var" { signal[signals++] = $5 }
         END {
             print "module bench;\n  reg clk;\n  reg rst;"
             printf "  reg [%d:0] ext;\n  wire [%d:0] full;\n  wire [%d:0] ue;\n  wire [3:0] back;\n", n - 1, n - 1, n - 1
             for (s in range) printf "  reg %s s_%s;\n", range[s], s
             printf "  %s dut(.clk(clk)%s, .ext(ext), .full(full), .ue(ue), .back(back)", module, reset ? ", .rst(rst)" : ""
             for (s in range) printf ", .s_%s(s_%s)", s, s
-            print ");\n  task row(input integer t); begin\n    #1;"
-            for (j = 0; j < signals; j++) printf "    $display(\"%%0d %s %%b\", t, %s);\n", signal[j], (j < 3 ? "" : "dut.") signal[j]
-            print "    #1 clk = 1; #1 clk = 0;\n  end endtask\n  initial begin\n    clk = 0; rst = 0;"
+            print ");\n  task cycle; begin\n    #2 clk = 1; #1 clk = 0;\n  end endtask\n  initial begin"
+            print "    $dumpfile(\"" dump "\");\n    $dumpvars(2, bench);\n    clk = 0; rst = 0;"
             for (t = 0; t < cycles; t++) {
                 word = ""
                 for (k = n - 1; k >= 0; k--) word = word ((t, k) in stall ? 1 : 0)
                 printf "    ext = %d\047b%s;", n, word
                 for (s in range) { v = ((t, s) in input) ? input[t, s] : "0;"; sub(/;.*/, "", v); printf " s_%s = %s;", s, v }
-                printf " row(%d);\n", t
+                print " cycle;"
             }
-            print "    #1;"
-            for (j = 3; j < signals; j++) printf "    $display(\"%d %s %%b\", dut.%s);\n", cycles, signal[j], signal[j]
-            print "    $finish;\n  end\nendmodule"
-        }' "$1" "$2" "$3"
+            print "    #2 $finish;\n  end\nendmodule"
+        }' "$1" "$2"
 }
 
 # The module in Icarus beside the dump.
@@ -88,8 +106,9 @@ run() {
     has "$1" iverilog || return
     "$kp" pipe <"$work/shaken.kp" >"$work/shaken.v"
     held "$work/shaken.vcd" >"$work/expected"
-    bench "$work/shaken.kp" "$work/shaken.v" "$work/shaken.vcd" >"$work/bench.v"
-    { iverilog -g2005 -o "$work/run.vvp" "$work/bench.v" "$work/shaken.v" && timeout 120 vvp -n "$work/run.vvp" | grep -v '[$]finish'; } >"$work/given" 2>&1
+    bench "$work/shaken.kp" "$work/shaken.v" >"$work/bench.v"
+    { iverilog -g2005 -o "$work/run.vvp" "$work/bench.v" "$work/shaken.v" && timeout 120 vvp -n "$work/run.vvp"; } >"$work/said" 2>&1 || { says "$1" iverilog "$(head -n 1 "$work/said")"; return; }
+    dumped "$work/shaken.vcd" "$work/icarus.vcd" >"$work/given"
     if [ -s "$work/expected" ] && cmp -s "$work/expected" "$work/given"; then
         says "$1" iverilog "ok: $(wc -l <"$work/given") values"
     else
