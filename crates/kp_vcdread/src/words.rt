@@ -30,6 +30,7 @@ impl<'a> Model for Found<'a> {
 }
 
 impl<'a> Found<'a> {
+    /// The bytes of the word.
     pub fn bytes(&self) -> &'a [u8]
         ensures { result.now ≡ self.now.bytes }
     {
