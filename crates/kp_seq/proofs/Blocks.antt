@@ -128,7 +128,7 @@ module _ (job : Job) (unbroken : Unbroken (widths_of job)) (t : Laid) (tables : 
   }
 
   -- the last rule asks a statement for the names in its values
-  values_free : (j : ℕ) (x : StmtKind) → ask_stmt (facts_of job) rule k j x ≡ None → ask_values (facts_of job) rule k x ≡ None
+  pub values_free : (j : ℕ) (x : StmtKind) → ask_stmt (facts_of job) rule k j x ≡ None → ask_values (facts_of job) rule k x ≡ None
   values_free j x e =
       sym (ap (λ o. unwrap_or (option_map (λ r. ask_values (facts_of job) r k x) o) None) is25)
       ∙ ap (λ o. unwrap_or (option_map (λ r. ask_stmt (facts_of job) r k j x) o) None) is25

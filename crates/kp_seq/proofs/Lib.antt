@@ -16,3 +16,7 @@ pub mod Resolved
 pub mod Entering
 pub mod Keys
 pub mod Step
+pub mod Noted
+pub mod Low
+pub mod Asked
+pub mod Telling

@@ -42,7 +42,7 @@ use Rattle.kp_seq.proofs.Start.{target_width, word_fits, fitted_is}
 use Rattle.kp_seq.proofs.Trees.{value_read, address_read}
 use Rattle.kp_seq.proofs.Turns.{holds_same, address_same, name_bound}
 
-number_get : (ss : List Slot) (q : List ℕ) → IsIn ss q → (get_or ss (number_of ss q) no_slot).width ≡ width_of ss q
+pub number_get : (ss : List Slot) (q : List ℕ) → IsIn ss q → (get_or ss (number_of ss q) no_slot).width ≡ width_of ss q
 number_get ss q h =
     let s = slot_of ss q h in
     ap (λ (z : Slot). z.width) (get_or_from_slice_get ss (number_of ss q) s.0 no_slot s.1) ∙ s.2

@@ -42,8 +42,10 @@ use Rattle.kp_seq.specs.Running.{state_in}
 use Rattle.kp_seq.specs.inner.Names.{set_place}
 use Rattle.kp_seq.specs.inner.Fits.{FitSlots}
 use Rattle.kp_seq.specs.inner.Tables.{Laid}
-use Rattle.kp_seq.specs.inner.Steps.{Under, zero_bit, fitted, word_in, holds, address_in, address_read, value_read, with_name, with_result, after_stmt, after_stmts}
-use Rattle.kp_seq.specs.inner.Resolved.{Raw, AllDo, DoesAll, DoesStage, Does, DoesRead, IsShown, IsCode, IsOptionCode, IsReading, unnamed, address_at, value_at, put_place, with_place, with_target, with_width, after_step, after_steps, steps_space, step_space}
+use Rattle.kp_seq.specs.inner.Steps.{Under, zero_bit, fitted, word_in, holds, address_in, address_read, value_read, with_name, with_pipe, with_result, after_stmt, after_stmts}
+use Rattle.kp_seq.specs.inner.Resolved.{Outline, Raw, Resolves, AllDo, DoesAll, DoesStage, Does, DoesRead, IsShown, IsCode, IsOptionCode, IsReading, unnamed, holds_at, address_at, asked_at, value_at, note_step, note_steps, put_place, with_place, put_pipe, set_first, with_target, with_width, after_step, after_steps, steps_space, step_space}
+use Rattle.kp_seq.specs.Told.{where_true}
+use Rattle.kp_seq.specs.inner.Notes.{Noted, narrow_address, with_read, asked_in, note_stmt, note_stmts}
 use Rattle.kp_seq.proofs.Start.{fitted_is}
 
 -- a place that gets a value of a width
@@ -167,6 +169,7 @@ module _ (t : Laid) where
         → s.is_guessed ≡ is_some r.guess → IsOptionCode t ws r.address s.address → IsOptionCode t ws r.when s.when → IsReading t ws r s
     reading_is r s place target guessed address when = record {
       place = place;
+      asked = λ u x suit. ap (λ b. where_true b (address_at x s.address)) (when.holds u x suit) ∙ ap (where_true (holds t u r.when)) (address.address u x suit);
       value = λ words u x suit.
           ap (λ b. cond b (state_in words s.target (cond s.is_guessed 0 (address_at x s.address))) 0) (when.holds u x suit)
           ∙ ap (λ i. cond (holds t u r.when) (state_in words i (cond s.is_guessed 0 (address_at x s.address))) 0) target
@@ -201,6 +204,9 @@ module _ (t : Laid) where
           subst (Holds (Some (fitted tw v)) w) (sym (h.value words u x shown.names)) (record { there = ap Some f; word = record { positive = low; at_most = high; fits = small_w } }) in
           subst (λ p. IsShown (with_width ws o w) (with_name t u r.name.name (fitted tw v)) (with_place x p (value_at words x s))) (place ∙ sym h.place)
           (named u x r.name.name o (fitted tw v) w (value_at words x s) shown place one);
+      noted = λ u x n shown.
+          ap (λ a. with_read n (narrow_address a)) (h.asked u x shown.names)
+          ∙ sym (ap (λ b. cond b (with_read n (narrow_address (asked_in t u r))) n) (sym (ap (λ v. nat_le 1 v && nat_le v 64) width) ∙ test));
       space = let a = h.space in omega (arith, a);
     }
 
@@ -213,6 +219,7 @@ module _ (t : Laid) where
           let z : value_of (leaf.Word 0) x.names ≡ 0 = ap (λ (g : List ℕ → ℕ). g x.names) (code-Word (List ℕ → ℕ) value_level 0) in
           subst (λ y. IsShown (with_width ws o 1) (with_name t u r.name.name y) (with_place x o (value_of (leaf.Word 0) x.names))) (sym f)
           (named u x r.name.name o zero_bit 1 (value_of (leaf.Word 0) x.names) shown place (subst (Holds (Some zero_bit) 1) (sym z) zero_held));
+      noted = λ u x n shown. sym (ap (λ b. cond b (with_read n (narrow_address (asked_in t u r))) n) (sym (ap (λ v. nat_le 1 v && nat_le v 64) width) ∙ bad));
       space = omega (arith, code-Word ℕ space_level 0);
     }
 
@@ -220,6 +227,7 @@ module _ (t : Laid) where
         → o ≡ position (is_same_name n.name) t.names → IsCode t ws e c → Does t ws k (record { step = moves.Let o c.code; place = o; width = c.width })
     does_let k n e o c is place h = subst (λ x. Does t ws x (record { step = moves.Let o c.code; place = o; width = c.width })) (sym is) (record {
       after = λ words u r fit shown. named u r n.name o (word_in t u e) c.width (value_of c.code r.names) shown place (h.value u r.names shown.names);
+      noted = λ u r n shown. refl;
       space = h.space;
     })
 
@@ -233,6 +241,7 @@ module _ (t : Laid) where
             ∙ ap (set u.pipes (number_of t.pipes n.name)) (number (word_in t u e) c.width (value_of c.code r.names) (h.value u r.names shown.names));
         results = shown.results;
       };
+      noted = λ u r n shown. refl;
       space = h.space;
     }))
 
@@ -262,15 +271,16 @@ module _ (t : Laid) where
           (target_shown u r (result_named t.decls n.name) x shown)) in
           subst (λ b. IsShown ws (cond (holds t u when) (with_result t u (result_named t.decls n.name) x) u) (cond b (with_target r i v) r)) (sym (g.holds u r shown.names))
           (either_shown (holds t u when) u (with_result t u (result_named t.decls n.name) x) r (with_target r i v) shown there);
+      noted = λ u r n shown. refl;
       space = let a = h.space in let b = g.space in omega (arith, a, b);
     }))
 
     pub does_nothing : (k : StmtKind) (n : tree.Named) (e : Expr) (m : Made) → k ≡ stmts.Aim n e → m ≡ unnamed moves.Nothing → Does t ws k m
-    does_nothing k n e m is made = subst (λ x. Does t ws x m) (sym is) (subst (λ x. Does t ws (stmts.Aim n e) x) (sym made) (record { after = λ words u r fit shown. shown; space = omega arith }))
+    does_nothing k n e m is made = subst (λ x. Does t ws x m) (sym is) (subst (λ x. Does t ws (stmts.Aim n e) x) (sym made) (record { after = λ words u r fit shown. shown; noted = λ u r n shown. refl; space = omega arith }))
 
   -- some steps, and one more
   pub no_steps : (ws : List (Option ℕ)) → DoesAll t ws [] [] ws
-  no_steps ws = record { shown = λ words u r fit h. h; space = omega arith }
+  no_steps ws = record { shown = λ words u r fit h. h; noted = λ words u r n fit h. refl; space = omega arith }
 
   steps_last : (words : List (List ℕ)) (r : Raw) (ss : List Step) (s : Step) → after_steps words r (ss ++ s ∷ []) ≡ after_step words (after_steps words r ss) s
   steps_last words r [] s = refl
@@ -279,6 +289,16 @@ module _ (t : Laid) where
   stmts_last : (words : List (List ℕ)) (u : Under) (xs : List Stmt) (x : Stmt) → after_stmts t words u (xs ++ x ∷ []) ≡ after_stmt t words (after_stmts t words u xs) x.kind
   stmts_last words u [] x = refl
   stmts_last words u (y ∷ xs) x = stmts_last words (after_stmt t words u y.kind) xs x
+
+  steps_noted : (words : List (List ℕ)) (r : Raw) (n : Noted) (ss : List Step) (s : Step)
+      → note_steps words r n (ss ++ s ∷ []) ≡ note_step (after_steps words r ss) (note_steps words r n ss) s
+  steps_noted words r n [] s = refl
+  steps_noted words r n (x ∷ ss) s = steps_noted words (after_step words r x) (note_step r n x) ss s
+
+  stmts_noted : (words : List (List ℕ)) (u : Under) (n : Noted) (xs : List Stmt) (x : Stmt)
+      → note_stmts t words u n (xs ++ x ∷ []) ≡ note_stmt t (after_stmts t words u xs) (note_stmts t words u n xs) x.kind
+  stmts_noted words u n [] x = refl
+  stmts_noted words u n (y ∷ xs) x = stmts_noted words (after_stmt t words u y.kind) (note_stmt t u n y.kind) xs x
 
   sum_last : {X : Type 0} (f : X → ℕ) (xs : List X) (x : X) → sum_by f (xs ++ x ∷ []) ≡ sum_by f xs + f x
   sum_last f [] x = omega (arith, sum_by-cons f x [])
@@ -291,6 +311,11 @@ module _ (t : Laid) where
         subst (λ y. IsShown (with_width mid m.place m.width) y (after_steps words r (ss ++ m.step ∷ []))) (sym (stmts_last words u xs x))
         (subst (λ y. IsShown (with_width mid m.place m.width) (after_stmt t words (after_stmts t words u xs) x.kind) y) (sym (steps_last words r ss m.step))
         (one.after words (after_stmts t words u xs) (after_steps words r ss) fit (h.shown words u r fit shown)));
+    noted = λ words u r n fit shown.
+        steps_noted words r n ss m.step
+        ∙ ap (λ y. note_step (after_steps words r ss) y m.step) (h.noted words u r n fit shown)
+        ∙ one.noted (after_stmts t words u xs) (after_steps words r ss) (note_stmts t words u n xs) (h.shown words u r fit shown)
+        ∙ sym (stmts_noted words u n xs x);
     space = let a = h.space in let b = one.space in omega (arith, a, b, sum_last step_space ss m.step, sum_last (size_of_stmt t.decls) xs x);
   }
 

@@ -32,7 +32,10 @@ use Rattle.kp_seq.specs.inner.Fits.{FitSlots}
 use Rattle.kp_seq.specs.inner.Ready.{AreTables, HasPlaces, HasRoom}
 use Rattle.kp_seq.specs.declared.program.Step.{Step}
 use Rattle.kp_seq.specs.declared.tables.Port.{Port}
-use Rattle.kp_seq.specs.inner.Resolved.{Outline, Raw, Resolves, AllDo, DoesStage, after_steps, entered_at, entry_widths, after_stages, begun_at, outputs, ran}
+use Rattle.kp_seq.specs.inner.Resolved.{Outline, Raw, Resolves, AllDo, DoesStage, after_steps, entered_at, entry_widths, after_stages, begun_at, outputs, ran, note_steps, note_stages, noted}
+use Rattle.kp_seq.specs.Told.{where_true}
+use Rattle.kp_seq.specs.declared.notes.Outlet.{Outlet}
+use Rattle.kp_seq.specs.inner.Notes.{Noted, begun_notes, changed_from, narrowed, with_marks, write_noted, setting_noted, with_results, note_stmts, note_blocks}
 use Rattle.kp_seq.proofs.Resolved.{suits_length}
 use Rattle.kp_seq.proofs.Lengths.{SameLengths, begun_same, block_same}
 use Rattle.kp_seq.proofs.Trees.{seen, no_hints, nexts, stage_runs}
@@ -48,7 +51,7 @@ as_under r = record { names = replicate (length r.names) None; pipes = r.pipes; 
 pub as_placed : (t : Laid) (r : Raw) → HasRoom t r → HasPlaces t (as_under r)
 as_placed t r h = let none : Option Word = None in record { names = length-replicate (length r.names) none ∙ h.names; pipes = h.pipes; results = h.results }
 
-still_placed : (t : Laid) (u v : Under) → SameLengths u v → HasPlaces t u → HasPlaces t v
+pub still_placed : (t : Laid) (u v : Under) → SameLengths u v → HasPlaces t u → HasPlaces t v
 still_placed t u v s h = record { names = s.names ∙ h.names; pipes = s.pipes ∙ h.pipes; results = s.results ∙ h.results }
 
 -- an instruction in numbers has the pipes and the results of an instruction
@@ -80,6 +83,23 @@ module _ (u : Under) (names : List (Option Word)) where
   written_same words i [] = refl
   written_same words i (p ∷ ps) = ap (λ ws. written_from other ws (i + 1) ps) (port_same words i p) ∙ written_same (written_by u words i p) (i + 1) ps
 
+-- so is what is noted of the results
+write_same : (u : Under) (names : List (Option Word)) (o : Outlet) → write_noted (record { names = names; pipes = u.pipes; results = u.results }) o ≡ write_noted u o
+write_same u names o =
+    ap (λ b. where_true b (narrowed 32 (address_by (other u names) o.address))) (enabled_same u names o.enable)
+    ∙ ap (λ a. where_true (is_enabled u o.enable) (narrowed 32 a)) (address_same u names o.address)
+
+results_same : (u : Under) (names : List (Option Word)) (n : Noted) → with_results (record { names = names; pipes = u.pipes; results = u.results }) n ≡ with_results u n
+results_same u names n =
+    ap (λ (g : Outlet → Option ℕ). record n { writes = changed_from (λ i o old. g o) None n.writes 0 n.outlets; settings = changed_from (λ i o old. setting_noted (get_or n.set_in i None) o) 0 n.settings 0 n.outlets })
+    (λ i o. write_same u names o i)
+
+results_by_numbers : (t : Laid) (u : Under) (r : Raw) → Follows t u r → (n : Noted) → with_results (outputs r) n ≡ with_results u n
+results_by_numbers t u r h n =
+    ap (λ pipes. with_results (record { names = []; pipes = pipes; results = r.results }) n) h.pipes
+    ∙ ap (λ results. with_results (record { names = []; pipes = u.pipes; results = results }) n) h.results
+    ∙ results_same u [] n
+
 written_by_numbers : (t : Laid) (u : Under) (r : Raw) → Follows t u r → (words : List (List ℕ)) (ps : List (Option Port)) → written_from (outputs r) words 0 ps ≡ written_from u words 0 ps
 written_by_numbers t u r h words ps =
     ap (λ pipes. written_from (record { names = []; pipes = pipes; results = r.results }) words 0 ps) h.pipes
@@ -88,7 +108,7 @@ written_by_numbers t u r h words ps =
 
 module _ (job : Job) (unbroken : Unbroken (widths_of job)) (kept : broken_of job ≡ None) (t : Laid) (tables : AreTables job t) (rule : _) (is25 : slice_get all_rules 10 ≡ Some rule) (words : List (List ℕ)) (fit : FitSlots (targets_of job.decls) words) (row : List Word) (fits : AreSamples job.decls row) where
   -- the instruction of the abstract machine before a stage
-  abbrev before : ℕ → Instruction
+  abbrev pub before : ℕ → Instruction
   before k = before_stage (machine_of job) (state_in words) (values_in row) k
 
   stage_is : (k : ℕ) (b : Block) → slice_get job.blocks k ≡ Some b
@@ -97,12 +117,12 @@ module _ (job : Job) (unbroken : Unbroken (widths_of job)) (kept : broken_of job
   stage_is k b e = ap (λ o. after_stage (before k) (run (seen job.decls (state_in words)) (no_hints job.decls (state_in words)) (tree_of job.decls (trees.entered job.decls (values_in row) (before k).pipes) (stmts_in o)))) e
 
   -- what holds before a stage with this scope, and after it
-  record Reached (k : ℕ) (s : Scoped) (u : Under) : Type 0 where
+  pub record Reached (k : ℕ) (s : Scoped) (u : Under) : Type 0 where
     pub of_text : s.text ≡ text job unbroken
     pub ended : Ended job.decls (before k) u
     pub places : HasPlaces t u
 
-  block_end : (k : ℕ) (b : Block) (s : Scoped) (u : Under) → slice_get job.blocks k ≡ Some b → Unbroken (statements_of job.decls (opened s (scopes.Stage k)) b.stmts)
+  pub block_end : (k : ℕ) (b : Block) (s : Scoped) (u : Under) → slice_get job.blocks k ≡ Some b → Unbroken (statements_of job.decls (opened s (scopes.Stage k)) b.stmts)
       → Reached k s u → Reached (suc k) (statements_of job.decls (opened s (scopes.Stage k)) b.stmts).value (after_block t words row u b)
   block_end k b s u at right h =
       let c = before k in
@@ -137,7 +157,7 @@ module _ (job : Job) (unbroken : Unbroken (widths_of job)) (kept : broken_of job
       x.1 reached)
 
   -- after the last stage
-  all_ended : (u : Under) → HasPlaces t u → Ended job.decls (before (machine_of job).stages) (after_blocks t words row (begun u) job.blocks)
+  pub all_ended : (u : Under) → HasPlaces t u → Ended job.decls (before (machine_of job).stages) (after_blocks t words row (begun u) job.blocks)
   unfolding machine_of before_stage
   all_ended u places =
       let d = declarations_of job.decls 0 0 nothing job.decls in
@@ -152,7 +172,7 @@ module _ (job : Job) (unbroken : Unbroken (widths_of job)) (kept : broken_of job
 
   -- in numbers: a stage, and all
   module _ (o : Outline) (resolved : Resolves t job.blocks o) where
-    block_follows : (k : ℕ) (b : Block) (s : Scoped) (u : Under) (r : Raw) (ss : List Step) → Reached k s u → Follows t u r → DoesStage t (entry_widths t) b.stmts ss
+    pub block_follows : (k : ℕ) (b : Block) (s : Scoped) (u : Under) (r : Raw) (ss : List Step) → Reached k s u → Follows t u r → DoesStage t (entry_widths t) b.stmts ss
         → Follows t (after_block t words row u b) (after_steps words (entered_at o row r) ss)
     block_follows k b s u r ss h f d =
         let there = shown job unbroken t tables rule is25 k words fit row fits s (before k) u h.ended h.places.names o resolved.samples resolved.pipes r f.names f.pipes f.results in
@@ -178,6 +198,34 @@ module _ (job : Job) (unbroken : Unbroken (widths_of job)) (kept : broken_of job
         (λ i v e. let w : k + suc i ≡ (k + 1) + i = omega arith in subst (λ n. slice_get job.blocks n ≡ Some v) w (at (suc i) v e))
         y.1 reached (block_follows k b s u r x h f d.0) d.1
 
+    -- what is noted too
+    block_notes : (k : ℕ) (b : Block) (s : Scoped) (u : Under) (r : Raw) (n : Noted) (ss : List Step) → Reached k s u → Follows t u r → DoesStage t (entry_widths t) b.stmts ss
+        → note_steps words (entered_at o row r) n ss ≡ note_stmts t words (entered t row u) n b.stmts
+    block_notes k b s u r n ss h f d =
+        let there = shown job unbroken t tables rule is25 k words fit row fits s (before k) u h.ended h.places.names o resolved.samples resolved.pipes r f.names f.pipes f.results in
+        d.1.noted words (entered t row u) (entered_at o row r) n (subst (λ xs. FitSlots xs words) (sym tables.targets) fit) there
+
+    blocks_noted : (k : ℕ) (bs : List Block) (s : Scoped) (u : Under) (r : Raw) (n : Noted) (ss : List (List Step)) → ((i : ℕ) (b : Block) → slice_get bs i ≡ Some b → slice_get job.blocks (k + i) ≡ Some b)
+        → Unbroken (blocks_of job.decls k s bs) → Reached k s u → Follows t u r → AllDo t (entry_widths t) bs ss → note_stages o words row k r n ss ≡ note_blocks t words row k u n bs
+    blocks_noted k [] s u r n ss at right h f d = ap (note_stages o words row k r n) d
+    blocks_noted k (b ∷ bs) s u r n [] at right h f d = absurd d
+    blocks_noted k (b ∷ bs) s u r n (x ∷ ss) at right h f d =
+        let z : k + 0 ≡ k = omega arith in
+        let next : suc k ≡ k + 1 = omega arith in
+        let here : slice_get job.blocks k ≡ Some b = subst (λ i. slice_get job.blocks i ≡ Some b) z (at 0 b refl) in
+        let y = bind_unbroken (statements_of job.decls (opened s (scopes.Stage k)) b.stmts) (λ y. blocks_of job.decls (k + 1) y bs) right in
+        let after : Scoped = (statements_of job.decls (opened s (scopes.Stage k)) b.stmts).value in
+        let w = after_block t words row u b in
+        let v = after_steps words (entered_at o row r) x in
+        let reached = subst (λ i. Reached i after w) next (block_end k b s u here y.0 h) in
+        let follows = block_follows k b s u r x h f d.0 in
+        let m = note_stmts t words (entered t row u) n b.stmts in
+        ap (λ c. note_stages o words row (k + 1) v (with_marks k (outputs v) c) ss) (block_notes k b s u r n x h f d.0)
+        ∙ ap (λ (results : List (Option ℕ)). note_stages o words row (k + 1) v (with_marks k (record { names = []; pipes = v.pipes; results = results }) m) ss) follows.results
+        ∙ blocks_noted (k + 1) bs after w v (with_marks k w m) ss
+        (λ i c e. let q : k + suc i ≡ (k + 1) + i = omega arith in subst (λ j. slice_get job.blocks j ≡ Some c) q (at (suc i) c e))
+        y.1 reached follows d.1
+
     pub all_follow : (u : Under) (r : Raw) → HasPlaces t u → Follows t u r → Follows t (after_blocks t words row (begun u) job.blocks) (after_stages o words row (begun_at r) o.stages)
     unfolding machine_of before_stage
     all_follow u r places f =
@@ -200,6 +248,30 @@ module _ (job : Job) (unbroken : Unbroken (widths_of job)) (kept : broken_of job
     pub ran_is : (u : Under) (r : Raw) → HasPlaces t u → Follows t u r → ran o t.ports row r words ≡ executed t row u job.blocks words
     ran_is u r places f =
         written_by_numbers t (after_blocks t words row (begun u) job.blocks) (after_stages o words row (begun_at r) o.stages) (all_follow u r places f) words t.ports
+
+    pub noted_is : (u : Under) (r : Raw) (n : Noted) → HasPlaces t u → Follows t u r
+        → noted o words row r n ≡ with_results (after_blocks t words row (begun u) job.blocks) (note_blocks t words row 0 (begun u) (begun_notes n) job.blocks)
+    unfolding machine_of before_stage
+    noted_is u r n places f =
+        let d = declarations_of job.decls 0 0 nothing job.decls in
+        let more = (bind_unbroken d (λ s. blocks_of job.decls 0 s job.blocks >>= (λ y. ok y.entries)) unbroken).1 in
+        let right = (bind_unbroken (blocks_of job.decls 0 d.value job.blocks) (λ y. ok y.entries) more).0 in
+        let zero : ℕ = 0 in
+        let none : Option ℕ = None in
+        let w = after_blocks t words row (begun u) job.blocks in
+        let v = after_stages o words row (begun_at r) o.stages in
+        let follows = all_follow u r places f in
+        ap (with_results (outputs v)) (blocks_noted 0 job.blocks d.value (begun u) (begun_at r) (begun_notes n) o.stages
+        (λ i b e. let q : i ≡ 0 + i = omega arith in subst (λ j. slice_get job.blocks j ≡ Some b) q e)
+        right
+        (record { of_text = refl; ended = begun_ended job.decls u; places = still_placed t u (begun u) (begun_same t u) places })
+        (record {
+          names = f.names;
+          pipes = ap (λ (xs : List ℕ). replicate (length xs) zero) f.pipes;
+          results = ap (λ (xs : List (Option ℕ)). replicate (length xs) none) f.results;
+        })
+        resolved.stages)
+        ∙ results_by_numbers t w v follows (note_blocks t words row 0 (begun u) (begun_notes n) job.blocks)
 
   -- an instruction leaves the state after it, and its words fit the targets
   pub step_state : (u : Under) → HasPlaces t u → state_in (executed t row u job.blocks words) ≡ after_one job (state_in words) row

@@ -8,8 +8,10 @@ use Rattle.kp_ast.specs.declared.tree.StmtKind.{StmtKind}
 use Rattle.kp_ast.specs.declared.tree.StmtKind.TheVariants as stmts
 use Rattle.kp_law.specs.Machine.{Tree, Done}
 use Rattle.kp_law.specs.Sequential.{StageOutcome, run}
-use Rattle.kp_machine.specs.Slots.{targets_of, pipes_of, hints_of, number_of, result_named}
-use Rattle.kp_machine.specs.Trees.{Progress, holds, value_of, address_of, value_with_hints, word_of, word_read, with_name, with_put, with_set, with_aim, read_of, statement_of, tree_of}
+use Rattle.kp_machine.specs.Slots.{targets_of, number_of, result_named}
+use Rattle.kp_machine.specs.Trees.{Progress, holds, value_of, word_read, with_name, with_set, read_of, statement_of, tree_of}
+use Rattle.kp_seq.specs.Told.{done_after}
+use Rattle.kp_seq.specs.Told as told
 
 module _ (ds : List Decl) (s : ℕ → ℕ → ℕ) where
   -- what a stage sees
@@ -20,20 +22,15 @@ module _ (ds : List Decl) (s : ℕ → ℕ → ℕ) where
   no_hints h = 0
 
   abbrev pub address_read : Progress → ReadStmt → Option Expr → ℕ
-  address_read done r None = address_of ds done r.address
-  address_read done r (Some e) = 0
+  address_read = told.address_read ds
 
   -- what a read gives
   abbrev pub value_read : Progress → ReadStmt → ℕ
-  value_read done r = cond (holds ds done r.when) (s (number_of (targets_of ds) r.target.name) (address_read done r r.guess)) 0
+  value_read = told.value_read ds s
 
   -- what is done after a statement
   abbrev pub next : Progress → StmtKind → Progress
-  next done (stmts.Read r) = with_name done r.name.name (word_read ds r (value_read done r))
-  next done (stmts.Let n e) = with_name done n.name (word_of ds done e)
-  next done (stmts.Put n e) = with_put done (number_of (pipes_of ds) n.name) (value_of ds done e)
-  next done (stmts.Set n e when) = cond (holds ds done when) (with_set ds done (result_named ds n.name) (value_of ds done e)) done
-  next done (stmts.Aim n e) = with_aim done (number_of (hints_of ds) n.name) (value_with_hints ds done e)
+  next = done_after ds s
 
   abbrev pub nexts : Progress → List Stmt → Progress
   nexts done [] = done

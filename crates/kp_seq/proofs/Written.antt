@@ -202,16 +202,16 @@ module _ (job : Job) (unbroken : Unbroken (widths_of job)) (t : Laid) (tables : 
       (cases_lt x (length (targets_of job.decls)))
 
   module _ (c : Instruction) (u : Under) (done : Ended job.decls c u) where
-    enabled_same : (o : Option Named) → is_enabled u (pipe_number (pipes_of job.decls) o) ≡ is_enabled_by (pipes_of job.decls) c.pipes o
+    pub enabled_same : (o : Option Named) → is_enabled u (pipe_number (pipes_of job.decls) o) ≡ is_enabled_by (pipes_of job.decls) c.pipes o
     enabled_same None = refl
     enabled_same (Some n) = ap (λ v. v == 1) (done.pipes (number_of (pipes_of job.decls) n.name))
 
-    address_same : (o : Option Named) → address_by u (pipe_number (pipes_of job.decls) o) ≡ machines.address_by (pipes_of job.decls) c.pipes o
+    pub address_same : (o : Option Named) → address_by u (pipe_number (pipes_of job.decls) o) ≡ machines.address_by (pipes_of job.decls) c.pipes o
     address_same None = refl
     address_same (Some n) = done.pipes (number_of (pipes_of job.decls) n.name)
 
     -- a value of an address pipe is an address
-    address_fits : (w : ℕ) (o : Option Named) → PipeFits (text job unbroken) w o → address_by u (pipe_number (pipes_of job.decls) o) < 2 ^ w
+    pub address_fits : (w : ℕ) (o : Option Named) → PipeFits (text job unbroken) w o → address_by u (pipe_number (pipes_of job.decls) o) < 2 ^ w
     address_fits w None h = pow_pos w
     address_fits w (Some n) h =
         let at = (placed job unbroken n.name h.0 h.1).pipe h.2 in

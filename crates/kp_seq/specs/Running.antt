@@ -5,11 +5,13 @@ use Rattle.kp_ast.specs.declared.tree.Job.{Job}
 use Rattle.kp_law.specs.Sequential.{exec}
 use Rattle.kp_machine.specs.Machine.{machine_of, values_in}
 use Rattle.kp_machine.specs.Slots.{Slot, targets_of}
+use Rattle.kp_seq.specs.Told.{Told}
 
--- a job, and the words of the targets of its machine
+-- a job, the words of the targets of its machine, and what is told of the last instruction; before the first that says nothing
 pub record Running : Type 0 where
   pub job : Job
   pub words : List (List ℕ)
+  pub last : Told
 
 -- what stands for a target where there is none
 abbrev pub no_slot : Slot

@@ -5,3 +5,4 @@ pub mod Names
 pub mod Fits
 pub mod Resolved
 pub mod Ready
+pub mod Notes

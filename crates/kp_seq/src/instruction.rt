@@ -3,8 +3,9 @@ ghost use Rattle.std.specs.Prelude.{◌≡◌, ◌≤◌, ◌+◌, None, length,
 ghost use Rattle.kp_plan.specs.Codes.{value_of, space_of};
 ghost use Rattle.kp_seq.specs.inner.Ready.{HasRoom};
 ghost use Rattle.kp_seq.specs.inner.Steps.{is_enabled, address_by, written_by, written_from};
-ghost use Rattle.kp_seq.specs.inner.Resolved.{outputs, holds_at, address_at, value_at, with_place, put_pipe, set_first, with_target, begun_at, after_step, after_steps, with_row_at, with_carried, entered_at, after_stages, ran, option_space, step_space, steps_space};
+ghost use Rattle.kp_seq.specs.inner.Resolved.{outputs, holds_at, address_at, asked_at, value_asked, note_step, note_steps, note_stages, noted, with_place, put_pipe, set_first, with_target, begun_at, after_step, after_steps, with_row_at, with_carried, entered_at, after_stages, ran, option_space, step_space, steps_space};
 
+use crate::notes::Notes;
 use crate::program::{Program, Reading, Step};
 use crate::tables::{Port, Tables};
 use crate::words::Words;
@@ -133,7 +134,7 @@ impl Instruction {
     }
 }
 
-/// Runs one instruction on these words, with these words of the samples.
+/// Runs one instruction on these words, with these words of the samples, and notes what its reads and results do.
 pub(crate) fn execute(
     tables: &Tables,
     program: &Program,
@@ -141,14 +142,18 @@ pub(crate) fn execute(
     under: &mut Instruction,
     room: &mut [u64],
     words: &mut Words,
+    notes: &mut Notes,
 )
     requires { All (λ s. steps_space s ≤ length room.old) program.now.stages }
     ensures words { words.new ≡ ran program.now tables.now.ports row.now under.old words.old }
     ensures under { under.new ≡ after_stages program.now words.old row.now (begun_at under.old) program.now.stages }
     ensures room { length room.new ≡ length room.old }
+    ensures notes { notes.new ≡ noted program.now words.old row.now under.old notes.old }
 {
     under.begin();
-    run_stages(program, row, under, room, words);
+    notes.begin();
+    run_stages(program, row, under, room, words, notes);
+    notes.end(under);
     write(tables, under, words);
 }
 
@@ -158,36 +163,55 @@ fn run_stages(
     under: &mut Instruction,
     room: &mut [u64],
     words: &Words,
+    notes: &mut Notes,
 )
     requires { All (λ s. steps_space s ≤ length room.old) program.now.stages }
     ensures under { under.new ≡ after_stages program.now words.now row.now under.old program.now.stages }
     ensures room { length room.new ≡ length room.old }
+    ensures notes { notes.new ≡ note_stages program.now words.now row.now 0 under.old notes.old program.now.stages }
 {
     let stages = program.stages.as_slice();
-    for steps in stages {
+    for k in 0..stages.len() {
         under.enter(program, row);
-        run_steps(under, room, steps.as_slice(), words);
+        run_steps(under, room, stages[k].as_slice(), words, notes);
+        notes.end_stage(k as u64, under);
     }
 }
 
-fn run_steps(under: &mut Instruction, room: &mut [u64], steps: &[Step], words: &Words)
+fn run_steps(
+    under: &mut Instruction,
+    room: &mut [u64],
+    steps: &[Step],
+    words: &Words,
+    notes: &mut Notes,
+)
     requires { steps_space steps.now ≤ length room.old }
     ensures under { under.new ≡ after_steps words.now under.old steps.now }
     ensures room { length room.new ≡ length room.old }
+    ensures notes { notes.new ≡ note_steps words.now under.old notes.old steps.now }
 {
     for step in steps {
-        run_step(under, room, step, words);
+        run_step(under, room, step, words, notes);
     }
 }
 
-fn run_step(under: &mut Instruction, room: &mut [u64], step: &Step, words: &Words)
+fn run_step(
+    under: &mut Instruction,
+    room: &mut [u64],
+    step: &Step,
+    words: &Words,
+    notes: &mut Notes,
+)
     requires { step_space step.now ≤ length room.old }
     ensures under { under.new ≡ after_step words.now under.old step.now }
     ensures room { length room.new ≡ length room.old }
+    ensures notes { notes.new ≡ note_step under.old notes.old step.now }
 {
     match step {
         Step::Read(reading) => {
-            let value = value_read(under, room, reading, words);
+            let asked = asked(under, room, reading);
+            notes.read(asked);
+            let value = value_read(reading, asked, words);
             under.bind(reading.place, value);
         }
         Step::Let(place, code) => {
@@ -224,20 +248,29 @@ fn set_result(
     }
 }
 
-// What a read gives: 0 where its condition fails. A guess is of a register, which is read at address 0.
-fn value_read(under: &Instruction, room: &mut [u64], reading: &Reading, words: &Words) -> u64
+// The address of a read, or None where its condition fails.
+fn asked(under: &Instruction, room: &mut [u64], reading: &Reading) -> Option<u64>
     requires { option_space reading.now.address + option_space reading.now.when ≤ length room.old }
-    ensures value { result ≡ value_at words.now under.now reading.now }
+    ensures value { result ≡ asked_at under.now reading.now }
     ensures room { length room.new ≡ length room.old }
 {
-    if !holds(under, room, &reading.when) {
-        return 0;
+    if holds(under, room, &reading.when) {
+        return Some(address(under, room, &reading.address));
     }
-    if reading.is_guessed {
-        return words.word(reading.target, 0);
+    None
+}
+
+// What a read gives: 0 where its condition fails. A guess is of a register, which is read at address 0.
+fn value_read(reading: &Reading, asked: Option<u64>, words: &Words) -> u64
+    ensures { result ≡ value_asked words.now reading.now asked }
+{
+    match asked {
+        Some(address) => {
+            let at = if reading.is_guessed { 0 } else { address };
+            words.word(reading.target, at)
+        }
+        None => 0,
     }
-    let address = address(under, room, &reading.address);
-    words.word(reading.target, address)
 }
 
 fn holds(under: &Instruction, room: &mut [u64], when: &Option<Code>) -> bool
@@ -291,8 +324,8 @@ fn write_target(under: &Instruction, words: &mut Words, t: usize, port: Option<P
     }
 }
 
-// A result is enabled where its enable pipe is 1, and where it has none.
-fn is_enabled(under: &Instruction, enable: Option<usize>) -> bool
+/// A result is enabled where its enable pipe is 1, and where it has none.
+pub(crate) fn is_enabled(under: &Instruction, enable: Option<usize>) -> bool
     ensures { result ≡ is_enabled (outputs under.now) enable }
 {
     match enable {
@@ -301,7 +334,8 @@ fn is_enabled(under: &Instruction, enable: Option<usize>) -> bool
     }
 }
 
-fn address_by(under: &Instruction, address: Option<usize>) -> u64
+/// The address at which a result writes: that in its address pipe, or 0.
+pub(crate) fn address_by(under: &Instruction, address: Option<usize>) -> u64
     ensures { result ≡ address_by (outputs under.now) address }
 {
     match address {

@@ -4,6 +4,7 @@
 mod instruction;
 pub mod laws;
 mod machine;
+mod notes;
 mod program;
 mod tables;
 mod words;

@@ -1,11 +1,13 @@
-ghost use Rattle.std.specs.Prelude.{◌≡◌, [], IfOk};
+ghost use Rattle.std.specs.Prelude.{◌≡◌, ◌<◌, [], IfOk, None, length, get_or};
 ghost use Rattle.kp_stage.specs.Start.{IsStartOf, AreSamples};
 ghost use Rattle.kp_machine.specs.Slots.{samples_of};
-ghost use Rattle.kp_machine.specs.Machine.{state_of};
+ghost use Rattle.kp_machine.specs.Machine.{state_of, values_in};
 ghost use Rattle.kp_seq.specs.Running.{HasWord, state, after_one, word_shown};
+ghost use Rattle.kp_seq.specs.Told.{told_of};
 ghost use Rattle.kp_seq.specs.inner.Steps.{zero_bit, fitted};
 
 use crate::instruction::{Instruction, execute};
+use crate::notes::Notes;
 use crate::program::Program;
 use crate::tables::Tables;
 use crate::words::Words;
@@ -24,6 +26,7 @@ pub struct SeqMachine<'a> {
     under: Instruction,
     room: Vec<u64>,
     words: Words,
+    notes: Notes,
 }
 
 impl<'a> Model for SeqMachine<'a> {
@@ -31,15 +34,16 @@ impl<'a> Model for SeqMachine<'a> {
     ghost use Rattle.std.specs.Prelude.{length};
     ghost use Rattle.kp_ast.specs.contracts.tree.ExprKind as e;
     ghost use Rattle.kp_seq.specs.Running.{Running};
+    ghost use Rattle.kp_seq.specs.inner.Notes.{told_by};
     ghost use Rattle.kp_seq.specs.inner.Ready.{IsReady};
 
     ghost Value = { Running };
 
     ghost coded = { Prim.hlevel (codes, e.the_row.coded) };
 
-    ghost view = { λ m. record { job = m.design.now.job; words = m.words } };
+    ghost view = { λ m. record { job = m.design.now.job; words = m.words; last = told_by m.notes } };
 
-    ghost invariant = { λ m. IsReady m.design.now.job m.tables m.program m.under (length m.room.items) m.words };
+    ghost invariant = { λ m. IsReady m.design.now.job m.tables m.program m.under (length m.room.items) m.words m.notes };
 }
 
 impl<'a> SeqMachine<'a> {
@@ -54,6 +58,7 @@ impl<'a> SeqMachine<'a> {
         let under = Instruction::new(alloc, &tables)?;
         let room = vec![in alloc; 0; d.summary().size as usize]?;
         let words = Words::start(alloc, d.job().decls.as_slice(), start)?;
+        let notes = Notes::new(alloc, &tables, d.summary().reads as usize)?;
         Ok(SeqMachine {
             design: d,
             tables,
@@ -61,6 +66,7 @@ impl<'a> SeqMachine<'a> {
             under,
             room,
             words,
+            notes,
         })
     }
 
@@ -74,6 +80,7 @@ impl<'a> SeqMachine<'a> {
         let under = Instruction::new(alloc, &tables)?;
         let room = vec![in alloc; 0; self.room.len()]?;
         let words = self.words.copied(alloc)?;
+        let notes = self.notes.copied(alloc)?;
         Ok(SeqMachine {
             design: self.design,
             tables,
@@ -81,6 +88,7 @@ impl<'a> SeqMachine<'a> {
             under,
             room,
             words,
+            notes,
         })
     }
 
@@ -90,6 +98,7 @@ impl<'a> SeqMachine<'a> {
         requires { samples_of self.old.job.decls ≡ [] }
         ensures job { self.new.job ≡ self.old.job }
         ensures state { state self.new ≡ after_one self.old.job (state self.old) [] }
+        ensures told { self.new.last ≡ told_of self.old.job (state self.old) (λ x. 0) }
     {
         self.step_with(&[]);
     }
@@ -100,6 +109,7 @@ impl<'a> SeqMachine<'a> {
         requires { AreSamples self.old.job.decls row.now }
         ensures job { self.new.job ≡ self.old.job }
         ensures state { state self.new ≡ after_one self.old.job (state self.old) row.now }
+        ensures told { self.new.last ≡ told_of self.old.job (state self.old) (values_in row.now) }
     {
         let room = self.room.as_mut_slice();
         execute(
@@ -109,6 +119,7 @@ impl<'a> SeqMachine<'a> {
             &mut self.under,
             room,
             &mut self.words,
+            &mut self.notes,
         );
     }
 
@@ -121,6 +132,33 @@ impl<'a> SeqMachine<'a> {
         let target = target as usize;
         let width = self.tables.target_width(target);
         fitted(width, self.words.word(target, u64::from(address)))
+    }
+
+    /// The address that a read of the last instruction had, 0 for a register, or None exactly where its condition failed. Reads are
+    /// numbered from 0 in text order.
+    pub fn reads(&self, read: u32) -> Option<u32>
+        requires { read < length self.now.last.reads }
+        ensures { result ≡ get_or self.now.last.reads read None }
+    {
+        self.notes.reads()[read as usize]
+    }
+
+    /// The address that a result of the last instruction wrote, 0 for a register, or None exactly where its enable pipe was 0.
+    /// Results are numbered from 0 in the order of declaration.
+    pub fn writes(&self, result_number: u32) -> Option<u32>
+        requires { result_number < length self.now.last.writes }
+        ensures { result ≡ get_or self.now.last.writes result_number None }
+    {
+        self.notes.writes()[result_number as usize]
+    }
+
+    /// The setting stage of a result in the last instruction: the stage of its first enabled set, or its write stage where there was
+    /// none.
+    pub fn setting(&self, result_number: u32) -> u8
+        requires { result_number < length self.now.last.settings }
+        ensures { result ≡ get_or self.now.last.settings result_number 0 }
+    {
+        self.notes.settings()[result_number as usize]
     }
 }
 

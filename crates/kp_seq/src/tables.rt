@@ -150,7 +150,8 @@ fn port_to(decls: &[Decl], targets: &[Slot], pipes: &[Slot], t: usize) -> Option
     None
 }
 
-fn pipe_number(pipes: &[Slot], name: &Option<Named>) -> Option<usize>
+/// The number of the pipe of this name, where there is a name.
+pub(crate) fn pipe_number(pipes: &[Slot], name: &Option<Named>) -> Option<usize>
     ensures { result ≡ pipe_number pipes.now name.now }
 {
     match name {

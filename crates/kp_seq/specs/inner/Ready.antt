@@ -6,6 +6,7 @@ use Rattle.kp_ast.specs.declared.tree.Decl.{Decl}
 use Rattle.kp_ast.specs.declared.tree.Decl.TheVariants as decls
 use Rattle.kp_ast.specs.declared.tree.Job.{Job}
 use Rattle.kp_width.specs.Widths.{widths_of}
+use Rattle.kp_stage.specs.Counts.{summary_of}
 use Rattle.kp_stage.specs.Sizes.{size_of_job}
 use Rattle.kp_stage.specs.Stages.{broken_of}
 use Rattle.kp_machine.specs.Slots.{targets_of, pipes_of, samples_of}
@@ -14,6 +15,7 @@ use Rattle.kp_seq.specs.inner.Tables.{Laid, ports_of}
 use Rattle.kp_seq.specs.inner.Fits.{FitSlots}
 use Rattle.kp_seq.specs.inner.Resolved.{Outline, Raw, Resolves}
 use Rattle.kp_seq.specs.inner.Steps.{Under}
+use Rattle.kp_seq.specs.inner.Notes.{Noted, outlets_of}
 
 -- the tables of a job, in which each name that the job declares has a place
 pub record AreTables (job : Job) (t : Laid) : Type 0 where
@@ -35,7 +37,15 @@ pub record HasRoom (t : Laid) (r : Raw) : Type 0 where
   pub pipes : length r.pipes ≡ length t.pipes
   pub results : length r.results ≡ length t.targets
 
-pub record IsReady (job : Job) (t : Laid) (o : Outline) (r : Raw) (space : ℕ) (held : List (List ℕ)) : Type 0 where
+-- room for the notes: of the results, and of as many reads as the job has
+pub record IsNoted (job : Job) (n : Noted) : Type 0 where
+  pub outlets : n.outlets ≡ outlets_of (targets_of job.decls) (pipes_of job.decls) job.decls
+  pub reads : length n.reads ≡ (summary_of job).reads
+  pub set_in : length n.set_in ≡ length n.outlets
+  pub writes : length n.writes ≡ length n.outlets
+  pub settings : length n.settings ≡ length n.outlets
+
+pub record IsReady (job : Job) (t : Laid) (o : Outline) (r : Raw) (space : ℕ) (held : List (List ℕ)) (n : Noted) : Type 0 where
   pub names : first (widths_of job).asked ≡ None
   pub stages : broken_of job ≡ None
   pub tables : AreTables job t
@@ -43,6 +53,7 @@ pub record IsReady (job : Job) (t : Laid) (o : Outline) (r : Raw) (space : ℕ) 
   pub places : HasRoom t r
   pub room : size_of_job job ≤ space
   pub words : FitSlots (targets_of job.decls) held
+  pub notes : IsNoted job n
 
 -- the words of the targets of these declarations, of which the registers have these values and the files these words
 abbrev pub words_of_start : List Decl → List Word → List (List ℕ) → List (List ℕ)

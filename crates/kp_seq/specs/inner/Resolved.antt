@@ -25,6 +25,8 @@ use Rattle.kp_seq.specs.Running.{state_in}
 use Rattle.kp_seq.specs.inner.Fits.{FitSlots}
 use Rattle.kp_seq.specs.inner.Tables.{Laid}
 use Rattle.kp_seq.specs.inner.Steps.{Under, word_in, holds, address_in, value_read, after_stmt, after_stmts, written_from}
+use Rattle.kp_seq.specs.Told.{where_true}
+use Rattle.kp_seq.specs.inner.Notes.{Noted, narrow_address, begun_notes, with_read, with_marks, with_results, asked_in, note_stmt, note_stmts}
 
 -- the places of the names of the samples and of the pipes, and the steps of each stage
 pub record Outline : Type 0 where
@@ -112,6 +114,36 @@ begun_at r = record { names = r.names; pipes = replicate (length r.pipes) 0; res
 abbrev pub ran : Outline → List (Option Port) → List Word → Raw → List (List ℕ) → List (List ℕ)
 ran o ports row r words = written_from (outputs (after_stages o words row (begun_at r) o.stages)) words 0 ports
 
+-- NOTES. The address of a read, where its condition holds
+abbrev pub asked_at : Raw → Reading → Option ℕ
+asked_at r s = where_true (holds_at r s.when) (address_at r s.address)
+
+-- what the read gives by that
+abbrev pub value_asked : List (List ℕ) → Reading → Option ℕ → ℕ
+value_asked words s None = 0
+value_asked words s (Some a) = state_in words s.target (if s.is_guessed then 0 else a)
+
+abbrev pub note_step : Raw → Noted → Step → Noted
+note_step r n (moves.Read s) = with_read n (narrow_address (asked_at r s))
+note_step r n _ = n
+
+abbrev pub note_steps : List (List ℕ) → Raw → Noted → List Step → Noted
+note_steps words r n [] = n
+note_steps words r n (s ∷ ss) = note_steps words (after_step words r s) (note_step r n s) ss
+
+-- stage k and those after it
+abbrev pub note_stages : Outline → List (List ℕ) → List Word → ℕ → Raw → Noted → List (List Step) → Noted
+note_stages o words row k r n [] = n
+note_stages o words row k r n (s ∷ ss) =
+    let v = entered_at o row r in
+    let w = after_steps words v s in
+    note_stages o words row (k + 1) w (with_marks k (outputs w) (note_steps words v n s)) ss
+
+-- an instruction
+abbrev pub noted : Outline → List (List ℕ) → List Word → Raw → Noted → Noted
+noted o words row r n =
+    with_results (outputs (after_stages o words row (begun_at r) o.stages)) (note_stages o words row 0 (begun_at r) (begun_notes n) o.stages)
+
 -- the room that a step takes
 abbrev pub option_space : Option Code → ℕ
 option_space None = 0
@@ -164,12 +196,14 @@ pub record IsOptionCode (t : Laid) (ws : List (Option ℕ)) (e : Option Expr) (c
 pub record IsReading (t : Laid) (ws : List (Option ℕ)) (r : ReadStmt) (s : Reading) : Type 0 where
   pub place : s.place ≡ position (is_same_name r.name.name) t.names
   pub value : (words : List (List ℕ)) (u : Under) (x : Raw) → AllSuit ws u.names x.names → value_at words x s ≡ value_read t words u r
+  pub asked : (u : Under) (x : Raw) → AllSuit ws u.names x.names → asked_at x s ≡ asked_in t u r
   pub space : option_space s.address + option_space s.when ≤ size_of_option t.decls r.address + size_of_option t.decls r.when
 
 -- a step does what a statement does, and a place has a width after it
 pub record Does (t : Laid) (ws : List (Option ℕ)) (k : StmtKind) (m : Made) : Type 0 where
   pub after : (words : List (List ℕ)) (u : Under) (r : Raw) → FitSlots t.targets words → IsShown ws u r
       → IsShown (with_width ws m.place m.width) (after_stmt t words u k) (after_step words r m.step)
+  pub noted : (u : Under) (r : Raw) (n : Noted) → IsShown ws u r → note_step r n m.step ≡ note_stmt t u n k
   pub space : step_space m.step ≤ size_of_kind t.decls k
 
 abbrev pub DoesRead : Laid → List (Option ℕ) → ReadStmt → Made → Type 0
@@ -182,6 +216,8 @@ unnamed s = record { step = s; place = None; width = 0 }
 pub record DoesAll (t : Laid) (ws : List (Option ℕ)) (xs : List Stmt) (ss : List Step) (after : List (Option ℕ)) : Type 0 where
   pub shown : (words : List (List ℕ)) (u : Under) (r : Raw) → FitSlots t.targets words → IsShown ws u r
       → IsShown after (after_stmts t words u xs) (after_steps words r ss)
+  pub noted : (words : List (List ℕ)) (u : Under) (r : Raw) (n : Noted) → FitSlots t.targets words → IsShown ws u r
+      → note_steps words r n ss ≡ note_stmts t words u n xs
   pub space : steps_space ss ≤ sum_by (size_of_stmt t.decls) xs
 
 abbrev pub DoesStage : Laid → List (Option ℕ) → List Stmt → List Step → Type 0

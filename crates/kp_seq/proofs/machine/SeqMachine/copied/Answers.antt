@@ -1,6 +1,8 @@
 use Rattle.std.proofs.Common.{◌∙◌, ap, subst, sym, arith}
 use Rattle.kp_machine.specs.Slots.{targets_of}
 use Rattle.kp_seq.specs.inner.Fits.{FitSlots}
+use Rattle.kp_seq.specs.inner.Ready.{IsNoted}
+use Rattle.kp_seq.specs.inner.Notes.{Noted, told_by}
 use Rattle.kp_seq.proofs.machine.SeqMachine.copied.Goals as goal
 
 pub invariant_of-result : goal.invariant_of-result
@@ -15,9 +17,12 @@ invariant_of-result c =
       places = c.in_ok-under.ensures;
       room = omega (arith, c.in_ok-room.ensures.len, c.in_ok-room.room.ok.0, m.room.ok.0, i.room);
       words = subst (FitSlots (targets_of m.design.now.job.decls)) (sym c.in_ok-words.ensures) i.words;
+      notes = subst (IsNoted m.design.now.job) (sym c.in_ok-notes.ensures) i.notes;
     }
 
 pub returns : goal.returns
 returns c =
     let m = c.self.inside in
-    ap (λ words. record { job = m.design.now.job; words = words }) c.in_ok-words.ensures ∙ c.self.view_is
+    ap (λ words. record { job = m.design.now.job; words = words; last = told_by c.in_ok-notes.notes }) c.in_ok-words.ensures
+    ∙ ap (λ (n : Noted). record { job = m.design.now.job; words = m.words; last = told_by n }) c.in_ok-notes.ensures
+    ∙ c.self.view_is

@@ -5,12 +5,17 @@ use Rattle.kp_stage.specs.Sizes.{size_of_block, size_of_job}
 use Rattle.kp_stage.specs.Start.{AreSamples}
 use Rattle.kp_machine.specs.Slots.{targets_of}
 use Rattle.kp_seq.specs.Running.{Running, state, state_in, after_one}
-use Rattle.kp_seq.specs.inner.Steps.{Under, executed}
+use Rattle.kp_seq.specs.inner.Steps.{Under, begun, after_blocks, executed}
+use Rattle.kp_machine.specs.Machine.{values_in}
+use Rattle.kp_seq.specs.Told.{told_of}
+use Rattle.kp_seq.specs.inner.Notes.{told_by}
+use Rattle.kp_seq.specs.inner.Ready.{IsNoted}
+use Rattle.kp_seq.proofs.Telling.{still_noted, noted_is_told}
 use Rattle.kp_seq.specs.inner.Fits.{FitSlots}
 use Rattle.kp_seq.specs.inner.Resolved.{Raw, entry_widths}
 use Rattle.kp_seq.proofs.Lengths.{all_same}
 use Rattle.kp_seq.proofs.Resolved.{enough}
-use Rattle.kp_seq.proofs.Step.{Follows, as_under, as_placed, step_state, step_fits, all_follow, ran_is}
+use Rattle.kp_seq.proofs.Step.{Follows, as_under, as_placed, step_state, step_fits, all_follow, ran_is, noted_is}
 use Rattle.kp_seq.proofs.machine.SeqMachine.step_with.Goals as goal
 
 pub execute-requires : goal.execute-requires
@@ -47,6 +52,8 @@ invariant_of-self c =
       };
       room = omega (arith, length_refill m.room.len m.room.items c.execute.new.room m.room.ok.0, m.room.ok.0, i.room);
       words = subst (FitSlots (targets_of job.decls)) (sym w) (step_fits job i.names i.stages m.tables i.tables _ refl m.words i.words c.args.row.now fits u places);
+      notes = subst (IsNoted job) (sym (c.execute.ensures.notes ∙ noted_is job i.names i.stages m.tables i.tables _ refl m.words i.words c.args.row.now fits m.program i.program u m.under m.notes places start))
+          (still_noted job i.names i.stages m.tables i.tables _ refl m.words i.words c.args.row.now fits u m.notes places i.notes);
     }
 
 pub returns-clause-state : goal.returns-clause-state
@@ -63,3 +70,16 @@ returns-clause-state c =
     ap state_in w
     ∙ step_state job i.names i.stages m.tables i.tables _ refl m.words i.words c.args.row.now fits u places
     ∙ ap (λ (x : Running). after_one x.job (state x) c.args.row.now) c.self.view_is
+
+pub returns-clause-told : goal.returns-clause-told
+returns-clause-told c =
+    let m = c.self.inside in
+    let i = c.self.invariant in
+    let job = m.design.now.job in
+    let fits : AreSamples job.decls c.args.row.now = subst (λ (x : Running). AreSamples x.job.decls c.args.row.now) (sym c.self.view_is) c.requires in
+    let u : Under = as_under m.under in
+    let places = as_placed m.tables m.under i.places in
+    let start : Follows m.tables u m.under = record { names = i.places.names; pipes = refl; results = refl } in
+    ap told_by (c.execute.ensures.notes ∙ noted_is job i.names i.stages m.tables i.tables _ refl m.words i.words c.args.row.now fits m.program i.program u m.under m.notes places start)
+    ∙ noted_is_told job i.names i.stages m.tables i.tables _ refl m.words i.words c.args.row.now fits u m.notes places i.notes
+    ∙ ap (λ (x : Running). told_of x.job (state x) (values_in c.args.row.now)) c.self.view_is

@@ -1,0 +1,337 @@
+-- What is noted of an instruction is what is told of it.
+use Rattle.std.proofs.Common.{◌≡◌, ◌∙◌, ℕ, zero, suc, ◌+◌, ◌^◌, ◌<◌, ◌≤◌, List, [], ◌∷◌, ◌++◌, Option, Some, None, Bool, true, false, cond, ◌&&◌, length, map, get_or, replicate, refl, ap, sym, subst, arith, lit<}
+use Rattle.std.specs.Prelude.{is_some, slice_get, unwrap_or, sum_by, nat_le, nat_lt}
+use Rattle.std.specs.Option.{option_map}
+use Rattle.std.proofs.lemmas.Bool.{and_parts, leb-true, ltb-true}
+use Rattle.std.proofs.lemmas.List.{length-append, length-map, length-replicate, ext_get_or}
+use Rattle.std.proofs.lemmas.List.Sums.{sum_by-cons}
+use Rattle.std.proofs.lemmas.Option.{get_or_from_slice_get, slice_get_within}
+use Rattle.kp_base.specs.First.{first}
+use Rattle.kp_base.specs.Check.{ok, ◌>>=◌}
+use Rattle.kp_base.specs.Refusal.{e_rule}
+use Rattle.kp_bits.specs.Word.{Word}
+use Rattle.kp_ast.specs.declared.tree.ResultDecl.{ResultDecl}
+use Rattle.kp_ast.specs.declared.tree.Decl.{Decl}
+use Rattle.kp_ast.specs.declared.tree.Decl.TheVariants as decls
+use Rattle.kp_ast.specs.declared.tree.Block.{Block}
+use Rattle.kp_ast.specs.declared.tree.Stmt.{Stmt}
+use Rattle.kp_ast.specs.declared.tree.StmtKind.{StmtKind}
+use Rattle.kp_ast.specs.declared.tree.StmtKind.TheVariants as stmts
+use Rattle.kp_ast.specs.declared.tree.Job.{Job}
+use Rattle.kp_ast.specs.declared.widths.Scope.TheVariants as scopes
+use Rattle.kp_width.specs.Names.{Scoped, nothing, opened}
+use Rattle.kp_width.specs.Declarations.{declarations_of, address_width}
+use Rattle.kp_width.specs.Statements.{statements_of, blocks_of}
+use Rattle.kp_width.specs.Widths.{widths_of}
+use Rattle.kp_width.proofs.Unbroken.{Unbroken, bind_unbroken}
+use Rattle.kp_stage.specs.Counts.{summary_of, reads_of, reads_in}
+use Rattle.kp_stage.specs.Facts.{facts_of, stmts_in}
+use Rattle.kp_stage.specs.Rules.{ask_stmts, all_rules}
+use Rattle.kp_stage.specs.Stages.{broken_of}
+use Rattle.kp_stage.specs.Start.{AreSamples}
+use Rattle.kp_stage.proofs.Unbroken.{answer_none}
+use Rattle.kp_law.specs.Sequential.{Instruction, first_value, before_stage, fresh_instruction}
+use Rattle.kp_law.specs.Timeline.{first_stage}
+use Rattle.kp_machine.specs.Slots.{Slot, targets_of, pipes_of, number_of}
+use Rattle.kp_machine.specs.Trees.{Progress}
+use Rattle.kp_machine.specs.Trees as trees
+use Rattle.kp_machine.specs.Machine.{machine_of, values_in, is_enabled_by}
+use Rattle.kp_machine.specs.Machine as machines
+use Rattle.kp_machine.proofs.Results.{Stands}
+use Rattle.kp_machine.proofs.Rules.{rules_kept, head_kept, decl_kept, stmts_kept}
+use Rattle.kp_machine.proofs.Scopes.{results_fit}
+use Rattle.kp_machine.proofs.Stages.{stages_inside}
+use Rattle.kp_machine.proofs.Text.{text, declared_right, target_slot}
+use Rattle.kp_seq.specs.declared.notes.Outlet.{Outlet}
+use Rattle.kp_seq.specs.Told.{Told, where_true, read_told, reads_told, stage_reads, reads_from, results_of, write_told, setting_told, told_of, done_after}
+use Rattle.kp_seq.specs.Running.{state_in}
+use Rattle.kp_seq.specs.inner.Tables.{Laid}
+use Rattle.kp_seq.specs.inner.Steps.{Under, begun, entered, address_by, after_stmts, after_block, after_blocks}
+use Rattle.kp_seq.specs.inner.Steps as steps
+use Rattle.kp_seq.specs.inner.Ready.{AreTables, HasPlaces, IsNoted}
+use Rattle.kp_seq.specs.inner.Fits.{FitSlots}
+use Rattle.kp_seq.specs.inner.Notes.{Noted, told_by, outlet_by, outlets_of, begun_notes, changed_from, narrowed, marked, with_marks, write_noted, setting_noted, with_results, note_stmts, note_blocks}
+use Rattle.kp_seq.proofs.Entering.{enters}
+use Rattle.kp_seq.proofs.Keys.{pipe_placed, sample_placed, keyed}
+use Rattle.kp_seq.proofs.Written.{Ended, begun_ended, enabled_same, address_same, address_fits}
+use Rattle.kp_seq.proofs.Lengths.{begun_same}
+use Rattle.kp_seq.proofs.Step.{Reached, before, block_end, all_ended, still_placed}
+use Rattle.kp_seq.proofs.Noted.{put_reads, put_both, put_count, all_put, changed_at, changed_count, seen, seen_first, first_below, narrowed_is}
+use Rattle.kp_seq.proofs.Low.{target_low}
+use Rattle.kp_seq.proofs.Asked.{after_reads, all_asked, low_fits}
+
+-- lists, by their entries
+there : {X : Type 0} (xs : List X) (j : ℕ) → j < length xs → (x : X) × (slice_get xs j ≡ Some x)
+there [] j l = absurd (omega arith)
+there (x ∷ xs) zero l = (x, refl)
+there (x ∷ xs) (suc j) l = there xs j (omega arith)
+
+mapped : {X Y : Type 0} (g : X → Y) (zs : List X) (j : ℕ) (x : X) → slice_get zs j ≡ Some x → slice_get (map g zs) j ≡ Some (g x)
+mapped g [] j x e = cc
+mapped g (z ∷ zs) zero x e = let is : z ≡ x = cc in ap (λ y. Some (g y)) is
+mapped g (z ∷ zs) (suc j) x e = mapped g zs j x e
+
+map_same : {X Y : Type 0} (f g : X → Y) (zs : List X) → ((j : ℕ) (x : X) → slice_get zs j ≡ Some x → f x ≡ g x) → map f zs ≡ map g zs
+map_same f g [] h = refl
+map_same f g (z ∷ zs) h = ap (λ y. y ∷ map f zs) (h 0 z refl) ∙ ap (λ ys. g z ∷ ys) (map_same f g zs (λ j x e. h (suc j) x e))
+
+-- a list that is changed entry by entry to these values
+changed_to : {X Y : Type 0} (f : ℕ → X → Y → Y) (g : X → Y) (d : Y) (ys : List Y) (xs : List X) → length ys ≡ length xs
+    → ((j : ℕ) (x : X) → slice_get xs j ≡ Some x → f j x (get_or ys j d) ≡ g x) → changed_from f d ys 0 xs ≡ map g xs
+changed_to f g d ys xs e h =
+    let n = changed_count f d ys 0 xs in
+    let m = length-map xs g in
+    ext_get_or d (changed_from f d ys 0 xs) (map g xs) (omega arith)
+    (λ j l.
+    let inside : j < length ys = omega arith in
+    let within : j < length xs = omega arith in
+    let x = there xs j within in
+    changed_at f d ys xs j x.0 x.1 inside ∙ h j x.0 x.1 ∙ sym (get_or_from_slice_get (map g xs) j (g x.0) d (mapped g xs j x.0 x.1)))
+
+-- the results of some declarations stand among them
+stand : (ds : List Decl) (j : ℕ) (r : ResultDecl) → slice_get (results_of ds) j ≡ Some r → Stands ds r
+stand [] j r e = cc
+stand (decls.Target q ∷ ds) zero r e = let is : q ≡ r = cc in record { index = 0; there = ap (λ x. Some (decls.Target x)) is }
+stand (decls.Target q ∷ ds) (suc j) r e = let s = stand ds j r e in record { index = suc s.index; there = s.there }
+stand (_ ∷ ds) j r e = let s = stand ds j r e in record { index = suc s.index; there = s.there }
+
+outlets_are : (targets pipes : List Slot) (ds : List Decl) → outlets_of targets pipes ds ≡ map (outlet_by targets pipes) (results_of ds)
+outlets_are targets pipes [] = refl
+outlets_are targets pipes (decls.Target r ∷ ds) = ap (λ os. outlet_by targets pipes r ∷ os) (outlets_are targets pipes ds)
+outlets_are targets pipes (_ ∷ ds) = outlets_are targets pipes ds
+
+map_both : {X Y Z : Type 0} (f : Y → Z) (g : X → Y) (xs : List X) → map f (map g xs) ≡ map (λ x. f (g x)) xs
+map_both f g [] = refl
+map_both f g (x ∷ xs) = ap (λ ys. f (g x) ∷ ys) (map_both f g xs)
+
+-- how many reads are told
+one_counted : (ds : List Decl) (done : Progress) (x : StmtKind) → length (read_told ds done x) ≡ reads_of x
+one_counted ds done (stmts.Read r) = refl
+one_counted ds done (stmts.Let n e) = refl
+one_counted ds done (stmts.Put n e) = refl
+one_counted ds done (stmts.Set n e when) = refl
+one_counted ds done (stmts.Aim n e) = refl
+
+stmts_counted : (ds : List Decl) (s : ℕ → ℕ → ℕ) (done : Progress) (xs : List Stmt) → length (reads_told ds s done xs) ≡ sum_by reads_in xs
+stmts_counted ds s done [] = refl
+stmts_counted ds s done (x ∷ xs) =
+    let later = done_after ds s done x.kind in
+    let n = length-append (read_told ds done x.kind) (reads_told ds s later xs) in
+    let m = one_counted ds done x.kind in
+    let o = stmts_counted ds s later xs in
+    let p = sum_by-cons reads_in x xs in
+    omega (arith, n, m, o, p)
+
+blocks_told : (job : Job) (s : ℕ → ℕ → ℕ) (q : ℕ → ℕ) (k : ℕ) (bs : List Block) → ((i : ℕ) (b : Block) → slice_get bs i ≡ Some b → slice_get job.blocks (k + i) ≡ Some b)
+    → length (reads_from job s q (length bs) k) ≡ sum_by (λ b. sum_by reads_in b.stmts) bs
+unfolding stage_reads
+blocks_told job s q k [] at = refl
+blocks_told job s q k (b ∷ bs) at =
+    let z : k + 0 ≡ k = omega arith in
+    let here : slice_get job.blocks k ≡ Some b = subst (λ n. slice_get job.blocks n ≡ Some b) z (at 0 b refl) in
+    let c = before_stage (machine_of job) s q k in
+    let done = trees.entered job.decls q c.pipes in
+    let n = length-append (stage_reads job s q k) (reads_from job s q (length bs) (suc k)) in
+    let m : length (stage_reads job s q k) ≡ sum_by reads_in b.stmts = ap (λ o. length (reads_told job.decls s done (stmts_in o))) here ∙ stmts_counted job.decls s done b.stmts in
+    let o = blocks_told job s q (suc k) bs (λ i y e. let w : k + suc i ≡ suc k + i = omega arith in subst (λ v. slice_get job.blocks v ≡ Some y) w (at (suc i) y e)) in
+    let p = sum_by-cons (λ (x : Block). sum_by reads_in x.stmts) b bs in
+    omega (arith, n, m, o, p)
+
+pub all_told : (job : Job) (s : ℕ → ℕ → ℕ) (q : ℕ → ℕ) → length job.blocks ≡ job.stages.value → length (reads_from job s q job.stages.value 0) ≡ (summary_of job).reads
+unfolding summary_of
+all_told job s q e =
+    ap (λ n. length (reads_from job s q n 0)) (sym e)
+    ∙ blocks_told job s q 0 job.blocks (λ i b at. let w : i ≡ 0 + i = omega arith in subst (λ n. slice_get job.blocks n ≡ Some b) w at)
+
+module _ (job : Job) (unbroken : Unbroken (widths_of job)) (kept : broken_of job ≡ None) (t : Laid) (tables : AreTables job t) (rule : _) (is25 : slice_get all_rules 10 ≡ Some rule) (words : List (List ℕ)) (fit : FitSlots (targets_of job.decls) words) (row : List Word) (fits : AreSamples job.decls row) where
+  abbrev at_stage : ℕ → Instruction
+  at_stage k = before_stage (machine_of job) (state_in words) (values_in row) k
+
+  -- does stage k or an earlier one set a result of this target?
+  abbrev sets : ℕ → ℕ → Bool
+  sets target k = is_some ((at_stage (suc k)).results target)
+
+  -- what is noted before stage k
+  record NotedTo (k : ℕ) (n : Noted) : Type 0 where
+    pub count : length n.set_in ≡ length n.outlets
+    pub marks : (j : ℕ) (o : Outlet) → slice_get n.outlets j ≡ Some o → get_or n.set_in j None ≡ seen (sets o.target) k
+
+  -- the notes of the stages from one on
+  record NotedAfter (n m : Noted) (told : List (Option ℕ)) (k : ℕ) : Type 0 where
+    pub reads : (m.reads, m.next) ≡ put_reads (n.reads, n.next) told
+    pub outlets : m.outlets ≡ n.outlets
+    pub writes : m.writes ≡ n.writes
+    pub settings : m.settings ≡ n.settings
+    pub to : NotedTo k m
+
+  block_reads : (k : ℕ) (b : Block) (s : Scoped) (u : Under) (n : Noted) → slice_get job.blocks k ≡ Some b → Unbroken (statements_of job.decls (opened s (scopes.Stage k)) b.stmts)
+      → Reached job unbroken kept t tables rule is25 words fit row fits k s u
+      → note_stmts t words (entered t row u) n b.stmts ≡ after_reads n (stage_reads job (state_in words) (values_in row) k)
+  unfolding stage_reads
+  block_reads k b s u n at right h =
+      let c = at_stage k in
+      let done = trees.entered job.decls (values_in row) c.pipes in
+      let inside = enters job unbroken t tables rule is25 k words fit row fits s c u h.of_text h.ended h.places.names h.places.pipes h.places.results (pipe_placed job unbroken t tables rule is25 k words fit c) (sample_placed job unbroken t tables rule is25 k words fit c) in
+      let free = subst (λ o. first (ask_stmts (facts_of job) rule k 0 (stmts_in o)) ≡ None) at (stmts_kept (facts_of job) job (rules_kept job kept) 10 rule is25 k) in
+      all_asked job unbroken t tables rule is25 k words fit c (opened s (scopes.Stage k)) done (entered t row u) n 0 b.stmts inside free right (keyed job unbroken t tables rule is25 k words fit c k b (opened s (scopes.Stage k)) at)
+      ∙ ap (λ o. after_reads n (reads_told job.decls (state_in words) done (stmts_in o))) (sym at)
+
+  block_noted : (k : ℕ) (b : Block) (s : Scoped) (u : Under) (n : Noted) → slice_get job.blocks k ≡ Some b → Unbroken (statements_of job.decls (opened s (scopes.Stage k)) b.stmts)
+      → Reached job unbroken kept t tables rule is25 words fit row fits k s u → NotedTo k n
+      → NotedAfter n (with_marks k (after_block t words row u b) (note_stmts t words (entered t row u) n b.stmts)) (stage_reads job (state_in words) (values_in row) k) (suc k)
+  block_noted k b s u n at right h to =
+      let w = after_block t words row u b in
+      let told = stage_reads job (state_in words) (values_in row) k in
+      let ended = (block_end job unbroken kept t tables rule is25 words fit row fits k b s u at right h).ended in
+      let mark = λ (i : ℕ) (o : Outlet) (old : Option ℕ). marked k w.results o old in
+      subst (λ m. NotedAfter n (with_marks k w m) told (suc k)) (sym (block_reads k b s u n at right h))
+      (record {
+        reads = refl;
+        outlets = refl;
+        writes = refl;
+        settings = refl;
+        to = record {
+          count = changed_count mark None n.set_in 0 n.outlets ∙ to.count;
+          marks = λ j o is.
+              let b = slice_get_within n.outlets j o is in
+              let q = to.count in
+              let l : j < length n.set_in = omega arith in
+              changed_at mark None n.set_in n.outlets j o is l
+              ∙ ap (λ x. marked k w.results o x) (to.marks j o is)
+              ∙ ap (λ x. first_value (seen (sets o.target) k) (where_true (is_some x) k)) (ended.results o.target);
+        };
+      })
+
+  blocks_noted : (k : ℕ) (bs : List Block) (s : Scoped) (u : Under) (n : Noted) → ((i : ℕ) (b : Block) → slice_get bs i ≡ Some b → slice_get job.blocks (k + i) ≡ Some b)
+      → Unbroken (blocks_of job.decls k s bs) → Reached job unbroken kept t tables rule is25 words fit row fits k s u → NotedTo k n
+      → NotedAfter n (note_blocks t words row k u n bs) (reads_from job (state_in words) (values_in row) (length bs) k) (k + length bs)
+  blocks_noted k [] s u n at right h to =
+      let z : k ≡ k + 0 = omega arith in
+      subst (NotedAfter n n []) z (record { reads = refl; outlets = refl; writes = refl; settings = refl; to = to })
+  blocks_noted k (b ∷ bs) s u n at right h to =
+      let z : k + 0 ≡ k = omega arith in
+      let next : suc k ≡ k + 1 = omega arith in
+      let more : (k + 1) + length bs ≡ k + suc (length bs) = omega arith in
+      let here : slice_get job.blocks k ≡ Some b = subst (λ i. slice_get job.blocks i ≡ Some b) z (at 0 b refl) in
+      let x = bind_unbroken (statements_of job.decls (opened s (scopes.Stage k)) b.stmts) (λ y. blocks_of job.decls (k + 1) y bs) right in
+      let after : Scoped = (statements_of job.decls (opened s (scopes.Stage k)) b.stmts).value in
+      let w = after_block t words row u b in
+      let m = with_marks k w (note_stmts t words (entered t row u) n b.stmts) in
+      let reached = subst (λ i. Reached job unbroken kept t tables rule is25 words fit row fits i after w) next (block_end job unbroken kept t tables rule is25 words fit row fits k b s u here x.0 h) in
+      let one = block_noted k b s u n here x.0 h to in
+      let rest = blocks_noted (k + 1) bs after w m
+      (λ i y e. let v : k + suc i ≡ (k + 1) + i = omega arith in subst (λ j. slice_get job.blocks j ≡ Some y) v (at (suc i) y e))
+      x.1 reached (subst (λ i. NotedTo i m) next one.to) in
+      let told = stage_reads job (state_in words) (values_in row) k in
+      record {
+        reads =
+            rest.reads
+            ∙ ap (λ p. put_reads p (reads_from job (state_in words) (values_in row) (length bs) (k + 1))) one.reads
+            ∙ ap (λ i. put_reads (put_reads (n.reads, n.next) told) (reads_from job (state_in words) (values_in row) (length bs) i)) (sym next)
+            ∙ sym (put_both (n.reads, n.next) told (reads_from job (state_in words) (values_in row) (length bs) (suc k)));
+        outlets = rest.outlets ∙ one.outlets;
+        writes = rest.writes ∙ one.writes;
+        settings = rest.settings ∙ one.settings;
+        to = subst (λ i. NotedTo i (note_blocks t words row (k + 1) w m bs)) more rest.to;
+      }
+
+  nothing_seen : (xs : List (Option ℕ)) (j : ℕ) → get_or (replicate (length xs) None) j None ≡ seen (λ k. false) 0
+  nothing_seen [] j = refl
+  nothing_seen (x ∷ xs) zero = refl
+  nothing_seen (x ∷ xs) (suc j) = nothing_seen xs j
+
+  all_noted : (u : Under) (n : Noted) → HasPlaces t u → IsNoted job n
+      → NotedAfter (begun_notes n) (note_blocks t words row 0 (begun u) (begun_notes n) job.blocks) (reads_from job (state_in words) (values_in row) (length job.blocks) 0) (length job.blocks)
+  unfolding before_stage
+  all_noted u n places ready =
+      let d = declarations_of job.decls 0 0 nothing job.decls in
+      let more = (bind_unbroken d (λ s. blocks_of job.decls 0 s job.blocks >>= (λ y. ok y.entries)) unbroken).1 in
+      let right = (bind_unbroken (blocks_of job.decls 0 d.value job.blocks) (λ y. ok y.entries) more).0 in
+      let z : 0 + length job.blocks ≡ length job.blocks = omega arith in
+      let none : Option ℕ = None in
+      subst (NotedAfter (begun_notes n) (note_blocks t words row 0 (begun u) (begun_notes n) job.blocks) (reads_from job (state_in words) (values_in row) (length job.blocks) 0)) z
+      (blocks_noted 0 job.blocks d.value (begun u) (begun_notes n)
+      (λ i b e. let w : i ≡ 0 + i = omega arith in subst (λ j. slice_get job.blocks j ≡ Some b) w e)
+      right
+      (record { of_text = refl; ended = begun_ended job.decls u; places = still_placed t u (begun u) (begun_same t u) places })
+      (record { count = length-replicate (length n.set_in) none ∙ ready.set_in; marks = λ j o is. nothing_seen n.set_in j }))
+
+  -- the notes keep their room
+  pub still_noted : (u : Under) (n : Noted) → HasPlaces t u → IsNoted job n
+      → IsNoted job (with_results (after_blocks t words row (begun u) job.blocks) (note_blocks t words row 0 (begun u) (begun_notes n) job.blocks))
+  still_noted u n places ready =
+      let w = after_blocks t words row (begun u) job.blocks in
+      let m = note_blocks t words row 0 (begun u) (begun_notes n) job.blocks in
+      let a = all_noted u n places ready in
+      let told = reads_from job (state_in words) (values_in row) (length job.blocks) 0 in
+      record {
+        outlets = a.outlets ∙ ready.outlets;
+        reads = ap (λ (p : List (Option ℕ) × ℕ). length p.0) a.reads ∙ put_count (n.reads, 0) told ∙ ready.reads;
+        set_in = a.to.count;
+        writes = changed_count (λ i o old. write_noted w o) None m.writes 0 m.outlets ∙ ap length a.writes ∙ ready.writes ∙ ap length (sym a.outlets);
+        settings = changed_count (λ i o old. setting_noted (get_or m.set_in i None) o) 0 m.settings 0 m.outlets ∙ ap length a.settings ∙ ready.settings ∙ ap length (sym a.outlets);
+      }
+
+  -- a result writes at an address, and is set in a stage
+  module _ (u : Under) (ended : Ended job.decls (at_stage job.stages.value) u) where
+    wrote : (r : ResultDecl) → Stands job.decls r → write_noted u (outlet_by (targets_of job.decls) (pipes_of job.decls) r) ≡ write_told job (at_stage job.stages.value).pipes r
+    wrote r s =
+        let c = at_stage job.stages.value in
+        let f = results_fit job.decls 0 0 nothing job.decls refl (declared_right job unbroken) s.index r s.there in
+        let at = target_slot job unbroken r f in
+        let low = target_low job unbroken r.target.name f.sense.width (address_width f.sense.kind) at in
+        let o = outlet_by (targets_of job.decls) (pipes_of job.decls) r in
+        let small = low_fits (address_by u o.address) (address_width f.sense.kind) low (address_fits job unbroken t tables c u ended (address_width f.sense.kind) r.address f.address) in
+        ap (λ a. where_true (steps.is_enabled u o.enable) a) (narrowed_is 32 (address_by u o.address) small)
+        ∙ ap (λ b. where_true b (address_by u o.address)) (enabled_same job unbroken t tables c u ended r.enable)
+        ∙ ap (where_true (is_enabled_by (pipes_of job.decls) c.pipes r.enable)) (address_same job unbroken t tables c u ended r.address)
+
+  settled : (r : ResultDecl) → Stands job.decls r
+      → narrowed 8 (unwrap_or (seen (sets (number_of (targets_of job.decls) r.target.name)) job.stages.value) r.stage.value) ≡ setting_told job (state_in words) (values_in row) r
+  unfolding setting_told
+  settled r s =
+      let facts = facts_of job in
+      let n = job.stages.value in
+      let p = sets (number_of (targets_of job.decls) r.target.name) in
+      let e : nat_lt r.stage.value n ≡ true = answer_none _ (e_rule 15 r.stage.at) (decl_kept facts job (rules_kept job kept) 0 _ refl s.index (decls.Target r) s.there) in
+      let below : r.stage.value < n = ltb-true r.stage.value n e in
+      let holds = answer_none (nat_le 2 n && nat_le n 12 && nat_le n (length job.blocks)) (e_rule 15 job.stages.at) (head_kept facts job (rules_kept job kept) 0 _ refl) in
+      let few : n ≤ 12 = leb-true n 12 (and_parts (nat_le 2 n) (nat_le n 12) (and_parts (nat_le 2 n && nat_le n 12) (nat_le n (length job.blocks)) holds).0).1 in
+      let all : 0 + n ≤ n = omega arith in
+      let small = first_below p n 0 r.stage.value n all below in
+      let byte : n < 2 ^ 8 = let x : 12 < 2 ^ 8 = lit< tt in omega arith in
+      let fits : first_stage p n 0 r.stage.value < 2 ^ 8 = omega arith in
+      ap (narrowed 8) (seen_first p n r.stage.value) ∙ narrowed_is 8 (first_stage p n 0 r.stage.value) fits
+
+  -- so what is noted is what is told
+  pub noted_is_told : (u : Under) (n : Noted) → HasPlaces t u → IsNoted job n
+      → told_by (with_results (after_blocks t words row (begun u) job.blocks) (note_blocks t words row 0 (begun u) (begun_notes n) job.blocks)) ≡ told_of job (state_in words) (values_in row)
+  unfolding told_of machine_of
+  noted_is_told u n places ready =
+      let w = after_blocks t words row (begun u) job.blocks in
+      let m = note_blocks t words row 0 (begun u) (begun_notes n) job.blocks in
+      let a = all_noted u n places ready in
+      let count : length job.blocks ≡ job.stages.value = stages_inside job kept in
+      let ended : Ended job.decls (at_stage job.stages.value) w = all_ended job unbroken kept t tables rule is25 words fit row fits u places in
+      let targets = targets_of job.decls in
+      let pipes = pipes_of job.decls in
+      let results = results_of job.decls in
+      let outlets : m.outlets ≡ map (outlet_by targets pipes) results = a.outlets ∙ ready.outlets ∙ outlets_are targets pipes job.decls in
+      let told = reads_from job (state_in words) (values_in row) (length job.blocks) 0 in
+      let room : length n.reads ≡ length told =
+      ready.reads ∙ sym (all_told job (state_in words) (values_in row) count) ∙ ap (λ i. length (reads_from job (state_in words) (values_in row) i 0)) (sym count) in
+      let reads : m.reads ≡ reads_from job (state_in words) (values_in row) job.stages.value 0 =
+      ap (λ (p : List (Option ℕ) × ℕ). p.0) a.reads ∙ all_put n.reads told room ∙ ap (λ i. reads_from job (state_in words) (values_in row) i 0) count in
+      let writes : changed_from (λ i o old. write_noted w o) None m.writes 0 m.outlets ≡ map (write_told job (at_stage job.stages.value).pipes) results =
+      changed_to (λ i o old. write_noted w o) (write_noted w) None m.writes m.outlets (ap length a.writes ∙ ready.writes ∙ ap length (sym a.outlets)) (λ j o is. refl)
+      ∙ ap (map (write_noted w)) outlets ∙ map_both (write_noted w) (outlet_by targets pipes) results
+      ∙ map_same (λ r. write_noted w (outlet_by targets pipes r)) (write_told job (at_stage job.stages.value).pipes) results (λ j r is. wrote w ended r (stand job.decls j r is)) in
+      let set = λ (o : Outlet). narrowed 8 (unwrap_or (seen (sets o.target) job.stages.value) o.stage) in
+      let settings : changed_from (λ i o old. setting_noted (get_or m.set_in i None) o) 0 m.settings 0 m.outlets ≡ map (setting_told job (state_in words) (values_in row)) results =
+      changed_to (λ i o old. setting_noted (get_or m.set_in i None) o) set 0 m.settings m.outlets (ap length a.settings ∙ ready.settings ∙ ap length (sym a.outlets))
+      (λ j o is. ap (λ x. narrowed 8 (unwrap_or x o.stage)) (a.to.marks j o is) ∙ ap (λ i. narrowed 8 (unwrap_or (seen (sets o.target) i) o.stage)) count)
+      ∙ ap (map set) outlets ∙ map_both set (outlet_by targets pipes) results
+      ∙ map_same (λ r. set (outlet_by targets pipes r)) (setting_told job (state_in words) (values_in row)) results (λ j r is. settled r (stand job.decls j r is)) in
+      ap (λ (x : List (Option ℕ)). record { reads = x; writes = changed_from (λ i o old. write_noted w o) None m.writes 0 m.outlets; settings = changed_from (λ i o old. setting_noted (get_or m.set_in i None) o) 0 m.settings 0 m.outlets }) reads
+      ∙ ap (λ (x : List (Option ℕ)). record { reads = reads_from job (state_in words) (values_in row) job.stages.value 0; writes = x; settings = changed_from (λ i o old. setting_noted (get_or m.set_in i None) o) 0 m.settings 0 m.outlets }) writes
+      ∙ ap (λ (x : List ℕ). record { reads = reads_from job (state_in words) (values_in row) job.stages.value 0; writes = map (write_told job (at_stage job.stages.value).pipes) results; settings = x }) settings
