@@ -1,0 +1,248 @@
+-- Two netlists that can be compared have one verdict.
+use Rattle.std.proofs.Common.{◌≡◌, ◌∙◌, ℕ, zero, suc, ◌==◌, ◌&&◌, ◌<◌, ◌≤◌, ◌++◌, Bool, true, false, List, [], ◌∷◌, length, get_or, refl, sym, ap, subst, arith, ⊎_elim, Option, None, Some}
+use Rattle.std.specs.Bool.{Decides}
+use Rattle.std.specs.Cmp.Lexicographic.{bytes_decides}
+use Rattle.std.specs.List.{position_or_len}
+use Rattle.std.proofs.lemmas.Bool.{cases_lt, cases_eq, false≢true}
+use Rattle.std.proofs.lemmas.Bool.Decides.{Decides-and, Decides-eqb, Decides-like}
+use Rattle.std.proofs.lemmas.List.{get_or_default}
+use Rattle.std.proofs.lemmas.List.Elements.{All-get_or}
+use Rattle.indexmap.specs.IndexSet.{insert_key}
+use Rattle.kp_bits.specs.Word.{Word}
+use Rattle.kp_net.specs.declared.node.NodeId.{NodeId}
+use Rattle.kp_net.specs.declared.node.Node.{Node}
+use Rattle.kp_net.specs.declared.netlist.NetReg.{NetReg}
+use Rattle.kp_net.specs.declared.netlist.NetFile.{NetFile}
+use Rattle.kp_net.specs.declared.netlist.Port.{Port}
+use Rattle.kp_net.specs.declared.netlist.WritePort.{WritePort}
+use Rattle.kp_net.specs.Names.{same}
+use Rattle.kp_net.specs.Netlist.{Net}
+use Rattle.kp_net.specs.Parts.{NetOk, RegOk, FileOk, WriteOk, no_reg, no_file}
+use Rattle.kp_net.specs.Widths.{Distinct, no_node}
+use Rattle.kp_net.proofs.Found.{is}
+use Rattle.kp_equiv.specs.declared.verdict.Verdict.{Verdict}
+use Rattle.kp_equiv.specs.declared.verdict.Verdict.TheVariants.{Same, Differs}
+use Rattle.kp_equiv.specs.Alike.{Alike, reg_name, file_name}
+use Rattle.kp_equiv.specs.Roots.{Root, Ports, Register, File, Full, Ue, Back, reg_names, file_names, roots, RegsAlike, WritesAlike, FilesAlike, PortsAgree, RegisterAgrees, FileAgrees, Agrees, HasNames, IsComparable, IsVerdict}
+use Rattle.kp_equiv.specs.inner.Shapes.{Known, known_of, place, class_in, shape, Grown, Tells}
+use Rattle.kp_equiv.specs.inner.Sections.{AgreeUpTo, Differing, FirstOf}
+use Rattle.kp_equiv.proofs.Tables.{put, none_distinct}
+use Rattle.kp_equiv.proofs.Growing.{none_grown, one_grown, classes_stay}
+use Rattle.kp_equiv.proofs.Exactness.{tells, alike_found}
+use Rattle.kp_equiv.proofs.Inputs.{port_decides}
+use Rattle.kp_equiv.proofs.Places.{has_place, reg_names_are, file_names_are, reg_count, file_count}
+use Rattle.kp_equiv.proofs.Ordered.{register_found, file_found, namesake, file_namesake}
+
+-- the classes of the first nodes of a netlist, in a table that has grown by them
+record Classed (ks : Known) (net : Net) (start : List Node) (i : ℕ) : Type 0 where
+  table : List Node
+  classes : List NodeId
+  grown : Grown ks net start table classes i
+
+classed : (ks : Known) (net : Net) (start : List Node) → NetOk net → Distinct start → (i : ℕ) → i ≤ length net.nodes → Classed ks net start i
+classed ks net start ok d zero h = record { table = start; classes = []; grown = none_grown ks net start d }
+classed ks net start ok d (suc i) h =
+    let c = classed ks net start ok d i (omega (arith, h)) in
+    let n : Node = get_or net.nodes i no_node in
+    let s : Node = shape ks net.parts (class_in c.classes) n in
+    let new : List Node = insert_key is c.table s in
+    let k : ℕ = position_or_len (is s) c.table in
+    let x : NodeId = record { 0 = k } in
+    let p = put c.table s new k c.grown.distinct refl refl in
+    let l : i < length net.nodes = omega (arith, h) in
+    record {
+      table = new;
+      classes = c.classes ++ x ∷ [];
+      grown = subst (Grown ks net start new (c.classes ++ x ∷ [])) (omega arith)
+          (one_grown ks net start c.table new net.nodes c.classes (c.classes ++ x ∷ []) x n s i ok refl l (get_or_default net.nodes i no_node n l) c.grown refl p.there p.inside p.extends p.count p.distinct refl);
+    }
+
+record SomeTells (a b : Net) : Type 0 where
+  first : List NodeId
+  second : List NodeId
+  tells : Tells a b first second
+
+some_tells : (a b : Net) → NetOk a → NetOk b → SomeTells a b
+some_tells a b oka okb =
+    let x = classed (known_of a) a [] oka none_distinct (length a.nodes) (omega arith) in
+    let y = classed (known_of a) b x.table okb x.grown.distinct (length b.nodes) (omega arith) in
+    record {
+      first = x.classes;
+      second = y.classes;
+      tells = tells a b y.table x.classes y.classes oka okb (classes_stay (known_of a) a x.table y.table x.classes x.grown.classes_are y.grown.extends) y.grown.classes_are
+          x.grown.count y.grown.count y.grown.distinct;
+    }
+
+-- a fact that a test decides
+record Decided (P : Type 0) : Type 0 where
+  test : Bool
+  decides : Decides test P
+
+both : {P Q : Type 0} → Decided P → Decided Q → Decided (P × Q)
+both p q = record { test = p.test && q.test; decides = Decides-and p.test q.test p.decides q.decides }
+
+alike : {P Q : Type 0} → (P → Q) → (Q → P) → Decided P → Decided Q
+alike f g p = record { test = p.test; decides = Decides-like p.test f g p.decides }
+
+never : {P : Type 0} → (P → ⊥) → Decided P
+never h = record { test = false; decides = (λ e. absurd (false≢true e), λ p. absurd (h p)) }
+
+always : {P : Type 0} → P → Decided P
+always p = record { test = true; decides = (λ _. p, λ _. refl) }
+
+numbers : (n m : ℕ) → Decided (n ≡ m)
+numbers n m = record { test = n == m; decides = Decides-eqb n m }
+
+truths : (b c : Bool) → Decided (b ≡ c)
+truths true true = always refl
+truths false false = always refl
+truths true false = never (λ e. false≢true (sym e))
+truths false true = never false≢true
+
+one_word : (v w : Word) → (v.width ≡ w.width) × (v.value ≡ w.value) → v ≡ w
+one_word v w h = let x = h.0 in let y = h.1 in λ t. record { width = x t; value = y t }
+
+starts : (v w : Word) → Decided (v ≡ w)
+starts v w = alike (one_word v w) (λ e. (ap (λ (x : Word). x.width) e, ap (λ (x : Word). x.value) e)) (both (numbers v.width w.width) (numbers v.value w.value))
+
+cons_same : {X : Type 0} (x y : X) (xs ys : List X) → x ≡ y → xs ≡ ys → (x ∷ xs) ≡ (y ∷ ys)
+cons_same x y xs ys e f = λ t. e t ∷ f t
+
+ports : (xs ys : List Port) → Decided (xs ≡ ys)
+ports [] [] = always refl
+ports [] (y ∷ ys) = never (λ e. cc)
+ports (x ∷ xs) [] = never (λ e. cc)
+ports (x ∷ xs) (y ∷ ys) =
+    alike (λ (h : (x ≡ y) × (xs ≡ ys)). cons_same x y xs ys h.0 h.1) (λ e. (cc, cc)) (both (record { test = _; decides = port_decides x y }) (ports xs ys))
+
+module _ (a b : Net) (oka : NetOk a) (okb : NetOk b) (na : HasNames a) (nb : HasNames b) (t : SomeTells a b) where
+  nodes : (i j : NodeId) → i.0 < length a.nodes → j.0 < length b.nodes → Decided (Alike a b i j)
+  nodes i j li lj = record {
+    test = (class_in t.first i).0 == (class_in t.second j).0;
+    decides = alike_found a b t.first t.second i j (class_in t.first i) (class_in t.second j) _ t.tells li lj refl refl refl;
+  }
+
+  regs : (r q : NetReg) → RegOk a.nodes r → RegOk b.nodes q → Decided (RegsAlike a b r q)
+  regs r q okr okq =
+      alike (λ (h : (r.start ≡ q.start) × Alike a b r.next q.next). record { start = h.0; next = h.1 }) (λ h. (h.start, h.next))
+      (both (starts r.start q.start) (nodes r.next q.next okr.next.0 okq.next.0))
+
+  writes : (p q : Option WritePort) (v x w y : ℕ) → WriteOk a.nodes v x p → WriteOk b.nodes w y q → Decided (WritesAlike a b p q)
+  writes None None v x w y okp okq = always tt
+  writes None (Some q) v x w y okp okq = never (λ h. h)
+  writes (Some p) None v x w y okp okq = never (λ h. h)
+  writes (Some p) (Some q) v x w y okp okq =
+      alike (λ (h : Alike a b p.enable q.enable × (Alike a b p.address q.address × Alike a b p.value q.value)). (h.0, h.1.0, h.1.1)) (λ h. (h.0, (h.1, h.2)))
+      (both (nodes p.enable q.enable okp.0.0 okq.0.0) (both (nodes p.address q.address okp.1.0 okq.1.0) (nodes p.value q.value okp.2.0 okq.2.0)))
+
+  files : (f g : NetFile) → FileOk a.nodes f → FileOk b.nodes g → Decided (FilesAlike a b f g)
+  files f g okf okg =
+      alike (λ (h : (f.words ≡ g.words) × WritesAlike a b f.port g.port). record { words = h.0; port = h.1 }) (λ h. (h.words, h.port))
+      (both (record { test = same f.words g.words; decides = bytes_decides f.words g.words })
+      (writes f.port g.port f.width f.address_width g.width g.address_width okf.port okg.port))
+
+  register : (name : List ℕ) → Decided (RegisterAgrees a b name)
+  register name = ⊎_elim
+      (λ (l : place (reg_names a) name < length (reg_names a)). ⊎_elim
+      (λ (m : place (reg_names b) name < length (reg_names b)). found l m)
+      (λ (m : length (reg_names b) ≤ place (reg_names b) name). never (λ h. absurd (omega (arith, m, has_place (reg_names b) h.second name (let k = h.in_second in omega (arith, reg_count b)) (reg_names_are b h.second ∙ h.named_second)))))
+      (cases_lt (place (reg_names b) name) (length (reg_names b))))
+      (λ (l : length (reg_names a) ≤ place (reg_names a) name). never (λ h. absurd (omega (arith, l, has_place (reg_names a) h.first name (let k = h.in_first in omega (arith, reg_count a)) (reg_names_are a h.first ∙ h.named_first)))))
+      (cases_lt (place (reg_names a) name) (length (reg_names a)))
+    where
+      found : place (reg_names a) name < length (reg_names a) → place (reg_names b) name < length (reg_names b) → Decided (RegisterAgrees a b name)
+      found l m =
+          let r : ℕ = place (reg_names a) name in
+          let q : ℕ = place (reg_names b) name in
+          let lr : r < length a.parts.regs = omega (arith, l, reg_count a) in
+          let lq : q < length b.parts.regs = omega (arith, m, reg_count b) in
+          let er : reg_name a r ≡ name = namesake a name r l refl in
+          let d = regs (get_or a.parts.regs r no_reg) (get_or b.parts.regs q no_reg) (All-get_or (RegOk a.nodes) a.parts.regs r no_reg lr oka.parts.regs) (All-get_or (RegOk b.nodes) b.parts.regs q no_reg lq okb.parts.regs) in
+          record {
+            test = d.test;
+            decides = subst (λ (n : List ℕ). Decides d.test (RegisterAgrees a b n)) er
+                (register_found a b r q na.regs nb.regs lr lq (namesake b name q m refl ∙ sym er) d.test d.decides);
+          }
+
+  file : (name : List ℕ) → Decided (FileAgrees a b name)
+  file name = ⊎_elim
+      (λ (l : place (file_names a) name < length (file_names a)). ⊎_elim
+      (λ (m : place (file_names b) name < length (file_names b)). found l m)
+      (λ (m : length (file_names b) ≤ place (file_names b) name). never (λ h. absurd (omega (arith, m, has_place (file_names b) h.second name (let k = h.in_second in omega (arith, file_count b)) (file_names_are b h.second ∙ h.named_second)))))
+      (cases_lt (place (file_names b) name) (length (file_names b))))
+      (λ (l : length (file_names a) ≤ place (file_names a) name). never (λ h. absurd (omega (arith, l, has_place (file_names a) h.first name (let k = h.in_first in omega (arith, file_count a)) (file_names_are a h.first ∙ h.named_first)))))
+      (cases_lt (place (file_names a) name) (length (file_names a)))
+    where
+      found : place (file_names a) name < length (file_names a) → place (file_names b) name < length (file_names b) → Decided (FileAgrees a b name)
+      found l m =
+          let f : ℕ = place (file_names a) name in
+          let g : ℕ = place (file_names b) name in
+          let lf : f < length a.parts.files = omega (arith, l, file_count a) in
+          let lg : g < length b.parts.files = omega (arith, m, file_count b) in
+          let ef : file_name a f ≡ name = file_namesake a name f l refl in
+          let d = files (get_or a.parts.files f no_file) (get_or b.parts.files g no_file) (All-get_or (FileOk a.nodes) a.parts.files f no_file lf oka.parts.files)
+          (All-get_or (FileOk b.nodes) b.parts.files g no_file lg okb.parts.files) in
+          record {
+            test = d.test;
+            decides = subst (λ (n : List ℕ). Decides d.test (FileAgrees a b n)) ef
+                (file_found a b f g na.files nb.files lf lg (file_namesake b name g m refl ∙ sym ef) d.test d.decides);
+          }
+
+  inputs : Decided (PortsAgree a b)
+  inputs =
+      alike (λ (h : (a.parts.reset ≡ b.parts.reset) × ((a.parts.ext ≡ b.parts.ext) × (a.parts.samples ≡ b.parts.samples))). record { reset = h.0; ext = h.1.0; samples = h.1.1 })
+      (λ h. (h.reset, (h.ext, h.samples)))
+      (both (truths a.parts.reset b.parts.reset) (both (numbers a.parts.ext b.parts.ext) (ports a.parts.samples b.parts.samples)))
+
+  root : (r : Root) → Decided (Agrees a b r)
+  root Ports = inputs
+  root (Register name) = register name
+  root (File name) = file name
+  root Full = nodes a.parts.full b.parts.full oka.parts.full okb.parts.full
+  root Ue = nodes a.parts.ue b.parts.ue oka.parts.ue okb.parts.ue
+  root Back = nodes a.parts.back b.parts.back oka.parts.back okb.parts.back
+
+-- the first of a list of roots that doesn't agree
+agree_more : (a b : Net) (r : Root) (rs : List Root) → Agrees a b r → AgreeUpTo a b rs (length rs) → AgreeUpTo a b (r ∷ rs) (suc (length rs))
+agree_more a b r rs p q zero l = p
+agree_more a b r rs p q (suc k) l = q k (omega (arith, l))
+
+differ_more : (a b : Net) (r : Root) (rs : List Root) (n : ℕ) → Agrees a b r → Differing a b rs n → Differing a b (r ∷ rs) (suc n)
+differ_more a b r rs n p d = record { there = (let t = d.there in omega arith); before = before; differs = d.differs }
+  where
+    before : (k : ℕ) → k < suc n → Agrees a b (get_or (r ∷ rs) k Ports)
+    before zero l = p
+    before (suc k) l = d.before k (omega (arith, l))
+
+differ_here : (a b : Net) (r : Root) (rs : List Root) → (Agrees a b r → ⊥) → Differing a b (r ∷ rs) 0
+differ_here a b r rs h = record { there = omega arith; before = λ k l. absurd (omega (arith, l)); differs = h }
+
+behind_one : (a b : Net) (r : Root) (rs : List Root) → Agrees a b r → (f : Option ℕ) → FirstOf a b rs f → (g : Option ℕ) × FirstOf a b (r ∷ rs) g
+behind_one a b r rs p None h = (None, agree_more a b r rs p h)
+behind_one a b r rs p (Some n) h = (Some (suc n), differ_more a b r rs n p h)
+
+with_one : (a b : Net) (r : Root) (rs : List Root) (t : Bool) → Decides t (Agrees a b r) → (f : Option ℕ) → FirstOf a b rs f → (g : Option ℕ) × FirstOf a b (r ∷ rs) g
+with_one a b r rs true d f h = behind_one a b r rs (d.0 refl) f h
+with_one a b r rs false d f h = (Some 0, differ_here a b r rs (λ p. false≢true (d.1 p)))
+
+first_of : (a b : Net) → ((r : Root) → Decided (Agrees a b r)) → (rs : List Root) → (f : Option ℕ) × FirstOf a b rs f
+first_of a b d [] = (None, λ k l. absurd (omega (arith, l)))
+first_of a b d (r ∷ rs) = let rest = first_of a b d rs in let one = d r in with_one a b r rs one.test one.decides rest.0 rest.1
+
+verdict_of : (a b : Net) (f : Option ℕ) → FirstOf a b (roots a b) f → (verdict : Verdict) × IsVerdict a b verdict
+verdict_of a b None h = (Same, record { agree = h })
+verdict_of a b (Some n) h = (Differs n, record { there = h.there; before = h.before; differs = h.differs })
+
+pub some_verdict : (a b : Net) → NetOk a → NetOk b → IsComparable a b → (verdict : Verdict) × IsVerdict a b verdict
+some_verdict a b oka okb h =
+    let f = first_of a b (root a b oka okb h.first h.second (some_tells a b oka okb)) (roots a b) in
+    verdict_of a b f.0 f.1
+
+pub one_verdict : (a b : Net) (v w : Verdict) → IsVerdict a b v → IsVerdict a b w → v ≡ w
+one_verdict a b Same Same p q = refl
+one_verdict a b Same (Differs m) p q = absurd (q.differs (p.agree m q.there))
+one_verdict a b (Differs n) Same p q = absurd (p.differs (q.agree n p.there))
+one_verdict a b (Differs n) (Differs m) p q = ⊎_elim
+    (λ (h : n < m). absurd (p.differs (q.before n h)))
+    (λ (h : m ≤ n). ⊎_elim (λ (e : n ≡ m). ap Differs e) (λ (e : n ≡ m → ⊥). absurd (q.differs (p.before m (omega arith)))) (cases_eq n m))
+    (cases_lt n m)

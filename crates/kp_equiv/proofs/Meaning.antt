@@ -1,0 +1,113 @@
+-- Alike nodes have equal words, where both netlists read the same by name.
+use Rattle.std.proofs.Common.{◌≡◌, ◌∙◌, ℕ, zero, suc, ◌%◌, ◌^◌, ◌==◌, ◌<◌, Bool, true, List, [], ◌∷◌, length, map, get_or, refl, sym, ap, arith, ⊎_elim}
+use Rattle.std.specs.Prelude.{if◌then◌else◌}
+use Rattle.std.proofs.Math.Nat.{add_comm, mul_comm}
+use Rattle.std.proofs.lemmas.Nat.{and_comm, or_comm, xor_comm}
+use Rattle.std.proofs.lemmas.Bool.{false≢true}
+use Rattle.std.proofs.lemmas.Bool.Decides.{Decides-eqb, Decides-like, same_from_decides}
+use Rattle.kp_bits.specs.Word as bits
+use Rattle.kp_bits.specs.Word.{word, not_of, mux_of, slice_of}
+use Rattle.kp_bits.specs.Operators.{binary_of, joined_of}
+use Rattle.kp_bits.specs.declared.operator.BinOp.{BinOp}
+use Rattle.kp_net.specs.declared.node.NodeId.{NodeId}
+use Rattle.kp_net.specs.declared.node.Kind.{Kind}
+use Rattle.kp_net.specs.declared.node.Kind.TheVariants.{Const, Ext, Sample, Reg, Word, Not, Binary, Mux, Concat, Slice}
+use Rattle.kp_net.specs.declared.node.Node.{Node}
+use Rattle.kp_net.specs.Netlist.{Net}
+use Rattle.kp_net.specs.Nodes.{Cells, Words, word_of_kind, word_of_node, word_at, at, on}
+use Rattle.kp_net.specs.Parts.{NetOk, CellOk}
+use Rattle.kp_net.specs.Widths.{KindOk, wide, no_node}
+use Rattle.kp_net.proofs.Values.{word_there, word_wide}
+use Rattle.kp_equiv.specs.Alike.{commutes, Relation, AllRelated, PairRelated, KindAlike, Alike, AlikeWithin}
+use Rattle.kp_equiv.specs.inner.Meaning.{SameCells}
+
+test_swaps : (x y : ℕ) → (x == y) ≡ (y == x)
+test_swaps x y = same_from_decides (x == y) (y == x) (Decides-eqb x y) (Decides-like (y == x) sym sym (Decides-eqb y x))
+
+-- an operator that commutes, on words of one width
+commuted : (op : BinOp) (x y : bits.Word) → commutes op ≡ true → x.width ≡ y.width → binary_of op x y ≡ binary_of op y x
+commuted BinOp.And x y c w = λ i. word (w i) (and_comm x.value y.value i)
+commuted BinOp.Or x y c w = λ i. word (w i) (or_comm x.value y.value i)
+commuted BinOp.Xor x y c w = λ i. word (w i) (xor_comm x.value y.value i)
+commuted BinOp.Add x y c w = λ i. word (w i) (add_comm x.value y.value i % 2 ^ w i)
+commuted BinOp.Mul x y c w = λ i. word (w i) (mul_comm x.value y.value i % 2 ^ w i)
+commuted BinOp.Eq x y c w = ap (λ (b : Bool). word 1 (if b then 1 else 0)) (test_swaps x.value y.value)
+commuted BinOp.Sub x y c w = absurd (false≢true c)
+commuted BinOp.Lt x y c w = absurd (false≢true c)
+commuted BinOp.Shl x y c w = absurd (false≢true c)
+commuted BinOp.Shr x y c w = absurd (false≢true c)
+
+-- the operands of such an operator have one width
+one_width : (op : BinOp) (ns : List Node) (m k : ℕ) (x y : NodeId) → commutes op ≡ true → KindOk ns m k (Binary op x y) → wide ns x.0 ≡ wide ns y.0
+one_width BinOp.And ns m k x y c h = h.2.0 ∙ sym h.2.1
+one_width BinOp.Or ns m k x y c h = h.2.0 ∙ sym h.2.1
+one_width BinOp.Xor ns m k x y c h = h.2.0 ∙ sym h.2.1
+one_width BinOp.Add ns m k x y c h = h.2.0 ∙ sym h.2.1
+one_width BinOp.Mul ns m k x y c h = h.2.0 ∙ sym h.2.1
+one_width BinOp.Eq ns m k x y c h = h.2.1
+one_width BinOp.Sub ns m k x y c h = absurd (false≢true c)
+one_width BinOp.Lt ns m k x y c h = absurd (false≢true c)
+one_width BinOp.Shl ns m k x y c h = absurd (false≢true c)
+one_width BinOp.Shr ns m k x y c h = absurd (false≢true c)
+
+parts_alike : (R : Relation) (v w : Words) → ((x y : NodeId) → R x y → v x.0 ≡ w y.0) → (xs ys : List NodeId) → AllRelated R xs ys → map (λ x. v x.0) xs ≡ map (λ y. w y.0) ys
+parts_alike R v w joins [] [] h = refl
+parts_alike R v w joins [] (y ∷ ys) h = absurd h
+parts_alike R v w joins (x ∷ xs) [] h = absurd h
+parts_alike R v w joins (x ∷ xs) (y ∷ ys) h = let p = joins x y h.0 in let q = parts_alike R v w joins xs ys h.1 in λ i. p i ∷ q i
+
+-- nodes that do the same give the same words
+module _ (R : Relation) (a b : Net) (c d : Cells) (cells : SameCells a b c d) (m k : ℕ) (v w : Words)
+    (joins : (x y : NodeId) → R x y → v x.0 ≡ w y.0) (widths : (x : NodeId) → x.0 < m → (v x.0).width ≡ wide a.nodes x.0) where
+  pair_alike : (op : BinOp) (x y r s : NodeId) → KindOk a.nodes m k (Binary op x y) → PairRelated R op x y r s → binary_of op (v x.0) (v y.0) ≡ binary_of op (w r.0) (w s.0)
+  pair_alike op x y r s ok = ⊎_elim
+      (λ (h : R x r × R y s). let p = joins x r h.0 in let q = joins y s h.1 in λ i. binary_of op (p i) (q i))
+      (λ (h : (commutes op ≡ true) × R x s × R y r).
+      let p = joins x s h.1 in let q = joins y r h.2 in
+      let z : binary_of op (v y.0) (v x.0) ≡ binary_of op (w r.0) (w s.0) = (λ i. binary_of op (q i) (p i)) in
+      commuted op (v x.0) (v y.0) h.0 (widths x ok.0 ∙ one_width op a.nodes m k x y h.0 ok ∙ sym (widths y ok.1)) ∙ z)
+
+  pub kinds_alike : (l : ℕ) (o p : Kind) → KindOk a.nodes m k o → CellOk a.nodes a.parts k o → CellOk b.nodes b.parts l p → KindAlike R a b o p → word_of_kind c v k o ≡ word_of_kind d w k p
+  kinds_alike l (Const x) (Const y) ok s t h = ap (word k) h
+  kinds_alike l Ext Ext ok s t h = ap (word k) cells.ext
+  kinds_alike l (Sample x) (Sample y) ok s t h = ap (word k) (cells.sample x y s.0 t.0 h)
+  kinds_alike l (Reg x) (Reg y) ok s t h = ap (word k) (cells.reg x y s.0 t.0 h)
+  kinds_alike l (Word f x) (Word g y) ok s t h =
+      ap (λ (z : bits.Word). word k (c.word f z.value)) (joins x y h.1) ∙ ap (word k) (cells.word f g (w y.0).value s.0 t.0 h.0)
+  kinds_alike l (Not x) (Not y) ok s t h = ap not_of (joins x y h)
+  kinds_alike l (Binary op x y) (Binary o r z) ok s t h = pair_alike op x y r z ok h.1 ∙ ap (λ (q : BinOp). binary_of q (w r.0) (w z.0)) h.0
+  kinds_alike l (Mux e x y) (Mux f r z) ok s t h = let p = joins e f h.0 in let q = joins x r h.1 in let u = joins y z h.2 in λ i. mux_of (p i) (q i) (u i)
+  kinds_alike l (Concat xs) (Concat ys) ok s t h = ap joined_of (parts_alike R v w joins xs ys h)
+  kinds_alike l (Slice x hi lo) (Slice y g o) ok s t h = let p = joins x y h.0 in let q = h.1 in let u = h.2 in λ i. slice_of (p i) (q i) (u i)
+  kinds_alike l o p ok s t h = absurd h
+
+module _ (a b : Net) (oka : NetOk a) (okb : NetOk b) (c d : Cells) (cells : SameCells a b c d) where
+  within : (n : ℕ) (i j : NodeId) → AlikeWithin a b n i j → word_at c a.nodes i.0 ≡ word_at d b.nodes j.0
+  unfolding AlikeWithin
+  within zero i j h = absurd h
+  within (suc n) i j h =
+      let x : Node = get_or a.nodes i.0 no_node in
+      let y : Node = get_or b.nodes j.0 no_node in
+      let li : i.0 < length a.nodes = h.0 in
+      let lj : j.0 < length b.nodes = h.1 in
+      let e = h.2.0 in
+      let ox = oka.right i.0 li in
+      let oy = okb.right j.0 lj in
+      let k : word_of_kind c (word_at c a.nodes) x.width x.kind ≡ word_of_kind d (word_at d b.nodes) x.width y.kind
+      = kinds_alike (AlikeWithin a b n) a b c d cells i.0 x.width (word_at c a.nodes) (word_at d b.nodes) (within n) (λ z l. word_wide c a.nodes z.0 (omega arith))
+      y.width x.kind y.kind ox.kind (oka.parts.cells i.0 li) (okb.parts.cells j.0 lj) h.2.1 in
+      word_there c a.nodes i.0 li ox
+      ∙ ap (λ (z : bits.Word). word x.width (z.value % 2 ^ x.width)) k
+      ∙ ap (λ (r : ℕ). word_of_node d (word_at d b.nodes) (record { width = r; kind = y.kind })) e
+      ∙ sym (word_there d b.nodes j.0 lj oy)
+
+  pub alike_words : (i j : NodeId) → Alike a b i j → word_at c a.nodes i.0 ≡ word_at d b.nodes j.0
+  alike_words i j h = within h.levels i j h.alike
+
+  pub alike_values : (i j : NodeId) → Alike a b i j → at c a.nodes i.0 ≡ at d b.nodes j.0
+  unfolding at
+  alike_values i j h = ap (λ (x : bits.Word). x.value) (alike_words i j h)
+
+  pub alike_tests : (i j : NodeId) → Alike a b i j → on c a.nodes i.0 ≡ on d b.nodes j.0
+  unfolding on
+  alike_tests i j h = ap (λ (n : ℕ). n == 1) (alike_values i j h)

@@ -1,0 +1,223 @@
+-- Netlists that run alike show the same, but for their modules' names.
+use Rattle.std.proofs.Common.{◌≡◌, ◌∙◌, ℕ, zero, suc, ◌<◌, ◌≤◌, Bool, true, false, cond, List, [], ◌∷◌, length, get_or, take, refl, sym, ap, subst, arith}
+use Rattle.std.specs.Prelude.{if◌then◌else◌}
+use Rattle.std.proofs.lemmas.Bool.{false≢true}
+use Rattle.std.proofs.lemmas.List.{length-map}
+use Rattle.std.specs.Cmp.Lexicographic.{bytes_decides}
+use Rattle.kp_base.specs.declared.row.Row.{Row}
+use Rattle.kp_bits.specs.Word.{Word}
+use Rattle.kp_ast.specs.declared.tree.Job.{Job}
+use Rattle.kp_machine.specs.Slots.{targets_of, is_register}
+use Rattle.kp_net.specs.declared.node.NodeId.{NodeId}
+use Rattle.kp_net.specs.Names.{same}
+use Rattle.kp_net.specs.Netlist.{Net, Input, State, start_of, state_after, row_of, states_from, rows_from, run}
+use Rattle.kp_net.specs.Parts.{NetOk, no_reg, no_file}
+use Rattle.kp_net.specs.Widths.{wide}
+use Rattle.kp_sched.specs.Rows.{rows_seen}
+use Rattle.kp_seq.specs.Running.{target}
+use Rattle.kp_shows.specs.Naming.{module_name, register_name, file_name as target_file_name, place_among, register_of, file_of, value_of, value_shown}
+use Rattle.kp_shows.specs.Shows.{IsOfJob}
+use Rattle.kp_shows.specs.Traces.{trace_of, inputs_seen, AreQuiet}
+use Rattle.kp_shows.specs.Traces as traces
+use Rattle.kp_equiv.specs.Alike.{Alike, AlikeWithin, reg_name, file_name}
+use Rattle.kp_equiv.specs.Roots.{reg_names, file_names, AllAgree, IsComparable}
+use Rattle.kp_equiv.specs.Runs.{RunAlike}
+use Rattle.kp_equiv.specs.Showing.{renamed, ShowsButName}
+use Rattle.kp_equiv.proofs.Naming.{one_number}
+use Rattle.kp_equiv.proofs.Places.{reg_names_are, file_names_are, reg_count, file_count}
+use Rattle.kp_equiv.proofs.Running.{agreed, regs_alike, theorem}
+
+-- the first place of a name
+pub placed_at : (ns : List (List ℕ)) (n : List ℕ) → place_among ns n < length ns → get_or ns (place_among ns n) [] ≡ n
+placed_at [] n l = absurd (omega (arith, l))
+placed_at (m ∷ ns) n l = by (same m n) refl (placed_at ns n) l
+  where
+    by : (b : Bool) → same m n ≡ b → (place_among ns n < length ns → get_or ns (place_among ns n) [] ≡ n) → cond b 0 (suc (place_among ns n)) < suc (length ns) → get_or (m ∷ ns) (cond b 0 (suc (place_among ns n))) [] ≡ n
+    by true e rest k = (bytes_decides m n).0 e
+    by false e rest k = rest (omega (arith, k))
+
+placed_there : (ns : List (List ℕ)) (n : List ℕ) (i : ℕ) → i < length ns → get_or ns i [] ≡ n → place_among ns n < length ns
+placed_there [] n i l e = absurd (omega (arith, l))
+placed_there (m ∷ ns) n i l e = by (same m n) refl (placed_there ns n) i l e
+  where
+    by : (b : Bool) → same m n ≡ b → ((j : ℕ) → j < length ns → get_or ns j [] ≡ n → place_among ns n < length ns) → (j : ℕ) → j < suc (length ns) → get_or (m ∷ ns) j [] ≡ n → cond b 0 (suc (place_among ns n)) < suc (length ns)
+    by true f rest j k g = omega arith
+    by false f rest zero k g = absurd (false≢true (sym f ∙ (bytes_decides m n).1 g))
+    by false f rest (suc j) k g = let r = rest j (omega (arith, k)) g in omega (arith, r)
+
+-- the name of the module plays no part in a run
+states_same : (net : Net) (name : List ℕ) (st : State) (ins : List Input) → states_from (renamed net name) st ins ≡ states_from net st ins
+states_same net name st [] = refl
+states_same net name st (i ∷ ins) = ap (λ (ss : List State). st ∷ ss) (states_same net name (state_after net i st) ins)
+
+rows_same : (net : Net) (name : List ℕ) (st : State) (ins : List Input) → rows_from (renamed net name) st ins ≡ rows_from net st ins
+rows_same net name st [] = refl
+rows_same net name st (i ∷ ins) = ap (λ (rs : List Row). row_of net i st ∷ rs) (rows_same net name (state_after net i st) ins)
+
+-- what two netlists have alike, whichever is the first
+pub record Twins (a b : Net) : Type 0 where
+  pub reset : a.parts.reset ≡ b.parts.reset
+  pub ext : a.parts.ext ≡ b.parts.ext
+  pub samples : a.parts.samples ≡ b.parts.samples
+  pub full : wide a.nodes a.parts.full.0 ≡ wide b.nodes b.parts.full.0
+  pub ue : wide a.nodes a.parts.ue.0 ≡ wide b.nodes b.parts.ue.0
+  pub back : wide a.nodes a.parts.back.0 ≡ wide b.nodes b.parts.back.0
+  pub regs : (r q : ℕ) → r < length a.parts.regs → q < length b.parts.regs → reg_name a r ≡ reg_name b q → (get_or a.parts.regs r no_reg).start.width ≡ (get_or b.parts.regs q no_reg).start.width
+  pub widths : (f g : ℕ) → f < length a.parts.files → g < length b.parts.files → file_name a f ≡ file_name b g
+      → ((get_or a.parts.files f no_file).width ≡ (get_or b.parts.files g no_file).width) × ((get_or a.parts.files f no_file).address_width ≡ (get_or b.parts.files g no_file).address_width)
+  pub runs : RunAlike a b
+
+module _ (a b : Net) (job : Job) (h : Twins a b) (x : IsOfJob (renamed a (module_name job)) job) where
+  -- the register of a target
+  reg_place : (t : ℕ) → t < length (targets_of job.decls) → is_register (target job t) ≡ true
+      → (register_of a (target job t) < length a.parts.regs) × (register_of b (target job t) < length b.parts.regs)
+      × (reg_name a (register_of a (target job t)) ≡ reg_name b (register_of b (target job t)))
+  reg_place t l e =
+      let n : List ℕ = register_name (target job t) in
+      let r : ℕ = register_of a (target job t) in
+      let lr : r < length a.parts.regs = (x.registers t l e).there in
+      let nr : reg_name a r ≡ n = sym (reg_names_are a r) ∙ placed_at (reg_names a) n (omega (arith, reg_count a)) in
+      let s = h.runs.there.regs r lr in
+      let lq : place_among (reg_names b) n < length (reg_names b) = placed_there (reg_names b) n s.0 (let k = s.1 in omega (arith, reg_count b)) (reg_names_are b s.0 ∙ s.2 ∙ nr) in
+      let nq : reg_name b (place_among (reg_names b) n) ≡ n = sym (reg_names_are b (place_among (reg_names b) n)) ∙ placed_at (reg_names b) n lq in
+      (lr, omega (arith, reg_count b), nr ∙ sym nq)
+
+  file_place : (t : ℕ) → t < length (targets_of job.decls) → is_register (target job t) ≡ false
+      → (file_of a (target job t) < length a.parts.files) × (file_of b (target job t) < length b.parts.files)
+      × (file_name a (file_of a (target job t)) ≡ file_name b (file_of b (target job t)))
+  file_place t l e =
+      let n : List ℕ = target_file_name (target job t) in
+      let f : ℕ = file_of a (target job t) in
+      let lf : f < length a.parts.files = (x.files t l e).there in
+      let nf : file_name a f ≡ n = sym (file_names_are a f) ∙ placed_at (file_names a) n (omega (arith, file_count a)) in
+      let s = h.runs.there.files f lf in
+      let lg : place_among (file_names b) n < length (file_names b) = placed_there (file_names b) n s.0 (let k = s.1 in omega (arith, file_count b)) (file_names_are b s.0 ∙ s.2 ∙ nf) in
+      let ng : file_name b (place_among (file_names b) n) ≡ n = sym (file_names_are b (place_among (file_names b) n)) ∙ placed_at (file_names b) n lg in
+      (lf, omega (arith, file_count b), nf ∙ sym ng)
+
+  of_job : IsOfJob (renamed b (module_name job)) job
+  of_job = record {
+    ext = sym h.ext ∙ x.ext;
+    samples = sym h.samples ∙ x.samples;
+    registers = λ t l e.
+        let p = reg_place t l e in
+        record { there = p.1; width = sym (h.regs (register_of a (target job t)) (register_of b (target job t)) p.0 p.1 p.2) ∙ (x.registers t l e).width };
+    files = λ t l e.
+        let p = file_place t l e in
+        let w = h.widths (file_of a (target job t)) (file_of b (target job t)) p.0 p.1 p.2 in
+        record { there = p.1; width = sym w.0 ∙ (x.files t l e).width; address = sym w.1 ∙ (x.files t l e).address };
+    no_more_registers = λ r l e.
+        let s = h.runs.back.regs r l in
+        let n : get_or (reg_names a) s.0 [] ≡ get_or (reg_names b) r [] = reg_names_are a s.0 ∙ s.2 ∙ sym (reg_names_are b r) in
+        let k = x.no_more_registers s.0 s.1 (ap (take 2) n ∙ e) in
+        (k.0, k.1, k.2, sym n ∙ k.3);
+    no_more_files = λ f l.
+        let s = h.runs.back.files f l in
+        let n : get_or (file_names a) s.0 [] ≡ get_or (file_names b) f [] = file_names_are a s.0 ∙ s.2 ∙ sym (file_names_are b f) in
+        let k = x.no_more_files s.0 s.1 in
+        (k.0, k.1, k.2, sym n ∙ k.3);
+  }
+
+  -- the values of a target
+  values : (ins : List Input) (T t y : ℕ) → T ≤ length ins → t < length (targets_of job.decls)
+      → value_of b (get_or (run b ins).states T traces.no_state) (target job t) y ≡ value_of a (get_or (run a ins).states T traces.no_state) (target job t) y
+  values ins T t y l m = by (is_register (target job t)) refl
+    where
+      by : (c : Bool) → is_register (target job t) ≡ c
+          → (if c then get_or (get_or (run b ins).states T traces.no_state).regs (register_of b (target job t)) 0 else get_or (get_or (get_or (run b ins).states T traces.no_state).files (file_of b (target job t)) []) y 0)
+          ≡ (if c then get_or (get_or (run a ins).states T traces.no_state).regs (register_of a (target job t)) 0 else get_or (get_or (get_or (run a ins).states T traces.no_state).files (file_of a (target job t)) []) y 0)
+      by true e = let p = reg_place t m e in sym (h.runs.regs ins T (register_of a (target job t)) (register_of b (target job t)) l p.0 p.1 p.2)
+      by false e = let p = file_place t m e in sym (h.runs.files ins T (file_of a (target job t)) (file_of b (target job t)) y l p.0 p.1 p.2)
+
+length_rows : (net : Net) (st : State) (ins : List Input) → length (rows_from net st ins) ≡ length ins
+length_rows net st [] = refl
+length_rows net st (i ∷ ins) = ap suc (length_rows net (state_after net i st) ins)
+
+-- the trace under another module's name
+seen_rows : (net : Net) (job : Job) (name : List ℕ) (ins : List Input) → (trace_of job (renamed net name) ins).rows ≡ rows_seen job.stages.value (run net ins).rows
+unfolding trace_of
+seen_rows net job name ins = ap (rows_seen job.stages.value) (rows_same net name (start_of net) ins)
+
+seen_values : (net : Net) (job : Job) (name : List ℕ) (ins : List Input) (T t y : ℕ)
+    → (trace_of job (renamed net name) ins).visible T t y ≡ value_of net (get_or (run net ins).states T traces.no_state) (target job t) y
+unfolding trace_of value_shown
+seen_values net job name ins T t y = ap (λ (ss : List State). value_of net (get_or ss T traces.no_state) (target job t) y) (states_same net name (start_of net) ins)
+
+shown : (a b : Net) (job : Job) → Twins a b → ShowsButName a job → ShowsButName b job
+shown a b job h s =
+    let name : List ℕ = module_name job in
+    let rows : (ins : List Input) → (trace_of job (renamed b name) ins).rows ≡ (trace_of job (renamed a name) ins).rows
+    = λ ins. seen_rows b job name ins ∙ ap (rows_seen job.stages.value) (sym (h.runs.rows ins)) ∙ sym (seen_rows a job name ins) in
+    record {
+      name = refl;
+      outputs = record {
+        few = subst (λ (n : ℕ). n ≤ 12) h.ext s.outputs.few;
+        full = sym h.full ∙ s.outputs.full ∙ h.ext;
+        ue = sym h.ue ∙ s.outputs.ue ∙ h.ext;
+        back = sym h.back ∙ s.outputs.back;
+      };
+      reset = sym h.reset ∙ s.reset;
+      of_job = of_job a b job h s.of_job;
+      runs = λ ins quiet.
+          let k = s.runs ins quiet in
+          record {
+            rows = rows ins ∙ k.rows;
+            values = λ T t y l w.
+                let few : T ≤ length ins = subst (λ (n : ℕ). T ≤ n) (ap length (seen_rows b job name ins) ∙ length-map (run b ins).rows _ ∙ length_rows b (start_of b) ins) l in
+                let m : T ≤ length (trace_of job (renamed a name) ins).rows = subst (λ (n : ℕ). T ≤ n) (ap length (rows ins)) l in
+                seen_values b job name ins T t y ∙ values a b job h s.of_job ins T t y few w.target ∙ sym (seen_values a job name ins T t y) ∙ k.values T t y m w;
+          };
+    }
+
+-- alike nodes have one width
+one_width : (a b : Net) (i j : NodeId) → Alike a b i j → wide a.nodes i.0 ≡ wide b.nodes j.0
+unfolding AlikeWithin wide
+one_width a b i j h = by h.levels h.alike
+  where
+    by : (d : ℕ) → AlikeWithin a b d i j → wide a.nodes i.0 ≡ wide b.nodes j.0
+    by zero k = absurd k
+    by (suc d) k = k.2.0
+
+twins : (a b : Net) → NetOk a → NetOk b → IsComparable a b → AllAgree a b → Twins a b
+twins a b oka okb fit all =
+    let h = agreed a b all in
+    record {
+      reset = h.ports.reset;
+      ext = h.ports.ext;
+      samples = h.ports.samples;
+      full = one_width a b a.parts.full b.parts.full h.full;
+      ue = one_width a b a.parts.ue b.parts.ue h.ue;
+      back = one_width a b a.parts.back b.parts.back h.back;
+      regs = λ r q l m e. ap (λ (w : Word). w.width) (regs_alike a b oka okb fit h r q l m e).start;
+      widths = λ f g l m e.
+          let s = fit.there f l in
+          let z : s.0 ≡ g = one_number (file_names b) fit.second.files s.0 g (let k = s.1 in omega (arith, file_count b)) (omega (arith, file_count b))
+          (file_names_are b s.0 ∙ sym s.2.name ∙ e ∙ sym (file_names_are b g)) in
+          (s.2.width ∙ ap (λ (k : ℕ). (get_or b.parts.files k no_file).width) z, s.2.address ∙ ap (λ (k : ℕ). (get_or b.parts.files k no_file).address_width) z);
+      runs = theorem a b oka okb fit all;
+    }
+
+turned : (a b : Net) → Twins a b → Twins b a
+turned a b h = record {
+  reset = sym h.reset;
+  ext = sym h.ext;
+  samples = sym h.samples;
+  full = sym h.full;
+  ue = sym h.ue;
+  back = sym h.back;
+  regs = λ r q l m e. sym (h.regs q r m l (sym e));
+  widths = λ f g l m e. let w = h.widths g f m l (sym e) in (sym w.0, sym w.1);
+  runs = record {
+    there = h.runs.back;
+    back = h.runs.there;
+    rows = λ ins. sym (h.runs.rows ins);
+    regs = λ ins T r q l lr lq e. sym (h.runs.regs ins T q r l lq lr (sym e));
+    files = λ ins T f g x l lf lg e. sym (h.runs.files ins T g f x l lg lf (sym e));
+  };
+}
+
+pub second_shows : (a b : Net) (job : Job) → NetOk a → NetOk b → IsComparable a b → AllAgree a b → ShowsButName a job → ShowsButName b job
+second_shows a b job oka okb fit all = shown a b job (twins a b oka okb fit all)
+
+pub first_shows : (a b : Net) (job : Job) → NetOk a → NetOk b → IsComparable a b → AllAgree a b → ShowsButName b job → ShowsButName a job
+first_shows a b job oka okb fit all = shown b a job (turned a b (twins a b oka okb fit all))

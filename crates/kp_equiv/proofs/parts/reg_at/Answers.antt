@@ -1,0 +1,12 @@
+use Rattle.std.proofs.Common.{ap, ◌∙◌, List, get_or}
+use Rattle.std.proofs.lemmas.List.{get_or_default}
+use Rattle.kp_net.specs.declared.netlist.NetReg.{NetReg}
+use Rattle.kp_net.specs.declared.netlist.Parts.{Parts}
+use Rattle.kp_net.specs.Parts.{no_reg}
+use Rattle.kp_equiv.proofs.parts.reg_at.Goals as goal
+
+pub returns-clause-value : goal.returns-clause-value
+returns-clause-value c =
+    let r : NetReg = c.index-as_slice-i.result in
+    c.index-as_slice-i.is ∙ ap (λ (rs : List NetReg). get_or rs c.args.i r) (c.as_slice.ensures ∙ ap (λ (p : Parts). p.regs) c.parts.ensures.parts)
+    ∙ get_or_default c.args.net.now.parts.regs c.args.i r no_reg c.requires

@@ -1,0 +1,15 @@
+use Rattle.std.proofs.Common.{◌∙◌, ◌+◌, arith}
+use Rattle.std.proofs.lemmas.Result.{IfOk-weaker}
+use Rattle.kp_equiv.proofs.Lines.{same_told, difference_told}
+use Rattle.kp_equiv.proofs.writing.verdict_line.Goals as goal
+
+pub returns-in-Same : goal.returns-in-Same
+returns-in-Same c =
+    let told = same_told c.args.a.now c.args.b.now c.args.verdict (c.reg_count.result + c.file_count.result + 4) c.in-Same.is c.requires.verdict
+    (omega (arith, c.reg_count.ensures.value, c.file_count.ensures.value)) in
+    IfOk-weaker c.same_line.result _ _ (λ line e. e ∙ told) c.same_line.ensures
+
+pub returns-in_ok-name-in-Differs : goal.returns-in_ok-name-in-Differs
+returns-in_ok-name-in-Differs c =
+    let told = difference_told c.args.a.now c.args.b.now c.args.verdict c.in-Differs.root c.in_ok-name-in-Differs.name.now c.in-Differs.is c.in_ok-name-in-Differs.ensures in
+    IfOk-weaker c.different_line.result _ _ (λ line e. e ∙ told) c.different_line.ensures

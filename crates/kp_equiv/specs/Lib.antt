@@ -1,0 +1,6 @@
+pub mod Alike
+pub mod Roots
+pub mod Runs
+pub mod Showing
+pub mod Texts
+pub mod inner

@@ -1,0 +1,16 @@
+-- What the front of a text is to the end of its first module, as code tells it.
+use Rattle.std.specs.Prelude.{Bool, true, false, if◌then◌else◌}
+use Rattle.kp_vlog.specs.declared.token.Keyword.{Keyword}
+use Rattle.kp_vlog.specs.Tokens.{Word, keyword, Front, finish, skips, takes, broken}
+use Rattle.kp_vsplit.specs.declared.lead.Lead.{Lead}
+use Rattle.kp_vsplit.specs.declared.lead.Lead.TheVariants as leads
+
+abbrev pub is_endmodule : Word → Bool
+is_endmodule (keyword Keyword.Endmodule) = true
+is_endmodule _ = false
+
+abbrev pub lead_of : Front → Lead
+lead_of finish = leads.Stops
+lead_of broken = leads.Stops
+lead_of (skips n) = leads.Past n
+lead_of (takes w n) = if is_endmodule w then leads.Closes n else leads.Past n
