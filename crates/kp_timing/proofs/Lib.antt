@@ -1,0 +1,13 @@
+pub mod Bits
+pub mod Asks
+pub mod Results
+pub mod Writers
+pub mod Decisions
+pub mod Moving
+pub mod Runs
+pub mod Keeping
+pub mod Holds
+pub mod Places
+pub mod Plain
+pub mod Texts
+pub mod Stepping

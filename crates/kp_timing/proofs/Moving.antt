@@ -1,0 +1,196 @@
+-- How the instructions move on: what the stages hold, and what is told of it.
+use Rattle.std.proofs.Common.{◌≡◌, ◌≢◌, ◌∙◌, ℕ, zero, suc, ◌+◌, ◌<◌, ◌≤◌, List, [], ◌∷◌, None, Bool, true, false, cond, not, ◌&&◌, length, get_or, set, refl, ap, sym, subst, arith, ⊎_elim, ◌⊎◌, inl, inr}
+use Rattle.std.specs.Prelude.{is_some}
+use Rattle.std.specs.List.{swap}
+use Rattle.std.proofs.lemmas.Bool.{cases_lt}
+use Rattle.std.proofs.lemmas.List.{length-set, get_or-set_same, get_or-set_other}
+use Rattle.std.proofs.lemmas.List.Edits.{swap_is}
+use Rattle.kp_timing.specs.inner.Deciding.{Held, nothing_told, told_in, moves_by, taken_by, taken_down}
+
+swap_count : {X : Type 0} (xs : List X) (i j : ℕ) → length (swap xs i j) ≡ length xs
+swap_count [] i j = refl
+swap_count (x ∷ xs) i j = length-set (set (x ∷ xs) i (get_or (x ∷ xs) j x)) j (get_or (x ∷ xs) i x) ∙ length-set (x ∷ xs) i (get_or (x ∷ xs) j x)
+
+swap_to : {X : Type 0} (xs : List X) (i j : ℕ) (d : X) → i < length xs → j < length xs → get_or (swap xs i j) j d ≡ get_or xs i d
+swap_to xs i j d l m =
+    let n = length-set xs i (get_or xs j d) in
+    ap (λ ys. get_or ys j d) (sym (swap_is xs i j d l m)) ∙ get_or-set_same (set xs i (get_or xs j d)) j (get_or xs i d) d (omega (arith, n))
+
+swap_other : {X : Type 0} (xs : List X) (i j k : ℕ) (d : X) → i < length xs → j < length xs → k ≢ i → k ≢ j → get_or (swap xs i j) k d ≡ get_or xs k d
+swap_other xs i j k d l m p q =
+    ap (λ ys. get_or ys k d) (sym (swap_is xs i j d l m))
+    ∙ get_or-set_other (set xs i (get_or xs j d)) j k (get_or xs i d) d q ∙ get_or-set_other xs i k (get_or xs j d) d p
+
+-- one stage, where the one below moves on or not, and it is blocked or not
+abbrev step : Bool → Bool → Held → ℕ → Held
+step c e h d =
+    cond c (record { hold = set h.hold (d + 1) (get_or h.hold d None); told = swap h.told d (d + 1) }) (cond e h (record h { hold = set h.hold (d + 1) None }))
+
+hold_count : (c e : Bool) (h : Held) (d : ℕ) → length (step c e h d).hold ≡ length h.hold
+hold_count true e h d = length-set h.hold (d + 1) (get_or h.hold d None)
+hold_count false true h d = refl
+hold_count false false h d = length-set h.hold (d + 1) None
+
+told_count : (c e : Bool) (h : Held) (d : ℕ) → length (step c e h d).told ≡ length h.told
+told_count true e h d = swap_count h.told d (d + 1)
+told_count false true h d = refl
+told_count false false h d = refl
+
+hold_other : (c e : Bool) (h : Held) (d k : ℕ) → k ≢ d + 1 → get_or (step c e h d).hold k None ≡ get_or h.hold k None
+hold_other true e h d k p = get_or-set_other h.hold (d + 1) k (get_or h.hold d None) None p
+hold_other false true h d k p = refl
+hold_other false false h d k p = get_or-set_other h.hold (d + 1) k None None p
+
+hold_here : (c e : Bool) (h : Held) (d : ℕ) → d + 1 < length h.hold
+    → get_or (step c e h d).hold (d + 1) None ≡ cond c (get_or h.hold d None) (cond e (get_or h.hold (d + 1) None) None)
+hold_here true e h d l = get_or-set_same h.hold (d + 1) (get_or h.hold d None) None l
+hold_here false true h d l = refl
+hold_here false false h d l = get_or-set_same h.hold (d + 1) None None l
+
+told_other : (c e : Bool) (h : Held) (d k : ℕ) → d + 1 < length h.told → k ≢ d → k ≢ d + 1 → told_in (step c e h d) k ≡ told_in h k
+told_other true e h d k l p q = swap_other h.told d (d + 1) k nothing_told (omega arith) l p q
+told_other false true h d k l p q = refl
+told_other false false h d k l p q = refl
+
+told_moved : (c e : Bool) (h : Held) (d : ℕ) → d + 1 < length h.told → c ≡ true → told_in (step c e h d) (d + 1) ≡ told_in h d
+told_moved true e h d l p = swap_to h.told d (d + 1) nothing_told (omega arith) l
+told_moved false e h d l p = cc
+
+told_stays : (c e : Bool) (h : Held) (d k : ℕ) → c ≡ false → told_in (step c e h d) k ≡ told_in h k
+told_stays true e h d k p = cc
+told_stays false true h d k p = refl
+told_stays false false h d k p = refl
+
+module _ (b : List Bool) where
+  abbrev next : Held → ℕ → Held
+  next h d = taken_by b h d
+
+  abbrev c_of : Held → ℕ → Bool
+  c_of h d = moves_by h b d
+
+  abbrev e_of : ℕ → Bool
+  e_of d = get_or b (d + 1) false
+
+  pub taken_count : (h : Held) (d : ℕ) → (length (taken_by b h d).hold ≡ length h.hold) × (length (taken_by b h d).told ≡ length h.told)
+  taken_count h d = (hold_count (c_of h d) (e_of d) h d, told_count (c_of h d) (e_of d) h d)
+
+  pub taken_counts : (d : ℕ) (h : Held) → (length (taken_down b d h).hold ≡ length h.hold) × (length (taken_down b d h).told ≡ length h.told)
+  taken_counts zero h = (refl, refl)
+  taken_counts (suc d) h =
+      let r = taken_counts d (next h d) in
+      (r.0 ∙ hold_count (c_of h d) (e_of d) h d, r.1 ∙ told_count (c_of h d) (e_of d) h d)
+
+  -- above the stages that are reached nothing changes
+  hold_above : (d : ℕ) (h : Held) (j : ℕ) → d < j → get_or (taken_down b d h).hold j None ≡ get_or h.hold j None
+  hold_above zero h j l = refl
+  hold_above (suc d) h j l = hold_above d (next h d) j (omega arith) ∙ hold_other (c_of h d) (e_of d) h d j (λ q. omega arith)
+
+  told_above : (d : ℕ) (h : Held) (j : ℕ) → d < length h.told → d < j → told_in (taken_down b d h) j ≡ told_in h j
+  told_above zero h j n l = refl
+  told_above (suc d) h j n l =
+      let t = told_count (c_of h d) (e_of d) h d in
+      told_above d (next h d) j (omega (arith, t)) (omega arith) ∙ told_other (c_of h d) (e_of d) h d j (omega arith) (λ q. omega arith) (λ q. omega arith)
+
+  -- nor does stage 0
+  pub hold_first : (d : ℕ) (h : Held) → get_or (taken_down b d h).hold 0 None ≡ get_or h.hold 0 None
+  hold_first zero h = refl
+  hold_first (suc d) h = hold_first d (next h d) ∙ hold_other (c_of h d) (e_of d) h d 0 (λ q. omega arith)
+
+  moves_below : (h : Held) (d j : ℕ) → j ≤ d → moves_by (next h d) b j ≡ moves_by h b j
+  moves_below h d j l = ap (λ o. is_some o && not (get_or b j false)) (hold_other (c_of h d) (e_of d) h d j (λ q. omega arith))
+
+  -- what a later stage holds
+  pub hold_taken : (d : ℕ) (h : Held) (j : ℕ) → d < length h.hold → j < d
+      → get_or (taken_down b d h).hold (j + 1) None ≡ cond (moves_by h b j) (get_or h.hold j None) (cond (get_or b (j + 1) false) (get_or h.hold (j + 1) None) None)
+  hold_taken zero h j n l = absurd (omega arith)
+  hold_taken (suc d) h j n l = ⊎_elim
+      (λ (lt : j < d).
+      let t = hold_count (c_of h d) (e_of d) h d in
+      hold_taken d (next h d) j (omega (arith, t)) lt
+      ∙ ap (λ c. cond c (get_or (next h d).hold j None) (cond (get_or b (j + 1) false) (get_or (next h d).hold (j + 1) None) None)) (moves_below h d j (omega arith))
+      ∙ ap (λ o. cond (moves_by h b j) o (cond (get_or b (j + 1) false) (get_or (next h d).hold (j + 1) None) None)) (hold_other (c_of h d) (e_of d) h d j (λ q. omega arith))
+      ∙ ap (λ o. cond (moves_by h b j) (get_or h.hold j None) (cond (get_or b (j + 1) false) o None)) (hold_other (c_of h d) (e_of d) h d (j + 1) (λ q. omega arith)))
+      (λ (ge : d ≤ j).
+      let is : d ≡ j = omega arith in
+      hold_above d (next h d) (j + 1) (omega arith)
+      ∙ subst (λ i. get_or (next h d).hold (i + 1) None ≡ cond (moves_by h b i) (get_or h.hold i None) (cond (get_or b (i + 1) false) (get_or h.hold (i + 1) None) None)) is
+      (hold_here (c_of h d) (e_of d) h d (omega arith)))
+      (cases_lt j d)
+
+  -- what is told goes with an instruction that moves on
+  pub told_up : (d : ℕ) (h : Held) (j : ℕ) → d < length h.told → j < d → moves_by h b j ≡ true → told_in (taken_down b d h) (j + 1) ≡ told_in h j
+  told_up zero h j n l m = absurd (omega arith)
+  told_up (suc d) h j n l m = ⊎_elim
+      (λ (lt : j < d).
+      let t = told_count (c_of h d) (e_of d) h d in
+      told_up d (next h d) j (omega (arith, t)) lt (moves_below h d j (omega arith) ∙ m)
+      ∙ told_other (c_of h d) (e_of d) h d j (omega arith) (λ q. omega arith) (λ q. omega arith))
+      (λ (ge : d ≤ j).
+      let is : d ≡ j = omega arith in
+      let t = told_count (c_of h d) (e_of d) h d in
+      told_above d (next h d) (j + 1) (omega (arith, t)) (omega arith)
+      ∙ subst (λ i. told_in (next h d) (i + 1) ≡ told_in h i) is (told_moved (c_of h d) (e_of d) h d (omega arith) (ap (moves_by h b) is ∙ m)))
+      (cases_lt j d)
+
+  -- and stays with one that stays
+  pub told_kept : (d : ℕ) (h : Held) (j : ℕ) → d < length h.told → j ≤ d → ((i : ℕ) → j ≡ i + 1 → moves_by h b i ≡ false) → ((j ≡ d) ⊎ (moves_by h b j ≡ false))
+      → told_in (taken_down b d h) j ≡ told_in h j
+  told_kept zero h j n l m o = refl
+  told_kept (suc d) h j n l m o = ⊎_elim
+      (λ (lt : j < d).
+      let t = told_count (c_of h d) (e_of d) h d in
+      let stays : moves_by h b j ≡ false = ⊎_elim (λ (q : j ≡ suc d). absurd (omega arith)) (λ (q : moves_by h b j ≡ false). q) o in
+      told_kept d (next h d) j (omega (arith, t)) (omega arith) (λ i q. moves_below h d i (omega arith) ∙ m i q) (inr (moves_below h d j (omega arith) ∙ stays))
+      ∙ told_other (c_of h d) (e_of d) h d j (omega arith) (λ q. omega arith) (λ q. omega arith))
+      (λ (ge : d ≤ j). ⊎_elim
+      (λ (gt : d < j).
+      let is : j ≡ d + 1 = omega arith in
+      let t = told_count (c_of h d) (e_of d) h d in
+      told_above d (next h d) j (omega (arith, t)) gt ∙ told_stays (c_of h d) (e_of d) h d j (m d is))
+      (λ (le : j ≤ d).
+      let is : j ≡ d = omega arith in
+      let t = told_count (c_of h d) (e_of d) h d in
+      let stays : moves_by h b j ≡ false = ⊎_elim (λ (q : j ≡ suc d). absurd (omega arith)) (λ (q : moves_by h b j ≡ false). q) o in
+      told_kept d (next h d) j (omega (arith, t)) (omega arith) (λ i q. moves_below h d i (omega arith) ∙ m i q) (inl is)
+      ∙ told_stays (c_of h d) (e_of d) h d j (ap (moves_by h b) (sym is) ∙ stays))
+      (cases_lt d j))
+      (cases_lt j d)
+
+swap_from : {X : Type 0} (xs : List X) (i j : ℕ) (d : X) → i < length xs → j < length xs → i ≢ j → get_or (swap xs i j) i d ≡ get_or xs j d
+swap_from xs i j d l m p =
+    ap (λ ys. get_or ys i d) (sym (swap_is xs i j d l m))
+    ∙ get_or-set_other (set xs i (get_or xs j d)) j i (get_or xs i d) d p ∙ get_or-set_same xs i (get_or xs j d) d l
+
+-- what is told in a stage after one stage moved was told in some stage before
+pub came_from : (b : List Bool) (h : Held) (d j : ℕ) → d + 1 < length h.told → j < length h.told
+    → (i : ℕ) × (i < length h.told) × (told_in (taken_by b h d) j ≡ told_in h i)
+came_from b h d j l n = by_move (moves_by h b d) (get_or b (d + 1) false)
+  where
+    by_move : (c e : Bool) → (i : ℕ) × (i < length h.told) × (told_in (step c e h d) j ≡ told_in h i)
+    by_move true e = ⊎_elim
+        (λ (lt : j < d). (j, n, told_other true e h d j l (λ q. omega arith) (λ q. omega arith)))
+        (λ (ge : d ≤ j). ⊎_elim
+        (λ (gt : d < j). ⊎_elim
+        (λ (more : d + 1 < j). (j, n, told_other true e h d j l (λ q. omega arith) (λ q. omega arith)))
+        (λ (le : j ≤ d + 1).
+        let is : d + 1 ≡ j = omega arith in
+        (d, omega arith, subst (λ x. told_in (step true e h d) x ≡ told_in h d) is (told_moved true e h d l refl)))
+        (cases_lt (d + 1) j))
+        (λ (le : j ≤ d).
+        let is : d ≡ j = omega arith in
+        (d + 1, l, subst (λ x. told_in (step true e h d) x ≡ told_in h (d + 1)) is (swap_from h.told d (d + 1) nothing_told (omega arith) l (λ q. omega arith))))
+        (cases_lt d j))
+        (cases_lt j d)
+    by_move false e = (j, n, told_stays false e h d j refl)
+
+-- and so after all of them
+pub all_came_from : (b : List Bool) (d : ℕ) (h : Held) (j : ℕ) → d < length h.told → j < length h.told
+    → (i : ℕ) × (i < length h.told) × (told_in (taken_down b d h) j ≡ told_in h i)
+all_came_from b zero h j l n = (j, n, refl)
+all_came_from b (suc d) h j l n =
+    let t = told_count (moves_by h b d) (get_or b (d + 1) false) h d in
+    let later = all_came_from b d (taken_by b h d) j (omega (arith, t)) (omega (arith, t)) in
+    let there = later.1 in
+    let inside : later.0 < length h.told = omega (arith, t, there) in
+    let first = came_from b h d later.0 (omega arith) inside in
+    (first.0, first.1, later.2 ∙ first.2)

@@ -1,0 +1,5 @@
+pub mod Timed
+pub mod Cycles
+pub mod Lines
+pub mod Unfit
+pub mod inner

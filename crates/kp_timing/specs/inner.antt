@@ -1,0 +1,4 @@
+-- The definitions below here are for private contracts and proofs alone: no public clause of the crate cites them.
+pub mod Sites
+pub mod Deciding
+pub mod Kept

@@ -1,0 +1,48 @@
+-- What a timeline keeps between its cycles.
+use Rattle.std.specs.Prelude.{◌≡◌, ℕ, suc, ◌-◌, ◌^◌, ◌≤◌, ◌<◌, List, [], Bool, true, false, Some, None, length, get_or, unwrap_or}
+use Rattle.kp_ast.specs.declared.tree.Job.{Job}
+use Rattle.kp_stage.specs.declared.start.Start.{Start}
+use Rattle.kp_stage.specs.Counts.{summary_of}
+use Rattle.kp_law.specs.Sequential.{seq}
+use Rattle.kp_law.specs.Timeline.{no_samples}
+use Rattle.kp_machine.specs.Machine.{machine_of, state_of}
+use Rattle.kp_seq.specs.Running.{Running, state, after_one}
+use Rattle.kp_seq.specs.Told.{Told, told_of}
+use Rattle.kp_timing.specs.Timed.{IsPlain}
+use Rattle.kp_timing.specs.inner.Sites.{Sited, AreSites}
+use Rattle.kp_timing.specs.inner.Deciding.{Held, told_in, moves_by, taken_down, fetched}
+
+-- room for what is told of an instruction
+pub record HasRoom (job : Job) (t : Told) : Type 0 where
+  pub reads : length t.reads ≡ (summary_of job).reads
+  pub writes : length t.writes ≡ (summary_of job).results
+  pub settings : length t.settings ≡ (summary_of job).results
+
+-- The machine has run the instruction in stage 0 and those before it, and of each instruction in a stage what was told of it is there.
+pub record IsKept (job : Job) (start : Start) (cycles : ℕ) (m : Running) (s : Sited) (h : Held) : Type 0 where
+  pub plain : IsPlain job
+  pub sites : AreSites job s
+  pub few : job.stages.value ≤ 12
+  pub some : 1 ≤ job.stages.value
+  pub few_reads : (summary_of job).reads < 2 ^ 32
+  pub few_results : (summary_of job).results < 2 ^ 32
+  pub holds : length h.hold ≡ 12
+  pub flights : length h.told ≡ job.stages.value
+  pub room : (k : ℕ) → k < job.stages.value → HasRoom job (told_in h k)
+  pub job_is : m.job ≡ job
+  pub newest : get_or h.hold 0 None ≡ Some (unwrap_or (get_or h.hold 0 None) 0)
+  pub bound : unwrap_or (get_or h.hold 0 None) 0 ≤ cycles
+  pub state_is : state m ≡ seq (machine_of job) (state_of job start) no_samples (suc (unwrap_or (get_or h.hold 0 None) 0))
+  pub told : (k i : ℕ) → k < job.stages.value → get_or h.hold k None ≡ Some i
+      → told_in h k ≡ told_of job (seq (machine_of job) (state_of job start) no_samples i) (λ x. 0)
+
+-- The instructions move on where nothing blocks them, and where that of stage 0 does, the machine runs the next one.
+pub record Moves (m : Running) (h : Held) (m2 : Running) (h2 : Held) : Type 0 where
+  pub state_is : state m2 ≡ after_one m.job (state m) []
+  pub told : m2.last ≡ told_of m.job (state m) (λ x. 0)
+  pub held : h2 ≡ fetched h m2.last
+
+pub record Advances (m : Running) (h : Held) (b : List Bool) (n : ℕ) (m2 : Running) (h2 : Held) : Type 0 where
+  pub job : m2.job ≡ m.job
+  pub moved : moves_by h b 0 ≡ true → Moves m (taken_down b (n - 1) h) m2 h2
+  pub stayed : moves_by h b 0 ≡ false → (state m2 ≡ state m) × (h2 ≡ taken_down b (n - 1) h)

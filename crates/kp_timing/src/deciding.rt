@@ -1,0 +1,247 @@
+//! Which stages wait for data, which are blocked, and how the instructions move on.
+ghost use Rattle.std.specs.Prelude.{◌≡◌, ◌-◌, ◌≤◌, ◌<◌, ◌&&◌, None, nat_le, length, get_or};
+ghost use Rattle.kp_timing.specs.inner.Deciding.{may_write_by, is_ready_by, met_from, is_met, is_unmet, some_unmet_from, waits_by, is_blocked_by, found_down, no_stage_found, moves_by, taken_down, taken_by, told_in, is_full};
+
+use crate::flight::Flight;
+use crate::masks::is_set;
+use crate::sites::{Site, Sites, Writer};
+use std::marker::Model;
+
+/// The instructions in the stages: their numbers, and what was told of each.
+#[derive(Drop)]
+pub(crate) struct Pipeline {
+    pub hold: [Option<u64>; 12],
+    pub flights: Vec<Flight>,
+}
+
+impl Model for Pipeline {
+    ghost use Rattle.kp_timing.specs.inner.Deciding.{Held};
+
+    ghost Value = { Held };
+
+    ghost view = { λ p. record { hold = p.hold; told = p.flights.items } };
+}
+
+/// The stages that wait, and those that are blocked.
+#[derive(Clone, Copy)]
+pub(crate) struct Found {
+    pub waits: [bool; 12],
+    pub blocked: [bool; 13],
+}
+
+impl Pipeline {
+    /// The number of the instruction in a stage.
+    pub fn number(&self, k: usize) -> Option<u64>
+        requires in_range { k < 12 }
+        requires hold { length self.now.hold ≡ 12 }
+        ensures { result ≡ get_or self.now.hold k None }
+    {
+        self.hold[k]
+    }
+
+    /// Whether a stage holds an instruction.
+    pub fn is_full(&self, k: usize) -> bool
+        requires { length self.now.hold ≡ 12 }
+        ensures { result ≡ is_full self.now k }
+    {
+        k < 12 && self.hold[k].is_some()
+    }
+
+    // What was told of the instruction in a stage.
+    fn told(&self, k: usize) -> &Flight
+        requires { k < length self.now.told }
+        ensures { result.now ≡ told_in self.now k }
+    {
+        &self.flights[k]
+    }
+}
+
+// Whether stage k may write a target at an address, by what was told of its instruction.
+fn may_write(writer: Writer, told: &Flight, k: usize, address: u32) -> bool
+    ensures { result ≡ may_write_by writer told.now k address }
+{
+    if writer.known as usize > k {
+        return true;
+    }
+    let result = writer.result;
+    result < told.writes.len() && told.writes[result] == Some(address)
+}
+
+// Whether the result of its instruction is ready there.
+fn is_ready(writer: Writer, told: &Flight, k: usize, is_blocked: bool) -> bool
+    ensures { result ≡ is_ready_by writer told.now k is_blocked }
+{
+    if writer.known as usize > k {
+        return false;
+    }
+    let setting = setting_of(told, writer.result);
+    setting < k || (setting == k && !is_blocked)
+}
+
+fn setting_of(told: &Flight, number: usize) -> usize
+    ensures { result ≡ get_or told.now.settings number 0 }
+{
+    if number < told.settings.len() {
+        usize::from(told.settings[number])
+    } else {
+        0
+    }
+}
+
+// Whether the nearest of the stages from one on that may write a target is ready.
+fn is_met_from(
+    writer: Writer,
+    held: &Pipeline,
+    blocked: &[bool; 13],
+    address: u32,
+    from: usize,
+    stages: usize,
+) -> bool
+    requires hold { length held.now.hold ≡ 12 }
+    requires told { stages ≤ length held.now.told }
+    requires few { stages ≤ 12 }
+    ensures { result ≡ met_from held.now blocked.now writer address (stages - from) from }
+{
+    for k in from..stages {
+        if may_write_in(writer, held, k, address) {
+            return is_ready(writer, held.told(k), k, blocked[k]);
+        }
+    }
+    true
+}
+
+fn may_write_in(writer: Writer, held: &Pipeline, k: usize, address: u32) -> bool
+    requires hold { length held.now.hold ≡ 12 }
+    requires told { k < length held.now.told }
+    ensures { result ≡ (is_full held.now k && (nat_le k writer.write && may_write_by writer (told_in held.now k) k address)) }
+{
+    held.is_full(k) && k <= writer.write as usize && may_write(writer, held.told(k), k, address)
+}
+
+// Whether a read in stage k is not met.
+fn is_unmet(
+    sites: &Sites,
+    held: &Pipeline,
+    blocked: &[bool; 13],
+    k: usize,
+    site: Site,
+    asked: Option<u32>,
+) -> bool
+    requires hold { length held.now.hold ≡ 12 }
+    requires told { sites.now.stages ≤ length held.now.told }
+    requires few { sites.now.stages ≤ 12 }
+    requires stage { k < 12 }
+    ensures { result ≡ is_unmet sites.now held.now blocked.now k site asked }
+{
+    let Some(address) = asked else {
+        return false;
+    };
+    if site.stage != k as u64 {
+        return false;
+    }
+    match sites.writer(site.target) {
+        Some(writer) => !is_met_from(writer, held, blocked, address, k + 1, sites.stages()),
+        None => false,
+    }
+}
+
+// Whether stage k waits: some read of its instruction isn't met.
+fn waits(sites: &Sites, held: &Pipeline, blocked: &[bool; 13], k: usize) -> bool
+    requires hold { length held.now.hold ≡ 12 }
+    requires told { sites.now.stages ≤ length held.now.told }
+    requires few { sites.now.stages ≤ 12 }
+    requires stage { k < sites.now.stages }
+    ensures { result ≡ waits_by sites.now held.now blocked.now k }
+{
+    held.is_full(k) && some_unmet(sites, held, blocked, k)
+}
+
+fn some_unmet(sites: &Sites, held: &Pipeline, blocked: &[bool; 13], k: usize) -> bool
+    requires hold { length held.now.hold ≡ 12 }
+    requires told { sites.now.stages ≤ length held.now.told }
+    requires few { sites.now.stages ≤ 12 }
+    requires stage { k < sites.now.stages }
+    ensures { result ≡ some_unmet_from sites.now held.now blocked.now k 0 sites.now.reads }
+{
+    let told = held.told(k);
+    let reads = sites.reads();
+    for i in 0..reads.len() {
+        if is_unmet(sites, held, blocked, k, reads[i], told.read(i)) {
+            return true;
+        }
+    }
+    false
+}
+
+/// Which stages wait and which are blocked under a stall word, from the last one down.
+pub(crate) fn find(sites: &Sites, held: &Pipeline, ext: u16) -> Found
+    requires hold { length held.now.hold ≡ 12 }
+    requires told { sites.now.stages ≤ length held.now.told }
+    requires few { sites.now.stages ≤ 12 }
+    ensures { result ≡ found_down sites.now held.now ext sites.now.stages no_stage_found }
+{
+    let mut waits_in = [false; 12];
+    let mut blocked = [false; 13];
+    let mut k = sites.stages();
+    while k > 0 {
+        k -= 1;
+        let is_waiting = waits(sites, held, &blocked, k);
+        waits_in[k] = is_waiting;
+        blocked[k] = is_blocked(held, ext, &blocked, k, is_waiting);
+    }
+    Found {
+        waits: waits_in,
+        blocked,
+    }
+}
+
+// Whether stage k is blocked: it holds an instruction and waits, is stalled from outside, or the next stage is blocked.
+fn is_blocked(held: &Pipeline, ext: u16, blocked: &[bool; 13], k: usize, is_waiting: bool) -> bool
+    requires hold { length held.now.hold ≡ 12 }
+    requires stage { k < 12 }
+    ensures { result ≡ is_blocked_by held.now ext blocked.now k is_waiting }
+{
+    held.is_full(k) && (is_waiting || is_set(ext, k) || blocked[k + 1])
+}
+
+impl Found {
+    /// Whether a stage moves its instruction on: it holds one and isn't blocked.
+    pub fn moves(&self, held: &Pipeline, k: usize) -> bool
+        requires hold { length held.now.hold ≡ 12 }
+        requires stage { k < 12 }
+        ensures { result ≡ moves_by held.now self.now.blocked k }
+    {
+        held.is_full(k) && !self.blocked[k]
+    }
+}
+
+/// The instructions move on, from the last stage down: each stage takes the instruction of the one before it where that moves on, or
+/// keeps its own where it is blocked. Stage 0 is left as it is.
+pub(crate) fn move_on(held: &mut Pipeline, blocked: &[bool; 13], stages: usize)
+    requires hold { length held.old.hold ≡ 12 }
+    requires told { stages ≤ length held.old.told }
+    requires few { stages ≤ 12 }
+    ensures { held.new ≡ taken_down blocked.now (stages - 1) held.old }
+{
+    let mut k = stages;
+    while k > 1 {
+        k -= 1;
+        move_into(held, blocked, k);
+    }
+}
+
+// Stage k takes the instruction of the one before it, or keeps its own.
+fn move_into(held: &mut Pipeline, blocked: &[bool; 13], k: usize)
+    requires hold { length held.old.hold ≡ 12 }
+    requires told { k < length held.old.told }
+    requires some { 1 ≤ k }
+    requires few { k < 12 }
+    ensures { held.new ≡ taken_by blocked.now held.old (k - 1) }
+{
+    if held.is_full(k - 1) && !blocked[k - 1] {
+        held.hold[k] = held.hold[k - 1];
+        held.flights.as_mut_slice().swap(k - 1, k);
+    } else if !blocked[k] {
+        held.hold[k] = None;
+    }
+}

@@ -1,0 +1,20 @@
+//! The timeline of a design without guesses and samples: which instruction each stage holds in each cycle, which stages wait for
+//! data, and which move on. It is decided from the sequential machine alone, by instruction numbers and by what the machine tells of
+//! each instruction: the addresses of its reads and writes, and the stages in which its results are set.
+//!
+//! `Timeline` runs it (`specs/Timed.antt`), `laws` joins its rows to the pipeline's (`specs/Cycles.antt`), `timing_line` and
+//! `total_line` write its text (`specs/Lines.antt`), and `untimed` finds what has no timeline (`specs/Unfit.antt`).
+#![tactic(auto)]
+
+mod deciding;
+mod flight;
+pub mod laws;
+mod lines;
+mod masks;
+mod sites;
+mod timeline;
+mod unfit;
+
+pub use lines::{LINE, timing_line, total_line};
+pub use timeline::Timeline;
+pub use unfit::untimed;

@@ -1,0 +1,33 @@
+//! Words of bits, of which bit k belongs to stage k.
+ghost use Rattle.std.specs.Prelude.{◌≡◌, ℕ, ◌+◌, ◌*◌, ◌^◌, ◌<◌, false, get_or};
+ghost use Rattle.kp_law.specs.Rows.{one_if};
+ghost use Rattle.kp_sched.specs.Rows.{bit_of};
+
+/// The word of these bits.
+pub(crate) fn mask_of(bits: &[bool; 12]) -> u16
+    ensures { (k : ℕ) → bit_of result k ≡ get_or bits.now k false }
+{
+    let mut mask: u16 = 0;
+    let mut k = 12;
+    while k > 0 {
+        k -= 1;
+        mask = pushed(mask, bits[k]);
+    }
+    mask
+}
+
+// A word with one more bit below.
+fn pushed(mask: u16, bit: bool) -> u16
+    requires { mask < 2 ^ 15 }
+    ensures { result ≡ 2 * mask + one_if bit }
+{
+    if bit { 2 * mask + 1 } else { 2 * mask }
+}
+
+/// Bit k of a word.
+pub(crate) fn is_set(word: u16, k: usize) -> bool
+    requires { k < 16 }
+    ensures { result ≡ bit_of word k }
+{
+    (word >> k) % 2 == 1
+}
