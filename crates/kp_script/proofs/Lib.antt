@@ -1,0 +1,4 @@
+pub mod Faults
+pub mod Splitting
+pub mod Turns
+pub mod Words
