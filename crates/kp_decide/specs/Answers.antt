@@ -8,10 +8,13 @@ use Rattle.kp_show.specs.States.{sequential_text}
 use Rattle.kp_show.specs.Runs.{sim_text}
 use Rattle.kp_genshow.specs.Line.{gen_text}
 use Rattle.kp_dump.specs.Dumps.{vcd_text}
+use Rattle.kp_timing.specs.Lines.{timing_text}
+use Rattle.kp_inspect.specs.Inspecting.{debug_text}
 use Rattle.kp_due.specs.Saying.{Says}
 use Rattle.kp_due.specs.Due.{DueFor}
 use Rattle.kp_due.specs.Written.{IsVerilogOf}
 use Rattle.kp_due.specs.Watched.{DueOfRun}
+use Rattle.kp_due.specs.Compared.{verdict_status}
 use Rattle.kp_decide.specs.declared.answer.Answer.{Answer}
 use Rattle.kp_decide.specs.declared.answer.Answer.TheVariants as answers
 
@@ -22,11 +25,14 @@ AnswerSays (answers.Misread refusal) = Says 6 (refusal_line refusal)
 AnswerSays (answers.After steps) = Says 0 (sequential_text steps.count steps.job.design.job)
 AnswerSays (answers.Simulation steps) = Says 0 (sim_text steps.count steps.job.design.job)
 AnswerSays (answers.Dump steps) = Says 0 (vcd_text steps.count steps.job.design.job)
+AnswerSays (answers.Timing timed) = Says 0 (timing_text timed.job.design.job timed.count)
 AnswerSays (answers.Pipelined job) = λ status text. (status ≡ 0) × IsVerilogOf job.design.job text
 AnswerSays (answers.Checked design) = Says 0 (accepted_line design.job.name.name (summary_of design.job))
 AnswerSays (answers.Image section) = Says 0 section.items
 AnswerSays (answers.Denoted net) = Says 0 (canon net)
 AnswerSays (answers.Watch watch) = DueOfRun watch.count watch.job.design.job watch.net
+AnswerSays (answers.Debugging debugging) = Says 0 (debug_text debugging.job.design.job debugging.commands.items)
+AnswerSays (answers.Compared comparison) = Says (verdict_status comparison.verdict) comparison.line.items
 AnswerSays (answers.Generated generation) = Says 0 (gen_text generation.number generation.count)
 
 -- Whatever the answer says is due of a command and its input.

@@ -1,5 +1,8 @@
 // An answer: what is known once the rules are decided.
+use crate::comparison::Comparison;
 use crate::generation::Generation;
+use crate::script::Debugging;
+use crate::timed::TimedJob;
 use crate::watch::Watch;
 use kp_base::Refusal;
 use kp_judge::Accepted;
@@ -28,6 +31,8 @@ pub enum Answer {
     Simulation(Steps),
     /// The changes of the pipelined machine over so many cycles.
     Dump(Steps),
+    /// The timeline of so many cycles.
+    Timing(TimedJob),
     /// The Verilog of the pipelined machine.
     Pipelined(Accepted),
     /// The numbers of a job that breaks no rule.
@@ -38,6 +43,10 @@ pub enum Answer {
     Denoted(Netlist),
     /// The run of the netlist of a text beside the sequential machine of its job.
     Watch(Watch),
+    /// What the commands of a script tell of the pipelined machine.
+    Debugging(Debugging),
+    /// What the comparison of two netlists of a job came to.
+    Compared(Comparison),
     /// The run of a generated job.
     Generated(Generation),
 }

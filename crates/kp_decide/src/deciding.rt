@@ -3,12 +3,16 @@ ghost use Rattle.std.specs.Prelude.{◌≤◌, ℕ, List, length, IfOk, Ok};
 ghost use Rattle.kp_words.specs.declared.words.Command.TheVariants.{OnJob, Assemble, Read, Watch as Watches, Generate};
 ghost use Rattle.kp_shows.specs.Shows.{HasOutputs};
 ghost use Rattle.kp_judge.specs.Judging.{JudgesHeadText};
-ghost use Rattle.kp_due.specs.Due.{DueOfJob};
+ghost use Rattle.kp_timing.specs.Unfit.{untimed};
+ghost use Rattle.kp_due.specs.Due.{DueOfJob, DueOfTiming};
 ghost use Rattle.kp_due.specs.Watched.{DueOfNetlist};
 ghost use Rattle.kp_decide.specs.Answers.{AnswerSays, Answers};
 
 use crate::answer::{Answer, Steps};
+use crate::comparing::on_pair;
+use crate::debugging::on_script;
 use crate::generation::Generation;
+use crate::timed::TimedJob;
 use crate::watch::Watch;
 use kp_asm::{assemble, image_text};
 use kp_base::{NoMemory, Refused};
@@ -17,6 +21,7 @@ use kp_judge::{Accepted, Head, judge, judge_head};
 use kp_match::laws::a_netlist_that_was_read_has_its_outputs;
 use kp_match::matches;
 use kp_net::Netlist;
+use kp_timing::untimed;
 use kp_vread::read_verilog;
 use kp_words::{Command, JobCommand};
 use std::alloc::Global;
@@ -31,6 +36,8 @@ pub fn carry_out(alloc: Global, command: Command, input: &[u8]) -> Result<Answer
         Command::Assemble => on_program(alloc, input),
         Command::Read => on_verilog(alloc, input),
         Command::Watch(count) => on_head(alloc, count, input),
+        Command::Compare => on_pair(alloc, input),
+        Command::Debug => on_script(alloc, input),
         Command::Generate(number, count) => on_nothing(alloc, number, count),
     }
 }
@@ -65,7 +72,22 @@ fn answer_to(command: JobCommand, job: Accepted) -> Answer
         JobCommand::Check => Answer::Checked(job.design),
         JobCommand::Sim(count) => Answer::Simulation(Steps { count, job }),
         JobCommand::Vcd(count) => Answer::Dump(Steps { count, job }),
+        JobCommand::Timing(count) => timed(count, job),
         JobCommand::Pipe => Answer::Pipelined(job),
+    }
+}
+
+// The timeline of a job that breaks no rule, or E38.
+fn timed(count: u32, job: Accepted) -> Answer
+    ensures { (status : ℕ) (text : List ℕ) → AnswerSays result status text
+        → DueOfTiming count job.design.job (untimed job.design.job) status text }
+{
+    match untimed(job.design.job()) {
+        Some(refusal) => {
+            drop(job);
+            Answer::Refused(refusal)
+        }
+        None => Answer::Timing(TimedJob { count, job }),
     }
 }
 

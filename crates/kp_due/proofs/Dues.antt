@@ -1,9 +1,9 @@
 -- The laws of what is due that the top call needs.
-use Rattle.std.proofs.Common.{true, sym, subst, IfSome, ap, [], ◌++◌, ◌⊎◌, ◌∙◌, inl, None, arith, append-nil, length-append, ◌≡◌, ℕ, ◌<◌, ◌≤◌, List, length, refl, inr, Some, Ok, Err}
+use Rattle.std.proofs.Common.{true, sym, subst, IfSome, ap, drop, [], ◌++◌, ◌⊎◌, ◌∙◌, inl, None, arith, append-nil, length-append, ◌≡◌, ℕ, ◌<◌, ◌≤◌, List, length, refl, inr, Some, Ok, Err}
 use Rattle.std.specs.declared.option.Option.{Option}
 use Rattle.std.proofs.lemmas.Bool.{lt-ltb}
 use Rattle.std.specs.Io.KnownBytes.{Consumes}
-use Rattle.kp_words.specs.declared.words.Command.TheVariants.{OnJob, Assemble, Read, Watch, Generate}
+use Rattle.kp_words.specs.declared.words.Command.TheVariants.{OnJob, Assemble, Read, Watch, Compare, Debug, Generate}
 use Rattle.kp_words.specs.declared.words.Command.{Command}
 use Rattle.std.specs.declared.result.Result.{Result}
 use Rattle.kp_base.specs.declared.refusal.Refusal.{Refusal}
@@ -19,6 +19,10 @@ use Rattle.kp_vlog.specs.Canon.{canon}
 use Rattle.kp_due.specs.Due.{Completes, Due, DueFor, DueOfJob, DueOfProgram, program_of, IsDue, IsWhole}
 use Rattle.kp_due.specs.Read.{ReadsVerilog, DueOfRead, read_over, read_within}
 use Rattle.kp_due.specs.Watched.{DueOfWatch, DueOfText}
+use Rattle.kp_due.specs.Compared.{DueOfModules, DueOfCompare}
+use Rattle.kp_due.specs.Scripted.{DueOfScript, DueOfDebug}
+use Rattle.kp_script.specs.Scripts.{script_of}
+use Rattle.kp_vsplit.specs.Splitting.{FirstEnds}
 
 too_long_due : (command : Command) (old new : Option (List ℕ)) (taken : List ℕ) → reads_input (Some command) ≡ true → Consumes old new taken → length taken ≡ 16777217 → IsWhole (reads_input (Some command)) taken new × DueFor (Some command) taken 2 (refusal_line too_long)
 unfolding program_of
@@ -27,6 +31,8 @@ too_long_due Assemble old new taken reads consumed count =
     let long : 16777216 < length taken = omega arith in
     (inr count, rw (lt-ltb 16777216 (length taken) long) (refl, refl))
 too_long_due (Watch count) old new taken reads consumed many = (inr many, (Err too_long, head_over (omega arith), (refl, refl)))
+too_long_due Compare old new taken reads consumed many = (inr many, (Err too_long, head_over (omega arith), (refl, refl)))
+too_long_due Debug old new taken reads consumed many = (inr many, (Err too_long, head_over (omega arith), (refl, refl)))
 too_long_due Read old new taken reads consumed count = (inr count, read_over (omega arith) (refl, refl))
 too_long_due (Generate number count) old new taken reads consumed many = cc reads
 
@@ -71,12 +77,28 @@ watch_all n taken rest status text (inl none) due =
 watch_all n taken rest status text (inr count) (_, head_over long, said) = (Err too_long, head_over (simp length-append (omega arith)), said)
 watch_all n taken rest status text (inr count) (_, head_within short judged, said) = absurd (omega arith)
 
+-- and of a job with two of them
+compare_all : (taken rest : List ℕ) (status : ℕ) (text : List ℕ) → ((rest ≡ []) ⊎ (length taken ≡ 16777217)) → DueOfCompare taken status text → DueOfCompare (taken ++ rest) status text
+compare_all taken rest status text (inl none) due =
+    subst (λ (bytes : List ℕ). DueOfCompare bytes status text) (sym (ap (λ (r : List ℕ). taken ++ r) none ∙ append-nil taken)) due
+compare_all taken rest status text (inr count) (_, head_over long, said) = (Err too_long, head_over (simp length-append (omega arith)), said)
+compare_all taken rest status text (inr count) (_, head_within short judged, said) = absurd (omega arith)
+
+-- and of a job with a script
+debug_all : (taken rest : List ℕ) (status : ℕ) (text : List ℕ) → ((rest ≡ []) ⊎ (length taken ≡ 16777217)) → DueOfDebug taken status text → DueOfDebug (taken ++ rest) status text
+debug_all taken rest status text (inl none) due =
+    subst (λ (bytes : List ℕ). DueOfDebug bytes status text) (sym (ap (λ (r : List ℕ). taken ++ r) none ∙ append-nil taken)) due
+debug_all taken rest status text (inr count) (_, head_over long, said) = (Err too_long, head_over (simp length-append (omega arith)), said)
+debug_all taken rest status text (inr count) (_, head_within short judged, said) = absurd (omega arith)
+
 due_all_for : (command : Option Command) (taken rest : List ℕ) (status : ℕ) (text : List ℕ) → IsWhole (reads_input command) taken (Some rest) → DueFor command taken status text → DueFor command (taken ++ rest) status text
 due_all_for None taken rest status text whole due = due
 due_all_for (Some (OnJob command)) taken rest status text whole (verdict, judged, said) = (verdict, judges_all taken rest whole judged, said)
 due_all_for (Some Assemble) taken rest status text whole due =
     subst (λ (found : Result (List ℕ) Refusal). DueOfProgram found status text) (sym (program_all taken rest whole)) due
 due_all_for (Some (Watch n)) taken rest status text whole due = watch_all n taken rest status text whole due
+due_all_for (Some Compare) taken rest status text whole due = compare_all taken rest status text whole due
+due_all_for (Some Debug) taken rest status text whole due = debug_all taken rest status text whole due
 due_all_for (Some Read) taken rest status text whole due = read_all taken rest status text whole due
 due_all_for (Some (Generate number count)) taken rest status text whole due = due
 
@@ -115,3 +137,19 @@ head_refused_is_due n text refusal short judged = (Err refusal, head_within shor
 pub head_accepted_is_due : (n : ℕ) (text : List ℕ) (job : Job) (rest : ℕ) (verdict : Result Net Refusal) (status : ℕ) (answer : List ℕ) → length text ≤ 16777216
     → JudgesHeadText text (Ok (job, rest)) → ReadsVerilog text rest verdict → DueOfText n job verdict status answer → DueFor (Some (Watch n)) text status answer
 head_accepted_is_due n text job rest verdict status answer short judged read due = (Ok (job, rest), head_within short judged, (verdict, read, due))
+
+-- and the same of `equiv`
+pub pair_head_refused_is_due : (text : List ℕ) (refusal : Refusal) → length text ≤ 16777216 → JudgesHeadText text (Err refusal) → DueFor (Some Compare) text 2 (refusal_line refusal)
+pair_head_refused_is_due text refusal short judged = (Err refusal, head_within short judged, (refl, refl))
+
+pub pair_head_accepted_is_due : (text : List ℕ) (job : Job) (rest middle status : ℕ) (answer : List ℕ) → length text ≤ 16777216 → JudgesHeadText text (Ok (job, rest))
+    → FirstEnds rest (drop rest text) middle → DueOfModules job text rest middle status answer → DueFor (Some Compare) text status answer
+pair_head_accepted_is_due text job rest middle status answer short judged ends due = (Ok (job, rest), head_within short judged, (middle, ends, due))
+
+-- and the same of `debug`
+pub script_head_refused_is_due : (text : List ℕ) (refusal : Refusal) → length text ≤ 16777216 → JudgesHeadText text (Err refusal) → DueFor (Some Debug) text 2 (refusal_line refusal)
+script_head_refused_is_due text refusal short judged = (Err refusal, head_within short judged, (refl, refl))
+
+pub script_is_due : (text : List ℕ) (job : Job) (rest status : ℕ) (answer : List ℕ) → length text ≤ 16777216 → JudgesHeadText text (Ok (job, rest))
+    → DueOfScript job (script_of job.decls text rest) status answer → DueFor (Some Debug) text status answer
+script_is_due text job rest status answer short judged due = (Ok (job, rest), head_within short judged, due)

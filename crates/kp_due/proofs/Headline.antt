@@ -1,5 +1,8 @@
 -- The headline, from what is due.
-use Rattle.std.proofs.Common.{◌∙◌, ◌≡◌, ℕ, List, None, Some, Ok, Err, refl, arith}
+use Rattle.std.proofs.Common.{◌∙◌, ◌≡◌, ◌≤◌, ℕ, List, length, drop, None, Some, Ok, Err, refl, arith}
+use Rattle.std.specs.declared.option.Option.{Option}
+use Rattle.std.specs.declared.result.Result.{Result}
+use Rattle.kp_base.specs.declared.refusal.Refusal.{Refusal}
 use Rattle.kp_ast.specs.declared.tree.Job.{Job}
 use Rattle.kp_stage.specs.Start.{start_of}
 use Rattle.kp_stage.proofs.Unbroken.{first_none}
@@ -18,19 +21,36 @@ use Rattle.kp_shows.specs.Traces.{inputs_seen, trace_of}
 use Rattle.kp_judge.specs.Judging.{Judges, broken_in}
 use Rattle.kp_judge.specs.Judging.Judges.{within}
 use Rattle.kp_judge.specs.Judging.JudgesText.{accepted as no_rule_broken}
-use Rattle.kp_words.specs.declared.words.JobCommand.TheVariants.{Sim, Pipe}
-use Rattle.kp_words.specs.declared.words.Command.TheVariants.{OnJob, Watch}
+use Rattle.kp_judge.specs.Judging.JudgesHeadText.{head_accepted}
+use Rattle.kp_words.specs.declared.words.JobCommand.TheVariants.{Sim, Timing, Pipe}
+use Rattle.kp_words.specs.declared.words.Command.TheVariants.{OnJob, Watch, Compare, Debug}
 use Rattle.kp_show.specs.Runs.{sim_text}
 use Rattle.kp_show.proofs.Sims.{rows_many}
-use Rattle.kp_due.specs.Due.{DueFor}
+use Rattle.kp_timing.specs.Unfit.{untimed}
+use Rattle.kp_timing.proofs.Plain.{has_timeline}
+use Rattle.kp_due.specs.Due.{DueFor, DueOfTiming}
 use Rattle.kp_net.specs.Netlist.{Net}
 use Rattle.kp_judge.specs.Judging.{JudgesHead}
+use Rattle.kp_judge.specs.Judging.JudgesHead.{head_within}
+use Rattle.kp_vsplit.specs.Splitting.{FirstEnds}
+use Rattle.kp_equiv.specs.declared.verdict.Verdict.TheVariants.{Same, Differs}
+use Rattle.kp_equiv.proofs.Running.{theorem}
+use Rattle.kp_equiv.proofs.Shown.{first_shows, second_shows}
 use Rattle.kp_due.specs.Read.{ReadsVerilog}
 use Rattle.kp_due.specs.Watched.{agrees, differs, DueOfNetlist, of_other, of_job}
-use Rattle.kp_due.specs.Headline.{IsMoving, HasNoNeedlessStall, IsVerilogWith, IsRunWith, IsNetlistWith}
+use Rattle.kp_due.specs.Compared.{jobs, DueOfModules}
+use Rattle.kp_script.specs.declared.command.Command.{Command}
+use Rattle.kp_script.specs.Scripts.{script_of}
+use Rattle.kp_inspect.specs.Inspecting.{all_cycles, whole_run}
+use Rattle.kp_due.specs.Scripted.{DueOfScript}
+use Rattle.kp_due.specs.Headline.{IsMoving, HasNoNeedlessStall, IsVerilogWith, IsRunWith, IsTimed, IsDebuggedWith, IsNetlistWith, IsPairAlike}
+use Rattle.kp_due.proofs.Pairs.{first_right, second_right, comparable_pair}
 
 judged_unbroken : (input : List ℕ) (job : Job) → Judges input (Ok job) → broken_in job ≡ None
 judged_unbroken input job (within short (no_rule_broken describes none)) = none
+
+head_unbroken : (input : List ℕ) (job : Job) (rest : ℕ) → JudgesHead input (Ok (job, rest)) → broken_in job ≡ None
+head_unbroken input job rest (head_within short (head_accepted sentence none)) = none
 
 -- so its machine is accepted
 accepted_machine : (job : Job) → broken_in job ≡ None → Accepted (machine_of job)
@@ -82,6 +102,25 @@ moves_pipe job ins acc = moves (machine_of job) (state_of job (start_of job)) (s
 waits_pipe : (job : Job) (ins : List Inputs) → Accepted (machine_of job) → HasNoNeedlessStall job ins (pipe_of job ins)
 waits_pipe job ins acc guesses samples = same-rows (machine_of job) (state_of job (start_of job)) (start_hints job) ins acc (guessless job guesses samples)
 
+-- what `timing` says without a refusal is the timeline of a job without guesses and samples
+timed_job : (n : ℕ) (input text : List ℕ) (job : Job) → Judges input (Ok job) → (found : Option Refusal) → untimed job ≡ found → DueOfTiming n job found 0 text
+    → IsTimed n input text
+timed_job n input text job judged (Some refusal) is said = absurd (omega (arith, said.0))
+timed_job n input text job judged None is said =
+    let plain = has_timeline job is in
+    record {
+      job = job;
+      judged = judged;
+      guesses = plain.guesses;
+      samples = plain.samples;
+      told = said.1;
+      rows = waits_pipe job (inputs_from job 0 n) (accepted_machine job (judged_unbroken input job judged)) plain.guesses plain.samples;
+    }
+
+pub timing_is_timed : (n : ℕ) (input text : List ℕ) → DueFor (Some (OnJob (Timing n))) input 0 text → IsTimed n input text
+timing_is_timed n input text (Ok job, judged, said) = timed_job n input text job judged (untimed job) refl said
+timing_is_timed n input text (Err refusal, judged, said) = absurd (omega (arith, said.0))
+
 pub sim_is_legal : (n : ℕ) (input text : List ℕ) → DueFor (Some (OnJob (Sim n))) input 0 text → IsRunWith IsLegal n input text
 sim_is_legal = sim_with IsLegal (λ job ins acc. legal_pipe job acc ins)
 
@@ -120,3 +159,61 @@ pub watch_is_legal : (n : ℕ) (input text : List ℕ) → DueFor (Some (Watch n
 watch_is_legal n input text (Ok (job, rest), judged, (Ok net, denotes, due)) = legal_netlist n input text job rest judged net denotes due
 watch_is_legal n input text (Ok (job, rest), judged, (Err refusal, misread, said)) = absurd (omega (arith, said.0))
 watch_is_legal n input text (Err refusal, judged, said) = absurd (omega (arith, said.0))
+
+module _ (input text : List ℕ) (job : Job) (rest : ℕ) (judged : JudgesHead input (Ok (job, rest))) (short : length input ≤ 16777216) (middle : ℕ)
+    (ends : FirstEnds rest (drop rest input) middle) where
+  alike_pair : DueOfModules job input rest middle 0 text → IsPairAlike input text
+  alike_pair (Err refusal, read, said) = absurd (omega (arith, said.0))
+  alike_pair (Ok a, read, (Err refusal, second, said)) = absurd (omega (arith, said.0))
+  alike_pair (Ok a, read, (Ok b, second, (Differs root, differs_there, said))) = absurd (omega (arith, said.0))
+  alike_pair (Ok a, jobs p is, (Ok b, jobs q js, (Same, all, said))) =
+      let right = first_right input short rest middle a p in
+      let other = second_right input short middle b q in
+      let pair = comparable_pair input rest middle a b job p q is js in
+      record {
+        job = job;
+        rest = rest;
+        judged = judged;
+        middle = middle;
+        ends = ends;
+        first = a;
+        denotes_first = p;
+        first_of_job = is;
+        second = b;
+        denotes_second = q;
+        second_of_job = js;
+        told = said.1;
+        alike = theorem a b right other pair all;
+        shows = (second_shows a b job right other pair all, first_shows a b job right other pair all);
+      }
+
+pub pair_is_alike : (input text : List ℕ) → DueFor (Some Compare) input 0 text → IsPairAlike input text
+pair_is_alike input text (Ok (job, rest), head_within short judged, (middle, ends, due)) = alike_pair input text job rest (head_within short judged) short middle ends due
+pair_is_alike input text (Err refusal, judged, said) = absurd (omega (arith, said.0))
+
+-- what holds of each accepted pipeline holds of the run that `debug` tells of
+told_script : (Fact : Job → List Inputs → Trace → Type 0) → ((job : Job) (ins : List Inputs) → Accepted (machine_of job) → Fact job ins (pipe_of job ins))
+    → (input text : List ℕ) (job : Job) (rest : ℕ) → JudgesHead input (Ok (job, rest)) → (found : Result (List Command) Refusal) → script_of job.decls input rest ≡ found
+    → DueOfScript job found 0 text → IsDebuggedWith Fact input text
+unfolding whole_run
+told_script Fact law input text job rest judged (Ok commands) is said = record {
+  job = job;
+  rest = rest;
+  judged = judged;
+  commands = commands;
+  script = is;
+  told = said.1;
+  holds = law job (inputs_from job 0 all_cycles) (accepted_machine job (head_unbroken input job rest judged));
+}
+told_script Fact law input text job rest judged (Err refusal) is said = absurd (omega (arith, said.0))
+
+debug_with : (Fact : Job → List Inputs → Trace → Type 0) → ((job : Job) (ins : List Inputs) → Accepted (machine_of job) → Fact job ins (pipe_of job ins))
+    → (input text : List ℕ) → DueFor (Some Debug) input 0 text → IsDebuggedWith Fact input text
+debug_with Fact law input text (Ok (job, rest), judged, said) = told_script Fact law input text job rest judged (script_of job.decls input rest) refl said
+debug_with Fact law input text (Err refusal, judged, said) = absurd (omega (arith, said.0))
+
+pub debug_is_legal : (input text : List ℕ) → DueFor (Some Debug) input 0 text → IsDebuggedWith IsLegal input text
+debug_is_legal = debug_with IsLegal (λ job ins acc. legal_pipe job acc ins)
+
+pub debug_moves : (input text : List ℕ) → DueFor (Some Debug) input 0 text → IsDebuggedWith IsMoving input text
+debug_moves = debug_with IsMoving moves_pipe

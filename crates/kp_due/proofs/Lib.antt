@@ -1,4 +1,5 @@
 pub mod Dues
+pub mod Pairs
 pub mod Headline
 pub mod Refusals
 pub mod VerilogShapes

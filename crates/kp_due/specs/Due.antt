@@ -8,9 +8,9 @@ use Rattle.kp_stage.specs.Counts.{summary_of}
 use Rattle.kp_asm.specs.Image.{image_text_of}
 use Rattle.kp_asm.specs.Program.{assembled}
 use Rattle.kp_words.specs.declared.words.Command.{Command}
-use Rattle.kp_words.specs.declared.words.Command.TheVariants.{OnJob, Assemble, Read, Watch, Generate}
+use Rattle.kp_words.specs.declared.words.Command.TheVariants.{OnJob, Assemble, Read, Watch, Compare, Debug, Generate}
 use Rattle.kp_words.specs.declared.words.JobCommand.{JobCommand}
-use Rattle.kp_words.specs.declared.words.JobCommand.TheVariants.{Seq, Check, Sim, Pipe, Vcd}
+use Rattle.kp_words.specs.declared.words.JobCommand.TheVariants.{Seq, Check, Sim, Pipe, Vcd, Timing}
 use Rattle.kp_words.specs.Words.{command_of, reads_input}
 use Rattle.kp_judge.specs.Judging.{Judges, too_long}
 use Rattle.kp_show.specs.Texts.{bad_words, refusal_line, accepted_line}
@@ -18,10 +18,19 @@ use Rattle.kp_show.specs.States.{sequential_text}
 use Rattle.kp_show.specs.Runs.{sim_text}
 use Rattle.kp_genshow.specs.Line.{gen_text}
 use Rattle.kp_dump.specs.Dumps.{vcd_text}
+use Rattle.kp_timing.specs.Unfit.{untimed}
+use Rattle.kp_timing.specs.Lines.{timing_text}
 use Rattle.kp_due.specs.Saying.{Says}
 use Rattle.kp_due.specs.Written.{IsVerilogOf}
 use Rattle.kp_due.specs.Read.{DueOfRead}
 use Rattle.kp_due.specs.Watched.{DueOfWatch}
+use Rattle.kp_due.specs.Compared.{DueOfCompare}
+use Rattle.kp_due.specs.Scripted.{DueOfDebug}
+
+-- what `timing N` says of an accepted job: E38, where it has a guess or a sample, or its timeline
+abbrev pub DueOfTiming : ℕ → Job → Option Refusal → ℕ → List ℕ → Type 0
+DueOfTiming count job (Some refusal) = Says 2 (refusal_line refusal)
+DueOfTiming count job None = Says 0 (timing_text job count)
 
 -- what a command says of an accepted job
 abbrev pub DueOfJob : JobCommand → Job → ℕ → List ℕ → Type 0
@@ -29,6 +38,7 @@ DueOfJob (Seq count) job = Says 0 (sequential_text count job)
 DueOfJob Check job = Says 0 (accepted_line job.name.name (summary_of job))
 DueOfJob (Sim count) job = Says 0 (sim_text count job)
 DueOfJob (Vcd count) job = Says 0 (vcd_text count job)
+DueOfJob (Timing count) job = DueOfTiming count job (untimed job)
 DueOfJob Pipe job = λ status text. (status ≡ 0) × IsVerilogOf job text
 
 -- what a command says of a verdict on its input
@@ -53,6 +63,8 @@ DueFor (Some (OnJob command)) input status text =
 DueFor (Some Assemble) input status text = DueOfProgram (program_of input) status text
 DueFor (Some Read) input status text = DueOfRead input status text
 DueFor (Some (Watch count)) input status text = DueOfWatch count input status text
+DueFor (Some Compare) input status text = DueOfCompare input status text
+DueFor (Some Debug) input status text = DueOfDebug input status text
 DueFor (Some (Generate number count)) input status text = Says 0 (gen_text number count) status text
 
 -- what is due of any words

@@ -4,32 +4,47 @@ use Rattle.std.specs.declared.option.Option.{Option}
 use Rattle.std.specs.Io.KnownBytes.{Appends}
 use Rattle.kp_base.specs.Bytes.{AppendsPart}
 use Rattle.kp_watch.specs.declared.compare.Difference.{Difference}
+use Rattle.kp_equiv.specs.declared.verdict.Verdict.{Verdict}
+use Rattle.kp_equiv.specs.declared.verdict.Verdict.TheVariants.{Same, Differs}
 use Rattle.kp_due.specs.Due.{IsFinal}
+use Rattle.kp_due.specs.Compared.{verdict_status}
 use Rattle.kp_decide.specs.Answers.{AnswerSays}
 use Rattle.kp_decide.specs.declared.answer.Answer.{Answer}
 use Rattle.kp_ready.specs.Watching.{status_by}
-use Rattle.kp_ready.specs.Readies.{Tells, ready_status, ready_text}
+use Rattle.kp_ready.specs.Readies.{Tells, settled_status, ready_status, ready_text}
 use Rattle.kp_ready.specs.Ends.{Finishes, BreaksOff}
 use Rattle.kp_ready.specs.declared.ready.Ready.{Ready}
 use Rattle.kp_ready.specs.declared.ready.Ready.TheVariants as readies
+use Rattle.kp_ready.specs.declared.ready.Settled.{Settled}
+use Rattle.kp_ready.specs.declared.ready.Settled.TheVariants as settleds
 
 final_by : (difference : Option Difference) → IsFinal (status_by difference)
 final_by None = (λ e. omega arith, λ e. omega arith, λ e. omega arith)
 final_by (Some d) = (λ e. omega arith, λ e. omega arith, λ e. omega arith)
 
+final_of : (verdict : Verdict) → IsFinal (verdict_status verdict)
+final_of Same = (λ e. omega arith, λ e. omega arith, λ e. omega arith)
+final_of (Differs root) = (λ e. omega arith, λ e. omega arith, λ e. omega arith)
+
+final_settled : (settled : Settled) → IsFinal (settled_status settled)
+final_settled settleds.BadWords = (λ e. omega arith, λ e. omega arith, λ e. omega arith)
+final_settled (settleds.Refused refusal) = (λ e. omega arith, λ e. omega arith, λ e. omega arith)
+final_settled (settleds.Misread refusal) = (λ e. omega arith, λ e. omega arith, λ e. omega arith)
+final_settled (settleds.After run) = (λ e. omega arith, λ e. omega arith, λ e. omega arith)
+final_settled (settleds.Ran board) = (λ e. omega arith, λ e. omega arith, λ e. omega arith)
+final_settled (settleds.Dumped dump) = (λ e. omega arith, λ e. omega arith, λ e. omega arith)
+final_settled (settleds.Verilog net) = (λ e. omega arith, λ e. omega arith, λ e. omega arith)
+final_settled (settleds.Checked design) = (λ e. omega arith, λ e. omega arith, λ e. omega arith)
+final_settled (settleds.Image section) = (λ e. omega arith, λ e. omega arith, λ e. omega arith)
+final_settled (settleds.Denoted net) = (λ e. omega arith, λ e. omega arith, λ e. omega arith)
+final_settled (settleds.Watched watched) = final_by watched.difference
+final_settled (settleds.Compared comparison) = final_of comparison.now.verdict
+final_settled (settleds.Summed number totals) = (λ e. omega arith, λ e. omega arith, λ e. omega arith)
+
 final : (ready : Ready) → IsFinal (ready_status ready)
-final readies.BadWords = (λ e. omega arith, λ e. omega arith, λ e. omega arith)
-final (readies.Refused refusal) = (λ e. omega arith, λ e. omega arith, λ e. omega arith)
-final (readies.Misread refusal) = (λ e. omega arith, λ e. omega arith, λ e. omega arith)
-final (readies.After run) = (λ e. omega arith, λ e. omega arith, λ e. omega arith)
-final (readies.Ran board) = (λ e. omega arith, λ e. omega arith, λ e. omega arith)
-final (readies.Dumped dump) = (λ e. omega arith, λ e. omega arith, λ e. omega arith)
-final (readies.Verilog net) = (λ e. omega arith, λ e. omega arith, λ e. omega arith)
-final (readies.Checked design) = (λ e. omega arith, λ e. omega arith, λ e. omega arith)
-final (readies.Image section) = (λ e. omega arith, λ e. omega arith, λ e. omega arith)
-final (readies.Denoted net) = (λ e. omega arith, λ e. omega arith, λ e. omega arith)
-final (readies.Watched watched) = final_by watched.difference
-final (readies.Summed number totals) = (λ e. omega arith, λ e. omega arith, λ e. omega arith)
+final (readies.Settled settled) = final_settled settled
+final (readies.Timed timing) = (λ e. omega arith, λ e. omega arith, λ e. omega arith)
+final (readies.Scripted debugging) = (λ e. omega arith, λ e. omega arith, λ e. omega arith)
 
 -- what is ready was written whole
 pub finishes : (answer : Answer) (ready : Ready) (held held_after : Option (List ℕ)) (status : ℕ) → Tells answer ready → status ≡ ready_status ready

@@ -10,40 +10,57 @@ use Rattle.kp_show.specs.States.{text_after}
 use Rattle.kp_show.specs.Runs.{run_text}
 use Rattle.kp_genshow.specs.Line.{totals_line}
 use Rattle.kp_vcd.specs.Text.{dump_text}
+use Rattle.kp_due.specs.Compared.{verdict_status}
+use Rattle.kp_timing.specs.Lines.{timing_text}
+use Rattle.kp_inspect.specs.Inspecting.{debug_text}
 use Rattle.kp_decide.specs.declared.answer.Answer.{Answer}
 use Rattle.kp_decide.specs.Answers.{AnswerSays}
 use Rattle.kp_ready.specs.Watching.{watched_status, watched_text}
 use Rattle.kp_ready.specs.declared.ready.Ready.{Ready}
 use Rattle.kp_ready.specs.declared.ready.Ready.TheVariants as readies
+use Rattle.kp_ready.specs.declared.ready.Settled.{Settled}
+use Rattle.kp_ready.specs.declared.ready.Settled.TheVariants as settleds
+
+abbrev pub settled_status : Settled → ℕ
+settled_status settleds.BadWords = 1
+settled_status (settleds.Refused refusal) = 2
+settled_status (settleds.Misread refusal) = 6
+settled_status (settleds.After run) = 0
+settled_status (settleds.Ran board) = 0
+settled_status (settleds.Dumped dump) = 0
+settled_status (settleds.Verilog net) = 0
+settled_status (settleds.Checked design) = 0
+settled_status (settleds.Image section) = 0
+settled_status (settleds.Denoted net) = 0
+settled_status (settleds.Watched watched) = watched_status watched
+settled_status (settleds.Compared comparison) = verdict_status comparison.now.verdict
+settled_status (settleds.Summed number totals) = 0
+
+abbrev pub settled_text : Settled → List ℕ
+settled_text settleds.BadWords = bad_words
+settled_text (settleds.Refused refusal) = refusal_line refusal
+settled_text (settleds.Misread refusal) = refusal_line refusal
+settled_text (settleds.After run) = text_after run.count run.design.now.job.decls (state run.machine)
+settled_text (settleds.Ran board) =
+    run_text board.design.now.job (rows_seen board.design.now.job.stages.value board.cycles.rows.items) (due_behind board.design.now.job board.cycles.rows.items)
+settled_text (settleds.Dumped dump) = dump_text dump
+settled_text (settleds.Verilog net) = canon net
+settled_text (settleds.Checked design) = accepted_line design.now.job.name.name (summary_of design.now.job)
+settled_text (settleds.Image section) = section.now
+settled_text (settleds.Denoted net) = canon net.now
+settled_text (settleds.Watched watched) = watched_text watched
+settled_text (settleds.Compared comparison) = comparison.now.line.items
+settled_text (settleds.Summed number totals) = totals_line number totals
 
 abbrev pub ready_status : Ready → ℕ
-ready_status readies.BadWords = 1
-ready_status (readies.Refused refusal) = 2
-ready_status (readies.Misread refusal) = 6
-ready_status (readies.After run) = 0
-ready_status (readies.Ran board) = 0
-ready_status (readies.Dumped dump) = 0
-ready_status (readies.Verilog net) = 0
-ready_status (readies.Checked design) = 0
-ready_status (readies.Image section) = 0
-ready_status (readies.Denoted net) = 0
-ready_status (readies.Watched watched) = watched_status watched
-ready_status (readies.Summed number totals) = 0
+ready_status (readies.Settled settled) = settled_status settled
+ready_status (readies.Timed timing) = 0
+ready_status (readies.Scripted debugging) = 0
 
 abbrev pub ready_text : Ready → List ℕ
-ready_text readies.BadWords = bad_words
-ready_text (readies.Refused refusal) = refusal_line refusal
-ready_text (readies.Misread refusal) = refusal_line refusal
-ready_text (readies.After run) = text_after run.count run.design.now.job.decls (state run.machine)
-ready_text (readies.Ran board) =
-    run_text board.design.now.job (rows_seen board.design.now.job.stages.value board.cycles.rows.items) (due_behind board.design.now.job board.cycles.rows.items)
-ready_text (readies.Dumped dump) = dump_text dump
-ready_text (readies.Verilog net) = canon net
-ready_text (readies.Checked design) = accepted_line design.now.job.name.name (summary_of design.now.job)
-ready_text (readies.Image section) = section.now
-ready_text (readies.Denoted net) = canon net.now
-ready_text (readies.Watched watched) = watched_text watched
-ready_text (readies.Summed number totals) = totals_line number totals
+ready_text (readies.Settled settled) = settled_text settled
+ready_text (readies.Timed timing) = timing_text timing.timeline.job timing.count
+ready_text (readies.Scripted debugging) = debug_text debugging.now.job.design.job debugging.now.commands.items
 
 -- What is ready is what the answer says.
 unfoldable pub Tells : Answer → Ready → Type 0

@@ -3,13 +3,16 @@ ghost use Rattle.std.specs.Prelude.{◌≡◌, IfOk, IsErrOf};
 ghost use Rattle.std.specs.Io.KnownBytes.{Appends};
 ghost use Rattle.kp_base.specs.Bytes.{AppendsPart};
 ghost use Rattle.kp_base.specs.Causes.{Rose};
-ghost use Rattle.kp_ready.specs.Readies.{ready_status, ready_text};
+ghost use Rattle.kp_ready.specs.Readies.{ready_status, ready_text, settled_status, settled_text};
+ghost use Rattle.kp_timing.specs.Lines.{timing_text};
 ghost use Rattle.kp_ready.specs.Ends.{Finishes, BreaksOff};
 ghost use Rattle.kp_ready.specs.declared.concluding.Unfinished.TheVariants as unfinished;
 
-use crate::ready::{Ready, made_ready};
+use crate::debugging::script_told;
+use crate::ready::{Ready, Settled, made_ready};
 use kp_base::{NoMemory, Sink, SinkFault};
 use kp_decide::Answer;
+use kp_timed::{Timing, write_timing};
 use std::alloc::Global;
 use thiserror::Error;
 
@@ -60,21 +63,48 @@ fn finish<K: Sink>(alloc: Global, answer: &Answer, sink: &mut K) -> Result<u8, U
     ensures no_memory { IsErrOf result Unfinished.NoMemory → sink.new ≡ sink.old }
 {
     match made_ready(alloc, answer) {
-        Ok(ready) => {
-            let end = told(&ready, sink);
-            drop(ready);
-            end
-        }
+        Ok(ready) => told(alloc, ready, sink),
         Err(NoMemory) => Err(Unfinished::NoMemory),
     }
 }
 
-// Writes an answer that is ready.
-fn told<K: Sink>(ready: &Ready<'_>, sink: &mut K) -> Result<u8, Unfinished>
-    ensures due { IfOk result (λ status. (status ≡ ready_status ready.now) × Appends (K.held sink.old) (K.held sink.new) (ready_text ready.now)) }
+// Writes an answer that is ready, and lets it go.
+fn told<K: Sink>(alloc: Global, ready: Ready<'_>, sink: &mut K) -> Result<u8, Unfinished>
+    ensures due { IfOk result (λ status. (status ≡ ready_status ready.entry) × Appends (K.held sink.old) (K.held sink.new) (ready_text ready.entry)) }
     ensures write_fault { IsErrOf result Unfinished.SinkFault → Rose (K.faults sink.old) (K.faults sink.new)
-        × AppendsPart (K.held sink.old) (K.held sink.new) (ready_text ready.now) }
+        × AppendsPart (K.held sink.old) (K.held sink.new) (ready_text ready.entry) }
     ensures no_memory { IsErrOf result Unfinished.NoMemory → sink.new ≡ sink.old }
 {
-    Ok(ready.write(sink)?)
+    match ready {
+        Ready::Settled(settled) => {
+            let end = settled_told(&settled, sink);
+            drop(settled);
+            end
+        }
+        Ready::Timed(timing) => timing_told(timing, sink),
+        Ready::Scripted(debugging) => script_told(alloc, debugging, sink),
+    }
+}
+
+// The same of what stays as it is.
+fn settled_told<K: Sink>(settled: &Settled<'_>, sink: &mut K) -> Result<u8, Unfinished>
+    ensures due { IfOk result (λ status. (status ≡ settled_status settled.now)
+        × Appends (K.held sink.old) (K.held sink.new) (settled_text settled.now)) }
+    ensures write_fault { IsErrOf result Unfinished.SinkFault → Rose (K.faults sink.old) (K.faults sink.new)
+        × AppendsPart (K.held sink.old) (K.held sink.new) (settled_text settled.now) }
+    ensures no_memory { IsErrOf result Unfinished.NoMemory → sink.new ≡ sink.old }
+{
+    Ok(settled.write(sink)?)
+}
+
+// The same of a timeline.
+fn timing_told<K: Sink>(timing: Timing<'_>, sink: &mut K) -> Result<u8, Unfinished>
+    ensures due { IfOk result (λ status. (status ≡ 0)
+        × Appends (K.held sink.old) (K.held sink.new) (timing_text timing.entry.timeline.job timing.entry.count)) }
+    ensures write_fault { IsErrOf result Unfinished.SinkFault → Rose (K.faults sink.old) (K.faults sink.new)
+        × AppendsPart (K.held sink.old) (K.held sink.new) (timing_text timing.entry.timeline.job timing.entry.count) }
+    ensures no_memory { IsErrOf result Unfinished.NoMemory → sink.new ≡ sink.old }
+{
+    write_timing(timing, sink)?;
+    Ok(0)
 }

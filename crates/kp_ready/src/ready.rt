@@ -10,17 +10,28 @@ use crate::summing::summed;
 use crate::verilog::pipelined;
 use crate::watched::Watched;
 use kp_base::{NoMemory, Refusal};
-use kp_decide::Answer;
+use kp_decide::{Answer, Comparison, Debugging};
 use kp_genshow::Totals;
 use kp_net::Netlist;
 use kp_run::Board;
 use kp_stage::Design;
+use kp_timed::{Timing, timing_of};
 use kp_vcd::Dump;
 use std::alloc::Global;
 
-/// An answer that is ready to be written: from here on no memory is taken.
+/// An answer that is ready to be written: from here on no memory is taken, but for the machine that a script goes through.
 #[derive(Drop)]
 pub enum Ready<'a> {
+    Settled(Settled<'a>),
+    /// A timeline, which runs while it is written.
+    Timed(Timing<'a>),
+    /// A script, whose machine is synthesised, opened and run while it is written.
+    Scripted(&'a Debugging),
+}
+
+/// What stays as it is while it is written.
+#[derive(Drop)]
+pub enum Settled<'a> {
     BadWords,
     Refused(Refusal),
     Misread(Refusal),
@@ -32,6 +43,7 @@ pub enum Ready<'a> {
     Image(&'a [u8]),
     Denoted(&'a Netlist),
     Watched(Watched<'a>),
+    Compared(&'a Comparison),
     /// The number of a generated job, and what is told of its run.
     Summed(u64, Totals),
 }
@@ -42,19 +54,34 @@ pub fn made_ready(alloc: Global, answer: &Answer) -> Result<Ready<'_>, NoMemory>
     ensures { IfOk result (λ ready. Tells answer.now ready) }
 {
     match answer {
-        Answer::BadWords => Ok(Ready::BadWords),
-        Answer::Refused(refusal) => Ok(Ready::Refused(*refusal)),
-        Answer::Misread(refusal) => Ok(Ready::Misread(*refusal)),
-        Answer::After(steps) => Ok(Ready::After(run_of(alloc, steps.count, &steps.job)?)),
-        Answer::Simulation(steps) => Ok(Ready::Ran(simulated(alloc, steps.count, &steps.job)?)),
-        Answer::Dump(steps) => Ok(Ready::Dumped(dumped(alloc, steps.count, &steps.job)?)),
-        Answer::Pipelined(job) => Ok(Ready::Verilog(pipelined(alloc, job)?)),
-        Answer::Checked(design) => Ok(Ready::Checked(design)),
-        Answer::Image(section) => Ok(Ready::Image(section.as_slice())),
-        Answer::Denoted(net) => Ok(Ready::Denoted(net)),
-        Answer::Watch(watch) => Ok(Ready::Watched(compared(alloc, watch)?)),
+        Answer::BadWords => Ok(Ready::Settled(Settled::BadWords)),
+        Answer::Refused(refusal) => Ok(Ready::Settled(Settled::Refused(*refusal))),
+        Answer::Misread(refusal) => Ok(Ready::Settled(Settled::Misread(*refusal))),
+        Answer::After(steps) => Ok(Ready::Settled(Settled::After(run_of(
+            alloc,
+            steps.count,
+            &steps.job,
+        )?))),
+        Answer::Simulation(steps) => Ok(Ready::Settled(Settled::Ran(simulated(
+            alloc,
+            steps.count,
+            &steps.job,
+        )?))),
+        Answer::Dump(steps) => Ok(Ready::Settled(Settled::Dumped(dumped(
+            alloc,
+            steps.count,
+            &steps.job,
+        )?))),
+        Answer::Timing(timed) => Ok(Ready::Timed(timing_of(alloc, &timed.job, timed.count)?)),
+        Answer::Debugging(debugging) => Ok(Ready::Scripted(debugging)),
+        Answer::Pipelined(job) => Ok(Ready::Settled(Settled::Verilog(pipelined(alloc, job)?))),
+        Answer::Checked(design) => Ok(Ready::Settled(Settled::Checked(design))),
+        Answer::Image(section) => Ok(Ready::Settled(Settled::Image(section.as_slice()))),
+        Answer::Denoted(net) => Ok(Ready::Settled(Settled::Denoted(net))),
+        Answer::Watch(watch) => Ok(Ready::Settled(Settled::Watched(compared(alloc, watch)?))),
+        Answer::Compared(comparison) => Ok(Ready::Settled(Settled::Compared(comparison))),
         Answer::Generated(generation) => {
-            Ok(Ready::Summed(generation.number, summed(alloc, generation)?))
+            Ok(Ready::Settled(Settled::Summed(generation.number, summed(alloc, generation)?)))
         }
     }
 }

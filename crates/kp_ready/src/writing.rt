@@ -1,11 +1,11 @@
-// An answer that is ready, as bytes of a sink.
+// An answer that is ready and settled, as bytes of a sink.
 ghost use Rattle.std.specs.Prelude.{◌≡◌, IfOk};
 ghost use Rattle.kp_base.specs.Bytes.{Writes};
 ghost use Rattle.kp_base.specs.Causes.{HasCause};
-ghost use Rattle.kp_ready.specs.Readies.{ready_status, ready_text};
+ghost use Rattle.kp_ready.specs.Readies.{settled_status, settled_text};
 ghost use Rattle.kp_ready.specs.Watching.{watched_status, watched_text};
 
-use crate::ready::Ready;
+use crate::ready::Settled;
 use crate::watched::Watched;
 use kp_base::{Sink, SinkFault, write_all};
 use kp_genshow::write_totals;
@@ -13,56 +13,60 @@ use kp_show::{write_accepted, write_board, write_difference, write_refusal, writ
 use kp_vcd::write_dump;
 use kp_vwrite::write_verilog;
 
-impl Ready<'_> {
+impl Settled<'_> {
     /// Writes the text, and answers the status.
     pub fn write<K: Sink>(&self, sink: &mut K) -> Result<u8, SinkFault>
-        ensures text { Writes (K.held sink.old) (K.held sink.new) (ready_text self.now) result }
-        ensures status { IfOk result (λ status. status ≡ ready_status self.now) }
+        ensures text { Writes (K.held sink.old) (K.held sink.new) (settled_text self.now) result }
+        ensures status { IfOk result (λ status. status ≡ settled_status self.now) }
         ensures cause { HasCause (K.faults sink.old) (K.faults sink.new) result }
     {
         match self {
-            Ready::BadWords => {
+            Settled::BadWords => {
                 write_all(sink, b"bad words\n")?;
                 Ok(1)
             }
-            Ready::Refused(refusal) => {
+            Settled::Refused(refusal) => {
                 write_refusal(*refusal, sink)?;
                 Ok(2)
             }
-            Ready::Misread(refusal) => {
+            Settled::Misread(refusal) => {
                 write_refusal(*refusal, sink)?;
                 Ok(6)
             }
-            Ready::After(run) => {
+            Settled::After(run) => {
                 write_run_after(run.count, &run.machine, run.design, sink)?;
                 Ok(0)
             }
-            Ready::Ran(board) => {
+            Settled::Ran(board) => {
                 write_board(board, sink)?;
                 Ok(0)
             }
-            Ready::Dumped(dump) => {
+            Settled::Dumped(dump) => {
                 write_dump(dump, sink)?;
                 Ok(0)
             }
-            Ready::Verilog(net) => {
+            Settled::Verilog(net) => {
                 write_verilog(net, sink)?;
                 Ok(0)
             }
-            Ready::Checked(design) => {
+            Settled::Checked(design) => {
                 write_accepted(design, sink)?;
                 Ok(0)
             }
-            Ready::Image(section) => {
+            Settled::Image(section) => {
                 write_all(sink, section)?;
                 Ok(0)
             }
-            Ready::Denoted(net) => {
+            Settled::Denoted(net) => {
                 write_verilog(net, sink)?;
                 Ok(0)
             }
-            Ready::Watched(watched) => watched.write(sink),
-            Ready::Summed(number, totals) => {
+            Settled::Watched(watched) => watched.write(sink),
+            Settled::Compared(comparison) => {
+                write_all(sink, &comparison.line)?;
+                Ok(comparison.status())
+            }
+            Settled::Summed(number, totals) => {
                 write_totals(*number, *totals, sink)?;
                 Ok(0)
             }

@@ -7,12 +7,12 @@ ghost use Rattle.kp_base.specs.Refusal.{e_rule};
 ghost use Rattle.kp_base.specs.declared.refusal.Refusal.{Refusal};
 ghost use Rattle.kp_words.specs.Words.{command_of, reads_input};
 ghost use Rattle.kp_words.specs.declared.words.Command.{Command};
-ghost use Rattle.kp_words.specs.declared.words.Command.TheVariants.{OnJob, Watch};
-ghost use Rattle.kp_words.specs.declared.words.JobCommand.TheVariants.{Sim, Pipe};
+ghost use Rattle.kp_words.specs.declared.words.Command.TheVariants.{OnJob, Watch, Compare, Debug};
+ghost use Rattle.kp_words.specs.declared.words.JobCommand.TheVariants.{Sim, Timing, Pipe};
 ghost use Rattle.kp_sched.specs.Runs.{IsLegal};
 ghost use Rattle.kp_show.specs.Texts.{refusal_line};
 ghost use Rattle.kp_due.specs.Due.{Due, IsFinal, Completes, Begins, Between};
-ghost use Rattle.kp_due.specs.Headline.{IsMoving, HasNoNeedlessStall, IsVerilogWith, IsRunWith, IsNetlistWith};
+ghost use Rattle.kp_due.specs.Headline.{IsMoving, HasNoNeedlessStall, IsVerilogWith, IsRunWith, IsTimed, IsDebuggedWith, IsNetlistWith, IsPairAlike};
 ghost use Rattle.kp_due.specs.Refused.{Breaks};
 ghost use Rattle.kp_ready.specs.Ends.{Finishes, BreaksOff};
 ghost use Rattle.kp_tool.specs.inner.Decides.{Decides};
@@ -112,9 +112,25 @@ pub fn tool<S: Source, K: Sink>(alloc: Global, words: &[String], source: &mut S,
     ensures sim_has_no_needless_stall { (n : ℕ) → command_of (map string_bytes words.now) ≡ Some (OnJob (Sim n)) → result ≡ 0
         → Between (S.left source.old) (S.left source.new) (K.held sink.old) (K.held sink.new) (IsRunWith HasNoNeedlessStall n) }
 
+    // What `timing N` writes with status 0 is the timeline of a job without guesses and samples, whose rows are those of the pipelined machine.
+    ensures timing_has_the_rows_of_the_pipeline { (n : ℕ) → command_of (map string_bytes words.now) ≡ Some (OnJob (Timing n)) → result ≡ 0
+        → Between (S.left source.old) (S.left source.new) (K.held sink.old) (K.held sink.new) (IsTimed n) }
+
+    // What `debug` writes with status 0 tells of the run of the pipelined machine, which is legal and moves: each value that is shown is that
+    // of the sequential machine after as many instructions as its stage let pass.
+    ensures debug_is_legal { command_of (map string_bytes words.now) ≡ Some Debug → result ≡ 0
+        → Between (S.left source.old) (S.left source.new) (K.held sink.old) (K.held sink.new) (IsDebuggedWith IsLegal) }
+    ensures debug_moves { command_of (map string_bytes words.now) ≡ Some Debug → result ≡ 0
+        → Between (S.left source.old) (S.left source.new) (K.held sink.old) (K.held sink.new) (IsDebuggedWith IsMoving) }
+
     // What `watch N` writes with status 0 tells the run of the netlist behind the job, and this run is legal.
     ensures watch_is_legal { (n : ℕ) → command_of (map string_bytes words.now) ≡ Some (Watch n) → result ≡ 0
         → Between (S.left source.old) (S.left source.new) (K.held sink.old) (K.held sink.new) (IsNetlistWith IsLegal n) }
+
+    // Where `equiv` ends with status 0, the two texts behind the job denote netlists of it that run alike: whatever comes in, they have the same
+    // rows, and the same values of all registers and file words, by name.
+    ensures equiv_is_alike { command_of (map string_bytes words.now) ≡ Some Compare → result ≡ 0
+        → Between (S.left source.old) (S.left source.new) (K.held sink.old) (K.held sink.new) IsPairAlike }
 {
     match run(alloc, words, source, sink) {
         Ok(status) => status,
@@ -170,9 +186,12 @@ fn prepare<S: Source>(alloc: Global, words: &[String], source: &mut S) -> Result
     };
     match command {
         Command::Generate(_, _) => Ok(carry_out(alloc, command, &[])?),
-        Command::OnJob(_) | Command::Assemble | Command::Read | Command::Watch(_) => {
-            over_source(alloc, command, source)
-        }
+        Command::OnJob(_)
+        | Command::Assemble
+        | Command::Read
+        | Command::Watch(_)
+        | Command::Compare
+        | Command::Debug => over_source(alloc, command, source),
     }
 }
 

@@ -335,6 +335,12 @@ asm_passes = known_refused known_forms (codes "asm") plain [] refl refl ∙ plai
 read_passes : fault_of (program_of known_forms) (codes "read" ∷ []) ≡ []
 read_passes = known_refused known_forms (codes "read") plain [] refl refl ∙ plain_passes (codes "read")
 
+equiv_passes : fault_of (program_of known_forms) (codes "equiv" ∷ []) ≡ []
+equiv_passes = known_refused known_forms (codes "equiv") plain [] refl refl ∙ plain_passes (codes "equiv")
+
+debug_passes : fault_of (program_of known_forms) (codes "debug" ∷ []) ≡ []
+debug_passes = known_refused known_forms (codes "debug") plain [] refl refl ∙ plain_passes (codes "debug")
+
 seq_passes : (word : Text) → begins_with_dash word ≡ false → fault_of (program_of known_forms) (codes "seq" ∷ word ∷ []) ≡ []
 seq_passes word h = known_refused known_forms (codes "seq") counted (word ∷ []) refl refl ∙ counted_passes (codes "seq") word h
 
@@ -343,6 +349,9 @@ sim_passes word h = known_refused known_forms (codes "sim") counted (word ∷ []
 
 vcd_passes : (word : Text) → begins_with_dash word ≡ false → fault_of (program_of known_forms) (codes "vcd" ∷ word ∷ []) ≡ []
 vcd_passes word h = known_refused known_forms (codes "vcd") counted (word ∷ []) refl refl ∙ counted_passes (codes "vcd") word h
+
+timing_passes : (word : Text) → begins_with_dash word ≡ false → fault_of (program_of known_forms) (codes "timing" ∷ word ∷ []) ≡ []
+timing_passes word h = known_refused known_forms (codes "timing") counted (word ∷ []) refl refl ∙ counted_passes (codes "timing") word h
 
 watch_passes : (word : Text) → begins_with_dash word ≡ false → fault_of (program_of known_forms) (codes "watch" ∷ word ∷ []) ≡ []
 watch_passes word h = known_refused known_forms (codes "watch") counted (word ∷ []) refl refl ∙ counted_passes (codes "watch") word h
@@ -358,38 +367,43 @@ IsPassed words = fault_of (program_of known_forms) words ≡ []
 -- a name of none of the commands without a number
 plain_unmatched : (name : Text) → (IsPassed (name ∷ []) → ⊥) → plain_command name ≡ None
 plain_unmatched name refused =
-    go (bytes_eq name (codes "check")) (bytes_eq name (codes "pipe")) (bytes_eq name (codes "asm")) (bytes_eq name (codes "read")) refl refl refl refl
+    go (bytes_eq name (codes "check")) (bytes_eq name (codes "pipe")) (bytes_eq name (codes "asm")) (bytes_eq name (codes "read")) (bytes_eq name (codes "equiv"))
+    (bytes_eq name (codes "debug")) refl refl refl refl refl refl
   where
     named : (word : List ℕ) → bytes_eq name word ≡ true → IsPassed (word ∷ []) → ⊥
     named word e passes = refused (subst (λ n. IsPassed (n ∷ [])) (has_name name word e) passes)
 
-    go : (check pipe asm read : Bool) → bytes_eq name (codes "check") ≡ check → bytes_eq name (codes "pipe") ≡ pipe → bytes_eq name (codes "asm") ≡ asm
-        → bytes_eq name (codes "read") ≡ read → plain_command name ≡ None
-    go true pipe asm read e p f r = absurd (named (codes "check") e check_passes)
-    go false true asm read e p f r = absurd (named (codes "pipe") p pipe_passes)
-    go false false true read e p f r = absurd (named (codes "asm") f asm_passes)
-    go false false false true e p f r = absurd (named (codes "read") r read_passes)
-    go false false false false e p f r = rw (e, p, f, r) refl
+    go : (check pipe asm read equiv debug : Bool) → bytes_eq name (codes "check") ≡ check → bytes_eq name (codes "pipe") ≡ pipe → bytes_eq name (codes "asm") ≡ asm
+        → bytes_eq name (codes "read") ≡ read → bytes_eq name (codes "equiv") ≡ equiv → bytes_eq name (codes "debug") ≡ debug → plain_command name ≡ None
+    go true pipe asm read equiv debug e p f r q d = absurd (named (codes "check") e check_passes)
+    go false true asm read equiv debug e p f r q d = absurd (named (codes "pipe") p pipe_passes)
+    go false false true read equiv debug e p f r q d = absurd (named (codes "asm") f asm_passes)
+    go false false false true equiv debug e p f r q d = absurd (named (codes "read") r read_passes)
+    go false false false false true debug e p f r q d = absurd (named (codes "equiv") q equiv_passes)
+    go false false false false false true e p f r q d = absurd (named (codes "debug") d debug_passes)
+    go false false false false false false e p f r q d = rw (e, p, f, r, q, d) refl
 
 counted_none : (name : Text) (count : Option ℕ) → bytes_eq name (codes "seq") ≡ false → bytes_eq name (codes "sim") ≡ false → bytes_eq name (codes "vcd") ≡ false
-    → bytes_eq name (codes "watch") ≡ false → option_and_then (counted_command name) count ≡ None
-counted_none name None e f g i = refl
-counted_none name (Some count) e f g i = rw (e, f, g, i) refl
+    → bytes_eq name (codes "timing") ≡ false → bytes_eq name (codes "watch") ≡ false → option_and_then (counted_command name) count ≡ None
+counted_none name None e f g t i = refl
+counted_none name (Some count) e f g t i = rw (e, f, g, t, i) refl
 
 counted_unmatched : (name word : Text) → begins_with_dash word ≡ false → (IsPassed (name ∷ word ∷ []) → ⊥) → option_and_then (counted_command name) (count_of word) ≡ None
 counted_unmatched name word h refused =
-    go (bytes_eq name (codes "seq")) (bytes_eq name (codes "sim")) (bytes_eq name (codes "vcd")) (bytes_eq name (codes "watch")) refl refl refl refl
+    go (bytes_eq name (codes "seq")) (bytes_eq name (codes "sim")) (bytes_eq name (codes "vcd")) (bytes_eq name (codes "timing")) (bytes_eq name (codes "watch"))
+    refl refl refl refl refl
   where
     named : (it : List ℕ) → bytes_eq name it ≡ true → IsPassed (it ∷ word ∷ []) → ⊥
     named it e passes = refused (subst (λ n. IsPassed (n ∷ word ∷ [])) (has_name name it e) passes)
 
-    go : (seq sim vcd watch : Bool) → bytes_eq name (codes "seq") ≡ seq → bytes_eq name (codes "sim") ≡ sim → bytes_eq name (codes "vcd") ≡ vcd
-        → bytes_eq name (codes "watch") ≡ watch → option_and_then (counted_command name) (count_of word) ≡ None
-    go true sim vcd watch e f g i = absurd (named (codes "seq") e (seq_passes word h))
-    go false true vcd watch e f g i = absurd (named (codes "sim") f (sim_passes word h))
-    go false false true watch e f g i = absurd (named (codes "vcd") g (vcd_passes word h))
-    go false false false true e f g i = absurd (named (codes "watch") i (watch_passes word h))
-    go false false false false e f g i = counted_none name (count_of word) e f g i
+    go : (seq sim vcd timing watch : Bool) → bytes_eq name (codes "seq") ≡ seq → bytes_eq name (codes "sim") ≡ sim → bytes_eq name (codes "vcd") ≡ vcd
+        → bytes_eq name (codes "timing") ≡ timing → bytes_eq name (codes "watch") ≡ watch → option_and_then (counted_command name) (count_of word) ≡ None
+    go true sim vcd timing watch e f g t i = absurd (named (codes "seq") e (seq_passes word h))
+    go false true vcd timing watch e f g t i = absurd (named (codes "sim") f (sim_passes word h))
+    go false false true timing watch e f g t i = absurd (named (codes "vcd") g (vcd_passes word h))
+    go false false false true watch e f g t i = absurd (named (codes "timing") t (timing_passes word h))
+    go false false false false true e f g t i = absurd (named (codes "watch") i (watch_passes word h))
+    go false false false false false e f g t i = counted_none name (count_of word) e f g t i
 
 seeded_none : (name : Text) (seed count : Option ℕ) → bytes_eq name (codes "gen") ≡ false → seeded_command name seed count ≡ None
 seeded_none name None count e = refl
@@ -424,12 +438,19 @@ not_named name text h fine = go (bytes_eq name text) refl
 
 plain_barred : (name : Text) → is_barred name ≡ true → plain_command name ≡ None
 plain_barred name h =
-    rw (not_named name (codes "check") h refl, not_named name (codes "pipe") h refl, not_named name (codes "asm") h refl, not_named name (codes "read") h refl) refl
+    rw (
+      not_named name (codes "check") h refl,
+      not_named name (codes "pipe") h refl,
+      not_named name (codes "asm") h refl,
+      not_named name (codes "read") h refl,
+      not_named name (codes "equiv") h refl,
+      not_named name (codes "debug") h refl,
+    ) refl
 
 counted_barred : (name : Text) (count : Option ℕ) → is_barred name ≡ true → option_and_then (counted_command name) count ≡ None
 counted_barred name count h =
     counted_none name count (not_named name (codes "seq") h refl) (not_named name (codes "sim") h refl) (not_named name (codes "vcd") h refl)
-    (not_named name (codes "watch") h refl)
+    (not_named name (codes "timing") h refl) (not_named name (codes "watch") h refl)
 
 never_and : (b : Bool) (number : Option ℕ) → cond (b && false) number None ≡ None
 never_and true number = refl

@@ -3,8 +3,8 @@ use Rattle.std.specs.Prelude.{◌==◌, ◌||◌, ℕ, Bool, true, false, List, 
 use Rattle.std.specs.Str.{bytes_eq}
 use Rattle.kp_bits.specs.Literals.{number_of}
 use Rattle.kp_words.specs.declared.words.Command.{Command}
-use Rattle.kp_words.specs.declared.words.Command.TheVariants.{OnJob, Assemble, Read, Watch, Generate}
-use Rattle.kp_words.specs.declared.words.JobCommand.TheVariants.{Seq, Check, Sim, Vcd, Pipe}
+use Rattle.kp_words.specs.declared.words.Command.TheVariants.{OnJob, Assemble, Read, Watch, Compare, Debug, Generate}
+use Rattle.kp_words.specs.declared.words.JobCommand.TheVariants.{Seq, Check, Sim, Vcd, Timing, Pipe}
 
 abbrev pub at_most : ℕ → ℕ → Option ℕ
 at_most most number = if nat_le number most then Some number else None
@@ -28,7 +28,8 @@ counted_command name count =
     if bytes_eq name (codes "seq") then Some (OnJob (Seq count))
     else (if bytes_eq name (codes "sim") then Some (OnJob (Sim count))
     else (if bytes_eq name (codes "vcd") then Some (OnJob (Vcd count))
-    else (if bytes_eq name (codes "watch") then Some (Watch count) else None)))
+    else (if bytes_eq name (codes "timing") then Some (OnJob (Timing count))
+    else (if bytes_eq name (codes "watch") then Some (Watch count) else None))))
 
 -- the command of this name alone
 abbrev pub plain_command : List ℕ → Option Command
@@ -36,7 +37,9 @@ plain_command name =
     if bytes_eq name (codes "check") then Some (OnJob Check)
     else (if bytes_eq name (codes "pipe") then Some (OnJob Pipe)
     else (if bytes_eq name (codes "asm") then Some Assemble
-    else (if bytes_eq name (codes "read") then Some Read else None)))
+    else (if bytes_eq name (codes "read") then Some Read
+    else (if bytes_eq name (codes "equiv") then Some Compare
+    else (if bytes_eq name (codes "debug") then Some Debug else None)))))
 
 -- the command of an accepted list
 abbrev pub command_of : List (List ℕ) → Option Command

@@ -4,7 +4,7 @@ ghost use Rattle.std.specs.List.{list_any};
 ghost use Rattle.clap.specs.Words.{app_of, shape_of, subcommand_rows_of};
 ghost use Rattle.clap.specs.declared.builder.command.Command.TheViews.{out-Command};
 ghost use Rattle.kp_words.specs.Words.{is_barred, plain_command, counted_command, seeded_command, command_of, count_of, seed_of};
-ghost use Rattle.kp_words.specs.inner.Matching.{plain, counted, seeded, job_forms, pipeline_forms, verilog_forms, known_forms};
+ghost use Rattle.kp_words.specs.inner.Matching.{plain, counted, seeded, job_forms, pipeline_forms, timeline_forms, verilog_forms, known_forms};
 ghost use Rattle.kp_words.specs.inner.Matching.{program_of, shape_of_form, command_by, command_of_rows};
 
 use clap::error::ErrorKind;
@@ -27,6 +27,8 @@ pub enum JobCommand {
     Sim(u32),
     /// The changes of the pipelined machine over so many cycles, as a dump in the VCD form (IEEE 1364-2005, clause 18).
     Vcd(u32),
+    /// The timeline of so many cycles: which instruction each stage holds, which stages wait for data, and which move theirs on.
+    Timing(u32),
     /// The pipelined machine as a Verilog module.
     Pipe,
 }
@@ -42,6 +44,10 @@ pub enum Command {
     Read,
     /// A job is read, and a Verilog text behind it: `watch N`, the run of its netlist over so many cycles.
     Watch(u32),
+    /// A job is read, and two Verilog texts behind it: `equiv`, the comparison of their netlists.
+    Compare,
+    /// A job is read, and a script behind it: `debug`, steps forward and back over the pipelined machine.
+    Debug,
     /// Nothing is read: `gen G N`, the generated job of number G over N cycles.
     Generate(u64, u32),
 }
@@ -106,6 +112,7 @@ impl Command {
             "seq" => Some(Command::OnJob(JobCommand::Seq(count))),
             "sim" => Some(Command::OnJob(JobCommand::Sim(count))),
             "vcd" => Some(Command::OnJob(JobCommand::Vcd(count))),
+            "timing" => Some(Command::OnJob(JobCommand::Timing(count))),
             "watch" => Some(Command::Watch(count)),
             _ => None,
         }
@@ -120,6 +127,8 @@ impl Command {
             "pipe" => Some(Command::OnJob(JobCommand::Pipe)),
             "asm" => Some(Command::Assemble),
             "read" => Some(Command::Read),
+            "equiv" => Some(Command::Compare),
+            "debug" => Some(Command::Debug),
             _ => None,
         }
     }
@@ -144,6 +153,7 @@ fn program<'a>(alloc: Global) -> Result<clap::Command<'a>, AllocError>
     ensures { IfOk result (λ program. app_of program ≡ program_of known_forms) }
 {
     let program = with_pipeline(alloc, with_jobs(alloc)?)?;
+    let program = with_timeline(alloc, program)?;
     let program = with_verilog(alloc, program)?;
     with_generated(alloc, program)
 }
@@ -175,17 +185,31 @@ fn with_pipeline<'a>(
         .subcommand(alone(alloc, "pipe"))
 }
 
+// The same program, and those that tell how instructions go through the stages.
+fn with_timeline<'a>(
+    alloc: Global,
+    program: clap::Command<'a>,
+) -> Result<clap::Command<'a>, AllocError>
+    requires { app_of program ≡ program_of pipeline_forms }
+    ensures { IfOk result (λ program. app_of program ≡ program_of timeline_forms) }
+{
+    program
+        .subcommand(with_number(alloc, "timing")?)?
+        .subcommand(alone(alloc, "debug"))
+}
+
 // The same program, and those that read Verilog.
 fn with_verilog<'a>(
     alloc: Global,
     program: clap::Command<'a>,
 ) -> Result<clap::Command<'a>, AllocError>
-    requires { app_of program ≡ program_of pipeline_forms }
+    requires { app_of program ≡ program_of timeline_forms }
     ensures { IfOk result (λ program. app_of program ≡ program_of verilog_forms) }
 {
     program
         .subcommand(with_number(alloc, "watch")?)?
-        .subcommand(alone(alloc, "read"))
+        .subcommand(alone(alloc, "read"))?
+        .subcommand(alone(alloc, "equiv"))
 }
 
 // The same program, and the one that reads nothing.

@@ -38,11 +38,19 @@ pipeline_forms =
     ∷ record { name = codes "pipe"; numbers = plain }
     ∷ []
 
+abbrev pub timeline_forms : List Form
+timeline_forms =
+    pipeline_forms
+    ++ record { name = codes "timing"; numbers = counted }
+    ∷ record { name = codes "debug"; numbers = plain }
+    ∷ []
+
 abbrev pub verilog_forms : List Form
 verilog_forms =
-    pipeline_forms
+    timeline_forms
     ++ record { name = codes "watch"; numbers = counted }
     ∷ record { name = codes "read"; numbers = plain }
+    ∷ record { name = codes "equiv"; numbers = plain }
     ∷ []
 
 abbrev pub known_forms : List Form

@@ -4,9 +4,9 @@ use Rattle.kp_ready.proofs.concluding.finish.Goals as goal
 
 pub returns-in-Ok-clause-due : goal.returns-in-Ok-clause-due
 returns-in-Ok-clause-due g c =
-    IfOk-weaker c.told-end.result _ _ (λ status is. finishes c.args.answer.now c.in-Ok.ready _ _ status c.in-Ok.ensures is.0 is.1) c.told-end.ensures.due
+    IfOk-weaker c.told.result _ _ (λ status is. finishes c.args.answer.now c.in-Ok.ready _ _ status c.in-Ok.ensures is.0 is.1) c.told.ensures.due
 
 pub returns-in-Ok-clause-write_fault : goal.returns-in-Ok-clause-write_fault
 returns-in-Ok-clause-write_fault g c is =
-    let fault = c.told-end.ensures.write_fault is in
+    let fault = c.told.ensures.write_fault is in
     (fault.0, breaks_off c.args.answer.now c.in-Ok.ready _ _ c.in-Ok.ensures fault.1)

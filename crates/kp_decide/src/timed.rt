@@ -1,0 +1,13 @@
+// A job that has a timeline.
+ghost use Rattle.std.specs.Prelude.{◌≡◌, None};
+ghost use Rattle.kp_timing.specs.Unfit.{untimed};
+
+use kp_judge::Accepted;
+
+/// A job without guesses and samples, and a count of cycles.
+#[derive(Drop)]
+pub struct TimedJob {
+    pub count: u32,
+    pub job: Accepted,
+    pub ghost timed: { untimed job.design.job ≡ None },
+}
