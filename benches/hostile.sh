@@ -40,7 +40,7 @@ late=0
 printf '%-10s %-9s %7s %9s  %s\n' input command seconds MiB answer
 for text in random letters brackets digits begun module words end; do
     for more in '' +1; do
-        for words in check 'seq 1' 'sim 1' 'vcd 1' pipe read 'watch 1' asm; do
+        for words in check 'seq 1' 'sim 1' 'vcd 1' 'timing 1' pipe read 'watch 1' asm; do
             status=0
             /usr/bin/time -o "$work/took" -f '%e %M' "$kp" $words < "$work/$text$more" > "$work/told" || status=$?
             tail -n 1 "$work/took" > "$work/last"

@@ -1,10 +1,10 @@
 #!/bin/bash
 # What is answered where memory is refused: bash checks/memory.sh
 #
-# Runs `sim 3` and `pipe` on the counter, `read` on its module and `watch 3` on both, once for each call for memory, which finds none in that
-# run (checks/memory.c). Each run must end with status 5 and nothing written, or with the status and the text of a run in which none is
-# refused. The line of each command says how many runs did the one and the other, and how many did neither; the status is 0 where none did.
-# KP names another program than ./kp. Where there is no C compiler it is skipped, and the line says so.
+# Runs `sim 3`, `timing 3` and `pipe` on the counter, `read` on its module and `watch 3` on both, once for each call for memory, which finds
+# none in that run (checks/memory.c). Each run must end with status 5 and nothing written, or with the status and the text of a run in which
+# none is refused. The line of each command says how many runs did the one and the other, and how many did neither; the status is 0 where
+# none did. KP names another program than ./kp. Where there is no C compiler it is skipped, and the line says so.
 set -u
 top=$(cd "$(dirname "$0")/.." && pwd)
 kp=${KP:-$top/crates/kp/out/kp}
@@ -43,6 +43,7 @@ each() {
 
 cp "$top/examples/acc3.kp" "$work/input"
 each sim 3
+each timing 3
 each pipe
 "$kp" pipe < "$top/examples/acc3.kp" > "$work/module"
 cp "$work/module" "$work/input"

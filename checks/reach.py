@@ -12,6 +12,7 @@ import sys
 TOP = os.path.dirname(os.path.dirname(os.path.abspath(__file__)))
 HEADLINE = [f"kp_due.specs.Headline.{it}" for it in ("IsVerilogWith", "IsRunWith", "IsMoving", "HasNoNeedlessStall")] + ["kp_sched.specs.Runs.IsLegal"]
 USE = re.compile(r"^use Rattle\.([^\s{]+?)(?:\.\{([^}]*)\})?(?: as (\S+))?$", re.M)
+FIELD = re.compile(r"^ +(?:pub )?\S+ :(?= )")
 HEAD = re.compile(r"^(?:abbrev |unfoldable )?(?:pub )?(?:(?:record|data) (\S+)|(\S+) :(?= ))")
 NAME = re.compile(r"[A-Za-z_][\w'\-]*(?:\.\w+)?")
 
@@ -56,7 +57,7 @@ def files():
 
 def named_in(file, module, lines):
     """The definitions, of this module or of others, whose names stand in the lines."""
-    for name in (it for line in lines for it in NAME.findall(line)):
+    for name in (it for line in lines for it in NAME.findall(FIELD.sub("", line))):
         first, _, second = name.partition(".")
         if first in file.definitions:
             yield module, first
