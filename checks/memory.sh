@@ -1,8 +1,8 @@
 #!/bin/bash
 # What is answered where memory is refused: bash checks/memory.sh
 #
-# Runs `sim 3`, `timing 3` and `pipe` on the counter, `read` on its module and `watch 3` on both, once for each call for memory, which finds
-# none in that run (checks/memory.c). Each run must end with status 5 and nothing written, or with the status and the text of a run in which
+# Runs `sim 3`, `timing 3` and `pipe` on the counter, `read` on its module, `watch 3` on both, `equiv` on the counter with its module twice, and
+# `debug` on an example with its script, once for each call for memory, which finds none in that run (checks/memory.c). Each run must end with status 5 and nothing written, or with the status and the text of a run in which
 # none is refused. The line of each command says how many runs did the one and the other, and how many did neither; the status is 0 where
 # none did. KP names another program than ./kp. Where there is no C compiler it is skipped, and the line says so.
 set -u
@@ -50,4 +50,8 @@ cp "$work/module" "$work/input"
 each read
 cat "$top/examples/acc3.kp" "$work/module" > "$work/input"
 each watch 3
+cat "$top/examples/acc3.kp" "$work/module" "$work/module" > "$work/input"
+each equiv
+cat "$top/examples/guess3.kp" "$top/examples/rollback.script" > "$work/input"
+each debug
 [ "$wrong" -eq 0 ]
