@@ -1,9 +1,4 @@
-mod Rooms
 mod Parts
-mod Levels
-mod Meaning
+pub mod Levels
+pub mod Meaning
 mod Calling
-pub mod CodeLevels
-pub mod Numbers
-pub mod Typing
-mod Arms

@@ -36,7 +36,7 @@ use Rattle.kp_seq.specs.inner.Steps.{Under, fitted, pipe_words, with_name, with_
 use Rattle.kp_seq.specs.inner.Steps as steps
 use Rattle.kp_seq.specs.inner.Fits.{FitSlots}
 use Rattle.kp_seq.specs.inner.Ready.{AreTables}
-use Rattle.kp_plan.specs.Codes.{Holds, AllSuit}
+use Rattle.kp_lower.specs.Lowering.{Holds, AllSuit}
 use Rattle.kp_seq.specs.inner.Resolved.{Outline, Raw, IsShown, with_place, with_row_at, with_carried, entered_at, place_in, places_of, with_width, with_widths, entry_widths}
 use Rattle.kp_seq.proofs.Resolved.{named, none_suit}
 use Rattle.kp_seq.proofs.Lengths.{row_same, entered_same}

@@ -24,16 +24,17 @@ use Rattle.kp_law.specs.Sequential.{first_value}
 use Rattle.kp_machine.specs.Slots.{Slot, number_of, width_of, result_named}
 use Rattle.kp_machine.proofs.Cases.{by_test}
 use Rattle.kp_plan.specs.declared.plan.Plan.{Plan}
-use Rattle.kp_plan.specs.declared.code.Code.{Code}
-use Rattle.kp_plan.specs.declared.code.Code.TheVariants as leaf
-use Rattle.kp_plan.specs.declared.code.Typed.{Typed}
+use Rattle.kp_code.specs.declared.code.Code.{Code}
+use Rattle.kp_code.specs.declared.code.Code.TheVariants as leaf
+use Rattle.kp_code.specs.declared.code.Typed.{Typed}
 use Rattle.kp_plan.specs.declared.resolve.Scope.{Scope}
 use Rattle.kp_ast.specs.Checked.{checked, checked_calls_of}
 use Rattle.kp_plan.specs.Names.{at_place, place_of}
 use Rattle.kp_plan.specs.Plans.{Slots, Means, meaning, space}
-use Rattle.kp_plan.specs.Codes.{Holds, Suits, AllSuit, Gives, value_of, value_level, space_level}
-use Rattle.kp_plan.proofs.CodeLevels.{code-Word}
-use Rattle.kp_plan.proofs.Numbers.{le_false}
+use Rattle.kp_code.specs.Codes.{value_of, value_level, space_level}
+use Rattle.kp_lower.specs.Lowering.{Holds, Suits, AllSuit, Gives}
+use Rattle.kp_code.proofs.CodeLevels.{code-Word}
+use Rattle.kp_lower.proofs.Numbers.{le_false}
 use Rattle.kp_seq.specs.declared.program.Reading.{Reading}
 use Rattle.kp_seq.specs.declared.program.Step.{Step}
 use Rattle.kp_seq.specs.declared.program.Step.TheVariants as moves

@@ -1,6 +1,6 @@
 //! One instruction.
 ghost use Rattle.std.specs.Prelude.{◌≡◌, ◌≤◌, ◌+◌, None, length, get_or, All, IfOk, if◌then◌else◌, slice_index, unwrap_or};
-ghost use Rattle.kp_plan.specs.Codes.{value_of, space_of};
+ghost use Rattle.kp_code.specs.Codes.{value_of, space_of};
 ghost use Rattle.kp_seq.specs.inner.Ready.{HasRoom};
 ghost use Rattle.kp_seq.specs.inner.Steps.{is_enabled, address_by, written_by, written_from};
 ghost use Rattle.kp_seq.specs.inner.Resolved.{outputs, holds_at, address_at, asked_at, value_asked, note_step, note_steps, note_stages, noted, with_place, put_pipe, set_first, with_target, begun_at, after_step, after_steps, with_row_at, with_carried, entered_at, after_stages, ran, option_space, step_space, steps_space};
@@ -11,7 +11,7 @@ use crate::tables::{Port, Tables};
 use crate::words::Words;
 use kp_base::NoMemory;
 use kp_bits::Bits;
-use kp_plan::Code;
+use kp_code::Code;
 use std::alloc::Global;
 use std::marker::Model;
 
@@ -300,7 +300,7 @@ fn value_of(under: &Instruction, room: &mut [u64], code: &Code) -> u64
     ensures value { result ≡ value_of code.now under.now.names }
     ensures room { length room.new ≡ length room.old }
 {
-    kp_plan::value(code, under.names.as_slice(), room)
+    kp_code::value(code, under.names.as_slice(), room)
 }
 
 // Each target takes its result where that is enabled.

@@ -5,7 +5,9 @@ ghost use Rattle.kp_seq.specs.inner.Resolved.{IsCode, IsOptionCode, IsReading, D
 use crate::tables::{Slot, Tables, number_of, target_of, width_of};
 use kp_ast::{Block, Expr, ReadStmt, Stmt, StmtKind};
 use kp_base::{List, NoMemory};
-use kp_plan::{Code, Keys, Scope, Typed, code_of, plan_of};
+use kp_code::{Code, Typed};
+use kp_lower::code_of;
+use kp_plan::{Keys, Scope, plan_of};
 use kp_stage::Design;
 use std::alloc::Global;
 use std::marker::Model;
@@ -44,7 +46,7 @@ pub(crate) struct Program {
 
 impl Model for Program {
     ghost use Rattle.std.specs.Coded.{codes};
-    ghost use Rattle.kp_plan.specs.contracts.code.Code as e;
+    ghost use Rattle.kp_code.specs.contracts.code.Code as e;
     ghost use Rattle.kp_seq.specs.inner.Resolved.{Outline};
 
     ghost Value = { Outline };

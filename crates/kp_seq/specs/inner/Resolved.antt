@@ -13,9 +13,10 @@ use Rattle.kp_ast.specs.declared.tree.Block.{Block}
 use Rattle.kp_law.specs.Sequential.{first_value}
 use Rattle.kp_stage.specs.Sizes.{size_of_option, size_of_kind, size_of_stmt}
 use Rattle.kp_machine.specs.Slots.{Slot}
-use Rattle.kp_plan.specs.Codes.{value_of, space_of, Holds, AllSuit}
-use Rattle.kp_plan.specs.declared.code.Code.{Code}
-use Rattle.kp_plan.specs.declared.code.Typed.{Typed}
+use Rattle.kp_code.specs.Codes.{value_of, space_of}
+use Rattle.kp_lower.specs.Lowering.{Holds, AllSuit}
+use Rattle.kp_code.specs.declared.code.Code.{Code}
+use Rattle.kp_code.specs.declared.code.Typed.{Typed}
 use Rattle.kp_seq.specs.declared.program.Reading.{Reading}
 use Rattle.kp_seq.specs.declared.program.Step.{Step}
 use Rattle.kp_seq.specs.declared.program.Step.TheVariants as moves

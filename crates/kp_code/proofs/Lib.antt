@@ -1,0 +1,3 @@
+mod Rooms
+pub mod CodeLevels
+pub mod CodeCalls
