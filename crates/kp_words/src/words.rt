@@ -1,7 +1,7 @@
 // The words of a command line.
 ghost use Rattle.std.specs.Prelude.{◌≡◌, map, string_bytes, option_map, Ok, None, Some, IfOk, true, false};
 ghost use Rattle.std.specs.List.{list_any};
-ghost use Rattle.clap.specs.Words.{app_of, shape_of, subcommand_rows_of};
+ghost use Rattle.clap.specs.Words.{app_of, shape_of, subcommand_rows_of, with_subcommand};
 ghost use Rattle.clap.specs.declared.builder.command.Command.TheViews.{out-Command};
 ghost use Rattle.kp_words.specs.Words.{is_barred, plain_command, counted_command, seeded_command, command_of, count_of, seed_of};
 ghost use Rattle.kp_words.specs.inner.Matching.{plain, counted, seeded, job_forms, pipeline_forms, timeline_forms, verilog_forms, known_forms};
@@ -162,13 +162,13 @@ fn program<'a>(alloc: Global) -> Result<clap::Command<'a>, AllocError>
 fn with_jobs<'a>(alloc: Global) -> Result<clap::Command<'a>, AllocError>
     ensures { IfOk result (λ program. app_of program ≡ program_of job_forms) }
 {
-    clap::Command::new(alloc, "kp")
+    let program = clap::Command::new(alloc, "kp")
         .no_binary_name(true)
         .disable_help_flag(true)
-        .disable_help_subcommand(true)
-        .subcommand(with_number(alloc, "seq")?)?
-        .subcommand(alone(alloc, "check"))?
-        .subcommand(alone(alloc, "asm"))
+        .disable_help_subcommand(true);
+    let program = and_counted(alloc, program, "seq")?;
+    let program = and_alone(alloc, program, "check")?;
+    and_alone(alloc, program, "asm")
 }
 
 // The same program, and those that make one.
@@ -179,10 +179,9 @@ fn with_pipeline<'a>(
     requires { app_of program ≡ program_of job_forms }
     ensures { IfOk result (λ program. app_of program ≡ program_of pipeline_forms) }
 {
-    program
-        .subcommand(with_number(alloc, "sim")?)?
-        .subcommand(with_number(alloc, "vcd")?)?
-        .subcommand(alone(alloc, "pipe"))
+    let program = and_counted(alloc, program, "sim")?;
+    let program = and_counted(alloc, program, "vcd")?;
+    and_alone(alloc, program, "pipe")
 }
 
 // The same program, and those that tell how instructions go through the stages.
@@ -193,9 +192,8 @@ fn with_timeline<'a>(
     requires { app_of program ≡ program_of pipeline_forms }
     ensures { IfOk result (λ program. app_of program ≡ program_of timeline_forms) }
 {
-    program
-        .subcommand(with_number(alloc, "timing")?)?
-        .subcommand(alone(alloc, "debug"))
+    let program = and_counted(alloc, program, "timing")?;
+    and_alone(alloc, program, "debug")
 }
 
 // The same program, and those that read Verilog.
@@ -206,10 +204,9 @@ fn with_verilog<'a>(
     requires { app_of program ≡ program_of timeline_forms }
     ensures { IfOk result (λ program. app_of program ≡ program_of verilog_forms) }
 {
-    program
-        .subcommand(with_number(alloc, "watch")?)?
-        .subcommand(alone(alloc, "read"))?
-        .subcommand(alone(alloc, "equiv"))
+    let program = and_counted(alloc, program, "watch")?;
+    let program = and_alone(alloc, program, "read")?;
+    and_alone(alloc, program, "equiv")
 }
 
 // The same program, and the one that reads nothing.
@@ -221,6 +218,28 @@ fn with_generated<'a>(
     ensures { IfOk result (λ program. app_of program ≡ program_of known_forms) }
 {
     program.subcommand(with_seed(alloc, "gen")?)
+}
+
+// The program, and the command of this name and a number word.
+fn and_counted<'a>(
+    alloc: Global,
+    program: clap::Command<'a>,
+    name: &'a str,
+) -> Result<clap::Command<'a>, AllocError>
+    ensures { IfOk result (λ more. app_of more ≡ with_subcommand (app_of program.entry) (shape_of_form (record { name = name.entry.now; numbers = counted }))) }
+{
+    program.subcommand(with_number(alloc, name)?)
+}
+
+// The program, and the command of this name alone.
+fn and_alone<'a>(
+    alloc: Global,
+    program: clap::Command<'a>,
+    name: &'a str,
+) -> Result<clap::Command<'a>, AllocError>
+    ensures { IfOk result (λ more. app_of more ≡ with_subcommand (app_of program.entry) (shape_of_form (record { name = name.entry.now; numbers = plain }))) }
+{
+    program.subcommand(alone(alloc, name))
 }
 
 // The command of this name and a number word.
