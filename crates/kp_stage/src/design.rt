@@ -97,7 +97,9 @@ fn broken_rule(alloc: Global, job: &Job) -> Result<Option<Refusal>, NoMemory>
     ensures { IfOk result (λ broken. broken ≡ broken_by (facts_of job.now) job.now) }
 {
     let facts = Facts::of(alloc, job)?;
-    Ok(first_broken(&facts, job))
+    let broken = first_broken(&facts, job);
+    drop(facts);
+    Ok(broken)
 }
 
 #[tactic(auto, using(crate::proofs::Totals::size_total, crate::proofs::Totals::counts_total), unfolding(crate::specs::Counts::summary_of))]

@@ -116,23 +116,39 @@ impl OfDecls {
         ensures stages { IfOk result (λ t. t.write_stages ≡ stages_noted [] decls.now) }
         ensures writes { IfOk result (λ t. t.writes ≡ writes_noted [] decls.now) }
     {
-        let mut hints = Table::new(alloc);
-        note_hints(&mut hints, decls)?;
-        let mut results = Table::new(alloc);
-        note_results(&mut results, decls)?;
-        let mut samples = Table::new(alloc);
-        note_samples(&mut samples, decls)?;
-        let mut write_stages = Table::new(alloc);
-        note_stages(&mut write_stages, decls)?;
-        let mut writes = Table::new(alloc);
-        note_writes(&mut writes, decls)?;
-        Ok(OfDecls {
-            hints,
-            results,
-            samples,
-            write_stages,
-            writes,
-        })
+        let mut named = OfDecls::empty(alloc);
+        named.note(decls)?;
+        Ok(named)
+    }
+
+    fn empty(alloc: Global) -> OfDecls
+        ensures hints { result.hints ≡ [] }
+        ensures results { result.results ≡ [] }
+        ensures samples { result.samples ≡ [] }
+        ensures stages { result.write_stages ≡ [] }
+        ensures writes { result.writes ≡ [] }
+    {
+        OfDecls {
+            hints: Table::new(alloc),
+            results: Table::new(alloc),
+            samples: Table::new(alloc),
+            write_stages: Table::new(alloc),
+            writes: Table::new(alloc),
+        }
+    }
+
+    fn note(&mut self, decls: &[Decl]) -> Result<(), NoMemory>
+        ensures hints { OnOk result (self.new.hints ≡ hints_noted self.old.hints 0 decls.now) }
+        ensures results { OnOk result (self.new.results ≡ results_noted self.old.results 0 decls.now) }
+        ensures samples { OnOk result (self.new.samples ≡ samples_noted self.old.samples decls.now) }
+        ensures stages { OnOk result (self.new.write_stages ≡ stages_noted self.old.write_stages decls.now) }
+        ensures writes { OnOk result (self.new.writes ≡ writes_noted self.old.writes decls.now) }
+    {
+        note_hints(&mut self.hints, decls)?;
+        note_results(&mut self.results, decls)?;
+        note_samples(&mut self.samples, decls)?;
+        note_stages(&mut self.write_stages, decls)?;
+        note_writes(&mut self.writes, decls)
     }
 }
 
@@ -153,10 +169,8 @@ impl OfStmts {
         ensures aims { IfOk result (λ t. t.aims ≡ all_aims_noted [] 0 blocks.now) }
         ensures sets { IfOk result (λ t. t.sets.items ≡ map sets_of blocks.now) }
     {
-        let mut puts = Table::new(alloc);
-        note_all_puts(&mut puts, blocks)?;
-        let mut aims = Table::new(alloc);
-        note_all_aims(&mut aims, blocks)?;
+        let puts = puts_of(alloc, blocks)?;
+        let aims = aims_of(alloc, blocks)?;
         let sets = note_all_sets(alloc, blocks)?;
         Ok(OfStmts { puts, aims, sets })
     }
@@ -252,6 +266,14 @@ fn note_writes(writes: &mut Table<u64>, decls: &[Decl]) -> Result<(), NoMemory>
     Ok(())
 }
 
+fn puts_of(alloc: Global, blocks: &[Block]) -> Result<Table<Spot>, NoMemory>
+    ensures { IfOk result (λ puts. puts ≡ all_puts_noted [] 0 blocks.now) }
+{
+    let mut puts = Table::new(alloc);
+    note_all_puts(&mut puts, blocks)?;
+    Ok(puts)
+}
+
 fn note_all_puts(puts: &mut Table<Spot>, blocks: &[Block]) -> Result<(), NoMemory>
     ensures { OnOk result (puts.new ≡ all_puts_noted puts.old 0 blocks.now) }
 {
@@ -270,6 +292,14 @@ fn note_puts(puts: &mut Table<Spot>, k: usize, stmts: &[Stmt]) -> Result<(), NoM
         }
     }
     Ok(())
+}
+
+fn aims_of(alloc: Global, blocks: &[Block]) -> Result<Table<Spot>, NoMemory>
+    ensures { IfOk result (λ aims. aims ≡ all_aims_noted [] 0 blocks.now) }
+{
+    let mut aims = Table::new(alloc);
+    note_all_aims(&mut aims, blocks)?;
+    Ok(aims)
 }
 
 fn note_all_aims(aims: &mut Table<Spot>, blocks: &[Block]) -> Result<(), NoMemory>
@@ -297,11 +327,18 @@ fn note_all_sets(alloc: Global, blocks: &[Block]) -> Result<Vec<Table<usize>>, N
 {
     let mut all = Vec::new(alloc);
     for block in blocks {
-        let mut sets = Table::new(alloc);
-        note_sets(&mut sets, block.stmts.as_slice())?;
+        let sets = sets_of(alloc, block)?;
         all.push(sets)?;
     }
     Ok(all)
+}
+
+fn sets_of(alloc: Global, block: &Block) -> Result<Table<usize>, NoMemory>
+    ensures { IfOk result (λ sets. sets ≡ sets_of block.now) }
+{
+    let mut sets = Table::new(alloc);
+    note_sets(&mut sets, block.stmts.as_slice())?;
+    Ok(sets)
 }
 
 fn note_sets(sets: &mut Table<usize>, stmts: &[Stmt]) -> Result<(), NoMemory>
