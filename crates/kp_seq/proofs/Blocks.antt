@@ -1,5 +1,5 @@
 -- The statements of a stage, one after another.
-use Rattle.std.proofs.Common.{◌≡◌, ◌∙◌, ℕ, ◌+◌, List, [], ◌∷◌, Option, Some, None, Bool, true, false, cond, not, length, refl, ap, sym, subst, arith}
+use Rattle.std.proofs.Common.{◌≡◌, ◌∙◌, ℕ, ◌+◌, List, [], ◌∷◌, Option, Some, None, Bool, true, false, cond, not, length, refl, ap, sym, subst}
 use Rattle.std.specs.Option.{option_map}
 use Rattle.std.specs.Prelude.{is_some, slice_get, unwrap_or, ◌<◌}
 use Rattle.std.specs.List.{position}
@@ -41,6 +41,7 @@ use Rattle.kp_seq.proofs.Trees.{next, nexts}
 use Rattle.kp_seq.proofs.Turns.{holds_same, let_turn}
 use Rattle.kp_seq.proofs.Gives.{Lists, put_turn, set_turn}
 use Rattle.kp_seq.proofs.Reading.{read_turn}
+use Rattle.kp_seq.proofs.Plain.{within}
 
 module _ (job : Job) (unbroken : Unbroken (widths_of job)) (t : Laid) (tables : AreTables job t) (rule : _) (is25 : slice_get all_rules 10 ≡ Some rule) (k : ℕ) (words : List (List ℕ)) (fit : FitSlots (targets_of job.decls) words) (c : Instruction) where
   -- what holds before a statement
@@ -82,7 +83,7 @@ module _ (job : Job) (unbroken : Unbroken (widths_of job)) (t : Laid) (tables : 
 
   -- the place of a name that a statement declares
   place_in : (u : Under) (q : List ℕ) → length u.names ≡ length t.names → (i : HasPlace q) → i.0 < length u.names
-  place_in u q n i = let l = (position-Some (is_same_name q) t.names i.0 [] i.1).0 in omega arith
+  place_in u q n i = within i.0 (length t.names) (length u.names) (position-Some (is_same_name q) t.names i.0 [] i.1).0 n
 
   declared_there : (s : Scoped) (n : List ℕ) (m : Sense) → find s n ≡ None → is_some (find (declared_local s n m) n) ≡ true
   declared_there s n m e = ap (λ o. is_some (or_else o (look_up s.text n))) (look_last s.local n m (find_none s n e).0)

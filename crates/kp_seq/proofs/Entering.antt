@@ -49,6 +49,7 @@ use Rattle.kp_seq.proofs.Changes.{first_none}
 use Rattle.kp_seq.proofs.Binding.{held_bound}
 use Rattle.kp_seq.proofs.Blocks.{Before, HasPlace}
 use Rattle.kp_seq.proofs.Written.{Ended, all_default}
+use Rattle.kp_seq.proofs.Plain.{after_next, next_first, next_is, none_after, none_before, not_some, same_value, within}
 
 -- the values of the entries from the one of number i on fit their widths, and their names have places
 abbrev Fitting : List (List ℕ) → (ℕ → ℕ) → ℕ → List Slot → Type 0
@@ -99,13 +100,13 @@ pipes_row : (vs : ℕ → ℕ) (pipes : List ℕ) (i : ℕ) (ss : List Slot) →
     → ((p : ℕ) (x : Slot) → slice_get ss p ≡ Some x → vs (i + p) < 2 ^ x.width) → IsRow vs i ss (pipe_words pipes i ss)
 pipes_row vs pipes i [] a same fits = tt
 pipes_row vs pipes i (s ∷ ss) a same fits =
-    let z : i + 0 ≡ i = omega arith in
-    let n : suc i ≡ i + 1 = omega arith in
+    let z : i + 0 ≡ i = none_after i in
+    let n : suc i ≡ i + 1 = next_is i in
     let f : vs i < 2 ^ s.width = subst (λ j. vs j < 2 ^ s.width) z (fits 0 s refl) in (
       ap (fitted s.width) (same i) ∙ fitted_is s.width (vs i) a.1 a.2 f,
       f,
       subst (λ j. IsRow vs (suc i) ss (pipe_words pipes j ss)) n
-          (pipes_row vs pipes (suc i) ss a.3 same (λ p x e. let y : i + suc p ≡ suc i + p = omega arith in subst (λ j. vs j < 2 ^ x.width) y (fits (suc p) x e))),
+          (pipes_row vs pipes (suc i) ss a.3 same (λ p x e. let y : i + suc p ≡ suc i + p = next_first i p in subst (λ j. vs j < 2 ^ x.width) y (fits (suc p) x e))),
     )
 
 none_held : (n : ℕ) (o : Option ℕ) → at_place (replicate n None) o ≡ None
@@ -132,7 +133,7 @@ module _ (t : Laid) where
   row_held vs u i (s ∷ ss) (w ∷ row) q a r f n =
       let next : Under = with_name t u s.name w in
       let l = (position-Some (is_same_name s.name) t.names f.1.0 [] f.1.1).0 in
-      let inside : f.1.0 < length u.names = omega arith in
+      let inside : f.1.0 < length u.names = within f.1.0 (length t.names) (length u.names) l n in
       let rest = row_held vs next (suc i) ss row q a.3 r.2 f.2 ((row_same t u (s ∷ []) (w ∷ [])).names ∙ n) in
       let later : Option Word = values.look_up (words_from (suc i) vs ss) q in
       let old : Option Word = held t.names u.names q in
@@ -169,13 +170,13 @@ module _ (t : Laid) where
       → with_carried r i (places_of t.names ss) ≡ with_row_at r (places_of t.names ss) (pipe_words values i ss)
   carried_row values i [] r e a f = refl
   carried_row values i (s ∷ ss) r e a f =
-      let z : i + 0 ≡ i = omega arith in
+      let z : i + 0 ≡ i = none_after i in
       let v : ℕ = slice_index values i in
       let small : v < 2 ^ s.width = subst (λ n. slice_index values n < 2 ^ s.width) z (f 0 s refl) in
       let one : slice_index r.pipes i ≡ (fitted s.width v).value = ap (λ ps. slice_index ps i) e ∙ sym (ap (λ (x : Word). x.value) (fitted_is s.width v a.1 a.2 small)) in
       let next : Raw = with_place r (place_in t.names s) (fitted s.width v).value in
       ap (λ n. with_carried (with_place r (place_in t.names s) n) (i + 1) (places_of t.names ss)) one
-      ∙ carried_row values (i + 1) ss next e a.3 (λ p x q. let y : i + suc p ≡ (i + 1) + p = omega arith in subst (λ n. slice_index values n < 2 ^ x.width) y (f (suc p) x q))
+      ∙ carried_row values (i + 1) ss next e a.3 (λ p x q. let y : i + suc p ≡ (i + 1) + p = after_next i p in subst (λ n. slice_index values n < 2 ^ x.width) y (f (suc p) x q))
 
 -- of the names of the text, only the pipes and the samples have values
 bound_kind : {G : Type 0} (kind : NameKind) → is_bound kind ≡ true → is_of_text kind ≡ true → (is_pipe kind ≡ true → G) → (is_sample kind ≡ true → G) → G
@@ -192,11 +193,11 @@ values_from : (vs : ℕ → ℕ) (i : ℕ) (ds : List Decl) (row : List Word) �
 values_from vs i [] row h same = tt
 values_from vs i (decls.Sample n width stage ∷ ds) [] h same = absurd h
 values_from vs i (decls.Sample n width stage ∷ ds) (w ∷ row) h same =
-    let z : i + 0 ≡ i = omega arith in
+    let z : i + 0 ≡ i = none_after i in
     let v : vs i ≡ w.value = subst (λ j. vs j ≡ w.value) z (same 0) in (
       (λ j. word (h.0 j) (sym v j)),
       subst (λ x. x < 2 ^ width.value) (sym v) (subst (λ x. w.value < 2 ^ x) h.0 h.1.fits),
-      values_from vs (suc i) ds row h.2 (λ p. let y : suc i + p ≡ i + suc p = omega arith in subst (λ j. vs j ≡ values_in row p) (sym y) (same (suc p))),
+      values_from vs (suc i) ds row h.2 (λ p. let y : suc i + p ≡ i + suc p = sym (next_first i p) in subst (λ j. vs j ≡ values_in row p) (sym y) (same (suc p))),
     )
 values_from vs i (_ ∷ ds) row h same = values_from vs i ds row h same
 
@@ -221,9 +222,9 @@ module _ (job : Job) (unbroken : Unbroken (widths_of job)) (t : Laid) (tables : 
         let apart_samples : Apart xs = samples_apart job.decls nothing right in
         let pipe_row : IsRow c.pipes 0 ss (pipe_words mid.pipes 0 ss) = pipes_row c.pipes mid.pipes 0 ss apart
         (λ p. ap (λ z. slice_index z p) mid_pipes ∙ h.pipes p)
-        (λ p x e. let z : p ≡ 0 + p = omega arith in subst (λ n. c.pipes n < 2 ^ x.width) z (subst (λ v. v < 2 ^ x.width) (h.pipes p) (h.pipe_fits p x e))) in
+        (λ p x e. let z : p ≡ 0 + p = sym (none_before p) in subst (λ n. c.pipes n < 2 ^ x.width) z (subst (λ v. v < 2 ^ x.width) (h.pipes p) (h.pipe_fits p x e))) in
         let fitting : Fitting t.names c.pipes 0 ss = row_fitting t.names c.pipes 0 ss (pipe_words mid.pipes 0 ss) pipe_row place in
-        let is_row : IsRow q_values 0 xs row = values_from q_values 0 job.decls row fits (λ p. let z : 0 + p ≡ p = omega arith in ap q_values z) in
+        let is_row : IsRow q_values 0 xs row = values_from q_values 0 job.decls row fits (λ p. let z : 0 + p ≡ p = none_before p in ap q_values z) in
         let fitting_samples : Fitting t.names q_values 0 xs = row_fitting t.names q_values 0 xs row is_row sample_place in
         let in_text : (q : List ℕ) → look_up s.text q ≡ look_up (text job unbroken) q = λ q. ap (λ x. look_up x q) of_text in
         let mid_names : length mid.names ≡ length t.names = (row_same t start t.samples row).names ∙ length-replicate (length u.names) none ∙ names in
@@ -242,7 +243,7 @@ module _ (job : Job) (unbroken : Unbroken (widths_of job)) (t : Laid) (tables : 
           named = record {
             of_text = of_text;
             here = refl;
-            locals = λ q m e. cc;
+            locals = λ q m e. not_some m (sym e);
             same = λ q.
                 ap (λ zs. held t.names (with_pipes t mid 0 zs).names q) tables.pipes
                 ∙ row_held t c.pipes mid 0 ss (pipe_words mid.pipes 0 ss) q apart pipe_row fitting mid_names
@@ -264,8 +265,7 @@ module _ (job : Job) (unbroken : Unbroken (widths_of job)) (t : Laid) (tables : 
                 let no : has_name ss q ≡ false = by_test (has_name ss q)
                 (λ y.
                 let p = pipe_named job.decls nothing right q y in
-                let g : Some p.0 ≡ Some m = sym p.1 ∙ f in
-                let same : p.0 ≡ m = cc in
+                let same : p.0 ≡ m = same_value p.0 m (sym p.1 ∙ f) in
                 not_both m.kind (subst (λ (z : Sense). is_pipe z.kind ≡ true) same p.2) is)
                 (λ y. y) in
                 found_word q m r.0 (width_of xs q) (both q ∙ ap (λ o. or_else o (values.look_up of_samples q)) (none_there c.pipes 0 ss q no) ∙ r.1) (at.sample is).width r.2);
@@ -273,10 +273,10 @@ module _ (job : Job) (unbroken : Unbroken (widths_of job)) (t : Laid) (tables : 
                 let gone : look_up (text job unbroken) q ≡ None = sym (in_text q) ∙ e in
                 both q
                 ∙ ap (λ o. or_else o (values.look_up of_samples q)) (by_test (has_name ss q)
-                (λ y. let p = pipe_named job.decls nothing right q y in let g : Some p.0 ≡ None = sym p.1 ∙ gone in cc)
+                (λ y. let p = pipe_named job.decls nothing right q y in not_some p.0 (sym p.1 ∙ gone))
                 (λ y. none_there c.pipes 0 ss q y))
                 ∙ by_test (has_name xs q)
-                (λ y. let p = sample_named job.decls nothing right q y in let g : Some p.0 ≡ None = sym p.1 ∙ gone in cc)
+                (λ y. let p = sample_named job.decls nothing right q y in not_some p.0 (sym p.1 ∙ gone))
                 (λ y. none_there q_values 0 xs q y);
           };
           lists = record {
@@ -305,10 +305,10 @@ module _ (job : Job) (unbroken : Unbroken (widths_of job)) (t : Laid) (tables : 
         let apart : Apart t.pipes = subst Apart (sym tables.pipes) (pipes_apart job.decls nothing right) in
         let apart_samples : Apart t.samples = subst Apart (sym tables.samples) (samples_apart job.decls nothing right) in
         let fit_pipe : (p : ℕ) (x : Slot) → slice_get t.pipes p ≡ Some x → slice_index mid.pipes (0 + p) < 2 ^ x.width = λ p x e.
-        let z : p ≡ 0 + p = omega arith in
+        let z : p ≡ 0 + p = sym (none_before p) in
         subst (λ n. slice_index mid.pipes n < 2 ^ x.width) z (subst (λ ps. slice_index ps p < 2 ^ x.width) (sym mid_pipes) (h.pipe_fits p x (ap (λ ss. slice_get ss p) (sym tables.pipes) ∙ e))) in
         let pipe_row : IsRow (λ p. slice_index mid.pipes p) 0 t.pipes (pipe_words mid.pipes 0 t.pipes) = pipes_row (λ p. slice_index mid.pipes p) mid.pipes 0 t.pipes apart (λ p. refl) fit_pipe in
-        let is_row : IsRow q_values 0 t.samples row = subst (λ xs. IsRow q_values 0 xs row) (sym tables.samples) (values_from q_values 0 job.decls row fits (λ p. let z : 0 + p ≡ p = omega arith in ap q_values z)) in
+        let is_row : IsRow q_values 0 t.samples row = subst (λ xs. IsRow q_values 0 xs row) (sym tables.samples) (values_from q_values 0 job.decls row fits (λ p. let z : 0 + p ≡ p = none_before p in ap q_values z)) in
         let before : IsShown (replicate (length t.names) none_known) start r = record {
           names = subst (λ n. AllSuit (replicate (length t.names) none_known) (replicate n none) r.names) (sym names) (none_suit (length t.names) r.names room);
           pipes = same_pipes;

@@ -1,5 +1,5 @@
 -- A put and a set: what they change in the lists is what they change in the abstract machine, and values keep their widths.
-use Rattle.std.proofs.Common.{◌≡◌, ◌∙◌, ℕ, ◌^◌, ◌<◌, List, Option, Some, None, true, cond, length, get_or, refl, ap, sym, subst, arith}
+use Rattle.std.proofs.Common.{◌≡◌, ◌∙◌, ℕ, ◌^◌, ◌<◌, List, Option, Some, None, true, cond, length, get_or, refl, ap, sym, subst}
 use Rattle.std.specs.Prelude.{is_some, slice_get, slice_index, unwrap_or, ◌==◌}
 use Rattle.std.proofs.lemmas.Bool.{eqb-true}
 use Rattle.std.proofs.lemmas.List.{length-set}
@@ -31,6 +31,7 @@ use Rattle.kp_machine.proofs.Text.{text, placed, declared_right, local_no, found
 use Rattle.kp_seq.proofs.Stage.{Named}
 use Rattle.kp_seq.proofs.Changes.{set_seen, put_same, set_same}
 use Rattle.kp_seq.proofs.Turns.{given_fits}
+use Rattle.kp_seq.proofs.Plain.{within}
 
 first_fits : (o : Option ℕ) (v b w : ℕ) → v < 2 ^ w → ((x : ℕ) → o ≡ Some x → x < 2 ^ w) → first_value o (Some v) ≡ Some b → b < 2 ^ w
 first_fits None v b w h old e = let i : v ≡ b = cc in subst (λ z. z < 2 ^ w) i h
@@ -65,7 +66,7 @@ module _ (job : Job) (unbroken : Unbroken (widths_of job)) (t : Laid) (tables : 
       let p : ℕ = number_of (pipes_of job.decls) n.name in
       let v : ℕ = trees.value_of job.decls done e in
       let w : f.0.width ≡ (used s is_pipe n.name n.at).value.width = ap (λ (m : Sense). m.width) f.3 in
-      let inside : p < length u.pipes = let i = at.inside in let o = lists.pipe_count in omega arith in
+      let inside : p < length u.pipes = within p (length (pipes_of job.decls)) (length u.pipes) at.inside lists.pipe_count in
       let fits : v < 2 ^ width_of (pipes_of job.decls) n.name = subst (λ y. v < 2 ^ y) (g.1.width ∙ sym w ∙ sym at.width) g.1.word.fits in
       subst (λ y. Lists job.decls c (with_put done p v) (with_pipe u y (word_in t u e).value)) (sym (ap (λ ss. number_of ss n.name) tables.pipes))
       (subst (λ y. Lists job.decls c (with_put done p v) (with_pipe u p y)) (sym (ap (λ (y : Word). y.value) g.0))
@@ -106,7 +107,7 @@ module _ (job : Job) (unbroken : Unbroken (widths_of job)) (t : Laid) (tables : 
       let p : ℕ = number_of (targets_of job.decls) r.0.target.name in
       let v : ℕ = trees.value_of job.decls done e in
       let w : f.0.width ≡ (used s is_result n.name n.at).value.width = ap (λ (m : Sense). m.width) f.3 in
-      let inside : p < length u.results = let i = r.2.1.inside in let o = lists.result_count in omega arith in
+      let inside : p < length u.results = within p (length (targets_of job.decls)) (length u.results) r.2.1.inside lists.result_count in
       let fits : v < 2 ^ width_of (targets_of job.decls) r.0.target.name = subst (λ y. v < 2 ^ y) (g.1.width ∙ sym w ∙ sym r.2.1.width) g.1.word.fits in
       let here : Lists job.decls c (with_set job.decls done (Some r.0) v) (with_first u p v) = record {
         pipes = lists.pipes;

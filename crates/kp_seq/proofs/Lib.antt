@@ -1,3 +1,4 @@
+pub mod Plain
 pub mod Stored
 pub mod Sampling
 pub mod Lengths

@@ -1,5 +1,5 @@
 -- One instruction, stage by stage: what the steps leave is what the abstract machine has.
-use Rattle.std.proofs.Common.{◌≡◌, ◌∙◌, ℕ, suc, ◌+◌, List, [], ◌∷◌, Some, None, Option, length, replicate, cond, unwrap_or, get_or, refl, ap, sym, subst, arith}
+use Rattle.std.proofs.Common.{◌≡◌, ◌∙◌, ℕ, suc, ◌+◌, List, [], ◌∷◌, Some, None, Option, length, replicate, cond, unwrap_or, get_or, refl, ap, sym, subst}
 use Rattle.std.specs.Prelude.{slice_get}
 use Rattle.std.proofs.lemmas.List.{length-replicate}
 use Rattle.kp_base.specs.First.{first}
@@ -43,6 +43,7 @@ use Rattle.kp_seq.proofs.Blocks.{all_turn}
 use Rattle.kp_seq.proofs.Entering.{enters, shown}
 use Rattle.kp_seq.proofs.Keys.{pipe_placed, sample_placed, keyed}
 use Rattle.kp_seq.proofs.Written.{Ended, stage_ended, begun_ended, written_after, written_fits}
+use Rattle.kp_seq.proofs.Plain.{after_next, next_is, none_after, none_before}
 
 -- what a machine keeps in numbers, as an instruction
 abbrev pub as_under : Raw → Under
@@ -142,18 +143,18 @@ module _ (job : Job) (unbroken : Unbroken (widths_of job)) (kept : broken_of job
   -- the blocks from the one of number k on
   blocks_end : (k : ℕ) (bs : List Block) (s : Scoped) (u : Under) → ((i : ℕ) (b : Block) → slice_get bs i ≡ Some b → slice_get job.blocks (k + i) ≡ Some b)
       → Unbroken (blocks_of job.decls k s bs) → Reached k s u → Ended job.decls (before (k + length bs)) (after_blocks t words row u bs)
-  blocks_end k [] s u at right h = let z : k ≡ k + 0 = omega arith in subst (λ n. Ended job.decls (before n) u) z h.ended
+  blocks_end k [] s u at right h = let z : k ≡ k + 0 = sym (none_after k) in subst (λ n. Ended job.decls (before n) u) z h.ended
   blocks_end k (b ∷ bs) s u at right h =
-      let z : k + 0 ≡ k = omega arith in
-      let next : suc k ≡ k + 1 = omega arith in
-      let more : (k + 1) + length bs ≡ k + suc (length bs) = omega arith in
+      let z : k + 0 ≡ k = none_after k in
+      let next : suc k ≡ k + 1 = next_is k in
+      let more : (k + 1) + length bs ≡ k + suc (length bs) = sym (after_next k (length bs)) in
       let here : slice_get job.blocks k ≡ Some b = subst (λ n. slice_get job.blocks n ≡ Some b) z (at 0 b refl) in
       let x = bind_unbroken (statements_of job.decls (opened s (scopes.Stage k)) b.stmts) (λ y. blocks_of job.decls (k + 1) y bs) right in
       let after : Scoped = (statements_of job.decls (opened s (scopes.Stage k)) b.stmts).value in
       let reached = subst (λ n. Reached n after (after_block t words row u b)) next (block_end k b s u here x.0 h) in
       subst (λ n. Ended job.decls (before n) (after_blocks t words row (after_block t words row u b) bs)) more
       (blocks_end (k + 1) bs after (after_block t words row u b)
-      (λ i y e. let w : k + suc i ≡ (k + 1) + i = omega arith in subst (λ n. slice_get job.blocks n ≡ Some y) w (at (suc i) y e))
+      (λ i y e. let w : k + suc i ≡ (k + 1) + i = after_next k i in subst (λ n. slice_get job.blocks n ≡ Some y) w (at (suc i) y e))
       x.1 reached)
 
   -- after the last stage
@@ -163,10 +164,10 @@ module _ (job : Job) (unbroken : Unbroken (widths_of job)) (kept : broken_of job
       let d = declarations_of job.decls 0 0 nothing job.decls in
       let more = (bind_unbroken d (λ s. blocks_of job.decls 0 s job.blocks >>= (λ y. ok y.entries)) unbroken).1 in
       let right = (bind_unbroken (blocks_of job.decls 0 d.value job.blocks) (λ y. ok y.entries) more).0 in
-      let z : 0 + length job.blocks ≡ job.stages.value = let n = stages_inside job kept in omega (arith, n) in
+      let z : 0 + length job.blocks ≡ job.stages.value = none_before (length job.blocks) ∙ stages_inside job kept in
       subst (λ n. Ended job.decls (before n) (after_blocks t words row (begun u) job.blocks)) z
       (blocks_end 0 job.blocks d.value (begun u)
-      (λ i b e. let w : i ≡ 0 + i = omega arith in subst (λ n. slice_get job.blocks n ≡ Some b) w e)
+      (λ i b e. let w : i ≡ 0 + i = sym (none_before i) in subst (λ n. slice_get job.blocks n ≡ Some b) w e)
       right
       (record { of_text = refl; ended = begun_ended job.decls u; places = still_placed t u (begun u) (begun_same t u) places }))
 
@@ -188,14 +189,14 @@ module _ (job : Job) (unbroken : Unbroken (widths_of job)) (kept : broken_of job
     blocks_follow k [] s u r ss at right h f d = subst (λ xs. Follows t u (after_stages o words row r xs)) (sym d) f
     blocks_follow k (b ∷ bs) s u r [] at right h f d = absurd d
     blocks_follow k (b ∷ bs) s u r (x ∷ ss) at right h f d =
-        let z : k + 0 ≡ k = omega arith in
-        let next : suc k ≡ k + 1 = omega arith in
+        let z : k + 0 ≡ k = none_after k in
+        let next : suc k ≡ k + 1 = next_is k in
         let here : slice_get job.blocks k ≡ Some b = subst (λ n. slice_get job.blocks n ≡ Some b) z (at 0 b refl) in
         let y = bind_unbroken (statements_of job.decls (opened s (scopes.Stage k)) b.stmts) (λ y. blocks_of job.decls (k + 1) y bs) right in
         let after : Scoped = (statements_of job.decls (opened s (scopes.Stage k)) b.stmts).value in
         let reached = subst (λ n. Reached n after (after_block t words row u b)) next (block_end k b s u here y.0 h) in
         blocks_follow (k + 1) bs after (after_block t words row u b) (after_steps words (entered_at o row r) x) ss
-        (λ i v e. let w : k + suc i ≡ (k + 1) + i = omega arith in subst (λ n. slice_get job.blocks n ≡ Some v) w (at (suc i) v e))
+        (λ i v e. let w : k + suc i ≡ (k + 1) + i = after_next k i in subst (λ n. slice_get job.blocks n ≡ Some v) w (at (suc i) v e))
         y.1 reached (block_follows k b s u r x h f d.0) d.1
 
     -- what is noted too
@@ -210,8 +211,8 @@ module _ (job : Job) (unbroken : Unbroken (widths_of job)) (kept : broken_of job
     blocks_noted k [] s u r n ss at right h f d = ap (note_stages o words row k r n) d
     blocks_noted k (b ∷ bs) s u r n [] at right h f d = absurd d
     blocks_noted k (b ∷ bs) s u r n (x ∷ ss) at right h f d =
-        let z : k + 0 ≡ k = omega arith in
-        let next : suc k ≡ k + 1 = omega arith in
+        let z : k + 0 ≡ k = none_after k in
+        let next : suc k ≡ k + 1 = next_is k in
         let here : slice_get job.blocks k ≡ Some b = subst (λ i. slice_get job.blocks i ≡ Some b) z (at 0 b refl) in
         let y = bind_unbroken (statements_of job.decls (opened s (scopes.Stage k)) b.stmts) (λ y. blocks_of job.decls (k + 1) y bs) right in
         let after : Scoped = (statements_of job.decls (opened s (scopes.Stage k)) b.stmts).value in
@@ -223,7 +224,7 @@ module _ (job : Job) (unbroken : Unbroken (widths_of job)) (kept : broken_of job
         ap (λ c. note_stages o words row (k + 1) v (with_marks k (outputs v) c) ss) (block_notes k b s u r n x h f d.0)
         ∙ ap (λ (results : List (Option ℕ)). note_stages o words row (k + 1) v (with_marks k (record { names = []; pipes = v.pipes; results = results }) m) ss) follows.results
         ∙ blocks_noted (k + 1) bs after w v (with_marks k w m) ss
-        (λ i c e. let q : k + suc i ≡ (k + 1) + i = omega arith in subst (λ j. slice_get job.blocks j ≡ Some c) q (at (suc i) c e))
+        (λ i c e. let q : k + suc i ≡ (k + 1) + i = after_next k i in subst (λ j. slice_get job.blocks j ≡ Some c) q (at (suc i) c e))
         y.1 reached follows d.1
 
     pub all_follow : (u : Under) (r : Raw) → HasPlaces t u → Follows t u r → Follows t (after_blocks t words row (begun u) job.blocks) (after_stages o words row (begun_at r) o.stages)
@@ -235,7 +236,7 @@ module _ (job : Job) (unbroken : Unbroken (widths_of job)) (kept : broken_of job
         let zero : ℕ = 0 in
         let none : Option ℕ = None in
         blocks_follow 0 job.blocks d.value (begun u) (begun_at r) o.stages
-        (λ i b e. let w : i ≡ 0 + i = omega arith in subst (λ n. slice_get job.blocks n ≡ Some b) w e)
+        (λ i b e. let w : i ≡ 0 + i = sym (none_before i) in subst (λ n. slice_get job.blocks n ≡ Some b) w e)
         right
         (record { of_text = refl; ended = begun_ended job.decls u; places = still_placed t u (begun u) (begun_same t u) places })
         (record {
@@ -262,7 +263,7 @@ module _ (job : Job) (unbroken : Unbroken (widths_of job)) (kept : broken_of job
         let v = after_stages o words row (begun_at r) o.stages in
         let follows = all_follow u r places f in
         ap (with_results (outputs v)) (blocks_noted 0 job.blocks d.value (begun u) (begun_at r) (begun_notes n) o.stages
-        (λ i b e. let q : i ≡ 0 + i = omega arith in subst (λ j. slice_get job.blocks j ≡ Some b) q e)
+        (λ i b e. let q : i ≡ 0 + i = sym (none_before i) in subst (λ j. slice_get job.blocks j ≡ Some b) q e)
         right
         (record { of_text = refl; ended = begun_ended job.decls u; places = still_placed t u (begun u) (begun_same t u) places })
         (record {

@@ -1,7 +1,6 @@
 -- What is noted of an instruction is what is told of it.
-use Rattle.std.proofs.Common.{◌≡◌, ◌∙◌, ℕ, zero, suc, ◌+◌, ◌^◌, ◌<◌, ◌≤◌, List, [], ◌∷◌, ◌++◌, Option, Some, None, Bool, true, false, cond, ◌&&◌, length, map, get_or, replicate, refl, ap, sym, subst, arith, lit<}
+use Rattle.std.proofs.Common.{◌≡◌, ◌∙◌, ℕ, zero, suc, ◌+◌, ◌^◌, ◌<◌, ◌≤◌, List, [], ◌∷◌, Option, Some, None, Bool, true, false, ◌&&◌, length, map, get_or, replicate, refl, ap, sym, subst, arith, lit<}
 use Rattle.std.specs.Prelude.{is_some, slice_get, unwrap_or, sum_by, nat_le, nat_lt}
-use Rattle.std.specs.Option.{option_map}
 use Rattle.std.proofs.lemmas.Bool.{and_parts, leb-true, ltb-true}
 use Rattle.std.proofs.lemmas.List.{length-append, length-map, length-replicate, ext_get_or}
 use Rattle.std.proofs.lemmas.List.Sums.{sum_by-cons}
@@ -30,20 +29,19 @@ use Rattle.kp_stage.specs.Rules.{ask_stmts, all_rules}
 use Rattle.kp_stage.specs.Stages.{broken_of}
 use Rattle.kp_stage.specs.Start.{AreSamples}
 use Rattle.kp_stage.proofs.Unbroken.{answer_none}
-use Rattle.kp_law.specs.Sequential.{Instruction, first_value, before_stage, fresh_instruction}
+use Rattle.kp_law.specs.Sequential.{Instruction, first_value, before_stage}
 use Rattle.kp_law.specs.Timeline.{first_stage}
 use Rattle.kp_machine.specs.Slots.{Slot, targets_of, pipes_of, number_of}
 use Rattle.kp_machine.specs.Trees.{Progress}
 use Rattle.kp_machine.specs.Trees as trees
 use Rattle.kp_machine.specs.Machine.{machine_of, values_in, is_enabled_by}
-use Rattle.kp_machine.specs.Machine as machines
 use Rattle.kp_machine.proofs.Results.{Stands}
 use Rattle.kp_machine.proofs.Rules.{rules_kept, head_kept, decl_kept, stmts_kept}
 use Rattle.kp_machine.proofs.Scopes.{results_fit}
 use Rattle.kp_machine.proofs.Stages.{stages_inside}
-use Rattle.kp_machine.proofs.Text.{text, declared_right, target_slot}
+use Rattle.kp_machine.proofs.Text.{declared_right, target_slot}
 use Rattle.kp_seq.specs.declared.notes.Outlet.{Outlet}
-use Rattle.kp_seq.specs.Told.{Told, where_true, read_told, reads_told, stage_reads, reads_from, results_of, write_told, setting_told, told_of, done_after}
+use Rattle.kp_seq.specs.Told.{where_true, read_told, reads_told, stage_reads, reads_from, results_of, write_told, setting_told, told_of, done_after}
 use Rattle.kp_seq.specs.Running.{state_in}
 use Rattle.kp_seq.specs.inner.Tables.{Laid}
 use Rattle.kp_seq.specs.inner.Steps.{Under, begun, entered, address_by, after_stmts, after_block, after_blocks}
@@ -55,10 +53,11 @@ use Rattle.kp_seq.proofs.Entering.{enters}
 use Rattle.kp_seq.proofs.Keys.{pipe_placed, sample_placed, keyed}
 use Rattle.kp_seq.proofs.Written.{Ended, begun_ended, enabled_same, address_same, address_fits}
 use Rattle.kp_seq.proofs.Lengths.{begun_same}
-use Rattle.kp_seq.proofs.Step.{Reached, before, block_end, all_ended, still_placed}
+use Rattle.kp_seq.proofs.Step.{Reached, block_end, all_ended, still_placed}
 use Rattle.kp_seq.proofs.Noted.{put_reads, put_both, put_count, all_put, changed_at, changed_count, seen, seen_first, first_below, narrowed_is}
 use Rattle.kp_seq.proofs.Low.{target_low}
 use Rattle.kp_seq.proofs.Asked.{after_reads, all_asked, low_fits}
+use Rattle.kp_seq.proofs.Plain.{after_next, next_first, next_is, none_after, none_before, within}
 
 -- lists, by their entries
 there : {X : Type 0} (xs : List X) (j : ℕ) → j < length xs → (x : X) × (slice_get xs j ≡ Some x)
@@ -87,6 +86,13 @@ changed_to f g d ys xs e h =
     let within : j < length xs = omega arith in
     let x = there xs j within in
     changed_at f d ys xs j x.0 x.1 inside ∙ h j x.0 x.1 ∙ sym (get_or_from_slice_get (map g xs) j (g x.0) d (mapped g xs j x.0 x.1)))
+
+-- a stage of at most twelve fits a byte
+all_of : (n : ℕ) → 0 + n ≤ n
+all_of n = omega arith
+
+stage_fits : (v n : ℕ) → v < n → n ≤ 12 → v < 2 ^ 8
+stage_fits v n l few = let x : 12 < 2 ^ 8 = lit< tt in omega arith
 
 -- the results of some declarations stand among them
 stand : (ds : List Decl) (j : ℕ) (r : ResultDecl) → slice_get (results_of ds) j ≡ Some r → Stands ds r
@@ -127,13 +133,13 @@ blocks_told : (job : Job) (s : ℕ → ℕ → ℕ) (q : ℕ → ℕ) (k : ℕ) 
 unfolding stage_reads
 blocks_told job s q k [] at = refl
 blocks_told job s q k (b ∷ bs) at =
-    let z : k + 0 ≡ k = omega arith in
+    let z : k + 0 ≡ k = none_after k in
     let here : slice_get job.blocks k ≡ Some b = subst (λ n. slice_get job.blocks n ≡ Some b) z (at 0 b refl) in
     let c = before_stage (machine_of job) s q k in
     let done = trees.entered job.decls q c.pipes in
     let n = length-append (stage_reads job s q k) (reads_from job s q (length bs) (suc k)) in
     let m : length (stage_reads job s q k) ≡ sum_by reads_in b.stmts = ap (λ o. length (reads_told job.decls s done (stmts_in o))) here ∙ stmts_counted job.decls s done b.stmts in
-    let o = blocks_told job s q (suc k) bs (λ i y e. let w : k + suc i ≡ suc k + i = omega arith in subst (λ v. slice_get job.blocks v ≡ Some y) w (at (suc i) y e)) in
+    let o = blocks_told job s q (suc k) bs (λ i y e. let w : k + suc i ≡ suc k + i = next_first k i in subst (λ v. slice_get job.blocks v ≡ Some y) w (at (suc i) y e)) in
     let p = sum_by-cons (λ (x : Block). sum_by reads_in x.stmts) b bs in
     omega (arith, n, m, o, p)
 
@@ -141,7 +147,7 @@ pub all_told : (job : Job) (s : ℕ → ℕ → ℕ) (q : ℕ → ℕ) → lengt
 unfolding summary_of
 all_told job s q e =
     ap (λ n. length (reads_from job s q n 0)) (sym e)
-    ∙ blocks_told job s q 0 job.blocks (λ i b at. let w : i ≡ 0 + i = omega arith in subst (λ n. slice_get job.blocks n ≡ Some b) w at)
+    ∙ blocks_told job s q 0 job.blocks (λ i b at. let w : i ≡ 0 + i = sym (none_before i) in subst (λ n. slice_get job.blocks n ≡ Some b) w at)
 
 module _ (job : Job) (unbroken : Unbroken (widths_of job)) (kept : broken_of job ≡ None) (t : Laid) (tables : AreTables job t) (rule : _) (is25 : slice_get all_rules 10 ≡ Some rule) (words : List (List ℕ)) (fit : FitSlots (targets_of job.decls) words) (row : List Word) (fits : AreSamples job.decls row) where
   abbrev at_stage : ℕ → Instruction
@@ -193,9 +199,7 @@ module _ (job : Job) (unbroken : Unbroken (widths_of job)) (kept : broken_of job
         to = record {
           count = changed_count mark None n.set_in 0 n.outlets ∙ to.count;
           marks = λ j o is.
-              let b = slice_get_within n.outlets j o is in
-              let q = to.count in
-              let l : j < length n.set_in = omega arith in
+              let l : j < length n.set_in = within j (length n.outlets) (length n.set_in) (slice_get_within n.outlets j o is) to.count in
               changed_at mark None n.set_in n.outlets j o is l
               ∙ ap (λ x. marked k w.results o x) (to.marks j o is)
               ∙ ap (λ x. first_value (seen (sets o.target) k) (where_true (is_some x) k)) (ended.results o.target);
@@ -206,12 +210,12 @@ module _ (job : Job) (unbroken : Unbroken (widths_of job)) (kept : broken_of job
       → Unbroken (blocks_of job.decls k s bs) → Reached job unbroken kept t tables rule is25 words fit row fits k s u → NotedTo k n
       → NotedAfter n (note_blocks t words row k u n bs) (reads_from job (state_in words) (values_in row) (length bs) k) (k + length bs)
   blocks_noted k [] s u n at right h to =
-      let z : k ≡ k + 0 = omega arith in
+      let z : k ≡ k + 0 = sym (none_after k) in
       subst (NotedAfter n n []) z (record { reads = refl; outlets = refl; writes = refl; settings = refl; to = to })
   blocks_noted k (b ∷ bs) s u n at right h to =
-      let z : k + 0 ≡ k = omega arith in
-      let next : suc k ≡ k + 1 = omega arith in
-      let more : (k + 1) + length bs ≡ k + suc (length bs) = omega arith in
+      let z : k + 0 ≡ k = none_after k in
+      let next : suc k ≡ k + 1 = next_is k in
+      let more : (k + 1) + length bs ≡ k + suc (length bs) = sym (after_next k (length bs)) in
       let here : slice_get job.blocks k ≡ Some b = subst (λ i. slice_get job.blocks i ≡ Some b) z (at 0 b refl) in
       let x = bind_unbroken (statements_of job.decls (opened s (scopes.Stage k)) b.stmts) (λ y. blocks_of job.decls (k + 1) y bs) right in
       let after : Scoped = (statements_of job.decls (opened s (scopes.Stage k)) b.stmts).value in
@@ -220,7 +224,7 @@ module _ (job : Job) (unbroken : Unbroken (widths_of job)) (kept : broken_of job
       let reached = subst (λ i. Reached job unbroken kept t tables rule is25 words fit row fits i after w) next (block_end job unbroken kept t tables rule is25 words fit row fits k b s u here x.0 h) in
       let one = block_noted k b s u n here x.0 h to in
       let rest = blocks_noted (k + 1) bs after w m
-      (λ i y e. let v : k + suc i ≡ (k + 1) + i = omega arith in subst (λ j. slice_get job.blocks j ≡ Some y) v (at (suc i) y e))
+      (λ i y e. let v : k + suc i ≡ (k + 1) + i = after_next k i in subst (λ j. slice_get job.blocks j ≡ Some y) v (at (suc i) y e))
       x.1 reached (subst (λ i. NotedTo i m) next one.to) in
       let told = stage_reads job (state_in words) (values_in row) k in
       record {
@@ -247,11 +251,11 @@ module _ (job : Job) (unbroken : Unbroken (widths_of job)) (kept : broken_of job
       let d = declarations_of job.decls 0 0 nothing job.decls in
       let more = (bind_unbroken d (λ s. blocks_of job.decls 0 s job.blocks >>= (λ y. ok y.entries)) unbroken).1 in
       let right = (bind_unbroken (blocks_of job.decls 0 d.value job.blocks) (λ y. ok y.entries) more).0 in
-      let z : 0 + length job.blocks ≡ length job.blocks = omega arith in
+      let z : 0 + length job.blocks ≡ length job.blocks = none_before (length job.blocks) in
       let none : Option ℕ = None in
       subst (NotedAfter (begun_notes n) (note_blocks t words row 0 (begun u) (begun_notes n) job.blocks) (reads_from job (state_in words) (values_in row) (length job.blocks) 0)) z
       (blocks_noted 0 job.blocks d.value (begun u) (begun_notes n)
-      (λ i b e. let w : i ≡ 0 + i = omega arith in subst (λ j. slice_get job.blocks j ≡ Some b) w e)
+      (λ i b e. let w : i ≡ 0 + i = sym (none_before i) in subst (λ j. slice_get job.blocks j ≡ Some b) w e)
       right
       (record { of_text = refl; ended = begun_ended job.decls u; places = still_placed t u (begun u) (begun_same t u) places })
       (record { count = length-replicate (length n.set_in) none ∙ ready.set_in; marks = λ j o is. nothing_seen n.set_in j }))
@@ -297,10 +301,7 @@ module _ (job : Job) (unbroken : Unbroken (widths_of job)) (kept : broken_of job
       let below : r.stage.value < n = ltb-true r.stage.value n e in
       let holds = answer_none (nat_le 2 n && nat_le n 12 && nat_le n (length job.blocks)) (e_rule 15 job.stages.at) (head_kept facts job (rules_kept job kept) 0 _ refl) in
       let few : n ≤ 12 = leb-true n 12 (and_parts (nat_le 2 n) (nat_le n 12) (and_parts (nat_le 2 n && nat_le n 12) (nat_le n (length job.blocks)) holds).0).1 in
-      let all : 0 + n ≤ n = omega arith in
-      let small = first_below p n 0 r.stage.value n all below in
-      let byte : n < 2 ^ 8 = let x : 12 < 2 ^ 8 = lit< tt in omega arith in
-      let fits : first_stage p n 0 r.stage.value < 2 ^ 8 = omega arith in
+      let fits : first_stage p n 0 r.stage.value < 2 ^ 8 = stage_fits (first_stage p n 0 r.stage.value) n (first_below p n 0 r.stage.value n (all_of n) below) few in
       ap (narrowed 8) (seen_first p n r.stage.value) ∙ narrowed_is 8 (first_stage p n 0 r.stage.value) fits
 
   -- so what is noted is what is told

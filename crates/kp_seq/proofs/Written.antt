@@ -29,6 +29,7 @@ use Rattle.kp_machine.proofs.Cases.{by_option}
 use Rattle.kp_machine.proofs.Text.{text, placed, fits_text, target_slot}
 use Rattle.kp_seq.proofs.Changes.{set_seen}
 use Rattle.kp_seq.proofs.Gives.{Lists}
+use Rattle.kp_seq.proofs.Plain.{after_next, next_first, none_after, none_before}
 
 -- the words of one target after its port has written
 abbrev pub row_by : Under → List ℕ → ℕ → Option Port → List ℕ
@@ -82,16 +83,16 @@ module _ (u : Under) where
   at_ports : (words : List (List ℕ)) (ps : List (Option Port)) (j i : ℕ) → get_or (written_from u words j ps) (j + i) [] ≡ row_by u (get_or words (j + i) []) (j + i) (get_or ps i None)
   at_ports words [] j i = refl
   at_ports words (p ∷ ps) j zero =
-      let z : j + 0 ≡ j = omega arith in
+      let z : j + 0 ≡ j = none_after j in
       rw z (before_ports (written_by u words j p) (j + 1) ps j (omega arith) ∙ at_port words j p)
   at_ports words (p ∷ ps) j (suc i) =
-      let z : j + suc i ≡ (j + 1) + i = omega arith in
+      let z : j + suc i ≡ (j + 1) + i = after_next j i in
       rw z (at_ports (written_by u words j p) ps (j + 1) i
       ∙ ap (λ row. row_by u row ((j + 1) + i) (get_or ps i None)) (other_port words j p ((j + 1) + i) (λ e. omega arith)))
 
   pub written_row : (words : List (List ℕ)) (ps : List (Option Port)) (x : ℕ) → get_or (written_from u words 0 ps) x [] ≡ row_by u (get_or words x []) x (get_or ps x None)
   written_row words ps x =
-      let z : 0 + x ≡ x = omega arith in
+      let z : 0 + x ≡ x = none_before x in
       subst (λ y. get_or (written_from u words 0 ps) y [] ≡ row_by u (get_or words y []) y (get_or ps x None)) z (at_ports words ps 0 x)
 
   pub written_count : (words : List (List ℕ)) (j : ℕ) (ps : List (Option Port)) → length (written_from u words j ps) ≡ length words
@@ -101,9 +102,9 @@ module _ (u : Under) where
 -- the port of a target, and that there is none past the last
 port_there : (ds : List Decl) (targets pipes : List Slot) (n t i : ℕ) → i < n → get_or (ports_from ds targets pipes t n) i None ≡ port_of pipes (result_to targets ds (t + i))
 port_there ds targets pipes zero t i l = absurd (omega arith)
-port_there ds targets pipes (suc n) t zero l = let z : t ≡ t + 0 = omega arith in ap (λ x. port_of pipes (result_to targets ds x)) z
+port_there ds targets pipes (suc n) t zero l = let z : t ≡ t + 0 = sym (none_after t) in ap (λ x. port_of pipes (result_to targets ds x)) z
 port_there ds targets pipes (suc n) t (suc i) l =
-    let z : suc t + i ≡ t + suc i = omega arith in
+    let z : suc t + i ≡ t + suc i = sym (next_first t i) in
     port_there ds targets pipes n (suc t) i (omega arith) ∙ ap (λ x. port_of pipes (result_to targets ds x)) z
 
 port_past : (ds : List Decl) (targets pipes : List Slot) (n t i : ℕ) → n ≤ i → get_or (ports_from ds targets pipes t n) i None ≡ None
@@ -193,7 +194,7 @@ module _ (job : Job) (unbroken : Unbroken (widths_of job)) (t : Laid) (tables : 
       ap (λ (ps : List (Option Port)). get_or ps x None) tables.ports
       ∙ ⊎_elim
       (λ (l : x < length (targets_of job.decls)).
-      let z : 0 + x ≡ x = omega arith in
+      let z : 0 + x ≡ x = none_before x in
       port_there job.decls (targets_of job.decls) (pipes_of job.decls) (length (targets_of job.decls)) 0 x l
       ∙ ap (λ y. port_of (pipes_of job.decls) (result_to (targets_of job.decls) job.decls y)) z)
       (λ (l : length (targets_of job.decls) ≤ x).

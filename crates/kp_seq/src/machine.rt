@@ -1,9 +1,12 @@
 ghost use Rattle.std.specs.Prelude.{◌≡◌, ◌<◌, [], IfOk, None, length, get_or};
+ghost use Rattle.kp_stage.specs.Design.{IsSound};
 ghost use Rattle.kp_stage.specs.Start.{IsStartOf, AreSamples};
 ghost use Rattle.kp_machine.specs.Slots.{samples_of};
 ghost use Rattle.kp_machine.specs.Machine.{state_of, values_in};
 ghost use Rattle.kp_seq.specs.Running.{HasWord, state, after_one, word_shown};
 ghost use Rattle.kp_seq.specs.Told.{told_of};
+ghost use Rattle.kp_seq.specs.inner.Ready.{AreTables, HasRoom, IsNoted, words_of_start};
+ghost use Rattle.kp_seq.specs.inner.Resolved.{Resolves};
 ghost use Rattle.kp_seq.specs.inner.Steps.{zero_bit, fitted};
 
 use crate::instruction::{Instruction, execute};
@@ -16,6 +19,73 @@ use kp_bits::Bits;
 use kp_stage::{Design, Start};
 use std::alloc::Global;
 use std::marker::Model;
+
+/// A design that is resolved: what is looked up while instructions run, and what they do.
+#[derive(Drop)]
+struct Resolved<'a> {
+    tables: Tables<'a>,
+    program: Program,
+}
+
+impl<'a> Resolved<'a> {
+    fn of(alloc: Global, d: &'a Design) -> Result<Resolved<'a>, NoMemory>
+        ensures tables { IfOk result (λ r. AreTables d.now.job r.tables) }
+        ensures program { IfOk result (λ r. Resolves r.tables d.now.job.blocks r.program) }
+    {
+        let tables = Tables::lay_out(alloc, d)?;
+        let program = Program::of(alloc, &tables, d)?;
+        Ok(Resolved { tables, program })
+    }
+}
+
+/// Where instructions run: the one under way, and the room for the arguments of functions.
+#[derive(Drop)]
+struct Desk {
+    under: Instruction,
+    room: Vec<u64>,
+}
+
+impl Desk {
+    fn new(alloc: Global, tables: &Tables, size: usize) -> Result<Desk, NoMemory>
+        ensures places { IfOk result (λ desk. HasRoom tables.now desk.under) }
+        ensures room { IfOk result (λ desk. length desk.room.items ≡ size) }
+    {
+        let under = Instruction::new(alloc, tables)?;
+        let room = vec![in alloc; 0; size]?;
+        Ok(Desk { under, room })
+    }
+}
+
+/// What instructions leave: the words of the targets, and the notes of the last one.
+#[derive(Drop)]
+struct Memory {
+    words: Words,
+    notes: Notes,
+}
+
+impl Memory {
+    // The words of a start state, and no notes.
+    fn start(alloc: Global, tables: &Tables, d: &Design, start: &Start) -> Result<Memory, NoMemory>
+        requires suits { IsStartOf d.now.job start.now }
+        requires tables { AreTables d.now.job tables.now }
+        ensures sound { IfOk result (λ m. IsSound d.now) }
+        ensures words { IfOk result (λ m. m.words ≡ words_of_start d.now.job.decls start.now.regs start.now.files) }
+        ensures notes { IfOk result (λ m. IsNoted d.now.job m.notes) }
+    {
+        let words = Words::start(alloc, d.job().decls.as_slice(), start)?;
+        let notes = Notes::new(alloc, tables, d.summary().reads as usize)?;
+        Ok(Memory { words, notes })
+    }
+
+    fn copied(alloc: Global, words: &Words, notes: &Notes) -> Result<Memory, NoMemory>
+        ensures words { IfOk result (λ m. m.words ≡ words.now) }
+        ensures notes { IfOk result (λ m. m.notes ≡ notes.now) }
+    {
+        let words = words.copied(alloc)?;
+        let notes = notes.copied(alloc)?;
+        Ok(Memory { words, notes })
+    }
+}
 
 /// A machine that runs one instruction at a time, seen as the job of its design and the state that it is in.
 #[derive(Drop)]
@@ -53,20 +123,17 @@ impl<'a> SeqMachine<'a> {
         ensures job { IfOk result (λ m. m.job ≡ d.now.job) }
         ensures state { IfOk result (λ m. state m ≡ state_of d.now.job start.now) }
     {
-        let tables = Tables::lay_out(alloc, d)?;
-        let program = Program::of(alloc, &tables, d)?;
-        let under = Instruction::new(alloc, &tables)?;
-        let room = vec![in alloc; 0; d.summary().size as usize]?;
-        let words = Words::start(alloc, d.job().decls.as_slice(), start)?;
-        let notes = Notes::new(alloc, &tables, d.summary().reads as usize)?;
+        let resolved = Resolved::of(alloc, d)?;
+        let desk = Desk::new(alloc, &resolved.tables, d.summary().size as usize)?;
+        let memory = Memory::start(alloc, &resolved.tables, d, start)?;
         Ok(SeqMachine {
             design: d,
-            tables,
-            program,
-            under,
-            room,
-            words,
-            notes,
+            tables: resolved.tables,
+            program: resolved.program,
+            under: desk.under,
+            room: desk.room,
+            words: memory.words,
+            notes: memory.notes,
         })
     }
 
@@ -75,20 +142,17 @@ impl<'a> SeqMachine<'a> {
     pub fn copied(&self, alloc: Global) -> Result<SeqMachine<'a>, NoMemory>
         ensures { IfOk result (λ m. m ≡ self.now) }
     {
-        let tables = Tables::lay_out(alloc, self.design)?;
-        let program = Program::of(alloc, &tables, self.design)?;
-        let under = Instruction::new(alloc, &tables)?;
-        let room = vec![in alloc; 0; self.room.len()]?;
-        let words = self.words.copied(alloc)?;
-        let notes = self.notes.copied(alloc)?;
+        let resolved = Resolved::of(alloc, self.design)?;
+        let desk = Desk::new(alloc, &resolved.tables, self.room.len())?;
+        let memory = Memory::copied(alloc, &self.words, &self.notes)?;
         Ok(SeqMachine {
             design: self.design,
-            tables,
-            program,
-            under,
-            room,
-            words,
-            notes,
+            tables: resolved.tables,
+            program: resolved.program,
+            under: desk.under,
+            room: desk.room,
+            words: memory.words,
+            notes: memory.notes,
         })
     }
 

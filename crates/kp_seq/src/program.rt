@@ -198,9 +198,16 @@ fn step_of(
         }
         StmtKind::Set(named, e, when) => {
             let value = code_for(alloc, tables, widths, e)?;
-            let when = option_code_for(alloc, tables, widths, when)?;
-            let target = target_of(tables, &named.name);
-            Ok(Made::unnamed(Step::Set(target, value.code, when)))
+            match option_code_for(alloc, tables, widths, when) {
+                Ok(when) => {
+                    let target = target_of(tables, &named.name);
+                    Ok(Made::unnamed(Step::Set(target, value.code, when)))
+                }
+                Err(e) => {
+                    drop(value);
+                    Err(e)
+                }
+            }
         }
         StmtKind::Aim(_, _) => Ok(Made::unnamed(Step::Nothing)),
     }
@@ -250,14 +257,19 @@ fn reading_of(
     ensures { IfOk result (λ reading. IsReading tables.now widths.now read.now reading) }
 {
     let address = option_code_for(alloc, tables, widths, &read.address)?;
-    let when = option_code_for(alloc, tables, widths, &read.when)?;
-    Ok(Reading {
-        place: tables.names.place(&read.name.name),
-        target: number_of(tables.targets.as_slice(), &read.target.name),
-        address,
-        when,
-        is_guessed: read.guess.is_some(),
-    })
+    match option_code_for(alloc, tables, widths, &read.when) {
+        Ok(when) => Ok(Reading {
+            place: tables.names.place(&read.name.name),
+            target: number_of(tables.targets.as_slice(), &read.target.name),
+            address,
+            when,
+            is_guessed: read.guess.is_some(),
+        }),
+        Err(e) => {
+            drop(address);
+            Err(e)
+        }
+    }
 }
 
 fn option_code_for(
@@ -288,6 +300,7 @@ fn code_for(
 {
     let plan = plan_of(alloc, tables.decls, Scope::Stage(&tables.names), e)?;
     let value = code_of(alloc, &plan, widths)?;
+    drop(plan);
     match value {
         Some(value) => Ok(value),
         None => Ok(Typed {

@@ -9,7 +9,7 @@ returns-in-Some c =
     subst (λ t. IsCode t c.args.widths.now c.args.e.now c.in-Some.value) c.tables.view_is
     (code_is _ c.args.widths.now _ c.args.e.now c.in_ok-plan.plan (λ q. refl) c.in_ok-plan.ensures c.in_ok-value.value c.in-Some.value c.in-Some.is c.in_ok-value.ensures)
 
-pub returns : goal.returns
-returns c =
+pub returns-in-None : goal.returns-in-None
+returns-in-None c =
     subst (λ t. IsCode t c.args.widths.now c.args.e.now (record { code = leaf.Word 0; width = 1 })) c.tables.view_is
     (code_none _ c.args.widths.now _ c.args.e.now c.in_ok-plan.plan (λ q. refl) c.in_ok-plan.ensures c.in_ok-value.value (record { code = leaf.Word 0; width = 1 }) c.in-None.is c.in_ok-value.ensures refl)

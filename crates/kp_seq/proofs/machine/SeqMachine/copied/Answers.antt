@@ -12,17 +12,17 @@ invariant_of-result c =
     record {
       names = i.names;
       stages = i.stages;
-      tables = c.in_ok-tables.ensures;
-      program = c.in_ok-program.ensures;
-      places = c.in_ok-under.ensures;
-      room = omega (arith, c.in_ok-room.ensures.len, c.in_ok-room.room.ok.0, m.room.ok.0, i.room);
-      words = subst (FitSlots (targets_of m.design.now.job.decls)) (sym c.in_ok-words.ensures) i.words;
-      notes = subst (IsNoted m.design.now.job) (sym c.in_ok-notes.ensures) i.notes;
+      tables = c.in_ok-resolved.ensures.tables;
+      program = c.in_ok-resolved.ensures.program;
+      places = c.in_ok-desk.ensures.places;
+      room = omega (arith, c.in_ok-desk.ensures.room, m.room.ok.0, i.room);
+      words = subst (FitSlots (targets_of m.design.now.job.decls)) (sym c.in_ok-memory.ensures.words) i.words;
+      notes = subst (IsNoted m.design.now.job) (sym c.in_ok-memory.ensures.notes) i.notes;
     }
 
 pub returns : goal.returns
 returns c =
     let m = c.self.inside in
-    ap (λ words. record { job = m.design.now.job; words = words; last = told_by c.in_ok-notes.notes }) c.in_ok-words.ensures
-    ∙ ap (λ (n : Noted). record { job = m.design.now.job; words = m.words; last = told_by n }) c.in_ok-notes.ensures
+    ap (λ words. record { job = m.design.now.job; words = words; last = told_by c.in_ok-memory.memory.notes }) c.in_ok-memory.ensures.words
+    ∙ ap (λ (n : Noted). record { job = m.design.now.job; words = m.words; last = told_by n }) c.in_ok-memory.ensures.notes
     ∙ c.self.view_is
