@@ -1,16 +1,12 @@
 -- Two netlists that can be compared have one verdict.
-use Rattle.std.proofs.Common.{◌≡◌, ◌∙◌, ℕ, zero, suc, ◌==◌, ◌&&◌, ◌<◌, ◌≤◌, ◌++◌, Bool, true, false, List, [], ◌∷◌, length, get_or, refl, sym, ap, subst, arith, ⊎_elim, Option, None, Some}
+use Rattle.std.proofs.Common.{◌≡◌, ◌∙◌, ℕ, zero, suc, ◌==◌, ◌&&◌, ◌<◌, ◌≤◌, Bool, true, false, List, [], ◌∷◌, length, get_or, refl, sym, ap, subst, arith, ⊎_elim, Option, None, Some}
 use Rattle.std.specs.Bool.{Decides}
 use Rattle.std.specs.Cmp.Lexicographic.{bytes_decides}
-use Rattle.std.specs.List.{position_or_len}
 use Rattle.std.proofs.lemmas.Bool.{cases_lt, cases_eq, false≢true}
 use Rattle.std.proofs.lemmas.Bool.Decides.{Decides-and, Decides-eqb, Decides-like}
-use Rattle.std.proofs.lemmas.List.{get_or_default}
 use Rattle.std.proofs.lemmas.List.Elements.{All-get_or}
-use Rattle.indexmap.specs.IndexSet.{insert_key}
 use Rattle.kp_bits.specs.Word.{Word}
 use Rattle.kp_net.specs.declared.node.NodeId.{NodeId}
-use Rattle.kp_net.specs.declared.node.Node.{Node}
 use Rattle.kp_net.specs.declared.netlist.NetReg.{NetReg}
 use Rattle.kp_net.specs.declared.netlist.NetFile.{NetFile}
 use Rattle.kp_net.specs.declared.netlist.Port.{Port}
@@ -18,60 +14,19 @@ use Rattle.kp_net.specs.declared.netlist.WritePort.{WritePort}
 use Rattle.kp_net.specs.Names.{same}
 use Rattle.kp_net.specs.Netlist.{Net}
 use Rattle.kp_net.specs.Parts.{NetOk, RegOk, FileOk, WriteOk, no_reg, no_file}
-use Rattle.kp_net.specs.Widths.{Distinct, no_node}
-use Rattle.kp_net.proofs.Found.{is}
 use Rattle.kp_equiv.specs.declared.verdict.Verdict.{Verdict}
 use Rattle.kp_equiv.specs.declared.verdict.Verdict.TheVariants.{Same, Differs}
-use Rattle.kp_equiv.specs.Alike.{Alike, reg_name, file_name}
-use Rattle.kp_equiv.specs.Roots.{Root, Ports, Register, File, Full, Ue, Back, reg_names, file_names, roots, RegsAlike, WritesAlike, FilesAlike, PortsAgree, RegisterAgrees, FileAgrees, Agrees, HasNames, IsComparable, IsVerdict}
-use Rattle.kp_equiv.specs.inner.Shapes.{Known, known_of, place, class_in, shape, Grown, Tells}
-use Rattle.kp_equiv.specs.inner.Sections.{AgreeUpTo, Differing, FirstOf}
-use Rattle.kp_equiv.proofs.Tables.{put, none_distinct}
-use Rattle.kp_equiv.proofs.Growing.{none_grown, one_grown, classes_stay}
-use Rattle.kp_equiv.proofs.Exactness.{tells, alike_found}
-use Rattle.kp_equiv.proofs.Inputs.{port_decides}
-use Rattle.kp_equiv.proofs.Places.{has_place, reg_names_are, file_names_are, reg_count, file_count}
-use Rattle.kp_equiv.proofs.Ordered.{register_found, file_found, namesake, file_namesake}
-
--- the classes of the first nodes of a netlist, in a table that has grown by them
-record Classed (ks : Known) (net : Net) (start : List Node) (i : ℕ) : Type 0 where
-  table : List Node
-  classes : List NodeId
-  grown : Grown ks net start table classes i
-
-classed : (ks : Known) (net : Net) (start : List Node) → NetOk net → Distinct start → (i : ℕ) → i ≤ length net.nodes → Classed ks net start i
-classed ks net start ok d zero h = record { table = start; classes = []; grown = none_grown ks net start d }
-classed ks net start ok d (suc i) h =
-    let c = classed ks net start ok d i (omega (arith, h)) in
-    let n : Node = get_or net.nodes i no_node in
-    let s : Node = shape ks net.parts (class_in c.classes) n in
-    let new : List Node = insert_key is c.table s in
-    let k : ℕ = position_or_len (is s) c.table in
-    let x : NodeId = record { 0 = k } in
-    let p = put c.table s new k c.grown.distinct refl refl in
-    let l : i < length net.nodes = omega (arith, h) in
-    record {
-      table = new;
-      classes = c.classes ++ x ∷ [];
-      grown = subst (Grown ks net start new (c.classes ++ x ∷ [])) (omega arith)
-          (one_grown ks net start c.table new net.nodes c.classes (c.classes ++ x ∷ []) x n s i ok refl l (get_or_default net.nodes i no_node n l) c.grown refl p.there p.inside p.extends p.count p.distinct refl);
-    }
-
-record SomeTells (a b : Net) : Type 0 where
-  first : List NodeId
-  second : List NodeId
-  tells : Tells a b first second
-
-some_tells : (a b : Net) → NetOk a → NetOk b → SomeTells a b
-some_tells a b oka okb =
-    let x = classed (known_of a) a [] oka none_distinct (length a.nodes) (omega arith) in
-    let y = classed (known_of a) b x.table okb x.grown.distinct (length b.nodes) (omega arith) in
-    record {
-      first = x.classes;
-      second = y.classes;
-      tells = tells a b y.table x.classes y.classes oka okb (classes_stay (known_of a) a x.table y.table x.classes x.grown.classes_are y.grown.extends) y.grown.classes_are
-          x.grown.count y.grown.count y.grown.distinct;
-    }
+use Rattle.kp_alike.specs.Alike.{Alike, reg_name, file_name}
+use Rattle.kp_alike.specs.Named.{reg_names, file_names, HasNames}
+use Rattle.kp_alike.specs.Roots.{Root, Ports, Register, File, Full, Ue, Back, roots, RegsAlike, WritesAlike, FilesAlike, PortsAgree, RegisterAgrees, FileAgrees, Agrees}
+use Rattle.kp_equiv.specs.Roots.{IsComparable, IsVerdict}
+use Rattle.kp_alike.specs.Classes.{place, class_in}
+use Rattle.kp_alike.specs.Sections.{AgreeUpTo, Differing, FirstOf}
+use Rattle.kp_alike.proofs.Told.{alike_found}
+use Rattle.kp_classes.proofs.Telling.{SomeTells, some_tells}
+use Rattle.kp_alike.proofs.Inputs.{port_decides}
+use Rattle.kp_alike.proofs.Places.{has_place, reg_names_are, file_names_are, reg_count, file_count}
+use Rattle.kp_alike.proofs.Ordered.{register_found, file_found, namesake, file_namesake}
 
 -- a fact that a test decides
 record Decided (P : Type 0) : Type 0 where

@@ -1,14 +1,7 @@
 pub mod Deciding
-pub mod Exactness
-pub mod Growing
-pub mod Inputs
 pub mod Jobs
 pub mod Lines
+pub mod Listed
 pub mod Meaning
-pub mod Naming
-pub mod Operations
-pub mod Ordered
-pub mod Places
 pub mod Running
 pub mod Shown
-pub mod Tables

@@ -18,7 +18,7 @@ use Rattle.kp_net.specs.Nodes.{Cells, Words, word_of_kind, word_of_node, word_at
 use Rattle.kp_net.specs.Parts.{NetOk, CellOk}
 use Rattle.kp_net.specs.Widths.{KindOk, wide, no_node}
 use Rattle.kp_net.proofs.Values.{word_there, word_wide}
-use Rattle.kp_equiv.specs.Alike.{commutes, Relation, AllRelated, PairRelated, KindAlike, Alike, AlikeWithin}
+use Rattle.kp_alike.specs.Alike.{commutes, Relation, AllRelated, PairRelated, KindAlike, Alike, AlikeWithin}
 use Rattle.kp_equiv.specs.inner.Meaning.{SameCells}
 
 test_swaps : (x y : ℕ) → (x == y) ≡ (y == x)

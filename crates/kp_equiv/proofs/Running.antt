@@ -15,14 +15,16 @@ use Rattle.kp_net.specs.Names.{among}
 use Rattle.kp_net.specs.Netlist.{Net, Input, State, cells_of, start_regs, start_of, regs_after, port_after, files_after, resets, state_after, row_of, states_from, rows_from}
 use Rattle.kp_net.specs.Nodes.{Cells, at}
 use Rattle.kp_net.specs.Parts.{NetOk, no_port, no_reg, no_file}
-use Rattle.kp_equiv.specs.Alike.{Alike, reg_name, file_name, sample_name}
-use Rattle.kp_equiv.specs.Roots.{Root, Ports, Register, File, Full, Ue, Back, reg_names, file_names, sample_names, names_of_second, roots, RegsAlike, FilesAlike, WritesAlike, PortsAgree, RegisterAgrees, FileAgrees, Agrees, AllAgree, IsComparable}
+use Rattle.kp_alike.specs.Alike.{Alike, reg_name, file_name, sample_name}
+use Rattle.kp_alike.specs.Named.{reg_names, file_names, sample_names}
+use Rattle.kp_alike.specs.Roots.{Root, Ports, Register, File, Full, Ue, Back, names_of_second, roots, RegsAlike, FilesAlike, WritesAlike, PortsAgree, RegisterAgrees, FileAgrees, Agrees, AllAgree}
+use Rattle.kp_equiv.specs.Roots.{IsComparable}
 use Rattle.kp_equiv.specs.Runs.{RunAlike, no_state}
 use Rattle.kp_equiv.specs.inner.Meaning.{SameCells, SameStates}
-use Rattle.kp_equiv.specs.inner.Sections.{behind_ports}
-use Rattle.kp_equiv.proofs.Naming.{one_number}
-use Rattle.kp_equiv.proofs.Ordered.{reg_root, file_root, filter_some, is_new, among_reg, second_never}
-use Rattle.kp_equiv.proofs.Places.{reg_names_are, file_names_are, sample_names_are, reg_count, file_count, sample_count}
+use Rattle.kp_alike.specs.Sections.{behind_ports}
+use Rattle.kp_alike.proofs.Naming.{one_number}
+use Rattle.kp_alike.proofs.Ordered.{reg_root, file_root, filter_some, is_new, among_reg, second_never}
+use Rattle.kp_alike.proofs.Places.{reg_names_are, file_names_are, sample_names_are, reg_count, file_count, sample_count}
 use Rattle.kp_equiv.proofs.Meaning.{alike_values, alike_tests}
 
 -- the roots of each section agree

@@ -19,12 +19,14 @@ use Rattle.kp_shows.specs.Naming.{module_name, register_name, file_name as targe
 use Rattle.kp_shows.specs.Shows.{IsOfJob}
 use Rattle.kp_shows.specs.Traces.{trace_of, inputs_seen, AreQuiet}
 use Rattle.kp_shows.specs.Traces as traces
-use Rattle.kp_equiv.specs.Alike.{Alike, AlikeWithin, reg_name, file_name}
-use Rattle.kp_equiv.specs.Roots.{reg_names, file_names, AllAgree, IsComparable}
+use Rattle.kp_alike.specs.Alike.{Alike, AlikeWithin, reg_name, file_name}
+use Rattle.kp_alike.specs.Named.{reg_names, file_names}
+use Rattle.kp_alike.specs.Roots.{AllAgree}
+use Rattle.kp_equiv.specs.Roots.{IsComparable}
 use Rattle.kp_equiv.specs.Runs.{RunAlike}
 use Rattle.kp_equiv.specs.Showing.{renamed, ShowsButName}
-use Rattle.kp_equiv.proofs.Naming.{one_number}
-use Rattle.kp_equiv.proofs.Places.{reg_names_are, file_names_are, reg_count, file_count}
+use Rattle.kp_alike.proofs.Naming.{one_number}
+use Rattle.kp_alike.proofs.Places.{reg_names_are, file_names_are, reg_count, file_count}
 use Rattle.kp_equiv.proofs.Running.{agreed, regs_alike, theorem}
 
 -- the first place of a name

@@ -1,4 +1,3 @@
-pub mod Alike
 pub mod Roots
 pub mod Runs
 pub mod Showing

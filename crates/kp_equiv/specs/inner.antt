@@ -1,4 +1,2 @@
 -- What stands here is for private contracts and proofs: a reader need not believe it.
 pub mod Meaning
-pub mod Sections
-pub mod Shapes

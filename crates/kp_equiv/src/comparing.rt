@@ -1,15 +1,16 @@
 // The comparison.
 ghost use Rattle.std.specs.Prelude.{◌≡◌, ◌+◌, ◌^◌, ◌<◌, ◌≤◌, ◌∷◌, [], length, map, None, IfOk, IfSome};
-ghost use Rattle.kp_equiv.specs.Roots.{Register, File, Full, Ue, Back, reg_names, file_names, names_of_second, HasNames, IsComparable, IsVerdict};
-ghost use Rattle.kp_equiv.specs.inner.Shapes.{known_of, Tells};
-ghost use Rattle.kp_equiv.specs.inner.Sections.{FirstNew, FirstOf, behind_ports, joined};
+ghost use Rattle.kp_alike.specs.Named.{reg_names, file_names, HasNames};
+ghost use Rattle.kp_alike.specs.Roots.{Register, File, Full, Ue, Back, names_of_second};
+ghost use Rattle.kp_equiv.specs.Roots.{IsComparable, IsVerdict};
+ghost use Rattle.kp_alike.specs.Classes.{Tells};
+ghost use Rattle.kp_alike.specs.Sections.{FirstNew, FirstOf, behind_ports, joined};
 
-use crate::classes::Classes;
-use crate::known::Known;
-use crate::names::Names;
-use crate::parts::{file_agrees, ports_agree, reg_at, register_agrees};
+use crate::parts::{file_agrees, reg_at, register_agrees};
 use crate::verdict::Verdict;
+use kp_alike::{Classes, file_count, first_of_second, first_output, ports_agree, reg_count};
 use kp_base::NoMemory;
+use kp_classes::{Names, classes_of};
 use kp_net::Netlist;
 use std::alloc::Global;
 
@@ -25,56 +26,61 @@ pub fn compare(alloc: Global, a: &Netlist, b: &Netlist) -> Result<Verdict, NoMem
     if !ports_agree(a.parts(), b.parts()) {
         return Ok(Verdict::Differs(0));
     }
-    let known = Known::new(alloc, a)?;
-    let other = Known::new(alloc, b)?;
-    let classes = Classes::new(alloc, &known, a, b)?;
-    match first_behind_ports(a, b, &known, &other, &classes) {
+    let first = first_behind_ports(alloc, a, b)?;
+    match first {
         None => Ok(Verdict::Same),
         Some(n) => Ok(Verdict::Differs(n as u32 + 1)),
     }
 }
 
 // The first root behind the ports that doesn't agree.
-fn first_behind_ports(
-    a: &Netlist,
-    b: &Netlist,
-    known: &Known,
-    other: &Known,
-    classes: &Classes,
-) -> Option<usize>
-    requires tells { Tells a.now b.now classes.now.first.items classes.now.second.items }
-    requires known { known.now ≡ known_of a.now }
-    requires other { other.now ≡ known_of b.now }
+fn first_behind_ports(alloc: Global, a: &Netlist, b: &Netlist) -> Result<Option<usize>, NoMemory>
     requires first { HasNames a.now }
     requires second { HasNames b.now }
-    ensures first { FirstOf a.now b.now (behind_ports a.now b.now) result }
+    ensures first { IfOk result (FirstOf a.now b.now (behind_ports a.now b.now)) }
+    ensures small { IfOk result (λ r. IfSome r (λ n. n < 2 ^ 28)) }
+{
+    let classes = classes_of(alloc, a, b)?;
+    first_by_classes(alloc, a, b, &classes)
+}
+
+fn first_by_classes(
+    alloc: Global,
+    a: &Netlist,
+    b: &Netlist,
+    classes: &Classes,
+) -> Result<Option<usize>, NoMemory>
+    requires tells { Tells a.now b.now classes.now.first.items classes.now.second.items }
+    requires first { HasNames a.now }
+    requires second { HasNames b.now }
+    ensures first { IfOk result (FirstOf a.now b.now (behind_ports a.now b.now)) }
+    ensures small { IfOk result (λ r. IfSome r (λ n. n < 2 ^ 28)) }
+{
+    let regs = search_registers(alloc, a, b, classes)?;
+    let more = search_second(alloc, a, b)?;
+    let files = search_files(alloc, a, b, classes)?;
+    let outputs = first_output(a, b, classes);
+    Ok(first_of_sections(a, regs, more, files, outputs))
+}
+
+// The first of all sections, by the first of each.
+fn first_of_sections(
+    a: &Netlist,
+    regs: Option<usize>,
+    more: Option<usize>,
+    files: Option<usize>,
+    outputs: Option<usize>,
+) -> Option<usize>
+    requires regs { IfSome regs (λ n. n < 16777216) }
+    requires more { IfSome more (λ n. n ≡ 0) }
+    requires files { IfSome files (λ n. n < 16) }
+    requires outputs { IfSome outputs (λ n. n < 3) }
+    ensures joined { result ≡ joined (length a.now.parts.regs) regs (joined 0 more (joined (length a.now.parts.files) files outputs)) }
     ensures small { IfSome result (λ n. n < 2 ^ 28) }
 {
-    let regs = first_register(a, b, &other.regs, classes);
-    let more = first_of_second(a, b, &known.regs);
-    let files = first_file(a, b, &other.files, classes);
-    let outputs = first_output(a, b, classes);
-    let file_count = file_count(a);
-    let back = behind(file_count, files, outputs);
+    let back = behind(file_count(a), files, outputs);
     let front = behind(0, more, back);
-    let reg_count = reg_count(a);
-    behind(reg_count, regs, front)
-}
-
-/// How many registers a netlist has.
-pub(crate) fn reg_count(net: &Netlist) -> usize
-    ensures value { result ≡ length net.now.parts.regs }
-    ensures few { result ≤ 16777216 }
-{
-    net.parts().regs.as_slice().len()
-}
-
-/// How many files a netlist has.
-pub(crate) fn file_count(net: &Netlist) -> usize
-    ensures value { result ≡ length net.now.parts.files }
-    ensures few { result ≤ 16 }
-{
-    net.parts().files.as_slice().len()
+    behind(reg_count(a), regs, front)
 }
 
 // The first place that was found, where the second list follows one of so many.
@@ -90,6 +96,22 @@ fn behind(count: usize, here: Option<usize>, there: Option<usize>) -> Option<usi
             None => None,
         },
     }
+}
+
+fn search_registers(
+    alloc: Global,
+    a: &Netlist,
+    b: &Netlist,
+    classes: &Classes,
+) -> Result<Option<usize>, NoMemory>
+    requires tells { Tells a.now b.now classes.now.first.items classes.now.second.items }
+    requires first { HasNames a.now }
+    requires second { HasNames b.now }
+    ensures first { IfOk result (FirstOf a.now b.now (map Register (reg_names a.now))) }
+    ensures small { IfOk result (λ r. IfSome r (λ n. n < 16777216)) }
+{
+    let names = Names::of_regs(alloc, b.parts().regs.as_slice())?;
+    Ok(first_register(a, b, &names, classes))
 }
 
 fn first_register(a: &Netlist, b: &Netlist, regs: &Names, classes: &Classes) -> Option<usize>
@@ -108,17 +130,14 @@ fn first_register(a: &Netlist, b: &Netlist, regs: &Names, classes: &Classes) -> 
     None
 }
 
-// A register that only the second netlist has never agrees.
-fn first_of_second(a: &Netlist, b: &Netlist, regs: &Names) -> Option<usize>
-    requires names { regs.now ≡ reg_names a.now }
-    ensures first { FirstOf a.now b.now (map Register (names_of_second a.now b.now)) result }
-    ensures none { result ≡ None → length (names_of_second a.now b.now) ≡ 0 }
-    ensures small { IfSome result (λ n. n ≡ 0) }
+fn search_second(alloc: Global, a: &Netlist, b: &Netlist) -> Result<Option<usize>, NoMemory>
+    requires first { HasNames a.now }
+    ensures first { IfOk result (FirstOf a.now b.now (map Register (names_of_second a.now b.now))) }
+    ensures none { IfOk result (λ r. r ≡ None → length (names_of_second a.now b.now) ≡ 0) }
+    ensures small { IfOk result (λ r. IfSome r (λ n. n ≡ 0)) }
 {
-    match only_in_second(b, regs) {
-        Some(_) => Some(0),
-        None => None,
-    }
+    let names = Names::of_regs(alloc, a.parts().regs.as_slice())?;
+    Ok(first_of_second(only_in_second(b, &names)))
 }
 
 /// The first register of a netlist whose name is not among these.
@@ -132,6 +151,22 @@ pub(crate) fn only_in_second(b: &Netlist, regs: &Names) -> Option<usize>
         }
     }
     None
+}
+
+fn search_files(
+    alloc: Global,
+    a: &Netlist,
+    b: &Netlist,
+    classes: &Classes,
+) -> Result<Option<usize>, NoMemory>
+    requires tells { Tells a.now b.now classes.now.first.items classes.now.second.items }
+    requires first { HasNames a.now }
+    requires second { HasNames b.now }
+    ensures first { IfOk result (FirstOf a.now b.now (map File (file_names a.now))) }
+    ensures small { IfOk result (λ r. IfSome r (λ n. n < 16)) }
+{
+    let names = Names::of_files(alloc, b.parts().files.as_slice())?;
+    Ok(first_file(a, b, &names, classes))
 }
 
 fn first_file(a: &Netlist, b: &Netlist, files: &Names, classes: &Classes) -> Option<usize>
@@ -148,21 +183,4 @@ fn first_file(a: &Netlist, b: &Netlist, files: &Names, classes: &Classes) -> Opt
         }
     }
     None
-}
-
-fn first_output(a: &Netlist, b: &Netlist, classes: &Classes) -> Option<usize>
-    requires tells { Tells a.now b.now classes.now.first.items classes.now.second.items }
-    ensures first { FirstOf a.now b.now (Full ∷ Ue ∷ Back ∷ []) result }
-    ensures small { IfSome result (λ n. n < 3) }
-{
-    let (p, q) = (a.parts(), b.parts());
-    if !classes.alike(a, b, p.full, q.full) {
-        Some(0)
-    } else if !classes.alike(a, b, p.ue, q.ue) {
-        Some(1)
-    } else if !classes.alike(a, b, p.back, q.back) {
-        Some(2)
-    } else {
-        None
-    }
 }

@@ -6,7 +6,8 @@ ghost use Rattle.kp_net.specs.Netlist.{Net};
 ghost use Rattle.kp_net.specs.Parts.{NetOk};
 ghost use Rattle.kp_shows.specs.Shows.{IsOfJob};
 ghost use Rattle.kp_equiv.specs.declared.verdict.Verdict.{Verdict};
-ghost use Rattle.kp_equiv.specs.Roots.{IsComparable, AllAgree, IsVerdict};
+ghost use Rattle.kp_alike.specs.Roots.{AllAgree};
+ghost use Rattle.kp_equiv.specs.Roots.{IsComparable, IsVerdict};
 ghost use Rattle.kp_equiv.specs.Runs.{RunAlike};
 ghost use Rattle.kp_equiv.specs.Showing.{ShowsButName};
 

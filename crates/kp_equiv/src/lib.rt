@@ -1,14 +1,9 @@
 //! Structural comparison of two netlists.
 #![tactic(auto)]
 
-mod classes;
 mod comparing;
-mod key;
-mod known;
 pub mod laws;
-mod names;
 mod parts;
-mod table;
 mod verdict;
 mod writing;
 

@@ -1,15 +1,18 @@
 // What is written of a comparison.
 ghost use Rattle.std.specs.Prelude.{◌≡◌, ◌+◌, ◌<◌, ◌≤◌, ◌++◌, ◌∷◌, [], length, map, get_or, codes, decimal, IfOk};
-ghost use Rattle.kp_equiv.specs.Roots.{Ports, File, Full, Ue, Back, root, file_names, HasNames, IsComparable, IsFirstDifference, IsVerdict};
+ghost use Rattle.kp_alike.specs.Named.{file_names, HasNames};
+ghost use Rattle.kp_alike.specs.Roots.{Ports, File, Full, Ue, Back, root, IsFirstDifference};
+ghost use Rattle.kp_equiv.specs.Roots.{IsComparable, IsVerdict};
 ghost use Rattle.kp_equiv.specs.Texts.{root_name, verdict_line};
-ghost use Rattle.kp_equiv.specs.inner.Sections.{behind_regs};
+ghost use Rattle.kp_alike.specs.Sections.{behind_regs};
 
-use crate::comparing::{file_count, only_in_second, reg_count};
-use crate::names::Names;
+use crate::comparing::only_in_second;
 use crate::parts::{file_at, reg_at};
 use crate::verdict::Verdict;
 use itoa::Buffer;
+use kp_alike::{file_count, reg_count, root_count};
 use kp_base::NoMemory;
+use kp_classes::Names;
 use kp_net::Netlist;
 use std::alloc::Global;
 
@@ -29,7 +32,7 @@ pub fn verdict_line(
     ensures { IfOk result (λ line. line.items ≡ verdict_line a.now b.now verdict) }
 {
     match verdict {
-        Verdict::Same => same_line(alloc, reg_count(a) + file_count(a) + 4),
+        Verdict::Same => same_line(alloc, root_count(a)),
         Verdict::Differs(root) => {
             let name = name_of(alloc, a, b, root as usize)?;
             different_line(alloc, name)

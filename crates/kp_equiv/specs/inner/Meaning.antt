@@ -2,7 +2,7 @@
 use Rattle.std.specs.Prelude.{ℕ, ◌<◌, ◌≡◌, [], length, get_or}
 use Rattle.kp_net.specs.Nodes.{Cells}
 use Rattle.kp_net.specs.Netlist.{Net, State}
-use Rattle.kp_equiv.specs.Alike.{reg_name, file_name, sample_name}
+use Rattle.kp_alike.specs.Alike.{reg_name, file_name, sample_name}
 
 pub record SameCells (a b : Net) (c d : Cells) : Type 0 where
   pub ext : c.ext ≡ d.ext

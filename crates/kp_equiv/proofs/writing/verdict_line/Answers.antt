@@ -1,12 +1,11 @@
-use Rattle.std.proofs.Common.{◌∙◌, ◌+◌, arith}
+use Rattle.std.proofs.Common.{◌∙◌}
 use Rattle.std.proofs.lemmas.Result.{IfOk-weaker}
 use Rattle.kp_equiv.proofs.Lines.{same_told, difference_told}
 use Rattle.kp_equiv.proofs.writing.verdict_line.Goals as goal
 
 pub returns-in-Same : goal.returns-in-Same
 returns-in-Same c =
-    let told = same_told c.args.a.now c.args.b.now c.args.verdict (c.reg_count.result + c.file_count.result + 4) c.in-Same.is c.requires.verdict
-    (omega (arith, c.reg_count.ensures.value, c.file_count.ensures.value)) in
+    let told = same_told c.args.a.now c.args.b.now c.args.verdict c.root_count.result c.in-Same.is c.requires.verdict c.root_count.ensures in
     IfOk-weaker c.same_line.result _ _ (λ line e. e ∙ told) c.same_line.ensures
 
 pub returns-in_ok-name-in-Differs : goal.returns-in_ok-name-in-Differs

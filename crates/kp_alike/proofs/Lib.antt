@@ -1,0 +1,6 @@
+pub mod Counting
+pub mod Inputs
+pub mod Naming
+pub mod Ordered
+pub mod Places
+pub mod Told

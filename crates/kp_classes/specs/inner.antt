@@ -1,0 +1,2 @@
+-- What stands here is for private contracts and proofs: a reader need not believe it.
+pub mod Shapes
