@@ -17,23 +17,41 @@ pub fn made(
         "select" => selected(pool, circuit, words),
         "carried" => carried(pool, circuit, words),
         "sweep" => swept(pool, circuit, words),
-        "hit" => Some(Given::Node(hit(pool, circuit, words)?)),
-        "stall" | "update" | "full-next" | "mismatch" => {
-            Some(Given::Node(moved(pool, circuit, words)?))
-        }
-        "join" => Some(Given::Node(joined(alloc, pool, circuit, words)?)),
-        _ => Some(Given::Node(node(pool, circuit, words)?)),
+        _ => Some(Given::Node(node(alloc, pool, circuit, words)?)),
     }
 }
 
-fn node(pool: &mut Pool, circuit: &Circuit<'_>, words: &[&str]) -> Option<NodeId> {
+fn node(alloc: Global, pool: &mut Pool, circuit: &Circuit<'_>, words: &[&str]) -> Option<NodeId> {
+    match *words.get(2)? {
+        "hit" => hit(pool, circuit, words),
+        "stall" | "update" | "full-next" | "mismatch" => moved(pool, circuit, words),
+        "join" => joined(alloc, pool, circuit, words),
+        _ => source(pool, circuit, words),
+    }
+}
+
+// A node of no operands, or what an operation gives.
+fn source(pool: &mut Pool, circuit: &Circuit<'_>, words: &[&str]) -> Option<NodeId> {
     match *words.get(2)? {
         "const" => gates::number(pool, small(words, 3)?, value(words, 4)?),
         "bit" => gates::single(pool, value(words, 3)? == 1),
         "ext" => gates::read(pool, circuit.ext, Kind::Ext),
+        _ => stored(pool, circuit, words),
+    }
+}
+
+// What a port, a register or a file holds, or what an operation gives.
+fn stored(pool: &mut Pool, circuit: &Circuit<'_>, words: &[&str]) -> Option<NodeId> {
+    match *words.get(2)? {
         "sample" => sample(pool, circuit, words),
         "reg" => reg(pool, circuit, words),
         "file" => word(pool, circuit, words),
+        _ => operated(pool, circuit, words),
+    }
+}
+
+fn operated(pool: &mut Pool, circuit: &Circuit<'_>, words: &[&str]) -> Option<NodeId> {
+    match *words.get(2)? {
         "not" | "inverse" | "part" => of_one(pool, circuit.node(words, 3)?, words),
         "mux" | "pick" => chosen(pool, circuit, words),
         _ => of_two(pool, circuit, words),
@@ -49,7 +67,7 @@ fn sample(pool: &mut Pool, circuit: &Circuit<'_>, words: &[&str]) -> Option<Node
 
 fn reg(pool: &mut Pool, circuit: &Circuit<'_>, words: &[&str]) -> Option<NodeId> {
     let name = *words.get(3)?;
-    let place = circuit.regs.iter().position(|reg| reg.name == name)?;
+    let place = circuit.reg_place(name)?;
     let width = circuit.regs.get(place)?.width;
     gates::read(pool, width, Kind::Reg(u32::try_from(place).ok()?))
 }
@@ -57,7 +75,7 @@ fn reg(pool: &mut Pool, circuit: &Circuit<'_>, words: &[&str]) -> Option<NodeId>
 fn word(pool: &mut Pool, circuit: &Circuit<'_>, words: &[&str]) -> Option<NodeId> {
     let name = *words.get(3)?;
     let address = circuit.node(words, 4)?;
-    let place = circuit.files.iter().position(|file| file.name == name)?;
+    let place = circuit.file_place(name)?;
     let width = circuit.files.get(place)?.width;
     gates::read_word(pool, width, u32::try_from(place).ok()?, address)
 }

@@ -66,28 +66,40 @@ impl Given {
     fn part(&self, part: &str) -> Option<NodeId> {
         match self {
             Given::Node(_) => None,
-            Given::Picked(picked) => match part {
-                "any" => Some(picked.any),
-                "ok" => Some(picked.ok),
-                "value" => Some(picked.value),
-                _ => None,
-            },
-            Given::Carried(carried) => match part {
-                "has" => Some(carried.has),
-                "fresh" => Some(carried.fresh),
-                "value" => Some(carried.value),
-                _ => None,
-            },
-            Given::Swept(sweep) => match part {
-                "back" => Some(sweep.back),
-                _ => swept_at(sweep.swept.as_slice(), part),
-            },
+            Given::Picked(picked) => picked_part(picked, part),
+            Given::Carried(carried) => carried_part(carried, part),
+            Given::Swept(sweep) => swept_part(sweep, part),
         }
     }
 }
 
+fn picked_part(picked: &Picked, part: &str) -> Option<NodeId> {
+    match part {
+        "any" => Some(picked.any),
+        "ok" => Some(picked.ok),
+        "value" => Some(picked.value),
+        _ => None,
+    }
+}
+
+fn carried_part(carried: &Carried, part: &str) -> Option<NodeId> {
+    match part {
+        "has" => Some(carried.has),
+        "fresh" => Some(carried.fresh),
+        "value" => Some(carried.value),
+        _ => None,
+    }
+}
+
+fn swept_part(sweep: &Sweep, part: &str) -> Option<NodeId> {
+    match part {
+        "back" => Some(sweep.back),
+        _ => swept_at(sweep.swept.as_slice(), part),
+    }
+}
+
 fn swept_at(swept: &[NodeId], stage: &str) -> Option<NodeId> {
-    let stage = stage.parse::<usize>().ok()?;
+    let stage = number(stage)? as usize;
     swept.get(stage).copied()
 }
 
@@ -111,13 +123,11 @@ impl<'t> Circuit<'t> {
     /// Takes a line that names no node, and says whether it is right.
     pub fn take(&mut self, line: &'t str, words: &[&'t str]) -> Result<bool, AllocError> {
         match words.first().copied().unwrap_or("") {
-            "" | "cycle" | "reset-cycle" => Ok(true),
             "sample" => self.add_sample(words),
             "reg" => self.add_reg(words),
             "file" => self.add_file(line, words),
-            "next" => Ok(self.next(words).is_some()),
-            "write" => Ok(self.write(words).is_some()),
-            _ => Ok(self.set(words).is_some()),
+            "" | "cycle" | "reset-cycle" => Ok(true),
+            _ => Ok(self.connect(words).is_some()),
         }
     }
 
@@ -146,16 +156,33 @@ impl<'t> Circuit<'t> {
         Ok(true)
     }
 
-    // The lines of one word or two.
-    fn set(&mut self, words: &[&'t str]) -> Option<()> {
+    // The lines that declare nothing.
+    fn connect(&mut self, words: &[&str]) -> Option<()> {
+        match *words.first()? {
+            "next" => self.next(words),
+            "write" => self.write(words),
+            "full" | "ue" | "back" => self.show(words),
+            _ => self.set(words),
+        }
+    }
+
+    fn set(&mut self, words: &[&str]) -> Option<()> {
         match *words.first()? {
             "only" => self.only_rows = true,
             "reset" => self.reset = true,
             "ext" => self.ext = small(words, 1)?,
-            "full" => self.full = Some(self.node(words, 1)?),
-            "ue" => self.ue = Some(self.node(words, 1)?),
-            "back" => self.back = Some(self.node(words, 1)?),
             _ => return None,
+        }
+        Some(())
+    }
+
+    // Has an output show a node.
+    fn show(&mut self, words: &[&str]) -> Option<()> {
+        let node = self.node(words, 1)?;
+        match *words.first()? {
+            "full" => self.full = Some(node),
+            "ue" => self.ue = Some(node),
+            _ => self.back = Some(node),
         }
         Some(())
     }
@@ -163,7 +190,7 @@ impl<'t> Circuit<'t> {
     fn next(&mut self, words: &[&str]) -> Option<()> {
         let name = *words.get(1)?;
         let next = self.node(words, 2)?;
-        let place = self.regs.iter().position(|reg| reg.name == name)?;
+        let place = self.reg_place(name)?;
         self.regs.get_mut(place)?.next = next;
         Some(())
     }
@@ -175,9 +202,19 @@ impl<'t> Circuit<'t> {
             address: self.node(words, 3)?,
             value: self.node(words, 4)?,
         };
-        let place = self.files.iter().position(|file| file.name == name)?;
+        let place = self.file_place(name)?;
         self.files.get_mut(place)?.port = Some(port);
         Some(())
+    }
+
+    /// The place of the register of a name.
+    pub fn reg_place(&self, name: &str) -> Option<usize> {
+        self.regs.iter().position(|reg| reg.name == name)
+    }
+
+    /// The place of the file of a name.
+    pub fn file_place(&self, name: &str) -> Option<usize> {
+        self.files.iter().position(|file| file.name == name)
     }
 
     /// Names what a line has given. A name that is there already keeps what it had.
@@ -239,10 +276,28 @@ fn file_of<'t>(line: &'t str, words: &[&'t str]) -> Option<File<'t>> {
 
 /// Word i of a line, as a number.
 pub fn value(words: &[&str], i: usize) -> Option<u64> {
-    words.get(i)?.parse::<u64>().ok()
+    number(words.get(i)?)
+}
+
+fn number(word: &str) -> Option<u64> {
+    word.parse::<u64>().ok()
 }
 
 /// Word i of a line, as a small number.
 pub fn small(words: &[&str], i: usize) -> Option<u8> {
-    words.get(i)?.parse::<u8>().ok()
+    u8::try_from(value(words, i)?).ok()
+}
+
+/// The numbers of a line from the word `first` on, at most so many. A word that is no number stands for 0.
+pub fn numbers(
+    alloc: Global,
+    line: &str,
+    first: usize,
+    most: usize,
+) -> Result<Vec<u64>, AllocError> {
+    let mut all = Vec::new(alloc);
+    for word in line.split_whitespace().skip(first).take(most) {
+        all.push(number(word).unwrap_or(0))?;
+    }
+    Ok(all)
 }

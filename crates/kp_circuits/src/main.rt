@@ -69,13 +69,24 @@ fn print_circuit<'t>(
 ) -> Result<()> {
     let mut pool = Pool::reserve(alloc, ROOM)?;
     print_lines(rt, alloc, &mut pool, circuit, case)?;
-    if !case.lines().any(is_cycle) {
-        return Ok(());
+    if case.lines().any(is_cycle) {
+        print_cycles(rt, alloc, pool, circuit, case)
+    } else {
+        drop(pool);
+        Ok(())
     }
-    match parts_of(alloc, &mut pool, circuit)? {
-        Some(parts) => print_run(rt, alloc, pool, parts, case),
-        None => Ok(rt.println("refused")?),
-    }
+}
+
+// Runs the cycles of a circuit whose nodes are these.
+fn print_cycles(
+    rt: &impl Print,
+    alloc: Global,
+    mut pool: Pool,
+    circuit: &Circuit<'_>,
+    case: &str,
+) -> Result<()> {
+    let parts = parts_of(alloc, &mut pool, circuit)?;
+    print_run(rt, alloc, pool, parts, case)
 }
 
 // Takes the lines into the circuit, and prints the nodes that they name.
@@ -86,13 +97,24 @@ fn print_lines<'t>(
     circuit: &mut Circuit<'t>,
     case: &'t str,
 ) -> Result<()> {
+    print_nodes(rt, alloc, pool, circuit, case)?;
+    if circuit.only_rows {
+        return Ok(());
+    }
+    println!(rt; "nodes {}", pool.nodes().len())?;
+    Ok(())
+}
+
+fn print_nodes<'t>(
+    rt: &impl Print,
+    alloc: Global,
+    pool: &mut Pool,
+    circuit: &mut Circuit<'t>,
+    case: &'t str,
+) -> Result<()> {
     let mut depths = Vec::new(alloc);
     for line in case.lines().skip(1) {
-        let words = line.split_whitespace().collect::<Vec<&str>>(alloc)?;
-        print_line(rt, alloc, pool, circuit, &mut depths, line, &words)?;
-    }
-    if !circuit.only_rows {
-        println!(rt; "nodes {}", pool.nodes().len())?;
+        print_line(rt, alloc, pool, circuit, &mut depths, line)?;
     }
     Ok(())
 }
@@ -104,25 +126,63 @@ fn print_line<'t>(
     circuit: &mut Circuit<'t>,
     depths: &mut Vec<u32>,
     line: &'t str,
+) -> Result<()> {
+    let words = line.split_whitespace().collect::<Vec<&str>>(alloc)?;
+    if words.get(1).copied().unwrap_or("") == "=" {
+        print_made(rt, alloc, pool, circuit, depths, &words)
+    } else {
+        print_taken(rt, circuit, line, &words)
+    }
+}
+
+// Takes a line that names no node.
+fn print_taken<'t>(
+    rt: &impl Print,
+    circuit: &mut Circuit<'t>,
+    line: &'t str,
     words: &[&'t str],
 ) -> Result<()> {
-    let name = words.first().copied().unwrap_or("");
-    if words.get(1).copied().unwrap_or("") != "=" {
-        if !circuit.take(line, words)? {
-            println!(rt; "{name}: refused")?;
-        }
+    if circuit.take(line, words)? {
         return Ok(());
     }
+    print_refused(rt, words)
+}
+
+// Names what a line asks for.
+fn print_made<'t>(
+    rt: &impl Print,
+    alloc: Global,
+    pool: &mut Pool,
+    circuit: &mut Circuit<'t>,
+    depths: &mut Vec<u32>,
+    words: &[&'t str],
+) -> Result<()> {
     match made(alloc, pool, circuit, words) {
-        Some(given) => {
-            circuit.name(name, given)?;
-            match given {
-                Given::Node(id) if !circuit.only_rows => print_node(rt, pool, depths, name, id),
-                _ => Ok(()),
-            }
-        }
-        None => Ok(println!(rt; "{name}: refused")?),
+        Some(given) => print_given(rt, pool, circuit, depths, words, given),
+        None => print_refused(rt, words),
     }
+}
+
+fn print_given<'t>(
+    rt: &impl Print,
+    pool: &Pool,
+    circuit: &mut Circuit<'t>,
+    depths: &mut Vec<u32>,
+    words: &[&'t str],
+    given: Given,
+) -> Result<()> {
+    let name = words.first().copied().unwrap_or("");
+    circuit.name(name, given)?;
+    match given {
+        Given::Node(id) if !circuit.only_rows => print_node(rt, pool, depths, name, id),
+        _ => Ok(()),
+    }
+}
+
+fn print_refused(rt: &impl Print, words: &[&str]) -> Result<()> {
+    let name = words.first().copied().unwrap_or("");
+    println!(rt; "{name}: refused")?;
+    Ok(())
 }
 
 fn print_node(
@@ -138,8 +198,12 @@ fn print_node(
     let (Some(node), Some(depth)) = (nodes.get(place), depths.get(place)) else {
         return Ok(());
     };
-    print!(rt; "{name} = {place}, width {}, depth {depth}: ", node.width)?;
+    print_head(rt, name, place, node.width, *depth)?;
     print_kind(rt, &node.kind)?;
     rt.println("")?;
     Ok(())
+}
+
+fn print_head(rt: &impl Print, name: &str, place: usize, width: u8, depth: u32) -> io::Result<()> {
+    print!(rt; "{name} = {place}, width {width}, depth {depth}: ")
 }

@@ -12,6 +12,12 @@ pub fn operator(name: &str) -> Option<BinOp> {
         "xor" => Some(BinOp::Xor),
         "add" => Some(BinOp::Add),
         "sub" => Some(BinOp::Sub),
+        _ => other_operator(name),
+    }
+}
+
+fn other_operator(name: &str) -> Option<BinOp> {
+    match name {
         "mul" => Some(BinOp::Mul),
         "eq" => Some(BinOp::Eq),
         "lt" => Some(BinOp::Lt),

@@ -1,36 +1,67 @@
 //! What stands beside the nodes of a circuit.
-use crate::circuit::{Circuit, File, Reg, Sample};
+use crate::circuit::{Circuit, File, Reg, Sample, numbers};
 use crate::gates::number;
 use anyhow::{Context, Result, bail};
 use kp_base::List;
 use kp_bits::Bits;
 use kp_net::{Label, NetFile, NetReg, NodeId, Parts, Pool, Port};
-use std::alloc::Global;
+use std::alloc::{AllocError, Global};
+
+// The nodes that show the outputs.
+#[derive(Clone, Copy)]
+struct Outputs {
+    full: NodeId,
+    ue: NodeId,
+    back: NodeId,
+}
 
 /// The parts of a circuit, or none if an output finds no room. An output that no line
 /// names shows 0.
 pub fn parts_of(alloc: Global, pool: &mut Pool, circuit: &Circuit<'_>) -> Result<Option<Parts>> {
-    let (Some(full), Some(ue), Some(back)) = (
-        or_zero(pool, circuit.full, circuit.ext),
-        or_zero(pool, circuit.ue, circuit.ext),
-        or_zero(pool, circuit.back, 4),
-    ) else {
-        return Ok(None);
-    };
+    match outputs_of(pool, circuit) {
+        Some(outputs) => Ok(Some(parts_with(alloc, circuit, outputs)?)),
+        None => Ok(None),
+    }
+}
+
+fn outputs_of(pool: &mut Pool, circuit: &Circuit<'_>) -> Option<Outputs> {
+    let full = or_zero(pool, circuit.full, circuit.ext);
+    let ue = or_zero(pool, circuit.ue, circuit.ext);
+    let back = or_zero(pool, circuit.back, 4);
+    Some(Outputs {
+        full: full?,
+        ue: ue?,
+        back: back?,
+    })
+}
+
+fn parts_with(alloc: Global, circuit: &Circuit<'_>, outputs: Outputs) -> Result<Parts> {
+    let name = label(alloc, "m_circuit")?;
     let samples = samples_of(alloc, circuit.samples.as_slice())?;
+    parts_behind(alloc, circuit, outputs, name, samples)
+}
+
+// The parts, of which the name and the ports are there.
+fn parts_behind(
+    alloc: Global,
+    circuit: &Circuit<'_>,
+    outputs: Outputs,
+    name: Label,
+    samples: List<Port>,
+) -> Result<Parts> {
     let regs = regs_of(alloc, circuit.regs.as_slice())?;
     let files = files_of(alloc, circuit.files.as_slice())?;
-    Ok(Some(Parts {
-        name: label(alloc, "m_circuit")?,
+    Ok(Parts {
+        name,
         ext: circuit.ext,
         reset: circuit.reset,
         samples,
         regs,
         files,
-        full,
-        ue,
-        back,
-    }))
+        full: outputs.full,
+        ue: outputs.ue,
+        back: outputs.back,
+    })
 }
 
 fn or_zero(pool: &mut Pool, node: Option<NodeId>, width: u8) -> Option<NodeId> {
@@ -99,11 +130,11 @@ fn words_of(alloc: Global, file: &File<'_>) -> Result<List<u64>> {
     if 16 < file.address_width {
         bail!("a file has at most 65536 words");
     }
-    let count = 1usize << file.address_width;
-    let mut words = Vec::new(alloc);
-    for word in file.line.split_whitespace().skip(4).take(count) {
-        words.push(word.parse::<u64>().unwrap_or(0))?;
-    }
+    Ok(List::new(filled(alloc, file.line, 1usize << file.address_width)?))
+}
+
+fn filled(alloc: Global, line: &str, count: usize) -> Result<Vec<u64>, AllocError> {
+    let mut words = numbers(alloc, line, 4, count)?;
     words.resize(count, 0)?;
-    Ok(List::new(words))
+    Ok(words)
 }

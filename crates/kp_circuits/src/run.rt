@@ -7,24 +7,36 @@ ghost use Rattle.kp_net.specs.Parts.{PartsOk};
 ghost use Rattle.kp_cycle.specs.Steps.{SamplesFit, ShowsRows};
 
 use crate::checks::parts_fit;
+use crate::circuit::numbers;
 use anyhow::Result;
 use kp_base::Row;
 use kp_bits::Bits;
 use kp_cycle::Sim;
 use kp_net::{Netlist, Parts, Pool};
 use std::alloc::{AllocError, Global};
+use std::io;
 
-/// Runs the cycles of a circuit, and prints each row and the states before and after.
+/// Runs the cycles of a circuit, if it has parts, and prints each row and the states before and after.
 pub fn print_run(
     rt: &impl Print,
     alloc: Global,
     pool: Pool,
-    parts: Parts,
+    parts: Option<Parts>,
     case: &str,
 ) -> Result<()> {
-    match closed(pool, parts) {
+    match netlist_of(pool, parts) {
         Some(net) => print_net(rt, alloc, &net, case),
         None => Ok(rt.println("refused")?),
+    }
+}
+
+// The netlist, if there are parts, and those are as a simulator asks for.
+fn netlist_of(pool: Pool, parts: Option<Parts>) -> Option<Netlist>
+    ensures { IfSome result (λ net. ShowsRows net) }
+{
+    match parts {
+        Some(parts) => closed(pool, parts),
+        None => None,
     }
 }
 
@@ -32,10 +44,19 @@ pub fn print_run(
 fn closed(pool: Pool, parts: Parts) -> Option<Netlist>
     ensures { IfSome result (λ net. ShowsRows net) }
 {
-    if !parts_fit(&pool, &parts) || !shows_rows(&pool, &parts) {
-        return None;
+    if runs(&pool, &parts) {
+        Some(Netlist::close(pool, parts))
+    } else {
+        drop(pool);
+        drop(parts);
+        None
     }
-    Some(Netlist::close(pool, parts))
+}
+
+fn runs(pool: &Pool, parts: &Parts) -> bool
+    ensures { IsTrue result → PartsOk pool.now.nodes parts.now × (parts.now.ext ≤ 12) × (wide pool.now.nodes parts.now.full.0 ≡ parts.now.ext) × (wide pool.now.nodes parts.now.ue.0 ≡ parts.now.ext) × (wide pool.now.nodes parts.now.back.0 ≡ 4) }
+{
+    parts_fit(pool, parts) && shows_rows(pool, parts)
 }
 
 fn print_net(rt: &impl Print, alloc: Global, net: &Netlist, case: &str) -> Result<()>
@@ -49,12 +70,17 @@ fn print_cycles(rt: &impl Print, alloc: Global, sim: &mut Sim<'_>, case: &str) -
     print_state(rt, alloc, sim)?;
     for line in case.lines().filter(|line| is_cycle(line)) {
         match cycle(alloc, sim, line)? {
-            Some(row) => println!(rt; "row {} {} {}", row.full, row.ue, row.back)?,
+            Some(row) => print_row(rt, alloc, sim, row)?,
             None => return Ok(rt.println("refused")?),
         }
-        print_state(rt, alloc, sim)?;
     }
     Ok(())
+}
+
+// Prints the row of a cycle, and the state behind it.
+fn print_row(rt: &impl Print, alloc: Global, sim: &Sim<'_>, row: Row) -> Result<()> {
+    println!(rt; "row {} {} {}", row.full, row.ue, row.back)?;
+    print_state(rt, alloc, sim)
 }
 
 /// Whether a line is a cycle.
@@ -64,20 +90,17 @@ pub fn is_cycle(line: &str) -> bool {
 
 // Runs the cycle of a line.
 fn cycle(alloc: Global, sim: &mut Sim<'_>, line: &str) -> Result<Option<Row>, AllocError> {
-    let mut values = Vec::new(alloc);
-    for word in line.split_whitespace().skip(1) {
-        values.push(word.parse::<u64>().unwrap_or(0))?;
+    let values = numbers(alloc, line, 1, usize::MAX)?;
+    match values.split_first() {
+        Some((ext, values)) => step(
+            alloc,
+            sim,
+            (*ext % 65536) as u16,
+            line.starts_with("reset"),
+            values,
+        ),
+        None => Ok(None),
     }
-    let Some((ext, values)) = values.split_first() else {
-        return Ok(None);
-    };
-    step(
-        alloc,
-        sim,
-        (*ext % 65536) as u16,
-        line.starts_with("reset"),
-        values,
-    )
 }
 
 /// Whether the outputs have the widths that a simulator asks for.
@@ -104,10 +127,15 @@ pub fn step(
         return Ok(Some(sim.step(ext)));
     }
     let samples = samples_of(alloc, net, values)?;
-    if !samples_fit(net, samples.as_slice()) {
-        return Ok(None);
+    Ok(row_with(sim, ext, is_reset, samples.as_slice()))
+}
+
+// Runs a cycle with these samples, if they fit.
+fn row_with(sim: &mut Sim<'_>, ext: u16, is_reset: bool, samples: &[Bits]) -> Option<Row> {
+    if !samples_fit(sim.netlist(), samples) {
+        return None;
     }
-    Ok(Some(sim.step_with(ext, is_reset, samples.as_slice())))
+    Some(sim.step_with(ext, is_reset, samples))
 }
 
 // The values of the sample ports, but those that do not fit.
@@ -138,16 +166,24 @@ fn samples_fit(net: &Netlist, samples: &[Bits]) -> bool
 
 /// Prints the registers, and the words of files that are not 0.
 pub fn print_state(rt: &impl Print, alloc: Global, sim: &Sim<'_>) -> Result<()> {
-    let parts = sim.netlist().parts();
-    let regs = parts.regs.as_slice();
-    for i in 0..regs.len() {
-        let name = String::from_utf8_lossy(alloc, regs[i].name.bytes())?;
-        println!(rt; "  {name} = {}", sim.value(i as u32).value())?;
-    }
-    let files = parts.files.as_slice();
-    for i in 0..files.len() {
+    print_regs(rt, alloc, sim)?;
+    for i in 0..sim.netlist().parts().files.as_slice().len() {
         print_file(rt, alloc, sim, i)?;
     }
+    Ok(())
+}
+
+fn print_regs(rt: &impl Print, alloc: Global, sim: &Sim<'_>) -> Result<()> {
+    let regs = sim.netlist().parts().regs.as_slice();
+    for i in 0..regs.len() {
+        print_reg(rt, alloc, regs[i].name.bytes(), sim.value(i as u32).value())?;
+    }
+    Ok(())
+}
+
+fn print_reg(rt: &impl Print, alloc: Global, name: &[u8], value: u64) -> Result<()> {
+    let name = String::from_utf8_lossy(alloc, name)?;
+    println!(rt; "  {name} = {value}")?;
     Ok(())
 }
 
@@ -158,10 +194,14 @@ fn print_file(rt: &impl Print, alloc: Global, sim: &Sim<'_>, i: usize) -> Result
     };
     let name = String::from_utf8_lossy(alloc, file.name.bytes())?;
     for address in 0..1u32 << file.address_width {
-        let word = sim.word(i as u32, address).value();
-        if word != 0 {
-            println!(rt; "  {name}[{address}] = {word}")?;
-        }
+        print_word(rt, &name, address, sim.word(i as u32, address).value())?;
     }
     Ok(())
+}
+
+fn print_word(rt: &impl Print, name: &str, address: u32, word: u64) -> io::Result<()> {
+    if word == 0 {
+        return Ok(());
+    }
+    println!(rt; "  {name}[{address}] = {word}")
 }

@@ -4,7 +4,7 @@ ghost use Rattle.kp_grammar.specs.Grammar.{Nonterminal};
 ghost use Rattle.kp_grammar.specs.Tables.{among};
 ghost use Rattle.kp_vlog.specs.declared.token.Keyword.TheVariants as keywords;
 ghost use Rattle.kp_vlog.specs.Language.{keyword_class, IDENTIFIER, BODY, CONDITION, VALUES, UPDATES, UPDATE, named, values as values_value, perhaps_reset, update as update_value, updates as updates_value};
-ghost use Rattle.kp_vparse.specs.inner.Words.{update_words, FILE_VALUE};
+ghost use Rattle.kp_vparse.specs.inner.Words.{update_words, TEST, RESET_VALUES, OTHERS, FILE_VALUE};
 ghost use Rattle.kp_vparse.specs.inner.Reading.{class_at, Turns, Ends};
 
 use crate::fault::Fault;
@@ -40,12 +40,19 @@ fn tested(
     requires { true ≡ (class_at tokens.now at == keyword_class keywords.If) }
     ensures { MatchResult result (λ x. Turns tokens.now (Nonterminal BODY ∷ []) [] (updates_value x.1.items ∷ perhaps_reset x.0 ∷ []) at x.2 0) (Ends tokens.now (Nonterminal BODY ∷ []) [] at) }
 {
-    let next = tokens.word(Keyword::If, at)?;
-    let next = tokens.mark(Mark::OpenParenthesis, next)?;
-    let (test, next) = tokens.name(alloc, next)?;
-    let next = tokens.mark(Mark::CloseParenthesis, next)?;
+    let (test, next) = read_test(alloc, tokens, at)?;
     let (reset, all, next) = condition(alloc, tokens, test, next)?;
     Ok((reset, all, next))
+}
+
+// `if (name)`.
+fn read_test(alloc: Global, tokens: &Tokens<'_>, at: usize) -> Result<(Named, usize), Fault>
+    ensures { MatchResult result (λ x. Turns tokens.now (TEST) [] (named x.0 ∷ []) at x.1 1) (Ends tokens.now (TEST) [] at) }
+{
+    let next = tokens.word(Keyword::If, at)?;
+    let next = tokens.mark(Mark::OpenParenthesis, next)?;
+    let (test, next) = tokens.name_before(alloc, Mark::CloseParenthesis, next)?;
+    Ok((test, next))
 }
 
 // Updates of which the first is one of a register.
@@ -57,10 +64,8 @@ fn changed(
     requires { true ≡ (class_at tokens.now at == IDENTIFIER) }
     ensures { MatchResult result (λ x. Turns tokens.now (Nonterminal BODY ∷ []) [] (updates_value x.1.items ∷ perhaps_reset x.0 ∷ []) at x.2 0) (Ends tokens.now (Nonterminal BODY ∷ []) [] at) }
 {
-    let (name, next) = tokens.name(alloc, at)?;
-    let next = tokens.mark(Mark::Arrow, next)?;
-    let (value, next) = tokens.name(alloc, next)?;
-    let next = tokens.mark(Mark::Semicolon, next)?;
+    let (name, next) = tokens.name_before(alloc, Mark::Arrow, at)?;
+    let (value, next) = tokens.name_before(alloc, Mark::Semicolon, next)?;
     let first = one(alloc, Update::Reg(name, value))?;
     let (all, next) = updates(alloc, tokens, first, next)?;
     Ok((None, all, next))
@@ -94,20 +99,40 @@ fn with_reset(
     requires { true ≡ (class_at tokens.now at == keyword_class keywords.Begin) }
     ensures { MatchResult result (λ x. Turns tokens.now (Nonterminal CONDITION ∷ []) (named test ∷ []) (updates_value x.1.items ∷ perhaps_reset x.0 ∷ []) at x.2 1) (Ends tokens.now (Nonterminal CONDITION ∷ []) (named test ∷ []) at) }
 {
-    let next = tokens.word(Keyword::Begin, at)?;
-    let (values, next) = values(alloc, tokens, next)?;
-    let next = tokens.word(Keyword::End, next)?;
+    let (values, next) = read_values(alloc, tokens, at)?;
     let values = List::new(values);
-    let next = tokens.word(Keyword::Else, next)?;
-    let next = tokens.word(Keyword::Begin, next)?;
-    let none = Vec::new(alloc);
-    let (all, next) = updates(alloc, tokens, none, next)?;
-    let next = tokens.word(Keyword::End, next)?;
+    let (all, next) = read_others(alloc, tokens, next)?;
     let list = ResetList {
         reset: test,
         values,
     };
     Ok((Some(list), all, next))
+}
+
+// The values of the reset list, from `begin` to `end`.
+fn read_values(
+    alloc: Global,
+    tokens: &Tokens<'_>,
+    at: usize,
+) -> Result<(Vec<ResetValue>, usize), Fault>
+    ensures { MatchResult result (λ x. Turns tokens.now (RESET_VALUES) [] (values_value x.0.items ∷ []) at x.1 1) (Ends tokens.now (RESET_VALUES) [] at) }
+{
+    let next = tokens.word(Keyword::Begin, at)?;
+    let (values, next) = values(alloc, tokens, next)?;
+    let next = tokens.word(Keyword::End, next)?;
+    Ok((values, next))
+}
+
+// The updates where there is no reset, from `else` to `end`.
+fn read_others(alloc: Global, tokens: &Tokens<'_>, at: usize) -> Result<(Vec<Update>, usize), Fault>
+    ensures { MatchResult result (λ x. Turns tokens.now (OTHERS) [] (updates_value x.0.items ∷ []) at x.1 1) (Ends tokens.now (OTHERS) [] at) }
+{
+    let next = tokens.word(Keyword::Else, at)?;
+    let next = tokens.word(Keyword::Begin, next)?;
+    let none = Vec::new(alloc);
+    let (all, next) = updates(alloc, tokens, none, next)?;
+    let next = tokens.word(Keyword::End, next)?;
+    Ok((all, next))
 }
 
 // The values of the reset list.
@@ -117,10 +142,8 @@ fn values(alloc: Global, tokens: &Tokens<'_>, at: usize) -> Result<(Vec<ResetVal
     let mut all = Vec::new(alloc);
     let mut here = at;
     'all: while tokens.is_name(here) {
-        let (name, next) = tokens.name(alloc, here)?;
-        let next = tokens.mark(Mark::Arrow, next)?;
-        let (value, next) = tokens.literal(next)?;
-        let next = tokens.mark(Mark::Semicolon, next)?;
+        let (name, next) = tokens.name_before(alloc, Mark::Arrow, here)?;
+        let (value, next) = tokens.literal_before(Mark::Semicolon, next)?;
         let one = ResetValue { name, value };
         all.push(one)?;
         here = next;
@@ -154,10 +177,8 @@ fn update(alloc: Global, tokens: &Tokens<'_>, at: usize) -> Result<(Update, usiz
     if tokens.is_keyword(Keyword::If, at) {
         return write(alloc, tokens, at);
     }
-    let (name, next) = tokens.name(alloc, at)?;
-    let next = tokens.mark(Mark::Arrow, next)?;
-    let (value, next) = tokens.name(alloc, next)?;
-    let next = tokens.mark(Mark::Semicolon, next)?;
+    let (name, next) = tokens.name_before(alloc, Mark::Arrow, at)?;
+    let (value, next) = tokens.name_before(alloc, Mark::Semicolon, next)?;
     Ok((Update::Reg(name, value), next))
 }
 
@@ -166,10 +187,7 @@ fn write(alloc: Global, tokens: &Tokens<'_>, at: usize) -> Result<(Update, usize
     requires { true ≡ (class_at tokens.now at == keyword_class keywords.If) }
     ensures { MatchResult result (λ x. Turns tokens.now (Nonterminal UPDATE ∷ []) [] (update_value x.0 ∷ []) at x.1 1) (Ends tokens.now (Nonterminal UPDATE ∷ []) [] at) }
 {
-    let next = tokens.word(Keyword::If, at)?;
-    let next = tokens.mark(Mark::OpenParenthesis, next)?;
-    let (test, next) = tokens.name(alloc, next)?;
-    let next = tokens.mark(Mark::CloseParenthesis, next)?;
+    let (test, next) = read_test(alloc, tokens, at)?;
     let (file, address, value, next) = file_value(alloc, tokens, next)?;
     Ok((Update::File(test, file, address, value), next))
 }
@@ -182,13 +200,10 @@ fn file_value(
 ) -> Result<(Named, Named, Named, usize), Fault>
     ensures { MatchResult result (λ x. Turns tokens.now (FILE_VALUE) [] (named x.2 ∷ named x.1 ∷ named x.0 ∷ []) at x.3 1) (Ends tokens.now (FILE_VALUE) [] at) }
 {
-    let (file, next) = tokens.name(alloc, at)?;
-    let next = tokens.mark(Mark::OpenBracket, next)?;
-    let (address, next) = tokens.name(alloc, next)?;
-    let next = tokens.mark(Mark::CloseBracket, next)?;
+    let (file, next) = tokens.name_before(alloc, Mark::OpenBracket, at)?;
+    let (address, next) = tokens.name_before(alloc, Mark::CloseBracket, next)?;
     let next = tokens.mark(Mark::Arrow, next)?;
-    let (value, next) = tokens.name(alloc, next)?;
-    let next = tokens.mark(Mark::Semicolon, next)?;
+    let (value, next) = tokens.name_before(alloc, Mark::Semicolon, next)?;
     Ok((file, address, value, next))
 }
 

@@ -51,11 +51,9 @@ fn start(tokens: &Tokens<'_>, name: Named, at: usize) -> Result<(Init, usize), F
         return reg_start(tokens, name, at);
     }
     let next = tokens.mark(Mark::OpenBracket, at)?;
-    let (index, next) = tokens.number(next)?;
-    let next = tokens.mark(Mark::CloseBracket, next)?;
+    let (index, next) = tokens.number_before(Mark::CloseBracket, next)?;
     let next = tokens.mark(Mark::Equals, next)?;
-    let (value, next) = tokens.literal(next)?;
-    let next = tokens.mark(Mark::Semicolon, next)?;
+    let (value, next) = tokens.literal_before(Mark::Semicolon, next)?;
     Ok((Init::Word(name, index, value), next))
 }
 
@@ -65,8 +63,7 @@ fn reg_start(tokens: &Tokens<'_>, name: Named, at: usize) -> Result<(Init, usize
     ensures { MatchResult result (λ x. Turns tokens.now (Nonterminal START ∷ []) (named name ∷ []) (init_value x.0 ∷ []) at x.1 1) (Ends tokens.now (Nonterminal START ∷ []) (named name ∷ []) at) }
 {
     let next = tokens.mark(Mark::Equals, at)?;
-    let (value, next) = tokens.literal(next)?;
-    let next = tokens.mark(Mark::Semicolon, next)?;
+    let (value, next) = tokens.literal_before(Mark::Semicolon, next)?;
     Ok((Init::Reg(name, value), next))
 }
 
@@ -100,10 +97,8 @@ fn fill_from(alloc: Global, tokens: &Tokens<'_>, at: usize) -> Result<(Named, Nu
 {
     let next = tokens.word(Keyword::For, at)?;
     let next = tokens.mark(Mark::OpenParenthesis, next)?;
-    let (counter, next) = tokens.name(alloc, next)?;
-    let next = tokens.mark(Mark::Equals, next)?;
-    let (from, next) = tokens.number(next)?;
-    let next = tokens.mark(Mark::Semicolon, next)?;
+    let (counter, next) = tokens.name_before(alloc, Mark::Equals, next)?;
+    let (from, next) = tokens.number_before(Mark::Semicolon, next)?;
     Ok((counter, from, next))
 }
 
@@ -111,10 +106,8 @@ fn fill_from(alloc: Global, tokens: &Tokens<'_>, at: usize) -> Result<(Named, Nu
 fn fill_limit(alloc: Global, tokens: &Tokens<'_>, at: usize) -> Result<(Named, Num, usize), Fault>
     ensures { MatchResult result (λ x. Turns tokens.now (FILL_LIMIT) [] (number_value x.1 ∷ named x.0 ∷ []) at x.2 1) (Ends tokens.now (FILL_LIMIT) [] at) }
 {
-    let (tested, next) = tokens.name(alloc, at)?;
-    let next = tokens.mark(Mark::Less, next)?;
-    let (limit, next) = tokens.number(next)?;
-    let next = tokens.mark(Mark::Semicolon, next)?;
+    let (tested, next) = tokens.name_before(alloc, Mark::Less, at)?;
+    let (limit, next) = tokens.number_before(Mark::Semicolon, next)?;
     Ok((tested, limit, next))
 }
 
@@ -126,12 +119,9 @@ fn fill_step(
 ) -> Result<(Named, Named, Num, usize), Fault>
     ensures { MatchResult result (λ x. Turns tokens.now (FILL_STEP) [] (number_value x.2 ∷ named x.1 ∷ named x.0 ∷ []) at x.3 1) (Ends tokens.now (FILL_STEP) [] at) }
 {
-    let (stepped, next) = tokens.name(alloc, at)?;
-    let next = tokens.mark(Mark::Equals, next)?;
-    let (old, next) = tokens.name(alloc, next)?;
-    let next = tokens.mark(Mark::Plus, next)?;
-    let (by, next) = tokens.number(next)?;
-    let next = tokens.mark(Mark::CloseParenthesis, next)?;
+    let (stepped, next) = tokens.name_before(alloc, Mark::Equals, at)?;
+    let (old, next) = tokens.name_before(alloc, Mark::Plus, next)?;
+    let (by, next) = tokens.number_before(Mark::CloseParenthesis, next)?;
     Ok((stepped, old, by, next))
 }
 
@@ -143,13 +133,10 @@ fn fill_word(
 ) -> Result<(Named, Named, Lit, usize), Fault>
     ensures { MatchResult result (λ x. Turns tokens.now (FILL_WORD) [] (literal_value x.2 ∷ named x.1 ∷ named x.0 ∷ []) at x.3 1) (Ends tokens.now (FILL_WORD) [] at) }
 {
-    let (file, next) = tokens.name(alloc, at)?;
-    let next = tokens.mark(Mark::OpenBracket, next)?;
-    let (index, next) = tokens.name(alloc, next)?;
-    let next = tokens.mark(Mark::CloseBracket, next)?;
+    let (file, next) = tokens.name_before(alloc, Mark::OpenBracket, at)?;
+    let (index, next) = tokens.name_before(alloc, Mark::CloseBracket, next)?;
     let next = tokens.mark(Mark::Equals, next)?;
-    let (value, next) = tokens.literal(next)?;
-    let next = tokens.mark(Mark::Semicolon, next)?;
+    let (value, next) = tokens.literal_before(Mark::Semicolon, next)?;
     Ok((file, index, value, next))
 }
 

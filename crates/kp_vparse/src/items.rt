@@ -4,15 +4,15 @@ ghost use Rattle.kp_grammar.specs.Grammar.{Nonterminal};
 ghost use Rattle.kp_grammar.specs.Tables.{among};
 ghost use Rattle.kp_vlog.specs.declared.token.Keyword.TheVariants as keywords;
 ghost use Rattle.kp_vlog.specs.declared.token.Mark.TheVariants as marks;
-ghost use Rattle.kp_vlog.specs.Language.{keyword_class, mark_class, ITEMS, ITEM, DECLARED, named, range as range_value, item as item_value, items as items_value};
-ghost use Rattle.kp_vparse.specs.inner.Words.{item_words};
+ghost use Rattle.kp_vlog.specs.Language.{keyword_class, mark_class, mark as mark_of, ITEMS, ITEM, DECLARED, RIGHT, named, range as range_value, right as right_value, item as item_value, items as items_value};
+ghost use Rattle.kp_vparse.specs.inner.Words.{item_words, ASSIGNMENT};
 ghost use Rattle.kp_vparse.specs.inner.Reading.{class_at, Turns, Ends};
 
 use crate::fault::Fault;
 use crate::ports::range;
 use crate::rights::right;
 use crate::tokens::Tokens;
-use kp_vlog::{Item, Keyword, Mark, Named, Range};
+use kp_vlog::{Item, Keyword, Mark, Named, Range, Right};
 use std::alloc::Global;
 
 /// The items, up to `initial`.
@@ -46,12 +46,37 @@ fn item(alloc: Global, tokens: &Tokens<'_>, at: usize) -> Result<(Item, usize), 
     if tokens.is_keyword(Keyword::Wire, at) {
         return wire(alloc, tokens, at);
     }
-    let next = tokens.word(Keyword::Assign, at)?;
-    let (target, next) = tokens.name(alloc, next)?;
-    let next = tokens.mark(Mark::Equals, next)?;
-    let (right, next) = right(alloc, tokens, next)?;
-    let next = tokens.mark(Mark::Semicolon, next)?;
+    let (target, right, next) = assignment(alloc, tokens, at)?;
     Ok((Item::Assign(target, right), next))
+}
+
+// The target and the right side of an assignment.
+fn assignment(alloc: Global, tokens: &Tokens<'_>, at: usize) -> Result<(Named, Right, usize), Fault>
+    ensures { MatchResult result (λ x. Turns tokens.now (ASSIGNMENT) [] (right_value x.1 ∷ named x.0 ∷ []) at x.2 1) (Ends tokens.now (ASSIGNMENT) [] at) }
+{
+    let next = tokens.word(Keyword::Assign, at)?;
+    let (target, next) = tokens.name_before(alloc, Mark::Equals, next)?;
+    let (right, next) = right_before(alloc, tokens, Mark::Semicolon, next)?;
+    Ok((target, right, next))
+}
+
+// A right side with this mark behind it.
+fn right_before(
+    alloc: Global,
+    tokens: &Tokens<'_>,
+    mark: Mark,
+    at: usize,
+) -> Result<(Right, usize), Fault>
+    ensures { MatchResult result (λ x. Turns tokens.now (Nonterminal RIGHT ∷ mark_of mark ∷ []) [] (right_value x.0 ∷ []) at x.1 1) (Ends tokens.now (Nonterminal RIGHT ∷ mark_of mark ∷ []) [] at) }
+{
+    let (right, next) = right(alloc, tokens, at)?;
+    match tokens.mark(mark, next) {
+        Ok(next) => Ok((right, next)),
+        Err(fault) => {
+            drop(right);
+            Err(fault)
+        }
+    }
 }
 
 // A register or a file.
@@ -98,8 +123,7 @@ fn integer(alloc: Global, tokens: &Tokens<'_>, at: usize) -> Result<(Item, usize
     ensures { MatchResult result (λ x. Turns tokens.now (Nonterminal ITEM ∷ []) [] (item_value x.0 ∷ []) at x.1 1) (Ends tokens.now (Nonterminal ITEM ∷ []) [] at) }
 {
     let next = tokens.word(Keyword::Integer, at)?;
-    let (name, next) = tokens.name(alloc, next)?;
-    let next = tokens.mark(Mark::Semicolon, next)?;
+    let (name, next) = tokens.name_before(alloc, Mark::Semicolon, next)?;
     Ok((Item::Integer(name), next))
 }
 
@@ -110,8 +134,7 @@ fn wire(alloc: Global, tokens: &Tokens<'_>, at: usize) -> Result<(Item, usize), 
 {
     let next = tokens.word(Keyword::Wire, at)?;
     let (range, next) = range(tokens, next)?;
-    let (name, next) = tokens.name(alloc, next)?;
-    let next = tokens.mark(Mark::Semicolon, next)?;
+    let (name, next) = tokens.name_before(alloc, Mark::Semicolon, next)?;
     Ok((Item::Wire(range, name), next))
 }
 

@@ -2,7 +2,7 @@
 ghost use Rattle.std.specs.Prelude.{◌≡◌, ◌==◌, [], ◌∷◌, MatchResult, MatchOption, IfOk, true, false};
 ghost use Rattle.kp_grammar.specs.Grammar.{Nonterminal};
 ghost use Rattle.kp_vlog.specs.Language.{IDENTIFIER, WIRE, RANGE, PORT, STALLS, SAMPLES, range as range_value, port as port_value, ports as ports_value, perhaps_named, named};
-ghost use Rattle.kp_vparse.specs.inner.Words.{HEAD, INPUTS, OUTPUT, OUTPUTS};
+ghost use Rattle.kp_vparse.specs.inner.Words.{INPUT_WIRE, HEAD, INPUT, INPUTS, OUTPUT, LAST_OUTPUT, OUTPUTS};
 ghost use Rattle.kp_vparse.specs.inner.Reading.{class_at, Turns, Ends};
 
 use crate::fault::Fault;
@@ -40,15 +40,22 @@ fn wire(tokens: &Tokens<'_>, at: usize) -> Result<usize, Fault>
     Ok(next)
 }
 
+// Past the word `input`, and `wire` if it stands behind it.
+fn input_wire(tokens: &Tokens<'_>, at: usize) -> Result<usize, Fault>
+    ensures { MatchResult result (λ x. Turns tokens.now (INPUT_WIRE) [] [] at x 1) (Ends tokens.now (INPUT_WIRE) [] at) }
+{
+    let next = tokens.word(Keyword::Input, at)?;
+    let next = wire(tokens, next)?;
+    Ok(next)
+}
+
 /// `[high:low]`
 pub(crate) fn range(tokens: &Tokens<'_>, at: usize) -> Result<(Range, usize), Fault>
     ensures { MatchResult result (λ x. Turns tokens.now (Nonterminal RANGE ∷ []) [] (range_value x.0 ∷ []) at x.1 1) (Ends tokens.now (Nonterminal RANGE ∷ []) [] at) }
 {
     let next = tokens.mark(Mark::OpenBracket, at)?;
-    let (high, next) = tokens.number(next)?;
-    let next = tokens.mark(Mark::Colon, next)?;
-    let (low, next) = tokens.number(next)?;
-    let next = tokens.mark(Mark::CloseBracket, next)?;
+    let (high, next) = tokens.number_before(Mark::Colon, next)?;
+    let (low, next) = tokens.number_before(Mark::CloseBracket, next)?;
     Ok((Range { high, low }, next))
 }
 
@@ -90,10 +97,18 @@ fn behind_reset(
 {
     let (reset, next) = tokens.name(alloc, at)?;
     let next = tokens.mark(Mark::Comma, next)?;
-    let next = tokens.word(Keyword::Input, next)?;
-    let (ext, next) = port(alloc, tokens, next)?;
-    let next = tokens.mark(Mark::Comma, next)?;
+    let (ext, next) = input(alloc, tokens, next)?;
     Ok((Some(reset), ext, next))
+}
+
+// An input, and the comma behind it.
+fn input(alloc: Global, tokens: &Tokens<'_>, at: usize) -> Result<(VPort, usize), Fault>
+    ensures { MatchResult result (λ x. Turns tokens.now (INPUT) [] (port_value x.0 ∷ []) at x.1 1) (Ends tokens.now (INPUT) [] at) }
+{
+    let next = tokens.word(Keyword::Input, at)?;
+    let (port, next) = port(alloc, tokens, next)?;
+    let next = tokens.mark(Mark::Comma, next)?;
+    Ok((port, next))
 }
 
 // The sample ports.
@@ -103,9 +118,7 @@ fn samples(alloc: Global, tokens: &Tokens<'_>, at: usize) -> Result<(Vec<VPort>,
     let mut all = Vec::new(alloc);
     let mut here = at;
     'all: while tokens.is_keyword(Keyword::Input, here) {
-        let next = tokens.word(Keyword::Input, here)?;
-        let (one, next) = port(alloc, tokens, next)?;
-        let next = tokens.mark(Mark::Comma, next)?;
+        let (one, next) = input(alloc, tokens, here)?;
         all.push(one)?;
         here = next;
     }
@@ -121,8 +134,7 @@ pub(crate) fn read_inputs(
     ensures { MatchResult result (λ x. Turns tokens.now (INPUTS) [] (ports_value x.0.samples ∷ port_value x.0.ext ∷ perhaps_named x.0.rst ∷ named x.0.clk ∷ named x.0.name ∷ []) at x.1 1) (Ends tokens.now (INPUTS) [] at) }
 {
     let (name, clk, next) = head(alloc, tokens, at)?;
-    let next = tokens.word(Keyword::Input, next)?;
-    let next = wire(tokens, next)?;
+    let next = input_wire(tokens, next)?;
     let (rst, ext, next) = stalls(alloc, tokens, next)?;
     let (all, next) = samples(alloc, tokens, next)?;
     let samples = List::new(all);
@@ -144,14 +156,19 @@ pub(crate) fn read_outputs(
 ) -> Result<(Outputs, usize), Fault>
     ensures { MatchResult result (λ x. Turns tokens.now (OUTPUTS) [] (port_value x.0.back ∷ port_value x.0.ue ∷ port_value x.0.full ∷ []) at x.1 1) (Ends tokens.now (OUTPUTS) [] at) }
 {
-    let (full, next) = output(alloc, tokens, at)?;
-    let next = tokens.mark(Mark::Comma, next)?;
-    let (ue, next) = output(alloc, tokens, next)?;
-    let next = tokens.mark(Mark::Comma, next)?;
-    let (back, next) = output(alloc, tokens, next)?;
-    let next = tokens.mark(Mark::CloseParenthesis, next)?;
-    let next = tokens.mark(Mark::Semicolon, next)?;
+    let (full, next) = output_before(alloc, tokens, Mark::Comma, at)?;
+    let (ue, next) = output_before(alloc, tokens, Mark::Comma, next)?;
+    let (back, next) = last_output(alloc, tokens, next)?;
     Ok((Outputs { full, ue, back }, next))
+}
+
+// The last output, up to the semicolon.
+fn last_output(alloc: Global, tokens: &Tokens<'_>, at: usize) -> Result<(VPort, usize), Fault>
+    ensures { MatchResult result (λ x. Turns tokens.now (LAST_OUTPUT) [] (port_value x.0 ∷ []) at x.1 1) (Ends tokens.now (LAST_OUTPUT) [] at) }
+{
+    let (back, next) = output_before(alloc, tokens, Mark::CloseParenthesis, at)?;
+    let next = tokens.mark(Mark::Semicolon, next)?;
+    Ok((back, next))
 }
 
 // `module`, the name and the clock.
@@ -159,20 +176,23 @@ fn head(alloc: Global, tokens: &Tokens<'_>, at: usize) -> Result<(Named, Named, 
     ensures { MatchResult result (λ x. Turns tokens.now (HEAD) [] (named x.1 ∷ named x.0 ∷ []) at x.2 1) (Ends tokens.now (HEAD) [] at) }
 {
     let next = tokens.word(Keyword::Module, at)?;
-    let (name, next) = tokens.name(alloc, next)?;
-    let next = tokens.mark(Mark::OpenParenthesis, next)?;
-    let next = tokens.word(Keyword::Input, next)?;
-    let next = wire(tokens, next)?;
-    let (clk, next) = tokens.name(alloc, next)?;
-    let next = tokens.mark(Mark::Comma, next)?;
+    let (name, next) = tokens.name_before(alloc, Mark::OpenParenthesis, next)?;
+    let next = input_wire(tokens, next)?;
+    let (clk, next) = tokens.name_before(alloc, Mark::Comma, next)?;
     Ok((name, clk, next))
 }
 
-// An output.
-fn output(alloc: Global, tokens: &Tokens<'_>, at: usize) -> Result<(VPort, usize), Fault>
-    ensures { MatchResult result (λ x. Turns tokens.now (OUTPUT) [] (port_value x.0 ∷ []) at x.1 1) (Ends tokens.now (OUTPUT) [] at) }
+// An output with this mark behind it.
+fn output_before(
+    alloc: Global,
+    tokens: &Tokens<'_>,
+    mark: Mark,
+    at: usize,
+) -> Result<(VPort, usize), Fault>
+    ensures { MatchResult result (λ x. Turns tokens.now (OUTPUT mark) [] (port_value x.0 ∷ []) at x.1 1) (Ends tokens.now (OUTPUT mark) [] at) }
 {
     let next = tokens.word(Keyword::Output, at)?;
     let (port, next) = port(alloc, tokens, next)?;
+    let next = tokens.mark(mark, next)?;
     Ok((port, next))
 }

@@ -4,7 +4,7 @@ ghost use Rattle.kp_grammar.specs.Grammar.{Nonterminal};
 ghost use Rattle.kp_grammar.specs.Tables.{among};
 ghost use Rattle.kp_vlog.specs.declared.token.Mark.TheVariants as marks;
 ghost use Rattle.kp_vlog.specs.Language.{mark_class, LITERAL, NUMBER, RIGHT, BEHIND, INDEX, NAMES, named, names as names_value, right as right_value};
-ghost use Rattle.kp_vparse.specs.inner.Words.{sign};
+ghost use Rattle.kp_vparse.specs.inner.Words.{sign, TWO_NAMES};
 ghost use Rattle.kp_vparse.specs.inner.Reading.{class_at, Turns, Ends};
 
 use crate::fault::Fault;
@@ -57,10 +57,7 @@ fn concat(alloc: Global, tokens: &Tokens<'_>, at: usize) -> Result<(Right, usize
     ensures { MatchResult result (λ x. Turns tokens.now (Nonterminal RIGHT ∷ []) [] (right_value x.0 ∷ []) at x.1 1) (Ends tokens.now (Nonterminal RIGHT ∷ []) [] at) }
 {
     let next = tokens.mark(Mark::OpenBrace, at)?;
-    let (first, next) = tokens.name(alloc, next)?;
-    let next = tokens.mark(Mark::Comma, next)?;
-    let (second, next) = tokens.name(alloc, next)?;
-    let two = pair(alloc, first, second)?;
+    let (two, next) = two_names(alloc, tokens, next)?;
     let (all, next) = more_names(alloc, tokens, two, next)?;
     let next = tokens.mark(Mark::CloseBrace, next)?;
     let parts = List::new(all);
@@ -115,8 +112,7 @@ fn choice(
     ensures { MatchResult result (λ x. Turns tokens.now (Nonterminal BEHIND ∷ []) (named test ∷ []) (right_value x.0 ∷ []) at x.1 0) (Ends tokens.now (Nonterminal BEHIND ∷ []) (named test ∷ []) at) }
 {
     let next = tokens.mark(Mark::Question, at)?;
-    let (chosen, next) = tokens.name(alloc, next)?;
-    let next = tokens.mark(Mark::Colon, next)?;
+    let (chosen, next) = tokens.name_before(alloc, Mark::Colon, next)?;
     let (other, next) = tokens.name(alloc, next)?;
     Ok((Right::Choice(test, chosen, other), next))
 }
@@ -148,8 +144,7 @@ fn index(
     if tokens.is_number(at) {
         return slice(tokens, first, at);
     }
-    let (address, next) = tokens.name(alloc, at)?;
-    let next = tokens.mark(Mark::CloseBracket, next)?;
+    let (address, next) = tokens.name_before(alloc, Mark::CloseBracket, at)?;
     Ok((Right::Word(first, address), next))
 }
 
@@ -158,11 +153,19 @@ fn slice(tokens: &Tokens<'_>, first: Named, at: usize) -> Result<(Right, usize),
     requires { true ≡ (class_at tokens.now at == NUMBER) }
     ensures { MatchResult result (λ x. Turns tokens.now (Nonterminal INDEX ∷ []) (named first ∷ []) (right_value x.0 ∷ []) at x.1 1) (Ends tokens.now (Nonterminal INDEX ∷ []) (named first ∷ []) at) }
 {
-    let (high, next) = tokens.number(at)?;
-    let next = tokens.mark(Mark::Colon, next)?;
-    let (low, next) = tokens.number(next)?;
-    let next = tokens.mark(Mark::CloseBracket, next)?;
+    let (high, next) = tokens.number_before(Mark::Colon, at)?;
+    let (low, next) = tokens.number_before(Mark::CloseBracket, next)?;
     Ok((Right::Slice(first, high, low), next))
+}
+
+// The first two names of a concatenation.
+fn two_names(alloc: Global, tokens: &Tokens<'_>, at: usize) -> Result<(Vec<Named>, usize), Fault>
+    ensures { MatchResult result (λ x. Turns tokens.now (TWO_NAMES) [] (names_value x.0.items ∷ []) at x.1 1) (Ends tokens.now (TWO_NAMES) [] at) }
+{
+    let (first, next) = tokens.name_before(alloc, Mark::Comma, at)?;
+    let (second, next) = tokens.name(alloc, next)?;
+    let two = pair(alloc, first, second)?;
+    Ok((two, next))
 }
 
 fn pair(alloc: Global, first: Named, second: Named) -> Result<Vec<Named>, NoMemory>

@@ -190,6 +190,20 @@ impl<'t> Tokens<'t> {
         Ok((Named { name, at }, next))
     }
 
+    /// A name with this mark behind it, and the number of the next token.
+    pub(crate) fn name_before(
+        &self,
+        alloc: Global,
+        mark: Mark,
+        at: usize,
+    ) -> Result<(Named, usize), Fault>
+        ensures { MatchResult result (λ x. Turns self.now (ID ∷ mark_of mark ∷ []) [] (named x.0 ∷ []) at x.1 1) (Ends self.now (ID ∷ mark_of mark ∷ []) [] at) }
+    {
+        let (name, next) = self.name(alloc, at)?;
+        let next = self.mark(mark, next)?;
+        Ok((name, next))
+    }
+
     /// A number, and the number of the next token.
     pub(crate) fn number(&self, at: usize) -> Result<(Num, usize), Fault>
         ensures { MatchResult result (λ x. Turns self.now (NUM ∷ []) [] (number_value x.0 ∷ []) at x.1 1) (Ends self.now (NUM ∷ []) [] at) }
@@ -204,6 +218,15 @@ impl<'t> Tokens<'t> {
         Ok((Num { value, at }, next))
     }
 
+    /// A number with this mark behind it, and the number of the next token.
+    pub(crate) fn number_before(&self, mark: Mark, at: usize) -> Result<(Num, usize), Fault>
+        ensures { MatchResult result (λ x. Turns self.now (NUM ∷ mark_of mark ∷ []) [] (number_value x.0 ∷ []) at x.1 1) (Ends self.now (NUM ∷ mark_of mark ∷ []) [] at) }
+    {
+        let (number, next) = self.number(at)?;
+        let next = self.mark(mark, next)?;
+        Ok((number, next))
+    }
+
     /// A literal, and the number of the next token.
     pub(crate) fn literal(&self, at: usize) -> Result<(Lit, usize), Fault>
         ensures { MatchResult result (λ x. Turns self.now (LIT ∷ []) [] (literal_value x.0 ∷ []) at x.1 1) (Ends self.now (LIT ∷ []) [] at) }
@@ -216,6 +239,15 @@ impl<'t> Tokens<'t> {
         };
         let at = token.at;
         Ok((Lit { literal, at }, next))
+    }
+
+    /// A literal with this mark behind it, and the number of the next token.
+    pub(crate) fn literal_before(&self, mark: Mark, at: usize) -> Result<(Lit, usize), Fault>
+        ensures { MatchResult result (λ x. Turns self.now (LIT ∷ mark_of mark ∷ []) [] (literal_value x.0 ∷ []) at x.1 1) (Ends self.now (LIT ∷ mark_of mark ∷ []) [] at) }
+    {
+        let (literal, next) = self.literal(at)?;
+        let next = self.mark(mark, next)?;
+        Ok((literal, next))
     }
 }
 

@@ -77,14 +77,12 @@ module _ (wires : Numbered) (ks : List (List ℕ)) (a : AreNumbered wires ks) wh
     files_same ss h (lines.Assign t r ∷ xs) = files_same ss h xs
 
 -- all parts
-pub parts_same : (m : VModule) (wires : Numbered) (ks : List (List ℕ)) (ss : Sizes) (es : List (List ℕ × Literal)) (ns : List (List ℕ × NodeId))
-    (name : List ℕ) (ext : ℕ) (reset : Bool) (samples : List Port) (regs : List NetReg) (files : List NetFile) (full ue back : NodeId)
-    → ((n : List ℕ) → found es n ≡ start_in m.inits n) → AreNexts wires ns m.updates
-    → name ≡ m.name.name → ext ≡ width_of m.ext.range → reset ≡ is_some m.rst → samples ≡ map sample_of m.samples → regs ≡ regs_by es ns m.items → files ≡ files_by ss wires m.inits m.updates m.items
+pub parts_same : (m : VModule) (wires : Numbered) (ks : List (List ℕ)) (ss : Sizes) (name : List ℕ) (ext : ℕ) (reset : Bool) (samples : List Port) (regs : List NetReg) (files : List NetFile) (full ue back : NodeId)
+    → name ≡ m.name.name → ext ≡ width_of m.ext.range → reset ≡ is_some m.rst → samples ≡ map sample_of m.samples → regs ≡ regs_of ks m m.items → files ≡ files_by ss wires m.inits m.updates m.items
     → full ≡ output_by wires (codes "full") m.items → ue ≡ output_by wires (codes "ue") m.items → back ≡ output_by wires (codes "back") m.items
     → AreNumbered wires ks → AlikeSizes ss (sizes_of m)
     → record { name = name; ext = ext; reset = reset; samples = samples; regs = regs; files = files; full = full; ue = ue; back = back } ≡ parts_of ks m
-parts_same m wires ks ss es ns name ext reset samples regs files full ue back e n en ee er es' eg ef e1 e2 e3 a h =
+parts_same m wires ks ss name ext reset samples regs files full ue back en ee er es' eg ef e1 e2 e3 a h =
     rw (
       en,
       ee,
@@ -95,7 +93,6 @@ parts_same m wires ks ss es ns name ext reset samples regs files full ue back e 
       e1,
       e2,
       e3,
-      regs_same wires ks a m es ns e n m.items,
       files_same wires ks a m ss h m.items,
       output_same wires ks a (codes "full") m.items,
       output_same wires ks a (codes "ue") m.items,

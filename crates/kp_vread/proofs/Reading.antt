@@ -41,12 +41,17 @@ module _ (text : List ℕ) (from : ℕ) where
   not_whole (refused.Rule r) h = h
   not_whole refused.NoMemory h = tt
 
-  pub not_sound : (m : VModule) (e : Refused) → IsModule from (drop from text) m → IsBroken text m e → AnswersNet text from (Err e)
+  not_sound : (m : VModule) (e : Refused) → IsModule from (drop from text) m → IsBroken text m e → AnswersNet text from (Err e)
   not_sound m (refused.Rule r) i (f, h, e) = (f, broken_rule m i h, e)
   not_sound m refused.NoMemory i h = tt
 
-  pub denotes : (m : VModule) (net : Net) → IsModule from (drop from text) m → broken m ≡ None → net ≡ net_of m → Denotes from (drop from text) net
+  denotes : (m : VModule) (net : Net) → IsModule from (drop from text) m → broken m ≡ None → net ≡ net_of m → Denotes from (drop from text) net
   denotes m net i h e = record { shown = m; is = i; sound = h; same_net = sym e }
+
+  pub answered : (m : VModule) (r : Result Net Refused) → IsModule from (drop from text) m → MatchResult r (λ net. (broken m ≡ None) × (net ≡ net_of m)) (IsBroken text m)
+      → MatchResult r (λ net. AnswersNet text from (Ok net)) (λ e. AnswersNet text from (Err e))
+  answered m (Ok net) i h = denotes m net i h.0 h.1
+  answered m (Err e) i h = not_sound m e i h
 
 -- a text of 16 MiB writes no more than a netlist holds
 pub few : (text : List ℕ) (from : ℕ) (m : VModule) → length text ≤ 16777216 → IsModule from (drop from text) m → (length m.samples ≤ 16777216) × (length m.items ≤ 16777216)

@@ -1,6 +1,7 @@
 // What the names of a module stand for, by tables.
 ghost use Rattle.std.specs.Prelude.{◌+◌, ◌-◌, ◌^◌, ◌<◌, ◌≤◌, ◌++◌, ◌∷◌, [], ℕ, List, length, map, IfOk, OnOk};
-ghost use Rattle.kp_vlog.specs.Scope.{scope_of, reg_names, file_names};
+ghost use Rattle.kp_vlog.specs.Scope.{scope_of, sizes_of, reg_names, file_names};
+ghost use Rattle.kp_vwidths.specs.Tables.{AlikeSizes};
 ghost use Rattle.kp_vread.specs.inner.Numbering.{AreNumbered};
 ghost use Rattle.kp_vread.specs.inner.Building.{IsScope};
 
@@ -37,49 +38,63 @@ impl<'m> Numbers<'m> {
         ensures { IfOk result (λ n. IsScope n (scope_of whole.now)) }
     {
         let sizes = Sizes::new(alloc, whole)?;
-        let samples = sample_places(alloc, whole.samples.as_slice())?;
-        let regs = reg_places(alloc, whole.items.as_slice())?;
-        let files = file_places(alloc, whole.items.as_slice())?;
-        Ok(Numbers {
+        let mut numbers = Numbers {
             sizes,
-            samples,
-            regs,
-            files,
-        })
+            samples: Places::new(alloc),
+            regs: Places::new(alloc),
+            files: Places::new(alloc),
+        };
+        numbers.take(whole)?;
+        Ok(numbers)
+    }
+
+    // Numbers the samples, registers and files of a module.
+    fn take(&mut self, whole: &'m VModule) -> Result<(), NoMemory>
+        requires few_samples { length whole.now.samples ≤ 16777216 }
+        requires few_items { length whole.now.items ≤ 16777216 }
+        requires sizes { AlikeSizes self.old.sizes (sizes_of whole.now) }
+        requires samples { AreNumbered self.old.samples [] }
+        requires regs { AreNumbered self.old.regs [] }
+        requires files { AreNumbered self.old.files [] }
+        ensures { OnOk result (IsScope self.new (scope_of whole.now)) }
+    {
+        number_samples(&mut self.samples, whole.samples.as_slice())?;
+        number_regs(&mut self.regs, whole.items.as_slice())?;
+        number_files(&mut self.files, whole.items.as_slice())
     }
 }
 
-fn sample_places<'m>(alloc: Global, ports: &'m [VPort]) -> Result<Places<'m>, NoMemory>
-    requires { length ports.now ≤ 16777216 }
-    ensures { IfOk result (λ p. AreNumbered p (map (λ p. p.port.name) ports.now)) }
+fn number_samples<'m>(places: &mut Places<'m>, ports: &'m [VPort]) -> Result<(), NoMemory>
+    requires few { length ports.now ≤ 16777216 }
+    requires empty { AreNumbered places.old [] }
+    ensures { OnOk result (AreNumbered places.new (map (λ p. p.port.name) ports.now)) }
 {
-    let mut places = Places::new(alloc);
     for port in ports {
         places.add(&port.port.name)?;
     }
-    Ok(places)
+    Ok(())
 }
 
-fn reg_places<'m>(alloc: Global, items: &'m [Item]) -> Result<Places<'m>, NoMemory>
-    requires { length items.now ≤ 16777216 }
-    ensures { IfOk result (λ p. AreNumbered p (reg_names items.now)) }
+fn number_regs<'m>(places: &mut Places<'m>, items: &'m [Item]) -> Result<(), NoMemory>
+    requires few { length items.now ≤ 16777216 }
+    requires empty { AreNumbered places.old [] }
+    ensures { OnOk result (AreNumbered places.new (reg_names items.now)) }
 {
-    let mut places = Places::new(alloc);
     for item in items {
-        add_reg(&mut places, item)?;
+        add_reg(places, item)?;
     }
-    Ok(places)
+    Ok(())
 }
 
-fn file_places<'m>(alloc: Global, items: &'m [Item]) -> Result<Places<'m>, NoMemory>
-    requires { length items.now ≤ 16777216 }
-    ensures { IfOk result (λ p. AreNumbered p (file_names items.now)) }
+fn number_files<'m>(places: &mut Places<'m>, items: &'m [Item]) -> Result<(), NoMemory>
+    requires few { length items.now ≤ 16777216 }
+    requires empty { AreNumbered places.old [] }
+    ensures { OnOk result (AreNumbered places.new (file_names items.now)) }
 {
-    let mut places = Places::new(alloc);
     for item in items {
-        add_file(&mut places, item)?;
+        add_file(places, item)?;
     }
-    Ok(places)
+    Ok(())
 }
 
 fn add_reg<'m>(places: &mut Places<'m>, item: &'m Item) -> Result<(), NoMemory>

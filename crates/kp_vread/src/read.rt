@@ -1,6 +1,9 @@
 // Reading a text.
-ghost use Rattle.std.specs.Prelude.{◌≡◌, ◌≤◌, ◌-◌, ◌^◌, Ok, Err, length, MatchResult};
+ghost use Rattle.std.specs.Prelude.{◌≡◌, ◌≤◌, ◌-◌, ◌^◌, None, Ok, Err, length, MatchResult};
+ghost use Rattle.kp_vlog.specs.Rules.{broken};
+ghost use Rattle.kp_vlog.specs.Denote.{net_of};
 ghost use Rattle.kp_vlog.specs.Verdict.{AnswersNet};
+ghost use Rattle.kp_vrules.specs.Broken.{IsBroken};
 ghost use Rattle.kp_vread.specs.inner.Whole.{AnswersWhole};
 
 use crate::build::build;
@@ -21,8 +24,20 @@ pub fn read_verilog(alloc: Global, text: &[u8], from: u32) -> Result<Netlist, Re
     ensures { MatchResult result (λ net. AnswersNet text.now from (Ok net)) (λ refused. AnswersNet text.now from (Err refused)) }
 {
     let whole = read_module(alloc, text, from)?;
-    check_module(alloc, text, &whole)?;
-    let netlist = build(alloc, &whole)?;
+    let netlist = checked(alloc, text, &whole);
+    drop(whole);
+    netlist
+}
+
+// The netlist of a module of the text, if it breaks no rule.
+fn checked(alloc: Global, text: &[u8], whole: &VModule) -> Result<Netlist, Refused>
+    requires fits { length text.now ≤ 2 ^ 32 - 2 }
+    requires samples { length whole.now.samples ≤ 16777216 }
+    requires items { length whole.now.items ≤ 16777216 }
+    ensures { MatchResult result (λ net. (broken whole.now ≡ None) × (net ≡ net_of whole.now)) (IsBroken text.now whole.now) }
+{
+    check_module(alloc, text, whole)?;
+    let netlist = build(alloc, whole)?;
     Ok(netlist)
 }
 

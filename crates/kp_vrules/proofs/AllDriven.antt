@@ -25,14 +25,14 @@ use Rattle.kp_vrules.specs.declared.names.Occurrence.{Occurrence as Listed}
 use Rattle.kp_vrules.proofs.Drives.{same_drives}
 
 -- one name more, from behind
-pub one_before : (all : List Listed) (i : ℕ) (o : Listed) (d e : Driven) → i < length all → o ≡ get_or all i o
-    → AlikeDriven d (all_by (map occurrence_of (drop (i + 1) all)) nothing) → AlikeDriven e (drives d (occurrence_of o).role o.named.now.name)
-    → AlikeDriven e (all_by (map occurrence_of (drop i all)) nothing)
-one_before all i o d e h w a b =
+pub one_before : (all : List Listed) (i : ℕ) (o : Listed) (d e z : Driven) → i < length all → o ≡ get_or all i o
+    → AlikeDriven d (all_by (map occurrence_of (drop (i + 1) all)) z) → AlikeDriven e (drives d (occurrence_of o).role o.named.now.name)
+    → AlikeDriven e (all_by (map occurrence_of (drop i all)) z)
+one_before all i o d e z h w a b =
     let first : drop i all ≡ o ∷ drop (i + 1) all = drop_more all i o h ∙ ap (λ x. x ∷ drop (i + 1) all) (sym w) in
-    subst (λ xs. AlikeDriven e (all_by (map occurrence_of xs) nothing)) (sym first)
-    (joined e (drives d (occurrence_of o).role o.named.now.name) (drives (all_by (map occurrence_of (drop (i + 1) all)) nothing) (occurrence_of o).role o.named.now.name) b
-    (same_drives false nothing d (all_by (map occurrence_of (drop (i + 1) all)) nothing) (occurrence_of o).role o.named.now.name a))
+    subst (λ xs. AlikeDriven e (all_by (map occurrence_of xs) z)) (sym first)
+    (joined e (drives d (occurrence_of o).role o.named.now.name) (drives (all_by (map occurrence_of (drop (i + 1) all)) z) (occurrence_of o).role o.named.now.name) b
+    (same_drives false nothing d (all_by (map occurrence_of (drop (i + 1) all)) z) (occurrence_of o).role o.named.now.name a))
   where
     both : (xs ys zs : List (List ℕ)) → Alike xs ys → Alike ys zs → Alike xs zs
     both xs ys zs p q = record { same_names = λ n. p.same_names n ∙ q.same_names n }

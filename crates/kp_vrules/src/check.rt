@@ -1,7 +1,7 @@
 // The rules V3 to V5 of a module.
 ghost use Rattle.std.specs.Prelude.{◌≡◌, ◌≤◌, ◌-◌, ◌^◌, [], None, length, MatchResult};
 ghost use Rattle.kp_base.specs.First.{first};
-ghost use Rattle.kp_vlog.specs.Occurrences.{names};
+ghost use Rattle.kp_vlog.specs.Occurrences.{names as names_of};
 ghost use Rattle.kp_vlog.specs.Rules.{broken, bad_name, width_answers};
 ghost use Rattle.kp_vrules.specs.Broken.{IsBroken};
 ghost use Rattle.kp_vrules.specs.inner.Refusing.{refusal_at};
@@ -24,13 +24,29 @@ pub fn check_module(alloc: Global, text: &[u8], whole: &VModule) -> Result<(), R
     ensures { MatchResult result (λ _. broken whole.now ≡ None) (IsBroken text.now whole.now) }
 {
     let names = Names::new(alloc, whole)?;
-    if let Err(fault) = check_names(alloc, &names) {
+    let checked = check_rules(alloc, text, whole, &names);
+    drop(names);
+    checked
+}
+
+// Whether a module with these names breaks none of the rules V3 to V5.
+fn check_rules(
+    alloc: Global,
+    text: &[u8],
+    whole: &VModule,
+    names: &Names<'_>,
+) -> Result<(), Refused>
+    requires text { length text.now ≤ 2 ^ 32 - 2 }
+    requires names { names.now ≡ names_of whole.now }
+    ensures { MatchResult result (λ _. broken whole.now ≡ None) (IsBroken text.now whole.now) }
+{
+    if let Err(fault) = check_names(alloc, names) {
         return Err(refuse(text, 3, fault));
     }
     if let Err(fault) = check_widths(alloc, whole) {
         return Err(refuse(text, 4, fault));
     }
-    if let Err(fault) = check_module_drivers(alloc, whole, &names) {
+    if let Err(fault) = check_module_drivers(alloc, whole, names) {
         return Err(refuse(text, 5, fault));
     }
     Ok(())
@@ -38,7 +54,7 @@ pub fn check_module(alloc: Global, text: &[u8], whole: &VModule) -> Result<(), R
 
 // Whether a module whose names are right keeps the rule of widths.
 fn check_widths(alloc: Global, whole: &VModule) -> Result<(), Fault>
-    requires { bad_name [] (names whole.now) ≡ None }
+    requires { bad_name [] (names_of whole.now) ≡ None }
     ensures { Says result (first (width_answers whole.now)) }
 {
     match bad_width(alloc, whole)? {

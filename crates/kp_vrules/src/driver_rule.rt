@@ -1,5 +1,5 @@
 // Rule V5: each wire, output, register and file is driven as often as it must be, and no wire is used before it has a value.
-ghost use Rattle.std.specs.Prelude.{◌≡◌, [], map, Bool, OnOk, IfOk};
+ghost use Rattle.std.specs.Prelude.{◌≡◌, map, OnOk};
 ghost use Rattle.kp_vlog.specs.Rules.{Driven as Drivers, driver_fits, drives, bad_driver, module_driver, nothing};
 ghost use Rattle.kp_vlog.specs.Occurrences.{names as names_of};
 ghost use Rattle.kp_vrules.specs.inner.Roles.{role_of};
@@ -91,20 +91,6 @@ impl<'m> Driven<'m> {
     }
 }
 
-/// What the whole module drives: its names, from the last one on. Refuses only where memory runs out.
-pub(crate) fn drive_all<'m>(alloc: Global, names: &[Occurrence<'m>]) -> Result<Driven<'m>, NoMemory>
-    ensures { IfOk result (λ d. AlikeDriven d (all_by (map occurrence_of names.now) nothing)) }
-{
-    let mut all = Driven::new(alloc);
-    let mut left = names.len();
-    'names: while left > 0 {
-        left -= 1;
-        let occurrence = &names[left];
-        all.drive(occurrence.role, &occurrence.named.name)?;
-    }
-    Ok(all)
-}
-
 /// Whether a module breaks the rule nowhere. Refuses the place of the first of its names that does, or
 /// that memory ran out.
 pub(crate) fn check_module_drivers(
@@ -115,29 +101,59 @@ pub(crate) fn check_module_drivers(
     requires { names.now ≡ names_of whole.now }
     ensures { Says result (module_driver whole.now) }
 {
-    let all = drive_all(alloc, names.list())?;
-    check_drivers(alloc, whole.reset.is_some(), &all, names.list())
+    let mut all = Driven::new(alloc);
+    let mut so_far = Driven::new(alloc);
+    let checked = check_whole(whole, names, &mut all, &mut so_far);
+    drop(so_far);
+    drop(all);
+    checked
 }
 
-/// Whether no name of the list breaks the rule, with what the whole module drives. Refuses the place of the first one that
-/// does, or that memory ran out.
-pub(crate) fn check_drivers<'m>(
-    alloc: Global,
+// The same, with room for what the names drive.
+fn check_whole<'m>(
+    whole: &VModule,
+    names: &Names<'m>,
+    all: &mut Driven<'m>,
+    so_far: &mut Driven<'m>,
+) -> Result<(), Fault>
+    requires names { names.now ≡ names_of whole.now }
+    requires all { all.old ≡ nothing }
+    requires so_far { so_far.old ≡ nothing }
+    ensures { Says result (module_driver whole.now) }
+{
+    drive_all(all, names.list())?;
+    check_drivers(whole.reset.is_some(), all, so_far, names.list())
+}
+
+// Adds what the names drive, from the last one on. Refuses only where memory runs out.
+fn drive_all<'m>(all: &mut Driven<'m>, names: &[Occurrence<'m>]) -> Result<(), NoMemory>
+    ensures { OnOk result (AlikeDriven all.new (all_by (map occurrence_of names.now) all.old)) }
+{
+    let mut left = names.len();
+    'names: while left > 0 {
+        left -= 1;
+        let occurrence = &names[left];
+        all.drive(occurrence.role, &occurrence.named.name)?;
+    }
+    Ok(())
+}
+
+// Whether no name of the list breaks the rule, with what the whole module drives, and what is driven so far. Refuses the place of
+// the first one that does, or that memory ran out.
+fn check_drivers<'m>(
     resets: bool,
     all: &Driven<'m>,
+    so_far: &mut Driven<'m>,
     names: &[Occurrence<'m>],
 ) -> Result<(), Fault>
-    ensures { Says result (bad_driver resets all.now nothing (map occurrence_of names.now)) }
+    ensures { Says result (bad_driver resets all.now so_far.old (map occurrence_of names.now)) }
 {
-    let mut so_far = Driven::new(alloc);
     for occurrence in names {
         let name = &occurrence.named.name;
         if !so_far.fits(resets, all, occurrence.role, name) {
             return Err(Fault::Broken(occurrence.named.at));
         }
-        let Ok(()) = so_far.drive(occurrence.role, name) else {
-            return Err(Fault::NoMemory);
-        };
+        so_far.drive(occurrence.role, name)?;
     }
     Ok(())
 }

@@ -2,7 +2,7 @@
 use kp_base::NoMemory;
 
 /// Why a check ends early.
-#[derive(Clone, Copy, Debug)]
+#[derive(Clone, Copy)]
 pub(crate) enum Fault {
     /// The rule is broken at this offset.
     Broken(u32),

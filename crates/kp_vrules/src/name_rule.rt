@@ -19,19 +19,22 @@ use std::alloc::Global;
 pub(crate) fn check_names(alloc: Global, names: &Names<'_>) -> Result<(), Fault>
     ensures { Says result (bad_name [] names.now) }
 {
-    check_list(alloc, names.list())
+    let mut known = NameSet::new(alloc);
+    let checked = check_list(&mut known, names.list());
+    drop(known);
+    checked
 }
 
-fn check_list<'m>(alloc: Global, names: &[Occurrence<'m>]) -> Result<(), Fault>
-    ensures { Says result (bad_name [] (map occurrence_of names.now)) }
+// Whether no name breaks the rule where these are known.
+fn check_list<'m>(known: &mut NameSet<'m>, names: &[Occurrence<'m>]) -> Result<(), Fault>
+    ensures { Says result (bad_name known.old (map occurrence_of names.now)) }
 {
-    let mut known = NameSet::new(alloc);
     for occurrence in names {
         let name = &occurrence.named.name;
-        if !fits(&known, occurrence.role, name) {
+        if !fits(known, occurrence.role, name) {
             return Err(Fault::Broken(occurrence.named.at));
         }
-        learn(&mut known, occurrence.role, name)?;
+        learn(known, occurrence.role, name)?;
     }
     Ok(())
 }
@@ -40,24 +43,25 @@ fn fits<'m>(known: &NameSet<'m>, role: Role, name: &'m Label) -> bool
     ensures { result ≡ name_fits known.now (role_of role) name.now }
 {
     let bytes = name.bytes();
+    let is_known = known.has(name);
     match role {
         Role::NamesModule => is_module(bytes),
-        Role::DeclaresPort(port) => bytes == port.bytes() && !known.has(name),
-        Role::DeclaresSample => is_sample(bytes) && !known.has(name),
-        Role::DeclaresReg => is_reg(bytes) && !known.has(name),
-        Role::DeclaresFile => is_file(bytes) && !known.has(name),
-        Role::DeclaresInteger => matches!(bytes, b"i") && !known.has(name),
-        Role::DeclaresWire => is_wire(bytes) && !known.has(name),
-        Role::Gives => is_output(bytes) || is_wire(bytes) && known.has(name),
-        Role::UsesWire => is_wire(bytes) && known.has(name),
+        Role::DeclaresPort(port) => bytes == port.bytes() && !is_known,
+        Role::DeclaresSample => is_sample(bytes) && !is_known,
+        Role::DeclaresReg => is_reg(bytes) && !is_known,
+        Role::DeclaresFile => is_file(bytes) && !is_known,
+        Role::DeclaresInteger => matches!(bytes, b"i") && !is_known,
+        Role::DeclaresWire => is_wire(bytes) && !is_known,
+        Role::Gives => is_output(bytes) || is_wire(bytes) && is_known,
+        Role::UsesWire => is_wire(bytes) && is_known,
         Role::UsesSource => matches!(bytes, b"ext")
-            || (is_reg(bytes) || is_sample(bytes)) && known.has(name),
-        Role::UsesInteger => matches!(bytes, b"i") && known.has(name),
-        Role::UsesPort(port) => bytes == port.bytes() && known.has(name),
+            || (is_reg(bytes) || is_sample(bytes)) && is_known,
+        Role::UsesInteger => matches!(bytes, b"i") && is_known,
+        Role::UsesPort(port) => bytes == port.bytes() && is_known,
         Role::UsesFile | Role::StartsWord | Role::FillsFile | Role::UpdatesFile => {
-            is_file(bytes) && known.has(name)
+            is_file(bytes) && is_known
         }
-        Role::StartsReg | Role::ResetsReg | Role::UpdatesReg => is_reg(bytes) && known.has(name),
+        Role::StartsReg | Role::ResetsReg | Role::UpdatesReg => is_reg(bytes) && is_known,
         Role::GivesNoWire => false,
         Role::IsGiven | Role::Needs(_) => true,
     }

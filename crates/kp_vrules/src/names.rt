@@ -1,6 +1,7 @@
 // The names of a module, in the order of the text.
 ghost use Rattle.std.specs.Prelude.{◌≡◌, ◌++◌, ◌∷◌, [], codes, map, if◌then◌else◌, IfOk, OnOk};
-ghost use Rattle.kp_vlog.specs.Occurrences.{uses_wire, uses_source, occurs, wires_used, operands, right_names, item_names, items_names, init_names, inits_names, update_names, updates_names, declares_port, samples_names, reset_port_names, wide_port_names, header_names, body_names, names, is_literal, reset_names};
+ghost use Rattle.kp_vlog.specs.Occurrences.{names_module, uses_wire, uses_source, uses_integer, occurs, wires_used, operands, right_names, item_names, items_names, init_names, inits_names, update_names, updates_names, declares_port, samples_names, reset_port_names, wide_port_names, header_names, body_names, names, is_literal, reset_names};
+ghost use Rattle.std.specs.Option.{is_some};
 ghost use Rattle.kp_vrules.specs.inner.Roles.{port_name, role_of};
 ghost use Rattle.kp_vwidths.specs.Tables.{found};
 ghost use Rattle.kp_vrules.specs.inner.Listed.{occurrence_of};
@@ -11,7 +12,7 @@ use crate::spelling::is_output;
 use kp_base::NoMemory;
 use kp_bits::Literal;
 use kp_net::Label;
-use kp_vlog::{Init, Item, Named, ResetList, ResetValue, Right, Update, VModule, VPort};
+use kp_vlog::{Fill, Init, Item, Named, ResetList, ResetValue, Right, Update, VModule, VPort};
 use kp_vwidths::Starts;
 use std::alloc::Global;
 use std::marker::Model;
@@ -47,21 +48,35 @@ impl<'m> Names<'m> {
         let mut names = Names {
             list: Vec::new(alloc),
         };
-        names.header(whole)?;
-        names.items(whole.items.as_slice())?;
-        names.body(alloc, whole)?;
+        names.take(alloc, whole)?;
         Ok(names)
+    }
+
+    // Takes the names of a whole module.
+    fn take(&mut self, alloc: Global, whole: &'m VModule) -> Result<(), NoMemory>
+        ensures { OnOk result (self.new ≡ self.old ++ names whole.now) }
+    {
+        self.header(whole)?;
+        self.items(whole.items.as_slice())?;
+        self.body(alloc, whole)
     }
 
     fn header(&mut self, whole: &'m VModule) -> Result<(), NoMemory>
         ensures { OnOk result (self.new ≡ self.old ++ header_names whole.now) }
     {
-        self.push(Role::NamesModule, &whole.name)?;
-        self.push(Role::DeclaresPort(PortName::Clk), &whole.clk)?;
-        self.reset_port(&whole.rst, whole.reset.is_some())?;
+        self.head(whole)?;
         self.push(Role::DeclaresPort(PortName::Ext), &whole.ext.port)?;
         self.samples(whole.samples.as_slice())?;
         self.outputs(whole)
+    }
+
+    // The name of the module, and the ports for the clock and for the reset.
+    fn head(&mut self, whole: &'m VModule) -> Result<(), NoMemory>
+        ensures { OnOk result (self.new ≡ self.old ++ (occurs names_module whole.now.name ∷ occurs (declares_port (codes "clk")) whole.now.clk ∷ reset_port_names whole.now.rst (is_some whole.now.reset))) }
+    {
+        self.push(Role::NamesModule, &whole.name)?;
+        self.push(Role::DeclaresPort(PortName::Clk), &whole.clk)?;
+        self.reset_port(&whole.rst, whole.reset.is_some())
     }
 
     fn outputs(&mut self, whole: &'m VModule) -> Result<(), NoMemory>
@@ -199,14 +214,10 @@ impl<'m> Names<'m> {
         match right {
             Right::Literal(_) | Right::Name(_) => Ok(()),
             Right::Not(a) | Right::Slice(a, _, _) => self.push(Role::UsesWire, a),
-            Right::Binary(_, a, b) => {
-                self.push(Role::UsesWire, a)?;
-                self.push(Role::UsesWire, b)
-            }
+            Right::Binary(_, a, b) => self.two_wires(a, b),
             Right::Choice(test, a, b) => {
                 self.push(Role::UsesWire, test)?;
-                self.push(Role::UsesWire, a)?;
-                self.push(Role::UsesWire, b)
+                self.two_wires(a, b)
             }
             Right::Word(file, address) => {
                 self.push(Role::UsesFile, file)?;
@@ -214,6 +225,13 @@ impl<'m> Names<'m> {
             }
             Right::Concat(parts) => self.wires(parts.as_slice()),
         }
+    }
+
+    fn two_wires(&mut self, first: &'m Named, second: &'m Named) -> Result<(), NoMemory>
+        ensures { OnOk result (self.new ≡ self.old ++ (occurs uses_wire first.now ∷ occurs uses_wire second.now ∷ [])) }
+    {
+        self.push(Role::UsesWire, first)?;
+        self.push(Role::UsesWire, second)
     }
 
     fn wires(&mut self, parts: &'m [Named]) -> Result<(), NoMemory>
@@ -241,14 +259,21 @@ impl<'m> Names<'m> {
             Init::Reg(name, _) => self.push(Role::StartsReg, name),
             Init::Word(name, _, _) => self.push(Role::StartsWord, name),
             Init::Fill(fill) => {
-                self.push(Role::UsesInteger, &fill.counter)?;
-                self.push(Role::UsesInteger, &fill.tested)?;
-                self.push(Role::UsesInteger, &fill.stepped)?;
-                self.push(Role::UsesInteger, &fill.old)?;
+                self.counters(fill)?;
                 self.push(Role::FillsFile, &fill.file)?;
                 self.push(Role::UsesInteger, &fill.index)
             }
         }
+    }
+
+    // The counter, in the head of a loop.
+    fn counters(&mut self, fill: &'m Fill) -> Result<(), NoMemory>
+        ensures { OnOk result (self.new ≡ self.old ++ (occurs uses_integer fill.now.counter ∷ occurs uses_integer fill.now.tested ∷ occurs uses_integer fill.now.stepped ∷ occurs uses_integer fill.now.old ∷ [])) }
+    {
+        self.push(Role::UsesInteger, &fill.counter)?;
+        self.push(Role::UsesInteger, &fill.tested)?;
+        self.push(Role::UsesInteger, &fill.stepped)?;
+        self.push(Role::UsesInteger, &fill.old)
     }
 
     fn updates(&mut self, updates: &'m [Update]) -> Result<(), NoMemory>
@@ -271,8 +296,7 @@ impl<'m> Names<'m> {
             Update::File(test, file, address, value) => {
                 self.push(Role::UsesWire, test)?;
                 self.push(Role::UpdatesFile, file)?;
-                self.push(Role::UsesWire, address)?;
-                self.push(Role::UsesWire, value)
+                self.two_wires(address, value)
             }
         }
     }

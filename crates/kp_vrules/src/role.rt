@@ -3,7 +3,7 @@ ghost use Rattle.std.specs.Prelude.{◌≡◌};
 ghost use Rattle.kp_vrules.specs.inner.Roles.{port_name};
 
 /// A port that every module has, or that each may have.
-#[derive(Clone, Copy, Debug)]
+#[derive(Clone, Copy)]
 pub(crate) enum PortName {
     Clk,
     Rst,
@@ -30,7 +30,7 @@ impl PortName {
 }
 
 /// What a name stands for in its place. The last three stand behind a name, and are none of their own.
-#[derive(Clone, Copy, Debug)]
+#[derive(Clone, Copy)]
 pub(crate) enum Role {
     NamesModule,
     DeclaresPort(PortName),

@@ -5,7 +5,7 @@ use Rattle.kp_grammar.specs.Grammar.{Nonterminal, Action}
 use Rattle.kp_vlog.specs.declared.token.Keyword.TheVariants as keywords
 use Rattle.kp_vlog.specs.declared.token.Mark.{Mark}
 use Rattle.kp_vlog.specs.declared.token.Mark.TheVariants as marks
-use Rattle.kp_vlog.specs.Language.{Sym, word, mark, ID, NUM, LIT, keyword_class, mark_class, IDENTIFIER, WIRE, PORT, STALLS, SAMPLES, ITEMS, INITS, BODY, no_ports, no_items, no_inits}
+use Rattle.kp_vlog.specs.Language.{Sym, word, mark, ID, NUM, LIT, keyword_class, mark_class, IDENTIFIER, WIRE, PORT, STALLS, SAMPLES, ITEMS, RIGHT, INITS, BODY, VALUES, UPDATES, no_ports, no_items, two_names, no_inits, no_values, no_updates}
 
 -- what an item begins with
 abbrev pub item_words : List ℕ
@@ -48,17 +48,49 @@ FILL_STEP = ID ∷ mark marks.Equals ∷ ID ∷ mark marks.Plus ∷ NUM ∷ mark
 abbrev pub FILL_WORD : List Sym
 FILL_WORD = ID ∷ mark marks.OpenBracket ∷ ID ∷ mark marks.CloseBracket ∷ mark marks.Equals ∷ LIT ∷ mark marks.Semicolon ∷ []
 
+-- an assignment
+abbrev pub ASSIGNMENT : List Sym
+ASSIGNMENT = word keywords.Assign ∷ ID ∷ mark marks.Equals ∷ Nonterminal RIGHT ∷ mark marks.Semicolon ∷ []
+
+-- the first two names of a concatenation
+abbrev pub TWO_NAMES : List Sym
+TWO_NAMES = ID ∷ mark marks.Comma ∷ ID ∷ Action two_names ∷ []
+
+-- `if (name)`
+abbrev pub TEST : List Sym
+TEST = word keywords.If ∷ mark marks.OpenParenthesis ∷ ID ∷ mark marks.CloseParenthesis ∷ []
+
+-- the values of the reset list, from `begin` to `end`
+abbrev pub RESET_VALUES : List Sym
+RESET_VALUES = word keywords.Begin ∷ Action no_values ∷ Nonterminal VALUES ∷ word keywords.End ∷ []
+
+-- the updates where there is no reset, from `else` to `end`
+abbrev pub OTHERS : List Sym
+OTHERS = word keywords.Else ∷ word keywords.Begin ∷ Action no_updates ∷ Nonterminal UPDATES ∷ word keywords.End ∷ []
+
 -- what becomes of the word of a file
 abbrev pub FILE_VALUE : List Sym
 FILE_VALUE = ID ∷ mark marks.OpenBracket ∷ ID ∷ mark marks.CloseBracket ∷ mark marks.Arrow ∷ ID ∷ mark marks.Semicolon ∷ []
+
+-- the words in front of a port
+abbrev pub INPUT_WIRE : List Sym
+INPUT_WIRE = word keywords.Input ∷ Nonterminal WIRE ∷ []
 
 -- `module`, the name and the clock
 abbrev pub HEAD : List Sym
 HEAD = word keywords.Module ∷ ID ∷ mark marks.OpenParenthesis ∷ word keywords.Input ∷ Nonterminal WIRE ∷ ID ∷ mark marks.Comma ∷ []
 
--- an output
-abbrev pub OUTPUT : List Sym
-OUTPUT = word keywords.Output ∷ Nonterminal PORT ∷ []
+-- an input, and the comma behind it
+abbrev pub INPUT : List Sym
+INPUT = word keywords.Input ∷ Nonterminal PORT ∷ mark marks.Comma ∷ []
+
+-- an output, with this mark behind it
+abbrev pub OUTPUT : Mark → List Sym
+OUTPUT m = word keywords.Output ∷ Nonterminal PORT ∷ mark m ∷ []
+
+-- the last output, up to the semicolon
+abbrev pub LAST_OUTPUT : List Sym
+LAST_OUTPUT = word keywords.Output ∷ Nonterminal PORT ∷ mark marks.CloseParenthesis ∷ mark marks.Semicolon ∷ []
 
 -- `module` and the name, up to the sample ports
 abbrev pub INPUTS : List Sym
@@ -72,6 +104,10 @@ OUTPUTS = word keywords.Output ∷ Nonterminal PORT ∷ mark marks.Comma ∷ wor
 abbrev pub LINES : List Sym
 LINES = Action no_items ∷ Nonterminal ITEMS ∷ word keywords.Initial ∷ word keywords.Begin ∷ Action no_inits ∷ Nonterminal INITS ∷ word keywords.End ∷ []
 
+-- what stands under `initial`, from this word to `end`
+abbrev pub STARTS : List Sym
+STARTS = word keywords.Initial ∷ word keywords.Begin ∷ Action no_inits ∷ Nonterminal INITS ∷ word keywords.End ∷ []
+
 -- the clock, up to `begin`
 abbrev pub CLOCK : List Sym
 CLOCK = word keywords.Always ∷ mark marks.At ∷ mark marks.OpenParenthesis ∷ word keywords.Posedge ∷ ID ∷ mark marks.CloseParenthesis ∷ word keywords.Begin ∷ []
@@ -79,3 +115,7 @@ CLOCK = word keywords.Always ∷ mark marks.At ∷ mark marks.OpenParenthesis �
 -- what happens at the clock edge, up to the end
 abbrev pub EDGE : List Sym
 EDGE = word keywords.Always ∷ mark marks.At ∷ mark marks.OpenParenthesis ∷ word keywords.Posedge ∷ ID ∷ mark marks.CloseParenthesis ∷ word keywords.Begin ∷ Nonterminal BODY ∷ word keywords.End ∷ word keywords.Endmodule ∷ []
+
+-- the last two words
+abbrev pub LAST : List Sym
+LAST = word keywords.End ∷ word keywords.Endmodule ∷ []

@@ -8,38 +8,23 @@ returns-in_err-file c =
     let p = err_from_is_err_and c.from_residual.result c.from_residual.ensures.1 in
     rw (p.1, p.2) (end_end c.in_err-file.ensures (λ o h s vs. h _ _))
 
-pub returns-in_err-next : goal.returns-in_err-next
-returns-in_err-next c =
-    let p = err_from_is_err_and c.from_residual-in_err-next.result c.from_residual-in_err-next.ensures.1 in
-    rw (p.1, p.2) (end_end c.in_err-next.ensures (λ o h s vs. c.in_ok-file.ensures.leads _ _ _ (h _ _)))
-
 pub returns-in_err-address : goal.returns-in_err-address
 returns-in_err-address c =
     let p = err_from_is_err_and c.from_residual-in_err-address.result c.from_residual-in_err-address.ensures.1 in
-    rw (p.1, p.2) (end_end c.in_err-address.ensures (λ o h s vs. c.in_ok-file.ensures.leads _ _ _ (c.in_ok-next.ensures.leads _ _ _ (h _ _))))
+    rw (p.1, p.2) (end_end c.in_err-address.ensures (λ o h s vs. c.in_ok-file.ensures.leads _ _ _ (h _ _)))
 
-pub returns-in_err-next-2 : goal.returns-in_err-next-2
-returns-in_err-next-2 c =
-    let p = err_from_is_err_and c.from_residual-in_err-next-2.result c.from_residual-in_err-next-2.ensures.1 in
-    rw (p.1, p.2) (end_end c.in_err-next-2.ensures (λ o h s vs. c.in_ok-file.ensures.leads _ _ _ (c.in_ok-next.ensures.leads _ _ _ (c.in_ok-address.ensures.leads _ _ _ (h _ _)))))
-
-pub returns-in_err-next-3 : goal.returns-in_err-next-3
-returns-in_err-next-3 c =
-    let p = err_from_is_err_and c.from_residual-in_err-next-3.result c.from_residual-in_err-next-3.ensures.1 in
-    rw (p.1, p.2) (end_end c.in_err-next-3.ensures (λ o h s vs. c.in_ok-file.ensures.leads _ _ _ (c.in_ok-next.ensures.leads _ _ _ (c.in_ok-address.ensures.leads _ _ _ (c.in_ok-next-2.ensures.leads _ _ _ (h _ _))))))
+pub returns-in_err-next : goal.returns-in_err-next
+returns-in_err-next c =
+    let p = err_from_is_err_and c.from_residual-in_err-next.result c.from_residual-in_err-next.ensures.1 in
+    rw (p.1, p.2) (end_end c.in_err-next.ensures (λ o h s vs. c.in_ok-file.ensures.leads _ _ _ (c.in_ok-address.ensures.leads _ _ _ (h _ _))))
 
 pub returns-in_err-value : goal.returns-in_err-value
 returns-in_err-value c =
     let p = err_from_is_err_and c.from_residual-in_err-value.result c.from_residual-in_err-value.ensures.1 in
-    rw (p.1, p.2) (end_end c.in_err-value.ensures (λ o h s vs. c.in_ok-file.ensures.leads _ _ _ (c.in_ok-next.ensures.leads _ _ _ (c.in_ok-address.ensures.leads _ _ _ (c.in_ok-next-2.ensures.leads _ _ _ (c.in_ok-next-3.ensures.leads _ _ _ (h _ _)))))))
-
-pub returns-in_err-next-4 : goal.returns-in_err-next-4
-returns-in_err-next-4 c =
-    let p = err_from_is_err_and c.from_residual-in_err-next-4.result c.from_residual-in_err-next-4.ensures.1 in
-    rw (p.1, p.2) (end_end c.in_err-next-4.ensures (λ o h s vs. c.in_ok-file.ensures.leads _ _ _ (c.in_ok-next.ensures.leads _ _ _ (c.in_ok-address.ensures.leads _ _ _ (c.in_ok-next-2.ensures.leads _ _ _ (c.in_ok-next-3.ensures.leads _ _ _ (c.in_ok-value.ensures.leads _ _ _ (h _ _))))))))
+    rw (p.1, p.2) (end_end c.in_err-value.ensures (λ o h s vs. c.in_ok-file.ensures.leads _ _ _ (c.in_ok-address.ensures.leads _ _ _ (c.in_ok-next.ensures.leads _ _ _ (h _ _)))))
 
 pub returns : goal.returns
 returns c = record {
-  leads = λ s vs o h. c.in_ok-file.ensures.leads _ _ _ (c.in_ok-next.ensures.leads _ _ _ (c.in_ok-address.ensures.leads _ _ _ (c.in_ok-next-2.ensures.leads _ _ _ (c.in_ok-next-3.ensures.leads _ _ _ (c.in_ok-value.ensures.leads _ _ _ (c.in_ok-next-4.ensures.leads _ _ _ (h)))))));
-  shrinks = omega (arith, c.in_ok-file.ensures.shrinks, c.in_ok-next.ensures.shrinks, c.in_ok-address.ensures.shrinks, c.in_ok-next-2.ensures.shrinks, c.in_ok-next-3.ensures.shrinks, c.in_ok-value.ensures.shrinks, c.in_ok-next-4.ensures.shrinks);
+  leads = λ s vs o h. c.in_ok-file.ensures.leads _ _ _ (c.in_ok-address.ensures.leads _ _ _ (c.in_ok-next.ensures.leads _ _ _ (c.in_ok-value.ensures.leads _ _ _ (h))));
+  shrinks = omega (arith, c.in_ok-file.ensures.shrinks, c.in_ok-address.ensures.shrinks, c.in_ok-next.ensures.shrinks, c.in_ok-value.ensures.shrinks);
 }

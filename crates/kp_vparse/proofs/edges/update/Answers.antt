@@ -1,4 +1,4 @@
-use Rattle.std.proofs.Common.{arith}
+use Rattle.std.proofs.Common.{◌∙◌, sym, arith}
 use Rattle.std.proofs.lemmas.Result.{err_from_is_err_and}
 use Rattle.kp_grammar.specs.Machine.{make}
 use Rattle.kp_vparse.proofs.Steps.{end_end}
@@ -8,25 +8,15 @@ use Rattle.kp_vparse.proofs.edges.update.Goals as goal
 pub returns-in_err-name : goal.returns-in_err-name
 returns-in_err-name c =
     let p = err_from_is_err_and c.from_residual.result c.from_residual.ensures.1 in
-    rw (p.1, p.2) (end_end c.in_err-name.ensures (λ o h s vs. update_else (cc c.is_keyword.ensures) (h _ _)))
-
-pub returns-in_err-next : goal.returns-in_err-next
-returns-in_err-next c =
-    let p = err_from_is_err_and c.from_residual-in_err-next.result c.from_residual-in_err-next.ensures.1 in
-    rw (p.1, p.2) (end_end c.in_err-next.ensures (λ o h s vs. update_else (cc c.is_keyword.ensures) (c.in_ok-name.ensures.leads _ _ _ (h _ _))))
+    rw (p.1, p.2) (end_end c.in_err-name.ensures (λ o h s vs. update_else (sym c.if-is_keyword.false ∙ c.is_keyword.ensures) (h _ _)))
 
 pub returns-in_err-value : goal.returns-in_err-value
 returns-in_err-value c =
     let p = err_from_is_err_and c.from_residual-in_err-value.result c.from_residual-in_err-value.ensures.1 in
-    rw (p.1, p.2) (end_end c.in_err-value.ensures (λ o h s vs. update_else (cc c.is_keyword.ensures) (c.in_ok-name.ensures.leads _ _ _ (c.in_ok-next.ensures.leads _ _ _ (h _ _)))))
-
-pub returns-in_err-next-2 : goal.returns-in_err-next-2
-returns-in_err-next-2 c =
-    let p = err_from_is_err_and c.from_residual-in_err-next-2.result c.from_residual-in_err-next-2.ensures.1 in
-    rw (p.1, p.2) (end_end c.in_err-next-2.ensures (λ o h s vs. update_else (cc c.is_keyword.ensures) (c.in_ok-name.ensures.leads _ _ _ (c.in_ok-next.ensures.leads _ _ _ (c.in_ok-value.ensures.leads _ _ _ (h _ _))))))
+    rw (p.1, p.2) (end_end c.in_err-value.ensures (λ o h s vs. update_else (sym c.if-is_keyword.false ∙ c.is_keyword.ensures) (c.in_ok-name.ensures.leads _ _ _ (h _ _))))
 
 pub returns : goal.returns
 returns c = record {
-  leads = λ s vs o h. update_else (cc c.is_keyword.ensures) (c.in_ok-name.ensures.leads _ _ _ (c.in_ok-next.ensures.leads _ _ _ (c.in_ok-value.ensures.leads _ _ _ (c.in_ok-next-2.ensures.leads _ _ _ (make (h))))));
-  shrinks = omega (arith, c.in_ok-name.ensures.shrinks, c.in_ok-next.ensures.shrinks, c.in_ok-value.ensures.shrinks, c.in_ok-next-2.ensures.shrinks);
+  leads = λ s vs o h. update_else (sym c.if-is_keyword.false ∙ c.is_keyword.ensures) (c.in_ok-name.ensures.leads _ _ _ (c.in_ok-value.ensures.leads _ _ _ (make (h))));
+  shrinks = omega (arith, c.in_ok-name.ensures.shrinks, c.in_ok-value.ensures.shrinks);
 }

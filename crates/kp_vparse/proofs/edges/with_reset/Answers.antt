@@ -1,48 +1,22 @@
 use Rattle.std.proofs.Common.{arith}
 use Rattle.std.proofs.lemmas.Result.{err_from_is_err_and}
 use Rattle.kp_grammar.specs.Machine.{make}
-use Rattle.kp_vparse.proofs.Steps.{end_end, on_top}
-use Rattle.kp_vlog.specs.Language.{updates}
+use Rattle.kp_vparse.proofs.Steps.{end_end}
 use Rattle.kp_vparse.proofs.Picks.{condition_1}
 use Rattle.kp_vparse.proofs.edges.with_reset.Goals as goal
 
-pub returns-in_err-next : goal.returns-in_err-next
-returns-in_err-next c =
-    let p = err_from_is_err_and c.from_residual.result c.from_residual.ensures.1 in
-    rw (p.1, p.2) (end_end c.in_err-next.ensures (λ o h s vs. condition_1 c.requires (h _ _)))
-
 pub returns-in_err-values : goal.returns-in_err-values
 returns-in_err-values c =
-    let p = err_from_is_err_and c.from_residual-in_err-values.result c.from_residual-in_err-values.ensures.1 in
-    rw (p.1, p.2) (end_end c.in_err-values.ensures (λ o h s vs. condition_1 c.requires (c.in_ok-next.ensures.leads _ _ _ (make (h _ _)))))
-
-pub returns-in_err-next-2 : goal.returns-in_err-next-2
-returns-in_err-next-2 c =
-    let p = err_from_is_err_and c.from_residual-in_err-next-2.result c.from_residual-in_err-next-2.ensures.1 in
-    rw (p.1, p.2) (end_end c.in_err-next-2.ensures (λ o h s vs. condition_1 c.requires (c.in_ok-next.ensures.leads _ _ _ (make (c.in_ok-values.ensures.leads _ _ _ (h _ _))))))
-
-pub returns-in_err-next-3 : goal.returns-in_err-next-3
-returns-in_err-next-3 c =
-    let p = err_from_is_err_and c.from_residual-in_err-next-3.result c.from_residual-in_err-next-3.ensures.1 in
-    rw (p.1, p.2) (end_end c.in_err-next-3.ensures (λ o h s vs. condition_1 c.requires (c.in_ok-next.ensures.leads _ _ _ (make (c.in_ok-values.ensures.leads _ _ _ (c.in_ok-next-2.ensures.leads _ _ _ (make (h _ _))))))))
-
-pub returns-in_err-next-4 : goal.returns-in_err-next-4
-returns-in_err-next-4 c =
-    let p = err_from_is_err_and c.from_residual-in_err-next-4.result c.from_residual-in_err-next-4.ensures.1 in
-    rw (p.1, p.2) (end_end c.in_err-next-4.ensures (λ o h s vs. condition_1 c.requires (c.in_ok-next.ensures.leads _ _ _ (make (c.in_ok-values.ensures.leads _ _ _ (c.in_ok-next-2.ensures.leads _ _ _ (make (c.in_ok-next-3.ensures.leads _ _ _ (h _ _)))))))))
+    let p = err_from_is_err_and c.from_residual.result c.from_residual.ensures.1 in
+    rw (p.1, p.2) (end_end c.in_err-values.ensures (λ o h s vs. condition_1 c.requires (h _ _)))
 
 pub returns-in_err-all : goal.returns-in_err-all
 returns-in_err-all c =
     let p = err_from_is_err_and c.from_residual-in_err-all.result c.from_residual-in_err-all.ensures.1 in
-    rw (p.1, p.2) (end_end c.in_err-all.ensures (λ o h s vs. condition_1 c.requires (c.in_ok-next.ensures.leads _ _ _ (make (c.in_ok-values.ensures.leads _ _ _ (c.in_ok-next-2.ensures.leads _ _ _ (make (c.in_ok-next-3.ensures.leads _ _ _ (c.in_ok-next-4.ensures.leads _ _ _ (make (on_top updates c.new-none.ensures.items (h _ _))))))))))))
-
-pub returns-in_err-next-5 : goal.returns-in_err-next-5
-returns-in_err-next-5 c =
-    let p = err_from_is_err_and c.from_residual-in_err-next-5.result c.from_residual-in_err-next-5.ensures.1 in
-    rw (p.1, p.2) (end_end c.in_err-next-5.ensures (λ o h s vs. condition_1 c.requires (c.in_ok-next.ensures.leads _ _ _ (make (c.in_ok-values.ensures.leads _ _ _ (c.in_ok-next-2.ensures.leads _ _ _ (make (c.in_ok-next-3.ensures.leads _ _ _ (c.in_ok-next-4.ensures.leads _ _ _ (make (on_top updates c.new-none.ensures.items (c.in_ok-all.ensures.leads _ _ _ (h _ _)))))))))))))
+    rw (p.1, p.2) (end_end c.in_err-all.ensures (λ o h s vs. condition_1 c.requires (c.in_ok-values.ensures.leads _ _ _ (make (h _ _)))))
 
 pub returns : goal.returns
 returns c = record {
-  leads = λ s vs o h. condition_1 c.requires (c.in_ok-next.ensures.leads _ _ _ (make (c.in_ok-values.ensures.leads _ _ _ (c.in_ok-next-2.ensures.leads _ _ _ (make (c.in_ok-next-3.ensures.leads _ _ _ (c.in_ok-next-4.ensures.leads _ _ _ (make (on_top updates c.new-none.ensures.items (c.in_ok-all.ensures.leads _ _ _ (c.in_ok-next-5.ensures.leads _ _ _ ((rw c.new-values.ensures at h)))))))))))));
-  shrinks = omega (arith, c.in_ok-next.ensures.shrinks, c.in_ok-values.ensures.shrinks, c.in_ok-next-2.ensures.shrinks, c.in_ok-next-3.ensures.shrinks, c.in_ok-next-4.ensures.shrinks, c.in_ok-all.ensures.shrinks, c.in_ok-next-5.ensures.shrinks);
+  leads = λ s vs o h. condition_1 c.requires (c.in_ok-values.ensures.leads _ _ _ (make (c.in_ok-all.ensures.leads _ _ _ (rw c.new-values.ensures at h))));
+  shrinks = omega (arith, c.in_ok-values.ensures.shrinks, c.in_ok-all.ensures.shrinks);
 }

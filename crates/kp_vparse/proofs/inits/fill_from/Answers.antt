@@ -18,23 +18,13 @@ returns-in_err-counter c =
     let p = err_from_is_err_and c.from_residual-in_err-counter.result c.from_residual-in_err-counter.ensures.1 in
     rw (p.1, p.2) (end_end c.in_err-counter.ensures (λ o h s vs. c.in_ok-next.ensures.leads _ _ _ (c.in_ok-next-2.ensures.leads _ _ _ (h _ _))))
 
-pub returns-in_err-next-3 : goal.returns-in_err-next-3
-returns-in_err-next-3 c =
-    let p = err_from_is_err_and c.from_residual-in_err-next-3.result c.from_residual-in_err-next-3.ensures.1 in
-    rw (p.1, p.2) (end_end c.in_err-next-3.ensures (λ o h s vs. c.in_ok-next.ensures.leads _ _ _ (c.in_ok-next-2.ensures.leads _ _ _ (c.in_ok-counter.ensures.leads _ _ _ (h _ _)))))
-
 pub returns-in_err-from : goal.returns-in_err-from
 returns-in_err-from c =
     let p = err_from_is_err_and c.from_residual-in_err-from.result c.from_residual-in_err-from.ensures.1 in
-    rw (p.1, p.2) (end_end c.in_err-from.ensures (λ o h s vs. c.in_ok-next.ensures.leads _ _ _ (c.in_ok-next-2.ensures.leads _ _ _ (c.in_ok-counter.ensures.leads _ _ _ (c.in_ok-next-3.ensures.leads _ _ _ (h _ _))))))
-
-pub returns-in_err-next-4 : goal.returns-in_err-next-4
-returns-in_err-next-4 c =
-    let p = err_from_is_err_and c.from_residual-in_err-next-4.result c.from_residual-in_err-next-4.ensures.1 in
-    rw (p.1, p.2) (end_end c.in_err-next-4.ensures (λ o h s vs. c.in_ok-next.ensures.leads _ _ _ (c.in_ok-next-2.ensures.leads _ _ _ (c.in_ok-counter.ensures.leads _ _ _ (c.in_ok-next-3.ensures.leads _ _ _ (c.in_ok-from.ensures.leads _ _ _ (h _ _)))))))
+    rw (p.1, p.2) (end_end c.in_err-from.ensures (λ o h s vs. c.in_ok-next.ensures.leads _ _ _ (c.in_ok-next-2.ensures.leads _ _ _ (c.in_ok-counter.ensures.leads _ _ _ (h _ _)))))
 
 pub returns : goal.returns
 returns c = record {
-  leads = λ s vs o h. c.in_ok-next.ensures.leads _ _ _ (c.in_ok-next-2.ensures.leads _ _ _ (c.in_ok-counter.ensures.leads _ _ _ (c.in_ok-next-3.ensures.leads _ _ _ (c.in_ok-from.ensures.leads _ _ _ (c.in_ok-next-4.ensures.leads _ _ _ (h))))));
-  shrinks = omega (arith, c.in_ok-next.ensures.shrinks, c.in_ok-next-2.ensures.shrinks, c.in_ok-counter.ensures.shrinks, c.in_ok-next-3.ensures.shrinks, c.in_ok-from.ensures.shrinks, c.in_ok-next-4.ensures.shrinks);
+  leads = λ s vs o h. c.in_ok-next.ensures.leads _ _ _ (c.in_ok-next-2.ensures.leads _ _ _ (c.in_ok-counter.ensures.leads _ _ _ (c.in_ok-from.ensures.leads _ _ _ (h))));
+  shrinks = omega (arith, c.in_ok-next.ensures.shrinks, c.in_ok-next-2.ensures.shrinks, c.in_ok-counter.ensures.shrinks, c.in_ok-from.ensures.shrinks);
 }

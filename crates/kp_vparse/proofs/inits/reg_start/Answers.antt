@@ -15,13 +15,8 @@ returns-in_err-value c =
     let p = err_from_is_err_and c.from_residual-in_err-value.result c.from_residual-in_err-value.ensures.1 in
     rw (p.1, p.2) (end_end c.in_err-value.ensures (λ o h s vs. start_1 c.requires (c.in_ok-next.ensures.leads _ _ _ (h _ _))))
 
-pub returns-in_err-next-2 : goal.returns-in_err-next-2
-returns-in_err-next-2 c =
-    let p = err_from_is_err_and c.from_residual-in_err-next-2.result c.from_residual-in_err-next-2.ensures.1 in
-    rw (p.1, p.2) (end_end c.in_err-next-2.ensures (λ o h s vs. start_1 c.requires (c.in_ok-next.ensures.leads _ _ _ (c.in_ok-value.ensures.leads _ _ _ (h _ _)))))
-
 pub returns : goal.returns
 returns c = record {
-  leads = λ s vs o h. start_1 c.requires (c.in_ok-next.ensures.leads _ _ _ (c.in_ok-value.ensures.leads _ _ _ (c.in_ok-next-2.ensures.leads _ _ _ (make (h)))));
-  shrinks = omega (arith, c.in_ok-next.ensures.shrinks, c.in_ok-value.ensures.shrinks, c.in_ok-next-2.ensures.shrinks);
+  leads = λ s vs o h. start_1 c.requires (c.in_ok-next.ensures.leads _ _ _ (c.in_ok-value.ensures.leads _ _ _ (make (h))));
+  shrinks = omega (arith, c.in_ok-next.ensures.shrinks, c.in_ok-value.ensures.shrinks);
 }

@@ -15,13 +15,8 @@ returns-in_err-name c =
     let p = err_from_is_err_and c.from_residual-in_err-name.result c.from_residual-in_err-name.ensures.1 in
     rw (p.1, p.2) (end_end c.in_err-name.ensures (λ o h s vs. item_2 c.requires (c.in_ok-next.ensures.leads _ _ _ (h _ _))))
 
-pub returns-in_err-next-2 : goal.returns-in_err-next-2
-returns-in_err-next-2 c =
-    let p = err_from_is_err_and c.from_residual-in_err-next-2.result c.from_residual-in_err-next-2.ensures.1 in
-    rw (p.1, p.2) (end_end c.in_err-next-2.ensures (λ o h s vs. item_2 c.requires (c.in_ok-next.ensures.leads _ _ _ (c.in_ok-name.ensures.leads _ _ _ (h _ _)))))
-
 pub returns : goal.returns
 returns c = record {
-  leads = λ s vs o h. item_2 c.requires (c.in_ok-next.ensures.leads _ _ _ (c.in_ok-name.ensures.leads _ _ _ (c.in_ok-next-2.ensures.leads _ _ _ (make (h)))));
-  shrinks = omega (arith, c.in_ok-next.ensures.shrinks, c.in_ok-name.ensures.shrinks, c.in_ok-next-2.ensures.shrinks);
+  leads = λ s vs o h. item_2 c.requires (c.in_ok-next.ensures.leads _ _ _ (c.in_ok-name.ensures.leads _ _ _ (make (h))));
+  shrinks = omega (arith, c.in_ok-next.ensures.shrinks, c.in_ok-name.ensures.shrinks);
 }

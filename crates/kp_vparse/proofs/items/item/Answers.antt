@@ -1,37 +1,17 @@
-use Rattle.std.proofs.Common.{arith}
+use Rattle.std.proofs.Common.{◌∙◌, sym, arith}
 use Rattle.std.proofs.lemmas.Result.{err_from_is_err_and}
 use Rattle.kp_grammar.specs.Machine.{make}
 use Rattle.kp_vparse.proofs.Steps.{end_end}
 use Rattle.kp_vparse.proofs.Picks.{item_else}
 use Rattle.kp_vparse.proofs.items.item.Goals as goal
 
-pub returns-in_err-next : goal.returns-in_err-next
-returns-in_err-next c =
-    let p = err_from_is_err_and c.from_residual.result c.from_residual.ensures.1 in
-    rw (p.1, p.2) (end_end c.in_err-next.ensures (λ o h s vs. item_else (cc c.is_keyword.ensures) (cc c.is_keyword-2.ensures) (cc c.is_keyword-3.ensures) (h _ _)))
-
 pub returns-in_err-target : goal.returns-in_err-target
 returns-in_err-target c =
-    let p = err_from_is_err_and c.from_residual-in_err-target.result c.from_residual-in_err-target.ensures.1 in
-    rw (p.1, p.2) (end_end c.in_err-target.ensures (λ o h s vs. item_else (cc c.is_keyword.ensures) (cc c.is_keyword-2.ensures) (cc c.is_keyword-3.ensures) (c.in_ok-next.ensures.leads _ _ _ (h _ _))))
-
-pub returns-in_err-next-2 : goal.returns-in_err-next-2
-returns-in_err-next-2 c =
-    let p = err_from_is_err_and c.from_residual-in_err-next-2.result c.from_residual-in_err-next-2.ensures.1 in
-    rw (p.1, p.2) (end_end c.in_err-next-2.ensures (λ o h s vs. item_else (cc c.is_keyword.ensures) (cc c.is_keyword-2.ensures) (cc c.is_keyword-3.ensures) (c.in_ok-next.ensures.leads _ _ _ (c.in_ok-target.ensures.leads _ _ _ (h _ _)))))
-
-pub returns-in_err-right : goal.returns-in_err-right
-returns-in_err-right c =
-    let p = err_from_is_err_and c.from_residual-in_err-right.result c.from_residual-in_err-right.ensures.1 in
-    rw (p.1, p.2) (end_end c.in_err-right.ensures (λ o h s vs. item_else (cc c.is_keyword.ensures) (cc c.is_keyword-2.ensures) (cc c.is_keyword-3.ensures) (c.in_ok-next.ensures.leads _ _ _ (c.in_ok-target.ensures.leads _ _ _ (c.in_ok-next-2.ensures.leads _ _ _ (h _ _))))))
-
-pub returns-in_err-next-3 : goal.returns-in_err-next-3
-returns-in_err-next-3 c =
-    let p = err_from_is_err_and c.from_residual-in_err-next-3.result c.from_residual-in_err-next-3.ensures.1 in
-    rw (p.1, p.2) (end_end c.in_err-next-3.ensures (λ o h s vs. item_else (cc c.is_keyword.ensures) (cc c.is_keyword-2.ensures) (cc c.is_keyword-3.ensures) (c.in_ok-next.ensures.leads _ _ _ (c.in_ok-target.ensures.leads _ _ _ (c.in_ok-next-2.ensures.leads _ _ _ (c.in_ok-right.ensures.leads _ _ _ (h _ _)))))))
+    let p = err_from_is_err_and c.from_residual.result c.from_residual.ensures.1 in
+    rw (p.1, p.2) (end_end c.in_err-target.ensures (λ o h s vs. item_else (sym c.if-is_keyword.false ∙ c.is_keyword.ensures) (sym c.if-is_keyword-2.false ∙ c.is_keyword-2.ensures) (sym c.if-is_keyword-3.false ∙ c.is_keyword-3.ensures) (h _ _)))
 
 pub returns : goal.returns
 returns c = record {
-  leads = λ s vs o h. item_else (cc c.is_keyword.ensures) (cc c.is_keyword-2.ensures) (cc c.is_keyword-3.ensures) (c.in_ok-next.ensures.leads _ _ _ (c.in_ok-target.ensures.leads _ _ _ (c.in_ok-next-2.ensures.leads _ _ _ (c.in_ok-right.ensures.leads _ _ _ (c.in_ok-next-3.ensures.leads _ _ _ (make (h)))))));
-  shrinks = omega (arith, c.in_ok-next.ensures.shrinks, c.in_ok-target.ensures.shrinks, c.in_ok-next-2.ensures.shrinks, c.in_ok-right.ensures.shrinks, c.in_ok-next-3.ensures.shrinks);
+  leads = λ s vs o h. item_else (sym c.if-is_keyword.false ∙ c.is_keyword.ensures) (sym c.if-is_keyword-2.false ∙ c.is_keyword-2.ensures) (sym c.if-is_keyword-3.false ∙ c.is_keyword-3.ensures) (c.in_ok-target.ensures.leads _ _ _ (make (h)));
+  shrinks = omega (arith, c.in_ok-target.ensures.shrinks);
 }

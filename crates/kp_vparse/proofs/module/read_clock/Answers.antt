@@ -33,13 +33,8 @@ returns-in_err-next-5 c =
     let p = err_from_is_err_and c.from_residual-in_err-next-5.result c.from_residual-in_err-next-5.ensures.1 in
     rw (p.1, p.2) (end_end c.in_err-next-5.ensures (λ o h s vs. c.in_ok-next.ensures.leads _ _ _ (c.in_ok-next-2.ensures.leads _ _ _ (c.in_ok-next-3.ensures.leads _ _ _ (c.in_ok-next-4.ensures.leads _ _ _ (c.in_ok-clock.ensures.leads _ _ _ (h _ _)))))))
 
-pub returns-in_err-next-6 : goal.returns-in_err-next-6
-returns-in_err-next-6 c =
-    let p = err_from_is_err_and c.from_residual-in_err-next-6.result c.from_residual-in_err-next-6.ensures.1 in
-    rw (p.1, p.2) (end_end c.in_err-next-6.ensures (λ o h s vs. c.in_ok-next.ensures.leads _ _ _ (c.in_ok-next-2.ensures.leads _ _ _ (c.in_ok-next-3.ensures.leads _ _ _ (c.in_ok-next-4.ensures.leads _ _ _ (c.in_ok-clock.ensures.leads _ _ _ (c.in_ok-next-5.ensures.leads _ _ _ (h _ _))))))))
-
 pub returns : goal.returns
 returns c = record {
-  leads = λ s vs o h. c.in_ok-next.ensures.leads _ _ _ (c.in_ok-next-2.ensures.leads _ _ _ (c.in_ok-next-3.ensures.leads _ _ _ (c.in_ok-next-4.ensures.leads _ _ _ (c.in_ok-clock.ensures.leads _ _ _ (c.in_ok-next-5.ensures.leads _ _ _ (c.in_ok-next-6.ensures.leads _ _ _ (h)))))));
-  shrinks = omega (arith, c.in_ok-next.ensures.shrinks, c.in_ok-next-2.ensures.shrinks, c.in_ok-next-3.ensures.shrinks, c.in_ok-next-4.ensures.shrinks, c.in_ok-clock.ensures.shrinks, c.in_ok-next-5.ensures.shrinks, c.in_ok-next-6.ensures.shrinks);
+  leads = λ s vs o h. c.in_ok-next.ensures.leads _ _ _ (c.in_ok-next-2.ensures.leads _ _ _ (c.in_ok-next-3.ensures.leads _ _ _ (c.in_ok-next-4.ensures.leads _ _ _ (c.in_ok-clock.ensures.leads _ _ _ (c.in_ok-next-5.ensures.leads _ _ _ (h))))));
+  shrinks = omega (arith, c.in_ok-next.ensures.shrinks, c.in_ok-next-2.ensures.shrinks, c.in_ok-next-3.ensures.shrinks, c.in_ok-next-4.ensures.shrinks, c.in_ok-clock.ensures.shrinks, c.in_ok-next-5.ensures.shrinks);
 }

@@ -18,13 +18,8 @@ returns-in_err-next c =
     let p = err_from_is_err_and c.from_residual-in_err-next.result c.from_residual-in_err-next.ensures.1 in
     rw (p.1, p.2) (end_end c.in_err-next.ensures (λ o h s vs. c.in_ok-clock.ensures.leads _ _ _ (c.in_ok-reset.ensures.leads _ _ _ (h _ _))))
 
-pub returns-in_err-next-2 : goal.returns-in_err-next-2
-returns-in_err-next-2 c =
-    let p = err_from_is_err_and c.from_residual-in_err-next-2.result c.from_residual-in_err-next-2.ensures.1 in
-    rw (p.1, p.2) (end_end c.in_err-next-2.ensures (λ o h s vs. c.in_ok-clock.ensures.leads _ _ _ (c.in_ok-reset.ensures.leads _ _ _ (c.in_ok-next.ensures.leads _ _ _ (h _ _)))))
-
 pub returns : goal.returns
 returns c = record {
-  leads = λ s vs o h. c.in_ok-clock.ensures.leads _ _ _ (c.in_ok-reset.ensures.leads _ _ _ (c.in_ok-next.ensures.leads _ _ _ (c.in_ok-next-2.ensures.leads _ _ _ (rw c.new-updates.ensures at h))));
-  shrinks = omega (arith, c.in_ok-clock.ensures.shrinks, c.in_ok-reset.ensures.shrinks, c.in_ok-next.ensures.shrinks, c.in_ok-next-2.ensures.shrinks);
+  leads = λ s vs o h. c.in_ok-clock.ensures.leads _ _ _ (c.in_ok-reset.ensures.leads _ _ _ (c.in_ok-next.ensures.leads _ _ _ (rw c.new-updates.ensures at h)));
+  shrinks = omega (arith, c.in_ok-clock.ensures.shrinks, c.in_ok-reset.ensures.shrinks, c.in_ok-next.ensures.shrinks);
 }

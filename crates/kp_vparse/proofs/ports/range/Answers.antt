@@ -15,23 +15,13 @@ returns-in_err-high c =
     let p = err_from_is_err_and c.from_residual-in_err-high.result c.from_residual-in_err-high.ensures.1 in
     rw (p.1, p.2) (end_end c.in_err-high.ensures (λ o h s vs. range_all (c.in_ok-next.ensures.leads _ _ _ (h _ _))))
 
-pub returns-in_err-next-2 : goal.returns-in_err-next-2
-returns-in_err-next-2 c =
-    let p = err_from_is_err_and c.from_residual-in_err-next-2.result c.from_residual-in_err-next-2.ensures.1 in
-    rw (p.1, p.2) (end_end c.in_err-next-2.ensures (λ o h s vs. range_all (c.in_ok-next.ensures.leads _ _ _ (c.in_ok-high.ensures.leads _ _ _ (h _ _)))))
-
 pub returns-in_err-low : goal.returns-in_err-low
 returns-in_err-low c =
     let p = err_from_is_err_and c.from_residual-in_err-low.result c.from_residual-in_err-low.ensures.1 in
-    rw (p.1, p.2) (end_end c.in_err-low.ensures (λ o h s vs. range_all (c.in_ok-next.ensures.leads _ _ _ (c.in_ok-high.ensures.leads _ _ _ (c.in_ok-next-2.ensures.leads _ _ _ (h _ _))))))
-
-pub returns-in_err-next-3 : goal.returns-in_err-next-3
-returns-in_err-next-3 c =
-    let p = err_from_is_err_and c.from_residual-in_err-next-3.result c.from_residual-in_err-next-3.ensures.1 in
-    rw (p.1, p.2) (end_end c.in_err-next-3.ensures (λ o h s vs. range_all (c.in_ok-next.ensures.leads _ _ _ (c.in_ok-high.ensures.leads _ _ _ (c.in_ok-next-2.ensures.leads _ _ _ (c.in_ok-low.ensures.leads _ _ _ (h _ _)))))))
+    rw (p.1, p.2) (end_end c.in_err-low.ensures (λ o h s vs. range_all (c.in_ok-next.ensures.leads _ _ _ (c.in_ok-high.ensures.leads _ _ _ (h _ _)))))
 
 pub returns : goal.returns
 returns c = record {
-  leads = λ s vs o h. range_all (c.in_ok-next.ensures.leads _ _ _ (c.in_ok-high.ensures.leads _ _ _ (c.in_ok-next-2.ensures.leads _ _ _ (c.in_ok-low.ensures.leads _ _ _ (c.in_ok-next-3.ensures.leads _ _ _ (make (h)))))));
-  shrinks = omega (arith, c.in_ok-next.ensures.shrinks, c.in_ok-high.ensures.shrinks, c.in_ok-next-2.ensures.shrinks, c.in_ok-low.ensures.shrinks, c.in_ok-next-3.ensures.shrinks);
+  leads = λ s vs o h. range_all (c.in_ok-next.ensures.leads _ _ _ (c.in_ok-high.ensures.leads _ _ _ (c.in_ok-low.ensures.leads _ _ _ (make (h)))));
+  shrinks = omega (arith, c.in_ok-next.ensures.shrinks, c.in_ok-high.ensures.shrinks, c.in_ok-low.ensures.shrinks);
 }

@@ -9,4 +9,4 @@ loop-occurrence-preserved c =
     let fits : driver_fits c.args.resets c.args.all.now c.loop-occurrence.so_far (role_of c.occurrence-item.result.role) c.occurrence-item.result.named.now.name ≡ true =
     cc (c.fits.ensures, c.if-not-fits.false) in
     turn c.args.resets c.args.all.now c.args.names.now c.loop-occurrence.occurrence-index c.occurrence-item.result c.loop-occurrence.so_far c.drive.new.self _ c.loop-occurrence-test.true
-    c.occurrence-item.is fits c.in-Ok.ensures c.loop-occurrence.invariant
+    c.occurrence-item.is fits c.in_ok-drive.ensures c.loop-occurrence.invariant

@@ -4,7 +4,10 @@ use Rattle.kp_vlog.specs.declared.tree.Item.{Item}
 use Rattle.kp_vlog.specs.Scope.{file_names}
 use Rattle.kp_vread.specs.inner.Numbering.{AreNumbered}
 use Rattle.kp_vread.proofs.Numbering.{more_files}
-use Rattle.kp_vread.proofs.numbers.file_places.Goals as goal
+use Rattle.kp_vread.proofs.numbers.number_files.Goals as goal
+
+pub loop-item-init : goal.loop-item-init
+loop-item-init c = (omega (arith, c.requires.empty.count), c.requires.empty)
 
 pub loop-item-preserved : goal.loop-item-preserved
 loop-item-preserved c = (

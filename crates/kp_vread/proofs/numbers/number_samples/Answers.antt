@@ -3,7 +3,10 @@ use Rattle.std.proofs.lemmas.List.{take_all}
 use Rattle.kp_vlog.specs.declared.tree.VPort.{VPort}
 use Rattle.kp_vread.specs.inner.Numbering.{AreNumbered}
 use Rattle.kp_vread.proofs.Numbering.{more_ports}
-use Rattle.kp_vread.proofs.numbers.sample_places.Goals as goal
+use Rattle.kp_vread.proofs.numbers.number_samples.Goals as goal
+
+pub loop-port-init : goal.loop-port-init
+loop-port-init c = (omega (arith, c.requires.empty.count), c.requires.empty)
 
 pub loop-port-preserved : goal.loop-port-preserved
 loop-port-preserved c = (

@@ -4,7 +4,10 @@ use Rattle.kp_vlog.specs.declared.tree.Item.{Item}
 use Rattle.kp_vlog.specs.Scope.{reg_names}
 use Rattle.kp_vread.specs.inner.Numbering.{AreNumbered}
 use Rattle.kp_vread.proofs.Numbering.{more_regs}
-use Rattle.kp_vread.proofs.numbers.reg_places.Goals as goal
+use Rattle.kp_vread.proofs.numbers.number_regs.Goals as goal
+
+pub loop-item-init : goal.loop-item-init
+loop-item-init c = (omega (arith, c.requires.empty.count), c.requires.empty)
 
 pub loop-item-preserved : goal.loop-item-preserved
 loop-item-preserved c = (

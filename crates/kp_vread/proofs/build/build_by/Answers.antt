@@ -6,16 +6,16 @@ use Rattle.kp_vlog.proofs.Sound.{holds}
 use Rattle.kp_vread.specs.inner.Building.{ItemFits, IsMade}
 use Rattle.kp_vread.proofs.Fitting.{narrow, all_fit, ext_fits, samples_fit, started}
 use Rattle.kp_vread.proofs.Whole.{net_same, net_ok}
-use Rattle.kp_vread.proofs.build.build.Goals as goal
+use Rattle.kp_vread.proofs.build.build_by.Goals as goal
 
-pub new-requires-2-clause-fit : goal.new-requires-2-clause-fit
-new-requires-2-clause-fit c = subst (λ (xs : List Item). All ItemFits xs) (sym c.as_slice.ensures) (all_fit c.args.whole.now (holds c.args.whole.now c.requires.sound))
+pub new-requires-clause-fit : goal.new-requires-clause-fit
+new-requires-clause-fit c = subst (λ (xs : List Item). All ItemFits xs) (sym c.as_slice.ensures) (all_fit c.args.whole.now (holds c.args.whole.now c.requires.sound))
 
-pub new-requires-2-clause-narrow : goal.new-requires-2-clause-narrow
-new-requires-2-clause-narrow c = narrow c.args.whole.now (holds c.args.whole.now c.requires.sound) c.in_ok-numbers.numbers.sizes c.in_ok-numbers.ensures.sizes
+pub new-requires-clause-narrow : goal.new-requires-clause-narrow
+new-requires-clause-narrow c = narrow c.args.whole.now (holds c.args.whole.now c.requires.sound) c.args.numbers.now.sizes c.requires.scope.sizes
 
 pub parts-requires-clause-narrow : goal.parts-requires-clause-narrow
-parts-requires-clause-narrow c = narrow c.args.whole.now (holds c.args.whole.now c.requires.sound) c.in_ok-numbers.numbers.sizes c.in_ok-numbers.ensures.sizes
+parts-requires-clause-narrow c = narrow c.args.whole.now (holds c.args.whole.now c.requires.sound) c.args.numbers.now.sizes c.requires.scope.sizes
 
 pub parts-requires-clause-ext : goal.parts-requires-clause-ext
 parts-requires-clause-ext c = ext_fits c.args.whole.now (holds c.args.whole.now c.requires.sound)
@@ -31,13 +31,13 @@ from_nodes-requires c =
     let m = c.args.whole.now in
     let made = c.in_ok-made.made in
     net_ok m _ c.requires.samples c.requires.items c.requires.sound
-    (net_same m c.in_ok-numbers.numbers made.wires made.nodes.items c.in_ok-parts.parts c.in_ok-numbers.ensures
-    (subst (λ (xs : List Item). IsMade made.wires made.nodes.items (made_by (scope_of m) xs)) c.as_slice.ensures (c.in_ok-made.ensures (scope_of m) c.in_ok-numbers.ensures)) c.in_ok-parts.ensures)
+    (net_same m c.args.numbers.now made.wires made.nodes.items c.in_ok-parts.parts c.requires.scope
+    (subst (λ (xs : List Item). IsMade made.wires made.nodes.items (made_by (scope_of m) xs)) c.as_slice.ensures (c.in_ok-made.ensures (scope_of m) c.requires.scope)) c.in_ok-parts.ensures)
 
 pub returns : goal.returns
 returns c =
     let m = c.args.whole.now in
     let made = c.in_ok-made.made in
     c.from_nodes.ensures
-    ∙ net_same m c.in_ok-numbers.numbers made.wires made.nodes.items c.in_ok-parts.parts c.in_ok-numbers.ensures
-    (subst (λ (xs : List Item). IsMade made.wires made.nodes.items (made_by (scope_of m) xs)) c.as_slice.ensures (c.in_ok-made.ensures (scope_of m) c.in_ok-numbers.ensures)) c.in_ok-parts.ensures
+    ∙ net_same m c.args.numbers.now made.wires made.nodes.items c.in_ok-parts.parts c.requires.scope
+    (subst (λ (xs : List Item). IsMade made.wires made.nodes.items (made_by (scope_of m) xs)) c.as_slice.ensures (c.in_ok-made.ensures (scope_of m) c.requires.scope)) c.in_ok-parts.ensures
