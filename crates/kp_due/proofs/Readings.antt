@@ -21,7 +21,8 @@ use Rattle.kp_vlog.specs.inner.Kinds.{front_of}
 use Rattle.kp_vlog.specs.Rules.{Fault, broken}
 use Rattle.kp_vlog.specs.Denote.{net_of, IsModule, Denotes}
 use Rattle.kp_vlog.specs.Verdict.{Breaks, no_token, wrong_token, broken_rule, refusal_of}
-use Rattle.kp_vlog.proofs.Fronts.{seen, seen_front, Fits, fits_front}
+use Rattle.kp_vlog.specs.Fronts.{seen, Fits}
+use Rattle.kp_vlog.proofs.Fronts.{seen_front, fits_front}
 use Rattle.kp_vlog.proofs.Predictive.{is_predictive}
 use Rattle.kp_due.specs.Read.{ReadsVerilog}
 use Rattle.kp_due.proofs.VerilogShapes.{reads_module}

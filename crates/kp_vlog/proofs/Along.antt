@@ -3,13 +3,10 @@ use Rattle.std.proofs.Common.{ℕ, ◌+◌, ◌≤◌, ◌≡◌, ◌∙◌, Lis
 use Rattle.std.specs.Prelude.{All}
 use Rattle.std.proofs.lemmas.List.{drop-drop, map-append}
 use Rattle.std.proofs.lemmas.List.Elements.{All-nil, All-push}
-use Rattle.kp_vlog.specs.declared.front.Front.TheVariants as fronts
 use Rattle.kp_vlog.specs.declared.token.VKind.{VKind}
 use Rattle.kp_vlog.specs.declared.token.VToken.{VToken}
-use Rattle.kp_vlog.specs.Tokens.{Token, front, skips, takes, Lexes, at_end, past, token, LexesTo, here, past_gap, past_token}
+use Rattle.kp_vlog.specs.Tokens.{Token, front, finish, skips, takes, broken, Lexes, at_end, past, token, LexesTo, here, past_gap, past_token}
 use Rattle.kp_vlog.specs.Outcome.{word_of, token_of, StandsIn, HasTokens}
-use Rattle.kp_vlog.specs.inner.Kinds.{front_of}
-use Rattle.kp_vlog.proofs.Fronts.{seen, seen_front, skip_fits, token_fits}
 
 -- What is found from here is what is found from the offset on where the call began.
 pub record Along (text : List ℕ) (from : ℕ) (found : List VToken) (start : ℕ) (rest : List ℕ) : Type 0 where
@@ -39,41 +36,38 @@ module _ (text : List ℕ) (from : ℕ) (found : List VToken) (start : ℕ) (res
   left len h = let e = length-drop len rest in let w = along.within in omega arith
 
   -- Layout and comments are behind us,
-  pub skipped : (len : ℕ) → front_of rest ≡ fronts.Skip len → Along text from found (start + len) (drop len rest)
-  skipped len e =
-      let f : front rest ≡ skips len = sym (seen_front rest) ∙ ap (seen rest) e in
-      record {
-        leads = λ ts l. along.leads ts (past len f l);
-        refuses = λ to l. along.refuses to (past_gap len f l);
-        remains = rest_is len;
-        within = left len (skip_fits rest len e).1;
-        stand = along.stand;
-      }
+  pub skipped : (len : ℕ) → front rest ≡ skips len → len ≤ length rest → Along text from found (start + len) (drop len rest)
+  skipped len f fits = record {
+    leads = λ ts l. along.leads ts (past len f l);
+    refuses = λ to l. along.refuses to (past_gap len f l);
+    remains = rest_is len;
+    within = left len fits;
+    stand = along.stand;
+  }
 
   -- or a token.
-  pub read : (kind : VKind) (len : ℕ) → front_of rest ≡ fronts.Token kind len → Along text from (found ++ made start kind len ∷ []) (start + len) (drop len rest)
-  read kind len e =
-      let f : front rest ≡ takes (word_of (take len rest) kind) len = sym (seen_front rest) ∙ ap (seen rest) e in
+  pub read : (kind : VKind) (len : ℕ) → front rest ≡ takes (word_of (take len rest) kind) len → len ≤ length rest
+      → Along text from (found ++ made start kind len ∷ []) (start + len) (drop len rest)
+  read kind len f fits =
       let bytes : take len rest ≡ take len (drop start text) = ap (take len) along.remains in
       let same : front rest ≡ takes (word_of (take len (drop start text)) kind) len = f ∙ ap (λ (b : List ℕ). takes (word_of b kind) len) bytes in
-      let fits = token_fits rest kind len e in
       record {
         leads = λ ts l. subst (Lexes from (drop from text)) (sym (ap (λ (xs : List Token). xs ++ ts) (map-append (token_of text) found (made start kind len ∷ [])) ∙ append_assoc (map (token_of text) found) (token_of text (made start kind len) ∷ []) ts))
             (along.leads (token_of text (made start kind len) ∷ ts) (token (word_of (take len (drop start text)) kind) len same l));
         refuses = λ to l. along.refuses to (past_token (word_of (take len rest) kind) len f l);
         remains = rest_is len;
-        within = left len fits.1;
+        within = left len fits;
         stand = All-push (StandsIn text) found (made start kind len) along.stand
-            (record { front = ap front (sym along.remains) ∙ same; within = (let w = along.within in let h = fits.1 in omega arith) });
+            (record { front = ap front (sym along.remains) ∙ same; within = (let w = along.within in let h = fits in omega arith) });
       }
 
   -- The end of the text,
-  pub finished : front_of rest ≡ fronts.End → HasTokens text from found
+  pub finished : front rest ≡ finish → HasTokens text from found
   finished e = record {
-    lexes = subst (Lexes from (drop from text)) (append-nil (map (token_of text) found)) (along.leads [] (at_end (sym (seen_front rest) ∙ ap (seen rest) e)));
+    lexes = subst (Lexes from (drop from text)) (append-nil (map (token_of text) found)) (along.leads [] (at_end e));
     stand = along.stand;
   }
 
   -- and where no token begins.
-  pub stopped : front_of rest ≡ fronts.Broken → LexesTo from (drop from text) start
-  stopped e = along.refuses start (here (sym (seen_front rest) ∙ ap (seen rest) e))
+  pub stopped : front rest ≡ broken → LexesTo from (drop from text) start
+  stopped e = along.refuses start (here e)

@@ -1,5 +1,5 @@
 -- What code tells of the front of a text is what stands there, and it is no longer than the text.
-use Rattle.std.proofs.Common.{ℕ, suc, ◌+◌, ◌≤◌, ◌<◌, ◌≡◌, ◌∙◌, List, [], ◌∷◌, length, length-take-le, take, drop, ◌==◌, nat_lt, Bool, true, false, cond, ◌||◌, ◌&&◌, Option, Some, None, Result, Ok, Err, refl, ap, subst, arith}
+use Rattle.std.proofs.Common.{ℕ, suc, ◌+◌, ◌≤◌, ◌<◌, ◌≡◌, ◌∙◌, List, [], ◌∷◌, length, length-take-le, take, drop, ◌==◌, nat_lt, Bool, true, false, cond, ◌||◌, ◌&&◌, Option, Some, None, Result, Ok, Err, refl, ap, arith}
 use Rattle.std.proofs.lemmas.Bool.{false≢true}
 use Rattle.std.specs.Prelude.{IfSome}
 use Rattle.kp_bits.specs.Literals.{number_of, literal_of}
@@ -11,12 +11,11 @@ use Rattle.kp_vlog.specs.declared.front.Front.{Front}
 use Rattle.kp_vlog.specs.declared.front.Front.TheVariants as fronts
 use Rattle.kp_vlog.specs.declared.token.Keyword.{Keyword}
 use Rattle.kp_vlog.specs.declared.token.Mark.{Mark}
-use Rattle.kp_vlog.specs.declared.token.VKind.{VKind}
 use Rattle.kp_vlog.specs.Words.{keyword_of, single_mark, double_mark}
 use Rattle.kp_vlog.specs.Tokens.{is_layout, is_in_line, is_in_run, begins_with, one_more, to_close}
 use Rattle.kp_base.specs.Characters.{run_length}
 use Rattle.kp_vlog.specs.Tokens as tokens
-use Rattle.kp_vlog.specs.Outcome.{word_of}
+use Rattle.kp_vlog.specs.Fronts.{seen, Fits}
 use Rattle.kp_vlog.specs.inner.Kinds.{kind_or_name, identifier, literal_kind, number_kind, number_run, comment, mark_kind, mark_or_shorter, mark, front_of}
 
 -- a comment that is closed so many bytes later
@@ -41,13 +40,6 @@ close_here k b rest e = ap (λ t. shifted k (cond t (Some 2) (one_more (to_close
 pub begun : (c : ℕ) (rest : List ℕ) → begins_with c rest ≡ true → 1 ≤ length rest
 begun c [] e = absurd (false≢true e)
 begun c (b ∷ rest) e = omega arith
-
--- what code tells, as a front
-abbrev pub seen : List ℕ → Front → tokens.Front
-seen text fronts.End = tokens.finish
-seen text (fronts.Skip n) = tokens.skips n
-seen text (fronts.Token k n) = tokens.takes (word_of (take n text) k) n
-seen text fronts.Broken = tokens.broken
 
 seen_cond : (text : List ℕ) (b : Bool) (x y : Front) (u v : tokens.Front) → seen text x ≡ u → seen text y ≡ v → seen text (cond b x y) ≡ cond b u v
 seen_cond text true x y u v e f = e
@@ -106,13 +98,6 @@ seen_front (b ∷ bs) =
     (seen_cond text (is_letter b) _ _ _ _ (seen_identifier text (take (run_length is_in_identifier text) text) (run_taken is_in_identifier text))
     (seen_cond text (is_digit b) _ _ _ _ (seen_number text (take (run_length is_in_run text) text) (number_of (take (run_length is_in_run text) text)))
     (seen_mark text b bs)))))
-
--- the length of what stands at the front of a text of this length
-abbrev pub Fits : ℕ → Front → Type 0
-Fits len fronts.End = len ≡ 0
-Fits len (fronts.Skip n) = (0 < n) × (n ≤ len)
-Fits len (fronts.Token kind n) = (0 < n) × (n ≤ len)
-Fits len fronts.Broken = Unit {0}
 
 fits_cond : (len : ℕ) (b : Bool) (x y : Front) → (b ≡ true → Fits len x) → Fits len y → Fits len (cond b x y)
 fits_cond len true x y f g = f refl
@@ -202,9 +187,3 @@ fits_front (b ∷ bs) =
     (λ e. let f = run_fits is_in_run b bs (or_left (is_in_identifier b) (b == 39) (or_left (is_letter b || is_digit b) (b == 36) (or_right (is_letter b) (is_digit b) e))) in
     fits_number _ (suc (length bs)) f.0 f.1)
     (fits_mark b bs)))))
-
-pub skip_fits : (text : List ℕ) (n : ℕ) → front_of text ≡ fronts.Skip n → (0 < n) × (n ≤ length text)
-skip_fits text n e = subst (Fits (length text)) e (fits_front text)
-
-pub token_fits : (text : List ℕ) (k : VKind) (n : ℕ) → front_of text ≡ fronts.Token k n → (0 < n) × (n ≤ length text)
-token_fits text k n e = subst (Fits (length text)) e (fits_front text)

@@ -16,34 +16,34 @@ use Rattle.kp_vlog.specs.Verdict.{fault, offset_of, IsWrong, Breaks, no_token, w
 use Rattle.kp_vlog.proofs.Predictive.{is_predictive}
 
 -- What stands at the front stands there alone.
-abbrev length_in : Front → ℕ
+abbrev pub length_in : Front → ℕ
 length_in (skips n) = n
 length_in (takes w n) = n
 length_in _ = 0
 
-abbrev word_in : Front → Word
+abbrev pub word_in : Front → Word
 word_in (takes w n) = w
 word_in _ = name []
 
-apart : {A : Type 0} (f g h : Front) → f ≡ g → f ≡ h → (g ≡ h → ⊥) → A
+pub apart : {A : Type 0} (f g h : Front) → f ≡ g → f ≡ h → (g ≡ h → ⊥) → A
 apart f g h a b differ = absurd (differ (sym a ∙ b))
 
-finish_skips : (n : ℕ) → finish ≡ skips n → ⊥
+pub finish_skips : (n : ℕ) → finish ≡ skips n → ⊥
 finish_skips n e = cc
 
-finish_takes : (w : Word) (n : ℕ) → finish ≡ takes w n → ⊥
+pub finish_takes : (w : Word) (n : ℕ) → finish ≡ takes w n → ⊥
 finish_takes w n e = cc
 
-finish_broken : finish ≡ broken → ⊥
+pub finish_broken : finish ≡ broken → ⊥
 finish_broken e = cc
 
-skips_takes : (k : ℕ) (w : Word) (n : ℕ) → skips k ≡ takes w n → ⊥
+pub skips_takes : (k : ℕ) (w : Word) (n : ℕ) → skips k ≡ takes w n → ⊥
 skips_takes k w n e = cc
 
-skips_broken : (k : ℕ) → skips k ≡ broken → ⊥
+pub skips_broken : (k : ℕ) → skips k ≡ broken → ⊥
 skips_broken k e = cc
 
-takes_broken : (w : Word) (k : ℕ) → takes w k ≡ broken → ⊥
+pub takes_broken : (w : Word) (k : ℕ) → takes w k ≡ broken → ⊥
 takes_broken w k e = cc
 
 pub one_lexing : {at : ℕ} {text : List ℕ} {ts us : List Token} → Lexes at text ts → Lexes at text us → ts ≡ us

@@ -7,6 +7,7 @@ pub mod Rules
 pub mod Denote
 pub mod Verdict
 pub mod Outcome
+pub mod Fronts
 pub mod Canon
 pub mod Examples
 pub mod Wrong

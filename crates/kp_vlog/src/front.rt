@@ -4,7 +4,8 @@ ghost use Rattle.std.specs.Str.{bytes_eq};
 ghost use Rattle.kp_net.specs.Names.{is_in_identifier};
 ghost use Rattle.kp_base.specs.Characters.{is_letter, is_digit};
 ghost use Rattle.kp_vlog.specs.Words.{spelling, keyword_of, single_mark, double_mark};
-ghost use Rattle.kp_vlog.specs.Tokens.{is_layout, is_in_line, is_in_run, begins_with, to_close};
+ghost use Rattle.kp_vlog.specs.Tokens.{is_layout, is_in_line, is_in_run, begins_with, to_close, front};
+ghost use Rattle.kp_vlog.specs.Fronts.{seen, Fits};
 ghost use Rattle.kp_base.specs.Characters.{run_length};
 ghost use Rattle.kp_vlog.specs.inner.Kinds.{identifier, number_run, comment, mark, token, front_of};
 
@@ -12,7 +13,7 @@ use crate::{Keyword, Mark, VKind};
 use kp_base::{is_digit, is_letter, is_word, run_length};
 use kp_bits::{read_literal, read_number};
 
-/// What stands at the front of a text.
+/// What stands at the front of a text. Lengths are in bytes.
 #[derive(Clone, Copy)]
 pub enum Front {
     /// The end of the text.
@@ -25,8 +26,16 @@ pub enum Front {
     Broken,
 }
 
-/// What stands at the front of the text.
+/// What stands at the front of the text. A token is a number or a literal with its value, a keyword, a mark, or a name.
 pub fn read_front(text: &[u8]) -> Front
+    ensures told { seen text.now result ≡ front text.now }
+    ensures fits { Fits (length text.now) result }
+{
+    begin_of(text)
+}
+
+// The same, as code tells it.
+fn begin_of(text: &[u8]) -> Front
     ensures { result ≡ front_of text.now }
 {
     let [first, after @ ..] = text else {

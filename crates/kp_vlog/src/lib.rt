@@ -7,6 +7,7 @@ mod lexer;
 mod token;
 mod tree;
 
+pub use front::{Front, read_front};
 pub use lexer::vlex;
 pub use token::{Keyword, Mark, VKind, VToken};
 pub use tree::{

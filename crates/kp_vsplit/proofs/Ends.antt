@@ -1,18 +1,24 @@
 -- A first module ends at one place.
-use Rattle.std.proofs.Common.{ℕ, zero, suc, Bool, true, false, ◌+◌, ◌≤◌, ◌<◌, ◌≡◌, ◌∙◌, List, [], length, length-drop, drop, refl, sym, ap, subst, arith}
+use Rattle.std.proofs.Common.{ℕ, zero, suc, Bool, true, false, ◌+◌, ◌≤◌, ◌<◌, ◌≡◌, ◌∙◌, List, length, length-drop, drop, refl, sym, ap, subst, arith}
 use Rattle.std.proofs.lemmas.Bool.{false≢true}
 use Rattle.kp_vlog.specs.declared.front.Front.{Front as Told}
 use Rattle.kp_vlog.specs.declared.front.Front.TheVariants as told
 use Rattle.kp_vlog.specs.declared.token.Keyword.{Keyword}
-use Rattle.kp_vlog.specs.Tokens.{Word, name, keyword, Front, front, finish, skips, takes, broken}
+use Rattle.kp_vlog.specs.Tokens.{Word, keyword, Front, front, finish, skips, takes, broken}
 use Rattle.kp_vlog.specs.inner.Kinds.{front_of}
-use Rattle.kp_vlog.proofs.Fronts.{Fits, seen, seen_front, fits_front}
-use Rattle.kp_vsplit.specs.inner.Leads.{is_endmodule}
+use Rattle.kp_vlog.specs.Fronts.{seen, Fits}
+use Rattle.kp_vlog.proofs.Fronts.{seen_front, fits_front}
+use Rattle.kp_vlog.proofs.Unique.{length_in, word_in, apart, finish_skips, finish_takes, skips_takes, skips_broken, takes_broken}
+use Rattle.kp_vsplit.specs.inner.Leads.{closes_module, is_endmodule}
 use Rattle.kp_vsplit.specs.Splitting.{FirstEnds, closes, over, faulty, past_gap, past_token}
 
 -- whether a token is the keyword
+keyword_is : (k : Keyword) → closes_module k ≡ true → k ≡ Keyword.Endmodule
+keyword_is Keyword.Endmodule e = refl
+keyword_is k e = absurd (false≢true e)
+
 pub endmodule_is : (w : Word) → is_endmodule w ≡ true → w ≡ keyword Keyword.Endmodule
-endmodule_is (keyword Keyword.Endmodule) e = refl
+endmodule_is (keyword k) e = ap (λ (j : Keyword). keyword j) (keyword_is k e)
 endmodule_is w e = absurd (false≢true e)
 
 pub endmodule_not : (w : Word) → is_endmodule w ≡ false → w ≡ keyword Keyword.Endmodule → ⊥
@@ -33,37 +39,6 @@ seen_within text told.Broken h = tt
 
 pub front_within : (text : List ℕ) → IsWithin (length text) (front text)
 front_within text = subst (IsWithin (length text)) (seen_front text) (seen_within text (front_of text) (fits_front text))
-
--- what stands at the front stands there alone
-abbrev length_in : Front → ℕ
-length_in (skips n) = n
-length_in (takes w n) = n
-length_in _ = 0
-
-abbrev word_in : Front → Word
-word_in (takes w n) = w
-word_in _ = name []
-
-apart : {A : Type 0} (f g h : Front) → f ≡ g → f ≡ h → (g ≡ h → ⊥) → A
-apart f g h a b differ = absurd (differ (sym a ∙ b))
-
-finish_skips : (n : ℕ) → finish ≡ skips n → ⊥
-finish_skips n e = cc
-
-finish_takes : (w : Word) (n : ℕ) → finish ≡ takes w n → ⊥
-finish_takes w n e = cc
-
-finish_broken : finish ≡ broken → ⊥
-finish_broken e = cc
-
-skips_takes : (k : ℕ) (w : Word) (n : ℕ) → skips k ≡ takes w n → ⊥
-skips_takes k w n e = cc
-
-skips_broken : (k : ℕ) → skips k ≡ broken → ⊥
-skips_broken k e = cc
-
-takes_broken : (w : Word) (k : ℕ) → takes w k ≡ broken → ⊥
-takes_broken w k e = cc
 
 pub one_end : {at : ℕ} {text : List ℕ} {a b : ℕ} → FirstEnds at text a → FirstEnds at text b → a ≡ b
 one_end {at = at} (closes n e) (closes m f) = ap (λ (i : ℕ). at + i) (ap length_in (sym e ∙ f))

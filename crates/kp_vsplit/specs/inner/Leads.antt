@@ -1,13 +1,24 @@
 -- What the front of a text is to the end of its first module, as code tells it.
 use Rattle.std.specs.Prelude.{Bool, true, false, if◌then◌else◌}
 use Rattle.kp_vlog.specs.declared.token.Keyword.{Keyword}
+use Rattle.kp_vlog.specs.declared.token.VKind.{VKind}
+use Rattle.kp_vlog.specs.declared.token.VKind.TheVariants as kinds
 use Rattle.kp_vlog.specs.Tokens.{Word, keyword, Front, finish, skips, takes, broken}
 use Rattle.kp_vsplit.specs.declared.lead.Lead.{Lead}
 use Rattle.kp_vsplit.specs.declared.lead.Lead.TheVariants as leads
 
+abbrev pub closes_module : Keyword → Bool
+closes_module Keyword.Endmodule = true
+closes_module _ = false
+
 abbrev pub is_endmodule : Word → Bool
-is_endmodule (keyword Keyword.Endmodule) = true
+is_endmodule (keyword k) = closes_module k
 is_endmodule _ = false
+
+-- the same of the kind of a token
+abbrev pub is_closing : VKind → Bool
+is_closing (kinds.Keyword k) = closes_module k
+is_closing _ = false
 
 abbrev pub lead_of : Front → Lead
 lead_of finish = leads.Stops
