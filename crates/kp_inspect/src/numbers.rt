@@ -1,13 +1,13 @@
 // Where a netlist keeps the registers and files of its job.
-ghost use Rattle.std.specs.Prelude.{◌≡◌, ◌≤◌, ◌<◌, [], ◌∷◌, ◌++◌, codes, length, map, get_or};
+ghost use Rattle.std.specs.Prelude.{◌≡◌, ◌<◌, [], ◌∷◌, ◌++◌, codes, length, get_or};
 ghost use Rattle.kp_machine.specs.Slots.{targets_of};
-ghost use Rattle.kp_net.specs.Names.{same};
 ghost use Rattle.kp_seq.specs.Running.{no_slot};
 ghost use Rattle.kp_shows.specs.Naming.{place_among, register_name, register_names, file_names};
 ghost use Rattle.kp_show.specs.States.{targets_in};
 
 use kp_ast::{Decl, Name};
-use kp_net::{NetFile, NetReg, Netlist};
+use kp_net::Netlist;
+use kp_show::targets_in;
 
 /// The number of the register that has the name of a target.
 pub(crate) fn register_at(net: &Netlist, decls: &[Decl], target: u32) -> u32
@@ -25,16 +25,6 @@ pub(crate) fn register_at(net: &Netlist, decls: &[Decl], target: u32) -> u32
     0
 }
 
-/// How many targets it declares.
-pub(crate) fn targets_in(decl: &Decl) -> u32
-    ensures { result ≡ targets_in decl.now }
-{
-    match decl {
-        Decl::Reg(_, _, _) | Decl::File(_, _, _) => 1,
-        _ => 0,
-    }
-}
-
 fn register_for(net: &Netlist, decl: &Decl) -> u32
     requires { targets_in decl.now ≡ 1 }
     ensures { result ≡ place_among (register_names net.now) (register_name (get_or (targets_of (decl.now ∷ [])) 0 no_slot)) }
@@ -49,50 +39,12 @@ fn register_for(net: &Netlist, decl: &Decl) -> u32
 pub(crate) fn register_named(net: &Netlist, name: &Name) -> u32
     ensures { result ≡ place_among (register_names net.now) (codes "r_" ++ name.now) }
 {
-    place_of_register(net.parts().regs.as_slice(), name)
+    kp_shows::register_named(net.parts().regs.as_slice(), name)
 }
 
 /// The number of the file `f_X` for the name X, or how many there are where none is so named.
 pub(crate) fn file_named(net: &Netlist, name: &Name) -> u32
     ensures { result ≡ place_among (file_names net.now) (codes "f_" ++ name.now) }
 {
-    place_of_file(net.parts().files.as_slice(), name)
-}
-
-fn place_of_register(regs: &[NetReg], name: &Name) -> u32
-    requires { length regs.now ≤ 16777216 }
-    ensures { result ≡ place_among (map (λ r. r.name) regs.now) (codes "r_" ++ name.now) }
-{
-    let mut i = 0;
-    for reg in regs {
-        if is_named(reg.name.bytes(), b'r', name) {
-            return i;
-        }
-        i += 1;
-    }
-    i
-}
-
-fn place_of_file(files: &[NetFile], name: &Name) -> u32
-    requires { length files.now ≤ 16777216 }
-    ensures { result ≡ place_among (map (λ f. f.name) files.now) (codes "f_" ++ name.now) }
-{
-    let mut i = 0;
-    for file in files {
-        if is_named(file.name.bytes(), b'f', name) {
-            return i;
-        }
-        i += 1;
-    }
-    i
-}
-
-// A label that is this letter, a `_` and this name.
-fn is_named(label: &[u8], letter: u8, name: &Name) -> bool
-    ensures { result ≡ same label.now (letter ∷ 95 ∷ name.now) }
-{
-    match label {
-        [first, mark, rest @ ..] => *first == letter && *mark == b'_' && rest == name.bytes(),
-        _ => false,
-    }
+    kp_shows::file_named(net.parts().files.as_slice(), name)
 }

@@ -10,13 +10,14 @@ ghost use Rattle.kp_show.specs.States.{untold, lines_of_words, lines_of, state_l
 ghost use Rattle.kp_show.specs.inner.Targets.{StandsAt, HasWords, IsSmall};
 ghost use Rattle.kp_inspect.specs.inner.Standing.{IsFileOf, HasAddresses, state_seen};
 
-use crate::numbers::{file_named, register_named, targets_in};
-use crate::values::{register_shown, word_shown, write_register, write_word};
+use crate::numbers::{file_named, register_named};
+use crate::values::{register_shown, word_shown};
 use kp_ast::Decl;
 use kp_base::{Sink, SinkFault};
 use kp_debug::Session;
 use kp_judge::Accepted;
 use kp_net::Netlist;
+use kp_show::{targets_in, write_register, write_word};
 
 /// Writes each register and file in the order of declaration.
 pub(crate) fn write_state<K: Sink>(
@@ -63,7 +64,7 @@ fn write_target<K: Sink>(
         Decl::Reg(name, _, _) => {
             let number = register_named(net, &name.name);
             let value = register_shown(session, job, t, number);
-            write_register(name.name.bytes(), value, sink)
+            write_register(name.name.bytes(), value, None, sink)
         }
         Decl::File(name, _, address) => {
             let number = file_named(net, &name.name);
@@ -93,7 +94,7 @@ fn write_words<K: Sink>(
 {
     for address in 0..count {
         let value = word_shown(session, job, t, number, address);
-        write_word(name, address, value, sink)?;
+        write_word(name, address, value, None, sink)?;
     }
     Ok(())
 }

@@ -9,5 +9,6 @@ mod writing;
 
 pub use differing::write_difference;
 pub use runs::write_board;
-pub use states::write_run_after;
+pub use states::{targets_in, write_run_after};
+pub use values::{write_register, write_word};
 pub use writing::{write_accepted, write_refusal};

@@ -68,8 +68,8 @@ fn write_state<K: Sink>(
     Ok(())
 }
 
-/// How many targets it declares.
-pub(crate) fn targets_in(decl: &Decl) -> u32
+/// How many targets it declares: one for a register or a file, and else none.
+pub fn targets_in(decl: &Decl) -> u32
     ensures { result ≡ targets_in decl.now }
 {
     match decl {

@@ -8,9 +8,9 @@ use itoa::Buffer;
 use kp_base::{Sink, SinkFault, write_all, write_pieces};
 use kp_bits::Bits;
 
-/// Writes the line of a register.
+/// Writes the line of a register, with how many instructions stand behind its value, or without.
 #[tactic(auto, using(kp_base::proofs::Bytes::writes_next, kp_base::proofs::Bytes::part_more))]
-pub(crate) fn write_register<K: Sink>(
+pub fn write_register<K: Sink>(
     name: &[u8],
     value: Bits,
     behind: Option<u64>,
@@ -51,8 +51,8 @@ fn write_ending<K: Sink>(behind: Option<u64>, sink: &mut K) -> Result<(), SinkFa
     write_pieces(sink, &pieces)
 }
 
-/// Writes the line of a word of a file, where it isn't 0.
-pub(crate) fn write_word<K: Sink>(
+/// Writes the line of a word of a file, where it isn't 0, with how many instructions stand behind its value, or without.
+pub fn write_word<K: Sink>(
     name: &[u8],
     address: u32,
     value: Bits,

@@ -1,14 +1,12 @@
 // Where a netlist keeps the targets of its job.
-ghost use Rattle.std.specs.Prelude.{◌≡◌, ◌≤◌, ◌<◌, ◌∷◌, ◌++◌, ◌^◌, codes, length, map, get_or, IfOk};
-ghost use Rattle.kp_machine.specs.Slots.{targets_of};
-ghost use Rattle.kp_net.specs.Names.{same};
-ghost use Rattle.kp_shows.specs.Naming.{place_among, register_names, file_names};
+ghost use Rattle.std.specs.Prelude.{◌≡◌, ◌≤◌, ◌^◌, IfOk};
 ghost use Rattle.kp_shows.specs.Shows.{IsOfJob};
 ghost use Rattle.kp_watch.specs.inner.Places.{places_in, words_at};
 
-use kp_ast::{Decl, Name};
+use kp_ast::Decl;
 use kp_base::NoMemory;
-use kp_net::{NetFile, NetReg, Netlist};
+use kp_net::Netlist;
+use kp_shows::{file_named, register_named};
 use kp_stage::Design;
 use std::alloc::Global;
 
@@ -47,9 +45,9 @@ pub(crate) fn places_of(
     let mut places = Vec::new(alloc);
     for decl in decls {
         match decl {
-            Decl::Reg(n, _, _) => places.push(Place::Register(register_of(regs, &n.name)))?,
+            Decl::Reg(n, _, _) => places.push(Place::Register(register_named(regs, &n.name)))?,
             Decl::File(n, _, address) => {
-                places.push(Place::File(file_of(files, &n.name), words_of(address.value)))?;
+                places.push(Place::File(file_named(files, &n.name), words_of(address.value)))?;
             }
             _ => {}
         }
@@ -63,44 +61,4 @@ fn words_of(address: u64) -> u32
     ensures { result ≡ 2 ^ address }
 {
     1 << address
-}
-
-// The number of the register of this name, or how many there are where none has it.
-fn register_of(regs: &[NetReg], name: &Name) -> u32
-    requires { length regs.now ≤ 16777216 }
-    ensures { result ≡ place_among (map (λ r. r.name) regs.now) (codes "r_" ++ name.now) }
-{
-    let mut i = 0;
-    for reg in regs {
-        if is_named(reg.name.bytes(), b'r', name) {
-            return i;
-        }
-        i += 1;
-    }
-    i
-}
-
-// The number of the file of this name, or how many there are where none has it.
-fn file_of(files: &[NetFile], name: &Name) -> u32
-    requires { length files.now ≤ 16777216 }
-    ensures { result ≡ place_among (map (λ f. f.name) files.now) (codes "f_" ++ name.now) }
-{
-    let mut i = 0;
-    for file in files {
-        if is_named(file.name.bytes(), b'f', name) {
-            return i;
-        }
-        i += 1;
-    }
-    i
-}
-
-// A label that is this letter, a `_` and this name.
-fn is_named(label: &[u8], letter: u8, name: &Name) -> bool
-    ensures { result ≡ same label.now (letter ∷ 95 ∷ name.now) }
-{
-    match label {
-        [first, mark, rest @ ..] => *first == letter && *mark == b'_' && rest == name.bytes(),
-        _ => false,
-    }
 }

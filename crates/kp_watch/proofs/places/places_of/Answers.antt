@@ -34,16 +34,16 @@ loop-decl-preserved c =
     elim c.match-decl.branch [
       | in-Reg+in_ok-push-in-Reg w ↦
           let s = slot w.in-Reg.n w.in-Reg.field-1 0 in
-          let placed : Register w.register_of.result ≡ place_in net s = ap Register (rw (c.as_slice-regs.ensures, c.parts-parts.ensures.parts) at w.register_of.ensures) in
+          let placed : Register w.register_named.result ≡ place_in net s = ap Register (rw (c.as_slice-regs.ensures, c.parts-parts.ensures.parts) at w.register_named.ensures) in
           rw w.places-is (rw w.in_ok-push-in-Reg.ensures.items
-          (some_place net ds i x c.loop-decl.places.items _ c.loop-decl-test.true c.decl-item.is c.loop-decl.invariant s (Register w.register_of.result)
+          (some_place net ds i x c.loop-decl.places.items _ c.loop-decl-test.true c.decl-item.is c.loop-decl.invariant s (Register w.register_named.result)
           (ap (λ (y : Decl). targets_of (y ∷ drop (i + 1) ds)) w.in-Reg.is) placed))
       | in-File+in_ok-push-in-File w ↦
           let s = slot w.in-File.n w.in-File.field-1 w.in-File.address.value in
           let here : FitsAddress (decls.File w.in-File.n w.in-File.field-1 w.in-File.address) = subst FitsAddress w.in-File.is fits in
-          let p = File w.file_of.result w.words_of.result in
+          let p = File w.file_named.result w.words_of.result in
           let many : w.words_of.result ≡ 2 ^ w.in-File.address.value = w.words_of.ensures in
-          let number = (rw (c.as_slice-files.ensures, c.parts-parts.ensures.parts) at w.file_of.ensures) in
+          let number = (rw (c.as_slice-files.ensures, c.parts-parts.ensures.parts) at w.file_named.ensures) in
           let placed : p ≡ place_in net s = file_place net w.in-File.n w.in-File.field-1 w.in-File.address p here.0 (λ k. File (number k) (many k)) in
           rw w.places-is (rw w.in_ok-push-in-File.ensures.items
           (some_place net ds i x c.loop-decl.places.items _ c.loop-decl-test.true c.decl-item.is c.loop-decl.invariant s p

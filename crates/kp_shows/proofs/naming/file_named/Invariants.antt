@@ -1,7 +1,7 @@
 use Rattle.std.proofs.Common.{◌≡◌, ◌+◌, ◌≤◌, ◌++◌, map, drop}
 use Rattle.std.specs.Prelude.{codes}
 use Rattle.kp_shows.specs.Naming.{place_among}
-use Rattle.kp_inspect.proofs.numbers.place_of_file.Given as goal
+use Rattle.kp_shows.proofs.naming.file_named.Given as goal
 
 abbrev pub invariant-loop-file : goal.invariant-loop-file
 invariant-loop-file l =

@@ -1,7 +1,7 @@
 use Rattle.std.proofs.Common.{◌≡◌, ◌+◌, ◌≤◌, ◌++◌, map, drop}
 use Rattle.std.specs.Prelude.{codes}
 use Rattle.kp_shows.specs.Naming.{place_among}
-use Rattle.kp_watch.proofs.places.register_of.Given as goal
+use Rattle.kp_shows.proofs.naming.register_named.Given as goal
 
 abbrev pub invariant-loop-reg : goal.invariant-loop-reg
 invariant-loop-reg l =
