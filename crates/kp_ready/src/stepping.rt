@@ -44,7 +44,7 @@ pub fn run_of(alloc: Global, count: u32, job: &Accepted) -> Result<Run<'_>, NoMe
 }
 
 // Runs so many instructions.
-#[tactic(auto, using(crate::proofs::Running::one_step))]
+#[tactic(auto, using(kp_run::proofs::Machines::one_step))]
 fn advance(
     alloc: Global,
     machine: &mut SeqMachine<'_>,

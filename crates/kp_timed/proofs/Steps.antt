@@ -11,7 +11,7 @@ use Rattle.kp_sched.specs.Rows.{bit_of}
 use Rattle.kp_timing.specs.Lines.{timing_line, timing_text, total_line}
 use Rattle.kp_timing.specs.Timed.{Timed, IsCycle, IsOpened, hold_of}
 use Rattle.kp_timing.proofs.Texts.{text_left, cycle_text, opening_text}
-use Rattle.kp_timed.proofs.Words.{stalled_bit}
+use Rattle.kp_sched.proofs.Bits.{stalled_bit}
 
 -- what is left is the same text
 pub left_is : (whole rest same : List ℕ) (a b : Option (List ℕ)) → rest ≡ same → WrittenUpTo whole rest a b → WrittenUpTo whole same a b

@@ -1,7 +1,8 @@
 use Rattle.std.proofs.Common.{◌∙◌, refl, ap}
 use Rattle.kp_image.specs.Feeds.{row_in}
 use Rattle.kp_seq.specs.Running.{state}
-use Rattle.kp_ready.proofs.Running.{at_first, one_step}
+use Rattle.kp_run.proofs.Machines.{one_step}
+use Rattle.kp_ready.proofs.Running.{at_first}
 use Rattle.kp_ready.proofs.stepping.advance.Goals as goal
 
 pub loop-i-init : goal.loop-i-init

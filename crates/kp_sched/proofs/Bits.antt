@@ -16,7 +16,7 @@ top_fits : (n b : ℕ) (bit : Bool) → b < 2 ^ n → with_bit n b bit < 2 ^ suc
 top_fits n b true h = let e : 2 ^ suc n ≡ 2 ^ n + 2 ^ n = omega arith in omega (arith, h, e)
 top_fits n b false h = let e : 2 ^ suc n ≡ 2 ^ n + 2 ^ n = omega arith in omega (arith, h, e)
 
-word_fits : (n : ℕ) (f : ℕ → Bool) → bits_below n f < 2 ^ n
+pub word_fits : (n : ℕ) (f : ℕ → Bool) → bits_below n f < 2 ^ n
 word_fits zero f = omega arith
 word_fits (suc n) f = top_fits n (bits_below n f) (f n) (word_fits n f)
 
@@ -42,7 +42,7 @@ below_is n k b true h =
     ∙ add-mul-mod_self_right (b / 2 ^ k) (2 ^ j) 2
 below_is n k b false h = ap (λ (p : ℕ). p / 2 ^ k % 2) (let e : b + 0 ≡ b = omega arith in e)
 
-bit_below : (n : ℕ) (f : ℕ → Bool) (k : ℕ) → k < n → bit_of (bits_below n f) k ≡ f k
+pub bit_below : (n : ℕ) (f : ℕ → Bool) (k : ℕ) → k < n → bit_of (bits_below n f) k ≡ f k
 bit_below zero f k h = absurd (omega (arith, h))
 bit_below (suc n) f k h = go (bit_below n f k) (nat_lt k n) refl
   where
