@@ -14,7 +14,7 @@ use Rattle.kp_net.specs.Nodes.{Cells, word_at}
 use Rattle.kp_net.specs.Growth.{Held}
 use Rattle.kp_build.specs.Names.{Scope, known_at, IsSound, Gives}
 use Rattle.kp_build.specs.inner.Showing.{IsThere, AllShow, words_at, value_in, values_in}
-use Rattle.kp_build.proofs.Parts.{value_Not, value_Binary, value_Mux, value_Concat, value_Slice, value_Zext, value_Sext, value_Call}
+use Rattle.kp_forms.proofs.Parts.{value_Not, value_Binary, value_Mux, value_Concat, value_Slice, value_Zext, value_Sext, value_Call}
 use Rattle.kp_build.proofs.Giving.{first_there, second_there, third_there, mapped_there, sound_by, one_part, two_parts, three_parts, all_parts, all_sound}
 
 module _ (p : Held) (env : Scope) (e : Expr) where

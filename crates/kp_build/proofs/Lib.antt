@@ -2,7 +2,6 @@ pub mod Fitting
 pub mod Extending
 pub mod Rows
 pub mod Names
-pub mod Parts
 pub mod Giving
 pub mod Lists
 pub mod Forms

@@ -2,7 +2,6 @@
 #![tactic(auto)]
 
 mod building;
-mod key;
 mod known;
 mod names;
 mod table;

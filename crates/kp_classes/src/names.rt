@@ -3,9 +3,9 @@ ghost use Rattle.std.specs.Prelude.{◌≡◌, ◌++◌, ◌∷◌, ◌<◌, ◌
 ghost use Rattle.kp_net.specs.Names.{among, Differ};
 ghost use Rattle.kp_alike.specs.Classes.{place};
 
-use crate::key::Key;
 use indexmap::IndexSet;
 use kp_base::NoMemory;
+use kp_key::Key;
 use kp_net::{Label, NetFile, NetReg, Port};
 use std::alloc::Global;
 use std::marker::Model;

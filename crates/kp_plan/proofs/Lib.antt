@@ -1,4 +1,3 @@
-mod Parts
 pub mod Levels
 pub mod Meaning
 mod Calling

@@ -22,7 +22,7 @@ use Rattle.kp_plan.specs.declared.resolve.Scope.{Scope}
 use Rattle.kp_plan.specs.Names.{at_place, place_of}
 use Rattle.kp_plan.specs.Plans.{Slots, meaning, meaning_level, space, space_level, known_by, Means, AllMean, MeansCall}
 use Rattle.kp_plan.proofs.Levels.{fold-Word, fold-Name, fold-Not, fold-Binary, fold-Mux, fold-Concat, fold-Slice, fold-Zext, fold-Sext, fold-Call}
-use Rattle.kp_plan.proofs.Parts.{value_Lit, value_Name, value_Not, value_Binary, value_Mux, value_Concat, value_Slice, value_Zext, value_Sext, value_Call, size_Lit, size_Name, size_Not, size_Binary, size_Mux, size_Concat, size_Slice, size_Zext, size_Sext, size_Call}
+use Rattle.kp_forms.proofs.Parts.{value_Lit, value_Name, value_Not, value_Binary, value_Mux, value_Concat, value_Slice, value_Zext, value_Sext, value_Call, size_Lit, size_Name, size_Not, size_Binary, size_Mux, size_Concat, size_Slice, size_Zext, size_Sext, size_Call}
 
 abbrev pub V : Type 0
 V = Slots → Option Word

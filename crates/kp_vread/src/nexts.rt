@@ -7,9 +7,9 @@ use crate::kinds::node;
 use crate::places::Places;
 use indexmap::IndexMap;
 use kp_base::NoMemory;
+use kp_key::Key;
 use kp_net::{Label, NodeId};
 use kp_vlog::Update;
-use kp_vwidths::Key;
 use std::alloc::Global;
 use std::marker::Model;
 

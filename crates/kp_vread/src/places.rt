@@ -4,8 +4,8 @@ ghost use Rattle.kp_vread.specs.inner.Numbering.{place_by, AreNumbered};
 
 use indexmap::IndexMap;
 use kp_base::NoMemory;
+use kp_key::Key;
 use kp_net::Label;
-use kp_vwidths::Key;
 use std::alloc::Global;
 use std::marker::Model;
 

@@ -5,8 +5,8 @@ ghost use Rattle.kp_vrules.specs.inner.Sets.{Adds};
 
 use indexmap::IndexSet;
 use kp_base::NoMemory;
+use kp_key::Key;
 use kp_net::Label;
-use kp_vwidths::Key;
 use std::alloc::Global;
 use std::marker::Model;
 

@@ -1,12 +1,10 @@
 //! How wide the names of a module of a Verilog text are, what its registers start with, and the rule of widths and numbers.
 #![tactic(auto)]
 
-mod key;
 mod sizes;
 mod starts;
 mod width_rule;
 
-pub use key::Key;
 pub use sizes::{Size, Sizes};
 pub use starts::Starts;
 pub use width_rule::bad_width;

@@ -4,9 +4,9 @@ ghost use Rattle.kp_vlog.specs.Scope.{address_width as address_width_of, or_zero
 ghost use Rattle.kp_vwidths.specs.Tables.{AlikeSizes};
 ghost use Rattle.kp_vwidths.specs.inner.Sizing.{with_item};
 
-use crate::key::Key;
 use indexmap::IndexMap;
 use kp_base::NoMemory;
+use kp_key::Key;
 use kp_net::Label;
 use kp_vlog::{Item, VModule, VPort};
 use std::alloc::Global;

@@ -4,10 +4,10 @@ ghost use Rattle.kp_vlog.specs.Occurrences.{start_in};
 ghost use Rattle.kp_vwidths.specs.Tables.{found};
 ghost use Rattle.kp_vwidths.specs.inner.Starting.{StartsAt};
 
-use crate::key::Key;
 use indexmap::IndexMap;
 use kp_base::NoMemory;
 use kp_bits::Literal;
+use kp_key::Key;
 use kp_net::Label;
 use kp_vlog::Init;
 use std::alloc::Global;

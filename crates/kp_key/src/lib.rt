@@ -1,0 +1,6 @@
+//! The names of a netlist as the keys of sets and tables.
+#![tactic(auto)]
+
+mod key;
+
+pub use key::Key;
