@@ -5,12 +5,13 @@ ghost use Rattle.kp_grammar.specs.Tables.{among};
 ghost use Rattle.kp_lex.specs.declared.token.Keyword.TheVariants as keywords;
 ghost use Rattle.kp_syntax.specs.Tokens.{keyword_class};
 ghost use Rattle.kp_syntax.specs.inner.Follow.{decl_words};
-ghost use Rattle.kp_syntax.specs.Language.{decls, decl as decl_value, param as param_value, params as params_value, perhaps_named, number as number_value, literal as literal_value, DECLS, DECL, INDEX, ENABLE, PAR, PARS};
+ghost use Rattle.kp_syntax.specs.Language.{decls, decl as decl_value, param as param_value, params as params_value, perhaps_named, number as number_value, literal as literal_value, expr as expr_value, DECLS, DECL, INDEX, ENABLE, PAR, PARS};
 ghost use Rattle.kp_syntax.specs.Reading.{class_at, Turns, Ends};
 ghost use Rattle.kp_syntax.specs.inner.Stretch.{TurnsAll, EndsAll};
-ghost use Rattle.kp_parse.specs.inner.Stretches.{start_symbols, stage_symbols};
+ghost use Rattle.kp_parse.specs.inner.Stretches.{bracket_symbols, signature_symbols, definition_symbols, start_symbols, stage_symbols};
 
-use kp_ast::{Decl, FuncDecl, Lit, Named, Num, Param, ResultDecl};
+use crate::pair::with;
+use kp_ast::{Decl, Expr, FuncDecl, Lit, Named, Num, Param, ResultDecl};
 use kp_base::List;
 use kp_lex::{Keyword, Mark, TokenKind};
 use kp_syntax::{Fault, Tokens, whole_expression};
@@ -90,11 +91,19 @@ fn file(alloc: Global, tokens: &Tokens<'_>, at: usize) -> Result<(Decl, usize), 
 {
     let (_file, next) = tokens.keyword(Keyword::File, at)?;
     let (typed, next) = parameter(alloc, tokens, next)?;
-    let (_open, next) = tokens.mark(Mark::OpenBracket, next)?;
-    let (address, next) = tokens.number(next)?;
-    let (_close, next) = tokens.mark(Mark::CloseBracket, next)?;
+    let (address, next) = bracketed(tokens, next)?;
     let (_end, next) = tokens.mark(Mark::Semicolon, next)?;
     Ok((Decl::File(typed.name, typed.width, address), next))
+}
+
+/// `[number]`, and the number of the next token.
+pub(crate) fn bracketed(tokens: &Tokens<'_>, at: usize) -> Result<(Num, usize), Fault>
+    ensures { MatchResult result (λ x. TurnsAll tokens.now bracket_symbols (number_value x.0 ∷ []) at x.1 1) (EndsAll tokens.now bracket_symbols at) }
+{
+    let (_open, next) = tokens.mark(Mark::OpenBracket, at)?;
+    let (number, next) = tokens.number(next)?;
+    let (_close, next) = tokens.mark(Mark::CloseBracket, next)?;
+    Ok((number, next))
 }
 
 // `pipe name : width;`
@@ -208,15 +217,8 @@ fn function(alloc: Global, tokens: &Tokens<'_>, at: usize) -> Result<(Decl, usiz
 {
     let (_fn, next) = tokens.keyword(Keyword::Fn, at)?;
     let (name, next) = tokens.name(alloc, next)?;
-    let (_open, next) = tokens.mark(Mark::OpenParenthesis, next)?;
-    let (first, next) = parameter(alloc, tokens, next)?;
-    let (params, next) = parameters(alloc, tokens, first, next)?;
-    let (_close, next) = tokens.mark(Mark::CloseParenthesis, next)?;
-    let (_colon, next) = tokens.mark(Mark::Colon, next)?;
-    let (width, next) = tokens.number(next)?;
-    let (_equals, next) = tokens.mark(Mark::Equals, next)?;
-    let (body, next) = whole_expression(alloc, tokens, next)?;
-    let (_end, next) = tokens.mark(Mark::Semicolon, next)?;
+    let (params, next) = signature(alloc, tokens, next)?;
+    let (width, body, next) = definition(alloc, tokens, next)?;
     let params = List::new(params);
     let function = FuncDecl {
         name,
@@ -225,6 +227,30 @@ fn function(alloc: Global, tokens: &Tokens<'_>, at: usize) -> Result<(Decl, usiz
         body,
     };
     Ok((Decl::Func(function), next))
+}
+
+// `(params)`
+fn signature(alloc: Global, tokens: &Tokens<'_>, at: usize) -> Result<(Vec<Param>, usize), Fault>
+    ensures { MatchResult result (λ x. TurnsAll tokens.now signature_symbols (params_value x.0.items ∷ []) at x.1 1) (EndsAll tokens.now signature_symbols at) }
+{
+    let (_open, next) = tokens.mark(Mark::OpenParenthesis, at)?;
+    let (first, next) = parameter(alloc, tokens, next)?;
+    let (params, next) = parameters(alloc, tokens, first, next)?;
+    let (_close, next) = tokens.mark(Mark::CloseParenthesis, next)?;
+    Ok((params, next))
+}
+
+// `: width = body;`
+fn definition(alloc: Global, tokens: &Tokens<'_>, at: usize) -> Result<(Num, Expr, usize), Fault>
+    ensures { MatchResult result (λ x. TurnsAll tokens.now definition_symbols (expr_value x.1 ∷ number_value x.0 ∷ []) at x.2 1) (EndsAll tokens.now definition_symbols at) }
+{
+    let (_colon, next) = tokens.mark(Mark::Colon, at)?;
+    let (width, next) = tokens.number(next)?;
+    let (_equals, next) = tokens.mark(Mark::Equals, next)?;
+    let (body, next) = whole_expression(alloc, tokens, next)?;
+    let end = tokens.mark(Mark::Semicolon, next);
+    let (ended, _end, next) = with(body, end)?;
+    Ok((width, ended, next))
 }
 
 // The parameters of which this is the first.

@@ -1,17 +1,20 @@
 // Whole jobs.
-ghost use Rattle.std.specs.Prelude.{◌≡◌, ◌≤◌, ◌-◌, ◌^◌, [], ◌∷◌, Ok, length, drop, MatchResult, IfOk};
+ghost use Rattle.std.specs.Prelude.{◌≡◌, ◌≤◌, ◌+◌, ◌-◌, ◌^◌, [], ◌∷◌, Ok, length, drop, MatchResult, IfOk};
+ghost use Rattle.kp_grammar.specs.Grammar.{Nonterminal};
 ghost use Rattle.kp_grammar.specs.Machine.{Accepts};
 ghost use Rattle.kp_lex.specs.Text.{HasOutcome};
 ghost use Rattle.kp_base.specs.declared.refusal.Refused.TheVariants as refused;
 ghost use Rattle.kp_ast.specs.declared.tree.Job.{Job as JobTree};
-ghost use Rattle.kp_syntax.specs.Language.{job as job_value, at as state_at};
-ghost use Rattle.kp_syntax.specs.Reading.{JobGoes, FaultIs};
+ghost use Rattle.kp_syntax.specs.Language.{job as job_value, named as named_value, number as number_value, decls as decls_value, blocks as blocks_value, perhaps_images, perhaps_stalls, perhaps_inputs, at as state_at, JOB};
+ghost use Rattle.kp_syntax.specs.Reading.{JobGoes, FaultIs, Turns, Ends};
+ghost use Rattle.kp_syntax.specs.inner.Stretch.{TurnsAll, EndsAll};
+ghost use Rattle.kp_parse.specs.inner.Stretches.{title_symbols, depth_symbols, part_symbols, section_symbols};
 ghost use Rattle.kp_parse.specs.Sentence.{IsTree, AnswersTree, place_from};
 
 use crate::declaration::declarations;
 use crate::sections::{image_section, input_section, stall_section};
 use crate::stage::{stage, stages};
-use kp_ast::Job;
+use kp_ast::{Block, Decl, Image, Inputs, Job, Named, Num, Stalls};
 use kp_base::{List, Place, Refusal, Refused, place_of};
 use kp_lex::{Keyword, Lexed, Mark, Token};
 use kp_syntax::{Fault, Tokens};
@@ -28,29 +31,92 @@ fn job(alloc: Global, tokens: &Tokens<'_>) -> Result<Job, Fault>
     ensures goes { MatchResult result (λ j. JobGoes tokens.now (Accepts (state_at [] (job_value j ∷ [])))) (FaultIs tokens.now (JobGoes tokens.now)) }
     ensures few { IfOk result (λ j. (length j.decls ≤ length tokens.now) × (length j.blocks ≤ length tokens.now)) }
 {
-    let (_machine, next) = tokens.keyword(Keyword::Machine, 0)?;
-    let (name, next) = tokens.name(alloc, next)?;
-    let (_semicolon, next) = tokens.mark(Mark::Semicolon, next)?;
-    let (_stages, next) = tokens.keyword(Keyword::Stages, next)?;
-    let (count, next) = tokens.number(next)?;
-    let (_second, next) = tokens.mark(Mark::Semicolon, next)?;
-    let (decls, next) = declarations(alloc, tokens, next)?;
-    let (first, next) = stage(alloc, tokens, next)?;
-    let (blocks, next) = stages(alloc, tokens, first, next)?;
-    let (image, next) = image_section(alloc, tokens, next)?;
-    let (stalls, next) = stall_section(alloc, tokens, next)?;
-    let (inputs, next) = input_section(alloc, tokens, next)?;
-    let (_end, next) = tokens.keyword(Keyword::End, next)?;
-    tokens.nothing_follows(next)?;
-    Ok(Job {
+    let (job, next) = machine(alloc, tokens)?;
+    match tokens.nothing_follows(next) {
+        Ok(()) => Ok(job),
+        Err(fault) => {
+            drop(job);
+            Err(fault)
+        }
+    }
+}
+
+// The job with which the text begins, and the number of the token behind its `end`.
+fn machine(alloc: Global, tokens: &Tokens<'_>) -> Result<(Job, usize), Fault>
+    ensures goes { MatchResult result (λ x. Turns tokens.now (Nonterminal JOB) [] (job_value x.0 ∷ []) 0 x.1 0) (Ends tokens.now (Nonterminal JOB) [] 0) }
+    ensures few { IfOk result (λ x. (length x.0.decls ≤ length tokens.now) × (length x.0.blocks ≤ length tokens.now)) }
+{
+    let (name, next) = title(alloc, tokens)?;
+    let (stages, next) = depth(tokens, next)?;
+    let (decls, blocks, next) = parts(alloc, tokens, next)?;
+    let (image, stalls, inputs, next) = sections(alloc, tokens, next)?;
+    let job = Job {
         name,
-        stages: count,
+        stages,
         decls: List::new(decls),
         blocks: List::new(blocks),
         image,
         stalls,
         inputs,
-    })
+    };
+    Ok((job, next))
+}
+
+// `machine name;`
+fn title(alloc: Global, tokens: &Tokens<'_>) -> Result<(Named, usize), Fault>
+    ensures { MatchResult result (λ x. TurnsAll tokens.now title_symbols (named_value x.0 ∷ []) 0 x.1 1) (EndsAll tokens.now title_symbols 0) }
+{
+    let (_machine, next) = tokens.keyword(Keyword::Machine, 0)?;
+    let (name, next) = tokens.name(alloc, next)?;
+    let (_end, next) = tokens.mark(Mark::Semicolon, next)?;
+    Ok((name, next))
+}
+
+// `stages number;`
+fn depth(tokens: &Tokens<'_>, at: usize) -> Result<(Num, usize), Fault>
+    ensures { MatchResult result (λ x. TurnsAll tokens.now depth_symbols (number_value x.0 ∷ []) at x.1 1) (EndsAll tokens.now depth_symbols at) }
+{
+    let (_stages, next) = tokens.keyword(Keyword::Stages, at)?;
+    let (count, next) = tokens.number(next)?;
+    let (_end, next) = tokens.mark(Mark::Semicolon, next)?;
+    Ok((count, next))
+}
+
+// The declarations and the stages. Each takes a token at least.
+fn parts(
+    alloc: Global,
+    tokens: &Tokens<'_>,
+    at: usize,
+) -> Result<(Vec<Decl>, Vec<Block>, usize), Fault>
+    ensures { MatchResult result (λ x. TurnsAll tokens.now part_symbols (blocks_value x.1.items ∷ decls_value x.0.items ∷ []) at x.2 (length x.0.items + length x.1.items)) (EndsAll tokens.now part_symbols at) }
+{
+    let (decls, next) = declarations(alloc, tokens, at)?;
+    let (first, next) = stage(alloc, tokens, next)?;
+    let (blocks, next) = stages(alloc, tokens, first, next)?;
+    Ok((decls, blocks, next))
+}
+
+// The sections, and `end`.
+fn sections(
+    alloc: Global,
+    tokens: &Tokens<'_>,
+    at: usize,
+) -> Result<
+    (
+        Option<List<Image>>,
+        Option<List<Stalls>>,
+        Option<List<Inputs>>,
+        usize,
+    ),
+    Fault,
+>
+    ensures { MatchResult result (λ x. TurnsAll tokens.now section_symbols (perhaps_inputs x.2 ∷ perhaps_stalls x.1 ∷ perhaps_images x.0 ∷ []) at x.3 1) (EndsAll tokens.now section_symbols at) }
+{
+    let (image, next) = image_section(alloc, tokens, at)?;
+    let (stalls, next) = stall_section(alloc, tokens, next)?;
+    let (inputs, next) = input_section(alloc, tokens, next)?;
+    let (_end, next) = tokens.keyword(Keyword::End, next)?;
+    Ok((image, stalls, inputs, next))
 }
 
 /// The tree of a job, from the tokens that `lex` gives for the text.

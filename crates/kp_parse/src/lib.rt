@@ -4,6 +4,7 @@
 mod declaration;
 mod job;
 pub mod laws;
+mod pair;
 mod sections;
 mod stage;
 

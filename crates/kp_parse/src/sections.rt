@@ -1,11 +1,12 @@
 // The sections behind the stages.
-ghost use Rattle.std.specs.Prelude.{◌≡◌, ◌==◌, [], ◌∷◌, MatchResult, option_map, true, false};
+ghost use Rattle.std.specs.Prelude.{[], ◌∷◌, MatchResult};
 ghost use Rattle.kp_grammar.specs.Grammar.{Nonterminal};
 ghost use Rattle.kp_syntax.specs.Language.{perhaps_images, images as images_value, image as image_value, perhaps_stalls, stalls as stalls_value, stall as stall_value, perhaps_inputs, inputs as inputs_value, input as input_value, number as number_value, perhaps_number, literals as literals_value, IMAGE, WORDS, WORD, NUMBERED, LITS, STALLS, SPANS, SPAN, STEP, INPUTS, ENTRIES, ENTRY};
-ghost use Rattle.kp_syntax.specs.Reading.{class_at, Turns, Ends};
+ghost use Rattle.kp_syntax.specs.Reading.{Turns, Ends};
 ghost use Rattle.kp_syntax.specs.inner.Stretch.{TurnsAll, EndsAll};
-ghost use Rattle.kp_parse.specs.inner.Stretches.{cycle_symbols};
+ghost use Rattle.kp_parse.specs.inner.Stretches.{value_symbols, cycle_symbols};
 
+use crate::declaration::bracketed;
 use kp_ast::{Image, Inputs, Lit, Num, Stalls};
 use kp_base::List;
 use kp_lex::{Keyword, Mark};
@@ -49,10 +50,7 @@ fn image(alloc: Global, tokens: &Tokens<'_>, at: usize) -> Result<(Image, usize)
 {
     let (name, next) = tokens.name(alloc, at)?;
     let (address, next) = numbered(tokens, next)?;
-    let (_equals, next) = tokens.mark(Mark::Equals, next)?;
-    let (first, next) = tokens.literal(next)?;
-    let (all, next) = literals(alloc, tokens, first, next)?;
-    let (_end, next) = tokens.mark(Mark::Semicolon, next)?;
+    let (all, next) = values(alloc, tokens, next)?;
     let image = Image {
         name,
         address,
@@ -67,10 +65,19 @@ fn numbered(tokens: &Tokens<'_>, at: usize) -> Result<(Option<Num>, usize), Faul
     if !tokens.is_mark(Mark::OpenBracket, at) {
         return Ok((None, at));
     }
-    let (_open, next) = tokens.mark(Mark::OpenBracket, at)?;
-    let (number, next) = tokens.number(next)?;
-    let (_close, next) = tokens.mark(Mark::CloseBracket, next)?;
+    let (number, next) = bracketed(tokens, at)?;
     Ok((Some(number), next))
+}
+
+// `= value, value;`
+fn values(alloc: Global, tokens: &Tokens<'_>, at: usize) -> Result<(Vec<Lit>, usize), Fault>
+    ensures { MatchResult result (λ x. TurnsAll tokens.now value_symbols (literals_value x.0.items ∷ []) at x.1 1) (EndsAll tokens.now value_symbols at) }
+{
+    let (_equals, next) = tokens.mark(Mark::Equals, at)?;
+    let (first, next) = tokens.literal(next)?;
+    let (all, next) = literals(alloc, tokens, first, next)?;
+    let (_end, next) = tokens.mark(Mark::Semicolon, next)?;
+    Ok((all, next))
 }
 
 // The literals of which this is the first.

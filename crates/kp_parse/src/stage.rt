@@ -6,15 +6,23 @@ ghost use Rattle.kp_lex.specs.declared.token.Keyword.TheVariants as keywords;
 ghost use Rattle.kp_syntax.specs.Tokens.{keyword_class};
 ghost use Rattle.kp_syntax.specs.inner.Follow.{stmt_words};
 ghost use Rattle.kp_syntax.specs.inner.Stretch.{TurnsAll, EndsAll};
-ghost use Rattle.kp_parse.specs.inner.Stretches.{source_symbols};
+ghost use Rattle.kp_parse.specs.inner.Stretches.{source_symbols, bound_symbols};
 ghost use Rattle.kp_syntax.specs.Language.{blocks, block as block_value, stmts, stmt as stmt_value, named as named_value, expr as expr_value, perhaps_expr, STAGE, STAGES, STMTS, STMT, BINDING, ADDRESS, HEDGE, WHEN};
 ghost use Rattle.kp_syntax.specs.Reading.{class_at, Turns, Ends};
 
+use crate::pair::with;
 use kp_ast::{Block, Expr, Named, ReadStmt, Stmt, StmtKind};
 use kp_base::List;
 use kp_lex::{Keyword, Mark, TokenKind};
 use kp_syntax::{Fault, Tokens, whole_expression};
 use std::alloc::Global;
+
+// The terms of a read: its condition or its guess.
+#[derive(Drop)]
+struct Terms {
+    when: Option<Expr>,
+    guess: Option<Expr>,
+}
 
 /// The stages of which this is the first, and the number of the next token. Each but the first takes a token at least.
 pub(crate) fn stages(
@@ -95,13 +103,13 @@ fn read(alloc: Global, tokens: &Tokens<'_>, at: usize) -> Result<(Stmt, usize), 
     let (place, next) = tokens.keyword(Keyword::Read, at)?;
     let (name, next) = tokens.name(alloc, next)?;
     let (_equals, next) = tokens.mark(Mark::Equals, next)?;
-    let (target, address, when, guess, next) = source(alloc, tokens, next)?;
+    let (target, address, terms, next) = source(alloc, tokens, next)?;
     let read = ReadStmt {
         name,
         target,
         address,
-        when,
-        guess,
+        when: terms.when,
+        guess: terms.guess,
     };
     let kind = StmtKind::Read(read);
     Ok((Stmt { at: place, kind }, next))
@@ -112,14 +120,16 @@ fn source(
     alloc: Global,
     tokens: &Tokens<'_>,
     at: usize,
-) -> Result<(Named, Option<Expr>, Option<Expr>, Option<Expr>, usize), Fault>
-    ensures { MatchResult result (λ x. TurnsAll tokens.now source_symbols (perhaps_expr x.3 ∷ perhaps_expr x.2 ∷ perhaps_expr x.1 ∷ named_value x.0 ∷ []) at x.4 1) (EndsAll tokens.now source_symbols at) }
+) -> Result<(Named, Option<Expr>, Terms, usize), Fault>
+    ensures { MatchResult result (λ x. TurnsAll tokens.now source_symbols (perhaps_expr x.2.guess ∷ perhaps_expr x.2.when ∷ perhaps_expr x.1 ∷ named_value x.0 ∷ []) at x.3 1) (EndsAll tokens.now source_symbols at) }
 {
     let (target, next) = tokens.name(alloc, at)?;
     let (address, next) = address(alloc, tokens, next)?;
-    let (when, guess, next) = hedge(alloc, tokens, next)?;
-    let (_end, next) = tokens.mark(Mark::Semicolon, next)?;
-    Ok((target, address, when, guess, next))
+    let terms = hedge(alloc, tokens, next);
+    let (source, terms, next) = with((target, address), terms)?;
+    let end = tokens.mark(Mark::Semicolon, next);
+    let (all, _end, next) = with((source, terms), end)?;
+    Ok((all.0.0, all.0.1, all.1, next))
 }
 
 fn address(alloc: Global, tokens: &Tokens<'_>, at: usize) -> Result<(Option<Expr>, usize), Fault>
@@ -130,17 +140,14 @@ fn address(alloc: Global, tokens: &Tokens<'_>, at: usize) -> Result<(Option<Expr
     }
     let (_open, next) = tokens.mark(Mark::OpenBracket, at)?;
     let (inner, next) = whole_expression(alloc, tokens, next)?;
-    let (_close, next) = tokens.mark(Mark::CloseBracket, next)?;
-    Ok((Some(inner), next))
+    let close = tokens.mark(Mark::CloseBracket, next);
+    let (closed, _close, next) = with(inner, close)?;
+    Ok((Some(closed), next))
 }
 
 // The condition or the guess of a read, in this order.
-fn hedge(
-    alloc: Global,
-    tokens: &Tokens<'_>,
-    at: usize,
-) -> Result<(Option<Expr>, Option<Expr>, usize), Fault>
-    ensures { MatchResult result (λ x. Turns tokens.now (Nonterminal HEDGE) [] (perhaps_expr x.1 ∷ perhaps_expr x.0 ∷ []) at x.2 0) (Ends tokens.now (Nonterminal HEDGE) [] at) }
+fn hedge(alloc: Global, tokens: &Tokens<'_>, at: usize) -> Result<(Terms, usize), Fault>
+    ensures { MatchResult result (λ x. Turns tokens.now (Nonterminal HEDGE) [] (perhaps_expr x.0.guess ∷ perhaps_expr x.0.when ∷ []) at x.1 0) (Ends tokens.now (Nonterminal HEDGE) [] at) }
 {
     match tokens.kind(at) {
         Some(TokenKind::Keyword(Keyword::When)) => condition(alloc, tokens, at),
@@ -148,33 +155,37 @@ fn hedge(
     }
 }
 
-fn condition(
-    alloc: Global,
-    tokens: &Tokens<'_>,
-    at: usize,
-) -> Result<(Option<Expr>, Option<Expr>, usize), Fault>
+fn condition(alloc: Global, tokens: &Tokens<'_>, at: usize) -> Result<(Terms, usize), Fault>
     requires { true ≡ (class_at tokens.now at == keyword_class keywords.When) }
-    ensures { MatchResult result (λ x. Turns tokens.now (Nonterminal HEDGE) [] (perhaps_expr x.1 ∷ perhaps_expr x.0 ∷ []) at x.2 0) (Ends tokens.now (Nonterminal HEDGE) [] at) }
+    ensures { MatchResult result (λ x. Turns tokens.now (Nonterminal HEDGE) [] (perhaps_expr x.0.guess ∷ perhaps_expr x.0.when ∷ []) at x.1 0) (Ends tokens.now (Nonterminal HEDGE) [] at) }
 {
     let (_when, next) = tokens.keyword(Keyword::When, at)?;
     let (condition, next) = whole_expression(alloc, tokens, next)?;
-    Ok((Some(condition), None, next))
+    let terms = Terms {
+        when: Some(condition),
+        guess: None,
+    };
+    Ok((terms, next))
 }
 
-fn guess(
-    alloc: Global,
-    tokens: &Tokens<'_>,
-    at: usize,
-) -> Result<(Option<Expr>, Option<Expr>, usize), Fault>
+fn guess(alloc: Global, tokens: &Tokens<'_>, at: usize) -> Result<(Terms, usize), Fault>
     requires { false ≡ (class_at tokens.now at == keyword_class keywords.When) }
-    ensures { MatchResult result (λ x. Turns tokens.now (Nonterminal HEDGE) [] (perhaps_expr x.1 ∷ perhaps_expr x.0 ∷ []) at x.2 0) (Ends tokens.now (Nonterminal HEDGE) [] at) }
+    ensures { MatchResult result (λ x. Turns tokens.now (Nonterminal HEDGE) [] (perhaps_expr x.0.guess ∷ perhaps_expr x.0.when ∷ []) at x.1 0) (Ends tokens.now (Nonterminal HEDGE) [] at) }
 {
     if !tokens.is_keyword(Keyword::Guess, at) {
-        return Ok((None, None, at));
+        let terms = Terms {
+            when: None,
+            guess: None,
+        };
+        return Ok((terms, at));
     }
     let (_guess, next) = tokens.keyword(Keyword::Guess, at)?;
     let (guess, next) = whole_expression(alloc, tokens, next)?;
-    Ok((None, Some(guess), next))
+    let terms = Terms {
+        when: None,
+        guess: Some(guess),
+    };
+    Ok((terms, next))
 }
 
 fn when(alloc: Global, tokens: &Tokens<'_>, at: usize) -> Result<(Option<Expr>, usize), Fault>
@@ -198,14 +209,23 @@ fn binding(alloc: Global, tokens: &Tokens<'_>, at: usize) -> Result<(Named, Expr
     Ok((name, value, next))
 }
 
+// `name = value;`
+fn bound(alloc: Global, tokens: &Tokens<'_>, at: usize) -> Result<(Named, Expr, usize), Fault>
+    ensures { MatchResult result (λ x. TurnsAll tokens.now bound_symbols (expr_value x.1 ∷ named_value x.0 ∷ []) at x.2 1) (EndsAll tokens.now bound_symbols at) }
+{
+    let (name, value, next) = binding(alloc, tokens, at)?;
+    let end = tokens.mark(Mark::Semicolon, next);
+    let (bound, _end, next) = with((name, value), end)?;
+    Ok((bound.0, bound.1, next))
+}
+
 // `let name = value;`
 fn local(alloc: Global, tokens: &Tokens<'_>, at: usize) -> Result<(Stmt, usize), Fault>
     requires { true ≡ (class_at tokens.now at == keyword_class keywords.Let) }
     ensures { MatchResult result (λ x. Turns tokens.now (Nonterminal STMT) [] (stmt_value x.0 ∷ []) at x.1 1) (Ends tokens.now (Nonterminal STMT) [] at) }
 {
     let (place, next) = tokens.keyword(Keyword::Let, at)?;
-    let (name, value, next) = binding(alloc, tokens, next)?;
-    let (_end, next) = tokens.mark(Mark::Semicolon, next)?;
+    let (name, value, next) = bound(alloc, tokens, next)?;
     let kind = StmtKind::Let(name, value);
     Ok((Stmt { at: place, kind }, next))
 }
@@ -216,8 +236,7 @@ fn put(alloc: Global, tokens: &Tokens<'_>, at: usize) -> Result<(Stmt, usize), F
     ensures { MatchResult result (λ x. Turns tokens.now (Nonterminal STMT) [] (stmt_value x.0 ∷ []) at x.1 1) (Ends tokens.now (Nonterminal STMT) [] at) }
 {
     let (place, next) = tokens.keyword(Keyword::Put, at)?;
-    let (name, value, next) = binding(alloc, tokens, next)?;
-    let (_end, next) = tokens.mark(Mark::Semicolon, next)?;
+    let (name, value, next) = bound(alloc, tokens, next)?;
     let kind = StmtKind::Put(name, value);
     Ok((Stmt { at: place, kind }, next))
 }
@@ -229,9 +248,11 @@ fn set(alloc: Global, tokens: &Tokens<'_>, at: usize) -> Result<(Stmt, usize), F
 {
     let (place, next) = tokens.keyword(Keyword::Set, at)?;
     let (name, value, next) = binding(alloc, tokens, next)?;
-    let (condition, next) = when(alloc, tokens, next)?;
-    let (_end, next) = tokens.mark(Mark::Semicolon, next)?;
-    let kind = StmtKind::Set(name, value, condition);
+    let condition = when(alloc, tokens, next);
+    let (bound, condition, next) = with((name, value), condition)?;
+    let end = tokens.mark(Mark::Semicolon, next);
+    let (all, _end, next) = with((bound, condition), end)?;
+    let kind = StmtKind::Set(all.0.0, all.0.1, all.1);
     Ok((Stmt { at: place, kind }, next))
 }
 
@@ -244,8 +265,7 @@ fn aim(alloc: Global, tokens: &Tokens<'_>, at: usize) -> Result<(Stmt, usize), F
     ensures { MatchResult result (λ x. Turns tokens.now (Nonterminal STMT) [] (stmt_value x.0 ∷ []) at x.1 1) (Ends tokens.now (Nonterminal STMT) [] at) }
 {
     let (place, next) = tokens.keyword(Keyword::Aim, at)?;
-    let (name, value, next) = binding(alloc, tokens, next)?;
-    let (_end, next) = tokens.mark(Mark::Semicolon, next)?;
+    let (name, value, next) = bound(alloc, tokens, next)?;
     let kind = StmtKind::Aim(name, value);
     Ok((Stmt { at: place, kind }, next))
 }

@@ -1,9 +1,37 @@
 -- The stretches of alternatives that functions of their own read.
 use Rattle.std.specs.Prelude.{List, [], ◌∷◌}
-use Rattle.kp_grammar.specs.Grammar.{Nonterminal}
+use Rattle.kp_grammar.specs.Grammar.{Nonterminal, Action}
 use Rattle.kp_lex.specs.declared.token.Keyword.TheVariants as keywords
 use Rattle.kp_lex.specs.declared.token.Mark.TheVariants as marks
-use Rattle.kp_syntax.specs.Language.{Sym, word, mark, NAME, NUM, LIT, ADDRESS, HEDGE, STEP}
+use Rattle.kp_syntax.specs.Language.{Sym, word, mark, no_decls, no_blocks, one_block, no_params, one_param, no_literals, one_literal, NAME, NUM, LIT, DECLS, STAGE, STAGES, IMAGE, STALLS, INPUTS, PAR, PARS, WHOLE, BINDING, ADDRESS, HEDGE, LITS, STEP}
+
+-- `machine name;`
+abbrev pub title_symbols : List Sym
+title_symbols = word keywords.Machine ∷ NAME ∷ mark marks.Semicolon ∷ []
+
+-- `stages number;`
+abbrev pub depth_symbols : List Sym
+depth_symbols = word keywords.Stages ∷ NUM ∷ mark marks.Semicolon ∷ []
+
+-- the declarations and the stages
+abbrev pub part_symbols : List Sym
+part_symbols = Action no_decls ∷ Nonterminal DECLS ∷ Action no_blocks ∷ Nonterminal STAGE ∷ Action one_block ∷ Nonterminal STAGES ∷ []
+
+-- the sections, and `end`
+abbrev pub section_symbols : List Sym
+section_symbols = Nonterminal IMAGE ∷ Nonterminal STALLS ∷ Nonterminal INPUTS ∷ word keywords.End ∷ []
+
+-- `[number]`
+abbrev pub bracket_symbols : List Sym
+bracket_symbols = mark marks.OpenBracket ∷ NUM ∷ mark marks.CloseBracket ∷ []
+
+-- `(name : width, ..)`
+abbrev pub signature_symbols : List Sym
+signature_symbols = mark marks.OpenParenthesis ∷ Action no_params ∷ Nonterminal PAR ∷ Action one_param ∷ Nonterminal PARS ∷ mark marks.CloseParenthesis ∷ []
+
+-- `: width = body;`
+abbrev pub definition_symbols : List Sym
+definition_symbols = mark marks.Colon ∷ NUM ∷ mark marks.Equals ∷ Nonterminal WHOLE ∷ mark marks.Semicolon ∷ []
 
 -- `= start;`
 abbrev pub start_symbols : List Sym
@@ -16,6 +44,14 @@ stage_symbols = word keywords.At ∷ NUM ∷ mark marks.Semicolon ∷ []
 -- `target[address] when condition;`
 abbrev pub source_symbols : List Sym
 source_symbols = NAME ∷ Nonterminal ADDRESS ∷ Nonterminal HEDGE ∷ mark marks.Semicolon ∷ []
+
+-- `name = value;`
+abbrev pub bound_symbols : List Sym
+bound_symbols = Nonterminal BINDING ∷ mark marks.Semicolon ∷ []
+
+-- `= value, value;`
+abbrev pub value_symbols : List Sym
+value_symbols = mark marks.Equals ∷ Action no_literals ∷ LIT ∷ Action one_literal ∷ Nonterminal LITS ∷ mark marks.Semicolon ∷ []
 
 -- `from a to b step p;`
 abbrev pub cycle_symbols : List Sym

@@ -1,7 +1,7 @@
 use Rattle.std.proofs.Common.{arith}
 use Rattle.std.proofs.lemmas.Result.{err_from_is_err_and}
 use Rattle.kp_grammar.specs.Machine.{make}
-use Rattle.kp_syntax.proofs.Steps.{by_dropped, one, miss_end, end_end}
+use Rattle.kp_syntax.proofs.Steps.{by_dropped, one, miss_end, end_end, stretch_end}
 use Rattle.kp_syntax.proofs.Picks.{decl_2}
 use Rattle.kp_parse.proofs.declaration.file.Goals as goal
 
@@ -15,28 +15,18 @@ returns-in_err-typed c =
     let p = err_from_is_err_and c.from_residual-in_err-typed.result c.from_residual-in_err-typed.ensures.1 in
     rw (p.1, p.2) (end_end c.in_err-typed.ensures (λ o h s cs vs. decl_2 c.requires (by_dropped c.in_ok-_file.ensures (h _ _ _))))
 
-pub returns-in_err-_open : goal.returns-in_err-_open
-returns-in_err-_open c =
-    let p = err_from_is_err_and c.from_residual-in_err-_open.result c.from_residual-in_err-_open.ensures.1 in
-    rw (p.1, p.2) (miss_end c.in_err-_open.ensures (λ o h s cs vs. decl_2 c.requires (by_dropped c.in_ok-_file.ensures (c.in_ok-typed.ensures.leads _ _ _ _ (h _ _ _)))))
-
 pub returns-in_err-address : goal.returns-in_err-address
 returns-in_err-address c =
     let p = err_from_is_err_and c.from_residual-in_err-address.result c.from_residual-in_err-address.ensures.1 in
-    rw (p.1, p.2) (end_end c.in_err-address.ensures (λ o h s cs vs. decl_2 c.requires (by_dropped c.in_ok-_file.ensures (c.in_ok-typed.ensures.leads _ _ _ _ (by_dropped c.in_ok-_open.ensures (h _ _ _))))))
-
-pub returns-in_err-_close : goal.returns-in_err-_close
-returns-in_err-_close c =
-    let p = err_from_is_err_and c.from_residual-in_err-_close.result c.from_residual-in_err-_close.ensures.1 in
-    rw (p.1, p.2) (miss_end c.in_err-_close.ensures (λ o h s cs vs. decl_2 c.requires (by_dropped c.in_ok-_file.ensures (c.in_ok-typed.ensures.leads _ _ _ _ (by_dropped c.in_ok-_open.ensures (c.in_ok-address.ensures.leads _ _ _ _ (h _ _ _)))))))
+    rw (p.1, p.2) (stretch_end c.in_err-address.ensures (λ o h s cs vs. decl_2 c.requires (by_dropped c.in_ok-_file.ensures (c.in_ok-typed.ensures.leads _ _ _ _ (h _ _ _)))))
 
 pub returns-in_err-_end : goal.returns-in_err-_end
 returns-in_err-_end c =
     let p = err_from_is_err_and c.from_residual-in_err-_end.result c.from_residual-in_err-_end.ensures.1 in
-    rw (p.1, p.2) (miss_end c.in_err-_end.ensures (λ o h s cs vs. decl_2 c.requires (by_dropped c.in_ok-_file.ensures (c.in_ok-typed.ensures.leads _ _ _ _ (by_dropped c.in_ok-_open.ensures (c.in_ok-address.ensures.leads _ _ _ _ (by_dropped c.in_ok-_close.ensures (h _ _ _))))))))
+    rw (p.1, p.2) (miss_end c.in_err-_end.ensures (λ o h s cs vs. decl_2 c.requires (by_dropped c.in_ok-_file.ensures (c.in_ok-typed.ensures.leads _ _ _ _ (c.in_ok-address.ensures.leads _ _ _ _ (h _ _ _))))))
 
 pub returns : goal.returns
 returns c = record {
-  leads = λ s cs vs o h. decl_2 c.requires (by_dropped c.in_ok-_file.ensures (c.in_ok-typed.ensures.leads _ _ _ _ (by_dropped c.in_ok-_open.ensures (c.in_ok-address.ensures.leads _ _ _ _ (by_dropped c.in_ok-_close.ensures (by_dropped c.in_ok-_end.ensures (make (h))))))));
-  shrinks = omega (arith, one c.in_ok-_file.ensures, c.in_ok-typed.ensures.shrinks, one c.in_ok-_open.ensures, c.in_ok-address.ensures.shrinks, one c.in_ok-_close.ensures, one c.in_ok-_end.ensures);
+  leads = λ s cs vs o h. decl_2 c.requires (by_dropped c.in_ok-_file.ensures (c.in_ok-typed.ensures.leads _ _ _ _ (c.in_ok-address.ensures.leads _ _ _ _ (by_dropped c.in_ok-_end.ensures (make h)))));
+  shrinks = omega (arith, one c.in_ok-_file.ensures, c.in_ok-typed.ensures.shrinks, c.in_ok-address.ensures.shrinks, one c.in_ok-_end.ensures);
 }

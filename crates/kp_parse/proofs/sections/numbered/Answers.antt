@@ -1,7 +1,7 @@
 use Rattle.std.proofs.Common.{arith}
 use Rattle.std.proofs.lemmas.Result.{err_from_is_err_and}
 use Rattle.kp_grammar.specs.Machine.{make}
-use Rattle.kp_syntax.proofs.Steps.{by_dropped, one, miss_end, end_end}
+use Rattle.kp_syntax.proofs.Steps.{stretch_end}
 use Rattle.kp_syntax.proofs.Picks.{numbered_1, numbered_else}
 use Rattle.kp_parse.proofs.sections.numbered.Goals as goal
 
@@ -11,23 +11,13 @@ returns-then-not-is_mark c = record {
   shrinks = omega arith;
 }
 
-pub returns-in_err-_open : goal.returns-in_err-_open
-returns-in_err-_open c =
-    let p = err_from_is_err_and c.from_residual.result c.from_residual.ensures.1 in
-    rw (p.1, p.2) (miss_end c.in_err-_open.ensures (λ o h s cs vs. numbered_1 (cc c.is_mark.ensures) (h _ _ _)))
-
 pub returns-in_err-number : goal.returns-in_err-number
 returns-in_err-number c =
-    let p = err_from_is_err_and c.from_residual-in_err-number.result c.from_residual-in_err-number.ensures.1 in
-    rw (p.1, p.2) (end_end c.in_err-number.ensures (λ o h s cs vs. numbered_1 (cc c.is_mark.ensures) (by_dropped c.in_ok-_open.ensures (h _ _ _))))
-
-pub returns-in_err-_close : goal.returns-in_err-_close
-returns-in_err-_close c =
-    let p = err_from_is_err_and c.from_residual-in_err-_close.result c.from_residual-in_err-_close.ensures.1 in
-    rw (p.1, p.2) (miss_end c.in_err-_close.ensures (λ o h s cs vs. numbered_1 (cc c.is_mark.ensures) (by_dropped c.in_ok-_open.ensures (c.in_ok-number.ensures.leads _ _ _ _ (h _ _ _)))))
+    let p = err_from_is_err_and c.from_residual.result c.from_residual.ensures.1 in
+    rw (p.1, p.2) (stretch_end c.in_err-number.ensures (λ o h s cs vs. numbered_1 (cc c.is_mark.ensures) (h _ _ _)))
 
 pub returns : goal.returns
 returns c = record {
-  leads = λ s cs vs o h. numbered_1 (cc c.is_mark.ensures) (by_dropped c.in_ok-_open.ensures (c.in_ok-number.ensures.leads _ _ _ _ (by_dropped c.in_ok-_close.ensures (make (h)))));
-  shrinks = omega (arith, one c.in_ok-_open.ensures, c.in_ok-number.ensures.shrinks, one c.in_ok-_close.ensures);
+  leads = λ s cs vs o h. numbered_1 (cc c.is_mark.ensures) (c.in_ok-number.ensures.leads _ _ _ _ (make h));
+  shrinks = omega (arith, c.in_ok-number.ensures.shrinks);
 }

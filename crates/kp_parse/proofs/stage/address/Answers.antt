@@ -21,13 +21,13 @@ returns-in_err-inner c =
     let p = err_from_is_err_and c.from_residual-in_err-inner.result c.from_residual-in_err-inner.ensures.1 in
     rw (p.1, p.2) (end_end c.in_err-inner.ensures (λ o h s cs vs. address_1 (cc c.is_mark.ensures) (by_dropped c.in_ok-_open.ensures (h _ _ _))))
 
-pub returns-in_err-_close : goal.returns-in_err-_close
-returns-in_err-_close c =
-    let p = err_from_is_err_and c.from_residual-in_err-_close.result c.from_residual-in_err-_close.ensures.1 in
-    rw (p.1, p.2) (miss_end c.in_err-_close.ensures (λ o h s cs vs. address_1 (cc c.is_mark.ensures) (by_dropped c.in_ok-_open.ensures (c.in_ok-inner.ensures.leads _ _ _ _ (h _ _ _)))))
+pub returns-in_err-closed : goal.returns-in_err-closed
+returns-in_err-closed c =
+    let p = err_from_is_err_and c.from_residual-in_err-closed.result c.from_residual-in_err-closed.ensures.1 in
+    rw (p.1, p.2) (miss_end (rw c.in_err-closed.ensures at c.mark-close.ensures) (λ o h s cs vs. address_1 (cc c.is_mark.ensures) (by_dropped c.in_ok-_open.ensures (c.in_ok-inner.ensures.leads _ _ _ _ (h _ _ _)))))
 
 pub returns : goal.returns
 returns c = record {
-  leads = λ s cs vs o h. address_1 (cc c.is_mark.ensures) (by_dropped c.in_ok-_open.ensures (c.in_ok-inner.ensures.leads _ _ _ _ (by_dropped c.in_ok-_close.ensures (make (h)))));
-  shrinks = omega (arith, one c.in_ok-_open.ensures, c.in_ok-inner.ensures.shrinks, one c.in_ok-_close.ensures);
+  leads = λ s cs vs o h. address_1 (cc c.is_mark.ensures) (by_dropped c.in_ok-_open.ensures (c.in_ok-inner.ensures.leads _ _ _ _ (by_dropped (rw c.in_ok-closed.ensures.1 at c.mark-close.ensures) (make (rw c.in_ok-closed.ensures.0 at h)))));
+  shrinks = omega (arith, one c.in_ok-_open.ensures, c.in_ok-inner.ensures.shrinks, one (rw c.in_ok-closed.ensures.1 at c.mark-close.ensures));
 }

@@ -1,7 +1,7 @@
 use Rattle.std.proofs.Common.{arith}
 use Rattle.std.proofs.lemmas.Result.{err_from_is_err_and}
 use Rattle.kp_grammar.specs.Machine.{make}
-use Rattle.kp_syntax.proofs.Steps.{by_dropped, by_placed, one, miss_end, end_end}
+use Rattle.kp_syntax.proofs.Steps.{by_placed, one, miss_end, stretch_end}
 use Rattle.kp_syntax.proofs.Picks.{stmt_2}
 use Rattle.kp_parse.proofs.stage.local.Goals as goal
 
@@ -13,15 +13,10 @@ returns-in_err-place c =
 pub returns-in_err-name : goal.returns-in_err-name
 returns-in_err-name c =
     let p = err_from_is_err_and c.from_residual-in_err-name.result c.from_residual-in_err-name.ensures.1 in
-    rw (p.1, p.2) (end_end c.in_err-name.ensures (λ o h s cs vs. stmt_2 c.requires (by_placed c.in_ok-place.ensures (h _ _ _))))
-
-pub returns-in_err-_end : goal.returns-in_err-_end
-returns-in_err-_end c =
-    let p = err_from_is_err_and c.from_residual-in_err-_end.result c.from_residual-in_err-_end.ensures.1 in
-    rw (p.1, p.2) (miss_end c.in_err-_end.ensures (λ o h s cs vs. stmt_2 c.requires (by_placed c.in_ok-place.ensures (c.in_ok-name.ensures.leads _ _ _ _ (h _ _ _)))))
+    rw (p.1, p.2) (stretch_end c.in_err-name.ensures (λ o h s cs vs. stmt_2 c.requires (by_placed c.in_ok-place.ensures (h _ _ _))))
 
 pub returns : goal.returns
 returns c = record {
-  leads = λ s cs vs o h. stmt_2 c.requires (by_placed c.in_ok-place.ensures (c.in_ok-name.ensures.leads _ _ _ _ (by_dropped c.in_ok-_end.ensures (make (h)))));
-  shrinks = omega (arith, one c.in_ok-place.ensures, c.in_ok-name.ensures.shrinks, one c.in_ok-_end.ensures);
+  leads = λ s cs vs o h. stmt_2 c.requires (by_placed c.in_ok-place.ensures (c.in_ok-name.ensures.leads _ _ _ _ (make h)));
+  shrinks = omega (arith, one c.in_ok-place.ensures, c.in_ok-name.ensures.shrinks);
 }

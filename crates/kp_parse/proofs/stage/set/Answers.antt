@@ -15,18 +15,18 @@ returns-in_err-name c =
     let p = err_from_is_err_and c.from_residual-in_err-name.result c.from_residual-in_err-name.ensures.1 in
     rw (p.1, p.2) (end_end c.in_err-name.ensures (λ o h s cs vs. stmt_4 c.requires (by_placed c.in_ok-place.ensures (h _ _ _))))
 
-pub returns-in_err-condition : goal.returns-in_err-condition
-returns-in_err-condition c =
-    let p = err_from_is_err_and c.from_residual-in_err-condition.result c.from_residual-in_err-condition.ensures.1 in
-    rw (p.1, p.2) (end_end c.in_err-condition.ensures (λ o h s cs vs. stmt_4 c.requires (by_placed c.in_ok-place.ensures (c.in_ok-name.ensures.leads _ _ _ _ (h _ _ _)))))
+pub returns-in_err-bound : goal.returns-in_err-bound
+returns-in_err-bound c =
+    let p = err_from_is_err_and c.from_residual-in_err-bound.result c.from_residual-in_err-bound.ensures.1 in
+    rw (p.1, p.2) (end_end (rw c.in_err-bound.ensures at c.when-condition.ensures) (λ o h s cs vs. stmt_4 c.requires (by_placed c.in_ok-place.ensures (c.in_ok-name.ensures.leads _ _ _ _ (h _ _ _)))))
 
-pub returns-in_err-_end : goal.returns-in_err-_end
-returns-in_err-_end c =
-    let p = err_from_is_err_and c.from_residual-in_err-_end.result c.from_residual-in_err-_end.ensures.1 in
-    rw (p.1, p.2) (miss_end c.in_err-_end.ensures (λ o h s cs vs. stmt_4 c.requires (by_placed c.in_ok-place.ensures (c.in_ok-name.ensures.leads _ _ _ _ (c.in_ok-condition.ensures.leads _ _ _ _ (h _ _ _))))))
+pub returns-in_err-all : goal.returns-in_err-all
+returns-in_err-all c =
+    let p = err_from_is_err_and c.from_residual-in_err-all.result c.from_residual-in_err-all.ensures.1 in
+    rw (p.1, p.2) (miss_end (rw c.in_err-all.ensures at c.mark-end.ensures) (λ o h s cs vs. stmt_4 c.requires (by_placed c.in_ok-place.ensures (c.in_ok-name.ensures.leads _ _ _ _ ((rw c.in_ok-bound.ensures.1 at c.when-condition.ensures).leads _ _ _ _ (h _ _ _))))))
 
 pub returns : goal.returns
 returns c = record {
-  leads = λ s cs vs o h. stmt_4 c.requires (by_placed c.in_ok-place.ensures (c.in_ok-name.ensures.leads _ _ _ _ (c.in_ok-condition.ensures.leads _ _ _ _ (by_dropped c.in_ok-_end.ensures (make (h))))));
-  shrinks = omega (arith, one c.in_ok-place.ensures, c.in_ok-name.ensures.shrinks, c.in_ok-condition.ensures.shrinks, one c.in_ok-_end.ensures);
+  leads = λ s cs vs o h. stmt_4 c.requires (by_placed c.in_ok-place.ensures (c.in_ok-name.ensures.leads _ _ _ _ ((rw c.in_ok-bound.ensures.1 at c.when-condition.ensures).leads _ _ _ _ (by_dropped (rw c.in_ok-all.ensures.1 at c.mark-end.ensures) (make (rw (c.in_ok-all.ensures.0, c.in_ok-bound.ensures.0) at h))))));
+  shrinks = omega (arith, one c.in_ok-place.ensures, c.in_ok-name.ensures.shrinks, (rw c.in_ok-bound.ensures.1 at c.when-condition.ensures).shrinks, one (rw c.in_ok-all.ensures.1 at c.mark-end.ensures));
 }
