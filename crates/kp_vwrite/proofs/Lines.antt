@@ -1,5 +1,5 @@
 -- One more line of each list of lines.
-use Rattle.std.proofs.Common.{◌≡◌, ◌∙◌, ℕ, ◌+◌, ◌-◌, ◌^◌, ◌≤◌, List, [], ◌∷◌, ◌++◌, length, get_or, take, drop, arith, refl, sym, ap, append_assoc, append-nil}
+use Rattle.std.proofs.Common.{◌≡◌, ◌∙◌, ℕ, ◌+◌, ◌-◌, ◌^◌, ◌<◌, ◌≤◌, List, [], ◌∷◌, ◌++◌, length, get_or, take, drop, arith, refl, sym, ap, append_assoc, append-nil}
 use Rattle.std.specs.Prelude.{codes, decimal, Option, Some, None}
 use Rattle.kp_bits.specs.Word.{word}
 use Rattle.kp_bits.specs.Spelling.{spelling}
@@ -12,14 +12,14 @@ use Rattle.kp_net.specs.declared.netlist.NetFile.{NetFile}
 use Rattle.kp_net.specs.declared.netlist.Parts.{Parts}
 use Rattle.std.proofs.lemmas.List.{take_all}
 use Rattle.kp_vlog.specs.Canon.{text_of, right_side, more_parts, wire, sample_ports, reg_lines, file_lines, node_lines, start_lines, word_line, word_lines, fill_lines, update_lines, port_line, port_lines, reset_lines}
-use Rattle.kp_vwrite.specs.inner.Texts.{sample_text, samples_text, reg_text, regs_text, file_text, files_text, front_text, right_text, semicolon_text, node_text, nodes_text, part_text, parts_text, first_text, brace_text, joined_text, start_text, starts_text, for_text, count_text, next_text, fill_text, word_text, words_text, contents_text, fills_text, update_text, updates_text, enable_text, store_text, write_text, port_text, ports_text, back_to_text, resets_text}
+use Rattle.kp_vwrite.specs.inner.Texts.{fixed, ranged_text, sample_text, samples_text, reg_text, regs_text, file_text, files_text, front_text, right_text, node_text, nodes_text, wire_text, part_text, parts_text, joined_text, given_text, value_text, values_text, fill_text, word_text, words_text, contents_text, fills_text, update_text, updates_text, enable_text, store_text, write_text, port_text, ports_text}
 
 pub text_append : (ps qs : List (List ℕ)) → text_of (ps ++ qs) ≡ text_of ps ++ text_of qs
 text_append [] qs = refl
 text_append (p ∷ ps) qs = ap (λ t. p ++ t) (text_append ps qs) ∙ sym (append_assoc p (text_of ps) (text_of qs))
 
 pub sample_more : (s : Port) (ss : List Port) → samples_text (s ∷ ss) ≡ sample_text s ++ samples_text ss
-unfolding samples_text sample_text
+unfolding samples_text ranged_text
 sample_more s ss = text_append (codes "input wire [" ∷ decimal (s.width - 1) ∷ codes ":0] " ∷ s.name ∷ codes ", " ∷ []) (sample_ports ss)
 
 pub sample_none : samples_text [] ≡ []
@@ -27,7 +27,7 @@ unfolding samples_text
 sample_none = refl
 
 pub reg_more : (r : NetReg) (rs : List NetReg) → regs_text (r ∷ rs) ≡ reg_text r ++ regs_text rs
-unfolding regs_text reg_text
+unfolding regs_text ranged_text
 reg_more r rs = text_append (codes "  reg [" ∷ decimal (r.start.width - 1) ∷ codes ":0] " ∷ r.name ∷ codes ";\n" ∷ []) (reg_lines rs)
 
 pub reg_none : regs_text [] ≡ []
@@ -44,7 +44,7 @@ unfolding files_text
 file_none = refl
 
 pub node_more : (p : Parts) (j : ℕ) (n : Node) (ns : List Node) → nodes_text p j (n ∷ ns) ≡ node_text p j n ++ nodes_text p (j + 1) ns
-unfolding nodes_text node_text front_text right_text semicolon_text
+unfolding nodes_text node_text front_text right_text fixed
 node_more p j n ns =
     ap (λ t. codes "  wire [" ++ (decimal (n.width - 1) ++ (codes ":0] n" ++ (decimal j ++ (codes ";\n  assign n" ++ (decimal j ++ (codes " = " ++ t)))))))
     (text_append (right_side p n.width n.kind) (codes ";\n" ∷ node_lines p (j + 1) ns))
@@ -62,33 +62,54 @@ pub part_none : parts_text [] ≡ []
 unfolding parts_text
 part_none = refl
 
-parts_are : (parts : List NodeId) → text_of (more_parts parts) ≡ parts_text parts ++ brace_text
-unfolding parts_text part_text brace_text
+parts_are : (parts : List NodeId) → text_of (more_parts parts) ≡ parts_text parts ++ fixed (codes "}")
+unfolding parts_text wire_text fixed
 parts_are [] = refl
 parts_are (a ∷ parts) =
     ap (λ t. codes ", " ++ (wire a ++ t)) (parts_are parts)
-    ∙ ap (λ t. codes ", n" ++ (t ++ (parts_text parts ++ brace_text))) (sym (append-nil (decimal a.0)))
-    ∙ sym (append_assoc (part_text a) (parts_text parts) brace_text)
+    ∙ ap (λ t. codes ", n" ++ (t ++ (parts_text parts ++ codes "}"))) (sym (append-nil (decimal a.0)))
+    ∙ sym (append_assoc (part_text a) (parts_text parts) (codes "}"))
 
-pub joined_is : (a : NodeId) (parts : List NodeId) → joined_text (a ∷ parts) ≡ first_text a ++ (parts_text parts ++ brace_text)
-unfolding joined_text first_text
+pub joined_is : (a : NodeId) (parts : List NodeId) → joined_text (a ∷ parts) ≡ wire_text (codes "{n") a ++ (parts_text parts ++ fixed (codes "}"))
+unfolding joined_text wire_text fixed
 joined_is a parts =
-    ap (λ t. codes "{" ++ (wire a ++ t)) (parts_are parts) ∙ ap (λ t. codes "{n" ++ (t ++ (parts_text parts ++ brace_text))) (sym (append-nil (decimal a.0)))
+    ap (λ t. codes "{" ++ (wire a ++ t)) (parts_are parts) ∙ ap (λ t. codes "{n" ++ (t ++ (parts_text parts ++ codes "}"))) (sym (append-nil (decimal a.0)))
 
 abbrev pub no_id : NodeId
 no_id = record { 0 = 0 }
 
-pub joined_at : (parts : List NodeId) → 1 ≤ length parts → joined_text parts ≡ first_text (get_or parts 0 no_id) ++ (parts_text (take (length parts - 1) (drop 1 parts)) ++ brace_text)
+pub joined_at : (parts : List NodeId) → 1 ≤ length parts
+    → joined_text parts ≡ wire_text (codes "{n") (get_or parts 0 no_id) ++ (parts_text (take (length parts - 1) (drop 1 parts)) ++ fixed (codes "}"))
 joined_at [] h = absurd (omega arith)
-joined_at (a ∷ parts) h = joined_is a parts ∙ ap (λ (t : List NodeId). first_text a ++ (parts_text t ++ brace_text)) (sym (take_all (length (a ∷ parts) - 1) parts (omega arith)))
+joined_at (a ∷ parts) h =
+    joined_is a parts ∙ ap (λ (t : List NodeId). wire_text (codes "{n") a ++ (parts_text t ++ fixed (codes "}"))) (sym (take_all (length (a ∷ parts) - 1) parts (omega arith)))
 
-pub start_more : (r : NetReg) (rs : List NetReg) → starts_text (r ∷ rs) ≡ start_text r ++ starts_text rs
-unfolding starts_text start_text
-start_more r rs = text_append (codes "    " ∷ r.name ∷ codes " = " ∷ spelling r.start ∷ codes ";\n" ∷ []) (start_lines rs)
+pub joined_none : (parts : List NodeId) → length parts < 1 → joined_text parts ≡ fixed (codes "{}")
+unfolding joined_text fixed
+joined_none [] h = refl
+joined_none (a ∷ parts) h = absurd (omega arith)
 
-pub start_none : starts_text [] ≡ []
-unfolding starts_text
-start_none = refl
+pub value_more : (margin sign : List ℕ) (r : NetReg) (rs : List NetReg) → values_text margin sign (r ∷ rs) ≡ value_text margin sign r ++ values_text margin sign rs
+unfolding values_text
+value_more margin sign r rs = refl
+
+pub value_none : (margin sign : List ℕ) → values_text margin sign [] ≡ []
+unfolding values_text
+value_none margin sign = refl
+
+pub starts_are : (rs : List NetReg) → text_of (start_lines rs) ≡ values_text (codes "    ") (codes " = ") rs
+unfolding values_text value_text
+starts_are [] = refl
+starts_are (r ∷ rs) =
+    text_append (codes "    " ∷ r.name ∷ codes " = " ∷ spelling r.start ∷ codes ";\n" ∷ []) (start_lines rs)
+    ∙ ap (λ t. value_text (codes "    ") (codes " = ") r ++ t) (starts_are rs)
+
+pub resets_are : (rs : List NetReg) → text_of (reset_lines rs) ≡ values_text (codes "      ") (codes " <= ") rs
+unfolding values_text value_text
+resets_are [] = refl
+resets_are (r ∷ rs) =
+    text_append (codes "      " ∷ r.name ∷ codes " <= " ∷ spelling r.start ∷ codes ";\n" ∷ []) (reset_lines rs)
+    ∙ ap (λ t. value_text (codes "      ") (codes " <= ") r ++ t) (resets_are rs)
 
 pub word_more : (name : List ℕ) (width a v : ℕ) (vs : List ℕ) → words_text name width a (v ∷ vs) ≡ word_text name width a v ++ words_text name width (a + 1) vs
 unfolding words_text word_text
@@ -99,7 +120,7 @@ unfolding words_text
 word_none name width a = refl
 
 pub fill_more : (f : NetFile) (fs : List NetFile) → fills_text (f ∷ fs) ≡ contents_text f ++ fills_text fs
-unfolding fills_text contents_text count_text next_text for_text fill_text words_text
+unfolding fills_text contents_text fill_text words_text
 fill_more f fs =
     ap (λ t. codes "    for (i = 0; i < " ++ (decimal (2 ^ f.address_width) ++ (codes "; i = i + 1) " ++ (f.name ++ (codes "[i] = " ++ (spelling (word f.width 0) ++ (codes ";\n" ++ t)))))))
     (text_append (word_lines f.name f.width 0 f.words) (fill_lines fs))
@@ -110,7 +131,7 @@ unfolding fills_text
 fill_none = refl
 
 pub update_more : (margin : List ℕ) (r : NetReg) (rs : List NetReg) → updates_text margin (r ∷ rs) ≡ update_text margin r ++ updates_text margin rs
-unfolding updates_text update_text
+unfolding updates_text given_text
 update_more margin r rs = text_append (margin ∷ r.name ∷ codes " <= " ∷ wire r.next ∷ codes ";\n" ∷ []) (update_lines margin rs)
 
 pub update_none : (margin : List ℕ) → updates_text margin [] ≡ []
@@ -129,11 +150,3 @@ port_more margin f fs = text_append (port_line margin f.name f.port) (port_lines
 pub port_none : (margin : List ℕ) → ports_text margin [] ≡ []
 unfolding ports_text
 port_none margin = refl
-
-pub reset_more : (r : NetReg) (rs : List NetReg) → resets_text (r ∷ rs) ≡ back_to_text r ++ resets_text rs
-unfolding resets_text back_to_text
-reset_more r rs = text_append (codes "      " ∷ r.name ∷ codes " <= " ∷ spelling r.start ∷ codes ";\n" ∷ []) (reset_lines rs)
-
-pub reset_none : resets_text [] ≡ []
-unfolding resets_text
-reset_none = refl

@@ -6,47 +6,52 @@ use Rattle.kp_net.specs.declared.netlist.Parts.{Parts}
 use Rattle.kp_net.specs.Widths.{wide}
 use Rattle.kp_net.specs.Netlist.{Net}
 use Rattle.kp_vlog.specs.Canon.{canon, text_of, header, reset_port, sample_ports, out_ports, reg_lines, file_lines, integer_line, node_lines, out_line, start_lines, fill_lines, update_lines, port_lines, change_lines, reset_lines, body_lines}
-use Rattle.kp_vwrite.specs.inner.Texts.{name_text, rst_text, reset_text, ext_text, samples_text, output_wire_text, output_text, to_full_text, to_ue_text, to_back_text, full_text, ue_text, back_text, module_text, header_text, cells_text, fronts_text, outs_text, state_text, raised_text, regs_text, files_text, integer_text, nodes_text, out_text, initial_text, starts_text, fills_text, updates_text, ports_text, resets_text, if_text, else_text, end_text, always_text, endmodule_text, changes_text, body_text, whole_text}
-use Rattle.kp_vwrite.proofs.Lines.{text_append}
+use Rattle.kp_vwrite.specs.inner.Texts.{fixed, ranged_text, reset_text, name_text, header_text, cells_text, fronts_text, outs_text, state_text, samples_text, regs_text, files_text, integer_text, nodes_text, given_text, values_text, fills_text, updates_text, ports_text, changes_text, body_text, whole_text}
+use Rattle.kp_vwrite.proofs.Lines.{text_append, starts_are, resets_are}
 
-reset_is : (reset : Bool) → text_of (reset_port reset) ≡ reset_text reset
-unfolding rst_text
-reset_is true = refl
-reset_is false = refl
+header_split : (m n c r i x k : List ℕ) (s o : List (List ℕ)) → m ++ (n ++ (c ++ (r ++ (i ++ (x ++ (k ++ (text_of s ++ text_of o)))))))
+    ≡ (m ++ (n ++ (c ++ (r ++ [])))) ++ ((i ++ (x ++ (k ++ []))) ++ (text_of s ++ text_of o))
+header_split m n c r i x k s o = simp (append_assoc, append-nil)
 
-outs_split : (o df du db tf tu tb : List ℕ) → o ++ (df ++ ((tf ++ o) ++ (du ++ ((tu ++ o) ++ (db ++ (tb ++ []))))))
-    ≡ ((o ++ (df ++ [])) ++ tf) ++ (((o ++ (du ++ [])) ++ tu) ++ ((o ++ (db ++ [])) ++ tb))
-outs_split o df du db tf tu tb = simp (append_assoc, append-nil)
+reset_is : (reset : Bool) (rest : List (List ℕ)) → text_of (reset_port reset ++ rest) ≡ reset_text reset ++ text_of rest
+reset_is true rest = refl
+reset_is false rest = refl
 
-outs_are : (full ue back : ℕ) → text_of (out_ports full ue back) ≡ full_text full ++ (ue_text ue ++ back_text back)
-unfolding output_text output_wire_text to_full_text to_ue_text to_back_text
+outs_split : (o n1 n2 n3 e1 e2 e3 : List ℕ) → o ++ (n1 ++ ((e1 ++ o) ++ (n2 ++ ((e2 ++ o) ++ (n3 ++ (e3 ++ []))))))
+    ≡ (o ++ (n1 ++ (e1 ++ []))) ++ ((o ++ (n2 ++ (e2 ++ []))) ++ (o ++ (n3 ++ (e3 ++ []))))
+outs_split o n1 n2 n3 e1 e2 e3 = simp (append_assoc, append-nil)
+
+outs_are : (full ue back : ℕ) → text_of (out_ports full ue back)
+    ≡ ranged_text (codes "output wire [") full (codes "full") (codes ", ")
+    ++ (ranged_text (codes "output wire [") ue (codes "ue") (codes ", ") ++ ranged_text (codes "output wire [") back (codes "back") (codes ");\n"))
+unfolding ranged_text
 outs_are full ue back =
     outs_split (codes "output wire [") (decimal (full - 1)) (decimal (ue - 1)) (decimal (back - 1)) (codes ":0] full, ") (codes ":0] ue, ") (codes ":0] back);\n")
 
-header_split : (a r e s o : List (List ℕ)) → text_of (a ++ (r ++ (e ++ (s ++ o)))) ≡ (text_of a ++ (text_of r ++ text_of e)) ++ (text_of s ++ text_of o)
-header_split a r e s o = simp (text_append, append_assoc, append-nil)
-
 header_is : (ns : List Node) (p : Parts) → text_of (header ns p) ≡ header_text ns p
-unfolding name_text ext_text samples_text
+unfolding name_text ranged_text samples_text
 header_is ns p =
-    header_split (codes "module " ∷ p.name ∷ codes "(input wire clk, " ∷ []) (reset_port p.reset) (codes "input wire [" ∷ decimal (p.ext - 1) ∷ codes ":0] ext, " ∷ []) (sample_ports p.samples)
-    (out_ports (wide ns p.full.0) (wide ns p.ue.0) (wide ns p.back.0))
-    ∙ ap (λ t. (name_text p.name ++ (t ++ ext_text p.ext)) ++ (samples_text p.samples ++ text_of (out_ports (wide ns p.full.0) (wide ns p.ue.0) (wide ns p.back.0)))) (reset_is p.reset)
-    ∙ ap (λ t. module_text p ++ (samples_text p.samples ++ t)) (outs_are (wide ns p.full.0) (wide ns p.ue.0) (wide ns p.back.0))
+    let outs = out_ports (wide ns p.full.0) (wide ns p.ue.0) (wide ns p.back.0) in
+    ap (λ t. codes "module " ++ (p.name ++ (codes "(input wire clk, " ++ t))) (reset_is p.reset (codes "input wire [" ∷ decimal (p.ext - 1) ∷ codes ":0] ext, " ∷ (sample_ports p.samples ++ outs)))
+    ∙ ap (λ t. codes "module " ++ (p.name ++ (codes "(input wire clk, " ++ (reset_text p.reset ++ (codes "input wire [" ++ (decimal (p.ext - 1) ++ (codes ":0] ext, " ++ t)))))))
+    (text_append (sample_ports p.samples) outs)
+    ∙ header_split (codes "module ") p.name (codes "(input wire clk, ") (reset_text p.reset) (codes "input wire [") (decimal (p.ext - 1)) (codes ":0] ext, ") (sample_ports p.samples) outs
+    ∙ ap (λ t. name_text p.name p.reset ++ (ranged_text (codes "input wire [") p.ext (codes "ext") (codes ", ") ++ (samples_text p.samples ++ t))) (outs_are (wide ns p.full.0) (wide ns p.ue.0) (wide ns p.back.0))
 
 changes_are : (margin : List ℕ) (p : Parts) → text_of (change_lines margin p) ≡ changes_text margin p
 unfolding updates_text ports_text
 changes_are margin p = text_append (update_lines margin p.regs) (port_lines margin p.files)
 
-body_split : (r c : List (List ℕ)) (x y z : List ℕ) → text_of (x ∷ (r ++ (y ∷ (c ++ (z ∷ []))))) ≡ (x ++ (text_of r ++ y)) ++ (text_of c ++ z)
-body_split r c x y z = simp (text_append, append_assoc, append-nil)
+body_split : (r c : List (List ℕ)) (x y z : List ℕ) → text_of (x ∷ (r ++ (y ∷ (c ++ (z ∷ []))))) ≡ x ++ (text_of r ++ (y ++ (text_of c ++ z)))
+body_split r c x y z = simp (text_append, append-nil)
 
 body_is : (reset : Bool) (p : Parts) → text_of (body_lines reset p) ≡ body_text reset p
-unfolding resets_text if_text else_text end_text
+unfolding fixed
 body_is false p = changes_are (codes "    ") p
 body_is true p =
     body_split (reset_lines p.regs) (change_lines (codes "      ") p) (codes "    if (rst) begin\n") (codes "    end else begin\n") (codes "    end\n")
-    ∙ ap (λ t. raised_text p ++ (t ++ end_text)) (changes_are (codes "      ") p)
+    ∙ ap (λ t. codes "    if (rst) begin\n" ++ (t ++ (codes "    end else begin\n" ++ (text_of (change_lines (codes "      ") p) ++ codes "    end\n")))) (resets_are p.regs)
+    ∙ ap (λ t. codes "    if (rst) begin\n" ++ (values_text (codes "      ") (codes " <= ") p.regs ++ (codes "    end else begin\n" ++ (t ++ codes "    end\n")))) (changes_are (codes "      ") p)
 
 -- the lists of pieces, each by itself
 split : (h r f i n o1 o2 o3 s w b : List (List ℕ)) (x y z : List ℕ) → text_of (h ++ (r ++ (f ++ (i ++ (n ++ (o1 ++ (o2 ++ (o3 ++ (x ∷ (s ++ (w ++ (y ∷ (b ++ (z ∷ []))))))))))))))
@@ -54,10 +59,11 @@ split : (h r f i n o1 o2 o3 s w b : List (List ℕ)) (x y z : List ℕ) → text
 split h r f i n o1 o2 o3 s w b x y z = simp (text_append, append_assoc, append-nil)
 
 pub canon_is : (net : Net) → canon net ≡ whole_text net
-unfolding canon regs_text files_text integer_text nodes_text out_text initial_text starts_text fills_text always_text endmodule_text
+unfolding canon regs_text files_text integer_text nodes_text given_text fills_text fixed
 canon_is net =
     let p = net.parts in
     split (header net.nodes p) (reg_lines p.regs) (file_lines p.files) (integer_line p.files) (node_lines p 0 net.nodes) (out_line (codes "full") p.full) (out_line (codes "ue") p.ue) (out_line (codes "back") p.back)
     (start_lines p.regs) (fill_lines p.files) (body_lines p.reset p) (codes "  initial begin\n") (codes "  end\n  always @(posedge clk) begin\n") (codes "  end\nendmodule\n")
-    ∙ ap (λ t. (t ++ (cells_text p ++ nodes_text p 0 net.nodes)) ++ (outs_text p ++ (state_text p ++ (always_text ++ (text_of (body_lines p.reset p) ++ endmodule_text))))) (header_is net.nodes p)
-    ∙ ap (λ t. fronts_text net ++ (outs_text p ++ (state_text p ++ (always_text ++ (t ++ endmodule_text))))) (body_is p.reset p)
+    ∙ ap (λ t. (t ++ (cells_text p ++ nodes_text p 0 net.nodes)) ++ (outs_text p ++ ((codes "  initial begin\n" ++ (text_of (start_lines p.regs) ++ fills_text p.files)) ++ (codes "  end\n  always @(posedge clk) begin\n" ++ (text_of (body_lines p.reset p) ++ codes "  end\nendmodule\n"))))) (header_is net.nodes p)
+    ∙ ap (λ t. fronts_text net ++ (outs_text p ++ ((codes "  initial begin\n" ++ (t ++ fills_text p.files)) ++ (codes "  end\n  always @(posedge clk) begin\n" ++ (text_of (body_lines p.reset p) ++ codes "  end\nendmodule\n"))))) (starts_are p.regs)
+    ∙ ap (λ t. fronts_text net ++ (outs_text p ++ (state_text p ++ (codes "  end\n  always @(posedge clk) begin\n" ++ (t ++ codes "  end\nendmodule\n"))))) (body_is p.reset p)

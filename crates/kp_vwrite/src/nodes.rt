@@ -1,14 +1,14 @@
 // The nodes, and the outputs.
-ghost use Rattle.std.specs.Prelude.{◌≡◌, ◌<◌, ◌≤◌, [], ◌++◌, length, get_or};
+ghost use Rattle.std.specs.Prelude.{◌≡◌, ◌<◌, ◌≤◌, [], length, get_or};
 ghost use Rattle.kp_base.specs.Causes.{HasCause};
 ghost use Rattle.kp_bits.specs.Word.{IsWord, word};
 ghost use Rattle.kp_bits.specs.Spelling.{spelling};
 ghost use Rattle.kp_net.specs.Parts.{no_port, no_reg, no_file};
 ghost use Rattle.kp_vlog.specs.Canon.{sign};
 ghost use Rattle.kp_vwrite.specs.inner.Passing.{Sends};
-ghost use Rattle.kp_vwrite.specs.inner.Texts.{front_text, right_text, choice_text, part_text, parts_text, first_text, brace_text, joined_text, semicolon_text, node_text, nodes_text, out_text, outs_text, KindSafe, NodeSafe, AllSafe};
+ghost use Rattle.kp_vwrite.specs.inner.Texts.{front_text, right_text, choice_text, wire_text, parts_text, joined_text, node_text, nodes_text, given_text, outs_text, KindSafe, NodeSafe, AllSafe};
 
-use crate::page::{Page, put, put_pieces};
+use crate::page::{Page, put, put_fixed, put_pieces};
 use itoa::Buffer;
 use kp_base::{Sink, SinkFault};
 use kp_bits::{BinOp, Bits};
@@ -56,6 +56,14 @@ fn sign_of(op: BinOp) -> &'static [u8]
     }
 }
 
+/// The spelling of a word, in this room.
+pub fn spelled(value: Bits, room: &mut [u8; 20]) -> &[u8]
+    ensures { result.now ≡ spelling value }
+{
+    let length = value.spell(room);
+    &room[..length]
+}
+
 fn write_constant<K: Sink>(
     width: u8,
     value: u64,
@@ -66,9 +74,9 @@ fn write_constant<K: Sink>(
     ensures text { Sends (K.held sink.old) page.old (K.held sink.new) page.new (spelling (word width value)) result }
     ensures cause { HasCause (K.faults sink.old) (K.faults sink.new) result }
 {
-    let mut spelled = [0; 20];
-    let length = Bits::new(width, value).unwrap().spell(&mut spelled);
-    put(page, sink, &spelled[..length])
+    let mut room = [0; 20];
+    let value = Bits::new(width, value).unwrap();
+    put(page, sink, spelled(value, &mut room))
 }
 
 #[tactic(auto, unfolding(crate::specs::inner::Texts::choice_text))]
@@ -94,17 +102,19 @@ fn write_choice<K: Sink>(
     put_pieces(page, sink, &pieces)
 }
 
-#[tactic(auto, unfolding(crate::specs::inner::Texts::part_text))]
-fn write_part<K: Sink>(part: NodeId, page: &mut Page, sink: &mut K) -> Result<(), SinkFault>
-    ensures text { Sends (K.held sink.old) page.old (K.held sink.new) page.new (part_text part) result }
+// The name of a node's wire, behind this text.
+#[tactic(auto, unfolding(crate::specs::inner::Texts::wire_text))]
+fn write_wire<K: Sink>(
+    front: &[u8],
+    id: NodeId,
+    page: &mut Page,
+    sink: &mut K,
+) -> Result<(), SinkFault>
+    ensures text { Sends (K.held sink.old) page.old (K.held sink.new) page.new (wire_text front.now id) result }
     ensures cause { HasCause (K.faults sink.old) (K.faults sink.new) result }
 {
     let mut number = Buffer::new();
-    put_pieces(
-        page,
-        sink,
-        &[b", n".as_slice(), number.format(part.0).as_bytes()],
-    )
+    put_pieces(page, sink, &[front, number.format(id.0).as_bytes()])
 }
 
 fn write_parts<K: Sink>(parts: &[NodeId], page: &mut Page, sink: &mut K) -> Result<(), SinkFault>
@@ -112,53 +122,9 @@ fn write_parts<K: Sink>(parts: &[NodeId], page: &mut Page, sink: &mut K) -> Resu
     ensures cause { HasCause (K.faults sink.old) (K.faults sink.new) result }
 {
     for part in parts {
-        write_part(*part, page, sink)?;
+        write_wire(b", n", *part, page, sink)?;
     }
     Ok(())
-}
-
-#[tactic(auto, unfolding(crate::specs::inner::Texts::first_text))]
-fn write_first<K: Sink>(part: NodeId, page: &mut Page, sink: &mut K) -> Result<(), SinkFault>
-    ensures text { Sends (K.held sink.old) page.old (K.held sink.new) page.new (first_text part) result }
-    ensures cause { HasCause (K.faults sink.old) (K.faults sink.new) result }
-{
-    let mut number = Buffer::new();
-    put_pieces(
-        page,
-        sink,
-        &[b"{n".as_slice(), number.format(part.0).as_bytes()],
-    )
-}
-
-#[tactic(auto, unfolding(crate::specs::inner::Texts::brace_text))]
-fn write_brace<K: Sink>(page: &mut Page, sink: &mut K) -> Result<(), SinkFault>
-    ensures text { Sends (K.held sink.old) page.old (K.held sink.new) page.new brace_text result }
-    ensures cause { HasCause (K.faults sink.old) (K.faults sink.new) result }
-{
-    put(page, sink, b"}")
-}
-
-#[tactic(auto, using(crate::proofs::Passing::sends_next, crate::proofs::Passing::stops_next, crate::proofs::Passing::stops_more))]
-fn write_braced<K: Sink>(
-    first: NodeId,
-    rest: &[NodeId],
-    page: &mut Page,
-    sink: &mut K,
-) -> Result<(), SinkFault>
-    ensures text { Sends (K.held sink.old) page.old (K.held sink.new) page.new (first_text first ++ (parts_text rest.now ++ brace_text)) result }
-    ensures cause { HasCause (K.faults sink.old) (K.faults sink.new) result }
-{
-    write_first(first, page, sink)?;
-    write_parts(rest, page, sink)?;
-    write_brace(page, sink)
-}
-
-#[tactic(auto, unfolding(crate::specs::inner::Texts::joined_text))]
-fn write_empty<K: Sink>(page: &mut Page, sink: &mut K) -> Result<(), SinkFault>
-    ensures text { Sends (K.held sink.old) page.old (K.held sink.new) page.new (joined_text []) result }
-    ensures cause { HasCause (K.faults sink.old) (K.faults sink.new) result }
-{
-    put_pieces(page, sink, &[b"{}".as_slice()])
 }
 
 fn write_joined<K: Sink>(parts: &[NodeId], page: &mut Page, sink: &mut K) -> Result<(), SinkFault>
@@ -166,8 +132,12 @@ fn write_joined<K: Sink>(parts: &[NodeId], page: &mut Page, sink: &mut K) -> Res
     ensures cause { HasCause (K.faults sink.old) (K.faults sink.new) result }
 {
     match parts {
-        [] => write_empty(page, sink),
-        [first, rest @ ..] => write_braced(*first, rest, page, sink),
+        [] => put_fixed(page, sink, b"{}"),
+        [first, rest @ ..] => {
+            write_wire(b"{n", *first, page, sink)?;
+            write_parts(rest, page, sink)?;
+            put_fixed(page, sink, b"}")
+        }
     }
 }
 
@@ -254,15 +224,7 @@ fn write_right<K: Sink>(
     }
 }
 
-#[tactic(auto, unfolding(crate::specs::inner::Texts::semicolon_text))]
-fn write_semicolon<K: Sink>(page: &mut Page, sink: &mut K) -> Result<(), SinkFault>
-    ensures text { Sends (K.held sink.old) page.old (K.held sink.new) page.new semicolon_text result }
-    ensures cause { HasCause (K.faults sink.old) (K.faults sink.new) result }
-{
-    put(page, sink, b";\n")
-}
-
-#[tactic(auto, using(crate::proofs::Passing::sends_next, crate::proofs::Passing::stops_next, crate::proofs::Passing::stops_more), unfolding(crate::specs::inner::Texts::node_text))]
+#[tactic(auto, unfolding(crate::specs::inner::Texts::node_text))]
 fn write_node<K: Sink>(
     parts: &Parts,
     number: usize,
@@ -276,7 +238,7 @@ fn write_node<K: Sink>(
 {
     write_front(number, node, page, sink)?;
     write_right(parts, node.width, &node.kind, page, sink)?;
-    write_semicolon(page, sink)
+    put_fixed(page, sink, b";\n")
 }
 
 /// Writes the wires with their assignments.
@@ -296,21 +258,24 @@ pub fn write_nodes<K: Sink>(
     Ok(())
 }
 
-#[tactic(auto, unfolding(crate::specs::inner::Texts::out_text))]
-fn write_out<K: Sink>(
-    port: &[u8],
+/// A node given to a name: an output, or a register at the end of a cycle.
+#[tactic(auto, unfolding(crate::specs::inner::Texts::given_text))]
+pub fn write_given<'a, K: Sink>(
+    margin: &'a [u8],
+    name: &'a [u8],
+    sign: &'a [u8],
     id: NodeId,
     page: &mut Page,
     sink: &mut K,
 ) -> Result<(), SinkFault>
-    ensures text { Sends (K.held sink.old) page.old (K.held sink.new) page.new (out_text port.now id) result }
+    ensures text { Sends (K.held sink.old) page.old (K.held sink.new) page.new (given_text margin.now name.now sign.now id) result }
     ensures cause { HasCause (K.faults sink.old) (K.faults sink.new) result }
 {
     let mut number = Buffer::new();
     let pieces = [
-        b"  assign ".as_slice(),
-        port,
-        b" = n".as_slice(),
+        margin,
+        name,
+        sign,
         number.format(id.0).as_bytes(),
         b";\n".as_slice(),
     ];
@@ -318,12 +283,11 @@ fn write_out<K: Sink>(
 }
 
 /// Writes the assignments of the outputs.
-#[tactic(auto, using(crate::proofs::Passing::sends_next, crate::proofs::Passing::stops_next, crate::proofs::Passing::stops_more))]
 pub fn write_outs<K: Sink>(parts: &Parts, page: &mut Page, sink: &mut K) -> Result<(), SinkFault>
     ensures text { Sends (K.held sink.old) page.old (K.held sink.new) page.new (outs_text parts.now) result }
     ensures cause { HasCause (K.faults sink.old) (K.faults sink.new) result }
 {
-    write_out(b"full", parts.full, page, sink)?;
-    write_out(b"ue", parts.ue, page, sink)?;
-    write_out(b"back", parts.back, page, sink)
+    write_given(b"  assign ", b"full", b" = n", parts.full, page, sink)?;
+    write_given(b"  assign ", b"ue", b" = n", parts.ue, page, sink)?;
+    write_given(b"  assign ", b"back", b" = n", parts.back, page, sink)
 }

@@ -3,6 +3,7 @@ ghost use Rattle.std.specs.Prelude.{◌≡◌, ◌+◌, ◌-◌, ◌≤◌, ℕ,
 ghost use Rattle.kp_base.specs.Bytes.{Writes};
 ghost use Rattle.kp_base.specs.Causes.{HasCause};
 ghost use Rattle.kp_vwrite.specs.inner.Passing.{Sends};
+ghost use Rattle.kp_vwrite.specs.inner.Texts.{fixed};
 
 use kp_base::{Sink, SinkFault, write_all};
 use std::marker::Model;
@@ -78,6 +79,15 @@ pub fn put<K: Sink>(page: &mut Page, sink: &mut K, piece: &[u8]) -> Result<(), S
     }
     page.push(piece);
     Ok(())
+}
+
+/// Puts a text on the page that is the same in each netlist.
+#[tactic(auto, unfolding(crate::specs::inner::Texts::fixed))]
+pub fn put_fixed<K: Sink>(page: &mut Page, sink: &mut K, text: &[u8]) -> Result<(), SinkFault>
+    ensures text { Sends (K.held sink.old) page.old (K.held sink.new) page.new (fixed text.now) result }
+    ensures cause { HasCause (K.faults sink.old) (K.faults sink.new) result }
+{
+    put(page, sink, text)
 }
 
 /// Puts the pieces on the page, one after another.

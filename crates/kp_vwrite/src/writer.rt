@@ -13,7 +13,6 @@ use crate::state::{write_clock, write_state};
 use kp_base::{Sink, SinkFault};
 use kp_net::{Netlist, Parts};
 
-#[tactic(auto, using(crate::proofs::Passing::sends_next, crate::proofs::Passing::stops_next, crate::proofs::Passing::stops_more))]
 fn write_fronts<K: Sink>(net: &Netlist, page: &mut Page, sink: &mut K) -> Result<(), SinkFault>
     ensures text { Sends (K.held sink.old) page.old (K.held sink.new) page.new (fronts_text net.now) result }
     ensures cause { HasCause (K.faults sink.old) (K.faults sink.new) result }
@@ -23,7 +22,6 @@ fn write_fronts<K: Sink>(net: &Netlist, page: &mut Page, sink: &mut K) -> Result
     write_nodes(net.parts(), net.nodes(), page, sink)
 }
 
-#[tactic(auto, using(crate::proofs::Passing::sends_next, crate::proofs::Passing::stops_next, crate::proofs::Passing::stops_more))]
 fn write_blocks<K: Sink>(parts: &Parts, page: &mut Page, sink: &mut K) -> Result<(), SinkFault>
     requires { All FileSafe parts.now.files }
     ensures text { Sends (K.held sink.old) page.old (K.held sink.new) page.new (blocks_text parts.now) result }
@@ -34,7 +32,6 @@ fn write_blocks<K: Sink>(parts: &Parts, page: &mut Page, sink: &mut K) -> Result
     write_clock(parts, page, sink)
 }
 
-#[tactic(auto, using(crate::proofs::Passing::sends_next, crate::proofs::Passing::stops_next, crate::proofs::Passing::stops_more))]
 fn write_whole<K: Sink>(net: &Netlist, page: &mut Page, sink: &mut K) -> Result<(), SinkFault>
     ensures text { Sends (K.held sink.old) page.old (K.held sink.new) page.new (whole_text net.now) result }
     ensures cause { HasCause (K.faults sink.old) (K.faults sink.new) result }

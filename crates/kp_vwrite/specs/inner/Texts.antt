@@ -13,64 +13,42 @@ use Rattle.kp_net.specs.declared.netlist.NetFile.{NetFile}
 use Rattle.kp_net.specs.declared.netlist.Parts.{Parts}
 use Rattle.kp_net.specs.Widths.{wide, no_node}
 use Rattle.kp_net.specs.Netlist.{Net}
-use Rattle.kp_vlog.specs.Canon.{text_of, right_side, joined, sample_ports, reg_lines, file_lines, integer_line, node_lines, start_lines, word_line, word_lines, fill_lines, update_lines, port_lines, reset_lines}
+use Rattle.kp_vlog.specs.Canon.{text_of, right_side, joined, sample_ports, reg_lines, file_lines, integer_line, node_lines, word_line, word_lines, fill_lines, update_lines, port_lines}
+
+-- a text that is the same in each netlist; sealed, so that a search takes it as a whole
+unfoldable pub fixed : List ℕ → List ℕ
+fixed text = text
+
+-- a name with the range of its bits, as `input wire [7:0] s_Q, `
+unfoldable pub ranged_text : List ℕ → ℕ → List ℕ → List ℕ → List ℕ
+ranged_text front width name end = text_of (front ∷ decimal (width - 1) ∷ codes ":0] " ∷ name ∷ end ∷ [])
 
 -- the header
-unfoldable pub name_text : List ℕ → List ℕ
-name_text name = text_of (codes "module " ∷ name ∷ codes "(input wire clk, " ∷ [])
-
-unfoldable pub rst_text : List ℕ
-rst_text = codes "input wire rst, "
-
 abbrev pub reset_text : Bool → List ℕ
-reset_text true = rst_text
+reset_text true = codes "input wire rst, "
 reset_text false = []
 
-unfoldable pub ext_text : ℕ → List ℕ
-ext_text ext = text_of (codes "input wire [" ∷ decimal (ext - 1) ∷ codes ":0] ext, " ∷ [])
+unfoldable pub name_text : List ℕ → Bool → List ℕ
+name_text name reset = text_of (codes "module " ∷ name ∷ codes "(input wire clk, " ∷ reset_text reset ∷ [])
 
-unfoldable pub sample_text : Port → List ℕ
-sample_text s = text_of (codes "input wire [" ∷ decimal (s.width - 1) ∷ codes ":0] " ∷ s.name ∷ codes ", " ∷ [])
+abbrev pub sample_text : Port → List ℕ
+sample_text s = ranged_text (codes "input wire [") s.width s.name (codes ", ")
 
 unfoldable pub samples_text : List Port → List ℕ
 samples_text ss = text_of (sample_ports ss)
 
-unfoldable pub output_wire_text : List ℕ
-output_wire_text = codes "output wire ["
-
-unfoldable pub output_text : ℕ → List ℕ
-output_text width = text_of (output_wire_text ∷ decimal (width - 1) ∷ [])
-
-unfoldable pub to_full_text : List ℕ
-to_full_text = codes ":0] full, "
-
-unfoldable pub to_ue_text : List ℕ
-to_ue_text = codes ":0] ue, "
-
-unfoldable pub to_back_text : List ℕ
-to_back_text = codes ":0] back);\n"
-
-abbrev pub full_text : ℕ → List ℕ
-full_text width = output_text width ++ to_full_text
-
-abbrev pub ue_text : ℕ → List ℕ
-ue_text width = output_text width ++ to_ue_text
-
-abbrev pub back_text : ℕ → List ℕ
-back_text width = output_text width ++ to_back_text
-
-abbrev pub module_text : Parts → List ℕ
-module_text p = name_text p.name ++ (reset_text p.reset ++ ext_text p.ext)
-
 abbrev pub outputs_text : List Node → Parts → List ℕ
-outputs_text ns p = full_text (wide ns p.full.0) ++ (ue_text (wide ns p.ue.0) ++ back_text (wide ns p.back.0))
+outputs_text ns p =
+    ranged_text (codes "output wire [") (wide ns p.full.0) (codes "full") (codes ", ")
+    ++ (ranged_text (codes "output wire [") (wide ns p.ue.0) (codes "ue") (codes ", ") ++ ranged_text (codes "output wire [") (wide ns p.back.0) (codes "back") (codes ");\n"))
 
 abbrev pub header_text : List Node → Parts → List ℕ
-header_text ns p = module_text p ++ (samples_text p.samples ++ outputs_text ns p)
+header_text ns p =
+    name_text p.name p.reset ++ (ranged_text (codes "input wire [") p.ext (codes "ext") (codes ", ") ++ (samples_text p.samples ++ outputs_text ns p))
 
 -- the declarations
-unfoldable pub reg_text : NetReg → List ℕ
-reg_text r = text_of (codes "  reg [" ∷ decimal (r.start.width - 1) ∷ codes ":0] " ∷ r.name ∷ codes ";\n" ∷ [])
+abbrev pub reg_text : NetReg → List ℕ
+reg_text r = ranged_text (codes "  reg [") r.start.width r.name (codes ";\n")
 
 unfoldable pub regs_text : List NetReg → List ℕ
 regs_text rs = text_of (reg_lines rs)
@@ -97,58 +75,47 @@ right_text p k kind = text_of (right_side p k kind)
 unfoldable pub choice_text : NodeId → NodeId → NodeId → List ℕ
 choice_text test a b = text_of (codes "n" ∷ decimal test.0 ∷ codes " ? n" ∷ decimal a.0 ∷ codes " : n" ∷ decimal b.0 ∷ [])
 
-unfoldable pub part_text : NodeId → List ℕ
-part_text a = text_of (codes ", n" ∷ decimal a.0 ∷ [])
+-- the name of a node's wire, behind this text
+unfoldable pub wire_text : List ℕ → NodeId → List ℕ
+wire_text front a = text_of (front ∷ decimal a.0 ∷ [])
+
+abbrev pub part_text : NodeId → List ℕ
+part_text a = wire_text (codes ", n") a
 
 unfoldable pub parts_text : List NodeId → List ℕ
 parts_text [] = []
 parts_text (a ∷ parts) = part_text a ++ parts_text parts
 
-unfoldable pub first_text : NodeId → List ℕ
-first_text a = text_of (codes "{n" ∷ decimal a.0 ∷ [])
-
-unfoldable pub brace_text : List ℕ
-brace_text = codes "}"
-
 unfoldable pub joined_text : List NodeId → List ℕ
 joined_text parts = text_of (joined parts)
 
-unfoldable pub semicolon_text : List ℕ
-semicolon_text = codes ";\n"
-
 unfoldable pub node_text : Parts → ℕ → Node → List ℕ
-node_text p j n = front_text j n ++ (right_text p n.width n.kind ++ semicolon_text)
+node_text p j n = front_text j n ++ (right_text p n.width n.kind ++ fixed (codes ";\n"))
 
 unfoldable pub nodes_text : Parts → ℕ → List Node → List ℕ
 nodes_text p j ns = text_of (node_lines p j ns)
 
-unfoldable pub out_text : List ℕ → NodeId → List ℕ
-out_text port a = text_of (codes "  assign " ∷ port ∷ codes " = n" ∷ decimal a.0 ∷ codes ";\n" ∷ [])
+-- a node given to a name, as `  assign full = n3;` or `    r_X <= n3;`
+unfoldable pub given_text : List ℕ → List ℕ → List ℕ → NodeId → List ℕ
+given_text margin name sign a = text_of (margin ∷ name ∷ sign ∷ decimal a.0 ∷ codes ";\n" ∷ [])
+
+abbrev pub out_text : List ℕ → NodeId → List ℕ
+out_text port a = given_text (codes "  assign ") port (codes " = n") a
 
 abbrev pub outs_text : Parts → List ℕ
 outs_text p = out_text (codes "full") p.full ++ (out_text (codes "ue") p.ue ++ out_text (codes "back") p.back)
 
--- the start
-unfoldable pub start_text : NetReg → List ℕ
-start_text r = text_of (codes "    " ∷ r.name ∷ codes " = " ∷ spelling r.start ∷ codes ";\n" ∷ [])
+-- the start values, given by this sign: in the first block, and in a reset
+unfoldable pub value_text : List ℕ → List ℕ → NetReg → List ℕ
+value_text margin sign r = text_of (margin ∷ r.name ∷ sign ∷ spelling r.start ∷ codes ";\n" ∷ [])
 
-unfoldable pub starts_text : List NetReg → List ℕ
-starts_text rs = text_of (start_lines rs)
+unfoldable pub values_text : List ℕ → List ℕ → List NetReg → List ℕ
+values_text margin sign [] = []
+values_text margin sign (r ∷ rs) = value_text margin sign r ++ values_text margin sign rs
 
-unfoldable pub for_text : List ℕ
-for_text = codes "    for (i = 0; i < "
-
-unfoldable pub count_text : ℕ → List ℕ
-count_text address_width = text_of (for_text ∷ decimal (2 ^ address_width) ∷ [])
-
-unfoldable pub next_text : List ℕ
-next_text = codes "; i = i + 1) "
-
-abbrev pub loop_text : ℕ → List ℕ
-loop_text address_width = count_text address_width ++ next_text
-
-unfoldable pub fill_text : List ℕ → ℕ → List ℕ
-fill_text name width = text_of (name ∷ codes "[i] = " ∷ spelling (word width 0) ∷ codes ";\n" ∷ [])
+unfoldable pub fill_text : List ℕ → List ℕ → NetFile → List ℕ
+fill_text front step f =
+    text_of (front ∷ decimal (2 ^ f.address_width) ∷ step ∷ f.name ∷ codes "[i] = " ∷ spelling (word f.width 0) ∷ codes ";\n" ∷ [])
 
 unfoldable pub word_text : List ℕ → ℕ → ℕ → ℕ → List ℕ
 word_text name width a v = text_of (word_line name width a v)
@@ -157,20 +124,17 @@ unfoldable pub words_text : List ℕ → ℕ → ℕ → List ℕ → List ℕ
 words_text name width a vs = text_of (word_lines name width a vs)
 
 unfoldable pub contents_text : NetFile → List ℕ
-contents_text f = loop_text f.address_width ++ (fill_text f.name f.width ++ words_text f.name f.width 0 f.words)
+contents_text f = fill_text (codes "    for (i = 0; i < ") (codes "; i = i + 1) ") f ++ words_text f.name f.width 0 f.words
 
 unfoldable pub fills_text : List NetFile → List ℕ
 fills_text fs = text_of (fill_lines fs)
 
-unfoldable pub initial_text : List ℕ
-initial_text = codes "  initial begin\n"
-
 abbrev pub state_text : Parts → List ℕ
-state_text p = initial_text ++ (starts_text p.regs ++ fills_text p.files)
+state_text p = fixed (codes "  initial begin\n") ++ (values_text (codes "    ") (codes " = ") p.regs ++ fills_text p.files)
 
 -- what happens at the end of a cycle
-unfoldable pub update_text : List ℕ → NetReg → List ℕ
-update_text margin r = text_of (margin ∷ r.name ∷ codes " <= n" ∷ decimal r.next.0 ∷ codes ";\n" ∷ [])
+abbrev pub update_text : List ℕ → NetReg → List ℕ
+update_text margin r = given_text margin r.name (codes " <= n") r.next
 
 unfoldable pub updates_text : List ℕ → List NetReg → List ℕ
 updates_text margin rs = text_of (update_lines margin rs)
@@ -191,39 +155,17 @@ port_text margin f = write_text margin f.name f.port
 unfoldable pub ports_text : List ℕ → List NetFile → List ℕ
 ports_text margin fs = text_of (port_lines margin fs)
 
-unfoldable pub back_to_text : NetReg → List ℕ
-back_to_text r = text_of (codes "      " ∷ r.name ∷ codes " <= " ∷ spelling r.start ∷ codes ";\n" ∷ [])
-
-unfoldable pub resets_text : List NetReg → List ℕ
-resets_text rs = text_of (reset_lines rs)
-
-unfoldable pub if_text : List ℕ
-if_text = codes "    if (rst) begin\n"
-
-unfoldable pub else_text : List ℕ
-else_text = codes "    end else begin\n"
-
-unfoldable pub end_text : List ℕ
-end_text = codes "    end\n"
-
-unfoldable pub always_text : List ℕ
-always_text = codes "  end\n  always @(posedge clk) begin\n"
-
-unfoldable pub endmodule_text : List ℕ
-endmodule_text = codes "  end\nendmodule\n"
-
 abbrev pub changes_text : List ℕ → Parts → List ℕ
 changes_text margin p = updates_text margin p.regs ++ ports_text margin p.files
 
-abbrev pub raised_text : Parts → List ℕ
-raised_text p = if_text ++ (resets_text p.regs ++ else_text)
-
 abbrev pub body_text : Bool → Parts → List ℕ
 body_text false p = changes_text (codes "    ") p
-body_text true p = raised_text p ++ (changes_text (codes "      ") p ++ end_text)
+body_text true p =
+    fixed (codes "    if (rst) begin\n")
+    ++ (values_text (codes "      ") (codes " <= ") p.regs ++ (fixed (codes "    end else begin\n") ++ (changes_text (codes "      ") p ++ fixed (codes "    end\n"))))
 
 abbrev pub clock_text : Parts → List ℕ
-clock_text p = always_text ++ (body_text p.reset p ++ endmodule_text)
+clock_text p = fixed (codes "  end\n  always @(posedge clk) begin\n") ++ (body_text p.reset p ++ fixed (codes "  end\nendmodule\n"))
 
 abbrev pub fronts_text : Net → List ℕ
 fronts_text net = header_text net.nodes net.parts ++ (cells_text net.parts ++ nodes_text net.parts 0 net.nodes)

@@ -6,14 +6,14 @@ use Rattle.kp_vwrite.proofs.Lines.{part_more, part_none}
 use Rattle.kp_vwrite.proofs.Safe.{get_again}
 use Rattle.kp_vwrite.proofs.nodes.write_parts.Goals as goal
 
-pub returns-in_err-write_part-clause-text : goal.returns-in_err-write_part-clause-text
-returns-in_err-write_part-clause-text g c =
+pub returns-in_err-write_wire-clause-text : goal.returns-in_err-write_wire-clause-text
+returns-in_err-write_wire-clause-text g c =
     let exit = err_from_is_err_and c.from_residual.result c.from_residual.ensures.1 in
-    rw exit.1 (line_stopped (λ _. parts_text) (λ _. part_text) (λ _. part_more) (λ _. part_none) c.args.parts.now c.loop-part.part-index _ _ _ _ _ _ c.loop-part-test.true (get_again c.args.parts.now c.loop-part.part-index _ c.loop-part-test.true) c.loop-part.invariant.0 c.in_err-write_part.ensures.text)
+    rw exit.1 (line_stopped (λ _. parts_text) (λ _. part_text) (λ _. part_more) (λ _. part_none) c.args.parts.now c.loop-part.part-index _ _ _ _ _ _ c.loop-part-test.true (get_again c.args.parts.now c.loop-part.part-index _ c.loop-part-test.true) c.loop-part.invariant.0 c.in_err-write_wire.ensures.text)
 
 pub loop-part-preserved : goal.loop-part-preserved
 loop-part-preserved g c =
-    (line_passed (λ _. parts_text) (λ _. part_text) (λ _. part_more) (λ _. part_none) c.args.parts.now c.loop-part.part-index _ _ _ _ _ _ _ c.loop-part-test.true (get_again c.args.parts.now c.loop-part.part-index _ c.loop-part-test.true) c.loop-part.invariant.0 c.in_ok-write_part.ensures.text, omega arith)
+    (line_passed (λ _. parts_text) (λ _. part_text) (λ _. part_more) (λ _. part_none) c.args.parts.now c.loop-part.part-index _ _ _ _ _ _ _ c.loop-part-test.true (get_again c.args.parts.now c.loop-part.part-index _ c.loop-part-test.true) c.loop-part.invariant.0 c.in_ok-write_wire.ensures.text, omega arith)
 
 pub returns-clause-text : goal.returns-clause-text
 returns-clause-text g c = lines_end (λ _. parts_text) (λ _. part_text) (λ _. part_more) (λ _. part_none) c.args.parts.now c.loop-part.part-index _ _ _ _ c.loop-part-test.false c.loop-part.invariant.0

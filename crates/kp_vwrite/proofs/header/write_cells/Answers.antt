@@ -1,0 +1,16 @@
+use Rattle.std.proofs.lemmas.Result.{err_from_is_err_and}
+use Rattle.kp_vwrite.proofs.Passing.{sends_next, stops_next, stops_more}
+use Rattle.kp_vwrite.proofs.header.write_cells.Goals as goal
+
+pub returns-in_err-write_regs-clause-text : goal.returns-in_err-write_regs-clause-text
+returns-in_err-write_regs-clause-text g c =
+    let exit = err_from_is_err_and c.from_residual.result c.from_residual.ensures.1 in
+    rw exit.1 (stops_more _ _ _ _ _ (rw c.as_slice.ensures at c.in_err-write_regs.ensures.text))
+
+pub returns-in_err-write_files-clause-text : goal.returns-in_err-write_files-clause-text
+returns-in_err-write_files-clause-text g c =
+    let exit = err_from_is_err_and c.from_residual-in_err-write_files.result c.from_residual-in_err-write_files.ensures.1 in
+    rw exit.1 (stops_next _ _ _ _ _ _ _ (rw c.as_slice.ensures at c.in_ok-write_regs.ensures.text) (stops_more _ _ _ _ _ (rw c.as_slice-2.ensures at c.in_err-write_files.ensures.text)))
+
+pub returns-clause-text : goal.returns-clause-text
+returns-clause-text g c = sends_next _ _ _ _ _ _ _ _ _ (rw c.as_slice.ensures at c.in_ok-write_regs.ensures.text) (sends_next _ _ _ _ _ _ _ _ _ (rw c.as_slice-2.ensures at c.in_ok-write_files.ensures.text) (rw c.as_slice-3.ensures at c.write_integer.ensures.text))

@@ -1,9 +1,0 @@
-use Rattle.std.proofs.Common.{◌≤◌, drop}
-use Rattle.kp_vwrite.specs.inner.Texts.{starts_text}
-use Rattle.kp_vwrite.proofs.Passing.{PassedUpTo}
-use Rattle.kp_vwrite.proofs.state.write_starts.Given as goal
-
-abbrev pub invariant-loop-reg : goal.invariant-loop-reg
-invariant-loop-reg g l =
-    PassedUpTo (starts_text l.regs) (starts_text (drop l.reg-index l.regs)) (g.K.Sink.held l.initial.sink) l.initial.page (g.K.Sink.held l.sink) l.page
-    × (g.K.Sink.faults l.initial.sink ≤ g.K.Sink.faults l.sink)
