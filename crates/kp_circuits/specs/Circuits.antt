@@ -2,14 +2,8 @@
 use Rattle.std.specs.Prelude.{ℕ, ◌≤◌, ◌<◌, ◌≡◌, List, length, All}
 use Rattle.std.specs.List.{sum_by}
 use Rattle.kp_net.specs.declared.node.NodeId.{NodeId}
-use Rattle.kp_net.specs.Growth.{Held, Wire}
+use Rattle.kp_net.specs.Growth.{Held}
 use Rattle.kp_net.specs.Widths.{wide}
-
--- node i is in the pool, and has w bits
-pub record IsWired (p : Held) (i : NodeId) (w : ℕ) : Type 0 where
-  pub wire : Wire p i w
-  pub positive : 1 ≤ w
-  pub at_most : w ≤ 64
 
 -- these nodes are in the pool, and have w bits together
 pub record IsRow (p : Held) (parts : List NodeId) (w : ℕ) : Type 0 where

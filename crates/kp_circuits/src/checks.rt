@@ -8,20 +8,11 @@ ghost use Rattle.kp_net.specs.Parts.{NodeIs, PortOk, RegOk, FileOk, WriteOk, Cel
 use kp_bits::Bits;
 use kp_net::{Kind, NetFile, NetReg, Node, NodeId, Parts, Pool, Port, WritePort};
 
-/// Whether all that the parts and the nodes name is there, with the right widths.
-pub fn parts_fit(pool: &Pool, parts: &Parts) -> bool
-    ensures { IsTrue result → PartsOk pool.now.nodes parts.now }
+/// Whether a simulator can run a netlist of these nodes with these parts: all that they name is there, with the right widths.
+pub fn runs(pool: &Pool, parts: &Parts) -> bool
+    ensures { IsTrue result → PartsOk pool.now.nodes parts.now × (parts.now.ext ≤ 12) × (wide pool.now.nodes parts.now.full.0 ≡ parts.now.ext) × (wide pool.now.nodes parts.now.ue.0 ≡ parts.now.ext) × (wide pool.now.nodes parts.now.back.0 ≡ 4) }
 {
-    if !counts_fit(parts) {
-        return false;
-    }
-    if !is_there(pool, parts.full) {
-        return false;
-    }
-    if !is_there(pool, parts.ue) {
-        return false;
-    }
-    if !is_there(pool, parts.back) {
+    if !counts_fit(parts) || !outputs_fit(pool, parts) {
         return false;
     }
     if !parts.samples.as_slice().iter().all(|port| port_fits(port)) {
@@ -41,21 +32,23 @@ pub fn parts_fit(pool: &Pool, parts: &Parts) -> bool
     cells_fit(pool, parts)
 }
 
-// Whether a node is there.
-fn is_there(pool: &Pool, a: NodeId) -> bool
-    ensures { IsTrue result → a.0 < length pool.now.nodes }
-{
-    (a.0 as usize) < pool.nodes().len()
-}
-
 fn counts_fit(parts: &Parts) -> bool
-    ensures { IsTrue result → (1 ≤ parts.now.ext) × (parts.now.ext ≤ 64) × (length parts.now.samples ≤ 16777216) × (length parts.now.regs ≤ 16777216) × (length parts.now.files ≤ 16) }
+    ensures { IsTrue result → (1 ≤ parts.now.ext) × (parts.now.ext ≤ 12) × (length parts.now.samples ≤ 16777216) × (length parts.now.regs ≤ 16777216) × (length parts.now.files ≤ 16) }
 {
     1 <= parts.ext
-        && parts.ext <= 64
+        && parts.ext <= 12
         && parts.samples.as_slice().len() <= 16777216
         && parts.regs.as_slice().len() <= 16777216
         && parts.files.as_slice().len() <= 16
+}
+
+// Whether the outputs have the widths that a simulator asks for.
+fn outputs_fit(pool: &Pool, parts: &Parts) -> bool
+    ensures { IsTrue result → NodeIs pool.now.nodes parts.now.full parts.now.ext × NodeIs pool.now.nodes parts.now.ue parts.now.ext × NodeIs pool.now.nodes parts.now.back 4 }
+{
+    node_is(pool, parts.full, parts.ext)
+        && node_is(pool, parts.ue, parts.ext)
+        && node_is(pool, parts.back, 4)
 }
 
 // Whether a node is there, with this width.

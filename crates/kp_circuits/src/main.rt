@@ -21,29 +21,26 @@
 //! its row, and registers and files behind it. What is not right, or finds no room, is `refused`.
 #![tactic(auto)]
 
-mod asked;
 mod checks;
 mod circuit;
 mod controls;
 mod gates;
+mod names;
 mod nodes;
-mod parts;
 mod run;
+mod text;
 
-use anyhow::Result;
-use asked::made;
-use circuit::{Circuit, Given};
+use circuit::Circuit;
 use kp_net::{NodeId, Pool};
 use nodes::{add_depths, print_kind};
-use parts::parts_of;
-use run::{is_cycle, print_run};
+use run::print_run;
 use std::alloc::Global;
 use std::io;
 
 /// The room of a circuit's pool.
 const ROOM: u32 = 256;
 
-fn main(rt: HostRuntime) -> Result<()> {
+fn main(rt: HostRuntime) -> io::Result<()> {
     let alloc = rt.alloc();
     let text = io::read_to_string(alloc, rt.reader())?;
     for case in text.split("==== ").skip(1) {
@@ -52,13 +49,14 @@ fn main(rt: HostRuntime) -> Result<()> {
     Ok(())
 }
 
-fn print_case(rt: &impl Print, alloc: Global, case: &str) -> Result<()> {
+fn print_case(rt: &impl Print, alloc: Global, case: &str) -> io::Result<()> {
     let title = case.lines().next().unwrap_or("");
     println!(rt; "==== {title}")?;
     let mut circuit = Circuit::new(alloc);
-    print_circuit(rt, alloc, &mut circuit, case)?;
-    rt.println("")?;
-    Ok(())
+    let printed = print_circuit(rt, alloc, &mut circuit, case);
+    drop(circuit);
+    printed?;
+    rt.println("")
 }
 
 fn print_circuit<'t>(
@@ -66,27 +64,18 @@ fn print_circuit<'t>(
     alloc: Global,
     circuit: &mut Circuit<'t>,
     case: &'t str,
-) -> Result<()> {
-    let mut pool = Pool::reserve(alloc, ROOM)?;
+) -> io::Result<()> {
+    let Ok(mut pool) = Pool::reserve(alloc, ROOM) else {
+        return rt.println("refused");
+    };
     print_lines(rt, alloc, &mut pool, circuit, case)?;
-    if case.lines().any(is_cycle) {
-        print_cycles(rt, alloc, pool, circuit, case)
+    if circuit.runs {
+        let parts = circuit.parts(alloc, &mut pool);
+        print_run(rt, alloc, pool, parts, case)
     } else {
         drop(pool);
         Ok(())
     }
-}
-
-// Runs the cycles of a circuit whose nodes are these.
-fn print_cycles(
-    rt: &impl Print,
-    alloc: Global,
-    mut pool: Pool,
-    circuit: &Circuit<'_>,
-    case: &str,
-) -> Result<()> {
-    let parts = parts_of(alloc, &mut pool, circuit)?;
-    print_run(rt, alloc, pool, parts, case)
 }
 
 // Takes the lines into the circuit, and prints the nodes that they name.
@@ -96,93 +85,41 @@ fn print_lines<'t>(
     pool: &mut Pool,
     circuit: &mut Circuit<'t>,
     case: &'t str,
-) -> Result<()> {
-    print_nodes(rt, alloc, pool, circuit, case)?;
+) -> io::Result<()> {
+    let mut depths = Vec::new(alloc);
+    for line in case.lines().skip(1) {
+        let words = line.split_whitespace().collect::<Vec<&str>>(alloc)?;
+        let name = words.first().copied().unwrap_or("");
+        match taken(alloc, pool, circuit, &words) {
+            Some(Some(id)) if !circuit.only_rows => print_node(rt, pool, &mut depths, name, id)?,
+            Some(_) => {}
+            None => print_refused(rt, name)?,
+        }
+    }
     if circuit.only_rows {
         return Ok(());
     }
-    println!(rt; "nodes {}", pool.nodes().len())?;
-    Ok(())
+    println!(rt; "nodes {}", pool.nodes().len())
 }
 
-fn print_nodes<'t>(
-    rt: &impl Print,
+// Takes a line, if it is right. Gives the node of an operation.
+fn taken<'t>(
     alloc: Global,
     pool: &mut Pool,
     circuit: &mut Circuit<'t>,
-    case: &'t str,
-) -> Result<()> {
-    let mut depths = Vec::new(alloc);
-    for line in case.lines().skip(1) {
-        print_line(rt, alloc, pool, circuit, &mut depths, line)?;
-    }
-    Ok(())
-}
-
-fn print_line<'t>(
-    rt: &impl Print,
-    alloc: Global,
-    pool: &mut Pool,
-    circuit: &mut Circuit<'t>,
-    depths: &mut Vec<u32>,
-    line: &'t str,
-) -> Result<()> {
-    let words = line.split_whitespace().collect::<Vec<&str>>(alloc)?;
-    if words.get(1).copied().unwrap_or("") == "=" {
-        print_made(rt, alloc, pool, circuit, depths, &words)
-    } else {
-        print_taken(rt, circuit, line, &words)
-    }
-}
-
-// Takes a line that names no node.
-fn print_taken<'t>(
-    rt: &impl Print,
-    circuit: &mut Circuit<'t>,
-    line: &'t str,
     words: &[&'t str],
-) -> Result<()> {
-    if circuit.take(line, words)? {
-        return Ok(());
-    }
-    print_refused(rt, words)
-}
-
-// Names what a line asks for.
-fn print_made<'t>(
-    rt: &impl Print,
-    alloc: Global,
-    pool: &mut Pool,
-    circuit: &mut Circuit<'t>,
-    depths: &mut Vec<u32>,
-    words: &[&'t str],
-) -> Result<()> {
-    match made(alloc, pool, circuit, words) {
-        Some(given) => print_given(rt, pool, circuit, depths, words, given),
-        None => print_refused(rt, words),
+) -> Option<Option<NodeId>> {
+    match words.get(1).copied().unwrap_or("") {
+        "=" => controls::name(alloc, pool, &mut circuit.names, words),
+        _ => {
+            circuit.take(alloc, words)?;
+            Some(None)
+        }
     }
 }
 
-fn print_given<'t>(
-    rt: &impl Print,
-    pool: &Pool,
-    circuit: &mut Circuit<'t>,
-    depths: &mut Vec<u32>,
-    words: &[&'t str],
-    given: Given,
-) -> Result<()> {
-    let name = words.first().copied().unwrap_or("");
-    circuit.name(name, given)?;
-    match given {
-        Given::Node(id) if !circuit.only_rows => print_node(rt, pool, depths, name, id),
-        _ => Ok(()),
-    }
-}
-
-fn print_refused(rt: &impl Print, words: &[&str]) -> Result<()> {
-    let name = words.first().copied().unwrap_or("");
-    println!(rt; "{name}: refused")?;
-    Ok(())
+fn print_refused(rt: &impl Print, name: &str) -> io::Result<()> {
+    println!(rt; "{name}: refused")
 }
 
 fn print_node(
@@ -191,19 +128,17 @@ fn print_node(
     depths: &mut Vec<u32>,
     name: &str,
     id: NodeId,
-) -> Result<()> {
+) -> io::Result<()> {
     let nodes = pool.nodes();
     add_depths(depths, nodes)?;
     let place = id.0 as usize;
     let (Some(node), Some(depth)) = (nodes.get(place), depths.get(place)) else {
         return Ok(());
     };
-    print_head(rt, name, place, node.width, *depth)?;
+    print!(rt;
+        "{name} = {place}, width {}, depth {}: ",
+        node.width, *depth
+    )?;
     print_kind(rt, &node.kind)?;
-    rt.println("")?;
-    Ok(())
-}
-
-fn print_head(rt: &impl Print, name: &str, place: usize, width: u8, depth: u32) -> io::Result<()> {
-    print!(rt; "{name} = {place}, width {width}, depth {depth}: ")
+    rt.println("")
 }

@@ -1,5 +1,4 @@
 //! Nodes as text, and their depths.
-use anyhow::Result;
 use kp_bits::BinOp;
 use kp_net::{Kind, Node, NodeId};
 use std::io;
@@ -12,12 +11,6 @@ pub fn operator(name: &str) -> Option<BinOp> {
         "xor" => Some(BinOp::Xor),
         "add" => Some(BinOp::Add),
         "sub" => Some(BinOp::Sub),
-        _ => other_operator(name),
-    }
-}
-
-fn other_operator(name: &str) -> Option<BinOp> {
-    match name {
         "mul" => Some(BinOp::Mul),
         "eq" => Some(BinOp::Eq),
         "lt" => Some(BinOp::Lt),
@@ -81,7 +74,7 @@ fn print_nodes(rt: &impl Print, name: &str, nodes: &[NodeId]) -> io::Result<()> 
 }
 
 /// Adds the depths of the nodes that came.
-pub fn add_depths(depths: &mut Vec<u32>, nodes: &[Node]) -> Result<()> {
+pub fn add_depths(depths: &mut Vec<u32>, nodes: &[Node]) -> io::Result<()> {
     for i in depths.len()..nodes.len() {
         let depth = depth_of(depths.as_slice(), &nodes[i].kind);
         depths.push(depth)?;

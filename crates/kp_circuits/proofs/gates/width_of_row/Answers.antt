@@ -11,6 +11,6 @@ loop-part-preserved c =
     let ns = c.args.pool.now.nodes in
     let more = sum_by_more (λ (a : NodeId). wide ns a.0) c.args.parts.now c.loop-part.part-index d c.loop-part-test.true in (
       omega (arith, c.loop-part.invariant.0),
-      All-more (λ (a : NodeId). a.0 < length ns) c.args.parts.now c.loop-part.part-index d c.loop-part-test.true c.loop-part.invariant.1 c.in_ok-width.ensures.wire.inside,
-      more ∙ omega (arith, c.loop-part.invariant.2, c.in_ok-width.ensures.wire.wide),
+      All-more (λ (a : NodeId). a.0 < length ns) c.args.parts.now c.loop-part.part-index d c.loop-part-test.true c.loop-part.invariant.1 (grind (arith, c.nodes.ensures)),
+      more ∙ omega (arith, c.loop-part.invariant.2, c.width-width.ensures.width),
     )
