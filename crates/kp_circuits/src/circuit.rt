@@ -72,12 +72,12 @@ impl<'t> Circuit<'t> {
     }
 
     fn declare(&mut self, alloc: Global, words: &[&'t str]) -> Option<()> {
-        let place = match *words.first()? {
-            "sample" => add_sample(alloc, &mut self.samples, words)?,
-            "reg" => add_reg(alloc, &mut self.regs, words)?,
-            _ => add_file(alloc, &mut self.files, words)?,
+        let place = match words.first().copied().unwrap_or("") {
+            "sample" => add_sample(alloc, &mut self.samples, words),
+            "reg" => add_reg(alloc, &mut self.regs, words),
+            _ => add_file(alloc, &mut self.files, words),
         };
-        self.names.add(cell_of(words, place)?)
+        self.names.add(cell_of(words, place))
     }
 
     // Has an output show a node.
@@ -105,13 +105,13 @@ impl<'t> Circuit<'t> {
     }
 }
 
-// The port, register or file of a line, which has this place.
-fn cell_of<'t>(words: &[&'t str], place: usize) -> Option<Cell<'t>> {
+// The port, register or file of a line, if it was added, and then at this place.
+fn cell_of<'t>(words: &[&'t str], place: Option<usize>) -> Option<Cell<'t>> {
     Some(Cell {
         sort: *words.first()?,
         name: *words.get(1)?,
         width: small(words, 2)?,
-        place: u32::try_from(place).ok()?,
+        place: u32::try_from(place?).ok()?,
     })
 }
 

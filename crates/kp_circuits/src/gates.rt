@@ -15,7 +15,7 @@ use kp_net::{Kind, Node, NodeId, Operands, Pool};
 use std::alloc::Global;
 
 /// A line `NAME = ..`, and the names that stand before it.
-#[derive(Drop)]
+#[derive(Clone, Copy)]
 pub struct Asked<'a> {
     pub names: &'a Names<'a>,
     pub words: &'a [&'a str],
@@ -81,7 +81,9 @@ pub fn source(pool: &mut Pool, asked: &Asked<'_>) -> Option<NodeId> {
 }
 
 // What a port or a register holds.
-fn cell(pool: &mut Pool, asked: &Asked<'_>) -> Option<NodeId> {
+fn cell(pool: &mut Pool, asked: &Asked<'_>) -> Option<NodeId>
+    requires { 1 ≤ pool.old.spare }
+{
     let sort = asked.head();
     let cell = asked.names.cell(sort, *asked.words.get(3)?)?;
     match sort {
@@ -91,8 +93,9 @@ fn cell(pool: &mut Pool, asked: &Asked<'_>) -> Option<NodeId> {
 }
 
 // The stall word, a sample port or a register.
-fn read(pool: &mut Pool, width: u8, kind: Kind) -> Option<NodeId> {
-    has_room(pool, 1)?;
+fn read(pool: &mut Pool, width: u8, kind: Kind) -> Option<NodeId>
+    requires { 1 ≤ pool.old.spare }
+{
     if width < 1 || 64 < width {
         return None;
     }
@@ -103,8 +106,9 @@ fn read(pool: &mut Pool, width: u8, kind: Kind) -> Option<NodeId> {
 }
 
 // The word of a file at an address.
-fn word(pool: &mut Pool, asked: &Asked<'_>) -> Option<NodeId> {
-    has_room(pool, 1)?;
+fn word(pool: &mut Pool, asked: &Asked<'_>) -> Option<NodeId>
+    requires { 1 ≤ pool.old.spare }
+{
     let cell = asked.names.cell("file", *asked.words.get(3)?)?;
     let address = asked.node(pool, 4)?;
     if cell.width < 1 || 64 < cell.width {
@@ -117,8 +121,9 @@ fn word(pool: &mut Pool, asked: &Asked<'_>) -> Option<NodeId> {
 }
 
 // An operation on words.
-fn of_words(pool: &mut Pool, asked: &Asked<'_>) -> Option<NodeId> {
-    has_room(pool, 1)?;
+fn of_words(pool: &mut Pool, asked: &Asked<'_>) -> Option<NodeId>
+    requires { 1 ≤ pool.old.spare }
+{
     let a = asked.node(pool, 3)?;
     let width = pool.width(a);
     match asked.head() {
@@ -135,9 +140,9 @@ fn of_words(pool: &mut Pool, asked: &Asked<'_>) -> Option<NodeId> {
 
 // `a[hi:lo]`
 fn slice(pool: &mut Pool, a: NodeId, hi: u8, lo: u8) -> Option<NodeId>
-    requires { a.0 < length pool.old.nodes }
+    requires room { 1 ≤ pool.old.spare }
+    requires there { a.0 < length pool.old.nodes }
 {
-    has_room(pool, 1)?;
     let width = pool.width(a);
     if hi < lo || width <= hi {
         return None;
@@ -147,9 +152,9 @@ fn slice(pool: &mut Pool, a: NodeId, hi: u8, lo: u8) -> Option<NodeId>
 
 // `test ? yes : no`
 fn choice(pool: &mut Pool, test: NodeId, asked: &Asked<'_>) -> Option<NodeId>
-    requires { test.0 < length pool.old.nodes }
+    requires room { 1 ≤ pool.old.spare }
+    requires there { test.0 < length pool.old.nodes }
 {
-    has_room(pool, 1)?;
     let yes = asked.node(pool, 4)?;
     let width = pool.width(yes);
     let no = asked.wire(pool, 5, width)?;
@@ -161,9 +166,9 @@ fn choice(pool: &mut Pool, test: NodeId, asked: &Asked<'_>) -> Option<NodeId>
 
 // `a + b`, or with another operator.
 fn operation(pool: &mut Pool, op: BinOp, a: NodeId, asked: &Asked<'_>) -> Option<NodeId>
-    requires { a.0 < length pool.old.nodes }
+    requires room { 1 ≤ pool.old.spare }
+    requires there { a.0 < length pool.old.nodes }
 {
-    has_room(pool, 1)?;
     let width = pool.width(a);
     if op.is_shift() {
         let b = asked.node(pool, 4)?;

@@ -37,9 +37,9 @@ impl<'t> Names<'t> {
         }
     }
 
-    /// Adds a port, a register or a file.
-    pub fn add(&mut self, cell: Cell<'t>) -> Option<()> {
-        self.cells.push(cell).ok()
+    /// Adds a port, a register or a file, if there is one.
+    pub fn add(&mut self, cell: Option<Cell<'t>>) -> Option<()> {
+        self.cells.push(cell?).ok()
     }
 
     /// The port, register or file of a name.
