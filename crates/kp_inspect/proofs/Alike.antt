@@ -20,7 +20,7 @@ use Rattle.kp_show.proofs.Alike.{lines_alike}
 use Rattle.kp_shows.specs.Shows.{Shows}
 use Rattle.kp_shows.specs.Traces.{inputs_seen, AreQuiet}
 use Rattle.kp_watch.specs.Watching.{own_trace}
-use Rattle.kp_inspect.specs.Inspecting.{all_cycles, whole_run, has_value, first_from, ahead, reached, hit_line, at_line, row_or_end, told_by, told, IsOfTargets, AreOfJob}
+use Rattle.kp_inspect.specs.Inspecting.{all_cycles, whole_run, has_value, first_from, ahead, reached, hit_line, at_line, row_or_end, told_by, told, ends_in, IsOfTargets, AreOfJob}
 use Rattle.kp_inspect.proofs.Searching.{alike}
 use Rattle.kp_inspect.specs.inner.Standing.{IsInspection, run_of}
 use Rattle.kp_inspect.proofs.Standing.{reached_within, many}
@@ -58,6 +58,14 @@ module _ (job : Job) (a b : Trace) (same : ShowsAlike job a b) where
       ap₂ (λ (x y : List ℕ). x ++ y) (tells_alike (reached a cycle c) c low of) (told_alike (reached a cycle c) cs low rest)
       ∙ ap (λ (k : ℕ). told_by job b k c ++ told job b k cs) (reached_is cycle c h of)
 
+  pub ends_alike : (cycle : ℕ) (cs : List Command) → cycle ≤ length a.rows → AreOfJob job cs → ends_in a cycle cs ≡ ends_in b cycle cs
+  ends_alike cycle [] h all = refl
+  ends_alike cycle (c ∷ cs) h all =
+      let of : IsOfTargets job c = all 0 c (omega arith) in
+      let low : reached a cycle c ≤ length a.rows = reached_within a cycle c h in
+      let rest : AreOfJob job cs = λ i d l. all (suc i) d (omega (arith, l)) in
+      ends_alike (reached a cycle c) cs low rest ∙ ap (λ (k : ℕ). ends_in b k cs) (reached_is cycle c h of)
+
 -- the run of a netlist that shows the machine of a job is that of the job
 pub own_is_whole : (job : Job) (net : Net) → Shows net job → inputs_seen job (inputs_to job all_cycles) ≡ inputs_from job 0 all_cycles → AreQuiet (inputs_to job all_cycles)
     → ShowsAlike job (own_trace job net all_cycles) (whole_run job)
@@ -73,3 +81,12 @@ text_is job net d is seen quiet cs of =
     let start = is.under.within in
     let low : d.cycle ≤ length (run_of job d).rows = omega (arith, start, many job d is.under) in
     told_alike job (run_of job d) (whole_run job) (own_is_whole job d.net shows seen quiet) d.cycle cs low of
+
+-- and it ends in the same cycle
+pub end_is : (job : Job) (net : Net) (d : Debugged) → IsInspection job net d → inputs_seen job (inputs_to job all_cycles) ≡ inputs_from job 0 all_cycles
+    → AreQuiet (inputs_to job all_cycles) → (cs : List Command) → AreOfJob job cs → ends_in (run_of job d) d.cycle cs ≡ ends_in (whole_run job) d.cycle cs
+end_is job net d is seen quiet cs of =
+    let shows : Shows d.net job = subst (λ (n : Net). Shows n job) (sym is.net_is) is.shows in
+    let start = is.under.within in
+    let low : d.cycle ≤ length (run_of job d).rows = omega (arith, start, many job d is.under) in
+    ends_alike job (run_of job d) (whole_run job) (own_is_whole job d.net shows seen quiet) d.cycle cs low of

@@ -21,7 +21,7 @@ use Rattle.kp_shows.specs.Naming.{value_shown}
 use Rattle.kp_shows.specs.Shows.{Shows}
 use Rattle.kp_shows.specs.Traces.{trace_of}
 use Rattle.kp_watch.proofs.Prefixes.{rows_many}
-use Rattle.kp_inspect.specs.Inspecting.{all_cycles, has_value, first_from, ahead, reached, told_by, told}
+use Rattle.kp_inspect.specs.Inspecting.{all_cycles, has_value, first_from, ahead, reached, told_by, told, ends_in}
 use Rattle.kp_inspect.specs.inner.Standing.{IsUnderWay, IsSearched, IsInspection, run_of, state_seen}
 use Rattle.kp_inspect.proofs.Gathering.{inputs_many}
 use Rattle.kp_inspect.proofs.Searching.{within, found, goes_on}
@@ -34,6 +34,13 @@ told_next job trace cycle cs i c h is =
 
 pub told_end : (job : Job) (trace : Trace) (cycle : ℕ) (cs : List Command) (i : ℕ) → length cs ≤ i → told job trace cycle (drop i cs) ≡ []
 told_end job trace cycle cs i h = ap (told job trace cycle) (drop_all i cs h)
+
+pub ends_next : (trace : Trace) (cycle : ℕ) (cs : List Command) (i : ℕ) (c : Command) → i < length cs → c ≡ get_or cs i c
+    → ends_in trace cycle (drop i cs) ≡ ends_in trace (reached trace cycle c) (drop (i + 1) cs)
+ends_next trace cycle cs i c h is = ap (ends_in trace cycle) (drop_more cs i c h ∙ ap (λ (x : Command). x ∷ drop (i + 1) cs) (sym is))
+
+pub ends_end : (trace : Trace) (cycle : ℕ) (cs : List Command) (i : ℕ) → length cs ≤ i → ends_in trace cycle (drop i cs) ≡ cycle
+ends_end trace cycle cs i h = ap (ends_in trace cycle) (drop_all i cs h)
 
 -- no command goes past the end of a run
 pub reached_within : (trace : Trace) (cycle : ℕ) (command : Command) → cycle ≤ length trace.rows → reached trace cycle command ≤ length trace.rows
@@ -147,3 +154,10 @@ one_command job s new cs i c h is whole old mid end text on piece =
     let this : List ℕ = told_by job (run_of job s) (reached (run_of job s) s.cycle c) c in
     subst (λ (x : Debugged). WrittenUpTo whole (told job (run_of job x) x.cycle (drop (i + 1) cs)) old end) (sym on)
     (written_piece whole this more old mid end (left_is whole (told job (run_of job s) s.cycle (drop i cs)) (this ++ more) old mid next text) piece)
+
+-- and where all of them end
+pub one_end : (job : Job) (s new : Debugged) (cs : List Command) (i : ℕ) (c : Command) → i < length cs → c ≡ get_or cs i c → (last : ℕ)
+    → last ≡ ends_in (run_of job s) s.cycle (drop i cs) → new ≡ record s { cycle = reached (run_of job s) s.cycle c }
+    → last ≡ ends_in (run_of job new) new.cycle (drop (i + 1) cs)
+one_end job s new cs i c h is last at on =
+    subst (λ (x : Debugged). last ≡ ends_in (run_of job x) x.cycle (drop (i + 1) cs)) (sym on) (at ∙ ends_next (run_of job s) s.cycle cs i c h is)

@@ -68,6 +68,11 @@ abbrev pub told : Job → Trace → ℕ → List Command → List ℕ
 told job trace cycle [] = []
 told job trace cycle (c ∷ cs) = told_by job trace (reached trace cycle c) c ++ told job trace (reached trace cycle c) cs
 
+-- the cycle that is looked at behind them
+abbrev pub ends_in : Trace → ℕ → List Command → ℕ
+ends_in trace cycle [] = cycle
+ends_in trace cycle (c ∷ cs) = ends_in trace (reached trace cycle c) cs
+
 -- the register of an `until` is one of the job
 abbrev pub IsOfTargets : Job → Command → Type 0
 IsOfTargets job (commands.Until t v n) = (t < length (targets_of job.decls)) × (is_register (target job t) ≡ true)

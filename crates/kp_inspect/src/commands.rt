@@ -1,12 +1,12 @@
 // What a command does to a session, and what it writes.
-ghost use Rattle.std.specs.Prelude.{◌≡◌, ◌+◌, ◌<◌, ◌≤◌, ◌++◌, true, length, slice_get, option_map};
+ghost use Rattle.std.specs.Prelude.{◌≡◌, ◌+◌, ◌<◌, ◌≤◌, ◌++◌, true, length, slice_get, option_map, OnOk};
 ghost use Rattle.kp_base.specs.Bytes.{Writes};
 ghost use Rattle.kp_base.specs.Causes.{HasCause};
 ghost use Rattle.kp_machine.specs.Slots.{targets_of, is_register};
 ghost use Rattle.kp_sched.specs.Rows.{row_seen};
 ghost use Rattle.kp_seq.specs.Running.{target as target_of};
 ghost use Rattle.kp_show.specs.States.{state_lines, untold};
-ghost use Rattle.kp_inspect.specs.Inspecting.{all_cycles, found_word, has_value, first_from, reached, hit_line, at_line, row_or_end, told_by, told, IsOfTargets, AreOfJob};
+ghost use Rattle.kp_inspect.specs.Inspecting.{all_cycles, found_word, has_value, first_from, reached, hit_line, at_line, row_or_end, told_by, told, ends_in, IsOfTargets, AreOfJob};
 ghost use Rattle.kp_inspect.specs.inner.Standing.{IsUnderWay, IsRegisterOf, run_of, state_seen};
 
 use crate::inputs::all_cycles;
@@ -37,6 +37,7 @@ pub(crate) fn run_commands<K: Sink>(
     ensures under { IsUnderWay job.now.design.job session.new }
     ensures text { Writes (K.held sink.old) (K.held sink.new)
         (told job.now.design.job (run_of job.now.design.job session.old) session.old.cycle commands.now) result }
+    ensures cycle { OnOk result (session.new.cycle ≡ ends_in (run_of job.now.design.job session.old) session.old.cycle commands.now) }
     ensures cause { HasCause (K.faults sink.old) (K.faults sink.new) result }
 {
     for command in commands {

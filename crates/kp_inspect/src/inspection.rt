@@ -1,10 +1,10 @@
 // A run of a job that is looked at.
-ghost use Rattle.std.specs.Prelude.{◌≡◌, IfOk};
+ghost use Rattle.std.specs.Prelude.{◌≡◌, IfOk, OnOk};
 ghost use Rattle.kp_base.specs.Bytes.{Writes};
 ghost use Rattle.kp_base.specs.Causes.{HasCause};
 ghost use Rattle.kp_run.specs.Cycles.{inputs_to};
 ghost use Rattle.kp_shows.specs.Shows.{Shows};
-ghost use Rattle.kp_inspect.specs.Inspecting.{all_cycles, whole_run, told, AreOfJob};
+ghost use Rattle.kp_inspect.specs.Inspecting.{all_cycles, whole_run, told, ends_in, AreOfJob};
 
 use crate::commands::run_commands;
 use crate::inputs::{all_cycles, rows_to, words_to};
@@ -55,12 +55,13 @@ impl<'a> Inspection<'a> {
         Ok(Inspection { session, net, job })
     }
 
-    /// Goes through the commands of a script, and writes what each of them tells. A fault comes only from the sink, which then holds a
-    /// beginning of the text. Takes no memory.
+    /// Goes through the commands of a script, writes what each of them tells, and stays in the cycle where they end. A fault comes only
+    /// from the sink, which then holds a beginning of the text. Takes no memory.
     pub fn write<K: Sink>(&mut self, commands: &[Command], sink: &mut K) -> Result<(), SinkFault>
         requires { AreOfJob self.old.job commands.now }
         ensures job { self.new.job ≡ self.old.job }
         ensures text { Writes (K.held sink.old) (K.held sink.new) (told self.old.job (whole_run self.old.job) self.old.cycle commands.now) result }
+        ensures cycle { OnOk result (self.new.cycle ≡ ends_in (whole_run self.old.job) self.old.cycle commands.now) }
         ensures cause { HasCause (K.faults sink.old) (K.faults sink.new) result }
     {
         a_job_gives_its_own_inputs(self.job);

@@ -6,7 +6,7 @@ use Rattle.kp_debug.specs.Sessions.{Debugged}
 use Rattle.kp_show.proofs.Lines.{left_is}
 use Rattle.kp_inspect.specs.Inspecting.{reached, IsOfTargets}
 use Rattle.kp_inspect.specs.inner.Standing.{run_of}
-use Rattle.kp_inspect.proofs.Standing.{told_next, told_end, one_command, under_at, reached_there}
+use Rattle.kp_inspect.proofs.Standing.{told_next, told_end, ends_end, one_command, one_end, under_at, reached_there}
 use Rattle.kp_inspect.proofs.commands.run_commands.Goals as goal
 
 pub run_command-requires-clause-command : goal.run_command-requires-clause-command
@@ -26,6 +26,7 @@ loop-command-preserved g c =
       text =
           one_command job s _ c.args.commands.now c.loop-command.command-index c.command-item.result c.loop-command-test.true c.command-item.is _ _ _ _ kept.text on
           c.in_ok-run_command.ensures.text;
+      ends = one_end job s _ c.args.commands.now c.loop-command.command-index c.command-item.result c.loop-command-test.true c.command-item.is _ kept.ends on;
       later = omega arith;
     }
 
@@ -53,3 +54,8 @@ returns-clause-text g c =
     let s = c.loop-command.session in
     let none = told_end job (run_of job s) s.cycle c.args.commands.now c.loop-command.command-index (omega arith) in
     rest_whole _ _ _ _ _ (left_is _ _ _ _ _ none c.loop-command.invariant.text) (Appends-nil _)
+
+pub returns-clause-cycle : goal.returns-clause-cycle
+returns-clause-cycle g c =
+    let s = c.loop-command.session in
+    sym (c.loop-command.invariant.ends ∙ ends_end (run_of c.args.job.now.design.job s) s.cycle c.args.commands.now c.loop-command.command-index (omega arith))
