@@ -1,29 +1,45 @@
-//! The program: it hands the words of its command line and the standard streams to the top call.
+//! The program: it passes the arguments of its command line and the standard streams to the top call.
 #![tactic(auto)]
 
-use kp_base::{StdSink, StdSource};
+mod output;
+
+use kp_base::StdSource;
 use kp_tool::tool;
+use output::Output;
 use std::alloc::{AllocError, Global};
 use std::env::Env;
-use std::io::ErrorKind;
+use std::io::{BufWriter, ErrorKind};
 use std::process::ExitCode;
 use std::{env, io};
 
-/// The status where memory for the words can't be found.
+/// The status if the arguments or a page of output can't be allocated.
 const NO_MEMORY: u8 = 5;
+
+/// The status if writing failed.
+const UNWRITTEN: u8 = 4;
+
+/// The size of a page in bytes.
+const PAGE: usize = 65_536;
 
 fn main(rt: HostRuntime) -> ExitCode {
     match words(&rt) {
         Ok(words) => {
+            let Ok(writer) = BufWriter::with_capacity(rt.alloc(), PAGE, io::writer(&rt)) else {
+                return ExitCode::from(NO_MEMORY);
+            };
             let mut source = StdSource::new(rt.reader());
-            let mut sink = StdSink::new(io::writer(&rt));
-            ExitCode::from(tool(rt.alloc(), &words, &mut source, &mut sink))
+            let mut sink = Output::new(writer);
+            let status = tool(rt.alloc(), &words, &mut source, &mut sink);
+            match sink.finish() {
+                Ok(()) => ExitCode::from(status),
+                Err(_) => ExitCode::from(UNWRITTEN),
+            }
         }
         Err(AllocError) => ExitCode::from(NO_MEMORY),
     }
 }
 
-// The words after the program's name. Where one isn't text, an empty word stands for all of them, which no command is.
+// The arguments after the program's name. If one isn't UTF-8, a single empty argument is returned in place of all of them, which no command accepts.
 fn words(rt: &(impl Env + AllocGlobal)) -> Result<Vec<String>, AllocError> {
     let mut words = Vec::new(rt.alloc());
     match env::args(rt) {

@@ -1,4 +1,4 @@
--- Where no token is left, none breaks a rule.
+-- If no token is left, none violates a rule.
 use Rattle.std.proofs.Common.{◌≡◌, ℕ, ◌<◌, List, [], ◌∷◌, length, None, refl, arith}
 use Rattle.kp_asm.specs.Mnemonics.{first_breaking}
 use Rattle.kp_asm.specs.declared.token.Token.{Token}

@@ -1,4 +1,4 @@
--- Going past what begins at the front of the bytes that are left.
+-- Skipping what starts at the front of the bytes that are left.
 use Rattle.std.proofs.Common.{◌≡◌, ◌∙◌, ℕ, zero, suc, ◌+◌, ◌-◌, ◌≤◌, List, [], ◌∷◌, ◌++◌, length, take, drop, get_or, refl, ap, sym, arith, Result}
 use Rattle.std.proofs.lemmas.List.{take_all}
 use Rattle.kp_base.specs.declared.refusal.Refusal.{Refusal}
@@ -27,7 +27,7 @@ module _ (text : List ℕ) (tokens : List Token) (start : ℕ) where
       let s : start + (inside + 1) ≡ start + 1 + inside = omega arith in
       rw (e, s) (skip text more (start + 1) inside after h)
 
-  -- what a pattern calls the bytes behind the first
+  -- the bytes after the first, as a pattern names them
   abbrev behind : List ℕ → List ℕ
   behind rest = take (length rest - 1) (drop 1 rest)
 

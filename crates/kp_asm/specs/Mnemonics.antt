@@ -1,4 +1,4 @@
--- The mnemonics, the form of each, and what a token has to be.
+-- The mnemonics, the form of each, and the requirements on a token.
 use Rattle.std.specs.Prelude.{ℕ, List, [], ◌∷◌, Option, Some, None, Bool, true, false, not, if◌then◌else◌, codes, find, map, option_map}
 use Rattle.std.specs.Str.{bytes_eq}
 use Rattle.kp_base.specs.First.{first}
@@ -15,7 +15,7 @@ use Rattle.kp_asm.specs.declared.mnemonic.Piece.TheVariants as pieces
 use Rattle.kp_asm.specs.declared.operands.Rule.{Rule}
 use Rattle.kp_asm.specs.declared.operands.Rule.TheVariants as rules
 
--- how a mnemonic is written
+-- the text of a mnemonic
 abbrev pub spelling : Mnemonic → List ℕ
 spelling mnemonics.Add = codes "add"
 spelling mnemonics.Sub = codes "sub"
@@ -51,7 +51,7 @@ all_mnemonics =
     ∷ mnemonics.Slt ∷ mnemonics.Nop ∷ mnemonics.Addi ∷ mnemonics.Slti ∷ mnemonics.Andi ∷ mnemonics.Ori ∷ mnemonics.Xori ∷ mnemonics.Lhi ∷ mnemonics.Lw
     ∷ mnemonics.Sw ∷ mnemonics.Beqz ∷ mnemonics.Bnez ∷ mnemonics.J ∷ mnemonics.Jal ∷ mnemonics.Jr ∷ mnemonics.Jalr ∷ mnemonics.Word ∷ []
 
--- the mnemonic that is written so
+-- the mnemonic with this text
 abbrev pub mnemonic_of : List ℕ → Option Mnemonic
 mnemonic_of run = find (λ m. bytes_eq run (spelling m)) all_mnemonics
 
@@ -67,7 +67,7 @@ two_registers_and number = pieces.Register ∷ pieces.Comma ∷ pieces.Register 
 abbrev pub displacement : List Piece
 displacement = pieces.Register ∷ pieces.Comma ∷ pieces.Signed ∷ pieces.Open ∷ pieces.Register ∷ pieces.Close ∷ pieces.End ∷ []
 
--- what stands behind a mnemonic, up to the end of the line
+-- what follows a mnemonic, up to the end of the line
 abbrev pub form : Mnemonic → List Piece
 form mnemonics.Add = three_registers
 form mnemonics.Sub = three_registers
@@ -96,7 +96,7 @@ form mnemonics.Jr = pieces.Register ∷ pieces.End ∷ []
 form mnemonics.Jalr = pieces.Register ∷ pieces.End ∷ []
 form mnemonics.Word = pieces.Any ∷ pieces.End ∷ []
 
--- a token is what the form wants
+-- a token is what the form requires
 abbrev pub fits : Piece → TokenKind → List ℕ → Bool
 fits pieces.Register kinds.Name bytes = is_register bytes
 fits pieces.Label kinds.Name bytes = true
@@ -121,7 +121,7 @@ has_range pieces.Unsigned bytes = in_range 0 65535 bytes
 has_range pieces.Any bytes = in_range 2147483648 4294967295 bytes
 has_range piece bytes = true
 
--- a token breaks the rule, at its place in the form
+-- a token violates the rule, at its index in the form
 abbrev pub breaks : Rule → Piece → TokenKind → List ℕ → Bool
 breaks rules.Form piece kind bytes = not (fits piece kind bytes)
 breaks rules.Register piece kind bytes = not (has_register piece bytes)
@@ -133,17 +133,17 @@ number_of_rule rules.Form = 3
 number_of_rule rules.Register = 4
 number_of_rule rules.Range = 5
 
--- the first token that breaks the rule
+-- the first token that violates the rule
 abbrev pub first_breaking : List ℕ → Rule → List Piece → List Token → Option Token
 first_breaking text rule [] tokens = None
 first_breaking text rule (piece ∷ more) [] = None
 first_breaking text rule (piece ∷ more) (token ∷ tokens) =
     if breaks rule piece token.kind (bytes_of text token) then Some token else first_breaking text rule more tokens
 
--- the rule is broken at the first token that breaks it
+-- the rule is reported at the first token that violates it
 abbrev pub operand_answer : List ℕ → List Piece → List Token → Rule → Answer
 operand_answer text wanted tokens rule = option_map (λ token. broken text (number_of_rule rule) token.start) (first_breaking text rule wanted tokens)
 
--- the first broken rule of the operands: A3 is asked of all tokens of the line, then A4, then A5
+-- the first violated rule of the operands: A3 is checked on all tokens of the line, then A4, then A5
 abbrev pub broken_operand : List ℕ → List Piece → List Token → Answer
 broken_operand text wanted tokens = first (map (operand_answer text wanted tokens) (rules.Form ∷ rules.Register ∷ rules.Range ∷ []))

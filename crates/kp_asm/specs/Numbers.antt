@@ -1,4 +1,4 @@
--- The numbers and the registers that tokens write.
+-- The numbers and the registers that tokens denote.
 use Rattle.std.specs.Prelude.{ℕ, ◌-◌, ◌%◌, ◌^◌, ◌==◌, ◌&&◌, nat_le, List, [], ◌∷◌, length, drop, Bool, false, if◌then◌else◌, Option, Some, None, unwrap_or}
 use Rattle.std.specs.List.{list_all}
 use Rattle.kp_base.specs.Characters.{is_digit}
@@ -14,7 +14,7 @@ abbrev pub is_hexadecimal : List ℕ → Bool
 is_hexadecimal (first ∷ second ∷ rest) = first == 48 && second == 120
 is_hexadecimal _ = false
 
--- how far a number is from 0, if 64 bits hold that
+-- the absolute value of a number, if it fits 64 bits
 abbrev pub magnitude : List ℕ → Option ℕ
 magnitude run =
     if is_hexadecimal run then number_within (numeral_value 16 (drop 2 run))

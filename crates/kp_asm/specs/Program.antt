@@ -1,4 +1,4 @@
--- What a program says, line by line, and the words that it stands for.
+-- The contents of a program, line by line, and the words that it denotes.
 use Rattle.std.specs.Prelude.{ℕ, ◌+◌, ◌*◌, ◌==◌, nat_lt, nat_eq, List, [], ◌∷◌, ◌++◌, Bool, true, false, if◌then◌else◌, Option, Some, None, is_some, unwrap_or, slice_get, Result, Ok, Err}
 use Rattle.std.specs.Map.{lookup}
 use Rattle.std.specs.Cmp.Lexicographic.{pointwise}
@@ -22,7 +22,7 @@ abbrev pub is_line_end : TokenKind → Bool
 is_line_end kinds.LineEnd = true
 is_line_end _ = false
 
--- one more token in front of the first line
+-- one more token before the first line
 abbrev pub prepend : Token → List (List Token) → List (List Token)
 prepend t [] = (t ∷ []) ∷ []
 prepend t (line ∷ lines) = (t ∷ line) ∷ lines
@@ -32,16 +32,16 @@ abbrev pub lines_of : List Token → List (List Token)
 lines_of [] = []
 lines_of (t ∷ ts) = if is_line_end t.kind then (t ∷ []) ∷ lines_of ts else prepend t (lines_of ts)
 
--- What the lines so far say: labels and instructions in text order, and how many are instructions
+-- The lines so far: labels and instructions in text order, and the number of instructions
 pub record Listing : Type 0 where
   pub items : List Item
   pub count : ℕ
 
--- the label stands for the address of the next word
+-- the label denotes the address of the next word
 abbrev pub with_label : Listing → Token → Listing
 with_label p name = record { items = p.items ++ items.Label (record { name = name; address = 4 * p.count }) ∷ []; count = p.count }
 
--- Word i stands at address 4i.
+-- Word i is at address 4i.
 abbrev pub with_instruction : Listing → Mnemonic → Token → List Token → Listing
 with_instruction p m t operands = record {
   items = p.items ++ items.Instruction (record {
@@ -81,7 +81,7 @@ line_read text p (a ∷ b ∷ rest) =
     if declares a.kind b.kind then instruction_read text (with_label p a) rest else instruction_read text p (a ∷ b ∷ rest)
 line_read text p line = instruction_read text p line
 
--- line after line
+-- the lines in order
 abbrev pub lines_read : List ℕ → Listing → List (List Token) → Result Listing Refusal
 lines_read text p [] = Ok p
 lines_read text p (line ∷ lines) = bind (line_read text p line) (λ next. lines_read text next lines)
@@ -93,7 +93,7 @@ Labels = List (List ℕ × Label)
 abbrev pub declared : Labels → List ℕ → Option Label
 declared labels name = lookup (pointwise nat_eq name) labels
 
--- one more declaration, unless its name is declared
+-- one more declaration, unless its name is declared already
 abbrev pub with_declared : Labels → List ℕ → Label → Labels
 with_declared labels name label = if is_some (declared labels name) then labels else labels ++ (name, label) ∷ []
 
@@ -102,12 +102,12 @@ abbrev pub with_item : List ℕ → Labels → Item → Labels
 with_item text labels (items.Label label) = with_declared labels (bytes_of text label.name) label
 with_item text labels (items.Instruction instruction) = labels
 
--- item after item
+-- the items in order
 abbrev pub labels_from : List ℕ → Labels → List Item → Labels
 labels_from text labels [] = labels
 labels_from text labels (item ∷ more) = labels_from text (with_item text labels item) more
 
--- the operand that names a label
+-- the operand that is the name of a label
 abbrev pub label_among : Mnemonic → Token → Token → Option Token
 label_among mnemonics.Beqz first second = Some second
 label_among mnemonics.Bnez first second = Some second
@@ -118,17 +118,17 @@ label_among _ first second = None
 abbrev pub used_label : Instruction → Option Token
 used_label i = label_among i.mnemonic i.first i.second
 
--- A6: a used label is declared somewhere
+-- A6: a used label is declared
 abbrev pub address_of : List ℕ → Token → Option Label → Result ℕ Refusal
 address_of text t (Some label) = Ok label.address
 address_of text t None = Err (broken text 6 t.start)
 
--- the address of the label that is used, or 0 where none is
+-- the address of the label that is used, or 0 if none is
 abbrev pub target_of : List ℕ → Labels → Option Token → Result ℕ Refusal
 target_of text labels None = Ok 0
 target_of text labels (Some t) = address_of text t (declared labels (bytes_of text t))
 
--- the word of an instruction whose label stands at this address
+-- the word of an instruction whose label is at this address
 abbrev pub word_at : List ℕ → Instruction → ℕ → ℕ
 word_at text i target =
     word_of i.mnemonic (bytes_of text i.first) (bytes_of text i.second) (bytes_of text i.third) target i.address
@@ -145,7 +145,7 @@ item_read text labels words (items.Label label) =
 item_read text labels words (items.Instruction i) =
     bind (target_of text labels (used_label i)) (λ target. Ok (words ++ word_at text i target ∷ []))
 
--- item after item
+-- the items in order
 abbrev pub words_from : List ℕ → Labels → List ℕ → List Item → Result (List ℕ) Refusal
 words_from text labels words [] = Ok words
 words_from text labels words (item ∷ more) = bind (item_read text labels words item) (λ next. words_from text labels next more)
@@ -154,8 +154,8 @@ words_from text labels words (item ∷ more) = bind (item_read text labels words
 abbrev pub nothing_read : Listing
 nothing_read = record { items = []; count = 0 }
 
--- The words of a text, or its first broken rule: all tokens are looked at first (A1), then the lines in text order
--- (A2 to A5 and A7), and then the labels in text order (A6).
+-- The words of a text, or the first rule that it violates: all tokens are checked first (A1), then the lines in text order (A2 to A5 and A7), and
+-- then the labels in text order (A6).
 unfoldable pub assembled : List ℕ → Result (List ℕ) Refusal
 assembled text =
     bind (tokens_of text) (λ tokens.

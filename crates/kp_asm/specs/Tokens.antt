@@ -18,7 +18,7 @@ is_layout byte = byte == 32 || byte == 9 || byte == 13
 abbrev pub is_hex : ℕ → Bool
 is_hex byte = is_digit byte || (nat_le 65 byte && nat_le byte 70) || (nat_le 97 byte && nat_le byte 102)
 
--- a comment goes on to the line feed
+-- a comment ends before the line feed
 abbrev pub is_in_line : ℕ → Bool
 is_in_line byte = not (byte == 10)
 
@@ -31,7 +31,7 @@ begins_hex _ = false
 abbrev pub name : ℕ → Front
 name more = if nat_lt 63 more then fronts.Broken else fronts.Token kinds.Name more
 
--- how many bytes of a number stand behind its first digit: `0x` and hexadecimal digits, or decimal digits
+-- the number of bytes of a number after its first digit: `0x` and hexadecimal digits, or decimal digits
 abbrev pub number_more : ℕ → List ℕ → ℕ
 number_more first rest = if first == 48 && begins_hex rest then run_length is_hex (drop 1 rest) + 1 else run_length is_digit rest
 
@@ -54,7 +54,7 @@ mark byte =
     else if byte == 58 then fronts.Token kinds.Colon 0
     else fronts.Broken
 
--- What begins with this byte, with the bytes behind it: layout, a comment, a token, or nothing.
+-- What starts with this byte, given the bytes after it: layout, a comment, a token, or nothing.
 abbrev pub front_of : ℕ → List ℕ → Front
 front_of first rest =
     if is_layout first then fronts.Gap 0
@@ -65,13 +65,13 @@ front_of first rest =
     else if first == 46 then dot_word rest
     else mark first
 
--- how many bytes stand behind the first
+-- the number of bytes after the first
 abbrev pub more_of : Front → ℕ
 more_of (fronts.Gap more) = more
 more_of (fronts.Token kind more) = more
 more_of fronts.Broken = 0
 
--- rule A of this number, broken at this offset
+-- rule A of this number, violated at this offset
 abbrev pub broken : List ℕ → ℕ → ℕ → Refusal
 broken text number offset = a_rule number (place_after (take offset text))
 
@@ -79,20 +79,20 @@ broken text number offset = a_rule number (place_after (take offset text))
 abbrev pub token_at : ℕ → TokenKind → ℕ → Token
 token_at start kind len = record { start = start; len = len; kind = kind }
 
--- what comes of a front: `go` takes the tokens and how many bytes stand behind the first
+-- the rest after a front: `go` receives the tokens and the number of bytes after the first
 abbrev pub after_front : List ℕ → List Token → ℕ → Front → (List Token → ℕ → Result (List Token) Refusal) → Result (List Token) Refusal
 after_front text tokens start (fronts.Gap more) go = go tokens more
 after_front text tokens start (fronts.Token kind more) go = go (tokens ++ token_at start kind (more + 1) ∷ []) more
 after_front text tokens start fronts.Broken go = Err (broken text 1 start)
 
--- From the tokens so far, the offset, how many bytes still belong to what began before, and the bytes that are left.
--- The end of the text ends a line too. A1 is broken where no token begins, or a name is too long.
+-- From the tokens so far, the offset, the number of bytes that still belong to what started before, and the bytes that are left. The end of the text
+-- ends a line too. A1 is violated where no token starts, or a name is too long.
 abbrev pub tokens_from : List ℕ → List Token → ℕ → ℕ → List ℕ → Result (List Token) Refusal
 tokens_from text tokens start inside [] = Ok (tokens ++ token_at start kinds.LineEnd 0 ∷ [])
 tokens_from text tokens start (suc inside) (byte ∷ rest) = tokens_from text tokens (start + 1) inside rest
 tokens_from text tokens start zero (byte ∷ rest) = after_front text tokens start (front_of byte rest) (λ more inside. tokens_from text more (start + 1) inside rest)
 
--- the tokens of a text, or its first byte that breaks A1
+-- the tokens of a text, or the first byte that violates A1
 abbrev pub tokens_of : List ℕ → Result (List Token) Refusal
 tokens_of text = tokens_from text [] 0 0 text
 

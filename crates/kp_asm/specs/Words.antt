@@ -20,7 +20,7 @@ j_form opcode immediate = opcode * 2 ^ 26 + immediate
 abbrev pub distance : ℕ → ℕ → ℕ → ℕ
 distance width label address = (label + 2 ^ width - (address + 4) % 2 ^ width) % 2 ^ width
 
--- From the operands in their order, the address of the label if one is used, and the address of the instruction.
+-- From the operands in order, the address of the label if one is used, and the address of the instruction.
 abbrev pub word_of : Mnemonic → List ℕ → List ℕ → List ℕ → ℕ → ℕ → ℕ
 word_of mnemonics.Add rd ra rb label address = r_form 0x20 (register rd) (register ra) (register rb)
 word_of mnemonics.Sub rd ra rb label address = r_form 0x22 (register rd) (register ra) (register rb)

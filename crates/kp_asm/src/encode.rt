@@ -1,4 +1,4 @@
-// The words of instructions.
+// The encoding of instructions.
 ghost use Rattle.std.specs.Prelude.{◌≡◌, ◌≤◌, ◌<◌, ◌^◌};
 ghost use Rattle.kp_asm.specs.Words.{r_form, i_form, j_form, distance, word_of};
 
@@ -16,8 +16,7 @@ const RD_OF_IMMEDIATE: u32 = 1 << 16;
 
 const RD_OF_REGISTERS: u32 = 1 << 11;
 
-/// The word of an instruction: its mnemonic, the bytes of its operands in their order, the address of the label that
-/// it uses, and its own address.
+/// The word of an instruction: its mnemonic, the bytes of its operands in order, the address of the label that it uses, and its own address.
 pub fn word_of(
     mnemonic: Mnemonic,
     first: &[u8],

@@ -1,4 +1,4 @@
-// What begins with a byte of a text.
+// What starts with a byte of a text.
 ghost use Rattle.std.specs.Prelude.{◌≡◌, ◌≤◌, ◌<◌, length, drop};
 ghost use Rattle.kp_base.specs.Characters.{is_digit, run_length};
 ghost use Rattle.kp_asm.specs.Tokens.{is_layout, is_hex, is_in_line, begins_hex, name, number_more, negative, dot_word, mark, front_of, more_of};
@@ -6,17 +6,17 @@ ghost use Rattle.kp_asm.specs.Tokens.{is_layout, is_hex, is_in_line, begins_hex,
 use crate::token::TokenKind;
 use kp_base::{is_digit, is_letter, run_length, word_length};
 
-/// What begins with a byte, and how many bytes stand behind that byte.
+/// What starts with a byte, and how many of its bytes follow that byte.
 #[derive(Clone, Copy)]
 pub enum Front {
     /// Layout or a comment.
     Gap(usize),
     Token(TokenKind, usize),
-    /// No token begins here, or a name is too long.
+    /// No token starts here, or a name is too long.
     Broken,
 }
 
-/// What begins with the byte `first`, which stands before `rest`.
+/// What starts with the byte `first`, which is followed by `rest`.
 pub fn read_front(first: u8, rest: &[u8]) -> Front
     ensures value { result ≡ front_of first rest.now }
     ensures within { more_of result ≤ length rest.now }
@@ -51,7 +51,7 @@ fn is_hex(byte: u8) -> bool
     byte.is_ascii_hexdigit()
 }
 
-// How many bytes stand before the next line feed.
+// The number of bytes before the next line feed.
 fn comment_length(text: &[u8]) -> usize
     ensures value { result ≡ run_length is_in_line text.now }
     ensures within { result ≤ length text.now }
@@ -59,7 +59,7 @@ fn comment_length(text: &[u8]) -> usize
     run_length(text, |byte| byte != b'\n')
 }
 
-// How many decimal digits stand at the front.
+// The number of decimal digits at the front.
 fn digits_length(text: &[u8]) -> usize
     ensures value { result ≡ run_length is_digit text.now }
     ensures within { result ≤ length text.now }
@@ -67,7 +67,7 @@ fn digits_length(text: &[u8]) -> usize
     run_length(text, |byte| is_digit(byte))
 }
 
-// How many hexadecimal digits stand at the front.
+// The number of hexadecimal digits at the front.
 fn hex_length(text: &[u8]) -> usize
     ensures value { result ≡ run_length is_hex text.now }
     ensures within { result ≤ length text.now }
@@ -87,7 +87,7 @@ fn name(more: usize) -> Front
     }
 }
 
-// The length of a number behind its first digit.
+// The number of bytes of a number after its first digit.
 fn number_more(first: u8, rest: &[u8]) -> usize
     ensures value { result ≡ number_more first rest.now }
     ensures within { result ≤ length rest.now }
@@ -103,7 +103,7 @@ fn number_more(first: u8, rest: &[u8]) -> usize
     digits_length(rest)
 }
 
-// A number with a `-`, if digits stand behind it.
+// A number with a `-`, if digits follow it.
 fn negative(more: usize) -> Front
     ensures value { result ≡ negative more }
     ensures within { more_of result ≤ more }
@@ -115,7 +115,7 @@ fn negative(more: usize) -> Front
     }
 }
 
-// What a `.` before this begins.
+// What a `.` before this text starts.
 fn dot_word(rest: &[u8]) -> Front
     ensures value { result ≡ dot_word rest.now }
     ensures within { more_of result ≤ length rest.now }

@@ -7,7 +7,7 @@ use kp_base::NoMemory;
 use kp_bits::Bits;
 use std::alloc::Global;
 
-/// The `image` section of a description with these words, word i at IM[i], words that are 0 among them.
+/// The text of the `image` section of a description with these words, word i at IM[i], including words that are 0. The only error is out of memory.
 #[tactic(auto, using(crate::proofs::Images::line_more, crate::proofs::Images::lines_all))]
 pub fn image_text(alloc: Global, words: &[u32]) -> Result<Vec<u8>, NoMemory>
     ensures { IfOk result (λ text. text.items ≡ image_text_of words.now) }

@@ -1,16 +1,15 @@
-// What a line says.
+// The contents of a line.
 use crate::mnemonic::Mnemonic;
 use crate::token::Token;
 
-/// A label that is declared, and the address of the word behind it.
+/// A label that is declared, and the address of the word after it.
 #[derive(Clone, Copy, Debug, PartialEq, Eq)]
 pub struct Label {
     pub name: Token,
     pub address: u32,
 }
 
-/// An instruction: its operands in their order, without the marks, and its address. An operand that it hasn't got is
-/// its mnemonic.
+/// An instruction: its operands in order, without the punctuators, and its address. A missing operand is replaced by the mnemonic.
 #[derive(Clone, Copy, Debug, PartialEq, Eq)]
 pub struct Instruction {
     pub mnemonic: Mnemonic,

@@ -105,7 +105,7 @@ impl Labels {
         Ok(())
     }
 
-    /// The first declaration of this name, if there is one.
+    /// The first declaration of this name, if there is one. The only error is out of memory.
     pub fn find(&self, alloc: Global, name: &[u8]) -> Result<Option<Label>, NoMemory>
         ensures { IfOk result (λ label. label ≡ declared self.now name.now) }
     {
@@ -132,7 +132,7 @@ impl Labels {
         }
     }
 
-    /// The labels that these items declare.
+    /// The labels that these items declare. The only error is out of memory.
     pub fn of(alloc: Global, text: &[u8], items: &[Item]) -> Result<Labels, NoMemory>
         ensures { IfOk result (λ labels. labels ≡ labels_from text.now [] items.now) }
     {

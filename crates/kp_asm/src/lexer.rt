@@ -8,8 +8,8 @@ use crate::token::{Token, TokenKind, broken};
 use kp_base::Refused;
 use std::alloc::Global;
 
-/// The tokens of a text, of which the last ends its last line. Refuses A1 at the first byte where no token begins or a
-/// name of more than 64 bytes does.
+/// The tokens of a text, the last of which ends its last line. Errors: A1 at the first byte where no token starts or a name of more than 64 bytes
+/// does, and out of memory.
 pub fn tokens_of(alloc: Global, text: &[u8]) -> Result<Vec<Token>, Refused>
     requires { length text.now ≤ 2 ^ 32 - 2 }
     ensures { Gives result (tokens_of text.now) (λ tokens. tokens.items) }

@@ -1,4 +1,4 @@
-// What the lines of a program say.
+// The lines of a program.
 ghost use Rattle.std.specs.Prelude.{◌≡◌, ◌≤◌, ◌<◌, ◌-◌, ◌^◌, ℕ, length, OnOk, OnErr, slice_get, unwrap_or};
 ghost use Rattle.kp_base.specs.Check.{Gives};
 ghost use Rattle.kp_asm.specs.Tokens.{bytes_of};
@@ -14,10 +14,10 @@ use kp_base::{NoMemory, Refused};
 use std::alloc::Global;
 use std::marker::Model;
 
-// The most words of a program.
+// The greatest number of words of a program.
 const MOST_WORDS: u32 = 1024;
 
-/// The labels and the instructions of a program in text order, and how many are instructions.
+/// The labels and the instructions of a program in text order, and the number of instructions.
 #[derive(Drop)]
 pub struct Program {
     items: Vec<Item>,
@@ -133,7 +133,7 @@ impl Program {
     }
 }
 
-// The operand at a place, or the mnemonic where there is none.
+// The operand at an index, or the mnemonic if there is none.
 fn operand(operands: &[Token], place: usize, token: Token) -> Token
     ensures { result ≡ unwrap_or (slice_get operands.now place) token }
 {
@@ -146,14 +146,14 @@ fn is_line_end(kind: TokenKind) -> bool
     matches!(kind, TokenKind::LineEnd)
 }
 
-// A name and a `:` declare a label.
+// Whether the tokens declare a label: a name and a `:`.
 fn declares(first: TokenKind, second: TokenKind) -> bool
     ensures { result ≡ declares first second }
 {
     matches!((first, second), (TokenKind::Name, TokenKind::Colon))
 }
 
-// How many tokens the first line has.
+// The number of tokens of the first line.
 fn line_length(tokens: &[Token]) -> usize
     ensures { result ≡ line_length tokens.now }
 {
@@ -165,7 +165,7 @@ fn line_length(tokens: &[Token]) -> usize
     tokens.len()
 }
 
-/// What the lines of these tokens say. Refuses A2 to A5 and A7.
+/// The labels and instructions in the lines of these tokens. Errors: the first violation of A2 to A5 and A7 in text order, and out of memory.
 pub fn read_lines(alloc: Global, text: &[u8], tokens: &[Token]) -> Result<Program, Refused>
     requires { length text.now ≤ 2 ^ 32 - 2 }
     ensures { Gives result (lines_read text.now nothing_read (lines_of tokens.now)) (λ program. program) }

@@ -1,9 +1,9 @@
-// The mnemonics, and what stands behind each.
+// The mnemonics, and the form of the operands of each.
 ghost use Rattle.std.specs.Prelude.{◌≡◌, find};
 ghost use Rattle.std.specs.Str.{bytes_eq};
 ghost use Rattle.kp_asm.specs.Mnemonics.{all_mnemonics, spelling as spelling_of, mnemonic_of, form as form_of};
 
-/// What an instruction begins with.
+/// The mnemonic of an instruction.
 #[derive(Clone, Copy, Debug, PartialEq, Eq)]
 pub enum Mnemonic {
     Add,
@@ -31,11 +31,11 @@ pub enum Mnemonic {
     Jal,
     Jr,
     Jalr,
-    /// `.word`, a word by its number.
+    /// `.word`, a word given as a number.
     Word,
 }
 
-/// What stands at one place behind a mnemonic.
+/// A piece of the form of an instruction, after the mnemonic.
 #[derive(Clone, Copy, Debug, PartialEq, Eq)]
 pub enum Piece {
     Register,
@@ -43,7 +43,7 @@ pub enum Piece {
     Signed,
     /// A number of 16 bits without a sign.
     Unsigned,
-    /// A number of 32 bits, with a sign or without.
+    /// A number of 32 bits, with or without a sign.
     Any,
     Label,
     Comma,
@@ -121,7 +121,7 @@ impl Mnemonic {
         Mnemonic::Word,
     ];
 
-    /// How the mnemonic is written.
+    /// The text of the mnemonic.
     pub fn spelling(self) -> &'static [u8]
         ensures { result.now ≡ spelling_of self }
     {
@@ -155,7 +155,7 @@ impl Mnemonic {
         }
     }
 
-    /// What stands behind the mnemonic, up to the end of the line.
+    /// What follows the mnemonic, up to the end of the line.
     pub fn form(self) -> &'static [Piece]
         ensures { result.now ≡ form_of self }
     {
@@ -188,7 +188,7 @@ impl Mnemonic {
     }
 }
 
-/// The mnemonic that is written so, if there is one.
+/// The mnemonic with this text, if there is one.
 pub fn mnemonic_of(run: &[u8]) -> Option<Mnemonic>
     ensures { result ≡ mnemonic_of run.now }
 {

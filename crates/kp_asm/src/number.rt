@@ -1,4 +1,4 @@
-// The numbers and the registers that tokens write.
+// The numbers and the registers that tokens denote.
 ghost use Rattle.std.specs.Prelude.{◌≡◌, ◌≤◌, ◌<◌, ◌^◌, drop};
 ghost use Rattle.std.specs.List.{list_all};
 ghost use Rattle.kp_bits.specs.Literals.{number_of};
@@ -14,7 +14,7 @@ fn is_negative(run: &[u8]) -> bool
     matches!(run, [b'-', ..])
 }
 
-// How far a number is from 0, if 64 bits hold that.
+// The absolute value of a number, if it fits 64 bits.
 fn magnitude(run: &[u8]) -> Option<u64>
     ensures { result ≡ magnitude run.now }
 {
@@ -36,14 +36,14 @@ fn is_at_most(n: Option<u64>, limit: u64) -> bool
     }
 }
 
-/// The number is in -low to high.
+/// Whether the number is in -low to high.
 pub fn in_range(low: u64, high: u64, run: &[u8]) -> bool
     ensures { result ≡ in_range low high run.now }
 {
     is_at_most(magnitude(run), if is_negative(run) { low } else { high })
 }
 
-/// The number in so many bits, in two's complement.
+/// The number in `width` bits, in two's complement.
 pub fn number(width: u32, run: &[u8]) -> u32
     requires { width ≤ 32 }
     ensures value { result ≡ number_in width run.now }
@@ -58,7 +58,7 @@ pub fn number(width: u32, run: &[u8]) -> u32
     }
 }
 
-/// `r` and 1 to 20 decimal digits.
+/// Whether it is `r` and 1 to 20 decimal digits.
 pub fn is_register(run: &[u8]) -> bool
     ensures { result ≡ is_register run.now }
 {
@@ -80,7 +80,7 @@ fn are_digits(run: &[u8]) -> bool
     run.iter().all(|byte| is_digit(*byte))
 }
 
-// The number behind the first byte, if 64 bits hold it.
+// The number after the first byte, if it fits 64 bits.
 fn register_number(run: &[u8]) -> Option<u64>
     ensures { result ≡ number_of (drop 1 run.now) }
 {
@@ -90,7 +90,7 @@ fn register_number(run: &[u8]) -> Option<u64>
     }
 }
 
-/// The register's number is at most 31.
+/// Whether the register's number is at most 31.
 pub fn is_low(run: &[u8]) -> bool
     ensures { result ≡ is_low run.now }
 {

@@ -18,7 +18,7 @@ pub enum Rule {
     Range,
 }
 
-/// The first broken rule of the tokens behind a mnemonic of this form.
+/// The first rule that the tokens after a mnemonic of this form violate, at the first token that does; `None` if they violate none.
 pub fn broken_operand(text: &[u8], form: &[Piece], tokens: &[Token]) -> Option<Refusal>
     requires { length text.now ≤ 2 ^ 32 - 2 }
     ensures { result ≡ broken_operand text.now form.now tokens.now }
@@ -42,7 +42,7 @@ fn operand_answer(text: &[u8], form: &[Piece], tokens: &[Token], rule: Rule) -> 
     }
 }
 
-// The first token that breaks the rule.
+// The first token that violates the rule.
 fn first_breaking(text: &[u8], rule: Rule, form: &[Piece], tokens: &[Token]) -> Option<Token>
     ensures { result ≡ first_breaking text.now rule form.now tokens.now }
 {

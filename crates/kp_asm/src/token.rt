@@ -1,4 +1,4 @@
-// What a program is made of.
+// The tokens of a program.
 ghost use Rattle.std.specs.Prelude.{◌≡◌, ◌≤◌, ◌^◌, ◌-◌, length};
 ghost use Rattle.kp_asm.specs.Tokens.{broken, bytes_of};
 
@@ -39,7 +39,7 @@ pub fn bytes_of<'a>(text: &'a [u8], token: Token) -> &'a [u8]
     bytes
 }
 
-/// The refusal by the A rule of this number at this offset.
+/// The refusal by rule A of this number at this offset.
 pub fn broken(text: &[u8], number: u8, offset: u32) -> Refusal
     requires { length text.now ≤ 2 ^ 32 - 2 }
     ensures { result ≡ broken text.now number offset }

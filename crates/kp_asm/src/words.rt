@@ -17,8 +17,8 @@ use std::alloc::Global;
 
 /// The words of a program, word i for address 4i.
 ///
-/// Refuses the first broken rule: A1 of any token, else A2 to A5 and A7 of the lines in text order, else A6 of the
-/// labels in text order.
+/// Errors: the first violated rule, which is A1 at any token, else A2 to A5 and A7 for the lines in text order, else A6 for the labels in text order;
+/// and out of memory.
 #[tactic(auto, unfolding(crate::specs::Program::assembled))]
 pub fn assemble(alloc: Global, text: &[u8]) -> Result<Vec<u32>, Refused>
     requires { length text.now ≤ 2 ^ 32 - 2 }
@@ -75,7 +75,7 @@ fn add_word(
     Ok(())
 }
 
-// A declaration is the first one of its name.
+// Whether a declaration is the first one of its name.
 fn is_first(alloc: Global, text: &[u8], labels: &Labels, label: Label) -> Result<bool, NoMemory>
     ensures { IfOk result (λ first. first ≡ is_at (declared labels.now (bytes_of text.now label.name)) label.name.start) }
 {
@@ -92,7 +92,7 @@ fn is_at(label: Option<Label>, start: u32) -> bool
     }
 }
 
-// The operand that names a label.
+// The operand that is the name of a label.
 fn used_label(instruction: Instruction) -> Option<Token>
     ensures { result ≡ used_label instruction }
 {
@@ -103,7 +103,7 @@ fn used_label(instruction: Instruction) -> Option<Token>
     }
 }
 
-// The address of the label that is used, or 0 where none is.
+// The address of the label that is used, or 0 if none is.
 fn target_of(
     alloc: Global,
     text: &[u8],

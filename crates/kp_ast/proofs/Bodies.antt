@@ -35,7 +35,7 @@ module _ (ds : List Decl) (i : ℕ) (d : Decl) (h : i < length ds) (read : d ≡
   pub bodies_more : bodies_of (take (i + 1) ds) ≡ bodies_after (bodies_of (take i ds)) d
   bodies_more = ap bodies_of split ∙ fold-append bodies_after no_bodies (take i ds) (d ∷ [])
 
-  -- and stands in the table
+  -- and is in the table
   pub capped_at : get_or (capped_bodies ds) i 0 ≡ min (body_size_of (bodies_of (take i ds)) d) 100001
   capped_at = get_or-from no_bodies ds i d h ∙ ap (λ x. min (body_size_of (bodies_of (take i ds)) x) 100001) (sym read)
 

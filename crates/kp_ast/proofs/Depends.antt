@@ -1,4 +1,4 @@
--- The value of an expression depends on the names that stand in it alone.
+-- The value of an expression depends only on the names that occur in it.
 use Rattle.std.proofs.Common.{◌≡◌, ◌∙◌, ℕ, List, [], ◌∷◌, ◌++◌, map, refl, ap, sym, subst, arith}
 use Rattle.std.specs.Prelude.{Contains}
 use Rattle.std.specs.List.{flat_map}

@@ -45,7 +45,7 @@ module _ (P : Expr → Type 0) (h : IsInductive P) where
   abbrev Part : Type 0
   Part = (e : Expr) × P e
 
-  -- x is the level, and y is x with a proof beside each part
+  -- x is the level, and y is x with a proof for each part
   at_kind : (x : ExprKind-F ExprKind Expr) (y : ExprKind-F Kind Part) → map-ExprKind Kind Part ExprKind Expr (λ e. e.0) (λ e. e.0) y ≡ x → AtAll (roll-ExprKind x)
   unfolding roll-ExprKind denote.Hole.Carrier.roll
   at_kind x (level.Lit l) is = subst (λ z. AtAll (roll-ExprKind z)) is (λ p. h.literal p l)

@@ -1,4 +1,4 @@
--- A fold over an expression, one level at a time: what it gives of each form, from what it gives of the parts.
+-- A fold over an expression, one level at a time: its value for each form, given its values for the parts.
 use Rattle.std.proofs.Common.{◌≡◌, ◌∙◌, ℕ, List, map, ap}
 use Rattle.kp_base.specs.declared.place.Place.{Place}
 use Rattle.kp_bits.specs.declared.literal.Literal.{Literal}

@@ -3,3 +3,4 @@ pub mod Induction
 pub mod Bodies
 pub mod Weight
 pub mod Depends
+pub mod Parts

@@ -1,5 +1,5 @@
--- The value of an expression, where each operation in it has operands of the widths that it is meant for, and each name and
--- function is known. The plain program gives this one, since a value of a program has 1 to 64 bits.
+-- The value of an expression, provided that each operation in it has operands of the specified widths, and each name
+-- and function is known. The executable functions compute this value, since a value of a program has 1 to 64 bits.
 use Rattle.std.specs.Prelude.{ℕ, ◌==◌, if◌then◌else◌, List, [], ◌∷◌, length, fold, Option, None, Some, option_map, option_and_then}
 use Rattle.kp_bits.specs.Checked.{checked_literal, checked_binary, checked_mux, checked_joined, checked_slice, checked_zext, checked_sext}
 use Rattle.kp_bits.specs.Word.{Word, not_of}
@@ -11,17 +11,17 @@ use Rattle.kp_ast.specs.declared.tree.ExprKind.TheOpen.{ExprKind-F, Expr-F}
 use Rattle.kp_ast.specs.declared.tree.ExprKind.TheOpen as level
 use Rattle.kp_ast.specs.declared.tree.ExprKind.TheFolds.{fold-Expr}
 
--- the known values of names, and of calls at the values of their arguments
+-- the known values of names, and of calls with the values of their arguments
 pub record Known : Type 0 where
   pub names : List ℕ → Option Word
   pub calls : List ℕ → List Word → Option Word
 
--- all values, where each is there
+-- all values, if each exists
 abbrev pub all_there : List (Option Word) → Option (List Word)
 all_there [] = Some []
 all_there (a ∷ rest) = option_and_then (λ x. option_map (λ xs. x ∷ xs) (all_there rest)) a
 
--- one level: the value of an expression from those of its parts
+-- one level: the value of an expression, given those of its parts
 abbrev pub checked_kind : Known → ExprKind-F (Option Word) (Option Word) → Option Word
 checked_kind known (level.Lit l) = checked_literal l
 checked_kind known (level.Name name) = known.names name

@@ -1,4 +1,4 @@
--- What a name is made of.
+-- The bytes of a name.
 use Rattle.std.specs.Prelude.{◌≡◌, ℕ, ◌≤◌, List, length, All, true}
 use Rattle.kp_base.specs.Characters.{is_word}
 

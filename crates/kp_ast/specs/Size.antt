@@ -1,5 +1,5 @@
--- The expanded size of an expression: how many literals, names, operators and calls it has once each call counts the body of its
--- function too. Nothing is expanded for it.
+-- The expanded size of an expression: the number of its literals, names, operators and calls, where each call also
+-- counts the body of its function. It is computed without expanding anything.
 use Rattle.std.specs.Prelude.{ℕ, ◌+◌, min, List, [], ◌∷◌, if◌then◌else◌, fold, sum}
 use Rattle.kp_ast.specs.Expressions.{is_function}
 use Rattle.kp_ast.specs.declared.tree.Decl.{Decl}
@@ -13,7 +13,7 @@ use Rattle.kp_ast.specs.declared.tree.ExprKind.TheFolds.{fold-Expr}
 abbrev pub Bodies : Type 0
 Bodies = List ℕ → ℕ
 
--- one level: the size of an expression from those of its parts
+-- one level: the size of an expression, given those of its parts
 abbrev pub size_of_kind : Bodies → ExprKind-F ℕ ℕ → ℕ
 size_of_kind bodies (level.Lit l) = 1
 size_of_kind bodies (level.Name name) = 1
@@ -29,16 +29,16 @@ size_of_kind bodies (level.Call name args) = 1 + (bodies name + sum args)
 abbrev pub size_of_level : Expr-F ℕ ℕ → ℕ
 size_of_level e = e.kind
 
--- the size of an expression, where the bodies of functions have these sizes
+-- the size of an expression, given these sizes of the bodies of functions
 abbrev pub size_with : Bodies → Expr → ℕ
 size_with bodies = fold-Expr ℕ ℕ (size_of_kind bodies) size_of_level
 
--- the size of the body in a declaration, or 0 where it has none
+-- the size of the body in a declaration, or 0 if it has none
 abbrev pub body_size_of : Bodies → Decl → ℕ
 body_size_of bodies (decls.Func f) = size_with bodies f.body
 body_size_of bodies _ = 0
 
--- the bodies that are known after a declaration, from those that were known before
+-- the bodies that are known after a declaration, given those that were known before
 abbrev pub bodies_after : Bodies → Decl → Bodies
 bodies_after bodies d name = if is_function name d then body_size_of bodies d else bodies name
 
@@ -53,7 +53,7 @@ bodies_of ds = fold bodies_after no_bodies ds
 abbrev pub size : List Decl → Expr → ℕ
 size ds = size_with (bodies_of ds)
 
--- for each declaration the size of its body, where those before it are known, each counted up to 100,001
+-- for each declaration the size of its body, given those before it, each counted up to 100,001
 abbrev pub capped_from : Bodies → List Decl → List ℕ
 capped_from bodies [] = []
 capped_from bodies (d ∷ ds) = min (body_size_of bodies d) 100001 ∷ capped_from (bodies_after bodies d) ds

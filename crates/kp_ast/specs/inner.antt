@@ -1,2 +1,2 @@
--- What stands here is for private contracts and proofs: a reader need not believe it.
+-- These modules are for private contracts and proofs: a reader need not trust them.
 pub mod Sizes

@@ -1,11 +1,12 @@
+// Boxes whose contents alone count in contracts.
 ghost use Rattle.std.specs.Prelude.{◌≡◌, IfOk};
 
 use kp_base::NoMemory;
 use std::alloc::Global;
 use std::marker::Model;
 
-/// A `Box` that contracts see as what it holds, so that two trees are equal wherever their
-/// parts are, and nothing that is said of a tree speaks of where it lies in memory.
+/// A `Box` that contracts see as its contents, so that two trees are equal if their parts are, and no statement about
+/// a tree depends on its location in memory.
 #[derive(Debug, Drop)]
 pub struct Boxed<T> {
     inner: Box<T>,
@@ -20,7 +21,7 @@ impl<T> Model for Boxed<T> {
 }
 
 impl<T> Boxed<T> {
-    /// What the box holds.
+    /// The contents of the box.
     pub fn get(&self) -> &T
         ensures { result.now ≡ self.now }
     {
@@ -29,7 +30,7 @@ impl<T> Boxed<T> {
 }
 
 impl<T: Drop> Boxed<T> {
-    /// A box for a value, which is lost where there is no memory.
+    /// A box with this value. Error: out of memory; then the value has been dropped.
     pub fn new(alloc: Global, value: T) -> Result<Boxed<T>, NoMemory>
         ensures { IfOk result (λ b. b ≡ value) }
     {

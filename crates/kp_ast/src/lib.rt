@@ -1,4 +1,6 @@
 //! The trees of the description language, and what an expression means.
+//!
+//! `proofs/Parts.antt` has, for each form of expression, its value and its expanded size by those of its parts.
 #![tactic(auto)]
 
 mod boxed;

@@ -1,3 +1,4 @@
+// Names of the description language.
 ghost use Rattle.std.specs.Prelude.{◌≡◌, IfOk, nat_eq};
 ghost use Rattle.std.proofs.Common.{rules};
 ghost use Rattle.std.specs.Cmp.Lexicographic.{pointwise};
@@ -12,10 +13,17 @@ use std::marker::Model;
 
 /// A name: 1 to 64 bytes, each a letter, a digit or `_`.
 ///
-/// Names are equal where their bytes are, and contracts see a name as the list of its bytes.
-#[derive(Debug, Drop)]
+/// Names are equal if their bytes are, and contracts see a name as the list of its bytes.
+#[derive(Debug)]
 pub struct Name {
     bytes: Vec<u8>,
+}
+
+impl Drop for Name {
+    fn drop(self) {
+        let Name { bytes } = self;
+        drop(bytes);
+    }
 }
 
 impl Model for Name {
@@ -30,7 +38,7 @@ impl Model for Name {
 }
 
 impl Name {
-    /// The name of these bytes, which are copied.
+    /// The name of these bytes, which are copied. Error: out of memory.
     pub fn new(alloc: Global, bytes: &[u8]) -> Result<Name, NoMemory>
         requires { IsName bytes.now }
         ensures { IfOk result (λ n. n ≡ bytes.now) }

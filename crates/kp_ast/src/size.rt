@@ -1,4 +1,4 @@
-//! The expanded size of expressions, up to a limit, without expanding anything.
+//! The expanded size of expressions, up to a limit, computed without expanding anything.
 ghost use Rattle.std.specs.Prelude.{◌≡◌, ◌+◌, ◌≤◌, min, IfOk};
 ghost use Rattle.kp_ast.specs.Expressions.{is_function};
 ghost use Rattle.kp_ast.specs.inner.Sizes.{sizes_with};
@@ -12,7 +12,7 @@ use std::alloc::Global;
 /// The size at which counting ends.
 pub const CAP: u32 = 100_001;
 
-/// For each declaration the expanded size of the function's body, up to `CAP`, or 0 where it declares no function.
+/// For each declaration the expanded size of the function's body, up to `CAP`, or 0 if it declares no function. Error: out of memory.
 pub fn body_sizes(alloc: Global, decls: &[Decl]) -> Result<Vec<u32>, NoMemory>
     ensures { IfOk result (λ sizes. sizes.items ≡ capped_bodies decls.now) }
 {
@@ -24,7 +24,7 @@ pub fn body_sizes(alloc: Global, decls: &[Decl]) -> Result<Vec<u32>, NoMemory>
     Ok(sizes)
 }
 
-// The size of the body in one declaration, up to `CAP`, where those before it are known.
+// The size of the body in one declaration, up to `CAP`, given the sizes of those before it.
 fn declared_size(known: &[Decl], bodies: &[u32], decl: &Decl) -> u32
     requires { bodies.now ≡ capped_bodies known.now }
     ensures { result ≡ min (body_size_of (bodies_of known.now) decl.now) 100001 }
@@ -36,7 +36,7 @@ fn declared_size(known: &[Decl], bodies: &[u32], decl: &Decl) -> u32
 }
 
 /// The expanded size of an expression after these declarations, up to `CAP`. The sizes of their bodies are those that
-/// `body_sizes` gives.
+/// `body_sizes` returns.
 #[cycle(size)]
 pub fn expanded_size(decls: &[Decl], bodies: &[u32], e: &Expr) -> u32
     requires { bodies.now ≡ capped_bodies decls.now }
@@ -77,7 +77,7 @@ fn expanded_sizes(decls: &[Decl], bodies: &[u32], es: &[Expr]) -> u32
     total
 }
 
-// The size of the body of the last function of this name, up to `CAP`.
+// The size of the body of the last function with this name, up to `CAP`.
 fn body_size(decls: &[Decl], bodies: &[u32], name: &Name) -> u32
     requires { bodies.now ≡ capped_bodies decls.now }
     ensures { result ≡ min (bodies_of decls.now name.now) 100001 }

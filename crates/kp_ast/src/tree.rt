@@ -1,23 +1,24 @@
+// The trees of the description language. Each node has the position of a token of the text.
 use crate::boxed::Boxed;
 use crate::name::Name;
 use kp_base::{List, Place};
 use kp_bits::{BinOp, Literal};
 
-/// A number as it is written, and where.
+/// A number as written, and its position.
 #[derive(Clone, Copy, Debug, PartialEq, Eq)]
 pub struct Num {
     pub value: u64,
     pub at: Place,
 }
 
-/// A literal as it is written, and where.
+/// A literal as written, and its position.
 #[derive(Clone, Copy, Debug, PartialEq, Eq)]
 pub struct Lit {
     pub literal: Literal,
     pub at: Place,
 }
 
-/// A name, and where it stands.
+/// A name, and its position.
 #[derive(Debug, Drop)]
 pub struct Named {
     pub name: Name,
@@ -26,8 +27,8 @@ pub struct Named {
 
 /// An expression.
 ///
-/// Its place is that of its outermost operator, name, literal, call name, extension word, `?`, opening `[` of a slice or
-/// opening `{`.
+/// Its position is that of its outermost operator, name, literal, call name, extension keyword, `?`, opening `[` of a
+/// slice or opening `{`.
 #[cycle(tree)]
 #[derive(Debug, Drop)]
 pub struct Expr {
@@ -35,7 +36,7 @@ pub struct Expr {
     pub kind: ExprKind,
 }
 
-/// What an expression is.
+/// The kind of an expression.
 #[cycle(tree)]
 #[derive(Debug, Drop)]
 pub enum ExprKind {
@@ -83,7 +84,7 @@ pub enum StmtKind {
     Aim(Named, Expr),
 }
 
-/// A statement, and the place of its first token.
+/// A statement, and the position of its first token.
 #[derive(Debug, Drop)]
 pub struct Stmt {
     pub at: Place,
@@ -168,8 +169,8 @@ pub struct Inputs {
     pub step: Option<Num>,
 }
 
-/// A whole job. A section that stands in the text and has no entries is an empty list.
-#[derive(Debug, Drop)]
+/// A complete job. A section that is present but has no entries is an empty list.
+#[derive(Debug)]
 pub struct Job {
     pub name: Named,
     pub stages: Num,
@@ -180,11 +181,31 @@ pub struct Job {
     pub inputs: Option<List<Inputs>>,
 }
 
+impl Drop for Job {
+    fn drop(self) {
+        let Job {
+            name,
+            stages: _,
+            decls,
+            blocks,
+            image,
+            stalls,
+            inputs,
+        } = self;
+        drop(name);
+        drop(decls);
+        drop(blocks);
+        drop(image);
+        drop(stalls);
+        drop(inputs);
+    }
+}
+
 impl Decl {
     ghost use Rattle.std.specs.Prelude.{◌≡◌};
     ghost use Rattle.kp_ast.specs.Expressions.{is_function};
 
-    /// Whether this is the declaration of a function of this name.
+    /// Whether this is the declaration of a function with this name.
     pub fn is_function(&self, name: &Name) -> bool
         ensures { result ≡ is_function name.now self.now }
     {

@@ -1,3 +1,4 @@
+// The names of a job with their kinds, scopes and widths.
 use crate::name::Name;
 use kp_base::List;
 
@@ -10,7 +11,7 @@ pub enum Scope {
     Stage(u32),
 }
 
-/// What a name names. A file has the width of its addresses.
+/// The kind of a name. A file has the width of its addresses.
 #[derive(Clone, Copy, Debug, PartialEq, Eq)]
 pub enum NameKind {
     Reg,

@@ -13,16 +13,16 @@ pub appends_next : (a b c : Option (List ℕ)) (piece : List ℕ) (done count : 
 appends_next a b c piece done count before now =
     subst (Appends a c) (sym (take-add done count piece)) (Appends-trans a b c _ _ before now)
 
--- the beginning of a piece, after what was appended before it
+-- a prefix of a piece, after what was appended before it
 pub part_next : (a b c : Option (List ℕ)) (before piece after : List ℕ) → Appends a b before → AppendsPart b c piece → AppendsPart a c (before ++ (piece ++ after))
 part_next a b c before piece after appended (front, rest, split, part) =
     (before ++ front, rest ++ after, grind (arith, append_assoc), Appends-trans a b c _ _ appended part)
 
--- the beginning of a text is one of a longer text
+-- a prefix of a text is a prefix of a longer text
 pub part_more : (a b : Option (List ℕ)) (text more : List ℕ) → AppendsPart a b text → AppendsPart a b (text ++ more)
 part_more a b text more (front, rest, split, part) = (front, rest ++ more, grind (arith, append_assoc), part)
 
--- a text behind one that was appended
+-- a text after one that was appended
 pub writes_next : {T E : Type 0} (a b c : Option (List ℕ)) (before text : List ℕ) (result : Result T E) → Appends a b before → Writes b c text result → Writes a c (before ++ text) result
 writes_next a b c before text (Ok value) appended written = Appends-trans a b c before text appended written
 writes_next a b c before text (Err error) appended (front, rest, split, part) =

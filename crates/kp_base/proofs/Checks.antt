@@ -1,4 +1,4 @@
--- What is found by steps is the first answer.
+-- The outcome step by step is the first answer.
 use Rattle.std.proofs.Common.{◌≡◌, ◌∙◌, Some, None, Result, Ok, Err, refl, sym}
 use Rattle.kp_base.specs.First.{first, Answers}
 use Rattle.kp_base.specs.Check.{Answer, Check, Gives, after}
@@ -14,7 +14,7 @@ err_of : {X : Type 0} (broken : Answer) (x : X) (refusal : Refusal) → after br
 err_of None x refusal e = cc
 err_of (Some other) x refusal e = cc
 
--- a call that goes by steps answers what the list of answers says
+-- a call that runs step by step returns what the list of answers specifies
 pub answers_from_steps : {T X : Type 0} (result : Result T Refused) (c : Check X) (value : T → X) → Gives result c.found value → Answers result (first c.asked) (λ t. value t ≡ c.value)
 answers_from_steps (Ok t) c value gives = ok_of (first c.asked) c.value (value t) (sym c.same ∙ gives)
 answers_from_steps (Err (Rule refusal)) c value gives = err_of (first c.asked) c.value refusal (sym c.same ∙ gives)

@@ -1,5 +1,5 @@
--- A check with two readings: the list of the answers to its questions, which a reader believes, and the same by steps,
--- which a program takes. That both are one is a field, so each rule is written once.
+-- A check in two forms: the list of answers to its questions, which a reader has to trust, and the same check step by
+-- step, as a program runs it. A field says that the two agree, so each rule is written once.
 use Rattle.std.specs.Prelude.{◌≡◌, List, [], ◌∷◌, ◌++◌, Option, Some, None, Result, Ok, Err, Bool, true, false, if◌then◌else◌, ⊤}
 use Rattle.std.proofs.Common.{refl, ap, sym, ◌∙◌}
 use Rattle.kp_base.specs.First.{first}
@@ -7,33 +7,33 @@ use Rattle.kp_base.specs.declared.refusal.Refusal.{Refusal}
 use Rattle.kp_base.specs.declared.refusal.Refused.{Refused}
 use Rattle.kp_base.specs.declared.refusal.Refused.TheVariants.{Rule, NoMemory}
 
--- a broken rule, or none
+-- a violated rule, or none
 abbrev pub Answer : Type 0
 Answer = Option Refusal
 
--- what comes where no rule is broken, or the broken rule
+-- the outcome that follows if no rule is violated, or the violated rule
 abbrev pub after : {X : Type 0} → Answer → Result X Refusal → Result X Refusal
 after None next = next
 after (Some refusal) next = Err refusal
 
--- a step, and then what comes of its value
+-- a step, and then the step computed from its value
 abbrev pub bind : {X Y : Type 0} → Result X Refusal → (X → Result Y Refusal) → Result Y Refusal
 bind (Ok x) next = next x
 bind (Err refusal) next = Err refusal
 
--- `asked` has the answers in their order, `value` is what is found where none of them is a broken rule (what the later
--- answers would be behind a broken rule doesn't matter), and `found` is the outcome by steps
+-- `asked` has the answers in order, `value` is the result if none of them is a violated rule (later answers after a
+-- violated rule don't matter), and `found` is the outcome step by step
 pub record Check (X : Type 0) : Type 0 where
   pub value : X
   pub asked : List Answer
   pub found : Result X Refusal
   pub same : found ≡ after (first asked) (Ok value)
 
--- nothing is asked
+-- no question
 abbrev pub ok : {X : Type 0} → X → Check X
 ok x = record { value = x; asked = []; found = Ok x; same = refl }
 
--- the rule is broken where the test fails
+-- the rule is violated if the test fails
 abbrev pub answer : Bool → Refusal → Answer
 answer holds refusal = if holds then None else Some refusal
 
@@ -44,7 +44,7 @@ pub unless_same : {X : Type 0} (holds : Bool) (refusal : Refusal) (c : Check X) 
 unless_same true refusal c = c.same
 unless_same false refusal c = refl
 
--- a rule that is to hold, and what comes then
+-- a rule that must hold, and the check that follows
 abbrev pub wants : {X : Type 0} → Bool → Refusal → Check X → Check X
 wants holds refusal c = record {
   value = c.value;
@@ -69,7 +69,7 @@ bind_same c next =
     ∙ ap (after (first c.asked)) (next c.value).same
     ∙ sym (after_append c.asked (next c.value).asked (Ok (next c.value).value))
 
--- a check, and then one of its value: the questions of the first come before those of the second
+-- a check, and then one computed from its value: the questions of the first come before those of the second
 infixl 10 ◌>>=◌
 abbrev pub ◌>>=◌ : {X Y : Type 0} → Check X → (X → Check Y) → Check Y
 c >>= next = record {
@@ -79,7 +79,7 @@ c >>= next = record {
   same = bind_same c next;
 }
 
--- what a call that goes by steps answers: the steps' outcome, where `value` says what its answer stands for; and memory may run out
+-- what a call that runs step by step returns: the outcome of the steps, where `value` maps its result to what is specified; or out of memory
 abbrev pub Gives : {T X : Type 0} → Result T Refused → Result X Refusal → (T → X) → Type 0
 Gives (Ok t) found value = found ≡ Ok (value t)
 Gives (Err (Rule refusal)) found value = found ≡ Err refusal

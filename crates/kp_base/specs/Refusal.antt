@@ -1,4 +1,4 @@
--- A rule of one of the three languages, broken at a place.
+-- A rule of one of the three languages, violated at a position.
 use Rattle.std.specs.Prelude.{ℕ}
 use Rattle.kp_base.specs.declared.place.Place.{Place}
 use Rattle.kp_base.specs.declared.refusal.Family.{Family}

@@ -1,4 +1,4 @@
-// Bytes of a text, and how far those of one kind go on.
+// Classes of bytes, and the length of a run of bytes of one class.
 ghost use Rattle.std.specs.Prelude.{◌≡◌, ◌≤◌, ℕ, Bool, length};
 ghost use Rattle.kp_base.specs.Characters.{is_digit, is_letter, is_word, run_length, Tells};
 
@@ -9,21 +9,21 @@ pub fn is_digit(byte: u8) -> bool
     byte.is_ascii_digit()
 }
 
-/// A letter or `_`: what a name begins with.
+/// A letter or `_`: the first character of a name.
 pub fn is_letter(byte: u8) -> bool
     ensures { result ≡ is_letter byte }
 {
     byte.is_ascii_alphabetic() || byte == b'_'
 }
 
-/// A letter, a digit or `_`: what a name goes on with.
+/// A letter, a digit or `_`: a later character of a name.
 pub fn is_word(byte: u8) -> bool
     ensures { result ≡ is_word byte }
 {
     byte.is_ascii_alphanumeric() || byte == b'_'
 }
 
-/// How many bytes at the front of the text pass the test: as long as possible.
+/// The length of the longest prefix of the text whose bytes all pass the test.
 pub fn run_length<F: Fn(u8) -> bool>(text: &[u8], test: F) -> usize
     requires { F.IsAlwaysCallable test }
     ensures value { (passes : ℕ → Bool) → Tells (F.post test) passes → result ≡ run_length passes text.now }
@@ -37,7 +37,7 @@ pub fn run_length<F: Fn(u8) -> bool>(text: &[u8], test: F) -> usize
     text.len()
 }
 
-/// How many letters, digits and `_` stand at the front of the text.
+/// The length of the longest prefix that consists of letters, digits and `_`.
 pub fn word_length(text: &[u8]) -> usize
     ensures value { result ≡ run_length is_word text.now }
     ensures within { result ≤ length text.now }

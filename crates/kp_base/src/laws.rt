@@ -1,9 +1,9 @@
-//! What the definitions of refusals mean, as contracts of functions that do nothing.
+//! What the definitions of rejections mean, as contracts of functions that do nothing.
 ghost use Rattle.std.specs.Prelude.{◌≡◌, ◌<◌, ℕ, List, ◌∷◌, ◌++◌, Option, length, get_or, MatchOption};
 ghost use Rattle.kp_base.specs.First.{first};
 ghost use Rattle.kp_base.specs.declared.refusal.Refusal.{Refusal};
 
-/// The first true answer stands behind answers that name no rule; where none names one, there is no first.
+/// The first violated rule comes after answers that name no rule; where no answer names one, there is no first.
 pub fn first_is_first()
     ensures found { (before rest : List (Option Refusal)) (broken : Refusal)
         → ((k : ℕ) → k < length before → get_or before k None ≡ None) → first (before ++ Some broken ∷ rest) ≡ Some broken }

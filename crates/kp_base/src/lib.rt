@@ -1,4 +1,4 @@
-//! What the rest of the tool stands on: places in a text, what is refused there, lists, and the bytes that come in and go out.
+//! The base of all other crates: positions in a text, rejections, lists, and reading and writing bytes.
 #![tactic(auto)]
 
 mod characters;

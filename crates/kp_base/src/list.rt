@@ -1,3 +1,4 @@
+// A list that a type may contain of itself.
 ghost use Rattle.std.specs.Prelude.{◌≡◌};
 
 use std::marker::Model;
@@ -20,21 +21,21 @@ impl<T> Model for List<T> {
 }
 
 impl<T> List<T> {
-    /// Takes no memory.
+    /// Wraps the vector; allocates nothing.
     pub fn new(items: Vec<T>) -> List<T>
         ensures { result ≡ items.items }
     {
         List { items }
     }
 
-    /// The elements, from the first on.
+    /// The elements, in order.
     pub fn as_slice(&self) -> &[T]
         ensures { result.now ≡ self.now }
     {
         self.items.as_slice()
     }
 
-    /// Gives the elements back, without taking memory.
+    /// Returns the elements; allocates nothing.
     pub fn into_vec(self) -> Vec<T>
         ensures { result.items ≡ self }
     {

@@ -1,4 +1,4 @@
-// A source and a sink in memory. They fail at the calls whose numbers they are given.
+// An in-memory source and an in-memory sink for tests. They fail at the calls whose numbers they are given.
 ghost use Rattle.std.specs.Prelude.{◌≡◌, ◌⊎◌, ◌↔◌, ◌+◌, ◌-◌, ◌^◌, ◌<◌, ◌≤◌, [], ◌++◌, List, ℕ, length, min, take, drop, vec_len, vec_capacity, Contains, IfOk, IsErr, Some, is_err, if◌then◌else◌};
 ghost use Rattle.std.specs.Io.{ReadsAtMost, WritesAtMost};
 ghost use Rattle.std.specs.Io.KnownBytes.{ReadConsumes, WriteAppends};
@@ -9,8 +9,8 @@ use crate::{Failed, NoMemory, Sink, Source};
 use std::alloc::Global;
 use std::marker::Model;
 
-/// A source in memory. It gives at most `most` bytes a call, and fails at the calls whose numbers, counted from 1, stand in
-/// `fails`. It takes no memory.
+/// An in-memory source. A call returns at most `most` bytes, and fails if its number, counted from 1, is in `fails`.
+/// It allocates nothing.
 #[derive(Drop)]
 pub struct MemSource {
     bytes: Vec<u8>,
@@ -36,7 +36,7 @@ impl Model for MemSource {
 }
 
 impl MemSource {
-    /// A source with these bytes left.
+    /// A source that returns these bytes.
     pub fn new(bytes: Vec<u8>, most: usize, fails: Vec<u64>) -> Self
         requires { 1 ≤ most }
         ensures { result ≡ record { left = bytes.items; most = most; fails = fails.items; calls = 0; faults = 0 } }
@@ -82,8 +82,8 @@ impl Source for MemSource {
     }
 }
 
-/// A sink in memory, with room for a number of bytes. It takes at most `most` bytes a call, and fails where its room is full and
-/// at the calls whose numbers, counted from 1, stand in `fails`.
+/// An in-memory sink of a fixed capacity in bytes. A call accepts at most `most` bytes. It fails if the capacity is
+/// used up, and if its number, counted from 1, is in `fails`.
 #[derive(Drop)]
 pub struct MemSink {
     bytes: Vec<u8>,
@@ -110,7 +110,7 @@ impl Model for MemSink {
 }
 
 impl MemSink {
-    /// A sink that holds nothing yet. All its room is taken here, so a write takes no memory. After a refusal `fails` is gone.
+    /// An empty sink. Its capacity is allocated here, so a write allocates nothing. On an error `fails` has been dropped.
     pub fn new(alloc: Global, room: usize, most: usize, fails: Vec<u64>) -> Result<Self, NoMemory>
         requires { 1 ≤ most }
         ensures { IfOk result (λ sink. sink
@@ -126,7 +126,7 @@ impl MemSink {
         })
     }
 
-    /// The bytes held.
+    /// The bytes written so far.
     pub fn bytes(&self) -> &[u8]
         ensures { result.now ≡ self.now.held }
     {

@@ -1,4 +1,4 @@
-// The two ends of the tool: a source of bytes and a sink for bytes.
+// The interfaces to the outside: a source of bytes and a sink for bytes.
 ghost use Rattle.std.specs.Prelude.{ℕ, List, Option, ◌<◌, length, IfOk};
 ghost use Rattle.std.specs.Io.{ReadsAtMost, WritesAtMost};
 ghost use Rattle.std.specs.Io.KnownBytes.{ReadConsumes, WriteAppends};
@@ -7,12 +7,12 @@ ghost use Rattle.kp_base.specs.Causes.{HasCause};
 use std::alloc::{AllocError, AllocFailed};
 use thiserror::Error;
 
-/// A read or a write failed. The count of faults says how often one has.
+/// A read or a write failed. The sink or source counts its faults.
 #[derive(Clone, Copy, Debug, PartialEq, Eq, Error)]
 #[error("a read or a write failed")]
 pub struct Failed;
 
-/// No memory was found.
+/// Out of memory: an allocation failed.
 #[derive(Clone, Copy, Debug, PartialEq, Eq, Error)]
 #[error("out of memory")]
 pub struct NoMemory;
@@ -31,13 +31,13 @@ impl<T: Drop> From<AllocFailed<T>> for NoMemory {
 
 /// Where an input comes from.
 pub trait Source {
-    /// The bytes still to come, where the source tells them.
+    /// The bytes still to be read, where the source specifies them.
     ghost left: { Self → Option (List ℕ) };
 
-    /// How often the source has failed. The count never falls, and stands still at 2^64-1.
+    /// How often the source has failed. The count never falls, and saturates at 2^64-1.
     ghost faults: { Self → ℕ };
 
-    /// Moves bytes to the front of `buf`, and says how many: 0 only at the end. A failed read takes none.
+    /// Reads bytes into the front of `buf` and returns their number: 0 only at the end. A failed read consumes none.
     fn read(&mut self, buf: &mut [u8]) -> Result<usize, Failed>
         requires { 0 < length buf.old }
         ensures bound { ReadsAtMost result buf.new }
@@ -47,13 +47,13 @@ pub trait Source {
 
 /// Where a text goes.
 pub trait Sink {
-    /// The bytes written so far, where the sink tells them.
+    /// The bytes written so far, where the sink specifies them.
     ghost held: { Self → Option (List ℕ) };
 
-    /// How often the sink has failed. The count never falls, and stands still at 2^64-1.
+    /// How often the sink has failed. The count never falls, and saturates at 2^64-1.
     ghost faults: { Self → ℕ };
 
-    /// Takes bytes from the front of `piece`, and says how many, at least one. A failed write takes none.
+    /// Writes bytes from the front of `piece` and returns their number, at least one. A failed write accepts none.
     fn write(&mut self, piece: &[u8]) -> Result<usize, Failed>
         requires { 0 < length piece.now }
         ensures bound { WritesAtMost result piece.now }

@@ -1,8 +1,8 @@
-// Places in a text.
+// Positions in a text.
 ghost use Rattle.std.specs.Prelude.{◌≡◌, ◌-◌, ◌^◌, ◌+◌, ◌≤◌, ℕ, List, [], ◌∷◌, ◌++◌, length, take};
 ghost use Rattle.kp_base.specs.Place.{place_after};
 
-/// A byte of a text, or its end: the line and the column, both counted from 1, columns in bytes.
+/// The position of a byte of a text, or of its end: line and column, both counted from 1, columns in bytes.
 #[derive(Clone, Copy, Debug, PartialEq, Eq)]
 pub struct Place {
     pub line: u32,
@@ -10,10 +10,10 @@ pub struct Place {
 }
 
 impl Place {
-    /// Where each text begins.
+    /// The position of the first byte of a text.
     pub const START: Place = Place { line: 1, col: 1 };
 
-    /// The place behind `bytes`, which begin at `self`. Many places of one text are found in one pass so.
+    /// The position after `bytes`, which start at `self`. With it, several positions of one text are found in one pass.
     pub fn after(self, bytes: &[u8]) -> Place
         requires lines { self.line + length bytes.now ≤ 2 ^ 32 - 1 }
         requires columns { self.col + length bytes.now ≤ 2 ^ 32 - 1 }
@@ -26,7 +26,7 @@ impl Place {
         place
     }
 
-    // The place behind one byte.
+    // The position after one byte.
     #[tactic(auto, using(crate::proofs::Places::line_after_next, crate::proofs::Places::column_after_next))]
     fn next(self, byte: u8) -> Place
         requires line { self.line + 1 ≤ 2 ^ 32 - 1 }
@@ -49,7 +49,7 @@ impl Place {
     }
 }
 
-/// The place of the byte at `offset`, or of the end of the text where the offset is its length.
+/// The position of the byte at `offset`, or of the end of the text if `offset` is its length.
 pub fn place_of(text: &[u8], offset: u32) -> Place
     requires within { offset ≤ length text.now }
     requires fits { length text.now ≤ 2 ^ 32 - 2 }

@@ -8,18 +8,18 @@ use crate::{Failed, Source};
 use std::alloc::{AllocError, Global};
 use thiserror::Error;
 
-/// The most bytes that an input has.
+/// The greatest length of an input, in bytes.
 pub const MOST: usize = 16_777_216;
 
-// The most bytes that one call of a source is asked for.
+// The most bytes requested in one call of a source.
 const PIECE: usize = 4096;
 
-/// Why an input wasn't read whole.
+/// Why an input could not be read completely.
 #[derive(Clone, Copy, Debug, PartialEq, Eq, Error)]
 pub enum ReadAll {
     #[error("the source failed")]
     Fault,
-    /// More than `MOST` bytes came.
+    /// The input has more than `MOST` bytes.
     #[error("the input is too long")]
     TooLong,
     #[error("out of memory")]
@@ -42,14 +42,15 @@ impl From<AllocError> for ReadAll {
     }
 }
 
-/// All the bytes that the source has left. One byte over `MOST` is the last that it takes. The bytes are read in pieces
-/// of a few KiB into a vector that grows geometrically.
+/// All the bytes that the source has left. It reads at most one byte more than `MOST`. The bytes are read in pieces
+/// of a few KiB into a vector that grows geometrically. Errors: the source failed, the input is too long, or out of
+/// memory.
 pub fn read_all<S: Source>(alloc: Global, source: &mut S) -> Result<Vec<u8>, ReadAll>
     ensures all { IfOk result (λ bytes. Consumes (S.left source.old) (S.left source.new) bytes.items) }
     ensures end { IfOk result (λ bytes. IsAtEnd (S.left source.new)) }
     ensures fits { IfOk result (λ bytes. vec_len bytes ≤ 16777216) }
 
-    // Exactly where so many bytes were taken.
+    // Exactly when this many bytes were read.
     ensures too_long { IsErrOf result ReadAll.TooLong → (bytes : List ℕ)
         × Consumes (S.left source.old) (S.left source.new) bytes × (length bytes ≡ 16777217) }
     ensures short { IsErrOf result ReadAll.Fault → (bytes : List ℕ)

@@ -1,4 +1,4 @@
-// What is refused, and why.
+// Rejections: the violated rule and its position.
 ghost use Rattle.std.specs.Prelude.{◌≡◌};
 ghost use Rattle.kp_base.specs.Refusal.{e_rule, v_rule, a_rule};
 ghost use Rattle.kp_base.specs.declared.refusal.Refused.TheVariants as refused;
@@ -7,7 +7,7 @@ use crate::{NoMemory, Place};
 use std::alloc::{AllocError, AllocFailed};
 use thiserror::Error;
 
-/// The language whose rule is broken: descriptions (E), Verilog (V) or assembler programs (A).
+/// The language whose rule is violated: descriptions (E), Verilog (V) or assembler programs (A).
 #[derive(Clone, Copy, Debug, PartialEq, Eq)]
 pub enum Family {
     E,
@@ -15,7 +15,7 @@ pub enum Family {
     A,
 }
 
-/// A broken rule, with the place that the rule names.
+/// A violated rule, with the position that the rule specifies.
 #[derive(Clone, Copy, Debug, PartialEq, Eq, Error)]
 #[error("{family:?}{number} at {}:{}", .place.line, .place.col)]
 pub struct Refusal {
@@ -59,7 +59,7 @@ impl Refusal {
     }
 }
 
-/// Why a call that checks an input gives nothing.
+/// Why a call that checks an input returns no result: a violated rule, or out of memory.
 #[derive(Clone, Copy, Debug, PartialEq, Eq, Error)]
 pub enum Refused {
     #[error(transparent)]

@@ -1,10 +1,10 @@
 // The real ends of a program: std's readers and writers, which tell no bytes.
-ghost use Rattle.std.specs.Prelude.{None, List, ℕ};
+ghost use Rattle.std.specs.Prelude.{◌≡◌, None, List, ℕ};
 
 use crate::{Failed, Sink, Source};
 use std::io::{Read, Write};
 
-/// A source over a reader of std. Each error of the reader is a fault.
+/// A source over a reader of std. Each error of the reader counts as a fault.
 #[derive(Drop)]
 pub struct StdSource<R: Read> {
     reader: R,
@@ -13,7 +13,9 @@ pub struct StdSource<R: Read> {
 
 impl<R: Read> StdSource<R> {
     /// A source that has not failed yet.
-    pub fn new(reader: R) -> Self {
+    pub fn new(reader: R) -> Self
+        ensures { result.faults ≡ 0 }
+    {
         StdSource { reader, faults: 0 }
     }
 }
@@ -34,7 +36,7 @@ impl<R: Read> Source for StdSource<R> {
     }
 }
 
-/// A sink over a writer of std. Each error of the writer is a fault, and so is a write that takes nothing.
+/// A sink over a writer of std. Each error of the writer counts as a fault, and so does a write that accepts no byte.
 #[derive(Drop)]
 pub struct StdSink<W: Write> {
     writer: W,
@@ -43,7 +45,9 @@ pub struct StdSink<W: Write> {
 
 impl<W: Write> StdSink<W> {
     /// A sink that has not failed yet.
-    pub fn new(writer: W) -> Self {
+    pub fn new(writer: W) -> Self
+        ensures { result.faults ≡ 0 }
+    {
         StdSink { writer, faults: 0 }
     }
 }

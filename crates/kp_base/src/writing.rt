@@ -1,4 +1,4 @@
-// Writing a piece whole.
+// Writing a text completely.
 ghost use Rattle.std.specs.Prelude.{◌≡◌, [], flat_map};
 ghost use Rattle.kp_base.specs.Bytes.{Writes};
 ghost use Rattle.kp_base.specs.Causes.{HasCause};
@@ -6,7 +6,7 @@ ghost use Rattle.kp_base.specs.Causes.{HasCause};
 use crate::{Failed, Sink};
 use thiserror::Error;
 
-/// The sink failed before it had the whole piece.
+/// The sink failed before it had accepted the complete text.
 #[derive(Clone, Copy, Debug, PartialEq, Eq, Error)]
 #[error("the sink failed")]
 pub struct SinkFault;
@@ -17,7 +17,7 @@ impl From<Failed> for SinkFault {
     }
 }
 
-/// Appends the whole piece, or the beginning of it where the sink fails. An empty piece makes no call.
+/// Appends the complete piece, or a prefix of it if the sink fails. For an empty piece the sink is not called.
 pub fn write_all<K: Sink>(sink: &mut K, piece: &[u8]) -> Result<(), SinkFault>
     ensures text { Writes (K.held sink.old) (K.held sink.new) piece.now result }
     ensures cause { HasCause (K.faults sink.old) (K.faults sink.new) result }
@@ -30,7 +30,7 @@ pub fn write_all<K: Sink>(sink: &mut K, piece: &[u8]) -> Result<(), SinkFault>
     Ok(())
 }
 
-/// Appends the pieces one after another, or the beginning of their text where the sink fails.
+/// Appends the pieces in order, or a prefix of their concatenation if the sink fails.
 pub fn write_pieces<K: Sink>(sink: &mut K, pieces: &[&[u8]]) -> Result<(), SinkFault>
     ensures text { Writes (K.held sink.old) (K.held sink.new) (flat_map (λ piece. piece.now) pieces.now) result }
     ensures cause { HasCause (K.faults sink.old) (K.faults sink.new) result }

@@ -13,7 +13,7 @@ not_not a h = let f = h.fits in let e : 2 ^ a.width - 1 - (2 ^ a.width - 1 - a.v
 pub add_not : (a : Word) → IsWord a → a.value + (not_of a).value ≡ 2 ^ a.width - 1
 add_not a h = let f = h.fits in omega arith
 
--- in whole numbers, modulo m
+-- as natural numbers, modulo m
 sub_add : (a b m : ℕ) → a < m → b < m → ((a + m - b) % m + b) % m ≡ a
 sub_add a b m h k =
     let e : a + m - b + b ≡ a + m = omega arith in
@@ -47,7 +47,7 @@ shl_past a b h = ap (word a.width) (cond-false (ltb b.value a.width) (a.value * 
 pub shr_past : (a b : Word) → a.width ≤ b.value → shr_of a b ≡ word a.width 0
 shr_past a b h = ap (word a.width) (cond-false (ltb b.value a.width) (a.value / 2 ^ b.value) 0 (le-ltb b.value a.width h))
 
--- what is left of a, by its place
+-- the remaining bits of a, by position
 pub shr_slice : (a b : Word) → IsWord a → b.value < a.width → shr_of a b ≡ zext_of (slice_of a (a.width - 1) b.value) a.width
 shr_slice a b h k =
     let e : a.width - 1 + 1 - b.value ≡ a.width - b.value = omega arith in

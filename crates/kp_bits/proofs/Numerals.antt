@@ -21,7 +21,7 @@ within_none n e = elim (cases_lt n (2 ^ 64)) [ inl k ↦ absurd (let p : number_
 none_within : (n : ℕ) → 2 ^ 64 ≤ n → number_within n ≡ None
 none_within n h = cond-false (ltb n (2 ^ 64)) (Some n) None (le-ltb n (2 ^ 64) h)
 
--- once 64 bits do not hold what is read, they do not hold the whole
+-- once the number that is read doesn't fit in 64 bits, the complete number doesn't
 pub too_big : (base n i : ℕ) (ds : List ℕ) → 1 ≤ base → i < length ds → number_within (numeral_next base n (get_or ds i 0)) ≡ None → fold (numeral_next base) n (drop i ds) ≡ numeral_value base ds → number_within (numeral_value base ds) ≡ None
 too_big base n i ds h k e inv =
     let p = within_none (numeral_next base n (get_or ds i 0)) e in

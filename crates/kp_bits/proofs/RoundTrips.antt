@@ -56,7 +56,7 @@ decimal_read n h k = cond-true (is_number (decimal_digits n)) (number_within (nu
 hex_mod : (count v : ℕ) → v % 16 ^ suc count ≡ (v / 16 ^ count % 16) * 16 ^ count + v % 16 ^ count
 hex_mod count v = let e : 4 + 4 * count ≡ 4 * suc count = omega arith in rw (e, sixteen (suc count), sixteen count) at (mod-pow-add v 4 (4 * count))
 
--- hexadecimal digits, so many
+-- n hexadecimal digits
 hex_value_after : (count n v : ℕ) → fold (numeral_next 16) n (hex_digits count v) ≡ n * 16 ^ count + v % 16 ^ count
 hex_value_after zero n v = omega arith
 hex_value_after (suc count) n v =
@@ -84,7 +84,7 @@ hex_value a h =
     let l : a.value < 16 ^ q = rw (← sixteen q) (omega arith) in
     hex_value_after q 0 a.value ∙ ap (λ x. 0 * 16 ^ q + x) (mod-eq_of_lt l) ∙ omega arith
 
--- the first `'` stands after the number
+-- the first `'` follows the number
 no_quote : (c : ℕ) → is_digit c 10 ≡ true → is_quote c ≡ false
 no_quote c h = grind (arith, nat_tests)
 
@@ -139,7 +139,7 @@ fit_gives_word a = cond_both (leb 1 a.width && leb a.width 64) (cond (ltb a.valu
     (λ _. tt))
     (λ _. tt)
 
--- what stands before the first `'` and after it has the form, or is refused
+-- the text before the first `'` and after it has the form, or is rejected
 form_in_base : (run width digits : List ℕ) (letter : ℕ) → run ≡ width ++ 39 ∷ letter ∷ digits → (o : Option ℕ) → base_of letter ≡ o → (literal_in_base o width digits ≡ Err BadDigit) ⊎ IsLiteral run
 form_in_base run width digits letter e None b = inl refl
 form_in_base run width digits letter e (Some base) b = elim (cases_Bool (is_number width && is_numeral base digits)) [

@@ -1,11 +1,11 @@
--- Words of bits, and what is computed with them, as arithmetic on whole numbers.
+-- Words (bit vectors), and the operations on them, as arithmetic on natural numbers.
 --
--- The meaning is that of Verilog's operators on unsigned vectors (IEEE 1364-2005, clause 5), where both operands and the result have one width unless
--- a definition says otherwise, and what the width does not hold is cut off. At other widths each definition still gives some word, so that a meaning
--- that is built from them is total.
+-- The meaning is that of Verilog's operators on unsigned vectors (IEEE 1364-2005, clause 5), where both operands and
+-- the result have one width unless a definition says otherwise, and the result is truncated to the width. At other
+-- widths each definition still yields some word, so that a meaning that is built from them is total.
 use Rattle.std.specs.Prelude.{ℕ, ◌+◌, ◌-◌, ◌*◌, ◌/◌, ◌%◌, ◌^◌, ◌<◌, ◌≤◌, nat_lt, if◌then◌else◌, ◌==◌, bit_and, bit_or, bit_xor, ℤ, pos, neg_ℤ}
 
--- a word: how many bits it has, and the number that they write
+-- a word: its number of bits, and its value as a number
 pub record Word : Type 0 where
   pub width : ℕ
   pub value : ℕ
@@ -48,19 +48,19 @@ sub_of a b = word a.width ((a.value + 2 ^ a.width - b.value) % 2 ^ a.width)
 abbrev pub mul_of : Word → Word → Word
 mul_of a b = word a.width (a.value * b.value % 2 ^ a.width)
 
--- `a == b`: one bit, 1 where it holds
+-- `a == b`: one bit, 1 if they are equal
 abbrev pub eq_of : Word → Word → Word
 eq_of a b = word 1 (if a.value == b.value then 1 else 0)
 
--- `a < b`: one bit, 1 where it holds
+-- `a < b`: one bit, 1 if a is below b
 abbrev pub lt_of : Word → Word → Word
 lt_of a b = word 1 (if nat_lt a.value b.value then 1 else 0)
 
--- `a << b`: b zeros come in at the low end, and nothing of a is left where b is its width or more
+-- `a << b`: b zeros are shifted in at the low end, and the result is 0 if b is at least the width
 abbrev pub shl_of : Word → Word → Word
 shl_of a b = word a.width (if nat_lt b.value a.width then a.value * 2 ^ b.value % 2 ^ a.width else 0)
 
--- `a >> b`: b zeros come in at the high end, and nothing of a is left where b is its width or more
+-- `a >> b`: b zeros are shifted in at the high end, and the result is 0 if b is at least the width
 abbrev pub shr_of : Word → Word → Word
 shr_of a b = word a.width (if nat_lt b.value a.width then a.value / 2 ^ b.value else 0)
 
@@ -72,7 +72,7 @@ mux_of test a b = if test.value == 1 then a else b
 abbrev pub concat_of : Word → Word → Word
 concat_of high low = word (high.width + low.width) (high.value * 2 ^ low.width + low.value)
 
--- `a[hi:lo]`: the bits from place hi down to place lo, where the lowest bit has place 0
+-- `a[hi:lo]`: the bits from position hi down to position lo, where the lowest bit has position 0
 abbrev pub slice_of : Word → ℕ → ℕ → Word
 slice_of a hi lo = word (hi + 1 - lo) (a.value / 2 ^ lo % 2 ^ (hi + 1 - lo))
 
@@ -84,6 +84,6 @@ zext_of a width = word width a.value
 abbrev pub sext_of : Word → ℕ → Word
 sext_of a width = word width (if nat_lt a.value (2 ^ (a.width - 1)) then a.value else a.value + (2 ^ width - 2 ^ a.width))
 
--- the number that a writes in two's complement: below zero where its highest bit is 1
+-- the number that a denotes in two's complement: negative if its highest bit is 1
 abbrev pub signed_of : Word → ℤ
 signed_of a = if nat_lt a.value (2 ^ (a.width - 1)) then pos a.value else neg_ℤ (pos (2 ^ a.width - a.value))

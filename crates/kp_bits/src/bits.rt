@@ -1,3 +1,4 @@
+// Values of 1 to 64 bits and the operations on them.
 ghost use Rattle.std.specs.Prelude.{◌≡◌, ◌+◌, ◌-◌, ◌^◌, ◌<◌, ◌≤◌, ◌%◌};
 ghost use Rattle.std.specs.Option.{SomeIff};
 ghost use Rattle.kp_bits.specs.Word.{IsWord, word, not_of, and_of, or_of, xor_of, add_of, sub_of, mul_of, eq_of, lt_of, shl_of, shr_of, mux_of, concat_of, slice_of, zext_of, sext_of};
@@ -27,7 +28,7 @@ impl Model for Bits {
 }
 
 impl Bits {
-    /// None where the width is not in 1 to 64, or the value has more bits than that.
+    /// None if the width is not in 1 to 64, or the value does not fit in `width` bits.
     pub fn new(width: u8, value: u64) -> Option<Bits>
         ensures { SomeIff result (IsWord (word width value)) (word width value) }
     {

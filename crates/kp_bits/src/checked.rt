@@ -1,4 +1,4 @@
-//! The operations of expressions, each with a value where the operands have the widths that it is meant for, and None else.
+//! The operations of expressions, partial: a value if the operands have the specified widths, else None.
 ghost use Rattle.std.specs.Prelude.{◌≡◌};
 ghost use Rattle.kp_bits.specs.Checked.{checked_joined, checked_literal, checked_binary, checked_mux, checked_slice, checked_zext, checked_sext};
 
@@ -6,14 +6,14 @@ use crate::bits::Bits;
 use crate::literal::Literal;
 use crate::operator::BinOp;
 
-/// The word of a literal.
+/// The value of a literal.
 pub fn literal(literal: Literal) -> Option<Bits>
     ensures { result ≡ checked_literal literal }
 {
     literal.fit().ok()
 }
 
-/// The value of a binary operator, whose operands have one width, but for a shift.
+/// The value of a binary operator. The operands have the same width, except for shifts.
 pub fn binary(op: BinOp, a: Bits, b: Bits) -> Option<Bits>
     ensures { result ≡ checked_binary op a b }
 {
@@ -35,7 +35,7 @@ pub fn choice(test: Bits, a: Bits, b: Bits) -> Option<Bits>
     }
 }
 
-/// The parts in a row, the first on top: one or more, of at most 64 bits together.
+/// The concatenation of the parts, the first in the high bits: one part or more, of at most 64 bits in total.
 pub fn joined(parts: &[Bits]) -> Option<Bits>
     ensures { result ≡ checked_joined parts.now }
 {
@@ -50,7 +50,7 @@ pub fn joined(parts: &[Bits]) -> Option<Bits>
     Some(all)
 }
 
-/// `a[hi:lo]`, where a has these bits.
+/// `a[hi:lo]`, if a has these bits.
 pub fn slice(a: Bits, hi: u64, lo: u64) -> Option<Bits>
     ensures { result ≡ checked_slice hi lo a }
 {
@@ -61,7 +61,7 @@ pub fn slice(a: Bits, hi: u64, lo: u64) -> Option<Bits>
     }
 }
 
-/// `zext(a, width)`, to a width that is no less than that of a, and 64 at most.
+/// `zext(a, width)`, if the width is at least that of a, and at most 64.
 pub fn zero_extended(a: Bits, width: u64) -> Option<Bits>
     ensures { result ≡ checked_zext width a }
 {
@@ -72,7 +72,7 @@ pub fn zero_extended(a: Bits, width: u64) -> Option<Bits>
     }
 }
 
-/// `sext(a, width)`, to a width that is no less than that of a, and 64 at most.
+/// `sext(a, width)`, if the width is at least that of a, and at most 64.
 pub fn sign_extended(a: Bits, width: u64) -> Option<Bits>
     ensures { result ≡ checked_sext width a }
 {

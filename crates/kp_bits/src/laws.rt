@@ -1,6 +1,6 @@
-//! Laws that the definitions of this crate are checked by.
+//! Laws that validate the definitions of this crate.
 //!
-//! Each function does nothing: its contract is the law, for all words and for all runs of bytes.
+//! Each function does nothing: its contract is the law, for all words and for all byte strings.
 
 ghost use Rattle.std.specs.Prelude.{◌≡◌, ◌↔◌, ◌⊎◌, ℕ, ◌+◌, ◌-◌, ◌%◌, ◌^◌, ◌<◌, ◌≤◌, min, max, List, Ok, Err, Some, IfOk, codes};
 ghost use Rattle.std.specs.Int.{bit_at};
@@ -10,7 +10,7 @@ ghost use Rattle.kp_bits.specs.Word.{Word, word, IsWord, signed_of, not_of, and_
 ghost use Rattle.kp_bits.specs.Literals.{IsLiteral, numeral_value, number_of, literal_within, literal_of, fit_of};
 ghost use Rattle.kp_bits.specs.Spelling.{decimal_digits, spelling};
 
-/// At the widths that it asks for, each operation gives a word of 1 to 64 bits.
+/// At operand widths that fit, each operation returns a word of 1 to 64 bits.
 #[tactic(auto, using(crate::proofs::Words::operations))]
 pub fn operations_give_words()
     ensures not { (a : Word) → IsWord a → IsWord (not_of a) }
@@ -39,8 +39,8 @@ pub fn complement()
     ensures twice { (a : Word) → IsWord a → not_of (not_of a) ≡ a }
 {}
 
-/// Each bit of `a & b`, `a | b` and `a ^ b` is made of the two bits at its place: the smaller, the greater, and the
-/// last of their sum.
+/// Each bit of `a & b`, `a | b` and `a ^ b` is computed from the two bits at its position: the smaller, the greater,
+/// and the lowest bit of their sum.
 #[tactic(auto, using(std::proofs::lemmas::Nat::Bits::bit_at_and, std::proofs::lemmas::Nat::Bits::bit_at_or, std::proofs::lemmas::Nat::Bits::bit_at_xor))]
 pub fn bit_by_bit()
     ensures and { (a b : Word) (i : ℕ) → bit_at (and_of a b).value i ≡ min (bit_at a.value i) (bit_at b.value i) }
@@ -69,7 +69,7 @@ pub fn order()
     ensures equal { (a b : Word) → a.width ≡ b.width → ((eq_of a b).value ≡ 1) ↔ (a ≡ b) }
 {}
 
-/// A shift by the width or more leaves nothing, and a shift to the right by less leaves the upper bits.
+/// A shift by the width or more yields 0, and a shift to the right by less yields the upper bits.
 #[tactic(auto, using(crate::proofs::Arithmetic::shl_past, crate::proofs::Arithmetic::shr_past, crate::proofs::Arithmetic::shr_slice))]
 pub fn shift()
     ensures shl_past { (a b : Word) → a.width ≤ b.value → shl_of a b ≡ word a.width 0 }
@@ -78,7 +78,7 @@ pub fn shift()
         → shr_of a b ≡ zext_of (slice_of a (a.width - 1) b.value) a.width }
 {}
 
-/// Slices give back the parts of a concatenation, and a concatenation gives back the word that was cut in two.
+/// Slices recover the parts of a concatenation, and a concatenation recovers the word that was split in two.
 #[tactic(auto, using(crate::proofs::Arithmetic::concat_high, crate::proofs::Arithmetic::concat_low, crate::proofs::Arithmetic::slices_concat))]
 pub fn parts()
     ensures high { (high low : Word) → IsWord high → IsWord low
@@ -88,14 +88,14 @@ pub fn parts()
         → concat_of (slice_of a (a.width - 1) k) (slice_of a (k - 1) 0) ≡ a }
 {}
 
-/// `zext` puts zeros on top, and `sext` keeps the number in two's complement.
+/// `zext` fills with zeros, and `sext` preserves the number in two's complement.
 #[tactic(auto, using(crate::proofs::Arithmetic::zext_concat, crate::proofs::Arithmetic::sext_signed))]
 pub fn extension()
     ensures zext { (a : Word) (n : ℕ) → zext_of a (n + a.width) ≡ concat_of (word n 0) a }
     ensures sext { (a : Word) (width : ℕ) → IsWord a → a.width ≤ width → signed_of (sext_of a width) ≡ signed_of a }
 {}
 
-/// What `spell` writes is read back as the word, and a decimal number as the number; and two examples.
+/// What `spell` writes is read back as the same word, and a decimal number as the same number; and two examples.
 #[tactic(auto, using(crate::proofs::RoundTrips::spelling_read, crate::proofs::RoundTrips::fit_of_word, crate::proofs::RoundTrips::decimal_read))]
 pub fn round_trip()
     ensures word { (a : Word) → IsWord a → literal_of (spelling a) ≡ Ok (record { width = a.width; value = a.value }) }
@@ -105,8 +105,8 @@ pub fn round_trip()
     ensures number { (n : ℕ) → 1 ≤ n → n < 2 ^ 64 → number_of (decimal_digits n) ≡ Some n }
 {}
 
-/// A run of bytes is refused as `BadDigit` or has the form of a literal; a literal has the value of its digits, if 64
-/// bits hold both numbers; and what `fit` gives is a word.
+/// A byte string is rejected as `BadDigit` or has the form of a literal; a literal has the value of its digits, if
+/// both its numbers fit in 64 bits; and the result of `fit` is a word.
 #[tactic(auto, using(crate::proofs::RoundTrips::literal_form, crate::proofs::RoundTrips::literal_value, crate::proofs::RoundTrips::fit_gives_word))]
 pub fn literals()
     ensures form { (run : List ℕ) → (literal_of run ≡ Err LiteralFault.BadDigit) ⊎ IsLiteral run }

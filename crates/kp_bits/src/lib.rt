@@ -1,4 +1,4 @@
-//! Values of 1 to 64 bits, what is computed with them, and how they are written.
+//! Values of 1 to 64 bits, the operations on them, and their textual forms.
 #![tactic(auto)]
 
 mod bits;

@@ -1,3 +1,4 @@
+// Literals and decimal numbers: reading them, and checking the width.
 ghost use Rattle.std.specs.Prelude.{◌≡◌, ◌<◌, ◌≤◌, ◌||◌, length, position, IfSome};
 ghost use Rattle.std.specs.Char.{is_digit, digit_value};
 ghost use Rattle.std.specs.List.{list_all};
@@ -40,9 +41,9 @@ impl fmt::Display for LiteralFault {
 impl Error for LiteralFault {}
 
 impl Literal {
-    /// The value in as many bits as the width says.
+    /// The value as a word of the literal's width.
     ///
-    /// `BadWidth` where the width is not in 1 to 64, and else `TooBig` where the value has more bits.
+    /// Errors: `BadWidth` if the width is not in 1 to 64, else `TooBig` if the value does not fit in the width.
     pub fn fit(self) -> Result<Bits, LiteralFault>
         ensures { result ≡ fit_of self }
     {
@@ -54,10 +55,10 @@ impl Literal {
     }
 }
 
-/// Reads a sized literal, as `8'h0b`: a number, a `'`, a base letter (`b`, `o`, `d` or `h`, in either case), and
-/// digits of that base, where `_` may stand anywhere but first (IEEE 1364-2005, clause 3.5.1).
+/// Reads a sized literal, such as `8'h0b`: a number, a `'`, a base letter (`b`, `o`, `d` or `h`, in either case), and
+/// digits of that base, where `_` may occur anywhere but first (IEEE 1364-2005, clause 3.5.1).
 ///
-/// `BadDigit` where the run has another form, and else `TooBig` where one of its numbers is over 2^64 - 1.
+/// Errors: `BadDigit` if the text has another form, else `TooBig` if one of its numbers is over 2^64 - 1.
 pub fn read_literal(run: &[u8]) -> Result<Literal, LiteralFault>
     ensures { result ≡ literal_of run.now }
 {
@@ -67,8 +68,8 @@ pub fn read_literal(run: &[u8]) -> Result<Literal, LiteralFault>
     }
 }
 
-/// Reads a decimal number. `None` where something other than digits stands there, or nothing, or the number is over
-/// 2^64 - 1.
+/// Reads a decimal number. `None` if the text is empty or contains something other than digits, or if the number is
+/// over 2^64 - 1.
 pub fn read_number(run: &[u8]) -> Option<u64>
     ensures { result ≡ number_of run.now }
 {
@@ -79,9 +80,9 @@ pub fn read_number(run: &[u8]) -> Option<u64>
     }
 }
 
-/// Reads digits in a base from 2 to 36, as a byte for each digit: its value is 0 for `0` to 35 for `Z` and `z`, and `_`
-/// counts for nothing. That no other byte stands there, and that each digit is below the base, is for the caller to know.
-/// `None` where the number is over 2^64 - 1.
+/// Reads digits in a base from 2 to 36, as a byte for each digit: its value is 0 for `0` to 35 for `Z` and `z`, and
+/// `_` is skipped. The caller ensures that no other byte occurs and that each digit is below the base. `None` if the
+/// number is over 2^64 - 1.
 #[tactic(auto, using(crate::proofs::Numerals::too_big, crate::proofs::Numerals::all_read))]
 pub fn read_numeral(base: u64, digits: &[u8]) -> Option<u64>
     requires { 1 ≤ base }
@@ -101,7 +102,7 @@ fn find_quote(run: &[u8]) -> Option<usize>
     run.iter().position(|c| *c == b'\'')
 }
 
-// Reads a literal from what stands before its `'` and after it.
+// Reads a literal from the parts before its `'` and after it.
 fn read_parts(width: &[u8], rest: &[u8]) -> Result<Literal, LiteralFault>
     ensures { result ≡ literal_of_parts width.now rest.now }
 {
@@ -143,7 +144,7 @@ fn base_of(letter: u8) -> Option<u64>
     }
 }
 
-// One decimal digit or more, and nothing else.
+// Whether the text consists of one or more decimal digits.
 fn is_number(run: &[u8]) -> bool
     ensures { result ≡ is_number run.now }
 {
@@ -159,7 +160,7 @@ fn are_digits(run: &[u8]) -> bool
     run.iter().all(|c| is_digit(*c, 10))
 }
 
-// Digits of the base, with `_` anywhere but first.
+// Whether the text consists of digits of the base, with `_` anywhere but first.
 fn is_numeral(base: u64, run: &[u8]) -> bool
     ensures { result ≡ is_numeral base run.now }
 {
@@ -196,7 +197,7 @@ fn digit_value(c: u8) -> u64
     }
 }
 
-// What is written once another byte stands at the end.
+// The number that is denoted once one more digit is appended.
 fn numeral_next(base: u64, value: u64, digit: u8) -> Option<u64>
     ensures { result ≡ number_within (numeral_next base value digit) }
 {

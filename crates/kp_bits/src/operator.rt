@@ -1,3 +1,4 @@
+// The binary operators of the languages.
 use crate::bits::Bits;
 
 /// A binary operator: `& | ^ + - * == < << >>`, in this order.

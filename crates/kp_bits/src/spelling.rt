@@ -1,3 +1,4 @@
+// The canonical textual form of a word.
 ghost use Rattle.std.specs.Prelude.{◌≡◌, ◌+◌, ◌/◌, ◌%◌, ◌^◌, ◌<◌, ◌≤◌, ◌++◌, length, drop};
 ghost use Rattle.std.specs.Char.{digit_char};
 ghost use Rattle.kp_bits.specs.Spelling.{decimal_digits, hex_digits, spelling};
@@ -5,8 +6,8 @@ ghost use Rattle.kp_bits.specs.Spelling.{decimal_digits, hex_digits, spelling};
 use crate::bits::Bits;
 
 impl Bits {
-    /// Writes the canonical form, as `8'h0b`, at the front of `out`, and gives its length: the width in decimal, `'h`,
-    /// and a hexadecimal digit for each four bits or part of them, in lower case.
+    /// Writes the canonical form, such as `8'h0b`, at the front of `out`, and returns its length: the width in
+    /// decimal, `'h`, and one lower-case hexadecimal digit for each four bits, rounded up.
     pub fn spell(self, out: &mut [u8; 20]) -> usize
         ensures length { result ≡ length (spelling self) }
         ensures written { out.new ≡ spelling self ++ drop (length (spelling self)) out.old }
@@ -21,7 +22,7 @@ impl Bits {
     }
 }
 
-// Writes a width in decimal at the front of `out`, and gives the length.
+// Writes a width in decimal at the front of `out`, and returns the length.
 #[tactic(auto, using(crate::proofs::Spellings::one_digit_long, crate::proofs::Spellings::two_digits_long, crate::proofs::Spellings::one_digit_written, crate::proofs::Spellings::two_digits_written))]
 fn write_width(width: u8, out: &mut [u8; 20]) -> usize
     requires positive { 1 ≤ width }
@@ -51,7 +52,7 @@ fn write_hex(n: u64, out: &mut [u8])
     }
 }
 
-// The digit at a place of the number in hexadecimal, counted from the lowest.
+// The hexadecimal digit of the number at a position, counted from the lowest.
 #[tactic(auto, using(crate::proofs::Spellings::digit_at))]
 fn hex_digit(n: u64, place: usize) -> u8
     requires { place < 16 }

@@ -1,4 +1,4 @@
--- An expression's checked value, where it has one, is its value.
+-- An expression's checked value, if it has one, is its value.
 use Rattle.std.proofs.Common.{◌≡◌, ◌∙◌, ℕ, Bool, true, false, cond, List, [], ◌∷◌, map, fold, Option, Some, None, Ok, Err, refl, ap, sym}
 use Rattle.std.specs.Option.{option_map, option_and_then, unwrap_or}
 use Rattle.std.specs.Result.{result_ok}

@@ -24,7 +24,7 @@ use Rattle.std.proofs.lemmas.Option.{same_Some}
 use Rattle.kp_build.proofs.Agree.{agree, calls_agree}
 use Rattle.kp_build.proofs.Fitting.{no_cells}
 use Rattle.kp_build.proofs.Names.{given, known_in_call}
-use Rattle.kp_forms.proofs.Parts.{value_Lit, value_Name}
+use Rattle.kp_ast.proofs.Parts.{value_Lit, value_Name}
 
 module _ (p : Held) (env : Scope) (e : Expr) where
   pub literal_there : (l : Literal) → e.kind ≡ leaf.Lit l → IsSound p env e → is_some (checked_literal l) ≡ true

@@ -1,4 +1,4 @@
--- Extensions as bits in a row.
+-- Extensions as concatenations.
 use Rattle.std.proofs.Common.{◌≡◌, ◌∙◌, ℕ, suc, ◌+◌, ◌-◌, ◌*◌, ◌/◌, ◌%◌, ◌^◌, ◌<◌, ◌≤◌, Bool, true, false, cond, eqb, ltb, refl, ap, sym, inl, inr, arith}
 use Rattle.std.proofs.Math.Nat.{div-eq_of_lt, div-eq_of_lt-le, two-pow-succ}
 use Rattle.std.proofs.lemmas.Nat.{pow-add, pow_pos}
@@ -10,7 +10,7 @@ unchanged : (t : Bool) (x m : ℕ) → cond t x (x + (m - m)) ≡ x
 unchanged true x m = refl
 unchanged false x m = omega arith
 
--- to the width that there is
+-- to the present width
 pub sext_same : (a : Word) → sext_of a a.width ≡ a
 sext_same a = ap (word a.width) (unchanged (ltb a.value (2 ^ (a.width - 1))) a.value (2 ^ a.width))
 

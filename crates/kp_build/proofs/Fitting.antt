@@ -1,4 +1,4 @@
--- Operations at nodes: what their having a value says of the widths of the nodes, and what a node with that value shows.
+-- Operations at nodes: what follows for the widths of the nodes if they have a value, and the meaning of a node with that value.
 use Rattle.std.proofs.Common.{◌≡◌, ◌∙◌, ℕ, ◌<◌, ◌≤◌, ◌&&◌, ◌||◌, ◌==◌, Bool, true, false, List, Some, length, refl, ap, sym, arith}
 use Rattle.std.specs.Prelude.{is_some, nat_lt, nat_le}
 use Rattle.std.proofs.lemmas.Bool.{ltb-true, leb-true, eqb-true}
@@ -14,7 +14,7 @@ use Rattle.kp_net.specs.Growth.{Held}
 use Rattle.kp_net.proofs.Values.{word_wide, at_fits}
 use Rattle.kp_build.specs.inner.Showing.{IsThere, Shows, width_after}
 
--- what holds whatever the cells hold, holds where they hold nothing
+-- a property for all cells holds for empty cells
 abbrev pub no_cells : Cells
 no_cells = record { ext = 0; sample = λ s. 0; reg = λ r. 0; word = λ f a. 0 }
 
@@ -26,7 +26,7 @@ so_some : (t : Bool) (w : Word) → is_some (where_so t w) ≡ true → where_so
 so_some true w h = refl
 so_some false w h = cc
 
--- a node that has the value behind a test which passes, whatever the cells hold
+-- a node that has the value after a test which passes, whatever the cells hold
 pub shown : (t : Cells → Bool) (w : Cells → Word) (q : Held) (n : NodeId) → IsThere (λ c. where_so (t c) (w c)) → ((c : Cells) → word_at c q.nodes n.0 ≡ w c)
     → Shows q n (λ c. where_so (t c) (w c))
 unfolding IsThere Shows

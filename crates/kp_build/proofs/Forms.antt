@@ -1,4 +1,4 @@
--- Each form of expression: its parts are sound where it is, and its value is that of its operation at the nodes of its parts.
+-- Each form of expression: its parts are sound if it is, and its value is that of its operation at the nodes of its parts.
 use Rattle.std.proofs.Common.{◌≡◌, ◌∙◌, ℕ, List, Option, Some, ap, sym, true}
 use Rattle.std.specs.Prelude.{is_some}
 use Rattle.std.specs.Option.{option_map, option_and_then}
@@ -14,7 +14,7 @@ use Rattle.kp_net.specs.Nodes.{Cells, word_at}
 use Rattle.kp_net.specs.Growth.{Held}
 use Rattle.kp_build.specs.Names.{Scope, known_at, IsSound, Gives}
 use Rattle.kp_build.specs.inner.Showing.{IsThere, AllShow, words_at, value_in, values_in}
-use Rattle.kp_forms.proofs.Parts.{value_Not, value_Binary, value_Mux, value_Concat, value_Slice, value_Zext, value_Sext, value_Call}
+use Rattle.kp_ast.proofs.Parts.{value_Not, value_Binary, value_Mux, value_Concat, value_Slice, value_Zext, value_Sext, value_Call}
 use Rattle.kp_build.proofs.Giving.{first_there, second_there, third_there, mapped_there, sound_by, one_part, two_parts, three_parts, all_parts, all_sound}
 
 module _ (p : Held) (env : Scope) (e : Expr) where

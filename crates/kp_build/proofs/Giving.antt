@@ -1,4 +1,4 @@
--- What nodes give of expressions, as the pool grows and from part to whole.
+-- The meaning of nodes in terms of expressions, as the pool grows and from parts to the expression.
 use Rattle.std.proofs.Common.{◌≡◌, ◌∙◌, ℕ, ◌<◌, true, List, Option, Some, None, length, refl, ap, sym}
 use Rattle.std.specs.Prelude.{is_some}
 use Rattle.std.specs.Option.{option_map, option_and_then}
@@ -53,7 +53,7 @@ pub gives_later : (p : Held) (env : Scope) (e : Expr) (q r : Held) (k : ℕ) (n 
 unfolding Gives
 gives_later p env e q r k n g l h = λ c. h c ∙ ap Some (sym (g.kept.words c n.0 l))
 
--- a whole by its one part, its two and its three
+-- an expression by its one part, its two and its three
 module _ (p : Held) (env : Scope) (e : Expr) where
   module _ (f : Cells → Option Word) (same : (c : Cells) → value_in p env e c ≡ f c) where
     pub fit_by : IsSound p env e → IsThere f

@@ -1,4 +1,4 @@
--- Expressions one after another, and their nodes.
+-- Lists of expressions, and their nodes.
 use Rattle.std.proofs.Common.{◌≡◌, ◌∙◌, ℕ, suc, zero, ◌+◌, ◌<◌, true, List, [], ◌∷◌, ◌++◌, map, Option, Some, None, length, get_or, take, refl, ap, sym, arith}
 use Rattle.std.specs.Prelude.{is_some}
 use Rattle.std.specs.Option.{option_map, option_and_then}
@@ -39,7 +39,7 @@ there_push (Some x ∷ os) vs v e = there_cons x (all_there os) vs (all_there (o
     there_cons x None vs o' v e h = cc
     there_cons x (Some ws) vs o' v e h = let n : vs ≡ x ∷ ws = cc in ap (option_map (λ xs. x ∷ xs)) (h ws refl) ∙ ap (λ xs. Some (xs ++ v ∷ [])) (sym n)
 
--- each value of those that are there is
+-- each of several values exists if all do
 each_there : (f : Expr → Option Word) (es : List Expr) (i : ℕ) (d : Expr) → i < length es → is_some (all_there (map f es)) ≡ true → is_some (f (get_or es i d)) ≡ true
 each_there f [] i d l h = absurd (omega arith)
 each_there f (e ∷ es) zero d l h = here (f e) (all_there (map f es)) h

@@ -1,4 +1,4 @@
--- Names and their nodes: what stays while the pool grows, and what changes where a name gets a node.
+-- Names and their nodes: what is preserved while the pool grows, and what changes when a name is bound to a node.
 use Rattle.std.proofs.Common.{◌≡◌, ◌∙◌, ℕ, ◌+◌, ◌<◌, List, [], ◌∷◌, length, get_or, drop, map, Option, Some, None, Bool, true, false, cond, refl, ap, sym, subst, arith}
 use Rattle.std.specs.Option.{option_map}
 use Rattle.std.specs.List.{zip}
@@ -51,7 +51,7 @@ module _ (ps : List Param) (args : List NodeId) (i : ℕ) (p d : Param) (n b : N
       → (q : List ℕ) → node_of (with_node names p.name.name n) q ≡ node_of (given (drop i ps) (drop i args)) q
   bound_more names h q = node_with names p.name.name n q ∙ ap (cond (is_same_name q p.name.name) (Some n)) (h q) ∙ sym (given_more q)
 
--- in a call each parameter has the word of the argument at its place
+-- in a call each parameter has the word of the corresponding argument
 given_words : (c : Cells) (p : Held) (ps : List Param) (args : List NodeId) (q : List ℕ) → option_map (λ n. word_at c p.nodes n.0) (node_of (given ps args) q) ≡ look_up (arguments_of ps (words_at c p args)) q
 given_words c p [] args q = refl
 given_words c p (x ∷ ps) [] q = refl

@@ -1,4 +1,4 @@
--- Nodes in a row: their widths, and a row in steps.
+-- Concatenations of nodes: their widths, and a concatenation in steps.
 use Rattle.std.proofs.Common.{◌≡◌, ◌∙◌, ℕ, ◌+◌, ◌<◌, ◌≤◌, Bool, true, false, cond, List, [], ◌∷◌, ◌++◌, fold, Option, Some, None, length, get_or, drop, refl, ap, sym, subst, arith}
 use Rattle.std.specs.Prelude.{is_some}
 use Rattle.std.specs.List.{sum_by}
@@ -26,7 +26,7 @@ under : (t : Bool) (o : Option Word) → is_some (cond t o None) ≡ true → (t
 under true o h = (refl, h)
 under false o h = cc
 
--- a row with others behind its first part has 64 bits at most
+-- a concatenation of several parts has at most 64 bits
 join_fits : (a : Word) (b : Word) (rest : List Word) → is_some (checked_join a (b ∷ rest)) ≡ true → a.width + bits_of (b ∷ rest) ≤ 64
 join_fits a b [] h = let s : a.width + b.width ≤ 64 = leb-true _ _ (under _ _ h).0 in let n = sum_by-cons (λ (w : Word). w.width) b [] in omega arith
 join_fits a b (d ∷ rest) h =
@@ -42,7 +42,7 @@ join_value a (b ∷ rest) h =
     let u = under _ _ h in
     ap (λ t. cond t (checked_join (concat_of a b) rest) None) u.0 ∙ join_value (concat_of a b) rest u.1
 
--- a row that is there is its parts, one behind the other
+-- an existing concatenation is that of its parts, in order
 pub joined_value : (ws : List Word) → is_some (checked_joined ws) ≡ true → checked_joined ws ≡ Some (joined_of ws)
 joined_value [] h = cc
 joined_value (a ∷ rest) h = join_value a rest h
@@ -111,7 +111,7 @@ module _ (p : Held) where
   some_nodes [] there e = let f : false ≡ true = there no_cells in cc
   some_nodes (n ∷ ns) there e = absurd (omega arith)
 
-  -- nodes that can stand in a row
+  -- nodes that can be concatenated
   module _ (ns : List NodeId) (inside : AllInside p ns) (there : IsThere (λ c. checked_joined (words_at c p ns))) where
     -- two or more have at most 64 bits
     pub row_fits : 2 ≤ length ns → sum_by (λ n. wide p.nodes n.0) ns ≤ 64

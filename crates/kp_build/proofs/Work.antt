@@ -6,7 +6,7 @@ use Rattle.kp_ast.specs.declared.tree.Decl.TheVariants as decls
 use Rattle.kp_ast.specs.declared.tree.Expr.{Expr}
 use Rattle.kp_ast.specs.Size.{size_with, no_bodies}
 
--- the steps in an expression itself, where a call is one
+-- the steps in an expression itself, where a call counts as one
 abbrev pub steps : Expr → ℕ
 steps = size_with no_bodies
 

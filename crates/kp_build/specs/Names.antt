@@ -1,4 +1,4 @@
--- Names with their nodes, and what their nodes make of an expression.
+-- Names with their nodes, and the value of an expression in terms of these nodes.
 use Rattle.std.specs.Prelude.{◌≡◌, ◌<◌, ℕ, List, Option, Some, nat_eq, length, true, is_some}
 use Rattle.std.specs.Option.{option_map}
 use Rattle.std.specs.Map.{lookup}
@@ -25,7 +25,7 @@ pub record Scope : Type 0 where
   pub decls : List Decl
   pub names : Nodes
 
--- a name gets this node, also where it had one
+-- a name is bound to this node, also if it was bound before
 abbrev pub with_node : Nodes → List ℕ → NodeId → Nodes
 with_node names q n = insert_entry (pointwise nat_eq) names q n
 
@@ -46,11 +46,11 @@ Means p env e q n = (c : Cells) (names : values.Names) → HaveWords c p env nam
 unfoldable pub word_of : Cells → Held → Scope → List ℕ → Option Word
 word_of c p env q = option_map (λ n. word_at c p.nodes n.0) (node_of env.names q)
 
--- what is known where names have the words of their nodes
+-- what is known if names have the words of their nodes
 abbrev pub known_at : Cells → Held → Scope → Known
 known_at c p env = record { names = word_of c p env; calls = checked_calls_of env.decls }
 
--- the expression has a value, whatever the cells hold: each operation in it has operands of the widths that it is meant for, and
+-- the expression has a value, whatever the cells hold: each operation in it has operands of the required widths, and
 -- each name and function is known
 unfoldable pub IsSound : Held → Scope → Expr → Type 0
 IsSound p env e = (c : Cells) → is_some (checked (known_at c p env) e) ≡ true

@@ -1,3 +1,4 @@
+// The environment of an expression: names with their nodes, and functions.
 ghost use Rattle.std.specs.Prelude.{◌≡◌, ℕ, List, Some, [], map, length, true, is_some, IfOk, OnOk, OnErr};
 ghost use Rattle.std.specs.List.{zip};
 ghost use Rattle.kp_build.specs.Names.{node_of, with_node};
@@ -30,7 +31,7 @@ impl<'a> Model for Env<'a> {
 }
 
 impl<'a> Env<'a> {
-    /// Knows the functions of a design, and no name.
+    /// The environment with the functions of a design, and no names. Error: out of memory.
     pub fn new(alloc: Global, d: &'a Design) -> Result<Env<'a>, NoMemory>
         ensures { IfOk result (λ env. env ≡ record { decls = d.now.job.decls; names = [] }) }
     {
@@ -40,8 +41,8 @@ impl<'a> Env<'a> {
         })
     }
 
-    /// In a call of a function: the parameters, each with the node of the argument at its place, and the functions that are
-    /// declared earlier.
+    /// The environment of a call of a function: the parameters, each with the node of the corresponding argument, and
+    /// the functions that are declared earlier.
     pub(crate) fn of_call(
         alloc: Global,
         earlier: &'a [Decl],
@@ -56,14 +57,14 @@ impl<'a> Env<'a> {
             decls: earlier,
             names: IndexMap::new(alloc),
         };
-        // The last parameter comes first, so that the first of a name counts.
+        // The last parameter comes first, so that the first parameter with a name takes precedence.
         for i in (0..params.len()).rev() {
             env.bind(&params[i].name.name, args[i])?;
         }
         Ok(env)
     }
 
-    /// Gives a name this node, also where it has one already. After a refusal all is as it was.
+    /// Binds a name to this node, also if it is bound already. On an error nothing is changed.
     pub fn bind(&mut self, name: &Name, node: NodeId) -> Result<(), NoMemory>
         ensures bound { OnOk result (self.new ≡ record { decls = self.old.decls; names = with_node self.old.names name.now node }) }
         ensures unchanged { OnErr result (self.new ≡ self.old) }

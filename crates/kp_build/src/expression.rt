@@ -1,3 +1,4 @@
+// Building the node of an expression.
 ghost use Rattle.std.specs.Prelude.{◌*◌, ◌<◌, ◌≤◌, length, IfOk};
 ghost use Rattle.kp_ast.specs.Size.{size};
 ghost use Rattle.kp_net.specs.Growth.{Held, Grown};
@@ -10,10 +11,11 @@ use kp_base::NoMemory;
 use kp_net::{NodeId, Pool};
 use std::alloc::Global;
 
-/// A node with the value of the expression, wherever the nodes of the names have the values of the names.
+/// A node with the value of the expression, provided that the nodes of the names have the values of the names.
 ///
-/// Takes room for at most 8 nodes for each unit of the expanded size, and adds constants and operations alone, also where
-/// memory is refused. Each node that was in the pool keeps its number and its value.
+/// Needs capacity for at most 8 nodes for each unit of the expanded size, and adds only constants and operations,
+/// also if it runs out of memory, which is the only error. Each node that was in the pool keeps its number and its
+/// value.
 pub fn expr(alloc: Global, pool: &mut Pool, env: &Env, e: &Expr) -> Result<NodeId, NoMemory>
     requires room { 8 * size env.now.decls e.now ≤ pool.old.spare }
     requires inside { AreInside pool.old env.now }

@@ -1,4 +1,4 @@
-//! Nodes in a row.
+//! Concatenation of nodes.
 ghost use Rattle.std.specs.Prelude.{◌≡◌, ◌+◌, ◌/◌, ◌<◌, ◌≤◌, ◌∷◌, length, IfOk};
 ghost use Rattle.std.specs.List.{sum_by};
 ghost use Rattle.kp_bits.specs.Checked.{checked_joined};
@@ -7,11 +7,11 @@ ghost use Rattle.kp_net.specs.Growth.{Held, Grown};
 ghost use Rattle.kp_build.specs.inner.Showing.{IsThere, Shows, AllInside, words_at};
 
 use kp_base::NoMemory;
-use kp_gate::join;
 use kp_net::{NodeId, Operands, Pool};
+use kp_net_gates::join;
 use std::alloc::Global;
 
-/// `{a, b}`: one node or more in a row, the first on top. As each has a bit at least, there are 64 at most.
+/// `{a, b}`: the concatenation of one or more nodes, the first in the high bits. As each has at least one bit, there are at most 64.
 pub(crate) fn joined(alloc: Global, pool: &mut Pool, parts: &[NodeId]) -> Result<NodeId, NoMemory>
     requires room { 8 ≤ pool.old.spare }
     requires inside { AllInside pool.old parts.now }
@@ -20,12 +20,12 @@ pub(crate) fn joined(alloc: Global, pool: &mut Pool, parts: &[NodeId]) -> Result
     ensures shows { IfOk result (λ n. Shows pool.new n (λ c. checked_joined (words_at c pool.old parts.now))) }
     ensures grown { Grown pool.old pool.new 8 }
 {
-    // All nodes of a pool are right, as `spare` tells too: each part has a bit at least.
+    // All nodes of a pool are well-formed, as the contract of `spare` says too: each part has at least one bit.
     prove!(pool.spare() >= 8);
     joined_by_steps(alloc, pool, parts)
 }
 
-// The same, in as many steps as it takes, since a node of the pool has 12 parts at most.
+// The same, in several steps, since a node of the pool has at most 12 parts.
 fn joined_by_steps(alloc: Global, pool: &mut Pool, parts: &[NodeId]) -> Result<NodeId, NoMemory>
     requires room { (length parts.now + 9) / 11 ≤ pool.old.spare }
     requires inside { AllInside pool.old parts.now }
@@ -47,7 +47,7 @@ fn joined_by_steps(alloc: Global, pool: &mut Pool, parts: &[NodeId]) -> Result<N
     }
 }
 
-// A node, and others behind it.
+// A list of a node, followed by others.
 fn list_of(alloc: Global, first: NodeId, rest: &[NodeId]) -> Result<Vec<NodeId>, NoMemory>
     ensures { IfOk result (λ all. all.items ≡ first ∷ rest.now) }
 {
@@ -57,7 +57,7 @@ fn list_of(alloc: Global, first: NodeId, rest: &[NodeId]) -> Result<Vec<NodeId>,
     Ok(all)
 }
 
-// 2 to 12 nodes in a row.
+// The concatenation of 2 to 12 nodes.
 fn row(alloc: Global, pool: &mut Pool, parts: &[NodeId]) -> NodeId
     requires room { 1 ≤ pool.old.spare }
     requires some { 2 ≤ length parts.now }
@@ -72,7 +72,7 @@ fn row(alloc: Global, pool: &mut Pool, parts: &[NodeId]) -> NodeId
     join(pool, Operands::new(alloc, parts), width)
 }
 
-// The width of nodes in a row.
+// The width of the concatenation of nodes.
 fn width_of(pool: &Pool, parts: &[NodeId]) -> u8
     requires inside { AllInside pool.now parts.now }
     requires fits { sum_by (λ n. wide pool.now.nodes n.0) parts.now ≤ 64 }

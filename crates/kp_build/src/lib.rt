@@ -1,4 +1,4 @@
-//! Expressions as nodes.
+//! Building the nodes of expressions.
 #![tactic(auto)]
 
 mod env;

@@ -1,6 +1,6 @@
-//! One call for each operation of expressions: a node with its value at the nodes of the operands.
+//! One function for each operation of expressions: a node with its value, given the nodes of the operands.
 //!
-//! Each takes operands of the widths that the operation is meant for.
+//! The operands have the widths that the operation requires.
 ghost use Rattle.std.specs.Prelude.{◌≡◌, ◌+◌, ◌<◌, ◌≤◌, ℕ, length, true, is_some};
 ghost use Rattle.kp_bits.specs.Word.{concat_of, not_of};
 ghost use Rattle.kp_bits.specs.Checked.{checked_literal, checked_binary, checked_mux, checked_slice, checked_zext, checked_sext};
@@ -10,11 +10,11 @@ ghost use Rattle.kp_net.specs.Growth.{Held, Wire, Grown};
 ghost use Rattle.kp_build.specs.inner.Showing.{IsThere, Shows, width_after, copies};
 
 use kp_bits::{BinOp, Literal};
-use kp_gate::{binary, choose, complement, constant, join, part};
 use kp_net::{NodeId, Operands, Pool};
+use kp_net_gates::{binary, choose, complement, constant, join, part};
 use std::alloc::Global;
 
-/// The number of a literal.
+/// The value of a literal.
 pub(crate) fn number(pool: &mut Pool, literal: Literal) -> NodeId
     requires room { 1 ≤ pool.old.spare }
     requires right { is_some (checked_literal literal) ≡ true }
@@ -54,7 +54,7 @@ pub(crate) fn operated(pool: &mut Pool, op: BinOp, a: NodeId, b: NodeId) -> Node
     binary(pool, op, a, b, width)
 }
 
-// The width of what an operator gives, where its left operand has this one.
+// The width of the result of an operator, given that of its left operand.
 fn width_after(op: BinOp, left: u8) -> u8
     ensures { result ≡ width_after op left }
 {
@@ -92,7 +92,7 @@ pub(crate) fn sliced(pool: &mut Pool, a: NodeId, hi: u64, lo: u64) -> NodeId
     part(pool, a, hi as u8, lo as u8, width)
 }
 
-/// `zext(a, width)`: zeros in front.
+/// `zext(a, width)`: zeros in the high bits.
 pub(crate) fn zero_extended(alloc: Global, pool: &mut Pool, a: NodeId, width: u64) -> NodeId
     requires room { 2 ≤ pool.old.spare }
     requires inside { a.0 < length pool.old.nodes }
@@ -109,7 +109,7 @@ pub(crate) fn zero_extended(alloc: Global, pool: &mut Pool, a: NodeId, width: u6
     pair(alloc, pool, zeros, a)
 }
 
-/// `sext(a, width)`: copies of the top bit in front, which are all ones or all zeros.
+/// `sext(a, width)`: copies of the top bit in the high bits, which are all ones or all zeros.
 pub(crate) fn sign_extended(alloc: Global, pool: &mut Pool, a: NodeId, width: u64) -> NodeId
     requires room { 5 ≤ pool.old.spare }
     requires inside { a.0 < length pool.old.nodes }
@@ -126,7 +126,7 @@ pub(crate) fn sign_extended(alloc: Global, pool: &mut Pool, a: NodeId, width: u6
     pair(alloc, pool, front, a)
 }
 
-// So many copies of the top bit.
+// n copies of the top bit.
 fn copies(pool: &mut Pool, a: NodeId, count: u8) -> NodeId
     requires room { 4 ≤ pool.old.spare }
     requires inside { a.0 < length pool.old.nodes }

@@ -1,4 +1,4 @@
-//! The walk over an expression: a node for each part of it.
+//! The traversal of an expression: a node for each part of it.
 ghost use Rattle.std.specs.Prelude.{◌≡◌, ◌*◌, ◌<◌, ◌≤◌, length, IfOk};
 ghost use Rattle.std.specs.List.{sum_by};
 ghost use Rattle.kp_ast.specs.Size.{size, bodies_of, body_size_of};
@@ -93,7 +93,7 @@ fn nodes_for(
     Ok(nodes)
 }
 
-// A node with the value of a call of the last function of this name.
+// A node with the value of a call of the last function with this name.
 #[cycle(walk)]
 fn called(
     alloc: Global,
@@ -121,7 +121,7 @@ fn called(
     }
 }
 
-// A node with the value of a function's body, which knows the functions that are declared earlier.
+// A node with the value of a function's body, which may call the functions that are declared earlier.
 #[cycle(walk)]
 fn body(
     alloc: Global,

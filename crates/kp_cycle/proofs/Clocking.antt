@@ -12,7 +12,8 @@ use Rattle.kp_net.specs.declared.netlist.NetFile.{NetFile}
 use Rattle.kp_net.specs.declared.netlist.WritePort.{WritePort}
 use Rattle.kp_net.specs.Nodes.{Cells, at, on}
 use Rattle.kp_net.specs.Netlist.{Net, Input, State, start_regs, port_after, files_after, regs_after, resets, state_after, cells_of}
-use Rattle.kp_net.specs.Parts.{NetOk, RegOk, FileOk, WriteOk, no_reg, no_file}
+use Rattle.kp_net.specs.Parts.{NetOk, FileOk, WriteOk, no_reg, no_file}
+use Rattle.kp_cycle.specs.inner.Plans.{OfPort, OfRoots}
 use Rattle.kp_cycle.specs.inner.Storage.{Stored, Fits, FitsBelow, PortReady, regs_from, port_from}
 
 pub length_map : {X Y : Type 0} (f : X → Y) (xs : List X) → length (map f xs) ≡ length xs
@@ -63,7 +64,7 @@ fits_file net m i ws h l e = record {
       (cases_lt f i);
 }
 
--- the files up to here have taken what their ports say, and the others stand
+-- the files up to here are updated by their ports, and the others are unchanged
 pub record Written (files : List NetFile) (values : List ℕ) (old new : List (List ℕ)) (i : ℕ) : Type 0 where
   pub done : (f : ℕ) → f < i → get_or new f [] ≡ port_from (get_or files f no_file).port values (get_or old f [])
   pub rest : (f : ℕ) → i ≤ f → get_or new f [] ≡ get_or old f []
@@ -93,16 +94,16 @@ port_ready net m f h fits l =
     let ok : FileOk net.nodes (get_or net.parts.files f no_file) = All-get_or (FileOk net.nodes) net.parts.files f no_file l h.right.parts.files in
     ready net.nodes m f _ _ (get_or net.parts.files f no_file).port h.nodes fits (h.words f l) ok.port
 
-port_same : (c : Cells) (ns : List Node) (values : List ℕ) (w a : ℕ) (port : Option WritePort) (words : List ℕ) → WriteOk ns w a port → ((j : ℕ) → j < length ns → get_or values j 0 ≡ at c ns j) → port_from port values words ≡ port_after c ns port words
+port_same : (c : Cells) (ns : List Node) (values : List ℕ) (port : Option WritePort) (words : List ℕ) → OfPort (λ j. get_or values j 0 ≡ at c ns j) port → port_from port values words ≡ port_after c ns port words
 unfolding on
-port_same c ns values w a None words ok known = refl
-port_same c ns values w a (Some p) words ok known =
-    let x = known p.enable.0 ok.0.0 in let y = known p.address.0 ok.1.0 in let z = known p.value.0 ok.2.0 in
+port_same c ns values None words known = refl
+port_same c ns values (Some p) words known =
+    let x = known.0 in let y = known.1 in let z = known.2 in
     λ i. cond (x i == 1) (set words (y i) (z i)) words
 
 -- all registers and files together
 pub state_is : (net : Net) (input : Input) (st : State) (values regs : List ℕ) (files : List (List ℕ)) → NetOk net → resets net input ≡ false → length st.files ≡ length net.parts.files → length files ≡ length net.parts.files
-    → ((j : ℕ) → j < length net.nodes → get_or values j 0 ≡ at (cells_of input st) net.nodes j)
+    → OfRoots net (λ j. get_or values j 0 ≡ at (cells_of input st) net.nodes j)
     → regs ≡ regs_from net.parts.regs values
     → ((f : ℕ) → f < length net.parts.files → get_or files f [] ≡ port_from (get_or net.parts.files f no_file).port values (get_or st.files f []))
     → record { regs = regs; files = files } ≡ state_after net input st
@@ -110,13 +111,11 @@ state_is net input st values regs files ok off e l known r w =
     let c : Cells = cells_of input st in
     let rs : regs ≡ regs_after net c = r ∙ same_elements _ _ 0 (length_map (λ (x : NetReg). get_or values x.next.0 0) net.parts.regs ∙ sym (length_map (λ (x : NetReg). at c net.nodes x.next.0) net.parts.regs))
     (λ k h. let h' : k < length net.parts.regs = omega (arith, length_map (λ (x : NetReg). get_or values x.next.0 0) net.parts.regs) in
-    let n : RegOk net.nodes (get_or net.parts.regs k no_reg) = All-get_or (RegOk net.nodes) net.parts.regs k no_reg h' ok.parts.regs in
-    get_or-map (λ (x : NetReg). get_or values x.next.0 0) net.parts.regs k no_reg 0 h' ∙ known _ n.next.0 ∙ sym (get_or-map (λ (x : NetReg). at c net.nodes x.next.0) net.parts.regs k no_reg 0 h')) in
+    get_or-map (λ (x : NetReg). get_or values x.next.0 0) net.parts.regs k no_reg 0 h' ∙ known.regs k h' ∙ sym (get_or-map (λ (x : NetReg). at c net.nodes x.next.0) net.parts.regs k no_reg 0 h')) in
     let g : NetFile × List ℕ → List ℕ = λ p. port_after c net.nodes p.0.port p.1 in
     let lz : length (zip net.parts.files st.files) ≡ length net.parts.files = omega (arith, length-zip net.parts.files st.files, e) in
     let fs : files ≡ files_after net c st.files = same_elements _ _ [] (l ∙ sym lz ∙ sym (length_map g (zip net.parts.files st.files)))
     (λ k h. let h' : k < length net.parts.files = omega (arith, l) in
-    let n : FileOk net.nodes (get_or net.parts.files k no_file) = All-get_or (FileOk net.nodes) net.parts.files k no_file h' ok.parts.files in
-    w k h' ∙ port_same c net.nodes values _ _ (get_or net.parts.files k no_file).port (get_or st.files k []) n.port known
+    w k h' ∙ port_same c net.nodes values (get_or net.parts.files k no_file).port (get_or st.files k []) (known.files k h')
     ∙ sym (get_or-map g (zip net.parts.files st.files) k (no_file, []) [] (omega (arith, lz)) ∙ ap g (get_or-zip net.parts.files st.files k (no_file, []) h' (omega (arith, e))))) in
     (λ i. record { regs = rs i; files = fs i }) ∙ sym (ap (λ b. cond b (record { regs = start_regs net; files = st.files }) (record { regs = regs_after net c; files = files_after net c st.files })) off)

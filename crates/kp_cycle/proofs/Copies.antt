@@ -1,4 +1,4 @@
--- Copies of the whole state stand beside it.
+-- Copies of the complete state are disjoint from it.
 use Rattle.std.proofs.Common.{◌≡◌, ◌≢◌, ℕ, ◌+◌, ◌-◌, ◌<◌, ◌≤◌, Bool, true, false, cond, List, [], ◌∷◌, ◌++◌, length, get_or, set, map, take, drop, replicate, zero, suc, refl, sym, subst, ap, ◌∙◌, arith, ⊎_elim, inl, inr, Option, None, Some}
 use Rattle.std.specs.Prelude.{IsSome}
 use Rattle.std.proofs.lemmas.Bool.{cases_lt}
@@ -91,7 +91,7 @@ module _ (r : Words) (from to : Span) (sound : IsSound r) (from_within : IsWithi
       ∙ ap (λ (n : ℕ). get_or ws n 0) place
       ∙ sym (get_or-between ws s.start (s.start + s.len) k 0 (omega arith)))
 
--- spans side by side stay so where the words of a region change
+-- disjoint spans remain so when the words of a region change
 apart_still : (r new : Words) (spans : List Span) → Apart r spans → new.used ≡ r.used → length new.words ≡ length r.words → Apart new spans
 apart_still r new spans h used many =
     record { sound = omega (arith, h.sound); few = omega (arith, h.few); within = λ k l. let w = h.within k l in omega (arith, w); apart = h.apart }
@@ -184,7 +184,7 @@ module _ (r : Words) (n g : Span) (fs : List Span) (w : Span) (slots : List Slot
       slots_stay (written r s i v)
       (λ j there. written_keeps r (get_or slots j no_slot).span s i v (other_way s (get_or slots j no_slot).span (within_disjoint s w (get_or slots j no_slot).span (h.inside k l) (other_way (get_or slots j no_slot).span w (beside_whole j there)))) m)
 
-  -- the whole state copied into slot j
+  -- the complete state copied into slot j
   module _ (j : ℕ) (there : j < length slots) where
     abbrev target : Slot
     target = get_or slots j no_slot
@@ -275,7 +275,7 @@ module _ (r : Words) (n g : Span) (fs : List Span) (w : Span) (slots : List Slot
         (cases_lt j k))
         (cases_lt k j))
 
-    -- and slot j copied into the whole state
+    -- and slot j copied into the complete state
     abbrev loaded : Words
     loaded = copied r target.span w
 
@@ -324,7 +324,7 @@ apart_two n w a (suc j) (suc zero) h l = absurd (omega arith)
 apart_two n w a (suc j) zero h l = absurd (omega arith)
 apart_two n w a j (suc (suc k)) h l = absurd (omega arith)
 
--- spans that were carved one behind another, and slots behind them
+-- spans that were carved one after another, followed by slots
 pub laid_out : (r new : Words) (n g : Span) (fs : List Span) (w : Span) (slots : List Slot) (count : ℕ) → Apart r (n ∷ g ∷ fs)
     → ((k : ℕ) → k < length (g ∷ fs) → g.start ≤ (get_or (g ∷ fs) k no_span).start) → w.start ≡ g.start → r.used ≡ w.start + w.len → n.start + n.len ≤ g.start
     → ((spans : List Span) → Apart r spans → Apart new (spans ++ map (λ s. s.span) slots)) → r.used ≤ new.used → length slots ≡ count

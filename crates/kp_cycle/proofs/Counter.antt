@@ -41,7 +41,7 @@ counter name a b = record {
   parts = record { name = name; ext = 2; reset = true; samples = []; regs = regs_of a b (word 4 0) (word 1 0); files = []; full = n 15; ue = n 16; back = n 17 };
 }
 
--- what holds of each number below a bound, one after another
+-- a property of each number below a bound, in order
 abbrev Each : (ℕ → Type 0) → ℕ → Type 0
 Each P zero = Unit {0}
 Each P (suc k) = Each P k × P k

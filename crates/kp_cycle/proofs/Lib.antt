@@ -1,7 +1,10 @@
 pub mod Clocking
+pub mod Coding
 pub mod Copies
 pub mod Counter
+pub mod Marking
 pub mod Reached
 pub mod Running
 pub mod Settling
 pub mod Spans
+pub mod Stepping

@@ -19,7 +19,7 @@ use Rattle.kp_net.specs.Parts.{NetOk, RegOk, FileOk, WriteOk, no_reg, no_file}
 use Rattle.kp_net.proofs.Values.{at_fits}
 use Rattle.kp_cycle.specs.inner.Storage.{Stored, Fits, StateFits, state_of}
 
--- each number of a list is below n, and so is what stands past its end
+-- each number of a list is below n, and so is the default past its end
 all_below : (xs : List ℕ) (n a : ℕ) → zero < n → All (λ v. v < n) xs → get_or xs a 0 < n
 all_below xs n a p h = ⊎_elim
     (λ (l : a < length xs). All-get_or (λ v. v < n) xs a 0 l h)

@@ -1,4 +1,4 @@
--- Words are read and written in spans that lie side by side.
+-- Reading and writing words in disjoint spans.
 use Rattle.std.proofs.Common.{◌≡◌, ◌≢◌, ℕ, ◌+◌, ◌-◌, ◌^◌, ◌<◌, ◌≤◌, List, [], ◌∷◌, ◌++◌, length, get_or, set, map, take, drop, replicate, suc, sym, subst, ap, ◌∙◌, arith, ⊎_elim, inl, inr, length-append, length-drop, Option}
 use Rattle.std.proofs.lemmas.Bool.{cases_lt}
 use Rattle.std.proofs.lemmas.List.{get_or-set_other, length-set, get_or-map, drop-set-add, drop-set-lt, take-set-le, get_or_append_left, get_or_default, length-take-le, length-replicate, take_more, drop_more, set-set, get_or-set_same, map-append, append_assoc}
@@ -78,7 +78,7 @@ apart_carved r spans n h sound few =
           (cases_lt k (length spans));
     }
 
--- spans side by side stay so where more of a region is used
+-- disjoint spans remain so when more of a region is used
 pub apart_grown : (r new : Words) (spans more : List Span) → Apart r spans → Apart new more → r.used ≤ new.used → Apart new spans
 apart_grown r new spans more h later grown =
     record { sound = later.sound; few = later.few; within = λ k l. let w = h.within k l in omega (arith, w, grown); apart = h.apart }

@@ -1,27 +1,27 @@
--- Calls of `step` and `step_with`, one after another, and with calls of `save` and `load` among them.
+-- Calls of `step` and `step_with`, in order, and with calls of `save` and `load` among them.
 use Rattle.std.specs.Prelude.{◌≡◌, ℕ, List, [], ◌∷◌, ◌++◌, set, get_or, replicate, Option, None, Some}
 use Rattle.kp_base.specs.declared.row.Row.{Row}
 use Rattle.kp_net.specs.Netlist.{Net, Input, start_of, state_after, row_of}
 use Rattle.kp_cycle.specs.Steps.{Running, saved_in}
 
--- what a call with this input says: the row that it gives, and where the simulator is then; the input of `step ext` is `stalled ext`,
--- and that of `step_with ext rst samples` is `given ext rst samples`
+-- what a call with this input does: the row that it returns, and the simulator after it; the input of `step ext` is
+-- `stalled ext`, and that of `step_with ext rst samples` is `given ext rst samples`
 pub record IsStep (before : Running) (input : Input) (row : Row) (behind : Running) : Type 0 where
   pub shows : row ≡ row_of before.net input before.state
   pub goes_on : behind ≡ record before { state = state_after before.net input before.state }
 
--- calls with these inputs, in their order, and the rows that they give
+-- calls with these inputs, in order, and the rows that they return
 pub data Steps : Running → List Input → List Row → Running → Type 0 where
   none : {s : Running} → Steps s [] [] s
   one_more : {s t u : Running} {input : Input} {row : Row} {inputs : List Input} {rows : List Row}
       → IsStep s input row t → Steps t inputs rows u → Steps s (input ∷ inputs) (row ∷ rows) u
 
--- what has come in from the start on: up to the present state, and up to the state of each slot that was saved
+-- the inputs since the start: up to the present state, and up to the state in each slot that was saved
 pub record Fed : Type 0 where
   pub present : List Input
   pub slots : List (Option (List Input))
 
--- calls in any order, from the opening with n slots on
+-- calls in any order, after opening with n slots
 pub data Calls (net : Net) (n : ℕ) : Fed → Running → Type 0 where
   opened : Calls net n (record { present = []; slots = replicate n None }) (record { net = net; state = start_of net; slots = replicate n None })
   stepped : {fed : Fed} {s t : Running} {input : Input} {row : Row}

@@ -1,4 +1,4 @@
--- A simulator as its callers see it: what goes in, and what it shows.
+-- A simulator as its callers see it: its inputs and its outputs.
 use Rattle.std.specs.Prelude.{ℕ, Bool, ◌<◌, ◌≤◌, ◌≡◌, List, [], length, get_or, map, Option, None}
 use Rattle.kp_bits.specs.Word.{Word, word}
 use Rattle.kp_net.specs.Widths.{wide}
@@ -6,13 +6,13 @@ use Rattle.kp_bits.specs.Operators.{no_word}
 use Rattle.kp_net.specs.Netlist.{Net, Input, State}
 use Rattle.kp_net.specs.Parts.{no_port, no_reg, no_file}
 
--- a netlist, the state that it is in, and its slots, each of which holds a state once it was saved
+-- a netlist, its present state, and its slots, each of which holds a state once it was saved
 pub record Running : Type 0 where
   pub net : Net
   pub state : State
   pub slots : List (Option State)
 
--- the state that a slot holds, if there is such a slot and it was saved
+-- the state that is saved in a slot, if the slot exists and was saved
 abbrev pub saved_in : Running → ℕ → Option State
 saved_in s slot = get_or s.slots slot None
 
@@ -23,11 +23,11 @@ pub record ShowsRows (net : Net) : Type 0 where
   pub ue : wide net.nodes net.parts.ue.0 ≡ net.parts.ext
   pub back : wide net.nodes net.parts.back.0 ≡ 4
 
--- what a call gives in: the stall word, whether the reset is raised, and the values of the sample ports
+-- the inputs of a call: the stall word, whether the reset is raised, and the values of the sample ports
 abbrev pub given : ℕ → Bool → List Word → Input
 given ext rst samples = record { ext = ext; reset = rst; samples = map (λ w. w.value) samples }
 
--- there is a value for each sample port, of its width
+-- there is a value for each sample port, with its width
 pub record SamplesFit (net : Net) (samples : List Word) : Type 0 where
   pub count : length samples ≡ length net.parts.samples
   pub widths : (s : ℕ) → s < length samples → (get_or samples s no_word).width ≡ (get_or net.parts.samples s no_port).width

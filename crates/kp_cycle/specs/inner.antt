@@ -1,3 +1,5 @@
--- What only private contracts and proofs of this crate speak of: no public clause rests on it.
+-- Definitions for private contracts and proofs of this crate only: no public clause depends on them.
+pub mod Codes
+pub mod Plans
 pub mod Spans
 pub mod Storage

@@ -1,3 +1,4 @@
+// The end of a cycle: registers latch, and files are written.
 ghost use Rattle.std.specs.Prelude.{◌≡◌, ◌<◌, ◌≤◌, ◌^◌, ◌&&◌, true, false, [], ℕ, length, get_or, set};
 ghost use Rattle.kp_net.specs.Netlist.{start_regs};
 ghost use Rattle.kp_net.specs.Parts.{NetOk, no_file};
@@ -7,8 +8,8 @@ ghost use Rattle.kp_cycle.specs.inner.Storage.{Fits, FitsBelow, PortReady, regs_
 use crate::memory::{Memory, fill_regs};
 use kp_net::{Netlist, WritePort};
 
-/// The end of a cycle: in a netlist with a reset that is raised each register takes its start value, and else registers and files take
-/// what the nodes say.
+/// The end of a cycle: in a netlist with a reset that is raised each register gets its start value; else registers
+/// and files are updated from the values of the nodes.
 pub fn clock(net: &Netlist, memory: &mut Memory, rst: bool)
     requires fits { Fits net.now memory.old }
     requires known { FitsBelow net.now.nodes memory.old.nodes (length net.now.nodes) }
@@ -18,6 +19,7 @@ pub fn clock(net: &Netlist, memory: &mut Memory, rst: bool)
     ensures files { (net.now.parts.reset && rst) ≡ false → (f : ℕ) → f < length net.now.parts.files
         → get_or memory.new.files f [] ≡ port_from (get_or net.now.parts.files f no_file).port memory.old.nodes (get_or memory.old.files f []) }
     ensures slots { memory.new.slots ≡ memory.old.slots }
+    ensures nodes { memory.new.nodes ≡ memory.old.nodes }
 {
     if net.parts().reset && rst {
         fill_regs(net, memory);
@@ -59,7 +61,7 @@ fn clock_files(net: &Netlist, memory: &mut Memory)
     }
 }
 
-// What the port of a file does, if it has one.
+// Performs the write of a file's port, if it has one.
 fn write(memory: &mut Memory, file: u32, port: Option<WritePort>)
     requires file { file < length memory.old.files }
     requires ready { PortReady memory.old file port }

@@ -1,10 +1,13 @@
-//! Runs a netlist, one cycle after another.
+//! A simulator of netlists, cycle by cycle.
 #![tactic(auto)]
 
+mod batches;
 mod clock;
+mod codes;
 pub mod laws;
 mod memory;
 mod nodes;
+mod plan;
 mod sim;
 mod slots;
 

@@ -1,7 +1,8 @@
+// The storage of a simulator: one region with the values of nodes, registers and files, and the saved states.
 ghost use Rattle.std.specs.Prelude.{◌≡◌, ◌<◌, ◌≤◌, [], length, get_or, set, replicate, None, Some, IsSome, IfOk, All};
 ghost use Rattle.std.specs.List.{sum_by};
 ghost use Rattle.kp_net.specs.Netlist.{Net, start_regs, start_of};
-ghost use Rattle.kp_cycle.specs.inner.Storage.{Stored, Fits, state_of};
+ghost use Rattle.kp_cycle.specs.inner.Storage.{Stored, Fits, FitsBelow, state_of};
 
 use crate::slots::{Slot, carve_slots, words_of_slots};
 use kp_base::NoMemory;
@@ -11,8 +12,8 @@ use std::alloc::Global;
 use std::marker::Model;
 
 /// The values of the nodes and of the registers of a netlist, and the words of its files, each in a span of one
-/// region. The registers and files lie one behind another, so that the whole state is a span as well, and each slot is
-/// another of its size.
+/// region. The registers and files are adjacent, so that the complete state is a span as well, and each slot is
+/// another span of its size.
 #[derive(Debug, Drop)]
 pub struct Memory {
     region: Region,
@@ -42,23 +43,25 @@ impl Model for Memory {
 }
 
 impl Memory {
-    /// The memory of a netlist that has not run: each register and file as at the start, and so many slots, none of
-    /// them saved. Want of memory is the one refusal, and nothing later takes any.
+    /// The memory of a netlist in its start state: start values of registers and files, and this many slots, none of
+    /// them saved. The only error is out of memory, and later calls allocate nothing.
     pub fn open(alloc: Global, net: &Netlist, slots: u32) -> Result<Memory, NoMemory>
         requires { slots ≤ 64 }
         ensures fits { IfOk result (λ m. Fits net.now m) }
         ensures regs { IfOk result (λ m. m.regs ≡ start_regs net.now) }
         ensures files { IfOk result (λ m. m.files ≡ (start_of net.now).files) }
+        ensures nodes { IfOk result (λ m. FitsBelow net.now.nodes m.nodes (length net.now.nodes)) }
         ensures slots { IfOk result (λ m. m.slots ≡ replicate slots None) }
     {
         let mut memory = Memory::lay_out(alloc, net, slots)?;
+        clear_nodes(net, &mut memory);
         fill_regs(net, &mut memory);
         fill_files(net, &mut memory);
         Ok(memory)
     }
 
-    // A span for the nodes, one for the registers, one for each file, and one of the size of the last two together for
-    // each slot.
+    // A span for the nodes, one for the registers, one for each file, and for each slot one of the size of the
+    // registers and files together.
     #[tactic(auto, using(std::proofs::lemmas::List::Sums::sum_by_more_le))]
     fn lay_out(alloc: Global, net: &Netlist, slots: u32) -> Result<Memory, NoMemory>
         requires { slots ≤ 64 }
@@ -102,7 +105,7 @@ impl Memory {
         self.region.get(self.nodes, i)
     }
 
-    /// Gives a node a value.
+    /// Sets the value of a node.
     pub fn set_node(&mut self, i: u32, value: u64)
         requires { i < length self.old.nodes }
         ensures { self.new ≡ record self.old { nodes = set self.old.nodes i value } }
@@ -118,7 +121,7 @@ impl Memory {
         self.region.get(self.regs, i)
     }
 
-    /// Gives a register a value.
+    /// Sets the value of a register.
     pub fn set_reg(&mut self, i: u32, value: u64)
         requires { i < length self.old.regs }
         ensures { self.new ≡ record self.old { regs = set self.old.regs i value } }
@@ -133,6 +136,14 @@ impl Memory {
         ensures { result ≡ get_or (get_or self.now.files file []) address 0 }
     {
         self.region.get(self.files[file as usize], address as u32)
+    }
+
+    /// All words of a file.
+    pub fn words(&self, file: u32) -> &[u64]
+        requires { file < length self.now.files }
+        ensures { result.now ≡ get_or self.now.files file [] }
+    {
+        self.region.words(self.files[file as usize])
     }
 
     /// Writes the word of a file at an address.
@@ -155,7 +166,7 @@ impl Memory {
         self.slots[slot as usize].is_saved = true;
     }
 
-    /// Copies what a slot holds into the registers and files.
+    /// Copies the contents of a slot into the registers and files.
     pub fn load(&mut self, slot: u32)
         requires { IsSome (get_or self.old.slots slot None) }
         ensures state { get_or self.old.slots slot None ≡ Some (state_of self.new) }
@@ -167,7 +178,7 @@ impl Memory {
     }
 }
 
-// How many words all files have.
+// The number of words of all files.
 fn words_of(files: &[NetFile]) -> u32
     requires few { length files.now ≤ 16 }
     requires small { All (λ f. length f.words ≤ 65536) files.now }
@@ -181,13 +192,26 @@ fn words_of(files: &[NetFile]) -> u32
     sum
 }
 
-/// Gives each register its start value.
+// Sets each node to 0.
+fn clear_nodes(net: &Netlist, memory: &mut Memory)
+    requires { Fits net.now memory.old }
+    ensures fits { Fits net.now memory.new }
+    ensures nodes { FitsBelow net.now.nodes memory.new.nodes (length net.now.nodes) }
+    ensures slots { memory.new.slots ≡ memory.old.slots }
+{
+    for i in 0..net.nodes().len() {
+        memory.set_node(i as u32, 0);
+    }
+}
+
+/// Sets each register to its start value.
 pub fn fill_regs(net: &Netlist, memory: &mut Memory)
     requires { Fits net.now memory.old }
     ensures fits { Fits net.now memory.new }
     ensures regs { memory.new.regs ≡ start_regs net.now }
     ensures files { memory.new.files ≡ memory.old.files }
     ensures slots { memory.new.slots ≡ memory.old.slots }
+    ensures nodes { memory.new.nodes ≡ memory.old.nodes }
 {
     let regs = net.parts().regs.as_slice();
     for i in 0..regs.len() {
@@ -195,13 +219,14 @@ pub fn fill_regs(net: &Netlist, memory: &mut Memory)
     }
 }
 
-// Gives each file its words.
+// Fills each file with its initial words.
 fn fill_files(net: &Netlist, memory: &mut Memory)
     requires { Fits net.now memory.old }
     ensures fits { Fits net.now memory.new }
     ensures regs { memory.new.regs ≡ memory.old.regs }
     ensures files { memory.new.files ≡ (start_of net.now).files }
     ensures slots { memory.new.slots ≡ memory.old.slots }
+    ensures nodes { memory.new.nodes ≡ memory.old.nodes }
 {
     let files = net.parts().files.as_slice();
     for i in 0..files.len() {

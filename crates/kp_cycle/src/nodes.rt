@@ -1,3 +1,4 @@
+// Evaluating the nodes of a cycle.
 ghost use Rattle.std.specs.Prelude.{◌≡◌, ◌<◌, ◌≤◌, ◌+◌, ◌%◌, ◌^◌, false, length, get_or, map, All};
 ghost use Rattle.std.specs.List.{sum_by};
 ghost use Rattle.kp_bits.specs.Operators.{joined_of};
@@ -6,31 +7,66 @@ ghost use Rattle.kp_net.specs.Nodes.{word_of_node, at};
 ghost use Rattle.kp_net.specs.Widths.{wide, no_node};
 ghost use Rattle.kp_net.specs.Parts.{NetOk};
 ghost use Rattle.kp_cycle.specs.Steps.{given};
-ghost use Rattle.kp_cycle.specs.inner.Storage.{Fits, FitsBelow, KnownBelow, cells, seen, state_of};
+ghost use Rattle.kp_cycle.specs.inner.Plans.{IsPlan, OfRoots, Settled};
+ghost use Rattle.kp_cycle.specs.inner.Storage.{Fits, FitsBelow, cells, seen, state_of};
 
+use crate::batches::take_batch;
+use crate::codes::Step;
 use crate::memory::Memory;
 use kp_bits::Bits;
 use kp_net::{Kind, Netlist, NodeId};
 
-/// Gives each node its value in the cycle with this stall word and these values of the sample ports.
-pub fn settle(net: &Netlist, memory: &mut Memory, ext: u64, samples: &[Bits])
+/// Evaluates all steps of the cycle with this stall word and these values of the sample ports.
+pub fn settle(net: &Netlist, steps: &[Step], memory: &mut Memory, ext: u64, samples: &[Bits])
+    requires plan { IsPlan net.now steps.now }
     requires fits { Fits net.now memory.old }
+    requires widths { FitsBelow net.now.nodes memory.old.nodes (length net.now.nodes) }
     requires samples { length samples.now ≡ length net.now.parts.samples }
     ensures fits { Fits net.now memory.new }
-    ensures known { KnownBelow net.now.nodes (given ext false samples.now) memory.new (length net.now.nodes) }
+    ensures known { OfRoots net.now (λ j. get_or memory.new.nodes j 0 ≡ at (cells (given ext false samples.now) memory.new) net.now.nodes j) }
     ensures widths { FitsBelow net.now.nodes memory.new.nodes (length net.now.nodes) }
     ensures regs { memory.new.regs ≡ memory.old.regs }
     ensures files { memory.new.files ≡ memory.old.files }
     ensures slots { memory.new.slots ≡ memory.old.slots }
 {
-    let count = net.nodes().len();
-    for i in 0..count {
-        let value = value_of(net, memory, ext, samples, i);
-        memory.set_node(i as u32, value);
+    let mut k = 0;
+    'all: while k < steps.len() {
+        let end = take_batch(net, steps, memory, k);
+        if end > k {
+            k = end;
+        } else {
+            take_one(net, steps, memory, ext, samples, k);
+            k += 1;
+        }
     }
 }
 
-// The value of node i, from those of the nodes before it.
+// Evaluates one step, as the node itself specifies.
+fn take_one(
+    net: &Netlist,
+    steps: &[Step],
+    memory: &mut Memory,
+    ext: u64,
+    samples: &[Bits],
+    k: usize,
+)
+    requires plan { IsPlan net.now steps.now }
+    requires fits { Fits net.now memory.old }
+    requires samples { length samples.now ≡ length net.now.parts.samples }
+    requires inside { k < length steps.now }
+    requires settled { Settled net.now (given ext false samples.now) steps.now k memory.old }
+    ensures fits { Fits net.now memory.new }
+    ensures settled { Settled net.now (given ext false samples.now) steps.now (k + 1) memory.new }
+    ensures regs { memory.new.regs ≡ memory.old.regs }
+    ensures files { memory.new.files ≡ memory.old.files }
+    ensures slots { memory.new.slots ≡ memory.old.slots }
+{
+    let target = steps[k].target;
+    let value = value_of(net, memory, ext, samples, target as usize);
+    memory.set_node(target, value);
+}
+
+// The value of node i, computed from those of the nodes before it.
 fn value_of(net: &Netlist, memory: &Memory, ext: u64, samples: &[Bits], i: usize) -> u64
     requires inside { i < length net.now.nodes }
     requires samples { length samples.now ≡ length net.now.parts.samples }
@@ -65,7 +101,7 @@ fn value_of(net: &Netlist, memory: &Memory, ext: u64, samples: &[Bits], i: usize
     }
 }
 
-// The word of a node that has its value already.
+// The word of a node that is already evaluated.
 fn operand(net: &Netlist, memory: &Memory, a: NodeId) -> Bits
     requires inside { a.0 < length net.now.nodes }
     requires fits { Fits net.now memory.now }
@@ -87,7 +123,7 @@ fn width_of(net: &Netlist, a: NodeId) -> u8
     net.nodes()[a.0 as usize].width
 }
 
-/// A number of so many bits.
+/// A number in this many bits.
 pub fn word(width: u8, value: u64) -> Bits
     requires positive { 1 ≤ width }
     requires at_most { width ≤ 64 }
@@ -98,7 +134,7 @@ pub fn word(width: u8, value: u64) -> Bits
     Bits::new(width, value).unwrap()
 }
 
-// All parts in a row, the first on top.
+// The concatenation of all parts, the first in the high bits.
 #[tactic(auto, using(std::proofs::lemmas::List::Sums::sum_by_more_le))]
 fn joined(net: &Netlist, memory: &Memory, parts: &[NodeId]) -> Bits
     requires fits { Fits net.now memory.now }

@@ -1,39 +1,46 @@
-ghost use Rattle.std.specs.Prelude.{◌≡◌, ◌<◌, ◌≤◌, ◌^◌, [], length, get_or, set, replicate, Some, None, IsSome, IfOk};
+// The simulator and its calls.
+ghost use Rattle.std.specs.Prelude.{◌≡◌, ◌<◌, ◌≤◌, ◌^◌, [], length, get_or, set, map, replicate, Some, None, IsSome, IfOk};
 ghost use Rattle.kp_net.specs.Netlist.{Net, State, start_of, state_after, row_of, stalled};
 ghost use Rattle.kp_net.specs.Widths.{wide};
 ghost use Rattle.kp_net.specs.Parts.{no_reg, no_file};
 ghost use Rattle.kp_cycle.specs.Steps.{Running, ShowsRows, SamplesFit, given, reg_shown, word_shown, saved_in};
+ghost use Rattle.kp_cycle.specs.inner.Plans.{IsPlan};
 ghost use Rattle.kp_cycle.specs.inner.Storage.{Fits, FitsBelow, StateFits, state_of};
 
 use crate::clock::clock;
+use crate::codes::Step;
 use crate::memory::Memory;
 use crate::nodes::{settle, word};
+use crate::plan::plan;
 use kp_base::{NoMemory, Row};
 use kp_bits::Bits;
 use kp_net::{Netlist, NodeId};
 use std::alloc::Global;
 use std::marker::Model;
 
-/// A netlist that runs, seen as the netlist, the state that it is in, and what its slots hold.
+/// A netlist that runs; contracts see it as the netlist, its present state, and the contents of its slots.
 #[derive(Debug, Drop)]
 pub struct Sim<'n> {
     net: &'n Netlist,
+    steps: Vec<Step>,
     memory: Memory,
 }
 
 impl<'n> Model for Sim<'n> {
+    ghost use Rattle.std.specs.Prelude.{length, map};
+    ghost use Rattle.kp_cycle.specs.inner.Plans.{IsPlan};
     ghost use Rattle.kp_cycle.specs.Steps.{Running, ShowsRows};
-    ghost use Rattle.kp_cycle.specs.inner.Storage.{Fits, StateFits, SlotsFit, state_of};
+    ghost use Rattle.kp_cycle.specs.inner.Storage.{Fits, FitsBelow, StateFits, SlotsFit, state_of};
 
     ghost Value = { Running };
 
     ghost view = { λ s. record { net = s.net.now; state = state_of s.memory; slots = s.memory.slots } };
 
-    ghost invariant = { λ s. Fits s.net.now s.memory × ShowsRows s.net.now × StateFits s.net.now (state_of s.memory) × SlotsFit s.net.now s.memory.slots };
+    ghost invariant = { λ s. Fits s.net.now s.memory × ShowsRows s.net.now × StateFits s.net.now (state_of s.memory) × SlotsFit s.net.now s.memory.slots × IsPlan s.net.now s.steps.items × FitsBelow s.net.now.nodes s.memory.nodes (length s.net.now.nodes) };
 }
 
 impl<'n> Sim<'n> {
-    /// The netlist in its start state, with no slots. Takes all its memory here, and want of it is the one refusal.
+    /// The netlist in its start state, without slots. All memory is allocated here; the only error is out of memory.
     pub fn open(alloc: Global, net: &'n Netlist) -> Result<Sim<'n>, NoMemory>
         requires { ShowsRows net.now }
         ensures { IfOk result (λ s. s ≡ record { net = net.now; state = start_of net.now; slots = [] }) }
@@ -41,15 +48,16 @@ impl<'n> Sim<'n> {
         Sim::open_with(alloc, net, 0)
     }
 
-    /// The netlist in its start state, with room for so many copies of a state, none of them saved. Takes all its memory here, and want of
-    /// it is the one refusal.
+    /// The netlist in its start state, with slots for this many copies of a state, none of them saved. All memory is
+    /// allocated here; the only error is out of memory.
     pub fn open_with(alloc: Global, net: &'n Netlist, slots: u32) -> Result<Sim<'n>, NoMemory>
         requires shows { ShowsRows net.now }
         requires few { slots ≤ 64 }
         ensures { IfOk result (λ s. s ≡ record { net = net.now; state = start_of net.now; slots = replicate slots None }) }
     {
+        let steps = plan(alloc, net)?;
         let memory = Memory::open(alloc, net, slots)?;
-        Ok(Sim { net, memory })
+        Ok(Sim { net, steps, memory })
     }
 
     /// The netlist that runs.
@@ -59,8 +67,8 @@ impl<'n> Sim<'n> {
         self.net
     }
 
-    /// Runs one cycle under this stall word, of which bits from the netlist's width on are ignored, with no reset: `step_with` where there
-    /// are no sample ports. All slots stay. Takes no memory.
+    /// Runs one cycle under this stall word, of which bits from the netlist's width on are ignored, without reset:
+    /// `step_with` for a netlist without sample ports. All slots keep their contents. Allocates nothing.
     pub fn step(&mut self, ext: u16) -> Row
         requires { self.old.net.parts.samples ≡ [] }
         ensures row { result ≡ row_of self.old.net (stalled ext) self.old.state }
@@ -69,17 +77,24 @@ impl<'n> Sim<'n> {
         self.step_with(ext, false, &[])
     }
 
-    /// Runs one cycle under this stall word, with the reset raised or not, and with a value for each sample port. All slots stay.
-    /// Takes no memory.
+    /// Runs one cycle under this stall word, with the reset raised or not, and with a value for each sample port. All
+    /// slots keep their contents. Allocates nothing.
     pub fn step_with(&mut self, ext: u16, rst: bool, samples: &[Bits]) -> Row
         requires { SamplesFit self.old.net samples.now }
         ensures row { result ≡ row_of self.old.net (given ext rst samples.now) self.old.state }
         ensures state { self.new ≡ record self.old { state = state_after self.old.net (given ext rst samples.now) self.old.state } }
     {
-        cycle(self.net, &mut self.memory, ext, rst, samples)
+        cycle(
+            self.net,
+            self.steps.as_slice(),
+            &mut self.memory,
+            ext,
+            rst,
+            samples,
+        )
     }
 
-    /// Copies the present state into a slot. The state and the other slots stay. Takes no memory.
+    /// Copies the present state into a slot. The state and the other slots are unchanged. Allocates nothing.
     pub fn save(&mut self, slot: u32)
         requires { slot < length self.old.slots }
         ensures { self.new ≡ record self.old { slots = set self.old.slots slot (Some self.old.state) } }
@@ -87,7 +102,7 @@ impl<'n> Sim<'n> {
         self.memory.save(slot);
     }
 
-    /// Goes to the state that a slot holds, which was saved. All slots stay. Takes no memory.
+    /// Restores the state that was saved in a slot. All slots keep their contents. Allocates nothing.
     pub fn load(&mut self, slot: u32)
         requires { IsSome (saved_in self.old slot) }
         ensures state { saved_in self.old slot ≡ Some self.new.state }
@@ -114,6 +129,14 @@ impl<'n> Sim<'n> {
         let width = file_width(self.net, file);
         word(width, self.memory.word(file, u64::from(address)))
     }
+
+    /// All words of a file, as numbers.
+    pub fn words(&self, file: u32) -> &[u64]
+        requires { file < length self.now.net.parts.files }
+        ensures { result.now ≡ get_or self.now.state.files file [] }
+    {
+        self.memory.words(file)
+    }
 }
 
 fn reg_width(net: &Netlist, reg: u32) -> u8
@@ -134,18 +157,28 @@ fn file_width(net: &Netlist, file: u32) -> u8
     net.parts().files.as_slice()[file as usize].width
 }
 
-fn cycle(net: &Netlist, memory: &mut Memory, ext: u16, rst: bool, samples: &[Bits]) -> Row
+fn cycle(
+    net: &Netlist,
+    steps: &[Step],
+    memory: &mut Memory,
+    ext: u16,
+    rst: bool,
+    samples: &[Bits],
+) -> Row
+    requires plan { IsPlan net.now steps.now }
+    requires known { FitsBelow net.now.nodes memory.old.nodes (length net.now.nodes) }
     requires fits { Fits net.now memory.old }
     requires shows { ShowsRows net.now }
     requires widths { StateFits net.now (state_of memory.old) }
     requires samples { length samples.now ≡ length net.now.parts.samples }
     ensures widths { StateFits net.now (state_of memory.new) }
     ensures fits { Fits net.now memory.new }
+    ensures known { FitsBelow net.now.nodes memory.new.nodes (length net.now.nodes) }
     ensures row { result ≡ row_of net.now (given ext rst samples.now) (state_of memory.old) }
     ensures state { state_of memory.new ≡ state_after net.now (given ext rst samples.now) (state_of memory.old) }
     ensures slots { memory.new.slots ≡ memory.old.slots }
 {
-    settle(net, memory, u64::from(ext), samples);
+    settle(net, steps, memory, u64::from(ext), samples);
     let parts = net.parts();
     let row = Row {
         full: output(net, memory, parts.full),
@@ -156,7 +189,7 @@ fn cycle(net: &Netlist, memory: &mut Memory, ext: u16, rst: bool, samples: &[Bit
     row
 }
 
-// The value of a node that an output shows.
+// The value of the node of an output.
 fn output(net: &Netlist, memory: &Memory, a: NodeId) -> u16
     requires inside { a.0 < length net.now.nodes }
     requires fits { Fits net.now memory.now }

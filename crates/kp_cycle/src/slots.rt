@@ -1,3 +1,4 @@
+// Slots for saved states.
 ghost use Rattle.std.specs.Prelude.{◌≡◌, ◌+◌, ◌*◌, ◌≤◌, ◌^◌, ◌<◌, ℕ, List, ◌++◌, length, get_or, map, replicate, false, IfOk};
 ghost use Rattle.kp_region.specs.declared.span.Span.{Span as Stretch};
 ghost use Rattle.kp_region.specs.Words.{IsSound};
@@ -7,14 +8,14 @@ use kp_base::NoMemory;
 use kp_region::{Region, Span};
 use std::alloc::Global;
 
-/// Room for a copy of the whole state, and whether one was saved in it.
+/// Storage for a copy of the complete state, and whether one was saved in it.
 #[derive(Clone, Copy, Debug, PartialEq, Eq)]
 pub struct Slot {
     pub span: Span,
     pub is_saved: bool,
 }
 
-/// How many words so many slots of this size have.
+/// The number of words of this many slots of this size.
 pub fn words_of_slots(count: u32, size: u32) -> u32
     requires few { count ≤ 64 }
     requires small { size < 2 ^ 25 }
@@ -24,7 +25,7 @@ pub fn words_of_slots(count: u32, size: u32) -> u32
     count * size
 }
 
-/// So many slots of this size, side by side with all that was carved before. None of them was saved.
+/// This many slots of this size, disjoint from all spans that were carved before. None of them was saved.
 pub fn carve_slots(
     alloc: Global,
     region: &mut Region,

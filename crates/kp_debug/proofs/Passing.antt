@@ -15,7 +15,7 @@ state_from net st [] (suc c) h = absurd (omega arith)
 state_from net st (i ∷ inputs) zero h = refl
 state_from net st (i ∷ inputs) (suc c) h = state_from net (state_after net i st) inputs c (omega arith)
 
--- the state of a run at a cycle is that behind the cycles before
+-- the state of a run in a cycle is that after the cycles before
 pub state_at_cycle : (net : Net) (inputs : List Input) (c : ℕ) → c ≤ length inputs → get_or (run net inputs).states c no_state ≡ last_of net (take c inputs)
 state_at_cycle net inputs c h = state_from net (start_of net) inputs c h
 
@@ -36,7 +36,7 @@ row_at_cycle net inputs c row h is =
     ap (λ (r : Row). Some r) (is ∙ sym (row_from net (start_of net) inputs c row h))
     ∙ sym (slice_get-get_or (run net inputs).rows c row (omega (arith, many)))
 
--- which there isn't at the end
+-- which doesn't exist at the end
 pub no_row_at_end : (net : Net) (inputs : List Input) (c : ℕ) → length inputs ≤ c → None ≡ slice_get (run net inputs).rows c
 no_row_at_end net inputs c h = let many = rows_many net (start_of net) inputs in sym (slice_get_past (run net inputs).rows c (omega (arith, many)))
 

@@ -1,4 +1,4 @@
--- A session stands at a cycle of a run, and goes on by one.
+-- A session is at a cycle of a run, and advances by one.
 use Rattle.std.proofs.Common.{◌≡◌, ◌≢◌, ℕ, ◌+◌, ◌*◌, ◌<◌, ◌≤◌, List, [], length, get_or, set, take, Option, Some, None, refl, sym, subst, ap, ◌∙◌, arith, ⊎_elim}
 use Rattle.std.proofs.lemmas.Bool.{cases_lt}
 use Rattle.std.proofs.lemmas.List.{get_or-set_other, length-set}
@@ -11,7 +11,7 @@ use Rattle.kp_debug.specs.inner.Kept.{no_input, HasRun, HasKept, IsSession}
 use Rattle.kp_debug.proofs.Feeding.{inputs_many}
 use Rattle.kp_debug.proofs.Passing.{state_at_cycle, run_more}
 
--- what comes in in all cycles
+-- the inputs of all cycles
 abbrev pub ins : Net → List ℕ → List Word → List Input
 ins net exts samples = inputs_of (length net.parts.samples) exts samples
 
@@ -44,7 +44,7 @@ module _ (sim : Running) (exts : List ℕ) (samples : List Word) (cycle copies :
   next_run : cycle < length exts → HasRun (gone_on sim exts samples cycle) (ins sim.net exts samples) (cycle + 1)
   next_run below = run_on sim.net sim (gone_on sim exts samples cycle) exts samples cycle below refl h.run refl
 
-  -- between two copies
+  -- between two checkpoints
   pub session_more : (new : Running) → cycle < length exts → cycle + 1 ≢ copies * 2048 → new ≡ gone_on sim exts samples cycle → IsSession new exts samples (cycle + 1) copies
   session_more new below apart is =
       let P : Running → Type 0 = λ s. IsSession s exts samples (cycle + 1) copies in
@@ -60,7 +60,7 @@ module _ (sim : Running) (exts : List ℕ) (samples : List Word) (cycle copies :
         kept = h.kept;
       })
 
-  -- at the next copy
+  -- at the next checkpoint
   pub session_kept : (mid new : Running) → cycle < length exts → cycle + 1 ≡ copies * 2048 → mid ≡ gone_on sim exts samples cycle
       → new ≡ record mid { slots = set mid.slots copies (Some mid.state) } → IsSession new exts samples (cycle + 1) (copies + 1)
   session_kept mid new below due is saved =

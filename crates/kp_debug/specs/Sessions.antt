@@ -1,4 +1,4 @@
--- A session: a run of a netlist, and the cycle of it that is looked at.
+-- A session: a run of a netlist, and its current cycle.
 use Rattle.std.specs.Prelude.{ℕ, ◌+◌, ◌*◌, ◌-◌, ◌<◌, ◌≡◌, false, min, List, [], ◌∷◌, length, get_or, take, drop, slice_get, Option}
 use Rattle.kp_base.specs.declared.row.Row.{Row}
 use Rattle.kp_bits.specs.Word.{Word}
@@ -7,18 +7,18 @@ use Rattle.kp_net.specs.Netlist.{Net, Input, State, run}
 use Rattle.kp_net.specs.Parts.{no_port}
 use Rattle.kp_cycle.specs.Steps.{Running, given}
 
--- the netlist, what comes in in each cycle that there is, and how many of them have passed
+-- the netlist, the inputs of each cycle of the run, and how many cycles have passed
 pub record Debugged : Type 0 where
   pub net : Net
   pub inputs : List Input
   pub cycle : ℕ
 
--- stall words, and for each of them in turn a value for each of so many sample ports; the reset isn't raised
+-- the inputs of the cycles with these stall words, with a value for each of the given number of sample ports in each cycle; the reset isn't raised
 abbrev pub inputs_of : ℕ → List ℕ → List Word → List Input
 inputs_of ports [] samples = []
 inputs_of ports (ext ∷ exts) samples = given ext false (take ports samples) ∷ inputs_of ports exts (drop ports samples)
 
--- there is a value for each sample port in each of so many cycles, of its width
+-- there is a value of the right width for each sample port in each of the given number of cycles
 pub record SamplesFitCycles (net : Net) (cycles : ℕ) (samples : List Word) : Type 0 where
   pub count : length samples ≡ cycles * length net.parts.samples
   pub widths : (cycle s : ℕ) → cycle < cycles → s < length net.parts.samples
@@ -27,18 +27,18 @@ pub record SamplesFitCycles (net : Net) (cycles : ℕ) (samples : List Word) : T
 abbrev pub no_state : State
 no_state = record { regs = []; files = [] }
 
--- the state that the run has there, and its row there, if a cycle is left
+-- the state of the run in the current cycle, and its row, if a cycle is left
 abbrev pub state_there : Debugged → State
 state_there d = get_or (run d.net d.inputs).states d.cycle no_state
 
 abbrev pub row_there : Debugged → Option Row
 row_there d = slice_get (run d.net d.inputs).rows d.cycle
 
--- the run of the netlist at that cycle, as a simulator without slots
+-- the run of the netlist in the current cycle, as a simulator without slots
 abbrev pub shown : Debugged → Running
 shown d = record { net = d.net; state = state_there d; slots = [] }
 
--- n cycles forward, at most to the end of the run, and n cycles back, at most to its beginning
+-- n cycles forward, at most to the end of the run, and n cycles back, at most to its start
 abbrev pub forward : ℕ → Debugged → Debugged
 forward n d = record d { cycle = min (d.cycle + n) (length d.inputs) }
 

@@ -1,4 +1,4 @@
-// Cycles of a netlist under stall words and samples that stand in lists.
+// Cycles of a netlist whose stall words and samples are given as lists.
 ghost use Rattle.std.specs.Prelude.{◌≡◌, ◌+◌, ◌*◌, ◌<◌, ◌≤◌, length, get_or};
 ghost use Rattle.kp_net.specs.Netlist.{row_of, state_after};
 ghost use Rattle.kp_debug.specs.Sessions.{inputs_of, SamplesFitCycles};
@@ -8,7 +8,8 @@ use kp_base::Row;
 use kp_bits::Bits;
 use kp_cycle::Sim;
 
-/// Runs one cycle, with the reset not raised. Takes no memory.
+/// Runs one cycle, with the reset not raised: `exts` has a stall word for each cycle, and `samples` the values of all sample ports, cycle by cycle.
+/// Allocates nothing.
 pub fn run_one(sim: &mut Sim<'_>, exts: &[u16], samples: &[Bits], cycle: u32) -> Row
     requires there { cycle < length exts.now }
     requires fits { SamplesFitCycles sim.old.net (length exts.now) samples.now }
@@ -22,7 +23,7 @@ pub fn run_one(sim: &mut Sim<'_>, exts: &[u16], samples: &[Bits], cycle: u32) ->
     sim.step_with(exts[cycle as usize], false, &samples[from..from + ports])
 }
 
-/// Runs from one cycle to another. Takes no memory.
+/// Runs from one cycle to another. Allocates nothing.
 pub fn run_between(sim: &mut Sim<'_>, exts: &[u16], samples: &[Bits], from: u32, to: u32)
     requires order { from ≤ to }
     requires there { to ≤ length exts.now }

@@ -1,4 +1,4 @@
-//! A debugger of netlists: a session that goes through the cycles of a run, forward and back.
+//! A debugger of netlists: a session that steps through the cycles of a run, forward and back.
 #![tactic(auto)]
 
 mod cycles;

@@ -1,3 +1,4 @@
+// A session of the debugger: a run of a netlist with checkpoints.
 ghost use Rattle.std.specs.Prelude.{◌≡◌, ◌+◌, ◌-◌, ◌*◌, ◌<◌, ◌≤◌, ◌^◌, length, get_or, vec_len, IfOk};
 ghost use Rattle.kp_net.specs.Parts.{no_file};
 ghost use Rattle.kp_cycle.specs.Steps.{ShowsRows, reg_shown, word_shown};
@@ -11,15 +12,14 @@ use kp_net::Netlist;
 use std::alloc::Global;
 use std::marker::Model;
 
-/// From how many cycles on a copy of the state is kept, again and again.
+/// The number of cycles from one checkpoint to the next.
 const STRIDE: u32 = 2048;
 
-/// How many copies a run of 100,000 cycles has, which is also the slot behind them, that `row` uses.
+/// The number of checkpoints of a run of 100,000 cycles. It is also the number of the slot after them, which `row` uses.
 const COPIES: u32 = 49;
 
-/// A run of a netlist that is gone through in both directions, seen as the netlist, what comes in in each cycle, and the cycle that it
-/// stands at. It keeps the states at the cycles 0, 2,048 and so on as they are first reached, so that a step back runs at most 2,047
-/// cycles again.
+/// A run of a netlist that is stepped through in both directions, specified by the netlist, the inputs of each cycle, and the current cycle. It
+/// stores a checkpoint of the state at the cycles 0, 2,048 and so on when they are first reached, so a step back runs at most 2,047 cycles again.
 #[derive(Debug, Drop)]
 pub struct Session<'n> {
     sim: Sim<'n>,
@@ -46,8 +46,8 @@ impl<'n> Model for Session<'n> {
 }
 
 impl<'n> Session<'n> {
-    /// A session at cycle 0 of the run under these stall words and, cycle by cycle, these values of the sample ports. The reset is never
-    /// raised. Takes all its memory here, and want of it is the one refusal, after which both lists are gone.
+    /// A session at cycle 0 of the run under these stall words, one for each cycle, and the values of the sample ports, cycle by cycle. The reset is
+    /// never raised. All memory is allocated here; the only error is out of memory, and both lists are dropped then.
     pub fn open(
         alloc: Global,
         net: &'n Netlist,
@@ -70,7 +70,7 @@ impl<'n> Session<'n> {
         })
     }
 
-    /// Goes `n` cycles forward, at most to the end of the run. Takes no memory.
+    /// Moves `n` cycles forward, at most to the end of the run. Allocates nothing.
     pub fn step(&mut self, n: u32)
         ensures { self.new ≡ forward n self.old }
     {
@@ -80,7 +80,7 @@ impl<'n> Session<'n> {
         }
     }
 
-    /// Goes `n` cycles back, at most to cycle 0. Takes no memory.
+    /// Moves `n` cycles back, at most to cycle 0. Allocates nothing.
     pub fn back(&mut self, n: u32)
         ensures { self.new ≡ back n self.old }
     {
@@ -97,14 +97,14 @@ impl<'n> Session<'n> {
         self.cycle = aim;
     }
 
-    /// The cycle that it stands at: how many cycles of the run have passed.
+    /// The current cycle: how many cycles of the run have passed.
     pub fn cycle(&self) -> u32
         ensures { result ≡ self.now.cycle }
     {
         self.cycle
     }
 
-    /// The value of a register at the cycle that it stands at.
+    /// The value of register `reg` in the current cycle.
     pub fn value(&self, reg: u32) -> Bits
         requires { reg < length self.now.net.parts.regs }
         ensures { result ≡ reg_shown (shown self.now) reg }
@@ -112,7 +112,7 @@ impl<'n> Session<'n> {
         self.sim.value(reg)
     }
 
-    /// The word of a file at an address, at the cycle that it stands at.
+    /// The word of file `file` at an address in the current cycle.
     pub fn word(&self, file: u32, address: u32) -> Bits
         requires file { file < length self.now.net.parts.files }
         requires address { address < 2 ^ (get_or self.now.net.parts.files file no_file).address_width }
@@ -121,7 +121,7 @@ impl<'n> Session<'n> {
         self.sim.word(file, address)
     }
 
-    /// The row of the cycle that it stands at, where it stays; None exactly where the run ends. Takes no memory.
+    /// The row of the current cycle, which doesn't change; `None` exactly at the end of the run. Allocates nothing.
     pub fn row(&mut self) -> Option<Row>
         ensures row { result ≡ row_there self.old }
         ensures stays { self.new ≡ self.old }
@@ -140,7 +140,7 @@ impl<'n> Session<'n> {
         Some(row)
     }
 
-    // Runs one cycle, and keeps the state behind it where that is due.
+    // Runs one cycle, and stores a checkpoint of the state after it if that cycle has one.
     fn advance(&mut self)
         requires { self.old.cycle < length self.old.inputs }
         ensures { self.new ≡ forward 1 self.old }

@@ -1,12 +1,12 @@
 -- The greatest stage that mismatches.
 use Rattle.std.proofs.Common.{◌≡◌, ◌∙◌, ℕ, suc, ◌+◌, ◌<◌, ◌≤◌, Bool, true, false, not, ◌||◌, leb, refl, sym, ap, arith, ⊎_elim, le-leb, eqb, eqb-true, List, length, set, subst, get_or-set_same, get_or-set_other}
 use Rattle.std.proofs.lemmas.Bool.{cases_Bool, cases_lt, eqb-false, lt-leb}
-use Rattle.kp_law.specs.Pipeline.{greatest}
+use Rattle.kp_pipeline.specs.Pipeline.{greatest}
 use Rattle.kp_net.specs.declared.node.NodeId.{NodeId}
 use Rattle.kp_net.specs.Growth.{Held, Grown}
 use Rattle.kp_net.proofs.Growing.{wire_grown}
 use Rattle.kp_engine.specs.Misses.{node_at, BitsOk}
-use Rattle.kp_law.proofs.Cycle.{greatest-above, greatest-at}
+use Rattle.kp_pipeline.proofs.Cycle.{greatest-above, greatest-at}
 
 pub sweep_step : (p : ℕ → Bool) (n k : ℕ) → k < n → not (leb (greatest p n) k) ≡ (not (leb (greatest p n) (k + 1)) || p k)
 sweep_step p n k h = ⊎_elim
@@ -25,7 +25,7 @@ sweep_step p n k h = ⊎_elim
     (cases_lt k (greatest p n)))
     (cases_lt (k + 1) (greatest p n))
 
--- a property of the node at each place, where one is set
+-- a property of the node at each index, after one is set
 pub at_set : (P : ℕ → NodeId → Type 0) (xs : List NodeId) (i : ℕ) (v : NodeId) (k : ℕ) → i < length xs → (k ≡ i → P k v) → ((k ≡ i → ⊥) → P k (node_at xs k)) → P k (node_at (set xs i v) k)
 at_set P xs i v k h a b = ⊎_elim
     (λ (e : eqb k i ≡ true). let z : k ≡ i = eqb-true k i e in let f : node_at (set xs i v) k ≡ v = ap (node_at (set xs i v)) z ∙ get_or-set_same xs i v _ h in subst (P k) (sym f) (a z))

@@ -1,12 +1,13 @@
+// The control of one stage: stall, update enable, full bit and wrong guesses.
 ghost use Rattle.std.specs.Prelude.{◌≡◌, ◌<◌, ◌≤◌, ◌&&◌, ◌||◌, ◌==◌, not, length};
 ghost use Rattle.kp_net.specs.Nodes.{Cells, at, on};
 ghost use Rattle.kp_net.specs.Widths.{wide};
 ghost use Rattle.kp_net.specs.Growth.{Held, Wire, Grown};
 
-use kp_gate::{both, either, inverse, same};
 use kp_net::{NodeId, Pool};
+use kp_net_gates::{both, either, inverse, same};
 
-/// Whether a stage stalls: it is full, and it meets a data hazard, is stalled from outside, or the stage above stalls.
+/// Whether a stage stalls: it is full, and it has a data hazard, is stalled by the environment, or the stage above stalls.
 #[tactic(auto, using(kp_net::proofs::Growing::growing))]
 pub fn stall_of(pool: &mut Pool, full: NodeId, hazard: NodeId, ext: NodeId, above: NodeId) -> NodeId
     requires room { 64 ≤ pool.old.spare }
@@ -23,7 +24,7 @@ pub fn stall_of(pool: &mut Pool, full: NodeId, hazard: NodeId, ext: NodeId, abov
     both(pool, full, any)
 }
 
-/// Whether a stage updates: it is full, doesn't stall, and isn't swept away.
+/// Whether a stage updates: it is full, doesn't stall, and isn't squashed.
 #[tactic(auto, using(kp_net::proofs::Growing::growing))]
 pub fn update_of(pool: &mut Pool, full: NodeId, stall: NodeId, swept: NodeId) -> NodeId
     requires room { 64 ≤ pool.old.spare }
@@ -40,7 +41,7 @@ pub fn update_of(pool: &mut Pool, full: NodeId, stall: NodeId, swept: NodeId) ->
     both(pool, full, free)
 }
 
-/// The next full bit of a stage: it isn't swept away, and the stage below moves into it or it stalls.
+/// The next full bit of a stage: it isn't squashed, and the stage below moves into it or it stalls.
 #[tactic(auto, using(kp_net::proofs::Growing::growing))]
 pub fn full_next(pool: &mut Pool, update_below: NodeId, stall: NodeId, swept: NodeId) -> NodeId
     requires room { 3 ≤ pool.old.spare }

@@ -1,14 +1,15 @@
+// Rollback: the greatest stage that mismatches.
 ghost use Rattle.std.specs.Prelude.{◌≡◌, ℕ, ◌+◌, ◌*◌, ◌<◌, ◌≤◌, if◌then◌else◌, not, leb, length, false};
 ghost use Rattle.kp_net.specs.Nodes.{Cells, at, on};
 ghost use Rattle.kp_net.specs.Growth.{Held, Wire, Grown};
-ghost use Rattle.kp_law.specs.Pipeline.{greatest};
+ghost use Rattle.kp_pipeline.specs.Pipeline.{greatest};
 ghost use Rattle.kp_engine.specs.Misses.{bit_at, BitsOk};
 
 use crate::swept::Sweep;
-use kp_gate::{bit, choose, constant, either};
 use kp_net::{NodeId, Pool};
+use kp_net_gates::{bit, choose, constant, either};
 
-/// What is swept away where these of the n stages mismatch: those up to the greatest that does.
+/// The stages that are squashed if these of the n stages mismatch: those up to the greatest that does.
 #[tactic(auto, using(kp_net::proofs::Growing::growing, crate::proofs::Greatest::bits_grown))]
 pub fn sweep(pool: &mut Pool, misses: &[NodeId; 12], n: u8) -> Sweep
     requires room { 64 ≤ pool.old.spare }
@@ -27,7 +28,7 @@ pub fn sweep(pool: &mut Pool, misses: &[NodeId; 12], n: u8) -> Sweep
     Sweep { back, swept }
 }
 
-// One more than the greatest stage that mismatches, or 0.
+// One more than the number of the greatest stage that mismatches, or 0.
 fn back_of(pool: &mut Pool, misses: &[NodeId], n: u8) -> NodeId
     requires room { 25 ≤ pool.old.spare }
     requires few { n ≤ 12 }
@@ -44,7 +45,7 @@ fn back_of(pool: &mut Pool, misses: &[NodeId], n: u8) -> NodeId
     back
 }
 
-// One more than the stage's number where it mismatches.
+// One more than the stage's number if it mismatches, else the result for the lower stages.
 #[tactic(auto, using(kp_net::proofs::Growing::growing))]
 fn later(pool: &mut Pool, miss: NodeId, back: NodeId, k: u8) -> NodeId
     requires room { 2 ≤ pool.old.spare }
@@ -59,7 +60,7 @@ fn later(pool: &mut Pool, miss: NodeId, back: NodeId, k: u8) -> NodeId
     choose(pool, miss, number, back, 4)
 }
 
-// Bit k is 1 where a stage from k on mismatches.
+// Bit k is 1 if a stage from k on mismatches.
 fn swept_of(pool: &mut Pool, misses: &[NodeId], n: u8) -> [NodeId; 12]
     requires room { 13 ≤ pool.old.spare }
     requires few { n ≤ 12 }

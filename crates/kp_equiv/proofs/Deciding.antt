@@ -16,17 +16,17 @@ use Rattle.kp_net.specs.Netlist.{Net}
 use Rattle.kp_net.specs.Parts.{NetOk, RegOk, FileOk, WriteOk, no_reg, no_file}
 use Rattle.kp_equiv.specs.declared.verdict.Verdict.{Verdict}
 use Rattle.kp_equiv.specs.declared.verdict.Verdict.TheVariants.{Same, Differs}
-use Rattle.kp_alike.specs.Alike.{Alike, reg_name, file_name}
-use Rattle.kp_alike.specs.Named.{reg_names, file_names, HasNames}
-use Rattle.kp_alike.specs.Roots.{Root, Ports, Register, File, Full, Ue, Back, roots, RegsAlike, WritesAlike, FilesAlike, PortsAgree, RegisterAgrees, FileAgrees, Agrees}
+use Rattle.kp_equiv_trees.specs.Alike.{Alike, reg_name, file_name}
+use Rattle.kp_equiv_trees.specs.Named.{reg_names, file_names, HasNames}
+use Rattle.kp_equiv_trees.specs.Roots.{Root, Ports, Register, File, Full, Ue, Back, roots, RegsAlike, WritesAlike, FilesAlike, PortsAgree, RegisterAgrees, FileAgrees, Agrees}
 use Rattle.kp_equiv.specs.Roots.{IsComparable, IsVerdict}
-use Rattle.kp_alike.specs.Classes.{place, class_in}
-use Rattle.kp_alike.specs.Sections.{AgreeUpTo, Differing, FirstOf}
-use Rattle.kp_alike.proofs.Told.{alike_found}
-use Rattle.kp_classes.proofs.Telling.{SomeTells, some_tells}
-use Rattle.kp_alike.proofs.Inputs.{port_decides}
-use Rattle.kp_alike.proofs.Places.{has_place, reg_names_are, file_names_are, reg_count, file_count}
-use Rattle.kp_alike.proofs.Ordered.{register_found, file_found, namesake, file_namesake}
+use Rattle.kp_equiv_trees.specs.Classes.{place, class_in}
+use Rattle.kp_equiv_trees.specs.Sections.{AgreeUpTo, Differing, FirstOf}
+use Rattle.kp_equiv_trees.proofs.Told.{alike_found}
+use Rattle.kp_equiv_classes.proofs.Telling.{SomeTells, some_tells}
+use Rattle.kp_equiv_trees.proofs.Inputs.{port_decides}
+use Rattle.kp_equiv_trees.proofs.Places.{has_place, reg_names_are, file_names_are, reg_count, file_count}
+use Rattle.kp_equiv_trees.proofs.Ordered.{register_found, file_found, namesake, file_namesake}
 
 -- a fact that a test decides
 record Decided (P : Type 0) : Type 0 where

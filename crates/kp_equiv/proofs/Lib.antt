@@ -5,3 +5,4 @@ pub mod Listed
 pub mod Meaning
 pub mod Running
 pub mod Shown
+pub mod Anew

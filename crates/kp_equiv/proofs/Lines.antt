@@ -1,7 +1,7 @@
--- What is written of a verdict.
+-- The line that reports a verdict.
 use Rattle.std.proofs.Common.{◌≡◌, ◌∙◌, ℕ, ◌++◌, List, length, codes, decimal, sym, ap, subst}
 use Rattle.kp_net.specs.Netlist.{Net}
-use Rattle.kp_alike.specs.Roots.{roots, root, AllAgree}
+use Rattle.kp_equiv_trees.specs.Roots.{roots, root, AllAgree}
 use Rattle.kp_equiv.specs.Roots.{IsVerdict}
 use Rattle.kp_equiv.specs.declared.verdict.Verdict.{Verdict}
 use Rattle.kp_equiv.specs.declared.verdict.Verdict.TheVariants.{Same, Differs}

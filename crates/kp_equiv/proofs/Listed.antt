@@ -1,10 +1,10 @@
--- Names that were listed are those of a netlist.
+-- The names in a list are those of a netlist.
 use Rattle.std.proofs.Common.{◌≡◌, ◌∙◌, ℕ, List, map, ap}
 use Rattle.kp_net.specs.declared.netlist.NetFile.{NetFile}
 use Rattle.kp_net.specs.declared.netlist.NetReg.{NetReg}
 use Rattle.kp_net.specs.declared.netlist.Parts.{Parts}
 use Rattle.kp_net.specs.Netlist.{Net}
-use Rattle.kp_alike.specs.Named.{reg_names, file_names}
+use Rattle.kp_equiv_trees.specs.Named.{reg_names, file_names}
 
 pub regs_listed : (a : Net) (p : Parts) (rs : List NetReg) (names : List (List ℕ)) → p ≡ a.parts → rs ≡ p.regs → names ≡ map (λ (r : NetReg). r.name) rs → names ≡ reg_names a
 regs_listed a p rs names e f g = g ∙ ap (map (λ (r : NetReg). r.name)) (f ∙ ap (λ (x : Parts). x.regs) e)

@@ -1,4 +1,4 @@
--- Alike nodes have equal words, where both netlists read the same by name.
+-- Equivalent nodes have equal words, if both netlists have the same sources by name.
 use Rattle.std.proofs.Common.{◌≡◌, ◌∙◌, ℕ, zero, suc, ◌%◌, ◌^◌, ◌==◌, ◌<◌, Bool, true, List, [], ◌∷◌, length, map, get_or, refl, sym, ap, arith, ⊎_elim}
 use Rattle.std.specs.Prelude.{if◌then◌else◌}
 use Rattle.std.proofs.Math.Nat.{add_comm, mul_comm}
@@ -18,7 +18,7 @@ use Rattle.kp_net.specs.Nodes.{Cells, Words, word_of_kind, word_of_node, word_at
 use Rattle.kp_net.specs.Parts.{NetOk, CellOk}
 use Rattle.kp_net.specs.Widths.{KindOk, wide, no_node}
 use Rattle.kp_net.proofs.Values.{word_there, word_wide}
-use Rattle.kp_alike.specs.Alike.{commutes, Relation, AllRelated, PairRelated, KindAlike, Alike, AlikeWithin}
+use Rattle.kp_equiv_trees.specs.Alike.{commutes, Relation, AllRelated, PairRelated, KindAlike, Alike, AlikeWithin}
 use Rattle.kp_equiv.specs.inner.Meaning.{SameCells}
 
 test_swaps : (x y : ℕ) → (x == y) ≡ (y == x)
@@ -56,7 +56,7 @@ parts_alike R v w joins [] (y ∷ ys) h = absurd h
 parts_alike R v w joins (x ∷ xs) [] h = absurd h
 parts_alike R v w joins (x ∷ xs) (y ∷ ys) h = let p = joins x y h.0 in let q = parts_alike R v w joins xs ys h.1 in λ i. p i ∷ q i
 
--- nodes that do the same give the same words
+-- nodes with the same operation return the same words
 module _ (R : Relation) (a b : Net) (c d : Cells) (cells : SameCells a b c d) (m k : ℕ) (v w : Words)
     (joins : (x y : NodeId) → R x y → v x.0 ≡ w y.0) (widths : (x : NodeId) → x.0 < m → (v x.0).width ≡ wide a.nodes x.0) where
   pair_alike : (op : BinOp) (x y r s : NodeId) → KindOk a.nodes m k (Binary op x y) → PairRelated R op x y r s → binary_of op (v x.0) (v y.0) ≡ binary_of op (w r.0) (w s.0)

@@ -15,16 +15,16 @@ use Rattle.kp_net.specs.Names.{among}
 use Rattle.kp_net.specs.Netlist.{Net, Input, State, cells_of, start_regs, start_of, regs_after, port_after, files_after, resets, state_after, row_of, states_from, rows_from}
 use Rattle.kp_net.specs.Nodes.{Cells, at}
 use Rattle.kp_net.specs.Parts.{NetOk, no_port, no_reg, no_file}
-use Rattle.kp_alike.specs.Alike.{Alike, reg_name, file_name, sample_name}
-use Rattle.kp_alike.specs.Named.{reg_names, file_names, sample_names}
-use Rattle.kp_alike.specs.Roots.{Root, Ports, Register, File, Full, Ue, Back, names_of_second, roots, RegsAlike, FilesAlike, WritesAlike, PortsAgree, RegisterAgrees, FileAgrees, Agrees, AllAgree}
+use Rattle.kp_equiv_trees.specs.Alike.{Alike, reg_name, file_name, sample_name}
+use Rattle.kp_equiv_trees.specs.Named.{reg_names, file_names, sample_names}
+use Rattle.kp_equiv_trees.specs.Roots.{Root, Ports, Register, File, Full, Ue, Back, names_of_second, roots, RegsAlike, FilesAlike, WritesAlike, PortsAgree, RegisterAgrees, FileAgrees, Agrees, AllAgree}
 use Rattle.kp_equiv.specs.Roots.{IsComparable}
 use Rattle.kp_equiv.specs.Runs.{RunAlike, no_state}
 use Rattle.kp_equiv.specs.inner.Meaning.{SameCells, SameStates}
-use Rattle.kp_alike.specs.Sections.{behind_ports}
-use Rattle.kp_alike.proofs.Naming.{one_number}
-use Rattle.kp_alike.proofs.Ordered.{reg_root, file_root, filter_some, is_new, among_reg, second_never}
-use Rattle.kp_alike.proofs.Places.{reg_names_are, file_names_are, sample_names_are, reg_count, file_count, sample_count}
+use Rattle.kp_equiv_trees.specs.Sections.{behind_ports}
+use Rattle.kp_equiv_trees.proofs.Naming.{one_number}
+use Rattle.kp_equiv_trees.proofs.Ordered.{reg_root, file_root, filter_some, is_new, among_reg, second_never}
+use Rattle.kp_equiv_trees.proofs.Places.{reg_names_are, file_names_are, sample_names_are, reg_count, file_count, sample_count}
 use Rattle.kp_equiv.proofs.Meaning.{alike_values, alike_tests}
 
 -- the roots of each section agree
@@ -37,7 +37,7 @@ pub record Agreed (a b : Net) : Type 0 where
   pub ue : Alike a b a.parts.ue b.parts.ue
   pub back : Alike a b a.parts.back b.parts.back
 
--- a list of which all agree, and its parts
+-- a list of roots that all agree, and its parts
 abbrev Each : Net → Net → List Root → Type 0
 Each a b rs = (k : ℕ) → k < length rs → Agrees a b (get_or rs k Ports)
 
@@ -74,7 +74,7 @@ agreed a b h =
     }
 
 module _ (a b : Net) (oka : NetOk a) (okb : NetOk b) (fit : IsComparable a b) (h : Agreed a b) where
-  -- the register of a name in either netlist
+  -- the register with a name in either netlist
   reg_first : (r q : ℕ) → r < length a.parts.regs → q < length a.parts.regs → reg_name a r ≡ reg_name a q → r ≡ q
   reg_first r q l m e = one_number (reg_names a) fit.first.regs r q (omega (arith, reg_count a)) (omega (arith, reg_count a)) (reg_names_are a r ∙ e ∙ sym (reg_names_are a q))
 
@@ -87,7 +87,7 @@ module _ (a b : Net) (oka : NetOk a) (okb : NetOk b) (fit : IsComparable a b) (h
   file_second : (f g : ℕ) → f < length b.parts.files → g < length b.parts.files → file_name b f ≡ file_name b g → f ≡ g
   file_second f g l m e = one_number (file_names b) fit.second.files f g (omega (arith, file_count b)) (omega (arith, file_count b)) (file_names_are b f ∙ e ∙ sym (file_names_are b g))
 
-  -- namesakes are alike
+  -- namesakes are equivalent
   pub regs_alike : (r q : ℕ) → r < length a.parts.regs → q < length b.parts.regs → reg_name a r ≡ reg_name b q → RegsAlike a b (get_or a.parts.regs r no_reg) (get_or b.parts.regs q no_reg)
   regs_alike r q l m e =
       let g = h.regs r l in
@@ -104,7 +104,7 @@ module _ (a b : Net) (oka : NetOk a) (okb : NetOk b) (fit : IsComparable a b) (h
       subst (λ (k : ℕ). FilesAlike a b (get_or a.parts.files k no_file) (get_or b.parts.files g no_file)) ef
       (subst (λ (k : ℕ). FilesAlike a b (get_or a.parts.files x.first no_file) (get_or b.parts.files k no_file)) eg x.alike)
 
-  -- the cells in states alike
+  -- the cells in equal states
   cells : (i : Input) (s t : State) → SameStates a b s t → SameCells a b (cells_of i s) (cells_of i t)
   cells i s t same = record {
     ext = refl;
@@ -118,7 +118,7 @@ module _ (a b : Net) (oka : NetOk a) (okb : NetOk b) (fit : IsComparable a b) (h
   }
 
   -- at the start
-  starts : SameStates a b (start_of a) (start_of b)
+  pub starts : SameStates a b (start_of a) (start_of b)
   starts = record {
     first_files = length-map a.parts.files (λ f. f.words);
     second_files = length-map b.parts.files (λ f. f.words);
@@ -176,7 +176,7 @@ module _ (a b : Net) (oka : NetOk a) (okb : NetOk b) (fit : IsComparable a b) (h
   resets_alike : (i : Input) → resets a i ≡ resets b i
   resets_alike i = ap (λ (r : Bool). r && i.reset) h.ports.reset
 
-  steps : (i : Input) (s t : State) → SameStates a b s t → SameStates a b (state_after a i s) (state_after b i t)
+  pub steps : (i : Input) (s t : State) → SameStates a b s t → SameStates a b (state_after a i s) (state_after b i t)
   steps i s t same = subst (λ (r : Bool). SameStates a b (state_after a i s) (after_b r)) (resets_alike i) (by (resets a i))
     where
       after_b : Bool → State
@@ -196,17 +196,17 @@ module _ (a b : Net) (oka : NetOk a) (okb : NetOk b) (fit : IsComparable a b) (h
       let z = alike_values a b oka okb c d cd a.parts.back b.parts.back h.back in
       λ k. record { full = x k; ue = y k; back = z k }
 
-  run_rows : (ins : List Input) (s t : State) → SameStates a b s t → rows_from a s ins ≡ rows_from b t ins
+  pub run_rows : (ins : List Input) (s t : State) → SameStates a b s t → rows_from a s ins ≡ rows_from b t ins
   run_rows [] s t same = refl
   run_rows (i ∷ ins) s t same = let x = rows_alike i s t same in let y = run_rows ins (state_after a i s) (state_after b i t) (steps i s t same) in λ k. x k ∷ y k
 
-  run_states : (ins : List Input) (s t : State) → SameStates a b s t → (T : ℕ) → T ≤ length ins → SameStates a b (get_or (states_from a s ins) T no_state) (get_or (states_from b t ins) T no_state)
+  pub run_states : (ins : List Input) (s t : State) → SameStates a b s t → (T : ℕ) → T ≤ length ins → SameStates a b (get_or (states_from a s ins) T no_state) (get_or (states_from b t ins) T no_state)
   run_states [] s t same zero l = same
   run_states [] s t same (suc T) l = absurd (omega (arith, l))
   run_states (i ∷ ins) s t same zero l = same
   run_states (i ∷ ins) s t same (suc T) l = run_states ins (state_after a i s) (state_after b i t) (steps i s t same) T (omega (arith, l))
 
-  -- no register stands in the second netlist alone
+  -- no register is only in the second netlist
   first_has : (q : ℕ) → q < length b.parts.regs → (r : ℕ) × (r < length a.parts.regs) × (reg_name a r ≡ reg_name b q)
   first_has q l = by (among (reg_names a) (reg_name b q)) refl
     where

@@ -1,4 +1,4 @@
--- Netlists that run alike show the same, but for their modules' names.
+-- Netlists that run alike implement the same machines, up to their modules' names.
 use Rattle.std.proofs.Common.{◌≡◌, ◌∙◌, ℕ, zero, suc, ◌<◌, ◌≤◌, Bool, true, false, cond, List, [], ◌∷◌, length, get_or, take, refl, sym, ap, subst, arith}
 use Rattle.std.specs.Prelude.{if◌then◌else◌}
 use Rattle.std.proofs.lemmas.Bool.{false≢true}
@@ -15,21 +15,21 @@ use Rattle.kp_net.specs.Parts.{NetOk, no_reg, no_file}
 use Rattle.kp_net.specs.Widths.{wide}
 use Rattle.kp_sched.specs.Rows.{rows_seen}
 use Rattle.kp_seq.specs.Running.{target}
-use Rattle.kp_shows.specs.Naming.{module_name, register_name, file_name as target_file_name, place_among, register_of, file_of, value_of, value_shown}
-use Rattle.kp_shows.specs.Shows.{IsOfJob}
-use Rattle.kp_shows.specs.Traces.{trace_of, inputs_seen, AreQuiet}
-use Rattle.kp_shows.specs.Traces as traces
-use Rattle.kp_alike.specs.Alike.{Alike, AlikeWithin, reg_name, file_name}
-use Rattle.kp_alike.specs.Named.{reg_names, file_names}
-use Rattle.kp_alike.specs.Roots.{AllAgree}
+use Rattle.kp_synth_spec.specs.Naming.{module_name, register_name, file_name as target_file_name, place_among, register_of, file_of, value_of, value_shown}
+use Rattle.kp_synth_spec.specs.Shows.{IsOfJob}
+use Rattle.kp_synth_spec.specs.Traces.{trace_of, inputs_seen, AreQuiet}
+use Rattle.kp_synth_spec.specs.Traces as traces
+use Rattle.kp_equiv_trees.specs.Alike.{Alike, AlikeWithin, reg_name, file_name}
+use Rattle.kp_equiv_trees.specs.Named.{reg_names, file_names}
+use Rattle.kp_equiv_trees.specs.Roots.{AllAgree}
 use Rattle.kp_equiv.specs.Roots.{IsComparable}
 use Rattle.kp_equiv.specs.Runs.{RunAlike}
 use Rattle.kp_equiv.specs.Showing.{renamed, ShowsButName}
-use Rattle.kp_alike.proofs.Naming.{one_number}
-use Rattle.kp_alike.proofs.Places.{reg_names_are, file_names_are, reg_count, file_count}
+use Rattle.kp_equiv_trees.proofs.Naming.{one_number}
+use Rattle.kp_equiv_trees.proofs.Places.{reg_names_are, file_names_are, reg_count, file_count}
 use Rattle.kp_equiv.proofs.Running.{agreed, regs_alike, theorem}
 
--- the first place of a name
+-- the first index of a name
 pub placed_at : (ns : List (List ℕ)) (n : List ℕ) → place_among ns n < length ns → get_or ns (place_among ns n) [] ≡ n
 placed_at [] n l = absurd (omega (arith, l))
 placed_at (m ∷ ns) n l = by (same m n) refl (placed_at ns n) l
@@ -38,7 +38,7 @@ placed_at (m ∷ ns) n l = by (same m n) refl (placed_at ns n) l
     by true e rest k = (bytes_decides m n).0 e
     by false e rest k = rest (omega (arith, k))
 
-placed_there : (ns : List (List ℕ)) (n : List ℕ) (i : ℕ) → i < length ns → get_or ns i [] ≡ n → place_among ns n < length ns
+pub placed_there : (ns : List (List ℕ)) (n : List ℕ) (i : ℕ) → i < length ns → get_or ns i [] ≡ n → place_among ns n < length ns
 placed_there [] n i l e = absurd (omega (arith, l))
 placed_there (m ∷ ns) n i l e = by (same m n) refl (placed_there ns n) i l e
   where
@@ -47,16 +47,16 @@ placed_there (m ∷ ns) n i l e = by (same m n) refl (placed_there ns n) i l e
     by false f rest zero k g = absurd (false≢true (sym f ∙ (bytes_decides m n).1 g))
     by false f rest (suc j) k g = let r = rest j (omega (arith, k)) g in omega (arith, r)
 
--- the name of the module plays no part in a run
-states_same : (net : Net) (name : List ℕ) (st : State) (ins : List Input) → states_from (renamed net name) st ins ≡ states_from net st ins
+-- the name of the module doesn't affect a run
+pub states_same : (net : Net) (name : List ℕ) (st : State) (ins : List Input) → states_from (renamed net name) st ins ≡ states_from net st ins
 states_same net name st [] = refl
 states_same net name st (i ∷ ins) = ap (λ (ss : List State). st ∷ ss) (states_same net name (state_after net i st) ins)
 
-rows_same : (net : Net) (name : List ℕ) (st : State) (ins : List Input) → rows_from (renamed net name) st ins ≡ rows_from net st ins
+pub rows_same : (net : Net) (name : List ℕ) (st : State) (ins : List Input) → rows_from (renamed net name) st ins ≡ rows_from net st ins
 rows_same net name st [] = refl
 rows_same net name st (i ∷ ins) = ap (λ (rs : List Row). row_of net i st ∷ rs) (rows_same net name (state_after net i st) ins)
 
--- what two netlists have alike, whichever is the first
+-- what two netlists have in common, whichever is the first
 pub record Twins (a b : Net) : Type 0 where
   pub reset : a.parts.reset ≡ b.parts.reset
   pub ext : a.parts.ext ≡ b.parts.ext
@@ -71,7 +71,7 @@ pub record Twins (a b : Net) : Type 0 where
 
 module _ (a b : Net) (job : Job) (h : Twins a b) (x : IsOfJob (renamed a (module_name job)) job) where
   -- the register of a target
-  reg_place : (t : ℕ) → t < length (targets_of job.decls) → is_register (target job t) ≡ true
+  pub reg_place : (t : ℕ) → t < length (targets_of job.decls) → is_register (target job t) ≡ true
       → (register_of a (target job t) < length a.parts.regs) × (register_of b (target job t) < length b.parts.regs)
       × (reg_name a (register_of a (target job t)) ≡ reg_name b (register_of b (target job t)))
   reg_place t l e =
@@ -84,7 +84,7 @@ module _ (a b : Net) (job : Job) (h : Twins a b) (x : IsOfJob (renamed a (module
       let nq : reg_name b (place_among (reg_names b) n) ≡ n = sym (reg_names_are b (place_among (reg_names b) n)) ∙ placed_at (reg_names b) n lq in
       (lr, omega (arith, reg_count b), nr ∙ sym nq)
 
-  file_place : (t : ℕ) → t < length (targets_of job.decls) → is_register (target job t) ≡ false
+  pub file_place : (t : ℕ) → t < length (targets_of job.decls) → is_register (target job t) ≡ false
       → (file_of a (target job t) < length a.parts.files) × (file_of b (target job t) < length b.parts.files)
       × (file_name a (file_of a (target job t)) ≡ file_name b (file_of b (target job t)))
   file_place t l e =
@@ -131,7 +131,7 @@ module _ (a b : Net) (job : Job) (h : Twins a b) (x : IsOfJob (renamed a (module
       by true e = let p = reg_place t m e in sym (h.runs.regs ins T (register_of a (target job t)) (register_of b (target job t)) l p.0 p.1 p.2)
       by false e = let p = file_place t m e in sym (h.runs.files ins T (file_of a (target job t)) (file_of b (target job t)) y l p.0 p.1 p.2)
 
-length_rows : (net : Net) (st : State) (ins : List Input) → length (rows_from net st ins) ≡ length ins
+pub length_rows : (net : Net) (st : State) (ins : List Input) → length (rows_from net st ins) ≡ length ins
 length_rows net st [] = refl
 length_rows net st (i ∷ ins) = ap suc (length_rows net (state_after net i st) ins)
 
@@ -171,7 +171,7 @@ shown a b job h s =
           };
     }
 
--- alike nodes have one width
+-- equivalent nodes have the same width
 one_width : (a b : Net) (i j : NodeId) → Alike a b i j → wide a.nodes i.0 ≡ wide b.nodes j.0
 unfolding AlikeWithin wide
 one_width a b i j h = by h.levels h.alike
@@ -180,7 +180,7 @@ one_width a b i j h = by h.levels h.alike
     by zero k = absurd k
     by (suc d) k = k.2.0
 
-twins : (a b : Net) → NetOk a → NetOk b → IsComparable a b → AllAgree a b → Twins a b
+pub twins : (a b : Net) → NetOk a → NetOk b → IsComparable a b → AllAgree a b → Twins a b
 twins a b oka okb fit all =
     let h = agreed a b all in
     record {
@@ -199,7 +199,7 @@ twins a b oka okb fit all =
       runs = theorem a b oka okb fit all;
     }
 
-turned : (a b : Net) → Twins a b → Twins b a
+pub turned : (a b : Net) → Twins a b → Twins b a
 turned a b h = record {
   reset = sym h.reset;
   ext = sym h.ext;

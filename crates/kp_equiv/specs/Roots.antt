@@ -1,25 +1,25 @@
--- WHICH NETLISTS ARE COMPARED, and what a verdict says of their roots.
+-- WHICH NETLISTS ARE COMPARED, and the meaning of a verdict on their roots.
 use Rattle.std.specs.Prelude.{ℕ, ◌<◌, ◌≡◌, List, length, get_or}
 use Rattle.kp_net.specs.declared.netlist.NetFile.{NetFile}
 use Rattle.kp_net.specs.Netlist.{Net}
 use Rattle.kp_net.specs.Parts.{no_file}
-use Rattle.kp_alike.specs.Named.{HasNames}
-use Rattle.kp_alike.specs.Roots.{AllAgree, IsFirstDifference}
+use Rattle.kp_equiv_trees.specs.Named.{HasNames}
+use Rattle.kp_equiv_trees.specs.Roots.{AllAgree, IsFirstDifference}
 use Rattle.kp_equiv.specs.declared.verdict.Verdict.{Verdict}
 use Rattle.kp_equiv.specs.declared.verdict.Verdict.TheVariants.{Same, Differs}
 
--- WHAT A VERDICT SAYS
+-- THE MEANING OF A VERDICT
 abbrev pub IsVerdict : Net → Net → Verdict → Type 0
 IsVerdict a b Same = AllAgree a b
 IsVerdict a b (Differs n) = IsFirstDifference a b n
 
--- one file in two netlists: its name and its widths
+-- the same file in two netlists: its name and its widths
 pub record IsSameFile (f g : NetFile) : Type 0 where
   pub name : f.name ≡ g.name
   pub width : f.width ≡ g.width
   pub address : f.address_width ≡ g.address_width
 
--- each file of the first stands somewhere among those of the second
+-- each file of the first is among those of the second
 abbrev pub HasFiles : List NetFile → List NetFile → Type 0
 HasFiles fs gs = (f : ℕ) → f < length fs → (g : ℕ) × (g < length gs) × IsSameFile (get_or fs f no_file) (get_or gs g no_file)
 

@@ -1,7 +1,7 @@
 -- TWO NETLISTS RUN ALIKE: the same rows, and the same values of all registers and file words, by name, for every list of inputs.
 use Rattle.std.specs.Prelude.{ℕ, ◌<◌, ◌≤◌, ◌≡◌, List, [], length, get_or}
 use Rattle.kp_net.specs.Netlist.{Net, Input, State, run}
-use Rattle.kp_alike.specs.Alike.{reg_name, file_name}
+use Rattle.kp_equiv_trees.specs.Alike.{reg_name, file_name}
 
 abbrev pub no_state : State
 no_state = record { regs = []; files = [] }
@@ -17,7 +17,7 @@ file_word st f x = get_or (get_or st.files f []) x 0
 abbrev pub state_at : Net → List Input → ℕ → State
 state_at net ins T = get_or (run net ins).states T no_state
 
--- each register and each file of the one has its namesake in the other
+-- each register and each file of one netlist has its namesake in the other
 pub record HasNamesakes (a b : Net) : Type 0 where
   pub regs : (r : ℕ) → r < length a.parts.regs → (q : ℕ) × (q < length b.parts.regs) × (reg_name b q ≡ reg_name a r)
   pub files : (f : ℕ) → f < length a.parts.files → (g : ℕ) × (g < length b.parts.files) × (file_name b g ≡ file_name a f)

@@ -1,9 +1,9 @@
--- A NETLIST SHOWS THE PIPELINED MACHINE OF A JOB, but for the name of its module.
+-- A NETLIST IMPLEMENTS THE PIPELINED MACHINE OF A JOB, up to the name of its module.
 use Rattle.std.specs.Prelude.{ℕ, List}
 use Rattle.kp_ast.specs.declared.tree.Job.{Job}
 use Rattle.kp_net.specs.Netlist.{Net}
-use Rattle.kp_shows.specs.Naming.{module_name}
-use Rattle.kp_shows.specs.Shows.{Shows}
+use Rattle.kp_synth_spec.specs.Naming.{module_name}
+use Rattle.kp_synth_spec.specs.Shows.{Shows}
 
 -- the same netlist under another module's name
 abbrev pub renamed : Net → List ℕ → Net

@@ -1,9 +1,9 @@
--- WHAT IS WRITTEN of a comparison.
+-- THE LINE THAT REPORTS a comparison.
 use Rattle.std.specs.Prelude.{ℕ, List, ◌++◌, length, codes, decimal}
 use Rattle.kp_net.specs.Netlist.{Net}
 use Rattle.kp_equiv.specs.declared.verdict.Verdict.{Verdict}
 use Rattle.kp_equiv.specs.declared.verdict.Verdict.TheVariants.{Same, Differs}
-use Rattle.kp_alike.specs.Roots.{Root, Ports, Register, File, Full, Ue, Back, roots, root}
+use Rattle.kp_equiv_trees.specs.Roots.{Root, Ports, Register, File, Full, Ue, Back, roots, root}
 
 -- a register and a file are named as in the Verilog text
 abbrev pub root_name : Root → List ℕ

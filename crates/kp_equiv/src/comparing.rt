@@ -1,24 +1,24 @@
 // The comparison.
 ghost use Rattle.std.specs.Prelude.{◌≡◌, ◌+◌, ◌^◌, ◌<◌, ◌≤◌, ◌∷◌, [], length, map, None, IfOk, IfSome};
-ghost use Rattle.kp_alike.specs.Named.{reg_names, file_names, HasNames};
-ghost use Rattle.kp_alike.specs.Roots.{Register, File, Full, Ue, Back, names_of_second};
+ghost use Rattle.kp_equiv_trees.specs.Named.{reg_names, file_names, HasNames};
+ghost use Rattle.kp_equiv_trees.specs.Roots.{Register, File, Full, Ue, Back, names_of_second};
 ghost use Rattle.kp_equiv.specs.Roots.{IsComparable, IsVerdict};
-ghost use Rattle.kp_alike.specs.Classes.{Tells};
-ghost use Rattle.kp_alike.specs.Sections.{FirstNew, FirstOf, behind_ports, joined};
+ghost use Rattle.kp_equiv_trees.specs.Classes.{Tells};
+ghost use Rattle.kp_equiv_trees.specs.Sections.{FirstNew, FirstOf, behind_ports, joined};
 
 use crate::parts::{file_agrees, reg_at, register_agrees};
 use crate::verdict::Verdict;
-use kp_alike::{Classes, file_count, first_of_second, first_output, ports_agree, reg_count};
 use kp_base::NoMemory;
-use kp_classes::{Names, classes_of};
+use kp_equiv_classes::{Names, classes_of};
+use kp_equiv_trees::{Classes, file_count, first_of_second, first_output, ports_agree, reg_count};
 use kp_net::Netlist;
 use std::alloc::Global;
 
-/// Whether all roots of two netlists agree, and the number of the first that doesn't.
+/// Whether all roots of two netlists agree, and otherwise the number of the first that doesn't.
 ///
-/// The roots are the ports, the registers of the first netlist, those that only the second has, the files of the first, and the outputs
-/// `full`, `ue` and `back`. The netlists have the same files with the same widths, and in each of them no two registers, files or sample
-/// ports have one name. Each node is looked at once. Refuses only where memory runs out.
+/// The roots are the ports, the registers of the first netlist, those that only the second has, the files of the first, and the outputs `full`, `ue`
+/// and `back`. The netlists have the same files with the same widths, and in each of them no two registers, files or sample ports have the same name.
+/// Each node is visited once. The only error is out of memory.
 pub fn compare(alloc: Global, a: &Netlist, b: &Netlist) -> Result<Verdict, NoMemory>
     requires { IsComparable a.now b.now }
     ensures { IfOk result (IsVerdict a.now b.now) }
@@ -33,7 +33,7 @@ pub fn compare(alloc: Global, a: &Netlist, b: &Netlist) -> Result<Verdict, NoMem
     }
 }
 
-// The first root behind the ports that doesn't agree.
+// The first root after the ports that doesn't agree, counted from the one after the ports.
 fn first_behind_ports(alloc: Global, a: &Netlist, b: &Netlist) -> Result<Option<usize>, NoMemory>
     requires first { HasNames a.now }
     requires second { HasNames b.now }
@@ -63,7 +63,7 @@ fn first_by_classes(
     Ok(first_of_sections(a, regs, more, files, outputs))
 }
 
-// The first of all sections, by the first of each.
+// The first of all sections, from the first of each.
 fn first_of_sections(
     a: &Netlist,
     regs: Option<usize>,
@@ -83,7 +83,7 @@ fn first_of_sections(
     behind(reg_count(a), regs, front)
 }
 
-// The first place that was found, where the second list follows one of so many.
+// The first index that was found, in two lists of which the first has `count` entries.
 fn behind(count: usize, here: Option<usize>, there: Option<usize>) -> Option<usize>
     requires count { count ≤ 16777216 }
     requires there { IfSome there (λ n. n < 2 ^ 27) }

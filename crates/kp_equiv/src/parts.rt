@@ -2,13 +2,13 @@
 ghost use Rattle.std.specs.Prelude.{◌≡◌, ◌<◌, length, get_or};
 ghost use Rattle.std.specs.Bool.{Decides};
 ghost use Rattle.kp_net.specs.Parts.{WriteOk, no_reg, no_file};
-ghost use Rattle.kp_alike.specs.Alike.{reg_name, file_name};
-ghost use Rattle.kp_alike.specs.Named.{reg_names, file_names, HasNames};
-ghost use Rattle.kp_alike.specs.Classes.{Tells};
-ghost use Rattle.kp_alike.specs.Roots.{RegisterAgrees, FileAgrees};
+ghost use Rattle.kp_equiv_trees.specs.Alike.{reg_name, file_name};
+ghost use Rattle.kp_equiv_trees.specs.Named.{reg_names, file_names, HasNames};
+ghost use Rattle.kp_equiv_trees.specs.Classes.{Tells};
+ghost use Rattle.kp_equiv_trees.specs.Roots.{RegisterAgrees, FileAgrees};
 
-use kp_alike::{Classes, files_are_alike, regs_are_alike};
-use kp_classes::Names;
+use kp_equiv_classes::Names;
+use kp_equiv_trees::{Classes, files_are_alike, regs_are_alike};
 use kp_net::{NetFile, NetReg, Netlist};
 
 /// Register `i` of a netlist.
@@ -29,7 +29,7 @@ pub(crate) fn file_at(net: &Netlist, i: usize) -> &NetFile
     &net.parts().files.as_slice()[i]
 }
 
-/// Whether register `i` of the first netlist has an alike namesake in the second, whose registers have these names.
+/// Whether register `i` of the first netlist has an equivalent namesake in the second, whose registers have these names.
 pub(crate) fn register_agrees(
     a: &Netlist,
     b: &Netlist,
@@ -54,7 +54,7 @@ pub(crate) fn register_agrees(
     }
 }
 
-/// Whether file `i` of the first netlist has an alike namesake in the second, whose files have these names.
+/// Whether file `i` of the first netlist has an equivalent namesake in the second, whose files have these names.
 pub(crate) fn file_agrees(
     a: &Netlist,
     b: &Netlist,

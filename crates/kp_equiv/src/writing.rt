@@ -1,26 +1,26 @@
-// What is written of a comparison.
+// The line that reports a comparison.
 ghost use Rattle.std.specs.Prelude.{◌≡◌, ◌+◌, ◌<◌, ◌≤◌, ◌++◌, ◌∷◌, [], length, map, get_or, codes, decimal, IfOk};
-ghost use Rattle.kp_alike.specs.Named.{file_names, HasNames};
-ghost use Rattle.kp_alike.specs.Roots.{Ports, File, Full, Ue, Back, root, IsFirstDifference};
+ghost use Rattle.kp_equiv_trees.specs.Named.{file_names, HasNames};
+ghost use Rattle.kp_equiv_trees.specs.Roots.{Ports, File, Full, Ue, Back, root, IsFirstDifference};
 ghost use Rattle.kp_equiv.specs.Roots.{IsComparable, IsVerdict};
 ghost use Rattle.kp_equiv.specs.Texts.{root_name, verdict_line};
-ghost use Rattle.kp_alike.specs.Sections.{behind_regs};
+ghost use Rattle.kp_equiv_trees.specs.Sections.{behind_regs};
 
 use crate::comparing::only_in_second;
 use crate::parts::{file_at, reg_at};
 use crate::verdict::Verdict;
 use itoa::Buffer;
-use kp_alike::{file_count, reg_count, root_count};
 use kp_base::NoMemory;
-use kp_classes::Names;
+use kp_equiv_classes::Names;
+use kp_equiv_trees::{file_count, reg_count, root_count};
 use kp_net::Netlist;
 use std::alloc::Global;
 
-/// The line of a verdict on two netlists, with its line feed: `same roots 6` with the number of roots, or `not shown equal r_X` with the
-/// name of the first root that doesn't agree. A register and a file are named as in Verilog.
+/// The line of a verdict on two netlists, with its line feed: `same roots 6` with the number of roots, or `not shown equal r_X` with the name of the
+/// first root that doesn't agree. A register and a file are named as in Verilog.
 ///
-/// The netlists have the same files with the same widths, and in each of them no two registers, files or sample ports have one name.
-/// Refuses only where memory runs out.
+/// The netlists have the same files with the same widths, and in each of them no two registers, files or sample ports have the same name. The only
+/// error is out of memory.
 pub fn verdict_line(
     alloc: Global,
     a: &Netlist,
@@ -93,7 +93,7 @@ fn ports_name() -> &'static [u8]
     b"ports"
 }
 
-// The name of a root behind those of the registers.
+// The name of a root after those of the registers.
 fn name_behind(a: &Netlist, place: usize) -> &[u8]
     requires { place < length a.now.parts.files + 3 }
     ensures { result.now ≡ root_name (get_or (behind_regs a.now) place Ports) }

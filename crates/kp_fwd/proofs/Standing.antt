@@ -21,12 +21,12 @@ candidate_grown p q k w r g h = record { hit = wire_grown p q k r.hit 1 g h.hit;
 pub candidates_grown : (p q : Held) (k w : ℕ) (rows : List Candidate) → Grown p q k → All (CandidateOk p w) rows → All (CandidateOk q w) rows
 candidates_grown p q k w rows g h j d l = candidate_grown p q k w _ g (h j d l)
 
--- rows behind others
+-- a concatenation of rows
 first_append : {A : Type 0} (c : Cells) (p : Held) (f : Candidate → A) (none : A) (xs ys : List Candidate) → first_of c p f none (xs ++ ys) ≡ first_of c p f (first_of c p f none ys) xs
 first_append c p f none [] ys = refl
 first_append c p f none (x ∷ xs) ys = ap (cond (on c p.nodes x.hit.0) (f x)) (first_append c p f none xs ys)
 
--- what rows give stays while the pool grows
+-- the value of rows is preserved while the pool grows
 first_kept : {A : Type 0} (c : Cells) (p q : Held) (k w : ℕ) (f g : Candidate → A) (none : A) (rows : List Candidate) → Grown p q k → ((r : Candidate) → CandidateOk p w r → g r ≡ f r) → All (CandidateOk p w) rows → first_of c q g none rows ≡ first_of c p f none rows
 first_kept c p q k w f g none [] h same ok = refl
 first_kept c p q k w f g none (r ∷ rs) h same ok =
@@ -62,7 +62,7 @@ pub bit_is : (a : Bool) → a ≡ cond a true false
 bit_is true = refl
 bit_is false = refl
 
--- one row for two, which stand for rows one behind the other
+-- one row that replaces two, which replace adjacent lists of rows
 first_joined : {A : Type 0} (c : Cells) (p : Held) (f : Candidate → A) (xs ys : List Candidate) (a b h : Bool) (x y v none : A) → h ≡ (a || b) → v ≡ cond a x y
     → ((m : A) → cond a x m ≡ first_of c p f m xs) → ((m : A) → cond b y m ≡ first_of c p f m ys) → cond h v none ≡ first_of c p f none (xs ++ ys)
 first_joined c p f xs ys a b h x y v none e u s t =

@@ -1,4 +1,4 @@
--- Hits, carried results and the nearest hit, by what the given nodes mean.
+-- Hits, carried results and the nearest hit, in terms of the values of the given nodes.
 use Rattle.std.specs.Prelude.{ℕ, Bool, true, false, ◌==◌, if◌then◌else◌, List, [], ◌∷◌, Option, Some, None}
 use Rattle.kp_net.specs.declared.node.NodeId.{NodeId}
 use Rattle.kp_net.specs.Nodes.{Cells, at, on}
@@ -7,17 +7,17 @@ use Rattle.kp_net.specs.Growth.{Held, Wire}
 use Rattle.kp_fwd.specs.declared.rows.Candidate.{Candidate}
 use Rattle.kp_fwd.specs.declared.rows.Picked.{Picked}
 
--- a bit that may be left out, and is 1 then
+-- an optional bit, 1 if omitted
 abbrev pub enable_on : Cells → Held → Option NodeId → Bool
 enable_on c p None = true
 enable_on c p (Some e) = on c p.nodes e.0
 
--- two addresses that may be left out, and are equal then
+-- two optional addresses, equal if omitted
 abbrev pub addresses_agree : Cells → Held → Option (NodeId × NodeId) → Bool
 addresses_agree c p None = true
 addresses_agree c p (Some (a, b)) = at c p.nodes a.0 == at c p.nodes b.0
 
--- whether a set is enabled, and what it gives
+-- whether a set is enabled, and its value
 abbrev pub set_on : Cells → Held → Option (NodeId × NodeId) → Bool
 set_on c p None = false
 set_on c p (Some (enable, value)) = on c p.nodes enable.0
@@ -26,7 +26,7 @@ abbrev pub set_value : Cells → Held → Option (NodeId × NodeId) → ℕ
 set_value c p None = 0
 set_value c p (Some (enable, value)) = if on c p.nodes enable.0 then at c p.nodes value.0 else 0
 
--- what f gives of the first row that hits, or `none` where no row does
+-- the value of f for the first row that hits, or `none` if no row does
 abbrev pub first_of : {A : Type 0} → Cells → Held → (Candidate → A) → A → List Candidate → A
 first_of c p f none [] = none
 first_of c p f none (r ∷ rs) = if on c p.nodes r.hit.0 then f r else first_of c p f none rs
@@ -41,7 +41,7 @@ first_ok c p rows = first_of c p (λ r. on c p.nodes r.ok.0) true rows
 abbrev pub first_value : Cells → Held → List Candidate → ℕ → ℕ
 first_value c p rows none = first_of c p (λ r. at c p.nodes r.value.0) none rows
 
--- WIDTHS. A bit, and a pair of nodes of these widths, where they are given.
+-- WIDTHS. An optional bit, and an optional pair of nodes of these widths.
 abbrev pub BitOk : Held → Option NodeId → Type 0
 BitOk p None = Unit {0}
 BitOk p (Some e) = Wire p e 1
@@ -50,7 +50,7 @@ abbrev pub PairOk : Held → ℕ → ℕ → Option (NodeId × NodeId) → Type 
 PairOk p v w None = Unit {0}
 PairOk p v w (Some (a, b)) = Wire p a v × Wire p b w
 
--- two nodes of one width
+-- two nodes of the same width
 abbrev pub SameWidth : Held → Option (NodeId × NodeId) → Type 0
 SameWidth p None = Unit {0}
 SameWidth p (Some (a, b)) = (w : ℕ) × Wire p a w × Wire p b w

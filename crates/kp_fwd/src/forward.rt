@@ -1,3 +1,4 @@
+// Hits, and the result that a stage carries.
 ghost use Rattle.std.specs.Prelude.{◌≡◌, ◌<◌, ◌≤◌, ◌&&◌, ◌||◌, not, if◌then◌else◌, length};
 ghost use Rattle.kp_net.specs.Nodes.{Cells, at, on};
 ghost use Rattle.kp_net.specs.Widths.{wide};
@@ -5,11 +6,11 @@ ghost use Rattle.kp_net.specs.Growth.{Held, Wire, Grown};
 ghost use Rattle.kp_fwd.specs.Forward.{enable_on, addresses_agree, BitOk, PairOk, SameWidth, set_on, set_value};
 
 use crate::rows::Carried;
-use kp_gate::{bit, both, choose, constant, either, inverse, same};
 use kp_net::{NodeId, Pool};
+use kp_net_gates::{bit, both, choose, constant, either, inverse, same};
 
-/// Whether a stage hits: it is full, and its intent isn't known, or is to write at the address that is read. `enable` is its enable,
-/// where it has one, and `address` its address and the one that is read, where the target is a file.
+/// Whether a stage hits: it is full, and its intent isn't known, or is to write at the address that is read. `enable`
+/// is its enable, if it has one, and `address` its address and the one that is read, if the target is a file.
 #[tactic(auto, using(kp_net::proofs::Growing::growing))]
 pub fn hit_of(
     pool: &mut Pool,
@@ -43,8 +44,8 @@ pub fn hit_of(
     }
 }
 
-/// The result that a stage carries: the stored one, else what a set gives now, else 0. `set` is the enable of a set in
-/// the stage, and its value; `last` says that this is the write stage.
+/// The result that a stage carries: the stored one, else the value of a set in this cycle, else 0. `set` is the
+/// enable of a set in the stage, and its value; `last` says that this is the write stage.
 #[tactic(auto, using(kp_net::proofs::Growing::growing))]
 pub fn carried(
     pool: &mut Pool,
@@ -94,7 +95,7 @@ fn ready_of(pool: &mut Pool, set: Option<(NodeId, NodeId)>, last: bool, width: u
     }
 }
 
-// What a set gives now.
+// The value of a set in this cycle.
 #[tactic(auto, using(kp_net::proofs::Growing::growing))]
 fn now_of(pool: &mut Pool, set: Option<(NodeId, NodeId)>, width: u8) -> NodeId
     requires room { 2 ≤ pool.old.spare }

@@ -1,4 +1,4 @@
-//! Forwarding as nodes: which stage hits, what it can give, and the nearest hit.
+//! Forwarding (bypassing) as nodes: which stage hits, the value that it can forward, and the nearest hit.
 #![tactic(auto)]
 
 mod forward;

@@ -1,3 +1,4 @@
+// Selecting the nearest hit with a balanced tree.
 ghost use Rattle.std.specs.Prelude.{◌≡◌, ℕ, ◌+◌, ◌-◌, ◌*◌, ◌^◌, ◌<◌, ◌≤◌, ◌||◌, if◌then◌else◌, length, All, true};
 ghost use Rattle.kp_net.specs.Nodes.{Cells, at, on};
 ghost use Rattle.kp_net.specs.Widths.{wide};
@@ -7,10 +8,10 @@ ghost use Rattle.kp_fwd.specs.Forward.{some_hits, first_ok, first_value, Candida
 ghost use Rattle.kp_fwd.specs.inner.Tree.{StandsFor};
 
 use crate::rows::{Candidate, Picked};
-use kp_gate::{bit, choose, either, pick};
 use kp_net::{NodeId, Pool};
+use kp_net_gates::{bit, choose, either, pick};
 
-/// The first of these rows that hits, or `none` where none does, by a balanced tree: at most 6 deeper than what is given.
+/// The first of these rows that hits, or `none` if none does, by a balanced tree: at most 6 deeper than its inputs.
 #[tactic(auto, using(kp_net::proofs::Growing::growing))]
 pub fn select(pool: &mut Pool, rows: &[Candidate], none: NodeId) -> Picked
     requires room { 16 * length rows.now + 8 ≤ pool.old.spare }
@@ -40,7 +41,7 @@ pub fn select(pool: &mut Pool, rows: &[Candidate], none: NodeId) -> Picked
     picked(pool, first, none, width)
 }
 
-// The row where it hits, or `none`.
+// The row if it hits, else `none`.
 #[tactic(auto, using(kp_net::proofs::Growing::growing))]
 fn picked(pool: &mut Pool, first: Candidate, none: NodeId, width: u8) -> Picked
     requires room { 3 ≤ pool.old.spare }
@@ -67,7 +68,7 @@ fn picked(pool: &mut Pool, first: Candidate, none: NodeId, width: u8) -> Picked
     }
 }
 
-// One row in place of these: it hits where one of them does, and is as the first of these then.
+// One row that replaces these: it hits if one of them does, and then equals the first of these.
 fn first_hit(pool: &mut Pool, rows: &[Candidate], width: u8) -> Candidate
     requires room { 3 * length rows.now ≤ pool.old.spare }
     requires positive { 1 ≤ width }
@@ -88,7 +89,7 @@ fn first_hit(pool: &mut Pool, rows: &[Candidate], width: u8) -> Candidate
     joined(pool, first, second, width)
 }
 
-// One row in place of two.
+// One row that replaces two.
 #[tactic(auto, using(kp_net::proofs::Growing::growing))]
 fn joined(pool: &mut Pool, near: Candidate, far: Candidate, width: u8) -> Candidate
     requires room { 3 ≤ pool.old.spare }

@@ -1,4 +1,4 @@
--- One more that is made for a register, or for a stage.
+-- One more item that is built for a register, or for a stage.
 use Rattle.std.proofs.Common.{◌-◌, false, map, arith, cond, ◌≡◌, ◌∙◌, ℕ, ◌+◌, ◌≤◌, ◌<◌, List, [], ◌∷◌, ◌++◌, length, get_or, drop, ap, sym, refl, append_assoc}
 use Rattle.std.proofs.lemmas.List.{at_drop_more, at_drop_all, append-nil}
 use Rattle.std.specs.Prelude.{◌==◌}
@@ -14,7 +14,7 @@ pub each_more : {X : Type 0} (make : ℕ → Route → X) (made : List X) (rs : 
 each_more make made rs i r h e =
     append_assoc made (make i r ∷ []) (for_each make (i + 1) (drop (i + 1) rs)) ∙ ap (λ l. made ++ l) (ap (λ x. for_each make i (x ∷ drop (i + 1) rs)) e ∙ sym (at_drop_more (for_each make i) rs i r h))
 
--- where the choice doesn't matter
+-- an arbitrary choice, where it doesn't matter
 no_route : Route
 no_route = record { write = 0; set = 0; other = 0 }
 

@@ -1,4 +1,4 @@
--- Letters with numbers are names, and tell the number.
+-- Letters with numbers are names, and determine the number.
 use Rattle.std.proofs.Common.{◌≡◌, ℕ, ◌<◌, ◌≤◌, ◌^◌, List, [], ◌∷◌, length, Bool, true, false, ◌&&◌, ◌||◌, refl, arith}
 use Rattle.std.specs.Prelude.{All, IsTrue, decimal, nat_le}
 use Rattle.std.specs.List.{list_all}
@@ -47,7 +47,7 @@ all_bytes [] e = All-nil (λ b. IsTrue (is_word b))
 all_bytes (c ∷ bytes) e =
     All-cons (λ b. IsTrue (is_word b)) c bytes (and_left (is_word c) (list_all is_word bytes) e) (all_bytes bytes (and_right (is_word c) (list_all is_word bytes) e))
 
--- the test tells a name
+-- the test accepts only names
 pub spelled_is_name : (bytes : List ℕ) → IsTrue (is_spelled bytes) → IsName bytes
 spelled_is_name bytes h =
     let few = and_right (list_all is_word bytes) (nat_le 1 (length bytes) && nat_le (length bytes) 64) h in

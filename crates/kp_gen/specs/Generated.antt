@@ -1,8 +1,8 @@
 -- The generated job of a number.
 --
--- Register i is read in stage 0, its pipe takes the sum of two registers, and a later stage sets its result, the pipe and another
--- one, shifted, to be written in the same stage or later. The file is read in stage 0 at an address that a register has, and
--- written in the last stage. All places are the start of a text.
+-- Register i is read in stage 0, its pipe receives the sum of two registers, and a later stage sets its result, the pipe and another one, shifted, to
+-- be written in the same stage or later. The file is read in stage 0 at an address from a register, and written in the last stage. All positions are
+-- the start of a text.
 use Rattle.std.specs.Prelude.{ℕ, ◌+◌, ◌-◌, ◌%◌, List, [], ◌∷◌, ◌++◌, Option, Some, None, if◌then◌else◌, ◌==◌, length, map, codes, decimal}
 use Rattle.std.specs.List.{range_with_len}
 use Rattle.kp_base.specs.declared.place.Place.{Place}
@@ -24,7 +24,7 @@ use Rattle.kp_ast.specs.declared.tree.Job.{Job}
 use Rattle.kp_gen.specs.declared.draws.Route.{Route}
 use Rattle.kp_gen.specs.Draws.{stages_drawn, routes_drawn}
 
--- All places are one.
+-- All positions are the same.
 abbrev pub place : Place
 place = record { line = 1; col = 1 }
 
@@ -100,7 +100,7 @@ read_from n from address = stmt (stmts.Read (record { name = named n; target = n
 abbrev pub read : ℕ → Stmt
 read i = read_from (read_name i) (register_name i) None
 
--- `put P0 = x0 + x1;`, and behind the last register stands the first one
+-- `put P0 = x0 + x1;`, where the first register follows the last one
 abbrev pub put : ℕ → ℕ → Stmt
 put m i = stmt (stmts.Put (named (pipe_name i)) (binary BinOp.Add (name (read_name i)) (name (read_name ((i + 1) % m)))))
 
@@ -109,7 +109,7 @@ abbrev pub set : ℕ → Route → Stmt
 set i r =
     stmt (stmts.Set (named (result_name i)) (binary BinOp.Xor (name (pipe_name i)) (binary BinOp.Shl (name (pipe_name r.other)) (number 1 1))) None)
 
--- one for each register, from the register of a number on
+-- one for each register, from register number j on
 abbrev pub for_each : {X : Type 0} → (ℕ → Route → X) → ℕ → List Route → List X
 for_each make i [] = []
 for_each make i (r ∷ rs) = make i r ∷ for_each make (i + 1) rs
@@ -163,7 +163,7 @@ later_block rs k = block k (later_stmts rs k)
 abbrev pub all_blocks : ℕ → List Route → List Block
 all_blocks n rs = block 0 (first_stmts rs) ∷ map (later_block rs) (range_with_len 1 (n - 1))
 
--- the last stage, from 5 to 100000 step 7
+-- the stall entry: the last stage, from 5 to 100000 step 7
 abbrev pub all_stalls : ℕ → List Stalls
 all_stalls n = record { stage = num (n - 1); from = num 5; to = num 100000; step = Some (num 7) } ∷ []
 

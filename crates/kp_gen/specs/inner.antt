@@ -1,2 +1,2 @@
--- What stands here is for private contracts and proofs: a reader need not believe it.
+-- For private contracts and proofs only: a reader need not trust it.
 pub mod Spelling

@@ -8,7 +8,7 @@ use kp_ast::Decl;
 use kp_base::NoMemory;
 use std::alloc::Global;
 
-/// The declarations of a job with these choices.
+/// The declarations of a job with these choices. The only error is out of memory.
 #[tactic(auto, using(std::proofs::Common::append_assoc))]
 pub(crate) fn all_decls(alloc: Global, stages: u64, routes: &[Route]) -> Result<Vec<Decl>, NoMemory>
     requires stages { 3 ≤ stages }

@@ -1,4 +1,4 @@
-// The job that a number gives.
+// The job that a number generates.
 ghost use Rattle.std.specs.Prelude.{◌≡◌, IfOk, [], ◌∷◌, ◌≤◌};
 ghost use Rattle.kp_gen.specs.Generated.{gen_job, all_stalls};
 
@@ -10,7 +10,7 @@ use kp_ast::{Job, Stalls};
 use kp_base::{List, NoMemory};
 use std::alloc::Global;
 
-/// The generated job of this number.
+/// The generated job of this number. The only error is out of memory.
 #[tactic(auto, unfolding(crate::specs::Generated::job_of))]
 pub fn generate(alloc: Global, start: u64) -> Result<Job, NoMemory>
     ensures { IfOk result (λ job. job ≡ gen_job start) }

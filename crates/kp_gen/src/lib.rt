@@ -1,4 +1,4 @@
-//! The texts of the sample processors, and the job that a number gives.
+//! The texts of the sample processors, and the job that a number generates.
 #![tactic(auto)]
 
 mod declared;

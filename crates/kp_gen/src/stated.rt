@@ -12,7 +12,7 @@ use kp_base::NoMemory;
 use kp_bits::BinOp;
 use std::alloc::Global;
 
-/// The stages of a job with these choices.
+/// The stages of a job with these choices. The only error is out of memory.
 #[tactic(auto, using(crate::proofs::Rounds::blocks_more))]
 pub(crate) fn all_blocks(
     alloc: Global,

@@ -1,4 +1,4 @@
-// Trees at the start of a text.
+// Syntax trees at the start of a text.
 ghost use Rattle.std.specs.Prelude.{◌≡◌, IfOk, IsTrue};
 ghost use Rattle.kp_base.specs.Characters.{is_word};
 ghost use Rattle.kp_gen.specs.Generated.{named, num, lit, numbered, name, number, binary, low_byte, stmt, target, read_from, block};
@@ -39,7 +39,7 @@ pub(crate) fn named(name: Name) -> Named
     }
 }
 
-// A letter and a number.
+// The name of a letter and a number.
 #[tactic(auto, using(crate::proofs::Spelled::numbered_is_name))]
 pub(crate) fn numbered(alloc: Global, letter: u8, i: u64) -> Result<Name, NoMemory>
     requires { IsTrue (is_word letter) }
@@ -52,7 +52,7 @@ pub(crate) fn numbered(alloc: Global, letter: u8, i: u64) -> Result<Name, NoMemo
     Name::new(alloc, bytes.as_slice())
 }
 
-// A name that is written out.
+// A name that is given as bytes.
 #[tactic(auto, using(crate::proofs::Spelled::spelled_is_name))]
 pub(crate) fn spelled(alloc: Global, bytes: &[u8]) -> Result<Name, NoMemory>
     requires { IsTrue (is_spelled bytes.now) }

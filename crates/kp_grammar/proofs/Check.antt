@@ -76,7 +76,7 @@ all_apart-has t xs b [] m h = elim m [ ]
 all_apart-has t xs b (c ∷ bs) here h = (and_true (apart xs (firsts t c)) (all_apart t xs bs) h).0
 all_apart-has t xs b (c ∷ bs) (there m) h = all_apart-has t xs b bs m (and_true (apart xs (firsts t c)) (all_apart t xs bs) h).1
 
--- the first body that begins with the class is taken
+-- the first body that starts with the class is chosen
 choose-first : {W B : Type 0} → (t : Tables) (n c : ℕ) (b : List (Symbol W B)) (bs : List (List (Symbol W B))) → Has b bs → bodies_fit t n bs ≡ true
     → among c (firsts t b) ≡ true → choose t c bs ≡ Some b
 choose-first t n c b [] m h k = elim m [ ]
@@ -96,7 +96,7 @@ vanishing-last t n b (e ∷ []) (there m) h v = elim m [ ]
 vanishing-last t n b (e ∷ d ∷ bs) here h v = cc (v, (parts_of t n e d bs h).stays)
 vanishing-last t n b (e ∷ d ∷ bs) (there m) h v = vanishing-last t n b (d ∷ bs) m (parts_of t n e d bs h).rest v
 
--- where none begins with the class, the one that vanishes is taken
+-- if none starts with the class, the nullable one is chosen
 choose-last : {W B : Type 0} → (t : Tables) (n c : ℕ) (xs : List ℕ) (b : List (Symbol W B)) (bs : List (List (Symbol W B))) → Has b bs → bodies_fit t n bs ≡ true → vanishes t b ≡ true
     → all_apart t xs bs ≡ true → among c xs ≡ true → choose t c bs ≡ Some b
 choose-last t n c xs b [] m h v a k = elim m [ ]

@@ -3,7 +3,7 @@ use Rattle.std.proofs.Common.{ℕ, ◌≡◌, List, [], ◌∷◌, true, Some}
 use Rattle.kp_grammar.specs.Grammar.{Symbol, Terminal, Nonterminal, Action, Rules, alternatives, Has}
 use Rattle.kp_grammar.specs.Tables.{Tables, among, first_of, empty_of, after_of, firsts, vanishes, pick}
 
--- each name in a body may be followed by what follows it there, where `after` follows the body
+-- the follow set of each name in a body contains what may follow it there, where `after` follows the body
 abbrev pub Follows : {W B : Type 0} → Tables → List ℕ → List (Symbol W B) → Type 0
 Follows t after [] = Unit {0}
 Follows t after (Terminal c way ∷ s) = Follows t after s
@@ -13,8 +13,8 @@ Follows t after (Nonterminal n ∷ s) =
     × (vanishes t s ≡ true → (c : ℕ) → among c after ≡ true → among c (after_of t n) ≡ true)
     × Follows t after s
 
--- a body begins with classes of its name's row and is empty where the row says so, it is picked at each
--- class that it begins with and, where it vanishes, at each that may follow
+-- a body starts with classes of its name's row and is nullable only if the row says so; it is chosen at each class
+-- that it starts with and, if it is nullable, at each that may follow
 pub record Decides {W B : Type 0} (rs : Rules W B) (t : Tables) : Type 0 where
   pub begins : (n c : ℕ) (b : List (Symbol W B)) → Has b (alternatives rs n) → among c (firsts t b) ≡ true → among c (first_of t n) ≡ true
   pub empties : (n : ℕ) (b : List (Symbol W B)) → Has b (alternatives rs n) → vanishes t b ≡ true → empty_of t n ≡ true

@@ -1,4 +1,4 @@
--- The machine ends, where no name leads back to itself before a token is read.
+-- The machine terminates, if no name leads back to itself before a token is read.
 use Rattle.std.proofs.Common.{ℕ, zero, suc, ◌≡◌, ◌==◌, ◌<◌, ◌≤◌, List, [], ◌∷◌, ◌++◌, length, Bool, true, false, not, cond, ◌||◌, ◌&&◌, Option, Some, None, refl, sym, subst, arith}
 use Rattle.std.specs.Prelude.{nat_lt}
 use Rattle.std.proofs.lemmas.Bool.{eqb-true, eq-eqb, ltb-true}
@@ -56,7 +56,7 @@ module _ {W B X S : Type 0} (g : Grammar W B X S) (t : Tables) (rank : Ranks) (d
   ended : (c : ℕ) (way : W) (s : List (Symbol W B)) (v : S) → (c == END_OF_TEXT) ≡ false → Ends (Terminal c way ∷ s) v []
   ended c way s v e = (Stops 0, wrong (λ same. cc (eq-eqb c END_OF_TEXT (sym same), e)))
 
-  -- a name, where each of its alternatives ends
+  -- a name, if each of its alternatives terminates
   expand : (m : ℕ) (s : List (Symbol W B)) (v : S) (ts : List X) → ((b : List (Symbol W B)) → Has b (alternatives g.rules m) → Ends (b ++ s) v ts) → Ends (Nonterminal m ∷ s) v ts
   expand m s v ts inner = picked (pick g.rules t m (look g ts)) refl
     where
@@ -75,7 +75,7 @@ module _ {W B X S : Type 0} (g : Grammar W B X S) (t : Tables) (rank : Ranks) (d
     finish (x ∷ xs) v = (Stops (length (x ∷ xs)), more)
 
     module _ (ts : List X) (few : length ts ≤ n) where
-      -- A body whose front has names of lower rank ends, where what is behind it ends if the body may read nothing.
+      -- A body whose front has names of lower rank terminates, if the rest after it terminates in the case that the body reads nothing.
       body : (k r : ℕ) → r ≤ k → (b s : List (Symbol W B)) → front_below t rank r b ≡ true → is_within_text b ≡ true → is_within_text s ≡ true
           → (vanishes t b ≡ true → (w : S) → Ends s w ts) → (v : S) → Ends (b ++ s) v ts
       body k r h [] s f wb ws go v = go refl v

@@ -34,7 +34,7 @@ among-append : (c : ℕ) (xs ys : List ℕ) → among c (xs ++ ys) ≡ (among c 
 among-append c [] ys = refl
 among-append c (x ∷ xs) ys = or_assoc (c == x) _ _ _ (among-append c xs ys)
 
--- what a stack begins with; the end of the text counts as class 0
+-- the first classes of a stack; the end of the text counts as class 0
 abbrev pub starts : {W B : Type 0} → Tables → List (Symbol W B) → ℕ → Bool
 starts t [] c = c == 0
 starts t (Terminal d k ∷ s) c = c == d
@@ -89,7 +89,7 @@ module _ {W B X S : Type 0} (g : Grammar W B X S) (t : Tables) (p : Decides g.ru
     | inr v ↦ p.picks_empty n c b m v.0 (h.0 c v.1)
   ]
 
-  -- a run that reads a token, or ends with the text and nothing more to be read, begins as the stack does
+  -- a run that reads a token, or ends with the text and an empty stack, starts as the stack does
   starts_run : {s : List (Symbol W B)} {v : S} {ts : List X} {s' : List (Symbol W B)} {v' : S} {r : List X} → Derives g s v ts s' v' r
       → (length r < length ts) ⊎ ((r ≡ []) × (s' ≡ [])) → starts t s (look g ts) ≡ true
   starts_run {ts = ts} stay h = elim h [ inl l ↦ absurd (omega arith) | inr e ↦ rw (e.0, e.1) refl ]
@@ -97,7 +97,7 @@ module _ {W B X S : Type 0} (g : Grammar W B X S) (t : Tables) (p : Decides g.ru
   starts_run {s = Terminal c k ∷ s} (read {t = x} e d) h = eq-eqb (g.class x) c e
   starts_run (build d) h = starts_run d h
 
-  -- a derivation never gives tokens back
+  -- a derivation never returns tokens
   shorter : {s : List (Symbol W B)} {v : S} {ts : List X} {s' : List (Symbol W B)} {v' : S} {r : List X} → Derives g s v ts s' v' r → length r ≤ length ts
   shorter stay = omega arith
   shorter (expand b m d) = shorter d
@@ -138,7 +138,7 @@ module _ {W B X S : Type 0} (g : Grammar W B X S) (t : Tables) (p : Decides g.ru
       accepted (take e f l) = read e (accepted l)
       accepted (make l) = build (accepted l)
 
-      -- Where it stops, a derivation leads.
+      -- A derivation leads to the position where the machine stops.
       pub reached : {s : List (Symbol W B)} {v : S} {ts : List X} {k : ℕ} → Leads g over t s v ts (Stops k)
           → (s' : List (Symbol W B)) × (v' : S) × (r : List X) × (length r ≡ k) × Derives g s v ts s' v' r
       reached {s = s} {v = v} {ts = ts} more = (s, v, ts, refl, stay)
@@ -155,7 +155,7 @@ module _ {W B X S : Type 0} (g : Grammar W B X S) (t : Tables) (p : Decides g.ru
       reached_excess (make l) = let h = reached_excess l in (h.0, h.1, h.2, h.3, h.4, build h.5)
       reached_excess {ts = x ∷ xs} (exceed {c = c} {way = k} {s = s} {v = v} e f) = (s, g.reads k x v, xs, refl, f, read e stay)
 
-    -- No derivation leads beyond the place where it stops, and none ends there.
+    -- No derivation leads beyond the position where it stops, and none ends there.
     pub unreached : {s : List (Symbol W B)} {v : S} {ts : List X} {k : ℕ} {s' : List (Symbol W B)} {v' : S} {r : List X}
         → Leads g over t s v ts (Stops k) → IsGood t s → Derives g s v ts s' v' r → (length r < k) ⊎ ((r ≡ []) × (s' ≡ [])) → ⊥
     unreached more q stay h = elim h [ inl l ↦ omega arith | inr e ↦ cc ]
@@ -197,7 +197,7 @@ module _ {W B X S : Type 0} (g : Grammar W B X S) (t : Tables) (p : Decides g.ru
       left (Stops k) = k
       left (Exceeds k) = k
 
-      -- Before the place where it stops no count passes the limit.
+      -- Before the position where it stops no count exceeds the limit.
       pub within_before : {s : List (Symbol W B)} {v : S} {ts : List X} {o : Outcome S} {s' : List (Symbol W B)} {v' : S} {r : List X}
           → Leads g over t s v ts o → IsGood t s → over v ≡ false → Derives g s v ts s' v' r → left o ≤ length r → over v' ≡ false
       within_before l q z stay h = z
@@ -222,7 +222,7 @@ module _ {W B X S : Type 0} (g : Grammar W B X S) (t : Tables) (p : Decides g.ru
         stays_over (read {way = k} {t = x} {v = v} e d) z = stays_over d (stays k x v z)
         stays_over (build {a = a} {v = v} d) z = stays_over d (keeps a v ∙ z)
 
-        -- Where it stops at a count too exceed, each sentence has one.
+        -- If it stops because a count exceeds the limit, each sentence exceeds it.
         pub sunk : {s : List (Symbol W B)} {v w : S} {ts : List X} {k : ℕ} → Leads g over t s v ts (Exceeds k) → IsGood t s → Derives g s v ts [] w [] → over w ≡ true
         sunk {v = v} {w = w} (goes {n = n} {s = s} {xs = xs} b e l) q (expand c m d) =
             let same : c ≡ b = cc (e, picked n c s (look g xs) m q (starts_run d (inr (refl, refl)))) in
@@ -242,7 +242,7 @@ module _ {W B X S : Type 0} (g : Grammar W B X S) (t : Tables) (p : Decides g.ru
         complete {v = v} (read {way = way} {t = x} e d) q z = take e (not_over (over (g.reads way x v)) (λ h. stays_over d h) z) (complete d q z)
         complete (build d) q z = make (complete d q z)
 
-        -- Where some derivation passes the limit, each sentence does.
+        -- If some derivation exceeds the limit, each sentence does.
         pub over_all : {s : List (Symbol W B)} {v : S} {ts : List X} {s' : List (Symbol W B)} {v' : S} {left : List X} {w : S}
             → Derives g s v ts s' v' left → over v' ≡ true → IsGood t s → Derives g s v ts [] w [] → over w ≡ true
         over_all stay z q d' = stays_over d' z

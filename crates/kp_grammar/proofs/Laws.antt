@@ -24,7 +24,7 @@ module _ {W B X S : Type 0} (g : Grammar W B X S) (t : Tables) (n : ℕ) (p : Is
   pub one_state : {v w w' : S} {ts : List X} → IsSentence g n v ts w → IsSentence g n v ts w' → w ≡ w'
   one_state d d' = unique g t table d good d'
 
-  -- Where the machine stops the first wrong token is.
+  -- The position where the machine stops is that of the first wrong token.
   pub wrong_at : {over : S → Bool} {v : S} {ts : List X} {k : ℕ} → Leads g over t (Nonterminal n ∷ []) v ts (Stops k) → IsWrongAt g n v ts k
   wrong_at {over = over} {k = k} l = record {
     viable = (let r = reached g t table over (picks_rule g.rules t) l in (r.2, r.3, (r.0, r.1, r.4)));
@@ -40,7 +40,7 @@ module _ {W B X S : Type 0} (g : Grammar W B X S) (t : Tables) (n : ℕ) (p : Is
     pub is_accepted : {v w : S} {ts : List X} → IsSentence g n v ts w → over w ≡ false → Leads g over t (Nonterminal n ∷ []) v ts (Accepts w)
     is_accepted d z = complete g t table over limit.keeps limit.stays d good z
 
-    -- Before the place where the machine stops nothing passes the limit.
+    -- Before the position where the machine stops nothing exceeds the limit.
     pub within_stop : {v : S} {ts : List X} {k : ℕ} → over v ≡ false → Leads g over t (Nonterminal n ∷ []) v ts (Stops k) → IsWithin g over n v ts k
     within_stop z l s w left d h = within_before g t table over limit.keeps l good z d h
 
@@ -48,7 +48,7 @@ module _ {W B X S : Type 0} (g : Grammar W B X S) (t : Tables) (n : ℕ) (p : Is
     pub within_all : {v w : S} {ts : List X} → over v ≡ false → Leads g over t (Nonterminal n ∷ []) v ts (Accepts w) → IsWithin g over n v ts 0
     within_all z l s w left d h = within_before g t table over limit.keeps l good z d h
 
-    -- Where it says so the first token that passes the limit is.
+    -- Where it finds the limit exceeded is the first token that exceeds it.
     pub over_at : {v : S} {ts : List X} {k : ℕ} → over v ≡ false → Leads g over t (Nonterminal n ∷ []) v ts (Exceeds k) → IsOverAt g over n v ts k
     over_at z l = record {
       passes = reached_excess g t table over (picks_rule g.rules t) l;
@@ -93,7 +93,7 @@ not_over g over n {k' = k'} o h within =
     let low : k' ≤ length x.2 = h.longest x.2 (x.0, x.1, x.5) in
     not_both (over x.1) x.4 (within x.0 x.1 x.2 x.5 low)
 
--- What is derived from where computed steps lead is derived from where they begin.
+-- What is derived from the end of computed steps is derived from their start.
 pub computed : {W B X S : Type 0} (g : Grammar W B X S) (t : Tables) (k : ℕ) {s : List (Symbol W B)} {v : S} {ts : List X} {c : Config W B X S} {s' : List (Symbol W B)} {v' : S} {left : List X}
     → advance g t k s v ts ≡ Some c → Derives g c.symbols c.state c.tokens s' v' left → Derives g s v ts s' v' left
 computed g t k {s} {v} {ts} {c} {s'} {v'} {left} e =

@@ -2,7 +2,7 @@
 use Rattle.std.proofs.Common.{◌≡◌, ◌≤◌, List, [], ◌∷◌, ◌++◌, length, refl, ap, arith}
 use Rattle.kp_grammar.specs.Grammar.{Symbol, Grammar, Derives, stay, expand, read, build}
 
--- A derivation never gives tokens back.
+-- A derivation never returns tokens.
 pub shorter : {W B X S : Type 0} {g : Grammar W B X S} {s : List (Symbol W B)} {v : S} {ts : List X} {s' : List (Symbol W B)} {v' : S} {left : List X} → Derives g s v ts s' v' left → length left ≤ length ts
 shorter stay = omega arith
 shorter (expand b m d) = shorter d
@@ -10,7 +10,7 @@ shorter (read {ts = ts} e d) = let h = shorter d in omega arith
 shorter (build d) = shorter d
 
 module _ {W B X S : Type 0} (g : Grammar W B X S) where
-  -- What it reads stands before what is left, and it reads the same in front of anything else.
+  -- The tokens that it reads precede the remaining ones, and it reads the same before any other tokens.
   pub front_alone : {s : List (Symbol W B)} {v : S} {ts : List X} {s' : List (Symbol W B)} {v' : S} {left : List X} → Derives g s v ts s' v' left
       → (front : List X) × (ts ≡ front ++ left) × ((other : List X) → Derives g s v (front ++ other) s' v' other)
   front_alone stay = ([], refl, λ other. stay)

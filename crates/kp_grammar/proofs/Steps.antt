@@ -7,7 +7,7 @@ use Rattle.kp_grammar.specs.Machine.{look, Config, goes_on, advance}
 use Rattle.kp_grammar.proofs.Check.{picks_rule}
 
 module _ {W B X S : Type 0} (g : Grammar W B X S) (t : Tables) (s'' : List (Symbol W B)) (v'' : S) (ts'' : List X) where
-  -- what is derived from where the steps lead is derived from where they begin
+  -- what is derived from the end of the steps is derived from their start
   abbrev pub Advanced : List (Symbol W B) → S → List X → Option (Config W B X S) → Type 0
   Advanced s v ts None = Unit {0}
   Advanced s v ts (Some c) = Derives g c.symbols c.state c.tokens s'' v'' ts'' → Derives g s v ts s'' v'' ts''
@@ -55,6 +55,6 @@ module _ {W B X S : Type 0} (g : Grammar W B X S) (t : Tables) (P : S → Type 0
   completes s v ts None h r = absurd r
   completes s v ts (Some c) h r = record { built = r.built; holds = r.holds; derives = h r.built r.derives }
 
-  -- k steps by computation, in front of a text that is proved to go on so
+  -- k steps by computation, before a text that is proved to continue in this way
   pub went : (k : ℕ) {s : List (Symbol W B)} {v : S} {ts : List X} → CompletesFrom (advance g t k s v ts) → Completes s v ts
   went k {s} {v} {ts} r = completes s v ts (advance g t k s v ts) (λ w. advanced g t [] w [] k s v ts) r

@@ -1,11 +1,11 @@
--- The machine that goes on as the next token says. The laws of this crate tie it to derivations; a reader's private contracts speak of
--- it, its public ones don't.
+-- The machine whose steps are determined by the next token. The laws of this crate relate it to derivations; it
+-- occurs in a reader's private contracts, but not in its public ones.
 use Rattle.std.specs.Prelude.{ℕ, zero, suc, ◌≡◌, ◌==◌, List, [], ◌∷◌, ◌++◌, length, Bool, true, false, cond, Option, Some, None}
 use Rattle.kp_grammar.specs.Grammar.{Symbol, Terminal, Nonterminal, Action, Grammar}
 use Rattle.kp_grammar.specs.Tables.{Tables, END_OF_TEXT, pick}
 
--- what the machine ends with: the text is accepted, it is wrong at the first of the last k tokens, or that
--- token passes the limit
+-- the outcome of the machine: the text is accepted, it is wrong at the first of the last k tokens, or that token
+-- exceeds the limit
 pub data Outcome (S : Type 0) : Type 0 where
   Accepts : S → Outcome S
   Stops : ℕ → Outcome S
@@ -33,7 +33,7 @@ pub data Leads {W B X S : Type 0} (g : Grammar W B X S) (over : S → Bool) (t :
   exceed : {c : ℕ} {way : W} {s : List (Symbol W B)} {v : S} {x : X} {xs : List X}
       → g.class x ≡ c → over (g.reads way x v) ≡ true → Leads g over t (Terminal c way ∷ s) v (x ∷ xs) (Exceeds (length (x ∷ xs)))
 
--- where the machine stands: symbols to be read, what has been built, tokens that are left
+-- a configuration of the machine: symbols to be read, what has been built, the remaining tokens
 pub record Config (W B X S : Type 0) : Type 0 where
   pub symbols : List (Symbol W B)
   pub state : S
@@ -43,7 +43,7 @@ abbrev pub goes_on : {W B X S : Type 0} → Option (List (Symbol W B)) → (List
 goes_on None go = None
 goes_on (Some b) go = go b
 
--- k steps of the machine, by computation, with no look at the limit
+-- k steps of the machine, by computation, without checking the limit
 abbrev pub advance : {W B X S : Type 0} → Grammar W B X S → Tables → ℕ → List (Symbol W B) → S → List X → Option (Config W B X S)
 advance g t zero s v ts = Some (record { symbols = s; state = v; tokens = ts })
 advance g t (suc k) [] v ts = None

@@ -1,5 +1,5 @@
--- Ranks of names, and a test that computes: before a token is read, a name leads to names of lower rank alone. So no name leads back
--- to itself, and the machine ends.
+-- Ranks of names, and a test that computes: before a token is read, a name leads only to names of lower rank. So no
+-- name leads back to itself, and the machine terminates.
 use Rattle.std.specs.Prelude.{ℕ, List, [], ◌∷◌, Bool, true, not, ◌||◌, ◌&&◌, ◌==◌, nat_lt}
 use Rattle.kp_grammar.specs.Grammar.{Symbol, Terminal, Nonterminal, Action, Rules}
 use Rattle.kp_grammar.specs.Tables.{Tables, empty_of, END_OF_TEXT}
@@ -7,14 +7,14 @@ use Rattle.kp_grammar.specs.Tables.{Tables, empty_of, END_OF_TEXT}
 abbrev pub Ranks : Type 0
 Ranks = ℕ → ℕ
 
--- the names at the front of a body, up to one that reads a token, have ranks below r
+-- the names at the front of a body, up to the first that reads a token, have ranks below r
 abbrev pub front_below : {W B : Type 0} → Tables → Ranks → ℕ → List (Symbol W B) → Bool
 front_below t rank r [] = true
 front_below t rank r (Terminal c way ∷ s) = true
 front_below t rank r (Action a ∷ s) = front_below t rank r s
 front_below t rank r (Nonterminal n ∷ s) = nat_lt (rank n) r && (not (empty_of t n) || front_below t rank r s)
 
--- no terminal stands for the end of the text
+-- no terminal is the end of the text
 abbrev pub is_within_text : {W B : Type 0} → List (Symbol W B) → Bool
 is_within_text [] = true
 is_within_text (Terminal c way ∷ s) = not (c == END_OF_TEXT) && is_within_text s

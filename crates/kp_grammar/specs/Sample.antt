@@ -1,4 +1,4 @@
--- A small grammar, as an example: sums of numbers with brackets, of which two may be open.
+-- A small example grammar: sums of numbers with brackets, of which at most two may be open.
 --
 -- sum  = term { '+' term }
 -- term = NUMBER | '(' sum ')'
@@ -74,7 +74,7 @@ tables =
     ∷ (record { name = TERM; first = 1 ∷ 3 ∷ []; empty = false; after = 0 ∷ 2 ∷ 4 ∷ [] })
     ∷ []
 
--- a sum begins with a term, and is above it
+-- a sum starts with a term, and has a higher rank
 abbrev pub ranks : Ranks
 ranks n = cond (n == SUM) 1 0
 
@@ -87,8 +87,8 @@ start = record { depth = 0; over = false; sums = [] }
 abbrev pub is_over : State → Bool
 is_over v = v.over
 
--- three rules that the test refuses, each by tables that cover it: two alternatives begin alike; two
--- vanish; what may follow the name begins an alternative beside one that vanishes
+-- three rules that the test rejects, each with tables that cover it: two alternatives start alike; two are nullable;
+-- a token that may follow the name starts an alternative next to a nullable one
 abbrev pub alike : Rules Way Step
 alike = (SUM, (Terminal 1 plainly ∷ []) ∷ (Terminal 1 plainly ∷ Terminal 3 plainly ∷ []) ∷ []) ∷ []
 
@@ -101,6 +101,6 @@ followed = (MORE, (Terminal 2 plainly ∷ []) ∷ [] ∷ []) ∷ []
 abbrev pub followed_tables : Tables
 followed_tables = (record { name = MORE; first = 2 ∷ []; empty = true; after = 2 ∷ [] }) ∷ []
 
--- a rule that no ranks fit: before a token is read, its name leads back to itself
+-- a rule for which there are no ranks: before a token is read, its name leads back to itself
 abbrev pub round : Rules Way Step
 round = (SUM, (Nonterminal SUM ∷ Terminal 2 plainly ∷ []) ∷ (Terminal 1 plainly ∷ []) ∷ []) ∷ []

@@ -1,4 +1,4 @@
--- Declarations that break no rule: their numbers fit, and a register or file is found under its name.
+-- Declarations that violate no rule: their numbers fit, and a register or file is found under its name.
 use Rattle.std.proofs.Common.{◌≡◌, ◌∙◌, ℕ, zero, suc, ◌+◌, ◌^◌, ◌<◌, ◌≤◌, List, [], ◌∷◌, ◌++◌, map, Option, Some, None, Bool, true, false, cond, refl, ap, sym, subst, arith}
 use Rattle.std.specs.Prelude.{◌&&◌, not, nat_eq, is_some}
 use Rattle.std.specs.List.{All}
@@ -81,7 +81,7 @@ right ds i k s (decls.Sample n width stage) e =
 right ds i k s (decls.Target r) e = tt
 right ds i k s (decls.Func f) e = tt
 
--- a declaration brings its name into scope, behind those of the text
+-- a declaration brings its name into scope, after those of the text
 parameters_text : (i : ℕ) (s : Scoped) (ps : List Param) → (parameters_of i s ps).value.text ≡ s.text
 parameters_text i s [] = refl
 parameters_text i s (p ∷ ps) = parameters_text i (declared_local s p.name.name (sense kinds.Param p.width.value i)) ps

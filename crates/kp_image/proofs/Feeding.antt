@@ -1,4 +1,4 @@
--- What is kept for each sample gives the rows of the inputs section.
+-- The input vectors of the inputs section are computed from what is stored for each sample.
 use Rattle.std.proofs.Common.{◌≡◌, ◌∙◌, ℕ, zero, suc, List, [], ◌∷◌, Some, Bool, true, false, refl, ap, sym}
 use Rattle.std.proofs.Math.Path.{fun_ext}
 use Rattle.std.specs.Prelude.{◌&&◌, if◌then◌else◌, slice_get}
@@ -39,7 +39,7 @@ pub rows_of_feeds : (job : Job) → row_in (feeds_of (inputs_of job) job.decls) 
 unfolding input
 rows_of_feeds job = fun_ext (row_same (inputs_of job) job.decls)
 
--- what stands at a place of a row
+-- the value at an index of an input vector
 pub row_at : (feeds : List Fed) (cycle i : ℕ) (f : Fed) → slice_get feeds i ≡ Some f → slice_get (row_in feeds cycle) i ≡ Some (word_fed f cycle)
 row_at [] cycle i f e = cc
 row_at (x ∷ feeds) cycle zero f e = let same : x ≡ f = cc in ap (λ (y : Fed). Some (word_fed y cycle)) same

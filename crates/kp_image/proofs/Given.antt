@@ -1,4 +1,4 @@
--- Sections that break no rule: each entry ends within its target's words, and each value fits its target.
+-- Sections that violate no rule: each entry ends within its target's words, and each value fits its target.
 use Rattle.std.proofs.Common.{◌≡◌, ◌∙◌, ℕ, zero, suc, ◌+◌, ◌-◌, ◌^◌, ◌<◌, ◌≤◌, List, [], ◌∷◌, length, Option, Some, None, Bool, true, false, refl, ap, sym, subst, arith}
 use Rattle.std.specs.Prelude.{◌&&◌, not, ◌==◌, nat_le, unwrap_or, if◌then◌else◌, option_map, slice_get}
 use Rattle.std.specs.List.{All}
@@ -58,7 +58,7 @@ address_right : (words : ℕ) (o : Option Num) → Unbroken (address_of words o)
 address_right words None e = omega arith
 address_right words (Some n) e = omega (arith, ltb-true n.value words (answer_unbroken _ _ _ e).0)
 
--- an entry that breaks no rule has a target, and suits it
+-- an entry that violates no rule has a target, and suits it
 record IsGiven (ds : List Decl) (e : Image) : Type 0 where
   pub target : Storage
   pub found : storage_of ds e.name.name ≡ Some target
@@ -202,7 +202,7 @@ job_given job e =
     entries_right job.decls (image_of job)
     (bind_unbroken (entries_of job.decls (image_of job)) (λ x. stalls_checked job.stages.value (stalls_of job) >>= (λ y. inputs_checked job.decls (inputs_of job))) e).0
 
--- and where its sections are right too, its start state fits, and the stalls are right
+-- and if its sections are valid too, its start state fits, and the stalls are valid
 pub start_fits : (job : Job) → first (widths_of job).asked ≡ None → first (sections_of job).asked ≡ None → All (StartFits (image_of job)) job.decls
 start_fits job widths sections = start_fits_all job.decls (image_of job) (job_given job sections) job.decls (job_settled job widths)
 
@@ -232,7 +232,7 @@ step_right (Some n) e = not_zero n.value (answer_unbroken (not (n.value == 0)) _
     not_zero zero e = cc
     not_zero (suc n) e = omega arith
 
--- an inputs entry that breaks no rule has a sample, whose width its value fits
+-- an inputs entry that violates no rule has a sample, whose width its value fits
 record IsInput (ds : List Decl) (e : Inputs) : Type 0 where
   pub target : Storage
   pub found : storage_of ds e.name.name ≡ Some target

@@ -18,7 +18,7 @@ value l = l.literal.value
 abbrev chosen : Bool → List Lit → ℕ → ℕ → ℕ
 chosen b ls k v = unwrap_or (if b then option_map value (slice_get ls k) else None) v
 
--- a value is given to the first of the words, and the others are given to those behind it
+-- a value is written to the first of the words, and the others to those after it
 laid_below : (l : Lit) (rest : List Lit) (f x v : ℕ) → x < f → laid_from (l ∷ rest) f x v ≡ laid_from rest (f + 1) x v
 laid_below l rest f x v h =
     let here : nat_le f x ≡ false = lt-leb f x h in

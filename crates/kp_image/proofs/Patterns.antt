@@ -1,4 +1,4 @@
--- What the code keeps and answers is what the definitions say.
+-- What the code stores and returns is what the definitions specify.
 use Rattle.std.proofs.Common.{◌≡◌, ◌∙◌, ℕ, List, [], ◌∷◌, Bool, map, Some, None, Result, Ok, Err, MatchResult, refl, ap}
 use Rattle.std.specs.Prelude.{◌||◌}
 use Rattle.kp_base.specs.First.{first}
@@ -26,6 +26,6 @@ outcome None (Err r) e = cc
 outcome (Some s) (Ok x) e = cc
 outcome (Some s) (Err r) e = cc
 
--- an outcome by steps names the first answer
+-- an outcome step by step names the first violated rule
 pub outcome_of_steps : (c : Checked) (result : Result (Unit {0}) Refusal) → result ≡ c.found → MatchResult result (λ x. first c.asked ≡ None) (λ r. first c.asked ≡ Some r)
 outcome_of_steps c result e = outcome (first c.asked) result (e ∙ c.same)

@@ -1,26 +1,26 @@
--- The input pattern as it is kept: for each sample its width, and each entry of the inputs section for it as a value with its
--- cycles.
+-- The input pattern as it is stored: for each sample its width, and each entry of the inputs section for it as a
+-- value with its cycles.
 use Rattle.std.specs.Prelude.{ℕ, ◌^◌, ◌<◌, ◌≤◌, List, [], ◌∷◌, if◌then◌else◌, map}
 use Rattle.std.specs.List.{All}
 use Rattle.kp_bits.specs.Word.{Word, word}
 use Rattle.kp_image.specs.declared.inputs.Given.{Given}
 use Rattle.kp_image.specs.Cycles.{is_in}
 
--- the value after these, from the one before: the last that gives one counts
+-- the value after these entries, given the one before: the last entry for the cycle counts
 abbrev pub given_over : List Given → ℕ → ℕ → ℕ
 given_over [] cycle v = v
 given_over (g ∷ gs) cycle v = given_over gs cycle (if is_in g.cycles cycle then g.value else v)
 
--- what comes from outside for a sample: words of a width
+-- the external values of a sample: words of one width
 pub record Fed : Type 0 where
   pub width : ℕ
   pub givens : List Given
 
--- the word of a cycle
+-- the value in a cycle
 abbrev pub word_fed : Fed → ℕ → Word
 word_fed f cycle = word f.width (given_over f.givens cycle 0)
 
--- the row of a cycle
+-- the input vector of a cycle
 abbrev pub row_in : List Fed → ℕ → List Word
 row_in feeds cycle = map (λ f. word_fed f cycle) feeds
 

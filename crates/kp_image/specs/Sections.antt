@@ -1,5 +1,5 @@
--- The rules of the image, the stalls and the inputs section, in text order: E30 to E32, E36 and E37, and E8, E10 and E13 of the
--- literals that an image or an inputs entry gives.
+-- The rules of the image, the stalls and the inputs section, in text order: E30 to E32, E36 and E37, and E8, E10 and
+-- E13 for the literals of image and inputs entries.
 use Rattle.std.specs.Prelude.{ℕ, ◌+◌, ◌^◌, List, [], ◌∷◌, Option, Some, None, Bool, true, false, not, ◌&&◌, if◌then◌else◌, ◌==◌, nat_lt, map}
 use Rattle.kp_base.specs.First.{first}
 use Rattle.kp_base.specs.Check.{Check, ok, ◌>>=◌, wants}
@@ -17,7 +17,7 @@ use Rattle.kp_width.specs.Names.{Checked, passed}
 use Rattle.kp_width.specs.Declarations.{start_of}
 use Rattle.kp_stage.specs.Start.{first_address, image_of, stalls_of, inputs_of}
 
--- what an entry gives values to: so many words of so many bits, which have addresses or don't, or a sample
+-- the destination of an entry's values: this many words of this many bits, with or without addresses, or a sample
 pub record Storage : Type 0 where
   pub width : ℕ
   pub words : ℕ
@@ -37,11 +37,11 @@ storage_named name (decls.File n width address) = if is_same_name n.name name th
 storage_named name (decls.Sample n width stage) = if is_same_name n.name name then storage_in (decls.Sample n width stage) else None
 storage_named name _ = None
 
--- the register, file or sample of this name
+-- the register, file or sample with this name
 abbrev pub storage_of : List Decl → List ℕ → Option Storage
 storage_of ds name = first (map (storage_named name) ds)
 
--- an address stands where there are addresses, and only there
+-- an address is present exactly if there are addresses
 abbrev pub suits : Bool → Option Num → Bool
 suits addressed None = not addressed
 suits addressed (Some n) = addressed
@@ -56,8 +56,8 @@ abbrev pub address_of : ℕ → Option Num → Checked
 address_of words None = passed
 address_of words (Some n) = wants (nat_lt n.value words) (e_rule 31 n.at) passed
 
--- The literals for the words from an address on. E31: there is such a word. Then the literal is checked as a start value is, by
--- E8, E13 and E10.
+-- The literals for the words from an address on. E31: the word exists. Then the literal is checked in the same way as
+-- a start value, by E8, E13 and E10.
 abbrev pub values_of : (width words address : ℕ) → List Lit → Checked
 values_of width words address [] = passed
 values_of width words address (l ∷ ls) =
@@ -79,7 +79,7 @@ abbrev pub step_of : ℕ → Option Num → Checked
 step_of rule None = passed
 step_of rule (Some n) = wants (not (n.value == 0)) (e_rule rule n.at) passed
 
--- E32: a stage is one of the machine, which has so many
+-- E32: a stage is one of the machine's stages, whose number is given
 abbrev pub stall_of : ℕ → Stalls → Checked
 stall_of stages e = wants (nat_lt e.stage.value stages) (e_rule 32 e.stage.at) (step_of 32 e.step)
 
@@ -92,7 +92,7 @@ abbrev pub sample_of : Inputs → Option Storage → Check Storage
 sample_of e None = wants false (e_rule 36 e.name.at) (ok (record { width = 0; words = 0; addressed = false; sampled = true }))
 sample_of e (Some s) = wants s.sampled (e_rule 36 e.name.at) (ok s)
 
--- an inputs entry: its name, its literal, which is checked as a start value is, by E8, E13 and E10, and its step
+-- an inputs entry: its name, its literal, which is checked in the same way as a start value, by E8, E13 and E10, and its step
 unfoldable pub input_of : List Decl → Inputs → Checked
 input_of ds e = sample_of e (storage_of ds e.name.name) >>= (λ s. start_of e.value s.width >>= (λ x. step_of 37 e.step))
 

@@ -1,4 +1,4 @@
--- The stall pattern as it is kept: each entry of the stalls section as a stage and its cycles.
+-- The stall pattern as it is stored: each entry of the stalls section as a stage and its cycles.
 use Rattle.std.specs.Prelude.{ℕ, ◌<◌, List, Bool, ◌&&◌, ◌==◌}
 use Rattle.std.specs.List.{list_any}
 use Rattle.kp_stage.specs.Start.{bits_below}
@@ -17,7 +17,7 @@ pub record Pattern : Type 0 where
   pub stages : ℕ
   pub spans : List Span
 
--- the stall word of a cycle: bit k is 1 where some entry stalls stage k
+-- the stall word of a cycle: bit k is 1 if some entry stalls stage k
 abbrev pub word_in : Pattern → ℕ → ℕ
 word_in p cycle = bits_below p.stages (λ k. some_stalls p.spans k cycle)
 

@@ -12,7 +12,7 @@ use kp_base::Refusal;
 use kp_bits::LiteralFault;
 use std::marker::Model;
 
-// What an entry gives values to.
+// The destination of an entry's values.
 #[derive(Clone, Copy, Debug)]
 struct Storage {
     width: u64,
@@ -31,7 +31,7 @@ impl Model for Storage {
     ghost inverse = { λ s. record { width = s.width; words = s.words; addressed = s.addressed; sampled = s.sampled } };
 }
 
-/// The first of the rules E30 to E32, E36, E37, E8, E10 and E13 that a section breaks, in text order.
+/// The first of the rules E30 to E32, E36, E37, E8, E10 and E13 that a section violates, in text order.
 #[tactic(auto, using(crate::proofs::Patterns::outcome_of_steps))]
 pub(crate) fn check(job: &Job) -> Result<(), Refusal>
     requires { All HasFewWords job.now.decls }
@@ -80,7 +80,7 @@ pub(crate) fn inputs(job: &Job) -> &[Inputs]
     }
 }
 
-// The address from which on an entry gives values.
+// The first address that an entry writes.
 pub(crate) fn first_address(e: &Image) -> u64
     ensures { result ≡ first_address e.now }
 {
@@ -109,7 +109,7 @@ fn check_entry(decls: &[Decl], e: &Image) -> Result<(), Refusal>
     check_given(e, storage)
 }
 
-// The register, file or sample of this name.
+// The register, file or sample with this name.
 fn find_storage(decls: &[Decl], name: &Name) -> Option<Storage>
     requires { All HasFewWords decls.now }
     ensures { result ≡ storage_of decls.now name.now }
@@ -181,7 +181,7 @@ fn check_address(words: u64, address: Option<Num>) -> Result<(), Refusal>
     }
 }
 
-// The literals for the words from one on, of so many words of this width.
+// Checks the literals for the words from one on, where there are this many words of this width.
 fn check_values(width: u64, words: u64, first: u64, values: &[Lit]) -> Result<(), Refusal>
     ensures { result ≡ (values_of width words first values.now).found }
 {
@@ -196,7 +196,7 @@ fn check_values(width: u64, words: u64, first: u64, values: &[Lit]) -> Result<()
     Ok(())
 }
 
-// A literal has to be one, and as wide as what it is given to.
+// Checks that a literal is valid, and has the width of its destination.
 fn check_literal(lit: &Lit, width: u64) -> Result<(), Refusal>
     ensures { result ≡ (start_of lit.now width).found }
 {
@@ -226,7 +226,7 @@ fn check_stall(stages: u64, e: &Stalls) -> Result<(), Refusal>
     check_step(32, e.step)
 }
 
-// A step, by the rule of this number.
+// Checks a step, by the rule of this number.
 fn check_step(rule: u8, step: Option<Num>) -> Result<(), Refusal>
     ensures { result ≡ (step_of rule step).found }
 {

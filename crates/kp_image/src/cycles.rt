@@ -1,10 +1,11 @@
+// Ranges of cycles.
 ghost use Rattle.std.specs.Prelude.{◌≡◌, ◌<◌};
 ghost use Rattle.kp_image.specs.Cycles.{is_in};
 ghost use Rattle.kp_image.specs.inner.Kept.{cycles_of};
 
 use kp_ast::Num;
 
-// Cycles from one to another, by steps.
+// The cycles from one to another, in steps.
 #[derive(Clone, Copy, Debug)]
 pub(crate) struct Cycles {
     first: u64,
@@ -13,7 +14,7 @@ pub(crate) struct Cycles {
 }
 
 impl Cycles {
-    /// The cycles of an entry, by steps of 1 where it names none.
+    /// The cycles of an entry, in steps of 1 if it specifies none.
     pub fn of(first: Num, last: Num, step: Option<Num>) -> Cycles
         ensures { result ≡ cycles_of first last step }
     {
@@ -27,7 +28,7 @@ impl Cycles {
         }
     }
 
-    /// Whether a cycle is one of them.
+    /// Whether a cycle is one of these.
     pub fn contains(self, cycle: u64) -> bool
         requires { 0 < self.step }
         ensures { result ≡ is_in self cycle }

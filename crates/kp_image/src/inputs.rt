@@ -1,3 +1,4 @@
+// The input pattern: the external values of the samples.
 ghost use Rattle.std.specs.Prelude.{◌≡◌, ◌≤◌, ◌<◌, ◌^◌, IfOk, Some, length, slice_get};
 ghost use Rattle.std.specs.List.{All};
 ghost use Rattle.kp_bits.specs.Word.{IsWord, word};
@@ -11,14 +12,14 @@ use kp_bits::Bits;
 use std::alloc::Global;
 use std::marker::Model;
 
-// An entry: a value, and the cycles in which it is given.
+// An entry: a value, and the cycles in which the sample has it.
 #[derive(Clone, Copy, Debug)]
 pub(crate) struct Given {
     value: u64,
     cycles: Cycles,
 }
 
-// What comes from outside for a sample.
+// The external values of a sample.
 #[derive(Debug, Drop)]
 pub(crate) struct Feed {
     width: u8,
@@ -36,7 +37,7 @@ impl Model for Feed {
 }
 
 impl Feed {
-    // The word of a cycle.
+    // The value in a cycle.
     fn word(&self, cycle: u64) -> Bits
         ensures { result ≡ word_fed self.now cycle }
     {
@@ -45,7 +46,7 @@ impl Feed {
     }
 }
 
-// The value of the last entry that gives one in this cycle, or 0.
+// The value of the last entry for this cycle, or 0.
 fn given_value(width: u8, givens: &[Given], cycle: u64) -> u64
     requires { All (FitsFeed width) givens.now }
     ensures value { result ≡ given_over givens.now cycle 0 }
@@ -60,10 +61,17 @@ fn given_value(width: u8, givens: &[Given], cycle: u64) -> u64
     value
 }
 
-/// What comes from outside for each sample, for each cycle.
-#[derive(Debug, Drop)]
+/// The external values of each sample, for each cycle.
+#[derive(Debug)]
 pub struct InputPattern {
     feeds: Vec<Feed>,
+}
+
+impl Drop for InputPattern {
+    fn drop(self) {
+        let InputPattern { feeds } = self;
+        drop(feeds);
+    }
 }
 
 impl Model for InputPattern {
@@ -76,7 +84,7 @@ impl Model for InputPattern {
 }
 
 impl InputPattern {
-    /// The pattern of the entries of an inputs section that breaks no rule.
+    /// The pattern of the entries of an inputs section that violates no rule.
     pub(crate) fn of(
         alloc: Global,
         entries: &[Inputs],
@@ -94,7 +102,7 @@ impl InputPattern {
         Ok(InputPattern { feeds })
     }
 
-    /// The value of a sample in a cycle. The samples are numbered from 0 in the order of declaration. Takes no memory.
+    /// The value of a sample in a cycle. The samples are numbered from 0 in the order of declaration. Allocates nothing.
     #[tactic(auto, using(crate::proofs::Feeding::row_at))]
     pub fn value(&self, sample: u32, cycle: u64) -> Bits
         requires { sample < length self.now }
@@ -103,7 +111,7 @@ impl InputPattern {
         self.feeds[sample as usize].word(cycle)
     }
 
-    /// The values of all samples in a cycle, in the order of declaration.
+    /// The values of all samples in a cycle, in the order of declaration. Error: out of memory.
     pub fn row(&self, alloc: Global, cycle: u64) -> Result<Vec<Bits>, NoMemory>
         ensures { IfOk result (λ row. row.items ≡ row_in self.now cycle) }
     {

@@ -1,4 +1,4 @@
-//! What the definitions of the sections obey. Each function has an empty body: its clause is a law.
+//! Properties of the definitions of the sections. Each function has an empty body: its clause is a law.
 ghost use Rattle.std.specs.Prelude.{◌≡◌, None};
 ghost use Rattle.kp_base.specs.First.{first};
 ghost use Rattle.kp_ast.specs.declared.tree.Job.{Job};
@@ -6,7 +6,7 @@ ghost use Rattle.kp_width.specs.Widths.{widths_of};
 ghost use Rattle.kp_stage.specs.Start.{start_of, IsStartOf};
 ghost use Rattle.kp_image.specs.Sections.{sections_of};
 
-/// A job that breaks no rule of names, widths and sections has a state in which a machine can start.
+/// A job that violates no rule of names, widths and sections has a state in which a machine can start.
 #[tactic(auto, using(crate::proofs::Given::starts))]
 pub fn a_start_state_fits()
     ensures { (job : Job) → first (widths_of job).asked ≡ None → first (sections_of job).asked ≡ None → IsStartOf job (start_of job) }

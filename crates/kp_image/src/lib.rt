@@ -1,5 +1,5 @@
-//! The image, the stalls and the inputs of a job: their rules, the start state, and for each cycle the stall word and the values of
-//! the samples.
+//! The image, the stalls and the inputs of a job: their rules, the start state, and for each cycle the stall word and
+//! the values of the samples.
 #![tactic(auto)]
 
 mod check;

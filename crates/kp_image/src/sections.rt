@@ -1,3 +1,4 @@
+// The sections of a job.
 ghost use Rattle.std.specs.Prelude.{◌≡◌, ◌≤◌, ℕ, IfOk, None};
 ghost use Rattle.std.specs.List.{All};
 ghost use Rattle.kp_base.specs.First.{Answers, first};
@@ -17,7 +18,7 @@ use kp_base::{NoMemory, Refused};
 use kp_stage::{Design, Start};
 use std::alloc::Global;
 
-/// What the sections of a job say.
+/// The contents of a job's sections.
 #[derive(Debug, Drop)]
 pub struct Sections {
     pub start: Start,
@@ -25,8 +26,8 @@ pub struct Sections {
     pub inputs: InputPattern,
 }
 
-/// The start state of a design, its stall words and the values of its samples, or the first of the rules E30 to E32, E36, E37, E8,
-/// E10 and E13 that a section breaks, in text order.
+/// The start state of a design, its stall words and the values of its samples. Errors: the first of the rules E30 to
+/// E32, E36, E37, E8, E10 and E13 that a section violates, in text order; or out of memory.
 #[tactic(auto, using(crate::proofs::Given::few_words, crate::proofs::Given::start_fits, crate::proofs::Given::stalls_right, crate::proofs::Given::inputs_fit, crate::proofs::Given::starts, crate::proofs::Given::few_stages_of))]
 pub fn start(alloc: Global, d: &Design) -> Result<Sections, Refused>
     ensures rules { Answers result (first (sections_of d.now.job).asked) (λ s. (s.start ≡ start_of d.now.job) × (word_in s.stalls ≡ stall_word d.now.job) × (row_in s.inputs ≡ input d.now.job)) }
@@ -38,7 +39,7 @@ pub fn start(alloc: Global, d: &Design) -> Result<Sections, Refused>
     Ok(read_sections(alloc, job)?)
 }
 
-// The sections of a job that breaks no rule.
+// The sections of a job that violates no rule.
 #[tactic(auto, using(crate::proofs::Patterns::words_of_pattern, crate::proofs::Feeding::rows_of_feeds))]
 fn read_sections(alloc: Global, job: &Job) -> Result<Sections, NoMemory>
     requires few { job.now.stages.value ≤ 12 }

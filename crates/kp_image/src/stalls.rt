@@ -1,3 +1,4 @@
+// The stall pattern: the stages that are stalled externally.
 ghost use Rattle.std.specs.Prelude.{◌≡◌, ℕ, ◌+◌, ◌^◌, ◌≤◌, ◌<◌, IfOk, None, length, map, slice_index_or, false};
 ghost use Rattle.std.specs.List.{All};
 ghost use Rattle.kp_base.specs.First.{first};
@@ -29,13 +30,20 @@ impl Span {
     }
 }
 
-/// Which stages are stalled from outside, for each cycle.
+/// Which stages are stalled externally, for each cycle.
 ///
-/// Bit k of a stall word is 1 where stage k is stalled.
-#[derive(Debug, Drop)]
+/// Bit k of a stall word is 1 if stage k is stalled.
+#[derive(Debug)]
 pub struct StallPattern {
     stages: u8,
     spans: Vec<Span>,
+}
+
+impl Drop for StallPattern {
+    fn drop(self) {
+        let StallPattern { stages: _, spans } = self;
+        drop(spans);
+    }
 }
 
 impl Model for StallPattern {
@@ -51,7 +59,7 @@ impl Model for StallPattern {
 }
 
 impl StallPattern {
-    /// The pattern of the entries of a stalls section that breaks no rule.
+    /// The pattern of the entries of a stalls section that violates no rule.
     pub(crate) fn of(
         alloc: Global,
         stages: u64,
@@ -68,7 +76,7 @@ impl StallPattern {
         })
     }
 
-    /// The stall word of a cycle. Takes no memory.
+    /// The stall word of a cycle. Allocates nothing.
     pub fn word(&self, cycle: u64) -> u16
         ensures { result ≡ word_in self.now cycle }
     {
@@ -116,7 +124,7 @@ fn stalled_stages(spans: &[Span], cycle: u64) -> [bool; 12]
     stalled
 }
 
-// The word whose bit k is 1 where entry k is true.
+// The word whose bit k is 1 if entry k is true.
 fn word_of(stalled: &[bool]) -> u16
     requires { length stalled.now ≤ 12 }
     ensures { result ≡ bits_below (length stalled.now) (λ k. slice_index_or stalled.now k false) }

@@ -1,4 +1,4 @@
-// The state in which the machine of a job starts.
+// The start state of the machine of a job.
 ghost use Rattle.std.specs.Prelude.{◌≡◌, ◌+◌, ◌^◌, ◌≤◌, ◌<◌, ℕ, IfOk, length, slice_index, map, option_map};
 ghost use Rattle.std.specs.List.{All};
 ghost use Rattle.kp_bits.specs.Word.{IsWord, word};
@@ -13,7 +13,7 @@ use kp_bits::Bits;
 use kp_stage::Start;
 use std::alloc::Global;
 
-/// The start state of a job whose sections break no rule.
+/// The start state of a job whose sections violate no rule.
 #[tactic(auto, unfolding(kp_stage::specs::Start::start_of))]
 pub(crate) fn start_state(alloc: Global, job: &Job) -> Result<Start, NoMemory>
     requires { All (StartFits (image_of job.now)) job.now.decls }
@@ -51,7 +51,7 @@ fn bits(width: u64, value: u64) -> Bits
     Bits::new(width as u8, value).unwrap()
 }
 
-// The value that a register starts with: that of the last entry that gives it one.
+// The start value of a register: that of the last entry that writes it, else that of its declaration.
 fn register_value(entries: &[Image], name: &Name, start: u64) -> u64
     ensures { result ≡ laid_over entries.now name.now 0 start }
 {
@@ -64,7 +64,7 @@ fn register_value(entries: &[Image], name: &Name, start: u64) -> u64
     value
 }
 
-// The value that an entry gives to the word of a name at address 0.
+// The value that an entry writes to the word of a name at address 0.
 fn given_first(e: &Image, name: &Name) -> Option<u64>
     ensures { result ≡ given_by e.now name.now 0 }
 {
@@ -109,7 +109,7 @@ fn file_words(
     Ok(words)
 }
 
-// Gives values to the words from an address on.
+// Writes values to the words from an address on.
 fn lay(words: &mut [u64], address: u64, values: &[Lit])
     requires { address + length values.now ≤ length words.old }
     ensures { (x : ℕ) → slice_index words.new x ≡ laid_from values.now address x (slice_index words.old x) }

@@ -23,7 +23,7 @@ while_within : (test : ℕ → Bool) (xs : List ℕ) → length (take_while test
 while_within test [] = omega arith
 while_within test (x ∷ xs) = rw (take_while-cons test x xs) (while_step (test x) x (take_while test xs) xs (while_within test xs))
 
--- A place is no further than its bytes.
+-- The line and column of a position are at most one more than the number of bytes before it.
 pub line_within : (front : List ℕ) → line_after front ≤ length front + 1
 line_within front = let h = count_by-le-length (λ byte. byte == 10) front in omega arith
 
@@ -33,7 +33,7 @@ column_within front =
     let e : length (reverse front) ≡ length front = length-reverse front in
     omega arith
 
--- What is found from here is what is found from the beginning of the text.
+-- The outcome from here is the outcome from the start of the text.
 pub record Along (text : List ℕ) (tokens : List Token) (start : ℕ) (place : Place) (rest : List ℕ) : Type 0 where
   pub leads : (outcome : Result Lexed Refusal) → Lexes tokens (take start text) rest outcome → HasOutcome text outcome
   pub remains : rest ≡ drop start text
@@ -59,7 +59,7 @@ module _ (text : List ℕ) (tokens : List Token) (start : ℕ) (place : Place) (
   rest_is : (len : ℕ) → drop len rest ≡ drop (start + len) text
   rest_is len = ap (drop len) along.remains ∙ drop-drop len start text
 
-  -- Both numbers of the place have room for the bytes that are left.
+  -- Both numbers of the position don't overflow for the remaining bytes.
   pub line_room : length text ≤ 2 ^ 32 - 2 → place.line + length rest ≤ 2 ^ 32 - 1
   line_room h =
       let p : place.line ≡ line_after (take start text) = ap (λ (p : Place). p.line) along.placed in
@@ -84,7 +84,7 @@ module _ (text : List ℕ) (tokens : List Token) (start : ℕ) (place : Place) (
       within = (let w = along.within in omega arith);
     }
 
-    -- Layout and comments are behind us,
+    -- Layout and comments are skipped,
     pub skipped : front_of rest ≡ fronts.Gap len → Along text tokens (start + len) next after
     skipped e = step tokens (λ outcome h. skip len e h)
 
@@ -94,7 +94,7 @@ module _ (text : List ℕ) (tokens : List Token) (start : ℕ) (place : Place) (
     read kind e goes_on =
         step _ (λ outcome h. token kind len e goes_on (subst (λ (z : Token). Lexes (tokens ++ z ∷ []) (take start text ++ take len rest) (drop len rest) outcome) (token_is kind len) h))
 
-  -- The end of the text, the first `end`, and a broken rule are the outcome.
+  -- The end of the text, the first `end`, and a violated rule are the outcome.
   pub finished : front_of rest ≡ fronts.End → HasOutcome text (Ok (record { tokens = tokens; rest = start }))
   finished e = along.leads _ (subst (λ (n : ℕ). Lexes tokens (take start text) rest (Ok (record { tokens = tokens; rest = n }))) start_is (finish e))
 

@@ -1,4 +1,4 @@
--- What stands at the front is at least one byte, and no longer than the text.
+-- A token or gap at the front is at least one byte long, and no longer than the text.
 use Rattle.std.proofs.Common.{ℕ, suc, ◌+◌, ◌≤◌, ◌<◌, ◌≡◌, List, [], ◌∷◌, length, length-take-le, ◌==◌, nat_lt, Bool, true, false, not, cond, ◌||◌, Option, Some, None, Result, Ok, Err, refl, subst, arith}
 use Rattle.std.proofs.lemmas.Bool.{ltb-true}
 use Rattle.kp_base.specs.Characters.{is_digit, is_letter, is_word, run_length}
@@ -12,7 +12,7 @@ use Rattle.kp_lex.specs.declared.token.TokenKind.{TokenKind}
 use Rattle.kp_lex.specs.Words.{keyword_of, single_mark, double_mark}
 use Rattle.kp_lex.specs.Text.{is_layout, begins_comment, gap_length, is_in_run, run_of, keyword_or_name, identifier, literal_or_broken, number_or_literal, number_run, mark_or_broken, mark_or_shorter, mark, token_of, front_of}
 
--- the length of what stands at the front of a text of this length; a rule that is broken is E1 or E2
+-- the length of a token or gap at the front of a text of this length; a violated rule is E1 or E2
 abbrev pub Fits : ℕ → Front → Type 0
 Fits len fronts.End = len ≡ 0
 Fits len (fronts.Gap n) = (0 < n) × (n ≤ len)

@@ -7,7 +7,7 @@ use Rattle.std.proofs.lemmas.Bool.Decides.{Decides-eqb}
 use Rattle.kp_lex.specs.declared.token.Keyword.{Keyword}
 use Rattle.kp_lex.specs.Words.{spelling, all_keywords, keyword_of, keywords_of_length}
 
--- a list with one keyword more, which is left out only where it isn't found
+-- a list with one more keyword, which is omitted only if it isn't found
 found_past : (test : Keyword → Bool) (k : Keyword) (kept : List Keyword) (rest : Option Keyword) (a b : Bool) → test k ≡ a → (a ≡ true → b ≡ true)
     → find test kept ≡ rest → find test (cond b (k ∷ kept) kept) ≡ cond a (Some k) rest
 found_past test k kept rest true true e l h = ap (λ x. cond x (Some k) (find test kept)) e

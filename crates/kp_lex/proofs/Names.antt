@@ -27,7 +27,7 @@ run_passes : (test : ℕ → Bool) (text : List ℕ) → All (λ c. test c ≡ t
 run_passes test [] = All-nil (λ c. test c ≡ true)
 run_passes test (byte ∷ rest) = pass_step test byte rest (test byte) (run_length test rest) refl (run_passes test rest)
 
--- where it says that a name stands there, this holds
+-- if there is a name, this holds
 abbrev OfName : (ℕ → Type 0) → Front → Type 0
 OfName P f = (len : ℕ) → f ≡ fronts.Token kinds.Ident len → P len
 

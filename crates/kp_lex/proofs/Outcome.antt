@@ -52,7 +52,7 @@ one_outcome {before = before} (broken r e) (broken r' e') = let same : r ≡ r' 
 abbrev Some_outcome : List Token → List ℕ → List ℕ → Type 0
 Some_outcome tokens before text = (outcome : Result Lexed Refusal) × Lexes tokens before text outcome
 
--- there is one, where there is one for each shorter text
+-- there is an outcome, if there is one for each shorter text
 step : (tokens : List Token) (before text : List ℕ) → ((tokens : List Token) (before rest : List ℕ) → length rest < length text → Some_outcome tokens before rest) → Some_outcome tokens before text
 step tokens before text next = go (front_of text) refl (fits_front text)
   where

@@ -1,4 +1,4 @@
--- The tokens of a text stand in it.
+-- The tokens of a text occur in it.
 use Rattle.std.proofs.Common.{ℕ, ◌+◌, ◌≤◌, ◌≡◌, List, ◌++◌, length, drop, take, length-append, append_assoc, Result, Ok, Err, All, refl, sym, ap, ◌∙◌, arith}
 use Rattle.std.specs.Prelude.{⊤}
 use Rattle.std.proofs.Math.Seq.{take-append_seam, drop-append_seam}

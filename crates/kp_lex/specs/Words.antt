@@ -1,4 +1,4 @@
--- The keywords and the marks of the language.
+-- The keywords and the punctuators of the language.
 use Rattle.std.specs.Prelude.{ℕ, ◌==◌, ◌&&◌, List, [], ◌∷◌, length, Option, Some, None, if◌then◌else◌, codes, find, filter}
 use Rattle.std.specs.Str.{bytes_eq}
 use Rattle.kp_lex.specs.declared.token.Keyword.{Keyword}
@@ -6,7 +6,7 @@ use Rattle.kp_lex.specs.declared.token.Keyword.TheVariants as keywords
 use Rattle.kp_lex.specs.declared.token.Mark.{Mark}
 use Rattle.kp_lex.specs.declared.token.Mark.TheVariants as marks
 
--- how a keyword is written
+-- the text of a keyword
 abbrev pub spelling : Keyword → List ℕ
 spelling keywords.Machine = codes "machine"
 spelling keywords.Stages = codes "stages"
@@ -42,27 +42,27 @@ all_keywords =
     ∷ keywords.Read ∷ keywords.Let ∷ keywords.Put ∷ keywords.Set ∷ keywords.Aim ∷ keywords.Image ∷ keywords.Stalls ∷ keywords.End ∷ keywords.At ∷ keywords.When
     ∷ keywords.Guess ∷ keywords.From ∷ keywords.To ∷ keywords.Step ∷ keywords.Zext ∷ keywords.Sext ∷ keywords.Sample ∷ keywords.Inputs ∷ []
 
--- the keywords of so many letters
+-- the keywords with this many letters
 abbrev pub keywords_of_length : ℕ → List Keyword
 keywords_of_length n = filter (λ k. length (spelling k) == n) all_keywords
 
--- the keyword that is written so
+-- the keyword with this text
 abbrev pub keyword_of : List ℕ → Option Keyword
 keyword_of run = find (λ k. bytes_eq run (spelling k)) all_keywords
 
--- the mark that stands where the byte stands
+-- the punctuator at the index at which the byte occurs
 abbrev pub mark_beside : ℕ → List ℕ → List Mark → Option Mark
 mark_beside byte [] ms = None
 mark_beside byte (c ∷ cs) [] = None
 mark_beside byte (c ∷ cs) (m ∷ ms) = if byte == c then Some m else mark_beside byte cs ms
 
--- the marks of one byte
+-- the punctuators of one byte
 abbrev pub single_mark : ℕ → Option Mark
 single_mark byte = mark_beside byte (codes ";:,=()[]{}?~*+-&^|<")
     (marks.Semicolon ∷ marks.Colon ∷ marks.Comma ∷ marks.Equals ∷ marks.OpenParenthesis ∷ marks.CloseParenthesis ∷ marks.OpenBracket ∷ marks.CloseBracket
     ∷ marks.OpenBrace ∷ marks.CloseBrace ∷ marks.Question ∷ marks.Tilde ∷ marks.Star ∷ marks.Plus ∷ marks.Minus ∷ marks.Ampersand ∷ marks.Caret ∷ marks.Bar ∷ marks.Less ∷ [])
 
--- the marks of two bytes: `<<`, `>>`, `==` and `->`
+-- the punctuators of two bytes: `<<`, `>>`, `==` and `->`
 abbrev pub double_mark : ℕ → ℕ → Option Mark
 double_mark first second =
     if first == 60 && second == 60 then Some marks.ShiftLeft

@@ -1,4 +1,4 @@
-// What stands at the front of a text.
+// What a text starts with: a gap, a token, or a violation.
 ghost use Rattle.std.specs.Prelude.{◌≡◌, ◌≤◌, ◌<◌, ◌^◌, length, find, true, false};
 ghost use Rattle.std.specs.Str.{bytes_eq};
 ghost use Rattle.kp_base.specs.Characters.{run_length};
@@ -9,7 +9,7 @@ use crate::{Keyword, Mark, TokenKind};
 use kp_base::{is_letter, is_word, run_length, word_length};
 use kp_bits::{read_literal, read_number};
 
-/// What stands at the front of a text.
+/// What a text starts with.
 #[derive(Clone, Copy)]
 pub enum Front {
     /// The end of the text.
@@ -18,11 +18,11 @@ pub enum Front {
     Gap(usize),
     /// A token, of this length.
     Token(TokenKind, usize),
-    /// The E rule of this number is broken.
+    /// A violation of the E rule with this number.
     Broken(u8),
 }
 
-/// What stands at the front of the text.
+/// What the text starts with.
 pub fn read_front(text: &[u8]) -> Front
     ensures { result ≡ front_of text.now }
 {
@@ -76,14 +76,14 @@ fn begins_comment(text: &[u8]) -> bool
     matches!(text, [b'/', b'/', ..])
 }
 
-// What a run goes on with that begins with a digit.
+// A later byte of a run that starts with a digit.
 fn is_in_run(byte: u8) -> bool
     ensures { result ≡ is_in_run byte }
 {
     is_word(byte) || byte == b'\''
 }
 
-// How many letters, digits, `_` and `'` stand at the front.
+// The length of the longest prefix of letters, digits, `_` and `'`.
 fn number_length(text: &[u8]) -> usize
     ensures value { result ≡ run_length is_in_run text.now }
     ensures within { result ≤ length text.now }
@@ -104,7 +104,7 @@ fn identifier(run: &[u8]) -> Front
     }
 }
 
-// The keyword that an identifier is, if it is one.
+// The keyword with these bytes, if there is one.
 fn keyword(run: &[u8]) -> Option<Keyword>
     ensures { result ≡ keyword_of run.now }
 {
@@ -135,7 +135,7 @@ fn number_run(run: &[u8]) -> Front
     }
 }
 
-// The longest mark of this byte and those behind it.
+// The longest punctuator that this byte starts, followed by these bytes.
 fn mark(first: u8, after: &[u8]) -> Front
     ensures { result ≡ mark first after.now }
 {
@@ -150,7 +150,7 @@ fn mark(first: u8, after: &[u8]) -> Front
     }
 }
 
-// The mark of these two bytes.
+// The punctuator of these two bytes.
 fn double_mark(first: u8, second: u8) -> Option<Mark>
     ensures { result ≡ double_mark first second }
 {
@@ -163,7 +163,7 @@ fn double_mark(first: u8, second: u8) -> Option<Mark>
     }
 }
 
-// The mark of this byte.
+// The punctuator of this byte.
 fn single_mark(byte: u8) -> Option<Mark>
     ensures { result ≡ single_mark byte }
 {

@@ -1,4 +1,4 @@
-// The tokens of a text, and what stands behind them.
+// The lexer: the tokens of a text, and the position of further text after them.
 ghost use Rattle.std.specs.Prelude.{◌≡◌, ◌≤◌, ◌-◌, ◌^◌, length};
 ghost use Rattle.kp_lex.specs.Text.{AnswersOutcome, is_end, tail_of};
 
@@ -7,10 +7,10 @@ use crate::{Keyword, Lexed, Token, TokenKind};
 use kp_base::{List, Place, Refusal, Refused, place_of};
 use std::alloc::Global;
 
-/// The tokens of a text, up to and with the first `end`, or up to the end of the text.
+/// The tokens of a text, up to and including the first `end`, or up to the end of the text.
 ///
-/// Refuses E1 where no token begins or an identifier has more than 64 bytes, and E2 where a run that begins with a
-/// digit is neither a number of 64 bits nor a literal, each at its first byte.
+/// Errors: E1 if no token starts or an identifier has more than 64 bytes, and E2 if a run that starts with a digit is
+/// neither a number of 64 bits nor a literal, each at its first byte; or out of memory.
 pub fn lex(alloc: Global, text: &[u8]) -> Result<Lexed, Refused>
     requires { length text.now ≤ 2 ^ 32 - 2 }
     ensures { AnswersOutcome text.now result }
@@ -62,8 +62,8 @@ fn is_end(kind: TokenKind) -> bool
     matches!(kind, TokenKind::Keyword(Keyword::End))
 }
 
-/// The place of the first byte from the offset on that is neither layout nor in a comment. `None` where there is no
-/// such byte, also beyond the end of the text.
+/// The position of the first byte from the offset on that is neither layout nor in a comment. `None` if there is no
+/// such byte, including offsets beyond the end of the text.
 pub fn tail(text: &[u8], from: u32) -> Option<Place>
     requires { length text.now ≤ 2 ^ 32 - 2 }
     ensures { result ≡ tail_of text.now from }

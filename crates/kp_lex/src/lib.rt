@@ -1,4 +1,4 @@
-//! The tokens of a machine description, and what stands behind its end.
+//! The tokens of a machine description, and the position of further text after its end.
 #![tactic(auto)]
 
 mod front;

@@ -1,11 +1,11 @@
-// What a text is made of.
+// Tokens of a text.
 ghost use Rattle.std.specs.Prelude.{◌≡◌};
 ghost use Rattle.kp_lex.specs.Words.{all_keywords, keywords_of_length, spelling as spelling_of};
 
 use kp_base::{List, Place};
 use kp_bits::Literal;
 
-/// A word of the language, which is never a name.
+/// A keyword of the language, which is never a name.
 #[derive(Clone, Copy, Debug, PartialEq, Eq)]
 pub enum Keyword {
     Machine,
@@ -69,7 +69,7 @@ impl Keyword {
         Keyword::Inputs,
     ];
 
-    /// All keywords of so many letters.
+    /// All keywords with this many letters.
     pub(crate) fn of_length(length: usize) -> &'static [Keyword]
         ensures { result.now ≡ keywords_of_length length }
     {
@@ -107,7 +107,7 @@ impl Keyword {
         }
     }
 
-    /// How the word is written: in small letters.
+    /// The text of the keyword, in lower case.
     pub fn spelling(self) -> &'static [u8]
         ensures { result.now ≡ spelling_of self }
     {
@@ -143,7 +143,7 @@ impl Keyword {
     }
 }
 
-/// A mark of one or two bytes.
+/// A punctuator of one or two bytes.
 #[derive(Clone, Copy, Debug, PartialEq, Eq)]
 pub enum Mark {
     /// `;`
@@ -194,7 +194,7 @@ pub enum Mark {
     Arrow,
 }
 
-/// What a token is.
+/// The kind of a token.
 #[derive(Clone, Copy, Debug, PartialEq, Eq)]
 pub enum TokenKind {
     /// A name: an identifier of 1 to 64 bytes that isn't a keyword.
@@ -202,12 +202,12 @@ pub enum TokenKind {
     Keyword(Keyword),
     /// Decimal digits, with their value.
     Number(u64),
-    /// As `8'h0b`, whether or not the value fits the width.
+    /// A literal such as `8'h0b`, whether or not the value fits the width.
     Literal(Literal),
     Mark(Mark),
 }
 
-/// A token of a text: `len` bytes from the offset `start` on, which is at `place`.
+/// A token of a text: `len` bytes from the offset `start` on, at the position `place`.
 #[derive(Clone, Copy, Debug, PartialEq, Eq)]
 pub struct Token {
     pub start: u32,
@@ -216,7 +216,7 @@ pub struct Token {
     pub place: Place,
 }
 
-/// The tokens up to and with the first `end`, or up to the end of the text; `rest` is the offset behind them.
+/// The tokens up to and including the first `end`, or up to the end of the text; `rest` is the offset after them.
 #[derive(Debug, Drop)]
 pub struct Lexed {
     pub tokens: List<Token>,

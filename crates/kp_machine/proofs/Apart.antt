@@ -77,7 +77,7 @@ module _ (takes : NameKind → Bool) (either : (kind : NameKind) → takes kind 
       cond_both (takes (sense_of i d).kind) (slot_by i d ∷ slots (i + 1) rest) (slots (i + 1) rest) (λ ss. has_name ss q ≡ false)
       (λ _. ap (λ b. cond b true (has_name (slots (i + 1) rest) q)) y ∙ h) (λ _. h)
 
-  -- no declaration behind has a name of the text
+  -- no later declaration has a name of the text
   none_behind : (ds : List Decl) (i k : ℕ) (s : Scoped) (rest : List Decl) → Unbroken (declarations_of ds i k s rest)
       → (q : List ℕ) (m : Sense) → look_up s.text q ≡ Some m → has_name (slots i rest) q ≡ false
   none_behind ds i k s [] u q m e = refl

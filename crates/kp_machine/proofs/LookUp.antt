@@ -1,4 +1,4 @@
--- A name is looked up in a list of values behind another.
+-- Looking up a name in a concatenation of two lists of values.
 use Rattle.std.proofs.Common.{◌≡◌, ◌∙◌, ℕ, List, [], ◌∷◌, ◌++◌, Option, Some, None, Bool, true, false, cond, refl, ap, sym}
 use Rattle.std.specs.Cmp.Lexicographic.{bytes_decides}
 use Rattle.kp_bits.specs.Word.{Word}

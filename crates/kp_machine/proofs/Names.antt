@@ -1,4 +1,4 @@
--- Names and their numbers: a name that an entry has is told by its number.
+-- Names and their numbers: a name that an entry has is determined by its number.
 use Rattle.std.proofs.Common.{◌≡◌, ◌∙◌, ℕ, suc, ◌<◌, List, [], ◌∷◌, length, Bool, true, false, cond, refl, sym, arith}
 use Rattle.std.specs.Cmp.Lexicographic.{bytes_decides}
 use Rattle.kp_ast.specs.Expressions.{is_same_name}
@@ -21,7 +21,7 @@ here_or_later true false m n k both later h e = absurd (omega arith)
 here_or_later false true m n k both later h e = absurd (omega arith)
 here_or_later false false m n k both later h e = later (omega arith) (omega arith)
 
--- names of one number are one, where an entry has the name
+-- names with the same number are equal, if an entry has the name
 pub number_tells : (ss : List Slot) (a b : List ℕ) → IsIn ss a → number_of ss a ≡ number_of ss b → a ≡ b
 number_tells [] a b h e = absurd (omega arith)
 number_tells (s ∷ ss) a b h e =

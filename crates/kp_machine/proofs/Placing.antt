@@ -1,4 +1,4 @@
--- The results of a job that breaks no rule: the names of each are declared, and each is the one result of its target.
+-- The results of a job that violates no rule: the names of each are declared, and each is the only result of its target.
 use Rattle.std.proofs.Common.{◌≡◌, ℕ, ◌+◌, List, Option, Some, None, true, eqb, refl, subst, arith}
 use Rattle.kp_base.specs.Refusal.{e_rule}
 use Rattle.kp_ast.specs.declared.tree.Named.{Named}
@@ -56,7 +56,7 @@ module _ (job : Job) (names : Unbroken (widths_of job)) where
   unfolding result_for
   stands t r e = to_stands targets job.decls t r e
 
-  -- what stands among the declarations for a target is what is found
+  -- a result of a target among the declarations is the one that is found
   pub own : broken_of job ≡ None → (r : ResultDecl) → Stands job.decls r → result_for job (number_of targets r.target.name) ≡ Some r
   unfolding result_for
   own kept r s =

@@ -13,7 +13,7 @@ use Rattle.kp_machine.specs.Slots.{Slot, number_of, result_named, result_to}
 use Rattle.kp_machine.proofs.Cases.{by_test}
 use Rattle.kp_machine.proofs.Names.{IsIn, same_name, is_same, number_tells}
 
--- a result stands among the declarations
+-- a result is among the declarations
 pub record Stands (ds : List Decl) (r : ResultDecl) : Type 0 where
   pub index : ℕ
   pub there : slice_get ds index ≡ Some (decls.Target r)
@@ -25,7 +25,7 @@ some_of : {X G : Type 0} (b : Bool) (x y : X) (o : Option X) → (b ≡ true →
 some_of true x y o here later e = here refl cc
 some_of false x y o here later e = later refl e
 
--- The first result of a name stands among them, and the name's write stage is its own.
+-- The first result of a name is among them, and the name's write stage is its own.
 pub named_stands : (ds : List Decl) (name : List ℕ) (r : ResultDecl) → result_named ds name ≡ Some r → Stands ds r × (first (map (stage_at name) ds) ≡ Some r.stage.value)
 named_stands [] name r e = cc
 named_stands (decls.Target q ∷ ds) name r e =
@@ -94,7 +94,7 @@ written_by ds name w e =
     (r.0, (record { index = some.0; there = from.1.0 ∙ ap Some r.1.0 }, r.1.1))
 
 module _ (targets : List Slot) where
-  -- the first result of a number stands among them, and its target has the number
+  -- the first result of a number is among them, and its target has the number
   pub to_stands : (ds : List Decl) (t : ℕ) (r : ResultDecl) → result_to targets ds t ≡ Some r → Stands ds r × (number_of targets r.target.name ≡ t)
   to_stands [] t r e = cc
   to_stands (decls.Target q ∷ ds) t r e =

@@ -1,4 +1,4 @@
--- Where no rule of stages is broken, each question to a declaration or a statement has no answer.
+-- If no rule of stages is violated, each check of a declaration or a statement passes.
 use Rattle.std.proofs.Common.{◌≡◌, ℕ, zero, suc, ◌+◌, List, [], ◌∷◌, map, Some, None, refl, arith, subst}
 use Rattle.std.specs.Prelude.{slice_get}
 use Rattle.kp_base.specs.First.{first}
@@ -11,7 +11,7 @@ use Rattle.kp_stage.specs.Rules.{ask_head, ask_decl, ask_decls, ask_block, ask_s
 use Rattle.kp_stage.specs.Stages.{broken_of}
 use Rattle.kp_stage.proofs.Unbroken.{first_none}
 
--- no rule is broken where no answer is given
+-- no rule is violated if no check reports one
 pub rules_kept : (job : Job) → broken_of job ≡ None → broken_by (facts_of job) job ≡ None
 unfolding broken_of
 rules_kept job e = (first_none _ _ e).0

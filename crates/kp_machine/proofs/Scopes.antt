@@ -90,7 +90,7 @@ number_slot ss q x h e =
     let g : s.0 ≡ x = cc in
     ap (λ (z : Slot). z.width) (sym g) ∙ s.2
 
--- the sense that a declaration gives its name
+-- the meaning that a declaration gives to its name
 abbrev pub sense_of : ℕ → Decl → Sense
 sense_of i (decls.Reg n width start) = sense kinds.Reg width.value i
 sense_of i (decls.File n width address) = sense (kinds.File address.value) width.value i
@@ -128,7 +128,7 @@ stays ds i k s (d ∷ rest) q x e =
     stays ds (i + 1) (k + functions_in d) (declaration_of ds i k s d).value rest q x
     (ap (λ t. look_up t q) (text_after ds i k s d) ∙ look_on s.text (name_of d).name q (sense_of i d) x e)
 
--- what one declaration places, and what those behind it do
+-- the positions in one declaration, and those in the later ones
 placed_here : (i : ℕ) (d : Decl) (rest : List Decl) (q : List ℕ) → is_same_name q (name_of d).name ≡ true → Placed (d ∷ rest) q (sense_of i d)
 placed_here i (decls.Reg n width start) rest q y = record { pipe = λ e. cc; target = λ e. slot_here (slot n width 0) (targets_of rest) q y; hint = λ e j. cc; hinted = λ e. cc; result = λ e. cc; sample = λ e. cc }
 placed_here i (decls.File n width address) rest q y = record { pipe = λ e. cc; target = λ e. slot_here (slot n width address.value) (targets_of rest) q y; hint = λ e j. cc; hinted = λ e. cc; result = λ e. cc; sample = λ e. cc }
@@ -159,7 +159,7 @@ find_none s n e = parts (look_up s.local n) (look_up s.text n) e
     parts None b e = (refl, e)
     parts (Some m) b e = cc
 
--- the name of a declaration isn't among those of the text before it, and after it has the sense that the declaration gives
+-- the name of a declaration isn't among those of the text before it, and after it has the declared meaning
 pub new_name : (ds : List Decl) (i k : ℕ) (s : Scoped) (d : Decl) → Unbroken (declaration_of ds i k s d) → look_up s.text (name_of d).name ≡ None
 new_name ds i k s d u =
     (find_none s (name_of d).name (fresh_none (find s (name_of d).name)
@@ -260,7 +260,7 @@ result_stays text more on r h = record {
   enable = pipe_stays text more on 1 r.enable h.enable;
 }
 
--- each result that stands among the declarations from one on fits
+-- each result among the declarations from one on fits
 pub results_fit : (ds : List Decl) (i k : ℕ) (s : Scoped) (rest : List Decl) → s.local ≡ [] → Unbroken (declarations_of ds i k s rest)
     → (j : ℕ) (r : ResultDecl) → slice_get rest j ≡ Some (decls.Target r) → ResultFits (declarations_of ds i k s rest).value.text r
 results_fit ds i k s [] local u j r at = cc

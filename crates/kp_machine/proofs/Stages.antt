@@ -1,4 +1,4 @@
--- A job that breaks no rule of stages has a block for each stage.
+-- A job that violates no rule of stages has a block for each stage.
 use Rattle.std.proofs.Common.{◌≡◌, ◌∙◌, ℕ, ◌+◌, ◌<◌, ◌≤◌, List, [], ◌∷◌, Some, None, length, refl, ap, arith}
 use Rattle.std.specs.Option.{option_map}
 use Rattle.std.specs.Prelude.{◌&&◌, ◌==◌, nat_lt, nat_le, slice_get, unwrap_or}
@@ -13,7 +13,7 @@ use Rattle.kp_stage.specs.Stages.{broken_of}
 use Rattle.kp_stage.proofs.Unbroken.{first_none, answer_none}
 use Rattle.kp_machine.proofs.Rules.{rules_kept, head_kept}
 
--- the first rule asks the number of a block to be one of the stages
+-- the first rule requires the number of a block to be one of the stages
 block_inside : (job : Job) (rule : _) (is15 : slice_get all_rules 0 ≡ Some rule) (k : ℕ) (b : Block) → ask_block (facts_of job) rule k b ≡ None → k < job.stages.value
 block_inside job rule is15 k b e =
     ltb-true k job.stages.value (and_parts (b.number.value == k) (nat_lt k job.stages.value)

@@ -62,7 +62,7 @@ value_kind k kinds.Let e bound hint = bound refl
 value_kind k kinds.Hint e bound hint = hint refl
 value_kind k _ e bound hint = cc
 
--- the name of a read or a let is no name of another kind
+-- the name of a read or a let is not a name of another kind
 pub local_no : {G : Type 0} (takes : NameKind → Bool) → takes kinds.Read ≡ false → takes kinds.Let ≡ false → (kind : NameKind) → is_local kind ≡ true → takes kind ≡ true → G
 local_no takes read let_ kinds.Read e f = let g : false ≡ true = sym read ∙ f in cc
 local_no takes read let_ kinds.Let e f = let g : false ≡ true = sym let_ ∙ f in cc

@@ -26,7 +26,7 @@ Fine (_ ∷ ds) = Fine ds
 pub bounds : (w : ℕ) → is_width w ≡ true → (1 ≤ w) × (w ≤ 64)
 bounds w e = let p = and_parts (nat_le 1 w) (nat_le w 64) e in (leb-true 1 w p.0, leb-true w 64 p.1)
 
--- so it is where names and widths are right
+-- so it is if names and widths are valid
 pub all_fine : (ds : List Decl) (i k : ℕ) (s : Scoped) (rest : List Decl) → Unbroken (declarations_of ds i k s rest) → Fine rest
 all_fine ds i k s [] u = tt
 all_fine ds i k s (decls.Reg n width start ∷ rest) u =

@@ -10,14 +10,14 @@ use Rattle.kp_ast.specs.declared.tree.Job.{Job}
 use Rattle.kp_stage.specs.Facts.{At, Facts, facts_of, stmts_in}
 use Rattle.kp_stage.specs.Start.{start_of, is_stalled, stalls_of, input}
 use Rattle.kp_stage.specs.declared.start.Start.{Start}
-use Rattle.kp_law.specs.Machine.{Machine, Tree}
-use Rattle.kp_law.specs.Pipeline.{Inputs}
-use Rattle.kp_law.specs.Rows.{Trace, pipe, taken}
-use Rattle.kp_law.specs.Sequential.{seq}
+use Rattle.kp_pipeline.specs.Machine.{Machine, Tree}
+use Rattle.kp_pipeline.specs.Pipeline.{Inputs}
+use Rattle.kp_pipeline.specs.Rows.{Trace, pipe, taken}
+use Rattle.kp_pipeline.specs.Sequential.{seq}
 use Rattle.kp_machine.specs.Slots.{Slot, targets_of, pipes_of, hints_of, sample_stages, number_of, is_register, result_to}
 use Rattle.kp_machine.specs.Trees.{entered, tree_of}
 
--- What stage k does, over the values of the samples and of the pipes.
+-- What stage k does, given the values of the samples and of the pipes.
 unfoldable pub stage_tree : Job → ℕ → (ℕ → ℕ) → (ℕ → ℕ) → Tree
 stage_tree job k samples pipes = tree_of job.decls (entered job.decls samples pipes) (stmts_in (slice_get job.blocks k))
 
@@ -29,7 +29,7 @@ abbrev pub write_stage_of : Option ResultDecl → ℕ
 write_stage_of None = 0
 write_stage_of (Some r) = r.stage.value
 
--- The first stage after the put of a pipe, and 0 where there is none.
+-- The first stage after the put of a pipe, and 0 if it isn't put.
 abbrev pub after_put : Option At → ℕ
 after_put None = 0
 after_put (Some at) = suc at.stage
@@ -47,7 +47,7 @@ known_from_of facts (Some r) = max (known_after facts r.address) (known_after fa
 abbrev pub pipe_value : List Slot → (ℕ → ℕ) → Named → ℕ
 pipe_value pipes values pipe = values (number_of pipes pipe.name)
 
--- A result is enabled where its enable pipe is 1, and where it has none.
+-- A result is enabled if its enable pipe is 1, or if it has none.
 abbrev pub is_enabled_by : List Slot → (ℕ → ℕ) → Option Named → Bool
 is_enabled_by pipes values None = true
 is_enabled_by pipes values (Some pipe) = pipe_value pipes values pipe == 1
@@ -65,7 +65,7 @@ abbrev pub address_in : List Slot → (ℕ → ℕ) → Option ResultDecl → �
 address_in pipes values None = 0
 address_in pipes values (Some r) = address_by pipes values r.address
 
--- The stage that aims a hint, and 0 where none does.
+-- The stage that aims a hint, and 0 if none does.
 abbrev pub stage_or_zero : Option At → ℕ
 stage_or_zero None = 0
 stage_or_zero (Some at) = at.stage
@@ -74,7 +74,7 @@ abbrev pub aim_stage : Facts → Option Slot → ℕ
 aim_stage facts None = 0
 aim_stage facts (Some hint) = stage_or_zero (facts.aim hint.name)
 
--- The machine of a job. No stage looks at a sample that isn't declared.
+-- The machine of a job. No stage uses an undeclared sample.
 unfoldable pub machine_of : Job → Machine
 machine_of job = record {
   stages = job.stages.value;
@@ -89,14 +89,14 @@ machine_of job = record {
   last_guessed = (facts_of job).top;
 }
 
--- How many of the targets before the one of number t are registers, and how many are files.
+-- How many of the targets before number t are registers, and how many are files.
 abbrev pub registers_before : List Slot → ℕ → ℕ
 registers_before targets t = length (filter is_register (take t targets))
 
 abbrev pub files_before : List Slot → ℕ → ℕ
 files_before targets t = t - registers_before targets t
 
--- The words of a register, which is one, and those of a file.
+-- The words of a register, which has one, and those of a file.
 abbrev pub register_words : Option Word → List ℕ
 register_words None = []
 register_words (Some w) = w.value ∷ []
@@ -114,7 +114,7 @@ target_words targets state t (Some s) =
     then register_words (slice_get state.regs (registers_before targets t))
     else file_words (slice_get state.files (files_before targets t))
 
--- The value of the target of number t at an address in such a state. Where there is no such word it is 0.
+-- The value of target number t at an address in such a state, or 0 if there is no such word.
 unfoldable pub state_of : Job → Start → ℕ → ℕ → ℕ
 state_of job state t a =
     let targets = targets_of job.decls in
@@ -129,20 +129,20 @@ hint_starts (_ ∷ ds) = hint_starts ds
 abbrev pub start_hints : Job → ℕ → ℕ
 start_hints job h = slice_index (hint_starts job.decls) h
 
--- The values of the samples in a row of words, and 0 past its end.
+-- The values of the samples in a list of words, and 0 past its end.
 abbrev pub values_in : List Word → ℕ → ℕ
 values_in row x = slice_index (map (λ w. w.value) row) x
 
--- What comes from outside in a cycle: the stalls section gives the stall word, and the inputs section the values of the samples.
+-- The external inputs of a cycle: the stall word from the stalls section, and the sample values from the inputs section.
 abbrev pub inputs_at : Job → ℕ → Inputs
 inputs_at job cycle = record { ext = λ k. is_stalled (stalls_of job) k cycle; samples = values_in (input job cycle) }
 
--- The inputs of so many cycles from this one on.
+-- The inputs of n cycles from this one on.
 abbrev pub inputs_from : Job → ℕ → ℕ → List Inputs
 inputs_from job cycle zero = []
 inputs_from job cycle (suc n) = inputs_at job cycle ∷ inputs_from job (suc cycle) n
 
--- The state of the sequential machine of a job after i instructions, of which instruction j is given the sample values `given j`.
+-- The state of the sequential machine of a job after i instructions, where instruction j has the sample values `given j`.
 abbrev pub sequential : Job → (ℕ → ℕ → ℕ) → ℕ → ℕ → ℕ → ℕ
 sequential job given i = seq (machine_of job) (state_of job (start_of job)) given i
 
@@ -150,7 +150,7 @@ sequential job given i = seq (machine_of job) (state_of job (start_of job)) give
 abbrev pub pipe_of : Job → List Inputs → Trace
 pipe_of job inputs = pipe (machine_of job) (state_of job (start_of job)) (start_hints job) inputs
 
--- What its instructions take of the samples in that run, `taken_of job inputs i x` for instruction i and sample x: the value that the
--- sample has in the cycle in which the instruction leaves the sample's stage.
+-- The sample values that its instructions take in that run, `taken_of job inputs i x` for instruction i and sample x:
+-- the value that the sample has in the cycle in which the instruction leaves the sample's stage.
 abbrev pub taken_of : Job → List Inputs → ℕ → ℕ → ℕ
 taken_of job inputs = taken (machine_of job) inputs (pipe_of job inputs).rows

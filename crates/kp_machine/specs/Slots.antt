@@ -1,5 +1,5 @@
--- What holds values in a job: its targets, which are the registers and the files together, its pipes, its hints and its samples. The
--- entries of each list are numbered from 0 in the order of declaration.
+-- The names of a job that have values: its targets, which are the registers and the files together, its pipes, its
+-- hints and its samples. The entries of each list are numbered from 0 in the order of declaration.
 use Rattle.std.specs.Prelude.{ℕ, suc, List, [], ◌∷◌, Option, Some, None, Bool, ◌==◌, if◌then◌else◌}
 use Rattle.kp_bits.specs.Word.{word}
 use Rattle.kp_ast.specs.Expressions.{Values, is_same_name}
@@ -9,7 +9,7 @@ use Rattle.kp_ast.specs.declared.tree.ResultDecl.{ResultDecl}
 use Rattle.kp_ast.specs.declared.tree.Decl.{Decl}
 use Rattle.kp_ast.specs.declared.tree.Decl.TheVariants as decls
 
--- What holds values: its name, the width of its values, and the width of its addresses, which is 0 where it has none.
+-- A slot: its name, the width of its values, and the width of its addresses, which is 0 if it has none.
 pub record Slot : Type 0 where
   pub name : List ℕ
   pub width : ℕ
@@ -45,7 +45,7 @@ sample_stages [] = []
 sample_stages (decls.Sample n width stage ∷ ds) = stage.value ∷ sample_stages ds
 sample_stages (_ ∷ ds) = sample_stages ds
 
--- The number of a name is that of the first entry that has it. A name that no entry has gets the number of entries.
+-- The number of a name is that of the first entry with it. If no entry has it, it is the number of entries.
 abbrev pub number_of : List Slot → List ℕ → ℕ
 number_of [] name = 0
 number_of (s ∷ ss) name = if is_same_name name s.name then 0 else suc (number_of ss name)
@@ -59,7 +59,7 @@ width_of (s ∷ ss) name = if is_same_name name s.name then s.width else width_o
 abbrev pub is_register : Slot → Bool
 is_register s = s.address == 0
 
--- The names of entries that are numbered from i on, each with the word of its width that has the value of its number.
+-- The names of entries that are numbered from i on, each with a word of its width and the value under its number.
 abbrev pub words_from : ℕ → (ℕ → ℕ) → List Slot → Values
 words_from i values [] = []
 words_from i values (s ∷ ss) = (s.name, word s.width (values i)) ∷ words_from (suc i) values ss
@@ -73,7 +73,7 @@ result_named [] name = None
 result_named (decls.Target r ∷ ds) name = if is_same_name name r.name.name then Some r else result_named ds name
 result_named (_ ∷ ds) name = result_named ds name
 
--- The first result whose target has the number t among these targets.
+-- The first result whose target has number t among these targets.
 abbrev pub result_to : List Slot → List Decl → ℕ → Option ResultDecl
 result_to targets [] t = None
 result_to targets (decls.Target r ∷ ds) t = if number_of targets r.target.name == t then Some r else result_to targets ds t

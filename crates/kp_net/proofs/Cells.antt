@@ -1,4 +1,4 @@
--- Nodes that read what there is go on doing so while a pool grows.
+-- Nodes that read existing cells continue to do so while a pool grows.
 use Rattle.std.proofs.Common.{◌≡◌, ℕ, ◌<◌, ◌≤◌, false, List, length, get_or, sym, subst, ◌∙◌, arith, ⊎_elim}
 use Rattle.std.proofs.lemmas.Bool.{cases_lt, true≢false}
 use Rattle.kp_net.specs.declared.node.Kind.{Kind}

@@ -1,4 +1,4 @@
--- The depths of nodes where nodes are added.
+-- The depths of nodes when nodes are added.
 use Rattle.std.proofs.Common.{◌≡◌, ℕ, ◌+◌, ◌<◌, ◌≤◌, List, [], ◌∷◌, ◌++◌, fold, map, length, get_or, take, drop, refl, sym, ap, ◌∙◌, arith, length-append, All, max}
 use Rattle.std.proofs.Math.ListN.{get_or-append}
 use Rattle.std.proofs.Math.Seq.{get_or-append_seam}

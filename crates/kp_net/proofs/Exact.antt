@@ -1,4 +1,4 @@
--- At right widths an operation gives its word whole: nothing is cut off.
+-- At well-formed widths the result of an operation is exact: nothing is truncated.
 use Rattle.std.proofs.Common.{◌≡◌, ℕ, ◌+◌, ◌<◌, ◌≤◌, ◌^◌, ◌%◌, ◌==◌, false, List, [], ◌∷◌, fold, map, length, refl, sym, subst, ap, ◌∙◌, arith, All}
 use Rattle.std.proofs.Math.Nat.{mod-eq_of_lt}
 use Rattle.std.proofs.lemmas.Bool.{cond_both, true≢false}
@@ -109,6 +109,6 @@ word_has c ns i right h =
     let P : bits.Word → Type 0 = Has (wide ns i) in
     subst P (sym (word_is c ns i h)) (record { word = record { positive = ok.positive; at_most = ok.at_most; fits = at_fits c ns i h }; width = refl })
 
--- so a constant or an operation that is right after a right list has its word whole
+-- so the word of a constant or an operation that is well-formed after a well-formed list is exact
 pub node_whole : (c : Cells) (ns : List Node) (n : Node) → AllRight ns → NodeOk ns (length ns) n → is_cell n.kind ≡ false → word_of_node c (word_at c ns) n ≡ word_of_kind c (word_at c ns) n.width n.kind
 node_whole c ns n right ok f = node_exact c ns (length ns) n (word_at c ns) ok f (λ j l. word_has c ns j right l)

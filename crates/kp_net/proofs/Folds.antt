@@ -1,5 +1,5 @@
--- What may stand for a foldable node has its word, and is no deeper.
-use Rattle.std.proofs.Common.{◌≡◌, ℕ, Bool, true, false, ◌+◌, ◌-◌, ◌<◌, ◌≤◌, ◌^◌, ◌%◌, ◌/◌, ◌==◌, ◌&&◌, List, [], ◌∷◌, map, length, get_or, refl, sym, subst, ap, ◌∙◌, arith, All, max, cond, bit_and, bit_or}
+-- The replacement of a foldable node has its word, and is no deeper.
+use Rattle.std.proofs.Common.{◌≡◌, ℕ, Bool, true, false, ◌+◌, ◌-◌, ◌<◌, ◌≤◌, ◌^◌, ◌%◌, ◌/◌, ◌==◌, ◌&&◌, List, [], ◌∷◌, map, length, get_or, refl, sym, subst, ap, ◌∙◌, arith, All, max, cond, bit_and, bit_or, leb, leb-true, ◌||◌}
 use Rattle.std.proofs.Math.Nat.{mod-eq_of_lt, le-max_left, le-max_right, div-one}
 use Rattle.std.proofs.lemmas.Bool.{false≢true, eqb-true, eq-eqb}
 use Rattle.std.proofs.lemmas.Nat.{and_mask, and_comm, or_comm}
@@ -8,9 +8,10 @@ use Rattle.std.proofs.lemmas.List.Elements.{All-head, All-tail}
 use Rattle.std.specs.List.{list_all}
 use Rattle.kp_bits.specs.Word.{IsWord, not_of, and_of, or_of, mux_of, slice_of}
 use Rattle.kp_bits.specs.Word as bits
-use Rattle.kp_bits.proofs.Arithmetic.{not_not}
+use Rattle.kp_bits.proofs.Arithmetic.{not_not, shl_past, shr_past}
+use Rattle.kp_bits.proofs.Powers.{pow_le}
 use Rattle.kp_bits.specs.declared.operator.BinOp.{BinOp}
-use Rattle.kp_bits.specs.Operators.{binary_of, joined_of}
+use Rattle.kp_bits.specs.Operators.{binary_of, joined_of, is_shift}
 use Rattle.kp_net.specs.declared.node.NodeId.{NodeId}
 use Rattle.kp_net.specs.declared.node.Kind.{Kind}
 use Rattle.kp_net.specs.declared.node.Kind.TheVariants.{Const, Not, Binary, Mux, Concat, Slice}
@@ -19,11 +20,15 @@ use Rattle.kp_net.specs.declared.fold.Masking.{Masking}
 use Rattle.kp_net.specs.Nodes.{Cells, Words, word_of_kind, word_at}
 use Rattle.kp_net.specs.Widths.{wide, no_node, is_cell, BinaryOk, KindOk, NodeOk, AllRight}
 use Rattle.kp_net.specs.Depth.{depth_of, depth}
-use Rattle.kp_net.specs.Folding.{is_const, is_masking}
+use Rattle.kp_net.specs.Folding.{is_const, is_masking, is_plain, is_past, folds}
 use Rattle.kp_net.specs.inner.Folds.{StandsFor, IsWordOf, Masks, number_in, number_at}
 use Rattle.kp_net.proofs.Values.{word_there, word_wide}
 use Rattle.kp_net.proofs.Exact.{Has, kind_has, node_exact, word_has}
 use Rattle.kp_net.proofs.Depths.{depth_there}
+
+both : (a b : Bool) → (a && b) ≡ true → (a ≡ true) × (b ≡ true)
+both true b h = (refl, h)
+both false b h = absurd (false≢true h)
 
 no_cells : Cells
 no_cells = record { ext = 0; sample = λ s. 0; reg = λ r. 0; word = λ f a. 0 }
@@ -120,6 +125,71 @@ module _ (ns : List Node) (k : ℕ) (op : BinOp) (a b : NodeId) (w : bits.Word) 
       sym (m.1 (word_at c ns a.0) (word_has c ns a.0 right ok.kind.0).word (right_wide m.0 n c)).1 ∙ ap (λ x. binary_of op (word_at c ns a.0) x) e)
       (omega (arith, le-max_left (depth ns a.0) (depth ns b.0)))
 
+-- a shift by a constant of at least the width
+past_by : (op : BinOp) → is_shift op ≡ true → (x y : bits.Word) → x.width ≤ y.value → binary_of op x y ≡ bits.word x.width 0
+past_by BinOp.Shl s x y l = shl_past x y l
+past_by BinOp.Shr s x y l = shr_past x y l
+past_by op s x y l = absurd (false≢true s)
+
+masked_right : (op : BinOp) (k x y : ℕ) → is_masking op ≡ true → BinaryOk op k x y → y ≡ k
+masked_right BinOp.And k x y m ok = ok.1
+masked_right BinOp.Or k x y m ok = ok.1
+masked_right op k x y m ok = absurd (false≢true m)
+
+past_wide : (op : BinOp) (k x y : ℕ) → is_shift op ≡ true → BinaryOk op k x y → x ≡ k
+past_wide BinOp.Shl k x y s ok = ok
+past_wide BinOp.Shr k x y s ok = ok
+past_wide op k x y s ok = absurd (false≢true s)
+
+pub zero_fits : (ns : List Node) (a : NodeId) → AllRight ns → a.0 < length ns → IsWord (bits.word (wide ns a.0) 0)
+unfolding wide
+zero_fits ns a right h =
+    let ok = right a.0 h in
+    record { positive = ok.positive; at_most = ok.at_most; fits = omega (arith, pow_le 0 (get_or ns a.0 no_node).width (omega arith)) }
+
+pub shifted_out : (ns : List Node) (k : ℕ) (op : BinOp) (a b : NodeId) (w r : bits.Word) (i : ℕ) → AllRight ns → NodeOk ns (length ns) (record { width = k; kind = Binary op a b })
+    → IsNumber ns b w → i ≡ wide ns a.0 → (is_shift op && leb i w.value) ≡ true → r ≡ bits.word i 0 → IsWordOf ns k (Binary op a b) r
+shifted_out ns k op a b w r i right ok n f past e =
+    let p = both (is_shift op) (leb i w.value) past in
+    fold_word ns k (Binary op a b) right ok refl r
+    (λ c. let x : (word_at c ns a.0).width ≡ i = word_wide c ns a.0 ok.kind.0 ∙ sym f in
+    let y : w ≡ word_at c ns b.0 = number_word c ns b w right ok.kind.1 n in
+    let l : (word_at c ns a.0).width ≤ (word_at c ns b.0).value = subst (λ (z : bits.Word). (word_at c ns a.0).width ≤ z.value) y (subst (λ z. z ≤ w.value) (sym x) (leb-true _ _ p.1)) in
+    e ∙ ap (λ z. bits.word z 0) (sym x) ∙ sym (past_by op p.0 (word_at c ns a.0) (word_at c ns b.0) l))
+
+-- a constant on the right that decides nothing
+open_kinds : (k : ℕ) (op : BinOp) (x y : Kind) → is_const x ≡ false → is_const y ≡ true → (is_masking op && is_plain k (Const (number_in y))) ≡ false
+    → (is_shift op && leb k (number_in y)) ≡ false
+    → ((is_const x && is_const y) || ((is_masking op && (is_plain k x || is_plain k y)) || (is_shift op && is_past k y))) ≡ false
+open_kinds k op (Const n) y e f g h = absurd (false≢true (sym e))
+open_kinds k op x (Const n) e f g h = λ i. g i || h i
+open_kinds k op x y e f g h = absurd (false≢true f)
+
+undecided_by : (ns : List Node) (k : ℕ) (op : BinOp) (a b : NodeId) → (is_masking op ≡ true → wide ns b.0 ≡ k) → (is_shift op ≡ true → wide ns a.0 ≡ k)
+    → is_const (get_or ns a.0 no_node).kind ≡ false → is_const (get_or ns b.0 no_node).kind ≡ true
+    → (is_masking op && is_plain (wide ns b.0) (Const (number_in (get_or ns b.0 no_node).kind))) ≡ false
+    → (is_shift op && leb (wide ns a.0) (number_in (get_or ns b.0 no_node).kind)) ≡ false
+    → folds (λ i. get_or ns i no_node) k (Binary op a b) ≡ false
+undecided_by ns k op a b m s e f g h =
+    open_kinds k op (get_or ns a.0 no_node).kind (get_or ns b.0 no_node).kind e f
+    (guarded (is_masking op) (λ t. is_plain t (Const (number_in (get_or ns b.0 no_node).kind))) (wide ns b.0) k m g)
+    (guarded (is_shift op) (λ t. leb t (number_in (get_or ns b.0 no_node).kind)) (wide ns a.0) k s h)
+  where
+    guarded : (p : Bool) (q : ℕ → Bool) (x y : ℕ) → (p ≡ true → x ≡ y) → (p && q x) ≡ false → (p && q y) ≡ false
+    guarded true q x y m e = ap q (sym (m refl)) ∙ e
+    guarded false q x y m e = refl
+
+pub undecided : (ns : List Node) (k : ℕ) (op : BinOp) (a b : NodeId) (w : bits.Word) → NodeOk ns (length ns) (record { width = k; kind = Binary op a b })
+    → is_const (get_or ns a.0 no_node).kind ≡ false → IsNumber ns b w → (is_masking op && is_plain w.width (Const w.value)) ≡ false → (is_shift op && leb (wide ns a.0) w.value) ≡ false
+    → folds (λ i. get_or ns i no_node) k (Binary op a b) ≡ false
+undecided ns k op a b w ok e n g h =
+    undecided_by ns k op a b
+    (λ m. masked_right op k _ _ m ok.kind.2)
+    (λ s. past_wide op k _ _ s ok.kind.2)
+    e n.0
+    (ap (λ (x : bits.Word). is_masking op && is_plain x.width (Const x.value)) (sym n.2) ∙ g)
+    (ap (λ (x : bits.Word). is_shift op && leb (wide ns a.0) x.value) (sym n.2) ∙ h)
+
 -- with all bits 1, and with none
 ones_value : (k v : ℕ) → v < 2 ^ k → bit_and v (2 ^ k - 1) ≡ v
 ones_value k v h = and_mask v k ∙ mod-eq_of_lt h
@@ -192,11 +262,7 @@ module _ (ns : List Node) (k : ℕ) (t a b : NodeId) (right : AllRight ns) (ok :
       (λ c. either ((word_at c ns t.0).value == 1) (word_at c ns a.0) (word_at c ns b.0) (ap (word_at c ns) e))
       first_deep
 
--- constants in a row
-both : (a b : Bool) → (a && b) ≡ true → (a ≡ true) × (b ≡ true)
-both true b h = (refl, h)
-both false b h = absurd (false≢true h)
-
+-- a concatenation of constants
 consts_agree : (c : Cells) (ns : List Node) (parts : List NodeId) → AllRight ns → All (λ a. a.0 < length ns) parts → list_all (λ a. is_const (get_or ns a.0 no_node).kind) parts ≡ true
     → map (λ a. number_at ns a.0) parts ≡ map (λ a. word_at c ns a.0) parts
 consts_agree c ns [] right h e = refl
@@ -210,7 +276,7 @@ pub row_of_consts : (ns : List Node) (k : ℕ) (parts : List NodeId) (w : bits.W
     → list_all (λ a. is_const (get_or ns a.0 no_node).kind) parts ≡ true → w ≡ joined_of (map (λ a. number_at ns a.0) parts) → IsWordOf ns k (Concat parts) w
 row_of_consts ns k parts w right ok all e = fold_word ns k (Concat parts) right ok refl w (λ c. e ∙ ap joined_of (consts_agree c ns parts right ok.kind.2 all))
 
--- a whole slice
+-- a slice of all bits
 slice_whole : (w : bits.Word) (hi lo : ℕ) → IsWord w → lo ≡ 0 → hi + 1 ≡ w.width → slice_of w hi lo ≡ w
 slice_whole w hi lo h z e =
     let n : hi + 1 - 0 ≡ w.width = omega (arith, e) in

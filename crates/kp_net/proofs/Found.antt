@@ -1,4 +1,4 @@
--- Where a node stands in a list, by the test that compares nodes.
+-- The index of a node in a list, by the test that compares nodes.
 use Rattle.std.proofs.Common.{◌≡◌, ◌⊎◌, ℕ, ◌<◌, ◌≤◌, ◌++◌, ◌∷◌, [], Bool, true, false, List, length, get_or, refl, sym, subst, ap, ◌∙◌, arith, ⊎_elim, Option, None, Some, MatchOption, length-append, if◌then◌else◌, IfOk, OnErr, Result, Ok, Err, inl, inr}
 use Rattle.std.proofs.lemmas.Bool.{cases_lt, false≢true}
 use Rattle.std.proofs.lemmas.Grind.{common_steps}
@@ -31,7 +31,7 @@ differs n x f e = false≢true (sym f ∙ ap (is n) e ∙ node_eq_itself n)
 pub not_any : (n : Node) (ns : List Node) → LacksBelow ns n (length ns) → list_any (is n) ns ≡ false
 not_any n ns lacks = list_any_none (is n) ns (λ k d l. fails n (get_or ns k d) (λ e. lacks k l (sym (get_or_default ns k d no_node l) ∙ e)))
 
--- the first place at which the test passes is the node's, and without one the list lacks it
+-- the first index at which the test passes is the node's, and without one the list lacks it
 pub placed : (n : Node) (ns : List Node) (r : Option ℕ) → r ≡ position (is n) ns → MatchOption r (LacksBelow ns n (length ns)) (λ i. (i < length ns) × (get_or ns i no_node ≡ n))
 placed n ns (Some i) e = let p = position-Some (is n) ns i no_node (sym e) in (p.0, sym (node_from_eq n (get_or ns i no_node) p.1))
 placed n ns None e =

@@ -64,7 +64,7 @@ wire_there p n i h e = record { inside = h; wide = ap (λ (x : Node). x.width) e
 pub value_there : (c : Cells) (ns : List Node) (n : Node) (i : ℕ) → AllRight ns → i < length ns → get_or ns i no_node ≡ n → word_at c ns i ≡ word_of_node c (word_at c ns) n
 value_there c ns n i right h e = word_there c ns i h (right i h) ∙ ap (word_of_node c (word_at c ns)) e
 
--- calls one after another
+-- calls in sequence
 pub kept_then : (p q r : Held) (j k : ℕ) → Kept p q j → Kept q r k → Kept p r (j + k)
 kept_then p q r j k a b = record {
   longer = omega arith;

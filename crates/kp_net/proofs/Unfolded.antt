@@ -1,16 +1,17 @@
--- A list without foldable nodes stays one where a node is added that is not foldable.
+-- A list without foldable nodes remains one when a node is added that is not foldable.
 use Rattle.std.proofs.Common.{◌≡◌, ℕ, false, ◌+◌, ◌<◌, ◌≤◌, ◌==◌, ◌&&◌, ◌||◌, List, [], ◌∷◌, ◌++◌, length, get_or, refl, ap, ◌∙◌, arith, All, length-append, ⊎_elim}
 use Rattle.std.proofs.Math.ListN.{get_or-append}
 use Rattle.std.proofs.Math.Seq.{get_or-append_seam}
 use Rattle.std.proofs.lemmas.Bool.{cases_lt}
 use Rattle.std.proofs.lemmas.List.Elements.{All-head, All-tail}
 use Rattle.std.specs.List.{list_all}
+use Rattle.kp_bits.specs.Operators.{is_shift}
 use Rattle.kp_net.specs.declared.node.NodeId.{NodeId}
 use Rattle.kp_net.specs.declared.node.Kind.{Kind}
 use Rattle.kp_net.specs.declared.node.Kind.TheVariants.{Const, Ext, Sample, Reg, Word, Not, Binary, Mux, Concat, Slice}
 use Rattle.kp_net.specs.declared.node.Node.{Node}
 use Rattle.kp_net.specs.Widths.{no_node, KindOk, NodeOk, AllRight}
-use Rattle.kp_net.specs.Folding.{is_const, is_not, is_masking, is_plain, folds, foldable, NoneFoldable}
+use Rattle.kp_net.specs.Folding.{is_const, is_not, is_masking, is_plain, is_past, folds, foldable, NoneFoldable}
 
 parts_fold : (v w : ℕ → Node) (m : ℕ) (parts : List NodeId) → All (λ a. a.0 < m) parts → ((j : ℕ) → j < m → v j ≡ w j)
     → list_all (λ a. is_const (v a.0).kind) parts ≡ list_all (λ a. is_const (w a.0).kind) parts
@@ -29,7 +30,7 @@ folds_alike ns v w m k (Word f a) h e = refl
 folds_alike ns v w m k (Not a) h e = ap (λ (x : Node). is_const x.kind || is_not x.kind) (e a.0 h.0)
 folds_alike ns v w m k (Binary op a b) h e =
     let x = e a.0 h.0 in let y = e b.0 h.1 in
-    λ i. (is_const (x i).kind && is_const (y i).kind) || (is_masking op && (is_plain k (x i).kind || is_plain k (y i).kind))
+    λ i. (is_const (x i).kind && is_const (y i).kind) || ((is_masking op && (is_plain k (x i).kind || is_plain k (y i).kind)) || (is_shift op && is_past k (y i).kind))
 folds_alike ns v w m k (Mux t a b) h e = ap (λ (x : Node). is_const x.kind || a.0 == b.0) (e t.0 h.0)
 folds_alike ns v w m k (Concat parts) h e = parts_fold v w m parts h.2 e
 folds_alike ns v w m k (Slice a hi lo) h e = ap (λ (x : Node). is_const x.kind || x.width == k) (e a.0 h.0)

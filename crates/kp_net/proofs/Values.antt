@@ -1,4 +1,4 @@
--- The words of nodes where nodes are added.
+-- The words of nodes when nodes are added.
 use Rattle.std.proofs.Common.{◌≡◌, ℕ, ◌+◌, ◌<◌, ◌≤◌, List, [], ◌∷◌, ◌++◌, fold, map, length, get_or, take, drop, refl, sym, subst, ap, ◌∙◌, arith, length-append, All, ◌^◌, ◌%◌, ◌==◌}
 use Rattle.std.proofs.Math.ListN.{get_or-append}
 use Rattle.std.proofs.Math.Seq.{get_or-append_seam}
@@ -72,7 +72,7 @@ kind_agrees c ns m k (Slice a hi lo) v w h e = ap (λ (x : bits.Word). bits.slic
 pub node_agrees : (c : Cells) (ns : List Node) (m : ℕ) (n : Node) (v w : Words) → NodeOk ns m n → ((j : ℕ) → j < m → v j ≡ w j) → word_of_node c v n ≡ word_of_node c w n
 node_agrees c ns m n v w h e = ap (λ (x : bits.Word). bits.word n.width (x.value % 2 ^ n.width)) (kind_agrees c ns m n.width n.kind v w h.kind e)
 
--- the words of the first k nodes are those that they have in the whole list
+-- the words of the first k nodes are those that they have in the complete list
 pub word_in : (c : Cells) (ns : List Node) (k j : ℕ) → j < k → k ≤ length ns → word_at c (take k ns) j ≡ word_at c ns j
 word_in c ns k j h l = sym (word_front c (take k ns) (drop k ns) j (omega (arith, length-take-le k ns l))) ∙ ap (λ (ms : List Node). word_at c ms j) (take-append-drop k ns)
 
@@ -86,7 +86,7 @@ word_step c ns i h =
     ∙ ap (λ (k : ℕ). word_at c (take i ns ++ n ∷ []) k) (sym l)
     ∙ word_new c (take i ns) n
 
--- and, where it is right, of the whole list
+-- and, if it is well-formed, of the complete list
 pub word_there : (c : Cells) (ns : List Node) (i : ℕ) → i < length ns → NodeOk ns i (get_or ns i no_node) → word_at c ns i ≡ word_of_node c (word_at c ns) (get_or ns i no_node)
 word_there c ns i h ok = word_step c ns i h ∙ node_agrees c ns i (get_or ns i no_node) (word_at c (take i ns)) (word_at c ns) ok (λ j l. word_in c ns i j l (omega arith))
 

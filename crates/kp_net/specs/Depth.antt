@@ -1,11 +1,11 @@
--- How deep a node stands: how many nodes lie one on the other below it.
+-- The depth of a node: the length of the longest path of operands below it.
 use Rattle.std.specs.Prelude.{ℕ, ◌+◌, ◌≤◌, max, List, [], ◌∷◌, ◌++◌, fold, map, get_or}
 use Rattle.kp_net.specs.declared.node.Kind.{Kind}
 use Rattle.kp_net.specs.declared.node.Kind.TheVariants.{Const, Ext, Sample, Reg, Word, Not, Binary, Mux, Concat, Slice}
 use Rattle.kp_net.specs.declared.node.Node.{Node}
 use Rattle.kp_net.specs.declared.node.NodeId.{NodeId}
 
--- the depth of a node of this kind, where the nodes before it have the depths d
+-- the depth of a node of this kind, given the depths d of the nodes before it
 abbrev pub depth_of : (ℕ → ℕ) → Kind → ℕ
 depth_of d (Const n) = 0
 depth_of d Ext = 0
@@ -18,7 +18,7 @@ depth_of d (Mux test a b) = max (d test.0) (max (d a.0) (d b.0)) + 1
 depth_of d (Concat parts) = fold max 0 (map (λ a. d a.0) parts) + 1
 depth_of d (Slice a hi lo) = d a.0 + 1
 
--- the depths of a list of nodes, each from those before it
+-- the depths of a list of nodes, each computed from those before it
 abbrev pub depths_more : List ℕ → Node → List ℕ
 depths_more known n = known ++ depth_of (λ i. get_or known i 0) n.kind ∷ []
 

@@ -5,11 +5,11 @@ use Rattle.kp_base.specs.Characters.{is_word}
 use Rattle.kp_net.specs.Netlist.{Net}
 use Rattle.kp_net.specs.Widths.{wide}
 
--- what an identifier goes on with: letters, digits, `_` and `$`
+-- the bytes of an identifier after the first: letters, digits, `_` and `$`
 abbrev pub is_in_identifier : ℕ → Bool
 is_in_identifier byte = is_word byte || byte == 36
 
--- names are equal where their bytes are
+-- names are equal if their bytes are
 abbrev pub same : List ℕ → List ℕ → Bool
 same = pointwise nat_eq
 
@@ -17,33 +17,33 @@ abbrev pub among : List (List ℕ) → List ℕ → Bool
 among [] n = false
 among (k ∷ ks) n = same n k || among ks n
 
--- `m_`, and then anything
+-- `m_`, followed by anything
 abbrev pub is_module_name : List ℕ → Bool
 is_module_name (a ∷ b ∷ rest) = a == 109 && b == 95
 is_module_name _ = false
 
--- `r_` or `q_`, and at least one more byte
+-- `r_` or `q_`, followed by at least one byte
 abbrev pub is_reg_name : List ℕ → Bool
 is_reg_name (a ∷ b ∷ c ∷ rest) = (a == 114 || a == 113) && b == 95
 is_reg_name _ = false
 
--- `f_`, and at least one more byte
+-- `f_`, followed by at least one byte
 abbrev pub is_file_name : List ℕ → Bool
 is_file_name (a ∷ b ∷ c ∷ rest) = a == 102 && b == 95
 is_file_name _ = false
 
--- `s_`, and at least one more byte
+-- `s_`, followed by at least one byte
 abbrev pub is_sample_name : List ℕ → Bool
 is_sample_name (a ∷ b ∷ c ∷ rest) = a == 115 && b == 95
 is_sample_name _ = false
 
--- a name that the test takes, of bytes that may stand in an identifier, and not too long for one
+-- a name that passes the test, whose bytes may occur in an identifier, and which is not too long for one
 pub record IsSpelled (test : List ℕ → Bool) (n : List ℕ) : Type 0 where
   pub kind : test n ≡ true
   pub bytes : All (λ b. is_in_identifier b ≡ true) n
   pub short : length n ≤ 70
 
--- no name stands twice
+-- no name occurs twice
 abbrev pub Differ : List (List ℕ) → Type 0
 Differ [] = Unit {0}
 Differ (n ∷ ns) = (among ns n ≡ false) × Differ ns

@@ -1,4 +1,4 @@
--- What a netlist does: its state, one cycle, and its runs.
+-- The meaning of a netlist: its state, one cycle, and its runs.
 use Rattle.std.specs.Prelude.{ℕ, Bool, false, ◌&&◌, if◌then◌else◌, List, [], ◌∷◌, map, get_or, set, Option, None, Some, fold}
 use Rattle.std.specs.List.{zip}
 use Rattle.kp_base.specs.declared.row.Row.{Row}
@@ -7,12 +7,12 @@ use Rattle.kp_net.specs.declared.netlist.WritePort.{WritePort}
 use Rattle.kp_net.specs.declared.netlist.Parts.{Parts}
 use Rattle.kp_net.specs.Nodes.{Cells, at, on}
 
--- the nodes, and all that stands beside them
+-- the nodes, and all other parts
 pub record Net : Type 0 where
   pub nodes : List Node
   pub parts : Parts
 
--- what comes from outside in a cycle: the stall word, whether the reset is raised, and a value for each sample port
+-- the inputs of a cycle: the stall word, whether the reset is raised, and a value for each sample port
 pub record Input : Type 0 where
   pub ext : ℕ
   pub reset : Bool
@@ -31,18 +31,18 @@ cells_of i st = record {
   word = λ f a. get_or (get_or st.files f []) a 0;
 }
 
--- the state at the start
+-- the start state
 abbrev pub start_regs : Net → List ℕ
 start_regs net = map (λ r. r.start.value) net.parts.regs
 
 abbrev pub start_of : Net → State
 start_of net = record { regs = start_regs net; files = map (λ f. f.words) net.parts.files }
 
--- at the end of a cycle each register takes the value of its next node
+-- at the end of a cycle each register latches the value of its next node
 abbrev pub regs_after : Net → Cells → List ℕ
 regs_after net c = map (λ r. at c net.nodes r.next.0) net.parts.regs
 
--- and a file whose port is enabled takes one word
+-- and a file whose port is enabled writes one word
 abbrev pub port_after : Cells → List Node → Option WritePort → List ℕ → List ℕ
 port_after c ns None words = words
 port_after c ns (Some p) words = if on c ns p.enable.0 then set words (at c ns p.address.0) (at c ns p.value.0) else words
@@ -54,13 +54,13 @@ files_after net c files = map (λ p. port_after c net.nodes p.0.port p.1) (zip n
 abbrev pub resets : Net → Input → Bool
 resets net i = net.parts.reset && i.reset
 
--- the state after a cycle; a reset gives each register its start value, and changes no file
+-- the state after a cycle; a reset sets each register to its start value, and changes no file
 abbrev pub state_after : Net → Input → State → State
 state_after net i st =
     if resets net i then record { regs = start_regs net; files = st.files }
     else record { regs = regs_after net (cells_of i st); files = files_after net (cells_of i st) st.files }
 
--- what the outputs show in a cycle
+-- the values of the outputs in a cycle
 abbrev pub row_of : Net → Input → State → Row
 row_of net i st = let c = cells_of i st in record {
   full = at c net.nodes net.parts.full.0;
@@ -92,7 +92,7 @@ last_from net st inputs = fold (λ s i. state_after net i s) st inputs
 abbrev pub last_of : Net → List Input → State
 last_of net inputs = last_from net (start_of net) inputs
 
--- the same netlist, whose files start with these words
+-- the same netlist, with files that start with these words
 abbrev pub restarted : Net → List (List ℕ) → Net
 restarted net files = record { nodes = net.nodes; parts = record net.parts { files = map (λ p. record p.0 { words = p.1 }) (zip net.parts.files files) } }
 

@@ -1,4 +1,4 @@
--- What a list of nodes means: the word that each node has in one cycle.
+-- The meaning of a list of nodes: the word of each node in one cycle.
 use Rattle.std.specs.Prelude.{ℕ, ◌%◌, ◌^◌, ◌==◌, Bool, List, [], ◌∷◌, ◌++◌, fold, map, get_or}
 use Rattle.kp_bits.specs.Word.{word, not_of, mux_of, slice_of}
 use Rattle.kp_bits.specs.Operators.{binary_of, joined_of, no_word}
@@ -7,18 +7,18 @@ use Rattle.kp_net.specs.declared.node.Kind.TheVariants.{Const, Ext, Sample, Reg,
 use Rattle.kp_net.specs.declared.node.Node.{Node}
 use Rattle.kp_bits.specs.Word as bits
 
--- what nodes read in a cycle: the stall word, the sample ports, the registers, and the words of the files
+-- the cells that nodes read in a cycle: the stall word, the sample ports, the registers, and the words of the files
 pub record Cells : Type 0 where
   pub ext : ℕ
   pub sample : ℕ → ℕ
   pub reg : ℕ → ℕ
   pub word : ℕ → ℕ → ℕ
 
--- the words of nodes, by their places
+-- the words of nodes, by their indices
 abbrev pub Words : Type 0
 Words = ℕ → bits.Word
 
--- what a node of this width and kind reads or computes, where the nodes before it have the words w
+-- what a node of this width and kind reads or computes, given the words w of the nodes before it
 abbrev pub word_of_kind : Cells → Words → ℕ → Kind → bits.Word
 word_of_kind c w k (Const n) = word k n
 word_of_kind c w k Ext = word k c.ext
@@ -31,7 +31,7 @@ word_of_kind c w k (Mux test a b) = mux_of (w test.0) (w a.0) (w b.0)
 word_of_kind c w k (Concat parts) = joined_of (map (λ a. w a.0) parts)
 word_of_kind c w k (Slice a hi lo) = slice_of (w a.0) hi lo
 
--- a number in so many bits: what does not fit is cut off
+-- a number truncated to this many bits
 abbrev pub cut : ℕ → ℕ → bits.Word
 cut k n = word k (n % 2 ^ k)
 
@@ -39,7 +39,7 @@ cut k n = word k (n % 2 ^ k)
 abbrev pub word_of_node : Cells → Words → Node → bits.Word
 word_of_node c w n = cut n.width (word_of_kind c w n.width n.kind).value
 
--- the words of a list of nodes, each from those before it
+-- the words of a list of nodes, each computed from those before it
 abbrev pub words_more : Cells → List bits.Word → Node → List bits.Word
 words_more c known n = known ++ word_of_node c (λ i. get_or known i no_word) n ∷ []
 

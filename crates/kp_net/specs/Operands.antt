@@ -1,4 +1,4 @@
--- When two nodes are the same.
+-- When two nodes are the same: they have the same number.
 use Rattle.std.specs.Prelude.{ℕ, Bool, nat_eq}
 use Rattle.std.specs.Ordering.{on}
 use Rattle.kp_net.specs.declared.node.NodeId.{NodeId}

@@ -1,4 +1,4 @@
--- Which netlists are right: all that they name is there, and the widths fit.
+-- Which netlists are well-formed: each reference is to an existing part, and the widths fit.
 use Rattle.std.specs.Prelude.{ℕ, ◌^◌, ◌<◌, ◌≤◌, ◌≡◌, List, [], length, get_or, All, Option, None, Some}
 use Rattle.kp_bits.specs.Word.{IsWord}
 use Rattle.kp_net.specs.declared.node.NodeId.{NodeId}
@@ -39,7 +39,7 @@ pub record FileOk (ns : List Node) (f : NetFile) : Type 0 where
   pub words : All (λ v. v < 2 ^ f.width) f.words
   pub port : WriteOk ns f.width f.address_width f.port
 
--- what stands for a port, a register or a file where there is none
+-- the defaults for a port, a register or a file that doesn't exist
 abbrev pub no_port : Port
 no_port = record { name = []; width = 0 }
 
@@ -49,7 +49,7 @@ no_reg = record { name = []; start = record { width = 0; value = 0 }; next = rec
 abbrev pub no_file : NetFile
 no_file = record { name = []; width = 0; address_width = 0; words = []; port = None }
 
--- a node of k bits that reads an input, a register or a file reads one that there is, and has its width
+-- a node of k bits that reads an input, a register or a file reads an existing one, and has its width
 abbrev pub CellOk : List Node → Parts → ℕ → Kind → Type 0
 CellOk ns p k Ext = k ≡ p.ext
 CellOk ns p k (Sample s) = (s < length p.samples) × ((get_or p.samples s no_port).width ≡ k)

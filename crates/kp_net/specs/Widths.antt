@@ -1,4 +1,4 @@
--- Which nodes are right: their operands stand before them, and the widths fit.
+-- Which nodes are well-formed: their operands precede them, and the widths fit.
 use Rattle.std.specs.Prelude.{ℕ, ◌+◌, ◌^◌, ◌<◌, ◌≤◌, ◌≡◌, Bool, true, false, List, length, get_or, All}
 use Rattle.std.specs.List.{sum_by}
 use Rattle.kp_bits.specs.declared.operator.BinOp.{BinOp}
@@ -6,7 +6,7 @@ use Rattle.kp_net.specs.declared.node.Kind.{Kind}
 use Rattle.kp_net.specs.declared.node.Kind.TheVariants.{Const, Ext, Sample, Reg, Word, Not, Binary, Mux, Concat, Slice}
 use Rattle.kp_net.specs.declared.node.Node.{Node}
 
--- what stands for a node where there is none
+-- the default for a node that doesn't exist
 abbrev pub no_node : Node
 no_node = record { width = 0; kind = Const 0 }
 
@@ -14,7 +14,7 @@ no_node = record { width = 0; kind = Const 0 }
 unfoldable pub wide : List Node → ℕ → ℕ
 wide ns i = (get_or ns i no_node).width
 
--- the width k of an operation, and those of its operands a and b
+-- the width k of an operation, given the widths a and b of its operands
 abbrev pub BinaryOk : BinOp → ℕ → ℕ → ℕ → Type 0
 BinaryOk BinOp.And k a b = (a ≡ k) × (b ≡ k)
 BinaryOk BinOp.Or k a b = (a ≡ k) × (b ≡ k)
@@ -27,7 +27,7 @@ BinaryOk BinOp.Lt k a b = (k ≡ 1) × (a ≡ b)
 BinaryOk BinOp.Shl k a b = a ≡ k
 BinaryOk BinOp.Shr k a b = a ≡ k
 
--- a node of width k, whose operands stand before place m of the list
+-- a node of width k, whose operands precede index m of the list
 abbrev pub KindOk : List Node → ℕ → ℕ → Kind → Type 0
 KindOk ns m k (Const n) = n < 2 ^ k
 KindOk ns m k Ext = Unit {0}
@@ -40,13 +40,13 @@ KindOk ns m k (Mux test a b) = (test.0 < m) × (a.0 < m) × (b.0 < m) × (wide n
 KindOk ns m k (Concat parts) = (2 ≤ length parts) × (length parts ≤ 12) × All (λ a. a.0 < m) parts × (sum_by (λ a. wide ns a.0) parts ≡ k)
 KindOk ns m k (Slice a hi lo) = (a.0 < m) × (lo ≤ hi) × (hi < wide ns a.0) × (hi + 1 ≡ k + lo)
 
--- a node that may stand at place m of the list
+-- a node that may occur at index m of the list
 pub record NodeOk (ns : List Node) (m : ℕ) (n : Node) : Type 0 where
   pub positive : 1 ≤ n.width
   pub at_most : n.width ≤ 64
   pub kind : KindOk ns m n.width n.kind
 
--- every node of the list is right at its place
+-- every node of the list is well-formed at its index
 abbrev pub AllRight : List Node → Type 0
 AllRight ns = (i : ℕ) → i < length ns → NodeOk ns i (get_or ns i no_node)
 

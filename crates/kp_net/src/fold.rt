@@ -1,6 +1,8 @@
-ghost use Rattle.std.specs.Prelude.{◌≡◌, ◌+◌, ◌<◌, ◌≤◌, ◌∷◌, [], ℕ, All, length, get_or, MatchOption, true, false};
+// Constant folding: what a requested node simplifies to.
+ghost use Rattle.std.specs.Prelude.{◌≡◌, ◌+◌, ◌<◌, ◌≤◌, ◌∷◌, [], ℕ, All, length, get_or, MatchOption, ◌&&◌, nat_le, true, false};
 ghost use Rattle.std.specs.List.{sum_by};
 ghost use Rattle.kp_bits.specs.Word.{IsWord, word};
+ghost use Rattle.kp_bits.specs.Operators.{is_shift};
 ghost use Rattle.kp_net.specs.declared.node.NodeId.{NodeId};
 ghost use Rattle.kp_net.specs.declared.node.Kind.TheVariants.{Not, Binary, Mux, Concat, Slice};
 ghost use Rattle.kp_net.specs.Widths.{NodeOk, AllRight, BinaryOk, wide, no_node};
@@ -10,28 +12,28 @@ ghost use Rattle.kp_net.specs.inner.Folds.{FoldsTo, Masks, number_at};
 use crate::node::{Kind, Node, NodeId};
 use kp_bits::{BinOp, Bits};
 
-// What asking for a node comes to.
+// The result of folding a requested node.
 #[derive(Debug, Drop)]
 pub(crate) enum Folded {
-    // A node that is there.
+    // An existing node.
     There(NodeId),
-    // A number.
+    // A constant.
     Number(Bits),
     // The node itself, which is not foldable.
     Asked,
 }
 
-// What an operand that is a constant makes of `&` or `|`.
+// The effect of a constant operand of `&` or `|`.
 #[derive(Clone, Copy, Debug)]
 pub(crate) enum Masking {
-    // The result is this operand.
+    // The result is the constant.
     Wins,
-    // The result is the other one.
+    // The result is the other operand.
     Yields,
     Neither,
 }
 
-// Folds a node that is asked for after these nodes.
+// Folds a node that is requested after these nodes.
 pub(crate) fn fold(nodes: &[Node], n: &Node) -> Folded
     requires right { AllRight nodes.now }
     requires node { NodeOk nodes.now (length nodes.now) n.now }
@@ -82,14 +84,37 @@ fn binary(nodes: &[Node], op: BinOp, a: NodeId, b: NodeId) -> Folded
             },
         },
         None => match number(nodes, b) {
-            Some(right) => match masks(op, right) {
-                Masking::Wins => Folded::There(b),
-                Masking::Yields => Folded::There(a),
-                Masking::Neither => Folded::Asked,
-            },
+            Some(right) => by_number(nodes, op, a, b, right),
             None => Folded::Asked,
         },
     }
+}
+
+// The same where only the right operand is a constant.
+fn by_number(nodes: &[Node], op: BinOp, a: NodeId, b: NodeId, right: Bits) -> Folded
+    requires right { AllRight nodes.now }
+    requires left_inside { a.0 < length nodes.now }
+    requires right_inside { b.0 < length nodes.now }
+    requires left_open { is_const (get_or nodes.now a.0 no_node).kind ≡ false }
+    requires number { (is_const (get_or nodes.now b.0 no_node).kind ≡ true) × IsWord right × (right ≡ number_at nodes.now b.0) }
+    ensures { (k : ℕ) → NodeOk nodes.now (length nodes.now) (record { width = k; kind = Binary op a b }) → FoldsTo nodes.now k (Binary op a b) result }
+{
+    let width = width_of(nodes, a);
+    if is_past(op, width, right) {
+        return Folded::Number(word_of(width, 0));
+    }
+    match masks(op, right) {
+        Masking::Wins => Folded::There(b),
+        Masking::Yields => Folded::There(a),
+        Masking::Neither => Folded::Asked,
+    }
+}
+
+// Whether an operation shifts a word of this width by at least its width.
+fn is_past(op: BinOp, width: u8, by: Bits) -> bool
+    ensures { result ≡ (is_shift op && nat_le width by.value) }
+{
+    op.is_shift() && u64::from(width) <= by.value()
 }
 
 // `test ? yes : no`
@@ -153,7 +178,7 @@ fn part(nodes: &[Node], a: NodeId, hi: u8, lo: u8, width: u8) -> Folded
     }
 }
 
-// The word of a constant.
+// The value of a node that is a constant, else `None`.
 fn number(nodes: &[Node], a: NodeId) -> Option<Bits>
     requires right { AllRight nodes.now }
     requires inside { a.0 < length nodes.now }
@@ -167,6 +192,15 @@ fn number(nodes: &[Node], a: NodeId) -> Option<Bits>
     }
 }
 
+// The width of a node.
+#[tactic(auto, unfolding(crate::specs::Widths::wide))]
+fn width_of(nodes: &[Node], a: NodeId) -> u8
+    requires { a.0 < length nodes.now }
+    ensures { result ≡ wide nodes.now a.0 }
+{
+    nodes[a.0 as usize].width
+}
+
 fn word_of(width: u8, value: u64) -> Bits
     requires { IsWord (word width value) }
     ensures { result ≡ word width value }
@@ -174,7 +208,7 @@ fn word_of(width: u8, value: u64) -> Bits
     Bits::new(width, value).unwrap()
 }
 
-// The operand of a `~`.
+// The operand of a `~` node, else `None`.
 fn inverted(nodes: &[Node], a: NodeId) -> Option<NodeId>
     requires { a.0 < length nodes.now }
     ensures { MatchOption result (is_not (get_or nodes.now a.0 no_node).kind ≡ false) (λ b. (get_or nodes.now a.0 no_node).kind ≡ Not b) }
@@ -185,7 +219,7 @@ fn inverted(nodes: &[Node], a: NodeId) -> Option<NodeId>
     }
 }
 
-// What a constant operand makes of an operation.
+// The effect of a constant operand on an operation.
 #[tactic(auto, using(kp_bits::proofs::Powers::mask_of))]
 fn masks(op: BinOp, word: Bits) -> Masking
     requires { IsWord word }

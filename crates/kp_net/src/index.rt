@@ -1,3 +1,4 @@
+// A hash index of nodes.
 ghost use Rattle.std.specs.Prelude.{◌≡◌, ◌<◌, ◌++◌, ◌∷◌, ◌⊎◌, [], length, get_or, MatchOption};
 ghost use Rattle.kp_net.specs.Widths.{no_node};
 ghost use Rattle.kp_net.specs.inner.Lookup.{LacksBelow};
@@ -7,7 +8,7 @@ use indexmap::IndexSet;
 use std::alloc::Global;
 use std::marker::Model;
 
-/// Nodes by their numbers, from 0 on, and the number of each, which is found in about constant time.
+/// Nodes by their numbers, from 0 on, and the number of each node, looked up in about constant time.
 #[derive(Debug, Drop)]
 pub(crate) struct Index {
     nodes: IndexSet<Node>,
@@ -23,7 +24,7 @@ impl Model for Index {
 }
 
 impl Index {
-    /// No nodes; memory is taken as they come.
+    /// An empty index; memory is allocated as nodes are added.
     pub fn new(alloc: Global) -> Index
         ensures { result ≡ [] }
     {
@@ -32,21 +33,21 @@ impl Index {
         }
     }
 
-    /// How many nodes there are.
+    /// The number of nodes.
     pub fn len(&self) -> usize
         ensures { result ≡ length self.now }
     {
         self.nodes.len()
     }
 
-    /// The number of a node, `None` where it is not among them.
+    /// The number of a node, or `None` if it is not in the index.
     pub fn number(&self, n: &Node) -> Option<usize>
         ensures { MatchOption result (LacksBelow self.now n.now (length self.now)) (λ i. (i < length self.now) × (get_or self.now i no_node ≡ n.now)) }
     {
         self.nodes.get_index_of(n)
     }
 
-    /// Adds a node under the next number, where memory is found for it.
+    /// Adds a node under the next number, unless out of memory.
     pub fn add(&mut self, n: &Node)
         requires { LacksBelow self.old n.now (length self.old) }
         ensures { (self.new ≡ self.old) ⊎ (self.new ≡ self.old ++ n.now ∷ []) }

@@ -1,3 +1,4 @@
+// Names in Verilog.
 ghost use Rattle.std.specs.Prelude.{◌≡◌, ◌≤◌, length, IfOk};
 
 use kp_base::NoMemory;
@@ -7,9 +8,16 @@ use std::marker::Model;
 /// A name of a module, a register, a file or a port in Verilog: 1 to 70 bytes.
 ///
 /// Contracts see a label as the list of its bytes.
-#[derive(Debug, Drop)]
+#[derive(Debug)]
 pub struct Label {
     bytes: Vec<u8>,
+}
+
+impl Drop for Label {
+    fn drop(self) {
+        let Label { bytes } = self;
+        drop(bytes);
+    }
 }
 
 impl Model for Label {
@@ -23,7 +31,7 @@ impl Model for Label {
 }
 
 impl Label {
-    /// The label of these bytes, which are copied.
+    /// The label of these bytes, which are copied. Error: out of memory.
     pub fn new(alloc: Global, bytes: &[u8]) -> Result<Label, NoMemory>
         requires at_least { 1 ≤ length bytes.now }
         requires at_most { length bytes.now ≤ 70 }

@@ -15,21 +15,21 @@ pub fn words_fit()
     ensures value { (c : Cells) (ns : List Node) (i : ℕ) → i < length ns → at c ns i < 2 ^ wide ns i }
 {}
 
-/// In a right list each node has the word that it says of its operands, as an equation of the netlist.
+/// In a well-formed list the word of each node is computed from the words of its operands, as an equation of the netlist.
 #[tactic(auto, using(crate::proofs::Values::word_there))]
 pub fn equations_hold()
     ensures { (c : Cells) (ns : List Node) (i : ℕ) → AllRight ns → i < length ns
         → word_at c ns i ≡ word_of_node c (word_at c ns) (get_or ns i no_node) }
 {}
 
-/// And nothing of a constant or of what an operation gives is cut off there.
+/// There the values of constants and the results of operations are exact: nothing is truncated.
 pub fn operations_are_exact()
     ensures { (c : Cells) (ns : List Node) (i : ℕ) → AllRight ns → i < length ns
         → is_cell (get_or ns i no_node).kind ≡ false
         → word_at c ns i ≡ word_of_kind c (word_at c ns) (wide ns i) (get_or ns i no_node).kind }
 {}
 
-/// One more input gives one more state and one more row, which are those of one cycle from the last state.
+/// One more input yields one more state and one more row: those of one cycle from the last state.
 #[tactic(auto, using(crate::proofs::Runs::states_more, crate::proofs::Runs::rows_more, crate::proofs::Runs::last_more))]
 pub fn runs_go_on()
     ensures states { (net : Net) (inputs : List Input) (i : Input)
@@ -40,8 +40,8 @@ pub fn runs_go_on()
         → last_of net (inputs ++ i ∷ []) ≡ state_after net i (last_of net inputs) }
 {}
 
-/// A reset gives each register its start value and changes no file, and from there on the run is that of the same netlist, whose files
-/// start with the words that they have then.
+/// A reset sets each register to its start value and changes no file. From there on the run is that of the same netlist
+/// with files that start with the words they have at that time.
 #[tactic(auto, using(crate::proofs::Resets::reset_state, crate::proofs::Resets::states_anew, crate::proofs::Resets::rows_anew))]
 pub fn a_reset_starts_anew()
     ensures state { (net : Net) (i : Input) (st : State) → resets net i ≡ true
@@ -52,7 +52,7 @@ pub fn a_reset_starts_anew()
         → rows_from net (state_after net i (last_of net before)) inputs ≡ (run (restarted net (last_of net before).files) inputs).rows }
 {}
 
-/// A right node is as deep as its operands say, and keeps its depth while a pool grows.
+/// The depth of a well-formed node is computed from those of its operands, and stays the same while a pool grows.
 #[tactic(auto, using(crate::proofs::Depths::depth_there, crate::proofs::Depths::depth_kept))]
 pub fn depths_stay()
     ensures of_operands { (ns : List Node) (i : ℕ) → AllRight ns → i < length ns → depth ns i ≡ depth_of (depth ns) (get_or ns i no_node).kind }

@@ -1,3 +1,4 @@
+// Netlists: nodes and the ports, registers, files and outputs around them.
 ghost use Rattle.std.specs.Prelude.{◌≡◌};
 ghost use Rattle.kp_net.specs.Netlist.{Net};
 ghost use Rattle.kp_net.specs.Parts.{PartsOk, NetOk};
@@ -10,14 +11,14 @@ use kp_base::List;
 use kp_bits::Bits;
 use std::marker::Model;
 
-/// An input port beside the stall word. Its values have `width` bits.
+/// An input port other than the stall word. Its values have `width` bits.
 #[derive(Debug, Drop)]
 pub struct Port {
     pub name: Label,
     pub width: u8,
 }
 
-/// A register: its value at the start, and the node whose value it takes at the end of each cycle.
+/// A register: its start value, and the node whose value it latches at the end of each cycle.
 #[derive(Debug, Drop)]
 pub struct NetReg {
     pub name: Label,
@@ -33,7 +34,7 @@ pub struct WritePort {
     pub value: NodeId,
 }
 
-/// A file of 2^`address_width` words of `width` bits, with its words at the start.
+/// A file of 2^`address_width` words of `width` bits, with its initial words.
 #[derive(Debug, Drop)]
 pub struct NetFile {
     pub name: Label,
@@ -43,30 +44,38 @@ pub struct NetFile {
     pub port: Option<WritePort>,
 }
 
-/// What stands beside the nodes of a netlist.
+/// All parts of a netlist other than its nodes.
 #[derive(Debug, Drop)]
 pub struct Parts {
     pub name: Label,
     /// The width of the stall word.
     pub ext: u8,
-    /// Whether there is a reset, which gives each register its start value.
+    /// Whether the netlist has a reset, which sets each register to its start value.
     pub reset: bool,
     pub samples: List<Port>,
     pub regs: List<NetReg>,
     pub files: List<NetFile>,
-    /// The output that shows the stages that hold an instruction.
+    /// The output `full`: the stages that hold an instruction.
     pub full: NodeId,
-    /// The output that shows the stages that update.
+    /// The output `ue`: the stages that update.
     pub ue: NodeId,
-    /// The output that shows the stage of a wrong guess.
+    /// The output `back`: the stage of a wrong guess.
     pub back: NodeId,
 }
 
-/// A netlist: operands stand before the nodes that use them, widths fit, and all that is named is there.
-#[derive(Debug, Drop)]
+/// A netlist: operands precede the nodes that use them, widths fit, and each reference is to an existing part.
+#[derive(Debug)]
 pub struct Netlist {
     nodes: Vec<Node>,
     parts: Parts,
+}
+
+impl Drop for Netlist {
+    fn drop(self) {
+        let Netlist { nodes, parts } = self;
+        drop(nodes);
+        drop(parts);
+    }
 }
 
 impl Model for Netlist {
@@ -81,7 +90,7 @@ impl Model for Netlist {
 }
 
 impl Netlist {
-    /// The nodes of the pool, in their order, with these parts. Takes no memory.
+    /// The netlist of the pool's nodes, in order, with these parts. Allocates nothing.
     pub fn close(pool: Pool, parts: Parts) -> Netlist
         requires { PartsOk pool.nodes parts }
         ensures net { result ≡ record { nodes = pool.nodes; parts = parts } }
@@ -93,7 +102,7 @@ impl Netlist {
         }
     }
 
-    /// These nodes, in this order, with these parts. Takes no memory.
+    /// The netlist of these nodes, in this order, with these parts. Allocates nothing.
     pub fn from_nodes(nodes: Vec<Node>, parts: Parts) -> Netlist
         requires { NetOk (record { nodes = nodes.items; parts = parts }) }
         ensures { result ≡ record { nodes = nodes.items; parts = parts } }
@@ -101,7 +110,7 @@ impl Netlist {
         Netlist { nodes, parts }
     }
 
-    /// The nodes, by their numbers.
+    /// The nodes, indexed by their numbers.
     pub fn nodes(&self) -> &[Node]
         ensures nodes { result.now ≡ self.now.nodes }
         ensures right { NetOk self.now }
@@ -109,7 +118,7 @@ impl Netlist {
         self.nodes.as_slice()
     }
 
-    /// All that stands beside the nodes.
+    /// All parts other than the nodes.
     pub fn parts(&self) -> &Parts
         ensures parts { result.now ≡ self.now.parts }
         ensures right { NetOk self.now }

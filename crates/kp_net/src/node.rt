@@ -1,17 +1,18 @@
+// Nodes of a netlist.
 ghost use Rattle.std.specs.Prelude.{◌≡◌};
 
 use crate::operands::Operands;
 use kp_bits::BinOp;
 use std::alloc::Global;
 
-/// A node, by its place in the list of nodes, counted from 0.
+/// A node, by its index in the list of nodes, counted from 0.
 #[derive(Clone, Copy, Debug, Default, PartialEq, Eq, Hash)]
 pub struct NodeId(pub u32);
 
-/// What a node does.
+/// What a node computes.
 #[derive(Debug, Drop, PartialEq, Eq, Hash)]
 pub enum Kind {
-    /// This number.
+    /// A constant.
     Const(u64),
     /// The stall word.
     Ext,
@@ -19,7 +20,7 @@ pub enum Kind {
     Sample(u32),
     /// The value of a register.
     Reg(u32),
-    /// The word of a file at an address.
+    /// The word of a file at an address: the number of the file, and the address.
     Word(u32, NodeId),
     /// `~a`
     Not(NodeId),
@@ -41,7 +42,7 @@ pub struct Node {
 }
 
 impl Node {
-    // The same node once more. Takes no memory.
+    // A copy of the node. Allocates nothing.
     pub(crate) fn copied(&self, alloc: Global) -> Node
         ensures { result ≡ self.now }
     {

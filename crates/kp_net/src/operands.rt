@@ -1,3 +1,4 @@
+// The operands of a concatenation, stored in place.
 ghost use Rattle.std.specs.Prelude.{◌≡◌, ◌≤◌, length};
 ghost use Rattle.std.proofs.Common.{rules};
 ghost use Rattle.std.specs.Cmp.Lexicographic.{pointwise};
@@ -12,10 +13,17 @@ use std::alloc::Global;
 use std::hash::{Hash, Hasher};
 use std::marker::Model;
 
-/// 2 to 12 nodes, in place: they stand in the value itself, and no memory is taken for them.
-#[derive(Debug, Drop)]
+/// 2 to 12 nodes, stored in the value itself, without allocation.
+#[derive(Debug)]
 pub struct Operands {
     nodes: SmallVec<NodeId, 12>,
+}
+
+impl Drop for Operands {
+    fn drop(self) {
+        let Operands { nodes } = self;
+        drop(nodes);
+    }
 }
 
 impl Model for Operands {
@@ -41,7 +49,7 @@ impl Operands {
         }
     }
 
-    /// The nodes, in the order in which they were given.
+    /// The nodes, in the given order.
     pub fn nodes(&self) -> &[NodeId]
         ensures nodes { result.now ≡ self.now }
         ensures at_least { 2 ≤ length self.now }

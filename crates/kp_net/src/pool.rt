@@ -1,3 +1,4 @@
+// The pool in which nodes are built: no node is added twice, and foldable ones are folded.
 ghost use Rattle.std.specs.Prelude.{◌≡◌, ◌+◌, ◌<◌, ◌≤◌, ◌++◌, ◌∷◌, [], length, IfOk, false, get_or, MatchOption, vec_len, vec_capacity};
 ghost use Rattle.kp_net.specs.Nodes.{Cells, word_at, word_of_kind, word_of_node};
 ghost use Rattle.kp_net.specs.Widths.{NodeOk, AllRight, Distinct, is_cell, no_node, wide};
@@ -13,12 +14,12 @@ use kp_base::NoMemory;
 use std::alloc::Global;
 use std::marker::Model;
 
-/// Nodes, of which no two are equal and none is foldable, and room for more.
+/// Nodes, no two of them equal and none foldable, and capacity for more.
 #[derive(Debug, Drop)]
 pub struct Pool {
     nodes: Vec<Node>,
     spare: u32,
-    // The first nodes: all of them, as long as memory was found.
+    // An index of the first nodes: of all of them, unless an allocation failed.
     index: Index,
 }
 
@@ -37,7 +38,7 @@ impl Model for Pool {
 }
 
 impl Pool {
-    /// An empty pool with room for so many nodes, at most 2^24. Takes all its memory here.
+    /// An empty pool with capacity for this many nodes, at most 2^24. All its memory is allocated here. Error: out of memory.
     pub fn reserve(alloc: Global, nodes: u32) -> Result<Pool, NoMemory>
         requires { nodes ≤ 16777216 }
         ensures { IfOk result (λ p. p ≡ record { nodes = []; spare = nodes }) }
@@ -50,7 +51,7 @@ impl Pool {
         })
     }
 
-    /// How many nodes the pool has room for.
+    /// How many more nodes the pool has capacity for.
     pub fn spare(&self) -> u32
         ensures spare { result ≡ self.now.spare }
         ensures right { AllRight self.now.nodes }
@@ -59,14 +60,14 @@ impl Pool {
         self.spare
     }
 
-    /// All nodes, by their numbers.
+    /// All nodes, indexed by their numbers.
     pub fn nodes(&self) -> &[Node]
         ensures { result.now ≡ self.now.nodes }
     {
         self.nodes.as_slice()
     }
 
-    /// The node of this number.
+    /// The node with this number.
     pub fn at(&self, id: NodeId) -> &Node
         requires { id.0 < length self.now.nodes }
         ensures node { result.now ≡ get_or self.now.nodes id.0 no_node }
@@ -96,7 +97,7 @@ impl Pool {
         nodes
     }
 
-    /// A node with the value of `n`, no deeper: one that is there already, a constant in place of it, or `n` itself, which is added.
+    /// A node with the value of `n`, no deeper: an existing node, a constant in place of it, or `n` itself, which is added.
     pub fn node(&mut self, n: Node) -> NodeId
         requires room { 1 ≤ self.old.spare }
         requires right { NodeOk self.old.nodes (length self.old.nodes) n }
@@ -121,7 +122,7 @@ impl Pool {
         }
     }
 
-    // The same of a node that is not foldable.
+    // The same for a node that is not foldable.
     fn shared(&mut self, n: Node) -> NodeId
         requires room { 1 ≤ self.old.spare }
         requires right { NodeOk self.old.nodes (length self.old.nodes) n }
@@ -150,7 +151,7 @@ impl Pool {
     }
 }
 
-// Appends the node, for which there is room.
+// Appends the node, for which there is capacity.
 fn add(nodes: &mut Vec<Node>, n: Node)
     requires { vec_len nodes.old < vec_capacity nodes.old }
     ensures items { nodes.new.items ≡ nodes.old.items ++ n ∷ [] }
@@ -160,7 +161,7 @@ fn add(nodes: &mut Vec<Node>, n: Node)
     let _ = nodes.push(n);
 }
 
-// Takes the node that comes after these into the index. Once no memory was found for a node, the index stays as it is.
+// Adds the node after these to the index. After the first failed allocation the index isn't extended any more.
 fn note(index: &mut Index, nodes: &[Node], n: &Node)
     requires front { IsFront index.old nodes.now }
     requires lacks { LacksBelow nodes.now n.now (length nodes.now) }
@@ -171,7 +172,7 @@ fn note(index: &mut Index, nodes: &[Node], n: &Node)
     }
 }
 
-// The first node that equals `n`: by the index, and by a search of what the index lacks.
+// The first node that equals `n`: found by the index, or by a search of the nodes that the index lacks.
 fn find(nodes: &[Node], index: &Index, n: &Node) -> Option<usize>
     requires { IsFront index.now nodes.now }
     ensures { MatchOption result (LacksBelow nodes.now n.now (length nodes.now)) (λ i. (i < length nodes.now) × (get_or nodes.now i no_node ≡ n.now)) }

@@ -12,12 +12,12 @@ use Rattle.kp_lex.specs.declared.token.Lexed.{Lexed}
 use Rattle.kp_lex.specs.Text.{HasOutcome, StandsIn, IsIdentifier}
 use Rattle.kp_lex.proofs.Stands.{tokens_stand}
 use Rattle.kp_lex.proofs.Names.{name_is_identifier}
-use Rattle.kp_syntax.specs.Tokens.{Lexeme, IsSpelled, lexemes}
-use Rattle.kp_syntax.specs.Language.{State, Way, JOB, job, language, at, is_over}
-use Rattle.kp_syntax.specs.inner.Follow.{tables}
-use Rattle.kp_syntax.specs.Reading.{JobGoes}
+use Rattle.kp_parse_grammar.specs.Tokens.{Lexeme, IsSpelled, lexemes}
+use Rattle.kp_parse_grammar.specs.Language.{State, Way, JOB, job, language, at, is_over}
+use Rattle.kp_parse_grammar.specs.inner.Follow.{tables}
+use Rattle.kp_parse_grammar.specs.Reading.{JobGoes}
 use Rattle.kp_parse.specs.Sentence.{IsTree, IsWrong, IsTooDeep, place_from}
-use Rattle.kp_syntax.proofs.Predictive.{is_predictive}
+use Rattle.kp_parse_grammar.proofs.Predictive.{is_predictive}
 
 stays : (way : Way) (t : Lexeme) (v : State) → is_over v ≡ true → is_over (language.reads way t v) ≡ true
 stays way t v h = rw h refl
@@ -52,7 +52,7 @@ module _ (text : List ℕ) (tokens : List Token) where
   pub no_tree_deep : (i : ℕ) (j : Job) → JobGoes (lexemes text tokens) (Exceeds (length (drop i (lexemes text tokens)))) → IsTree text tokens j → ⊥
   no_tree_deep i j l d = cc (over_ends language tables JOB is_predictive is_over limit (is_too_deep i _ refl l).over d)
 
--- A name that the lexer gives is a name of a tree.
+-- A name from the lexer is a name of a tree.
 names : (bytes : List ℕ) → IsIdentifier bytes → IsName bytes
 names bytes h = record { not_empty = h.not_empty; within = h.within; spelled = h.spelled }
 

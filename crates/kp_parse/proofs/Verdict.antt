@@ -1,4 +1,4 @@
--- A text has a verdict: a tree, or a broken rule.
+-- A text has a verdict: a tree, or a violated rule.
 use Rattle.std.proofs.Common.{ℕ, ◌≡◌, ◌≤◌, ◌-◌, ◌⊎◌, inl, inr, List, [], length, drop, refl, sym, subst, arith}
 use Rattle.std.proofs.lemmas.List.{length-drop}
 use Rattle.kp_base.specs.declared.refusal.Refusal.{Refusal}
@@ -7,17 +7,17 @@ use Rattle.kp_grammar.specs.Machine.{Outcome, Accepts, Stops, Exceeds, Leads, ac
 use Rattle.kp_grammar.proofs.Check.{decides}
 use Rattle.kp_grammar.proofs.Ends.{ends}
 use Rattle.kp_lex.specs.declared.token.Token.{Token}
-use Rattle.kp_syntax.specs.Tokens.{Lexeme, lexemes}
-use Rattle.kp_syntax.specs.Language.{JOB, Sym, State, language, rules, at, is_over}
-use Rattle.kp_syntax.specs.inner.Follow.{tables}
-use Rattle.kp_syntax.specs.Reading.{JobGoes}
+use Rattle.kp_parse_grammar.specs.Tokens.{Lexeme, lexemes}
+use Rattle.kp_parse_grammar.specs.Language.{JOB, Sym, State, language, rules, at, is_over}
+use Rattle.kp_parse_grammar.specs.inner.Follow.{tables}
+use Rattle.kp_parse_grammar.specs.Reading.{JobGoes}
 use Rattle.kp_parse.specs.Sentence.{IsTree, Breaks}
-use Rattle.kp_syntax.proofs.Predictive.{is_predictive}
-use Rattle.kp_syntax.proofs.Ranked.{rank, is_ranked}
-use Rattle.kp_syntax.proofs.Shapes.{reads_job}
+use Rattle.kp_parse_grammar.proofs.Predictive.{is_predictive}
+use Rattle.kp_parse_grammar.proofs.Ranked.{rank, is_ranked}
+use Rattle.kp_parse_grammar.proofs.Shapes.{reads_job}
 use Rattle.kp_parse.proofs.Text.{is_tree, is_wrong, is_too_deep}
 
--- how many tokens are left where reading ends
+-- the number of tokens that are left where reading ends
 abbrev left_at : Outcome State → ℕ
 left_at (Accepts w) = 0
 left_at (Stops k) = k

@@ -1,4 +1,4 @@
--- What parsing answers: the tree of a sentence, or the first wrong token.
+-- The result of parsing: the tree of a sentence, or the first wrong token.
 use Rattle.std.specs.Prelude.{ℕ, ◌≡◌, List, [], ◌∷◌, length, drop, Result, Ok, Err, ⊤}
 use Rattle.kp_base.specs.Place.{place_after}
 use Rattle.kp_base.specs.Refusal.{e_rule}
@@ -10,38 +10,38 @@ use Rattle.kp_ast.specs.declared.tree.Job.{Job}
 use Rattle.kp_grammar.specs.Grammar.{IsSentence, IsWrongAt, IsWithin, IsOverAt}
 use Rattle.kp_lex.specs.declared.token.Token.{Token}
 use Rattle.kp_parse.specs.declared.job.Parsed.{Parsed}
-use Rattle.kp_syntax.specs.Tokens.{lexemes}
-use Rattle.kp_syntax.specs.Language.{JOB, language, job, at, is_over}
+use Rattle.kp_parse_grammar.specs.Tokens.{lexemes}
+use Rattle.kp_parse_grammar.specs.Language.{JOB, language, job, at, is_over}
 
--- The tokens are a sentence of the language, and this job is its tree; no nesting count passes the limit.
+-- The tokens are a sentence of the language, and this job is its tree; no nesting count exceeds the limit.
 abbrev pub IsTree : List ℕ → List Token → Job → Type 0
 IsTree text tokens j = IsSentence language JOB (at [] []) (lexemes text tokens) (at [] (job j ∷ []))
 
--- where the first of the tokens that are left stands, or where the text ends
+-- the position of the first of the remaining tokens, or of the end of the text
 abbrev pub place_from : List ℕ → List Token → Place
 place_from text [] = place_after text
 place_from text (t ∷ ts) = t.place
 
--- The first tokens, so many of them, are the longest prefix with which some job begins, and the place is behind them. No count has
--- passed the limit there.
+-- The first n tokens are the longest prefix with which some job starts, and the position is after them. No count
+-- exceeds the limit there.
 pub record IsWrong (text : List ℕ) (tokens : List Token) (p : Place) : Type 0 where
   pub prefix : ℕ
   pub wrong : IsWrongAt language JOB (at [] []) (lexemes text tokens) (length (drop prefix (lexemes text tokens)))
   pub within : IsWithin language is_over JOB (at [] []) (lexemes text tokens) (length (drop prefix (lexemes text tokens)))
   pub place : p ≡ place_from text (drop prefix tokens)
 
--- Some job begins with these tokens and one more, which is the first to pass the limit, and stands at the place.
+-- Some job starts with these tokens and one more, which is the first to exceed the limit, and is at this position.
 pub record IsTooDeep (text : List ℕ) (tokens : List Token) (p : Place) : Type 0 where
   pub prefix : ℕ
   pub over : IsOverAt language is_over JOB (at [] []) (lexemes text tokens) (length (drop prefix (lexemes text tokens)))
   pub place : p ≡ place_from text (drop prefix tokens)
 
--- the rule that the tokens break: E4 or E27, whichever comes first
+-- the rule that the tokens violate: E4 or E27, whichever comes first
 pub data Breaks (text : List ℕ) (tokens : List Token) : Refusal → Type 0 where
   wrong_token : {p : Place} → IsWrong text tokens p → Breaks text tokens (e_rule 4 p)
   too_deep : {p : Place} → IsTooDeep text tokens p → Breaks text tokens (e_rule 27 p)
 
--- a call that parses answers with the tree, or with the broken rule, unless memory runs out
+-- a call of the parser returns the tree or the violated rule, or runs out of memory
 abbrev pub AnswersTree : List ℕ → List Token → ℕ → Result Parsed Refused → Type 0
 AnswersTree text tokens rest (Ok parsed) = IsTree text tokens parsed.job × (parsed.rest ≡ rest)
 AnswersTree text tokens rest (Err (refused.Rule refusal)) = Breaks text tokens refusal

@@ -1,2 +1,2 @@
--- What private contracts and proofs speak of: a reader of the public contracts needs none of it.
+-- Definitions for private contracts and proofs only: a reader of the public contracts doesn't need them.
 pub mod Stretches

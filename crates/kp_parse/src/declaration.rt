@@ -3,21 +3,21 @@ ghost use Rattle.std.specs.Prelude.{◌≡◌, ◌==◌, [], ◌∷◌, length, 
 ghost use Rattle.kp_grammar.specs.Grammar.{Nonterminal};
 ghost use Rattle.kp_grammar.specs.Tables.{among};
 ghost use Rattle.kp_lex.specs.declared.token.Keyword.TheVariants as keywords;
-ghost use Rattle.kp_syntax.specs.Tokens.{keyword_class};
-ghost use Rattle.kp_syntax.specs.inner.Follow.{decl_words};
-ghost use Rattle.kp_syntax.specs.Language.{decls, decl as decl_value, param as param_value, params as params_value, perhaps_named, number as number_value, literal as literal_value, expr as expr_value, DECLS, DECL, INDEX, ENABLE, PAR, PARS};
-ghost use Rattle.kp_syntax.specs.Reading.{class_at, Turns, Ends};
-ghost use Rattle.kp_syntax.specs.inner.Stretch.{TurnsAll, EndsAll};
+ghost use Rattle.kp_parse_grammar.specs.Tokens.{keyword_class};
+ghost use Rattle.kp_parse_grammar.specs.inner.Follow.{decl_words};
+ghost use Rattle.kp_parse_grammar.specs.Language.{decls, decl as decl_value, param as param_value, params as params_value, perhaps_named, number as number_value, literal as literal_value, expr as expr_value, DECLS, DECL, INDEX, ENABLE, PAR, PARS};
+ghost use Rattle.kp_parse_grammar.specs.Reading.{class_at, Turns, Ends};
+ghost use Rattle.kp_parse_grammar.specs.inner.Stretch.{TurnsAll, EndsAll};
 ghost use Rattle.kp_parse.specs.inner.Stretches.{bracket_symbols, signature_symbols, definition_symbols, start_symbols, stage_symbols};
 
 use crate::pair::with;
 use kp_ast::{Decl, Expr, FuncDecl, Lit, Named, Num, Param, ResultDecl};
 use kp_base::List;
 use kp_lex::{Keyword, Mark, TokenKind};
-use kp_syntax::{Fault, Tokens, whole_expression};
+use kp_parse_grammar::{Fault, Tokens, whole_expression};
 use std::alloc::Global;
 
-/// All declarations that stand here, and the number of the next token. Each takes a token at least.
+/// All declarations from this token on, and the number of the next token. Each consumes at least one token.
 pub(crate) fn declarations(
     alloc: Global,
     tokens: &Tokens<'_>,
@@ -253,7 +253,7 @@ fn definition(alloc: Global, tokens: &Tokens<'_>, at: usize) -> Result<(Num, Exp
     Ok((width, ended, next))
 }
 
-// The parameters of which this is the first.
+// The parameters, starting with this one.
 fn parameters(
     alloc: Global,
     tokens: &Tokens<'_>,

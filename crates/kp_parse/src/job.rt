@@ -1,13 +1,13 @@
-// Whole jobs.
+// Complete jobs.
 ghost use Rattle.std.specs.Prelude.{◌≡◌, ◌≤◌, ◌+◌, ◌-◌, ◌^◌, [], ◌∷◌, Ok, length, drop, MatchResult, IfOk};
 ghost use Rattle.kp_grammar.specs.Grammar.{Nonterminal};
 ghost use Rattle.kp_grammar.specs.Machine.{Accepts};
 ghost use Rattle.kp_lex.specs.Text.{HasOutcome};
 ghost use Rattle.kp_base.specs.declared.refusal.Refused.TheVariants as refused;
 ghost use Rattle.kp_ast.specs.declared.tree.Job.{Job as JobTree};
-ghost use Rattle.kp_syntax.specs.Language.{job as job_value, named as named_value, number as number_value, decls as decls_value, blocks as blocks_value, perhaps_images, perhaps_stalls, perhaps_inputs, at as state_at, JOB};
-ghost use Rattle.kp_syntax.specs.Reading.{JobGoes, FaultIs, Turns, Ends};
-ghost use Rattle.kp_syntax.specs.inner.Stretch.{TurnsAll, EndsAll};
+ghost use Rattle.kp_parse_grammar.specs.Language.{job as job_value, named as named_value, number as number_value, decls as decls_value, blocks as blocks_value, perhaps_images, perhaps_stalls, perhaps_inputs, at as state_at, JOB};
+ghost use Rattle.kp_parse_grammar.specs.Reading.{JobGoes, FaultIs, Turns, Ends};
+ghost use Rattle.kp_parse_grammar.specs.inner.Stretch.{TurnsAll, EndsAll};
 ghost use Rattle.kp_parse.specs.inner.Stretches.{title_symbols, depth_symbols, part_symbols, section_symbols};
 ghost use Rattle.kp_parse.specs.Sentence.{IsTree, AnswersTree, place_from};
 
@@ -17,10 +17,10 @@ use crate::stage::{stage, stages};
 use kp_ast::{Block, Decl, Image, Inputs, Job, Named, Num, Stalls};
 use kp_base::{List, Place, Refusal, Refused, place_of};
 use kp_lex::{Keyword, Lexed, Mark, Token};
-use kp_syntax::{Fault, Tokens};
+use kp_parse_grammar::{Fault, Tokens};
 use std::alloc::Global;
 
-/// A job, and the offset behind its `end`.
+/// A job, and the offset after its `end`.
 #[derive(Debug, Drop)]
 pub struct Parsed {
     pub job: Job,
@@ -41,7 +41,7 @@ fn job(alloc: Global, tokens: &Tokens<'_>) -> Result<Job, Fault>
     }
 }
 
-// The job with which the text begins, and the number of the token behind its `end`.
+// The job at the start of the text, and the number of the token after its `end`.
 fn machine(alloc: Global, tokens: &Tokens<'_>) -> Result<(Job, usize), Fault>
     ensures goes { MatchResult result (λ x. Turns tokens.now (Nonterminal JOB) [] (job_value x.0 ∷ []) 0 x.1 0) (Ends tokens.now (Nonterminal JOB) [] 0) }
     ensures few { IfOk result (λ x. (length x.0.decls ≤ length tokens.now) × (length x.0.blocks ≤ length tokens.now)) }
@@ -82,7 +82,7 @@ fn depth(tokens: &Tokens<'_>, at: usize) -> Result<(Num, usize), Fault>
     Ok((count, next))
 }
 
-// The declarations and the stages. Each takes a token at least.
+// The declarations and the stages. Each consumes at least one token.
 fn parts(
     alloc: Global,
     tokens: &Tokens<'_>,
@@ -119,20 +119,20 @@ fn sections(
     Ok((image, stalls, inputs, next))
 }
 
-/// The tree of a job, from the tokens that `lex` gives for the text.
+/// The tree of a job, from the tokens that `lex` returns for the text.
 ///
-/// Refuses E4 at the token behind the longest prefix with which some job begins, or at the end of the text, and E27 at
-/// the first token that passes the nesting count of 64, whichever comes first.
+/// Errors: E4 at the token after the longest prefix with which some job starts, or at the end of the text, and E27 at
+/// the first token that exceeds the nesting count of 64, whichever comes first; or out of memory.
 pub fn parse(alloc: Global, lexed: &Lexed, text: &[u8]) -> Result<Parsed, Refused>
     requires lexed { HasOutcome text.now (Ok lexed.now) }
     requires fits { length text.now ≤ 2 ^ 32 - 2 }
-    // The tree of the sentence, or the first broken rule.
+    // The tree of the sentence, or the first violated rule.
     ensures answer { AnswersTree text.now lexed.now.tokens lexed.now.rest result }
 
-    // Each job whose tokens these are is the one that is given, unless memory runs out.
+    // Each job with these tokens is the returned one, unless an allocation fails.
     ensures only { (j : JobTree) → IsTree text.now lexed.now.tokens j → MatchResult result (λ p. p.job ≡ j) (λ e. e ≡ refused.NoMemory) }
 
-    // A declaration and a stage take a byte of the text at least.
+    // A declaration and a stage each have at least one byte of the text.
     ensures few { IfOk result (λ p. (length p.job.decls ≤ length text.now) × (length p.job.blocks ≤ length text.now)) }
 {
     let all = lexed.tokens.as_slice();
@@ -147,7 +147,7 @@ pub fn parse(alloc: Global, lexed: &Lexed, text: &[u8]) -> Result<Parsed, Refuse
     }
 }
 
-// The place of a token, or of the end of the text.
+// The position of a token, or of the end of the text.
 fn place(text: &[u8], tokens: &[Token], at: usize) -> Place
     requires { length text.now ≤ 2 ^ 32 - 2 }
     ensures { result ≡ place_from text.now (drop at tokens.now) }

@@ -1,9 +1,9 @@
-// Parts that are read one behind the other.
+// Parts that are read one after the other.
 ghost use Rattle.std.specs.Prelude.{◌≡◌, Ok, Err, MatchResult};
 
-use kp_syntax::Fault;
+use kp_parse_grammar::Fault;
 
-/// A part, and what is read behind it. Where that fails, the part is let go here, once for all who read.
+/// A part, and the one read after it. If the latter fails, the part is dropped here, in one place for all readers.
 pub(crate) fn with<A: Drop, B: Drop>(
     part: A,
     behind: Result<(B, usize), Fault>,

@@ -1,19 +1,19 @@
-// The sections behind the stages.
+// The sections after the stages.
 ghost use Rattle.std.specs.Prelude.{[], ◌∷◌, MatchResult};
 ghost use Rattle.kp_grammar.specs.Grammar.{Nonterminal};
-ghost use Rattle.kp_syntax.specs.Language.{perhaps_images, images as images_value, image as image_value, perhaps_stalls, stalls as stalls_value, stall as stall_value, perhaps_inputs, inputs as inputs_value, input as input_value, number as number_value, perhaps_number, literals as literals_value, IMAGE, WORDS, WORD, NUMBERED, LITS, STALLS, SPANS, SPAN, STEP, INPUTS, ENTRIES, ENTRY};
-ghost use Rattle.kp_syntax.specs.Reading.{Turns, Ends};
-ghost use Rattle.kp_syntax.specs.inner.Stretch.{TurnsAll, EndsAll};
+ghost use Rattle.kp_parse_grammar.specs.Language.{perhaps_images, images as images_value, image as image_value, perhaps_stalls, stalls as stalls_value, stall as stall_value, perhaps_inputs, inputs as inputs_value, input as input_value, number as number_value, perhaps_number, literals as literals_value, IMAGE, WORDS, WORD, NUMBERED, LITS, STALLS, SPANS, SPAN, STEP, INPUTS, ENTRIES, ENTRY};
+ghost use Rattle.kp_parse_grammar.specs.Reading.{Turns, Ends};
+ghost use Rattle.kp_parse_grammar.specs.inner.Stretch.{TurnsAll, EndsAll};
 ghost use Rattle.kp_parse.specs.inner.Stretches.{value_symbols, cycle_symbols};
 
 use crate::declaration::bracketed;
 use kp_ast::{Image, Inputs, Lit, Num, Stalls};
 use kp_base::List;
 use kp_lex::{Keyword, Mark};
-use kp_syntax::{Fault, Tokens};
+use kp_parse_grammar::{Fault, Tokens};
 use std::alloc::Global;
 
-/// The image section, if it stands here, and the number of the next token.
+/// The image section, if it is present, and the number of the next token.
 pub(crate) fn image_section(
     alloc: Global,
     tokens: &Tokens<'_>,
@@ -80,7 +80,7 @@ fn values(alloc: Global, tokens: &Tokens<'_>, at: usize) -> Result<(Vec<Lit>, us
     Ok((all, next))
 }
 
-// The literals of which this is the first.
+// The literals, starting with this one.
 fn literals(
     alloc: Global,
     tokens: &Tokens<'_>,
@@ -101,7 +101,7 @@ fn literals(
     Ok((all, here))
 }
 
-/// The stalls section, if it stands here, and the number of the next token.
+/// The stalls section, if it is present, and the number of the next token.
 pub(crate) fn stall_section(
     alloc: Global,
     tokens: &Tokens<'_>,
@@ -171,7 +171,7 @@ fn step(tokens: &Tokens<'_>, at: usize) -> Result<(Option<Num>, usize), Fault>
     Ok((Some(number), next))
 }
 
-/// The inputs section, if it stands here, and the number of the next token.
+/// The inputs section, if it is present, and the number of the next token.
 pub(crate) fn input_section(
     alloc: Global,
     tokens: &Tokens<'_>,

@@ -3,18 +3,18 @@ ghost use Rattle.std.specs.Prelude.{◌≡◌, ◌==◌, [], ◌∷◌, MatchRes
 ghost use Rattle.kp_grammar.specs.Grammar.{Nonterminal};
 ghost use Rattle.kp_grammar.specs.Tables.{among};
 ghost use Rattle.kp_lex.specs.declared.token.Keyword.TheVariants as keywords;
-ghost use Rattle.kp_syntax.specs.Tokens.{keyword_class};
-ghost use Rattle.kp_syntax.specs.inner.Follow.{stmt_words};
-ghost use Rattle.kp_syntax.specs.inner.Stretch.{TurnsAll, EndsAll};
+ghost use Rattle.kp_parse_grammar.specs.Tokens.{keyword_class};
+ghost use Rattle.kp_parse_grammar.specs.inner.Follow.{stmt_words};
+ghost use Rattle.kp_parse_grammar.specs.inner.Stretch.{TurnsAll, EndsAll};
 ghost use Rattle.kp_parse.specs.inner.Stretches.{source_symbols, bound_symbols};
-ghost use Rattle.kp_syntax.specs.Language.{blocks, block as block_value, stmts, stmt as stmt_value, named as named_value, expr as expr_value, perhaps_expr, STAGE, STAGES, STMTS, STMT, BINDING, ADDRESS, HEDGE, WHEN};
-ghost use Rattle.kp_syntax.specs.Reading.{class_at, Turns, Ends};
+ghost use Rattle.kp_parse_grammar.specs.Language.{blocks, block as block_value, stmts, stmt as stmt_value, named as named_value, expr as expr_value, perhaps_expr, STAGE, STAGES, STMTS, STMT, BINDING, ADDRESS, HEDGE, WHEN};
+ghost use Rattle.kp_parse_grammar.specs.Reading.{class_at, Turns, Ends};
 
 use crate::pair::with;
 use kp_ast::{Block, Expr, Named, ReadStmt, Stmt, StmtKind};
 use kp_base::List;
 use kp_lex::{Keyword, Mark, TokenKind};
-use kp_syntax::{Fault, Tokens, whole_expression};
+use kp_parse_grammar::{Fault, Tokens, whole_expression};
 use std::alloc::Global;
 
 // The terms of a read: its condition or its guess.
@@ -24,7 +24,7 @@ struct Terms {
     guess: Option<Expr>,
 }
 
-/// The stages of which this is the first, and the number of the next token. Each but the first takes a token at least.
+/// The stages, starting with this one, and the number of the next token. Each but the first consumes at least one token.
 pub(crate) fn stages(
     alloc: Global,
     tokens: &Tokens<'_>,

@@ -1,4 +1,4 @@
--- Words that are laid over others leave those before them and those behind them.
+-- Words that overwrite others don't change those before them and those after them.
 use Rattle.std.proofs.Common.{◌≡◌, ◌∙◌, ℕ, ◌+◌, ◌-◌, ◌≤◌, List, length, take, drop, arith, sym, ap, refl}
 use Rattle.std.specs.Prelude.{slice_range}
 use Rattle.std.proofs.lemmas.List.{length-take-le, take-append-le, take-take, drop-drop}
@@ -17,11 +17,11 @@ module _ (ws others : List ℕ) (at : ℕ) (room : at ≤ length ws) where
   laid_below a e h =
       between_is (laid_over ws at others) a e ∙ ap (drop a) (take-laid_over e h) ∙ sym (between_is ws a e)
 
-  -- the words behind
+  -- the words after them
   pub drop-laid_over : (n : ℕ) → at + length others ≤ n → drop n (laid_over ws at others) ≡ drop n ws
   drop-laid_over n h =
       rw (sym (drop-drop (length others) at ws)) (drop-put_mid at (length others) ws others n h room refl)
 
-  -- a span behind
+  -- a span after them
   pub laid_above : (a e : ℕ) → at + length others ≤ a → slice_range (laid_over ws at others) a e ≡ slice_range ws a e
   laid_above a e h = ap (take (e - a)) (drop-laid_over a h)

@@ -1,5 +1,5 @@
-//! A region of 64-bit words, from which spans are carved. It takes its memory once, so
-//! nothing that is done in it later can be refused for memory.
+//! A region of 64-bit words, from which spans are carved (allocated). Its memory is allocated once, so no later
+//! operation can run out of memory.
 #![tactic(auto)]
 
 pub mod laws;

@@ -1,16 +1,17 @@
+// A region of words and its operations.
 ghost use Rattle.std.specs.Prelude.{◌≡◌, ◌+◌, ◌<◌, ◌≤◌, ◌↔◌, length, slice_index, IfOk, OnOk, OnErr, IsErr};
-ghost use Rattle.kp_region.specs.Words.{IsSound, IsWithin, IsDisjoint, fresh, next_span, carved, written, copied, released};
+ghost use Rattle.kp_region.specs.Words.{IsSound, IsWithin, IsDisjoint, fresh, next_span, span_words, carved, written, copied, released};
 
 use crate::span::Span;
 use kp_base::NoMemory;
 use std::alloc::Global;
 use std::marker::Model;
 
-/// A region has fewer words left than are asked for.
+/// The region has fewer words left than requested.
 #[derive(Clone, Copy, Debug, PartialEq, Eq)]
 pub struct Full;
 
-/// How many words of a region were used at some moment.
+/// A number of used words of a region at some moment.
 #[derive(Clone, Copy, Debug, PartialEq, Eq)]
 pub struct Mark {
     used: u32,
@@ -26,7 +27,7 @@ impl Model for Mark {
     ghost inverse = { λ n. record { used = n } };
 }
 
-/// Words of 64 bits, seen as the list of all of them and the number of those that are used.
+/// Words of 64 bits; contracts see the list of all of them and the number of those that are used.
 #[derive(Debug, Drop)]
 pub struct Region {
     words: Vec<u64>,
@@ -45,7 +46,7 @@ impl Model for Region {
 }
 
 impl Region {
-    /// A region of so many words. Want of memory is the one refusal.
+    /// A region of this many words. The only error is out of memory.
     pub fn take(alloc: Global, words: u32) -> Result<Region, NoMemory>
         ensures { IfOk result (λ r. r ≡ fresh words) }
     {
@@ -53,7 +54,7 @@ impl Region {
         Ok(Region { words, used: 0 })
     }
 
-    /// The next `n` words, as a span of their own.
+    /// Carves a new span of the next `n` words. Error: `Full` if fewer words are left.
     pub fn carve(&mut self, n: u32) -> Result<Span, Full>
         ensures span { IfOk result (λ s. s ≡ next_span self.old n) }
         ensures carved { OnOk result (self.new ≡ carved self.old n) }
@@ -74,7 +75,7 @@ impl Region {
         Ok(span)
     }
 
-    /// The word of the span at this place in it.
+    /// The word of the span at this index.
     pub fn get(&self, s: Span, i: u32) -> u64
         requires within { IsWithin s self.now }
         requires in_span { i < s.len }
@@ -83,7 +84,16 @@ impl Region {
         self.words[s.start as usize + i as usize]
     }
 
-    /// Writes the word of the span at this place in it.
+    /// All words of the span.
+    pub fn words(&self, s: Span) -> &[u64]
+        requires within { IsWithin s self.now }
+        ensures { result.now ≡ span_words self.now s }
+    {
+        let start = s.start as usize;
+        &self.words[start..start + s.len as usize]
+    }
+
+    /// Writes the word of the span at this index.
     pub fn put(&mut self, s: Span, i: u32, v: u64)
         requires within { IsWithin s self.old }
         requires in_span { i < s.len }
@@ -107,7 +117,7 @@ impl Region {
         self.words.copy_within(start..end, to.start as usize);
     }
 
-    /// How many words are used now.
+    /// The present number of used words.
     pub fn mark(&self) -> Mark
         ensures mark { result ≡ self.now.used }
         ensures sound { IsSound self.now }
@@ -115,7 +125,7 @@ impl Region {
         Mark { used: self.used }
     }
 
-    /// Goes back to a mark: what was carved since is free again.
+    /// Returns to a mark: everything that was carved since is free again.
     pub fn release(&mut self, m: Mark)
         requires { m ≤ self.old.used }
         ensures released { self.new ≡ released self.old m }

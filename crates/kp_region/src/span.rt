@@ -1,4 +1,4 @@
-/// So many words of a region, from this one on, counted from 0.
+/// This many words of a region, from this index on, counted from 0.
 #[derive(Clone, Copy, Debug, PartialEq, Eq)]
 pub struct Span {
     pub start: u32,

@@ -1,10 +1,10 @@
--- The machines behind a run show what is due.
+-- The machines after a run have the specified values.
 use Rattle.std.proofs.Common.{◌≡◌, ◌∙◌, ℕ, ◌<◌, ◌^◌, List, length, get_or, ap, sym, subst, arith}
 use Rattle.kp_base.specs.declared.row.Row.{Row}
 use Rattle.kp_ast.specs.declared.tree.Job.{Job}
-use Rattle.kp_law.specs.Accepted.{Accepted}
-use Rattle.kp_law.specs.Rows as law
-use Rattle.kp_law.specs.Rows.{taken}
+use Rattle.kp_pipeline.specs.Accepted.{Accepted}
+use Rattle.kp_pipeline.specs.Rows as law
+use Rattle.kp_pipeline.specs.Rows.{taken}
 use Rattle.kp_stage.specs.Start.{input, AreSamples}
 use Rattle.kp_machine.specs.Machine.{machine_of, sequential, inputs_from, values_in}
 use Rattle.kp_machine.specs.Slots.{Slot, targets_of}

@@ -1,4 +1,4 @@
--- What is gathered for each sample is what the instructions of the run take.
+-- The words that are collected for each sample are those that the instructions of the run read.
 use Rattle.std.proofs.Common.{◌≡◌, ◌∙◌, ℕ, zero, suc, ◌+◌, ◌<◌, ◌≤◌, List, [], ◌∷◌, ◌++◌, map, length, get_or, drop, Bool, true, false, cond, eqb, eq-eqb, refl, ap, sym, subst, arith}
 use Rattle.std.proofs.Math.Path.{fun_ext}
 use Rattle.std.specs.Prelude.{nat_lt, ◌&&◌, if◌then◌else◌}
@@ -9,9 +9,9 @@ use Rattle.kp_base.specs.declared.row.Row as masks
 use Rattle.kp_bits.specs.Word.{Word, word}
 use Rattle.kp_bits.specs.Operators.{no_word}
 use Rattle.kp_ast.specs.declared.tree.Job.{Job}
-use Rattle.kp_law.specs.Machine.{Machine}
-use Rattle.kp_law.specs.Pipeline.{Inputs}
-use Rattle.kp_law.specs.Rows.{Row, bit, bits, one_if, taken, taken_from}
+use Rattle.kp_pipeline.specs.Machine.{Machine}
+use Rattle.kp_pipeline.specs.Pipeline.{Inputs}
+use Rattle.kp_pipeline.specs.Rows.{Row, bit, bits, one_if, taken, taken_from}
 use Rattle.kp_stage.specs.Start.{input, AreSamples}
 use Rattle.kp_machine.specs.Machine.{machine_of, inputs_from, values_in}
 use Rattle.kp_machine.specs.Slots.{sample_stages}
@@ -35,7 +35,7 @@ each_word P given x k none last all (r ∷ rows) cycle i =
 
 -- ---- one sample
 
--- instruction i, which is the one j behind those that have left the stage
+-- instruction i, which is number j after those that have left the stage
 step : (b : Bool) (w : Word) (ws : List Word) (none : Word) (u i j v rest : ℕ) → i ≡ u + j → w.value ≡ v
     → ((l : ℕ) → i ≡ one_if b + u + l → (get_or ws l none).value ≡ rest)
     → (get_or (if b then w ∷ ws else ws) j none).value ≡ cond (b && eqb u i) v rest
@@ -102,7 +102,7 @@ module _ (job : Job) (rows : List masks.Row) (columns : List Taken) (given : (cy
       let w = word_at job.decls (input job 0) (given 0) x (there x h 0) in
       (width_at job.decls (input job 0) (given 0) x (there x h 0), record { positive = w.positive; at_most = w.at_most; fits = pow_pos (get_or (input job 0) x no_word).width })
 
-  -- each row is one of samples
+  -- each input vector is one of the samples
   pub rows_fit_taken : (i : ℕ) → AreSamples job.decls (row_taken columns i)
   rows_fit_taken i =
       fit_when job.decls (row_taken columns i) (wide i ∙ are.count)
@@ -130,7 +130,7 @@ module _ (job : Job) (rows : List masks.Row) (columns : List Taken) (given : (cy
           (let at : (machine_of job).sample_stage x ≡ job.stages.value = stage x ∙ past_stages (sample_stages job.decls) x job.stages.value (omega (arith, high, are.count)) in omega (arith, at))
           rows (inputs_from job 0 (length seen)) (λ k. 0) i)
 
-  -- and its values are what the instruction takes
+  -- and its values are those that the instruction reads
   pub taken_is : (λ (i : ℕ). values_in (row_taken columns i)) ≡ taken (machine_of job) (inputs_from job 0 (length seen)) seen
   taken_is = fun_ext (λ i. fun_ext (value_is i))
 
@@ -164,7 +164,7 @@ module _ (given : ℕ → List Word) (x k n cycle : ℕ) (rows : List masks.Row)
   pub none_taken : updates ≡ false → ws ++ rest ≡ total
   none_taken e = ap (λ (b : Bool). (if b then ws ++ get_or (given cycle) x no_word ∷ [] else ws) ++ rest) (sym e) ∙ one_row
 
--- a column more
+-- one column more
 pub columns_more : (given : ℕ → List Word) (stages : List ℕ) (n : ℕ) (rows : List masks.Row) (columns : List Taken) (c : Taken) (x : ℕ) → length columns ≡ x
     → ((j : ℕ) → j < x → HasColumn given stages n rows j columns)
     → c.words ≡ words_taken given x (get_or stages x n) 0 (rows_seen n rows) → c.none ≡ word (get_or (given 0) x no_word).width 0

@@ -1,4 +1,4 @@
--- What the sections of an accepted job give: rows that fit its samples.
+-- The sections of an accepted job specify input vectors that fit its samples.
 use Rattle.std.proofs.Common.{◌≡◌, ◌∙◌, ℕ, ◌<◌, ◌^◌, List, length, None, ap, sym, subst, arith}
 use Rattle.std.proofs.lemmas.List.{length-map}
 use Rattle.kp_base.specs.First.{first}

@@ -1,4 +1,4 @@
--- What a netlist of a job is given is what its sections give.
+-- The inputs of a netlist of a job are those that its sections specify.
 use Rattle.std.proofs.Common.{◌≡◌, ◌∙◌, ℕ, zero, suc, ◌+◌, ◌%◌, ◌^◌, ◌<◌, ◌≤◌, List, [], ◌∷◌, ◌++◌, map, length, get_or, Bool, true, false, None, refl, ap, sym, arith}
 use Rattle.std.proofs.Math.Path.{fun_ext}
 use Rattle.std.proofs.Math.Nat.{mod-eq_of_lt, div-eq_of_lt}
@@ -18,12 +18,12 @@ use Rattle.kp_width.specs.Widths.{widths_of}
 use Rattle.kp_stage.specs.Start.{stall_word, stalls_at, is_stalled, bits_below, stalls_of, input, AreSamples}
 use Rattle.kp_image.specs.Sections.{stall_of, stalls_checked, sections_of}
 use Rattle.kp_image.proofs.Given.{stalls_right, rows_fit}
-use Rattle.kp_law.specs.Pipeline.{Inputs}
+use Rattle.kp_pipeline.specs.Pipeline.{Inputs}
 use Rattle.kp_machine.specs.Machine.{inputs_at, inputs_from, values_in}
 use Rattle.kp_net.specs.Netlist.{Input}
 use Rattle.kp_sched.specs.Rows.{bit_of}
 use Rattle.kp_sched.proofs.Bits.{word_fits, bit_below}
-use Rattle.kp_shows.specs.Traces.{sample, input_seen, inputs_seen, AreQuiet}
+use Rattle.kp_synth_spec.specs.Traces.{sample, input_seen, inputs_seen, AreQuiet}
 use Rattle.kp_run.specs.Cycles.{input_at, inputs_to}
 use Rattle.kp_run.proofs.Samples.{width_at, word_at, value_at, value_past}
 
@@ -35,7 +35,7 @@ bit_above n v k low h =
     let less : v < 2 ^ k = omega (arith, low, wide) in
     ap (λ (q : ℕ). q % 2 == 1) (div-eq_of_lt less)
 
--- ---- no entry stalls a stage that isn't there
+-- ---- no entry stalls a stage that doesn't exist
 
 other_stage : (stages s k : ℕ) (rest : Bool) → nat_lt s stages ≡ true → stages ≤ k → (s == k && rest) ≡ false
 other_stage stages s k rest e h = go (s == k) refl

@@ -1,14 +1,14 @@
--- What a netlist that shows the machine of a job tells of the job's pipeline.
+-- From a netlist that implements the machine of a job to the job's pipeline.
 use Rattle.std.proofs.Common.{◌≡◌, ◌∙◌, ℕ, zero, suc, ◌≤◌, List, length, None, refl, ap, sym, arith}
 use Rattle.kp_base.specs.First.{first}
 use Rattle.kp_base.specs.declared.row.Row.{Row}
 use Rattle.kp_ast.specs.declared.tree.Job.{Job}
 use Rattle.kp_width.specs.Widths.{widths_of}
 use Rattle.kp_image.specs.Sections.{sections_of}
-use Rattle.kp_law.specs.Pipeline.{Inputs, pipeline_start}
-use Rattle.kp_law.specs.Rows as law
-use Rattle.kp_law.specs.Rows.{Trace}
-use Rattle.kp_law.proofs.Taken.{rows-length}
+use Rattle.kp_pipeline.specs.Pipeline.{Inputs, pipeline_start}
+use Rattle.kp_pipeline.specs.Rows as law
+use Rattle.kp_pipeline.specs.Rows.{Trace}
+use Rattle.kp_pipeline.proofs.Taken.{rows-length}
 use Rattle.kp_stage.specs.Start.{start_of}
 use Rattle.kp_machine.specs.Machine.{machine_of, state_of, start_hints, inputs_from, pipe_of}
 use Rattle.kp_net.specs.Netlist.{Net}
@@ -17,8 +17,8 @@ use Rattle.kp_sched.specs.Rows.{rows_seen}
 use Rattle.kp_sched.specs.Runs.{due_value, IsLegal, ShowsAlike}
 use Rattle.kp_sched.proofs.Counting.{seen_length}
 use Rattle.kp_seq.specs.Running.{HasWord}
-use Rattle.kp_shows.specs.Shows.{Shows}
-use Rattle.kp_shows.specs.Traces.{trace_of}
+use Rattle.kp_synth_spec.specs.Shows.{Shows}
+use Rattle.kp_synth_spec.specs.Traces.{trace_of}
 use Rattle.kp_run.specs.Boards.{due_behind}
 use Rattle.kp_run.specs.Cycles.{inputs_to, HasRows}
 use Rattle.kp_run.proofs.Inputs.{seen_to, quiet_to}
@@ -32,7 +32,7 @@ module _ (job : Job) (widths : first (widths_of job).asked ≡ None) (sections :
   abbrev piped : Trace
   piped = pipe_of job (inputs_from job 0 n)
 
-  traced : rows_seen job.stages.value rows ≡ (trace_of job net (inputs_to job n)).rows
+  pub traced : rows_seen job.stages.value rows ≡ (trace_of job net (inputs_to job n)).rows
   unfolding trace_of
   traced = ap (rows_seen job.stages.value) has.rows
 
@@ -45,7 +45,7 @@ module _ (job : Job) (widths : first (widths_of job).asked ≡ None) (sections :
   many : length piped.rows ≡ n
   many = rows-length (machine_of job) (pipeline_start (state_of job (start_of job)) (start_hints job)) (inputs_from job 0 n) ∙ inputs_many job 0 n
 
-  as_many : length rows ≡ n
+  pub as_many : length rows ≡ n
   as_many = sym (seen_length job.stages.value rows) ∙ ap (λ (l : List law.Row). length l) rows_of_pipe ∙ many
 
   pub values_of_pipe : (t a : ℕ) → IsLegal job (inputs_from job 0 n) piped → HasWord job t a → piped.visible n t a ≡ due_behind job rows t a

@@ -6,3 +6,6 @@ pub mod Machines
 pub mod Steps
 pub mod Boards
 pub mod Legal
+pub mod Placing
+pub mod Prefixes
+pub mod Due

@@ -1,4 +1,4 @@
--- The machines behind a run, and which of them shows a target.
+-- The machines after a run, and which of them has the value of a target.
 use Rattle.std.proofs.Common.{◌≡◌, ◌∙◌, ℕ, zero, suc, ◌+◌, ◌-◌, ◌<◌, ◌≤◌, List, [], ◌∷◌, ◌++◌, length, get_or, Bool, true, false, Option, Some, None, refl, ap, sym, arith}
 use Rattle.std.specs.Prelude.{is_some, nat_lt, nat_le, ◌&&◌, if◌then◌else◌}
 use Rattle.std.specs.List.{All}
@@ -14,10 +14,10 @@ use Rattle.kp_stage.specs.Start.{start_of}
 use Rattle.kp_stage.specs.Stages.{broken_of}
 use Rattle.kp_stage.proofs.Unbroken.{first_none, answer_none}
 use Rattle.kp_machine.proofs.Rules.{head_kept}
-use Rattle.kp_law.specs.Accepted.{Accepted}
-use Rattle.kp_law.specs.Sequential.{exec, seq}
-use Rattle.kp_law.specs.Rows as law
-use Rattle.kp_law.specs.Rows.{passed}
+use Rattle.kp_pipeline.specs.Accepted.{Accepted}
+use Rattle.kp_pipeline.specs.Sequential.{exec, seq}
+use Rattle.kp_pipeline.specs.Rows as law
+use Rattle.kp_pipeline.specs.Rows.{passed}
 use Rattle.kp_machine.specs.Machine.{machine_of, result_for, state_of, sequential, values_in, write_stage_of}
 use Rattle.kp_machine.specs.Slots.{targets_of, result_to}
 use Rattle.kp_sched.specs.Monitors.{Kept, HasSeen}
@@ -42,7 +42,7 @@ stages_fit job e =
     let ends = and_parts (nat_le 2 n) (nat_le n 12) both.0 in
     (leb-true 2 n ends.0, leb-true n 12 ends.1)
 
--- ---- which machine shows a target
+-- ---- which machine has the value of a target
 
 pub home_is : (job : Job) (t : ℕ) → home_by (result_to (targets_of job.decls) job.decls t) job.stages.value ≡ home_of job t
 unfolding home_of machine_of result_for
@@ -74,7 +74,7 @@ homes_more job homes t home many kept last j h = go (nat_lt j t) refl
 
 -- ---- one machine
 
--- the run in which instruction j is given this row
+-- the run in which instruction j reads this input vector
 abbrev run : Job → State → (ℕ → List Word) → ℕ → State
 run job s rows i = seq (machine_of job) s (λ j. values_in (rows j)) i
 
@@ -91,19 +91,19 @@ one_step job now s rows i before after row same is this stepped =
     ∙ next_is job s rows i
     ∙ ap (run job s rows) e
 
--- an opened machine is at the begin of the run
+-- an opened machine is at the start of the run
 pub opened_is : (job : Job) (given : ℕ → ℕ → ℕ) → state_of job (start_of job) ≡ sequential job given 0
 unfolding seq
 opened_is job given = refl
 
--- a machine of the job that ran on from there stands further in the same run
+-- a machine of the job that continued from there is further on in the same run
 pub ran_on : (job now : Job) (given : ℕ → ℕ → ℕ) (from to : ℕ) (before after : State) → now ≡ job → before ≡ sequential job given from
     → ((s : State) → before ≡ seq (machine_of now) s given from → after ≡ seq (machine_of now) s given to) → after ≡ sequential job given to
 ran_on job now given from to before after same at run =
     let s = state_of job (start_of job) in
     run s (at ∙ sym (ap (λ (j : Job). seq (machine_of j) s given from) same)) ∙ ap (λ (j : Job). seq (machine_of j) s given to) same
 
--- ---- machines behind each other
+-- ---- the machines of all stages
 
 pub lane_at : (ms : List Running) (k : ℕ) (d : Running) → k < length ms → lane_state ms k ≡ state (get_or ms k d)
 lane_at [] k d h = absurd (omega arith)
@@ -116,7 +116,7 @@ default (x ∷ xs) zero d h = refl
 default (x ∷ xs) (suc i) d h = default xs i d (omega arith)
 
 module _ (job : Job) (given : ℕ → ℕ → ℕ) where
-  -- the machine that ran none stands behind those of all stages
+  -- the machine that has executed nothing comes after those of all stages
   pub none_counted : (counts : List ℕ) (n : ℕ) → n ≡ job.stages.value → 0 ≡ lane_count job.stages.value counts n
   none_counted counts n is = let last : job.stages.value ≤ n = omega (arith, is) in rw (le-ltb n job.stages.value last) refl
 
@@ -134,7 +134,7 @@ module _ (job : Job) (given : ℕ → ℕ → ℕ) where
           at ∙ ap (sequential job given) (none_counted counts n is) ∙ ap (λ (i : ℕ). sequential job given (lane_count job.stages.value counts i)) e
       none_run (suc j) h = absurd (omega (arith, h))
 
-  -- and the machine of a stage before those behind it
+  -- and the machine of a stage before those of the later stages
   pub stage_counted : (counts : List ℕ) (k ran : ℕ) → k < job.stages.value → ran ≡ get_or counts k 0 → ran ≡ lane_count job.stages.value counts k
   stage_counted counts k ran below is = rw (lt-ltb k job.stages.value below) is
 
@@ -192,7 +192,7 @@ module _ (job : Job) (given : ℕ → ℕ → ℕ) where
           ∙ ap (λ (i : ℕ). sequential job given (lane_count job.stages.value kept.passed i)) none
           ∙ ap (sequential job given) (passes_are k (nat_lt k job.stages.value) refl)
 
--- ---- what a machine shows
+-- ---- the values of a machine
 
 module _ (job : Job) (rows : List law.Row) (acc : Accepted (machine_of job)) where
   passes_by : (has : Bool) (w : ℕ) → (has ≡ true → w < job.stages.value)
@@ -200,7 +200,7 @@ module _ (job : Job) (rows : List law.Row) (acc : Accepted (machine_of job)) whe
   passes_by true w h = rw (lt-ltb w job.stages.value (h refl)) refl
   passes_by false w h = rw (le-ltb job.stages.value job.stages.value (let e : job.stages.value ≤ job.stages.value = omega arith in e)) refl
 
-  -- its home has run the instructions that stand behind a target
+  -- the machine of a target has executed the instructions that the target reflects
   pub home_passes : (t : ℕ) → lane_passes job rows (home_of job t) ≡ passes job rows (length rows) t
   unfolding home_of passes machine_of
   home_passes t = passes_by (is_some (result_for job t)) (write_stage_of (result_for job t)) (acc.writes t)

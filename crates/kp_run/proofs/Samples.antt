@@ -1,4 +1,4 @@
--- Rows of samples, place by place.
+-- Input vectors of the samples, entry by entry.
 use Rattle.std.proofs.Common.{◌≡◌, ◌∙◌, ℕ, zero, suc, ◌<◌, ◌≤◌, ◌+◌, List, [], ◌∷◌, ◌++◌, map, length, get_or, refl, ap, sym, arith, Option, Some}
 use Rattle.std.specs.Prelude.{take, set, unwrap_or, slice_get}
 use Rattle.std.proofs.lemmas.List.{get_or-map, length-map, take_all, take_more, take_more_set}
@@ -16,7 +16,7 @@ use Rattle.kp_net.specs.Parts.{no_port}
 use Rattle.kp_net.specs.declared.netlist.Port.{Port}
 use Rattle.kp_cycle.specs.Steps.{SamplesFit}
 use Rattle.kp_seq.specs.Running.{no_slot}
-use Rattle.kp_shows.specs.Naming.{sample_port, sample_ports}
+use Rattle.kp_synth_spec.specs.Naming.{sample_port, sample_ports}
 
 pub many : (ds : List Decl) (row : List Word) → AreSamples ds row → length row ≡ length (sample_stages ds)
 many [] [] fits = refl
@@ -40,7 +40,7 @@ few (decls.Hint n width start ∷ ds) = let h = few ds in omega (arith, h)
 few (decls.Target r ∷ ds) = let h = few ds in omega (arith, h)
 few (decls.Func f ∷ ds) = let h = few ds in omega (arith, h)
 
--- the width at each place, and that there is a word
+-- the width of each entry, and that the entry exists
 pub width_at : (ds : List Decl) (row : List Word) → AreSamples ds row → (x : ℕ) → x < length row → (get_or row x no_word).width ≡ (get_or (samples_of ds) x no_slot).width
 width_at [] [] fits x h = absurd (omega (arith, h))
 width_at [] (v ∷ row) fits x h = cc
@@ -80,7 +80,7 @@ value_past [] x h = refl
 value_past (v ∷ row) zero h = absurd (omega (arith, h))
 value_past (v ∷ row) (suc x) h = value_past row x (omega (arith, h))
 
--- a row fits the ports of a netlist of the job
+-- an input vector fits the ports of a netlist of the job
 pub fits_ports : (job : Job) (net : Net) (row : List Word) → net.parts.samples ≡ sample_ports job → AreSamples job.decls row → SamplesFit net row
 fits_ports job net row ports fits =
     let ss = samples_of job.decls in
@@ -94,7 +94,7 @@ fits_ports job net row ports fits =
           ∙ ap (λ (ps : List Port). (get_or ps x no_port).width) (sym ports);
     }
 
--- one place more of a row is written
+-- one entry more of an input vector is written
 pub set_next : (row room : List Word) (x : ℕ) (w : Word) → x < length room → x < length row → take x room ≡ take x row → w ≡ get_or row x no_word → take (x + 1) (set room x w) ≡ take (x + 1) row
 set_next row room x w h there same is =
     take_more_set room x w h

@@ -1,15 +1,15 @@
--- What the instructions of a run take of each sample, gathered from its rows.
+-- The sample values that the instructions of a run read, collected from its rows.
 use Rattle.std.specs.Prelude.{◌≡◌, ℕ, suc, ◌<◌, List, [], ◌∷◌, length, get_or, map, if◌then◌else◌}
 use Rattle.kp_base.specs.declared.row.Row as masks
 use Rattle.kp_bits.specs.Word.{Word, word}
 use Rattle.kp_bits.specs.Operators.{no_word}
 use Rattle.kp_ast.specs.declared.tree.Job.{Job}
-use Rattle.kp_law.specs.Rows.{Row, bit}
+use Rattle.kp_pipeline.specs.Rows.{Row, bit}
 use Rattle.kp_stage.specs.Start.{input}
 use Rattle.kp_machine.specs.Slots.{sample_stages}
 use Rattle.kp_sched.specs.Rows.{rows_seen}
 
--- the words of the instructions that leave the stage of a sample, in their order, and the word that all others take
+-- the words of the instructions that leave the stage of a sample, in order, and the word that all others read
 pub record Taken : Type 0 where
   pub words : List Word
   pub none : Word
@@ -20,7 +20,7 @@ word_taken c i = get_or c.words i c.none
 abbrev pub row_taken : List Taken → ℕ → List Word
 row_taken columns i = map (λ c. word_taken c i) columns
 
--- the words of sample x in the cycles of these rows in which stage k updates; the first of them is this cycle
+-- the words of sample x in the cycles of these rows in which stage k updates, where the first row has number `cycle`
 abbrev pub words_taken : (ℕ → List Word) → ℕ → ℕ → ℕ → List Row → List Word
 words_taken given x k cycle [] = []
 words_taken given x k cycle (r ∷ rows) =
@@ -29,7 +29,7 @@ words_taken given x k cycle (r ∷ rows) =
 abbrev pub no_column : Taken
 no_column = record { words = []; none = no_word }
 
--- the column of sample x, of which these are the stages in a machine of n stages
+-- the column of sample x, given the stages of the samples in a machine of n stages
 pub record HasColumn (given : ℕ → List Word) (stages : List ℕ) (n : ℕ) (rows : List masks.Row) (x : ℕ) (columns : List Taken) : Type 0 where
   pub words : (get_or columns x no_column).words ≡ words_taken given x (get_or stages x n) 0 (rows_seen n rows)
   pub none : (get_or columns x no_column).none ≡ word (get_or (given 0) x no_word).width 0

@@ -1,4 +1,4 @@
--- A netlist that runs beside a monitor.
+-- A netlist that runs together with a monitor.
 use Rattle.std.specs.Prelude.{◌≡◌, ℕ, zero, suc, false, List, [], ◌∷◌, ◌++◌, map}
 use Rattle.kp_base.specs.declared.row.Row.{Row}
 use Rattle.kp_ast.specs.declared.tree.Job.{Job}
@@ -6,7 +6,7 @@ use Rattle.kp_stage.specs.Start.{stall_word, input}
 use Rattle.kp_net.specs.Netlist.{Net, Input, run}
 use Rattle.kp_sched.specs.Monitors.{Kept, HasSeen}
 
--- What the sections of a job give to a netlist in a cycle: the stall word and the values of the samples. The reset isn't raised.
+-- The inputs of a netlist in a cycle, as the sections of a job specify them: the stall word and the values of the samples. The reset isn't raised.
 abbrev pub input_at : Job → ℕ → Input
 input_at job cycle = record { ext = stall_word job cycle; reset = false; samples = map (λ w. w.value) (input job cycle) }
 
@@ -15,7 +15,7 @@ abbrev pub inputs_to : Job → ℕ → List Input
 inputs_to job zero = []
 inputs_to job (suc n) = inputs_to job n ++ input_at job n ∷ []
 
--- These are the rows of the first n cycles of the netlist under those inputs, and the monitor was given them.
+-- The rows are those of the first n cycles of the netlist under those inputs, and the monitor has seen them.
 pub record HasRows (job : Job) (net : Net) (n : ℕ) (given : List Row) (monitor : Kept) : Type 0 where
   pub rows : given ≡ (run net (inputs_to job n)).rows
   pub seen : HasSeen monitor given

@@ -1,11 +1,11 @@
--- Which machine shows a target: for each stage there is one, which runs the instructions that the stage lets pass, and one more that runs
--- none.
+-- Which machine has the value of a target: there is one for each stage, which executes the instructions that the stage has completed, and one more
+-- that executes none.
 use Rattle.std.specs.Prelude.{◌≡◌, ℕ, ◌<◌, ◌≤◌, List, length, get_or, if◌then◌else◌}
 use Rattle.kp_ast.specs.declared.tree.Job.{Job}
 use Rattle.kp_machine.specs.Machine.{machine_of}
 use Rattle.kp_machine.specs.Slots.{targets_of}
 
--- That of the write stage of the target, or the one that runs nothing where the target has no result.
+-- The machine of the write stage of the target, or the one that executes nothing if the target has no result.
 unfoldable pub home_of : Job → ℕ → ℕ
 home_of job t = if (machine_of job).has_result t then (machine_of job).write_stage t else job.stages.value
 

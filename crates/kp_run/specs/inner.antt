@@ -1,4 +1,6 @@
--- What stands here is for private contracts and proofs: a reader need not believe it.
+-- For private contracts and proofs only: a reader need not trust it.
 pub mod Homes
 pub mod Lanes
 pub mod Boards
+pub mod Places
+pub mod Finals

@@ -1,43 +1,50 @@
-// What a run is told by.
+// A finished run, with all that is printed of it.
 ghost use Rattle.std.specs.Prelude.{◌≡◌, ℕ, ◌+◌, ◌<◌, ◌≤◌, ◌^◌, length, get_or, IfOk};
+ghost use Rattle.std.specs.Option.{ForNone, ForSome};
 ghost use Rattle.std.specs.List.{All};
 ghost use Rattle.kp_bits.specs.Word.{word};
 ghost use Rattle.kp_machine.specs.Slots.{targets_of};
 ghost use Rattle.kp_sched.specs.Monitors.{HasSeen};
 ghost use Rattle.kp_sched.specs.Rows.{rows_seen};
 ghost use Rattle.kp_seq.specs.Running.{HasWord, target};
-ghost use Rattle.kp_shows.specs.Naming.{sample_ports};
-ghost use Rattle.kp_shows.specs.Shows.{HasOutputs};
+ghost use Rattle.kp_synth_spec.specs.Naming.{sample_ports};
+ghost use Rattle.kp_synth_spec.specs.Shows.{HasOutputs, Shows};
 ghost use Rattle.kp_run.specs.Boards.{due_behind, passes_behind};
 ghost use Rattle.kp_run.specs.Cycles.{HasRows};
-ghost use Rattle.kp_run.specs.inner.Boards.{IsBoard};
+ghost use Rattle.kp_run.specs.inner.Boards.{IsBoard, HasCounts};
+ghost use Rattle.kp_run.specs.inner.Finals.{AreFinals};
 
 use crate::columns::columns_of;
-use crate::cycles::{Cycles, cycles_of};
+use crate::cycles::{Cycles, cycles_of, run_of};
+use crate::finals::{Words, finals_of};
 use crate::homes::homes_of;
 use crate::lanes::machines_after;
+use crate::laws::a_run_tells_of_the_pipeline;
 use kp_base::NoMemory;
 use kp_bits::Bits;
-use kp_judge::Accepted;
-use kp_lawful::laws::a_design_is_accepted;
+use kp_frontend::Accepted;
+use kp_machine_laws::laws::a_design_is_accepted;
 use kp_net::Netlist;
 use kp_seq::SeqMachine;
 use kp_stage::Design;
 use std::alloc::Global;
 
-/// A run of a job that has ended: its rows with their counts, and the values that are due behind them.
+/// A run of a job that has ended: its rows with their counts, and the values of the sequential machine after them.
 #[derive(Drop)]
 pub struct Board<'a> {
     pub design: &'a Design,
     pub cycles: Cycles,
     lanes: Lanes<'a>,
+    finals: Option<Vec<Words>>,
     pub ghost few: { length design.now.job.decls < 2 ^ 32 },
     pub ghost seen: { HasSeen cycles.monitor cycles.rows.items },
     pub ghost stages: { cycles.monitor.stages ≡ design.now.job.stages.value },
-    ghost is: { IsBoard design.now.job cycles.rows.items lanes.machines.items lanes.homes.items },
+    ghost counts: { HasCounts design.now.job cycles.rows.items lanes.homes.items },
+    ghost is: { ForNone finals (IsBoard design.now.job cycles.rows.items lanes.machines.items lanes.homes.items) },
+    ghost are: { ForSome finals (λ fs. AreFinals design.now.job (due_behind design.now.job cycles.rows.items) fs.items) },
 }
 
-// The machines behind a run, and for each target the number of the one that shows it.
+// The machines after a run, and for each target the number of the machine that has its value.
 #[derive(Drop)]
 struct Lanes<'a> {
     machines: Vec<SeqMachine<'a>>,
@@ -45,17 +52,22 @@ struct Lanes<'a> {
 }
 
 impl<'a> Board<'a> {
-    /// The value that is due of a target at an address: that of the sequential machine after as many instructions as stand behind the
-    /// target. The targets are the registers and files in the order of declaration, and a register has address 0.
+    /// The specified value of a target at an address: that of the sequential machine after as many instructions as the target reflects. The targets
+    /// are the registers and files in the order of declaration, and a register has address 0.
     pub fn value(&self, t: u32, address: u32) -> Bits
         requires { HasWord self.now.design.now.job t address }
         ensures { result ≡ word (target self.now.design.now.job t).width (due_behind self.now.design.now.job self.now.cycles.rows.items t address) }
     {
-        let home = self.lanes.homes[t as usize];
-        self.lanes.machines[usize::from(home)].value(t, address)
+        match &self.finals {
+            Some(finals) => finals[t as usize].at(address),
+            None => {
+                let home = self.lanes.homes[t as usize];
+                self.lanes.machines[usize::from(home)].value(t, address)
+            }
+        }
     }
 
-    /// How many instructions stand behind a target: those that its write stage let pass, and none where it has no result.
+    /// The number of instructions that a target reflects: those that its write stage has completed, and 0 if it has no result.
     pub fn behind(&self, t: u32) -> u64
         requires { t < length (targets_of self.now.design.now.job.decls) }
         ensures { result ≡ passes_behind self.now.design.now.job self.now.cycles.rows.items t }
@@ -69,7 +81,8 @@ impl<'a> Board<'a> {
     }
 }
 
-/// The run of a netlist over so many cycles under the stall words and the samples of a job, with the values that are due behind it.
+/// The run of a netlist over `count` cycles under the stall words and the samples of a job, with the values of the sequential machine after it. The
+/// only error is out of memory.
 pub fn board_of<'a>(
     alloc: Global,
     job: &'a Accepted,
@@ -87,6 +100,35 @@ pub fn board_of<'a>(
         design: &job.design,
         cycles,
         lanes,
+        finals: None,
+    })
+}
+
+/// The same for a netlist that implements the machine of the job: then its state after the last cycle has the specified values, and no instruction is
+/// executed.
+pub fn board_shown<'a>(
+    alloc: Global,
+    job: &'a Accepted,
+    net: &Netlist,
+    count: u32,
+) -> Result<Board<'a>, NoMemory>
+    requires { Shows net.now job.now.design.job }
+    ensures job { IfOk result (λ b. b.design.now.job ≡ job.now.design.job) }
+    ensures rows { IfOk result (λ b. HasRows job.now.design.job net.now count b.cycles.rows.items b.cycles.monitor) }
+{
+    // The invariant of the type, for the proof only.
+    let _kept = job.design.job();
+    a_design_is_accepted(&job.design);
+    a_run_tells_of_the_pipeline(job);
+    let run = run_of(alloc, job, net, count)?;
+    let finals = finals_of(alloc, &job.design, &run.sim)?;
+    let homes = homes_of(alloc, &job.design)?;
+    let machines = Vec::new(alloc);
+    Ok(Board {
+        design: &job.design,
+        cycles: run.cycles,
+        lanes: Lanes { machines, homes },
+        finals: Some(finals),
     })
 }
 
@@ -95,7 +137,7 @@ fn lanes_of<'a>(alloc: Global, job: &'a Accepted, cycles: &Cycles) -> Result<Lan
     requires stages { cycles.now.monitor.stages ≡ job.now.design.job.stages.value }
     ensures { IfOk result (λ l. IsBoard job.now.design.job cycles.now.rows.items l.machines.items l.homes.items) }
 {
-    // What the type keeps of the job, for the proof alone.
+    // The invariant of the type, for the proof only.
     let _kept = job.design.job();
     a_design_is_accepted(&job.design);
     let columns = columns_of(alloc, job, cycles.rows.as_slice())?;

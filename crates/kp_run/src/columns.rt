@@ -1,8 +1,8 @@
-// What the instructions of a run take of the samples.
+// The sample values that the instructions of a run read.
 ghost use Rattle.std.specs.Prelude.{◌≡◌, ℕ, ◌<◌, ◌≤◌, ◌^◌, length, get_or, IfOk};
 ghost use Rattle.kp_bits.specs.Word.{word};
 ghost use Rattle.kp_bits.specs.Operators.{no_word};
-ghost use Rattle.kp_law.specs.Rows.{bit, bits};
+ghost use Rattle.kp_pipeline.specs.Rows.{bit, bits};
 ghost use Rattle.kp_image.specs.Feeds.{row_in};
 ghost use Rattle.kp_machine.specs.Slots.{sample_stages};
 ghost use Rattle.kp_sched.specs.Rows.{bit_of, rows_seen};
@@ -11,12 +11,12 @@ ghost use Rattle.kp_run.specs.Columns.{AreColumns, words_taken, word_taken};
 use kp_ast::Decl;
 use kp_base::{NoMemory, Row};
 use kp_bits::Bits;
+use kp_frontend::Accepted;
 use kp_image::InputPattern;
-use kp_judge::Accepted;
 use std::alloc::Global;
 use std::marker::Model;
 
-/// What instructions take of a sample: a word for each one that leaves the sample's stage, in their order, and the word of all others.
+/// The values that instructions read from a sample: one for each instruction that leaves the sample's stage, in order, and one for all others.
 #[derive(Drop)]
 pub struct Column {
     words: Vec<Bits>,
@@ -32,7 +32,7 @@ impl Model for Column {
 }
 
 impl Column {
-    /// The word that instruction i takes.
+    /// The value that instruction i reads.
     pub fn word(&self, i: u64) -> Bits
         ensures { result ≡ word_taken self.now i }
     {
@@ -45,7 +45,7 @@ impl Column {
     }
 }
 
-/// For each sample of a job what the instructions of a run with these rows take of it.
+/// For each sample of a job the values that the instructions of a run with these rows read. The only error is out of memory.
 pub fn columns_of(alloc: Global, job: &Accepted, rows: &[Row]) -> Result<Vec<Column>, NoMemory>
     ensures { IfOk result (λ columns. AreColumns job.now.design.job rows.now columns.items) }
 {
@@ -72,7 +72,7 @@ fn stages_of(alloc: Global, decls: &[Decl]) -> Result<Vec<u64>, NoMemory>
     Ok(stages)
 }
 
-// What instructions take of sample x as they leave stage k of n.
+// The values that instructions read from sample x, whose stage is k of n.
 fn column_for(
     alloc: Global,
     inputs: &InputPattern,
@@ -104,7 +104,7 @@ fn zero(width: u8) -> Bits
     Bits::new(width, 0).unwrap()
 }
 
-/// Whether stage k of n updates in this word of update enables.
+/// Whether stage k of n updates, according to a mask of update enables with bit k for stage k.
 pub fn updates(ue: u16, k: u64, n: u64) -> bool
     requires { n ≤ 12 }
     ensures { result ≡ bit (bits (bit_of ue) n 0) k }

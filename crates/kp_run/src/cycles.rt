@@ -1,19 +1,19 @@
-// A netlist that runs beside a monitor.
+// A netlist that runs together with a monitor.
 ghost use Rattle.std.specs.Prelude.{◌≡◌, ◌<◌, ◌≤◌, ◌^◌, false, length, IfOk};
 ghost use Rattle.kp_stage.specs.Start.{stall_word, input};
 ghost use Rattle.kp_image.specs.Spans.{word_in};
 ghost use Rattle.kp_image.specs.Feeds.{row_in};
-ghost use Rattle.kp_net.specs.Netlist.{row_of, state_after};
+ghost use Rattle.kp_net.specs.Netlist.{row_of, state_after, last_of};
 ghost use Rattle.kp_cycle.specs.Steps.{SamplesFit, given};
-ghost use Rattle.kp_shows.specs.Naming.{sample_ports};
-ghost use Rattle.kp_shows.specs.Shows.{HasOutputs};
-ghost use Rattle.kp_run.specs.Cycles.{HasRows};
+ghost use Rattle.kp_synth_spec.specs.Naming.{sample_ports};
+ghost use Rattle.kp_synth_spec.specs.Shows.{HasOutputs};
+ghost use Rattle.kp_run.specs.Cycles.{HasRows, inputs_to};
 
 use kp_base::{NoMemory, Row};
 use kp_bits::Bits;
 use kp_cycle::Sim;
+use kp_frontend::Accepted;
 use kp_image::{InputPattern, Sections};
-use kp_judge::Accepted;
 use kp_net::Netlist;
 use kp_sched::Monitor;
 use std::alloc::Global;
@@ -25,8 +25,15 @@ pub struct Cycles {
     pub monitor: Monitor,
 }
 
-/// Runs so many cycles of a netlist under the stall words and the samples of a job, from its start state and with the reset never raised.
-/// All memory is taken at the opening, 6 bytes for each row among it, and no cycle takes any.
+/// A run of a netlist, and the simulator after its last cycle.
+#[derive(Drop)]
+pub(crate) struct Ran<'n> {
+    pub cycles: Cycles,
+    pub sim: Sim<'n>,
+}
+
+/// Runs `count` cycles of a netlist under the stall words and the samples of a job, from its start state and with the reset never raised. All memory,
+/// with 6 bytes for each row, is allocated before the first cycle; the only error is out of memory.
 pub fn cycles_of(
     alloc: Global,
     job: &Accepted,
@@ -36,6 +43,23 @@ pub fn cycles_of(
     requires outputs { HasOutputs net.now }
     requires samples { net.now.parts.samples ≡ sample_ports job.now.design.job }
     ensures { IfOk result (λ c. HasRows job.now.design.job net.now count c.rows.items c.monitor) }
+{
+    let ran = run_of(alloc, job, net, count)?;
+    Ok(ran.cycles)
+}
+
+/// The same, with the simulator after these cycles.
+pub(crate) fn run_of<'n>(
+    alloc: Global,
+    job: &Accepted,
+    net: &'n Netlist,
+    count: u32,
+) -> Result<Ran<'n>, NoMemory>
+    requires outputs { HasOutputs net.now }
+    requires samples { net.now.parts.samples ≡ sample_ports job.now.design.job }
+    ensures rows { IfOk result (λ r. HasRows job.now.design.job net.now count r.cycles.rows.items r.cycles.monitor) }
+    ensures net { IfOk result (λ r. r.sim.net ≡ net.now) }
+    ensures state { IfOk result (λ r. r.sim.state ≡ last_of net.now (inputs_to job.now.design.job count)) }
 {
     let stages = job.design.job().stages.value;
     let mut sim = Sim::open(alloc, net)?;
@@ -48,11 +72,12 @@ pub fn cycles_of(
         rows.push(row).unwrap();
         monitor.cycle(row);
     }
-    Ok(Cycles { rows, monitor })
+    let cycles = Cycles { rows, monitor };
+    Ok(Ran { cycles, sim })
 }
 
-/// Runs one cycle of a netlist under the stall word and the samples of a job, with the reset not raised. There is room for the values of
-/// the samples. Takes no memory.
+/// Runs one cycle of a netlist under the stall word and the samples of a job, with the reset not raised. `room` is a buffer for the sample values,
+/// with one entry for each sample. Allocates nothing.
 pub fn step(sim: &mut Sim<'_>, sections: &Sections, room: &mut [Bits], cycle: u64) -> Row
     requires room { length room.old ≡ length sections.now.inputs }
     requires few { length room.old < 2 ^ 32 }

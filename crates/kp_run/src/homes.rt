@@ -1,4 +1,4 @@
-// Which machine shows a target.
+// Which machine has the value of a target.
 ghost use Rattle.std.specs.Prelude.{◌≡◌, ◌+◌, ◌<◌, ◌≤◌, ◌^◌, length, get_or, IfOk, is_some, if◌then◌else◌};
 ghost use Rattle.std.specs.List.{All};
 ghost use Rattle.kp_machine.specs.Machine.{write_stage_of};
@@ -8,11 +8,12 @@ ghost use Rattle.kp_run.specs.inner.Homes.{home_by, targets_in, declares};
 
 use kp_ast::{Decl, Name};
 use kp_base::NoMemory;
-use kp_lawful::laws::a_design_is_accepted;
+use kp_machine_laws::laws::a_design_is_accepted;
 use kp_stage::Design;
 use std::alloc::Global;
 
-/// For each target the number of the machine that shows it: that of its write stage, and the number of stages where it has no result.
+/// For each target the number of the machine that has its value: that of its write stage, or the number of stages if it has no result. The only error
+/// is out of memory.
 pub fn homes_of(alloc: Global, design: &Design) -> Result<Vec<u8>, NoMemory>
     ensures { IfOk result (λ homes. AreHomes design.now.job homes.items) }
 {
@@ -48,7 +49,7 @@ fn targets_in(decl: &Decl) -> usize
     }
 }
 
-// The write stage of the result of a target, or this number where it has none.
+// The write stage of the result of a target, or `none` if it has no result.
 fn home_of(decls: &[Decl], t: usize, none: u64) -> u64
     ensures { result ≡ home_by (result_to (targets_of decls.now) decls.now t) none }
 {
@@ -62,7 +63,7 @@ fn home_of(decls: &[Decl], t: usize, none: u64) -> u64
     none
 }
 
-// The number of the first target of this name, or how many there are where none has it.
+// The number of the first target with this name, or the number of targets if none has it.
 fn number_of(decls: &[Decl], name: &Name) -> usize
     ensures { result ≡ number_of (targets_of decls.now) name.now }
 {
@@ -76,7 +77,7 @@ fn number_of(decls: &[Decl], name: &Name) -> usize
     t
 }
 
-// It declares a target of this name.
+// Whether a declaration declares a target with this name.
 fn declares(decl: &Decl, name: &Name) -> bool
     ensures { result ≡ declares decl.now name.now }
 {

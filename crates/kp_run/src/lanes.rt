@@ -1,8 +1,8 @@
-// The sequential machines behind a run.
+// The sequential machines after a run.
 ghost use Rattle.std.specs.Prelude.{◌≡◌, ℕ, ◌+◌, ◌<◌, ◌≤◌, List, length, IfOk};
 ghost use Rattle.std.specs.List.{All};
 ghost use Rattle.kp_base.specs.declared.row.Row.{Row};
-ghost use Rattle.kp_law.specs.Sequential.{seq};
+ghost use Rattle.kp_pipeline.specs.Sequential.{seq};
 ghost use Rattle.kp_stage.specs.Start.{AreSamples, start_of};
 ghost use Rattle.kp_machine.specs.Machine.{machine_of, sequential, state_of, values_in};
 ghost use Rattle.kp_sched.specs.Monitors.{HasSeen};
@@ -14,14 +14,14 @@ ghost use Rattle.kp_run.specs.inner.Lanes.{HaveRun};
 use crate::columns::Column;
 use kp_base::NoMemory;
 use kp_bits::Bits;
-use kp_judge::Accepted;
+use kp_frontend::Accepted;
 use kp_sched::Monitor;
 use kp_seq::SeqMachine;
 use std::alloc::Global;
 
-/// For each stage the machine after the instructions that the stage let pass, by the monitor, and one that ran none. Instruction i takes
-/// word i of each column. Each machine goes on from a copy of the one behind it, so where the counts ascend from the last stage to the
-/// first no instruction runs twice.
+/// For each stage the machine after the instructions that the stage has completed, by the counts of the monitor, and one that has executed none.
+/// Instruction i reads word i of each column. Each machine starts from a copy of the one for the next stage, so if the counts increase from the last
+/// stage to the first, no instruction is executed twice. The only error is out of memory.
 pub(crate) fn machines_after<'a>(
     alloc: Global,
     job: &'a Accepted,
@@ -34,7 +34,7 @@ pub(crate) fn machines_after<'a>(
         → HaveRun job.now.design.job (λ i. values_in (row_taken columns.now i)) (rows_seen job.now.design.job.stages.value rows) ms.items) }
     ensures jobs { IfOk result (λ ms. All (λ m. m.job ≡ job.now.design.job) ms.items) }
 {
-    // What the type keeps of the job, for the proof alone.
+    // The invariant of the type, for the proof only.
     let _kept = job.design.job();
     let mut kept = job.sections.inputs.row(alloc, 0)?;
     let room = kept.as_mut_slice();
@@ -50,19 +50,19 @@ pub(crate) fn machines_after<'a>(
     Ok(machines)
 }
 
-// The machine of a job that ran no instruction.
+// The machine of a job that has executed no instruction.
 fn opened<'a>(alloc: Global, job: &'a Accepted) -> Result<SeqMachine<'a>, NoMemory>
     ensures job { IfOk result (λ m. m.job ≡ job.now.design.job) }
     ensures state { IfOk result (λ m. state m ≡ state_of job.now.design.job (start_of job.now.design.job)) }
 {
     let design = &job.design;
-    // What the type keeps of the job, for the proof alone.
+    // The invariant of the type, for the proof only.
     let _kept = design.job();
     SeqMachine::open(alloc, design, &job.sections.start)
 }
 
-// The machine of a job after so many instructions. It goes on from a copy of one that ran no more than these, and begins anew where that
-// one ran more. There is room for the words that an instruction takes.
+// The machine of a job after `count` instructions. It starts from a copy of one that has executed no more than these, and from the start state if
+// that one has executed more. `room` is a buffer for the sample values of an instruction.
 fn machine_after<'a>(
     alloc: Global,
     job: &'a Accepted,
@@ -91,7 +91,7 @@ fn machine_after<'a>(
     }
 }
 
-// Runs the instructions from one number up to another.
+// Executes the instructions from number `from` up to number `to`, which is excluded.
 fn advance(machine: &mut SeqMachine<'_>, columns: &[Column], room: &mut [Bits], from: u64, to: u64)
     requires forward { from ≤ to }
     requires room { length room.old ≡ length columns.now }
@@ -107,7 +107,7 @@ fn advance(machine: &mut SeqMachine<'_>, columns: &[Column], room: &mut [Bits], 
     }
 }
 
-/// Puts the words that instruction i takes into a room for them.
+/// Writes the sample values that instruction i reads to a buffer with one entry for each sample.
 pub fn take(columns: &[Column], i: u64, room: &mut [Bits])
     requires { length room.old ≡ length columns.now }
     ensures { room.new ≡ row_taken columns.now i }

@@ -1,4 +1,4 @@
-//! What a run of a netlist takes in, as the laws of the pipeline speak of it.
+//! The inputs and the rows of a run of a netlist, related to the laws of the pipeline.
 
 ghost use Rattle.std.specs.Prelude.{◌≡◌, ℕ, List};
 ghost use Rattle.kp_base.specs.declared.row.Row.{Row};
@@ -7,16 +7,16 @@ ghost use Rattle.kp_net.specs.Netlist.{Net};
 ghost use Rattle.kp_sched.specs.Monitors.{Kept};
 ghost use Rattle.kp_sched.specs.Rows.{rows_seen};
 ghost use Rattle.kp_seq.specs.Running.{HasWord};
-ghost use Rattle.kp_shows.specs.Shows.{Shows};
-ghost use Rattle.kp_shows.specs.Traces.{inputs_seen, AreQuiet};
+ghost use Rattle.kp_synth_spec.specs.Shows.{Shows};
+ghost use Rattle.kp_synth_spec.specs.Traces.{inputs_seen, AreQuiet};
 ghost use Rattle.kp_run.specs.Boards.{due_behind};
 ghost use Rattle.kp_run.specs.Cycles.{inputs_to, HasRows};
 
-use kp_judge::Accepted;
+use kp_frontend::Accepted;
 use kp_sched::laws::what_shows_alike_is_legal_and_moves;
 
-/// What the ports of a netlist of a job take in under the job's own inputs is what its sections give to the pipeline, cycle by cycle
-/// (`seen`), and the reset is never raised (`quiet`).
+/// The inputs of a netlist of a job, under the job's own stall words and samples, are those that its sections specify for the pipeline, cycle by
+/// cycle (`seen`), and the reset is never raised (`quiet`).
 pub fn a_job_gives_its_own_inputs(job: &Accepted)
     ensures seen { (n : ℕ) → inputs_seen job.now.design.job (inputs_to job.now.design.job n) ≡ inputs_from job.now.design.job 0 n }
     ensures quiet { (n : ℕ) → AreQuiet (inputs_to job.now.design.job n) }
@@ -24,8 +24,8 @@ pub fn a_job_gives_its_own_inputs(job: &Accepted)
     let _kept = job.design.job();
 }
 
-/// Where the netlist shows the machine of the job, the rows of a run are those of the job's pipeline under its own inputs (`rows`), and
-/// what is due behind them is what that pipeline shows after so many cycles (`values`).
+/// If the netlist implements the machine of the job, the rows of a run are those of the job's pipeline under its own inputs (`rows`), and the
+/// specified values after them are those of that pipeline after as many cycles (`values`).
 pub fn a_run_tells_of_the_pipeline(job: &Accepted)
     ensures rows { (net : Net) (n : ℕ) (rows : List Row) (monitor : Kept) → Shows net job.now.design.job → HasRows job.now.design.job net n rows monitor
         → rows_seen job.now.design.job.stages.value rows ≡ (pipe_of job.now.design.job (inputs_from job.now.design.job 0 n)).rows }

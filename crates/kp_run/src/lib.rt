@@ -1,19 +1,20 @@
-//! Runs of a job: a netlist that shows its machine runs beside a monitor, and behind the last cycle the sequential machines show what is
-//! due.
+//! Runs of a job: a netlist that implements its machine runs together with a monitor, and after the last cycle the sequential machines have the
+//! specified values.
 //!
-//! `specs/Cycles.antt` says what a run gives: the rows of the netlist under what the sections of the job give in each cycle. `Board` keeps
-//! such a run with the values that are due behind it. All memory is taken before anything of a run is written, and want of it is the one
-//! refusal.
+//! `specs/Cycles.antt` specifies a run: the rows of the netlist under the inputs that the sections of the job specify for each cycle. `Board` stores
+//! such a run with the specified values after it. All memory is allocated before anything of a run is written, and out of memory is the only error.
 #![tactic(auto)]
 
 mod board;
 mod columns;
 mod cycles;
+mod finals;
 mod homes;
 mod lanes;
 pub mod laws;
+mod places;
 
-pub use board::{Board, board_of};
+pub use board::{Board, board_of, board_shown};
 pub use columns::{Column, columns_of, updates};
 pub use cycles::{Cycles, cycles_of, step};
 pub use homes::homes_of;

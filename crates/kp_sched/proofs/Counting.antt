@@ -2,10 +2,10 @@
 use Rattle.std.proofs.Common.{◌≡◌, ◌∙◌, ℕ, zero, suc, ◌+◌, ◌-◌, ◌<◌, List, [], ◌∷◌, ◌++◌, length, get_or, Bool, true, false, refl, ap, sym, arith, min, length-append}
 use Rattle.std.specs.Prelude.{cond, nat_le}
 use Rattle.kp_base.specs.declared.row.Row.{Row}
-use Rattle.kp_law.specs.Rows as law
-use Rattle.kp_law.specs.Rows.{bit, bits, count_after, count_moved, counts, passed, one_if}
-use Rattle.kp_law.proofs.Lists.{bit-at}
-use Rattle.kp_law.proofs.Counts.{counts-more, passed-more}
+use Rattle.kp_pipeline.specs.Rows as law
+use Rattle.kp_pipeline.specs.Rows.{bit, bits, count_after, count_moved, counts, passed, one_if}
+use Rattle.kp_pipeline.proofs.Lists.{bit-at}
+use Rattle.kp_pipeline.proofs.Counts.{counts-more, passed-more}
 use Rattle.kp_sched.specs.Rows.{bit_of, row_seen, rows_seen}
 use Rattle.kp_sched.specs.Monitors.{Kept, HasSeen}
 use Rattle.kp_sched.specs.inner.Counting.{count_next}
@@ -26,7 +26,7 @@ choice_alike : (b : Bool) (x y u v : ℕ) → x ≡ u → y ≡ v → cond b x y
 choice_alike true x y u v p q = p
 choice_alike false x y u v p q = q
 
--- where the counts before are alike, those after the row are
+-- if the counts before agree, those after the row do
 next_alike : (n : ℕ) (r : Row) (f g : ℕ → ℕ) (k : ℕ) → k < n → ((j : ℕ) → j < n → f j ≡ g j) → count_next n r f k ≡ count_next n r g k
 next_alike n r f g k h same =
     choice_alike (nat_le (min r.back n) k) _ _ _ _

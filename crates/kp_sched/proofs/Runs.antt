@@ -1,18 +1,18 @@
--- Runs that show the rows of a job's pipeline.
+-- Runs with the rows of a job's pipeline.
 use Rattle.std.proofs.Common.{◌≡◌, ◌∙◌, ℕ, ◌+◌, ◌<◌, ◌≤◌, Bool, true, false, List, length, get_or, refl, ap, sym, subst, arith}
 use Rattle.std.specs.Prelude.{cond}
 use Rattle.kp_base.specs.declared.row.Row as masks
 use Rattle.kp_ast.specs.declared.tree.Job.{Job}
 use Rattle.kp_stage.specs.Start.{start_of}
-use Rattle.kp_law.specs.Accepted.{Accepted}
-use Rattle.kp_law.specs.Claims.{Legal, Moves, HighestStays}
-use Rattle.kp_law.specs.Machine.{Machine}
-use Rattle.kp_law.specs.Pipeline.{Inputs, pipeline_start}
-use Rattle.kp_law.specs.Rows.{Row, Trace, counts, passed, taken}
-use Rattle.kp_law.specs.Sequential.{seq}
-use Rattle.kp_law.proofs.Counts.{counts-passed}
-use Rattle.kp_law.proofs.SameTrace.{same-moves}
-use Rattle.kp_law.proofs.Taken.{rows-length}
+use Rattle.kp_pipeline.specs.Accepted.{Accepted}
+use Rattle.kp_pipeline.specs.Claims.{Legal, Moves, HighestStays}
+use Rattle.kp_pipeline.specs.Machine.{Machine}
+use Rattle.kp_pipeline.specs.Pipeline.{Inputs, pipeline_start}
+use Rattle.kp_pipeline.specs.Rows.{Row, Trace, counts, passed, taken}
+use Rattle.kp_pipeline.specs.Sequential.{seq}
+use Rattle.kp_pipeline.proofs.Counts.{counts-passed}
+use Rattle.kp_pipeline.proofs.SameTrace.{same-moves}
+use Rattle.kp_pipeline.proofs.Taken.{rows-length}
 use Rattle.kp_machine.specs.Machine.{machine_of, state_of, start_hints, pipe_of}
 use Rattle.kp_sched.specs.Monitors.{Kept}
 use Rattle.kp_sched.specs.Runs.{passes, due_value, IsLegal, ShowsAlike, HasWatched}

@@ -1,13 +1,13 @@
--- Rows of small machines of three stages, as masks. The rows, their counts and their lines are those of an independent program.
+-- Rows of small machines of three stages, as masks. The rows, their counts and their lines were computed by an independent program.
 use Rattle.std.specs.Prelude.{ℕ, List, [], ◌∷◌, ◌++◌, codes}
 use Rattle.kp_base.specs.declared.row.Row.{Row}
-use Rattle.kp_law.specs.Rows.{counts}
+use Rattle.kp_pipeline.specs.Rows.{counts}
 use Rattle.kp_sched.specs.Rows.{rows_seen}
 
 abbrev pub masks : ℕ → ℕ → ℕ → Row
 masks full ue back = record { full = full; ue = ue; back = back }
 
--- The numbers of the instructions in the three stages after so many of these rows.
+-- The numbers of the instructions in the three stages after n of these rows.
 abbrev pub counts3 : List Row → ℕ → List ℕ
 counts3 rows T = counts 3 (rows_seen 3 rows) T 0 ∷ counts 3 (rows_seen 3 rows) T 1 ∷ counts 3 (rows_seen 3 rows) T 2 ∷ []
 

@@ -1,10 +1,10 @@
--- What a monitor keeps of the rows that it was given.
+-- What a monitor stores about its rows.
 use Rattle.std.specs.Prelude.{◌≡◌, ℕ, ◌<◌, ◌≤◌, List, length, get_or}
 use Rattle.kp_base.specs.declared.row.Row.{Row}
-use Rattle.kp_law.specs.Rows.{counts, passed}
+use Rattle.kp_pipeline.specs.Rows.{counts, passed}
 use Rattle.kp_sched.specs.Rows.{rows_seen}
 
--- The number of stages, how many rows came, and by stage the number of its instruction and how many instructions it let pass.
+-- The number of stages, the number of rows so far, and by stage the number of its instruction and of the instructions that have passed it.
 pub record Kept : Type 0 where
   pub stages : ℕ
   pub cycles : ℕ
@@ -20,8 +20,8 @@ pub record IsKept (m : Kept) : Type 0 where
   pub counts_bound : (k : ℕ) → k < 12 → get_or m.counts k 0 ≤ m.cycles
   pub passed_bound : (k : ℕ) → k < 12 → get_or m.passed k 0 ≤ m.cycles
 
--- These are the rows that it was given: it keeps their number, the counts of the scheduling function over them, and how many of them
--- update each stage.
+-- These are the rows of the monitor: it stores their number, the counts of the scheduling function over them, and how
+-- many of them update each stage.
 pub record HasSeen (m : Kept) (rows : List Row) : Type 0 where
   pub cycles : m.cycles ≡ length rows
   pub counts : (k : ℕ) → k < m.stages → get_or m.counts k 0 ≡ counts m.stages (rows_seen m.stages rows) (length rows) k

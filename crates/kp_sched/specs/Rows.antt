@@ -1,8 +1,8 @@
--- Rows of masks as rows of bits: what the outputs of a pipelined machine show, as the laws of the pipeline speak of it.
+-- Rows of masks as rows of bits: the outputs of a pipelined machine, in the form of the laws of the pipeline.
 use Rattle.std.specs.Prelude.{ℕ, ◌/◌, ◌%◌, ◌^◌, ◌==◌, List, Bool, map}
 use Rattle.kp_base.specs.declared.row.Row.{Row}
-use Rattle.kp_law.specs.Rows as law
-use Rattle.kp_law.specs.Rows.{bits}
+use Rattle.kp_pipeline.specs.Rows as law
+use Rattle.kp_pipeline.specs.Rows.{bits}
 
 -- Bit k of a mask.
 abbrev pub bit_of : ℕ → ℕ → Bool

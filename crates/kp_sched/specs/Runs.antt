@@ -1,24 +1,25 @@
--- WHAT A RUN OF A JOB'S MACHINE IS TO SHOW, where only the words that exist count: those of registers and files.
+-- REQUIREMENTS ON A RUN OF A JOB'S MACHINE, restricted to the words that exist: those of registers and files.
 use Rattle.std.specs.Prelude.{◌≡◌, ℕ, ◌≤◌, List, length, if◌then◌else◌}
 use Rattle.kp_base.specs.declared.row.Row as masks
 use Rattle.kp_ast.specs.declared.tree.Job.{Job}
-use Rattle.kp_law.specs.Pipeline.{Inputs}
-use Rattle.kp_law.specs.Rows.{Row, Trace, passed, taken}
+use Rattle.kp_pipeline.specs.Pipeline.{Inputs}
+use Rattle.kp_pipeline.specs.Rows.{Row, Trace, passed, taken}
 use Rattle.kp_machine.specs.Machine.{machine_of, pipe_of, sequential}
 use Rattle.kp_seq.specs.Running.{HasWord}
 use Rattle.kp_sched.specs.Rows.{rows_seen}
 use Rattle.kp_sched.specs.Monitors.{Kept, HasSeen}
 
--- How many instructions stand behind target t after T rows: those that its write stage let pass, and none where it has no result.
+-- How many instructions target t reflects after T rows: those that have passed its write stage, and none if it has no result.
 unfoldable pub passes : Job → List Row → ℕ → ℕ → ℕ
 passes job rows T t = if (machine_of job).has_result t then passed rows ((machine_of job).write_stage t) T else 0
 
--- What target t is to show at address a after T cycles of a run with these inputs and rows: its value in the sequential machine after so
--- many instructions, of which each takes the samples of the cycle in which it leaves their stage.
+-- The required value of target t at address a after T cycles of a run with these inputs and rows: its value in the
+-- sequential machine after that number of instructions, each of which takes the samples of the cycle in which it
+-- leaves their stage.
 unfoldable pub due_value : Job → List Inputs → List Row → ℕ → ℕ → ℕ → ℕ
 due_value job ins rows T t a = sequential job (taken (machine_of job) ins rows) (passes job rows T t) t a
 
--- LEGAL: after each number of cycles each register, and each word of a file, shows that value.
+-- LEGAL: after any number of cycles each register, and each word of a file, has that value.
 abbrev pub IsLegal : Job → List Inputs → Trace → Type 0
 IsLegal job ins trace =
     (T t a : ℕ) → T ≤ length trace.rows → HasWord job t a → trace.visible T t a ≡ due_value job ins trace.rows T t a
@@ -28,7 +29,7 @@ pub record ShowsAlike (job : Job) (a b : Trace) : Type 0 where
   pub rows : a.rows ≡ b.rows
   pub values : (T t x : ℕ) → T ≤ length a.rows → HasWord job t x → a.visible T t x ≡ b.visible T t x
 
--- A monitor of the job's stages was given rows of masks, which are the rows of the pipeline with these inputs.
+-- The rows of a monitor of the job's stages, as masks, are the rows of the pipeline with these inputs.
 pub record HasWatched (job : Job) (m : Kept) (ins : List Inputs) (given : List masks.Row) : Type 0 where
   pub stages : m.stages ≡ (machine_of job).stages
   pub seen : HasSeen m given

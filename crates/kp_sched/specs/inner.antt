@@ -1,2 +1,2 @@
--- The definitions below here are for private contracts and proofs alone: no public clause of the crate cites them.
+-- These definitions are only for private contracts and proofs: no public clause of the crate cites them.
 pub mod Counting

@@ -1,8 +1,9 @@
-//! Rows of masks: the counts that they tell, their lines, and what runs with these rows show.
+//! Rows of masks: the counts that are computed from them, their lines, and properties of runs with these rows.
 //!
-//! A row of masks is a row of the laws of the pipeline by `specs/Rows.antt`. `Monitor` keeps the counts of the rows that it is given
-//! (`specs/Monitors.antt`), and `row_line` writes the line of a row (`specs/Lines.antt`). `laws` joins both to the laws of a design's
-//! pipeline, which stand in kp_lawful (`specs/Runs.antt`), and `examples` has worked rows.
+//! A row of masks corresponds to a row of the laws of the pipeline by `specs/Rows.antt`. `Monitor` keeps the counts
+//! of its rows (`specs/Monitors.antt`), and `row_line` writes the line of a row (`specs/Lines.antt`). `laws` relates
+//! both to the laws of a design's pipeline, which are in kp_machine_laws (`specs/Runs.antt`), and `examples` contains
+//! worked rows.
 #![tactic(auto)]
 
 pub mod examples;

@@ -1,5 +1,6 @@
+// The line of a cycle in the output.
 ghost use Rattle.std.specs.Prelude.{◌≡◌, ◌+◌, ◌≤◌, ◌++◌, length, take, if◌then◌else◌};
-ghost use Rattle.kp_law.specs.Rows.{bits};
+ghost use Rattle.kp_pipeline.specs.Rows.{bits};
 ghost use Rattle.kp_sched.specs.Rows.{bit_of, row_seen};
 ghost use Rattle.kp_sched.specs.Lines.{row_line as row_line_of, digits, stage_back};
 
@@ -7,7 +8,7 @@ use crate::monitor::is_set;
 use itoa::Buffer;
 use kp_base::Row;
 
-/// Writes the line of a row of n stages at the front of `out`, with its line feed, and gives its length.
+/// Writes the line of a row of n stages at the front of `out`, with its line feed, and returns its length.
 #[tactic(auto, unfolding(crate::specs::Lines::row_line))]
 pub fn row_line(cycle: u64, n: u8, row: Row, out: &mut [u8; 80]) -> usize
     requires some { 2 ≤ n }
@@ -27,7 +28,7 @@ pub fn row_line(cycle: u64, n: u8, row: Row, out: &mut [u8; 80]) -> usize
     put(out, at, b"\n")
 }
 
-// Writes a piece behind what stands before a place, and gives the place behind it.
+// Writes a piece at an offset, and returns the offset after it.
 fn put(out: &mut [u8; 80], at: usize, piece: &[u8]) -> usize
     requires { at + length piece.now ≤ 80 }
     ensures place { result ≡ at + length piece.now }
@@ -39,7 +40,7 @@ fn put(out: &mut [u8; 80], at: usize, piece: &[u8]) -> usize
     at + piece.len()
 }
 
-// The same of the stage that rolls back.
+// The same for the stage that rolls back.
 fn put_back(out: &mut [u8; 80], at: usize, back: u8) -> usize
     requires { at + 3 ≤ 80 }
     ensures place { result ≤ at + 3 }
@@ -52,7 +53,7 @@ fn put_back(out: &mut [u8; 80], at: usize, back: u8) -> usize
     put(out, at, stage.format(back - 1).as_bytes())
 }
 
-// The same of the bits of n stages, as digits.
+// The same for the bits of n stages, as digits.
 fn put_digits(out: &mut [u8; 80], at: usize, word: u16, n: u8) -> usize
     requires few { n ≤ 12 }
     requires room { at + n ≤ 80 }

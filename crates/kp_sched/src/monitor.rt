@@ -1,6 +1,7 @@
+// The monitor: counts that are computed from rows.
 ghost use Rattle.std.specs.Prelude.{◌≡◌, ℕ, ◌+◌, ◌<◌, ◌≤◌, ◌^◌, List, [], ◌∷◌, ◌++◌, length, get_or};
 ghost use Rattle.kp_base.specs.declared.row.Row.{Row};
-ghost use Rattle.kp_law.specs.Rows.{one_if, counts, passed};
+ghost use Rattle.kp_pipeline.specs.Rows.{one_if, counts, passed};
 ghost use Rattle.kp_sched.specs.Rows.{bit_of, rows_seen};
 ghost use Rattle.kp_sched.specs.Monitors.{Kept, HasSeen};
 ghost use Rattle.kp_sched.specs.inner.Counting.{count_next};
@@ -8,7 +9,7 @@ ghost use Rattle.kp_sched.specs.inner.Counting.{count_next};
 use kp_base::Row;
 use std::marker::Model;
 
-/// The counts of a run, from its rows alone: which instruction each stage holds, and how many instructions it let pass.
+/// The counts of a run, from its rows alone: which instruction each stage holds, and how many instructions have passed it.
 #[derive(Debug, Drop)]
 pub struct Monitor {
     stages: u8,
@@ -28,7 +29,7 @@ impl Model for Monitor {
 }
 
 impl Monitor {
-    /// A monitor of so many stages that was given no row yet.
+    /// A monitor of n stages before the first row.
     pub fn open(n: u8) -> Monitor
         requires some { 2 ≤ n }
         requires few { n ≤ 12 }
@@ -51,7 +52,7 @@ impl Monitor {
         self.stages
     }
 
-    /// Counts one row more.
+    /// Counts one more row.
     pub fn cycle(&mut self, row: Row)
         requires { self.old.cycles < 2 ^ 32 }
         ensures stages { self.new.stages ≡ self.old.stages }
@@ -73,7 +74,7 @@ impl Monitor {
         self.counts[usize::from(k)]
     }
 
-    /// How many instructions stage k let pass.
+    /// How many instructions have passed stage k.
     pub fn passed(&self, k: u8) -> u64
         requires { k < self.now.stages }
         ensures kept { result ≡ get_or self.now.passed k 0 }
@@ -84,7 +85,7 @@ impl Monitor {
     }
 }
 
-/// Whether stage k updates in this word of update enables, whose bit k is stage k's.
+/// Whether stage k updates in this mask of update enables, whose bit k belongs to stage k.
 pub fn is_set(word: u16, k: u8) -> bool
     requires { k < 16 }
     ensures { result ≡ bit_of word k }
@@ -127,7 +128,7 @@ fn count_after(counts: &[u64; 12], n: u8, row: Row, k: u8) -> u64
     }
 }
 
-// The instructions that the stages let pass, after a row.
+// The numbers of instructions that have passed the stages, after a row.
 fn passed_after(passed: &[u64; 12], n: u8, row: Row) -> [u64; 12]
     requires few { n ≤ 12 }
     requires small { (k : ℕ) → k < 12 → get_or passed.now k 0 ≤ 2 ^ 32 }

@@ -1,4 +1,4 @@
--- The reads of a stage: what is noted of them is what is told of them.
+-- The reads of a stage: the implementation records what the definition specifies.
 use Rattle.std.proofs.Common.{◌≡◌, ◌∙◌, ℕ, ◌+◌, ◌^◌, ◌<◌, ◌≤◌, List, [], ◌∷◌, ◌++◌, Option, Some, None, Bool, true, false, ◌||◌, cond, length, refl, ap, sym, subst, arith, lit<}
 use Rattle.std.specs.Prelude.{is_some, slice_get, not, nat_le, ◌&&◌, ◌==◌}
 use Rattle.std.specs.Option.{option_map}
@@ -25,7 +25,7 @@ use Rattle.kp_width.proofs.Found.{none_of_two}
 use Rattle.kp_stage.specs.Facts.{facts_of}
 use Rattle.kp_stage.specs.Rules.{ask_expr, ask_option, ask_values, ask_stmt, ask_stmts, all_rules}
 use Rattle.kp_stage.proofs.Unbroken.{first_none}
-use Rattle.kp_law.specs.Sequential.{Instruction}
+use Rattle.kp_pipeline.specs.Sequential.{Instruction}
 use Rattle.kp_machine.specs.Slots.{targets_of, number_of, width_of as width_of_target}
 use Rattle.kp_machine.proofs.Widths.{job_fine}
 use Rattle.kp_seq.proofs.Reading.{number_get}

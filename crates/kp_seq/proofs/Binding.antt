@@ -1,4 +1,4 @@
--- A name that gets its value, in the list of values by places.
+-- Binding a name to a value, in the list of values by index.
 use Rattle.std.proofs.Common.{◌≡◌, ◌≢◌, ◌∙◌, ℕ, ◌<◌, List, [], Option, Some, None, true, false, cond, get_or, set, length, ap, sym}
 use Rattle.std.specs.List.{position}
 use Rattle.std.specs.Cmp.Lexicographic.{bytes_decides}
@@ -7,7 +7,7 @@ use Rattle.std.proofs.lemmas.List.Quantifiers.{position-Some}
 use Rattle.kp_bits.specs.Word.{Word}
 use Rattle.kp_ast.specs.Expressions.{is_same_name}
 use Rattle.kp_machine.proofs.Cases.{by_test, by_option}
-use Rattle.kp_plan.specs.Names.{at_place}
+use Rattle.kp_seq_plan.specs.Names.{at_place}
 use Rattle.kp_seq.specs.inner.Names.{held, set_place, bound}
 
 module _ (keys : List (List ℕ)) (vs : List (Option Word)) (n : List ℕ) (w : Word) (i : ℕ) (is : position (is_same_name n) keys ≡ Some i) (inside : i < length vs) where

@@ -1,4 +1,4 @@
--- The statements of a stage, one after another.
+-- The statements of a stage, in order.
 use Rattle.std.proofs.Common.{◌≡◌, ◌∙◌, ℕ, ◌+◌, List, [], ◌∷◌, Option, Some, None, Bool, true, false, cond, not, length, refl, ap, sym, subst}
 use Rattle.std.specs.Option.{option_map}
 use Rattle.std.specs.Prelude.{is_some, slice_get, unwrap_or, ◌<◌}
@@ -24,7 +24,7 @@ use Rattle.kp_stage.specs.Rules.{ask_expr, ask_option, ask_values, ask_stmt, ask
 use Rattle.kp_stage.proofs.Unbroken.{first_none}
 use Rattle.kp_base.specs.First.{first}
 use Rattle.kp_ast.specs.declared.tree.Stmt.{Stmt}
-use Rattle.kp_law.specs.Sequential.{Instruction}
+use Rattle.kp_pipeline.specs.Sequential.{Instruction}
 use Rattle.kp_machine.specs.Slots.{targets_of, result_named}
 use Rattle.kp_machine.specs.Trees.{Progress}
 use Rattle.kp_machine.specs.Trees as trees
@@ -50,7 +50,7 @@ module _ (job : Job) (unbroken : Unbroken (widths_of job)) (t : Laid) (tables : 
     pub lists : Lists job.decls c done u
     pub places : length u.names ≡ length t.names
 
-  -- a name that a statement declares has a place
+  -- a name that a statement declares has an index
   abbrev pub HasPlace : List ℕ → Type 0
   HasPlace q = (i : ℕ) × (position (is_same_name q) t.names ≡ Some i)
 
@@ -62,7 +62,7 @@ module _ (job : Job) (unbroken : Unbroken (widths_of job)) (t : Laid) (tables : 
   set_names done None v = refl
   set_names done (Some r) v = refl
 
-  -- what a set gives where its condition holds, and that nothing changes where it fails
+  -- the effect of a set if its condition holds, and that nothing changes if it is false
   set_by : (b d : Bool) (s : Scoped) (done more : Progress) (u v : Under) → b ≡ d → Before s done u → Lists job.decls c more v → v.names ≡ u.names → more.names ≡ done.names
       → Before s (cond d more done) (cond b v u)
   set_by true true s done more u v e h l n m = record {
@@ -81,7 +81,7 @@ module _ (job : Job) (unbroken : Unbroken (widths_of job)) (t : Laid) (tables : 
   set_by true false s done more u v e h l n m = cc
   set_by false true s done more u v e h l n m = cc
 
-  -- the place of a name that a statement declares
+  -- the index of a name that a statement declares
   place_in : (u : Under) (q : List ℕ) → length u.names ≡ length t.names → (i : HasPlace q) → i.0 < length u.names
   place_in u q n i = within i.0 (length t.names) (length u.names) (position-Some (is_same_name q) t.names i.0 [] i.1).0 n
 
@@ -128,14 +128,14 @@ module _ (job : Job) (unbroken : Unbroken (widths_of job)) (t : Laid) (tables : 
     places = h.places;
   }
 
-  -- the last rule asks a statement for the names in its values
+  -- the last rule checks the names in a statement's values
   pub values_free : (j : ℕ) (x : StmtKind) → ask_stmt (facts_of job) rule k j x ≡ None → ask_values (facts_of job) rule k x ≡ None
   values_free j x e =
       sym (ap (λ o. unwrap_or (option_map (λ r. ask_values (facts_of job) r k x) o) None) is25)
       ∙ ap (λ o. unwrap_or (option_map (λ r. ask_stmt (facts_of job) r k j x) o) None) is25
       ∙ e
 
-  -- each name that these statements declare has a place
+  -- each name that these statements declare has an index
   abbrev pub Keyed : Scoped → List Stmt → Type 0
   Keyed s [] = Unit {0}
   Keyed s (x ∷ xs) =

@@ -3,10 +3,10 @@ use Rattle.std.proofs.Common.{◌≡◌, ◌∙◌, ℕ, zero, suc, ◌<◌, Lis
 use Rattle.std.specs.Prelude.{slice_index, unwrap_or, ◌==◌}
 use Rattle.std.proofs.Math.Dec.{eqb-suc-zero, eqb-zero-suc, eqb-suc-suc}
 use Rattle.std.proofs.lemmas.Bool.{eqb-true}
-use Rattle.kp_law.specs.Sequential.{first_value}
+use Rattle.kp_pipeline.specs.Sequential.{first_value}
 use Rattle.kp_machine.specs.Trees.{with_value}
 
--- a list that is changed at a place
+-- a list that is changed at an index
 pub set_seen : {X : Type 0} (xs : List X) (p : ℕ) (v d : X) (i : ℕ) → p < length xs → get_or (set xs p v) i d ≡ cond (i == p) v (get_or xs i d)
 set_seen [] p v d i h = absurd (omega arith)
 set_seen (x ∷ xs) zero v d zero h = refl
@@ -40,7 +40,7 @@ at_same : (b : Bool) (i p : ℕ) (f : ℕ → Option ℕ) (r : Option ℕ) (v : 
 at_same true i p f r v h = ap (λ x. first_value (f x) (Some v)) (sym (h refl))
 at_same false i p f r v h = refl
 
--- a result that is set, where the first value counts
+-- a result that is set; its first value counts
 pub set_same : (results : List (Option ℕ)) (sets : ℕ → Option ℕ) (before : ℕ → Option ℕ) (p v : ℕ) → p < length results
     → ((i : ℕ) → get_or results i None ≡ first_value (before i) (sets i))
     → (i : ℕ) → get_or (set results p (first_value (get_or results p None) (Some v))) i None ≡ first_value (before i) (first_value (sets i) (with_value p v (λ u. None) i))

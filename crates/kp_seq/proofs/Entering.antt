@@ -1,4 +1,4 @@
--- A stage begins: of the names only the samples and the pipes have values, those that they have in the abstract machine.
+-- The start of a stage: only the samples and the pipes have values, those that they have in the abstract machine.
 use Rattle.std.proofs.Common.{◌≡◌, ◌∙◌, ℕ, suc, ◌+◌, ◌^◌, ◌<◌, List, [], ◌∷◌, ◌++◌, Option, Some, None, true, false, cond, length, get_or, replicate, refl, ap, sym, subst, arith}
 use Rattle.std.specs.Prelude.{slice_get, slice_index, unwrap_or}
 use Rattle.std.specs.List.{position}
@@ -23,20 +23,20 @@ use Rattle.kp_width.proofs.Calls.{is_of_text}
 use Rattle.kp_width.proofs.Found.{Found}
 use Rattle.kp_stage.specs.Rules.{all_rules}
 use Rattle.kp_stage.specs.Start.{AreSamples}
-use Rattle.kp_law.specs.Sequential.{Instruction}
+use Rattle.kp_pipeline.specs.Sequential.{Instruction}
 use Rattle.kp_machine.specs.Slots.{Slot, targets_of, pipes_of, samples_of, number_of, width_of, words_from}
 use Rattle.kp_machine.specs.Trees as trees
 use Rattle.kp_machine.specs.Machine.{values_in}
 use Rattle.kp_machine.proofs.Names.{IsIn}
 use Rattle.kp_machine.proofs.LookUp.{or_else, or_none, look_up-append}
-use Rattle.kp_plan.specs.Names.{at_place}
+use Rattle.kp_seq_plan.specs.Names.{at_place}
 use Rattle.kp_seq.specs.inner.Names.{held}
 use Rattle.kp_seq.specs.inner.Tables.{Laid}
 use Rattle.kp_seq.specs.inner.Steps.{Under, fitted, pipe_words, with_name, with_pipes, with_row}
 use Rattle.kp_seq.specs.inner.Steps as steps
 use Rattle.kp_seq.specs.inner.Fits.{FitSlots}
 use Rattle.kp_seq.specs.inner.Ready.{AreTables}
-use Rattle.kp_lower.specs.Lowering.{Holds, AllSuit}
+use Rattle.kp_seq_plan.specs.Lowering.{Holds, AllSuit}
 use Rattle.kp_seq.specs.inner.Resolved.{Outline, Raw, IsShown, with_place, with_row_at, with_carried, entered_at, place_in, places_of, with_width, with_widths, entry_widths}
 use Rattle.kp_seq.proofs.Resolved.{named, none_suit}
 use Rattle.kp_seq.proofs.Lengths.{row_same, entered_same}
@@ -51,7 +51,7 @@ use Rattle.kp_seq.proofs.Blocks.{Before, HasPlace}
 use Rattle.kp_seq.proofs.Written.{Ended, all_default}
 use Rattle.kp_seq.proofs.Plain.{after_next, next_first, next_is, none_after, none_before, not_some, same_value, within}
 
--- the values of the entries from the one of number i on fit their widths, and their names have places
+-- the values of the entries from number i on fit their widths, and their names have indices
 abbrev Fitting : List (List ℕ) → (ℕ → ℕ) → ℕ → List Slot → Type 0
 Fitting keys vs i [] = Unit {0}
 Fitting keys vs i (s ∷ ss) = (vs i < 2 ^ s.width) × ((p : ℕ) × (position (is_same_name s.name) keys ≡ Some p)) × Fitting keys vs (suc i) ss
@@ -151,7 +151,7 @@ module _ (t : Laid) where
       ap (λ b. or_else later (cond b (Some w) old)) y
       ∙ sym (ap (λ b. or_else (cond b (Some (word s.width (vs i))) later) old) y))
 
-  -- in numbers too, where their widths are known
+  -- as plain numbers too, if their widths are known
   row_shown : (vs : ℕ → ℕ) (i : ℕ) (ss : List Slot) (row : List Word) (ws : List (Option ℕ)) (u : Under) (r : Raw) → Apart ss → IsRow vs i ss row → IsShown ws u r
       → IsShown (with_widths t.names ws ss) (with_row t u ss row) (with_row_at r (places_of t.names ss) row)
   row_shown vs i [] row ws u r a is h = h
@@ -203,8 +203,8 @@ values_from vs i (_ ∷ ds) row h same = values_from vs i ds row h same
 
 module _ (job : Job) (unbroken : Unbroken (widths_of job)) (t : Laid) (tables : AreTables job t) (rule : _) (is25 : slice_get all_rules 10 ≡ Some rule) (k : ℕ) (words : List (List ℕ)) (fit : FitSlots (targets_of job.decls) words) (row : List Word) (fits : AreSamples job.decls row) where
   module _ (s : Scoped) (c : Instruction) (u : Under) where
-    -- What the instruction before a stage holds, the samples, and the places of their names and of those of pipes, give what holds
-    -- before the first statement.
+    -- The contents of the instruction before a stage, the samples, and the indices of their names and of those of
+    -- pipes yield the invariant before the first statement.
     pub enters : s.text ≡ text job unbroken → Ended job.decls c u → length u.names ≡ length t.names → length u.pipes ≡ length t.pipes → length u.results ≡ length t.targets
         → ((p : ℕ) (x : Slot) → slice_get (pipes_of job.decls) p ≡ Some x → HasPlace job unbroken t tables rule is25 k words fit c x.name)
         → ((p : ℕ) (x : Slot) → slice_get (samples_of job.decls) p ≡ Some x → HasPlace job unbroken t tables rule is25 k words fit c x.name)

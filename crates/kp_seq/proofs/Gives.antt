@@ -17,7 +17,7 @@ use Rattle.kp_width.specs.Widths.{widths_of}
 use Rattle.kp_width.proofs.Unbroken.{Unbroken, bind_unbroken}
 use Rattle.kp_stage.specs.Facts.{facts_of}
 use Rattle.kp_stage.specs.Rules.{ask_expr, all_rules}
-use Rattle.kp_law.specs.Sequential.{Instruction, first_value}
+use Rattle.kp_pipeline.specs.Sequential.{Instruction, first_value}
 use Rattle.kp_machine.specs.Slots.{Slot, targets_of, pipes_of, number_of, width_of, result_named}
 use Rattle.kp_machine.specs.Trees.{Progress, with_value, with_put, with_set}
 use Rattle.kp_machine.specs.Trees as trees
@@ -94,7 +94,7 @@ module _ (job : Job) (unbroken : Unbroken (widths_of job)) (t : Laid) (tables : 
       let at = (placed job unbroken p.0.target.name fit.sense fit.found).target (storage_kind (is_some p.0.address) fit.sense.kind fit.stored) in
       (p.0, p.1, (address_width fit.sense.kind, subst (λ w. IsSlot (targets_of job.decls) p.0.target.name w (address_width fit.sense.kind)) (fit.width ∙ p.2) at))
 
-  -- a result that is set, where its condition holds
+  -- a result that is set, if its condition holds
   pub set_turn : (n : tree.Named) (e : Expr) → ask_expr (facts_of job) rule k e ≡ None → Unbroken (given job.decls s is_result n e)
       → Lists job.decls c (with_set job.decls done (result_named job.decls n.name) (trees.value_of job.decls done e)) (with_result t u (result_named t.decls n.name) (word_in t u e).value)
   set_turn n e free right =

@@ -1,4 +1,4 @@
--- Each name that a job declares has a place in its tables.
+-- Each name that a job declares has an index in its tables.
 use Rattle.std.proofs.Common.{◌≡◌, ◌∙◌, ℕ, zero, suc, ◌+◌, ◌<◌, List, [], ◌∷◌, ◌++◌, Some, None, Bool, true, false, cond, not, ◌||◌, nat_eq, length, refl, ap, sym, arith}
 use Rattle.std.specs.Prelude.{is_some, slice_get}
 use Rattle.std.specs.List.{list_any, flat_map, position, position_or_len}
@@ -29,12 +29,12 @@ use Rattle.kp_width.specs.Widths.{widths_of}
 use Rattle.kp_width.proofs.Unbroken.{Unbroken}
 use Rattle.kp_width.proofs.Calls.{pushed}
 use Rattle.kp_stage.specs.Rules.{all_rules}
-use Rattle.kp_law.specs.Sequential.{Instruction}
+use Rattle.kp_pipeline.specs.Sequential.{Instruction}
 use Rattle.kp_machine.specs.Slots.{Slot, targets_of, pipes_of, samples_of}
 use Rattle.kp_machine.proofs.Apart.{is_pipe_or_sample, slot_by, slots_by, pipes_by, samples_by}
 use Rattle.kp_machine.proofs.Cases.{by_test, by_option}
 use Rattle.kp_machine.proofs.Scopes.{sense_of, is_sample, find_none}
-use Rattle.kp_plan.specs.Names.{keys_of}
+use Rattle.kp_seq_plan.specs.Names.{keys_of}
 use Rattle.kp_seq.specs.inner.Tables.{Laid}
 use Rattle.kp_seq.specs.inner.Fits.{FitSlots}
 use Rattle.kp_seq.specs.inner.Ready.{AreTables}
@@ -51,7 +51,7 @@ IsKey q keys = list_any (is_same_name q) keys ≡ true
 abbrev HasEntry : List ℕ → List Entry → Type 0
 HasEntry q es = list_any (λ e. is_same_name q e.name) es ≡ true
 
--- a name that is one of these has a place
+-- a name that is one of these has an index
 inside : (p : List ℕ → Bool) (keys : List (List ℕ)) → list_any p keys ≡ true → position_or_len p keys < length keys
 inside p [] h = cc
 inside p (x ∷ xs) h = by_test (p x)
@@ -207,11 +207,11 @@ new_in_stmt ds s (stmts.Set n e when) q none some = let f : false ≡ true = sym
 new_in_stmt ds s (stmts.Aim n e) q none some = let f : false ≡ true = sym (ap is_some none) ∙ some in cc
 
 module _ (job : Job) (unbroken : Unbroken (widths_of job)) (t : Laid) (tables : AreTables job t) (rule : _) (is25 : slice_get all_rules 10 ≡ Some rule) (k : ℕ) (words : List (List ℕ)) (fit : FitSlots (targets_of job.decls) words) (c : Instruction) where
-  -- a name that has an entry has a place
+  -- a name that has an entry has an index
   has_place : (q : List ℕ) → HasEntry q (widths_of job).value → HasPlace job unbroken t tables rule is25 k words fit c q
   has_place q h = place_of t.names q (ap (λ keys. list_any (is_same_name q) keys) tables.names ∙ entry_is_key [] (widths_of job).value q h)
 
-  -- each pipe has a place
+  -- each pipe has an index
   pub pipe_placed : (p : ℕ) (x : Slot) → slice_get (pipes_of job.decls) p ≡ Some x → HasPlace job unbroken t tables rule is25 k words fit c x.name
   pipe_placed p x at =
       has_place x.name (blocks_keep x.name job.decls 0 (declarations_of job.decls 0 0 nothing job.decls).value job.blocks
@@ -223,7 +223,7 @@ module _ (job : Job) (unbroken : Unbroken (widths_of job)) (t : Laid) (tables : 
       has_place x.name (blocks_keep x.name job.decls 0 (declarations_of job.decls 0 0 nothing job.decls).value job.blocks
       (slot_has x.name is_sample (λ kind e. or_right (is_pipe kind) (is_sample kind) e) job.decls 0 0 nothing job.decls p x (ap (λ ss. slice_get ss p) (sym (samples_by 0 job.decls)) ∙ at) refl))
 
-  -- statements whose names have places
+  -- statements whose names have indices
   keys_of_stmts : (s : Scoped) (xs : List Stmt) → ((q : List ℕ) → IsKey q (flat_map (λ x. names_in_stmt x.kind) xs) → HasPlace job unbroken t tables rule is25 k words fit c q)
       → Keyed job unbroken t tables rule is25 k words fit c s xs
   keys_of_stmts s [] h = tt
@@ -235,7 +235,7 @@ module _ (job : Job) (unbroken : Unbroken (widths_of job)) (t : Laid) (tables : 
             (λ q y. h q (list_any-append (is_same_name q) here more ∙ or_right (list_any (is_same_name q) here) (list_any (is_same_name q) more) y)),
       )
 
-  -- each name that a block declares has a place
+  -- each name that a block declares has an index
   pub keyed : (j : ℕ) (b : Block) (s : Scoped) → slice_get job.blocks j ≡ Some b → Keyed job unbroken t tables rule is25 k words fit c s b.stmts
   keyed j b s at =
       keys_of_stmts s b.stmts (λ q h. has_place q (blocks_have q job.decls 0 (declarations_of job.decls 0 0 nothing job.decls).value job.blocks j b at h))

@@ -1,10 +1,10 @@
--- Lists whose entries are changed one after another, and what they come to.
+-- Lists whose entries are changed in order, and the resulting lists.
 use Rattle.std.proofs.Common.{◌≡◌, ◌≢◌, ◌∙◌, ℕ, zero, suc, ◌+◌, ◌^◌, ◌<◌, ◌≤◌, List, [], ◌∷◌, ◌++◌, Option, Some, None, Bool, true, false, cond, length, map, get_or, set, refl, ap, sym, subst, arith}
 use Rattle.std.specs.Prelude.{is_some, slice_get, unwrap_or, nat_lt}
 use Rattle.std.proofs.lemmas.Bool.{cond-true, lt-ltb}
 use Rattle.std.proofs.lemmas.List.{length-set, length-append, get_or-set_same, get_or-set_other, append_assoc}
-use Rattle.kp_law.specs.Sequential.{first_value}
-use Rattle.kp_law.specs.Timeline.{first_stage}
+use Rattle.kp_pipeline.specs.Sequential.{first_value}
+use Rattle.kp_pipeline.specs.Timeline.{first_stage}
 use Rattle.kp_seq.specs.Told.{where_true}
 use Rattle.kp_seq.specs.inner.Notes.{changed_from, narrowed}
 
@@ -46,7 +46,7 @@ module _ {X Y : Type 0} (f : ℕ → X → Y → Y) (d : Y) where
       let z : 0 + j ≡ j = omega arith in
       subst (λ i. get_or (changed_from f d ys 0 xs) i d ≡ f i x (get_or ys i d)) z (changed_further ys 0 xs j x e (omega arith))
 
--- the first of so many numbers that passes
+-- the first of n numbers that passes
 abbrev pub seen : (ℕ → Bool) → ℕ → Option ℕ
 seen p zero = None
 seen p (suc k) = first_value (seen p k) (where_true (p k) k)
@@ -82,7 +82,7 @@ first_below p (suc n) k d m h l = cond_below (p k) k (first_stage p n (suc k) d)
 pub narrowed_is : (bits a : ℕ) → a < 2 ^ bits → narrowed bits a ≡ a
 narrowed_is bits a h = cond-true (nat_lt a (2 ^ bits)) a 0 (lt-ltb a (2 ^ bits) h)
 
--- reads, one after another
+-- reads, in order
 abbrev pub put_read : List (Option ℕ) × ℕ → Option ℕ → List (Option ℕ) × ℕ
 put_read s o = (set s.0 s.1 o, cond (nat_lt s.1 (length s.0)) (s.1 + 1) s.1)
 
@@ -117,6 +117,6 @@ put_further zs (y ∷ ys) (o ∷ os) e =
     ∙ ap (λ k. ((zs ++ o ∷ []) ++ ys, k)) (cond-true (nat_lt (length zs) (length (zs ++ y ∷ ys))) (length zs + 1) (length zs) (lt-ltb _ _ inside) ∙ next) in
     ap (λ s. (put_reads s os).0) there ∙ put_further (zs ++ o ∷ []) ys os all ∙ append_assoc zs (o ∷ []) os
 
--- fill their places
+-- fill their entries
 pub all_put : (ys os : List (Option ℕ)) → length ys ≡ length os → (put_reads (ys, 0) os).0 ≡ os
 all_put ys os e = put_further [] ys os e

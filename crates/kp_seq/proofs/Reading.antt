@@ -1,4 +1,4 @@
--- A read: what it gives is what it gives in the abstract machine, as a word of its target's width.
+-- A read: its value is that in the abstract machine, as a word of its target's width.
 use Rattle.std.proofs.Common.{◌≡◌, ◌∙◌, ℕ, ◌^◌, ◌<◌, ◌≤◌, List, Option, Some, None, cond, not, ◌||◌, length, get_or, refl, ap, sym, subst}
 use Rattle.std.specs.Prelude.{is_some, slice_get}
 use Rattle.std.specs.List.{position}

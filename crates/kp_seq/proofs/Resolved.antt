@@ -20,21 +20,21 @@ use Rattle.kp_ast.specs.declared.tree.StmtKind.{StmtKind}
 use Rattle.kp_ast.specs.declared.tree.StmtKind.TheVariants as stmts
 use Rattle.kp_ast.specs.declared.tree.Block.{Block}
 use Rattle.kp_stage.specs.Sizes.{size_of_stmt, size_of_block}
-use Rattle.kp_law.specs.Sequential.{first_value}
+use Rattle.kp_pipeline.specs.Sequential.{first_value}
 use Rattle.kp_machine.specs.Slots.{Slot, number_of, width_of, result_named}
 use Rattle.kp_machine.proofs.Cases.{by_test}
-use Rattle.kp_plan.specs.declared.plan.Plan.{Plan}
-use Rattle.kp_code.specs.declared.code.Code.{Code}
-use Rattle.kp_code.specs.declared.code.Code.TheVariants as leaf
-use Rattle.kp_code.specs.declared.code.Typed.{Typed}
-use Rattle.kp_plan.specs.declared.resolve.Scope.{Scope}
+use Rattle.kp_seq_plan.specs.declared.plan.Plan.{Plan}
+use Rattle.kp_seq_plan.specs.declared.code.Code.{Code}
+use Rattle.kp_seq_plan.specs.declared.code.Code.TheVariants as leaf
+use Rattle.kp_seq_plan.specs.declared.code.Typed.{Typed}
+use Rattle.kp_seq_plan.specs.declared.resolve.Scope.{Scope}
 use Rattle.kp_ast.specs.Checked.{checked, checked_calls_of}
-use Rattle.kp_plan.specs.Names.{at_place, place_of}
-use Rattle.kp_plan.specs.Plans.{Slots, Means, meaning, space}
-use Rattle.kp_code.specs.Codes.{value_of, value_level, space_level}
-use Rattle.kp_lower.specs.Lowering.{Holds, Suits, AllSuit, Gives}
-use Rattle.kp_code.proofs.CodeLevels.{code-Word}
-use Rattle.kp_lower.proofs.Numbers.{le_false}
+use Rattle.kp_seq_plan.specs.Names.{at_place, place_of}
+use Rattle.kp_seq_plan.specs.Plans.{Slots, Means, meaning, space}
+use Rattle.kp_seq_plan.specs.Codes.{value_of, value_level, space_level}
+use Rattle.kp_seq_plan.specs.Lowering.{Holds, Suits, AllSuit, Gives}
+use Rattle.kp_seq_plan.proofs.CodeLevels.{code-Word}
+use Rattle.kp_seq_plan.proofs.Numbers.{le_false}
 use Rattle.kp_seq.specs.declared.program.Reading.{Reading}
 use Rattle.kp_seq.specs.declared.program.Step.{Step}
 use Rattle.kp_seq.specs.declared.program.Step.TheVariants as moves
@@ -49,7 +49,7 @@ use Rattle.kp_seq.specs.Told.{where_true}
 use Rattle.kp_seq.specs.inner.Notes.{Noted, narrow_address, with_read, asked_in, note_stmt, note_stmts}
 use Rattle.kp_seq.proofs.Start.{fitted_is}
 
--- a place that gets a value of a width
+-- an index that gets a value of a width
 suits_set : (ws : List (Option ℕ)) (slots : Slots) (vs : List ℕ) (i : ℕ) (w : Option ℕ) (s : Option Word) (v : ℕ) → AllSuit ws slots vs → Suits w s v → AllSuit (set ws i w) (set slots i s) (set vs i v)
 suits_set [] slots vs i w s v h one = (ap (λ x. set x i s) h.0, ap (λ x. set x i v) h.1)
 suits_set (x ∷ ws) [] vs i w s v h one = absurd h
@@ -68,7 +68,7 @@ suits_length (x ∷ ws) [] vs h = absurd h
 suits_length (x ∷ ws) (y ∷ slots) [] h = absurd h
 suits_length (x ∷ ws) (y ∷ slots) (z ∷ vs) h = ap (λ n. suc n) (suits_length ws slots vs h.1)
 
--- where no place has a value, all numbers suit
+-- if no index has a value, all numbers suit
 pub none_suit : (n : ℕ) (vs : List ℕ) → length vs ≡ n → AllSuit (replicate n None) (replicate n None) vs
 none_suit zero [] e = (refl, refl)
 none_suit zero (v ∷ vs) e = absurd (omega (arith, e))
@@ -100,7 +100,7 @@ cond_below : (b : Bool) (x m : ℕ) → x < m → 0 < m → cond b x 0 < m
 cond_below true x m h k = h
 cond_below false x m h k = k
 
--- where a width is none of a word, one bit of 0 stands for it
+-- if a width is invalid, one bit of 0 replaces the word
 no_fit : (w v : ℕ) → (nat_le 1 w && nat_le w 64) ≡ false → fitted w v ≡ zero_bit
 no_fit w v h = ap (λ b. cond (b && nat_lt v (2 ^ w)) (word w v) zero_bit) h
 
@@ -112,7 +112,7 @@ le_true : (a b : ℕ) → nat_le a b ≡ true → a ≤ b
 le_true a b h = ⊎_elim (λ (l : b < a). let f : true ≡ false = sym h ∙ le_false a b l in cc) (λ (l : a ≤ b). l) (cases_lt b a)
 
 module _ (t : Laid) where
-  -- the room of all stages is enough for each
+  -- the scratch space of all stages suffices for each
   rooms : (ws : List (Option ℕ)) (bs : List Block) (ss : List (List Step)) (r : ℕ) → AllDo t ws bs ss → sum_by (size_of_block t.decls) bs ≤ r → All (λ s. steps_space s ≤ r) ss
   rooms ws [] ss r d l = subst (All (λ s. steps_space s ≤ r)) (sym d) (All-nil (λ s. steps_space s ≤ r))
   rooms ws (b ∷ bs) [] r d l = absurd d

@@ -1,9 +1,9 @@
--- Steps, one after another, are the sequential run.
+-- A sequence of steps is the sequential run.
 use Rattle.std.proofs.Common.{◌≡◌, ◌∙◌, ℕ, zero, suc, List, [], ◌∷◌, length, refl, ap, sym}
 use Rattle.kp_bits.specs.Word.{Word}
 use Rattle.kp_ast.specs.declared.tree.Job.{Job}
-use Rattle.kp_law.specs.Machine.{Machine}
-use Rattle.kp_law.specs.Sequential.{exec, seq}
+use Rattle.kp_pipeline.specs.Machine.{Machine}
+use Rattle.kp_pipeline.specs.Sequential.{exec, seq}
 use Rattle.kp_machine.specs.Machine.{machine_of}
 use Rattle.kp_seq.specs.Running.{after_rows, after_one, given_by}
 

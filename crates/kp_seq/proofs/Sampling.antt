@@ -1,4 +1,4 @@
--- Rows of samples: where a row ends, no more names get values, and a machine without samples takes the empty row.
+-- Input vectors: past the end of a vector no names are bound, and a machine without samples takes the empty vector.
 use Rattle.std.proofs.Common.{◌≡◌, ◌∙◌, ℕ, ◌≤◌, List, [], ◌∷◌, Option, drop, length, refl, ap}
 use Rattle.std.proofs.lemmas.List.{drop_all}
 use Rattle.kp_bits.specs.Word.{Word}

@@ -62,7 +62,7 @@ module _ (job : Job) (unbroken : Unbroken (widths_of job)) (t : Laid) (tables : 
           (λ none f. subst (λ xs. Found m.width (checked_calls_of xs q vs) (calls_of job.decls q vs)) (sym tables.decls) ((calls_open job unbroken).fits.calls_fit q m (in_text q m f) callee vs args));
     }
 
-    -- the value of an expression that breaks no rule is found, and it is the expression's value
+    -- the value of an expression that violates no rule is found, and it is the expression's value
     pub value_found : (e : Expr) → ask_expr facts rule k e ≡ None → Unbroken (width_of job.decls (length job.decls) s e)
         → Found (width_of job.decls (length job.decls) s e).value (checked (known_in t u) e) (eval (env_of job.decls done.names) e)
     value_found e free right = found job.decls (length job.decls) s (known_in t u) (env_of job.decls done.names) (ask_name facts rule k) meets e (same_question facts rule k e ∙ free) right

@@ -1,4 +1,4 @@
--- The words that a start state gives are those of its state, and they fit their targets.
+-- The words of a start state are those of its state, and they fit their targets.
 use Rattle.std.proofs.Common.{◌≡◌, ◌∙◌, ℕ, zero, suc, ◌-◌, ◌^◌, ◌<◌, ◌≤◌, List, [], ◌∷◌, Option, Some, None, Bool, true, false, cond, ◌&&◌, length, get_or, take, refl, ap, sym, subst, arith}
 use Rattle.std.specs.Prelude.{slice_index, slice_get, ◌==◌, nat_le, nat_lt}
 use Rattle.std.specs.List.{filter}
@@ -58,7 +58,7 @@ not_zero : (a : ℕ) → 1 ≤ a → (a == 0) ≡ false
 not_zero zero h = absurd (omega arith)
 not_zero (suc a) h = eqb-suc-zero a
 
--- behind a register, and behind a file
+-- after a register, and after a file
 past_register : (s : Slot) (ss : List Slot) (v : Word) (regs : List Word) (files : List (List ℕ)) (t : ℕ) (o : Option Slot) → is_register s ≡ true
     → target_words (s ∷ ss) (started (v ∷ regs) files) (suc t) o ≡ target_words ss (started regs files) t o
 past_register s ss v regs files t None h = refl

@@ -17,7 +17,7 @@ use Rattle.kp_stage.specs.Facts.{facts_of, stmts_in}
 use Rattle.kp_stage.specs.Rules.{ask_stmts, all_rules}
 use Rattle.kp_stage.specs.Stages.{broken_of}
 use Rattle.kp_stage.specs.Start.{AreSamples}
-use Rattle.kp_law.specs.Sequential.{Instruction, after_stage, before_stage, run}
+use Rattle.kp_pipeline.specs.Sequential.{Instruction, after_stage, before_stage, run}
 use Rattle.kp_machine.specs.Slots.{targets_of}
 use Rattle.kp_machine.specs.Trees.{Progress, tree_of}
 use Rattle.kp_machine.specs.Trees as trees

@@ -1,4 +1,4 @@
--- What is noted of an instruction is what is told of it.
+-- The implementation records of an instruction what the definition specifies.
 use Rattle.std.proofs.Common.{◌≡◌, ◌∙◌, ℕ, zero, suc, ◌+◌, ◌^◌, ◌<◌, ◌≤◌, List, [], ◌∷◌, Option, Some, None, Bool, true, false, ◌&&◌, length, map, get_or, replicate, refl, ap, sym, subst, arith, lit<}
 use Rattle.std.specs.Prelude.{is_some, slice_get, unwrap_or, sum_by, nat_le, nat_lt}
 use Rattle.std.proofs.lemmas.Bool.{and_parts, leb-true, ltb-true}
@@ -29,8 +29,8 @@ use Rattle.kp_stage.specs.Rules.{ask_stmts, all_rules}
 use Rattle.kp_stage.specs.Stages.{broken_of}
 use Rattle.kp_stage.specs.Start.{AreSamples}
 use Rattle.kp_stage.proofs.Unbroken.{answer_none}
-use Rattle.kp_law.specs.Sequential.{Instruction, first_value, before_stage}
-use Rattle.kp_law.specs.Timeline.{first_stage}
+use Rattle.kp_pipeline.specs.Sequential.{Instruction, first_value, before_stage}
+use Rattle.kp_pipeline.specs.Timeline.{first_stage}
 use Rattle.kp_machine.specs.Slots.{Slot, targets_of, pipes_of, number_of}
 use Rattle.kp_machine.specs.Trees.{Progress}
 use Rattle.kp_machine.specs.Trees as trees
@@ -94,7 +94,7 @@ all_of n = omega arith
 stage_fits : (v n : ℕ) → v < n → n ≤ 12 → v < 2 ^ 8
 stage_fits v n l few = let x : 12 < 2 ^ 8 = lit< tt in omega arith
 
--- the results of some declarations stand among them
+-- the results of some declarations are among them
 stand : (ds : List Decl) (j : ℕ) (r : ResultDecl) → slice_get (results_of ds) j ≡ Some r → Stands ds r
 stand [] j r e = cc
 stand (decls.Target q ∷ ds) zero r e = let is : q ≡ r = cc in record { index = 0; there = ap (λ x. Some (decls.Target x)) is }
@@ -110,7 +110,7 @@ map_both : {X Y Z : Type 0} (f : Y → Z) (g : X → Y) (xs : List X) → map f 
 map_both f g [] = refl
 map_both f g (x ∷ xs) = ap (λ ys. f (g x) ∷ ys) (map_both f g xs)
 
--- how many reads are told
+-- the number of reads in the record
 one_counted : (ds : List Decl) (done : Progress) (x : StmtKind) → length (read_told ds done x) ≡ reads_of x
 one_counted ds done (stmts.Read r) = refl
 one_counted ds done (stmts.Let n e) = refl
@@ -260,7 +260,7 @@ module _ (job : Job) (unbroken : Unbroken (widths_of job)) (kept : broken_of job
       (record { of_text = refl; ended = begun_ended job.decls u; places = still_placed t u (begun u) (begun_same t u) places })
       (record { count = length-replicate (length n.set_in) none ∙ ready.set_in; marks = λ j o is. nothing_seen n.set_in j }))
 
-  -- the notes keep their room
+  -- the record keeps its size
   pub still_noted : (u : Under) (n : Noted) → HasPlaces t u → IsNoted job n
       → IsNoted job (with_results (after_blocks t words row (begun u) job.blocks) (note_blocks t words row 0 (begun u) (begun_notes n) job.blocks))
   still_noted u n places ready =
@@ -304,7 +304,7 @@ module _ (job : Job) (unbroken : Unbroken (widths_of job)) (kept : broken_of job
       let fits : first_stage p n 0 r.stage.value < 2 ^ 8 = stage_fits (first_stage p n 0 r.stage.value) n (first_below p n 0 r.stage.value n (all_of n) below) few in
       ap (narrowed 8) (seen_first p n r.stage.value) ∙ narrowed_is 8 (first_stage p n 0 r.stage.value) fits
 
-  -- so what is noted is what is told
+  -- so the stored record is the specified one
   pub noted_is_told : (u : Under) (n : Noted) → HasPlaces t u → IsNoted job n
       → told_by (with_results (after_blocks t words row (begun u) job.blocks) (note_blocks t words row 0 (begun u) (begun_notes n) job.blocks)) ≡ told_of job (state_in words) (values_in row)
   unfolding told_of machine_of

@@ -6,8 +6,8 @@ use Rattle.kp_ast.specs.declared.tree.Decl.{Decl}
 use Rattle.kp_ast.specs.declared.tree.Stmt.{Stmt}
 use Rattle.kp_ast.specs.declared.tree.StmtKind.{StmtKind}
 use Rattle.kp_ast.specs.declared.tree.StmtKind.TheVariants as stmts
-use Rattle.kp_law.specs.Machine.{Tree, Done}
-use Rattle.kp_law.specs.Sequential.{StageOutcome, run}
+use Rattle.kp_pipeline.specs.Machine.{Tree, Done}
+use Rattle.kp_pipeline.specs.Sequential.{StageOutcome, run}
 use Rattle.kp_machine.specs.Slots.{targets_of, number_of, result_named}
 use Rattle.kp_machine.specs.Trees.{Progress, holds, value_of, word_read, with_name, with_set, read_of, statement_of, tree_of}
 use Rattle.kp_seq.specs.Told.{done_after}
@@ -24,7 +24,7 @@ module _ (ds : List Decl) (s : ℕ → ℕ → ℕ) where
   abbrev pub address_read : Progress → ReadStmt → Option Expr → ℕ
   address_read = told.address_read ds
 
-  -- what a read gives
+  -- the value of a read
   abbrev pub value_read : Progress → ReadStmt → ℕ
   value_read = told.value_read ds s
 
@@ -57,7 +57,7 @@ module _ (ds : List Decl) (s : ℕ → ℕ → ℕ) where
   one_runs done (stmts.Set n e when) rest = set_runs done (with_set ds done (result_named ds n.name) (value_of ds done e)) (holds ds done when) rest
   one_runs done (stmts.Aim n e) rest = refl
 
-  -- a stage runs as its statements go, one after another
+  -- a stage runs by executing its statements in order
   pub stage_runs : (done : Progress) (xs : List Stmt) → outcome (tree_of ds done xs) ≡ outcome (Done (nexts done xs).puts (nexts done xs).sets (nexts done xs).aims)
   stage_runs done [] = refl
   stage_runs done (x ∷ xs) = one_runs done x.kind (λ more. tree_of ds more xs) ∙ stage_runs (next done x.kind) xs

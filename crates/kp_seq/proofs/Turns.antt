@@ -99,7 +99,7 @@ module _ (job : Job) (unbroken : Unbroken (widths_of job)) (t : Laid) (tables : 
       let r = (bind_unbroken (width_of job.decls (length job.decls) s e) (λ x. wants (x == w) (e_rule 14 (part_of job.decls (length job.decls) s e).at) passed) right).0 in
       ap (λ (v : Word). v.value) (word_is job unbroken t tables rule is25 k s done u now e free r)
 
-  -- a let gives a new name of the block the value of its expression
+  -- a let binds a new name of the block to the value of its expression
   pub let_turn : (n : tree.Named) (e : Expr) (i : ℕ) → ask_expr (facts_of job) rule k e ≡ None → Unbroken (statements.statement_of job.decls s (stmts.Let n e))
       → values.look_up done.names n.name ≡ None → position (is_same_name n.name) t.names ≡ Some i → i < length u.names
       → Named job unbroken t tables rule is25 k (statements.statement_of job.decls s (stmts.Let n e)).value

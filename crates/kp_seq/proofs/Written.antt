@@ -13,7 +13,7 @@ use Rattle.kp_ast.specs.declared.tree.Job.{Job}
 use Rattle.kp_width.specs.Declarations.{address_width}
 use Rattle.kp_width.specs.Widths.{widths_of}
 use Rattle.kp_width.proofs.Unbroken.{Unbroken}
-use Rattle.kp_law.specs.Sequential.{Instruction, StageOutcome, first_value, fresh_instruction, after_stage, before_stage, is_written}
+use Rattle.kp_pipeline.specs.Sequential.{Instruction, StageOutcome, first_value, fresh_instruction, after_stage, before_stage, is_written}
 use Rattle.kp_machine.specs.Slots.{Slot, targets_of, pipes_of, number_of, result_to}
 use Rattle.kp_machine.specs.Trees.{Progress}
 use Rattle.kp_machine.specs.Machine.{machine_of, values_in, result_for, is_enabled_by, enabled_of, address_in}
@@ -99,7 +99,7 @@ module _ (u : Under) where
   written_count words j [] = refl
   written_count words j (p ∷ ps) = written_count (written_by u words j p) (j + 1) ps ∙ count_port words j p
 
--- the port of a target, and that there is none past the last
+-- the port of a target, and none past the last
 port_there : (ds : List Decl) (targets pipes : List Slot) (n t i : ℕ) → i < n → get_or (ports_from ds targets pipes t n) i None ≡ port_of pipes (result_to targets ds (t + i))
 port_there ds targets pipes zero t i l = absurd (omega arith)
 port_there ds targets pipes (suc n) t zero l = let z : t ≡ t + 0 = sym (none_after t) in ap (λ x. port_of pipes (result_to targets ds x)) z
@@ -112,7 +112,7 @@ port_past ds targets pipes zero t i l = refl
 port_past ds targets pipes (suc n) t zero l = absurd (omega arith)
 port_past ds targets pipes (suc n) t (suc i) l = port_past ds targets pipes n (suc t) i (omega arith)
 
--- the words of a target fit it where those of all targets do, and the other way about
+-- the words of a target fit it if those of all targets do, and conversely
 slot_fits : (ss : List Slot) (words : List (List ℕ)) (x : ℕ) (s : Slot) → FitSlots ss words → slice_get ss x ≡ Some s → FitsSlot s (get_or words x [])
 slot_fits [] words x s h e = cc
 slot_fits (y ∷ ss) [] x s h e = absurd h
@@ -170,7 +170,7 @@ all_default zero i d = refl
 all_default (suc n) zero d = refl
 all_default (suc n) (suc i) d = all_default n i d
 
--- and an instruction that begins has done nothing
+-- and an instruction at its start has done nothing
 pub begun_ended : (ds : List Decl) (u : Under) → Ended ds fresh_instruction (begun u)
 begun_ended ds u = record {
   pipes = λ p. all_default (length u.pipes) p 0;

@@ -1,35 +1,35 @@
--- A sequential machine that runs: the state that it is in, and the state after steps.
+-- A sequential machine that runs: its present state, and the state after steps.
 use Rattle.std.specs.Prelude.{ℕ, ◌^◌, ◌<◌, List, [], ◌∷◌, length, get_or, slice_index}
 use Rattle.kp_bits.specs.Word.{Word, word}
 use Rattle.kp_ast.specs.declared.tree.Job.{Job}
-use Rattle.kp_law.specs.Sequential.{exec}
+use Rattle.kp_pipeline.specs.Sequential.{exec}
 use Rattle.kp_machine.specs.Machine.{machine_of, values_in}
 use Rattle.kp_machine.specs.Slots.{Slot, targets_of}
 use Rattle.kp_seq.specs.Told.{Told}
 
--- a job, the words of the targets of its machine, and what is told of the last instruction; before the first that says nothing
+-- a job, the words of the targets of its machine, and the record of the last instruction, which is unspecified before the first
 pub record Running : Type 0 where
   pub job : Job
   pub words : List (List ℕ)
   pub last : Told
 
--- what stands for a target where there is none
+-- the default for a target that doesn't exist
 abbrev pub no_slot : Slot
 no_slot = record { name = []; width = 0; address = 0 }
 
 abbrev pub target : Job → ℕ → Slot
 target job t = get_or (targets_of job.decls) t no_slot
 
--- the job has a target of this number, and that has this address; the one address of a register is 0
+-- the job has a target of this number, with this address; a register has only address 0
 pub record HasWord (job : Job) (t a : ℕ) : Type 0 where
   pub target : t < length (targets_of job.decls)
   pub address : a < 2 ^ (get_or (targets_of job.decls) t no_slot).address
 
--- the words of all targets as a state: the value of each target at each address, and 0 where there is none
+-- the words of all targets as a state: the value of each target at each address, and 0 if there is none
 abbrev pub state_in : List (List ℕ) → ℕ → ℕ → ℕ
 state_in words t a = slice_index (get_or words t []) a
 
--- the state that a machine is in
+-- the present state of a machine
 abbrev pub state : Running → ℕ → ℕ → ℕ
 state m = state_in m.words
 
@@ -37,15 +37,15 @@ state m = state_in m.words
 abbrev pub word_shown : Running → ℕ → ℕ → Word
 word_shown m t a = word (target m.job t).width (state m t a)
 
--- the state after one instruction, which takes a row of samples
+-- the state after one instruction with an input vector
 abbrev pub after_one : Job → (ℕ → ℕ → ℕ) → List Word → (ℕ → ℕ → ℕ)
 after_one job s row = exec (machine_of job) s (values_in row)
 
--- the state of the machine of a job after a step for each of these rows
+-- the state of the machine of a job after a step for each of these input vectors
 abbrev pub after_rows : Job → (ℕ → ℕ → ℕ) → List (List Word) → (ℕ → ℕ → ℕ)
 after_rows job s [] = s
 after_rows job s (row ∷ rows) = after_rows job (after_one job s row) rows
 
--- the values of the samples in the rows of a list, and 0 past its end
+-- the values of the samples in a list of input vectors, and 0 past its end
 abbrev pub given_by : List (List Word) → ℕ → ℕ → ℕ
 given_by rows i = values_in (get_or rows i [])

@@ -1,5 +1,5 @@
--- What is told of an instruction: where it read, where it wrote, and in which stages its results were set. A register is read and
--- written at address 0.
+-- The record of an instruction: where it read, where it wrote, and in which stages its results were set. A register
+-- is read and written at address 0.
 use Rattle.std.specs.Prelude.{ℕ, zero, suc, List, [], ◌∷◌, ◌++◌, Option, Some, None, Bool, cond, is_some, map, slice_get}
 use Rattle.kp_ast.specs.declared.tree.Expr.{Expr}
 use Rattle.kp_ast.specs.declared.tree.ReadStmt.{ReadStmt}
@@ -11,24 +11,24 @@ use Rattle.kp_ast.specs.declared.tree.StmtKind.{StmtKind}
 use Rattle.kp_ast.specs.declared.tree.StmtKind.TheVariants as stmts
 use Rattle.kp_ast.specs.declared.tree.Job.{Job}
 use Rattle.kp_stage.specs.Facts.{stmts_in}
-use Rattle.kp_law.specs.Sequential.{Instruction, before_stage}
-use Rattle.kp_law.specs.Timeline.{first_stage}
+use Rattle.kp_pipeline.specs.Sequential.{Instruction, before_stage}
+use Rattle.kp_pipeline.specs.Timeline.{first_stage}
 use Rattle.kp_machine.specs.Slots.{targets_of, pipes_of, hints_of, number_of, result_named}
 use Rattle.kp_machine.specs.Trees.{Progress, entered, holds, address_of, word_of, value_of, value_with_hints, word_read, with_name, with_put, with_set, with_aim}
 use Rattle.kp_machine.specs.Machine.{machine_of, is_enabled_by, address_by}
 
--- For each read, in text order, its address, or None where its condition failed; for each result, in the order of declaration, the
--- address that it wrote, or None where its enable pipe was 0; and for each result its setting stage.
+-- For each read, in text order, its address, or None if its condition was false; for each result, in the order of
+-- declaration, the address that it wrote, or None if its enable pipe was 0; and for each result its setting stage.
 pub record Told : Type 0 where
   pub reads : List (Option ℕ)
   pub writes : List (Option ℕ)
   pub settings : List ℕ
 
--- this, where a test passes
+-- this value, if a test passes
 abbrev pub where_true : Bool → ℕ → Option ℕ
 where_true b a = cond b (Some a) None
 
--- READS. What a read gives on the state s: 0 where its condition fails. A guess is of a register.
+-- READS. The value of a read in the state s: 0 if its condition is false. A guess is of a register.
 abbrev pub address_read : List Decl → Progress → ReadStmt → Option Expr → ℕ
 address_read ds done r None = address_of ds done r.address
 address_read ds done r (Some guess) = 0
@@ -36,7 +36,7 @@ address_read ds done r (Some guess) = 0
 abbrev pub value_read : List Decl → (ℕ → ℕ → ℕ) → Progress → ReadStmt → ℕ
 value_read ds s done r = cond (holds ds done r.when) (s (number_of (targets_of ds) r.target.name) (address_read ds done r r.guess)) 0
 
--- what is done after a statement, where each read sees the state s
+-- the progress after a statement, where each read sees the state s
 abbrev pub done_after : List Decl → (ℕ → ℕ → ℕ) → Progress → StmtKind → Progress
 done_after ds s done (stmts.Read r) = with_name done r.name.name (word_read ds r (value_read ds s done r))
 done_after ds s done (stmts.Let n e) = with_name done n.name (word_of ds done e)
@@ -44,12 +44,12 @@ done_after ds s done (stmts.Put n e) = with_put done (number_of (pipes_of ds) n.
 done_after ds s done (stmts.Set n e when) = cond (holds ds done when) (with_set ds done (result_named ds n.name) (value_of ds done e)) done
 done_after ds s done (stmts.Aim n e) = with_aim done (number_of (hints_of ds) n.name) (value_with_hints ds done e)
 
--- a read is told with its address where its condition holds
+-- a read is recorded with its address if its condition holds
 abbrev pub read_told : List Decl → Progress → StmtKind → List (Option ℕ)
 read_told ds done (stmts.Read r) = where_true (holds ds done r.when) (address_of ds done r.address) ∷ []
 read_told ds done _ = []
 
--- the reads of these statements, after what was done before them
+-- the reads of these statements, given the progress before them
 abbrev pub reads_told : List Decl → (ℕ → ℕ → ℕ) → Progress → List Stmt → List (Option ℕ)
 reads_told ds s done [] = []
 reads_told ds s done (x ∷ xs) = read_told ds done x.kind ++ reads_told ds s (done_after ds s done x.kind) xs
@@ -70,7 +70,7 @@ results_of [] = []
 results_of (decls.Target r ∷ ds) = r ∷ results_of ds
 results_of (_ ∷ ds) = results_of ds
 
--- the address that a result writes, by the values of the pipes
+-- the address that a result writes, given the values of the pipes
 abbrev pub write_told : Job → (ℕ → ℕ) → ResultDecl → Option ℕ
 write_told job pipes r =
     where_true (is_enabled_by (pipes_of job.decls) pipes r.enable) (address_by (pipes_of job.decls) pipes r.address)
@@ -81,7 +81,7 @@ setting_told job s q r =
     first_stage (λ k. is_some ((before_stage (machine_of job) s q (suc k)).results (number_of (targets_of job.decls) r.target.name)))
     job.stages.value 0 r.stage.value
 
--- what is told of the instruction on the state s with the sample values q
+-- the record of the instruction on the state s with the sample values q
 unfoldable pub told_of : Job → (ℕ → ℕ → ℕ) → (ℕ → ℕ) → Told
 told_of job s q = record {
   reads = reads_from job s q job.stages.value 0;

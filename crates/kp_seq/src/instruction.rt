@@ -1,6 +1,6 @@
-//! One instruction.
+//! The execution of one instruction.
 ghost use Rattle.std.specs.Prelude.{◌≡◌, ◌≤◌, ◌+◌, None, length, get_or, All, IfOk, if◌then◌else◌, slice_index, unwrap_or};
-ghost use Rattle.kp_code.specs.Codes.{value_of, space_of};
+ghost use Rattle.kp_seq_plan.specs.Codes.{value_of, space_of};
 ghost use Rattle.kp_seq.specs.inner.Ready.{HasRoom};
 ghost use Rattle.kp_seq.specs.inner.Steps.{is_enabled, address_by, written_by, written_from};
 ghost use Rattle.kp_seq.specs.inner.Resolved.{outputs, holds_at, address_at, asked_at, value_asked, note_step, note_steps, note_stages, noted, with_place, put_pipe, set_first, with_target, begun_at, after_step, after_steps, with_row_at, with_carried, entered_at, after_stages, ran, option_space, step_space, steps_space};
@@ -11,12 +11,12 @@ use crate::tables::{Port, Tables};
 use crate::words::Words;
 use kp_base::NoMemory;
 use kp_bits::Bits;
-use kp_code::Code;
+use kp_seq_plan::Code;
 use std::alloc::Global;
 use std::marker::Model;
 
-/// An instruction under way: the values of the names of its stage by their places, those of its pipes, and its results
-/// by the numbers of their targets.
+/// An instruction in flight: the values of the names of its stage, indexed by the names' numbers, those of its pipes,
+/// and its results, indexed by their targets.
 #[derive(Drop)]
 pub(crate) struct Instruction {
     pub names: Vec<u64>,
@@ -33,7 +33,7 @@ impl Model for Instruction {
 }
 
 impl Instruction {
-    /// Room for an instruction under way.
+    /// Storage for an instruction in flight. Error: out of memory.
     pub fn new(alloc: Global, tables: &Tables) -> Result<Instruction, NoMemory>
         ensures { IfOk result (λ u. HasRoom tables.now u) }
     {
@@ -44,7 +44,7 @@ impl Instruction {
         })
     }
 
-    // No pipe and no result has a value.
+    // Clears the values of all pipes and results.
     fn begin(&mut self)
         ensures { self.new ≡ begun_at self.old }
     {
@@ -52,7 +52,7 @@ impl Instruction {
         self.results.as_mut_slice().fill(None);
     }
 
-    // Gives a place a value.
+    // Sets the value under an optional index.
     fn bind(&mut self, place: Option<usize>, value: u64)
         ensures { self.new ≡ with_place self.old place value }
     {
@@ -63,7 +63,7 @@ impl Instruction {
         }
     }
 
-    // Gives a pipe its value.
+    // Sets the value of a pipe.
     fn put(&mut self, pipe: usize, value: u64)
         ensures { self.new ≡ put_pipe self.old pipe value }
     {
@@ -72,7 +72,7 @@ impl Instruction {
         }
     }
 
-    // Gives the result of a target its value, where it has none yet.
+    // Sets the result of a target, unless it has a value already.
     fn set(&mut self, target: usize, value: u64)
         ensures { self.new ≡ set_first self.old target value }
     {
@@ -92,7 +92,7 @@ impl Instruction {
         }
     }
 
-    // The result of a target, and 0 where it has none.
+    // The result of a target, and 0 if it has none.
     fn result(&self, target: usize) -> u64
         ensures { result ≡ unwrap_or (get_or self.now.results target None) 0 }
     {
@@ -103,7 +103,7 @@ impl Instruction {
         }
     }
 
-    // Gives the samples the words of a row.
+    // Binds the samples to the words of an input vector.
     fn sample(&mut self, places: &[Option<usize>], row: &[Bits])
         ensures { self.new ≡ with_row_at self.old places.now row.now }
     {
@@ -115,7 +115,7 @@ impl Instruction {
         }
     }
 
-    // A stage begins: the names of the samples and of the pipes get their values.
+    // The start of a stage: the names of the samples and of the pipes are bound to their values.
     fn enter(&mut self, program: &Program, row: &[Bits])
         ensures { self.new ≡ entered_at program.now row.now self.old }
     {
@@ -123,7 +123,7 @@ impl Instruction {
         self.bring_pipes(program.pipes.as_slice());
     }
 
-    // The names of the pipes get the values of the pipes.
+    // Binds the names of the pipes to the values of the pipes.
     fn bring_pipes(&mut self, places: &[Option<usize>])
         ensures { self.new ≡ with_carried self.old 0 places.now }
     {
@@ -134,7 +134,7 @@ impl Instruction {
     }
 }
 
-/// Runs one instruction on these words, with these words of the samples, and notes what its reads and results do.
+/// Runs one instruction on these words, with these words of the samples, and records what its reads and results do.
 pub(crate) fn execute(
     tables: &Tables,
     program: &Program,
@@ -227,7 +227,7 @@ fn run_step(
     }
 }
 
-// The first value of a result counts.
+// Sets a result; its first value counts.
 fn set_result(
     under: &mut Instruction,
     room: &mut [u64],
@@ -248,7 +248,7 @@ fn set_result(
     }
 }
 
-// The address of a read, or None where its condition fails.
+// The address of a read, or None if its condition is false.
 fn asked(under: &Instruction, room: &mut [u64], reading: &Reading) -> Option<u64>
     requires { option_space reading.now.address + option_space reading.now.when ≤ length room.old }
     ensures value { result ≡ asked_at under.now reading.now }
@@ -260,7 +260,7 @@ fn asked(under: &Instruction, room: &mut [u64], reading: &Reading) -> Option<u64
     None
 }
 
-// What a read gives: 0 where its condition fails. A guess is of a register, which is read at address 0.
+// The value of a read: 0 if its condition is false. A guess is of a register, which is read at address 0.
 fn value_read(reading: &Reading, asked: Option<u64>, words: &Words) -> u64
     ensures { result ≡ value_asked words.now reading.now asked }
 {
@@ -300,10 +300,10 @@ fn value_of(under: &Instruction, room: &mut [u64], code: &Code) -> u64
     ensures value { result ≡ value_of code.now under.now.names }
     ensures room { length room.new ≡ length room.old }
 {
-    kp_code::value(code, under.names.as_slice(), room)
+    kp_seq_plan::value(code, under.names.as_slice(), room)
 }
 
-// Each target takes its result where that is enabled.
+// Each target takes its result if that is enabled.
 fn write(tables: &Tables, under: &Instruction, words: &mut Words)
     ensures { words.new ≡ written_from (outputs under.now) words.old 0 tables.now.ports }
 {
@@ -324,7 +324,7 @@ fn write_target(under: &Instruction, words: &mut Words, t: usize, port: Option<P
     }
 }
 
-/// A result is enabled where its enable pipe is 1, and where it has none.
+/// A result is enabled if its enable pipe is 1, or if it has none.
 pub(crate) fn is_enabled(under: &Instruction, enable: Option<usize>) -> bool
     ensures { result ≡ is_enabled (outputs under.now) enable }
 {

@@ -1,3 +1,4 @@
+// The sequential machine and its calls.
 ghost use Rattle.std.specs.Prelude.{◌≡◌, ◌<◌, [], IfOk, None, length, get_or};
 ghost use Rattle.kp_stage.specs.Design.{IsSound};
 ghost use Rattle.kp_stage.specs.Start.{IsStartOf, AreSamples};
@@ -20,7 +21,7 @@ use kp_stage::{Design, Start};
 use std::alloc::Global;
 use std::marker::Model;
 
-/// A design that is resolved: what is looked up while instructions run, and what they do.
+/// A resolved design: the tables that are looked up while instructions run, and the program.
 #[derive(Drop)]
 struct Resolved<'a> {
     tables: Tables<'a>,
@@ -38,7 +39,7 @@ impl<'a> Resolved<'a> {
     }
 }
 
-/// Where instructions run: the one under way, and the room for the arguments of functions.
+/// The storage for running instructions: the one in flight, and scratch space for the arguments of functions.
 #[derive(Drop)]
 struct Desk {
     under: Instruction,
@@ -56,7 +57,7 @@ impl Desk {
     }
 }
 
-/// What instructions leave: the words of the targets, and the notes of the last one.
+/// The state between instructions: the words of the targets, and the record of the last instruction.
 #[derive(Drop)]
 struct Memory {
     words: Words,
@@ -64,7 +65,7 @@ struct Memory {
 }
 
 impl Memory {
-    // The words of a start state, and no notes.
+    // The words of a start state, and an empty record.
     fn start(alloc: Global, tables: &Tables, d: &Design, start: &Start) -> Result<Memory, NoMemory>
         requires suits { IsStartOf d.now.job start.now }
         requires tables { AreTables d.now.job tables.now }
@@ -87,8 +88,7 @@ impl Memory {
     }
 }
 
-/// A machine that runs one instruction at a time, seen as the job of its design and the state that it is in.
-#[derive(Drop)]
+/// A machine that runs one instruction at a time; contracts see it as the job of its design and its present state.
 pub struct SeqMachine<'a> {
     design: &'a Design,
     tables: Tables<'a>,
@@ -97,6 +97,26 @@ pub struct SeqMachine<'a> {
     room: Vec<u64>,
     words: Words,
     notes: Notes,
+}
+
+impl Drop for SeqMachine<'_> {
+    fn drop(self) {
+        let SeqMachine {
+            design: _,
+            tables,
+            program,
+            under,
+            room,
+            words,
+            notes,
+        } = self;
+        drop(tables);
+        drop(program);
+        drop(under);
+        drop(room);
+        drop(words);
+        drop(notes);
+    }
 }
 
 impl<'a> Model for SeqMachine<'a> {
@@ -117,7 +137,7 @@ impl<'a> Model for SeqMachine<'a> {
 }
 
 impl<'a> SeqMachine<'a> {
-    /// The machine of a design in a start state. Takes all its memory here, and want of it is the one refusal.
+    /// The machine of a design in a start state. All memory is allocated here; the only error is out of memory.
     pub fn open(alloc: Global, d: &'a Design, start: &Start) -> Result<SeqMachine<'a>, NoMemory>
         requires suits { IsStartOf d.now.job start.now }
         ensures job { IfOk result (λ m. m.job ≡ d.now.job) }
@@ -137,8 +157,8 @@ impl<'a> SeqMachine<'a> {
         })
     }
 
-    /// A copy of the machine: it has the same job and is in the same state, and the machine stays as it is. The copy takes all its memory
-    /// here, and want of it is the one refusal.
+    /// A copy of the machine, with the same job and the same state; the machine itself is unchanged. All memory of
+    /// the copy is allocated here; the only error is out of memory.
     pub fn copied(&self, alloc: Global) -> Result<SeqMachine<'a>, NoMemory>
         ensures { IfOk result (λ m. m ≡ self.now) }
     {
@@ -156,7 +176,7 @@ impl<'a> SeqMachine<'a> {
         })
     }
 
-    /// Runs one instruction of a machine without samples. Takes no memory.
+    /// Runs one instruction of a machine without samples. Allocates nothing.
     #[tactic(auto, using(crate::proofs::Sampling::no_row))]
     pub fn step(&mut self)
         requires { samples_of self.old.job.decls ≡ [] }
@@ -167,8 +187,8 @@ impl<'a> SeqMachine<'a> {
         self.step_with(&[]);
     }
 
-    /// Runs one instruction, which takes a row of samples: a value for each one, of its width, in the order of declaration. Takes no
-    /// memory.
+    /// Runs one instruction with an input vector: a value for each sample, with its width, in the order of
+    /// declaration. Allocates nothing.
     pub fn step_with(&mut self, row: &[Bits])
         requires { AreSamples self.old.job.decls row.now }
         ensures job { self.new.job ≡ self.old.job }
@@ -198,8 +218,8 @@ impl<'a> SeqMachine<'a> {
         fitted(width, self.words.word(target, u64::from(address)))
     }
 
-    /// The address that a read of the last instruction had, 0 for a register, or None exactly where its condition failed. Reads are
-    /// numbered from 0 in text order.
+    /// The address that a read of the last instruction had, 0 for a register, or None exactly if its condition was
+    /// false. Reads are numbered from 0 in text order.
     pub fn reads(&self, read: u32) -> Option<u32>
         requires { read < length self.now.last.reads }
         ensures { result ≡ get_or self.now.last.reads read None }
@@ -207,8 +227,8 @@ impl<'a> SeqMachine<'a> {
         self.notes.reads()[read as usize]
     }
 
-    /// The address that a result of the last instruction wrote, 0 for a register, or None exactly where its enable pipe was 0.
-    /// Results are numbered from 0 in the order of declaration.
+    /// The address that a result of the last instruction wrote, 0 for a register, or None exactly if its enable pipe
+    /// was 0. Results are numbered from 0 in the order of declaration.
     pub fn writes(&self, result_number: u32) -> Option<u32>
         requires { result_number < length self.now.last.writes }
         ensures { result ≡ get_or self.now.last.writes result_number None }
@@ -216,8 +236,8 @@ impl<'a> SeqMachine<'a> {
         self.notes.writes()[result_number as usize]
     }
 
-    /// The setting stage of a result in the last instruction: the stage of its first enabled set, or its write stage where there was
-    /// none.
+    /// The setting stage of a result in the last instruction: the stage of its first enabled set, or its write stage
+    /// if there was none.
     pub fn setting(&self, result_number: u32) -> u8
         requires { result_number < length self.now.last.settings }
         ensures { result ≡ get_or self.now.last.settings result_number 0 }
@@ -226,7 +246,7 @@ impl<'a> SeqMachine<'a> {
     }
 }
 
-// The word of this width and this value. An accepted machine has no others.
+// The word of this width and this value. In an accepted machine all values fit.
 fn fitted(width: u64, value: u64) -> Bits
     ensures { result ≡ fitted width value }
 {

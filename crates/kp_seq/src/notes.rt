@@ -1,4 +1,4 @@
-//! What is noted of an instruction while it runs: the addresses of its reads, and where and in which stages its results were set.
+//! The record of an instruction while it runs: the addresses of its reads, and where and in which stages its results were set.
 ghost use Rattle.std.specs.Prelude.{◌≡◌, ◌+◌, ◌∷◌, None, get_or, set, IfOk, length, if◌then◌else◌};
 ghost use Rattle.std.specs.Option.{option_map};
 ghost use Rattle.kp_machine.specs.Slots.{targets_of, pipes_of};
@@ -21,8 +21,8 @@ pub(crate) struct Outlet {
     pub stage: u64,
 }
 
-/// The results of a machine, what is noted of an instruction's reads and results, and, while it runs, how many reads there were
-/// and in which stage each result was set.
+/// The results of a machine, the record of an instruction's reads and results, and, while it runs, the number of
+/// reads so far and the stage in which each result was set.
 #[derive(Drop)]
 pub(crate) struct Notes {
     outlets: Vec<Outlet>,
@@ -44,7 +44,7 @@ impl Model for Notes {
 impl Notes {
     ghost use Rattle.kp_ast.specs.declared.tree.Decl.{Decl};
 
-    /// Room for the notes of an instruction with so many reads.
+    /// Storage for the record of an instruction with this many reads. Error: out of memory.
     pub fn new(alloc: Global, tables: &Tables, reads: usize) -> Result<Notes, NoMemory>
         ensures outlets { IfOk result (λ n. n.outlets ≡ outlets_of tables.now.targets tables.now.pipes tables.now.decls) }
         ensures reads { IfOk result (λ n. length n.reads ≡ reads) }
@@ -69,7 +69,7 @@ impl Notes {
         })
     }
 
-    /// A copy of the notes.
+    /// A copy of the record. Error: out of memory.
     pub fn copied(&self, alloc: Global) -> Result<Notes, NoMemory>
         ensures { IfOk result (λ n. n ≡ self.now) }
     {
@@ -83,7 +83,7 @@ impl Notes {
         })
     }
 
-    /// An instruction begins.
+    /// The start of an instruction.
     pub fn begin(&mut self)
         ensures { self.new ≡ begun_notes self.old }
     {
@@ -91,7 +91,7 @@ impl Notes {
         self.set_in.as_mut_slice().fill(None);
     }
 
-    /// The next read: its address, or None where its condition failed.
+    /// The next read: its address, or None if its condition was false.
     pub fn read(&mut self, address: Option<u64>)
         ensures { self.new ≡ with_read self.old (narrow_address address) }
     {
@@ -102,7 +102,7 @@ impl Notes {
         }
     }
 
-    /// Stage k ends: it set those results that have a value now and had none before.
+    /// The end of stage k: it set those results that have a value now and had none before.
     pub fn end_stage(&mut self, k: u64, under: &Instruction)
         ensures { self.new ≡ with_marks k (outputs under.now) self.old }
     {
@@ -114,7 +114,7 @@ impl Notes {
         );
     }
 
-    /// The instruction ends.
+    /// The end of the instruction.
     pub fn end(&mut self, under: &Instruction)
         ensures { self.new ≡ with_results (outputs under.now) self.old }
     {
@@ -171,7 +171,7 @@ fn outlets(
     Ok(outlets)
 }
 
-// No address of an accepted machine is cut short.
+// An address in 32 bits. No address of an accepted machine is truncated.
 fn narrow_address(address: Option<u64>) -> Option<u32>
     ensures { result ≡ narrow_address address }
 {

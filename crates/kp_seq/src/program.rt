@@ -1,18 +1,16 @@
-//! A job that is resolved: what an instruction does at each stage, with numbers in the place of names.
+//! A resolved job: what an instruction does at each stage, with numbers in place of names.
 ghost use Rattle.std.specs.Prelude.{◌≡◌, ◌&&◌, nat_le, IfOk};
 ghost use Rattle.kp_seq.specs.inner.Resolved.{IsCode, IsOptionCode, IsReading, Does, DoesRead, DoesStage, AllDo, Resolves, places_of, entry_widths, with_widths, with_width, unnamed};
 
 use crate::tables::{Slot, Tables, number_of, target_of, width_of};
 use kp_ast::{Block, Expr, ReadStmt, Stmt, StmtKind};
 use kp_base::{List, NoMemory};
-use kp_code::{Code, Typed};
-use kp_lower::code_of;
-use kp_plan::{Keys, Scope, plan_of};
+use kp_seq_plan::{Code, Keys, Scope, Typed, code_of, plan_of};
 use kp_stage::Design;
 use std::alloc::Global;
 use std::marker::Model;
 
-/// A read: the place of its name, the target's number, and whether it has a guess.
+/// A read: the index of its name, the target's number, and whether it has a guess.
 #[derive(Drop)]
 pub(crate) struct Reading {
     pub place: Option<usize>,
@@ -22,21 +20,21 @@ pub(crate) struct Reading {
     pub is_guessed: bool,
 }
 
-/// What a statement does.
+/// The effect of a statement.
 #[derive(Drop)]
 pub(crate) enum Step {
     Read(Reading),
-    /// A name's place gets a value.
+    /// The value under a name's index is set.
     Let(Option<usize>, Code),
-    /// A pipe gets a value.
+    /// The value of a pipe is set.
     Put(usize, Code),
-    /// The result of a target gets a value where a condition holds, if it is a result of a target.
+    /// The result of a target is set if a condition holds, provided that it is a result of a target.
     Set(Option<usize>, Code, Option<Code>),
     /// An aim: a sequential machine has no hints.
     Nothing,
 }
 
-/// The places of the names of the samples and of the pipes, and the steps of each stage.
+/// The indices of the names of the samples and of the pipes, and the steps of each stage.
 #[derive(Drop)]
 pub(crate) struct Program {
     pub samples: Vec<Option<usize>>,
@@ -46,7 +44,7 @@ pub(crate) struct Program {
 
 impl Model for Program {
     ghost use Rattle.std.specs.Coded.{codes};
-    ghost use Rattle.kp_code.specs.contracts.code.Code as e;
+    ghost use Rattle.kp_seq_plan.specs.contracts.code.Code as e;
     ghost use Rattle.kp_seq.specs.inner.Resolved.{Outline};
 
     ghost Value = { Outline };
@@ -57,7 +55,7 @@ impl Model for Program {
 }
 
 impl Program {
-    /// The program of a design.
+    /// The program of a design. Error: out of memory.
     pub fn of(alloc: Global, tables: &Tables, d: &Design) -> Result<Program, NoMemory>
         ensures { IfOk result (λ p. Resolves tables.now d.now.job.blocks p) }
     {
@@ -84,7 +82,7 @@ fn places_of(alloc: Global, keys: &Keys, slots: &[Slot]) -> Result<Vec<Option<us
     Ok(places)
 }
 
-// The widths of the names that have values where a stage begins, by their places.
+// The widths of the names that have values at the start of a stage, by index.
 fn widths_at_entry(alloc: Global, tables: &Tables) -> Result<Vec<Option<u64>>, NoMemory>
     ensures { IfOk result (λ widths. widths.items ≡ entry_widths tables.now) }
 {
@@ -94,7 +92,7 @@ fn widths_at_entry(alloc: Global, tables: &Tables) -> Result<Vec<Option<u64>>, N
     Ok(widths)
 }
 
-// The names of these have values of their widths.
+// Stores the widths of the names of these slots.
 fn know_all(keys: &Keys, slots: &[Slot], widths: &mut Vec<Option<u64>>)
     ensures { widths.new.items ≡ with_widths keys.now widths.old.items slots.now }
 {
@@ -103,7 +101,7 @@ fn know_all(keys: &Keys, slots: &[Slot], widths: &mut Vec<Option<u64>>)
     }
 }
 
-// What is at a place has this width.
+// Stores this width under an optional index.
 fn know(place: Option<usize>, width: u64, widths: &mut Vec<Option<u64>>)
     ensures { widths.new.items ≡ with_width widths.old.items place width }
 {
@@ -130,7 +128,7 @@ fn stages_of(
     Ok(stages)
 }
 
-// The steps of a stage, where the names that have values at its beginning have these widths.
+// The steps of a stage, given these widths of the names that have values at its start.
 fn steps_of(
     alloc: Global,
     tables: &Tables,
@@ -149,7 +147,7 @@ fn steps_of(
     Ok(steps)
 }
 
-/// A step, and the place that has a value after it, with the width of that.
+/// A step, and the index of the name that it binds, with the width of its value.
 #[derive(Drop)]
 pub(crate) struct Made {
     pub step: Step,
@@ -158,7 +156,7 @@ pub(crate) struct Made {
 }
 
 impl Made {
-    // A step that names no value.
+    // A step that binds no name.
     fn unnamed(step: Step) -> Made
         ensures { result ≡ unnamed step }
     {
@@ -170,7 +168,7 @@ impl Made {
     }
 }
 
-// The step of a statement, where names have values of these widths.
+// The step of a statement, given these widths of the names' values.
 #[tactic(auto, using(crate::proofs::Resolved::does_let, crate::proofs::Resolved::does_put, crate::proofs::Resolved::does_set, crate::proofs::Resolved::does_nothing))]
 fn step_of(
     alloc: Global,
@@ -213,7 +211,7 @@ fn step_of(
     }
 }
 
-// The step of a read. Its name is one bit of 0 where the target's width is not in 1 to 64; in an accepted job that happens nowhere.
+// The step of a read. If the target's width is not in 1 to 64, which doesn't occur in an accepted job, its name is bound to one bit of 0.
 #[tactic(auto, using(crate::proofs::Resolved::does_read, crate::proofs::Resolved::does_nowhere))]
 fn read_of(
     alloc: Global,
@@ -240,7 +238,7 @@ fn read_of(
     })
 }
 
-// Whether a word may have this width.
+// Whether this is a valid width of a word.
 fn is_width(width: u64) -> bool
     ensures { result ≡ (nat_le 1 width && nat_le width 64) }
 {
@@ -289,7 +287,7 @@ fn option_code_for(
     }
 }
 
-// The code of an expression of a stage, and that of one bit of 0 where it has no value; in an accepted job that happens nowhere.
+// The code of an expression of a stage; that of one bit of 0 if the expression has no value, which doesn't occur in an accepted job.
 fn code_for(
     alloc: Global,
     tables: &Tables,

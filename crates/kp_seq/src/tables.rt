@@ -1,4 +1,4 @@
-//! What is looked up while instructions run. It is laid out once, at the opening.
+//! The tables that are looked up while instructions run. They are built once, when the machine is opened.
 ghost use Rattle.std.specs.Prelude.{◌≡◌, ◌<◌, length, IfOk, get_or};
 ghost use Rattle.std.specs.Option.{option_map};
 ghost use Rattle.kp_machine.specs.Slots.{targets_of, pipes_of, samples_of, number_of, width_of, result_to, result_named};
@@ -8,12 +8,12 @@ ghost use Rattle.kp_seq.specs.inner.Tables.{port_of, ports_of, pipe_number};
 
 use kp_ast::{Decl, Name, Named, Num};
 use kp_base::NoMemory;
-use kp_plan::Keys;
+use kp_seq_plan::Keys;
 use kp_stage::Design;
 use std::alloc::Global;
 use std::marker::Model;
 
-/// What holds values: a register, a file, a pipe or a sample. All but files have no addresses, so their width is 0.
+/// A slot: a register, a file, a pipe or a sample. Only files have addresses; for the others the address width is 0.
 #[derive(Drop)]
 pub(crate) struct Slot {
     pub name: Name,
@@ -85,7 +85,7 @@ pub(crate) fn samples(alloc: Global, decls: &[Decl]) -> Result<Vec<Slot>, NoMemo
     Ok(slots)
 }
 
-/// The number of the first of this name, or how many there are where none has it.
+/// The number of the first slot with this name, or the number of slots if none has it.
 pub(crate) fn number_of(slots: &[Slot], name: &Name) -> usize
     ensures { result ≡ number_of slots.now name.now }
 {
@@ -97,7 +97,7 @@ pub(crate) fn number_of(slots: &[Slot], name: &Name) -> usize
     slots.len()
 }
 
-/// The width of the values of the first of this name, or 0 where none has it.
+/// The width of the values of the first slot with this name, or 0 if none has it.
 pub(crate) fn width_of(slots: &[Slot], name: &Name) -> u64
     ensures { result ≡ width_of slots.now name.now }
 {
@@ -109,14 +109,14 @@ pub(crate) fn width_of(slots: &[Slot], name: &Name) -> u64
     0
 }
 
-/// How a target is written: the numbers of the pipes that enable it and that have its address.
+/// How a target is written: the numbers of its enable pipe and its address pipe.
 #[derive(Clone, Copy)]
 pub(crate) struct Port {
     pub enable: Option<usize>,
     pub address: Option<usize>,
 }
 
-/// The port of each target: that of its first result, where it has one.
+/// The port of each target: that of its first result, if it has one.
 pub(crate) fn ports(
     alloc: Global,
     decls: &[Decl],
@@ -150,7 +150,7 @@ fn port_to(decls: &[Decl], targets: &[Slot], pipes: &[Slot], t: usize) -> Option
     None
 }
 
-/// The number of the pipe of this name, where there is a name.
+/// The number of the pipe with an optional name.
 pub(crate) fn pipe_number(pipes: &[Slot], name: &Option<Named>) -> Option<usize>
     ensures { result ≡ pipe_number pipes.now name.now }
 {
@@ -160,7 +160,7 @@ pub(crate) fn pipe_number(pipes: &[Slot], name: &Option<Named>) -> Option<usize>
     }
 }
 
-/// What a machine looks up, with the declarations that it borrows.
+/// The tables of a machine, with the declarations, which are borrowed.
 #[derive(Drop)]
 pub(crate) struct Tables<'a> {
     pub decls: &'a [Decl],
@@ -193,7 +193,7 @@ impl<'a> Tables<'a> {
         self.targets[target].width
     }
 
-    /// The tables of a design.
+    /// The tables of a design. Error: out of memory.
     pub fn lay_out(alloc: Global, d: &'a Design) -> Result<Tables<'a>, NoMemory>
         ensures { IfOk result (λ t. AreTables d.now.job t) }
     {

@@ -11,7 +11,7 @@ use kp_stage::Start;
 use std::alloc::Global;
 use std::marker::Model;
 
-/// The words of each target, in the order of declaration: one of a register, and one for each address of a file.
+/// The words of each target, in the order of declaration: one for a register, and one for each address of a file.
 #[derive(Drop)]
 pub(crate) struct Words {
     targets: Vec<Vec<u64>>,
@@ -26,7 +26,7 @@ impl Model for Words {
 }
 
 impl Words {
-    /// The words of a start state.
+    /// The words of a start state. Error: out of memory.
     pub fn start(alloc: Global, decls: &[Decl], start: &Start) -> Result<Words, NoMemory>
         requires regs { AreRegs decls.now start.now.regs }
         requires files { AreFiles decls.now start.now.files }
@@ -53,7 +53,7 @@ impl Words {
         Ok(Words { targets })
     }
 
-    /// A copy of the words.
+    /// A copy of the words. Error: out of memory.
     pub fn copied(&self, alloc: Global) -> Result<Words, NoMemory>
         ensures { IfOk result (λ words. words ≡ self.now) }
     {
@@ -64,7 +64,7 @@ impl Words {
         Ok(Words { targets })
     }
 
-    /// The word of a target at an address, and 0 where there is none.
+    /// The word of a target at an address, and 0 if it doesn't exist.
     pub fn word(&self, target: usize, address: u64) -> u64
         ensures { result ≡ state_in self.now target address }
     {
@@ -78,7 +78,7 @@ impl Words {
         words[address as usize]
     }
 
-    /// Writes the word of a target at an address, if there is one.
+    /// Writes the word of a target at an address, if it exists.
     #[tactic(auto, using(crate::proofs::Stored::past_targets, crate::proofs::Stored::past_words))]
     pub fn set_word(&mut self, target: usize, address: u64, value: u64)
         ensures { self.new ≡ with_word self.old target address value }

@@ -1,4 +1,4 @@
--- Where no rule of stages is broken, each question to the head, a declaration or a statement has no answer.
+-- If no rule of stages is violated, each check of the head, a declaration or a statement passes.
 use Rattle.std.proofs.Common.{◌≡◌, ℕ, zero, suc, ◌+◌, List, [], ◌∷◌, map, Some, None, refl, arith, subst}
 use Rattle.std.specs.Prelude.{slice_get}
 use Rattle.kp_base.specs.First.{first}
@@ -26,7 +26,7 @@ get_map f [] n x e = cc
 get_map f (y ∷ ys) zero x e = let p : y ≡ x = cc in rw p refl
 get_map f (y ∷ ys) (suc n) x e = get_map f ys n x e
 
--- a job that breaks no rule of stages keeps the rules E15 to E25, E34 and E35
+-- a job that violates no rule of stages satisfies the rules E15 to E25, E34 and E35
 pub rules_kept : (job : Job) → broken_of job ≡ None → broken_by (facts_of job) job ≡ None
 unfolding broken_of
 rules_kept job e = (first_none (broken_by (facts_of job) job) (first (sizes_of job).asked ∷ first (counts_of job).asked ∷ []) e).0

@@ -1,4 +1,4 @@
--- Questions to the names in expressions that have no answer.
+-- Checks of the names in expressions that pass.
 use Rattle.std.proofs.Common.{◌≡◌, ◌∙◌, ℕ, zero, suc, ◌<◌, List, [], ◌∷◌, ◌++◌, map, length, get_or, Option, Some, None, Bool, true, false, refl, ap, sym, subst, arith}
 use Rattle.std.specs.Prelude.{◌||◌, Contains}
 use Rattle.std.specs.List.{list_any}
@@ -66,7 +66,7 @@ module _ (facts : Facts) (rule : Rule) (k : ℕ) where
       call = λ p name es hs u n. some_asked es hs (sym (fold-Call _ _ (uses_in_kind q) uses_in_level p name es) ∙ u) (sym (fold-Call _ _ (ask_kind facts rule k) ask_level p name es) ∙ n);
     })
 
-  -- environments that give the same value to each name without an answer, and to each call
+  -- environments that agree on each name that passes, and on each call
   module _ (a b : Env) (names : (q : List ℕ) (at : Place) → ask_name facts rule k q at ≡ None → a.names q ≡ b.names q) (calls : (q : List ℕ) (args : List Word) → a.calls q args ≡ b.calls q args) where
     abbrev Same : Expr → Type 0
     Same e = asked e ≡ None → eval a e ≡ eval b e

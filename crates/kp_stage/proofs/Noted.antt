@@ -67,7 +67,7 @@ module _ {V : Type 0} (n : List ℕ) (v : V) (q : List ℕ) where
       (λ y. nat_list_eq_equiv.congr q n e.0 y ∙ m))
 
 module _ {V : Type 0} (q n : List ℕ) (v : V) where
-  -- noted only where nothing was noted yet
+  -- stored only if nothing was stored yet
   pub look_up-with_first : (es : Entries V) → look_up (with_first es n v) q ≡ or_else (look_up es q) (cond (pointwise nat_eq q n) (Some v) None)
   look_up-with_first es = by_option (look_up es n)
       (λ none.
@@ -284,6 +284,6 @@ tables_fit job = λ i. record {
   top = largest (λ q. writes_seen q [] job.decls i) 0 job.blocks;
 }
 
--- so the tables find what is broken
+-- so the tables find the violated rule
 pub broken_same : (job : Job) → broken_by (facts_in (tables_of job)) job ≡ broken_by (facts_of job) job
 broken_same job = ap (λ facts. broken_by facts job) (tables_fit job)

@@ -1,4 +1,4 @@
--- The laws of E16 and E17, of E21 and of E25, from what is asked.
+-- The laws of E16 and E17, of E21 and of E25, from the checks.
 use Rattle.std.proofs.Common.{◌≡◌, ◌∙◌, ℕ, suc, ◌+◌, ◌<◌, List, [], ◌∷◌, Option, Some, None, Bool, true, false, not, cond, refl, ap, sym, arith}
 use Rattle.std.specs.Prelude.{◌||◌, ◌==◌, nat_le, is_some, slice_get, Contains}
 use Rattle.std.specs.List.{list_any}

@@ -11,7 +11,7 @@ use Rattle.kp_stage.specs.declared.counts.Counts.{Counts}
 use Rattle.kp_stage.specs.Sizes.{size_of_stmt, size_of_block, size_of_job, stmts_sized, blocks_sized, sizes_of}
 use Rattle.kp_stage.specs.Counts.{regs_in, files_in, pipes_in, results_in, hints_in, samples_in, reads_in, guesses_in, with_decl, with_stmt, nothing_counted, decls_counted, stmts_counted, blocks_counted, counts_of}
 
--- a sum that begins with a number
+-- a sum that starts with a number
 abbrev sum_from : {X : Type 0} → (X → ℕ) → ℕ → List X → ℕ
 sum_from f a xs = fold (λ sum x. sum + f x) a xs
 

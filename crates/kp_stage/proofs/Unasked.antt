@@ -1,4 +1,4 @@
--- A rule that isn't asked of the blocks has no answer there.
+-- A rule that isn't checked in blocks isn't violated there.
 use Rattle.std.proofs.Common.{◌≡◌, ◌∙◌, ℕ, ◌+◌, List, [], ◌∷◌, map, length, Option, Some, None, Bool, true, false, refl, ap, arith}
 use Rattle.std.specs.Prelude.{◌==◌, not, nat_le, is_some}
 use Rattle.std.proofs.lemmas.Bool.Decides.{Decides-eqb}
@@ -17,7 +17,7 @@ use Rattle.kp_stage.specs.Rules.{ask_name, ask_kind, ask_level, ask_expr, ask_op
 use Rattle.kp_stage.specs.inner.Tables.{Entries, Tables, look_up, facts_in}
 use Rattle.kp_stage.specs.inner.Asked.{asks_blocks}
 
--- a rule that no name breaks
+-- a rule that no name violates
 module _ (facts : Facts) (rule : Rule) (k : ℕ) (names : (q : List ℕ) (at : Place) → ask_name facts rule k q at ≡ None) where
   abbrev IsUnasked : Expr → Type 0
   IsUnasked e = ask_expr facts rule k e ≡ None
@@ -61,7 +61,7 @@ module _ (facts : Facts) (rule : Rule) (k : ℕ) (names : (q : List ℕ) (at : P
   in_both : (s : StmtKind) → first (ask_values facts rule k s ∷ ask_guesses facts rule k s ∷ []) ≡ None
   in_both s i = first (in_values s i ∷ in_guesses s i ∷ [])
 
--- a rule that no statement and no number of a block breaks
+-- a rule that no statement and no number of a block violates
 module _ (facts : Facts) (rule : Rule) (blocks : (k : ℕ) (b : Block) → ask_block facts rule k b ≡ None) (kinds : (k j : ℕ) (s : StmtKind) → ask_stmt facts rule k j s ≡ None) where
   in_stmts : (k j : ℕ) (ss : List Stmt) → first (ask_stmts facts rule k j ss) ≡ None
   in_stmts k j [] = refl

@@ -1,4 +1,4 @@
--- What holds of a job that breaks no rule.
+-- Properties of a job that violates no rule.
 use Rattle.std.proofs.Common.{◌≡◌, ◌≤◌, List, ◌∷◌, Some, None, Bool, true, false, refl}
 use Rattle.std.specs.Prelude.{◌&&◌, nat_le, length}
 use Rattle.std.proofs.lemmas.Bool.{leb-true}
@@ -9,12 +9,12 @@ use Rattle.kp_ast.specs.declared.tree.Job.{Job}
 use Rattle.kp_stage.specs.Facts.{Facts}
 use Rattle.kp_stage.specs.Rules.{broken_at, broken_by}
 
--- none of the answers is there
+-- all answers are None
 pub first_none : (a : Answer) (more : List Answer) → first (a ∷ more) ≡ None → (a ≡ None) × (first more ≡ None)
 first_none None more e = (refl, e)
 first_none (Some r) more e = cc
 
--- a question whose answer is not there holds
+-- a test without a violation holds
 pub answer_none : (holds : Bool) (r : Refusal) → answer holds r ≡ None → holds ≡ true
 answer_none true r e = refl
 answer_none false r e = cc

@@ -16,7 +16,7 @@ use Rattle.kp_stage.specs.declared.counts.Counts.{Counts}
 use Rattle.kp_stage.specs.declared.counts.Summary.{Summary}
 use Rattle.kp_stage.specs.Sizes.{size_of_job}
 
--- each is 1 or 0: whether it is one of these
+-- each is 1 or 0: whether the declaration is of this kind
 abbrev pub regs_in : Decl → ℕ
 regs_in (decls.Reg n width start) = 1
 regs_in _ = 0
@@ -68,7 +68,7 @@ is_within c =
 abbrev pub nothing_counted : Counts
 nothing_counted = record { regs = 0; files = 0; pipes = 0; results = 0; hints = 0; functions = 0; reads = 0; guesses = 0; samples = 0 }
 
--- the counts with one more declaration
+-- the counts after one more declaration
 abbrev pub with_decl : Counts → Decl → Counts
 with_decl c d = record {
   regs = c.regs + regs_in d;
@@ -82,7 +82,7 @@ with_decl c d = record {
   samples = c.samples + samples_in d;
 }
 
--- the counts with one more statement
+-- the counts after one more statement
 abbrev pub with_stmt : Counts → Stmt → Counts
 with_stmt c s = record {
   regs = c.regs;
@@ -96,12 +96,12 @@ with_stmt c s = record {
   samples = c.samples;
 }
 
--- where the name stands that a read gives
+-- the position of the name that a read binds
 abbrev pub place_of_read : Stmt → StmtKind → Place
 place_of_read s (stmts.Read r) = r.name.at
 place_of_read s _ = s.at
 
--- E29 names the first declared name, or the first name that a read gives, at which a count passes its limit
+-- E29 is reported at the first declared name, or the first name that a read binds, at which a count exceeds its limit
 abbrev pub decls_counted : Counts → List Decl → Check Counts
 decls_counted c [] = ok c
 decls_counted c (d ∷ ds) = wants (is_within (with_decl c d)) (e_rule 29 (name_of d).at) (decls_counted (with_decl c d) ds)

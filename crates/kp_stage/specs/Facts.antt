@@ -1,4 +1,4 @@
--- What the rules of stages look up in a job: where a pipe is put, where a result is set, at which stage a target is written.
+-- The facts of a job that the rules of stages look up: where a pipe is put, where a result is set, at which stage a target is written.
 use Rattle.std.specs.Prelude.{ℕ, ◌+◌, List, [], ◌∷◌, Option, Some, None, if◌then◌else◌, is_some, map, min, max, slice_get}
 use Rattle.kp_base.specs.First.{first}
 use Rattle.kp_ast.specs.Expressions.{is_same_name}
@@ -32,12 +32,12 @@ pub record Facts : Type 0 where
   pub sample : List ℕ → Option ℕ
   -- the write stage of a result
   pub stage : List ℕ → Option ℕ
-  -- the write stage of a target; where it has several results, the least
+  -- the write stage of a target; if it has several results, the lowest
   pub written : List ℕ → Option ℕ
-  -- the largest write stage of a guessed register, or 0 where nothing is guessed
+  -- the largest write stage of a guessed register, or 0 if nothing is guessed
   pub top : ℕ
 
--- this, where the names are one
+-- this value, if the names are equal
 abbrev pub where_same : {X : Type 0} → List ℕ → List ℕ → X → Option X
 where_same a b x = if is_same_name a b then Some x else None
 
@@ -111,7 +111,7 @@ abbrev pub write_at : List ℕ → Decl → Option ℕ
 write_at name (decls.Target r) = where_same name r.target.name r.stage.value
 write_at name _ = None
 
--- the less of two numbers that may be there
+-- the minimum of two optional numbers
 abbrev pub less : Option ℕ → Option ℕ → Option ℕ
 less None b = b
 less (Some a) None = Some a

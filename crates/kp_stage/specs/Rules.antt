@@ -1,8 +1,9 @@
--- The rules E15 to E25, E34 and E35 of stages. Each is a question that is put to the head of the job, to each declaration, to the
--- number of each block, and to each statement; its first true answer in the text is the place where it is broken.
+-- The rules E15 to E25, E34 and E35 of stages. Each rule is checked at the head of the job, at each declaration, at
+-- the number of each block, and at each statement; the first violation in the text is the reported position.
 --
--- Names and widths are right before: a name that is put is a pipe, one that is set is a result, one that is aimed is a hint, and a
--- target that is read or written with an address is a file. And each rule may take it that those of lower numbers hold.
+-- Names and widths have been checked before: a name that is put is a pipe, one that is set is a result, one that is
+-- aimed is a hint, and a target that is read or written with an address is a file. And each rule may assume that
+-- those of lower numbers hold.
 use Rattle.std.specs.Prelude.{ℕ, ◌+◌, List, [], ◌∷◌, Option, Some, None, Bool, false, ◌&&◌, ◌||◌, not, ◌==◌, nat_lt, nat_le, is_some, map, length}
 use Rattle.kp_base.specs.First.{first}
 use Rattle.kp_base.specs.Check.{Answer, answer}
@@ -24,7 +25,7 @@ use Rattle.kp_ast.specs.declared.tree.Job.{Job}
 use Rattle.kp_stage.specs.declared.rules.Rule.{Rule}
 use Rattle.kp_stage.specs.Facts.{At, Facts}
 
--- the number of a rule, as it stands in a refusal
+-- the number of a rule, as it is printed in an error message
 abbrev pub number_of : Rule → ℕ
 number_of Rule.E15 = 15
 number_of Rule.E16 = 16
@@ -40,11 +41,11 @@ number_of Rule.E25 = 25
 number_of Rule.E34 = 34
 number_of Rule.E35 = 35
 
--- a rule is broken at a place where this doesn't hold
+-- a rule is violated at a position unless this holds
 abbrev pub broken_unless : Bool → Rule → Place → Answer
 broken_unless holds rule at = answer holds (e_rule (number_of rule) at)
 
--- is it, where it is there
+-- the test of an optional value, false if there is none
 abbrev pub holds_of : {X : Type 0} → (X → Bool) → Option X → Bool
 holds_of test None = false
 holds_of test (Some x) = test x
@@ -52,14 +53,14 @@ holds_of test (Some x) = test x
 abbrev pub is_at : ℕ → ℕ → At → Bool
 is_at k j at = (at.stage == k) && (at.index == j)
 
--- The questions to the head.
+-- The checks of the head.
 
--- E15: there are 2 to 12 stages, and no fewer blocks
+-- E15: there are 2 to 12 stages, and at least as many blocks
 abbrev pub ask_head : Rule → Job → Answer
 ask_head Rule.E15 job = broken_unless (nat_le 2 job.stages.value && nat_le job.stages.value 12 && nat_le job.stages.value (length job.blocks)) Rule.E15 job.stages.at
 ask_head _ job = None
 
--- The questions to the declaration of number i.
+-- The checks of the declaration of number i.
 
 -- E19: the address and the enable pipe of a result are put in stages before the write stage w
 abbrev pub put_before : Facts → List ℕ → ℕ → Bool
@@ -72,7 +73,7 @@ ask_pipe facts w (Some n) = broken_unless (put_before facts n.name w) Rule.E19 n
 -- E15: a write stage is one of the stages, and so is the stage of a sample
 -- E16: a pipe is put
 -- E22: a target has one result
--- E24 and E35: a write stage, and the stage of a sample, is no less than W-1, where W is the largest write stage of a guessed register
+-- E24 and E35: a write stage, and the stage of a sample, is at least W-1, where W is the largest write stage of a guessed register
 abbrev pub ask_decl : Facts → Rule → ℕ → Decl → Answer
 ask_decl facts Rule.E15 i (decls.Target r) = broken_unless (nat_lt r.stage.value facts.stages) Rule.E15 r.stage.at
 ask_decl facts Rule.E15 i (decls.Sample n width stage) = broken_unless (nat_lt stage.value facts.stages) Rule.E15 stage.at
@@ -83,17 +84,17 @@ ask_decl facts Rule.E24 i (decls.Target r) = broken_unless (nat_le facts.top (r.
 ask_decl facts Rule.E35 i (decls.Sample n width stage) = broken_unless (nat_le facts.top (stage.value + 1)) Rule.E35 stage.at
 ask_decl facts _ i d = None
 
--- The question to the block of number k.
+-- The check of the block of number k.
 
--- E15: its number is its place, and one of the stages
+-- E15: its number is its index, and one of the stages
 abbrev pub ask_block : Facts → Rule → ℕ → Block → Answer
 ask_block facts Rule.E15 k b = broken_unless (b.number.value == k && nat_lt k facts.stages) Rule.E15 b.number.at
 ask_block facts _ k b = None
 
--- The questions to a name that is used as a value in stage k.
+-- The checks of a name that is used as a value in stage k.
 
 -- E17: a pipe is used in stages after that of its put
--- E25: a hint is no value, outside a guess and an aim
+-- E25: a hint is not a value, outside a guess and an aim
 -- E34: a sample is used in its own stage
 abbrev pub ask_name : Facts → Rule → ℕ → List ℕ → Place → Answer
 ask_name facts Rule.E17 k name at = broken_unless (not (holds_of (λ p. nat_le k p.stage) (facts.put name))) Rule.E17 at
@@ -101,7 +102,7 @@ ask_name facts Rule.E25 k name at = broken_unless (not (is_some (facts.hint name
 ask_name facts Rule.E34 k name at = broken_unless (not (holds_of (λ w. not (w == k)) (facts.sample name))) Rule.E34 at
 ask_name facts _ k name at = None
 
--- the answer at the first name in an expression that has one
+-- the violation at the first name in an expression that has one
 abbrev pub ask_kind : Facts → Rule → ℕ → ExprKind-F (Place → Answer) Answer → Place → Answer
 ask_kind facts rule k (level.Lit l) at = None
 ask_kind facts rule k (level.Name name) at = ask_name facts rule k name at
@@ -138,14 +139,14 @@ ask_guesses facts rule k (stmts.Read r) = ask_option facts rule k r.guess
 ask_guesses facts rule k (stmts.Aim n e) = ask_expr facts rule k e
 ask_guesses facts rule k _ = None
 
--- The questions to the statement of number j in stage k.
+-- The checks of the statement of number j in stage k.
 
--- E23: a guess is of a register with a result, and stands two stages or more before the write stage
+-- E23: a guess is of a register with a result, and is made two stages or more before the write stage
 abbrev pub may_guess : Facts → ℕ → ReadStmt → Bool
 may_guess facts k r = not (is_some r.guess) || (not (is_some r.address) && holds_of (λ w. nat_le (k + 2) w) (facts.written r.target.name))
 
 -- E16: a put is the first of its pipe
--- E17, E25 and E34: of the names in it, from left to right
+-- E17, E25 and E34: for the names in it, from left to right
 -- E18: a target is read in no stage after its write stage
 -- E20: a result is set in no stage after its write stage
 -- E21: a set is the first of its result in the stage, and an aim the first of its hint
@@ -161,7 +162,7 @@ ask_stmt facts Rule.E25 k j s = ask_values facts Rule.E25 k s
 ask_stmt facts Rule.E34 k j s = first (ask_values facts Rule.E34 k s ∷ ask_guesses facts Rule.E34 k s ∷ [])
 ask_stmt facts _ k j s = None
 
--- The answers in text order.
+-- The violations in text order.
 
 abbrev pub ask_decls : Facts → Rule → ℕ → List Decl → List Answer
 ask_decls facts rule i [] = []
@@ -171,7 +172,7 @@ abbrev pub ask_stmts : Facts → Rule → ℕ → ℕ → List Stmt → List Ans
 ask_stmts facts rule k j [] = []
 ask_stmts facts rule k j (s ∷ ss) = ask_stmt facts rule k j s.kind ∷ ask_stmts facts rule k (j + 1) ss
 
--- the first answer in a block: to its number, or to its statements
+-- the first violation in a block: at its number, or in its statements
 unfoldable pub ask_in_block : Facts → Rule → ℕ → Block → Answer
 ask_in_block facts rule k b = first (ask_block facts rule k b ∷ ask_stmts facts rule k 0 b.stmts)
 
@@ -179,13 +180,13 @@ abbrev pub ask_blocks : Facts → Rule → ℕ → List Block → List Answer
 ask_blocks facts rule k [] = []
 ask_blocks facts rule k (b ∷ bs) = ask_in_block facts rule k b ∷ ask_blocks facts rule (k + 1) bs
 
--- the first place in a job that breaks a rule
+-- the first position in a job that violates a rule
 unfoldable pub broken_at : Facts → Job → Rule → Answer
 broken_at facts job rule = first (ask_head rule job ∷ first (ask_decls facts rule 0 job.decls) ∷ first (ask_blocks facts rule 0 job.blocks) ∷ [])
 
 abbrev pub all_rules : List Rule
 all_rules = Rule.E15 ∷ Rule.E16 ∷ Rule.E17 ∷ Rule.E18 ∷ Rule.E19 ∷ Rule.E20 ∷ Rule.E21 ∷ Rule.E22 ∷ Rule.E23 ∷ Rule.E24 ∷ Rule.E25 ∷ Rule.E34 ∷ Rule.E35 ∷ []
 
--- the first of these rules that a job breaks, at the first place where it does
+-- the first of these rules that a job violates, at the first position where it does
 unfoldable pub broken_by : Facts → Job → Answer
 broken_by facts job = first (map (broken_at facts job) all_rules)

@@ -1,4 +1,4 @@
--- E28: the expanded size of a machine, the sum over all expressions that stand in stages, is at most 100,000.
+-- E28: the expanded size of a machine, the sum over all expressions in stages, is at most 100,000.
 use Rattle.std.specs.Prelude.{ℕ, ◌+◌, List, [], ◌∷◌, Option, Some, None, nat_le, sum_by}
 use Rattle.kp_base.specs.Check.{Check, ok, wants, ◌>>=◌}
 use Rattle.kp_base.specs.Refusal.{e_rule}
@@ -33,7 +33,7 @@ size_of_block ds b = sum_by (size_of_stmt ds) b.stmts
 abbrev pub size_of_job : Job → ℕ
 size_of_job job = sum_by (size_of_block job.decls) job.blocks
 
--- E28 names the first statement at which the sum, from `total` on, passes 100,000
+-- E28 is reported at the first statement at which the sum, starting from `total`, exceeds 100,000
 abbrev pub stmts_sized : List Decl → ℕ → List Stmt → Check ℕ
 stmts_sized ds total [] = ok total
 stmts_sized ds total (s ∷ ss) = wants (nat_le (total + size_of_stmt ds s) 100000) (e_rule 28 s.at) (stmts_sized ds (total + size_of_stmt ds s) ss)

@@ -1,4 +1,4 @@
--- The first broken rule of stages.
+-- The first violated rule of stages.
 use Rattle.std.specs.Prelude.{[], ◌∷◌}
 use Rattle.kp_base.specs.First.{first}
 use Rattle.kp_base.specs.Check.{Answer}
@@ -8,6 +8,6 @@ use Rattle.kp_stage.specs.Rules.{broken_by}
 use Rattle.kp_stage.specs.Sizes.{sizes_of}
 use Rattle.kp_stage.specs.Counts.{counts_of}
 
--- E15 to E25, then E34 and E35, then E28, then E29: the first rule by number, at the first place in the text
+-- E15 to E25, then E34 and E35, then E28, then E29: the first violated rule in this order, at the first position in the text
 unfoldable pub broken_of : Job → Answer
 broken_of job = first (broken_by (facts_of job) job ∷ first (sizes_of job).asked ∷ first (counts_of job).asked ∷ [])

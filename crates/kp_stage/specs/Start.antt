@@ -1,9 +1,10 @@
--- The start state of a job, and what comes from outside in a cycle: the stall word and the values of the samples.
+-- The start state of a job, and the external inputs of a cycle: the stall word and the values of the samples.
 --
--- A register starts with the value of its declaration, and the words of a file with 0. The entries of the image section are laid
--- over that in text order: an entry gives its literals to the words from its address on. A register is a word of address 0.
--- An entry of the stalls section stalls its stage in the cycles from A to B, by steps of P. An entry of the inputs section gives a
--- sample its value in such cycles, and a later entry counts. In all other cycles a sample is 0.
+-- A register starts with the value of its declaration, and the words of a file with 0. The entries of the image
+-- section overwrite these in text order: an entry writes its literals to the words from its address on. A register is
+-- a word of address 0. An entry of the stalls section stalls its stage in the cycles from A to B, in steps of P. An
+-- entry of the inputs section sets a sample's value in such cycles, and later entries override earlier ones. In all
+-- other cycles a sample is 0.
 use Rattle.std.specs.Prelude.{◌≡◌, ℕ, zero, suc, ◌+◌, ◌-◌, ◌^◌, ◌%◌, ◌<◌, length, List, [], ◌∷◌, Option, Some, None, Bool, ◌&&◌, ◌==◌, nat_le, if◌then◌else◌, option_map, unwrap_or, slice_get}
 use Rattle.std.specs.List.{list_any, All}
 use Rattle.kp_bits.specs.Word.{Word, word, IsWord}
@@ -21,18 +22,18 @@ abbrev pub number_or : Option Num → ℕ → ℕ
 number_or None n = n
 number_or (Some m) n = m.value
 
--- the address from which on an entry gives values
+-- the first address that an entry writes
 abbrev pub first_address : Image → ℕ
 first_address e = number_or e.address 0
 
--- the value that an entry gives to the word of a target at an address, where it gives one
+-- the value that an entry writes to the word of a target at an address, if it writes one
 abbrev pub given_by : Image → List ℕ → ℕ → Option ℕ
 given_by e name a =
     if is_same_name e.name.name name && nat_le (first_address e) a
     then option_map (λ l. l.literal.value) (slice_get e.values (a - first_address e))
     else None
 
--- the value of a word, from the one before these entries: the last entry that gives one counts
+-- the value of a word, from its value before these entries: the last entry that writes it counts
 abbrev pub laid_over : List Image → List ℕ → ℕ → ℕ → ℕ
 laid_over [] name a v = v
 laid_over (e ∷ es) name a v = laid_over es name a (unwrap_or (given_by e name a) v)
@@ -42,7 +43,7 @@ start_regs es [] = []
 start_regs es (decls.Reg n width start ∷ ds) = word width.value (laid_over es n.name 0 start.literal.value) ∷ start_regs es ds
 start_regs es (_ ∷ ds) = start_regs es ds
 
--- so many words of a file from an address on
+-- the n words of a file from an address on
 abbrev pub words_from : List Image → List ℕ → ℕ → ℕ → List ℕ
 words_from es name a zero = []
 words_from es name a (suc n) = laid_over es name a 0 ∷ words_from es name (a + 1) n
@@ -52,7 +53,7 @@ start_files es [] = []
 start_files es (decls.File n width address ∷ ds) = words_from es n.name 0 (2 ^ address.value) ∷ start_files es ds
 start_files es (_ ∷ ds) = start_files es ds
 
--- the entries of the image section, and none where there is no such section
+-- the entries of the image section, or none if there is no such section
 abbrev pub image_of : Job → List Image
 image_of job = unwrap_or job.image []
 
@@ -60,14 +61,14 @@ image_of job = unwrap_or job.image []
 unfoldable pub start_of : Job → Start
 start_of job = record { regs = start_regs (image_of job) job.decls; files = start_files (image_of job) job.decls }
 
--- the values of the registers: for each register one, of its width
+-- the values of the registers: one for each register, with its width
 abbrev pub AreRegs : List Decl → List Word → Type 0
 AreRegs [] values = values ≡ []
 AreRegs (decls.Reg n width start ∷ ds) [] = ⊥
 AreRegs (decls.Reg n width start ∷ ds) (v ∷ values) = (v.width ≡ width.value) × IsWord v × AreRegs ds values
 AreRegs (_ ∷ ds) values = AreRegs ds values
 
--- the words of the files: for each file one list, which has a word for each of its addresses, each of its width
+-- the words of the files: one list for each file, with a word of its width for each of its addresses
 abbrev pub AreFiles : List Decl → List (List ℕ) → Type 0
 AreFiles [] files = files ≡ []
 AreFiles (decls.File n width address ∷ ds) [] = ⊥
@@ -80,7 +81,7 @@ pub record IsStartOf (job : Job) (start : Start) : Type 0 where
   pub regs : AreRegs job.decls start.regs
   pub files : AreFiles job.decls start.files
 
--- a cycle is one of those from one to another, by steps
+-- a cycle is one of those from first to last, in steps of this size
 abbrev pub is_among : (first last step cycle : ℕ) → Bool
 is_among first last step cycle = nat_le first cycle && nat_le cycle last && (cycle - first) % step == 0
 
@@ -104,11 +105,11 @@ stalls_of job = unwrap_or job.stalls []
 unfoldable pub stall_word : Job → ℕ → ℕ
 stall_word job cycle = bits_below job.stages.value (λ k. is_stalled (stalls_of job) k cycle)
 
--- an entry gives its value in this cycle
+-- an entry sets its value in this cycle
 abbrev pub gives_at : Inputs → ℕ → Bool
 gives_at e cycle = is_among e.from.value e.to.value (number_or e.step 1) cycle
 
--- the value of a sample in a cycle, from the one before these entries: the last entry that gives one counts
+-- the value of a sample in a cycle, from its value before these entries: the last entry that sets it counts
 abbrev pub input_over : List Inputs → List ℕ → ℕ → ℕ → ℕ
 input_over [] name cycle v = v
 input_over (e ∷ es) name cycle v =
@@ -123,11 +124,11 @@ input_row es (_ ∷ ds) cycle = input_row es ds cycle
 abbrev pub inputs_of : Job → List Inputs
 inputs_of job = unwrap_or job.inputs []
 
--- the row of the samples' values in a cycle
+-- the input vector of a cycle: the samples' values
 unfoldable pub input : Job → ℕ → List Word
 input job cycle = input_row (inputs_of job) job.decls cycle
 
--- a row of samples: for each one a word of its width
+-- an input vector: a word for each sample, with its width
 abbrev pub AreSamples : List Decl → List Word → Type 0
 AreSamples [] row = row ≡ []
 AreSamples (decls.Sample n width stage ∷ ds) [] = ⊥

@@ -1,4 +1,4 @@
--- What stands where in a job: its statements, the expressions in them, and the names that these use.
+-- The parts of a job: its statements, the expressions in them, and the names that these use.
 use Rattle.std.specs.Prelude.{◌≡◌, ℕ, ◌<◌, List, [], ◌∷◌, ◌++◌, Option, Some, None, Bool, false, ◌||◌, slice_get, IsTrue}
 use Rattle.std.specs.List.{list_any}
 use Rattle.kp_ast.specs.Expressions.{is_same_name}
@@ -18,12 +18,12 @@ use Rattle.kp_stage.specs.Facts.{stmts_in}
 abbrev pub statement_at : Job → ℕ → ℕ → Option Stmt
 statement_at job k j = slice_get (stmts_in (slice_get job.blocks k)) j
 
--- an expression that may be left out
+-- an optional expression
 abbrev pub listed : Option Expr → List Expr
 listed None = []
 listed (Some e) = e ∷ []
 
--- the expressions of a statement that are no guess and no aim
+-- the expressions of a statement that are neither a guess nor an aim
 abbrev pub plain_in : StmtKind → List Expr
 plain_in (stmts.Read r) = listed r.address ++ listed r.when
 plain_in (stmts.Let n e) = e ∷ []
@@ -40,7 +40,7 @@ guessed_in _ = []
 abbrev pub exprs_in : StmtKind → List Expr
 exprs_in s = plain_in s ++ guessed_in s
 
--- whether a name stands for a value in an expression; one that a call gives its function doesn't
+-- whether a name is used as a value in an expression; the name of the function in a call isn't
 abbrev pub uses_in_kind : List ℕ → ExprKind-F Bool Bool → Bool
 uses_in_kind q (level.Lit l) = false
 uses_in_kind q (level.Name name) = is_same_name q name

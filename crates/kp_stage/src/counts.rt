@@ -1,4 +1,4 @@
-// How many of each kind a machine has.
+// How many declarations and reads of each kind a machine has.
 ghost use Rattle.std.specs.Prelude.{◌≡◌, true, IfOk};
 ghost use Rattle.kp_base.specs.First.{Answers, first};
 ghost use Rattle.kp_base.specs.Check.{Gives};
@@ -8,8 +8,8 @@ ghost use Rattle.kp_stage.specs.Counts.{is_within, nothing_counted, with_decl, w
 use kp_ast::{Block, Decl, Job, Stmt, StmtKind};
 use kp_base::{Place, Refusal, Refused};
 
-/// The numbers of a machine: how many stages and declared things of each kind it has, how many reads, how many of these
-/// guess, its expanded size, and how many samples.
+/// The numbers of a machine: the number of stages, of declarations of each kind, of reads, and of guessed reads, its
+/// expanded size, and the number of samples.
 #[derive(Clone, Copy, Debug, PartialEq, Eq)]
 pub struct Summary {
     pub stages: u32,
@@ -100,7 +100,7 @@ impl Counts {
     }
 }
 
-// The counts of a job, or E29.
+// The counts of a job, or a violation of E29.
 pub(crate) fn count(job: &Job) -> Result<Counts, Refused>
     ensures { Answers result (first (counts_of job.now).asked) (λ counts. counts ≡ (counts_of job.now).value) }
 {

@@ -1,3 +1,4 @@
+// Designs: checked jobs.
 ghost use Rattle.std.specs.Prelude.{◌≡◌, ◌≤◌, None, IfOk};
 ghost use Rattle.kp_base.specs.First.{Answers, first};
 ghost use Rattle.kp_width.specs.Widths.{widths_of};
@@ -17,12 +18,24 @@ use kp_base::{NoMemory, Refusal, Refused};
 use std::alloc::Global;
 use std::marker::Model;
 
-/// A job that breaks no rule of names, widths and stages, with the widths of its names.
-#[derive(Debug, Drop)]
+/// A job that violates no rule of names, widths and stages, with the widths of its names.
+#[derive(Debug)]
 pub struct Design {
     job: Job,
     widths: Widths,
     summary: Summary,
+}
+
+impl Drop for Design {
+    fn drop(self) {
+        let Design {
+            job,
+            widths,
+            summary: _,
+        } = self;
+        drop(job);
+        drop(widths);
+    }
 }
 
 impl Model for Design {
@@ -40,8 +53,9 @@ impl Model for Design {
 }
 
 impl Design {
-    /// The design of a job whose names and widths are right, or the first of the rules E15 to E25, E34, E35, E28 and E29
-    /// that it breaks, in this order, at the first place in the text. After a refusal the job and the widths are gone.
+    /// The design of a job whose names and widths are valid. Errors: the first of the rules E15 to E25, E34, E35, E28
+    /// and E29 that it violates, in this order, at the first position in the text; or out of memory. On an error the
+    /// job and the widths have been dropped.
     pub fn new(alloc: Global, job: Job, widths: Widths) -> Result<Design, Refused>
         requires names { first (widths_of job).asked ≡ None }
         requires widths { widths.entries ≡ (widths_of job).value }
@@ -78,7 +92,7 @@ impl Design {
     }
 }
 
-// The numbers of a job, or the first rule of stages that it breaks.
+// The numbers of a job, or the first rule of stages that it violates.
 #[tactic(auto, unfolding(crate::specs::Stages::broken_of))]
 fn examine(alloc: Global, job: &Job) -> Result<Summary, Refused>
     ensures { Answers result (broken_of job.now) (λ s. s ≡ summary_of job.now) }
@@ -91,7 +105,7 @@ fn examine(alloc: Global, job: &Job) -> Result<Summary, Refused>
     Ok(summarize(job, size, counts))
 }
 
-// The first of the rules E15 to E25, E34 and E35 that is broken.
+// The first of the rules E15 to E25, E34 and E35 that is violated.
 #[tactic(auto, using(crate::proofs::Noted::broken_same))]
 fn broken_rule(alloc: Global, job: &Job) -> Result<Option<Refusal>, NoMemory>
     ensures { IfOk result (λ broken. broken ≡ broken_by (facts_of job.now) job.now) }
@@ -123,7 +137,7 @@ fn summarize(job: &Job, size: u32, counts: Counts) -> Summary
     }
 }
 
-// The number of stages, which E15 keeps small.
+// The number of stages, which E15 bounds.
 #[tactic(auto, using(crate::proofs::Unbroken::few_stages))]
 fn stage_count(job: &Job) -> u32
     requires { broken_by (facts_of job.now) job.now ≡ None }

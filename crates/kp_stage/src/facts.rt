@@ -1,4 +1,4 @@
-// What the rules look up, in tables that find a name in about constant time.
+// The facts that the rules look up, in tables with lookup in about constant time.
 ghost use Rattle.std.specs.Prelude.{◌≡◌, ◌==◌, [], length, OnOk, IfOk, map};
 ghost use Rattle.kp_stage.specs.Facts.{largest, largest_in, guessed};
 ghost use Rattle.kp_stage.specs.inner.Tables.{look_up, with_entry, with_first, with_less, puts_noted, all_puts_noted, aims_noted, all_aims_noted, sets_noted, sets_of, hints_noted, results_noted, samples_noted, stages_noted, writes_noted, tables_of};
@@ -26,7 +26,7 @@ impl Model for Spot {
     ghost inverse = { λ a. record { stage = a.stage; index = a.index } };
 }
 
-// Names with a value each.
+// A map from names to values.
 #[derive(Drop)]
 pub(crate) struct Table<V> {
     values: IndexMap<Name, V>,
@@ -56,7 +56,7 @@ impl<V: Copy> Table<V> {
         self.values.is_empty()
     }
 
-    /// The value of a name, where it has one.
+    /// The value of a name, if it has one.
     pub fn get(&self, name: &Name) -> Option<V>
         ensures { result ≡ look_up self.now name.now }
     {
@@ -70,7 +70,7 @@ impl<V: Copy> Table<V> {
         Ok(())
     }
 
-    // Notes a value where none is noted yet.
+    // Stores a value unless one is stored already.
     fn set_first(&mut self, name: &Name, value: V) -> Result<(), NoMemory>
         ensures { OnOk result (self.new ≡ with_first self.old name.now value) }
     {
@@ -82,7 +82,7 @@ impl<V: Copy> Table<V> {
 }
 
 impl Table<u64> {
-    // Notes the less of what is noted and this.
+    // Stores the minimum of the stored value, if any, and this one.
     fn set_less(&mut self, name: &Name, value: u64) -> Result<(), NoMemory>
         ensures { OnOk result (self.new ≡ with_less self.old name.now value) }
     {
@@ -93,7 +93,7 @@ impl Table<u64> {
     }
 }
 
-// What the declarations tell.
+// The facts from the declarations.
 #[derive(Drop)]
 pub(crate) struct OfDecls {
     /// The number of the declaration of a hint.
@@ -104,7 +104,7 @@ pub(crate) struct OfDecls {
     pub samples: Table<u64>,
     /// The write stage of a result.
     pub write_stages: Table<u64>,
-    /// The least write stage of a target.
+    /// The lowest write stage of a target.
     pub writes: Table<u64>,
 }
 
@@ -152,12 +152,12 @@ impl OfDecls {
     }
 }
 
-// What the statements tell.
+// The facts from the statements.
 #[derive(Drop)]
 pub(crate) struct OfStmts {
-    /// Where a pipe is put first.
+    /// The first put of a pipe.
     pub puts: Table<Spot>,
-    /// Where a hint is aimed first.
+    /// The first aim of a hint.
     pub aims: Table<Spot>,
     /// For each stage the first statement that sets a result.
     pub sets: Vec<Table<usize>>,

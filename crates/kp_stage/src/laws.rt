@@ -1,4 +1,4 @@
-//! What a job obeys that breaks no rule of stages. Each function has an empty body: its clauses are laws.
+//! Properties of a job that violates no rule of stages. Each function has an empty body: its clauses are laws.
 ghost use Rattle.std.specs.Prelude.{◌≡◌, ◌≤◌, ℕ, List, Some, None, Contains, IsTrue, IsFalse};
 ghost use Rattle.kp_bits.specs.Word.{Word};
 ghost use Rattle.kp_ast.specs.Expressions.{Env, eval};
@@ -26,7 +26,7 @@ pub fn a_result_is_set_once_in_a_stage()
         → (k ≡ l) × (i ≡ j) }
 {}
 
-/// Hints stand in guesses and aims alone, so no other expression has another value where the hints have (E25).
+/// Hints occur only in guesses and aims, so the value of any other expression doesn't depend on the hints (E25).
 pub fn hints_count_in_guesses_and_aims_alone()
     ensures names { (job : Job) → broken_of job ≡ None → (k j : ℕ) (s : Stmt) → statement_at job k j ≡ Some s
         → (e : Expr) → Contains (plain_in s.kind) e → (q : List ℕ) → IsTrue (uses q e) → IsFalse (is_hint job q) }
@@ -36,8 +36,8 @@ pub fn hints_count_in_guesses_and_aims_alone()
         → ((q : List ℕ) (args : List Word) → a.calls q args ≡ b.calls q args) → eval a e ≡ eval b e }
 {}
 
-/// The expanded size of a machine, where each call counts the body of its function too, is at most 100,000, and so is that of
-/// each expression in it (E28).
+/// The expanded size of a machine, in which each call also counts the body of its function, is at most 100,000, and
+/// so is that of each expression in it (E28).
 pub fn sizes_bound_the_work()
     ensures machine { (job : Job) → broken_of job ≡ None → size_of_job job ≤ 100000 }
     ensures expression { (job : Job) → broken_of job ≡ None → (k j : ℕ) (s : Stmt) → statement_at job k j ≡ Some s

@@ -1,4 +1,4 @@
-//! The rules of stages, and a job that breaks none of them.
+//! The rules of stages, and designs: jobs that violate none of the rules.
 #![tactic(auto)]
 
 mod counts;

@@ -9,7 +9,7 @@ use crate::facts::{Facts, Spot};
 use kp_ast::{Block, Decl, Expr, ExprKind, Job, Name, Named, ReadStmt, Stmt, StmtKind};
 use kp_base::{Place, Refusal};
 
-/// A rule of stages, by its number. The variants stand in the order in which the rules are asked.
+/// A rule of stages, by its number. The variants are in the order in which the rules are checked.
 #[derive(Clone, Copy, Debug)]
 pub enum Rule {
     E15,
@@ -28,7 +28,7 @@ pub enum Rule {
 }
 
 impl Rule {
-    /// The number, as it stands in a refusal.
+    /// The number, as it is printed in an error message.
     pub fn number(self) -> u8
         ensures { result ≡ number_of self }
     {
@@ -50,7 +50,7 @@ impl Rule {
     }
 }
 
-// The first of the rules that is broken, at the first place where it is.
+// The first of the rules that is violated, at the first position where it is.
 #[tactic(auto, unfolding(crate::specs::Rules::broken_by))]
 pub(crate) fn first_broken(facts: &Facts, job: &Job) -> Option<Refusal>
     ensures { result ≡ broken_by (facts_in facts.now) job.now }
@@ -135,7 +135,7 @@ fn in_blocks(facts: &Facts, rule: Rule, blocks: &[Block]) -> Option<Refusal>
     }
 }
 
-// Whether a block can break the rule: some rules speak of declarations alone, and some of names of a kind that the job may not have.
+// Whether a block can violate the rule: some rules concern only declarations, and some only names of a kind that the job may not have.
 fn asks_blocks(facts: &Facts, rule: Rule) -> bool
     ensures { result ≡ asks_blocks facts.now rule }
 {
@@ -236,7 +236,7 @@ fn of_decl(facts: &Facts, rule: Rule, i: usize, decl: &Decl) -> Option<Refusal>
     }
 }
 
-// The stage is no less than W-1.
+// Whether the stage is at least W-1.
 fn is_late(facts: &Facts, stage: u64) -> bool
     ensures { result ≡ nat_le (facts_in facts.now).top (stage + 1) }
 {
@@ -312,7 +312,7 @@ fn of_stmt(facts: &Facts, rule: Rule, k: usize, j: usize, stmt: &StmtKind) -> Op
     }
 }
 
-// The first name outside a guess and an aim at which the rule is broken.
+// The first name outside a guess and an aim at which the rule is violated.
 fn in_values(facts: &Facts, rule: Rule, k: usize, stmt: &StmtKind) -> Option<Refusal>
     ensures { result ≡ ask_values (facts_in facts.now) rule k stmt.now }
 {
@@ -330,7 +330,7 @@ fn in_values(facts: &Facts, rule: Rule, k: usize, stmt: &StmtKind) -> Option<Ref
     }
 }
 
-// The first name in a guess or an aim at which the rule is broken.
+// The first name in a guess or an aim at which the rule is violated.
 fn in_guesses(facts: &Facts, rule: Rule, k: usize, stmt: &StmtKind) -> Option<Refusal>
     ensures { result ≡ ask_guesses (facts_in facts.now) rule k stmt.now }
 {
@@ -359,7 +359,7 @@ fn in_option(facts: &Facts, rule: Rule, k: usize, e: &Option<Expr>) -> Option<Re
     }
 }
 
-// The first name in an expression at which the rule is broken.
+// The first name in an expression at which the rule is violated.
 #[cycle(names)]
 fn in_expr(facts: &Facts, rule: Rule, k: usize, e: &Expr) -> Option<Refusal>
     ensures { result ≡ ask_expr (facts_in facts.now) rule k e.now }
@@ -424,7 +424,7 @@ fn is_here(spot: Option<Spot>, k: usize, j: usize) -> bool
     }
 }
 
-// Where it is a sample, its stage is another one.
+// Whether the name is a sample of another stage.
 fn is_elsewhere(stage: Option<u64>, k: usize) -> bool
     ensures { result ≡ holds_of (λ w. not (w == k)) stage }
 {
@@ -471,7 +471,7 @@ fn may_guess(facts: &Facts, k: usize, read: &ReadStmt) -> bool
     }
 }
 
-// The rule is broken where the test fails.
+// The rule is violated if the test fails.
 fn broken_unless(holds: bool, rule: Rule, place: Place) -> Option<Refusal>
     ensures { result ≡ broken_unless holds rule place }
 {

@@ -9,7 +9,7 @@ use kp_ast::{Block, CAP, Decl, Expr, Job, Stmt, StmtKind, body_sizes, expanded_s
 use kp_base::{Refusal, Refused};
 use std::alloc::Global;
 
-// The size of a machine, or E28.
+// The size of a machine, or a violation of E28.
 pub(crate) fn size_of(alloc: Global, job: &Job) -> Result<u32, Refused>
     ensures { Answers result (first (sizes_of job.now).asked) (λ size. size ≡ (sizes_of job.now).value) }
 {
@@ -85,7 +85,7 @@ fn option_size(decls: &[Decl], bodies: &[u32], e: &Option<Expr>) -> u32
     }
 }
 
-// The sum, up to `CAP`.
+// The sum, saturating at `CAP`.
 fn capped(a: u32, b: u32) -> u32
     requires a_in { a ≤ 100001 }
     requires b_in { b ≤ 100001 }

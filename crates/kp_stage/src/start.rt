@@ -1,8 +1,8 @@
+// The start state of a machine.
 use kp_base::List;
 use kp_bits::Bits;
 
-/// The state in which a machine starts: a value for each register, and for each file its words, in the order of
-/// declaration.
+/// The start state of a machine: a value for each register, and for each file its words, in the order of declaration.
 #[derive(Debug, Drop)]
 pub struct Start {
     pub regs: List<Bits>,

@@ -1,4 +1,4 @@
--- Names and entries by their places.
+-- Names and entries by their indices.
 use Rattle.std.proofs.Common.{◌≡◌, ◌∙◌, ℕ, zero, suc, ◌<◌, ◌≤◌, Bool, true, false, cond, ◌||◌, List, [], ◌∷◌, take, length, get_or, map, refl, ap, sym, subst, arith, ⊎_elim}
 use Rattle.std.specs.List.{filter}
 use Rattle.std.proofs.lemmas.Bool.{cases_Bool}
@@ -9,9 +9,9 @@ use Rattle.std.specs.Prelude.{not}
 use Rattle.kp_machine.specs.Slots.{Slot, is_register}
 use Rattle.kp_machine.specs.Machine.{files_before}
 use Rattle.kp_net.specs.Names.{same, among, Differ}
-use Rattle.kp_shows.specs.Naming.{place_among}
+use Rattle.kp_synth_spec.specs.Naming.{place_among}
 
--- an entry that passes a test has a place among those that pass
+-- an entry that passes a test has an index among those that pass
 pub record PassesAt {X : Type 0} (p : X → Bool) (xs : List X) (t : ℕ) (d : X) : Type 0 where
   pub few : length (filter p (take t xs)) < length (filter p xs)
   pub here : get_or (filter p xs) (length (filter p (take t xs))) d ≡ get_or xs t d
@@ -56,7 +56,7 @@ comes_from p (x ∷ xs) i d l = ⊎_elim
     (λ (b : p x ≡ false). later p x xs i i d (comes_from p xs i d (subst (λ (y : Bool). i < length (cond y (x ∷ filter p xs) (filter p xs))) b l)) (rw b refl))
     (cases_Bool (p x))
 
--- names that differ stand at their places
+-- distinct names by their indices
 left_false : (a b : Bool) → (a || b) ≡ false → a ≡ false
 left_false false b h = refl
 left_false true b h = h
@@ -79,7 +79,7 @@ stands_at [] i h l = absurd (omega arith)
 stands_at (n ∷ ns) zero h l = rw (same_refl n) refl
 stands_at (n ∷ ns) (suc i) h l = rw (apart_at ns n i h.0 (omega arith)) (ap suc (stands_at ns i h.1 (omega arith)))
 
--- what is known of the first entries of a list is known at their places
+-- what is known of the first entries of a list is known at their indices
 inside : {X Y : Type 0} (f : X → Y) (xs : List X) (m i : ℕ) (d : X) (e : Y) → i < length (map f (take m xs)) → (i < length xs) × (f (get_or xs i d) ≡ get_or (map f (take m xs)) i e)
 inside f [] zero i d e l = absurd (omega (arith, l))
 inside f [] (suc m) i d e l = absurd (omega (arith, l))

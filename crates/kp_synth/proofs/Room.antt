@@ -1,4 +1,4 @@
--- The room for the nodes.
+-- The capacity for the nodes.
 use Rattle.std.proofs.Common.{ap, ◌≡◌, ℕ, zero, suc, ◌+◌, ◌*◌, ◌≤◌, [], length, None, arith}
 use Rattle.std.proofs.Math.Nat.{suc-mul}
 use Rattle.kp_ast.specs.declared.tree.Job.{Job}
@@ -7,12 +7,12 @@ use Rattle.kp_width.proofs.Unbroken.{Unbroken}
 use Rattle.kp_stage.specs.Counts.{summary_of}
 use Rattle.kp_stage.specs.Stages.{broken_of}
 use Rattle.kp_net.specs.Growth.{Held}
-use Rattle.kp_tables.proofs.Fitting.{fits}
-use Rattle.kp_tables.proofs.Limits.{limits, samples_counted}
-use Rattle.kp_cells.specs.Telling.{CellsFit}
-use Rattle.kp_close.specs.Bound.{node_bound}
-use Rattle.kp_close.proofs.Bounding.{closing_few}
-use Rattle.kp_stages.proofs.Rooms.{stages_few}
+use Rattle.kp_synth_tables.proofs.Fitting.{fits}
+use Rattle.kp_synth_tables.proofs.Limits.{limits, samples_counted}
+use Rattle.kp_synth_registers.specs.Telling.{CellsFit}
+use Rattle.kp_synth_close.specs.Bound.{node_bound}
+use Rattle.kp_synth_close.proofs.Bounding.{closing_few}
+use Rattle.kp_synth_pipeline.proofs.Rooms.{stages_few}
 use Rattle.kp_synth.specs.inner.Rooms.{reading_room, inside_room, closing_room}
 
 -- a product of small numbers is small

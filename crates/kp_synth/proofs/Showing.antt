@@ -1,25 +1,28 @@
--- What a netlist shows by the places of its parts it shows by their names.
-use Rattle.std.proofs.Common.{◌≡◌, ◌∙◌, ℕ, zero, suc, ◌+◌, ◌-◌, ◌<◌, ◌≤◌, Bool, true, false, not, List, [], ◌∷◌, ◌++◌, take, drop, length, get_or, map, refl, ap, sym, subst, arith, ⊎_elim}
+-- From the statement that identifies parts by their indices to the one that identifies them by their names.
+use Rattle.std.proofs.Common.{◌≡◌, ◌∙◌, ℕ, zero, suc, ◌+◌, ◌-◌, ◌^◌, ◌<◌, ◌≤◌, Bool, true, false, not, List, [], ◌∷◌, ◌++◌, take, drop, length, get_or, map, refl, ap, sym, subst, arith, ⊎_elim}
 use Rattle.std.specs.Prelude.{codes, decimal}
 use Rattle.std.proofs.lemmas.List.{length-map, get_or-map, get_or-drop, length-drop, take-append-drop, map-append}
 use Rattle.std.proofs.Math.Seq.{take-length}
 use Rattle.std.proofs.lemmas.Bool.{cases_lt, cases_Bool}
 use Rattle.kp_ast.specs.declared.tree.Job.{Job}
 use Rattle.kp_machine.specs.Slots.{Slot, targets_of, samples_of, is_register}
-use Rattle.kp_machine.specs.Machine.{pipe_of, registers_before, files_before}
+use Rattle.kp_pipeline.specs.Rows.{pipe}
+use Rattle.kp_machine.specs.Machine.{machine_of, start_hints, pipe_of, registers_before, files_before}
 use Rattle.kp_net.specs.declared.netlist.NetReg.{NetReg}
 use Rattle.kp_net.specs.declared.netlist.NetFile.{NetFile}
 use Rattle.kp_net.specs.declared.netlist.Port.{Port}
-use Rattle.kp_net.specs.Netlist.{Net, Input, State, rows_from, run}
+use Rattle.kp_net.specs.Netlist.{Net, Input, State, state_after, states_from, rows_from, run, last_of}
 use Rattle.kp_net.specs.Names.{IsNamed}
 use Rattle.kp_net.specs.Parts.{no_reg, no_file}
 use Rattle.kp_seq.specs.Running.{no_slot, target}
 use Rattle.kp_sched.specs.Runs.{ShowsAlike}
-use Rattle.kp_shows.specs.Naming.{register_name, file_name, sample_port, hidden_names, registers_of, files_of, register_names, file_names, register_of, file_of, value_shown, place_among}
-use Rattle.kp_shows.specs.Traces.{trace_of, inputs_seen, state_at, AreQuiet}
-use Rattle.kp_shows.specs.Shows.{Shows, IsInOrder, HasRegister, HasFile}
-use Rattle.kp_close.specs.Shows as place
-use Rattle.kp_close.specs.Shows.{NamedBy, reg_slot, file_slot, port_slot, named_with, shown_word}
+use Rattle.kp_synth_spec.specs.Naming.{register_name, file_name, sample_port, hidden_names, registers_of, files_of, register_names, file_names, register_of, file_of, value_shown, place_among}
+use Rattle.kp_synth_spec.specs.Traces.{trace_of, no_state, inputs_seen, state_at, AreQuiet}
+use Rattle.kp_synth_spec.specs.Shows.{Shows, IsInOrder, HasRegister, HasFile}
+use Rattle.kp_synth_spec.specs.Anew.{trace_from, left_by_reset, HasMemory, BeginsAnew}
+use Rattle.kp_synth_spec.proofs.Anew.{left_alike}
+use Rattle.kp_synth_close.specs.Shows as place
+use Rattle.kp_synth_close.specs.Shows.{NamedBy, reg_slot, file_slot, port_slot, named_with, shown_word}
 use Rattle.kp_synth.proofs.Places.{passes_at, comes_from, stands_at, first_at, file_number}
 
 -- names by way of slots
@@ -68,7 +71,7 @@ module _ (net : Net) (job : Job) (h : place.Shows net job) (n : IsNamed net) whe
   abbrev shown : ℕ
   shown = length (registers_of job)
 
-  -- a register by its place
+  -- a register by its index
   reg_is : (i : ℕ) → i < shown → (i < length regs) × (reg_slot (get_or regs i no_reg) ≡ named_with (codes "r_") (get_or (registers_of job) i no_slot))
   reg_is i l =
       let m = length-map (registers_of job) (named_with (codes "r_")) in
@@ -186,6 +189,84 @@ module _ (net : Net) (job : Job) (h : place.Shows net job) (n : IsNamed net) whe
             let k : length (map (place.row_bits job.stages.value) (run net ins).rows) ≡ length ins = length-map (run net ins).rows (place.row_bits job.stages.value) ∙ rows_are net ins _ in
             value_is (state_at net ins T) t x w.target ∙ s.visible T t x (omega (arith, k, l)) w.target w.address;
       }
+
+  -- the words of the files
+  words_are : (st : State) → HasMemory net st → place.HasWords net job st
+  words_are st m = record {
+    count = m.count;
+    sizes = λ t l e. let f = there t l e in m.sizes (files_before targets t) f.0 ∙ ap (λ (n : ℕ). 2 ^ n) f.2;
+    fits = λ t a l e k.
+        let f = there t l e in
+        subst (λ (n : ℕ). get_or (get_or st.files (files_before targets t) []) a 0 < 2 ^ n) f.1
+        (m.words (files_before targets t) a f.0 (subst (λ (n : ℕ). a < 2 ^ n) (sym f.2) k));
+  }
+    where
+      there : (t : ℕ) → t < length targets → is_register (target job t) ≡ false
+          → (files_before targets t < length net.parts.files) × ((get_or net.parts.files (files_before targets t) no_file).width ≡ (target job t).width)
+          × ((get_or net.parts.files (files_before targets t) no_file).address_width ≡ (target job t).address)
+      there t l e =
+          let h = has_file t l e in
+          let k = file_number_is t l e in (
+            subst (λ (x : ℕ). x < length net.parts.files) k h.there,
+            ap (λ (x : ℕ). (get_or net.parts.files x no_file).width) (sym k) ∙ h.width,
+            ap (λ (x : ℕ). (get_or net.parts.files x no_file).address_width) (sym k) ∙ h.address,
+          )
+
+  memory_is : (st : State) → place.HasWords net job st → HasMemory net st
+  memory_is st w = record {
+    count = w.count;
+    sizes = λ f l. let o = own f l in subst (λ (x : ℕ). length (get_or st.files x []) ≡ 2 ^ (get_or net.parts.files x no_file).address_width) o.3
+        (w.sizes o.0 o.1 o.2 ∙ ap (λ (n : ℕ). 2 ^ n) (sym o.4));
+    words = λ f a l k.
+        let o = own f l in
+        let few : a < 2 ^ (target job o.0).address = subst (λ (n : ℕ). a < 2 ^ n) (ap (λ (x : ℕ). (get_or net.parts.files x no_file).address_width) (sym o.3) ∙ o.4) k in
+        subst (λ (x : ℕ). get_or (get_or st.files x []) a 0 < 2 ^ (get_or net.parts.files x no_file).width) o.3
+        (subst (λ (n : ℕ). get_or (get_or st.files (files_before targets o.0) []) a 0 < 2 ^ n) (sym o.5) (w.fits o.0 a o.1 o.2 few));
+  }
+    where
+      -- the target of a file, with its widths
+      own : (f : ℕ) → f < length net.parts.files
+          → (t : ℕ) × (t < length targets) × (is_register (target job t) ≡ false) × (files_before targets t ≡ f)
+          × ((get_or net.parts.files (files_before targets t) no_file).address_width ≡ (target job t).address)
+          × ((get_or net.parts.files (files_before targets t) no_file).width ≡ (target job t).width)
+      own f l =
+          let o = is_own_file f l in
+          let h = has_file o.0 o.1 o.2 in
+          let k = file_number_is o.0 o.1 o.2 in
+          let m = length-map net.parts.files (λ (x : NetFile). x.name) in
+          let same : file_of net (target job o.0) ≡ f = ap (place_among (file_names net)) (sym o.3) ∙ stands_at (file_names net) f n.files_differ (omega (arith, m, l)) in (
+            o.0,
+            o.1,
+            o.2,
+            sym k ∙ same,
+            ap (λ (x : ℕ). (get_or net.parts.files x no_file).address_width) (sym k) ∙ h.address,
+            ap (λ (x : ℕ). (get_or net.parts.files x no_file).width) (sym k) ∙ h.width,
+          )
+
+  -- after a reset
+  left_is : (st : State) → place.left_by_reset job (shown_word job st) ≡ left_by_reset job (value_shown job net st)
+  left_is st = left_alike job (shown_word job st) (value_shown job net st) (λ t a l e. sym (value_is st t a l))
+
+  alike_anew : (st : State) (i : Input) (ins : List Input) → HasMemory net st → i.reset ≡ true → AreQuiet ins
+      → ShowsAlike job (trace_from job net (state_after net i st) ins) (place.pipe_anew job st ins)
+  unfolding trace_from
+  alike_anew st i ins m r q =
+      let s = h.anew st i ins (words_are st m) r q in
+      record {
+        rows = s.rows;
+        values = λ T t x l w.
+            let k : length (map (place.row_bits job.stages.value) (rows_from net (state_after net i st) ins)) ≡ length ins
+            = length-map (rows_from net (state_after net i st) ins) (place.row_bits job.stages.value) ∙ rows_are net ins _ in
+            value_is (get_or (states_from net (state_after net i st) ins) T no_state) t x w.target ∙ s.visible T t x (omega (arith, k, l)) w.target w.address;
+      }
+
+  pub begins_anew : BeginsAnew net job
+  begins_anew = record {
+    memory = λ ins. memory_is (last_of net ins) (h.words ins);
+    runs = λ st i ins m r q.
+        subst (λ (v : ℕ → ℕ → ℕ). ShowsAlike job (trace_from job net (state_after net i st) ins) (pipe (machine_of job) v (start_hints job) (inputs_seen job ins)))
+        (left_is st) (alike_anew st i ins m r q);
+  }
 
   pub shows : job.stages.value ≤ 12 → Shows net job
   shows few = record {

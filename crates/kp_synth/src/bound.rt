@@ -1,7 +1,7 @@
-//! How many nodes suffice.
+//! An upper bound on the number of nodes.
 ghost use Rattle.std.specs.Prelude.{◌≡◌, ◌+◌, ◌≤◌, ◌*◌};
 ghost use Rattle.kp_stage.specs.Counts.{summary_of};
-ghost use Rattle.kp_close.specs.Bound as bounds;
+ghost use Rattle.kp_synth_close.specs.Bound as bounds;
 ghost use Rattle.kp_synth.specs.inner.Rooms.{reading_room, inside_room, closing_room};
 
 use kp_stage::Design;
@@ -17,9 +17,9 @@ fn times(a: u32, b: u32) -> u32
     a * b
 }
 
-/// How many nodes the netlist of a design has at most.
+/// The most nodes that the netlist of a design has: as many as synthesis may ask the pool for.
 #[tactic(auto, using(crate::proofs::Room::enough))]
-pub(crate) fn node_bound(design: &Design) -> u32
+pub(crate) fn enough_nodes(design: &Design) -> u32
     ensures bound { result ≡ bounds.node_bound (summary_of design.now.job) }
     ensures few { result ≤ 16777216 }
     ensures enough { reading_room design.now.job + inside_room design.now.job + closing_room design.now.job ≤ result }

@@ -1,28 +1,28 @@
-//! The parts of synthesis, one after another.
+//! The steps of synthesis, in order.
 ghost use Rattle.std.specs.Prelude.{◌≡◌, ◌+◌, ◌≤◌, [], length, IfOk, OnOk};
 ghost use Rattle.kp_stage.specs.Counts.{summary_of};
 ghost use Rattle.kp_stage.specs.Start.{start_of, IsStartOf};
 ghost use Rattle.kp_net.specs.Growth.{Held};
 ghost use Rattle.kp_net.specs.Names.{IsNamed};
 ghost use Rattle.kp_net.specs.Widths.{Distinct};
-ghost use Rattle.kp_cells.specs.Telling.{Added, CellsFit, Ready};
-ghost use Rattle.kp_close.specs.Bound as bounds;
-ghost use Rattle.kp_close.specs.Control.{AllSay};
-ghost use Rattle.kp_close.specs.Shows as place;
+ghost use Rattle.kp_synth_registers.specs.Telling.{Added, CellsFit, Ready};
+ghost use Rattle.kp_synth_close.specs.Bound as bounds;
+ghost use Rattle.kp_synth_close.specs.Control.{AllSay};
+ghost use Rattle.kp_synth_close.specs.Shows as place;
 ghost use Rattle.kp_synth.specs.inner.Rooms.{reading_room, inside_room, closing_room};
 
-use crate::bound::node_bound;
+use crate::bound::enough_nodes;
 use kp_base::NoMemory;
-use kp_block::Slots;
-use kp_cells::{Outcome, Reads, read_cells};
 use kp_net::{Netlist, Pool};
-use kp_parts::close;
 use kp_stage::{Design, Start};
-use kp_stages::run_stages;
-use kp_tables::Layout;
+use kp_synth_parts::close;
+use kp_synth_pipeline::run_stages;
+use kp_synth_registers::{Outcome, Reads, read_cells};
+use kp_synth_stage::Slots;
+use kp_synth_tables::Layout;
 use std::alloc::Global;
 
-/// The netlist of a design, with its registers and files told by their places.
+/// The netlist of a design; its registers and files are identified by their indices.
 pub(crate) fn make(alloc: Global, design: &Design, start: &Start) -> Result<Netlist, NoMemory>
     requires begins { start.now ≡ start_of design.now.job }
     requires suits { IsStartOf design.now.job start.now }
@@ -32,7 +32,7 @@ pub(crate) fn make(alloc: Global, design: &Design, start: &Start) -> Result<Netl
     ensures few { IfOk result (λ net. length net.nodes ≤ bounds.node_bound (summary_of design.now.job)) }
 {
     let layout = Layout::of(alloc, design)?;
-    let pool = Pool::reserve(alloc, node_bound(design))?;
+    let pool = Pool::reserve(alloc, enough_nodes(design))?;
     fill(alloc, pool, &layout, start)
 }
 

@@ -1,4 +1,4 @@
--- The reads that a stage's tree asks are those that are told of it.
+-- The reads that a stage's tree requests are those that are reported about it.
 use Rattle.std.proofs.Common.{◌≡◌, ◌∙◌, ℕ, List, [], ◌∷◌, ◌++◌, Option, Some, None, Bool, true, false, cond, not, ◌||◌, refl, ap}
 use Rattle.std.specs.Prelude.{sum_by}
 use Rattle.std.proofs.lemmas.List.Sums.{sum_by-cons}
@@ -10,15 +10,15 @@ use Rattle.kp_ast.specs.declared.tree.Stmt.{Stmt}
 use Rattle.kp_ast.specs.declared.tree.StmtKind.{StmtKind}
 use Rattle.kp_ast.specs.declared.tree.StmtKind.TheVariants as stmts
 use Rattle.kp_stage.specs.Counts.{one_if_some, guesses_of, guesses_in}
-use Rattle.kp_law.specs.Machine.{Tree}
-use Rattle.kp_law.specs.Timeline.{some_unmet}
+use Rattle.kp_pipeline.specs.Machine.{Tree}
+use Rattle.kp_pipeline.specs.Timeline.{some_unmet}
 use Rattle.kp_machine.specs.Slots.{targets_of, number_of, result_named}
 use Rattle.kp_machine.specs.Trees.{Progress, holds, address_of, value_of, word_read, with_name, with_set, read_of, statement_of, tree_of}
 use Rattle.kp_seq.specs.Told.{where_true, address_read, done_after, read_told, reads_told}
 use Rattle.kp_timing.specs.declared.sites.Site.{Site}
 use Rattle.kp_timing.specs.inner.Sites.{site_of, sites_in}
 
--- some read that is told isn't met
+-- some read that is reported isn't met
 abbrev pub asks_unmet : (ℕ → ℕ → Bool) → List Site → List (Option ℕ) → Bool
 asks_unmet ready [] os = false
 asks_unmet ready (site ∷ sites) [] = false
@@ -44,7 +44,7 @@ module _ (ready : ℕ → ℕ → Bool) (s : ℕ → ℕ → ℕ) (ds : List Dec
       ap (λ x. not (ready (number_of (targets_of ds) r.target.name) (address_of ds done r.address)) || x) (h (s (number_of (targets_of ds) r.target.name) (address_of ds done r.address)))
   read_asks done r None false rest sites os e h = h 0
 
-  -- one statement, where the others go on so
+  -- one statement, if the others are alike
   one_asks : (done : Progress) (x : StmtKind) (xs : List Stmt) → guesses_of x ≡ 0
       → ((next : Progress) → some_unmet ready s (tree_of ds next xs) ≡ asks_unmet ready (sites_in (targets_of ds) k xs) (reads_told ds s next xs))
       → some_unmet ready s (statement_of ds done x (λ next. tree_of ds next xs))
@@ -59,7 +59,7 @@ module _ (ready : ℕ → ℕ → Bool) (s : ℕ → ℕ → ℕ) (ds : List Dec
       ∙ more (done_after ds s done (stmts.Set n e when))
   one_asks done (stmts.Aim n e) xs g more = more (done_after ds s done (stmts.Aim n e))
 
-  -- so for the statements of a stage without guesses
+  -- all statements of a stage without guesses
   pub stage_asks : (done : Progress) (xs : List Stmt) → sum_by guesses_in xs ≡ 0
       → some_unmet ready s (tree_of ds done xs) ≡ asks_unmet ready (sites_in (targets_of ds) k xs) (reads_told ds s done xs)
   stage_asks done [] g = refl

@@ -1,16 +1,16 @@
--- The bits of words.
+-- The bits of masks.
 use Rattle.std.proofs.Common.{◌≡◌, ◌∙◌, ℕ, zero, suc, ◌+◌, ◌*◌, ◌^◌, ◌/◌, ◌%◌, ◌<◌, ◌≤◌, List, Bool, true, false, eqb, get_or, refl, ap, arith, lit<}
 use Rattle.std.proofs.lemmas.Nat.Bits.{bit_at-suc, bit_at-zero, bit_at_lowest}
 use Rattle.std.proofs.lemmas.Nat.{div-mul-add, mod-mul-add}
 use Rattle.std.proofs.Math.Nat.{two-pow-succ}
 use Rattle.std.proofs.Math.Pow.{pow_mono}
-use Rattle.kp_law.specs.Rows.{one_if}
+use Rattle.kp_pipeline.specs.Rows.{one_if}
 use Rattle.kp_sched.specs.Rows.{bit_of}
 
 bit_next : (n i : ℕ) → bit_of n (suc i) ≡ bit_of (n / 2) i
 bit_next n i = ap (λ x. eqb x 1) (bit_at-suc n i)
 
--- a word and one more bit below
+-- a mask with one more bit below
 pub bit_above : (m b i : ℕ) → b < 2 → bit_of (2 * m + b) (suc i) ≡ bit_of m i
 bit_above m b i l =
     let e : 2 * m + b ≡ m * 2 + b = omega arith in
@@ -29,7 +29,7 @@ one_is : (b : Bool) → eqb (one_if b) 1 ≡ b
 one_is true = refl
 one_is false = refl
 
--- the word of bits from the one of number k on, and that of the bits from k+1 on
+-- the mask of the bits from number k on, and that of the bits from k+1 on
 pub next_bits : (bits : List Bool) (m k : ℕ) → ((j : ℕ) → bit_of m j ≡ get_or bits (suc k + j) false)
     → (j : ℕ) → bit_of (2 * m + one_if (get_or bits k false)) j ≡ get_or bits (k + j) false
 next_bits bits m k h zero =
@@ -44,7 +44,7 @@ next_bits bits m k h (suc j) =
 no_bits : (j : ℕ) → bit_of 0 j ≡ false
 no_bits j = ap (λ x. eqb x 1) (bit_at-zero j)
 
--- a word of d bits and one more bit below
+-- a mask of d bits with one more bit below
 pub small_next : (m b d : ℕ) → m < 2 ^ d → b < 2 → 2 * m + b < 2 ^ suc d
 small_next m b d l h = let p = two-pow-succ d in omega (arith, p, l, h)
 

@@ -1,4 +1,4 @@
--- What is decided by lists is what the timeline of the laws decides.
+-- The decisions on lists are those of the timeline of the laws.
 use Rattle.std.proofs.Common.{◌≡◌, ◌∙◌, ℕ, zero, suc, ◌+◌, ◌-◌, ◌<◌, ◌≤◌, List, [], ◌∷◌, ◌++◌, Option, Some, None, Bool, true, false, cond, eqb, leb, not, ◌&&◌, ◌||◌, length, get_or, set, replicate, refl, ap, sym, subst, arith, ⊎_elim}
 use Rattle.std.specs.Prelude.{is_some, slice_get, sum_by}
 use Rattle.std.proofs.lemmas.List.Sums.{sum_by-cons}
@@ -14,8 +14,8 @@ use Rattle.kp_ast.specs.declared.tree.Job.{Job}
 use Rattle.kp_width.specs.Widths.{widths_of}
 use Rattle.kp_width.proofs.Unbroken.{Unbroken}
 use Rattle.kp_stage.specs.Facts.{stmts_in}
-use Rattle.kp_law.specs.Sequential.{seq, before_stage}
-use Rattle.kp_law.specs.Timeline.{ReadyAbove, no_samples, may_write, is_ready, waits_given, blocked_given, ready_from, ready_above, waits, blocked, moves_on}
+use Rattle.kp_pipeline.specs.Sequential.{seq, before_stage}
+use Rattle.kp_pipeline.specs.Timeline.{ReadyAbove, no_samples, may_write, is_ready, waits_given, blocked_given, ready_from, ready_above, waits, blocked, moves_on}
 use Rattle.kp_machine.specs.Slots.{Slot, targets_of, number_of, result_to}
 use Rattle.kp_machine.specs.Trees.{Progress, entered}
 use Rattle.kp_machine.specs.Machine.{machine_of, stage_tree, result_for}
@@ -36,7 +36,7 @@ pub and_no : (c : Bool) → (c && false) ≡ false
 and_no true = refl
 and_no false = refl
 
--- reads and where they stand, side by side
+-- reads and their stages, side by side
 abbrev pub both_unmet : (Site → Option ℕ → Bool) → List Site → List (Option ℕ) → Bool
 both_unmet f [] os = false
 both_unmet f (site ∷ sites) [] = false
@@ -63,7 +63,7 @@ next_of : (xs ys : List (Option ℕ)) (y : Option ℕ) → xs ++ y ∷ ys ≡ (x
 next_of [] ys y = refl
 next_of (x ∷ xs) ys y = ap (λ l. x ∷ l) (next_of xs ys y)
 
--- the reads are looked up one after another
+-- the reads are looked up in order
 indexed : (sited : Sited) (h : Held) (b : List Bool) (k : ℕ) (sites : List Site) (xs ys : List (Option ℕ)) → (told_in h k).reads ≡ xs ++ ys → length sites ≡ length ys
     → some_unmet_from sited h b k (length xs) sites ≡ both_unmet (is_unmet sited h b k) sites ys
 indexed sited h b k [] xs ys e n = refl
@@ -77,7 +77,7 @@ indexed sited h b k (site ∷ sites) xs (y ∷ ys) e n =
     ∙ ap (λ i. is_unmet sited h b k site y || some_unmet_from sited h b k i sites) next
     ∙ ap (λ x. is_unmet sited h b k site y || x) (indexed sited h b k sites (xs ++ y ∷ []) ys (e ∙ next_of xs ys y) m)
 
--- as many reads stand in a stage as are told of it
+-- a stage has as many reads as are reported about it
 one_count : (targets : List Slot) (ds : List Decl) (k : ℕ) (done : Progress) (x : StmtKind) → length (site_of targets k x) ≡ length (read_told ds done x)
 one_count targets ds k done (stmts.Read r) = refl
 one_count targets ds k done (stmts.Let n e) = refl
@@ -95,7 +95,7 @@ stage_count targets ds s k done (x ∷ xs) =
     let d = stage_count targets ds s k later xs in
     omega (arith, a, b, c, d)
 
--- they all stand in it
+-- they are all in it
 abbrev AllIn : ℕ → List Site → Type 0
 AllIn k [] = Unit {0}
 AllIn k (site ∷ sites) = (site.stage ≡ k) × AllIn k sites
@@ -127,7 +127,7 @@ module _ (job : Job) (unbroken : Unbroken (widths_of job)) (sited : Sited) (site
   abbrev is_waiting : ℕ → Bool
   is_waiting k = waits (machine_of job) s hold (stalled_by ext) k
 
-  -- the stages from one on are found blocked, or not
+  -- the stages from one on are blocked, or not
   abbrev BlockedFrom : List Bool → ℕ → Type 0
   BlockedFrom b k = (j : ℕ) → k ≤ j → j < job.stages.value → get_or b j false ≡ is_blocked j
 

@@ -1,4 +1,4 @@
--- The step of the loop that writes what the stages hold.
+-- The step of the loop that writes the instructions in the stages.
 use Rattle.std.proofs.Common.{◌≡◌, ◌∙◌, ℕ, suc, ◌+◌, ◌-◌, ◌<◌, List, ◌++◌, Option, ap, sym, arith}
 use Rattle.std.specs.Prelude.{codes}
 use Rattle.std.proofs.lemmas.List.{append_assoc}

@@ -1,4 +1,4 @@
--- What a timeline keeps, cycle by cycle.
+-- The invariant of a timeline, cycle by cycle.
 use Rattle.std.proofs.Common.{◌≡◌, ◌∙◌, ℕ, zero, suc, ◌+◌, ◌-◌, ◌<◌, ◌≤◌, List, [], ◌∷◌, Option, Some, None, Bool, true, false, cond, not, ◌&&◌, length, get_or, set, replicate, ◌^◌, refl, ap, sym, subst, arith, inr}
 use Rattle.std.specs.Prelude.{is_some, unwrap_or, sum_by, nat_le}
 use Rattle.std.proofs.lemmas.Bool.{and_parts, leb-true}
@@ -14,9 +14,9 @@ use Rattle.kp_ast.specs.declared.tree.Decl.TheVariants as decls
 use Rattle.kp_ast.specs.declared.tree.Job.{Job}
 use Rattle.kp_stage.specs.Counts.{summary_of, samples_in, results_in}
 use Rattle.kp_stage.specs.declared.start.Start.{Start}
-use Rattle.kp_law.specs.Sequential.{seq}
-use Rattle.kp_law.specs.Machine.{Machine}
-use Rattle.kp_law.specs.Timeline.{no_samples, waits, moves_on, next_number, next_hold, start_hold}
+use Rattle.kp_pipeline.specs.Sequential.{seq}
+use Rattle.kp_pipeline.specs.Machine.{Machine}
+use Rattle.kp_pipeline.specs.Timeline.{no_samples, waits, moves_on, next_number, next_hold, start_hold}
 use Rattle.kp_machine.specs.Slots.{samples_of}
 use Rattle.kp_machine.specs.Machine.{machine_of, state_of, values_in}
 use Rattle.kp_machine.proofs.Cases.{by_test}
@@ -25,7 +25,7 @@ use Rattle.kp_seq.specs.Running.{Running, state, after_one}
 use Rattle.kp_seq.specs.Told.{Told, results_of, setting_told, told_of}
 use Rattle.kp_seq.proofs.Telling.{all_told}
 use Rattle.kp_base.specs.declared.row.Row as masks
-use Rattle.kp_law.specs.Rows.{bits}
+use Rattle.kp_pipeline.specs.Rows.{bits}
 use Rattle.kp_sched.specs.Rows.{bit_of, row_seen}
 use Rattle.kp_timing.specs.Timed.{IsPlain, stalled_by}
 use Rattle.kp_timing.specs.inner.Sites.{Sited, AreSites}
@@ -33,7 +33,7 @@ use Rattle.kp_timing.specs.declared.deciding.Found.{Found}
 use Rattle.kp_timing.specs.inner.Deciding.{Held, nothing_told, told_in, moves_by, taken_down, found_down, no_stage_found}
 use Rattle.kp_timing.specs.inner.Kept.{HasRoom, IsKept, Advances}
 use Rattle.kp_timing.proofs.Decisions.{AllFound, and_no, found, moves_is}
-use Rattle.kp_law.proofs.Lists.{bits-same}
+use Rattle.kp_pipeline.proofs.Lists.{bits-same}
 use Rattle.kp_timing.proofs.Moving.{taken_counts, hold_first, hold_taken, told_up, told_kept, all_came_from}
 
 -- a job that counts no samples has none
@@ -61,7 +61,7 @@ results_count (decls.Pipe n width ∷ ds) = let p = sum_by-cons results_in (decl
 results_count (decls.Hint n width start ∷ ds) = let p = sum_by-cons results_in (decls.Hint n width start) ds in let q = results_count ds in omega (arith, p, q)
 results_count (decls.Func f ∷ ds) = let p = sum_by-cons results_in (decls.Func f) ds in let q = results_count ds in omega (arith, p, q)
 
--- what is told of an instruction has its room
+-- what is reported about an instruction has its size
 pub told_room : (job : Job) (s : ℕ → ℕ → ℕ) (q : ℕ → ℕ) → length job.blocks ≡ job.stages.value → HasRoom job (told_of job s q)
 unfolding told_of summary_of
 told_room job s q e = record {
@@ -70,7 +70,7 @@ told_room job s q e = record {
   settings = length-map (results_of job.decls) (setting_told job s q) ∙ results_count job.decls;
 }
 
--- and so what was told there can be told again
+-- so what was reported before can be replaced by a new report
 pub record FitsIn (job : Job) (told last : Told) : Type 0 where
   pub reads : length told.reads ≡ length last.reads
   pub writes : length told.writes ≡ length last.writes
@@ -310,7 +310,7 @@ few_stages job kept =
     let both = and_parts (nat_le 2 n) (nat_le n 12) (and_parts (nat_le 2 n && nat_le n 12) (nat_le n (length job.blocks)) holds).0 in
     (leb-true 2 n both.0, leb-true n 12 both.1)
 
--- at the opening stage 0 holds instruction 0, which the machine has run
+-- after opening, stage 0 contains instruction 0, which the machine has executed
 abbrev pub first_hold : List (Option ℕ)
 first_hold = set (replicate 12 None) 0 (Some 0)
 
@@ -348,7 +348,7 @@ kept_first job start m sited told plain sites reads results count room is st e =
       told = λ k i l h. told_only_first job (state_of job start) told e k i h;
     }
 
--- the timeline that was opened: the machine was opened, and ran instruction 0
+-- the timeline that was opened: the machine was opened, and executed instruction 0
 pub kept_opened : (job : Job) (start : Start) (m0 m : Running) (sited : Sited) (told : List Told) → IsPlain job → AreSites job sited
     → (summary_of job).reads < 2 ^ 32 → (summary_of job).results < 2 ^ 32 → length told ≡ job.stages.value
     → ((k : ℕ) → k < job.stages.value → HasRoom job (get_or told k nothing_told)) → m0.job ≡ job → state m0 ≡ state_of job start
@@ -368,7 +368,7 @@ kept_opened job start m0 m sited told plain sites reads results count room is0 s
     rooms zero l first here = subst (HasRoom job) (sym first) here
     rooms (suc k) l first here = subst (HasRoom job) (sym (get_or-set_other told 0 (suc k) m.last nothing_told (λ q. omega arith))) (room (suc k) l)
 
--- after the instructions moved on, the next one can be run
+-- after the instructions have moved on, the next one can be executed
 pub record CanFetch (job : Job) (h h2 : Held) : Type 0 where
   pub hold : length h2.hold ≡ 12
   pub flights : 1 ≤ length h2.told
@@ -388,7 +388,7 @@ can_fetch job b n h h2 e hold told some rooms =
       first = ap (λ (x : Held). get_or x.hold 0 None) e ∙ hold_first b (n - 1) h;
     }
 
--- the first instruction can be run
+-- the first instruction can be executed
 pub record CanRun (m : Running) (told : List Told) : Type 0 where
   pub samples : samples_of m.job.decls ≡ []
   pub flights : 1 ≤ length told

@@ -11,3 +11,4 @@ pub mod Places
 pub mod Plain
 pub mod Texts
 pub mod Stepping
+pub mod Steps

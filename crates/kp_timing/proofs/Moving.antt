@@ -1,4 +1,4 @@
--- How the instructions move on: what the stages hold, and what is told of it.
+-- How the instructions move on: the instructions in the stages, and what is reported about them.
 use Rattle.std.proofs.Common.{◌≡◌, ◌≢◌, ◌∙◌, ℕ, zero, suc, ◌+◌, ◌<◌, ◌≤◌, List, [], ◌∷◌, None, Bool, true, false, cond, not, ◌&&◌, length, get_or, set, refl, ap, sym, subst, arith, ⊎_elim, ◌⊎◌, inl, inr}
 use Rattle.std.specs.Prelude.{is_some}
 use Rattle.std.specs.List.{swap}
@@ -21,7 +21,7 @@ swap_other xs i j k d l m p q =
     ap (λ ys. get_or ys k d) (sym (swap_is xs i j d l m))
     ∙ get_or-set_other (set xs i (get_or xs j d)) j k (get_or xs i d) d q ∙ get_or-set_other xs i k (get_or xs j d) d p
 
--- one stage, where the one below moves on or not, and it is blocked or not
+-- one stage, if the one below moves on or not, and it is blocked or not
 abbrev step : Bool → Bool → Held → ℕ → Held
 step c e h d =
     cond c (record { hold = set h.hold (d + 1) (get_or h.hold d None); told = swap h.told d (d + 1) }) (cond e h (record h { hold = set h.hold (d + 1) None }))
@@ -80,7 +80,7 @@ module _ (b : List Bool) where
       let r = taken_counts d (next h d) in
       (r.0 ∙ hold_count (c_of h d) (e_of d) h d, r.1 ∙ told_count (c_of h d) (e_of d) h d)
 
-  -- above the stages that are reached nothing changes
+  -- above the stages that are processed nothing changes
   hold_above : (d : ℕ) (h : Held) (j : ℕ) → d < j → get_or (taken_down b d h).hold j None ≡ get_or h.hold j None
   hold_above zero h j l = refl
   hold_above (suc d) h j l = hold_above d (next h d) j (omega arith) ∙ hold_other (c_of h d) (e_of d) h d j (λ q. omega arith)
@@ -99,7 +99,7 @@ module _ (b : List Bool) where
   moves_below : (h : Held) (d j : ℕ) → j ≤ d → moves_by (next h d) b j ≡ moves_by h b j
   moves_below h d j l = ap (λ o. is_some o && not (get_or b j false)) (hold_other (c_of h d) (e_of d) h d j (λ q. omega arith))
 
-  -- what a later stage holds
+  -- the instruction in a later stage
   pub hold_taken : (d : ℕ) (h : Held) (j : ℕ) → d < length h.hold → j < d
       → get_or (taken_down b d h).hold (j + 1) None ≡ cond (moves_by h b j) (get_or h.hold j None) (cond (get_or b (j + 1) false) (get_or h.hold (j + 1) None) None)
   hold_taken zero h j n l = absurd (omega arith)
@@ -117,7 +117,7 @@ module _ (b : List Bool) where
       (hold_here (c_of h d) (e_of d) h d (omega arith)))
       (cases_lt j d)
 
-  -- what is told goes with an instruction that moves on
+  -- a report moves with an instruction that moves on
   pub told_up : (d : ℕ) (h : Held) (j : ℕ) → d < length h.told → j < d → moves_by h b j ≡ true → told_in (taken_down b d h) (j + 1) ≡ told_in h j
   told_up zero h j n l m = absurd (omega arith)
   told_up (suc d) h j n l m = ⊎_elim
@@ -161,7 +161,7 @@ swap_from xs i j d l m p =
     ap (λ ys. get_or ys i d) (sym (swap_is xs i j d l m))
     ∙ get_or-set_other (set xs i (get_or xs j d)) j i (get_or xs i d) d p ∙ get_or-set_same xs i (get_or xs j d) d l
 
--- what is told in a stage after one stage moved was told in some stage before
+-- the report in a stage after one stage has moved was that of some stage before
 pub came_from : (b : List Bool) (h : Held) (d j : ℕ) → d + 1 < length h.told → j < length h.told
     → (i : ℕ) × (i < length h.told) × (told_in (taken_by b h d) j ≡ told_in h i)
 came_from b h d j l n = by_move (moves_by h b d) (get_or b (d + 1) false)

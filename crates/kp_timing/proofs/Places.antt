@@ -1,4 +1,4 @@
--- The first of places that are looked for in two lists, and in one block after another.
+-- The first of the positions in two lists, and in the blocks in order.
 use Rattle.std.proofs.Common.{◌≡◌, ◌∙◌, ℕ, ◌+◌, ◌<◌, List, [], ◌∷◌, ◌++◌, Option, Some, length, get_or, drop, refl, ap, sym}
 use Rattle.std.proofs.lemmas.List.{drop_more}
 use Rattle.kp_base.specs.declared.place.Place.{Place}

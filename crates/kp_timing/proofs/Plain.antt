@@ -1,4 +1,4 @@
--- A job that E38 doesn't refuse has no guess and no sample.
+-- A job that E38 doesn't reject has no guess and no sample.
 use Rattle.std.proofs.Common.{◌≡◌, ◌+◌, List, [], ◌∷◌, ◌++◌, length, length-append, Option, Some, None, option_map, refl, arith}
 use Rattle.std.specs.Prelude.{sum_by}
 use Rattle.std.proofs.lemmas.List.Sums.{sum_by-cons}
@@ -18,7 +18,7 @@ use Rattle.kp_stage.specs.Counts as counts
 use Rattle.kp_timing.specs.Timed.{IsPlain}
 use Rattle.kp_timing.specs.Unfit.{samples_at, guess_at, guessed_at, guesses_in, guesses_at, earlier, first_of, first_place, untimed}
 
--- the first of some places is there, wherever there is one
+-- the first of some positions exists if there is one
 first_there : (a : Place) (ps : List Place) → first_of (Some a) ps ≡ None → ⊥
 first_there a [] h = cc h
 first_there a (p ∷ ps) h = first_there (earlier (Some a) p) ps h
@@ -27,7 +27,7 @@ none_first : (ps : List Place) → first_place ps ≡ None → length ps ≡ 0
 none_first [] h = refl
 none_first (p ∷ ps) h = absurd (first_there (earlier None p) ps h)
 
--- there are as many places as samples and guesses
+-- there are as many positions as samples and guesses
 samples_many : (ds : List Decl) → length (samples_at ds) ≡ sum_by samples_in ds
 samples_many [] = refl
 samples_many (decls.Reg n width start ∷ ds) = let e = sum_by-cons samples_in (decls.Reg n width start) ds in omega (arith, e, samples_many ds)

@@ -1,4 +1,4 @@
--- The result of a target, by its number: what is told of it is what the timeline asks.
+-- The result of a target, by its number: what is reported about it is what the timeline requests.
 use Rattle.std.proofs.Common.{◌≡◌, ◌∙◌, ℕ, zero, suc, ◌+◌, List, [], ◌∷◌, Option, Some, None, Bool, true, false, cond, eqb, leb, ltb, not, ◌&&◌, ◌||◌, map, get_or, refl, ap, sym, subst, arith}
 use Rattle.std.specs.Prelude.{is_some, slice_get}
 use Rattle.std.proofs.lemmas.Bool.{eqb-true}
@@ -7,8 +7,8 @@ use Rattle.kp_ast.specs.declared.tree.ResultDecl.{ResultDecl}
 use Rattle.kp_ast.specs.declared.tree.Decl.{Decl}
 use Rattle.kp_ast.specs.declared.tree.Decl.TheVariants as decls
 use Rattle.kp_ast.specs.declared.tree.Job.{Job}
-use Rattle.kp_law.specs.Sequential.{before_stage, seq}
-use Rattle.kp_law.specs.Timeline.{no_samples, first_stage, setting_stage, may_write, is_ready}
+use Rattle.kp_pipeline.specs.Sequential.{before_stage, seq}
+use Rattle.kp_pipeline.specs.Timeline.{no_samples, first_stage, setting_stage, may_write, is_ready}
 use Rattle.kp_machine.specs.Slots.{Slot, targets_of, pipes_of, number_of, result_to}
 use Rattle.kp_machine.specs.Machine.{machine_of, result_for, write_stage_of, enabled_of, address_in, is_enabled_by, address_by}
 use Rattle.kp_seq.specs.Told.{Told, where_true, results_of, write_told, setting_told, told_of}
@@ -16,7 +16,7 @@ use Rattle.kp_timing.specs.declared.sites.Writer.{Writer}
 use Rattle.kp_timing.specs.inner.Sites.{result_number}
 use Rattle.kp_timing.specs.inner.Deciding.{wrote_at, may_write_by, is_ready_by}
 
--- where the number of a result is found, the result is found
+-- if the number of a result is found, the result is found
 pub record IsResult (job : Job) (t i : ℕ) : Type 0 where
   pub result : ResultDecl
   pub first : result_for job t ≡ Some result
@@ -78,7 +78,7 @@ is_result job t i e =
     let same : l ≡ i = omega arith in
     record { result = h.result; first = h.first; there = subst (λ n. slice_get (results_of job.decls) n ≡ Some h.result) same h.there; target = h.target }
 
--- and where there is none, there is no result
+-- and if none is found, there is no result
 unnumbered_by : (b : Bool) (i : ℕ) (q : ResultDecl) (o : Option ℕ) (r : Option ResultDecl) → (o ≡ None → r ≡ None) → cond b (Some i) o ≡ None → cond b (Some q) r ≡ None
 unnumbered_by true i q o r h e = cc
 unnumbered_by false i q o r h e = h e
@@ -103,7 +103,7 @@ wrote true c a = refl
 wrote false c a = refl
 
 module _ (job : Job) (s : ℕ → ℕ → ℕ) (k t i n : ℕ) (told : Told) where
-  -- instruction n, of which this is told
+  -- instruction n, about which this is reported
   abbrev at_start : ℕ → ℕ → ℕ
   at_start = seq (machine_of job) s no_samples n
 

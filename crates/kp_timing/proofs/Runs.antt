@@ -4,17 +4,17 @@ use Rattle.std.specs.Prelude.{is_some}
 use Rattle.kp_base.specs.declared.row.Row as masks
 use Rattle.kp_ast.specs.declared.tree.Job.{Job}
 use Rattle.kp_stage.specs.declared.start.Start.{Start}
-use Rattle.kp_law.specs.Machine.{Machine}
-use Rattle.kp_law.specs.Pipeline.{Inputs, is_candidate}
-use Rattle.kp_law.specs.Rows.{Row, bits}
-use Rattle.kp_law.specs.Timeline.{ReadyAbove, may_write, is_ready, waits_given, blocked_given, ready_below, ready_from, ready_above, waits, blocked, moves_on, next_number, next_hold, start_hold, timeline_rows}
-use Rattle.kp_law.proofs.Lists.{bits-same}
+use Rattle.kp_pipeline.specs.Machine.{Machine}
+use Rattle.kp_pipeline.specs.Pipeline.{Inputs, is_candidate}
+use Rattle.kp_pipeline.specs.Rows.{Row, bits}
+use Rattle.kp_pipeline.specs.Timeline.{ReadyAbove, may_write, is_ready, waits_given, blocked_given, ready_below, ready_from, ready_above, waits, blocked, moves_on, next_number, next_hold, start_hold, timeline_rows}
+use Rattle.kp_pipeline.proofs.Lists.{bits-same}
 use Rattle.kp_machine.specs.Machine.{machine_of, state_of}
 use Rattle.kp_sched.specs.Rows.{row_seen, rows_seen}
 use Rattle.kp_timing.specs.Timed.{Timed, IsOpened, hold_of, stalled_by}
 use Rattle.kp_timing.specs.Cycles.{Cycles, StallAlike}
 
--- what a timeline does in n stages depends on what these hold, and on which of them are stalled
+-- a cycle of a timeline in n stages depends on the instructions in them, and on which of them are stalled
 module _ (m : Machine) (s : ℕ → ℕ → ℕ) (p q : ℕ → Option ℕ) (i j : Inputs) (same : (k : ℕ) → k < m.stages → p k ≡ q k) (alike : (k : ℕ) → k < m.stages → i.ext k ≡ j.ext k) where
   given_same : (k : ℕ) (up : ReadyAbove) → k < m.stages → blocked_given m s p i k up ≡ blocked_given m s q j k up
   given_same k up l =
@@ -57,7 +57,7 @@ module _ (m : Machine) (s : ℕ → ℕ → ℕ) (p q : ℕ → Option ℕ) (i j
       ∙ ap (λ o. cond (moves_on m s q j k) o (cond (blocked m s q j (suc k)) (p (suc k)) None)) (same k below)
       ∙ ap (λ o. cond (moves_on m s q j k) (q k) (cond (blocked m s q j (suc k)) o None)) (same (suc k) l)
 
--- The rows of a timeline are those of the laws, from wherever it stands.
+-- The rows of a timeline are those of the laws, from any of its states on.
 pub rows_are : {t u : Timed} {exts : List ℕ} {rows : List masks.Row} (job : Job) (start : Start) (hold : ℕ → Option ℕ) (ins : List Inputs) → Cycles t exts rows u
     → t.job ≡ job → t.start ≡ start → ((k : ℕ) → k < job.stages.value → hold_of t k ≡ hold k) → StallAlike job.stages.value exts ins
     → rows_seen job.stages.value rows ≡ timeline_rows (machine_of job) (state_of job start) hold ins

@@ -1,16 +1,16 @@
--- The text of a timeline, one cycle after another.
+-- The text of a timeline, cycle by cycle.
 use Rattle.std.proofs.Common.{◌≡◌, ◌∙◌, ℕ, zero, suc, ◌+◌, ◌-◌, ◌<◌, ◌≤◌, List, ◌++◌, Option, Bool, refl, ap, sym, arith}
 use Rattle.std.specs.Prelude.{codes, decimal, if◌then◌else◌}
 use Rattle.kp_base.specs.declared.row.Row as masks
 use Rattle.kp_ast.specs.declared.tree.Job.{Job}
 use Rattle.kp_stage.specs.declared.start.Start.{Start}
 use Rattle.kp_stage.specs.Start.{is_stalled, start_of, stalls_of}
-use Rattle.kp_law.specs.Machine.{Machine}
-use Rattle.kp_law.specs.Pipeline.{Inputs}
-use Rattle.kp_law.specs.Rows as law
-use Rattle.kp_law.specs.Rows.{bit, bits, one_if}
-use Rattle.kp_law.specs.Timeline.{waits, moves_on, next_hold, start_hold}
-use Rattle.kp_law.proofs.Lists.{bit-at, bits-same}
+use Rattle.kp_pipeline.specs.Machine.{Machine}
+use Rattle.kp_pipeline.specs.Pipeline.{Inputs}
+use Rattle.kp_pipeline.specs.Rows as law
+use Rattle.kp_pipeline.specs.Rows.{bit, bits, one_if}
+use Rattle.kp_pipeline.specs.Timeline.{waits, moves_on, next_hold, start_hold}
+use Rattle.kp_pipeline.proofs.Lists.{bit-at, bits-same}
 use Rattle.kp_machine.specs.Machine.{machine_of, state_of, inputs_at}
 use Rattle.kp_sched.specs.Lines.{digits}
 use Rattle.kp_sched.specs.Rows.{bit_of}
@@ -18,7 +18,7 @@ use Rattle.kp_timing.specs.Lines.{held_text, holds_text, timing_line, timing_fro
 use Rattle.kp_timing.specs.Timed.{Timed, IsCycle, IsOpened, hold_of, begins, stalled_by}
 use Rattle.kp_timing.proofs.Runs.{moves_same, waits_same, next_same}
 
--- the text of so many cycles that are left, from where a timeline stands
+-- the text of the cycles that are left, from the state of a timeline on
 abbrev pub text_left : Job → Start → ℕ → ℕ → (ℕ → Option ℕ) → ℕ → ℕ → List ℕ
 text_left job start left cycle hold retired waited = timing_from (machine_of job) (state_of job start) (inputs_at job) left cycle hold retired waited
 
@@ -28,7 +28,7 @@ holds_same p q (suc n) k h =
     ap (λ (o : Option ℕ). codes " " ++ held_text o ++ holds_text p n (suc k)) (h k (omega arith) (omega arith))
     ∙ ap (λ (l : List ℕ). codes " " ++ held_text (q k) ++ l) (holds_same p q n (suc k) (λ j l x. h j (omega arith) (omega arith)))
 
--- a line tells of the n stages alone
+-- a line depends only on the n stages
 line_same : (cycle n : ℕ) (p q : ℕ → Option ℕ) (w x g y : ℕ → Bool) → ((k : ℕ) → k < n → p k ≡ q k) → ((k : ℕ) → k < n → w k ≡ x k) → ((k : ℕ) → k < n → g k ≡ y k)
     → timing_line cycle n p w g ≡ timing_line cycle n q x y
 unfolding timing_line
@@ -57,7 +57,7 @@ module _ (m : Machine) (s : ℕ → ℕ → ℕ) (inputs : ℕ → Inputs) (some
       (text_same d (cycle + 1) (next_hold m s p i) (next_hold m s q i) (r + one_if (moves_on m s q i (m.stages - 1))) (w + (if moves_on m s q i 0 then 0 else 1))
       (next_same m s p q i i same (λ k l. refl)))
 
--- the line of a cycle, and what is left behind it
+-- the line of a cycle, and what is left after it
 pub cycle_text : (t u : Timed) (ext : ℕ) (row : masks.Row) (hold : ℕ → Option ℕ) (d cycle r w : ℕ) → 1 ≤ t.job.stages.value → IsCycle t ext row u
     → ((k : ℕ) → k < t.job.stages.value → hold k ≡ hold_of t k) → ((k : ℕ) → k < t.job.stages.value → bit_of ext k ≡ is_stalled (stalls_of t.job) k cycle)
     → text_left t.job t.start (suc d) cycle (hold_of t) r w
@@ -89,7 +89,7 @@ cycle_text t u ext row hold d cycle r w some h same alike =
     ∙ ap (λ (x : Job). line ++ text_left x t.start d (cycle + 1) (hold_of u) more stayed) (sym h.job)
     ∙ ap (λ (x : Start). line ++ text_left u.job x d (cycle + 1) (hold_of u) more stayed) (sym h.start)
 
--- the whole text, from the opening on
+-- the complete text, after opening
 pub opening_text : (t : Timed) (n : ℕ) → 1 ≤ t.job.stages.value → IsOpened t.job (start_of t.job) t → timing_text t.job n ≡ text_left t.job t.start n 0 (hold_of t) 0 0
 unfolding timing_text machine_of
 opening_text t n some o =

@@ -8,8 +8,8 @@ use Rattle.kp_ast.specs.declared.tree.Block.{Block}
 use Rattle.kp_ast.specs.declared.tree.Job.{Job}
 use Rattle.kp_machine.specs.Slots.{Slot, targets_of, number_of, result_to}
 use Rattle.kp_machine.specs.Machine.{machine_of, result_for, write_stage_of}
-use Rattle.kp_tables.specs.declared.layout.Port.{Port}
-use Rattle.kp_tables.specs.Fits.{port_for, port_at}
+use Rattle.kp_synth_tables.specs.declared.layout.Port.{Port}
+use Rattle.kp_synth_tables.specs.Fits.{port_for, port_at}
 use Rattle.kp_timing.specs.declared.sites.Site.{Site}
 use Rattle.kp_timing.specs.declared.sites.Writer.{Writer}
 use Rattle.kp_timing.specs.inner.Sites.{sites_from, result_number, writer_by, writer_at, writer_with}
@@ -33,7 +33,7 @@ no_writer : (job : Job) (t : ℕ) → None ≡ port_at job t → None ≡ writer
 unfolding result_for
 no_writer job t e = sym (ap (writer_by job t) (unresulted (targets_of job.decls) job.decls 0 t (unported job t (result_for job t) (sym e))))
 
--- a port has the write stage and the first stage of the known intent
+-- a port has the write stage and the first stage in which the intent is known
 port_parts : (job : Job) (t : ℕ) (p : Port) (o : Option ResultDecl) → port_for job t o ≡ Some p → (p.write ≡ write_stage_of o) × (p.known ≡ (machine_of job).known_from t)
 port_parts job t p None e = cc
 port_parts job t p (Some r) e =
@@ -55,6 +55,6 @@ written job t None n e m = no_writer job t e
 written job t (Some p) None e m = ap (writer_by job t) m
 written job t (Some p) (Some i) e m = one_writer job t i p e m
 
--- the reads of two like jobs
+-- the reads of two equal jobs
 pub same_sites : (ds es : List Decl) (bs cs : List Block) (sites : List Site) → sites ≡ sites_from (targets_of ds) 0 bs → ds ≡ es → bs ≡ cs → sites ≡ sites_from (targets_of es) 0 cs
 same_sites ds es bs cs sites h d b = h ∙ ap (λ x. sites_from (targets_of x) 0 bs) d ∙ ap (sites_from (targets_of es) 0) b

@@ -1,11 +1,11 @@
--- Cycles, one after another.
+-- Cycles in order.
 use Rattle.std.specs.Prelude.{◌≡◌, ℕ, ◌<◌, List, [], ◌∷◌}
 use Rattle.kp_base.specs.declared.row.Row.{Row}
-use Rattle.kp_law.specs.Pipeline.{Inputs}
+use Rattle.kp_pipeline.specs.Pipeline.{Inputs}
 use Rattle.kp_sched.specs.Rows.{bit_of}
 use Rattle.kp_timing.specs.Timed.{Timed, IsCycle}
 
--- cycles under these stall words, and the rows that they give
+-- cycles under these stall words, and their rows
 pub data Cycles : Timed → List ℕ → List Row → Timed → Type 0 where
   none : {t : Timed} → Cycles t [] [] t
   one_more : {t u v : Timed} {ext : ℕ} {row : Row} {exts : List ℕ} {rows : List Row}

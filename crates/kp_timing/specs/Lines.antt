@@ -1,25 +1,25 @@
--- The text of `timing N`: a line for each cycle, and one for all.
+-- The text of `timing N`: a line for each cycle, and one for the totals.
 use Rattle.std.specs.Prelude.{ℕ, zero, suc, ◌+◌, ◌-◌, List, [], ◌++◌, Option, Some, None, Bool, codes, decimal, if◌then◌else◌}
 use Rattle.kp_ast.specs.declared.tree.Job.{Job}
-use Rattle.kp_law.specs.Machine.{Machine}
-use Rattle.kp_law.specs.Pipeline.{Inputs}
-use Rattle.kp_law.specs.Rows.{bits, one_if}
-use Rattle.kp_law.specs.Timeline.{waits, moves_on, next_hold, start_hold}
+use Rattle.kp_pipeline.specs.Machine.{Machine}
+use Rattle.kp_pipeline.specs.Pipeline.{Inputs}
+use Rattle.kp_pipeline.specs.Rows.{bits, one_if}
+use Rattle.kp_pipeline.specs.Timeline.{waits, moves_on, next_hold, start_hold}
 use Rattle.kp_stage.specs.Start.{start_of}
 use Rattle.kp_machine.specs.Machine.{machine_of, state_of, inputs_at}
 use Rattle.kp_sched.specs.Lines.{digits}
 
--- what a stage holds
+-- the instruction in a stage
 abbrev pub held_text : Option ℕ → List ℕ
 held_text None = codes "-"
 held_text (Some i) = decimal i
 
--- what n stages from k on hold, each behind a space
+-- the instructions in n stages from k on, each after a space
 abbrev pub holds_text : (ℕ → Option ℕ) → ℕ → ℕ → List ℕ
 holds_text hold zero k = []
 holds_text hold (suc n) k = codes " " ++ held_text (hold k) ++ holds_text hold n (suc k)
 
--- `cycle 1 at 1 0 - wait 100 go 010`: what the stages hold before the cycle, which of them wait, and which move on
+-- `cycle 1 at 1 0 - wait 100 go 010`: the instructions in the stages before the cycle, which stages wait, and which move on
 unfoldable pub timing_line : ℕ → ℕ → (ℕ → Option ℕ) → (ℕ → Bool) → (ℕ → Bool) → List ℕ
 timing_line cycle n hold wait go =
     codes "cycle " ++ decimal cycle ++ codes " at" ++ holds_text hold n 0 ++ codes " wait " ++ digits (bits wait n 0) ++ codes " go "
@@ -29,8 +29,8 @@ timing_line cycle n hold wait go =
 unfoldable pub total_line : ℕ → ℕ → List ℕ
 total_line retired waited = codes "retired " ++ decimal retired ++ codes " waits " ++ decimal waited ++ codes "\n"
 
--- n cycles from one on, of the timeline in which the stages hold these instructions, after so many were retired and so many cycles in
--- which stage 0 stayed
+-- n cycles from one on, of the timeline with these instructions in the stages, where `retired` instructions were retired before and stage 0 stayed in
+-- `waited` cycles
 abbrev pub timing_from : Machine → (ℕ → ℕ → ℕ) → (ℕ → Inputs) → ℕ → ℕ → (ℕ → Option ℕ) → ℕ → ℕ → List ℕ
 timing_from m s inputs zero cycle hold retired waited = total_line retired waited
 timing_from m s inputs (suc n) cycle hold retired waited =

@@ -1,16 +1,16 @@
--- A timeline that runs, and what one of its cycles does, by the timeline of the laws.
+-- A timeline that runs, and one of its cycles, in terms of the timeline of the laws.
 use Rattle.std.specs.Prelude.{◌≡◌, ℕ, ◌+◌, ◌<◌, ◌≤◌, List, Option, None, false, is_some, get_or}
 use Rattle.kp_base.specs.declared.row.Row.{Row}
 use Rattle.kp_ast.specs.declared.tree.Job.{Job}
 use Rattle.kp_stage.specs.declared.start.Start.{Start}
 use Rattle.kp_stage.specs.Counts.{summary_of}
-use Rattle.kp_law.specs.Pipeline.{Inputs}
-use Rattle.kp_law.specs.Rows.{bits}
-use Rattle.kp_law.specs.Timeline.{waits, moves_on, next_hold, start_hold}
+use Rattle.kp_pipeline.specs.Pipeline.{Inputs}
+use Rattle.kp_pipeline.specs.Rows.{bits}
+use Rattle.kp_pipeline.specs.Timeline.{waits, moves_on, next_hold, start_hold}
 use Rattle.kp_machine.specs.Machine.{machine_of, state_of}
 use Rattle.kp_sched.specs.Rows.{bit_of, row_seen}
 
--- the job, its start state, the number of cycles so far, what each stage holds, and the stages that waited in the last cycle
+-- the job, its start state, the number of cycles so far, the instruction in each stage, and the stages that waited in the last cycle
 pub record Timed : Type 0 where
   pub job : Job
   pub start : Start
@@ -31,11 +31,11 @@ pub record IsPlain (job : Job) : Type 0 where
   pub guesses : (summary_of job).guesses ≡ 0
   pub samples : (summary_of job).samples ≡ 0
 
--- what comes from outside under a stall word
+-- the inputs under a stall word
 abbrev pub stalled_by : ℕ → Inputs
 stalled_by ext = record { ext = bit_of ext; samples = λ x. 0 }
 
--- at the opening
+-- after opening
 pub record IsOpened (job : Job) (start : Start) (t : Timed) : Type 0 where
   pub same_job : t.job ≡ job
   pub same_start : t.start ≡ start
@@ -43,7 +43,7 @@ pub record IsOpened (job : Job) (start : Start) (t : Timed) : Type 0 where
   pub hold : (k : ℕ) → k < job.stages.value → hold_of t k ≡ start_hold k
   pub waits : t.waits ≡ 0
 
--- One cycle under a stall word: the row that it gives, what the stages hold then, and which of them waited.
+-- One cycle under a stall word: its row, the instructions in the stages after it, and which stages waited.
 pub record IsCycle (t : Timed) (ext : ℕ) (row : Row) (u : Timed) : Type 0 where
   pub job : u.job ≡ t.job
   pub start : u.start ≡ t.start

@@ -1,4 +1,4 @@
--- E38: a job with a guessed read or a sample has no timeline. The place is the first in the text.
+-- E38: a job with a guessed read or a sample has no timeline. The position is the first in the text.
 use Rattle.std.specs.Prelude.{List, [], ◌∷◌, ◌++◌, Option, Some, None, Bool, ◌&&◌, ◌||◌, ◌==◌, nat_lt, if◌then◌else◌}
 use Rattle.std.specs.Option.{option_map}
 use Rattle.kp_base.specs.Refusal.{e_rule}
@@ -37,16 +37,16 @@ abbrev pub guesses_at : List Block → List Place
 guesses_at [] = []
 guesses_at (b ∷ bs) = guesses_in b.stmts ++ guesses_at bs
 
--- a place that stands before another one in the text
+-- a position comes before another in the text
 abbrev pub is_before : Place → Place → Bool
 is_before a b = nat_lt a.line b.line || (a.line == b.line && nat_lt a.col b.col)
 
--- the one of two places that stands first, where there are two
+-- the earlier of two positions, if there are two
 abbrev pub earlier : Option Place → Place → Place
 earlier None b = b
 earlier (Some a) b = if is_before b a then b else a
 
--- the first of some places in the text, after one that was found before
+-- the earliest of some positions and of one that was found before
 abbrev pub first_of : Option Place → List Place → Option Place
 first_of found [] = found
 first_of found (a ∷ as_) = first_of (Some (earlier found a)) as_

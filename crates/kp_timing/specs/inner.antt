@@ -1,4 +1,4 @@
--- The definitions below here are for private contracts and proofs alone: no public clause of the crate cites them.
+-- For private contracts and proofs only: no public clause of the crate cites these definitions.
 pub mod Sites
 pub mod Deciding
 pub mod Kept

@@ -7,7 +7,7 @@ use crate::masks::is_set;
 use crate::sites::{Site, Sites, Writer};
 use std::marker::Model;
 
-/// The instructions in the stages: their numbers, and what was told of each.
+/// The instructions in the stages: their numbers, and what the sequential machine reported about each.
 #[derive(Drop)]
 pub(crate) struct Pipeline {
     pub hold: [Option<u64>; 12],
@@ -30,7 +30,7 @@ pub(crate) struct Found {
 }
 
 impl Pipeline {
-    /// The number of the instruction in a stage.
+    /// The number of the instruction in a stage. The stage is below 12.
     pub fn number(&self, k: usize) -> Option<u64>
         requires in_range { k < 12 }
         requires hold { length self.now.hold ≡ 12 }
@@ -39,7 +39,7 @@ impl Pipeline {
         self.hold[k]
     }
 
-    /// Whether a stage holds an instruction.
+    /// Whether a stage contains an instruction.
     pub fn is_full(&self, k: usize) -> bool
         requires { length self.now.hold ≡ 12 }
         ensures { result ≡ is_full self.now k }
@@ -47,7 +47,7 @@ impl Pipeline {
         k < 12 && self.hold[k].is_some()
     }
 
-    // What was told of the instruction in a stage.
+    // What was reported about the instruction in a stage.
     fn told(&self, k: usize) -> &Flight
         requires { k < length self.now.told }
         ensures { result.now ≡ told_in self.now k }
@@ -56,7 +56,7 @@ impl Pipeline {
     }
 }
 
-// Whether stage k may write a target at an address, by what was told of its instruction.
+// Whether stage k may write a target at an address, by what was reported about its instruction.
 fn may_write(writer: Writer, told: &Flight, k: usize, address: u32) -> bool
     ensures { result ≡ may_write_by writer told.now k address }
 {
@@ -67,7 +67,7 @@ fn may_write(writer: Writer, told: &Flight, k: usize, address: u32) -> bool
     result < told.writes.len() && told.writes[result] == Some(address)
 }
 
-// Whether the result of its instruction is ready there.
+// Whether the result of the instruction in stage k is ready there.
 fn is_ready(writer: Writer, told: &Flight, k: usize, is_blocked: bool) -> bool
     ensures { result ≡ is_ready_by writer told.now k is_blocked }
 {
@@ -88,7 +88,7 @@ fn setting_of(told: &Flight, number: usize) -> usize
     }
 }
 
-// Whether the nearest of the stages from one on that may write a target is ready.
+// Whether a read is met by the nearest stage, from one on, that may write its target: that stage has the result ready, or there is none.
 fn is_met_from(
     writer: Writer,
     held: &Pipeline,
@@ -173,7 +173,7 @@ fn some_unmet(sites: &Sites, held: &Pipeline, blocked: &[bool; 13], k: usize) ->
     false
 }
 
-/// Which stages wait and which are blocked under a stall word, from the last one down.
+/// Which stages wait and which are blocked under a stall word with bit k for stage k, decided from the last stage down.
 pub(crate) fn find(sites: &Sites, held: &Pipeline, ext: u16) -> Found
     requires hold { length held.now.hold ≡ 12 }
     requires told { sites.now.stages ≤ length held.now.told }
@@ -195,7 +195,7 @@ pub(crate) fn find(sites: &Sites, held: &Pipeline, ext: u16) -> Found
     }
 }
 
-// Whether stage k is blocked: it holds an instruction and waits, is stalled from outside, or the next stage is blocked.
+// Whether stage k is blocked: it contains an instruction, and waits, is stalled from outside, or the next stage is blocked.
 fn is_blocked(held: &Pipeline, ext: u16, blocked: &[bool; 13], k: usize, is_waiting: bool) -> bool
     requires hold { length held.now.hold ≡ 12 }
     requires stage { k < 12 }
@@ -205,7 +205,7 @@ fn is_blocked(held: &Pipeline, ext: u16, blocked: &[bool; 13], k: usize, is_wait
 }
 
 impl Found {
-    /// Whether a stage moves its instruction on: it holds one and isn't blocked.
+    /// Whether a stage moves its instruction on: it contains one and isn't blocked.
     pub fn moves(&self, held: &Pipeline, k: usize) -> bool
         requires hold { length held.now.hold ≡ 12 }
         requires stage { k < 12 }
@@ -215,8 +215,8 @@ impl Found {
     }
 }
 
-/// The instructions move on, from the last stage down: each stage takes the instruction of the one before it where that moves on, or
-/// keeps its own where it is blocked. Stage 0 is left as it is.
+/// Moves the instructions on, from the last stage down: each stage receives the instruction of the one before it if that one moves on, keeps its own
+/// if it is blocked, and is empty otherwise. Stage 0 is left unchanged.
 pub(crate) fn move_on(held: &mut Pipeline, blocked: &[bool; 13], stages: usize)
     requires hold { length held.old.hold ≡ 12 }
     requires told { stages ≤ length held.old.told }
@@ -230,7 +230,7 @@ pub(crate) fn move_on(held: &mut Pipeline, blocked: &[bool; 13], stages: usize)
     }
 }
 
-// Stage k takes the instruction of the one before it, or keeps its own.
+// Stage k receives the instruction of the one before it, keeps its own, or becomes empty.
 fn move_into(held: &mut Pipeline, blocked: &[bool; 13], k: usize)
     requires hold { length held.old.hold ≡ 12 }
     requires told { k < length held.old.told }

@@ -1,4 +1,4 @@
-//! What was told of an instruction in flight.
+//! What the sequential machine reported about an instruction in flight.
 ghost use Rattle.std.specs.Prelude.{◌≡◌, ◌<◌, ◌^◌, None, IfOk, length, get_or};
 
 use kp_base::NoMemory;
@@ -6,7 +6,7 @@ use kp_seq::SeqMachine;
 use std::alloc::Global;
 use std::marker::Model;
 
-/// The addresses of its reads and of its results, and the setting stages of these, each by number.
+/// The addresses of its reads and of its results, and the stages in which the results are set, each by number.
 #[derive(Drop)]
 pub(crate) struct Flight {
     pub reads: Vec<Option<u32>>,
@@ -23,7 +23,7 @@ impl Model for Flight {
 }
 
 impl Flight {
-    /// Room for an instruction with so many reads and results.
+    /// An empty record for an instruction with the given numbers of reads and results. The only error is out of memory.
     pub fn new(alloc: Global, reads: usize, results: usize) -> Result<Flight, NoMemory>
         ensures reads { IfOk result (λ f. length f.reads ≡ reads) }
         ensures writes { IfOk result (λ f. length f.writes ≡ results) }
@@ -36,7 +36,7 @@ impl Flight {
         })
     }
 
-    /// The address of a read, where its condition held.
+    /// The address of a read, if its condition was true.
     pub fn read(&self, number: usize) -> Option<u32>
         ensures { result ≡ get_or self.now.reads number None }
     {
@@ -47,7 +47,7 @@ impl Flight {
         }
     }
 
-    /// Takes what a machine tells of its last instruction.
+    /// Copies what a machine reports about its last instruction.
     pub fn take(&mut self, machine: &SeqMachine)
         requires reads { length self.old.reads ≡ length machine.now.last.reads }
         requires writes { length self.old.writes ≡ length machine.now.last.writes }

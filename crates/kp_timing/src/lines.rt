@@ -1,6 +1,6 @@
 //! The lines of the text of a timeline.
 ghost use Rattle.std.specs.Prelude.{◌≡◌, ◌+◌, ◌*◌, ◌≤◌, ◌++◌, None, length, take, get_or, codes, if◌then◌else◌};
-ghost use Rattle.kp_law.specs.Rows.{bits};
+ghost use Rattle.kp_pipeline.specs.Rows.{bits};
 ghost use Rattle.kp_sched.specs.Rows.{bit_of};
 ghost use Rattle.kp_sched.specs.Lines.{digits};
 ghost use Rattle.kp_timing.specs.Lines.{timing_line as timing_line_of, total_line as total_line_of, held_text, holds_text};
@@ -8,11 +8,11 @@ ghost use Rattle.kp_timing.specs.Lines.{timing_line as timing_line_of, total_lin
 use crate::masks::is_set;
 use itoa::Buffer;
 
-/// How many bytes a line of a timeline of at most 12 stages has at most.
+/// The maximal length in bytes of a line of a timeline of at most 12 stages.
 pub const LINE: usize = 400;
 
-/// Writes the line of a cycle of n stages at the front of `out`, with its line feed, and gives its length: what the stages held before it,
-/// and the words of those that waited and of those that moved on.
+/// Writes the line of a cycle of n stages to the front of `out`, with its line feed, and returns its length: the instructions in the stages before
+/// the cycle, the mask of the stages that waited and that of the stages that moved on. Bit k of a mask belongs to stage k.
 #[tactic(auto, unfolding(crate::specs::Lines::timing_line))]
 pub fn timing_line(
     cycle: u64,
@@ -38,8 +38,8 @@ pub fn timing_line(
     put(out, at, b"\n")
 }
 
-/// Writes the last line at the front of `out`, with its line feed, and gives its length: how many instructions were retired, and in how many
-/// cycles stage 0 didn't move.
+/// Writes the last line to the front of `out`, with its line feed, and returns its length: how many instructions were retired, and in how many cycles
+/// stage 0 didn't move.
 #[tactic(auto, unfolding(crate::specs::Lines::total_line))]
 pub fn total_line(retired: u64, waited: u64, out: &mut [u8; LINE]) -> usize
     ensures length { result ≤ 400 }
@@ -54,7 +54,7 @@ pub fn total_line(retired: u64, waited: u64, out: &mut [u8; LINE]) -> usize
     put(out, at, b"\n")
 }
 
-// Writes a piece behind what stands before a place, and gives the place behind it.
+// Writes a piece at an offset, and returns the offset after it.
 fn put(out: &mut [u8; LINE], at: usize, piece: &[u8]) -> usize
     requires { at + length piece.now ≤ 400 }
     ensures place { result ≡ at + length piece.now }
@@ -66,7 +66,7 @@ fn put(out: &mut [u8; LINE], at: usize, piece: &[u8]) -> usize
     at + piece.len()
 }
 
-// The same of what the stages hold.
+// The same for the instructions in the stages.
 fn put_holds(out: &mut [u8; LINE], at: usize, hold: &[Option<u64>; 12], n: u8) -> usize
     requires few { n ≤ 12 }
     requires room { at + 21 * n ≤ 400 }
@@ -95,7 +95,7 @@ fn put_held(out: &mut [u8; LINE], at: usize, held: Option<u64>) -> usize
     }
 }
 
-// The same of the bits of n stages, as digits.
+// The same for the bits of n stages, as digits.
 fn put_digits(out: &mut [u8; LINE], at: usize, word: u16, n: u8) -> usize
     requires few { n ≤ 12 }
     requires room { at + n ≤ 400 }

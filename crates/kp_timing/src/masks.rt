@@ -1,9 +1,9 @@
-//! Words of bits, of which bit k belongs to stage k.
+//! Bit masks, in which bit k belongs to stage k.
 ghost use Rattle.std.specs.Prelude.{◌≡◌, ℕ, ◌+◌, ◌*◌, ◌^◌, ◌<◌, false, get_or};
-ghost use Rattle.kp_law.specs.Rows.{one_if};
+ghost use Rattle.kp_pipeline.specs.Rows.{one_if};
 ghost use Rattle.kp_sched.specs.Rows.{bit_of};
 
-/// The word of these bits.
+/// The mask with these bits.
 pub(crate) fn mask_of(bits: &[bool; 12]) -> u16
     ensures { (k : ℕ) → bit_of result k ≡ get_or bits.now k false }
 {
@@ -16,7 +16,7 @@ pub(crate) fn mask_of(bits: &[bool; 12]) -> u16
     mask
 }
 
-// A word with one more bit below.
+// A mask shifted up by one, with a new lowest bit.
 fn pushed(mask: u16, bit: bool) -> u16
     requires { mask < 2 ^ 15 }
     ensures { result ≡ 2 * mask + one_if bit }
@@ -24,7 +24,7 @@ fn pushed(mask: u16, bit: bool) -> u16
     if bit { 2 * mask + 1 } else { 2 * mask }
 }
 
-/// Bit k of a word.
+/// Bit k of a mask.
 pub(crate) fn is_set(word: u16, k: usize) -> bool
     requires { k < 16 }
     ensures { result ≡ bit_of word k }

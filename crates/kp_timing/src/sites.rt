@@ -1,4 +1,4 @@
-//! What a timeline looks up of its job.
+//! The tables of a job that its timeline uses.
 ghost use Rattle.std.specs.Prelude.{◌≡◌, ℕ, ◌<◌, ◌++◌, None, IfOk, OnOk, length, get_or};
 ghost use Rattle.kp_machine.specs.Slots.{targets_of, number_of};
 ghost use Rattle.kp_timing.specs.inner.Sites.{AreSites, result_number, sites_in, sites_from, writer_at, writer_with};
@@ -6,7 +6,7 @@ ghost use Rattle.kp_timing.specs.inner.Sites.{AreSites, result_number, sites_in,
 use kp_ast::{Block, Decl, Name, Stmt, StmtKind};
 use kp_base::NoMemory;
 use kp_stage::Design;
-use kp_tables::{Layout, Port};
+use kp_synth_tables::{Layout, Port};
 use std::alloc::Global;
 use std::marker::Model;
 
@@ -43,7 +43,7 @@ impl Model for Sites {
 }
 
 impl Sites {
-    /// Those of a design.
+    /// The tables of a design. The only error is out of memory.
     pub fn of(alloc: Global, d: &Design) -> Result<Sites, NoMemory>
         ensures { IfOk result (λ s. AreSites d.now.job s) }
     {
@@ -71,7 +71,7 @@ impl Sites {
         self.reads.as_slice()
     }
 
-    /// How a target is written, where it is.
+    /// How a target is written, if it is.
     pub fn writer(&self, target: usize) -> Option<Writer>
         ensures { result ≡ get_or self.now.writers target None }
     {
@@ -107,7 +107,7 @@ fn add_sites(sites: &mut Vec<Site>, decls: &[Decl], k: u64, stmts: &[Stmt]) -> R
     Ok(())
 }
 
-// The number of a target among the registers and files, or how many there are where none has the name.
+// The number of a target among the registers and files, or their number if none has the name.
 fn target_number(decls: &[Decl], name: &Name) -> usize
     ensures { result ≡ number_of (targets_of decls.now) name.now }
 {
@@ -153,7 +153,7 @@ fn writer_of(layout: &Layout, t: u32) -> Option<Writer>
     )
 }
 
-// How a target is written by its port and by the number of its result.
+// How a target is written, from its port and the number of its result.
 fn writer_with(port: Option<Port>, number: Option<usize>) -> Option<Writer>
     ensures { result ≡ writer_with port number }
 {

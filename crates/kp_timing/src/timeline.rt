@@ -1,3 +1,4 @@
+// A timeline that runs cycle by cycle.
 ghost use Rattle.std.specs.Prelude.{◌≡◌, ℕ, ◌-◌, ◌≤◌, ◌<◌, ◌^◌, [], IfOk, None, length, get_or, set, unwrap_or};
 ghost use Rattle.kp_stage.specs.Counts.{summary_of};
 ghost use Rattle.kp_stage.specs.Start.{IsStartOf};
@@ -19,9 +20,8 @@ use kp_stage::{Design, Start};
 use std::alloc::Global;
 use std::marker::Model;
 
-/// A timeline, seen as its job and start state, the number of its cycles, the instructions that its stages hold, and the stages that
-/// waited in the last cycle. The sequential machine runs ahead of it: an instruction is run when stage 0 takes it.
-#[derive(Drop)]
+/// A timeline, specified by its job and start state, the number of its cycles, the instructions in its stages, and the stages that waited in the last
+/// cycle. The sequential machine runs ahead of it: an instruction is executed when it enters stage 0.
 pub struct Timeline<'a> {
     design: &'a Design,
     start: &'a Start,
@@ -30,6 +30,23 @@ pub struct Timeline<'a> {
     held: Pipeline,
     waits: u16,
     cycles: u64,
+}
+
+impl Drop for Timeline<'_> {
+    fn drop(self) {
+        let Timeline {
+            design: _,
+            start: _,
+            machine,
+            sites,
+            held,
+            waits: _,
+            cycles: _,
+        } = self;
+        drop(machine);
+        drop(sites);
+        drop(held);
+    }
 }
 
 impl<'a> Model for Timeline<'a> {
@@ -48,8 +65,8 @@ impl<'a> Model for Timeline<'a> {
 }
 
 impl<'a> Timeline<'a> {
-    /// The timeline of a design without guesses and samples from a start state: stage 0 holds instruction 0. Takes all its memory here,
-    /// and want of it is the one refusal.
+    /// The timeline of a design without guesses and samples from a start state: stage 0 contains instruction 0. All memory is allocated here; the
+    /// only error is out of memory.
     pub fn open(alloc: Global, d: &'a Design, start: &'a Start) -> Result<Timeline<'a>, NoMemory>
         requires suits { IsStartOf d.now.job start.now }
         requires plain { IsPlain d.now.job }
@@ -73,8 +90,8 @@ impl<'a> Timeline<'a> {
         })
     }
 
-    /// One cycle under a stall word, whose bit k stalls stage k, and its row: the stages that hold an instruction, those that move it
-    /// on, and 0. Takes no memory.
+    /// Runs one cycle under a stall word, whose bit k stalls stage k, and returns its row: the mask of the stages that contain an instruction, the
+    /// mask of those that move it on, and 0. Allocates nothing.
     pub fn cycle(&mut self, ext: u16) -> Row
         requires { self.old.cycles < 2 ^ 32 }
         ensures { IsCycle self.old ext result self.new }
@@ -97,7 +114,7 @@ impl<'a> Timeline<'a> {
         self.sites.stages() as u8
     }
 
-    /// The number of the instruction in stage k, or None exactly where it holds nothing.
+    /// The number of the instruction in stage k, or `None` exactly if the stage is empty.
     pub fn at(&self, k: u8) -> Option<u64>
         requires { k < self.now.job.stages.value }
         ensures { result ≡ hold_of self.now k }
@@ -105,7 +122,7 @@ impl<'a> Timeline<'a> {
         self.held.number(usize::from(k))
     }
 
-    /// The stages that held an instruction and waited in the last cycle: bit k belongs to stage k. Before the first cycle it is 0.
+    /// The mask of the stages that contained an instruction and waited in the last cycle: bit k belongs to stage k. Before the first cycle it is 0.
     pub fn waits(&self) -> u16
         ensures { result ≡ self.now.waits }
     {
@@ -113,7 +130,7 @@ impl<'a> Timeline<'a> {
     }
 }
 
-// Room for what is told of an instruction in each stage.
+// Empty records for an instruction in each stage.
 fn flights(alloc: Global, stages: usize, reads: u32, results: u32) -> Result<Vec<Flight>, NoMemory>
     ensures few_reads { reads < 2 ^ 32 }
     ensures few_results { results < 2 ^ 32 }
@@ -130,7 +147,7 @@ fn flights(alloc: Global, stages: usize, reads: u32, results: u32) -> Result<Vec
     Ok(flights)
 }
 
-// The row of a cycle in which these stages are found blocked.
+// The row of a cycle in which these stages are blocked.
 fn row_of(held: &Pipeline, found: &Found, stages: usize) -> Row
     requires hold { length held.now.hold ≡ 12 }
     requires few { stages ≤ 12 }
@@ -151,7 +168,7 @@ fn row_of(held: &Pipeline, found: &Found, stages: usize) -> Row
     }
 }
 
-// The instructions move on, and where that of stage 0 does, it takes the next one.
+// Moves the instructions on, and if that of stage 0 moves, fetches the next one.
 fn advance(machine: &mut SeqMachine, held: &mut Pipeline, found: &Found, stages: usize)
     requires samples { samples_of machine.old.job.decls ≡ [] }
     requires hold { length held.old.hold ≡ 12 }
@@ -172,7 +189,7 @@ fn advance(machine: &mut SeqMachine, held: &mut Pipeline, found: &Found, stages:
     }
 }
 
-// Stage 0 takes the next instruction, which the machine runs.
+// Stage 0 receives the next instruction, which the machine executes.
 fn fetch(machine: &mut SeqMachine, held: &mut Pipeline)
     requires samples { samples_of machine.old.job.decls ≡ [] }
     requires hold { length held.old.hold ≡ 12 }
@@ -192,7 +209,7 @@ fn fetch(machine: &mut SeqMachine, held: &mut Pipeline)
     held.hold[0] = Some(newest + 1);
 }
 
-// The machine runs the next instruction, and what it tells of that stands for stage 0.
+// The machine executes the next instruction, and what it reports is stored for stage 0.
 fn run_next(machine: &mut SeqMachine, flights: &mut [Flight])
     requires samples { samples_of machine.old.job.decls ≡ [] }
     requires flights { 1 ≤ length flights.old }

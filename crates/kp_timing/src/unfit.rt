@@ -1,11 +1,11 @@
-//! What has no timeline.
+//! What has no timeline: guessed reads and samples.
 ghost use Rattle.std.specs.Prelude.{◌≡◌};
 ghost use Rattle.kp_timing.specs.Unfit.{untimed, is_before, earlier, samples_at, guesses_at, guesses_in, first_of, first_place};
 
 use kp_ast::{Block, Decl, Job, Stmt, StmtKind};
 use kp_base::{Place, Refusal};
 
-/// E38: the first place in the text of a guessed read's target and of a sample's declared name, where there is one.
+/// E38 at the first position in the text of a guessed read's target or of a sample's declared name, if there is one.
 #[tactic(auto, unfolding(crate::specs::Unfit::untimed), using(crate::proofs::Places::first_both))]
 pub fn untimed(job: &Job) -> Option<Refusal>
     ensures { result ≡ untimed job.now }
@@ -52,7 +52,7 @@ fn first_in(stmts: &[Stmt], before: Option<Place>) -> Option<Place>
     first
 }
 
-// The one of two places that stands first in the text.
+// The position that comes first in the text.
 fn earlier(found: Option<Place>, b: Place) -> Place
     ensures { result ≡ earlier found b }
 {

@@ -1,19 +1,19 @@
 -- The ends of the top call: from what is due of an answer to what is due of words and bytes.
-use Rattle.std.proofs.Common.{true, false, ◌≡◌, ◌≢◌, ℕ, List, [], length, None, Some, refl, subst, inl, arith}
+use Rattle.std.proofs.Common.{true, false, ◌≤◌, ◌≡◌, ◌≢◌, ℕ, List, [], length, None, Some, refl, subst, inl, arith}
 use Rattle.std.specs.declared.option.Option.{Option}
 use Rattle.std.specs.Io.KnownBytes.{Consumes, IsAtEnd}
 use Rattle.kp_base.specs.declared.refusal.Refusal.{Refusal}
-use Rattle.kp_words.specs.declared.words.Command.{Command}
-use Rattle.kp_words.specs.Words.{command_of, reads_input}
-use Rattle.kp_judge.specs.Judging.{too_long}
-use Rattle.kp_due.proofs.Dues.{too_long_is_due}
-use Rattle.kp_due.proofs.Refusals.{refused_where_broken}
-use Rattle.kp_due.specs.Due.{DueFor, IsFinal, Completes, Begins, Between}
-use Rattle.kp_due.specs.Refused.{Breaks}
-use Rattle.kp_decide.specs.Answers.{Answers}
-use Rattle.kp_decide.specs.declared.answer.Answer.{Answer}
-use Rattle.kp_decide.specs.declared.answer.Answer.TheVariants as answers
-use Rattle.kp_ready.specs.Ends.{Finishes, BreaksOff}
+use Rattle.kp_tool_words.specs.declared.words.Command.{Command}
+use Rattle.kp_tool_words.specs.Words.{command_of, reads_input}
+use Rattle.kp_frontend.specs.Judging.{too_long}
+use Rattle.kp_tool_spec.proofs.Dues.{too_long_is_due}
+use Rattle.kp_tool_spec.proofs.Refusals.{refused_where_broken}
+use Rattle.kp_tool_spec.specs.Due.{DueFor, IsFinal, Completes, Begins, Between}
+use Rattle.kp_tool_spec.specs.Refused.{Breaks}
+use Rattle.kp_tool.specs.Answers.{Answers}
+use Rattle.kp_tool.specs.declared.answer.Answer.{Answer}
+use Rattle.kp_tool.specs.declared.answer.Answer.TheVariants as answers
+use Rattle.kp_tool.specs.Ends.{Finishes, BreaksOff}
 use Rattle.kp_tool.specs.inner.Decides.{Decides}
 use Rattle.kp_tool.specs.inner.Stop.{stop_status}
 use Rattle.kp_tool.specs.declared.Stop.{Stop}
@@ -23,7 +23,7 @@ nothing_taken : (left : Option (List ℕ)) → Consumes left left []
 nothing_taken None = tt
 nothing_taken (Some bytes) = refl
 
--- of words that are not accepted the source is left as it is
+-- if the arguments are not accepted, the source is left unchanged
 pub bad_words_decided : (words : List (List ℕ)) (left : Option (List ℕ)) → command_of words ≡ None → Decides words left left answers.BadWords
 unfolding Decides
 bad_words_decided words left none = λ status text says. record {
@@ -33,7 +33,7 @@ bad_words_decided words left none = λ status text says. record {
   due = rw none says;
 }
 
--- of a command that reads nothing the answer is due, and the source is left as it is
+-- the answer of a command that reads nothing is as specified, and the source is left unchanged
 pub nothing_decided : (words : List (List ℕ)) (command : Command) (left : Option (List ℕ)) (answer : Answer) → command_of words ≡ Some command
     → reads_input (Some command) ≡ false → Answers command [] answer → Decides words left left answer
 unfolding Answers Decides
@@ -44,14 +44,14 @@ nothing_decided words command left answer is reads says = λ status text said. r
   due = rw is (says status text said);
 }
 
--- an answer to a command over the whole input is due
+-- the answer of a command for the complete input is as specified
 pub input_decided : (words : List (List ℕ)) (command : Command) (old new : Option (List ℕ)) (input : List ℕ) (answer : Answer) → command_of words ≡ Some command
-    → reads_input (Some command) ≡ true → Consumes old new input → IsAtEnd new → Answers command input answer → Decides words old new answer
+    → reads_input (Some command) ≡ true → Consumes old new input → IsAtEnd new → length input ≤ 16777216 → Answers command input answer → Decides words old new answer
 unfolding Answers Decides
-input_decided words command old new input answer is reads consumed end says = λ status text said. record {
+input_decided words command old new input answer is reads consumed end short says = λ status text said. record {
   taken = input;
   consumed = consumed;
-  whole = rw (is, reads) (inl end);
+  whole = rw (is, reads) (inl (end, short));
   due = rw is (says status text said);
 }
 
@@ -63,7 +63,7 @@ too_long_decided words command old new taken refusal is reads consumed count sam
     rw (says.0, says.1, same) (too_long_is_due words command old new taken is reads consumed count)
 
 module _ (words : List (List ℕ)) (left left_after held held_after : Option (List ℕ)) where
-  -- what is written of an answer is due where the answer was decided on
+  -- what is written of an answer is as specified if the answer was decided from the arguments and the source
   pub completes : (answer : Answer) (status : ℕ) → Decides words left left_after answer → Finishes answer held held_after status
       → IsFinal status × Completes words left left_after held held_after status
   unfolding Decides Finishes
@@ -73,7 +73,7 @@ module _ (words : List (List ℕ)) (left left_after held held_after : Option (Li
   unfolding Decides BreaksOff
   begins answer due (status, text, says, part) = (status, text, due status text says, part)
 
-  -- what is due of a command holds of the bytes that were read and written
+  -- what is true of a command's specified outcomes is true of the bytes that were read and written
   pub between : (command : Command) (end status : ℕ) (Fact : List ℕ → List ℕ → Type 0)
       → ((input text : List ℕ) → DueFor (Some command) input end text → Fact input text)
       → command_of words ≡ Some command → status ≡ end → Completes words left left_after held held_after status
@@ -82,13 +82,13 @@ module _ (words : List (List ℕ)) (left left_after held held_after : Option (Li
       let due = subst (λ (s : ℕ). DueFor (Some command) is_due.taken s text) same (subst (λ (c : Option Command). DueFor c is_due.taken status text) is is_due.due) in
       (is_due.taken, text, is_due.consumed, written, law is_due.taken text due)
 
-  -- and where the status isn't that of a broken rule, no rule is broken
+  -- and if the status isn't that of a violated rule, no rule is violated
   pub not_refused : (command : Command) (status : ℕ) → command_of words ≡ Some command → status ≢ 2 → Completes words left left_after held held_after status
       → Between left left_after held held_after (λ input text. (refusal : Refusal) → Breaks command input refusal → ⊥)
   not_refused command status is other completes =
       between command status status _ (λ input text due refusal broken. other (refused_where_broken command input status text refusal due broken)) is refl completes
 
--- the ends that are not due have statuses of their own
+-- the three failures have statuses of their own
 pub never_zero : (stop : Stop) (status : ℕ) → status ≡ stop_status stop → status ≡ 0 → ⊥
 never_zero ReadFault status is zero = omega arith
 never_zero WriteFault status is zero = omega arith

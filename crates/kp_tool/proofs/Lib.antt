@@ -1,1 +1,9 @@
+pub mod Answering
+pub mod Compared
 pub mod Ends
+pub mod Found
+pub mod IfOks
+pub mod Modules
+pub mod Running
+pub mod Summed
+pub mod Written

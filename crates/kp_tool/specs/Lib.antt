@@ -1,1 +1,5 @@
+pub mod Answers
+pub mod Watching
+pub mod Readies
+pub mod Ends
 pub mod inner

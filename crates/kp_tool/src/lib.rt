@@ -1,31 +1,63 @@
-//! The top call: from the words of a command line and a source to a status and a sink.
+//! The top call: from the arguments of a command line and a source to a status and a sink. There are two phases.
+//!
+//! `carry_out` checks the rules on the input. Its result, an `Answer`, is the first rule that the input violates, or what the command needs: a job, a
+//! netlist, an assembled program. Nothing is synthesised or run yet, but `equiv` compares its two netlists here, since the verdict decides the
+//! status. `specs/Answers.antt` specifies the status and the text of each answer. The only error is out of memory.
+//!
+//! `conclude` then runs the answer and writes it. `made_ready` is given the allocator and no sink: it synthesises and runs what the answer
+//! needs. `Settled::write`, and `write_timing` of kp_timing for a timeline, are given the sink and no allocator: from there on only the sink can
+//! fail. The machine that a script goes through is synthesised and opened by the function that writes, before it does. The status and
+//! the text of what is ready are those of `specs/Readies.antt`, which are what the answer says.
 #![tactic(auto)]
+
+mod answer;
+mod comparing;
+mod comparison;
+mod concluding;
+mod debugging;
+mod deciding;
+mod dumping;
+mod generation;
+mod ready;
+mod script;
+mod scripting;
+mod simulating;
+mod stepping;
+mod summing;
+mod timed;
+mod verilog;
+mod watch;
+mod watched;
+mod watching;
+mod writing;
 
 ghost use Rattle.std.specs.Prelude.{◌≡◌, ◌≢◌, ◌++◌, map, string_bytes, List, ℕ, true, false, None, Some, IfOk, IfSome, IsErrOf};
 ghost use Rattle.kp_base.specs.Causes.{Rose};
 ghost use Rattle.kp_base.specs.Refusal.{e_rule};
 ghost use Rattle.kp_base.specs.declared.refusal.Refusal.{Refusal};
-ghost use Rattle.kp_words.specs.Words.{command_of, reads_input};
-ghost use Rattle.kp_words.specs.declared.words.Command.{Command};
-ghost use Rattle.kp_words.specs.declared.words.Command.TheVariants.{OnJob, Watch, Compare, Debug};
-ghost use Rattle.kp_words.specs.declared.words.JobCommand.TheVariants.{Sim, Timing, Pipe};
+ghost use Rattle.kp_tool_words.specs.Words.{command_of, reads_input};
+ghost use Rattle.kp_tool_words.specs.declared.words.Command.{Command};
+ghost use Rattle.kp_tool_words.specs.declared.words.Command.TheVariants.{OnJob, Watch, Compare, Debug};
+ghost use Rattle.kp_tool_words.specs.declared.words.JobCommand.TheVariants.{Sim, Timing, Pipe};
 ghost use Rattle.kp_sched.specs.Runs.{IsLegal};
-ghost use Rattle.kp_show.specs.Texts.{refusal_line};
-ghost use Rattle.kp_due.specs.Due.{Due, IsFinal, Completes, Begins, Between};
-ghost use Rattle.kp_due.specs.Headline.{IsMoving, HasNoNeedlessStall, IsVerilogWith, IsRunWith, IsTimed, IsDebuggedWith, IsNetlistWith, IsPairAlike};
-ghost use Rattle.kp_due.specs.Refused.{Breaks};
-ghost use Rattle.kp_ready.specs.Ends.{Finishes, BreaksOff};
+ghost use Rattle.kp_synth_spec.specs.Legal.{IsLegalFrom};
+ghost use Rattle.kp_tool_report.specs.Texts.{refusal_line};
+ghost use Rattle.kp_tool_spec.specs.Due.{Due, IsFinal, Completes, Begins, Between};
+ghost use Rattle.kp_tool_spec.specs.Headline.{IsMoving, HasNoNeedlessStall, HasNoNeedlessStallFrom, IsVerilogWith, IsRunWith, IsTimed, IsDebuggedWith, IsNetlistWith, IsPairAlike};
+ghost use Rattle.kp_tool_spec.specs.Refused.{Breaks};
+ghost use Rattle.kp_tool.specs.Ends.{Finishes, BreaksOff};
 ghost use Rattle.kp_tool.specs.inner.Decides.{Decides};
 ghost use Rattle.kp_tool.specs.inner.Stop.{stop_status};
 ghost use Rattle.kp_tool.specs.declared.Stop.TheVariants as stop;
 
+use answer::Answer;
+use concluding::{Unfinished, conclude};
+use deciding::carry_out;
 use kp_base::{NoMemory, Place, ReadAll, Refusal, Sink, Source, read_all};
-use kp_decide::{Answer, carry_out};
-use kp_ready::{Unfinished, conclude};
-use kp_words::Command;
+use kp_tool_words::Command;
 use std::alloc::{AllocError, Global};
 
-/// Why no due outcome was reached.
+/// Why there is no specified outcome: the three failures.
 #[derive(Clone, Copy, Debug, PartialEq, Eq)]
 enum Stop {
     ReadFault,
@@ -61,31 +93,34 @@ impl From<NoMemory> for Stop {
     }
 }
 
-/// Does what the words say, and answers the status.
+/// Carries out a command line: reads the source if the command needs it, writes the text to the sink and returns the status. The status is 3 for a
+/// fault of the source, 4 for a fault of the sink, 5 for out of memory, and otherwise that of the specified outcome: 0, 1 (arguments not accepted), 2
+/// (a rule of the language is violated), 6 (a rule of Verilog is violated) or 7 (a difference).
 pub fn tool<S: Source, K: Sink>(alloc: Global, words: &[String], source: &mut S, sink: &mut K) -> u8
-    // Any status but three is the due one, and the due text of all bytes that were left was written.
+    // Any status but 3, 4 and 5 is the specified one, and the specified text for all bytes that were left in the source was written.
     ensures due { IsFinal result → Completes (map string_bytes words.now) (S.left source.old) (S.left source.new)
         (K.held sink.old) (K.held sink.new) result }
 
-    // A command that reads nothing, and no command, leave the source as it is.
+    // A command that reads nothing leaves the source unchanged, and so do arguments that are no command.
     ensures unread { reads_input (command_of (map string_bytes words.now)) ≡ false → source.new ≡ source.old }
 
-    // A fault only where the source or the sink failed in this call, and want of memory only with nothing written.
+    // A fault only if the source or the sink failed in this call, and out of memory only with nothing written.
     ensures read_fault { result ≡ 3 → Rose (S.faults source.old) (S.faults source.new) × (sink.new ≡ sink.old) }
     ensures write_fault { result ≡ 4 → Rose (K.faults sink.old) (K.faults sink.new) × Begins (map string_bytes words.now)
         (S.left source.old) (S.left source.new) (K.held sink.old) (K.held sink.new) }
     ensures no_memory { result ≡ 5 → sink.new ≡ sink.old }
 
-    // Where the bytes are told and nothing failed, the due status with the whole due text, unless memory runs out.
+    // If the contents of the source and the sink are known and neither failed, the outcome is the specified one, with its complete text, unless out
+    // of memory.
     ensures complete { ¬ Rose (S.faults source.old) (S.faults source.new) → ¬ Rose (K.faults sink.old) (K.faults sink.new)
         → result ≢ 5 → IfSome (S.left source.old) (λ input. IfSome (K.held sink.old) (λ before.
         (text : List ℕ) × Due (map string_bytes words.now) input result text × (K.held sink.new ≡ Some (before ++ text)))) }
 
-    // Exactly where the words are not accepted.
+    // Status 1 exactly if the arguments are not accepted.
     ensures bad_words { result ≡ 1 → command_of (map string_bytes words.now) ≡ None }
     ensures bad_words_only { command_of (map string_bytes words.now) ≡ None → IsFinal result → result ≡ 1 }
 
-    // Status 2 comes by the first rule that the input breaks, and wherever it breaks one.
+    // Status 2 comes with the first rule that the input violates, and whenever it violates one.
     ensures refused { (command : Command) → command_of (map string_bytes words.now) ≡ Some command → result ≡ 2
         → Between (S.left source.old) (S.left source.new) (K.held sink.old) (K.held sink.new)
         (λ input text. (refusal : Refusal) × Breaks command input refusal × (text ≡ refusal_line refusal)) }
@@ -93,18 +128,19 @@ pub fn tool<S: Source, K: Sink>(alloc: Global, words: &[String], source: &mut S,
         → Between (S.left source.old) (S.left source.new) (K.held sink.old) (K.held sink.new)
         (λ input text. (refusal : Refusal) → Breaks command input refusal → ⊥) }
 
-    // The headline. What `pipe` writes denotes a netlist of which every run that never raises the reset, whatever comes in, is legal: each
-    // register and each word of a file has its value in the sequential machine after as many instructions as its stage let pass.
+    // The headline. What `pipe` writes denotes a netlist of which every run is legal, for all inputs: each register and each word of a file has the
+    // value of the sequential machine after as many instructions as its stage has completed. In whatever state the reset is raised, the machine
+    // restarts over the contents that the memories have at that time, and its runs are legal from there on.
     ensures pipe_is_legal { command_of (map string_bytes words.now) ≡ Some (OnJob Pipe) → result ≡ 0
-        → Between (S.left source.old) (S.left source.new) (K.held sink.old) (K.held sink.new) (IsVerilogWith IsLegal) }
+        → Between (S.left source.old) (S.left source.new) (K.held sink.old) (K.held sink.new) (IsVerilogWith IsLegalFrom) }
     // Any n stall-free cycles of it retire an instruction.
     ensures pipe_moves { command_of (map string_bytes words.now) ≡ Some (OnJob Pipe) → result ≡ 0
-        → Between (S.left source.old) (S.left source.new) (K.held sink.old) (K.held sink.new) (IsVerilogWith IsMoving) }
-    // Without guesses and samples no stall of it is needless.
+        → Between (S.left source.old) (S.left source.new) (K.held sink.old) (K.held sink.new) (IsVerilogWith (λ job s. IsMoving job)) }
+    // No stall of it is needless: right guesses cost nothing, and a wrong one is detected as soon as its register's value is available.
     ensures pipe_has_no_needless_stall { command_of (map string_bytes words.now) ≡ Some (OnJob Pipe) → result ≡ 0
-        → Between (S.left source.old) (S.left source.new) (K.held sink.old) (K.held sink.new) (IsVerilogWith HasNoNeedlessStall) }
+        → Between (S.left source.old) (S.left source.new) (K.held sink.old) (K.held sink.new) (IsVerilogWith HasNoNeedlessStallFrom) }
 
-    // What `sim N` writes tells the run of the pipelined machine over N cycles, which is legal, moves, and has no needless stall.
+    // What `sim N` writes is the run of the pipelined machine over N cycles, which is legal, moves, and has no needless stall.
     ensures sim_is_legal { (n : ℕ) → command_of (map string_bytes words.now) ≡ Some (OnJob (Sim n)) → result ≡ 0
         → Between (S.left source.old) (S.left source.new) (K.held sink.old) (K.held sink.new) (IsRunWith IsLegal n) }
     ensures sim_moves { (n : ℕ) → command_of (map string_bytes words.now) ≡ Some (OnJob (Sim n)) → result ≡ 0
@@ -116,19 +152,21 @@ pub fn tool<S: Source, K: Sink>(alloc: Global, words: &[String], source: &mut S,
     ensures timing_has_the_rows_of_the_pipeline { (n : ℕ) → command_of (map string_bytes words.now) ≡ Some (OnJob (Timing n)) → result ≡ 0
         → Between (S.left source.old) (S.left source.new) (K.held sink.old) (K.held sink.new) (IsTimed n) }
 
-    // What `debug` writes with status 0 tells of the run of the pipelined machine, which is legal and moves: each value that is shown is that
-    // of the sequential machine after as many instructions as its stage let pass.
+    // What `debug` writes with status 0 comes from the run of the pipelined machine, which is legal and moves: each value that is printed is that of
+    // the sequential machine after as many instructions as its stage has completed.
     ensures debug_is_legal { command_of (map string_bytes words.now) ≡ Some Debug → result ≡ 0
         → Between (S.left source.old) (S.left source.new) (K.held sink.old) (K.held sink.new) (IsDebuggedWith IsLegal) }
     ensures debug_moves { command_of (map string_bytes words.now) ≡ Some Debug → result ≡ 0
         → Between (S.left source.old) (S.left source.new) (K.held sink.old) (K.held sink.new) (IsDebuggedWith IsMoving) }
+    ensures debug_has_no_needless_stall { command_of (map string_bytes words.now) ≡ Some Debug → result ≡ 0
+        → Between (S.left source.old) (S.left source.new) (K.held sink.old) (K.held sink.new) (IsDebuggedWith HasNoNeedlessStall) }
 
-    // What `watch N` writes with status 0 tells the run of the netlist behind the job, and this run is legal.
+    // What `watch N` writes with status 0 is the run of the netlist after the job, and this run is legal.
     ensures watch_is_legal { (n : ℕ) → command_of (map string_bytes words.now) ≡ Some (Watch n) → result ≡ 0
         → Between (S.left source.old) (S.left source.new) (K.held sink.old) (K.held sink.new) (IsNetlistWith IsLegal n) }
 
-    // Where `equiv` ends with status 0, the two texts behind the job denote netlists of it that run alike: whatever comes in, they have the same
-    // rows, and the same values of all registers and file words, by name.
+    // If `equiv` ends with status 0, the two texts after the job denote netlists of the job that run alike: for all inputs, they have the same rows,
+    // and the same values of all registers and file words, by name.
     ensures equiv_is_alike { command_of (map string_bytes words.now) ≡ Some Compare → result ≡ 0
         → Between (S.left source.old) (S.left source.new) (K.held sink.old) (K.held sink.new) IsPairAlike }
 {
@@ -158,7 +196,7 @@ fn run<S: Source, K: Sink>(
     }
 }
 
-// Gives the answer away to be written.
+// The second phase. The answer is dropped on return.
 fn finish<K: Sink>(alloc: Global, answer: Answer, sink: &mut K) -> Result<u8, Stop>
     ensures due { IfOk result (λ status. Finishes answer (K.held sink.old) (K.held sink.new) status) }
     ensures no_read_fault { IsErrOf result Stop.ReadFault → ⊥ }
@@ -173,7 +211,7 @@ fn finish<K: Sink>(alloc: Global, answer: Answer, sink: &mut K) -> Result<u8, St
     }
 }
 
-// Reads what is to be read, and decides on it.
+// The first phase: parses the arguments, reads the source if the command needs it, and checks the rules.
 fn prepare<S: Source>(alloc: Global, words: &[String], source: &mut S) -> Result<Answer, Stop>
     ensures due { IfOk result (λ answer. Decides (map string_bytes words.now) (S.left source.old) (S.left source.new) answer) }
     ensures unread { reads_input (command_of (map string_bytes words.now)) ≡ false → source.new ≡ source.old }
@@ -195,7 +233,7 @@ fn prepare<S: Source>(alloc: Global, words: &[String], source: &mut S) -> Result
     }
 }
 
-// Reads the source, and decides on what it gave.
+// Reads the source, and checks the rules on its bytes.
 fn over_source<S: Source>(alloc: Global, command: Command, source: &mut S) -> Result<Answer, Stop>
     requires { reads_input (Some command) ≡ true }
     ensures due { IfOk result (λ answer. (words : List (List ℕ)) → command_of words ≡ Some command → Decides words (S.left source.old) (S.left source.new) answer) }
@@ -210,7 +248,7 @@ fn over_source<S: Source>(alloc: Global, command: Command, source: &mut S) -> Re
     }
 }
 
-// The refusal of an input that is longer than it may be.
+// The refusal of an input that is too long.
 fn too_long() -> Refusal
     ensures { result ≡ e_rule 3 (record { line = 1; col = 1 }) }
 {

@@ -1,4 +1,4 @@
--- What the changes of given values hold.
+-- The values after the changes of given values.
 use Rattle.std.proofs.Common.{◌≡◌, ◌≢◌, ◌∙◌, ℕ, zero, suc, ◌+◌, ◌<◌, ◌≤◌, List, [], ◌∷◌, ◌++◌, get_or, Bool, true, false, Option, None, Some, refl, ap, ap₂, sym, subst, arith}
 use Rattle.std.specs.Prelude.{◌==◌, ◌&&◌, not, nat_le, nat_lt, if◌then◌else◌}
 use Rattle.std.proofs.lemmas.Bool.{eqb-true, eq-eqb, ne_eqb, le-leb, lt-leb, ltb-true, ltb-false, and_parts}
@@ -71,7 +71,7 @@ new_by h b (Some w) s known = go (is_value b w) refl
 
 -- ---- the changes of one time
 
--- what is held is what was before, of each signal from s on that has a value now
+-- the values after the changes are those before, for each signal from s on that has a value now
 abbrev Agrees : Holding → Values → ℕ → Values → Type 0
 Agrees h before s now = (k i : ℕ) (w : Word) → i ≡ s + k → get_or now k None ≡ Some w → h i ≡ get_or before i None
 
@@ -151,7 +151,7 @@ module _ (values : ℕ → Values) (n : ℕ) where
   abbrev moments : ℕ → List Moment
   moments T = moments_before values n T
 
-  -- what is held before the changes at T
+  -- the values before the changes at T
   abbrev holding : ℕ → Holding
   holding T = after nothing (all_changes (moments T))
 

@@ -1,4 +1,4 @@
--- The lines of a list, one after another.
+-- The lines of a list, in order.
 use Rattle.std.proofs.Common.{◌≡◌, ◌∙◌, ℕ, ◌+◌, ◌<◌, ◌≤◌, List, [], ◌∷◌, ◌++◌, length, get_or, drop, ap, sym, subst}
 use Rattle.std.specs.declared.option.Option.{Option}
 use Rattle.std.proofs.lemmas.List.{drop_more, drop_all}
@@ -8,7 +8,7 @@ use Rattle.kp_vcd.specs.declared.dump.Change.{Change}
 use Rattle.kp_vcd.specs.declared.dump.Moment.{Moment}
 use Rattle.kp_vcd.specs.Text.{signal_line, signal_lines, change_line, change_lines, time_line, moment_lines}
 
--- what is left is the same text
+-- the text that is left is the same
 pub left_is : (whole rest same : List ℕ) (a b : Option (List ℕ)) → rest ≡ same → WrittenUpTo whole rest a b → WrittenUpTo whole same a b
 left_is whole rest same a b e written = subst (λ (text : List ℕ). WrittenUpTo whole text a b) e written
 

@@ -1,4 +1,4 @@
--- What a name in a dump is made of.
+-- The form of a name in a dump.
 use Rattle.std.specs.Prelude.{◌≡◌, ℕ, ◌≤◌, List, length, All, true}
 use Rattle.kp_base.specs.Characters.{is_word}
 

@@ -7,17 +7,17 @@ use Rattle.kp_vcd.specs.declared.dump.Moment.{Moment}
 abbrev pub Values : Type 0
 Values = List (Option Word)
 
--- both are this value
+-- the signal has this value
 abbrev pub is_value : Option Word → Word → Bool
 is_value None w = false
 is_value (Some v) w = v.width == w.width && v.value == w.value
 
--- a value is a change where another one, or none, was before
+-- a value is a change if there was another one, or none, before
 abbrev pub change_of : ℕ → Option Word → Option Word → List Change
 change_of s before None = []
 change_of s before (Some w) = if is_value before w then [] else record { signal = s; value = w } ∷ []
 
--- the changes from the values before to these, of which the first is that of signal s
+-- the changes from the values before to the new ones, where the first is that of signal s
 abbrev pub changes_from : ℕ → Values → Values → List Change
 changes_from s before [] = []
 changes_from s before (v ∷ now) = change_of s (get_or before s None) v ++ changes_from (s + 1) before now
@@ -27,7 +27,7 @@ abbrev pub values_before : (ℕ → Values) → ℕ → Values
 values_before values zero = []
 values_before values (suc T) = values T
 
--- the changes at a time: at 0 every value is one
+-- the changes at a time: at 0 every value is a change
 abbrev pub changes_at : (ℕ → Values) → ℕ → List Change
 changes_at values T = changes_from 0 (values_before values T) (values T)
 
@@ -52,7 +52,7 @@ recorded values n = moments_before values n (suc n)
 abbrev pub Lasts : (ℕ → Values) → ℕ → Type 0
 Lasts values n = (T s : ℕ) (w : Word) → T < n → get_or (values (suc T)) s None ≡ Some w → (v : Word) × (get_or (values T) s None ≡ Some v)
 
--- what a recorder keeps: the last time, the next time, the values before it, and the moments so far
+-- the state of a recorder: the last time, the next time, the values before it, and the moments so far
 pub record Record : Type 0 where
   pub last : ℕ
   pub at : ℕ

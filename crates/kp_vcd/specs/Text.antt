@@ -19,17 +19,17 @@ declaration kind width number name =
 abbrev pub signal_line : ℕ → Signal → List ℕ
 signal_line number s = declaration (kind_word s.reg) s.width number s.name
 
--- the lines of signals, of which the first has this number
+-- the lines of signals, the first of which has this number
 abbrev pub signal_lines : ℕ → List Signal → List ℕ
 signal_lines number [] = []
 signal_lines number (s ∷ ss) = signal_line number s ++ signal_lines (number + 1) ss
 
--- the last so many bits of a number as digits, the highest first
+-- the given number of lowest bits of a number as digits, the highest first
 abbrev pub bit_digits : ℕ → ℕ → List ℕ
 bit_digits zero n = []
 bit_digits (suc count) n = (48 + n / 2 ^ count % 2) ∷ bit_digits count n
 
--- a value before the code of its signal: `b`, all its bits and a space; of one bit the digit alone
+-- a value before the code of its signal: `b`, all its bits and a space; a single bit is just the digit
 unfoldable pub value_text : Word → List ℕ
 value_text v = if v.width == 1 then bit_digits 1 v.value else codes "b" ++ bit_digits v.width v.value ++ codes " "
 
@@ -37,7 +37,7 @@ value_text v = if v.width == 1 then bit_digits 1 v.value else codes "b" ++ bit_d
 unfoldable pub code_line : ℕ → List ℕ
 code_line number = codes "s" ++ decimal number ++ codes "\n"
 
--- `b00000010 s3`, or `1s3` of one bit
+-- `b00000010 s3`, or `1s3` for a single bit
 abbrev pub change_line : Change → List ℕ
 change_line c = value_text c.value ++ code_line c.signal
 
@@ -53,7 +53,7 @@ abbrev pub moment_lines : List Moment → List ℕ
 moment_lines [] = []
 moment_lines (m ∷ ms) = (time_line m.at ++ change_lines m.changes) ++ moment_lines ms
 
--- the unit of time, and the words before the name of the module
+-- the unit of time, and the keywords before the name of the module
 unfoldable pub head_words : List ℕ
 head_words = codes "$timescale 1 ns $end\n$scope module "
 

@@ -1,4 +1,4 @@
-// What a change dump holds.
+// The contents of a value change dump.
 ghost use Rattle.std.specs.Prelude.{◌≡◌, IfOk};
 ghost use Rattle.kp_vcd.specs.Name.{IsName};
 
@@ -27,7 +27,7 @@ impl Model for Name {
 }
 
 impl Name {
-    /// The name of these bytes, which are copied.
+    /// The name with these bytes, which are copied. The only error is out of memory.
     pub fn new(alloc: Global, bytes: &[u8]) -> Result<Name, NoMemory>
         requires { IsName bytes.now }
         ensures { IfOk result (λ n. n ≡ bytes.now) }
@@ -53,14 +53,14 @@ pub struct Signal {
     pub width: u8,
 }
 
-/// A signal takes a value.
+/// A signal changes to a value.
 #[derive(Clone, Copy, Debug, PartialEq, Eq)]
 pub struct Change {
     pub signal: u32,
     pub value: Bits,
 }
 
-/// What changes at a time.
+/// The changes at a time.
 #[derive(Debug, Drop)]
 pub struct Moment {
     pub at: u64,

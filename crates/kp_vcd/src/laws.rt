@@ -1,4 +1,4 @@
-//! What follows from the definitions of dumps.
+//! Consequences of the definitions of dumps.
 
 ghost use Rattle.std.specs.Prelude.{◌≡◌, ◌≤◌, ℕ, None, Some, get_or};
 ghost use Rattle.kp_bits.specs.Word.{Word};
@@ -6,8 +6,8 @@ ghost use Rattle.kp_vcd.specs.Held.{held, Changes};
 ghost use Rattle.kp_vcd.specs.Recording.{Values, recorded, Lasts};
 ghost use Rattle.kp_vcd.specs.declared.dump.Dump.{Dump};
 
-/// Where a signal that has a value had one at each time before, the dump of the changes holds each value at its time (`held`), and no
-/// change repeats the value before (`changes`).
+/// If a signal that has a value had one at each time before, the dump of the changes has each value at its time (`held`), and no change repeats the
+/// value before (`changes`).
 pub fn the_changes_of_values_hold_them()
     ensures held { (d : Dump) (values : ℕ → Values) (n : ℕ) → d.moments ≡ recorded values n → Lasts values n
         → (T s : ℕ) (w : Word) → T ≤ n → get_or (values T) s None ≡ Some w → held d s T ≡ Some w }

@@ -1,7 +1,7 @@
-//! Change dumps in the VCD form of IEEE 1364-2005, clause 18: what they hold, and their writer, which takes no memory.
+//! Value change dumps in the VCD form of IEEE 1364-2005, clause 18: their contents, and their writer, which allocates nothing.
 //!
-//! `specs/Text.antt` has the text of a dump, `specs/Held.antt` what a dump says of a signal at a time, and `specs/Recording.antt` the dump
-//! that tells given values by their changes.
+//! `specs/Text.antt` specifies the text of a dump, `specs/Held.antt` the value of a signal at a time, and `specs/Recording.antt` the dump that
+//! records given values by their changes.
 #![tactic(auto)]
 
 mod dump;

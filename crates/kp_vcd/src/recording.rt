@@ -9,7 +9,7 @@ use kp_bits::Bits;
 use std::alloc::Global;
 use std::marker::Model;
 
-/// Records values by their changes, one time after another, from time 0 to a last one.
+/// Records values by their changes, in order of time, from time 0 to a last one.
 #[derive(Drop)]
 pub struct Recorder {
     alloc: Global,
@@ -28,7 +28,7 @@ impl Model for Recorder {
 }
 
 impl Recorder {
-    /// Nothing is recorded yet.
+    /// A recorder with nothing recorded yet, for the times 0 to `last`.
     pub fn new(alloc: Global, last: u64) -> Recorder
         ensures { (values : ℕ → Values) → HasRecorded values last 0 result }
     {
@@ -41,7 +41,8 @@ impl Recorder {
         }
     }
 
-    /// Records the values of the next time, by signal, where a signal may have none. After a refusal the record is of no use.
+    /// Records the values of the next time, by signal, where a signal may have none. The only error is out of memory; the recorder can't be used
+    /// after it.
     pub fn record(&mut self, now: Vec<Option<Bits>>) -> Result<(), NoMemory>
         requires few { vec_len now < 2 ^ 32 }
         requires within { self.old.at ≤ self.old.last }
@@ -58,7 +59,7 @@ impl Recorder {
         Ok(())
     }
 
-    /// The moments that were recorded. Takes no memory.
+    /// The recorded moments. Allocates nothing.
     pub fn into_moments(self) -> List<Moment>
         ensures { result ≡ self.moments }
     {
@@ -66,7 +67,7 @@ impl Recorder {
     }
 }
 
-// The moment of these changes, where it isn't left out.
+// The moment of these changes, unless it is left out.
 fn moment_of(last: u64, at: u64, changes: Vec<Change>) -> Option<Moment>
     ensures { option_to_list result ≡ moment_of last at changes.items }
 {
@@ -80,7 +81,7 @@ fn moment_of(last: u64, at: u64, changes: Vec<Change>) -> Option<Moment>
     }
 }
 
-// The changes from the values before to these.
+// The changes from the values before to the new values.
 fn changes_between(
     alloc: Global,
     before: &[Option<Bits>],
@@ -98,7 +99,7 @@ fn changes_between(
     Ok(changes)
 }
 
-// The value of a signal, and none behind the last signal.
+// The value of a signal, and none past the last signal.
 fn value_at(values: &[Option<Bits>], signal: usize) -> Option<Bits>
     ensures { result ≡ get_or values.now signal None }
 {

@@ -9,7 +9,7 @@ use itoa::Buffer;
 use kp_base::{Sink, SinkFault, write_all, write_pieces};
 use kp_bits::Bits;
 
-/// Writes the text of a dump. A fault comes only from the sink, which then holds a beginning of the text. Takes no memory.
+/// Writes the text of a dump. A fault comes only from the sink, which then has a prefix of the text. Allocates nothing.
 #[tactic(auto, using(kp_base::proofs::Bytes::writes_next, kp_base::proofs::Bytes::part_more))]
 pub fn write_dump<K: Sink>(dump: &Dump, sink: &mut K) -> Result<(), SinkFault>
     ensures text { Writes (K.held sink.old) (K.held sink.new) (dump_text dump.now) result }
@@ -45,7 +45,7 @@ fn write_name<K: Sink>(name: &[u8], sink: &mut K) -> Result<(), SinkFault>
     write_pieces(sink, &[name, b" $end\n".as_slice()])
 }
 
-// The signals, and all behind them.
+// The signals, and all that follows them.
 #[tactic(auto, using(kp_base::proofs::Bytes::writes_next, kp_base::proofs::Bytes::part_more))]
 fn write_body<K: Sink>(dump: &Dump, sink: &mut K) -> Result<(), SinkFault>
     ensures text { Writes (K.held sink.old) (K.held sink.new) (signal_lines 0 dump.now.signals ++ (end_lines ++ moment_lines dump.now.moments)) result }
@@ -190,7 +190,7 @@ fn write_value<K: Sink>(value: Bits, sink: &mut K) -> Result<(), SinkFault>
     }
 }
 
-// Fills `out` with the last bits of the number as digits.
+// Fills `out` with the lowest bits of the number as digits, the highest first.
 #[tactic(auto, using(crate::proofs::Digits::bits_more, crate::proofs::Digits::bits_all))]
 fn write_bits(n: u64, out: &mut [u8])
     requires { length out.old ≤ 64 }

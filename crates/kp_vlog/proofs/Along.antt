@@ -1,4 +1,4 @@
--- Going along a text.
+-- Lexing a text step by step.
 use Rattle.std.proofs.Common.{ℕ, ◌+◌, ◌≤◌, ◌≡◌, ◌∙◌, List, [], ◌∷◌, ◌++◌, length, length-drop, take, drop, map, append_assoc, append-nil, refl, sym, ap, subst, arith}
 use Rattle.std.specs.Prelude.{All}
 use Rattle.std.proofs.lemmas.List.{drop-drop, map-append}
@@ -8,7 +8,7 @@ use Rattle.kp_vlog.specs.declared.token.VToken.{VToken}
 use Rattle.kp_vlog.specs.Tokens.{Token, front, finish, skips, takes, broken, Lexes, at_end, past, token, LexesTo, here, past_gap, past_token}
 use Rattle.kp_vlog.specs.Outcome.{word_of, token_of, StandsIn, HasTokens}
 
--- What is found from here is what is found from the offset on where the call began.
+-- What is found from here is what is found from the offset where the call started.
 pub record Along (text : List ℕ) (from : ℕ) (found : List VToken) (start : ℕ) (rest : List ℕ) : Type 0 where
   pub leads : (ts : List Token) → Lexes start rest ts → Lexes from (drop from text) (map (token_of text) found ++ ts)
   pub refuses : (to : ℕ) → LexesTo start rest to → LexesTo from (drop from text) to
@@ -35,7 +35,7 @@ module _ (text : List ℕ) (from : ℕ) (found : List VToken) (start : ℕ) (res
   left : (len : ℕ) → len ≤ length rest → (start + len) + length (drop len rest) ≡ length text
   left len h = let e = length-drop len rest in let w = along.within in omega arith
 
-  -- Layout and comments are behind us,
+  -- Layout and comments were skipped,
   pub skipped : (len : ℕ) → front rest ≡ skips len → len ≤ length rest → Along text from found (start + len) (drop len rest)
   skipped len f fits = record {
     leads = λ ts l. along.leads ts (past len f l);
@@ -45,7 +45,7 @@ module _ (text : List ℕ) (from : ℕ) (found : List VToken) (start : ℕ) (res
     stand = along.stand;
   }
 
-  -- or a token.
+  -- or a token was read.
   pub read : (kind : VKind) (len : ℕ) → front rest ≡ takes (word_of (take len rest) kind) len → len ≤ length rest
       → Along text from (found ++ made start kind len ∷ []) (start + len) (drop len rest)
   read kind len f fits =
@@ -68,6 +68,6 @@ module _ (text : List ℕ) (from : ℕ) (found : List VToken) (start : ℕ) (res
     stand = along.stand;
   }
 
-  -- and where no token begins.
+  -- and a position where no token starts.
   pub stopped : front rest ≡ broken → LexesTo from (drop from text) start
   stopped e = along.refuses start (here e)

@@ -1,4 +1,4 @@
--- The module of a text that is written out, or the first rule that it breaks, by computation.
+-- The module of a given text, or the first rule that it violates, by computation.
 use Rattle.std.proofs.Common.{ℕ, zero, suc, ◌+◌, ◌-◌, ◌≤◌, ◌≡◌, List, [], ◌∷◌, ◌++◌, length, drop, Bool, true, false, Option, Some, None, refl, ap, sym, subst, ◌∙◌, arith, eq-eqb}
 use Rattle.std.specs.Prelude.{◌==◌, if◌then◌else◌}
 use Rattle.std.proofs.lemmas.Bool.{eqb-true}
@@ -21,7 +21,7 @@ use Rattle.kp_vlog.proofs.Tests.{apart}
 
 -- Tokens.
 
--- the tokens, or the first place without one, or the steps did not do
+-- the tokens, or the first position without one, or too few steps
 pub data Lexed : Type 0 where
   has : List Token → Lexed
   stops : ℕ → Lexed
@@ -38,7 +38,7 @@ behind (skips n) at text next = next (at + n) (drop n text)
 behind (takes w n) at text next = with_token (record { word = w; at = at }) (next (at + n) (drop n text))
 behind tokens.broken at text next = stops at
 
--- from an offset on, in so many steps
+-- from an offset on, in the given number of steps
 abbrev pub lexed : ℕ → ℕ → List ℕ → Lexed
 lexed zero at text = tired
 lexed (suc k) at text = behind (front text) at text (lexed k)
@@ -79,7 +79,7 @@ abbrev pub on_pick : Option (List Sym) → Parsed → (List Sym → Parsed) → 
 on_pick None lost next = lost
 on_pick (Some b) lost next = next b
 
--- the machine, in so many steps
+-- the machine, in the given number of steps
 abbrev pub parsed : ℕ → List Sym → List Value → List Token → Parsed
 parsed zero s v ts = unfinished
 parsed (suc k) [] v [] = builds v
@@ -157,7 +157,7 @@ of_lexed k text (has ts) = of_parsed text ts (parsed k (Nonterminal MODULE ∷ [
 of_lexed k text (stops at) = breaks (fault 1 at)
 of_lexed k text tired = open_end
 
--- in so many steps of each kind
+-- in the given number of steps of each kind
 abbrev pub verdict : ℕ → List ℕ → Verdict
 verdict k text = of_lexed k text (lexed k 0 text)
 
@@ -190,6 +190,6 @@ lexed_holds k text (has ts) l = parsed_holds text ts (parsed k (Nonterminal MODU
 lexed_holds k text (stops at) l = no_token l
 lexed_holds k text tired l = tt
 
--- What is computed holds.
+-- What is computed is true.
 pub told_by : (k : ℕ) (text : List ℕ) (v : Verdict) → verdict k text ≡ v → Holds text v
 told_by k text v e = subst (Holds text) e (lexed_holds k text (lexed k 0 text) (told k 0 text))

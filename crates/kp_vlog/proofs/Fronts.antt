@@ -1,4 +1,4 @@
--- What code tells of the front of a text is what stands there, and it is no longer than the text.
+-- The front that the code computes is that of the text, and it is no longer than the text.
 use Rattle.std.proofs.Common.{ℕ, suc, ◌+◌, ◌≤◌, ◌<◌, ◌≡◌, ◌∙◌, List, [], ◌∷◌, length, length-take-le, take, drop, ◌==◌, nat_lt, Bool, true, false, cond, ◌||◌, ◌&&◌, Option, Some, None, Result, Ok, Err, refl, ap, arith}
 use Rattle.std.proofs.lemmas.Bool.{false≢true}
 use Rattle.std.specs.Prelude.{IfSome}
@@ -18,7 +18,7 @@ use Rattle.kp_vlog.specs.Tokens as tokens
 use Rattle.kp_vlog.specs.Fronts.{seen, Fits}
 use Rattle.kp_vlog.specs.inner.Kinds.{kind_or_name, identifier, literal_kind, number_kind, number_run, comment, mark_kind, mark_or_shorter, mark, front_of}
 
--- a comment that is closed so many bytes later
+-- a comment that is closed the given number of bytes later
 abbrev pub shifted : ℕ → Option ℕ → Option ℕ
 shifted k None = None
 shifted k (Some n) = Some (k + n)

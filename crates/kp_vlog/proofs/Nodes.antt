@@ -1,5 +1,5 @@
--- The nodes of a module that breaks no rule are right: by the items in their order, with the names that are known, what is driven, and
--- the nodes so far.
+-- The nodes of a module that violates no rule are well-formed: by the items in order, with the names that are known, what is driven, and the nodes so
+-- far.
 use Rattle.std.proofs.Common.{◌≡◌, ◌∙◌, ℕ, ◌+◌, ◌^◌, ◌≤◌, ◌<◌, List, [], ◌∷◌, ◌++◌, length, get_or, map, fold, Bool, true, false, refl, sym, ap, subst, arith, inl, inr, length-append, All}
 use Rattle.std.specs.Prelude.{codes, ◌==◌, ◌&&◌, ◌||◌, nat_le, nat_lt, if◌then◌else◌}
 use Rattle.std.specs.List.{sum_by}
@@ -48,9 +48,9 @@ op_right BinOp.Lt w a b h = (eqb-true w 1 (first_true (w == 1) (a == b) h), eqb-
 op_right BinOp.Shl w a b h = eqb-true a w h
 op_right BinOp.Shr w a b h = eqb-true a w h
 
--- the widths of a list of nodes, and whether they stand there
+-- the widths of a list of nodes, and whether they exist
 module _ (m : VModule) where
-  -- a wire whose node stands there, with the wire's width
+  -- a wire whose node exists, with the wire's width
   pub record Operand (made : Made) (n : List ℕ) : Type 0 where
     pub before : place_of made.wires n < length made.nodes
     pub wide : wide made.nodes (place_of made.wires n) ≡ width_in (sizes_of m) n
@@ -59,7 +59,7 @@ module _ (m : VModule) where
   Operands made [] = Unit {0}
   Operands made (a ∷ parts) = Operand made a.name × Operands made parts
 
-  -- what a right side names stands there
+  -- what a right side names exists
   abbrev pub RightOk : List (List ℕ) → Made → Right → Type 0
   RightOk known made (sides.Literal l) = Unit {0}
   RightOk known made (sides.Name n) = name_fits known uses_source n.name ≡ true
@@ -131,7 +131,7 @@ module _ (m : VModule) where
         parts_sum made parts ok ∙ eqb-true (width_sum (sizes_of m) parts) w (second_true q r rest),
       )
 
-  -- What parts with the widths of the module's names have for the nodes that read them.
+  -- Parts with the widths of the module's names, for the nodes that read them.
   pub record CellFacts (p : Parts) : Type 0 where
     pub ext : p.ext ≡ width_in (sizes_of m) (codes "ext")
     pub sample : (n : List ℕ) → is_sample_name n ≡ true → among (port_names m.samples) n ≡ true
@@ -174,7 +174,7 @@ module _ (m : VModule) where
         )
     cell_right known made more w (sides.Concat parts) ok h d = tt
 
-    -- What agrees behind some items: the names that are known, those that have a value, and the nodes.
+    -- What agrees after some items: the names that are known, those that have a value, and the nodes.
     pub record Agree (known given : List (List ℕ)) (made : Made) : Type 0 where
       pub same_length : length made.wires ≡ length made.nodes
       pub given_wires : (n : List ℕ) → is_wire_name n ≡ true → among given n ≡ true → among made.wires n ≡ true
@@ -208,7 +208,7 @@ module _ (m : VModule) where
       drivers_of d t os true h = h.1
       drivers_of d t os false h = h
 
-      -- the names of a right side, where no output is assigned
+      -- the names of a right side that is not assigned to an output
       right_ok : (known : List (List ℕ)) (d : Driven) (made : Made) (t : Named) (r : Right) → is_output_name t.name ≡ false → Agree known d.given made → NamesFit known (right_names t r)
           → DriversFit resets all d (right_names t r) → RightOk known made r
       right_ok known d made t (sides.Literal l) e a n h = tt

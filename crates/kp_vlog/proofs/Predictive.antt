@@ -1,4 +1,4 @@
--- The next token says how to go on.
+-- The next token determines the alternative.
 use Rattle.std.proofs.Common.{refl}
 use Rattle.kp_grammar.specs.Tables.{IsPredictive}
 use Rattle.kp_vlog.specs.Language.{verilog, MODULE}

@@ -1,4 +1,4 @@
--- Tests of names, and places of names in lists.
+-- Tests of names, and indices of names in lists.
 use Rattle.std.proofs.Common.{◌≡◌, ◌∙◌, ℕ, ◌+◌, ◌≤◌, ◌<◌, List, [], ◌∷◌, ◌++◌, length, Bool, true, false, refl, sym, ap, subst, arith, eq-eqb, ◌⊎◌, inl, inr}
 use Rattle.std.specs.Prelude.{codes, ◌==◌, ◌&&◌, ◌||◌, nat_le, nat_lt, not, if◌then◌else◌}
 use Rattle.std.specs.List.{list_all}
@@ -69,7 +69,7 @@ le_of a b h = grind (arith, nat_tests)
 pub lt_of : (a b : ℕ) → nat_lt a b ≡ true → a < b
 lt_of a b h = grind (arith, nat_tests)
 
--- Names are the same where their bytes are.
+-- Names are equal if their bytes are.
 
 pub same_refl : (x : List ℕ) → same x x ≡ true
 same_refl [] = refl
@@ -87,7 +87,7 @@ differ x y h = not_true (same x y) (λ e. h (same_eq x y e))
 pub same_flip : (x y : List ℕ) → same x y ≡ false → same y x ≡ false
 same_flip x y h = differ y x (λ e. (let r : same x y ≡ true = subst (λ (z : List ℕ). same z y ≡ true) e (same_refl y) in cc))
 
--- The sorts of names are told apart by their first two bytes.
+-- The kinds of names are distinguished by their first two bytes.
 
 two_bytes : (P : List ℕ → Type 0) (x y : ℕ) → ((c : ℕ) (rest : List ℕ) → P (x ∷ y ∷ c ∷ rest)) → (a b c : ℕ) (rest : List ℕ) → (a == x) ≡ true → (b == y) ≡ true → P (a ∷ b ∷ c ∷ rest)
 two_bytes P x y f a b c rest e k = subst (λ (z : ℕ). P (z ∷ b ∷ c ∷ rest)) (sym (eqb-true a x e)) (subst (λ (z : ℕ). P (x ∷ z ∷ c ∷ rest)) (sym (eqb-true b y k)) (f c rest))
@@ -133,7 +133,7 @@ output_cases P f u b n h = elim (either (same n (codes "full") || same n (codes 
 pub output_no_wire : (n : List ℕ) → is_output_name n ≡ true → is_wire_name n ≡ false
 output_no_wire = output_cases (λ n. is_wire_name n ≡ false) refl refl refl
 
--- A name of one sort is of no other.
+-- A name of one kind is of no other.
 pub reg_apart : (n : List ℕ) → is_reg_name n ≡ true → (is_file_name n ≡ false) × (is_sample_name n ≡ false) × (is_wire_name n ≡ false)
 reg_apart = reg_cases (λ n. (is_file_name n ≡ false) × (is_sample_name n ≡ false) × (is_wire_name n ≡ false)) (λ c rest. (refl, refl, refl)) (λ c rest. (refl, refl, refl))
 
@@ -175,7 +175,7 @@ among_behind (x ∷ xs) ys n h = either_right (same n x) (among (xs ++ ys) n) (a
 pub among_same : (xs : List (List ℕ)) (n k : List ℕ) → same n k ≡ true → among xs k ≡ true → among xs n ≡ true
 among_same xs n k e h = subst (λ (z : List ℕ). among xs z ≡ true) (sym (same_eq n k e)) h
 
--- The place of a name.
+-- The index of a name.
 
 place_in_step : (x n : List ℕ) (xs : List (List ℕ)) (b : Bool) → same n x ≡ b → (b || among xs n) ≡ true → (among xs n ≡ true → place_of xs n < length xs) → place_of (x ∷ xs) n < length (x ∷ xs)
 place_in_step x n xs true e h go = let w = when_true (same n x) 0 (place_of xs n + 1) e in omega arith

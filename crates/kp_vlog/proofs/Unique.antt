@@ -1,4 +1,4 @@
--- A text has one list of tokens and one module, or breaks one rule.
+-- A text has one list of tokens and one module, or violates one rule.
 use Rattle.std.proofs.Common.{◌≡◌, ◌∙◌, ℕ, ◌+◌, ◌≤◌, List, [], ◌∷◌, length, drop, Some, None, refl, sym, ap, subst, arith, inl, inr}
 use Rattle.std.proofs.lemmas.Bool.{cases_lt}
 use Rattle.std.proofs.lemmas.List.{length-drop, drop_all}
@@ -15,7 +15,7 @@ use Rattle.kp_vlog.specs.Denote.{net_of, IsModule, Denotes}
 use Rattle.kp_vlog.specs.Verdict.{fault, offset_of, IsWrong, Breaks, no_token, wrong_token, broken_rule}
 use Rattle.kp_vlog.proofs.Predictive.{is_predictive}
 
--- What stands at the front stands there alone.
+-- The front of a text is unique.
 abbrev pub length_in : Front → ℕ
 length_in (skips n) = n
 length_in (takes w n) = n
@@ -104,7 +104,7 @@ one_module at text m n a b =
 pub one_net : (at : ℕ) (text : List ℕ) (net other : Net) → Denotes at text net → Denotes at text other → net ≡ other
 one_net at text net other a b = sym a.same_net ∙ ap net_of (one_module at text a.shown b.shown a.is b.is) ∙ b.same_net
 
--- Broken rules.
+-- Violated rules.
 
 -- two ends of a list that are equally long
 same_drop : {A : Type 0} (xs : List A) (i j : ℕ) → length (drop i xs) ≡ length (drop j xs) → drop i xs ≡ drop j xs

@@ -16,7 +16,7 @@ use Rattle.kp_net.specs.Widths.{wide}
 use Rattle.kp_net.specs.Parts.{no_port, no_reg, no_file}
 use Rattle.kp_net.specs.Netlist.{Net}
 
--- a text in pieces, one after another; each name, number and literal ends its piece
+-- a text as the concatenation of pieces; each name, number and literal ends its piece
 abbrev pub Pieces : Type 0
 Pieces = List (List ℕ)
 
@@ -100,7 +100,7 @@ file_lines [] = []
 file_lines (f ∷ fs) =
     codes "  reg [" ∷ decimal (f.width - 1) ∷ codes ":0] " ∷ f.name ∷ codes " [0:" ∷ decimal (2 ^ f.address_width - 1) ∷ codes "];\n" ∷ file_lines fs
 
--- `  integer i;`, where there is a file
+-- `  integer i;`, if there is a file
 abbrev pub integer_line : List NetFile → Pieces
 integer_line [] = []
 integer_line (f ∷ fs) = codes "  integer i;\n" ∷ []
@@ -138,12 +138,12 @@ fill_lines (f ∷ fs) =
     codes "    for (i = 0; i < " ∷ decimal (2 ^ f.address_width) ∷ codes "; i = i + 1) " ∷ f.name ∷ codes "[i] = " ∷ spelling (word f.width 0) ∷ codes ";\n"
     ∷ (word_lines f.name f.width 0 f.words ++ fill_lines fs)
 
--- `    r_X <= n3;`, behind this margin
+-- `    r_X <= n3;`, after this margin
 abbrev pub update_lines : List ℕ → List NetReg → Pieces
 update_lines margin [] = []
 update_lines margin (r ∷ rs) = margin ∷ r.name ∷ codes " <= " ∷ wire r.next ∷ codes ";\n" ∷ update_lines margin rs
 
--- `    if (n3) f_M[n4] <= n5;`, where the file has a write port
+-- `    if (n3) f_M[n4] <= n5;`, if the file has a write port
 abbrev pub port_line : List ℕ → List ℕ → Option WritePort → Pieces
 port_line margin name None = []
 port_line margin name (Some w) =
@@ -162,7 +162,7 @@ abbrev pub reset_lines : List NetReg → Pieces
 reset_lines [] = []
 reset_lines (r ∷ rs) = codes "      " ∷ r.name ∷ codes " <= " ∷ spelling r.start ∷ codes ";\n" ∷ reset_lines rs
 
--- and what a reset does, where there is one
+-- and the reset, if there is one
 abbrev pub body_lines : Bool → Parts → Pieces
 body_lines false p = change_lines (codes "    ") p
 body_lines true p =

@@ -1,5 +1,4 @@
--- Two netlists with their texts: a counter, and a store with each kind of node, a file with and one without a write port, a reset and a
--- sample port.
+-- Two netlists with their texts: a counter, and one with each kind of node, a file with and one without a write port, a reset and a sample port.
 use Rattle.std.specs.Prelude.{ℕ, true, false, List, [], ◌∷◌, ◌++◌, codes, Option, Some, None}
 use Rattle.kp_bits.specs.declared.operator.BinOp.{BinOp}
 use Rattle.kp_net.specs.declared.node.NodeId.{NodeId}

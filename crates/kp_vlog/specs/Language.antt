@@ -26,7 +26,7 @@ use Rattle.kp_vlog.specs.declared.tree.VModule.{VModule}
 use Rattle.kp_vlog.specs.Tokens.{Word, Token}
 use Rattle.kp_vlog.specs.Tokens as words
 
--- classes of tokens: an identifier, a number, a literal; each keyword and each mark is a class of its own
+-- classes of tokens: an identifier, a number, a literal; each keyword and each punctuator is a class of its own
 abbrev pub IDENTIFIER : ℕ
 IDENTIFIER = 1
 
@@ -87,7 +87,7 @@ word_class (words.literal l) = LITERAL
 word_class (words.keyword k) = keyword_class k
 word_class (words.mark m) = mark_class m
 
--- what a name, a number and a literal are in a module
+-- the value of a name, of a number and of a literal in a module
 abbrev pub name_in : Word → List ℕ
 name_in (words.name bytes) = bytes
 name_in _ = []
@@ -130,14 +130,14 @@ pub data Value : Type 0 where
   updates : List Update → Value
   whole : VModule → Value
 
--- How a token is read: it is dropped; its name, its number or its literal is kept.
+-- How a token is read: it is dropped, or its name, its number or its literal is stored.
 pub data Way : Type 0 where
   dropped : Way
   as_name : Way
   as_number : Way
   as_literal : Way
 
--- what is done behind a part of the language
+-- what is done after a part of the language
 pub data Step : Type 0 where
   make_range : Step
   make_port : Step
@@ -181,7 +181,7 @@ pub data Step : Type 0 where
 abbrev pub Sym : Type 0
 Sym = Symbol Way Step
 
--- Terminals: a keyword or a mark, and what has a value.
+-- Terminals: a keyword or a punctuator, and the tokens with a value.
 abbrev pub word : Keyword → Sym
 word k = Terminal (keyword_class k) dropped
 
@@ -258,7 +258,7 @@ UPDATES = 19
 abbrev pub UPDATE : ℕ
 UPDATE = 20
 
--- so many more names may stand in a concatenation
+-- at most this number of names may follow in a concatenation
 abbrev pub NAMES : ℕ → ℕ
 NAMES count = 30 + count
 
@@ -272,7 +272,7 @@ A a = Action a
 abbrev operation : Mark → BinOp → List Sym
 operation m op = mark m ∷ ID ∷ A (make_binary op) ∷ []
 
--- the next names of a concatenation, at most so many
+-- the next names of a concatenation, at most the given number
 abbrev pub more_names : ℕ → Rules Way Step
 more_names zero = (NAMES zero, [] ∷ []) ∷ []
 more_names (suc count) = (NAMES (suc count), (mark marks.Comma ∷ ID ∷ A one_name ∷ N (NAMES count) ∷ []) ∷ [] ∷ []) ∷ more_names count

@@ -1,4 +1,4 @@
--- The rules of names (V3), widths (V4) and drivers (V5), each at its first place in the text.
+-- The rules of names (V3), widths (V4) and drivers (V5), each at its first position in the text.
 use Rattle.std.specs.Prelude.{ℕ, ◌+◌, ◌^◌, ◌==◌, nat_lt, nat_le, List, [], ◌∷◌, ◌++◌, length, codes, map, Bool, true, false, not, ◌||◌, ◌&&◌, if◌then◌else◌, Option, Some, None}
 use Rattle.std.specs.Option.{is_some}
 use Rattle.kp_base.specs.First.{first}
@@ -24,7 +24,8 @@ use Rattle.kp_vlog.specs.declared.tree.VModule.{VModule}
 use Rattle.kp_vlog.specs.Scope.{Scope, Sizes, scope_of, width_in, address_in, address_width, last_of, place_of, is_wire_name, is_output_name}
 use Rattle.kp_vlog.specs.Occurrences.{Role, names_module, declares_port, declares_sample, declares_reg, declares_file, declares_integer, declares_wire, gives, uses_wire, uses_source, uses_file, uses_integer, uses_port, starts_reg, starts_word, fills_file, resets_reg, updates_reg, updates_file, gives_no_wire, is_given, needs, Occurrence, names}
 
--- V3: with the names that are declared so far, the name is one that its place takes. What sort of thing it names is told by how it is spelled.
+-- V3: given the names that are declared so far, the name is one that its role allows. The kind of thing that a name denotes is determined by its
+-- form.
 abbrev pub name_fits : List (List ℕ) → Role → List ℕ → Bool
 name_fits known names_module n = is_module_name n
 name_fits known (declares_port k) n = same n k && not (among known n)
@@ -59,12 +60,12 @@ learns known declares_integer n = n ∷ known
 learns known declares_wire n = n ∷ known
 learns known _ n = known
 
--- the first name that breaks V3
+-- the first name that violates V3
 abbrev pub bad_name : List (List ℕ) → List Occurrence → Option ℕ
 bad_name known [] = None
 bad_name known (o ∷ os) = if name_fits known o.role o.named.name then bad_name (learns known o.role o.named.name) os else Some o.named.at
 
--- V4: each question is answered by the place where it is broken, if it is
+-- V4: each check yields the offset at which it is violated, if it is
 abbrev pub want : Bool → ℕ → Option ℕ
 want holds at = if holds then None else Some at
 
@@ -101,7 +102,7 @@ abbrev pub width_sum : Sizes → List Named → ℕ
 width_sum ss [] = 0
 width_sum ss (a ∷ parts) = width_in ss a.name + width_sum ss parts
 
--- a right side of a target of w bits; that a concatenation has 2 to 12 names, the grammar says already
+-- a right side for a target of w bits; that a concatenation has 2 to 12 names is already required by the grammar
 abbrev pub right_fits : Sizes → ℕ → Right → Bool
 right_fits ss w (sides.Literal l) = l.literal.width == w
 right_fits ss w (sides.Name n) = width_in ss n.name == w
@@ -203,7 +204,7 @@ drives d updates_reg n = record d { updated = n ∷ d.updated }
 drives d updates_file n = record d { written = n ∷ d.written }
 drives d _ n = d
 
--- what the whole module drives
+-- what the complete module drives
 abbrev pub items_given : List Item → List (List ℕ)
 items_given [] = []
 items_given (lines.Assign t r ∷ xs) = t.name ∷ items_given xs
@@ -239,7 +240,7 @@ all_driven m = record {
   written = updates_written m.updates;
 }
 
--- with what the whole module drives, and what is driven so far; `resets` says whether there is a reset list
+-- given what the complete module drives, and what is driven so far; `resets`: there is a reset list
 abbrev pub driver_fits : Bool → Driven → Driven → Role → List ℕ → Bool
 driver_fits resets all so_far (declares_port k) n = not (is_output_name n) || among all.given n
 driver_fits resets all so_far declares_wire n = among all.given n
@@ -256,7 +257,7 @@ driver_fits resets all so_far updates_file n = not (among so_far.written n)
 driver_fits resets all so_far (needs holds) n = holds
 driver_fits resets all so_far _ n = true
 
--- the first name that breaks V5
+-- the first name that violates V5
 abbrev pub bad_driver : Bool → Driven → Driven → List Occurrence → Option ℕ
 bad_driver resets all so_far [] = None
 bad_driver resets all so_far (o ∷ os) =
@@ -265,7 +266,7 @@ bad_driver resets all so_far (o ∷ os) =
 abbrev pub module_driver : VModule → Option ℕ
 module_driver m = bad_driver (is_some m.reset) (all_driven m) nothing (names m)
 
--- a broken rule, and its place
+-- a violated rule, and its offset
 pub record Fault : Type 0 where
   pub rule : ℕ
   pub at : ℕ
@@ -274,6 +275,6 @@ abbrev pub breaks : ℕ → Option ℕ → Option Fault → Option Fault
 breaks rule None rest = rest
 breaks rule (Some at) rest = Some (record { rule = rule; at = at })
 
--- the first of the rules V3 to V5 that a module breaks
+-- the first of the rules V3 to V5 that a module violates
 unfoldable pub broken : VModule → Option Fault
 broken m = breaks 3 (bad_name [] (names m)) (breaks 4 (first (width_answers m)) (breaks 5 (module_driver m) None))

@@ -17,12 +17,12 @@ is_wire_name _ = false
 abbrev pub is_output_name : List ℕ → Bool
 is_output_name n = same n (codes "full") || same n (codes "ue") || same n (codes "back")
 
--- how many names stand in front of this one
+-- how many names come before this one
 abbrev pub place_of : List (List ℕ) → List ℕ → ℕ
 place_of [] n = 0
 place_of (k ∷ ks) n = if same n k then 0 else place_of ks n + 1
 
--- how wide the range `[high:0]` is
+-- the width of the range `[high:0]`
 abbrev pub width_of : Range → ℕ
 width_of r = r.high.value + 1
 
@@ -30,7 +30,7 @@ width_of r = r.high.value + 1
 abbrev pub address_widths : List ℕ
 address_widths = 1 ∷ 2 ∷ 3 ∷ 4 ∷ 5 ∷ 6 ∷ 7 ∷ 8 ∷ 9 ∷ 10 ∷ 11 ∷ 12 ∷ 13 ∷ 14 ∷ 15 ∷ 16 ∷ []
 
--- the width a of an address, where the words are numbered `[0:last]` and last + 1 is 2^a
+-- the width a of an address, if the words are numbered `[0:last]` and last + 1 is 2^a
 abbrev pub address_width : ℕ → Option ℕ
 address_width last = find (λ a. last + 1 == 2 ^ a) address_widths
 
@@ -42,7 +42,7 @@ abbrev pub or_zero : Option ℕ → ℕ
 or_zero (Some n) = n
 or_zero None = 0
 
--- what has a range: its name, its width, and for a file the width of an address
+-- an object with a range: its name, its width, and for a file the width of an address
 pub record Sized : Type 0 where
   pub name : List ℕ
   pub width : ℕ

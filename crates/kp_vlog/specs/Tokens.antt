@@ -10,7 +10,7 @@ use Rattle.kp_vlog.specs.declared.token.Keyword.{Keyword}
 use Rattle.kp_vlog.specs.declared.token.Mark.{Mark}
 use Rattle.kp_vlog.specs.Words.{keyword_of, single_mark, double_mark}
 
--- what a token says: a name by its bytes, a number, a literal, a keyword or a mark
+-- the value of a token: a name as its bytes, a number, a literal, a keyword or a punctuator
 pub data Word : Type 0 where
   name : List ℕ → Word
   number : ℕ → Word
@@ -18,7 +18,7 @@ pub data Word : Type 0 where
   keyword : Keyword → Word
   mark : Mark → Word
 
--- a token, and the offset where it begins
+-- a token, and its offset
 pub record Token : Type 0 where
   pub word : Word
   pub at : ℕ
@@ -27,11 +27,11 @@ pub record Token : Type 0 where
 abbrev pub is_layout : ℕ → Bool
 is_layout byte = byte == 32 || byte == 9 || byte == 13 || byte == 10 || byte == 12
 
--- what a run goes on with that begins with a digit: also `'`
+-- a byte with which a run that starts with a digit can continue: also `'`
 abbrev pub is_in_run : ℕ → Bool
 is_in_run byte = is_in_identifier byte || byte == 39
 
--- what a comment goes on with that begins with `//`
+-- a byte with which a comment that starts with `//` can continue
 abbrev pub is_in_line : ℕ → Bool
 is_in_line byte = not (byte == 10)
 
@@ -43,12 +43,12 @@ abbrev pub one_more : Option ℕ → Option ℕ
 one_more None = None
 one_more (Some n) = Some (n + 1)
 
--- how many bytes stand up to the next `*/` and with it
+-- the number of bytes up to and including the next `*/`
 abbrev pub to_close : List ℕ → Option ℕ
 to_close [] = None
 to_close (byte ∷ rest) = if byte == 42 && begins_with 47 rest then Some 2 else one_more (to_close rest)
 
--- what may stand at the front of a text: its end, layout or a comment of some length, a token of some length, or none of these
+-- what a text can start with: its end, layout or a comment of some length, a token of some length, or none of these
 pub data Front : Type 0 where
   finish : Front
   skips : ℕ → Front
@@ -63,7 +63,7 @@ keyword_or_name run None = name run
 abbrev pub identifier : List ℕ → Front
 identifier run = if nat_lt 70 (length run) then broken else takes (keyword_or_name run (keyword_of run)) (length run)
 
--- a run that begins with a digit is a number or a literal
+-- a run that starts with a digit is a number or a literal
 abbrev pub literal_or_broken : ℕ → Result Literal LiteralFault → Front
 literal_or_broken len (Ok l) = takes (literal l) len
 literal_or_broken len (Err fault) = broken
@@ -75,12 +75,12 @@ number_or_literal run None = literal_or_broken (length run) (literal_of run)
 abbrev pub number_run : List ℕ → Front
 number_run run = number_or_literal run (number_of run)
 
--- a comment that begins with `/*`
+-- a comment that starts with `/*`
 abbrev pub comment_front : Option ℕ → Front
 comment_front (Some n) = skips (n + 2)
 comment_front None = broken
 
--- the longest mark
+-- the longest punctuator
 abbrev pub mark_or_broken : Option Mark → Front
 mark_or_broken (Some m) = takes (mark m) 1
 mark_or_broken None = broken
@@ -93,7 +93,7 @@ abbrev pub mark_front : ℕ → List ℕ → Front
 mark_front first [] = mark_or_broken (single_mark first)
 mark_front first (second ∷ rest) = mark_or_shorter first (double_mark first second)
 
--- what stands at the front
+-- what the text starts with
 abbrev pub front : List ℕ → Front
 front [] = finish
 front (b ∷ bs) =
@@ -111,7 +111,7 @@ pub data Lexes : ℕ → List ℕ → List Token → Type 0 where
   token : {at : ℕ} {text : List ℕ} {ts : List Token} (w : Word) (n : ℕ) → front text ≡ takes w n → Lexes (at + n) (drop n text) ts
       → Lexes at text (record { word = w; at = at } ∷ ts)
 
--- The first place where no token begins, a comment isn't closed, a run is neither number nor literal, or an identifier is too long.
+-- The first position where no token starts, a comment isn't closed, a run is neither number nor literal, or an identifier is too long.
 pub data LexesTo : ℕ → List ℕ → ℕ → Type 0 where
   here : {at : ℕ} {text : List ℕ} → front text ≡ broken → LexesTo at text at
   past_gap : {at : ℕ} {text : List ℕ} {to : ℕ} (n : ℕ) → front text ≡ skips n → LexesTo (at + n) (drop n text) to → LexesTo at text to

@@ -1,4 +1,4 @@
--- A module with every form, and lines in place of its own that break a rule.
+-- A module with every form, and replacements for its lines that violate a rule.
 use Rattle.std.specs.Prelude.{ℕ, zero, suc, ◌-◌, List, [], ◌∷◌, codes}
 use Rattle.kp_base.specs.Refusal.{v_rule}
 use Rattle.kp_vlog.specs.Examples.{lines}
@@ -43,13 +43,13 @@ sample_lines =
     ∷ codes "endmodule"
     ∷ []
 
--- the lines with another one at this place, counted from 0
+-- the lines with the one at this index, counted from 0, replaced
 abbrev pub with_line : ℕ → List ℕ → List (List ℕ) → List (List ℕ)
 with_line i line [] = []
 with_line zero line (l ∷ ls) = line ∷ ls
 with_line (suc i) line (l ∷ ls) = l ∷ with_line i line ls
 
--- the sample with this line in place of its own of this number, counted from 1, breaks the rule at the line and column
+-- the sample, with its line of this number, counted from 1, replaced by this one, violates the rule at the line and column
 pub record Row : Type 0 where
   pub number : ℕ
   pub line : List ℕ

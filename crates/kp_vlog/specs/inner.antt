@@ -1,3 +1,3 @@
--- What only private contracts and proofs speak of, here and in the crate of the parser: no public clause rests on it.
+-- For private contracts and proofs of this crate and of the parser's: no public clause depends on it.
 pub mod Kinds
 pub mod Follow

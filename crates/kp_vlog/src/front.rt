@@ -1,4 +1,4 @@
-// What stands at the front of a text.
+// The front of a text: the token, layout or comment that it starts with.
 ghost use Rattle.std.specs.Prelude.{◌≡◌, ◌≤◌, ◌∷◌, length, find, IfSome};
 ghost use Rattle.std.specs.Str.{bytes_eq};
 ghost use Rattle.kp_net.specs.Names.{is_in_identifier};
@@ -13,20 +13,20 @@ use crate::{Keyword, Mark, VKind};
 use kp_base::{is_digit, is_letter, is_word, run_length};
 use kp_bits::{read_literal, read_number};
 
-/// What stands at the front of a text. Lengths are in bytes.
+/// What a text starts with. Lengths are in bytes.
 #[derive(Clone, Copy)]
 pub enum Front {
     /// The end of the text.
     End,
-    /// A byte of layout, or a comment, of this length.
+    /// A byte of layout or a comment, with its length.
     Skip(usize),
-    /// A token, of this length.
+    /// A token, with its length.
     Token(VKind, usize),
-    /// No token begins here, or a comment isn't closed.
+    /// No token starts here, or a comment isn't closed.
     Broken,
 }
 
-/// What stands at the front of the text. A token is a number or a literal with its value, a keyword, a mark, or a name.
+/// What the text starts with. A token is a number or a literal with its value, a keyword, a punctuator, or a name.
 pub fn read_front(text: &[u8]) -> Front
     ensures told { seen text.now result ≡ front text.now }
     ensures fits { Fits (length text.now) result }
@@ -34,7 +34,7 @@ pub fn read_front(text: &[u8]) -> Front
     begin_of(text)
 }
 
-// The same, as code tells it.
+// The same, in the form that the code computes.
 fn begin_of(text: &[u8]) -> Front
     ensures { result ≡ front_of text.now }
 {
@@ -86,7 +86,7 @@ fn is_in_line(byte: u8) -> bool
     byte != b'\n'
 }
 
-// How many bytes stand at the front up to a line feed.
+// The number of bytes before the first line feed.
 fn line_length(text: &[u8]) -> usize
     ensures value { result ≡ run_length is_in_line text.now }
     ensures within { result ≤ length text.now }
@@ -94,7 +94,7 @@ fn line_length(text: &[u8]) -> usize
     run_length(text, is_in_line)
 }
 
-// How many letters, digits, `_` and `$` stand at the front.
+// The length of the run of letters, digits, `_` and `$` at the front.
 fn word_length(text: &[u8]) -> usize
     ensures value { result ≡ run_length is_in_identifier text.now }
     ensures within { result ≤ length text.now }
@@ -102,7 +102,7 @@ fn word_length(text: &[u8]) -> usize
     run_length(text, is_in_identifier)
 }
 
-// How many letters, digits, `_`, `$` and `'` stand at the front.
+// The length of the run of letters, digits, `_`, `$` and `'` at the front.
 fn number_length(text: &[u8]) -> usize
     ensures value { result ≡ run_length is_in_run text.now }
     ensures within { result ≤ length text.now }
@@ -110,7 +110,7 @@ fn number_length(text: &[u8]) -> usize
     run_length(text, is_in_run)
 }
 
-// How many bytes stand up to the next `*/` and with it.
+// The number of bytes up to and including the next `*/`, if there is one.
 fn to_close(text: &[u8]) -> Option<usize>
     ensures value { result ≡ to_close text.now }
     ensures within { IfSome result (λ n. n ≤ length text.now) }
@@ -127,7 +127,7 @@ fn to_close(text: &[u8]) -> Option<usize>
     None
 }
 
-// A comment with so many bytes behind its `/*`.
+// A comment with the given number of bytes after its `/*`.
 fn comment(close: Option<usize>) -> Front
     requires { IfSome close (λ n. n ≤ 9223372036854775807) }
     ensures { result ≡ comment close }
@@ -138,7 +138,7 @@ fn comment(close: Option<usize>) -> Front
     }
 }
 
-// A token that begins with this byte.
+// A token that starts with this byte.
 fn token(first: u8, after: &[u8], text: &[u8]) -> Front
     requires { text.now ≡ first ∷ after.now }
     ensures { result ≡ token first after.now }
@@ -198,7 +198,7 @@ fn number_run(run: &[u8]) -> Front
     }
 }
 
-// The longest mark of this byte and those behind it.
+// The longest punctuator at the front.
 fn mark(first: u8, after: &[u8]) -> Front
     ensures { result ≡ mark first after.now }
 {
@@ -213,7 +213,7 @@ fn mark(first: u8, after: &[u8]) -> Front
     }
 }
 
-// The mark of these two bytes.
+// The punctuator of these two bytes.
 fn double_mark(first: u8, second: u8) -> Option<Mark>
     ensures { result ≡ double_mark first second }
 {
@@ -226,7 +226,7 @@ fn double_mark(first: u8, second: u8) -> Option<Mark>
     }
 }
 
-// The mark of this byte.
+// The punctuator of this byte.
 fn single_mark(byte: u8) -> Option<Mark>
     ensures { result ≡ single_mark byte }
 {

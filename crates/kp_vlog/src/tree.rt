@@ -1,23 +1,23 @@
-// What a module says, with the offsets of what the rules name.
+// The syntax tree of a module, with the offsets that the rules report.
 use kp_base::List;
 use kp_bits::{BinOp, Literal};
 use kp_net::Label;
 
-/// A number as it is written, and where.
+/// A number, and its offset.
 #[derive(Clone, Copy, Debug, PartialEq, Eq)]
 pub struct Num {
     pub value: u64,
     pub at: u32,
 }
 
-/// A literal as it is written, and where.
+/// A literal, and its offset.
 #[derive(Clone, Copy, Debug, PartialEq, Eq)]
 pub struct Lit {
     pub literal: Literal,
     pub at: u32,
 }
 
-/// A name, and where it stands.
+/// A name, and its offset.
 #[derive(Debug, Drop)]
 pub struct Named {
     pub name: Label,
@@ -59,7 +59,7 @@ pub enum Right {
     Concat(List<Named>),
 }
 
-/// What stands in front of `initial`.
+/// A line before `initial`.
 #[derive(Debug, Drop)]
 pub enum Item {
     /// `reg [7:0] r_X;`
@@ -89,7 +89,7 @@ pub struct Fill {
     pub value: Lit,
 }
 
-/// What stands under `initial`.
+/// A line of the `initial` block.
 #[derive(Debug, Drop)]
 pub enum Init {
     /// `r_X = 8'h01;`
@@ -113,7 +113,7 @@ pub struct ResetList {
     pub values: List<ResetValue>,
 }
 
-/// What happens at the clock edge.
+/// An update at the clock edge.
 #[derive(Debug, Drop)]
 pub enum Update {
     /// `r_X <= n3;`

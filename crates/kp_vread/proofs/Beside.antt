@@ -1,4 +1,4 @@
--- What stands beside the nodes, by tables, is what the module says.
+-- The parts other than the nodes, by tables, are those of the module.
 use Rattle.std.proofs.Common.{◌≡◌, ℕ, List, [], ◌∷◌, map, Bool, true, false, Some, refl}
 use Rattle.std.specs.Prelude.{if◌then◌else◌, codes}
 use Rattle.std.specs.Option.{is_some}
@@ -20,7 +20,7 @@ use Rattle.kp_vlog.specs.declared.tree.VModule.{VModule}
 use Rattle.kp_vlog.specs.Occurrences.{start_in}
 use Rattle.kp_vlog.specs.Scope.{Sizes, sizes_of, width_of}
 use Rattle.kp_vlog.specs.Denote.{start_of, output_of, port_of, regs_of, files_of, sample_of, parts_of}
-use Rattle.kp_vwidths.specs.Tables.{found, AlikeSizes}
+use Rattle.kp_vread_widths.specs.Tables.{found, AlikeSizes}
 use Rattle.kp_vread.specs.inner.Numbering.{Numbered, AreNumbered}
 use Rattle.kp_vread.specs.inner.Building.{start_from}
 use Rattle.kp_vread.specs.inner.Nexts.{AreNexts}

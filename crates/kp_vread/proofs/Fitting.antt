@@ -1,4 +1,4 @@
--- What a module that breaks no rule gives: its numbers fit a netlist.
+-- The numbers of a module that violates no rule fit a netlist.
 use Rattle.std.proofs.Common.{◌≡◌, ◌∙◌, ℕ, ◌+◌, ◌≤◌, List, [], ◌∷◌, ◌++◌, length, map, Bool, true, false, All, Option, sym, ap, subst, arith}
 use Rattle.std.specs.Prelude.{◌==◌, ◌&&◌, nat_le, nat_lt, if◌then◌else◌}
 use Rattle.std.proofs.lemmas.Bool.Decides.{nat_tests}
@@ -22,7 +22,7 @@ use Rattle.kp_vlog.proofs.Tests.{first_true, second_true, le_of, lt_of}
 use Rattle.kp_vlog.proofs.Scans.{NoneOf, none_front, none_behind}
 use Rattle.kp_vlog.proofs.Declared.{want_none, range_width}
 use Rattle.kp_vlog.proofs.Sound.{Holds}
-use Rattle.kp_vwidths.specs.Tables.{AlikeSizes, found}
+use Rattle.kp_vread_widths.specs.Tables.{AlikeSizes, found}
 use Rattle.kp_vread.specs.inner.Building.{RightFits, ItemFits, AreNarrow, start_from}
 use Rattle.kp_vread.specs.inner.Parts.{PortFits, RegFits, AreStarted}
 use Rattle.kp_vread.proofs.Beside.{start_same}
@@ -137,7 +137,7 @@ module _ (m : VModule) (h : Holds m) where
   pub samples_fit : All PortFits m.samples
   samples_fit = ports_fit m.samples (none_front (ports_answers m.samples) outputs asked.1)
 
--- Registers start with words, as the netlist is right.
+-- Registers start with words, as the netlist is well-formed.
 regs_fit : (m : VModule) (es : List (List ℕ × Literal)) (ks : List (List ℕ)) (ns : List Node) → ((n : List ℕ) → start_from (found es n) ≡ start_of m.inits n)
     → (xs : List Item) → All (RegOk ns) (regs_of ks m xs) → All (RegFits es) xs
 regs_fit m es ks ns e [] a = All-nil (RegFits es)

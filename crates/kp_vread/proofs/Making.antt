@@ -1,4 +1,4 @@
--- What the tables say is what the scope says.
+-- The tables agree with the scope.
 use Rattle.std.proofs.Common.{◌≡◌, ◌∙◌, ℕ, ◌+◌, ◌<◌, List, [], ◌∷◌, ◌++◌, length, get_or, take, map, true, false, refl, sym, ap, subst}
 use Rattle.std.proofs.lemmas.List.Sums.{fold_more}
 use Rattle.kp_net.specs.declared.node.NodeId.{NodeId}

@@ -28,7 +28,7 @@ longer : (ks : List (List ℕ)) (n : List ℕ) → length (ks ++ n ∷ []) ≡ l
 longer [] n = refl
 longer (k ∷ ks) n = omega (arith, longer ks n)
 
--- the names behind one more
+-- the names after one more
 among_more : (ks : List (List ℕ)) (n q : List ℕ) → among (ks ++ n ∷ []) q ≡ (among ks q || same q n)
 among_more [] n q = step (same q n)
   where

@@ -1,4 +1,4 @@
--- What the parts of the reader say of the text.
+-- What the parts of the reader determine about the text.
 use Rattle.std.proofs.Common.{◌≡◌, ℕ, ◌+◌, ◌≤◌, List, length, drop, map, None, Result, Ok, Err, MatchResult, sym, subst, arith}
 use Rattle.std.proofs.lemmas.List.{length-drop}
 use Rattle.kp_base.specs.declared.refusal.Refused.{Refused}
@@ -11,8 +11,8 @@ use Rattle.kp_vlog.specs.Rules.{broken}
 use Rattle.kp_vlog.specs.Denote.{net_of, IsModule, Denotes}
 use Rattle.kp_vlog.specs.Verdict.{fault, IsWrong, no_token, wrong_token, broken_rule, AnswersNet}
 use Rattle.kp_vlog.proofs.Built.{module_few}
-use Rattle.kp_vparse.specs.Answer.{AnswersModule}
-use Rattle.kp_vrules.specs.Broken.{IsBroken}
+use Rattle.kp_vread_parse.specs.Answer.{AnswersModule}
+use Rattle.kp_vread_rules.specs.Broken.{IsBroken}
 use Rattle.kp_vread.specs.inner.Whole.{AnswersWhole}
 
 module _ (text : List ℕ) (from : ℕ) where
@@ -53,6 +53,6 @@ module _ (text : List ℕ) (from : ℕ) where
   answered m (Ok net) i h = denotes m net i h.0 h.1
   answered m (Err e) i h = not_sound m e i h
 
--- a text of 16 MiB writes no more than a netlist holds
+-- a text of 16 MiB contains no more than fits a netlist
 pub few : (text : List ℕ) (from : ℕ) (m : VModule) → length text ≤ 16777216 → IsModule from (drop from text) m → (length m.samples ≤ 16777216) × (length m.items ≤ 16777216)
 few text from m h i = let c = module_few from (drop from text) m i in let d = length-drop from text in (omega (arith, c, d), omega (arith, c, d))

@@ -1,4 +1,4 @@
--- The netlist of a module that breaks no rule.
+-- The netlist of a module that violates no rule.
 use Rattle.std.proofs.Common.{◌≡◌, ◌∙◌, ℕ, ◌≤◌, List, length, None, sym, ap, subst}
 use Rattle.kp_net.specs.declared.node.Node.{Node}
 use Rattle.kp_net.specs.declared.netlist.Parts.{Parts}
@@ -9,7 +9,7 @@ use Rattle.kp_vlog.specs.Scope.{scope_of, sizes_of}
 use Rattle.kp_vlog.specs.Rules.{broken}
 use Rattle.kp_vlog.specs.Denote.{made_by, parts_of, net_of}
 use Rattle.kp_vlog.proofs.Sound.{sound}
-use Rattle.kp_vwidths.specs.Tables.{AlikeSizes}
+use Rattle.kp_vread_widths.specs.Tables.{AlikeSizes}
 use Rattle.kp_vread.specs.inner.Numbering.{Numbered, AreNumbered}
 use Rattle.kp_vread.specs.inner.Building.{Numbers, IsScope, IsMade}
 

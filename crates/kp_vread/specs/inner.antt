@@ -1,4 +1,4 @@
--- What only private contracts and proofs of this crate speak of: no public clause rests on it.
+-- For private contracts and proofs of this crate only: no public clause depends on it.
 pub mod Whole
 pub mod Numbering
 pub mod Building

@@ -3,7 +3,7 @@ ghost use Rattle.std.specs.Prelude.{◌≡◌, ◌≤◌, ℕ, List, None, All, 
 ghost use Rattle.kp_vlog.specs.Scope.{scope_of, sizes_of};
 ghost use Rattle.kp_vlog.specs.Rules.{broken};
 ghost use Rattle.kp_vlog.specs.Denote.{net_of, parts_of, regs_of};
-ghost use Rattle.kp_vwidths.specs.Tables.{AlikeSizes};
+ghost use Rattle.kp_vread_widths.specs.Tables.{AlikeSizes};
 ghost use Rattle.kp_vread.specs.inner.Numbering.{AreNumbered};
 ghost use Rattle.kp_vread.specs.inner.Building.{AreNarrow, IsScope};
 ghost use Rattle.kp_vread.specs.inner.Parts.{PortFits, AreStarted, files_by};
@@ -16,10 +16,10 @@ use crate::places::Places;
 use kp_base::{List, NoMemory};
 use kp_net::{Label, NetFile, NetReg, Netlist, Parts};
 use kp_vlog::VModule;
-use kp_vwidths::Starts;
+use kp_vread_widths::Starts;
 use std::alloc::Global;
 
-/// The netlist of a module that breaks no rule. Refuses only where memory runs out.
+/// The netlist of a module that violates no rule. The only error is out of memory.
 pub(crate) fn build(alloc: Global, whole: &VModule) -> Result<Netlist, NoMemory>
     requires sound { broken whole.now ≡ None }
     requires samples { length whole.now.samples ≤ 16777216 }
@@ -49,7 +49,7 @@ fn build_by<'m>(
     Ok(Netlist::from_nodes(made.nodes, parts))
 }
 
-// What stands beside the nodes.
+// The parts other than the nodes.
 fn parts<'m>(
     alloc: Global,
     whole: &'m VModule,

@@ -1,4 +1,4 @@
-// What the right side of an assignment does.
+// The function of the right side of an assignment.
 ghost use Rattle.std.specs.Prelude.{◌≡◌, ◌≤◌, length, map, IfOk};
 ghost use Rattle.kp_vread.specs.inner.Building.{node_by, source_by, kind_by, RightFits};
 
@@ -7,10 +7,10 @@ use crate::places::Places;
 use kp_base::NoMemory;
 use kp_net::{Kind, NodeId, Operands};
 use kp_vlog::{Named, Right};
-use kp_vrules::is_sample;
+use kp_vread_rules::is_sample;
 use std::alloc::Global;
 
-/// What a wire with this right side does. Its operands are wires that are numbered so far. Refuses only where memory runs out.
+/// The kind of node of a wire with this right side. Its operands are wires that are numbered so far. The only error is out of memory.
 pub(crate) fn kind<'m>(
     alloc: Global,
     numbers: &Numbers<'m>,
@@ -48,7 +48,7 @@ pub(crate) fn node<'m>(wires: &Places<'m>, name: &'m Named) -> NodeId
     NodeId(wires.place(&name.name))
 }
 
-// What a single name reads.
+// The source that a single name reads.
 fn source<'m>(numbers: &Numbers<'m>, name: &'m Named) -> Kind
     ensures { result ≡ source_by numbers.now name.now.name }
 {

@@ -1,4 +1,4 @@
-// The next values of registers, found in about constant time.
+// The next values of registers, looked up in about constant time.
 ghost use Rattle.std.specs.Prelude.{◌≡◌, ◌∷◌, [], ℕ, List, IfOk, OnOk};
 ghost use Rattle.kp_vlog.specs.declared.tree.Update.{Update as Line};
 ghost use Rattle.kp_vread.specs.inner.Nexts.{next_by, AreNexts};
@@ -7,13 +7,12 @@ use crate::kinds::node;
 use crate::places::Places;
 use indexmap::IndexMap;
 use kp_base::NoMemory;
-use kp_key::Key;
-use kp_net::{Label, NodeId};
+use kp_net::{Key, Label, NodeId};
 use kp_vlog::Update;
 use std::alloc::Global;
 use std::marker::Model;
 
-/// The nodes whose values registers take, found in about constant time.
+/// The nodes with the next values of registers, looked up in about constant time.
 ///
 /// Contracts see the names with their nodes.
 #[derive(Drop)]
@@ -31,8 +30,8 @@ impl<'m> Model for Nexts<'m> {
 }
 
 impl<'m> Nexts<'m> {
-    /// The next values by these updates, of nodes that are the places of wires. Where a register has several, its first one counts. Refuses
-    /// only where memory runs out.
+    /// The next values by these updates, where a node is the number of its wire. If a register has several, its first one counts. The only error is
+    /// out of memory.
     pub fn new(
         alloc: Global,
         wires: &Places<'m>,
@@ -69,7 +68,7 @@ impl<'m> Nexts<'m> {
         }
     }
 
-    /// The node whose value the register takes; node 0 where it takes none.
+    /// The node with the next value of the register; node 0 if it has none.
     pub fn get(&self, name: &'m Label) -> NodeId
         ensures { result ≡ next_by self.now name.now }
     {

@@ -10,7 +10,7 @@ use crate::places::Places;
 use kp_base::NoMemory;
 use kp_net::Node;
 use kp_vlog::{Item, Named, Right};
-use kp_vrules::is_output;
+use kp_vread_rules::is_output;
 use std::alloc::Global;
 
 /// The wires that are assigned so far, by their numbers, and their nodes.
@@ -21,7 +21,7 @@ pub(crate) struct Made<'m> {
 }
 
 impl<'m> Made<'m> {
-    /// The wires of a module and their nodes, in the order of their assignments. Refuses only where memory runs out.
+    /// The wires of a module and their nodes, in the order of their assignments. The only error is out of memory.
     pub fn new(
         alloc: Global,
         numbers: &Numbers<'m>,

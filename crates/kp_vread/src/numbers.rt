@@ -1,18 +1,18 @@
-// What the names of a module stand for, by tables.
+// The objects that the names of a module denote, by tables.
 ghost use Rattle.std.specs.Prelude.{◌+◌, ◌-◌, ◌^◌, ◌<◌, ◌≤◌, ◌++◌, ◌∷◌, [], ℕ, List, length, map, IfOk, OnOk};
 ghost use Rattle.kp_vlog.specs.Scope.{scope_of, sizes_of, reg_names, file_names};
-ghost use Rattle.kp_vwidths.specs.Tables.{AlikeSizes};
+ghost use Rattle.kp_vread_widths.specs.Tables.{AlikeSizes};
 ghost use Rattle.kp_vread.specs.inner.Numbering.{AreNumbered};
 ghost use Rattle.kp_vread.specs.inner.Building.{IsScope};
 
 use crate::places::Places;
 use kp_base::NoMemory;
 use kp_vlog::{Item, VModule, VPort};
-use kp_vwidths::Sizes;
+use kp_vread_widths::Sizes;
 use std::alloc::Global;
 use std::marker::Model;
 
-/// What the names of a module stand for: the sizes of all, and the places of the samples, registers and files, each in the order of
+/// The objects that the names of a module denote: the sizes of all, and the numbers of the samples, registers and files, each in the order of
 /// declaration.
 #[derive(Drop)]
 pub(crate) struct Numbers<'m> {
@@ -31,7 +31,7 @@ impl<'m> Model for Numbers<'m> {
 }
 
 impl<'m> Numbers<'m> {
-    /// The numbers of the names of a module. Refuses only where memory runs out.
+    /// The numbers of the names of a module. The only error is out of memory.
     pub fn new(alloc: Global, whole: &'m VModule) -> Result<Numbers<'m>, NoMemory>
         requires samples { length whole.now.samples ≤ 16777216 }
         requires items { length whole.now.items ≤ 16777216 }

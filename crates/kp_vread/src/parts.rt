@@ -1,8 +1,8 @@
-// What stands beside the nodes of a netlist.
+// The parts of a netlist other than the nodes.
 ghost use Rattle.std.specs.Prelude.{◌≡◌, All, map, IfOk};
 ghost use Rattle.kp_bits.specs.Word.{IsWord};
 ghost use Rattle.kp_vlog.specs.Denote.{sample_of};
-ghost use Rattle.kp_vwidths.specs.Tables.{found};
+ghost use Rattle.kp_vread_widths.specs.Tables.{found};
 ghost use Rattle.kp_vread.specs.inner.Building.{AreNarrow, start_from};
 ghost use Rattle.kp_vread.specs.inner.Parts.{RegFits, PortFits, reg_by, regs_by, file_by, files_by, output_by, port_by};
 
@@ -14,10 +14,10 @@ use kp_base::NoMemory;
 use kp_bits::Bits;
 use kp_net::{Label, NetFile, NetReg, NodeId, Port, WritePort};
 use kp_vlog::{Init, Item, Right, Update, VPort};
-use kp_vwidths::{Sizes, Starts};
+use kp_vread_widths::{Sizes, Starts};
 use std::alloc::Global;
 
-/// The sample ports, in the order of declaration. Refuses only where memory runs out.
+/// The sample ports, in the order of declaration. The only error is out of memory.
 pub(crate) fn samples(alloc: Global, ports: &[VPort]) -> Result<Vec<Port>, NoMemory>
     requires { All PortFits ports.now }
     ensures { IfOk result (λ v. v.items ≡ map sample_of ports.now) }
@@ -31,7 +31,7 @@ pub(crate) fn samples(alloc: Global, ports: &[VPort]) -> Result<Vec<Port>, NoMem
     Ok(all)
 }
 
-/// The registers, in the order of declaration. Refuses only where memory runs out.
+/// The registers, in the order of declaration. The only error is out of memory.
 pub(crate) fn regs<'m>(
     alloc: Global,
     starts: &Starts<'m>,
@@ -66,7 +66,7 @@ fn reg<'m>(
     })
 }
 
-// The value that a register starts with.
+// The start value of a register.
 fn start<'m>(starts: &Starts<'m>, name: &'m Label) -> Bits
     requires { IsWord (start_from (found starts.now name.now)) }
     ensures { result ≡ start_from (found starts.now name.now) }
@@ -74,7 +74,7 @@ fn start<'m>(starts: &Starts<'m>, name: &'m Label) -> Bits
     starts.get(name).unwrap().fit().unwrap()
 }
 
-/// The node of the wire that is assigned to an output; node 0 where none is.
+/// The node of the wire that is assigned to an output; node 0 if none is.
 pub(crate) fn output<'m>(wires: &Places<'m>, out: &[u8], items: &'m [Item]) -> NodeId
     ensures { result ≡ output_by wires.now out.now items.now }
 {
@@ -88,7 +88,7 @@ pub(crate) fn output<'m>(wires: &Places<'m>, out: &[u8], items: &'m [Item]) -> N
     NodeId(0)
 }
 
-/// Where what stands in the files of a module comes from.
+/// What the contents of the files of a module are built from.
 #[derive(Clone, Copy)]
 pub(crate) struct Sources<'s, 'm> {
     pub sizes: &'s Sizes<'m>,
@@ -97,7 +97,7 @@ pub(crate) struct Sources<'s, 'm> {
     pub updates: &'m [Update],
 }
 
-/// The files, in the order of declaration. Refuses only where memory runs out.
+/// The files, in the order of declaration. The only error is out of memory.
 pub(crate) fn files<'m>(
     alloc: Global,
     from: &Sources<'_, 'm>,

@@ -1,15 +1,14 @@
-// Names by their numbers, found in about constant time.
+// Names by their numbers, looked up in about constant time.
 ghost use Rattle.std.specs.Prelude.{◌≡◌, ◌+◌, ◌<◌, ◌-◌, ◌^◌, ◌++◌, ◌∷◌, [], ℕ, List, OnOk};
 ghost use Rattle.kp_vread.specs.inner.Numbering.{place_by, AreNumbered};
 
 use indexmap::IndexMap;
 use kp_base::NoMemory;
-use kp_key::Key;
-use kp_net::Label;
+use kp_net::{Key, Label};
 use std::alloc::Global;
 use std::marker::Model;
 
-/// Names by their numbers, found in about constant time.
+/// Names by their numbers, looked up in about constant time.
 ///
 /// Contracts see the names with their numbers, and how many were added.
 #[derive(Drop)]
@@ -39,7 +38,7 @@ impl<'m> Places<'m> {
         }
     }
 
-    /// The number of a name: how many were added before it. Of a name that was not added, how many were.
+    /// The number of a name: how many were added before it. For a name that was not added, the number of all names that were.
     pub fn place(&self, name: &'m Label) -> u32
         ensures { result ≡ place_by self.now name.now }
     {
@@ -49,7 +48,7 @@ impl<'m> Places<'m> {
         }
     }
 
-    /// Adds a name; where it is there, it keeps its number, and the count grows all the same. Refuses only where memory runs out.
+    /// Adds a name; if it is present already, it keeps its number, and the count increases all the same. The only error is out of memory.
     pub fn add(&mut self, name: &'m Label) -> Result<(), NoMemory>
         requires { self.old.count < 2 ^ 32 - 1 }
         ensures numbered { OnOk result ((ks : List (List ℕ)) → AreNumbered self.old ks → AreNumbered self.new (ks ++ name.now ∷ [])) }

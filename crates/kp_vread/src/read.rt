@@ -3,21 +3,21 @@ ghost use Rattle.std.specs.Prelude.{◌≡◌, ◌≤◌, ◌-◌, ◌^◌, None
 ghost use Rattle.kp_vlog.specs.Rules.{broken};
 ghost use Rattle.kp_vlog.specs.Denote.{net_of};
 ghost use Rattle.kp_vlog.specs.Verdict.{AnswersNet};
-ghost use Rattle.kp_vrules.specs.Broken.{IsBroken};
+ghost use Rattle.kp_vread_rules.specs.Broken.{IsBroken};
 ghost use Rattle.kp_vread.specs.inner.Whole.{AnswersWhole};
 
 use crate::build::build;
 use kp_base::Refused;
 use kp_net::Netlist;
 use kp_vlog::{VModule, vlex};
-use kp_vparse::vparse;
-use kp_vrules::check_module;
+use kp_vread_parse::vparse;
+use kp_vread_rules::check_module;
 use std::alloc::Global;
 
-/// The netlist that a Verilog text denotes from an offset on. Nodes are the wires of the text in the order of their assignments, each one kept.
+/// The netlist that a Verilog text denotes from an offset on. Nodes are the wires of the text in the order of their assignments; none is removed.
 ///
-/// Refuses V1 where no token begins, else V2 at the first token behind which no module goes on, else the first of V3, V4 and V5 that the
-/// module breaks, each at its first place. Places count from the start of the text.
+/// Errors: V1 where no token starts, else V2 at the first token at which no module can continue, else the first of V3, V4 and V5 that the module
+/// violates, each at its first position; and out of memory. Positions are counted from the start of the text.
 pub fn read_verilog(alloc: Global, text: &[u8], from: u32) -> Result<Netlist, Refused>
     requires within { from ≤ length text.now }
     requires fits { length text.now ≤ 16777216 }
@@ -29,7 +29,7 @@ pub fn read_verilog(alloc: Global, text: &[u8], from: u32) -> Result<Netlist, Re
     netlist
 }
 
-// The netlist of a module of the text, if it breaks no rule.
+// The netlist of a module of the text, if it violates no rule.
 fn checked(alloc: Global, text: &[u8], whole: &VModule) -> Result<Netlist, Refused>
     requires fits { length text.now ≤ 2 ^ 32 - 2 }
     requires samples { length whole.now.samples ≤ 16777216 }

@@ -1,4 +1,4 @@
-// The words that a file starts with.
+// The start words of a file.
 ghost use Rattle.std.specs.Prelude.{◌≡◌, set as set_at, IfOk, length};
 ghost use Rattle.kp_net.specs.Names.{same};
 ghost use Rattle.kp_vlog.specs.Denote.{words_of, word_init};
@@ -8,7 +8,7 @@ use kp_net::Label;
 use kp_vlog::Init;
 use std::alloc::Global;
 
-/// The words that a file of this name starts with, so many of them. Refuses only where memory runs out.
+/// The start words of the file with this name, of which there are `count`. The only error is out of memory.
 pub(crate) fn words(
     alloc: Global,
     inits: &[Init],
@@ -24,7 +24,7 @@ pub(crate) fn words(
     Ok(List::new(words))
 }
 
-// What one line does to them.
+// Applies one line to them.
 fn put(words: &mut Vec<u64>, init: &Init, name: &Label)
     ensures { words.new.items ≡ word_init (length words.old.items) name.now words.old.items init.now }
 {

@@ -1,4 +1,4 @@
--- Texts that pass a page, one after another.
+-- Texts that pass through a buffer in order.
 use Rattle.std.proofs.Common.{◌≡◌, ◌∙◌, ℕ, ◌+◌, ◌≤◌, ◌<◌, List, [], ◌∷◌, ◌++◌, length, get_or, take, drop, refl, sym, ap, subst, append_assoc, append-nil, Ok, Err}
 use Rattle.std.specs.Prelude.{flat_map}
 use Rattle.std.proofs.lemmas.List.{drop_more, drop_all, take_more}
@@ -11,7 +11,7 @@ use Rattle.kp_base.specs.Bytes.{AppendsPart, Writes}
 use Rattle.kp_base.proofs.Bytes.{writes_next}
 use Rattle.kp_vwrite.specs.inner.Passing.{Passes, Stops, Sends}
 
--- the sink failed before it had the page
+-- the sink failed before it had the contents of the buffer
 pub stops_flushed : (a b : Option (List ℕ)) (page text : List ℕ) → AppendsPart a b page → Stops a page b text
 stops_flushed a b page text (front, rest, split, part) = record {
   sent = front;
@@ -20,7 +20,7 @@ stops_flushed a b page text (front, rest, split, part) = record {
   split = ap (λ (t : List ℕ). t ++ text) split ∙ append_assoc front rest text;
 }
 
--- the page went to the sink, and then the text without it
+-- the buffer was written to the sink, and then the text without it
 pub sends_flushed : {T E : Type 0} (a b c : Option (List ℕ)) (page kept text : List ℕ) (result : Result T E) → Appends a b page → kept ≡ [] → Writes b c text result → Sends a page c kept text result
 sends_flushed a b c page kept text (Ok value) flushed empty written = record {
   sent = page ++ text;
@@ -71,7 +71,7 @@ pub sends_next : {T E : Type 0} (a b c : Option (List ℕ)) (p q r t1 t2 : List 
 sends_next a b c p q r t1 t2 (Ok value) x y = passes_next a b c p q r t1 t2 x y
 sends_next a b c p q r t1 t2 (Err error) x y = stops_next a b c p q t1 t2 x y
 
--- a whole text passed up to this rest of it
+-- a text passed completely up to this rest of it
 pub record PassedUpTo (whole rest : List ℕ) (old : Option (List ℕ)) (page : List ℕ) (new : Option (List ℕ)) (kept : List ℕ) : Type 0 where
   pub done : List ℕ
   pub split : whole ≡ done ++ rest
@@ -80,7 +80,7 @@ pub record PassedUpTo (whole rest : List ℕ) (old : Option (List ℕ)) (page : 
 pub passed_none : (whole : List ℕ) (a : Option (List ℕ)) (page : List ℕ) → PassedUpTo whole whole a page a page
 passed_none whole a page = record { done = []; split = refl; passed = passes_nothing a page }
 
--- Lines of a list, of which each is written in turn.
+-- Lines of a list, written in order.
 module _ {X : Type 0} (f : ℕ → List X → List ℕ) (line : ℕ → X → List ℕ) (more : (j : ℕ) (x : X) (xs : List X) → f j (x ∷ xs) ≡ line j x ++ f (j + 1) xs) (none : (j : ℕ) → f j [] ≡ []) where
   next_line : (all : List X) (i : ℕ) (x : X) → i < length all → x ≡ get_or all i x → f i (drop i all) ≡ line i x ++ f (i + 1) (drop (i + 1) all)
   next_line all i x h e = ap (f i) (drop_more all i x h) ∙ more i (get_or all i x) (drop (i + 1) all) ∙ ap (λ y. line i y ++ f (i + 1) (drop (i + 1) all)) (sym e)
@@ -109,7 +109,7 @@ pub flat_map_more : {X : Type 0} (f : X → List ℕ) (xs : List X) (i : ℕ) (d
 flat_map_more f xs i d within =
     ap (flat_map f) (take_more xs i d within) ∙ flat_map-append f (take i xs) (get_or xs i d ∷ []) ∙ ap (λ (t : List ℕ). flat_map f (take i xs) ++ t) (append-nil (f (get_or xs i d)))
 
--- a text that began on an empty page is behind what the sink held once the page is flushed
+-- a text that started with an empty buffer follows what the sink contained once the buffer is flushed
 pub flushed : {T E : Type 0} (a b c : Option (List ℕ)) (page kept text : List ℕ) (result : Result T E) → page ≡ [] → Passes a page b kept text → Writes b c kept result → Writes a c text result
 flushed a b c page kept text result empty passed written =
     subst (λ (t : List ℕ). Writes a c t result) (sym (ap (λ (t : List ℕ). t ++ text) (sym empty) ∙ passed.split)) (writes_next a b c passed.sent kept result passed.appended written)

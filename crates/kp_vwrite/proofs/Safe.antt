@@ -1,4 +1,4 @@
--- What the parts of a netlist keep, for writing.
+-- The invariants of a netlist's parts that writing needs.
 use Rattle.std.proofs.Common.{◌≡◌, ◌∙◌, ℕ, zero, suc, ◌≤◌, ◌<◌, List, [], ◌∷◌, length, get_or, refl, sym, ap, subst, arith}
 use Rattle.std.specs.Prelude.{All}
 use Rattle.std.proofs.lemmas.List.Elements.{All-weaker}
@@ -12,7 +12,7 @@ use Rattle.kp_net.specs.Widths.{wide, no_node, KindOk}
 use Rattle.kp_net.specs.Parts.{NetOk, CellOk, FileOk}
 use Rattle.kp_vwrite.specs.inner.Texts.{KindSafe, NodeSafe, AllSafe, FileSafe}
 
--- what stands at a place doesn't depend on what would stand behind the list
+-- the entry at an index of a list doesn't depend on the default past its end
 pub any_default : {X : Type 0} (xs : List X) (i : ℕ) (d e : X) → i < length xs → get_or xs i d ≡ get_or xs i e
 any_default [] i d e h = absurd (omega arith)
 any_default (x ∷ xs) zero d e h = refl
@@ -42,7 +42,7 @@ nodes_safe net k i h =
     let ok = k.right i h in
     record { positive = ok.positive; kind = kind_safe net.nodes net.parts i _ _ ok.positive ok.at_most ok.kind (k.parts.cells i h) }
 
--- a node that is met at its place
+-- the node at an index
 pub safe_at : (p : Parts) (ns : List Node) (i : ℕ) (n : Node) → AllSafe p ns → i < length ns → n ≡ get_or ns i n → NodeSafe p n
 safe_at p ns i n all h e = subst (NodeSafe p) (any_default ns i no_node n h ∙ sym e) (all i h)
 

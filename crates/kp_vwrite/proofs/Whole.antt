@@ -1,4 +1,4 @@
--- The canonical text is its parts.
+-- The canonical text is the concatenation of its parts.
 use Rattle.std.proofs.Common.{◌≡◌, ◌∙◌, ℕ, ◌-◌, Bool, true, false, List, [], ◌∷◌, ◌++◌, refl, ap, append_assoc, append-nil}
 use Rattle.std.specs.Prelude.{codes, decimal}
 use Rattle.kp_net.specs.declared.node.Node.{Node}

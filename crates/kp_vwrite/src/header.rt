@@ -11,7 +11,7 @@ use itoa::Buffer;
 use kp_base::{Sink, SinkFault};
 use kp_net::{NetFile, NetReg, Netlist, NodeId, Parts, Port};
 
-// The port of the reset, where there is one.
+// The port of the reset, if there is one.
 fn reset_piece(parts: &Parts) -> &[u8]
     ensures { result.now ≡ reset_text parts.now.reset }
 {
@@ -123,7 +123,7 @@ fn write_outputs<K: Sink>(net: &Netlist, page: &mut Page, sink: &mut K) -> Resul
     )
 }
 
-/// Writes the line with the module's name and its ports.
+/// Writes the line with the module's name and its ports. A fault comes only from the sink.
 pub fn write_header<K: Sink>(net: &Netlist, page: &mut Page, sink: &mut K) -> Result<(), SinkFault>
     ensures text { Sends (K.held sink.old) page.old (K.held sink.new) page.new (header_text net.now.nodes net.now.parts) result }
     ensures cause { HasCause (K.faults sink.old) (K.faults sink.new) result }
@@ -152,7 +152,7 @@ fn write_regs<K: Sink>(regs: &[NetReg], page: &mut Page, sink: &mut K) -> Result
     Ok(())
 }
 
-/// How many words an address of so many bits tells apart.
+/// The number of words that an address of this width selects from.
 pub fn word_count(address_width: u8) -> u32
     requires { address_width ≤ 16 }
     ensures value { result ≡ 2 ^ address_width }
@@ -203,7 +203,7 @@ fn write_integer<K: Sink>(files: &[NetFile], page: &mut Page, sink: &mut K) -> R
     }
 }
 
-/// Writes the declarations of the registers and of the files.
+/// Writes the declarations of the registers and of the files. A fault comes only from the sink.
 pub fn write_cells<K: Sink>(parts: &Parts, page: &mut Page, sink: &mut K) -> Result<(), SinkFault>
     requires { All FileSafe parts.now.files }
     ensures text { Sends (K.held sink.old) page.old (K.held sink.new) page.new (cells_text parts.now) result }

@@ -56,7 +56,7 @@ fn sign_of(op: BinOp) -> &'static [u8]
     }
 }
 
-/// The spelling of a word, in this room.
+/// The text of a word, such as `8'h0b`, written to a buffer.
 pub fn spelled(value: Bits, room: &mut [u8; 20]) -> &[u8]
     ensures { result.now ≡ spelling value }
 {
@@ -102,7 +102,7 @@ fn write_choice<K: Sink>(
     put_pieces(page, sink, &pieces)
 }
 
-// The name of a node's wire, behind this text.
+// The name of a node's wire, after this text.
 #[tactic(auto, unfolding(crate::specs::inner::Texts::wire_text))]
 fn write_wire<K: Sink>(
     front: &[u8],
@@ -241,7 +241,7 @@ fn write_node<K: Sink>(
     put_fixed(page, sink, b";\n")
 }
 
-/// Writes the wires with their assignments.
+/// Writes the wires with their assignments. A fault comes only from the sink.
 pub fn write_nodes<K: Sink>(
     parts: &Parts,
     nodes: &[Node],
@@ -258,7 +258,7 @@ pub fn write_nodes<K: Sink>(
     Ok(())
 }
 
-/// A node given to a name: an output, or a register at the end of a cycle.
+/// Writes a line that assigns a node to a name: an output, or a register at the end of a cycle. A fault comes only from the sink.
 #[tactic(auto, unfolding(crate::specs::inner::Texts::given_text))]
 pub fn write_given<'a, K: Sink>(
     margin: &'a [u8],
@@ -282,7 +282,7 @@ pub fn write_given<'a, K: Sink>(
     put_pieces(page, sink, &pieces)
 }
 
-/// Writes the assignments of the outputs.
+/// Writes the assignments of the outputs. A fault comes only from the sink.
 pub fn write_outs<K: Sink>(parts: &Parts, page: &mut Page, sink: &mut K) -> Result<(), SinkFault>
     ensures text { Sends (K.held sink.old) page.old (K.held sink.new) page.new (outs_text parts.now) result }
     ensures cause { HasCause (K.faults sink.old) (K.faults sink.new) result }

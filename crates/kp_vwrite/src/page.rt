@@ -1,4 +1,4 @@
-// The page that a text passes on its way to the sink, so that the sink is called once for many lines.
+// The buffer that a text passes through on its way to the sink, so that the sink is called once for many lines.
 ghost use Rattle.std.specs.Prelude.{◌≡◌, ◌+◌, ◌-◌, ◌≤◌, ℕ, List, [], ◌++◌, length, flat_map, OnOk};
 ghost use Rattle.kp_base.specs.Bytes.{Writes};
 ghost use Rattle.kp_base.specs.Causes.{HasCause};
@@ -10,7 +10,7 @@ use std::marker::Model;
 
 const SIZE: usize = 8192;
 
-/// Bytes that the sink has not got yet. Contracts see the list of them.
+/// Bytes that have not been written to the sink yet. Contracts see the list of them.
 #[derive(Drop)]
 pub struct Page {
     bytes: [u8; 8192],
@@ -28,7 +28,7 @@ impl Model for Page {
 }
 
 impl Page {
-    /// An empty page. Takes no memory.
+    /// An empty buffer. Allocates nothing.
     pub fn new() -> Page
         ensures { result ≡ [] }
     {
@@ -38,7 +38,7 @@ impl Page {
         }
     }
 
-    // How many more bytes there is room for.
+    // How many more bytes fit.
     fn room(&self) -> usize
         ensures { length self.now + result ≡ 8192 }
     {
@@ -54,7 +54,7 @@ impl Page {
         self.len = end;
     }
 
-    /// Hands all bytes to the sink.
+    /// Writes all bytes to the sink. A fault comes only from the sink.
     pub fn flush<K: Sink>(&mut self, sink: &mut K) -> Result<(), SinkFault>
         ensures text { Writes (K.held sink.old) (K.held sink.new) self.old result }
         ensures empty { OnOk result (self.new ≡ []) }
@@ -66,7 +66,7 @@ impl Page {
     }
 }
 
-/// Puts a piece of text on the page, which goes to the sink where it is full.
+/// Appends a piece of text to the buffer, which is written to the sink when it is full. A fault comes only from the sink.
 pub fn put<K: Sink>(page: &mut Page, sink: &mut K, piece: &[u8]) -> Result<(), SinkFault>
     ensures text { Sends (K.held sink.old) page.old (K.held sink.new) page.new piece.now result }
     ensures cause { HasCause (K.faults sink.old) (K.faults sink.new) result }
@@ -81,7 +81,7 @@ pub fn put<K: Sink>(page: &mut Page, sink: &mut K, piece: &[u8]) -> Result<(), S
     Ok(())
 }
 
-/// Puts a text on the page that is the same in each netlist.
+/// Appends a text that is the same for all netlists. A fault comes only from the sink.
 #[tactic(auto, unfolding(crate::specs::inner::Texts::fixed))]
 pub fn put_fixed<K: Sink>(page: &mut Page, sink: &mut K, text: &[u8]) -> Result<(), SinkFault>
     ensures text { Sends (K.held sink.old) page.old (K.held sink.new) page.new (fixed text.now) result }
@@ -90,7 +90,7 @@ pub fn put_fixed<K: Sink>(page: &mut Page, sink: &mut K, text: &[u8]) -> Result<
     put(page, sink, text)
 }
 
-/// Puts the pieces on the page, one after another.
+/// Appends the pieces in order. A fault comes only from the sink.
 pub fn put_pieces<K: Sink>(page: &mut Page, sink: &mut K, pieces: &[&[u8]]) -> Result<(), SinkFault>
     ensures text { Sends (K.held sink.old) page.old (K.held sink.new) page.new (flat_map (λ piece. piece.now) pieces.now) result }
     ensures cause { HasCause (K.faults sink.old) (K.faults sink.new) result }

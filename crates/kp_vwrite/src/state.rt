@@ -1,4 +1,4 @@
-// The blocks that give registers and files their start values, and that change them.
+// The blocks that set the start values of registers and files, and that update them.
 ghost use Rattle.std.specs.Prelude.{◌<◌, ◌≤◌, ◌^◌, All, true};
 ghost use Rattle.kp_base.specs.Causes.{HasCause};
 ghost use Rattle.kp_vwrite.specs.inner.Passing.{Sends};
@@ -12,7 +12,7 @@ use kp_base::{Sink, SinkFault};
 use kp_bits::Bits;
 use kp_net::{NetFile, NetReg, NodeId, Parts};
 
-// The start value of a register, given to it by this sign.
+// The start value of a register, with this assignment operator.
 #[tactic(auto, unfolding(crate::specs::inner::Texts::value_text))]
 fn write_value<'a, K: Sink>(
     margin: &'a [u8],
@@ -51,7 +51,7 @@ fn write_values<K: Sink>(
     Ok(())
 }
 
-// The loop that makes each word of a file zero. Its head has these words before and behind the count.
+// The loop that sets each word of a file to zero. Its head has these texts before and after the count.
 #[tactic(auto, unfolding(crate::specs::inner::Texts::fill_text))]
 fn write_fill<'a, K: Sink>(
     front: &'a [u8],
@@ -158,7 +158,7 @@ fn write_fills<K: Sink>(files: &[NetFile], page: &mut Page, sink: &mut K) -> Res
     Ok(())
 }
 
-/// Writes the block with the start values, but for its end.
+/// Writes the block with the start values, except its end. A fault comes only from the sink.
 pub fn write_state<K: Sink>(parts: &Parts, page: &mut Page, sink: &mut K) -> Result<(), SinkFault>
     requires { All FileSafe parts.now.files }
     ensures text { Sends (K.held sink.old) page.old (K.held sink.new) page.new (state_text parts.now) result }
@@ -296,7 +296,7 @@ fn write_body<K: Sink>(parts: &Parts, page: &mut Page, sink: &mut K) -> Result<(
     }
 }
 
-/// Writes the block of what changes at the end of a cycle, and the module's end.
+/// Writes the block with the updates at the end of a cycle, and the module's end. A fault comes only from the sink.
 pub fn write_clock<K: Sink>(parts: &Parts, page: &mut Page, sink: &mut K) -> Result<(), SinkFault>
     ensures text { Sends (K.held sink.old) page.old (K.held sink.new) page.new (clock_text parts.now) result }
     ensures cause { HasCause (K.faults sink.old) (K.faults sink.new) result }

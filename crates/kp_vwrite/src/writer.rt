@@ -1,4 +1,4 @@
-// The whole text.
+// The complete text.
 ghost use Rattle.std.specs.Prelude.{All};
 ghost use Rattle.kp_base.specs.Bytes.{Writes};
 ghost use Rattle.kp_base.specs.Causes.{HasCause};
@@ -40,7 +40,7 @@ fn write_whole<K: Sink>(net: &Netlist, page: &mut Page, sink: &mut K) -> Result<
     write_blocks(net.parts(), page, sink)
 }
 
-/// Appends the canonical text of the netlist, or the beginning of it where the sink fails. Takes no memory.
+/// Appends the canonical text of the netlist, or a prefix of it if the sink fails. A fault comes only from the sink. Allocates nothing.
 pub fn write_verilog<K: Sink>(net: &Netlist, sink: &mut K) -> Result<(), SinkFault>
     ensures text { Writes (K.held sink.old) (K.held sink.new) (canon net.now) result }
     ensures cause { HasCause (K.faults sink.old) (K.faults sink.new) result }

@@ -6,7 +6,7 @@ use Rattle.kp_bits.specs.Word.{word}
 use Rattle.kp_ast.specs.declared.tree.Job.{Job}
 use Rattle.kp_net.specs.Netlist.{Net, State}
 use Rattle.kp_seq.specs.Running.{HasWord, target}
-use Rattle.kp_shows.specs.Naming.{value_shown}
+use Rattle.kp_synth_spec.specs.Naming.{value_shown}
 use Rattle.kp_watch.specs.declared.compare.Difference.{Difference}
 use Rattle.kp_watch.specs.inner.Comparing.{IsFirstAt, AgreeBelow, IsFirstIn}
 
@@ -21,7 +21,7 @@ address_more shown owed a kept last b h = go (nat_lt b a) refl
         let same : a ≡ b = omega (arith, above, h) in
         subst (λ (i : ℕ). shown i ≡ owed i) same last
 
--- what was compared with the job of a machine
+-- comparing with the job of a machine is comparing with the job
 module _ (net : Net) (st : State) (job other : Job) (cycle t : ℕ) (owed due : ℕ → ℕ) (same : other ≡ job) (is : due ≡ owed) where
   pub first_at_alike : (d : Difference) → IsFirstAt other (value_shown other net st t) owed cycle t d → IsFirstAt job (value_shown job net st t) due cycle t d
   first_at_alike d first =
@@ -45,7 +45,7 @@ module _ (job : Job) (shown owed : ℕ → ℕ → ℕ) (t : ℕ) (kept : AgreeB
           let same : s ≡ t = omega (arith, above, h) in
           subst (λ (i : ℕ). shown i b ≡ owed i b) (sym same) (last b (subst (λ (i : ℕ). HasWord job i b) same there))
 
-  -- the first difference of a target behind targets without one
+  -- the first difference of a target, if the targets before it have none
   pub first_in : (cycle : ℕ) (d : Difference) → IsFirstAt job (shown t) (owed t) cycle t d → IsFirstIn job shown owed cycle d
   first_in cycle d first = record {
     cycle_is = first.cycle_is;

@@ -1,4 +1,4 @@
--- The machines beside a run, one row after another.
+-- The machines in lockstep with a run, row by row.
 use Rattle.std.proofs.Common.{◌≡◌, ◌≢◌, ◌∙◌, ℕ, suc, ◌+◌, ◌<◌, ◌≤◌, List, [], ◌∷◌, ◌++◌, length, get_or, set, map, Bool, true, false, refl, ap, sym, arith, length-set}
 use Rattle.std.specs.Prelude.{nat_lt, if◌then◌else◌}
 use Rattle.std.specs.List.{All}
@@ -8,9 +8,9 @@ use Rattle.std.proofs.lemmas.List.Elements.{All-set, All-push}
 use Rattle.std.proofs.lemmas.Grind.{get_or-set_at}
 use Rattle.kp_base.specs.declared.row.Row as masks
 use Rattle.kp_ast.specs.declared.tree.Job.{Job}
-use Rattle.kp_law.specs.Accepted.{Accepted}
-use Rattle.kp_law.specs.Rows.{Row, bit, bits, one_if, passed}
-use Rattle.kp_law.specs.Sequential.{exec, seq}
+use Rattle.kp_pipeline.specs.Accepted.{Accepted}
+use Rattle.kp_pipeline.specs.Rows.{Row, bit, bits, one_if, passed}
+use Rattle.kp_pipeline.specs.Sequential.{exec, seq}
 use Rattle.kp_machine.specs.Machine.{machine_of, sequential, state_of, result_for, write_stage_of}
 use Rattle.kp_machine.specs.Slots.{targets_of}
 use Rattle.kp_sched.specs.Rows.{bit_of, rows_seen}
@@ -66,7 +66,7 @@ next_is : (job : Job) (values : ℕ → ℕ → ℕ) (i : ℕ) → exec (machine
 unfolding seq
 next_is job values i = refl
 
--- ---- those of the first stages have run one row more
+-- ---- the machines of the first stages have executed one row more
 
 module _ (job : Job) (values : ℕ → ℕ → ℕ) (rows : List masks.Row) (T : ℕ) where
   abbrev n : ℕ
@@ -96,7 +96,7 @@ module _ (job : Job) (values : ℕ → ℕ → ℕ) (rows : List masks.Row) (T :
       go j true e = rw e refl
       go j false e = rw e refl
 
-  -- machine k has run, and all others stand where they stood
+  -- machine k executes an instruction, and all others are unchanged
   others : (k j : ℕ) → j ≢ k → after (if nat_lt j k then T + 1 else T) j ≡ after (if nat_lt j (k + 1) then T + 1 else T) j
   others k j other = go (nat_lt j k) refl
     where
@@ -188,9 +188,9 @@ module _ (job : Job) (values : ℕ → ℕ → ℕ) (rows : List masks.Row) (T :
           ∙ before k ∙ still ∙ sym (this k)
           ∙ ap (λ (l : ℕ). after (if nat_lt l (k + 1) then T + 1 else T) l) (sym at)
 
--- ---- what they show
+-- ---- the values of the machines
 
--- what is shown of a target is the state of the machine at its home
+-- the value of a target is that in the state of its machine
 at_home : (job : Job) (machines : List Running) (t k : ℕ) (m d : Running) → k ≡ home_of job t → k < length machines → m ≡ get_or machines k d → due_by job machines t ≡ state m t
 at_home job machines t k m d home there is =
     ap (λ (h : ℕ). get_or (map state machines) h (λ s a. 0) t) (sym home)
@@ -210,7 +210,7 @@ module _ (job : Job) (acc : Accepted (machine_of job)) (rows : List Row) (T : �
   ran_by true w h = rw (lt-ltb w job.stages.value (h refl)) refl
   ran_by false w h = rw (le-ltb job.stages.value job.stages.value (let e : job.stages.value ≤ job.stages.value = omega arith in e)) refl
 
-  -- the machine at the home of a target has run the instructions that stand behind it
+  -- the machine of a target has executed the instructions that the target reflects
   home_ran : (t : ℕ) → ran job.stages.value rows T (home_of job t) ≡ passes job rows T t
   unfolding home_of passes machine_of
   home_ran t = ran_by (is_some (result_for job t)) (write_stage_of (result_for job t)) (acc.writes t)

@@ -1,4 +1,4 @@
--- Where a netlist keeps a target.
+-- The register or file of a netlist that stores a target.
 use Rattle.std.proofs.Common.{◌≡◌, ◌∙◌, ℕ, zero, suc, ◌+◌, ◌<◌, ◌≤◌, ◌^◌, List, [], ◌∷◌, ◌++◌, map, length, get_or, Bool, true, false, drop, None, refl, ap, sym, subst, arith}
 use Rattle.std.specs.Prelude.{◌==◌, if◌then◌else◌}
 use Rattle.std.proofs.lemmas.Bool.{eqb-true}
@@ -17,8 +17,8 @@ use Rattle.kp_machine.specs.Slots.{Slot, slot, targets_of, is_register}
 use Rattle.kp_net.specs.Netlist.{Net, State}
 use Rattle.kp_net.specs.Parts.{NetOk, no_reg, no_file}
 use Rattle.kp_seq.specs.Running.{HasWord, no_slot, target}
-use Rattle.kp_shows.specs.Naming.{register_of, file_of, value_shown}
-use Rattle.kp_shows.specs.Shows.{IsOfJob}
+use Rattle.kp_synth_spec.specs.Naming.{register_of, file_of, value_shown}
+use Rattle.kp_synth_spec.specs.Shows.{IsOfJob}
 use Rattle.kp_watch.specs.declared.places.Place.{Place}
 use Rattle.kp_watch.specs.declared.places.Place.TheVariants.{Register, File}
 use Rattle.kp_watch.specs.inner.Places.{place_in, places_in, words_at}
@@ -94,7 +94,7 @@ module _ (net : Net) (ds : List Decl) (i : ℕ) (x : Decl) (places total : List 
       ∙ ap (λ (l : List Decl). places ++ map (place_in net) (targets_of l)) (sym split)
       ∙ kept
 
--- ---- what stands at a place
+-- ---- the words of a register or file
 
 pub few_targets : (ds : List Decl) → length (targets_of ds) ≤ length ds
 few_targets [] = omega arith

@@ -1,4 +1,4 @@
--- From the states of a run to the whole run.
+-- From the states of a run to the complete run.
 use Rattle.std.proofs.Common.{◌≡◌, ◌∙◌, ℕ, ◌+◌, ◌<◌, ◌≤◌, List, [], length, Bool, true, false, Option, Some, None, refl, ap, sym, subst, arith}
 use Rattle.std.proofs.Math.Path.{fun_ext}
 use Rattle.std.specs.Prelude.{nat_lt}
@@ -7,9 +7,9 @@ use Rattle.kp_base.specs.declared.row.Row as masks
 use Rattle.kp_bits.specs.Word.{word}
 use Rattle.kp_ast.specs.declared.tree.Job.{Job}
 use Rattle.kp_cycle.specs.Steps.{Running as Simulated}
-use Rattle.kp_law.specs.Accepted.{Accepted}
-use Rattle.kp_law.specs.Rows as law
-use Rattle.kp_law.specs.Rows.{taken}
+use Rattle.kp_pipeline.specs.Accepted.{Accepted}
+use Rattle.kp_pipeline.specs.Rows as law
+use Rattle.kp_pipeline.specs.Rows.{taken}
 use Rattle.kp_stage.specs.Start.{input, AreSamples}
 use Rattle.kp_machine.specs.Machine.{machine_of, sequential, inputs_from}
 use Rattle.kp_net.specs.Netlist.{Net, State as NetState, run, last_of}
@@ -17,8 +17,8 @@ use Rattle.kp_sched.specs.Rows.{rows_seen}
 use Rattle.kp_sched.specs.Runs.{passes, due_value}
 use Rattle.kp_sched.proofs.Counting.{seen_length}
 use Rattle.kp_seq.specs.Running.{Running, HasWord, target}
-use Rattle.kp_shows.specs.Naming.{value_shown}
-use Rattle.kp_shows.specs.Traces.{trace_of}
+use Rattle.kp_synth_spec.specs.Naming.{value_shown}
+use Rattle.kp_synth_spec.specs.Traces.{trace_of}
 use Rattle.kp_run.specs.Columns.{Taken, AreColumns}
 use Rattle.kp_run.specs.Cycles.{inputs_to}
 use Rattle.kp_run.proofs.Gathering.{taken_is}
@@ -65,7 +65,7 @@ module _ (job : Job) (net : Net) (n : ℕ) where
         ∙ ap (λ (l : List masks.Row). sequential job (given columns) (passes job (rows_seen job.stages.value l) T t) t a) is
         ∙ ap (λ (g : ℕ → ℕ → ℕ). sequential job g (passes job seen T t) t a) values_are))
 
-    -- what a comparison says of one state, it says of that state of the run
+    -- a comparison of one state is one of that state of the run
     pub compares_own : (T : ℕ) (sim : Simulated) (machines have_run : List Running) (result : Option Difference) → T ≤ n
         → sim ≡ record { net = net; state = last_of net (inputs_to job T); slots = [] } → machines ≡ have_run
         → HaveRun job (given columns) (rows_seen job.stages.value rows) T have_run

@@ -1,23 +1,23 @@
--- A NETLIST BESIDE THE SEQUENTIAL MACHINE OF ITS JOB, in a run under the job's own stall words and samples.
+-- A NETLIST COMPARED WITH THE SEQUENTIAL MACHINE OF ITS JOB, in a run under the job's own stall words and samples.
 use Rattle.std.specs.Prelude.{◌≡◌, ◌≢◌, ℕ, ◌<◌, ◌≤◌, ◌⊎◌}
 use Rattle.kp_ast.specs.declared.tree.Job.{Job}
-use Rattle.kp_law.specs.Rows.{Trace}
+use Rattle.kp_pipeline.specs.Rows.{Trace}
 use Rattle.kp_machine.specs.Machine.{inputs_from}
 use Rattle.kp_net.specs.Netlist.{Net}
 use Rattle.kp_sched.specs.Runs.{due_value, IsLegal}
 use Rattle.kp_seq.specs.Running.{HasWord}
-use Rattle.kp_shows.specs.Traces.{trace_of}
+use Rattle.kp_synth_spec.specs.Traces.{trace_of}
 use Rattle.kp_run.specs.Cycles.{inputs_to}
 
--- The run of a netlist under the first n inputs of a job itself, as a run of the job's machine.
+-- The run of a netlist under the first n of the job's own inputs, as a run of the job's machine.
 abbrev pub own_trace : Job → Net → ℕ → Trace
 own_trace job net n = trace_of job net (inputs_to job n)
 
--- What is due in it of target t at address a after T cycles.
+-- The specified value in it of target t at address a after T cycles.
 abbrev pub own_due : Job → Net → ℕ → ℕ → ℕ → ℕ → ℕ
 own_due job net n T t a = due_value job (inputs_from job 0 n) (own_trace job net n).rows T t a
 
--- It agrees with the sequential machine where it is legal.
+-- The run agrees with the sequential machine if it is legal.
 abbrev pub Agrees : Job → Net → ℕ → Type 0
 Agrees job net n = IsLegal job (inputs_from job 0 n) (own_trace job net n)
 

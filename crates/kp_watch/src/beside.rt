@@ -1,8 +1,8 @@
-// A netlist and the sequential machines of its job, side by side.
+// A netlist and the sequential machines of its job, in lockstep.
 ghost use Rattle.std.specs.Prelude.{◌≡◌, ◌+◌, ◌<◌, length, IfOk};
 ghost use Rattle.kp_net.specs.Netlist.{Net};
-ghost use Rattle.kp_shows.specs.Naming.{sample_ports, value_shown};
-ghost use Rattle.kp_shows.specs.Shows.{HasOutputs, IsOfJob};
+ghost use Rattle.kp_synth_spec.specs.Naming.{sample_ports, value_shown};
+ghost use Rattle.kp_synth_spec.specs.Shows.{HasOutputs, IsOfJob};
 ghost use Rattle.kp_run.specs.Columns.{AreColumns};
 ghost use Rattle.kp_watch.specs.inner.Beside.{AreTables, HaveCome};
 
@@ -12,15 +12,14 @@ use crate::places::places_of;
 use kp_base::{NoMemory, Row};
 use kp_bits::Bits;
 use kp_cycle::Sim;
-use kp_judge::Accepted;
+use kp_frontend::Accepted;
 use kp_net::Netlist;
 use kp_run::{columns_of, homes_of, step};
 use kp_sched::Monitor;
 use kp_seq::SeqMachine;
 use std::alloc::Global;
 
-/// A netlist and the sequential machines of its job, with a monitor of the rows that have passed, and room for the values of the samples
-/// in a cycle.
+/// A netlist and the sequential machines of its job, with a monitor of the rows so far, and a buffer for the sample values of a cycle.
 #[derive(Drop)]
 pub(crate) struct Beside<'a, 'n> {
     pub sim: Sim<'n>,
@@ -29,7 +28,7 @@ pub(crate) struct Beside<'a, 'n> {
     pub room: Vec<Bits>,
 }
 
-/// The tables of a run with these rows.
+/// The tables of a run with these rows. The only error is out of memory.
 pub(crate) fn tables_of(
     alloc: Global,
     job: &Accepted,
@@ -50,7 +49,7 @@ pub(crate) fn tables_of(
 }
 
 impl<'a, 'n> Beside<'a, 'n> {
-    /// Both at the start.
+    /// The netlist and the machines in their start states. The only error is out of memory.
     pub fn open(
         alloc: Global,
         job: &'a Accepted,
@@ -75,7 +74,7 @@ impl<'a, 'n> Beside<'a, 'n> {
         })
     }
 
-    /// Both run one cycle more: the netlist under what the job gives, and the machines by the row of the cycle.
+    /// Runs one cycle more: the netlist under the job's own inputs, and the machines according to the row of the cycle.
     pub fn step(&mut self, job: &Accepted, rows: &[Row], tables: &Tables, cycle: u32)
         requires samples { self.old.sim.net.parts.samples ≡ sample_ports job.now.design.job }
         requires there { cycle < length rows.now }
@@ -83,7 +82,7 @@ impl<'a, 'n> Beside<'a, 'n> {
         requires come { HaveCome job.now.design.job self.old.sim.net rows.now tables.now cycle self.old }
         ensures { HaveCome job.now.design.job self.old.sim.net rows.now tables.now (cycle + 1) self.new }
     {
-        // What the type keeps of the job, for the proof alone.
+        // The invariant of the type, for the proof only.
         let _kept = job.design.job();
         let room = self.room.as_mut_slice();
         step(&mut self.sim, &job.sections, room, u64::from(cycle));

@@ -1,12 +1,12 @@
-// The words of a netlist and those of the machines beside it.
+// The words of a netlist, compared with those of the machines of its job.
 ghost use Rattle.std.specs.Prelude.{◌≡◌, ◌+◌, ◌<◌, length};
 ghost use Rattle.std.specs.List.{All};
 ghost use Rattle.kp_bits.specs.Word.{word};
 ghost use Rattle.kp_machine.specs.Slots.{targets_of};
 ghost use Rattle.kp_run.specs.Homes.{AreHomes};
 ghost use Rattle.kp_seq.specs.Running.{HasWord, state, target};
-ghost use Rattle.kp_shows.specs.Naming.{value_shown};
-ghost use Rattle.kp_shows.specs.Shows.{IsOfJob};
+ghost use Rattle.kp_synth_spec.specs.Naming.{value_shown};
+ghost use Rattle.kp_synth_spec.specs.Shows.{IsOfJob};
 ghost use Rattle.kp_watch.specs.inner.Comparing.{Compares, ComparesTarget};
 ghost use Rattle.kp_watch.specs.inner.Machines.{due_by};
 ghost use Rattle.kp_watch.specs.inner.Places.{place_in, places_in, words_at};
@@ -14,27 +14,27 @@ ghost use Rattle.kp_watch.specs.inner.Places.{place_in, places_in, words_at};
 use crate::places::Place;
 use kp_bits::Bits;
 use kp_cycle::Sim;
-use kp_judge::Accepted;
+use kp_frontend::Accepted;
 use kp_run::Column;
 use kp_seq::SeqMachine;
 
-/// Where a netlist first shows another value than the one that is due.
+/// The first word in which the value of a netlist isn't the specified one.
 #[derive(Clone, Copy, Debug)]
 pub struct Difference {
-    /// How many cycles have passed.
+    /// The number of cycles that have run.
     pub cycle: u32,
     /// The number of the register or file, in the order of declaration.
     pub target: u32,
-    /// The address of the word, 0 in a register.
+    /// The address of the word, 0 for a register.
     pub address: u32,
-    /// The value that the netlist shows.
+    /// The value in the netlist.
     pub found: Bits,
     /// The value of the sequential machine.
     pub due: Bits,
 }
 
-/// What is known of a run before it begins: for each target where the netlist keeps it and which machine shows it, and for each sample
-/// what instructions take of it.
+/// What is known of a run before it starts: for each target its register or file in the netlist and the machine that has its value, and for each
+/// sample the values that instructions read.
 #[derive(Drop)]
 pub(crate) struct Tables {
     pub places: Vec<Place>,
@@ -42,7 +42,7 @@ pub(crate) struct Tables {
     pub columns: Vec<Column>,
 }
 
-/// The first word, by target and address, in which a netlist and the machines of its job differ after so many cycles.
+/// The first word, by target and address, in which a netlist and the machines of its job differ after `cycle` cycles.
 pub(crate) fn difference_in(
     job: &Accepted,
     tables: &Tables,
@@ -57,7 +57,7 @@ pub(crate) fn difference_in(
     requires jobs { All (λ m. m.job ≡ job.now.design.job) machines.now }
     ensures { Compares job.now.design.job (value_shown job.now.design.job sim.now.net sim.now.state) (due_by job.now.design.job machines.now) cycle result }
 {
-    // What the type keeps of the job, for the proof alone.
+    // The invariant of the type, for the proof only.
     let _kept = job.design.job();
     for t in 0..tables.places.len() {
         let machine = &machines[usize::from(tables.homes[t])];
@@ -97,7 +97,7 @@ fn difference_at(
     None
 }
 
-// The value that a netlist shows of a target of the job of a machine.
+// The value of a target of the machine's job in a netlist.
 fn shown(sim: &Sim<'_>, _machine: &SeqMachine<'_>, _t: u32, place: Place, address: u32) -> Bits
     requires of_job { IsOfJob sim.now.net _machine.now.job }
     requires target { _t < length (targets_of _machine.now.job.decls) }

@@ -1,6 +1,6 @@
-// The sequential machines beside a run.
+// The sequential machines that run in lockstep with a netlist.
 ghost use Rattle.std.specs.Prelude.{◌≡◌, ℕ, ◌+◌, ◌<◌, ◌≤◌, List, length, take, IfOk};
-ghost use Rattle.kp_law.specs.Rows as law;
+ghost use Rattle.kp_pipeline.specs.Rows as law;
 ghost use Rattle.kp_stage.specs.Start.{AreSamples};
 ghost use Rattle.kp_run.specs.Columns.{row_taken};
 ghost use Rattle.kp_sched.specs.Monitors.{HasSeen};
@@ -9,13 +9,13 @@ ghost use Rattle.kp_watch.specs.inner.Machines.{given, HaveRun};
 
 use kp_base::{NoMemory, Row};
 use kp_bits::Bits;
-use kp_judge::Accepted;
+use kp_frontend::Accepted;
 use kp_run::{Column, take, updates};
 use kp_sched::Monitor;
 use kp_seq::SeqMachine;
 use std::alloc::Global;
 
-/// The machines of a job at the start: one for each stage, and one more, which is to run nothing.
+/// The machines of a job in the start state: one for each stage, and one more, which executes nothing. The only error is out of memory.
 pub(crate) fn machines_of(alloc: Global, job: &Accepted) -> Result<Vec<SeqMachine<'_>>, NoMemory>
     ensures { IfOk result (λ ms. (values : ℕ → ℕ → ℕ) (rows : List law.Row) → HaveRun job.now.design.job values rows 0 ms.items) }
 {
@@ -28,8 +28,8 @@ pub(crate) fn machines_of(alloc: Global, job: &Accepted) -> Result<Vec<SeqMachin
     Ok(machines)
 }
 
-/// The machine of each stage that updates in the row of a cycle runs one instruction more. The monitor counts those before it. There is
-/// room for the words that an instruction takes of the samples.
+/// The machine of each stage that updates in the row of a cycle executes one instruction more. The monitor has the counts before that cycle. `room`
+/// is a buffer for the sample values that an instruction reads.
 pub(crate) fn advance(
     job: &Accepted,
     columns: &[Column],
@@ -48,7 +48,7 @@ pub(crate) fn advance(
     ensures room { length room.new ≡ length columns.now }
     ensures run { HaveRun job.now.design.job (given columns.now) (rows_seen job.now.design.job.stages.value rows.now) (cycle + 1) machines.new }
 {
-    // What the type keeps of the job, for the proof alone.
+    // The invariant of the type, for the proof only.
     let _kept = job.design.job();
     let stages = monitor.stages();
     let ue = rows[cycle as usize].ue;

@@ -1,16 +1,16 @@
-// Where a netlist keeps the targets of its job.
+// The registers and files of a netlist that store the targets of its job.
 ghost use Rattle.std.specs.Prelude.{◌≡◌, ◌≤◌, ◌^◌, IfOk};
-ghost use Rattle.kp_shows.specs.Shows.{IsOfJob};
+ghost use Rattle.kp_synth_spec.specs.Shows.{IsOfJob};
 ghost use Rattle.kp_watch.specs.inner.Places.{places_in, words_at};
 
 use kp_ast::Decl;
 use kp_base::NoMemory;
 use kp_net::Netlist;
-use kp_shows::{file_named, register_named};
 use kp_stage::Design;
+use kp_synth_spec::{file_named, register_named};
 use std::alloc::Global;
 
-/// The register of a target, or its file and how many words that has.
+/// The register of a target, or its file with the number of words.
 #[derive(Clone, Copy, Debug)]
 pub(crate) enum Place {
     Register(u32),
@@ -29,7 +29,7 @@ impl Place {
     }
 }
 
-/// The place of each target.
+/// The register or file of each target.
 pub(crate) fn places_of(
     alloc: Global,
     design: &Design,

@@ -1,27 +1,26 @@
-// The comparison of a whole run.
+// The comparison of a complete run.
 ghost use Rattle.std.specs.Prelude.{◌≡◌, ◌+◌, ◌<◌, ◌≤◌, length, MatchOption, IfOk};
 ghost use Rattle.kp_bits.specs.Word.{word};
 ghost use Rattle.kp_run.specs.Cycles.{HasRows};
 ghost use Rattle.kp_net.specs.Netlist.{run};
 ghost use Rattle.kp_run.specs.Cycles.{inputs_to};
 ghost use Rattle.kp_seq.specs.Running.{target};
-ghost use Rattle.kp_shows.specs.Shows.{HasOutputs, IsOfJob};
+ghost use Rattle.kp_synth_spec.specs.Shows.{HasOutputs, IsOfJob};
 ghost use Rattle.kp_watch.specs.Watching.{own_trace, own_due, Agrees, IsFirstDifference};
 ghost use Rattle.kp_watch.specs.inner.Beside.{AreTables, HaveCome, Answers};
 
 use crate::beside::{Beside, tables_of};
 use crate::compare::{Difference, Tables, difference_in};
 use kp_base::{NoMemory, Row};
-use kp_judge::Accepted;
-use kp_lawful::laws::a_design_is_accepted;
+use kp_frontend::Accepted;
+use kp_machine_laws::laws::a_design_is_accepted;
 use kp_net::Netlist;
 use kp_run::Board;
 use std::alloc::Global;
 
-/// The first difference between what a netlist shows in its run over so many cycles, under the stall words and the samples of a job, and
-/// what the sequential machine of the job shows. The board is that of the same run. All registers and all words of files are compared in
-/// each state, from the one before the first cycle to the one behind the last. All memory is taken before the first cycle, and want of it
-/// is the one refusal.
+/// The first difference between the values of a netlist in its run over `count` cycles, under the stall words and the samples of a job, and those of
+/// the sequential machine of the job. The board is that of the same run. All registers and all words of files are compared in each state, from the
+/// one before the first cycle to the one after the last. All memory is allocated before the first cycle; the only error is out of memory.
 pub fn first_difference(
     alloc: Global,
     job: &Accepted,
@@ -44,7 +43,7 @@ pub fn first_difference(
     Ok(compare(job, rows, &tables, &mut both, count))
 }
 
-// Compares both in each state of so many cycles.
+// Compares both in each state of `count` cycles.
 fn compare(
     job: &Accepted,
     rows: &[Row],
@@ -58,7 +57,7 @@ fn compare(
     requires come { HaveCome job.now.design.job both.old.sim.net rows.now tables.now 0 both.old }
     ensures { Answers job.now.design.job both.old.sim.net count result }
 {
-    // What the type keeps of the job, for the proof alone.
+    // The invariant of the type, for the proof only.
     let _kept = job.design.job();
     a_design_is_accepted(&job.design);
     for cycle in 0..count {

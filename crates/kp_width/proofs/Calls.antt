@@ -93,7 +93,7 @@ fit_next : (p : Param) (ps : List Param) (i : ℕ) (vs : List Word) → FitFrom 
 fit_next p ps i [] h = tt
 fit_next p ps i (v ∷ vs) h = (subst (λ w. HasWidth w v) (width_next p ps i) h.0, fit_next p ps (i + 1) vs h.1)
 
--- a parameter has the argument at its place
+-- a parameter has the corresponding argument
 parameter_fits : (i : ℕ) (ps : List Param) (vs : List Word) (q : List ℕ) (m : Sense) → length vs ≡ length ps → FitFrom ps 0 vs → look_up (senses i ps) q ≡ Some m
     → Found m.width (values.look_up (arguments_of ps vs) q) (names_of (arguments_of ps vs) q)
 parameter_fits i [] vs q m n fit e = cc
@@ -158,12 +158,12 @@ module _ (ds : List Decl) where
     of_text = λ q x e. pushed text n q m x (λ b. h.of_text q x b) (λ none s is. ap (λ (y : Sense). is_of_text y.kind) (sym is) ∙ of_text) e;
   }
 
-  -- the scope in which the text goes on
+  -- the scope for the rest of the text
   pub record Open (known : Knowns) (calls : Calls) (s : Scoped) : Type 0 where
     pub local : s.local ≡ []
     pub fits : TextFits known calls s.text
 
-  -- a function's body has a word of its width where its parameters have
+  -- a function's body has a word of its width if its parameters have
   module _ (known : Knowns) (calls : Calls) (s : Scoped) (open_here : Open known calls s) (i k : ℕ) (f : FuncDecl) (here : slice_get ds i ≡ Some (decls.Func f)) where
     abbrev body_scope : Scoped
     body_scope = (parameters_of i (function_opened s k f) f.params).value

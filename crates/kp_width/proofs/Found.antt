@@ -1,5 +1,6 @@
--- An expression that breaks no rule has a value that a plain program finds: each operation in it has operands that it takes. A
--- name may be asked about too: where no name in the expression is answered, only such names need to be known.
+-- An expression that violates no rule has a value that an executable function computes: each operation in it has
+-- operands of the required widths. A check of the names may be added: if no name in the expression fails it, only the
+-- names that pass need to be known.
 use Rattle.std.proofs.Common.{◌≡◌, ◌≤◌, ◌<◌, ◌+◌, ℕ, List, [], ◌∷◌, map, min, fold, Option, Some, None, Ok, Err, Bool, true, false, cond, ◌==◌, ◌&&◌, ◌||◌, refl, ap, sym, subst, ◌∙◌, arith}
 use Rattle.std.specs.Option.{option_map, option_and_then}
 use Rattle.std.specs.Result.{result_ok}
@@ -31,7 +32,7 @@ use Rattle.kp_width.proofs.Parts.{lit_parts, name_parts, not_parts, binary_parts
 use Rattle.kp_width.specs.Soundness.{HasWidth, FitFrom, AreArguments}
 use Rattle.kp_width.proofs.Sound.{binary_width}
 
--- the first answer to a question that is put to each name which stands for a value, from left to right
+-- the first violation of a check of each name that is used as a value, from left to right
 abbrev pub name_kind : (List ℕ → Place → Answer) → ExprKind-F (Place → Answer) Answer → Place → Answer
 name_kind ask (level.Lit l) at = None
 name_kind ask (level.Name name) at = ask name at
@@ -102,7 +103,7 @@ two f o p x y e g = ap (λ a. option_and_then (λ v. option_and_then (f v) p) a)
 cons_there : (o : Option Word) (v : Word) (os : List (Option Word)) (vs : List Word) → o ≡ Some v → all_there os ≡ Some vs → all_there (o ∷ os) ≡ Some (v ∷ vs)
 cons_there o v os vs e f = ap (λ x. all_there (x ∷ os)) e ∙ ap (option_map (λ xs. v ∷ xs)) f
 
--- a question to names that has no answer
+-- a check of names that always passes
 pub no_answer : (e : Expr) → first_name (λ q at. None) e ≡ None
 no_answer = induction (λ e. first_name (λ q at. None) e ≡ None) (record {
   literal = λ p l. fold-Lit _ _ _ _ p l;

@@ -1,5 +1,5 @@
--- What an expression that breaks no rule says of its parts: they break none either, and they have the widths that the operation
--- asks for. And its own width, from theirs.
+-- Consequences for the parts of an expression that violates no rule: they violate none either, and they have the
+-- widths that the operation requires. And its own width, from theirs.
 use Rattle.std.proofs.Common.{◌≡◌, ◌≤◌, ◌<◌, ◌+◌, ◌-◌, ◌^◌, ℕ, List, [], ◌∷◌, map, length, drop, min, is_some, not, Option, Some, None, Bool, true, false, ◌&&◌, ◌||◌, ◌==◌, eqb, ltb, leb, cond, refl, ap, subst, arith}
 use Rattle.std.proofs.lemmas.Bool.{and_parts}
 use Rattle.std.proofs.lemmas.List.{length-map}
@@ -47,7 +47,7 @@ module _ (ds : List Decl) (done : ℕ) (s : Scoped) where
       let t : ltb l.value (2 ^ l.width) ≡ true = y.0 in
       record { positive = b.0; at_most = b.1; fits = grind (arith, nat_tests) }
 
-  -- a name in scope, of a kind that its place takes
+  -- a name in scope, of a kind that its position accepts
   pub used_parts : (takes : _ → Bool) (p : Place) (found : Option Sense) → Unbroken (used_as takes p found) → (found ≡ Some (used_as takes p found).value) × (takes (used_as takes p found).value.kind ≡ true)
   used_parts takes p None h = cc
   used_parts takes p (Some m) h = (refl, (answer_unbroken (takes m.kind) (e_rule 7 p) [] h).0)

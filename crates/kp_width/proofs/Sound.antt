@@ -1,4 +1,4 @@
--- An expression that breaks no rule keeps widths: where each name and each call has a word of its width, so has the expression.
+-- An expression that violates no rule preserves widths: if each name and each call has a word of its width, so has the expression.
 use Rattle.std.proofs.Common.{◌≡◌, ◌≤◌, ◌+◌, ℕ, List, [], ◌∷◌, map, min, fold, false, cond, ◌==◌, refl, ap, sym, subst, ◌∙◌, arith}
 use Rattle.std.proofs.lemmas.Bool.{cond_both}
 use Rattle.std.proofs.lemmas.List.{length-map}

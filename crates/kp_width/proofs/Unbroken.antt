@@ -1,4 +1,4 @@
--- Of a check that breaks no rule, no part breaks one, and each rule holds; and what the width of an expression of each form is.
+-- If a check violates no rule, no part of it violates one, and each rule holds; and the width of an expression of each form.
 use Rattle.std.proofs.Common.{◌≡◌, ℕ, List, [], ◌∷◌, ◌++◌, map, Option, Some, None, Bool, true, false, refl, ap}
 use Rattle.kp_base.specs.First.{first}
 use Rattle.kp_base.specs.Check.{Check, Answer, answer, ok, ◌>>=◌}

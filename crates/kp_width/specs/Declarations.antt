@@ -16,11 +16,11 @@ use Rattle.kp_ast.specs.declared.widths.NameKind.TheVariants as kinds
 use Rattle.kp_width.specs.Names.{Sense, sense, is_register, is_file, is_pipe, Checked, passed, Scoped, fresh, used, opened, with_entry, with_text, declared_text, declared_local}
 use Rattle.kp_width.specs.Expressions.{is_width, literal_of, part_of, value_of}
 
--- E8: a declared width is one
+-- E8: a declared width is in 1 to 64
 abbrev pub declared : Num → Check ℕ
 declared n = wants (is_width n.value) (e_rule 8 n.at) (ok n.value)
 
--- E10: a start value, once it is a literal, is as wide as what it starts
+-- E10: a start value, once it is a valid literal, has the width of the register or hint
 abbrev pub start_of : Lit → ℕ → Checked
 start_of l w = literal_of l.literal l.at >>= (λ x. wants (x == w) (e_rule 10 l.at) passed)
 
@@ -32,12 +32,12 @@ started_of width start = declared width >>= (λ w. start_of start w >>= (λ x. o
 abbrev pub addresses_of : Num → Check ℕ
 addresses_of n = wants (nat_le 1 n.value && nat_le n.value 16) (e_rule 14 n.at) (ok n.value)
 
--- a part that may be left out
+-- an optional part
 abbrev pub kept : {X : Type 0} → Option X → (X → Checked) → Checked
 kept None check = passed
 kept (Some x) check = check x
 
--- E6 and E7: what a read or a result names is a file where an address stands, and a register where none does
+-- E6 and E7: the name in a read or a result is a file if it has an address, else a register
 abbrev pub storage_of : Scoped → Named → Bool → Check Sense
 storage_of s n addressed = used s (if addressed then is_file else is_register) n.name n.at
 
@@ -45,12 +45,12 @@ abbrev pub address_width : NameKind → ℕ
 address_width (kinds.File a) = a
 address_width _ = 0
 
--- a pipe that is to have this width, by the rule of this number
+-- a pipe of this required width, by the rule of this number
 abbrev pub pipe_of : Scoped → ℕ → ℕ → Named → Checked
 pipe_of s width number n = used s is_pipe n.name n.at >>= (λ m. wants (m.width == width) (e_rule number n.at) passed)
 
--- a result after its width. E10: its target is as wide; E14: its address pipe is as wide as the addresses of the file; and
--- E11: its enable pipe is one bit wide
+-- a result after its width. E10: its target has the same width; E14: its address pipe has the width of the file's
+-- addresses; and E11: its enable pipe is one bit wide
 abbrev pub target_of : Scoped → ResultDecl → ℕ → Checked
 target_of s r w =
     storage_of s r.target (is_some r.address)
@@ -67,17 +67,17 @@ parameters_of i s [] = ok s
 parameters_of i s (p ∷ ps) =
     fresh s p.name.name p.name.at (declared p.width >>= (λ w. parameters_of i (declared_local s p.name.name (sense kinds.Param w i)) ps))
 
--- a width, or 0 where it isn't one
+-- a width, or 0 if it is invalid
 abbrev pub width_or_zero : ℕ → ℕ
 width_or_zero w = if is_width w then w else 0
 
--- a function begins, as the one of this number among the functions: its entry comes before those of its parameters, but its
--- width is checked after them
+-- the scope of a function is opened, with this number among the functions: its entry precedes those of its
+-- parameters, but its width is checked after them
 abbrev pub function_opened : Scoped → ℕ → FuncDecl → Scoped
 function_opened s k f = opened (with_entry s scopes.Text f.name.name (sense kinds.Func (width_or_zero f.width.value) 0)) (scopes.Function k)
 
--- a function after its name: the number of its declaration, and its number among the functions. It comes into scope at its
--- end, so a parameter may have its name. E10: its body is as wide as the function
+-- a function after its name: the number of its declaration, and its number among the functions. It comes into scope
+-- at its end, so a parameter may have its name. E10: its body has the width of the function
 abbrev pub function_of : List Decl → ℕ → ℕ → Scoped → FuncDecl → Check Scoped
 function_of ds i k s f =
     parameters_of i (function_opened s k f) f.params
@@ -103,7 +103,7 @@ after_name ds i k s (decls.Target r) = result_of s r >>= (λ w. ok (declared_tex
 after_name ds i k s (decls.Func f) = function_of ds i k s f
 after_name ds i k s (decls.Sample n width stage) = declared width >>= (λ w. ok (declared_text s n.name (sense kinds.Sample w i)))
 
--- a declaration, before which i declarations and k functions stand
+-- a declaration that i declarations and k functions precede
 abbrev pub declaration_of : List Decl → ℕ → ℕ → Scoped → Decl → Check Scoped
 declaration_of ds i k s d = fresh s (name_of d).name (name_of d).at (after_name ds i k s d)
 

@@ -1,4 +1,4 @@
--- Widths of expressions: rules E8 to E13 and E26, each at its place and in its turn.
+-- Widths of expressions: rules E8 to E13 and E26, each at its position and in its order.
 --
 -- The parts of an expression are checked from left to right, and an operator after its operands.
 use Rattle.std.specs.Prelude.{ℕ, ◌+◌, ◌-◌, ◌^◌, List, [], ◌∷◌, Option, Some, None, Bool, true, false, ◌&&◌, ◌||◌, not, if◌then◌else◌, ◌==◌, nat_lt, nat_le, is_some, min, length, drop, slice_get}
@@ -20,7 +20,7 @@ use Rattle.kp_ast.specs.declared.tree.ExprKind.TheOpen as level
 use Rattle.kp_ast.specs.declared.tree.ExprKind.TheFolds.{fold-Expr}
 use Rattle.kp_width.specs.Names.{Sense, is_callee, is_value_in, Checked, passed, Scoped, find, used}
 
--- an expression where it is a part of something: its place, and the check that finds its width
+-- an expression as a part of another: its position, and the check that computes its width
 pub record Part : Type 0 where
   pub at : Place
   pub width : Check ℕ
@@ -34,36 +34,36 @@ is_test _ = false
 abbrev pub is_width : ℕ → Bool
 is_width w = nat_le 1 w && nat_le w 64
 
--- E8 and E13: a literal's width is one, and its value is below 2^width
+-- E8 and E13: the width of a literal is in 1 to 64, and its value is below 2^width
 abbrev pub literal_of : Literal → Place → Check ℕ
 literal_of l at = wants (is_width l.width) (e_rule 8 at) (wants (nat_lt l.value (2 ^ l.width)) (e_rule 13 at) (ok l.width))
 
--- E9: two operands have one width, but a shift takes any amount; `==` and `<` give one bit
+-- E9: the two operands have the same width, except that a shift accepts any amount; `==` and `<` yield one bit
 abbrev pub binary_of : BinOp → Place → ℕ → ℕ → Check ℕ
 binary_of op at a b = wants (is_shift op || a == b) (e_rule 9 at) (ok (if is_test op then 1 else a))
 
--- E11 and E9: the test of a choice is one bit wide, and its branches have one width
+-- E11 and E9: the test of a choice is one bit wide, and its branches have the same width
 abbrev pub choice_of : Place → ℕ → ℕ → ℕ → Check ℕ
 choice_of at test a b = wants (test == 1) (e_rule 11 at) (wants (a == b) (e_rule 9 at) (ok a))
 
--- E12: a slice takes bits that are there, the high one first
+-- E12: a slice selects existing bits, the high one first
 abbrev pub slice_of : ℕ → ℕ → Place → ℕ → Check ℕ
 slice_of hi lo at w = wants (nat_le lo hi && nat_lt hi w) (e_rule 12 at) (ok (hi - lo + 1))
 
--- E8 and E12: an extension is to a width, and to no fewer bits than there are
+-- E8 and E12: an extension is to a valid width, and to at least the present number of bits
 abbrev pub extension_of : Num → Place → ℕ → Check ℕ
 extension_of n at w = wants (is_width n.value) (e_rule 8 n.at) (wants (nat_le w n.value) (e_rule 12 at) (ok n.value))
 
--- the widths of the parts of a concatenation together; over 64 it doesn't matter by how much
+-- the sum of the widths of the parts of a concatenation; over 64 the exact sum doesn't matter
 abbrev pub sum_of : ℕ → List Part → Check ℕ
 sum_of sum [] = ok sum
 sum_of sum (e ∷ es) = e.width >>= (λ w. sum_of (min (sum + w) 65) es)
 
--- E8: so is a concatenation
+-- E8: the width of a concatenation is in 1 to 64
 abbrev pub concatenation_of : Place → ℕ → Check ℕ
 concatenation_of at w = wants (is_width w) (e_rule 8 at) (ok w)
 
--- E10: a value is as wide as what it is given to
+-- E10: a value has the width of its destination
 abbrev pub value_of : Part → ℕ → Checked
 value_of e w = e.width >>= (λ x. wants (x == w) (e_rule 10 e.at) passed)
 
@@ -71,7 +71,7 @@ value_of e w = e.width >>= (λ x. wants (x == w) (e_rule 10 e.at) passed)
 abbrev pub condition_of : Part → Checked
 condition_of e = e.width >>= (λ x. wants (x == 1) (e_rule 11 e.at) passed)
 
--- whether a function of this name is declared by one of these
+-- whether one of these declares a function of this name
 abbrev pub is_declared : List Decl → List ℕ → Bool
 is_declared ds name = list_any (is_function name) ds
 
@@ -90,13 +90,13 @@ width_in None = 0
 abbrev pub width_at : List Param → ℕ → ℕ
 width_at ps i = width_in (slice_get ps i)
 
--- the arguments of a call, from the one of this number on: each in turn, and its E10 at once after it
+-- the arguments of a call, from this number on: each in order, and its E10 immediately after it
 abbrev pub arguments_of : List Param → ℕ → List Part → Checked
 arguments_of ps i [] = passed
 arguments_of ps i (e ∷ es) = value_of e (width_at ps i) >>= (λ x. arguments_of ps (i + 1) es)
 
--- E26: a call is of a function that is declared before, and so not of one that is declared here or later, where `done`
--- declarations stand before the call. A name in scope, as a parameter, hides such a function.
+-- E26: the function of a call is declared before, and so not here or later, where `done` declarations precede the
+-- call. A name in scope, such as a parameter, hides such a function.
 abbrev pub callee_of : List Decl → ℕ → Scoped → List ℕ → Place → Check Sense
 callee_of ds done s name at =
     wants (is_some (find s name) || not (is_declared (drop done ds) name)) (e_rule 26 at) (used s is_callee name at)
@@ -127,7 +127,7 @@ width_of_kind ds done s (level.Call name args) at = call_of ds done s name args 
 abbrev pub part_of_level : Expr-F (Place → Check ℕ) Part → Part
 part_of_level e = record { at = e.place; width = e.kind e.place }
 
--- an expression at a place in the text before which `done` declarations stand
+-- an expression at a position in the text that `done` declarations precede
 abbrev pub part_of : List Decl → ℕ → Scoped → Expr → Part
 part_of ds done s = fold-Expr (Place → Check ℕ) Part (width_of_kind ds done s) part_of_level
 

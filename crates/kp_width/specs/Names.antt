@@ -1,7 +1,8 @@
 -- Names and their scopes: rules E5, E6 and E7.
 --
--- A name that is declared before the stages is in scope from the end of its declaration to the end of the text. A parameter is
--- in scope to the end of its function, and what a `read` or a `let` names from the end of its statement to the end of its block.
+-- A name that is declared before the stages is in scope from the end of its declaration to the end of the text. A
+-- parameter is in scope to the end of its function, and the name of a `read` or a `let` from the end of its statement
+-- to the end of its block.
 use Rattle.std.specs.Prelude.{ℕ, List, [], ◌∷◌, ◌++◌, Option, Some, None, Bool, true, false, is_some, not, nat_eq}
 use Rattle.std.specs.Map.{lookup}
 use Rattle.std.specs.Cmp.Lexicographic.{pointwise}
@@ -14,14 +15,14 @@ use Rattle.kp_ast.specs.declared.widths.Scope.TheVariants as scopes
 use Rattle.kp_ast.specs.declared.widths.NameKind.{NameKind}
 use Rattle.kp_ast.specs.declared.widths.NameKind.TheVariants as kinds
 
--- a check that finds nothing but that no rule is broken
+-- a check without a value: only whether a rule is violated
 abbrev pub Checked : Type 0
 Checked = Check (Unit {0})
 
 abbrev pub passed : Checked
 passed = ok tt
 
--- what a name names: its kind, the width of its values, and the number of its declaration
+-- the meaning of a name: its kind, the width of its values, and the number of its declaration
 pub record Sense : Type 0 where
   pub kind : NameKind
   pub width : ℕ
@@ -33,15 +34,15 @@ sense kind width from = record { kind = kind; width = width; from = from }
 abbrev pub Names : Type 0
 Names = List (List ℕ × Sense)
 
--- a place in the text: the names of the text that are in scope, those of the function or block that is open, which one that
--- is, and the entries of all names that were declared so far
+-- a position in the text: the names of the text that are in scope, those of the open function or block, which
+-- function or block is open, and the entries of all names that were declared so far
 pub record Scoped : Type 0 where
   pub text : Names
   pub local : Names
   pub here : Scope
   pub entries : List Entry
 
--- names are equal where their bytes are
+-- names are equal if their bytes are
 abbrev pub look_up : Names → List ℕ → Option Sense
 look_up names name = lookup (pointwise nat_eq name) names
 
@@ -49,19 +50,19 @@ abbrev pub or_else : Option Sense → Option Sense → Option Sense
 or_else None other = other
 or_else (Some m) other = Some m
 
--- what a name names, if it is in scope
+-- the meaning of a name, if it is in scope
 abbrev pub find : Scoped → List ℕ → Option Sense
 find s name = or_else (look_up s.local name) (look_up s.text name)
 
--- where the text begins
+-- the start of the text
 abbrev pub nothing : Scoped
 nothing = record { text = []; local = []; here = scopes.Text; entries = [] }
 
--- a function or a block begins: what was declared in the one before is out of scope
+-- the scope of a function or a block is opened: the names declared in the previous one go out of scope
 abbrev pub opened : Scoped → Scope → Scoped
 opened s scope = record { text = s.text; local = []; here = scope; entries = s.entries }
 
--- a name gets its entry
+-- the entry of a name is added
 abbrev pub with_entry : Scoped → Scope → List ℕ → Sense → Scoped
 with_entry s scope name m = record {
   text = s.text;
@@ -70,26 +71,26 @@ with_entry s scope name m = record {
   entries = s.entries ++ record { name = name; scope = scope; kind = m.kind; width = m.width } ∷ [];
 }
 
--- a name comes into scope to the end of the text, and what is open ends
+-- a name comes into scope to the end of the text, and the open scope ends
 abbrev pub with_text : Scoped → List ℕ → Sense → Scoped
 with_text s name m = record { text = s.text ++ (name, m) ∷ []; local = []; here = scopes.Text; entries = s.entries }
 
--- a name comes into scope to the end of the function or block that is open
+-- a name comes into scope to the end of the open function or block
 abbrev pub with_local : Scoped → List ℕ → Sense → Scoped
 with_local s name m = record { text = s.text; local = s.local ++ (name, m) ∷ []; here = s.here; entries = s.entries }
 
--- a name of the text, and one of the function or block that is open, are declared
+-- the declaration of a name of the text, and of one of the open function or block
 abbrev pub declared_text : Scoped → List ℕ → Sense → Scoped
 declared_text s name m = with_text (with_entry s scopes.Text name m) name m
 
 abbrev pub declared_local : Scoped → List ℕ → Sense → Scoped
 declared_local s name m = with_local (with_entry s s.here name m) name m
 
--- E5: a name is declared only where it isn't in scope
+-- E5: a name is declared only if it isn't in scope
 abbrev pub fresh : {X : Type 0} → Scoped → List ℕ → Place → Check X → Check X
 fresh s name at next = wants (not (is_some (find s name))) (e_rule 5 at) next
 
--- E6: a name that is used is in scope; and E7: it is of a kind that its position takes
+-- E6: a name that is used is in scope; and E7: its kind is accepted in its position
 abbrev pub used_as : (NameKind → Bool) → Place → Option Sense → Check Sense
 used_as takes at None = wants false (e_rule 6 at) (ok (sense kinds.Reg 0 0))
 used_as takes at (Some m) = wants (takes m.kind) (e_rule 7 at) (ok m)
@@ -97,9 +98,9 @@ used_as takes at (Some m) = wants (takes m.kind) (e_rule 7 at) (ok m)
 abbrev pub used : Scoped → (NameKind → Bool) → List ℕ → Place → Check Sense
 used s takes name at = used_as takes at (find s name)
 
--- An expression in a function may use the function's parameters. One in a stage may use the names that the stage has read or
--- let, pipes, samples, and hints. That a sample stands only in its own stage (E34), and a hint only where a guess or an aim is
--- (E25), are rules of their own, which come later.
+-- An expression in a function may use the function's parameters. One in a stage may use the names that the stage has
+-- bound by `read` or `let`, pipes, samples, and hints. That a sample occurs only in its own stage (E34), and a hint
+-- only in a guess or an aim (E25), are separate rules, which are checked later.
 abbrev pub is_value_in : Scope → NameKind → Bool
 is_value_in (scopes.Function k) kinds.Param = true
 is_value_in (scopes.Function k) _ = false
@@ -110,7 +111,7 @@ is_value_in _ kinds.Read = true
 is_value_in _ kinds.Let = true
 is_value_in _ _ = false
 
--- the kinds that the other positions take
+-- the kinds that the other positions accept
 abbrev pub is_register : NameKind → Bool
 is_register kinds.Reg = true
 is_register _ = false

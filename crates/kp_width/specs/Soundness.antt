@@ -22,8 +22,8 @@ pub record AreArguments (ps : List Param) (vs : List Word) : Type 0 where
   pub count : length vs ≡ length ps
   pub fit : FitFrom ps 0 vs
 
--- an environment gives a word of its width to each name that may stand in an expression here, and to each call at fitting
--- arguments
+-- an environment has a word of its width for each name that may occur in an expression here, and for each call with
+-- fitting arguments
 pub record Suits (ds : List Decl) (s : Scoped) (env : Env) : Type 0 where
   pub names : (q : List ℕ) (m : Sense) → find s q ≡ Some m → is_value_in s.here m.kind ≡ true → HasWidth m.width (env.names q)
   pub calls : (q : List ℕ) (m : Sense) → find s q ≡ Some m → is_callee m.kind ≡ true → (vs : List Word) → AreArguments (params_of ds m.from) vs → HasWidth m.width (env.calls q vs)

@@ -17,15 +17,15 @@ use Rattle.kp_width.specs.Names.{sense, is_pipe, is_result, is_hint, Checked, pa
 use Rattle.kp_width.specs.Expressions.{Part, part_of, width_of, value_of, condition_of}
 use Rattle.kp_width.specs.Declarations.{kept, storage_of, address_width}
 
--- a condition, if there is one
+-- an optional condition
 abbrev pub when_of : List Decl → Scoped → Option Expr → Checked
 when_of ds s when = kept when (λ e. condition_of (part_of ds (length ds) s e))
 
--- E14: an address is as wide as its file's
+-- E14: an address has the width of its file's addresses
 abbrev pub address_of : Part → ℕ → Checked
 address_of e w = e.width >>= (λ x. wants (x == w) (e_rule 14 e.at) passed)
 
--- a read after its name: its target, address, condition, and guess, which is as wide as the target (E10). It is as wide too
+-- a read after its name: its target, address, condition, and guess, which has the width of the target (E10). This is the width of the read too
 abbrev pub read_of : List Decl → Scoped → ReadStmt → Check ℕ
 read_of ds s r =
     storage_of s r.target (is_some r.address)
@@ -34,7 +34,7 @@ read_of ds s r =
     >>= (λ b. kept r.guess (λ e. value_of (part_of ds (length ds) s e) t.width)
     >>= (λ c. ok t.width))))
 
--- what is put, set or aimed, and its value, which is as wide (E10)
+-- the name that is put, set or aimed, and its value, which has the same width (E10)
 abbrev pub given : List Decl → Scoped → (NameKind → Bool) → Named → Expr → Checked
 given ds s takes n e = used s takes n.name n.at >>= (λ m. value_of (part_of ds (length ds) s e) m.width)
 
@@ -51,7 +51,7 @@ abbrev pub statements_of : List Decl → Scoped → List Stmt → Check Scoped
 statements_of ds s [] = ok s
 statements_of ds s (x ∷ xs) = statement_of ds s x.kind >>= (λ t. statements_of ds t xs)
 
--- the blocks from the one of this number on
+-- the blocks from this number on
 abbrev pub blocks_of : List Decl → ℕ → Scoped → List Block → Check Scoped
 blocks_of ds k s [] = ok s
 blocks_of ds k s (b ∷ bs) = statements_of ds (opened s (scopes.Stage k)) b.stmts >>= (λ t. blocks_of ds (k + 1) t bs)

@@ -9,7 +9,7 @@ use Rattle.kp_ast.specs.declared.tree.Block.{Block}
 use Rattle.kp_ast.specs.declared.tree.Job.{Job}
 use Rattle.kp_width.specs.Declarations.{name_of}
 
--- a function's name stands before those of its parameters
+-- a function's name comes before those of its parameters
 abbrev pub names_in_decl : Decl → List (List ℕ)
 names_in_decl (decls.Func f) = f.name.name ∷ map (λ p. p.name.name) f.params
 names_in_decl d = (name_of d).name ∷ []

@@ -7,8 +7,8 @@ use Rattle.kp_width.specs.Names.{nothing}
 use Rattle.kp_width.specs.Declarations.{declarations_of}
 use Rattle.kp_width.specs.Statements.{blocks_of}
 
--- The answers to all questions of these rules, in their order, of which the first that names a broken rule counts; and where
--- none does, one entry for every declared name, in text order.
+-- The answers of all checks of these rules, in order; the first one that names a violated rule counts. If there is
+-- none, the result is one entry for every declared name, in text order.
 abbrev pub widths_of : Job → Check (List Entry)
 widths_of job =
     declarations_of job.decls 0 0 nothing job.decls

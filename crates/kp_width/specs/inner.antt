@@ -1,2 +1,2 @@
--- Only private contracts and proofs use the definitions below here: no public clause stands on them.
+-- These definitions are only for private contracts and proofs: no public clause depends on them.
 pub mod Positions

@@ -1,3 +1,4 @@
+// The checks of declarations.
 ghost use Rattle.std.specs.Prelude.{◌≡◌, ◌<◌, ◌+◌, ◌≤◌, ◌^◌, length, sum_by, None, OnOk, IfErr};
 ghost use Rattle.kp_base.specs.declared.refusal.Refused.TheVariants as refused;
 ghost use Rattle.kp_base.specs.Check.{Gives};
@@ -160,7 +161,7 @@ fn result_width(names: &Names, result_decl: &ResultDecl) -> Result<u8, Refusal>
     Ok(width)
 }
 
-// A result after its width.
+// Checks a result after its width.
 fn check_target(names: &Names, result_decl: &ResultDecl, width: u8) -> Result<(), Refusal>
     ensures { result ≡ (target_of names.now result_decl.now width).found }
 {
@@ -178,7 +179,7 @@ fn check_target(names: &Names, result_decl: &ResultDecl, width: u8) -> Result<()
     Ok(())
 }
 
-// A register, or a file where there is an address.
+// The meaning of a name that is a file if it has an address, else a register.
 pub(crate) fn storage(names: &Names, named: &Named, addressed: bool) -> Result<Meaning, Refusal>
     ensures { result ≡ (storage_of names.now named.now addressed).found }
 {
@@ -198,7 +199,7 @@ pub(crate) fn address_width(kind: NameKind) -> u8
     }
 }
 
-// A pipe that is to have this width, by the rule of this number.
+// Checks that a name is a pipe with this width; another width violates the rule with this number.
 fn check_pipe(names: &Names, pipe: &Named, width: u8, rule: u8) -> Result<(), Refusal>
     ensures { result ≡ (pipe_of names.now width rule pipe.now).found }
 {
@@ -208,7 +209,7 @@ fn check_pipe(names: &Names, pipe: &Named, width: u8, rule: u8) -> Result<(), Re
     Ok(())
 }
 
-// A function after its name.
+// Checks and adds a function after its name.
 fn add_func(
     names: &mut Names,
     decls: &[Decl],
@@ -233,7 +234,7 @@ fn add_func(
     Ok(())
 }
 
-// A function begins.
+// Opens the scope of a function.
 fn open_func(names: &mut Names, functions: u32, func: &FuncDecl) -> Result<(), NoMemory>
     ensures { OnOk result (names.new ≡ function_opened names.old functions func.now) }
 {
@@ -271,7 +272,7 @@ fn add_params(names: &mut Names, i: usize, params: &[Param]) -> Result<(), Refus
     Ok(())
 }
 
-// A name that is declared is not in scope yet.
+// Checks that a declared name is not in scope yet.
 pub(crate) fn check_fresh(names: &Names, named: &Named) -> Result<(), Refusal>
     ensures value { result ≡ (fresh names.now named.now.name named.now.at passed).found }
     ensures fresh { OnOk result (find names.now named.now.name ≡ None) }

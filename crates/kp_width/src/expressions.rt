@@ -1,3 +1,4 @@
+// The widths of expressions, and their checks.
 ghost use Rattle.std.specs.Prelude.{◌≡◌, ◌<◌, ◌+◌, ◌-◌, ◌≤◌, Ok, map, drop, length, slice_get, min};
 ghost use Rattle.kp_width.specs.Expressions.{literal_of, is_test, is_width, binary_of, choice_of, slice_of, extension_of, sum_of, concatenation_of, is_declared, params_of, width_at, arguments_of, callee_of, called_of, part_of, width_of, value_of, condition_of};
 
@@ -6,7 +7,7 @@ use kp_ast::{Decl, Expr, ExprKind, Name, Num, Param};
 use kp_base::{Place, Refusal};
 use kp_bits::{BinOp, Literal};
 
-// The width of an expression before which `done` declarations stand.
+// The width of an expression that `done` declarations precede.
 #[cycle(width)]
 pub(crate) fn width(decls: &[Decl], done: usize, names: &Names, e: &Expr) -> Result<u8, Refusal>
     requires { done ≤ length decls.now }
@@ -53,7 +54,7 @@ pub(crate) fn width(decls: &[Decl], done: usize, names: &Names, e: &Expr) -> Res
     }
 }
 
-// The sum of the widths, up to 65.
+// The sum of the widths, saturating at 65.
 #[cycle(width)]
 fn sum(decls: &[Decl], done: usize, names: &Names, es: &[Expr]) -> Result<u8, Refusal>
     requires { done ≤ length decls.now }
@@ -67,7 +68,7 @@ fn sum(decls: &[Decl], done: usize, names: &Names, es: &[Expr]) -> Result<u8, Re
     Ok(all)
 }
 
-// The sum, up to 65.
+// The sum, saturating at 65.
 fn capped(a: u8, b: u8) -> u8
     requires { a ≤ 65 }
     ensures { result ≡ min (a + b) 65 }
@@ -95,7 +96,7 @@ fn check_args(
     Ok(())
 }
 
-// An expression that is to have this width.
+// Checks an expression of this required width.
 pub(crate) fn value(
     decls: &[Decl],
     done: usize,
@@ -113,7 +114,7 @@ pub(crate) fn value(
     Ok(())
 }
 
-// An expression that is to be one bit wide.
+// Checks an expression that must be one bit wide.
 pub(crate) fn condition(decls: &[Decl], done: usize, names: &Names, e: &Expr) -> Result<(), Refusal>
     requires { done ≤ length decls.now }
     ensures { result ≡ (condition_of (part_of decls.now done names.now e.now)).found }
@@ -214,7 +215,7 @@ fn callee(
     names.used(Position::Callee, name, at)
 }
 
-// The function that a call with this many arguments names.
+// The function that is called, if it has this many parameters.
 fn called(
     decls: &[Decl],
     done: usize,

@@ -1,3 +1,4 @@
+// The names and widths of a complete job.
 ghost use Rattle.std.specs.Prelude.{◌≡◌, ◌<◌, ◌^◌, length, sum_by};
 ghost use Rattle.kp_base.specs.First.{Answers, first};
 ghost use Rattle.kp_base.specs.Check.{Gives};
@@ -11,7 +12,7 @@ use kp_ast::{Job, Widths};
 use kp_base::{List, Refused};
 use std::alloc::Global;
 
-/// The names of a job with their widths, or the first of the rules E5 to E14 and E26 that it breaks, in text order.
+/// The names of a job with their widths. Errors: the first of the rules E5 to E14 and E26 that it violates, in text order; or out of memory.
 pub fn widths(alloc: Global, job: &Job) -> Result<Widths, Refused>
     requires few_functions { sum_by functions_in job.now.decls < 2 ^ 32 }
     requires few_blocks { length job.now.blocks < 2 ^ 32 }

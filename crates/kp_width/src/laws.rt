@@ -1,4 +1,4 @@
-//! What the definition of widths obeys. Each function has an empty body: its clauses are laws.
+//! Properties of the definition of widths. Each function has an empty body: its clauses are laws.
 ghost use Rattle.std.specs.Prelude.{◌≡◌, ℕ, List, map, Some, None, true};
 ghost use Rattle.kp_base.specs.First.{first};
 ghost use Rattle.kp_bits.specs.Word.{Word};
@@ -19,15 +19,15 @@ pub fn one_entry_for_each_name()
     ensures { (job : Job) → map (λ e. e.name) (widths_of job).value ≡ declared_names job }
 {}
 
-/// An expression that breaks no rule has a word of its width, wherever each name that may stand in it has one, and each call at
-/// arguments of its parameters' widths.
+/// An expression that violates no rule evaluates to a word of its width, provided that each name that may occur in it
+/// does, and each call with arguments of its parameters' widths.
 pub fn an_expression_has_its_width()
     ensures { (ds : List Decl) (done : ℕ) (s : Scoped) (env : Env) (e : Expr) → Suits ds s env
         → first (width_of ds done s e).asked ≡ None → HasWidth (width_of ds done s e).value (eval env e) }
 {}
 
-/// Where the declarations break no rule, each call of a function at arguments of its parameters' widths has a word of the
-/// function's width.
+/// If the declarations violate no rule, each call of a function with arguments of its parameters' widths returns a
+/// word of the function's width.
 pub fn a_call_has_its_width()
     ensures { (ds : List Decl) (name : List ℕ) (m : Sense) (args : List Word)
         → first (declarations_of ds 0 0 nothing ds).asked ≡ None

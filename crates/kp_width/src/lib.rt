@@ -1,4 +1,4 @@
-//! Names and widths of a job: every name is declared once and used where it may be, and every value is as wide as it has to be.
+//! Names and widths of a job: every name is declared once and used where it may be, and every value has its specified width.
 #![tactic(auto)]
 
 mod declarations;

@@ -1,4 +1,4 @@
-// The names in scope, in tables that find one in about constant time.
+// The names in scope, in tables with lookup in about constant time.
 ghost use Rattle.std.specs.Prelude.{◌≡◌, ◌++◌, ◌∷◌, [], None, OnOk, MatchOption, ⊤};
 ghost use Rattle.kp_width.specs.Names.{look_up, find, nothing, opened, with_entry, with_text, with_local, declared_text, declared_local, used};
 ghost use Rattle.kp_width.specs.inner.Positions.{takes};
@@ -9,7 +9,7 @@ use kp_base::{NoMemory, Place, Refusal};
 use std::alloc::Global;
 use std::marker::Model;
 
-// What a name names: its kind and width, and the number of its declaration.
+// The meaning of a name: its kind and width, and the number of its declaration.
 #[derive(Clone, Copy, Debug)]
 pub(crate) struct Meaning {
     pub kind: NameKind,
@@ -27,7 +27,7 @@ impl Model for Meaning {
     ghost inverse = { λ s. record { kind = s.kind; width = s.width; from = s.from } };
 }
 
-// Where a name is used: each position takes other kinds.
+// The position in which a name is used: each position accepts certain kinds.
 #[derive(Clone, Copy, Debug)]
 pub(crate) enum Position {
     Value,
@@ -39,7 +39,7 @@ pub(crate) enum Position {
     Callee,
 }
 
-// Names with what they name, in the order in which they came.
+// Names with their meanings, in the order in which they were added.
 #[derive(Drop)]
 pub(crate) struct Table {
     meanings: IndexMap<Name, Meaning>,
@@ -69,7 +69,7 @@ impl Table {
         self.meanings.get(name).copied()
     }
 
-    // Adds a name that is not there yet.
+    // Adds a name that is not in the table yet.
     fn add(&mut self, name: Name, meaning: Meaning) -> Result<(), NoMemory>
         requires { look_up self.old name ≡ None }
         ensures { OnOk result (self.new ≡ self.old ++ (name, meaning) ∷ []) }
@@ -79,7 +79,7 @@ impl Table {
     }
 }
 
-// The names in scope at a place in the text, and the entries of all that were declared before it.
+// The names in scope at a position in the text, and the entries of all that were declared before it.
 #[derive(Drop)]
 pub(crate) struct Names {
     text: Table,
@@ -97,7 +97,7 @@ impl Model for Names {
 }
 
 impl Names {
-    /// Where the text begins: no name is in scope, and there are no entries.
+    /// The start of the text: no name is in scope, and there are no entries.
     pub fn new(alloc: Global) -> Names
         ensures { result ≡ nothing }
     {
@@ -109,7 +109,7 @@ impl Names {
         }
     }
 
-    /// A function, a block or the text itself begins.
+    /// Opens the scope of a function, a block or the text itself.
     pub fn open(&mut self, scope: Scope)
         ensures { self.new ≡ opened self.old scope }
     {
@@ -117,7 +117,7 @@ impl Names {
         self.here = scope;
     }
 
-    /// What a name names, if it is in scope.
+    /// The meaning of a name, if it is in scope.
     pub fn find(&self, name: &Name) -> Option<Meaning>
         ensures value { result ≡ find self.now name.now }
         ensures text { MatchOption result (look_up self.now.text name.now ≡ None) (λ _. ⊤) }
@@ -128,7 +128,7 @@ impl Names {
         }
     }
 
-    /// The meaning of a name in scope that the position takes. E6: it isn't in scope. E7: the position doesn't take its kind.
+    /// The meaning of a name in scope that the position accepts. Errors: E6 if it isn't in scope, E7 if the position doesn't accept its kind.
     pub fn used(&self, position: Position, name: &Name, at: Place) -> Result<Meaning, Refusal>
         ensures { result ≡ (used self.now (takes position self.now.here) name.now at).found }
     {
@@ -144,7 +144,7 @@ impl Names {
         }
     }
 
-    /// Gives a name its entry.
+    /// Adds the entry of a name.
     pub fn enter(&mut self, scope: Scope, name: &Name, meaning: Meaning) -> Result<(), NoMemory>
         ensures { OnOk result (self.new ≡ with_entry self.old scope name.now meaning) }
     {
@@ -157,7 +157,7 @@ impl Names {
         Ok(())
     }
 
-    /// Brings a name into scope to the end of the text, and closes what is open.
+    /// Brings a name into scope to the end of the text, and closes the open scope. Error: out of memory.
     pub fn add_text(&mut self, name: &Name, meaning: Meaning) -> Result<(), NoMemory>
         requires { look_up self.old.text name.now ≡ None }
         ensures { OnOk result (self.new ≡ with_text self.old name.now meaning) }
@@ -166,7 +166,7 @@ impl Names {
         self.text.add(name.clone()?, meaning)
     }
 
-    /// Declares a name of the text.
+    /// Declares a name of the text. Error: out of memory.
     pub fn declare_text(&mut self, name: &Name, meaning: Meaning) -> Result<(), NoMemory>
         requires { look_up self.old.text name.now ≡ None }
         ensures { OnOk result (self.new ≡ declared_text self.old name.now meaning) }
@@ -175,7 +175,7 @@ impl Names {
         self.add_text(name, meaning)
     }
 
-    /// Declares a name of the function or block that is open.
+    /// Declares a name of the open function or block. Error: out of memory.
     pub fn declare_local(&mut self, name: &Name, meaning: Meaning) -> Result<(), NoMemory>
         requires { find self.old name.now ≡ None }
         ensures { OnOk result (self.new ≡ declared_local self.old name.now meaning) }

@@ -1,3 +1,4 @@
+// The checks of statements.
 ghost use Rattle.std.specs.Prelude.{◌≡◌, ◌<◌, ◌^◌, length, None, OnOk, IfErr};
 ghost use Rattle.kp_base.specs.declared.refusal.Refused.TheVariants as refused;
 ghost use Rattle.kp_base.specs.Check.{Gives};
@@ -76,7 +77,7 @@ fn add_here(names: &mut Names, named: &Named, kind: NameKind, width: u8) -> Resu
     Ok(())
 }
 
-// A value that is put, set or aimed.
+// Checks a value that is put, set or aimed.
 fn check_given(
     names: &Names,
     decls: &[Decl],
@@ -108,7 +109,7 @@ fn check_address(names: &Names, decls: &[Decl], e: &Expr, w: u8) -> Result<(), R
     Ok(())
 }
 
-// The width that a read gives.
+// The width of the name that a read binds.
 fn read_width(names: &Names, decls: &[Decl], read: &ReadStmt) -> Result<u8, Refusal>
     ensures { result ≡ (read_of decls.now names.now read.now).found }
 {

@@ -1,16 +1,16 @@
--- How far a line goes, and how many instructions there are.
+-- The length of a line, and the number of instructions.
 use Rattle.std.specs.Prelude.{ℕ, ◌+◌, if◌then◌else◌, List, [], ◌∷◌, Bool, true, false, count_by}
 use Rattle.kp_asm.specs.Program.{is_line_end}
 use Rattle.kp_asm.specs.declared.item.Item.{Item}
 use Rattle.kp_asm.specs.declared.item.Item.TheVariants as items
 use Rattle.kp_asm.specs.declared.token.Token.{Token}
 
--- how many tokens the first line has, with its end
+-- the number of tokens of the first line, with its end
 abbrev pub line_length : List Token → ℕ
 line_length [] = 0
 line_length (t ∷ ts) = if is_line_end t.kind then 1 else line_length ts + 1
 
--- an item that is an instruction, and how many are
+-- an item that is an instruction, and the number of these
 abbrev pub is_instruction : Item → Bool
 is_instruction (items.Label label) = false
 is_instruction (items.Instruction instruction) = true

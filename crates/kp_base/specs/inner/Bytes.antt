@@ -2,7 +2,7 @@
 use Rattle.std.specs.Prelude.{◌≡◌, ℕ, List, ◌++◌, Option}
 use Rattle.std.specs.Io.KnownBytes.{Appends}
 
--- a whole text is written up to this rest of it
+-- the complete text is written except for this rest
 pub record WrittenUpTo (whole rest : List ℕ) (old new : Option (List ℕ)) : Type 0 where
   pub done : List ℕ
   pub split : whole ≡ done ++ rest

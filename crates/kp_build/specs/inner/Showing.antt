@@ -1,4 +1,4 @@
--- Nodes that show values.
+-- Nodes that have the values of expressions.
 use Rattle.std.specs.Prelude.{◌≡◌, ◌<◌, ◌-◌, ℕ, List, map, length, All, Option, Some, true, is_some}
 use Rattle.kp_bits.specs.declared.operator.BinOp.{BinOp}
 use Rattle.kp_ast.specs.declared.tree.Expr.{Expr}
@@ -13,7 +13,7 @@ use Rattle.kp_build.specs.Names.{Scope, known_at}
 abbrev pub words_at : Cells → Held → List NodeId → List Word
 words_at c p ns = map (λ n. word_at c p.nodes n.0) ns
 
--- the value is there, whatever the cells hold
+-- the value exists, whatever the cells hold
 unfoldable pub IsThere : {X : Type 0} → (Cells → Option X) → Type 0
 IsThere f = (c : Cells) → is_some (f c) ≡ true
 
@@ -36,12 +36,12 @@ value_in p env e c = checked (known_at c p env) e
 abbrev pub values_in : Held → Scope → List Expr → Cells → Option (List Word)
 values_in p env es c = all_there (map (checked (known_at c p env)) es)
 
--- the width of what an operator gives, where its left operand has this width
+-- the width of the result of an operator, given that of its left operand
 abbrev pub width_after : BinOp → ℕ → ℕ
 width_after BinOp.Eq a = 1
 width_after BinOp.Lt a = 1
 width_after _ a = a
 
--- so many copies of the top bit: all ones or all zeros
+-- n copies of the top bit: all ones or all zeros
 abbrev pub copies : ℕ → Word → Word
 copies count a = mux_of (slice_of a (a.width - 1) (a.width - 1)) (not_of (word count 0)) (word count 0)

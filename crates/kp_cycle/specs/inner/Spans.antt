@@ -1,44 +1,45 @@
--- Spans that lie side by side in a region.
+-- Disjoint spans of a region.
 use Rattle.std.specs.Prelude.{ℕ, ◌+◌, ◌-◌, ◌^◌, ◌≡◌, ◌<◌, ◌≤◌, if◌then◌else◌, false, List, ◌∷◌, length, get_or, map, Option, None, Some}
 use Rattle.kp_region.specs.declared.span.Span.{Span}
 use Rattle.kp_region.specs.Words.{Words, IsSound, IsWithin, IsDisjoint, span_words}
 use Rattle.kp_net.specs.Netlist.{State}
 use Rattle.kp_cycle.specs.declared.slots.Slot.{Slot}
 
--- what stands for a span where there is none
+-- the default for a span that doesn't exist
 abbrev pub no_span : Span
 no_span = record { start = 0; len = 0 }
 
--- all spans end within the used words, which are fewer than 2^32, and no two of them share a word
+-- all spans end within the used words, which are fewer than 2^32, and no two of them overlap
 pub record Apart (r : Words) (spans : List Span) : Type 0 where
   pub sound : IsSound r
   pub few : r.used < 2 ^ 32
   pub within : (k : ℕ) → k < length spans → IsWithin (get_or spans k no_span) r
   pub apart : (j k : ℕ) → j < k → k < length spans → IsDisjoint (get_or spans j no_span) (get_or spans k no_span)
 
--- one span lies within another
+-- one span is inside another
 abbrev pub IsInside : Span → Span → Type 0
 IsInside s t = (t.start ≤ s.start) × (s.start + s.len ≤ t.start + t.len)
 
--- a span within one, as far into another
+-- a span inside one span, moved to the same offset in another
 abbrev pub moved : Span → Span → Span → Span
 moved from to s = record { start = to.start + (s.start - from.start); len = s.len }
 
--- what stands for a slot where there is none
+-- the default for a slot that doesn't exist
 abbrev pub no_slot : Slot
 no_slot = record { span = no_span; is_saved = false }
 
--- what the spans of the registers and of the files hold
+-- the contents of the spans of the registers and of the files
 abbrev pub state_in : Words → Span → List Span → State
 state_in r regs files = record { regs = span_words r regs; files = map (span_words r) files }
 
--- what a slot holds: the words as far into it as the registers and files lie in the whole state
+-- the contents of a slot: the words at the offsets that the registers and files have in the complete state
 abbrev pub held : Words → Span → List Span → Span → Slot → Option State
 held r regs files whole slot =
     if slot.is_saved then Some (state_in r (moved whole slot.span regs) (map (moved whole slot.span) files)) else None
 
--- the spans of a memory: those of the nodes, the registers and the files lie side by side, and the last two within one of the whole state;
--- and each slot is of the size of the whole state, and lies beside it, the nodes and the other slots
+-- the spans of a memory: those of the nodes, the registers and the files are disjoint, and the last two are inside
+-- one of the complete state; and each slot has the size of the complete state, and is disjoint from it, the nodes and
+-- the other slots
 pub record Laid (r : Words) (nodes regs : Span) (files : List Span) (whole : Span) (slots : List Slot) : Type 0 where
   pub apart : Apart r (nodes ∷ regs ∷ files)
   pub inside : (k : ℕ) → k < length (regs ∷ files) → IsInside (get_or (regs ∷ files) k no_span) whole

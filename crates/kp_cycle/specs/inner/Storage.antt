@@ -1,15 +1,15 @@
--- What a simulator holds, and how it fits its netlist.
+-- The contents of a simulator, and how they fit its netlist.
 use Rattle.std.specs.Prelude.{ℕ, ◌^◌, ◌<◌, ◌≡◌, ◌==◌, if◌then◌else◌, List, [], length, get_or, map, set, Option, None, Some}
 use Rattle.kp_bits.specs.Word.{Word, word}
 use Rattle.kp_net.specs.declared.node.Node.{Node}
 use Rattle.kp_net.specs.declared.netlist.NetReg.{NetReg}
 use Rattle.kp_net.specs.declared.netlist.WritePort.{WritePort}
 use Rattle.kp_net.specs.Widths.{wide}
-use Rattle.kp_net.specs.Nodes.{Cells, at}
+use Rattle.kp_net.specs.Nodes.{Cells}
 use Rattle.kp_net.specs.Netlist.{Net, Input, State, cells_of}
 use Rattle.kp_net.specs.Parts.{NetOk, no_reg, no_file}
 
--- the values of the nodes and of the registers, the words of the files, and the states that slots hold
+-- the values of the nodes and of the registers, the words of the files, and the states in slots
 pub record Stored : Type 0 where
   pub nodes : List ℕ
   pub regs : List ℕ
@@ -32,14 +32,14 @@ pub record StateFits (net : Net) (st : State) : Type 0 where
   pub regs : (r : ℕ) → r < length net.parts.regs → get_or st.regs r 0 < 2 ^ (get_or net.parts.regs r no_reg).start.width
   pub words : (f a : ℕ) → f < length net.parts.files → get_or (get_or st.files f []) a 0 < 2 ^ (get_or net.parts.files f no_file).width
 
--- a state of the netlist: a value for each register, and a word for each address of each file, of their widths
+-- a state of the netlist: a value for each register, and a word for each address of each file, with their widths
 pub record IsStateOf (net : Net) (st : State) : Type 0 where
   pub regs : length st.regs ≡ length net.parts.regs
   pub files : length st.files ≡ length net.parts.files
   pub words : (f : ℕ) → f < length net.parts.files → length (get_or st.files f []) ≡ 2 ^ (get_or net.parts.files f no_file).address_width
   pub fit : StateFits net st
 
--- each state that a slot holds is one of the netlist
+-- each state in a slot is one of the netlist
 abbrev pub SlotsFit : Net → List (Option State) → Type 0
 SlotsFit net slots = (k : ℕ) (st : State) → get_or slots k None ≡ Some st → IsStateOf net st
 
@@ -47,7 +47,7 @@ SlotsFit net slots = (k : ℕ) (st : State) → get_or slots k None ≡ Some st 
 abbrev pub cells : Input → Stored → Cells
 cells i m = cells_of i (state_of m)
 
--- the words of nodes, as they are held
+-- the words of nodes, as they are stored
 abbrev pub seen : List Node → List ℕ → ℕ → Word
 seen ns values i = word (wide ns i) (get_or values i 0)
 
@@ -55,11 +55,7 @@ seen ns values i = word (wide ns i) (get_or values i 0)
 abbrev pub FitsBelow : List Node → List ℕ → ℕ → Type 0
 FitsBelow ns values n = (i : ℕ) → i < n → get_or values i 0 < 2 ^ wide ns i
 
--- the first n nodes hold their values of this cycle
-abbrev pub KnownBelow : List Node → Input → Stored → ℕ → Type 0
-KnownBelow ns input m n = (i : ℕ) → i < n → get_or m.nodes i 0 ≡ at (cells input m) ns i
-
--- what registers and files take from the values of nodes
+-- the values of registers and files after the cycle, from the values of nodes
 abbrev pub regs_from : List NetReg → List ℕ → List ℕ
 regs_from regs values = map (λ r. get_or values r.next.0 0) regs
 
@@ -67,7 +63,7 @@ abbrev pub port_from : Option WritePort → List ℕ → List ℕ → List ℕ
 port_from None values words = words
 port_from (Some p) values words = if get_or values p.enable.0 0 == 1 then set words (get_or values p.address.0 0) (get_or values p.value.0 0) else words
 
--- all that a port names is held, and its address is one of the file's
+-- all that a port names is stored, and its address is one of the file's
 abbrev pub PortReady : Stored → ℕ → Option WritePort → Type 0
 PortReady m f None = Unit {0}
 PortReady m f (Some p) = (p.enable.0 < length m.nodes) × (p.address.0 < length m.nodes) × (p.value.0 < length m.nodes) × (get_or m.nodes p.address.0 0 < length (get_or m.files f []))

@@ -1,11 +1,11 @@
--- What a part of a tree over rows gives.
+-- The meaning of a part of a tree over rows.
 use Rattle.std.specs.Prelude.{ℕ, ◌≡◌, Bool, true, if◌then◌else◌, List}
 use Rattle.kp_net.specs.Nodes.{Cells, at, on}
 use Rattle.kp_net.specs.Growth.{Held}
 use Rattle.kp_fwd.specs.declared.rows.Candidate.{Candidate}
 use Rattle.kp_fwd.specs.Forward.{first_of}
 
--- In q this candidate stands for these rows of p: it hits where one of them does, and gives what the first that hits gives.
+-- In q this candidate replaces these rows of p: it hits if one of them does, and has the value of the first that hits.
 pub record StandsFor (p : Held) (rows : List Candidate) (q : Held) (r : Candidate) : Type 0 where
   pub hit : (c : Cells) (none : Bool) → (if on c q.nodes r.hit.0 then true else none) ≡ first_of c p (λ s. true) none rows
   pub ok : (c : Cells) (none : Bool) → (if on c q.nodes r.hit.0 then on c q.nodes r.ok.0 else none) ≡ first_of c p (λ s. on c p.nodes s.ok.0) none rows

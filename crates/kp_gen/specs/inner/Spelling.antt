@@ -1,4 +1,4 @@
--- The names that are written out.
+-- The names that are given as bytes.
 use Rattle.std.specs.Prelude.{ℕ, List, Bool, ◌&&◌, nat_le, length}
 use Rattle.std.specs.List.{list_all}
 use Rattle.kp_base.specs.Characters.{is_word}

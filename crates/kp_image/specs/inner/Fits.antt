@@ -1,4 +1,4 @@
--- What holds of declarations and entries that break no rule: every number that the start state is made of fits its place.
+-- Properties of declarations and entries that violate no rule: every number in the start state fits its destination.
 use Rattle.std.specs.Prelude.{◌≡◌, ℕ, ◌+◌, ◌^◌, ◌≤◌, List, length, true}
 use Rattle.std.specs.List.{All}
 use Rattle.kp_bits.specs.Word.{IsWord, word}
@@ -13,7 +13,7 @@ abbrev pub HasFewWords : Decl → Type 0
 HasFewWords (decls.File n width address) = address.value ≤ 16
 HasFewWords _ = Unit {0}
 
--- an entry for this name ends within so many words
+-- an entry for this name ends within this many words
 abbrev pub EndsWithin : List ℕ → ℕ → Image → Type 0
 EndsWithin name words e = is_same_name e.name.name name ≡ true → first_address e + length e.values ≤ words
 

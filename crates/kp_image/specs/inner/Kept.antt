@@ -1,4 +1,4 @@
--- What is kept of the entries of the stalls and the inputs section.
+-- What is stored of the entries of the stalls and the inputs section.
 use Rattle.std.specs.Prelude.{◌≡◌, true, ℕ, ◌≤◌, List, [], ◌∷◌, Option, if◌then◌else◌, map}
 use Rattle.std.specs.List.{All}
 use Rattle.kp_ast.specs.Expressions.{is_same_name}
@@ -14,7 +14,7 @@ use Rattle.kp_image.specs.declared.inputs.Given.{Given}
 use Rattle.kp_image.specs.Spans.{Pattern}
 use Rattle.kp_image.specs.Feeds.{Fed, FitsFeed}
 
--- the cycles of an entry, by steps of 1 where it names none
+-- the cycles of an entry, in steps of 1 if it specifies none
 abbrev pub cycles_of : Num → Num → Option Num → Cycles
 cycles_of first last step = record { first = first.value; last = last.value; step = number_or step 1 }
 
@@ -41,11 +41,11 @@ feeds_of es [] = []
 feeds_of es (decls.Sample n width stage ∷ ds) = record { width = width.value; givens = givens_of es n.name } ∷ feeds_of es ds
 feeds_of es (_ ∷ ds) = feeds_of es ds
 
--- an entry for this name has a value that fits so many bits, and its step isn't 0
+-- an entry for this name has a value that fits in this many bits, and its step isn't 0
 abbrev pub FitsSample : List ℕ → ℕ → Inputs → Type 0
 FitsSample name width e = is_same_name e.name.name name ≡ true → FitsFeed width (kept_by e)
 
--- the entries fit a sample that is declared
+-- the entries fit a declared sample
 abbrev pub InputsFit : List Inputs → Decl → Type 0
 InputsFit es (decls.Sample n width stage) = (1 ≤ width.value) × (width.value ≤ 64) × All (FitsSample n.name width.value) es
 InputsFit es _ = Unit {0}

@@ -1,4 +1,4 @@
--- What may stand for a node that is asked for.
+-- What may replace a requested node.
 use Rattle.std.specs.Prelude.{ℕ, ◌<◌, ◌≤◌, ◌≡◌, ◌&&◌, true, false, List, length, get_or}
 use Rattle.kp_bits.specs.Word.{IsWord, word}
 use Rattle.kp_bits.specs.Word as bits
@@ -15,7 +15,7 @@ use Rattle.kp_net.specs.Widths.{wide, no_node, is_cell}
 use Rattle.kp_net.specs.Depth.{depth_of, depth}
 use Rattle.kp_net.specs.Folding.{folds, is_plain, is_masking}
 
--- node i has the word that an operation of k bits has, and is no deeper
+-- node i has the word of an operation of k bits, and is no deeper
 pub record StandsFor (ns : List Node) (k : ℕ) (o : Kind) (i : NodeId) : Type 0 where
   pub inside : i.0 < length ns
   pub wide : wide ns i.0 ≡ k
@@ -30,7 +30,7 @@ pub record IsWordOf (ns : List Node) (k : ℕ) (o : Kind) (w : bits.Word) : Type
   pub word : (c : Cells) → w ≡ word_of_kind c (word_at c ns) k o
   pub plain : is_cell o ≡ false
 
--- what asking for a node of k bits and this kind comes to, after the nodes ns
+-- what a requested node of k bits and this kind folds to, after the nodes ns
 abbrev pub FoldsTo : List Node → ℕ → Kind → Folded → Type 0
 FoldsTo ns k o (Folded.There i) = StandsFor ns k o i
 FoldsTo ns k o (Folded.Number w) = IsWordOf ns k o w
@@ -45,7 +45,7 @@ number_in _ = 0
 abbrev pub number_at : List Node → ℕ → bits.Word
 number_at ns i = word (wide ns i) (number_in (get_or ns i no_node).kind)
 
--- what an operand w that is a constant makes of `&` and `|`, on either side of a word of the same width
+-- the effect of a constant operand w of `&` or `|`, on either side of a word of the same width
 abbrev pub Masks : BinOp → bits.Word → Masking → Type 0
 Masks op w Masking.Wins = (is_masking op ≡ true) × ((a : bits.Word) → IsWord a → a.width ≡ w.width → (binary_of op w a ≡ w) × (binary_of op a w ≡ w))
 Masks op w Masking.Yields = (is_masking op ≡ true) × ((a : bits.Word) → IsWord a → a.width ≡ w.width → (binary_of op w a ≡ a) × (binary_of op a w ≡ a))

@@ -1,4 +1,4 @@
--- Where a node is looked for.
+-- Which nodes a lookup has searched.
 use Rattle.std.specs.Prelude.{ℕ, ◌<◌, ◌≤◌, ◌≡◌, List, length, get_or}
 use Rattle.kp_net.specs.declared.node.Node.{Node}
 use Rattle.kp_net.specs.Widths.{no_node}

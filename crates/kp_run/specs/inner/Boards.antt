@@ -1,4 +1,4 @@
--- What a board keeps behind the rows of a run.
+-- What a board stores after the rows of a run.
 use Rattle.std.specs.Prelude.{◌≡◌, ℕ, ◌<◌, List, length}
 use Rattle.std.specs.List.{All}
 use Rattle.kp_base.specs.declared.row.Row.{Row}
@@ -10,10 +10,15 @@ use Rattle.kp_run.specs.Boards.{passes_behind, due_behind}
 use Rattle.kp_run.specs.Homes.{AreHomes, home_of}
 use Rattle.kp_run.specs.inner.Lanes.{lane_state, lane_passes}
 
--- each target is shown by one of the machines, which has run the instructions that stand behind the target
+-- one of the machines has the value of each target, and has executed the instructions that the target reflects
 pub record IsBoard (job : Job) (rows : List Row) (machines : List Running) (given : List ℕ) : Type 0 where
   pub homes : AreHomes job given
   pub count : (t : ℕ) → home_of job t < length machines
   pub jobs : All (λ m. targets_of m.job.decls ≡ targets_of job.decls) machines
   pub passes : (t : ℕ) → lane_passes job (rows_seen job.stages.value rows) (home_of job t) ≡ passes_behind job rows t
   pub values : (t a : ℕ) → lane_state machines (home_of job t) t a ≡ due_behind job rows t a
+
+-- the machine of each target, and the number of instructions that the target reflects
+pub record HasCounts (job : Job) (rows : List Row) (given : List ℕ) : Type 0 where
+  pub homes : AreHomes job given
+  pub passes : (t : ℕ) → lane_passes job (rows_seen job.stages.value rows) (home_of job t) ≡ passes_behind job rows t

@@ -1,8 +1,8 @@
--- The machines behind a run: one for each stage, which runs the instructions that the stage lets pass, and one more that runs none.
+-- The machines after a run: one for each stage, which executes the instructions that the stage has completed, and one more that executes none.
 use Rattle.std.specs.Prelude.{◌≡◌, ℕ, zero, suc, ◌+◌, ◌<◌, ◌≤◌, List, [], ◌∷◌, length, get_or, nat_lt, if◌then◌else◌}
 use Rattle.std.specs.List.{All}
 use Rattle.kp_ast.specs.declared.tree.Job.{Job}
-use Rattle.kp_law.specs.Rows.{Row, passed}
+use Rattle.kp_pipeline.specs.Rows.{Row, passed}
 use Rattle.kp_machine.specs.Machine.{sequential}
 use Rattle.kp_machine.specs.Slots.{targets_of}
 use Rattle.kp_seq.specs.Running.{Running, state}
@@ -13,11 +13,11 @@ lane_state [] k = λ t a. 0
 lane_state (m ∷ ms) zero = state m
 lane_state (m ∷ ms) (suc k) = lane_state ms k
 
--- how many instructions machine k has run behind these rows
+-- how many instructions machine k has executed after these rows
 abbrev pub lane_passes : Job → List Row → ℕ → ℕ
 lane_passes job rows k = if nat_lt k job.stages.value then passed rows k (length rows) else 0
 
--- how many instructions machine k has run, by the counts of n stages
+-- how many instructions machine k has executed, by the counts of n stages
 abbrev pub lane_count : ℕ → List ℕ → ℕ → ℕ
 lane_count n counts k = if nat_lt k n then get_or counts k 0 else 0
 
@@ -27,7 +27,7 @@ pub record HaveRunFrom (job : Job) (given : ℕ → ℕ → ℕ) (counts : List 
   pub jobs : All (λ m. m.job ≡ job) machines
   pub states : (j : ℕ) → j < length machines → lane_state machines j ≡ sequential job given (lane_count job.stages.value counts (j + k))
 
--- the machines of a job behind these rows, where instructions are given these values of the samples
+-- the machines of a job after these rows, if instructions read these sample values
 pub record HaveRun (job : Job) (given : ℕ → ℕ → ℕ) (rows : List Row) (machines : List Running) : Type 0 where
   pub count : length machines ≡ job.stages.value + 1
   pub jobs : All (λ m. targets_of m.job.decls ≡ targets_of job.decls) machines

@@ -1,4 +1,4 @@
--- What is noted while an instruction runs, over lists.
+-- The record of a running instruction, over lists.
 use Rattle.std.specs.Prelude.{ℕ, ◌+◌, ◌^◌, List, [], ◌∷◌, ◌++◌, Option, Some, None, Bool, ◌&&◌, nat_le, nat_lt, if◌then◌else◌, is_some, length, get_or, set, replicate, unwrap_or, map}
 use Rattle.std.specs.Option.{option_map}
 use Rattle.kp_bits.specs.Word.{Word}
@@ -11,15 +11,15 @@ use Rattle.kp_ast.specs.declared.tree.Stmt.{Stmt}
 use Rattle.kp_ast.specs.declared.tree.StmtKind.{StmtKind}
 use Rattle.kp_ast.specs.declared.tree.StmtKind.TheVariants as stmts
 use Rattle.kp_ast.specs.declared.tree.Block.{Block}
-use Rattle.kp_law.specs.Sequential.{first_value}
+use Rattle.kp_pipeline.specs.Sequential.{first_value}
 use Rattle.kp_machine.specs.Slots.{Slot, number_of, width_of}
 use Rattle.kp_seq.specs.declared.notes.Outlet.{Outlet}
 use Rattle.kp_seq.specs.Told.{Told, where_true}
 use Rattle.kp_seq.specs.inner.Tables.{Laid, pipe_number}
 use Rattle.kp_seq.specs.inner.Steps.{Under, holds, address_in, is_enabled, address_by, after_stmt, entered, after_block}
 
--- the results of a machine; what is noted of the reads and of the results of an instruction; how many reads there were so far; and of each
--- result the stage in which it was set
+-- the results of a machine; the record of the reads and of the results of an instruction; the number of reads so far;
+-- and for each result the stage in which it was set
 pub record Noted : Type 0 where
   pub outlets : List Outlet
   pub reads : List (Option ℕ)
@@ -45,14 +45,14 @@ outlets_of targets pipes [] = []
 outlets_of targets pipes (decls.Target r ∷ ds) = outlet_by targets pipes r ∷ outlets_of targets pipes ds
 outlets_of targets pipes (_ ∷ ds) = outlets_of targets pipes ds
 
--- a number that fits, and 0 for one that doesn't
+-- a number if it fits, else 0
 abbrev pub narrowed : ℕ → ℕ → ℕ
 narrowed bits a = if nat_lt a (2 ^ bits) then a else 0
 
 abbrev pub narrow_address : Option ℕ → Option ℕ
 narrow_address o = option_map (narrowed 32) o
 
--- an instruction begins
+-- the start of an instruction
 abbrev pub begun_notes : Noted → Noted
 begun_notes n = record n { next = 0; set_in = replicate (length n.set_in) None }
 
@@ -60,19 +60,19 @@ begun_notes n = record n { next = 0; set_in = replicate (length n.set_in) None }
 abbrev pub with_read : Noted → Option ℕ → Noted
 with_read n o = record n { reads = set n.reads n.next o; next = if nat_lt n.next (length n.reads) then n.next + 1 else n.next }
 
--- the entries from the one of number i on are changed, by a list
+-- the entries from number i on are changed, by a list
 abbrev pub changed_from : {X Y : Type 0} → (ℕ → X → Y → Y) → Y → List Y → ℕ → List X → List Y
 changed_from f d ys i [] = ys
 changed_from f d ys i (x ∷ xs) = changed_from f d (set ys i (f i x (get_or ys i d))) (i + 1) xs
 
--- a stage ends: results that have a value and had none before were set in it
+-- the end of a stage: results that have a value and had none before were set in it
 abbrev pub marked : ℕ → List (Option ℕ) → Outlet → Option ℕ → Option ℕ
 marked k results o old = first_value old (where_true (is_some (get_or results o.target None)) k)
 
 abbrev pub with_marks : ℕ → Under → Noted → Noted
 with_marks k u n = record n { set_in = changed_from (λ i o old. marked k u.results o old) None n.set_in 0 n.outlets }
 
--- the instruction ends
+-- the end of the instruction
 abbrev pub write_noted : Under → Outlet → Option ℕ
 write_noted u o = where_true (is_enabled u o.enable) (narrowed 32 (address_by u o.address))
 
@@ -85,7 +85,7 @@ with_results u n = record n {
   settings = changed_from (λ i o old. setting_noted (get_or n.set_in i None) o) 0 n.settings 0 n.outlets;
 }
 
--- the address of a read, where its condition holds
+-- the address of a read, if its condition holds
 abbrev pub asked_in : Laid → Under → ReadStmt → Option ℕ
 asked_in t u r = where_true (holds t u r.when) (address_in t u r.address)
 

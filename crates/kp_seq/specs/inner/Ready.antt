@@ -1,4 +1,4 @@
--- What a machine has when it starts, and what it keeps between its instructions.
+-- The contents of a machine at its start, and what it preserves between its instructions.
 use Rattle.std.specs.Prelude.{◌≡◌, ℕ, ◌≤◌, List, [], ◌∷◌, None, length}
 use Rattle.kp_base.specs.First.{first}
 use Rattle.kp_bits.specs.Word.{Word}
@@ -10,14 +10,14 @@ use Rattle.kp_stage.specs.Counts.{summary_of}
 use Rattle.kp_stage.specs.Sizes.{size_of_job}
 use Rattle.kp_stage.specs.Stages.{broken_of}
 use Rattle.kp_machine.specs.Slots.{targets_of, pipes_of, samples_of}
-use Rattle.kp_plan.specs.Names.{keys_of}
+use Rattle.kp_seq_plan.specs.Names.{keys_of}
 use Rattle.kp_seq.specs.inner.Tables.{Laid, ports_of}
 use Rattle.kp_seq.specs.inner.Fits.{FitSlots}
 use Rattle.kp_seq.specs.inner.Resolved.{Outline, Raw, Resolves}
 use Rattle.kp_seq.specs.inner.Steps.{Under}
 use Rattle.kp_seq.specs.inner.Notes.{Noted, outlets_of}
 
--- the tables of a job, in which each name that the job declares has a place
+-- the tables of a job, in which each declared name has an index
 pub record AreTables (job : Job) (t : Laid) : Type 0 where
   pub decls : t.decls ≡ job.decls
   pub targets : t.targets ≡ targets_of job.decls
@@ -26,7 +26,7 @@ pub record AreTables (job : Job) (t : Laid) : Type 0 where
   pub ports : t.ports ≡ ports_of job.decls
   pub names : t.names ≡ keys_of [] (widths_of job).value
 
--- a place for each name, pipe and result
+-- an entry for each name, pipe and result
 pub record HasPlaces (t : Laid) (u : Under) : Type 0 where
   pub names : length u.names ≡ length t.names
   pub pipes : length u.pipes ≡ length t.pipes
@@ -37,7 +37,7 @@ pub record HasRoom (t : Laid) (r : Raw) : Type 0 where
   pub pipes : length r.pipes ≡ length t.pipes
   pub results : length r.results ≡ length t.targets
 
--- room for the notes: of the results, and of as many reads as the job has
+-- storage for the record: for the results, and for as many reads as the job has
 pub record IsNoted (job : Job) (n : Noted) : Type 0 where
   pub outlets : n.outlets ≡ outlets_of (targets_of job.decls) (pipes_of job.decls) job.decls
   pub reads : length n.reads ≡ (summary_of job).reads
@@ -55,7 +55,7 @@ pub record IsReady (job : Job) (t : Laid) (o : Outline) (r : Raw) (space : ℕ) 
   pub words : FitSlots (targets_of job.decls) held
   pub notes : IsNoted job n
 
--- the words of the targets of these declarations, of which the registers have these values and the files these words
+-- the words of the targets of these declarations, given these values of the registers and words of the files
 abbrev pub words_of_start : List Decl → List Word → List (List ℕ) → List (List ℕ)
 words_of_start [] regs files = []
 words_of_start (decls.Reg n width start ∷ ds) [] files = [] ∷ words_of_start ds [] files

@@ -1,4 +1,4 @@
--- A job that is resolved, and what an instruction does by it, in numbers alone.
+-- A resolved job, and the effect of its instructions, on plain numbers.
 use Rattle.std.specs.Prelude.{◌≡◌, ◌≤◌, ◌+◌, ℕ, List, [], ◌∷◌, Option, Some, None, Bool, true, ◌==◌, if◌then◌else◌, length, map, sum_by, replicate, set, get_or, slice_index}
 use Rattle.std.specs.List.{position}
 use Rattle.kp_bits.specs.Word.{Word}
@@ -10,13 +10,13 @@ use Rattle.kp_ast.specs.declared.tree.Stmt.{Stmt}
 use Rattle.kp_ast.specs.declared.tree.StmtKind.{StmtKind}
 use Rattle.kp_ast.specs.declared.tree.StmtKind.TheVariants as stmts
 use Rattle.kp_ast.specs.declared.tree.Block.{Block}
-use Rattle.kp_law.specs.Sequential.{first_value}
+use Rattle.kp_pipeline.specs.Sequential.{first_value}
 use Rattle.kp_stage.specs.Sizes.{size_of_option, size_of_kind, size_of_stmt}
 use Rattle.kp_machine.specs.Slots.{Slot}
-use Rattle.kp_code.specs.Codes.{value_of, space_of}
-use Rattle.kp_lower.specs.Lowering.{Holds, AllSuit}
-use Rattle.kp_code.specs.declared.code.Code.{Code}
-use Rattle.kp_code.specs.declared.code.Typed.{Typed}
+use Rattle.kp_seq_plan.specs.Codes.{value_of, space_of}
+use Rattle.kp_seq_plan.specs.Lowering.{Holds, AllSuit}
+use Rattle.kp_seq_plan.specs.declared.code.Code.{Code}
+use Rattle.kp_seq_plan.specs.declared.code.Typed.{Typed}
 use Rattle.kp_seq.specs.declared.program.Reading.{Reading}
 use Rattle.kp_seq.specs.declared.program.Step.{Step}
 use Rattle.kp_seq.specs.declared.program.Step.TheVariants as moves
@@ -29,19 +29,19 @@ use Rattle.kp_seq.specs.inner.Steps.{Under, word_in, holds, address_in, value_re
 use Rattle.kp_seq.specs.Told.{where_true}
 use Rattle.kp_seq.specs.inner.Notes.{Noted, narrow_address, begun_notes, with_read, with_marks, with_results, asked_in, note_stmt, note_stmts}
 
--- the places of the names of the samples and of the pipes, and the steps of each stage
+-- the indices of the names of the samples and of the pipes, and the steps of each stage
 pub record Outline : Type 0 where
   pub samples : List (Option ℕ)
   pub pipes : List (Option ℕ)
   pub stages : List (List Step)
 
--- an instruction under way in numbers alone: what is held at the places of names, the values of pipes, and results by their targets
+-- an instruction in flight as plain numbers: the values of names by index, the values of pipes, and results by their targets
 pub record Raw : Type 0 where
   pub names : List ℕ
   pub pipes : List ℕ
   pub results : List (Option ℕ)
 
--- what is written of it
+-- its pipes and results, which determine what it writes
 abbrev pub outputs : Raw → Under
 outputs r = record { names = []; pipes = r.pipes; results = r.results }
 
@@ -54,7 +54,7 @@ abbrev pub address_at : Raw → Option Code → ℕ
 address_at r None = 0
 address_at r (Some c) = value_of c r.names
 
--- what a read gives: 0 where its condition fails; a guess is of a register
+-- the value of a read: 0 if its condition is false; a guess is of a register
 abbrev pub value_at : List (List ℕ) → Raw → Reading → ℕ
 value_at words r s = if holds_at r s.when then state_in words s.target (if s.is_guessed then 0 else address_at r s.address) else 0
 
@@ -88,18 +88,18 @@ abbrev pub after_steps : List (List ℕ) → Raw → List Step → Raw
 after_steps words r [] = r
 after_steps words r (s ∷ ss) = after_steps words (after_step words r s) ss
 
--- these places get the values of a row
+-- the values under these indices are set to those of an input vector
 abbrev pub with_row_at : Raw → List (Option ℕ) → List Word → Raw
 with_row_at r [] row = r
 with_row_at r (p ∷ ps) [] = r
 with_row_at r (p ∷ ps) (w ∷ row) = with_row_at (with_place r p w.value) ps row
 
--- these places get the values of the pipes, of which the first has this number
+-- the values under these indices are set to those of the pipes, the first of which has this number
 abbrev pub with_carried : Raw → ℕ → List (Option ℕ) → Raw
 with_carried r i [] = r
 with_carried r i (p ∷ ps) = with_carried (with_place r p (slice_index r.pipes i)) (i + 1) ps
 
--- a stage begins: the names of the samples and of the pipes get their values
+-- the start of a stage: the names of the samples and of the pipes are bound to their values
 abbrev pub entered_at : Outline → List Word → Raw → Raw
 entered_at o row r = with_carried (with_row_at r o.samples row) 0 o.pipes
 
@@ -107,7 +107,7 @@ abbrev pub after_stages : Outline → List (List ℕ) → List Word → Raw → 
 after_stages o words row r [] = r
 after_stages o words row r (s ∷ ss) = after_stages o words row (after_steps words (entered_at o row r) s) ss
 
--- an instruction begins: no pipe and no result has a value
+-- the start of an instruction: no pipe and no result has a value
 abbrev pub begun_at : Raw → Raw
 begun_at r = record { names = r.names; pipes = replicate (length r.pipes) 0; results = replicate (length r.results) None }
 
@@ -115,11 +115,11 @@ begun_at r = record { names = r.names; pipes = replicate (length r.pipes) 0; res
 abbrev pub ran : Outline → List (Option Port) → List Word → Raw → List (List ℕ) → List (List ℕ)
 ran o ports row r words = written_from (outputs (after_stages o words row (begun_at r) o.stages)) words 0 ports
 
--- NOTES. The address of a read, where its condition holds
+-- THE RECORD. The address of a read, if its condition holds
 abbrev pub asked_at : Raw → Reading → Option ℕ
 asked_at r s = where_true (holds_at r s.when) (address_at r s.address)
 
--- what the read gives by that
+-- the value of the read, given that address
 abbrev pub value_asked : List (List ℕ) → Reading → Option ℕ → ℕ
 value_asked words s None = 0
 value_asked words s (Some a) = state_in words s.target (if s.is_guessed then 0 else a)
@@ -145,7 +145,7 @@ abbrev pub noted : Outline → List (List ℕ) → List Word → Raw → Noted �
 noted o words row r n =
     with_results (outputs (after_stages o words row (begun_at r) o.stages)) (note_stages o words row 0 (begun_at r) (begun_notes n) o.stages)
 
--- the room that a step takes
+-- the scratch space that a step needs
 abbrev pub option_space : Option Code → ℕ
 option_space None = 0
 option_space (Some c) = space_of c
@@ -160,7 +160,7 @@ step_space moves.Nothing = 0
 abbrev pub steps_space : List Step → ℕ
 steps_space ss = sum_by step_space ss
 
--- the widths of what places hold, where a stage has given them a value
+-- the widths of the values under indices that have a value in a stage
 abbrev pub with_width : List (Option ℕ) → Option ℕ → ℕ → List (Option ℕ)
 with_width ws None w = ws
 with_width ws (Some i) w = set ws i (Some w)
@@ -178,13 +178,13 @@ with_widths keys ws (s ∷ ss) = with_widths keys (with_width ws (place_in keys 
 abbrev pub entry_widths : Laid → List (Option ℕ)
 entry_widths t = with_widths t.names (with_widths t.names (replicate (length t.names) None) t.samples) t.pipes
 
--- an instruction under way in numbers, where the names that have values have these widths
+-- an instruction in flight as plain numbers, given these widths of the names that have values
 pub record IsShown (ws : List (Option ℕ)) (u : Under) (r : Raw) : Type 0 where
   pub names : AllSuit ws u.names r.names
   pub pipes : r.pipes ≡ u.pipes
   pub results : r.results ≡ u.results
 
--- a code has the words of an expression of a stage
+-- a code computes the words of an expression of a stage
 pub record IsCode (t : Laid) (ws : List (Option ℕ)) (e : Expr) (c : Typed) : Type 0 where
   pub value : (u : Under) (values : List ℕ) → AllSuit ws u.names values → Holds (Some (word_in t u e)) c.width (value_of c.code values)
   pub space : space_of c.code ≤ size t.decls e
@@ -200,7 +200,7 @@ pub record IsReading (t : Laid) (ws : List (Option ℕ)) (r : ReadStmt) (s : Rea
   pub asked : (u : Under) (x : Raw) → AllSuit ws u.names x.names → asked_at x s ≡ asked_in t u r
   pub space : option_space s.address + option_space s.when ≤ size_of_option t.decls r.address + size_of_option t.decls r.when
 
--- a step does what a statement does, and a place has a width after it
+-- a step does what a statement does, and binds a name with this width
 pub record Does (t : Laid) (ws : List (Option ℕ)) (k : StmtKind) (m : Made) : Type 0 where
   pub after : (words : List (List ℕ)) (u : Under) (r : Raw) → FitSlots t.targets words → IsShown ws u r
       → IsShown (with_width ws m.place m.width) (after_stmt t words u k) (after_step words r m.step)
@@ -213,7 +213,7 @@ DoesRead t ws r m = Does t ws (stmts.Read r) m
 abbrev pub unnamed : Step → Made
 unnamed s = record { step = s; place = None; width = 0 }
 
--- so do several, after which places have these widths
+-- so do several steps, after which the names have these widths
 pub record DoesAll (t : Laid) (ws : List (Option ℕ)) (xs : List Stmt) (ss : List Step) (after : List (Option ℕ)) : Type 0 where
   pub shown : (words : List (List ℕ)) (u : Under) (r : Raw) → FitSlots t.targets words → IsShown ws u r
       → IsShown after (after_stmts t words u xs) (after_steps words r ss)

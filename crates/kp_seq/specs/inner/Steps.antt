@@ -9,20 +9,20 @@ use Rattle.kp_ast.specs.declared.tree.Stmt.{Stmt}
 use Rattle.kp_ast.specs.declared.tree.StmtKind.{StmtKind}
 use Rattle.kp_ast.specs.declared.tree.StmtKind.TheVariants as stmts
 use Rattle.kp_ast.specs.declared.tree.Block.{Block}
-use Rattle.kp_law.specs.Sequential.{first_value}
+use Rattle.kp_pipeline.specs.Sequential.{first_value}
 use Rattle.kp_machine.specs.Slots.{Slot, number_of, width_of, result_named}
 use Rattle.kp_seq.specs.declared.tables.Port.{Port}
 use Rattle.kp_seq.specs.Running.{state_in}
 use Rattle.kp_seq.specs.inner.Names.{held, bound}
 use Rattle.kp_seq.specs.inner.Tables.{Laid}
 
--- an instruction under way: the values of names, of pipes, and of results by their targets
+-- an instruction in flight: the values of names, of pipes, and of results by their targets
 pub record Under : Type 0 where
   pub names : List (Option Word)
   pub pipes : List ℕ
   pub results : List (Option ℕ)
 
--- what stands for a value where none is found; in an accepted job that happens nowhere
+-- the default for a missing value, which doesn't occur in an accepted job
 abbrev pub zero_bit : Word
 zero_bit = word 1 0
 
@@ -33,7 +33,7 @@ known_in t u = record { names = held t.names u.names; calls = checked_calls_of t
 abbrev pub word_in : Laid → Under → Expr → Word
 word_in t u e = unwrap_or (checked (known_in t u) e) zero_bit
 
--- a condition holds where its value is 1, and where there is none
+-- a condition holds if its value is 1, or if it is omitted
 abbrev pub holds : Laid → Under → Option Expr → Bool
 holds t u None = true
 holds t u (Some e) = (word_in t u e).value == 1
@@ -48,11 +48,11 @@ abbrev pub address_read : Laid → Under → ReadStmt → Option Expr → ℕ
 address_read t u r None = address_in t u r.address
 address_read t u r (Some e) = 0
 
--- the word of this width and this value, where there is one
+-- the word of this width and this value, if it is valid
 abbrev pub fitted : ℕ → ℕ → Word
 fitted width value = if (nat_le 1 width && nat_le width 64) && nat_lt value (2 ^ width) then word width value else zero_bit
 
--- the value that a read gives: 0 where its condition fails
+-- the value of a read: 0 if its condition is false
 abbrev pub value_read : Laid → List (List ℕ) → Under → ReadStmt → ℕ
 value_read t words u r =
     if holds t u r.when then state_in words (number_of t.targets r.target.name) (address_read t u r r.guess) else 0
@@ -83,22 +83,22 @@ abbrev pub after_stmts : Laid → List (List ℕ) → Under → List Stmt → Un
 after_stmts t words u [] = u
 after_stmts t words u (s ∷ ss) = after_stmts t words (after_stmt t words u s.kind) ss
 
--- the names of these entries get the words of a row
+-- the names of these entries are bound to the words of an input vector
 abbrev pub with_row : Laid → Under → List Slot → List Word → Under
 with_row t u [] row = u
 with_row t u (s ∷ ss) [] = u
 with_row t u (s ∷ ss) (w ∷ row) = with_row t (with_name t u s.name w) ss row
 
--- the words of the pipes from the one of this number on, which have these values
+-- the words of the pipes from this number on, which have these values
 abbrev pub pipe_words : List ℕ → ℕ → List Slot → List Word
 pipe_words values i [] = []
 pipe_words values i (s ∷ ss) = fitted s.width (slice_index values i) ∷ pipe_words values (i + 1) ss
 
--- so do the names of these pipes
+-- and so are the names of these pipes
 abbrev pub with_pipes : Laid → Under → ℕ → List Slot → Under
 with_pipes t u i ss = with_row t u ss (pipe_words u.pipes i ss)
 
--- a stage begins: of the names the samples and the pipes have values
+-- the start of a stage: only the samples and the pipes have values
 abbrev pub entered : Laid → List Word → Under → Under
 entered t row u = with_pipes t (with_row t (record u { names = replicate (length u.names) None }) t.samples row) 0 t.pipes
 
@@ -109,11 +109,11 @@ abbrev pub after_blocks : Laid → List (List ℕ) → List Word → Under → L
 after_blocks t words row u [] = u
 after_blocks t words row u (b ∷ bs) = after_blocks t words row (after_block t words row u b) bs
 
--- an instruction begins: no pipe and no result has a value
+-- the start of an instruction: no pipe and no result has a value
 abbrev pub begun : Under → Under
 begun u = record { names = u.names; pipes = replicate (length u.pipes) 0; results = replicate (length u.results) None }
 
--- the value of a pipe, where a port has one
+-- the value of the optional pipe of a port
 abbrev pub is_enabled : Under → Option ℕ → Bool
 is_enabled u None = true
 is_enabled u (Some p) = slice_index u.pipes p == 1
@@ -122,7 +122,7 @@ abbrev pub address_by : Under → Option ℕ → ℕ
 address_by u None = 0
 address_by u (Some p) = slice_index u.pipes p
 
--- a target takes its result, or 0 where that has no value
+-- a target takes its result, or 0 if that has no value
 abbrev pub with_word : List (List ℕ) → ℕ → ℕ → ℕ → List (List ℕ)
 with_word words t a v = set words t (set (get_or words t []) a v)
 
@@ -136,6 +136,6 @@ abbrev pub written_from : Under → List (List ℕ) → ℕ → List (Option Por
 written_from u words t [] = words
 written_from u words t (p ∷ ps) = written_from u (written_by u words t p) (t + 1) ps
 
--- the words after one instruction, which takes a row of samples
+-- the words after one instruction with an input vector
 abbrev pub executed : Laid → List Word → Under → List Block → List (List ℕ) → List (List ℕ)
 executed t row u blocks words = written_from (after_blocks t words row (begun u) blocks) words 0 t.ports

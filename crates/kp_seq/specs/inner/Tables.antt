@@ -1,4 +1,4 @@
--- What a sequential machine looks up, as it is laid out at the opening.
+-- The tables of a sequential machine, as they are built when it is opened.
 use Rattle.std.specs.Prelude.{ℕ, zero, suc, List, [], ◌∷◌, Option, Some, None, length}
 use Rattle.kp_ast.specs.declared.tree.Named.{Named}
 use Rattle.kp_ast.specs.declared.tree.ResultDecl.{ResultDecl}
@@ -6,7 +6,7 @@ use Rattle.kp_ast.specs.declared.tree.Decl.{Decl}
 use Rattle.kp_machine.specs.Slots.{Slot, targets_of, pipes_of, number_of, result_to}
 use Rattle.kp_seq.specs.declared.tables.Port.{Port}
 
--- how a target is written: by the numbers of its enable and its address pipe, where it has them
+-- how a target is written: the numbers of its enable and its address pipe, if it has them
 abbrev pub pipe_number : List Slot → Option Named → Option ℕ
 pipe_number pipes None = None
 pipe_number pipes (Some n) = Some (number_of pipes n.name)
@@ -18,7 +18,7 @@ abbrev pub port_of : List Slot → Option ResultDecl → Option Port
 port_of pipes None = None
 port_of pipes (Some r) = Some (port_by pipes r)
 
--- the ports of so many targets from the one of this number on
+-- the ports of n targets from this number on
 abbrev pub ports_from : List Decl → List Slot → List Slot → ℕ → ℕ → List (Option Port)
 ports_from ds targets pipes t zero = []
 ports_from ds targets pipes t (suc n) = port_of pipes (result_to targets ds t) ∷ ports_from ds targets pipes (suc t) n
@@ -26,7 +26,7 @@ ports_from ds targets pipes t (suc n) = port_of pipes (result_to targets ds t) �
 abbrev pub ports_of : List Decl → List (Option Port)
 ports_of ds = ports_from ds (targets_of ds) (pipes_of ds) 0 (length (targets_of ds))
 
--- what is laid out: the declarations, the targets, the pipes, the samples, the ports of the targets, and all names that may have values
+-- the tables: the declarations, the targets, the pipes, the samples, the ports of the targets, and all names that may have values
 pub record Laid : Type 0 where
   pub decls : List Decl
   pub targets : List Slot

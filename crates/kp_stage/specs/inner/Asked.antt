@@ -1,9 +1,9 @@
--- Which rules are asked of the blocks at all.
+-- Which rules are checked in blocks at all.
 use Rattle.std.specs.Prelude.{◌==◌, length, Bool, true, false, not}
 use Rattle.kp_stage.specs.declared.rules.Rule.{Rule}
 use Rattle.kp_stage.specs.inner.Tables.{Tables}
 
--- E22, E24 and E35 ask the declarations alone; E17, E25 and E34 ask for pipes that are put, for hints and for samples
+-- E22, E24 and E35 are checked only at declarations; E17, E25 and E34 concern pipes that are put, hints and samples
 abbrev pub asks_blocks : Tables → Rule → Bool
 asks_blocks t Rule.E17 = not (length t.puts == 0)
 asks_blocks t Rule.E22 = false

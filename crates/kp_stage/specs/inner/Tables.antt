@@ -1,4 +1,4 @@
--- The facts of a job, as they are noted in tables by one walk over it.
+-- The facts of a job, as they are stored in tables by one pass over it.
 use Rattle.std.specs.Prelude.{ℕ, ◌+◌, List, [], ◌∷◌, Option, Some, None, if◌then◌else◌, nat_eq, is_some, min, map, slice_get}
 use Rattle.std.specs.Map.{lookup}
 use Rattle.std.specs.Cmp.Lexicographic.{pointwise}
@@ -21,7 +21,7 @@ look_up es name = lookup (pointwise nat_eq name) es
 abbrev pub with_entry : {V : Type 0} → Entries V → List ℕ → V → Entries V
 with_entry es name v = insert_entry (pointwise nat_eq) es name v
 
--- noted only where nothing is noted yet
+-- stored only if nothing is stored yet
 abbrev pub with_first : {V : Type 0} → Entries V → List ℕ → V → Entries V
 with_first es name v = if is_some (look_up es name) then es else with_entry es name v
 
@@ -29,7 +29,7 @@ abbrev pub less_than : ℕ → Option ℕ → ℕ
 less_than w None = w
 less_than w (Some v) = min v w
 
--- the less of what is noted and this
+-- the minimum of the stored number and this one
 abbrev pub with_less : Entries ℕ → List ℕ → ℕ → Entries ℕ
 with_less es name w = with_entry es name (less_than w (look_up es name))
 

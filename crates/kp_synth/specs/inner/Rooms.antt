@@ -1,15 +1,15 @@
--- HOW MANY NODES each part takes at most.
+-- UPPER BOUNDS on the number of nodes of each part.
 use Rattle.std.specs.Prelude.{ℕ, ◌+◌, ◌*◌, length}
 use Rattle.kp_ast.specs.declared.tree.Job.{Job}
 use Rattle.kp_machine.specs.Slots.{targets_of, samples_of}
-use Rattle.kp_tables.specs.Keys.{keys_of}
-use Rattle.kp_stages.specs.Stages.{stages_room}
+use Rattle.kp_synth_tables.specs.Keys.{keys_of}
+use Rattle.kp_synth_pipeline.specs.Stages.{stages_room}
 
 -- the nodes that read registers, samples and the stall word
 abbrev pub reading_room : Job → ℕ
 reading_room job = length (keys_of job) + length (samples_of job.decls) + 1
 
--- those of the stages, which are many
+-- those of the stages, which are most of them
 unfoldable pub inside_room : Job → ℕ
 inside_room job = stages_room job 0 job.stages.value + 1
 

@@ -1,4 +1,4 @@
--- Which stages wait, and which are blocked, by what is told of the instructions that they hold.
+-- Which stages wait, and which are blocked, by what was reported about the instructions in them.
 use Rattle.std.specs.Prelude.{ℕ, zero, suc, ◌+◌, ◌-◌, List, [], ◌∷◌, Option, Some, None, Bool, true, false, not, ◌&&◌, ◌||◌, ◌==◌, nat_le, nat_lt, if◌then◌else◌, is_some, get_or, set, replicate, unwrap_or}
 use Rattle.std.specs.List.{swap}
 use Rattle.kp_seq.specs.Told.{Told}
@@ -8,7 +8,7 @@ use Rattle.kp_timing.specs.declared.sites.Site.{Site}
 use Rattle.kp_timing.specs.declared.sites.Writer.{Writer}
 use Rattle.kp_timing.specs.inner.Sites.{Sited}
 
--- the instructions in the stages: their numbers, and what was told of each
+-- the instructions in the stages: their numbers, and what was reported about each
 pub record Held : Type 0 where
   pub hold : List (Option ℕ)
   pub told : List Told
@@ -79,11 +79,11 @@ abbrev pub found_down : Sited → Held → ℕ → ℕ → Found → Found
 found_down s h ext zero f = f
 found_down s h ext (suc k) f = found_down s h ext k (found_at s h ext k f)
 
--- a stage that holds an instruction and isn't blocked moves it on
+-- a stage that contains an instruction and isn't blocked moves it on
 abbrev pub moves_by : Held → List Bool → ℕ → Bool
 moves_by h blocked k = is_full h k && not (get_or blocked k false)
 
--- Stage k+1 takes the instruction of stage k where that moves on, or keeps its own where it is blocked.
+-- Stage k+1 receives the instruction of stage k if that one moves on, keeps its own if it is blocked, and is empty otherwise.
 abbrev pub taken_by : List Bool → Held → ℕ → Held
 taken_by blocked h k =
     if moves_by h blocked k
@@ -95,6 +95,6 @@ abbrev pub taken_down : List Bool → ℕ → Held → Held
 taken_down blocked zero h = h
 taken_down blocked (suc k) h = taken_down blocked k (taken_by blocked h k)
 
--- stage 0 takes the next instruction
+-- stage 0 receives the next instruction
 abbrev pub fetched : Held → Told → Held
 fetched h told = record { hold = set h.hold 0 (Some (unwrap_or (get_or h.hold 0 None) 0 + 1)); told = set h.told 0 told }

@@ -1,10 +1,10 @@
--- What a timeline keeps between its cycles.
+-- The invariant of a timeline between its cycles.
 use Rattle.std.specs.Prelude.{◌≡◌, ℕ, suc, ◌-◌, ◌^◌, ◌≤◌, ◌<◌, List, [], Bool, true, false, Some, None, length, get_or, unwrap_or}
 use Rattle.kp_ast.specs.declared.tree.Job.{Job}
 use Rattle.kp_stage.specs.declared.start.Start.{Start}
 use Rattle.kp_stage.specs.Counts.{summary_of}
-use Rattle.kp_law.specs.Sequential.{seq}
-use Rattle.kp_law.specs.Timeline.{no_samples}
+use Rattle.kp_pipeline.specs.Sequential.{seq}
+use Rattle.kp_pipeline.specs.Timeline.{no_samples}
 use Rattle.kp_machine.specs.Machine.{machine_of, state_of}
 use Rattle.kp_seq.specs.Running.{Running, state, after_one}
 use Rattle.kp_seq.specs.Told.{Told, told_of}
@@ -12,13 +12,14 @@ use Rattle.kp_timing.specs.Timed.{IsPlain}
 use Rattle.kp_timing.specs.inner.Sites.{Sited, AreSites}
 use Rattle.kp_timing.specs.inner.Deciding.{Held, told_in, moves_by, taken_down, fetched}
 
--- room for what is told of an instruction
+-- a record of the size that the report about an instruction has
 pub record HasRoom (job : Job) (t : Told) : Type 0 where
   pub reads : length t.reads ≡ (summary_of job).reads
   pub writes : length t.writes ≡ (summary_of job).results
   pub settings : length t.settings ≡ (summary_of job).results
 
--- The machine has run the instruction in stage 0 and those before it, and of each instruction in a stage what was told of it is there.
+-- The machine has executed the instruction in stage 0 and those before it, and what it reported about each instruction in a stage is stored for that
+-- stage.
 pub record IsKept (job : Job) (start : Start) (cycles : ℕ) (m : Running) (s : Sited) (h : Held) : Type 0 where
   pub plain : IsPlain job
   pub sites : AreSites job s
@@ -36,7 +37,7 @@ pub record IsKept (job : Job) (start : Start) (cycles : ℕ) (m : Running) (s : 
   pub told : (k i : ℕ) → k < job.stages.value → get_or h.hold k None ≡ Some i
       → told_in h k ≡ told_of job (seq (machine_of job) (state_of job start) no_samples i) (λ x. 0)
 
--- The instructions move on where nothing blocks them, and where that of stage 0 does, the machine runs the next one.
+-- The instructions move on unless they are blocked, and if that of stage 0 does, the machine executes the next one.
 pub record Moves (m : Running) (h : Held) (m2 : Running) (h2 : Held) : Type 0 where
   pub state_is : state m2 ≡ after_one m.job (state m) []
   pub told : m2.last ≡ told_of m.job (state m) (λ x. 0)

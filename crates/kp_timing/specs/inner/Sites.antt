@@ -1,4 +1,4 @@
--- What a timeline looks up of its job: where its reads stand, and by which result and when each target is written.
+-- The tables of a job that its timeline uses: the stages of its reads, and by which result and when each target is written.
 use Rattle.std.specs.Prelude.{◌≡◌, ℕ, ◌+◌, ◌<◌, ◌==◌, List, [], ◌∷◌, ◌++◌, Option, Some, None, if◌then◌else◌, length, get_or}
 use Rattle.kp_ast.specs.declared.tree.Decl.{Decl}
 use Rattle.kp_ast.specs.declared.tree.Decl.TheVariants as decls
@@ -12,7 +12,7 @@ use Rattle.kp_width.specs.Widths.{widths_of}
 use Rattle.kp_stage.specs.Stages.{broken_of}
 use Rattle.kp_machine.specs.Slots.{Slot, targets_of, number_of}
 use Rattle.kp_machine.specs.Machine.{machine_of}
-use Rattle.kp_tables.specs.declared.layout.Port.{Port}
+use Rattle.kp_synth_tables.specs.declared.layout.Port.{Port}
 use Rattle.kp_timing.specs.declared.sites.Site.{Site}
 use Rattle.kp_timing.specs.declared.sites.Writer.{Writer}
 
@@ -48,13 +48,13 @@ writer_by job t (Some i) = Some (record { result = i; write = (machine_of job).w
 abbrev pub writer_at : Job → ℕ → Option Writer
 writer_at job t = writer_by job t (result_number (targets_of job.decls) job.decls 0 t)
 
--- by the tables of a design: how a target is written by its port and by the number of its result
+-- by the tables of a design: how a target is written, from its port and the number of its result
 abbrev pub writer_with : Option Port → Option ℕ → Option Writer
 writer_with None i = None
 writer_with (Some p) None = None
 writer_with (Some p) (Some i) = Some (record { result = i; write = p.write; known = p.known })
 
--- the job breaks no rule of names, widths and stages, and these are its sites
+-- the job violates no rule of names, widths and stages, and these are its tables
 pub record AreSites (job : Job) (s : Sited) : Type 0 where
   pub names : first (widths_of job).asked ≡ None
   pub rules : broken_of job ≡ None

@@ -1,4 +1,4 @@
--- The statuses of the three ends that are not due.
+-- The statuses of the three failures.
 use Rattle.std.specs.Prelude.{ℕ}
 use Rattle.kp_tool.specs.declared.Stop.{Stop}
 use Rattle.kp_tool.specs.declared.Stop.TheVariants.{ReadFault, WriteFault, NoMemory}

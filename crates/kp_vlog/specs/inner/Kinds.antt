@@ -1,4 +1,4 @@
--- What stands at the front of a text, as code tells it: `Tokens` with the kind of a token in place of what it says.
+-- The front of a text, as the code computes it: `Tokens` with the kind of a token in place of its value.
 use Rattle.std.specs.Prelude.{ℕ, ◌+◌, ◌==◌, nat_lt, List, [], ◌∷◌, length, drop, take, ◌&&◌, if◌then◌else◌, Option, Some, None, Result, Ok, Err}
 use Rattle.kp_bits.specs.Literals.{number_of, literal_of}
 use Rattle.kp_bits.specs.declared.literal.Literal.{Literal}

@@ -14,7 +14,7 @@ use Rattle.kp_vlog.specs.declared.tree.Item.{Item}
 use Rattle.kp_vlog.specs.declared.tree.Item.TheVariants as lines
 use Rattle.kp_vlog.specs.Scope.{Scope, Sizes, width_in}
 use Rattle.kp_vlog.specs.Denote.{Made}
-use Rattle.kp_vwidths.specs.Tables.{AlikeSizes}
+use Rattle.kp_vread_widths.specs.Tables.{AlikeSizes}
 use Rattle.kp_vread.specs.inner.Numbering.{Numbered, place_by, AreNumbered}
 
 pub record Numbers : Type 0 where
@@ -30,7 +30,7 @@ pub record IsScope (t : Numbers) (s : Scope) : Type 0 where
   pub regs : AreNumbered t.regs s.regs
   pub files : AreNumbered t.files s.files
 
--- what a right side does, by the numbers of names
+-- the node of a right side, by the numbers of names
 abbrev pub node_by : Numbered → Named → NodeId
 node_by t n = record { 0 = place_by t n.name }
 
@@ -69,7 +69,7 @@ pub record IsMade (numbers : Numbered) (list : List Node) (made : Made) : Type 0
   pub wires : AreNumbered numbers made.wires
   pub nodes : list ≡ made.nodes
 
--- the value that a register starts with
+-- the start value of a register
 abbrev pub start_from : Option Literal → Word
 start_from None = word 0 0
 start_from (Some l) = word l.width l.value

@@ -15,6 +15,6 @@ node_or_first (Some a) = a
 abbrev pub next_by : List (List ℕ × NodeId) → List ℕ → NodeId
 next_by entries n = node_or_first (lookup (same n) entries)
 
--- The table has the next values that the updates give, where wires are numbered so.
+-- The table has the next values that the updates specify, with wires numbered in this way.
 pub record AreNexts (wires : Numbered) (entries : List (List ℕ × NodeId)) (xs : List Update) : Type 0 where
   pub nexts : (ks : List (List ℕ)) → AreNumbered wires ks → (n : List ℕ) → next_by entries n ≡ next_of ks xs n

@@ -5,7 +5,7 @@ use Rattle.std.specs.Map.{lookup}
 use Rattle.kp_net.specs.Names.{same, among}
 use Rattle.kp_vlog.specs.Scope.{place_of}
 
--- the numbers of names, and how many names have come
+-- the numbers of names, and how many names have been added
 pub record Numbered : Type 0 where
   pub entries : List (List ℕ × ℕ)
   pub count : ℕ
@@ -14,11 +14,11 @@ abbrev pub number_or : ℕ → Option ℕ → ℕ
 number_or n None = n
 number_or n (Some k) = k
 
--- the number of a name, and of another one how many have come
+-- the number of a name; for another name, how many have been added
 abbrev pub place_by : Numbered → List ℕ → ℕ
 place_by t n = number_or t.count (lookup (same n) t.entries)
 
--- the table numbers these names, each by the first place where it stands
+-- the table numbers these names, each by its first index
 pub record AreNumbered (t : Numbered) (ks : List (List ℕ)) : Type 0 where
   pub count : t.count ≡ length ks
   pub known : (n : List ℕ) → is_some (lookup (same n) t.entries) ≡ among ks n

@@ -1,4 +1,4 @@
--- What stands beside the nodes of a netlist, by tables of names.
+-- The parts of a netlist other than the nodes, by tables of names.
 use Rattle.std.specs.Prelude.{ℕ, ◌^◌, ◌≤◌, ◌≡◌, All, List, [], ◌∷◌, if◌then◌else◌, Option, Some, None}
 use Rattle.kp_bits.specs.Word.{IsWord}
 use Rattle.kp_bits.specs.declared.literal.Literal.{Literal}
@@ -18,7 +18,7 @@ use Rattle.kp_vlog.specs.declared.tree.VModule.{VModule}
 use Rattle.kp_vlog.specs.Occurrences.{start_in}
 use Rattle.kp_vlog.specs.Scope.{Sizes, width_in, address_in}
 use Rattle.kp_vlog.specs.Denote.{words_of}
-use Rattle.kp_vwidths.specs.Tables.{found}
+use Rattle.kp_vread_widths.specs.Tables.{found}
 use Rattle.kp_vread.specs.inner.Numbering.{Numbered}
 use Rattle.kp_vread.specs.inner.Building.{node_by, start_from}
 use Rattle.kp_vread.specs.inner.Nexts.{next_by}

@@ -15,7 +15,7 @@ use Rattle.kp_net.specs.Widths.{wide, no_node}
 use Rattle.kp_net.specs.Netlist.{Net}
 use Rattle.kp_vlog.specs.Canon.{text_of, right_side, joined, sample_ports, reg_lines, file_lines, integer_line, node_lines, word_line, word_lines, fill_lines, update_lines, port_lines}
 
--- a text that is the same in each netlist; sealed, so that a search takes it as a whole
+-- a text that is the same for all netlists; sealed, so that a search treats it as one term
 unfoldable pub fixed : List ℕ → List ℕ
 fixed text = text
 
@@ -65,7 +65,7 @@ integer_text fs = text_of (integer_line fs)
 abbrev pub cells_text : Parts → List ℕ
 cells_text p = regs_text p.regs ++ (files_text p.files ++ integer_text p.files)
 
--- `  wire [7:0] n2;` and what stands before the right side
+-- `  wire [7:0] n2;` and the text before the right side
 unfoldable pub front_text : ℕ → Node → List ℕ
 front_text j n = text_of (codes "  wire [" ∷ decimal (n.width - 1) ∷ codes ":0] n" ∷ decimal j ∷ codes ";\n  assign n" ∷ decimal j ∷ codes " = " ∷ [])
 
@@ -75,7 +75,7 @@ right_text p k kind = text_of (right_side p k kind)
 unfoldable pub choice_text : NodeId → NodeId → NodeId → List ℕ
 choice_text test a b = text_of (codes "n" ∷ decimal test.0 ∷ codes " ? n" ∷ decimal a.0 ∷ codes " : n" ∷ decimal b.0 ∷ [])
 
--- the name of a node's wire, behind this text
+-- the name of a node's wire, after this text
 unfoldable pub wire_text : List ℕ → NodeId → List ℕ
 wire_text front a = text_of (front ∷ decimal a.0 ∷ [])
 
@@ -95,7 +95,7 @@ node_text p j n = front_text j n ++ (right_text p n.width n.kind ++ fixed (codes
 unfoldable pub nodes_text : Parts → ℕ → List Node → List ℕ
 nodes_text p j ns = text_of (node_lines p j ns)
 
--- a node given to a name, as `  assign full = n3;` or `    r_X <= n3;`
+-- a node assigned to a name, as `  assign full = n3;` or `    r_X <= n3;`
 unfoldable pub given_text : List ℕ → List ℕ → List ℕ → NodeId → List ℕ
 given_text margin name sign a = text_of (margin ∷ name ∷ sign ∷ decimal a.0 ∷ codes ";\n" ∷ [])
 
@@ -105,7 +105,7 @@ out_text port a = given_text (codes "  assign ") port (codes " = n") a
 abbrev pub outs_text : Parts → List ℕ
 outs_text p = out_text (codes "full") p.full ++ (out_text (codes "ue") p.ue ++ out_text (codes "back") p.back)
 
--- the start values, given by this sign: in the first block, and in a reset
+-- the start values, with this assignment operator: in the first block, and in a reset
 unfoldable pub value_text : List ℕ → List ℕ → NetReg → List ℕ
 value_text margin sign r = text_of (margin ∷ r.name ∷ sign ∷ spelling r.start ∷ codes ";\n" ∷ [])
 
@@ -132,7 +132,7 @@ fills_text fs = text_of (fill_lines fs)
 abbrev pub state_text : Parts → List ℕ
 state_text p = fixed (codes "  initial begin\n") ++ (values_text (codes "    ") (codes " = ") p.regs ++ fills_text p.files)
 
--- what happens at the end of a cycle
+-- the updates at the end of a cycle
 abbrev pub update_text : List ℕ → NetReg → List ℕ
 update_text margin r = given_text margin r.name (codes " <= n") r.next
 
@@ -176,7 +176,7 @@ blocks_text p = outs_text p ++ (state_text p ++ clock_text p)
 abbrev pub whole_text : Net → List ℕ
 whole_text net = fronts_text net ++ blocks_text net.parts
 
--- what a kind names is there, and its number fits
+-- what a kind names exists, and its number fits
 abbrev pub KindSafe : Parts → ℕ → Kind → Type 0
 KindSafe p k (Const v) = IsWord (word k v)
 KindSafe p k (Sample s) = s < length p.samples

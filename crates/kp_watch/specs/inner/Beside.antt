@@ -23,7 +23,7 @@ pub record AreTables (job : Job) (net : Net) (rows : List Row) (tables : Tables)
   pub homes : AreHomes job tables.homes.items
   pub columns : AreColumns job rows tables.columns.items
 
--- both have run the first T cycles, of which these are rows
+-- both have run the first T cycles of these rows
 pub record HaveCome (job : Job) (net : Net) (rows : List Row) (tables : Tables) (T : ℕ) (both : Beside) : Type 0 where
   pub sim : both.sim ≡ record { net = net; state = last_of net (inputs_to job T); slots = [] }
   pub machines : HaveRun job (given tables.columns.items) (rows_seen job.stages.value rows) T both.machines.items
@@ -31,7 +31,7 @@ pub record HaveCome (job : Job) (net : Net) (rows : List Row) (tables : Tables) 
   pub seen : HasSeen both.monitor (take T rows)
   pub room : length both.room.items ≡ length tables.columns.items
 
--- the answer for a run of n cycles
+-- the difference that is returned for a run of n cycles
 abbrev pub IsTold : Job → Net → ℕ → Difference → Type 0
 IsTold job net n d =
     IsFirstDifference job net n d.cycle d.target d.address

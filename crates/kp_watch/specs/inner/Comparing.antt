@@ -5,7 +5,7 @@ use Rattle.kp_ast.specs.declared.tree.Job.{Job}
 use Rattle.kp_seq.specs.Running.{HasWord, target}
 use Rattle.kp_watch.specs.declared.compare.Difference.{Difference}
 
--- The first address of a target at which two differ.
+-- The first address of a target at which two states differ.
 pub record IsFirstAt (job : Job) (shown owed : ℕ → ℕ) (cycle t : ℕ) (d : Difference) : Type 0 where
   pub cycle_is : d.cycle ≡ cycle
   pub target_is : d.target ≡ t

@@ -1,4 +1,4 @@
--- The kinds of names that each position of the code takes.
+-- The kinds of names that each position of the code accepts.
 use Rattle.std.specs.Prelude.{Bool}
 use Rattle.kp_ast.specs.declared.widths.Scope.{Scope}
 use Rattle.kp_ast.specs.declared.widths.NameKind.{NameKind}

@@ -1,4 +1,4 @@
--- The bytes that are left, read after those that are read, give what all of them do.
+-- The remaining bytes, read after those that are read, yield the value of all of them.
 use Rattle.std.proofs.Common.{◌≡◌, ◌<◌, ◌^◌, drop, fold}
 use Rattle.kp_bits.specs.Literals.{numeral_value, numeral_next}
 use Rattle.kp_bits.proofs.literal.read_numeral.Given as goal

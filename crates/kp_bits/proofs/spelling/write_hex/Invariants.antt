@@ -1,4 +1,4 @@
--- What is written, with the digits that are left, is the whole.
+-- The written digits followed by the remaining ones are the complete text.
 use Rattle.std.proofs.Common.{◌≡◌, ◌-◌, ◌++◌, take}
 use Rattle.kp_bits.specs.Spelling.{hex_digits}
 use Rattle.kp_bits.proofs.spelling.write_hex.Given as goal

@@ -16,7 +16,7 @@ use Rattle.kp_build.specs.Names.{known_at}
 use Rattle.kp_build.specs.inner.Showing.{IsThere, Shows, AllShow, words_at, values_in}
 use Rattle.kp_build.proofs.Names.{still_inside, call_inside}
 use Rattle.kp_build.proofs.Rows as rows
-use Rattle.kp_forms.proofs.Parts.{value_Lit, size_Not, size_Binary, size_Mux, size_Concat, size_Slice, size_Zext, size_Sext, size_Call}
+use Rattle.kp_ast.proofs.Parts.{value_Lit, size_Not, size_Binary, size_Mux, size_Concat, size_Slice, size_Zext, size_Sext, size_Call}
 use Rattle.kp_build.proofs.Giving.{sound_later, gives_earlier, gives_later, fit_by, gives_by}
 use Rattle.kp_build.proofs.Lists.{element_sound, none_show, more_show}
 use Rattle.kp_build.proofs.Forms.{sound_Not, same_Not, sound_left, sound_right, same_Binary, sound_test, sound_yes, sound_no, same_Mux, sound_Slice, same_Slice, sound_Zext, same_Zext, sound_Sext, same_Sext, sound_Concat, same_Concat, sound_Call, same_Call}

@@ -1,23 +1,27 @@
-use Rattle.std.proofs.Common.{◌≡◌, false, ◌<◌, ◌+◌, length, sym, subst, ap, ◌∙◌, arith}
+use Rattle.std.proofs.Common.{◌≡◌, false, ℕ, length, subst, arith, ◌∙◌}
 use Rattle.kp_cycle.specs.Steps.{given}
-use Rattle.kp_cycle.specs.inner.Storage.{Stored, Fits, KnownBelow}
-use Rattle.kp_cycle.proofs.Settling.{value_is, known_fits, known_more, fits_more}
+use Rattle.kp_cycle.specs.inner.Plans.{Settled}
+use Rattle.kp_cycle.proofs.Stepping.{all_settled}
 use Rattle.kp_cycle.proofs.nodes.settle.Goals as goal
 
-pub value_of-value-requires-clause-known : goal.value_of-value-requires-clause-known
-value_of-value-requires-clause-known c = known_fits c.args.net.now.nodes (given c.args.ext false c.args.samples.now) c.loop-i.memory c.loop-i.i (omega (arith, c.loop-i-test.true, ap length c.nodes-count.ensures.nodes)) c.loop-i.invariant.1
+pub returns-clause-known : goal.returns-clause-known
+returns-clause-known c =
+    let net = c.args.net.now in
+    let input = given c.args.ext false c.args.samples.now in
+    let e : c.all.k ≡ length c.args.steps.now = omega (arith, c.all-test.false, c.all.invariant.5) in
+    let P : ℕ → Type 0 = λ k. Settled net input c.args.steps.now k c.all.memory in
+    all_settled net input c.args.steps.now c.all.memory c.requires.plan (subst P e c.all.invariant.1)
 
-pub loop-i-preserved : goal.loop-i-preserved
-loop-i-preserved c =
-    let ns = c.args.net.now.nodes in
-    let m = c.loop-i.memory in
-    let inv = c.loop-i.invariant in
-    let h : c.loop-i.i < length ns = omega (arith, c.loop-i-test.true, ap length c.nodes-count.ensures.nodes) in
-    let v = c.value_of-value.result in
-    let P : Stored → Type 0 = λ x. Fits c.args.net.now x × KnownBelow ns (given c.args.ext false c.args.samples.now) x (c.loop-i.i + 1) × (x.regs ≡ c.args.memory.now.regs) × (x.files ≡ c.args.memory.now.files) × (x.slots ≡ c.args.memory.now.slots) in
-    subst P (sym c.set_node.ensures)
-    (fits_more c.args.net.now m c.loop-i.i v inv.0, known_more ns (given c.args.ext false c.args.samples.now) m c.loop-i.i v inv.0.nodes h inv.1 (c.value_of-value.ensures ∙ value_is ns (given c.args.ext false c.args.samples.now) m c.loop-i.i inv.0.right.right h inv.1), inv.2, inv.3, inv.4)
+pub all-preserved-then-end-k : goal.all-preserved-then-end-k
+all-preserved-then-end-k c =
+    let t = c.take_batch-end.ensures in
+    let inv = c.all.invariant in
+    (t.fits, t.settled (given c.args.ext false c.args.samples.now) inv.1, t.regs ∙ inv.2, t.files ∙ inv.3, t.slots ∙ inv.4, t.inside)
 
-pub returns-clause-widths : goal.returns-clause-widths
-returns-clause-widths c = λ j l. known_fits c.args.net.now.nodes (given c.args.ext false c.args.samples.now) c.loop-i.memory c.loop-i.i (omega (arith, c.loop-i.auto.i-end, ap length c.nodes-count.ensures.nodes)) c.loop-i.invariant.1 j
-    (omega (arith, c.loop-i-test.false, ap length c.nodes-count.ensures.nodes))
+pub take_one-requires-clause-settled : goal.take_one-requires-clause-settled
+take_one-requires-clause-settled c =
+    let t = c.take_batch-end.ensures in
+    let input = given c.args.ext false c.args.samples.now in
+    let e : c.take_batch-end.result ≡ c.all.k = omega (arith, t.forward, c.if-end-k.false) in
+    let P : ℕ → Type 0 = λ k. Settled c.args.net.now input c.args.steps.now k c.take_batch-end.new.memory in
+    subst P e (t.settled input c.all.invariant.1)

@@ -1,7 +1,12 @@
-use Rattle.std.proofs.Common.{◌≡◌, false}
+use Rattle.std.proofs.Common.{◌≡◌, ◌≤◌, ◌-◌, false, length}
 use Rattle.kp_cycle.specs.Steps.{given}
-use Rattle.kp_cycle.specs.inner.Storage.{Fits, KnownBelow}
+use Rattle.kp_cycle.specs.inner.Plans.{Settled}
+use Rattle.kp_cycle.specs.inner.Storage.{Fits}
 use Rattle.kp_cycle.proofs.nodes.settle.Given as goal
 
-abbrev pub invariant-loop-i : goal.invariant-loop-i
-invariant-loop-i l = Fits l.net l.memory × KnownBelow l.net.nodes (given l.ext false l.samples) l.memory l.i × (l.memory.regs ≡ l.fn.memory.regs) × (l.memory.files ≡ l.fn.memory.files) × (l.memory.slots ≡ l.fn.memory.slots)
+abbrev pub invariant-all : goal.invariant-all
+invariant-all l = Fits l.net l.memory × Settled l.net (given l.ext false l.samples) l.steps l.k l.memory
+    × (l.memory.regs ≡ l.fn.memory.regs) × (l.memory.files ≡ l.fn.memory.files) × (l.memory.slots ≡ l.fn.memory.slots) × (l.k ≤ length l.steps)
+
+abbrev pub decreases-all : goal.decreases-all
+decreases-all l = length l.steps - l.k

@@ -6,6 +6,7 @@ use Rattle.kp_net.proofs.Resets.{reset_state}
 use Rattle.kp_cycle.specs.Steps.{given}
 use Rattle.kp_cycle.specs.inner.Storage.{StateFits, port_from, state_of}
 use Rattle.kp_cycle.proofs.Clocking.{state_is}
+use Rattle.kp_cycle.proofs.Stepping.{roots_are}
 use Rattle.kp_cycle.proofs.Reached.{fits_after}
 use Rattle.kp_cycle.proofs.sim.cycle.Goals as goal
 
@@ -28,7 +29,8 @@ returns-clause-state c =
     (λ on. let k = c.clock.ensures.reset on in let f : m2.files ≡ m0.files = k.1 ∙ ef in
     (λ i. record { regs = k.0 i; files = f i }) ∙ sym (reset_state net input (state_of m0) on))
     (λ off. state_is net input (state_of m0) m1.nodes m2.regs m2.files c.requires.fits.right off c.requires.fits.files c.clock.ensures.fits.files
-    (λ j l. c.settle.ensures.known j l ∙ (λ i. at (cells_of (given (x i) false c.args.samples.now) (s i)) net.nodes j))
+    (roots_are net (λ j. get_or m1.nodes j 0 ≡ at (cells_of (given c.from.result false c.args.samples.now) (state_of m1)) net.nodes j) (λ j. get_or m1.nodes j 0 ≡ at (cells_of input (state_of m0)) net.nodes j)
+    (λ j is. is ∙ (λ i. at (cells_of (given (x i) false c.args.samples.now) (s i)) net.nodes j)) c.settle.ensures.known)
     (c.clock.ensures.regs off)
     (λ f l. c.clock.ensures.files off f l ∙ (λ i. port_from (get_or net.parts.files f no_file).port m1.nodes (get_or (ef i) f []))))
 

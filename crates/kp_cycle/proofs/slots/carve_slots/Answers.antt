@@ -15,7 +15,7 @@ ok_unless : {T E : Type 0} (r : Result T E) → (IsErr r → ⊥) → IsOk r
 ok_unless (Ok x) f = refl
 ok_unless (Err e) f = absurd (f refl)
 
--- there is room for one more
+-- the capacity suffices for one more
 room_more : (used size i count words : ℕ) → i < count → used + count * size ≤ words → used + i * size + size ≤ words
 room_more used size i count words h room =
     let more : (i + 1) * size ≤ count * size = mul-le-mul_right size (let l : i + 1 ≤ count = omega arith in l) in

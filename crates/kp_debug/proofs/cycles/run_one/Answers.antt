@@ -10,7 +10,7 @@ use Rattle.kp_debug.specs.inner.Kept.{no_input}
 use Rattle.kp_debug.proofs.Feeding.{input_there}
 use Rattle.kp_debug.proofs.cycles.run_one.Goals as goal
 
--- the input of a cycle, whose samples are cut out by the number of ports that was counted
+-- the input of a cycle, whose samples are sliced by the number of ports
 given_there : (net : Net) (exts : List ℕ) (samples : List Word) (cycle ports : ℕ) → cycle < length exts → ports ≡ length net.parts.samples
     → given (get_or exts cycle 0) false (slice_range samples (cycle * ports) (cycle * ports + ports)) ≡ get_or (inputs_of (length net.parts.samples) exts samples) cycle no_input
 given_there net exts samples cycle ports there same =

@@ -4,8 +4,8 @@ use Rattle.std.proofs.lemmas.List.{get_or-replicate}
 use Rattle.kp_net.specs.Nodes.{Cells, on}
 use Rattle.kp_net.specs.Growth.{Wire}
 use Rattle.kp_net.proofs.Growing.{wire_grown, grown_then}
-use Rattle.kp_law.specs.Pipeline.{greatest}
-use Rattle.kp_law.proofs.Cycle.{greatest-bound}
+use Rattle.kp_pipeline.specs.Pipeline.{greatest}
+use Rattle.kp_pipeline.proofs.Cycle.{greatest-bound}
 use Rattle.kp_engine.specs.Misses.{node_at, bit_at}
 use Rattle.kp_engine.proofs.Greatest.{sweep_step, at_set}
 use Rattle.kp_engine.proofs.rollback.swept_of.Goals as goal

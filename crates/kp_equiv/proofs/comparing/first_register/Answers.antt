@@ -1,6 +1,6 @@
 use Rattle.std.proofs.Common.{◌∙◌, sym, arith}
 use Rattle.std.proofs.lemmas.Bool.{false≢true}
-use Rattle.kp_alike.proofs.Ordered.{regs_differ, regs_all}
+use Rattle.kp_equiv_trees.proofs.Ordered.{regs_differ, regs_all}
 use Rattle.kp_equiv.proofs.comparing.first_register.Goals as goal
 
 pub returns-then-not-register_agrees-clause-first : goal.returns-then-not-register_agrees-clause-first

@@ -1,4 +1,4 @@
-use Rattle.kp_alike.proofs.Ordered.{missing_file, found_file}
+use Rattle.kp_equiv_trees.proofs.Ordered.{missing_file, found_file}
 use Rattle.kp_equiv.proofs.parts.file_agrees.Goals as goal
 
 pub returns-in-None : goal.returns-in-None

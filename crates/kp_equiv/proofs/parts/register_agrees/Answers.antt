@@ -1,4 +1,4 @@
-use Rattle.kp_alike.proofs.Ordered.{missing_reg, found_reg}
+use Rattle.kp_equiv_trees.proofs.Ordered.{missing_reg, found_reg}
 use Rattle.kp_equiv.proofs.parts.register_agrees.Goals as goal
 
 pub returns-in-None : goal.returns-in-None

@@ -3,7 +3,7 @@ use Rattle.kp_bits.specs.Word as bits
 use Rattle.kp_bits.specs.Operators.{binary_of}
 use Rattle.kp_net.specs.declared.node.Kind.TheVariants.{Binary}
 use Rattle.kp_net.proofs.Exact.{operand_widths}
-use Rattle.kp_net.proofs.Folds.{fold_word, number_word, left_wins, left_yields, right_wins, right_yields}
+use Rattle.kp_net.proofs.Folds.{fold_word, number_word, left_wins, left_yields}
 use Rattle.kp_net.proofs.fold.binary.Goals as goal
 
 pub apply-requires : goal.apply-requires
@@ -22,9 +22,3 @@ returns-in-Wins c = λ k ok. left_wins c.args.nodes.now k c.args.op c.args.a c.a
 
 pub returns-in-Yields : goal.returns-in-Yields
 returns-in-Yields c = λ k ok. left_yields c.args.nodes.now k c.args.op c.args.a c.args.b c.in-Some.left c.requires.right ok c.in-Some.ensures c.in-Yields.ensures
-
-pub returns-in-Wins-masks : goal.returns-in-Wins-masks
-returns-in-Wins-masks c = λ k ok. right_wins c.args.nodes.now k c.args.op c.args.a c.args.b c.in-Some-number-2.right c.requires.right ok c.in-Some-number-2.ensures c.in-Wins-masks.ensures
-
-pub returns-in-Yields-masks : goal.returns-in-Yields-masks
-returns-in-Yields-masks c = λ k ok. right_yields c.args.nodes.now k c.args.op c.args.a c.args.b c.in-Some-number-2.right c.requires.right ok c.in-Some-number-2.ensures c.in-Yields-masks.ensures

@@ -1,7 +1,7 @@
 use Rattle.std.proofs.Common.{refl, ap, ◌∙◌, length, arith}
 use Rattle.std.proofs.lemmas.List.{length-map}
 use Rattle.kp_lex.proofs.Counted.{tokens_within}
-use Rattle.kp_syntax.specs.Tokens.{lexeme_of, lexemes}
+use Rattle.kp_parse_grammar.specs.Tokens.{lexeme_of, lexemes}
 use Rattle.kp_parse.specs.Sentence.{Breaks}
 use Rattle.kp_parse.proofs.Text.{spelled_all, is_tree, is_only, is_wrong, is_too_deep, no_tree_wrong, no_tree_deep}
 use Rattle.kp_parse.proofs.job.parse.Goals as goal

@@ -1,7 +1,7 @@
 use Rattle.std.proofs.Common.{arith}
 use Rattle.std.proofs.lemmas.Result.{err_from_is_err_and}
 use Rattle.kp_grammar.specs.Machine.{make}
-use Rattle.kp_syntax.proofs.Steps.{end_stretch}
+use Rattle.kp_parse_grammar.proofs.Steps.{end_stretch}
 use Rattle.kp_parse.proofs.job.parts.Goals as goal
 
 pub returns-in_err-decls : goal.returns-in_err-decls

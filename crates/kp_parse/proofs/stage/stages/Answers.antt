@@ -3,8 +3,8 @@ use Rattle.std.proofs.lemmas.List.{length_push}
 use Rattle.std.proofs.lemmas.Result.{err_from_is_err_and}
 use Rattle.kp_ast.specs.declared.tree.Block.{Block}
 use Rattle.kp_grammar.specs.Machine.{make}
-use Rattle.kp_syntax.proofs.Steps.{end_end}
-use Rattle.kp_syntax.proofs.Picks.{stages_1, stages_else}
+use Rattle.kp_parse_grammar.proofs.Steps.{end_end}
+use Rattle.kp_parse_grammar.proofs.Picks.{stages_1, stages_else}
 use Rattle.kp_parse.proofs.stage.stages.Goals as goal
 
 pub all-init : goal.all-init

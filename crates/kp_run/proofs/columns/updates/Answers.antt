@@ -1,6 +1,6 @@
 use Rattle.std.proofs.Common.{◌<◌, ◌≤◌, ◌∙◌, sym, arith}
 use Rattle.std.proofs.lemmas.Bool.{le-ltb}
-use Rattle.kp_law.proofs.Lists.{bit-at}
+use Rattle.kp_pipeline.proofs.Lists.{bit-at}
 use Rattle.kp_sched.specs.Rows.{bit_of}
 use Rattle.kp_run.proofs.Gathering.{bit_past}
 use Rattle.kp_run.proofs.columns.updates.Goals as goal

@@ -1,6 +1,6 @@
 use Rattle.std.proofs.Common.{◌≡◌, ◌∙◌, length, refl, ap, arith}
 use Rattle.std.proofs.lemmas.List.{length-map}
-use Rattle.kp_law.specs.Sequential.{seq}
+use Rattle.kp_pipeline.specs.Sequential.{seq}
 use Rattle.kp_machine.specs.Machine.{machine_of, values_in}
 use Rattle.kp_seq.specs.Running.{state}
 use Rattle.kp_run.specs.Columns.{row_taken}

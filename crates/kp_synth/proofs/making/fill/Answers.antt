@@ -1,4 +1,4 @@
-use Rattle.kp_cells.proofs.Growth.{ready_kept}
+use Rattle.kp_synth_registers.proofs.Growth.{ready_kept}
 use Rattle.kp_synth.proofs.Room.{no_cells}
 use Rattle.kp_synth.proofs.making.fill.Goals as goal
 

@@ -1,5 +1,5 @@
 use Rattle.std.proofs.Common.{◌≡◌, ◌+◌, ◌-◌, ◌++◌, length, take}
-use Rattle.kp_law.specs.Rows.{bits}
+use Rattle.kp_pipeline.specs.Rows.{bits}
 use Rattle.kp_sched.specs.Rows.{bit_of}
 use Rattle.kp_sched.specs.Lines.{digits}
 use Rattle.kp_timing.proofs.lines.put_digits.Given as goal

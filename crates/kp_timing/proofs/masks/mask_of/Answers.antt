@@ -1,5 +1,5 @@
 use Rattle.std.proofs.Common.{◌≡◌, ◌∙◌, suc, ◌+◌, ◌-◌, ◌*◌, ◌^◌, ◌<◌, false, get_or, ap, sym, subst, arith}
-use Rattle.kp_law.specs.Rows.{one_if}
+use Rattle.kp_pipeline.specs.Rows.{one_if}
 use Rattle.kp_sched.specs.Rows.{bit_of}
 use Rattle.kp_timing.proofs.Bits.{next_bits, one_small, small_next, small_enough}
 use Rattle.kp_timing.proofs.masks.mask_of.Goals as goal

@@ -1,4 +1,4 @@
--- What is written, with the digits that are left, is the whole.
+-- What is written, followed by the digits that are left, is the complete text.
 use Rattle.std.proofs.Common.{◌≡◌, ◌-◌, ◌++◌, take}
 use Rattle.kp_vcd.specs.Text.{bit_digits}
 use Rattle.kp_vcd.proofs.writing.write_bits.Given as goal

@@ -2,8 +2,8 @@ use Rattle.std.proofs.Common.{◌∙◌, ◌<◌, arith, sym, subst, length}
 use Rattle.kp_ast.specs.declared.tree.Job.{Job}
 use Rattle.kp_machine.specs.Slots.{targets_of}
 use Rattle.kp_seq.specs.Running.{target, state}
-use Rattle.kp_shows.specs.Naming.{value_shown}
-use Rattle.kp_shows.specs.Shows.{IsOfJob}
+use Rattle.kp_synth_spec.specs.Naming.{value_shown}
+use Rattle.kp_synth_spec.specs.Shows.{IsOfJob}
 use Rattle.kp_watch.specs.inner.Machines.{due_by}
 use Rattle.kp_watch.specs.inner.Places.{place_in}
 use Rattle.kp_watch.proofs.Comparing.{first_at_alike, agree_alike, target_more, first_in}

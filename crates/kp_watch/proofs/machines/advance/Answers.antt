@@ -2,8 +2,8 @@ use Rattle.std.proofs.Common.{◌≡◌, ◌∙◌, ◌+◌, ◌<◌, ◌≤◌,
 use Rattle.std.proofs.lemmas.List.{length-map}
 use Rattle.kp_base.specs.declared.row.Row.{Row}
 use Rattle.kp_bits.specs.Word.{Word}
-use Rattle.kp_law.specs.Rows.{bit, bits, passed}
-use Rattle.kp_law.specs.Sequential.{exec}
+use Rattle.kp_pipeline.specs.Rows.{bit, bits, passed}
+use Rattle.kp_pipeline.specs.Sequential.{exec}
 use Rattle.kp_machine.specs.Machine.{machine_of, values_in}
 use Rattle.kp_run.specs.Columns.{Taken, word_taken}
 use Rattle.kp_sched.specs.Rows.{bit_of, rows_seen}

@@ -11,7 +11,7 @@ moved bytes front rest from count within copied =
     let kept = take_at front rest count (ap length copied ∙ length-take-le count (drop from bytes) within) in
     cc
 
--- nothing was copied though something could be: nothing is left
+-- nothing was copied though bytes were allowed: nothing is left
 ended : (bytes : List ℕ) (from count most : ℕ) → 1 ≤ most → count ≡ min most (length (drop from bytes)) → count ≡ 0 → drop (from + count) bytes ≡ []
 ended bytes from count most positive least none =
     drop_of_length-le bytes (omega (arith, length-drop from bytes))

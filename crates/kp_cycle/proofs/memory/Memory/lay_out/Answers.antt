@@ -14,7 +14,7 @@ use Rattle.kp_cycle.proofs.Spans.{apart_carved, length_carved, lens_more, fits_l
 use Rattle.kp_cycle.proofs.Copies.{laid_out, unsaved}
 use Rattle.kp_cycle.proofs.memory.Memory.lay_out.Goals as goal
 
--- the first of some spans and those behind it begin no earlier than it does
+-- the first of some spans and those after it start no earlier than it does
 all_behind : (g : Span) (fs : List Span) → All (λ s. g.start ≤ s.start) fs → (k : ℕ) → k < length (g ∷ fs) → g.start ≤ (get_or (g ∷ fs) k no_span).start
 all_behind g fs h zero l = omega arith
 all_behind g fs h (suc k) l = All-get_or (λ (s : Span). g.start ≤ s.start) fs k no_span (omega arith) h

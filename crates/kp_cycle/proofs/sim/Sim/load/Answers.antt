@@ -1,7 +1,7 @@
-use Rattle.std.proofs.Common.{sym, subst, ap, ◌∙◌}
+use Rattle.std.proofs.Common.{ℕ, List, length, sym, subst, ap, ◌∙◌}
 use Rattle.std.specs.Prelude.{IsSome}
 use Rattle.kp_cycle.specs.Steps.{Running, saved_in}
-use Rattle.kp_cycle.specs.inner.Storage.{SlotsFit, state_of}
+use Rattle.kp_cycle.specs.inner.Storage.{FitsBelow, SlotsFit, state_of}
 use Rattle.kp_cycle.proofs.Copies.{fits_loaded}
 use Rattle.kp_cycle.proofs.sim.Sim.load.Goals as goal
 
@@ -13,8 +13,14 @@ invariant_of-self c =
     let net = c.self.inside.net.now in
     let m = c.self.inside.memory in
     let h = c.self.invariant in
-    let is = h.3 c.args.slot (state_of c.load.new.self) c.load.ensures.state in
-    (fits_loaded net m c.load.new.self h.0 is c.load.ensures.nodes, h.1, is.fit, subst (SlotsFit net) (sym c.load.ensures.slots) h.3)
+    let is = h.3 c.args.slot (state_of c.load.new.self) c.load.ensures.state in (
+      fits_loaded net m c.load.new.self h.0 is c.load.ensures.nodes,
+      h.1,
+      is.fit,
+      subst (SlotsFit net) (sym c.load.ensures.slots) h.3,
+      h.4,
+      subst (λ (v : List ℕ). FitsBelow net.nodes v (length net.nodes)) (sym c.load.ensures.nodes) h.5,
+    )
 
 pub returns-clause-state : goal.returns-clause-state
 returns-clause-state c = ap (λ (r : Running). saved_in r c.args.slot) (sym c.self.view_is) ∙ c.load.ensures.state

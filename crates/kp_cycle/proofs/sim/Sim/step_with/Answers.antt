@@ -7,7 +7,7 @@ use Rattle.kp_cycle.proofs.sim.Sim.step_with.Goals as goal
 pub invariant_of-self : goal.invariant_of-self
 invariant_of-self c =
     let h = c.self.invariant in
-    (c.cycle.ensures.fits, h.1, c.cycle.ensures.widths, subst (SlotsFit c.self.inside.net.now) (sym c.cycle.ensures.slots) h.3)
+    (c.cycle.ensures.fits, h.1, c.cycle.ensures.widths, subst (SlotsFit c.self.inside.net.now) (sym c.cycle.ensures.slots) h.3, h.4, c.cycle.ensures.known)
 
 pub returns-clause-state : goal.returns-clause-state
 returns-clause-state c =

@@ -1,6 +1,6 @@
 use Rattle.std.proofs.Common.{[], ap, ◌∙◌}
 use Rattle.kp_ast.specs.declared.tree.Job.{Job}
-use Rattle.kp_plan.specs.Names.{keys_of}
+use Rattle.kp_seq_plan.specs.Names.{keys_of}
 use Rattle.kp_seq.specs.inner.Tables.{ports_of}
 use Rattle.kp_machine.specs.Slots.{targets_of, pipes_of, samples_of}
 use Rattle.kp_seq.proofs.tables.Tables.lay_out.Goals as goal

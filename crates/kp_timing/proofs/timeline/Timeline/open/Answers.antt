@@ -6,7 +6,7 @@ use Rattle.kp_timing.specs.inner.Kept.{IsKept}
 use Rattle.kp_timing.proofs.Keeping.{CanRun, can_run, first_hold, kept_opened}
 use Rattle.kp_timing.proofs.timeline.Timeline.open.Goals as goal
 
--- a slice is written back as it is
+-- writing a slice back leaves it unchanged
 written_back : (n : ℕ) (xs ys zs : List Told) → length xs ≡ n → xs ≡ zs → take n (xs ++ drop (length xs) ys) ≡ zs
 written_back n xs ys zs l e = ap (λ k. take k (xs ++ drop (length xs) ys)) (sym l) ∙ take-append_seam xs (drop (length xs) ys) ∙ e
 

@@ -1,8 +1,0 @@
--- Ports, compared.
-use Rattle.std.specs.Prelude.{◌==◌, ◌&&◌, Bool}
-use Rattle.kp_net.specs.declared.netlist.Port.{Port}
-use Rattle.kp_net.specs.Names.{same}
-
--- ports of one width and one name
-abbrev pub same_port : Port → Port → Bool
-same_port x y = (x.width == y.width) && same x.name y.name

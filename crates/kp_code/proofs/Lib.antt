@@ -1,3 +1,0 @@
-mod Rooms
-pub mod CodeLevels
-pub mod CodeCalls

@@ -1,0 +1,165 @@
+-- The operation of a node computes the node's value.
+use Rattle.std.proofs.Common.{◌≡◌, ◌∙◌, ℕ, ◌+◌, ◌-◌, ◌*◌, ◌/◌, ◌%◌, ◌^◌, ◌<◌, ◌≤◌, ◌==◌, Bool, true, false, cond, List, [], ◌∷◌, length, get_or, refl, ap, sym, subst, arith, bit_and, bit_or}
+use Rattle.std.specs.Prelude.{All}
+use Rattle.std.proofs.Math.Nat.{mod-eq_of_lt, mul-add, add-mul-mod_self_left}
+use Rattle.std.proofs.lemmas.Nat.{and_mask, pow-add, pow_pos}
+use Rattle.kp_bits.specs.declared.operator.BinOp.{BinOp}
+use Rattle.kp_bits.specs.Word.{Word}
+use Rattle.kp_bits.proofs.Powers.{low_of, concat_value, pow_le, sub_above}
+use Rattle.kp_net.specs.declared.node.NodeId.{NodeId}
+use Rattle.kp_net.specs.declared.node.Kind.{Kind}
+use Rattle.kp_net.specs.declared.node.Kind.TheVariants.{Const, Ext, Sample, Reg, Word as FileWord, Not, Binary, Mux, Concat, Slice}
+use Rattle.kp_net.specs.declared.node.Node.{Node}
+use Rattle.kp_net.specs.declared.netlist.Parts.{Parts}
+use Rattle.kp_net.specs.Nodes.{Cells, word_of_kind, word_of_node}
+use Rattle.kp_net.specs.Widths.{wide, no_node, is_cell, KindOk, AllRight}
+use Rattle.kp_net.specs.Parts.{CellOk}
+use Rattle.kp_net.proofs.Exact.{Has}
+use Rattle.kp_cycle.specs.inner.Codes.{binary_op, joined_op, kind_op, op_for, number_of, IsReady}
+use Rattle.kp_net.specs.Netlist.{Net}
+use Rattle.kp_cycle.specs.inner.Storage.{Stored, Fits, FitsBelow, seen}
+use Rattle.kp_cycle.proofs.Settling.{operands_have, whole}
+
+-- numbers of 64 bits
+ones : (x w : ℕ) → bit_and x (2 ^ w - 1) ≡ x % 2 ^ w
+ones x w = and_mask x w
+
+low_six : (b : ℕ) → b < 64 → bit_and b 63 ≡ b
+low_six b h = and_mask b 6 ∙ mod-eq_of_lt h
+
+wrapped : (a b t : ℕ) → b ≤ a → a < t → (a + (t - b)) % t ≡ a - b
+wrapped a b t h k = let e : a + (t - b) ≡ a + t - b = omega arith in ap (λ x. x % t) e ∙ sub_above a b t k h
+
+not_number : (w x : ℕ) → w ≤ 64 → x < 2 ^ w → (2 ^ w - 1 + (2 ^ 64 - x)) % 2 ^ 64 ≡ 2 ^ w - 1 - x
+not_number w x h f =
+    let p = pow_le w 64 h in
+    let a : x ≤ 2 ^ w - 1 = omega arith in
+    let b : 2 ^ w - 1 < 2 ^ 64 = omega (arith, pow_pos w) in
+    wrapped (2 ^ w - 1) x (2 ^ 64) a b
+
+add_number : (w n : ℕ) → w ≤ 64 → bit_and (n % 2 ^ 64) (2 ^ w - 1) ≡ n % 2 ^ w
+add_number w n h = ones (n % 2 ^ 64) w ∙ low_of n w h
+
+sub_by : (a b m j t : ℕ) → t ≡ m * j + m → b ≤ m → (a + (t - b)) % m ≡ (a + m - b) % m
+sub_by a b m j t e h =
+    let q : a + (t - b) ≡ (a + m - b) + m * j = omega arith in
+    ap (λ x. x % m) q ∙ add-mul-mod_self_left (a + m - b) m j
+
+whole_power : (w : ℕ) → w ≤ 64 → 2 ^ 64 ≡ 2 ^ w * (2 ^ (64 - w) - 1) + 2 ^ w
+whole_power w h =
+    let e : 64 ≡ w + (64 - w) = omega arith in
+    let k : 2 ^ (64 - w) ≡ (2 ^ (64 - w) - 1) + 1 = omega (arith, pow_pos (64 - w)) in
+    let one : 2 ^ w * 1 ≡ 2 ^ w = omega arith in
+    ap (λ n. 2 ^ n) e ∙ pow-add 2 w (64 - w) ∙ ap (λ n. 2 ^ w * n) k ∙ mul-add (2 ^ w) (2 ^ (64 - w) - 1) 1 ∙ ap (λ n. 2 ^ w * (2 ^ (64 - w) - 1) + n) one
+
+sub_number : (w a b : ℕ) → w ≤ 64 → b < 2 ^ w → bit_and ((a + (2 ^ 64 - b)) % 2 ^ 64) (2 ^ w - 1) ≡ (a + 2 ^ w - b) % 2 ^ w
+sub_number w a b h f =
+    let l : b ≤ 2 ^ w = omega arith in
+    add_number w (a + (2 ^ 64 - b)) h ∙ sub_by a b (2 ^ w) (2 ^ (64 - w) - 1) (2 ^ 64) (whole_power w h) l
+
+join_number : (a b i j : ℕ) → 1 ≤ i → a < 2 ^ i → b < 2 ^ j → i + j ≤ 64 → bit_or (a * 2 ^ bit_and j 63 % 2 ^ 64) b ≡ a * 2 ^ j + b
+join_number a b i j h f g l =
+    ap (λ k. bit_or (a * 2 ^ k % 2 ^ 64) b) (low_six j (omega arith)) ∙ concat_value a b i j f g l
+
+slice_number : (x k lo : ℕ) → lo < 64 → bit_and (x / 2 ^ bit_and lo 63) (2 ^ k - 1) ≡ x / 2 ^ lo % 2 ^ k
+slice_number x k lo h = ones (x / 2 ^ bit_and lo 63) k ∙ ap (λ j. x / 2 ^ j % 2 ^ k) (low_six lo h)
+
+cond_value : (b : Bool) (x y : Word) → cond b x.value y.value ≡ (cond b x y).value
+cond_value true x y = refl
+cond_value false x y = refl
+
+-- what is known of a node of width k at index m: its operands are words, and `plain` is its number
+module _ (c : Cells) (ns : List Node) (v : List ℕ) (m k plain : ℕ) (small : k ≤ 64)
+    (have : (j : ℕ) → j < m → Has (wide ns j) (seen ns v j)) where
+  binary : (op : BinOp) (a b : NodeId) → KindOk ns m k (Binary op a b) → plain ≡ (word_of_kind c (seen ns v) k (Binary op a b)).value
+      → number_of c v plain (binary_op op a b (2 ^ k - 1)) ≡ plain
+  binary BinOp.And a b ok e = sym e
+  binary BinOp.Or a b ok e = sym e
+  binary BinOp.Xor a b ok e = sym e
+  binary BinOp.Add a b ok e = add_number k _ small ∙ ap (λ w. (get_or v a.0 0 + get_or v b.0 0) % 2 ^ w) (sym ok.2.0) ∙ sym e
+  binary BinOp.Sub a b ok e =
+      let f : get_or v b.0 0 < 2 ^ k = subst (λ w. get_or v b.0 0 < 2 ^ w) ok.2.1 (have b.0 ok.1).word.fits in
+      sub_number k (get_or v a.0 0) (get_or v b.0 0) small f ∙ ap (λ w. (get_or v a.0 0 + 2 ^ w - get_or v b.0 0) % 2 ^ w) (sym ok.2.0) ∙ sym e
+  binary BinOp.Mul a b ok e = refl
+  binary BinOp.Eq a b ok e = sym e
+  binary BinOp.Lt a b ok e = sym e
+  binary BinOp.Shl a b ok e = refl
+  binary BinOp.Shr a b ok e = refl
+
+  joined : (parts : List NodeId) → KindOk ns m k (Concat parts) → plain ≡ (word_of_kind c (seen ns v) k (Concat parts)).value
+      → number_of c v plain (joined_op ns parts) ≡ plain
+  joined [] ok e = refl
+  joined (a ∷ []) ok e = refl
+  joined (a ∷ (b ∷ [])) ok e =
+      let x = (have a.0 (ok.2 0 a (omega arith))).word in
+      let y = (have b.0 (ok.2 1 b (omega arith))).word in
+      let l : wide ns a.0 + wide ns b.0 ≤ 64 = omega (arith, ok.3, small) in
+      join_number (get_or v a.0 0) (get_or v b.0 0) (wide ns a.0) (wide ns b.0) x.positive x.fits y.fits l ∙ sym e
+  joined (a ∷ (b ∷ (d ∷ rest))) ok e = refl
+
+  kinds : (o : Kind) → KindOk ns m k o → (is_cell o ≡ false → plain ≡ (word_of_kind c (seen ns v) k o).value) → plain ≡ (word_of_kind c (seen ns v) k o).value % 2 ^ k
+      → number_of c v plain (kind_op ns (2 ^ k - 1) o) ≡ plain
+  kinds (Const n) ok e f = sym (e refl)
+  kinds Ext ok e f = ones c.ext k ∙ sym f
+  kinds (Sample s) ok e f = refl
+  kinds (Reg r) ok e f = ones (c.reg r) k ∙ sym f
+  kinds (FileWord g a) ok e f = refl
+  kinds (Not a) ok e f =
+      let x : get_or v a.0 0 < 2 ^ k = subst (λ w. get_or v a.0 0 < 2 ^ w) ok.1 (have a.0 ok.0).word.fits in
+      not_number k (get_or v a.0 0) small x ∙ ap (λ w. 2 ^ w - 1 - get_or v a.0 0) (sym ok.1) ∙ sym (e refl)
+  kinds (Binary op a b) ok e f = binary op a b ok (e refl)
+  kinds (Mux test a b) ok e f = cond_value (get_or v test.0 0 == 1) (seen ns v a.0) (seen ns v b.0) ∙ sym (e refl)
+  kinds (Concat parts) ok e f = joined parts ok (e refl)
+  kinds (Slice a hi lo) ok e f =
+      let w : hi + 1 - lo ≡ k = omega (arith, ok.3) in
+      let l : lo < 64 = omega (arith, ok.1, ok.2, (have a.0 ok.0).word.at_most) in
+      slice_number (get_or v a.0 0) k lo l ∙ ap (λ j. get_or v a.0 0 / 2 ^ lo % 2 ^ j) (sym w) ∙ sym (e refl)
+
+-- the operation of node i computes its number
+pub coded : (c : Cells) (ns : List Node) (v : List ℕ) (i : ℕ) → AllRight ns → i < length ns → FitsBelow ns v i
+    → number_of c v (word_of_node c (seen ns v) (get_or ns i no_node)).value (op_for ns (get_or ns i no_node)) ≡ (word_of_node c (seen ns v) (get_or ns i no_node)).value
+coded c ns v i right h fits =
+    let n : Node = get_or ns i no_node in
+    let ok = right i h in
+    kinds c ns v i n.width (word_of_node c (seen ns v) n).value ok.at_most (operands_have ns v i right h fits) n.kind ok.kind
+    (λ e. sym (whole c ns v i n.kind right h fits refl e)) refl
+
+-- all that it reads is there
+module _ (ns : List Node) (p : Parts) (i m mask : ℕ) (e : i ≤ m) where
+  ready_parts : (parts : List NodeId) → All (λ a. a.0 < i) parts → IsReady m (length p.regs) (joined_op ns parts)
+  ready_parts [] h = tt
+  ready_parts (a ∷ []) h = tt
+  ready_parts (a ∷ (b ∷ [])) h = (omega (arith, h 0 a (omega arith)), omega (arith, h 1 b (omega arith)))
+  ready_parts (a ∷ (b ∷ (d ∷ rest))) h = tt
+
+  ready_binary : (op : BinOp) (a b : NodeId) → a.0 < m → b.0 < m → IsReady m (length p.regs) (binary_op op a b mask)
+  ready_binary BinOp.And a b h k = (h, k)
+  ready_binary BinOp.Or a b h k = (h, k)
+  ready_binary BinOp.Xor a b h k = (h, k)
+  ready_binary BinOp.Add a b h k = (h, k)
+  ready_binary BinOp.Sub a b h k = (h, k)
+  ready_binary BinOp.Mul a b h k = tt
+  ready_binary BinOp.Eq a b h k = (h, k)
+  ready_binary BinOp.Lt a b h k = (h, k)
+  ready_binary BinOp.Shl a b h k = tt
+  ready_binary BinOp.Shr a b h k = tt
+
+  pub ready_kind : (k : ℕ) (o : Kind) → KindOk ns i k o → CellOk ns p k o → IsReady m (length p.regs) (kind_op ns mask o)
+  ready_kind k (Const n) h l = tt
+  ready_kind k Ext h l = tt
+  ready_kind k (Sample s) h l = tt
+  ready_kind k (Reg r) h l = l.0
+  ready_kind k (FileWord f a) h l = tt
+  ready_kind k (Not a) h l = omega (arith, h.0)
+  ready_kind k (Binary op a b) h l = ready_binary op a b (omega (arith, h.0)) (omega (arith, h.1))
+  ready_kind k (Mux test a b) h l = (omega (arith, h.0), omega (arith, h.1), omega (arith, h.2))
+  ready_kind k (Concat parts) h l = ready_parts parts h.2
+  ready_kind k (Slice a hi lo) h l = omega (arith, h.0)
+
+-- the operation of node i of a netlist is ready
+pub ready : (net : Net) (m : Stored) (i : ℕ) → Fits net m → i < length net.nodes → IsReady (length m.nodes) (length m.regs) (op_for net.nodes (get_or net.nodes i no_node))
+ready net m i h l =
+    let n : Node = get_or net.nodes i no_node in
+    let P : ℕ → Type 0 = λ r. IsReady (length m.nodes) r (op_for net.nodes n) in
+    subst P (sym h.regs)
+    (ready_kind net.nodes net.parts i (length m.nodes) (2 ^ n.width - 1) (omega (arith, l, h.nodes)) n.width n.kind (h.right.right i l).kind (h.right.parts.cells i l))

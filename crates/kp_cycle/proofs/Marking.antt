@@ -1,0 +1,170 @@
+-- Marks of nodes, and lists in which operands come first.
+use Rattle.std.proofs.Common.{◌≡◌, ℕ, Bool, true, false, true≢false, ◌+◌, ◌<◌, ◌≤◌, List, [], ◌∷◌, ◌++◌, length, get_or, set, map, refl, sym, subst, ap, ◌∙◌, arith, ⊎_elim}
+use Rattle.std.specs.Prelude.{All}
+use Rattle.std.proofs.lemmas.Bool.{cases_lt}
+use Rattle.std.proofs.lemmas.List.{get_or-set_other, length-set, get_or_append_left, get_or_push, length_push, get_or_past}
+use Rattle.std.proofs.lemmas.Grind.{get_or-set_at}
+use Rattle.std.proofs.lemmas.List.Elements.{All-nil, All-cons}
+use Rattle.kp_net.specs.declared.node.NodeId.{NodeId}
+use Rattle.kp_net.specs.declared.node.Kind.{Kind}
+use Rattle.kp_net.specs.declared.node.Kind.TheVariants.{Const, Ext, Sample, Reg, Word, Not, Binary, Mux, Concat, Slice}
+use Rattle.kp_net.specs.declared.node.Node.{Node}
+use Rattle.kp_net.specs.Netlist.{Net}
+use Rattle.kp_net.specs.Widths.{no_node, AllRight, KindOk}
+use Rattle.kp_cycle.specs.inner.Plans.{reads, reads_at, IsMarked, Grows, Among, IsOrdered, OfRoots, Needed, Taken, IsPlan, targets, step_for}
+use Rattle.kp_cycle.specs.declared.codes.Step.{Step}
+use Rattle.kp_cycle.proofs.Clocking.{length_map}
+use Rattle.kp_cycle.proofs.Stepping.{same_or_not, roots_are}
+
+-- one mark more
+pub marked_here : (marks : List Bool) (a j : ℕ) → j ≡ a → a < length marks → IsMarked (set marks a true) j
+marked_here marks a j e h = get_or-set_at marks a j true false e h
+
+pub marked_still : (marks : List Bool) (a j : ℕ) → a < length marks → IsMarked marks j → IsMarked (set marks a true) j
+marked_still marks a j h m =
+    same_or_not j a (IsMarked (set marks a true) j)
+    (λ e. marked_here marks a j e h)
+    (λ no. get_or-set_other marks a j true false no ∙ m)
+
+pub grows_more : (old marks : List Bool) (a : ℕ) → a < length marks → Grows old marks → Grows old (set marks a true)
+grows_more old marks a h g = record { count = length-set marks a true ∙ g.count; kept = λ j m. marked_still marks a j h (g.kept j m) }
+
+-- all of these are marked
+pub all_marked_more : (marks : List Bool) (nodes : List NodeId) (k a : ℕ) → a < length marks → ((d : NodeId) → a ≡ (get_or nodes k d).0)
+    → ((q : ℕ) (d : NodeId) → q < k → IsMarked marks (get_or nodes q d).0)
+    → (q : ℕ) (d : NodeId) → q < k + 1 → IsMarked (set marks a true) (get_or nodes q d).0
+all_marked_more marks nodes k a l is known q d m =
+    ⊎_elim
+    (λ (below : q < k). marked_still marks a (get_or nodes q d).0 l (known q d below))
+    (λ (above : k ≤ q). let e : q ≡ k = omega arith in marked_here marks a (get_or nodes q d).0 (ap (λ (i : ℕ). (get_or nodes i d).0) e ∙ sym (is d)) l)
+    (cases_lt q k)
+
+-- operands precede their node
+pub reads_below : (ns : List Node) (i k : ℕ) (o : Kind) → KindOk ns i k o → All (λ a. a.0 < i) (reads o)
+reads_below ns i k (Const n) h = λ q d l. absurd (omega arith)
+reads_below ns i k Ext h = λ q d l. absurd (omega arith)
+reads_below ns i k (Sample s) h = λ q d l. absurd (omega arith)
+reads_below ns i k (Reg r) h = λ q d l. absurd (omega arith)
+reads_below ns i k (Word f a) h = All-cons (λ (x : NodeId). x.0 < i) a [] h (All-nil (λ (x : NodeId). x.0 < i))
+reads_below ns i k (Not a) h = All-cons (λ (x : NodeId). x.0 < i) a [] h.0 (All-nil (λ (x : NodeId). x.0 < i))
+reads_below ns i k (Binary op a b) h = All-cons (λ (x : NodeId). x.0 < i) a (b ∷ []) h.0 (All-cons (λ (x : NodeId). x.0 < i) b [] h.1 (All-nil (λ (x : NodeId). x.0 < i)))
+reads_below ns i k (Mux t a b) h = All-cons (λ (x : NodeId). x.0 < i) t (a ∷ b ∷ []) h.0 (All-cons (λ (x : NodeId). x.0 < i) a (b ∷ []) h.1 (All-cons (λ (x : NodeId). x.0 < i) b [] h.2 (All-nil (λ (x : NodeId). x.0 < i))))
+reads_below ns i k (Concat parts) h = h.2
+reads_below ns i k (Slice a hi lo) h = All-cons (λ (x : NodeId). x.0 < i) a [] h.0 (All-nil (λ (x : NodeId). x.0 < i))
+
+pub all_below : (ns : List Node) (i : ℕ) → AllRight ns → i < length ns → All (λ a. a.0 < i) (reads_at ns i)
+all_below ns i right h = reads_below ns i (get_or ns i no_node).width (get_or ns i no_node).kind (right i h).kind
+
+-- one node more in a list
+pub among_kept : (ts : List ℕ) (t k j : ℕ) → k ≤ length ts → Among ts k j → Among (ts ++ t ∷ []) k j
+among_kept ts t k j h a = let l = a.1 in (a.0, l, get_or_append_left ts (t ∷ []) 0 a.0 (omega (arith, l)) ∙ a.2)
+
+pub among_more : (ts : List ℕ) (t j : ℕ) → Among ts (length ts) j → Among (ts ++ t ∷ []) (length (ts ++ t ∷ [])) j
+among_more ts t j a =
+    let b = among_kept ts t (length ts) j (omega arith) a in let l = b.1 in
+    (b.0, omega (arith, l, length_push ts t), b.2)
+
+pub among_last : (ts : List ℕ) (t j : ℕ) → j ≡ t → Among (ts ++ t ∷ []) (length (ts ++ t ∷ [])) j
+among_last ts t j e = (length ts, omega (arith, length_push ts t), get_or_push ts t 0 (length ts) refl ∙ sym e)
+
+pub ordered_more : (ns : List Node) (ts : List ℕ) (t : ℕ) → IsOrdered ns ts → t < length ns → All (λ a. Among ts (length ts) a.0) (reads_at ns t) → IsOrdered ns (ts ++ t ∷ [])
+ordered_more ns ts t o h ready =
+    let new : List ℕ = ts ++ t ∷ [] in
+    let last : (k : ℕ) → length ts ≤ k → k < length new → k ≡ length ts = λ k a b. omega (arith, length_push ts t) in
+    let at_last : (k : ℕ) → k ≡ length ts → get_or new k 0 ≡ t = λ k e. get_or_push ts t 0 k (sym e) in
+    record {
+      inside = λ k l. ⊎_elim
+          (λ (low : k < length ts). omega (arith, o.inside k low, get_or_append_left ts (t ∷ []) 0 k low))
+          (λ (high : length ts ≤ k). omega (arith, h, at_last k (last k high l)))
+          (cases_lt k (length ts));
+      before = λ k l. ⊎_elim
+          (λ (low : k < length ts).
+          let P : ℕ → Type 0 = λ x. All (λ a. Among new k a.0) (reads_at ns x) in
+          subst P (sym (get_or_append_left ts (t ∷ []) 0 k low)) (λ i d m. among_kept ts t k (get_or (reads_at ns (get_or ts k 0)) i d).0 (omega arith) (o.before k low i d m)))
+          (λ (high : length ts ≤ k).
+          let e : k ≡ length ts = last k high l in
+          let P : ℕ → Type 0 = λ x. All (λ a. Among new k a.0) (reads_at ns x) in
+          let Q : ℕ → Type 0 = λ n. All (λ a. Among new n a.0) (reads_at ns t) in
+          subst P (sym (at_last k e)) (subst Q (sym e) (λ i d m. among_kept ts t (length ts) (get_or (reads_at ns t) i d).0 (omega arith) (ready i d m))))
+          (cases_lt k (length ts));
+    }
+
+-- the list of the marked nodes, as far as node i
+abbrev pub Listed : List Node → List Bool → ℕ → List ℕ → Type 0
+Listed ns marks i ts = IsOrdered ns ts × ((j : ℕ) → j < i → IsMarked marks j → Among ts (length ts) j)
+
+pub listed_more : (ns : List Node) (marks : List Bool) (i : ℕ) (ts : List ℕ) → i < length ns → All (λ a. a.0 < i) (reads_at ns i) → All (λ a. IsMarked marks a.0) (reads_at ns i)
+    → Listed ns marks i ts → Listed ns marks (i + 1) (ts ++ i ∷ [])
+listed_more ns marks i ts h below operands old = (
+  ordered_more ns ts i old.0 h (λ q d l. old.1 (get_or (reads_at ns i) q d).0 (below q d l) (operands q d l)),
+  λ j l m. ⊎_elim
+      (λ (low : j < i). among_more ts i j (old.1 j low m))
+      (λ (high : i ≤ j). among_last ts i j (omega arith))
+      (cases_lt j i),
+)
+
+pub listed_skip : (ns : List Node) (marks : List Bool) (i : ℕ) (ts : List ℕ) → get_or marks i false ≡ false → Listed ns marks i ts → Listed ns marks (i + 1) ts
+listed_skip ns marks i ts off old = (
+  old.0,
+  λ j l m. ⊎_elim
+      (λ (low : j < i). old.1 j low m)
+      (λ (high : i ≤ j). let e : j ≡ i = omega arith in absurd (true≢false (sym m ∙ ap (λ (x : ℕ). get_or marks x false) e ∙ off)))
+      (cases_lt j i),
+)
+
+-- what is needed, one node further down
+pub needed_more : (net : Net) (i : ℕ) (marks new : List Bool) → AllRight net.nodes → i < length net.nodes → Grows marks new → All (λ a. IsMarked new a.0) (reads_at net.nodes i)
+    → ((k j : ℕ) → All (λ a. a.0 < k) (reads_at net.nodes i) → k ≤ j → get_or new j false ≡ get_or marks j false)
+    → Needed net (i + 1) marks → Needed net i new
+needed_more net i marks new right h grows operands others old =
+    let below = all_below net.nodes i right h in (
+      grows.count ∙ old.0,
+      roots_are net (IsMarked marks) (IsMarked new) grows.kept old.1,
+      λ j l k m. ⊎_elim
+          (λ (low : j < i + 1). let e : i ≡ j = omega arith in let P : ℕ → Type 0 = λ x. All (λ a. IsMarked new a.0) (reads_at net.nodes x) in subst P e operands)
+          (λ (high : i + 1 ≤ j). λ q d n. grows.kept (get_or (reads_at net.nodes j) q d).0 (old.2 j high k (sym (others i j below l) ∙ m) q d n))
+          (cases_lt j (i + 1)),
+    )
+
+-- steps for an ordered list of all that is needed are a plan
+targets_of : (ns : List Node) (ts : List ℕ) → targets (map (step_for ns) ts) ≡ ts
+targets_of ns [] = refl
+targets_of ns (t ∷ ts) = ap (λ (xs : List ℕ). t ∷ xs) (targets_of ns ts)
+
+pub plan_is : (net : Net) (ts : List ℕ) (steps : List Step) → steps ≡ map (step_for net.nodes) ts → IsOrdered net.nodes ts → OfRoots net (Among ts (length ts)) → IsPlan net steps
+plan_is net ts steps is ordered roots =
+    let same : targets steps ≡ ts = ap targets is ∙ targets_of net.nodes ts in
+    let size : length ts ≡ length steps = sym (ap length is ∙ length_map (step_for net.nodes) ts) in
+    let P : List ℕ → Type 0 = IsOrdered net.nodes in
+    let Q : ℕ → Type 0 = λ n. OfRoots net (Among (targets steps) n) in
+    let R : List ℕ → Type 0 = λ xs. OfRoots net (Among xs (length ts)) in
+    record { codes = is ∙ ap (map (step_for net.nodes)) (sym same); ordered = subst P (sym same) ordered; roots = subst Q size (subst R (sym same) roots) }
+
+-- a mark is that of a node
+pub marked_inside : (marks : List Bool) (j : ℕ) → IsMarked marks j → j < length marks
+marked_inside marks j m =
+    ⊎_elim
+    (λ (low : j < length marks). low)
+    (λ (high : length marks ≤ j). absurd (true≢false (sym m ∙ get_or_past marks j false high)))
+    (cases_lt j (length marks))
+
+-- one more node is taken
+pub taken_more : (ns : List Node) (done : List Bool) (ts : List ℕ) (t : ℕ) → Taken ns done ts → t < length ns → All (λ a. IsMarked done a.0) (reads_at ns t) → Taken ns (set done t true) (ts ++ t ∷ [])
+taken_more ns done ts t old h operands = record {
+  count = length-set done t true ∙ old.count;
+  ordered = ordered_more ns ts t old.ordered h (λ q d l. old.there (get_or (reads_at ns t) q d).0 (operands q d l));
+  there = λ j m. same_or_not j t (Among (ts ++ t ∷ []) (length (ts ++ t ∷ [])) j)
+      (λ e. among_last ts t j e)
+      (λ no. among_more ts t j (old.there j (sym (get_or-set_other done t j true false no) ∙ m)));
+}
+
+-- an operand in an ordered list is a node
+pub operands_inside : (ns : List Node) (ts : List ℕ) (k : ℕ) → IsOrdered ns ts → k < length ts → All (λ a. a.0 < length ns) (reads_at ns (get_or ts k 0))
+operands_inside ns ts k o h q d l =
+    let a = o.before k h q d l in let low = a.1 in
+    let P : ℕ → Type 0 = λ x. x < length ns in subst P a.2 (o.inside a.0 (omega (arith, low, h)))
+
+-- the operands of a node of the list are taken if those before it are
+pub operands_taken : (ns : List Node) (ts : List ℕ) (done : List Bool) (k : ℕ) → IsOrdered ns ts → k < length ts → ((q : ℕ) → q < k → IsMarked done (get_or ts q 0)) → All (λ a. IsMarked done a.0) (reads_at ns (get_or ts k 0))
+operands_taken ns ts done k o h known q d l =
+    let a = o.before k h q d l in subst (IsMarked done) a.2 (known a.0 a.1)

@@ -1,0 +1,169 @@
+-- A step computes the value of its target, provided that its operands have theirs.
+use Rattle.std.proofs.Common.{◌≡◌, ℕ, ◌+◌, ◌<◌, ◌≤◌, ◌^◌, List, [], ◌∷◌, length, get_or, set, map, Option, None, Some, refl, sym, subst, ap, ◌∙◌, arith, ⊎_elim, ◌%◌}
+use Rattle.std.specs.Prelude.{All}
+use Rattle.std.proofs.lemmas.Bool.{cases_lt}
+use Rattle.std.proofs.lemmas.List.{get_or-set_other, get_or-map}
+use Rattle.std.proofs.lemmas.Grind.{get_or-set_at}
+use Rattle.std.proofs.lemmas.List.Elements.{All-head, All-tail}
+use Rattle.kp_bits.specs.Word as bits
+use Rattle.kp_bits.specs.Operators.{binary_of, joined_of}
+use Rattle.kp_net.specs.declared.node.NodeId.{NodeId}
+use Rattle.kp_net.specs.declared.node.Kind.{Kind}
+use Rattle.kp_net.specs.declared.node.Kind.TheVariants.{Const, Ext, Sample, Reg, Word, Not, Binary, Mux, Concat, Slice}
+use Rattle.kp_net.specs.declared.node.Node.{Node}
+use Rattle.kp_net.specs.Nodes.{Cells, Words, word_of_kind, word_of_node, word_at, at}
+use Rattle.kp_net.specs.Widths.{wide, no_node, AllRight}
+use Rattle.kp_net.specs.declared.netlist.WritePort.{WritePort}
+use Rattle.kp_net.specs.Netlist.{Net, Input}
+use Rattle.kp_net.specs.Parts.{no_reg, no_file}
+use Rattle.kp_net.proofs.Values.{word_there, word_is, at_fits}
+use Rattle.kp_cycle.specs.declared.codes.Op.{Op}
+use Rattle.kp_cycle.specs.declared.codes.Step.{Step}
+use Rattle.kp_cycle.specs.inner.Codes.{op_for, number_of, IsReady}
+use Rattle.kp_cycle.specs.inner.Plans.{reads, reads_at, Among, OfPort, OfRoots, IsPlan, Settled, no_step, step_for, targets}
+use Rattle.kp_cycle.specs.inner.Storage.{Stored, Fits, cells, seen}
+use Rattle.kp_cycle.proofs.Clocking.{length_map}
+use Rattle.kp_cycle.proofs.Coding.{coded, ready}
+
+-- a node's word depends on the words of its operands alone
+parts_read : (v w : Words) (parts : List NodeId) → All (λ a. v a.0 ≡ w a.0) parts → map (λ a. v a.0) parts ≡ map (λ a. w a.0) parts
+parts_read v w [] h = refl
+parts_read v w (a ∷ parts) h =
+    let x = All-head (λ b. v b.0 ≡ w b.0) a parts h in let y = parts_read v w parts (All-tail (λ b. v b.0 ≡ w b.0) a parts h) in
+    λ i. x i ∷ y i
+
+kind_read : (c : Cells) (k : ℕ) (o : Kind) (v w : Words) → All (λ a. v a.0 ≡ w a.0) (reads o) → word_of_kind c v k o ≡ word_of_kind c w k o
+kind_read c k (Const n) v w h = refl
+kind_read c k Ext v w h = refl
+kind_read c k (Sample s) v w h = refl
+kind_read c k (Reg r) v w h = refl
+kind_read c k (Word f a) v w h = ap (λ (x : bits.Word). bits.word k (c.word f x.value)) (h 0 a (omega arith))
+kind_read c k (Not a) v w h = ap bits.not_of (h 0 a (omega arith))
+kind_read c k (Binary op a b) v w h = let x = h 0 a (omega arith) in let y = h 1 b (omega arith) in λ i. binary_of op (x i) (y i)
+kind_read c k (Mux t a b) v w h = let x = h 0 t (omega arith) in let y = h 1 a (omega arith) in let z = h 2 b (omega arith) in λ i. bits.mux_of (x i) (y i) (z i)
+kind_read c k (Concat parts) v w h = ap joined_of (parts_read v w parts h)
+kind_read c k (Slice a hi lo) v w h = ap (λ (x : bits.Word). bits.slice_of x hi lo) (h 0 a (omega arith))
+
+-- an operand that has its value
+abbrev HasValue : Cells → List Node → List ℕ → ℕ → Type 0
+HasValue c ns v j = (j < length ns) × (get_or v j 0 ≡ at c ns j)
+
+seen_is : (c : Cells) (ns : List Node) (v : List ℕ) (j : ℕ) → HasValue c ns v j → seen ns v j ≡ word_at c ns j
+seen_is c ns v j h = ap (bits.word (wide ns j)) h.1 ∙ sym (word_is c ns j h.0)
+
+-- so what the node computes of them is its value
+step_value : (c : Cells) (ns : List Node) (v : List ℕ) (t : ℕ) → AllRight ns → t < length ns → All (λ a. HasValue c ns v a.0) (reads_at ns t)
+    → (word_of_node c (seen ns v) (get_or ns t no_node)).value ≡ at c ns t
+unfolding at
+step_value c ns v t right h have =
+    let n : Node = get_or ns t no_node in
+    let e : word_of_kind c (seen ns v) n.width n.kind ≡ word_of_kind c (word_at c ns) n.width n.kind =
+    kind_read c n.width n.kind (seen ns v) (word_at c ns) (λ i d l. seen_is c ns v (get_or (reads n.kind) i d).0 (have i d l)) in
+    ap (λ (x : bits.Word). (bits.word n.width (x.value % 2 ^ n.width)).value) e
+    ∙ ap (λ (x : bits.Word). x.value) (sym (word_there c ns t h (right t h)))
+
+pub same_or_not : (i j : ℕ) (A : Type 0) → (i ≡ j → A) → ((i ≡ j → ⊥) → A) → A
+same_or_not i j A same other =
+    ⊎_elim
+    (λ (low : i < j). other (λ z. omega arith))
+    (λ (at_least : j ≤ i). ⊎_elim
+    (λ (high : j < i). other (λ z. omega arith))
+    (λ (at_most : i ≤ j). same (omega arith))
+    (cases_lt j i))
+    (cases_lt i j)
+
+-- what a plan says of its step k
+module _ (net : Net) (steps : List Step) (k : ℕ) (plan : IsPlan net steps) (h : k < length steps) where
+  length_targets : length (targets steps) ≡ length steps
+  length_targets = length_map (λ (s : Step). s.target) steps
+
+  pub target_is : get_or (targets steps) k 0 ≡ (get_or steps k no_step).target
+  target_is = get_or-map (λ (s : Step). s.target) steps k no_step 0 h
+
+  pub target_inside : (get_or steps k no_step).target < length net.nodes
+  target_inside = omega (arith, target_is, plan.ordered.inside k (omega (arith, h, length_targets)))
+
+  pub op_is : (get_or steps k no_step).op ≡ op_for net.nodes (get_or net.nodes (get_or steps k no_step).target no_node)
+  op_is =
+      ap (λ (ss : List Step). (get_or ss k no_step).op) plan.codes
+      ∙ ap (λ (s : Step). s.op) (get_or-map (step_for net.nodes) (targets steps) k 0 no_step (omega (arith, h, length_targets)))
+      ∙ ap (λ (t : ℕ). op_for net.nodes (get_or net.nodes t no_node)) target_is
+
+  pub step_ready : (m : Stored) → Fits net m → IsReady (length m.nodes) (length m.regs) (get_or steps k no_step).op
+  step_ready m fits =
+      let P : Op → Type 0 = IsReady (length m.nodes) (length m.regs) in
+      subst P (sym op_is) (ready net m (get_or steps k no_step).target fits target_inside)
+
+  have_values : (c : Cells) (v : List ℕ) → ((q : ℕ) → q < k → get_or v (get_or (targets steps) q 0) 0 ≡ at c net.nodes (get_or (targets steps) q 0))
+      → All (λ a. HasValue c net.nodes v a.0) (reads_at net.nodes (get_or steps k no_step).target)
+  have_values c v known =
+      let t : ℕ = (get_or steps k no_step).target in
+      let P : ℕ → Type 0 = λ x. All (λ a. HasValue c net.nodes v a.0) (reads_at net.nodes x) in
+      subst P target_is
+      (λ i d l.
+      let m = plan.ordered.before k (omega (arith, h, length_targets)) i d l in
+      let Q : ℕ → Type 0 = HasValue c net.nodes v in
+      let low = m.1 in
+      subst Q m.2 (plan.ordered.inside m.0 (omega (arith, h, low, length_targets)), known m.0 low))
+
+  -- what the node of its target says is its value, and so is the number of its operation
+  pub step_word : (input : Input) (m : Stored) → Fits net m → Settled net input steps k m
+      → (word_of_node (cells input m) (seen net.nodes m.nodes) (get_or net.nodes (get_or steps k no_step).target no_node)).value ≡ at (cells input m) net.nodes (get_or steps k no_step).target
+  step_word input m fits settled =
+      step_value (cells input m) net.nodes m.nodes (get_or steps k no_step).target fits.right.right target_inside (have_values (cells input m) m.nodes settled.known)
+
+  pub step_number : (input : Input) (m : Stored) (x : ℕ) → Fits net m → Settled net input steps k m
+      → ((plain : ℕ) → x ≡ number_of (cells input m) m.nodes plain (get_or steps k no_step).op) → x ≡ at (cells input m) net.nodes (get_or steps k no_step).target
+  step_number input m x fits settled is =
+      let t : ℕ = (get_or steps k no_step).target in
+      let c : Cells = cells input m in
+      let plain : ℕ = (word_of_node c (seen net.nodes m.nodes) (get_or net.nodes t no_node)).value in
+      is plain
+      ∙ ap (number_of c m.nodes plain) op_is
+      ∙ coded c net.nodes m.nodes t fits.right.right target_inside (λ j l. settled.widths j (omega (arith, target_inside)))
+      ∙ step_word input m fits settled
+
+  -- with this value one more step is taken
+  pub step_more : (input : Input) (m : Stored) (x : ℕ) → Fits net m → Settled net input steps k m → x ≡ at (cells input m) net.nodes (get_or steps k no_step).target
+      → Settled net input steps (k + 1) (record m { nodes = set m.nodes (get_or steps k no_step).target x })
+  step_more input m x fits settled value =
+      let t : ℕ = (get_or steps k no_step).target in
+      let c : Cells = cells input m in
+      let ns : List Node = net.nodes in
+      let there : t < length m.nodes = omega (arith, target_inside, fits.nodes) in
+      let new : List ℕ = set m.nodes t x in
+      let other : (j : ℕ) → (j ≡ t → ⊥) → get_or new j 0 ≡ get_or m.nodes j 0 = λ j no. get_or-set_other m.nodes t j x 0 no in
+      let own : (j : ℕ) → j ≡ t → get_or new j 0 ≡ at c ns j = λ j same. get_or-set_at m.nodes t j x 0 same there ∙ value ∙ ap (at c ns) (sym same) in
+      let is_wide : (j : ℕ) → ℕ → Type 0 = λ j y. y < 2 ^ wide ns j in
+      record {
+        widths = λ j l. same_or_not j t (get_or new j 0 < 2 ^ wide ns j)
+            (λ same. subst (is_wide j) (sym (own j same)) (at_fits c ns j l))
+            (λ no. subst (is_wide j) (sym (other j no)) (settled.widths j l));
+        known = λ q l. let j : ℕ = get_or (targets steps) q 0 in
+            same_or_not j t (get_or new j 0 ≡ at c ns j)
+            (own j)
+            (λ no. other j no ∙ ⊎_elim
+            (λ (below : q < k). settled.known q below)
+            (λ (above : k ≤ q). let e : q ≡ k = omega arith in absurd (no (ap (λ (i : ℕ). get_or (targets steps) i 0) e ∙ target_is)))
+            (cases_lt q k));
+      }
+
+-- after all steps each node that is read at the end of the cycle has its value
+pub port_is : (P Q : ℕ → Type 0) (port : Option WritePort) → ((j : ℕ) → P j → Q j) → OfPort P port → OfPort Q port
+port_is P Q None f h = tt
+port_is P Q (Some p) f h = (f p.enable.0 h.0, f p.address.0 h.1, f p.value.0 h.2)
+
+pub roots_are : (net : Net) (P Q : ℕ → Type 0) → ((j : ℕ) → P j → Q j) → OfRoots net P → OfRoots net Q
+roots_are net P Q f h = record {
+  full = f net.parts.full.0 h.full;
+  ue = f net.parts.ue.0 h.ue;
+  back = f net.parts.back.0 h.back;
+  regs = λ r l. f (get_or net.parts.regs r no_reg).next.0 (h.regs r l);
+  files = λ i l. port_is P Q (get_or net.parts.files i no_file).port f (h.files i l);
+}
+
+pub all_settled : (net : Net) (input : Input) (steps : List Step) (m : Stored) → IsPlan net steps → Settled net input steps (length steps) m
+    → OfRoots net (λ j. get_or m.nodes j 0 ≡ at (cells input m) net.nodes j)
+all_settled net input steps m plan settled =
+    let Q : ℕ → Type 0 = λ j. get_or m.nodes j 0 ≡ at (cells input m) net.nodes j in
+    roots_are net (Among (targets steps) (length steps)) Q (λ j a. subst Q a.2 (settled.known a.0 a.1)) plan.roots

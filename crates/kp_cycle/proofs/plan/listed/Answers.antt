@@ -1,0 +1,15 @@
+use Rattle.kp_cycle.proofs.Marking.{listed_more, listed_skip}
+use Rattle.kp_cycle.proofs.plan.listed.Goals as goal
+use Rattle.kp_cycle.proofs.plan.listed.Goals.{then-marks-i+in_ok-push, else-marks-i}
+
+pub loop-i-preserved : goal.loop-i-preserved
+loop-i-preserved c =
+    let ns = c.args.nodes.now in
+    let marks = c.args.marks.now in
+    let i = c.loop-i.i in
+    elim c.if-marks-i.branch [
+      | then-marks-i+in_ok-push w ↦
+          rw w.order-is (rw w.in_ok-push.ensures.items
+          (listed_more ns marks i c.loop-i.order.items c.loop-i-test.true (c.requires.below i c.loop-i-test.true) (c.requires.operands i c.loop-i-test.true w.if-marks-i.true) c.loop-i.invariant))
+      | else-marks-i w ↦ rw w.order-is (listed_skip ns marks i c.loop-i.order.items w.if-marks-i.false c.loop-i.invariant)
+    ]

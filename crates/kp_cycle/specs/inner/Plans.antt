@@ -1,0 +1,90 @@
+-- Which nodes are evaluated in a cycle, and in which order.
+use Rattle.std.specs.Prelude.{ℕ, ◌<◌, ◌≤◌, ◌≡◌, Bool, true, false, List, [], ◌∷◌, length, get_or, map, All, Option, None, Some}
+use Rattle.kp_net.specs.declared.node.NodeId.{NodeId}
+use Rattle.kp_net.specs.declared.node.Kind.{Kind}
+use Rattle.kp_net.specs.declared.node.Kind.TheVariants.{Word, Not, Binary, Mux, Concat, Slice}
+use Rattle.kp_net.specs.declared.node.Node.{Node}
+use Rattle.kp_net.specs.declared.netlist.WritePort.{WritePort}
+use Rattle.kp_net.specs.Nodes.{at}
+use Rattle.kp_net.specs.Netlist.{Net, Input}
+use Rattle.kp_net.specs.Parts.{no_reg, no_file}
+use Rattle.kp_net.specs.Widths.{no_node}
+use Rattle.kp_cycle.specs.declared.codes.Op.TheVariants.{Number}
+use Rattle.kp_cycle.specs.declared.codes.Step.{Step}
+use Rattle.kp_cycle.specs.inner.Codes.{op_for}
+use Rattle.kp_cycle.specs.inner.Storage.{Stored, FitsBelow, cells}
+
+-- the operands of a node
+abbrev pub reads : Kind → List NodeId
+reads (Word f a) = a ∷ []
+reads (Not a) = a ∷ []
+reads (Binary op a b) = a ∷ b ∷ []
+reads (Mux test a b) = test ∷ a ∷ b ∷ []
+reads (Concat parts) = parts
+reads (Slice a hi lo) = a ∷ []
+reads _ = []
+
+abbrev pub reads_at : List Node → ℕ → List NodeId
+reads_at ns i = reads (get_or ns i no_node).kind
+
+-- a node that is marked
+abbrev pub IsMarked : List Bool → ℕ → Type 0
+IsMarked marks j = get_or marks j false ≡ true
+
+-- as many marks, including all earlier ones
+pub record Grows (old new : List Bool) : Type 0 where
+  pub count : length new ≡ length old
+  pub kept : (j : ℕ) → IsMarked old j → IsMarked new j
+
+-- one of the first k of these numbers
+abbrev pub Among : List ℕ → ℕ → ℕ → Type 0
+Among ts k j = (q : ℕ) × (q < k) × (get_or ts q 0 ≡ j)
+
+-- all are nodes, and the operands of each come before it
+pub record IsOrdered (ns : List Node) (ts : List ℕ) : Type 0 where
+  pub inside : (k : ℕ) → k < length ts → get_or ts k 0 < length ns
+  pub before : (k : ℕ) → k < length ts → All (λ a. Among ts k a.0) (reads_at ns (get_or ts k 0))
+
+-- the marked nodes are in a list in which operands come first
+pub record Taken (ns : List Node) (done : List Bool) (ts : List ℕ) : Type 0 where
+  pub count : length done ≡ length ns
+  pub ordered : IsOrdered ns ts
+  pub there : (j : ℕ) → IsMarked done j → Among ts (length ts) j
+
+-- this is true of all nodes that outputs, registers and write ports read
+abbrev pub OfPort : (ℕ → Type 0) → Option WritePort → Type 0
+OfPort P None = Unit {0}
+OfPort P (Some p) = P p.enable.0 × P p.address.0 × P p.value.0
+
+pub record OfRoots (net : Net) (P : ℕ → Type 0) : Type 0 where
+  pub full : P net.parts.full.0
+  pub ue : P net.parts.ue.0
+  pub back : P net.parts.back.0
+  pub regs : (r : ℕ) → r < length net.parts.regs → P (get_or net.parts.regs r no_reg).next.0
+  pub files : (f : ℕ) → f < length net.parts.files → OfPort P (get_or net.parts.files f no_file).port
+
+-- the marks of what is needed, from the last node down to node i
+abbrev pub Needed : Net → ℕ → List Bool → Type 0
+Needed net i marks = (length marks ≡ length net.nodes) × OfRoots net (IsMarked marks)
+    × ((j : ℕ) → i ≤ j → j < length net.nodes → IsMarked marks j → All (λ a. IsMarked marks a.0) (reads_at net.nodes j))
+
+-- steps, each with the operation of its target
+abbrev pub no_step : Step
+no_step = record { target = 0; op = Number 0 }
+
+abbrev pub step_for : List Node → ℕ → Step
+step_for ns t = record { target = t; op = op_for ns (get_or ns t no_node) }
+
+abbrev pub targets : List Step → List ℕ
+targets steps = map (λ s. s.target) steps
+
+-- steps that compute the value of each node that is read at the end of a cycle
+pub record IsPlan (net : Net) (steps : List Step) : Type 0 where
+  pub codes : steps ≡ map (step_for net.nodes) (targets steps)
+  pub ordered : IsOrdered net.nodes (targets steps)
+  pub roots : OfRoots net (Among (targets steps) (length steps))
+
+-- the first k steps have been evaluated in this cycle
+pub record Settled (net : Net) (input : Input) (steps : List Step) (k : ℕ) (m : Stored) : Type 0 where
+  pub widths : FitsBelow net.nodes m.nodes (length net.nodes)
+  pub known : (q : ℕ) → q < k → get_or m.nodes (get_or (targets steps) q 0) 0 ≡ at (cells input m) net.nodes (get_or (targets steps) q 0)

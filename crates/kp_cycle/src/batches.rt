@@ -1,0 +1,197 @@
+//! Consecutive steps with the same operation, each operation in a loop of its own.
+ghost use Rattle.std.specs.Prelude.{◌≡◌, ◌+◌, ◌<◌, ◌≤◌, ℕ, length, Some};
+ghost use Rattle.kp_net.specs.Netlist.{Input};
+ghost use Rattle.kp_cycle.specs.inner.Codes.{number_of, IsReady};
+ghost use Rattle.kp_cycle.specs.inner.Plans.{IsPlan, Settled};
+ghost use Rattle.kp_cycle.specs.inner.Storage.{Fits, cells};
+
+use crate::codes::{Op, Step};
+use crate::memory::Memory;
+use kp_net::Netlist;
+
+// One operation.
+trait Batch {
+    // The number that this operation computes, or nothing for any other.
+    fn value(op: &Op, memory: &Memory) -> Option<u64>
+        requires { IsReady (length memory.now.nodes) (length memory.now.regs) op.now }
+        ensures { (input : Input) (plain x : ℕ) → result ≡ Some x → x ≡ number_of (cells input memory.now) memory.now.nodes plain op.now };
+}
+
+struct Number;
+
+struct Reg;
+
+struct Not;
+
+struct And;
+
+struct Or;
+
+struct Xor;
+
+struct Add;
+
+struct Sub;
+
+struct Eq;
+
+struct Lt;
+
+struct Mux;
+
+struct Join;
+
+struct Slice;
+
+impl Batch for Number {
+    fn value(op: &Op, memory: &Memory) -> Option<u64> {
+        let Op::Number(number) = op else { return None };
+        Some(*number)
+    }
+}
+
+impl Batch for Reg {
+    fn value(op: &Op, memory: &Memory) -> Option<u64> {
+        let Op::Reg(reg, mask) = op else { return None };
+        Some(memory.reg(*reg) & *mask)
+    }
+}
+
+impl Batch for Not {
+    fn value(op: &Op, memory: &Memory) -> Option<u64> {
+        let Op::Not(a, mask) = op else { return None };
+        Some(mask.wrapping_sub(memory.node(a.0)))
+    }
+}
+
+impl Batch for And {
+    fn value(op: &Op, memory: &Memory) -> Option<u64> {
+        let Op::And(a, b) = op else { return None };
+        Some(memory.node(a.0) & memory.node(b.0))
+    }
+}
+
+impl Batch for Or {
+    fn value(op: &Op, memory: &Memory) -> Option<u64> {
+        let Op::Or(a, b) = op else { return None };
+        Some(memory.node(a.0) | memory.node(b.0))
+    }
+}
+
+impl Batch for Xor {
+    fn value(op: &Op, memory: &Memory) -> Option<u64> {
+        let Op::Xor(a, b) = op else { return None };
+        Some(memory.node(a.0) ^ memory.node(b.0))
+    }
+}
+
+impl Batch for Add {
+    fn value(op: &Op, memory: &Memory) -> Option<u64> {
+        let Op::Add(a, b, mask) = op else { return None };
+        Some(memory.node(a.0).wrapping_add(memory.node(b.0)) & *mask)
+    }
+}
+
+impl Batch for Sub {
+    fn value(op: &Op, memory: &Memory) -> Option<u64> {
+        let Op::Sub(a, b, mask) = op else { return None };
+        Some(memory.node(a.0).wrapping_sub(memory.node(b.0)) & *mask)
+    }
+}
+
+impl Batch for Eq {
+    fn value(op: &Op, memory: &Memory) -> Option<u64> {
+        let Op::Eq(a, b) = op else { return None };
+        Some(u64::from(memory.node(a.0) == memory.node(b.0)))
+    }
+}
+
+impl Batch for Lt {
+    fn value(op: &Op, memory: &Memory) -> Option<u64> {
+        let Op::Lt(a, b) = op else { return None };
+        Some(u64::from(memory.node(a.0) < memory.node(b.0)))
+    }
+}
+
+impl Batch for Mux {
+    fn value(op: &Op, memory: &Memory) -> Option<u64> {
+        let Op::Mux(test, yes, no) = op else {
+            return None
+        };
+        let yes = memory.node(yes.0);
+        let no = memory.node(no.0);
+        Some(if memory.node(test.0) == 1 { yes } else { no })
+    }
+}
+
+impl Batch for Join {
+    fn value(op: &Op, memory: &Memory) -> Option<u64> {
+        let Op::Join(high, low, width) = op else {
+            return None
+        };
+        Some((memory.node(high.0) << (*width & 63)) | memory.node(low.0))
+    }
+}
+
+impl Batch for Slice {
+    fn value(op: &Op, memory: &Memory) -> Option<u64> {
+        let Op::Slice(a, lo, mask) = op else {
+            return None
+        };
+        Some((memory.node(a.0) >> (*lo & 63)) & *mask)
+    }
+}
+
+/// Evaluates the steps from this one on that have the same operation, and returns the index of the first with
+/// another. Evaluates none if the operation is one of those that are evaluated singly.
+pub fn take_batch(net: &Netlist, steps: &[Step], memory: &mut Memory, from: usize) -> usize
+    requires plan { IsPlan net.now steps.now }
+    requires fits { Fits net.now memory.old }
+    requires inside { from < length steps.now }
+    ensures forward { from ≤ result }
+    ensures inside { result ≤ length steps.now }
+    ensures fits { Fits net.now memory.new }
+    ensures settled { (input : Input) → Settled net.now input steps.now from memory.old → Settled net.now input steps.now result memory.new }
+    ensures regs { memory.new.regs ≡ memory.old.regs }
+    ensures files { memory.new.files ≡ memory.old.files }
+    ensures slots { memory.new.slots ≡ memory.old.slots }
+{
+    match &steps[from].op {
+        Op::Number(_) => take_while::<Number>(net, steps, memory, from),
+        Op::Reg(_, _) => take_while::<Reg>(net, steps, memory, from),
+        Op::Not(_, _) => take_while::<Not>(net, steps, memory, from),
+        Op::And(_, _) => take_while::<And>(net, steps, memory, from),
+        Op::Or(_, _) => take_while::<Or>(net, steps, memory, from),
+        Op::Xor(_, _) => take_while::<Xor>(net, steps, memory, from),
+        Op::Add(_, _, _) => take_while::<Add>(net, steps, memory, from),
+        Op::Sub(_, _, _) => take_while::<Sub>(net, steps, memory, from),
+        Op::Eq(_, _) => take_while::<Eq>(net, steps, memory, from),
+        Op::Lt(_, _) => take_while::<Lt>(net, steps, memory, from),
+        Op::Mux(_, _, _) => take_while::<Mux>(net, steps, memory, from),
+        Op::Join(_, _, _) => take_while::<Join>(net, steps, memory, from),
+        Op::Slice(_, _, _) => take_while::<Slice>(net, steps, memory, from),
+        Op::Ext(_) | Op::Plain => from,
+    }
+}
+
+// Evaluates the steps from this one on that have this operation.
+fn take_while<B: Batch>(net: &Netlist, steps: &[Step], memory: &mut Memory, from: usize) -> usize
+    requires plan { IsPlan net.now steps.now }
+    requires fits { Fits net.now memory.old }
+    requires inside { from < length steps.now }
+    ensures forward { from ≤ result }
+    ensures inside { result ≤ length steps.now }
+    ensures fits { Fits net.now memory.new }
+    ensures settled { (input : Input) → Settled net.now input steps.now from memory.old → Settled net.now input steps.now result memory.new }
+    ensures regs { memory.new.regs ≡ memory.old.regs }
+    ensures files { memory.new.files ≡ memory.old.files }
+    ensures slots { memory.new.slots ≡ memory.old.slots }
+{
+    for k in from..steps.len() {
+        let Some(value) = B::value(&steps[k].op, memory) else {
+            return k;
+        };
+        memory.set_node(steps[k].target, value);
+    }
+    steps.len()
+}

@@ -1,0 +1,301 @@
+//! Which nodes a cycle evaluates, and in which order. Nodes that no output, register or write port needs are omitted,
+//! and nodes with the same operation are adjacent as far as their operands allow.
+ghost use Rattle.std.specs.Prelude.{◌≡◌, ◌+◌, ◌<◌, ◌≤◌, true, false, ℕ, length, get_or, map, All, IfOk};
+ghost use Rattle.kp_net.specs.Widths.{no_node};
+ghost use Rattle.kp_cycle.specs.inner.Plans.{reads, reads_at, step_for, IsMarked, Grows, Among, IsOrdered, OfPort, OfRoots, Needed, Taken, IsPlan};
+
+use crate::codes::{Step, op_of};
+use kp_base::NoMemory;
+use kp_bits::BinOp;
+use kp_net::{Kind, Netlist, Node, NodeId, WritePort};
+use std::alloc::Global;
+
+/// The steps of a cycle.
+pub fn plan(alloc: Global, net: &Netlist) -> Result<Vec<Step>, NoMemory>
+    ensures { IfOk result (λ steps. IsPlan net.now steps.items) }
+{
+    let needed = needed_in(alloc, net)?;
+    let order = listed(alloc, net.nodes(), needed.as_slice())?;
+    let batched = in_batches(alloc, net.nodes(), order.as_slice())?;
+    let steps = steps_of(alloc, net.nodes(), batched.as_slice())?;
+    Ok(steps)
+}
+
+// Marks each node that an output, a register or a write port needs.
+fn needed_in(alloc: Global, net: &Netlist) -> Result<Vec<bool>, NoMemory>
+    ensures { IfOk result (λ marks. Needed net.now 0 marks.items) }
+{
+    let count = net.nodes().len();
+    let mut marks = vec![in alloc; false; count]?;
+    mark_needed(net, marks.as_mut_slice());
+    Ok(marks)
+}
+
+fn mark_needed(net: &Netlist, marks: &mut [bool])
+    requires { length marks.old ≡ length net.now.nodes }
+    ensures { Needed net.now 0 marks.new }
+{
+    mark_roots(net, marks);
+    let count = net.nodes().len();
+    for above in 0..count {
+        mark_below(net, count - 1 - above, marks);
+    }
+}
+
+// Marks the operands of node i if it is needed.
+fn mark_below(net: &Netlist, i: usize, marks: &mut [bool])
+    requires inside { i < length net.now.nodes }
+    requires needed { Needed net.now (i + 1) marks.old }
+    ensures { Needed net.now i marks.new }
+{
+    if marks[i] {
+        mark_operands(&net.nodes()[i].kind, marks);
+    }
+}
+
+// Marks the nodes that the end of a cycle reads.
+fn mark_roots(net: &Netlist, marks: &mut [bool])
+    requires { length marks.old ≡ length net.now.nodes }
+    ensures count { length marks.new ≡ length net.now.nodes }
+    ensures roots { OfRoots net.now (IsMarked marks.new) }
+{
+    let parts = net.parts();
+    let regs = parts.regs.as_slice();
+    for i in 0..regs.len() {
+        marks[regs[i].next.0 as usize] = true;
+    }
+    let files = parts.files.as_slice();
+    for i in 0..files.len() {
+        mark_port(files[i].port, marks);
+    }
+    marks[parts.full.0 as usize] = true;
+    marks[parts.ue.0 as usize] = true;
+    marks[parts.back.0 as usize] = true;
+}
+
+// Marks the nodes that a port reads, if there is one.
+fn mark_port(port: Option<WritePort>, marks: &mut [bool])
+    requires { OfPort (λ j. j < length marks.old) port }
+    ensures grows { Grows marks.old marks.new }
+    ensures port { OfPort (IsMarked marks.new) port }
+{
+    let Some(port) = port else {
+        return;
+    };
+    marks[port.enable.0 as usize] = true;
+    marks[port.address.0 as usize] = true;
+    marks[port.value.0 as usize] = true;
+}
+
+// Marks the operands of a node of this kind.
+fn mark_operands(kind: &Kind, marks: &mut [bool])
+    requires { All (λ a. a.0 < length marks.old) (reads kind.now) }
+    ensures grows { Grows marks.old marks.new }
+    ensures operands { All (λ a. IsMarked marks.new a.0) (reads kind.now) }
+    ensures others { (i j : ℕ) → All (λ a. a.0 < i) (reads kind.now) → i ≤ j → get_or marks.new j false ≡ get_or marks.old j false }
+{
+    match kind {
+        Kind::Const(_) | Kind::Ext | Kind::Sample(_) | Kind::Reg(_) => {}
+        Kind::Word(_, a) | Kind::Not(a) | Kind::Slice(a, _, _) => mark_all(&[*a], marks),
+        Kind::Binary(_, a, b) => mark_all(&[*a, *b], marks),
+        Kind::Mux(test, yes, no) => mark_all(&[*test, *yes, *no], marks),
+        Kind::Concat(parts) => mark_all(parts.nodes(), marks),
+    }
+}
+
+fn mark_all(nodes: &[NodeId], marks: &mut [bool])
+    requires { All (λ a. a.0 < length marks.old) nodes.now }
+    ensures grows { Grows marks.old marks.new }
+    ensures marked { All (λ a. IsMarked marks.new a.0) nodes.now }
+    ensures others { (i j : ℕ) → All (λ a. a.0 < i) nodes.now → i ≤ j → get_or marks.new j false ≡ get_or marks.old j false }
+{
+    for k in 0..nodes.len() {
+        marks[nodes[k].0 as usize] = true;
+    }
+}
+
+// The marked nodes, in their order.
+fn listed(alloc: Global, nodes: &[Node], marks: &[bool]) -> Result<Vec<u32>, NoMemory>
+    requires few { length nodes.now ≤ 16777216 }
+    requires count { length marks.now ≡ length nodes.now }
+    requires below { (i : ℕ) → i < length nodes.now → All (λ a. a.0 < i) (reads_at nodes.now i) }
+    requires operands { (i : ℕ) → i < length nodes.now → IsMarked marks.now i → All (λ a. IsMarked marks.now a.0) (reads_at nodes.now i) }
+    ensures ordered { IfOk result (λ order. IsOrdered nodes.now order.items) }
+    ensures all { IfOk result (λ order. (j : ℕ) → j < length nodes.now → IsMarked marks.now j → Among order.items (length order.items) j) }
+{
+    let mut order = Vec::new(alloc);
+    for i in 0..nodes.len() {
+        if marks[i] {
+            order.push(i as u32)?;
+        }
+    }
+    Ok(order)
+}
+
+// The number of passes over the nodes, each for one operation. Nodes that are left then stay in their old order.
+const PASSES: usize = 240;
+
+// The same nodes, with those of one operation adjacent as far as their operands allow.
+fn in_batches(alloc: Global, nodes: &[Node], order: &[u32]) -> Result<Vec<u32>, NoMemory>
+    requires { IsOrdered nodes.now order.now }
+    ensures ordered { IfOk result (λ batched. IsOrdered nodes.now batched.items) }
+    ensures all { IfOk result (λ batched. (j : ℕ) → Among order.now (length order.now) j → Among batched.items (length batched.items) j) }
+{
+    let mut done = vec![in alloc; false; nodes.len()]?;
+    let mut batched = Vec::with_capacity(alloc, order.len())?;
+    for pass in 0..PASSES {
+        if batched.len() < order.len() {
+            take_ready(
+                nodes,
+                order,
+                (pass % 15) as u8,
+                done.as_mut_slice(),
+                &mut batched,
+            )?;
+        }
+    }
+    take_rest(nodes, order, done.as_mut_slice(), &mut batched)?;
+    Ok(batched)
+}
+
+// Appends each of these nodes that has this operation, and whose operands are already in the order.
+fn take_ready(
+    nodes: &[Node],
+    order: &[u32],
+    class: u8,
+    done: &mut [bool],
+    batched: &mut Vec<u32>,
+) -> Result<(), NoMemory>
+    requires order { IsOrdered nodes.now order.now }
+    requires taken { Taken nodes.now done.old batched.old.items }
+    ensures { IfOk result (λ _. Taken nodes.now done.new batched.new.items) }
+{
+    for k in 0..order.len() {
+        take_if_ready(nodes, order[k], class, done, batched)?;
+    }
+    Ok(())
+}
+
+fn take_if_ready(
+    nodes: &[Node],
+    target: u32,
+    class: u8,
+    done: &mut [bool],
+    batched: &mut Vec<u32>,
+) -> Result<(), NoMemory>
+    requires inside { target < length nodes.now }
+    requires operands { All (λ a. a.0 < length nodes.now) (reads_at nodes.now target) }
+    requires taken { Taken nodes.now done.old batched.old.items }
+    ensures { IfOk result (λ _. Taken nodes.now done.new batched.new.items) }
+{
+    let kind = &nodes[target as usize].kind;
+    if class_of(kind) != class {
+        return Ok(());
+    }
+    if !is_ready(kind, done) {
+        return Ok(());
+    }
+    take(nodes, target, done, batched)
+}
+
+// Appends all of these nodes that are left.
+fn take_rest(
+    nodes: &[Node],
+    order: &[u32],
+    done: &mut [bool],
+    batched: &mut Vec<u32>,
+) -> Result<(), NoMemory>
+    requires order { IsOrdered nodes.now order.now }
+    requires taken { Taken nodes.now done.old batched.old.items }
+    ensures taken { IfOk result (λ _. Taken nodes.now done.new batched.new.items) }
+    ensures all { IfOk result (λ _. (j : ℕ) → Among order.now (length order.now) j → IsMarked done.new j) }
+{
+    for k in 0..order.len() {
+        take(nodes, order[k], done, batched)?;
+    }
+    Ok(())
+}
+
+// Appends a node whose operands are already in the order.
+fn take(
+    nodes: &[Node],
+    target: u32,
+    done: &mut [bool],
+    batched: &mut Vec<u32>,
+) -> Result<(), NoMemory>
+    requires inside { target < length nodes.now }
+    requires operands { All (λ a. IsMarked done.old a.0) (reads_at nodes.now target) }
+    requires taken { Taken nodes.now done.old batched.old.items }
+    ensures taken { IfOk result (λ _. Taken nodes.now done.new batched.new.items) }
+    ensures grows { Grows done.old done.new }
+    ensures marked { IsMarked done.new target }
+{
+    if done[target as usize] {
+        return Ok(());
+    }
+    done[target as usize] = true;
+    batched.push(target)?;
+    Ok(())
+}
+
+// Whether all operands of a node of this kind are already in the order.
+fn is_ready(kind: &Kind, done: &[bool]) -> bool
+    requires { All (λ a. a.0 < length done.now) (reads kind.now) }
+    ensures { result ≡ true → All (λ a. IsMarked done.now a.0) (reads kind.now) }
+{
+    match kind {
+        Kind::Const(_) | Kind::Ext | Kind::Sample(_) | Kind::Reg(_) => true,
+        Kind::Word(_, a) | Kind::Not(a) | Kind::Slice(a, _, _) => are_done(&[*a], done),
+        Kind::Binary(_, a, b) => are_done(&[*a, *b], done),
+        Kind::Mux(test, yes, no) => are_done(&[*test, *yes, *no], done),
+        Kind::Concat(parts) => are_done(parts.nodes(), done),
+    }
+}
+
+fn are_done(nodes: &[NodeId], done: &[bool]) -> bool
+    requires { All (λ a. a.0 < length done.now) nodes.now }
+    ensures { result ≡ true → All (λ a. IsMarked done.now a.0) nodes.now }
+{
+    for k in 0..nodes.len() {
+        if !done[nodes[k].0 as usize] {
+            return false;
+        }
+    }
+    true
+}
+
+// The operation of a node of this kind, as a number below 15.
+fn class_of(kind: &Kind) -> u8 {
+    match kind {
+        Kind::Const(_) => 0,
+        Kind::Reg(_) => 1,
+        Kind::Ext => 2,
+        Kind::Slice(_, _, _) => 3,
+        Kind::Not(_) => 4,
+        Kind::Binary(BinOp::And, _, _) => 5,
+        Kind::Binary(BinOp::Or, _, _) => 6,
+        Kind::Binary(BinOp::Xor, _, _) => 7,
+        Kind::Binary(BinOp::Add, _, _) => 8,
+        Kind::Binary(BinOp::Sub, _, _) => 9,
+        Kind::Binary(BinOp::Eq, _, _) => 10,
+        Kind::Binary(BinOp::Lt, _, _) => 11,
+        Kind::Mux(_, _, _) => 12,
+        Kind::Concat(parts) => { if parts.nodes().len() == 2 { 13 } else { 14 } }
+        Kind::Binary(_, _, _) | Kind::Sample(_) | Kind::Word(_, _) => 14,
+    }
+}
+
+// A step for each of these nodes.
+fn steps_of(alloc: Global, nodes: &[Node], order: &[u32]) -> Result<Vec<Step>, NoMemory>
+    requires inside { (k : ℕ) → k < length order.now → get_or order.now k 0 < length nodes.now }
+    requires widths { (i : ℕ) → i < length nodes.now → (1 ≤ (get_or nodes.now i no_node).width) × ((get_or nodes.now i no_node).width ≤ 64) }
+    ensures { IfOk result (λ steps. steps.items ≡ map (step_for nodes.now) order.now) }
+{
+    let mut steps = Vec::with_capacity(alloc, order.len())?;
+    for k in 0..order.len() {
+        let target = order[k];
+        let op = op_of(nodes, &nodes[target as usize]);
+        steps.push(Step { target, op })?;
+    }
+    Ok(steps)
+}

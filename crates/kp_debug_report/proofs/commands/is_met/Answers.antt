@@ -1,0 +1,15 @@
+use Rattle.std.proofs.Common.{◌≡◌, ◌∙◌, ap, sym}
+use Rattle.std.specs.Prelude.{◌==◌}
+use Rattle.kp_bits.specs.Word.{Word}
+use Rattle.kp_tool_report.specs.States.{State}
+use Rattle.kp_debug_report.specs.inner.Standing.{state_seen}
+use Rattle.kp_debug_report.proofs.Standing.{visible_is}
+use Rattle.kp_debug_report.proofs.commands.is_met.Goals as goal
+
+pub returns : goal.returns
+returns c =
+    let job = c.args.job.now.design.job in
+    let d = c.args.session.now in
+    let found : c.value.result ≡ state_seen job d c.args.target 0 = c.value.ensures.value ∙ ap (λ (w : Word). w.value) c.register_shown.ensures in
+    (λ i. found i == c.value-2.ensures.value i)
+    ∙ ap (λ (shown : State). shown c.args.target 0 == c.args.value.value) (sym (visible_is job d c.requires.under))

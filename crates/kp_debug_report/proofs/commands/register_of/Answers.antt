@@ -1,0 +1,23 @@
+use Rattle.std.proofs.Common.{◌≡◌, ◌<◌, ◌∙◌, List, length, get_or, ap, sym, subst}
+use Rattle.kp_ast.specs.declared.tree.Decl.{Decl}
+use Rattle.kp_ast.specs.declared.tree.Job.{Job}
+use Rattle.kp_machine.specs.Slots.{targets_of}
+use Rattle.kp_seq.specs.Running.{no_slot}
+use Rattle.kp_synth_spec.specs.Naming.{place_among, register_name, register_names}
+use Rattle.kp_debug_report.proofs.commands.register_of.Goals as goal
+
+pub register_at-requires : goal.register_at-requires
+register_at-requires c =
+    let are : c.as_slice.result.now ≡ c.args.job.now.design.job.decls = c.as_slice.ensures ∙ ap (λ (j : Job). j.decls) c.job.ensures.job in
+    subst (λ (ds : List Decl). c.args.target < length (targets_of ds)) (sym are) c.requires.there
+
+pub returns : goal.returns
+returns c =
+    let are : c.as_slice.result.now ≡ c.args.job.now.design.job.decls = c.as_slice.ensures ∙ ap (λ (j : Job). j.decls) c.job.ensures.job in
+    record {
+      there = c.requires.there;
+      kind = c.requires.kind;
+      is =
+          c.register_at.ensures
+          ∙ ap (λ (ds : List Decl). place_among (register_names c.args.net.now) (register_name (get_or (targets_of ds) c.args.target no_slot))) are;
+    }

@@ -1,0 +1,61 @@
+// Runs of bytes of a text: lines, and the tokens of a line.
+ghost use Rattle.std.specs.Prelude.{◌≡◌, ◌+◌, ◌^◌, ◌<◌, ◌++◌, true, false, length, get_or, map, All, IfOk, OnOk};
+ghost use Rattle.kp_debug_script.specs.Lines.{is_blank, piece_of, words_of, IsWithin};
+ghost use Rattle.kp_debug_script.specs.inner.Reading.{word_between};
+
+use kp_base::NoMemory;
+use std::alloc::Global;
+
+/// The bytes of a text from one offset up to another.
+#[derive(Clone, Copy, Debug, PartialEq, Eq)]
+pub struct Run {
+    pub at: u32,
+    pub end: u32,
+}
+
+/// The tokens of a line. The only error is out of memory.
+pub fn words_in(alloc: Global, text: &[u8], line: Run) -> Result<Vec<Run>, NoMemory>
+    requires within { IsWithin text.now line }
+    requires few { length text.now < 2 ^ 32 }
+    ensures words { IfOk result (λ words. map (piece_of text.now) words.items ≡ words_of (piece_of text.now line)) }
+    ensures within { IfOk result (λ words. All (IsWithin text.now) words.items) }
+{
+    let mut words = Vec::new(alloc);
+    let mut at = line.at;
+    for i in line.at..line.end {
+        at = end_word(text, at, i, &mut words)?;
+    }
+    push_word(at, line.end, &mut words)?;
+    Ok(words)
+}
+
+// At a blank, appends the token before it, and returns the offset after the blank, where the next token can start. Elsewhere returns `at`, where the
+// present one started.
+fn end_word(text: &[u8], at: u32, i: u32, words: &mut Vec<Run>) -> Result<u32, NoMemory>
+    requires there { i < length text.now }
+    requires few { length text.now < 2 ^ 32 }
+    ensures goes_on { IfOk result (λ next. is_blank (get_or text.now i 0) ≡ false → (next ≡ at) × (words.new.items ≡ words.old.items)) }
+    ensures ends { IfOk result (λ next. is_blank (get_or text.now i 0) ≡ true → (next ≡ i + 1) × (words.new.items ≡ words.old.items ++ word_between at i)) }
+{
+    if !is_blank(text[i as usize]) {
+        return Ok(at);
+    }
+    push_word(at, i, words)?;
+    Ok(i + 1)
+}
+
+// Appends the bytes between two offsets as a token, unless there are none.
+fn push_word(at: u32, end: u32, words: &mut Vec<Run>) -> Result<(), NoMemory>
+    ensures { OnOk result (words.new.items ≡ words.old.items ++ word_between at end) }
+{
+    if at < end {
+        words.push(Run { at, end })?;
+    }
+    Ok(())
+}
+
+fn is_blank(byte: u8) -> bool
+    ensures { result ≡ is_blank byte }
+{
+    byte == b' ' || byte == b'\t' || byte == b'\r'
+}

@@ -1,6 +1,0 @@
--- A status with a text.
-use Rattle.std.specs.Prelude.{◌≡◌, ℕ, List}
-
--- this status with this text
-abbrev pub Says : ℕ → List ℕ → ℕ → List ℕ → Type 0
-Says due_status due_text status text = (status ≡ due_status) × (text ≡ due_text)

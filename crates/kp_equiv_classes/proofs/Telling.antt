@@ -1,0 +1,56 @@
+-- The nodes of any two well-formed netlists have classes that determine which trees are equivalent.
+use Rattle.std.proofs.Common.{ℕ, zero, suc, ◌≤◌, ◌<◌, ◌++◌, List, [], ◌∷◌, length, get_or, refl, subst, arith}
+use Rattle.std.specs.List.{position_or_len}
+use Rattle.std.proofs.lemmas.List.{get_or_default}
+use Rattle.indexmap.specs.IndexSet.{insert_key}
+use Rattle.kp_net.specs.declared.node.NodeId.{NodeId}
+use Rattle.kp_net.specs.declared.node.Node.{Node}
+use Rattle.kp_net.specs.Netlist.{Net}
+use Rattle.kp_net.specs.Parts.{NetOk}
+use Rattle.kp_net.specs.Widths.{Distinct, no_node}
+use Rattle.kp_net.proofs.Found.{is}
+use Rattle.kp_equiv_trees.specs.Classes.{class_in, Tells}
+use Rattle.kp_equiv_classes.specs.inner.Shapes.{Known, known_of, shape, Grown}
+use Rattle.kp_equiv_classes.proofs.Tables.{put, none_distinct}
+use Rattle.kp_equiv_classes.proofs.Growing.{none_grown, one_grown, classes_stay}
+use Rattle.kp_equiv_classes.proofs.Exactness.{tells}
+
+-- the classes of the first nodes of a netlist, in a table that has grown by them
+record Classed (ks : Known) (net : Net) (start : List Node) (i : ℕ) : Type 0 where
+  table : List Node
+  classes : List NodeId
+  grown : Grown ks net start table classes i
+
+classed : (ks : Known) (net : Net) (start : List Node) → NetOk net → Distinct start → (i : ℕ) → i ≤ length net.nodes → Classed ks net start i
+classed ks net start ok d zero h = record { table = start; classes = []; grown = none_grown ks net start d }
+classed ks net start ok d (suc i) h =
+    let c = classed ks net start ok d i (omega (arith, h)) in
+    let n : Node = get_or net.nodes i no_node in
+    let s : Node = shape ks net.parts (class_in c.classes) n in
+    let new : List Node = insert_key is c.table s in
+    let k : ℕ = position_or_len (is s) c.table in
+    let x : NodeId = record { 0 = k } in
+    let p = put c.table s new k c.grown.distinct refl refl in
+    let l : i < length net.nodes = omega (arith, h) in
+    record {
+      table = new;
+      classes = c.classes ++ x ∷ [];
+      grown = subst (Grown ks net start new (c.classes ++ x ∷ [])) (omega arith)
+          (one_grown ks net start c.table new net.nodes c.classes (c.classes ++ x ∷ []) x n s i ok refl l (get_or_default net.nodes i no_node n l) c.grown refl p.there p.inside p.extends p.count p.distinct refl);
+    }
+
+pub record SomeTells (a b : Net) : Type 0 where
+  pub first : List NodeId
+  pub second : List NodeId
+  pub tells : Tells a b first second
+
+pub some_tells : (a b : Net) → NetOk a → NetOk b → SomeTells a b
+some_tells a b oka okb =
+    let x = classed (known_of a) a [] oka none_distinct (length a.nodes) (omega arith) in
+    let y = classed (known_of a) b x.table okb x.grown.distinct (length b.nodes) (omega arith) in
+    record {
+      first = x.classes;
+      second = y.classes;
+      tells = tells a b y.table x.classes y.classes oka okb (classes_stay (known_of a) a x.table y.table x.classes x.grown.classes_are y.grown.extends) y.grown.classes_are
+          x.grown.count y.grown.count y.grown.distinct;
+    }

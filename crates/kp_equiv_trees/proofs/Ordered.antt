@@ -1,0 +1,263 @@
+-- The first root that does not agree, section by section.
+use Rattle.std.proofs.Common.{◌≡◌, ◌∙◌, ℕ, zero, suc, ◌+◌, ◌-◌, ◌<◌, ◌≤◌, ◌++◌, ◌||◌, Bool, true, false, cond, not, List, [], ◌∷◌, length, map, get_or, refl, sym, ap, subst, arith, ⊎_elim, Option, None, Some, length-append}
+use Rattle.std.specs.Bool.{Decides}
+use Rattle.std.specs.List.{filter}
+use Rattle.std.proofs.Math.ListN.{get_or-append}
+use Rattle.std.proofs.Math.Seq.{get_or-append_right}
+use Rattle.std.proofs.lemmas.Bool.{cases_lt, false≢true}
+use Rattle.std.proofs.lemmas.List.{length-map, get_or-map}
+use Rattle.kp_net.specs.declared.netlist.NetReg.{NetReg}
+use Rattle.kp_net.specs.declared.netlist.NetFile.{NetFile}
+use Rattle.kp_net.specs.declared.netlist.Parts.{Parts}
+use Rattle.kp_net.specs.Names.{same, among, Differ}
+use Rattle.kp_net.specs.Netlist.{Net}
+use Rattle.kp_net.specs.Parts.{no_reg, no_file}
+use Rattle.kp_equiv_trees.specs.Alike.{reg_name, file_name}
+use Rattle.kp_equiv_trees.specs.Named.{reg_names, file_names, HasNames}
+use Rattle.kp_equiv_trees.specs.Roots.{Root, Ports, Register, File, Full, Ue, Back, names_of_second, roots, RegsAlike, FilesAlike, PortsAgree, RegisterAgrees, FileAgrees, Agrees, AllAgree, IsFirstDifference}
+use Rattle.kp_equiv_trees.specs.Classes.{place}
+use Rattle.kp_equiv_trees.specs.Sections.{AgreeUpTo, Differing, FirstOf, behind_ports, joined}
+use Rattle.kp_equiv_trees.proofs.Naming.{among_at, one_number}
+use Rattle.kp_equiv_trees.proofs.Places.{at_place, has_place, reg_names_are, file_names_are, reg_count, file_count}
+
+-- one list of roots after another
+before_joins : (a b : Net) (xs ys : List Root) (m : ℕ) → AgreeUpTo a b xs (length xs) → AgreeUpTo a b ys m → AgreeUpTo a b (xs ++ ys) (length xs + m)
+before_joins a b xs ys m p q k l = ⊎_elim
+    (λ (h : k < length xs). subst (Agrees a b) (sym (get_or-append xs ys Ports k h)) (p k h))
+    (λ (h : length xs ≤ k). subst (Agrees a b) (sym (get_or-append_right xs ys k Ports h)) (q (k - length xs) (omega arith)))
+    (cases_lt k (length xs))
+
+here : (a b : Net) (xs ys : List Root) (n : ℕ) → Differing a b xs n → Differing a b (xs ++ ys) n
+here a b xs ys n d = record {
+  there = (let t = d.there in omega (arith, length-append xs ys));
+  before = λ k l. subst (Agrees a b) (sym (get_or-append xs ys Ports k (let t = d.there in omega arith))) (d.before k l);
+  differs = λ h. d.differs (subst (Agrees a b) (get_or-append xs ys Ports n d.there) h);
+}
+
+there : (a b : Net) (xs ys : List Root) (n : ℕ) → AgreeUpTo a b xs (length xs) → Differing a b ys n → Differing a b (xs ++ ys) (length xs + n)
+there a b xs ys n p d = record {
+  there = (let t = d.there in omega (arith, length-append xs ys));
+  before = before_joins a b xs ys n p d.before;
+  differs = λ h. d.differs (subst (Agrees a b) (get_or-append_right xs ys (length xs + n) Ports (omega arith) ∙ ap (λ (k : ℕ). get_or ys k Ports) (omega arith)) h);
+}
+
+pub joins : (a b : Net) (xs ys : List Root) (count : ℕ) (h r : Option ℕ) → (h ≡ None → length xs ≡ count) → FirstOf a b xs h → FirstOf a b ys r → FirstOf a b (xs ++ ys) (joined count h r)
+joins a b xs ys count (Some n) r e p q = here a b xs ys n p
+joins a b xs ys count None None e p q = subst (AgreeUpTo a b (xs ++ ys)) (sym (length-append xs ys)) (before_joins a b xs ys (length ys) p q)
+joins a b xs ys count None (Some n) e p q = subst (λ (k : ℕ). Differing a b (xs ++ ys) (k + n)) (e refl) (there a b xs ys n p q)
+
+pub all_behind : (a b : Net) (regs more files outputs whole : Option ℕ)
+    → FirstOf a b (map Register (reg_names a)) regs → FirstOf a b (map Register (names_of_second a b)) more → (more ≡ None → length (names_of_second a b) ≡ 0)
+    → FirstOf a b (map File (file_names a)) files → FirstOf a b (Full ∷ Ue ∷ Back ∷ []) outputs
+    → whole ≡ joined (length a.parts.regs) regs (joined 0 more (joined (length a.parts.files) files outputs)) → FirstOf a b (behind_ports a b) whole
+all_behind a b regs more files outputs whole hr hm none hf ho ew =
+    let s3 : List Root = map File (file_names a) ++ (Full ∷ Ue ∷ Back ∷ []) in
+    let s2 : List Root = map Register (names_of_second a b) ++ s3 in
+    let rc : ℕ = length a.parts.regs in
+    let fc : ℕ = length a.parts.files in
+    let back : Option ℕ = joined fc files outputs in
+    let front : Option ℕ = joined 0 more back in
+    let h3 : FirstOf a b s3 back = joins a b (map File (file_names a)) (Full ∷ Ue ∷ Back ∷ []) fc files outputs (λ _. length-map (file_names a) File ∙ file_count a) hf ho in
+    let h2 : FirstOf a b s2 front = joins a b (map Register (names_of_second a b)) s3 0 more back (λ e. length-map (names_of_second a b) Register ∙ none e) hm h3 in
+    subst (FirstOf a b (behind_ports a b)) (sym ew) (joins a b (map Register (reg_names a)) s2 rc regs front (λ _. length-map (reg_names a) Register ∙ reg_count a) hr h2)
+
+-- registers and files by their roots
+pub reg_root : (a : Net) (k : ℕ) → k < length a.parts.regs → get_or (map Register (reg_names a)) k Ports ≡ Register (reg_name a k)
+reg_root a k l = get_or-map Register (reg_names a) k [] Ports (omega (arith, reg_count a)) ∙ ap Register (reg_names_are a k)
+
+pub file_root : (a : Net) (k : ℕ) → k < length a.parts.files → get_or (map File (file_names a)) k Ports ≡ File (file_name a k)
+file_root a k l = get_or-map File (file_names a) k [] Ports (omega (arith, file_count a)) ∙ ap File (file_names_are a k)
+
+pub regs_upto : (a b : Net) (n : ℕ) → n ≤ length a.parts.regs → ((k : ℕ) → k < n → RegisterAgrees a b (reg_name a k)) → AgreeUpTo a b (map Register (reg_names a)) n
+regs_upto a b n h agree k l = subst (Agrees a b) (sym (reg_root a k (omega arith))) (agree k l)
+
+pub regs_all : (a b : Net) (n : ℕ) → length a.parts.regs ≡ n → ((k : ℕ) → k < n → RegisterAgrees a b (reg_name a k)) → AgreeUpTo a b (map Register (reg_names a)) (length (map Register (reg_names a)))
+regs_all a b n e agree = subst (AgreeUpTo a b (map Register (reg_names a))) (sym (length-map (reg_names a) Register ∙ reg_count a ∙ e)) (regs_upto a b n (omega (arith, e)) agree)
+
+pub regs_differ : (a b : Net) (n : ℕ) → n < length a.parts.regs → ((k : ℕ) → k < n → RegisterAgrees a b (reg_name a k)) → (RegisterAgrees a b (reg_name a n) → ⊥) → Differing a b (map Register (reg_names a)) n
+regs_differ a b n l agree never = record {
+  there = omega (arith, length-map (reg_names a) Register, reg_count a);
+  before = regs_upto a b n (omega arith) agree;
+  differs = λ h. never (subst (Agrees a b) (reg_root a n l) h);
+}
+
+pub files_upto : (a b : Net) (n : ℕ) → n ≤ length a.parts.files → ((k : ℕ) → k < n → FileAgrees a b (file_name a k)) → AgreeUpTo a b (map File (file_names a)) n
+files_upto a b n h agree k l = subst (Agrees a b) (sym (file_root a k (omega arith))) (agree k l)
+
+pub files_all : (a b : Net) (n : ℕ) → length a.parts.files ≡ n → ((k : ℕ) → k < n → FileAgrees a b (file_name a k)) → AgreeUpTo a b (map File (file_names a)) (length (map File (file_names a)))
+files_all a b n e agree = subst (AgreeUpTo a b (map File (file_names a))) (sym (length-map (file_names a) File ∙ file_count a ∙ e)) (files_upto a b n (omega (arith, e)) agree)
+
+pub files_differ : (a b : Net) (n : ℕ) → n < length a.parts.files → ((k : ℕ) → k < n → FileAgrees a b (file_name a k)) → (FileAgrees a b (file_name a n) → ⊥) → Differing a b (map File (file_names a)) n
+files_differ a b n l agree never = record {
+  there = omega (arith, length-map (file_names a) File, file_count a);
+  before = files_upto a b n (omega arith) agree;
+  differs = λ h. never (subst (Agrees a b) (file_root a n l) h);
+}
+
+-- a register agrees if its namesake is equivalent
+pub register_found : (a b : Net) (r q : ℕ) → Differ (reg_names a) → Differ (reg_names b) → r < length a.parts.regs → q < length b.parts.regs → reg_name b q ≡ reg_name a r → (t : Bool)
+    → Decides t (RegsAlike a b (get_or a.parts.regs r no_reg) (get_or b.parts.regs q no_reg)) → Decides t (RegisterAgrees a b (reg_name a r))
+register_found a b r q da db lr lq e t d = (
+  λ x. record { first = r; second = q; in_first = lr; in_second = lq; named_first = refl; named_second = e; alike = d.0 x },
+  λ h.
+      let er : h.first ≡ r = one_number (reg_names a) da h.first r (let l = h.in_first in omega (arith, reg_count a)) (omega (arith, reg_count a)) (reg_names_are a h.first ∙ h.named_first ∙ sym (reg_names_are a r)) in
+      let eq : h.second ≡ q = one_number (reg_names b) db h.second q (let l = h.in_second in omega (arith, reg_count b)) (omega (arith, reg_count b)) (reg_names_are b h.second ∙ h.named_second ∙ sym e ∙ sym (reg_names_are b q)) in
+      d.1 (subst (λ (k : ℕ). RegsAlike a b (get_or a.parts.regs k no_reg) (get_or b.parts.regs q no_reg)) er (subst (λ (k : ℕ). RegsAlike a b (get_or a.parts.regs h.first no_reg) (get_or b.parts.regs k no_reg)) eq h.alike)),
+)
+
+pub register_missing : (a b : Net) (name : List ℕ) → place (reg_names b) name ≡ length (reg_names b) → RegisterAgrees a b name → ⊥
+register_missing a b name e h =
+    let l : place (reg_names b) name < length (reg_names b) = has_place (reg_names b) h.second name (let q = h.in_second in omega (arith, reg_count b)) (reg_names_are b h.second ∙ h.named_second) in
+    omega (arith, e)
+
+pub file_found : (a b : Net) (f g : ℕ) → Differ (file_names a) → Differ (file_names b) → f < length a.parts.files → g < length b.parts.files → file_name b g ≡ file_name a f → (t : Bool)
+    → Decides t (FilesAlike a b (get_or a.parts.files f no_file) (get_or b.parts.files g no_file)) → Decides t (FileAgrees a b (file_name a f))
+file_found a b f g da db lf lg e t d = (
+  λ x. record { first = f; second = g; in_first = lf; in_second = lg; named_first = refl; named_second = e; alike = d.0 x },
+  λ h.
+      let ef : h.first ≡ f = one_number (file_names a) da h.first f (let l = h.in_first in omega (arith, file_count a)) (omega (arith, file_count a)) (file_names_are a h.first ∙ h.named_first ∙ sym (file_names_are a f)) in
+      let eg : h.second ≡ g = one_number (file_names b) db h.second g (let l = h.in_second in omega (arith, file_count b)) (omega (arith, file_count b)) (file_names_are b h.second ∙ h.named_second ∙ sym e ∙ sym (file_names_are b g)) in
+      d.1 (subst (λ (k : ℕ). FilesAlike a b (get_or a.parts.files k no_file) (get_or b.parts.files g no_file)) ef (subst (λ (k : ℕ). FilesAlike a b (get_or a.parts.files h.first no_file) (get_or b.parts.files k no_file)) eg h.alike)),
+)
+
+pub file_missing : (a b : Net) (name : List ℕ) → place (file_names b) name ≡ length (file_names b) → FileAgrees a b name → ⊥
+file_missing a b name e h =
+    let l : place (file_names b) name < length (file_names b) = has_place (file_names b) h.second name (let q = h.in_second in omega (arith, file_count b)) (file_names_are b h.second ∙ h.named_second) in
+    omega (arith, e)
+
+-- the name at an index of the second is this one
+pub namesake : (b : Net) (name : List ℕ) (q : ℕ) → q < length (reg_names b) → place (reg_names b) name ≡ q → reg_name b q ≡ name
+namesake b name q l e = sym (at_place (reg_names b) name (omega (arith, e)) ∙ ap (λ (k : ℕ). get_or (reg_names b) k []) e ∙ reg_names_are b q)
+
+pub file_namesake : (b : Net) (name : List ℕ) (g : ℕ) → g < length (file_names b) → place (file_names b) name ≡ g → file_name b g ≡ name
+file_namesake b name g l e = sym (at_place (file_names b) name (omega (arith, e)) ∙ ap (λ (k : ℕ). get_or (file_names b) k []) e ∙ file_names_are b g)
+
+-- what a filter retains
+filter_none : (test : List ℕ → Bool) (xs : List (List ℕ)) → ((k : ℕ) → k < length xs → test (get_or xs k []) ≡ false) → length (filter test xs) ≡ 0
+filter_none test [] h = refl
+filter_none test (x ∷ xs) h =
+    ap (λ (b : Bool). length (cond b (x ∷ filter test xs) (filter test xs))) (h 0 (omega arith)) ∙ filter_none test xs (λ k l. h (suc k) (omega arith))
+
+pub filter_some : (test : List ℕ → Bool) (xs : List (List ℕ)) (k : ℕ) → k < length xs → test (get_or xs k []) ≡ true → 0 < length (filter test xs)
+filter_some test [] k l e = absurd (omega (arith, l))
+filter_some test (x ∷ xs) zero l e = subst (λ (b : Bool). 0 < length (cond b (x ∷ filter test xs) (filter test xs))) (sym e) (omega arith)
+filter_some test (x ∷ xs) (suc k) l e = by (test x) (filter_some test xs k (omega (arith, l)) e)
+  where
+    by : (b : Bool) → 0 < length (filter test xs) → 0 < length (cond b (x ∷ filter test xs) (filter test xs))
+    by true h = omega arith
+    by false h = h
+
+filter_passes : (test : List ℕ → Bool) (xs : List (List ℕ)) → 0 < length (filter test xs) → test (get_or (filter test xs) 0 []) ≡ true
+filter_passes test [] l = absurd (omega (arith, l))
+filter_passes test (x ∷ xs) l = by (test x) refl (filter_passes test xs) l
+  where
+    by : (b : Bool) → test x ≡ b → (0 < length (filter test xs) → test (get_or (filter test xs) 0 []) ≡ true) → 0 < length (cond b (x ∷ filter test xs) (filter test xs)) → test (get_or (cond b (x ∷ filter test xs) (filter test xs)) 0 []) ≡ true
+    by true e rest l = e
+    by false e rest l = rest l
+
+-- a register of the second whose name the first has, and one that it doesn't have
+among_has : (ns : List (List ℕ)) (n : List ℕ) → among ns n ≡ true → place ns n < length ns
+among_has [] n e = absurd (false≢true e)
+among_has (m ∷ ns) n e = by (same n m) refl (among_has ns n) e
+  where
+    by : (b : Bool) → same n m ≡ b → (among ns n ≡ true → place ns n < length ns) → (b || among ns n) ≡ true → place (m ∷ ns) n < suc (length ns)
+    by true f rest g = subst (λ (c : Bool). cond (not c) (1 + place ns n) 0 < suc (length ns)) (sym f) (omega arith)
+    by false f rest g = let l = rest g in subst (λ (c : Bool). cond (not c) (1 + place ns n) 0 < suc (length ns)) (sym f) (omega arith)
+
+abbrev pub is_new : Net → List ℕ → Bool
+is_new a n = not (among (reg_names a) n)
+
+pub among_reg : (a : Net) (name : List ℕ) → among (reg_names a) name ≡ true → (r : ℕ) × (r < length a.parts.regs) × (reg_name a r ≡ name)
+among_reg a name e =
+    let l : place (reg_names a) name < length (reg_names a) = among_has (reg_names a) name e in
+    (place (reg_names a) name, omega (arith, reg_count a), sym (reg_names_are a (place (reg_names a) name)) ∙ sym (at_place (reg_names a) name l))
+
+-- a register that only the second has never agrees
+pub second_never : (a b : Net) → RegisterAgrees a b (get_or (names_of_second a b) 0 []) → 0 < length (names_of_second a b) → ⊥
+second_never a b r some =
+    let head : List ℕ = get_or (names_of_second a b) 0 [] in
+    let passes : is_new a head ≡ true = filter_passes (is_new a) (reg_names b) some in
+    let there : among (reg_names a) head ≡ true = among_at (reg_names a) r.first head (let q = r.in_first in omega (arith, reg_count a)) (reg_names_are a r.first ∙ r.named_first) in
+    false≢true (ap not (sym there) ∙ passes)
+
+pub none_of_second : (a b : Net) (n : ℕ) → length b.parts.regs ≤ n → ((k : ℕ) → k < n → k < length b.parts.regs → among (reg_names a) (reg_name b k) ≡ true) → length (names_of_second a b) ≡ 0
+none_of_second a b n h known = filter_none (is_new a) (reg_names b) (λ k l.
+    let m : k < length b.parts.regs = omega (arith, reg_count b) in
+    ap (is_new a) (reg_names_are b k) ∙ ap not (known k (omega arith) m))
+
+pub second_agrees : (a b : Net) → length (names_of_second a b) ≡ 0 → AgreeUpTo a b (map Register (names_of_second a b)) (length (map Register (names_of_second a b)))
+second_agrees a b e = λ k l. absurd (omega (arith, e, length-map (names_of_second a b) Register))
+
+pub second_differs : (a b : Net) (k : ℕ) → k < length b.parts.regs → among (reg_names a) (reg_name b k) ≡ false → Differing a b (map Register (names_of_second a b)) 0
+second_differs a b k l e =
+    let new : is_new a (get_or (reg_names b) k []) ≡ true = ap (is_new a) (reg_names_are b k) ∙ ap not e in
+    let some : 0 < length (names_of_second a b) = filter_some (is_new a) (reg_names b) k (omega (arith, reg_count b)) new in
+    record {
+      there = omega (arith, length-map (names_of_second a b) Register);
+      before = λ j m. absurd (omega (arith, m));
+      differs = λ h. second_never a b (subst (Agrees a b) (get_or-map Register (names_of_second a b) 0 [] Ports some) h) some;
+    }
+
+-- all of them
+pub all_agree : (a b : Net) → PortsAgree a b → AgreeUpTo a b (behind_ports a b) (length (behind_ports a b)) → AllAgree a b
+unfolding roots
+all_agree a b p h = record { agree = by }
+  where
+    by : (k : ℕ) → k < suc (length (behind_ports a b)) → Agrees a b (get_or (Ports ∷ behind_ports a b) k Ports)
+    by zero l = p
+    by (suc k) l = h k (omega (arith, l))
+
+pub ports_differ : (a b : Net) → (PortsAgree a b → ⊥) → IsFirstDifference a b 0
+unfolding roots
+ports_differ a b never = record { there = omega arith; before = λ k l. absurd (omega (arith, l)); differs = never }
+
+pub later_differs : (a b : Net) (n : ℕ) → PortsAgree a b → Differing a b (behind_ports a b) n → IsFirstDifference a b (n + 1)
+unfolding roots
+later_differs a b n p d = subst (IsFirstDifference a b) (omega arith) whole
+  where
+    by : (k : ℕ) → k < suc n → Agrees a b (get_or (Ports ∷ behind_ports a b) k Ports)
+    by zero l = p
+    by (suc k) l = d.before k (omega (arith, l))
+
+    whole : IsFirstDifference a b (suc n)
+    whole = record { there = (let t = d.there in omega arith); before = by; differs = d.differs }
+
+-- what a look-up determines about a register, and about a file
+pub missing_reg : (a b : Net) (i : ℕ) (r : NetReg) (ns : List (List ℕ)) → r ≡ get_or a.parts.regs i no_reg → ns ≡ reg_names b → place ns r.name ≡ length ns → Decides false (RegisterAgrees a b (reg_name a i))
+missing_reg a b i r ns is names e =
+    let f : place (reg_names b) (reg_name a i) ≡ length (reg_names b) = subst (λ (x : NetReg). place (reg_names b) x.name ≡ length (reg_names b)) is (subst (λ (ks : List (List ℕ)). place ks r.name ≡ length ks) names e) in
+    (λ t. absurd (false≢true t), λ h. absurd (register_missing a b (reg_name a i) f h))
+
+pub found_reg : (a b : Net) (i q : ℕ) (r s : NetReg) (ns : List (List ℕ)) → r ≡ get_or a.parts.regs i no_reg → s ≡ get_or b.parts.regs q no_reg → ns ≡ reg_names b → HasNames a → HasNames b → i < length a.parts.regs
+    → (q < length ns) × (place ns r.name ≡ q) → (t : Bool) → Decides t (RegsAlike a b r s) → Decides t (RegisterAgrees a b (reg_name a i))
+found_reg a b i q r s ns is at_q names da db l found t d =
+    let lq : q < length (reg_names b) = subst (λ (ks : List (List ℕ)). q < length ks) names found.0 in
+    let e : place (reg_names b) (reg_name a i) ≡ q = subst (λ (x : NetReg). place (reg_names b) x.name ≡ q) is (subst (λ (ks : List (List ℕ)). place ks r.name ≡ q) names found.1) in
+    register_found a b i q da.regs db.regs l (omega (arith, lq, reg_count b)) (namesake b (reg_name a i) q lq e) t
+    (subst (λ (x : NetReg). Decides t (RegsAlike a b x (get_or b.parts.regs q no_reg))) is (subst (λ (x : NetReg). Decides t (RegsAlike a b r x)) at_q d))
+
+pub missing_file : (a b : Net) (i : ℕ) (f : NetFile) (ns : List (List ℕ)) → f ≡ get_or a.parts.files i no_file → ns ≡ file_names b → place ns f.name ≡ length ns → Decides false (FileAgrees a b (file_name a i))
+missing_file a b i f ns is names e =
+    let g : place (file_names b) (file_name a i) ≡ length (file_names b) = subst (λ (x : NetFile). place (file_names b) x.name ≡ length (file_names b)) is (subst (λ (ks : List (List ℕ)). place ks f.name ≡ length ks) names e) in
+    (λ t. absurd (false≢true t), λ h. absurd (file_missing a b (file_name a i) g h))
+
+pub found_file : (a b : Net) (i q : ℕ) (f s : NetFile) (ns : List (List ℕ)) → f ≡ get_or a.parts.files i no_file → s ≡ get_or b.parts.files q no_file → ns ≡ file_names b → HasNames a → HasNames b → i < length a.parts.files
+    → (q < length ns) × (place ns f.name ≡ q) → (t : Bool) → Decides t (FilesAlike a b f s) → Decides t (FileAgrees a b (file_name a i))
+found_file a b i q f s ns is at_q names da db l found t d =
+    let lq : q < length (file_names b) = subst (λ (ks : List (List ℕ)). q < length ks) names found.0 in
+    let e : place (file_names b) (file_name a i) ≡ q = subst (λ (x : NetFile). place (file_names b) x.name ≡ q) is (subst (λ (ks : List (List ℕ)). place ks f.name ≡ q) names found.1) in
+    file_found a b i q da.files db.files l (omega (arith, lq, file_count b)) (file_namesake b (file_name a i) q lq e) t
+    (subst (λ (x : NetFile). Decides t (FilesAlike a b x (get_or b.parts.files q no_file))) is (subst (λ (x : NetFile). Decides t (FilesAlike a b f x)) at_q d))
+
+-- what a test of the inputs determines
+abbrev SameInputs : Parts → Parts → Type 0
+SameInputs p q = (p.reset ≡ q.reset) × (p.ext ≡ q.ext) × (p.samples ≡ q.samples)
+
+pub ports_of : (a b : Net) (p q : Parts) → p ≡ a.parts → q ≡ b.parts → SameInputs p q → PortsAgree a b
+ports_of a b p q e f h =
+    let g : SameInputs a.parts b.parts = subst (λ (x : Parts). SameInputs x b.parts) e (subst (λ (x : Parts). SameInputs p x) f h) in
+    record { reset = g.0; ext = g.1; samples = g.2 }
+
+pub of_ports : (a b : Net) (p q : Parts) → p ≡ a.parts → q ≡ b.parts → PortsAgree a b → SameInputs p q
+of_ports a b p q e f h =
+    subst (λ (x : Parts). SameInputs x q) (sym e) (subst (λ (x : Parts). SameInputs a.parts x) (sym f) (h.reset, h.ext, h.samples))

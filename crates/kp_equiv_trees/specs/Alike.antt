@@ -1,0 +1,75 @@
+-- EQUIVALENT TREES.
+-- The tree of a node is the node with the trees of its operands in place of their numbers. In it a register, a file and a sample port are identified
+-- by name. Two trees are equivalent if they are equal up to the order of the two operands of `& | ^ + * ==`, at every depth.
+use Rattle.std.specs.Prelude.{ℕ, zero, suc, ◌<◌, ◌≡◌, ◌⊎◌, Bool, true, false, List, [], ◌∷◌, length, get_or}
+use Rattle.kp_bits.specs.declared.operator.BinOp.{BinOp}
+use Rattle.kp_net.specs.declared.node.NodeId.{NodeId}
+use Rattle.kp_net.specs.declared.node.Kind.{Kind}
+use Rattle.kp_net.specs.declared.node.Kind.TheVariants.{Const, Ext, Sample, Reg, Word, Not, Binary, Mux, Concat, Slice}
+use Rattle.kp_net.specs.declared.node.Node.{Node}
+use Rattle.kp_net.specs.Netlist.{Net}
+use Rattle.kp_net.specs.Parts.{no_port, no_reg, no_file}
+use Rattle.kp_net.specs.Widths.{no_node}
+
+-- `& | ^ + * ==`
+abbrev pub commutes : BinOp → Bool
+commutes BinOp.And = true
+commutes BinOp.Or = true
+commutes BinOp.Xor = true
+commutes BinOp.Add = true
+commutes BinOp.Mul = true
+commutes BinOp.Eq = true
+commutes _ = false
+
+-- the names of a register, a file and a sample port, by their numbers
+abbrev pub reg_name : Net → ℕ → List ℕ
+reg_name net r = (get_or net.parts.regs r no_reg).name
+
+abbrev pub file_name : Net → ℕ → List ℕ
+file_name net f = (get_or net.parts.files f no_file).name
+
+abbrev pub sample_name : Net → ℕ → List ℕ
+sample_name net s = (get_or net.parts.samples s no_port).name
+
+-- a relation on the nodes of two netlists, by their numbers
+abbrev pub Relation : Type 1
+Relation = NodeId → NodeId → Type 0
+
+-- as many operands on both sides, each related to the one at the same index
+abbrev pub AllRelated : Relation → List NodeId → List NodeId → Type 0
+AllRelated R [] [] = Unit {0}
+AllRelated R (x ∷ xs) (y ∷ ys) = R x y × AllRelated R xs ys
+AllRelated R _ _ = ⊥
+
+-- two operands each, related in this order or, if the operator commutes, in the other one
+abbrev pub PairRelated : Relation → BinOp → NodeId → NodeId → NodeId → NodeId → Type 0
+PairRelated R op x y u v = (R x u × R y v) ⊎ ((commutes op ≡ true) × R x v × R y u)
+
+-- nodes of two netlists have the same operation, with operands that are related
+abbrev pub KindAlike : Relation → Net → Net → Kind → Kind → Type 0
+KindAlike R a b (Const n) (Const m) = n ≡ m
+KindAlike R a b Ext Ext = Unit {0}
+KindAlike R a b (Sample s) (Sample t) = sample_name a s ≡ sample_name b t
+KindAlike R a b (Reg r) (Reg q) = reg_name a r ≡ reg_name b q
+KindAlike R a b (Word f x) (Word g y) = (file_name a f ≡ file_name b g) × R x y
+KindAlike R a b (Not x) (Not y) = R x y
+KindAlike R a b (Binary op x y) (Binary p u v) = (op ≡ p) × PairRelated R op x y u v
+KindAlike R a b (Mux t x y) (Mux s u v) = R t s × R x u × R y v
+KindAlike R a b (Concat xs) (Concat ys) = AllRelated R xs ys
+KindAlike R a b (Slice x h l) (Slice y i m) = R x y × (h ≡ i) × (l ≡ m)
+KindAlike R a b _ _ = ⊥
+
+-- two nodes of the same width with the same operation
+abbrev pub NodeAlike : Relation → Net → Net → Node → Node → Type 0
+NodeAlike R a b n m = (n.width ≡ m.width) × KindAlike R a b n.kind m.kind
+
+-- node i of a and node j of b have equivalent trees, up to d levels
+unfoldable pub AlikeWithin : Net → Net → ℕ → NodeId → NodeId → Type 0
+AlikeWithin a b zero i j = ⊥
+AlikeWithin a b (suc d) i j =
+    (i.0 < length a.nodes) × (j.0 < length b.nodes) × NodeAlike (AlikeWithin a b d) a b (get_or a.nodes i.0 no_node) (get_or b.nodes j.0 no_node)
+
+-- node i of a and node j of b have equivalent trees
+pub record Alike (a b : Net) (i j : NodeId) : Type 0 where
+  pub levels : ℕ
+  pub alike : AlikeWithin a b levels i j

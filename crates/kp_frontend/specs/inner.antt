@@ -1,0 +1,2 @@
+-- These modules are for private contracts and proofs: a reader need not trust them.
+pub mod Reading

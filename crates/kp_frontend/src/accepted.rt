@@ -1,0 +1,29 @@
+// A job that violates no rule, alone or at the head of an input.
+ghost use Rattle.std.specs.Prelude.{◌≡◌, ◌<◌, ◌^◌, length, None};
+ghost use Rattle.kp_base.specs.First.{first};
+ghost use Rattle.kp_stage.specs.Start.{start_of, stall_word, input};
+ghost use Rattle.kp_image.specs.Sections.{sections_of};
+ghost use Rattle.kp_image.specs.Spans.{word_in};
+ghost use Rattle.kp_image.specs.Feeds.{row_in};
+
+use kp_image::Sections;
+use kp_stage::Design;
+
+/// A job that violates no rule: its design, and the contents of its sections.
+#[derive(Drop)]
+pub struct Accepted {
+    pub design: Design,
+    pub sections: Sections,
+    pub ghost few: { length design.job.decls < 2 ^ 32 },
+    pub ghost start: { sections.start ≡ start_of design.job },
+    pub ghost stalls: { word_in sections.stalls ≡ stall_word design.job },
+    pub ghost inputs: { row_in sections.inputs ≡ input design.job },
+    pub ghost unbroken: { first (sections_of design.job).asked ≡ None },
+}
+
+/// A job at the head of an input, and the offset after its `end`, where the rest starts.
+#[derive(Drop)]
+pub struct Head {
+    pub job: Accepted,
+    pub rest: u32,
+}

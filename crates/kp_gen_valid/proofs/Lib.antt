@@ -1,0 +1,17 @@
+pub mod Forms
+pub mod Lookups
+mod Steps
+pub mod Texts
+mod Declarations
+mod Statements
+pub mod NamesHold
+mod Walks
+mod Finds
+mod Declared
+mod Puts
+mod Sets
+mod Asked
+mod Kept
+mod Totals
+mod Small
+mod Holds

@@ -1,0 +1,411 @@
+-- The numbers of a generated job are within the limits of E28 and E29.
+use Rattle.std.proofs.Common.{◌≡◌, ◌∙◌, ℕ, zero, suc, ◌+◌, ◌-◌, ◌*◌, ◌≤◌, ◌%◌, List, [], ◌∷◌, ◌++◌, length, map, None, Some, Bool, true, false, refl, ap, arith}
+use Rattle.std.specs.Prelude.{◌&&◌, ◌==◌, nat_le, codes, sum_by}
+use Rattle.std.specs.List.{range_with_len}
+use Rattle.std.proofs.lemmas.Bool.{le-leb}
+use Rattle.std.proofs.lemmas.List.{length-append}
+use Rattle.std.proofs.lemmas.List.Sums.{sum_by-cons, sum_by-append}
+use Rattle.kp_base.specs.First.{first}
+use Rattle.kp_base.specs.Check.{Check, Answer, answer}
+use Rattle.kp_base.specs.Refusal.{e_rule}
+use Rattle.kp_base.specs.declared.refusal.Refusal.{Refusal}
+use Rattle.kp_bits.specs.declared.operator.BinOp.{BinOp}
+use Rattle.kp_ast.specs.Size.{size, size_of_kind as size_of_form, size_of_level, bodies_of}
+use Rattle.kp_ast.specs.declared.tree.Expr.{Expr}
+use Rattle.kp_ast.specs.declared.tree.Decl.{Decl}
+use Rattle.kp_ast.specs.declared.tree.Stmt.{Stmt}
+use Rattle.kp_ast.proofs.Levels.{fold-Lit, fold-Name, fold-Binary, fold-Slice}
+use Rattle.kp_width.specs.Declarations.{functions_in, name_of}
+use Rattle.kp_stage.specs.Sizes.{size_of_stmt, stmts_sized, blocks_sized, sizes_of}
+use Rattle.kp_stage.specs.Counts.{regs_in, files_in, pipes_in, results_in, hints_in, samples_in, reads_in, guesses_in, is_within, nothing_counted, with_decl, with_stmt, place_of_read, decls_counted, stmts_counted, blocks_counted, counts_of}
+use Rattle.kp_gen.specs.declared.draws.Route.{Route}
+use Rattle.kp_gen.specs.Generated.{place, name, number, binary, low_byte, read_name, pipe_name, result_of, set, file_read, address_put, value_put, file_set, file_sets, for_each, sets_from, first_stmts, later_stmts, later_block, all_decls, all_blocks, job_of}
+use Rattle.kp_gen_valid.proofs.Forms.{register, pipe, read, put, file, pipe_AF, pipe_VF, file_result}
+use Rattle.kp_gen_valid.proofs.Lookups.{either}
+
+-- the counts of kp_stage: their types
+abbrev TypeOf : {X : Type 0} → X → Type 0
+TypeOf {X} x = X
+
+abbrev Counts : Type 0
+Counts = TypeOf nothing_counted
+
+-- what follows a check without a violation
+past : (a : Answer) (more : List Answer) → a ≡ None → first more ≡ None → first (a ∷ more) ≡ None
+past None more e f = f
+past (Some r) more e f = cc
+
+one_list : (xs ys : List Answer) → first xs ≡ None → first ys ≡ None → first (xs ++ ys) ≡ None
+one_list [] ys e f = f
+one_list (None ∷ xs) ys e f = one_list xs ys e f
+one_list (Some r ∷ xs) ys e f = cc
+
+holding : (b : Bool) (r : Refusal) → b ≡ true → answer b r ≡ None
+holding true r e = refl
+holding false r e = cc
+
+both : (a b : Bool) → a ≡ true → b ≡ true → (a && b) ≡ true
+both a b e f = rw (e, f) refl
+
+-- the number of statements
+length_each : {X : Type 0} (make : ℕ → Route → X) (j : ℕ) (rs : List Route) → length (for_each make j rs) ≡ length rs
+length_each make j [] = refl
+length_each make j (r ∷ rs) = ap suc (length_each make (j + 1) rs)
+
+pub length_decls : (n : ℕ) (rs : List Route) → length (all_decls n rs) ≡ length rs + length rs + length rs + 4
+length_decls n rs =
+    let x : List Decl = for_each register 0 rs in
+    let y : List Decl = file ∷ for_each pipe 0 rs in
+    let z : List Decl = pipe_AF ∷ pipe_VF ∷ for_each result_of 0 rs in
+    let a = length-append ((x ++ y) ++ z) (file_result n ∷ []) in
+    let b = length-append (x ++ y) z in
+    let c = length-append x y in
+    let d = length_each register 0 rs in
+    let e = length_each pipe 0 rs in
+    let f = length_each result_of 0 rs in
+    omega (arith, a, b, c, d, e, f)
+
+length_first : (rs : List Route) → length (first_stmts rs) ≡ length rs + length rs + 3
+length_first rs =
+    let puts : List Stmt = for_each (put (length rs)) 0 rs in
+    let a = length-append (for_each read 0 rs ++ file_read ∷ puts) (address_put ∷ value_put ∷ []) in
+    let b = length-append (for_each read 0 rs) (file_read ∷ puts) in
+    let c = length_each read 0 rs in
+    let d = length_each (put (length rs)) 0 rs in
+    omega (arith, a, b, c, d)
+
+length_sets : (k j : ℕ) (rs : List Route) → length (sets_from k j rs) ≤ length rs
+length_sets k j [] = omega arith
+length_sets k j (r ∷ rs) =
+    either (r.set == k)
+    (λ e. rw e (let h = length_sets k (j + 1) rs in omega (arith, h)))
+    (λ e. rw e (let h = length_sets k (j + 1) rs in omega (arith, h)))
+
+length_last : (k : ℕ) → length (file_sets k) ≤ 1
+length_last k = either (k == 1) (λ e. rw e (omega arith)) (λ e. rw e (omega arith))
+
+length_later : (rs : List Route) (k : ℕ) → length (later_stmts rs k) ≤ length rs + 1
+length_later rs k =
+    let a = length-append (sets_from k 0 rs) (file_sets k) in
+    let b = length_sets k 0 rs in
+    let c = length_last k in
+    omega (arith, a, b, c)
+
+-- E28: no statement is larger than 5.
+module _ (ds : List Decl) where
+  abbrev sized : Expr → ℕ
+  sized = size ds
+
+  of_name : (q : List ℕ) → sized (name q) ≡ 1
+  of_name q = fold-Name ℕ ℕ (size_of_form (bodies_of ds)) size_of_level place q
+
+  of_number : (w v : ℕ) → sized (number w v) ≡ 1
+  of_number w v = fold-Lit ℕ ℕ (size_of_form (bodies_of ds)) size_of_level place (record { width = w; value = v })
+
+  of_binary : (op : BinOp) (a b : Expr) → sized (binary op a b) ≡ 1 + (sized a + sized b)
+  of_binary op a b = fold-Binary ℕ ℕ (size_of_form (bodies_of ds)) size_of_level place op a b
+
+  of_byte : (q : List ℕ) → sized (low_byte q) ≡ 2
+  of_byte q = fold-Slice ℕ ℕ (size_of_form (bodies_of ds)) size_of_level place (name q) 7 0 ∙ ap (λ (k : ℕ). 1 + k) (of_name q)
+
+  abbrev Small : Stmt → Type 0
+  Small s = size_of_stmt ds s ≤ 5
+
+  small_put : (m i : ℕ) (r : Route) → Small (put m i r)
+  small_put m i r =
+      let e = of_binary BinOp.Add (name (read_name i)) (name (read_name ((i + 1) % m))) in
+      let a = of_name (read_name i) in
+      let b = of_name (read_name ((i + 1) % m)) in
+      omega (arith, e, a, b)
+
+  small_set : (i : ℕ) (r : Route) → Small (set i r)
+  small_set i r =
+      let shift : Expr = binary BinOp.Shl (name (pipe_name r.other)) (number 1 1) in
+      let e = of_binary BinOp.Xor (name (pipe_name i)) shift in
+      let f = of_binary BinOp.Shl (name (pipe_name r.other)) (number 1 1) in
+      let a = of_name (pipe_name i) in
+      let b = of_name (pipe_name r.other) in
+      let c = of_number 1 1 in
+      omega (arith, e, f, a, b, c)
+
+  small_file_read : Small file_read
+  small_file_read = let e = of_byte (read_name 1) in omega (arith, e)
+
+  small_address : Small address_put
+  small_address = let e = of_byte (read_name 0) in omega (arith, e)
+
+  small_value : Small value_put
+  small_value = let e = of_name (codes "f") in omega (arith, e)
+
+  small_file_set : Small file_set
+  small_file_set =
+      let e = of_binary BinOp.Add (name (pipe_name 0)) (name (codes "VF")) in
+      let a = of_name (pipe_name 0) in
+      let b = of_name (codes "VF") in
+      omega (arith, e, a, b)
+
+  -- the sum over these statements is at most `most`, and no check is violated
+  record Sized (most : ℕ) (c : Check ℕ) : Type 0 where
+    pub none : first c.asked ≡ None
+    pub bound : c.value ≤ most
+
+  abbrev AllSmall : List Stmt → Type 0
+  AllSmall [] = Unit {0}
+  AllSmall (s ∷ ss) = Small s × AllSmall ss
+
+  small_append : (xs ys : List Stmt) → AllSmall xs → AllSmall ys → AllSmall (xs ++ ys)
+  small_append [] ys a b = b
+  small_append (x ∷ xs) ys a b = (a.0, small_append xs ys a.1 b)
+
+  small_each : (make : ℕ → Route → Stmt) (j : ℕ) (rs : List Route) → ((i : ℕ) (r : Route) → Small (make i r)) → AllSmall (for_each make j rs)
+  small_each make j [] h = tt
+  small_each make j (r ∷ rs) h = (h j r, small_each make (j + 1) rs h)
+
+  small_sets : (k j : ℕ) (rs : List Route) → AllSmall (sets_from k j rs)
+  small_sets k j [] = tt
+  small_sets k j (r ∷ rs) = either (r.set == k) (λ e. rw e (small_set j r, small_sets k (j + 1) rs)) (λ e. rw e (small_sets k (j + 1) rs))
+
+  small_last : (k : ℕ) → AllSmall (file_sets k)
+  small_last k = either (k == 1) (λ e. rw e (small_file_set, tt)) (λ e. rw e tt)
+
+  small_first : (rs : List Route) → AllSmall (first_stmts rs)
+  small_first rs =
+      small_append (for_each read 0 rs ++ file_read ∷ for_each (put (length rs)) 0 rs) (address_put ∷ value_put ∷ [])
+      (small_append (for_each read 0 rs) (file_read ∷ for_each (put (length rs)) 0 rs) (small_each read 0 rs (λ i r. omega arith)) (small_file_read, small_each (put (length rs)) 0 rs (small_put (length rs))))
+      (small_address, (small_value, tt))
+
+  stmts_fit : (total : ℕ) (ss : List Stmt) → AllSmall ss → total + 5 * length ss ≤ 100000 → Sized (total + 5 * length ss) (stmts_sized ds total ss)
+  stmts_fit total [] all h = record { none = refl; bound = omega arith }
+  stmts_fit total (s ∷ ss) all h =
+      let one : size_of_stmt ds s ≤ 5 = all.0 in
+      let more = stmts_fit (total + size_of_stmt ds s) ss all.1 (omega (arith, one, h)) in
+      let limit = more.bound in
+      record {
+        none = past (answer (nat_le (total + size_of_stmt ds s) 100000) (e_rule 28 s.at)) (stmts_sized ds (total + size_of_stmt ds s) ss).asked
+            (holding (nat_le (total + size_of_stmt ds s) 100000) (e_rule 28 s.at) (le-leb (total + size_of_stmt ds s) 100000 (omega (arith, one, h)))) more.none;
+        bound = omega (arith, one, limit);
+      }
+
+  small_later : (rs : List Route) (k : ℕ) → AllSmall (later_stmts rs k)
+  small_later rs k = small_append (sets_from k 0 rs) (file_sets k) (small_sets k 0 rs) (small_last k)
+
+  later_fit : (total k c : ℕ) (rs : List Route) → length rs ≤ 35 → total + 180 * c ≤ 100000
+      → first (blocks_sized ds total (map (later_block rs) (range_with_len k c))).asked ≡ None
+  later_fit total k zero rs few h = refl
+  later_fit total k (suc c) rs few h =
+      let l = length_later rs k in
+      let here = stmts_fit total (later_stmts rs k) (small_later rs k) (omega (arith, h, l, few)) in
+      let b = here.bound in
+      one_list (stmts_sized ds total (later_stmts rs k)).asked (blocks_sized ds (stmts_sized ds total (later_stmts rs k)).value (map (later_block rs) (range_with_len (k + 1) c))).asked
+      here.none (later_fit (stmts_sized ds total (later_stmts rs k)).value (k + 1) c rs few (omega (arith, h, l, b, few)))
+
+  blocks_fit : (n : ℕ) (rs : List Route) → n ≤ 12 → length rs ≤ 35 → first (blocks_sized ds 0 (all_blocks n rs)).asked ≡ None
+  blocks_fit n rs most few =
+      let l = length_first rs in
+      let here = stmts_fit 0 (first_stmts rs) (small_first rs) (omega (arith, l, few)) in
+      let b = here.bound in
+      one_list (stmts_sized ds 0 (first_stmts rs)).asked (blocks_sized ds (stmts_sized ds 0 (first_stmts rs)).value (map (later_block rs) (range_with_len 1 (n - 1)))).asked
+      here.none (later_fit (stmts_sized ds 0 (first_stmts rs)).value 1 (n - 1) rs few (omega (arith, l, b, few, most)))
+
+pub sizes_kept : (n : ℕ) (rs : List Route) → n ≤ 12 → length rs ≤ 35 → first (sizes_of (job_of n rs)).asked ≡ None
+unfolding sizes_of job_of
+sizes_kept n rs most few = blocks_fit (all_decls n rs) n rs most few
+
+-- E29: the counts stay within their limits, also with these declarations
+record Room (c : Counts) (ds : List Decl) : Type 0 where
+  pub regs : c.regs + sum_by regs_in ds ≤ 64
+  pub files : c.files + sum_by files_in ds ≤ 16
+  pub pipes : c.pipes + sum_by pipes_in ds ≤ 128
+  pub results : c.results + sum_by results_in ds ≤ 64
+  pub hints : c.hints + sum_by hints_in ds ≤ 16
+  pub functions : c.functions + sum_by functions_in ds ≤ 64
+  pub samples : c.samples + sum_by samples_in ds ≤ 16
+  pub reads : c.reads ≤ 256
+  pub guesses : c.guesses ≤ 8
+
+below : (f : Decl → ℕ) (a most : ℕ) (ds : List Decl) → a + sum_by f ds ≤ most → nat_le a most ≡ true
+below f a most ds h = le-leb a most (omega (arith, h))
+
+within : (c : Counts) (ds : List Decl) → Room c ds → is_within c ≡ true
+within c ds h =
+    both (nat_le c.regs 64 && nat_le c.files 16 && nat_le c.pipes 128 && nat_le c.results 64 && nat_le c.hints 16 && nat_le c.functions 64 && nat_le c.reads 256 && nat_le c.guesses 8) (nat_le c.samples 16)
+    (both (nat_le c.regs 64 && nat_le c.files 16 && nat_le c.pipes 128 && nat_le c.results 64 && nat_le c.hints 16 && nat_le c.functions 64 && nat_le c.reads 256) (nat_le c.guesses 8)
+    (both (nat_le c.regs 64 && nat_le c.files 16 && nat_le c.pipes 128 && nat_le c.results 64 && nat_le c.hints 16 && nat_le c.functions 64) (nat_le c.reads 256)
+    (both (nat_le c.regs 64 && nat_le c.files 16 && nat_le c.pipes 128 && nat_le c.results 64 && nat_le c.hints 16) (nat_le c.functions 64)
+    (both (nat_le c.regs 64 && nat_le c.files 16 && nat_le c.pipes 128 && nat_le c.results 64) (nat_le c.hints 16)
+    (both (nat_le c.regs 64 && nat_le c.files 16 && nat_le c.pipes 128) (nat_le c.results 64)
+    (both (nat_le c.regs 64 && nat_le c.files 16) (nat_le c.pipes 128)
+    (both (nat_le c.regs 64) (nat_le c.files 16) (below regs_in c.regs 64 ds h.regs) (below files_in c.files 16 ds h.files))
+    (below pipes_in c.pipes 128 ds h.pipes)) (below results_in c.results 64 ds h.results)) (below hints_in c.hints 16 ds h.hints)) (below functions_in c.functions 64 ds h.functions))
+    (le-leb c.reads 256 h.reads)) (le-leb c.guesses 8 h.guesses)) (below samples_in c.samples 16 ds h.samples)
+
+shifted : (f : Decl → ℕ) (a most : ℕ) (d : Decl) (ds : List Decl) → a + sum_by f (d ∷ ds) ≤ most → (a + f d) + sum_by f ds ≤ most
+shifted f a most d ds h = let e = sum_by-cons f d ds in omega (arith, e, h)
+
+one_more : (c : Counts) (d : Decl) (ds : List Decl) → Room c (d ∷ ds) → Room (with_decl c d) ds
+one_more c d ds h = record {
+  regs = shifted regs_in c.regs 64 d ds h.regs;
+  files = shifted files_in c.files 16 d ds h.files;
+  pipes = shifted pipes_in c.pipes 128 d ds h.pipes;
+  results = shifted results_in c.results 64 d ds h.results;
+  hints = shifted hints_in c.hints 16 d ds h.hints;
+  functions = shifted functions_in c.functions 64 d ds h.functions;
+  samples = shifted samples_in c.samples 16 d ds h.samples;
+  reads = h.reads;
+  guesses = h.guesses;
+}
+
+-- the given numbers of reads and guesses are counted, and the counts are within the limits
+record Counted (c : Counts) (reads guesses : ℕ) : Type 0 where
+  pub room : Room c []
+  pub reads_counted : c.reads ≡ reads
+  pub guesses_counted : c.guesses ≡ guesses
+
+decls_fit : (c : Counts) (ds : List Decl) → Room c ds → (first (decls_counted c ds).asked ≡ None) × Counted (decls_counted c ds).value c.reads c.guesses
+decls_fit c [] h = (refl, record { room = h; reads_counted = refl; guesses_counted = refl })
+decls_fit c (d ∷ ds) h =
+    let room = one_more c d ds h in
+    let more = decls_fit (with_decl c d) ds room in (
+      past (answer (is_within (with_decl c d)) (e_rule 29 (name_of d).at)) (decls_counted (with_decl c d) ds).asked
+          (holding (is_within (with_decl c d)) (e_rule 29 (name_of d).at) (within (with_decl c d) ds room)) more.0,
+      more.1,
+    )
+
+-- and with these statements
+with_reads : (c : Counts) (s : Stmt) → Room c [] → c.reads + reads_in s ≤ 256 → c.guesses + guesses_in s ≤ 8 → Room (with_stmt c s) []
+with_reads c s h r g = record {
+  regs = h.regs;
+  files = h.files;
+  pipes = h.pipes;
+  results = h.results;
+  hints = h.hints;
+  functions = h.functions;
+  samples = h.samples;
+  reads = r;
+  guesses = g;
+}
+
+stmts_fit_counts : (c : Counts) (ss : List Stmt) → Room c [] → c.reads + sum_by reads_in ss ≤ 256 → c.guesses + sum_by guesses_in ss ≤ 8
+    → (first (stmts_counted c ss).asked ≡ None) × Counted (stmts_counted c ss).value (c.reads + sum_by reads_in ss) (c.guesses + sum_by guesses_in ss)
+stmts_fit_counts c [] h r g = (refl, record { room = h; reads_counted = omega arith; guesses_counted = omega arith })
+stmts_fit_counts c (s ∷ ss) h r g =
+    let e = sum_by-cons reads_in s ss in
+    let f = sum_by-cons guesses_in s ss in
+    let room = with_reads c s h (omega (arith, e, r)) (omega (arith, f, g)) in
+    let more = stmts_fit_counts (with_stmt c s) ss room (omega (arith, e, r)) (omega (arith, f, g)) in
+    let a = more.1.reads_counted in
+    let b = more.1.guesses_counted in (
+      past (answer (is_within (with_stmt c s)) (e_rule 29 (place_of_read s s.kind))) (stmts_counted (with_stmt c s) ss).asked
+          (holding (is_within (with_stmt c s)) (e_rule 29 (place_of_read s s.kind)) (within (with_stmt c s) [] room)) more.0,
+      record { room = more.1.room; reads_counted = omega (arith, e, a); guesses_counted = omega (arith, f, b) },
+    )
+
+-- sums over the entries of all registers
+sum_each : {X : Type 0} (f : X → ℕ) (make : ℕ → Route → X) (weight j : ℕ) (rs : List Route) → ((i : ℕ) (r : Route) → f (make i r) ≡ weight)
+    → sum_by f (for_each make j rs) ≡ length rs * weight
+sum_each f make weight j [] h = omega arith
+sum_each f make weight j (r ∷ rs) h =
+    let e = sum_by-cons f (make j r) (for_each make (j + 1) rs) in
+    let a : f (make j r) ≡ weight = h j r in
+    let more = sum_each f make weight (j + 1) rs h in
+    e ∙ rw (a, more) (grind arith)
+
+no_sets : (f : Stmt → ℕ) → ((i : ℕ) (r : Route) → f (set i r) ≡ 0) → (k j : ℕ) (rs : List Route) → sum_by f (sets_from k j rs) ≡ 0
+no_sets f h k j [] = refl
+no_sets f h k j (r ∷ rs) =
+    either (r.set == k)
+    (λ e. rw e (sum_by-cons f (set j r) (sets_from k (j + 1) rs) ∙ (rw (h j r, no_sets f h k (j + 1) rs) refl)))
+    (λ e. rw e (no_sets f h k (j + 1) rs))
+
+no_last : (f : Stmt → ℕ) → f file_set ≡ 0 → (k : ℕ) → sum_by f (file_sets k) ≡ 0
+no_last f h k = either (k == 1) (λ e. rw e (sum_by-cons f file_set [] ∙ (rw h refl))) (λ e. rw e refl)
+
+no_later : (f : Stmt → ℕ) → ((i : ℕ) (r : Route) → f (set i r) ≡ 0) → f file_set ≡ 0 → (rs : List Route) (k : ℕ) → sum_by f (later_stmts rs k) ≡ 0
+no_later f h l rs k =
+    let a = sum_by-append f (sets_from k 0 rs) (file_sets k) in
+    let b = no_sets f h k 0 rs in
+    let c = no_last f l k in
+    omega (arith, a, b, c)
+
+later_counted : (c : Counts) (k x : ℕ) (rs : List Route) → Room c [] → first (blocks_counted c (map (later_block rs) (range_with_len k x))).asked ≡ None
+later_counted c k zero rs h = refl
+later_counted c k (suc x) rs h =
+    let a = no_later reads_in (λ i r. refl) refl rs k in
+    let b = no_later guesses_in (λ i r. refl) refl rs k in
+    let r = h.reads in
+    let g = h.guesses in
+    let here = stmts_fit_counts c (later_stmts rs k) h (omega (arith, a, r)) (omega (arith, b, g)) in
+    one_list (stmts_counted c (later_stmts rs k)).asked (blocks_counted (stmts_counted c (later_stmts rs k)).value (map (later_block rs) (range_with_len (k + 1) x))).asked
+    here.0 (later_counted (stmts_counted c (later_stmts rs k)).value (k + 1) x rs here.1.room)
+
+-- the sum over the statements of stage 0
+sum_first : (f : Stmt → ℕ) (rs : List Route) (a b : ℕ) → ((i : ℕ) (r : Route) → f (read i r) ≡ a) → ((i : ℕ) (r : Route) → f (put (length rs) i r) ≡ b)
+    → sum_by f (first_stmts rs) ≡ (length rs * a + (f file_read + length rs * b)) + (f address_put + f value_put)
+sum_first f rs a b reads puts =
+    let m : List Stmt = for_each (put (length rs)) 0 rs in
+    let x = sum_by-append f (for_each read 0 rs ++ file_read ∷ m) (address_put ∷ value_put ∷ []) in
+    let y = sum_by-append f (for_each read 0 rs) (file_read ∷ m) in
+    let z = sum_by-cons f file_read m in
+    let u = sum_by-cons f address_put (value_put ∷ []) in
+    let v = sum_by-cons f value_put [] in
+    let p = sum_each f read a 0 rs reads in
+    let q = sum_each f (put (length rs)) b 0 rs puts in
+    omega (arith, x, y, z, u, v, p, q)
+
+all_counted : (c : Counts) (n : ℕ) (rs : List Route) → length rs ≤ 35 → Counted c 0 0 → first (blocks_counted c (all_blocks n rs)).asked ≡ None
+all_counted c n rs few h =
+    let a : sum_by reads_in (first_stmts rs) ≡ (length rs * 1 + (1 + length rs * 0)) + (0 + 0) = sum_first reads_in rs 1 0 (λ i r. refl) (λ i r. refl) in
+    let b : sum_by guesses_in (first_stmts rs) ≡ (length rs * 0 + (0 + length rs * 0)) + (0 + 0) = sum_first guesses_in rs 0 0 (λ i r. refl) (λ i r. refl) in
+    let r = h.reads_counted in
+    let g = h.guesses_counted in
+    let here = stmts_fit_counts c (first_stmts rs) h.room (omega (arith, a, r, few)) (omega (arith, b, g, few)) in
+    one_list (stmts_counted c (first_stmts rs)).asked (blocks_counted (stmts_counted c (first_stmts rs)).value (map (later_block rs) (range_with_len 1 (n - 1)))).asked
+    here.0 (later_counted (stmts_counted c (first_stmts rs)).value 1 (n - 1) rs here.1.room)
+
+-- the sum over the declarations
+pub sum_decls : (f : Decl → ℕ) (n : ℕ) (rs : List Route) (a b c : ℕ) → ((i : ℕ) (r : Route) → f (register i r) ≡ a) → ((i : ℕ) (r : Route) → f (pipe i r) ≡ b) → ((i : ℕ) (r : Route) → f (result_of i r) ≡ c)
+    → sum_by f (all_decls n rs) ≡ ((length rs * a + (f file + length rs * b)) + (f pipe_AF + (f pipe_VF + length rs * c))) + f (file_result n)
+sum_decls f n rs a b c registers pipes results =
+    let x : List Decl = for_each register 0 rs in
+    let y : List Decl = file ∷ for_each pipe 0 rs in
+    let z : List Decl = pipe_AF ∷ pipe_VF ∷ for_each result_of 0 rs in
+    let last : List Decl = file_result n ∷ [] in
+    let e1 = sum_by-append f ((x ++ y) ++ z) last in
+    let e2 = sum_by-append f (x ++ y) z in
+    let e3 = sum_by-append f x y in
+    let e4 = sum_by-cons f file (for_each pipe 0 rs) in
+    let e5 = sum_by-cons f pipe_AF (pipe_VF ∷ for_each result_of 0 rs) in
+    let e6 = sum_by-cons f pipe_VF (for_each result_of 0 rs) in
+    let e7 = sum_by-cons f (file_result n) [] in
+    let p = sum_each f register a 0 rs registers in
+    let q = sum_each f pipe b 0 rs pipes in
+    let r = sum_each f result_of c 0 rs results in
+    omega (arith, e1, e2, e3, e4, e5, e6, e7, p, q, r)
+
+decls_room : (n : ℕ) (rs : List Route) → length rs ≤ 35 → Room nothing_counted (all_decls n rs)
+decls_room n rs few =
+    let regs : sum_by regs_in (all_decls n rs) ≡ ((length rs * 1 + (0 + length rs * 0)) + (0 + (0 + length rs * 0))) + 0 = sum_decls regs_in n rs 1 0 0 (λ i r. refl) (λ i r. refl) (λ i r. refl) in
+    let files : sum_by files_in (all_decls n rs) ≡ ((length rs * 0 + (1 + length rs * 0)) + (0 + (0 + length rs * 0))) + 0 = sum_decls files_in n rs 0 0 0 (λ i r. refl) (λ i r. refl) (λ i r. refl) in
+    let pipes : sum_by pipes_in (all_decls n rs) ≡ ((length rs * 0 + (0 + length rs * 1)) + (1 + (1 + length rs * 0))) + 0 = sum_decls pipes_in n rs 0 1 0 (λ i r. refl) (λ i r. refl) (λ i r. refl) in
+    let results : sum_by results_in (all_decls n rs) ≡ ((length rs * 0 + (0 + length rs * 0)) + (0 + (0 + length rs * 1))) + 1 = sum_decls results_in n rs 0 0 1 (λ i r. refl) (λ i r. refl) (λ i r. refl) in
+    let hints : sum_by hints_in (all_decls n rs) ≡ ((length rs * 0 + (0 + length rs * 0)) + (0 + (0 + length rs * 0))) + 0 = sum_decls hints_in n rs 0 0 0 (λ i r. refl) (λ i r. refl) (λ i r. refl) in
+    let functions : sum_by functions_in (all_decls n rs) ≡ ((length rs * 0 + (0 + length rs * 0)) + (0 + (0 + length rs * 0))) + 0 = sum_decls functions_in n rs 0 0 0 (λ i r. refl) (λ i r. refl) (λ i r. refl) in
+    let samples : sum_by samples_in (all_decls n rs) ≡ ((length rs * 0 + (0 + length rs * 0)) + (0 + (0 + length rs * 0))) + 0 = sum_decls samples_in n rs 0 0 0 (λ i r. refl) (λ i r. refl) (λ i r. refl) in
+    record {
+      regs = omega (arith, regs, few);
+      files = omega (arith, files, few);
+      pipes = omega (arith, pipes, few);
+      results = omega (arith, results, few);
+      hints = omega (arith, hints, few);
+      functions = omega (arith, functions, few);
+      samples = omega (arith, samples, few);
+      reads = omega arith;
+      guesses = omega arith;
+    }
+
+pub counts_kept : (n : ℕ) (rs : List Route) → length rs ≤ 35 → first (counts_of (job_of n rs)).asked ≡ None
+unfolding counts_of job_of
+counts_kept n rs few =
+    let here = decls_fit nothing_counted (all_decls n rs) (decls_room n rs few) in
+    one_list (decls_counted nothing_counted (all_decls n rs)).asked (blocks_counted (decls_counted nothing_counted (all_decls n rs)).value (all_blocks n rs)).asked
+    here.0 (all_counted (decls_counted nothing_counted (all_decls n rs)).value n rs few here.1)

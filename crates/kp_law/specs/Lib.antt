@@ -1,9 +1,0 @@
-pub mod Machine
-pub mod Sequential
-pub mod Pipeline
-pub mod Rows
-pub mod Accepted
-pub mod Claims
-pub mod Nearest
-pub mod Timeline
-pub mod Examples

@@ -1,3 +1,0 @@
-pub mod Numbers
-mod Typing
-mod Arms

@@ -1,0 +1,123 @@
+-- The token at an index.
+use Rattle.std.proofs.Common.{ℕ, suc, ◌≡◌, ◌==◌, ◌<◌, ◌≤◌, ◌+◌, ◌-◌, List, [], ◌∷◌, length, drop, take, map, true, false, refl, sym, ap, ◌∙◌, arith}
+use Rattle.std.proofs.lemmas.Bool.{eqb-true}
+use Rattle.std.proofs.lemmas.List.{drop_more, drop-map}
+use Rattle.std.specs.Prelude.{slice_index_or}
+use Rattle.kp_grammar.specs.Grammar.{Terminal}
+use Rattle.kp_grammar.specs.Machine.{Stops, look, wrong}
+use Rattle.kp_lex.specs.declared.token.Token.{Token}
+use Rattle.kp_lex.specs.declared.token.Keyword.{Keyword}
+use Rattle.kp_lex.specs.declared.token.Keyword.TheVariants as keywords
+use Rattle.kp_lex.specs.declared.token.Mark.{Mark}
+use Rattle.kp_lex.specs.declared.token.Mark.TheVariants as marks
+use Rattle.kp_lex.specs.declared.token.TokenKind.{TokenKind}
+use Rattle.kp_lex.specs.declared.token.TokenKind.TheVariants as kinds
+use Rattle.kp_bits.specs.declared.literal.Literal.{Literal}
+use Rattle.kp_grammar.proofs.Ways.{took}
+use Rattle.kp_parse_grammar.specs.Tokens.{Lexeme, lexeme_of, lexemes, kind_class, keyword_class, mark_class, IDENTIFIER, named_of}
+use Rattle.kp_parse_grammar.specs.inner.Follow.{tables}
+use Rattle.kp_parse_grammar.specs.Language.{Sym, State, Way, NAME, NUM, LIT, named, number, literal, language, is_over}
+use Rattle.kp_parse_grammar.specs.Reading.{Goes, class_at, Turns}
+
+-- the bytes of a token from its start to its end
+same_span : (a b : ℕ) → (a + b) - a ≡ b
+same_span a b = omega arith
+
+-- a token among the tokens is a lexeme among the lexemes
+pub lexeme_at : (text : List ℕ) (tokens : List Token) (i : ℕ) (t : Token) → i < length tokens → t ≡ slice_index_or tokens i t
+    → drop i (lexemes text tokens) ≡ record { kind = t.kind; place = t.place; bytes = take ((t.start + t.len) - t.start) (drop t.start text) } ∷ drop (i + 1) (lexemes text tokens)
+lexeme_at text tokens i t h e =
+    let spans : (t.start + t.len) - t.start ≡ t.len = same_span t.start t.len in
+    let moved : drop (i + 1) (lexemes text tokens) ≡ map (lexeme_of text) (drop (i + 1) tokens) = drop-map (lexeme_of text) (i + 1) tokens in
+    let first : drop i tokens ≡ t ∷ drop (i + 1) tokens = drop_more tokens i t h ∙ ap (λ (x : Token). x ∷ drop (i + 1) tokens) (sym e) in
+    rw (spans, moved) (drop-map (lexeme_of text) i tokens ∙ ap (map (lexeme_of text)) first)
+
+class_first : (ts : List Lexeme) (t : Lexeme) (rest : List Lexeme) → ts ≡ t ∷ rest → look language ts ≡ kind_class t.kind
+class_first ts t rest h = ap (look language) h
+
+same_number : (n : ℕ) → (n == n) ≡ true
+same_number n = grind arith
+
+differ : (a b : ℕ) → false ≡ (a == b) → a ≡ b → ⊥
+differ a b h e = cc (same_number b, ap (λ (n : ℕ). n == b) e, h)
+
+-- token i isn't of the class
+pub missed : (ts : List Lexeme) (i c : ℕ) → false ≡ (class_at ts i == c) → (way : Way) (s : List Sym) (v : State) → Goes (Terminal c way ∷ s) v (drop i ts) (Stops (length (drop i ts)))
+missed ts i c h way s v = wrong (λ e. differ (class_at ts i) c h e)
+
+pub missed_kind : (ts : List Lexeme) (i c : ℕ) (t : Lexeme) (rest : List Lexeme) → drop i ts ≡ t ∷ rest → false ≡ (kind_class t.kind == c)
+    → (way : Way) (s : List Sym) (v : State) → Goes (Terminal c way ∷ s) v (drop i ts) (Stops (length (drop i ts)))
+missed_kind ts i c t rest h e = missed ts i c (e ∙ ap (λ (k : ℕ). k == c) (sym (class_first (drop i ts) t rest h)))
+
+pub missed_end : (ts : List Lexeme) (i c : ℕ) → drop i ts ≡ [] → false ≡ (0 == c)
+    → (way : Way) (s : List Sym) (v : State) → Goes (Terminal c way ∷ s) v (drop i ts) (Stops (length (drop i ts)))
+missed_end ts i c h e = missed ts i c (e ∙ ap (λ (k : ℕ). k == c) (sym (ap (look language) h)))
+
+one_less : (ts : List Lexeme) (i j : ℕ) (t : Lexeme) → drop i ts ≡ t ∷ drop j ts → length (drop j ts) + 1 ≡ length (drop i ts)
+one_less ts i j t h = add_one (length (drop j ts)) ∙ sym (ap length h)
+  where
+    add_one : (n : ℕ) → n + 1 ≡ suc n
+    add_one n = omega arith
+
+at_most : (a b : ℕ) → a ≡ b → a ≤ b
+at_most a b h = omega arith
+
+-- a name, a number and a literal
+pub reads_name : (ts : List Lexeme) (i j : ℕ) (t : Lexeme) → drop i ts ≡ t ∷ drop j ts → kind_class t.kind ≡ IDENTIFIER → Turns ts NAME [] (named (named_of t) ∷ []) i j 1
+reads_name ts i j t h e = record {
+  leads = λ s cs vs o g. took language is_over tables h e refl g;
+  shrinks = at_most _ _ (one_less ts i j t h);
+}
+
+pub reads_number : (ts : List Lexeme) (i j : ℕ) (t : Lexeme) (n : ℕ) → drop i ts ≡ t ∷ drop j ts → t.kind ≡ kinds.Number n → Turns ts NUM [] (number (record { value = n; at = t.place }) ∷ []) i j 1
+reads_number ts i j t n h e = record {
+  leads = λ s cs vs o g. took language is_over tables h (ap kind_class e) refl (rw e g);
+  shrinks = at_most _ _ (one_less ts i j t h);
+}
+
+pub reads_literal : (ts : List Lexeme) (i j : ℕ) (t : Lexeme) (l : Literal) → drop i ts ≡ t ∷ drop j ts → t.kind ≡ kinds.Literal l → Turns ts LIT [] (literal (record { literal = l; at = t.place }) ∷ []) i j 1
+reads_literal ts i j t l h e = record {
+  leads = λ s cs vs o g. took language is_over tables h (ap kind_class e) refl (rw e g);
+  shrinks = at_most _ _ (one_less ts i j t h);
+}
+
+-- keywords and marks are nothing else
+pub keyword_isnt_end : (k : Keyword) → false ≡ (0 == keyword_class k)
+keyword_isnt_end keywords.Machine = refl
+keyword_isnt_end _ = refl
+
+keyword_isnt_number : (k : Keyword) → false ≡ (keyword_class k == 2)
+keyword_isnt_number keywords.Machine = refl
+keyword_isnt_number _ = refl
+
+keyword_isnt_literal : (k : Keyword) → false ≡ (keyword_class k == 3)
+keyword_isnt_literal keywords.Machine = refl
+keyword_isnt_literal _ = refl
+
+pub mark_isnt_end : (k : Mark) → false ≡ (0 == mark_class k)
+mark_isnt_end marks.Semicolon = refl
+mark_isnt_end _ = refl
+
+mark_isnt_number : (k : Mark) → false ≡ (mark_class k == 2)
+mark_isnt_number marks.Semicolon = refl
+mark_isnt_number _ = refl
+
+mark_isnt_literal : (k : Mark) → false ≡ (mark_class k == 3)
+mark_isnt_literal marks.Semicolon = refl
+mark_isnt_literal _ = refl
+
+-- what isn't a number, and what isn't a literal
+pub no_number : (k : TokenKind) → ((n : ℕ) → k ≡ kinds.Number n → ⊥) → false ≡ (kind_class k == 2)
+no_number (kinds.Number n) h = absurd (h n refl)
+no_number (kinds.Keyword k) h = keyword_isnt_number k
+no_number (kinds.Mark m) h = mark_isnt_number m
+no_number _ h = refl
+
+pub no_literal : (k : TokenKind) → ((l : Literal) → k ≡ kinds.Literal l → ⊥) → false ≡ (kind_class k == 3)
+no_literal (kinds.Literal l) h = absurd (h l refl)
+no_literal (kinds.Keyword k) h = keyword_isnt_literal k
+no_literal (kinds.Mark m) h = mark_isnt_literal m
+no_literal _ h = refl
+
+pub is_identifier : (k : TokenKind) → true ≡ (kind_class k == IDENTIFIER) → kind_class k ≡ IDENTIFIER
+is_identifier k h = eqb-true (kind_class k) IDENTIFIER (sym h)

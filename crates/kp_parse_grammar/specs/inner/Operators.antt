@@ -1,0 +1,22 @@
+-- The operators of each level.
+use Rattle.std.specs.Prelude.{ℕ, ◌==◌, List, [], ◌∷◌, Option, find}
+use Rattle.kp_bits.specs.declared.operator.BinOp.{BinOp}
+use Rattle.kp_bits.specs.declared.operator.BinOp.TheVariants as ops
+use Rattle.kp_lex.specs.declared.token.Mark.{Mark}
+use Rattle.kp_lex.specs.declared.token.Mark.TheVariants as marks
+use Rattle.kp_parse_grammar.specs.declared.level.Level.{Level}
+use Rattle.kp_parse_grammar.specs.declared.level.Level.TheVariants as levels
+use Rattle.kp_parse_grammar.specs.Tokens.{mark_class}
+
+abbrev pub operators_of : Level → List (Mark × BinOp)
+operators_of levels.Or = (marks.Bar, ops.Or) ∷ []
+operators_of levels.Xor = (marks.Caret, ops.Xor) ∷ []
+operators_of levels.And = (marks.Ampersand, ops.And) ∷ []
+operators_of levels.Compare = (marks.EqualsEquals, ops.Eq) ∷ (marks.Less, ops.Lt) ∷ []
+operators_of levels.Shift = (marks.ShiftLeft, ops.Shl) ∷ (marks.ShiftRight, ops.Shr) ∷ []
+operators_of levels.Sum = (marks.Plus, ops.Add) ∷ (marks.Minus, ops.Sub) ∷ []
+operators_of levels.Product = (marks.Star, ops.Mul) ∷ []
+
+-- the one whose punctuator is of this class
+abbrev pub operator_at : ℕ → List (Mark × BinOp) → Option (Mark × BinOp)
+operator_at c all = find (λ o. c == mark_class o.0) all

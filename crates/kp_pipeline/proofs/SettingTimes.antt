@@ -1,0 +1,39 @@
+use Rattle.std.proofs.Common.{◌≡◌, ℕ, zero, suc, ◌+◌, ◌-◌, ◌<◌, ◌≤◌, true, Option, Some, None, is_some, ap, sym, ◌∙◌, arith}
+use Rattle.kp_pipeline.specs.Machine.{Machine}
+use Rattle.kp_pipeline.specs.Sequential.{before_stage}
+use Rattle.kp_pipeline.specs.Accepted.{Accepted}
+use Rattle.kp_pipeline.specs.SpeculativeTimeline.{setting_stage}
+use Rattle.kp_pipeline.proofs.Sequential.{no_result-final, result-stays}
+use Rattle.kp_pipeline.proofs.Setting.{first-above, first-below, first-none}
+
+none-is : (o : Option ℕ) → ((v : ℕ) → o ≡ Some v → ⊥) → o ≡ None
+none-is None h = cc
+none-is (Some v) h = absurd (h v cc)
+
+module _ (m : Machine) (acc : Accepted m) (s : ℕ → ℕ → ℕ) (q : ℕ → ℕ) where
+  -- THE SETTING STAGE is before a stage exactly if the result is set there.
+  none-before : (t k j : ℕ) → j ≤ k → (before_stage m s q k).results t ≡ None → (before_stage m s q j).results t ≡ None
+  none-before t k j b e =
+      none-is _ (λ v h.
+      let i : j + (k - j) ≡ k = omega arith in
+      let x : (before_stage m s q k).results t ≡ Some v = (rw i at (result-stays m acc s q t j (k - j) v h)) in cc)
+
+  pub setting-before : (t k v : ℕ) → k ≤ m.stages → (before_stage m s q k).results t ≡ Some v → setting_stage m s q t < k
+  unfolding setting_stage before_stage
+  setting-before t zero v b e = cc
+  setting-before t (suc k) v b e =
+      let x = first-below (λ j. is_some ((before_stage m s q (suc j)).results t)) m.stages 0 (m.write_stage t) k (omega arith) (omega arith) (ap (λ (o : Option ℕ). is_some o) e) in
+      omega arith
+
+  pub setting-after : (t k : ℕ) → k ≤ m.write_stage t → (before_stage m s q k).results t ≡ None → k ≤ setting_stage m s q t
+  unfolding setting_stage
+  setting-after t k b e =
+      first-above (λ j. is_some ((before_stage m s q (suc j)).results t)) m.stages 0 (m.write_stage t) k b (λ i u v. ap (λ (o : Option ℕ). is_some o) (none-before t k (suc i) v e))
+
+  pub setting-last : (t k : ℕ) → m.has_result t ≡ true → k ≡ m.write_stage t
+      → (before_stage m s q (suc k)).results t ≡ None → setting_stage m s q t ≡ k
+  unfolding setting_stage
+  setting-last t k h i e =
+      let b : m.write_stage t < m.stages = acc.writes t h in
+      let all = no_result-final m acc s q t (suc k) h (omega arith) (omega arith) e in
+      first-none (λ j. is_some ((before_stage m s q (suc j)).results t)) m.stages 0 (m.write_stage t) (λ j u v. ap (λ (o : Option ℕ). is_some o) (none-before t m.stages (suc j) (omega arith) all)) ∙ sym i

@@ -1,0 +1,14 @@
+pub mod Machine
+pub mod Sequential
+pub mod Pipeline
+pub mod Rows
+pub mod Accepted
+pub mod Claims
+pub mod Nearest
+pub mod Timeline
+pub mod Examples
+pub mod Trimming
+pub mod Ends
+pub mod SpeculativeTimeline
+pub mod RightPath
+pub mod SpeculativeExamples

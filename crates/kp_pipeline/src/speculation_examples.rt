@@ -1,0 +1,23 @@
+//! Worked runs of small machines, by computation: they show that the laws aren't vacuous. The machines, their inputs
+//! and their rows are defined in `specs/Examples.antt`.
+
+ghost use Rattle.std.specs.Prelude.{◌≡◌, ℕ, List, [], ◌∷◌};
+ghost use Rattle.kp_pipeline.specs.Examples.{RunsAs, quiets, zeros, no_hints};
+ghost use Rattle.kp_pipeline.specs.Rows.{pipe, taken};
+ghost use Rattle.kp_pipeline.specs.Pipeline.{pipeline_start};
+ghost use Rattle.kp_pipeline.specs.Timeline.{no_samples, start_hold};
+ghost use Rattle.kp_pipeline.specs.SpeculativeTimeline.{timeline_rows, timeline_rows_taking};
+ghost use Rattle.kp_pipeline.specs.RightPath.{NoWrongGuess};
+ghost use Rattle.kp_pipeline.specs.SpeculativeExamples.{right3, right3_rows, sees5, sees5_inputs, sees5_rows};
+
+/// Whether a stage that uses a sample waits depends on the present value alone: if that value needs no operand, the stage moves on.
+pub fn sees5_looks_at_the_present_sample()
+    ensures shown { (pipe sees5 zeros no_hints sees5_inputs).rows ≡ sees5_rows }
+    ensures timeline { timeline_rows_taking sees5 zeros no_samples start_hold sees5_inputs ≡ sees5_rows }
+{}
+
+/// A guess that is always correct costs nothing.
+pub fn right3_never_waits()
+    ensures run { RunsAs right3 zeros no_hints (quiets 4) right3_rows (4 ∷ 3 ∷ 2 ∷ []) }
+    ensures guesses { NoWrongGuess right3 zeros (taken right3 (quiets 4) right3_rows) (pipeline_start zeros no_hints) start_hold (quiets 4) }
+{}

@@ -1,3 +1,0 @@
-pub mod Watching
-pub mod Readies
-pub mod Ends

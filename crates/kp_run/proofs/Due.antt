@@ -1,0 +1,65 @@
+-- A netlist that implements the machine of a job has the specified values after a run.
+use Rattle.std.proofs.Common.{◌≡◌, ◌∙◌, ℕ, ◌<◌, ◌≤◌, List, [], length, get_or, None, refl, ap, sym, subst, arith}
+use Rattle.kp_base.specs.First.{first}
+use Rattle.kp_base.specs.declared.row.Row.{Row}
+use Rattle.kp_bits.specs.Word.{Word, word}
+use Rattle.kp_ast.specs.declared.tree.Job.{Job}
+use Rattle.kp_width.specs.Widths.{widths_of}
+use Rattle.kp_image.specs.Sections.{sections_of}
+use Rattle.kp_pipeline.specs.Accepted.{Accepted}
+use Rattle.kp_pipeline.specs.Pipeline.{Inputs}
+use Rattle.kp_pipeline.specs.Rows as law
+use Rattle.kp_machine.specs.Machine.{machine_of, inputs_from, pipe_of}
+use Rattle.kp_machine.specs.Slots.{targets_of}
+use Rattle.kp_net.specs.Netlist.{Net, State, last_of}
+use Rattle.kp_sched.specs.Monitors.{Kept}
+use Rattle.kp_sched.specs.Rows.{rows_seen}
+use Rattle.kp_sched.specs.Runs.{passes}
+use Rattle.kp_sched.proofs.Counting.{seen_length}
+use Rattle.kp_seq.specs.Running.{HasWord, target}
+use Rattle.kp_synth_spec.specs.Naming.{value_shown}
+use Rattle.kp_synth_spec.specs.Shows.{Shows}
+use Rattle.kp_synth_spec.specs.Traces.{trace_of}
+use Rattle.kp_run.specs.Boards.{due_behind}
+use Rattle.kp_run.specs.Cycles.{inputs_to, HasRows}
+use Rattle.kp_run.specs.Homes.{AreHomes}
+use Rattle.kp_run.specs.inner.Boards.{HasCounts}
+use Rattle.kp_run.specs.inner.Finals.{AreWords, AreFinals}
+use Rattle.kp_run.proofs.Inputs.{seen_to, quiet_to}
+use Rattle.kp_run.proofs.Legal.{as_many, traced}
+use Rattle.kp_run.proofs.Machines.{home_passes}
+use Rattle.kp_run.proofs.Prefixes.{state_is}
+
+pub counts_are : (job : Job) (rows : List Row) (homes : List ℕ) → Accepted (machine_of job) → AreHomes job homes → HasCounts job rows homes
+counts_are job rows homes acc are =
+    let seen : List law.Row = rows_seen job.stages.value rows in
+    record { homes = are; passes = λ t. home_passes job seen acc t ∙ ap (λ (T : ℕ). passes job seen T t) (seen_length job.stages.value rows) }
+
+module _ (job : Job) (widths : first (widths_of job).asked ≡ None) (sections : first (sections_of job).asked ≡ None)
+    (net : Net) (n : ℕ) (rows : List Row) (monitor : Kept) (shows : Shows net job) (has : HasRows job net n rows monitor)
+    (due : (t a : ℕ) → HasWord job t a → (pipe_of job (inputs_from job 0 n)).visible n t a ≡ due_behind job rows t a) where
+  -- a word of the last state
+  pub shown_is_due : (t a : ℕ) → HasWord job t a → value_shown job net (last_of net (inputs_to job n)) t a ≡ due_behind job rows t a
+  unfolding trace_of
+  shown_is_due t a there =
+      let many : length (trace_of job net (inputs_to job n)).rows ≡ n =
+      ap (λ (l : List law.Row). length l) (sym (traced job widths sections net n rows monitor shows has)) ∙ seen_length job.stages.value rows ∙ as_many job widths sections net n rows monitor shows has in
+      let alike = (shows.runs (inputs_to job n) (quiet_to job n)).values n t a (let e : n ≤ length (trace_of job net (inputs_to job n)).rows = omega (arith, many) in e) there in
+      ap (λ (st : State). value_shown job net st t a) (sym (state_is job net n n (omega arith)))
+      ∙ alike
+      ∙ ap (λ (ins : List Inputs). (pipe_of job ins).visible n t a) (seen_to job widths sections n)
+      ∙ due t a there
+
+  -- and all words that are stored
+  pub finals_are_due : (st : State) (finals : List (List Word)) → st ≡ last_of net (inputs_to job n)
+      → AreFinals job (value_shown job net st) finals → AreFinals job (due_behind job rows) finals
+  finals_are_due st finals e are = record {
+    there = are.there;
+    words = λ t h. record {
+      there = (are.words t h).there;
+      values = λ a there.
+          (are.words t h).values a there
+          ∙ ap (λ (s : State). word (target job t).width (value_shown job net s t a)) e
+          ∙ ap (word (target job t).width) (shown_is_due t a there);
+    };
+  }

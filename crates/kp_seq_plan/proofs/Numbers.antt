@@ -1,0 +1,255 @@
+-- What machine words of 64 bits make of numbers that fit a width, and that a value of a width is held.
+use Rattle.std.proofs.Common.{◌≡◌, ◌≢◌, ◌∙◌, ℕ, zero, suc, ◌+◌, ◌-◌, ◌*◌, ◌/◌, ◌%◌, ◌^◌, ◌<◌, ◌≤◌, ◌==◌, ◌&&◌, ◌||◌, Option, Some, None, Bool, true, false, cond, refl, ap, sym, subst, arith, bit_and, bit_or}
+use Rattle.std.proofs.Common.{⊎_elim, ◌⊎◌}
+use Rattle.std.specs.Prelude.{nat_lt, nat_le}
+use Rattle.std.specs.Option.{option_map, option_and_then}
+use Rattle.std.proofs.Math.Nat.{mod-eq_of_lt, mul-add, add-mul-mod_self_left}
+use Rattle.std.proofs.Math.Dec.{eqb-suc-suc}
+use Rattle.std.proofs.lemmas.Bool.{cases_lt, cond-true, cond-false, eqb-true, ltb-true, lt-ltb, le-ltb, le-leb}
+use Rattle.std.proofs.lemmas.Nat.{and_mask, pow-add, pow_pos}
+use Rattle.kp_bits.specs.Word.{Word, word, IsWord, not_of, and_of, or_of, xor_of, add_of, sub_of, mul_of, eq_of, lt_of, shl_of, shr_of, mux_of, concat_of, slice_of, zext_of, sext_of}
+use Rattle.kp_bits.specs.Operators.{is_shift, binary_of}
+use Rattle.kp_bits.specs.Checked.{where_so, checked_slice, checked_zext, checked_sext}
+use Rattle.kp_bits.specs.declared.operator.BinOp.{BinOp}
+use Rattle.kp_bits.proofs.Powers.{low_of, concat_value, half_of, pow_le, sub_above}
+use Rattle.kp_bits.proofs.Words.{not_word, and_word, or_word, xor_word, add_word, sub_word, mul_word, eq_word, lt_word, shl_word, shr_word, concat_word, slice_word, zext_word, sext_word}
+use Rattle.kp_seq_plan.specs.Codes.{applied}
+use Rattle.kp_seq_plan.specs.Lowering.{Holds}
+use Rattle.kp_seq_plan.specs.inner.Parts.{binary_found, binary_width, mux_found, join_found}
+
+pub eq_refl : (n : ℕ) → (n == n) ≡ true
+eq_refl zero = refl
+eq_refl (suc n) = eqb-suc-suc n n ∙ eq_refl n
+
+pub eq_same : (n m : ℕ) → n ≡ m → (n == m) ≡ true
+eq_same n m h = ap (λ k. n == k) (sym h) ∙ eq_refl n
+
+never : (b : Bool) → (b ≡ true → ⊥) → b ≡ false
+never true h = absurd (h refl)
+never false h = refl
+
+pub eq_other : (n m : ℕ) → n ≢ m → (n == m) ≡ false
+eq_other n m h = never (n == m) (λ e. h (eqb-true n m e))
+
+pub le_false : (a b : ℕ) → b < a → nat_le a b ≡ false
+le_false a b h = grind arith
+
+-- numbers
+ones : (x m w : ℕ) → m ≡ 2 ^ w - 1 → bit_and x m ≡ x % 2 ^ w
+ones x m w e = ap (bit_and x) e ∙ and_mask x w
+
+low_six : (b : ℕ) → b < 64 → bit_and b 63 ≡ b
+low_six b h = and_mask b 6 ∙ mod-eq_of_lt h
+
+pub wrapped : (a b t : ℕ) → b ≤ a → a < t → (a + (t - b)) % t ≡ a - b
+wrapped a b t h k = let e : a + (t - b) ≡ a + t - b = omega arith in ap (λ x. x % t) e ∙ sub_above a b t k h
+
+not_number : (w x m : ℕ) → w ≤ 64 → x < 2 ^ w → m ≡ 2 ^ w - 1 → (m + (2 ^ 64 - x)) % 2 ^ 64 ≡ 2 ^ w - 1 - x
+not_number w x m h f e =
+    let p = pow_le w 64 h in
+    let a : x ≤ m = omega arith in
+    let b : m < 2 ^ 64 = omega (arith, pow_pos w) in
+    wrapped m x (2 ^ 64) a b ∙ ap (λ n. n - x) e
+
+add_number : (w n m : ℕ) → w ≤ 64 → m ≡ 2 ^ w - 1 → bit_and (n % 2 ^ 64) m ≡ n % 2 ^ w
+add_number w n m h e = ones (n % 2 ^ 64) m w e ∙ low_of n w h
+
+sub_by : (a b m j t : ℕ) → t ≡ m * j + m → b ≤ m → (a + (t - b)) % m ≡ (a + m - b) % m
+sub_by a b m j t e h =
+    let q : a + (t - b) ≡ (a + m - b) + m * j = omega arith in
+    ap (λ x. x % m) q ∙ add-mul-mod_self_left (a + m - b) m j
+
+whole : (w : ℕ) → w ≤ 64 → 2 ^ 64 ≡ 2 ^ w * (2 ^ (64 - w) - 1) + 2 ^ w
+whole w h =
+    let e : 64 ≡ w + (64 - w) = omega arith in
+    let k : 2 ^ (64 - w) ≡ (2 ^ (64 - w) - 1) + 1 = omega (arith, pow_pos (64 - w)) in
+    let one : 2 ^ w * 1 ≡ 2 ^ w = omega arith in
+    ap (λ n. 2 ^ n) e ∙ pow-add 2 w (64 - w) ∙ ap (λ n. 2 ^ w * n) k ∙ mul-add (2 ^ w) (2 ^ (64 - w) - 1) 1 ∙ ap (λ n. 2 ^ w * (2 ^ (64 - w) - 1) + n) one
+
+sub_number : (w a b m : ℕ) → w ≤ 64 → b < 2 ^ w → m ≡ 2 ^ w - 1 → bit_and ((a + (2 ^ 64 - b)) % 2 ^ 64) m ≡ (a + 2 ^ w - b) % 2 ^ w
+sub_number w a b m h f e =
+    let l : b ≤ 2 ^ w = omega arith in
+    add_number w (a + (2 ^ 64 - b)) m h e ∙ sub_by a b (2 ^ w) (2 ^ (64 - w) - 1) (2 ^ 64) (whole w h) l
+
+cond_same : (t : Bool) (x y z : ℕ) → (t ≡ true → x ≡ y) → cond t x z ≡ cond t y z
+cond_same true x y z h = h refl
+cond_same false x y z h = refl
+
+shift_below : (b w : ℕ) → w ≤ 64 → nat_lt b w ≡ true → bit_and b 63 ≡ b
+shift_below b w h t = let l = ltb-true b w t in low_six b (omega arith)
+
+shl_number : (w a b m : ℕ) → w ≤ 64 → m ≡ 2 ^ w - 1
+    → cond (nat_lt b w) (bit_and (a * 2 ^ bit_and b 63 % 2 ^ 64) m) 0 ≡ cond (nat_lt b w) (a * 2 ^ b % 2 ^ w) 0
+shl_number w a b m h e =
+    cond_same (nat_lt b w) (bit_and (a * 2 ^ bit_and b 63 % 2 ^ 64) m) (a * 2 ^ b % 2 ^ w) 0
+    (λ t. add_number w (a * 2 ^ bit_and b 63) m h e ∙ ap (λ k. a * 2 ^ k % 2 ^ w) (shift_below b w h t))
+
+shr_number : (w a b : ℕ) → w ≤ 64 → cond (nat_lt b w) (a / 2 ^ bit_and b 63) 0 ≡ cond (nat_lt b w) (a / 2 ^ b) 0
+shr_number w a b h =
+    cond_same (nat_lt b w) (a / 2 ^ bit_and b 63) (a / 2 ^ b) 0 (λ t. ap (λ k. a / 2 ^ k) (shift_below b w h t))
+
+join_number : (a b i j : ℕ) → 1 ≤ i → a < 2 ^ i → b < 2 ^ j → i + j ≤ 64 → bit_or (a * 2 ^ bit_and j 63 % 2 ^ 64) b ≡ a * 2 ^ j + b
+join_number a b i j h f g l =
+    ap (λ k. bit_or (a * 2 ^ k % 2 ^ 64) b) (low_six j (omega arith)) ∙ concat_value a b i j f g l
+
+slice_number : (x hi lo m : ℕ) → lo < 64 → m ≡ 2 ^ (hi + 1 - lo) - 1 → bit_and (x / 2 ^ bit_and lo 63) m ≡ x / 2 ^ lo % 2 ^ (hi + 1 - lo)
+slice_number x hi lo m h e = ones (x / 2 ^ bit_and lo 63) m (hi + 1 - lo) e ∙ ap (λ k. x / 2 ^ k % 2 ^ (hi + 1 - lo)) (low_six lo h)
+
+sext_number : (i w x top more : ℕ) → i ≤ w → w ≤ 64 → x < 2 ^ i → top ≡ 2 ^ (i - 1) - 1 → more ≡ 2 ^ w - 2 ^ i
+    → cond (nat_lt top x) ((x + more) % 2 ^ 64) x ≡ cond (nat_lt x (2 ^ (i - 1))) x (x + (2 ^ w - 2 ^ i))
+sext_number i w x top more h k f t m =
+    let p = pow_le i w h in
+    let q = pow_le w 64 k in
+    let z = pow_pos (i - 1) in
+    ⊎_elim
+    (λ (c : x < 2 ^ (i - 1)). cond-false (nat_lt top x) ((x + more) % 2 ^ 64) x (le-ltb top x (omega arith)) ∙ sym (cond-true (nat_lt x (2 ^ (i - 1))) x (x + (2 ^ w - 2 ^ i)) (lt-ltb x (2 ^ (i - 1)) c)))
+    (λ (c : 2 ^ (i - 1) ≤ x).
+    let small : x + more < 2 ^ 64 = omega arith in
+    cond-true (nat_lt top x) ((x + more) % 2 ^ 64) x (lt-ltb top x (omega arith)) ∙ mod-eq_of_lt small ∙ ap (λ n. x + n) m
+    ∙ sym (cond-false (nat_lt x (2 ^ (i - 1))) x (x + (2 ^ w - 2 ^ i)) (le-ltb x (2 ^ (i - 1)) c)))
+    (cases_lt x (2 ^ (i - 1)))
+
+-- a word that is found is held
+pub became : (o : Option Word) (z : Word) (w v : ℕ) → o ≡ Some z → IsWord z → z.width ≡ w → z.value ≡ v → Holds o w v
+became o z w v e k i j =
+    let s : z ≡ word w v = (λ t. word (i t) (j t)) in
+    record { there = e ∙ ap Some s; word = subst IsWord s k }
+
+pub not_held : (o : Option Word) (w x m : ℕ) → Holds o w x → m ≡ 2 ^ w - 1 → Holds (option_map not_of o) w ((m + (2 ^ 64 - x)) % 2 ^ 64)
+not_held o w x m h e =
+    became (option_map not_of o) (not_of (word w x)) w _ (ap (option_map not_of) h.there) (not_word (word w x) h.word) refl
+    (sym (not_number w x m h.word.at_most h.word.fits e))
+
+-- a binary operator, if its test of widths passes
+module _ (o p : Option Word) (i j x y m : ℕ) (h : Holds o i x) (k : Holds p j y) (e : m ≡ 2 ^ i - 1) where
+  abbrev a : Word
+  a = word i x
+
+  abbrev b : Word
+  b = word j y
+
+  found : (op : BinOp) → (is_shift op || i == j) ≡ true → binary_found op o p ≡ Some (binary_of op a b)
+  found op test =
+      ap (λ z. binary_found op z p) h.there
+      ∙ ap (λ z. binary_found op (Some a) z) k.there
+      ∙ ap (λ c. where_so c (binary_of op a b)) test
+
+  pub binary_held : (op : BinOp) → (is_shift op || i == j) ≡ true → Holds (binary_found op o p) (binary_width op i) (applied op x y i m)
+  binary_held BinOp.And test = became _ (and_of a b) i _ (found BinOp.And test) (and_word a b h.word) refl refl
+  binary_held BinOp.Or test = became _ (or_of a b) i _ (found BinOp.Or test) (or_word a b h.word k.word (eqb-true i j test)) refl refl
+  binary_held BinOp.Xor test = became _ (xor_of a b) i _ (found BinOp.Xor test) (xor_word a b h.word k.word (eqb-true i j test)) refl refl
+  binary_held BinOp.Add test = became _ (add_of a b) i _ (found BinOp.Add test) (add_word a b h.word) refl (sym (add_number i (x + y) m h.word.at_most e))
+  binary_held BinOp.Sub test =
+      let f : y < 2 ^ i = subst (λ n. y < 2 ^ n) (sym (eqb-true i j test)) k.word.fits in
+      became _ (sub_of a b) i _ (found BinOp.Sub test) (sub_word a b h.word) refl (sym (sub_number i x y m h.word.at_most f e))
+  binary_held BinOp.Mul test = became _ (mul_of a b) i _ (found BinOp.Mul test) (mul_word a b h.word) refl (sym (add_number i (x * y) m h.word.at_most e))
+  binary_held BinOp.Eq test = became _ (eq_of a b) 1 _ (found BinOp.Eq test) (eq_word a b) refl refl
+  binary_held BinOp.Lt test = became _ (lt_of a b) 1 _ (found BinOp.Lt test) (lt_word a b) refl refl
+  binary_held BinOp.Shl test = became _ (shl_of a b) i _ (found BinOp.Shl test) (shl_word a b h.word) refl (sym (shl_number i x y m h.word.at_most e))
+  binary_held BinOp.Shr test = became _ (shr_of a b) i _ (found BinOp.Shr test) (shr_word a b h.word) refl (sym (shr_number i x y h.word.at_most))
+
+pub binary_fails : (op : BinOp) (o p : Option Word) (i j x y : ℕ) → Holds o i x → Holds p j y → (is_shift op || i == j) ≡ false → binary_found op o p ≡ None
+binary_fails op o p i j x y h k test =
+    ap (λ z. binary_found op z p) h.there
+    ∙ ap (λ z. binary_found op (Some (word i x)) z) k.there
+    ∙ ap (λ c. where_so c (binary_of op (word i x) (word j y))) test
+
+-- a choice
+chosen : (c : Bool) (o : Option Word) (i j x y : ℕ) → i ≡ j → IsWord (word i x) → IsWord (word j y) → o ≡ Some (cond c (word i x) (word j y)) → Holds o i (cond c x y)
+chosen true o i j x y e h k is = record { there = is; word = h }
+chosen false o i j x y e h k is = record { there = is ∙ ap (λ n. Some (word n y)) (sym e); word = subst (λ n. IsWord (word n y)) (sym e) k }
+
+mux_at : (t o p : Option Word) (l i j z x y : ℕ) → Holds t l z → Holds o i x → Holds p j y
+    → mux_found t o p ≡ where_so (l == 1 && i == j) (mux_of (word l z) (word i x) (word j y))
+mux_at t o p l i j z x y g h k =
+    ap (λ s. mux_found s o p) g.there ∙ ap (λ s. mux_found (Some (word l z)) s p) h.there ∙ ap (λ s. mux_found (Some (word l z)) (Some (word i x)) s) k.there
+
+pub mux_held : (t o p : Option Word) (l i j z x y : ℕ) → Holds t l z → Holds o i x → Holds p j y → l ≡ 1 → i ≡ j → Holds (mux_found t o p) i (cond (z == 1) x y)
+mux_held t o p l i j z x y g h k one same =
+    chosen (z == 1) (mux_found t o p) i j x y same h.word k.word
+    (mux_at t o p l i j z x y g h k
+    ∙ ap (λ c. where_so (c && i == j) (mux_of (word l z) (word i x) (word j y))) (eq_same l 1 one)
+    ∙ ap (λ c. where_so c (mux_of (word l z) (word i x) (word j y))) (eq_same i j same))
+
+pub mux_narrow : (t o p : Option Word) (l i j z x y : ℕ) → Holds t l z → Holds o i x → Holds p j y → l ≢ 1 → mux_found t o p ≡ None
+mux_narrow t o p l i j z x y g h k n =
+    mux_at t o p l i j z x y g h k ∙ ap (λ c. where_so (c && i == j) (mux_of (word l z) (word i x) (word j y))) (eq_other l 1 n)
+
+mux_no : (c d : Bool) (w : Word) → d ≡ false → where_so (c && d) w ≡ None
+mux_no true d w e = ap (λ b. where_so b w) e
+mux_no false d w e = refl
+
+pub mux_other : (t o p : Option Word) (l i j z x y : ℕ) → Holds t l z → Holds o i x → Holds p j y → i ≢ j → mux_found t o p ≡ None
+mux_other t o p l i j z x y g h k n =
+    mux_at t o p l i j z x y g h k ∙ mux_no (l == 1) (i == j) (mux_of (word l z) (word i x) (word j y)) (eq_other i j n)
+
+-- the concatenation of two parts
+join_at : (o p : Option Word) (i j x y : ℕ) → Holds o i x → Holds p j y → join_found o p ≡ where_so (nat_le (i + j) 64) (concat_of (word i x) (word j y))
+join_at o p i j x y h k = ap (λ s. join_found s p) h.there ∙ ap (λ s. join_found (Some (word i x)) s) k.there
+
+pub join_held : (o p : Option Word) (i j x y : ℕ) → Holds o i x → Holds p j y → i + j ≤ 64 → Holds (join_found o p) (i + j) (bit_or (x * 2 ^ bit_and j 63 % 2 ^ 64) y)
+join_held o p i j x y h k l =
+    became (join_found o p) (concat_of (word i x) (word j y)) (i + j) _
+    (join_at o p i j x y h k ∙ ap (λ c. where_so c (concat_of (word i x) (word j y))) (le-leb (i + j) 64 l))
+    (concat_word (word i x) (word j y) h.word k.word l) refl (sym (join_number x y i j h.word.positive h.word.fits k.word.fits l))
+
+pub join_fails : (o p : Option Word) (i j x y : ℕ) → Holds o i x → Holds p j y → 64 < i + j → join_found o p ≡ None
+join_fails o p i j x y h k l = join_at o p i j x y h k ∙ ap (λ c. where_so c (concat_of (word i x) (word j y))) (le_false (i + j) 64 l)
+
+-- bits, and more bits
+pub slice_held : (o : Option Word) (w x hi lo m : ℕ) → Holds o w x → lo ≤ hi → hi < w → m ≡ 2 ^ (hi + 1 - lo) - 1
+    → Holds (option_and_then (checked_slice hi lo) o) (hi + 1 - lo) (bit_and (x / 2 ^ bit_and lo 63) m)
+slice_held o w x hi lo m h l k e =
+    let n = h.word.at_most in
+    became (option_and_then (checked_slice hi lo) o) (slice_of (word w x) hi lo) (hi + 1 - lo) _
+    (ap (option_and_then (checked_slice hi lo)) h.there
+    ∙ ap (λ c. where_so (c && nat_lt hi w) (slice_of (word w x) hi lo)) (le-leb lo hi l)
+    ∙ ap (λ c. where_so c (slice_of (word w x) hi lo)) (lt-ltb hi w k))
+    (slice_word (word w x) hi lo h.word l k) refl (sym (slice_number x hi lo m (omega arith) e))
+
+pub slice_turned : (o : Option Word) (w x hi lo : ℕ) → Holds o w x → hi < lo → option_and_then (checked_slice hi lo) o ≡ None
+slice_turned o w x hi lo h l =
+    ap (option_and_then (checked_slice hi lo)) h.there ∙ ap (λ c. where_so (c && nat_lt hi w) (slice_of (word w x) hi lo)) (le_false lo hi l)
+
+pub slice_over : (o : Option Word) (w x hi lo : ℕ) → Holds o w x → w ≤ hi → option_and_then (checked_slice hi lo) o ≡ None
+slice_over o w x hi lo h l =
+    ap (option_and_then (checked_slice hi lo)) h.there ∙ mux_no (nat_le lo hi) (nat_lt hi w) (slice_of (word w x) hi lo) (le-ltb hi w l)
+
+extends : (w n : ℕ) (z : Word) → w ≤ n → n ≤ 64 → where_so (nat_le w n && nat_le n 64) z ≡ Some z
+extends w n z l k = ap (λ c. where_so (c && nat_le n 64) z) (le-leb w n l) ∙ ap (λ c. where_so c z) (le-leb n 64 k)
+
+pub no_extension : (w n : ℕ) (z : Word) → n < w ⊎ 64 < n → where_so (nat_le w n && nat_le n 64) z ≡ None
+no_extension w n z h =
+    ⊎_elim (λ (l : n < w). ap (λ c. where_so (c && nat_le n 64) z) (le_false w n l)) (λ (l : 64 < n). mux_no (nat_le w n) (nat_le n 64) z (le_false n 64 l)) h
+
+pub zext_held : (o : Option Word) (w x n : ℕ) → Holds o w x → w ≤ n → n ≤ 64 → Holds (option_and_then (checked_zext n) o) n x
+zext_held o w x n h l k =
+    became (option_and_then (checked_zext n) o) (zext_of (word w x) n) n x
+    (ap (option_and_then (checked_zext n)) h.there ∙ extends w n (zext_of (word w x) n) l k) (zext_word (word w x) n h.word l k) refl refl
+
+pub zext_fails : (o : Option Word) (w x n : ℕ) → Holds o w x → n < w ⊎ 64 < n → option_and_then (checked_zext n) o ≡ None
+zext_fails o w x n h l = ap (option_and_then (checked_zext n)) h.there ∙ no_extension w n (zext_of (word w x) n) l
+
+pub sext_held : (o : Option Word) (w x n top more : ℕ) → Holds o w x → w ≤ n → n ≤ 64 → top ≡ 2 ^ (w - 1) - 1 → more ≡ 2 ^ n - 2 ^ w
+    → Holds (option_and_then (checked_sext n) o) n (cond (nat_lt top x) ((x + more) % 2 ^ 64) x)
+sext_held o w x n top more h l k t m =
+    became (option_and_then (checked_sext n) o) (sext_of (word w x) n) n _
+    (ap (option_and_then (checked_sext n)) h.there ∙ extends w n (sext_of (word w x) n) l k) (sext_word (word w x) n h.word l k) refl
+    (sym (sext_number w n x top more l k h.word.fits t m))
+
+pub sext_fails : (o : Option Word) (w x n : ℕ) → Holds o w x → n < w ⊎ 64 < n → option_and_then (checked_sext n) o ≡ None
+sext_fails o w x n h l = ap (option_and_then (checked_sext n)) h.there ∙ no_extension w n (sext_of (word w x) n) l
+
+-- what is masked and halved
+pub top_is : (w n : ℕ) → 1 ≤ w → n ≡ 2 ^ w - 1 → n / 2 ≡ 2 ^ (w - 1) - 1
+top_is w n h e = ap (λ k. k / 2) e ∙ half_of w h
+
+pub more_is : (w n a b : ℕ) → w ≤ n → n ≤ 64 → a ≡ 2 ^ n - 1 → b ≡ 2 ^ w - 1 → (a + (2 ^ 64 - b)) % 2 ^ 64 ≡ 2 ^ n - 2 ^ w
+more_is w n a b l k d e =
+    let p = pow_le w n l in
+    let q = pow_le n 64 k in
+    let z = pow_pos w in
+    let u : b ≤ a = omega arith in
+    let v : a < 2 ^ 64 = omega arith in
+    let r : a - b ≡ 2 ^ n - 2 ^ w = omega arith in
+    wrapped a b (2 ^ 64) u v ∙ r

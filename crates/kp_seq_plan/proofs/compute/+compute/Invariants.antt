@@ -1,0 +1,18 @@
+use Rattle.std.proofs.Common.{◌≡◌, ◌+◌, ◌*◌, max, map, take, length}
+use Rattle.kp_seq_plan.specs.declared.code.Code.TheViews.{size-Code}
+use Rattle.kp_seq_plan.specs.Codes.{value_of}
+use Rattle.kp_seq_plan.proofs.compute.+compute.Given as goal
+
+abbrev pub decreases-value : goal.decreases-value
+decreases-value l = 4 * goal.size-value l
+
+abbrev pub decreases-called : goal.decreases-called
+decreases-called l = 4 * max (goal.size-called l) (size-Code l.body.now) + 2
+
+abbrev pub decreases-put_values : goal.decreases-put_values
+decreases-put_values l = 4 * goal.size-put_values l + 1
+
+abbrev pub invariant-put_values-loop-i : goal.invariant-put_values-loop-i
+invariant-put_values-loop-i l =
+    (take l.i l.values ≡ map (λ c. value_of c l.names) (take l.i l.codes))
+    × (length l.values ≡ length l.initial.values) × (length l.room ≡ length l.initial.room)

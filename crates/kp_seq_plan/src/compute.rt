@@ -1,0 +1,95 @@
+//! The value of a code. Computing it allocates nothing: the arguments of calls are stored in scratch space of the caller.
+ghost use Rattle.std.specs.Prelude.{◌≡◌, ◌≤◌, ◌+◌, length, map, All, sum_by, slice_index};
+ghost use Rattle.kp_seq_plan.specs.Codes.{value_of, space_of, applied};
+
+use crate::code::Code;
+use kp_bits::BinOp;
+
+/// The value of a code, given these values of its names by index.
+#[cycle(compute)]
+pub fn value(code: &Code, names: &[u64], room: &mut [u64]) -> u64
+    requires { space_of code.now ≤ length room.old }
+    ensures value { result ≡ value_of code.now names.now }
+    ensures room { length room.new ≡ length room.old }
+{
+    match code {
+        Code::Word(word) => *word,
+        Code::Name(place) => held(names, *place),
+        Code::Not(a, mask) => mask.wrapping_sub(value(a.get(), names, room)),
+        Code::Binary(op, a, b, width, mask) => {
+            let a = value(a.get(), names, room);
+            let b = value(b.get(), names, room);
+            apply(*op, a, b, *width, *mask)
+        }
+        Code::Mux(test, a, b) => {
+            if value(test.get(), names, room) == 1 {
+                value(a.get(), names, room)
+            } else {
+                value(b.get(), names, room)
+            }
+        }
+        Code::Join(high, low, width) => {
+            let high = value(high.get(), names, room);
+            let low = value(low.get(), names, room);
+            (high << (*width & 63)) | low
+        }
+        Code::Slice(a, lo, mask) => (value(a.get(), names, room) >> (*lo & 63)) & *mask,
+        Code::Sext(a, top, more) => {
+            let a = value(a.get(), names, room);
+            if a > *top { a.wrapping_add(*more) } else { a }
+        }
+        Code::Call(args, body) => called(args.as_slice(), body.get(), names, room),
+    }
+}
+
+// The value of a body with these arguments.
+#[cycle(compute)]
+fn called(args: &[Code], body: &Code, names: &[u64], room: &mut [u64]) -> u64
+    requires room { space_of body.now + (length args.now + sum_by space_of args.now) ≤ length room.old }
+    ensures value { result ≡ value_of body.now (map (λ a. value_of a names.now) args.now) }
+    ensures room { length room.new ≡ length room.old }
+{
+    let (values, rest) = room.split_at_mut(args.len());
+    put_values(args, names, values, rest);
+    value(body, values, rest)
+}
+
+// Writes the values of codes into a list.
+#[cycle(compute)]
+fn put_values(codes: &[Code], names: &[u64], values: &mut [u64], room: &mut [u64])
+    requires count { length codes.now ≡ length values.old }
+    requires room { All (λ c. space_of c ≤ length room.old) codes.now }
+    ensures values { values.new ≡ map (λ c. value_of c names.now) codes.now }
+    ensures room { length room.new ≡ length room.old }
+{
+    for i in 0..codes.len() {
+        values[i] = value(&codes[i], names, room);
+    }
+}
+
+// The value under an index.
+#[inline]
+fn held(names: &[u64], place: usize) -> u64
+    ensures { result ≡ slice_index names.now place }
+{
+    if place < names.len() { names[place] } else { 0 }
+}
+
+// A binary operator on values of this width, with this mask.
+#[inline]
+fn apply(op: BinOp, a: u64, b: u64, width: u64, mask: u64) -> u64
+    ensures { result ≡ applied op a b width mask }
+{
+    match op {
+        BinOp::And => a & b,
+        BinOp::Or => a | b,
+        BinOp::Xor => a ^ b,
+        BinOp::Add => a.wrapping_add(b) & mask,
+        BinOp::Sub => a.wrapping_sub(b) & mask,
+        BinOp::Mul => a.wrapping_mul(b) & mask,
+        BinOp::Eq => u64::from(a == b),
+        BinOp::Lt => u64::from(a < b),
+        BinOp::Shl => if b < width { (a << (b & 63)) & mask } else { 0 },
+        BinOp::Shr => if b < width { a >> (b & 63) } else { 0 },
+    }
+}

@@ -1,0 +1,394 @@
+//! Lowering of plans to codes, once for all instructions: the width of each part is computed, so that values are plain numbers.
+ghost use Rattle.std.specs.Prelude.{◌≡◌, ◌+◌, ◌||◌, ◌==◌, Some, IfOk, sum_by};
+ghost use Rattle.kp_bits.specs.Operators.{is_shift};
+ghost use Rattle.std.specs.Option.{option_map, option_and_then};
+ghost use Rattle.kp_bits.specs.Word.{not_of};
+ghost use Rattle.kp_bits.specs.Checked.{checked_slice, checked_zext, checked_sext};
+ghost use Rattle.kp_seq_plan.specs.Names.{at_place};
+ghost use Rattle.kp_seq_plan.specs.Plans.{meaning, space};
+ghost use Rattle.kp_seq_plan.specs.declared.code.Code.TheViews as codes;
+ghost use Rattle.kp_seq_plan.specs.Lowering.{Gives};
+ghost use Rattle.kp_seq_plan.specs.inner.Parts.{GivesOne, GivesTwo, GivesMux, GivesAll, GivesCall, GivesWord, IsMask, binary_width, binary_found, join_found, joined_found, call_found, call_space};
+
+use crate::{Code, Plan, Typed};
+use kp_ast::Boxed;
+use kp_base::{List, NoMemory};
+use kp_bits::{BinOp, Bits};
+use std::alloc::Global;
+
+/// The code of a plan, provided that the values under its indices are words of these widths, or missing if there is
+/// no width. None if the plan has no value then. Error: out of memory.
+#[cycle(lowering)]
+pub fn code_of(
+    alloc: Global,
+    plan: &Plan,
+    widths: &[Option<u64>],
+) -> Result<Option<Typed>, NoMemory>
+    ensures { IfOk result (λ c. Gives widths.now (meaning plan.now) (space plan.now) c) }
+{
+    match plan {
+        Plan::Word(word) => Ok(word_of(*word)),
+        Plan::Name(place) => Ok(name_of(widths, *place)),
+        Plan::Not(a) => {
+            let a = code_of(alloc, a.get(), widths)?;
+            complement(alloc, a)
+        }
+        Plan::Binary(op, a, b) => {
+            let (a, b) = two_of(alloc, a.get(), b.get(), widths)?;
+            binary(alloc, *op, a, b)
+        }
+        Plan::Mux(test, a, b) => {
+            let test = code_of(alloc, test.get(), widths)?;
+            let (a, b) = two_of(alloc, a.get(), b.get(), widths)?;
+            choice(alloc, test, a, b)
+        }
+        Plan::Concat(parts) => joined_of(alloc, parts.as_slice(), widths),
+        Plan::Slice(a, hi, lo) => {
+            let a = code_of(alloc, a.get(), widths)?;
+            slice(alloc, a, *hi, *lo)
+        }
+        Plan::Zext(a, width) => {
+            let a = code_of(alloc, a.get(), widths)?;
+            Ok(zero_extended(a, *width))
+        }
+        Plan::Sext(a, width) => {
+            let a = code_of(alloc, a.get(), widths)?;
+            sign_extended(alloc, a, *width)
+        }
+        Plan::Call(args, body) => call_of(alloc, args.as_slice(), body.get(), widths),
+    }
+}
+
+// The codes of two parts.
+#[cycle(lowering)]
+fn two_of(
+    alloc: Global,
+    a: &Plan,
+    b: &Plan,
+    widths: &[Option<u64>],
+) -> Result<(Option<Typed>, Option<Typed>), NoMemory>
+    ensures { IfOk result (λ c. Gives widths.now (meaning a.now) (space a.now) c.0 × Gives widths.now (meaning b.now) (space b.now) c.1) }
+{
+    let a = code_of(alloc, a, widths)?;
+    let b = code_of(alloc, b, widths)?;
+    Ok((a, b))
+}
+
+// The code of a concatenation, the first part in the high bits.
+#[cycle(lowering)]
+fn joined_of(
+    alloc: Global,
+    parts: &[Plan],
+    widths: &[Option<u64>],
+) -> Result<Option<Typed>, NoMemory>
+    ensures { IfOk result (λ c. Gives widths.now (joined_found parts.now) (sum_by space parts.now) c) }
+{
+    let Some((first, rest)) = parts.split_first() else {
+        return Ok(None);
+    };
+    let mut all = code_of(alloc, first, widths)?;
+    for part in rest {
+        let low = code_of(alloc, part, widths)?;
+        all = join(alloc, all, low)?;
+    }
+    Ok(all)
+}
+
+// The code of a call.
+#[cycle(lowering)]
+fn call_of(
+    alloc: Global,
+    args: &[Plan],
+    body: &Plan,
+    widths: &[Option<u64>],
+) -> Result<Option<Typed>, NoMemory>
+    ensures { IfOk result (λ c. Gives widths.now (call_found args.now (meaning body.now)) (call_space args.now (space body.now)) c) }
+{
+    let Some(args) = args_of(alloc, args, widths)? else {
+        return Ok(None);
+    };
+    let body = code_of(alloc, body, args.widths.as_slice())?;
+    call(alloc, args.codes, body)
+}
+
+// Arguments, and their widths.
+#[derive(Drop)]
+struct Args {
+    codes: Vec<Code>,
+    widths: Vec<Option<u64>>,
+}
+
+// The codes of arguments.
+#[cycle(lowering)]
+fn args_of(alloc: Global, plans: &[Plan], widths: &[Option<u64>]) -> Result<Option<Args>, NoMemory>
+    ensures { IfOk result (λ args. GivesAll widths.now plans.now args) }
+{
+    let mut codes = Vec::new(alloc);
+    let mut known = Vec::new(alloc);
+    for plan in plans {
+        let arg = code_of(alloc, plan, widths)?;
+        match arg {
+            Some(arg) => {
+                codes.push(arg.code)?;
+                known.push(Some(arg.width))?;
+            }
+            None => return Ok(None),
+        }
+    }
+    Ok(Some(Args {
+        codes,
+        widths: known,
+    }))
+}
+
+// The body with these arguments.
+#[tactic(auto, using(crate::proofs::Typing::call_none, crate::proofs::Typing::call_gives))]
+fn call(alloc: Global, args: Vec<Code>, body: Option<Typed>) -> Result<Option<Typed>, NoMemory>
+    ensures { IfOk result (λ c. GivesCall args.items body c) }
+{
+    let Some(body) = body else {
+        return Ok(None);
+    };
+    Ok(Some(Typed {
+        code: Code::Call(List::new(args), Boxed::new(alloc, body.code)?),
+        width: body.width,
+    }))
+}
+
+#[tactic(auto, using(crate::proofs::Typing::word_gives))]
+fn word_of(word: Option<Bits>) -> Option<Typed>
+    ensures { GivesWord word result }
+{
+    let word = word?;
+    Some(Typed {
+        code: Code::Word(word.value()),
+        width: u64::from(word.width()),
+    })
+}
+
+#[tactic(auto, using(crate::proofs::Typing::name_gives, crate::proofs::Typing::name_nowhere, crate::proofs::Typing::name_unknown, crate::proofs::Typing::name_zero, crate::proofs::Typing::name_wide, crate::proofs::Typing::name_past))]
+fn name_of(widths: &[Option<u64>], place: Option<usize>) -> Option<Typed>
+    ensures { Gives widths.now (λ s. at_place s place) 0 result }
+{
+    let place = place?;
+    if place >= widths.len() {
+        return None;
+    }
+    let width = widths[place]?;
+    if width == 0 {
+        return None;
+    }
+    if width > 64 {
+        return None;
+    }
+    Some(Typed {
+        code: Code::Name(place),
+        width,
+    })
+}
+
+#[tactic(auto, using(crate::proofs::Typing::not_none, crate::proofs::Typing::not_gives))]
+fn complement(alloc: Global, a: Option<Typed>) -> Result<Option<Typed>, NoMemory>
+    ensures { IfOk result (λ c. GivesOne (option_map not_of) a c) }
+{
+    let Some(a) = a else {
+        return Ok(None);
+    };
+    Ok(Some(Typed {
+        code: Code::Not(Boxed::new(alloc, a.code)?, mask(a.width)),
+        width: a.width,
+    }))
+}
+
+#[tactic(auto, using(crate::proofs::Typing::binary_unless, crate::proofs::Typing::two_with))]
+fn binary(
+    alloc: Global,
+    op: BinOp,
+    a: Option<Typed>,
+    b: Option<Typed>,
+) -> Result<Option<Typed>, NoMemory>
+    ensures { IfOk result (λ c. GivesTwo (binary_found op) a b c) }
+{
+    match a.zip(b) {
+        Some((a, b)) => operation(alloc, op, a, b),
+        None => Ok(None),
+    }
+}
+
+#[tactic(auto, using(crate::proofs::Typing::binary_wrong, crate::proofs::Typing::binary_gives))]
+fn operation(alloc: Global, op: BinOp, a: Typed, b: Typed) -> Result<Option<Typed>, NoMemory>
+    ensures { IfOk result (λ c. GivesTwo (binary_found op) (Some a) (Some b) c) }
+{
+    if !is_meant(op, a.width, b.width) {
+        return Ok(None);
+    }
+    let width = binary_width(op, a.width);
+    let mask = mask(a.width);
+    let (left, right) = boxed(alloc, a.code, b.code)?;
+    Ok(Some(Typed {
+        code: Code::Binary(op, left, right, a.width, mask),
+        width,
+    }))
+}
+
+// Two codes on the heap.
+fn boxed(alloc: Global, a: Code, b: Code) -> Result<(Boxed<Code>, Boxed<Code>), NoMemory>
+    ensures { IfOk result (λ boxes. boxes ≡ (a, b)) }
+{
+    let a = Boxed::new(alloc, a)?;
+    let b = Boxed::new(alloc, b)?;
+    Ok((a, b))
+}
+
+// Whether the operands have the same width, or the operator is a shift.
+fn is_meant(op: BinOp, left: u64, right: u64) -> bool
+    ensures { result ≡ (is_shift op || left == right) }
+{
+    op.is_shift() || left == right
+}
+
+// The width of the result; a comparison has one bit.
+fn binary_width(op: BinOp, width: u64) -> u64
+    ensures { result ≡ binary_width op width }
+{
+    match op {
+        BinOp::Eq | BinOp::Lt => 1,
+        _ => width,
+    }
+}
+
+#[tactic(auto, using(crate::proofs::Typing::mux_unless, crate::proofs::Typing::mux_with))]
+fn choice(
+    alloc: Global,
+    test: Option<Typed>,
+    a: Option<Typed>,
+    b: Option<Typed>,
+) -> Result<Option<Typed>, NoMemory>
+    ensures { IfOk result (λ c. GivesMux test a b c) }
+{
+    match test.zip(a.zip(b)) {
+        Some((test, (a, b))) => chosen(alloc, test, a, b),
+        None => Ok(None),
+    }
+}
+
+#[tactic(auto, using(crate::proofs::Typing::mux_wrong, crate::proofs::Typing::mux_gives))]
+fn chosen(alloc: Global, test: Typed, a: Typed, b: Typed) -> Result<Option<Typed>, NoMemory>
+    ensures { IfOk result (λ c. GivesMux (Some test) (Some a) (Some b) c) }
+{
+    if test.width != 1 || a.width != b.width {
+        return Ok(None);
+    }
+    let code = mux(alloc, test.code, a.code, b.code)?;
+    Ok(Some(Typed {
+        code,
+        width: a.width,
+    }))
+}
+
+// The code of a choice.
+fn mux(alloc: Global, test: Code, a: Code, b: Code) -> Result<Code, NoMemory>
+    ensures { IfOk result (λ c. c ≡ codes.Mux test a b) }
+{
+    let (yes, no) = boxed(alloc, a, b)?;
+    let test = Boxed::new(alloc, test)?;
+    Ok(Code::Mux(test, yes, no))
+}
+
+#[tactic(auto, using(crate::proofs::Typing::join_unless, crate::proofs::Typing::two_with))]
+fn join(alloc: Global, high: Option<Typed>, low: Option<Typed>) -> Result<Option<Typed>, NoMemory>
+    ensures { IfOk result (λ c. GivesTwo join_found high low c) }
+{
+    match high.zip(low) {
+        Some((high, low)) => joined(alloc, high, low),
+        None => Ok(None),
+    }
+}
+
+#[tactic(auto, using(crate::proofs::Typing::join_wide, crate::proofs::Typing::join_long, crate::proofs::Typing::join_gives))]
+fn joined(alloc: Global, high: Typed, low: Typed) -> Result<Option<Typed>, NoMemory>
+    ensures { IfOk result (λ c. GivesTwo join_found (Some high) (Some low) c) }
+{
+    if high.width > 64 {
+        return Ok(None);
+    }
+    if low.width > 64 - high.width {
+        return Ok(None);
+    }
+    let (top, bottom) = boxed(alloc, high.code, low.code)?;
+    Ok(Some(Typed {
+        code: Code::Join(top, bottom, low.width),
+        width: high.width + low.width,
+    }))
+}
+
+#[tactic(auto, using(crate::proofs::Typing::slice_none, crate::proofs::Typing::slice_order, crate::proofs::Typing::slice_past, crate::proofs::Typing::slice_gives))]
+fn slice(alloc: Global, a: Option<Typed>, hi: u64, lo: u64) -> Result<Option<Typed>, NoMemory>
+    ensures { IfOk result (λ c. GivesOne (option_and_then (checked_slice hi lo)) a c) }
+{
+    let Some(a) = a else {
+        return Ok(None);
+    };
+    if lo > hi {
+        return Ok(None);
+    }
+    if hi >= a.width {
+        return Ok(None);
+    }
+    let width = hi - lo + 1;
+    Ok(Some(Typed {
+        code: Code::Slice(Boxed::new(alloc, a.code)?, lo, mask(width)),
+        width,
+    }))
+}
+
+#[tactic(auto, using(crate::proofs::Typing::zext_none, crate::proofs::Typing::zext_narrow, crate::proofs::Typing::zext_past, crate::proofs::Typing::zext_gives))]
+fn zero_extended(a: Option<Typed>, width: u64) -> Option<Typed>
+    ensures { GivesOne (option_and_then (checked_zext width)) a result }
+{
+    let Some(a) = a else {
+        return None;
+    };
+    if a.width > width {
+        return None;
+    }
+    if width > 64 {
+        return None;
+    }
+    Some(Typed {
+        code: a.code,
+        width,
+    })
+}
+
+#[tactic(auto, using(crate::proofs::Typing::sext_none, crate::proofs::Typing::sext_narrow, crate::proofs::Typing::sext_past, crate::proofs::Typing::sext_gives))]
+fn sign_extended(alloc: Global, a: Option<Typed>, width: u64) -> Result<Option<Typed>, NoMemory>
+    ensures { IfOk result (λ c. GivesOne (option_and_then (checked_sext width)) a c) }
+{
+    let Some(a) = a else {
+        return Ok(None);
+    };
+    if a.width > width {
+        return Ok(None);
+    }
+    if width > 64 {
+        return Ok(None);
+    }
+    let narrow = mask(a.width);
+    let more = mask(width).wrapping_sub(narrow);
+    Ok(Some(Typed {
+        code: Code::Sext(Boxed::new(alloc, a.code)?, narrow / 2, more),
+        width,
+    }))
+}
+
+// The greatest number of a width, and 0 if the width is not in 1 to 64.
+#[tactic(auto, using(kp_bits::proofs::Powers::mask_of))]
+fn mask(width: u64) -> u64
+    ensures { IsMask width result }
+{
+    if width == 0 || width > 64 {
+        return 0;
+    }
+    u64::MAX >> (64 - width)
+}

@@ -1,9 +1,0 @@
-use Rattle.std.proofs.Common.{◌≡◌, ◌+◌, ◌≤◌, ◌++◌, map, drop}
-use Rattle.std.specs.Prelude.{codes}
-use Rattle.kp_shows.specs.Naming.{place_among}
-use Rattle.kp_shows.proofs.naming.register_named.Given as goal
-
-abbrev pub invariant-loop-reg : goal.invariant-loop-reg
-invariant-loop-reg l =
-    (l.i + place_among (map (λ x. x.name) (drop l.reg-index l.regs)) (codes "r_" ++ l.name) ≡ place_among (map (λ x. x.name) l.regs) (codes "r_" ++ l.name))
-    × (l.i ≤ l.reg-index)

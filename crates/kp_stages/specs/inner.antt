@@ -1,4 +1,0 @@
--- The definitions below here are for private contracts and proofs alone: no public clause of the crate cites them.
-pub mod Seeing
-pub mod Whole
-pub mod Descending

@@ -1,8 +1,0 @@
--- The next token says how to go on.
-use Rattle.std.proofs.Common.{refl}
-use Rattle.kp_grammar.specs.Tables.{IsPredictive}
-use Rattle.kp_syntax.specs.Language.{language, JOB}
-use Rattle.kp_syntax.specs.inner.Follow.{tables}
-
-pub is_predictive : IsPredictive language tables JOB
-is_predictive = record { fits = refl; ends = refl }

@@ -1,0 +1,28 @@
+use Rattle.std.proofs.Common.{◌≡◌, ◌∙◌, ℕ, ◌+◌, ◌<◌, sym, subst, arith}
+use Rattle.std.proofs.lemmas.List.{length-set}
+use Rattle.kp_net.specs.Growth.{Wire}
+use Rattle.kp_net.proofs.Growing.{wire_kept, grown_then}
+use Rattle.kp_synth_registers.specs.Telling.{Tells}
+use Rattle.kp_synth_registers.proofs.Growth.{tells_kept, ready_kept}
+use Rattle.kp_synth_close.proofs.Bits.{at_set}
+use Rattle.kp_synth_close.proofs.outputs.fulls_of.Goals as goal
+
+pub full_in-requires-clause-ready : goal.full_in-requires-clause-ready
+full_in-requires-clause-ready c = ready_kept _ _ _ _ _ c.loop-k.invariant.grown.kept c.requires.ready
+
+pub loop-k-preserved : goal.loop-k-preserved
+loop-k-preserved c =
+    let v = c.loop-k.invariant in
+    let l : c.loop-k.k < c.args.layout.now.stages.value = omega (arith, c.loop-k-test.true, c.stages-k-end.ensures.stages) in
+    let b : c.loop-k.k < 12 = omega (arith, l, c.stages-k-end.ensures.fits.at_most) in
+    let g = c.full_in.ensures.grown in
+    record {
+      len = length-set c.loop-k.fulls c.loop-k.k _ ∙ v.len;
+      wires = λ k m. at_set (λ k n. Wire c.full_in.new.pool n 1) c.loop-k.fulls c.loop-k.k c.full_in.result k (omega (arith, b, v.len)) (λ q. c.full_in.ensures.wire) (λ q. wire_kept _ _ _ _ _ g.kept (v.wires k (omega (arith, m, less q m))));
+      tells = λ k m. at_set (λ k n. Tells c.args.layout.now c.full_in.new.pool n (λ st i. (st.stage k).full)) c.loop-k.fulls c.loop-k.k c.full_in.result k (omega (arith, b, v.len))
+          (λ q. subst (λ j. Tells c.args.layout.now c.full_in.new.pool c.full_in.result (λ st i. (st.stage j).full)) (sym q) c.full_in.ensures.tells)
+          (λ q. tells_kept _ _ _ _ 1 _ _ g.kept (v.wires k (omega (arith, m, less q m))) (v.tells k (omega (arith, m, less q m))));
+      grown = grown_then _ _ _ _ _ v.grown g;
+    } where
+      less : {k j : ℕ} → (k ≡ j → ⊥) → k < j + 1 → k < j
+      less q m = omega arith

@@ -1,0 +1,20 @@
+use Rattle.std.proofs.Common.{arith}
+use Rattle.std.proofs.lemmas.Grind.{common_steps}
+use Rattle.kp_synth_parts.proofs.Spelled.{no_ports, port_more}
+use Rattle.kp_synth_parts.proofs.files.sample_ports.Goals as goal
+
+pub loop-decl-init : goal.loop-decl-init
+loop-decl-init c = record {
+  few = grind (arith, common_steps);
+  samples = grind (arith, common_steps);
+  ports = grind (arith, common_steps);
+  spelled = no_ports _ c.new-ports.ensures.items;
+}
+
+pub loop-decl-preserved : goal.loop-decl-preserved
+loop-decl-preserved c = record {
+  few = grind (arith, common_steps);
+  samples = grind (arith, common_steps);
+  ports = grind (arith, common_steps);
+  spelled = grind (arith, common_steps, port_more);
+}

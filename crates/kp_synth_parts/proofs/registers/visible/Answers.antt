@@ -1,0 +1,18 @@
+use Rattle.std.proofs.Common.{arith}
+use Rattle.std.proofs.lemmas.Grind.{common_steps}
+use Rattle.kp_synth_parts.proofs.Spelled.{no_regs, reg_more}
+use Rattle.kp_synth_parts.proofs.registers.visible.Goals as goal
+
+pub loop-decl-init : goal.loop-decl-init
+loop-decl-init c = record {
+  count = grind (arith, common_steps);
+  regs = grind (arith, common_steps);
+  spelled = no_regs _ c.new-regs.ensures.items;
+}
+
+pub loop-decl-preserved : goal.loop-decl-preserved
+loop-decl-preserved c = record {
+  count = grind (arith, common_steps);
+  regs = grind (arith, common_steps);
+  spelled = grind (arith, common_steps, reg_more);
+}

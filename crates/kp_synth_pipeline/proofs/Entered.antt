@@ -1,0 +1,171 @@
+-- What enters a stage.
+use Rattle.std.proofs.Common.{◌≡◌, ◌∙◌, ℕ, zero, suc, ◌+◌, ◌-◌, ◌<◌, ◌≤◌, ◌^◌, ◌%◌, ◌/◌, Bool, true, false, cond, List, [], ◌∷◌, ◌++◌, take, length, get_or, length-append, Option, Some, refl, sym, ap, subst, arith, ◌⊎◌, inl, inr, ⊎_elim}
+use Rattle.std.specs.Prelude.{slice_get}
+use Rattle.std.specs.List.{filter}
+use Rattle.std.proofs.Math.ListN.{get_or-append}
+use Rattle.std.proofs.Math.Seq.{get_or-append_seam}
+use Rattle.std.proofs.lemmas.Bool.{cases_lt, cases_Bool, cond-true, cond-false}
+use Rattle.kp_bits.specs.Word as bits
+use Rattle.kp_ast.specs.declared.tree.Job.{Job}
+use Rattle.kp_pipeline.specs.Pipeline.{PipelineState, Inputs}
+use Rattle.kp_pipeline.proofs.Cycle.{truth-top}
+use Rattle.kp_machine.specs.Slots.{Slot, targets_of, hints_of, is_register}
+use Rattle.kp_machine.specs.Machine.{machine_of, registers_before, files_before}
+use Rattle.kp_net.specs.declared.node.NodeId.{NodeId}
+use Rattle.kp_net.specs.Nodes.{Cells, word_at, at}
+use Rattle.kp_net.specs.Growth.{Held, Wire, Kept}
+use Rattle.kp_net.proofs.Growing.{wire_kept}
+use Rattle.kp_synth_tables.specs.declared.key.Key.TheVariants.{Visible, Hint}
+use Rattle.kp_synth_tables.specs.Keys.{no_slot, target_at}
+use Rattle.kp_synth_registers.specs.declared.registers.Reads.{Reads}
+use Rattle.kp_synth_registers.specs.Holding.{Holds, kept_in, own_word}
+use Rattle.kp_synth_registers.specs.Telling.{Tells, Gives, Ready, node_at}
+use Rattle.kp_synth_tables.specs.Fits.{IsWidth, Fits}
+use Rattle.kp_synth_registers.proofs.Growth.{gives_kept}
+use Rattle.kp_synth_stage.specs.declared.row.Own.TheVariants.{Register, File}
+use Rattle.kp_synth_stage.specs.declared.row.Row.{Row}
+use Rattle.kp_synth_stage.specs.declared.row.Source.{Source}
+use Rattle.kp_synth_stage.specs.Rows.{Sees, view_of, rows_view, own_value, OwnOk, RowsOk, SourcesOk}
+use Rattle.kp_synth_pipeline.specs.inner.Seeing.{SeesAbove}
+use Rattle.kp_synth_pipeline.specs.inner.Whole.{Few, OwnMeans, Bare}
+use Rattle.kp_synth_pipeline.proofs.Ports.{bit_value}
+
+-- the first nodes of a list have these widths and values
+pub record FirstOf (job : Job) (p : Held) (w : ℕ → ℕ) (f : ℕ → PipelineState → Inputs → ℕ) (ns : List NodeId) : Type 0 where
+  pub wires : (y : ℕ) → y < length ns → Wire p (node_at ns y) (w y)
+  pub gives : (y : ℕ) → y < length ns → Gives job p (node_at ns y) (f y)
+
+pub none_first : (job : Job) (p : Held) (w : ℕ → ℕ) (f : ℕ → PipelineState → Inputs → ℕ) → FirstOf job p w f []
+none_first job p w f = record { wires = λ y l. absurd (omega arith); gives = λ y l. absurd (omega arith) }
+
+pub one_first : (job : Job) (p q : Held) (m : ℕ) (w : ℕ → ℕ) (f : ℕ → PipelineState → Inputs → ℕ) (ns : List NodeId) (n : NodeId) → Kept p q m → FirstOf job p w f ns
+    → Wire q n (w (length ns)) → Gives job q n (f (length ns)) → FirstOf job q w f (ns ++ n ∷ [])
+one_first job p q m w f ns n g h wire gives = record {
+  wires = λ y l. ⊎_elim
+      (λ (b : y < length ns). subst (λ (x : NodeId). Wire q x (w y)) (sym (get_or-append ns (n ∷ []) (record { 0 = 0 }) y b)) (wire_kept p q m (node_at ns y) _ g (h.wires y b)))
+      (λ (b : length ns ≤ y). let z : length ns ≡ y = omega (arith, l, length-append ns (n ∷ [])) in
+      let e : n ≡ node_at (ns ++ n ∷ []) y = sym (get_or-append_seam ns n [] (record { 0 = 0 })) ∙ ap (node_at (ns ++ n ∷ [])) z in
+      subst (λ (x : NodeId). Wire q x (w y)) e (subst (λ s. Wire q n (w s)) z wire))
+      (cases_lt y (length ns));
+  gives = λ y l. ⊎_elim
+      (λ (b : y < length ns). subst (λ (x : NodeId). Gives job q x (f y)) (sym (get_or-append ns (n ∷ []) (record { 0 = 0 }) y b)) (gives_kept job p q m (w y) (node_at ns y) (f y) g (h.wires y b) (h.gives y b)))
+      (λ (b : length ns ≤ y). let z : length ns ≡ y = omega (arith, l, length-append ns (n ∷ [])) in
+      let e : n ≡ node_at (ns ++ n ∷ []) y = sym (get_or-append_seam ns n [] (record { 0 = 0 })) ∙ ap (node_at (ns ++ n ∷ [])) z in
+      subst (λ (x : NodeId). Gives job q x (f y)) e (subst (λ s. Gives job q n (f s)) z gives))
+      (cases_lt y (length ns));
+}
+
+pub hint_gives : (job : Job) (p : Held) (n : NodeId) (h : ℕ) → h < length (hints_of job.decls) → ((c : Cells) → at c p.nodes n.0 ≡ kept_in job c (Hint h)) → Gives job p n (λ st i. st.hints h)
+unfolding Gives
+hint_gives job p n h l e = λ c st i y. e c ∙ y.hints h l
+
+-- the stall word
+pub ext_bit : (job : Job) (p q : Held) (reads : Reads) (n : NodeId) (k : ℕ) → k < job.stages.value → Ready job p reads → ((c : Cells) → word_at c q.nodes n.0 ≡ bits.slice_of (word_at c p.nodes reads.ext.0) k k)
+    → Tells job q n (λ st i. i.ext k)
+unfolding Tells at
+ext_bit job p q reads n k l ready e = λ c st i h.
+    let z : k + 1 - k ≡ 1 = omega arith in
+    let a : (word_at c q.nodes n.0).value ≡ (c.ext % 2 ^ job.stages.value) / 2 ^ k % 2 =
+    ap (λ (x : bits.Word). x.value) (e c) ∙ ap (λ s. (word_at c p.nodes reads.ext.0).value / 2 ^ k % 2 ^ s) z ∙ ap (λ v. v / 2 ^ k % 2) (ready.ext_value c) in
+    bit_value c q n _ a ∙ h.ext k l
+
+-- a target's own value
+pub register_means : (job : Job) (p : Held) (t w : ℕ) (n : NodeId) → t < length (targets_of job.decls) → is_register (target_at job t) ≡ true → ((c : Cells) → at c p.nodes n.0 ≡ kept_in job c (Visible t))
+    → OwnMeans job p t w (Register n)
+unfolding OwnMeans own_word
+register_means job p t w n l r e = λ c st i h a m.
+    e c ∙ sym (cond-true (is_register (target_at job t)) (kept_in job c (Visible t)) (c.word (files_before (targets_of job.decls) t) a % 2 ^ (target_at job t).width) r) ∙ h.visible t a l m
+
+pub file_means : (job : Job) (p : Held) (t f : ℕ) → t < length (targets_of job.decls) → is_register (target_at job t) ≡ false → f ≡ files_before (targets_of job.decls) t
+    → OwnMeans job p t (target_at job t).width (File f)
+unfolding OwnMeans own_word
+file_means job p t f l r e = λ c st i h a m.
+    ap (λ x. c.word x a % 2 ^ (target_at job t).width) e
+    ∙ sym (cond-false (is_register (target_at job t)) (kept_in job c (Visible t)) (c.word (files_before (targets_of job.decls) t) a % 2 ^ (target_at job t).width) r) ∙ h.visible t a l m
+
+pub bare_is : (job : Job) (p : Held) (t : ℕ) (s : Source) → Fits job → s.width ≡ (target_at job t).width → IsWidth s.width → OwnOk job p t s.own → OwnMeans job p t (target_at job t).width s.own → s.rows.items ≡ []
+    → Bare job p t s
+bare_is job p t s fits w width own means rows = record {
+  ok = record {
+    width = w;
+    positive = width.positive;
+    at_most = width.at_most;
+    own = own;
+    rows = subst (λ (xs : List Row). RowsOk p (target_at job t).address (target_at job t).width xs) (sym rows) tt;
+    few = subst (λ (xs : List Row). length xs + 1 ≤ job.stages.value) (sym rows) (omega (arith, fits.at_least));
+    stages = fits.at_most;
+  };
+  rows = rows;
+  own = subst (λ v. OwnMeans job p t v s.own) (sym w) means;
+}
+
+-- registers are counted
+registers_more : (ss : List Slot) (t : ℕ) → t < length ss → length (filter is_register (take (suc t) ss)) ≡ cond (is_register (get_or ss t no_slot)) (length (filter is_register (take t ss)) + 1) (length (filter is_register (take t ss)))
+registers_more [] t l = absurd (omega arith)
+registers_more (s ∷ ss) zero l = ⊎_elim
+    (λ (b : is_register s ≡ true). rw b refl)
+    (λ (b : is_register s ≡ false). rw b refl)
+    (cases_Bool (is_register s))
+registers_more (s ∷ ss) (suc t) l =
+    let more = registers_more ss t (omega arith) in
+    let z : (n m : ℕ) (b : Bool) → suc (cond b (n + 1) n) ≡ cond b (suc n + 1) (suc n) = λ n m b. ⊎_elim (λ (e : b ≡ true). rw e (omega arith)) (λ (e : b ≡ false). rw e refl) (cases_Bool b) in
+    ⊎_elim
+    (λ (b : is_register s ≡ true). rw b (ap suc more ∙ z (length (filter is_register (take t ss))) 0 (is_register (get_or ss t no_slot))))
+    (λ (b : is_register s ≡ false). rw b more)
+    (cases_Bool (is_register s))
+
+pub registers_then : (job : Job) (t : ℕ) → t < length (targets_of job.decls) → (b : Bool) → is_register (target_at job t) ≡ b
+    → registers_before (targets_of job.decls) (t + 1) ≡ cond b (registers_before (targets_of job.decls) t + 1) (registers_before (targets_of job.decls) t)
+registers_then job t l b e =
+    let z : t + 1 ≡ suc t = omega arith in
+    ap (registers_before (targets_of job.decls)) z ∙ registers_more (targets_of job.decls) t l
+    ∙ ap (λ x. cond x (registers_before (targets_of job.decls) t + 1) (registers_before (targets_of job.decls) t)) e
+
+-- the first targets
+unfoldable pub AllBare : Job → Held → List Source → Type 0
+AllBare job p ss = (u : ℕ) (s : Source) → slice_get ss u ≡ Some s → Bare job p u s
+
+pub none_bare : (job : Job) (p : Held) → AllBare job p []
+unfolding AllBare
+none_bare job p = λ u s e. cc
+
+get_more : (ss : List Source) (x : Source) (u : ℕ) (s : Source) → slice_get (ss ++ x ∷ []) u ≡ Some s → (slice_get ss u ≡ Some s) ⊎ ((u ≡ length ss) × (s ≡ x))
+get_more [] x zero s e = inr (refl, cc)
+get_more [] x (suc u) s e = cc
+get_more (y ∷ ss) x zero s e = inl e
+get_more (y ∷ ss) x (suc u) s e = ⊎_elim (λ a. inl a) (λ a. inr (ap (λ (n : ℕ). suc n) a.0, a.1)) (get_more ss x u s e)
+
+pub one_bare : (job : Job) (p : Held) (ss : List Source) (x : Source) (t : ℕ) → length ss ≡ t → AllBare job p ss → Bare job p t x → AllBare job p (ss ++ x ∷ [])
+unfolding AllBare
+one_bare job p ss x t n h b = λ u s e. ⊎_elim
+    (λ a. h u s a)
+    (λ a. subst (λ (y : Source). Bare job p u y) (sym a.1) (subst (λ v. Bare job p v x) (sym n ∙ sym a.0) b))
+    (get_more ss x u s e)
+
+pub bare_ok : (job : Job) (p : Held) (ss : List Source) → length ss ≡ length (targets_of job.decls) → AllBare job p ss → SourcesOk job p ss
+unfolding AllBare
+bare_ok job p ss n h = record { count = n; each = λ t s e. (h t s e).ok }
+
+pub bare_few : (job : Job) (p : Held) (ss : List Source) → AllBare job p ss → (k : ℕ) → k + 1 ≤ job.stages.value → Few job k ss
+unfolding AllBare Few
+bare_few job p ss h k l = λ t s e. subst (λ (xs : List Row). length xs + suc k ≤ job.stages.value) (sym (h t s e).rows) (omega (arith, l))
+
+view_bare : (job : Job) (c : Cells) (st : PipelineState) (i : Inputs) (p : Held) (t a : ℕ) (o : Option Source) → Holds job c st i → a < 2 ^ (target_at job t).address → (s : Source) → o ≡ Some s → Bare job p t s → view_of c p o a ≡ Some (st.visible t a)
+unfolding OwnMeans
+view_bare job c st i p t a o h l s e b =
+    ap (λ (x : Option Source). view_of c p x a) e ∙ ap (λ (xs : List Row). rows_view c p xs (own_value c p s.width s.own a) a) b.rows ∙ ap (λ (v : ℕ). Some v) (b.own c st i h a l)
+
+source_in : (xs : List Source) (t : ℕ) → t < length xs → (s : Source) × (slice_get xs t ≡ Some s)
+source_in [] t h = absurd (omega arith)
+source_in (x ∷ xs) zero h = (x, refl)
+source_in (x ∷ xs) (suc t) h = source_in xs t (omega arith)
+
+stages_end : (job : Job) (k : ℕ) → job.stages.value ≡ k + 1 → (machine_of job).stages ≤ suc k
+unfolding machine_of
+stages_end job k e = omega (arith, e)
+
+pub bare_sees : (job : Job) (p : Held) (ss : List Source) → length ss ≡ length (targets_of job.decls) → AllBare job p ss → (k : ℕ) → job.stages.value ≡ k + 1 → SeesAbove job p ss k
+unfolding AllBare SeesAbove Sees
+bare_sees job p ss n h k e = λ c st i y t a l m.
+    let x = source_in ss t (omega (arith, l, n)) in
+    view_bare job c st i p t a (slice_get ss t) y m x.0 x.1 (h t x.0 x.1) ∙ sym (truth-top (machine_of job) st i k t a (stages_end job k e))

@@ -1,0 +1,39 @@
+-- What a stage does, and whether it stalls.
+use Rattle.std.proofs.Common.{◌≡◌, ◌∙◌, ℕ, ◌&&◌, ◌||◌, List}
+use Rattle.kp_ast.specs.declared.tree.Job.{Job}
+use Rattle.kp_pipeline.specs.Pipeline.{above, outcome, stall}
+use Rattle.kp_machine.specs.Machine.{machine_of}
+use Rattle.kp_net.specs.declared.node.NodeId.{NodeId}
+use Rattle.kp_net.specs.Nodes.{Cells, on}
+use Rattle.kp_net.specs.Growth.{Held, Kept}
+use Rattle.kp_synth_registers.specs.Telling.{Tells, Gives, guesses_at}
+use Rattle.kp_synth_stage.specs.declared.row.Source.{Source}
+use Rattle.kp_synth_stage.specs.declared.work.Work.{Work}
+use Rattle.kp_synth_stage.specs.Work.{Fits, Does}
+use Rattle.kp_synth_stage.specs.Rows.{SourcesOk}
+use Rattle.kp_synth_stage.proofs.Binding.{means_kept}
+use Rattle.kp_synth_stage.proofs.Nearest.{sees_kept}
+use Rattle.kp_synth_pipeline.specs.inner.Seeing.{SeesAbove, PipesIn, SamplesIn, HintsIn, Computes}
+
+module _ (job : Job) (k : ℕ) (p q z : Held) (m : ℕ) (g : Kept q z m) (ss : List Source) (pipes samples hints : List NodeId) (w : Work) (fits : Fits job q (guesses_at job k) w)
+    (sees : SeesAbove job p ss k) (ps : PipesIn job p pipes k) (ts : SamplesIn job p samples) (hs : HintsIn job p hints) (does : Does job k p pipes samples hints ss q w) where
+  pub computes : Computes job z w k
+  unfolding Computes SeesAbove PipesIn SamplesIn HintsIn Does Gives outcome machine_of
+  computes = λ c st i h.
+      means_kept job c q z m (guesses_at job k) w (outcome (machine_of job) st i k) g fits
+      (does c (above (machine_of job) st i k).truth (st.stage k).instruction.pipes i.samples st.hints (sees c st i h) (λ x l. ps x l c st i h) (λ x l. ts x l c st i h) (λ x l. hs x l c st i h))
+
+  pub stalls : (full ext higher halt : NodeId) → Tells job q full (λ st i. (st.stage k).full) → Tells job q ext (λ st i. i.ext k) → Tells job q higher (λ st i. (above (machine_of job) st i k).stall)
+      → ((c : Cells) → on c z.nodes halt.0 ≡ (on c q.nodes full.0 && (on c q.nodes w.hazard.0 || (on c q.nodes ext.0 || on c q.nodes higher.0))))
+      → Tells job z halt (λ st i. stall (machine_of job) st i k)
+  unfolding Tells SeesAbove PipesIn SamplesIn HintsIn Does Gives stall machine_of
+  stalls full ext higher halt f e u is = λ c st i h.
+      let a = f c st i h in
+      let b = (does c (above (machine_of job) st i k).truth (st.stage k).instruction.pipes i.samples st.hints (sees c st i h) (λ x l. ps x l c st i h) (λ x l. ts x l c st i h) (λ x l. hs x l c st i h)).hazard in
+      let d = e c st i h in
+      let v = u c st i h in
+      is c ∙ (λ j. a j && (b j || (d j || v j)))
+
+pub sees_above_kept : (job : Job) (p q : Held) (m : ℕ) (ss : List Source) (k : ℕ) → Kept p q m → SourcesOk job p ss → SeesAbove job p ss k → SeesAbove job q ss k
+unfolding SeesAbove
+sees_above_kept job p q m ss k g ok h = λ c st i y. sees_kept job c p q m ss (above (machine_of job) st i k).truth g ok (h c st i y)

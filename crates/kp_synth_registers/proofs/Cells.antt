@@ -1,0 +1,126 @@
+-- Nodes that read cells.
+use Rattle.std.proofs.Common.{◌≡◌, ◌∙◌, ℕ, ◌+◌, ◌%◌, ◌^◌, ◌<◌, ◌≤◌, List, [], ◌∷◌, ◌++◌, length, length-append, sym, ap, subst, arith, ⊎_elim}
+use Rattle.std.proofs.Math.ListN.{get_or-append}
+use Rattle.std.proofs.Math.Seq.{get_or-append_seam}
+use Rattle.std.proofs.lemmas.Bool.{cases_lt}
+use Rattle.kp_bits.specs.Word as bits
+use Rattle.std.specs.Prelude.{false}
+use Rattle.std.proofs.lemmas.Bool.{cond-false}
+use Rattle.kp_ast.specs.declared.tree.Job.{Job}
+use Rattle.kp_pipeline.specs.Pipeline.{PipelineState, Inputs}
+use Rattle.kp_machine.specs.Slots.{targets_of, samples_of, is_register}
+use Rattle.kp_machine.specs.Machine.{files_before}
+use Rattle.kp_net.specs.declared.node.NodeId.{NodeId}
+use Rattle.kp_net.specs.declared.node.Kind.TheVariants as kinds
+use Rattle.kp_net.specs.Nodes.{Cells, word_of_node, word_at, at}
+use Rattle.kp_net.specs.Growth.{Held, Wire, Kept, AddsOnly}
+use Rattle.kp_net.proofs.Growing.{wire_kept, kept_then}
+use Rattle.kp_net.proofs.Values.{at_fits}
+use Rattle.kp_synth_tables.specs.declared.key.Key.TheVariants.{Visible}
+use Rattle.kp_synth_registers.specs.Holding.{Holds, kept_in, own_word}
+use Rattle.kp_synth_tables.specs.Keys.{key_width, key_at, keys_of, target_at, sample_at}
+use Rattle.kp_synth_registers.specs.declared.registers.Reads.{Reads}
+use Rattle.kp_synth_registers.specs.Telling.{Gives, node_at, Added, Ready}
+use Rattle.kp_synth_registers.specs.inner.First.{FirstRead, FirstSamples}
+use Rattle.kp_synth_registers.proofs.Growth.{gives_kept, asked_added}
+
+pub reg_value : (p q : Held) (c : Cells) (n : NodeId) (r k w : ℕ) → k ≡ w → word_at c q.nodes n.0 ≡ word_of_node c (word_at c p.nodes) (record { width = k; kind = kinds.Reg r }) → at c q.nodes n.0 ≡ c.reg r % 2 ^ w
+unfolding at
+reg_value p q c n r k w f e = ap (λ (x : bits.Word). x.value) e ∙ ap (λ (z : ℕ). c.reg r % 2 ^ z) f
+
+pub ext_value : (p q : Held) (c : Cells) (n : NodeId) (k w : ℕ) → k ≡ w → word_at c q.nodes n.0 ≡ word_of_node c (word_at c p.nodes) (record { width = k; kind = kinds.Ext }) → at c q.nodes n.0 ≡ c.ext % 2 ^ w
+unfolding at
+ext_value p q c n k w f e = ap (λ (x : bits.Word). x.value) e ∙ ap (λ (z : ℕ). c.ext % 2 ^ z) f
+
+pub reg_added : (job : Job) (p q : Held) (r k : ℕ) → Kept p q 1 → AddsOnly (record { width = k; kind = kinds.Reg r }) p q → r < length (keys_of job) → k ≡ key_width job (key_at job r) → Added job p q 1
+reg_added job p q r k a only l e = asked_added job p q (record { width = k; kind = kinds.Reg r }) a only (l, e)
+
+pub ext_added : (job : Job) (p q : Held) (k : ℕ) → Kept p q 1 → AddsOnly (record { width = k; kind = kinds.Ext }) p q → k ≡ job.stages.value → Added job p q 1
+ext_added job p q k a only e = asked_added job p q (record { width = k; kind = kinds.Ext }) a only e
+
+-- a sample
+pub sample_gives : (job : Job) (p q : Held) (n : NodeId) (x k : ℕ) → x < length (samples_of job.decls) → k ≡ (sample_at job x).width
+    → ((c : Cells) → word_at c q.nodes n.0 ≡ word_of_node c (word_at c p.nodes) (record { width = k; kind = kinds.Sample x })) → Gives job q n (λ st i. i.samples x)
+unfolding Gives at
+sample_gives job p q n x k l e v = λ c st i h.
+    ap (λ (y : bits.Word). y.value) (v c) ∙ ap (λ (z : ℕ). c.sample x % 2 ^ z) e ∙ h.samples x l
+
+pub sample_added : (job : Job) (p q : Held) (x k : ℕ) → Kept p q 1 → AddsOnly (record { width = k; kind = kinds.Sample x }) p q → x < length (samples_of job.decls)
+    → k ≡ (sample_at job x).width → Added job p q 1
+sample_added job p q x k a only l e = asked_added job p q (record { width = k; kind = kinds.Sample x }) a only (l, e)
+
+-- ONE NODE MORE, at the end of the first.
+module _ (nodes : List NodeId) (n : NodeId) where
+  before_end : (r : ℕ) → r < length nodes → node_at (nodes ++ n ∷ []) r ≡ node_at nodes r
+  before_end r l = get_or-append nodes (n ∷ []) (record { 0 = 0 }) r l
+
+  at_end : (r : ℕ) → length nodes ≡ r → node_at (nodes ++ n ∷ []) r ≡ n
+  at_end r e = ap (node_at (nodes ++ n ∷ [])) (sym e) ∙ get_or-append_seam nodes n [] (record { 0 = 0 })
+
+  -- what holds of the first and of the new one holds of all
+  each_then : (P : ℕ → NodeId → Type 0) → ((r : ℕ) → r < length nodes → P r (node_at nodes r)) → P (length nodes) n
+      → (r : ℕ) → r < length (nodes ++ n ∷ []) → P r (node_at (nodes ++ n ∷ []) r)
+  each_then P first last r m = ⊎_elim
+      (λ (b : r < length nodes). subst (P r) (sym (before_end r b)) (first r b))
+      (λ (b : length nodes ≤ r). let z : length nodes ≡ r = omega (arith, m, b, length-append nodes (n ∷ [])) in
+      subst (P r) (sym (at_end r z)) (subst (λ s. P s n) z last))
+      (cases_lt r (length nodes))
+
+-- registers
+pub none_read : (job : Job) (p : Held) → FirstRead job p []
+none_read job p = record { wires = λ r l. absurd (omega arith); values = λ c r l. absurd (omega arith) }
+
+pub one_read : (job : Job) (p q : Held) (j : ℕ) (nodes : List NodeId) (n : NodeId) → Kept p q j → FirstRead job p nodes
+    → Wire q n (key_width job (key_at job (length nodes))) → ((c : Cells) → at c q.nodes n.0 ≡ c.reg (length nodes) % 2 ^ key_width job (key_at job (length nodes)))
+    → FirstRead job q (nodes ++ n ∷ [])
+one_read job p q j nodes n a h w v = record {
+  wires = each_then nodes n (λ r x. Wire q x (key_width job (key_at job r))) (λ r b. wire_kept p q j (node_at nodes r) _ a (h.wires r b)) w;
+  values = λ c. each_then nodes n (λ r x. at c q.nodes x.0 ≡ c.reg r % 2 ^ key_width job (key_at job r))
+      (λ r b. a.same c (node_at nodes r).0 (h.wires r b).inside ∙ h.values c r b) (v c);
+}
+
+-- samples
+pub no_sample : (job : Job) (p : Held) → FirstSamples job p []
+no_sample job p = record { wires = λ x l. absurd (omega arith); gives = λ x l. absurd (omega arith) }
+
+pub one_sample : (job : Job) (p q : Held) (j x : ℕ) (nodes : List NodeId) (n : NodeId) → length nodes ≡ x → Kept p q j → FirstSamples job p nodes
+    → Wire q n (sample_at job x).width → Gives job q n (λ st i. i.samples x) → FirstSamples job q (nodes ++ n ∷ [])
+one_sample job p q j x nodes n e a h w g = record {
+  wires = each_then nodes n (λ y z. Wire q z (sample_at job y).width) (λ y b. wire_kept p q j (node_at nodes y) _ a (h.wires y b))
+      (subst (λ y. Wire q n (sample_at job y).width) (sym e) w);
+  gives = each_then nodes n (λ y z. Gives job q z (λ st i. i.samples y)) (λ y b. gives_kept job p q j _ (node_at nodes y) _ a (h.wires y b) (h.gives y b))
+      (subst (λ y. Gives job q n (λ st i. i.samples y)) (sym e) g);
+}
+
+-- all of them
+pub ready_read : (job : Job) (o p q : Held) (i j : ℕ) (reads : Reads) → Kept o p i → Kept p q j → length reads.registers ≡ length (keys_of job) → FirstRead job o reads.registers
+    → length reads.samples ≡ length (samples_of job.decls) → FirstSamples job p reads.samples
+    → Wire q reads.ext job.stages.value → ((c : Cells) → at c q.nodes reads.ext.0 ≡ c.ext % 2 ^ job.stages.value) → Ready job q reads
+ready_read job o p q i j reads a b e h f g w v =
+    let ab = kept_then o p q i j a b in
+    record {
+      same = e;
+      wires = λ r l. wire_kept o q (i + j) (node_at reads.registers r) _ ab (h.wires r (omega (arith, l, e)));
+      values = λ c r l. (let m : r < length reads.registers = omega (arith, l, e) in ab.same c (node_at reads.registers r).0 (h.wires r m).inside ∙ h.values c r m);
+      sample_count = f;
+      sample_wires = λ x l. wire_kept p q j (node_at reads.samples x) _ b (g.wires x (omega (arith, l, f)));
+      samples = λ x l. (let m : x < length reads.samples = omega (arith, l, f) in gives_kept job p q j _ (node_at reads.samples x) _ b (g.wires x m) (g.gives x m));
+      ext_wire = w;
+      ext_value = v;
+    }
+
+-- a word of a file
+pub word_value : (job : Job) (p q : Held) (c : Cells) (st : PipelineState) (i : Inputs) (n a : NodeId) (t f k : ℕ) → t < length (targets_of job.decls) → is_register (target_at job t) ≡ false
+    → f ≡ files_before (targets_of job.decls) t → k ≡ (target_at job t).width → Wire p a (target_at job t).address → Holds job c st i
+    → word_at c q.nodes n.0 ≡ word_of_node c (word_at c p.nodes) (record { width = k; kind = kinds.Word f a }) → at c q.nodes n.0 ≡ st.visible t (at c p.nodes a.0)
+unfolding at own_word
+word_value job p q c st i n a t f k l e z w h m v =
+    let b : at c p.nodes a.0 < 2 ^ (target_at job t).address = subst (λ (y : ℕ). at c p.nodes a.0 < 2 ^ y) h.wide (at_fits c p.nodes a.0 h.inside) in
+    ap (λ (x : bits.Word). x.value) v
+    ∙ ap (λ (y : ℕ). c.word f (at c p.nodes a.0) % 2 ^ y) w ∙ ap (λ (y : ℕ). c.word y (at c p.nodes a.0) % 2 ^ (target_at job t).width) z
+    ∙ sym (cond-false (is_register (target_at job t)) (kept_in job c (Visible t)) (c.word (files_before (targets_of job.decls) t) (at c p.nodes a.0) % 2 ^ (target_at job t).width) e)
+    ∙ m.visible t (at c p.nodes a.0) l b
+
+pub word_added : (job : Job) (p q : Held) (t f k : ℕ) (a : NodeId) → Kept p q 1 → AddsOnly (record { width = k; kind = kinds.Word f a }) p q → t < length (targets_of job.decls)
+    → is_register (target_at job t) ≡ false → f ≡ files_before (targets_of job.decls) t → k ≡ (target_at job t).width → Wire p a (target_at job t).address → Added job p q 1
+word_added job p q t f k a g only l e z w h = asked_added job p q (record { width = k; kind = kinds.Word f a }) g only (t, l, e, z, w, wire_kept p q 1 a _ g h)

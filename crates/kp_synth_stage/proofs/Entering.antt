@@ -1,0 +1,379 @@
+-- A stage as it is entered: the names of the pipes, of the samples and of the hints.
+use Rattle.std.proofs.Common.{◌≡◌, ◌∙◌, ℕ, zero, suc, ◌+◌, ◌<◌, List, [], ◌∷◌, ◌++◌, length, get_or, replicate, Some, None, Bool, true, false, cond, refl, ap, sym, subst, arith}
+use Rattle.std.specs.Option.{option_map}
+use Rattle.std.specs.Cmp.Lexicographic.{bytes_decides}
+use Rattle.kp_bits.specs.Word.{word}
+use Rattle.kp_ast.specs.Expressions.{is_same_name}
+use Rattle.kp_ast.specs.Expressions as values
+use Rattle.kp_ast.specs.declared.tree.Decl.{Decl}
+use Rattle.kp_ast.specs.declared.tree.Decl.TheVariants as decls
+use Rattle.kp_ast.specs.declared.tree.Job.{Job}
+use Rattle.kp_ast.specs.declared.widths.NameKind.{NameKind}
+use Rattle.kp_ast.specs.declared.widths.NameKind.TheVariants as kinds
+use Rattle.kp_width.specs.Names.{Sense, Scoped, Names, nothing, look_up, find, is_pipe, is_hint}
+use Rattle.kp_width.specs.Declarations.{name_of, declaration_of, declarations_of, functions_in}
+use Rattle.kp_width.specs.Widths.{widths_of}
+use Rattle.kp_width.proofs.Unbroken.{Unbroken, bind_unbroken}
+use Rattle.kp_machine.specs.Slots.{Slot, pipes_of, hints_of, samples_of, number_of, words_from, words_of, targets_of}
+use Rattle.kp_machine.proofs.Names.{IsIn}
+use Rattle.kp_machine.proofs.Scopes.{IsSlot, is_sample, sense_of, stays, text_has}
+use Rattle.kp_machine.proofs.Text.{declared_right}
+use Rattle.kp_machine.proofs.LookUp.{or_else, look_up-append}
+use Rattle.kp_net.specs.declared.node.NodeId.{NodeId}
+use Rattle.kp_net.specs.Nodes.{Cells, word_at, at, on}
+use Rattle.kp_net.specs.Growth.{Held, Wire, Kept}
+use Rattle.kp_net.proofs.Values.{word_is}
+use Rattle.kp_build.specs.Names.{Nodes, node_of, Scope, word_of}
+use Rattle.kp_synth_tables.specs.Keys.{no_slot, pipe_at, hint_at, target_at}
+use Rattle.kp_synth_registers.specs.Telling.{node_at, PutFits, SetFits, MadeFit, put_value, set_value, made_values}
+use Rattle.kp_width.proofs.Calls.{is_of_text}
+use Rattle.kp_synth_stage.specs.inner.Scopes.{declared, scope_at, is_bound, is_value, Binds, Bound}
+use Rattle.kp_synth_stage.specs.inner.Standing.{names_with, has_name, env_of, WorkOk, Stands, Enters, slots_at}
+use Rattle.kp_synth_stage.specs.Work.{NodesHave, SlotsHave}
+use Rattle.kp_synth_stage.specs.inner.Standing as work
+use Rattle.kp_synth_stage.specs.declared.work.Work.{Work}
+use Rattle.kp_net.proofs.Growing.{wire_kept}
+use Rattle.std.proofs.lemmas.List.{length-replicate}
+use Rattle.kp_synth_stage.proofs.Scoping.{scope_text, scope_start}
+use Rattle.kp_synth_stage.proofs.Expressions.{placed_in, text_kind}
+use Rattle.kp_synth_stage.proofs.Steps.{slot_width}
+use Rattle.kp_build.proofs.Names.{node_with}
+use Rattle.kp_machine.proofs.Cases.{by_test}
+
+-- a name among slots
+pub name_in : (ss : List Slot) (q : List ℕ) → has_name ss q ≡ true → number_of ss q < length ss
+name_in [] q e = cc
+name_in (s ∷ ss) q e = by_test (is_same_name q s.name)
+    (λ y. let f : number_of (s ∷ ss) q ≡ 0 = ap (λ b. cond b 0 (suc (number_of ss q))) y in omega arith)
+    (λ y.
+    let f : number_of (s ∷ ss) q ≡ suc (number_of ss q) = ap (λ b. cond b 0 (suc (number_of ss q))) y in
+    let r = name_in ss q (sym (ap (λ b. cond b true (has_name ss q)) y) ∙ e) in omega arith)
+
+-- the node of a name that is bound, and of one that is not
+pub node_in : (names : Nodes) (ss : List Slot) (ns : List NodeId) (q : List ℕ) → length ns ≡ length ss → number_of ss q < length ss → node_of (names_with names ss ns) q ≡ Some (node_at ns (number_of ss q))
+node_in names [] ns q l h = absurd (omega arith)
+node_in names (s ∷ ss) [] q l h = absurd (omega arith)
+node_in names (s ∷ ss) (n ∷ ns) q l h = by_test (is_same_name q s.name)
+    (λ y.
+    node_with (names_with names ss ns) s.name n q ∙ ap (λ b. cond b (Some n) (node_of (names_with names ss ns) q)) y
+    ∙ sym (ap (λ b. Some (node_at (n ∷ ns) (cond b 0 (suc (number_of ss q))))) y))
+    (λ y.
+    let f : number_of (s ∷ ss) q ≡ suc (number_of ss q) = ap (λ b. cond b 0 (suc (number_of ss q))) y in
+    let r = node_in names ss ns q (omega arith) (omega arith) in
+    node_with (names_with names ss ns) s.name n q ∙ ap (λ b. cond b (Some n) (node_of (names_with names ss ns) q)) y ∙ r
+    ∙ sym (ap (λ b. Some (node_at (n ∷ ns) (cond b 0 (suc (number_of ss q))))) y))
+
+pub node_out : (names : Nodes) (ss : List Slot) (ns : List NodeId) (q : List ℕ) → has_name ss q ≡ false → node_of (names_with names ss ns) q ≡ node_of names q
+node_out names [] ns q e = refl
+node_out names (s ∷ ss) [] q e = refl
+node_out names (s ∷ ss) (n ∷ ns) q e = by_test (is_same_name q s.name)
+    (λ y. let f : true ≡ false = sym (ap (λ b. cond b true (has_name ss q)) y) ∙ e in cc)
+    (λ y.
+    node_with (names_with names ss ns) s.name n q ∙ ap (λ b. cond b (Some n) (node_of (names_with names ss ns) q)) y
+    ∙ node_out names ss ns q (sym (ap (λ b. cond b true (has_name ss q)) y) ∙ e))
+
+-- the words of slots
+pub words_in : (vs : ℕ → ℕ) (i : ℕ) (ss : List Slot) (q : List ℕ) → number_of ss q < length ss
+    → values.look_up (words_from i vs ss) q ≡ Some (word (get_or ss (number_of ss q) no_slot).width (vs (i + number_of ss q)))
+words_in vs i [] q h = absurd (omega arith)
+words_in vs i (s ∷ ss) q h = by_test (is_same_name q s.name)
+    (λ y.
+    let z : i ≡ i + 0 = omega arith in
+    ap (λ b. cond b (Some (word s.width (vs i))) (values.look_up (words_from (suc i) vs ss) q)) y
+    ∙ ap (λ n. Some (word s.width (vs n))) z
+    ∙ sym (ap (λ b. Some (word (get_or (s ∷ ss) (cond b 0 (suc (number_of ss q))) no_slot).width (vs (i + cond b 0 (suc (number_of ss q)))))) y))
+    (λ y.
+    let f : number_of (s ∷ ss) q ≡ suc (number_of ss q) = ap (λ b. cond b 0 (suc (number_of ss q))) y in
+    let r = words_in vs (suc i) ss q (omega arith) in
+    let z : suc i + number_of ss q ≡ i + suc (number_of ss q) = omega arith in
+    ap (λ b. cond b (Some (word s.width (vs i))) (values.look_up (words_from (suc i) vs ss) q)) y ∙ r
+    ∙ ap (λ n. Some (word (get_or ss (number_of ss q) no_slot).width (vs n))) z
+    ∙ sym (ap (λ b. Some (word (get_or (s ∷ ss) (cond b 0 (suc (number_of ss q))) no_slot).width (vs (i + cond b 0 (suc (number_of ss q)))))) y))
+
+pub words_out : (vs : ℕ → ℕ) (i : ℕ) (ss : List Slot) (q : List ℕ) → has_name ss q ≡ false → values.look_up (words_from i vs ss) q ≡ None
+words_out vs i [] q e = refl
+words_out vs i (s ∷ ss) q e = by_test (is_same_name q s.name)
+    (λ y. let f : true ≡ false = sym (ap (λ b. cond b true (has_name ss q)) y) ∙ e in cc)
+    (λ y.
+    ap (λ b. cond b (Some (word s.width (vs i))) (values.look_up (words_from (suc i) vs ss) q)) y
+    ∙ words_out vs (suc i) ss q (sym (ap (λ b. cond b true (has_name ss q)) y) ∙ e))
+
+-- the word of a node of a slot's width
+pub slot_word : (c : Cells) (p : Held) (n : NodeId) (w v : ℕ) → Wire p n w → at c p.nodes n.0 ≡ v → word_at c p.nodes n.0 ≡ word w v
+slot_word c p n w v h e = word_is c p.nodes n.0 h.inside ∙ ap (λ k. word k (at c p.nodes n.0)) h.wide ∙ ap (word w) e
+
+-- THE NAMES of slots are those of the text of one kind, and nothing else.
+abbrev Senses : (NameKind → Bool) → Names → List ℕ → Type 0
+Senses takes text q = (m : Sense) × (look_up text q ≡ Some m) × (takes m.kind ≡ true)
+
+-- a declaration of this kind has a slot, and no other has one
+abbrev OneSlot : (List Decl → List Slot) → (NameKind → Bool) → Type 0
+OneSlot slots takes = (i : ℕ) (d : Decl) (rest : List Decl) (q : List ℕ) → has_name (slots (d ∷ rest)) q ≡ cond (takes (sense_of i d).kind) (cond (is_same_name q (name_of d).name) true (has_name (slots rest) q)) (has_name (slots rest) q)
+
+one_pipe : OneSlot pipes_of is_pipe
+one_pipe i (decls.Pipe n width) rest q = refl
+one_pipe i _ rest q = refl
+
+one_sample : OneSlot samples_of is_sample
+one_sample i (decls.Sample n width stage) rest q = refl
+one_sample i _ rest q = refl
+
+one_hint : OneSlot hints_of is_hint
+one_hint i (decls.Hint n width start) rest q = refl
+one_hint i _ rest q = refl
+
+either_way : {G : Type 0} (a b c : Bool) → cond a (cond b true c) c ≡ true → (a ≡ true → b ≡ true → G) → (c ≡ true → G) → G
+either_way true true c e here later = here refl refl
+either_way true false c e here later = later e
+either_way false b c e here later = later e
+
+slot_sense : (slots : List Decl → List Slot) (takes : NameKind → Bool) → ((q : List ℕ) → has_name (slots []) q ≡ false) → OneSlot slots takes
+    → (ds : List Decl) (i k : ℕ) (s : Scoped) (rest : List Decl) → Unbroken (declarations_of ds i k s rest) → (q : List ℕ) → has_name (slots rest) q ≡ true
+    → Senses takes (declarations_of ds i k s rest).value.text q
+slot_sense slots takes none one ds i k s [] u q e = let f : false ≡ true = sym (none q) ∙ e in cc
+slot_sense slots takes none one ds i k s (d ∷ rest) u q e =
+    let y = bind_unbroken (declaration_of ds i k s d) (λ t. declarations_of ds (i + 1) (k + functions_in d) t rest) u in
+    let next : Scoped = (declaration_of ds i k s d).value in
+    either_way (takes (sense_of i d).kind) (is_same_name q (name_of d).name) (has_name (slots rest) q) (sym (one i d rest q) ∙ e)
+    (λ kind same.
+    let is : q ≡ (name_of d).name = (bytes_decides q (name_of d).name).0 same in
+    (sense_of i d, stays ds (i + 1) (k + functions_in d) next rest q (sense_of i d) (ap (look_up next.text) is ∙ text_has ds i k s d y.0), kind))
+    (λ later. slot_sense slots takes none one ds (i + 1) (k + functions_in d) next rest y.1 q later)
+
+value_text : {G : Type 0} (kind : NameKind) → is_value kind ≡ true → is_of_text kind ≡ true → (kind ≡ kinds.Pipe → G) → (kind ≡ kinds.Sample → G) → (kind ≡ kinds.Hint → G) → G
+value_text kinds.Pipe e f p s h = p refl
+value_text kinds.Sample e f p s h = s refl
+value_text kinds.Hint e f p s h = h refl
+value_text _ e f p s h = cc
+
+bound_value : (kind : NameKind) → is_bound kind ≡ true → is_value kind ≡ true
+bound_value kinds.Pipe e = refl
+bound_value kinds.Sample e = refl
+bound_value kinds.Read e = refl
+bound_value kinds.Let e = refl
+bound_value _ e = cc
+
+hint_kind : (kind : NameKind) → is_hint kind ≡ true → kind ≡ kinds.Hint
+hint_kind kinds.Hint e = refl
+hint_kind _ e = cc
+
+-- NODES of the slots of one list
+module _ (z : Held) (ss : List Slot) (ns : List NodeId) (h : SlotsHave z ss ns) (q : List ℕ) where
+  abbrev node : NodeId
+  node = node_at ns (number_of ss q)
+
+  number_inside : IsIn ss q → number_of ss q < length ns
+  number_inside i =
+      let inside : number_of ss q < length ss = i in
+      let count : length ns ≡ length ss = h.count in omega arith
+
+  slot_wire : (w a : ℕ) → IsSlot ss q w a → Wire z node w
+  slot_wire w a at = subst (Wire z node) (slot_width ss q at.inside ∙ at.width) (h.wires (number_of ss q) (number_inside at.inside))
+
+  slot_binds : (names : Nodes) (w a : ℕ) → IsSlot ss q w a → node_of names q ≡ Some node → Binds z w (node_of names q)
+  slot_binds names w a at e = subst (Binds z w) (sym e) (slot_wire w a at)
+
+  slot_inside : (names : Nodes) (n : NodeId) → has_name ss q ≡ true → node_of names q ≡ Some node → node_of names q ≡ Some n → n.0 < length z.nodes
+  slot_inside names n has e f =
+      let g : Some node ≡ Some n = sym e ∙ f in
+      let is : node ≡ n = cc in
+      subst (λ (v : NodeId). v.0 < length z.nodes) is (h.wires (number_of ss q) (number_inside (name_in ss q has))).inside
+
+  slot_known : (c : Cells) (env : Scope) (vs : ℕ → ℕ) → NodesHave c z ns vs → IsIn ss q → node_of env.names q ≡ Some node → word_of c z env q ≡ values.look_up (words_of ss vs) q
+  unfolding word_of
+  slot_known c env vs has i e =
+      let n : ℕ = number_of ss q in
+      let l = number_inside i in
+      let zero_more : 0 + n ≡ n = omega arith in
+      ap (option_map (λ (x : NodeId). word_at c z.nodes x.0)) e
+      ∙ ap Some (slot_word c z node (get_or ss n no_slot).width (vs n) (h.wires n l) (has n l))
+      ∙ sym (words_in vs 0 ss q i ∙ ap (λ x. Some (word (get_or ss n no_slot).width (vs x))) zero_more)
+
+module _ (job : Job) (u : Unbroken (widths_of job)) (k : ℕ) where
+  abbrev s : Scoped
+  s = scope_at job k 0
+
+  find_text : (q : List ℕ) → find s q ≡ look_up (declared job).text q
+  find_text q =
+      let z = scope_start job k in
+      ap (λ (x : Scoped). find x q) z ∙ sym (ap (λ (x : Scoped). look_up x.text q) z) ∙ ap (λ (t : Names). look_up t q) (scope_text job k 0)
+
+  module _ (slots : List Decl → List Slot) (takes : NameKind → Bool) (none : (q : List ℕ) → has_name (slots []) q ≡ false) (one : OneSlot slots takes) where
+    -- a name of another kind has no slot, and neither has one that isn't in scope
+    no_slot_of : (q : List ℕ) (m : Sense) → look_up (declared job).text q ≡ Some m → takes m.kind ≡ false → has_name (slots job.decls) q ≡ false
+    no_slot_of q m e other = by_test (has_name (slots job.decls) q)
+        (λ y.
+        let x = slot_sense slots takes none one job.decls 0 0 nothing job.decls (declared_right job u) q y in
+        let f : Some x.0 ≡ Some m = sym x.1 ∙ e in
+        let g : x.0 ≡ m = cc in
+        let t : true ≡ false = sym x.2 ∙ ap (λ (v : Sense). takes v.kind) g ∙ other in cc)
+        (λ y. y)
+
+    none_of : (q : List ℕ) → look_up (declared job).text q ≡ None → has_name (slots job.decls) q ≡ false
+    none_of q e = by_test (has_name (slots job.decls) q)
+        (λ y. let x = slot_sense slots takes none one job.decls 0 0 nothing job.decls (declared_right job u) q y in let f : Some x.0 ≡ None = sym x.1 ∙ e in cc)
+        (λ y. y)
+
+  no_pipe : (q : List ℕ) (m : Sense) → look_up (declared job).text q ≡ Some m → is_pipe m.kind ≡ false → has_name (pipes_of job.decls) q ≡ false
+  no_pipe = no_slot_of pipes_of is_pipe (λ q. refl) one_pipe
+
+  no_sample : (q : List ℕ) (m : Sense) → look_up (declared job).text q ≡ Some m → is_sample m.kind ≡ false → has_name (samples_of job.decls) q ≡ false
+  no_sample = no_slot_of samples_of is_sample (λ q. refl) one_sample
+
+  none_pipe : (q : List ℕ) → look_up (declared job).text q ≡ None → has_name (pipes_of job.decls) q ≡ false
+  none_pipe = none_of pipes_of is_pipe (λ q. refl) one_pipe
+
+  none_sample : (q : List ℕ) → look_up (declared job).text q ≡ None → has_name (samples_of job.decls) q ≡ false
+  none_sample = none_of samples_of is_sample (λ q. refl) one_sample
+
+  none_hint : (q : List ℕ) → look_up (declared job).text q ≡ None → has_name (hints_of job.decls) q ≡ false
+  none_hint = none_of hints_of is_hint (λ q. refl) one_hint
+
+  -- what the names of the stage are known as
+  abbrev known_at_start : (ℕ → ℕ) → (ℕ → ℕ) → values.Values
+  known_at_start vs taken = words_of (pipes_of job.decls) vs ++ words_of (samples_of job.decls) taken
+
+  not_known : (vs taken : ℕ → ℕ) (q : List ℕ) → has_name (pipes_of job.decls) q ≡ false → has_name (samples_of job.decls) q ≡ false → values.look_up (known_at_start vs taken) q ≡ None
+  not_known vs taken q p t =
+      look_up-append (words_of (pipes_of job.decls) vs) (words_of (samples_of job.decls) taken) q
+      ∙ ap (λ o. or_else o (values.look_up (words_of (samples_of job.decls) taken) q)) (words_out vs 0 (pipes_of job.decls) q p)
+      ∙ words_out taken 0 (samples_of job.decls) q t
+
+  module _ (z : Held) (pn sn hn : List NodeId) (ps : SlotsHave z (pipes_of job.decls) pn) (ts : SlotsHave z (samples_of job.decls) sn) (hs : SlotsHave z (hints_of job.decls) hn) where
+    abbrev hint_names : Nodes
+    hint_names = names_with [] (hints_of job.decls) hn
+
+    abbrev more_names : Nodes
+    more_names = names_with hint_names (samples_of job.decls) sn
+
+    abbrev names : Nodes
+    names = (env_of job pn sn hn).names
+
+    pipe_node : (q : List ℕ) → IsIn (pipes_of job.decls) q → node_of names q ≡ Some (node_at pn (number_of (pipes_of job.decls) q))
+    pipe_node q h = node_in more_names (pipes_of job.decls) pn q ps.count h
+
+    sample_node : (q : List ℕ) → has_name (pipes_of job.decls) q ≡ false → IsIn (samples_of job.decls) q → node_of names q ≡ Some (node_at sn (number_of (samples_of job.decls) q))
+    sample_node q out h = node_out more_names (pipes_of job.decls) pn q out ∙ node_in hint_names (samples_of job.decls) sn q ts.count h
+
+    hint_node : (q : List ℕ) → has_name (pipes_of job.decls) q ≡ false → has_name (samples_of job.decls) q ≡ false → IsIn (hints_of job.decls) q → node_of names q ≡ Some (node_at hn (number_of (hints_of job.decls) q))
+    hint_node q out out2 h = node_out more_names (pipes_of job.decls) pn q out ∙ node_out hint_names (samples_of job.decls) sn q out2 ∙ node_in [] (hints_of job.decls) hn q hs.count h
+
+    no_node : (q : List ℕ) → has_name (pipes_of job.decls) q ≡ false → has_name (samples_of job.decls) q ≡ false → has_name (hints_of job.decls) q ≡ false → node_of names q ≡ None
+    no_node q out out2 out3 = node_out more_names (pipes_of job.decls) pn q out ∙ node_out hint_names (samples_of job.decls) sn q out2 ∙ node_out [] (hints_of job.decls) hn q out3
+
+    -- the slot of a name, by its kind
+    module _ (q : List ℕ) (m : Sense) (e : look_up (declared job).text q ≡ Some m) where
+      pipe_slot : m.kind ≡ kinds.Pipe → IsSlot (pipes_of job.decls) q m.width 0
+      pipe_slot h = (placed_in job u q m e).pipe (ap is_pipe h)
+
+      sample_slot : m.kind ≡ kinds.Sample → IsSlot (samples_of job.decls) q m.width 0
+      sample_slot h = (placed_in job u q m e).sample (ap is_sample h)
+
+      hint_slot : m.kind ≡ kinds.Hint → IsSlot (hints_of job.decls) q m.width 0
+      hint_slot h = (placed_in job u q m e).hinted (ap is_hint h)
+
+      sample_there : (h : m.kind ≡ kinds.Sample) → node_of names q ≡ Some (node_at sn (number_of (samples_of job.decls) q))
+      sample_there h = sample_node q (no_pipe q m e (ap is_pipe h)) (sample_slot h).inside
+
+      hint_there : (h : m.kind ≡ kinds.Hint) → node_of names q ≡ Some (node_at hn (number_of (hints_of job.decls) q))
+      hint_there h = hint_node q (no_pipe q m e (ap is_pipe h)) (no_sample q m e (ap is_sample h)) (hint_slot h).inside
+
+      binds_by_kind : is_value m.kind ≡ true → Binds z m.width (node_of names q)
+      binds_by_kind b = value_text m.kind b (text_kind job u q m e)
+          (λ h. slot_binds z (pipes_of job.decls) pn ps q names m.width 0 (pipe_slot h) (pipe_node q (pipe_slot h).inside))
+          (λ h. slot_binds z (samples_of job.decls) sn ts q names m.width 0 (sample_slot h) (sample_there h))
+          (λ h. slot_binds z (hints_of job.decls) hn hs q names m.width 0 (hint_slot h) (hint_there h))
+
+      word_by_kind : (c : Cells) (vs taken : ℕ → ℕ) → NodesHave c z pn vs → NodesHave c z sn taken → is_bound m.kind ≡ true → word_of c z (env_of job pn sn hn) q ≡ values.look_up (known_at_start vs taken) q
+      word_by_kind c vs taken pv tv b = value_text m.kind (bound_value m.kind b) (text_kind job u q m e)
+          (λ h.
+          let i = (pipe_slot h).inside in
+          let w = words_in vs 0 (pipes_of job.decls) q i in
+          slot_known z (pipes_of job.decls) pn ps q c (env_of job pn sn hn) vs pv i (pipe_node q i) ∙ w
+          ∙ sym (look_up-append (words_of (pipes_of job.decls) vs) (words_of (samples_of job.decls) taken) q
+          ∙ ap (λ o. or_else o (values.look_up (words_of (samples_of job.decls) taken) q)) w))
+          (λ h.
+          slot_known z (samples_of job.decls) sn ts q c (env_of job pn sn hn) taken tv (sample_slot h).inside (sample_there h)
+          ∙ sym (look_up-append (words_of (pipes_of job.decls) vs) (words_of (samples_of job.decls) taken) q
+          ∙ ap (λ o. or_else o (values.look_up (words_of (samples_of job.decls) taken) q)) (words_out vs 0 (pipes_of job.decls) q (no_pipe q m e (ap is_pipe h)))))
+          (λ h. let f : true ≡ false = sym b ∙ ap is_bound h in cc)
+
+    pub enter_bound : Bound job s z (env_of job pn sn hn)
+    enter_bound = record {
+      decls = refl;
+      bound = λ q m e b. binds_by_kind q m (sym (find_text q) ∙ e) b;
+      only = λ q e. let f = sym (find_text q) ∙ e in no_node q (none_pipe q f) (none_sample q f) (none_hint q f);
+      inside = λ q n e. by_test (has_name (pipes_of job.decls) q)
+          (λ y. slot_inside z (pipes_of job.decls) pn ps q names n y (pipe_node q (name_in (pipes_of job.decls) q y)) e)
+          (λ y. by_test (has_name (samples_of job.decls) q)
+          (λ x. slot_inside z (samples_of job.decls) sn ts q names n x (sample_node q y (name_in (samples_of job.decls) q x)) e)
+          (λ x. by_test (has_name (hints_of job.decls) q)
+          (λ w. slot_inside z (hints_of job.decls) hn hs q names n w (hint_node q y x (name_in (hints_of job.decls) q w)) e)
+          (λ w. let f : None ≡ Some n = sym (no_node q y x w) ∙ e in cc)));
+    }
+
+    pub enter_names : (c : Cells) (vs taken aims : ℕ → ℕ) → NodesHave c z pn vs → NodesHave c z sn taken → NodesHave c z hn aims
+        → work.Names job s aims c z (env_of job pn sn hn) (known_at_start vs taken)
+    enter_names c vs taken aims pv tv hv = record {
+      names = λ q m e b. word_by_kind q m (sym (find_text q) ∙ e) c vs taken pv tv b;
+      hints = λ q m e h.
+          let f = sym (find_text q) ∙ e in
+          let is = hint_kind m.kind h in
+          slot_known z (hints_of job.decls) hn hs q c (env_of job pn sn hn) aims hv (hint_slot q m f is).inside (hint_there q m f is);
+      plain = λ q m e h.
+          let f = sym (find_text q) ∙ e in
+          let is = hint_kind m.kind h in
+          not_known vs taken q (no_pipe q m f (ap is_pipe is)) (no_sample q m f (ap is_sample is));
+      only = λ q e. let f = sym (find_text q) ∙ e in not_known vs taken q (none_pipe q f) (none_sample q f);
+    }
+
+all_default : {X : Type 0} (n i : ℕ) (d : X) → get_or (replicate n d) i d ≡ d
+all_default zero i d = refl
+all_default (suc n) zero d = refl
+all_default (suc n) (suc i) d = all_default n i d
+
+slots_kept : (p z : Held) (m : ℕ) (ss : List Slot) (ns : List NodeId) → Kept p z m → SlotsHave p ss ns → SlotsHave z ss ns
+slots_kept p z m ss ns g h = record { count = h.count; wires = λ i l. wire_kept p z m (node_at ns i) _ g (h.wires i l) }
+
+module _ (job : Job) (u : Unbroken (widths_of job)) (k : ℕ) (p z : Held) (m : ℕ) (g : Kept p z m) (pn sn hn : List NodeId) (ps : SlotsHave p (pipes_of job.decls) pn) (ts : SlotsHave p (samples_of job.decls) sn) (hs : SlotsHave p (hints_of job.decls) hn)
+    (w : Work) (env : w.env ≡ env_of job pn sn hn) (hazard : Wire z w.hazard 1) (puts : w.puts.items ≡ replicate (length (pipes_of job.decls)) None) (sets : w.sets.items ≡ replicate (length (targets_of job.decls)) None)
+    (made : w.made.items ≡ []) (aims : w.aims.items ≡ replicate (length (hints_of job.decls)) None) where
+  no_put : (x : ℕ) → get_or w.puts.items x None ≡ None
+  no_put x = ap (λ xs. get_or xs x None) puts ∙ all_default (length (pipes_of job.decls)) x None
+
+  no_set : (x : ℕ) → get_or w.sets.items x None ≡ None
+  no_set x = ap (λ xs. get_or xs x None) sets ∙ all_default (length (targets_of job.decls)) x None
+
+  no_aim : (x : ℕ) → get_or w.aims.items x None ≡ None
+  no_aim x = ap (λ xs. get_or xs x None) aims ∙ all_default (length (hints_of job.decls)) x None
+
+  pub enter_work : WorkOk job k 0 z w
+  unfolding slots_at
+  enter_work = record {
+    env = subst (Bound job (scope_at job k 0) z) (sym env) (enter_bound job u k z pn sn hn (slots_kept p z m _ pn g ps) (slots_kept p z m _ sn g ts) (slots_kept p z m _ hn g hs));
+    fits = record {
+      hazard = hazard;
+      put_count = ap length puts ∙ length-replicate (length (pipes_of job.decls)) None;
+      puts = λ x. subst (PutFits z (pipe_at job x).width) (sym (no_put x)) tt;
+      set_count = ap length sets ∙ length-replicate (length (targets_of job.decls)) None;
+      sets = λ x. subst (SetFits z (target_at job x).width) (sym (no_set x)) tt;
+      made = subst (λ xs. MadeFit z [] xs) (sym made) tt;
+      aim_count = ap length aims ∙ length-replicate (length (hints_of job.decls)) None;
+      aims = λ x. subst (PutFits z (hint_at job x).width) (sym (no_aim x)) tt;
+    };
+  }
+
+  pub enters : ((c : Cells) → on c z.nodes w.hazard.0 ≡ false) → Enters job k p pn sn hn z w
+  unfolding Enters slots_at
+  enters clear = λ c vs taken hints pv tv hv. record {
+    names = subst (λ e. work.Names job (scope_at job k 0) hints c z e (known_at_start job u k vs taken)) (sym env)
+        (enter_names job u k z pn sn hn (slots_kept p z m _ pn g ps) (slots_kept p z m _ sn g ts) (slots_kept p z m _ hn g hs) c vs taken hints
+        (λ i l. g.same c (node_at pn i).0 (ps.wires i l).inside ∙ pv i l) (λ i l. g.same c (node_at sn i).0 (ts.wires i l).inside ∙ tv i l) (λ i l. g.same c (node_at hn i).0 (hs.wires i l).inside ∙ hv i l));
+    outcome = record {
+      hazard = clear c;
+      puts = λ x l. ap (put_value c z) (no_put x);
+      sets = λ x l. ap (set_value c z) (no_set x);
+      made = ap (λ xs. made_values c z [] xs) made;
+      aims = λ x l. ap (put_value c z) (no_aim x);
+    };
+  }

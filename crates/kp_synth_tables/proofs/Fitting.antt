@@ -1,0 +1,339 @@
+-- A job that violates no rule fits: what the rules guarantee about its widths, its results, its guesses and its hints.
+use Rattle.std.proofs.Common.{◌≡◌, ◌∙◌, ℕ, zero, suc, ◌+◌, ◌<◌, ◌≤◌, List, [], ◌∷◌, Option, Some, None, Bool, true, false, cond, not, ◌&&◌, ◌||◌, length, get_or, refl, ap, sym, subst, arith}
+use Rattle.std.specs.Prelude.{is_some, slice_get, nat_lt, nat_le}
+use Rattle.std.specs.List.{AllByRecursion}
+use Rattle.std.proofs.lemmas.Bool.{and_parts, ltb-true, leb-true, eqb-true, eq-eqb, false_from_ne_true}
+use Rattle.kp_base.specs.First.{first}
+use Rattle.kp_base.specs.Check.{ok, ◌>>=◌}
+use Rattle.kp_base.specs.Refusal.{e_rule}
+use Rattle.kp_ast.specs.Expressions.{is_same_name}
+use Rattle.kp_ast.specs.declared.tree.Named.{Named}
+use Rattle.kp_ast.specs.declared.tree.Num.{Num}
+use Rattle.kp_ast.specs.declared.tree.Lit.{Lit}
+use Rattle.kp_ast.specs.declared.tree.Expr.{Expr}
+use Rattle.kp_ast.specs.declared.tree.ReadStmt.{ReadStmt}
+use Rattle.kp_ast.specs.declared.tree.ResultDecl.{ResultDecl}
+use Rattle.kp_ast.specs.declared.tree.Decl.{Decl}
+use Rattle.kp_ast.specs.declared.tree.Decl.TheVariants as decls
+use Rattle.kp_ast.specs.declared.tree.Stmt.{Stmt}
+use Rattle.kp_ast.specs.declared.tree.StmtKind.{StmtKind}
+use Rattle.kp_ast.specs.declared.tree.StmtKind.TheVariants as stmts
+use Rattle.kp_ast.specs.declared.tree.Block.{Block}
+use Rattle.kp_ast.specs.declared.tree.Job.{Job}
+use Rattle.kp_ast.specs.declared.widths.NameKind.{NameKind}
+use Rattle.kp_ast.specs.declared.widths.NameKind.TheVariants as kinds
+use Rattle.kp_width.specs.Names.{Sense, sense, Names, Scoped, nothing, look_up, find, declared_text}
+use Rattle.kp_width.specs.Names as names
+use Rattle.kp_width.specs.Expressions.{is_width}
+use Rattle.kp_width.specs.Declarations.{declared, start_of, started_of, addresses_of, address_width, name_of, after_name, declaration_of, declarations_of, functions_in}
+use Rattle.kp_width.specs.Widths.{widths_of}
+use Rattle.kp_width.proofs.Unbroken.{Unbroken, bind_unbroken, answer_unbroken}
+use Rattle.kp_stage.specs.Facts.{At, Facts, facts_of, stmts_in, aim_at, aims_in, aims_of}
+use Rattle.kp_stage.specs.Rules.{holds_of, may_guess, ask_stmt, ask_stmts, all_rules}
+use Rattle.kp_stage.specs.Stages.{broken_of}
+use Rattle.kp_stage.proofs.Unbroken.{first_none, answer_none}
+use Rattle.kp_pipeline.proofs.Lists.{all-append}
+use Rattle.kp_machine.specs.Slots.{Slot, targets_of, pipes_of, hints_of, samples_of, number_of, width_of}
+use Rattle.kp_machine.specs.Machine.{machine_of, result_for, write_stage_of, stage_or_zero, aim_stage}
+use Rattle.kp_machine.proofs.Names.{IsIn}
+use Rattle.kp_machine.proofs.Apart.{Apart, pipes_apart, samples_apart}
+use Rattle.kp_machine.proofs.Cases.{by_test}
+use Rattle.kp_machine.proofs.Placing.{result_placed, own, stands}
+use Rattle.kp_machine.proofs.Results.{written_by}
+use Rattle.kp_machine.proofs.Rules.{rules_kept, head_kept, decl_kept, stmts_kept}
+use Rattle.kp_machine.proofs.Scopes.{addresses, PipeFits, results_fit, storage_kind}
+use Rattle.kp_machine.proofs.Stages.{stages_inside}
+use Rattle.kp_machine.proofs.Text.{text, declared_right, placed}
+use Rattle.kp_synth_tables.specs.declared.key.GuessSlot.{GuessSlot}
+use Rattle.kp_synth_tables.specs.Keys.{no_slot, target_at, pipe_at, hint_at, sample_at, no_guess, guess_slot, with_read, with_guess, guesses_in, guesses_from, guesses_of, guess_at}
+use Rattle.kp_synth_tables.proofs.Lasting.{lasting}
+use Rattle.kp_synth_tables.proofs.Quiet.{no_put, no_set}
+use Rattle.kp_synth_tables.specs.Fits.{pipe_number, port_for, IsWidth, EnableFits, AddressFits, ResultFits, Fits}
+
+-- a property of each entry of a list holds for the one at an index
+all_at : {X : Type 0} (P : X → Type 0) (xs : List X) (d : X) → AllByRecursion P xs → (i : ℕ) → i < length xs → P (get_or xs i d)
+all_at P [] d all i l = absurd (omega arith)
+all_at P (x ∷ xs) d all zero l = all.0
+all_at P (x ∷ xs) d all (suc i) l = all_at P xs d all.1 i (omega arith)
+
+-- WIDTHS. Each declared width is one, and a file has addresses of 1 to 16 bits.
+record IsSized (s : Slot) : Type 0 where
+  width : IsWidth s.width
+  address : s.address ≤ 16
+
+width_right : (n : Num) → Unbroken (declared n) → IsWidth n.value
+width_right n u =
+    let both = and_parts (nat_le 1 n.value) (nat_le n.value 64) (answer_unbroken (is_width n.value) (e_rule 8 n.at) [] u).0 in
+    record { positive = leb-true 1 n.value both.0; at_most = leb-true n.value 64 both.1 }
+
+started_right : (n : Num) (l : Lit) → Unbroken (started_of n l) → IsWidth n.value
+started_right n l u = width_right n (bind_unbroken (declared n) (λ w. start_of l w >>= (λ x. ok w)) u).0
+
+addresses_right : (n : Num) → Unbroken (addresses_of n) → n.value ≤ 16
+addresses_right n u = leb-true n.value 16 (and_parts (nat_le 1 n.value) (nat_le n.value 16) (answer_unbroken (nat_le 1 n.value && nat_le n.value 16) (e_rule 14 n.at) [] u).0).1
+
+module _ (ds : List Decl) where
+  -- a declaration that violates no rule, and those after it
+  here_right : (i k : ℕ) (s : Scoped) (d : Decl) (rest : List Decl) → Unbroken (declarations_of ds i k s (d ∷ rest)) → Unbroken (after_name ds i k s d)
+  here_right i k s d rest u =
+      (answer_unbroken (not (is_some (find s (name_of d).name))) (e_rule 5 (name_of d).at) (after_name ds i k s d).asked
+      (bind_unbroken (declaration_of ds i k s d) (λ x. declarations_of ds (i + 1) (k + functions_in d) x rest) u).0).1
+
+  rest_right : (i k : ℕ) (s : Scoped) (d : Decl) (rest : List Decl) → Unbroken (declarations_of ds i k s (d ∷ rest))
+      → Unbroken (declarations_of ds (i + 1) (k + functions_in d) (declaration_of ds i k s d).value rest)
+  rest_right i k s d rest u = (bind_unbroken (declaration_of ds i k s d) (λ x. declarations_of ds (i + 1) (k + functions_in d) x rest) u).1
+
+  reg_right : (i k : ℕ) (s : Scoped) (n : Named) (width : Num) (l : Lit) (rest : List Decl) → Unbroken (declarations_of ds i k s (decls.Reg n width l ∷ rest)) → IsWidth width.value
+  reg_right i k s n width l rest u = started_right width l (bind_unbroken (started_of width l) (λ w. ok (declared_text s n.name (sense kinds.Reg w i))) (here_right i k s (decls.Reg n width l) rest u)).0
+
+  hint_right : (i k : ℕ) (s : Scoped) (n : Named) (width : Num) (l : Lit) (rest : List Decl) → Unbroken (declarations_of ds i k s (decls.Hint n width l ∷ rest)) → IsWidth width.value
+  hint_right i k s n width l rest u = started_right width l (bind_unbroken (started_of width l) (λ w. ok (declared_text s n.name (sense kinds.Hint w i))) (here_right i k s (decls.Hint n width l) rest u)).0
+
+  file_right : (i k : ℕ) (s : Scoped) (n : Named) (width address : Num) (rest : List Decl) → Unbroken (declarations_of ds i k s (decls.File n width address ∷ rest))
+      → IsWidth width.value × (address.value ≤ 16)
+  file_right i k s n width address rest u =
+      let both = bind_unbroken (declared width) (λ w. addresses_of address >>= (λ a. ok (declared_text s n.name (sense (kinds.File a) w i)))) (here_right i k s (decls.File n width address) rest u) in
+      (width_right width both.0, addresses_right address (bind_unbroken (addresses_of address) (λ a. ok (declared_text s n.name (sense (kinds.File a) width.value i))) both.1).0)
+
+  targets_right : (i k : ℕ) (s : Scoped) (rest : List Decl) → Unbroken (declarations_of ds i k s rest) → AllByRecursion IsSized (targets_of rest)
+  targets_right i k s [] u = tt
+  targets_right i k s (decls.Reg n width l ∷ rest) u = (record { width = reg_right i k s n width l rest u; address = omega arith }, targets_right (i + 1) (k + functions_in (decls.Reg n width l)) (declaration_of ds i k s (decls.Reg n width l)).value rest (rest_right i k s (decls.Reg n width l) rest u))
+  targets_right i k s (decls.File n width address ∷ rest) u =
+      let f = file_right i k s n width address rest u in
+      (record { width = f.0; address = f.1 }, targets_right (i + 1) (k + functions_in (decls.File n width address)) (declaration_of ds i k s (decls.File n width address)).value rest (rest_right i k s (decls.File n width address) rest u))
+  targets_right i k s (d ∷ rest) u = targets_right (i + 1) (k + functions_in d) (declaration_of ds i k s d).value rest (rest_right i k s d rest u)
+
+  hints_right : (i k : ℕ) (s : Scoped) (rest : List Decl) → Unbroken (declarations_of ds i k s rest) → AllByRecursion IsSized (hints_of rest)
+  hints_right i k s [] u = tt
+  hints_right i k s (decls.Hint n width l ∷ rest) u = (record { width = hint_right i k s n width l rest u; address = omega arith }, hints_right (i + 1) (k + functions_in (decls.Hint n width l)) (declaration_of ds i k s (decls.Hint n width l)).value rest (rest_right i k s (decls.Hint n width l) rest u))
+  hints_right i k s (d ∷ rest) u = hints_right (i + 1) (k + functions_in d) (declaration_of ds i k s d).value rest (rest_right i k s d rest u)
+
+-- The pipes and the samples have the widths that they are declared with.
+apart_wide : (ss : List Slot) → Apart ss → (i : ℕ) → i < length ss → IsWidth (get_or ss i no_slot).width
+apart_wide [] a i l = absurd (omega arith)
+apart_wide (s ∷ ss) a zero l = record { positive = a.1; at_most = a.2 }
+apart_wide (s ∷ ss) a (suc i) l = apart_wide ss a.3 i (omega arith)
+
+-- The entry of a name has its width and its addresses.
+module _ (q : List ℕ) where
+  rest_in : (s : Slot) (ss : List Slot) → is_same_name q s.name ≡ false → IsIn (s ∷ ss) q → IsIn ss q
+  rest_in s ss n h = let e : number_of (s ∷ ss) q ≡ suc (number_of ss q) = ap (λ b. cond b 0 (suc (number_of ss q))) n in omega (arith, e, h)
+
+  width_there : (ss : List Slot) → IsIn ss q → (get_or ss (number_of ss q) no_slot).width ≡ width_of ss q
+  width_there [] h = absurd (omega arith)
+  width_there (s ∷ ss) h = by_test (is_same_name q s.name)
+      (λ y. rw y refl)
+      (λ n. let more = width_there ss (rest_in s ss n h) in rw n more)
+
+  address_there : (ss : List Slot) → IsIn ss q → (get_or ss (number_of ss q) no_slot).address ≡ addresses ss q
+  address_there [] h = absurd (omega arith)
+  address_there (s ∷ ss) h = by_test (is_same_name q s.name)
+      (λ y. rw y refl)
+      (λ n. let more = address_there ss (rest_in s ss n h) in rw n more)
+
+-- a register has no addresses
+no_address : (kind : NameKind) → names.is_register kind ≡ true → address_width kind ≡ 0
+no_address kinds.Reg e = refl
+no_address (kinds.File a) e = cc
+no_address kind e = refl
+
+-- AIMS are in blocks.
+abbrev Below : ℕ → Option At → Type 0
+Below n None = Unit {0}
+Below n (Some at) = at.stage < n
+
+below_first : (n : ℕ) (o : Option At) (os : List (Option At)) → Below n o → Below n (first os) → Below n (first (o ∷ os))
+below_first n None os h more = more
+below_first n (Some at) os h more = h
+
+below_test : (n : ℕ) (b : Bool) (at : At) → at.stage < n → Below n (cond b (Some at) None)
+below_test n true at h = h
+below_test n false at h = tt
+
+aim_below : (n : ℕ) (name : List ℕ) (k j : ℕ) (s : StmtKind) → k < n → Below n (aim_at name k j s)
+aim_below n name k j (stmts.Aim m e) l = below_test n (is_same_name name m.name) (record { stage = k; index = j }) l
+aim_below n name k j s l = tt
+
+aims_below : (n : ℕ) (name : List ℕ) (k j : ℕ) (ss : List Stmt) → k < n → Below n (first (aims_in name k j ss))
+aims_below n name k j [] l = tt
+aims_below n name k j (s ∷ ss) l = below_first n (aim_at name k j s.kind) (aims_in name k (j + 1) ss) (aim_below n name k j s.kind l) (aims_below n name k (j + 1) ss l)
+
+all_aims_below : (n : ℕ) (name : List ℕ) (k : ℕ) (bs : List Block) → k + length bs ≤ n → Below n (first (aims_of name k bs))
+all_aims_below n name k [] l = tt
+all_aims_below n name k (b ∷ bs) l =
+    below_first n (first (aims_in name k 0 b.stmts)) (aims_of name (k + 1) bs) (aims_below n name k 0 b.stmts (omega arith)) (all_aims_below n name (k + 1) bs (omega arith))
+
+below_stage : (n : ℕ) (o : Option At) → 0 < n → Below n o → stage_or_zero o < n
+below_stage n None l h = l
+below_stage n (Some at) l h = h
+
+-- A guess is of a register of a width, and is made two stages or more before its write stage.
+pub record IsGuess (job : Job) (g : GuessSlot) : Type 0 where
+  pub width : IsWidth g.width
+  pub early : g.stage + 2 ≤ g.write
+  pub late : g.write < job.stages.value
+  pub register : g.register < length (targets_of job.decls)
+
+in_time : (k : ℕ) (o : Option ℕ) → holds_of (λ w. nat_le (k + 2) w) o ≡ true → (w : ℕ) × ((o ≡ Some w) × (k + 2 ≤ w))
+in_time k None e = cc
+in_time k (Some w) e = (w, (refl, leb-true (k + 2) w e))
+
+module _ (job : Job) (right : Unbroken (widths_of job)) (kept : broken_of job ≡ None) where
+  abbrev facts : Facts
+  facts = facts_of job
+
+  abbrev targets : List Slot
+  targets = targets_of job.decls
+
+  abbrev pipes : List Slot
+  pipes = pipes_of job.decls
+
+  declarations : Unbroken (declarations_of job.decls 0 0 nothing job.decls)
+  declarations = declared_right job right
+
+  target_sized : (t : ℕ) → t < length targets → IsSized (target_at job t)
+  target_sized t l = all_at IsSized targets no_slot (targets_right job.decls 0 0 nothing job.decls declarations) t l
+
+  pipe_wide : (x : ℕ) → x < length pipes → IsWidth (pipe_at job x).width
+  pipe_wide = apart_wide pipes (pipes_apart job.decls nothing declarations)
+
+  sample_wide : (x : ℕ) → x < length (samples_of job.decls) → IsWidth (sample_at job x).width
+  sample_wide = apart_wide (samples_of job.decls) (samples_apart job.decls nothing declarations)
+
+  hint_sized : (h : ℕ) → h < length (hints_of job.decls) → IsSized (hint_at job h)
+  hint_sized h l = all_at IsSized (hints_of job.decls) no_slot (hints_right job.decls 0 0 nothing job.decls declarations) h l
+
+  -- RESULTS
+  enable_fits : (o : Option Named) → PipeFits (text job right) 1 o → EnableFits job (pipe_number job o)
+  enable_fits None h = tt
+  enable_fits (Some n) h =
+      let p = (placed job right n.name h.0 h.1).pipe h.2 in
+      (p.inside, width_there n.name pipes p.inside ∙ p.width ∙ h.3)
+
+  address_fits : (q : List ℕ) (m : Sense) (o : Option Named) → look_up (text job right) q ≡ Some m → cond (is_some o) names.is_file names.is_register m.kind ≡ true
+      → PipeFits (text job right) (address_width m.kind) o → AddressFits job (number_of targets q) (pipe_number job o)
+  address_fits q m None e k h =
+      let s = (placed job right q m e).target (storage_kind false m.kind k) in
+      let a : (target_at job (number_of targets q)).address ≡ 0 = address_there q targets s.inside ∙ s.address ∙ no_address m.kind k in
+      eq-eqb _ 0 a
+  address_fits q m (Some n) e k h =
+      let s = (placed job right q m e).target (storage_kind true m.kind k) in
+      let p = (placed job right n.name h.0 h.1).pipe h.2 in
+      let a : (target_at job (number_of targets q)).address ≡ address_width m.kind = address_there q targets s.inside ∙ s.address in
+      let w : (pipe_at job (number_of pipes n.name)).width ≡ address_width m.kind = width_there n.name pipes p.inside ∙ p.width ∙ h.3 in
+      let positive : 1 ≤ (pipe_at job (number_of pipes n.name)).width = (pipe_wide (number_of pipes n.name) p.inside).positive in (
+        false_from_ne_true _ (λ y. let z : (target_at job (number_of targets q)).address ≡ 0 = eqb-true _ 0 y in absurd (omega (arith, z, a, w, positive))),
+        p.inside,
+        w ∙ sym a,
+      )
+
+  result_fits : (t : ℕ) (o : Option ResultDecl) → result_for job t ≡ o → ResultFits job t (port_for job t o)
+  result_fits t None e = tt
+  result_fits t (Some r) e =
+      let s = stands job right t r e in
+      let f = results_fit job.decls 0 0 nothing job.decls refl declarations s.0.index r s.0.there in
+      let w : nat_lt r.stage.value facts.stages ≡ true = answer_none _ (e_rule 15 r.stage.at) (decl_kept facts job (rules_kept job kept) 0 _ refl s.0.index (decls.Target r) s.0.there) in (
+        ltb-true r.stage.value job.stages.value w,
+        enable_fits r.enable f.enable,
+        subst (λ n. AddressFits job n (pipe_number job r.address)) s.1 (address_fits r.target.name f.sense r.address f.found f.stored f.address),
+      )
+
+  -- GUESSES
+  guess_right : (k i : ℕ) (r : ReadStmt) (e : Expr) → r.guess ≡ Some e → may_guess facts k r ≡ true → IsGuess job (guess_slot job k i r)
+  guess_right k i r e is may =
+      let there : is_some r.guess ≡ true = ap is_some is in
+      let late : holds_of (λ w. nat_le (k + 2) w) (facts.written r.target.name) ≡ true =
+      (and_parts (not (is_some r.address)) (holds_of (λ w. nat_le (k + 2) w) (facts.written r.target.name))
+      (subst (λ b. (not b || (not (is_some r.address) && holds_of (λ w. nat_le (k + 2) w) (facts.written r.target.name))) ≡ true) there may)).1 in
+      let w = in_time k (facts.written r.target.name) late in
+      let q = written_by job.decls r.target.name w.0 w.1.0 in
+      let inside : IsIn targets r.target.name = subst (λ n. IsIn targets n) q.1.1.0 (result_placed job right q.0 q.1.0).target in
+      let stage : write_stage_of (result_for job (number_of targets r.target.name)) ≡ w.0 =
+      ap (λ n. write_stage_of (result_for job (number_of targets n))) (sym q.1.1.0) ∙ ap write_stage_of (own job right kept q.0 q.1.0) ∙ q.1.1.1 in
+      let after : k + 2 ≤ w.0 = w.1.1 in
+      let e : nat_lt q.0.stage.value facts.stages ≡ true = answer_none _ (e_rule 15 q.0.stage.at) (decl_kept facts job (rules_kept job kept) 0 _ refl q.1.0.index (decls.Target q.0) q.1.0.there) in
+      let last : q.0.stage.value < job.stages.value = ltb-true q.0.stage.value job.stages.value e in
+      record {
+        width = subst (λ n. IsWidth n) (width_there r.target.name targets inside) (target_sized (number_of targets r.target.name) inside).width;
+        early = omega (arith, stage, after);
+        late = omega (arith, stage, q.1.1.1, last);
+        register = inside;
+      }
+
+  abbrev Asked : ℕ → ℕ → StmtKind → Type 0
+  Asked k j s = (n : ℕ) (rule : _) → slice_get all_rules n ≡ Some rule → ask_stmt facts rule k j s ≡ None
+
+  guess_in : (k j i : ℕ) (r : ReadStmt) (o : Option Expr) (rest : ℕ → List GuessSlot) → r.guess ≡ o → Asked k j (stmts.Read r)
+      → ((m : ℕ) → AllByRecursion (IsGuess job) (rest m)) → AllByRecursion (IsGuess job) (with_read job k i r o rest)
+  guess_in k j i r None rest is asked more = more i
+  guess_in k j i r (Some e) rest is asked more = (guess_right k i r e is (answer_none (may_guess facts k r) (e_rule 23 r.target.at) (asked 8 _ refl)), more (suc i))
+
+  guess_of : (k j i : ℕ) (s : StmtKind) (rest : ℕ → List GuessSlot) → Asked k j s
+      → ((m : ℕ) → AllByRecursion (IsGuess job) (rest m)) → AllByRecursion (IsGuess job) (with_guess job k i s rest)
+  guess_of k j i (stmts.Read r) rest asked more = guess_in k j i r r.guess rest refl asked more
+  guess_of k j i s rest asked more = more i
+
+  guesses_right : (k j i : ℕ) (ss : List Stmt) → ((n : ℕ) (rule : _) → slice_get all_rules n ≡ Some rule → first (ask_stmts facts rule k j ss) ≡ None)
+      → AllByRecursion (IsGuess job) (guesses_in job k i ss)
+  guesses_right k j i [] asked = tt
+  guesses_right k j i (s ∷ ss) asked =
+      guess_of k j i s.kind (λ m. guesses_in job k m ss) (λ n rule at. (first_none (ask_stmt facts rule k j s.kind) (ask_stmts facts rule k (j + 1) ss) (asked n rule at)).0)
+      (λ m. guesses_right k (j + 1) m ss (λ n rule at. (first_none (ask_stmt facts rule k j s.kind) (ask_stmts facts rule k (j + 1) ss) (asked n rule at)).1))
+
+  all_guesses_right : (k : ℕ) (bs : List Block) → ((i n : ℕ) (rule : _) → slice_get all_rules n ≡ Some rule → first (ask_stmts facts rule (k + i) 0 (stmts_in (slice_get bs i))) ≡ None)
+      → AllByRecursion (IsGuess job) (guesses_from job k bs)
+  all_guesses_right k [] asked = tt
+  all_guesses_right k (b ∷ bs) asked =
+      let here : k + 0 ≡ k = omega arith in
+      all-append (IsGuess job) (guesses_in job k 0 b.stmts) (guesses_from job (suc k) bs)
+      (guesses_right k 0 0 b.stmts (λ n rule at. subst (λ m. first (ask_stmts facts rule m 0 b.stmts) ≡ None) here (asked 0 n rule at)))
+      (all_guesses_right (suc k) bs (λ i n rule at.
+      let next : k + suc i ≡ suc k + i = omega arith in
+      subst (λ m. first (ask_stmts facts rule m 0 (stmts_in (slice_get bs i))) ≡ None) next (asked (suc i) n rule at)))
+
+  every_guess : AllByRecursion (IsGuess job) (guesses_of job)
+  unfolding guesses_of
+  every_guess = all_guesses_right 0 job.blocks (λ i n rule at.
+      let here : i ≡ 0 + i = omega arith in
+      subst (λ m. first (ask_stmts facts rule m 0 (stmts_in (slice_get job.blocks i))) ≡ None) here (stmts_kept facts job (rules_kept job kept) n rule at i))
+
+  pub guess_there : (g : ℕ) → g < length (guesses_of job) → IsGuess job (guess_at job g)
+  guess_there g l = all_at (IsGuess job) (guesses_of job) no_guess every_guess g l
+
+  -- STAGES
+  stages_right : (2 ≤ job.stages.value) × (job.stages.value ≤ 12)
+  stages_right =
+      let n = job.stages.value in
+      let both = and_parts (nat_le 2 n && nat_le n 12) (nat_le n (length job.blocks)) (answer_none _ (e_rule 15 job.stages.at) (head_kept facts job (rules_kept job kept) 0 _ refl)) in
+      let limits = and_parts (nat_le 2 n) (nat_le n 12) both.0 in
+      (leb-true 2 n limits.0, leb-true n 12 limits.1)
+
+  aim_right : (o : Option Slot) → aim_stage facts o < job.stages.value
+  aim_right None = let few = stages_right.0 in omega (arith, few)
+  aim_right (Some s) =
+      let few : 2 ≤ job.stages.value = stages_right.0 in
+      let blocks = stages_inside job kept in
+      below_stage job.stages.value (facts.aim s.name) (omega (arith, few)) (all_aims_below job.stages.value s.name 0 job.blocks (omega (arith, blocks)))
+
+  aims_right : (h : ℕ) → (machine_of job).hint_stage h < job.stages.value
+  unfolding machine_of
+  aims_right h = aim_right (slice_get (hints_of job.decls) h)
+
+  -- A job that violates no rule of names, widths and stages fits.
+  pub fits : Fits job
+  fits = record {
+    at_least = stages_right.0;
+    at_most = stages_right.1;
+    targets = λ t l. (target_sized t l).width;
+    addresses = λ t l. (target_sized t l).address;
+    pipes = pipe_wide;
+    hints = λ h l. (hint_sized h l).width;
+    samples = sample_wide;
+    results = λ t l. result_fits t (result_for job t) refl;
+    guess_widths = λ g l. (guess_there g l).width;
+    guesses = λ g l. (guess_there g l).early;
+    lasting = lasting job right;
+    no_put = no_put job;
+    no_set = no_set job right kept;
+    aims = λ h l. aims_right h;
+  }

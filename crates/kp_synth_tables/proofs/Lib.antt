@@ -1,0 +1,10 @@
+pub mod Places
+pub mod Fitting
+pub mod Laying
+pub mod Limits
+pub mod Opening
+pub mod Counting
+pub mod Apart
+pub mod Pipes
+pub mod Lasting
+pub mod Quiet

@@ -1,0 +1,266 @@
+-- A job that violates no rule has few declarations, and so few registers.
+use Rattle.std.proofs.Common.{◌≡◌, ◌∙◌, ℕ, zero, suc, ◌+◌, ◌*◌, ◌≤◌, List, [], ◌∷◌, ◌++◌, Option, Some, None, Bool, true, ◌&&◌, length, length-append, refl, ap, subst, arith}
+use Rattle.std.specs.Prelude.{sum_by, nat_le}
+use Rattle.std.proofs.lemmas.Bool.{and_parts, leb-true, cond_both}
+use Rattle.std.proofs.lemmas.List.Sums.{sum_by-cons}
+use Rattle.kp_base.specs.First.{first}
+use Rattle.kp_base.specs.Refusal.{e_rule}
+use Rattle.kp_ast.specs.declared.tree.Expr.{Expr}
+use Rattle.kp_ast.specs.declared.tree.ReadStmt.{ReadStmt}
+use Rattle.kp_ast.specs.declared.tree.Decl.{Decl}
+use Rattle.kp_ast.specs.declared.tree.Decl.TheVariants as decls
+use Rattle.kp_ast.specs.declared.tree.Stmt.{Stmt}
+use Rattle.kp_ast.specs.declared.tree.StmtKind.{StmtKind}
+use Rattle.kp_ast.specs.declared.tree.StmtKind.TheVariants as stmts
+use Rattle.kp_ast.specs.declared.tree.Block.{Block}
+use Rattle.kp_ast.specs.declared.tree.Job.{Job}
+use Rattle.kp_width.specs.Declarations.{functions_in, name_of}
+use Rattle.kp_width.proofs.Unbroken.{Unbroken, bind_unbroken, answer_unbroken}
+use Rattle.kp_stage.specs.Counts.{regs_in, files_in, pipes_in, results_in, hints_in, samples_in, one_if_some, is_within, nothing_counted, with_decl, with_stmt, place_of_read, decls_counted, stmts_counted, blocks_counted, counts_of}
+use Rattle.kp_stage.specs.Counts as counts
+use Rattle.kp_stage.specs.Facts.{facts_of}
+use Rattle.kp_stage.specs.Rules.{broken_by}
+use Rattle.kp_stage.specs.Sizes.{sizes_of}
+use Rattle.kp_stage.specs.Stages.{broken_of}
+use Rattle.kp_stage.proofs.Unbroken.{first_none}
+use Rattle.kp_stage.proofs.Totals.{counts_total}
+use Rattle.kp_machine.specs.Slots.{Slot, targets_of, pipes_of, hints_of, samples_of, is_register}
+use Rattle.kp_synth_tables.specs.declared.key.GuessSlot.{GuessSlot}
+use Rattle.kp_synth_tables.specs.declared.key.Key.TheVariants.{Visible, Pipe, Valid, Value, Pending, Guess}
+use Rattle.kp_synth_tables.specs.Keys.{guesses_in, guesses_from, guesses_of, piped_at, is_stored, is_carried, visible_keys, pipe_keys, result_keys, guess_keys, stage_keys, stages_keys, later_keys, hint_keys, keys_of}
+use Rattle.kp_synth_tables.specs.inner.Tables.{read_here, guess_here, guess_count}
+use Rattle.kp_synth_tables.proofs.Laying.{guess_step}
+
+decls_within : (c : _) (ds : List Decl) → is_within c ≡ true → Unbroken (decls_counted c ds) → is_within (decls_counted c ds).value ≡ true
+decls_within c [] h u = h
+decls_within c (d ∷ ds) h u =
+    let x = answer_unbroken (is_within (with_decl c d)) (e_rule 29 (name_of d).at) (decls_counted (with_decl c d) ds).asked u in
+    decls_within (with_decl c d) ds x.0 x.1
+
+stmts_within : (c : _) (ss : List Stmt) → is_within c ≡ true → Unbroken (stmts_counted c ss) → is_within (stmts_counted c ss).value ≡ true
+stmts_within c [] h u = h
+stmts_within c (s ∷ ss) h u =
+    let x = answer_unbroken (is_within (with_stmt c s)) (e_rule 29 (place_of_read s s.kind)) (stmts_counted (with_stmt c s) ss).asked u in
+    stmts_within (with_stmt c s) ss x.0 x.1
+
+blocks_within : (c : _) (bs : List Block) → is_within c ≡ true → Unbroken (blocks_counted c bs) → is_within (blocks_counted c bs).value ≡ true
+blocks_within c [] h u = h
+blocks_within c (b ∷ bs) h u =
+    let x = bind_unbroken (stmts_counted c b.stmts) (λ t. blocks_counted t bs) u in
+    blocks_within (stmts_counted c b.stmts).value bs (stmts_within c b.stmts h x.0) x.1
+
+counts_right : (job : Job) → broken_of job ≡ None → Unbroken (counts_of job)
+unfolding broken_of
+counts_right job e =
+    (first_none (first (counts_of job).asked) [] (first_none (first (sizes_of job).asked) (first (counts_of job).asked ∷ []) (first_none (broken_by (facts_of job) job) (first (sizes_of job).asked ∷ first (counts_of job).asked ∷ []) e).1).1).0
+
+counts_within : (job : Job) → Unbroken (counts_of job) → is_within (counts_of job).value ≡ true
+unfolding counts_of
+counts_within job u =
+    let x = bind_unbroken (decls_counted nothing_counted job.decls) (λ c. blocks_counted c job.blocks) u in
+    blocks_within (decls_counted nothing_counted job.decls).value job.blocks (decls_within nothing_counted job.decls refl x.0) x.1
+
+-- the limits of the counts
+pub record Limits (job : Job) : Type 0 where
+  pub regs : sum_by regs_in job.decls ≤ 64
+  pub files : sum_by files_in job.decls ≤ 16
+  pub pipes : sum_by pipes_in job.decls ≤ 128
+  pub results : sum_by results_in job.decls ≤ 64
+  pub hints : sum_by hints_in job.decls ≤ 16
+  pub functions : sum_by functions_in job.decls ≤ 64
+  pub samples : sum_by samples_in job.decls ≤ 16
+  pub guesses : sum_by (λ (b : Block). sum_by counts.guesses_in b.stmts) job.blocks ≤ 8
+
+abbrev four : ℕ → ℕ → ℕ → ℕ → Bool
+four regs files pipes results = nat_le regs 64 && nat_le files 16 && nat_le pipes 128 && nat_le results 64
+
+limits_of : (c : _) → is_within c ≡ true
+    → (c.regs ≤ 64) × (c.files ≤ 16) × (c.pipes ≤ 128) × (c.results ≤ 64) × (c.hints ≤ 16) × (c.functions ≤ 64) × (c.guesses ≤ 8) × (c.samples ≤ 16)
+limits_of c h =
+    let s = and_parts (four c.regs c.files c.pipes c.results && nat_le c.hints 16 && nat_le c.functions 64 && nat_le c.reads 256 && nat_le c.guesses 8) (nat_le c.samples 16) h in
+    let z = and_parts (four c.regs c.files c.pipes c.results && nat_le c.hints 16 && nat_le c.functions 64 && nat_le c.reads 256) (nat_le c.guesses 8) s.0 in
+    let y = and_parts (four c.regs c.files c.pipes c.results && nat_le c.hints 16 && nat_le c.functions 64) (nat_le c.reads 256) z.0 in
+    let x = and_parts (four c.regs c.files c.pipes c.results && nat_le c.hints 16) (nat_le c.functions 64) y.0 in
+    let w = and_parts (four c.regs c.files c.pipes c.results) (nat_le c.hints 16) x.0 in
+    let v = and_parts (nat_le c.regs 64 && nat_le c.files 16 && nat_le c.pipes 128) (nat_le c.results 64) w.0 in
+    let u = and_parts (nat_le c.regs 64 && nat_le c.files 16) (nat_le c.pipes 128) v.0 in
+    let r = and_parts (nat_le c.regs 64) (nat_le c.files 16) u.0 in (
+      leb-true c.regs 64 r.0,
+      leb-true c.files 16 r.1,
+      leb-true c.pipes 128 u.1,
+      leb-true c.results 64 v.1,
+      leb-true c.hints 16 w.1,
+      leb-true c.functions 64 x.1,
+      leb-true c.guesses 8 z.1,
+      leb-true c.samples 16 s.1,
+    )
+
+pub limits : (job : Job) → broken_of job ≡ None → Limits job
+limits job e =
+    let w = subst (λ c. is_within c ≡ true) (counts_total job) (counts_within job (counts_right job e)) in
+    let l = limits_of _ w in
+    record { regs = l.0; files = l.1; pipes = l.2; results = l.3; hints = l.4; functions = l.5; guesses = l.6; samples = l.7 }
+
+-- each declaration is counted once, and a register, a file, a pipe or a hint has its slot
+pub targets_counted : (ds : List Decl) → length (targets_of ds) ≡ sum_by regs_in ds + sum_by files_in ds
+targets_counted [] = refl
+targets_counted (decls.Reg n width start ∷ ds) = let d = decls.Reg n width start in let more = targets_counted ds in omega (arith, more, sum_by-cons regs_in d ds, sum_by-cons files_in d ds)
+targets_counted (decls.File n width address ∷ ds) = let d = decls.File n width address in let more = targets_counted ds in omega (arith, more, sum_by-cons regs_in d ds, sum_by-cons files_in d ds)
+targets_counted (d ∷ ds) = let more = targets_counted ds in omega (arith, more, sum_by-cons regs_in d ds, sum_by-cons files_in d ds)
+
+pub pipes_counted : (ds : List Decl) → length (pipes_of ds) ≡ sum_by pipes_in ds
+pipes_counted [] = refl
+pipes_counted (decls.Pipe n width ∷ ds) = let more = pipes_counted ds in omega (arith, more, sum_by-cons pipes_in (decls.Pipe n width) ds)
+pipes_counted (d ∷ ds) = let more = pipes_counted ds in omega (arith, more, sum_by-cons pipes_in d ds)
+
+pub hints_counted : (ds : List Decl) → length (hints_of ds) ≡ sum_by hints_in ds
+hints_counted [] = refl
+hints_counted (decls.Hint n width start ∷ ds) = let more = hints_counted ds in omega (arith, more, sum_by-cons hints_in (decls.Hint n width start) ds)
+hints_counted (d ∷ ds) = let more = hints_counted ds in omega (arith, more, sum_by-cons hints_in d ds)
+
+pub samples_counted : (ds : List Decl) → length (samples_of ds) ≡ sum_by samples_in ds
+samples_counted [] = refl
+samples_counted (decls.Sample n width stage ∷ ds) = let more = samples_counted ds in omega (arith, more, sum_by-cons samples_in (decls.Sample n width stage) ds)
+samples_counted (d ∷ ds) = let more = samples_counted ds in omega (arith, more, sum_by-cons samples_in d ds)
+
+one_kind : (d : Decl) → regs_in d + files_in d + pipes_in d + results_in d + hints_in d + functions_in d + samples_in d ≡ 1
+one_kind (decls.Reg n width start) = refl
+one_kind (decls.File n width address) = refl
+one_kind (decls.Pipe n width) = refl
+one_kind (decls.Hint n width start) = refl
+one_kind (decls.Sample n width stage) = refl
+one_kind (decls.Target r) = refl
+one_kind (decls.Func f) = refl
+
+all_counted : (ds : List Decl) → length ds ≡ sum_by regs_in ds + sum_by files_in ds + sum_by pipes_in ds + sum_by results_in ds + sum_by hints_in ds + sum_by functions_in ds + sum_by samples_in ds
+all_counted [] = refl
+all_counted (d ∷ ds) =
+    let more = all_counted ds in
+    let one = one_kind d in
+    omega (arith, more, one, sum_by-cons regs_in d ds, sum_by-cons files_in d ds, sum_by-cons pipes_in d ds, sum_by-cons results_in d ds, sum_by-cons hints_in d ds, sum_by-cons functions_in d ds, sum_by-cons samples_in d ds)
+
+-- a guessed read has its guess
+read_counted : (job : Job) (k i : ℕ) (r : ReadStmt) (o : Option Expr) → length (read_here job k i r o) ≡ one_if_some o
+read_counted job k i r None = refl
+read_counted job k i r (Some e) = refl
+
+pub guess_counted : (job : Job) (k i : ℕ) (x : StmtKind) → length (guess_here job k i x) ≡ guess_count x
+guess_counted job k i (stmts.Read r) = read_counted job k i r r.guess
+guess_counted job k i x = refl
+
+same_count : (x : StmtKind) → guess_count x ≡ counts.guesses_of x
+same_count (stmts.Read r) = refl
+same_count x = refl
+
+stmts_counted_in : (job : Job) (k i : ℕ) (ss : List Stmt) → length (guesses_in job k i ss) ≡ sum_by counts.guesses_in ss
+stmts_counted_in job k i [] = refl
+stmts_counted_in job k i (s ∷ ss) =
+    let step = guess_step job k i s.kind (λ j. guesses_in job k j ss) in
+    let more = stmts_counted_in job k (i + guess_count s.kind) ss in
+    let here = guess_counted job k i s.kind in
+    let same = same_count s.kind in
+    ap length step ∙ length-append (guess_here job k i s.kind) (guesses_in job k (i + guess_count s.kind) ss) ∙ omega (arith, more, here, same, sum_by-cons counts.guesses_in s ss)
+
+blocks_counted_in : (job : Job) (k : ℕ) (bs : List Block) → length (guesses_from job k bs) ≡ sum_by (λ (b : Block). sum_by counts.guesses_in b.stmts) bs
+blocks_counted_in job k [] = refl
+blocks_counted_in job k (b ∷ bs) =
+    let more = blocks_counted_in job (suc k) bs in
+    let here = stmts_counted_in job k 0 b.stmts in
+    length-append (guesses_in job k 0 b.stmts) (guesses_from job (suc k) bs) ∙ omega (arith, more, here, sum_by-cons (λ (b : Block). sum_by counts.guesses_in b.stmts) b bs)
+
+pub guesses_counted : (job : Job) → length (guesses_of job) ≡ sum_by (λ (b : Block). sum_by counts.guesses_in b.stmts) job.blocks
+unfolding guesses_of
+guesses_counted job = blocks_counted_in job 0 job.blocks
+
+-- so there are few of each
+pub record IsFew (job : Job) : Type 0 where
+  pub decls : length job.decls ≤ 368
+  pub targets : length (targets_of job.decls) ≤ 80
+  pub pipes : length (pipes_of job.decls) ≤ 128
+  pub hints : length (hints_of job.decls) ≤ 16
+  pub samples : length (samples_of job.decls) ≤ 16
+  pub guesses : length (guesses_of job) ≤ 8
+
+pub few : (job : Job) → broken_of job ≡ None → IsFew job
+unfolding guesses_of
+few job e =
+    let l = limits job e in
+    record {
+      decls = omega (arith, all_counted job.decls, l.regs, l.files, l.pipes, l.results, l.hints, l.functions, l.samples);
+      targets = omega (arith, targets_counted job.decls, l.regs, l.files);
+      pipes = omega (arith, pipes_counted job.decls, l.pipes);
+      hints = omega (arith, hints_counted job.decls, l.hints);
+      samples = omega (arith, samples_counted job.decls, l.samples);
+      guesses = omega (arith, blocks_counted_in job 0 job.blocks, l.guesses);
+    }
+
+-- THE KEYS are few too.
+pub visible_few : (t : ℕ) (ss : List Slot) → length (visible_keys t ss) ≤ length ss
+visible_few t [] = omega arith
+visible_few t (s ∷ ss) = let more = visible_few (suc t) ss in cond_both (is_register s) (Visible t ∷ visible_keys (suc t) ss) (visible_keys (suc t) ss) (λ l. length l ≤ suc (length ss)) (λ y. omega (arith, more)) (λ n. omega (arith, more))
+
+pub pipes_few : (job : Job) (k x : ℕ) (ss : List Slot) → length (pipe_keys job k x ss) ≤ length ss
+pipes_few job k x [] = omega arith
+pipes_few job k x (s ∷ ss) =
+    let more = pipes_few job k (suc x) ss in
+    cond_both (piped_at job s.name k) (Pipe x k ∷ pipe_keys job k (suc x) ss) (pipe_keys job k (suc x) ss) (λ l. length l ≤ suc (length ss)) (λ y. omega (arith, more)) (λ n. omega (arith, more))
+
+results_few : (job : Job) (k t : ℕ) (ss : List Slot) → length (result_keys job k t ss) ≤ 2 * length ss
+results_few job k t [] = omega arith
+results_few job k t (s ∷ ss) =
+    let more = results_few job k (suc t) ss in
+    cond_both (is_stored job t k) (Valid t k ∷ Value t k ∷ result_keys job k (suc t) ss) (result_keys job k (suc t) ss) (λ l. length l ≤ 2 * suc (length ss)) (λ y. omega (arith, more)) (λ n. omega (arith, more))
+
+pub guesses_few : (k g : ℕ) (ss : List GuessSlot) → length (guess_keys k g ss) ≤ 2 * length ss
+guesses_few k g [] = omega arith
+guesses_few k g (s ∷ ss) =
+    let more = guesses_few k (suc g) ss in
+    cond_both (is_carried s k) (Pending g k ∷ Guess g k ∷ guess_keys k (suc g) ss) (guess_keys k (suc g) ss) (λ l. length l ≤ 2 * suc (length ss)) (λ y. omega (arith, more)) (λ n. omega (arith, more))
+
+pub hints_few : (h : ℕ) (ss : List Slot) → length (hint_keys h ss) ≤ length ss
+hints_few h [] = omega arith
+hints_few h (s ∷ ss) = let more = hints_few (suc h) ss in omega (arith, more)
+
+module _ (job : Job) (n : IsFew job) where
+  stage_few : (k : ℕ) → length (stage_keys job k) ≤ 305
+  stage_few k =
+      let pipes = pipe_keys job k 0 (pipes_of job.decls) in
+      let results = result_keys job k 0 (targets_of job.decls) in
+      let guesses = guess_keys k 0 (guesses_of job) in
+      omega (
+        arith,
+        length-append pipes (results ++ guesses),
+        length-append results guesses,
+        pipes_few job k 0 (pipes_of job.decls),
+        results_few job k 0 (targets_of job.decls),
+        guesses_few k 0 (guesses_of job),
+        n.targets,
+        n.pipes,
+        n.guesses,
+      )
+
+  stages_few : (d k : ℕ) → length (stages_keys job d k) ≤ 305 * d
+  stages_few zero k = omega arith
+  stages_few (suc d) k = let here = stage_few k in let more = stages_few d (suc k) in omega (arith, here, more, length-append (stage_keys job k) (stages_keys job d (suc k)))
+
+  later_few : (s : ℕ) → length (later_keys job s) ≤ 305 * s
+  later_few zero = omega arith
+  later_few (suc s) = let more = stages_few s 1 in omega (arith, more)
+
+  pub keys_few : job.stages.value ≤ 12 → length (keys_of job) ≤ 4096
+  unfolding keys_of
+  keys_few l =
+      let visible = visible_keys 0 (targets_of job.decls) in
+      let later = later_keys job job.stages.value in
+      let hints = hint_keys 0 (hints_of job.decls) in
+      omega (
+        arith,
+        length-append visible (later ++ hints),
+        length-append later hints,
+        visible_few 0 (targets_of job.decls),
+        later_few job.stages.value,
+        hints_few 0 (hints_of job.decls),
+        n.targets,
+        n.hints,
+        l,
+      )

@@ -1,0 +1,459 @@
+-- The tables that are laid out are those of the job.
+use Rattle.std.proofs.Common.{◌≡◌, ◌∙◌, ℕ, zero, suc, ◌+◌, ◌-◌, ◌<◌, ◌≤◌, max, List, [], ◌∷◌, ◌++◌, map, Option, Some, None, Bool, true, false, cond, ◌&&◌, ◌||◌, length, length-append, get_or, refl, ap, sym, subst, arith}
+use Rattle.std.specs.Prelude.{is_some, nat_lt, nat_le, slice_get}
+use Rattle.std.specs.List.{AllByRecursion}
+use Rattle.std.proofs.lemmas.List.{get_or-map, length-map}
+use Rattle.std.proofs.lemmas.Bool.{ltb-true}
+use Rattle.kp_base.specs.First.{first}
+use Rattle.kp_base.specs.Refusal.{e_rule}
+use Rattle.kp_stage.proofs.Unbroken.{answer_none}
+use Rattle.kp_machine.proofs.Rules.{rules_kept, decl_kept}
+use Rattle.kp_ast.specs.declared.tree.Named.{Named}
+use Rattle.kp_ast.specs.declared.tree.Expr.{Expr}
+use Rattle.kp_ast.specs.declared.tree.ReadStmt.{ReadStmt}
+use Rattle.kp_ast.specs.declared.tree.ResultDecl.{ResultDecl}
+use Rattle.kp_ast.specs.declared.tree.Decl.{Decl}
+use Rattle.kp_ast.specs.declared.tree.Decl.TheVariants as decls
+use Rattle.kp_ast.specs.declared.tree.Stmt.{Stmt}
+use Rattle.kp_ast.specs.declared.tree.StmtKind.{StmtKind}
+use Rattle.kp_ast.specs.declared.tree.StmtKind.TheVariants as stmts
+use Rattle.kp_ast.specs.declared.tree.Block.{Block}
+use Rattle.kp_ast.specs.declared.tree.Job.{Job}
+use Rattle.kp_width.specs.Widths.{widths_of}
+use Rattle.kp_width.proofs.Unbroken.{Unbroken}
+use Rattle.kp_stage.specs.Facts.{At, Facts, facts_of, put_at, puts_in, puts_of, aim_at, aims_in, aims_of}
+use Rattle.kp_stage.specs.Stages.{broken_of}
+use Rattle.kp_stage.specs.Design.{Plan, IsSound}
+use Rattle.kp_pipeline.proofs.Lists.{all-append}
+use Rattle.kp_machine.specs.Slots.{Slot, targets_of, pipes_of, hints_of, samples_of}
+use Rattle.kp_machine.specs.Machine.{machine_of, result_for, write_stage_of, after_put, stage_or_zero, known_after, known_from_of, aim_stage}
+use Rattle.kp_machine.proofs.Cases.{by_test}
+use Rattle.kp_machine.proofs.Stages.{stages_inside}
+use Rattle.kp_synth_tables.specs.declared.key.GuessSlot.{GuessSlot}
+use Rattle.kp_synth_tables.specs.declared.key.Key.{Key}
+use Rattle.kp_synth_tables.specs.declared.key.Key.TheVariants.{Full, Pipe, Valid, Value}
+use Rattle.kp_synth_tables.specs.declared.layout.Sized.{Sized}
+use Rattle.kp_synth_tables.specs.declared.layout.Port.{Port}
+use Rattle.kp_synth_tables.specs.declared.layout.Piped.{Piped}
+use Rattle.kp_synth_tables.specs.declared.layout.Aimed.{Aimed}
+use Rattle.kp_synth_tables.specs.Keys.{no_slot, pipe_at, hint_at, no_guess, guesses_in, guesses_from, guesses_of, guess_at, piped_at, set_by, is_stored, visible_keys, pipe_keys, result_keys, guess_keys, stage_keys, stages_keys, later_keys, hint_keys, keys_of}
+use Rattle.kp_synth_tables.specs.Spans.{is_put, has_put, put_after, has_set, set_after, uses_name, last_use_in, is_called, last_write, last_use}
+use Rattle.kp_synth_tables.specs.Fits.{pipe_number, port_for, port_at, IsWidth, EnableFits, AddressFits, ResultFits, Fits}
+use Rattle.kp_synth_tables.specs.inner.Laid.{no_size, no_aim, no_piped, piped_of, Vectors, IsLaid}
+use Rattle.kp_synth_tables.specs.inner.Tables.{byte, short, sized, is_aim, has_aim, aimed_in, short_piped, aimed, known_in, short_number, short_port, short_guess, read_here, guess_here, guess_count, piped_by, pipes_by, stored_by, result_here, results_by, stage_by, stages_by}
+use Rattle.kp_synth_tables.proofs.Fitting.{guess_there, fits}
+use Rattle.kp_synth_tables.proofs.Laying.{guess_step}
+use Rattle.kp_synth_tables.proofs.Limits.{IsFew, few, keys_few, guess_counted}
+
+byte_is : (n : ℕ) → n ≤ 255 → byte n ≡ n
+byte_is n l = omega arith
+
+short_is : (n : ℕ) → n ≤ 65536 → short n ≡ n
+short_is n l = omega arith
+
+-- the widths of slots
+abbrev bytes_of : List Slot → List ℕ
+bytes_of ss = map (λ (s : Slot). byte s.width) ss
+
+bytes_count : (ss : List Slot) → length (bytes_of ss) ≡ length ss
+bytes_count ss = length-map ss (λ (s : Slot). byte s.width)
+
+byte_at : (ss : List Slot) (x : ℕ) → x < length ss → IsWidth (get_or ss x no_slot).width → get_or (bytes_of ss) x 0 ≡ (get_or ss x no_slot).width
+byte_at ss x l w = get_or-map (λ (s : Slot). byte s.width) ss x no_slot 0 l ∙ byte_is _ (omega (arith, w.at_most))
+
+there : {X : Type 0} (xs : List X) (i : ℕ) (d : X) → i < length xs → slice_get xs i ≡ Some (get_or xs i d)
+there [] i d l = absurd (omega arith)
+there (x ∷ xs) zero d l = refl
+there (x ∷ xs) (suc i) d l = there xs i d (omega arith)
+
+map_same : {X : Type 0} (f : X → X) (xs : List X) (d : X) → ((i : ℕ) → i < length xs → f (get_or xs i d) ≡ get_or xs i d) → map f xs ≡ xs
+map_same f [] d h = refl
+map_same f (x ∷ xs) d h =
+    let here : f x ≡ x = h 0 (omega arith) in
+    let more = map_same f xs d (λ i l. h (suc i) (omega (arith, l))) in
+    λ i. here i ∷ more i
+
+maps_same : {X Y : Type 0} (f g : X → Y) (xs : List X) (d : X) → ((i : ℕ) → i < length xs → f (get_or xs i d) ≡ g (get_or xs i d)) → map f xs ≡ map g xs
+maps_same f g [] d h = refl
+maps_same f g (x ∷ xs) d h =
+    let here : f x ≡ g x = h 0 (omega arith) in
+    let more = maps_same f g xs d (λ i l. h (suc i) (omega (arith, l))) in
+    λ i. here i ∷ more i
+
+-- PUTS AND AIMS. The stage of the first.
+abbrev stage_of : Option At → Option ℕ
+stage_of None = None
+stage_of (Some at) = Some at.stage
+
+first_stage : (k : ℕ) (b c : Bool) (at : At) (os : List (Option At)) → at.stage ≡ k → stage_of (first os) ≡ cond c (Some k) None
+    → stage_of (first (cond b (Some at) None ∷ os)) ≡ cond (b || c) (Some k) None
+first_stage k true c at os e h = ap Some e
+first_stage k false c at os e h = h
+
+module _ (name : List ℕ) where
+  put_here : (k j : ℕ) (s : StmtKind) → put_at name k j s ≡ cond (is_put name s) (Some (record { stage = k; index = j })) None
+  put_here k j (stmts.Put n e) = refl
+  put_here k j s = refl
+
+  put_stage : (k j : ℕ) (ss : List Stmt) → stage_of (first (puts_in name k j ss)) ≡ cond (has_put name ss) (Some k) None
+  put_stage k j [] = refl
+  put_stage k j (s ∷ ss) =
+      ap (λ o. stage_of (first (o ∷ puts_in name k (j + 1) ss))) (put_here k j s.kind)
+      ∙ first_stage k (is_put name s.kind) (has_put name ss) (record { stage = k; index = j }) (puts_in name k (j + 1) ss) refl (put_stage k (j + 1) ss)
+
+  aim_here : (k j : ℕ) (s : StmtKind) → aim_at name k j s ≡ cond (is_aim name s) (Some (record { stage = k; index = j })) None
+  aim_here k j (stmts.Aim n e) = refl
+  aim_here k j s = refl
+
+  aim_stage_in : (k j : ℕ) (ss : List Stmt) → stage_of (first (aims_in name k j ss)) ≡ cond (has_aim name ss) (Some k) None
+  aim_stage_in k j [] = refl
+  aim_stage_in k j (s ∷ ss) =
+      ap (λ o. stage_of (first (o ∷ aims_in name k (j + 1) ss))) (aim_here k j s.kind)
+      ∙ first_stage k (is_aim name s.kind) (has_aim name ss) (record { stage = k; index = j }) (aims_in name k (j + 1) ss) refl (aim_stage_in k (j + 1) ss)
+
+  put_block : (k m : ℕ) (b : Bool) (o : Option At) (os : List (Option At)) → stage_of o ≡ cond b (Some k) None → m ≡ after_put (first os) → cond b (k + 1) m ≡ after_put (first (o ∷ os))
+  put_block k m true None os e h = cc
+  put_block k m false None os e h = h
+  put_block k m true (Some at) os e h = let f : at.stage ≡ k = cc in omega (arith, f)
+  put_block k m false (Some at) os e h = cc
+
+  put_same : (k : ℕ) (bs : List Block) → put_after name k bs ≡ after_put (first (puts_of name k bs))
+  put_same k [] = refl
+  put_same k (b ∷ bs) = put_block k _ (has_put name b.stmts) (first (puts_in name k 0 b.stmts)) (puts_of name (k + 1) bs) (put_stage k 0 b.stmts) (put_same (k + 1) bs)
+
+  put_few : (k : ℕ) (bs : List Block) → put_after name k bs ≤ k + length bs
+  put_few k [] = omega arith
+  put_few k (b ∷ bs) = let more = put_few (k + 1) bs in by_test (has_put name b.stmts) (λ y. rw y (omega arith)) (λ n. rw n (omega (arith, more)))
+
+  set_few : (k : ℕ) (bs : List Block) → set_after name k bs ≤ k + length bs
+  set_few k [] = omega arith
+  set_few k (b ∷ bs) = let more = set_few (k + 1) bs in by_test (has_set name b.stmts) (λ y. rw y (omega arith)) (λ n. rw n (omega (arith, more)))
+
+  use_few : (last k : ℕ) (bs : List Block) → last ≤ k → last_use_in name last k bs ≤ k + length bs
+  use_few last k [] l = omega (arith, l)
+  use_few last k (b ∷ bs) l =
+      by_test (uses_name name b.stmts)
+      (λ y. rw y (let more = use_few k (k + 1) bs (omega arith) in omega (arith, more)))
+      (λ n. rw n (let more = use_few last (k + 1) bs (omega (arith, l)) in omega (arith, more)))
+
+  aim_block : (k m : ℕ) (b : Bool) (o : Option At) (os : List (Option At)) → stage_of o ≡ cond b (Some k) None → m ≡ stage_or_zero (first os) → cond b k m ≡ stage_or_zero (first (o ∷ os))
+  aim_block k m true None os e h = cc
+  aim_block k m false None os e h = h
+  aim_block k m true (Some at) os e h = let f : at.stage ≡ k = cc in sym f
+  aim_block k m false (Some at) os e h = cc
+
+  aim_same : (k : ℕ) (bs : List Block) → aimed_in name k bs ≡ stage_or_zero (first (aims_of name k bs))
+  aim_same k [] = refl
+  aim_same k (b ∷ bs) = aim_block k _ (has_aim name b.stmts) (first (aims_in name k 0 b.stmts)) (aims_of name (k + 1) bs) (aim_stage_in k 0 b.stmts) (aim_same (k + 1) bs)
+
+module _ (job : Job) where
+  -- HINTS
+  abbrev aim_of : Slot → Aimed
+  aim_of s = record { width = byte s.width; stage = short (aimed_in s.name 0 job.blocks) }
+
+  aimed_map : (ds : List Decl) → aimed job ds ≡ map aim_of (hints_of ds)
+  aimed_map [] = refl
+  aimed_map (decls.Hint n width start ∷ ds) = ap (λ (more : List Aimed). record { width = byte width.value; stage = short (aimed_in n.name 0 job.blocks) } ∷ more) (aimed_map ds)
+  aimed_map (d ∷ ds) = aimed_map ds
+
+  -- GUESSES. The numbers of the guesses of a stage.
+  abbrev Before : ℕ → GuessSlot → Type 0
+  Before m g = g.index < m
+
+  read_before : (m k i : ℕ) (r : ReadStmt) (o : Option Expr) → i + length (read_here job k i r o) ≤ m → AllByRecursion (Before m) (read_here job k i r o)
+  read_before m k i r None l = tt
+  read_before m k i r (Some e) l = (omega (arith, l), tt)
+
+  guess_before : (m k i : ℕ) (x : StmtKind) → i + length (guess_here job k i x) ≤ m → AllByRecursion (Before m) (guess_here job k i x)
+  guess_before m k i (stmts.Read r) l = read_before m k i r r.guess l
+  guess_before m k i x l = tt
+
+  stmts_before : (m k i : ℕ) (ss : List Stmt) → i + length (guesses_in job k i ss) ≤ m → AllByRecursion (Before m) (guesses_in job k i ss)
+  stmts_before m k i [] l = tt
+  stmts_before m k i (s ∷ ss) l =
+      let here = guess_here job k i s.kind in
+      let rest = guesses_in job k (i + guess_count s.kind) ss in
+      let step = guess_step job k i s.kind (λ j. guesses_in job k j ss) in
+      let total : length (guesses_in job k i (s ∷ ss)) ≡ length here + length rest = ap length step ∙ length-append here rest in
+      let count = guess_counted job k i s.kind in
+      subst (λ gs. AllByRecursion (Before m) gs) (sym step)
+      (all-append (Before m) here rest (guess_before m k i s.kind (omega (arith, l, total))) (stmts_before m k (i + guess_count s.kind) ss (omega (arith, l, total, count))))
+
+  blocks_before : (m k : ℕ) (bs : List Block) → length (guesses_from job k bs) ≤ m → AllByRecursion (Before m) (guesses_from job k bs)
+  blocks_before m k [] l = tt
+  blocks_before m k (b ∷ bs) l =
+      let here = guesses_in job k 0 b.stmts in
+      let rest = guesses_from job (suc k) bs in
+      let total = length-append here rest in
+      all-append (Before m) here rest (stmts_before m k 0 b.stmts (omega (arith, l, total))) (blocks_before m (suc k) bs (omega (arith, l, total)))
+
+  before_at : (m : ℕ) (gs : List GuessSlot) → AllByRecursion (Before m) gs → (g : ℕ) → g < length gs → (get_or gs g no_guess).index < m
+  before_at m [] all g l = absurd (omega arith)
+  before_at m (x ∷ gs) all zero l = all.0
+  before_at m (x ∷ gs) all (suc g) l = before_at m gs all.1 g (omega arith)
+
+  index_few : (g : ℕ) → g < length (guesses_of job) → (guess_at job g).index < length (guesses_of job)
+  unfolding guesses_of
+  index_few g l = before_at (length (guesses_of job)) (guesses_of job) (blocks_before (length (guesses_of job)) 0 job.blocks (omega arith)) g l
+
+  -- KEYS
+  stored_port : (t k : ℕ) (o : Option ResultDecl) → stored_by (port_for job t o) k ≡ (nat_le (set_by job o) k && (is_some o && nat_le k (write_stage_of o)))
+  stored_port t k None = sym (none (nat_le 0 k))
+    where
+      none : (b : Bool) → (b && false) ≡ false
+      none true = refl
+      none false = refl
+  stored_port t k (Some r) = refl
+
+  here_or_not : (b : Bool) (t k : ℕ) (rest : List Key) → cond b (Valid t k ∷ Value t k ∷ []) [] ++ rest ≡ cond b (Valid t k ∷ Value t k ∷ rest) rest
+  here_or_not true t k rest = refl
+  here_or_not false t k rest = refl
+
+  results_same : (k t : ℕ) (ss : List Slot) (ps : List (Option Port)) → length ps ≡ length ss → ((i : ℕ) → i < length ps → get_or ps i None ≡ port_at job (t + i))
+      → results_by k t ps ≡ result_keys job k t ss
+  results_same k t [] [] e h = refl
+  results_same k t [] (p ∷ ps) e h = absurd (omega (arith, e))
+  results_same k t (s ∷ ss) [] e h = absurd (omega (arith, e))
+  results_same k t (s ∷ ss) (p ∷ ps) e h =
+      let z : t + 0 ≡ t = omega arith in
+      let y : t + 1 ≡ suc t = omega arith in
+      let here : p ≡ port_at job t = h 0 (omega arith) ∙ ap (port_at job) z in
+      let kept : stored_by p k ≡ is_stored job t k = ap (λ (o : Option Port). stored_by o k) here ∙ stored_port t k (result_for job t) in
+      let more : results_by k (suc t) ps ≡ result_keys job k (suc t) ss =
+      results_same k (suc t) ss ps (omega (arith, e)) (λ i l. let x : t + suc i ≡ suc t + i = omega arith in h (suc i) (omega (arith, l)) ∙ ap (port_at job) x) in
+      ap (λ n. result_here k t p ++ results_by k n ps) y
+      ∙ ap (λ (b : Bool). cond b (Valid t k ∷ Value t k ∷ []) [] ++ results_by k (suc t) ps) kept
+      ∙ ap (λ (r : List Key). cond (is_stored job t k) (Valid t k ∷ Value t k ∷ []) [] ++ r) more
+      ∙ here_or_not (is_stored job t k) t k (result_keys job k (suc t) ss)
+
+  pipes_same : (k x : ℕ) (ss : List Slot) → pipes_by k x (map (piped_of job) ss) ≡ pipe_keys job k x ss
+  pipes_same k x [] = refl
+  pipes_same k x (s ∷ ss) =
+      let y : x + 1 ≡ suc x = omega arith in
+      let more = ap (λ n. pipes_by k n (map (piped_of job) ss)) y ∙ pipes_same k (suc x) ss in
+      ap (λ (r : List Key). cond (piped_at job s.name k) (Pipe x k ∷ r) r) more
+
+  module _ (ports : List (Option Port)) (count : length ports ≡ length (targets_of job.decls)) (is : (t : ℕ) → t < length (targets_of job.decls) → get_or ports t None ≡ port_at job t) where
+    stage_same : (k : ℕ) → stage_by k (map (piped_of job) (pipes_of job.decls)) ports (guesses_of job) ≡ stage_keys job k
+    stage_same k =
+        let r = results_same k 0 (targets_of job.decls) ports count (λ i l. let z : i ≡ 0 + i = omega arith in is i (omega (arith, l, count)) ∙ ap (port_at job) z) in
+        ap (λ (ps : List Key). Full k ∷ (ps ++ (results_by k 0 ports ++ guess_keys k 0 (guesses_of job)))) (pipes_same k 0 (pipes_of job.decls))
+        ∙ ap (λ (rs : List Key). Full k ∷ (pipe_keys job k 0 (pipes_of job.decls) ++ (rs ++ guess_keys k 0 (guesses_of job)))) r
+
+    stages_same : (d k : ℕ) → stages_by (map (piped_of job) (pipes_of job.decls)) ports (guesses_of job) d k ≡ stages_keys job d k
+    stages_same zero k = refl
+    stages_same (suc d) k =
+        let z : k + 1 ≡ suc k = omega arith in
+        let more = stages_same d (suc k) in
+        let here = stage_same k in
+        ap (λ n. stage_by k (map (piped_of job) (pipes_of job.decls)) ports (guesses_of job) ++ stages_by (map (piped_of job) (pipes_of job.decls)) ports (guesses_of job) d n) z
+        ∙ (λ i. here i ++ more i)
+
+    later_same : (n : ℕ) → 1 ≤ n → stages_by (map (piped_of job) (pipes_of job.decls)) ports (guesses_of job) (n - 1) 1 ≡ later_keys job n
+    later_same zero l = absurd (omega (arith, l))
+    later_same (suc n) l = let z : suc n - 1 ≡ n = omega arith in ap (λ d. stages_by (map (piped_of job) (pipes_of job.decls)) ports (guesses_of job) d 1) z ∙ stages_same n 1
+
+    keys_same : 1 ≤ job.stages.value → visible_keys 0 (targets_of job.decls) ++ (stages_by (map (piped_of job) (pipes_of job.decls)) ports (guesses_of job) (job.stages.value - 1) 1 ++ hint_keys 0 (hints_of job.decls)) ≡ keys_of job
+    unfolding keys_of
+    keys_same l = ap (λ (ks : List Key). visible_keys 0 (targets_of job.decls) ++ (ks ++ hint_keys 0 (hints_of job.decls))) (later_same job.stages.value l)
+
+module _ (job : Job) (right : Unbroken (widths_of job)) (kept : broken_of job ≡ None) where
+  abbrev facts : Facts
+  facts = facts_of job
+
+  fit : Fits job
+  fit = fits job right kept
+
+  pub small : IsFew job
+  small = few job kept
+
+  known_is : (o : Option Named) → known_in job o ≡ known_after facts o
+  known_is None = refl
+  known_is (Some n) = put_same n.name 0 job.blocks
+
+  known_few : (o : Option Named) → known_in job o ≤ 12
+  known_few None = omega arith
+  known_few (Some n) =
+      let stages = stages_inside job kept in
+      omega (arith, put_few n.name 0 job.blocks, stages, fit.at_most)
+
+  enable_is : (o : Option Named) → EnableFits job (pipe_number job o) → short_number job o ≡ pipe_number job o
+  enable_is None h = refl
+  enable_is (Some n) h = ap Some (short_is _ (omega (arith, h.0, small.pipes)))
+
+  address_is : (t : ℕ) (o : Option Named) → AddressFits job t (pipe_number job o) → short_number job o ≡ pipe_number job o
+  address_is t None h = refl
+  address_is t (Some n) h = ap Some (short_is _ (omega (arith, h.1, small.pipes)))
+
+  known_same : (t : ℕ) (r : ResultDecl) → result_for job t ≡ Some r → (machine_of job).known_from t ≡ max (known_in job r.address) (known_in job r.enable)
+  unfolding machine_of
+  known_same t r e =
+      let a = known_is r.address in
+      let b = known_is r.enable in
+      ap (known_from_of facts) e ∙ (λ i. max (sym a i) (sym b i))
+
+  port_is : (t : ℕ) (o : Option ResultDecl) → result_for job t ≡ o → ResultFits job t (port_for job t o) → short_port job o ≡ port_for job t o
+  port_is t None e h = refl
+  port_is t (Some r) e h =
+      let w : short r.stage.value ≡ r.stage.value = short_is r.stage.value (omega (arith, h.0, fit.at_most)) in
+      let x = known_in job r.address in
+      let y = known_in job r.enable in
+      let most : max x y ≤ 12 = omega (arith, known_few r.address, known_few r.enable) in
+      let k : short (max x y) ≡ (machine_of job).known_from t = short_is (max x y) (omega (arith, most)) ∙ sym (known_same t r e) in
+      let a = enable_is r.enable h.1 in
+      let b = address_is t r.address h.2 in
+      let st : short (set_after r.name.name 0 job.blocks) ≡ set_after r.name.name 0 job.blocks = short_is _ (omega (arith, set_few r.name.name 0 job.blocks, stages_inside job kept, fit.at_most)) in
+      λ i. Some (record { write = w i; known = k i; set = st i; enable = a i; address = b i })
+
+  -- PIPES. Each result has a write stage among the stages.
+  write_few : (name : List ℕ) (last : ℕ) (ds : List Decl) → last ≤ 12 → ((i : ℕ) (r : ResultDecl) → slice_get ds i ≡ Some (decls.Target r) → r.stage.value ≤ 12) → last_write name last ds ≤ 12
+  write_few name last [] l h = l
+  write_few name last (decls.Target r ∷ ds) l h =
+      let own : r.stage.value ≤ 12 = h 0 r refl in
+      let more = λ (x : ℕ) (m : x ≤ 12). write_few name x ds m (λ i q e. h (suc i) q e) in
+      by_test (is_called name r.address || is_called name r.enable)
+      (λ y. rw y (more (max last r.stage.value) (omega (arith, l, own))))
+      (λ n. rw n (more last l))
+  write_few name last (d ∷ ds) l h = write_few name last ds l (λ i q e. h (suc i) q e)
+
+  results_early : (i : ℕ) (r : ResultDecl) → slice_get job.decls i ≡ Some (decls.Target r) → r.stage.value ≤ 12
+  results_early i r e =
+      let w : nat_lt r.stage.value facts.stages ≡ true = answer_none _ (e_rule 15 r.stage.at) (decl_kept facts job (rules_kept job kept) 0 _ refl i (decls.Target r) e) in
+      let l = ltb-true r.stage.value job.stages.value w in
+      omega (arith, l, fit.at_most)
+
+  use_is : (name : List ℕ) → short (last_use job name) ≡ last_use job name
+  use_is name =
+      let stages = stages_inside job kept in
+      let a = use_few name 0 0 job.blocks (omega arith) in
+      let w = write_few name (last_use_in name 0 0 job.blocks) job.decls (omega (arith, a, stages, fit.at_most)) results_early in
+      short_is _ (omega (arith, w))
+
+  pipe_short : (x : ℕ) → x < length (pipes_of job.decls) → short_piped job (pipe_at job x) ≡ piped_of job (pipe_at job x)
+  pipe_short x l =
+      let a : byte (pipe_at job x).width ≡ (pipe_at job x).width = byte_is _ (omega (arith, (fit.pipes x l).at_most)) in
+      let b : short (put_after (pipe_at job x).name 0 job.blocks) ≡ put_after (pipe_at job x).name 0 job.blocks =
+      short_is _ (omega (arith, put_few (pipe_at job x).name 0 job.blocks, stages_inside job kept, fit.at_most)) in
+      let c = use_is (pipe_at job x).name in
+      λ i. record { width = a i; from = b i; to = c i }
+
+  pipes_short : map (short_piped job) (pipes_of job.decls) ≡ map (piped_of job) (pipes_of job.decls)
+  pipes_short = maps_same (short_piped job) (piped_of job) (pipes_of job.decls) no_slot pipe_short
+
+  aim_is : (h : ℕ) → h < length (hints_of job.decls) → short (aimed_in (hint_at job h).name 0 job.blocks) ≡ (machine_of job).hint_stage h
+  unfolding machine_of
+  aim_is h l =
+      let s = aim_same (hint_at job h).name 0 job.blocks in
+      let e : aimed_in (hint_at job h).name 0 job.blocks ≡ aim_stage facts (slice_get (hints_of job.decls) h) = s ∙ ap (aim_stage facts) (sym (there (hints_of job.decls) h no_slot l)) in
+      let f : aim_stage facts (slice_get (hints_of job.decls) h) < job.stages.value = fit.aims h l in
+      short_is _ (omega (arith, e, f, fit.at_most)) ∙ e
+
+  guess_is : (g : ℕ) → g < length (guesses_of job) → short_guess (guess_at job g) ≡ guess_at job g
+  guess_is g l =
+      let h = guess_there job right kept g l in
+      let a : short (guess_at job g).stage ≡ (guess_at job g).stage = short_is _ (omega (arith, h.early, h.late, fit.at_most)) in
+      let b : short (guess_at job g).index ≡ (guess_at job g).index = short_is _ (omega (arith, index_few job g l, small.guesses)) in
+      let d : short (guess_at job g).register ≡ (guess_at job g).register = short_is _ (omega (arith, h.register, small.targets)) in
+      let e : byte (guess_at job g).width ≡ (guess_at job g).width = byte_is _ (omega (arith, h.width.at_most)) in
+      let f : short (guess_at job g).write ≡ (guess_at job g).write = short_is _ (omega (arith, h.late, fit.at_most)) in
+      λ i. record { stage = a i; index = b i; register = d i; width = e i; write = f i }
+
+  pub guesses_same : map short_guess (guesses_of job) ≡ guesses_of job
+  guesses_same = map_same short_guess (guesses_of job) no_guess guess_is
+
+  module _ (v : Vectors) where
+    -- what is laid out is laid
+    pub laid : v.targets ≡ map sized (targets_of job.decls) → length v.ports ≡ length (targets_of job.decls)
+        → ((t : ℕ) → t < length (targets_of job.decls) → get_or v.ports t None ≡ short_port job (result_for job t))
+        → v.pipes ≡ map (short_piped job) (pipes_of job.decls) → v.hints ≡ aimed job job.decls → v.samples ≡ bytes_of (samples_of job.decls) → v.guesses ≡ map short_guess (guesses_of job)
+        → v.keys ≡ visible_keys 0 (targets_of job.decls) ++ (stages_by v.pipes v.ports v.guesses (job.stages.value - 1) 1 ++ hint_keys 0 (hints_of job.decls))
+        → IsLaid job v
+    laid a n b d e s f g =
+        let ts = targets_of job.decls in
+        let count : length v.targets ≡ length ts = ap length a ∙ length-map ts sized in
+        let ds : v.pipes ≡ map (piped_of job) (pipes_of job.decls) = d ∙ pipes_short in
+        let pipe_count : length v.pipes ≡ length (pipes_of job.decls) = ap length ds ∙ length-map (pipes_of job.decls) (piped_of job) in
+        let sample_count : length v.samples ≡ length (samples_of job.decls) = ap length s ∙ bytes_count (samples_of job.decls) in
+        let hs : v.hints ≡ map (aim_of job) (hints_of job.decls) = e ∙ aimed_map job job.decls in
+        let hint_count : length v.hints ≡ length (hints_of job.decls) = ap length hs ∙ length-map (hints_of job.decls) (aim_of job) in
+        let is : (t : ℕ) → t < length ts → get_or v.ports t None ≡ port_at job t = λ t l. b t l ∙ port_is t (result_for job t) refl (fit.results t l) in
+        let same : v.guesses ≡ guesses_of job = f ∙ guesses_same in
+        let all : v.keys ≡ keys_of job =
+        g ∙ ap (λ (gs : List GuessSlot). visible_keys 0 ts ++ (stages_by v.pipes v.ports gs (job.stages.value - 1) 1 ++ hint_keys 0 (hints_of job.decls))) same
+        ∙ ap (λ (ps : List Piped). visible_keys 0 ts ++ (stages_by ps v.ports (guesses_of job) (job.stages.value - 1) 1 ++ hint_keys 0 (hints_of job.decls))) ds
+        ∙ keys_same job v.ports n is (omega (arith, fit.at_least)) in
+        record {
+          fits = fit;
+          target_count = count;
+          few_targets = omega (arith, count, small.targets);
+          width = λ t l. let m : t < length ts = omega (arith, l, count) in
+              ap (λ (xs : List Sized). (get_or xs t no_size).width) a ∙ ap (λ (z : Sized). z.width) (get_or-map sized ts t no_slot no_size m) ∙ byte_is _ (omega (arith, (fit.targets t m).at_most));
+          address = λ t l. let m : t < length ts = omega (arith, l, count) in
+              ap (λ (xs : List Sized). (get_or xs t no_size).address) a ∙ ap (λ (z : Sized). z.address) (get_or-map sized ts t no_slot no_size m) ∙ byte_is _ (omega (arith, fit.addresses t m));
+          port_count = n;
+          port = λ t l. is t (omega (arith, l, n));
+          pipe_count = pipe_count;
+          pipe = λ x l. let m : x < length (pipes_of job.decls) = omega (arith, l, pipe_count) in
+              ap (λ (xs : List Piped). get_or xs x no_piped) ds ∙ get_or-map (piped_of job) (pipes_of job.decls) x no_slot no_piped m;
+          hint_count = hint_count;
+          hint = λ h l. let m : h < length (hints_of job.decls) = omega (arith, l, hint_count) in
+              ap (λ (xs : List Aimed). (get_or xs h no_aim).width) hs ∙ ap (λ (z : Aimed). z.width) (get_or-map (aim_of job) (hints_of job.decls) h no_slot no_aim m) ∙ byte_is _ (omega (arith, (fit.hints h m).at_most));
+          aim = λ h l. let m : h < length (hints_of job.decls) = omega (arith, l, hint_count) in
+              ap (λ (xs : List Aimed). (get_or xs h no_aim).stage) hs ∙ ap (λ (z : Aimed). z.stage) (get_or-map (aim_of job) (hints_of job.decls) h no_slot no_aim m) ∙ aim_is h m;
+          sample_count = sample_count;
+          few_samples = omega (arith, sample_count, small.samples);
+          sample = λ x l. let m : x < length (samples_of job.decls) = omega (arith, l, sample_count) in
+              ap (λ (xs : List ℕ). get_or xs x 0) s ∙ byte_at (samples_of job.decls) x m (fit.samples x m);
+          guesses = same;
+          keys = all;
+          key_count = let k = keys_few job small fit.at_most in omega (arith, ap length all, k);
+        }
+
+-- THE TABLES OF A DESIGN.
+module _ (p : Plan) (sound : IsSound p) where
+  pub some_stages : 2 ≤ p.job.stages.value
+  some_stages = (fits p.job sound.names sound.stages).at_least
+
+  pub few_stages : p.job.stages.value ≤ 12
+  few_stages = (fits p.job sound.names sound.stages).at_most
+
+  module _ (job : Job) (ds : List Decl) (same : job ≡ p.job) (of : ds ≡ job.decls) where
+    decls_are : ds ≡ p.job.decls
+    decls_are = of ∙ ap (λ (j : Job). j.decls) same
+
+    pub few_decls : length ds ≤ 65536
+    few_decls = let n = small p.job sound.names sound.stages in omega (arith, ap length decls_are, n.decls)
+
+    targets_are : (sizes : List Sized) → sizes ≡ map sized (targets_of ds) → length sizes ≡ length (targets_of p.job.decls)
+    targets_are sizes a = ap length a ∙ length-map (targets_of ds) sized ∙ ap (λ (xs : List Decl). length (targets_of xs)) decls_are
+
+    pub few_ports : (sizes : List Sized) (ports ps : List (Option Port)) (n : ℕ) → sizes ≡ map sized (targets_of ds) → n ≡ length sizes → length ports ≡ n → ps ≡ ports → length ps ≤ 65536
+    few_ports sizes ports ps n a e f g = let m = small p.job sound.names sound.stages in omega (arith, ap length g, f, e, targets_are sizes a, m.targets)
+
+    pub few_pipes : (pipes qs : List Piped) → pipes ≡ map (short_piped job) (pipes_of job.decls) → qs ≡ pipes → length qs ≤ 65536
+    few_pipes pipes qs e f =
+        let m = small p.job sound.names sound.stages in
+        omega (arith, ap length f, ap length e, length-map (pipes_of job.decls) (short_piped job), ap (λ (j : Job). length (pipes_of j.decls)) same, m.pipes)
+
+    pub few_slots : (slots gs : List GuessSlot) → slots ≡ map short_guess (guesses_of job) → gs ≡ slots → length gs ≤ 65536
+    few_slots slots gs e f =
+        let m = small p.job sound.names sound.stages in
+        omega (arith, ap length f, ap length e, length-map (guesses_of job) short_guess, ap (λ (j : Job). length (guesses_of j)) same, m.guesses)
+
+    pub opened : (v : Vectors) (qs : List Piped) (ps : List (Option Port)) (gs : List GuessSlot) (n stages : ℕ)
+        → v.targets ≡ map sized (targets_of ds) → n ≡ length v.targets → length v.ports ≡ n → ((t : ℕ) → t < n → get_or v.ports t None ≡ short_port job (result_for job t))
+        → v.pipes ≡ map (short_piped job) (pipes_of job.decls) → v.hints ≡ aimed job job.decls → v.samples ≡ bytes_of (samples_of ds) → v.guesses ≡ map short_guess (guesses_of job)
+        → stages ≡ p.job.stages.value → qs ≡ v.pipes → ps ≡ v.ports → gs ≡ v.guesses
+        → v.keys ≡ visible_keys 0 (targets_of ds) ++ (stages_by qs ps gs (stages - 1) 1 ++ hint_keys 0 (hints_of ds))
+        → IsLaid p.job v
+    opened v qs ps gs n stages a e f b d h x g s pipes_are ports_are slots_are k =
+        let count = targets_are v.targets a in
+        laid p.job sound.names sound.stages v
+        (a ∙ ap (λ (xs : List Decl). map sized (targets_of xs)) decls_are)
+        (f ∙ e ∙ count)
+        (λ t l. b t (omega (arith, l, e, count)) ∙ ap (λ (j : Job). short_port j (result_for j t)) same)
+        (d ∙ ap (λ (j : Job). map (short_piped j) (pipes_of j.decls)) same)
+        (h ∙ ap (λ (j : Job). aimed j j.decls) same)
+        (x ∙ ap (λ (xs : List Decl). bytes_of (samples_of xs)) decls_are)
+        (g ∙ ap (λ (j : Job). map short_guess (guesses_of j)) same)
+        (k ∙ (λ i. visible_keys 0 (targets_of (decls_are i)) ++ (stages_by (pipes_are i) (ports_are i) (slots_are i) (s i - 1) 1 ++ hint_keys 0 (hints_of (decls_are i)))))

@@ -1,0 +1,4 @@
+pub mod Spans
+pub mod Keys
+pub mod Fits
+pub mod inner

@@ -1,0 +1,58 @@
+-- The tables of a layout are those of its job.
+use Rattle.std.specs.Prelude.{◌≡◌, ℕ, ◌<◌, ◌≤◌, List, length, get_or, Option, None}
+use Rattle.kp_ast.specs.declared.tree.Job.{Job}
+use Rattle.kp_machine.specs.Slots.{Slot, targets_of, pipes_of, hints_of, samples_of}
+use Rattle.kp_machine.specs.Machine.{machine_of}
+use Rattle.kp_synth_tables.specs.declared.key.GuessSlot.{GuessSlot}
+use Rattle.kp_synth_tables.specs.declared.key.Key.{Key}
+use Rattle.kp_synth_tables.specs.declared.layout.Port.{Port}
+use Rattle.kp_synth_tables.specs.declared.layout.Sized.{Sized}
+use Rattle.kp_synth_tables.specs.declared.layout.Aimed.{Aimed}
+use Rattle.kp_synth_tables.specs.declared.layout.Piped.{Piped}
+use Rattle.kp_synth_tables.specs.Spans.{put_after, last_use}
+use Rattle.kp_synth_tables.specs.Keys.{target_at, pipe_at, hint_at, sample_at, guesses_of, keys_of}
+use Rattle.kp_synth_tables.specs.Fits.{port_at, Fits}
+
+-- the default for an entry that doesn't exist
+abbrev pub no_size : Sized
+no_size = record { width = 0; address = 0 }
+
+abbrev pub no_aim : Aimed
+no_aim = record { width = 0; stage = 0 }
+
+abbrev pub no_piped : Piped
+no_piped = record { width = 0; from = 0; to = 0 }
+
+-- a pipe with the stages that store it
+abbrev pub piped_of : Job → Slot → Piped
+piped_of job s = record { width = s.width; from = put_after s.name 0 job.blocks; to = last_use job s.name }
+
+-- the vectors of a layout
+pub record Vectors : Type 0 where
+  pub targets : List Sized
+  pub ports : List (Option Port)
+  pub pipes : List Piped
+  pub hints : List Aimed
+  pub samples : List ℕ
+  pub guesses : List GuessSlot
+  pub keys : List Key
+
+pub record IsLaid (job : Job) (v : Vectors) : Type 0 where
+  pub fits : Fits job
+  pub target_count : length v.targets ≡ length (targets_of job.decls)
+  pub few_targets : length v.targets ≤ 16777216
+  pub width : (t : ℕ) → t < length v.targets → (get_or v.targets t no_size).width ≡ (target_at job t).width
+  pub address : (t : ℕ) → t < length v.targets → (get_or v.targets t no_size).address ≡ (target_at job t).address
+  pub port_count : length v.ports ≡ length (targets_of job.decls)
+  pub port : (t : ℕ) → t < length v.ports → get_or v.ports t None ≡ port_at job t
+  pub pipe_count : length v.pipes ≡ length (pipes_of job.decls)
+  pub pipe : (x : ℕ) → x < length v.pipes → get_or v.pipes x no_piped ≡ piped_of job (pipe_at job x)
+  pub hint_count : length v.hints ≡ length (hints_of job.decls)
+  pub hint : (h : ℕ) → h < length v.hints → (get_or v.hints h no_aim).width ≡ (hint_at job h).width
+  pub aim : (h : ℕ) → h < length v.hints → (get_or v.hints h no_aim).stage ≡ (machine_of job).hint_stage h
+  pub sample_count : length v.samples ≡ length (samples_of job.decls)
+  pub few_samples : length v.samples ≤ 16777216
+  pub sample : (x : ℕ) → x < length v.samples → get_or v.samples x 0 ≡ (sample_at job x).width
+  pub guesses : v.guesses ≡ guesses_of job
+  pub keys : v.keys ≡ keys_of job
+  pub key_count : length v.keys ≤ 16777216

@@ -1,0 +1,122 @@
+-- The contents of the tables of a job, as numbers of limited width.
+use Rattle.std.specs.Prelude.{ℕ, zero, suc, ◌+◌, min, max, List, [], ◌∷◌, ◌++◌, Option, Some, None, Bool, false, ◌||◌, ◌&&◌, if◌then◌else◌, nat_le}
+use Rattle.kp_ast.specs.Expressions.{is_same_name}
+use Rattle.kp_ast.specs.declared.tree.Named.{Named}
+use Rattle.kp_ast.specs.declared.tree.ResultDecl.{ResultDecl}
+use Rattle.kp_ast.specs.declared.tree.Expr.{Expr}
+use Rattle.kp_ast.specs.declared.tree.ReadStmt.{ReadStmt}
+use Rattle.kp_ast.specs.declared.tree.Stmt.{Stmt}
+use Rattle.kp_ast.specs.declared.tree.StmtKind.{StmtKind}
+use Rattle.kp_ast.specs.declared.tree.StmtKind.TheVariants as stmts
+use Rattle.kp_ast.specs.declared.tree.Block.{Block}
+use Rattle.kp_ast.specs.declared.tree.Decl.{Decl}
+use Rattle.kp_ast.specs.declared.tree.Decl.TheVariants as decls
+use Rattle.kp_ast.specs.declared.tree.Job.{Job}
+use Rattle.kp_stage.specs.Counts.{one_if_some}
+use Rattle.kp_machine.specs.Slots.{Slot, pipes_of, number_of}
+use Rattle.kp_synth_tables.specs.declared.key.GuessSlot.{GuessSlot}
+use Rattle.kp_synth_tables.specs.declared.key.Key.{Key}
+use Rattle.kp_synth_tables.specs.declared.key.Key.TheVariants.{Full, Pipe, Valid, Value}
+use Rattle.kp_synth_tables.specs.Keys.{guess_slot, guess_keys}
+use Rattle.kp_synth_tables.specs.declared.layout.Sized.{Sized}
+use Rattle.kp_synth_tables.specs.declared.layout.Port.{Port}
+use Rattle.kp_synth_tables.specs.declared.layout.Piped.{Piped}
+use Rattle.kp_synth_tables.specs.Spans.{put_after, set_after, last_use}
+use Rattle.kp_synth_tables.specs.declared.layout.Aimed.{Aimed}
+
+-- a number that fits, else the largest that does
+abbrev pub byte : ℕ → ℕ
+byte n = min n 255
+
+abbrev pub short : ℕ → ℕ
+short n = min n 4294967295
+
+abbrev pub sized : Slot → Sized
+sized s = record { width = byte s.width; address = byte s.address }
+
+-- the stage that aims a hint, among the blocks from number k on, and 0 if none does
+abbrev pub is_aim : List ℕ → StmtKind → Bool
+is_aim name (stmts.Aim n e) = is_same_name name n.name
+is_aim name _ = false
+
+abbrev pub has_aim : List ℕ → List Stmt → Bool
+has_aim name [] = false
+has_aim name (s ∷ ss) = is_aim name s.kind || has_aim name ss
+
+abbrev pub aimed_in : List ℕ → ℕ → List Block → ℕ
+aimed_in name k [] = 0
+aimed_in name k (b ∷ bs) = if has_aim name b.stmts then k else aimed_in name (k + 1) bs
+
+-- the pipes
+abbrev pub short_piped : Job → Slot → Piped
+short_piped job s = record { width = byte s.width; from = short (put_after s.name 0 job.blocks); to = short (last_use job s.name) }
+
+-- the hints
+abbrev pub aimed : Job → List Decl → List Aimed
+aimed job [] = []
+aimed job (decls.Hint n width start ∷ ds) = record { width = byte width.value; stage = short (aimed_in n.name 0 job.blocks) } ∷ aimed job ds
+aimed job (_ ∷ ds) = aimed job ds
+
+-- how a target is written, by its result
+abbrev pub known_in : Job → Option Named → ℕ
+known_in job None = 0
+known_in job (Some n) = put_after n.name 0 job.blocks
+
+abbrev pub short_number : Job → Option Named → Option ℕ
+short_number job None = None
+short_number job (Some n) = Some (short (number_of (pipes_of job.decls) n.name))
+
+abbrev pub short_port : Job → Option ResultDecl → Option Port
+short_port job None = None
+short_port job (Some r) = Some (record {
+  write = short r.stage.value;
+  known = short (max (known_in job r.address) (known_in job r.enable));
+  set = short (set_after r.name.name 0 job.blocks);
+  enable = short_number job r.enable;
+  address = short_number job r.address;
+})
+
+-- the guesses
+abbrev pub short_guess : GuessSlot → GuessSlot
+short_guess g = record { stage = short g.stage; index = short g.index; register = short g.register; width = byte g.width; write = short g.write }
+
+-- the guess of a statement
+abbrev pub read_here : Job → ℕ → ℕ → ReadStmt → Option Expr → List GuessSlot
+read_here job k i r None = []
+read_here job k i r (Some e) = guess_slot job k i r ∷ []
+
+abbrev pub guess_here : Job → ℕ → ℕ → StmtKind → List GuessSlot
+guess_here job k i (stmts.Read r) = read_here job k i r r.guess
+guess_here job k i _ = []
+
+abbrev pub guess_count : StmtKind → ℕ
+guess_count (stmts.Read r) = one_if_some r.guess
+guess_count _ = 0
+
+-- a pipe is stored in a stage by its span, and a result by its port
+abbrev pub piped_by : Piped → ℕ → Bool
+piped_by p k = nat_le p.from k && nat_le k p.to
+
+abbrev pub stored_by : Option Port → ℕ → Bool
+stored_by None k = false
+stored_by (Some p) k = nat_le p.set k && nat_le k p.write
+
+-- THE KEYS of a stage, by the spans and the ports.
+abbrev pub pipes_by : ℕ → ℕ → List Piped → List Key
+pipes_by k x [] = []
+pipes_by k x (p ∷ ps) = if piped_by p k then Pipe x k ∷ pipes_by k (x + 1) ps else pipes_by k (x + 1) ps
+
+abbrev pub result_here : ℕ → ℕ → Option Port → List Key
+result_here k t port = if stored_by port k then Valid t k ∷ Value t k ∷ [] else []
+
+abbrev pub results_by : ℕ → ℕ → List (Option Port) → List Key
+results_by k t [] = []
+results_by k t (p ∷ ps) = result_here k t p ++ results_by k (t + 1) ps
+
+abbrev pub stage_by : ℕ → List Piped → List (Option Port) → List GuessSlot → List Key
+stage_by k pipes ports slots = Full k ∷ (pipes_by k 0 pipes ++ (results_by k 0 ports ++ guess_keys k 0 slots))
+
+-- d stages from k on
+abbrev pub stages_by : List Piped → List (Option Port) → List GuessSlot → ℕ → ℕ → List Key
+stages_by pipes ports slots zero k = []
+stages_by pipes ports slots (suc d) k = stage_by k pipes ports slots ++ stages_by pipes ports slots d (k + 1)

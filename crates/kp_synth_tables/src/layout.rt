@@ -1,0 +1,296 @@
+// The tables of a design, and look-ups in them.
+ghost use Rattle.std.specs.Prelude.{◌≡◌, ◌<◌, ◌≤◌, length, IfOk};
+ghost use Rattle.kp_machine.specs.Slots.{targets_of, pipes_of, hints_of, samples_of, is_register};
+ghost use Rattle.kp_machine.specs.Machine.{machine_of};
+ghost use Rattle.kp_synth_tables.specs.Keys.{is_piped, is_stored, target_at, pipe_at, hint_at, sample_at, guesses_of, guess_at, keys_of, key_at, HasKey, place_of, place_in};
+ghost use Rattle.kp_synth_tables.specs.Fits.{port_at, IsWidth, ResultFits, Fits};
+
+use crate::key::{GuessSlot, Key};
+use crate::keys::keys;
+use crate::tables::{guesses, hints, pipes, ports, sample_widths, sizes};
+use kp_ast::Job;
+use kp_base::NoMemory;
+use kp_stage::Design;
+use std::alloc::Global;
+use std::marker::Model;
+
+/// The width of a target's values, and that of its addresses, which is 0 for a register.
+#[derive(Clone, Copy, Debug, PartialEq, Eq)]
+pub struct Sized {
+    pub width: u8,
+    pub address: u8,
+}
+
+/// The width of a pipe, and the stages that store its value: from the one after its put to the last that uses it.
+#[derive(Clone, Copy, Debug, PartialEq, Eq)]
+pub struct Piped {
+    pub width: u8,
+    pub from: u32,
+    pub to: u32,
+}
+
+/// How a target is written by its result.
+#[derive(Clone, Copy, Debug, PartialEq, Eq)]
+pub struct Port {
+    /// The write stage.
+    pub write: u32,
+    /// The first stage in which it is known whether and at which address the instruction writes.
+    pub known: u32,
+    /// The stage after the first one that sets the result.
+    pub set: u32,
+    /// The enable pipe of the write, by number. Without one, each instruction writes.
+    pub enable: Option<u32>,
+    /// The address pipe, by number. A register has none.
+    pub address: Option<u32>,
+}
+
+/// A hint.
+#[derive(Clone, Copy, Debug, PartialEq, Eq)]
+pub struct Aimed {
+    /// Its width.
+    pub width: u8,
+    /// The stage that aims it, or 0 if none does.
+    pub stage: u32,
+}
+
+/// The tables of a design, seen as its job.
+#[derive(Drop)]
+pub struct Layout<'a> {
+    design: &'a Design,
+    targets: Vec<Sized>,
+    ports: Vec<Option<Port>>,
+    pipes: Vec<Piped>,
+    hints: Vec<Aimed>,
+    samples: Vec<u8>,
+    guesses: Vec<GuessSlot>,
+    keys: Vec<Key>,
+}
+
+impl<'a> Model for Layout<'a> {
+    ghost use Rattle.std.specs.Coded.{codes};
+    ghost use Rattle.kp_ast.specs.contracts.tree.ExprKind as e;
+    ghost use Rattle.kp_ast.specs.declared.tree.Job.{Job};
+    ghost use Rattle.kp_synth_tables.specs.inner.Laid.{IsLaid};
+
+    ghost Value = { Job };
+
+    ghost coded = { Prim.hlevel (codes, e.the_row.coded) };
+
+    ghost view = { λ l. l.design.now.job };
+
+    ghost invariant = { λ l. IsLaid l.design.now.job (record { targets = l.targets.items; ports = l.ports.items; pipes = l.pipes.items; hints = l.hints.items; samples = l.samples.items; guesses = l.guesses.items; keys = l.keys.items }) };
+}
+
+impl<'a> Layout<'a> {
+    /// The tables of a design. Error: out of memory.
+    pub fn of(alloc: Global, design: &'a Design) -> Result<Layout<'a>, NoMemory>
+        ensures { IfOk result (λ layout. layout ≡ design.now.job) }
+    {
+        let job = design.job();
+        let decls = job.decls.as_slice();
+        let targets = sizes(alloc, decls)?;
+        let ports = ports(alloc, job, targets.len())?;
+        let pipes = pipes(alloc, job)?;
+        let hints = hints(alloc, job)?;
+        let samples = sample_widths(alloc, decls)?;
+        let guesses = guesses(alloc, job)?;
+        let keys = keys(
+            alloc,
+            stages_of(design),
+            decls,
+            pipes.as_slice(),
+            ports.as_slice(),
+            guesses.as_slice(),
+        )?;
+        Ok(Layout {
+            design,
+            targets,
+            ports,
+            pipes,
+            hints,
+            samples,
+            guesses,
+            keys,
+        })
+    }
+
+    /// The design.
+    pub fn design(&self) -> &'a Design
+        ensures { result.now.job ≡ self.now }
+    {
+        self.design
+    }
+
+    /// The job of the design.
+    pub fn job(&self) -> &Job
+        ensures { result.now ≡ self.now }
+    {
+        self.design.job()
+    }
+
+    /// The number of stages. The job satisfies the rules.
+    pub fn stages(&self) -> u32
+        ensures stages { result ≡ self.now.stages.value }
+        ensures fits { Fits self.now }
+    {
+        self.design.job().stages.value as u32
+    }
+
+    /// The number of targets.
+    pub fn target_count(&self) -> u32
+        ensures { result ≡ length (targets_of self.now.decls) }
+    {
+        self.targets.len() as u32
+    }
+
+    /// Whether a target is a register.
+    pub fn is_register(&self, target: u32) -> bool
+        requires { target < length (targets_of self.now.decls) }
+        ensures { result ≡ is_register (target_at self.now target) }
+    {
+        self.targets[target as usize].address == 0
+    }
+
+    /// The width of the values of a target.
+    pub fn width(&self, target: u32) -> u8
+        requires { target < length (targets_of self.now.decls) }
+        ensures width { result ≡ (target_at self.now target).width }
+        ensures fits { IsWidth result }
+    {
+        self.targets[target as usize].width
+    }
+
+    /// The width of the addresses of a target, which is 0 for a register.
+    pub fn address(&self, target: u32) -> u8
+        requires { target < length (targets_of self.now.decls) }
+        ensures address { result ≡ (target_at self.now target).address }
+        ensures fits { result ≤ 16 }
+    {
+        self.targets[target as usize].address
+    }
+
+    /// The width of a pipe.
+    pub fn pipe_width(&self, pipe: u32) -> u8
+        requires { pipe < length (pipes_of self.now.decls) }
+        ensures width { result ≡ (pipe_at self.now pipe).width }
+        ensures fits { IsWidth result }
+    {
+        self.pipes[pipe as usize].width
+    }
+
+    /// Whether a stage stores the value of a pipe.
+    pub fn is_piped(&self, pipe: u32, stage: u32) -> bool
+        requires { pipe < length (pipes_of self.now.decls) }
+        ensures { result ≡ is_piped self.now pipe stage }
+    {
+        let pipe = self.pipes[pipe as usize];
+        pipe.from <= stage && stage <= pipe.to
+    }
+
+    /// Whether a stage stores the result of a target.
+    pub fn is_stored(&self, target: u32, stage: u32) -> bool
+        requires { target < length (targets_of self.now.decls) }
+        ensures { result ≡ is_stored self.now target stage }
+    {
+        match self.ports[target as usize] {
+            Some(port) => port.set <= stage && stage <= port.write,
+            None => false,
+        }
+    }
+
+    /// The width of a hint, and the stage that aims it.
+    pub fn hint(&self, hint: u32) -> Aimed
+        requires { hint < length (hints_of self.now.decls) }
+        ensures width { result.width ≡ (hint_at self.now hint).width }
+        ensures stage { result.stage ≡ (machine_of self.now).hint_stage hint }
+        ensures inside { result.stage < self.now.stages.value }
+        ensures fits { IsWidth result.width }
+    {
+        self.hints[hint as usize]
+    }
+
+    /// The number of samples.
+    pub fn sample_count(&self) -> u32
+        ensures { result ≡ length (samples_of self.now.decls) }
+    {
+        self.samples.len() as u32
+    }
+
+    /// The width of a sample.
+    pub fn sample(&self, sample: u32) -> u8
+        requires { sample < length (samples_of self.now.decls) }
+        ensures width { result ≡ (sample_at self.now sample).width }
+        ensures fits { IsWidth result }
+    {
+        self.samples[sample as usize]
+    }
+
+    /// How a target is written, or nothing if it has no result.
+    pub fn port(&self, target: u32) -> Option<Port>
+        requires { target < length (targets_of self.now.decls) }
+        ensures port { result ≡ port_at self.now target }
+        ensures fits { ResultFits self.now target result }
+    {
+        self.ports[target as usize]
+    }
+
+    /// The guesses, in the order of their numbers.
+    pub fn guesses(&self) -> &[GuessSlot]
+        ensures { result.now ≡ guesses_of self.now }
+    {
+        self.guesses.as_slice()
+    }
+
+    /// The guess with this number.
+    pub fn guess(&self, guess: u32) -> GuessSlot
+        requires { guess < length (guesses_of self.now) }
+        ensures slot { result ≡ guess_at self.now guess }
+        ensures fits { IsWidth result.width }
+    {
+        self.guesses[guess as usize]
+    }
+
+    /// The number of registers of the netlist.
+    pub fn key_count(&self) -> u32
+        ensures { result ≡ length (keys_of self.now) }
+    {
+        self.keys.len() as u32
+    }
+
+    /// What a register stores.
+    pub fn key(&self, register: u32) -> Key
+        requires { register < length (keys_of self.now) }
+        ensures { result ≡ key_at self.now register }
+    {
+        self.keys[register as usize]
+    }
+
+    /// The number of the register of a key.
+    #[tactic(auto, using(crate::proofs::Places::place_is, crate::proofs::Places::place_small))]
+    pub fn place(&self, key: Key) -> u32
+        requires { HasKey self.now key }
+        ensures { result ≡ place_of self.now key }
+    {
+        place(self.keys.as_slice(), key) as u32
+    }
+}
+
+// The number of stages.
+#[tactic(auto, using(crate::proofs::Opening::few_stages))]
+fn stages_of(design: &Design) -> u32
+    ensures { result ≡ design.now.job.stages.value }
+{
+    design.job().stages.value as u32
+}
+
+// The index of a key in a list, or the length of the list.
+fn place(keys: &[Key], key: Key) -> usize
+    ensures { result ≡ place_in keys.now key }
+{
+    for (r, x) in keys.iter().enumerate() {
+        if key == *x {
+            return r;
+        }
+    }
+    keys.len()
+}

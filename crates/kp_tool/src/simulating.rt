@@ -1,0 +1,25 @@
+// `sim N`: a run of the pipelined machine of a job.
+ghost use Rattle.std.specs.Prelude.{◌≡◌, IfOk};
+ghost use Rattle.kp_sched.specs.Rows.{rows_seen};
+ghost use Rattle.kp_run.specs.Boards.{due_behind};
+ghost use Rattle.kp_tool_report.specs.Runs.{run_text, sim_text};
+
+use kp_base::NoMemory;
+use kp_frontend::Accepted;
+use kp_run::laws::a_run_tells_of_the_pipeline;
+use kp_run::{Board, board_shown};
+use kp_synth::synth;
+use std::alloc::Global;
+
+/// The run of the job's pipelined machine over `count` cycles, and the values of the sequential machine that are printed after it. Its netlist is
+/// dropped on return. The only error is out of memory.
+pub fn simulated(alloc: Global, count: u32, job: &Accepted) -> Result<Board<'_>, NoMemory>
+    ensures { IfOk result (λ b. run_text b.design.now.job (rows_seen b.design.now.job.stages.value b.cycles.rows.items)
+        (due_behind b.design.now.job b.cycles.rows.items) ≡ sim_text count job.now.design.job) }
+{
+    // The invariant of the type, for the proof only.
+    let _kept = job.design.job();
+    let net = synth(alloc, &job.design, &job.sections.start)?;
+    a_run_tells_of_the_pipeline(job);
+    board_shown(alloc, job, &net, count)
+}

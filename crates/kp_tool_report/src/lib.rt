@@ -1,0 +1,14 @@
+//! The texts that the commands print, and their writers, which allocate nothing.
+#![tactic(auto)]
+
+mod differing;
+mod runs;
+mod states;
+mod values;
+mod writing;
+
+pub use differing::write_difference;
+pub use runs::write_board;
+pub use states::{targets_in, write_run_after};
+pub use values::{write_register, write_word};
+pub use writing::{write_accepted, write_refusal};

@@ -1,0 +1,260 @@
+-- The headline, derived from the specified outcomes.
+use Rattle.std.proofs.Common.{◌∙◌, ◌≡◌, ◌≤◌, ℕ, List, length, drop, None, Some, Ok, Err, refl, sym, subst, arith}
+use Rattle.std.specs.declared.option.Option.{Option}
+use Rattle.std.specs.declared.result.Result.{Result}
+use Rattle.kp_base.specs.declared.refusal.Refusal.{Refusal}
+use Rattle.kp_ast.specs.declared.tree.Job.{Job}
+use Rattle.kp_stage.specs.Start.{start_of}
+use Rattle.kp_stage.proofs.Unbroken.{first_none}
+use Rattle.kp_pipeline.specs.Accepted.{Accepted}
+use Rattle.kp_pipeline.specs.Pipeline.{Inputs, pipeline_start}
+use Rattle.kp_pipeline.specs.Rows.{Row, Trace, pipe, taken}
+use Rattle.kp_pipeline.specs.Timeline.{start_hold}
+use Rattle.kp_pipeline.proofs.Legality.{legal}
+use Rattle.kp_pipeline.proofs.Progress.{moves, never-squashed}
+use Rattle.kp_pipeline.proofs.Timeline.{same-rows}
+use Rattle.kp_pipeline.specs.SpeculativeTimeline.{timeline_rows as path_rows}
+use Rattle.kp_pipeline.specs.RightPath.{NoWrongGuess, WaitsOnlyWhereItMust, first_moment}
+use Rattle.kp_pipeline.proofs.Runs.{rows-right, waits-only}
+use Rattle.kp_pipeline.proofs.Sampled.{rows-taking}
+use Rattle.kp_machine_laws.proofs.Accepting.{accepted}
+use Rattle.kp_machine_laws.proofs.Guessless.{guessless, without_guess}
+use Rattle.kp_machine.specs.Machine.{machine_of, state_of, start_hints, pipe_of, inputs_from}
+use Rattle.kp_sched.specs.Runs.{IsLegal, ShowsAlike}
+use Rattle.kp_sched.proofs.Runs.{alike_is_legal, alike_moves, alike_stays}
+use Rattle.kp_synth_spec.specs.Legal.{IsLegalFrom}
+use Rattle.kp_synth_spec.specs.Anew.{trace_from, left_by_reset}
+use Rattle.kp_synth_spec.proofs.Legal.{alike_is_legal_from}
+use Rattle.kp_synth_spec.specs.Naming.{value_shown}
+use Rattle.kp_synth_spec.specs.Traces.{inputs_seen, trace_of}
+use Rattle.kp_frontend.specs.Judging.{Judges, broken_in}
+use Rattle.kp_frontend.specs.Judging.Judges.{within}
+use Rattle.kp_frontend.specs.Judging.JudgesText.{accepted as no_rule_broken}
+use Rattle.kp_frontend.specs.Judging.JudgesHeadText.{head_accepted}
+use Rattle.kp_tool_words.specs.declared.words.JobCommand.TheVariants.{Sim, Timing, Pipe}
+use Rattle.kp_tool_words.specs.declared.words.Command.TheVariants.{OnJob, Watch, Compare, Debug}
+use Rattle.kp_tool_report.specs.Runs.{sim_text}
+use Rattle.kp_tool_report.proofs.Sims.{rows_many}
+use Rattle.kp_timing.specs.Unfit.{untimed}
+use Rattle.kp_timing.proofs.Plain.{has_timeline}
+use Rattle.kp_tool_spec.specs.Due.{DueFor, DueOfTiming}
+use Rattle.kp_net.specs.Netlist.{Net, state_after}
+use Rattle.kp_frontend.specs.Judging.{JudgesHead}
+use Rattle.kp_frontend.specs.Judging.JudgesHead.{head_within}
+use Rattle.kp_vread_split.specs.Splitting.{FirstEnds}
+use Rattle.kp_equiv.specs.declared.verdict.Verdict.TheVariants.{Same, Differs}
+use Rattle.kp_equiv.proofs.Running.{theorem}
+use Rattle.kp_equiv.proofs.Shown.{first_shows, second_shows}
+use Rattle.kp_equiv.proofs.Anew.{first_begins, second_begins}
+use Rattle.kp_tool_spec.specs.Read.{ReadsVerilog}
+use Rattle.kp_tool_spec.specs.Watched.{agrees, differs, DueOfNetlist, of_other, of_job}
+use Rattle.kp_tool_spec.specs.Compared.{jobs, DueOfModules}
+use Rattle.kp_debug_script.specs.declared.command.Command.{Command}
+use Rattle.kp_debug_script.specs.Scripts.{script_of}
+use Rattle.kp_debug_report.specs.Inspecting.{all_cycles, whole_run}
+use Rattle.kp_tool_spec.specs.Scripted.{DueOfScript}
+use Rattle.kp_tool_spec.specs.Headline.{IsMoving, HasNoNeedlessStall, HasNoNeedlessStallFrom, IsVerilogWith, IsRunWith, IsTimed, IsDebuggedWith, IsNetlistWith, IsPairAlike}
+use Rattle.kp_tool_spec.proofs.Pairs.{first_right, second_right, comparable_pair}
+
+judged_unbroken : (input : List ℕ) (job : Job) → Judges input (Ok job) → broken_in job ≡ None
+judged_unbroken input job (within short (no_rule_broken describes none)) = none
+
+head_unbroken : (input : List ℕ) (job : Job) (rest : ℕ) → JudgesHead input (Ok (job, rest)) → broken_in job ≡ None
+head_unbroken input job rest (head_within short (head_accepted sentence none)) = none
+
+-- so its machine is accepted
+accepted_machine : (job : Job) → broken_in job ≡ None → Accepted (machine_of job)
+unfolding broken_in
+accepted_machine job none =
+    let names = first_none _ _ none in
+    let stages = first_none _ _ names.1 in
+    accepted job names.0 stages.0
+
+legal_pipe : (job : Job) → Accepted (machine_of job) → (ins : List Inputs) → IsLegal job ins (pipe_of job ins)
+legal_pipe job acc ins =
+    alike_is_legal job ins _ _ (record { rows = refl; values = λ T t x h w. refl })
+    (legal (machine_of job) (state_of job (start_of job)) (start_hints job) ins acc)
+
+told_run : (Fact : Job → List Inputs → Trace → Type 0) (n : ℕ) (input text : List ℕ) (job : Job) → Judges input (Ok job) → text ≡ sim_text n job
+    → Fact job (inputs_from job 0 n) (pipe_of job (inputs_from job 0 n)) → IsRunWith Fact n input text
+unfolding sim_text
+told_run Fact n input text job judged told holds = record {
+  job = job;
+  judged = judged;
+  told = told;
+  cycles = rows_many job n;
+  holds = holds;
+}
+
+-- what is true of each accepted pipeline is true of the run that `sim` prints
+sim_with : (Fact : Job → List Inputs → Trace → Type 0) → ((job : Job) (ins : List Inputs) → Accepted (machine_of job) → Fact job ins (pipe_of job ins))
+    → (n : ℕ) (input text : List ℕ) → DueFor (Some (OnJob (Sim n))) input 0 text → IsRunWith Fact n input text
+sim_with Fact law n input text (Ok job, judged, due) =
+    told_run Fact n input text job judged due.1 (law job (inputs_from job 0 n) (accepted_machine job (judged_unbroken input job judged)))
+sim_with Fact law n input text (Err refusal, judged, due) = absurd (omega (arith, due.0))
+
+-- and what is true of each trace that shows an accepted pipeline, from any state on, is true of the netlist that `pipe` prints
+pipe_with : (Fact : Job → (ℕ → ℕ → ℕ) → List Inputs → Trace → Type 0)
+    → ((job : Job) (s : ℕ → ℕ → ℕ) (ins : List Inputs) (trace : Trace) → Accepted (machine_of job)
+    → ShowsAlike job trace (pipe (machine_of job) s (start_hints job) ins) → Fact job s ins trace)
+    → (input text : List ℕ) → DueFor (Some (OnJob Pipe)) input 0 text → IsVerilogWith Fact input text
+pipe_with Fact law input text (Ok job, judged, (zero, verilog)) =
+    let net : Net = verilog.net in
+    let acc = accepted_machine job (judged_unbroken input job judged) in
+    record {
+      job = job;
+      judged = judged;
+      net = net;
+      denotes = verilog.denotes;
+      of_job = verilog.shows.of_job;
+      outputs = verilog.shows.outputs;
+      holds = λ ins quiet. law job (state_of job (start_of job)) (inputs_seen job ins) (trace_of job net ins) acc (verilog.shows.runs ins quiet);
+      anew = λ st i ins there raised quiet. law job (left_by_reset job (value_shown job net st)) (inputs_seen job ins) (trace_from job net (state_after net i st) ins) acc
+          (verilog.anew.runs st i ins there raised quiet);
+      memory = verilog.anew.memory;
+    }
+pipe_with Fact law input text (Err refusal, judged, due) = absurd (omega (arith, due.0))
+
+moves_pipe : (job : Job) (ins : List Inputs) → Accepted (machine_of job) → IsMoving job ins (pipe_of job ins)
+moves_pipe job ins acc =
+    let s : ℕ → ℕ → ℕ = state_of job (start_of job) in
+    (moves (machine_of job) s (start_hints job) ins acc, never-squashed (machine_of job) s (start_hints job) ins acc)
+
+-- for each trace with the rows of the pipeline from a state on
+waits_with : (job : Job) (s : ℕ → ℕ → ℕ) (ins : List Inputs) (trace : Trace) → Accepted (machine_of job)
+    → trace.rows ≡ (pipe (machine_of job) s (start_hints job) ins).rows → HasNoNeedlessStallFrom job s ins trace
+waits_with job s ins trace acc same = record {
+  waits = subst
+      (λ (rows : List Row). WaitsOnlyWhereItMust (machine_of job) s (taken (machine_of job) ins rows) (first_moment s (start_hints job)) ins rows)
+      (sym same) (waits-only (machine_of job) s (start_hints job) ins acc);
+  right = subst
+      (λ (rows : List Row). NoWrongGuess (machine_of job) s (taken (machine_of job) ins rows) (pipeline_start s (start_hints job)) start_hold ins
+      → rows ≡ path_rows (machine_of job) s (taken (machine_of job) ins rows) start_hold ins)
+      (sym same) (rows-right (machine_of job) s (start_hints job) ins acc);
+  plain = λ guesses. same ∙ rows-taking (machine_of job) s (start_hints job) ins acc (without_guess job guesses);
+}
+
+waits_pipe : (job : Job) (ins : List Inputs) → Accepted (machine_of job) → HasNoNeedlessStall job ins (pipe_of job ins)
+waits_pipe job ins acc = waits_with job (state_of job (start_of job)) ins (pipe_of job ins) acc refl
+
+-- what `timing` prints for a job that it doesn't reject is the timeline of a job without guesses and samples
+timed_job : (n : ℕ) (input text : List ℕ) (job : Job) → Judges input (Ok job) → (found : Option Refusal) → untimed job ≡ found → DueOfTiming n job found 0 text
+    → IsTimed n input text
+timed_job n input text job judged (Some refusal) is said = absurd (omega (arith, said.0))
+timed_job n input text job judged None is said =
+    let plain = has_timeline job is in
+    record {
+      job = job;
+      judged = judged;
+      guesses = plain.guesses;
+      samples = plain.samples;
+      told = said.1;
+      rows = same-rows (machine_of job) (state_of job (start_of job)) (start_hints job) (inputs_from job 0 n) (accepted_machine job (judged_unbroken input job judged)) (guessless job plain.guesses plain.samples);
+    }
+
+pub timing_is_timed : (n : ℕ) (input text : List ℕ) → DueFor (Some (OnJob (Timing n))) input 0 text → IsTimed n input text
+timing_is_timed n input text (Ok job, judged, said) = timed_job n input text job judged (untimed job) refl said
+timing_is_timed n input text (Err refusal, judged, said) = absurd (omega (arith, said.0))
+
+pub sim_is_legal : (n : ℕ) (input text : List ℕ) → DueFor (Some (OnJob (Sim n))) input 0 text → IsRunWith IsLegal n input text
+sim_is_legal = sim_with IsLegal (λ job ins acc. legal_pipe job acc ins)
+
+pub sim_moves : (n : ℕ) (input text : List ℕ) → DueFor (Some (OnJob (Sim n))) input 0 text → IsRunWith IsMoving n input text
+sim_moves = sim_with IsMoving moves_pipe
+
+pub sim_waits : (n : ℕ) (input text : List ℕ) → DueFor (Some (OnJob (Sim n))) input 0 text → IsRunWith HasNoNeedlessStall n input text
+sim_waits = sim_with HasNoNeedlessStall waits_pipe
+
+pub pipe_is_legal : (input text : List ℕ) → DueFor (Some (OnJob Pipe)) input 0 text → IsVerilogWith IsLegalFrom input text
+pipe_is_legal = pipe_with IsLegalFrom (λ job s ins trace acc alike. alike_is_legal_from job s ins _ _ alike (legal (machine_of job) s (start_hints job) ins acc))
+
+pub pipe_moves : (input text : List ℕ) → DueFor (Some (OnJob Pipe)) input 0 text → IsVerilogWith (λ job s. IsMoving job) input text
+pipe_moves = pipe_with (λ job s. IsMoving job) (λ job s ins trace acc alike. (
+  alike_moves job ins _ _ alike (moves (machine_of job) s (start_hints job) ins acc),
+  alike_stays job _ _ alike (never-squashed (machine_of job) s (start_hints job) ins acc),
+))
+
+pub pipe_waits : (input text : List ℕ) → DueFor (Some (OnJob Pipe)) input 0 text → IsVerilogWith HasNoNeedlessStallFrom input text
+pipe_waits = pipe_with HasNoNeedlessStallFrom (λ job s ins trace acc alike. waits_with job s ins trace acc alike.rows)
+
+module _ (n : ℕ) (input text : List ℕ) (job : Job) (rest : ℕ) (judged : JudgesHead input (Ok (job, rest))) (net : Net) (denotes : ReadsVerilog input rest (Ok net)) where
+  legal_netlist : DueOfNetlist n job net 0 text → IsNetlistWith IsLegal n input text
+  legal_netlist (of_other differs_from said) = absurd (omega (arith, said.0))
+  legal_netlist (of_job is (differs T t a first said)) = absurd (omega (arith, said.0))
+  legal_netlist (of_job is (agrees all said)) = record {
+    job = job;
+    rest = rest;
+    judged = judged;
+    net = net;
+    denotes = denotes;
+    of_job = is;
+    told = said.1;
+    holds = all;
+  }
+
+pub watch_is_legal : (n : ℕ) (input text : List ℕ) → DueFor (Some (Watch n)) input 0 text → IsNetlistWith IsLegal n input text
+watch_is_legal n input text (Ok (job, rest), judged, (Ok net, denotes, due)) = legal_netlist n input text job rest judged net denotes due
+watch_is_legal n input text (Ok (job, rest), judged, (Err refusal, misread, said)) = absurd (omega (arith, said.0))
+watch_is_legal n input text (Err refusal, judged, said) = absurd (omega (arith, said.0))
+
+module _ (input text : List ℕ) (job : Job) (rest : ℕ) (judged : JudgesHead input (Ok (job, rest))) (short : length input ≤ 16777216) (middle : ℕ)
+    (ends : FirstEnds rest (drop rest input) middle) where
+  alike_pair : DueOfModules job input rest middle 0 text → IsPairAlike input text
+  alike_pair (Err refusal, read, said) = absurd (omega (arith, said.0))
+  alike_pair (Ok a, read, (Err refusal, second, said)) = absurd (omega (arith, said.0))
+  alike_pair (Ok a, read, (Ok b, second, (Differs root, differs_there, said))) = absurd (omega (arith, said.0))
+  alike_pair (Ok a, jobs p is, (Ok b, jobs q js, (Same, all, said))) =
+      let right = first_right input short rest middle a p in
+      let other = second_right input short middle b q in
+      let pair = comparable_pair input rest middle a b job p q is js in
+      record {
+        job = job;
+        rest = rest;
+        judged = judged;
+        middle = middle;
+        ends = ends;
+        first = a;
+        denotes_first = p;
+        first_of_job = is;
+        second = b;
+        denotes_second = q;
+        second_of_job = js;
+        told = said.1;
+        alike = theorem a b right other pair all;
+        shows = (second_shows a b job right other pair all, first_shows a b job right other pair all);
+        begins = λ shown. (second_begins a b job right other pair all shown, first_begins a b job right other pair all (second_shows a b job right other pair all shown));
+      }
+
+pub pair_is_alike : (input text : List ℕ) → DueFor (Some Compare) input 0 text → IsPairAlike input text
+pair_is_alike input text (Ok (job, rest), head_within short judged, (middle, ends, due)) = alike_pair input text job rest (head_within short judged) short middle ends due
+pair_is_alike input text (Err refusal, judged, said) = absurd (omega (arith, said.0))
+
+-- what is true of each accepted pipeline is true of the run that `debug` prints from
+told_script : (Fact : Job → List Inputs → Trace → Type 0) → ((job : Job) (ins : List Inputs) → Accepted (machine_of job) → Fact job ins (pipe_of job ins))
+    → (input text : List ℕ) (job : Job) (rest : ℕ) → JudgesHead input (Ok (job, rest)) → (found : Result (List Command) Refusal) → script_of job.decls input rest ≡ found
+    → DueOfScript job found 0 text → IsDebuggedWith Fact input text
+unfolding whole_run
+told_script Fact law input text job rest judged (Ok commands) is said = record {
+  job = job;
+  rest = rest;
+  judged = judged;
+  commands = commands;
+  script = is;
+  told = said.1;
+  holds = law job (inputs_from job 0 all_cycles) (accepted_machine job (head_unbroken input job rest judged));
+}
+told_script Fact law input text job rest judged (Err refusal) is said = absurd (omega (arith, said.0))
+
+debug_with : (Fact : Job → List Inputs → Trace → Type 0) → ((job : Job) (ins : List Inputs) → Accepted (machine_of job) → Fact job ins (pipe_of job ins))
+    → (input text : List ℕ) → DueFor (Some Debug) input 0 text → IsDebuggedWith Fact input text
+debug_with Fact law input text (Ok (job, rest), judged, said) = told_script Fact law input text job rest judged (script_of job.decls input rest) refl said
+debug_with Fact law input text (Err refusal, judged, said) = absurd (omega (arith, said.0))
+
+pub debug_is_legal : (input text : List ℕ) → DueFor (Some Debug) input 0 text → IsDebuggedWith IsLegal input text
+debug_is_legal = debug_with IsLegal (λ job ins acc. legal_pipe job acc ins)
+
+pub debug_moves : (input text : List ℕ) → DueFor (Some Debug) input 0 text → IsDebuggedWith IsMoving input text
+debug_moves = debug_with IsMoving moves_pipe
+
+pub debug_waits : (input text : List ℕ) → DueFor (Some Debug) input 0 text → IsDebuggedWith HasNoNeedlessStall input text
+debug_waits = debug_with HasNoNeedlessStall waits_pipe

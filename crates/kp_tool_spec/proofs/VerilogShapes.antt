@@ -1,0 +1,327 @@
+-- The types of the values on the stack while a Verilog text is read: each step finds the values that it builds from, and a sentence builds a module.
+use Rattle.std.proofs.Common.{ℕ, ◌≡◌, List, [], ◌∷◌, ◌++◌, Bool, Option, refl, ◌∙◌}
+use Rattle.kp_bits.specs.declared.operator.BinOp.{BinOp}
+use Rattle.kp_vlog.specs.declared.tree.Named.{Named}
+use Rattle.kp_vlog.specs.declared.tree.Num.{Num}
+use Rattle.kp_vlog.specs.declared.tree.Lit.{Lit}
+use Rattle.kp_vlog.specs.declared.tree.Range.{Range}
+use Rattle.kp_vlog.specs.declared.tree.VPort.{VPort}
+use Rattle.kp_vlog.specs.declared.tree.Right.{Right}
+use Rattle.kp_vlog.specs.declared.tree.Item.{Item}
+use Rattle.kp_vlog.specs.declared.tree.Init.{Init}
+use Rattle.kp_vlog.specs.declared.tree.ResetValue.{ResetValue}
+use Rattle.kp_vlog.specs.declared.tree.ResetList.{ResetList}
+use Rattle.kp_vlog.specs.declared.tree.Update.{Update}
+use Rattle.kp_vlog.specs.declared.tree.VModule.{VModule}
+use Rattle.kp_grammar.specs.Grammar.{Terminal, Nonterminal, Action, alternatives, Has, here, there}
+use Rattle.kp_grammar.specs.Machine.{Outcome, Accepts, Leads, accept, more, goes, take, make, wrong, lost, exceed}
+use Rattle.kp_grammar.proofs.Check.{picks_rule}
+use Rattle.kp_vlog.specs.Tokens.{Token}
+use Rattle.kp_vlog.specs.Language.{Value, Way, Step, Sym, verilog, rules, read_token, built}
+use Rattle.kp_vlog.specs.Language as l
+use Rattle.kp_vlog.specs.inner.Follow.{tables}
+
+-- the kinds of values
+data Ty : Type 0 where
+  a_named : Ty
+  a_number : Ty
+  a_literal : Ty
+  a_range : Ty
+  a_port : Ty
+  a_perhaps_named : Ty
+  a_ports : Ty
+  a_names : Ty
+  a_right : Ty
+  a_item : Ty
+  a_items : Ty
+  a_init : Ty
+  a_inits : Ty
+  a_values : Ty
+  a_perhaps_reset : Ty
+  a_update : Ty
+  a_updates : Ty
+  a_whole : Ty
+
+data Is : Ty → Value → Type 0 where
+  is_named : {x : Named} → Is a_named (l.named x)
+  is_number : {x : Num} → Is a_number (l.number x)
+  is_literal : {x : Lit} → Is a_literal (l.literal x)
+  is_range : {x : Range} → Is a_range (l.range x)
+  is_port : {x : VPort} → Is a_port (l.port x)
+  is_perhaps_named : {x : Option Named} → Is a_perhaps_named (l.perhaps_named x)
+  is_ports : {x : List VPort} → Is a_ports (l.ports x)
+  is_names : {x : List Named} → Is a_names (l.names x)
+  is_right : {x : Right} → Is a_right (l.right x)
+  is_item : {x : Item} → Is a_item (l.item x)
+  is_items : {x : List Item} → Is a_items (l.items x)
+  is_init : {x : Init} → Is a_init (l.init x)
+  is_inits : {x : List Init} → Is a_inits (l.inits x)
+  is_values : {x : List ResetValue} → Is a_values (l.values x)
+  is_perhaps_reset : {x : Option ResetList} → Is a_perhaps_reset (l.perhaps_reset x)
+  is_update : {x : Update} → Is a_update (l.update x)
+  is_updates : {x : List Update} → Is a_updates (l.updates x)
+  is_whole : {x : VModule} → Is a_whole (l.whole x)
+
+data Stack : List Ty → List Value → Type 0 where
+  empty : Stack [] []
+  push : {t : Ty} {ts : List Ty} {x : Value} {xs : List Value} → Is t x → Stack ts xs → Stack (t ∷ ts) (x ∷ xs)
+
+-- what a way of reading and a step do to them
+data Reads : Way → List Ty → List Ty → Type 0 where
+  r_dropped : {ts : List Ty} → Reads l.dropped ts ts
+  r_as_name : {ts : List Ty} → Reads l.as_name ts (a_named ∷ ts)
+  r_as_number : {ts : List Ty} → Reads l.as_number ts (a_number ∷ ts)
+  r_as_literal : {ts : List Ty} → Reads l.as_literal ts (a_literal ∷ ts)
+
+data Builds : Step → List Ty → List Ty → Type 0 where
+  b_make_range : {ts : List Ty} → Builds l.make_range (a_number ∷ a_number ∷ ts) (a_range ∷ ts)
+  b_make_port : {ts : List Ty} → Builds l.make_port (a_named ∷ a_range ∷ ts) (a_port ∷ ts)
+  b_no_reset_port : {ts : List Ty} → Builds l.no_reset_port (ts) (a_perhaps_named ∷ ts)
+  b_some_reset_port : {ts : List Ty} → Builds l.some_reset_port (a_named ∷ ts) (a_perhaps_named ∷ ts)
+  b_no_ports : {ts : List Ty} → Builds l.no_ports (ts) (a_ports ∷ ts)
+  b_one_port : {ts : List Ty} → Builds l.one_port (a_port ∷ a_ports ∷ ts) (a_ports ∷ ts)
+  b_make_literal : {ts : List Ty} → Builds l.make_literal (a_literal ∷ ts) (a_right ∷ ts)
+  b_make_name : {ts : List Ty} → Builds l.make_name (a_named ∷ ts) (a_right ∷ ts)
+  b_make_not : {ts : List Ty} → Builds l.make_not (a_named ∷ ts) (a_right ∷ ts)
+  b_make_binary : {op : BinOp} {ts : List Ty} → Builds (l.make_binary op) (a_named ∷ a_named ∷ ts) (a_right ∷ ts)
+  b_make_choice : {ts : List Ty} → Builds l.make_choice (a_named ∷ a_named ∷ a_named ∷ ts) (a_right ∷ ts)
+  b_make_slice : {ts : List Ty} → Builds l.make_slice (a_number ∷ a_number ∷ a_named ∷ ts) (a_right ∷ ts)
+  b_make_word : {ts : List Ty} → Builds l.make_word (a_named ∷ a_named ∷ ts) (a_right ∷ ts)
+  b_two_names : {ts : List Ty} → Builds l.two_names (a_named ∷ a_named ∷ ts) (a_names ∷ ts)
+  b_one_name : {ts : List Ty} → Builds l.one_name (a_named ∷ a_names ∷ ts) (a_names ∷ ts)
+  b_make_concat : {ts : List Ty} → Builds l.make_concat (a_names ∷ ts) (a_right ∷ ts)
+  b_make_reg : {ts : List Ty} → Builds l.make_reg (a_named ∷ a_range ∷ ts) (a_item ∷ ts)
+  b_make_file : {ts : List Ty} → Builds l.make_file (a_range ∷ a_named ∷ a_range ∷ ts) (a_item ∷ ts)
+  b_make_integer : {ts : List Ty} → Builds l.make_integer (a_named ∷ ts) (a_item ∷ ts)
+  b_make_wire : {ts : List Ty} → Builds l.make_wire (a_named ∷ a_range ∷ ts) (a_item ∷ ts)
+  b_make_assign : {ts : List Ty} → Builds l.make_assign (a_right ∷ a_named ∷ ts) (a_item ∷ ts)
+  b_no_items : {ts : List Ty} → Builds l.no_items (ts) (a_items ∷ ts)
+  b_one_item : {ts : List Ty} → Builds l.one_item (a_item ∷ a_items ∷ ts) (a_items ∷ ts)
+  b_init_reg : {ts : List Ty} → Builds l.init_reg (a_literal ∷ a_named ∷ ts) (a_init ∷ ts)
+  b_init_word : {ts : List Ty} → Builds l.init_word (a_literal ∷ a_number ∷ a_named ∷ ts) (a_init ∷ ts)
+  b_init_fill : {ts : List Ty} → Builds l.init_fill (a_literal ∷ a_named ∷ a_named ∷ a_number ∷ a_named ∷ a_named ∷ a_number ∷ a_named ∷ a_number ∷ a_named ∷ ts) (a_init ∷ ts)
+  b_no_inits : {ts : List Ty} → Builds l.no_inits (ts) (a_inits ∷ ts)
+  b_one_init : {ts : List Ty} → Builds l.one_init (a_init ∷ a_inits ∷ ts) (a_inits ∷ ts)
+  b_no_values : {ts : List Ty} → Builds l.no_values (ts) (a_values ∷ ts)
+  b_one_value : {ts : List Ty} → Builds l.one_value (a_literal ∷ a_named ∷ a_values ∷ ts) (a_values ∷ ts)
+  b_no_reset : {ts : List Ty} → Builds l.no_reset (ts) (a_perhaps_reset ∷ ts)
+  b_some_reset : {ts : List Ty} → Builds l.some_reset (a_values ∷ a_named ∷ ts) (a_perhaps_reset ∷ ts)
+  b_update_reg : {ts : List Ty} → Builds l.update_reg (a_named ∷ a_named ∷ ts) (a_update ∷ ts)
+  b_update_file : {ts : List Ty} → Builds l.update_file (a_named ∷ a_named ∷ a_named ∷ a_named ∷ ts) (a_update ∷ ts)
+  b_no_updates : {ts : List Ty} → Builds l.no_updates (ts) (a_updates ∷ ts)
+  b_first_update : {ts : List Ty} → Builds l.first_update (a_update ∷ ts) (a_updates ∷ a_perhaps_reset ∷ ts)
+  b_one_update : {ts : List Ty} → Builds l.one_update (a_update ∷ a_updates ∷ ts) (a_updates ∷ ts)
+  b_make_module : {ts : List Ty} → Builds l.make_module (a_updates ∷ a_perhaps_reset ∷ a_named ∷ a_inits ∷ a_items ∷ a_port ∷ a_port ∷ a_port ∷ a_ports ∷ a_port ∷ a_perhaps_named ∷ a_named ∷ a_named ∷ ts) (a_whole ∷ ts)
+
+read_keeps : {way : Way} {ts us : List Ty} {vs : List Value} (t : Token) → Reads way ts us → Stack ts vs → Stack us (read_token way t vs)
+read_keeps t r_dropped k = k
+read_keeps t r_as_name k = push is_named k
+read_keeps t r_as_number k = push is_number k
+read_keeps t r_as_literal k = push is_literal k
+
+build_keeps : {a : Step} {ts us : List Ty} {vs : List Value} → Builds a ts us → Stack ts vs → Stack us (built a vs)
+build_keeps b_make_range (push is_number (push is_number k)) = push is_range k
+build_keeps b_make_port (push is_named (push is_range k)) = push is_port k
+build_keeps b_no_reset_port k = push is_perhaps_named k
+build_keeps b_some_reset_port (push is_named k) = push is_perhaps_named k
+build_keeps b_no_ports k = push is_ports k
+build_keeps b_one_port (push is_port (push is_ports k)) = push is_ports k
+build_keeps b_make_literal (push is_literal k) = push is_right k
+build_keeps b_make_name (push is_named k) = push is_right k
+build_keeps b_make_not (push is_named k) = push is_right k
+build_keeps b_make_binary (push is_named (push is_named k)) = push is_right k
+build_keeps b_make_choice (push is_named (push is_named (push is_named k))) = push is_right k
+build_keeps b_make_slice (push is_number (push is_number (push is_named k))) = push is_right k
+build_keeps b_make_word (push is_named (push is_named k)) = push is_right k
+build_keeps b_two_names (push is_named (push is_named k)) = push is_names k
+build_keeps b_one_name (push is_named (push is_names k)) = push is_names k
+build_keeps b_make_concat (push is_names k) = push is_right k
+build_keeps b_make_reg (push is_named (push is_range k)) = push is_item k
+build_keeps b_make_file (push is_range (push is_named (push is_range k))) = push is_item k
+build_keeps b_make_integer (push is_named k) = push is_item k
+build_keeps b_make_wire (push is_named (push is_range k)) = push is_item k
+build_keeps b_make_assign (push is_right (push is_named k)) = push is_item k
+build_keeps b_no_items k = push is_items k
+build_keeps b_one_item (push is_item (push is_items k)) = push is_items k
+build_keeps b_init_reg (push is_literal (push is_named k)) = push is_init k
+build_keeps b_init_word (push is_literal (push is_number (push is_named k))) = push is_init k
+build_keeps b_init_fill (push is_literal (push is_named (push is_named (push is_number (push is_named (push is_named (push is_number (push is_named (push is_number (push is_named k)))))))))) = push is_init k
+build_keeps b_no_inits k = push is_inits k
+build_keeps b_one_init (push is_init (push is_inits k)) = push is_inits k
+build_keeps b_no_values k = push is_values k
+build_keeps b_one_value (push is_literal (push is_named (push is_values k))) = push is_values k
+build_keeps b_no_reset k = push is_perhaps_reset k
+build_keeps b_some_reset (push is_values (push is_named k)) = push is_perhaps_reset k
+build_keeps b_update_reg (push is_named (push is_named k)) = push is_update k
+build_keeps b_update_file (push is_named (push is_named (push is_named (push is_named k)))) = push is_update k
+build_keeps b_no_updates k = push is_updates k
+build_keeps b_first_update (push is_update k) = push is_updates (push is_perhaps_reset k)
+build_keeps b_one_update (push is_update (push is_updates k)) = push is_updates k
+build_keeps b_make_module (push is_updates (push is_perhaps_reset (push is_named (push is_inits (push is_items (push is_port (push is_port (push is_port (push is_ports (push is_port (push is_perhaps_named (push is_named (push is_named k))))))))))))) = push is_whole k
+
+-- what a name finds and leaves
+data Names : ℕ → List Ty → List Ty → Type 0 where
+  n_MODULE : {ts : List Ty} → Names l.MODULE (ts) (a_whole ∷ ts)
+  n_WIRE : {ts : List Ty} → Names l.WIRE (ts) (ts)
+  n_RANGE : {ts : List Ty} → Names l.RANGE (ts) (a_range ∷ ts)
+  n_PORT : {ts : List Ty} → Names l.PORT (ts) (a_port ∷ ts)
+  n_STALLS : {ts : List Ty} → Names l.STALLS (ts) (a_port ∷ a_perhaps_named ∷ ts)
+  n_SAMPLES : {ts : List Ty} → Names l.SAMPLES (a_ports ∷ ts) (a_ports ∷ ts)
+  n_ITEMS : {ts : List Ty} → Names l.ITEMS (a_items ∷ ts) (a_items ∷ ts)
+  n_ITEM : {ts : List Ty} → Names l.ITEM (ts) (a_item ∷ ts)
+  n_DECLARED : {ts : List Ty} → Names l.DECLARED (a_named ∷ a_range ∷ ts) (a_item ∷ ts)
+  n_RIGHT : {ts : List Ty} → Names l.RIGHT (ts) (a_right ∷ ts)
+  n_BEHIND : {ts : List Ty} → Names l.BEHIND (a_named ∷ ts) (a_right ∷ ts)
+  n_INDEX : {ts : List Ty} → Names l.INDEX (a_named ∷ ts) (a_right ∷ ts)
+  n_INITS : {ts : List Ty} → Names l.INITS (a_inits ∷ ts) (a_inits ∷ ts)
+  n_INIT : {ts : List Ty} → Names l.INIT (ts) (a_init ∷ ts)
+  n_START : {ts : List Ty} → Names l.START (a_named ∷ ts) (a_init ∷ ts)
+  n_BODY : {ts : List Ty} → Names l.BODY (ts) (a_updates ∷ a_perhaps_reset ∷ ts)
+  n_CONDITION : {ts : List Ty} → Names l.CONDITION (a_named ∷ ts) (a_updates ∷ a_perhaps_reset ∷ ts)
+  n_VALUES : {ts : List Ty} → Names l.VALUES (a_values ∷ ts) (a_values ∷ ts)
+  n_UPDATES : {ts : List Ty} → Names l.UPDATES (a_updates ∷ ts) (a_updates ∷ ts)
+  n_UPDATE : {ts : List Ty} → Names l.UPDATE (ts) (a_update ∷ ts)
+  n_NAMES10 : {ts : List Ty} → Names (l.NAMES 10) (a_names ∷ ts) (a_names ∷ ts)
+  n_NAMES9 : {ts : List Ty} → Names (l.NAMES 9) (a_names ∷ ts) (a_names ∷ ts)
+  n_NAMES8 : {ts : List Ty} → Names (l.NAMES 8) (a_names ∷ ts) (a_names ∷ ts)
+  n_NAMES7 : {ts : List Ty} → Names (l.NAMES 7) (a_names ∷ ts) (a_names ∷ ts)
+  n_NAMES6 : {ts : List Ty} → Names (l.NAMES 6) (a_names ∷ ts) (a_names ∷ ts)
+  n_NAMES5 : {ts : List Ty} → Names (l.NAMES 5) (a_names ∷ ts) (a_names ∷ ts)
+  n_NAMES4 : {ts : List Ty} → Names (l.NAMES 4) (a_names ∷ ts) (a_names ∷ ts)
+  n_NAMES3 : {ts : List Ty} → Names (l.NAMES 3) (a_names ∷ ts) (a_names ∷ ts)
+  n_NAMES2 : {ts : List Ty} → Names (l.NAMES 2) (a_names ∷ ts) (a_names ∷ ts)
+  n_NAMES1 : {ts : List Ty} → Names (l.NAMES 1) (a_names ∷ ts) (a_names ∷ ts)
+  n_NAMES0 : {ts : List Ty} → Names (l.NAMES 0) (a_names ∷ ts) (a_names ∷ ts)
+
+-- symbols that lead to a module
+data Fits : List Sym → List Ty → Type 0 where
+  done : Fits [] (a_whole ∷ [])
+  token : {c : ℕ} {way : Way} {s : List Sym} {ts us : List Ty} → Reads way ts us → Fits s us → Fits (Terminal c way ∷ s) ts
+  action : {a : Step} {s : List Sym} {ts us : List Ty} → Builds a ts us → Fits s us → Fits (Action a ∷ s) ts
+  name : {n : ℕ} {s : List Sym} {ts us : List Ty} → Names n ts us → Fits s us → Fits (Nonterminal n ∷ s) ts
+
+-- an alternative does what its name does
+expand : {n : ℕ} {ts us : List Ty} {s b : List Sym} → Names n ts us → Has b (alternatives rules n) → Fits s us → Fits (b ++ s) ts
+expand n_MODULE here f = token r_dropped (token r_as_name (token r_dropped (token r_dropped (name n_WIRE (token r_as_name (token r_dropped (token r_dropped (name n_WIRE (name n_STALLS (action b_no_ports (name n_SAMPLES (token r_dropped (name n_PORT (token r_dropped (token r_dropped (name n_PORT (token r_dropped (token r_dropped (name n_PORT (token r_dropped (token r_dropped (action b_no_items (name n_ITEMS (token r_dropped (token r_dropped (action b_no_inits (name n_INITS (token r_dropped (token r_dropped (token r_dropped (token r_dropped (token r_dropped (token r_as_name (token r_dropped (token r_dropped (name n_BODY (token r_dropped (token r_dropped (action b_make_module f)))))))))))))))))))))))))))))))))))))))
+expand n_MODULE (there m) f = elim m [ ]
+expand n_WIRE here f = token r_dropped f
+expand n_WIRE (there here) f = f
+expand n_WIRE (there (there m)) f = elim m [ ]
+expand n_RANGE here f = token r_dropped (token r_as_number (token r_dropped (token r_as_number (token r_dropped (action b_make_range f)))))
+expand n_RANGE (there m) f = elim m [ ]
+expand n_PORT here f = name n_WIRE (name n_RANGE (token r_as_name (action b_make_port f)))
+expand n_PORT (there m) f = elim m [ ]
+expand n_STALLS here f = token r_as_name (action b_some_reset_port (token r_dropped (token r_dropped (name n_PORT (token r_dropped f)))))
+expand n_STALLS (there here) f = action b_no_reset_port (name n_RANGE (token r_as_name (action b_make_port (token r_dropped f))))
+expand n_STALLS (there (there m)) f = elim m [ ]
+expand n_SAMPLES here f = token r_dropped (name n_PORT (token r_dropped (action b_one_port (name n_SAMPLES f))))
+expand n_SAMPLES (there here) f = f
+expand n_SAMPLES (there (there m)) f = elim m [ ]
+expand n_ITEMS here f = name n_ITEM (action b_one_item (name n_ITEMS f))
+expand n_ITEMS (there here) f = f
+expand n_ITEMS (there (there m)) f = elim m [ ]
+expand n_ITEM here f = token r_dropped (name n_RANGE (token r_as_name (name n_DECLARED f)))
+expand n_ITEM (there here) f = token r_dropped (token r_as_name (token r_dropped (action b_make_integer f)))
+expand n_ITEM (there (there here)) f = token r_dropped (name n_RANGE (token r_as_name (token r_dropped (action b_make_wire f))))
+expand n_ITEM (there (there (there here))) f = token r_dropped (token r_as_name (token r_dropped (name n_RIGHT (token r_dropped (action b_make_assign f)))))
+expand n_ITEM (there (there (there (there m)))) f = elim m [ ]
+expand n_DECLARED here f = name n_RANGE (token r_dropped (action b_make_file f))
+expand n_DECLARED (there here) f = token r_dropped (action b_make_reg f)
+expand n_DECLARED (there (there m)) f = elim m [ ]
+expand n_RIGHT here f = token r_as_literal (action b_make_literal f)
+expand n_RIGHT (there here) f = token r_dropped (token r_as_name (action b_make_not f))
+expand n_RIGHT (there (there here)) f = token r_dropped (token r_as_name (token r_dropped (token r_as_name (action b_two_names (name n_NAMES10 (token r_dropped (action b_make_concat f)))))))
+expand n_RIGHT (there (there (there here))) f = token r_as_name (name n_BEHIND f)
+expand n_RIGHT (there (there (there (there m)))) f = elim m [ ]
+expand n_BEHIND here f = token r_dropped (token r_as_name (action b_make_binary f))
+expand n_BEHIND (there here) f = token r_dropped (token r_as_name (action b_make_binary f))
+expand n_BEHIND (there (there here)) f = token r_dropped (token r_as_name (action b_make_binary f))
+expand n_BEHIND (there (there (there here))) f = token r_dropped (token r_as_name (action b_make_binary f))
+expand n_BEHIND (there (there (there (there here)))) f = token r_dropped (token r_as_name (action b_make_binary f))
+expand n_BEHIND (there (there (there (there (there here))))) f = token r_dropped (token r_as_name (action b_make_binary f))
+expand n_BEHIND (there (there (there (there (there (there here)))))) f = token r_dropped (token r_as_name (action b_make_binary f))
+expand n_BEHIND (there (there (there (there (there (there (there here))))))) f = token r_dropped (token r_as_name (action b_make_binary f))
+expand n_BEHIND (there (there (there (there (there (there (there (there here)))))))) f = token r_dropped (token r_as_name (action b_make_binary f))
+expand n_BEHIND (there (there (there (there (there (there (there (there (there here))))))))) f = token r_dropped (token r_as_name (action b_make_binary f))
+expand n_BEHIND (there (there (there (there (there (there (there (there (there (there here)))))))))) f = token r_dropped (token r_as_name (token r_dropped (token r_as_name (action b_make_choice f))))
+expand n_BEHIND (there (there (there (there (there (there (there (there (there (there (there here))))))))))) f = token r_dropped (name n_INDEX f)
+expand n_BEHIND (there (there (there (there (there (there (there (there (there (there (there (there here)))))))))))) f = action b_make_name f
+expand n_BEHIND (there (there (there (there (there (there (there (there (there (there (there (there (there m))))))))))))) f = elim m [ ]
+expand n_INDEX here f = token r_as_number (token r_dropped (token r_as_number (token r_dropped (action b_make_slice f))))
+expand n_INDEX (there here) f = token r_as_name (token r_dropped (action b_make_word f))
+expand n_INDEX (there (there m)) f = elim m [ ]
+expand n_INITS here f = name n_INIT (action b_one_init (name n_INITS f))
+expand n_INITS (there here) f = f
+expand n_INITS (there (there m)) f = elim m [ ]
+expand n_INIT here f = token r_dropped (token r_dropped (token r_as_name (token r_dropped (token r_as_number (token r_dropped (token r_as_name (token r_dropped (token r_as_number (token r_dropped (token r_as_name (token r_dropped (token r_as_name (token r_dropped (token r_as_number (token r_dropped (token r_as_name (token r_dropped (token r_as_name (token r_dropped (token r_dropped (token r_as_literal (token r_dropped (action b_init_fill f)))))))))))))))))))))))
+expand n_INIT (there here) f = token r_as_name (name n_START f)
+expand n_INIT (there (there m)) f = elim m [ ]
+expand n_START here f = token r_dropped (token r_as_literal (token r_dropped (action b_init_reg f)))
+expand n_START (there here) f = token r_dropped (token r_as_number (token r_dropped (token r_dropped (token r_as_literal (token r_dropped (action b_init_word f))))))
+expand n_START (there (there m)) f = elim m [ ]
+expand n_BODY here f = token r_dropped (token r_dropped (token r_as_name (token r_dropped (name n_CONDITION f))))
+expand n_BODY (there here) f = token r_as_name (token r_dropped (token r_as_name (token r_dropped (action b_update_reg (action b_first_update (name n_UPDATES f))))))
+expand n_BODY (there (there here)) f = action b_no_reset (action b_no_updates f)
+expand n_BODY (there (there (there m))) f = elim m [ ]
+expand n_CONDITION here f = token r_dropped (action b_no_values (name n_VALUES (token r_dropped (action b_some_reset (token r_dropped (token r_dropped (action b_no_updates (name n_UPDATES (token r_dropped f)))))))))
+expand n_CONDITION (there here) f = token r_as_name (token r_dropped (token r_as_name (token r_dropped (token r_dropped (token r_as_name (token r_dropped (action b_update_file (action b_first_update (name n_UPDATES f)))))))))
+expand n_CONDITION (there (there m)) f = elim m [ ]
+expand n_VALUES here f = token r_as_name (token r_dropped (token r_as_literal (token r_dropped (action b_one_value (name n_VALUES f)))))
+expand n_VALUES (there here) f = f
+expand n_VALUES (there (there m)) f = elim m [ ]
+expand n_UPDATES here f = name n_UPDATE (action b_one_update (name n_UPDATES f))
+expand n_UPDATES (there here) f = f
+expand n_UPDATES (there (there m)) f = elim m [ ]
+expand n_UPDATE here f = token r_dropped (token r_dropped (token r_as_name (token r_dropped (token r_as_name (token r_dropped (token r_as_name (token r_dropped (token r_dropped (token r_as_name (token r_dropped (action b_update_file f)))))))))))
+expand n_UPDATE (there here) f = token r_as_name (token r_dropped (token r_as_name (token r_dropped (action b_update_reg f))))
+expand n_UPDATE (there (there m)) f = elim m [ ]
+expand n_NAMES10 here f = token r_dropped (token r_as_name (action b_one_name (name n_NAMES9 f)))
+expand n_NAMES10 (there here) f = f
+expand n_NAMES10 (there (there m)) f = elim m [ ]
+expand n_NAMES9 here f = token r_dropped (token r_as_name (action b_one_name (name n_NAMES8 f)))
+expand n_NAMES9 (there here) f = f
+expand n_NAMES9 (there (there m)) f = elim m [ ]
+expand n_NAMES8 here f = token r_dropped (token r_as_name (action b_one_name (name n_NAMES7 f)))
+expand n_NAMES8 (there here) f = f
+expand n_NAMES8 (there (there m)) f = elim m [ ]
+expand n_NAMES7 here f = token r_dropped (token r_as_name (action b_one_name (name n_NAMES6 f)))
+expand n_NAMES7 (there here) f = f
+expand n_NAMES7 (there (there m)) f = elim m [ ]
+expand n_NAMES6 here f = token r_dropped (token r_as_name (action b_one_name (name n_NAMES5 f)))
+expand n_NAMES6 (there here) f = f
+expand n_NAMES6 (there (there m)) f = elim m [ ]
+expand n_NAMES5 here f = token r_dropped (token r_as_name (action b_one_name (name n_NAMES4 f)))
+expand n_NAMES5 (there here) f = f
+expand n_NAMES5 (there (there m)) f = elim m [ ]
+expand n_NAMES4 here f = token r_dropped (token r_as_name (action b_one_name (name n_NAMES3 f)))
+expand n_NAMES4 (there here) f = f
+expand n_NAMES4 (there (there m)) f = elim m [ ]
+expand n_NAMES3 here f = token r_dropped (token r_as_name (action b_one_name (name n_NAMES2 f)))
+expand n_NAMES3 (there here) f = f
+expand n_NAMES3 (there (there m)) f = elim m [ ]
+expand n_NAMES2 here f = token r_dropped (token r_as_name (action b_one_name (name n_NAMES1 f)))
+expand n_NAMES2 (there here) f = f
+expand n_NAMES2 (there (there m)) f = elim m [ ]
+expand n_NAMES1 here f = token r_dropped (token r_as_name (action b_one_name (name n_NAMES0 f)))
+expand n_NAMES1 (there here) f = f
+expand n_NAMES1 (there (there m)) f = elim m [ ]
+expand n_NAMES0 here f = f
+expand n_NAMES0 (there m) f = elim m [ ]
+
+one_module : {vs : List Value} → Stack (a_whole ∷ []) vs → (m : VModule) × (vs ≡ l.whole m ∷ [])
+one_module (push (is_whole {x = m}) empty) = (m, refl)
+
+-- what is accepted is a module
+accepts_module : {over : List Value → Bool} {s : List Sym} {v w : List Value} {xs : List Token} {o : Outcome (List Value)} {ts : List Ty} → Leads verilog over tables s v xs o → Fits s ts → Stack ts v
+    → o ≡ Accepts w → (m : VModule) × (w ≡ l.whole m ∷ [])
+accepts_module {v = v} {w = w} accept done k is = let same : w ≡ v = cc is in let r = one_module k in (r.0, same ∙ r.1)
+accepts_module more f k is = cc is
+accepts_module {xs = xs} (goes {n = n} body p rest) (name nt f) k is = accepts_module rest (expand nt (picks_rule rules tables n _ body p) f) k is
+accepts_module (take {x = x} same within rest) (token r f) k is = accepts_module rest f (read_keeps x r k) is
+accepts_module (make rest) (action b f) k is = accepts_module rest f (build_keeps b k) is
+accepts_module (wrong p) f k is = cc is
+accepts_module (lost p) f k is = cc is
+accepts_module (exceed p q) f k is = cc is
+
+pub reads_module : {over : List Value → Bool} {w : List Value} {xs : List Token} → Leads verilog over tables (Nonterminal l.MODULE ∷ []) [] xs (Accepts w) → (m : VModule) × (w ≡ l.whole m ∷ [])
+reads_module leads = accepts_module leads (name n_MODULE done) empty refl

@@ -1,0 +1,71 @@
+//! Laws about the definitions of this crate. Each function does nothing: its contract is the law.
+ghost use Rattle.std.specs.Prelude.{◌≡◌, ℕ, List, Some};
+ghost use Rattle.kp_base.specs.declared.refusal.Refusal.{Refusal};
+ghost use Rattle.kp_sched.specs.Runs.{IsLegal};
+ghost use Rattle.kp_synth_spec.specs.Legal.{IsLegalFrom};
+ghost use Rattle.kp_tool_report.specs.Texts.{refusal_line};
+ghost use Rattle.kp_tool_words.specs.declared.words.Command.{Command};
+ghost use Rattle.kp_tool_words.specs.declared.words.Command.TheVariants.{OnJob, Watch, Compare, Debug};
+ghost use Rattle.kp_tool_words.specs.declared.words.JobCommand.TheVariants.{Sim, Timing, Pipe};
+ghost use Rattle.kp_tool_words.specs.Words.{command_of};
+ghost use Rattle.kp_tool_spec.specs.Due.{Due, DueFor};
+ghost use Rattle.kp_tool_spec.specs.Headline.{IsMoving, HasNoNeedlessStall, HasNoNeedlessStallFrom, IsVerilogWith, IsRunWith, IsTimed, IsDebuggedWith, IsNetlistWith, IsPairAlike};
+ghost use Rattle.kp_tool_spec.specs.Refused.{Breaks};
+
+/// The arguments and an input have exactly one specified outcome: one status, and one text with it. For `pipe`, which may print any netlist that
+/// implements the job, only the status is unique; that such a netlist exists is proved by synthesis.
+pub fn one_outcome_is_due()
+    ensures some { (words : List (List ℕ)) (input : List ℕ) → (command_of words ≡ Some (OnJob Pipe) → ⊥)
+        → (status : ℕ) × (text : List ℕ) × Due words input status text }
+    ensures one { (words : List (List ℕ)) (input : List ℕ) (s t : ℕ) (x y : List ℕ) → (command_of words ≡ Some (OnJob Pipe) → ⊥)
+        → Due words input s x → Due words input t y → (s ≡ t) × (x ≡ y) }
+    ensures status { (words : List (List ℕ)) (input : List ℕ) (s t : ℕ) (x y : List ℕ) → Due words input s x → Due words input t y → s ≡ t }
+{}
+
+/// What `sim N` prints for an accepted job is a run of its pipelined machine that is legal (`legal`), moves (`moves`), and waits only where it must
+/// (`no_needless_stall`).
+pub fn sim_tells_a_legal_run()
+    ensures legal { (n : ℕ) (input text : List ℕ) → DueFor (Some (OnJob (Sim n))) input 0 text → IsRunWith IsLegal n input text }
+    ensures moves { (n : ℕ) (input text : List ℕ) → DueFor (Some (OnJob (Sim n))) input 0 text → IsRunWith IsMoving n input text }
+    ensures no_needless_stall { (n : ℕ) (input text : List ℕ) → DueFor (Some (OnJob (Sim n))) input 0 text → IsRunWith HasNoNeedlessStall n input text }
+{}
+
+/// What `timing N` prints with status 0 is the timeline of a job without guesses and samples, and the rows of its pipelined machine are those of this
+/// timeline.
+pub fn timing_tells_the_rows_of_the_pipeline()
+    ensures { (n : ℕ) (input text : List ℕ) → DueFor (Some (OnJob (Timing n))) input 0 text → IsTimed n input text }
+{}
+
+/// What `pipe` prints for an accepted job denotes a netlist that is legal (`legal`) and moves (`moves`) for all stall words and samples, and that
+/// waits only where it must (`no_needless_stall`). This is true from the start, and again after each reset, in whatever state the reset is raised.
+pub fn written_verilog_is_legal_and_moves()
+    ensures legal { (input text : List ℕ) → DueFor (Some (OnJob Pipe)) input 0 text → IsVerilogWith IsLegalFrom input text }
+    ensures moves { (input text : List ℕ) → DueFor (Some (OnJob Pipe)) input 0 text → IsVerilogWith (λ job s. IsMoving job) input text }
+    ensures no_needless_stall { (input text : List ℕ) → DueFor (Some (OnJob Pipe)) input 0 text → IsVerilogWith HasNoNeedlessStallFrom input text }
+{}
+
+/// What `debug` prints with status 0 describes a run of the pipelined machine that is legal (`legal`), moves (`moves`), and waits only where
+/// it must (`no_needless_stall`).
+pub fn debug_tells_of_a_legal_run()
+    ensures legal { (input text : List ℕ) → DueFor (Some Debug) input 0 text → IsDebuggedWith IsLegal input text }
+    ensures moves { (input text : List ℕ) → DueFor (Some Debug) input 0 text → IsDebuggedWith IsMoving input text }
+    ensures no_needless_stall { (input text : List ℕ) → DueFor (Some Debug) input 0 text → IsDebuggedWith HasNoNeedlessStall input text }
+{}
+
+/// What `watch N` prints with status 0 is the run of the netlist that the text after a job denotes, and this run is legal.
+pub fn watch_tells_a_legal_run()
+    ensures { (n : ℕ) (input text : List ℕ) → DueFor (Some (Watch n)) input 0 text → IsNetlistWith IsLegal n input text }
+{}
+
+/// If `equiv` ends with status 0, the two texts after the job denote netlists of the job that run alike.
+pub fn equiv_tells_of_netlists_that_run_alike()
+    ensures { (input text : List ℕ) → DueFor (Some Compare) input 0 text → IsPairAlike input text }
+{}
+
+/// Status 2 comes with the line of the first rule that the input violates (`by_a_rule`), and whenever it violates one (`where_broken`).
+pub fn the_first_broken_rule_is_named()
+    ensures by_a_rule { (command : Command) (input text : List ℕ) → DueFor (Some command) input 2 text
+        → (refusal : Refusal) × Breaks command input refusal × (text ≡ refusal_line refusal) }
+    ensures where_broken { (command : Command) (input : List ℕ) (status : ℕ) (text : List ℕ) (refusal : Refusal) → DueFor (Some command) input status text
+        → Breaks command input refusal → status ≡ 2 }
+{}

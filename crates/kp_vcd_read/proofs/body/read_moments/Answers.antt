@@ -1,0 +1,24 @@
+use Rattle.std.proofs.Common.{◌∙◌, ℕ, Option, sym, ap}
+use Rattle.std.proofs.lemmas.Result.{err_from_is_err_and}
+use Rattle.kp_vcd.specs.declared.dump.Dump.{Dump}
+use Rattle.kp_vcd_read.specs.inner.Meeting.{gives_behind}
+use Rattle.kp_vcd_read.proofs.Meeting.{stops, same_dump}
+use Rattle.kp_vcd_read.proofs.body.read_moments.Goals as goal
+
+pub returns-in_err-next : goal.returns-in_err-next
+returns-in_err-next c d is none =
+    let p = err_from_is_err_and c.from_residual.result c.from_residual.ensures.1 in
+    rw (p.1, p.2) (c.in_err-next.ensures d)
+
+pub loop-next-init : goal.loop-next-init
+loop-next-init c d is none =
+    c.in_ok-next.ensures d
+    ∙ ap (λ (x : Dump). gives_behind x c.in_ok-next.next c.read_first_time.new.words) (same_dump d c.new-moments.result.items (none ∙ sym c.new-moments.ensures.items))
+
+pub returns-in_err-changes : goal.returns-in_err-changes
+returns-in_err-changes c d is none =
+    let p = err_from_is_err_and c.from_residual-in_err-changes.result c.from_residual-in_err-changes.ensures.1 in
+    rw (p.1, p.2) (stops _ _ c.in_err-changes.field-0.0
+    (c.loop-next.invariant d is none
+    ∙ ap (λ (o : Option ℕ). gives_behind (record d { moments = c.loop-next.moments.items }) o c.loop-next.words) c.in-Some.is)
+    (c.in_err-changes.ensures.meets (record d { moments = c.loop-next.moments.items }) is))

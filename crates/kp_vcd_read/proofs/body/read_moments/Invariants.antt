@@ -1,0 +1,13 @@
+use Rattle.std.proofs.Common.{◌≡◌, ◌+◌, length, []}
+use Rattle.std.specs.Prelude.{is_some, if◌then◌else◌}
+use Rattle.kp_vcd.specs.declared.dump.Dump.{Dump}
+use Rattle.kp_vcd_read.specs.Reading.{first_time, at}
+use Rattle.kp_vcd_read.specs.inner.Meeting.{gives_from, gives_behind}
+use Rattle.kp_vcd_read.proofs.body.read_moments.Given as goal
+
+abbrev pub invariant-loop-next : goal.invariant-loop-next
+invariant-loop-next l = (d : Dump) → d.signals ≡ l.signals → d.moments ≡ [] → gives_from (at first_time d) l.fn.words
+    ≡ gives_behind (record d { moments = l.moments.items }) l.next l.words
+
+abbrev pub decreases-loop-next : goal.decreases-loop-next
+decreases-loop-next l = if is_some l.next then length l.words.words + 1 else 0

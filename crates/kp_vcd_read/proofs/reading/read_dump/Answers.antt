@@ -1,0 +1,44 @@
+use Rattle.std.proofs.Common.{◌∙◌, List, sym, ap, ap₂, arith, length, refl, Ok}
+use Rattle.std.proofs.lemmas.Result.{err_from_is_err_and}
+use Rattle.kp_vcd.specs.declared.dump.Signal.{Signal}
+use Rattle.kp_vcd.specs.declared.dump.Moment.{Moment}
+use Rattle.kp_vcd_read.specs.Reading.{named}
+use Rattle.kp_vcd_read.specs.inner.Left.{Left}
+use Rattle.kp_vcd_read.proofs.Counted.{left_few}
+use Rattle.kp_vcd_read.proofs.Meeting.{stops, from_start}
+use Rattle.kp_vcd_read.proofs.reading.read_dump.Goals as goal
+
+pub returns-in_err-module : goal.returns-in_err-module
+returns-in_err-module c =
+    let p = err_from_is_err_and c.from_residual.result c.from_residual.ensures.1 in
+    rw (p.1, p.2) (stops _ _ c.in_err-module.field-0.0 (from_start c.args.text.now c.of-words.result c.of-words.ensures) c.in_err-module.ensures.meets)
+
+pub returns-in_err-signals : goal.returns-in_err-signals
+returns-in_err-signals c =
+    let p = err_from_is_err_and c.from_residual-in_err-signals.result c.from_residual-in_err-signals.ensures.1 in
+    rw (p.1, p.2) (stops _ _ c.in_err-signals.field-0.0
+    (from_start c.args.text.now c.of-words.result c.of-words.ensures ∙ c.in_ok-module.ensures.meets)
+    (c.in_err-signals.ensures.meets c.in_ok-module.module))
+
+pub read_moments-requires : goal.read_moments-requires
+read_moments-requires c =
+    let a = c.as_slice.ensures.len in
+    let b = c.in_ok-signals.ensures.few in
+    let f = c.in_ok-module.ensures.fewer in
+    let e = ap (λ (l : Left). length l.words) c.of-words.ensures in
+    let t = left_few c.args.text.now in
+    let r = c.requires in
+    omega (arith, a, b, f, e, t, r)
+
+pub returns-in_err-moments : goal.returns-in_err-moments
+returns-in_err-moments c =
+    let p = err_from_is_err_and c.from_residual-in_err-moments.result c.from_residual-in_err-moments.ensures.1 in
+    rw (p.1, p.2) (stops _ _ c.in_err-moments.field-0.0
+    (from_start c.args.text.now c.of-words.result c.of-words.ensures ∙ c.in_ok-module.ensures.meets ∙ c.in_ok-signals.ensures.meets c.in_ok-module.module)
+    (c.in_err-moments.ensures (record (named c.in_ok-module.module) { signals = c.in_ok-signals.signals.items }) (sym c.as_slice.ensures.value) refl))
+
+pub returns : goal.returns
+returns c =
+    from_start c.args.text.now c.of-words.result c.of-words.ensures ∙ c.in_ok-module.ensures.meets ∙ c.in_ok-signals.ensures.meets c.in_ok-module.module
+    ∙ c.in_ok-moments.ensures (record (named c.in_ok-module.module) { signals = c.in_ok-signals.signals.items }) (sym c.as_slice.ensures.value) refl
+    ∙ ap₂ (λ (ss : List Signal) (ms : List Moment). Ok (record { «module» = c.in_ok-module.module; signals = ss; moments = ms })) (sym c.new.ensures) (sym c.new-2.ensures)

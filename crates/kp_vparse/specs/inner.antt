@@ -1,4 +1,0 @@
--- What only private contracts and proofs of this crate speak of: no public clause rests on it.
-pub mod Words
-pub mod Reading
-pub mod Spelled

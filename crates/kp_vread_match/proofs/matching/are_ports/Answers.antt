@@ -1,0 +1,14 @@
+use Rattle.std.proofs.Common.{◌≡◌, ◌∙◌, List, [], drop, ap, sym, arith}
+use Rattle.std.proofs.lemmas.List.{drop_all}
+use Rattle.kp_ast.specs.declared.tree.Decl.{Decl}
+use Rattle.kp_machine.specs.Slots.{samples_of}
+use Rattle.kp_vread_match.specs.inner.Whole.{are_ports_of}
+use Rattle.kp_vread_match.proofs.Whole.{none_left}
+use Rattle.kp_vread_match.proofs.matching.are_ports.Goals as goal
+
+pub returns : goal.returns
+returns c =
+    let left = c.loop-decl.left.now in
+    let decls : List Decl = c.args.decls.now in
+    let none : drop c.loop-decl.decl-index decls ≡ [] = drop_all c.loop-decl.decl-index decls (omega arith) in
+    c.is_empty.ensures ∙ sym (none_left left) ∙ ap (λ (ds : List Decl). are_ports_of left (samples_of ds)) (sym none) ∙ c.loop-decl.invariant

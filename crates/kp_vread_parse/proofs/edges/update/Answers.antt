@@ -1,0 +1,22 @@
+use Rattle.std.proofs.Common.{◌∙◌, sym, arith}
+use Rattle.std.proofs.lemmas.Result.{err_from_is_err_and}
+use Rattle.kp_grammar.specs.Machine.{make}
+use Rattle.kp_vread_parse.proofs.Steps.{end_end}
+use Rattle.kp_vread_parse.proofs.Picks.{update_else}
+use Rattle.kp_vread_parse.proofs.edges.update.Goals as goal
+
+pub returns-in_err-name : goal.returns-in_err-name
+returns-in_err-name c =
+    let p = err_from_is_err_and c.from_residual.result c.from_residual.ensures.1 in
+    rw (p.1, p.2) (end_end c.in_err-name.ensures (λ o h s vs. update_else (sym c.if-is_keyword.false ∙ c.is_keyword.ensures) (h _ _)))
+
+pub returns-in_err-value : goal.returns-in_err-value
+returns-in_err-value c =
+    let p = err_from_is_err_and c.from_residual-in_err-value.result c.from_residual-in_err-value.ensures.1 in
+    rw (p.1, p.2) (end_end c.in_err-value.ensures (λ o h s vs. update_else (sym c.if-is_keyword.false ∙ c.is_keyword.ensures) (c.in_ok-name.ensures.leads _ _ _ (h _ _))))
+
+pub returns : goal.returns
+returns c = record {
+  leads = λ s vs o h. update_else (sym c.if-is_keyword.false ∙ c.is_keyword.ensures) (c.in_ok-name.ensures.leads _ _ _ (c.in_ok-value.ensures.leads _ _ _ (make (h))));
+  shrinks = omega (arith, c.in_ok-name.ensures.shrinks, c.in_ok-value.ensures.shrinks);
+}

@@ -1,0 +1,23 @@
+use Rattle.std.proofs.Common.{◌∙◌, sym, arith}
+use Rattle.std.proofs.lemmas.Result.{err_from_is_err_and}
+use Rattle.kp_grammar.specs.Machine.{make}
+use Rattle.kp_vread_parse.proofs.Steps.{end_end}
+use Rattle.kp_vread_parse.proofs.Picks.{updates_1, updates_else}
+use Rattle.kp_vread_parse.proofs.edges.updates.Goals as goal
+
+pub returns-in_err-one : goal.returns-in_err-one
+returns-in_err-one c =
+    let p = err_from_is_err_and c.from_residual.result c.from_residual.ensures.1 in
+    rw (p.1, p.2) (end_end c.in_err-one.ensures (λ o h s vs. c.all.invariant.leads _ _ _ (updates_1 (sym c.all-test.true ∙ c.begins_update.ensures) (h _ _))))
+
+pub all-preserved : goal.all-preserved
+all-preserved c = rw c.in_ok-push.ensures.items (record {
+  leads = λ s vs o h. c.all.invariant.leads _ _ _ (updates_1 (sym c.all-test.true ∙ c.begins_update.ensures) (c.in_ok-one.ensures.leads _ _ _ (make (h))));
+  shrinks = omega (arith, c.all.invariant.shrinks, c.in_ok-one.ensures.shrinks);
+})
+
+pub returns : goal.returns
+returns c = record {
+  leads = λ s vs o h. c.all.invariant.leads _ _ _ (updates_else (sym c.all-test.false ∙ c.begins_update.ensures) h);
+  shrinks = omega (arith, c.all.invariant.shrinks);
+}

@@ -1,0 +1,11 @@
+use Rattle.std.proofs.Common.{[], ◌∷◌, length, drop}
+use Rattle.kp_grammar.specs.Grammar.{Nonterminal}
+use Rattle.kp_vlog.specs.Language.{VALUES, values}
+use Rattle.kp_vread_parse.specs.inner.Reading.{TurnsYet}
+use Rattle.kp_vread_parse.proofs.edges.values.Given as goal
+
+abbrev pub invariant-all : goal.invariant-all
+invariant-all l = TurnsYet l.tokens (Nonterminal VALUES ∷ []) (Nonterminal VALUES ∷ []) (values [] ∷ []) (values l.all.items ∷ []) l.at l.here
+
+abbrev pub decreases-all : goal.decreases-all
+decreases-all l = length (drop l.here l.tokens)

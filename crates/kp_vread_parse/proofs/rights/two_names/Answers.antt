@@ -1,0 +1,22 @@
+use Rattle.std.proofs.Common.{arith}
+use Rattle.std.proofs.lemmas.Result.{err_from_is_err_and}
+use Rattle.kp_grammar.specs.Machine.{make}
+use Rattle.kp_vread_parse.proofs.Steps.{end_end, on_top}
+use Rattle.kp_vlog.specs.Language.{names}
+use Rattle.kp_vread_parse.proofs.rights.two_names.Goals as goal
+
+pub returns-in_err-first : goal.returns-in_err-first
+returns-in_err-first c =
+    let p = err_from_is_err_and c.from_residual.result c.from_residual.ensures.1 in
+    rw (p.1, p.2) (end_end c.in_err-first.ensures (λ o h s vs. h _ _))
+
+pub returns-in_err-second : goal.returns-in_err-second
+returns-in_err-second c =
+    let p = err_from_is_err_and c.from_residual-in_err-second.result c.from_residual-in_err-second.ensures.1 in
+    rw (p.1, p.2) (end_end c.in_err-second.ensures (λ o h s vs. c.in_ok-first.ensures.leads _ _ _ (h _ _)))
+
+pub returns : goal.returns
+returns c = record {
+  leads = λ s vs o h. c.in_ok-first.ensures.leads _ _ _ (c.in_ok-second.ensures.leads _ _ _ (make (on_top names c.in_ok-two.ensures (h))));
+  shrinks = omega (arith, c.in_ok-first.ensures.shrinks, c.in_ok-second.ensures.shrinks);
+}

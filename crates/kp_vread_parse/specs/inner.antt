@@ -1,0 +1,4 @@
+-- For private contracts and proofs of this crate only: no public clause depends on it.
+pub mod Words
+pub mod Reading
+pub mod Spelled

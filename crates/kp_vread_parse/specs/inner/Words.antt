@@ -1,0 +1,121 @@
+-- The tokens that parts of a module start with, and parts of a module that the grammar has no name for.
+use Rattle.std.specs.Prelude.{ℕ, List, [], ◌∷◌}
+use Rattle.kp_bits.specs.declared.operator.BinOp.{BinOp}
+use Rattle.kp_grammar.specs.Grammar.{Nonterminal, Action}
+use Rattle.kp_vlog.specs.declared.token.Keyword.TheVariants as keywords
+use Rattle.kp_vlog.specs.declared.token.Mark.{Mark}
+use Rattle.kp_vlog.specs.declared.token.Mark.TheVariants as marks
+use Rattle.kp_vlog.specs.Language.{Sym, word, mark, ID, NUM, LIT, keyword_class, mark_class, IDENTIFIER, WIRE, PORT, STALLS, SAMPLES, ITEMS, RIGHT, INITS, BODY, VALUES, UPDATES, no_ports, no_items, two_names, no_inits, no_values, no_updates}
+
+-- what an item starts with
+abbrev pub item_words : List ℕ
+item_words = keyword_class keywords.Reg ∷ keyword_class keywords.Integer ∷ keyword_class keywords.Wire ∷ keyword_class keywords.Assign ∷ []
+
+-- what a line of the `initial` block starts with
+abbrev pub init_words : List ℕ
+init_words = IDENTIFIER ∷ keyword_class keywords.For ∷ []
+
+-- what an update starts with
+abbrev pub update_words : List ℕ
+update_words = IDENTIFIER ∷ keyword_class keywords.If ∷ []
+
+-- the punctuator of an operator
+abbrev pub sign : BinOp → Mark
+sign BinOp.And = marks.Ampersand
+sign BinOp.Or = marks.Bar
+sign BinOp.Xor = marks.Caret
+sign BinOp.Add = marks.Plus
+sign BinOp.Sub = marks.Minus
+sign BinOp.Mul = marks.Star
+sign BinOp.Eq = marks.EqualsEquals
+sign BinOp.Lt = marks.Less
+sign BinOp.Shl = marks.ShiftLeft
+sign BinOp.Shr = marks.ShiftRight
+
+abbrev pub operator_classes : List ℕ
+operator_classes = mark_class marks.Ampersand ∷ mark_class marks.Bar ∷ mark_class marks.Caret ∷ mark_class marks.Plus ∷ mark_class marks.Minus ∷ mark_class marks.Star ∷ mark_class marks.EqualsEquals ∷ mark_class marks.Less ∷ mark_class marks.ShiftLeft ∷ mark_class marks.ShiftRight ∷ []
+
+-- the loop that fills a file: `for (counter = from;`, `tested < limit;`, `stepped = old + by)` and `file[index] = value;`
+abbrev pub FILL_FROM : List Sym
+FILL_FROM = word keywords.For ∷ mark marks.OpenParenthesis ∷ ID ∷ mark marks.Equals ∷ NUM ∷ mark marks.Semicolon ∷ []
+
+abbrev pub FILL_LIMIT : List Sym
+FILL_LIMIT = ID ∷ mark marks.Less ∷ NUM ∷ mark marks.Semicolon ∷ []
+
+abbrev pub FILL_STEP : List Sym
+FILL_STEP = ID ∷ mark marks.Equals ∷ ID ∷ mark marks.Plus ∷ NUM ∷ mark marks.CloseParenthesis ∷ []
+
+abbrev pub FILL_WORD : List Sym
+FILL_WORD = ID ∷ mark marks.OpenBracket ∷ ID ∷ mark marks.CloseBracket ∷ mark marks.Equals ∷ LIT ∷ mark marks.Semicolon ∷ []
+
+-- an assignment
+abbrev pub ASSIGNMENT : List Sym
+ASSIGNMENT = word keywords.Assign ∷ ID ∷ mark marks.Equals ∷ Nonterminal RIGHT ∷ mark marks.Semicolon ∷ []
+
+-- the first two names of a concatenation
+abbrev pub TWO_NAMES : List Sym
+TWO_NAMES = ID ∷ mark marks.Comma ∷ ID ∷ Action two_names ∷ []
+
+-- `if (name)`
+abbrev pub TEST : List Sym
+TEST = word keywords.If ∷ mark marks.OpenParenthesis ∷ ID ∷ mark marks.CloseParenthesis ∷ []
+
+-- the values of the reset list, from `begin` to `end`
+abbrev pub RESET_VALUES : List Sym
+RESET_VALUES = word keywords.Begin ∷ Action no_values ∷ Nonterminal VALUES ∷ word keywords.End ∷ []
+
+-- the updates if there is no reset, from `else` to `end`
+abbrev pub OTHERS : List Sym
+OTHERS = word keywords.Else ∷ word keywords.Begin ∷ Action no_updates ∷ Nonterminal UPDATES ∷ word keywords.End ∷ []
+
+-- the new value of the word of a file
+abbrev pub FILE_VALUE : List Sym
+FILE_VALUE = ID ∷ mark marks.OpenBracket ∷ ID ∷ mark marks.CloseBracket ∷ mark marks.Arrow ∷ ID ∷ mark marks.Semicolon ∷ []
+
+-- the keywords before a port
+abbrev pub INPUT_WIRE : List Sym
+INPUT_WIRE = word keywords.Input ∷ Nonterminal WIRE ∷ []
+
+-- `module`, the name and the clock
+abbrev pub HEAD : List Sym
+HEAD = word keywords.Module ∷ ID ∷ mark marks.OpenParenthesis ∷ word keywords.Input ∷ Nonterminal WIRE ∷ ID ∷ mark marks.Comma ∷ []
+
+-- an input, and the comma after it
+abbrev pub INPUT : List Sym
+INPUT = word keywords.Input ∷ Nonterminal PORT ∷ mark marks.Comma ∷ []
+
+-- an output followed by this punctuator
+abbrev pub OUTPUT : Mark → List Sym
+OUTPUT m = word keywords.Output ∷ Nonterminal PORT ∷ mark m ∷ []
+
+-- the last output, up to the semicolon
+abbrev pub LAST_OUTPUT : List Sym
+LAST_OUTPUT = word keywords.Output ∷ Nonterminal PORT ∷ mark marks.CloseParenthesis ∷ mark marks.Semicolon ∷ []
+
+-- `module` and the name, up to the sample ports
+abbrev pub INPUTS : List Sym
+INPUTS = word keywords.Module ∷ ID ∷ mark marks.OpenParenthesis ∷ word keywords.Input ∷ Nonterminal WIRE ∷ ID ∷ mark marks.Comma ∷ word keywords.Input ∷ Nonterminal WIRE ∷ Nonterminal STALLS ∷ Action no_ports ∷ Nonterminal SAMPLES ∷ []
+
+-- the outputs, up to the semicolon
+abbrev pub OUTPUTS : List Sym
+OUTPUTS = word keywords.Output ∷ Nonterminal PORT ∷ mark marks.Comma ∷ word keywords.Output ∷ Nonterminal PORT ∷ mark marks.Comma ∷ word keywords.Output ∷ Nonterminal PORT ∷ mark marks.CloseParenthesis ∷ mark marks.Semicolon ∷ []
+
+-- the items, and the `initial` block
+abbrev pub LINES : List Sym
+LINES = Action no_items ∷ Nonterminal ITEMS ∷ word keywords.Initial ∷ word keywords.Begin ∷ Action no_inits ∷ Nonterminal INITS ∷ word keywords.End ∷ []
+
+-- the `initial` block, from this keyword to `end`
+abbrev pub STARTS : List Sym
+STARTS = word keywords.Initial ∷ word keywords.Begin ∷ Action no_inits ∷ Nonterminal INITS ∷ word keywords.End ∷ []
+
+-- the clock, up to `begin`
+abbrev pub CLOCK : List Sym
+CLOCK = word keywords.Always ∷ mark marks.At ∷ mark marks.OpenParenthesis ∷ word keywords.Posedge ∷ ID ∷ mark marks.CloseParenthesis ∷ word keywords.Begin ∷ []
+
+-- the block with the updates at the clock edge, up to the end
+abbrev pub EDGE : List Sym
+EDGE = word keywords.Always ∷ mark marks.At ∷ mark marks.OpenParenthesis ∷ word keywords.Posedge ∷ ID ∷ mark marks.CloseParenthesis ∷ word keywords.Begin ∷ Nonterminal BODY ∷ word keywords.End ∷ word keywords.Endmodule ∷ []
+
+-- the last two keywords
+abbrev pub LAST : List Sym
+LAST = word keywords.End ∷ word keywords.Endmodule ∷ []

@@ -1,0 +1,88 @@
+-- Continuing past a name whose driver fits.
+use Rattle.std.proofs.Common.{◌≡◌, ◌∙◌, ℕ, ◌+◌, ◌<◌, List, [], ◌∷◌, length, get_or, drop, Bool, true, false, Option, Some, Result, Err, refl, sym, ap, subst, map}
+use Rattle.std.specs.Prelude.{not, if◌then◌else◌}
+use Rattle.std.proofs.lemmas.List.{drop_more}
+use Rattle.kp_vlog.specs.Occurrences.{Occurrence, Role, gives, uses_wire, starts_reg, starts_word, fills_file, resets_reg, updates_reg, updates_file, is_given}
+use Rattle.kp_vlog.specs.Rules.{Driven, drives, driver_fits, bad_driver}
+use Rattle.kp_vread_rules.specs.inner.Sets.{Adds, AlikeDriven}
+use Rattle.kp_vread_rules.specs.inner.Roles.{role_of}
+use Rattle.kp_vread_rules.specs.inner.Says.{Says}
+use Rattle.kp_vread_rules.specs.declared.fault.Fault.{Fault}
+use Rattle.kp_vread_rules.specs.declared.fault.Fault.TheVariants as faults
+use Rattle.kp_vread_rules.specs.inner.Listed.{occurrence_of}
+use Rattle.kp_vread_rules.specs.declared.names.Occurrence.{Occurrence as Listed}
+use Rattle.kp_vread_rules.proofs.Turns.{alike_itself, alike_added, one_more}
+
+pub as_before : (d : Driven) → AlikeDriven d d
+as_before d = record {
+  given = alike_itself d.given;
+  started = alike_itself d.started;
+  filled = alike_itself d.filled;
+  reset = alike_itself d.reset;
+  updated = alike_itself d.updated;
+  written = alike_itself d.written;
+}
+
+module _ (d : Driven) (names : List (List ℕ)) (n : List ℕ) where
+  pub given_more : Adds d.given names n → AlikeDriven (record d { given = names }) (record d { given = n ∷ d.given })
+  given_more a = record { given = alike_added d.given names n a; started = alike_itself d.started; filled = alike_itself d.filled; reset = alike_itself d.reset; updated = alike_itself d.updated; written = alike_itself d.written }
+
+  pub started_more : Adds d.started names n → AlikeDriven (record d { started = names }) (record d { started = n ∷ d.started })
+  started_more a = record { given = alike_itself d.given; started = alike_added d.started names n a; filled = alike_itself d.filled; reset = alike_itself d.reset; updated = alike_itself d.updated; written = alike_itself d.written }
+
+  pub filled_more : Adds d.filled names n → AlikeDriven (record d { filled = names }) (record d { filled = n ∷ d.filled })
+  filled_more a = record { given = alike_itself d.given; started = alike_itself d.started; filled = alike_added d.filled names n a; reset = alike_itself d.reset; updated = alike_itself d.updated; written = alike_itself d.written }
+
+  pub reset_more : Adds d.reset names n → AlikeDriven (record d { reset = names }) (record d { reset = n ∷ d.reset })
+  reset_more a = record { given = alike_itself d.given; started = alike_itself d.started; filled = alike_itself d.filled; reset = alike_added d.reset names n a; updated = alike_itself d.updated; written = alike_itself d.written }
+
+  pub updated_more : Adds d.updated names n → AlikeDriven (record d { updated = names }) (record d { updated = n ∷ d.updated })
+  updated_more a = record { given = alike_itself d.given; started = alike_itself d.started; filled = alike_itself d.filled; reset = alike_itself d.reset; updated = alike_added d.updated names n a; written = alike_itself d.written }
+
+  pub written_more : Adds d.written names n → AlikeDriven (record d { written = names }) (record d { written = n ∷ d.written })
+  written_more a = record { given = alike_itself d.given; started = alike_itself d.started; filled = alike_itself d.filled; reset = alike_itself d.reset; updated = alike_itself d.updated; written = alike_added d.written names n a }
+
+module _ (resets : Bool) (all : Driven) where
+  same_fit : (d e : Driven) (r : Role) (n : List ℕ) → AlikeDriven d e → driver_fits resets all d r n ≡ driver_fits resets all e r n
+  same_fit d e gives n a = ap not (a.given.same_names n)
+  same_fit d e uses_wire n a = a.given.same_names n
+  same_fit d e starts_reg n a = ap not (a.started.same_names n)
+  same_fit d e starts_word n a = a.filled.same_names n
+  same_fit d e fills_file n a = ap not (a.filled.same_names n)
+  same_fit d e resets_reg n a = ap not (a.reset.same_names n)
+  same_fit d e updates_reg n a = ap not (a.updated.same_names n)
+  same_fit d e updates_file n a = ap not (a.written.same_names n)
+  same_fit d e _ n a = refl
+
+  pub same_drives : (d e : Driven) (r : Role) (n : List ℕ) → AlikeDriven d e → AlikeDriven (drives d r n) (drives e r n)
+  same_drives d e is_given n a = record { given = one_more d.given e.given n a.given; started = a.started; filled = a.filled; reset = a.reset; updated = a.updated; written = a.written }
+  same_drives d e starts_reg n a = record { given = a.given; started = one_more d.started e.started n a.started; filled = a.filled; reset = a.reset; updated = a.updated; written = a.written }
+  same_drives d e fills_file n a = record { given = a.given; started = a.started; filled = one_more d.filled e.filled n a.filled; reset = a.reset; updated = a.updated; written = a.written }
+  same_drives d e resets_reg n a = record { given = a.given; started = a.started; filled = a.filled; reset = one_more d.reset e.reset n a.reset; updated = a.updated; written = a.written }
+  same_drives d e updates_reg n a = record { given = a.given; started = a.started; filled = a.filled; reset = a.reset; updated = one_more d.updated e.updated n a.updated; written = a.written }
+  same_drives d e updates_file n a = record { given = a.given; started = a.started; filled = a.filled; reset = a.reset; updated = a.updated; written = one_more d.written e.written n a.written }
+  same_drives d e _ n a = a
+
+  same_bad : (d e : Driven) (os : List Occurrence) → AlikeDriven d e → bad_driver resets all d os ≡ bad_driver resets all e os
+  same_bad d e [] a = refl
+  same_bad d e (o ∷ os) a =
+      ap (λ b. if b then bad_driver resets all (drives d o.role o.named.name) os else Some o.named.at) (same_fit d e o.role o.named.name a)
+      ∙ ap (λ r. if driver_fits resets all e o.role o.named.name then r else Some o.named.at) (same_bad (drives d o.role o.named.name) (drives e o.role o.named.name) os (same_drives d e o.role o.named.name a))
+
+  when_true : (p : Bool) (x y : Option ℕ) → p ≡ true → x ≡ (if p then x else y)
+  when_true true x y e = refl
+  when_true false x y e = cc
+
+  pub turn : (whole : List Listed) (i : ℕ) (o : Listed) (d e : Driven) (bad : Option ℕ) → i < length whole → o ≡ get_or whole i o
+      → driver_fits resets all d (role_of o.role) o.named.now.name ≡ true → AlikeDriven e (drives d (role_of o.role) o.named.now.name)
+      → bad_driver resets all d (map occurrence_of (drop i whole)) ≡ bad → bad_driver resets all e (map occurrence_of (drop (i + 1) whole)) ≡ bad
+  turn whole i o d e bad h at f a b =
+      let rest = map occurrence_of (drop (i + 1) whole) in
+      same_bad e (drives d (role_of o.role) o.named.now.name) rest a
+      ∙ when_true (driver_fits resets all d (role_of o.role) o.named.now.name) (bad_driver resets all (drives d (role_of o.role) o.named.now.name) rest) (Some o.named.now.at) f
+      ∙ ap (λ x. bad_driver resets all d (occurrence_of x ∷ rest)) at
+      ∙ ap (λ xs. bad_driver resets all d (map occurrence_of xs)) (sym (drop_more whole i o h)) ∙ b
+
+-- out of memory, nothing is claimed
+pub says_nothing : {T : Type 0} (r : Result T Fault) (broken : Option ℕ) → r ≡ Err faults.NoMemory → Says r broken
+says_nothing {T} r broken e = subst (λ (x : Result T Fault). Says x broken) (sym e) tt

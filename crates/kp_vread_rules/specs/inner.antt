@@ -1,0 +1,7 @@
+-- For private contracts and proofs of this crate only: no public clause depends on it.
+pub mod Sets
+pub mod Roles
+pub mod Listed
+pub mod Says
+pub mod Starting
+pub mod Refusing

@@ -1,0 +1,50 @@
+// Names that are looked up in about constant time.
+ghost use Rattle.std.specs.Prelude.{◌≡◌, [], OnOk};
+ghost use Rattle.kp_net.specs.Names.{among};
+ghost use Rattle.kp_vread_rules.specs.inner.Sets.{Adds};
+
+use indexmap::IndexSet;
+use kp_base::NoMemory;
+use kp_net::{Key, Label};
+use std::alloc::Global;
+use std::marker::Model;
+
+/// Names that are looked up in about constant time. Contracts see the list of them.
+#[derive(Drop)]
+pub(crate) struct NameSet<'m> {
+    names: IndexSet<Key<'m>>,
+}
+
+impl<'m> Model for NameSet<'m> {
+    ghost use Rattle.std.specs.Prelude.{List, ℕ};
+
+    ghost Value = { List (List ℕ) };
+
+    ghost view = { λ s. s.names.keys };
+}
+
+impl<'m> NameSet<'m> {
+    /// No names.
+    pub fn new(alloc: Global) -> NameSet<'m>
+        ensures { result ≡ [] }
+    {
+        NameSet {
+            names: IndexSet::new(alloc),
+        }
+    }
+
+    /// Whether a name is among them.
+    pub fn has(&self, name: &'m Label) -> bool
+        ensures { result ≡ among self.now name.now }
+    {
+        self.names.contains(&Key::new(name))
+    }
+
+    /// Adds a name, which may be present already. The only error is out of memory.
+    pub fn add(&mut self, name: &'m Label) -> Result<(), NoMemory>
+        ensures { OnOk result (Adds self.old self.new name.now) }
+    {
+        self.names.insert(Key::new(name))?;
+        Ok(())
+    }
+}

@@ -1,0 +1,109 @@
+-- A first module ends at one offset.
+use Rattle.std.proofs.Common.{ℕ, zero, suc, Bool, true, false, ◌+◌, ◌≤◌, ◌<◌, ◌≡◌, ◌∙◌, List, length, length-drop, drop, refl, sym, ap, subst, arith}
+use Rattle.std.proofs.lemmas.Bool.{false≢true}
+use Rattle.kp_vlog.specs.declared.front.Front.{Front as Told}
+use Rattle.kp_vlog.specs.declared.front.Front.TheVariants as told
+use Rattle.kp_vlog.specs.declared.token.Keyword.{Keyword}
+use Rattle.kp_vlog.specs.Tokens.{Word, keyword, Front, front, finish, skips, takes, broken}
+use Rattle.kp_vlog.specs.inner.Kinds.{front_of}
+use Rattle.kp_vlog.specs.Fronts.{seen, Fits}
+use Rattle.kp_vlog.proofs.Fronts.{seen_front, fits_front}
+use Rattle.kp_vlog.proofs.Unique.{length_in, word_in, apart, finish_skips, finish_takes, skips_takes, skips_broken, takes_broken}
+use Rattle.kp_vread_split.specs.inner.Leads.{closes_module, is_endmodule}
+use Rattle.kp_vread_split.specs.Splitting.{FirstEnds, closes, over, faulty, past_gap, past_token}
+
+-- whether a token is the keyword
+keyword_is : (k : Keyword) → closes_module k ≡ true → k ≡ Keyword.Endmodule
+keyword_is Keyword.Endmodule e = refl
+keyword_is k e = absurd (false≢true e)
+
+pub endmodule_is : (w : Word) → is_endmodule w ≡ true → w ≡ keyword Keyword.Endmodule
+endmodule_is (keyword k) e = ap (λ (j : Keyword). keyword j) (keyword_is k e)
+endmodule_is w e = absurd (false≢true e)
+
+pub endmodule_not : (w : Word) → is_endmodule w ≡ false → w ≡ keyword Keyword.Endmodule → ⊥
+endmodule_not w e f = false≢true (sym e ∙ ap is_endmodule f)
+
+-- the front is no longer than the text
+abbrev pub IsWithin : ℕ → Front → Type 0
+IsWithin len finish = Unit {0}
+IsWithin len (skips n) = (0 < n) × (n ≤ len)
+IsWithin len (takes w n) = (0 < n) × (n ≤ len)
+IsWithin len broken = Unit {0}
+
+seen_within : (text : List ℕ) (t : Told) → Fits (length text) t → IsWithin (length text) (seen text t)
+seen_within text told.End h = tt
+seen_within text (told.Skip n) h = h
+seen_within text (told.Token k n) h = h
+seen_within text told.Broken h = tt
+
+pub front_within : (text : List ℕ) → IsWithin (length text) (front text)
+front_within text = subst (IsWithin (length text)) (seen_front text) (seen_within text (front_of text) (fits_front text))
+
+pub one_end : {at : ℕ} {text : List ℕ} {a b : ℕ} → FirstEnds at text a → FirstEnds at text b → a ≡ b
+one_end {at = at} (closes n e) (closes m f) = ap (λ (i : ℕ). at + i) (ap length_in (sym e ∙ f))
+one_end {text = text} (closes n e) (over f) = apart (front text) finish _ f e (finish_takes _ n)
+one_end {text = text} (closes n e) (faulty f) = apart (front text) _ broken e f (takes_broken _ n)
+one_end {text = text} (closes n e) (past_gap m f l) = apart (front text) (skips m) _ f e (skips_takes m _ n)
+one_end {text = text} (closes n e) (past_token w m f never l) = absurd (never (ap word_in (sym f ∙ e)))
+one_end {text = text} (over e) (closes n f) = apart (front text) finish _ e f (finish_takes _ n)
+one_end (over e) (over f) = refl
+one_end {text = text} (over e) (faulty f) = refl
+one_end {text = text} (over e) (past_gap n f l) = apart (front text) finish (skips n) e f (finish_skips n)
+one_end {text = text} (over e) (past_token w n f never l) = apart (front text) finish (takes w n) e f (finish_takes w n)
+one_end {text = text} (faulty e) (closes n f) = apart (front text) _ broken f e (takes_broken _ n)
+one_end (faulty e) (over f) = refl
+one_end (faulty e) (faulty f) = refl
+one_end {text = text} (faulty e) (past_gap n f l) = apart (front text) (skips n) broken f e (skips_broken n)
+one_end {text = text} (faulty e) (past_token w n f never l) = apart (front text) (takes w n) broken f e (takes_broken w n)
+one_end {text = text} (past_gap n e k) (closes m f) = apart (front text) (skips n) _ e f (skips_takes n _ m)
+one_end {text = text} (past_gap n e k) (over f) = apart (front text) finish (skips n) f e (finish_skips n)
+one_end {text = text} (past_gap n e k) (faulty f) = apart (front text) (skips n) broken e f (skips_broken n)
+one_end {at = at} {text = text} {b = b} (past_gap n e k) (past_gap n' f l) =
+    let z : n' ≡ n = ap length_in (sym f ∙ e) in one_end k (subst (λ (i : ℕ). FirstEnds (at + i) (drop i text) b) z l)
+one_end {text = text} (past_gap n e k) (past_token w m f never l) = apart (front text) (skips n) (takes w m) e f (skips_takes n w m)
+one_end {text = text} (past_token w n e never k) (closes m f) = absurd (never (ap word_in (sym e ∙ f)))
+one_end {text = text} (past_token w n e never k) (over f) = apart (front text) finish (takes w n) f e (finish_takes w n)
+one_end {text = text} (past_token w n e never k) (faulty f) = apart (front text) (takes w n) broken e f (takes_broken w n)
+one_end {text = text} (past_token w n e never k) (past_gap m f l) = apart (front text) (skips m) (takes w n) f e (skips_takes m w n)
+one_end {at = at} {text = text} {b = b} (past_token w n e never k) (past_token w' n' f never' l) =
+    let z : n' ≡ n = ap length_in (sym f ∙ e) in one_end k (subst (λ (i : ℕ). FirstEnds (at + i) (drop i text) b) z l)
+
+-- and the end is within the text
+pub ends_after : {at : ℕ} {text : List ℕ} {to : ℕ} → FirstEnds at text to → at ≤ to
+ends_after (closes n e) = omega arith
+ends_after (over e) = omega arith
+ends_after (faulty e) = omega arith
+ends_after (past_gap n e l) = let h = ends_after l in omega arith
+ends_after (past_token w n e never l) = let h = ends_after l in omega arith
+
+pub skips_fit : (text : List ℕ) (n : ℕ) → front text ≡ skips n → (0 < n) × (n ≤ length text)
+skips_fit text n e = subst (IsWithin (length text)) e (front_within text)
+
+pub takes_fit : (text : List ℕ) (w : Word) (n : ℕ) → front text ≡ takes w n → (0 < n) × (n ≤ length text)
+takes_fit text w n e = subst (IsWithin (length text)) e (front_within text)
+
+pub ends_within : {at : ℕ} {text : List ℕ} {to : ℕ} → FirstEnds at text to → to ≤ at + length text
+ends_within {text = text} (closes n e) = let f = (takes_fit text _ n e).1 in omega arith
+ends_within (over e) = omega arith
+ends_within (faulty e) = omega arith
+ends_within {text = text} (past_gap n e l) = let h = ends_within l in let f = (skips_fit text n e).1 in omega (arith, length-drop n text)
+ends_within {text = text} (past_token w n e never l) = let h = ends_within l in let f = (takes_fit text w n e).1 in omega (arith, length-drop n text)
+
+-- and every text has one
+abbrev pub SomeEnd : ℕ → List ℕ → Type 0
+SomeEnd at text = (to : ℕ) × FirstEnds at text to
+
+by_token : (at : ℕ) (text : List ℕ) (w : Word) (n : ℕ) → front text ≡ takes w n → SomeEnd (at + n) (drop n text) → (b : Bool) → is_endmodule w ≡ b → SomeEnd at text
+by_token at text w n e l true is = (at + n, closes n (e ∙ ap (λ (v : Word). takes v n) (endmodule_is w is)))
+by_token at text w n e l false is = (l.0, past_token w n e (endmodule_not w is) l.1)
+
+by_front : (at : ℕ) (text : List ℕ) (f : Front) → front text ≡ f → ((n : ℕ) → 0 < n → n ≤ length text → SomeEnd (at + n) (drop n text)) → SomeEnd at text
+by_front at text finish e rest = (at + length text, over e)
+by_front at text broken e rest = (at + length text, faulty e)
+by_front at text (skips n) e rest = let w = skips_fit text n e in let l = rest n w.0 w.1 in (l.0, past_gap n e l.1)
+by_front at text (takes w n) e rest = let f = takes_fit text w n e in by_token at text w n e (rest n f.0 f.1) (is_endmodule w) refl
+
+pub some_end : (fuel at : ℕ) (text : List ℕ) → length text ≤ fuel → SomeEnd at text
+some_end zero at text h = by_front at text (front text) refl (λ n l w. absurd (omega (arith, h, l, w)))
+some_end (suc fuel) at text h = by_front at text (front text) refl (λ n l w. some_end fuel (at + n) (drop n text) (omega (arith, h, l, w, length-drop n text)))

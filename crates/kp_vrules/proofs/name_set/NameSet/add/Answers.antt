@@ -1,7 +1,0 @@
-use Rattle.std.proofs.Common.{subst}
-use Rattle.kp_vrules.specs.inner.Sets.{Adds}
-use Rattle.kp_vrules.proofs.Sets.{adds}
-use Rattle.kp_vrules.proofs.name_set.NameSet.add.Goals as goal
-
-pub returns : goal.returns
-returns c = subst (λ ks. Adds c.args.self.now ks c.args.name.now) (cc (c.in_ok-insert.ensures.keys, c.new.ensures, c.self.view_is)) (adds c.args.self.now c.args.name.now)

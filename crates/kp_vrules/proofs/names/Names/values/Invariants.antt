@@ -1,7 +1,0 @@
-use Rattle.std.proofs.Common.{◌≡◌, ◌++◌, drop}
-use Rattle.kp_vwidths.specs.Tables.{found}
-use Rattle.kp_vrules.specs.inner.Starting.{values_by}
-use Rattle.kp_vrules.proofs.names.Names.values.Given as goal
-
-abbrev pub invariant-loop-value : goal.invariant-loop-value
-invariant-loop-value l = l.self ++ values_by (found l.starts) (drop l.value-index l.values) ≡ l.initial.self ++ values_by (found l.starts) l.values

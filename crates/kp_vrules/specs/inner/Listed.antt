@@ -1,7 +1,0 @@
--- What an occurrence in the reader's list stands for.
-use Rattle.kp_vlog.specs.Occurrences.{Occurrence}
-use Rattle.kp_vrules.specs.declared.names.Occurrence.{Occurrence as Listed}
-use Rattle.kp_vrules.specs.inner.Roles.{role_of}
-
-abbrev pub occurrence_of : Listed → Occurrence
-occurrence_of o = record { role = role_of o.role; named = o.named.now }

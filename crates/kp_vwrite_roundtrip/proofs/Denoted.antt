@@ -1,0 +1,369 @@
+-- A module that represents a netlist denotes it: its nodes, and all its parts.
+use Rattle.std.proofs.Common.{◌≡◌, ◌∙◌, ℕ, suc, ◌+◌, ◌-◌, ◌^◌, ◌≤◌, ◌<◌, List, [], ◌∷◌, ◌++◌, length, get_or, map, Bool, true, false, Option, Some, None, refl, sym, ap, arith, append_assoc, append-nil}
+use Rattle.std.specs.Prelude.{codes, All, fold, replicate, ◌==◌}
+use Rattle.std.specs.Option.{is_some}
+use Rattle.std.proofs.lemmas.List.Sums.{fold-append}
+use Rattle.std.proofs.lemmas.List.Elements.{All-nil, All-cons, All-head, All-tail, All-get_or}
+use Rattle.kp_bits.specs.Word.{word}
+use Rattle.kp_bits.specs.Word as bits
+use Rattle.kp_net.specs.declared.node.NodeId.{NodeId}
+use Rattle.kp_net.specs.declared.node.Kind.{Kind}
+use Rattle.kp_net.specs.declared.node.Kind.TheVariants as kinds
+use Rattle.kp_net.specs.declared.node.Node.{Node}
+use Rattle.kp_net.specs.declared.netlist.Port.{Port}
+use Rattle.kp_net.specs.declared.netlist.WritePort.{WritePort}
+use Rattle.kp_net.specs.declared.netlist.NetReg.{NetReg}
+use Rattle.kp_net.specs.declared.netlist.NetFile.{NetFile}
+use Rattle.kp_net.specs.declared.netlist.Parts.{Parts}
+use Rattle.kp_net.specs.Names.{same, IsNamed, is_reg_name, is_file_name, is_sample_name, IsSpelled}
+use Rattle.kp_net.specs.Netlist.{Net}
+use Rattle.kp_net.specs.Parts.{no_port, no_reg, no_file, WriteOk, PortOk, CellOk, NetOk}
+use Rattle.kp_net.specs.Widths.{wide, KindOk}
+use Rattle.kp_vlog.specs.declared.tree.Range.{Range}
+use Rattle.kp_vlog.specs.declared.tree.Named.{Named}
+use Rattle.kp_vlog.specs.declared.tree.VPort.{VPort}
+use Rattle.kp_vlog.specs.declared.tree.Right.{Right}
+use Rattle.kp_vlog.specs.declared.tree.Right.TheVariants as sides
+use Rattle.kp_vlog.specs.declared.tree.Item.{Item}
+use Rattle.kp_vlog.specs.declared.tree.Item.TheVariants as lines
+use Rattle.kp_vlog.specs.declared.tree.ResetList.{ResetList}
+use Rattle.kp_vlog.specs.declared.tree.VModule.{VModule}
+use Rattle.kp_vlog.specs.Canon.{wire, wire_name}
+use Rattle.kp_vlog.specs.Scope.{Scope, scope_of, Sized, Sizes, sizes_of, item_sizes, port_size, width_in, address_in, width_of, place_of, reg_names, file_names}
+use Rattle.kp_vlog.specs.Denote.{node_of, source_of, kind_of, Made, with_item, made_by, output_of, start_of, next_of, word_init, words_of, port_of, regs_of, files_of, sample_of, parts_of, net_of}
+use Rattle.kp_vwrite_roundtrip.proofs.Distinct.{not_true, when_true, when_false, apart, tag, tag_reg, tag_file, tag_sample, tag_wire, place_at, wires_to, wire_place}
+use Rattle.kp_vwrite_roundtrip.proofs.Sentence.{IsShown, named_at, number_at, range_at, port_at, out_at, ShowsNames, no_name, a_name, ShowsRight, a_const, an_ext, a_sample, a_reg, a_word, a_not, a_binary, a_mux, a_concat, a_slice, ShowsSamples, no_sample, one_sample, ShowsRegs, no_reg_line, reg_line, ShowsFiles, no_file_line, file_line, ShowsInteger, no_integer, an_integer, ShowsNodes, no_node_line, node_line, ShowsReset, no_reset_shown, reset_shown}
+use Rattle.kp_vwrite_roundtrip.proofs.Written.{RightFrom, all_right}
+use Rattle.kp_vwrite_roundtrip.proofs.SameNet.{words_are, starts_skipped, starts_are, nexts_are, updates_skipped, ported, ports_are, found, width_found, address_found, found_past, sizes_append, sized, samples_past, regs_past, files_past, integer_past, files_sized, WidthsAre, nodes_sized}
+use Rattle.std.proofs.lemmas.List.Elements.{All-weaker}
+
+-- Look-ups skip lines about other parts.
+
+pub past_regs : {A : Type 0} (g : List Item → A) (rs : List NetReg) (xs ys : List Item) → ((r : Range) (n : Named) (zs : List Item) → g (lines.Reg r n ∷ zs) ≡ g zs) → ShowsRegs rs xs → g (xs ++ ys) ≡ g ys
+past_regs g _ _ ys h no_reg_line = refl
+past_regs g _ _ ys h (reg_line {r = r} {rs = rs} {xs = xs} a b c k) = h (range_at r.start.width a b) (named_at r.name c) (xs ++ ys) ∙ past_regs g rs xs ys h k
+
+pub past_files : {A : Type 0} (g : List Item → A) (fs : List NetFile) (xs ys : List Item) → ((r : Range) (n : Named) (w : Range) (zs : List Item) → g (lines.File r n w ∷ zs) ≡ g zs) → ShowsFiles fs xs → g (xs ++ ys) ≡ g ys
+past_files g _ _ ys h no_file_line = refl
+past_files g _ _ ys h (file_line {f = f} {fs = fs} {xs = xs} a b c d e k) =
+    h (range_at f.width a b) (named_at f.name c) (record { high = number_at 0 d; low = number_at (2 ^ f.address_width - 1) e }) (xs ++ ys) ∙ past_files g fs xs ys h k
+
+pub past_integer : {A : Type 0} (g : List Item → A) (fs : List NetFile) (xs ys : List Item) → ((n : Named) (zs : List Item) → g (lines.Integer n ∷ zs) ≡ g zs) → ShowsInteger fs xs → g (xs ++ ys) ≡ g ys
+past_integer g _ _ ys h no_integer = refl
+past_integer g _ _ ys h (an_integer a) = h (named_at (codes "i") a) ys
+
+past_nodes : {A : Type 0} (g : List Item → A) (p : Parts) (j : ℕ) (ns : List Node) (xs ys : List Item) → ((r : Range) (n : Named) (zs : List Item) → g (lines.Wire r n ∷ zs) ≡ g zs)
+    → ((i at : ℕ) (r : Right) (zs : List Item) → g (lines.Assign (named_at (wire_name i) at) r ∷ zs) ≡ g zs) → ShowsNodes p j ns xs → g (xs ++ ys) ≡ g ys
+past_nodes g p j _ _ ys h k no_node_line = refl
+past_nodes g p j _ _ ys h k (node_line {n = n} {ns = ns} {r = r} {xs = xs} a b c d shows rest) =
+    h (range_at n.width a b) (named_at (wire_name j) c) (lines.Assign (named_at (wire_name j) d) r ∷ (xs ++ ys)) ∙ k j d r (xs ++ ys) ∙ past_nodes g p (j + 1) ns xs ys h k rest
+
+-- all lines of declarations and nodes are skipped
+past_all : {A : Type 0} (g : List Item → A) (net : Net) (m : VModule) (s : IsShown net m) (ys : List Item)
+    → ((r : Range) (n : Named) (w : Range) (zs : List Item) → g (lines.File r n w ∷ zs) ≡ g zs) → ((n : Named) (zs : List Item) → g (lines.Integer n ∷ zs) ≡ g zs)
+    → ((r : Range) (n : Named) (zs : List Item) → g (lines.Wire r n ∷ zs) ≡ g zs) → ((i at : ℕ) (r : Right) (zs : List Item) → g (lines.Assign (named_at (wire_name i) at) r ∷ zs) ≡ g zs)
+    → g (s.files ++ (s.integer ++ (s.nodes ++ ys))) ≡ g ys
+past_all g net m s ys f i w a =
+    past_files g net.parts.files s.files (s.integer ++ (s.nodes ++ ys)) f s.shows_files
+    ∙ past_integer g net.parts.files s.integer (s.nodes ++ ys) i s.shows_integer
+    ∙ past_nodes g net.parts 0 net.nodes s.nodes ys w a s.shows_nodes
+
+abbrev pub outs : {net : Net} {m : VModule} → IsShown net m → List Item
+outs {net} s = out_at (codes "full") net.parts.full (s.q 0) (s.q 1) ∷ out_at (codes "ue") net.parts.ue (s.q 2) (s.q 3) ∷ out_at (codes "back") net.parts.back (s.q 4) (s.q 5) ∷ []
+
+-- Names of registers and files, in the order of declaration.
+
+reg_names_more : (rs : List NetReg) (xs ys : List Item) → ShowsRegs rs xs → reg_names (xs ++ ys) ≡ map (λ r. r.name) rs ++ reg_names ys
+reg_names_more _ _ ys no_reg_line = refl
+reg_names_more _ _ ys (reg_line {r = r} {rs = rs} {xs = xs} a b c k) = ap (λ (t : List (List ℕ)). r.name ∷ t) (reg_names_more rs xs ys k)
+
+file_names_more : (fs : List NetFile) (xs ys : List Item) → ShowsFiles fs xs → file_names (xs ++ ys) ≡ map (λ f. f.name) fs ++ file_names ys
+file_names_more _ _ ys no_file_line = refl
+file_names_more _ _ ys (file_line {f = f} {fs = fs} {xs = xs} a b c d e k) = ap (λ (t : List (List ℕ)). f.name ∷ t) (file_names_more fs xs ys k)
+
+reg_names_are : (net : Net) (m : VModule) (s : IsShown net m) → reg_names m.items ≡ map (λ r. r.name) net.parts.regs
+reg_names_are net m s =
+    ap reg_names s.items ∙ reg_names_more net.parts.regs s.regs (s.files ++ (s.integer ++ (s.nodes ++ outs s))) s.shows_regs
+    ∙ ap (λ t. map (λ r. r.name) net.parts.regs ++ t) (past_all reg_names net m s (outs s) (λ r n w zs. refl) (λ n zs. refl) (λ r n zs. refl) (λ i at r zs. refl))
+    ∙ append-nil (map (λ r. r.name) net.parts.regs)
+
+file_names_are : (net : Net) (m : VModule) (s : IsShown net m) → file_names m.items ≡ map (λ f. f.name) net.parts.files
+file_names_are net m s =
+    ap file_names s.items ∙ past_regs file_names net.parts.regs s.regs (s.files ++ (s.integer ++ (s.nodes ++ outs s))) (λ r n zs. refl) s.shows_regs
+    ∙ file_names_more net.parts.files s.files (s.integer ++ (s.nodes ++ outs s)) s.shows_files
+    ∙ ap (λ t. map (λ f. f.name) net.parts.files ++ t) (past_integer file_names net.parts.files s.integer (s.nodes ++ outs s) (λ n zs. refl) s.shows_integer
+    ∙ past_nodes file_names net.parts 0 net.nodes s.nodes (outs s) (λ r n zs. refl) (λ i at r zs. refl) s.shows_nodes)
+    ∙ append-nil (map (λ f. f.name) net.parts.files)
+
+sample_names_are : (ss : List Port) (xs : List VPort) → ShowsSamples ss xs → map (λ p. p.port.name) xs ≡ map (λ s. s.name) ss
+sample_names_are _ _ no_sample = refl
+sample_names_are _ _ (one_sample {s = s} {ss = ss} {xs = xs} a b c k) = ap (λ (t : List (List ℕ)). s.name ∷ t) (sample_names_are ss xs k)
+
+-- Nodes.
+
+-- the parts according to a scope
+pub record Scoped (net : Net) (s : Scope) : Type 0 where
+  pub samples : s.samples ≡ map (λ s. s.name) net.parts.samples
+  pub regs : s.regs ≡ map (λ r. r.name) net.parts.regs
+  pub files : s.files ≡ map (λ f. f.name) net.parts.files
+
+pub spelled : {X : Type 0} (test : List ℕ → Bool) (f : X → List ℕ) (xs : List X) → All (IsSpelled test) (map f xs) → All (λ x. test (f x) ≡ true) xs
+spelled test f [] h = All-nil (λ x. test (f x) ≡ true)
+spelled test f (x ∷ xs) h = All-cons (λ x. test (f x) ≡ true) x xs (All-head (IsSpelled test) (f x) (map f xs) h).kind (spelled test f xs (All-tail (IsSpelled test) (f x) (map f xs) h))
+
+node_is : (j : ℕ) (a : NodeId) (at : ℕ) → a.0 < j → j ≤ 16777216 → node_of (wires_to j) (named_at (wire a) at) ≡ a
+node_is j a at h few = ap (λ (k : ℕ). record { 0 = k }) (wire_place j a.0 h few)
+
+concat_is : (j : ℕ) (parts : List NodeId) (xs : List Named) → ShowsNames parts xs → All (λ a. a.0 < j) parts → j ≤ 16777216 → map (node_of (wires_to j)) xs ≡ parts
+concat_is j _ _ no_name h few = refl
+concat_is j _ _ (a_name {a = a} {parts = parts} {xs = xs} at k) h few =
+    ap (λ (b : NodeId). b ∷ map (node_of (wires_to j)) xs) (node_is j a at (All-head (λ a. a.0 < j) a parts h) few) ∙ ap (λ (bs : List NodeId). a ∷ bs) (concat_is j parts xs k (All-tail (λ a. a.0 < j) a parts h) few)
+
+source_sample : (s : Scope) (n : List ℕ) → is_sample_name n ≡ true → source_of s n ≡ kinds.Sample (place_of s.samples n)
+source_sample s n h =
+    when_false (same n (codes "ext")) kinds.Ext _ (apart n (codes "ext") 1115 101 (tag_sample n h) refl refl)
+    ∙ when_true (is_sample_name n) (kinds.Sample (place_of s.samples n)) (kinds.Reg (place_of s.regs n)) h
+
+source_reg : (s : Scope) (n : List ℕ) → is_reg_name n ≡ true → source_of s n ≡ kinds.Reg (place_of s.regs n)
+source_reg s n h =
+    when_false (same n (codes "ext")) kinds.Ext _ (apart n (codes "ext") 1114 101 (tag_reg n h) refl refl)
+    ∙ when_false (is_sample_name n) (kinds.Sample (place_of s.samples n)) (kinds.Reg (place_of s.regs n)) (not_true (is_sample_name n) (λ k. let e : 1114 ≡ 1115 = sym (tag_reg n h) ∙ tag_sample n k in omega arith))
+
+kind_is : (net : Net) (named : IsNamed net) (s : Scope) (j k : ℕ) (kind : Kind) (r : Right) → Scoped net s → j ≤ 16777216 → ShowsRight net.parts k kind r → KindOk net.nodes j k kind → CellOk net.nodes net.parts k kind
+    → kind_of s (wires_to j) r ≡ kind
+kind_is net named s j k _ _ sc few (a_const a) ok cell = refl
+kind_is net named s j k _ _ sc few (an_ext a) ok cell = refl
+kind_is net named s j k _ _ sc few (a_sample {i = i} a) ok cell =
+    let n = (get_or net.parts.samples i no_port).name in
+    source_sample s n (All-get_or (λ x. is_sample_name x.name ≡ true) net.parts.samples i no_port cell.0 (spelled is_sample_name (λ x. x.name) net.parts.samples named.samples))
+    ∙ ap (λ ns. kinds.Sample (place_of ns n)) sc.samples ∙ ap (λ (m : ℕ). kinds.Sample m) (place_at (λ x. x.name) net.parts.samples i no_port named.samples_differ cell.0)
+kind_is net named s j k _ _ sc few (a_reg {i = i} a) ok cell =
+    let n = (get_or net.parts.regs i no_reg).name in
+    source_reg s n (All-get_or (λ x. is_reg_name x.name ≡ true) net.parts.regs i no_reg cell.0 (spelled is_reg_name (λ x. x.name) net.parts.regs named.regs))
+    ∙ ap (λ ns. kinds.Reg (place_of ns n)) sc.regs ∙ ap (λ (m : ℕ). kinds.Reg m) (place_at (λ x. x.name) net.parts.regs i no_reg named.regs_differ cell.0)
+kind_is net named s j k _ _ sc few (a_word {i = i} {n = n} a b) ok cell =
+    let f = (get_or net.parts.files i no_file).name in
+    ap (λ ns. kinds.Word (place_of ns f) (node_of (wires_to j) (named_at (wire n) b))) sc.files
+    ∙ ap (λ (m : ℕ). kinds.Word m (node_of (wires_to j) (named_at (wire n) b))) (place_at (λ x. x.name) net.parts.files i no_file named.files_differ cell.0)
+    ∙ ap (λ (x : NodeId). kinds.Word i x) (node_is j n b ok few)
+kind_is net named s j k _ _ sc few (a_not {n = n} a) ok cell = ap (λ (x : NodeId). kinds.Not x) (node_is j n a ok.0 few)
+kind_is net named s j k _ _ sc few (a_binary {op = op} {n = n} {m = m} a b) ok cell =
+    ap (λ (x : NodeId). kinds.Binary op x (node_of (wires_to j) (named_at (wire m) b))) (node_is j n a ok.0 few) ∙ ap (λ (x : NodeId). kinds.Binary op n x) (node_is j m b ok.1 few)
+kind_is net named s j k _ _ sc few (a_mux {t = t} {n = n} {m = m} a b c) ok cell =
+    ap (λ (x : NodeId). kinds.Mux x (node_of (wires_to j) (named_at (wire n) b)) (node_of (wires_to j) (named_at (wire m) c))) (node_is j t a ok.0 few)
+    ∙ ap (λ (x : NodeId). kinds.Mux t x (node_of (wires_to j) (named_at (wire m) c))) (node_is j n b ok.1 few)
+    ∙ ap (λ (x : NodeId). kinds.Mux t n x) (node_is j m c ok.2 few)
+kind_is net named s j k _ _ sc few (a_concat {parts = parts} {xs = xs} shows) ok cell = ap (λ (ps : List NodeId). kinds.Concat ps) (concat_is j parts xs shows ok.2 few)
+kind_is net named s j k _ _ sc few (a_slice {n = n} {hi = hi} {lo = lo} a b c) ok cell = ap (λ (x : NodeId). kinds.Slice x hi lo) (node_is j n a ok.0 few)
+
+abbrev pub made : List (List ℕ) → List Node → Made
+made wires nodes = record { wires = wires; nodes = nodes }
+
+nodes_made : (net : Net) (named : IsNamed net) (s : Scope) (j : ℕ) (ns done : List Node) (xs : List Item) → Scoped net s → j + length ns ≤ 16777216 → ShowsNodes net.parts j ns xs → RightFrom net j ns → WidthsAre s.sizes j ns
+    → fold (with_item s) (made (wires_to j) done) xs ≡ made (wires_to (j + length ns)) (done ++ ns)
+nodes_made net named s j _ done _ sc few no_node_line k w =
+    ap (λ i. made (wires_to i) done) (let e : j ≡ j + 0 = omega arith in e) ∙ ap (made (wires_to (j + 0))) (sym (append-nil done))
+nodes_made net named s j _ done _ sc few (node_line {n = n} {ns = ns} {r = r} {xs = xs} a b c d shows rest) k w =
+    let kind = kind_is net named s j n.width n.kind r sc (omega arith) shows k.0.kind k.1 in
+    ap (λ (i : ℕ). fold (with_item s) (made (wires_to j ++ wire_name j ∷ []) (done ++ record { width = i; kind = kind_of s (wires_to j) r } ∷ [])) xs) w.0
+    ∙ ap (λ (i : Kind). fold (with_item s) (made (wires_to j ++ wire_name j ∷ []) (done ++ record { width = n.width; kind = i } ∷ [])) xs) kind
+    ∙ ap (λ (i : ℕ). fold (with_item s) (made (wires_to i) (done ++ n ∷ [])) xs) (let e : suc j ≡ j + 1 = omega arith in e)
+    ∙ nodes_made net named s (j + 1) ns (done ++ n ∷ []) xs sc (omega arith) rest k.2 w.1
+    ∙ ap (λ (i : ℕ). made (wires_to i) ((done ++ n ∷ []) ++ ns)) (let e : j + 1 + length ns ≡ j + suc (length ns) = omega arith in e)
+    ∙ ap (made (wires_to (j + suc (length ns)))) (append_assoc done (n ∷ []) ns)
+
+-- The table of the complete module.
+
+pub kinds_of : (test : List ℕ → Bool) (ns : List (List ℕ)) → All (IsSpelled test) ns → All (λ n. test n ≡ true) ns
+kinds_of test ns h = All-weaker (IsSpelled test) (λ n. test n ≡ true) (λ n k. k.kind) ns h
+
+abbrev pub behind_ports : {net : Net} {m : VModule} → IsShown net m → Sizes
+behind_ports s = item_sizes s.regs ++ (item_sizes s.files ++ (item_sizes s.integer ++ (item_sizes s.nodes ++ [])))
+
+items_sized : (net : Net) (m : VModule) (s : IsShown net m) → item_sizes m.items ≡ behind_ports s
+items_sized net m s =
+    ap item_sizes s.items ∙ sizes_append s.regs _
+    ∙ ap (λ t. item_sizes s.regs ++ t) (sizes_append s.files _ ∙ ap (λ t. item_sizes s.files ++ t) (sizes_append s.integer _ ∙ ap (λ t. item_sizes s.integer ++ t) (sizes_append s.nodes (outs s))))
+
+abbrev pub port_part : Net → (ℕ → ℕ) → Sizes → Sizes
+port_part net p rest =
+    port_size (port_at (wide net.nodes net.parts.full.0) (codes "full") (p 5) (p 6) (p 7)) ∷ port_size (port_at (wide net.nodes net.parts.ue.0) (codes "ue") (p 8) (p 9) (p 10))
+    ∷ port_size (port_at (wide net.nodes net.parts.back.0) (codes "back") (p 11) (p 12) (p 13)) ∷ rest
+
+abbrev pub whole_table : {net : Net} {m : VModule} → IsShown net m → Sizes
+whole_table {net} {m} s = port_size (port_at net.parts.ext (codes "ext") (s.p 2) (s.p 3) (s.p 4)) ∷ (map port_size m.samples ++ port_part net s.p (behind_ports s))
+
+pub table_is : (net : Net) (m : VModule) (s : IsShown net m) → sizes_of m ≡ whole_table s
+table_is net m s =
+    ap (λ (x : VPort). port_size x ∷ (map port_size m.samples ++ (port_size m.full ∷ port_size m.ue ∷ port_size m.back ∷ item_sizes m.items))) s.ext
+    ∙ ap (λ (x : VPort). port_size (port_at net.parts.ext (codes "ext") (s.p 2) (s.p 3) (s.p 4)) ∷ (map port_size m.samples ++ (port_size x ∷ port_size m.ue ∷ port_size m.back ∷ item_sizes m.items))) s.full
+    ∙ ap (λ (x : VPort). port_size (port_at net.parts.ext (codes "ext") (s.p 2) (s.p 3) (s.p 4)) ∷ (map port_size m.samples
+    ++ (port_size (port_at (wide net.nodes net.parts.full.0) (codes "full") (s.p 5) (s.p 6) (s.p 7)) ∷ port_size x ∷ port_size m.back ∷ item_sizes m.items))) s.ue
+    ∙ ap (λ (x : VPort). port_size (port_at net.parts.ext (codes "ext") (s.p 2) (s.p 3) (s.p 4)) ∷ (map port_size m.samples
+    ++ (port_size (port_at (wide net.nodes net.parts.full.0) (codes "full") (s.p 5) (s.p 6) (s.p 7)) ∷ port_size (port_at (wide net.nodes net.parts.ue.0) (codes "ue") (s.p 8) (s.p 9) (s.p 10)) ∷ port_size x ∷ item_sizes m.items))) s.back
+    ∙ ap (λ (t : Sizes). port_size (port_at net.parts.ext (codes "ext") (s.p 2) (s.p 3) (s.p 4)) ∷ (map port_size m.samples ++ port_part net s.p t)) (items_sized net m s)
+
+-- a name that is no port's is found after the ports
+pub ports_past : (net : Net) (m : VModule) (s : IsShown net m) (named : IsNamed net) (n : List ℕ) (t : ℕ) → tag n ≡ t → (t == 101) ≡ false → (t == 1115) ≡ false → (t == 102) ≡ false → (t == 117) ≡ false → (t == 98) ≡ false
+    → found (whole_table s) n ≡ found (behind_ports s) n
+ports_past net m s named n t e a b c d f =
+    found_past _ _ n (apart n (codes "ext") t 101 e refl a)
+    ∙ samples_past n t net.parts.samples m.samples _ s.samples (kinds_of is_sample_name _ named.samples) e b
+    ∙ found_past _ _ n (apart n (codes "full") t 102 e refl c) ∙ found_past _ _ n (apart n (codes "ue") t 117 e refl d) ∙ found_past _ _ n (apart n (codes "back") t 98 e refl f)
+
+pub widths_are : (net : Net) (m : VModule) (s : IsShown net m) → NetOk net → IsNamed net → WidthsAre (sizes_of m) 0 net.nodes
+widths_are net m s k named =
+    let few = k.count in
+    nodes_sized net net.parts 0 net.nodes s.nodes (sizes_of m) [] s.shows_nodes (omega arith) (all_right net k) (λ i l h.
+    ap (λ t. found t (wire_name i)) (table_is net m s)
+    ∙ ports_past net m s named (wire_name i) 110 (tag_wire i h) refl refl refl refl refl
+    ∙ regs_past (wire_name i) 110 net.parts.regs s.regs _ s.shows_regs (kinds_of is_reg_name _ named.regs) (tag_wire i h) refl
+    ∙ files_past (wire_name i) 110 net.parts.files s.files _ s.shows_files (kinds_of is_file_name _ named.files) (tag_wire i h) refl
+    ∙ ap (λ t. found (t ++ (item_sizes s.nodes ++ [])) (wire_name i)) (integer_past net.parts.files s.integer s.shows_integer))
+
+pub file_sizes : (net : Net) (m : VModule) (s : IsShown net m) → NetOk net → IsNamed net → All (λ f. found (sizes_of m) f.name ≡ sized f.name f.width f.address_width) net.parts.files
+file_sizes net m s k named i d l =
+    let f = get_or net.parts.files i d in
+    let t = tag_file f.name (spelled is_file_name (λ f. f.name) net.parts.files named.files i d l) in
+    ap (λ z. found z f.name) (table_is net m s)
+    ∙ ports_past net m s named f.name 1102 t refl refl refl refl refl
+    ∙ regs_past f.name 1102 net.parts.regs s.regs _ s.shows_regs (kinds_of is_reg_name _ named.regs) t refl
+    ∙ files_sized net.nodes net.parts.files s.files s.shows_files k.parts.files named.files_differ i d l (item_sizes s.integer ++ (item_sizes s.nodes ++ []))
+
+pub scoped : (net : Net) (m : VModule) (s : IsShown net m) → Scoped net (scope_of m)
+scoped net m s = record { samples = sample_names_are net.parts.samples m.samples s.samples; regs = reg_names_are net m s; files = file_names_are net m s }
+
+-- All nodes.
+
+pub made_is : (net : Net) (m : VModule) (s : IsShown net m) → NetOk net → IsNamed net → made_by (scope_of m) m.items ≡ made (wires_to (length net.nodes)) net.nodes
+made_is net m s k named =
+    let f = with_item (scope_of m) in
+    let few = k.count in
+    ap (λ xs. fold f (made [] []) xs) s.items
+    ∙ past_regs (λ xs. fold f (made [] []) xs) net.parts.regs s.regs (s.files ++ (s.integer ++ (s.nodes ++ outs s))) (λ r n zs. refl) s.shows_regs
+    ∙ past_files (λ xs. fold f (made [] []) xs) net.parts.files s.files (s.integer ++ (s.nodes ++ outs s)) (λ r n w zs. refl) s.shows_files
+    ∙ past_integer (λ xs. fold f (made [] []) xs) net.parts.files s.integer (s.nodes ++ outs s) (λ n zs. refl) s.shows_integer
+    ∙ fold-append f (made [] []) s.nodes (outs s)
+    ∙ ap (λ (x : Made). fold f x (outs s)) (nodes_made net named (scope_of m) 0 net.nodes [] s.nodes (scoped net m s) (omega arith) s.shows_nodes (all_right net k) (widths_are net m s k named))
+    ∙ ap (λ (i : ℕ). made (wires_to i) net.nodes) (let e : 0 + length net.nodes ≡ length net.nodes = omega arith in e)
+
+-- Outputs.
+
+output_past : (wires : List (List ℕ)) (out : List ℕ) (t : Named) (r : Right) (zs : List Item) → same t.name out ≡ false → output_of wires out (lines.Assign t r ∷ zs) ≡ output_of wires out zs
+output_past wires out t (sides.Literal l) zs e = refl
+output_past wires out t (sides.Name n) zs e = when_false (same t.name out) (node_of wires n) (output_of wires out zs) e
+output_past wires out t (sides.Not a) zs e = refl
+output_past wires out t (sides.Binary op a b) zs e = refl
+output_past wires out t (sides.Choice c a b) zs e = refl
+output_past wires out t (sides.Slice a h l) zs e = refl
+output_past wires out t (sides.Word f a) zs e = refl
+output_past wires out t (sides.Concat ps) zs e = refl
+
+output_is : (net : Net) (m : VModule) (s : IsShown net m) (wires : List (List ℕ)) (out : List ℕ) → ((i : ℕ) → same (wire_name i) out ≡ false) → output_of wires out m.items ≡ output_of wires out (outs s)
+output_is net m s wires out e =
+    ap (output_of wires out) s.items ∙ past_regs (output_of wires out) net.parts.regs s.regs (s.files ++ (s.integer ++ (s.nodes ++ outs s))) (λ r n zs. refl) s.shows_regs
+    ∙ past_all (output_of wires out) net m s (outs s) (λ r n w zs. refl) (λ n zs. refl) (λ r n zs. refl) (λ i at r zs. output_past wires out (named_at (wire_name i) at) r zs (e i))
+
+-- Registers.
+
+regs_more : (wires : List (List ℕ)) (m : VModule) (rs : List NetReg) (xs ys : List Item) → ShowsRegs rs xs → All (λ r. start_of m.inits r.name ≡ r.start) rs → All (λ r. next_of wires m.updates r.name ≡ r.next) rs
+    → regs_of wires m (xs ++ ys) ≡ rs ++ regs_of wires m ys
+regs_more wires m _ _ ys no_reg_line a b = refl
+regs_more wires m _ _ ys (reg_line {r = r} {rs = rs} {xs = xs} c d e k) a b =
+    ap (λ (w : bits.Word). record { name = r.name; start = w; next = next_of wires m.updates r.name } ∷ regs_of wires m (xs ++ ys)) (All-head (λ r. start_of m.inits r.name ≡ r.start) r rs a)
+    ∙ ap (λ (n : NodeId). record { name = r.name; start = r.start; next = n } ∷ regs_of wires m (xs ++ ys)) (All-head (λ r. next_of wires m.updates r.name ≡ r.next) r rs b)
+    ∙ ap (λ (t : List NetReg). r ∷ t) (regs_more wires m rs xs ys k (All-tail (λ r. start_of m.inits r.name ≡ r.start) r rs a) (All-tail (λ r. next_of wires m.updates r.name ≡ r.next) r rs b))
+
+regs_are : (net : Net) (m : VModule) (s : IsShown net m) → NetOk net → IsNamed net → regs_of (wires_to (length net.nodes)) m m.items ≡ net.parts.regs
+regs_are net m s k named =
+    let wires = wires_to (length net.nodes) in
+    ap (regs_of wires m) s.items
+    ∙ regs_more wires m net.parts.regs s.regs (s.files ++ (s.integer ++ (s.nodes ++ outs s))) s.shows_regs
+    (λ i d l. ap (λ xs. start_of xs (get_or net.parts.regs i d).name) s.inits ∙ starts_are net.parts.regs s.start_part s.shows_starts named.regs_differ i d l s.fill_part)
+    (λ i d l. let r = get_or net.parts.regs i d in let ok = (k.parts.regs i d l).next in
+    ap (λ xs. next_of wires xs r.name) s.updates ∙ nexts_are wires net.parts.regs s.update_part s.shows_updates named.regs_differ i d l s.write_part
+    ∙ ap (λ (a : ℕ). record { 0 = a }) (wire_place (length net.nodes) r.next.0 ok.0 k.count))
+    ∙ ap (λ t. net.parts.regs ++ t) (past_all (regs_of wires m) net m s (outs s) (λ r n w zs. refl) (λ n zs. refl) (λ r n zs. refl) (λ i at r zs. refl))
+    ∙ append-nil net.parts.regs
+
+-- Files.
+
+port_is : (ns : List Node) (w a : ℕ) (port : Option WritePort) → WriteOk ns w a port → length ns ≤ 16777216 → ported (wires_to (length ns)) port ≡ port
+port_is ns w a None ok few = refl
+port_is ns w a (Some p) ok few =
+    let n = length ns in
+    ap (λ (x : ℕ). Some (record { enable = record { 0 = x }; address = record { 0 = place_of (wires_to n) (wire p.address) }; value = record { 0 = place_of (wires_to n) (wire p.value) } })) (wire_place n p.enable.0 ok.0.0 few)
+    ∙ ap (λ (x : ℕ). Some (record { enable = p.enable; address = record { 0 = x }; value = record { 0 = place_of (wires_to n) (wire p.value) } })) (wire_place n p.address.0 ok.1.0 few)
+    ∙ ap (λ (x : ℕ). Some (record { enable = p.enable; address = p.address; value = record { 0 = x } })) (wire_place n p.value.0 ok.2.0 few)
+
+record IsFile (wires : List (List ℕ)) (m : VModule) (f : NetFile) : Type 0 where
+  pub width : width_in (sizes_of m) f.name ≡ f.width
+  pub address : address_in (sizes_of m) f.name ≡ f.address_width
+  pub words : words_of m.inits (2 ^ address_in (sizes_of m) f.name) f.name ≡ f.words
+  pub port : port_of wires m.updates f.name ≡ f.port
+
+files_more : (wires : List (List ℕ)) (m : VModule) (fs : List NetFile) (xs ys : List Item) → ShowsFiles fs xs → All (IsFile wires m) fs → files_of wires m (xs ++ ys) ≡ fs ++ files_of wires m ys
+files_more wires m _ _ ys no_file_line a = refl
+files_more wires m _ _ ys (file_line {f = f} {fs = fs} {xs = xs} c d e g h k) a =
+    let is = All-head (IsFile wires m) f fs a in
+    let n = f.name in
+    let rest = files_of wires m (xs ++ ys) in
+    ap (λ (w : ℕ). record { name = n; width = w; address_width = address_in (sizes_of m) n; words = words_of m.inits (2 ^ address_in (sizes_of m) n) n; port = port_of wires m.updates n } ∷ rest) is.width
+    ∙ ap (λ (us : List ℕ). record { name = n; width = f.width; address_width = address_in (sizes_of m) n; words = us; port = port_of wires m.updates n } ∷ rest) is.words
+    ∙ ap (λ (w : ℕ). record { name = n; width = f.width; address_width = w; words = f.words; port = port_of wires m.updates n } ∷ rest) is.address
+    ∙ ap (λ (p : Option WritePort). record { name = n; width = f.width; address_width = f.address_width; words = f.words; port = p } ∷ rest) is.port
+    ∙ ap (λ (t : List NetFile). f ∷ t) (files_more wires m fs xs ys k (All-tail (IsFile wires m) f fs a))
+
+files_are : (net : Net) (m : VModule) (s : IsShown net m) → NetOk net → IsNamed net → files_of (wires_to (length net.nodes)) m m.items ≡ net.parts.files
+files_are net m s k named =
+    let wires = wires_to (length net.nodes) in
+    ap (files_of wires m) s.items
+    ∙ past_regs (files_of wires m) net.parts.regs s.regs (s.files ++ (s.integer ++ (s.nodes ++ outs s))) (λ r n zs. refl) s.shows_regs
+    ∙ files_more wires m net.parts.files s.files (s.integer ++ (s.nodes ++ outs s)) s.shows_files (λ i d l.
+    let f = get_or net.parts.files i d in
+    let size = file_sizes net m s k named i d l in
+    let ok = k.parts.files i d l in
+    let address : address_in (sizes_of m) f.name ≡ f.address_width = address_found (sizes_of m) f.name ∙ ap (λ (z : Sized). z.address) size in
+    record {
+      width = width_found (sizes_of m) f.name ∙ ap (λ (z : Sized). z.width) size;
+      address = address;
+      words = ap (λ (c : ℕ). words_of m.inits (2 ^ c) f.name) address ∙ ap (λ (c : ℕ). words_of m.inits c f.name) (sym ok.full)
+          ∙ ap (λ xs. fold (word_init (length f.words) f.name) (replicate (length f.words) 0) xs) s.inits
+          ∙ fold-append (word_init (length f.words) f.name) (replicate (length f.words) 0) s.start_part s.fill_part
+          ∙ ap (λ us. fold (word_init (length f.words) f.name) us s.fill_part) (starts_skipped f.name (length f.words) net.parts.regs s.start_part (replicate (length f.words) 0) s.shows_starts)
+          ∙ words_are net.parts.files s.fill_part s.shows_fills named.files_differ i d l (replicate (length f.words) 0);
+      port = ap (λ xs. port_of wires xs f.name) s.updates ∙ updates_skipped wires f.name net.parts.regs s.update_part s.write_part s.shows_updates
+          ∙ ports_are wires net.parts.files s.write_part s.shows_writes named.files_differ i d l ∙ port_is net.nodes f.width f.address_width f.port ok.port k.count;
+    })
+    ∙ ap (λ t. net.parts.files ++ t) (past_integer (files_of wires m) net.parts.files s.integer (s.nodes ++ outs s) (λ n zs. refl) s.shows_integer
+    ∙ past_nodes (files_of wires m) net.parts 0 net.nodes s.nodes (outs s) (λ r n zs. refl) (λ i at r zs. refl) s.shows_nodes)
+    ∙ append-nil net.parts.files
+
+samples_are : (ss : List Port) (xs : List VPort) → ShowsSamples ss xs → All PortOk ss → map sample_of xs ≡ ss
+samples_are _ _ no_sample k = refl
+samples_are _ _ (one_sample {s = s} {ss = ss} {xs = xs} a b c h) k =
+    let ok = All-head PortOk s ss k in let low = ok.positive in
+    ap (λ (w : ℕ). record { name = s.name; width = w } ∷ map sample_of xs) (let e : s.width - 1 + 1 ≡ s.width = omega arith in e) ∙ ap (λ (t : List Port). s ∷ t) (samples_are ss xs h (All-tail PortOk s ss k))
+
+reset_same : (rs : List NetReg) (b : Bool) (rst : Option Named) (r : Option ResetList) → ShowsReset rs b rst r → is_some rst ≡ b
+reset_same rs _ _ _ no_reset_shown = refl
+reset_same rs _ _ _ (reset_shown a b h) = refl
+
+-- A module that represents a netlist denotes it.
+pub same_net : (net : Net) (m : VModule) → NetOk net → IsNamed net → IsShown net m → net_of m ≡ net
+unfolding net_of
+same_net net m k named s =
+    let n = length net.nodes in
+    let wires = wires_to n in
+    let p = net.parts in
+    let low = k.parts.ext_positive in
+    ap (λ (x : Made). record { nodes = x.nodes; parts = parts_of x.wires m }) (made_is net m s k named)
+    ∙ ap (λ (x : List ℕ). record { nodes = net.nodes; parts = record { name = x; ext = width_of m.ext.range; reset = is_some m.rst; samples = map sample_of m.samples; regs = regs_of wires m m.items; files = files_of wires m m.items; full = output_of wires (codes "full") m.items; ue = output_of wires (codes "ue") m.items; back = output_of wires (codes "back") m.items } }) (ap (λ (x : Named). x.name) s.name)
+    ∙ ap (λ (x : ℕ). record { nodes = net.nodes; parts = record { name = p.name; ext = x; reset = is_some m.rst; samples = map sample_of m.samples; regs = regs_of wires m m.items; files = files_of wires m m.items; full = output_of wires (codes "full") m.items; ue = output_of wires (codes "ue") m.items; back = output_of wires (codes "back") m.items } }) (ap (λ (x : VPort). width_of x.range) s.ext ∙ (let e : p.ext - 1 + 1 ≡ p.ext = omega arith in e))
+    ∙ ap (λ (x : Bool). record { nodes = net.nodes; parts = record { name = p.name; ext = p.ext; reset = x; samples = map sample_of m.samples; regs = regs_of wires m m.items; files = files_of wires m m.items; full = output_of wires (codes "full") m.items; ue = output_of wires (codes "ue") m.items; back = output_of wires (codes "back") m.items } }) (reset_same p.regs p.reset m.rst m.reset s.reset)
+    ∙ ap (λ (x : List Port). record { nodes = net.nodes; parts = record { name = p.name; ext = p.ext; reset = p.reset; samples = x; regs = regs_of wires m m.items; files = files_of wires m m.items; full = output_of wires (codes "full") m.items; ue = output_of wires (codes "ue") m.items; back = output_of wires (codes "back") m.items } }) (samples_are p.samples m.samples s.samples k.parts.samples)
+    ∙ ap (λ (x : List NetReg). record { nodes = net.nodes; parts = record { name = p.name; ext = p.ext; reset = p.reset; samples = p.samples; regs = x; files = files_of wires m m.items; full = output_of wires (codes "full") m.items; ue = output_of wires (codes "ue") m.items; back = output_of wires (codes "back") m.items } }) (regs_are net m s k named)
+    ∙ ap (λ (x : List NetFile). record { nodes = net.nodes; parts = record { name = p.name; ext = p.ext; reset = p.reset; samples = p.samples; regs = p.regs; files = x; full = output_of wires (codes "full") m.items; ue = output_of wires (codes "ue") m.items; back = output_of wires (codes "back") m.items } }) (files_are net m s k named)
+    ∙ ap (λ (x : NodeId). record { nodes = net.nodes; parts = record { name = p.name; ext = p.ext; reset = p.reset; samples = p.samples; regs = p.regs; files = p.files; full = x; ue = output_of wires (codes "ue") m.items; back = output_of wires (codes "back") m.items } }) (output_is net m s wires (codes "full") (λ i. refl) ∙ node_is n p.full (s.q 1) k.parts.full k.count)
+    ∙ ap (λ (x : NodeId). record { nodes = net.nodes; parts = record { name = p.name; ext = p.ext; reset = p.reset; samples = p.samples; regs = p.regs; files = p.files; full = p.full; ue = x; back = output_of wires (codes "back") m.items } }) (output_is net m s wires (codes "ue") (λ i. refl) ∙ node_is n p.ue (s.q 3) k.parts.ue k.count)
+    ∙ ap (λ (x : NodeId). record { nodes = net.nodes; parts = record { name = p.name; ext = p.ext; reset = p.reset; samples = p.samples; regs = p.regs; files = p.files; full = p.full; ue = p.ue; back = x } }) (output_is net m s wires (codes "back") (λ i. refl) ∙ node_is n p.back (s.q 5) k.parts.back k.count)

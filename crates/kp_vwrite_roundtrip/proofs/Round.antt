@@ -1,0 +1,59 @@
+-- The round trip.
+use Rattle.std.proofs.Common.{◌≡◌, ◌∙◌, ℕ, ◌+◌, List, [], ◌∷◌, Option, None, sym, ap, subst}
+use Rattle.kp_net.specs.declared.node.Kind.{Kind}
+use Rattle.kp_net.specs.declared.node.Kind.TheVariants as kinds
+use Rattle.kp_net.specs.declared.node.Node.{Node}
+use Rattle.kp_net.specs.Names.{IsNamed}
+use Rattle.kp_net.specs.Netlist.{Net}
+use Rattle.kp_net.specs.Parts.{NetOk}
+use Rattle.kp_net.specs.Widths.{KindOk}
+use Rattle.kp_vlog.specs.declared.tree.VModule.{VModule}
+use Rattle.kp_vlog.specs.Canon.{canon}
+use Rattle.kp_vlog.specs.Rules.{breaks, broken}
+use Rattle.kp_vlog.specs.Denote.{Denotes}
+use Rattle.kp_grammar.specs.Grammar.{Derives, Nonterminal}
+use Rattle.kp_vlog.specs.Language.{MODULE, verilog}
+use Rattle.kp_vwrite_roundtrip.proofs.Lex.{placed}
+use Rattle.kp_vwrite_roundtrip.proofs.Words.{net_words}
+use Rattle.kp_vwrite_roundtrip.proofs.Written.{canon_says, RightFrom, all_right}
+use Rattle.kp_vwrite_roundtrip.proofs.Sentence.{IsShown, Sizes, AllSizes, sentence}
+use Rattle.kp_vwrite_roundtrip.proofs.NamesHold.{whole_is, names_hold}
+use Rattle.kp_vwrite_roundtrip.proofs.DriversHold.{drivers_hold}
+use Rattle.kp_vwrite_roundtrip.proofs.WidthsHold.{widths_hold}
+use Rattle.kp_vwrite_roundtrip.proofs.Denoted.{same_net}
+
+size_of : (net : Net) (m k : ℕ) (kind : Kind) → KindOk net.nodes m k kind → Sizes kind
+size_of net m k (kinds.Const v) ok = tt
+size_of net m k kinds.Ext ok = tt
+size_of net m k (kinds.Sample i) ok = tt
+size_of net m k (kinds.Reg i) ok = tt
+size_of net m k (kinds.Word i a) ok = tt
+size_of net m k (kinds.Not a) ok = tt
+size_of net m k (kinds.Binary op a b) ok = tt
+size_of net m k (kinds.Mux t a b) ok = tt
+size_of net m k (kinds.Concat parts) ok = (ok.0, ok.1)
+size_of net m k (kinds.Slice a hi lo) ok = tt
+
+all_sizes : (net : Net) (j : ℕ) (ns : List Node) → RightFrom net j ns → AllSizes ns
+all_sizes net j [] k = tt
+all_sizes net j (n ∷ ns) k = (size_of net j n.width n.kind k.0.kind, all_sizes net (j + 1) ns k.2)
+
+none_broken : (a b c : Option ℕ) → a ≡ None → b ≡ None → c ≡ None → breaks 3 a (breaks 4 b (breaks 5 c None)) ≡ None
+none_broken a b c e f g = ap (λ x. breaks 3 x (breaks 4 b (breaks 5 c None))) e ∙ ap (λ x. breaks 4 x (breaks 5 c None)) f ∙ ap (λ x. breaks 5 x None) g
+
+sound : (net : Net) (m : VModule) → NetOk net → IsNamed net → IsShown net m → broken m ≡ None
+unfolding broken
+sound net m k named s = subst (λ (x : VModule). broken x ≡ None) (sym (whole_is m s)) (none_broken _ _ _ (names_hold net m s k named) (widths_hold net m s k named) (drivers_hold net m s k named))
+
+-- The canonical text of a netlist with such names denotes the netlist.
+pub round : (net : Net) → NetOk net → IsNamed net → Denotes 0 (canon net) net
+round net k named =
+    let says = (canon_says net k named).lexes 0 in
+    let read = sentence net says.0 (all_sizes net 0 net.nodes (all_right net k)) in
+    let m = read.holds.0 in
+    record {
+      shown = m;
+      is = record { tokens = placed says.0 (net_words net); lexes = says.1; sentence = subst (λ v. Derives verilog (Nonterminal MODULE ∷ []) [] (placed says.0 (net_words net)) [] v []) read.holds.1 read.derives };
+      sound = sound net m k named read.holds.2;
+      same_net = same_net net m k named read.holds.2;
+    }

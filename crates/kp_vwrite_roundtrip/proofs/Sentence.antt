@@ -1,0 +1,622 @@
+-- The tokens of a netlist are a sentence, and it builds a module that represents the netlist.
+use Rattle.std.proofs.Common.{◌≡◌, ◌∙◌, ℕ, zero, suc, ◌+◌, ◌-◌, ◌^◌, ◌≤◌, List, [], ◌∷◌, ◌++◌, ◌⊎◌, inl, inr, length, get_or, Bool, true, false, cond, Option, Some, None, refl, sym, subst, arith, append_assoc, append-nil}
+use Rattle.std.specs.Prelude.{codes, ◌==◌}
+use Rattle.std.proofs.lemmas.Bool.{false≢true}
+use Rattle.kp_grammar.specs.Grammar.{Nonterminal, Action, stay}
+use Rattle.kp_grammar.proofs.Steps.{Completes, CompletesFrom, went}
+use Rattle.kp_grammar.specs.Machine.{advance}
+use Rattle.kp_bits.specs.Word.{word}
+use Rattle.kp_bits.specs.declared.operator.BinOp.{BinOp}
+use Rattle.kp_net.specs.declared.node.NodeId.{NodeId}
+use Rattle.kp_net.specs.declared.node.Kind.{Kind}
+use Rattle.kp_net.specs.declared.node.Kind.TheVariants as kinds
+use Rattle.kp_net.specs.declared.node.Node.{Node}
+use Rattle.kp_net.specs.declared.netlist.Port.{Port}
+use Rattle.kp_net.specs.declared.netlist.WritePort.{WritePort}
+use Rattle.kp_net.specs.declared.netlist.NetReg.{NetReg}
+use Rattle.kp_net.specs.declared.netlist.NetFile.{NetFile}
+use Rattle.kp_net.specs.declared.netlist.Parts.{Parts}
+use Rattle.kp_net.specs.Netlist.{Net}
+use Rattle.kp_net.specs.Parts.{no_port, no_reg, no_file}
+use Rattle.kp_net.specs.Widths.{wide}
+use Rattle.kp_vlog.specs.declared.token.Keyword.TheVariants as keywords
+use Rattle.kp_vlog.specs.declared.token.Mark.TheVariants as marks
+use Rattle.kp_vlog.specs.declared.tree.Num.{Num}
+use Rattle.kp_vlog.specs.declared.tree.Lit.{Lit}
+use Rattle.kp_vlog.specs.declared.tree.Named.{Named}
+use Rattle.kp_vlog.specs.declared.tree.Range.{Range}
+use Rattle.kp_vlog.specs.declared.tree.VPort.{VPort}
+use Rattle.kp_vlog.specs.declared.tree.Right.{Right}
+use Rattle.kp_vlog.specs.declared.tree.Right.TheVariants as sides
+use Rattle.kp_vlog.specs.declared.tree.Item.{Item}
+use Rattle.kp_vlog.specs.declared.tree.Item.TheVariants as lines
+use Rattle.kp_vlog.specs.declared.tree.Fill.{Fill}
+use Rattle.kp_vlog.specs.declared.tree.Init.{Init}
+use Rattle.kp_vlog.specs.declared.tree.Init.TheVariants as starts
+use Rattle.kp_vlog.specs.declared.tree.ResetValue.{ResetValue}
+use Rattle.kp_vlog.specs.declared.tree.ResetList.{ResetList}
+use Rattle.kp_vlog.specs.declared.tree.Update.{Update}
+use Rattle.kp_vlog.specs.declared.tree.Update.TheVariants as edges
+use Rattle.kp_vlog.specs.declared.tree.VModule.{VModule}
+use Rattle.kp_vlog.specs.Tokens.{Word, Token, name, number, literal, keyword, mark}
+use Rattle.kp_vlog.specs.Language.{Value, Sym, Way, Step, make_concat, MODULE, SAMPLES, ITEMS, RIGHT, NAMES, INITS, BODY, VALUES, UPDATES, verilog}
+use Rattle.kp_vlog.specs.Language as lang
+use Rattle.kp_vlog.specs.inner.Follow.{tables}
+use Rattle.kp_vlog.specs.Canon.{wire, wire_name}
+use Rattle.kp_vwrite_roundtrip.proofs.Lex.{placed}
+use Rattle.kp_vwrite_roundtrip.proofs.Runs.{literal_for}
+use Rattle.kp_vwrite_roundtrip.proofs.Words.{port_words, reset_words, sample_words, outs_words, reg_words, file_words, integer_words, sign_mark, more_words, joined_words, right_words, node_words, out_words, start_words, content_words, fill_words, update_words, write_words, writes_words, value_words, body_words, w1, w2, w3, w4, w5, w6, w7, w8, net_words}
+
+-- a supply of offsets further on
+abbrev pub shift : ℕ → (ℕ → ℕ) → ℕ → ℕ
+shift zero p = p
+shift (suc n) p = shift n (λ k. p (suc k))
+
+abbrev pub named_at : List ℕ → ℕ → Named
+named_at n a = record { name = n; at = a }
+
+abbrev pub number_at : ℕ → ℕ → Num
+number_at n a = record { value = n; at = a }
+
+abbrev pub range_at : ℕ → ℕ → ℕ → Range
+range_at w a b = record { high = number_at (w - 1) a; low = number_at 0 b }
+
+abbrev pub literal_at : ℕ → ℕ → ℕ → Lit
+literal_at w v a = record { literal = literal_for (word w v); at = a }
+
+abbrev pub port_at : ℕ → List ℕ → ℕ → ℕ → ℕ → VPort
+port_at w n a b c = record { range = range_at w a b; port = named_at n c }
+
+-- Parts of a module that represent parts of a netlist, at any offsets.
+pub data ShowsNames : List NodeId → List Named → Type 0 where
+  no_name : ShowsNames [] []
+  a_name : {a : NodeId} {parts : List NodeId} {xs : List Named} (at : ℕ) → ShowsNames parts xs → ShowsNames (a ∷ parts) (named_at (wire a) at ∷ xs)
+
+pub data ShowsRight (p : Parts) (k : ℕ) : Kind → Right → Type 0 where
+  a_const : {v : ℕ} (a : ℕ) → ShowsRight p k (kinds.Const v) (sides.Literal (literal_at k v a))
+  an_ext : (a : ℕ) → ShowsRight p k kinds.Ext (sides.Name (named_at (codes "ext") a))
+  a_sample : {i : ℕ} (a : ℕ) → ShowsRight p k (kinds.Sample i) (sides.Name (named_at (get_or p.samples i no_port).name a))
+  a_reg : {i : ℕ} (a : ℕ) → ShowsRight p k (kinds.Reg i) (sides.Name (named_at (get_or p.regs i no_reg).name a))
+  a_word : {i : ℕ} {n : NodeId} (a b : ℕ) → ShowsRight p k (kinds.Word i n) (sides.Word (named_at (get_or p.files i no_file).name a) (named_at (wire n) b))
+  a_not : {n : NodeId} (a : ℕ) → ShowsRight p k (kinds.Not n) (sides.Not (named_at (wire n) a))
+  a_binary : {op : BinOp} {n m : NodeId} (a b : ℕ) → ShowsRight p k (kinds.Binary op n m) (sides.Binary op (named_at (wire n) a) (named_at (wire m) b))
+  a_mux : {t n m : NodeId} (a b c : ℕ) → ShowsRight p k (kinds.Mux t n m) (sides.Choice (named_at (wire t) a) (named_at (wire n) b) (named_at (wire m) c))
+  a_concat : {parts : List NodeId} {xs : List Named} → ShowsNames parts xs → ShowsRight p k (kinds.Concat parts) (sides.Concat xs)
+  a_slice : {n : NodeId} {hi lo : ℕ} (a b c : ℕ) → ShowsRight p k (kinds.Slice n hi lo) (sides.Slice (named_at (wire n) a) (number_at hi b) (number_at lo c))
+
+pub data ShowsSamples : List Port → List VPort → Type 0 where
+  no_sample : ShowsSamples [] []
+  one_sample : {s : Port} {ss : List Port} {xs : List VPort} (a b c : ℕ) → ShowsSamples ss xs → ShowsSamples (s ∷ ss) (port_at s.width s.name a b c ∷ xs)
+
+pub data ShowsRegs : List NetReg → List Item → Type 0 where
+  no_reg_line : ShowsRegs [] []
+  reg_line : {r : NetReg} {rs : List NetReg} {xs : List Item} (a b c : ℕ) → ShowsRegs rs xs → ShowsRegs (r ∷ rs) (lines.Reg (range_at r.start.width a b) (named_at r.name c) ∷ xs)
+
+pub data ShowsFiles : List NetFile → List Item → Type 0 where
+  no_file_line : ShowsFiles [] []
+  file_line : {f : NetFile} {fs : List NetFile} {xs : List Item} (a b c d e : ℕ) → ShowsFiles fs xs
+      → ShowsFiles (f ∷ fs) (lines.File (range_at f.width a b) (named_at f.name c) (record { high = number_at 0 d; low = number_at (2 ^ f.address_width - 1) e }) ∷ xs)
+
+pub data ShowsInteger : List NetFile → List Item → Type 0 where
+  no_integer : ShowsInteger [] []
+  an_integer : {f : NetFile} {fs : List NetFile} (a : ℕ) → ShowsInteger (f ∷ fs) (lines.Integer (named_at (codes "i") a) ∷ [])
+
+pub data ShowsNodes (p : Parts) : ℕ → List Node → List Item → Type 0 where
+  no_node_line : {j : ℕ} → ShowsNodes p j [] []
+  node_line : {j : ℕ} {n : Node} {ns : List Node} {r : Right} {xs : List Item} (a b c d : ℕ) → ShowsRight p n.width n.kind r → ShowsNodes p (j + 1) ns xs
+      → ShowsNodes p j (n ∷ ns) (lines.Wire (range_at n.width a b) (named_at (wire_name j) c) ∷ lines.Assign (named_at (wire_name j) d) r ∷ xs)
+
+abbrev pub out_at : List ℕ → NodeId → ℕ → ℕ → Item
+out_at out n a b = lines.Assign (named_at out a) (sides.Name (named_at (wire n) b))
+
+pub data ShowsStarts : List NetReg → List Init → Type 0 where
+  no_start : ShowsStarts [] []
+  a_start : {r : NetReg} {rs : List NetReg} {xs : List Init} (a b : ℕ) → ShowsStarts rs xs → ShowsStarts (r ∷ rs) (starts.Reg (named_at r.name a) (record { literal = literal_for r.start; at = b }) ∷ xs)
+
+-- the words from an address on that are not 0
+pub data ShowsWords (n : List ℕ) (w : ℕ) : ℕ → List ℕ → List Init → Type 0 where
+  no_words : {i : ℕ} → ShowsWords n w i [] []
+  zero_word : {i v : ℕ} {vs : List ℕ} {xs : List Init} → (v == 0) ≡ true → ShowsWords n w (i + 1) vs xs → ShowsWords n w i (v ∷ vs) xs
+  some_word : {i v : ℕ} {vs : List ℕ} {xs : List Init} (a b c : ℕ) → (v == 0) ≡ false → ShowsWords n w (i + 1) vs xs
+      → ShowsWords n w i (v ∷ vs) (starts.Word (named_at n a) (number_at i b) (literal_at w v c) ∷ xs)
+
+abbrev pub fill_at : NetFile → (ℕ → ℕ) → Fill
+fill_at f p = record {
+  counter = named_at (codes "i") (p 2);
+  from = number_at 0 (p 4);
+  tested = named_at (codes "i") (p 6);
+  limit = number_at (2 ^ f.address_width) (p 8);
+  stepped = named_at (codes "i") (p 10);
+  old = named_at (codes "i") (p 12);
+  by = number_at 1 (p 14);
+  file = named_at f.name (p 16);
+  index = named_at (codes "i") (p 18);
+  value = literal_at f.width 0 (p 21);
+}
+
+pub data ShowsFills : List NetFile → List Init → Type 0 where
+  no_fill : ShowsFills [] []
+  a_fill : {f : NetFile} {fs : List NetFile} {xs ys : List Init} (p : ℕ → ℕ) → ShowsWords f.name f.width 0 f.words xs → ShowsFills fs ys → ShowsFills (f ∷ fs) (starts.Fill (fill_at f p) ∷ (xs ++ ys))
+
+pub data ShowsValues : List NetReg → List ResetValue → Type 0 where
+  no_value : ShowsValues [] []
+  a_value : {r : NetReg} {rs : List NetReg} {xs : List ResetValue} (a b : ℕ) → ShowsValues rs xs
+      → ShowsValues (r ∷ rs) (record { name = named_at r.name a; value = record { literal = literal_for r.start; at = b } } ∷ xs)
+
+pub data ShowsUpdates : List NetReg → List Update → Type 0 where
+  no_update : ShowsUpdates [] []
+  an_update : {r : NetReg} {rs : List NetReg} {xs : List Update} (a b : ℕ) → ShowsUpdates rs xs → ShowsUpdates (r ∷ rs) (edges.Reg (named_at r.name a) (named_at (wire r.next) b) ∷ xs)
+
+abbrev pub write_at : List ℕ → WritePort → (ℕ → ℕ) → Update
+write_at n w p = edges.File (named_at (wire w.enable) (p 2)) (named_at n (p 4)) (named_at (wire w.address) (p 6)) (named_at (wire w.value) (p 9))
+
+pub data ShowsWrites : List NetFile → List Update → Type 0 where
+  no_write : ShowsWrites [] []
+  not_written : {f : NetFile} {fs : List NetFile} {xs : List Update} → f.port ≡ None → ShowsWrites fs xs → ShowsWrites (f ∷ fs) xs
+  a_write : {f : NetFile} {fs : List NetFile} {xs : List Update} (w : WritePort) (p : ℕ → ℕ) → f.port ≡ Some w → ShowsWrites fs xs → ShowsWrites (f ∷ fs) (write_at f.name w p ∷ xs)
+
+-- the reset port and the reset list
+pub data ShowsReset (rs : List NetReg) : Bool → Option Named → Option ResetList → Type 0 where
+  no_reset_shown : ShowsReset rs false None None
+  reset_shown : {xs : List ResetValue} (a b : ℕ) → ShowsValues rs xs → ShowsReset rs true (Some (named_at (codes "rst") a)) (Some (record { reset = named_at (codes "rst") b; values = xs }))
+
+pub data IsReset : Bool → Option Named → Type 0 where
+  no_reset_port : IsReset false None
+  a_reset_port : (at : ℕ) → IsReset true (Some (named_at (codes "rst") at))
+
+-- a module that represents a netlist
+pub record IsShown (net : Net) (m : VModule) : Type 0 where
+  pub p : ℕ → ℕ
+  pub q : ℕ → ℕ
+  pub name : m.name ≡ named_at net.parts.name (p 0)
+  pub clk : m.clk ≡ named_at (codes "clk") (p 1)
+  pub ext : m.ext ≡ port_at net.parts.ext (codes "ext") (p 2) (p 3) (p 4)
+  pub samples : ShowsSamples net.parts.samples m.samples
+  pub full : m.full ≡ port_at (wide net.nodes net.parts.full.0) (codes "full") (p 5) (p 6) (p 7)
+  pub ue : m.ue ≡ port_at (wide net.nodes net.parts.ue.0) (codes "ue") (p 8) (p 9) (p 10)
+  pub back : m.back ≡ port_at (wide net.nodes net.parts.back.0) (codes "back") (p 11) (p 12) (p 13)
+  pub regs : List Item
+  pub files : List Item
+  pub integer : List Item
+  pub nodes : List Item
+  pub shows_regs : ShowsRegs net.parts.regs regs
+  pub shows_files : ShowsFiles net.parts.files files
+  pub shows_integer : ShowsInteger net.parts.files integer
+  pub shows_nodes : ShowsNodes net.parts 0 net.nodes nodes
+  pub items : m.items ≡ regs ++ (files ++ (integer ++ (nodes ++ out_at (codes "full") net.parts.full (q 0) (q 1) ∷ out_at (codes "ue") net.parts.ue (q 2) (q 3) ∷ out_at (codes "back") net.parts.back (q 4) (q 5) ∷ [])))
+  pub start_part : List Init
+  pub fill_part : List Init
+  pub shows_starts : ShowsStarts net.parts.regs start_part
+  pub shows_fills : ShowsFills net.parts.files fill_part
+  pub inits : m.inits ≡ start_part ++ fill_part
+  pub clock : m.clock ≡ named_at (codes "clk") (p 14)
+  pub reset : ShowsReset net.parts.regs net.parts.reset m.rst m.reset
+  pub update_part : List Update
+  pub write_part : List Update
+  pub shows_updates : ShowsUpdates net.parts.regs update_part
+  pub shows_writes : ShowsWrites net.parts.files write_part
+  pub updates : m.updates ≡ update_part ++ write_part
+
+-- a concatenation has 2 to 12 parts
+abbrev pub Sizes : Kind → Type 0
+Sizes (kinds.Concat parts) = (2 ≤ length parts) × (length parts ≤ 12)
+Sizes _ = Unit {0}
+
+abbrev pub AllSizes : List Node → Type 0
+AllSizes [] = Unit {0}
+AllSizes (n ∷ ns) = Sizes n.kind × AllSizes ns
+
+-- the module at the end, with what it represents
+abbrev pub Built : (VModule → Type 0) → List Value → Type 0
+Built P vs = (m : VModule) × (vs ≡ lang.whole m ∷ []) × P m
+
+abbrev N : ℕ → Sym
+N n = Nonterminal n
+
+module _ (P : VModule → Type 0) where
+  abbrev pub Reads : List Sym → List Value → List Token → Type 0
+  Reads s vs ts = Completes verilog tables (Built P) s vs ts
+
+  abbrev goes : (k : ℕ) {s : List Sym} {vs : List Value} {ts : List Token} → CompletesFrom verilog tables (Built P) (advance verilog tables k s vs ts) → Reads s vs ts
+  goes k r = went verilog tables (Built P) k r
+
+  names_read_0 : (parts : List NodeId) (q : ℕ → ℕ) (s : List Sym) (vs : List Value) (ws : List Word) (before : List Named) → length parts ≤ 0
+      → ((q' : ℕ → ℕ) (xs : List Named) → ShowsNames parts xs → Reads s (lang.right (sides.Concat (before ++ xs)) ∷ vs) (placed q' ws))
+      → Reads (N (NAMES 0) ∷ lang.mark marks.CloseBrace ∷ Action make_concat ∷ s) (lang.names before ∷ vs) (placed q (more_words parts ws))
+  names_read_0 [] q s vs ws before h d = goes 3 (subst (λ (xs : List Named). Reads s (lang.right (sides.Concat xs) ∷ vs) (placed (shift 1 q) ws)) (append-nil before) (d (shift 1 q) [] no_name))
+  names_read_0 (a ∷ parts) q s vs ws before h d = absurd (omega arith)
+
+  names_read_1 : (parts : List NodeId) (q : ℕ → ℕ) (s : List Sym) (vs : List Value) (ws : List Word) (before : List Named) → length parts ≤ 1
+      → ((q' : ℕ → ℕ) (xs : List Named) → ShowsNames parts xs → Reads s (lang.right (sides.Concat (before ++ xs)) ∷ vs) (placed q' ws))
+      → Reads (N (NAMES 1) ∷ lang.mark marks.CloseBrace ∷ Action make_concat ∷ s) (lang.names before ∷ vs) (placed q (more_words parts ws))
+  names_read_1 [] q s vs ws before h d = goes 3 (subst (λ (xs : List Named). Reads s (lang.right (sides.Concat xs) ∷ vs) (placed (shift 1 q) ws)) (append-nil before) (d (shift 1 q) [] no_name))
+  names_read_1 (a ∷ parts) q s vs ws before h d =
+      let x = named_at (wire a) (q 1) in
+      goes 4 (names_read_0 parts (shift 2 q) s vs ws (before ++ x ∷ []) (omega arith)
+      (λ q' xs shows. subst (λ (zs : List Named). Reads s (lang.right (sides.Concat zs) ∷ vs) (placed q' ws)) (sym (append_assoc before (x ∷ []) xs)) (d q' (x ∷ xs) (a_name (q 1) shows))))
+
+  names_read_2 : (parts : List NodeId) (q : ℕ → ℕ) (s : List Sym) (vs : List Value) (ws : List Word) (before : List Named) → length parts ≤ 2
+      → ((q' : ℕ → ℕ) (xs : List Named) → ShowsNames parts xs → Reads s (lang.right (sides.Concat (before ++ xs)) ∷ vs) (placed q' ws))
+      → Reads (N (NAMES 2) ∷ lang.mark marks.CloseBrace ∷ Action make_concat ∷ s) (lang.names before ∷ vs) (placed q (more_words parts ws))
+  names_read_2 [] q s vs ws before h d = goes 3 (subst (λ (xs : List Named). Reads s (lang.right (sides.Concat xs) ∷ vs) (placed (shift 1 q) ws)) (append-nil before) (d (shift 1 q) [] no_name))
+  names_read_2 (a ∷ parts) q s vs ws before h d =
+      let x = named_at (wire a) (q 1) in
+      goes 4 (names_read_1 parts (shift 2 q) s vs ws (before ++ x ∷ []) (omega arith)
+      (λ q' xs shows. subst (λ (zs : List Named). Reads s (lang.right (sides.Concat zs) ∷ vs) (placed q' ws)) (sym (append_assoc before (x ∷ []) xs)) (d q' (x ∷ xs) (a_name (q 1) shows))))
+
+  names_read_3 : (parts : List NodeId) (q : ℕ → ℕ) (s : List Sym) (vs : List Value) (ws : List Word) (before : List Named) → length parts ≤ 3
+      → ((q' : ℕ → ℕ) (xs : List Named) → ShowsNames parts xs → Reads s (lang.right (sides.Concat (before ++ xs)) ∷ vs) (placed q' ws))
+      → Reads (N (NAMES 3) ∷ lang.mark marks.CloseBrace ∷ Action make_concat ∷ s) (lang.names before ∷ vs) (placed q (more_words parts ws))
+  names_read_3 [] q s vs ws before h d = goes 3 (subst (λ (xs : List Named). Reads s (lang.right (sides.Concat xs) ∷ vs) (placed (shift 1 q) ws)) (append-nil before) (d (shift 1 q) [] no_name))
+  names_read_3 (a ∷ parts) q s vs ws before h d =
+      let x = named_at (wire a) (q 1) in
+      goes 4 (names_read_2 parts (shift 2 q) s vs ws (before ++ x ∷ []) (omega arith)
+      (λ q' xs shows. subst (λ (zs : List Named). Reads s (lang.right (sides.Concat zs) ∷ vs) (placed q' ws)) (sym (append_assoc before (x ∷ []) xs)) (d q' (x ∷ xs) (a_name (q 1) shows))))
+
+  names_read_4 : (parts : List NodeId) (q : ℕ → ℕ) (s : List Sym) (vs : List Value) (ws : List Word) (before : List Named) → length parts ≤ 4
+      → ((q' : ℕ → ℕ) (xs : List Named) → ShowsNames parts xs → Reads s (lang.right (sides.Concat (before ++ xs)) ∷ vs) (placed q' ws))
+      → Reads (N (NAMES 4) ∷ lang.mark marks.CloseBrace ∷ Action make_concat ∷ s) (lang.names before ∷ vs) (placed q (more_words parts ws))
+  names_read_4 [] q s vs ws before h d = goes 3 (subst (λ (xs : List Named). Reads s (lang.right (sides.Concat xs) ∷ vs) (placed (shift 1 q) ws)) (append-nil before) (d (shift 1 q) [] no_name))
+  names_read_4 (a ∷ parts) q s vs ws before h d =
+      let x = named_at (wire a) (q 1) in
+      goes 4 (names_read_3 parts (shift 2 q) s vs ws (before ++ x ∷ []) (omega arith)
+      (λ q' xs shows. subst (λ (zs : List Named). Reads s (lang.right (sides.Concat zs) ∷ vs) (placed q' ws)) (sym (append_assoc before (x ∷ []) xs)) (d q' (x ∷ xs) (a_name (q 1) shows))))
+
+  names_read_5 : (parts : List NodeId) (q : ℕ → ℕ) (s : List Sym) (vs : List Value) (ws : List Word) (before : List Named) → length parts ≤ 5
+      → ((q' : ℕ → ℕ) (xs : List Named) → ShowsNames parts xs → Reads s (lang.right (sides.Concat (before ++ xs)) ∷ vs) (placed q' ws))
+      → Reads (N (NAMES 5) ∷ lang.mark marks.CloseBrace ∷ Action make_concat ∷ s) (lang.names before ∷ vs) (placed q (more_words parts ws))
+  names_read_5 [] q s vs ws before h d = goes 3 (subst (λ (xs : List Named). Reads s (lang.right (sides.Concat xs) ∷ vs) (placed (shift 1 q) ws)) (append-nil before) (d (shift 1 q) [] no_name))
+  names_read_5 (a ∷ parts) q s vs ws before h d =
+      let x = named_at (wire a) (q 1) in
+      goes 4 (names_read_4 parts (shift 2 q) s vs ws (before ++ x ∷ []) (omega arith)
+      (λ q' xs shows. subst (λ (zs : List Named). Reads s (lang.right (sides.Concat zs) ∷ vs) (placed q' ws)) (sym (append_assoc before (x ∷ []) xs)) (d q' (x ∷ xs) (a_name (q 1) shows))))
+
+  names_read_6 : (parts : List NodeId) (q : ℕ → ℕ) (s : List Sym) (vs : List Value) (ws : List Word) (before : List Named) → length parts ≤ 6
+      → ((q' : ℕ → ℕ) (xs : List Named) → ShowsNames parts xs → Reads s (lang.right (sides.Concat (before ++ xs)) ∷ vs) (placed q' ws))
+      → Reads (N (NAMES 6) ∷ lang.mark marks.CloseBrace ∷ Action make_concat ∷ s) (lang.names before ∷ vs) (placed q (more_words parts ws))
+  names_read_6 [] q s vs ws before h d = goes 3 (subst (λ (xs : List Named). Reads s (lang.right (sides.Concat xs) ∷ vs) (placed (shift 1 q) ws)) (append-nil before) (d (shift 1 q) [] no_name))
+  names_read_6 (a ∷ parts) q s vs ws before h d =
+      let x = named_at (wire a) (q 1) in
+      goes 4 (names_read_5 parts (shift 2 q) s vs ws (before ++ x ∷ []) (omega arith)
+      (λ q' xs shows. subst (λ (zs : List Named). Reads s (lang.right (sides.Concat zs) ∷ vs) (placed q' ws)) (sym (append_assoc before (x ∷ []) xs)) (d q' (x ∷ xs) (a_name (q 1) shows))))
+
+  names_read_7 : (parts : List NodeId) (q : ℕ → ℕ) (s : List Sym) (vs : List Value) (ws : List Word) (before : List Named) → length parts ≤ 7
+      → ((q' : ℕ → ℕ) (xs : List Named) → ShowsNames parts xs → Reads s (lang.right (sides.Concat (before ++ xs)) ∷ vs) (placed q' ws))
+      → Reads (N (NAMES 7) ∷ lang.mark marks.CloseBrace ∷ Action make_concat ∷ s) (lang.names before ∷ vs) (placed q (more_words parts ws))
+  names_read_7 [] q s vs ws before h d = goes 3 (subst (λ (xs : List Named). Reads s (lang.right (sides.Concat xs) ∷ vs) (placed (shift 1 q) ws)) (append-nil before) (d (shift 1 q) [] no_name))
+  names_read_7 (a ∷ parts) q s vs ws before h d =
+      let x = named_at (wire a) (q 1) in
+      goes 4 (names_read_6 parts (shift 2 q) s vs ws (before ++ x ∷ []) (omega arith)
+      (λ q' xs shows. subst (λ (zs : List Named). Reads s (lang.right (sides.Concat zs) ∷ vs) (placed q' ws)) (sym (append_assoc before (x ∷ []) xs)) (d q' (x ∷ xs) (a_name (q 1) shows))))
+
+  names_read_8 : (parts : List NodeId) (q : ℕ → ℕ) (s : List Sym) (vs : List Value) (ws : List Word) (before : List Named) → length parts ≤ 8
+      → ((q' : ℕ → ℕ) (xs : List Named) → ShowsNames parts xs → Reads s (lang.right (sides.Concat (before ++ xs)) ∷ vs) (placed q' ws))
+      → Reads (N (NAMES 8) ∷ lang.mark marks.CloseBrace ∷ Action make_concat ∷ s) (lang.names before ∷ vs) (placed q (more_words parts ws))
+  names_read_8 [] q s vs ws before h d = goes 3 (subst (λ (xs : List Named). Reads s (lang.right (sides.Concat xs) ∷ vs) (placed (shift 1 q) ws)) (append-nil before) (d (shift 1 q) [] no_name))
+  names_read_8 (a ∷ parts) q s vs ws before h d =
+      let x = named_at (wire a) (q 1) in
+      goes 4 (names_read_7 parts (shift 2 q) s vs ws (before ++ x ∷ []) (omega arith)
+      (λ q' xs shows. subst (λ (zs : List Named). Reads s (lang.right (sides.Concat zs) ∷ vs) (placed q' ws)) (sym (append_assoc before (x ∷ []) xs)) (d q' (x ∷ xs) (a_name (q 1) shows))))
+
+  names_read_9 : (parts : List NodeId) (q : ℕ → ℕ) (s : List Sym) (vs : List Value) (ws : List Word) (before : List Named) → length parts ≤ 9
+      → ((q' : ℕ → ℕ) (xs : List Named) → ShowsNames parts xs → Reads s (lang.right (sides.Concat (before ++ xs)) ∷ vs) (placed q' ws))
+      → Reads (N (NAMES 9) ∷ lang.mark marks.CloseBrace ∷ Action make_concat ∷ s) (lang.names before ∷ vs) (placed q (more_words parts ws))
+  names_read_9 [] q s vs ws before h d = goes 3 (subst (λ (xs : List Named). Reads s (lang.right (sides.Concat xs) ∷ vs) (placed (shift 1 q) ws)) (append-nil before) (d (shift 1 q) [] no_name))
+  names_read_9 (a ∷ parts) q s vs ws before h d =
+      let x = named_at (wire a) (q 1) in
+      goes 4 (names_read_8 parts (shift 2 q) s vs ws (before ++ x ∷ []) (omega arith)
+      (λ q' xs shows. subst (λ (zs : List Named). Reads s (lang.right (sides.Concat zs) ∷ vs) (placed q' ws)) (sym (append_assoc before (x ∷ []) xs)) (d q' (x ∷ xs) (a_name (q 1) shows))))
+
+  names_read_10 : (parts : List NodeId) (q : ℕ → ℕ) (s : List Sym) (vs : List Value) (ws : List Word) (before : List Named) → length parts ≤ 10
+      → ((q' : ℕ → ℕ) (xs : List Named) → ShowsNames parts xs → Reads s (lang.right (sides.Concat (before ++ xs)) ∷ vs) (placed q' ws))
+      → Reads (N (NAMES 10) ∷ lang.mark marks.CloseBrace ∷ Action make_concat ∷ s) (lang.names before ∷ vs) (placed q (more_words parts ws))
+  names_read_10 [] q s vs ws before h d = goes 3 (subst (λ (xs : List Named). Reads s (lang.right (sides.Concat xs) ∷ vs) (placed (shift 1 q) ws)) (append-nil before) (d (shift 1 q) [] no_name))
+  names_read_10 (a ∷ parts) q s vs ws before h d =
+      let x = named_at (wire a) (q 1) in
+      goes 4 (names_read_9 parts (shift 2 q) s vs ws (before ++ x ∷ []) (omega arith)
+      (λ q' xs shows. subst (λ (zs : List Named). Reads s (lang.right (sides.Concat zs) ∷ vs) (placed q' ws)) (sym (append_assoc before (x ∷ []) xs)) (d q' (x ∷ xs) (a_name (q 1) shows))))
+
+  concat_reads : (parts : List NodeId) (q : ℕ → ℕ) (s : List Sym) (vs : List Value) (ws : List Word) → 2 ≤ length parts → length parts ≤ 12
+      → ((q' : ℕ → ℕ) (xs : List Named) → ShowsNames parts xs → Reads s (lang.right (sides.Concat xs) ∷ vs) (placed q' (mark marks.Semicolon ∷ ws)))
+      → Reads (N RIGHT ∷ s) vs (placed q (joined_words parts (mark marks.Semicolon ∷ ws)))
+  concat_reads [] q s vs ws low high d = absurd (omega arith)
+  concat_reads (a ∷ []) q s vs ws low high d = absurd (omega arith)
+  concat_reads (a ∷ b ∷ parts) q s vs ws low high d =
+      let x = named_at (wire a) (q 1) in let y = named_at (wire b) (q 3) in
+      goes 6 (names_read_10 parts (shift 4 q) s vs (mark marks.Semicolon ∷ ws) (x ∷ y ∷ []) (omega arith) (λ q' xs shows. d q' (x ∷ y ∷ xs) (a_name (q 1) (a_name (q 3) shows))))
+
+  abbrev Continues : (Right → Type 0) → List Sym → List Value → List Word → Type 0
+  Continues Q s vs ws = (q' : ℕ → ℕ) (r : Right) → Q r → Reads s (lang.right r ∷ vs) (placed q' (mark marks.Semicolon ∷ ws))
+
+  binary_reads : (p : Parts) (k : ℕ) (op : BinOp) (a b : NodeId) (q : ℕ → ℕ) (s : List Sym) (vs : List Value) (ws : List Word) → Continues (ShowsRight p k (kinds.Binary op a b)) s vs ws
+      → Reads (N RIGHT ∷ s) vs (placed q (name (wire a) ∷ mark (sign_mark op) ∷ name (wire b) ∷ mark marks.Semicolon ∷ ws))
+  binary_reads p k BinOp.And a b q s vs ws d = goes 6 (d (shift 3 q) _ (a_binary (q 0) (q 2)))
+  binary_reads p k BinOp.Or a b q s vs ws d = goes 6 (d (shift 3 q) _ (a_binary (q 0) (q 2)))
+  binary_reads p k BinOp.Xor a b q s vs ws d = goes 6 (d (shift 3 q) _ (a_binary (q 0) (q 2)))
+  binary_reads p k BinOp.Add a b q s vs ws d = goes 6 (d (shift 3 q) _ (a_binary (q 0) (q 2)))
+  binary_reads p k BinOp.Sub a b q s vs ws d = goes 6 (d (shift 3 q) _ (a_binary (q 0) (q 2)))
+  binary_reads p k BinOp.Mul a b q s vs ws d = goes 6 (d (shift 3 q) _ (a_binary (q 0) (q 2)))
+  binary_reads p k BinOp.Eq a b q s vs ws d = goes 6 (d (shift 3 q) _ (a_binary (q 0) (q 2)))
+  binary_reads p k BinOp.Lt a b q s vs ws d = goes 6 (d (shift 3 q) _ (a_binary (q 0) (q 2)))
+  binary_reads p k BinOp.Shl a b q s vs ws d = goes 6 (d (shift 3 q) _ (a_binary (q 0) (q 2)))
+  binary_reads p k BinOp.Shr a b q s vs ws d = goes 6 (d (shift 3 q) _ (a_binary (q 0) (q 2)))
+
+  right_reads : (p : Parts) (k : ℕ) (kind : Kind) (q : ℕ → ℕ) (s : List Sym) (vs : List Value) (ws : List Word) → Sizes kind → Continues (ShowsRight p k kind) s vs ws
+      → Reads (N RIGHT ∷ s) vs (placed q (right_words p k kind (mark marks.Semicolon ∷ ws)))
+  right_reads p k (kinds.Const v) q s vs ws z d = goes 3 (d (shift 1 q) _ (a_const (q 0)))
+  right_reads p k kinds.Ext q s vs ws z d = goes 4 (d (shift 1 q) _ (an_ext (q 0)))
+  right_reads p k (kinds.Sample i) q s vs ws z d = goes 4 (d (shift 1 q) _ (a_sample (q 0)))
+  right_reads p k (kinds.Reg i) q s vs ws z d = goes 4 (d (shift 1 q) _ (a_reg (q 0)))
+  right_reads p k (kinds.Word i a) q s vs ws z d = goes 8 (d (shift 4 q) _ (a_word (q 0) (q 2)))
+  right_reads p k (kinds.Not a) q s vs ws z d = goes 4 (d (shift 2 q) _ (a_not (q 1)))
+  right_reads p k (kinds.Binary op a b) q s vs ws z d = binary_reads p k op a b q s vs ws d
+  right_reads p k (kinds.Mux t a b) q s vs ws z d = goes 8 (d (shift 5 q) _ (a_mux (q 0) (q 2) (q 4)))
+  right_reads p k (kinds.Concat parts) q s vs ws z d = concat_reads parts q s vs ws z.0 z.1 (λ q' xs shows. d q' _ (a_concat shows))
+  right_reads p k (kinds.Slice a hi lo) q s vs ws z d = goes 10 (d (shift 6 q) _ (a_slice (q 0) (q 2) (q 4)))
+
+  -- more of a list, after what is already there
+  abbrev Items : List Sym → List Value → List Word → (ℕ → ℕ) → List Item → Type 0
+  Items s vs ws p xs = Reads (N ITEMS ∷ s) (lang.items xs ∷ vs) (placed p ws)
+
+  nodes_read : (pa : Parts) (j : ℕ) (ns : List Node) (p : ℕ → ℕ) (s : List Sym) (vs : List Value) (ws : List Word) (before : List Item) → AllSizes ns
+      → ((p' : ℕ → ℕ) (xs : List Item) → ShowsNodes pa j ns xs → Items s vs ws p' (before ++ xs))
+      → Items s vs (node_words pa j ns ws) p before
+  nodes_read pa j [] p s vs ws before z d = subst (Items s vs ws p) (append-nil before) (d p [] no_node_line)
+  nodes_read pa j (n ∷ ns) p s vs ws before z d =
+      let x = lines.Wire (range_at n.width (p 2) (p 4)) (named_at (wire_name j) (p 6)) in
+      goes 19 (right_reads pa n.width n.kind (shift 11 p) _ _ _ z.0 (λ q r shows. let y = lines.Assign (named_at (wire_name j) (p 9)) r in
+      goes 3 (nodes_read pa (j + 1) ns (shift 1 q) s vs ws ((before ++ x ∷ []) ++ y ∷ []) z.1
+      (λ p' xs h. subst (Items s vs ws p') (sym (append_assoc (before ++ x ∷ []) (y ∷ []) xs ∙ append_assoc before (x ∷ []) (y ∷ xs)))
+      (d p' (x ∷ y ∷ xs) (node_line (p 2) (p 4) (p 6) (p 9) shows h))))))
+
+  regs_read : (rs : List NetReg) (p : ℕ → ℕ) (s : List Sym) (vs : List Value) (ws : List Word) (before : List Item)
+      → ((p' : ℕ → ℕ) (xs : List Item) → ShowsRegs rs xs → Items s vs ws p' (before ++ xs)) → Items s vs (reg_words rs ws) p before
+  regs_read [] p s vs ws before d = subst (Items s vs ws p) (append-nil before) (d p [] no_reg_line)
+  regs_read (r ∷ rs) p s vs ws before d =
+      let x = lines.Reg (range_at r.start.width (p 2) (p 4)) (named_at r.name (p 6)) in
+      goes 15 (regs_read rs (shift 8 p) s vs ws (before ++ x ∷ [])
+      (λ p' xs h. subst (Items s vs ws p') (sym (append_assoc before (x ∷ []) xs)) (d p' (x ∷ xs) (reg_line (p 2) (p 4) (p 6) h))))
+
+  files_read : (fs : List NetFile) (p : ℕ → ℕ) (s : List Sym) (vs : List Value) (ws : List Word) (before : List Item)
+      → ((p' : ℕ → ℕ) (xs : List Item) → ShowsFiles fs xs → Items s vs ws p' (before ++ xs)) → Items s vs (file_words fs ws) p before
+  files_read [] p s vs ws before d = subst (Items s vs ws p) (append-nil before) (d p [] no_file_line)
+  files_read (f ∷ fs) p s vs ws before d =
+      let x = lines.File (range_at f.width (p 2) (p 4)) (named_at f.name (p 6)) (record { high = number_at 0 (p 8); low = number_at (2 ^ f.address_width - 1) (p 10) }) in
+      goes 22 (files_read fs (shift 13 p) s vs ws (before ++ x ∷ [])
+      (λ p' xs h. subst (Items s vs ws p') (sym (append_assoc before (x ∷ []) xs)) (d p' (x ∷ xs) (file_line (p 2) (p 4) (p 6) (p 8) (p 10) h))))
+
+  integer_reads : (fs : List NetFile) (p : ℕ → ℕ) (s : List Sym) (vs : List Value) (ws : List Word) (before : List Item)
+      → ((p' : ℕ → ℕ) (xs : List Item) → ShowsInteger fs xs → Items s vs ws p' (before ++ xs)) → Items s vs (integer_words fs ws) p before
+  integer_reads [] p s vs ws before d = subst (Items s vs ws p) (append-nil before) (d p [] no_integer)
+  integer_reads (f ∷ fs) p s vs ws before d = goes 7 (d (shift 3 p) _ (an_integer (p 1)))
+
+  out_reads : (out : List ℕ) (a : NodeId) (p : ℕ → ℕ) (s : List Sym) (vs : List Value) (ws : List Word) (before : List Item)
+      → Items s vs ws (shift 5 p) (before ++ out_at out a (p 1) (p 3) ∷ []) → Items s vs (out_words out a ws) p before
+  out_reads out a p s vs ws before d = goes 12 d
+
+  samples_read : (ss : List Port) (p : ℕ → ℕ) (s : List Sym) (vs : List Value) (ws : List Word) (before : List VPort)
+      → ((p' : ℕ → ℕ) (xs : List VPort) → ShowsSamples ss xs → Reads (N SAMPLES ∷ s) (lang.ports (before ++ xs) ∷ vs) (placed p' ws))
+      → Reads (N SAMPLES ∷ s) (lang.ports before ∷ vs) (placed p (sample_words ss ws))
+  samples_read [] p s vs ws before d = subst (λ (xs : List VPort). Reads (N SAMPLES ∷ s) (lang.ports xs ∷ vs) (placed p ws)) (append-nil before) (d p [] no_sample)
+  samples_read (x ∷ ss) p s vs ws before d =
+      let y = port_at x.width x.name (p 3) (p 5) (p 7) in
+      goes 16 (samples_read ss (shift 9 p) s vs ws (before ++ y ∷ [])
+      (λ p' xs h. subst (λ (zs : List VPort). Reads (N SAMPLES ∷ s) (lang.ports zs ∷ vs) (placed p' ws)) (sym (append_assoc before (y ∷ []) xs)) (d p' (y ∷ xs) (one_sample (p 3) (p 5) (p 7) h))))
+
+  abbrev Inits : List Sym → List Value → List Word → (ℕ → ℕ) → List Init → Type 0
+  Inits s vs ws p xs = Reads (N INITS ∷ s) (lang.inits xs ∷ vs) (placed p ws)
+
+  starts_read : (rs : List NetReg) (p : ℕ → ℕ) (s : List Sym) (vs : List Value) (ws : List Word) (before : List Init)
+      → ((p' : ℕ → ℕ) (xs : List Init) → ShowsStarts rs xs → Inits s vs ws p' (before ++ xs)) → Inits s vs (start_words rs ws) p before
+  starts_read [] p s vs ws before d = subst (Inits s vs ws p) (append-nil before) (d p [] no_start)
+  starts_read (r ∷ rs) p s vs ws before d =
+      let x = starts.Reg (named_at r.name (p 0)) (record { literal = literal_for r.start; at = p 2 }) in
+      goes 9 (starts_read rs (shift 4 p) s vs ws (before ++ x ∷ [])
+      (λ p' xs h. subst (Inits s vs ws p') (sym (append_assoc before (x ∷ []) xs)) (d p' (x ∷ xs) (a_start (p 0) (p 2) h))))
+
+  word_reads : (n : List ℕ) (w i u : ℕ) (us : List ℕ) (t : Bool) → (u == 0) ≡ t → (p : ℕ → ℕ) (s : List Sym) (vs : List Value) (ws : List Word) (before : List Init)
+      → ((q : ℕ → ℕ) (so_far : List Init) → ((p' : ℕ → ℕ) (xs : List Init) → ShowsWords n w (i + 1) us xs → Inits s vs ws p' (so_far ++ xs)) → Inits s vs (content_words n w (i + 1) us ws) q so_far)
+      → ((p' : ℕ → ℕ) (xs : List Init) → ShowsWords n w i (u ∷ us) xs → Inits s vs ws p' (before ++ xs))
+      → Inits s vs (cond t (content_words n w (i + 1) us ws) (name n ∷ mark marks.OpenBracket ∷ number i ∷ mark marks.CloseBracket ∷ mark marks.Equals ∷ literal (literal_for (word w u)) ∷ mark marks.Semicolon ∷ content_words n w (i + 1) us ws)) p before
+  word_reads n w i u us true e p s vs ws before rest d = rest p before (λ p' xs h. d p' xs (zero_word e h))
+  word_reads n w i u us false e p s vs ws before rest d =
+      let x = starts.Word (named_at n (p 0)) (number_at i (p 2)) (literal_at w u (p 5)) in
+      goes 12 (rest (shift 7 p) (before ++ x ∷ [])
+      (λ p' xs h. subst (Inits s vs ws p') (sym (append_assoc before (x ∷ []) xs)) (d p' (x ∷ xs) (some_word (p 0) (p 2) (p 5) e h))))
+
+  words_read : (n : List ℕ) (w i : ℕ) (us : List ℕ) (p : ℕ → ℕ) (s : List Sym) (vs : List Value) (ws : List Word) (before : List Init)
+      → ((p' : ℕ → ℕ) (xs : List Init) → ShowsWords n w i us xs → Inits s vs ws p' (before ++ xs)) → Inits s vs (content_words n w i us ws) p before
+  words_read n w i [] p s vs ws before d = subst (Inits s vs ws p) (append-nil before) (d p [] no_words)
+  words_read n w i (u ∷ us) p s vs ws before d = word_reads n w i u us (u == 0) refl p s vs ws before (λ q so_far k. words_read n w (i + 1) us q s vs ws so_far k) d
+
+  fills_read : (fs : List NetFile) (p : ℕ → ℕ) (s : List Sym) (vs : List Value) (ws : List Word) (before : List Init)
+      → ((p' : ℕ → ℕ) (xs : List Init) → ShowsFills fs xs → Inits s vs ws p' (before ++ xs)) → Inits s vs (fill_words fs ws) p before
+  fills_read [] p s vs ws before d = subst (Inits s vs ws p) (append-nil before) (d p [] no_fill)
+  fills_read (f ∷ fs) p s vs ws before d =
+      let x = starts.Fill (fill_at f p) in
+      goes 27 (words_read f.name f.width 0 f.words (shift 23 p) s vs (fill_words fs ws) (before ++ x ∷ []) (λ p' xs h.
+      fills_read fs p' s vs ws ((before ++ x ∷ []) ++ xs) (λ p'' ys k.
+      subst (Inits s vs ws p'') (sym (append_assoc (before ++ x ∷ []) xs ys ∙ append_assoc before (x ∷ []) (xs ++ ys))) (d p'' (x ∷ (xs ++ ys)) (a_fill p h k)))))
+
+  values_read : (rs : List NetReg) (p : ℕ → ℕ) (s : List Sym) (vs : List Value) (ws : List Word) (before : List ResetValue)
+      → ((p' : ℕ → ℕ) (xs : List ResetValue) → ShowsValues rs xs → Reads (N VALUES ∷ s) (lang.values (before ++ xs) ∷ vs) (placed p' ws))
+      → Reads (N VALUES ∷ s) (lang.values before ∷ vs) (placed p (value_words rs ws))
+  values_read [] p s vs ws before d = subst (λ (xs : List ResetValue). Reads (N VALUES ∷ s) (lang.values xs ∷ vs) (placed p ws)) (append-nil before) (d p [] no_value)
+  values_read (r ∷ rs) p s vs ws before d =
+      let x : ResetValue = record { name = named_at r.name (p 0); value = record { literal = literal_for r.start; at = p 2 } } in
+      goes 6 (values_read rs (shift 4 p) s vs ws (before ++ x ∷ [])
+      (λ p' xs h. subst (λ (zs : List ResetValue). Reads (N VALUES ∷ s) (lang.values zs ∷ vs) (placed p' ws)) (sym (append_assoc before (x ∷ []) xs)) (d p' (x ∷ xs) (a_value (p 0) (p 2) h))))
+
+  abbrev Updates : List Sym → List Value → List Word → (ℕ → ℕ) → List Update → Type 0
+  Updates s vs ws p xs = Reads (N UPDATES ∷ s) (lang.updates xs ∷ vs) (placed p ws)
+
+  updates_read : (rs : List NetReg) (p : ℕ → ℕ) (s : List Sym) (vs : List Value) (ws : List Word) (before : List Update)
+      → ((p' : ℕ → ℕ) (xs : List Update) → ShowsUpdates rs xs → Updates s vs ws p' (before ++ xs)) → Updates s vs (update_words rs ws) p before
+  updates_read [] p s vs ws before d = subst (Updates s vs ws p) (append-nil before) (d p [] no_update)
+  updates_read (r ∷ rs) p s vs ws before d =
+      let x = edges.Reg (named_at r.name (p 0)) (named_at (wire r.next) (p 2)) in
+      goes 8 (updates_read rs (shift 4 p) s vs ws (before ++ x ∷ [])
+      (λ p' xs h. subst (Updates s vs ws p') (sym (append_assoc before (x ∷ []) xs)) (d p' (x ∷ xs) (an_update (p 0) (p 2) h))))
+
+  write_reads : (f : NetFile) (fs : List NetFile) (o : Option WritePort) → f.port ≡ o → (p : ℕ → ℕ) (s : List Sym) (vs : List Value) (ws : List Word) (before : List Update)
+      → ((q : ℕ → ℕ) (so_far : List Update) → ((p' : ℕ → ℕ) (xs : List Update) → ShowsWrites fs xs → Updates s vs ws p' (so_far ++ xs)) → Updates s vs (writes_words fs ws) q so_far)
+      → ((p' : ℕ → ℕ) (xs : List Update) → ShowsWrites (f ∷ fs) xs → Updates s vs ws p' (before ++ xs)) → Updates s vs (write_words f.name o (writes_words fs ws)) p before
+  write_reads f fs None e p s vs ws before rest d = rest p before (λ p' xs h. d p' xs (not_written e h))
+  write_reads f fs (Some w) e p s vs ws before rest d =
+      let x = write_at f.name w p in
+      goes 15 (rest (shift 11 p) (before ++ x ∷ []) (λ p' xs h. subst (Updates s vs ws p') (sym (append_assoc before (x ∷ []) xs)) (d p' (x ∷ xs) (a_write w p e h))))
+
+  writes_read : (fs : List NetFile) (p : ℕ → ℕ) (s : List Sym) (vs : List Value) (ws : List Word) (before : List Update)
+      → ((p' : ℕ → ℕ) (xs : List Update) → ShowsWrites fs xs → Updates s vs ws p' (before ++ xs)) → Updates s vs (writes_words fs ws) p before
+  writes_read [] p s vs ws before d = subst (Updates s vs ws p) (append-nil before) (d p [] no_write)
+  writes_read (f ∷ fs) p s vs ws before d = write_reads f fs f.port refl p s vs ws before (λ q so_far k. writes_read fs q s vs ws so_far k) d
+
+  -- The end of the module follows the updates.
+  abbrev pub LAST : List Sym
+  LAST = lang.word keywords.End ∷ lang.word keywords.Endmodule ∷ Action lang.make_module ∷ []
+
+  -- All that is represented after `always`, on top of what was built before.
+  abbrev pub Ends : Parts → List Value → Type 0
+  Ends pa vs = (p : ℕ → ℕ) (r : Option ResetList) (us xs : List Update) → ShowsUpdates pa.regs us → ShowsWrites pa.files xs
+      → ((pa.reset ≡ false) × (r ≡ None)) ⊎ ((pa.reset ≡ true) × (values : List ResetValue) × (at : ℕ) × ShowsValues pa.regs values × (r ≡ Some (record { reset = named_at (codes "rst") at; values = values })))
+      → Reads LAST (lang.updates (us ++ xs) ∷ lang.perhaps_reset r ∷ vs) (placed p w1)
+
+  -- the updates of registers and files, after some
+  changes_read : (pa : Parts) (rs : List NetReg) (p : ℕ → ℕ) (s : List Sym) (vs : List Value) (ws : List Word) (before : List Update)
+      → ((p' : ℕ → ℕ) (us xs : List Update) → ShowsUpdates rs us → ShowsWrites pa.files xs → Updates s vs ws p' (before ++ (us ++ xs))) → Updates s vs (update_words rs (writes_words pa.files ws)) p before
+  changes_read pa rs p s vs ws before d =
+      updates_read rs p s vs (writes_words pa.files ws) before (λ p' us h. writes_read pa.files p' s vs ws (before ++ us) (λ p'' xs k. subst (Updates s vs ws p'') (sym (append_assoc before us xs)) (d p'' us xs h k)))
+
+  -- The first update shows that there is no reset; it may come after files that are not written.
+  first_write : (f : NetFile) (fs : List NetFile) (o : Option WritePort) → f.port ≡ o → (p : ℕ → ℕ) (vs : List Value)
+      → ((q : ℕ → ℕ) → ((p' : ℕ → ℕ) (xs : List Update) → ShowsWrites fs xs → Reads LAST (lang.updates xs ∷ lang.perhaps_reset None ∷ vs) (placed p' w1)) → Reads (N BODY ∷ LAST) vs (placed q (writes_words fs w1)))
+      → ((p' : ℕ → ℕ) (xs : List Update) → ShowsWrites (f ∷ fs) xs → Reads LAST (lang.updates xs ∷ lang.perhaps_reset None ∷ vs) (placed p' w1))
+      → Reads (N BODY ∷ LAST) vs (placed p (write_words f.name o (writes_words fs w1)))
+  first_write f fs None e p vs rest d = rest p (λ p' xs h. d p' xs (not_written e h))
+  first_write f fs (Some w) e p vs rest d =
+      goes 15 (writes_read fs (shift 11 p) LAST (lang.perhaps_reset None ∷ vs) w1 (write_at f.name w p ∷ []) (λ p' xs h. goes 1 (d p' (write_at f.name w p ∷ xs) (a_write w p e h))))
+
+  first_writes : (fs : List NetFile) (p : ℕ → ℕ) (vs : List Value)
+      → ((p' : ℕ → ℕ) (xs : List Update) → ShowsWrites fs xs → Reads LAST (lang.updates xs ∷ lang.perhaps_reset None ∷ vs) (placed p' w1)) → Reads (N BODY ∷ LAST) vs (placed p (writes_words fs w1))
+  first_writes [] p vs d = goes 3 (d p [] no_write)
+  first_writes (f ∷ fs) p vs d = first_write f fs f.port refl p vs (λ q k. first_writes fs q vs k) d
+
+  first_updates : (rs : List NetReg) (fs : List NetFile) (p : ℕ → ℕ) (vs : List Value)
+      → ((p' : ℕ → ℕ) (us xs : List Update) → ShowsUpdates rs us → ShowsWrites fs xs → Reads LAST (lang.updates (us ++ xs) ∷ lang.perhaps_reset None ∷ vs) (placed p' w1))
+      → Reads (N BODY ∷ LAST) vs (placed p (update_words rs (writes_words fs w1)))
+  first_updates [] fs p vs d = first_writes fs p vs (λ p' xs h. d p' [] xs no_update h)
+  first_updates (r ∷ rs) fs p vs d =
+      let x = edges.Reg (named_at r.name (p 0)) (named_at (wire r.next) (p 2)) in
+      goes 7 (updates_read rs (shift 4 p) LAST (lang.perhaps_reset None ∷ vs) (writes_words fs w1) (x ∷ []) (λ p' us h.
+      writes_read fs p' LAST (lang.perhaps_reset None ∷ vs) w1 (x ∷ us) (λ p'' xs k. goes 1 (d p'' (x ∷ us) xs (an_update (p 0) (p 2) h) k))))
+
+  body_reads : (pa : Parts) (b : Bool) → pa.reset ≡ b → (p : ℕ → ℕ) (vs : List Value) → Ends pa vs → Reads (N BODY ∷ LAST) vs (placed p (body_words b pa w1))
+  body_reads pa false e p vs d = first_updates pa.regs pa.files p vs (λ p' us xs h k. d p' None us xs h k (inl (e, refl)))
+  body_reads pa true e p vs d =
+      goes 8 (values_read pa.regs (shift 5 p) _ _ _ [] (λ p' values shown.
+      goes 6 (changes_read pa pa.regs (shift 3 p') (lang.word keywords.End ∷ LAST) _ (keyword keywords.End ∷ w1) [] (λ p'' us xs h k.
+      goes 2 (d (shift 1 p'') _ us xs h k (inr (e, values, p 2, shown, refl)))))))
+
+  -- what follows the sample ports
+  abbrev pub REST : List Sym
+  REST =
+      lang.word keywords.Output ∷ N lang.PORT ∷ lang.mark marks.Comma ∷ lang.word keywords.Output ∷ N lang.PORT ∷ lang.mark marks.Comma ∷ lang.word keywords.Output ∷ N lang.PORT
+      ∷ lang.mark marks.CloseParenthesis ∷ lang.mark marks.Semicolon ∷ Action lang.no_items ∷ N ITEMS
+      ∷ lang.word keywords.Initial ∷ lang.word keywords.Begin ∷ Action lang.no_inits ∷ N INITS ∷ lang.word keywords.End
+      ∷ lang.word keywords.Always ∷ lang.mark marks.At ∷ lang.mark marks.OpenParenthesis ∷ lang.word keywords.Posedge ∷ lang.ID ∷ lang.mark marks.CloseParenthesis ∷ lang.word keywords.Begin ∷ N BODY ∷ LAST
+
+  header_reads : (n : List ℕ) (ext : ℕ) (b : Bool) (p : ℕ → ℕ) (ws : List Word)
+      → ((q : ℕ → ℕ) (rst : Option Named) (a c e : ℕ) → IsReset b rst
+      → Reads (N SAMPLES ∷ REST) (lang.ports [] ∷ lang.port (port_at ext (codes "ext") a c e) ∷ lang.perhaps_named rst ∷ lang.named (named_at (codes "clk") (p 5)) ∷ lang.named (named_at n (p 1)) ∷ []) (placed q ws))
+      → Reads (N MODULE ∷ []) [] (placed p (keyword keywords.Module ∷ name n ∷ mark marks.OpenParenthesis ∷ keyword keywords.Input ∷ keyword keywords.Wire ∷ name (codes "clk") ∷ mark marks.Comma
+      ∷ reset_words b (port_words keywords.Input ext (codes "ext") (mark marks.Comma ∷ ws))))
+  header_reads n ext false p ws d = goes 25 (d (shift 16 p) _ (p 10) (p 12) (p 14) no_reset_port)
+  header_reads n ext true p ws d = goes 31 (d (shift 20 p) _ (p 14) (p 16) (p 18) (a_reset_port (p 9)))
+
+-- offsets by their numbers
+abbrev places : List ℕ → ℕ → ℕ
+places xs i = get_or xs i 0
+
+reset_is : (rs : List NetReg) (b : Bool) (rst : Option Named) (r : Option ResetList) → IsReset b rst
+    → ((b ≡ false) × (r ≡ None)) ⊎ ((b ≡ true) × (values : List ResetValue) × (at : ℕ) × ShowsValues rs values × (r ≡ Some (record { reset = named_at (codes "rst") at; values = values })))
+    → ShowsReset rs b rst r
+reset_is rs _ _ r no_reset_port (inl h) = subst (ShowsReset rs false None) (sym h.1) no_reset_shown
+reset_is rs _ _ r no_reset_port (inr h) = absurd (false≢true h.0)
+reset_is rs _ _ r (a_reset_port at) (inl h) = absurd (false≢true (sym h.0))
+reset_is rs _ _ r (a_reset_port at) (inr h) = subst (ShowsReset rs true (Some (named_at (codes "rst") at))) (sym h.4) (reset_shown at h.2 h.3)
+
+-- The tokens of a netlist are a sentence, and it builds a module that represents the netlist.
+pub sentence : (net : Net) (p : ℕ → ℕ) → AllSizes net.nodes → Completes verilog tables (Built (IsShown net)) (N MODULE ∷ []) [] (placed p (net_words net))
+sentence net p sizes =
+    let pa = net.parts in
+    let P = IsShown net in
+    let full = wide net.nodes pa.full.0 in
+    let ue = wide net.nodes pa.ue.0 in
+    let back = wide net.nodes pa.back.0 in
+    header_reads P pa.name pa.ext pa.reset p _ (λ q rst a c e is_rst.
+    samples_read P pa.samples q (REST P) _ (outs_words full ue back (w8 net)) [] (λ q1 ss shows_ss.
+    goes P 45 (regs_read P pa.regs (shift 28 q1) _ _ (file_words pa.files (integer_words pa.files (w7 net))) [] (λ q2 rs shows_rs.
+    files_read P pa.files q2 _ _ (integer_words pa.files (w7 net)) rs (λ q3 fs shows_fs.
+    integer_reads P pa.files q3 _ _ (w7 net) (rs ++ fs) (λ q4 is shows_is.
+    nodes_read P pa 0 net.nodes q4 _ _ (w6 pa) ((rs ++ fs) ++ is) sizes (λ q5 ns shows_ns.
+    out_reads P (codes "full") pa.full q5 _ _ (w5 pa) (((rs ++ fs) ++ is) ++ ns)
+    (out_reads P (codes "ue") pa.ue (shift 5 q5) _ _ (w4 pa) _
+    (out_reads P (codes "back") pa.back (shift 10 q5) _ _ (w3 pa) _
+    (goes P 4 (starts_read P pa.regs (shift 17 q5) _ _ (fill_words pa.files (w2 pa)) [] (λ q6 st shows_st.
+    fills_read P pa.files q6 _ _ (w2 pa) st (λ q7 fl shows_fl.
+    goes P 9 (body_reads P pa pa.reset refl (shift 8 q7) _ (λ q8 r us xs shows_us shows_xs reset.
+    let m : VModule = record {
+      name = named_at pa.name (p 1);
+      clk = named_at (codes "clk") (p 5);
+      rst = rst;
+      ext = port_at pa.ext (codes "ext") a c e;
+      samples = ss;
+      full = port_at full (codes "full") (q1 3) (q1 5) (q1 7);
+      ue = port_at ue (codes "ue") (q1 12) (q1 14) (q1 16);
+      back = port_at back (codes "back") (q1 21) (q1 23) (q1 25);
+      items = (((((rs ++ fs) ++ is) ++ ns) ++ out_at (codes "full") pa.full (q5 1) (q5 3) ∷ []) ++ out_at (codes "ue") pa.ue (q5 6) (q5 8) ∷ []) ++ out_at (codes "back") pa.back (q5 11) (q5 13) ∷ [];
+      inits = st ++ fl;
+      clock = named_at (codes "clk") (q7 5);
+      reset = r;
+      updates = us ++ xs;
+    } in
+    goes P 3 (record {
+      built = lang.whole m ∷ [];
+      holds = (
+        m,
+        refl,
+        record {
+          p = places (p 1 ∷ p 5 ∷ a ∷ c ∷ e ∷ q1 3 ∷ q1 5 ∷ q1 7 ∷ q1 12 ∷ q1 14 ∷ q1 16 ∷ q1 21 ∷ q1 23 ∷ q1 25 ∷ q7 5 ∷ []);
+          q = places (q5 1 ∷ q5 3 ∷ q5 6 ∷ q5 8 ∷ q5 11 ∷ q5 13 ∷ []);
+          name = refl;
+          clk = refl;
+          ext = refl;
+          samples = shows_ss;
+          full = refl;
+          ue = refl;
+          back = refl;
+          regs = rs;
+          files = fs;
+          integer = is;
+          nodes = ns;
+          shows_regs = shows_rs;
+          shows_files = shows_fs;
+          shows_integer = shows_is;
+          shows_nodes = shows_ns;
+          items = simp append_assoc;
+          start_part = st;
+          fill_part = fl;
+          shows_starts = shows_st;
+          shows_fills = shows_fl;
+          inits = refl;
+          clock = refl;
+          reset = reset_is pa.regs pa.reset rst r is_rst reset;
+          update_part = us;
+          write_part = xs;
+          shows_updates = shows_us;
+          shows_writes = shows_xs;
+          updates = refl;
+        },
+      );
+      derives = stay;
+    }))))))))))))))))

@@ -1,0 +1,389 @@
+-- A module that represents a netlist violates no rule of widths.
+use Rattle.std.proofs.Common.{◌≡◌, ◌∙◌, ℕ, zero, suc, ◌+◌, ◌-◌, ◌^◌, ◌≤◌, ◌<◌, List, [], ◌∷◌, ◌++◌, length, get_or, map, Bool, true, false, Option, Some, None, refl, sym, ap, subst, arith}
+use Rattle.std.specs.Prelude.{codes, All, ◌==◌, ◌||◌}
+use Rattle.std.specs.Option.{is_some}
+use Rattle.std.proofs.lemmas.Bool.{eqb-true, false≢true, agree_below_at}
+use Rattle.std.proofs.lemmas.List.Elements.{All-nil, All-cons, All-head, All-tail}
+use Rattle.kp_bits.specs.Word.{word}
+use Rattle.kp_bits.specs.Word as bits
+use Rattle.kp_net.specs.declared.node.NodeId.{NodeId}
+use Rattle.kp_net.specs.declared.node.Kind.{Kind}
+use Rattle.kp_net.specs.declared.node.Node.{Node}
+use Rattle.kp_net.specs.declared.netlist.Port.{Port}
+use Rattle.kp_net.specs.declared.netlist.NetReg.{NetReg}
+use Rattle.kp_net.specs.declared.netlist.NetFile.{NetFile}
+use Rattle.kp_net.specs.Names.{Differ, IsNamed, is_reg_name, is_sample_name}
+use Rattle.kp_net.specs.Netlist.{Net}
+use Rattle.kp_net.specs.Parts.{no_port, no_reg, no_file, WriteOk, PortOk, RegOk, FileOk, CellOk, NetOk}
+use Rattle.kp_net.specs.Widths.{wide, no_node, KindOk}
+use Rattle.std.proofs.Math.Nat.{pow-le-pow_right}
+use Rattle.kp_vlog.specs.declared.tree.Named.{Named}
+use Rattle.kp_vlog.specs.declared.tree.ResetList.{ResetList}
+use Rattle.kp_vlog.specs.declared.tree.ResetValue.{ResetValue}
+use Rattle.kp_vlog.specs.declared.tree.VPort.{VPort}
+use Rattle.kp_vlog.specs.declared.tree.Right.{Right}
+use Rattle.kp_vlog.specs.declared.tree.Item.{Item}
+use Rattle.kp_vlog.specs.declared.tree.Init.{Init}
+use Rattle.kp_vlog.specs.declared.tree.Update.{Update}
+use Rattle.kp_vlog.specs.declared.tree.VModule.{VModule}
+use Rattle.kp_vlog.specs.Canon.{wire, wire_name}
+use Rattle.kp_vlog.specs.Scope.{Scope, scope_of, Sized, Sizes, sizes_of, item_sizes, port_size, width_in, address_in, place_of, address_width}
+use Rattle.kp_vwrite_roundtrip.proofs.Sentence.{IsShown, named_at, number_at, range_at, fill_at, ShowsNames, no_name, a_name, ShowsRight, a_const, an_ext, a_sample, a_reg, a_word, a_not, a_binary, a_mux, a_concat, a_slice, ShowsSamples, no_sample, one_sample, ShowsRegs, no_reg_line, reg_line, ShowsFiles, no_file_line, file_line, ShowsInteger, no_integer, an_integer, ShowsNodes, no_node_line, node_line, ShowsStarts, no_start, a_start, ShowsWords, no_words, zero_word, some_word, ShowsFills, no_fill, a_fill, ShowsUpdates, no_update, an_update, ShowsWrites, no_write, not_written, a_write, ShowsReset, no_reset_shown, reset_shown, ShowsValues, no_value, a_value}
+use Rattle.kp_vwrite_roundtrip.proofs.Written.{RightFrom, all_right}
+use Rattle.kp_vwrite_roundtrip.proofs.Distinct.{not_true, when_true, both, same_refl, apart, tag_reg, tag_sample, apart_all}
+use Rattle.kp_vwrite_roundtrip.proofs.Denoted.{outs, spelled}
+use Rattle.std.specs.Prelude.{nat_lt, nat_le}
+use Rattle.std.specs.List.{sum_by}
+use Rattle.std.proofs.lemmas.List.Sums.{sum_by-cons}
+use Rattle.std.proofs.Common.{eq-eqb}
+use Rattle.std.proofs.lemmas.Bool.Decides.{nat_tests}
+use Rattle.kp_base.specs.First.{first}
+use Rattle.kp_bits.specs.declared.operator.BinOp.{BinOp}
+use Rattle.kp_bits.specs.Word.{IsWord}
+use Rattle.kp_net.specs.Widths.{BinaryOk}
+use Rattle.kp_vlog.specs.Scope.{width_in, address_in, Sizes}
+use Rattle.kp_vlog.specs.Rules.{want, range_fits, stall_fits, four_bits, words_fit, literal_fits, op_fits, width_sum, right_fits, right_answers, file_fits, items_answers, start_answers, loop_fits, inits_answers, reset_values, values_answers, updates_answers, ports_answers, header_answers, width_answers}
+use Rattle.kp_vwrite_roundtrip.proofs.Runs.{literal_for}
+use Rattle.kp_vwrite_roundtrip.proofs.NamesHold.{whole}
+use Rattle.kp_vwrite_roundtrip.proofs.SameNet.{found, width_found, address_found, found_past, found_here, sized, WidthsAre, samples_past}
+use Rattle.kp_vwrite_roundtrip.proofs.Denoted.{widths_are, file_sizes, scoped, table_is, ports_past, kinds_of}
+use Rattle.kp_vwrite_roundtrip.proofs.Distinct.{place_at}
+
+-- no check yields an offset
+abbrev Clean : List (Option ℕ) → Type 0
+Clean [] = Unit {0}
+Clean (a ∷ xs) = (a ≡ None) × Clean xs
+
+first_none : (xs : List (Option ℕ)) → Clean xs → first xs ≡ None
+first_none [] h = refl
+first_none (None ∷ xs) h = first_none xs h.1
+first_none (Some a ∷ xs) h = h.0
+
+clean_append : (xs ys : List (Option ℕ)) → Clean xs → Clean ys → Clean (xs ++ ys)
+clean_append [] ys h k = k
+clean_append (a ∷ xs) ys h k = (h.0, clean_append xs ys h.1 k)
+
+wanted : (holds : Bool) (at : ℕ) → holds ≡ true → want holds at ≡ None
+wanted holds at e = when_true holds None (Some at) e
+
+le_true : (a b : ℕ) → a ≤ b → nat_le a b ≡ true
+le_true a b h = grind (arith, nat_tests)
+
+lt_true : (a b : ℕ) → a < b → nat_lt a b ≡ true
+lt_true a b h = grind (arith, nat_tests)
+
+range_ok : (w a b : ℕ) → w ≤ 64 → range_fits (range_at w a b) ≡ true
+range_ok w a b h = le_true (w - 1) 63 (omega arith)
+
+stall_ok : (w a b : ℕ) → 2 ≤ w → w ≤ 12 → stall_fits (range_at w a b) ≡ true
+stall_ok w a b low high = both (nat_le 1 (w - 1)) (nat_le (w - 1) 11) (le_true 1 (w - 1) (omega arith)) (le_true (w - 1) 11 (omega arith))
+
+four_ok : (w a b : ℕ) → w ≡ 4 → four_bits (range_at w a b) ≡ true
+four_ok w a b e = eq-eqb (w - 1) 3 (omega arith)
+
+literal_ok : (a : bits.Word) → IsWord a → literal_fits (literal_for a) ≡ true
+literal_ok a h = both (nat_le 1 a.width) _ (le_true 1 a.width h.positive) (both (nat_le a.width 64) (nat_lt a.value (2 ^ a.width)) (le_true a.width 64 h.at_most) (lt_true a.value (2 ^ a.width) h.fits))
+
+-- Widths by names.
+
+record Wide (net : Net) (s : Scope) : Type 0 where
+  pub ext : width_in s.sizes (codes "ext") ≡ net.parts.ext
+  pub full : width_in s.sizes (codes "full") ≡ wide net.nodes net.parts.full.0
+  pub ue : width_in s.sizes (codes "ue") ≡ wide net.nodes net.parts.ue.0
+  pub back : width_in s.sizes (codes "back") ≡ wide net.nodes net.parts.back.0
+  pub samples : All (λ x. width_in s.sizes x.name ≡ x.width) net.parts.samples
+  pub regs : All (λ r. width_in s.sizes r.name ≡ r.start.width) net.parts.regs
+  pub files : All (λ f. width_in s.sizes f.name ≡ f.width) net.parts.files
+  pub addresses : All (λ f. address_in s.sizes f.name ≡ f.address_width) net.parts.files
+  pub wires : (i : ℕ) → i < length net.nodes → width_in s.sizes (wire_name i) ≡ wide net.nodes i
+
+width_at : (ss : Sizes) (all ns : List Node) (j i : ℕ) → WidthsAre ss j ns → ((x : ℕ) → x < length ns → wide all (j + x) ≡ (get_or ns x no_node).width) → i < length ns → width_in ss (wire_name (j + i)) ≡ wide all (j + i)
+width_at ss all [] j i w h l = absurd (omega arith)
+width_at ss all (n ∷ ns) j zero w h l =
+    ap (λ k. width_in ss (wire_name k)) (let e : j + 0 ≡ j = omega arith in e) ∙ w.0 ∙ sym (h 0 l)
+width_at ss all (n ∷ ns) j (suc i) w h l =
+    let e : j + suc i ≡ j + 1 + i = omega arith in
+    ap (λ k. width_in ss (wire_name k)) e
+    ∙ width_at ss all ns (j + 1) i w.1 (λ x m. ap (wide all) (let f : j + 1 + x ≡ j + suc x = omega arith in f) ∙ h (suc x) (omega arith)) (omega arith)
+    ∙ ap (wide all) (sym e)
+
+wide_is : (ns : List Node) (x : ℕ) → wide ns (0 + x) ≡ (get_or ns x no_node).width
+unfolding wide
+wide_is ns x = ap (λ k. (get_or ns k no_node).width) (let e : 0 + x ≡ x = omega arith in e)
+
+samples_sized : (ss : List Port) (xs : List VPort) (rest : Sizes) → ShowsSamples ss xs → All PortOk ss → Differ (map (λ s. s.name) ss) → All (λ x. found (map port_size xs ++ rest) x.name ≡ sized x.name x.width 0) ss
+samples_sized _ _ rest no_sample k d = All-nil (λ (x : Port). found rest x.name ≡ sized x.name x.width 0)
+samples_sized _ _ rest (one_sample {s = s} {ss = ss} {xs = xs} a b c h) k d =
+    let low = (All-head PortOk s ss k).positive in
+    let here : Sized = sized s.name (s.width - 1 + 1) 0 in
+    let width : s.width - 1 + 1 ≡ s.width = omega arith in
+    All-cons (λ x. found (here ∷ (map port_size xs ++ rest)) x.name ≡ sized x.name x.width 0) s ss
+    (found_here here (map port_size xs ++ rest) s.name (same_refl s.name) ∙ ap (λ w. sized s.name w 0) width)
+    (λ i e l. found_past here (map port_size xs ++ rest) (get_or ss i e).name (apart_all (λ s. s.name) s.name ss d.0 i e l) ∙ samples_sized ss xs rest h (All-tail PortOk s ss k) d.1 i e l)
+
+regs_sized : (ns : List Node) (rs : List NetReg) (xs : List Item) (rest : Sizes) → ShowsRegs rs xs → All (RegOk ns) rs → Differ (map (λ r. r.name) rs) → All (λ r. found (item_sizes xs ++ rest) r.name ≡ sized r.name r.start.width 0) rs
+regs_sized ns _ _ rest no_reg_line k d = All-nil (λ (r : NetReg). found rest r.name ≡ sized r.name r.start.width 0)
+regs_sized ns _ _ rest (reg_line {r = r} {rs = rs} {xs = xs} a b c h) k d =
+    let start = (All-head (RegOk ns) r rs k).start in let low = start.positive in
+    let here : Sized = sized r.name (r.start.width - 1 + 1) 0 in
+    let width : r.start.width - 1 + 1 ≡ r.start.width = omega arith in
+    All-cons (λ x. found (here ∷ (item_sizes xs ++ rest)) x.name ≡ sized x.name x.start.width 0) r rs
+    (found_here here (item_sizes xs ++ rest) r.name (same_refl r.name) ∙ ap (λ w. sized r.name w 0) width)
+    (λ i e l. found_past here (item_sizes xs ++ rest) (get_or rs i e).name (apart_all (λ r. r.name) r.name rs d.0 i e l) ∙ regs_sized ns rs xs rest h (All-tail (RegOk ns) r rs k) d.1 i e l)
+
+all_wide : (net : Net) (m : VModule) (s : IsShown net m) → NetOk net → IsNamed net → Wide net (scope_of m)
+all_wide net m s k named =
+    let p = net.parts in
+    let table = table_is net m s in
+    let low = k.parts.ext_positive in
+    let atleast = named.at_least in let fw = named.full in let uw = named.ue in let bw = named.back in
+    let samples = kinds_of is_sample_name (map (λ x. x.name) p.samples) named.samples in
+    let port : ℕ → List ℕ → ℕ → Sized = λ w n a. sized n (w - 1 + 1) 0 in
+    record {
+      ext = width_found (sizes_of m) (codes "ext") ∙ ap (λ t. (found t (codes "ext")).width) table ∙ ap (λ (z : Sized). z.width) (found_here _ _ (codes "ext") refl) ∙ omega arith;
+      full = width_found (sizes_of m) (codes "full") ∙ ap (λ t. (found t (codes "full")).width) table
+          ∙ ap (λ (z : Sized). z.width) (found_past _ _ (codes "full") refl ∙ samples_past (codes "full") 102 p.samples m.samples _ s.samples samples refl refl ∙ found_here _ _ (codes "full") refl) ∙ omega arith;
+      ue = width_found (sizes_of m) (codes "ue") ∙ ap (λ t. (found t (codes "ue")).width) table
+          ∙ ap (λ (z : Sized). z.width) (found_past _ _ (codes "ue") refl ∙ samples_past (codes "ue") 117 p.samples m.samples _ s.samples samples refl refl ∙ found_past _ _ (codes "ue") refl ∙ found_here _ _ (codes "ue") refl) ∙ omega arith;
+      back = width_found (sizes_of m) (codes "back") ∙ ap (λ t. (found t (codes "back")).width) table
+          ∙ ap (λ (z : Sized). z.width) (found_past _ _ (codes "back") refl ∙ samples_past (codes "back") 98 p.samples m.samples _ s.samples samples refl refl ∙ found_past _ _ (codes "back") refl ∙ found_past _ _ (codes "back") refl ∙ found_here _ _ (codes "back") refl) ∙ omega arith;
+      samples = λ i d l. let n = (get_or p.samples i d).name in
+          width_found (sizes_of m) n ∙ ap (λ t. (found t n).width) table
+          ∙ ap (λ (z : Sized). z.width) (found_past _ _ n (apart n (codes "ext") 1115 101 (tag_sample n (spelled is_sample_name (λ x. x.name) p.samples named.samples i d l)) refl refl) ∙ samples_sized p.samples m.samples _ s.samples k.parts.samples named.samples_differ i d l);
+      regs = λ i d l. let n = (get_or p.regs i d).name in
+          width_found (sizes_of m) n ∙ ap (λ t. (found t n).width) table
+          ∙ ap (λ (z : Sized). z.width) (ports_past net m s named n 1114 (tag_reg n (spelled is_reg_name (λ x. x.name) p.regs named.regs i d l)) refl refl refl refl refl ∙ regs_sized net.nodes p.regs s.regs _ s.shows_regs k.parts.regs named.regs_differ i d l);
+      files = λ i d l. width_found (sizes_of m) (get_or p.files i d).name ∙ ap (λ (z : Sized). z.width) (file_sizes net m s k named i d l);
+      addresses = λ i d l. address_found (sizes_of m) (get_or p.files i d).name ∙ ap (λ (z : Sized). z.address) (file_sizes net m s k named i d l);
+      wires = λ i l. let e : 0 + i ≡ i = omega arith in
+          ap (λ x. width_in (sizes_of m) (wire_name x)) (sym e) ∙ width_at (sizes_of m) net.nodes net.nodes 0 i (widths_are net m s k named) (λ x h. wide_is net.nodes x) l ∙ ap (wide net.nodes) e;
+    }
+
+-- Right sides.
+
+equal : (a b : ℕ) → a ≡ b → (a == b) ≡ true
+equal a b e = eq-eqb a b e
+
+wire_wide : (net : Net) (s : Scope) (m : ℕ) (a : NodeId) → Wide net s → m ≤ length net.nodes → a.0 < m → width_in s.sizes (wire a) ≡ wide net.nodes a.0
+wire_wide net s m a w le h = w.wires a.0 (omega arith)
+
+sum_is : (net : Net) (s : Scope) (m : ℕ) (parts : List NodeId) (xs : List Named) → Wide net s → m ≤ length net.nodes → ShowsNames parts xs → All (λ a. a.0 < m) parts → width_sum s.sizes xs ≡ sum_by (λ a. wide net.nodes a.0) parts
+sum_is net s m _ _ w le no_name h = refl
+sum_is net s m _ _ w le (a_name {a = a} {parts = parts} {xs = xs} at sh) h =
+    ap (λ x. x + width_sum s.sizes xs) (wire_wide net s m a w le (All-head (λ a. a.0 < m) a parts h)) ∙ ap (λ x. wide net.nodes a.0 + x) (sum_is net s m parts xs w le sh (All-tail (λ a. a.0 < m) a parts h)) ∙ sym (sum_by-cons (λ (b : NodeId). wide net.nodes b.0) a parts)
+
+names_length : (parts : List NodeId) (xs : List Named) → ShowsNames parts xs → length xs ≡ length parts
+names_length _ _ no_name = refl
+names_length _ _ (a_name {parts = parts} {xs = xs} at sh) = ap suc (names_length parts xs sh)
+
+op_ok : (op : BinOp) (k a b x y : ℕ) → BinaryOk op k a b → x ≡ a → y ≡ b → op_fits op k x y ≡ true
+op_ok BinOp.And k a b x y h e f = both (x == k) (y == k) (equal x k (e ∙ h.0)) (equal y k (f ∙ h.1))
+op_ok BinOp.Or k a b x y h e f = both (x == k) (y == k) (equal x k (e ∙ h.0)) (equal y k (f ∙ h.1))
+op_ok BinOp.Xor k a b x y h e f = both (x == k) (y == k) (equal x k (e ∙ h.0)) (equal y k (f ∙ h.1))
+op_ok BinOp.Add k a b x y h e f = both (x == k) (y == k) (equal x k (e ∙ h.0)) (equal y k (f ∙ h.1))
+op_ok BinOp.Sub k a b x y h e f = both (x == k) (y == k) (equal x k (e ∙ h.0)) (equal y k (f ∙ h.1))
+op_ok BinOp.Mul k a b x y h e f = both (x == k) (y == k) (equal x k (e ∙ h.0)) (equal y k (f ∙ h.1))
+op_ok BinOp.Eq k a b x y h e f = both (k == 1) (x == y) (equal k 1 h.0) (equal x y (e ∙ h.1 ∙ sym f))
+op_ok BinOp.Lt k a b x y h e f = both (k == 1) (x == y) (equal k 1 h.0) (equal x y (e ∙ h.1 ∙ sym f))
+op_ok BinOp.Shl k a b x y h e f = equal x k (e ∙ h)
+op_ok BinOp.Shr k a b x y h e f = equal x k (e ∙ h)
+
+right_wide : (net : Net) (s : Scope) (m k : ℕ) (kind : Kind) (r : Right) → Wide net s → m ≤ length net.nodes → 1 ≤ k → k ≤ 64 → ShowsRight net.parts k kind r → KindOk net.nodes m k kind → CellOk net.nodes net.parts k kind
+    → (right_fits s.sizes k r ≡ true) × Clean (right_answers r)
+right_wide net s m k _ _ w le low high (a_const {v = v} a) ok cell = (equal k k refl, (wanted _ a (literal_ok (word k v) (record { positive = low; at_most = high; fits = ok })), tt))
+right_wide net s m k _ _ w le low high (an_ext a) ok cell = (equal _ k (w.ext ∙ sym cell), tt)
+right_wide net s m k _ _ w le low high (a_sample {i = i} a) ok cell = (equal _ k (w.samples i no_port cell.0 ∙ cell.1), tt)
+right_wide net s m k _ _ w le low high (a_reg {i = i} a) ok cell = (equal _ k (w.regs i no_reg cell.0 ∙ cell.1), tt)
+right_wide net s m k _ _ w le low high (a_word {i = i} {n = n} a b) ok cell =
+    (both _ _ (equal _ k (w.files i no_file cell.0 ∙ cell.1)) (equal _ _ (wire_wide net s m n w le ok ∙ cell.2 ∙ sym (w.addresses i no_file cell.0))), tt)
+right_wide net s m k _ _ w le low high (a_not {n = n} a) ok cell = (equal _ k (wire_wide net s m n w le ok.0 ∙ ok.1), tt)
+right_wide net s m k _ _ w le low high (a_binary {op = op} {n = n} {m = o} a b) ok cell =
+    (op_ok op k (wide net.nodes n.0) (wide net.nodes o.0) _ _ ok.2 (wire_wide net s m n w le ok.0) (wire_wide net s m o w le ok.1), tt)
+right_wide net s m k _ _ w le low high (a_mux {t = t} {n = n} {m = o} a b c) ok cell =
+    (both _ _ (equal _ 1 (wire_wide net s m t w le ok.0 ∙ ok.3)) (both _ _ (equal _ k (wire_wide net s m n w le ok.1 ∙ ok.4)) (equal _ k (wire_wide net s m o w le ok.2 ∙ ok.5))), tt)
+right_wide net s m k _ _ w le low high (a_concat {parts = parts} {xs = xs} sh) ok cell =
+    let n = names_length parts xs sh in let few = ok.0 in let many = ok.1 in
+    (both _ _ (le_true 2 (length xs) (omega arith)) (both _ _ (le_true (length xs) 12 (omega arith)) (equal _ k (sum_is net s m parts xs w le sh ok.2 ∙ ok.3))), tt)
+right_wide net s m k _ _ w le low high (a_slice {n = n} {hi = hi} {lo = lo} a b c) ok cell =
+    (both _ _ (le_true lo hi ok.1) (both _ _ (lt_true hi _ (subst (λ x. hi < x) (sym (wire_wide net s m n w le ok.0)) ok.2)) (equal (hi + 1) (k + lo) ok.3)), tt)
+
+-- Items.
+
+regs_clean : (ns : List Node) (s : Scope) (rs : List NetReg) (xs ys : List Item) → ShowsRegs rs xs → All (RegOk ns) rs → Clean (items_answers s ys) → Clean (items_answers s (xs ++ ys))
+regs_clean ns s _ _ ys no_reg_line k h = h
+regs_clean ns s _ _ ys (reg_line {r = r} {rs = rs} {xs = xs} a b c sh) k h =
+    let start = (All-head (RegOk ns) r rs k).start in
+    (wanted _ c (range_ok r.start.width a b start.at_most), regs_clean ns s rs xs ys sh (All-tail (RegOk ns) r rs k) h)
+
+words_ok : (a d e : ℕ) → 1 ≤ a → a ≤ 16 → words_fit (record { high = number_at 0 d; low = number_at (2 ^ a - 1) e }) ≡ true
+words_ok a d e low high = second (a == 0) _ (agree_below_at (λ k. (k == 0) || is_some (address_width (2 ^ k - 1))) (λ _. true) 17 a refl (omega arith)) (not_true (a == 0) (λ t. let z : a ≡ 0 = eqb-true a 0 t in omega arith))
+  where
+    second : (p q : Bool) → (p || q) ≡ true → p ≡ false → q ≡ true
+    second true q h e = absurd (false≢true (sym e))
+    second false q h e = h
+
+files_clean : (ns : List Node) (s : Scope) (fs : List NetFile) (xs ys : List Item) → ShowsFiles fs xs → All (FileOk ns) fs → All (λ f. file_fits s f.name ≡ true) fs → Clean (items_answers s ys) → Clean (items_answers s (xs ++ ys))
+files_clean ns s _ _ ys no_file_line k few h = h
+files_clean ns s _ _ ys (file_line {f = f} {fs = fs} {xs = xs} a b c d e sh) k few h =
+    let file = All-head (FileOk ns) f fs k in (
+      wanted _ c (both _ _ (range_ok f.width a b file.at_most) (both _ _ (words_ok f.address_width d e file.addressed file.addressed_at_most) (All-head (λ f. file_fits s f.name ≡ true) f fs few))),
+      files_clean ns s fs xs ys sh (All-tail (FileOk ns) f fs k) (All-tail (λ f. file_fits s f.name ≡ true) f fs few) h,
+    )
+
+integer_clean : (s : Scope) (fs : List NetFile) (xs ys : List Item) → ShowsInteger fs xs → Clean (items_answers s ys) → Clean (items_answers s (xs ++ ys))
+integer_clean s _ _ ys no_integer h = h
+integer_clean s _ _ ys (an_integer a) h = h
+
+nodes_clean : (net : Net) (s : Scope) (j : ℕ) (ns : List Node) (xs ys : List Item) → Wide net s → WidthsAre s.sizes j ns → ShowsNodes net.parts j ns xs → RightFrom net j ns → j + length ns ≤ length net.nodes → Clean (items_answers s ys)
+    → Clean (items_answers s (xs ++ ys))
+nodes_clean net s j _ _ ys w sizes no_node_line k le h = h
+nodes_clean net s j _ _ ys w sizes (node_line {n = n} {ns = ns} {r = r} {xs = xs} a b c d sh next) k le h =
+    let right = right_wide net s j n.width n.kind r w (omega arith) k.0.positive k.0.at_most sh k.0.kind k.1 in (
+      wanted _ c (range_ok n.width a b k.0.at_most),
+      (
+        wanted _ d (ap (λ x. right_fits s.sizes x r) sizes.0 ∙ right.0),
+        clean_append (right_answers r) (items_answers s (xs ++ ys)) right.1 (nodes_clean net s (j + 1) ns xs ys w sizes.1 next k.2 (omega arith) h),
+      ),
+    )
+
+-- Start values.
+
+start_clean : (s : Scope) (n : List ℕ) (a b : ℕ) (v : bits.Word) (holds : Bool) → width_in s.sizes n ≡ v.width → IsWord v → holds ≡ true → Clean (start_answers s (named_at n a) (record { literal = literal_for v; at = b }) holds)
+start_clean s n a b v holds e ok h = (wanted _ a (both (v.width == width_in s.sizes n) holds (equal v.width _ (sym e)) h), (wanted _ b (literal_ok v ok), tt))
+
+starts_clean : (ns : List Node) (s : Scope) (rs : List NetReg) (xs ys : List Init) → ShowsStarts rs xs → All (RegOk ns) rs → All (λ r. width_in s.sizes r.name ≡ r.start.width) rs → Clean (inits_answers s ys) → Clean (inits_answers s (xs ++ ys))
+starts_clean ns s _ _ ys no_start k w h = h
+starts_clean ns s _ _ ys (a_start {r = r} {rs = rs} {xs = xs} a b sh) k w h =
+    let c = start_clean s r.name a b r.start true (All-head (λ r. width_in s.sizes r.name ≡ r.start.width) r rs w) (All-head (RegOk ns) r rs k).start refl in
+    (c.0, (c.1.0, starts_clean ns s rs xs ys sh (All-tail (RegOk ns) r rs k) (All-tail (λ r. width_in s.sizes r.name ≡ r.start.width) r rs w) h))
+
+words_clean : (s : Scope) (n : List ℕ) (w a i : ℕ) (us : List ℕ) (xs ys : List Init) → ShowsWords n w i us xs → width_in s.sizes n ≡ w → address_in s.sizes n ≡ a → 1 ≤ w → w ≤ 64 → All (λ v. v < 2 ^ w) us → i + length us ≤ 2 ^ a
+    → Clean (inits_answers s ys) → Clean (inits_answers s (xs ++ ys))
+words_clean s n w a i _ _ ys no_words e f low high fit few h = h
+words_clean s n w a i _ _ ys (zero_word {v = v} {vs = vs} {xs = xs} z sh) e f low high fit few h =
+    words_clean s n w a (i + 1) vs xs ys sh e f low high (All-tail (λ v. v < 2 ^ w) v vs fit) (omega arith) h
+words_clean s n w a i _ _ ys (some_word {v = v} {vs = vs} {xs = xs} x y z t sh) e f low high fit few h =
+    let ok = All-head (λ v. v < 2 ^ w) v vs fit in
+    let c = start_clean s n x z (word w v) (nat_lt i (2 ^ address_in s.sizes n)) e (record { positive = low; at_most = high; fits = ok }) (ap (λ q. nat_lt i (2 ^ q)) f ∙ lt_true i (2 ^ a) (omega arith)) in
+    (c.0, (c.1.0, words_clean s n w a (i + 1) vs xs ys sh e f low high (All-tail (λ v. v < 2 ^ w) v vs fit) (omega arith) h))
+
+fills_clean : (ns : List Node) (s : Scope) (fs : List NetFile) (xs : List Init) → ShowsFills fs xs → All (FileOk ns) fs → All (λ f. width_in s.sizes f.name ≡ f.width) fs → All (λ f. address_in s.sizes f.name ≡ f.address_width) fs → Clean (inits_answers s xs)
+fills_clean ns s _ _ no_fill k w a = tt
+fills_clean ns s _ _ (a_fill {f = f} {fs = fs} {xs = xs} {ys = ys} p sh next) k w a =
+    let file = All-head (FileOk ns) f fs k in
+    let width = All-head (λ f. width_in s.sizes f.name ≡ f.width) f fs w in
+    let address = All-head (λ f. address_in s.sizes f.name ≡ f.address_width) f fs a in
+    let full = file.full in
+    let positive : 2 ^ 0 ≤ 2 ^ f.width = pow-le-pow_right {n = 2} (omega arith) {i = 0} {j = f.width} (omega arith) in
+    let c = start_clean s f.name (p 16) (p 21) (word f.width 0) (loop_fits s (fill_at f p)) width (record { positive = file.positive; at_most = file.at_most; fits = omega arith })
+    (equal (2 ^ f.address_width) (2 ^ address_in s.sizes f.name) (ap (λ q. 2 ^ q) (sym address))) in (
+      c.0,
+      (
+        c.1.0,
+        words_clean s f.name f.width f.address_width 0 f.words xs ys sh width address file.positive file.at_most file.words (omega arith)
+            (fills_clean ns s fs ys next (All-tail (FileOk ns) f fs k) (All-tail (λ f. width_in s.sizes f.name ≡ f.width) f fs w) (All-tail (λ f. address_in s.sizes f.name ≡ f.address_width) f fs a)),
+      ),
+    )
+
+values_clean : (ns : List Node) (s : Scope) (rs : List NetReg) (xs : List ResetValue) → ShowsValues rs xs → All (RegOk ns) rs → All (λ r. width_in s.sizes r.name ≡ r.start.width) rs → Clean (values_answers s xs)
+values_clean ns s _ _ no_value k w = tt
+values_clean ns s _ _ (a_value {r = r} {rs = rs} {xs = xs} a b sh) k w =
+    let c = start_clean s r.name a b r.start true (All-head (λ r. width_in s.sizes r.name ≡ r.start.width) r rs w) (All-head (RegOk ns) r rs k).start refl in
+    (c.0, (c.1.0, values_clean ns s rs xs sh (All-tail (RegOk ns) r rs k) (All-tail (λ r. width_in s.sizes r.name ≡ r.start.width) r rs w)))
+
+reset_clean : (ns : List Node) (s : Scope) (rs : List NetReg) (b : Bool) (rst : Option Named) (r : Option ResetList) → ShowsReset rs b rst r → All (RegOk ns) rs → All (λ r. width_in s.sizes r.name ≡ r.start.width) rs → Clean (values_answers s (reset_values r))
+reset_clean ns s rs _ _ _ no_reset_shown k w = tt
+reset_clean ns s rs _ _ _ (reset_shown {xs = xs} a b sh) k w = values_clean ns s rs xs sh k w
+
+updates_clean : (net : Net) (s : Scope) (rs : List NetReg) (xs ys : List Update) → Wide net s → ShowsUpdates rs xs → All (RegOk net.nodes) rs → All (λ r. width_in s.sizes r.name ≡ r.start.width) rs → Clean (updates_answers s ys) → Clean (updates_answers s (xs ++ ys))
+updates_clean net s _ _ ys wd no_update k w h = h
+updates_clean net s _ _ ys wd (an_update {r = r} {rs = rs} {xs = xs} a b sh) k w h =
+    let next = (All-head (RegOk net.nodes) r rs k).next in (
+      wanted _ a (equal _ _ (wd.wires r.next.0 next.0 ∙ next.1 ∙ sym (All-head (λ r. width_in s.sizes r.name ≡ r.start.width) r rs w))),
+      updates_clean net s rs xs ys wd sh (All-tail (RegOk net.nodes) r rs k) (All-tail (λ r. width_in s.sizes r.name ≡ r.start.width) r rs w) h,
+    )
+
+writes_clean : (net : Net) (s : Scope) (fs : List NetFile) (xs : List Update) → Wide net s → ShowsWrites fs xs → All (FileOk net.nodes) fs → All (λ f. width_in s.sizes f.name ≡ f.width) fs → All (λ f. address_in s.sizes f.name ≡ f.address_width) fs → Clean (updates_answers s xs)
+writes_clean net s _ _ wd no_write k w a = tt
+writes_clean net s _ _ wd (not_written {f = f} {fs = fs} {xs = xs} z sh) k w a =
+    writes_clean net s fs xs wd sh (All-tail (FileOk net.nodes) f fs k) (All-tail (λ f. width_in s.sizes f.name ≡ f.width) f fs w) (All-tail (λ f. address_in s.sizes f.name ≡ f.address_width) f fs a)
+writes_clean net s _ _ wd (a_write {f = f} {fs = fs} {xs = xs} port p z sh) k w a =
+    let ok = subst (WriteOk net.nodes f.width f.address_width) z (All-head (FileOk net.nodes) f fs k).port in (
+      wanted _ (p 4) (both _ _ (equal _ 1 (wd.wires port.enable.0 ok.0.0 ∙ ok.0.1))
+          (both _ _ (equal _ _ (wd.wires port.address.0 ok.1.0 ∙ ok.1.1 ∙ sym (All-head (λ f. address_in s.sizes f.name ≡ f.address_width) f fs a)))
+          (equal _ _ (wd.wires port.value.0 ok.2.0 ∙ ok.2.1 ∙ sym (All-head (λ f. width_in s.sizes f.name ≡ f.width) f fs w))))),
+      writes_clean net s fs xs wd sh (All-tail (FileOk net.nodes) f fs k) (All-tail (λ f. width_in s.sizes f.name ≡ f.width) f fs w) (All-tail (λ f. address_in s.sizes f.name ≡ f.address_width) f fs a),
+    )
+
+ports_clean : (ss : List Port) (xs : List VPort) → ShowsSamples ss xs → All PortOk ss → Clean (ports_answers xs)
+ports_clean _ _ no_sample k = tt
+ports_clean _ _ (one_sample {s = s} {ss = ss} {xs = xs} a b c sh) k = (wanted _ c (range_ok s.width a b (All-head PortOk s ss k).at_most), ports_clean ss xs sh (All-tail PortOk s ss k))
+
+-- the same module represents the netlist
+whole_shown : (net : Net) (m : VModule) (s : IsShown net m) → IsShown net (whole s)
+whole_shown net m s = record {
+  p = s.p;
+  q = s.q;
+  name = refl;
+  clk = refl;
+  ext = refl;
+  samples = s.samples;
+  full = refl;
+  ue = refl;
+  back = refl;
+  regs = s.regs;
+  files = s.files;
+  integer = s.integer;
+  nodes = s.nodes;
+  shows_regs = s.shows_regs;
+  shows_files = s.shows_files;
+  shows_integer = s.shows_integer;
+  shows_nodes = s.shows_nodes;
+  items = refl;
+  start_part = s.start_part;
+  fill_part = s.fill_part;
+  shows_starts = s.shows_starts;
+  shows_fills = s.shows_fills;
+  inits = refl;
+  clock = refl;
+  reset = s.reset;
+  update_part = s.update_part;
+  write_part = s.write_part;
+  shows_updates = s.shows_updates;
+  shows_writes = s.shows_writes;
+  updates = refl;
+}
+
+-- A module that represents a netlist violates no rule of widths.
+pub widths_hold : (net : Net) (m : VModule) (s : IsShown net m) → NetOk net → IsNamed net → first (width_answers (whole s)) ≡ None
+widths_hold net m s k named =
+    let p = net.parts in
+    let w = whole s in
+    let sc = scope_of w in
+    let shown = whole_shown net m s in
+    let wd = all_wide net w shown k named in
+    let named_scope = scoped net w shown in
+    let fw = named.full in let uw = named.ue in let bw = named.back in let low = named.at_least in let high = named.at_most in
+    let few = k.parts.file_count in
+    let outs_ok : Clean (items_answers sc (outs s)) =
+    (wanted _ (s.q 0) (equal _ _ (wd.wires p.full.0 k.parts.full ∙ sym wd.full)), (wanted _ (s.q 2) (equal _ _ (wd.wires p.ue.0 k.parts.ue ∙ sym wd.ue)), (wanted _ (s.q 4) (equal _ _ (wd.wires p.back.0 k.parts.back ∙ sym wd.back)), tt))) in
+    let file_few : All (λ f. file_fits sc f.name ≡ true) p.files = λ i d l.
+    ap (λ ns. nat_lt (place_of ns (get_or p.files i d).name) 16) named_scope.files
+    ∙ ap (λ x. nat_lt x 16) (place_at (λ f. f.name) p.files i d named.files_differ l) ∙ lt_true i 16 (omega arith) in
+    let items_ok : Clean (items_answers sc w.items) =
+    regs_clean net.nodes sc p.regs s.regs (s.files ++ (s.integer ++ (s.nodes ++ outs s))) s.shows_regs k.parts.regs
+    (files_clean net.nodes sc p.files s.files (s.integer ++ (s.nodes ++ outs s)) s.shows_files k.parts.files file_few
+    (integer_clean sc p.files s.integer (s.nodes ++ outs s) s.shows_integer
+    (nodes_clean net sc 0 net.nodes s.nodes (outs s) wd (widths_are net w shown k named) s.shows_nodes (all_right net k) (omega arith) outs_ok))) in
+    let inits_ok : Clean (inits_answers sc w.inits) =
+    starts_clean net.nodes sc p.regs s.start_part s.fill_part s.shows_starts k.parts.regs wd.regs (fills_clean net.nodes sc p.files s.fill_part s.shows_fills k.parts.files wd.files wd.addresses) in
+    let updates_ok : Clean (updates_answers sc w.updates) =
+    updates_clean net sc p.regs s.update_part s.write_part wd s.shows_updates k.parts.regs wd.regs (writes_clean net sc p.files s.write_part wd s.shows_writes k.parts.files wd.files wd.addresses) in
+    let reset_ok = reset_clean net.nodes sc p.regs p.reset m.rst m.reset s.reset k.parts.regs wd.regs in
+    let last_ports : Clean (want (stall_fits w.full.range) w.full.port.at ∷ want (stall_fits w.ue.range) w.ue.port.at ∷ want (four_bits w.back.range) w.back.port.at ∷ []) =
+    (wanted _ (s.p 7) (stall_ok (wide net.nodes p.full.0) (s.p 5) (s.p 6) (omega arith) (omega arith)), (wanted _ (s.p 10) (stall_ok (wide net.nodes p.ue.0) (s.p 8) (s.p 9) (omega arith) (omega arith)), (wanted _ (s.p 13) (four_ok (wide net.nodes p.back.0) (s.p 11) (s.p 12) bw), tt))) in
+    let header_ok : Clean (header_answers w) =
+    (wanted _ (s.p 4) (stall_ok p.ext (s.p 2) (s.p 3) low high), clean_append (ports_answers m.samples) _ (ports_clean p.samples m.samples s.samples k.parts.samples) last_ports) in
+    first_none (width_answers w)
+    (clean_append (header_answers w) _ header_ok (clean_append (items_answers sc w.items) _ items_ok
+    (clean_append (inits_answers sc w.inits) _ inits_ok (clean_append (values_answers sc (reset_values m.reset)) _ reset_ok updates_ok))))
