@@ -1,30 +1,113 @@
-# make          proves and builds the program kp, and the crates that it stands on: crates/kp/out/kp
-# make check    all that must pass before a change is handed in
+# make          proves and builds the program, crates/kp/out/kp, where a source is newer: some 30 minutes on four processors from nothing
+# make check    the gate: all proofs, the edits that proofs must reject, and all stored runs, as .ci/run does
+# make checks   the checks beside the gate: commands of the manual, other tools on the Verilog, refused memory; a line for each
+# make bench    the measurements of time and memory in benches/
+# make install  installs the built program, manual pages, completions, editor files, documents and examples: PREFIX=/usr/local DESTDIR=
+# make uninstall  removes what make install put there
+# make dist     packs what would be installed: out/dist/kp-VERSION.tar.gz, and its sum in out/dist/SHA256SUMS
 # make clean    removes what was built and proved here
+# make help     prints these lines
 
 program = crates/kp/out/kp
 lock    = out/build.lock
 
-# The program and the crates that it stands on, and what they are made from.
-crates  := $(shell awk -v top=kp -f .ci/crates.awk crates.txt | cut -d ' ' -f 2)
-sources := $(shell find $(crates:%=crates/%) -name out -prune -o -name must-fail -prune -o -type f -print) crates.txt
+# The scripts of checks/ that pass or fail.
+all_checks = names.py cited_lemmas.py manual.py memory.sh verilog.sh waves.sh hardware.sh dist.sh
+all_benches = asm seq sim synth nodes read hostile
 
-.PHONY: kp built check clean
+.PHONY: kp built check checks bench install uninstall dist clean help
 
 # Where another make or ./kp builds here, this one waits for it, and then looks again at what is out of date.
 kp:
 	@mkdir -p out
 	@flock -n -o -E 75 $(lock) $(MAKE) -s --no-print-directory built || { \
-	    [ $$? -eq 75 ] && echo 'kp: another build is under way here, and this one waits for it' >&2 && \
+	    [ $$? -eq 75 ] && echo 'kp: another build is running here, and this one waits for it' >&2 && \
 	    flock -o $(lock) $(MAKE) -s --no-print-directory built; }
+
+# Only `make built` looks at what the program and the crates below it are made from.
+ifneq ($(filter built,$(MAKECMDGOALS)),)
+crates  := $(shell awk -v top=kp -f .ci/crates.awk crates.txt)
+sources := $(shell find $(crates:%=crates/%) -name out -prune -o -name must-fail -prune -o -type f -print) crates.txt
 
 built: $(program)
 
 $(program): $(sources)
 	@.ci/build
+endif
 
 check:
 	@.ci/run
 
+# KP names another program than the one that is built here.
+checks: $(if $(KP),,kp)
+	@checks/each $(all_checks)
+
+bench: $(if $(KP),,kp)
+	@for it in $(all_benches); do echo "== $$it"; sh benches/$$it.sh || exit 1; done
+
+# PREFIX is an absolute path. DESTDIR is a folder in which it is installed as if it were the root, for packages. KP_BINARY names another file
+# than the program that is built here.
+PREFIX    = /usr/local
+DESTDIR   =
+KP_BINARY = $(program)
+
+version = $(shell cat VERSION)
+root    = $(DESTDIR)$(PREFIX)
+# The folders that others use too, and those of kp alone
+shared  = bin share/man/man1 share/man/man5 share/bash-completion/completions share/zsh/site-functions share/fish/vendor_completions.d \
+          $(addprefix share/vim/vimfiles/,compiler ftdetect ftplugin syntax)
+own     = share/doc/kp share/kp
+files   = bin/kp share/man/man1/kp.1 share/man/man5/kp.5 share/bash-completion/completions/kp share/zsh/site-functions/_kp \
+          share/fish/vendor_completions.d/kp.fish $(addprefix share/vim/vimfiles/,$(addsuffix /kp.vim,compiler ftdetect ftplugin syntax))
+needs_program = $(if $(wildcard $(KP_BINARY)),,$(error $(KP_BINARY) isn't there: run make first, which builds it))
+trees   = find docs examples \( -name out -o -name __pycache__ \) -prune -o -type f -print
+
+# share/kp has a link to the program, so that the commands of the documents run there as they are printed.
+install:
+	$(needs_program)
+	@umask 022 && \
+	install -d $(patsubst %,"$(root)/%",$(shared) $(own)) && \
+	install -m 755 "$(KP_BINARY)" "$(root)/bin/kp" && \
+	for section in 1 5; do \
+	    page="$(root)/share/man/man$$section/kp.$$section" && \
+	    sed -e 's|@VERSION@|$(version)|g' -e 's|@PREFIX@|$(PREFIX)|g' man/kp.$$section > "$$page" && chmod 644 "$$page" || exit 1; \
+	done && \
+	install -m 644 completions/kp.bash "$(root)/share/bash-completion/completions/kp" && \
+	install -m 644 completions/_kp "$(root)/share/zsh/site-functions/_kp" && \
+	install -m 644 completions/kp.fish "$(root)/share/fish/vendor_completions.d/kp.fish" && \
+	for it in compiler ftdetect ftplugin syntax; do \
+	    install -m 644 editors/vim/$$it/kp.vim "$(root)/share/vim/vimfiles/$$it/kp.vim" || exit 1; \
+	done && \
+	install -m 644 README.md CHANGELOG.md CONTRIBUTING.md VERSION $(wildcard LICENSE*) "$(root)/share/doc/kp" && \
+	install -m 644 editors/kp.tmLanguage.json "$(root)/share/kp/kp.tmLanguage.json" && \
+	$(trees) | while read -r it; do \
+	    case $$it in docs/*) to="$(root)/share/doc/kp/$$it" ;; *) to="$(root)/share/kp/$$it" ;; esac && \
+	    mode=644 && { [ ! -x "$$it" ] || mode=755; } && \
+	    install -d "$${to%/*}" && install -m $$mode "$$it" "$$to" || exit 1; \
+	done && \
+	ln -sf ../../bin/kp "$(root)/share/kp/kp"
+
+# Folders that others use too are removed below DESTDIR alone, where they are empty.
+uninstall:
+	@rm -f $(patsubst %,"$(root)/%",$(files))
+	@rm -rf $(patsubst %,"$(root)/%",$(own))
+	@[ ! -d "$(DESTDIR)" ] || { cd "$(DESTDIR)" && for it in $(shared) share/doc; do \
+	    rmdir -p "$(PREFIX:/%=%)/$$it" 2>/dev/null || :; \
+	done; }
+
+# Two calls write the same bytes: names are sorted, and owners, modes and times are fixed.
+SOURCE_DATE_EPOCH ?= 1767225600
+dist:
+	$(needs_program)
+	@rm -rf out/dist && mkdir -p out/dist/root
+	@$(MAKE) -s --no-print-directory install PREFIX=$(PREFIX) DESTDIR="$(CURDIR)/out/dist/root" KP_BINARY="$(KP_BINARY)"
+	@cd out/dist && mv "root$(PREFIX)" kp-$(version) && rm -rf root && \
+	tar --format=ustar --sort=name --owner=0 --group=0 --numeric-owner --mode=u=rwX,go=rX --mtime=@$(SOURCE_DATE_EPOCH) \
+	    -cf kp-$(version).tar kp-$(version) && \
+	gzip -9n kp-$(version).tar && rm -rf kp-$(version) && sha256sum kp-$(version).tar.gz > SHA256SUMS && cat SHA256SUMS
+
 clean:
 	rm -rf out crates/*/out
+
+help:
+	@sed -n 's/^# \(make\)/\1/p' Makefile

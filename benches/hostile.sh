@@ -1,16 +1,13 @@
 #!/bin/sh
-# What the commands answer to large inputs that no one meant, and the seconds and the memory that each took: sh benches/hostile.sh
+# Runs the commands on large inputs that are neither a job nor a module, and prints the seconds and the memory of each: sh benches/hostile.sh
 #
-# Each command gets inputs of 16 MiB, and of one byte more, which is E3: random bytes, one line of letters, brackets, digits; and a job and
-# a module that are well begun and go on with brackets. Each answer is to come in at most 5 seconds and 1 GiB. The last line counts those
-# that took more. It is no test of what is answered, which the stored runs of crates/kp_cases are.
+# Each command gets inputs of 16 MiB, and of one byte more, which violates E3: random bytes, one line of letters, brackets, digits; and a job and
+# a module with a correct prefix, then brackets. Each run is to take at most 5 seconds and 1 GiB. The last line counts those that took more. The
+# text that is written is no matter here: the stored runs of crates/kp_test_cases test it. Needs Python 3 and GNU time.
 set -eu
-top=$(cd "$(dirname "$0")/.." && pwd)
-work=$(mktemp -d)
-trap 'rm -rf "$work"' EXIT
-kp=${KP:-$top/crates/kp/out/kp}
-[ -n "${KP:-}" ] || "$top/kp" check < "$top/examples/acc3.kp" > "$work/built"
+. "$(dirname "$0")/../checks/common.sh"
 
+[ -x /usr/bin/time ] || { echo "hostile: GNU time isn't installed" >&2; exit 1; }
 python3 - "$work" "$top/examples/acc3.kp" <<'P'
 import random
 import sys
@@ -37,15 +34,15 @@ for name, text in texts.items():
 P
 
 late=0
-printf '%-10s %-9s %7s %9s  %s\n' input command seconds MiB answer
+printf '%-10s %-9s %7s %9s  %s\n' input command seconds MiB written
 for text in random letters brackets digits begun module words end; do
     for more in '' +1; do
         for words in check 'seq 1' 'sim 1' 'vcd 1' 'timing 1' pipe read 'watch 1' asm; do
             status=0
-            /usr/bin/time -o "$work/took" -f '%e %M' "$kp" $words < "$work/$text$more" > "$work/told" || status=$?
+            /usr/bin/time -o "$work/took" -f '%e %M' "$kp" $words < "$work/$text$more" > "$work/written" || status=$?
             tail -n 1 "$work/took" > "$work/last"
             read -r seconds memory < "$work/last"
-            printf '%-10s %-9s %7s %9s  %s %s\n' "$text$more" "$words" "$seconds" "$((memory / 1024))" "$status" "$(head -c 40 "$work/told" | head -n 1)"
+            printf '%-10s %-9s %7s %9s  %s %s\n' "$text$more" "$words" "$seconds" "$((memory / 1024))" "$status" "$(head -c 40 "$work/written" | head -n 1)"
             awk -v s="$seconds" -v m="$memory" 'BEGIN { exit s > 5 || m > 1048576 }' || late=$((late + 1))
         done
     done

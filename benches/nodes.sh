@@ -1,19 +1,17 @@
 #!/bin/sh
-# Fills a pool with 1,300,000 different nodes, asks for all of them once more, and runs netlists of 400 and of 1,000,000 nodes. Prints
+# Fills a pool with 1,300,000 different nodes, requests all of them once more, and runs netlists of 400 and of 1,000,000 nodes. Prints
 # the seconds and the memory of each: sh benches/nodes.sh
 #
-# The gates, checks and runs of kp_circuits, with another main, are built by `rt run` in a folder that is made for it and removed.
+# The gates, checks and runs of kp_test_circuits, with another main, are built by `rt run` in a temporary folder.
 set -eu
-top=$(cd "$(dirname "$0")/.." && pwd)
-work=$(mktemp -d)
-trap 'rm -rf "$work"' EXIT
+. "$(dirname "$0")/../checks/common.sh"
 mkdir -p "$work/crates"
-for name in kp_base kp_bits kp_region kp_net kp_gate kp_cycle kp_circuits; do
+for name in kp_base kp_bits kp_region kp_net kp_net_gates kp_cycle kp_test_circuits; do
     cp -r "$top/crates/$name" "$work/crates/"
     grep "^$name:" "$top/crates.txt" | sed 's/ kp_fwd kp_engine//' >> "$work/crates.txt"
 done
 cp "$top/HANDLES" "$work/"
-cd "$work/crates/kp_circuits"
+cd "$work/crates/kp_test_circuits"
 rm -rf must-fail src/asked.rt src/circuit.rt src/controls.rt src/nodes.rt src/parts.rt proofs/controls
 cat > src/main.rt <<'PROGRAM'
 #![tactic(auto)]
@@ -128,6 +126,5 @@ rt run > "$work/log" 2>&1 < stdin || { tail -n 20 "$work/log"; exit 1; }
 program=$(find out -maxdepth 1 -type f -perm -u+x | head -n 1)
 for words in 'fill 1300000 1' 'fill 1300000 2' 'run 400 100000' 'run 1000000 1' 'run 1000000 101'; do
     echo "$words" > "$work/words"
-    echo "$words:"
-    /usr/bin/time -f '%e s by the clock, %U s in the program, %M KiB' "./$program" < "$work/words"
+    measured "$words" "./$program" < "$work/words"
 done

@@ -1,15 +1,11 @@
 #!/bin/sh
-# Reads Verilog texts of nearly 16 MiB, and prints the seconds and the memory that each took: sh benches/read.sh
+# Reads Verilog texts of nearly 16 MiB, and prints the seconds and the memory of each: sh benches/read.sh
 #
 # One has as many small wires as fit, one wires of concatenations of 12 names, one a file of 65,536 words that are filled again and again,
-# and one is nearly all comments. Each denotes a netlist. Then three that break a rule: a wire at the end
-# that isn't declared, a wire that is assigned again by each of 700,000 lines, and a literal with a million digits.
+# and one is nearly all comments. Each denotes a netlist. Then three that violate a rule: a wire at the end
+# that isn't declared, a wire that is assigned again by each of 700,000 lines, and a literal with a million digits. KP names another program than ./kp.
 set -eu
-top=$(cd "$(dirname "$0")/.." && pwd)
-work=$(mktemp -d)
-trap 'rm -rf "$work"' EXIT
-kp=${KP:-$top/crates/kp/out/kp}
-[ -n "${KP:-}" ] || "$top/kp" check < "$top/examples/acc3.kp" > "$work/built"
+. "$(dirname "$0")/../checks/common.sh"
 
 # a module with the lines of standard input among its items; $1 is declared, $2 stands under initial
 around() {
@@ -35,7 +31,6 @@ awk 'BEGIN { for (i = 0; i < 700000; i++) print "  assign n1 = ext;" }' | around
 { printf '  wire [3:0] n2;\n  assign n2 = 4%sh' "'"; awk 'BEGIN { for (i = 0; i < 1000000; i++) printf "1" }'; echo ';'; } | around > "$work/digits"
 
 for text in wires concatenations words comments undeclared again digits; do
-    printf '%s, %s bytes: ' "$text" "$(wc -c < "$work/$text")"
-    /usr/bin/time -f '%e s by the clock, %U s in the program, %M KiB' "$kp" read < "$work/$text" > "$work/told" || true
-    [ "$(wc -c < "$work/told")" -gt 100 ] || cat "$work/told"
+    measured "read of $text, $(wc -c < "$work/$text") bytes" "$kp" read < "$work/$text" > "$work/written" || true
+    [ "$(wc -c < "$work/written")" -gt 100 ] || cat "$work/written"
 done

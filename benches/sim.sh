@@ -2,25 +2,16 @@
 # Runs the pipelined sample processor for 100,000 cycles by `sim`, and its Verilog for as many in Icarus Verilog and in Verilator, with the
 # same rows printed, where they are installed; and a machine near the limits of the language over 1,000 and 100,000 cycles. Prints the
 # seconds and the memory: sh benches/sim.sh
+#
+# KP names another program than ./kp.
 set -eu
-top=$(cd "$(dirname "$0")/.." && pwd)
-work=$(mktemp -d)
-trap 'rm -rf "$work"' EXIT
-kp=${KP:-$top/crates/kp/out/kp}
-[ -n "${KP:-}" ] || "$top/kp" check < "$top/examples/acc3.kp" > "$work/built"
+. "$(dirname "$0")/common.sh"
 cycles=100000
 
-printf 'loop: addi r1, r1, 1\n sw r1, 0(r2)\n lw r3, 0(r2)\n add r4, r4, r3\n j loop\n nop\n' > "$work/loop.dlx"
-{ sed '/^image/,$d' "$top/examples/dlx5.kp"; "$kp" asm < "$work/loop.dlx"; echo end; } > "$work/processor"
+looping "$work/processor"
 
-measured() {
-    what=$1
-    shift
-    /usr/bin/time -f "$what: %e s by the clock, %U s in the program, %M KiB" "$@"
-}
-
-measured "sim $cycles of the sample processor" "$kp" sim $cycles < "$work/processor" > "$work/told"
-grep '^cycle' "$work/told" > "$work/rows"
+measured "sim $cycles of the sample processor" "$kp" sim $cycles < "$work/processor" > "$work/written"
+grep '^cycle' "$work/written" > "$work/rows"
 measured "pipe" "$kp" pipe < "$work/processor" > "$work/m_dlx5.v"
 
 cat > "$work/bench.v" << 'END'
@@ -63,28 +54,7 @@ else
     echo "Verilator: not installed"
 fi
 
-# 12 stages, 64 registers, 128 pipes, 256 reads, 8 guesses, and expressions of 100,000 units
-awk -v size=100000 'BEGIN {
-    q = sprintf("%c", 39)
-    print "machine large;\nstages 12;"
-    for (i = 0; i < 64; i++) printf "reg R%d : 32 = 32%sh%x;\n", i, q, i
-    for (i = 0; i < 128; i++) printf "pipe P%d : 32;\n", i
-    for (i = 0; i < 64; i++) printf "result C%d : 32 -> R%d at 11;\n", i, i
-    print "stage 0 {"
-    for (i = 0; i < 256; i++) {
-        if (i < 8) printf "  read x%d = R%d guess 32%sh%x;\n", i, i, q, i
-        else printf "  read x%d = R%d;\n", i, i % 64
-    }
-    for (i = 0; i < 128; i++) printf "  put P%d = x%d + x%d;\n", i, i, i + 128
-    for (i = 0; i * 5 + 2000 < size; i++) printf "  let y%d = (x%d + x%d) ^ 32%sh%x;\n", i, i % 256, (i * 7 + 3) % 256, q, i
-    print "}"
-    for (k = 1; k < 12; k++) {
-        printf "stage %d {\n", k
-        if (k == 10) for (i = 0; i < 64; i++) printf "  set C%d = P%d + P%d;\n", i, i, i + 64
-        print "}"
-    }
-    print "end"
-}' > "$work/large"
+large 100000 > "$work/large"
 for count in 1000 $cycles; do
-    measured "sim $count of a large machine" "$kp" sim $count < "$work/large" > "$work/told"
+    measured "sim $count of a large machine" "$kp" sim $count < "$work/large" > "$work/written"
 done

@@ -1,9 +1,15 @@
 #!/usr/bin/env python3
 """Whether the commands of the manual print what the manual says: python3 checks/manual.py [PAGE ..]
 
-Runs each command `./kp WORDS < examples/FILE` of README.md and docs/TUTORIAL.md (or of the given pages), and compares what it prints
-with the indented block behind it: its lines must stand in what is printed, one behind the other but where a line of dots stands for
-others. KP names another program than ./kp. The last line is `N commands, M differ`, and the status is 0 where M is 0.
+In README.md, TUTORIAL.md, LANGUAGE.md and COOKBOOK.md, or in the given pages, it runs each command `./kp WORDS < examples/FILE` and
+`examples/with-program JOB PROGRAM | ./kp WORDS`. A command has to print the indented block that follows it, or, where it is a line `$ ./kp ..` of a
+block, the rest of that block: the lines of the block are consecutive lines of the output, but where a line of dots is in place of others. A command
+that no block follows isn't run.
+
+Each row of the rules in docs/LANGUAGE.md is an example too: the job at the top of the page with other lines, or a job of examples/. It has to be
+rejected as the row says.
+
+KP names another program than ./kp. The last line is `N commands, M differ`, and the status is 0 where M is 0.
 """
 import os
 import re
@@ -13,67 +19,124 @@ import sys
 
 TOP = os.path.dirname(os.path.dirname(os.path.abspath(__file__)))
 KP = os.environ.get("KP", f"{TOP}/kp")
-COMMAND = re.compile(r"\./kp ([^<>|`]+?) < (examples/[\w.]+)(?=[`\s]|$)")
+COMMAND = re.compile(r"\./kp ([^<>|`]+?) < (examples/[\w./]+)(?=[`\s]|$)|examples/with-program (\S+) (\S+) \| \./kp ([^<>|`#\n]+?)(?=[`\n]|$)")
+ROW = re.compile(r"^\| (E\d+) \| [^|]* \| (.*) \| ([^|]*`refused (E\d+ \d+:\d+)`) \|$", re.M)
+
+
+def run(words, text):
+    ran = subprocess.run([KP, *words], input=text, stdout=subprocess.PIPE)
+    return ran.stdout.decode().rstrip("\n").split("\n")
+
+
+def file_at(path):
+    with open(f"{TOP}/{path}", "rb") as it:
+        return it.read()
+
+
+def is_apart(block, line):
+    """Whether a line after a blank line begins a new block: output after a command, or a command after output."""
+    after_command = len(block) == 2 and "./kp" in block[0] and not block[0].startswith("$ ")
+    return block[-1] == "" and (after_command or line.startswith("./kp "))
 
 
 def blocks_of(text):
-    """The lines of a page, where an indented block is a list of its lines."""
+    """The lines of a page, where an indented block is a list of its lines. A command and the output below it are two blocks."""
     found = []
     for line in text.split("\n"):
         if line.startswith("    "):
-            if found and isinstance(found[-1], list):
+            if found and isinstance(found[-1], list) and not is_apart(found[-1], line[4:]):
                 found[-1].append(line[4:])
             else:
                 found.append([line[4:]])
         elif line or not (found and isinstance(found[-1], list)):
             found.append(line)
         else:
-            found.append("")
-    return found
+            found[-1].append("")
+    return [it[: len(it) - next(i for i, line in enumerate(reversed(it)) if line)] if isinstance(it, list) else it for it in found]
 
 
-def told_behind(blocks, at):
-    """The first block of output behind this place, before the next command."""
+def commands_of(blocks):
+    """Each command of a page, as the words and the input, and the block of its output."""
+    for at, it in enumerate(blocks):
+        if isinstance(it, list) and it[0].startswith("$ "):
+            for match in COMMAND.finditer(it[0]):
+                yield match, it[1:]
+            continue
+        for match in COMMAND.finditer("\n".join(it) if isinstance(it, list) else it):
+            said = output_after(blocks, at)
+            if said:
+                yield match, said
+
+
+def output_after(blocks, at):
+    """The first block of output after this place, before the next command."""
     for it in blocks[at + 1 :]:
         if isinstance(it, list):
-            return None if "./" in it[0] else it
+            return None if "./" in it[0] or it[0].startswith("examples/") else it
         if COMMAND.search(it) or it.startswith("#"):
             return None
     return None
 
 
-def is_told(told, printed):
-    """Whether the told lines stand among the printed ones in this order, and without gaps between them but at `..`."""
+def is_printed(said, printed):
+    """Whether these lines are lines of the output in this order, and consecutive ones but at a line of dots."""
     at = 0
-    for number, line in enumerate(told):
+    for number, line in enumerate(said):
         if set(line) == {"."}:
             continue
-        is_free = number == 0 or set(told[number - 1]) == {"."}
-        if line not in printed[at:] or (not is_free and printed[at] != line):
+        is_free = number == 0 or set(said[number - 1]) == {"."}
+        if line not in printed[at:] or (not is_free and printed[at : at + 1] != [line]):
             return False
         at = printed.index(line, at) + 1
     return True
 
 
+def output_of(match):
+    words, job, machine, program, more = match.groups()
+    if job:
+        return run(shlex.split(words), file_at(job))
+    made = subprocess.run([f"{TOP}/examples/with-program", machine, program], cwd=TOP, env={**os.environ, "KP": KP}, stdout=subprocess.PIPE)
+    return run(shlex.split(more), made.stdout)
+
+
+def rules_of(text):
+    """Each example of a rule, as its words, its input and its answer."""
+    top = next(it for it in blocks_of(text) if isinstance(it, list) and it[0].startswith("machine "))
+    for rule, example, answer, wanted in ROW.findall(text):
+        if rule == "E3":
+            continue
+        words, lines, script = ["check"], list(top), ""
+        job = re.search(r"the job `(examples/[\w./]+)`", example)
+        if job:
+            lines = file_at(job[1]).decode().rstrip("\n").split("\n")
+        elif "the script" in example:
+            words, script = ["debug"], re.search(r"the script `([^`]*)`", example)[1] + "\n"
+        else:
+            for number, line in re.findall(r"(\d+): `([^`]*)`", example):
+                lines[int(number) - 1] = line
+        other = re.match(r"`(timing \d+)`: ", answer)
+        yield rule, words if not other else other[1].split(), "\n".join([*lines, script]), f"refused {wanted}"
+
+
 def main(pages):
     commands = differ = 0
     for page in pages:
-        with open(f"{TOP}/{page}", encoding="utf-8") as it:
-            blocks = blocks_of(it.read())
-        for at, it in enumerate(blocks):
-            for words, job in COMMAND.findall("\n".join(it) if isinstance(it, list) else it):
-                told = told_behind(blocks, at)
-                if told is None:
-                    continue
+        text = file_at(page).decode()
+        for match, said in commands_of(blocks_of(text)):
+            commands += 1
+            if not is_printed(said, output_of(match)):
+                differ += 1
+                print(f"{page}: {match[0].strip()}: prints something else")
+        if page == "docs/LANGUAGE.md":
+            for rule, words, job, wanted in rules_of(text):
                 commands += 1
-                with open(f"{TOP}/{job}", "rb") as source:
-                    ran = subprocess.run([KP, *shlex.split(words)], stdin=source, stdout=subprocess.PIPE)
-                if not is_told(told, ran.stdout.decode().rstrip("\n").split("\n")):
+                printed = run(words, job.encode())
+                if printed != [wanted]:
                     differ += 1
-                    print(f"{page}: kp {words} < {job}: prints something else")
+                    print(f"{page}: the example of {rule}: kp {' '.join(words)} prints {printed[0]} and not {wanted}")
     print(f"{commands} commands, {differ} differ")
     return differ > 0
 
 
 if __name__ == "__main__":
-    sys.exit(main(sys.argv[1:] or ["README.md", "docs/TUTORIAL.md"]))
+    sys.exit(main(sys.argv[1:] or ["README.md", "docs/TUTORIAL.md", "docs/LANGUAGE.md", "docs/COOKBOOK.md"]))

@@ -1,5 +1,5 @@
-// Refuses one call for memory: with REFUSE=N the N-th call of malloc or realloc in the process finds none. With REFUSE=0 none is refused,
-// and the number of calls goes to the file that COUNT names, when the process ends. checks/memory.sh loads it before the C library.
+// Makes one call for memory fail: with REFUSE=N the N-th call of malloc or realloc in the process returns a null pointer. With REFUSE=0 none fails.
+// The number of calls goes to the file that COUNT names, when the process ends. checks/memory.sh loads it before the C library.
 #define _GNU_SOURCE
 #include <dlfcn.h>
 #include <stdio.h>
@@ -27,7 +27,7 @@ void *realloc(void *old, size_t size) {
     return is_refused() ? NULL : real(old, size);
 }
 
-__attribute__((destructor)) static void tell(void) {
+__attribute__((destructor)) static void write_count(void) {
     const char *name = getenv("COUNT");
     long all = calls;
     FILE *to = name ? fopen(name, "w") : NULL;

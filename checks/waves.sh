@@ -1,38 +1,39 @@
 #!/bin/bash
-# What other tools say of the dumps that `vcd` writes for the examples: bash checks/waves.sh [JOB.kp ..]
+# Compares the dumps that `vcd` writes with those of Icarus: bash checks/waves.sh [JOB.kp ..]
 #
-# Under random stalls and samples, the Verilog that `pipe` writes runs in Icarus, which dumps its changes. In each cycle `full`, `ue`, `back` and
-# the registers must have the values in this dump that the dump of `vcd 200` holds at that time, and the registers also behind the last cycle.
-# `vcd2fst`, of GTKWave, must take each dump of `vcd` without a message. A tool that isn't installed is skipped, and the line says so. The last line is `N checked, M wrong`, and the
-# status is 0 where M is 0. KP names another program than ./kp, CYCLES another number of cycles.
-set -u
-top=$(cd "$(dirname "$0")/.." && pwd)
-kp=${KP:-$top/kp}
+# For each job, or each example, the Verilog that `pipe` writes runs in Icarus under random stalls and samples, and Icarus dumps its changes. In each
+# cycle `full`, `ue`, `back` and the registers must have the values in this dump that the dump of `vcd 200` contains at that time, and the registers
+# also after the last cycle. `vcd2fst`, of GTKWave, must accept each dump of `vcd` without a message. A tool that isn't installed is left out, and
+# the last line names it. That line is `N checked, M wrong`, and the status is 0 where M is 0, and 77 where nothing could be checked. KP names
+# another program than ./kp, CYCLES another number of cycles.
+. "$(dirname "$0")/common.sh"
 cycles=${CYCLES:-200}
-. "$top/checks/shaken.sh"
-work=$(mktemp -d)
-trap 'rm -rf "$work"' EXIT
-checked=0
-wrong=0
 
-# says JOB TOOL ok|skipped|.., and counts it
-says() {
-    printf '%-8s %-10s %s\n' "$1" "$2" "$3"
-    case $3 in
-        skipped*) ;;
-        ok*) checked=$((checked + 1)) ;;
-        *) checked=$((checked + 1)); wrong=$((wrong + 1)) ;;
-    esac
+# shaken JOB SEED: the job without its stalls and inputs, and with random ones for all stages and samples.
+shaken() {
+    awk -v cycles="$cycles" -v seed="$2" '
+        /^(stalls|inputs)[ {]/ { skipping = 1 }
+        skipping { if (/}/) skipping = 0; next }
+        /^stages / { n = $2 + 0 }
+        /^sample / { split($0, w, /[ :]+/); name[++samples] = w[2]; width[samples] = w[3] + 0 }
+        /^end/ { exit }
+        { print }
+        END {
+            srand(seed)
+            print "stalls {"
+            for (t = 0; t < cycles; t++) for (k = 0; k < n; k++) if (rand() < 0.25) printf "  %d from %d to %d;\n", k, t, t
+            print "}"
+            if (samples) {
+                print "inputs {"
+                for (t = 0; t < cycles; t++) for (s = 1; s <= samples; s++) if (rand() < 0.4)
+                    printf "  %s = %d%sd%d from %d to %d;\n", name[s], width[s], "\047", int(rand() * 2 ^ (width[s] < 30 ? width[s] : 30)), t, t
+                print "}"
+            }
+            print "end"
+        }' "$1"
 }
 
-# whether the tool is there; else says so
-has() {
-    command -v "$2" >/dev/null && return
-    says "$1" "$2" 'skipped: not installed'
-    return 1
-}
-
-# The values that a dump holds, a line `TIME NAME BITS` each: all signals at each time, but only the registers behind the last cycle.
+# The values that a dump contains, a line `TIME NAME BITS` each: all signals at each time, but only the registers after the last cycle.
 held() {
     awk -v cycles="$cycles" '
         function tell(until) {
@@ -45,7 +46,7 @@ held() {
         END { tell(cycles + 1) }' "$1"
 }
 
-# The same of the dump that Icarus wrote of the bench below: cycle t is looked at 3 t + 1 units from the start. It leaves out leading zeros.
+# The same of the dump that Icarus wrote of the bench below: cycle t is read at 3 t + 1 units from the start. Icarus leaves out leading zeros.
 dumped() {
     awk -v cycles="$cycles" '
         function tell(until,  s, v) {
@@ -103,7 +104,7 @@ bench() {
 
 # The module in Icarus beside the dump.
 run() {
-    has "$1" iverilog || return
+    has iverilog || return
     "$kp" pipe <"$work/shaken.kp" >"$work/shaken.v"
     held "$work/shaken.vcd" >"$work/expected"
     bench "$work/shaken.kp" "$work/shaken.v" >"$work/bench.v"
@@ -117,7 +118,7 @@ run() {
 }
 
 convert() {
-    has "$1" vcd2fst || return
+    has vcd2fst || return
     vcd2fst "$work/shaken.vcd" "$work/shaken.fst" >"$work/said" 2>&1 || echo "status $?" >>"$work/said"
     if [ -s "$work/said" ]; then says "$1" vcd2fst "$(head -n 1 "$work/said")"; else says "$1" vcd2fst ok; fi
 }
@@ -125,7 +126,8 @@ convert() {
 [ $# -gt 0 ] || set -- "$top"/examples/*.kp
 seed=0
 for job; do
-    "$kp" check <"$job" >"$work/checked" || continue
+    [ -f "$job" ] || { echo "waves: there is no file $job" >&2; exit 1; }
+    "$kp" check <"$job" >"$work/checked" || { says "$(basename "$job")" check "$(head -n 1 "$work/checked")"; continue; }
     name=$(awk '{ print $2 }' "$work/checked")
     seed=$((seed + 1))
     shaken "$job" "$seed" >"$work/shaken.kp"
@@ -133,5 +135,4 @@ for job; do
     run "$name" "$job"
     convert "$name"
 done
-echo "$checked checked, $wrong wrong"
-[ "$wrong" -eq 0 ]
+summary

@@ -1,0 +1,98 @@
+#!/usr/bin/env python3
+"""Which lemmas other crates cite: python3 checks/cited_lemmas.py [--each] [CRATE ..], or python3 checks/cited_lemmas.py --check
+
+Prints for each crate (or for the given ones) the modules of its proofs/ that .antt and .rt files of other crates cite, and these crates:
+the table of docs/ARCHITECTURE.md. With --each a row is one module, with the names that are cited of it. With --check it compares that page
+with the sources, prints the rows that differ, and its status is 0 where none does.
+"""
+import os
+import re
+import sys
+
+TOP = os.path.dirname(os.path.dirname(os.path.abspath(__file__)))
+PAGE = "docs/ARCHITECTURE.md"
+HEAD = ["| crate | modules of `proofs/` | cited by |", "|---|---|---|"]
+USE = re.compile(r"\buse Rattle\.(\w+)\.proofs\.([\w.]+?)(?:\.\{([^}]*)\}|(?= as |[;\s]))")
+PATH = re.compile(r"\b(kp_\w+)(?:\.|::)proofs(?:\.|::)(\w+)(?:(?:\.|::)(\w+))?")
+
+
+def order():
+    with open(f"{TOP}/crates.txt", encoding="utf-8") as it:
+        return [line.split(":")[0].split()[0] for line in it if line.strip() and not line.startswith("#")]
+
+
+def sources(crate):
+    for folder, folders, names in os.walk(f"{TOP}/crates/{crate}"):
+        folders[:] = [it for it in folders if it not in ("out", "must-fail")]
+        for name in names:
+            if name.endswith((".antt", ".rt")):
+                with open(os.path.join(folder, name), encoding="utf-8") as it:
+                    yield it.read()
+
+
+def cited(crates):
+    """By crate and module: the crates that cite it, and the names that they cite."""
+    found = {}
+    for crate in crates:
+        for text in sources(crate):
+            uses = [(other, module, names.split(",")) for other, module, names in USE.findall(text)]
+            paths = [(other, module, [name]) for other, module, name in PATH.findall(USE.sub("", text))]
+            for other, module, names in uses + paths:
+                if other != crate:
+                    by, used = found.setdefault((other, module), (set(), set()))
+                    by.add(crate)
+                    used.update(name.split(" as ")[0].strip() for name in names if name.strip())
+    return found
+
+
+def row(cells):
+    return f"| {' | '.join(cells)} |"
+
+
+def rows_of(crates, found, chosen):
+    """One row for each crate: its modules, and all that cite one of them."""
+    for crate in chosen:
+        modules = sorted(it for other, it in found if other == crate)
+        if modules:
+            by = set().union(*(found[crate, it][0] for it in modules))
+            yield row([crate, ", ".join(f"`{it}`" for it in modules), ", ".join(sorted(by, key=crates.index))])
+
+
+def rows_of_each(crates, found, chosen):
+    """One row for each module: the names that are cited, and by whom."""
+    for crate in chosen:
+        for module in sorted(it for other, it in found if other == crate):
+            by, used = found[crate, module]
+            names = ", ".join(f"`{it}`" for it in sorted(used))
+            yield row([crate, f"`{module}`" + (f": {names}" if names else ""), ", ".join(sorted(by, key=crates.index))])
+
+
+def check(rows):
+    with open(f"{TOP}/{PAGE}", encoding="utf-8") as it:
+        lines = it.read().split("\n")
+    at = lines.index(HEAD[0]) + 2 if HEAD[0] in lines else len(lines)
+    there = []
+    while at < len(lines) and lines[at].startswith("|"):
+        there.append(lines[at])
+        at += 1
+    for line in there:
+        if line not in rows:
+            print(f"{PAGE}: {line}")
+    for line in rows:
+        if line not in there:
+            print(f"the sources: {line}")
+    return there != rows
+
+
+def main(words):
+    crates = order()
+    found = cited(crates)
+    if words == ["--check"]:
+        return check(list(rows_of(crates, found, crates)))
+    chosen = [it for it in words if it != "--each"] or crates
+    print("\n".join(HEAD + list((rows_of_each if "--each" in words else rows_of)(crates, found, chosen))))
+    return 0
+
+
+if __name__ == "__main__":
+    sys.exit(main(sys.argv[1:]))

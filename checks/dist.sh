@@ -1,0 +1,128 @@
+#!/bin/bash
+# What `make install`, `make uninstall` and `make dist` do: bash checks/dist.sh
+#
+# `make install` puts every file in its place in an empty folder, with the version and the prefix in the manual pages, and `make uninstall` leaves
+# nothing there. Two calls of `make dist` write the same bytes, though the second has another umask and older files; names are sorted, and the
+# owner is 0. VERSION is the newest heading of CHANGELOG.md. The commands in the manual page and the completions are those that `kp` accepts; the
+# keywords and rules in the manual pages and the editor files are those of docs/. Shells, mandoc and man, where they are installed, accept their
+# files without a message. Where no program is built, a stub is installed. KP names another program. The last line is `N checked, M wrong`, and
+# the status is 0 where M is 0.
+[ -n "${KP:-}" ] || [ -x "$(dirname "$0")/../crates/kp/out/kp" ] || KP=:
+. "$(dirname "$0")/common.sh"
+if [ "$kp" = : ]; then
+    printf '#!/bin/sh\necho bad words\nexit 1\n' > "$work/stub"
+    chmod 755 "$work/stub"
+    kp=$work/stub
+fi
+kp=$(cd "$(dirname "$(command -v "$kp")")" && pwd)/$(basename "$kp")
+cd "$top" || exit 70
+language=docs/LANGUAGE.md
+
+# same WHAT TOOL ONE OTHER: ok where both lists have the same words, and some
+same() {
+    printf '%s\n' $3 | sort > "$work/one"
+    printf '%s\n' $4 | sort > "$work/other"
+    if [ -n "$3" ] && cmp -s "$work/one" "$work/other"; then
+        says "$1" "$2" ok
+    else
+        says "$1" "$2" "too many: $(comm -23 "$work/one" "$work/other" | xargs), missing: $(comm -13 "$work/one" "$work/other" | xargs)"
+    fi
+}
+
+# made TARGET WORD..: runs make as a user does, and puts what it printed into a file
+made() {
+    env -u MAKEFLAGS -u MAKELEVEL make -s --no-print-directory "$@" KP_BINARY="$kp" > "$work/made" 2>&1 < /dev/null ||
+        echo "make $1 failed" >> "$work/made"
+}
+
+# Version
+same VERSION CHANGELOG "$(cat VERSION)" "$(sed -n 's/^## //p' CHANGELOG.md | head -n 1)"
+
+# Installed and removed
+made install DESTDIR="$work/root" PREFIX=/opt/some
+quiet install make "$work/made"
+at=$work/root/opt/some
+{
+    cmp "$kp" "$at/bin/kp"
+    cmp "$kp" "$at/share/kp/kp"
+    for it in $(git ls-files docs 2> /dev/null || find docs -type f); do cmp "$it" "$at/share/doc/kp/$it"; done
+    for it in $(git ls-files examples 2> /dev/null || find examples -type f); do
+        cmp "$it" "$at/share/kp/$it"
+        [ -x "$it" ] && ! [ -x "$at/share/kp/$it" ] && echo "$it can't be executed"
+    done
+    for it in README.md CHANGELOG.md CONTRIBUTING.md VERSION; do cmp "$it" "$at/share/doc/kp/$it"; done
+    cmp completions/kp.bash "$at/share/bash-completion/completions/kp"
+    cmp completions/_kp "$at/share/zsh/site-functions/_kp"
+    cmp completions/kp.fish "$at/share/fish/vendor_completions.d/kp.fish"
+    for it in compiler ftdetect ftplugin syntax; do cmp "editors/vim/$it/kp.vim" "$at/share/vim/vimfiles/$it/kp.vim"; done
+    cmp editors/kp.tmLanguage.json "$at/share/kp/kp.tmLanguage.json"
+    grep -n '@[A-Z]*@' "$at"/share/man/man?/kp.?
+    grep -L "version $(cat VERSION)" "$at"/share/man/man?/kp.? | sed 's/$/: has no version/'
+    grep -q /opt/some/share "$at/share/man/man1/kp.1" || echo "kp.1 doesn't name the prefix"
+} > "$work/said" 2>&1
+quiet files install "$work/said"
+mkdir "$work/pages"
+cp "$at/share/man/man1/kp.1" "$at/share/man/man5/kp.5" "$work/pages"
+made uninstall DESTDIR="$work/root" PREFIX=/opt/some
+{ cat "$work/made"; find "$work/root" -mindepth 1; } > "$work/said"
+quiet uninstall make "$work/said"
+
+# Without a program: one line, and nothing is installed
+env -u MAKEFLAGS -u MAKELEVEL make -s install DESTDIR="$work/root" KP_BINARY="$work/none" > "$work/said" 2>&1
+if [ $? -ne 0 ] && [ "$(wc -l < "$work/said")" -eq 1 ] && grep -q 'run make' "$work/said" && [ -z "$(find "$work/root" -mindepth 1)" ]; then
+    says unbuilt make ok
+else
+    says unbuilt make "$(head -n 1 "$work/said")"
+fi
+
+# The same bytes twice
+archive=kp-$(cat VERSION).tar.gz
+for it in 1 2; do
+    mkdir "$work/tree$it" && tar -cf - --exclude=out --exclude=crates --exclude=.git . | tar -xf - -C "$work/tree$it"
+    (
+        cd "$work/tree$it" || exit
+        [ "$it" = 1 ] || { umask 077; find . -exec touch -h -d '2 days ago' {} +; }
+        made dist
+    )
+done
+cmp "$work"/tree[12]/out/dist/"$archive" > "$work/said" 2>&1
+quiet dist make "$work/said"
+(cd "$work/tree1/out/dist" && sha256sum --quiet -c SHA256SUMS) > "$work/said" 2>&1
+quiet SHA256SUMS sha256sum "$work/said"
+tar -tzf "$work/tree1/out/dist/$archive" > "$work/names"
+{
+    grep -qx "kp-$(cat VERSION)/bin/kp" "$work/names" || echo "has no bin/kp"
+    tr / '\001' < "$work/names" | LC_ALL=C sort -c 2>&1 | sed 's/.*/names are unsorted/'
+    tar --numeric-owner -tvzf "$work/tree1/out/dist/$archive" | grep -v '^[^ ]* 0/0 ' | sed 's/^/has another owner: /'
+} > "$work/said"
+quiet archive tar "$work/said"
+
+# The commands
+commands=$(sed -n 's/.*codes "\([a-z]*\)".*/\1/p' $(grep -l '^abbrev pub plain_command' crates/*/specs/*.antt) | grep -v help)
+same commands kp.1 "$(sed -n '/^\.Sh SYNOPSIS/,/^\.Sh DESC/s/^\.Cm \([a-z]*\).*/\1/p' man/kp.1)" "$commands"
+same commands list "$(sed -n '/^The commands are/,/^\.Sh/s/^\.It Cm \([a-z]*\).*/\1/p' man/kp.1)" "$commands"
+same commands bash "$(sed -n "s/.*:0) .*-W '\([a-z ]*\)'.*/\1/p" completions/kp.bash)" "$commands"
+same commands zsh "$(sed -n "s/^  '\([a-z]*\):.*/\1/p" completions/_kp)" "$commands"
+same commands fish "$(sed -n "s/.*'__kp_argument 1' -k -a \([a-z]*\) .*/\1/p" completions/kp.fish)" "$commands"
+
+# Keywords and rules
+keywords=$(sed -n '/The keywords$/,/`inputs`\.$/p' "$language" | tail -n +2 | grep -o '`[a-z]*`' | tr -d '`')
+same keywords kp.5 "$(sed -n '/^\.It keywords/,/^\.It/s/^\.Cm //p' man/kp.5)" "$keywords"
+same keywords vim "$(sed -n '/Todo/d; s/^syntax keyword kp[A-Za-z]* //p' editors/vim/syntax/kp.vim)" "$keywords"
+same keywords textmate "$(sed -n 's/.*"\\\\b(\([a-z|]*\))\\\\b".*/\1/p' editors/kp.tmLanguage.json | tr '|' ' ')" "$keywords"
+same rules kp.5 "$(sed -n 's/^\.It \(E[0-9]*\)$/\1/p' man/kp.5)" "$(sed -n '/^| rule | violated/,/^$/s/^| \(E[0-9]*\) .*/\1/p' "$language")"
+same rules kp.1 "$(sed -n 's/^\.It \([AV][0-9]*\)$/\1/p' man/kp.1)" \
+    "$(sed -n '/^| rule | violated/,/^$/s/^| \([AV][0-9]*\) .*/\1/p' docs/VERILOG.md docs/DLX.md) V6"
+
+# What other tools say of the files
+if has mandoc; then (cd "$work/pages" && mandoc -T lint kp.1 kp.5) > "$work/said" 2>&1; quiet pages mandoc "$work/said"; fi
+if has man && man --version 2> /dev/null | grep -q '^man '; then
+    for it in 1 5; do LC_ALL=C.UTF-8 man --warnings -l "$work/pages/kp.$it" 2>&1 > /dev/null; done > "$work/said"
+    quiet pages man "$work/said"
+fi
+bash -n completions/kp.bash > "$work/said" 2>&1
+quiet completion bash "$work/said"
+if has zsh; then zsh -n completions/_kp > "$work/said" 2>&1; quiet completion zsh "$work/said"; fi
+if has fish; then fish --no-execute completions/kp.fish > "$work/said" 2>&1; quiet completion fish "$work/said"; fi
+if has python3; then python3 -m json.tool editors/kp.tmLanguage.json 2>&1 > /dev/null | cat > "$work/said"; quiet textmate python3 "$work/said"; fi
+summary
