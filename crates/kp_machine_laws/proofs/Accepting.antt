@@ -16,6 +16,7 @@ use Rattle.kp_stage.proofs.Unbroken.{first_none, answer_none}
 use Rattle.kp_pipeline.specs.Accepted.{Accepted}
 use Rattle.kp_machine.specs.Machine.{machine_of, result_for, write_stage_of, after_put, known_after, known_from_of}
 use Rattle.kp_machine.specs.Slots.{sample_stages}
+use Rattle.kp_machine.proofs.Aims.{aims_inside}
 use Rattle.kp_machine.proofs.Placing.{stands}
 use Rattle.kp_machine.proofs.Rules.{rules_kept, head_kept, decl_kept, stmts_kept}
 use Rattle.kp_machine_laws.proofs.Sampled.{own_samples, sample_stands}
@@ -95,6 +96,7 @@ module _ (job : Job) (names : Unbroken (widths_of job)) (stages : broken_of job 
       late_samples = late;
       writes = writes;
       knows = knows;
+      aims = λ x. aims_inside job stages some_stages x;
     };
     window = window;
   }

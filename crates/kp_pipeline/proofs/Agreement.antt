@@ -52,3 +52,35 @@ pub after-same : (c d : Instruction) (r q : StageOutcome) → c ≡ d → SameEf
 after-same c d r q e h =
     ap₂ (λ (ps : ℕ → Option ℕ) (ss : ℕ → Option ℕ). after_stage c (record { hazard = r.hazard; puts = ps; sets = ss; guesses = r.guesses; aims = r.aims })) h.0 h.1
     ∙ ap (λ (x : Instruction). after_stage x q) e
+
+-- WITH THE SAME HINTS it aims what the sequential machine aims.
+read-aims : (P : PendingGuess → Type 0) (o : Option ℕ) (go to : ℕ → StageOutcome) (w : ℕ) → ((v : ℕ) → o ≡ Some v → v ≡ w)
+    → (after_read o go).hazard ≡ false → AllByRecursion P (after_read o go).guesses
+    → ((go w).hazard ≡ false → AllByRecursion P (go w).guesses → (go w).aims ≡ (to w).aims) → (after_read o go).aims ≡ (to w).aims
+read-aims P (Some v) go to w is hz ev ih =
+    subst (λ (u : ℕ). (go u).hazard ≡ false → AllByRecursion P (go u).guesses → (go u).aims ≡ (to w).aims) (sym (is v refl)) ih hz ev
+read-aims P None go to w is hz ev ih = absurd (true≢false hz)
+
+guess-aims : (P : PendingGuess → Type 0) (o : Option ℕ) (t g : ℕ) (go to : ℕ → StageOutcome) (w : ℕ)
+    → ((v : ℕ) → o ≡ Some v → v ≡ w)
+    → (P (record { register = t; value = g }) → g ≡ w)
+    → (after_guess o t g go).hazard ≡ false → AllByRecursion P (after_guess o t g go).guesses
+    → ((go w).hazard ≡ false → AllByRecursion P (go w).guesses → (go w).aims ≡ (to w).aims)
+    → (after_guess o t g go).aims ≡ (to w).aims
+guess-aims P (Some v) t g go to w is right hz ev ih =
+    subst (λ (u : ℕ). (go u).hazard ≡ false → AllByRecursion P (go u).guesses → (go u).aims ≡ (to w).aims) (sym (is v refl)) ih hz ev
+guess-aims P None t g go to w is right hz ev ih =
+    subst (λ (u : ℕ). (go u).hazard ≡ false → AllByRecursion P (go u).guesses → (go u).aims ≡ (to w).aims) (sym (right ev.0)) ih hz ev.1
+
+pub aims-agree : (m : Machine) (k : ℕ) (view : ℕ → ℕ → Option ℕ) (h : ℕ → ℕ) (s : ℕ → ℕ → ℕ) (x : Tree) → Fits m k x
+    → ((t a v : ℕ) → (m.has_result t ≡ true → k ≤ m.write_stage t) → view t a ≡ Some v → v ≡ s t a)
+    → (run view h x).hazard ≡ false → AllByRecursion (IsRight s) (run view h x).guesses
+    → (run view h x).aims ≡ (run (λ t a. Some (s t a)) h x).aims
+aims-agree m k view h s (Done p q w) f truth hz ev = refl
+aims-agree m k view h s (Ask t a x) f truth hz ev =
+    read-aims (IsRight s) (view t a) (λ v. run view h (x v)) (λ v. run (λ t a. Some (s t a)) h (x v)) (s t a)
+    (λ v e. truth t a v f.0 e) hz ev (λ hz' ev'. aims-agree m k view h s (x (s t a)) (f.1 (s t a)) truth hz' ev')
+aims-agree m k view h s (Guess t e x) f truth hz ev =
+    guess-aims (IsRight s) (view t 0) t (e h) (λ v. run view h (x v)) (λ v. run (λ t a. Some (s t a)) h (x v)) (s t 0)
+    (λ v q. truth t 0 v (λ _. let b : k + 2 ≤ m.write_stage t = f.1 in omega arith) q) (λ r. r) hz ev
+    (λ hz' ev'. aims-agree m k view h s (x (s t 0)) (f.3 (s t 0)) truth hz' ev')

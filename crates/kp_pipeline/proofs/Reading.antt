@@ -8,7 +8,7 @@ use Rattle.kp_pipeline.specs.Accepted.{Fits}
 use Rattle.kp_pipeline.specs.Claims.{StandsBefore}
 use Rattle.kp_pipeline.specs.Timeline.{HasNoGuess, some_unmet}
 use Rattle.kp_pipeline.proofs.Agreement.{IsRight}
-use Rattle.kp_pipeline.specs.RightPath.{MakesRightGuesses, some_shows_wrong}
+use Rattle.kp_pipeline.specs.RightPath.{MakesRightGuesses, some_missing, some_shows_wrong}
 
 -- READS OF ONE STAGE, in the pipeline and in the timeline. A hazard is a read that isn't met; what comes after it doesn't matter.
 read-unmet : (o : Option ℕ) (b : Bool) (w : ℕ) (go : ℕ → StageOutcome) (c : Bool) → is_some o ≡ b → ((v : ℕ) → o ≡ Some v → v ≡ w)
@@ -37,6 +37,35 @@ hazard-unmet m k view ready s h (Guess t e y) f g same truth =
     let low : m.has_result t ≡ true → k ≤ m.write_stage t = (λ _. let b : k + 2 ≤ m.write_stage t = f.1 in omega arith) in
     guess-unmet (view t 0) (ready t 0) t (e h) (s t 0) (λ v. run view h (y v)) (some_unmet ready s (y (s t 0))) (same t 0 low) (λ v q. truth t 0 v low q) g.0
     (hazard-unmet m k view ready s h (y (s t 0)) (f.3 (s t 0)) g.1 same truth)
+
+-- Where no read is missing, guessed reads included, there is no hazard, whatever would be guessed.
+read-had : (o : Option ℕ) (b : Bool) (w : ℕ) (go : ℕ → StageOutcome) (c : Bool) → is_some o ≡ b → ((v : ℕ) → o ≡ Some v → v ≡ w)
+    → (not b || c) ≡ false → (c ≡ false → (go w).hazard ≡ false) → (after_read o go).hazard ≡ false
+read-had (Some v) true w go c e is n h = rw (is v refl) (h n)
+read-had (Some v) false w go c e is n h = absurd (true≢false n)
+read-had None true w go c e is n h = absurd (true≢false (sym e))
+read-had None false w go c e is n h = absurd (true≢false n)
+
+guess-had : (o : Option ℕ) (b : Bool) (t g w : ℕ) (go : ℕ → StageOutcome) (c : Bool) → is_some o ≡ b → ((v : ℕ) → o ≡ Some v → v ≡ w)
+    → (not b || c) ≡ false → (c ≡ false → (go w).hazard ≡ false) → (after_guess o t g go).hazard ≡ false
+guess-had (Some v) true t g w go c e is n h = rw (is v refl) (h n)
+guess-had (Some v) false t g w go c e is n h = absurd (true≢false n)
+guess-had None true t g w go c e is n h = absurd (true≢false (sym e))
+guess-had None false t g w go c e is n h = absurd (true≢false n)
+
+pub had-all : (m : Machine) (k : ℕ) (view : ℕ → ℕ → Option ℕ) (ready : ℕ → ℕ → Bool) (s : ℕ → ℕ → ℕ) (h : ℕ → ℕ) (x : Tree)
+    → Fits m k x
+    → ((t a : ℕ) → (m.has_result t ≡ true → k ≤ m.write_stage t) → is_some (view t a) ≡ ready t a)
+    → ((t a v : ℕ) → (m.has_result t ≡ true → k ≤ m.write_stage t) → view t a ≡ Some v → v ≡ s t a)
+    → some_missing ready s x ≡ false → (run view h x).hazard ≡ false
+had-all m k view ready s h (Done p q w) f same truth n = refl
+had-all m k view ready s h (Ask t a y) f same truth n =
+    read-had (view t a) (ready t a) (s t a) (λ v. run view h (y v)) (some_missing ready s (y (s t a))) (same t a f.0) (λ v e. truth t a v f.0 e) n
+    (λ r. had-all m k view ready s h (y (s t a)) (f.1 (s t a)) same truth r)
+had-all m k view ready s h (Guess t e y) f same truth n =
+    let low : m.has_result t ≡ true → k ≤ m.write_stage t = (λ _. let b : k + 2 ≤ m.write_stage t = f.1 in omega arith) in
+    guess-had (view t 0) (ready t 0) t (e h) (s t 0) (λ v. run view h (y v)) (some_missing ready s (y (s t 0))) (same t 0 low) (λ v q. truth t 0 v low q) n
+    (λ r. had-all m k view ready s h (y (s t 0)) (f.3 (s t 0)) same truth r)
 
 -- Without a hazard, all guesses that are made are right.
 read-made : (P : PendingGuess → Type 0) (o : Option ℕ) (b : Bool) (w : ℕ) (go : ℕ → StageOutcome) → is_some o ≡ b

@@ -15,8 +15,8 @@ use Rattle.kp_pipeline.proofs.NextState.{back-mismatch}
 use Rattle.kp_pipeline.proofs.Counts.{AgreeBelow, counts-row}
 use Rattle.kp_pipeline.proofs.Legality.{TakesAhead, inv-kept, inv-start, takes_ahead-kept, takes_ahead-met}
 use Rattle.kp_pipeline.specs.SpeculativeTimeline.{next_hold, ready_above, timeline_rows}
-use Rattle.kp_pipeline.specs.RightPath.{HasRightGuesses, IsRightFrom, IsRightIn, KeepsRightFrom, MakesRightGuesses, Moment, NoWrongGuess, WaitsOnlyWhereItMust, WaitsWhereItMust, first_moment, held, shows_wrong, some_shows_wrong}
-use Rattle.kp_pipeline.proofs.Seeing.{Kept, RightHere, calm-at, end-calm, end-wrong, hold-kept, moves-at, never-early, right-kept, row-here, still-right, wait-at}
+use Rattle.kp_pipeline.specs.RightPath.{HasRightGuesses, IsRightFrom, IsRightIn, KeepsRightFrom, MakesRightGuesses, Moment, NoWrongGuess, WaitsOnlyWhereItMust, WaitsWhereItMust, first_moment, held, shows_wrong, some_missing, some_shows_wrong, waits_unguessed}
+use Rattle.kp_pipeline.proofs.Seeing.{Kept, RightHere, calm-at, end-calm, end-had, end-wrong, hints-kept, hold-kept, moves-at, never-early, right-kept, row-here, still-right, wait-at}
 
 -- ONE CYCLE, with the counts of the rows: they are those of the invariant in the stages that there are.
 module _ (m : Machine) (acc : Accepted m) (s given : ℕ → ℕ → ℕ) (st : PipelineState) (i : Inputs) (c d updates : ℕ → ℕ) (inv : Inv m s given st d updates) (met : Met m given st i d) (agree : AgreeBelow m.stages c d) where
@@ -83,6 +83,13 @@ module _ (m : Machine) (acc : Accepted m) (s given : ℕ → ℕ → ℕ) (st : 
         end-wrong m acc s given st i d updates inv met (held (record { state = st; count = c })) tie (suc k) (right-here (suc k) path) k b (omega arith)
         ∙ ap (λ (n : ℕ). some_shows_wrong (ready_above m s given (held (record { state = st; count = c })) i k).ready (seq m s given n) (st.stage k).pending) (sym (agree k b))
 
+    end-bounded : HasRightGuesses m s given (record { state = st; count = c }) k → (st.stage k).full ≡ true
+        → waits_unguessed m s given (record { state = st; count = c }) i k ≡ false → (outcome m st i k).hazard ≡ false
+    end-bounded r f n =
+        end-had m acc s given st i d updates inv met (held (record { state = st; count = c })) tie (suc k) (right-here (suc k) path) k b (omega arith) f
+        (λ g. subst (λ (n : ℕ). AllByRecursion (IsRightIn (seq m s given n)) (st.stage k).pending) (agree k b) (r g))
+        (subst (λ (n : ℕ). some_missing (ready_above m s given (held (record { state = st; count = c })) i k).ready (seq m s given n) (m.body k i.samples (instruction_before m s given n k).pipes) ≡ false) (agree k b) n)
+
     end-only : back m st i ≡ suc k → shows_wrong m s given (record { state = st; count = c }) i k ≡ true
     end-only e = sym end-shows ∙ (back-mismatch m st i k e).1
 
@@ -111,6 +118,7 @@ module _ (m : Machine) (acc : Accepted m) (s given : ℕ → ℕ → ℕ) (st : 
     stays = λ k b path. goes k k (omega arith) b path;
     hazards = λ k b path f. wait-at m acc s given st i d updates inv met (held (record { state = st; count = c })) tie k (right-here k path) k (omega arith) b (full-here k b f);
     never_early = λ k b keeps u. never-early m acc s given st i d updates inv met (held (record { state = st; count = c })) tie k (kept-here k keeps) k (omega arith) b (sym (ue-here k b) ∙ u);
+    bounded = λ k b path r f n. end-bounded k b path r (full-here k b f) n;
     moved = λ k b path. right-next (suc k) b (right-kept m acc s given st i d updates inv met (held (record { state = st; count = c })) tie k (right-here k path) k b (λ _. omega arith) (λ _ _. omega arith));
     kept = λ k b path f u. right-next k b (stayed k b path f u);
     ends = λ k b path. end-back k b path;
@@ -145,7 +153,7 @@ rows-along : (m : Machine) (acc : Accepted m) (s given : ℕ → ℕ → ℕ) (i
     → Inv m s given st count updates → TakesAhead m given st ins updates
     → (hold : ℕ → Option ℕ) → ((k : ℕ) → k < m.stages → hold k ≡ cond (st.stage k).full (Some (count k)) None)
     → ((k : ℕ) → k < m.stages → RightAt m s given st count k)
-    → NoWrongGuess m s given st hold ins
+    → NoWrongGuess m s given st.hints hold ins
     → rows_from m st ins ≡ timeline_rows m s given hold ins
 rows-along m acc s given [] st count updates inv ahead hold tie pending none = refl
 rows-along m acc s given (i ∷ is) st count updates inv ahead hold tie pending none =
@@ -154,7 +162,8 @@ rows-along m acc s given (i ∷ is) st count updates inv ahead hold tie pending 
     = (λ k b. (pending k b, (λ f. none.0 k (count k) b (tie k b ∙ ap (λ (x : Bool). cond x (Some (count k)) None) f)))) in
     ap₂ (λ (x : Row) (y : List Row). x ∷ y) (row-here m acc s given st i count updates inv met hold tie right)
     (rows-along m acc s given is (cycle m st i) (next_count m st i count) (λ k. one_if (bit (row m st i).ue k) + updates k) (inv-kept m acc s given st i count updates inv met) (takes_ahead-kept m given st i is updates ahead)
-    (next_hold m s given hold i) (hold-kept m acc s given st i count updates inv met hold tie right) (still-right m acc s given st i count updates inv met hold tie right) none.1)
+    (next_hold m s given hold i) (hold-kept m acc s given st i count updates inv met hold tie right) (still-right m acc s given st i count updates inv met hold tie right)
+    (subst (λ (h : ℕ → ℕ). NoWrongGuess m s given h (next_hold m s given hold i) is) (sym (hints-kept m acc s given st i count updates inv met hold tie right)) none.1))
 
 pub start-tie : (k : ℕ) → start_hold k ≡ cond (start_stage k).full (Some 0) None
 start-tie zero = refl
@@ -166,7 +175,7 @@ start-right s (suc k) = tt
 
 -- The law.
 pub rows-right : (m : Machine) (s : ℕ → ℕ → ℕ) (hints : ℕ → ℕ) (ins : List Inputs) → Accepted m
-    → NoWrongGuess m s (taken m ins (pipe m s hints ins).rows) (pipeline_start s hints) start_hold ins
+    → NoWrongGuess m s (taken m ins (pipe m s hints ins).rows) hints start_hold ins
     → (pipe m s hints ins).rows ≡ timeline_rows m s (taken m ins (pipe m s hints ins).rows) start_hold ins
 rows-right m s hints ins acc none =
     let given : ℕ → ℕ → ℕ = taken m ins (rows_from m (pipeline_start s hints) ins) in

@@ -1,9 +1,11 @@
 use Rattle.std.specs.List.{AllByRecursion}
 use Rattle.std.proofs.Common.{◌≡◌, ℕ, zero, suc, ◌+◌, ◌-◌, ◌<◌, ◌≤◌, ◌≢◌, Bool, true, false, cond, not, ◌&&◌, ◌||◌, eqb, ltb, leb, List, ◌++◌, Option, Some, None, is_some, refl, sym, ap, ap₂, ◌∙◌, subst, ⊎_elim, arith, le-leb, leb-true, eqb-true, eq-eqb, lt-ltb, le-ltb}
+use Rattle.std.specs.Prelude.{unwrap_or}
+use Rattle.std.proofs.Math.Path.{fun_ext}
 use Rattle.std.proofs.lemmas.Bool.{cases_Bool, cases_lt, cond-true, cond-false, and_parts, and_from, and_left, and_right, or_left, or_right, or_from, both_ways, false_from_ne_true, ne_eqb, lt-leb}
 use Rattle.kp_pipeline.specs.Machine.{Machine}
 use Rattle.kp_pipeline.specs.Sequential.{Instruction, PendingGuess, first_value, instruction_before, is_written, run, seq}
-use Rattle.kp_pipeline.specs.Pipeline.{Inputs, PipelineState, StageState, above, back, candidate_hits, cycle, forwarded, hits, intent_known, is_candidate, mismatches, next_stage, ok_value, outcome, some_differs, stall, ue}
+use Rattle.kp_pipeline.specs.Pipeline.{Inputs, PipelineState, StageState, above, back, candidate_hits, cycle, forwarded, hits, intent_known, is_candidate, mismatches, next_hints, next_stage, ok_value, outcome, some_differs, stall, ue}
 use Rattle.kp_pipeline.specs.Rows.{bits, row}
 use Rattle.kp_pipeline.specs.Accepted.{Accepted}
 use Rattle.kp_pipeline.specs.Timeline.{ReadyAbove, next_number, some_unmet}
@@ -11,14 +13,14 @@ use Rattle.kp_pipeline.proofs.Lists.{all-append, all-kept, all-map, bits-same}
 use Rattle.kp_pipeline.proofs.Cycle.{greatest-bound, stall-above, stall-is, stall-top, truth-in, truth-top, ue-from, ue-parts}
 use Rattle.kp_pipeline.proofs.Movement.{count-came, count-moved, count-stays, kept-below, next-from, next-kept, next-moved, next-none, next_count, no_stall-parts, stall-full}
 use Rattle.kp_pipeline.proofs.Sequential.{written-from}
-use Rattle.kp_pipeline.proofs.Agreement.{IsRight}
+use Rattle.kp_pipeline.proofs.Agreement.{IsRight, aims-agree}
 use Rattle.kp_pipeline.proofs.Invariant.{Inv, Met, RightAt}
 use Rattle.kp_pipeline.proofs.Truths.{MadeRight, RightAbove, TruthIsRight, computes, truth-own, truth-right}
 use Rattle.kp_pipeline.proofs.NextState.{back-mismatch, next-pending, next-pending-kept}
-use Rattle.kp_pipeline.specs.SpeculativeTimeline.{blocked, is_ready, may_write, moves_on, next_hold, ready_above, ready_below, ready_from, setting_stage, timeline_row, waits}
-use Rattle.kp_pipeline.specs.RightPath.{MakesRightGuesses, some_shows_wrong}
+use Rattle.kp_pipeline.specs.SpeculativeTimeline.{aim_given, blocked, hints_after, is_ready, may_write, moves_on, next_hold, ready_above, ready_below, ready_from, setting_stage, timeline_row, waits}
+use Rattle.kp_pipeline.specs.RightPath.{MakesRightGuesses, some_missing, some_shows_wrong}
 use Rattle.kp_pipeline.proofs.SettingTimes.{setting-after, setting-before, setting-last}
-use Rattle.kp_pipeline.proofs.Reading.{hazard-unmet, makes-right, mismatch-wrong, right-not_wrong}
+use Rattle.kp_pipeline.proofs.Reading.{had-all, hazard-unmet, makes-right, mismatch-wrong, right-not_wrong}
 use Rattle.kp_pipeline.proofs.Earliest.{ok_value-late, right-no_differs, unmet-none}
 
 -- WHAT A STAGE SEES in the timeline, as in the pipeline.
@@ -91,11 +93,15 @@ module _ (m : Machine) (acc : Accepted m) (s given : ℕ → ℕ → ℕ) (st : 
   truth-here : (k : ℕ) → k < m.stages → Seen k → TruthIsRight m s given st inputs count k
   truth-here k b x = truth-right m acc s given st inputs count updates inv met (m.stages - suc k) k (omega arith) x.2 x.1
 
+  core-pending : (k : ℕ) → k < m.stages → (st.stage k).full ≡ true → Seen k → RightAt m s given st count k
+      → (st.stage k).instruction ≡ instruction_before m s given (count k) k
+  core-pending k b f x r =
+      inv.held k b f
+      (λ j y z. ⊎_elim (λ (i : k < j). (x.1 j i z).0) (λ (i : j ≤ k). let w : k ≡ j = omega arith in subst (λ (n : ℕ). RightAt m s given st count n) w r) (cases_lt k j))
+
   core-here : (k : ℕ) → k < m.stages → (st.stage k).full ≡ true → Seen k → RightHere k
       → (st.stage k).instruction ≡ instruction_before m s given (count k) k
-  core-here k b f x r =
-      inv.held k b f
-      (λ j y z. ⊎_elim (λ (i : k < j). (x.1 j i z).0) (λ (i : j ≤ k). let w : k ≡ j = omega arith in subst (λ (n : ℕ). RightAt m s given st count n) w r.0) (cases_lt k j))
+  core-here k b f x r = core-pending k b f x r.0
 
   held-here : (k : ℕ) → k < m.stages → (st.stage k).full ≡ true → hold k ≡ Some (count k)
   held-here k b f = tie k b ∙ ap (λ (x : Bool). cond x (Some (count k)) None) f
@@ -115,6 +121,15 @@ module _ (m : Machine) (acc : Accepted m) (s given : ℕ → ℕ → ℕ) (st : 
       (ap (λ (c : Instruction). (run (above m st inputs k).truth st.hints (m.body k inputs.samples c.pipes)).hazard) (core-here k b f x r)
       ∙ hazard-unmet m k (above m st inputs k).truth (ready_above m s given hold inputs k).ready (seq m s given (count k)) st.hints (m.body k inputs.samples (instruction_before m s given (count k) k).pipes) (acc.fits k inputs.samples (instruction_before m s given (count k) k).pipes b) (r.1 f) x.0.0 (truth-here k b x))
 
+  -- A stage with right pending guesses has no hazard where no read is missing, whatever it would guess.
+  pub had-here : (k : ℕ) → k < m.stages → (st.stage k).full ≡ true → Seen k → RightAt m s given st count k
+      → some_missing (ready_above m s given hold inputs k).ready (seq m s given (count k)) (m.body k inputs.samples (instruction_before m s given (count k) k).pipes) ≡ false
+      → (outcome m st inputs k).hazard ≡ false
+  unfolding outcome
+  had-here k b f x r n =
+      ap (λ (c : Instruction). (run (above m st inputs k).truth st.hints (m.body k inputs.samples c.pipes)).hazard) (core-pending k b f x r)
+      ∙ had-all m k (above m st inputs k).truth (ready_above m s given hold inputs k).ready (seq m s given (count k)) st.hints (m.body k inputs.samples (instruction_before m s given (count k) k).pipes) (acc.fits k inputs.samples (instruction_before m s given (count k) k).pipes b) x.0.0 (truth-here k b x) n
+
   -- The guesses that it makes as it moves on are right.
   made-here : (k : ℕ) → k < m.stages → Seen k → RightHere k → MadeRight m s given st inputs count k
   unfolding outcome
@@ -125,6 +140,16 @@ module _ (m : Machine) (acc : Accepted m) (s given : ℕ → ℕ → ℕ) (st : 
       (sym (core-here k b p.0 x r))
       (makes-right m k (above m st inputs k).truth (ready_above m s given hold inputs k).ready (seq m s given (count k)) st.hints (m.body k inputs.samples (instruction_before m s given (count k) k).pipes) (acc.fits k inputs.samples (instruction_before m s given (count k) k).pipes b) (r.1 p.0) x.0.0 (truth-here k b x))
       hz
+
+  -- As it moves on it aims what the sequential instruction aims.
+  aims-here : (k : ℕ) → k < m.stages → Seen k → RightHere k → ue m st inputs k ≡ true
+      → (outcome m st inputs k).aims ≡ (run (λ t a. Some (seq m s given (count k) t a)) st.hints (m.body k inputs.samples (instruction_before m s given (count k) k).pipes)).aims
+  unfolding outcome
+  aims-here k b x r u =
+      let p = ue-parts m st inputs k u in
+      aims-agree m k (above m st inputs k).truth st.hints (seq m s given (count k)) (m.body k inputs.samples (st.stage k).instruction.pipes)
+      (acc.fits k inputs.samples (st.stage k).instruction.pipes b) (truth-here k b x) (no_stall-parts m st inputs k p.0 p.1).0 (made-here k b x r u)
+      ∙ ap (λ (c : Instruction). (run (λ t a. Some (seq m s given (count k) t a)) st.hints (m.body k inputs.samples c.pipes)).aims) (core-here k b p.0 x r)
 
   -- Whether it mismatches is determined by the timeline; with right guesses it doesn't, and isn't squashed.
   wrong-here : (k : ℕ) → k < m.stages → Seen k
@@ -450,6 +475,10 @@ module _ (m : Machine) (acc : Accepted m) (s given : ℕ → ℕ → ℕ) (st : 
             → (not (blocked m s given hold inputs k) && leb (back m st inputs) k) ≡ not (blocked m s given hold inputs k)
         no' e = rw e l
 
+    pub aims-at : (k : ℕ) → low ≤ k → k < m.stages → ue m st inputs k ≡ true
+        → (outcome m st inputs k).aims ≡ (run (λ t a. Some (seq m s given (count k) t a)) st.hints (m.body k inputs.samples (instruction_before m s given (count k) k).pipes)).aims
+    aims-at k i b u = aims-here k b (seen-at k b (omega arith)) (right k i b) u
+
     -- What moved or stayed on it has right guesses after the cycle too.
     pub right-kept : (k : ℕ) → suc k < m.stages → (ue m st inputs k ≡ true → low ≤ k) → (stall m st inputs (suc k) ≡ true → back m st inputs ≤ suc k → low ≤ suc k)
         → RightAt m s given (cycle m st inputs) (next_count m st inputs count) (suc k)
@@ -480,6 +509,11 @@ module _ (m : Machine) (acc : Accepted m) (s given : ℕ → ℕ → ℕ) (st : 
     pub end-calm : (k : ℕ) → k < m.stages → low ≤ suc k → back m st inputs ≤ suc k
     end-calm k b i = (seen-at k b i).2
 
+    pub end-had : (k : ℕ) → k < m.stages → low ≤ suc k → (st.stage k).full ≡ true → RightAt m s given st count k
+        → some_missing (ready_above m s given hold inputs k).ready (seq m s given (count k)) (m.body k inputs.samples (instruction_before m s given (count k) k).pipes) ≡ false
+        → (outcome m st inputs k).hazard ≡ false
+    end-had k b i f r n = had-here k b f (seen-at k b i) r n
+
     pub end-wrong : (k : ℕ) → k < m.stages → low ≤ suc k
         → some_differs (above m st inputs k).truth (st.stage k).pending ≡ some_shows_wrong (ready_above m s given hold inputs k).ready (seq m s given (count k)) (st.stage k).pending
     end-wrong k b i = wrong-here k b (seen-at k b i)
@@ -499,6 +533,24 @@ module _ (m : Machine) (acc : Accepted m) (s given : ℕ → ℕ → ℕ) (st : 
     unfolding next_stage
     still-right zero b f = tt
     still-right (suc k) b f = right-kept 0 (λ j _ c. right j c) k b (λ _. omega arith) (λ _ _. omega arith) f
+
+    -- The hints are those of the timeline after the cycle too.
+    hint-kept : (x : ℕ) → next_hints m st inputs x ≡ hints_after m s given hold inputs st.hints x
+    unfolding next_hints hints_after
+    hint-kept x =
+        let b = acc.aims x in
+        let k : ℕ = m.hint_stage x in
+        ⊎_elim
+        (λ (u : ue m st inputs (m.hint_stage x) ≡ true).
+        cond-true _ _ _ u
+        ∙ ap (λ (o : ℕ → Option ℕ). unwrap_or (o x) (st.hints x)) (aims-at 0 (λ j _ c. right j c) (m.hint_stage x) (omega arith) b u)
+        ∙ ap (λ (o : Option ℕ). unwrap_or (aim_given m s given inputs st.hints o (m.hint_stage x) x) (st.hints x)) (sym (held-here (m.hint_stage x) b (ue-parts m st inputs (m.hint_stage x) u).0))
+        ∙ sym (cond-true (moves_on m s given hold inputs (m.hint_stage x)) _ _ (sym (goes (m.hint_stage x) b) ∙ u)))
+        (λ (u : ue m st inputs (m.hint_stage x) ≡ false). cond-false _ _ _ u ∙ sym (cond-false (moves_on m s given hold inputs (m.hint_stage x)) _ _ (sym (goes (m.hint_stage x) b) ∙ u)))
+        (cases_Bool (ue m st inputs (m.hint_stage x)))
+
+    pub hints-kept : next_hints m st inputs ≡ hints_after m s given hold inputs st.hints
+    hints-kept = fun_ext hint-kept
 
     pub hold-kept : (k : ℕ) → k < m.stages
         → next_hold m s given hold inputs k ≡ cond (next_stage m st inputs k).full (Some (next_count m st inputs count k)) None

@@ -5,7 +5,7 @@ use Rattle.kp_pipeline.specs.Rows.{pipe}
 use Rattle.kp_pipeline.specs.Accepted.{Accepted, Fits}
 use Rattle.kp_pipeline.specs.Examples.{RunsAs, no_hints, quiet, quiets, zeros}
 use Rattle.kp_pipeline.specs.Timeline.{no_samples, start_hold}
-use Rattle.kp_pipeline.specs.SpeculativeTimeline.{blocked, moves_on, next_hold, ready_above, ready_from, setting_stage, timeline_rows_taking, waits}
+use Rattle.kp_pipeline.specs.SpeculativeTimeline.{blocked, hints_after, moves_on, next_hold, ready_above, ready_from, setting_stage, timeline_rows_taking, waits}
 use Rattle.kp_pipeline.specs.RightPath.{MakesRightGuesses, NoWrongGuess}
 use Rattle.kp_pipeline.specs.SpeculativeExamples.{right3, right3_body, right3_rows, sees5, sees5_inputs, sees5_rows}
 
@@ -37,6 +37,7 @@ right3-accepted = record {
     late_samples = λ x b. absurd (omega arith);
     writes = λ t h. omega arith;
     knows = λ t h. omega arith;
+    aims = λ x. omega arith;
   };
   window = λ t h. omega arith;
 }
@@ -56,21 +57,21 @@ right3-makes ready h s q p zero e = ((λ _. e refl), tt)
 right3-makes ready h s q p (suc zero) e = tt
 right3-makes ready h s q p (suc (suc k)) e = tt
 
-right3-cycle : (given : ℕ → ℕ → ℕ) (st : PipelineState) (hold : ℕ → Option ℕ) (T : ℕ) → st.hints 0 ≡ T → hold 0 ≡ Some T → (k n : ℕ) → k < 3 → hold k ≡ Some n
-    → MakesRightGuesses (ready_above right3 zeros given hold quiet k).ready st.hints (seq right3 zeros given n) (right3_body k quiet.samples (instruction_before right3 zeros given n k).pipes)
-right3-cycle given st hold T e f k n b g =
-    right3-makes (ready_above right3 zeros given hold quiet k).ready st.hints (seq right3 zeros given n) quiet.samples (instruction_before right3 zeros given n k).pipes k
+right3-cycle : (given : ℕ → ℕ → ℕ) (hints : ℕ → ℕ) (hold : ℕ → Option ℕ) (T : ℕ) → hints 0 ≡ T → hold 0 ≡ Some T → (k n : ℕ) → k < 3 → hold k ≡ Some n
+    → MakesRightGuesses (ready_above right3 zeros given hold quiet k).ready hints (seq right3 zeros given n) (right3_body k quiet.samples (instruction_before right3 zeros given n k).pipes)
+right3-cycle given hints hold T e f k n b g =
+    right3-makes (ready_above right3 zeros given hold quiet k).ready hints (seq right3 zeros given n) quiet.samples (instruction_before right3 zeros given n k).pipes k
     (λ z. let same : T ≡ n = ap (λ (o : Option ℕ). unwrap_or o 0) (sym f ∙ sym (ap hold z) ∙ g) in e ∙ same ∙ sym (right3-state given n))
 
-pub right3-none : (given : ℕ → ℕ → ℕ) → NoWrongGuess right3 zeros given (pipeline_start zeros no_hints) start_hold (quiets 4)
-unfolding next_stage next_visible next_hints ue back outcome stall above from_stages before_stage seq next_hold moves_on blocked waits ready_above ready_from setting_stage
+pub right3-none : (given : ℕ → ℕ → ℕ) → NoWrongGuess right3 zeros given no_hints start_hold (quiets 4)
+unfolding before_stage seq next_hold moves_on blocked waits ready_above ready_from setting_stage hints_after
 right3-none given =
-    let a : PipelineState = cycle right3 (pipeline_start zeros no_hints) quiet in
-    let b : PipelineState = cycle right3 a quiet in
-    let c : PipelineState = cycle right3 b quiet in
     let f : ℕ → Option ℕ = next_hold right3 zeros given start_hold quiet in
     let g : ℕ → Option ℕ = next_hold right3 zeros given f quiet in
-    let h : ℕ → Option ℕ = next_hold right3 zeros given g quiet in (
-      right3-cycle given (pipeline_start zeros no_hints) start_hold 0 refl refl,
+    let h : ℕ → Option ℕ = next_hold right3 zeros given g quiet in
+    let a : ℕ → ℕ = hints_after right3 zeros given start_hold quiet no_hints in
+    let b : ℕ → ℕ = hints_after right3 zeros given f quiet a in
+    let c : ℕ → ℕ = hints_after right3 zeros given g quiet b in (
+      right3-cycle given no_hints start_hold 0 refl refl,
       (right3-cycle given a f 1 refl refl, (right3-cycle given b g 2 refl refl, (right3-cycle given c h 3 refl refl, tt))),
     )

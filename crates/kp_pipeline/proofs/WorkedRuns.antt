@@ -31,6 +31,7 @@ late3-accepted = record {
     late_samples = λ x b. absurd (omega arith);
     writes = λ t h. omega arith;
     knows = λ t h. omega arith;
+    aims = λ x. omega arith;
   };
   window = λ t h. omega arith;
 }
@@ -70,6 +71,7 @@ near-accepted = record {
     late_samples = λ x b. absurd (omega arith);
     writes = λ t h. omega arith;
     knows = λ t h. omega arith;
+    aims = λ x. omega arith;
   };
   window = λ t h. omega arith;
 }
@@ -105,6 +107,7 @@ unk4-accepted = record {
     late_samples = λ x b. absurd (omega arith);
     writes = λ t h. omega arith;
     knows = λ t h. omega arith;
+    aims = λ x. omega arith;
   };
   window = λ t h. omega arith;
 }
@@ -145,6 +148,7 @@ ghw4-accepted = record {
     late_samples = λ x b. absurd (omega arith);
     writes = λ t h. omega arith;
     knows = λ t h. ghw4-knows t;
+    aims = λ x. omega arith;
   };
   window = λ t h. omega arith;
 }
@@ -186,6 +190,7 @@ hint3-accepted = record {
     late_samples = λ x b. absurd (omega arith);
     writes = λ t h. omega arith;
     knows = λ t h. omega arith;
+    aims = λ x. omega arith;
   };
   window = λ t h. omega arith;
 }
@@ -217,6 +222,7 @@ smp3-accepted = record {
     late_samples = λ x b. omega arith;
     writes = λ t h. omega arith;
     knows = λ t h. omega arith;
+    aims = λ x. omega arith;
   };
   window = λ t h. omega arith;
 }
@@ -275,6 +281,7 @@ early-accepted = record {
   late_samples = λ x b. absurd (omega arith);
   writes = λ t h. early-writes t;
   knows = λ t h. omega arith;
+  aims = λ x. omega arith;
 }
 
 -- Y has the wrong guess, 7, and in the sequential machine 1.

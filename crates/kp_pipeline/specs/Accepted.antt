@@ -31,6 +31,8 @@ pub record AcceptedButForWindow (m : Machine) : Type 0 where
   -- a write stage is an existing stage (E15), and the intent is known in it (E19)
   pub writes : (t : ℕ) → m.has_result t ≡ true → m.write_stage t < m.stages
   pub knows : (t : ℕ) → m.has_result t ≡ true → m.known_from t ≤ m.write_stage t
+  -- a hint is aimed in an existing stage
+  pub aims : (x : ℕ) → m.hint_stage x < m.stages
 
 -- The window rule: no target is written before the stage in which the last wrong guess is found (E24).
 pub record Accepted (m : Machine) : Type 0 where

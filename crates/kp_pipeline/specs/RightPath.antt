@@ -4,7 +4,7 @@ use Rattle.kp_pipeline.specs.Machine.{Tree, Done, Ask, Guess, Machine}
 use Rattle.kp_pipeline.specs.Sequential.{PendingGuess, instruction_before, seq}
 use Rattle.kp_pipeline.specs.Pipeline.{Inputs, PipelineState, cycle, outcome, pipeline_start, ue}
 use Rattle.kp_pipeline.specs.Rows.{Row, bit, count_after, row}
-use Rattle.kp_pipeline.specs.SpeculativeTimeline.{moves_on, next_hold, ready_above, waits}
+use Rattle.kp_pipeline.specs.SpeculativeTimeline.{hints_after, moves_on, next_hold, ready_above, waits}
 
 -- THE RIGHT (CORRECT) PATH: the stages from which upward no guess is wrong. What they do is determined by the sequential machine.
 
@@ -70,6 +70,18 @@ abbrev pub shows_wrong : Machine → (ℕ → ℕ → ℕ) → (ℕ → ℕ → 
 shows_wrong m s given now inputs k =
     some_shows_wrong (ready_above m s given (held now) inputs k).ready (seq m s given (now.count k)) (now.state.stage k).pending
 
+-- Some read of the instruction on s can't be had yet, guessed reads included.
+abbrev pub some_missing : (ℕ → ℕ → Bool) → (ℕ → ℕ → ℕ) → Tree → Bool
+some_missing ready s (Done puts sets aims) = false
+some_missing ready s (Ask t a rest) = not (ready t a) || some_missing ready s (rest (s t a))
+some_missing ready s (Guess t guess rest) = not (ready t 0) || some_missing ready s (rest (s t 0))
+
+-- Stage k would wait in this cycle if it guessed nothing.
+abbrev pub waits_unguessed : Machine → (ℕ → ℕ → ℕ) → (ℕ → ℕ → ℕ) → Moment → Inputs → ℕ → Bool
+waits_unguessed m s given now inputs k =
+    some_missing (ready_above m s given (held now) inputs k).ready (seq m s given (now.count k))
+    (m.body k inputs.samples (instruction_before m s given (now.count k) k).pipes)
+
 -- WHAT A CYCLE WAITS FOR, and nothing more. Here `r` is the row.
 pub record WaitsWhereItMust (m : Machine) (s given : ℕ → ℕ → ℕ) (now : Moment) (i : Inputs) (r : Row) : Type 0 where
   -- On the right path a stage moves on exactly where the timeline, in which a guessed read never waits, moves it on,
@@ -83,6 +95,10 @@ pub record WaitsWhereItMust (m : Machine) (s given : ℕ → ℕ → ℕ) (now :
   -- guess along: a wrong guess that isn't carried along can cost a cycle, and gains none.
   pub never_early : (k : ℕ) → k < m.stages → KeepsRightFrom m s given now i k → bit r.ue k ≡ true
       → moves_on m s given (held now) i k ≡ true
+  -- And it costs no more than guessing nothing would: a stage whose pending guesses are right, below stages on the right
+  -- path, has no data hazard in a cycle in which it wouldn't wait without guesses, whatever it would guess.
+  pub bounded : (k : ℕ) → k < m.stages → IsRightFrom m s given now i (suc k) → HasRightGuesses m s given now k → bit r.full k ≡ true
+      → waits_unguessed m s given now i k ≡ false → (outcome m now.state i k).hazard ≡ false
   -- What moved on or stayed there has right guesses after the cycle too: only a new wrong guess leaves the right path.
   pub moved : (k : ℕ) → suc k < m.stages → IsRightFrom m s given now i k → HasRightGuesses m s given (next_moment m now i) (suc k)
   pub kept : (k : ℕ) → k < m.stages → IsRightFrom m s given now i k → bit r.full k ≡ true → bit r.ue k ≡ false
@@ -107,11 +123,12 @@ WaitsOnlyWhereItMust m s given now (i ∷ ins) [] = ⊥
 WaitsOnlyWhereItMust m s given now (i ∷ ins) (r ∷ rows) =
     WaitsWhereItMust m s given now i r × WaitsOnlyWhereItMust m s given (next_moment m now i) ins rows
 
--- In none of these cycles is a wrong guess made. Stage k holds instruction n of the timeline.
-abbrev pub NoWrongGuess : Machine → (ℕ → ℕ → ℕ) → (ℕ → ℕ → ℕ) → PipelineState → (ℕ → Option ℕ) → List Inputs → Type 0
-NoWrongGuess m s given st hold [] = Unit {0}
-NoWrongGuess m s given st hold (i ∷ ins) =
+-- In none of these cycles is a wrong guess made. Stage k holds instruction n of the timeline, which carries the hints
+-- along too: so this speaks of the machine, its inputs and the samples that instructions take, and of no pipeline.
+abbrev pub NoWrongGuess : Machine → (ℕ → ℕ → ℕ) → (ℕ → ℕ → ℕ) → (ℕ → ℕ) → (ℕ → Option ℕ) → List Inputs → Type 0
+NoWrongGuess m s given hints hold [] = Unit {0}
+NoWrongGuess m s given hints hold (i ∷ ins) =
     ((k n : ℕ) → k < m.stages → hold k ≡ Some n
-    → MakesRightGuesses (ready_above m s given hold i k).ready st.hints (seq m s given n)
+    → MakesRightGuesses (ready_above m s given hold i k).ready hints (seq m s given n)
     (m.body k i.samples (instruction_before m s given n k).pipes))
-    × NoWrongGuess m s given (cycle m st i) (next_hold m s given hold i) ins
+    × NoWrongGuess m s given (hints_after m s given hold i hints) (next_hold m s given hold i) ins

@@ -1,6 +1,6 @@
-use Rattle.std.specs.Prelude.{ℕ, zero, suc, ◌-◌, ◌<◌, Bool, true, false, cond, not, ◌&&◌, ◌||◌, eqb, ltb, List, [], ◌∷◌, Option, Some, None, is_some}
+use Rattle.std.specs.Prelude.{ℕ, zero, suc, ◌-◌, ◌<◌, Bool, true, false, cond, not, ◌&&◌, ◌||◌, eqb, ltb, List, [], ◌∷◌, Option, Some, None, is_some, unwrap_or}
 use Rattle.kp_pipeline.specs.Machine.{Machine}
-use Rattle.kp_pipeline.specs.Sequential.{before_stage, instruction_before, is_written, seq}
+use Rattle.kp_pipeline.specs.Sequential.{before_stage, instruction_before, is_written, run, seq}
 use Rattle.kp_pipeline.specs.Pipeline.{Inputs, intent_known, is_candidate}
 use Rattle.kp_pipeline.specs.Rows.{Row, bits}
 use Rattle.kp_pipeline.specs.Timeline.{HasNoGuess, ReadyAbove, first_stage, next_number, some_unmet}
@@ -72,6 +72,19 @@ unfoldable pub next_hold : Machine → (ℕ → ℕ → ℕ) → (ℕ → ℕ �
 next_hold m s given hold inputs zero = cond (moves_on m s given hold inputs 0) (next_number (hold 0)) (hold 0)
 next_hold m s given hold inputs (suc k) =
     cond (moves_on m s given hold inputs k) (hold k) (cond (blocked m s given hold inputs (suc k)) (hold (suc k)) None)
+
+-- The value that the instruction in stage k aims at a hint, if it aims one, given the present hints.
+abbrev pub aim_given : Machine → (ℕ → ℕ → ℕ) → (ℕ → ℕ → ℕ) → Inputs → (ℕ → ℕ) → Option ℕ → ℕ → ℕ → Option ℕ
+aim_given m s given inputs hints None k x = None
+aim_given m s given inputs hints (Some i) k x =
+    (run (λ t a. Some (seq m s given i t a)) hints (m.body k inputs.samples (instruction_before m s given i k).pipes)).aims x
+
+-- The hints after the cycle: a hint takes the value that is aimed at it as the instruction moves on.
+unfoldable pub hints_after : Machine → (ℕ → ℕ → ℕ) → (ℕ → ℕ → ℕ) → (ℕ → Option ℕ) → Inputs → (ℕ → ℕ) → ℕ → ℕ
+hints_after m s given hold inputs hints x =
+    cond (moves_on m s given hold inputs (m.hint_stage x))
+    (unwrap_or (aim_given m s given inputs hints (hold (m.hint_stage x)) (m.hint_stage x) x) (hints x))
+    (hints x)
 
 -- A row of the timeline: `full` if a stage holds an instruction, the update enable if it moves it on, and no rollback.
 abbrev pub timeline_row : Machine → (ℕ → ℕ → ℕ) → (ℕ → ℕ → ℕ) → (ℕ → Option ℕ) → Inputs → Row

@@ -4,7 +4,7 @@
 ghost use Rattle.std.specs.Prelude.{◌≡◌, ℕ, List};
 ghost use Rattle.kp_pipeline.specs.Accepted.{Accepted};
 ghost use Rattle.kp_pipeline.specs.Machine.{Machine};
-ghost use Rattle.kp_pipeline.specs.Pipeline.{Inputs, pipeline_start};
+ghost use Rattle.kp_pipeline.specs.Pipeline.{Inputs};
 ghost use Rattle.kp_pipeline.specs.Rows.{pipe, taken};
 ghost use Rattle.kp_pipeline.specs.Timeline.{no_samples, start_hold};
 ghost use Rattle.kp_pipeline.specs.SpeculativeTimeline.{IsWithoutGuess, timeline_rows, timeline_rows_taking};
@@ -14,7 +14,7 @@ ghost use Rattle.kp_pipeline.specs.RightPath.{NoWrongGuess, WaitsOnlyWhereItMust
 /// correct guesses cost nothing.
 pub fn rows_without_wrong_guesses_are_the_timeline()
     ensures { (m : Machine) (s : ℕ → ℕ → ℕ) (hints : ℕ → ℕ) (ins : List Inputs) → Accepted m
-        → NoWrongGuess m s (taken m ins (pipe m s hints ins).rows) (pipeline_start s hints) start_hold ins
+        → NoWrongGuess m s (taken m ins (pipe m s hints ins).rows) hints start_hold ins
         → (pipe m s hints ins).rows ≡ timeline_rows m s (taken m ins (pipe m s hints ins).rows) start_hold ins }
 {}
 

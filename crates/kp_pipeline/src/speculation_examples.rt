@@ -4,7 +4,6 @@
 ghost use Rattle.std.specs.Prelude.{◌≡◌, ℕ, List, [], ◌∷◌};
 ghost use Rattle.kp_pipeline.specs.Examples.{RunsAs, quiets, zeros, no_hints};
 ghost use Rattle.kp_pipeline.specs.Rows.{pipe, taken};
-ghost use Rattle.kp_pipeline.specs.Pipeline.{pipeline_start};
 ghost use Rattle.kp_pipeline.specs.Timeline.{no_samples, start_hold};
 ghost use Rattle.kp_pipeline.specs.SpeculativeTimeline.{timeline_rows, timeline_rows_taking};
 ghost use Rattle.kp_pipeline.specs.RightPath.{NoWrongGuess};
@@ -19,5 +18,5 @@ pub fn sees5_looks_at_the_present_sample()
 /// A guess that is always correct costs nothing.
 pub fn right3_never_waits()
     ensures run { RunsAs right3 zeros no_hints (quiets 4) right3_rows (4 ∷ 3 ∷ 2 ∷ []) }
-    ensures guesses { NoWrongGuess right3 zeros (taken right3 (quiets 4) right3_rows) (pipeline_start zeros no_hints) start_hold (quiets 4) }
+    ensures guesses { NoWrongGuess right3 zeros (taken right3 (quiets 4) right3_rows) no_hints start_hold (quiets 4) }
 {}

@@ -35,6 +35,7 @@ use Rattle.kp_stage.proofs.Unbroken.{first_none, answer_none}
 use Rattle.kp_pipeline.proofs.Lists.{all-append}
 use Rattle.kp_machine.specs.Slots.{Slot, targets_of, pipes_of, hints_of, samples_of, number_of, width_of}
 use Rattle.kp_machine.specs.Machine.{machine_of, result_for, write_stage_of, stage_or_zero, aim_stage}
+use Rattle.kp_machine.proofs.Aims.{aims_inside}
 use Rattle.kp_machine.proofs.Names.{IsIn}
 use Rattle.kp_machine.proofs.Apart.{Apart, pipes_apart, samples_apart}
 use Rattle.kp_machine.proofs.Cases.{by_test}
@@ -136,36 +137,6 @@ no_address : (kind : NameKind) → names.is_register kind ≡ true → address_w
 no_address kinds.Reg e = refl
 no_address (kinds.File a) e = cc
 no_address kind e = refl
-
--- AIMS are in blocks.
-abbrev Below : ℕ → Option At → Type 0
-Below n None = Unit {0}
-Below n (Some at) = at.stage < n
-
-below_first : (n : ℕ) (o : Option At) (os : List (Option At)) → Below n o → Below n (first os) → Below n (first (o ∷ os))
-below_first n None os h more = more
-below_first n (Some at) os h more = h
-
-below_test : (n : ℕ) (b : Bool) (at : At) → at.stage < n → Below n (cond b (Some at) None)
-below_test n true at h = h
-below_test n false at h = tt
-
-aim_below : (n : ℕ) (name : List ℕ) (k j : ℕ) (s : StmtKind) → k < n → Below n (aim_at name k j s)
-aim_below n name k j (stmts.Aim m e) l = below_test n (is_same_name name m.name) (record { stage = k; index = j }) l
-aim_below n name k j s l = tt
-
-aims_below : (n : ℕ) (name : List ℕ) (k j : ℕ) (ss : List Stmt) → k < n → Below n (first (aims_in name k j ss))
-aims_below n name k j [] l = tt
-aims_below n name k j (s ∷ ss) l = below_first n (aim_at name k j s.kind) (aims_in name k (j + 1) ss) (aim_below n name k j s.kind l) (aims_below n name k (j + 1) ss l)
-
-all_aims_below : (n : ℕ) (name : List ℕ) (k : ℕ) (bs : List Block) → k + length bs ≤ n → Below n (first (aims_of name k bs))
-all_aims_below n name k [] l = tt
-all_aims_below n name k (b ∷ bs) l =
-    below_first n (first (aims_in name k 0 b.stmts)) (aims_of name (k + 1) bs) (aims_below n name k 0 b.stmts (omega arith)) (all_aims_below n name (k + 1) bs (omega arith))
-
-below_stage : (n : ℕ) (o : Option At) → 0 < n → Below n o → stage_or_zero o < n
-below_stage n None l h = l
-below_stage n (Some at) l h = h
 
 -- A guess is of a register of a width, and is made two stages or more before its write stage.
 pub record IsGuess (job : Job) (g : GuessSlot) : Type 0 where
@@ -308,16 +279,8 @@ module _ (job : Job) (right : Unbroken (widths_of job)) (kept : broken_of job �
       let limits = and_parts (nat_le 2 n) (nat_le n 12) both.0 in
       (leb-true 2 n limits.0, leb-true n 12 limits.1)
 
-  aim_right : (o : Option Slot) → aim_stage facts o < job.stages.value
-  aim_right None = let few = stages_right.0 in omega (arith, few)
-  aim_right (Some s) =
-      let few : 2 ≤ job.stages.value = stages_right.0 in
-      let blocks = stages_inside job kept in
-      below_stage job.stages.value (facts.aim s.name) (omega (arith, few)) (all_aims_below job.stages.value s.name 0 job.blocks (omega (arith, blocks)))
-
   aims_right : (h : ℕ) → (machine_of job).hint_stage h < job.stages.value
-  unfolding machine_of
-  aims_right h = aim_right (slice_get (hints_of job.decls) h)
+  aims_right h = let few : 2 ≤ job.stages.value = stages_right.0 in aims_inside job kept (omega (arith, few)) h
 
   -- A job that violates no rule of names, widths and stages fits.
   pub fits : Fits job

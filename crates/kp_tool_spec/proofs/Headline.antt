@@ -128,7 +128,7 @@ waits_with job s ins trace acc same = record {
       (λ (rows : List Row). WaitsOnlyWhereItMust (machine_of job) s (taken (machine_of job) ins rows) (first_moment s (start_hints job)) ins rows)
       (sym same) (waits-only (machine_of job) s (start_hints job) ins acc);
   right = subst
-      (λ (rows : List Row). NoWrongGuess (machine_of job) s (taken (machine_of job) ins rows) (pipeline_start s (start_hints job)) start_hold ins
+      (λ (rows : List Row). NoWrongGuess (machine_of job) s (taken (machine_of job) ins rows) (start_hints job) start_hold ins
       → rows ≡ path_rows (machine_of job) s (taken (machine_of job) ins rows) start_hold ins)
       (sym same) (rows-right (machine_of job) s (start_hints job) ins acc);
   plain = λ guesses. same ∙ rows-taking (machine_of job) s (start_hints job) ins acc (without_guess job guesses);

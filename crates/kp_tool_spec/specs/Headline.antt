@@ -46,7 +46,7 @@ IsMoving job ins trace = Moves (machine_of job) ins trace × HighestStays (machi
 -- is read (`plain`). `From`: from a state s of registers and files, with the start values of the hints; otherwise from the job's start.
 pub record HasNoNeedlessStallFrom (job : Job) (s : ℕ → ℕ → ℕ) (ins : List Inputs) (trace : Trace) : Type 0 where
   pub waits : WaitsOnlyWhereItMust (machine_of job) s (taken (machine_of job) ins trace.rows) (first_moment s (start_hints job)) ins trace.rows
-  pub right : NoWrongGuess (machine_of job) s (taken (machine_of job) ins trace.rows) (pipeline_start s (start_hints job)) start_hold ins
+  pub right : NoWrongGuess (machine_of job) s (taken (machine_of job) ins trace.rows) (start_hints job) start_hold ins
       → trace.rows ≡ path_rows (machine_of job) s (taken (machine_of job) ins trace.rows) start_hold ins
   pub plain : (summary_of job).guesses ≡ 0 → trace.rows ≡ timeline_rows_taking (machine_of job) s no_samples start_hold ins
 
