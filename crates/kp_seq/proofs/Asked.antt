@@ -1,13 +1,11 @@
 -- The reads of a stage: the implementation records what the definition specifies.
 use Rattle.std.proofs.Common.{◌≡◌, ◌∙◌, ℕ, ◌+◌, ◌^◌, ◌<◌, ◌≤◌, List, [], ◌∷◌, ◌++◌, Option, Some, None, Bool, true, false, ◌||◌, cond, length, refl, ap, sym, subst, arith, lit<}
 use Rattle.std.specs.Prelude.{is_some, slice_get, not, nat_le, ◌&&◌, ◌==◌}
-use Rattle.std.specs.Option.{option_map}
 use Rattle.std.proofs.lemmas.Bool.{eqb-true, le-leb}
 use Rattle.std.proofs.Math.Pow.{pow_mono}
 use Rattle.kp_base.specs.First.{first}
 use Rattle.kp_base.specs.Check.{ok, ◌>>=◌, wants}
 use Rattle.kp_base.specs.Refusal.{e_rule}
-use Rattle.kp_bits.specs.Word.{Word}
 use Rattle.kp_ast.specs.declared.tree.Expr.{Expr}
 use Rattle.kp_ast.specs.declared.tree.ReadStmt.{ReadStmt}
 use Rattle.kp_ast.specs.declared.tree.Stmt.{Stmt}
@@ -23,7 +21,7 @@ use Rattle.kp_width.specs.Widths.{widths_of}
 use Rattle.kp_width.proofs.Unbroken.{Unbroken, bind_unbroken, answer_unbroken}
 use Rattle.kp_width.proofs.Found.{none_of_two}
 use Rattle.kp_stage.specs.Facts.{facts_of}
-use Rattle.kp_stage.specs.Rules.{ask_expr, ask_option, ask_values, ask_stmt, ask_stmts, all_rules}
+use Rattle.kp_stage.specs.Rules.{ask_option, ask_values, ask_stmt, ask_stmts, all_rules}
 use Rattle.kp_stage.proofs.Unbroken.{first_none}
 use Rattle.kp_pipeline.specs.Sequential.{Instruction}
 use Rattle.kp_machine.specs.Slots.{targets_of, number_of, width_of as width_of_target}
@@ -40,7 +38,7 @@ use Rattle.kp_seq.specs.inner.Tables.{Laid}
 use Rattle.kp_seq.specs.inner.Steps.{Under, holds, address_in, after_stmt}
 use Rattle.kp_seq.specs.inner.Fits.{FitSlots}
 use Rattle.kp_seq.specs.inner.Ready.{AreTables}
-use Rattle.kp_seq.specs.inner.Notes.{Noted, is_wide, asked_in, narrowed, narrow_address, with_read, note_stmt, note_stmts}
+use Rattle.kp_seq.specs.inner.Notes.{Noted, is_wide, asked_in, narrow_address, with_read, note_stmt, note_stmts}
 use Rattle.kp_seq.proofs.Stage.{Named, value_found}
 use Rattle.kp_seq.proofs.Trees.{next}
 use Rattle.kp_seq.proofs.Turns.{holds_same, address_same}

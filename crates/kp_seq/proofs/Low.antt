@@ -1,5 +1,5 @@
 -- The addresses of the files of a job whose names and widths are right have at most 16 bits.
-use Rattle.std.proofs.Common.{◌≡◌, ℕ, zero, suc, ◌+◌, ◌≤◌, List, [], ◌∷◌, Some, ◌&&◌, ap, ◌∙◌, sym, arith}
+use Rattle.std.proofs.Common.{◌≡◌, ℕ, zero, suc, ◌+◌, ◌≤◌, List, [], ◌∷◌, Some, ◌&&◌, ap, ◌∙◌, arith}
 use Rattle.std.specs.Prelude.{nat_le, is_some, not, slice_get}
 use Rattle.std.proofs.lemmas.Bool.{and_parts, leb-true}
 use Rattle.kp_base.specs.Refusal.{e_rule}

@@ -11,7 +11,7 @@ use Rattle.kp_ast.specs.declared.tree.StmtKind.{StmtKind}
 use Rattle.kp_ast.specs.declared.tree.StmtKind.TheVariants as stmts
 use Rattle.kp_ast.specs.declared.tree.Job.{Job}
 use Rattle.kp_stage.specs.Facts.{stmts_in}
-use Rattle.kp_pipeline.specs.Sequential.{Instruction, before_stage}
+use Rattle.kp_pipeline.specs.Sequential.{before_stage}
 use Rattle.kp_pipeline.specs.Timeline.{first_stage}
 use Rattle.kp_machine.specs.Slots.{targets_of, pipes_of, hints_of, number_of, result_named}
 use Rattle.kp_machine.specs.Trees.{Progress, entered, holds, address_of, word_of, value_of, value_with_hints, word_read, with_name, with_put, with_set, with_aim}

@@ -20,8 +20,10 @@ use kp_bits::Bits;
 use kp_stage::{Design, Start};
 use std::alloc::Global;
 use std::marker::Model;
+use std::rc::Rc;
 
-/// A resolved design: the tables that are looked up while instructions run, and the program.
+/// A resolved design: the tables that are looked up while instructions run, and the program. It is made once, and no step
+/// changes it, so that the copies of a machine share it.
 #[derive(Drop)]
 struct Resolved<'a> {
     tables: Tables<'a>,
@@ -36,6 +38,13 @@ impl<'a> Resolved<'a> {
         let tables = Tables::lay_out(alloc, d)?;
         let program = Program::of(alloc, &tables, d)?;
         Ok(Resolved { tables, program })
+    }
+
+    // The same on the heap, for several machines.
+    fn shared(self, alloc: Global) -> Result<Rc<Resolved<'a>>, NoMemory>
+        ensures { IfOk result (λ r. r.value ≡ self.entry) }
+    {
+        Ok(Rc::new(alloc, self)?)
     }
 }
 
@@ -91,8 +100,7 @@ impl Memory {
 /// A machine that runs one instruction at a time; contracts see it as the job of its design and its present state.
 pub struct SeqMachine<'a> {
     design: &'a Design,
-    tables: Tables<'a>,
-    program: Program,
+    resolved: Rc<Resolved<'a>>,
     under: Instruction,
     room: Vec<u64>,
     words: Words,
@@ -103,15 +111,13 @@ impl Drop for SeqMachine<'_> {
     fn drop(self) {
         let SeqMachine {
             design: _,
-            tables,
-            program,
+            resolved,
             under,
             room,
             words,
             notes,
         } = self;
-        drop(tables);
-        drop(program);
+        drop(resolved);
         drop(under);
         drop(room);
         drop(words);
@@ -133,7 +139,7 @@ impl<'a> Model for SeqMachine<'a> {
 
     ghost view = { λ m. record { job = m.design.now.job; words = m.words; last = told_by m.notes } };
 
-    ghost invariant = { λ m. IsReady m.design.now.job m.tables m.program m.under (length m.room.items) m.words m.notes };
+    ghost invariant = { λ m. IsReady m.design.now.job m.resolved.value.tables m.resolved.value.program m.under (length m.room.items) m.words m.notes };
 }
 
 impl<'a> SeqMachine<'a> {
@@ -146,10 +152,10 @@ impl<'a> SeqMachine<'a> {
         let resolved = Resolved::of(alloc, d)?;
         let desk = Desk::new(alloc, &resolved.tables, d.summary().size as usize)?;
         let memory = Memory::start(alloc, &resolved.tables, d, start)?;
+        let shared = resolved.shared(alloc)?;
         Ok(SeqMachine {
             design: d,
-            tables: resolved.tables,
-            program: resolved.program,
+            resolved: shared,
             under: desk.under,
             room: desk.room,
             words: memory.words,
@@ -157,18 +163,17 @@ impl<'a> SeqMachine<'a> {
         })
     }
 
-    /// A copy of the machine, with the same job and the same state; the machine itself is unchanged. All memory of
-    /// the copy is allocated here; the only error is out of memory.
+    /// A copy of the machine, with the same job and the same state; the machine itself is unchanged. The copy shares the
+    /// resolved design, and has a state of its own. All memory of the copy is allocated here; the only error is out of memory.
     pub fn copied(&self, alloc: Global) -> Result<SeqMachine<'a>, NoMemory>
         ensures { IfOk result (λ m. m ≡ self.now) }
     {
-        let resolved = Resolved::of(alloc, self.design)?;
-        let desk = Desk::new(alloc, &resolved.tables, self.room.len())?;
+        let resolved = self.resolved.clone()?;
+        let desk = Desk::new(alloc, &self.resolved.as_ref().tables, self.room.len())?;
         let memory = Memory::copied(alloc, &self.words, &self.notes)?;
         Ok(SeqMachine {
             design: self.design,
-            tables: resolved.tables,
-            program: resolved.program,
+            resolved,
             under: desk.under,
             room: desk.room,
             words: memory.words,
@@ -195,10 +200,11 @@ impl<'a> SeqMachine<'a> {
         ensures state { state self.new ≡ after_one self.old.job (state self.old) row.now }
         ensures told { self.new.last ≡ told_of self.old.job (state self.old) (values_in row.now) }
     {
+        let resolved = self.resolved.as_ref();
         let room = self.room.as_mut_slice();
         execute(
-            &self.tables,
-            &self.program,
+            &resolved.tables,
+            &resolved.program,
             row,
             &mut self.under,
             room,
@@ -214,7 +220,8 @@ impl<'a> SeqMachine<'a> {
         ensures { result ≡ word_shown self.now target address }
     {
         let target = target as usize;
-        let width = self.tables.target_width(target);
+        let resolved = self.resolved.as_ref();
+        let width = resolved.tables.target_width(target);
         fitted(width, self.words.word(target, u64::from(address)))
     }
 

@@ -51,3 +51,11 @@ module _ (A : Type 0) (step : Code-F A → A) where
   pub code-Call : (args : List Code) (body : Code) → folded (codes.Call args body) ≡ step (level.Call (map folded args) (folded body))
   unfolding roll-Code denote.Hole.Carrier.roll
   code-Call args body = fold_at (level.Call args body)
+
+  pub code-Same : (place word : ℕ) → folded (leaf.Same place word) ≡ step (level.Same place word)
+  unfolding roll-Code denote.Hole.Carrier.roll
+  code-Same place word = fold_at (level.Same place word)
+
+  pub code-Field : (place lo mask : ℕ) → folded (leaf.Field place lo mask) ≡ step (level.Field place lo mask)
+  unfolding roll-Code denote.Hole.Carrier.roll
+  code-Field place lo mask = fold_at (level.Field place lo mask)

@@ -6,4 +6,5 @@ pub mod CodeLevels
 pub mod CodeCalls
 pub mod Numbers
 mod Typing
+mod Replacing
 mod Arms

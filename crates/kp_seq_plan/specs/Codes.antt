@@ -30,6 +30,8 @@ value_level (level.Join high low width) s = bit_or (high s * 2 ^ bit_and width 6
 value_level (level.Slice a lo mask) s = bit_and (a s / 2 ^ bit_and lo 63) mask
 value_level (level.Sext a top more) s = if nat_lt top (a s) then (a s + more) % 2 ^ 64 else a s
 value_level (level.Call args body) s = body (map (λ p. p s) args)
+value_level (level.Same place word) s = if slice_index s place == word then 1 else 0
+value_level (level.Field place lo mask) s = bit_and (slice_index s place / 2 ^ bit_and lo 63) mask
 
 abbrev pub value_of : Code → List ℕ → ℕ
 value_of = fold-Code (List ℕ → ℕ) value_level
@@ -45,6 +47,8 @@ space_level (level.Join high low width) = high + low
 space_level (level.Slice a lo mask) = a
 space_level (level.Sext a top more) = a
 space_level (level.Call args body) = body + (length args + sum args)
+space_level (level.Same place word) = 0
+space_level (level.Field place lo mask) = 0
 
 abbrev pub space_of : Code → ℕ
 space_of = fold-Code ℕ space_level

@@ -24,6 +24,10 @@ pub enum Code {
     Sext(Boxed<Code>, u64, u64),
     /// The arguments, and the body.
     Call(List<Code>, Boxed<Code>),
+    /// Whether the value under an index is a word: `Binary` with `==` in one step.
+    Same(usize, u64),
+    /// Bits of the value under an index: the lowest one, and the mask of the result. `Slice` in one step.
+    Field(usize, u64, u64),
 }
 
 /// A code, and how many bits its values have.

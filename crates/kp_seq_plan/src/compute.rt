@@ -5,9 +5,27 @@ ghost use Rattle.kp_seq_plan.specs.Codes.{value_of, space_of, applied};
 use crate::code::Code;
 use kp_bits::BinOp;
 
-/// The value of a code, given these values of its names by index.
+/// The value of a code, given these values of its names by index. A code without parts needs no call.
+#[inline]
 #[cycle(compute)]
 pub fn value(code: &Code, names: &[u64], room: &mut [u64]) -> u64
+    requires { space_of code.now ≤ length room.old }
+    ensures value { result ≡ value_of code.now names.now }
+    ensures room { length room.new ≡ length room.old }
+{
+    match code {
+        Code::Word(word) => *word,
+        Code::Name(place) => held(names, *place),
+        Code::Same(place, word) => u64::from(held(names, *place) == *word),
+        Code::Field(place, lo, mask) => (held(names, *place) >> (*lo & 63)) & *mask,
+        _ => of_parts(code, names, room),
+    }
+}
+
+// The value of a code, from those of its parts. Inlined into `value`, it would make each leaf a call.
+#[inline(never)]
+#[cycle(compute)]
+fn of_parts(code: &Code, names: &[u64], room: &mut [u64]) -> u64
     requires { space_of code.now ≤ length room.old }
     ensures value { result ≡ value_of code.now names.now }
     ensures room { length room.new ≡ length room.old }
@@ -39,6 +57,8 @@ pub fn value(code: &Code, names: &[u64], room: &mut [u64]) -> u64
             if a > *top { a.wrapping_add(*more) } else { a }
         }
         Code::Call(args, body) => called(args.as_slice(), body.get(), names, room),
+        Code::Same(place, word) => u64::from(held(names, *place) == *word),
+        Code::Field(place, lo, mask) => (held(names, *place) >> (*lo & 63)) & *mask,
     }
 }
 

@@ -1,5 +1,5 @@
 //! Lowering of plans to codes, once for all instructions: the width of each part is computed, so that values are plain numbers.
-ghost use Rattle.std.specs.Prelude.{◌≡◌, ◌+◌, ◌||◌, ◌==◌, Some, IfOk, sum_by};
+ghost use Rattle.std.specs.Prelude.{◌≡◌, ◌+◌, ◌||◌, ◌==◌, ℕ, Some, IfOk, IfSome, sum_by};
 ghost use Rattle.kp_bits.specs.Operators.{is_shift};
 ghost use Rattle.std.specs.Option.{option_map, option_and_then};
 ghost use Rattle.kp_bits.specs.Word.{not_of};
@@ -8,7 +8,7 @@ ghost use Rattle.kp_seq_plan.specs.Names.{at_place};
 ghost use Rattle.kp_seq_plan.specs.Plans.{meaning, space};
 ghost use Rattle.kp_seq_plan.specs.declared.code.Code.TheViews as codes;
 ghost use Rattle.kp_seq_plan.specs.Lowering.{Gives};
-ghost use Rattle.kp_seq_plan.specs.inner.Parts.{GivesOne, GivesTwo, GivesMux, GivesAll, GivesCall, GivesWord, IsMask, binary_width, binary_found, join_found, joined_found, call_found, call_space};
+ghost use Rattle.kp_seq_plan.specs.inner.Parts.{GivesOne, GivesTwo, GivesMux, GivesAll, GivesCall, GivesWord, Replaces, IsMask, binary_width, binary_found, join_found, joined_found, call_found, call_space};
 
 use crate::{Code, Plan, Typed};
 use kp_ast::Boxed;
@@ -215,7 +215,7 @@ fn binary(
     }
 }
 
-#[tactic(auto, using(crate::proofs::Typing::binary_wrong, crate::proofs::Typing::binary_gives))]
+#[tactic(auto, using(crate::proofs::Typing::binary_wrong))]
 fn operation(alloc: Global, op: BinOp, a: Typed, b: Typed) -> Result<Option<Typed>, NoMemory>
     ensures { IfOk result (λ c. GivesTwo (binary_found op) (Some a) (Some b) c) }
 {
@@ -224,11 +224,37 @@ fn operation(alloc: Global, op: BinOp, a: Typed, b: Typed) -> Result<Option<Type
     }
     let width = binary_width(op, a.width);
     let mask = mask(a.width);
-    let (left, right) = boxed(alloc, a.code, b.code)?;
-    Ok(Some(Typed {
-        code: Code::Binary(op, left, right, a.width, mask),
-        width,
-    }))
+    let code = applied(alloc, op, a.code, b.code, a.width, mask)?;
+    Ok(Some(Typed { code, width }))
+}
+
+// The code of a binary operator.
+fn applied(
+    alloc: Global,
+    op: BinOp,
+    a: Code,
+    b: Code,
+    width: u64,
+    mask: u64,
+) -> Result<Code, NoMemory>
+    ensures { IfOk result (λ c. Replaces c (codes.Binary op a b width mask)) }
+{
+    if let Some(code) = same(op, &a, &b) {
+        return Ok(code);
+    }
+    let (left, right) = boxed(alloc, a, b)?;
+    Ok(Code::Binary(op, left, right, width, mask))
+}
+
+// The code of a comparison of a name with a word.
+#[tactic(auto, using(crate::proofs::Replacing::same_is))]
+fn same(op: BinOp, a: &Code, b: &Code) -> Option<Code>
+    ensures { (width mask : ℕ) → IfSome result (λ c. Replaces c (codes.Binary op a.now b.now width mask)) }
+{
+    match (op, a, b) {
+        (BinOp::Eq, Code::Name(place), Code::Word(word)) => Some(Code::Same(*place, *word)),
+        _ => None,
+    }
 }
 
 // Two codes on the heap.
@@ -322,7 +348,7 @@ fn joined(alloc: Global, high: Typed, low: Typed) -> Result<Option<Typed>, NoMem
     }))
 }
 
-#[tactic(auto, using(crate::proofs::Typing::slice_none, crate::proofs::Typing::slice_order, crate::proofs::Typing::slice_past, crate::proofs::Typing::slice_gives))]
+#[tactic(auto, using(crate::proofs::Typing::slice_none, crate::proofs::Typing::slice_order, crate::proofs::Typing::slice_past))]
 fn slice(alloc: Global, a: Option<Typed>, hi: u64, lo: u64) -> Result<Option<Typed>, NoMemory>
     ensures { IfOk result (λ c. GivesOne (option_and_then (checked_slice hi lo)) a c) }
 {
@@ -336,10 +362,19 @@ fn slice(alloc: Global, a: Option<Typed>, hi: u64, lo: u64) -> Result<Option<Typ
         return Ok(None);
     }
     let width = hi - lo + 1;
-    Ok(Some(Typed {
-        code: Code::Slice(Boxed::new(alloc, a.code)?, lo, mask(width)),
-        width,
-    }))
+    let code = bits(alloc, a.code, lo, mask(width))?;
+    Ok(Some(Typed { code, width }))
+}
+
+// The code of a slice.
+#[tactic(auto, using(crate::proofs::Replacing::field_is))]
+fn bits(alloc: Global, a: Code, lo: u64, mask: u64) -> Result<Code, NoMemory>
+    ensures { IfOk result (λ c. Replaces c (codes.Slice a lo mask)) }
+{
+    match a {
+        Code::Name(place) => Ok(Code::Field(place, lo, mask)),
+        _ => Ok(Code::Slice(Boxed::new(alloc, a)?, lo, mask)),
+    }
 }
 
 #[tactic(auto, using(crate::proofs::Typing::zext_none, crate::proofs::Typing::zext_narrow, crate::proofs::Typing::zext_past, crate::proofs::Typing::zext_gives))]

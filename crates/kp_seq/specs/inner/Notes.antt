@@ -1,8 +1,7 @@
 -- The record of a running instruction, over lists.
-use Rattle.std.specs.Prelude.{ℕ, ◌+◌, ◌^◌, List, [], ◌∷◌, ◌++◌, Option, Some, None, Bool, ◌&&◌, nat_le, nat_lt, if◌then◌else◌, is_some, length, get_or, set, replicate, unwrap_or, map}
+use Rattle.std.specs.Prelude.{ℕ, ◌+◌, ◌^◌, List, [], ◌∷◌, Option, None, Bool, ◌&&◌, nat_le, nat_lt, if◌then◌else◌, is_some, length, get_or, set, replicate, unwrap_or}
 use Rattle.std.specs.Option.{option_map}
 use Rattle.kp_bits.specs.Word.{Word}
-use Rattle.kp_ast.specs.declared.tree.Named.{Named}
 use Rattle.kp_ast.specs.declared.tree.ResultDecl.{ResultDecl}
 use Rattle.kp_ast.specs.declared.tree.Decl.{Decl}
 use Rattle.kp_ast.specs.declared.tree.Decl.TheVariants as decls

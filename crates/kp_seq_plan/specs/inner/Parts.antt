@@ -10,6 +10,7 @@ use Rattle.kp_seq_plan.specs.Plans.{Slots, meaning, space}
 use Rattle.kp_seq_plan.specs.declared.code.Code.{Code}
 use Rattle.kp_seq_plan.specs.declared.code.Typed.{Typed}
 use Rattle.kp_seq_plan.specs.declared.lowering.Args.{Args}
+use Rattle.kp_seq_plan.specs.Codes.{value_of, space_of}
 use Rattle.kp_seq_plan.specs.Lowering.{AllSuit, IsTyped, Gives}
 
 -- the codes and the widths of several plans
@@ -84,3 +85,8 @@ GivesWord w c = (widths : List (Option ℕ)) → Gives widths (λ s. w) 0 c
 -- a one in each bit of a width
 abbrev pub IsMask : ℕ → ℕ → Type 0
 IsMask width mask = 1 ≤ width → width ≤ 64 → mask ≡ 2 ^ width - 1
+
+-- a code has the values of another, in at most the scratch space of that
+pub record Replaces (c d : Code) : Type 0 where
+  pub values : (s : List ℕ) → value_of c s ≡ value_of d s
+  pub space : space_of c ≤ space_of d

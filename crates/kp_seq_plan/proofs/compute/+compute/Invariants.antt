@@ -4,13 +4,16 @@ use Rattle.kp_seq_plan.specs.Codes.{value_of}
 use Rattle.kp_seq_plan.proofs.compute.+compute.Given as goal
 
 abbrev pub decreases-value : goal.decreases-value
-decreases-value l = 4 * goal.size-value l
+decreases-value l = 8 * goal.size-value l + 1
+
+abbrev pub decreases-of_parts : goal.decreases-of_parts
+decreases-of_parts l = 8 * goal.size-of_parts l
 
 abbrev pub decreases-called : goal.decreases-called
-decreases-called l = 4 * max (goal.size-called l) (size-Code l.body.now) + 2
+decreases-called l = 8 * max (goal.size-called l) (size-Code l.body.now) + 3
 
 abbrev pub decreases-put_values : goal.decreases-put_values
-decreases-put_values l = 4 * goal.size-put_values l + 1
+decreases-put_values l = 8 * goal.size-put_values l + 2
 
 abbrev pub invariant-put_values-loop-i : goal.invariant-put_values-loop-i
 invariant-put_values-loop-i l =

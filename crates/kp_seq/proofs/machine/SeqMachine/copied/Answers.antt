@@ -1,7 +1,9 @@
-use Rattle.std.proofs.Common.{◌∙◌, ap, subst, sym, arith}
+use Rattle.std.proofs.Common.{◌≡◌, ◌∙◌, ap, subst, sym, arith}
 use Rattle.kp_machine.specs.Slots.{targets_of}
 use Rattle.kp_seq.specs.inner.Fits.{FitSlots}
-use Rattle.kp_seq.specs.inner.Ready.{IsNoted}
+use Rattle.kp_seq.specs.inner.Ready.{AreTables, HasRoom, IsNoted}
+use Rattle.kp_seq.specs.inner.Resolved.{Resolves}
+use Rattle.kp_seq.specs.declared.machine.Resolved.{Resolved}
 use Rattle.kp_seq.specs.inner.Notes.{Noted, told_by}
 use Rattle.kp_seq.proofs.machine.SeqMachine.copied.Goals as goal
 
@@ -9,12 +11,13 @@ pub invariant_of-result : goal.invariant_of-result
 invariant_of-result c =
     let m = c.self.inside in
     let i = c.self.invariant in
+    let same : c.in_ok-resolved.resolved.value ≡ m.resolved.value = c.in_ok-resolved.ensures.cases in
     record {
       names = i.names;
       stages = i.stages;
-      tables = c.in_ok-resolved.ensures.tables;
-      program = c.in_ok-resolved.ensures.program;
-      places = c.in_ok-desk.ensures.places;
+      tables = subst (λ (r : Resolved). AreTables m.design.now.job r.tables) (sym same) i.tables;
+      program = subst (λ (r : Resolved). Resolves r.tables m.design.now.job.blocks r.program) (sym same) i.program;
+      places = subst (λ (r : Resolved). HasRoom r.tables c.in_ok-desk.desk.under) (c.as_ref.ensures ∙ sym same) c.in_ok-desk.ensures.places;
       room = omega (arith, c.in_ok-desk.ensures.room, m.room.ok.0, i.room);
       words = subst (FitSlots (targets_of m.design.now.job.decls)) (sym c.in_ok-memory.ensures.words) i.words;
       notes = subst (IsNoted m.design.now.job) (sym c.in_ok-memory.ensures.notes) i.notes;
