@@ -1,5 +1,5 @@
 -- A netlist agrees with itself, and agreement is symmetric.
-use Rattle.std.proofs.Common.{◌≡◌, ◌∙◌, ℕ, zero, suc, ◌<◌, true, inl, inr, List, [], ◌∷◌, ◌++◌, length, map, get_or, Option, None, Some, refl, sym, subst, arith}
+use Rattle.std.proofs.Common.{◌≡◌, ◌∙◌, ℕ, zero, suc, ◌<◌, true, inl, inr, List, [], ◌∷◌, length, get_or, Option, None, Some, refl, sym, subst, arith}
 use Rattle.std.specs.Prelude.{All}
 use Rattle.std.proofs.lemmas.List.Elements.{All-get_or}
 use Rattle.kp_bits.specs.declared.operator.BinOp.{BinOp}
@@ -15,8 +15,8 @@ use Rattle.kp_net.specs.Netlist.{Net}
 use Rattle.kp_net.specs.Parts.{NetOk, RegOk, FileOk, WriteOk, no_reg, no_file}
 use Rattle.kp_net.specs.Widths.{KindOk, AllRight, no_node}
 use Rattle.kp_equiv_trees.specs.Alike.{Relation, AllRelated, PairRelated, KindAlike, Alike, AlikeWithin, reg_name, file_name}
-use Rattle.kp_equiv_trees.specs.Named.{reg_names, file_names}
-use Rattle.kp_equiv_trees.specs.Roots.{Root, Ports, Register, Full, Ue, Back, roots, names_of_second, RegsAlike, WritesAlike, FilesAlike, PortsAgree, RegisterAgrees, FileAgrees, Agrees, AllAgree}
+use Rattle.kp_equiv_trees.specs.Named.{reg_names}
+use Rattle.kp_equiv_trees.specs.Roots.{Root, Ports, Full, Ue, Back, roots, names_of_second, RegsAlike, WritesAlike, FilesAlike, PortsAgree, RegisterAgrees, FileAgrees, Agrees, AllAgree}
 use Rattle.kp_equiv_trees.specs.Sections.{AgreeUpTo, behind_ports}
 use Rattle.kp_equiv_trees.proofs.Naming.{among_at}
 use Rattle.kp_equiv_trees.proofs.Ordered.{all_behind, regs_all, files_all, none_of_second, second_agrees}
