@@ -1,9 +1,8 @@
 -- How the commands agree, derived from the specified outcomes.
-use Rattle.std.proofs.Common.{◌∙◌, ◌≡◌, ◌≤◌, ◌⊎◌, ℕ, true, List, length, drop, None, Some, Ok, Err, inl, inr, refl, ap, sym, subst, arith}
+use Rattle.std.proofs.Common.{◌∙◌, ◌≡◌, ℕ, true, List, length, None, Some, Ok, Err, inl, inr, refl, ap, sym, subst, arith}
 use Rattle.std.proofs.Math.Path.{fun_ext}
 use Rattle.std.proofs.lemmas.Bool.{cond-true}
 use Rattle.std.specs.declared.option.Option.{Option}
-use Rattle.std.specs.declared.result.Result.{Result}
 use Rattle.kp_base.specs.First.{first}
 use Rattle.kp_base.specs.declared.refusal.Refusal.{Refusal}
 use Rattle.kp_ast.specs.declared.tree.Job.{Job}
@@ -17,7 +16,7 @@ use Rattle.kp_pipeline.specs.Pipeline.{Inputs}
 use Rattle.kp_pipeline.specs.Rows.{Row, Trace, counts, passed, taken}
 use Rattle.kp_pipeline.proofs.Counts.{counts-passed}
 use Rattle.kp_pipeline.proofs.Legality.{legal}
-use Rattle.kp_machine.specs.Machine.{machine_of, state_of, start_hints, pipe_of, inputs_from, sequential, values_in}
+use Rattle.kp_machine.specs.Machine.{machine_of, state_of, start_hints, pipe_of, inputs_from, values_in}
 use Rattle.kp_machine_laws.proofs.Sampleless.{same_run}
 use Rattle.kp_net.specs.Netlist.{Net, Input}
 use Rattle.kp_sched.specs.Runs.{passes, due_value, ShowsAlike}
@@ -28,7 +27,7 @@ use Rattle.kp_run.specs.Cycles.{inputs_to}
 use Rattle.kp_run.proofs.Inputs.{seen_to, quiet_to}
 use Rattle.kp_watch.specs.Watching.{own_trace, Agrees}
 use Rattle.kp_equiv.specs.Showing.{ShowsButName}
-use Rattle.kp_frontend.specs.Judging.{Judges, JudgesHead, broken_in, most_bytes}
+use Rattle.kp_frontend.specs.Judging.{Judges, JudgesHead, broken_in}
 use Rattle.kp_frontend.proofs.Verdicts.{one_verdict}
 use Rattle.kp_timing.specs.Unfit.{untimed}
 use Rattle.kp_tool_words.specs.declared.words.JobCommand.{JobCommand}

@@ -1,5 +1,5 @@
 -- The headline, derived from the specified outcomes.
-use Rattle.std.proofs.Common.{◌∙◌, ◌≡◌, ◌≤◌, ℕ, true, List, length, get_or, drop, None, Some, Ok, Err, refl, sym, subst, arith}
+use Rattle.std.proofs.Common.{◌∙◌, ◌≡◌, ◌≤◌, ℕ, List, length, get_or, drop, None, Some, Ok, Err, refl, sym, subst, arith}
 use Rattle.std.specs.declared.option.Option.{Option}
 use Rattle.std.specs.declared.result.Result.{Result}
 use Rattle.kp_base.specs.declared.refusal.Refusal.{Refusal}
@@ -30,7 +30,7 @@ use Rattle.kp_synth_spec.specs.Anew.{trace_from, left_by_reset, HasMemory, Begin
 use Rattle.kp_synth_spec.proofs.Legal.{alike_is_legal_from}
 use Rattle.kp_synth_spec.specs.Naming.{module_name, value_shown, value_of}
 use Rattle.kp_synth_spec.specs.Shows.{Shows}
-use Rattle.kp_synth_spec.specs.Traces.{inputs_seen, trace_of, AreQuiet, no_state}
+use Rattle.kp_synth_spec.specs.Traces.{inputs_seen, trace_of, no_state}
 use Rattle.kp_frontend.specs.Judging.{Judges, broken_in}
 use Rattle.kp_frontend.specs.Judging.Judges.{within}
 use Rattle.kp_frontend.specs.Judging.JudgesText.{accepted as no_rule_broken}
@@ -55,7 +55,7 @@ use Rattle.kp_frontend.specs.Judging.JudgesHead.{head_within}
 use Rattle.kp_vread_split.specs.Splitting.{FirstEnds}
 use Rattle.kp_equiv.specs.declared.verdict.Verdict.TheVariants.{Same, Differs}
 use Rattle.kp_equiv.proofs.Running.{theorem}
-use Rattle.kp_equiv.specs.Showing.{renamed, ShowsButName}
+use Rattle.kp_equiv.specs.Showing.{renamed}
 use Rattle.kp_equiv.proofs.Shown.{states_same, rows_same, first_shows, second_shows}
 use Rattle.kp_equiv.proofs.Anew.{first_begins, second_begins}
 use Rattle.kp_tool_spec.specs.Read.{ReadsVerilog}
