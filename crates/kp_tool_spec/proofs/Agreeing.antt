@@ -1,5 +1,5 @@
 -- How the commands agree, derived from the specified outcomes.
-use Rattle.std.proofs.Common.{◌∙◌, ◌≡◌, ℕ, true, List, length, None, Some, Ok, Err, inl, inr, refl, ap, sym, subst, arith}
+use Rattle.std.proofs.Common.{◌∙◌, ◌≡◌, ℕ, true, List, [], ◌∷◌, length, None, Some, Ok, Err, inl, inr, refl, ap, sym, subst, arith}
 use Rattle.std.proofs.Math.Path.{fun_ext}
 use Rattle.std.proofs.lemmas.Bool.{cond-true}
 use Rattle.std.specs.declared.option.Option.{Option}
@@ -9,6 +9,7 @@ use Rattle.kp_ast.specs.declared.tree.Job.{Job}
 use Rattle.kp_width.specs.Widths.{widths_of}
 use Rattle.kp_image.specs.Sections.{sections_of}
 use Rattle.kp_stage.specs.Counts.{summary_of}
+use Rattle.kp_stage.specs.Stages.{broken_of}
 use Rattle.kp_stage.specs.Start.{start_of, input as samples_at}
 use Rattle.kp_stage.proofs.Unbroken.{first_none}
 use Rattle.kp_pipeline.specs.Accepted.{Accepted}
@@ -143,14 +144,14 @@ check_is_right input text (Err refusal, judged, said) = absurd (omega (arith, sa
 -- the rules of widths and of sections, which are among those of a job
 unbroken_widths : (job : Job) → broken_in job ≡ None → first (widths_of job).asked ≡ None
 unfolding broken_in
-unbroken_widths job none = (first_none _ _ none).0
+unbroken_widths job none = (first_none (first (widths_of job).asked) (broken_of job ∷ first (sections_of job).asked ∷ []) none).0
 
 unbroken_sections : (job : Job) → broken_in job ≡ None → first (sections_of job).asked ≡ None
 unfolding broken_in
 unbroken_sections job none =
-    let names = first_none _ _ none in
-    let stages = first_none _ _ names.1 in
-    (first_none _ _ stages.1).0
+    let names = first_none (first (widths_of job).asked) (broken_of job ∷ first (sections_of job).asked ∷ []) none in
+    let stages = first_none (broken_of job) (first (sections_of job).asked ∷ []) names.1 in
+    (first_none (first (sections_of job).asked) [] stages.1).0
 
 -- a netlist that implements the job agrees with the sequential machine under the job's own inputs
 pub shown_agrees : (job : Job) → broken_in job ≡ None → (net : Net) (n : ℕ) → ShowsButName net job
