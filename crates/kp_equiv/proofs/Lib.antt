@@ -6,3 +6,4 @@ pub mod Meaning
 pub mod Running
 pub mod Shown
 pub mod Anew
+pub mod Symmetry

@@ -6,6 +6,7 @@ ghost use Rattle.kp_net.specs.Netlist.{Net};
 ghost use Rattle.kp_net.specs.Parts.{NetOk};
 ghost use Rattle.kp_synth_spec.specs.Shows.{IsOfJob};
 ghost use Rattle.kp_equiv.specs.declared.verdict.Verdict.{Verdict};
+ghost use Rattle.kp_equiv.specs.declared.verdict.Verdict.TheVariants.{Same};
 ghost use Rattle.kp_equiv_trees.specs.Roots.{AllAgree};
 ghost use Rattle.kp_equiv.specs.Roots.{IsComparable, IsVerdict};
 ghost use Rattle.kp_equiv.specs.Runs.{RunAlike};
@@ -43,4 +44,10 @@ pub fn netlists_of_one_job_are_comparable()
 pub fn two_netlists_have_one_verdict()
     ensures some { (a b : Net) → NetOk a → NetOk b → IsComparable a b → (verdict : Verdict) × IsVerdict a b verdict }
     ensures one { (a b : Net) (verdict other : Verdict) → IsVerdict a b verdict → IsVerdict a b other → verdict ≡ other }
+{}
+
+/// A well-formed netlist agrees with itself in all roots (`itself`), and if two agree in all roots, so they do in the other order (`turned`).
+pub fn agreement_of_all_roots_is_symmetric()
+    ensures itself { (a : Net) → NetOk a → IsVerdict a a Same }
+    ensures turned { (a b : Net) → NetOk a → NetOk b → IsComparable a b → IsVerdict a b Same → IsVerdict b a Same }
 {}

@@ -15,3 +15,4 @@ mod Kept
 mod Totals
 mod Small
 mod Holds
+pub mod Unbroken

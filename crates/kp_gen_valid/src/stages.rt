@@ -4,6 +4,7 @@ ghost use Rattle.kp_base.specs.First.{first};
 ghost use Rattle.kp_width.specs.Declarations.{functions_in};
 ghost use Rattle.kp_stage.specs.Stages.{broken_of};
 ghost use Rattle.kp_image.specs.Sections.{sections_of};
+ghost use Rattle.kp_frontend.specs.Judging.{broken_in};
 ghost use Rattle.kp_gen.specs.Generated.{gen_job};
 
 /// A generated job has no function, at most 10 stages and at most 109 declarations.
@@ -24,4 +25,10 @@ pub fn generated_stages_are_right()
 #[tactic(auto, using(crate::proofs::Holds::generated_sections_hold))]
 pub fn generated_sections_are_right()
     ensures { (start : ℕ) → first (sections_of (gen_job start)).asked ≡ None }
+{}
+
+/// So a generated job violates none of the rules of a job.
+#[tactic(auto, using(crate::proofs::Unbroken::generated_unbroken))]
+pub fn a_generated_job_violates_no_rule()
+    ensures { (start : ℕ) → broken_in (gen_job start) ≡ None }
 {}

@@ -37,13 +37,14 @@ ghost use Rattle.kp_base.specs.Refusal.{e_rule};
 ghost use Rattle.kp_base.specs.declared.refusal.Refusal.{Refusal};
 ghost use Rattle.kp_tool_words.specs.Words.{command_of, reads_input};
 ghost use Rattle.kp_tool_words.specs.declared.words.Command.{Command};
-ghost use Rattle.kp_tool_words.specs.declared.words.Command.TheVariants.{OnJob, Watch, Compare, Debug};
-ghost use Rattle.kp_tool_words.specs.declared.words.JobCommand.TheVariants.{Sim, Timing, Pipe};
+ghost use Rattle.kp_tool_words.specs.declared.words.Command.TheVariants.{OnJob, Watch, Compare, Debug, Generate};
+ghost use Rattle.kp_tool_words.specs.declared.words.JobCommand.TheVariants.{Check, Sim, Vcd, Timing, Pipe};
 ghost use Rattle.kp_sched.specs.Runs.{IsLegal};
 ghost use Rattle.kp_synth_spec.specs.Legal.{IsLegalFrom};
 ghost use Rattle.kp_tool_report.specs.Texts.{refusal_line};
 ghost use Rattle.kp_tool_spec.specs.Due.{Due, IsFinal, Completes, Begins, Between};
-ghost use Rattle.kp_tool_spec.specs.Headline.{IsMoving, HasNoNeedlessStall, HasNoNeedlessStallFrom, IsVerilogWith, IsRunWith, IsTimed, IsDebuggedWith, IsNetlistWith, IsPairAlike};
+ghost use Rattle.kp_tool_spec.specs.Headline.{IsMoving, HasNoNeedlessStall, HasNoNeedlessStallFrom, IsVerilogWith, IsRunWith, IsDumpedWith, IsGeneratedWith, IsTimed, IsDebuggedWith, IsNetlistWith, IsPairAlike, IsImplementation, IsPairWith};
+ghost use Rattle.kp_tool_spec.specs.Agreeing.{IsSequential, IsChecked, IsFaulty, IsReadBack};
 ghost use Rattle.kp_tool_spec.specs.Refused.{Breaks};
 ghost use Rattle.kp_tool.specs.Ends.{Finishes, BreaksOff};
 ghost use Rattle.kp_tool.specs.inner.Decides.{Decides};
@@ -148,6 +149,38 @@ pub fn tool<S: Source, K: Sink>(alloc: Global, words: &[String], source: &mut S,
     ensures sim_has_no_needless_stall { (n : ℕ) → command_of (map string_bytes words.now) ≡ Some (OnJob (Sim n)) → result ≡ 0
         → Between (S.left source.old) (S.left source.new) (K.held sink.old) (K.held sink.new) (IsRunWith HasNoNeedlessStall n) }
 
+    // Without samples, each value that `sim N` writes, with `after P`, is the one that `seq P` writes; and P is the count of its write stage.
+    ensures sim_has_the_values_of_seq { (n : ℕ) → command_of (map string_bytes words.now) ≡ Some (OnJob (Sim n)) → result ≡ 0
+        → Between (S.left source.old) (S.left source.new) (K.held sink.old) (K.held sink.new) (IsSequential n) }
+
+    // What `vcd N` writes is the change dump of the run of the pipelined machine over N cycles, which is legal, moves, and has no needless stall.
+    ensures vcd_is_legal { (n : ℕ) → command_of (map string_bytes words.now) ≡ Some (OnJob (Vcd n)) → result ≡ 0
+        → Between (S.left source.old) (S.left source.new) (K.held sink.old) (K.held sink.new) (IsDumpedWith IsLegal n) }
+    ensures vcd_moves { (n : ℕ) → command_of (map string_bytes words.now) ≡ Some (OnJob (Vcd n)) → result ≡ 0
+        → Between (S.left source.old) (S.left source.new) (K.held sink.old) (K.held sink.new) (IsDumpedWith IsMoving n) }
+    ensures vcd_has_no_needless_stall { (n : ℕ) → command_of (map string_bytes words.now) ≡ Some (OnJob (Vcd n)) → result ≡ 0
+        → Between (S.left source.old) (S.left source.new) (K.held sink.old) (K.held sink.new) (IsDumpedWith HasNoNeedlessStall n) }
+
+    // What `gen G N` writes sums up the run of the pipelined machine of the generated job G over N cycles. The job violates no rule, and the run is legal,
+    // moves, and has no needless stall.
+    ensures gen_is_legal { (number n : ℕ) → command_of (map string_bytes words.now) ≡ Some (Generate number n) → result ≡ 0
+        → Between (S.left source.old) (S.left source.new) (K.held sink.old) (K.held sink.new) (λ input. IsGeneratedWith IsLegal number n) }
+    ensures gen_moves { (number n : ℕ) → command_of (map string_bytes words.now) ≡ Some (Generate number n) → result ≡ 0
+        → Between (S.left source.old) (S.left source.new) (K.held sink.old) (K.held sink.new) (λ input. IsGeneratedWith IsMoving number n) }
+    ensures gen_has_no_needless_stall { (number n : ℕ) → command_of (map string_bytes words.now) ≡ Some (Generate number n) → result ≡ 0
+        → Between (S.left source.old) (S.left source.new) (K.held sink.old) (K.held sink.new) (λ input. IsGeneratedWith HasNoNeedlessStall number n) }
+
+    // If `check` ends with status 0, all commands on the same job do, but for a rule that only one of them has: E38 of `timing`.
+    ensures check_is_for_all_commands { command_of (map string_bytes words.now) ≡ Some (OnJob Check) → result ≡ 0
+        → Between (S.left source.old) (S.left source.new) (K.held sink.old) (K.held sink.new) IsChecked }
+
+    // What `pipe` writes denotes a netlist that implements the job.
+    ensures pipe_implements_the_job { command_of (map string_bytes words.now) ≡ Some (OnJob Pipe) → result ≡ 0
+        → Between (S.left source.old) (S.left source.new) (K.held sink.old) (K.held sink.new) IsImplementation }
+    // What `pipe` writes is written again by `read`, if it isn't too long.
+    ensures pipe_is_read_back { command_of (map string_bytes words.now) ≡ Some (OnJob Pipe) → result ≡ 0
+        → Between (S.left source.old) (S.left source.new) (K.held sink.old) (K.held sink.new) IsReadBack }
+
     // What `timing N` writes with status 0 is the timeline of a job without guesses and samples, whose rows are those of the pipelined machine.
     ensures timing_has_the_rows_of_the_pipeline { (n : ℕ) → command_of (map string_bytes words.now) ≡ Some (OnJob (Timing n)) → result ≡ 0
         → Between (S.left source.old) (S.left source.new) (K.held sink.old) (K.held sink.new) (IsTimed n) }
@@ -165,10 +198,22 @@ pub fn tool<S: Source, K: Sink>(alloc: Global, words: &[String], source: &mut S,
     ensures watch_is_legal { (n : ℕ) → command_of (map string_bytes words.now) ≡ Some (Watch n) → result ≡ 0
         → Between (S.left source.old) (S.left source.new) (K.held sink.old) (K.held sink.new) (IsNetlistWith IsLegal n) }
 
+    // If it ends with status 7, this netlist doesn't implement the job.
+    ensures watch_finds_a_fault { (n : ℕ) → command_of (map string_bytes words.now) ≡ Some (Watch n) → result ≡ 7
+        → Between (S.left source.old) (S.left source.new) (K.held sink.old) (K.held sink.new) (IsFaulty n) }
+
     // If `equiv` ends with status 0, the two texts after the job denote netlists of the job that run alike: for all inputs, they have the same rows,
     // and the same values of all registers and file words, by name.
     ensures equiv_is_alike { command_of (map string_bytes words.now) ≡ Some Compare → result ≡ 0
         → Between (S.left source.old) (S.left source.new) (K.held sink.old) (K.held sink.new) IsPairAlike }
+    // So if one of the two implements the job, as what `pipe` writes does, all runs of both are legal, move, and have no needless stall, from the start
+    // and after each reset.
+    ensures equiv_is_legal { command_of (map string_bytes words.now) ≡ Some Compare → result ≡ 0
+        → Between (S.left source.old) (S.left source.new) (K.held sink.old) (K.held sink.new) (IsPairWith IsLegalFrom) }
+    ensures equiv_moves { command_of (map string_bytes words.now) ≡ Some Compare → result ≡ 0
+        → Between (S.left source.old) (S.left source.new) (K.held sink.old) (K.held sink.new) (IsPairWith (λ job s. IsMoving job)) }
+    ensures equiv_has_no_needless_stall { command_of (map string_bytes words.now) ≡ Some Compare → result ≡ 0
+        → Between (S.left source.old) (S.left source.new) (K.held sink.old) (K.held sink.new) (IsPairWith HasNoNeedlessStallFrom) }
 {
     match run(alloc, words, source, sink) {
         Ok(status) => status,

@@ -1,8 +1,9 @@
 -- The headline, derived from the specified outcomes.
-use Rattle.std.proofs.Common.{◌∙◌, ◌≡◌, ◌≤◌, ℕ, List, length, drop, None, Some, Ok, Err, refl, sym, subst, arith}
+use Rattle.std.proofs.Common.{◌∙◌, ◌≡◌, ◌≤◌, ℕ, List, length, get_or, drop, None, Some, Ok, Err, refl, sym, subst, arith}
 use Rattle.std.specs.declared.option.Option.{Option}
 use Rattle.std.specs.declared.result.Result.{Result}
 use Rattle.kp_base.specs.declared.refusal.Refusal.{Refusal}
+use Rattle.kp_bits.specs.Word.{Word}
 use Rattle.kp_ast.specs.declared.tree.Job.{Job}
 use Rattle.kp_stage.specs.Start.{start_of}
 use Rattle.kp_stage.proofs.Unbroken.{first_none}
@@ -20,31 +21,42 @@ use Rattle.kp_pipeline.proofs.Sampled.{rows-taking}
 use Rattle.kp_machine_laws.proofs.Accepting.{accepted}
 use Rattle.kp_machine_laws.proofs.Guessless.{guessless, without_guess}
 use Rattle.kp_machine.specs.Machine.{machine_of, state_of, start_hints, pipe_of, inputs_from}
-use Rattle.kp_sched.specs.Runs.{IsLegal, ShowsAlike}
+use Rattle.kp_seq.specs.Running.{target}
+use Rattle.kp_sched.specs.Rows.{rows_seen}
+use Rattle.kp_sched.specs.Runs.{due_value, IsLegal, ShowsAlike}
 use Rattle.kp_sched.proofs.Runs.{alike_is_legal, alike_moves, alike_stays}
 use Rattle.kp_synth_spec.specs.Legal.{IsLegalFrom}
-use Rattle.kp_synth_spec.specs.Anew.{trace_from, left_by_reset}
+use Rattle.kp_synth_spec.specs.Anew.{trace_from, left_by_reset, HasMemory, BeginsAnew}
 use Rattle.kp_synth_spec.proofs.Legal.{alike_is_legal_from}
-use Rattle.kp_synth_spec.specs.Naming.{value_shown}
-use Rattle.kp_synth_spec.specs.Traces.{inputs_seen, trace_of}
+use Rattle.kp_synth_spec.specs.Naming.{module_name, value_shown, value_of}
+use Rattle.kp_synth_spec.specs.Shows.{Shows}
+use Rattle.kp_synth_spec.specs.Traces.{inputs_seen, trace_of, no_state}
 use Rattle.kp_frontend.specs.Judging.{Judges, broken_in}
 use Rattle.kp_frontend.specs.Judging.Judges.{within}
 use Rattle.kp_frontend.specs.Judging.JudgesText.{accepted as no_rule_broken}
 use Rattle.kp_frontend.specs.Judging.JudgesHeadText.{head_accepted}
-use Rattle.kp_tool_words.specs.declared.words.JobCommand.TheVariants.{Sim, Timing, Pipe}
-use Rattle.kp_tool_words.specs.declared.words.Command.TheVariants.{OnJob, Watch, Compare, Debug}
+use Rattle.kp_tool_words.specs.declared.words.JobCommand.TheVariants.{Sim, Vcd, Timing, Pipe}
+use Rattle.kp_tool_words.specs.declared.words.Command.TheVariants.{OnJob, Watch, Compare, Debug, Generate}
 use Rattle.kp_tool_report.specs.Runs.{sim_text}
 use Rattle.kp_tool_report.proofs.Sims.{rows_many}
+use Rattle.kp_gen.specs.Generated.{gen_job}
+use Rattle.kp_gen_valid.proofs.Unbroken.{generated_unbroken}
+use Rattle.kp_gen_report.specs.Line.{gen_text, totals_of, totals_line}
+use Rattle.kp_vcd.specs.Held.{held, Changes}
+use Rattle.kp_vcd.proofs.Holding.{recorded_held, recorded_new}
+use Rattle.kp_vcd_run.specs.Dumps.{own_run, values_at, vcd_dump}
+use Rattle.kp_vcd_run.proofs.Lasting.{run_lasts}
 use Rattle.kp_timing.specs.Unfit.{untimed}
 use Rattle.kp_timing.proofs.Plain.{has_timeline}
 use Rattle.kp_tool_spec.specs.Due.{DueFor, DueOfTiming}
-use Rattle.kp_net.specs.Netlist.{Net, state_after}
+use Rattle.kp_net.specs.Netlist.{Net, Input, State, start_of as begin_of, state_after, last_of}
 use Rattle.kp_frontend.specs.Judging.{JudgesHead}
 use Rattle.kp_frontend.specs.Judging.JudgesHead.{head_within}
 use Rattle.kp_vread_split.specs.Splitting.{FirstEnds}
 use Rattle.kp_equiv.specs.declared.verdict.Verdict.TheVariants.{Same, Differs}
 use Rattle.kp_equiv.proofs.Running.{theorem}
-use Rattle.kp_equiv.proofs.Shown.{first_shows, second_shows}
+use Rattle.kp_equiv.specs.Showing.{renamed}
+use Rattle.kp_equiv.proofs.Shown.{states_same, rows_same, first_shows, second_shows}
 use Rattle.kp_equiv.proofs.Anew.{first_begins, second_begins}
 use Rattle.kp_tool_spec.specs.Read.{ReadsVerilog}
 use Rattle.kp_tool_spec.specs.Watched.{agrees, differs, DueOfNetlist, of_other, of_job}
@@ -53,17 +65,17 @@ use Rattle.kp_debug_script.specs.declared.command.Command.{Command}
 use Rattle.kp_debug_script.specs.Scripts.{script_of}
 use Rattle.kp_debug_report.specs.Inspecting.{all_cycles, whole_run}
 use Rattle.kp_tool_spec.specs.Scripted.{DueOfScript}
-use Rattle.kp_tool_spec.specs.Headline.{IsMoving, HasNoNeedlessStall, HasNoNeedlessStallFrom, IsVerilogWith, IsRunWith, IsTimed, IsDebuggedWith, IsNetlistWith, IsPairAlike}
+use Rattle.kp_tool_spec.specs.Headline.{IsMoving, HasNoNeedlessStall, HasNoNeedlessStallFrom, IsVerilogWith, IsRunWith, IsDumpedWith, IsGeneratedWith, IsTimed, IsDebuggedWith, IsNetlistWith, IsPairAlike, Implements, IsImplementation, RunsWith, IsPairWith}
 use Rattle.kp_tool_spec.proofs.Pairs.{first_right, second_right, comparable_pair}
 
-judged_unbroken : (input : List ℕ) (job : Job) → Judges input (Ok job) → broken_in job ≡ None
+pub judged_unbroken : (input : List ℕ) (job : Job) → Judges input (Ok job) → broken_in job ≡ None
 judged_unbroken input job (within short (no_rule_broken describes none)) = none
 
-head_unbroken : (input : List ℕ) (job : Job) (rest : ℕ) → JudgesHead input (Ok (job, rest)) → broken_in job ≡ None
+pub head_unbroken : (input : List ℕ) (job : Job) (rest : ℕ) → JudgesHead input (Ok (job, rest)) → broken_in job ≡ None
 head_unbroken input job rest (head_within short (head_accepted sentence none)) = none
 
 -- so its machine is accepted
-accepted_machine : (job : Job) → broken_in job ≡ None → Accepted (machine_of job)
+pub accepted_machine : (job : Job) → broken_in job ≡ None → Accepted (machine_of job)
 unfolding broken_in
 accepted_machine job none =
     let names = first_none _ _ none in
@@ -93,10 +105,14 @@ sim_with Fact law n input text (Ok job, judged, due) =
     told_run Fact n input text job judged due.1 (law job (inputs_from job 0 n) (accepted_machine job (judged_unbroken input job judged)))
 sim_with Fact law n input text (Err refusal, judged, due) = absurd (omega (arith, due.0))
 
--- and what is true of each trace that shows an accepted pipeline, from any state on, is true of the netlist that `pipe` prints
-pipe_with : (Fact : Job → (ℕ → ℕ → ℕ) → List Inputs → Trace → Type 0)
-    → ((job : Job) (s : ℕ → ℕ → ℕ) (ins : List Inputs) (trace : Trace) → Accepted (machine_of job)
-    → ShowsAlike job trace (pipe (machine_of job) s (start_hints job) ins) → Fact job s ins trace)
+-- what is true of each trace that shows an accepted pipeline, from any state on,
+abbrev HoldsAlike : (Job → (ℕ → ℕ → ℕ) → List Inputs → Trace → Type 0) → Type 0
+HoldsAlike Fact =
+    (job : Job) (s : ℕ → ℕ → ℕ) (ins : List Inputs) (trace : Trace) → Accepted (machine_of job)
+    → ShowsAlike job trace (pipe (machine_of job) s (start_hints job) ins) → Fact job s ins trace
+
+-- is true of the netlist that `pipe` prints
+pipe_with : (Fact : Job → (ℕ → ℕ → ℕ) → List Inputs → Trace → Type 0) → HoldsAlike Fact
     → (input text : List ℕ) → DueFor (Some (OnJob Pipe)) input 0 text → IsVerilogWith Fact input text
 pipe_with Fact law input text (Ok job, judged, (zero, verilog)) =
     let net : Net = verilog.net in
@@ -165,17 +181,86 @@ sim_moves = sim_with IsMoving moves_pipe
 pub sim_waits : (n : ℕ) (input text : List ℕ) → DueFor (Some (OnJob (Sim n))) input 0 text → IsRunWith HasNoNeedlessStall n input text
 sim_waits = sim_with HasNoNeedlessStall waits_pipe
 
-pub pipe_is_legal : (input text : List ℕ) → DueFor (Some (OnJob Pipe)) input 0 text → IsVerilogWith IsLegalFrom input text
-pipe_is_legal = pipe_with IsLegalFrom (λ job s ins trace acc alike. alike_is_legal_from job s ins _ _ alike (legal (machine_of job) s (start_hints job) ins acc))
+-- a dump holds the values of its run
+dump_values : (job : Job) (n T s : ℕ) (w : Word) → T ≤ n → get_or (values_at job (own_run job n) T) s None ≡ Some w → held (vcd_dump n job) s T ≡ Some w
+unfolding vcd_dump
+dump_values job n T s w h e = recorded_held (values_at job (own_run job n)) n (run_lasts job n) T h s w e
 
-pub pipe_moves : (input text : List ℕ) → DueFor (Some (OnJob Pipe)) input 0 text → IsVerilogWith (λ job s. IsMoving job) input text
-pipe_moves = pipe_with (λ job s. IsMoving job) (λ job s ins trace acc alike. (
+dump_changes : (job : Job) (n : ℕ) → Changes (vcd_dump n job)
+unfolding vcd_dump
+dump_changes job n = recorded_new (values_at job (own_run job n)) n (run_lasts job n)
+
+-- what is true of each accepted pipeline is true of the run that `vcd` dumps
+vcd_with : (Fact : Job → List Inputs → Trace → Type 0) → ((job : Job) (ins : List Inputs) → Accepted (machine_of job) → Fact job ins (pipe_of job ins))
+    → (n : ℕ) (input text : List ℕ) → DueFor (Some (OnJob (Vcd n))) input 0 text → IsDumpedWith Fact n input text
+vcd_with Fact law n input text (Ok job, judged, due) = record {
+  job = job;
+  judged = judged;
+  told = due.1;
+  cycles = rows_many job n;
+  values = dump_values job n;
+  changes = dump_changes job n;
+  holds = law job (inputs_from job 0 n) (accepted_machine job (judged_unbroken input job judged));
+}
+vcd_with Fact law n input text (Err refusal, judged, due) = absurd (omega (arith, due.0))
+
+pub vcd_is_legal : (n : ℕ) (input text : List ℕ) → DueFor (Some (OnJob (Vcd n))) input 0 text → IsDumpedWith IsLegal n input text
+vcd_is_legal = vcd_with IsLegal (λ job ins acc. legal_pipe job acc ins)
+
+pub vcd_moves : (n : ℕ) (input text : List ℕ) → DueFor (Some (OnJob (Vcd n))) input 0 text → IsDumpedWith IsMoving n input text
+vcd_moves = vcd_with IsMoving moves_pipe
+
+pub vcd_waits : (n : ℕ) (input text : List ℕ) → DueFor (Some (OnJob (Vcd n))) input 0 text → IsDumpedWith HasNoNeedlessStall n input text
+vcd_waits = vcd_with HasNoNeedlessStall waits_pipe
+
+-- and of the run of a generated job that `gen` sums up
+gen_run : (Fact : Job → List Inputs → Trace → Type 0) → ((job : Job) (ins : List Inputs) → Accepted (machine_of job) → Fact job ins (pipe_of job ins))
+    → (number n : ℕ) (text : List ℕ) (job : Job) → job ≡ gen_job number → broken_in job ≡ None
+    → text ≡ totals_line number (totals_of job (own_run job n).rows (due_value job (inputs_from job 0 n) (own_run job n).rows n))
+    → IsGeneratedWith Fact number n text
+gen_run Fact law number n text job is none told = record {
+  job = job;
+  generated = is;
+  accepted = none;
+  told = told;
+  cycles = rows_many job n;
+  holds = law job (inputs_from job 0 n) (accepted_machine job none);
+}
+
+gen_with : (Fact : Job → List Inputs → Trace → Type 0) → ((job : Job) (ins : List Inputs) → Accepted (machine_of job) → Fact job ins (pipe_of job ins))
+    → (number n : ℕ) (input text : List ℕ) → DueFor (Some (Generate number n)) input 0 text → IsGeneratedWith Fact number n text
+unfolding gen_text
+gen_with Fact law number n input text said = gen_run Fact law number n text (gen_job number) refl (generated_unbroken number) said.1
+
+pub gen_is_legal : (number n : ℕ) (input text : List ℕ) → DueFor (Some (Generate number n)) input 0 text → IsGeneratedWith IsLegal number n text
+gen_is_legal = gen_with IsLegal (λ job ins acc. legal_pipe job acc ins)
+
+pub gen_moves : (number n : ℕ) (input text : List ℕ) → DueFor (Some (Generate number n)) input 0 text → IsGeneratedWith IsMoving number n text
+gen_moves = gen_with IsMoving moves_pipe
+
+pub gen_waits : (number n : ℕ) (input text : List ℕ) → DueFor (Some (Generate number n)) input 0 text → IsGeneratedWith HasNoNeedlessStall number n text
+gen_waits = gen_with HasNoNeedlessStall waits_pipe
+
+legal_alike : HoldsAlike IsLegalFrom
+legal_alike job s ins trace acc alike = alike_is_legal_from job s ins _ _ alike (legal (machine_of job) s (start_hints job) ins acc)
+
+moves_alike : HoldsAlike (λ job s. IsMoving job)
+moves_alike job s ins trace acc alike = (
   alike_moves job ins _ _ alike (moves (machine_of job) s (start_hints job) ins acc),
   alike_stays job _ _ alike (never-squashed (machine_of job) s (start_hints job) ins acc),
-))
+)
+
+waits_alike : HoldsAlike HasNoNeedlessStallFrom
+waits_alike job s ins trace acc alike = waits_with job s ins trace acc alike.rows
+
+pub pipe_is_legal : (input text : List ℕ) → DueFor (Some (OnJob Pipe)) input 0 text → IsVerilogWith IsLegalFrom input text
+pipe_is_legal = pipe_with IsLegalFrom legal_alike
+
+pub pipe_moves : (input text : List ℕ) → DueFor (Some (OnJob Pipe)) input 0 text → IsVerilogWith (λ job s. IsMoving job) input text
+pipe_moves = pipe_with (λ job s. IsMoving job) moves_alike
 
 pub pipe_waits : (input text : List ℕ) → DueFor (Some (OnJob Pipe)) input 0 text → IsVerilogWith HasNoNeedlessStallFrom input text
-pipe_waits = pipe_with HasNoNeedlessStallFrom (λ job s ins trace acc alike. waits_with job s ins trace acc alike.rows)
+pipe_waits = pipe_with HasNoNeedlessStallFrom waits_alike
 
 module _ (n : ℕ) (input text : List ℕ) (job : Job) (rest : ℕ) (judged : JudgesHead input (Ok (job, rest))) (net : Net) (denotes : ReadsVerilog input rest (Ok net)) where
   legal_netlist : DueOfNetlist n job net 0 text → IsNetlistWith IsLegal n input text
@@ -258,3 +343,91 @@ debug_moves = debug_with IsMoving moves_pipe
 
 pub debug_waits : (input text : List ℕ) → DueFor (Some Debug) input 0 text → IsDebuggedWith HasNoNeedlessStall input text
 debug_waits = debug_with HasNoNeedlessStall waits_pipe
+
+-- a netlist that implements the job implements it whatever the name of its module is
+pub implements : (net : Net) (job : Job) → Shows net job → BeginsAnew net job → Implements net job
+implements net job shows begins = (
+  subst (λ (name : List ℕ). Shows (renamed net name) job) shows.name shows,
+  subst (λ (name : List ℕ). BeginsAnew (renamed net name) job) shows.name begins,
+)
+
+pub pipe_implements : (input text : List ℕ) → DueFor (Some (OnJob Pipe)) input 0 text → IsImplementation input text
+pipe_implements input text (Ok job, judged, (zero, verilog)) = record {
+  job = job;
+  judged = judged;
+  net = verilog.net;
+  denotes = verilog.denotes;
+  implements = implements verilog.net job verilog.shows verilog.anew;
+}
+pipe_implements input text (Err refusal, judged, due) = absurd (omega (arith, due.0))
+
+-- the name of the module doesn't affect what is seen
+pub same_trace : (net : Net) (job : Job) (name : List ℕ) (ins : List Input) → trace_of job (renamed net name) ins ≡ trace_of job net ins
+unfolding trace_of value_shown
+same_trace net job name ins = λ i. record {
+  rows = rows_seen job.stages.value (rows_same net name (begin_of net) ins i);
+  visible = λ T t a. value_of net (get_or (states_same net name (begin_of net) ins i) T no_state) (target job t) a;
+}
+
+same_trace_from : (net : Net) (job : Job) (name : List ℕ) (st : State) (ins : List Input) → trace_from job (renamed net name) st ins ≡ trace_from job net st ins
+unfolding trace_from value_shown
+same_trace_from net job name st ins = λ i. record {
+  rows = rows_seen job.stages.value (rows_same net name st ins i);
+  visible = λ T t a. value_of net (get_or (states_same net name st ins i) T no_state) (target job t) a;
+}
+
+same_values : (net : Net) (job : Job) (name : List ℕ) (st : State) → value_shown job (renamed net name) st ≡ value_shown job net st
+unfolding value_shown
+same_values net job name st = refl
+
+as_named : (net : Net) (name : List ℕ) (st : State) → HasMemory net st → HasMemory (renamed net name) st
+as_named net name st there = record { count = there.count; sizes = there.sizes; words = there.words }
+
+as_before : (net : Net) (name : List ℕ) (st : State) → HasMemory (renamed net name) st → HasMemory net st
+as_before net name st there = record { count = there.count; sizes = there.sizes; words = there.words }
+
+-- what is true of each trace that shows an accepted pipeline is true of all runs of a netlist that implements a job
+runs_with : (Fact : Job → (ℕ → ℕ → ℕ) → List Inputs → Trace → Type 0) → HoldsAlike Fact → (net : Net) (job : Job) → Accepted (machine_of job)
+    → Implements net job → RunsWith Fact net job
+runs_with Fact law net job acc both =
+    let name : List ℕ = module_name job in
+    record {
+      holds = λ ins quiet. law job (state_of job (start_of job)) (inputs_seen job ins) (trace_of job net ins) acc
+          (subst (λ (t : Trace). ShowsAlike job t (pipe_of job (inputs_seen job ins))) (same_trace net job name ins) (both.0.runs ins quiet));
+      anew = λ st i ins there raised quiet. law job (left_by_reset job (value_shown job net st)) (inputs_seen job ins) (trace_from job net (state_after net i st) ins) acc
+          (subst (λ (t : Trace). ShowsAlike job t (pipe (machine_of job) (left_by_reset job (value_shown job net st)) (start_hints job) (inputs_seen job ins)))
+          (same_trace_from net job name (state_after net i st) ins)
+          (subst (λ (v : ℕ → ℕ → ℕ). ShowsAlike job (trace_from job (renamed net name) (state_after net i st) ins) (pipe (machine_of job) (left_by_reset job v) (start_hints job) (inputs_seen job ins)))
+          (same_values net job name st) (both.1.runs st i ins (as_named net name st there) raised quiet)));
+      memory = λ ins. as_before net name (last_of net ins) (both.1.memory ins);
+    }
+
+pair_with : (Fact : Job → (ℕ → ℕ → ℕ) → List Inputs → Trace → Type 0) → HoldsAlike Fact
+    → (input text : List ℕ) → DueFor (Some Compare) input 0 text → IsPairWith Fact input text
+pair_with Fact law input text due =
+    let pair : IsPairAlike input text = pair_is_alike input text due in
+    let acc : Accepted (machine_of pair.job) = accepted_machine pair.job (head_unbroken input pair.job pair.rest pair.judged) in
+    let first_runs : Implements pair.first pair.job → RunsWith Fact pair.first pair.job = runs_with Fact law pair.first pair.job acc in
+    let second_runs : Implements pair.second pair.job → RunsWith Fact pair.second pair.job = runs_with Fact law pair.second pair.job acc in
+    record {
+      job = pair.job;
+      rest = pair.rest;
+      judged = pair.judged;
+      middle = pair.middle;
+      ends = pair.ends;
+      first = pair.first;
+      denotes_first = pair.denotes_first;
+      second = pair.second;
+      denotes_second = pair.denotes_second;
+      by_first = λ both. (first_runs both, second_runs (pair.shows.0 both.0, (pair.begins both.0).0 both.1));
+      by_second = λ both. let shown = pair.shows.1 both.0 in (first_runs (shown, (pair.begins shown).1 both.1), second_runs both);
+    }
+
+pub pair_is_legal : (input text : List ℕ) → DueFor (Some Compare) input 0 text → IsPairWith IsLegalFrom input text
+pair_is_legal = pair_with IsLegalFrom legal_alike
+
+pub pair_moves : (input text : List ℕ) → DueFor (Some Compare) input 0 text → IsPairWith (λ job s. IsMoving job) input text
+pair_moves = pair_with (λ job s. IsMoving job) moves_alike
+
+pub pair_waits : (input text : List ℕ) → DueFor (Some Compare) input 0 text → IsPairWith HasNoNeedlessStallFrom input text
+pair_waits = pair_with HasNoNeedlessStallFrom waits_alike

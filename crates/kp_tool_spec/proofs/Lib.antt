@@ -6,3 +6,4 @@ pub mod VerilogShapes
 pub mod Readings
 pub mod Differences
 pub mod Outcomes
+pub mod Agreeing

@@ -1,7 +1,9 @@
--- THE HEADLINE: what the specified texts of `pipe`, of `sim N`, of `timing N`, of `debug`, of `watch N` and of `equiv` show about a job that violates
--- no rule. Each fact but the last is about a run: its inputs, cycle by cycle, and the rows and values that are seen in it. That each register and
--- each word of a file has the value of the sequential machine after as many instructions as its write stage has completed is `IsLegal` of kp_sched.
-use Rattle.std.specs.Prelude.{◌≡◌, ◌↔◌, ℕ, true, List, length, take, drop, Ok}
+-- THE HEADLINE: what the specified texts of `pipe`, of `sim N`, of `vcd N`, of `gen G N`, of `timing N`, of `debug`, of `watch N` and of `equiv` show
+-- about a job that violates no rule. Each fact but the last is about a run: its inputs, cycle by cycle, and the rows and values that are seen in it.
+-- That each register and each word of a file has the value of the sequential machine after as many instructions as its write stage has completed is
+-- `IsLegal` of kp_sched.
+use Rattle.std.specs.Prelude.{◌≡◌, ◌↔◌, ◌≤◌, ℕ, true, List, length, get_or, take, drop, None, Some, Ok}
+use Rattle.kp_bits.specs.Word.{Word}
 use Rattle.kp_ast.specs.declared.tree.Job.{Job}
 use Rattle.kp_stage.specs.Counts.{summary_of}
 use Rattle.kp_stage.specs.Start.{start_of}
@@ -24,12 +26,16 @@ use Rattle.kp_equiv.specs.declared.verdict.Verdict.TheVariants.{Same}
 use Rattle.kp_equiv.specs.Runs.{RunAlike}
 use Rattle.kp_equiv.specs.Showing.{renamed, ShowsButName}
 use Rattle.kp_equiv.specs.Texts.{verdict_line}
-use Rattle.kp_frontend.specs.Judging.{Judges, JudgesHead}
+use Rattle.kp_frontend.specs.Judging.{Judges, JudgesHead, broken_in}
 use Rattle.kp_debug_script.specs.declared.command.Command.{Command}
 use Rattle.kp_debug_script.specs.Scripts.{script_of}
 use Rattle.kp_debug_report.specs.Inspecting.{all_cycles, told}
 use Rattle.kp_watch.specs.Watching.{own_trace}
 use Rattle.kp_tool_report.specs.Runs.{run_text}
+use Rattle.kp_gen.specs.Generated.{gen_job}
+use Rattle.kp_gen_report.specs.Line.{totals_of, totals_line}
+use Rattle.kp_vcd.specs.Held.{held, Changes}
+use Rattle.kp_vcd_run.specs.Dumps.{own_run, values_at, vcd_dump, vcd_text}
 use Rattle.kp_timing.specs.Lines.{timing_text}
 use Rattle.kp_tool_spec.specs.Read.{ReadsVerilog}
 use Rattle.kp_tool_spec.specs.Watched.{own_text}
@@ -78,6 +84,27 @@ pub record IsRunWith (Fact : Job → List Inputs → Trace → Type 0) (n : ℕ)
       (λ t a. due_value job (inputs_from job 0 n) (pipe_of job (inputs_from job 0 n)).rows n t a)
   pub cycles : length (pipe_of job (inputs_from job 0 n)).rows ≡ n
   pub holds : Fact job (inputs_from job 0 n) (pipe_of job (inputs_from job 0 n))
+
+-- The text is the value change dump of the run of the pipelined machine of the input's job over n cycles of the job's own stall words and samples. In
+-- this dump each signal has at each time the value of the run at that time, and each change is to another value. The fact holds of this run.
+pub record IsDumpedWith (Fact : Job → List Inputs → Trace → Type 0) (n : ℕ) (input text : List ℕ) : Type 0 where
+  pub job : Job
+  pub judged : Judges input (Ok job)
+  pub told : text ≡ vcd_text n job
+  pub cycles : length (own_run job n).rows ≡ n
+  pub values : (T s : ℕ) (w : Word) → T ≤ n → get_or (values_at job (own_run job n) T) s None ≡ Some w → held (vcd_dump n job) s T ≡ Some w
+  pub changes : Changes (vcd_dump n job)
+  pub holds : Fact job (inputs_from job 0 n) (own_run job n)
+
+-- The text is the line of the generated job of a number: the size of its machine, and the totals of the run of its pipelined machine over n cycles of
+-- its own stall words. The job violates no rule, and the fact holds of this run.
+pub record IsGeneratedWith (Fact : Job → List Inputs → Trace → Type 0) (number n : ℕ) (text : List ℕ) : Type 0 where
+  pub job : Job
+  pub generated : job ≡ gen_job number
+  pub accepted : broken_in job ≡ None
+  pub told : text ≡ totals_line number (totals_of job (own_run job n).rows (due_value job (inputs_from job 0 n) (own_run job n).rows n))
+  pub cycles : length (own_run job n).rows ≡ n
+  pub holds : Fact job (inputs_from job 0 n) (own_run job n)
 
 -- The text is the timeline of the input's job over n cycles of the job's own stall words: for each cycle, the instructions in the stages, the stages
 -- that wait for data, and the stages that move their instruction on. The job has no guesses and no samples, and the rows of its pipelined machine in
@@ -132,3 +159,38 @@ pub record IsPairAlike (input text : List ℕ) : Type 0 where
   pub alike : RunAlike first second
   pub shows : ShowsButName first job ↔ ShowsButName second job
   pub begins : ShowsButName first job → BeginsAnew (renamed first (module_name job)) job ↔ BeginsAnew (renamed second (module_name job)) job
+
+-- The netlist implements the machine of the job up to the name of its module, and restarts correctly after each reset.
+abbrev pub Implements : Net → Job → Type 0
+Implements net job = ShowsButName net job × BeginsAnew (renamed net (module_name job)) job
+
+-- The text denotes a netlist that implements the input's job.
+pub record IsImplementation (input text : List ℕ) : Type 0 where
+  pub job : Job
+  pub judged : Judges input (Ok job)
+  pub net : Net
+  pub denotes : Denotes 0 text net
+  pub implements : Implements net job
+
+-- The fact holds of each run of the netlist from its start on until the reset is raised; and of each run after a reset, in whatever state it is raised,
+-- over the memory at that time, until it is raised again.
+pub record RunsWith (Fact : Job → (ℕ → ℕ → ℕ) → List Inputs → Trace → Type 0) (net : Net) (job : Job) : Type 0 where
+  pub holds : (ins : List Input) → AreQuiet ins → Fact job (state_of job (start_of job)) (inputs_seen job ins) (trace_of job net ins)
+  pub anew : (st : State) (i : Input) (ins : List Input) → HasMemory net st → i.reset ≡ true → AreQuiet ins
+      → Fact job (left_by_reset job (value_shown job net st)) (inputs_seen job ins) (trace_from job net (state_after net i st) ins)
+  pub memory : (ins : List Input) → HasMemory net (last_of net ins)
+
+-- The two texts after a job denote netlists of the job, and if one of the two implements the job, as the text of `pipe` does, then the fact holds of
+-- all runs of both.
+pub record IsPairWith (Fact : Job → (ℕ → ℕ → ℕ) → List Inputs → Trace → Type 0) (input text : List ℕ) : Type 0 where
+  pub job : Job
+  pub rest : ℕ
+  pub judged : JudgesHead input (Ok (job, rest))
+  pub middle : ℕ
+  pub ends : FirstEnds rest (drop rest input) middle
+  pub first : Net
+  pub denotes_first : ReadsVerilog (take middle input) rest (Ok first)
+  pub second : Net
+  pub denotes_second : ReadsVerilog input middle (Ok second)
+  pub by_first : Implements first job → RunsWith Fact first job × RunsWith Fact second job
+  pub by_second : Implements second job → RunsWith Fact first job × RunsWith Fact second job

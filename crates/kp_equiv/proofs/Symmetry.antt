@@ -1,0 +1,178 @@
+-- A netlist agrees with itself, and agreement is symmetric.
+use Rattle.std.proofs.Common.{◌≡◌, ◌∙◌, ℕ, zero, suc, ◌<◌, true, inl, inr, List, [], ◌∷◌, length, get_or, Option, None, Some, refl, sym, subst, arith}
+use Rattle.std.specs.Prelude.{All}
+use Rattle.std.proofs.lemmas.List.Elements.{All-get_or}
+use Rattle.kp_bits.specs.declared.operator.BinOp.{BinOp}
+use Rattle.kp_net.specs.declared.node.NodeId.{NodeId}
+use Rattle.kp_net.specs.declared.node.Kind.{Kind}
+use Rattle.kp_net.specs.declared.node.Kind.TheVariants.{Const, Ext, Sample, Reg, Word, Not, Binary, Mux, Concat, Slice}
+use Rattle.kp_net.specs.declared.node.Node.{Node}
+use Rattle.kp_net.specs.declared.netlist.NetReg.{NetReg}
+use Rattle.kp_net.specs.declared.netlist.NetFile.{NetFile}
+use Rattle.kp_net.specs.declared.netlist.WritePort.{WritePort}
+use Rattle.kp_net.specs.Names.{among}
+use Rattle.kp_net.specs.Netlist.{Net}
+use Rattle.kp_net.specs.Parts.{NetOk, RegOk, FileOk, WriteOk, no_reg, no_file}
+use Rattle.kp_net.specs.Widths.{KindOk, AllRight, no_node}
+use Rattle.kp_equiv_trees.specs.Alike.{Relation, AllRelated, PairRelated, KindAlike, Alike, AlikeWithin, reg_name, file_name}
+use Rattle.kp_equiv_trees.specs.Named.{reg_names}
+use Rattle.kp_equiv_trees.specs.Roots.{Root, Ports, Full, Ue, Back, roots, names_of_second, RegsAlike, WritesAlike, FilesAlike, PortsAgree, RegisterAgrees, FileAgrees, Agrees, AllAgree}
+use Rattle.kp_equiv_trees.specs.Sections.{AgreeUpTo, behind_ports}
+use Rattle.kp_equiv_trees.proofs.Naming.{among_at}
+use Rattle.kp_equiv_trees.proofs.Ordered.{all_behind, regs_all, files_all, none_of_second, second_agrees}
+use Rattle.kp_equiv_trees.proofs.Places.{reg_names_are, reg_count}
+use Rattle.kp_equiv.specs.Roots.{IsComparable}
+use Rattle.kp_equiv.proofs.Running.{Agreed, agreed, regs_alike, files_alike, theorem}
+
+-- ---- the tree of a node is equivalent to itself
+
+module _ (a : Net) (R : Relation) (m : ℕ) (same : (x : NodeId) → x.0 < m → R x x) where
+  list_refl : (xs : List NodeId) → All (λ (x : NodeId). x.0 < m) xs → AllRelated R xs xs
+  list_refl [] h = tt
+  list_refl (x ∷ xs) h = (same x (h 0 x (omega arith)), list_refl xs (λ i d l. h (suc i) d (omega (arith, l))))
+
+  kind_refl : (k : ℕ) (o : Kind) → KindOk a.nodes m k o → KindAlike R a a o o
+  kind_refl k (Const n) ok = refl
+  kind_refl k Ext ok = tt
+  kind_refl k (Sample s) ok = refl
+  kind_refl k (Reg r) ok = refl
+  kind_refl k (Word f x) ok = (refl, same x ok)
+  kind_refl k (Not x) ok = same x ok.0
+  kind_refl k (Binary op x y) ok = (refl, inl (same x ok.0, same y ok.1))
+  kind_refl k (Mux t x y) ok = (same t ok.0, same x ok.1, same y ok.2)
+  kind_refl k (Concat xs) ok = list_refl xs ok.2
+  kind_refl k (Slice x h l) ok = (same x ok.0, refl, refl)
+
+-- its operands precede a node
+within_refl : (a : Net) → AllRight a.nodes → (d : ℕ) (i : NodeId) → i.0 < length a.nodes → i.0 < d → AlikeWithin a a d i i
+unfolding AlikeWithin
+within_refl a right zero i l h = absurd (omega (arith, h))
+within_refl a right (suc d) i l h =
+    let n : Node = get_or a.nodes i.0 no_node in
+    (l, l, (refl, kind_refl a (AlikeWithin a a d) i.0 (λ x b. within_refl a right d x (omega (arith, b, l)) (omega (arith, b, h))) n.width n.kind (right i.0 l).kind))
+
+alike_refl : (a : Net) → NetOk a → (i : NodeId) → i.0 < length a.nodes → Alike a a i i
+alike_refl a ok i l = record { levels = suc i.0; alike = within_refl a ok.right (suc i.0) i l (omega arith) }
+
+-- ---- equivalence is symmetric
+
+module _ (a b : Net) (R S : Relation) (turn : (x y : NodeId) → R x y → S y x) where
+  list_sym : (xs ys : List NodeId) → AllRelated R xs ys → AllRelated S ys xs
+  list_sym [] [] h = tt
+  list_sym [] (y ∷ ys) h = absurd h
+  list_sym (x ∷ xs) [] h = absurd h
+  list_sym (x ∷ xs) (y ∷ ys) h = (turn x y h.0, list_sym xs ys h.1)
+
+  pair_sym : (op : BinOp) (x y u v : NodeId) → PairRelated R op x y u v → PairRelated S op u v x y
+  pair_sym op x y u v (inl (p, q)) = inl (turn x u p, turn y v q)
+  pair_sym op x y u v (inr (c, p, q)) = inr (c, turn y u q, turn x v p)
+
+  kind_sym : (o p : Kind) → KindAlike R a b o p → KindAlike S b a p o
+  kind_sym (Const n) (Const m) h = sym h
+  kind_sym Ext Ext h = tt
+  kind_sym (Sample s) (Sample t) h = sym h
+  kind_sym (Reg r) (Reg q) h = sym h
+  kind_sym (Word f x) (Word g y) h = (sym h.0, turn x y h.1)
+  kind_sym (Not x) (Not y) h = turn x y h
+  kind_sym (Binary op x y) (Binary o u v) h = (sym h.0, subst (λ (q : BinOp). PairRelated S q u v x y) h.0 (pair_sym op x y u v h.1))
+  kind_sym (Mux t x y) (Mux s u v) h = (turn t s h.0, turn x u h.1, turn y v h.2)
+  kind_sym (Concat xs) (Concat ys) h = list_sym xs ys h
+  kind_sym (Slice x hi lo) (Slice y g o) h = (turn x y h.0, sym h.1, sym h.2)
+  kind_sym o p h = absurd h
+
+within_sym : (a b : Net) (d : ℕ) (i j : NodeId) → AlikeWithin a b d i j → AlikeWithin b a d j i
+unfolding AlikeWithin
+within_sym a b zero i j h = absurd h
+within_sym a b (suc d) i j h = (h.1, h.0, (sym h.2.0, kind_sym a b (AlikeWithin a b d) (AlikeWithin b a d) (within_sym a b d) (get_or a.nodes i.0 no_node).kind (get_or b.nodes j.0 no_node).kind h.2.1))
+
+alike_sym : (a b : Net) (i j : NodeId) → Alike a b i j → Alike b a j i
+alike_sym a b i j h = record { levels = h.levels; alike = within_sym a b h.levels i j h.alike }
+
+regs_sym : (a b : Net) (r q : NetReg) → RegsAlike a b r q → RegsAlike b a q r
+regs_sym a b r q h = record { start = sym h.start; next = alike_sym a b r.next q.next h.next }
+
+writes_sym : (a b : Net) (p q : Option WritePort) → WritesAlike a b p q → WritesAlike b a q p
+writes_sym a b None None h = tt
+writes_sym a b None (Some q) h = absurd h
+writes_sym a b (Some p) None h = absurd h
+writes_sym a b (Some p) (Some q) h = (alike_sym a b p.enable q.enable h.0, alike_sym a b p.address q.address h.1, alike_sym a b p.value q.value h.2)
+
+files_sym : (a b : Net) (f g : NetFile) → FilesAlike a b f g → FilesAlike b a g f
+files_sym a b f g h = record { words = sym h.words; port = writes_sym a b f.port g.port h.port }
+
+-- ---- all roots
+
+more : (a b : Net) (r : Root) (rs : List Root) → Agrees a b r → AgreeUpTo a b rs (length rs) → AgreeUpTo a b (r ∷ rs) (suc (length rs))
+more a b r rs p q zero l = p
+more a b r rs p q (suc k) l = q k (omega (arith, l))
+
+none_more : (a b : Net) → AgreeUpTo a b [] 0
+none_more a b k l = absurd (omega (arith, l))
+
+-- if the second has no further registers, the roots of each section are all roots
+all_agree : (a b : Net) → PortsAgree a b → ((r : ℕ) → r < length a.parts.regs → RegisterAgrees a b (reg_name a r))
+    → ((q : ℕ) → q < length b.parts.regs → among (reg_names a) (reg_name b q) ≡ true) → ((f : ℕ) → f < length a.parts.files → FileAgrees a b (file_name a f))
+    → Alike a b a.parts.full b.parts.full → Alike a b a.parts.ue b.parts.ue → Alike a b a.parts.back b.parts.back → AllAgree a b
+unfolding roots
+all_agree a b ports regs known files full ue back =
+    let none : length (names_of_second a b) ≡ 0 = none_of_second a b (length b.parts.regs) (omega arith) (λ k l m. known k l) in
+    let outputs : AgreeUpTo a b (Full ∷ Ue ∷ Back ∷ []) 3 = more a b Full (Ue ∷ Back ∷ []) full (more a b Ue (Back ∷ []) ue (more a b Back [] back (none_more a b))) in
+    record {
+      agree = more a b Ports (behind_ports a b) ports
+          (all_behind a b None None None None None (regs_all a b (length a.parts.regs) refl regs) (second_agrees a b none) (λ _. none)
+          (files_all a b (length a.parts.files) refl files) outputs refl);
+    }
+
+-- the names of all registers of a netlist
+named : (a : Net) (r : ℕ) (name : List ℕ) → r < length a.parts.regs → reg_name a r ≡ name → among (reg_names a) name ≡ true
+named a r name l e = among_at (reg_names a) r name (omega (arith, l, reg_count a)) (reg_names_are a r ∙ e)
+
+-- A netlist agrees with itself.
+writes_refl : (a : Net) → NetOk a → (width address : ℕ) (p : Option WritePort) → WriteOk a.nodes width address p → WritesAlike a a p p
+writes_refl a ok width address None h = tt
+writes_refl a ok width address (Some p) h = (alike_refl a ok p.enable h.0.0, alike_refl a ok p.address h.1.0, alike_refl a ok p.value h.2.0)
+
+pub agrees_with_itself : (a : Net) → NetOk a → AllAgree a a
+agrees_with_itself a ok =
+    all_agree a a (record { reset = refl; ext = refl; samples = refl })
+    (λ r l.
+    let reg : NetReg = get_or a.parts.regs r no_reg in
+    let right : RegOk a.nodes reg = All-get_or (RegOk a.nodes) a.parts.regs r no_reg l ok.parts.regs in
+    record { first = r; second = r; in_first = l; in_second = l; named_first = refl; named_second = refl; alike = record { start = refl; next = alike_refl a ok reg.next right.next.0 } })
+    (λ q l. named a q (reg_name a q) l refl)
+    (λ f l.
+    let file : NetFile = get_or a.parts.files f no_file in
+    let right : FileOk a.nodes file = All-get_or (FileOk a.nodes) a.parts.files f no_file l ok.parts.files in
+    record { first = f; second = f; in_first = l; in_second = l; named_first = refl; named_second = refl; alike = record { words = refl; port = writes_refl a ok file.width file.address_width file.port right.port } })
+    (alike_refl a ok a.parts.full ok.parts.full) (alike_refl a ok a.parts.ue ok.parts.ue) (alike_refl a ok a.parts.back ok.parts.back)
+
+-- And agreement is symmetric.
+pub agree_turned : (a b : Net) → NetOk a → NetOk b → IsComparable a b → AllAgree a b → AllAgree b a
+agree_turned a b oka okb fit all =
+    let h : Agreed a b = agreed a b all in
+    let back = (theorem a b oka okb fit all).back in
+    all_agree b a (record { reset = sym h.ports.reset; ext = sym h.ports.ext; samples = sym h.ports.samples })
+    (λ q l.
+    let r = back.regs q l in
+    record {
+      first = q;
+      second = r.0;
+      in_first = l;
+      in_second = r.1;
+      named_first = refl;
+      named_second = r.2;
+      alike = regs_sym a b _ _ (regs_alike a b oka okb fit h r.0 q r.1 l r.2);
+    })
+    (λ r l. let g = h.regs r l in named b g.second (reg_name a r) g.in_second g.named_second)
+    (λ g l.
+    let f = back.files g l in
+    record {
+      first = g;
+      second = f.0;
+      in_first = l;
+      in_second = f.1;
+      named_first = refl;
+      named_second = f.2;
+      alike = files_sym a b _ _ (files_alike a b oka okb fit h f.0 g f.1 l f.2);
+    })
+    (alike_sym a b a.parts.full b.parts.full h.full) (alike_sym a b a.parts.ue b.parts.ue h.ue) (alike_sym a b a.parts.back b.parts.back h.back)
