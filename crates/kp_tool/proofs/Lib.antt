@@ -1,9 +1,6 @@
-pub mod Answering
-pub mod Compared
 pub mod Ends
-pub mod Found
 pub mod IfOks
-pub mod Modules
+pub mod Outside
 pub mod Running
+pub mod Statuses
 pub mod Summed
-pub mod Written

@@ -1,5 +1,2 @@
 -- For private contracts and proofs only: a reader need not trust it.
-pub mod Decides
-pub mod Modules
-pub mod OfJob
-pub mod Stop
+pub mod Failures

