@@ -1,5 +1,5 @@
 -- How commands end: from what was written to the specified outcome.
-use Rattle.std.proofs.Common.{◌≡◌, ℕ, ◌≤◌, List, length, Ok, Err, Some, refl, subst}
+use Rattle.std.proofs.Common.{◌≡◌, ℕ, ◌≤◌, List, length, Ok, Err, Some, None, refl, sym, subst}
 use Rattle.std.specs.declared.option.Option.{Option}
 use Rattle.std.specs.declared.result.Result.{Result}
 use Rattle.kp_base.specs.declared.refusal.Refusal.{Refusal}
@@ -8,12 +8,15 @@ use Rattle.kp_base.specs.declared.refusal.Refused.TheVariants as refused
 use Rattle.kp_ast.specs.declared.tree.Job.{Job}
 use Rattle.kp_tool_words.specs.declared.words.Command.TheVariants.{OnJob}
 use Rattle.kp_tool_words.specs.declared.words.JobCommand.{JobCommand}
+use Rattle.kp_tool_words.specs.declared.words.JobCommand.TheVariants.{Timing}
 use Rattle.kp_frontend.specs.Judging.{JudgesText, JudgesHeadText}
 use Rattle.kp_frontend.specs.Accepting.{AnswersText, AnswersHead}
 use Rattle.kp_vlog.specs.Verdict.{AnswersNet}
+use Rattle.kp_timing.specs.Unfit.{untimed}
+use Rattle.kp_timing.specs.Lines.{timing_text}
 use Rattle.kp_tool_report.specs.Texts.{refusal_line}
 use Rattle.kp_tool_spec.specs.Saying.{Says}
-use Rattle.kp_tool_spec.specs.Due.{DueFor, DueOfJob}
+use Rattle.kp_tool_spec.specs.Due.{DueFor, DueOfJob, DueOfTiming}
 use Rattle.kp_tool_spec.specs.Read.{ReadsVerilog}
 use Rattle.kp_tool_spec.proofs.Dues.{refused_is_due, accepted_is_due}
 use Rattle.kp_tool.specs.Ends.{Ends, EndsAt}
@@ -73,6 +76,15 @@ module _ {S : Type 0} (held : S → Option (List ℕ)) (faults : S → ℕ) wher
   accepted_job command input job short judged old new r ends =
       wider (DueOfJob command job) (DueFor (Some (OnJob command)) input)
       (λ status text due. accepted_is_due command input job status text short judged due) old new r ends
+
+  -- `timing`: a job with a guess or a sample, and one without
+  pub untimed_job : (n : ℕ) (job : Job) (r : Refusal) → untimed job ≡ Some r → (s : S) → Ends held faults ⊥ (DueOfJob (Timing n) job) s s (Err (failure.Refused r))
+  untimed_job n job r is s = (refl, subst (λ (found : Option Refusal). DueOfTiming n job found 2 (refusal_line r)) (sym is) (refl, refl))
+
+  pub timed_job : (n : ℕ) (job : Job) (text : List ℕ) → untimed job ≡ None → text ≡ timing_text job n → (old new : S) (r : Result ℕ Failure)
+      → Ends held faults ⊥ (Says 0 text) old new r → Ends held faults ⊥ (DueOfJob (Timing n) job) old new r
+  timed_job n job text is same old new r ends =
+      said (DueOfJob (Timing n) job) 0 text (subst (λ (found : Option Refusal). DueOfTiming n job found 0 text) (sym is) (refl, same)) old new r ends
 
   -- the line of a violated rule was written
   pub refused_end : (V : Type 0) (Q : ℕ → List ℕ → Type 0) (status : ℕ) (text : List ℕ) (old mid new : S) (r : Result ℕ Stop) → (mid ≡ old) × Q status text
