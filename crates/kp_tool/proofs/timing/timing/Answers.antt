@@ -5,8 +5,8 @@ use Rattle.kp_tool.proofs.timing.timing.Goals as goal
 
 pub returns-in-Some : goal.returns-in-Some
 returns-in-Some g c =
-    rw c.in-Some.refusal-is (untimed_job g.K.Sink.held g.K.Sink.faults c.args.count c.args.job.now.design.job c.in-Some.refusal
-    (sym (c.untimed.ensures ∙ ap untimed c.job.ensures.job) ∙ c.in-Some.is) c.args.sink.now)
+    untimed_job g.K.Sink.held g.K.Sink.faults c.args.count c.args.job.now.design.job c.in-Some.refusal
+    (sym (c.untimed.ensures ∙ ap untimed c.job.ensures.job) ∙ c.in-Some.is) c.args.sink.now
 
 pub returns-in-None : goal.returns-in-None
 returns-in-None g c =
