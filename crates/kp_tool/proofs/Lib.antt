@@ -1,5 +1,7 @@
+pub mod Compared
 pub mod Ends
 pub mod IfOks
+pub mod Modules
 pub mod Outside
 pub mod Programs
 pub mod Running

@@ -12,6 +12,7 @@ mod debug;
 mod equiv;
 mod failure;
 mod generate;
+mod netlist;
 mod outcome;
 mod pipe;
 mod read;
