@@ -11,8 +11,8 @@ use Rattle.kp_tool.proofs.Modules.{misread_end, module_jobs, module_outputs}
 use Rattle.kp_tool.proofs.watch.on_text.Goals as goal
 
 refused : (n : ℕ) (input : List ℕ) (job : Job) (rest : ℕ) (r : Refusal) → ReadsModule job input rest (Err r) → DueOfHead n input (Ok (job, rest)) 6 (refusal_line r)
-refused n input job rest r (misread broken) = (Err r, broken, (refl, refl))
-refused n input job rest r (not_jobs read other) = (Ok _, read, of_other other (refl, refl))
+refused n input job rest _ (misread {refusal = r} broken) = (Err r, broken, (refl, refl))
+refused n input job rest _ (not_jobs {net = net} read other) = (Ok net, read, of_other other (refl, refl))
 
 ran : (n : ℕ) (input : List ℕ) (job : Job) (rest : ℕ) (net : Net) (status : ℕ) (text : List ℕ) → ReadsModule job input rest (Ok net) → DueOfRun n job net status text
     → DueOfHead n input (Ok (job, rest)) status text
