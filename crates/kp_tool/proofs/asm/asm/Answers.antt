@@ -1,5 +1,6 @@
-use Rattle.std.proofs.Common.{Some}
+use Rattle.std.proofs.Common.{◌∙◌, Some, ap}
 use Rattle.std.proofs.lemmas.Result.{err_from_is_err_and}
+use Rattle.kp_asm.specs.Image.{image_text_of}
 use Rattle.kp_tool_words.specs.declared.words.Command.TheVariants.{Assemble}
 use Rattle.kp_tool_spec.specs.Due.{DueFor}
 use Rattle.kp_tool.proofs.Ends.{said}
@@ -14,4 +15,5 @@ returns-in_err-words g c =
 pub returns : goal.returns
 returns g c =
     said g.K.Sink.held g.K.Sink.faults (DueFor (Some Assemble) c.args.input.now) 0 c.in_ok-section.section.items
-    (program_is_due c.args.input.now c.in_ok-words.words.items c.in_ok-section.section.items c.requires c.in_ok-words.ensures.words c.in_ok-section.ensures) _ _ _ c.finish.ensures
+    (program_is_due c.args.input.now c.in_ok-words.words.items c.in_ok-section.section.items c.requires c.in_ok-words.ensures.words
+    (c.in_ok-section.ensures ∙ ap image_text_of c.deref.ensures.value)) _ _ _ c.finish.ensures
