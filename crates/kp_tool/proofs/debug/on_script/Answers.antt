@@ -45,5 +45,5 @@ returns g c =
     let input = c.args.input.now in
     let head = c.args.head.now in
     said g.K.Sink.held g.K.Sink.faults (DueOfScriptHead input (Ok (head.job.design.job, head.rest))) 0 _
-    (ran input head.job.design.job head.rest c.in_ok-inspection.inspection _ c.in_ok-commands.commands.items c.in_ok-commands.ensures.read c.in_ok-inspection.ensures c.as_slice.ensures)
+    (ran input head.job.design.job head.rest c.in_ok-inspection.inspection _ c.in_ok-commands.commands.items c.in_ok-commands.ensures.read c.in_ok-inspection.ensures c.as_slice.ensures.value)
     _ _ _ c.finish.ensures
