@@ -74,10 +74,8 @@ fn compared<'a>(
     ensures { IfOk result (λ w. DueOfRun count job.now.design.job net.now (status_by w.difference) (text_by w.board w.difference)) }
 {
     let board = board_of(alloc, job, net, count)?;
-    match first_difference(alloc, job, net, &board, count) {
-        Ok(difference) => Ok(Watched { board, difference }),
-        Err(NoMemory) => Err(NoMemory),
-    }
+    let difference = first_difference(alloc, job, net, &board, count)?;
+    Ok(Watched { board, difference })
 }
 
 impl Outcome for Watched<'_> {
