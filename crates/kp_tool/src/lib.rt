@@ -1,8 +1,8 @@
 //! The top call: from the arguments of a command line and a source to a status and a sink.
 //!
-//! `carry_out` is the list of commands. Each has a module of its own, with a function of its name from the input to the text: it parses the input and
-//! checks all rules, then computes what is to be written (a function that is given the allocator and no sink), and ends with `finish`, which is given
-//! the sink and no allocator. From there on only the sink can fail. How a command ends is `specs/Ends.antt`.
+//! `carry_out` is the list of commands. Each has a module of its own (`gen` is in `generate.rt`), with a function of its name that goes from the
+//! input to the text: parse and check all rules, compute what is to be written, which gets the allocator and no sink, and `finish`, which gets the
+//! sink and no allocator. From there on only the sink can fail. `specs/Ends.antt` says how a command ends.
 #![tactic(auto)]
 
 mod asm;
