@@ -1,5 +1,5 @@
 -- What is written about a netlist that was run and compared is the specified outcome.
-use Rattle.std.proofs.Common.{true, ◌≡◌, ◌∙◌, ℕ, ◌≤◌, ◌<◌, ◌++◌, List, length, take, Option, Some, None, refl, ap, ap₂, sym, subst, arith}
+use Rattle.std.proofs.Common.{◌≡◌, ◌∙◌, ℕ, ◌≤◌, ◌<◌, ◌++◌, List, length, take, Option, Some, None, refl, ap, ap₂, sym, subst, arith}
 use Rattle.std.specs.Prelude.{MatchOption, IfSome}
 use Rattle.std.proofs.lemmas.List.{take-map}
 use Rattle.kp_base.specs.declared.row.Row as masks
@@ -15,10 +15,7 @@ use Rattle.kp_sched.specs.Rows.{row_seen, rows_seen}
 use Rattle.kp_sched.specs.Runs.{due_value, passes}
 use Rattle.kp_sched.proofs.Counting.{seen_length}
 use Rattle.kp_seq.specs.Running.{HasWord, target}
-use Rattle.kp_synth_spec.specs.Shows.{IsOfJob}
 use Rattle.kp_synth_spec.specs.Traces.{trace_of}
-use Rattle.kp_vread_match.specs.inner.Whole.{is_of_job}
-use Rattle.kp_vread_match.proofs.Whole.{is_found}
 use Rattle.kp_run.specs.Boards.{due_behind}
 use Rattle.kp_run.specs.Cycles.{HasRows}
 use Rattle.kp_run.specs.declared.board.Board.{Board}
@@ -105,7 +102,3 @@ fits n job net board (Some d) same has (first, found, due) =
     let within = first.within in
     let length_is = many n job net board.cycles.rows.items board.cycles.monitor has in
     (omega (arith, within, length_is), subst (λ (j : Job). d.target < length (targets_of j.decls)) (sym same) first.there.target)
-
--- a netlist that passes the test is one of the job
-pub is_jobs : (net : Net) (job : Job) → is_of_job net.parts job ≡ true → IsOfJob net job
-is_jobs net job passes = (is_found net job).0 passes

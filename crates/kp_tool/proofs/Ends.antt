@@ -1,105 +1,94 @@
--- The ends of the top call: from what is due of an answer to what is due of words and bytes.
-use Rattle.std.proofs.Common.{true, false, ◌≤◌, ◌≡◌, ◌≢◌, ℕ, List, [], length, None, Some, refl, subst, inl, arith}
+-- How commands end: from what was written to the specified outcome.
+use Rattle.std.proofs.Common.{◌≡◌, ℕ, ◌≤◌, List, length, Ok, Err, Some, None, refl, sym, subst}
 use Rattle.std.specs.declared.option.Option.{Option}
-use Rattle.std.specs.Io.KnownBytes.{Consumes, IsAtEnd}
+use Rattle.std.specs.declared.result.Result.{Result}
 use Rattle.kp_base.specs.declared.refusal.Refusal.{Refusal}
-use Rattle.kp_tool_words.specs.declared.words.Command.{Command}
-use Rattle.kp_tool_words.specs.Words.{command_of, reads_input}
-use Rattle.kp_frontend.specs.Judging.{too_long}
-use Rattle.kp_tool_spec.proofs.Dues.{too_long_is_due}
-use Rattle.kp_tool_spec.proofs.Refusals.{refused_where_broken}
-use Rattle.kp_tool_spec.specs.Due.{DueFor, IsFinal, Completes, Begins, Between}
-use Rattle.kp_tool_spec.specs.Refused.{Breaks}
-use Rattle.kp_tool.specs.Answers.{Answers}
-use Rattle.kp_tool.specs.declared.answer.Answer.{Answer}
-use Rattle.kp_tool.specs.declared.answer.Answer.TheVariants as answers
-use Rattle.kp_tool.specs.Ends.{Finishes, BreaksOff}
-use Rattle.kp_tool.specs.inner.Decides.{Decides}
-use Rattle.kp_tool.specs.inner.Stop.{stop_status}
-use Rattle.kp_tool.specs.declared.Stop.{Stop}
-use Rattle.kp_tool.specs.declared.Stop.TheVariants.{ReadFault, WriteFault, NoMemory}
+use Rattle.kp_base.specs.declared.refusal.Refused.{Refused}
+use Rattle.kp_base.specs.declared.refusal.Refused.TheVariants as refused
+use Rattle.kp_ast.specs.declared.tree.Job.{Job}
+use Rattle.kp_tool_words.specs.declared.words.Command.TheVariants.{OnJob}
+use Rattle.kp_tool_words.specs.declared.words.JobCommand.{JobCommand}
+use Rattle.kp_tool_words.specs.declared.words.JobCommand.TheVariants.{Timing}
+use Rattle.kp_frontend.specs.Judging.{JudgesText, JudgesHeadText}
+use Rattle.kp_frontend.specs.Accepting.{AnswersText, AnswersHead}
+use Rattle.kp_vlog.specs.Verdict.{AnswersNet}
+use Rattle.kp_timing.specs.Unfit.{untimed}
+use Rattle.kp_timing.specs.Lines.{timing_text}
+use Rattle.kp_tool_report.specs.Texts.{refusal_line}
+use Rattle.kp_tool_spec.specs.Saying.{Says}
+use Rattle.kp_tool_spec.specs.Due.{DueFor, DueOfJob, DueOfTiming}
+use Rattle.kp_tool_spec.specs.Read.{ReadsVerilog}
+use Rattle.kp_tool_spec.proofs.Dues.{refused_is_due, accepted_is_due}
+use Rattle.kp_tool.specs.Ends.{Ends, EndsAt}
+use Rattle.kp_tool.specs.inner.Failures.{failure_of, misread_of}
+use Rattle.kp_tool.specs.declared.failure.Failure.{Failure}
+use Rattle.kp_tool.specs.declared.failure.Failure.TheVariants as failure
+use Rattle.kp_tool.specs.declared.failure.Stop.{Stop}
+use Rattle.kp_tool.specs.declared.failure.Stop.TheVariants.{ReadFault, WriteFault, NoMemory}
 
-nothing_taken : (left : Option (List ℕ)) → Consumes left left []
-nothing_taken None = tt
-nothing_taken (Some bytes) = refl
+module _ {S : Type 0} (held : S → Option (List ℕ)) (faults : S → ℕ) where
+  -- an end with outcomes of one kind is an end with outcomes of a wider kind
+  pub at_weaker : (U V : Type 0) (P Q : ℕ → List ℕ → Type 0) → (U → V) → ((s : ℕ) (t : List ℕ) → P s t → Q s t) → (old new : S) (r : Result ℕ Stop)
+      → EndsAt held faults U P old new r → EndsAt held faults V Q old new r
+  at_weaker U V P Q u f old new (Ok status) (text, due, appended) = (text, f status text due, appended)
+  at_weaker U V P Q u f old new (Err WriteFault) (rose, status, text, due, part) = (rose, status, text, f status text due, part)
+  at_weaker U V P Q u f old new (Err ReadFault) (unread, same) = (u unread, same)
+  at_weaker U V P Q u f old new (Err NoMemory) same = same
 
--- if the arguments are not accepted, the source is left unchanged
-pub bad_words_decided : (words : List (List ℕ)) (left : Option (List ℕ)) → command_of words ≡ None → Decides words left left answers.BadWords
-unfolding Decides
-bad_words_decided words left none = λ status text says. record {
-  taken = [];
-  consumed = nothing_taken left;
-  whole = rw none refl;
-  due = rw none says;
-}
+  pub weaker : (U V : Type 0) (P Q : ℕ → List ℕ → Type 0) → (U → V) → ((s : ℕ) (t : List ℕ) → P s t → Q s t) → (old new : S) (r : Result ℕ Failure)
+      → Ends held faults U P old new r → Ends held faults V Q old new r
+  weaker U V P Q u f old new (Ok status) ends = at_weaker U V P Q u f old new (Ok status) ends
+  weaker U V P Q u f old new (Err (failure.Refused refusal)) (same, due) = (same, f 2 (refusal_line refusal) due)
+  weaker U V P Q u f old new (Err (failure.Misread refusal)) (same, due) = (same, f 6 (refusal_line refusal) due)
+  weaker U V P Q u f old new (Err (failure.Stopped stop)) ends = at_weaker U V P Q u f old new (Err stop) ends
 
--- the answer of a command that reads nothing is as specified, and the source is left unchanged
-pub nothing_decided : (words : List (List ℕ)) (command : Command) (left : Option (List ℕ)) (answer : Answer) → command_of words ≡ Some command
-    → reads_input (Some command) ≡ false → Answers command [] answer → Decides words left left answer
-unfolding Answers Decides
-nothing_decided words command left answer is reads says = λ status text said. record {
-  taken = [];
-  consumed = nothing_taken left;
-  whole = rw (is, reads) refl;
-  due = rw is (says status text said);
-}
+  -- the same inside a command, where the source was read before
+  pub wider : (P Q : ℕ → List ℕ → Type 0) → ((s : ℕ) (t : List ℕ) → P s t → Q s t) → (old new : S) (r : Result ℕ Failure)
+      → Ends held faults ⊥ P old new r → Ends held faults ⊥ Q old new r
+  wider P Q f old new r ends = weaker ⊥ ⊥ P Q (λ u. u) f old new r ends
 
--- the answer of a command for the complete input is as specified
-pub input_decided : (words : List (List ℕ)) (command : Command) (old new : Option (List ℕ)) (input : List ℕ) (answer : Answer) → command_of words ≡ Some command
-    → reads_input (Some command) ≡ true → Consumes old new input → IsAtEnd new → length input ≤ 16777216 → Answers command input answer → Decides words old new answer
-unfolding Answers Decides
-input_decided words command old new input answer is reads consumed end short says = λ status text said. record {
-  taken = input;
-  consumed = consumed;
-  whole = rw (is, reads) (inl (end, short));
-  due = rw is (says status text said);
-}
+  -- the outcome that was written is a specified one
+  pub said : (Q : ℕ → List ℕ → Type 0) (status : ℕ) (text : List ℕ) → Q status text → (old new : S) (r : Result ℕ Failure)
+      → Ends held faults ⊥ (Says status text) old new r → Ends held faults ⊥ Q old new r
+  said Q status text due old new r ends = wider (Says status text) Q (λ s t says. rw (says.0, says.1) due) old new r ends
 
--- and so is the refusal of an input of too many bytes
-pub too_long_decided : (words : List (List ℕ)) (command : Command) (old new : Option (List ℕ)) (taken : List ℕ) (refusal : Refusal) → command_of words ≡ Some command
-    → reads_input (Some command) ≡ true → Consumes old new taken → length taken ≡ 16777217 → refusal ≡ too_long → Decides words old new (answers.Refused refusal)
-unfolding Decides
-too_long_decided words command old new taken refusal is reads consumed count same = λ status text says.
-    rw (says.0, says.1, same) (too_long_is_due words command old new taken is reads consumed count)
+  -- the input violates a rule of the language: of its job
+  pub refused_job : (Q : ℕ → List ℕ → Type 0) (input : List ℕ) → ((r : Refusal) → JudgesText input (Err r) → Q 2 (refusal_line r)) → (s : S) (e : Refused) (f : Failure)
+      → f ≡ failure_of e → AnswersText input (Err e) → Ends held faults ⊥ Q s s (Err f)
+  refused_job Q input law s (refused.Rule refusal) f is judged = rw is (refl, law refusal judged)
+  refused_job Q input law s refused.NoMemory f is judged = rw is refl
 
-module _ (words : List (List ℕ)) (left left_after held held_after : Option (List ℕ)) where
-  -- what is written of an answer is as specified if the answer was decided from the arguments and the source
-  pub completes : (answer : Answer) (status : ℕ) → Decides words left left_after answer → Finishes answer held held_after status
-      → IsFinal status × Completes words left left_after held held_after status
-  unfolding Decides Finishes
-  completes answer status due (ended, text, says, appended) = (ended, (text, due status text says, appended))
+  -- of the job at its head
+  pub refused_head : (Q : ℕ → List ℕ → Type 0) (input : List ℕ) → ((r : Refusal) → JudgesHeadText input (Err r) → Q 2 (refusal_line r)) → (s : S) (e : Refused) (f : Failure)
+      → f ≡ failure_of e → AnswersHead input (Err e) → Ends held faults ⊥ Q s s (Err f)
+  refused_head Q input law s (refused.Rule refusal) f is judged = rw is (refl, law refusal judged)
+  refused_head Q input law s refused.NoMemory f is judged = rw is refl
 
-  pub begins : (answer : Answer) → Decides words left left_after answer → BreaksOff answer held held_after → Begins words left left_after held held_after
-  unfolding Decides BreaksOff
-  begins answer due (status, text, says, part) = (status, text, due status text says, part)
+  -- the Verilog text that starts at an offset violates a rule
+  pub misread : (Q : ℕ → List ℕ → Type 0) (input : List ℕ) (from : ℕ) → ((r : Refusal) → ReadsVerilog input from (Err r) → Q 6 (refusal_line r)) → (s : S) (e : Refused) (f : Failure)
+      → f ≡ misread_of e → AnswersNet input from (Err e) → Ends held faults ⊥ Q s s (Err f)
+  misread Q input from law s (refused.Rule refusal) f is read = rw is (refl, law refusal read)
+  misread Q input from law s refused.NoMemory f is read = rw is refl
 
-  -- what is true of a command's specified outcomes is true of the bytes that were read and written
-  pub between : (command : Command) (end status : ℕ) (Fact : List ℕ → List ℕ → Type 0)
-      → ((input text : List ℕ) → DueFor (Some command) input end text → Fact input text)
-      → command_of words ≡ Some command → status ≡ end → Completes words left left_after held held_after status
-      → Between left left_after held held_after Fact
-  between command end status Fact law is same (text, is_due, written) =
-      let due = subst (λ (s : ℕ). DueFor (Some command) is_due.taken s text) same (subst (λ (c : Option Command). DueFor c is_due.taken status text) is is_due.due) in
-      (is_due.taken, text, is_due.consumed, written, law is_due.taken text due)
+  -- a job that violates no rule
+  pub accepted_job : (command : JobCommand) (input : List ℕ) (job : Job) → length input ≤ 16777216 → JudgesText input (Ok job) → (old new : S) (r : Result ℕ Failure)
+      → Ends held faults ⊥ (DueOfJob command job) old new r → Ends held faults ⊥ (DueFor (Some (OnJob command)) input) old new r
+  accepted_job command input job short judged old new r ends =
+      wider (DueOfJob command job) (DueFor (Some (OnJob command)) input)
+      (λ status text due. accepted_is_due command input job status text short judged due) old new r ends
 
-  -- and if the status isn't that of a violated rule, no rule is violated
-  pub not_refused : (command : Command) (status : ℕ) → command_of words ≡ Some command → status ≢ 2 → Completes words left left_after held held_after status
-      → Between left left_after held held_after (λ input text. (refusal : Refusal) → Breaks command input refusal → ⊥)
-  not_refused command status is other completes =
-      between command status status _ (λ input text due refusal broken. other (refused_where_broken command input status text refusal due broken)) is refl completes
+  -- `timing`: a job with a guess or a sample, and one without
+  pub untimed_job : (n : ℕ) (job : Job) (r : Refusal) → untimed job ≡ Some r → (s : S) → Ends held faults ⊥ (DueOfJob (Timing n) job) s s (Err (failure.Refused r))
+  untimed_job n job r is s = (refl, subst (λ (found : Option Refusal). DueOfTiming n job found 2 (refusal_line r)) (sym is) (refl, refl))
 
--- the three failures have statuses of their own
-pub never_zero : (stop : Stop) (status : ℕ) → status ≡ stop_status stop → status ≡ 0 → ⊥
-never_zero ReadFault status is zero = omega arith
-never_zero WriteFault status is zero = omega arith
-never_zero NoMemory status is zero = omega arith
+  pub timed_job : (n : ℕ) (job : Job) (text : List ℕ) → untimed job ≡ None → text ≡ timing_text job n → (old new : S) (r : Result ℕ Failure)
+      → Ends held faults ⊥ (Says 0 text) old new r → Ends held faults ⊥ (DueOfJob (Timing n) job) old new r
+  timed_job n job text is same old new r ends =
+      said (DueOfJob (Timing n) job) 0 text (subst (λ (found : Option Refusal). DueOfTiming n job found 0 text) (sym is) (refl, same)) old new r ends
 
-pub never_two : (stop : Stop) (status : ℕ) → status ≡ stop_status stop → status ≡ 2 → ⊥
-never_two ReadFault status is two = omega arith
-never_two WriteFault status is two = omega arith
-never_two NoMemory status is two = omega arith
-
-pub never_final : (stop : Stop) (status : ℕ) → status ≡ stop_status stop → IsFinal status → ⊥
-never_final ReadFault status is final = final.0 is
-never_final WriteFault status is final = final.1 is
-never_final NoMemory status is final = final.2 is
+  -- the line of a violated rule was written
+  pub refused_end : (V : Type 0) (Q : ℕ → List ℕ → Type 0) (status : ℕ) (text : List ℕ) (old mid new : S) (r : Result ℕ Stop) → (mid ≡ old) × Q status text
+      → EndsAt held faults ⊥ (Says status text) mid new r → EndsAt held faults V Q old new r
+  refused_end V Q status text old mid new r (same, due) ends =
+      subst (λ (s : S). EndsAt held faults V Q s new r) same
+      (at_weaker ⊥ V (Says status text) Q (λ u. absurd u) (λ s t says. rw (says.0, says.1) due) mid new r ends)

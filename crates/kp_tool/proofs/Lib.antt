@@ -1,9 +1,9 @@
-pub mod Answering
 pub mod Compared
 pub mod Ends
-pub mod Found
 pub mod IfOks
 pub mod Modules
+pub mod Outside
+pub mod Programs
 pub mod Running
+pub mod Statuses
 pub mod Summed
-pub mod Written

@@ -1,15 +1,25 @@
--- HOW WRITING AN ANSWER ENDS: what was appended to the sink.
-use Rattle.std.specs.Prelude.{ℕ, List, Option}
+-- HOW A COMMAND ENDS: what was appended to the sink, by the result. `Due` is the outcomes that are specified.
+use Rattle.std.specs.Prelude.{◌≡◌, ℕ, List, Option, Result, Ok, Err}
 use Rattle.std.specs.Io.KnownBytes.{Appends}
 use Rattle.kp_base.specs.Bytes.{AppendsPart}
-use Rattle.kp_tool_spec.specs.Due.{IsFinal}
-use Rattle.kp_tool.specs.declared.answer.Answer.{Answer}
-use Rattle.kp_tool.specs.Answers.{AnswerSays}
+use Rattle.kp_base.specs.Causes.{Rose}
+use Rattle.kp_tool_report.specs.Texts.{refusal_line}
+use Rattle.kp_tool.specs.declared.failure.Failure.{Failure}
+use Rattle.kp_tool.specs.declared.failure.Failure.TheVariants.{Refused, Misread, Stopped}
+use Rattle.kp_tool.specs.declared.failure.Stop.{Stop}
+use Rattle.kp_tool.specs.declared.failure.Stop.TheVariants.{ReadFault, WriteFault, NoMemory}
 
--- The status is one of a specified outcome, and the complete text of the answer with this status was appended.
-unfoldable pub Finishes : Answer → (held held_after : Option (List ℕ)) → ℕ → Type 0
-Finishes answer held held_after status = IsFinal status × (text : List ℕ) × AnswerSays answer status text × Appends held held_after text
+-- The complete text of a specified outcome was appended, or a prefix of it if the sink failed, or nothing. `Unread`: the source failed.
+abbrev pub EndsAt : {S : Type 0} → (S → Option (List ℕ)) → (S → ℕ) → Type 0 → (ℕ → List ℕ → Type 0) → S → S → Result ℕ Stop → Type 0
+EndsAt held faults Unread Due old new (Ok status) = (text : List ℕ) × Due status text × Appends (held old) (held new) text
+EndsAt held faults Unread Due old new (Err WriteFault) =
+    Rose (faults old) (faults new) × (status : ℕ) × (text : List ℕ) × Due status text × AppendsPart (held old) (held new) text
+EndsAt held faults Unread Due old new (Err ReadFault) = Unread × (new ≡ old)
+EndsAt held faults Unread Due old new (Err NoMemory) = new ≡ old
 
--- A prefix of a text of the answer was appended.
-unfoldable pub BreaksOff : Answer → (held held_after : Option (List ℕ)) → Type 0
-BreaksOff answer held held_after = (status : ℕ) × (text : List ℕ) × AnswerSays answer status text × AppendsPart held held_after text
+-- The same where the line of a violated rule is still to be written: it is a specified outcome, and nothing was written.
+abbrev pub Ends : {S : Type 0} → (S → Option (List ℕ)) → (S → ℕ) → Type 0 → (ℕ → List ℕ → Type 0) → S → S → Result ℕ Failure → Type 0
+Ends held faults Unread Due old new (Ok status) = EndsAt held faults Unread Due old new (Ok status)
+Ends held faults Unread Due old new (Err (Refused refusal)) = (new ≡ old) × Due 2 (refusal_line refusal)
+Ends held faults Unread Due old new (Err (Misread refusal)) = (new ≡ old) × Due 6 (refusal_line refusal)
+Ends held faults Unread Due old new (Err (Stopped stop)) = EndsAt held faults Unread Due old new (Err stop)

@@ -6,19 +6,14 @@ use Rattle.kp_run.specs.declared.board.Board.{Board}
 use Rattle.kp_watch.specs.declared.compare.Difference.{Difference}
 use Rattle.kp_tool_report.specs.Runs.{run_text}
 use Rattle.kp_tool_report.specs.inner.Differing.{differing_text}
-use Rattle.kp_tool.specs.declared.watched.Watched.{Watched}
 
+-- by the first difference from the sequential machine, if there is one
 abbrev pub status_by : Option Difference → ℕ
 status_by None = 0
 status_by (Some d) = 7
 
+-- the complete run, or its rows up to the difference and the line of the difference
 abbrev pub text_by : Board → Option Difference → List ℕ
 text_by board None =
     run_text board.design.now.job (rows_seen board.design.now.job.stages.value board.cycles.rows.items) (due_behind board.design.now.job board.cycles.rows.items)
 text_by board (Some d) = differing_text board.cycles.monitor.stages board.design.now.job board.cycles.rows.items d
-
-abbrev pub watched_status : Watched → ℕ
-watched_status w = status_by w.difference
-
-abbrev pub watched_text : Watched → List ℕ
-watched_text w = text_by w.board w.difference

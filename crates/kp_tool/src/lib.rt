@@ -1,37 +1,28 @@
-//! The top call: from the arguments of a command line and a source to a status and a sink. There are two phases.
+//! The top call: from the arguments of a command line and a source to a status and a sink.
 //!
-//! `carry_out` checks the rules on the input. Its result, an `Answer`, is the first rule that the input violates, or what the command needs: a job, a
-//! netlist, an assembled program. Nothing is synthesised or run yet, but `equiv` compares its two netlists here, since the verdict decides the
-//! status. `specs/Answers.antt` specifies the status and the text of each answer. The only error is out of memory.
-//!
-//! `conclude` then runs the answer and writes it. `made_ready` is given the allocator and no sink: it synthesises and runs what the answer
-//! needs. `Settled::write`, and `write_timing` of kp_timing for a timeline, are given the sink and no allocator: from there on only the sink can
-//! fail. The machine that a script goes through is synthesised and opened by the function that writes, before it does. The status and
-//! the text of what is ready are those of `specs/Readies.antt`, which are what the answer says.
+//! `carry_out` is the list of commands. Each has a module of its own (`gen` is in `generate.rt`), with a function of its name that goes from the
+//! input to the text: parse and check all rules, compute what is to be written, which gets the allocator and no sink, and `finish`, which gets the
+//! sink and no allocator. From there on only the sink can fail. `specs/Ends.antt` says how a command ends.
 #![tactic(auto)]
 
-mod answer;
-mod comparing;
-mod comparison;
-mod concluding;
-mod debugging;
-mod deciding;
-mod dumping;
-mod generation;
-mod ready;
-mod script;
-mod scripting;
-mod simulating;
-mod stepping;
-mod summing;
-mod timed;
-mod verilog;
+mod asm;
+mod check;
+mod commands;
+mod debug;
+mod equiv;
+mod failure;
+mod generate;
+mod netlist;
+mod outcome;
+mod pipe;
+mod read;
+mod seq;
+mod sim;
+mod timing;
+mod vcd;
 mod watch;
-mod watched;
-mod watching;
-mod writing;
 
-ghost use Rattle.std.specs.Prelude.{◌≡◌, ◌≢◌, ◌++◌, map, string_bytes, List, ℕ, true, false, None, Some, IfOk, IfSome, IsErrOf};
+ghost use Rattle.std.specs.Prelude.{◌≡◌, ◌≢◌, ◌++◌, map, string_bytes, List, ℕ, true, false, None, Some, IfSome};
 ghost use Rattle.kp_base.specs.Causes.{Rose};
 ghost use Rattle.kp_base.specs.Refusal.{e_rule};
 ghost use Rattle.kp_base.specs.declared.refusal.Refusal.{Refusal};
@@ -42,57 +33,21 @@ ghost use Rattle.kp_tool_words.specs.declared.words.JobCommand.TheVariants.{Chec
 ghost use Rattle.kp_sched.specs.Runs.{IsLegal};
 ghost use Rattle.kp_synth_spec.specs.Legal.{IsLegalFrom};
 ghost use Rattle.kp_tool_report.specs.Texts.{refusal_line};
-ghost use Rattle.kp_tool_spec.specs.Due.{Due, IsFinal, Completes, Begins, Between};
+ghost use Rattle.kp_tool_spec.specs.Saying.{Says};
+ghost use Rattle.kp_tool_spec.specs.Due.{Due, IsDue, IsFinal, Completes, Begins, Between};
 ghost use Rattle.kp_tool_spec.specs.Headline.{IsMoving, HasNoNeedlessStall, HasNoNeedlessStallFrom, IsVerilogWith, IsRunWith, IsDumpedWith, IsGeneratedWith, IsTimed, IsDebuggedWith, IsNetlistWith, IsPairAlike, IsImplementation, IsPairWith};
 ghost use Rattle.kp_tool_spec.specs.Agreeing.{IsSequential, IsChecked, IsFaulty, IsReadBack};
 ghost use Rattle.kp_tool_spec.specs.Refused.{Breaks};
-ghost use Rattle.kp_tool.specs.Ends.{Finishes, BreaksOff};
-ghost use Rattle.kp_tool.specs.inner.Decides.{Decides};
-ghost use Rattle.kp_tool.specs.inner.Stop.{stop_status};
-ghost use Rattle.kp_tool.specs.declared.Stop.TheVariants as stop;
+ghost use Rattle.kp_tool.specs.Ends.{Ends, EndsAt};
+ghost use Rattle.kp_tool.specs.inner.Failures.{end_status};
 
-use answer::Answer;
-use concluding::{Unfinished, conclude};
-use deciding::carry_out;
-use kp_base::{NoMemory, Place, ReadAll, Refusal, Sink, Source, read_all};
+use crate::commands::carry_out;
+use crate::failure::{Failure, Stop};
+use crate::outcome::{BadWords, finish};
+use kp_base::{Place, ReadAll, Refusal, Sink, Source, read_all};
+use kp_tool_report::write_refusal;
 use kp_tool_words::Command;
-use std::alloc::{AllocError, Global};
-
-/// Why there is no specified outcome: the three failures.
-#[derive(Clone, Copy, Debug, PartialEq, Eq)]
-enum Stop {
-    ReadFault,
-    WriteFault,
-    NoMemory,
-}
-
-impl Stop {
-    fn status(self) -> u8
-        ensures { result ≡ stop_status self }
-    {
-        match self {
-            Stop::ReadFault => 3,
-            Stop::WriteFault => 4,
-            Stop::NoMemory => 5,
-        }
-    }
-}
-
-impl From<AllocError> for Stop {
-    ghost from_gives = { λ _ e. e ≡ stop.NoMemory };
-
-    fn from(_: AllocError) -> Self {
-        Stop::NoMemory
-    }
-}
-
-impl From<NoMemory> for Stop {
-    ghost from_gives = { λ _ e. e ≡ stop.NoMemory };
-
-    fn from(_: NoMemory) -> Self {
-        Stop::NoMemory
-    }
-}
+use std::alloc::Global;
 
 /// Carries out a command line: reads the source if the command needs it, writes the text to the sink and returns the status. The status is 3 for a
 /// fault of the source, 4 for a fault of the sink, 5 for out of memory, and otherwise that of the specified outcome: 0, 1 (arguments not accepted), 2
@@ -215,81 +170,90 @@ pub fn tool<S: Source, K: Sink>(alloc: Global, words: &[String], source: &mut S,
     ensures equiv_has_no_needless_stall { command_of (map string_bytes words.now) ≡ Some Compare → result ≡ 0
         → Between (S.left source.old) (S.left source.new) (K.held sink.old) (K.held sink.new) (IsPairWith HasNoNeedlessStallFrom) }
 {
-    match run(alloc, words, source, sink) {
+    status_of(ended(alloc, words, source, sink))
+}
+
+// The status of an end.
+fn status_of(end: Result<u8, Stop>) -> u8
+    ensures { result ≡ end_status end }
+{
+    match end {
         Ok(status) => status,
         Err(stop) => stop.status(),
     }
 }
 
-fn run<S: Source, K: Sink>(
+// Carries out a command line, and writes the line of the rule that its input violates, if it violates one.
+fn ended<S: Source, K: Sink>(
     alloc: Global,
     words: &[String],
     source: &mut S,
     sink: &mut K,
 ) -> Result<u8, Stop>
-    ensures due { IfOk result (λ status. IsFinal status × Completes (map string_bytes words.now)
-        (S.left source.old) (S.left source.new) (K.held sink.old) (K.held sink.new) status) }
+    ensures ends { EndsAt K.held K.faults (Rose (S.faults source.old) (S.faults source.new))
+        (IsDue (map string_bytes words.now) (S.left source.old) (S.left source.new)) sink.old sink.new result }
     ensures unread { reads_input (command_of (map string_bytes words.now)) ≡ false → source.new ≡ source.old }
-    ensures read_fault { IsErrOf result Stop.ReadFault → Rose (S.faults source.old) (S.faults source.new) × (sink.new ≡ sink.old) }
-    ensures write_fault { IsErrOf result Stop.WriteFault → Rose (K.faults sink.old) (K.faults sink.new)
-        × Begins (map string_bytes words.now) (S.left source.old) (S.left source.new) (K.held sink.old) (K.held sink.new) }
-    ensures no_memory { IsErrOf result Stop.NoMemory → sink.new ≡ sink.old }
 {
-    match prepare(alloc, words, source) {
-        Ok(answer) => finish(alloc, answer, sink),
-        Err(stop) => Err(stop),
-    }
-}
-
-// The second phase. The answer is dropped on return.
-fn finish<K: Sink>(alloc: Global, answer: Answer, sink: &mut K) -> Result<u8, Stop>
-    ensures due { IfOk result (λ status. Finishes answer (K.held sink.old) (K.held sink.new) status) }
-    ensures no_read_fault { IsErrOf result Stop.ReadFault → ⊥ }
-    ensures write_fault { IsErrOf result Stop.WriteFault → Rose (K.faults sink.old) (K.faults sink.new)
-        × BreaksOff answer (K.held sink.old) (K.held sink.new) }
-    ensures no_memory { IsErrOf result Stop.NoMemory → sink.new ≡ sink.old }
-{
-    match conclude(alloc, answer, sink) {
+    match run(alloc, words, source, sink) {
         Ok(status) => Ok(status),
-        Err(Unfinished::NoMemory) => Err(Stop::NoMemory),
-        Err(Unfinished::SinkFault) => Err(Stop::WriteFault),
+        Err(Failure::Refused(refusal)) => refuse(2, refusal, sink),
+        Err(Failure::Misread(refusal)) => refuse(6, refusal, sink),
+        Err(Failure::Stopped(stop)) => Err(stop),
     }
 }
 
-// The first phase: parses the arguments, reads the source if the command needs it, and checks the rules.
-fn prepare<S: Source>(alloc: Global, words: &[String], source: &mut S) -> Result<Answer, Stop>
-    ensures due { IfOk result (λ answer. Decides (map string_bytes words.now) (S.left source.old) (S.left source.new) answer) }
+// Writes the line of a violated rule.
+fn refuse<K: Sink>(status: u8, refusal: Refusal, sink: &mut K) -> Result<u8, Stop>
+    ensures { EndsAt K.held K.faults ⊥ (Says status (refusal_line refusal)) sink.old sink.new result }
+{
+    match write_refusal(refusal, sink) {
+        Ok(()) => Ok(status),
+        Err(_) => Err(Stop::WriteFault),
+    }
+}
+
+// Parses the arguments, reads the source if the command needs it, and carries the command out.
+fn run<S: Source, K: Sink>(
+    alloc: Global,
+    words: &[String],
+    source: &mut S,
+    sink: &mut K,
+) -> Result<u8, Failure>
+    ensures ends { Ends K.held K.faults (Rose (S.faults source.old) (S.faults source.new))
+        (IsDue (map string_bytes words.now) (S.left source.old) (S.left source.new)) sink.old sink.new result }
     ensures unread { reads_input (command_of (map string_bytes words.now)) ≡ false → source.new ≡ source.old }
-    ensures no_write_fault { IsErrOf result Stop.WriteFault → ⊥ }
-    ensures fault { IsErrOf result Stop.ReadFault → Rose (S.faults source.old) (S.faults source.new) }
 {
     let command = match Command::of(alloc, words)? {
-        None => return Ok(Answer::BadWords),
+        None => return finish(BadWords, sink),
         Some(command) => command,
     };
     match command {
-        Command::Generate(_, _) => Ok(carry_out(alloc, command, &[])?),
+        Command::Generate(_, _) => carry_out(alloc, command, &[], sink),
         Command::OnJob(_)
         | Command::Assemble
         | Command::Read
         | Command::Watch(_)
         | Command::Compare
-        | Command::Debug => over_source(alloc, command, source),
+        | Command::Debug => over_source(alloc, command, source, sink),
     }
 }
 
-// Reads the source, and checks the rules on its bytes.
-fn over_source<S: Source>(alloc: Global, command: Command, source: &mut S) -> Result<Answer, Stop>
+// Reads the source, and carries the command out over its bytes.
+fn over_source<S: Source, K: Sink>(
+    alloc: Global,
+    command: Command,
+    source: &mut S,
+    sink: &mut K,
+) -> Result<u8, Failure>
     requires { reads_input (Some command) ≡ true }
-    ensures due { IfOk result (λ answer. (words : List (List ℕ)) → command_of words ≡ Some command → Decides words (S.left source.old) (S.left source.new) answer) }
-    ensures no_write_fault { IsErrOf result Stop.WriteFault → ⊥ }
-    ensures fault { IsErrOf result Stop.ReadFault → Rose (S.faults source.old) (S.faults source.new) }
+    ensures { (words : List (List ℕ)) → command_of words ≡ Some command → Ends K.held K.faults (Rose (S.faults source.old) (S.faults source.new))
+        (IsDue words (S.left source.old) (S.left source.new)) sink.old sink.new result }
 {
     match read_all(alloc, source) {
-        Ok(input) => Ok(carry_out(alloc, command, &input)?),
-        Err(ReadAll::TooLong) => Ok(Answer::Refused(too_long())),
-        Err(ReadAll::Fault) => Err(Stop::ReadFault),
-        Err(ReadAll::NoMemory) => Err(Stop::NoMemory),
+        Ok(input) => carry_out(alloc, command, &input, sink),
+        Err(ReadAll::TooLong) => Err(Failure::Refused(too_long())),
+        Err(ReadAll::Fault) => Err(Failure::Stopped(Stop::ReadFault)),
+        Err(ReadAll::NoMemory) => Err(Failure::Stopped(Stop::NoMemory)),
     }
 }
 

@@ -8,7 +8,7 @@ use Rattle.kp_ast.specs.declared.tree.Job.{Job}
 use Rattle.kp_stage.specs.Start.{start_of}
 use Rattle.kp_stage.proofs.Unbroken.{first_none}
 use Rattle.kp_pipeline.specs.Accepted.{Accepted}
-use Rattle.kp_pipeline.specs.Pipeline.{Inputs, pipeline_start}
+use Rattle.kp_pipeline.specs.Pipeline.{Inputs}
 use Rattle.kp_pipeline.specs.Rows.{Row, Trace, pipe, taken}
 use Rattle.kp_pipeline.specs.Timeline.{start_hold}
 use Rattle.kp_pipeline.proofs.Legality.{legal}

@@ -8,7 +8,7 @@ use Rattle.kp_ast.specs.declared.tree.Job.{Job}
 use Rattle.kp_stage.specs.Counts.{summary_of}
 use Rattle.kp_stage.specs.Start.{start_of}
 use Rattle.kp_pipeline.specs.Claims.{Moves, HighestStays}
-use Rattle.kp_pipeline.specs.Pipeline.{Inputs, pipeline_start}
+use Rattle.kp_pipeline.specs.Pipeline.{Inputs}
 use Rattle.kp_pipeline.specs.Rows.{Trace, taken}
 use Rattle.kp_pipeline.specs.Timeline.{no_samples, start_hold, timeline_rows}
 use Rattle.kp_pipeline.specs.SpeculativeTimeline.{timeline_rows as path_rows, timeline_rows_taking}

@@ -1,18 +1,11 @@
-use Rattle.std.proofs.lemmas.Result.{IfOk-weaker}
-use Rattle.kp_tool.proofs.Ends.{completes, begins}
+use Rattle.std.proofs.Common.{◌∙◌, sym, refl}
+use Rattle.kp_tool.proofs.Outside.{bad_words_end, over_nothing}
 use Rattle.kp_tool.proofs.run.Goals as goal
 
-pub returns-in-Ok-clause-due : goal.returns-in-Ok-clause-due
-returns-in-Ok-clause-due g c =
-    IfOk-weaker c.finish.result _ _ (λ status finished. completes _ _ _ _ _ c.in-Ok.answer status c.in-Ok.ensures.due finished) c.finish.ensures.due
+pub returns-in-None-clause-ends : goal.returns-in-None-clause-ends
+returns-in-None-clause-ends g c =
+    bad_words_end g.K.Sink.held g.K.Sink.faults _ _ _ (sym c.in_ok-of.ensures.command ∙ c.in-None.is) _ _ _ c.finish.ensures
 
-pub returns-in-Ok-clause-write_fault : goal.returns-in-Ok-clause-write_fault
-returns-in-Ok-clause-write_fault g c is =
-    let fault = c.finish.ensures.write_fault is in
-    (fault.0, begins _ _ _ _ _ c.in-Ok.answer c.in-Ok.ensures.due fault.1)
-
-pub returns-in-Ok-clause-read_fault : goal.returns-in-Ok-clause-read_fault
-returns-in-Ok-clause-read_fault g c is = absurd (c.finish.ensures.no_read_fault is)
-
-pub returns-in-Ok-clause-no_memory : goal.returns-in-Ok-clause-no_memory
-returns-in-Ok-clause-no_memory g c = c.finish.ensures.no_memory
+pub returns-in-Generate-clause-ends : goal.returns-in-Generate-clause-ends
+returns-in-Generate-clause-ends g c =
+    over_nothing g.K.Sink.held g.K.Sink.faults _ _ c.in-Some.command _ (sym c.in_ok-of.ensures.command ∙ c.in-Some.is) (rw c.in-Generate.is refl) _ _ _ c.carry_out.ensures

@@ -1,0 +1,28 @@
+use Rattle.std.proofs.Common.{ℕ, ◌≤◌, List, length, Ok, Some}
+use Rattle.std.proofs.lemmas.Result.{err_from_is_err_and}
+use Rattle.kp_ast.specs.declared.tree.Job.{Job}
+use Rattle.kp_tool_words.specs.declared.words.Command.TheVariants.{Compare}
+use Rattle.kp_frontend.specs.Judging.{JudgesHeadText}
+use Rattle.kp_tool_spec.specs.Due.{DueFor}
+use Rattle.kp_tool_spec.specs.Compared.{DueOfPairHead}
+use Rattle.kp_tool_spec.proofs.Dues.{pair_head_refused_is_due, pair_head_accepted_is_due}
+use Rattle.kp_tool.proofs.Ends.{refused_head, wider}
+use Rattle.kp_tool.proofs.equiv.equiv.Goals as goal
+
+accepted : (input : List ℕ) (job : Job) (rest status : ℕ) (text : List ℕ) → length input ≤ 16777216 → JudgesHeadText input (Ok (job, rest))
+    → DueOfPairHead input (Ok (job, rest)) status text → DueFor (Some Compare) input status text
+accepted input job rest status text short judged (middle, ends, due) = pair_head_accepted_is_due input job rest middle status text short judged ends due
+
+pub returns-in_err-head : goal.returns-in_err-head
+returns-in_err-head g c =
+    let p = err_from_is_err_and c.from_residual.result c.from_residual.ensures.1 in
+    let input = c.args.input.now in
+    rw p.1 (refused_head g.K.Sink.held g.K.Sink.faults (DueFor (Some Compare) input) input (λ r judged. pair_head_refused_is_due input r c.requires judged)
+    c.args.sink.now c.in_err-head.field-0.0 p.0 p.2 c.in_err-head.ensures.answer)
+
+pub returns : goal.returns
+returns g c =
+    let input = c.args.input.now in
+    let head = c.in_ok-head.head in
+    wider g.K.Sink.held g.K.Sink.faults (DueOfPairHead input (Ok (head.job.design.job, head.rest))) (DueFor (Some Compare) input)
+    (λ status text due. accepted input head.job.design.job head.rest status text c.requires c.in_ok-head.ensures.answer due) _ _ _ c.on_texts-end.ensures

@@ -1,0 +1,17 @@
+use Rattle.std.proofs.lemmas.Result.{err_from_is_err_and}
+use Rattle.kp_tool_spec.specs.Compared.{jobs}
+use Rattle.kp_tool.proofs.Modules.{refused_misread, refused_other}
+use Rattle.kp_tool.proofs.netlist.module_of.Goals as goal
+
+pub returns-in_err-net : goal.returns-in_err-net
+returns-in_err-net c =
+    let p = err_from_is_err_and c.from_residual.result c.from_residual.ensures.1 in
+    rw (p.1, p.2) (refused_misread c.args.design.now.job c.args.text.now c.args.from _ c.in_err-net.ensures)
+
+pub returns-in_err-matches : goal.returns-in_err-matches
+returns-in_err-matches c =
+    let p = err_from_is_err_and c.from_residual-in_err-matches.result c.from_residual-in_err-matches.ensures.1 in
+    rw (p.1, p.2) (refused_other c.args.design.now.job c.args.text.now c.args.from c.in_ok-net.net _ c.in_ok-net.ensures c.in_err-matches.ensures)
+
+pub returns : goal.returns
+returns c = jobs c.in_ok-net.ensures c.in_ok-matches.ensures
