@@ -18,7 +18,7 @@ use Rattle.kp_tool_report.specs.Texts.{refusal_line}
 use Rattle.kp_tool_spec.specs.Saying.{Says}
 use Rattle.kp_tool_spec.specs.Due.{DueFor, DueOfJob, DueOfTiming}
 use Rattle.kp_tool_spec.specs.Read.{ReadsVerilog}
-use Rattle.kp_tool_spec.proofs.Dues.{refused_is_due, accepted_is_due}
+use Rattle.kp_tool_spec.proofs.Dues.{accepted_is_due}
 use Rattle.kp_tool.specs.Ends.{Ends, EndsAt}
 use Rattle.kp_tool.specs.inner.Failures.{failure_of, misread_of}
 use Rattle.kp_tool.specs.declared.failure.Failure.{Failure}
