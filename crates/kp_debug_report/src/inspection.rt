@@ -18,11 +18,21 @@ use std::alloc::Global;
 use std::marker::Model;
 
 /// A job and its run over 100,000 cycles, under its own stall words and samples, specified by the job and the current cycle.
-#[derive(Drop)]
 pub struct Inspection<'a> {
     session: Session<'a>,
     net: &'a Netlist,
     job: &'a Accepted,
+}
+
+impl Drop for Inspection<'_> {
+    fn drop(self) {
+        let Inspection {
+            session,
+            net: _,
+            job: _,
+        } = self;
+        drop(session);
+    }
 }
 
 impl<'a> Model for Inspection<'a> {

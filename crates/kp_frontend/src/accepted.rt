@@ -10,7 +10,6 @@ use kp_image::Sections;
 use kp_stage::Design;
 
 /// A job that violates no rule: its design, and the contents of its sections.
-#[derive(Drop)]
 pub struct Accepted {
     pub design: Design,
     pub sections: Sections,
@@ -21,9 +20,23 @@ pub struct Accepted {
     pub ghost unbroken: { first (sections_of design.job).asked ≡ None },
 }
 
+impl Drop for Accepted {
+    fn drop(self) {
+        let Accepted { design, sections } = self;
+        drop(design);
+        drop(sections);
+    }
+}
+
 /// A job at the head of an input, and the offset after its `end`, where the rest starts.
-#[derive(Drop)]
 pub struct Head {
     pub job: Accepted,
     pub rest: u32,
+}
+
+impl Drop for Head {
+    fn drop(self) {
+        let Head { job, rest: _ } = self;
+        drop(job);
+    }
 }

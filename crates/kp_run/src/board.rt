@@ -30,7 +30,6 @@ use kp_stage::Design;
 use std::alloc::Global;
 
 /// A run of a job that has ended: its rows with their counts, and the values of the sequential machine after them.
-#[derive(Drop)]
 pub struct Board<'a> {
     pub design: &'a Design,
     pub cycles: Cycles,
@@ -42,6 +41,20 @@ pub struct Board<'a> {
     ghost counts: { HasCounts design.now.job cycles.rows.items lanes.homes.items },
     ghost is: { ForNone finals (IsBoard design.now.job cycles.rows.items lanes.machines.items lanes.homes.items) },
     ghost are: { ForSome finals (λ fs. AreFinals design.now.job (due_behind design.now.job cycles.rows.items) fs.items) },
+}
+
+impl Drop for Board<'_> {
+    fn drop(self) {
+        let Board {
+            design: _,
+            cycles,
+            lanes,
+            finals,
+        } = self;
+        drop(cycles);
+        drop(lanes);
+        drop(finals);
+    }
 }
 
 // The machines after a run, and for each target the number of the machine that has its value.

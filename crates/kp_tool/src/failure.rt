@@ -7,7 +7,7 @@ ghost use Rattle.kp_tool.specs.declared.failure.Stop.TheVariants as stop;
 use kp_base::{NoMemory, Refusal, Refused, SinkFault};
 
 /// Why there is no specified outcome: the three failures.
-#[derive(Clone, Copy, Debug, PartialEq, Eq)]
+#[derive(Clone, Copy)]
 pub enum Stop {
     ReadFault,
     WriteFault,
@@ -28,7 +28,7 @@ impl Stop {
 }
 
 /// Why a command ends early. The line of a violated rule is still to be written.
-#[derive(Clone, Copy, Debug, PartialEq, Eq)]
+#[derive(Clone, Copy)]
 pub enum Failure {
     /// The input violates a rule of the language.
     Refused(Refusal),

@@ -68,9 +68,22 @@ pub struct Moment {
 }
 
 /// A change dump: its module, the signals of the module, and their changes by time.
-#[derive(Debug, Drop)]
+#[derive(Debug)]
 pub struct Dump {
     pub module: Name,
     pub signals: List<Signal>,
     pub moments: List<Moment>,
+}
+
+impl Drop for Dump {
+    fn drop(self) {
+        let Dump {
+            module,
+            signals,
+            moments,
+        } = self;
+        drop(module);
+        drop(signals);
+        drop(moments);
+    }
 }
