@@ -1,5 +1,6 @@
 // What a diagram is drawn from.
 ghost use Rattle.std.specs.Prelude.{◌≡◌, ◌+◌, ◌<◌, ◌≤◌, length, decimal, map, string_bytes};
+ghost use Rattle.std.specs.List.{list_all};
 ghost use Rattle.kp_base.specs.Bytes.{Writes};
 ghost use Rattle.kp_base.specs.Causes.{HasCause};
 ghost use Rattle.kp_diagram_text.specs.Charts.{IsDrawable, are_names as are_names_for, is_name as is_a_name, names_of};
@@ -84,16 +85,15 @@ fn are_all_names(names: &[String]) -> bool
     ensures { result ≡ list_all is_a_name (map string_bytes names.now) }
 {
     for name in names {
-        if !is_name(name) {
+        if !is_name(name.as_bytes()) {
             return false;
         }
     }
     true
 }
 
-fn is_name(name: &str) -> bool
-    ensures { result ≡ is_a_name (string_bytes name) }
+fn is_name(name: &[u8]) -> bool
+    ensures { result ≡ is_a_name name.now }
 {
-    let bytes = name.as_bytes();
-    0 < bytes.len() && bytes.len() <= 8 && word_length(bytes) == bytes.len()
+    0 < name.len() && name.len() <= 8 && word_length(name) == name.len()
 }
