@@ -89,7 +89,7 @@ module _ (n : ℕ) (ext : ℕ → ℕ → Bool) (width : ℕ) (names : List (Lis
     counts_next =
         let long : length (rows_seen n (take T rows)) ≡ T = seen_length n (take T rows) ∙ length-take-le T rows (omega arith) in
         let more : take (T + 1) rows ≡ take T rows ++ r ∷ [] = take_more rows T d b ∙ ap (λ (x : masks.Row). take T rows ++ x ∷ []) (sym is) in
-        sym (ap₂ (λ (rs : List masks.Row) (U : ℕ). counts n (rows_seen n rs) U) more (omega arith)
+        sym (ap₂ (λ (rs : List masks.Row) (U : ℕ). counts n (rows_seen n rs) U) more (sym next_cycle)
         ∙ ap₂ (λ (rs : List Row) (U : ℕ). counts n rs (suc U)) (seen_more n (take T rows) r) (sym long)
         ∙ counts-more n (λ k. 0) (rows_seen n (take T rows)) (row_seen n r)
         ∙ ap (λ (U : ℕ). count_after n (row_seen n r) (counts n (rows_seen n (take T rows)) U)) long)
