@@ -29,7 +29,7 @@ figure-same name names n e f rows h =
     })
     (fetches-same e f n 0 (λ k. 0) true rows h) (account-same e f (n - 1) 0 (λ k. Filling) rows h)
 
-pub figure-is : (job : Job) (n : ℕ) (name : List ℕ) (names : List (List ℕ)) (stages : ℕ) (rows : List masks.Row) (words : List ℕ)
+figure-is : (job : Job) (n : ℕ) (name : List ℕ) (names : List (List ℕ)) (stages : ℕ) (rows : List masks.Row) (words : List ℕ)
     → inputs_seen job (inputs_to job n) ≡ inputs_from job 0 n → IsRunOf job n rows words
     → name ≡ job.name.name → stages ≡ job.stages.value
     → figure_from name names stages (λ T k. bit_of (get_or words T 0) k) (rows_seen stages rows) ≡ job_figure names n job
@@ -44,3 +44,11 @@ figure-is job n name names stages rows words seen run named same =
 
     short : (T : ℕ) → T < length (rows_seen job.stages.value rows) → T < n
     short T b = omega (arith, b, seen_length job.stages.value rows, run.count)
+
+pub figure-of : (job : Job) (n : ℕ) (name : List ℕ) (names : List (List ℕ)) (stages : ℕ) (rows given : List masks.Row) (words listed : List ℕ)
+    → inputs_seen job (inputs_to job n) ≡ inputs_from job 0 n → IsRunOf job n given listed → rows ≡ given → words ≡ listed
+    → name ≡ job.name.name → stages ≡ job.stages.value
+    → figure_from name names stages (λ T k. bit_of (get_or words T 0) k) (rows_seen stages rows) ≡ job_figure names n job
+figure-of job n name names stages rows given words listed seen run same_rows same_words named same =
+    ap₂ (λ (rs : List masks.Row) (ws : List ℕ). figure_from name names stages (λ T k. bit_of (get_or ws T 0) k) (rows_seen stages rs)) same_rows same_words
+    ∙ figure-is job n name names stages given listed seen run named same
