@@ -1,17 +1,17 @@
 -- The figure of a chart of a run is that of the job.
-use Rattle.std.proofs.Common.{◌≡◌, ◌∙◌, ℕ, suc, ◌+◌, ◌-◌, ◌<◌, Bool, true, List, length, get_or, refl, ap, ap₂, sym, arith}
+use Rattle.std.proofs.Common.{◌≡◌, ◌∙◌, ℕ, ◌+◌, ◌-◌, ◌<◌, Bool, true, List, length, get_or, ap, ap₂, arith}
 use Rattle.std.proofs.Math.Path.{fun_ext}
 use Rattle.kp_base.specs.declared.row.Row as masks
 use Rattle.kp_ast.specs.declared.tree.Job.{Job}
 use Rattle.kp_pipeline.specs.Rows.{Row}
-use Rattle.kp_machine.specs.Machine.{inputs_from, pipe_of}
+use Rattle.kp_machine.specs.Machine.{inputs_from}
 use Rattle.kp_sched.specs.Rows.{bit_of, rows_seen}
 use Rattle.kp_sched.proofs.Counting.{seen_length}
 use Rattle.kp_synth_spec.specs.Traces.{inputs_seen}
 use Rattle.kp_run.specs.Cycles.{inputs_to}
 use Rattle.kp_diagram.specs.Diagram.{Account, Fetch, Filling}
 use Rattle.kp_diagram.specs.Claims.{stalls_of}
-use Rattle.kp_diagram_text.specs.Figures.{Figure, figure_from}
+use Rattle.kp_diagram_text.specs.Figures.{figure_from}
 use Rattle.kp_diagram_run.specs.Runs.{IsRunOf, job_figure}
 use Rattle.kp_diagram_run.proofs.Alike.{SameFrom, account-same, fetches-same}
 use Rattle.kp_diagram_run.proofs.Words.{words-seen}
