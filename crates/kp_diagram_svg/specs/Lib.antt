@@ -3,4 +3,3 @@ pub mod Symbols
 pub mod Rows
 pub mod Foot
 pub mod Picture
-pub mod inner

@@ -1,9 +1,9 @@
 // The foot of a picture: the legend and the account.
-ghost use Rattle.std.specs.Prelude.{◌+◌, ◌*◌, ◌≤◌, ◌++◌};
+ghost use Rattle.std.specs.Prelude.{◌+◌, ◌*◌, ◌≤◌, ◌++◌, codes};
 ghost use Rattle.kp_base.specs.Bytes.{Writes};
 ghost use Rattle.kp_base.specs.Causes.{HasCause};
 ghost use Rattle.kp_diagram_text.specs.Losses.{account_shown};
-ghost use Rattle.kp_diagram_svg.specs.Foot.{account_text, account_words, foot, legend, legend_looks, legend_words, picture_end, rate_shown, spent_first, spent_last, spent_text};
+ghost use Rattle.kp_diagram_svg.specs.Foot.{account_text, account_words, foot, legend, legend_looks, legend_words, rate_shown, spent_first, spent_last, spent_text};
 
 use itoa::Buffer;
 use kp_base::{Sink, SinkFault, write_all, write_pieces};
@@ -30,11 +30,7 @@ pub(crate) fn write_foot<K: Sink>(
 }
 
 #[tactic(auto, using(kp_base::proofs::Bytes::writes_next, kp_base::proofs::Bytes::part_more))]
-fn write_legend<K: Sink>(
-    half: u64,
-    y: u64,
-    sink: &mut K,
-) -> Result<(), SinkFault>
+fn write_legend<K: Sink>(half: u64, y: u64, sink: &mut K) -> Result<(), SinkFault>
     requires { half ≤ 46 }
     ensures text { Writes (K.held sink.old) (K.held sink.new) (legend half y) result }
     ensures cause { HasCause (K.faults sink.old) (K.faults sink.new) result }
@@ -44,11 +40,7 @@ fn write_legend<K: Sink>(
 }
 
 #[tactic(auto, unfolding(crate::specs::Foot::legend_looks))]
-fn write_legend_looks<K: Sink>(
-    x: u64,
-    y: u64,
-    sink: &mut K,
-) -> Result<(), SinkFault>
+fn write_legend_looks<K: Sink>(x: u64, y: u64, sink: &mut K) -> Result<(), SinkFault>
     ensures text { Writes (K.held sink.old) (K.held sink.new) (legend_looks x y) result }
     ensures cause { HasCause (K.faults sink.old) (K.faults sink.new) result }
 {
@@ -64,11 +56,7 @@ fn write_legend_looks<K: Sink>(
 }
 
 #[tactic(auto, unfolding(crate::specs::Foot::legend_words))]
-fn write_legend_words<K: Sink>(
-    x: u64,
-    y: u64,
-    sink: &mut K,
-) -> Result<(), SinkFault>
+fn write_legend_words<K: Sink>(x: u64, y: u64, sink: &mut K) -> Result<(), SinkFault>
     ensures text { Writes (K.held sink.old) (K.held sink.new) (legend_words x y) result }
     ensures cause { HasCause (K.faults sink.old) (K.faults sink.new) result }
 {
@@ -98,15 +86,11 @@ fn write_account<K: Sink>(
     ensures cause { HasCause (K.faults sink.old) (K.faults sink.new) result }
 {
     write_account_words(2 * half + 228, y, sink)?;
-    write_spent(2 * half + 440, y, cycles, account, sink)
+    write_spent(2 * half + 228 + 212, y, cycles, account, sink)
 }
 
 #[tactic(auto, unfolding(crate::specs::Foot::account_words))]
-fn write_account_words<K: Sink>(
-    x: u64,
-    y: u64,
-    sink: &mut K,
-) -> Result<(), SinkFault>
+fn write_account_words<K: Sink>(x: u64, y: u64, sink: &mut K) -> Result<(), SinkFault>
     ensures text { Writes (K.held sink.old) (K.held sink.new) (account_words x y) result }
     ensures cause { HasCause (K.faults sink.old) (K.faults sink.new) result }
 {
@@ -139,14 +123,10 @@ fn write_spent<K: Sink>(
 }
 
 #[tactic(auto, using(kp_base::proofs::Bytes::writes_next, kp_base::proofs::Bytes::part_more))]
-fn write_lost<K: Sink>(
-    cycles: u64,
-    account: Account,
-    sink: &mut K,
-) -> Result<(), SinkFault>
+fn write_lost<K: Sink>(cycles: u64, account: Account, sink: &mut K) -> Result<(), SinkFault>
     requires cycles { cycles ≤ 1000 }
     requires retired { account.retired ≤ 1000 }
-    ensures text { Writes (K.held sink.old) (K.held sink.new) (spent_last account.hazards account.guesses account.outside ++ (rate_shown cycles account.retired ++ picture_end)) result }
+    ensures text { Writes (K.held sink.old) (K.held sink.new) (spent_last account.hazards account.guesses account.outside ++ (rate_shown cycles account.retired ++ codes "</text></g>\n</svg>\n")) result }
     ensures cause { HasCause (K.faults sink.old) (K.faults sink.new) result }
 {
     write_spent_last(account.hazards, account.guesses, account.outside, sink)?;
@@ -154,18 +134,14 @@ fn write_lost<K: Sink>(
 }
 
 #[tactic(auto, using(kp_base::proofs::Bytes::writes_next, kp_base::proofs::Bytes::part_more))]
-fn write_end<K: Sink>(
-    cycles: u64,
-    retired: u64,
-    sink: &mut K,
-) -> Result<(), SinkFault>
+fn write_end<K: Sink>(cycles: u64, retired: u64, sink: &mut K) -> Result<(), SinkFault>
     requires cycles { cycles ≤ 1000 }
     requires retired { retired ≤ 1000 }
-    ensures text { Writes (K.held sink.old) (K.held sink.new) (rate_shown cycles retired ++ picture_end) result }
+    ensures text { Writes (K.held sink.old) (K.held sink.new) (rate_shown cycles retired ++ codes "</text></g>\n</svg>\n") result }
     ensures cause { HasCause (K.faults sink.old) (K.faults sink.new) result }
 {
     write_rate_shown(cycles, retired, sink)?;
-    write_picture_end(sink)
+    write_all(sink, b"</text></g>\n</svg>\n")
 }
 
 #[tactic(auto, unfolding(crate::specs::Foot::spent_first))]
@@ -180,7 +156,13 @@ fn write_spent_first<K: Sink>(
     ensures text { Writes (K.held sink.old) (K.held sink.new) (spent_first x y cycles retired filling) result }
     ensures cause { HasCause (K.faults sink.old) (K.faults sink.new) result }
 {
-    let (mut first, mut second, mut third, mut fourth, mut fifth) = (Buffer::new(), Buffer::new(), Buffer::new(), Buffer::new(), Buffer::new());
+    let (mut first, mut second, mut third, mut fourth, mut fifth) = (
+        Buffer::new(),
+        Buffer::new(),
+        Buffer::new(),
+        Buffer::new(),
+        Buffer::new(),
+    );
     let pieces = [
         b"<g transform='translate(".as_slice(),
         first.format(x).as_bytes(),
@@ -230,15 +212,4 @@ fn write_rate_shown<K: Sink>(cycles: u64, retired: u64, sink: &mut K) -> Result<
         return write_all(sink, b"-");
     }
     write_rate(cycles, retired, sink)
-}
-
-#[tactic(auto, unfolding(crate::specs::Foot::picture_end))]
-fn write_picture_end<K: Sink>(
-    sink: &mut K,
-) -> Result<(), SinkFault>
-    ensures text { Writes (K.held sink.old) (K.held sink.new) picture_end result }
-    ensures cause { HasCause (K.faults sink.old) (K.faults sink.new) result }
-{
-    write_all(sink, b"</text></g>\n\
-</svg>\n")
 }
