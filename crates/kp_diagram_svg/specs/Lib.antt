@@ -1,3 +1,4 @@
+pub mod Filling
 pub mod Sizes
 pub mod Symbols
 pub mod Rows

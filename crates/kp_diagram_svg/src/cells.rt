@@ -10,8 +10,8 @@ ghost use Rattle.kp_diagram_text.specs.Text.{stage_name};
 ghost use Rattle.kp_diagram_svg.specs.Rows.{cell_start, cells_text, look};
 
 use crate::columns::middle;
-use itoa::Buffer;
-use kp_base::{Sink, SinkFault, write_all, write_pieces};
+use crate::filling::write_filled;
+use kp_base::{Sink, SinkFault, write_all};
 use kp_diagram_text::{Chart, Mark, mark_of, next_place};
 
 /// Writes the cells of the instruction of this number that enters in this cycle: it is followed through the rows.
@@ -69,34 +69,18 @@ fn write_cell_start<K: Sink>(
     number: u64,
     cycle: u64,
     stage: u8,
-    look: &[u8],
+    look: u64,
     sink: &mut K,
 ) -> Result<(), SinkFault>
     requires half { half ≤ 46 }
     requires cycle { cycle ≤ 1000 }
-    ensures text { Writes (K.held sink.old) (K.held sink.new) (cell_start half number cycle stage look.now) result }
+    ensures text { Writes (K.held sink.old) (K.held sink.new) (cell_start half number cycle stage look) result }
     ensures cause { HasCause (K.faults sink.old) (K.faults sink.new) result }
 {
-    let (mut first, mut second, mut third, mut fourth) = (
-        Buffer::new(),
-        Buffer::new(),
-        Buffer::new(),
-        Buffer::new(),
-    );
-    let pieces = [
-        b"<g transform='translate(".as_slice(),
-        first.format(middle(half, cycle)).as_bytes(),
-        b")'><title>instruction ".as_slice(),
-        second.format(number).as_bytes(),
-        b", cycle ".as_slice(),
-        third.format(cycle).as_bytes(),
-        b"</title><use xlink:href='#s".as_slice(),
-        fourth.format(stage).as_bytes(),
-        b"'/><use xlink:href='#".as_slice(),
-        look,
-        b"'/><text>".as_slice(),
-    ];
-    write_pieces(sink, &pieces)
+    let numbers = [middle(half, cycle), number, cycle, u64::from(stage), look];
+    let text =
+        b"<g transform='translate(@)'><title>instruction @, cycle @</title><use xlink:href='#s@'/><use xlink:href='#m@'/><text>";
+    write_filled(text, &numbers, sink)
 }
 
 // The name of a stage, and the end of the cell.
@@ -110,15 +94,15 @@ fn write_label<K: Sink>(chart: &Chart<'_>, k: u8, sink: &mut K) -> Result<(), Si
     write_all(sink, b"</text></g>\n")
 }
 
-// The name of the shape that shows a mark.
-fn look_of(mark: Mark) -> &'static [u8]
-    ensures { result.now ≡ look (shown mark) }
+// The number of the shape that shows a mark.
+fn look_of(mark: Mark) -> u64
+    ensures { result ≡ look (shown mark) }
 {
     match mark {
-        Mark::Moves => b"moves",
-        Mark::WaitsForValue => b"value",
-        Mark::WaitsForStage => b"stage",
-        Mark::Held => b"held",
-        Mark::Squashed => b"squashed",
+        Mark::Moves => 0,
+        Mark::WaitsForValue => 1,
+        Mark::WaitsForStage => 2,
+        Mark::Held => 3,
+        Mark::Squashed => 4,
     }
 }

@@ -1,15 +1,16 @@
 // The columns of a picture, one for each cycle.
-ghost use Rattle.std.specs.Prelude.{◌≡◌, ◌≤◌, ◌++◌, cond, length, codes};
+ghost use Rattle.std.specs.Prelude.{◌≡◌, ◌≤◌, ◌++◌, length, codes};
 ghost use Rattle.kp_base.specs.Bytes.{Writes};
 ghost use Rattle.kp_base.specs.Causes.{HasCause};
-ghost use Rattle.kp_diagram.specs.Diagram.{diagram};
+ghost use Rattle.kp_sched.specs.Rows.{row_seen};
+ghost use Rattle.kp_diagram.specs.Diagram.{diagram, is_squashed};
 ghost use Rattle.kp_diagram_text.specs.Charts.{IsDrawable, ext_of, names_of, rows_of};
 ghost use Rattle.kp_diagram_svg.specs.Sizes.{middle_of};
 ghost use Rattle.kp_diagram_svg.specs.Rows.{cells_part, column_text, columns_text, rows_text};
 
+use crate::filling::write_filled;
 use crate::rows::write_rows;
-use itoa::Buffer;
-use kp_base::{Sink, SinkFault, write_all, write_pieces};
+use kp_base::{Row, Sink, SinkFault, write_all};
 use kp_diagram_text::Chart;
 
 /// Writes the columns and the rows of cells.
@@ -60,7 +61,8 @@ fn write_columns<K: Sink>(chart: &Chart<'_>, half: u64, sink: &mut K) -> Result<
     ensures cause { HasCause (K.faults sink.old) (K.faults sink.new) result }
 {
     for cycle in 0..chart.rows.len() {
-        write_column_text(half, cycle as u64, chart.rows[cycle].back > 0, sink)?;
+        let wrong = is_wrong(chart.stages, chart.rows[cycle]);
+        write_column_text(half, cycle as u64, wrong, sink)?;
     }
     Ok(())
 }
@@ -77,24 +79,17 @@ fn write_column_text<K: Sink>(
     ensures text { Writes (K.held sink.old) (K.held sink.new) (column_text half cycle wrong) result }
     ensures cause { HasCause (K.faults sink.old) (K.faults sink.new) result }
 {
-    let (mut first, mut second) = (Buffer::new(), Buffer::new());
-    let pieces = [
-        b"<g transform='translate(".as_slice(),
-        first.format(middle(half, cycle)).as_bytes(),
-        b")'><use xlink:href='#".as_slice(),
-        head_of(wrong),
-        b"'/><text>".as_slice(),
-        second.format(cycle).as_bytes(),
-        b"</text></g>\n".as_slice(),
-    ];
-    write_pieces(sink, &pieces)
+    let numbers = [middle(half, cycle), u64::from(wrong), cycle];
+    let text = b"<g transform='translate(@)'><use xlink:href='#c@'/><text>@</text></g>\n";
+    write_filled(text, &numbers, sink)
 }
 
-// The shape below the number of a cycle.
-fn head_of(wrong: bool) -> &'static [u8]
-    ensures { result.now ≡ cond wrong (codes "back") (codes "column") }
+// Whether a guess is found wrong in the cycle: stage 0 is squashed then.
+#[tactic(auto, using(kp_diagram_text::proofs::Marks::squashed_seen))]
+fn is_wrong(n: u8, row: Row) -> bool
+    ensures { result ≡ is_squashed (row_seen n row) 0 }
 {
-    if wrong { b"back" } else { b"column" }
+    0 < row.back
 }
 
 /// The middle of the column of a cycle.

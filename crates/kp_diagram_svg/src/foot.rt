@@ -3,10 +3,10 @@ ghost use Rattle.std.specs.Prelude.{◌+◌, ◌*◌, ◌≤◌, ◌++◌, codes
 ghost use Rattle.kp_base.specs.Bytes.{Writes};
 ghost use Rattle.kp_base.specs.Causes.{HasCause};
 ghost use Rattle.kp_diagram_text.specs.Losses.{account_shown};
-ghost use Rattle.kp_diagram_svg.specs.Foot.{account_text, account_words, foot, legend, legend_looks, legend_words, rate_shown, spent_first, spent_last, spent_text};
+ghost use Rattle.kp_diagram_svg.specs.Foot.{account_text, account_words, foot, legend, legend_looks, legend_words, rate_shown, spent};
 
-use itoa::Buffer;
-use kp_base::{Sink, SinkFault, write_all, write_pieces};
+use crate::filling::write_filled;
+use kp_base::{Sink, SinkFault, write_all};
 use kp_diagram_text::{Account, write_rate};
 
 /// Writes the foot of a picture with cells of this half width, and this many cycles and rows.
@@ -44,15 +44,10 @@ fn write_legend_looks<K: Sink>(x: u64, y: u64, sink: &mut K) -> Result<(), SinkF
     ensures text { Writes (K.held sink.old) (K.held sink.new) (legend_looks x y) result }
     ensures cause { HasCause (K.faults sink.old) (K.faults sink.new) result }
 {
-    let (mut first, mut second) = (Buffer::new(), Buffer::new());
-    let pieces = [
-        b"<g transform='translate(".as_slice(),
-        first.format(x).as_bytes(),
-        b",".as_slice(),
-        second.format(y).as_bytes(),
-        b")'><use xlink:href='#s0'/><use xlink:href='#moves'/><use xlink:href='#value' y='28'/><use xlink:href='#stage' y='56'/><use xlink:href='#held' y='84'/><use xlink:href='#squashed' y='112'/><path d='M-5,131h10l-5,6z' fill='#a3121f'/></g>\n".as_slice(),
-    ];
-    write_pieces(sink, &pieces)
+    let numbers = [x, y];
+    let text =
+        b"<g transform='translate(@,@)'><use xlink:href='#s0'/><use xlink:href='#m0'/><use xlink:href='#m1' y='28'/><use xlink:href='#m2' y='56'/><use xlink:href='#m3' y='84'/><use xlink:href='#m4' y='112'/><path d='M-5,131h10l-5,6z' fill='#a3121f'/></g>\n";
+    write_filled(text, &numbers, sink)
 }
 
 #[tactic(auto, unfolding(crate::specs::Foot::legend_words))]
@@ -60,15 +55,10 @@ fn write_legend_words<K: Sink>(x: u64, y: u64, sink: &mut K) -> Result<(), SinkF
     ensures text { Writes (K.held sink.old) (K.held sink.new) (legend_words x y) result }
     ensures cause { HasCause (K.faults sink.old) (K.faults sink.new) result }
 {
-    let (mut first, mut second) = (Buffer::new(), Buffer::new());
-    let pieces = [
-        b"<g transform='translate(".as_slice(),
-        first.format(x).as_bytes(),
-        b",".as_slice(),
-        second.format(y).as_bytes(),
-        b")' text-anchor='start'><text>moves on</text><text y='28'>waits for a value</text><text y='56'>waits for the stage ahead</text><text y='84'>held from outside</text><text y='112'>squashed</text><text y='140'>a guess was wrong</text></g>\n".as_slice(),
-    ];
-    write_pieces(sink, &pieces)
+    let numbers = [x, y];
+    let text =
+        b"<g transform='translate(@,@)' text-anchor='start'><text>moves on</text><text y='28'>waits for a value</text><text y='56'>waits for the stage ahead</text><text y='84'>held from outside</text><text y='112'>squashed</text><text y='140'>a guess was wrong</text></g>\n";
+    write_filled(text, &numbers, sink)
 }
 
 #[tactic(auto, using(kp_base::proofs::Bytes::writes_next, kp_base::proofs::Bytes::part_more))]
@@ -86,7 +76,7 @@ fn write_account<K: Sink>(
     ensures cause { HasCause (K.faults sink.old) (K.faults sink.new) result }
 {
     write_account_words(2 * half + 228, y, sink)?;
-    write_spent(2 * half + 228 + 212, y, cycles, account, sink)
+    write_numbers(2 * half + 228 + 212, y, cycles, account, sink)
 }
 
 #[tactic(auto, unfolding(crate::specs::Foot::account_words))]
@@ -94,19 +84,14 @@ fn write_account_words<K: Sink>(x: u64, y: u64, sink: &mut K) -> Result<(), Sink
     ensures text { Writes (K.held sink.old) (K.held sink.new) (account_words x y) result }
     ensures cause { HasCause (K.faults sink.old) (K.faults sink.new) result }
 {
-    let (mut first, mut second) = (Buffer::new(), Buffer::new());
-    let pieces = [
-        b"<g transform='translate(".as_slice(),
-        first.format(x).as_bytes(),
-        b",".as_slice(),
-        second.format(y).as_bytes(),
-        b")' text-anchor='start'><text font-weight='bold'>cycles</text><text y='24'>retired an instruction</text><text y='48'>lost to filling the pipeline</text><text y='72'>lost to data hazards</text><text y='96'>lost to wrong guesses</text><text y='120'>lost to stalls from outside</text><text y='144' font-weight='bold'>cycles per instruction</text></g>\n".as_slice(),
-    ];
-    write_pieces(sink, &pieces)
+    let numbers = [x, y];
+    let text =
+        b"<g transform='translate(@,@)' text-anchor='start'><text font-weight='bold'>cycles</text><text y='24'>retired an instruction</text><text y='48'>lost to filling the pipeline</text><text y='72'>lost to data hazards</text><text y='96'>lost to wrong guesses</text><text y='120'>lost to stalls from outside</text><text y='144' font-weight='bold'>cycles per instruction</text></g>\n";
+    write_filled(text, &numbers, sink)
 }
 
 #[tactic(auto, using(kp_base::proofs::Bytes::writes_next, kp_base::proofs::Bytes::part_more))]
-fn write_spent<K: Sink>(
+fn write_numbers<K: Sink>(
     x: u64,
     y: u64,
     cycles: u64,
@@ -115,22 +100,37 @@ fn write_spent<K: Sink>(
 ) -> Result<(), SinkFault>
     requires cycles { cycles ≤ 1000 }
     requires retired { account.retired ≤ 1000 }
-    ensures text { Writes (K.held sink.old) (K.held sink.new) (spent_text x y cycles (account_shown account)) result }
+    ensures text { Writes (K.held sink.old) (K.held sink.new) (spent x y cycles (account_shown account) ++ (rate_shown cycles account.retired ++ codes "</text></g>\n</svg>\n")) result }
     ensures cause { HasCause (K.faults sink.old) (K.faults sink.new) result }
 {
-    write_spent_first(x, y, cycles, account.retired, account.filling, sink)?;
-    write_lost(cycles, account, sink)
+    write_spent(x, y, cycles, account, sink)?;
+    write_end(cycles, account.retired, sink)
 }
 
-#[tactic(auto, using(kp_base::proofs::Bytes::writes_next, kp_base::proofs::Bytes::part_more))]
-fn write_lost<K: Sink>(cycles: u64, account: Account, sink: &mut K) -> Result<(), SinkFault>
-    requires cycles { cycles ≤ 1000 }
-    requires retired { account.retired ≤ 1000 }
-    ensures text { Writes (K.held sink.old) (K.held sink.new) (spent_last account.hazards account.guesses account.outside ++ (rate_shown cycles account.retired ++ codes "</text></g>\n</svg>\n")) result }
+#[tactic(auto, unfolding(crate::specs::Foot::spent))]
+fn write_spent<K: Sink>(
+    x: u64,
+    y: u64,
+    cycles: u64,
+    account: Account,
+    sink: &mut K,
+) -> Result<(), SinkFault>
+    ensures text { Writes (K.held sink.old) (K.held sink.new) (spent x y cycles (account_shown account)) result }
     ensures cause { HasCause (K.faults sink.old) (K.faults sink.new) result }
 {
-    write_spent_last(account.hazards, account.guesses, account.outside, sink)?;
-    write_end(cycles, account.retired, sink)
+    let numbers = [
+        x,
+        y,
+        cycles,
+        account.retired,
+        account.filling,
+        account.hazards,
+        account.guesses,
+        account.outside,
+    ];
+    let text =
+        b"<g transform='translate(@,@)' text-anchor='end'><text font-weight='bold'>@</text><text y='24'>@</text><text y='48'>@</text><text y='72'>@</text><text y='96'>@</text><text y='120'>@</text><text y='144' font-weight='bold'>";
+    write_filled(text, &numbers, sink)
 }
 
 #[tactic(auto, using(kp_base::proofs::Bytes::writes_next, kp_base::proofs::Bytes::part_more))]
@@ -142,64 +142,6 @@ fn write_end<K: Sink>(cycles: u64, retired: u64, sink: &mut K) -> Result<(), Sin
 {
     write_rate_shown(cycles, retired, sink)?;
     write_all(sink, b"</text></g>\n</svg>\n")
-}
-
-#[tactic(auto, unfolding(crate::specs::Foot::spent_first))]
-fn write_spent_first<K: Sink>(
-    x: u64,
-    y: u64,
-    cycles: u64,
-    retired: u64,
-    filling: u64,
-    sink: &mut K,
-) -> Result<(), SinkFault>
-    ensures text { Writes (K.held sink.old) (K.held sink.new) (spent_first x y cycles retired filling) result }
-    ensures cause { HasCause (K.faults sink.old) (K.faults sink.new) result }
-{
-    let (mut first, mut second, mut third, mut fourth, mut fifth) = (
-        Buffer::new(),
-        Buffer::new(),
-        Buffer::new(),
-        Buffer::new(),
-        Buffer::new(),
-    );
-    let pieces = [
-        b"<g transform='translate(".as_slice(),
-        first.format(x).as_bytes(),
-        b",".as_slice(),
-        second.format(y).as_bytes(),
-        b")' text-anchor='end'><text font-weight='bold'>".as_slice(),
-        third.format(cycles).as_bytes(),
-        b"</text><text y='24'>".as_slice(),
-        fourth.format(retired).as_bytes(),
-        b"</text><text y='48'>".as_slice(),
-        fifth.format(filling).as_bytes(),
-        b"</text>".as_slice(),
-    ];
-    write_pieces(sink, &pieces)
-}
-
-#[tactic(auto, unfolding(crate::specs::Foot::spent_last))]
-fn write_spent_last<K: Sink>(
-    hazards: u64,
-    guesses: u64,
-    outside: u64,
-    sink: &mut K,
-) -> Result<(), SinkFault>
-    ensures text { Writes (K.held sink.old) (K.held sink.new) (spent_last hazards guesses outside) result }
-    ensures cause { HasCause (K.faults sink.old) (K.faults sink.new) result }
-{
-    let (mut first, mut second, mut third) = (Buffer::new(), Buffer::new(), Buffer::new());
-    let pieces = [
-        b"<text y='72'>".as_slice(),
-        first.format(hazards).as_bytes(),
-        b"</text><text y='96'>".as_slice(),
-        second.format(guesses).as_bytes(),
-        b"</text><text y='120'>".as_slice(),
-        third.format(outside).as_bytes(),
-        b"</text><text y='144' font-weight='bold'>".as_slice(),
-    ];
-    write_pieces(sink, &pieces)
 }
 
 fn write_rate_shown<K: Sink>(cycles: u64, retired: u64, sink: &mut K) -> Result<(), SinkFault>

@@ -8,6 +8,7 @@
 
 mod cells;
 mod columns;
+mod filling;
 mod foot;
 mod head;
 mod picture;

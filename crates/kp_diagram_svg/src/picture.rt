@@ -17,7 +17,6 @@ use kp_base::{Sink, SinkFault};
 use kp_diagram_text::{Chart, account_of};
 
 /// Writes the picture of a chart of at most 1,000 cycles. A fault comes only from the sink, which then has a prefix of the text.
-#[tactic(auto, unfolding(crate::specs::Picture::svg_text))]
 pub fn write_svg<K: Sink>(chart: &Chart<'_>, sink: &mut K) -> Result<(), SinkFault>
     requires drawable { IsDrawable chart.now }
     requires few { length chart.now.rows.now ≤ 1000 }

@@ -8,8 +8,8 @@ ghost use Rattle.kp_diagram_text.specs.Charts.{IsDrawable, ext_of, names_of, row
 ghost use Rattle.kp_diagram_svg.specs.Rows.{cells_text, row_start, row_text, rows_text};
 
 use crate::cells::write_cells;
-use itoa::Buffer;
-use kp_base::{Sink, SinkFault, write_all, write_pieces};
+use crate::filling::write_filled;
+use kp_base::{Sink, SinkFault, write_all};
 use kp_diagram_text::{Chart, fetches_next};
 use kp_sched::Monitor;
 
@@ -111,15 +111,10 @@ fn write_row_start<K: Sink>(i: u64, number: u64, sink: &mut K) -> Result<(), Sin
     ensures text { Writes (K.held sink.old) (K.held sink.new) (row_start i number) result }
     ensures cause { HasCause (K.faults sink.old) (K.faults sink.new) result }
 {
-    let (mut first, mut second) = (Buffer::new(), Buffer::new());
-    let pieces = [
-        b"<g transform='translate(100,".as_slice(),
-        first.format(28 * i + 93).as_bytes(),
-        b")'><use xlink:href='#line'/><text x='-10' text-anchor='end'>".as_slice(),
-        second.format(number).as_bytes(),
-        b"</text>\n".as_slice(),
-    ];
-    write_pieces(sink, &pieces)
+    let numbers = [28 * i + 93, number];
+    let text =
+        b"<g transform='translate(100,@)'><use xlink:href='#line'/><text x='-10' text-anchor='end'>@</text>\n";
+    write_filled(text, &numbers, sink)
 }
 
 #[tactic(auto, using(kp_base::proofs::Bytes::writes_next, kp_base::proofs::Bytes::part_more))]
