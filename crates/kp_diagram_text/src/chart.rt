@@ -40,6 +40,12 @@ impl<'a> Chart<'a> {
         ensures value { result ≡ length (stage_name (names_of self.now) k) }
         ensures few { result ≤ 8 }
     {
+        self.bytes_of_name(k)
+    }
+
+    fn bytes_of_name(&self, k: u8) -> usize
+        ensures { result ≡ length (stage_name (names_of self.now) k) }
+    {
         if usize::from(k) < self.names.len() {
             self.names[usize::from(k)].as_bytes().len()
         } else {
