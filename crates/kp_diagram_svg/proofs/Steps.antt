@@ -2,7 +2,6 @@
 use Rattle.std.proofs.Common.{◌≡◌, ◌∙◌, ℕ, suc, ◌+◌, ◌<◌, ◌≤◌, Bool, true, false, cond, List, [], ◌∷◌, ◌++◌, length, get_or, take, drop, Option, Some, None, refl, ap, ap₂, sym, subst, arith}
 use Rattle.std.proofs.lemmas.List.{drop_all, drop_more, length-take-le, take_more}
 use Rattle.kp_base.specs.declared.row.Row as masks
-use Rattle.kp_base.specs.inner.Bytes.{WrittenUpTo}
 use Rattle.kp_pipeline.specs.Rows.{Row, count_after, counts}
 use Rattle.kp_pipeline.proofs.Counts.{counts-more}
 use Rattle.kp_sched.specs.Rows.{row_seen, rows_seen}
@@ -11,10 +10,6 @@ use Rattle.kp_diagram.specs.Diagram.{Cell, Fetch, Mark, cells_from, fetches_from
 use Rattle.kp_diagram.proofs.Cells.{cells-none}
 use Rattle.kp_diagram_text.specs.Text.{stage_name}
 use Rattle.kp_diagram_svg.specs.Rows.{cell_text, cells_text, column_text, columns_text, row_text, rows_text}
-
--- what is left is the same text
-pub left_is : (whole rest same : List ℕ) (a b : Option (List ℕ)) → rest ≡ same → WrittenUpTo whole rest a b → WrittenUpTo whole same a b
-left_is whole rest same a b e written = subst (λ (text : List ℕ). WrittenUpTo whole text a b) e written
 
 -- A cell, and a fetch, by what they have.
 abbrev cell_at : ℕ → ℕ → Mark → Cell
@@ -72,7 +67,7 @@ module _ (n : ℕ) (ext : ℕ → ℕ → Bool) (rows : List masks.Row) (T : ℕ
     counts_next =
         let long : length (rows_seen n (take T rows)) ≡ T = seen_length n (take T rows) ∙ length-take-le T rows (omega arith) in
         let more : take (T + 1) rows ≡ take T rows ++ r ∷ [] = take_more rows T d b ∙ ap (λ (x : masks.Row). take T rows ++ x ∷ []) (sym is) in
-        sym (ap₂ (λ (rs : List masks.Row) (U : ℕ). counts n (rows_seen n rs) U) more (omega arith)
+        sym (ap₂ (λ (rs : List masks.Row) (U : ℕ). counts n (rows_seen n rs) U) more (sym next_cycle)
         ∙ ap₂ (λ (rs : List Row) (U : ℕ). counts n rs (suc U)) (seen_more n (take T rows) r) (sym long)
         ∙ counts-more n (λ k. 0) (rows_seen n (take T rows)) (row_seen n r)
         ∙ ap (λ (U : ℕ). count_after n (row_seen n r) (counts n (rows_seen n (take T rows)) U)) long)

@@ -5,7 +5,7 @@ ghost use Rattle.kp_base.specs.Causes.{HasCause};
 ghost use Rattle.kp_diagram_svg.specs.Filling.{filled, hole_in, is_text as is_text_byte};
 
 use itoa::Buffer;
-use kp_base::{Sink, SinkFault, run_length, write_all, write_pieces};
+use kp_base::{Sink, SinkFault, run_length, write_all};
 
 /// Writes a text with these numbers in the places of its bytes `@`.
 pub(crate) fn write_filled<K: Sink>(
@@ -40,11 +40,13 @@ fn is_text(byte: u8) -> bool
     byte != b'@'
 }
 
+// The text before a hole, and the number that fills it.
+#[tactic(auto, using(kp_base::proofs::Bytes::writes_next, kp_base::proofs::Bytes::part_more))]
 fn write_number<K: Sink>(before: &[u8], number: u64, sink: &mut K) -> Result<(), SinkFault>
     ensures text { Writes (K.held sink.old) (K.held sink.new) (before.now ++ decimal number) result }
     ensures cause { HasCause (K.faults sink.old) (K.faults sink.new) result }
 {
+    write_all(sink, before)?;
     let mut digits = Buffer::new();
-    let pieces = [before, digits.format(number).as_bytes()];
-    write_pieces(sink, &pieces)
+    write_all(sink, digits.format(number).as_bytes())
 }

@@ -9,7 +9,8 @@ use Rattle.kp_sched.specs.Monitors.{HasSeen}
 use Rattle.kp_sched.specs.Rows.{rows_seen}
 use Rattle.kp_diagram_text.specs.Charts.{ext_of, names_of}
 use Rattle.kp_diagram_svg.specs.Rows.{rows_text}
-use Rattle.kp_diagram_svg.proofs.Steps.{fetches_end, fetches_step, left_is, row_after_few, rows_next, take_next}
+use Rattle.kp_diagram_svg.proofs.Left.{left_is}
+use Rattle.kp_diagram_svg.proofs.Steps.{fetches_end, fetches_step, row_after_few, rows_next, take_next}
 use Rattle.kp_diagram_svg.proofs.rows.write_rows.Goals as goal
 
 pub cycle-requires : goal.cycle-requires
