@@ -70,4 +70,4 @@ one_wrong f names i x b is wrong =
 
 pub all_right : {X : Type 0} (f : X → List ℕ) (names : List X) (i : ℕ) → length names ≤ i
     → list_all is_name (map f (take i names)) ≡ true → list_all is_name (map f names) ≡ true
-all_right f names i b h = ap (λ (xs : List X). list_all is_name (map f xs)) (sym (take_all i names b)) ∙ h
+all_right f names i b h = rw (take_all i names b) at h

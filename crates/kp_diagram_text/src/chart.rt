@@ -1,5 +1,5 @@
 // What a diagram is drawn from.
-ghost use Rattle.std.specs.Prelude.{◌≡◌, ◌+◌, ◌<◌, ◌≤◌, length, decimal, map, string_bytes};
+ghost use Rattle.std.specs.Prelude.{◌≡◌, ◌+◌, ◌<◌, ◌≤◌, length, map, max, string_bytes};
 ghost use Rattle.std.specs.List.{list_all};
 ghost use Rattle.kp_base.specs.Bytes.{Writes};
 ghost use Rattle.kp_base.specs.Causes.{HasCause};
@@ -29,7 +29,7 @@ impl<'a> Chart<'a> {
     {
         let mut longest = 0;
         for k in 0..self.stages {
-            longest = longest.max(self.name_length(k));
+            longest = larger(longest, self.name_length(k));
         }
         longest
     }
@@ -76,8 +76,14 @@ impl<'a> Chart<'a> {
     {
         let mut buffer = Buffer::new();
         let digits = buffer.format(self.rows.len() as u64).len();
-        (self.longest() + 2).max(digits + 1)
+        larger(self.longest() + 2, digits + 1)
     }
+}
+
+fn larger(a: usize, b: usize) -> usize
+    ensures { result ≡ max a b }
+{
+    if a < b { b } else { a }
 }
 
 /// Whether these are names for the stages of a machine of n stages: none, or one of 1 to 8 letters, digits or `_` for each stage.
