@@ -1,4 +1,4 @@
-use Rattle.std.proofs.Common.{◌≡◌, ◌∙◌, ℕ, List, take, ap, ap₂, refl, subst, arith}
+use Rattle.std.proofs.Common.{◌≡◌, ◌∙◌, ℕ, List, get_or, take, ap, ap₂, refl, subst, arith}
 use Rattle.std.proofs.KnownBytes.{Appends-nil}
 use Rattle.std.proofs.lemmas.List.{length-take-le}
 use Rattle.std.proofs.lemmas.Result.{err_from_is_err_and}
@@ -21,6 +21,9 @@ cycle-requires g c =
     let few = c.requires.few in
     omega (arith, seen, many, few)
 
+none : Row
+none = record { full = 0; ue = 0; back = 0 }
+
 pub returns-in_err-write_fetch-clause-text : goal.returns-in_err-write_fetch-clause-text
 returns-in_err-write_fetch-clause-text g c =
     let chart = c.args.chart.now in
@@ -29,7 +32,7 @@ returns-in_err-write_fetch-clause-text g c =
     let number : c.count-number.result ≡ counts chart.stages (rows_seen chart.stages (take T chart.rows.now)) T 0 =
     c.count-number.ensures.seen (take T chart.rows.now) c.loop-cycle.invariant.seen
     ∙ ap₂ (λ (n U : ℕ). counts n (rows_seen n (take T chart.rows.now)) U 0) c.loop-cycle.invariant.stages many in
-    let step = fetches_step chart.stages (ext_of chart) chart.rows.now T _ _ c.loop-cycle-test.true refl c.loop-cycle.enters _ c.count-number.result refl number in
+    let step = fetches_step chart.stages (ext_of chart) chart.rows.now T (get_or chart.rows.now T none) none c.loop-cycle-test.true refl c.loop-cycle.enters _ c.count-number.result refl number in
     let exit = err_from_is_err_and c.from_residual.result c.from_residual.ensures.1 in
     rw exit.1 (written_part _ _ _ _ _ _
     (left_is _ _ _ _ _ (rows_next c.args.half (names_of chart) c.loop-cycle.i _ c.count-number.result _ c.loop-cycle.enters _ _ step refl) c.loop-cycle.invariant.text)
