@@ -1,6 +1,6 @@
 //! From a job to its diagram: the job is synthesised and run, and its rows and stall words are what the diagram is drawn from.
 //!
-//! `specs/Runs.antt` says of which run the rows are, and defines the figure of a job; `specs/Laws.antt` says what that figure shows of the
+//! `specs/Runs.antt` says of which run the rows are, and defines the figure of a job; `specs/Claims.antt` says what that figure shows of the
 //! pipelined machine of the job. All memory is allocated before anything is drawn, and out of memory is the only error.
 #![tactic(auto)]
 

@@ -1,5 +1,5 @@
 -- The steps of the loops that write a diagram.
-use Rattle.std.proofs.Common.{◌≡◌, ◌∙◌, ℕ, zero, suc, ◌+◌, ◌-◌, ◌<◌, ◌≤◌, Bool, true, false, cond, List, [], ◌∷◌, ◌++◌, length, get_or, take, drop, Option, Some, None, refl, ap, ap₂, sym, subst, arith, replicate, decimal}
+use Rattle.std.proofs.Common.{◌≡◌, ◌∙◌, ℕ, suc, ◌+◌, ◌-◌, ◌<◌, ◌≤◌, Bool, true, false, cond, List, [], ◌∷◌, ◌++◌, length, get_or, take, drop, Option, Some, None, refl, ap, ap₂, sym, subst, arith, replicate, decimal}
 use Rattle.std.proofs.lemmas.List.{drop_all, drop_more, length-take-le, replicate-append-replicate, take_more}
 use Rattle.kp_base.specs.declared.row.Row as masks
 use Rattle.kp_base.specs.inner.Bytes.{WrittenUpTo}

@@ -1,6 +1,6 @@
-use Rattle.std.proofs.Common.{rules, ◌≡◌, ◌∙◌, ℕ, ◌+◌, ◌-◌, ◌<◌, ◌≤◌, ap, length, refl, arith, option_map, replicate}
+use Rattle.std.proofs.Common.{◌∙◌, ℕ, ◌+◌, ◌-◌, ap, refl, arith, option_map, replicate}
 use Rattle.std.proofs.lemmas.List.{drop_all, get_or-replicate}
-use Rattle.kp_diagram.specs.Diagram.{Filling, account}
+use Rattle.kp_diagram.specs.Diagram.{account}
 use Rattle.kp_diagram.specs.Claims.{cycles_of}
 use Rattle.kp_diagram_text.specs.Charts.{ext_of, rows_of}
 use Rattle.kp_diagram_text.specs.declared.account.Loss.TheVariants as losses

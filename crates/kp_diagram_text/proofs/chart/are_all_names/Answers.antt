@@ -1,7 +1,7 @@
 use Rattle.std.proofs.Common.{sym, ap, ◌∙◌}
 use Rattle.std.specs.Prelude.{string_bytes}
 use Rattle.kp_diagram_text.specs.Charts.{is_name}
-use Rattle.kp_diagram_text.proofs.Names.{all_more, all_right, one_wrong}
+use Rattle.kp_diagram_text.proofs.Names.{one_wrong}
 use Rattle.kp_diagram_text.proofs.chart.are_all_names.Goals as goal
 
 pub returns-then-not-is_name : goal.returns-then-not-is_name

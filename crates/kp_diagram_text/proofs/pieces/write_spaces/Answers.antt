@@ -1,4 +1,4 @@
-use Rattle.std.proofs.Common.{◌≡◌, ◌≤◌, ℕ, List, take, arith}
+use Rattle.std.proofs.Common.{◌≡◌, ◌≤◌, ℕ, take, arith}
 use Rattle.std.proofs.lemmas.List.{take-replicate}
 use Rattle.std.proofs.lemmas.Result.{err_from_is_err_and}
 use Rattle.kp_base.proofs.Bytes.{written_piece, written_part}

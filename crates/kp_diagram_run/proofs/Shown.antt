@@ -15,7 +15,7 @@ use Rattle.kp_diagram.proofs.Causes.{causes, counted}
 use Rattle.kp_diagram.proofs.Cells.{holds-shown, reasons, shown-holds}
 use Rattle.kp_diagram.proofs.Retired.{retired-in_order}
 use Rattle.kp_diagram_text.specs.Figures.{figure_from}
-use Rattle.kp_diagram_run.specs.Laws.{ShowsPipe, ShowsRun}
+use Rattle.kp_diagram_run.specs.Claims.{ShowsPipe, ShowsRun}
 use Rattle.kp_diagram_run.specs.Runs.{job_figure}
 
 one-each : (last : ℕ) (ext : ℕ → ℕ → Bool) (T : ℕ) (loss : ℕ → Loss) (rows : List Row) → length (spent_from last ext T loss rows) ≡ length rows
