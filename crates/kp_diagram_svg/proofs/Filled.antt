@@ -30,7 +30,7 @@ filled_step text numbers rest at before after i d same b is to =
     ∙ filled_next rest numbers i d b
     ∙ ap (λ (hole : ℕ). (take hole rest ++ decimal (get_or numbers i d)) ++ filled (drop (hole + 1) rest) (drop (i + 1) numbers)) (sym is)
     ∙ ap (λ (from : List ℕ). (take before rest ++ decimal (get_or numbers i d)) ++ filled from (drop (i + 1) numbers))
-        (ap (drop (before + 1)) same ∙ sym (rest_next text at before) ∙ sym (ap (λ (next : ℕ). drop next text) to))
+    (ap (drop (before + 1)) same ∙ sym (rest_next text at before) ∙ sym (ap (λ (next : ℕ). drop next text) to))
 
 pub filled_end : (text numbers : List ℕ) (i : ℕ) → length numbers ≤ i → filled text (drop i numbers) ≡ text
 unfolding filled

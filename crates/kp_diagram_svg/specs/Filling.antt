@@ -10,7 +10,7 @@ is_text byte = not (byte == 64)
 abbrev pub hole_in : List ℕ → ℕ
 hole_in text = run_length is_text text
 
--- The text with these numbers in its holes, from the first hole on. What is left of the text follows the last number.
+-- The text with its holes filled by these numbers in order. After the last number the rest of the text follows as it is.
 unfoldable pub filled : List ℕ → List ℕ → List ℕ
 filled text [] = text
 filled text (n ∷ numbers) = take (hole_in text) text ++ (decimal n ++ filled (drop (hole_in text + 1) text) numbers)

@@ -43,6 +43,6 @@ account_text half y cycles a =
     account_words (account_left half) y
     ++ (spent (account_left half + 212) y cycles a ++ (rate_shown cycles a.retired ++ codes "</text></g>\n</svg>\n"))
 
--- The foot of a picture with so wide cells, and this many cycles and rows.
+-- The foot of a picture with cells of this half width, and this many cycles and rows.
 abbrev pub foot : ℕ → ℕ → ℕ → Account → List ℕ
 foot half cycles rows a = legend half (legend_line rows) ++ account_text half (legend_line rows) cycles a

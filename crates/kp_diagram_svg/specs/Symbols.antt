@@ -80,7 +80,7 @@ stages = hatching ++ (first_stages ++ last_stages)
 abbrev pub shapes : ℕ → List ℕ
 shapes half = boxes half ++ (cross half ++ (waiting half ++ held half))
 
--- The head of a picture of a machine of this name and n stages, with so wide cells, and this many cycles and rows.
+-- The head of a picture of a machine of this name and n stages, with cells of this half width, and this many cycles and rows.
 abbrev pub head : List ℕ → ℕ → ℕ → ℕ → ℕ → List ℕ
 head name n half cycles rows =
     canvas (width_of half cycles) (height_of rows)

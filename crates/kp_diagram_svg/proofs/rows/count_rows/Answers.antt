@@ -1,4 +1,7 @@
-use Rattle.std.proofs.Common.{◌≡◌, ◌∙◌, ap, refl, sym, length, arith}
+use Rattle.std.proofs.Common.{◌≡◌, ◌∙◌, List, ap, refl, sym, length, take, arith}
+use Rattle.kp_pipeline.specs.Rows.{counts}
+use Rattle.kp_sched.specs.Rows.{rows_seen}
+use Rattle.kp_diagram.specs.Diagram.{Fetch}
 use Rattle.kp_diagram_text.specs.Charts.{ext_of}
 use Rattle.kp_diagram_svg.proofs.Steps.{fetches_end, fetches_step, length_next, row_after_few}
 use Rattle.kp_diagram_svg.proofs.rows.count_rows.Goals as goal
@@ -16,5 +19,7 @@ loop-cycle-preserved c =
 pub returns-clause-rows : goal.returns-clause-rows
 returns-clause-rows c =
     let chart = c.args.chart.now in
-    let none = ap length (fetches_end chart.stages (ext_of chart) chart.rows.now c.loop-cycle.cycle _ c.loop-cycle.enters (omega arith)) in
+    let T = c.loop-cycle.cycle in
+    let count = counts chart.stages (rows_seen chart.stages (take T chart.rows.now)) T in
+    let none = ap (λ (fetches : List Fetch). length fetches) (fetches_end chart.stages (ext_of chart) chart.rows.now T count c.loop-cycle.enters (omega arith)) in
     omega (arith, none, c.loop-cycle.invariant.counted)
