@@ -1,5 +1,5 @@
 -- The steps of the loops that write a picture.
-use Rattle.std.proofs.Common.{◌≡◌, ◌∙◌, ℕ, suc, ◌+◌, ◌<◌, ◌≤◌, Bool, true, false, cond, List, [], ◌∷◌, ◌++◌, length, get_or, take, drop, Option, Some, None, refl, ap, ap₂, sym, subst, arith}
+use Rattle.std.proofs.Common.{◌≡◌, ◌∙◌, ℕ, suc, ◌+◌, ◌<◌, ◌≤◌, Bool, true, false, cond, List, [], ◌∷◌, ◌++◌, length, get_or, take, drop, Option, Some, None, refl, ap, ap₂, sym, arith}
 use Rattle.std.proofs.lemmas.List.{drop_all, drop_more, length-take-le, take_more}
 use Rattle.kp_base.specs.declared.row.Row as masks
 use Rattle.kp_pipeline.specs.Rows.{Row, count_after, counts}
@@ -8,7 +8,6 @@ use Rattle.kp_sched.specs.Rows.{row_seen, rows_seen}
 use Rattle.kp_sched.proofs.Counting.{seen_length, seen_more}
 use Rattle.kp_diagram.specs.Diagram.{Cell, Fetch, Mark, cells_from, fetches_from, fetches_next, is_squashed, mark, next_place}
 use Rattle.kp_diagram.proofs.Cells.{cells-none}
-use Rattle.kp_diagram_text.specs.Text.{stage_name}
 use Rattle.kp_diagram_svg.specs.Rows.{cell_text, cells_text, column_text, columns_text, row_text, rows_text}
 
 -- A cell, and a fetch, by what they have.

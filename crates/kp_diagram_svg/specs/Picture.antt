@@ -2,7 +2,7 @@
 use Rattle.std.specs.Prelude.{ℕ, List, ◌++◌, length}
 use Rattle.kp_pipeline.specs.Rows.{Row}
 use Rattle.kp_diagram_text.specs.declared.chart.Chart.{Chart}
-use Rattle.kp_diagram_text.specs.Charts.{IsDrawable, figure_of, rows_of}
+use Rattle.kp_diagram_text.specs.Charts.{figure_of, rows_of}
 use Rattle.kp_diagram_text.specs.Figures.{Figure}
 use Rattle.kp_diagram_text.specs.Text.{longest}
 use Rattle.kp_diagram_svg.specs.Sizes.{half_of}

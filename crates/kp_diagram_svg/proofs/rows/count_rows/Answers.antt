@@ -1,4 +1,4 @@
-use Rattle.std.proofs.Common.{◌≡◌, ◌∙◌, List, ap, refl, sym, length, take, arith}
+use Rattle.std.proofs.Common.{◌∙◌, List, ap, refl, sym, length, take, arith}
 use Rattle.kp_pipeline.specs.Rows.{counts}
 use Rattle.kp_sched.specs.Rows.{rows_seen}
 use Rattle.kp_diagram.specs.Diagram.{Fetch}
