@@ -1,0 +1,6 @@
+pub mod Filling
+pub mod Sizes
+pub mod Symbols
+pub mod Rows
+pub mod Foot
+pub mod Picture

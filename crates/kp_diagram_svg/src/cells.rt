@@ -1,0 +1,108 @@
+// The cells of a fetch.
+ghost use Rattle.std.specs.Prelude.{◌≡◌, ◌<◌, ◌≤◌, ◌++◌, length, drop, codes, Some};
+ghost use Rattle.kp_base.specs.Bytes.{Writes};
+ghost use Rattle.kp_base.specs.Causes.{HasCause};
+ghost use Rattle.kp_sched.specs.Rows.{rows_seen};
+ghost use Rattle.kp_diagram.specs.Diagram.{cells_from};
+ghost use Rattle.kp_diagram_text.specs.Charts.{IsDrawable, ext_of, names_of};
+ghost use Rattle.kp_diagram_text.specs.Marks.{shown};
+ghost use Rattle.kp_diagram_text.specs.Text.{stage_name};
+ghost use Rattle.kp_diagram_svg.specs.Rows.{cell_start, cells_text, look};
+
+use crate::columns::middle;
+use crate::filling::write_filled;
+use kp_base::{Sink, SinkFault, write_all};
+use kp_diagram_text::{Chart, Mark, mark_of, next_place};
+
+/// Writes the cells of the instruction of this number that enters in this cycle: it is followed through the rows.
+pub(crate) fn write_cells<K: Sink>(
+    chart: &Chart<'_>,
+    half: u64,
+    number: u64,
+    entered: usize,
+    sink: &mut K,
+) -> Result<(), SinkFault>
+    requires drawable { IsDrawable chart.now }
+    requires few { length chart.now.rows.now ≤ 1000 }
+    requires half { half ≤ 46 }
+    ensures text { Writes (K.held sink.old) (K.held sink.new) (cells_text half (names_of chart.now) number (cells_from chart.now.stages (ext_of chart.now) entered (rows_seen chart.now.stages (drop entered chart.now.rows.now)) (Some 0))) result }
+    ensures cause { HasCause (K.faults sink.old) (K.faults sink.new) result }
+{
+    let mut place = Some(0);
+    for cycle in entered..chart.rows.len() {
+        match place {
+            None => return Ok(()),
+            Some(k) => {
+                let row = chart.rows[cycle];
+                let mark = mark_of(chart.stages, chart.words[cycle], row, k);
+                write_cell(chart, half, number, cycle as u64, k, mark, sink)?;
+                place = next_place(chart.stages, row, k);
+            }
+        }
+    }
+    Ok(())
+}
+
+#[tactic(auto, using(kp_base::proofs::Bytes::writes_next, kp_base::proofs::Bytes::part_more))]
+fn write_cell<K: Sink>(
+    chart: &Chart<'_>,
+    half: u64,
+    number: u64,
+    cycle: u64,
+    k: u8,
+    mark: Mark,
+    sink: &mut K,
+) -> Result<(), SinkFault>
+    requires drawable { IsDrawable chart.now }
+    requires half { half ≤ 46 }
+    requires cycle { cycle ≤ 1000 }
+    ensures text { Writes (K.held sink.old) (K.held sink.new) (cell_start half number cycle k (look (shown mark)) ++ (stage_name (names_of chart.now) k ++ codes "</text></g>\n")) result }
+    ensures cause { HasCause (K.faults sink.old) (K.faults sink.new) result }
+{
+    write_cell_start(half, number, cycle, k, look_of(mark), sink)?;
+    write_label(chart, k, sink)
+}
+
+#[tactic(auto, unfolding(crate::specs::Rows::cell_start))]
+fn write_cell_start<K: Sink>(
+    half: u64,
+    number: u64,
+    cycle: u64,
+    stage: u8,
+    look: u64,
+    sink: &mut K,
+) -> Result<(), SinkFault>
+    requires half { half ≤ 46 }
+    requires cycle { cycle ≤ 1000 }
+    ensures text { Writes (K.held sink.old) (K.held sink.new) (cell_start half number cycle stage look) result }
+    ensures cause { HasCause (K.faults sink.old) (K.faults sink.new) result }
+{
+    let numbers = [middle(half, cycle), number, cycle, u64::from(stage), look];
+    let text =
+        b"<g transform='translate(@)'><title>instruction @, cycle @</title><use xlink:href='#s@'/><use xlink:href='#m@'/><text>";
+    write_filled(text, &numbers, sink)
+}
+
+// The name of a stage, and the end of the cell.
+#[tactic(auto, using(kp_base::proofs::Bytes::writes_next, kp_base::proofs::Bytes::part_more))]
+fn write_label<K: Sink>(chart: &Chart<'_>, k: u8, sink: &mut K) -> Result<(), SinkFault>
+    requires { IsDrawable chart.now }
+    ensures text { Writes (K.held sink.old) (K.held sink.new) (stage_name (names_of chart.now) k ++ codes "</text></g>\n") result }
+    ensures cause { HasCause (K.faults sink.old) (K.faults sink.new) result }
+{
+    chart.write_name(k, sink)?;
+    write_all(sink, b"</text></g>\n")
+}
+
+// The number of the shape that shows a mark.
+fn look_of(mark: Mark) -> u64
+    ensures { result ≡ look (shown mark) }
+{
+    match mark {
+        Mark::Moves => 0,
+        Mark::WaitsForValue => 1,
+        Mark::WaitsForStage => 2,
+        Mark::Held => 3,
+        Mark::Squashed => 4,
+    }
+}

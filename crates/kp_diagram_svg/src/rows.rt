@@ -1,0 +1,136 @@
+// The rows of a picture, one for each fetch.
+ghost use Rattle.std.specs.Prelude.{◌≡◌, ◌+◌, ◌≤◌, ◌++◌, cond, length, [], drop, codes, Some};
+ghost use Rattle.kp_base.specs.Bytes.{Writes};
+ghost use Rattle.kp_base.specs.Causes.{HasCause};
+ghost use Rattle.kp_sched.specs.Rows.{rows_seen};
+ghost use Rattle.kp_diagram.specs.Diagram.{cells_from, diagram};
+ghost use Rattle.kp_diagram_text.specs.Charts.{IsDrawable, ext_of, names_of, rows_of};
+ghost use Rattle.kp_diagram_svg.specs.Rows.{cells_text, row_start, row_text, rows_text};
+
+use crate::cells::write_cells;
+use crate::filling::write_filled;
+use kp_base::{Sink, SinkFault, write_all};
+use kp_diagram_text::{Chart, fetches_next};
+use kp_sched::Monitor;
+
+/// Writes a row for each fetch, in the order in which the instructions enter stage 0.
+pub(crate) fn write_rows<K: Sink>(
+    chart: &Chart<'_>,
+    half: u64,
+    sink: &mut K,
+) -> Result<(), SinkFault>
+    requires drawable { IsDrawable chart.now }
+    requires few { length chart.now.rows.now ≤ 1000 }
+    requires half { half ≤ 46 }
+    ensures text { Writes (K.held sink.old) (K.held sink.new) (rows_text half (names_of chart.now) 0 (diagram chart.now.stages (ext_of chart.now) (rows_of chart.now))) result }
+    ensures cause { HasCause (K.faults sink.old) (K.faults sink.new) result }
+{
+    let mut monitor = Monitor::open(chart.stages);
+    let (mut enters, mut i) = (true, 0);
+    for cycle in 0..chart.rows.len() {
+        let number = monitor.count(0);
+        write_fetch(chart, half, enters, i, number, cycle, sink)?;
+        i = row_after(i, enters);
+        let row = chart.rows[cycle];
+        enters = fetches_next(chart.stages, row);
+        monitor.cycle(row);
+    }
+    Ok(())
+}
+
+/// The number of rows.
+pub(crate) fn count_rows(chart: &Chart<'_>) -> u64
+    requires drawable { IsDrawable chart.now }
+    requires few { length chart.now.rows.now ≤ 1000 }
+    ensures rows { result ≡ length (diagram chart.now.stages (ext_of chart.now) (rows_of chart.now)) }
+    ensures few { result ≤ length chart.now.rows.now }
+{
+    let (mut enters, mut i) = (true, 0);
+    for cycle in 0..chart.rows.len() {
+        i = row_after(i, enters);
+        enters = fetches_next(chart.stages, chart.rows[cycle]);
+    }
+    i
+}
+
+// The next row, after a cycle in which an instruction enters or doesn't.
+fn row_after(i: u64, enters: bool) -> u64
+    requires { i ≤ 1000 }
+    ensures { result ≡ cond enters (i + 1) i }
+{
+    if enters { i + 1 } else { i }
+}
+
+// The row of a fetch, if an instruction enters in this cycle.
+fn write_fetch<K: Sink>(
+    chart: &Chart<'_>,
+    half: u64,
+    enters: bool,
+    i: u64,
+    number: u64,
+    cycle: usize,
+    sink: &mut K,
+) -> Result<(), SinkFault>
+    requires drawable { IsDrawable chart.now }
+    requires few { length chart.now.rows.now ≤ 1000 }
+    requires half { half ≤ 46 }
+    requires row { i ≤ 1000 }
+    ensures text { Writes (K.held sink.old) (K.held sink.new) (cond enters (row_text half (names_of chart.now) i number (cells_from chart.now.stages (ext_of chart.now) cycle (rows_seen chart.now.stages (drop cycle chart.now.rows.now)) (Some 0))) []) result }
+    ensures cause { HasCause (K.faults sink.old) (K.faults sink.new) result }
+{
+    if enters {
+        write_row(chart, half, i, number, cycle, sink)
+    } else {
+        Ok(())
+    }
+}
+
+#[tactic(auto, using(kp_base::proofs::Bytes::writes_next, kp_base::proofs::Bytes::part_more))]
+fn write_row<K: Sink>(
+    chart: &Chart<'_>,
+    half: u64,
+    i: u64,
+    number: u64,
+    cycle: usize,
+    sink: &mut K,
+) -> Result<(), SinkFault>
+    requires drawable { IsDrawable chart.now }
+    requires few { length chart.now.rows.now ≤ 1000 }
+    requires half { half ≤ 46 }
+    requires row { i ≤ 1000 }
+    ensures text { Writes (K.held sink.old) (K.held sink.new) (row_text half (names_of chart.now) i number (cells_from chart.now.stages (ext_of chart.now) cycle (rows_seen chart.now.stages (drop cycle chart.now.rows.now)) (Some 0))) result }
+    ensures cause { HasCause (K.faults sink.old) (K.faults sink.new) result }
+{
+    write_row_start(i, number, sink)?;
+    write_rest(chart, half, number, cycle, sink)
+}
+
+#[tactic(auto, unfolding(crate::specs::Rows::row_start))]
+fn write_row_start<K: Sink>(i: u64, number: u64, sink: &mut K) -> Result<(), SinkFault>
+    requires { i ≤ 1000 }
+    ensures text { Writes (K.held sink.old) (K.held sink.new) (row_start i number) result }
+    ensures cause { HasCause (K.faults sink.old) (K.faults sink.new) result }
+{
+    let numbers = [28 * i + 93, number];
+    let text =
+        b"<g transform='translate(100,@)'><use xlink:href='#line'/><text x='-10' text-anchor='end'>@</text>\n";
+    write_filled(text, &numbers, sink)
+}
+
+#[tactic(auto, using(kp_base::proofs::Bytes::writes_next, kp_base::proofs::Bytes::part_more))]
+fn write_rest<K: Sink>(
+    chart: &Chart<'_>,
+    half: u64,
+    number: u64,
+    cycle: usize,
+    sink: &mut K,
+) -> Result<(), SinkFault>
+    requires drawable { IsDrawable chart.now }
+    requires few { length chart.now.rows.now ≤ 1000 }
+    requires half { half ≤ 46 }
+    ensures text { Writes (K.held sink.old) (K.held sink.new) (cells_text half (names_of chart.now) number (cells_from chart.now.stages (ext_of chart.now) cycle (rows_seen chart.now.stages (drop cycle chart.now.rows.now)) (Some 0)) ++ codes "</g>\n") result }
+    ensures cause { HasCause (K.faults sink.old) (K.faults sink.new) result }
+{
+    write_cells(chart, half, number, cycle, sink)?;
+    write_all(sink, b"</g>\n")
+}
