@@ -1,5 +1,5 @@
 // A timeline that runs cycle by cycle.
-ghost use Rattle.std.specs.Prelude.{◌≡◌, ℕ, ◌-◌, ◌≤◌, ◌<◌, ◌^◌, [], IfOk, None, length, get_or, set, unwrap_or};
+ghost use Rattle.std.specs.Prelude.{◌≡◌, ℕ, ◌-◌, ◌≤◌, ◌<◌, ◌^◌, [], IfOk, None, length, get_or, set, unwrap_or, false};
 ghost use Rattle.kp_stage.specs.Counts.{summary_of};
 ghost use Rattle.kp_stage.specs.Start.{IsStartOf};
 ghost use Rattle.kp_machine.specs.Slots.{samples_of};
