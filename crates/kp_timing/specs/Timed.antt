@@ -43,7 +43,7 @@ pub record IsOpened (job : Job) (start : Start) (t : Timed) : Type 0 where
   pub hold : (k : ℕ) → k < job.stages.value → hold_of t k ≡ start_hold k
   pub waits : t.waits ≡ 0
 
--- One cycle under a stall word: its row, the instructions in the stages after it, and which stages waited.
+-- One cycle under a stall word: its row, the instructions in the stages after it, and which stages waited. The bits above those of the stages are 0.
 pub record IsCycle (t : Timed) (ext : ℕ) (row : Row) (u : Timed) : Type 0 where
   pub job : u.job ≡ t.job
   pub start : u.start ≡ t.start
@@ -53,6 +53,8 @@ pub record IsCycle (t : Timed) (ext : ℕ) (row : Row) (u : Timed) : Type 0 wher
     ue = bits (moves_on (machine_of t.job) (begins t) (hold_of t) (stalled_by ext)) t.job.stages.value 0;
     back = 0;
   }
+  pub no_more_full : (k : ℕ) → t.job.stages.value ≤ k → bit_of row.full k ≡ false
+  pub no_more_ue : (k : ℕ) → t.job.stages.value ≤ k → bit_of row.ue k ≡ false
   pub hold : (k : ℕ) → k < t.job.stages.value → hold_of u k ≡ next_hold (machine_of t.job) (begins t) (hold_of t) (stalled_by ext) k
   pub waits : (k : ℕ) → k < t.job.stages.value → bit_of u.waits k ≡ waits (machine_of t.job) (begins t) (hold_of t) (stalled_by ext) k
   pub others : (k : ℕ) → t.job.stages.value ≤ k → bit_of u.waits k ≡ false

@@ -1,5 +1,5 @@
 // A timeline that runs cycle by cycle.
-ghost use Rattle.std.specs.Prelude.{◌≡◌, ℕ, ◌-◌, ◌≤◌, ◌<◌, ◌^◌, [], IfOk, None, length, get_or, set, unwrap_or};
+ghost use Rattle.std.specs.Prelude.{◌≡◌, ℕ, ◌-◌, ◌≤◌, ◌<◌, ◌^◌, [], IfOk, None, length, get_or, set, unwrap_or, false};
 ghost use Rattle.kp_stage.specs.Counts.{summary_of};
 ghost use Rattle.kp_stage.specs.Start.{IsStartOf};
 ghost use Rattle.kp_machine.specs.Slots.{samples_of};
@@ -153,6 +153,8 @@ fn row_of(held: &Pipeline, found: &Found, stages: usize) -> Row
     requires few { stages ≤ 12 }
     ensures full { (k : ℕ) → k < stages → bit_of result.full k ≡ is_full held.now k }
     ensures ue { (k : ℕ) → k < stages → bit_of result.ue k ≡ moves_by held.now found.now.blocked k }
+    ensures no_more_full { (k : ℕ) → stages ≤ k → bit_of result.full k ≡ false }
+    ensures no_more_ue { (k : ℕ) → stages ≤ k → bit_of result.ue k ≡ false }
     ensures back { result.back ≡ 0 }
 {
     let mut full = [false; 12];

@@ -69,6 +69,8 @@ returns c =
           ∙ ap (λ (x : Found). moves_by t.held x.blocked j) c.find-found.ensures
           ∙ moves_same job t.start.now t.cycles t.machine t.sites t.held c.args.ext k j l)
           c.row_of-row.ensures.back;
+      no_more_full = λ j l. c.row_of-row.ensures.no_more_full j (omega (arith, l, all));
+      no_more_ue = λ j l. c.row_of-row.ensures.no_more_ue j (omega (arith, l, all));
       hold = λ j l. hold_next job t.start.now t.cycles t.machine t.sites t.held c.args.ext k c.advance.new.machine c.advance.new.held ad j l;
       waits = λ j l.
           c.mask_of-self-inside.ensures j ∙ ap (λ (x : Found). get_or x.waits j false) c.find-found.ensures
