@@ -1,22 +1,25 @@
 -- The figure of a chart of a run is that of the job.
-use Rattle.std.proofs.Common.{◌≡◌, ◌∙◌, ℕ, suc, ◌+◌, ◌-◌, ◌<◌, Bool, true, List, length, get_or, refl, ap, ap₂, sym, arith}
+use Rattle.std.proofs.Common.{◌≡◌, ◌∙◌, ℕ, ◌+◌, ◌-◌, ◌<◌, Bool, true, List, length, get_or, ap, ap₂, arith}
 use Rattle.std.proofs.Math.Path.{fun_ext}
 use Rattle.kp_base.specs.declared.row.Row as masks
 use Rattle.kp_ast.specs.declared.tree.Job.{Job}
 use Rattle.kp_pipeline.specs.Rows.{Row}
-use Rattle.kp_machine.specs.Machine.{inputs_from, pipe_of}
+use Rattle.kp_machine.specs.Machine.{inputs_from}
 use Rattle.kp_sched.specs.Rows.{bit_of, rows_seen}
 use Rattle.kp_sched.proofs.Counting.{seen_length}
 use Rattle.kp_synth_spec.specs.Traces.{inputs_seen}
 use Rattle.kp_run.specs.Cycles.{inputs_to}
 use Rattle.kp_diagram.specs.Diagram.{Account, Fetch, Filling}
 use Rattle.kp_diagram.specs.Claims.{stalls_of}
-use Rattle.kp_diagram_text.specs.Figures.{Figure, figure_from}
+use Rattle.kp_diagram_text.specs.Figures.{figure_from}
 use Rattle.kp_diagram_run.specs.Runs.{IsRunOf, job_figure}
 use Rattle.kp_diagram_run.proofs.Alike.{SameFrom, account-same, fetches-same}
 use Rattle.kp_diagram_run.proofs.Words.{words-seen}
 
-figure-same : (name : List ℕ) (names : List (List ℕ)) (n : ℕ) (e f : ℕ → ℕ → Bool) (rows : List Row) → SameFrom e f 0 (length rows)
+from-zero : (e f : ℕ → ℕ → Bool) (count : ℕ) → ((T : ℕ) → T < count → e T ≡ f T) → SameFrom e f 0 count
+from-zero e f count h T b = let z : 0 + T ≡ T = omega arith in rw z (h T b)
+
+figure-same : (name : List ℕ) (names : List (List ℕ)) (n : ℕ) (e f : ℕ → ℕ → Bool) (rows : List Row) → ((T : ℕ) → T < length rows → e T ≡ f T)
     → figure_from name names n e rows ≡ figure_from name names n f rows
 figure-same name names n e f rows h =
     ap₂ (λ (fetches : List Fetch) (account : Account). record {
@@ -27,7 +30,7 @@ figure-same name names n e f rows h =
       fetches = fetches;
       account = account;
     })
-    (fetches-same e f n 0 (λ k. 0) true rows h) (account-same e f (n - 1) 0 (λ k. Filling) rows h)
+    (fetches-same e f n 0 (λ k. 0) true rows (from-zero e f (length rows) h)) (account-same e f (n - 1) 0 (λ k. Filling) rows (from-zero e f (length rows) h))
 
 abbrev ext_in : List ℕ → ℕ → ℕ → Bool
 ext_in words T k = bit_of (get_or words T 0) k

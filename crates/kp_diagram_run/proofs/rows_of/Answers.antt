@@ -1,4 +1,4 @@
-use Rattle.std.proofs.Common.{◌≡◌, ◌∙◌, ap, length, List}
+use Rattle.std.proofs.Common.{◌∙◌, ap, length, List}
 use Rattle.kp_base.specs.declared.row.Row.{Row}
 use Rattle.kp_image.proofs.Given.{starts}
 use Rattle.kp_run.proofs.Prefixes.{rows_many}
