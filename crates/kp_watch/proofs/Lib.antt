@@ -2,4 +2,5 @@ pub mod Prefixes
 pub mod Lanes
 pub mod Placing
 pub mod Comparing
+pub mod Kept
 pub mod Whole
