@@ -98,8 +98,9 @@ impl<'a, 'n> Beside<'a, 'n> {
         // The invariant of the type, for the proof only.
         let _kept = job.design.job();
         let room = self.room.as_mut_slice();
-        fill(&job.sections.inputs, u64::from(cycle), room);
-        let stalls = job.sections.stalls.word(u64::from(cycle));
+        let now = u64::from(cycle);
+        fill(&job.sections.inputs, now, room);
+        let stalls = job.sections.stalls.word(now);
         let written = self.written.as_mut_slice();
         self.sim.step_noting(stalls, false, room, written);
         let columns = tables.columns.as_slice();

@@ -1,20 +1,21 @@
-use Rattle.std.proofs.Common.{◌≡◌, ◌∙◌, ap, sym, arith, length, List}
+use Rattle.std.proofs.Common.{◌≡◌, ◌∙◌, ap, sym, subst, arith, length, List}
 use Rattle.kp_bits.specs.Word.{Word}
+use Rattle.kp_cycle.specs.Steps.{SamplesFit}
 use Rattle.kp_image.specs.Feeds.{row_in}
 use Rattle.kp_run.proofs.Gathering.{rows_fit_taken}
 use Rattle.kp_run.proofs.Given.{rows_given, rows_fed, feeds_many, feeds_few}
 use Rattle.kp_run.proofs.Samples.{fits_ports}
 use Rattle.kp_watch.proofs.beside.Beside.step.Goals as goal
 
-pub step-requires-clause-room : goal.step-requires-clause-room
-step-requires-clause-room c =
+pub fill-requires-clause-room : goal.fill-requires-clause-room
+fill-requires-clause-room c =
     let job = c.args.job.now in
     ap (λ (l : List Word). length l) c.as_mut_slice-room.ensures.value
     ∙ c.requires.come.room ∙ c.requires.tables.columns.count
     ∙ sym (feeds_many job.design.job job.sections.inputs c.job-kept.ensures.sound.names job.unbroken job.inputs)
 
-pub step-requires-clause-few : goal.step-requires-clause-few
-step-requires-clause-few c =
+pub fill-requires-clause-few : goal.fill-requires-clause-few
+fill-requires-clause-few c =
     let job = c.args.job.now in
     let sound = c.job-kept.ensures.sound in
     let fed = feeds_many job.design.job job.sections.inputs sound.names job.unbroken job.inputs in
@@ -23,11 +24,13 @@ step-requires-clause-few c =
     ap (λ (l : List Word). length l) c.as_mut_slice-room.ensures.value ∙ c.requires.come.room in
     omega (arith, few, fed, room, c.requires.tables.columns.count)
 
-pub step-requires-clause-fits : goal.step-requires-clause-fits
-step-requires-clause-fits c =
+pub step_noting-requires-clause-samples : goal.step_noting-requires-clause-samples
+step_noting-requires-clause-samples c =
     let job = c.args.job.now in
-    fits_ports job.design.job c.args.self.now.sim.net (row_in job.sections.inputs c.from.result) c.requires.samples
-    (rows_fed job.design.job job.sections.inputs c.job-kept.ensures.sound.names job.unbroken job.inputs c.from.result)
+    let net = c.args.self.now.sim.net in
+    let row = row_in job.sections.inputs c.from-now.result in
+    subst (SamplesFit net) (sym c.fill.ensures)
+    (fits_ports job.design.job net row c.requires.samples (rows_fed job.design.job job.sections.inputs c.job-kept.ensures.sound.names job.unbroken job.inputs c.from-now.result))
 
 pub advance-requires-clause-samples : goal.advance-requires-clause-samples
 advance-requires-clause-samples c i =
