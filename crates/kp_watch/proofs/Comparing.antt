@@ -41,9 +41,9 @@ module _ (job : Job) (shown owed : ℕ → ℕ) (cycle t : ℕ) where
 
   -- ---- two addresses
 
-  by_address : {G : Type 0} (o : Option ℕ) (a : ℕ) → (o ≡ Some a → G) → (o ≢ Some a → G) → G
-  by_address None a yes no = no (λ e. cc)
-  by_address {G} (Some u) a yes no = go (eqb u a) refl
+  by_address : (G : Type 0) (o : Option ℕ) (a : ℕ) → (o ≡ Some a → G) → (o ≢ Some a → G) → G
+  by_address G None a yes no = no (λ e. cc)
+  by_address G (Some u) a yes no = go (eqb u a) refl
     where
       go : (b : Bool) → eqb u a ≡ b → G
       go true e = yes (ap Some (eqb-true u a e))
@@ -51,7 +51,7 @@ module _ (job : Job) (shown owed : ℕ → ℕ) (cycle t : ℕ) where
 
   module _ (p q : Option ℕ) (elsewhere : (a : ℕ) → HasWord job t a → p ≢ Some a → q ≢ Some a → shown a ≡ owed a) where
     agree : (a : ℕ) → HasWord job t a → (p ≡ Some a → shown a ≡ owed a) → (q ≡ Some a → shown a ≡ owed a) → shown a ≡ owed a
-    agree a there at_p at_q = by_address p a at_p (λ np. by_address q a at_q (λ nq. elsewhere a there np nq))
+    agree a there at_p at_q = by_address (shown a ≡ owed a) p a at_p (λ np. by_address (shown a ≡ owed a) q a at_q (λ nq. elsewhere a there np nq))
 
     -- an address isn't below one that it equals
     not_below : (o : Option ℕ) (c b : ℕ) → o ≡ Some c → b < c → o ≡ Some b → shown b ≡ owed b

@@ -39,9 +39,9 @@ loop-k-preserved c =
     elim c.if-moves.branch [
       | then-moves w ↦
           let d = w.index-machines-from.result in
-          let m = get_or ms w.from-then-moves.result d in
+          let m = get_or ms w.from.result d in
           let new = w.step_with.new.self in
-          let at : c.if-moves.machines ≡ set ms k new = w.machines-is ∙ ap (λ i. set ms i new) w.from-then-moves.ensures in
+          let at : c.if-moves.machines ≡ set ms k new = w.machines-is ∙ ap (λ i. set ms i new) w.from.ensures in
           let both = and_parts (get_or marks k false) (bit (bits (bit_of (get_or rows T none).ue) n 0) k) (sym told ∙ w.if-moves.true) in
           let stepped : state new ≡ exec (machine_of m.job) (state m) (values w.passed.result) =
           w.step_with.ensures.state ∙ ap (λ (row : List Word). exec (machine_of m.job) (state m) (values_in row)) w.take.ensures in
@@ -54,7 +54,7 @@ loop-k-preserved c =
           ∙ passed_before n rows k T before in (
             ap (λ (l : List Word). length l) (w.room-is ∙ w.take.ensures) ∙ length-map c.args.columns.now (λ (x : Taken). word_taken x w.passed.result),
             subst (λ l. HaveRunFirst job values (rows_seen n rows) T (k + 1) l) (sym at)
-                (first_moves job values rows T k w.passed.result ms m new d none kept.1 low there both.1 count (ap (λ i. get_or ms i d) w.from-then-moves.ensures)
+                (first_moves job values rows T k w.passed.result ms m new d none kept.1 low there both.1 count (ap (λ i. get_or ms i d) w.from.ensures)
                 w.step_with.ensures.job stepped noted),
           )
       | else-moves w ↦ (
