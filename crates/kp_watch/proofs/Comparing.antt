@@ -42,12 +42,12 @@ module _ (job : Job) (shown owed : ℕ → ℕ) (cycle t : ℕ) where
   -- ---- two addresses
 
   by_address : (G : Type 0) (o : Option ℕ) (a : ℕ) → (o ≡ Some a → G) → (o ≢ Some a → G) → G
-  by_address G None a yes no = no (λ e. cc)
-  by_address G (Some u) a yes no = go (eqb u a) refl
+  by_address G None a same_one another = another (λ e. cc)
+  by_address G (Some u) a same_one another = go (eqb u a) refl
     where
       go : (b : Bool) → eqb u a ≡ b → G
-      go true e = yes (ap Some (eqb-true u a e))
-      go false e = no (λ z. let same : u ≡ a = cc in both_ways (eqb u a) e (eq-eqb u a same))
+      go true e = same_one (ap Some (eqb-true u a e))
+      go false e = another (λ z. let same : u ≡ a = cc in both_ways (eqb u a) e (eq-eqb u a same))
 
   module _ (p q : Option ℕ) (elsewhere : (a : ℕ) → HasWord job t a → p ≢ Some a → q ≢ Some a → shown a ≡ owed a) where
     agree : (a : ℕ) → HasWord job t a → (p ≡ Some a → shown a ≡ owed a) → (q ≡ Some a → shown a ≡ owed a) → shown a ≡ owed a

@@ -59,8 +59,11 @@ files_kept c ns (x ∷ files) (w ∷ words) (suc f) a h not = files_kept c ns fi
 state_kept : (net : Net) (i : Input) (st : NetState) (f a : ℕ) → f < length net.parts.files → written_in net i st f ≢ Some a → get_or (get_or (state_after net i st).files f []) a 0 ≡ get_or (get_or st.files f []) a 0
 state_kept net i st f a h not = go (resets net i) not
   where
+    abbrev word_at : NetState → ℕ
+    word_at s = get_or (get_or s.files f []) a 0
+
     go : (b : Bool) → (if b then None else port_writes (cells_of i st) net.nodes (get_or net.parts.files f no_file).port) ≢ Some a
-        → get_or (get_or (if b then record { regs = start_regs net; files = st.files } else record { regs = regs_after net (cells_of i st); files = files_after net (cells_of i st) st.files }).files f []) a 0
+        → word_at (if b then record { regs = start_regs net; files = st.files } else record { regs = regs_after net (cells_of i st); files = files_after net (cells_of i st) st.files })
         ≡ get_or (get_or st.files f []) a 0
     go true free = refl
     go false free = files_kept (cells_of i st) net.nodes net.parts.files st.files f a h free
@@ -101,21 +104,22 @@ module _ (job : Job) (net : Net) (of_job : IsOfJob net job) (T : ℕ) (written :
 result_there : (targets : List Slot) (f : ResultDecl → Option ℕ) (ds : List Decl) (t : ℕ) (r : ResultDecl) → result_to targets ds t ≡ Some r
     → get_or (map f (results_of ds)) (result_number targets ds t) None ≡ f r
 result_there targets f [] t r e = cc
-result_there targets f (decls.Target q ∷ ds) t r e = go (eqb (number_of targets q.target.name) t) e
+result_there targets f (decls.Target q ∷ ds) t r e = go (eqb (number_of targets q.target.name) t) e (λ is. result_there targets f ds t r is)
   where
     go : (b : Bool) → (if b then Some q else result_to targets ds t) ≡ Some r
+        → (result_to targets ds t ≡ Some r → get_or (map f (results_of ds)) (result_number targets ds t) None ≡ f r)
         → get_or (f q ∷ map f (results_of ds)) (if b then 0 else suc (result_number targets ds t)) None ≡ f r
-    go true is = let same : q ≡ r = cc in ap f same
-    go false is = result_there targets f ds t r is
+    go true is rest = let same : q ≡ r = cc in ap f same
+    go false is rest = rest is
 result_there targets f (d ∷ ds) t r e = result_there targets f ds t r e
 
 result_below : (targets : List Slot) (ds : List Decl) (t : ℕ) (r : ResultDecl) → result_to targets ds t ≡ Some r → result_number targets ds t < length (results_of ds)
 result_below targets [] t r e = cc
-result_below targets (decls.Target q ∷ ds) t r e = go (eqb (number_of targets q.target.name) t) e
+result_below targets (decls.Target q ∷ ds) t r e = go (eqb (number_of targets q.target.name) t) e (λ is. result_below targets ds t r is)
   where
-    go : (b : Bool) → (if b then Some q else result_to targets ds t) ≡ Some r → (if b then 0 else suc (result_number targets ds t)) < suc (length (results_of ds))
-    go true is = omega arith
-    go false is = let low = result_below targets ds t r is in omega (arith, low)
+    go : (b : Bool) → (if b then Some q else result_to targets ds t) ≡ Some r → (result_to targets ds t ≡ Some r → result_number targets ds t < length (results_of ds)) → (if b then 0 else suc (result_number targets ds t)) < suc (length (results_of ds))
+    go true is rest = omega arith
+    go false is rest = let low = rest is in omega (arith, low)
 result_below targets (d ∷ ds) t r e = result_below targets ds t r e
 
 not_written : (b c : Bool) (u a v w : ℕ) → eqb u a ≡ c → cond b (Some u) None ≢ Some a → cond (true && (b && c)) v w ≡ w

@@ -61,8 +61,8 @@ difference_after-requires c =
     comparable job net n c.a_design_is_accepted.ensures samples c.args.rows.now c.requires.rows c.args.tables.now.columns.items c.requires.tables.columns T c.args.tables.now both
     c.requires.of_job c.requires.tables refl low now noted (λ t a there. c.loop-cycle.invariant.1 T t a last there)
 
-pub returns-in-Some-2 : goal.returns-in-Some-2
-returns-in-Some-2 c =
+pub returns-in-Some-difference_after : goal.returns-in-Some-difference_after
+returns-in-Some-difference_after c =
     let accepted = c.args.job.now in
     let job = accepted.design.job in
     let net = c.args.both.now.sim.net in
@@ -74,9 +74,9 @@ returns-in-Some-2 c =
     let same : c.loop-cycle.both.sim.net ≡ net = ap (λ (s : Running). s.net) come.sim in
     let now = subst (λ (m : Net). HaveCome job m c.args.rows.now c.args.tables.now (T + 1) both) same c.step.ensures.come in
     let h : T + 1 ≤ n = omega (arith, c.loop-cycle-test.true) in
-    is_told job net n (T + 1) c.in-Some-2.difference h c.loop-cycle.invariant.1
+    is_told job net n (T + 1) c.in-Some-difference_after.difference h c.loop-cycle.invariant.1
     (compares_own job net n c.a_design_is_accepted.ensures samples c.args.rows.now c.requires.rows c.args.tables.now.columns.items c.requires.tables.columns (T + 1) both.sim
-    both.machines.items both.machines.items (Some c.in-Some-2.difference) h now.sim refl now.machines c.in-Some-2.ensures)
+    both.machines.items both.machines.items (Some c.in-Some-difference_after.difference) h now.sim refl now.machines c.in-Some-difference_after.ensures)
 
 pub loop-cycle-preserved : goal.loop-cycle-preserved
 loop-cycle-preserved c =
@@ -91,7 +91,7 @@ loop-cycle-preserved c =
     let same : c.loop-cycle.both.sim.net ≡ net = ap (λ (s : Running). s.net) come.sim in
     let now = subst (λ (m : Net). HaveCome job m c.args.rows.now c.args.tables.now (T + 1) both) same c.step.ensures.come in
     let h : T + 1 ≤ n = omega (arith, c.loop-cycle-test.true) in
-    let none = rw c.in_default-2.is at c.difference_after.ensures in (
+    let none = rw c.in_default-difference_after.is at c.difference_after.ensures in (
       now,
       agree_more job net n (T + 1) c.loop-cycle.invariant.1
           (compares_own job net n c.a_design_is_accepted.ensures samples c.args.rows.now c.requires.rows c.args.tables.now.columns.items c.requires.tables.columns (T + 1) both.sim
