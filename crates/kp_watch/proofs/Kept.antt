@@ -59,11 +59,8 @@ files_kept c ns (x ∷ files) (w ∷ words) (suc f) a h not = files_kept c ns fi
 state_kept : (net : Net) (i : Input) (st : NetState) (f a : ℕ) → f < length net.parts.files → written_in net i st f ≢ Some a → get_or (get_or (state_after net i st).files f []) a 0 ≡ get_or (get_or st.files f []) a 0
 state_kept net i st f a h not = go (resets net i) not
   where
-    abbrev word_at : NetState → ℕ
-    word_at s = get_or (get_or s.files f []) a 0
-
     go : (b : Bool) → (if b then None else port_writes (cells_of i st) net.nodes (get_or net.parts.files f no_file).port) ≢ Some a
-        → word_at (if b then record { regs = start_regs net; files = st.files } else record { regs = regs_after net (cells_of i st); files = files_after net (cells_of i st) st.files })
+        → get_or (get_or (if◌then◌else◌ {A = NetState} b (record { regs = start_regs net; files = st.files }) (record { regs = regs_after net (cells_of i st); files = files_after net (cells_of i st) st.files })).files f []) a 0
         ≡ get_or (get_or st.files f []) a 0
     go true free = refl
     go false free = files_kept (cells_of i st) net.nodes net.parts.files st.files f a h free

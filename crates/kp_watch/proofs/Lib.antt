@@ -3,4 +3,5 @@ pub mod Lanes
 pub mod Placing
 pub mod Comparing
 pub mod Kept
+pub mod Targets
 pub mod Whole
