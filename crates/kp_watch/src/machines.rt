@@ -22,10 +22,12 @@ pub(crate) fn machines_of(alloc: Global, job: &Accepted) -> Result<Vec<SeqMachin
 {
     let design = &job.design;
     let stages = design.job().stages.value;
+    let first = SeqMachine::open(alloc, design, &job.sections.start)?;
     let mut machines = Vec::new(alloc);
-    for _ in 0..stages + 1 {
-        machines.push(SeqMachine::open(alloc, design, &job.sections.start)?)?;
+    for _ in 0..stages {
+        machines.push(first.copied(alloc)?)?;
     }
+    machines.push(first)?;
     Ok(machines)
 }
 

@@ -21,7 +21,8 @@ use std::alloc::Global;
 
 /// The first difference between the values of a netlist in its run over `count` cycles, under the stall words and the samples of a job, and those of
 /// the sequential machine of the job. The board is that of the same run. All registers and all words of files are compared in the state before the
-/// first cycle, and all registers and the words that either side wrote in the state after each cycle. All memory is allocated before the first cycle; the only error is out of memory.
+/// first cycle, and all registers and the words that either side wrote in the state after each cycle. All memory is allocated before the first
+/// cycle; the only error is out of memory.
 pub fn first_difference(
     alloc: Global,
     job: &Accepted,
