@@ -13,7 +13,7 @@ lock    = out/build.lock
 
 # The scripts of checks/ that pass or fail.
 all_checks = names.py cited_lemmas.py manual.py memory.sh verilog.sh waves.sh hardware.sh dist.sh build.sh
-all_benches = asm seq sim synth nodes read hostile
+all_benches = asm seq sim watch synth nodes read hostile
 
 .PHONY: kp built check checks bench install uninstall dist clean help
 

@@ -3,6 +3,7 @@ pub mod Coding
 pub mod Copies
 pub mod Counter
 pub mod Marking
+pub mod Noting
 pub mod Reached
 pub mod Running
 pub mod Settling

@@ -1,9 +1,12 @@
 -- A simulator as its callers see it: its inputs and its outputs.
-use Rattle.std.specs.Prelude.{ℕ, Bool, ◌<◌, ◌≤◌, ◌≡◌, List, [], length, get_or, map, Option, None}
+use Rattle.std.specs.Prelude.{ℕ, Bool, ◌<◌, ◌≤◌, ◌≡◌, if◌then◌else◌, List, [], length, get_or, map, Option, None, Some}
 use Rattle.kp_bits.specs.Word.{Word, word}
 use Rattle.kp_net.specs.Widths.{wide}
 use Rattle.kp_bits.specs.Operators.{no_word}
-use Rattle.kp_net.specs.Netlist.{Net, Input, State}
+use Rattle.kp_net.specs.declared.node.Node.{Node}
+use Rattle.kp_net.specs.declared.netlist.WritePort.{WritePort}
+use Rattle.kp_net.specs.Nodes.{Cells, at, on}
+use Rattle.kp_net.specs.Netlist.{Net, Input, State, cells_of, resets}
 use Rattle.kp_net.specs.Parts.{no_port, no_reg, no_file}
 
 -- a netlist, its present state, and its slots, each of which holds a state once it was saved
@@ -38,3 +41,11 @@ reg_shown s r = word (get_or s.net.parts.regs r no_reg).start.width (get_or s.st
 
 abbrev pub word_shown : Running → ℕ → ℕ → Word
 word_shown s f a = word (get_or s.net.parts.files f no_file).width (get_or (get_or s.state.files f []) a 0)
+
+-- The address that the write port of a file writes in a cycle: that of its address node, if the port is enabled and the cycle doesn't reset the netlist.
+abbrev pub port_writes : Cells → List Node → Option WritePort → Option ℕ
+port_writes c ns None = None
+port_writes c ns (Some p) = if on c ns p.enable.0 then Some (at c ns p.address.0) else None
+
+abbrev pub written_in : Net → Input → State → ℕ → Option ℕ
+written_in net i st f = if resets net i then None else port_writes (cells_of i st) net.nodes (get_or net.parts.files f no_file).port

@@ -1,9 +1,9 @@
 // The end of a cycle: registers latch, and files are written.
-ghost use Rattle.std.specs.Prelude.{◌≡◌, ◌<◌, ◌≤◌, ◌^◌, ◌&&◌, true, false, [], ℕ, length, get_or, set};
+ghost use Rattle.std.specs.Prelude.{◌≡◌, ◌<◌, ◌≤◌, ◌^◌, ◌&&◌, true, false, [], ℕ, length, get_or, set, None, if◌then◌else◌};
 ghost use Rattle.kp_net.specs.Netlist.{start_regs};
 ghost use Rattle.kp_net.specs.Parts.{NetOk, no_file};
 ghost use Rattle.kp_net.specs.Widths.{wide};
-ghost use Rattle.kp_cycle.specs.inner.Storage.{Fits, FitsBelow, PortReady, regs_from, port_from};
+ghost use Rattle.kp_cycle.specs.inner.Storage.{Fits, FitsBelow, PortReady, regs_from, port_from, port_noted};
 
 use crate::memory::{Memory, fill_regs};
 use kp_net::{Netlist, WritePort};
@@ -74,5 +74,41 @@ fn write(memory: &mut Memory, file: u32, port: Option<WritePort>)
         let address = memory.node(port.address.0);
         let value = memory.node(port.value.0);
         memory.set_word(file, address, value);
+    }
+}
+
+/// The address that each file's port writes in a cycle, from the values of the nodes: None where the port isn't enabled, and everywhere in a cycle
+/// that resets the netlist.
+pub fn note_writes(net: &Netlist, memory: &Memory, rst: bool, written: &mut [Option<u32>])
+    requires fits { Fits net.now memory.now }
+    requires known { FitsBelow net.now.nodes memory.now.nodes (length net.now.nodes) }
+    requires room { length written.old ≡ length net.now.parts.files }
+    ensures room { length written.new ≡ length net.now.parts.files }
+    ensures noted { (f : ℕ) → f < length net.now.parts.files → get_or written.new f None
+        ≡ (if net.now.parts.reset && rst then None else port_noted (get_or net.now.parts.files f no_file).port memory.now.nodes) }
+{
+    let parts = net.parts();
+    let files = parts.files.as_slice();
+    let is_reset = parts.reset && rst;
+    for i in 0..files.len() {
+        written[i] = if is_reset {
+            None
+        } else {
+            address_noted(memory, i as u32, files[i].port)
+        };
+    }
+}
+
+// The address that a port writes.
+fn address_noted(memory: &Memory, _file: u32, port: Option<WritePort>) -> Option<u32>
+    requires ready { PortReady memory.now _file port }
+    requires small { length (get_or memory.now.files _file []) < 2 ^ 32 }
+    ensures { result ≡ port_noted port memory.now.nodes }
+{
+    let port = port?;
+    if memory.node(port.enable.0) == 1 {
+        Some(memory.node(port.address.0) as u32)
+    } else {
+        None
     }
 }

@@ -1,13 +1,14 @@
 // The simulator and its calls.
-ghost use Rattle.std.specs.Prelude.{◌≡◌, ◌<◌, ◌≤◌, ◌^◌, [], length, get_or, set, map, replicate, Some, None, IsSome, IfOk};
-ghost use Rattle.kp_net.specs.Netlist.{Net, State, start_of, state_after, row_of, stalled};
+ghost use Rattle.std.specs.Prelude.{◌≡◌, ◌<◌, ◌≤◌, ◌^◌, [], ℕ, length, get_or, set, map, replicate, Some, None, IsSome, IfOk};
+ghost use Rattle.kp_net.specs.Nodes.{at};
+ghost use Rattle.kp_net.specs.Netlist.{Net, State, start_of, state_after, row_of, stalled, cells_of};
 ghost use Rattle.kp_net.specs.Widths.{wide};
 ghost use Rattle.kp_net.specs.Parts.{no_reg, no_file};
-ghost use Rattle.kp_cycle.specs.Steps.{Running, ShowsRows, SamplesFit, given, reg_shown, word_shown, saved_in};
-ghost use Rattle.kp_cycle.specs.inner.Plans.{IsPlan};
+ghost use Rattle.kp_cycle.specs.Steps.{Running, ShowsRows, SamplesFit, given, reg_shown, word_shown, saved_in, written_in};
+ghost use Rattle.kp_cycle.specs.inner.Plans.{IsPlan, OfRoots};
 ghost use Rattle.kp_cycle.specs.inner.Storage.{Fits, FitsBelow, StateFits, state_of};
 
-use crate::clock::clock;
+use crate::clock::{clock, note_writes};
 use crate::codes::Step;
 use crate::memory::Memory;
 use crate::nodes::{settle, word};
@@ -94,6 +95,34 @@ impl<'n> Sim<'n> {
         )
     }
 
+    /// `step_with` that also notes where files are written: `written` has an entry for each file, which becomes the address that its write port
+    /// writes in this cycle, or None if it writes nothing. Allocates nothing.
+    pub fn step_noting(
+        &mut self,
+        ext: u16,
+        rst: bool,
+        samples: &[Bits],
+        written: &mut [Option<u32>],
+    ) -> Row
+        requires samples { SamplesFit self.old.net samples.now }
+        requires room { length written.old ≡ length self.old.net.parts.files }
+        ensures row { result ≡ row_of self.old.net (given ext rst samples.now) self.old.state }
+        ensures state { self.new ≡ record self.old { state = state_after self.old.net (given ext rst samples.now) self.old.state } }
+        ensures room { length written.new ≡ length self.old.net.parts.files }
+        ensures written { (f : ℕ) → f < length self.old.net.parts.files → get_or written.new f None ≡ written_in self.old.net (given ext rst samples.now) self.old.state f }
+    {
+        let row = cycle(
+            self.net,
+            self.steps.as_slice(),
+            &mut self.memory,
+            ext,
+            rst,
+            samples,
+        );
+        note_writes(self.net, &self.memory, rst, written);
+        row
+    }
+
     /// Copies the present state into a slot. The state and the other slots are unchanged. Allocates nothing.
     pub fn save(&mut self, slot: u32)
         requires { slot < length self.old.slots }
@@ -177,6 +206,7 @@ fn cycle(
     ensures row { result ≡ row_of net.now (given ext rst samples.now) (state_of memory.old) }
     ensures state { state_of memory.new ≡ state_after net.now (given ext rst samples.now) (state_of memory.old) }
     ensures slots { memory.new.slots ≡ memory.old.slots }
+    ensures nodes { OfRoots net.now (λ j. get_or memory.new.nodes j 0 ≡ at (cells_of (given ext rst samples.now) (state_of memory.old)) net.now.nodes j) }
 {
     settle(net, steps, memory, u64::from(ext), samples);
     let parts = net.parts();

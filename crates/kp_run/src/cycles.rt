@@ -92,8 +92,8 @@ pub fn step(sim: &mut Sim<'_>, sections: &Sections, room: &mut [Bits], cycle: u6
     sim.step_with(sections.stalls.word(cycle), false, room)
 }
 
-// The values of the samples in a cycle.
-fn fill(inputs: &InputPattern, cycle: u64, room: &mut [Bits])
+/// Writes the values of the samples in a cycle to a buffer with one entry for each sample.
+pub fn fill(inputs: &InputPattern, cycle: u64, room: &mut [Bits])
     requires room { length room.old ≡ length inputs.now }
     requires few { length room.old < 2 ^ 32 }
     ensures { room.new ≡ row_in inputs.now cycle }

@@ -63,8 +63,8 @@ fn home_of(decls: &[Decl], t: usize, none: u64) -> u64
     none
 }
 
-// The number of the first target with this name, or the number of targets if none has it.
-fn number_of(decls: &[Decl], name: &Name) -> usize
+/// The number of the first target with this name, or the number of targets if none has it.
+pub fn number_of(decls: &[Decl], name: &Name) -> usize
     ensures { result ≡ number_of (targets_of decls.now) name.now }
 {
     let mut t = 0;

@@ -16,6 +16,6 @@ mod places;
 
 pub use board::{Board, board_of, board_shown};
 pub use columns::{Column, columns_of, updates};
-pub use cycles::{Cycles, cycles_of, step};
-pub use homes::homes_of;
+pub use cycles::{Cycles, cycles_of, fill, step};
+pub use homes::{homes_of, number_of};
 pub use lanes::take;

@@ -1,14 +1,14 @@
 -- The steps of a comparison.
-use Rattle.std.proofs.Common.{◌≡◌, ◌≢◌, ◌∙◌, ℕ, ◌+◌, ◌<◌, ◌≤◌, ◌⊎◌, inl, inr, Bool, true, false, refl, ap, sym, subst, arith}
-use Rattle.std.specs.Prelude.{nat_lt}
-use Rattle.std.proofs.lemmas.Bool.{ltb-true, ltb-false}
+use Rattle.std.proofs.Common.{◌≡◌, ◌≢◌, ◌∙◌, ℕ, ◌+◌, ◌<◌, ◌≤◌, ◌⊎◌, inl, inr, Bool, true, false, eqb, Option, Some, None, refl, ap, sym, subst, arith}
+use Rattle.std.specs.Prelude.{nat_lt, if◌then◌else◌}
+use Rattle.std.proofs.lemmas.Bool.{ltb-true, ltb-false, eqb-true, eq-eqb, both_ways}
 use Rattle.kp_bits.specs.Word.{word}
 use Rattle.kp_ast.specs.declared.tree.Job.{Job}
 use Rattle.kp_net.specs.Netlist.{Net, State}
 use Rattle.kp_seq.specs.Running.{HasWord, target}
 use Rattle.kp_synth_spec.specs.Naming.{value_shown}
 use Rattle.kp_watch.specs.declared.compare.Difference.{Difference}
-use Rattle.kp_watch.specs.inner.Comparing.{IsFirstAt, AgreeBelow, IsFirstIn}
+use Rattle.kp_watch.specs.inner.Comparing.{IsFirstAt, IsOneAt, ComparesWord, ComparesTarget, lower, AgreeBelow, IsFirstIn}
 
 -- one address more
 pub address_more : (shown owed : ℕ → ℕ) (a : ℕ) → ((b : ℕ) → b < a → shown b ≡ owed b) → shown a ≡ owed a → (b : ℕ) → b < a + 1 → shown b ≡ owed b
@@ -21,6 +21,60 @@ address_more shown owed a kept last b h = go (nat_lt b a) refl
         let same : a ≡ b = omega (arith, above, h) in
         subst (λ (i : ℕ). shown i ≡ owed i) same last
 
+-- ---- one address
+
+module _ (job : Job) (shown owed : ℕ → ℕ) (cycle t : ℕ) where
+  one_first : (d : Difference) → IsOneAt job shown owed cycle t d → ((b : ℕ) → b < d.address → HasWord job t b → shown b ≡ owed b) → IsFirstAt job shown owed cycle t d
+  one_first d one before = record {
+    cycle_is = one.cycle_is;
+    target_is = one.target_is;
+    there = one.there;
+    differs = one.differs;
+    before = before;
+    found_is = one.found_is;
+    due_is = one.due_is;
+  }
+
+  -- the first of all addresses, if the lower ones agree
+  pub first_at : (a : ℕ) (d : Difference) → IsOneAt job shown owed cycle t d × (Some a ≡ Some d.address) → ((b : ℕ) → b < a → shown b ≡ owed b) → IsFirstAt job shown owed cycle t d
+  first_at a d one kept = one_first d one.0 (λ b low there. kept b (let at : a ≡ d.address = cc in omega (arith, at, low)))
+
+  -- ---- two addresses
+
+  by_address : (G : Type 0) (o : Option ℕ) (a : ℕ) → (o ≡ Some a → G) → (o ≢ Some a → G) → G
+  by_address G None a same_one another = another (λ e. cc)
+  by_address G (Some u) a same_one another = go (eqb u a) refl
+    where
+      go : (b : Bool) → eqb u a ≡ b → G
+      go true e = same_one (ap Some (eqb-true u a e))
+      go false e = another (λ z. let same : u ≡ a = cc in both_ways (eqb u a) e (eq-eqb u a same))
+
+  module _ (p q : Option ℕ) (elsewhere : (a : ℕ) → HasWord job t a → p ≢ Some a → q ≢ Some a → shown a ≡ owed a) where
+    agree : (a : ℕ) → HasWord job t a → (p ≡ Some a → shown a ≡ owed a) → (q ≡ Some a → shown a ≡ owed a) → shown a ≡ owed a
+    agree a there at_p at_q = by_address (shown a ≡ owed a) p a at_p (λ np. by_address (shown a ≡ owed a) q a at_q (λ nq. elsewhere a there np nq))
+
+    -- an address isn't below one that it equals
+    not_below : (o : Option ℕ) (c b : ℕ) → o ≡ Some c → b < c → o ≡ Some b → shown b ≡ owed b
+    not_below o c b is low at = let same : c ≡ b = cc in absurd (omega (arith, same, low))
+
+    not_under : (o : Option ℕ) (c d b : ℕ) → o ≡ Some c → d ≤ c → b < d → o ≡ Some b → shown b ≡ owed b
+    not_under o c d b is above low at = not_below o c b is (omega (arith, above, low)) at
+
+    -- of two differences the lower one is the first
+    pub lower_first : (x y : Option Difference) → ComparesWord job shown owed cycle t p x → ComparesWord job shown owed cycle t q y → ComparesTarget job shown owed cycle t (lower x y)
+    lower_first None None x y = λ a there. agree a there (x a there) (y a there)
+    lower_first None (Some e) x y = one_first e y.0 (λ b low there. agree b there (x b there) (not_below q e.address b y.1 low))
+    lower_first (Some d) None x y = one_first d x.0 (λ b low there. agree b there (not_below p d.address b x.1 low) (y b there))
+    lower_first (Some d) (Some e) x y = go (nat_lt e.address d.address) refl
+      where
+        go : (c : Bool) → nat_lt e.address d.address ≡ c → ComparesTarget job shown owed cycle t (if c then Some e else Some d)
+        go true is =
+            let below : e.address < d.address = ltb-true e.address d.address is in
+            one_first e y.0 (λ b low there. agree b there (not_under p d.address e.address b x.1 (omega (arith, below)) low) (not_below q e.address b y.1 low))
+        go false is =
+            let above : d.address ≤ e.address = ltb-false e.address d.address is in
+            one_first d x.0 (λ b low there. agree b there (not_below p d.address b x.1 low) (not_under q e.address d.address b y.1 above low))
+
 -- comparing with the job of a machine is comparing with the job
 module _ (net : Net) (st : State) (job other : Job) (cycle t : ℕ) (owed due : ℕ → ℕ) (same : other ≡ job) (is : due ≡ owed) where
   pub first_at_alike : (d : Difference) → IsFirstAt other (value_shown other net st t) owed cycle t d → IsFirstAt job (value_shown job net st t) due cycle t d
@@ -32,6 +86,10 @@ module _ (net : Net) (st : State) (job other : Job) (cycle t : ℕ) (owed due : 
   agree_alike agree a there =
       subst (λ (j : Job). HasWord j t a → value_shown j net st t a ≡ owed a) same (agree a) there
       ∙ ap (λ (f : ℕ → ℕ). f a) (sym is)
+
+  pub target_alike : (result : Option Difference) → ComparesTarget other (value_shown other net st t) owed cycle t result → ComparesTarget job (value_shown job net st t) due cycle t result
+  target_alike None agree = agree_alike agree
+  target_alike (Some d) first = first_at_alike d first
 
 module _ (job : Job) (shown owed : ℕ → ℕ → ℕ) (t : ℕ) (kept : AgreeBelow job shown owed t) where
   -- one target more

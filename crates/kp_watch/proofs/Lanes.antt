@@ -1,8 +1,8 @@
 -- The machines in lockstep with a run, row by row.
-use Rattle.std.proofs.Common.{◌≡◌, ◌≢◌, ◌∙◌, ℕ, suc, ◌+◌, ◌<◌, ◌≤◌, List, [], ◌∷◌, ◌++◌, length, get_or, set, map, Bool, true, false, refl, ap, sym, arith, length-set}
+use Rattle.std.proofs.Common.{◌≡◌, ◌≢◌, ◌∙◌, ℕ, suc, ◌+◌, ◌<◌, ◌≤◌, List, [], ◌∷◌, ◌++◌, length, get_or, set, map, Bool, true, false, ◌&&◌, refl, ap, sym, subst, arith, length-set}
 use Rattle.std.specs.Prelude.{nat_lt, if◌then◌else◌}
 use Rattle.std.specs.List.{All}
-use Rattle.std.proofs.lemmas.Bool.{ltb-true, ltb-false, lt-ltb, le-ltb}
+use Rattle.std.proofs.lemmas.Bool.{ltb-true, ltb-false, lt-ltb, le-ltb, both_ways}
 use Rattle.std.proofs.lemmas.List.{get_or-map, get_or-set_other}
 use Rattle.std.proofs.lemmas.List.Elements.{All-set, All-push}
 use Rattle.std.proofs.lemmas.Grind.{get_or-set_at}
@@ -16,11 +16,12 @@ use Rattle.kp_machine.specs.Slots.{targets_of}
 use Rattle.kp_sched.specs.Rows.{bit_of, rows_seen}
 use Rattle.kp_sched.specs.Runs.{passes}
 use Rattle.kp_seq.specs.Running.{Running, state}
+use Rattle.kp_seq.specs.Told.{told_of}
 use Rattle.kp_stage.specs.Start.{start_of}
 use Rattle.kp_stage.specs.declared.start.Start.{Start}
 use Rattle.kp_run.specs.Homes.{home_of, AreHomes}
 use Rattle.kp_run.proofs.Machines.{homes_within, default}
-use Rattle.kp_watch.specs.inner.Machines.{ran, HaveRun, HaveRunFirst, due_by}
+use Rattle.kp_watch.specs.inner.Machines.{ran, IsHome, AreNeeded, HasRun, HaveRun, HaveRunFirst, due_by}
 use Rattle.kp_watch.proofs.Prefixes.{passed_next}
 use Rattle.std.specs.Prelude.{is_some}
 
@@ -57,14 +58,25 @@ pub have_begun : (job : Job) (values : ℕ → ℕ → ℕ) (rows : List Row) (m
 have_begun job values rows machines many opened = record {
   count = many;
   jobs = opened.jobs;
-  states = λ k d h. opened.starts k d h ∙ starts_are job values ∙ ap (sequential job values) (sym (none_ran job.stages.value rows k));
+  each = λ k d h home. record {
+    state_is = opened.starts k d h ∙ starts_are job values ∙ ap (sequential job values) (sym (none_ran job.stages.value rows k));
+    last_is = λ j e. let none = none_ran job.stages.value rows k in absurd (omega (arith, e, none));
+  };
 }
 
 -- ---- one machine
 
-next_is : (job : Job) (values : ℕ → ℕ → ℕ) (i : ℕ) → exec (machine_of job) (sequential job values i) (values i) ≡ sequential job values (suc i)
+pub next_is : (job : Job) (values : ℕ → ℕ → ℕ) (i : ℕ) → exec (machine_of job) (sequential job values i) (values i) ≡ sequential job values (suc i)
 unfolding seq
 next_is job values i = refl
+
+-- one instruction more
+moved_on : (job : Job) (values : ℕ → ℕ → ℕ) (i : ℕ) (m new : Running) → m.job ≡ job → HasRun job values i m → state new ≡ exec (machine_of m.job) (state m) (values i)
+    → new.last ≡ told_of m.job (state m) (values i) → HasRun job values (suc i) new
+moved_on job values i m new same run stepped told = record {
+  state_is = stepped ∙ (λ k. exec (machine_of (same k)) (run.state_is k) (values i)) ∙ next_is job values i;
+  last_is = λ j e. let at : i ≡ j = omega (arith, e) in told ∙ (λ k. told_of (same k) (run.state_is k) (values i)) ∙ ap (λ (l : ℕ). told_of job (sequential job values l) (values l)) at;
+}
 
 -- ---- the machines of the first stages have executed one row more
 
@@ -75,21 +87,25 @@ module _ (job : Job) (values : ℕ → ℕ → ℕ) (rows : List masks.Row) (T :
   abbrev seen : List Row
   seen = rows_seen n rows
 
-  abbrev after : ℕ → ℕ → State
-  after i j = sequential job values (ran n seen i j)
+  -- how many instructions machine j has executed after i rows
+  abbrev after : ℕ → ℕ → ℕ
+  after i j = ran n seen i j
+
+  abbrev Is : Running → ℕ → Type 0
+  Is m i = HasRun job values i m
 
   pub first_begin : (machines : List Running) → HaveRun job values seen T machines → HaveRunFirst job values seen T 0 machines
   first_begin machines run = record {
     count = run.count;
     jobs = run.jobs;
-    states = λ j d h. run.states j d h ∙ ap (λ (b : Bool). after (if b then T + 1 else T) j) (sym (le-ltb j 0 (let e : 0 ≤ j = omega arith in e)));
+    each = λ j d h home. subst (Is (get_or machines j d)) (ap (λ (b : Bool). after (if b then T + 1 else T) j) (sym (le-ltb j 0 (let e : 0 ≤ j = omega arith in e)))) (run.each j d h home);
   }
 
   pub first_end : (machines : List Running) → HaveRunFirst job values seen T n machines → HaveRun job values seen (T + 1) machines
   first_end machines run = record {
     count = run.count;
     jobs = run.jobs;
-    states = λ j d h. run.states j d h ∙ go j (nat_lt j n) refl;
+    each = λ j d h home. subst (Is (get_or machines j d)) (go j (nat_lt j n) refl) (run.each j d h home);
   }
     where
       go : (j : ℕ) (b : Bool) → nat_lt j n ≡ b → after (if nat_lt j n then T + 1 else T) j ≡ after (T + 1) j
@@ -122,11 +138,12 @@ module _ (job : Job) (values : ℕ → ℕ → ℕ) (rows : List masks.Row) (T :
 
   pub first_moves : (k i : ℕ) (machines : List Running) (m new d : Running) (r : masks.Row) → HaveRunFirst job values seen T k machines → k < n → T < length rows
       → bit (bits (bit_of (get_or rows T r).ue) n 0) k ≡ true → i ≡ passed seen k T → m ≡ get_or machines k d
-      → new.job ≡ m.job → state new ≡ exec (machine_of m.job) (state m) (values i) → HaveRunFirst job values seen T (k + 1) (set machines k new)
-  first_moves k i machines m new d r run low there moves count is same stepped = record {
+      → new.job ≡ m.job → state new ≡ exec (machine_of m.job) (state m) (values i) → new.last ≡ told_of m.job (state m) (values i)
+      → HaveRunFirst job values seen T (k + 1) (set machines k new)
+  first_moves k i machines m new d r run low there moves count is same stepped told = record {
     count = length-set machines k new ∙ run.count;
     jobs = All-set (λ m. m.job ≡ job) machines k new (same ∙ of_job) run.jobs;
-    states = λ j e h. go j e (omega (arith, h, length-set machines k new)) (nat_lt j k) (nat_lt k j) refl refl;
+    each = λ j e h home. go j e home (omega (arith, h, length-set machines k new)) (nat_lt j k) (nat_lt k j) refl refl;
   }
     where
       in_list : k < length machines
@@ -135,58 +152,65 @@ module _ (job : Job) (values : ℕ → ℕ → ℕ) (rows : List masks.Row) (T :
       of_job : m.job ≡ job
       of_job = ap (λ (x : Running). x.job) is ∙ run.jobs k d in_list
 
-      begins : state m ≡ after T k
-      begins = ap state is ∙ run.states k d in_list ∙ before k
-
       ran_is : ran n seen T k ≡ i
       ran_is = rw (lt-ltb k n low) (sym count)
 
-      moved : state new ≡ after (T + 1) k
-      moved =
-          stepped
-          ∙ ap (λ (x : Job). exec (machine_of x) (state m) (values i)) of_job
-          ∙ ap (λ (s : State). exec (machine_of job) s (values i)) (begins ∙ ap (sequential job values) ran_is)
-          ∙ next_is job values i
-          ∙ ap (sequential job values) (let e = counted k r true low there moves in omega (arith, e, ran_is))
+      begins : IsHome job k → HasRun job values i m
+      begins home = subst (λ (x : Running). Is x i) (sym is) (subst (Is (get_or machines k d)) (before k ∙ ran_is) (run.each k d in_list home))
 
-      other : (j : ℕ) (e : Running) → j < length machines → j ≢ k → state (get_or (set machines k new) j e) ≡ after (if nat_lt j (k + 1) then T + 1 else T) j
-      other j e h apart = ap state (get_or-set_other machines k j new e apart) ∙ run.states j e h ∙ others k j apart
+      moved : IsHome job k → Is new (after (T + 1) k)
+      moved home = subst (Is new) (let e = counted k r true low there moves in omega (arith, e, ran_is)) (moved_on job values i m new of_job (begins home) stepped told)
 
-      go : (j : ℕ) (e : Running) → j < length machines → (b c : Bool) → nat_lt j k ≡ b → nat_lt k j ≡ c
-          → state (get_or (set machines k new) j e) ≡ after (if nat_lt j (k + 1) then T + 1 else T) j
-      go j e h true c is_low f = let below : j < k = ltb-true j k is_low in other j e h (λ z. omega (arith, below, z))
-      go j e h false true is_low is_high = let above : k < j = ltb-true k j is_high in other j e h (λ z. omega (arith, above, z))
-      go j e h false false is_low is_high =
+      other : (j : ℕ) (e : Running) → IsHome job j → j < length machines → j ≢ k → Is (get_or (set machines k new) j e) (after (if nat_lt j (k + 1) then T + 1 else T) j)
+      other j e home h apart = subst (λ (x : Running). Is x (after (if nat_lt j (k + 1) then T + 1 else T) j)) (sym (get_or-set_other machines k j new e apart))
+          (subst (Is (get_or machines j e)) (others k j apart) (run.each j e h home))
+
+      go : (j : ℕ) (e : Running) → IsHome job j → j < length machines → (b c : Bool) → nat_lt j k ≡ b → nat_lt k j ≡ c
+          → Is (get_or (set machines k new) j e) (after (if nat_lt j (k + 1) then T + 1 else T) j)
+      go j e home h true c is_low f = let below : j < k = ltb-true j k is_low in other j e home h (λ z. omega (arith, below, z))
+      go j e home h false true is_low is_high = let above : k < j = ltb-true k j is_high in other j e home h (λ z. omega (arith, above, z))
+      go j e home h false false is_low is_high =
           let at_least : k ≤ j = ltb-false j k is_low in
           let at_most : j ≤ k = ltb-false k j is_high in
           let at : j ≡ k = omega (arith, at_least, at_most) in
-          ap state (get_or-set_at machines k j new e at in_list)
-          ∙ moved ∙ sym (this k)
-          ∙ ap (λ (l : ℕ). after (if nat_lt l (k + 1) then T + 1 else T) l) (sym at)
+          subst (λ (x : Running). Is x (after (if nat_lt j (k + 1) then T + 1 else T) j)) (sym (get_or-set_at machines k j new e at in_list))
+          (subst (Is new) (sym (this k) ∙ ap (λ (l : ℕ). after (if nat_lt l (k + 1) then T + 1 else T) l) (sym at)) (moved (subst (IsHome job) at home)))
 
-  pub first_stays : (k : ℕ) (machines : List Running) (r : masks.Row) → HaveRunFirst job values seen T k machines → k < n → T < length rows
-      → bit (bits (bit_of (get_or rows T r).ue) n 0) k ≡ false → HaveRunFirst job values seen T (k + 1) machines
-  first_stays k machines r run low there rests = record {
+  -- no machine executes an instruction: the stage doesn't update, or no target needs machine k
+  pub first_stays : (k : ℕ) (machines : List Running) → HaveRunFirst job values seen T k machines → (IsHome job k → after T k ≡ after (T + 1) k)
+      → HaveRunFirst job values seen T (k + 1) machines
+  first_stays k machines run still = record {
     count = run.count;
     jobs = run.jobs;
-    states = λ j e h. go j e h (nat_lt j k) (nat_lt k j) refl refl;
+    each = λ j e h home. subst (Is (get_or machines j e)) (go j home (nat_lt j k) (nat_lt k j) refl refl) (run.each j e h home);
   }
     where
-      still : after T k ≡ after (T + 1) k
-      still = ap (sequential job values) (let e = counted k r false low there rests in omega (arith, e))
-
-      go : (j : ℕ) (e : Running) → j < length machines → (b c : Bool) → nat_lt j k ≡ b → nat_lt k j ≡ c
-          → state (get_or machines j e) ≡ after (if nat_lt j (k + 1) then T + 1 else T) j
-      go j e h true c is_low f = let below : j < k = ltb-true j k is_low in run.states j e h ∙ others k j (λ z. omega (arith, below, z))
-      go j e h false true is_low is_high = let above : k < j = ltb-true k j is_high in run.states j e h ∙ others k j (λ z. omega (arith, above, z))
-      go j e h false false is_low is_high =
+      go : (j : ℕ) → IsHome job j → (b c : Bool) → nat_lt j k ≡ b → nat_lt k j ≡ c
+          → after (if nat_lt j k then T + 1 else T) j ≡ after (if nat_lt j (k + 1) then T + 1 else T) j
+      go j home true c is_low f = let below : j < k = ltb-true j k is_low in others k j (λ z. omega (arith, below, z))
+      go j home false true is_low is_high = let above : k < j = ltb-true k j is_high in others k j (λ z. omega (arith, above, z))
+      go j home false false is_low is_high =
           let at_least : k ≤ j = ltb-false j k is_low in
           let at_most : j ≤ k = ltb-false k j is_high in
           let at : j ≡ k = omega (arith, at_least, at_most) in
-          run.states j e h
-          ∙ ap (λ (l : ℕ). after (if nat_lt l k then T + 1 else T) l) at
-          ∙ before k ∙ still ∙ sym (this k)
+          ap (λ (l : ℕ). after (if nat_lt l k then T + 1 else T) l) at
+          ∙ before k ∙ still (subst (IsHome job) at home) ∙ sym (this k)
           ∙ ap (λ (l : ℕ). after (if nat_lt l (k + 1) then T + 1 else T) l) (sym at)
+
+  still_rests : (k : ℕ) (r : masks.Row) → k < n → T < length rows → bit (bits (bit_of (get_or rows T r).ue) n 0) k ≡ false → after T k ≡ after (T + 1) k
+  still_rests k r low there rests = let e = counted k r false low there rests in omega (arith, e)
+
+  -- the marks say that no target needs it
+  still_idle : (needed : List Bool) (k : ℕ) → AreNeeded job needed → get_or needed k false ≡ false → IsHome job k → after T k ≡ after (T + 1) k
+  still_idle needed k are idle home = absurd (both_ways _ idle (ap (λ (j : ℕ). get_or needed j false) (sym home.2) ∙ are.1 home.0 home.1))
+
+  pub still : (needed : List Bool) (k : ℕ) (r : masks.Row) → AreNeeded job needed → k < n → T < length rows
+      → (get_or needed k false && bit (bits (bit_of (get_or rows T r).ue) n 0) k) ≡ false → IsHome job k → after T k ≡ after (T + 1) k
+  still needed k r are low there rests home = go (get_or needed k false) refl rests
+    where
+      go : (b : Bool) → get_or needed k false ≡ b → (b && bit (bits (bit_of (get_or rows T r).ue) n 0) k) ≡ false → after T k ≡ after (T + 1) k
+      go true e off = still_rests k r low there off
+      go false e off = still_idle needed k are e home
 
 -- ---- the values of the machines
 
@@ -215,12 +239,13 @@ module _ (job : Job) (acc : Accepted (machine_of job)) (rows : List Row) (T : �
   unfolding home_of passes machine_of
   home_ran t = ran_by (is_some (result_for job t)) (write_stage_of (result_for job t)) (acc.writes t)
 
-  pub due_at : (values : ℕ → ℕ → ℕ) (machines : List Running) → HaveRun job values rows T machines → (t a : ℕ) → due_by job machines t a ≡ sequential job values (passes job rows T t) t a
-  due_at values machines run t a = go machines refl
+  pub due_at : (values : ℕ → ℕ → ℕ) (machines : List Running) → HaveRun job values rows T machines → (t a : ℕ) → t < length (targets_of job.decls)
+      → due_by job machines t a ≡ sequential job values (passes job rows T t) t a
+  due_at values machines run t a there = go machines refl
     where
       go : (ms : List Running) → machines ≡ ms → due_by job machines t a ≡ sequential job values (passes job rows T t) t a
       go [] none = absurd (let many = run.count in let e : length machines ≡ 0 = ap (λ (l : List Running). length l) none in omega (arith, many, e))
       go (d ∷ ms) some =
           let within : home_of job t < length machines = omega (arith, homes_within job acc t, run.count) in
-          ap (λ (s : State). s t a) (get_or-map state machines (home_of job t) d (λ s a. 0) within ∙ run.states (home_of job t) d within)
+          ap (λ (s : State). s t a) (get_or-map state machines (home_of job t) d (λ s a. 0) within ∙ (run.each (home_of job t) d within (t, there, refl)).state_is)
           ∙ ap (λ (i : ℕ). sequential job values i t a) (home_ran t)

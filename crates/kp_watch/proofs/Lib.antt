@@ -2,4 +2,6 @@ pub mod Prefixes
 pub mod Lanes
 pub mod Placing
 pub mod Comparing
+pub mod Kept
+pub mod Targets
 pub mod Whole

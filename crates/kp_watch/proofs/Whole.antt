@@ -1,6 +1,5 @@
 -- From the states of a run to the complete run.
 use Rattle.std.proofs.Common.{◌≡◌, ◌∙◌, ℕ, ◌+◌, ◌<◌, ◌≤◌, List, [], length, Bool, true, false, Option, Some, None, refl, ap, sym, subst, arith}
-use Rattle.std.proofs.Math.Path.{fun_ext}
 use Rattle.std.specs.Prelude.{nat_lt}
 use Rattle.std.proofs.lemmas.Bool.{ltb-true, ltb-false}
 use Rattle.kp_base.specs.declared.row.Row as masks
@@ -18,24 +17,41 @@ use Rattle.kp_sched.specs.Runs.{passes, due_value}
 use Rattle.kp_sched.proofs.Counting.{seen_length}
 use Rattle.kp_seq.specs.Running.{Running, HasWord, target}
 use Rattle.kp_synth_spec.specs.Naming.{value_shown}
+use Rattle.kp_synth_spec.specs.Shows.{IsOfJob}
 use Rattle.kp_synth_spec.specs.Traces.{trace_of}
 use Rattle.kp_run.specs.Columns.{Taken, AreColumns}
 use Rattle.kp_run.specs.Cycles.{inputs_to}
 use Rattle.kp_run.proofs.Gathering.{taken_is}
 use Rattle.kp_watch.specs.Watching.{own_trace, own_due, Agrees, IsFirstDifference}
 use Rattle.kp_watch.specs.declared.compare.Difference.{Difference}
-use Rattle.kp_watch.specs.inner.Beside.{IsTold, Answers}
+use Rattle.kp_watch.specs.declared.beside.Beside.{Beside}
+use Rattle.kp_watch.specs.declared.compare.Tables.{Tables}
+use Rattle.kp_watch.specs.inner.Beside.{IsTold, AreTables, HaveCome}
+use Rattle.kp_watch.specs.inner.Changes.{AreNoted, AgreeElsewhere, IsComparable, noted_at}
+use Rattle.kp_watch.specs.inner.Places.{place_in, places_in}
 use Rattle.kp_watch.specs.inner.Comparing.{IsFirstIn, Compares}
 use Rattle.kp_watch.specs.inner.Machines.{given, HaveRun, due_by}
+use Rattle.kp_watch.proofs.Kept.{value_kept, told_there, due_kept}
 use Rattle.kp_watch.proofs.Lanes.{due_at}
 use Rattle.kp_watch.proofs.Prefixes.{state_is, rows_many}
 
 abbrev State : Type 0
 State = ℕ → ℕ → ℕ
 
-compares_alike : (job : Job) (shown owed a b : State) (T : ℕ) (result : Option Difference) → shown ≡ a → owed ≡ b → Compares job shown owed T result → Compares job a b T result
-compares_alike job shown owed a b T result e f compares =
-    subst (λ (s : State). Compares job a s T result) f (subst (λ (s : State). Compares job s owed T result) e compares)
+-- states with the same words
+abbrev SameWords : Job → State → State → Type 0
+SameWords job s r = (t a : ℕ) → HasWord job t a → s t a ≡ r t a
+
+compares_alike : (job : Job) (shown owed a b : State) (T : ℕ) (result : Option Difference) → SameWords job shown a → SameWords job owed b → Compares job shown owed T result → Compares job a b T result
+compares_alike job shown owed a b T None e f agree = λ s c there. sym (e s c there) ∙ agree s c there ∙ f s c there
+compares_alike job shown owed a b T (Some d) e f first = record {
+  cycle_is = first.cycle_is;
+  there = first.there;
+  differs = λ z. first.differs (e d.target d.address first.there ∙ z ∙ sym (f d.target d.address first.there));
+  before = λ s c there low. sym (e s c there) ∙ first.before s c there low ∙ f s c there;
+  found_is = first.found_is ∙ ap (word (target job d.target).width) (e d.target d.address first.there);
+  due_is = first.due_is ∙ ap (word (target job d.target).width) (f d.target d.address first.there);
+}
 
 module _ (job : Job) (net : Net) (n : ℕ) where
   abbrev seen : List law.Row
@@ -58,12 +74,16 @@ module _ (job : Job) (net : Net) (n : ℕ) where
         ∙ ap (λ (l : List masks.Row). taken (machine_of job) (inputs_from job 0 (length (rows_seen job.stages.value l))) (rows_seen job.stages.value l)) is
         ∙ ap (λ (m : ℕ). taken (machine_of job) (inputs_from job 0 m) seen) cycles
 
-    due_is : (T : ℕ) (machines : List Running) → HaveRun job (given columns) (rows_seen job.stages.value rows) T machines → due_by job machines ≡ own_due job net n T
+    -- the specified value, in the rows at hand
+    due_here : (T t a : ℕ) → sequential job (given columns) (passes job (rows_seen job.stages.value rows) T t) t a ≡ own_due job net n T t a
     unfolding due_value trace_of
-    due_is T machines have = fun_ext (λ t. fun_ext (λ a.
-        due_at job acc (rows_seen job.stages.value rows) T (given columns) machines have t a
-        ∙ ap (λ (l : List masks.Row). sequential job (given columns) (passes job (rows_seen job.stages.value l) T t) t a) is
-        ∙ ap (λ (g : ℕ → ℕ → ℕ). sequential job g (passes job seen T t) t a) values_are))
+    due_here T t a =
+        ap (λ (l : List masks.Row). sequential job (given columns) (passes job (rows_seen job.stages.value l) T t) t a) is
+        ∙ ap (λ (g : ℕ → ℕ → ℕ). sequential job g (passes job seen T t) t a) values_are
+
+    due_is : (T : ℕ) (machines : List Running) → HaveRun job (given columns) (rows_seen job.stages.value rows) T machines → (t a : ℕ) → HasWord job t a
+        → due_by job machines t a ≡ own_due job net n T t a
+    due_is T machines have t a there = due_at job acc (rows_seen job.stages.value rows) T (given columns) machines have t a there.target ∙ due_here T t a
 
     -- a comparison of one state is one of that state of the run
     pub compares_own : (T : ℕ) (sim : Simulated) (machines have_run : List Running) (result : Option Difference) → T ≤ n
@@ -73,7 +93,41 @@ module _ (job : Job) (net : Net) (n : ℕ) where
         → Compares job ((own_trace job net n).visible T) (own_due job net n T) T result
     compares_own T sim machines have_run result h at same have =
         compares_alike job (value_shown job sim.net sim.state) (due_by job machines) ((own_trace job net n).visible T) (own_due job net n T) T result
-        (ap (λ (s : Simulated). value_shown job s.net s.state) at ∙ shown_is T h) (ap (due_by job) same ∙ due_is T have_run have)
+        (λ t a there. ap (λ (s : Simulated). value_shown job s.net s.state t a) at ∙ ap (λ (f : State). f t a) (shown_is T h))
+        (λ t a there. ap (λ (ms : List Running). due_by job ms t a) same ∙ due_is T have_run have t a there)
+
+    -- what was not written in cycle T agrees after it, if all words agree before it
+    pub elsewhere : (T : ℕ) (tables : Tables) (both : Beside) → IsOfJob net job → T < n → tables.columns.items ≡ columns → HaveCome job net rows tables (T + 1) both
+        → AreNoted job net T both.written.items → ((t a : ℕ) → HasWord job t a → (own_trace job net n).visible T t a ≡ own_due job net n T t a) → AgreeElsewhere job both
+    elsewhere T tables both of_job low of_columns come noted agreed t a there not_noted not_wrote =
+        let upto : T ≤ n = omega (arith, low) in
+        let before : T < length rows = omega (arith, low, ap (λ (l : List masks.Row). length l) is, rows_many job net n) in
+        let run = subst (λ (cs : List Taken). HaveRun job (given cs) (rows_seen job.stages.value rows) (T + 1) both.machines.items) of_columns come.machines in
+        let same_net : both.sim.net ≡ net = ap (λ (s : Simulated). s.net) come.sim in
+        ap (λ (s : Simulated). value_shown job s.net s.state t a) come.sim
+        ∙ value_kept job net of_job T both.written.items noted t a there (λ z. not_noted (ap (λ (m : Net). noted_at both.written.items (place_in m (target job t))) same_net ∙ z))
+        ∙ ap (λ (f : State). f t a) (shown_is T upto)
+        ∙ agreed t a there
+        ∙ sym (due_here T t a)
+        ∙ sym (due_kept job acc (given columns) rows T both.machines.items both.monitor t run come.stages come.seen before there.target a not_wrote)
+        ∙ sym (due_at job acc (rows_seen job.stages.value rows) (T + 1) (given columns) both.machines.items run t a there.target)
+
+    pub comparable : (T : ℕ) (tables : Tables) (both : Beside) → IsOfJob net job → AreTables job net rows tables → tables.columns.items ≡ columns → T < n → HaveCome job net rows tables (T + 1) both
+        → AreNoted job net T both.written.items → ((t a : ℕ) → HasWord job t a → (own_trace job net n).visible T t a ≡ own_due job net n T t a) → IsComparable job tables both
+    comparable T tables both of_job tabled of_columns low come noted agreed =
+        let same_net : net ≡ both.sim.net = sym (ap (λ (s : Simulated). s.net) come.sim) in
+        let before : T < length rows = omega (arith, low, ap (λ (l : List masks.Row). length l) is, rows_many job net n) in
+        record {
+          of_job = subst (λ (m : Net). IsOfJob m job) same_net of_job;
+          places = tabled.places ∙ ap (places_in job) same_net;
+          homes = tabled.homes;
+          results = tabled.results;
+          count = come.machines.count;
+          jobs = come.machines.jobs;
+          noted = come.noted ∙ ap (λ (m : Net). length m.parts.files) same_net;
+          told = λ t within. told_there job acc (given tables.columns.items) rows T both.machines.items both.monitor t come.machines come.stages come.seen before within;
+          elsewhere = elsewhere T tables both of_job low of_columns come noted agreed;
+        }
 
   -- ---- all states
 
@@ -105,10 +159,6 @@ module _ (job : Job) (net : Net) (n : ℕ) where
     subst (λ (c : ℕ). d.due ≡ word (target job d.target).width (own_due job net n c d.target d.address)) (sym first.cycle_is) first.due_is,
   )
 
-  agrees : AgreeTo (n + 1) → Agrees job net n
+  pub agrees : AgreeTo (n + 1) → Agrees job net n
   unfolding trace_of
   agrees agreed T t a h there = agreed T t a (omega (arith, h, cycles)) there
-
-  pub answers : (result : Option Difference) → AgreeTo n → Compares job ((own_trace job net n).visible n) (own_due job net n n) n result → Answers job net n result
-  answers None agreed last = agrees (agree_more n agreed last)
-  answers (Some d) agreed last = is_told n d (let h : n ≤ n = omega arith in h) agreed last

@@ -1,5 +1,5 @@
 // The words of a netlist, compared with those of the machines of its job.
-ghost use Rattle.std.specs.Prelude.{◌≡◌, ◌+◌, ◌<◌, length};
+ghost use Rattle.std.specs.Prelude.{◌≡◌, ◌+◌, ◌<◌, length, Some};
 ghost use Rattle.std.specs.List.{All};
 ghost use Rattle.kp_bits.specs.Word.{word};
 ghost use Rattle.kp_machine.specs.Slots.{targets_of};
@@ -7,7 +7,7 @@ ghost use Rattle.kp_run.specs.Homes.{AreHomes};
 ghost use Rattle.kp_seq.specs.Running.{HasWord, state, target};
 ghost use Rattle.kp_synth_spec.specs.Naming.{value_shown};
 ghost use Rattle.kp_synth_spec.specs.Shows.{IsOfJob};
-ghost use Rattle.kp_watch.specs.inner.Comparing.{Compares, ComparesTarget};
+ghost use Rattle.kp_watch.specs.inner.Comparing.{Compares, ComparesTarget, ComparesWord};
 ghost use Rattle.kp_watch.specs.inner.Machines.{due_by};
 ghost use Rattle.kp_watch.specs.inner.Places.{place_in, places_in, words_at};
 
@@ -33,13 +33,15 @@ pub struct Difference {
     pub due: Bits,
 }
 
-/// What is known of a run before it starts: for each target its register or file in the netlist and the machine that has its value, and for each
-/// sample the values that instructions read.
+/// What is known of a run before it starts: for each target its register or file in the netlist, the machine that has its value, and its result; for
+/// each machine whether it has the value of a target; and for each sample the values that instructions read.
 #[derive(Drop)]
 pub(crate) struct Tables {
     pub places: Vec<Place>,
     pub homes: Vec<u8>,
     pub columns: Vec<Column>,
+    pub results: Vec<u32>,
+    pub needed: Vec<bool>,
 }
 
 /// The first word, by target and address, in which a netlist and the machines of its job differ after `cycle` cycles.
@@ -82,19 +84,40 @@ fn difference_at(
     ensures { ComparesTarget machine.now.job (value_shown machine.now.job sim.now.net sim.now.state t) (state machine.now t) cycle t result }
 {
     for address in 0..place.words() {
-        let found = shown(sim, machine, t, place, address);
-        let due = machine.value(t, address);
-        if found.value() != due.value() {
-            return Some(Difference {
-                cycle,
-                target: t,
-                address,
-                found,
-                due,
-            });
+        if let Some(difference) = difference_of(sim, machine, t, place, address, cycle) {
+            return Some(difference);
         }
     }
     None
+}
+
+/// The difference between a netlist and a machine in a target at an address.
+pub(crate) fn difference_of(
+    sim: &Sim<'_>,
+    machine: &SeqMachine<'_>,
+    t: u32,
+    place: Place,
+    address: u32,
+    cycle: u32,
+) -> Option<Difference>
+    requires of_job { IsOfJob sim.now.net machine.now.job }
+    requires target { t < length (targets_of machine.now.job.decls) }
+    requires place { place ≡ place_in sim.now.net (target machine.now.job t) }
+    requires address { address < words_at place }
+    ensures { ComparesWord machine.now.job (value_shown machine.now.job sim.now.net sim.now.state t) (state machine.now t) cycle t (Some address) result }
+{
+    let found = shown(sim, machine, t, place, address);
+    let due = machine.value(t, address);
+    if found.value() == due.value() {
+        return None;
+    }
+    Some(Difference {
+        cycle,
+        target: t,
+        address,
+        found,
+        due,
+    })
 }
 
 // The value of a target of the machine's job in a netlist.

@@ -10,6 +10,7 @@ ghost use Rattle.kp_watch.specs.Watching.{own_trace, own_due, Agrees, IsFirstDif
 ghost use Rattle.kp_watch.specs.inner.Beside.{AreTables, HaveCome, Answers};
 
 use crate::beside::{Beside, tables_of};
+use crate::changes::difference_after;
 use crate::compare::{Difference, Tables, difference_in};
 use kp_base::{NoMemory, Row};
 use kp_frontend::Accepted;
@@ -19,8 +20,9 @@ use kp_run::Board;
 use std::alloc::Global;
 
 /// The first difference between the values of a netlist in its run over `count` cycles, under the stall words and the samples of a job, and those of
-/// the sequential machine of the job. The board is that of the same run. All registers and all words of files are compared in each state, from the
-/// one before the first cycle to the one after the last. All memory is allocated before the first cycle; the only error is out of memory.
+/// the sequential machine of the job. The board is that of the same run. All registers and all words of files are compared in the state before the
+/// first cycle, and all registers and the words that either side wrote in the state after each cycle. All memory is allocated before the first
+/// cycle; the only error is out of memory.
 pub fn first_difference(
     alloc: Global,
     job: &Accepted,
@@ -43,7 +45,8 @@ pub fn first_difference(
     Ok(compare(job, rows, &tables, &mut both, count))
 }
 
-// Compares both in each state of `count` cycles.
+// Compares both in each state of `count` cycles: in the first one all words, and after each cycle those that were written, since all others are as
+// they were.
 fn compare(
     job: &Accepted,
     rows: &[Row],
@@ -60,12 +63,15 @@ fn compare(
     // The invariant of the type, for the proof only.
     let _kept = job.design.job();
     a_design_is_accepted(&job.design);
+    let machines = both.machines.as_slice();
+    if let Some(difference) = difference_in(job, tables, &both.sim, machines, 0) {
+        return Some(difference);
+    }
     for cycle in 0..count {
-        let machines = both.machines.as_slice();
-        if let Some(difference) = difference_in(job, tables, &both.sim, machines, cycle) {
+        both.step(job, rows, tables, cycle);
+        if let Some(difference) = difference_after(job, tables, both, cycle + 1) {
             return Some(difference);
         }
-        both.step(job, rows, tables, cycle);
     }
-    difference_in(job, tables, &both.sim, both.machines.as_slice(), count)
+    None
 }

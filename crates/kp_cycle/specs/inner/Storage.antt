@@ -63,6 +63,11 @@ abbrev pub port_from : Option WritePort → List ℕ → List ℕ → List ℕ
 port_from None values words = words
 port_from (Some p) values words = if get_or values p.enable.0 0 == 1 then set words (get_or values p.address.0 0) (get_or values p.value.0 0) else words
 
+-- the address that a port writes, from the values of nodes
+abbrev pub port_noted : Option WritePort → List ℕ → Option ℕ
+port_noted None values = None
+port_noted (Some p) values = if get_or values p.enable.0 0 == 1 then Some (get_or values p.address.0 0) else None
+
 -- all that a port names is stored, and its address is one of the file's
 abbrev pub PortReady : Stored → ℕ → Option WritePort → Type 0
 PortReady m f None = Unit {0}

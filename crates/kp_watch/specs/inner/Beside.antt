@@ -14,14 +14,17 @@ use Rattle.kp_watch.specs.Watching.{own_trace, own_due, Agrees, IsFirstDifferenc
 use Rattle.kp_watch.specs.declared.compare.Difference.{Difference}
 use Rattle.kp_watch.specs.declared.compare.Tables.{Tables}
 use Rattle.kp_watch.specs.declared.beside.Beside.{Beside}
-use Rattle.kp_watch.specs.inner.Machines.{given, HaveRun}
+use Rattle.kp_watch.specs.inner.Machines.{given, HaveRun, AreNeeded}
 use Rattle.kp_watch.specs.inner.Places.{places_in}
+use Rattle.kp_watch.specs.inner.Results.{AreResults}
 
 -- what stays the same in all cycles
 pub record AreTables (job : Job) (net : Net) (rows : List Row) (tables : Tables) : Type 0 where
   pub places : tables.places.items ≡ places_in job net
   pub homes : AreHomes job tables.homes.items
   pub columns : AreColumns job rows tables.columns.items
+  pub results : AreResults job tables.results.items
+  pub needed : AreNeeded job tables.needed.items
 
 -- both have run the first T cycles of these rows
 pub record HaveCome (job : Job) (net : Net) (rows : List Row) (tables : Tables) (T : ℕ) (both : Beside) : Type 0 where
@@ -30,6 +33,7 @@ pub record HaveCome (job : Job) (net : Net) (rows : List Row) (tables : Tables) 
   pub stages : both.monitor.stages ≡ job.stages.value
   pub seen : HasSeen both.monitor (take T rows)
   pub room : length both.room.items ≡ length tables.columns.items
+  pub noted : length both.written.items ≡ length net.parts.files
 
 -- the difference that is returned for a run of n cycles
 abbrev pub IsTold : Job → Net → ℕ → Difference → Type 0

@@ -1,12 +1,14 @@
 -- The sequential machines that run in lockstep with a netlist.
-use Rattle.std.specs.Prelude.{◌≡◌, ℕ, ◌+◌, ◌<◌, List, length, get_or, map, nat_lt, if◌then◌else◌}
+use Rattle.std.specs.Prelude.{◌≡◌, ℕ, suc, ◌+◌, ◌<◌, List, length, get_or, map, nat_lt, if◌then◌else◌, true, false, Bool}
 use Rattle.std.specs.List.{All}
 use Rattle.kp_ast.specs.declared.tree.Job.{Job}
 use Rattle.kp_pipeline.specs.Rows.{Row, passed}
 use Rattle.kp_machine.specs.Machine.{sequential, values_in}
+use Rattle.kp_machine.specs.Slots.{targets_of}
 use Rattle.kp_run.specs.Columns.{Taken, row_taken}
 use Rattle.kp_run.specs.Homes.{home_of}
 use Rattle.kp_seq.specs.Running.{Running, state}
+use Rattle.kp_seq.specs.Told.{told_of}
 
 -- the sample values that instructions read
 abbrev pub given : List Taken → ℕ → ℕ → ℕ
@@ -17,18 +19,31 @@ given columns i = values_in (row_taken columns i)
 abbrev pub ran : ℕ → List Row → ℕ → ℕ → ℕ
 ran n rows T k = if nat_lt k n then passed rows k T else 0
 
--- The machines of a job after T of these rows.
+-- Machine k has the value of some target.
+abbrev pub IsHome : Job → ℕ → Type 0
+IsHome job k = (t : ℕ) × (t < length (targets_of job.decls)) × (home_of job t ≡ k)
+
+-- These marks say which machines have one.
+abbrev pub AreNeeded : Job → List Bool → Type 0
+AreNeeded job needed = (length needed ≡ job.stages.value + 1) × ((t : ℕ) → t < length (targets_of job.decls) → get_or needed (home_of job t) false ≡ true)
+
+-- A machine that has executed i instructions: its state, and its record of the last of them.
+pub record HasRun (job : Job) (values : ℕ → ℕ → ℕ) (i : ℕ) (m : Running) : Type 0 where
+  pub state_is : state m ≡ sequential job values i
+  pub last_is : (j : ℕ) → i ≡ suc j → m.last ≡ told_of job (sequential job values j) (values j)
+
+-- The machines of a job after T of these rows. Those that have the value of no target may be in any state.
 pub record HaveRun (job : Job) (values : ℕ → ℕ → ℕ) (rows : List Row) (T : ℕ) (machines : List Running) : Type 0 where
   pub count : length machines ≡ job.stages.value + 1
   pub jobs : All (λ m. m.job ≡ job) machines
-  pub states : (k : ℕ) (d : Running) → k < length machines → state (get_or machines k d) ≡ sequential job values (ran job.stages.value rows T k)
+  pub each : (k : ℕ) (d : Running) → k < length machines → IsHome job k → HasRun job values (ran job.stages.value rows T k) (get_or machines k d)
 
 -- The same if the first k of them have executed row T too.
 pub record HaveRunFirst (job : Job) (values : ℕ → ℕ → ℕ) (rows : List Row) (T k : ℕ) (machines : List Running) : Type 0 where
   pub count : length machines ≡ job.stages.value + 1
   pub jobs : All (λ m. m.job ≡ job) machines
-  pub states : (j : ℕ) (d : Running) → j < length machines
-      → state (get_or machines j d) ≡ sequential job values (ran job.stages.value rows (if nat_lt j k then T + 1 else T) j)
+  pub each : (j : ℕ) (d : Running) → j < length machines → IsHome job j
+      → HasRun job values (ran job.stages.value rows (if nat_lt j k then T + 1 else T) j) (get_or machines j d)
 
 -- The value of a target in the machines: that in the machine of the target.
 abbrev pub due_by : Job → List Running → ℕ → ℕ → ℕ

@@ -1,4 +1,4 @@
-use Rattle.std.proofs.Common.{◌≡◌, Bool, true, false, [], get_or, refl, ◌∙◌, sym, subst}
+use Rattle.std.proofs.Common.{◌≡◌, Bool, ℕ, List, true, false, [], ap, get_or, refl, ◌∙◌, sym, subst}
 use Rattle.kp_net.specs.Nodes.{at}
 use Rattle.kp_net.specs.Netlist.{Input, State, cells_of, resets, state_after}
 use Rattle.kp_net.specs.Parts.{no_file}
@@ -33,6 +33,21 @@ returns-clause-state c =
     (λ j is. is ∙ (λ i. at (cells_of (given (x i) false c.args.samples.now) (s i)) net.nodes j)) c.settle.ensures.known)
     (c.clock.ensures.regs off)
     (λ f l. c.clock.ensures.files off f l ∙ (λ i. port_from (get_or net.parts.files f no_file).port m1.nodes (get_or (ef i) f []))))
+
+pub returns-clause-nodes : goal.returns-clause-nodes
+returns-clause-nodes c =
+    let net = c.args.net.now in
+    let input : Input = given c.args.ext c.args.rst c.args.samples.now in
+    let m0 = c.args.memory.now in
+    let m1 = c.settle.new.memory in
+    let m2 = c.clock.new.memory in
+    let er : m1.regs ≡ m0.regs = c.settle.ensures.regs in
+    let ef : m1.files ≡ m0.files = c.settle.ensures.files in
+    let s : state_of m1 ≡ state_of m0 = λ i. record { regs = er i; files = ef i } in
+    let x : c.from.result ≡ c.args.ext = c.from.ensures in
+    let kept : m2.nodes ≡ m1.nodes = c.clock.ensures.nodes in
+    roots_are net (λ j. get_or m1.nodes j 0 ≡ at (cells_of (given c.from.result false c.args.samples.now) (state_of m1)) net.nodes j) (λ j. get_or m2.nodes j 0 ≡ at (cells_of input (state_of m0)) net.nodes j)
+    (λ j is. ap (λ (v : List ℕ). get_or v j 0) kept ∙ is ∙ (λ i. at (cells_of (given (x i) false c.args.samples.now) (s i)) net.nodes j)) c.settle.ensures.known
 
 pub returns-clause-widths : goal.returns-clause-widths
 returns-clause-widths c =

@@ -1,5 +1,6 @@
-use Rattle.std.proofs.Common.{◌∙◌, ◌≤◌, ap, sym, arith, length, List}
+use Rattle.std.proofs.Common.{◌≡◌, ◌∙◌, ◌≤◌, ap, sym, arith, length, List}
 use Rattle.kp_bits.specs.Word.{Word}
+use Rattle.kp_net.specs.declared.netlist.Parts.{Parts}
 use Rattle.kp_run.proofs.Given.{as_feeds, feeds_many}
 use Rattle.kp_run.proofs.Machines.{stages_fit}
 use Rattle.kp_sched.specs.Rows.{rows_seen}
@@ -22,6 +23,7 @@ returns c =
     let accepted = c.args.job.now in
     let job = accepted.design.job in
     let columns = c.args.tables.now.columns.items in
+    let files : length c.as_slice.result.now ≡ length c.args.net.now.parts.files = ap length (c.as_slice.ensures ∙ ap (λ (p : Parts). p.files) c.parts.ensures.parts) in
     record {
       sim = c.in_ok-sim.ensures;
       machines = c.in_ok-machines.ensures (given columns) (rows_seen job.stages.value c.args.rows.now);
@@ -32,4 +34,5 @@ returns c =
           ∙ as_feeds accepted.sections.inputs 0
           ∙ feeds_many job accepted.sections.inputs c.job.ensures.sound.names accepted.unbroken accepted.inputs
           ∙ sym c.requires.tables.columns.count;
+      noted = omega (arith, c.in_ok-written.ensures.len, c.in_ok-written.written.ok.0, files);
     }
