@@ -7,3 +7,6 @@ pub mod Readings
 pub mod Differences
 pub mod Outcomes
 pub mod Agreeing
+pub mod Heads
+pub mod Skips
+pub mod Together
