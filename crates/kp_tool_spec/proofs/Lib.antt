@@ -9,4 +9,7 @@ pub mod Outcomes
 pub mod Agreeing
 pub mod Heads
 pub mod Skips
+mod After
+mod OwnText
+mod Watches
 pub mod Together
