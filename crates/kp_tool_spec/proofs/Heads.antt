@@ -1,5 +1,5 @@
 -- A job and a text after it: the head of both is the job, if the job's text ends with a line feed.
-use Rattle.std.proofs.Common.{◌≡◌, ◌∙◌, ◌⊎◌, inl, inr, ℕ, zero, suc, ◌+◌, ◌<◌, ◌≤◌, ◌==◌, ◌&&◌, ◌||◌, Bool, true, false, not, cond, List, [], ◌∷◌, ◌++◌, length, take, drop, map, Result, Ok, Err, Some, None, refl, sym, ap, ap₂, subst, arith, append_assoc}
+use Rattle.std.proofs.Common.{◌≡◌, ◌∙◌, ◌⊎◌, inl, inr, ℕ, zero, suc, ◌+◌, ◌<◌, ◌≤◌, ◌==◌, ◌&&◌, ◌||◌, Bool, true, false, not, cond, List, [], ◌∷◌, ◌++◌, length, take, drop, Result, Ok, Err, Some, None, refl, sym, ap, ap₂, subst, arith, append_assoc}
 use Rattle.std.specs.Prelude.{nat_lt, ⊤, All}
 use Rattle.std.specs.declared.option.Option.{Option}
 use Rattle.std.proofs.lemmas.Bool.{cases_lt, ltb-true, ltb-false, lt-ltb}
@@ -23,11 +23,11 @@ use Rattle.kp_bits.specs.declared.literal.LiteralFault.{LiteralFault}
 use Rattle.kp_lex.specs.declared.token.Mark.{Mark}
 use Rattle.kp_lex.specs.declared.token.Mark.TheVariants as marks
 use Rattle.kp_lex.specs.Words.{keyword_of, single_mark, double_mark}
-use Rattle.kp_lex.specs.Text.{is_layout, begins_comment, gap_length, is_in_run, run_of, keyword_or_name, identifier, literal_or_broken, number_or_literal, number_run, mark_or_broken, mark, mark_or_shorter, token_of, front_of, token_at, is_end, Lexes, finish, skip, token, last, broken, HasOutcome, tail_of, StandsIn}
+use Rattle.kp_lex.specs.Text.{is_layout, gap_length, is_in_run, run_of, keyword_or_name, identifier, literal_or_broken, number_or_literal, number_run, mark_or_broken, mark, mark_or_shorter, token_of, front_of, token_at, is_end, Lexes, finish, skip, token, last, broken, tail_of, StandsIn}
 use Rattle.kp_lex.proofs.Fits.{Fits, fits_front, gap_within, token_fits}
 use Rattle.kp_lex.proofs.Stands.{tokens_stand}
-use Rattle.kp_parse_grammar.specs.Tokens.{Lexeme, lexeme_of, lexemes, spelled, kind_class, keyword_class, mark_class}
-use Rattle.kp_parse_grammar.specs.Language.{Way, dropped as drops, Step, State, Sym, NAME, NUM, no_decls, no_blocks, one_block, make_job, word, mark as mark_symbol, JOB, DECLS, STAGE, STAGES, IMAGE, STALLS, INPUTS, rules, language, at, job as job_value}
+use Rattle.kp_parse_grammar.specs.Tokens.{Lexeme, lexemes, spelled, kind_class, keyword_class, mark_class}
+use Rattle.kp_parse_grammar.specs.Language.{dropped as drops, State, Sym, NAME, NUM, no_decls, no_blocks, one_block, make_job, word, mark as mark_symbol, JOB, DECLS, STAGE, STAGES, IMAGE, STALLS, INPUTS, rules, language, at, job as job_value}
 use Rattle.kp_frontend.specs.Judging.{JudgesText, JudgesHeadText}
 use Rattle.kp_frontend.specs.Judging.JudgesText.{accepted}
 use Rattle.kp_frontend.specs.Judging.JudgesHeadText.{head_accepted}
