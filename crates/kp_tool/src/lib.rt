@@ -36,7 +36,7 @@ ghost use Rattle.kp_tool_report.specs.Texts.{refusal_line};
 ghost use Rattle.kp_tool_spec.specs.Saying.{Says};
 ghost use Rattle.kp_tool_spec.specs.Due.{Due, IsDue, IsFinal, Completes, Begins, Between};
 ghost use Rattle.kp_tool_spec.specs.Headline.{IsMoving, HasNoNeedlessStall, HasNoNeedlessStallFrom, IsVerilogWith, IsRunWith, IsDumpedWith, IsGeneratedWith, IsTimed, IsDebuggedWith, IsNetlistWith, IsPairAlike, IsImplementation, IsPairWith};
-ghost use Rattle.kp_tool_spec.specs.Agreeing.{IsSequential, IsChecked, IsFaulty, IsReadBack};
+ghost use Rattle.kp_tool_spec.specs.Agreeing.{IsSequential, IsChecked, IsFaulty, IsReadBack, IsWatched};
 ghost use Rattle.kp_tool_spec.specs.Refused.{Breaks};
 ghost use Rattle.kp_tool.specs.Ends.{Ends, EndsAt};
 ghost use Rattle.kp_tool.specs.inner.Failures.{end_status};
@@ -135,6 +135,9 @@ pub fn tool<S: Source, K: Sink>(alloc: Global, words: &[String], source: &mut S,
     // What `pipe` writes is written again by `read`, if it isn't too long.
     ensures pipe_is_read_back { command_of (map string_bytes words.now) ≡ Some (OnJob Pipe) → result ≡ 0
         → Between (S.left source.old) (S.left source.new) (K.held sink.old) (K.held sink.new) IsReadBack }
+    // After an input that ends with a line feed, `watch N` finds no difference in it, and writes what `sim N` writes for the input.
+    ensures pipe_is_watched { command_of (map string_bytes words.now) ≡ Some (OnJob Pipe) → result ≡ 0
+        → Between (S.left source.old) (S.left source.new) (K.held sink.old) (K.held sink.new) IsWatched }
 
     // What `timing N` writes with status 0 is the timeline of a job without guesses and samples, whose rows are those of the pipelined machine.
     ensures timing_has_the_rows_of_the_pipeline { (n : ℕ) → command_of (map string_bytes words.now) ≡ Some (OnJob (Timing n)) → result ≡ 0

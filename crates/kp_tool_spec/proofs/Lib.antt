@@ -7,3 +7,9 @@ pub mod Readings
 pub mod Differences
 pub mod Outcomes
 pub mod Agreeing
+pub mod Heads
+pub mod Skips
+mod After
+mod OwnText
+mod Watches
+pub mod Together

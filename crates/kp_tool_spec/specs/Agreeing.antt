@@ -1,5 +1,5 @@
 -- HOW THE COMMANDS AGREE: what the specified text of one command says about those of others.
-use Rattle.std.specs.Prelude.{◌≡◌, ◌≤◌, ℕ, true, List, length, None, Some, Ok}
+use Rattle.std.specs.Prelude.{◌≡◌, ◌≤◌, ◌++◌, ℕ, true, List, [], ◌∷◌, length, None, Some, Ok}
 use Rattle.kp_base.specs.declared.refusal.Refusal.{Refusal}
 use Rattle.kp_ast.specs.declared.tree.Job.{Job}
 use Rattle.kp_stage.specs.Counts.{summary_of}
@@ -9,9 +9,9 @@ use Rattle.kp_net.specs.Netlist.{Net}
 use Rattle.kp_sched.specs.Runs.{passes}
 use Rattle.kp_synth_spec.specs.Shows.{IsOfJob}
 use Rattle.kp_equiv.specs.Showing.{ShowsButName}
-use Rattle.kp_tool_words.specs.declared.words.Command.TheVariants.{OnJob, Read}
+use Rattle.kp_tool_words.specs.declared.words.Command.TheVariants.{OnJob, Read, Watch}
 use Rattle.kp_tool_words.specs.declared.words.JobCommand.{JobCommand}
-use Rattle.kp_tool_words.specs.declared.words.JobCommand.TheVariants.{Seq}
+use Rattle.kp_tool_words.specs.declared.words.JobCommand.TheVariants.{Seq, Sim}
 use Rattle.kp_frontend.specs.Judging.{Judges, JudgesHead, most_bytes}
 use Rattle.kp_watch.specs.Watching.{IsFirstDifference}
 use Rattle.kp_tool_report.specs.Texts.{accepted_line}
@@ -69,3 +69,10 @@ pub record IsFaulty (n : ℕ) (input text : List ℕ) : Type 0 where
 -- `pipe` AND `read`: of a text that isn't too long, `read` writes the same text.
 abbrev pub IsReadBack : List ℕ → List ℕ → Type 0
 IsReadBack input text = length text ≤ most_bytes → DueFor (Some Read) text 0 text
+
+-- `pipe`, `sim N` AND `watch N`. After an input that ends with a line feed, the text is a netlist in which `watch n` finds no difference, and `watch n`
+-- writes what `sim n` does. (After an `end` without a line feed, the first word of the text would continue this word.)
+abbrev pub IsWatched : List ℕ → List ℕ → Type 0
+IsWatched input text =
+    (front : List ℕ) (n : ℕ) (answer : List ℕ) → input ≡ front ++ 10 ∷ [] → length (input ++ text) ≤ most_bytes
+    → DueFor (Some (OnJob (Sim n))) input 0 answer → DueFor (Some (Watch n)) (input ++ text) 0 answer

@@ -10,7 +10,7 @@ ghost use Rattle.kp_tool_words.specs.declared.words.JobCommand.TheVariants.{Chec
 ghost use Rattle.kp_tool_words.specs.Words.{command_of};
 ghost use Rattle.kp_tool_spec.specs.Due.{Due, DueFor};
 ghost use Rattle.kp_tool_spec.specs.Headline.{IsMoving, HasNoNeedlessStall, HasNoNeedlessStallFrom, IsVerilogWith, IsRunWith, IsDumpedWith, IsGeneratedWith, IsTimed, IsDebuggedWith, IsNetlistWith, IsPairAlike, IsImplementation, IsPairWith};
-ghost use Rattle.kp_tool_spec.specs.Agreeing.{IsSequential, IsChecked, IsFaulty, IsReadBack};
+ghost use Rattle.kp_tool_spec.specs.Agreeing.{IsSequential, IsChecked, IsFaulty, IsReadBack, IsWatched};
 ghost use Rattle.kp_tool_spec.specs.Refused.{Breaks};
 
 /// The arguments and an input have exactly one specified outcome: one status, and one text with it. For `pipe`, which may print any netlist that
@@ -99,11 +99,13 @@ pub fn watch_finds_only_faults()
 {}
 
 /// How the commands on one job agree. The values that `sim N` prints are those of `seq` (`sim`), a job for which `check` ends with status 0 is accepted
-/// by all of them (`check`), and `read` writes what `pipe` wrote (`pipe`).
+/// by all of them (`check`), `read` writes what `pipe` wrote (`pipe`), and `watch N` over a job and what `pipe` wrote of it writes what `sim N` does
+/// (`watch`).
 pub fn the_commands_on_a_job_agree()
     ensures sim { (n : ℕ) (input text : List ℕ) → DueFor (Some (OnJob (Sim n))) input 0 text → IsSequential n input text }
     ensures check { (input text : List ℕ) → DueFor (Some (OnJob Check)) input 0 text → IsChecked input text }
     ensures pipe { (input text : List ℕ) → DueFor (Some (OnJob Pipe)) input 0 text → IsReadBack input text }
+    ensures watch { (input text : List ℕ) → DueFor (Some (OnJob Pipe)) input 0 text → IsWatched input text }
 {}
 
 /// Status 2 comes with the line of the first rule that the input violates (`by_a_rule`), and whenever it violates one (`where_broken`).

@@ -45,10 +45,10 @@ sound : (net : Net) (m : VModule) → NetOk net → IsNamed net → IsShown net 
 unfolding broken
 sound net m k named s = subst (λ (x : VModule). broken x ≡ None) (sym (whole_is m s)) (none_broken _ _ _ (names_hold net m s k named) (widths_hold net m s k named) (drivers_hold net m s k named))
 
--- The canonical text of a netlist with such names denotes the netlist.
-pub round : (net : Net) → NetOk net → IsNamed net → Denotes 0 (canon net) net
-round net k named =
-    let says = (canon_says net k named).lexes 0 in
+-- The canonical text of a netlist with such names denotes the netlist, at whatever offset the text begins.
+pub round_from : (at : ℕ) (net : Net) → NetOk net → IsNamed net → Denotes at (canon net) net
+round_from at net k named =
+    let says = (canon_says net k named).lexes at in
     let read = sentence net says.0 (all_sizes net 0 net.nodes (all_right net k)) in
     let m = read.holds.0 in
     record {
@@ -57,3 +57,6 @@ round net k named =
       sound = sound net m k named read.holds.2;
       same_net = same_net net m k named read.holds.2;
     }
+
+pub round : (net : Net) → NetOk net → IsNamed net → Denotes 0 (canon net) net
+round = round_from 0

@@ -1,4 +1,5 @@
 use Rattle.kp_tool_spec.proofs.Agreeing.{sim_is_sequential, check_is_right, pipe_is_read}
+use Rattle.kp_tool_spec.proofs.Together.{pipe_is_watched}
 use Rattle.kp_tool_spec.proofs.laws.the_commands_on_a_job_agree.Goals as goal
 
 pub returns-clause-sim : goal.returns-clause-sim
@@ -9,3 +10,6 @@ returns-clause-check c = check_is_right
 
 pub returns-clause-pipe : goal.returns-clause-pipe
 returns-clause-pipe c = pipe_is_read
+
+pub returns-clause-watch : goal.returns-clause-watch
+returns-clause-watch c = pipe_is_watched
