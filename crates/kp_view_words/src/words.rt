@@ -1,0 +1,228 @@
+// The words of a command line, and what they ask for.
+ghost use Rattle.std.specs.Prelude.{◌≡◌, ◌&&◌, not, map, string_bytes, option_map, Ok, None, Some, IfOk, true, false, length, drop, slice_get};
+ghost use Rattle.std.specs.List.{list_any, list_all};
+ghost use Rattle.std.specs.Option.{option_map_or};
+ghost use Rattle.kp_view_words.specs.Asked.{asked, task_seen};
+ghost use Rattle.kp_view_words.specs.Words.{asked_for, topic_of, topic_named, help_place, is_help_word, is_help_flag, is_version_flag, begins_with_dash, asks_help, task_of, task_with, word_named, count_of, has_file, names_in, file_in, is_name, is_path};
+ghost use Rattle.kp_view_words.specs.inner.Matching.{head_of};
+
+use crate::matching::{Head, head_of};
+use kp_base::{NoMemory, is_word};
+use kp_bits::read_number;
+use std::alloc::Global;
+
+/// The greatest number of cycles.
+const MOST_CYCLES: u32 = 1_000;
+
+/// The greatest length of a stage's name, in bytes.
+const MOST_NAME: usize = 8;
+
+/// A word that draws a job.
+#[derive(Clone, Copy, Debug, PartialEq, Eq)]
+pub enum Word {
+    /// `diagram`: the pipeline diagram as text.
+    Diagram,
+    /// `svg`: the pipeline diagram as an SVG picture.
+    Svg,
+}
+
+/// What help and usage are about: the program or one of its words.
+#[derive(Clone, Copy, Debug, PartialEq, Eq)]
+pub enum Topic {
+    Program,
+    Diagram,
+    Svg,
+}
+
+/// A drawing of a job.
+#[derive(Clone, Copy)]
+pub struct Task<'w> {
+    pub word: Word,
+    /// The number of cycles, at most 1,000.
+    pub count: u32,
+    /// The names of the stages, each of 1 to 8 letters, digits or `_`; or none. There may be more or fewer than stages.
+    pub names: &'w [String],
+    /// The file of the job, or `None` for standard input.
+    pub file: Option<&'w String>,
+}
+
+/// What the words of a command line ask for.
+#[derive(Clone, Copy)]
+pub enum Request<'w> {
+    /// The words are not accepted. The topic is that of the usage to be printed.
+    BadWords(Topic),
+    Help(Topic),
+    Version,
+    Draw(Task<'w>),
+}
+
+impl<'w> Request<'w> {
+    /// What the words after the program's name ask for. The only error is out of memory.
+    pub fn of(alloc: Global, words: &'w [String]) -> Result<Self, NoMemory>
+        ensures { IfOk result (λ request. asked request ≡ asked_for (map string_bytes words.now)) }
+    {
+        let topic = topic_of(words);
+        if asks_help(words) {
+            return Ok(Request::Help(topic));
+        }
+        if words.iter().any(|word| is_version_flag(word.as_str())) {
+            return Ok(Request::Version);
+        }
+        match task_of(alloc, words)? {
+            Some(task) => Ok(Request::Draw(task)),
+            None => Ok(Request::BadWords(topic)),
+        }
+    }
+}
+
+impl Topic {
+    // The topic of a word: the word itself if it draws, and otherwise the program.
+    fn named(word: &str) -> Self
+        ensures { result ≡ topic_named word.now }
+    {
+        match word {
+            "diagram" => Topic::Diagram,
+            "svg" => Topic::Svg,
+            _ => Topic::Program,
+        }
+    }
+}
+
+impl Word {
+    /// The word that is spelled so.
+    pub fn named(word: &str) -> Option<Self>
+        ensures { result ≡ word_named word.now }
+    {
+        match word {
+            "diagram" => Some(Word::Diagram),
+            "svg" => Some(Word::Svg),
+            _ => None,
+        }
+    }
+}
+
+// The topic of the words: that of the first one, or of the second one after `help`.
+fn topic_of(words: &[String]) -> Topic
+    ensures { result ≡ topic_of (map string_bytes words.now) }
+{
+    match words.get(help_place(words)) {
+        Some(word) => Topic::named(word.as_str()),
+        None => Topic::Program,
+    }
+}
+
+// The place of the word that help is about.
+fn help_place(words: &[String]) -> usize
+    ensures { result ≡ help_place (map string_bytes words.now) }
+{
+    match words.first() {
+        Some(word) if is_help_word(word.as_str()) => 1,
+        _ => 0,
+    }
+}
+
+fn is_help_word(word: &str) -> bool
+    ensures { result ≡ is_help_word word.now }
+{
+    word == "help"
+}
+
+fn is_help_flag(word: &str) -> bool
+    ensures { result ≡ is_help_flag word.now }
+{
+    word == "--help" || word == "-h"
+}
+
+fn is_version_flag(word: &str) -> bool
+    ensures { result ≡ is_version_flag word.now }
+{
+    word == "--version" || word == "-V"
+}
+
+fn begins_with_dash(word: &str) -> bool
+    ensures { result ≡ begins_with_dash word.now }
+{
+    matches!(word.as_bytes(), [b'-', ..])
+}
+
+// The words ask for help: the first is `help`, or one is a flag for help.
+fn asks_help(words: &[String]) -> bool
+    ensures { result ≡ asks_help (map string_bytes words.now) }
+{
+    help_place(words) == 1 || words.iter().any(|word| is_help_flag(word.as_str()))
+}
+
+// The drawing that the words ask for. `None` if one of them begins with `-`, or if they are none of a drawing.
+fn task_of<'w>(alloc: Global, words: &'w [String]) -> Result<Option<Task<'w>>, NoMemory>
+    ensures { IfOk result (λ task. option_map task_seen task ≡ task_of (map string_bytes words.now)) }
+{
+    if words.iter().any(|word| begins_with_dash(word.as_str())) {
+        return Ok(None);
+    }
+    let Some(rest) = words.get(2..) else {
+        return Ok(None);
+    };
+    match head_of(alloc, words)? {
+        Some(head) => Ok(task_with(head, rest)),
+        None => Ok(None),
+    }
+}
+
+// The drawing with this head and these words after it: names of stages and a file.
+fn task_with<'w>(head: Head, rest: &'w [String]) -> Option<Task<'w>>
+    ensures { option_map task_seen result ≡ task_with head (map string_bytes rest.now) }
+{
+    let (names, file) = split(rest);
+    if !names.iter().all(|name| is_name(name.as_str())) {
+        return None;
+    }
+    Some(Task {
+        word: head.word,
+        count: head.count,
+        names,
+        file,
+    })
+}
+
+// The names among the words after N, and the file if there is one: a single word is a file, and of several the last one if it isn't a word of letters,
+// digits and `_`.
+fn split<'w>(rest: &'w [String]) -> (&'w [String], Option<&'w String>)
+    ensures names { map string_bytes result.0.now ≡ names_in (map string_bytes rest.now) }
+    ensures file { option_map (λ word. string_bytes word.now) result.1 ≡ file_in (map string_bytes rest.now) }
+{
+    match rest.split_last() {
+        Some((last, names)) if names.is_empty() || is_path(last.as_str()) => (names, Some(last)),
+        _ => (rest, None),
+    }
+}
+
+// A word that can't be a name, as it has a character other than letters, digits and `_`.
+fn is_path(word: &str) -> bool
+    ensures { result ≡ is_path word.now }
+{
+    word.as_bytes().iter().any(|byte| !is_word(*byte))
+}
+
+// The name of a stage.
+fn is_name(word: &str) -> bool
+    ensures { result ≡ is_name word.now }
+{
+    let bytes = word.as_bytes();
+    !bytes.is_empty() && bytes.len() <= MOST_NAME && bytes.iter().all(|byte| is_word(*byte))
+}
+
+/// The number of cycles that 1 to 20 decimal digits denote, up to 1,000.
+#[tactic(auto, unfolding(crate::specs::Words::count_of))]
+pub fn count_of(word: &[u8]) -> Option<u32>
+    ensures { result ≡ count_of word.now }
+{
+    if word.len() > 20 {
+        return None;
+    }
+    let number = read_number(word)?;
+    if number <= u64::from(MOST_CYCLES) {
+        Some(number as u32)
+    } else {
+        None
+    }
+}
