@@ -1,0 +1,80 @@
+//! From a job to its diagram: the job is synthesised and run, and its rows and stall words are what the diagram is drawn from.
+//!
+//! `specs/Runs.antt` says of which run the rows are, and defines the figure of a job; `specs/Laws.antt` says what that figure shows of the
+//! pipelined machine of the job. All memory is allocated before anything is drawn, and out of memory is the only error.
+#![tactic(auto)]
+
+pub mod laws;
+
+ghost use Rattle.std.specs.Prelude.{◌≡◌, ◌≤◌, ◌<◌, ℕ, true, length, get_or, map, string_bytes, IfOk};
+ghost use Rattle.kp_machine.specs.Machine.{inputs_from, pipe_of};
+ghost use Rattle.kp_sched.specs.Rows.{rows_seen};
+ghost use Rattle.kp_stage.specs.Start.{stall_word};
+ghost use Rattle.kp_diagram_text.specs.Charts.{IsDrawable, are_names, figure_of};
+ghost use Rattle.kp_diagram_run.specs.Runs.{IsRunOf, job_figure};
+
+use kp_base::{NoMemory, Row};
+use kp_diagram_text::Chart;
+use kp_frontend::Accepted;
+use kp_run::board_shown;
+use kp_run::laws::a_run_tells_of_the_pipeline;
+use kp_synth::synth;
+use std::alloc::Global;
+
+/// The rows and the stall words of a run of a job.
+#[derive(Drop)]
+pub struct JobRun {
+    pub rows: Vec<Row>,
+    pub words: Vec<u16>,
+}
+
+/// Runs the pipelined machine of a job for `count` cycles, under the job's own stall words and samples. The only error is out of memory.
+pub fn run_job(alloc: Global, job: &Accepted, count: u32) -> Result<JobRun, NoMemory>
+    ensures { IfOk result (λ r. IsRunOf job.now.design.job count r.rows.items r.words.items) }
+{
+    let rows = rows_of(alloc, job, count)?;
+    let words = words_of(alloc, job, count)?;
+    Ok(JobRun { rows, words })
+}
+
+/// What the diagram of a run of a job is drawn from, with names of the stages or none. The job is the one that was run.
+pub fn chart_of<'a>(job: &'a Accepted, run: &'a JobRun, names: &'a [String]) -> Chart<'a>
+    ensures figure { (n : ℕ) → IsRunOf job.now.design.job n run.now.rows.items run.now.words.items
+        → figure_of result ≡ job_figure (map string_bytes names.now) n job.now.design.job }
+    ensures drawable { (n : ℕ) → IsRunOf job.now.design.job n run.now.rows.items run.now.words.items → n ≤ 100000
+        → are_names (map string_bytes names.now) job.now.design.job.stages.value ≡ true → IsDrawable result }
+{
+    Chart {
+        name: job.design.job().name.name.bytes(),
+        stages: job.design.job().stages.value as u8,
+        rows: run.rows.as_slice(),
+        words: run.words.as_slice(),
+        names,
+    }
+}
+
+// The rows of the job's pipelined machine. The netlist is dropped with the run.
+fn rows_of(alloc: Global, job: &Accepted, count: u32) -> Result<Vec<Row>, NoMemory>
+    ensures rows { IfOk result (λ rows. rows_seen job.now.design.job.stages.value rows.items ≡ (pipe_of job.now.design.job (inputs_from job.now.design.job 0 count)).rows) }
+    ensures count { IfOk result (λ rows. length rows.items ≡ count) }
+{
+    let _kept = job.design.job();
+    a_run_tells_of_the_pipeline(job);
+    let net = synth(alloc, &job.design, &job.sections.start)?;
+    let board = board_shown(alloc, job, &net, count)?;
+    Ok(board.cycles.rows)
+}
+
+// The stall words of `count` cycles.
+fn words_of(alloc: Global, job: &Accepted, count: u32) -> Result<Vec<u16>, NoMemory>
+    ensures count { IfOk result (λ words. length words.items ≡ count) }
+    ensures words { IfOk result (λ words. (T : ℕ) → T < count → get_or words.items T 0 ≡ stall_word job.now.design.job T) }
+{
+    let mut words = Vec::with_capacity(alloc, count as usize)?;
+    for cycle in 0..count {
+        words
+            .push(job.sections.stalls.word(u64::from(cycle)))
+            .unwrap();
+    }
+    Ok(words)
+}

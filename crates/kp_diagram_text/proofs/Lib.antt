@@ -1,0 +1,4 @@
+pub mod Marks
+pub mod Losses
+pub mod Accounts
+pub mod Steps

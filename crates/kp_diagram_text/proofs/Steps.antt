@@ -1,0 +1,121 @@
+-- The steps of the loops that write a diagram.
+use Rattle.std.proofs.Common.{◌≡◌, ◌∙◌, ℕ, zero, suc, ◌+◌, ◌-◌, ◌<◌, ◌≤◌, Bool, true, false, cond, List, [], ◌∷◌, ◌++◌, length, get_or, take, drop, map, max, ltb, Option, Some, None, refl, ap, ap₂, sym, subst, arith, replicate, decimal}
+use Rattle.std.proofs.lemmas.Bool.{cond-true, cond-false, lt-ltb, le-ltb}
+use Rattle.std.proofs.lemmas.List.{drop_all, drop_more, get_or-map, length-map, length-take-le, replicate-append-replicate, take_more}
+use Rattle.kp_base.specs.declared.row.Row as masks
+use Rattle.kp_base.specs.inner.Bytes.{WrittenUpTo}
+use Rattle.kp_pipeline.specs.Rows.{Row, count_after, counts}
+use Rattle.kp_pipeline.proofs.Counts.{counts-more}
+use Rattle.kp_sched.specs.Rows.{row_seen, rows_seen}
+use Rattle.kp_sched.proofs.Counting.{seen_length, seen_more}
+use Rattle.kp_diagram.specs.Diagram.{cells_from, fetches_from, fetches_next}
+use Rattle.kp_diagram.proofs.Cells.{cells-none}
+use Rattle.kp_diagram_text.specs.Places.{place_next, place_text}
+use Rattle.kp_diagram_text.specs.Text.{cells_text, cycle_numbers, in_column, line_at, lines_text, longest, spaces, stage_name}
+
+-- what is left is the same text
+pub left_is : (whole rest same : List ℕ) (a b : Option (List ℕ)) → rest ≡ same → WrittenUpTo whole rest a b → WrittenUpTo whole same a b
+left_is whole rest same a b e written = subst (λ (text : List ℕ). WrittenUpTo whole text a b) e written
+
+-- NAMES of stages.
+pub name_at : {X : Type 0} (f : X → List ℕ) (names : List X) (k : ℕ) (x : X) → k < length names → x ≡ get_or names k x
+    → stage_name (map f names) k ≡ f x
+name_at f names k x b is =
+    let e : length (map f names) ≡ length names = length-map names f in
+    cond-true (ltb k (length (map f names))) _ _ (lt-ltb k (length (map f names)) (omega arith))
+    ∙ get_or-map f names k x [] b ∙ ap f (sym is)
+
+pub name_past : {X : Type 0} (f : X → List ℕ) (names : List X) (k : ℕ) → length names ≤ k → stage_name (map f names) k ≡ decimal k
+name_past f names k b =
+    let e : length (map f names) ≡ length names = length-map names f in
+    cond-false (ltb k (length (map f names))) _ _ (le-ltb k (length (map f names)) (omega arith))
+
+pub longest_next : (names : List (List ℕ)) (k old new : ℕ) → old ≡ longest names k → new ≡ length (stage_name names k)
+    → max old new ≡ longest names (k + 1)
+longest_next names k old new o n =
+    let e : k + 1 ≡ suc k = omega arith in
+    ap₂ max o n ∙ sym (ap (longest names) e)
+
+-- SPACES and numbers of cycles.
+pub spaces_next : (left here : ℕ) → here ≤ left → spaces left ≡ spaces here ++ spaces (left - here)
+spaces_next left here b =
+    let e : here + (left - here) ≡ left = omega arith in
+    sym (replicate-append-replicate here (left - here) 32 ∙ ap (λ (n : ℕ). replicate n 32) e)
+
+pub numbers_next : (width count T : ℕ) → T < count
+    → cycle_numbers width T (count - T) ≡ in_column width (decimal T) ++ cycle_numbers width (T + 1) (count - (T + 1))
+numbers_next width count T h =
+    let one : count - T ≡ suc (count - (T + 1)) = omega arith in ap (λ (m : ℕ). cycle_numbers width T m) one
+
+pub numbers_end : (width count T : ℕ) → count ≤ T → cycle_numbers width T (count - T) ≡ []
+numbers_end width count T h = let none : count - T ≡ 0 = omega arith in ap (λ (m : ℕ). cycle_numbers width T m) none
+
+module _ (n : ℕ) (ext : ℕ → ℕ → Bool) (width : ℕ) (names : List (List ℕ)) (rows : List masks.Row) (T : ℕ) where
+  -- CELLS. After the last row there are none.
+  pub cells_end : (place : Option ℕ) → length rows ≤ T
+      → cells_text width names (cells_from n ext T (rows_seen n (drop T rows)) place) ≡ []
+  cells_end place b =
+      ap (λ (rs : List masks.Row). cells_text width names (cells_from n ext T (rows_seen n rs) place)) (drop_all T rows b)
+
+  module _ (r d : masks.Row) (b : T < length rows) (is : r ≡ get_or rows T d) where
+    split : drop T rows ≡ r ∷ drop (T + 1) rows
+    split = drop_more rows T d b ∙ ap (λ (x : masks.Row). x ∷ drop (T + 1) rows) (sym is)
+
+    next_cycle : suc T ≡ T + 1
+    next_cycle = omega arith
+
+    place_or_none : (rest : List masks.Row) (place : Option ℕ)
+        → cells_text width names (cells_from n ext T (rows_seen n (r ∷ rest)) place)
+        ≡ place_text width names (ext T) (row_seen n r) place
+        ++ cells_text width names (cells_from n ext (suc T) (rows_seen n rest) (place_next n (row_seen n r) place))
+    place_or_none rest None = sym (ap (cells_text width names) (cells-none n ext (suc T) (rows_seen n rest)))
+    place_or_none rest (Some k) = refl
+
+    pub cells_next : (place next : Option ℕ) → next ≡ place_next n (row_seen n r) place
+        → cells_text width names (cells_from n ext T (rows_seen n (drop T rows)) place)
+        ≡ place_text width names (ext T) (row_seen n r) place
+        ++ cells_text width names (cells_from n ext (T + 1) (rows_seen n (drop (T + 1) rows)) next)
+    cells_next place next to =
+        ap (λ (rs : List masks.Row). cells_text width names (cells_from n ext T (rows_seen n rs) place)) split
+        ∙ place_or_none (drop (T + 1) rows) place
+        ∙ ap₂ (λ (U : ℕ) (p : Option ℕ). place_text width names (ext T) (row_seen n r) place
+        ++ cells_text width names (cells_from n ext U (rows_seen n (drop (T + 1) rows)) p)) next_cycle (sym to)
+
+    -- LINES.
+    line_or_none : (f : ℕ → ℕ) (rest : List masks.Row) (enters : Bool)
+        → lines_text width names (fetches_from n ext T f enters (rows_seen n (r ∷ rest)))
+        ≡ cond enters (line_at width names T (f 0) (cells_from n ext T (rows_seen n (r ∷ rest)) (Some 0))) []
+        ++ lines_text width names (fetches_from n ext (suc T) (count_after n (row_seen n r) f) (fetches_next (row_seen n r)) (rows_seen n rest))
+    line_or_none f rest true = refl
+    line_or_none f rest false = refl
+
+    -- the counts of the rows so far
+    counts_next : count_after n (row_seen n r) (counts n (rows_seen n (take T rows)) T) ≡ counts n (rows_seen n (take (T + 1) rows)) (T + 1)
+    counts_next =
+        let long : length (rows_seen n (take T rows)) ≡ T = seen_length n (take T rows) ∙ length-take-le T rows (omega arith) in
+        let more : take (T + 1) rows ≡ take T rows ++ r ∷ [] = take_more rows T d b ∙ ap (λ (x : masks.Row). take T rows ++ x ∷ []) (sym is) in
+        sym (ap₂ (λ (rs : List masks.Row) (U : ℕ). counts n (rows_seen n rs) U) more (omega arith)
+        ∙ ap₂ (λ (rs : List Row) (U : ℕ). counts n rs (suc U)) (seen_more n (take T rows) r) (sym long)
+        ∙ counts-more n (λ k. 0) (rows_seen n (take T rows)) (row_seen n r)
+        ∙ ap (λ (U : ℕ). count_after n (row_seen n r) (counts n (rows_seen n (take T rows)) U)) long)
+
+    pub lines_next : (enters next : Bool) (number : ℕ) → next ≡ fetches_next (row_seen n r)
+        → number ≡ counts n (rows_seen n (take T rows)) T 0
+        → lines_text width names (fetches_from n ext T (counts n (rows_seen n (take T rows)) T) enters (rows_seen n (drop T rows)))
+        ≡ cond enters (line_at width names T number (cells_from n ext T (rows_seen n (drop T rows)) (Some 0))) []
+        ++ lines_text width names (fetches_from n ext (T + 1) (counts n (rows_seen n (take (T + 1) rows)) (T + 1)) next (rows_seen n (drop (T + 1) rows)))
+    lines_next enters next number to is_number =
+        ap (λ (rs : List masks.Row). lines_text width names (fetches_from n ext T (counts n (rows_seen n (take T rows)) T) enters (rows_seen n rs))) split
+        ∙ line_or_none (counts n (rows_seen n (take T rows)) T) (drop (T + 1) rows) enters
+        ∙ ap₂ (λ (head : List ℕ) (rest : List ℕ). head ++ rest)
+        (ap₂ (λ (rs : List masks.Row) (i : ℕ). cond enters (line_at width names T i (cells_from n ext T (rows_seen n rs) (Some 0))) []) (sym split) (sym is_number))
+        (ap₂ (λ (U : ℕ) (f : ℕ → ℕ). lines_text width names (fetches_from n ext U f (fetches_next (row_seen n r)) (rows_seen n (drop (T + 1) rows)))) next_cycle counts_next
+        ∙ ap (λ (e : Bool). lines_text width names (fetches_from n ext (T + 1) (counts n (rows_seen n (take (T + 1) rows)) (T + 1)) e (rows_seen n (drop (T + 1) rows)))) (sym to))
+
+    pub take_next : take T rows ++ r ∷ [] ≡ take (T + 1) rows
+    take_next = sym (take_more rows T d b ∙ ap (λ (x : masks.Row). take T rows ++ x ∷ []) (sym is))
+
+  pub lines_end : (f : ℕ → ℕ) (enters : Bool) → length rows ≤ T
+      → lines_text width names (fetches_from n ext T f enters (rows_seen n (drop T rows))) ≡ []
+  lines_end f enters b =
+      ap (λ (rs : List masks.Row). lines_text width names (fetches_from n ext T f enters (rows_seen n rs))) (drop_all T rows b)

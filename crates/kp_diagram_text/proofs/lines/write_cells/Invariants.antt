@@ -1,0 +1,18 @@
+use Rattle.std.proofs.Common.{◌<◌, ◌≤◌, drop}
+use Rattle.std.specs.Prelude.{IfSome, Some}
+use Rattle.kp_base.specs.inner.Bytes.{WrittenUpTo}
+use Rattle.kp_sched.specs.Rows.{rows_seen}
+use Rattle.kp_diagram.specs.Diagram.{cells_from}
+use Rattle.kp_diagram_text.specs.Charts.{ext_of, names_of}
+use Rattle.kp_diagram_text.specs.Text.{cells_text}
+use Rattle.kp_diagram_text.proofs.lines.write_cells.Given as goal
+
+abbrev pub invariant-loop-cycle : goal.invariant-loop-cycle
+invariant-loop-cycle g l = record {
+  text : WrittenUpTo
+      (cells_text l.width (names_of l.chart) (cells_from l.chart.stages (ext_of l.chart) l.entered (rows_seen l.chart.stages (drop l.entered l.chart.rows.now)) (Some 0)))
+      (cells_text l.width (names_of l.chart) (cells_from l.chart.stages (ext_of l.chart) l.cycle (rows_seen l.chart.stages (drop l.cycle l.chart.rows.now)) l.place))
+      (g.K.Sink.held l.initial.sink) (g.K.Sink.held l.sink);
+  later : g.K.Sink.faults l.initial.sink ≤ g.K.Sink.faults l.sink;
+  within : IfSome l.place (λ k. k < l.chart.stages);
+}

@@ -1,0 +1,5 @@
+pub mod Marks
+pub mod Losses
+pub mod Figures
+pub mod Text
+pub mod Charts

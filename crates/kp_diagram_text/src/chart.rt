@@ -1,0 +1,99 @@
+// What a diagram is drawn from.
+ghost use Rattle.std.specs.Prelude.{◌≡◌, ◌+◌, ◌<◌, ◌≤◌, length, decimal, map, string_bytes};
+ghost use Rattle.kp_base.specs.Bytes.{Writes};
+ghost use Rattle.kp_base.specs.Causes.{HasCause};
+ghost use Rattle.kp_diagram_text.specs.Charts.{IsDrawable, are_names as are_names_for, is_name as is_a_name, names_of};
+ghost use Rattle.kp_diagram_text.specs.Text.{column, longest, stage_name};
+
+use itoa::Buffer;
+use kp_base::{Row, Sink, SinkFault, word_length, write_all};
+
+/// A run of a machine: its name, how many stages it has, the row and the stall word of each cycle, and the names of its stages. A stage past
+/// the end of the names is named by its number.
+#[derive(Clone, Copy, Debug)]
+pub struct Chart<'a> {
+    pub name: &'a [u8],
+    pub stages: u8,
+    pub rows: &'a [Row],
+    pub words: &'a [u16],
+    pub names: &'a [String],
+}
+
+impl<'a> Chart<'a> {
+    /// The length of the longest name of a stage.
+    pub fn longest(&self) -> usize
+        requires { IsDrawable self.now }
+        ensures value { result ≡ longest (names_of self.now) self.now.stages }
+        ensures few { result ≤ 8 }
+    {
+        let mut longest = 0;
+        for k in 0..self.stages {
+            longest = longest.max(self.name_length(k));
+        }
+        longest
+    }
+
+    /// The length of the name of stage k.
+    pub fn name_length(&self, k: u8) -> usize
+        requires { IsDrawable self.now }
+        ensures value { result ≡ length (stage_name (names_of self.now) k) }
+        ensures few { result ≤ 8 }
+    {
+        if usize::from(k) < self.names.len() {
+            self.names[usize::from(k)].as_bytes().len()
+        } else {
+            let mut buffer = Buffer::new();
+            buffer.format(k).len()
+        }
+    }
+
+    /// Writes the name of stage k. A fault comes only from the sink, which then has a prefix of the name.
+    pub fn write_name<K: Sink>(&self, k: u8, sink: &mut K) -> Result<(), SinkFault>
+        requires { IsDrawable self.now }
+        ensures text { Writes (K.held sink.old) (K.held sink.new) (stage_name (names_of self.now) k) result }
+        ensures cause { HasCause (K.faults sink.old) (K.faults sink.new) result }
+    {
+        if usize::from(k) < self.names.len() {
+            write_all(sink, self.names[usize::from(k)].as_bytes())
+        } else {
+            let mut buffer = Buffer::new();
+            write_all(sink, buffer.format(k).as_bytes())
+        }
+    }
+
+    // The width of a column of the text.
+    pub(crate) fn width(&self) -> usize
+        requires { IsDrawable self.now }
+        ensures value { result ≡ column (names_of self.now) self.now.stages (length self.now.rows.now) }
+        ensures few { result ≤ 42 }
+    {
+        let mut buffer = Buffer::new();
+        let digits = buffer.format(self.rows.len() as u64).len();
+        (self.longest() + 2).max(digits + 1)
+    }
+}
+
+/// Whether these are names for the stages of a machine of n stages: none, or one of 1 to 8 letters, digits or `_` for each stage.
+pub fn are_names(names: &[String], n: u8) -> bool
+    ensures { result ≡ are_names_for (map string_bytes names.now) n }
+{
+    (names.is_empty() || names.len() == usize::from(n)) && are_all_names(names)
+}
+
+fn are_all_names(names: &[String]) -> bool
+    ensures { result ≡ list_all is_a_name (map string_bytes names.now) }
+{
+    for name in names {
+        if !is_name(name) {
+            return false;
+        }
+    }
+    true
+}
+
+fn is_name(name: &str) -> bool
+    ensures { result ≡ is_a_name (string_bytes name) }
+{
+    let bytes = name.as_bytes();
+    0 < bytes.len() && bytes.len() <= 8 && word_length(bytes) == bytes.len()
+}
