@@ -51,7 +51,7 @@ IsReason m st i k WaitsForValue =
     (back m st i ≤ k) × (stall m st i k ≡ true) × (i.ext k ≡ false) × ((above m st i k).stall ≡ false)
     × ((outcome m st i k).hazard ≡ true)
 
--- Each cell has its reason in the state and the inputs of its cycle, in a run from a state.
+-- The mark of each cell has its reason in the state and the inputs of its cycle, in a run from a state.
 abbrev pub HasReasons : Machine → PipelineState → List Inputs → List Fetch → Type 0
 HasReasons m st ins fetches =
     AllByRecursion (λ f. AllByRecursion (λ c. IsReason m (state_after m st ins c.cycle) (input_at ins c.cycle) c.stage c.mark) f.cells) fetches
@@ -67,9 +67,9 @@ cycles_of a = a.retired + a.filling + a.hazards + a.guesses + a.outside
 abbrev pub IsEmpty : Machine → PipelineState → List Inputs → ℕ → ℕ → Type 0
 IsEmpty m st ins T k = ((state_after m st ins T).stage k).full ≡ false
 
--- THE CAUSE of an empty stage k in cycle T, or of the wait of an instruction there, where no instruction moves on: in some cycle up to T
--- the stage as many stages below k as there are cycles up to T has this mark's reason. The bubble moved up from there, one stage a cycle,
--- and no stage that it came through was squashed.
+-- THE CAUSE of an empty stage k in cycle T, or of the wait of an instruction there. In a cycle up to T, and as many stages below k as it is
+-- cycles before T, an instruction has the reason of this mark (`since`, `reason`). The bubble that it leaves moves up, one stage a cycle, and is
+-- in stage k in cycle T: each stage that it comes to is empty (`empty`), and none of them is squashed before (`kept`).
 pub record IsCausedBy (m : Machine) (st : PipelineState) (ins : List Inputs) (T k : ℕ) (mark : Mark) : Type 0 where
   pub cycle : ℕ
   pub stage : ℕ

@@ -3,7 +3,7 @@ use Rattle.std.proofs.Common.{◌≡◌, ◌∙◌, ℕ, suc, ◌+◌, ◌<◌, 
 use Rattle.kp_pipeline.specs.Rows.{Row, count_after}
 use Rattle.kp_diagram.specs.Diagram.{Account, Cell, Fetch, Loss, account_from, and_cycle, cells_from, fetches_from, fetches_next, losses_after, lost_to, mark, next_place}
 
--- the stall words of so many cycles from cycle T on are the same
+-- the stall words of `count` cycles from cycle T on are the same
 abbrev pub SameFrom : (ℕ → ℕ → Bool) → (ℕ → ℕ → Bool) → ℕ → ℕ → Type 0
 SameFrom e f T count = (t : ℕ) → t < count → e (T + t) ≡ f (T + t)
 

@@ -1,1 +1,4 @@
 pub mod Alike
+pub mod Words
+pub mod Figures
+pub mod Laws

@@ -16,8 +16,8 @@ ghost use Rattle.kp_diagram_run.specs.Runs.{IsRunOf, job_figure};
 use kp_base::{NoMemory, Row};
 use kp_diagram_text::Chart;
 use kp_frontend::Accepted;
-use kp_run::board_shown;
-use kp_run::laws::a_run_tells_of_the_pipeline;
+use kp_run::cycles_of;
+use kp_run::laws::{a_job_gives_its_own_inputs, a_run_tells_of_the_pipeline};
 use kp_synth::synth;
 use std::alloc::Global;
 
@@ -44,6 +44,7 @@ pub fn chart_of<'a>(job: &'a Accepted, run: &'a JobRun, names: &'a [String]) -> 
     ensures drawable { (n : ℕ) → IsRunOf job.now.design.job n run.now.rows.items run.now.words.items → n ≤ 100000
         → are_names (map string_bytes names.now) job.now.design.job.stages.value ≡ true → IsDrawable result }
 {
+    a_job_gives_its_own_inputs(job);
     Chart {
         name: job.design.job().name.name.bytes(),
         stages: job.design.job().stages.value as u8,
@@ -53,16 +54,18 @@ pub fn chart_of<'a>(job: &'a Accepted, run: &'a JobRun, names: &'a [String]) -> 
     }
 }
 
-// The rows of the job's pipelined machine. The netlist is dropped with the run.
+// The rows of the job's pipelined machine. The netlist is dropped with its run.
 fn rows_of(alloc: Global, job: &Accepted, count: u32) -> Result<Vec<Row>, NoMemory>
-    ensures rows { IfOk result (λ rows. rows_seen job.now.design.job.stages.value rows.items ≡ (pipe_of job.now.design.job (inputs_from job.now.design.job 0 count)).rows) }
+    ensures rows { IfOk result (λ rows. rows_seen job.now.design.job.stages.value rows.items
+        ≡ (pipe_of job.now.design.job (inputs_from job.now.design.job 0 count)).rows) }
     ensures count { IfOk result (λ rows. length rows.items ≡ count) }
 {
+    // The invariant of the type, for the proof only.
     let _kept = job.design.job();
     a_run_tells_of_the_pipeline(job);
     let net = synth(alloc, &job.design, &job.sections.start)?;
-    let board = board_shown(alloc, job, &net, count)?;
-    Ok(board.cycles.rows)
+    let cycles = cycles_of(alloc, job, &net, count)?;
+    Ok(cycles.rows)
 }
 
 // The stall words of `count` cycles.
@@ -70,11 +73,9 @@ fn words_of(alloc: Global, job: &Accepted, count: u32) -> Result<Vec<u16>, NoMem
     ensures count { IfOk result (λ words. length words.items ≡ count) }
     ensures words { IfOk result (λ words. (T : ℕ) → T < count → get_or words.items T 0 ≡ stall_word job.now.design.job T) }
 {
-    let mut words = Vec::with_capacity(alloc, count as usize)?;
+    let mut words = Vec::new(alloc);
     for cycle in 0..count {
-        words
-            .push(job.sections.stalls.word(u64::from(cycle)))
-            .unwrap();
+        words.push(job.sections.stalls.word(u64::from(cycle)))?;
     }
     Ok(words)
 }

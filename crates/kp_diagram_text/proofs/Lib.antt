@@ -1,4 +1,5 @@
 pub mod Marks
 pub mod Losses
 pub mod Accounts
+pub mod Names
 pub mod Steps

@@ -8,33 +8,13 @@ use Rattle.kp_pipeline.specs.Rows.{Row, count_after, counts}
 use Rattle.kp_pipeline.proofs.Counts.{counts-more}
 use Rattle.kp_sched.specs.Rows.{row_seen, rows_seen}
 use Rattle.kp_sched.proofs.Counting.{seen_length, seen_more}
-use Rattle.kp_diagram.specs.Diagram.{cells_from, fetches_from, fetches_next}
+use Rattle.kp_diagram.specs.Diagram.{Mark, cells_from, fetches_from, fetches_next, mark, next_place}
 use Rattle.kp_diagram.proofs.Cells.{cells-none}
-use Rattle.kp_diagram_text.specs.Places.{place_next, place_text}
-use Rattle.kp_diagram_text.specs.Text.{cells_text, cycle_numbers, in_column, line_at, lines_text, longest, spaces, stage_name}
+use Rattle.kp_diagram_text.specs.Text.{cells_text, cycle_numbers, in_column, line_at, lines_text, sign, spaces, stage_name}
 
 -- what is left is the same text
 pub left_is : (whole rest same : List ℕ) (a b : Option (List ℕ)) → rest ≡ same → WrittenUpTo whole rest a b → WrittenUpTo whole same a b
 left_is whole rest same a b e written = subst (λ (text : List ℕ). WrittenUpTo whole text a b) e written
-
--- NAMES of stages.
-pub name_at : {X : Type 0} (f : X → List ℕ) (names : List X) (k : ℕ) (x : X) → k < length names → x ≡ get_or names k x
-    → stage_name (map f names) k ≡ f x
-name_at f names k x b is =
-    let e : length (map f names) ≡ length names = length-map names f in
-    cond-true (ltb k (length (map f names))) _ _ (lt-ltb k (length (map f names)) (omega arith))
-    ∙ get_or-map f names k x [] b ∙ ap f (sym is)
-
-pub name_past : {X : Type 0} (f : X → List ℕ) (names : List X) (k : ℕ) → length names ≤ k → stage_name (map f names) k ≡ decimal k
-name_past f names k b =
-    let e : length (map f names) ≡ length names = length-map names f in
-    cond-false (ltb k (length (map f names))) _ _ (le-ltb k (length (map f names)) (omega arith))
-
-pub longest_next : (names : List (List ℕ)) (k old new : ℕ) → old ≡ longest names k → new ≡ length (stage_name names k)
-    → max old new ≡ longest names (k + 1)
-longest_next names k old new o n =
-    let e : k + 1 ≡ suc k = omega arith in
-    ap₂ max o n ∙ sym (ap (longest names) e)
 
 -- SPACES and numbers of cycles.
 pub spaces_next : (left here : ℕ) → here ≤ left → spaces left ≡ spaces here ++ spaces (left - here)
@@ -51,7 +31,12 @@ pub numbers_end : (width count T : ℕ) → count ≤ T → cycle_numbers width 
 numbers_end width count T h = let none : count - T ≡ 0 = omega arith in ap (λ (m : ℕ). cycle_numbers width T m) none
 
 module _ (n : ℕ) (ext : ℕ → ℕ → Bool) (width : ℕ) (names : List (List ℕ)) (rows : List masks.Row) (T : ℕ) where
-  -- CELLS. After the last row there are none.
+  -- CELLS. After the last row there are none, and none of an instruction that is in no stage.
+  pub cells_gone : (place : Option ℕ) → place ≡ None → cells_text width names (cells_from n ext T (rows_seen n (drop T rows)) place) ≡ []
+  cells_gone place gone =
+      ap (λ (p : Option ℕ). cells_text width names (cells_from n ext T (rows_seen n (drop T rows)) p)) gone
+      ∙ ap (cells_text width names) (cells-none n ext T (rows_seen n (drop T rows)))
+
   pub cells_end : (place : Option ℕ) → length rows ≤ T
       → cells_text width names (cells_from n ext T (rows_seen n (drop T rows)) place) ≡ []
   cells_end place b =
@@ -64,22 +49,17 @@ module _ (n : ℕ) (ext : ℕ → ℕ → Bool) (width : ℕ) (names : List (Lis
     next_cycle : suc T ≡ T + 1
     next_cycle = omega arith
 
-    place_or_none : (rest : List masks.Row) (place : Option ℕ)
-        → cells_text width names (cells_from n ext T (rows_seen n (r ∷ rest)) place)
-        ≡ place_text width names (ext T) (row_seen n r) place
-        ++ cells_text width names (cells_from n ext (suc T) (rows_seen n rest) (place_next n (row_seen n r) place))
-    place_or_none rest None = sym (ap (cells_text width names) (cells-none n ext (suc T) (rows_seen n rest)))
-    place_or_none rest (Some k) = refl
-
-    pub cells_next : (place next : Option ℕ) → next ≡ place_next n (row_seen n r) place
+    pub cells_next : (k : ℕ) (m : Mark) (place next : Option ℕ) → place ≡ Some k → m ≡ mark (ext T) (row_seen n r) k
+        → next ≡ next_place n (row_seen n r) k
         → cells_text width names (cells_from n ext T (rows_seen n (drop T rows)) place)
-        ≡ place_text width names (ext T) (row_seen n r) place
+        ≡ in_column width (stage_name names k ++ sign m)
         ++ cells_text width names (cells_from n ext (T + 1) (rows_seen n (drop (T + 1) rows)) next)
-    cells_next place next to =
-        ap (λ (rs : List masks.Row). cells_text width names (cells_from n ext T (rows_seen n rs) place)) split
-        ∙ place_or_none (drop (T + 1) rows) place
-        ∙ ap₂ (λ (U : ℕ) (p : Option ℕ). place_text width names (ext T) (row_seen n r) place
-        ++ cells_text width names (cells_from n ext U (rows_seen n (drop (T + 1) rows)) p)) next_cycle (sym to)
+    cells_next k m place next there marked to =
+        ap₂ (λ (rs : List masks.Row) (p : Option ℕ). cells_text width names (cells_from n ext T (rows_seen n rs) p)) split there
+        ∙ ap₂ (λ (o : Mark) (p : Option ℕ). in_column width (stage_name names k ++ sign o)
+        ++ cells_text width names (cells_from n ext (suc T) (rows_seen n (drop (T + 1) rows)) p)) (sym marked) (sym to)
+        ∙ ap (λ (U : ℕ). in_column width (stage_name names k ++ sign m)
+        ++ cells_text width names (cells_from n ext U (rows_seen n (drop (T + 1) rows)) next)) next_cycle
 
     -- LINES.
     line_or_none : (f : ℕ → ℕ) (rest : List masks.Row) (enters : Bool)

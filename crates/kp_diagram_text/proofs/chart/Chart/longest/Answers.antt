@@ -1,6 +1,6 @@
 use Rattle.std.proofs.Common.{arith}
 use Rattle.kp_diagram_text.specs.Charts.{names_of}
-use Rattle.kp_diagram_text.proofs.Steps.{longest_next}
+use Rattle.kp_diagram_text.proofs.Names.{longest_next}
 use Rattle.kp_diagram_text.proofs.chart.Chart.longest.Goals as goal
 
 pub loop-k-preserved : goal.loop-k-preserved

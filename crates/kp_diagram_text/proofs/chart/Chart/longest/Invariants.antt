@@ -6,5 +6,5 @@ use Rattle.kp_diagram_text.proofs.chart.Chart.longest.Given as goal
 abbrev pub invariant-loop-k : goal.invariant-loop-k
 invariant-loop-k l = record {
   value : l.longest ≡ longest (names_of l.self) l.k;
-  few : l.longest ≤ 40;
+  few : l.longest ≤ 8;
 }

@@ -1,0 +1,46 @@
+-- The figure of a chart of a run is that of the job.
+use Rattle.std.proofs.Common.{◌≡◌, ◌∙◌, ℕ, suc, ◌+◌, ◌-◌, ◌<◌, Bool, true, List, length, get_or, refl, ap, ap₂, sym, arith}
+use Rattle.std.proofs.Math.Path.{fun_ext}
+use Rattle.kp_base.specs.declared.row.Row as masks
+use Rattle.kp_ast.specs.declared.tree.Job.{Job}
+use Rattle.kp_pipeline.specs.Rows.{Row}
+use Rattle.kp_machine.specs.Machine.{inputs_from, pipe_of}
+use Rattle.kp_sched.specs.Rows.{bit_of, rows_seen}
+use Rattle.kp_sched.proofs.Counting.{seen_length}
+use Rattle.kp_synth_spec.specs.Traces.{inputs_seen}
+use Rattle.kp_run.specs.Cycles.{inputs_to}
+use Rattle.kp_diagram.specs.Diagram.{Account, Fetch, Filling}
+use Rattle.kp_diagram.specs.Claims.{stalls_of}
+use Rattle.kp_diagram_text.specs.Figures.{Figure, figure_from}
+use Rattle.kp_diagram_run.specs.Runs.{IsRunOf, job_figure}
+use Rattle.kp_diagram_run.proofs.Alike.{SameFrom, account-same, fetches-same}
+use Rattle.kp_diagram_run.proofs.Words.{words-seen}
+
+figure-same : (name : List ℕ) (names : List (List ℕ)) (n : ℕ) (e f : ℕ → ℕ → Bool) (rows : List Row) → SameFrom e f 0 (length rows)
+    → figure_from name names n e rows ≡ figure_from name names n f rows
+figure-same name names n e f rows h =
+    ap₂ (λ (fetches : List Fetch) (account : Account). record {
+      name = name;
+      names = names;
+      stages = n;
+      cycles = length rows;
+      fetches = fetches;
+      account = account;
+    })
+    (fetches-same e f n 0 (λ k. 0) true rows h) (account-same e f (n - 1) 0 (λ k. Filling) rows h)
+
+pub figure-is : (job : Job) (n : ℕ) (name : List ℕ) (names : List (List ℕ)) (stages : ℕ) (rows : List masks.Row) (words : List ℕ)
+    → inputs_seen job (inputs_to job n) ≡ inputs_from job 0 n → IsRunOf job n rows words
+    → name ≡ job.name.name → stages ≡ job.stages.value
+    → figure_from name names stages (λ T k. bit_of (get_or words T 0) k) (rows_seen stages rows) ≡ job_figure names n job
+figure-is job n name names stages rows words seen run named same =
+    ap₂ (λ (x : List ℕ) (m : ℕ). figure_from x names m ext (rows_seen m rows)) named same
+    ∙ figure-same job.name.name names job.stages.value ext (stalls_of (inputs_from job 0 n)) (rows_seen job.stages.value rows)
+    (λ T b. fun_ext (λ k. ap (λ (w : ℕ). bit_of w k) (run.words T (short T b)) ∙ words-seen job n T k seen (short T b)))
+    ∙ ap (figure_from job.name.name names job.stages.value (stalls_of (inputs_from job 0 n))) run.rows
+  where
+    ext : ℕ → ℕ → Bool
+    ext T k = bit_of (get_or words T 0) k
+
+    short : (T : ℕ) → T < length (rows_seen job.stages.value rows) → T < n
+    short T b = omega (arith, b, seen_length job.stages.value rows, run.count)
