@@ -1,6 +1,5 @@
 -- A complaint: a status other than 0, and a text on standard error.
-use Rattle.std.specs.Prelude.{ℕ, List, Option, None}
-use Rattle.kp_view_words.specs.Words.{Asked, draw}
+use Rattle.std.specs.Prelude.{ℕ, List, Option}
 use Rattle.kp_view_words.specs.Texts.{usage_text}
 use Rattle.kp_view.specs.Texts.{file_text, names_text, refusal_said}
 use Rattle.kp_view.specs.declared.failure.Complaint.{Complaint}
@@ -19,8 +18,3 @@ said_of name (Refused refusal) = refusal_said name refusal
 
 abbrev pub complaint_text : Option (List ℕ) → Complaint → List ℕ
 complaint_text file complaint = said_of (file_text file) complaint
-
--- the file that a complaint names: that of a drawing
-abbrev pub file_asked : Asked → Option (List ℕ)
-file_asked (draw d) = d.file
-file_asked _ = None

@@ -9,11 +9,10 @@ use Rattle.kp_frontend.specs.Judging.{Judges}
 use Rattle.kp_view_words.specs.Texts.{help_text, usage_text, version_text}
 use Rattle.kp_view_words.specs.Words.{Asked, Drawing, bad_words, help, version, draw}
 use Rattle.kp_view_words.specs.declared.words.Word.{Word}
-use Rattle.kp_view_words.specs.declared.words.Word.TheVariants.{Diagram, Svg}
+use Rattle.kp_view_words.specs.declared.words.Word.TheVariants.{Diagram}
 use Rattle.kp_diagram_text.specs.Charts.{are_names}
 use Rattle.kp_diagram_text.specs.Figures.{Figure}
 use Rattle.kp_diagram_text.specs.Text.{diagram_text}
-use Rattle.kp_diagram_svg.specs.Svg.{svg_text}
 use Rattle.kp_diagram_run.specs.Runs.{job_figure}
 use Rattle.kp_diagram_run.specs.Laws.{ShowsRun}
 use Rattle.kp_view.specs.Texts.{names_text, refusal_text}
@@ -25,7 +24,6 @@ Says s t status text = (status ≡ s) × (text ≡ t)
 -- a figure, drawn as a word asks
 abbrev pub figure_text : Word → Figure → List ℕ
 figure_text Diagram f = diagram_text f
-figure_text Svg f = svg_text f
 
 -- the figure of a job that is drawn: of the run of its pipelined machine over the number of cycles that is asked for
 abbrev pub figure_drawn : Drawing → Job → Figure

@@ -51,11 +51,7 @@ fn file_name<'w>(file: Option<&'w String>) -> &'w [u8]
     }
 }
 
-fn write_complaint<K: Sink>(
-    complaint: Complaint,
-    file: &[u8],
-    err: &mut K,
-) -> Result<(), SinkFault>
+fn write_complaint<K: Sink>(complaint: Complaint, file: &[u8], err: &mut K) -> Result<(), SinkFault>
     ensures text { Writes (K.held err.old) (K.held err.new) (said_of file.now complaint) result }
     ensures cause { HasCause (K.faults err.old) (K.faults err.new) result }
 {

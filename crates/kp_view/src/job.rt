@@ -8,7 +8,6 @@ ghost use Rattle.kp_view.specs.Ends.{Ends};
 
 use crate::diagram::diagram;
 use crate::failure::{Complaint, Failure};
-use crate::svg::svg;
 use kp_base::Sink;
 use kp_diagram_run::laws::a_figure_shows_the_run;
 use kp_diagram_text::are_names;
@@ -43,7 +42,6 @@ fn of_job<K: Sink>(
 {
     let stages = job.design.job().stages.value as u8;
     if are_names(task.names, stages) {
-        a_figure_shows_the_run(job);
         drawn(alloc, task, job, out)
     } else {
         Err(Failure::Told(Complaint::WrongNames(task.names.len(), stages)))
@@ -60,8 +58,8 @@ fn drawn<K: Sink>(
     requires { are_names (task_seen task.now).names job.now.design.job.stages.value ≡ true }
     ensures { Ends K.held K.faults ⊥ (Draws (task_seen task.now) job.now.design.job) (task_seen task.now).file out.old out.new result }
 {
+    a_figure_shows_the_run(job);
     match task.word {
         Word::Diagram => diagram(alloc, task.names, task.count, job, out),
-        Word::Svg => svg(alloc, task.names, task.count, job, out),
     }
 }

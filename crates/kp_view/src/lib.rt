@@ -12,15 +12,13 @@ mod diagram;
 mod failure;
 mod job;
 mod sentences;
-mod svg;
 
 ghost use Rattle.std.specs.Prelude.{◌≡◌, ◌≢◌, ◌≤◌, ◌⊎◌, length, map, string_bytes, option_map, ℕ, true, false, Some, IfSome};
 ghost use Rattle.kp_base.specs.Causes.{Rose};
 ghost use Rattle.kp_base.specs.Refusal.{e_rule};
-ghost use Rattle.kp_view_words.specs.Asked.{asked, task_seen};
+ghost use Rattle.kp_view_words.specs.Asked.{asked, file_asked, task_seen};
 ghost use Rattle.kp_view_words.specs.Words.{Asked, Drawing, bad_words, draw};
 ghost use Rattle.kp_view_words.specs.declared.words.Topic.{Topic};
-ghost use Rattle.kp_view.specs.Complaints.{file_asked};
 ghost use Rattle.kp_view.specs.Due.{Says, DueFor, IsDue, IsFinal, Completes, Begins, Between, Prints, IsDrawn, IsRefusal, IsUnrefused, reads_input};
 ghost use Rattle.kp_view.specs.Ends.{Ends, EndsAt};
 ghost use Rattle.kp_view.specs.inner.Failures.{end_status};
@@ -100,18 +98,8 @@ fn ended<S: Source, K: Sink, E: Sink>(
 {
     match carry_out(alloc, request, source, out) {
         Ok(()) => Ok(0),
-        Err(Failure::Told(complaint)) => complain(complaint, file_of(request), err),
+        Err(Failure::Told(complaint)) => complain(complaint, request.file(), err),
         Err(Failure::Stopped(stop)) => Err(stop),
-    }
-}
-
-// The file of a drawing.
-fn file_of<'w>(request: &Request<'w>) -> Option<&'w String>
-    ensures { option_map (λ name. string_bytes name.now) result ≡ file_asked (asked request.now) }
-{
-    match request {
-        Request::Draw(task) => task.file,
-        Request::BadWords(_) | Request::Help(_) | Request::Version => None,
     }
 }
 

@@ -28,7 +28,7 @@ pub const SENTENCES: [&str; 38] = [
     "the result is set twice in a stage, or the hint is aimed twice",
     "the target has a result already",
     "a guess needs a register with a result that is written at least two stages later",
-    "the write stage is too early for the guesses of the machine",
+    "the write stage is more than one stage before the last write stage of a guessed register",
     "a hint is used outside a guess and an aim",
     "the function isn't declared before this call",
     "more than 64 brackets and operators are open",
@@ -39,7 +39,7 @@ pub const SENTENCES: [&str; 38] = [
     "there is no such stage, or the step is 0",
     "",
     "the sample is used in another stage than the one after its `at`",
-    "the stage of the sample is too early for the guesses of the machine",
+    "the stage of the sample is more than one stage before the last write stage of a guessed register",
     "the entry of the inputs names no sample",
     "the step is 0",
 ];

@@ -1,5 +1,5 @@
 -- What the words of a command line ask for.
-use Rattle.std.specs.Prelude.{◌==◌, ◌||◌, ◌&&◌, ◌-◌, not, ℕ, Bool, true, false, List, [], ◌∷◌, length, take, drop, nat_le, slice_get, if◌then◌else◌, codes, Option, Some, None, option_map, option_and_then}
+use Rattle.std.specs.Prelude.{◌==◌, ◌||◌, ◌&&◌, ◌-◌, not, ℕ, Bool, true, false, List, [], ◌∷◌, length, take, drop, nat_le, nat_lt, slice_get, if◌then◌else◌, codes, Option, Some, None, option_map, option_and_then}
 use Rattle.std.specs.List.{list_all, list_any}
 use Rattle.std.specs.Option.{option_map_or}
 use Rattle.std.specs.Str.{bytes_eq}
@@ -30,14 +30,12 @@ pub data Asked : Type 0 where
 -- the word of this name
 abbrev pub word_named : Text → Option Word
 word_named name =
-    if bytes_eq name (codes "diagram") then Some words.Diagram
-    else (if bytes_eq name (codes "svg") then Some words.Svg else None)
+    if bytes_eq name (codes "diagram") then Some words.Diagram else None
 
 -- the topic of a word: the word itself, or the program
 abbrev pub topic_named : Text → Topic
 topic_named name =
-    if bytes_eq name (codes "diagram") then topics.Diagram
-    else (if bytes_eq name (codes "svg") then topics.Svg else topics.Program)
+    if bytes_eq name (codes "diagram") then topics.Diagram else topics.Program
 
 abbrev pub is_help_word : Text → Bool
 is_help_word word = bytes_eq word (codes "help")
@@ -100,7 +98,7 @@ task_with head rest =
 
 -- the drawing of an accepted list: a word, a number, and at most 13 further words
 abbrev pub task_named : Option Word → Option ℕ → List Text → Option Drawing
-task_named (Some word) (Some count) rest = if nat_le (length rest) 13 then task_with (record { word = word; count = count }) rest else None
+task_named (Some word) (Some count) rest = if nat_lt 13 (length rest) then None else task_with (record { word = word; count = count }) rest
 task_named _ _ rest = None
 
 abbrev pub drawing_of : List Text → Option Drawing

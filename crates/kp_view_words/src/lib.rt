@@ -2,8 +2,10 @@
 #![tactic(auto)]
 
 mod matching;
+mod task;
 mod texts;
 mod words;
 
+pub use task::Task;
 pub use texts::{help_of, usage_of, version};
-pub use words::{Request, Task, Topic, Word};
+pub use words::{Request, Topic, Word};

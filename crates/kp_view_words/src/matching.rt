@@ -1,5 +1,5 @@
 // The word and its number, as `clap` matches them.
-ghost use Rattle.std.specs.Prelude.{◌≡◌, map, string_bytes, option_map, Ok, None, Some, IfOk, true, false};
+ghost use Rattle.std.specs.Prelude.{◌≡◌, ◌≤◌, map, string_bytes, option_map, None, Some, IfOk, IfSome, false};
 ghost use Rattle.std.specs.List.{list_any};
 ghost use Rattle.clap.specs.Words.{app_of, shape_of, subcommand_rows_of, with_subcommand};
 ghost use Rattle.clap.specs.declared.builder.command.Command.TheViews.{out-Command};
@@ -23,7 +23,8 @@ pub struct Head {
 /// error is out of memory.
 pub fn head_of(alloc: Global, words: &[String]) -> Result<Option<Head>, NoMemory>
     requires { list_any (λ word. begins_with_dash (string_bytes word)) words.now ≡ false }
-    ensures { IfOk result (λ head. head ≡ head_of (map string_bytes words.now)) }
+    ensures head { IfOk result (λ head. head ≡ head_of (map string_bytes words.now)) }
+    ensures few { IfOk result (λ head. IfSome head (λ h. h.count ≤ 1000)) }
 {
     match program(alloc)?.try_get_matches_from(words) {
         Ok(matches) => Ok(of_matches(&matches)),
@@ -34,7 +35,8 @@ pub fn head_of(alloc: Global, words: &[String]) -> Result<Option<Head>, NoMemory
 
 // The head that was matched.
 fn of_matches(matches: &ArgMatches<'_>) -> Option<Head>
-    ensures { result ≡ head_of_rows (subcommand_rows_of matches.now) }
+    ensures head { result ≡ head_of_rows (subcommand_rows_of matches.now) }
+    ensures few { IfSome result (λ h. h.count ≤ 1000) }
 {
     let (name, found) = matches.subcommand()?;
     head_by(name, found.get_str("number"))
@@ -42,7 +44,8 @@ fn of_matches(matches: &ArgMatches<'_>) -> Option<Head>
 
 // The head with this name and this number, if it is present.
 fn head_by(name: &str, number: Option<&str>) -> Option<Head>
-    ensures { result ≡ head_by name.now (option_map (λ word. word.now) number.entry) }
+    ensures head { result ≡ head_by name.now (option_map (λ word. word.now) number.entry) }
+    ensures few { IfSome result (λ h. h.count ≤ 1000) }
 {
     let word = Word::named(name)?;
     let count = count_of(number?.as_bytes())?;
@@ -57,8 +60,7 @@ fn program<'a>(alloc: Global) -> Result<clap::Command<'a>, AllocError>
         .no_binary_name(true)
         .disable_help_flag(true)
         .disable_help_subcommand(true);
-    let program = with_word(alloc, program, "diagram")?;
-    with_word(alloc, program, "svg")
+    with_word(alloc, program, "diagram")
 }
 
 // The program, with the word of this name added.

@@ -9,17 +9,11 @@ pub const VERSION: &str = "kpview 0.9.0\n";
 
 /// How the program is called.
 pub const USAGE: &str = "usage: kpview diagram N [NAMES] [FILE]
-       kpview svg N [NAMES] [FILE]
        kpview --help
 ";
 
 /// How `diagram` is called.
 pub const USAGE_DIAGRAM: &str = "usage: kpview diagram N [NAMES] [FILE]
-N is 0 to 1000; a name has 1 to 8 letters, digits or `_`
-";
-
-/// How `svg` is called.
-pub const USAGE_SVG: &str = "usage: kpview svg N [NAMES] [FILE]
 N is 0 to 1000; a name has 1 to 8 letters, digits or `_`
 ";
 
@@ -30,7 +24,6 @@ usage: kpview WORD .. [FILE]
 
 words:
   diagram N [NAMES] [FILE]   N cycles of the pipeline, as text
-  svg N [NAMES] [FILE]       the same, as an SVG picture
 
 The job is read from FILE, or from standard input.
 
@@ -43,7 +36,8 @@ status: 0 done, 1 wrong words, 2 the job violates a rule, 3 reading failed,
 ";
 
 /// The help of `diagram`.
-pub const HELP_DIAGRAM: &str = "Prints N cycles of the pipelined machine of a job as text: a line for each
+pub const HELP_DIAGRAM: &str =
+    "Prints N cycles of the pipelined machine of a job as text: a line for each
 instruction that is fetched, a column for each cycle, and the account of the
 cycles below them.
 
@@ -63,21 +57,6 @@ A cell names the stage that holds the instruction in the cycle, with a mark:
   x   squashed
 ";
 
-/// The help of `svg`.
-pub const HELP_SVG: &str = "Prints N cycles of the pipelined machine of a job as a picture, in SVG 1.1: a
-row for each instruction that is fetched, a column for each cycle, and the
-account of the cycles below them. The picture is self-contained.
-
-usage: kpview svg N [NAMES] [FILE]
-
-  N       the number of cycles, 0 to 1000
-  NAMES   a name for each stage, of 1 to 8 letters, digits or `_`, as in
-          IF ID EX ME WB; without names the stages are numbered
-  FILE    the job; without it, standard input is read. A single word after N
-          is a file. Of several, the last one is a file if it has a character
-          other than letters, digits and `_`, as in ./job
-";
-
 /// The help on a topic.
 pub fn help_of(topic: Topic) -> &'static str
     ensures { result.now ≡ help_text topic }
@@ -85,7 +64,6 @@ pub fn help_of(topic: Topic) -> &'static str
     match topic {
         Topic::Program => HELP,
         Topic::Diagram => HELP_DIAGRAM,
-        Topic::Svg => HELP_SVG,
     }
 }
 
@@ -96,7 +74,6 @@ pub fn usage_of(topic: Topic) -> &'static str
     match topic {
         Topic::Program => USAGE,
         Topic::Diagram => USAGE_DIAGRAM,
-        Topic::Svg => USAGE_SVG,
     }
 }
 

@@ -1,12 +1,13 @@
 // The words of a command line, and what they ask for.
-ghost use Rattle.std.specs.Prelude.{◌≡◌, ◌&&◌, not, map, string_bytes, option_map, Ok, None, Some, IfOk, true, false, length, drop, slice_get};
+ghost use Rattle.std.specs.Prelude.{◌≡◌, ◌≤◌, IfSome, map, string_bytes, option_map, Ok, None, Some, IfOk, true, false, length, drop, slice_get};
 ghost use Rattle.std.specs.List.{list_any, list_all};
 ghost use Rattle.std.specs.Option.{option_map_or};
-ghost use Rattle.kp_view_words.specs.Asked.{asked, task_seen};
-ghost use Rattle.kp_view_words.specs.Words.{asked_for, topic_of, topic_named, help_place, is_help_word, is_help_flag, is_version_flag, begins_with_dash, asks_help, task_of, task_with, word_named, count_of, has_file, names_in, file_in, is_name, is_path};
+ghost use Rattle.kp_view_words.specs.Asked.{asked, file_asked, task_seen};
+ghost use Rattle.kp_view_words.specs.Words.{asked_for, topic_of, topic_named, help_place, is_help_word, is_help_flag, is_version_flag, begins_with_dash, asks_help, task_of, task_with, word_named, count_of, names_in, file_in, is_name, is_path};
 ghost use Rattle.kp_view_words.specs.inner.Matching.{head_of};
 
 use crate::matching::{Head, head_of};
+use crate::task::Task;
 use kp_base::{NoMemory, is_word};
 use kp_bits::read_number;
 use std::alloc::Global;
@@ -22,8 +23,6 @@ const MOST_NAME: usize = 8;
 pub enum Word {
     /// `diagram`: the pipeline diagram as text.
     Diagram,
-    /// `svg`: the pipeline diagram as an SVG picture.
-    Svg,
 }
 
 /// What help and usage are about: the program or one of its words.
@@ -31,19 +30,6 @@ pub enum Word {
 pub enum Topic {
     Program,
     Diagram,
-    Svg,
-}
-
-/// A drawing of a job.
-#[derive(Clone, Copy)]
-pub struct Task<'w> {
-    pub word: Word,
-    /// The number of cycles, at most 1,000.
-    pub count: u32,
-    /// The names of the stages, each of 1 to 8 letters, digits or `_`; or none. There may be more or fewer than stages.
-    pub names: &'w [String],
-    /// The file of the job, or `None` for standard input.
-    pub file: Option<&'w String>,
 }
 
 /// What the words of a command line ask for.
@@ -73,6 +59,16 @@ impl<'w> Request<'w> {
             None => Ok(Request::BadWords(topic)),
         }
     }
+
+    /// The file of a drawing. `None` if standard input is read, or nothing.
+    pub fn file(&self) -> Option<&'w String>
+        ensures { option_map (λ word. string_bytes word.now) result ≡ file_asked (asked self.now) }
+    {
+        match self {
+            Request::Draw(task) => task.file,
+            Request::BadWords(_) | Request::Help(_) | Request::Version => None,
+        }
+    }
 }
 
 impl Topic {
@@ -82,7 +78,6 @@ impl Topic {
     {
         match word {
             "diagram" => Topic::Diagram,
-            "svg" => Topic::Svg,
             _ => Topic::Program,
         }
     }
@@ -95,7 +90,6 @@ impl Word {
     {
         match word {
             "diagram" => Some(Word::Diagram),
-            "svg" => Some(Word::Svg),
             _ => None,
         }
     }
@@ -170,6 +164,7 @@ fn task_of<'w>(alloc: Global, words: &'w [String]) -> Result<Option<Task<'w>>, N
 
 // The drawing with this head and these words after it: names of stages and a file.
 fn task_with<'w>(head: Head, rest: &'w [String]) -> Option<Task<'w>>
+    requires { head.count ≤ 1000 }
     ensures { option_map task_seen result ≡ task_with head (map string_bytes rest.now) }
 {
     let (names, file) = split(rest);
@@ -214,7 +209,8 @@ fn is_name(word: &str) -> bool
 /// The number of cycles that 1 to 20 decimal digits denote, up to 1,000.
 #[tactic(auto, unfolding(crate::specs::Words::count_of))]
 pub fn count_of(word: &[u8]) -> Option<u32>
-    ensures { result ≡ count_of word.now }
+    ensures count { result ≡ count_of word.now }
+    ensures few { IfSome result (λ count. count ≤ 1000) }
 {
     if word.len() > 20 {
         return None;

@@ -1,5 +1,5 @@
 -- What `clap` is given of the words, and how the program interprets what it found.
-use Rattle.std.specs.Prelude.{ℕ, true, false, List, [], ◌∷◌, map, codes, length, nat_le, if◌then◌else◌, Option, None, Some, option_map, option_and_then}
+use Rattle.std.specs.Prelude.{ℕ, true, false, List, [], ◌∷◌, map, codes, length, nat_lt, if◌then◌else◌, Option, None, Some, option_map, option_and_then}
 use Rattle.clap.specs.Walk.{Row, Rule, Text, first_of}
 use Rattle.clap.specs.Simple.{App, Shape, new_rule, new_shape}
 use Rattle.kp_view_words.specs.Words.{word_named, count_of}
@@ -8,7 +8,7 @@ use Rattle.kp_view_words.specs.declared.words.Word.{Word}
 
 -- The words that draw.
 abbrev pub known_names : List Text
-known_names = codes "diagram" ∷ codes "svg" ∷ []
+known_names = codes "diagram" ∷ []
 
 -- A number is required, and any text is accepted as one; up to 13 words follow.
 abbrev pub number_rule : Rule
@@ -48,5 +48,5 @@ head_of_rows (Some found) = head_by found.0 (first_of (codes "number") found.1)
 
 -- the head of an accepted list
 abbrev pub head_of : List Text → Option Head
-head_of (name ∷ count ∷ rest) = if nat_le (length rest) 13 then head_by name (Some count) else None
+head_of (name ∷ count ∷ rest) = if nat_lt 13 (length rest) then None else head_by name (Some count)
 head_of _ = None
