@@ -346,13 +346,13 @@ has_name name text h = sym ((bytes_eq-Decides name text).0 h)
 abbrev IsPassed : List Text → Type 0
 IsPassed words = fault_of (program_of known_names) words ≡ []
 
-none_by : (many : Bool) → cond many None (None {X = Head}) ≡ None
-none_by true = refl
-none_by false = refl
+none_by : (many : Bool) (x : Option Head) → x ≡ None → cond many None x ≡ None
+none_by true x h = refl
+none_by false x h = h
 
 -- a known name is rejected for its number of words alone
-known_unmatched : (name word : Text) (rest : List Text) → begins_with_dash word ≡ false → AreFree rest → refused_after name (word ∷ rest) ≡ []
-    ⊎ (nat_lt 13 (length rest) ≡ true)
+known_unmatched : (name word : Text) (rest : List Text) → begins_with_dash word ≡ false → AreFree rest
+    → (refused_after name (word ∷ rest) ≡ []) ⊎ (nat_lt 13 (length rest) ≡ true)
 known_unmatched name word [] h l = inl (number_passes name word h)
 known_unmatched name word (w ∷ more) h l = go (nat_lt 13 (length (w ∷ more))) refl
   where
@@ -383,4 +383,4 @@ unmatched (name ∷ word ∷ rest) h refused = go (bytes_eq name (codes "diagram
     go true e =
         subst (λ (n : Text). (IsPassed (n ∷ word ∷ rest) → ⊥) → head_of (n ∷ word ∷ rest) ≡ None) (has_name name (codes "diagram") e)
         (diagram_unmatched word rest first.0 first.1) refused
-    go false e = let none : word_named name ≡ None = rw e refl in rw none (none_by (nat_lt 13 (length rest)))
+    go false e = none_by (nat_lt 13 (length rest)) (head_by name (Some word)) (let none : word_named name ≡ None = rw e refl in rw none refl)
