@@ -16,7 +16,10 @@ use Rattle.kp_view.specs.Due.{Says, DueFor, DueOfJob, DueOfNames, IsDue, IsFinal
 use Rattle.kp_view.specs.Texts.{refusal_text}
 use Rattle.kp_view.specs.Ends.{Ends, EndsAt}
 use Rattle.kp_view.specs.inner.Failures.{stop_status, end_status}
+use Rattle.kp_view.specs.declared.failure.Complaint.TheVariants as complaints
 use Rattle.kp_view.specs.declared.failure.Failure.{Failure}
+use Rattle.kp_view.specs.declared.failure.Failure.TheVariants.{Complained}
+use Rattle.kp_view_words.specs.Texts.{help_text, version_text}
 use Rattle.kp_view.specs.declared.failure.Stop.{Stop}
 use Rattle.kp_view.specs.declared.failure.Stop.TheVariants.{ReadFault, WriteFault, NoMemory}
 use Rattle.kp_view.proofs.Ends.{weaker, said}
@@ -53,6 +56,22 @@ module _ {S : Type 0} (held : S → Option (List ℕ)) (faults : S → ℕ) (V :
       said held faults file other V (IsDue asked left left) text
       (record { taken = []; consumed = nothing_taken left; whole = rw none refl; due = due }) old new r ends
 
+  pub bad_words_end : (T : Type 0) (asked : Asked) (topic : Topic) (left file : Option (List ℕ)) (s : S) → asked ≡ bad_words topic
+      → Ends {U = T} held faults V (IsDue asked left left) file s s (Err (Complained (complaints.BadWords topic)))
+  bad_words_end T asked topic left file s is =
+      subst (λ (a : Asked). Ends {U = T} held faults V (IsDue a left left) file s s (Err (Complained (complaints.BadWords topic)))) (sym is)
+      (refl, record { taken = []; consumed = nothing_taken left; whole = refl; due = (refl, refl) })
+
+  pub help_end : (asked : Asked) (topic : Topic) (left file other : Option (List ℕ)) → asked ≡ help topic
+      → (old new : S) {T : Type 0} (r : Result T Failure) → Ends held faults ⊥ (Says 0 (help_text topic)) other old new r → Ends held faults V (IsDue asked left left) file old new r
+  help_end asked topic left file other is old new r ends =
+      unread_end asked left file other (help_text topic) (rw is refl) (rw is (refl, refl)) old new r ends
+
+  pub version_end : (asked : Asked) (left file other : Option (List ℕ)) → asked ≡ version
+      → (old new : S) {T : Type 0} (r : Result T Failure) → Ends held faults ⊥ (Says 0 version_text) other old new r → Ends held faults V (IsDue asked left left) file old new r
+  version_end asked left file other is old new r ends =
+      unread_end asked left file other version_text (rw is refl) (rw is (refl, refl)) old new r ends
+
   -- a drawing over all bytes of the source
   pub over_input : (d : Drawing) (left left_after file : Option (List ℕ)) (input : List ℕ) → Consumes left left_after input → IsAtEnd left_after → length input ≤ 16777216
       → (old new : S) {T : Type 0} (r : Result T Failure) → Ends held faults ⊥ (DueFor (draw d) input) file old new r → Ends held faults V (IsDue (draw d) left left_after) file old new r
@@ -84,11 +103,11 @@ due_all version taken rest status text whole due = due
 due_all (draw d) taken rest status text whole (verdict, judged, due) = (verdict, judges_all taken rest (ends_or_long taken rest whole) judged, due)
 
 -- where the bytes of the source are known, the outcome is the one for all of them
-told : (asked : Asked) (left left_after : Option (List ℕ)) (status : ℕ) (text : List ℕ) → IsDue asked left left_after status text
+for_all_bytes : (asked : Asked) (left left_after : Option (List ℕ)) (status : ℕ) (text : List ℕ) → IsDue asked left left_after status text
     → IfSome left (λ input. DueFor asked input status text)
-told asked None left_after status text due = tt
-told asked (Some input) None status text due = absurd due.consumed
-told asked (Some input) (Some rest) status text due =
+for_all_bytes asked None left_after status text due = tt
+for_all_bytes asked (Some input) None status text due = absurd due.consumed
+for_all_bytes asked (Some input) (Some rest) status text due =
     subst (λ (bytes : List ℕ). DueFor asked bytes status text) (sym due.consumed) (due_all asked due.taken rest status text due.whole due.due)
 
 module _ {S T : Type 0} (held : S → Option (List ℕ)) (faults : S → ℕ) (held_err : T → Option (List ℕ)) (faults_err : T → ℕ) (V : Type 0)
@@ -139,14 +158,14 @@ module _ {S T : Type 0} (held : S → Option (List ℕ)) (faults : S → ℕ) (h
   unfailing (Err NoMemory) status ends is source out err memory = absurd (memory is)
 
   -- the outcome for all bytes of the source
-  some_told : (l : Option (List ℕ)) (status : ℕ) (text : List ℕ) → IfSome l (λ input. DueFor asked input status text) → Prints held held_err old new old_err new_err status text
+  some_for_all : (l : Option (List ℕ)) (status : ℕ) (text : List ℕ) → IfSome l (λ input. DueFor asked input status text) → Prints held held_err old new old_err new_err status text
       → IfSome l (λ input. (text : List ℕ) × DueFor asked input status text × Prints held held_err old new old_err new_err status text)
-  some_told None status text due printed = tt
-  some_told (Some input) status text due printed = (text, due, printed)
+  some_for_all None status text due printed = tt
+  some_for_all (Some input) status text due printed = (text, due, printed)
 
   pub complete : (status : ℕ) → Whole status
       → IfSome left (λ input. (text : List ℕ) × DueFor asked input status text × Prints held held_err old new old_err new_err status text)
-  complete status (text, due, printed) = some_told left status text (told asked left left_after status text due) printed
+  complete status (text, due, printed) = some_for_all left status text (for_all_bytes asked left left_after status text due) printed
 
   pub bad : (topic : Topic) (status : ℕ) → asked ≡ bad_words topic → Whole status → status ≡ 1
   bad topic status is (text, due, printed) =

@@ -6,7 +6,7 @@ use Rattle.kp_base.specs.Causes.{Rose}
 use Rattle.kp_view.specs.Complaints.{complaint_status, complaint_text}
 use Rattle.kp_view.specs.Due.{Prints, PrintsPart}
 use Rattle.kp_view.specs.declared.failure.Failure.{Failure}
-use Rattle.kp_view.specs.declared.failure.Failure.TheVariants.{Told, Stopped}
+use Rattle.kp_view.specs.declared.failure.Failure.TheVariants.{Complained, Stopped}
 use Rattle.kp_view.specs.declared.failure.Stop.{Stop}
 use Rattle.kp_view.specs.declared.failure.Stop.TheVariants.{ReadFault, WriteFault, NoMemory}
 
@@ -15,7 +15,7 @@ use Rattle.kp_view.specs.declared.failure.Stop.TheVariants.{ReadFault, WriteFaul
 -- source.
 abbrev pub Ends : {S U : Type 0} → (S → Option (List ℕ)) → (S → ℕ) → Type 0 → (ℕ → List ℕ → Type 0) → Option (List ℕ) → S → S → Result U Failure → Type 0
 Ends held faults Unread Due file old new (Ok _) = (text : List ℕ) × Due 0 text × Appends (held old) (held new) text
-Ends held faults Unread Due file old new (Err (Told complaint)) = (new ≡ old) × Due (complaint_status complaint) (complaint_text file complaint)
+Ends held faults Unread Due file old new (Err (Complained complaint)) = (new ≡ old) × Due (complaint_status complaint) (complaint_text file complaint)
 Ends held faults Unread Due file old new (Err (Stopped WriteFault)) =
     Rose (faults old) (faults new) × (text : List ℕ) × Due 0 text × AppendsPart (held old) (held new) text
 Ends held faults Unread Due file old new (Err (Stopped ReadFault)) = Unread × (new ≡ old)

@@ -41,7 +41,7 @@ pub enum Complaint {
 /// Why a call ends early. A complaint is still to be printed.
 #[derive(Clone, Copy, Debug, PartialEq, Eq)]
 pub enum Failure {
-    Told(Complaint),
+    Complained(Complaint),
     Stopped(Stop),
 }
 
@@ -50,7 +50,7 @@ impl From<Refused> for Failure {
 
     fn from(refused: Refused) -> Self {
         match refused {
-            Refused::Rule(refusal) => Failure::Told(Complaint::Refused(refusal)),
+            Refused::Rule(refusal) => Failure::Complained(Complaint::Refused(refusal)),
             Refused::NoMemory => Failure::Stopped(Stop::NoMemory),
         }
     }

@@ -44,7 +44,7 @@ fn of_job<K: Sink>(
     if are_names(task.names, stages) {
         drawn(alloc, task, job, out)
     } else {
-        Err(Failure::Told(Complaint::WrongNames(task.names.len(), stages)))
+        Err(Failure::Complained(Complaint::WrongNames(task.names.len(), stages)))
     }
 }
 

@@ -98,7 +98,7 @@ fn ended<S: Source, K: Sink, E: Sink>(
 {
     match carry_out(alloc, request, source, out) {
         Ok(()) => Ok(0),
-        Err(Failure::Told(complaint)) => complain(complaint, request.file(), err),
+        Err(Failure::Complained(complaint)) => complain(complaint, request.file(), err),
         Err(Failure::Stopped(stop)) => Err(stop),
     }
 }
@@ -115,7 +115,7 @@ fn carry_out<S: Source, K: Sink>(
     ensures unread { reads_input (asked request.now) ≡ false → source.new ≡ source.old }
 {
     match request {
-        Request::BadWords(topic) => Err(Failure::Told(Complaint::BadWords(*topic))),
+        Request::BadWords(topic) => Err(Failure::Complained(Complaint::BadWords(*topic))),
         Request::Help(topic) => print(help_of(*topic), out),
         Request::Version => print(version(), out),
         Request::Draw(task) => over_source(alloc, task, source, out),
@@ -141,7 +141,7 @@ fn over_source<S: Source, K: Sink>(
 {
     match read_all(alloc, source) {
         Ok(input) => on_job(alloc, task, &input, out),
-        Err(ReadAll::TooLong) => Err(Failure::Told(Complaint::Refused(too_long()))),
+        Err(ReadAll::TooLong) => Err(Failure::Complained(Complaint::Refused(too_long()))),
         Err(ReadAll::Fault) => Err(Failure::Stopped(Stop::ReadFault)),
         Err(ReadAll::NoMemory) => Err(Failure::Stopped(Stop::NoMemory)),
     }

@@ -4,7 +4,7 @@ use Rattle.kp_base.specs.declared.refusal.Refused.{Refused}
 use Rattle.kp_base.specs.declared.refusal.Refused.TheVariants as refused
 use Rattle.kp_view.specs.declared.failure.Complaint.TheVariants as complaint
 use Rattle.kp_view.specs.declared.failure.Failure.{Failure}
-use Rattle.kp_view.specs.declared.failure.Failure.TheVariants.{Told, Stopped}
+use Rattle.kp_view.specs.declared.failure.Failure.TheVariants.{Complained, Stopped}
 use Rattle.kp_view.specs.declared.failure.Stop.{Stop}
 use Rattle.kp_view.specs.declared.failure.Stop.TheVariants.{ReadFault, WriteFault, NoMemory}
 
@@ -18,5 +18,5 @@ end_status (Ok status) = status
 end_status (Err stop) = stop_status stop
 
 abbrev pub failure_of : Refused → Failure
-failure_of (refused.Rule refusal) = Told (complaint.Refused refusal)
+failure_of (refused.Rule refusal) = Complained (complaint.Refused refusal)
 failure_of refused.NoMemory = Stopped NoMemory
