@@ -22,7 +22,7 @@ pub fn complain<K: Sink>(
 ) -> Result<u8, Stop>
     ensures { MatchResult result
         (λ status. (status ≡ complaint_status complaint) × Appends (K.held err.old) (K.held err.new) (complaint_text (option_map (λ name. string_bytes name.now) file.entry) complaint))
-        (λ stop. (stop ≡ stop.WriteFault) × Rose (K.faults err.old) (K.faults err.new)
+        (λ s. (s ≡ stop.WriteFault) × Rose (K.faults err.old) (K.faults err.new)
         × AppendsPart (K.held err.old) (K.held err.new) (complaint_text (option_map (λ name. string_bytes name.now) file.entry) complaint)) }
 {
     match write_complaint(complaint, file_name(file), err) {
