@@ -1,5 +1,5 @@
 -- What the words of a command line ask for.
-use Rattle.std.specs.Prelude.{◌==◌, ◌||◌, ◌&&◌, ◌-◌, not, ℕ, Bool, true, false, List, [], ◌∷◌, length, take, drop, nat_le, nat_lt, slice_get, if◌then◌else◌, codes, Option, Some, None, option_map, option_and_then}
+use Rattle.std.specs.Prelude.{◌==◌, ◌||◌, ◌&&◌, ◌-◌, not, ℕ, Bool, true, false, List, [], ◌∷◌, length, take, drop, leb, ltb, nat_le, nat_lt, slice_get, if◌then◌else◌, codes, Option, Some, None, option_map, option_and_then}
 use Rattle.std.specs.List.{list_all, list_any}
 use Rattle.std.specs.Option.{option_map_or}
 use Rattle.std.specs.Str.{bytes_eq}
@@ -69,25 +69,23 @@ count_of word =
 
 -- the name of a stage: 1 to 8 letters, digits or `_`
 abbrev pub is_name : Text → Bool
-is_name word = not (length word == 0) && (nat_le (length word) 8 && list_all is_word word)
+is_name word = ltb 0 (length word) && leb (length word) 8 && list_all is_word word
 
 -- a word with another character
 abbrev pub is_path : Text → Bool
 is_path word = list_any (λ byte. not (is_word byte)) word
 
 -- A single word after N is a file; of several, the last one is a file if it has another character than letters, digits and `_`.
-abbrev pub is_file_after : List Text → Text → Bool
-is_file_after names last = (length names == 0) || is_path last
-
-abbrev pub names_before : List Text → List Text
-names_before rest = take (length rest - 1) rest
+abbrev pub is_file_after : ℕ → Text → Bool
+is_file_after names last = (names == 0) || is_path last
 
 abbrev pub file_in : List Text → Option Text
 file_in rest =
-    option_and_then (λ last. if is_file_after (names_before rest) last then Some last else None) (slice_get rest (length rest - 1))
+    option_and_then (λ last. if is_file_after (length rest - 1) last then Some last else None) (slice_get rest (length rest - 1))
 
+-- the words before the file, or all of them
 abbrev pub names_in : List Text → List Text
-names_in rest = option_map_or (λ file. names_before rest) (file_in rest) rest
+names_in rest = option_map_or (λ file. take (length rest - 1) rest) (file_in rest) rest
 
 -- the drawing with this head and these words after it
 abbrev pub task_with : Head → List Text → Option Drawing

@@ -1,9 +1,10 @@
 // The words of a command line, and what they ask for.
-ghost use Rattle.std.specs.Prelude.{◌≡◌, ◌≤◌, IfSome, map, string_bytes, option_map, Ok, None, Some, IfOk, true, false, length, drop, slice_get};
+ghost use Rattle.std.specs.Prelude.{◌≡◌, ◌&&◌, ltb, leb, ◌≤◌, IfSome, map, string_bytes, option_map, Ok, None, Some, IfOk, true, false, length, drop, slice_get};
 ghost use Rattle.std.specs.List.{list_any, list_all};
 ghost use Rattle.std.specs.Option.{option_map_or};
 ghost use Rattle.kp_view_words.specs.Asked.{asked, file_asked, task_seen};
-ghost use Rattle.kp_view_words.specs.Words.{asked_for, topic_of, topic_named, help_place, is_help_word, is_help_flag, is_version_flag, begins_with_dash, asks_help, task_of, task_with, word_named, count_of, names_in, file_in, is_name, is_path};
+ghost use Rattle.kp_base.specs.Characters.{is_word};
+ghost use Rattle.kp_view_words.specs.Words.{asked_for, topic_of, topic_named, help_place, is_help_word, is_help_flag, is_version_flag, begins_with_dash, asks_help, task_of, task_with, word_named, count_of, names_in, file_in, is_file_after, is_name, is_path};
 ghost use Rattle.kp_view_words.specs.inner.Matching.{head_of};
 
 use crate::matching::{Head, head_of};
@@ -51,7 +52,7 @@ impl<'w> Request<'w> {
         if asks_help(words) {
             return Ok(Request::Help(topic));
         }
-        if words.iter().any(|word| is_version_flag(word.as_str())) {
+        if has_version_flag(words) {
             return Ok(Request::Version);
         }
         match task_of(alloc, words)? {
@@ -139,18 +140,39 @@ fn begins_with_dash(word: &str) -> bool
     matches!(word.as_bytes(), [b'-', ..])
 }
 
+// One of the words is a flag for help.
+fn has_help_flag(words: &[String]) -> bool
+    ensures { result ≡ list_any (λ word. is_help_flag (string_bytes word)) words.now }
+{
+    words.iter().any(|word| is_help_flag(word.as_str()))
+}
+
+// One of the words is a flag for the version.
+fn has_version_flag(words: &[String]) -> bool
+    ensures { result ≡ list_any (λ word. is_version_flag (string_bytes word)) words.now }
+{
+    words.iter().any(|word| is_version_flag(word.as_str()))
+}
+
+// One of the words begins with `-`.
+fn has_dash(words: &[String]) -> bool
+    ensures { result ≡ list_any (λ word. begins_with_dash (string_bytes word)) words.now }
+{
+    words.iter().any(|word| begins_with_dash(word.as_str()))
+}
+
 // The words ask for help: the first is `help`, or one is a flag for help.
 fn asks_help(words: &[String]) -> bool
     ensures { result ≡ asks_help (map string_bytes words.now) }
 {
-    help_place(words) == 1 || words.iter().any(|word| is_help_flag(word.as_str()))
+    help_place(words) == 1 || has_help_flag(words)
 }
 
 // The drawing that the words ask for. `None` if one of them begins with `-`, or if they are none of a drawing.
 fn task_of<'w>(alloc: Global, words: &'w [String]) -> Result<Option<Task<'w>>, NoMemory>
     ensures { IfOk result (λ task. option_map task_seen task ≡ task_of (map string_bytes words.now)) }
 {
-    if words.iter().any(|word| begins_with_dash(word.as_str())) {
+    if has_dash(words) {
         return Ok(None);
     }
     let Some(rest) = words.get(2..) else {
@@ -167,28 +189,52 @@ fn task_with<'w>(head: Head, rest: &'w [String]) -> Option<Task<'w>>
     requires { head.count ≤ 1000 }
     ensures { option_map task_seen result ≡ task_with head (map string_bytes rest.now) }
 {
-    let (names, file) = split(rest);
-    if !names.iter().all(|name| is_name(name.as_str())) {
-        return None;
+    let names = names_in(rest);
+    if are_names(names) {
+        Some(Task {
+            word: head.word,
+            count: head.count,
+            names,
+            file: file_in(rest),
+        })
+    } else {
+        None
     }
-    Some(Task {
-        word: head.word,
-        count: head.count,
-        names,
-        file,
-    })
 }
 
-// The names among the words after N, and the file if there is one: a single word is a file, and of several the last one if it isn't a word of letters,
-// digits and `_`.
-fn split<'w>(rest: &'w [String]) -> (&'w [String], Option<&'w String>)
-    ensures names { map string_bytes result.0.now ≡ names_in (map string_bytes rest.now) }
-    ensures file { option_map (λ word. string_bytes word.now) result.1 ≡ file_in (map string_bytes rest.now) }
+// The names among the words after N.
+fn names_in(rest: &[String]) -> &[String]
+    ensures { map string_bytes result.now ≡ names_in (map string_bytes rest.now) }
 {
     match rest.split_last() {
-        Some((last, names)) if names.is_empty() || is_path(last.as_str()) => (names, Some(last)),
-        _ => (rest, None),
+        Some((last, names)) => if is_file_after(names, last) {
+            names
+        } else {
+            rest
+        },
+        None => rest,
     }
+}
+
+// The file among them, if there is one.
+fn file_in(rest: &[String]) -> Option<&String>
+    ensures { option_map (λ word. string_bytes word.now) result ≡ file_in (map string_bytes rest.now) }
+{
+    match rest.split_last() {
+        Some((last, names)) => if is_file_after(names, last) {
+            Some(last)
+        } else {
+            None
+        },
+        None => None,
+    }
+}
+
+// The last word is a file: after no names, or if it isn't a word of letters, digits and `_`.
+fn is_file_after(names: &[String], last: &str) -> bool
+    ensures { result ≡ is_file_after (length names.now) last.now }
+{
+    names.is_empty() || is_path(last)
 }
 
 // A word that can't be a name, as it has a character other than letters, digits and `_`.
@@ -198,12 +244,30 @@ fn is_path(word: &str) -> bool
     word.as_bytes().iter().any(|byte| !is_word(*byte))
 }
 
+fn are_names(names: &[String]) -> bool
+    ensures { result ≡ list_all (λ name. is_name (string_bytes name)) names.now }
+{
+    names.iter().all(|name| is_name(name.as_str()))
+}
+
 // The name of a stage.
 fn is_name(word: &str) -> bool
     ensures { result ≡ is_name word.now }
 {
+    has_name_length(word) && is_all_word(word.as_bytes())
+}
+
+fn has_name_length(word: &str) -> bool
+    ensures { result ≡ (ltb 0 (length word.now) && leb (length word.now) 8) }
+{
     let bytes = word.as_bytes();
-    !bytes.is_empty() && bytes.len() <= MOST_NAME && bytes.iter().all(|byte| is_word(*byte))
+    0 < bytes.len() && bytes.len() <= MOST_NAME
+}
+
+fn is_all_word(bytes: &[u8]) -> bool
+    ensures { result ≡ list_all is_word bytes.now }
+{
+    bytes.iter().all(|byte| is_word(*byte))
 }
 
 /// The number of cycles that 1 to 20 decimal digits denote, up to 1,000.
