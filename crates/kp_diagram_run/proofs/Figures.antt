@@ -29,18 +29,26 @@ figure-same name names n e f rows h =
     })
     (fetches-same e f n 0 (λ k. 0) true rows h) (account-same e f (n - 1) 0 (λ k. Filling) rows h)
 
-pub figure-is : (job : Job) (n : ℕ) (name : List ℕ) (names : List (List ℕ)) (stages : ℕ) (rows : List masks.Row) (words : List ℕ)
+abbrev ext_in : List ℕ → ℕ → ℕ → Bool
+ext_in words T k = bit_of (get_or words T 0) k
+
+figure-is : (job : Job) (n : ℕ) (name : List ℕ) (names : List (List ℕ)) (stages : ℕ) (rows : List masks.Row) (words : List ℕ)
     → inputs_seen job (inputs_to job n) ≡ inputs_from job 0 n → IsRunOf job n rows words
     → name ≡ job.name.name → stages ≡ job.stages.value
-    → figure_from name names stages (λ T k. bit_of (get_or words T 0) k) (rows_seen stages rows) ≡ job_figure names n job
+    → figure_from name names stages (ext_in words) (rows_seen stages rows) ≡ job_figure names n job
 figure-is job n name names stages rows words seen run named same =
-    ap₂ (λ (x : List ℕ) (m : ℕ). figure_from x names m ext (rows_seen m rows)) named same
-    ∙ figure-same job.name.name names job.stages.value ext (stalls_of (inputs_from job 0 n)) (rows_seen job.stages.value rows)
+    ap₂ (λ (x : List ℕ) (m : ℕ). figure_from x names m (ext_in words) (rows_seen m rows)) named same
+    ∙ figure-same job.name.name names job.stages.value (ext_in words) (stalls_of (inputs_from job 0 n)) (rows_seen job.stages.value rows)
     (λ T b. fun_ext (λ k. ap (λ (w : ℕ). bit_of w k) (run.words T (short T b)) ∙ words-seen job n T k seen (short T b)))
     ∙ ap (figure_from job.name.name names job.stages.value (stalls_of (inputs_from job 0 n))) run.rows
   where
-    ext : ℕ → ℕ → Bool
-    ext T k = bit_of (get_or words T 0) k
-
     short : (T : ℕ) → T < length (rows_seen job.stages.value rows) → T < n
     short T b = omega (arith, b, seen_length job.stages.value rows, run.count)
+
+pub figure-of : (job : Job) (n : ℕ) (name : List ℕ) (names : List (List ℕ)) (stages : ℕ) (rows given : List masks.Row) (words listed : List ℕ)
+    → inputs_seen job (inputs_to job n) ≡ inputs_from job 0 n → IsRunOf job n given listed → rows ≡ given → words ≡ listed
+    → name ≡ job.name.name → stages ≡ job.stages.value
+    → figure_from name names stages (ext_in words) (rows_seen stages rows) ≡ job_figure names n job
+figure-of job n name names stages rows given words listed seen run same_rows same_words named same =
+    ap₂ (λ (rs : List masks.Row) (ws : List ℕ). figure_from name names stages (ext_in ws) (rows_seen stages rs)) same_rows same_words
+    ∙ figure-is job n name names stages given listed seen run named same

@@ -1,4 +1,4 @@
 pub mod Alike
 pub mod Words
 pub mod Figures
-pub mod Laws
+pub mod Shown

@@ -1,4 +1,4 @@
--- The stall words of a run are those of its inputs.
+-- The stall words of a run: as a list, and as those of its inputs.
 use Rattle.std.proofs.Common.{◌≡◌, ◌∙◌, ℕ, zero, suc, ◌+◌, ◌%◌, ◌^◌, ◌<◌, ◌≤◌, List, [], ◌∷◌, ◌++◌, map, length, get_or, false, refl, ap, sym, ⊎_elim, arith, length-append}
 use Rattle.std.proofs.Math.Nat.{mod-eq_of_lt}
 use Rattle.std.proofs.lemmas.Bool.{cases_lt}
@@ -13,6 +13,7 @@ use Rattle.kp_sched.proofs.Bits.{word_fits}
 use Rattle.kp_synth_spec.specs.Traces.{input_seen, inputs_seen}
 use Rattle.kp_run.specs.Cycles.{input_at, inputs_to}
 use Rattle.kp_diagram.specs.Claims.{stalls_of}
+use Rattle.kp_diagram_run.specs.inner.Words.{words_to}
 
 stalls-at : (ins : List Inputs) (T k : ℕ) (d : Inputs) → T < length ins → stalls_of ins T k ≡ (get_or ins T d).ext k
 stalls-at [] T k d b = absurd (omega (arith, b))
@@ -50,3 +51,17 @@ words-seen job n T k seen b =
   where
     within_map : (ins : List Input) → T < length ins → T < length (map (input_seen job) ins)
     within_map ins h = let e : length (map (input_seen job) ins) ≡ length ins = length-map ins (input_seen job) in omega (arith, e, h)
+
+-- THE LIST of n words.
+pub words-many : (f : ℕ → ℕ) (n : ℕ) → length (words_to f n) ≡ n
+words-many f zero = refl
+words-many f (suc n) = length-append (words_to f n) (f n ∷ []) ∙ (let e : length (words_to f n) ≡ n = words-many f n in omega (arith, e))
+
+pub word-at : (f : ℕ → ℕ) (n T : ℕ) → T < n → get_or (words_to f n) T 0 ≡ f T
+word-at f zero T b = absurd (omega (arith, b))
+word-at f (suc n) T b = ⊎_elim
+    (λ (h : T < n). get_or_append_left (words_to f n) (f n ∷ []) 0 T (omega (arith, h, words-many f n)) ∙ word-at f n T h)
+    (λ (h : n ≤ T).
+    let last : n ≡ T = omega (arith, h, b) in
+    get_or_push (words_to f n) (f n) 0 T (words-many f n ∙ last) ∙ ap f last)
+    (cases_lt T n)

@@ -1,7 +1,7 @@
 //! What the diagram of a job says of its pipelined machine.
 
 ghost use Rattle.std.specs.Prelude.{ℕ, List};
-ghost use Rattle.kp_diagram_run.specs.Laws.{ShowsRun};
+ghost use Rattle.kp_diagram_run.specs.Claims.{ShowsRun};
 ghost use Rattle.kp_diagram_run.specs.Runs.{job_figure};
 
 use kp_frontend::Accepted;

@@ -1,6 +1,6 @@
 //! From a job to its diagram: the job is synthesised and run, and its rows and stall words are what the diagram is drawn from.
 //!
-//! `specs/Runs.antt` says of which run the rows are, and defines the figure of a job; `specs/Laws.antt` says what that figure shows of the
+//! `specs/Runs.antt` says of which run the rows are, and defines the figure of a job; `specs/Claims.antt` says what that figure shows of the
 //! pipelined machine of the job. All memory is allocated before anything is drawn, and out of memory is the only error.
 #![tactic(auto)]
 
@@ -9,9 +9,10 @@ pub mod laws;
 ghost use Rattle.std.specs.Prelude.{◌≡◌, ◌≤◌, ◌<◌, ℕ, true, length, get_or, map, string_bytes, IfOk};
 ghost use Rattle.kp_machine.specs.Machine.{inputs_from, pipe_of};
 ghost use Rattle.kp_sched.specs.Rows.{rows_seen};
-ghost use Rattle.kp_stage.specs.Start.{stall_word};
+ghost use Rattle.kp_image.specs.Spans.{word_in};
 ghost use Rattle.kp_diagram_text.specs.Charts.{IsDrawable, are_names, figure_of};
 ghost use Rattle.kp_diagram_run.specs.Runs.{IsRunOf, job_figure};
+ghost use Rattle.kp_diagram_run.specs.inner.Words.{words_to};
 
 use kp_base::{NoMemory, Row};
 use kp_diagram_text::Chart;
@@ -45,11 +46,15 @@ pub fn chart_of<'a>(job: &'a Accepted, run: &'a JobRun, names: &'a [String]) -> 
         → are_names (map string_bytes names.now) job.now.design.job.stages.value ≡ true → IsDrawable result }
 {
     a_job_gives_its_own_inputs(job);
+    let tree = job.design.job();
+    let stages = tree.stages.value as u8;
+    let rows = run.rows.as_slice();
+    let words = run.words.as_slice();
     Chart {
-        name: job.design.job().name.name.bytes(),
-        stages: job.design.job().stages.value as u8,
-        rows: run.rows.as_slice(),
-        words: run.words.as_slice(),
+        name: tree.name.name.bytes(),
+        stages,
+        rows,
+        words,
         names,
     }
 }
@@ -70,8 +75,7 @@ fn rows_of(alloc: Global, job: &Accepted, count: u32) -> Result<Vec<Row>, NoMemo
 
 // The stall words of `count` cycles.
 fn words_of(alloc: Global, job: &Accepted, count: u32) -> Result<Vec<u16>, NoMemory>
-    ensures count { IfOk result (λ words. length words.items ≡ count) }
-    ensures words { IfOk result (λ words. (T : ℕ) → T < count → get_or words.items T 0 ≡ stall_word job.now.design.job T) }
+    ensures { IfOk result (λ words. words.items ≡ words_to (word_in job.now.sections.stalls) count) }
 {
     let mut words = Vec::new(alloc);
     for cycle in 0..count {

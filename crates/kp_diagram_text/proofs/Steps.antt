@@ -1,20 +1,35 @@
 -- The steps of the loops that write a diagram.
-use Rattle.std.proofs.Common.{◌≡◌, ◌∙◌, ℕ, zero, suc, ◌+◌, ◌-◌, ◌<◌, ◌≤◌, Bool, true, false, cond, List, [], ◌∷◌, ◌++◌, length, get_or, take, drop, map, max, ltb, Option, Some, None, refl, ap, ap₂, sym, subst, arith, replicate, decimal}
-use Rattle.std.proofs.lemmas.Bool.{cond-true, cond-false, lt-ltb, le-ltb}
-use Rattle.std.proofs.lemmas.List.{drop_all, drop_more, get_or-map, length-map, length-take-le, replicate-append-replicate, take_more}
+use Rattle.std.proofs.Common.{◌≡◌, ◌∙◌, ℕ, suc, ◌+◌, ◌-◌, ◌<◌, ◌≤◌, Bool, true, false, cond, List, [], ◌∷◌, ◌++◌, length, get_or, take, drop, Option, Some, None, refl, ap, ap₂, sym, subst, arith, replicate, decimal}
+use Rattle.std.proofs.lemmas.List.{drop_all, drop_more, length-take-le, replicate-append-replicate, take_more}
 use Rattle.kp_base.specs.declared.row.Row as masks
 use Rattle.kp_base.specs.inner.Bytes.{WrittenUpTo}
 use Rattle.kp_pipeline.specs.Rows.{Row, count_after, counts}
 use Rattle.kp_pipeline.proofs.Counts.{counts-more}
 use Rattle.kp_sched.specs.Rows.{row_seen, rows_seen}
 use Rattle.kp_sched.proofs.Counting.{seen_length, seen_more}
-use Rattle.kp_diagram.specs.Diagram.{Mark, cells_from, fetches_from, fetches_next, mark, next_place}
+use Rattle.kp_diagram.specs.Diagram.{Mark, account, cells_from, diagram, fetches_from, fetches_next, mark, next_place}
 use Rattle.kp_diagram.proofs.Cells.{cells-none}
-use Rattle.kp_diagram_text.specs.Text.{cells_text, cycle_numbers, in_column, line_at, lines_text, sign, spaces, stage_name}
+use Rattle.kp_diagram_text.specs.declared.chart.Chart.{Chart}
+use Rattle.kp_diagram_text.specs.Charts.{ext_of, figure_of, names_of, rows_of}
+use Rattle.kp_diagram_text.specs.Text.{account_text, cells_text, column, cycle_numbers, diagram_text, head, in_column, legend, line_at, lines_text, sign, spaces, stage_name}
 
 -- what is left is the same text
 pub left_is : (whole rest same : List ℕ) (a b : Option (List ℕ)) → rest ≡ same → WrittenUpTo whole rest a b → WrittenUpTo whole same a b
 left_is whole rest same a b e written = subst (λ (text : List ℕ). WrittenUpTo whole text a b) e written
+
+-- THE TEXT of a chart, from its parts.
+pub text_is : (c : Chart) (width : ℕ) → width ≡ column (names_of c) c.stages (length c.rows.now)
+    → head c.name.now c.stages (length c.rows.now) width
+    ++ (lines_text width (names_of c) (diagram c.stages (ext_of c) (rows_of c))
+    ++ (legend ++ account_text (length c.rows.now) (account (c.stages - 1) (ext_of c) (rows_of c))))
+    ≡ diagram_text (figure_of c)
+unfolding diagram_text
+text_is c width is =
+    let long : length (rows_of c) ≡ length c.rows.now = seen_length c.stages c.rows.now in
+    ap₂ (λ (w count : ℕ). head c.name.now c.stages count w
+    ++ (lines_text w (names_of c) (diagram c.stages (ext_of c) (rows_of c))
+    ++ (legend ++ account_text count (account (c.stages - 1) (ext_of c) (rows_of c)))))
+    (is ∙ ap (column (names_of c) c.stages) (sym long)) (sym long)
 
 -- SPACES and numbers of cycles.
 pub spaces_next : (left here : ℕ) → here ≤ left → spaces left ≡ spaces here ++ spaces (left - here)
@@ -74,7 +89,7 @@ module _ (n : ℕ) (ext : ℕ → ℕ → Bool) (width : ℕ) (names : List (Lis
     counts_next =
         let long : length (rows_seen n (take T rows)) ≡ T = seen_length n (take T rows) ∙ length-take-le T rows (omega arith) in
         let more : take (T + 1) rows ≡ take T rows ++ r ∷ [] = take_more rows T d b ∙ ap (λ (x : masks.Row). take T rows ++ x ∷ []) (sym is) in
-        sym (ap₂ (λ (rs : List masks.Row) (U : ℕ). counts n (rows_seen n rs) U) more (omega arith)
+        sym (ap₂ (λ (rs : List masks.Row) (U : ℕ). counts n (rows_seen n rs) U) more (sym next_cycle)
         ∙ ap₂ (λ (rs : List Row) (U : ℕ). counts n rs (suc U)) (seen_more n (take T rows) r) (sym long)
         ∙ counts-more n (λ k. 0) (rows_seen n (take T rows)) (row_seen n r)
         ∙ ap (λ (U : ℕ). count_after n (row_seen n r) (counts n (rows_seen n (take T rows)) U)) long)

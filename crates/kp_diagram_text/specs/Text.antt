@@ -1,5 +1,5 @@
 -- THE TEXT of a diagram: a line for each fetch, a column for each cycle, and the account below.
-use Rattle.std.specs.Prelude.{ℕ, zero, suc, ◌+◌, ◌-◌, ◌*◌, ◌/◌, ◌%◌, ◌==◌, max, ltb, Bool, cond, List, [], ◌∷◌, ◌++◌, length, get_or, flat_map, replicate, codes, decimal, if◌then◌else◌}
+use Rattle.std.specs.Prelude.{ℕ, zero, suc, ◌+◌, ◌-◌, ◌*◌, ◌/◌, ◌%◌, ◌==◌, max, ltb, cond, List, [], ◌∷◌, ◌++◌, length, get_or, flat_map, replicate, codes, decimal, if◌then◌else◌}
 use Rattle.kp_diagram.specs.Diagram.{Account, Cell, Fetch, Mark, Moves, WaitsForValue, WaitsForStage, Held, Squashed}
 use Rattle.kp_diagram_text.specs.Figures.{Figure}
 
@@ -26,11 +26,14 @@ column names n count = max (longest names n + 2) (length (decimal count) + 1)
 abbrev pub counted : ℕ → List ℕ → List ℕ → List ℕ
 counted count one more = if count == 1 then one else more
 
--- `mini5: 5 stages, 26 cycles`, and the head of the column of numbers
-unfoldable pub title : List ℕ → ℕ → ℕ → List ℕ
-title name n count =
+-- `mini5: 5 stages, 26 cycles`
+unfoldable pub size_text : List ℕ → ℕ → ℕ → List ℕ
+size_text name n count =
     name ++ codes ": " ++ decimal n ++ codes " stages, " ++ decimal count ++ counted count (codes " cycle") (codes " cycles")
-    ++ codes "\n\ninstruction "
+
+-- and the head of the column of numbers
+unfoldable pub title : List ℕ → ℕ → ℕ → List ℕ
+title name n count = size_text name n count ++ codes "\n\ninstruction "
 
 -- the numbers of `count` cycles from cycle T on
 abbrev pub cycle_numbers : ℕ → ℕ → ℕ → List ℕ
@@ -97,7 +100,7 @@ retired_text count retired =
 
 -- `    5 cycles lost to wrong guesses`
 unfoldable pub lost_words : ℕ → List ℕ → List ℕ
-lost_words count cause = counted count (codes " cycle  lost to ") (codes " cycles lost to ") ++ cause ++ codes "\n"
+lost_words count cause = counted count (codes " cycle  lost to ") (codes " cycles lost to ") ++ (cause ++ codes "\n")
 
 abbrev pub lost_line : ℕ → List ℕ → List ℕ
 lost_line count cause = if count == 0 then [] else in_column 5 (decimal count) ++ lost_words count cause

@@ -1,5 +1,6 @@
 // What a diagram is drawn from.
-ghost use Rattle.std.specs.Prelude.{◌≡◌, ◌+◌, ◌<◌, ◌≤◌, length, decimal, map, string_bytes};
+ghost use Rattle.std.specs.Prelude.{◌≡◌, ◌+◌, ◌<◌, ◌≤◌, length, map, max, string_bytes};
+ghost use Rattle.std.specs.List.{list_all};
 ghost use Rattle.kp_base.specs.Bytes.{Writes};
 ghost use Rattle.kp_base.specs.Causes.{HasCause};
 ghost use Rattle.kp_diagram_text.specs.Charts.{IsDrawable, are_names as are_names_for, is_name as is_a_name, names_of};
@@ -28,7 +29,7 @@ impl<'a> Chart<'a> {
     {
         let mut longest = 0;
         for k in 0..self.stages {
-            longest = longest.max(self.name_length(k));
+            longest = larger(longest, self.name_length(k));
         }
         longest
     }
@@ -38,6 +39,12 @@ impl<'a> Chart<'a> {
         requires { IsDrawable self.now }
         ensures value { result ≡ length (stage_name (names_of self.now) k) }
         ensures few { result ≤ 8 }
+    {
+        self.bytes_of_name(k)
+    }
+
+    fn bytes_of_name(&self, k: u8) -> usize
+        ensures { result ≡ length (stage_name (names_of self.now) k) }
     {
         if usize::from(k) < self.names.len() {
             self.names[usize::from(k)].as_bytes().len()
@@ -69,8 +76,14 @@ impl<'a> Chart<'a> {
     {
         let mut buffer = Buffer::new();
         let digits = buffer.format(self.rows.len() as u64).len();
-        (self.longest() + 2).max(digits + 1)
+        larger(self.longest() + 2, digits + 1)
     }
+}
+
+fn larger(a: usize, b: usize) -> usize
+    ensures { result ≡ max a b }
+{
+    if a < b { b } else { a }
 }
 
 /// Whether these are names for the stages of a machine of n stages: none, or one of 1 to 8 letters, digits or `_` for each stage.
@@ -84,16 +97,15 @@ fn are_all_names(names: &[String]) -> bool
     ensures { result ≡ list_all is_a_name (map string_bytes names.now) }
 {
     for name in names {
-        if !is_name(name) {
+        if !is_name(name.as_bytes()) {
             return false;
         }
     }
     true
 }
 
-fn is_name(name: &str) -> bool
-    ensures { result ≡ is_a_name (string_bytes name) }
+fn is_name(name: &[u8]) -> bool
+    ensures { result ≡ is_a_name name.now }
 {
-    let bytes = name.as_bytes();
-    0 < bytes.len() && bytes.len() <= 8 && word_length(bytes) == bytes.len()
+    0 < name.len() && name.len() <= 8 && word_length(name) == name.len()
 }

@@ -2,7 +2,7 @@
 ghost use Rattle.std.specs.Prelude.{◌≡◌, ◌+◌, ◌<◌, ◌≤◌, ◌++◌, cond, length, [], drop, codes, Some};
 ghost use Rattle.kp_base.specs.Bytes.{Writes};
 ghost use Rattle.kp_base.specs.Causes.{HasCause};
-ghost use Rattle.kp_sched.specs.Rows.{bit_of, row_seen, rows_seen};
+ghost use Rattle.kp_sched.specs.Rows.{rows_seen};
 ghost use Rattle.kp_diagram.specs.Diagram.{cells_from, diagram};
 ghost use Rattle.kp_diagram_text.specs.Charts.{IsDrawable, ext_of, names_of, rows_of};
 ghost use Rattle.kp_diagram_text.specs.Marks.{shown};
@@ -11,7 +11,7 @@ ghost use Rattle.kp_diagram_text.specs.Text.{cells_text, in_column, line_at, lin
 use crate::cells::{Mark, fetches_next, mark_of, next_place};
 use crate::chart::Chart;
 use crate::pieces::{write_number, write_spaces};
-use kp_base::{Row, Sink, SinkFault, write_all};
+use kp_base::{Sink, SinkFault, write_all};
 use kp_sched::Monitor;
 
 /// Writes a line for each instruction, in the order in which they enter stage 0.

@@ -3,7 +3,7 @@ ghost use Rattle.std.specs.Prelude.{◌≡◌, ◌++◌, ◌<◌, ◌≤◌, ltb
 ghost use Rattle.kp_base.specs.Bytes.{Writes};
 ghost use Rattle.kp_base.specs.Causes.{HasCause};
 ghost use Rattle.kp_diagram_text.specs.Losses.{account_shown};
-ghost use Rattle.kp_diagram_text.specs.Text.{account_text, in_column, lost_line, lost_words, losses_text, rate, rate_text, retired_text, waits_text};
+ghost use Rattle.kp_diagram_text.specs.Text.{account_text, counted as counted_text, in_column, lost_line, lost_words, losses_text, rate, rate_text, retired_text, waits_text};
 
 use crate::account::Account;
 use crate::pieces::{counted, write_number};
@@ -175,15 +175,37 @@ fn write_some_lost<K: Sink>(count: u64, cause: &[u8], sink: &mut K) -> Result<()
     write_lost_words(count, cause, sink)
 }
 
-#[tactic(auto, unfolding(crate::specs::Text::lost_words))]
+#[tactic(auto, using(kp_base::proofs::Bytes::writes_next, kp_base::proofs::Bytes::part_more), unfolding(crate::specs::Text::lost_words))]
 fn write_lost_words<K: Sink>(count: u64, cause: &[u8], sink: &mut K) -> Result<(), SinkFault>
     ensures text { Writes (K.held sink.old) (K.held sink.new) (lost_words count cause.now) result }
     ensures cause { HasCause (K.faults sink.old) (K.faults sink.new) result }
 {
-    let pieces = [
-        counted(count, b" cycle  lost to ", b" cycles lost to "),
-        cause,
-        b"\n".as_slice(),
-    ];
-    write_pieces(sink, &pieces)
+    write_counted(count, b" cycle  lost to ", b" cycles lost to ", sink)?;
+    write_cause(cause, sink)
+}
+
+// One text for a count of 1, and another for any other.
+fn write_counted<K: Sink>(
+    count: u64,
+    one: &[u8],
+    more: &[u8],
+    sink: &mut K,
+) -> Result<(), SinkFault>
+    ensures text { Writes (K.held sink.old) (K.held sink.new) (counted_text count one.now more.now) result }
+    ensures cause { HasCause (K.faults sink.old) (K.faults sink.new) result }
+{
+    if count == 1 {
+        write_all(sink, one)
+    } else {
+        write_all(sink, more)
+    }
+}
+
+#[tactic(auto, using(kp_base::proofs::Bytes::writes_next, kp_base::proofs::Bytes::part_more))]
+fn write_cause<K: Sink>(cause: &[u8], sink: &mut K) -> Result<(), SinkFault>
+    ensures text { Writes (K.held sink.old) (K.held sink.new) (cause.now ++ codes "\n") result }
+    ensures cause { HasCause (K.faults sink.old) (K.faults sink.new) result }
+{
+    write_all(sink, cause)?;
+    write_all(sink, b"\n")
 }

@@ -4,7 +4,7 @@ ghost use Rattle.kp_base.specs.Bytes.{Writes};
 ghost use Rattle.kp_base.specs.Causes.{HasCause};
 ghost use Rattle.kp_diagram.specs.Diagram.{account, diagram};
 ghost use Rattle.kp_diagram_text.specs.Charts.{IsDrawable, ext_of, figure_of, names_of, rows_of};
-ghost use Rattle.kp_diagram_text.specs.Text.{account_text, cycle_numbers, diagram_text, head, legend as legend_text, lines_text, title};
+ghost use Rattle.kp_diagram_text.specs.Text.{account_text, cycle_numbers, diagram_text, head, legend as legend_text, lines_text, size_text, title};
 
 use crate::account::account_of;
 use crate::chart::Chart;
@@ -84,9 +84,18 @@ fn write_head<K: Sink>(chart: &Chart<'_>, width: usize, sink: &mut K) -> Result<
     write_cycles(chart.rows.len(), width, sink)
 }
 
-#[tactic(auto, unfolding(crate::specs::Text::title))]
+#[tactic(auto, using(kp_base::proofs::Bytes::writes_next, kp_base::proofs::Bytes::part_more), unfolding(crate::specs::Text::title))]
 fn write_title<K: Sink>(name: &[u8], stages: u8, count: u64, sink: &mut K) -> Result<(), SinkFault>
     ensures text { Writes (K.held sink.old) (K.held sink.new) (title name.now stages count) result }
+    ensures cause { HasCause (K.faults sink.old) (K.faults sink.new) result }
+{
+    write_size(name, stages, count, sink)?;
+    write_all(sink, b"\n\ninstruction ")
+}
+
+#[tactic(auto, unfolding(crate::specs::Text::size_text))]
+fn write_size<K: Sink>(name: &[u8], stages: u8, count: u64, sink: &mut K) -> Result<(), SinkFault>
+    ensures text { Writes (K.held sink.old) (K.held sink.new) (size_text name.now stages count) result }
     ensures cause { HasCause (K.faults sink.old) (K.faults sink.new) result }
 {
     let (mut first, mut second) = (Buffer::new(), Buffer::new());
@@ -97,7 +106,6 @@ fn write_title<K: Sink>(name: &[u8], stages: u8, count: u64, sink: &mut K) -> Re
         b" stages, ".as_slice(),
         second.format(count).as_bytes(),
         counted(count, b" cycle", b" cycles"),
-        b"\n\ninstruction ".as_slice(),
     ];
     write_pieces(sink, &pieces)
 }

@@ -1,4 +1,4 @@
-use Rattle.kp_diagram_run.proofs.Laws.{shows-run}
+use Rattle.kp_diagram_run.proofs.Shown.{shows-run}
 use Rattle.kp_diagram_run.proofs.laws.a_figure_shows_the_run.Goals as goal
 
 pub returns : goal.returns

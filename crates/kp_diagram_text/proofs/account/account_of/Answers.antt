@@ -1,11 +1,22 @@
-use Rattle.std.proofs.Common.{rules, ◌≡◌, ◌∙◌, ℕ, ◌+◌, ◌-◌, ◌<◌, ◌≤◌, ap, length, refl, arith, option_map}
-use Rattle.std.proofs.lemmas.List.{drop_all}
+use Rattle.std.proofs.Common.{◌∙◌, ℕ, ◌+◌, ◌-◌, ap, refl, arith, option_map, replicate}
+use Rattle.std.proofs.lemmas.List.{drop_all, get_or-replicate}
 use Rattle.kp_diagram.specs.Diagram.{account}
 use Rattle.kp_diagram.specs.Claims.{cycles_of}
 use Rattle.kp_diagram_text.specs.Charts.{ext_of, rows_of}
+use Rattle.kp_diagram_text.specs.declared.account.Loss.TheVariants as losses
 use Rattle.kp_diagram_text.specs.Losses.{account_shown, loss_shown, losses_shown}
 use Rattle.kp_diagram_text.proofs.Accounts.{account-end, account-first, account-next, cycles-more}
 use Rattle.kp_diagram_text.proofs.account.account_of.Goals as goal
+
+pub loop-cycle-init : goal.loop-cycle-init
+loop-cycle-init c =
+    let chart = c.args.chart.now in
+    record {
+      length = refl;
+      sum = refl;
+      so_far = account-first chart.stages (chart.stages - 1) (ext_of chart) chart.rows.now (losses_shown (replicate 12 losses.Filling))
+          (λ j b. ap loss_shown (get_or-replicate 12 j losses.Filling losses.Filling (omega (arith, b, c.requires.some, c.requires.few))));
+    }
 
 pub loop-cycle-preserved : goal.loop-cycle-preserved
 loop-cycle-preserved c =

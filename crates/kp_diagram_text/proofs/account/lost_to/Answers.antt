@@ -1,5 +1,4 @@
-use Rattle.std.proofs.Common.{rules, ◌≡◌, ◌+◌, ◌<◌, ◌≤◌, slice_index_or}
-use Rattle.kp_sched.specs.Rows.{bit_of, row_seen}
+use Rattle.std.proofs.Common.{rules}
 use Rattle.kp_diagram_text.specs.Losses.{losses_shown}
 use Rattle.kp_diagram_text.proofs.Losses.{lost_none, lost_waiting, lost_empty}
 use Rattle.kp_diagram_text.proofs.account.lost_to.Goals as goal

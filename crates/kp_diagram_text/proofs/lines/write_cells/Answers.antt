@@ -1,4 +1,4 @@
-use Rattle.std.proofs.Common.{refl, sym, ◌∙◌, arith}
+use Rattle.std.proofs.Common.{refl, arith}
 use Rattle.std.proofs.KnownBytes.{Appends-nil}
 use Rattle.std.proofs.lemmas.Result.{err_from_is_err_and}
 use Rattle.kp_base.proofs.Bytes.{written_piece, written_part, rest_whole}
@@ -13,13 +13,13 @@ returns-in-None-clause-text g c =
     (left_is _ _ _ _ _ (cells_gone chart.stages (ext_of chart) c.args.width (names_of chart) chart.rows.now c.loop-cycle.cycle c.loop-cycle.place c.in-None.is) c.loop-cycle.invariant.text)
     (Appends-nil _)
 
-pub returns-in_err-write_cell-clause-text : goal.returns-in_err-write_cell-clause-text
-returns-in_err-write_cell-clause-text g c =
+pub returns-in_err-write_cell-in-Some-clause-text : goal.returns-in_err-write_cell-in-Some-clause-text
+returns-in_err-write_cell-in-Some-clause-text g c =
     let chart = c.args.chart.now in
     let exit = err_from_is_err_and c.from_residual.result c.from_residual.ensures.1 in
     rw exit.1 (written_part _ _ _ _ _ _
     (left_is _ _ _ _ _ (cells_next chart.stages (ext_of chart) c.args.width (names_of chart) chart.rows.now c.loop-cycle.cycle _ _ c.loop-cycle-test.true refl _ _ c.loop-cycle.place _ c.in-Some.is c.mark_of-mark.ensures refl) c.loop-cycle.invariant.text)
-    c.in_err-write_cell.ensures.text)
+    c.in_err-write_cell-in-Some.ensures.text)
 
 pub loop-cycle-preserved : goal.loop-cycle-preserved
 loop-cycle-preserved g c =
@@ -27,7 +27,7 @@ loop-cycle-preserved g c =
     record {
       text = written_piece _ _ _ _ _ _
           (left_is _ _ _ _ _ (cells_next chart.stages (ext_of chart) c.args.width (names_of chart) chart.rows.now c.loop-cycle.cycle _ _ c.loop-cycle-test.true refl _ _ c.loop-cycle.place _ c.in-Some.is c.mark_of-mark.ensures c.next_place-place.ensures.place) c.loop-cycle.invariant.text)
-          c.in_ok-write_cell.ensures.text;
+          c.in_ok-write_cell-in-Some.ensures.text;
       later = omega arith;
       within = c.next_place-place.ensures.within;
     }

@@ -1,4 +1,4 @@
-use Rattle.std.proofs.Common.{◌≡◌, ◌∙◌, ℕ, List, length, take, ap, ap₂, refl, subst, sym, arith}
+use Rattle.std.proofs.Common.{◌≡◌, ◌∙◌, ℕ, List, get_or, take, ap₂, refl, subst, arith}
 use Rattle.std.proofs.KnownBytes.{Appends-nil}
 use Rattle.std.proofs.lemmas.List.{length-take-le}
 use Rattle.std.proofs.lemmas.Result.{err_from_is_err_and}
@@ -19,6 +19,9 @@ cycle-requires g c =
     let few = c.requires.drawable.cycles in
     omega (arith, seen, many, few)
 
+none : Row
+none = record { full = 0; ue = 0; back = 0 }
+
 pub returns-in_err-write_fetch-clause-text : goal.returns-in_err-write_fetch-clause-text
 returns-in_err-write_fetch-clause-text g c =
     let chart = c.args.chart.now in
@@ -29,7 +32,7 @@ returns-in_err-write_fetch-clause-text g c =
     ∙ ap₂ (λ (n U : ℕ). counts n (rows_seen n (take T chart.rows.now)) U 0) c.loop-cycle.invariant.stages many in
     let exit = err_from_is_err_and c.from_residual.result c.from_residual.ensures.1 in
     rw exit.1 (written_part _ _ _ _ _ _
-    (left_is _ _ _ _ _ (lines_next chart.stages (ext_of chart) c.args.width (names_of chart) chart.rows.now T _ _ c.loop-cycle-test.true refl c.loop-cycle.enters _ c.count-number.result refl number) c.loop-cycle.invariant.text)
+    (left_is _ _ _ _ _ (lines_next chart.stages (ext_of chart) c.args.width (names_of chart) chart.rows.now T (get_or chart.rows.now T none) none c.loop-cycle-test.true refl c.loop-cycle.enters _ c.count-number.result refl number) c.loop-cycle.invariant.text)
     c.in_err-write_fetch.ensures.text)
 
 pub loop-cycle-preserved : goal.loop-cycle-preserved

@@ -1,24 +1,26 @@
-use Rattle.std.proofs.Common.{◌≡◌, ℕ, List, take, replicate, arith}
+use Rattle.std.proofs.Common.{◌≡◌, ◌≤◌, ℕ, take, arith}
 use Rattle.std.proofs.lemmas.List.{take-replicate}
 use Rattle.std.proofs.lemmas.Result.{err_from_is_err_and}
 use Rattle.kp_base.proofs.Bytes.{written_piece, written_part}
+use Rattle.kp_diagram_text.specs.Text.{spaces}
 use Rattle.kp_diagram_text.proofs.Steps.{left_is, spaces_next}
 use Rattle.kp_diagram_text.proofs.pieces.write_spaces.Goals as goal
+
+front : (here : ℕ) → here ≤ 64 → take here (spaces 64) ≡ spaces here
+front here b = take-replicate here 64 32 b
 
 pub returns-in_err-write_all-clause-text : goal.returns-in_err-write_all-clause-text
 returns-in_err-write_all-clause-text g c =
     let here = c.min-here.result in
-    let is : take here (replicate 64 32) ≡ replicate here 32 = take-replicate here 64 32 (omega (arith, c.min-here.ensures)) in
     let exit = err_from_is_err_and c.from_residual.result c.from_residual.ensures.1 in
     rw exit.1 (written_part _ _ _ _ _ _ (left_is _ _ _ _ _ (spaces_next c.loop-left.left here (omega (arith, c.min-here.ensures))) c.loop-left.invariant.text)
-    (rw is at c.in_err-write_all.ensures.text))
+    (rw (front here (omega (arith, c.min-here.ensures))) at c.in_err-write_all.ensures.text))
 
 pub loop-left-preserved : goal.loop-left-preserved
 loop-left-preserved g c =
     let here = c.min-here.result in
-    let is : take here (replicate 64 32) ≡ replicate here 32 = take-replicate here 64 32 (omega (arith, c.min-here.ensures)) in
     record {
       text = written_piece _ _ _ _ _ _ (left_is _ _ _ _ _ (spaces_next c.loop-left.left here (omega (arith, c.min-here.ensures))) c.loop-left.invariant.text)
-          (rw is at c.in_ok-write_all.ensures.text);
+          (rw (front here (omega (arith, c.min-here.ensures))) at c.in_ok-write_all.ensures.text);
       later = omega arith;
     }

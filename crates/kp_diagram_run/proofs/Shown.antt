@@ -15,7 +15,7 @@ use Rattle.kp_diagram.proofs.Causes.{causes, counted}
 use Rattle.kp_diagram.proofs.Cells.{holds-shown, reasons, shown-holds}
 use Rattle.kp_diagram.proofs.Retired.{retired-in_order}
 use Rattle.kp_diagram_text.specs.Figures.{figure_from}
-use Rattle.kp_diagram_run.specs.Laws.{ShowsPipe, ShowsRun}
+use Rattle.kp_diagram_run.specs.Claims.{ShowsPipe, ShowsRun}
 use Rattle.kp_diagram_run.specs.Runs.{job_figure}
 
 one-each : (last : ℕ) (ext : ℕ → ℕ → Bool) (T : ℕ) (loss : ℕ → Loss) (rows : List Row) → length (spent_from last ext T loss rows) ≡ length rows
@@ -23,13 +23,13 @@ one-each last ext T loss [] = refl
 one-each last ext T loss (r ∷ rows) = ap suc (one-each last ext (suc T) (losses_after (ext T) r loss) rows)
 
 module _ (m : Machine) (s : ℕ → ℕ → ℕ) (hints : ℕ → ℕ) (ins : List Inputs) (acc : Accepted m) where
-  rows : List Row
+  abbrev rows : List Row
   rows = (pipe m s hints ins).rows
 
   long : length rows ≡ length ins
   long = rows-length m (pipeline_start s hints) ins
 
-  last : ℕ
+  abbrev last : ℕ
   last = m.stages - 1
 
   top : suc last ≡ m.stages
@@ -44,7 +44,7 @@ module _ (m : Machine) (s : ℕ → ℕ → ℕ) (hints : ℕ → ℕ) (ins : Li
     marks = reasons m acc s hints ins;
     retired = retired-in_order m acc (stalls_of ins) s hints ins last top
         ∙ ap (numbers_from 0) (sym (retired-passed last (stalls_of ins) 0 (λ k. Filling) rows));
-    passed = retired-passed last (stalls_of ins) 0 (λ k. Filling) rows;
+    leaving = retired-passed last (stalls_of ins) 0 (λ k. Filling) rows;
     total = adds-up last (stalls_of ins) 0 (λ k. Filling) rows;
     spent = spent last (stalls_of ins) rows;
     many = one-each last (stalls_of ins) 0 (λ k. Filling) rows;

@@ -14,7 +14,7 @@ use Rattle.kp_diagram_text.specs.Figures.{Figure}
 --
 -- A fetch of instruction i has a cell in cycle T and stage k exactly where stage k is full in that cycle and holds instruction i
 -- (`cells`, `all`). The mark of a cell has its reason in the machine (`marks`). The fetches that retire have the numbers 0, 1, 2 and so on, as
--- many as the account says (`retired`), and these are the instructions that leave the last stage (`passed`).
+-- many as the account says (`retired`), and these are the instructions that leave the last stage (`leaving`).
 --
 -- The account adds up: the instructions that retired and all losses are the cycles of the run (`total`). Each cycle is counted under its
 -- cause: there is a list of what the cycles were spent for (`spent`, `many`) in which each cycle has its cause in the machine (`causes`), and the
@@ -26,7 +26,7 @@ pub record ShowsPipe (m : Machine) (s : ℕ → ℕ → ℕ) (hints : ℕ → �
   pub all : (i T k : ℕ) → Holds m.stages (pipe m s hints ins).rows i T k → Shows f.fetches i T k
   pub marks : HasReasons m (pipeline_start s hints) ins f.fetches
   pub retired : retired_numbers f.stages f.fetches ≡ numbers_from 0 f.account.retired
-  pub passed : f.account.retired ≡ passed (pipe m s hints ins).rows (m.stages - 1) f.cycles
+  pub leaving : f.account.retired ≡ passed (pipe m s hints ins).rows (m.stages - 1) f.cycles
   pub total : cycles_of f.account ≡ f.cycles
   pub spent : List (Option Loss)
   pub many : length spent ≡ f.cycles
