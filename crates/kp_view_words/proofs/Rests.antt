@@ -4,7 +4,7 @@ use Rattle.std.specs.Prelude.{slice_get, nat_lt, option_and_then, unwrap_or}
 use Rattle.std.specs.List.{IsLastAndRest, list_all, list_any}
 use Rattle.std.specs.Option.{option_map_or}
 use Rattle.std.proofs.lemmas.Option.{slice_get-get_or}
-use Rattle.std.proofs.lemmas.List.{map-append, length-map, length-append}
+use Rattle.std.proofs.lemmas.List.{map-append, length-drop, length-map, length-append, take_all}
 use Rattle.std.proofs.Math.Seq.{take-append_seam, get_or-append_seam}
 use Rattle.kp_view_words.specs.Words.{Asked, Drawing, Text, asked_for, asked_or, asks_help, begins_with_dash, count_of, file_in, help, is_file_after, help_place, is_help_flag, is_help_word, is_name, is_version_flag, names_in, task_named, task_of, task_with, topic_of, version, word_named}
 use Rattle.kp_view_words.specs.inner.Matching.{head_by, head_of, head_with}
@@ -104,6 +104,10 @@ task_of_head (name ∷ number ∷ rest) head free h =
     let named : task_named (word_named name) (count_of number) rest ≡ task_with head rest = with_head head rest (nat_lt 13 (length rest)) (word_named name) (count_of number) refl h in
     rw free named
 
+-- the rest of a list from a place on
+pub rest_is : {X : Type 0} (rest words : List X) (n : ℕ) → rest ≡ take (length words - n) (drop n words) → rest ≡ drop n words
+rest_is rest words n is = is ∙ take_all (length words - n) (drop n words) (let e = length-drop n words in omega (arith, e))
+
 -- what the words ask for
 pub asked_version : (all : List Text) → asks_help all ≡ false → list_any is_version_flag all ≡ true → version ≡ asked_for all
 asked_version all h v = sym (ap₂ (λ (b c : Bool). cond b (help (topic_of all)) (cond c version (asked_or (topic_of all) (task_of all)))) h v)
@@ -115,7 +119,10 @@ asked_task all task h v is =
     ∙ sym (ap₂ (λ (b c : Bool). cond b (help (topic_of all)) (cond c version (asked_or (topic_of all) (task_of all)))) h v)
 
 -- the first word isn't `help`
-asks_by : (first flag b : Bool) → (cond first 1 0 ≡ 1 → ⊥) → b ≡ flag → b ≡ (first || flag)
+abbrev place_by : Bool → ℕ
+place_by first = cond first 1 0
+
+asks_by : (first flag b : Bool) → (place_by first ≡ 1 → ⊥) → b ≡ flag → b ≡ (first || flag)
 asks_by true flag b h e = absurd (h refl)
 asks_by false flag b h e = e
 
