@@ -9,11 +9,11 @@ use Rattle.kp_diagram.specs.Claims.{stalls_of}
 use Rattle.kp_diagram_text.specs.Figures.{Figure, figure_from}
 
 -- The rows and the stall words of n cycles of the pipelined machine of a job, under the job's own stall words and samples.
-pub record IsRunOf (job : Job) (n : ℕ) (rows : List masks.Row) (words : List ℕ) : Type 0 where
-  pub rows : rows_seen job.stages.value rows ≡ (pipe_of job (inputs_from job 0 n)).rows
-  pub count : length rows ≡ n
-  pub many : length words ≡ n
-  pub words : (T : ℕ) → T < n → get_or words T 0 ≡ stall_word job T
+pub record IsRunOf (job : Job) (n : ℕ) (given : List masks.Row) (listed : List ℕ) : Type 0 where
+  pub rows : rows_seen job.stages.value given ≡ (pipe_of job (inputs_from job 0 n)).rows
+  pub count : length given ≡ n
+  pub many : length listed ≡ n
+  pub words : (T : ℕ) → T < n → get_or listed T 0 ≡ stall_word job T
 
 -- THE FIGURE of a job, over n cycles of that run, with these names of its stages.
 abbrev pub job_figure : List (List ℕ) → ℕ → Job → Figure
