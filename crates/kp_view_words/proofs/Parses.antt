@@ -1,5 +1,5 @@
 -- What `clap` returns for words none of which begins with `-`.
-use Rattle.std.proofs.Common.{◌≡◌, ◌∙◌, ◌⊎◌, ℕ, suc, Bool, cond, true, false, refl, sym, ap, ap₂, subst, List, [], ◌∷◌, ◌++◌, map, fold, ◌&&◌, ◌||◌, Option, Some, None, is_some, inl, inr, true≢false, codes, append-nil, append_assoc, arith, ◌≤◌}
+use Rattle.std.proofs.Common.{◌≡◌, ◌∙◌, ◌⊎◌, ℕ, Bool, cond, true, false, refl, sym, ap, ap₂, subst, List, [], ◌∷◌, ◌++◌, map, fold, ◌&&◌, ◌||◌, Option, Some, None, is_some, inl, inr, true≢false, codes, append-nil, append_assoc, arith}
 use Rattle.std.specs.Prelude.{⊤, Box, nat_lt, length, find, unwrap_or, option_map}
 use Rattle.std.specs.Str.{bytes_eq}
 use Rattle.std.specs.List.{list_any}
@@ -16,11 +16,11 @@ use Rattle.clap.specs.declared.parser.matches.SubCommand.{SubCommand}
 use Rattle.clap.specs.declared.builder.value_parser.ValueParser.TheVariants as parsers
 use Rattle.clap.specs.declared.error.kind.ErrorKind.TheVariants as kind
 use Rattle.clap.specs.Kinds.{Kinds, or_else, range_kinds, values_kinds}
-use Rattle.clap.specs.Faults.{fault_of, level_fault, turn_fault, step_fault, walk_fault, word_fault, defaults_fault, settle_fault, check_fault, entered_fault, other_fault, use_fault}
+use Rattle.clap.specs.Faults.{fault_of, level_fault, turn_fault, step_fault, walk_fault, word_fault, defaults_fault, settle_fault, check_fault, entered_fault, other_fault}
 use Rattle.clap.proofs.WalkLemmas.{walk_stopped}
 use Rattle.clap.proofs.FaultLemmas.{stopped_fault}
 use Rattle.kp_view_words.specs.Words.{begins_with_dash, word_named}
-use Rattle.kp_view_words.specs.inner.Matching.{head_by, head_of, head_of_rows, known_names, number_rule, program_of, program_shape, shape_named}
+use Rattle.kp_view_words.specs.inner.Matching.{head_by, head_of, head_of_rows, known_names, program_of, program_shape, shape_named}
 use Rattle.kp_view_words.specs.declared.matching.Head.{Head}
 
 -- ---- a word that does not begin with `-`

@@ -1,5 +1,5 @@
 -- What the words of a command line ask for.
-use Rattle.std.specs.Prelude.{◌==◌, ◌||◌, ◌&&◌, ◌-◌, not, ℕ, Bool, true, false, List, [], ◌∷◌, length, take, drop, leb, ltb, nat_le, nat_lt, slice_get, if◌then◌else◌, codes, Option, Some, None, option_map, option_and_then}
+use Rattle.std.specs.Prelude.{◌==◌, ◌||◌, ◌&&◌, ◌-◌, not, ℕ, Bool, false, List, [], ◌∷◌, length, take, leb, ltb, nat_le, nat_lt, slice_get, if◌then◌else◌, codes, Option, Some, None, option_and_then}
 use Rattle.std.specs.List.{list_all, list_any}
 use Rattle.std.specs.Option.{option_map_or}
 use Rattle.std.specs.Str.{bytes_eq}

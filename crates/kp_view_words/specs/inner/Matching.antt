@@ -1,5 +1,5 @@
 -- What `clap` is given of the words, and how the program interprets what it found.
-use Rattle.std.specs.Prelude.{ℕ, true, false, List, [], ◌∷◌, map, codes, length, nat_lt, if◌then◌else◌, Option, None, Some, option_map, option_and_then}
+use Rattle.std.specs.Prelude.{ℕ, true, false, List, [], ◌∷◌, map, codes, length, nat_lt, if◌then◌else◌, Option, None, Some, option_and_then}
 use Rattle.clap.specs.Walk.{Row, Rule, Text, first_of}
 use Rattle.clap.specs.Simple.{App, Shape, new_rule, new_shape}
 use Rattle.kp_view_words.specs.Words.{word_named, count_of}

@@ -20,4 +20,4 @@ returns-then-are_names g c =
 pub returns-else-are_names : goal.returns-else-are_names
 returns-else-are_names g c =
     names_wrong g.K.Sink.held g.K.Sink.faults (task_seen c.args.task.now).file _ (task_seen c.args.task.now) c.args.job.now.design.job _ _ _
-    (rw c.job.ensures.job (sym c.are_names.ensures ∙ c.if-are_names.false)) (sym (length-map string_bytes c.args.task.now.names.now)) (rw c.job.ensures.job refl)
+    (rw c.job.ensures.job (sym c.are_names.ensures ∙ c.if-are_names.false)) (sym (length-map c.args.task.now.names.now string_bytes)) (rw c.job.ensures.job refl)
