@@ -18,7 +18,7 @@ use Rattle.kp_view.specs.Complaints.{complaint_status, complaint_text}
 use Rattle.kp_view.specs.Due.{DueFor, DueOfJob, DueOfNames, Draws, Says, figure_drawn, figure_text}
 use Rattle.kp_diagram_text.specs.Charts.{are_names}
 use Rattle.kp_diagram_text.specs.Text.{diagram_text}
-use Rattle.kp_diagram_run.specs.Laws.{ShowsRun}
+use Rattle.kp_diagram_run.specs.Claims.{ShowsRun}
 use Rattle.kp_view.specs.Texts.{names_text}
 use Rattle.kp_view_words.specs.declared.words.Word.TheVariants as words
 use Rattle.kp_view.specs.Ends.{Ends, EndsAt}

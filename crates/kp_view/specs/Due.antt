@@ -14,7 +14,7 @@ use Rattle.kp_diagram_text.specs.Charts.{are_names}
 use Rattle.kp_diagram_text.specs.Figures.{Figure}
 use Rattle.kp_diagram_text.specs.Text.{diagram_text}
 use Rattle.kp_diagram_run.specs.Runs.{job_figure}
-use Rattle.kp_diagram_run.specs.Laws.{ShowsRun}
+use Rattle.kp_diagram_run.specs.Claims.{ShowsRun}
 use Rattle.kp_view.specs.Texts.{names_text, refusal_text}
 
 -- exactly this status and this text
