@@ -1,55 +1,60 @@
-# make          proves and builds the program, crates/kp/out/kp, where a source is newer: some 30 minutes on four processors from nothing
+# make          proves and builds the programs kp and kpview where a source is newer: some 30 minutes on four processors from nothing
+# make kp       the first alone, crates/kp/out/kp; make kpview the second, crates/kpview/out/kpview
 # make check    the gate: all proofs, the edits that proofs must reject, and all stored runs, as .ci/run does
 # make checks   the checks beside the gate: commands of the manual, other tools on the Verilog, refused memory; a line for each
 # make bench    the measurements of time and memory in benches/
-# make install  installs the built program, manual pages, completions, editor files, documents and examples: PREFIX=/usr/local DESTDIR=
+# make install  installs the built programs, manual pages, completions, editor files, documents and examples: PREFIX=/usr/local DESTDIR=
 # make uninstall  removes what make install put there
 # make dist     packs what would be installed: out/dist/kp-VERSION.tar.gz, and its sum in out/dist/SHA256SUMS
 # make clean    removes what was built and proved here
 # make help     prints these lines
 
-program = crates/kp/out/kp
-lock    = out/build.lock
+programs = kp kpview
+lock     = out/build.lock
 
 # The scripts of checks/ that pass or fail.
-all_checks = names.py cited_lemmas.py manual.py memory.sh verilog.sh waves.sh hardware.sh dist.sh build.sh
+all_checks = names.py cited_lemmas.py version.sh manual.py memory.sh verilog.sh waves.sh hardware.sh dist.sh build.sh
 all_benches = asm seq sim watch synth nodes read hostile
 
-.PHONY: kp built check checks bench install uninstall dist clean help
+.PHONY: all $(programs) $(programs:%=built-%) check checks bench install uninstall dist clean help
+
+all: $(programs)
 
 # Where another make or ./kp builds here, this one waits for it, and then looks again at what is out of date.
-kp:
+$(programs):
 	@mkdir -p out
-	@flock -n -o -E 75 $(lock) $(MAKE) -s --no-print-directory built || { \
-	    [ $$? -eq 75 ] && echo 'kp: another build is running here, and this one waits for it' >&2 && \
-	    flock -o $(lock) $(MAKE) -s --no-print-directory built; }
+	@flock -n -o -E 75 $(lock) $(MAKE) -s --no-print-directory built-$@ || { \
+	    [ $$? -eq 75 ] && echo '$@: another build is running here, and this one waits for it' >&2 && \
+	    flock -o $(lock) $(MAKE) -s --no-print-directory built-$@; }
 
-# Only `make built` looks at what the program and the crates below it are made from.
-ifneq ($(filter built,$(MAKECMDGOALS)),)
-crates  := $(shell awk -v top=kp -f .ci/crates.awk crates.txt)
+# Only `make built-PROGRAM` looks at what the program and the crates below it are made from.
+top := $(patsubst built-%,%,$(filter built-%,$(MAKECMDGOALS)))
+ifneq ($(top),)
+crates  := $(shell awk -v top=$(top) -f .ci/crates.awk crates.txt)
 sources := $(shell find $(crates:%=crates/%) -name out -prune -o -name must-fail -prune -o -type f -print) crates.txt
 
-built: $(program)
+built-$(top): crates/$(top)/out/$(top)
 
-$(program): $(sources)
-	@.ci/build
+crates/$(top)/out/$(top): $(sources)
+	@.ci/build $(top)
 endif
 
 check:
 	@.ci/run
 
 # KP names another program than the one that is built here.
-checks: $(if $(KP),,kp)
+checks: $(if $(KP),,kp) $(if $(KPVIEW),,kpview)
 	@checks/each $(all_checks)
 
 bench: $(if $(KP),,kp)
 	@for it in $(all_benches); do echo "== $$it"; sh benches/$$it.sh || exit 1; done
 
-# PREFIX is an absolute path. DESTDIR is a folder in which it is installed as if it were the root, for packages. KP_BINARY names another file
-# than the program that is built here.
-PREFIX    = /usr/local
-DESTDIR   =
-KP_BINARY = $(program)
+# PREFIX is an absolute path. DESTDIR is a folder in which it is installed as if it were the root, for packages. KP_BINARY and KPVIEW_BINARY name
+# other files than the programs that are built here.
+PREFIX        = /usr/local
+DESTDIR       =
+KP_BINARY     = crates/kp/out/kp
+KPVIEW_BINARY = crates/kpview/out/kpview
 
 version = $(shell cat VERSION)
 root    = $(DESTDIR)$(PREFIX)
@@ -57,24 +62,27 @@ root    = $(DESTDIR)$(PREFIX)
 shared  = bin share/man/man1 share/man/man5 share/bash-completion/completions share/zsh/site-functions share/fish/vendor_completions.d \
           $(addprefix share/vim/vimfiles/,compiler ftdetect ftplugin syntax)
 own     = share/doc/kp share/kp
-files   = bin/kp share/man/man1/kp.1 share/man/man5/kp.5 share/bash-completion/completions/kp share/zsh/site-functions/_kp \
-          share/fish/vendor_completions.d/kp.fish $(addprefix share/vim/vimfiles/,$(addsuffix /kp.vim,compiler ftdetect ftplugin syntax))
-needs_program = $(if $(wildcard $(KP_BINARY)),,$(error $(KP_BINARY) isn't there: run make first, which builds it))
+files   = share/man/man5/kp.5 $(foreach it,$(programs),bin/$(it) share/man/man1/$(it).1 share/bash-completion/completions/$(it) \
+          share/zsh/site-functions/_$(it) share/fish/vendor_completions.d/$(it).fish) $(addprefix share/vim/vimfiles/,$(addsuffix /kp.vim,compiler ftdetect ftplugin syntax))
+needs = $(foreach it,$(KP_BINARY) $(KPVIEW_BINARY),$(if $(wildcard $(it)),,$(error $(it) isn't there: run make first, which builds it)))
 trees   = find docs examples \( -name out -o -name __pycache__ \) -prune -o -type f -print
 
-# share/kp has a link to the program, so that the commands of the documents run there as they are printed.
+# share/kp has links to the programs, so that the commands of the documents run there as they are printed.
 install:
-	$(needs_program)
+	$(needs)
 	@umask 022 && \
 	install -d $(patsubst %,"$(root)/%",$(shared) $(own)) && \
 	install -m 755 "$(KP_BINARY)" "$(root)/bin/kp" && \
-	for section in 1 5; do \
-	    page="$(root)/share/man/man$$section/kp.$$section" && \
-	    sed -e 's|@VERSION@|$(version)|g' -e 's|@PREFIX@|$(PREFIX)|g' man/kp.$$section > "$$page" && chmod 644 "$$page" || exit 1; \
+	install -m 755 "$(KPVIEW_BINARY)" "$(root)/bin/kpview" && \
+	for it in kp.1 kp.5 kpview.1; do \
+	    page="$(root)/share/man/man$${it##*.}/$$it" && \
+	    sed -e 's|@VERSION@|$(version)|g' -e 's|@PREFIX@|$(PREFIX)|g' man/$$it > "$$page" && chmod 644 "$$page" || exit 1; \
 	done && \
-	install -m 644 completions/kp.bash "$(root)/share/bash-completion/completions/kp" && \
-	install -m 644 completions/_kp "$(root)/share/zsh/site-functions/_kp" && \
-	install -m 644 completions/kp.fish "$(root)/share/fish/vendor_completions.d/kp.fish" && \
+	for it in $(programs); do \
+	    install -m 644 completions/$$it.bash "$(root)/share/bash-completion/completions/$$it" && \
+	    install -m 644 completions/_$$it "$(root)/share/zsh/site-functions/_$$it" && \
+	    install -m 644 completions/$$it.fish "$(root)/share/fish/vendor_completions.d/$$it.fish" || exit 1; \
+	done && \
 	for it in compiler ftdetect ftplugin syntax; do \
 	    install -m 644 editors/vim/$$it/kp.vim "$(root)/share/vim/vimfiles/$$it/kp.vim" || exit 1; \
 	done && \
@@ -85,7 +93,8 @@ install:
 	    mode=644 && { [ ! -x "$$it" ] || mode=755; } && \
 	    install -d "$${to%/*}" && install -m $$mode "$$it" "$$to" || exit 1; \
 	done && \
-	ln -sf ../../bin/kp "$(root)/share/kp/kp"
+	ln -sf ../../bin/kp "$(root)/share/kp/kp" && \
+	ln -sf ../../bin/kpview "$(root)/share/kp/kpview"
 
 # Folders that others use too are removed below DESTDIR alone, where they are empty.
 uninstall:
@@ -98,9 +107,10 @@ uninstall:
 # Two calls write the same bytes: names are sorted, and owners, modes and times are fixed.
 SOURCE_DATE_EPOCH ?= 1767225600
 dist:
-	$(needs_program)
+	$(needs)
 	@rm -rf out/dist && mkdir -p out/dist/root
-	@$(MAKE) -s --no-print-directory install PREFIX=$(PREFIX) DESTDIR="$(CURDIR)/out/dist/root" KP_BINARY="$(KP_BINARY)"
+	@$(MAKE) -s --no-print-directory install PREFIX=$(PREFIX) DESTDIR="$(CURDIR)/out/dist/root" KP_BINARY="$(KP_BINARY)" \
+	    KPVIEW_BINARY="$(KPVIEW_BINARY)"
 	@cd out/dist && mv "root$(PREFIX)" kp-$(version) && rm -rf root && \
 	tar --format=ustar --sort=name --owner=0 --group=0 --numeric-owner --mode=u=rwX,go=rX --mtime=@$(SOURCE_DATE_EPOCH) \
 	    -cf kp-$(version).tar kp-$(version) && \

@@ -5,7 +5,7 @@
 # nothing there. Two calls of `make dist` write the same bytes, though the second has another umask and older files; names are sorted, and the
 # owner is 0. VERSION is the newest heading of CHANGELOG.md. The commands in the manual page and the completions are those that `kp` accepts; the
 # keywords and rules in the manual pages and the editor files are those of docs/. Shells, mandoc and man, where they are installed, accept their
-# files without a message. Where no program is built, a stub is installed. KP names another program. The last line is `N checked, M wrong`, and
+# files without a message. Where no program is built, a stub is installed. KP and KPVIEW name other programs. The last line is `N checked, M wrong`, and
 # the status is 0 where M is 0.
 [ -n "${KP:-}" ] || [ -x "$(dirname "$0")/../crates/kp/out/kp" ] || KP=:
 . "$(dirname "$0")/common.sh"
@@ -15,6 +15,13 @@ if [ "$kp" = : ]; then
     kp=$work/stub
 fi
 kp=$(cd "$(dirname "$(command -v "$kp")")" && pwd)/$(basename "$kp")
+kpview=${KPVIEW:-$top/crates/kpview/out/kpview}
+if ! [ -x "$kpview" ]; then
+    printf '#!/bin/sh\nexit 1\n' > "$work/view"
+    chmod 755 "$work/view"
+    kpview=$work/view
+fi
+kpview=$(cd "$(dirname "$(command -v "$kpview")")" && pwd)/$(basename "$kpview")
 cd "$top" || exit 70
 language=docs/LANGUAGE.md
 
@@ -31,7 +38,7 @@ same() {
 
 # made TARGET WORD..: runs make as a user does, and puts what it printed into a file
 made() {
-    env -u MAKEFLAGS -u MAKELEVEL make -s --no-print-directory "$@" KP_BINARY="$kp" > "$work/made" 2>&1 < /dev/null ||
+    env -u MAKEFLAGS -u MAKELEVEL make -s --no-print-directory "$@" KP_BINARY="$kp" KPVIEW_BINARY="$kpview" > "$work/made" 2>&1 < /dev/null ||
         echo "make $1 failed" >> "$work/made"
 }
 
@@ -45,30 +52,36 @@ at=$work/root/opt/some
 {
     cmp "$kp" "$at/bin/kp"
     cmp "$kp" "$at/share/kp/kp"
+    cmp "$kpview" "$at/bin/kpview"
+    cmp "$kpview" "$at/share/kp/kpview"
     for it in $(git ls-files docs 2> /dev/null || find docs -type f); do cmp "$it" "$at/share/doc/kp/$it"; done
     for it in $(git ls-files examples 2> /dev/null || find examples -type f); do
         cmp "$it" "$at/share/kp/$it"
         [ -x "$it" ] && ! [ -x "$at/share/kp/$it" ] && echo "$it can't be executed"
     done
     for it in README.md CHANGELOG.md CONTRIBUTING.md VERSION; do cmp "$it" "$at/share/doc/kp/$it"; done
-    cmp completions/kp.bash "$at/share/bash-completion/completions/kp"
-    cmp completions/_kp "$at/share/zsh/site-functions/_kp"
-    cmp completions/kp.fish "$at/share/fish/vendor_completions.d/kp.fish"
+    for it in kp kpview; do
+        cmp completions/$it.bash "$at/share/bash-completion/completions/$it"
+        cmp completions/_$it "$at/share/zsh/site-functions/_$it"
+        cmp completions/$it.fish "$at/share/fish/vendor_completions.d/$it.fish"
+    done
     for it in compiler ftdetect ftplugin syntax; do cmp "editors/vim/$it/kp.vim" "$at/share/vim/vimfiles/$it/kp.vim"; done
     cmp editors/kp.tmLanguage.json "$at/share/kp/kp.tmLanguage.json"
-    grep -n '@[A-Z]*@' "$at"/share/man/man?/kp.?
-    grep -L "version $(cat VERSION)" "$at"/share/man/man?/kp.? | sed 's/$/: has no version/'
-    grep -q /opt/some/share "$at/share/man/man1/kp.1" || echo "kp.1 doesn't name the prefix"
+    grep -n '@[A-Z]*@' "$at"/share/man/man?/kp*.?
+    grep -L "version $(cat VERSION)" "$at"/share/man/man?/kp*.? | sed 's/$/: has no version/'
+    for it in kp kpview; do
+        grep -q /opt/some/share "$at/share/man/man1/$it.1" || echo "$it.1 doesn't name the prefix"
+    done
 } > "$work/said" 2>&1
 quiet files install "$work/said"
 mkdir "$work/pages"
-cp "$at/share/man/man1/kp.1" "$at/share/man/man5/kp.5" "$work/pages"
+cp "$at"/share/man/man1/kp*.1 "$at/share/man/man5/kp.5" "$work/pages"
 made uninstall DESTDIR="$work/root" PREFIX=/opt/some
 { cat "$work/made"; find "$work/root" -mindepth 1; } > "$work/said"
 quiet uninstall make "$work/said"
 
 # Without a program: one line, and nothing is installed
-env -u MAKEFLAGS -u MAKELEVEL make -s install DESTDIR="$work/root" KP_BINARY="$work/none" > "$work/said" 2>&1
+env -u MAKEFLAGS -u MAKELEVEL make -s install DESTDIR="$work/root" KP_BINARY="$work/none" KPVIEW_BINARY="$kpview" > "$work/said" 2>&1
 if [ $? -ne 0 ] && [ "$(wc -l < "$work/said")" -eq 1 ] && grep -q 'run make' "$work/said" && [ -z "$(find "$work/root" -mindepth 1)" ]; then
     says unbuilt make ok
 else
@@ -115,14 +128,14 @@ same rules kp.1 "$(sed -n 's/^\.It \([AV][0-9]*\)$/\1/p' man/kp.1)" \
     "$(sed -n '/^| rule | violated/,/^$/s/^| \([AV][0-9]*\) .*/\1/p' docs/VERILOG.md docs/DLX.md) V6"
 
 # What other tools say of the files
-if has mandoc; then (cd "$work/pages" && mandoc -T lint kp.1 kp.5) > "$work/said" 2>&1; quiet pages mandoc "$work/said"; fi
+if has mandoc; then (cd "$work/pages" && mandoc -T lint kp.1 kp.5 kpview.1) > "$work/said" 2>&1; quiet pages mandoc "$work/said"; fi
 if has man && man --version 2> /dev/null | grep -q '^man '; then
-    for it in 1 5; do LC_ALL=C.UTF-8 man --warnings -l "$work/pages/kp.$it" 2>&1 > /dev/null; done > "$work/said"
+    for it in kp.1 kp.5 kpview.1; do LC_ALL=C.UTF-8 man --warnings -l "$work/pages/$it" 2>&1 > /dev/null; done > "$work/said"
     quiet pages man "$work/said"
 fi
-bash -n completions/kp.bash > "$work/said" 2>&1
+for it in kp kpview; do bash -n completions/$it.bash; done > "$work/said" 2>&1
 quiet completion bash "$work/said"
-if has zsh; then zsh -n completions/_kp > "$work/said" 2>&1; quiet completion zsh "$work/said"; fi
-if has fish; then fish --no-execute completions/kp.fish > "$work/said" 2>&1; quiet completion fish "$work/said"; fi
+if has zsh; then for it in kp kpview; do zsh -n completions/_$it; done > "$work/said" 2>&1; quiet completion zsh "$work/said"; fi
+if has fish; then for it in kp kpview; do fish --no-execute completions/$it.fish; done > "$work/said" 2>&1; quiet completion fish "$work/said"; fi
 if has python3; then python3 -m json.tool editors/kp.tmLanguage.json 2>&1 > /dev/null | cat > "$work/said"; quiet textmate python3 "$work/said"; fi
 summary

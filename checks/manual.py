@@ -1,15 +1,15 @@
 #!/usr/bin/env python3
 """Whether the commands of the manual print what the manual says: python3 checks/manual.py [PAGE ..]
 
-In README.md, TUTORIAL.md, LANGUAGE.md and COOKBOOK.md, or in the given pages, it runs each command `./kp WORDS < examples/FILE` and
-`examples/with-program JOB PROGRAM | ./kp WORDS`. A command has to print the indented block that follows it, or, where it is a line `$ ./kp ..` of a
+In README.md, TUTORIAL.md, LANGUAGE.md, COOKBOOK.md and KPVIEW.md, or in the given pages, it runs each command `./kp WORDS < examples/FILE`,
+`examples/with-program JOB PROGRAM | ./kp WORDS` and `./kpview WORDS examples/FILE`. A command has to print the indented block that follows it, or, where it is a line `$ ./kp ..` of a
 block, the rest of that block: the lines of the block are consecutive lines of the output, but where a line of dots is in place of others. A command
 that no block follows isn't run.
 
 Each row of the rules in docs/LANGUAGE.md is an example too: the job at the top of the page with other lines, or a job of examples/. It has to be
 rejected as the row says.
 
-KP names another program than ./kp. The last line is `N commands, M differ`, and the status is 0 where M is 0.
+KP names another program than ./kp, and KPVIEW another than ./kpview. The last line is `N commands, M differ`, and the status is 0 where M is 0.
 """
 import os
 import re
@@ -19,12 +19,13 @@ import sys
 
 TOP = os.path.dirname(os.path.dirname(os.path.abspath(__file__)))
 KP = os.environ.get("KP", f"{TOP}/kp")
-COMMAND = re.compile(r"\./kp ([^<>|`]+?) < (examples/[\w./]+)(?=[`\s]|$)|examples/with-program (\S+) (\S+) \| \./kp ([^<>|`#\n]+?)(?=[`\n]|$)")
+KPVIEW = os.environ.get("KPVIEW", f"{TOP}/kpview")
+COMMAND = re.compile(r"\./kp ([^<>|`]+?) < (examples/[\w./]+)(?=[`\s]|$)|examples/with-program (\S+) (\S+) \| \./kp ([^<>|`#\n]+?)(?=[`\n]|$)|\./kpview ([^<>|`\n]+? examples/[\w./]+)(?=[`\s]|$)")
 ROW = re.compile(r"^\| (E\d+) \| [^|]* \| (.*) \| ([^|]*`refused (E\d+ \d+:\d+)`) \|$", re.M)
 
 
-def run(words, text):
-    ran = subprocess.run([KP, *words], input=text, stdout=subprocess.PIPE)
+def run(words, text, program=KP):
+    ran = subprocess.run([program, *words], input=text, cwd=TOP if program == KPVIEW else None, stdout=subprocess.PIPE)
     return ran.stdout.decode().rstrip("\n").split("\n")
 
 
@@ -36,7 +37,7 @@ def file_at(path):
 def is_apart(block, line):
     """Whether a line after a blank line begins a new block: output after a command, or a command after output."""
     after_command = len(block) == 2 and "./kp" in block[0] and not block[0].startswith("$ ")
-    return block[-1] == "" and (after_command or line.startswith("./kp "))
+    return block[-1] == "" and (after_command or line.startswith(("./kp ", "./kpview ")))
 
 
 def blocks_of(text):
@@ -92,7 +93,9 @@ def is_printed(said, printed):
 
 
 def output_of(match):
-    words, job, machine, program, more = match.groups()
+    words, job, machine, program, more, view = match.groups()
+    if view:
+        return run(shlex.split(view), b"", KPVIEW)
     if job:
         return run(shlex.split(words), file_at(job))
     made = subprocess.run([f"{TOP}/examples/with-program", machine, program], cwd=TOP, env={**os.environ, "KP": KP}, stdout=subprocess.PIPE)
@@ -139,4 +142,4 @@ def main(pages):
 
 
 if __name__ == "__main__":
-    sys.exit(main(sys.argv[1:] or ["README.md", "docs/TUTORIAL.md", "docs/LANGUAGE.md", "docs/COOKBOOK.md"]))
+    sys.exit(main(sys.argv[1:] or ["README.md", "docs/TUTORIAL.md", "docs/LANGUAGE.md", "docs/COOKBOOK.md", "docs/KPVIEW.md"]))

@@ -1,0 +1,27 @@
+# Completion of kpview for bash
+
+_kpview() {
+    local cur=${COMP_WORDS[COMP_CWORD]} word count=0 i is_target=
+    COMPREPLY=()
+    # The arguments before this word, without redirections and their files
+    for ((i = 1; i < COMP_CWORD; i++)); do
+        word=${COMP_WORDS[i]}
+        if [[ $word == *[\<\>]* ]]; then
+            is_target=1
+        elif [[ $is_target ]]; then
+            is_target=
+        else
+            ((count += 1))
+        fi
+    done
+    if [[ $is_target || $cur == [\<\>]* || $count -ge 2 ]]; then
+        compopt -o default 2>/dev/null
+        return
+    fi
+    compopt +o default 2>/dev/null
+    case $count in
+        0) COMPREPLY=($(compgen -W 'diagram help --help --version' -- "$cur")) ;;
+        1) COMPREPLY=($(compgen -W '10 20 50 100 1000' -- "$cur")) ;;
+    esac
+}
+complete -F _kpview kpview

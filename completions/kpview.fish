@@ -1,0 +1,13 @@
+# Completion of kpview for fish.
+
+# The number of arguments before the one that is completed
+function __kpview_argument -a place
+    set -l before (commandline -opc)
+    test (count $before) -eq $place
+end
+
+complete -c kpview -n '__kpview_argument 1' -f
+complete -c kpview -n '__kpview_argument 1' -k -a diagram -d 'Print N cycles of the pipeline as text'
+complete -c kpview -n '__kpview_argument 2' -f -k -a '10 20 50 100 1000' -d 'Cycles, 0 to 1000'
+complete -c kpview -s h -l help -d 'Print help'
+complete -c kpview -s V -l version -d 'Print the version'

@@ -1,0 +1,108 @@
+-- How calls end: from what was written to what is expected.
+use Rattle.std.proofs.Common.{◌≡◌, ◌∙◌, ℕ, ◌≤◌, Bool, true, false, List, length, Ok, Err, refl, sym, ap, ap₂, subst, inl, inr, arith}
+use Rattle.std.specs.declared.option.Option.{Option}
+use Rattle.std.specs.declared.result.Result.{Result}
+use Rattle.std.specs.Prelude.{MatchResult}
+use Rattle.std.specs.Io.KnownBytes.{Appends}
+use Rattle.kp_base.specs.Bytes.{AppendsPart}
+use Rattle.kp_base.specs.Causes.{Rose}
+use Rattle.kp_base.specs.declared.refusal.Refusal.{Refusal}
+use Rattle.kp_base.specs.declared.refusal.Refused.{Refused}
+use Rattle.kp_base.specs.declared.refusal.Refused.TheVariants as refused
+use Rattle.kp_ast.specs.declared.tree.Job.{Job}
+use Rattle.kp_frontend.specs.Judging.{JudgesText}
+use Rattle.kp_frontend.specs.Judging.Judges.{within}
+use Rattle.kp_frontend.specs.Accepting.{AnswersText}
+use Rattle.kp_view_words.specs.Words.{Drawing, draw}
+use Rattle.kp_view.specs.Complaints.{complaint_status, complaint_text}
+use Rattle.kp_view.specs.Due.{DueFor, DueOfJob, DueOfNames, Draws, Says, figure_drawn, figure_text}
+use Rattle.kp_diagram_text.specs.Charts.{are_names}
+use Rattle.kp_diagram_text.specs.Text.{diagram_text}
+use Rattle.kp_diagram_run.specs.Claims.{ShowsRun}
+use Rattle.kp_view.specs.Texts.{names_text}
+use Rattle.kp_view_words.specs.declared.words.Word.TheVariants as words
+use Rattle.kp_view.specs.Ends.{Ends, EndsAt}
+use Rattle.kp_view.specs.inner.Failures.{failure_of}
+use Rattle.kp_view.specs.declared.failure.Complaint.{Complaint}
+use Rattle.kp_view.specs.declared.failure.Complaint.TheVariants as complaints
+use Rattle.kp_view.specs.declared.failure.Failure.{Failure}
+use Rattle.kp_view.specs.declared.failure.Failure.TheVariants.{Complained, Stopped}
+use Rattle.kp_view.specs.declared.failure.Stop.{Stop}
+use Rattle.kp_view.specs.declared.failure.Stop.TheVariants as stops
+
+-- a complaint has another status than 0
+never_zero : (c : Complaint) → complaint_status c ≡ 0 → ⊥
+never_zero (complaints.BadWords topic) e = absurd (omega (arith, e))
+never_zero (complaints.WrongNames given stages) e = absurd (omega (arith, e))
+never_zero (complaints.Refused refusal) e = absurd (omega (arith, e))
+
+module _ {S : Type 0} (held : S → Option (List ℕ)) (faults : S → ℕ) (file : Option (List ℕ)) where
+  -- what is expected by one account is expected by another
+  pub weaker : (U V : Type 0) (P Q : ℕ → List ℕ → Type 0) → (U → V) → ((s : ℕ) (t : List ℕ) → P s t → Q s t) → (old new : S) {T : Type 0} (r : Result T Failure)
+      → Ends held faults U P file old new r → Ends held faults V Q file old new r
+  weaker U V P Q u f old new (Ok _) (text, due, appended) = (text, f 0 text due, appended)
+  weaker U V P Q u f old new (Err (Complained c)) (same, due) = (same, f (complaint_status c) (complaint_text file c) due)
+  weaker U V P Q u f old new (Err (Stopped stops.WriteFault)) (rose, text, due, part) = (rose, text, f 0 text due, part)
+  weaker U V P Q u f old new (Err (Stopped stops.ReadFault)) (unread, same) = (u unread, same)
+  weaker U V P Q u f old new (Err (Stopped stops.NoMemory)) same = same
+
+  -- one text was written, to standard output
+  pub said : (other : Option (List ℕ)) (V : Type 0) (Q : ℕ → List ℕ → Type 0) (text : List ℕ) → Q 0 text → (old new : S) {T : Type 0} (r : Result T Failure)
+      → Ends held faults ⊥ (Says 0 text) other old new r → Ends held faults V Q file old new r
+  said other V Q text due old new (Ok _) (t, says, appended) = (t, rw says.1 due, appended)
+  said other V Q text due old new (Err (Complained c)) (same, says) = absurd (never_zero c says.0)
+  said other V Q text due old new (Err (Stopped stops.WriteFault)) (rose, t, says, part) = (rose, t, rw says.1 due, part)
+  said other V Q text due old new (Err (Stopped stops.ReadFault)) (unread, same) = absurd unread
+  said other V Q text due old new (Err (Stopped stops.NoMemory)) same = same
+
+  -- a job that violates a rule
+  pub refused_job : (d : Drawing) (input : List ℕ) (s : S) (e : Refused) (f : Failure) (T : Type 0) → length input ≤ 16777216 → f ≡ failure_of e → d.file ≡ file
+      → AnswersText input (Err e) → Ends {U = T} held faults ⊥ (DueFor (draw d) input) file s s (Err f)
+  refused_job d input s (refused.Rule refusal) f T short is same judged = rw is (refl, (Err refusal, within short judged, (refl, rw same refl)))
+  refused_job d input s refused.NoMemory f T short is same judged = rw is refl
+
+  -- a job that violates none
+  pub accepted_job : (d : Drawing) (input : List ℕ) (job : Job) → length input ≤ 16777216 → JudgesText input (Ok job) → (old new : S) {T : Type 0} (r : Result T Failure)
+      → Ends held faults ⊥ (DueOfJob d job) file old new r → Ends held faults ⊥ (DueFor (draw d) input) file old new r
+  accepted_job d input job short judged old new r ends =
+      weaker ⊥ ⊥ (DueOfJob d job) (DueFor (draw d) input) (λ u. u) (λ status text due. (Ok job, within short judged, due)) old new r ends
+
+  -- the names are or aren't names for the stages of the job
+  pub by_names : (fit other : Bool) (d : Drawing) (job : Job) → fit ≡ other → (old new : S) {T : Type 0} (r : Result T Failure)
+      → Ends held faults ⊥ (DueOfNames other d job) file old new r → Ends held faults ⊥ (DueOfNames fit d job) file old new r
+  by_names fit other d job is old new r ends = subst (λ (b : Bool). Ends held faults ⊥ (DueOfNames b d job) file old new r) (sym is) ends
+
+  pub names_wrong : (T : Type 0) (d : Drawing) (job : Job) (given stages : ℕ) (s : S) → are_names d.names job.stages.value ≡ false → given ≡ length d.names
+      → stages ≡ job.stages.value → Ends {U = T} held faults ⊥ (DueOfJob d job) file s s (Err (Complained (complaints.WrongNames given stages)))
+  names_wrong T d job given stages s no g k =
+      by_names (are_names d.names job.stages.value) false d job no s s {T = T} (Err (Complained (complaints.WrongNames given stages))) (refl, (refl, ap₂ names_text g k))
+
+-- a drawing as text
+pub draws_diagram : (d : Drawing) (job : Job) → d.word ≡ words.Diagram → ShowsRun job d.count (figure_drawn d job) → Draws d job 0 (diagram_text (figure_drawn d job))
+draws_diagram d job is shows = (refl, rw is refl, shows)
+
+-- a complaint was written
+module _ {S T : Type 0} (held : S → Option (List ℕ)) (faults : S → ℕ) (held_err : T → Option (List ℕ)) (faults_err : T → ℕ) (V : Type 0) (Q : ℕ → List ℕ → Type 0) where
+  abbrev Complains : Complaint → List ℕ → T → T → Result ℕ Stop → Type 0
+  Complains c text old new r = MatchResult r
+      (λ status. (status ≡ complaint_status c) × Appends (held_err old) (held_err new) text)
+      (λ stop. (stop ≡ stops.WriteFault) × Rose (faults_err old) (faults_err new) × AppendsPart (held_err old) (held_err new) text)
+
+  pub complained : (c : Complaint) (text : List ℕ) (old new : S) (old_err new_err : T) (r : Result ℕ Stop)
+      → (new ≡ old) × Q (complaint_status c) text → Complains c text old_err new_err r → EndsAt held faults held_err faults_err V Q old new old_err new_err r
+  complained (complaints.BadWords topic) text old new old_err new_err (Ok status) (same, due) (is, appended) = rw is (text, due, (same, appended))
+  complained (complaints.WrongNames given stages) text old new old_err new_err (Ok status) (same, due) (is, appended) = rw is (text, due, (same, appended))
+  complained (complaints.Refused refusal) text old new old_err new_err (Ok status) (same, due) (is, appended) = rw is (text, due, (same, appended))
+  complained (complaints.BadWords topic) text old new old_err new_err (Err stop) (same, due) (is, rose, part) = rw is (inr rose, 1, text, due, (same, part))
+  complained (complaints.WrongNames given stages) text old new old_err new_err (Err stop) (same, due) (is, rose, part) = rw is (inr rose, 1, text, due, (same, part))
+  complained (complaints.Refused refusal) text old new old_err new_err (Err stop) (same, due) (is, rose, part) = rw is (inr rose, 2, text, due, (same, part))
+
+  -- no complaint was to be written
+  pub finished : (file : Option (List ℕ)) (old new : S) (err : T) (U : Type 0) (u : U) → Ends {U = U} held faults V Q file old new (Ok u) → EndsAt held faults held_err faults_err V Q old new err err (Ok 0)
+  finished file old new err U u (text, due, appended) = (text, due, (appended, refl))
+
+  pub stopped : (file : Option (List ℕ)) (old new : S) (err : T) (U : Type 0) (stop : Stop) → Ends {U = U} held faults V Q file old new (Err (Stopped stop))
+      → EndsAt held faults held_err faults_err V Q old new err err (Err stop)
+  stopped file old new err U stops.WriteFault (rose, text, due, part) = (inl rose, 0, text, due, (part, refl))
+  stopped file old new err U stops.ReadFault (unread, same) = (unread, same, refl)
+  stopped file old new err U stops.NoMemory same = (same, refl)

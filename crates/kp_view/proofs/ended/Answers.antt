@@ -1,0 +1,17 @@
+use Rattle.kp_view_words.specs.Asked.{asked, file_asked}
+use Rattle.kp_view.proofs.Ends.{complained, finished, stopped}
+use Rattle.kp_view.proofs.ended.Goals as goal
+
+pub returns-in-Ok-clause-ends : goal.returns-in-Ok-clause-ends
+returns-in-Ok-clause-ends g c =
+    finished g.K.Sink.held g.K.Sink.faults g.E.Sink.held g.E.Sink.faults _ _ (file_asked (asked c.args.request.now)) _ _ _ _ _ c.in-Ok.ensures.ends
+
+pub returns-in-Err-Complained-clause-ends : goal.returns-in-Err-Complained-clause-ends
+returns-in-Err-Complained-clause-ends g c =
+    complained g.K.Sink.held g.K.Sink.faults g.E.Sink.held g.E.Sink.faults _ _ c.in-Err-Complained.complaint _ _ _ _ _ _
+    (rw c.in-Err-Complained.field-0-is at c.in-Err-Complained.ensures.ends) (rw c.file.ensures at c.complain.ensures)
+
+pub returns-in-Err-Stopped-clause-ends : goal.returns-in-Err-Stopped-clause-ends
+returns-in-Err-Stopped-clause-ends g c =
+    stopped g.K.Sink.held g.K.Sink.faults g.E.Sink.held g.E.Sink.faults _ _ (file_asked (asked c.args.request.now)) _ _ _ _ c.in-Err-Stopped.stop
+    (rw c.in-Err-Stopped.field-0-is at c.in-Err-Stopped.ensures.ends)

@@ -1,0 +1,117 @@
+-- What is specified: a status and a text for what is asked and the bytes of the source. The text of status 0 goes to standard output, and any other to
+-- standard error.
+use Rattle.std.specs.Prelude.{◌≡◌, ◌≢◌, ◌≤◌, ◌⊎◌, Bool, true, false, ℕ, zero, suc, List, [], length, Ok, Err, Some, None, Option, Result}
+use Rattle.std.specs.Io.KnownBytes.{Consumes, Appends, IsAtEnd}
+use Rattle.kp_base.specs.Bytes.{AppendsPart}
+use Rattle.kp_base.specs.declared.refusal.Refusal.{Refusal}
+use Rattle.kp_ast.specs.declared.tree.Job.{Job}
+use Rattle.kp_frontend.specs.Judging.{Judges}
+use Rattle.kp_view_words.specs.Texts.{help_text, usage_text, version_text}
+use Rattle.kp_view_words.specs.Words.{Asked, Drawing, bad_words, help, version, draw}
+use Rattle.kp_view_words.specs.declared.words.Word.{Word}
+use Rattle.kp_view_words.specs.declared.words.Word.TheVariants.{Diagram}
+use Rattle.kp_diagram_text.specs.Charts.{are_names}
+use Rattle.kp_diagram_text.specs.Figures.{Figure}
+use Rattle.kp_diagram_text.specs.Text.{diagram_text}
+use Rattle.kp_diagram_run.specs.Runs.{job_figure}
+use Rattle.kp_diagram_run.specs.Claims.{ShowsRun}
+use Rattle.kp_view.specs.Texts.{names_text, refusal_text}
+
+-- exactly this status and this text
+abbrev pub Says : ℕ → List ℕ → ℕ → List ℕ → Type 0
+Says s t status text = (status ≡ s) × (text ≡ t)
+
+-- a figure, drawn as a word asks
+abbrev pub figure_text : Word → Figure → List ℕ
+figure_text Diagram f = diagram_text f
+
+-- the figure of a job that is drawn: of the run of its pipelined machine over the number of cycles that is asked for
+abbrev pub figure_drawn : Drawing → Job → Figure
+figure_drawn d job = job_figure d.names d.count job
+
+-- The text of a drawing. The fetches, cells, marks and the account in it are those of the run: the laws of the diagram hold of them.
+abbrev pub Draws : Drawing → Job → ℕ → List ℕ → Type 0
+Draws d job status text = (status ≡ 0) × (text ≡ figure_text d.word (figure_drawn d job)) × ShowsRun job d.count (figure_drawn d job)
+
+-- the outcome for a job, where the names are or aren't names for its stages
+abbrev pub DueOfNames : Bool → Drawing → Job → ℕ → List ℕ → Type 0
+DueOfNames true d job = Draws d job
+DueOfNames false d job = Says 1 (names_text (length d.names) job.stages.value)
+
+abbrev pub DueOfJob : Drawing → Job → ℕ → List ℕ → Type 0
+DueOfJob d job = DueOfNames (are_names d.names job.stages.value) d job
+
+-- the outcome for a verdict on the input
+abbrev pub DueOfVerdict : Drawing → Result Job Refusal → ℕ → List ℕ → Type 0
+DueOfVerdict d (Ok job) = DueOfJob d job
+DueOfVerdict d (Err refusal) = Says 2 (refusal_text d.file refusal)
+
+-- the outcome for what is asked, on an input
+abbrev pub DueFor : Asked → List ℕ → ℕ → List ℕ → Type 0
+DueFor (bad_words topic) input status text = Says 1 (usage_text topic) status text
+DueFor (help topic) input status text = Says 0 (help_text topic) status text
+DueFor version input status text = Says 0 version_text status text
+DueFor (draw d) input status text = (verdict : Result Job Refusal) × Judges input verdict × DueOfVerdict d verdict status text
+
+-- a drawing reads the source, and nothing else does
+abbrev pub reads_input : Asked → Bool
+reads_input (bad_words topic) = false
+reads_input (help topic) = false
+reads_input version = false
+reads_input (draw d) = true
+
+-- a source was read as far as is specified: not at all; or to its end, where an input of at most 16,777,216 bytes ends; or one byte further
+abbrev pub IsWhole : Bool → List ℕ → Option (List ℕ) → Type 0
+IsWhole false taken left = taken ≡ []
+IsWhole true taken left = (IsAtEnd left × (length taken ≤ 16777216)) ⊎ (length taken ≡ 16777217)
+
+-- the status and the text are those specified for the bytes that were read from the source
+pub record IsDue (asked : Asked) (old new : Option (List ℕ)) (status : ℕ) (text : List ℕ) : Type 0 where
+  pub taken : List ℕ
+  pub consumed : Consumes old new taken
+  pub whole : IsWhole (reads_input asked) taken new
+  pub due : DueFor asked taken status text
+
+-- a status of a specified outcome: not that of a read fault (3), a write fault (4) or of out of memory (5)
+abbrev pub IsFinal : ℕ → Type 0
+IsFinal status = (status ≢ 3) × (status ≢ 4) × (status ≢ 5)
+
+module _ {S T : Type 0} (held : S → Option (List ℕ)) (held_err : T → Option (List ℕ)) where
+  -- the complete text was appended to standard output for status 0, and to standard error for any other; nothing was written to the other one
+  abbrev pub Prints : (old new : S) (old_err new_err : T) → ℕ → List ℕ → Type 0
+  Prints old new old_err new_err zero text = Appends (held old) (held new) text × (new_err ≡ old_err)
+  Prints old new old_err new_err (suc status) text = (new ≡ old) × Appends (held_err old_err) (held_err new_err) text
+
+  -- the same of a prefix of the text
+  abbrev pub PrintsPart : (old new : S) (old_err new_err : T) → ℕ → List ℕ → Type 0
+  PrintsPart old new old_err new_err zero text = AppendsPart (held old) (held new) text × (new_err ≡ old_err)
+  PrintsPart old new old_err new_err (suc status) text = (new ≡ old) × AppendsPart (held_err old_err) (held_err new_err) text
+
+  -- the status is the specified one, and the complete specified text was printed
+  abbrev pub Completes : Asked → (left left_after : Option (List ℕ)) (old new : S) (old_err new_err : T) → ℕ → Type 0
+  Completes asked left left_after old new old_err new_err status =
+      (text : List ℕ) × IsDue asked left left_after status text × Prints old new old_err new_err status text
+
+  -- a prefix of the specified text was printed
+  abbrev pub Begins : Asked → (left left_after : Option (List ℕ)) (old new : S) (old_err new_err : T) → Type 0
+  Begins asked left left_after old new old_err new_err =
+      (status : ℕ) × (text : List ℕ) × IsDue asked left left_after status text × PrintsPart old new old_err new_err status text
+
+-- the fact holds of the bytes that were read from the source and those that were appended to a sink
+abbrev pub Between : (left left_after held held_after : Option (List ℕ)) → (List ℕ → List ℕ → Type 0) → Type 0
+Between left left_after held held_after Fact =
+    (input : List ℕ) × (text : List ℕ) × Consumes left left_after input × Appends held held_after text × Fact input text
+
+-- THE HEADLINE. The input is a job that violates no rule, and the text draws the run of its pipelined machine: the instructions in the full stages,
+-- the marks with their reasons, the instructions that retire in order, and each cycle counted under its cause.
+abbrev pub IsDrawn : Drawing → List ℕ → List ℕ → Type 0
+IsDrawn d input text =
+    (job : Job) × Judges input (Ok job) × (text ≡ figure_text d.word (figure_drawn d job)) × ShowsRun job d.count (figure_drawn d job)
+
+-- the text names the first rule that the input violates
+abbrev pub IsRefusal : Drawing → List ℕ → List ℕ → Type 0
+IsRefusal d input text = (refusal : Refusal) × Judges input (Err refusal) × (text ≡ refusal_text d.file refusal)
+
+-- the input violates no rule, or what was asked isn't about an input
+abbrev pub IsUnrefused : List ℕ → List ℕ → Type 0
+IsUnrefused input text = (refusal : Refusal) → Judges input (Err refusal) → ⊥

@@ -1,0 +1,5 @@
+pub mod Texts
+pub mod Complaints
+pub mod Due
+pub mod Ends
+pub mod inner

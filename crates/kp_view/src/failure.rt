@@ -1,0 +1,73 @@
+// Why nothing, or not all, was written to standard output.
+ghost use Rattle.std.specs.Prelude.{◌≡◌};
+ghost use Rattle.kp_view.specs.inner.Failures.{failure_of, stop_status};
+ghost use Rattle.kp_view.specs.declared.failure.Failure.TheVariants as failure;
+ghost use Rattle.kp_view.specs.declared.failure.Stop.TheVariants as stop;
+
+use kp_base::{NoMemory, Refusal, Refused, SinkFault};
+use kp_view_words::Topic;
+
+/// Why there is no specified outcome: the three failures.
+#[derive(Clone, Copy, Debug, PartialEq, Eq)]
+pub enum Stop {
+    ReadFault,
+    WriteFault,
+    NoMemory,
+}
+
+impl Stop {
+    pub fn status(self) -> u8
+        ensures { result ≡ stop_status self }
+    {
+        match self {
+            Stop::ReadFault => 3,
+            Stop::WriteFault => 4,
+            Stop::NoMemory => 5,
+        }
+    }
+}
+
+/// What is to be printed on standard error.
+#[derive(Clone, Copy, Debug, PartialEq, Eq)]
+pub enum Complaint {
+    /// The words aren't accepted.
+    BadWords(Topic),
+    /// This many names are given for this many stages.
+    WrongNames(usize, u8),
+    /// The job violates a rule.
+    Refused(Refusal),
+}
+
+/// Why a call ends early. A complaint is still to be printed.
+#[derive(Clone, Copy, Debug, PartialEq, Eq)]
+pub enum Failure {
+    Complained(Complaint),
+    Stopped(Stop),
+}
+
+impl From<Refused> for Failure {
+    ghost from_gives = { λ refused f. f ≡ failure_of refused };
+
+    fn from(refused: Refused) -> Self {
+        match refused {
+            Refused::Rule(refusal) => Failure::Complained(Complaint::Refused(refusal)),
+            Refused::NoMemory => Failure::Stopped(Stop::NoMemory),
+        }
+    }
+}
+
+impl From<NoMemory> for Failure {
+    ghost from_gives = { λ _ f. f ≡ failure.Stopped stop.NoMemory };
+
+    fn from(_: NoMemory) -> Self {
+        Failure::Stopped(Stop::NoMemory)
+    }
+}
+
+impl From<SinkFault> for Failure {
+    ghost from_gives = { λ _ f. f ≡ failure.Stopped stop.WriteFault };
+
+    fn from(_: SinkFault) -> Self {
+        Failure::Stopped(Stop::WriteFault)
+    }
+}

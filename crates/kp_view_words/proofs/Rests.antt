@@ -1,0 +1,130 @@
+-- The words after a number: names of stages and a file; and what all words ask for.
+use Rattle.std.proofs.Common.{◌≡◌, ◌∙◌, ℕ, ◌+◌, ◌-◌, ◌<◌, Bool, cond, true, false, ◌||◌, List, [], ◌∷◌, ◌++◌, map, length, take, drop, Option, Some, None, refl, sym, ap, ap₂, arith}
+use Rattle.std.specs.Prelude.{slice_get, nat_lt, option_and_then, unwrap_or}
+use Rattle.std.specs.List.{IsLastAndRest, list_all, list_any}
+use Rattle.std.specs.Option.{option_map_or}
+use Rattle.std.proofs.lemmas.Option.{slice_get-get_or}
+use Rattle.std.proofs.lemmas.List.{map-append, length-drop, length-map, length-append, take_all}
+use Rattle.std.proofs.Math.Seq.{take-append_seam, get_or-append_seam}
+use Rattle.kp_view_words.specs.Words.{Drawing, Text, asked_for, asked_or, asks_help, begins_with_dash, count_of, file_in, help, is_file_after, help_place, is_help_flag, is_help_word, is_name, is_version_flag, names_in, task_named, task_of, task_with, topic_of, version, word_named}
+use Rattle.kp_view_words.specs.inner.Matching.{head_of, head_with}
+use Rattle.kp_view_words.specs.declared.matching.Head.{Head}
+use Rattle.kp_view_words.specs.declared.words.Word.{Word}
+
+-- some names, and a last word
+module _ (names : List Text) (last : Text) where
+  abbrev both : List Text
+  both = names ++ last ∷ []
+
+  one_more : length both ≡ length names + 1
+  one_more = length-append names (last ∷ [])
+
+  count : length both - 1 ≡ length names
+  count = let e = one_more in omega (arith, e)
+
+  last_got : slice_get both (length names) ≡ Some last
+  last_got =
+      let e = one_more in
+      let b : length names < length both = omega (arith, e) in
+      slice_get-get_or both (length names) last b ∙ ap Some (get_or-append_seam names last [] last)
+
+  abbrev file_at : ℕ → Option Text → Option Text
+  file_at n = option_and_then (λ l. cond (is_file_after n l) (Some l) None)
+
+  file_is : file_in both ≡ cond (is_file_after (length names) last) (Some last) None
+  file_is = ap (λ n. file_at n (slice_get both n)) count ∙ ap (file_at (length names)) last_got
+
+  names_are : names_in both ≡ cond (is_file_after (length names) last) names both
+  names_are = ap (λ f. option_map_or (λ file. take (length both - 1) both) f both) file_is ∙ go (is_file_after (length names) last)
+    where
+      go : (b : Bool) → option_map_or (λ file. take (length both - 1) both) (cond b (Some last) None) both ≡ cond b names both
+      go true = ap (λ n. take n both) count ∙ take-append_seam names (last ∷ [])
+      go false = refl
+
+module _ {X : Type 0} (f : X → Text) (rest names : List X) (last : X) (is : IsLastAndRest rest last names) where
+  mapped : map f rest ≡ map f names ++ f last ∷ []
+  mapped = ap (map f) is.0 ∙ map-append f names (last ∷ [])
+
+  test_is : (b : Bool) → is_file_after (length names) (f last) ≡ b → is_file_after (length (map f names)) (f last) ≡ b
+  test_is b h = ap (λ n. is_file_after n (f last)) (length-map names f) ∙ h
+
+  pub names_found : is_file_after (length names) (f last) ≡ true → map f names ≡ names_in (map f rest)
+  names_found h =
+      sym (ap names_in mapped ∙ names_are (map f names) (f last) ∙ ap (λ b. cond b (map f names) (map f names ++ f last ∷ [])) (test_is true h))
+
+  pub names_all : is_file_after (length names) (f last) ≡ false → map f rest ≡ names_in (map f rest)
+  names_all h =
+      mapped ∙ sym (ap names_in mapped ∙ names_are (map f names) (f last) ∙ ap (λ b. cond b (map f names) (map f names ++ f last ∷ [])) (test_is false h))
+
+  pub file_found : is_file_after (length names) (f last) ≡ true → Some (f last) ≡ file_in (map f rest)
+  file_found h = sym (ap file_in mapped ∙ file_is (map f names) (f last) ∙ ap (λ b. cond b (Some (f last)) None) (test_is true h))
+
+  pub file_none : is_file_after (length names) (f last) ≡ false → None ≡ file_in (map f rest)
+  file_none h = sym (ap file_in mapped ∙ file_is (map f names) (f last) ∙ ap (λ b. cond b (Some (f last)) None) (test_is false h))
+
+pub names_of_nothing : {X : Type 0} (f : X → Text) (rest : List X) → length rest ≡ 0 → map f rest ≡ names_in (map f rest)
+names_of_nothing f [] e = refl
+names_of_nothing f (x ∷ xs) e = absurd (omega (arith, e))
+
+pub file_of_nothing : {X : Type 0} (f : X → Text) (rest : List X) → length rest ≡ 0 → None ≡ file_in (map f rest)
+file_of_nothing f [] e = refl
+file_of_nothing f (x ∷ xs) e = absurd (omega (arith, e))
+
+-- the drawing, where the names are or aren't names of stages
+pub task_none : (head : Head) (rest : List Text) → list_all is_name (names_in rest) ≡ false → None ≡ task_with head rest
+task_none head rest h =
+    sym (ap (λ b. cond b (Some (record { word = head.word; count = head.count; names = names_in rest; file = file_in rest })) None) h)
+
+pub task_some : (head : Head) (rest names : List Text) (file : Option Text) → names ≡ names_in rest → file ≡ file_in rest → list_all is_name (names_in rest) ≡ true
+    → Some (record { word = head.word; count = head.count; names = names; file = file }) ≡ task_with head rest
+task_some head rest names file n f h =
+    ap₂ (λ (ns : List Text) (o : Option Text). Some (record { word = head.word; count = head.count; names = ns; file = o })) n f
+    ∙ sym (ap (λ b. cond b (Some (record { word = head.word; count = head.count; names = names_in rest; file = file_in rest })) None) h)
+
+-- no drawing where a word begins with `-`
+pub dash_none : (all : List Text) → list_any begins_with_dash all ≡ true → None ≡ task_of all
+dash_none all h = sym (rw h refl)
+
+-- the drawing of a head
+same_head : (head other : Head) → Some head ≡ Some other → other ≡ head
+same_head head other e = sym (ap (λ (o : Option Head). unwrap_or o head) e)
+
+with_head : (head : Head) (rest : List Text) (many : Bool) (w : Option Word) (n : Option ℕ) → nat_lt 13 (length rest) ≡ many
+    → Some head ≡ cond many None (head_with w n) → task_named w n rest ≡ task_with head rest
+with_head head rest true w n e h = cc h
+with_head head rest false (Some w) (Some n) e h =
+    ap (λ b. cond b None (task_with (record { word = w; count = n }) rest)) e ∙ ap (λ (it : Head). task_with it rest) (same_head head (record { word = w; count = n }) h)
+with_head head rest false (Some w) None e h = cc h
+with_head head rest false None n e h = cc h
+
+pub task_of_head : (all : List Text) (head : Head) → list_any begins_with_dash all ≡ false → Some head ≡ head_of all → task_of all ≡ task_with head (drop 2 all)
+task_of_head [] head free h = cc h
+task_of_head (name ∷ []) head free h = cc h
+task_of_head (name ∷ number ∷ rest) head free h =
+    let named : task_named (word_named name) (count_of number) rest ≡ task_with head rest = with_head head rest (nat_lt 13 (length rest)) (word_named name) (count_of number) refl h in
+    rw free named
+
+-- the rest of a list from a place on
+pub rest_is : {X : Type 0} (rest words : List X) (n : ℕ) → rest ≡ take (length words - n) (drop n words) → rest ≡ drop n words
+rest_is rest words n is = is ∙ take_all (length words - n) (drop n words) (let e = length-drop n words in omega (arith, e))
+
+-- what the words ask for
+pub asked_version : (all : List Text) → asks_help all ≡ false → list_any is_version_flag all ≡ true → version ≡ asked_for all
+asked_version all h v = sym (ap₂ (λ (b c : Bool). cond b (help (topic_of all)) (cond c version (asked_or (topic_of all) (task_of all)))) h v)
+
+pub asked_task : (all : List Text) (task : Option Drawing) → asks_help all ≡ false → list_any is_version_flag all ≡ false → task ≡ task_of all
+    → asked_or (topic_of all) task ≡ asked_for all
+asked_task all task h v is =
+    ap (asked_or (topic_of all)) is
+    ∙ sym (ap₂ (λ (b c : Bool). cond b (help (topic_of all)) (cond c version (asked_or (topic_of all) (task_of all)))) h v)
+
+-- the first word isn't `help`
+abbrev place_by : Bool → ℕ
+place_by first = cond first 1 0
+
+asks_by : (first flag b : Bool) → (place_by first ≡ 1 → ⊥) → b ≡ flag → b ≡ (first || flag)
+asks_by true flag b h e = absurd (h refl)
+asks_by false flag b h e = e
+
+pub asks_flag : (all : List Text) (b : Bool) → (help_place all ≡ 1 → ⊥) → b ≡ list_any is_help_flag all → b ≡ asks_help all
+asks_flag all b h e = asks_by (option_map_or is_help_word (slice_get all 0) false) (list_any is_help_flag all) b h e

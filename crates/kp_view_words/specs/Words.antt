@@ -1,0 +1,118 @@
+-- What the words of a command line ask for.
+use Rattle.std.specs.Prelude.{◌==◌, ◌||◌, ◌&&◌, ◌-◌, not, ℕ, Bool, false, List, [], ◌∷◌, length, take, leb, ltb, nat_le, nat_lt, slice_get, if◌then◌else◌, codes, Option, Some, None, option_and_then}
+use Rattle.std.specs.List.{list_all, list_any}
+use Rattle.std.specs.Option.{option_map_or}
+use Rattle.std.specs.Str.{bytes_eq}
+use Rattle.kp_base.specs.Characters.{is_word}
+use Rattle.kp_bits.specs.Literals.{number_of}
+use Rattle.kp_view_words.specs.declared.words.Topic.{Topic}
+use Rattle.kp_view_words.specs.declared.words.Topic.TheVariants as topics
+use Rattle.kp_view_words.specs.declared.words.Word.{Word}
+use Rattle.kp_view_words.specs.declared.words.Word.TheVariants as words
+use Rattle.kp_view_words.specs.declared.matching.Head.{Head}
+
+abbrev pub Text : Type 0
+Text = List ℕ
+
+-- A drawing: its word, its number of cycles, the names of the stages, and the file of the job, or none for standard input.
+pub record Drawing : Type 0 where
+  pub word : Word
+  pub count : ℕ
+  pub names : List Text
+  pub file : Option Text
+
+pub data Asked : Type 0 where
+  bad_words : Topic → Asked
+  help : Topic → Asked
+  version : Asked
+  draw : Drawing → Asked
+
+-- the word of this name
+abbrev pub word_named : Text → Option Word
+word_named name =
+    if bytes_eq name (codes "diagram") then Some words.Diagram else None
+
+-- the topic of a word: the word itself, or the program
+abbrev pub topic_named : Text → Topic
+topic_named name =
+    if bytes_eq name (codes "diagram") then topics.Diagram else topics.Program
+
+abbrev pub is_help_word : Text → Bool
+is_help_word word = bytes_eq word (codes "help")
+
+abbrev pub is_help_flag : Text → Bool
+is_help_flag word = bytes_eq word (codes "--help") || bytes_eq word (codes "-h")
+
+abbrev pub is_version_flag : Text → Bool
+is_version_flag word = bytes_eq word (codes "--version") || bytes_eq word (codes "-V")
+
+abbrev pub begins_with_dash : Text → Bool
+begins_with_dash [] = false
+begins_with_dash (c ∷ cs) = c == 45
+
+-- help is about the first word, or about the second after `help`
+abbrev pub help_place : List Text → ℕ
+help_place all = if option_map_or is_help_word (slice_get all 0) false then 1 else 0
+
+abbrev pub topic_of : List Text → Topic
+topic_of all = option_map_or topic_named (slice_get all (help_place all)) topics.Program
+
+abbrev pub asks_help : List Text → Bool
+asks_help all = option_map_or is_help_word (slice_get all 0) false || list_any is_help_flag all
+
+-- the number that 1 to 20 decimal digits denote, with or without leading zeros, up to 1,000
+unfoldable pub count_of : Text → Option ℕ
+count_of word =
+    if nat_le (length word) 20
+    then option_and_then (λ number. if nat_le number 1000 then Some number else None) (number_of word)
+    else None
+
+-- the name of a stage: 1 to 8 letters, digits or `_`
+abbrev pub is_name : Text → Bool
+is_name word = ltb 0 (length word) && leb (length word) 8 && list_all is_word word
+
+-- a word with another character
+abbrev pub is_path : Text → Bool
+is_path word = list_any (λ byte. not (is_word byte)) word
+
+-- A single word after N is a file; of several, the last one is a file if it has another character than letters, digits and `_`.
+abbrev pub is_file_after : ℕ → Text → Bool
+is_file_after names last = (names == 0) || is_path last
+
+abbrev pub file_in : List Text → Option Text
+file_in rest =
+    option_and_then (λ last. if is_file_after (length rest - 1) last then Some last else None) (slice_get rest (length rest - 1))
+
+-- the words before the file, or all of them
+abbrev pub names_in : List Text → List Text
+names_in rest = option_map_or (λ file. take (length rest - 1) rest) (file_in rest) rest
+
+-- the drawing with this head and these words after it
+abbrev pub task_with : Head → List Text → Option Drawing
+task_with head rest =
+    if list_all is_name (names_in rest)
+    then Some (record { word = head.word; count = head.count; names = names_in rest; file = file_in rest })
+    else None
+
+-- the drawing of an accepted list: a word, a number, and at most 13 further words
+abbrev pub task_named : Option Word → Option ℕ → List Text → Option Drawing
+task_named (Some word) (Some count) rest = if nat_lt 13 (length rest) then None else task_with (record { word = word; count = count }) rest
+task_named _ _ rest = None
+
+abbrev pub drawing_of : List Text → Option Drawing
+drawing_of (name ∷ count ∷ rest) = task_named (word_named name) (count_of count) rest
+drawing_of _ = None
+
+abbrev pub task_of : List Text → Option Drawing
+task_of all = if list_any begins_with_dash all then None else drawing_of all
+
+-- what is asked for
+abbrev pub asked_or : Topic → Option Drawing → Asked
+asked_or topic None = bad_words topic
+asked_or topic (Some task) = draw task
+
+abbrev pub asked_for : List Text → Asked
+asked_for all =
+    if asks_help all then help (topic_of all)
+    else (if list_any is_version_flag all then version
+    else asked_or (topic_of all) (task_of all))

@@ -1,0 +1,85 @@
+// The texts of help, usage and version. Each ends with a line feed.
+ghost use Rattle.std.specs.Prelude.{◌≡◌};
+ghost use Rattle.kp_view_words.specs.Texts.{help_text, usage_text, version_text};
+
+use crate::words::Topic;
+
+/// The version of the program, which the file VERSION at the top has too.
+pub const VERSION: &str = "kpview 0.9.0\n";
+
+/// How the program is called.
+pub const USAGE: &str = "usage: kpview diagram N [NAMES] [FILE]
+       kpview --help
+";
+
+/// How `diagram` is called.
+pub const USAGE_DIAGRAM: &str = "usage: kpview diagram N [NAMES] [FILE]
+N is 0 to 1000; a name has 1 to 8 letters, digits or `_`
+";
+
+/// The help of the program.
+pub const HELP: &str = "Draws how instructions move through the pipelined machine of a kp job.
+
+usage: kpview WORD .. [FILE]
+
+words:
+  diagram N [NAMES] [FILE]   N cycles of the pipeline, as text
+
+The job is read from FILE, or from standard input.
+
+options:
+  -h, --help      print this help, or that of a word: kpview diagram --help
+  -V, --version   print the version
+
+status: 0 done, 1 wrong words, 2 the job violates a rule, 3 reading failed,
+4 writing failed, 5 out of memory
+";
+
+/// The help of `diagram`.
+pub const HELP_DIAGRAM: &str =
+    "Prints N cycles of the pipelined machine of a job as text: a line for each
+instruction that is fetched, a column for each cycle, and the account of the
+cycles below them.
+
+usage: kpview diagram N [NAMES] [FILE]
+
+  N       the number of cycles, 0 to 1000
+  NAMES   a name for each stage, of 1 to 8 letters, digits or `_`, as in
+          IF ID EX ME WB; without names the stages are numbered
+  FILE    the job; without it, standard input is read. A single word after N
+          is a file. Of several, the last one is a file if it has a character
+          other than letters, digits and `_`, as in ./job
+
+A cell names the stage that holds the instruction in the cycle, with a mark:
+  *   waits for a value
+  -   waits for the stage ahead
+  !   held from outside
+  x   squashed
+";
+
+/// The help on a topic.
+pub fn help_of(topic: Topic) -> &'static str
+    ensures { result.now ≡ help_text topic }
+{
+    match topic {
+        Topic::Program => HELP,
+        Topic::Diagram => HELP_DIAGRAM,
+    }
+}
+
+/// How the program is called, or one of its words.
+pub fn usage_of(topic: Topic) -> &'static str
+    ensures { result.now ≡ usage_text topic }
+{
+    match topic {
+        Topic::Program => USAGE,
+        Topic::Diagram => USAGE_DIAGRAM,
+    }
+}
+
+/// The line of `--version`.
+pub fn version() -> &'static str
+    ensures { result.now ≡ version_text }
+{
+    VERSION
+}
