@@ -5,7 +5,7 @@ ghost use Rattle.kp_view_words.specs.Texts.{help_text, usage_text, version_text}
 use crate::words::Topic;
 
 /// The version of the program, which the file VERSION at the top has too.
-pub const VERSION: &str = "kpview 0.9.0\n";
+pub const VERSION: &str = "kpview 0.10.0\n";
 
 /// How the program is called.
 pub const USAGE: &str = "usage: kpview diagram N [NAMES] [FILE]
