@@ -16,7 +16,10 @@ use Rattle.kp_diagram_run.specs.Runs.{IsRunOf, job_figure}
 use Rattle.kp_diagram_run.proofs.Alike.{SameFrom, account-same, fetches-same}
 use Rattle.kp_diagram_run.proofs.Words.{words-seen}
 
-figure-same : (name : List ℕ) (names : List (List ℕ)) (n : ℕ) (e f : ℕ → ℕ → Bool) (rows : List Row) → SameFrom e f 0 (length rows)
+from-zero : (e f : ℕ → ℕ → Bool) (count : ℕ) → ((T : ℕ) → T < count → e T ≡ f T) → SameFrom e f 0 count
+from-zero e f count h T b = let z : 0 + T ≡ T = omega arith in rw z (h T b)
+
+figure-same : (name : List ℕ) (names : List (List ℕ)) (n : ℕ) (e f : ℕ → ℕ → Bool) (rows : List Row) → ((T : ℕ) → T < length rows → e T ≡ f T)
     → figure_from name names n e rows ≡ figure_from name names n f rows
 figure-same name names n e f rows h =
     ap₂ (λ (fetches : List Fetch) (account : Account). record {
@@ -27,7 +30,7 @@ figure-same name names n e f rows h =
       fetches = fetches;
       account = account;
     })
-    (fetches-same e f n 0 (λ k. 0) true rows h) (account-same e f (n - 1) 0 (λ k. Filling) rows h)
+    (fetches-same e f n 0 (λ k. 0) true rows (from-zero e f (length rows) h)) (account-same e f (n - 1) 0 (λ k. Filling) rows (from-zero e f (length rows) h))
 
 abbrev ext_in : List ℕ → ℕ → ℕ → Bool
 ext_in words T k = bit_of (get_or words T 0) k
