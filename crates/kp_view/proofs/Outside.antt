@@ -38,7 +38,7 @@ abbrev IsLow : ℕ → Type 0
 IsLow status = status ≤ 2
 
 low_names : (fit : _) (d : Drawing) (job : Job) (status : ℕ) (text : List ℕ) → DueOfNames fit d job status text → IsLow status
-low_names true d job status text (zero_is, rest) = omega (arith, zero_is)
+low_names true d job status text (zero_is, same, shows) = omega (arith, zero_is)
 low_names false d job status text (one, rest) = omega (arith, one)
 
 low : (asked : Asked) (input : List ℕ) (status : ℕ) (text : List ℕ) → DueFor asked input status text → IsLow status
@@ -185,7 +185,7 @@ module _ {S T : Type 0} (held : S → Option (List ℕ)) (held_err : T → Optio
   refusal_at input text status (Err refusal, judged, due) two = (refusal, judged, due.1)
 
   drawn_names : (fit : _) (job : Job) (input text : List ℕ) (status : ℕ) → Judges input (Ok job) → DueOfNames fit d job status text → status ≡ 0 → IsDrawn d input text
-  drawn_names true job input text status judged due zero_is = (job, judged, due.1, due.2)
+  drawn_names true job input text status judged (zero, same, shows) zero_is = (job, judged, same, shows)
   drawn_names false job input text status judged due zero_is = let e = due.0 in absurd (omega (arith, e, zero_is))
 
   drawn_at : (input text : List ℕ) (status : ℕ) → DueFor (draw d) input status text → status ≡ 0 → IsDrawn d input text

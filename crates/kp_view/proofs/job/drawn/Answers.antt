@@ -7,4 +7,4 @@ pub returns : goal.returns
 returns g c =
     let d = task_seen c.args.task.now in
     said g.K.Sink.held g.K.Sink.faults d.file _ _ (Draws d c.args.job.now.design.job) _
-    (draws_diagram d c.args.job.now.design.job c.in-Diagram.is (c.a_figure_shows_the_run.ensures d.names d.count)) _ _ _ c.diagram.ensures
+    (draws_diagram d c.args.job.now.design.job (c.a_figure_shows_the_run.ensures d.names d.count)) _ _ _ c.diagram.ensures
