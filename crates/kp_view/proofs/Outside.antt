@@ -185,7 +185,7 @@ module _ {S T : Type 0} (held : S → Option (List ℕ)) (held_err : T → Optio
   refusal_at input text status (Err refusal, judged, due) two = (refusal, judged, due.1)
 
   drawn_names : (fit : _) (job : Job) (input text : List ℕ) (status : ℕ) → Judges input (Ok job) → DueOfNames fit d job status text → status ≡ 0 → IsDrawn d input text
-  drawn_names true job input text status judged (zero, same, shows) zero_is = (job, judged, same, shows)
+  drawn_names true job input text status judged (is, same, shows) zero_is = (job, judged, same, shows)
   drawn_names false job input text status judged due zero_is = let e = due.0 in absurd (omega (arith, e, zero_is))
 
   drawn_at : (input text : List ℕ) (status : ℕ) → DueFor (draw d) input status text → status ≡ 0 → IsDrawn d input text

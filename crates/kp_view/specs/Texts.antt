@@ -36,4 +36,5 @@ refusal_text file refusal = refusal_said (file_text file) refusal
 -- another number of names than of stages
 unfoldable pub names_text : ℕ → ℕ → List ℕ
 names_text given stages =
-    codes "kpview: names of stages: " ++ decimal given ++ codes ", stages of the job: " ++ decimal stages ++ codes "; give a name for each stage, or none\n"
+    codes "kpview: names of stages: "
+    ++ (decimal given ++ (codes ", stages of the job: " ++ (decimal stages ++ codes "; give a name for each stage, or none\n")))

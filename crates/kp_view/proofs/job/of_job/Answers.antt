@@ -1,5 +1,5 @@
 use Rattle.std.proofs.Common.{◌≡◌, ◌∙◌, ◌≤◌, refl, sym, ap, arith, true, false}
-use Rattle.std.specs.Prelude.{string_bytes}
+use Rattle.std.specs.Prelude.{string_bytes, ⊤}
 use Rattle.std.proofs.lemmas.List.{length-map}
 use Rattle.kp_ast.specs.declared.tree.Job.{Job}
 use Rattle.kp_run.proofs.Machines.{stages_fit}
@@ -20,5 +20,5 @@ returns-then-are_names g c =
 
 pub returns-else-are_names : goal.returns-else-are_names
 returns-else-are_names g c =
-    names_wrong g.K.Sink.held g.K.Sink.faults (task_seen c.args.task.now).file _ (task_seen c.args.task.now) c.args.job.now.design.job _ _ _
+    names_wrong g.K.Sink.held g.K.Sink.faults (task_seen c.args.task.now).file ⊤ (task_seen c.args.task.now) c.args.job.now.design.job _ _ c.args.out.now
     (rw c.job.ensures.job at (sym c.are_names.ensures ∙ c.if-are_names.false)) (sym (length-map c.args.task.now.names.now string_bytes)) (ap (λ (j : Job). j.stages.value) c.job.ensures.job)
