@@ -1,12 +1,11 @@
 -- How calls end: from what was written to what is expected.
-use Rattle.std.proofs.Common.{◌≡◌, ◌∙◌, ℕ, ◌≤◌, Bool, true, false, List, length, Ok, Err, refl, sym, ap, ap₂, subst, inl, inr, arith}
+use Rattle.std.proofs.Common.{◌≡◌, ℕ, ◌≤◌, Bool, false, List, length, Ok, Err, refl, sym, ap₂, subst, inl, inr, arith}
 use Rattle.std.specs.declared.option.Option.{Option}
 use Rattle.std.specs.declared.result.Result.{Result}
 use Rattle.std.specs.Prelude.{MatchResult}
 use Rattle.std.specs.Io.KnownBytes.{Appends}
 use Rattle.kp_base.specs.Bytes.{AppendsPart}
 use Rattle.kp_base.specs.Causes.{Rose}
-use Rattle.kp_base.specs.declared.refusal.Refusal.{Refusal}
 use Rattle.kp_base.specs.declared.refusal.Refused.{Refused}
 use Rattle.kp_base.specs.declared.refusal.Refused.TheVariants as refused
 use Rattle.kp_ast.specs.declared.tree.Job.{Job}

@@ -1,5 +1,5 @@
 -- The ends of the top call: from what is expected of an input to what is expected of what is asked and of the bytes, and of the status.
-use Rattle.std.proofs.Common.{true, false, ◌≡◌, ◌≢◌, ◌∙◌, ◌⊎◌, ℕ, zero, suc, List, [], ◌++◌, length, None, Some, Ok, Err, refl, sym, ap, subst, inl, inr, arith, append-nil, length-append, ◌≤◌, IfSome}
+use Rattle.std.proofs.Common.{true, false, ◌≡◌, ◌≢◌, ◌∙◌, ◌⊎◌, ℕ, List, [], ◌++◌, length, None, Some, Ok, Err, refl, sym, ap, subst, inl, inr, arith, append-nil, length-append, ◌≤◌, IfSome}
 use Rattle.std.specs.declared.option.Option.{Option}
 use Rattle.std.specs.declared.result.Result.{Result}
 use Rattle.std.specs.Io.KnownBytes.{Consumes, IsAtEnd}
@@ -12,7 +12,7 @@ use Rattle.kp_frontend.proofs.Verdicts.{one_verdict}
 use Rattle.kp_view_words.specs.Words.{Asked, Drawing, bad_words, help, version, draw}
 use Rattle.kp_view_words.specs.declared.words.Topic.{Topic}
 use Rattle.kp_diagram_text.specs.Charts.{are_names}
-use Rattle.kp_view.specs.Due.{Says, DueFor, DueOfJob, DueOfNames, IsDue, IsFinal, IsWhole, Completes, Begins, Between, Prints, PrintsPart, IsDrawn, IsRefusal, IsUnrefused, reads_input}
+use Rattle.kp_view.specs.Due.{Says, DueFor, DueOfNames, IsDue, IsFinal, IsWhole, Completes, Begins, Between, Prints, IsDrawn, IsRefusal, IsUnrefused, reads_input}
 use Rattle.kp_view.specs.Texts.{refusal_text}
 use Rattle.kp_view.specs.Ends.{Ends, EndsAt}
 use Rattle.kp_view.specs.inner.Failures.{stop_status, end_status}
