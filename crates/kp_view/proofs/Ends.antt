@@ -1,12 +1,11 @@
 -- How calls end: from what was written to what is expected.
-use Rattle.std.proofs.Common.{◌≡◌, ◌∙◌, ℕ, ◌≤◌, Bool, true, false, List, length, Ok, Err, refl, sym, ap, ap₂, subst, inl, inr, arith}
+use Rattle.std.proofs.Common.{◌≡◌, ℕ, ◌≤◌, Bool, false, List, length, Ok, Err, refl, sym, ap₂, subst, inl, inr, arith}
 use Rattle.std.specs.declared.option.Option.{Option}
 use Rattle.std.specs.declared.result.Result.{Result}
 use Rattle.std.specs.Prelude.{MatchResult}
 use Rattle.std.specs.Io.KnownBytes.{Appends}
 use Rattle.kp_base.specs.Bytes.{AppendsPart}
 use Rattle.kp_base.specs.Causes.{Rose}
-use Rattle.kp_base.specs.declared.refusal.Refusal.{Refusal}
 use Rattle.kp_base.specs.declared.refusal.Refused.{Refused}
 use Rattle.kp_base.specs.declared.refusal.Refused.TheVariants as refused
 use Rattle.kp_ast.specs.declared.tree.Job.{Job}
@@ -17,9 +16,11 @@ use Rattle.kp_view_words.specs.Words.{Drawing, draw}
 use Rattle.kp_view.specs.Complaints.{complaint_status, complaint_text}
 use Rattle.kp_view.specs.Due.{DueFor, DueOfJob, DueOfNames, Draws, Says, figure_drawn, figure_text}
 use Rattle.kp_diagram_text.specs.Charts.{are_names}
+use Rattle.kp_diagram_text.specs.Figures.{Figure}
 use Rattle.kp_diagram_text.specs.Text.{diagram_text}
 use Rattle.kp_diagram_run.specs.Claims.{ShowsRun}
 use Rattle.kp_view.specs.Texts.{names_text}
+use Rattle.kp_view_words.specs.declared.words.Word.{Word}
 use Rattle.kp_view_words.specs.declared.words.Word.TheVariants as words
 use Rattle.kp_view.specs.Ends.{Ends, EndsAt}
 use Rattle.kp_view.specs.inner.Failures.{failure_of}
@@ -74,12 +75,15 @@ module _ {S : Type 0} (held : S → Option (List ℕ)) (faults : S → ℕ) (fil
 
   pub names_wrong : (T : Type 0) (d : Drawing) (job : Job) (given stages : ℕ) (s : S) → are_names d.names job.stages.value ≡ false → given ≡ length d.names
       → stages ≡ job.stages.value → Ends {U = T} held faults ⊥ (DueOfJob d job) file s s (Err (Complained (complaints.WrongNames given stages)))
-  names_wrong T d job given stages s no g k =
-      by_names (are_names d.names job.stages.value) false d job no s s {T = T} (Err (Complained (complaints.WrongNames given stages))) (refl, (refl, ap₂ names_text g k))
+  names_wrong T d job given stages s unfit g k =
+      by_names (are_names d.names job.stages.value) false d job unfit s s {T = T} (Err (Complained (complaints.WrongNames given stages))) (refl, (refl, ap₂ names_text g k))
 
--- a drawing as text
-pub draws_diagram : (d : Drawing) (job : Job) → d.word ≡ words.Diagram → ShowsRun job d.count (figure_drawn d job) → Draws d job 0 (diagram_text (figure_drawn d job))
-draws_diagram d job is shows = (refl, rw is refl, shows)
+-- a drawing as text: the only word
+text_drawn : (word : Word) (f : Figure) → diagram_text f ≡ figure_text word f
+text_drawn words.Diagram f = refl
+
+pub draws_diagram : (d : Drawing) (job : Job) → ShowsRun job d.count (figure_drawn d job) → Draws d job 0 (diagram_text (figure_drawn d job))
+draws_diagram d job shows = (refl, text_drawn d.word (figure_drawn d job), shows)
 
 -- a complaint was written
 module _ {S T : Type 0} (held : S → Option (List ℕ)) (faults : S → ℕ) (held_err : T → Option (List ℕ)) (faults_err : T → ℕ) (V : Type 0) (Q : ℕ → List ℕ → Type 0) where

@@ -1,2 +1,4 @@
 pub mod Ends
 pub mod Outside
+pub mod Pieces
+pub mod Tables

@@ -1,5 +1,5 @@
 -- The ends of the top call: from what is expected of an input to what is expected of what is asked and of the bytes, and of the status.
-use Rattle.std.proofs.Common.{true, false, ◌≡◌, ◌≢◌, ◌∙◌, ◌⊎◌, ℕ, zero, suc, List, [], ◌++◌, length, None, Some, Ok, Err, refl, sym, ap, subst, inl, inr, arith, append-nil, length-append, ◌≤◌, IfSome}
+use Rattle.std.proofs.Common.{true, false, ◌≡◌, ◌≢◌, ◌∙◌, ◌⊎◌, ℕ, List, [], ◌++◌, length, None, Some, Ok, Err, refl, sym, ap, subst, inl, inr, arith, append-nil, length-append, ◌≤◌, IfSome}
 use Rattle.std.specs.declared.option.Option.{Option}
 use Rattle.std.specs.declared.result.Result.{Result}
 use Rattle.std.specs.Io.KnownBytes.{Consumes, IsAtEnd}
@@ -12,7 +12,7 @@ use Rattle.kp_frontend.proofs.Verdicts.{one_verdict}
 use Rattle.kp_view_words.specs.Words.{Asked, Drawing, bad_words, help, version, draw}
 use Rattle.kp_view_words.specs.declared.words.Topic.{Topic}
 use Rattle.kp_diagram_text.specs.Charts.{are_names}
-use Rattle.kp_view.specs.Due.{Says, DueFor, DueOfJob, DueOfNames, IsDue, IsFinal, IsWhole, Completes, Begins, Between, Prints, PrintsPart, IsDrawn, IsRefusal, IsUnrefused, reads_input}
+use Rattle.kp_view.specs.Due.{Says, DueFor, DueOfNames, IsDue, IsFinal, IsWhole, Completes, Begins, Between, Prints, IsDrawn, IsRefusal, IsUnrefused, reads_input}
 use Rattle.kp_view.specs.Texts.{refusal_text}
 use Rattle.kp_view.specs.Ends.{Ends, EndsAt}
 use Rattle.kp_view.specs.inner.Failures.{stop_status, end_status}
@@ -38,7 +38,7 @@ abbrev IsLow : ℕ → Type 0
 IsLow status = status ≤ 2
 
 low_names : (fit : _) (d : Drawing) (job : Job) (status : ℕ) (text : List ℕ) → DueOfNames fit d job status text → IsLow status
-low_names true d job status text (zero_is, rest) = omega (arith, zero_is)
+low_names true d job status text (zero_is, same, shows) = omega (arith, zero_is)
 low_names false d job status text (one, rest) = omega (arith, one)
 
 low : (asked : Asked) (input : List ℕ) (status : ℕ) (text : List ℕ) → DueFor asked input status text → IsLow status
@@ -185,7 +185,7 @@ module _ {S T : Type 0} (held : S → Option (List ℕ)) (held_err : T → Optio
   refusal_at input text status (Err refusal, judged, due) two = (refusal, judged, due.1)
 
   drawn_names : (fit : _) (job : Job) (input text : List ℕ) (status : ℕ) → Judges input (Ok job) → DueOfNames fit d job status text → status ≡ 0 → IsDrawn d input text
-  drawn_names true job input text status judged due zero_is = (job, judged, due.1, due.2)
+  drawn_names true job input text status judged (is, same, shows) zero_is = (job, judged, same, shows)
   drawn_names false job input text status judged due zero_is = let e = due.0 in absurd (omega (arith, e, zero_is))
 
   drawn_at : (input text : List ℕ) (status : ℕ) → DueFor (draw d) input status text → status ≡ 0 → IsDrawn d input text

@@ -1,6 +1,6 @@
 -- What is specified: a status and a text for what is asked and the bytes of the source. The text of status 0 goes to standard output, and any other to
 -- standard error.
-use Rattle.std.specs.Prelude.{◌≡◌, ◌≢◌, ◌≤◌, ◌⊎◌, Bool, true, false, ℕ, zero, suc, List, [], length, Ok, Err, Some, None, Option, Result}
+use Rattle.std.specs.Prelude.{◌≡◌, ◌≢◌, ◌≤◌, ◌⊎◌, Bool, true, false, ℕ, zero, suc, List, [], length, Ok, Err, Option, Result}
 use Rattle.std.specs.Io.KnownBytes.{Consumes, Appends, IsAtEnd}
 use Rattle.kp_base.specs.Bytes.{AppendsPart}
 use Rattle.kp_base.specs.declared.refusal.Refusal.{Refusal}

@@ -20,11 +20,15 @@ family_letter A = codes "A"
 abbrev pub sentence : ℕ → List ℕ
 sentence number = option_map_or (λ s. s.now) (slice_get SENTENCES number) []
 
--- `mini5.kp:11:13: error E9: two operands have different widths`
-unfoldable pub refusal_said : List ℕ → Refusal → List ℕ
-refusal_said name refusal =
-    name ++ codes ":" ++ decimal refusal.place.line ++ codes ":" ++ decimal refusal.place.col ++ codes ": error "
+-- the place and the rule: `:11:13: error E9: two operands have different widths`
+unfoldable pub rule_said : Refusal → List ℕ
+rule_said refusal =
+    codes ":" ++ decimal refusal.place.line ++ codes ":" ++ decimal refusal.place.col ++ codes ": error "
     ++ family_letter refusal.family ++ decimal refusal.number ++ codes ": " ++ sentence refusal.number ++ codes "\n"
+
+-- after the name of the file: `mini5.kp:11:13: error E9: two operands have different widths`
+abbrev pub refusal_said : List ℕ → Refusal → List ℕ
+refusal_said name refusal = name ++ rule_said refusal
 
 abbrev pub refusal_text : Option (List ℕ) → Refusal → List ℕ
 refusal_text file refusal = refusal_said (file_text file) refusal
@@ -32,4 +36,5 @@ refusal_text file refusal = refusal_said (file_text file) refusal
 -- another number of names than of stages
 unfoldable pub names_text : ℕ → ℕ → List ℕ
 names_text given stages =
-    codes "kpview: names of stages: " ++ decimal given ++ codes ", stages of the job: " ++ decimal stages ++ codes "; give a name for each stage, or none\n"
+    codes "kpview: names of stages: "
+    ++ (decimal given ++ (codes ", stages of the job: " ++ (decimal stages ++ codes "; give a name for each stage, or none\n")))

@@ -4,7 +4,7 @@ ghost use Rattle.std.specs.Io.KnownBytes.{Appends};
 ghost use Rattle.kp_base.specs.Bytes.{AppendsPart, Writes};
 ghost use Rattle.kp_base.specs.Causes.{HasCause, Rose};
 ghost use Rattle.kp_view.specs.Complaints.{complaint_status, complaint_text, said_of};
-ghost use Rattle.kp_view.specs.Texts.{family_letter, file_text, names_text, refusal_said};
+ghost use Rattle.kp_view.specs.Texts.{family_letter, file_text, names_text, refusal_said, rule_said};
 ghost use Rattle.kp_view.specs.declared.failure.Stop.TheVariants as stop;
 
 use crate::failure::{Complaint, Stop};
@@ -78,14 +78,23 @@ fn write_names<K: Sink>(given: usize, stages: u8, err: &mut K) -> Result<(), Sin
     write_pieces(err, &pieces)
 }
 
-#[tactic(auto, unfolding(crate::specs::Texts::refusal_said))]
+#[tactic(auto, using(kp_base::proofs::Bytes::writes_next, kp_base::proofs::Bytes::part_more))]
 fn write_refusal<K: Sink>(refusal: Refusal, file: &[u8], err: &mut K) -> Result<(), SinkFault>
     ensures text { Writes (K.held err.old) (K.held err.new) (refusal_said file.now refusal) result }
     ensures cause { HasCause (K.faults err.old) (K.faults err.new) result }
 {
+    write_all(err, file)?;
+    write_rule(refusal, err)
+}
+
+// Writes the place and the rule, after the name of the file.
+#[tactic(auto, unfolding(crate::specs::Texts::rule_said))]
+fn write_rule<K: Sink>(refusal: Refusal, err: &mut K) -> Result<(), SinkFault>
+    ensures text { Writes (K.held err.old) (K.held err.new) (rule_said refusal) result }
+    ensures cause { HasCause (K.faults err.old) (K.faults err.new) result }
+{
     let (mut number, mut line, mut col) = (Buffer::new(), Buffer::new(), Buffer::new());
     let pieces = [
-        file,
         b":".as_slice(),
         line.format(refusal.place.line).as_bytes(),
         b":".as_slice(),

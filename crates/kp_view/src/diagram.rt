@@ -1,16 +1,14 @@
 // `diagram`: the pipeline diagram as text.
 ghost use Rattle.std.specs.Prelude.{◌≡◌, ◌≤◌, map, string_bytes, None, true};
-ghost use Rattle.kp_base.specs.Bytes.{Writes};
-ghost use Rattle.kp_base.specs.Causes.{HasCause};
 ghost use Rattle.kp_diagram_text.specs.Charts.{are_names};
 ghost use Rattle.kp_diagram_text.specs.Text.{diagram_text};
-ghost use Rattle.kp_diagram_run.specs.Runs.{IsRunOf, job_figure};
+ghost use Rattle.kp_diagram_run.specs.Runs.{job_figure};
 ghost use Rattle.kp_view.specs.Due.{Says};
 ghost use Rattle.kp_view.specs.Ends.{Ends};
 
 use crate::failure::Failure;
-use kp_base::{Sink, SinkFault};
-use kp_diagram_run::{JobRun, chart_of, run_job};
+use kp_base::Sink;
+use kp_diagram_run::{chart_of, run_job};
 use kp_diagram_text::write_text;
 use kp_frontend::Accepted;
 use std::alloc::Global;
@@ -28,24 +26,7 @@ pub fn diagram<K: Sink>(
     ensures { Ends K.held K.faults ⊥ (Says 0 (diagram_text (job_figure (map string_bytes names.now) count job.now.design.job))) None out.old out.new result }
 {
     let run = run_job(alloc, job, count)?;
-    let end = written(job, &run, names, out);
+    let end = write_text(&chart_of(job, &run, names), out);
     drop(run);
     Ok(end?)
-}
-
-// Writes the diagram of a run.
-fn written<K: Sink>(
-    job: &Accepted,
-    run: &JobRun,
-    names: &[String],
-    out: &mut K,
-) -> Result<(), SinkFault>
-    ghost cycles: { ℕ }
-    requires run { IsRunOf job.now.design.job cycles run.now.rows.items run.now.words.items }
-    requires few { cycles ≤ 1000 }
-    requires names { are_names (map string_bytes names.now) job.now.design.job.stages.value ≡ true }
-    ensures text { Writes (K.held out.old) (K.held out.new) (diagram_text (job_figure (map string_bytes names.now) cycles job.now.design.job)) result }
-    ensures cause { HasCause (K.faults out.old) (K.faults out.new) result }
-{
-    write_text(&chart_of(job, run, names), out)
 }

@@ -48,7 +48,7 @@ pub const SENTENCES: [&str; 38] = [
 pub fn sentence_of(number: u8) -> &'static str
     ensures { result.now ≡ sentence number }
 {
-    match SENTENCES.get(usize::from(number)) {
+    match SENTENCES.as_slice().get(usize::from(number)) {
         Some(sentence) => sentence,
         None => "",
     }

@@ -16,12 +16,12 @@ returns-clause-no_memory g c = λ five. ends.at_five g.K.Sink.held g.K.Sink.faul
 
 pub returns-clause-complete : goal.returns-clause-complete
 returns-clause-complete g c = λ source out err memory.
-    ends.complete g.K.Sink.held g.K.Sink.faults g.E.Sink.held g.E.Sink.faults _ _ _ _ _ _ _ _ c.status_of.result
+    ends.complete g.K.Sink.held g.K.Sink.faults g.E.Sink.held g.E.Sink.faults ⊥ _ _ _ _ _ _ _ c.status_of.result
     (ends.unfailing g.K.Sink.held g.K.Sink.faults g.E.Sink.held g.E.Sink.faults _ _ _ _ _ _ _ _ _ c.status_of.result c.ended.ensures.ends c.status_of.ensures source out err memory)
 
 pub returns-clause-bad_words : goal.returns-clause-bad_words
 returns-clause-bad_words g c = λ topic is final.
-    ends.bad g.K.Sink.held g.K.Sink.faults g.E.Sink.held g.E.Sink.faults _ _ _ _ _ _ _ _ topic c.status_of.result is
+    ends.bad g.K.Sink.held g.K.Sink.faults g.E.Sink.held g.E.Sink.faults ⊥ _ _ _ _ _ _ _ topic c.status_of.result is
     (ends.completes g.K.Sink.held g.K.Sink.faults g.E.Sink.held g.E.Sink.faults _ _ _ _ _ _ _ _ _ c.status_of.result c.ended.ensures.ends c.status_of.ensures final)
 
 pub returns-clause-refused : goal.returns-clause-refused

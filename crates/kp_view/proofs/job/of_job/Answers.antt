@@ -1,6 +1,7 @@
-use Rattle.std.proofs.Common.{◌≡◌, ◌∙◌, ◌≤◌, refl, sym, ap, arith, true, false}
-use Rattle.std.specs.Prelude.{string_bytes}
+use Rattle.std.proofs.Common.{◌∙◌, ◌≤◌, sym, ap, arith, true}
+use Rattle.std.specs.Prelude.{string_bytes, ⊤}
 use Rattle.std.proofs.lemmas.List.{length-map}
+use Rattle.kp_ast.specs.declared.tree.Job.{Job}
 use Rattle.kp_run.proofs.Machines.{stages_fit}
 use Rattle.kp_diagram_text.specs.Charts.{are_names}
 use Rattle.kp_view_words.specs.Asked.{task_seen}
@@ -15,9 +16,9 @@ overflow_cast-stages g c =
 pub returns-then-are_names : goal.returns-then-are_names
 returns-then-are_names g c =
     by_names g.K.Sink.held g.K.Sink.faults (task_seen c.args.task.now).file (are_names (task_seen c.args.task.now).names c.args.job.now.design.job.stages.value) true
-    (task_seen c.args.task.now) c.args.job.now.design.job (rw c.job.ensures.job (sym c.are_names.ensures ∙ c.if-are_names.true)) _ _ _ c.drawn.ensures
+    (task_seen c.args.task.now) c.args.job.now.design.job (rw c.job.ensures.job at (sym c.are_names.ensures ∙ c.if-are_names.true)) _ _ _ c.drawn.ensures
 
 pub returns-else-are_names : goal.returns-else-are_names
 returns-else-are_names g c =
-    names_wrong g.K.Sink.held g.K.Sink.faults (task_seen c.args.task.now).file _ (task_seen c.args.task.now) c.args.job.now.design.job _ _ _
-    (rw c.job.ensures.job (sym c.are_names.ensures ∙ c.if-are_names.false)) (sym (length-map c.args.task.now.names.now string_bytes)) (rw c.job.ensures.job refl)
+    names_wrong g.K.Sink.held g.K.Sink.faults (task_seen c.args.task.now).file ⊤ (task_seen c.args.task.now) c.args.job.now.design.job _ _ c.args.out.now
+    (rw c.job.ensures.job at (sym c.are_names.ensures ∙ c.if-are_names.false)) (sym (length-map c.args.task.now.names.now string_bytes)) (ap (λ (j : Job). j.stages.value) c.job.ensures.job)

@@ -1,4 +1,5 @@
 use Rattle.std.proofs.Common.{refl}
+use Rattle.std.specs.Prelude.{⊤}
 use Rattle.std.proofs.lemmas.Result.{err_from_is_err_and}
 use Rattle.kp_view_words.specs.Asked.{task_seen}
 use Rattle.kp_view.proofs.Ends.{refused_job, accepted_job}
@@ -7,7 +8,7 @@ use Rattle.kp_view.proofs.job.on_job.Goals as goal
 pub returns-in_err-job : goal.returns-in_err-job
 returns-in_err-job g c =
     let p = err_from_is_err_and c.from_residual.result c.from_residual.ensures.1 in
-    rw p.1 (refused_job g.K.Sink.held g.K.Sink.faults (task_seen c.args.task.now).file (task_seen c.args.task.now) c.args.input.now c.args.out.now c.in_err-job.field-0.0 p.0 _ c.requires p.2 refl c.in_err-job.ensures)
+    rw p.1 (refused_job g.K.Sink.held g.K.Sink.faults (task_seen c.args.task.now).file (task_seen c.args.task.now) c.args.input.now c.args.out.now c.in_err-job.field-0.0 p.0 ⊤ c.requires p.2 refl c.in_err-job.ensures)
 
 pub returns : goal.returns
 returns g c =
