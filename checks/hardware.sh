@@ -7,7 +7,8 @@
 # prints the clock that it reaches, in MHz.
 #
 # Where benches/by-hand has a pipeline of the same name as a job, it follows the job, and a line `beside` with what the module of `pipe` has for
-# each 1 of the pipeline by hand. Another order of the same cells moves LUT4 by some percent and `path` by one, so small differences say nothing.
+# each 1 of the pipeline by hand. Another order of the same cells moves LUT4 by some percent, `path` by one and the clock by a tenth, so small
+# differences say nothing.
 #
 # A synthesiser deletes what no output depends on, and a module of `pipe` has no output for its values. So the registers r_R and the write ports of
 # the files are made outputs first, and in a module by hand what its line `// expose:` names. Bits of a file that is never written, as an instruction
