@@ -6,6 +6,7 @@ use Rattle.kp_stage.specs.Start.{stall_word}
 use Rattle.kp_machine.specs.Machine.{inputs_from, pipe_of}
 use Rattle.kp_sched.specs.Rows.{rows_seen}
 use Rattle.kp_diagram.specs.Claims.{stalls_of}
+use Rattle.kp_pipeline.specs.Rows.{Row}
 use Rattle.kp_diagram_text.specs.Figures.{Figure, figure_from}
 
 -- The rows and the stall words of n cycles of the pipelined machine of a job, under the job's own stall words and samples.
@@ -15,7 +16,10 @@ pub record IsRunOf (job : Job) (n : ℕ) (given : List masks.Row) (listed : List
   pub many : length listed ≡ n
   pub words : (T : ℕ) → T < n → get_or listed T 0 ≡ stall_word job T
 
+-- The rows of that run.
+abbrev pub job_rows : ℕ → Job → List Row
+job_rows n job = (pipe_of job (inputs_from job 0 n)).rows
+
 -- THE FIGURE of a job, over n cycles of that run, with these names of its stages.
 abbrev pub job_figure : List (List ℕ) → ℕ → Job → Figure
-job_figure names n job =
-    figure_from job.name.name names job.stages.value (stalls_of (inputs_from job 0 n)) (pipe_of job (inputs_from job 0 n)).rows
+job_figure names n job = figure_from job.name.name names job.stages.value (stalls_of (inputs_from job 0 n)) (job_rows n job)

@@ -10,8 +10,8 @@ ghost use Rattle.std.specs.Prelude.{◌≡◌, ◌≤◌, ◌<◌, ℕ, true, le
 ghost use Rattle.kp_machine.specs.Machine.{inputs_from, pipe_of};
 ghost use Rattle.kp_sched.specs.Rows.{rows_seen};
 ghost use Rattle.kp_image.specs.Spans.{word_in};
-ghost use Rattle.kp_diagram_text.specs.Charts.{IsDrawable, are_names, figure_of};
-ghost use Rattle.kp_diagram_run.specs.Runs.{IsRunOf, job_figure};
+ghost use Rattle.kp_diagram_text.specs.Charts.{IsDrawable, are_names, figure_of, rows_of};
+ghost use Rattle.kp_diagram_run.specs.Runs.{IsRunOf, job_figure, job_rows};
 ghost use Rattle.kp_diagram_run.specs.inner.Words.{words_to};
 
 use kp_base::{NoMemory, Row};
@@ -42,6 +42,7 @@ pub fn run_job(alloc: Global, job: &Accepted, count: u32) -> Result<JobRun, NoMe
 pub fn chart_of<'a>(job: &'a Accepted, run: &'a JobRun, names: &'a [String]) -> Chart<'a>
     ensures figure { (n : ℕ) → IsRunOf job.now.design.job n run.now.rows.items run.now.words.items
         → figure_of result ≡ job_figure (map string_bytes names.now) n job.now.design.job }
+    ensures rows { (n : ℕ) → IsRunOf job.now.design.job n run.now.rows.items run.now.words.items → rows_of result ≡ job_rows n job.now.design.job }
     ensures drawable { (n : ℕ) → IsRunOf job.now.design.job n run.now.rows.items run.now.words.items → n ≤ 100000
         → are_names (map string_bytes names.now) job.now.design.job.stages.value ≡ true → IsDrawable result }
 {

@@ -1,7 +1,8 @@
-use Rattle.std.proofs.Common.{◌≡◌, ◌∙◌, ◌≤◌, ℕ, List, length, ap, sym, arith}
+use Rattle.std.proofs.Common.{◌≡◌, ◌∙◌, ◌≤◌, ℕ, List, length, ap, ap₂, sym, arith}
 use Rattle.std.specs.Prelude.{map, string_bytes}
 use Rattle.kp_base.specs.declared.row.Row.{Row}
 use Rattle.kp_ast.specs.declared.tree.Job.{Job}
+use Rattle.kp_sched.specs.Rows.{rows_seen}
 use Rattle.kp_run.proofs.Machines.{stages_fit}
 use Rattle.kp_diagram_run.proofs.Figures.{figure-of}
 use Rattle.kp_diagram_run.proofs.chart_of.Goals as goal
@@ -18,6 +19,10 @@ returns-clause-figure c = λ n run.
     c.as_slice-rows.ensures.value c.as_slice-words.ensures.value
     (c.bytes.ensures.bytes ∙ ap (λ (j : Job). j.name.name) c.job-tree.ensures.job)
     (ap (λ (j : Job). j.stages.value) c.job-tree.ensures.job)
+
+pub returns-clause-rows : goal.returns-clause-rows
+returns-clause-rows c = λ n run.
+    ap₂ (λ (stages : ℕ) (rows : List Row). rows_seen stages rows) (ap (λ (j : Job). j.stages.value) c.job-tree.ensures.job) c.as_slice-rows.ensures.value ∙ run.rows
 
 pub returns-clause-drawable : goal.returns-clause-drawable
 returns-clause-drawable c = λ n run few named.
