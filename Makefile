@@ -3,6 +3,7 @@
 # make check    the gate: all proofs, the edits that proofs must reject, and all stored runs, as .ci/run does
 # make checks   the checks beside the gate: commands of the manual, other tools on the Verilog, refused memory; a line for each
 # make bench    the measurements of time and memory in benches/
+# make pictures draws the pictures of docs/pictures/ anew
 # make install  installs the built programs, manual pages, completions, editor files, documents and examples: PREFIX=/usr/local DESTDIR=
 # make uninstall  removes what make install put there
 # make dist     packs what would be installed: out/dist/kp-VERSION.tar.gz, and its sum in out/dist/SHA256SUMS
@@ -13,10 +14,10 @@ programs = kp kpview
 lock     = out/build.lock
 
 # The scripts of checks/ that pass or fail.
-all_checks = names.py cited_lemmas.py version.sh manual.py memory.sh verilog.sh waves.sh hardware.sh dist.sh build.sh
+all_checks = names.py cited_lemmas.py version.sh manual.py pictures.sh memory.sh verilog.sh waves.sh hardware.sh dist.sh build.sh
 all_benches = asm seq sim watch synth nodes read hostile
 
-.PHONY: all $(programs) $(programs:%=built-%) check checks bench install uninstall dist clean help
+.PHONY: all $(programs) $(programs:%=built-%) check checks bench pictures install uninstall dist clean help
 
 all: $(programs)
 
@@ -48,6 +49,10 @@ checks: $(if $(KP),,kp) $(if $(KPVIEW),,kpview)
 
 bench: $(if $(KP),,kp)
 	@for it in $(all_benches); do echo "== $$it"; sh benches/$$it.sh || exit 1; done
+
+# KPVIEW names another program than the one that is built here.
+pictures: $(if $(KPVIEW),,kpview)
+	@bash checks/pictures.sh write
 
 # PREFIX is an absolute path. DESTDIR is a folder in which it is installed as if it were the root, for packages. KP_BINARY and KPVIEW_BINARY name
 # other files than the programs that are built here.

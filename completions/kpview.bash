@@ -20,7 +20,7 @@ _kpview() {
     fi
     compopt +o default 2>/dev/null
     case $count in
-        0) COMPREPLY=($(compgen -W 'diagram help --help --version' -- "$cur")) ;;
+        0) COMPREPLY=($(compgen -W 'diagram svg help --help --version' -- "$cur")) ;;
         1) COMPREPLY=($(compgen -W '10 20 50 100 1000' -- "$cur")) ;;
     esac
 }

@@ -12,16 +12,10 @@ use Rattle.kp_ast.specs.declared.tree.Job.{Job}
 use Rattle.kp_frontend.specs.Judging.{JudgesText}
 use Rattle.kp_frontend.specs.Judging.Judges.{within}
 use Rattle.kp_frontend.specs.Accepting.{AnswersText}
-use Rattle.kp_view_words.specs.Words.{Drawing, draw}
+use Rattle.kp_view_words.specs.Words.{Order, Task, names_for, show}
 use Rattle.kp_view.specs.Complaints.{complaint_status, complaint_text}
-use Rattle.kp_view.specs.Due.{DueFor, DueOfJob, DueOfNames, Draws, Says, figure_drawn, figure_text}
-use Rattle.kp_diagram_text.specs.Charts.{are_names}
-use Rattle.kp_diagram_text.specs.Figures.{Figure}
-use Rattle.kp_diagram_text.specs.Text.{diagram_text}
-use Rattle.kp_diagram_run.specs.Claims.{ShowsRun}
+use Rattle.kp_view.specs.Due.{DueFor, DueOfJob, DueOfNames, Draws, IsShown, Says, names_fit, order_text}
 use Rattle.kp_view.specs.Texts.{names_text}
-use Rattle.kp_view_words.specs.declared.words.Word.{Word}
-use Rattle.kp_view_words.specs.declared.words.Word.TheVariants as words
 use Rattle.kp_view.specs.Ends.{Ends, EndsAt}
 use Rattle.kp_view.specs.inner.Failures.{failure_of}
 use Rattle.kp_view.specs.declared.failure.Complaint.{Complaint}
@@ -57,33 +51,30 @@ module _ {S : Type 0} (held : S → Option (List ℕ)) (faults : S → ℕ) (fil
   said other V Q text due old new (Err (Stopped stops.NoMemory)) same = same
 
   -- a job that violates a rule
-  pub refused_job : (d : Drawing) (input : List ℕ) (s : S) (e : Refused) (f : Failure) (T : Type 0) → length input ≤ 16777216 → f ≡ failure_of e → d.file ≡ file
-      → AnswersText input (Err e) → Ends {U = T} held faults ⊥ (DueFor (draw d) input) file s s (Err f)
-  refused_job d input s (refused.Rule refusal) f T short is same judged = rw is (refl, (Err refusal, within short judged, (refl, rw same refl)))
-  refused_job d input s refused.NoMemory f T short is same judged = rw is refl
+  pub refused_job : (task : Task) (input : List ℕ) (s : S) (e : Refused) (f : Failure) (T : Type 0) → length input ≤ 16777216 → f ≡ failure_of e → task.file ≡ file
+      → AnswersText input (Err e) → Ends {U = T} held faults ⊥ (DueFor (show task) input) file s s (Err f)
+  refused_job task input s (refused.Rule refusal) f T short is same judged = rw is (refl, (Err refusal, within short judged, (refl, rw same refl)))
+  refused_job task input s refused.NoMemory f T short is same judged = rw is refl
 
   -- a job that violates none
-  pub accepted_job : (d : Drawing) (input : List ℕ) (job : Job) → length input ≤ 16777216 → JudgesText input (Ok job) → (old new : S) {T : Type 0} (r : Result T Failure)
-      → Ends held faults ⊥ (DueOfJob d job) file old new r → Ends held faults ⊥ (DueFor (draw d) input) file old new r
-  accepted_job d input job short judged old new r ends =
-      weaker ⊥ ⊥ (DueOfJob d job) (DueFor (draw d) input) (λ u. u) (λ status text due. (Ok job, within short judged, due)) old new r ends
+  pub accepted_job : (task : Task) (input : List ℕ) (job : Job) → length input ≤ 16777216 → JudgesText input (Ok job) → (old new : S) {T : Type 0} (r : Result T Failure)
+      → Ends held faults ⊥ (DueOfJob task.order job) file old new r → Ends held faults ⊥ (DueFor (show task) input) file old new r
+  accepted_job task input job short judged old new r ends =
+      weaker ⊥ ⊥ (DueOfJob task.order job) (DueFor (show task) input) (λ u. u) (λ status text due. (Ok job, within short judged, due)) old new r ends
 
   -- the names are or aren't names for the stages of the job
-  pub by_names : (fit other : Bool) (d : Drawing) (job : Job) → fit ≡ other → (old new : S) {T : Type 0} (r : Result T Failure)
-      → Ends held faults ⊥ (DueOfNames other d job) file old new r → Ends held faults ⊥ (DueOfNames fit d job) file old new r
-  by_names fit other d job is old new r ends = subst (λ (b : Bool). Ends held faults ⊥ (DueOfNames b d job) file old new r) (sym is) ends
+  pub by_names : (fit other : Bool) (order : Order) (job : Job) → fit ≡ other → (old new : S) {T : Type 0} (r : Result T Failure)
+      → Ends held faults ⊥ (DueOfNames other order job) file old new r → Ends held faults ⊥ (DueOfNames fit order job) file old new r
+  by_names fit other order job is old new r ends = subst (λ (b : Bool). Ends held faults ⊥ (DueOfNames b order job) file old new r) (sym is) ends
 
-  pub names_wrong : (T : Type 0) (d : Drawing) (job : Job) (given stages : ℕ) (s : S) → are_names d.names job.stages.value ≡ false → given ≡ length d.names
-      → stages ≡ job.stages.value → Ends {U = T} held faults ⊥ (DueOfJob d job) file s s (Err (Complained (complaints.WrongNames given stages)))
-  names_wrong T d job given stages s unfit g k =
-      by_names (are_names d.names job.stages.value) false d job unfit s s {T = T} (Err (Complained (complaints.WrongNames given stages))) (refl, (refl, ap₂ names_text g k))
+  pub names_wrong : (T : Type 0) (order : Order) (job : Job) (given stages : ℕ) (s : S) → names_fit order job ≡ false → given ≡ length (names_for order)
+      → stages ≡ job.stages.value → Ends {U = T} held faults ⊥ (DueOfJob order job) file s s (Err (Complained (complaints.WrongNames given stages)))
+  names_wrong T order job given stages s unfit g k =
+      by_names (names_fit order job) false order job unfit s s {T = T} (Err (Complained (complaints.WrongNames given stages))) (refl, (refl, ap₂ names_text g k))
 
--- a drawing as text: the only word
-text_drawn : (word : Word) (f : Figure) → diagram_text f ≡ figure_text word f
-text_drawn words.Diagram f = refl
-
-pub draws_diagram : (d : Drawing) (job : Job) → ShowsRun job d.count (figure_drawn d job) → Draws d job 0 (diagram_text (figure_drawn d job))
-draws_diagram d job shows = (refl, text_drawn d.word (figure_drawn d job), shows)
+-- the text of a word was written, which shows the run
+pub drawn_as : (order other : Order) (job : Job) (text : List ℕ) → order ≡ other → text ≡ order_text other job → IsShown other job → Draws order job 0 text
+drawn_as order other job text is same shows = subst (λ (o : Order). Draws o job 0 text) (sym is) (refl, same, shows)
 
 -- a complaint was written
 module _ {S T : Type 0} (held : S → Option (List ℕ)) (faults : S → ℕ) (held_err : T → Option (List ℕ)) (faults_err : T → ℕ) (V : Type 0) (Q : ℕ → List ℕ → Type 0) where

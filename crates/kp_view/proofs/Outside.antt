@@ -9,10 +9,9 @@ use Rattle.kp_ast.specs.declared.tree.Job.{Job}
 use Rattle.kp_frontend.specs.Judging.{Judges, too_long}
 use Rattle.kp_frontend.specs.Judging.Judges.{over, within}
 use Rattle.kp_frontend.proofs.Verdicts.{one_verdict}
-use Rattle.kp_view_words.specs.Words.{Asked, Drawing, bad_words, help, version, draw}
+use Rattle.kp_view_words.specs.Words.{Asked, Order, Task, bad_words, help, version, show}
 use Rattle.kp_view_words.specs.declared.words.Topic.{Topic}
-use Rattle.kp_diagram_text.specs.Charts.{are_names}
-use Rattle.kp_view.specs.Due.{Says, DueFor, DueOfNames, IsDue, IsFinal, IsWhole, Completes, Begins, Between, Prints, IsDrawn, IsRefusal, IsUnrefused, reads_input}
+use Rattle.kp_view.specs.Due.{Says, DueFor, IsShown, order_text, wrong_names_text, DueOfNames, IsDue, IsFinal, IsWhole, Completes, Begins, Between, Prints, IsDrawn, IsRefusal, IsUnaccepted, IsUnrefused, names_fit, reads_input}
 use Rattle.kp_view.specs.Texts.{refusal_text}
 use Rattle.kp_view.specs.Ends.{Ends, EndsAt}
 use Rattle.kp_view.specs.inner.Failures.{stop_status, end_status}
@@ -37,16 +36,16 @@ never_final NoMemory status is final = final.2 is
 abbrev IsLow : ℕ → Type 0
 IsLow status = status ≤ 2
 
-low_names : (fit : _) (d : Drawing) (job : Job) (status : ℕ) (text : List ℕ) → DueOfNames fit d job status text → IsLow status
-low_names true d job status text (zero_is, same, shows) = omega (arith, zero_is)
-low_names false d job status text (one, rest) = omega (arith, one)
+low_names : (fit : _) (order : Order) (job : Job) (status : ℕ) (text : List ℕ) → DueOfNames fit order job status text → IsLow status
+low_names true order job status text (zero_is, same, shows) = omega (arith, zero_is)
+low_names false order job status text (one, rest) = omega (arith, one)
 
 low : (asked : Asked) (input : List ℕ) (status : ℕ) (text : List ℕ) → DueFor asked input status text → IsLow status
 low (bad_words topic) input status text (is, rest) = omega (arith, is)
 low (help topic) input status text (is, rest) = omega (arith, is)
 low version input status text (is, rest) = omega (arith, is)
-low (draw d) input status text (Ok job, judged, due) = low_names (are_names d.names job.stages.value) d job status text due
-low (draw d) input status text (Err refusal, judged, (is, rest)) = omega (arith, is)
+low (show task) input status text (Ok job, judged, due) = low_names (names_fit task.order job) task.order job status text due
+low (show task) input status text (Err refusal, judged, (is, rest)) = omega (arith, is)
 
 module _ {S : Type 0} (held : S → Option (List ℕ)) (faults : S → ℕ) (V : Type 0) where
   -- what reads nothing
@@ -72,17 +71,17 @@ module _ {S : Type 0} (held : S → Option (List ℕ)) (faults : S → ℕ) (V :
   version_end asked left file other is old new r ends =
       unread_end asked left file other version_text (rw is refl) (rw is (refl, refl)) old new r ends
 
-  -- a drawing over all bytes of the source
-  pub over_input : (d : Drawing) (left left_after file : Option (List ℕ)) (input : List ℕ) → Consumes left left_after input → IsAtEnd left_after → length input ≤ 16777216
-      → (old new : S) {T : Type 0} (r : Result T Failure) → Ends held faults ⊥ (DueFor (draw d) input) file old new r → Ends held faults V (IsDue (draw d) left left_after) file old new r
-  over_input d left left_after file input consumed end short old new r ends =
-      weaker held faults file ⊥ V (DueFor (draw d) input) (IsDue (draw d) left left_after) (λ u. absurd u)
+  -- what is shown over all bytes of the source
+  pub over_input : (task : Task) (left left_after file : Option (List ℕ)) (input : List ℕ) → Consumes left left_after input → IsAtEnd left_after → length input ≤ 16777216
+      → (old new : S) {T : Type 0} (r : Result T Failure) → Ends held faults ⊥ (DueFor (show task) input) file old new r → Ends held faults V (IsDue (show task) left left_after) file old new r
+  over_input task left left_after file input consumed end short old new r ends =
+      weaker held faults file ⊥ V (DueFor (show task) input) (IsDue (show task) left left_after) (λ u. absurd u)
       (λ status text due. record { taken = input; consumed = consumed; whole = inl (end, short); due = due }) old new r ends
 
 -- an input that is too long
-pub too_long_is_due : (d : Drawing) (left left_after : Option (List ℕ)) (taken : List ℕ) → Consumes left left_after taken → length taken ≡ 16777217
-    → IsDue (draw d) left left_after 2 (refusal_text d.file too_long)
-too_long_is_due d left left_after taken consumed count =
+pub too_long_is_due : (task : Task) (left left_after : Option (List ℕ)) (taken : List ℕ) → Consumes left left_after taken → length taken ≡ 16777217
+    → IsDue (show task) left left_after 2 (refusal_text task.file too_long)
+too_long_is_due task left left_after taken consumed count =
     record { taken = taken; consumed = consumed; whole = inr count; due = (Err too_long, over (omega (arith, count)), (refl, refl)) }
 
 -- a verdict on the bytes that were read is the verdict on all bytes
@@ -100,7 +99,7 @@ due_all : (asked : Asked) (taken rest : List ℕ) (status : ℕ) (text : List �
 due_all (bad_words topic) taken rest status text whole due = due
 due_all (help topic) taken rest status text whole due = due
 due_all version taken rest status text whole due = due
-due_all (draw d) taken rest status text whole (verdict, judged, due) = (verdict, judges_all taken rest (ends_or_long taken rest whole) judged, due)
+due_all (show task) taken rest status text whole (verdict, judged, due) = (verdict, judges_all taken rest (ends_or_long taken rest whole) judged, due)
 
 -- where the bytes of the source are known, the outcome is the one for all of them
 for_all_bytes : (asked : Asked) (left left_after : Option (List ℕ)) (status : ℕ) (text : List ℕ) → IsDue asked left left_after status text
@@ -172,39 +171,63 @@ module _ {S T : Type 0} (held : S → Option (List ℕ)) (faults : S → ℕ) (h
       let said_so : DueFor (bad_words topic) due.taken status text = subst (λ (a : Asked). DueFor a due.taken status text) is due.due in
       said_so.0
 
-module _ {S T : Type 0} (held : S → Option (List ℕ)) (held_err : T → Option (List ℕ)) (d : Drawing) where
-  names_never_two : (fit : _) (job : Job) (status : ℕ) (text : List ℕ) → DueOfNames fit d job status text → status ≡ 2 → ⊥
-  names_never_two fit job status text due two = go fit due
-    where
-      go : (fit : _) → DueOfNames fit d job status text → ⊥
-      go true due = let e = due.0 in omega (arith, e, two)
-      go false due = let e = due.0 in omega (arith, e, two)
+-- by the status, whether the names do or don't fit
+names_never_two : (fit : _) (order : Order) (job : Job) (status : ℕ) (text : List ℕ) → DueOfNames fit order job status text → status ≡ 2 → ⊥
+names_never_two fit order job status text due two = go fit due
+  where
+    go : (fit : _) → DueOfNames fit order job status text → ⊥
+    go true due = let e = due.0 in omega (arith, e, two)
+    go false due = let e = due.0 in omega (arith, e, two)
 
-  refusal_at : (input text : List ℕ) (status : ℕ) → DueFor (draw d) input status text → status ≡ 2 → IsRefusal d input text
-  refusal_at input text status (Ok job, judged, due) two = absurd (names_never_two (are_names d.names job.stages.value) job status text due two)
+names_at_zero : (fit : _) (order : Order) (job : Job) (status : ℕ) (text : List ℕ) → DueOfNames fit order job status text → status ≡ 0
+    → (fit ≡ true) × (text ≡ order_text order job) × IsShown order job
+names_at_zero true order job status text (is, same, shows) zero_is = (refl, same, shows)
+names_at_zero false order job status text due zero_is = let e = due.0 in absurd (omega (arith, e, zero_is))
+
+names_at_one : (fit : _) (order : Order) (job : Job) (status : ℕ) (text : List ℕ) → DueOfNames fit order job status text → status ≡ 1
+    → (fit ≡ false) × (text ≡ wrong_names_text order job)
+names_at_one true order job status text due one = let e = due.0 in absurd (omega (arith, e, one))
+names_at_one false order job status text (is, same) one = (refl, same)
+
+-- what isn't accepted
+unaccepted_at : (asked : Asked) (input text : List ℕ) (status : ℕ) → DueFor asked input status text → status ≡ 1 → IsUnaccepted asked input text
+unaccepted_at (bad_words topic) input text status (is, same) one = same
+unaccepted_at (help topic) input text status (is, same) one = absurd (omega (arith, is, one))
+unaccepted_at version input text status (is, same) one = absurd (omega (arith, is, one))
+unaccepted_at (show task) input text status (Ok job, judged, due) one =
+    let (unfit, same) = names_at_one (names_fit task.order job) task.order job status text due one in (job, judged, unfit, same)
+unaccepted_at (show task) input text status (Err refusal, judged, (is, same)) one = absurd (omega (arith, is, one))
+
+module _ {S T : Type 0} (held : S → Option (List ℕ)) (held_err : T → Option (List ℕ)) (asked : Asked) (left left_after : Option (List ℕ)) (old new : S)
+    (old_err new_err : T) where
+  pub unaccepted : (status : ℕ) → status ≡ 1 → Completes held held_err asked left left_after old new old_err new_err status
+      → Between left left_after (held_err old_err) (held_err new_err) (IsUnaccepted asked)
+  unaccepted status one whole =
+      let (text, due, printed) = subst (λ (s : ℕ). Completes held held_err asked left left_after old new old_err new_err s) one whole in
+      (due.taken, text, due.consumed, printed.1, unaccepted_at asked due.taken text 1 due.due refl)
+
+module _ {S T : Type 0} (held : S → Option (List ℕ)) (held_err : T → Option (List ℕ)) (task : Task) where
+  refusal_at : (input text : List ℕ) (status : ℕ) → DueFor (show task) input status text → status ≡ 2 → IsRefusal task input text
+  refusal_at input text status (Ok job, judged, due) two = absurd (names_never_two (names_fit task.order job) task.order job status text due two)
   refusal_at input text status (Err refusal, judged, due) two = (refusal, judged, due.1)
 
-  drawn_names : (fit : _) (job : Job) (input text : List ℕ) (status : ℕ) → Judges input (Ok job) → DueOfNames fit d job status text → status ≡ 0 → IsDrawn d input text
-  drawn_names true job input text status judged (is, same, shows) zero_is = (job, judged, same, shows)
-  drawn_names false job input text status judged due zero_is = let e = due.0 in absurd (omega (arith, e, zero_is))
-
-  drawn_at : (input text : List ℕ) (status : ℕ) → DueFor (draw d) input status text → status ≡ 0 → IsDrawn d input text
-  drawn_at input text status (Ok job, judged, due) zero_is = drawn_names (are_names d.names job.stages.value) job input text status judged due zero_is
+  drawn_at : (input text : List ℕ) (status : ℕ) → DueFor (show task) input status text → status ≡ 0 → IsDrawn task input text
+  drawn_at input text status (Ok job, judged, due) zero_is = (job, judged, names_at_zero (names_fit task.order job) task.order job status text due zero_is)
   drawn_at input text status (Err refusal, judged, due) zero_is = let e = due.0 in absurd (omega (arith, e, zero_is))
 
-  module _ (asked : Asked) (left left_after : Option (List ℕ)) (old new : S) (old_err new_err : T) (is : asked ≡ draw d) where
+  module _ (asked : Asked) (left left_after : Option (List ℕ)) (old new : S) (old_err new_err : T) (is : asked ≡ show task) where
     abbrev All : ℕ → Type 0
     All status = Completes held held_err asked left left_after old new old_err new_err status
 
-    due_at : (status : ℕ) (text : List ℕ) (due : IsDue asked left left_after status text) → DueFor (draw d) due.taken status text
+    due_at : (status : ℕ) (text : List ℕ) (due : IsDue asked left left_after status text) → DueFor (show task) due.taken status text
     due_at status text due = subst (λ (a : Asked). DueFor a due.taken status text) is due.due
 
-    pub refused : (status : ℕ) → status ≡ 2 → All status → Between left left_after (held_err old_err) (held_err new_err) (IsRefusal d)
+    pub refused : (status : ℕ) → status ≡ 2 → All status → Between left left_after (held_err old_err) (held_err new_err) (IsRefusal task)
     refused status two whole =
         let (text, due, printed) = subst All two whole in
         (due.taken, text, due.consumed, printed.1, refusal_at due.taken text 2 (due_at 2 text due) refl)
 
-    pub drawn : (status : ℕ) → status ≡ 0 → All status → Between left left_after (held old) (held new) (IsDrawn d)
+    pub drawn : (status : ℕ) → status ≡ 0 → All status → Between left left_after (held old) (held new) (IsDrawn task)
     drawn status zero_is whole =
         let (text, due, printed) = subst All zero_is whole in
         (due.taken, text, due.consumed, printed.0, drawn_at due.taken text 0 (due_at 0 text due) refl)
@@ -214,5 +237,5 @@ module _ {S T : Type 0} (held : S → Option (List ℕ)) (held_err : T → Optio
 
     pub unrefused : (status : ℕ) → status ≡ 0 → All status → Between left left_after (held old) (held new) IsUnrefused
     unrefused status zero_is whole =
-        let (input, text, consumed, appended, (job, judged, same, shows)) = drawn status zero_is whole in
+        let (input, text, consumed, appended, (job, judged, shown)) = drawn status zero_is whole in
         (input, text, consumed, appended, λ refusal broken. ok_never_err input job refusal judged broken)

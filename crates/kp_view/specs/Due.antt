@@ -7,13 +7,13 @@ use Rattle.kp_base.specs.declared.refusal.Refusal.{Refusal}
 use Rattle.kp_ast.specs.declared.tree.Job.{Job}
 use Rattle.kp_frontend.specs.Judging.{Judges}
 use Rattle.kp_view_words.specs.Texts.{help_text, usage_text, version_text}
-use Rattle.kp_view_words.specs.Words.{Asked, Drawing, bad_words, help, version, draw}
-use Rattle.kp_view_words.specs.declared.words.Word.{Word}
-use Rattle.kp_view_words.specs.declared.words.Word.TheVariants.{Diagram}
+use Rattle.kp_view_words.specs.Words.{Asked, Order, Run, Task, bad_words, help, version, show, diagram, svg, names_for}
+use Rattle.kp_pipeline.specs.Rows.{Row}
 use Rattle.kp_diagram_text.specs.Charts.{are_names}
 use Rattle.kp_diagram_text.specs.Figures.{Figure}
 use Rattle.kp_diagram_text.specs.Text.{diagram_text}
-use Rattle.kp_diagram_run.specs.Runs.{job_figure}
+use Rattle.kp_diagram_svg.specs.Picture.{picture}
+use Rattle.kp_diagram_run.specs.Runs.{job_figure, job_rows}
 use Rattle.kp_diagram_run.specs.Claims.{ShowsRun}
 use Rattle.kp_view.specs.Texts.{names_text, refusal_text}
 
@@ -21,44 +21,59 @@ use Rattle.kp_view.specs.Texts.{names_text, refusal_text}
 abbrev pub Says : ℕ → List ℕ → ℕ → List ℕ → Type 0
 Says s t status text = (status ≡ s) × (text ≡ t)
 
--- a figure, drawn as a word asks
-abbrev pub figure_text : Word → Figure → List ℕ
-figure_text Diagram f = diagram_text f
+-- the figure of a job that is drawn, and the rows: of the run of its pipelined machine over the number of cycles that is asked for
+abbrev pub figure_drawn : Run → Job → Figure
+figure_drawn run job = job_figure run.names run.count job
 
--- the figure of a job that is drawn: of the run of its pipelined machine over the number of cycles that is asked for
-abbrev pub figure_drawn : Drawing → Job → Figure
-figure_drawn d job = job_figure d.names d.count job
+abbrev pub rows_drawn : Run → Job → List Row
+rows_drawn run job = job_rows run.count job
 
--- The text of a drawing. The fetches, cells, marks and the account in it are those of the run: the laws of the diagram hold of them.
-abbrev pub Draws : Drawing → Job → ℕ → List ℕ → Type 0
-Draws d job status text = (status ≡ 0) × (text ≡ figure_text d.word (figure_drawn d job)) × ShowsRun job d.count (figure_drawn d job)
+-- THE TEXT that a word writes about a job.
+abbrev pub order_text : Order → Job → List ℕ
+order_text (diagram run) job = diagram_text (figure_drawn run job)
+order_text (svg run) job = picture (figure_drawn run job) (rows_drawn run job)
 
--- the outcome for a job, where the names are or aren't names for its stages
-abbrev pub DueOfNames : Bool → Drawing → Job → ℕ → List ℕ → Type 0
-DueOfNames true d job = Draws d job
-DueOfNames false d job = Says 1 (names_text (length d.names) job.stages.value)
+-- what that text shows: the fetches, cells, marks and the account in it are those of the run, and the laws of the diagram hold of them
+abbrev pub IsShown : Order → Job → Type 0
+IsShown (diagram run) job = ShowsRun job run.count (figure_drawn run job)
+IsShown (svg run) job = ShowsRun job run.count (figure_drawn run job)
 
-abbrev pub DueOfJob : Drawing → Job → ℕ → List ℕ → Type 0
-DueOfJob d job = DueOfNames (are_names d.names job.stages.value) d job
+abbrev pub Draws : Order → Job → ℕ → List ℕ → Type 0
+Draws order job status text = (status ≡ 0) × (text ≡ order_text order job) × IsShown order job
+
+-- the names that are given are names for the stages of the job
+abbrev pub names_fit : Order → Job → Bool
+names_fit order job = are_names (names_for order) job.stages.value
+
+abbrev pub wrong_names_text : Order → Job → List ℕ
+wrong_names_text order job = names_text (length (names_for order)) job.stages.value
+
+-- the outcome for a job, where the names do or don't fit
+abbrev pub DueOfNames : Bool → Order → Job → ℕ → List ℕ → Type 0
+DueOfNames true order job = Draws order job
+DueOfNames false order job = Says 1 (wrong_names_text order job)
+
+abbrev pub DueOfJob : Order → Job → ℕ → List ℕ → Type 0
+DueOfJob order job = DueOfNames (names_fit order job) order job
 
 -- the outcome for a verdict on the input
-abbrev pub DueOfVerdict : Drawing → Result Job Refusal → ℕ → List ℕ → Type 0
-DueOfVerdict d (Ok job) = DueOfJob d job
-DueOfVerdict d (Err refusal) = Says 2 (refusal_text d.file refusal)
+abbrev pub DueOfVerdict : Task → Result Job Refusal → ℕ → List ℕ → Type 0
+DueOfVerdict task (Ok job) = DueOfJob task.order job
+DueOfVerdict task (Err refusal) = Says 2 (refusal_text task.file refusal)
 
 -- the outcome for what is asked, on an input
 abbrev pub DueFor : Asked → List ℕ → ℕ → List ℕ → Type 0
 DueFor (bad_words topic) input status text = Says 1 (usage_text topic) status text
 DueFor (help topic) input status text = Says 0 (help_text topic) status text
 DueFor version input status text = Says 0 version_text status text
-DueFor (draw d) input status text = (verdict : Result Job Refusal) × Judges input verdict × DueOfVerdict d verdict status text
+DueFor (show task) input status text = (verdict : Result Job Refusal) × Judges input verdict × DueOfVerdict task verdict status text
 
--- a drawing reads the source, and nothing else does
+-- what is asked about a job reads the source, and nothing else does
 abbrev pub reads_input : Asked → Bool
 reads_input (bad_words topic) = false
 reads_input (help topic) = false
 reads_input version = false
-reads_input (draw d) = true
+reads_input (show task) = true
 
 -- a source was read as far as is specified: not at all; or to its end, where an input of at most 16,777,216 bytes ends; or one byte further
 abbrev pub IsWhole : Bool → List ℕ → Option (List ℕ) → Type 0
@@ -102,15 +117,23 @@ abbrev pub Between : (left left_after held held_after : Option (List ℕ)) → (
 Between left left_after held held_after Fact =
     (input : List ℕ) × (text : List ℕ) × Consumes left left_after input × Appends held held_after text × Fact input text
 
--- THE HEADLINE. The input is a job that violates no rule, and the text draws the run of its pipelined machine: the instructions in the full stages,
--- the marks with their reasons, the instructions that retire in order, and each cycle counted under its cause.
-abbrev pub IsDrawn : Drawing → List ℕ → List ℕ → Type 0
-IsDrawn d input text =
-    (job : Job) × Judges input (Ok job) × (text ≡ figure_text d.word (figure_drawn d job)) × ShowsRun job d.count (figure_drawn d job)
+-- THE HEADLINE. The input is a job that violates no rule, for whose stages the names are, and the text draws the run of its pipelined machine: the
+-- instructions in the full stages, the marks with their reasons, the instructions that retire in order, and each cycle counted under its cause.
+abbrev pub IsDrawn : Task → List ℕ → List ℕ → Type 0
+IsDrawn task input text =
+    (job : Job) × Judges input (Ok job) × (names_fit task.order job ≡ true) × (text ≡ order_text task.order job) × IsShown task.order job
 
 -- the text names the first rule that the input violates
-abbrev pub IsRefusal : Drawing → List ℕ → List ℕ → Type 0
-IsRefusal d input text = (refusal : Refusal) × Judges input (Err refusal) × (text ≡ refusal_text d.file refusal)
+abbrev pub IsRefusal : Task → List ℕ → List ℕ → Type 0
+IsRefusal task input text = (refusal : Refusal) × Judges input (Err refusal) × (text ≡ refusal_text task.file refusal)
+
+-- The words aren't accepted, and the text says how the program is called; or the input is a job that violates no rule, the names aren't names for
+-- its stages, and the text says how many there are of both.
+abbrev pub IsUnaccepted : Asked → List ℕ → List ℕ → Type 0
+IsUnaccepted (bad_words topic) input text = text ≡ usage_text topic
+IsUnaccepted (show task) input text =
+    (job : Job) × Judges input (Ok job) × (names_fit task.order job ≡ false) × (text ≡ wrong_names_text task.order job)
+IsUnaccepted _ input text = ⊥
 
 -- the input violates no rule, or what was asked isn't about an input
 abbrev pub IsUnrefused : List ℕ → List ℕ → Type 0

@@ -16,6 +16,7 @@ pub enum Stop {
 }
 
 impl Stop {
+    /// The status of a failure.
     pub fn status(self) -> u8
         ensures { result ≡ stop_status self }
     {

@@ -4,7 +4,7 @@
 //! number of names than of stages) goes up as an error, with nothing written, and `ended` writes it to standard error. `specs/Due.antt` defines the
 //! status and the text of each outcome. All memory is allocated before the first byte is written.
 //!
-//! A word that draws is a module with one function, as `diagram`, and a line in `drawn`.
+//! A word is a module with one function, as `diagram`, and an arm in `drawn`.
 #![tactic(auto)]
 
 mod complaint;
@@ -12,14 +12,15 @@ mod diagram;
 mod failure;
 mod job;
 mod sentences;
+mod svg;
 
 ghost use Rattle.std.specs.Prelude.{◌≡◌, ◌≢◌, ◌⊎◌, List, ℕ, false, None, IfSome};
 ghost use Rattle.kp_base.specs.Causes.{Rose};
 ghost use Rattle.kp_base.specs.Refusal.{e_rule};
 ghost use Rattle.kp_view_words.specs.Asked.{asked, file_asked, task_seen};
-ghost use Rattle.kp_view_words.specs.Words.{Asked, Drawing, bad_words, draw};
+ghost use Rattle.kp_view_words.specs.Words.{Asked, Task as TaskAsked, bad_words, show};
 ghost use Rattle.kp_view_words.specs.declared.words.Topic.{Topic};
-ghost use Rattle.kp_view.specs.Due.{Says, DueFor, IsDue, IsFinal, Completes, Begins, Between, Prints, IsDrawn, IsRefusal, IsUnrefused, reads_input};
+ghost use Rattle.kp_view.specs.Due.{Says, DueFor, IsDue, IsFinal, Completes, Begins, Between, Prints, IsDrawn, IsRefusal, IsUnaccepted, IsUnrefused, reads_input};
 ghost use Rattle.kp_view.specs.Ends.{Ends, EndsAt};
 ghost use Rattle.kp_view.specs.inner.Failures.{end_status};
 
@@ -30,7 +31,7 @@ use kp_base::{Place, ReadAll, Refusal, Sink, Source, read_all, write_all};
 use kp_view_words::{Request, Task, help_of, version};
 use std::alloc::Global;
 
-/// Does what is asked for: reads the source if a job is to be drawn, writes to standard output or to standard error, and returns the status. It is 0 if
+/// Does what is asked for: reads the source if something is to be shown of a job, writes to standard output or to standard error, and returns the status. It is 0 if
 /// all was written to standard output, 1 for words that aren't accepted or another number of names than of stages, 2 if the input violates a rule,
 /// 3 for a fault of the source, 4 for a fault of a sink, and 5 for out of memory.
 pub fn view<S: Source, K: Sink, E: Sink>(
@@ -57,19 +58,21 @@ pub fn view<S: Source, K: Sink, E: Sink>(
         → ¬ Rose (E.faults err.old) (E.faults err.new) → result ≢ 5 → IfSome (S.left source.old) (λ input.
         (text : List ℕ) × DueFor (asked request.now) input result text × Prints K.held E.held out.old out.new err.old err.new result text) }
 
-    // Status 1 for words that aren't accepted.
+    // Status 1 for words that aren't accepted, and else only for names that aren't names for the stages of an accepted job; status 0 is never returned
+    // for such names (`drawn`).
     ensures bad_words { (topic : Topic) → asked request.now ≡ bad_words topic → IsFinal result → result ≡ 1 }
+    ensures unaccepted { result ≡ 1 → Between (S.left source.old) (S.left source.new) (E.held err.old) (E.held err.new) (IsUnaccepted (asked request.now)) }
 
     // Status 2 comes with the first rule that the input violates, and whenever it violates one.
-    ensures refused { (d : Drawing) → asked request.now ≡ draw d → result ≡ 2
-        → Between (S.left source.old) (S.left source.new) (E.held err.old) (E.held err.new) (IsRefusal d) }
-    ensures refused_only { (d : Drawing) → asked request.now ≡ draw d → result ≡ 0
+    ensures refused { (task : TaskAsked) → asked request.now ≡ show task → result ≡ 2
+        → Between (S.left source.old) (S.left source.new) (E.held err.old) (E.held err.new) (IsRefusal task) }
+    ensures refused_only { (task : TaskAsked) → asked request.now ≡ show task → result ≡ 0
         → Between (S.left source.old) (S.left source.new) (K.held out.old) (K.held out.new) IsUnrefused }
 
     // The headline. What is written with status 0 draws the run of the job's pipelined machine: its fetches, cells, marks and account are those of the
     // run, and the laws of the diagram hold of them.
-    ensures drawn { (d : Drawing) → asked request.now ≡ draw d → result ≡ 0
-        → Between (S.left source.old) (S.left source.new) (K.held out.old) (K.held out.new) (IsDrawn d) }
+    ensures drawn { (task : TaskAsked) → asked request.now ≡ show task → result ≡ 0
+        → Between (S.left source.old) (S.left source.new) (K.held out.old) (K.held out.new) (IsDrawn task) }
 {
     status_of(ended(alloc, request, source, out, err))
 }
@@ -118,7 +121,7 @@ fn carry_out<S: Source, K: Sink>(
         Request::BadWords(topic) => Err(Failure::Complained(Complaint::BadWords(*topic))),
         Request::Help(topic) => print(help_of(*topic), out),
         Request::Version => print(version(), out),
-        Request::Draw(task) => over_source(alloc, task, source, out),
+        Request::Show(task) => over_source(alloc, task, source, out),
     }
 }
 
@@ -129,7 +132,7 @@ fn print<K: Sink>(text: &str, out: &mut K) -> Result<(), Failure>
     Ok(write_all(out, text.as_bytes())?)
 }
 
-// Reads the source, and draws its job.
+// Reads the source, and shows what is asked of its job.
 fn over_source<S: Source, K: Sink>(
     alloc: Global,
     task: &Task<'_>,
@@ -137,7 +140,7 @@ fn over_source<S: Source, K: Sink>(
     out: &mut K,
 ) -> Result<(), Failure>
     ensures { Ends K.held K.faults (Rose (S.faults source.old) (S.faults source.new))
-        (IsDue (draw (task_seen task.now)) (S.left source.old) (S.left source.new)) (task_seen task.now).file out.old out.new result }
+        (IsDue (show (task_seen task.now)) (S.left source.old) (S.left source.new)) (task_seen task.now).file out.old out.new result }
 {
     match read_all(alloc, source) {
         Ok(input) => on_job(alloc, task, &input, out),

@@ -20,8 +20,8 @@ use Rattle.clap.specs.Faults.{fault_of, level_fault, turn_fault, step_fault, wal
 use Rattle.clap.proofs.WalkLemmas.{walk_stopped}
 use Rattle.clap.proofs.FaultLemmas.{stopped_fault}
 use Rattle.kp_view_words.specs.Words.{begins_with_dash, word_named}
-use Rattle.kp_view_words.specs.inner.Matching.{head_by, head_of, head_of_rows, known_names, program_of, program_shape, shape_named}
-use Rattle.kp_view_words.specs.declared.matching.Head.{Head}
+use Rattle.kp_view_words.specs.inner.Matching.{known_names, program_of, program_shape, shape_named, word_of, word_of_rows}
+use Rattle.kp_view_words.specs.declared.words.Word.{Word}
 
 -- ---- a word that does not begin with `-`
 
@@ -108,18 +108,12 @@ refused_after name words = level_fault (leaf_of name) [] nothing_held words fals
 abbrev found_after : Text → List Text → List Row
 found_after name words = rows_after (leaf_of name).rules [] words
 
--- what is stored after the number
-abbrev number_held : Text → Text → Held
-number_held name word =
-    let rules = (leaf_of name).rules in
-    (to_positional rules (arg_by_index rules 1) word (standing nothing_held 1) nothing_held).held
-
--- the walk after the number and some further words
-abbrev after_words : Text → Text → List Text → Walk
-after_words name word words = record {
-  held = record { rows = (settled (leaf_of name).rules (number_held name word)).rows; pending = Some (codes "rest", words); skip = 0 };
+-- the walk after some words
+abbrev after_words : Text → List Text → Walk
+after_words name words = record {
+  held = record { rows = []; pending = Some (codes "rest", words); skip = 0 };
   waiting = positional;
-  position = 2;
+  position = 1;
   is_trailing = false;
   stopped = None;
 }
@@ -135,35 +129,35 @@ first_word : (word : Text) (words : List Text) → AreFree (word ∷ words) → 
 first_word word words h = either_false (begins_with_dash word) (list_any begins_with_dash words) h
 
 -- one word more
-module _ (name word : Text) where
+module _ (name : Text) where
   next_met : (words : List Text) (w : Text) → begins_with_dash w ≡ false
-      → word_met (leaf_of name).rules [] false positional 2 w (after_words name word words).held ≡ ((after_words name word words).held, value)
+      → word_met (leaf_of name).rules [] false positional 1 w (after_words name words).held ≡ ((after_words name words).held, value)
   next_met words w dash = rw (no_dashes w dash, no_long w dash, no_short w dash) refl
 
   next_walked : (words : List Text) (w : Text) → begins_with_dash w ≡ false
-      → walked (leaf_of name).rules [] (after_words name word words) w ≡ after_words name word (words ++ w ∷ [])
+      → walked (leaf_of name).rules [] (after_words name words) w ≡ after_words name (words ++ w ∷ [])
   unfolding walked
   next_walked words w dash =
-      ap (λ (met : Held × Step). after_step (leaf_of name).rules w (after_words name word words) met.0 met.1) (next_met words w dash)
+      ap (λ (met : Held × Step). after_step (leaf_of name).rules w (after_words name words) met.0 met.1) (next_met words w dash)
 
   next_fault : (words : List Text) (w : Text) → begins_with_dash w ≡ false
-      → word_fault (leaf_of name) [] false positional w (after_words name word words).held ≡ []
+      → word_fault (leaf_of name) [] false positional w (after_words name words).held ≡ []
   next_fault words w dash = rw (no_dashes w dash, no_long w dash, no_short w dash) refl
 
-  next_turn : (words : List Text) (w : Text) → begins_with_dash w ≡ false → turn_fault (leaf_of name) [] (after_words name word words) w ≡ []
+  next_turn : (words : List Text) (w : Text) → begins_with_dash w ≡ false → turn_fault (leaf_of name) [] (after_words name words) w ≡ []
   next_turn words w dash =
-      ap₂ (λ (first : Kinds) (met : Held × Step). or_else first (step_fault (leaf_of name) 2 met.0 met.1)) (next_fault words w dash) (next_met words w dash)
+      ap₂ (λ (first : Kinds) (met : Held × Step). or_else first (step_fault (leaf_of name) 1 met.0 met.1)) (next_fault words w dash) (next_met words w dash)
 
   more_walked : (words more : List Text) → AreFree more
-      → fold (walked (leaf_of name).rules []) (after_words name word words) more ≡ after_words name word (words ++ more)
-  more_walked words [] h = ap (after_words name word) (sym (append-nil words))
+      → fold (walked (leaf_of name).rules []) (after_words name words) more ≡ after_words name (words ++ more)
+  more_walked words [] h = ap (after_words name) (sym (append-nil words))
   more_walked words (w ∷ more) h =
       let first = first_word w more h in
       ap (λ s. fold (walked (leaf_of name).rules []) s more) (next_walked words w first.0)
       ∙ more_walked (words ++ w ∷ []) more first.1
-      ∙ ap (after_words name word) (append_assoc words (w ∷ []) more)
+      ∙ ap (after_words name) (append_assoc words (w ∷ []) more)
 
-  more_faults : (words more : List Text) → AreFree more → walk_fault (leaf_of name) [] (after_words name word words) more ≡ []
+  more_faults : (words more : List Text) → AreFree more → walk_fault (leaf_of name) [] (after_words name words) more ≡ []
   unfolding walk_fault
   more_faults words [] h = refl
   more_faults words (w ∷ more) h =
@@ -171,70 +165,56 @@ module _ (name word : Text) where
       ap₂ or_else (next_turn words w first.0)
       (ap (λ s. walk_fault (leaf_of name) [] s more) (next_walked words w first.0) ∙ more_faults (words ++ w ∷ []) more first.1)
 
-  -- the number, and the first word after it
-  number_walked : begins_with_dash word ≡ false → walked (leaf_of name).rules [] (walk_from nothing_held) word ≡ standing (number_held name word) 2
-  number_walked dash = plain_walked (leaf_of name).rules [] 1 word nothing_held dash refl
+  -- the first word after the name
+  first_walked : (w : Text) → begins_with_dash w ≡ false → walked (leaf_of name).rules [] (walk_from nothing_held) w ≡ after_words name (w ∷ [])
+  first_walked w dash = plain_walked (leaf_of name).rules [] 1 w nothing_held dash refl
 
-  rest_walked : (w : Text) → begins_with_dash w ≡ false → walked (leaf_of name).rules [] (standing (number_held name word) 2) w ≡ after_words name word (w ∷ [])
-  rest_walked w dash = plain_walked (leaf_of name).rules [] 2 w (number_held name word) dash refl
+  module _ (w : Text) (more : List Text) (k : begins_with_dash w ≡ false) (l : AreFree more) where
+    all_walked : walk (leaf_of name).rules [] nothing_held (w ∷ more) ≡ after_words name (w ∷ more)
+    all_walked = ap (λ s. fold (walked (leaf_of name).rules []) s more) (first_walked w k) ∙ more_walked (w ∷ []) more l
 
-  module _ (w : Text) (more : List Text) (h : begins_with_dash word ≡ false) (k : begins_with_dash w ≡ false) (l : AreFree more) where
-    all_walked : walk (leaf_of name).rules [] nothing_held (word ∷ w ∷ more) ≡ after_words name word (w ∷ more)
-    all_walked =
-        ap (λ s. fold (walked (leaf_of name).rules []) (walked (leaf_of name).rules [] s w) more) (number_walked h)
-        ∙ ap (λ s. fold (walked (leaf_of name).rules []) s more) (rest_walked w k)
-        ∙ more_walked (w ∷ []) more l
-
-    all_faults : walk_fault (leaf_of name) [] (walk_from nothing_held) (word ∷ w ∷ more) ≡ []
+    all_faults : walk_fault (leaf_of name) [] (walk_from nothing_held) (w ∷ more) ≡ []
     unfolding walk_fault
     all_faults =
-        ap₂ or_else (plain_turn (leaf_of name) [] 1 word nothing_held h refl)
-        (ap (λ s. or_else (turn_fault (leaf_of name) [] s w) (walk_fault (leaf_of name) [] (walked (leaf_of name).rules [] s w) more)) (number_walked h)
-        ∙ ap₂ or_else (plain_turn (leaf_of name) [] 2 w (number_held name word) k refl)
-        (ap (λ s. walk_fault (leaf_of name) [] s more) (rest_walked w k) ∙ more_faults (w ∷ []) more l))
+        ap₂ or_else (plain_turn (leaf_of name) [] 1 w nothing_held k refl)
+        (ap (λ s. walk_fault (leaf_of name) [] s more) (first_walked w k) ∙ more_faults (w ∷ []) more l)
 
--- at most 13 words are taken after the number
+-- at most 14 words are taken
 abbrev too_many : List Text → Kinds
-too_many words = cond (nat_lt 13 (length words)) (kind.TooManyValues ∷ []) []
+too_many words = cond (nat_lt 14 (length words)) (kind.TooManyValues ∷ []) []
 
 or_else_nothing : (k : Kinds) → or_else k [] ≡ k
 or_else_nothing [] = refl
 or_else_nothing (k ∷ ks) = refl
 
-range_is : (n : ℕ) → range_kinds 0 13 n ≡ cond (nat_lt 13 n) (kind.TooManyValues ∷ []) []
+range_is : (n : ℕ) → range_kinds 0 14 n ≡ cond (nat_lt 14 n) (kind.TooManyValues ∷ []) []
 range_is n = rw (le-ltb n 0 (omega arith)) refl
 
 strings_pass : (words : List Text) → values_kinds false parsers.String words ≡ []
 strings_pass [] = refl
 strings_pass (word ∷ words) = strings_pass words
 
-module _ (name word w : Text) (more : List Text) where
+module _ (name w : Text) (more : List Text) where
   abbrev rest_end : Walk
-  rest_end = after_words name word (w ∷ more)
+  rest_end = after_words name (w ∷ more)
 
   rest_settled : settle_fault (leaf_of name).rules false rest_end.held ≡ too_many (w ∷ more)
   rest_settled = ap₂ or_else (range_is (length (w ∷ more))) (strings_pass (w ∷ more)) ∙ or_else_nothing (too_many (w ∷ more))
 
-  rest_passes : begins_with_dash word ≡ false → begins_with_dash w ≡ false → AreFree more → refused_after name (word ∷ w ∷ more) ≡ too_many (w ∷ more)
+  rest_passes : begins_with_dash w ≡ false → AreFree more → refused_after name (w ∷ more) ≡ too_many (w ∷ more)
   unfolding defaults_fault
-  rest_passes h k l =
+  rest_passes k l =
       let s = leaf_of name in
       ap₂ (λ (first : Kinds) (end : Walk). or_else first (or_else (settle_fault s.rules false end.held)
       (or_else (defaults_fault (settled s.rules end.held).rows s.rules) (check_fault s (finished s.rules end.held) false))))
-      (all_faults name word w more h k l) (all_walked name word w more h k l)
+      (all_faults name w more k l) (all_walked name w more k l)
       ∙ ap₂ or_else rest_settled (refl {a = []}) ∙ or_else_nothing (too_many (w ∷ more))
 
-  rest_rows : begins_with_dash word ≡ false → begins_with_dash w ≡ false → AreFree more
-      → head_of_rows (Some (name, found_after name (word ∷ w ∷ more))) ≡ head_by name (Some word)
-  rest_rows h k l = ap (λ (end : Walk). head_of_rows (Some (name, finished (leaf_of name).rules end.held))) (all_walked name word w more h k l)
-
-number_passes : (name word : Text) → begins_with_dash word ≡ false → refused_after name (word ∷ []) ≡ []
+-- The words after a name are refused where they are too many.
+words_pass : (name : Text) (words : List Text) → AreFree words → refused_after name words ≡ too_many words
 unfolding walk_fault defaults_fault
-number_passes name word h =
-    rw (plain_walked (leaf_of name).rules [] 1 word nothing_held h refl, plain_turn (leaf_of name) [] 1 word nothing_held h refl) refl
-
-number_rows : (name word : Text) → begins_with_dash word ≡ false → head_of_rows (Some (name, found_after name (word ∷ []))) ≡ head_by name (Some word)
-number_rows name word h = rw (plain_walked (leaf_of name).rules [] 1 word nothing_held h refl) refl
+words_pass name [] h = refl
+words_pass name (w ∷ more) h = let first = first_word w more h in rest_passes name w more first.0 first.1
 
 -- something is rejected
 abbrev IsRefused : Kinds → Type 0
@@ -244,14 +224,6 @@ IsRefused (k ∷ ks) = ⊤
 refused_first : (a b : Kinds) → IsRefused a → IsRefused (or_else a b)
 refused_first [] b h = absurd h
 refused_first (k ∷ ks) b h = tt
-
-refused_second : (a b : Kinds) → IsRefused b → IsRefused (or_else a b)
-refused_second [] b h = h
-refused_second (k ∷ ks) b h = tt
-
-missing_refused : (name : Text) → IsRefused (refused_after name [])
-unfolding walk_fault defaults_fault
-missing_refused name = tt
 
 -- ---- the complete parse
 
@@ -299,88 +271,70 @@ module _ (names : List Text) (name : Text) (words : List Text) (entry : entry_of
   known_found =
       ap (λ (w : Walk). entered (built (program_of names)) w.stopped) name_stops ∙ ap (option_map (λ s. rows_at s words)) entry
 
--- ---- the head of the words
+-- ---- the word of a parse
 
-after_name : (name : Text) (words : List Text) → AreFree words → refused_after name words ≡ []
-    → head_of_rows (Some (name, found_after name words)) ≡ head_of (name ∷ words)
-after_name name [] h none = absurd (subst IsRefused none (missing_refused name))
-after_name name (word ∷ []) h none = number_rows name word (first_word word [] h).0
-after_name name (word ∷ w ∷ more) h none =
-    let first = first_word word (w ∷ more) h in
-    let next = first_word w more first.1 in
-    rest_rows name word w more first.0 next.0 next.1
-    ∙ go (nat_lt 13 (length (w ∷ more))) (sym (rest_passes name word w more first.0 next.0 next.1) ∙ none)
+after_name : (name : Text) (words : List Text) → too_many words ≡ [] → word_named name ≡ word_of (name ∷ words)
+after_name name words none = go (nat_lt 14 (length words)) none
   where
-    go : (many : Bool) → cond many (kind.TooManyValues ∷ []) [] ≡ [] → head_by name (Some word) ≡ cond many None (head_by name (Some word))
+    go : (many : Bool) → cond many (kind.TooManyValues ∷ []) [] ≡ [] → word_named name ≡ cond many None (word_named name)
     go true h = absurd (subst IsRefused h tt)
     go false h = refl
 
--- what the parse found is the head, whatever names it has
+-- what the parse found is the word, whatever names it has
 pub matched : (names : List Text) (words : List Text) → AreFree words → fault_of (program_of names) words ≡ []
-    → head_of_rows (subcommand_of (program_of names) words) ≡ head_of words
+    → word_of_rows (subcommand_of (program_of names) words) ≡ word_of words
 matched names [] h none = refl
 matched names (name ∷ words) h none = go (known names name)
   where
     first : (begins_with_dash name ≡ false) × AreFree words
     first = first_word name words h
 
-    go : IsUnknown names name ⊎ IsKnown names name → head_of_rows (subcommand_of (program_of names) (name ∷ words)) ≡ head_of (name ∷ words)
+    go : IsUnknown names name ⊎ IsKnown names name → word_of_rows (subcommand_of (program_of names) (name ∷ words)) ≡ word_of (name ∷ words)
     go (inl (entry, met)) = absurd (subst IsRefused none (unknown_refused names name words first.0 met))
     go (inr (entry, met)) =
-        ap head_of_rows (known_found names name words entry met)
-        ∙ after_name name words first.1 (sym (known_refused names name words entry met) ∙ none)
+        ap word_of_rows (known_found names name words entry met)
+        ∙ after_name name words (sym (words_pass name words first.1) ∙ sym (known_refused names name words entry met) ∙ none)
 
 -- what `subcommand` returns is what the parse found
 module _ {Z : Type 0} where
-  pub rows_read : (found : Option (Box SubCommand Z)) (name : Text) (rows : List Row) → Some name ≡ option_map (λ b. (out-SubCommand (box_value b)).name.now) found
-      → Some rows ≡ option_map (λ p. p.1) (subcommand_rows found) → Some (name, rows) ≡ subcommand_rows found
-  rows_read None name rows n r = cc
-  rows_read (Some b) name rows n r = ap₂ (λ (x : Text) (y : List Row). Some (x, y)) (ap (λ o. unwrap_or o name) n) (ap (λ o. unwrap_or o rows) r)
+  pub name_read : (found : Option (Box SubCommand Z)) (name : Text) → Some name ≡ option_map (λ b. (out-SubCommand (box_value b)).name.now) found
+      → word_named name ≡ word_of_rows (subcommand_rows found)
+  name_read None name n = cc
+  name_read (Some b) name n = ap word_named (ap (λ o. unwrap_or o name) n)
 
 -- ---- the words that are rejected
-
-has_name : (name text : Text) → bytes_eq name text ≡ true → text ≡ name
-has_name name text h = sym ((bytes_eq-Decides name text).0 h)
 
 -- a name that isn't rejected, with its words
 abbrev IsPassed : List Text → Type 0
 IsPassed words = fault_of (program_of known_names) words ≡ []
 
-none_by : (many : Bool) (x : Option Head) → x ≡ None → cond many None x ≡ None
+none_by : (many : Bool) (x : Option Word) → x ≡ None → cond many None x ≡ None
 none_by true x h = refl
 none_by false x h = h
 
--- a known name is rejected for its number of words alone
-known_unmatched : (name word : Text) (rest : List Text) → begins_with_dash word ≡ false → AreFree rest
-    → (refused_after name (word ∷ rest) ≡ []) ⊎ (nat_lt 13 (length rest) ≡ true)
-known_unmatched name word [] h l = inl (number_passes name word h)
-known_unmatched name word (w ∷ more) h l = go (nat_lt 13 (length (w ∷ more))) refl
+-- A name is that of no word, or it is among the known names. Each of these is a case here.
+listed : (name : Text) → (word_named name ≡ None) ⊎ IsKnown known_names name
+listed name = go (bytes_eq name (codes "diagram")) (bytes_eq name (codes "svg")) refl refl
   where
-    first : (begins_with_dash w ≡ false) × AreFree more
-    first = first_word w more l
+    is : (text : Text) → bytes_eq name text ≡ true → text ≡ name
+    is text h = sym ((bytes_eq-Decides name text).0 h)
 
-    go : (many : Bool) → nat_lt 13 (length (w ∷ more)) ≡ many → (refused_after name (word ∷ w ∷ more) ≡ []) ⊎ (nat_lt 13 (length (w ∷ more)) ≡ true)
-    go true e = inr e
-    go false e = inl (rest_passes name word w more h first.0 first.1 ∙ ap (λ b. cond b (kind.TooManyValues ∷ []) []) e)
+    go : (diagram svg : Bool) → bytes_eq name (codes "diagram") ≡ diagram → bytes_eq name (codes "svg") ≡ svg → (word_named name ≡ None) ⊎ IsKnown known_names name
+    go true svg d s = inr (subst (IsKnown known_names) (is (codes "diagram") d) (refl, refl))
+    go false true d s = inr (subst (IsKnown known_names) (is (codes "svg") s) (refl, refl))
+    go false false d s = inl (rw (d, s) refl)
 
-diagram_unmatched : (word : Text) (rest : List Text) → begins_with_dash word ≡ false → AreFree rest → (IsPassed (codes "diagram" ∷ word ∷ rest) → ⊥)
-    → head_of (codes "diagram" ∷ word ∷ rest) ≡ None
-diagram_unmatched word rest h l refused = go (known_unmatched (codes "diagram") word rest h l)
-  where
-    go : (refused_after (codes "diagram") (word ∷ rest) ≡ []) ⊎ (nat_lt 13 (length rest) ≡ true) → head_of (codes "diagram" ∷ word ∷ rest) ≡ None
-    go (inl passes) = absurd (refused (known_refused known_names (codes "diagram") (word ∷ rest) refl refl ∙ passes))
-    go (inr many) = ap (λ b. cond b None (head_by (codes "diagram") (Some word))) many
-
-pub unmatched : (words : List Text) → AreFree words → (IsPassed words → ⊥) → head_of words ≡ None
+pub unmatched : (words : List Text) → AreFree words → (IsPassed words → ⊥) → word_of words ≡ None
 unmatched [] h refused = refl
-unmatched (name ∷ []) h refused = refl
-unmatched (name ∷ word ∷ rest) h refused = go (bytes_eq name (codes "diagram")) refl
+unmatched (name ∷ words) h refused = go (listed name)
   where
-    first : (begins_with_dash word ≡ false) × AreFree rest
-    first = first_word word rest (first_word name (word ∷ rest) h).1
+    many : (b : Bool) → nat_lt 14 (length words) ≡ b → refused_after name words ≡ cond b (kind.TooManyValues ∷ []) []
+    many b e = words_pass name words (first_word name words h).1 ∙ ap (λ c. cond c (kind.TooManyValues ∷ []) []) e
 
-    go : (diagram : Bool) → bytes_eq name (codes "diagram") ≡ diagram → head_of (name ∷ word ∷ rest) ≡ None
-    go true e =
-        subst (λ (n : Text). (IsPassed (n ∷ word ∷ rest) → ⊥) → head_of (n ∷ word ∷ rest) ≡ None) (has_name name (codes "diagram") e)
-        (diagram_unmatched word rest first.0 first.1) refused
-    go false e = none_by (nat_lt 13 (length rest)) (head_by name (Some word)) (let none : word_named name ≡ None = rw e refl in rw none refl)
+    counted : IsKnown known_names name → (b : Bool) → nat_lt 14 (length words) ≡ b → cond b None (word_named name) ≡ None
+    counted met true e = refl
+    counted (entry, met) false e = absurd (refused (known_refused known_names name words entry met ∙ many false e))
+
+    go : (word_named name ≡ None) ⊎ IsKnown known_names name → word_of (name ∷ words) ≡ None
+    go (inl none) = none_by (nat_lt 14 (length words)) (word_named name) none
+    go (inr met) = counted met (nat_lt 14 (length words)) refl

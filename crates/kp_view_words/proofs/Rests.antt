@@ -6,9 +6,8 @@ use Rattle.std.specs.Option.{option_map_or}
 use Rattle.std.proofs.lemmas.Option.{slice_get-get_or}
 use Rattle.std.proofs.lemmas.List.{map-append, length-drop, length-map, length-append, take_all}
 use Rattle.std.proofs.Math.Seq.{take-append_seam, get_or-append_seam}
-use Rattle.kp_view_words.specs.Words.{Drawing, Text, asked_for, asked_or, asks_help, begins_with_dash, count_of, file_in, help, is_file_after, help_place, is_help_flag, is_help_word, is_name, is_version_flag, names_in, task_named, task_of, task_with, topic_of, version, word_named}
-use Rattle.kp_view_words.specs.inner.Matching.{head_of, head_with}
-use Rattle.kp_view_words.specs.declared.matching.Head.{Head}
+use Rattle.kp_view_words.specs.Words.{Task, Text, asked_for, asked_or, asks_help, begins_with_dash, file_in, help, is_file_after, help_place, is_help_flag, is_help_word, is_name, is_version_flag, names_in, run_with, task_named, task_of, task_with, topic_of, version, word_named}
+use Rattle.kp_view_words.specs.inner.Matching.{word_of}
 use Rattle.kp_view_words.specs.declared.words.Word.{Word}
 
 -- some names, and a last word
@@ -70,39 +69,44 @@ pub file_of_nothing : {X : Type 0} (f : X → Text) (rest : List X) → length r
 file_of_nothing f [] e = refl
 file_of_nothing f (x ∷ xs) e = absurd (omega (arith, e))
 
--- the drawing, where the names are or aren't names of stages
-pub task_none : (head : Head) (rest : List Text) → list_all is_name (names_in rest) ≡ false → None ≡ task_with head rest
-task_none head rest h =
-    sym (ap (λ b. cond b (Some (record { word = head.word; count = head.count; names = names_in rest; file = file_in rest })) None) h)
+-- the run, where the names are or aren't names of stages
+pub run_none : (count : ℕ) (rest : List Text) → list_all is_name (names_in rest) ≡ false → None ≡ run_with count rest
+run_none count rest h =
+    sym (ap (λ b. cond b (Some (record { run = record { count = count; names = names_in rest }; file = file_in rest })) None) h)
 
-pub task_some : (head : Head) (rest names : List Text) (file : Option Text) → names ≡ names_in rest → file ≡ file_in rest → list_all is_name (names_in rest) ≡ true
-    → Some (record { word = head.word; count = head.count; names = names; file = file }) ≡ task_with head rest
-task_some head rest names file n f h =
-    ap₂ (λ (ns : List Text) (o : Option Text). Some (record { word = head.word; count = head.count; names = ns; file = o })) n f
-    ∙ sym (ap (λ b. cond b (Some (record { word = head.word; count = head.count; names = names_in rest; file = file_in rest })) None) h)
+pub run_some : (count : ℕ) (rest names : List Text) (file : Option Text) → names ≡ names_in rest → file ≡ file_in rest → list_all is_name (names_in rest) ≡ true
+    → Some (record { run = record { count = count; names = names }; file = file }) ≡ run_with count rest
+run_some count rest names file n f h =
+    ap₂ (λ (ns : List Text) (o : Option Text). Some (record { run = record { count = count; names = ns }; file = o })) n f
+    ∙ sym (ap (λ b. cond b (Some (record { run = record { count = count; names = names_in rest }; file = file_in rest })) None) h)
 
--- no drawing where a word begins with `-`
+-- nothing is asked for where a word begins with `-`
 pub dash_none : (all : List Text) → list_any begins_with_dash all ≡ true → None ≡ task_of all
 dash_none all h = sym (rw h refl)
 
--- the drawing of a head
-same_head : (head other : Head) → Some head ≡ Some other → other ≡ head
-same_head head other e = sym (ap (λ (o : Option Head). unwrap_or o head) e)
+-- what a word asks for, with the words after it
+with_word : (word : Word) (name : Text) (rest : List Text) (many : Bool) → nat_lt 14 (length rest) ≡ many
+    → Some word ≡ cond many None (word_named name) → cond many None (option_and_then (λ w. task_with w rest) (word_named name)) ≡ task_with word rest
+with_word word name rest true e h = cc h
+with_word word name rest false e h = ap (option_and_then (λ w. task_with w rest)) (sym h)
 
-with_head : (head : Head) (rest : List Text) (many : Bool) (w : Option Word) (n : Option ℕ) → nat_lt 13 (length rest) ≡ many
-    → Some head ≡ cond many None (head_with w n) → task_named w n rest ≡ task_with head rest
-with_head head rest true w n e h = cc h
-with_head head rest false (Some w) (Some n) e h =
-    ap (λ b. cond b None (task_with (record { word = w; count = n }) rest)) e ∙ ap (λ (it : Head). task_with it rest) (same_head head (record { word = w; count = n }) h)
-with_head head rest false (Some w) None e h = cc h
-with_head head rest false None n e h = cc h
-
-pub task_of_head : (all : List Text) (head : Head) → list_any begins_with_dash all ≡ false → Some head ≡ head_of all → task_of all ≡ task_with head (drop 2 all)
-task_of_head [] head free h = cc h
-task_of_head (name ∷ []) head free h = cc h
-task_of_head (name ∷ number ∷ rest) head free h =
-    let named : task_named (word_named name) (count_of number) rest ≡ task_with head rest = with_head head rest (nat_lt 13 (length rest)) (word_named name) (count_of number) refl h in
+pub task_of_word : (all : List Text) (word : Word) → list_any begins_with_dash all ≡ false → Some word ≡ word_of all → task_of all ≡ task_with word (drop 1 all)
+task_of_word [] word free h = cc h
+task_of_word (name ∷ rest) word free h =
+    let named : task_named (name ∷ rest) ≡ task_with word rest = with_word word name rest (nat_lt 14 (length rest)) refl h in
     rw free named
+
+-- nothing is asked for by what is no word
+without_word : (name : Text) (rest : List Text) (many : Bool) → None ≡ cond many None (word_named name)
+    → cond many None (option_and_then (λ w. task_with w rest) (word_named name)) ≡ None
+without_word name rest true h = refl
+without_word name rest false h = ap (option_and_then (λ w. task_with w rest)) (sym h)
+
+pub task_of_none : (all : List Text) → list_any begins_with_dash all ≡ false → None ≡ word_of all → None ≡ task_of all
+task_of_none [] free h = refl
+task_of_none (name ∷ rest) free h =
+    let named : task_named (name ∷ rest) ≡ None = without_word name rest (nat_lt 14 (length rest)) h in
+    sym (rw free named)
 
 -- the rest of a list from a place on
 pub rest_is : {X : Type 0} (rest words : List X) (n : ℕ) → rest ≡ take (length words - n) (drop n words) → rest ≡ drop n words
@@ -112,7 +116,7 @@ rest_is rest words n is = is ∙ take_all (length words - n) (drop n words) (let
 pub asked_version : (all : List Text) → asks_help all ≡ false → list_any is_version_flag all ≡ true → version ≡ asked_for all
 asked_version all h v = sym (ap₂ (λ (b c : Bool). cond b (help (topic_of all)) (cond c version (asked_or (topic_of all) (task_of all)))) h v)
 
-pub asked_task : (all : List Text) (task : Option Drawing) → asks_help all ≡ false → list_any is_version_flag all ≡ false → task ≡ task_of all
+pub asked_task : (all : List Text) (task : Option Task) → asks_help all ≡ false → list_any is_version_flag all ≡ false → task ≡ task_of all
     → asked_or (topic_of all) task ≡ asked_for all
 asked_task all task h v is =
     ap (asked_or (topic_of all)) is

@@ -1,5 +1,5 @@
 -- What the words of a command line ask for.
-use Rattle.std.specs.Prelude.{◌==◌, ◌||◌, ◌&&◌, ◌-◌, not, ℕ, Bool, false, List, [], ◌∷◌, length, take, leb, ltb, nat_le, nat_lt, slice_get, if◌then◌else◌, codes, Option, Some, None, option_and_then}
+use Rattle.std.specs.Prelude.{◌==◌, ◌||◌, ◌&&◌, ◌-◌, not, ℕ, Bool, false, List, [], ◌∷◌, length, take, leb, ltb, nat_le, nat_lt, slice_get, if◌then◌else◌, codes, Option, Some, None, option_and_then, option_map}
 use Rattle.std.specs.List.{list_all, list_any}
 use Rattle.std.specs.Option.{option_map_or}
 use Rattle.std.specs.Str.{bytes_eq}
@@ -9,33 +9,45 @@ use Rattle.kp_view_words.specs.declared.words.Topic.{Topic}
 use Rattle.kp_view_words.specs.declared.words.Topic.TheVariants as topics
 use Rattle.kp_view_words.specs.declared.words.Word.{Word}
 use Rattle.kp_view_words.specs.declared.words.Word.TheVariants as words
-use Rattle.kp_view_words.specs.declared.matching.Head.{Head}
 
 abbrev pub Text : Type 0
 Text = List ℕ
 
--- A drawing: its word, its number of cycles, the names of the stages, and the file of the job, or none for standard input.
-pub record Drawing : Type 0 where
-  pub word : Word
+-- A run that is drawn: its number of cycles, and the names of the stages.
+pub record Run : Type 0 where
   pub count : ℕ
   pub names : List Text
+
+-- What is to be written about a job: a word, with what it takes.
+pub data Order : Type 0 where
+  diagram : Run → Order
+  svg : Run → Order
+
+-- What is to be shown of a job, and its file, or none for standard input.
+pub record Task : Type 0 where
+  pub order : Order
   pub file : Option Text
 
 pub data Asked : Type 0 where
   bad_words : Topic → Asked
   help : Topic → Asked
   version : Asked
-  draw : Drawing → Asked
+  show : Task → Asked
+
+-- the names of the stages that are given
+abbrev pub names_for : Order → List Text
+names_for (diagram run) = run.names
+names_for (svg run) = run.names
 
 -- the word of this name
 abbrev pub word_named : Text → Option Word
 word_named name =
-    if bytes_eq name (codes "diagram") then Some words.Diagram else None
+    if bytes_eq name (codes "diagram") then Some words.Diagram
+    else (if bytes_eq name (codes "svg") then Some words.Svg else None)
 
--- the topic of a word: the word itself, or the program
+-- the topic of a name: its word, or the program
 abbrev pub topic_named : Text → Topic
-topic_named name =
-    if bytes_eq name (codes "diagram") then topics.Diagram else topics.Program
+topic_named name = option_map_or (λ word. topics.Of word) (word_named name) topics.Program
 
 abbrev pub is_help_word : Text → Bool
 is_help_word word = bytes_eq word (codes "help")
@@ -60,11 +72,11 @@ topic_of all = option_map_or topic_named (slice_get all (help_place all)) topics
 abbrev pub asks_help : List Text → Bool
 asks_help all = option_map_or is_help_word (slice_get all 0) false || list_any is_help_flag all
 
--- the number that 1 to 20 decimal digits denote, with or without leading zeros, up to 1,000
-unfoldable pub count_of : Text → Option ℕ
-count_of word =
+-- the number that 1 to 20 decimal digits denote, with or without leading zeros, up to the greatest one
+unfoldable pub count_of : ℕ → Text → Option ℕ
+count_of most word =
     if nat_le (length word) 20
-    then option_and_then (λ number. if nat_le number 1000 then Some number else None) (number_of word)
+    then option_and_then (λ number. if nat_le number most then Some number else None) (number_of word)
     else None
 
 -- the name of a stage: 1 to 8 letters, digits or `_`
@@ -87,29 +99,38 @@ file_in rest =
 abbrev pub names_in : List Text → List Text
 names_in rest = option_map_or (λ file. take (length rest - 1) rest) (file_in rest) rest
 
--- the drawing with this head and these words after it
-abbrev pub task_with : Head → List Text → Option Drawing
-task_with head rest =
+-- A RUN, and a file: a number of at most 1,000 cycles, and then names of the stages and a file.
+pub record RunAsked : Type 0 where
+  pub run : Run
+  pub file : Option Text
+
+abbrev pub run_with : ℕ → List Text → Option RunAsked
+run_with count rest =
     if list_all is_name (names_in rest)
-    then Some (record { word = head.word; count = head.count; names = names_in rest; file = file_in rest })
+    then Some (record { run = record { count = count; names = names_in rest }; file = file_in rest })
     else None
 
--- the drawing of an accepted list: a word, a number, and at most 13 further words
-abbrev pub task_named : Option Word → Option ℕ → List Text → Option Drawing
-task_named (Some word) (Some count) rest = if nat_lt 13 (length rest) then None else task_with (record { word = word; count = count }) rest
-task_named _ _ rest = None
+abbrev pub run_in : List Text → Option RunAsked
+run_in [] = None
+run_in (number ∷ rest) = option_and_then (λ count. run_with count rest) (count_of 1000 number)
 
-abbrev pub drawing_of : List Text → Option Drawing
-drawing_of (name ∷ count ∷ rest) = task_named (word_named name) (count_of count) rest
-drawing_of _ = None
+-- what a word asks for, with these words after it
+abbrev pub task_with : Word → List Text → Option Task
+task_with words.Diagram rest = option_map (λ asked. record { order = diagram asked.run; file = asked.file }) (run_in rest)
+task_with words.Svg rest = option_map (λ asked. record { order = svg asked.run; file = asked.file }) (run_in rest)
 
-abbrev pub task_of : List Text → Option Drawing
-task_of all = if list_any begins_with_dash all then None else drawing_of all
+-- the task of an accepted list: a word, and at most 14 further words
+abbrev pub task_named : List Text → Option Task
+task_named [] = None
+task_named (name ∷ rest) = if nat_lt 14 (length rest) then None else option_and_then (λ word. task_with word rest) (word_named name)
+
+abbrev pub task_of : List Text → Option Task
+task_of all = if list_any begins_with_dash all then None else task_named all
 
 -- what is asked for
-abbrev pub asked_or : Topic → Option Drawing → Asked
+abbrev pub asked_or : Topic → Option Task → Asked
 asked_or topic None = bad_words topic
-asked_or topic (Some task) = draw task
+asked_or topic (Some task) = show task
 
 abbrev pub asked_for : List Text → Asked
 asked_for all =

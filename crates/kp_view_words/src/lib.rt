@@ -1,4 +1,7 @@
 //! The words of a command line of `kpview`: what they ask for, and the texts of help, usage and version.
+//!
+//! A word is a variant of `Word`, a line in `named`, its texts, a line in `program`, and a line in `task_with`, which says what the words after it mean.
+//! What it takes is in its variant of `Order`.
 #![tactic(auto)]
 
 mod matching;
@@ -6,6 +9,6 @@ mod task;
 mod texts;
 mod words;
 
-pub use task::Task;
+pub use task::{Order, Run, Task};
 pub use texts::{help_of, usage_of, version};
 pub use words::{Request, Topic, Word};

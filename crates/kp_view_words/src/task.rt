@@ -1,17 +1,29 @@
-// What is to be drawn.
+// What is to be shown of a job.
 ghost use Rattle.std.specs.Prelude.{◌≤◌};
 
-use crate::words::Word;
-
-/// A drawing of a job.
+/// What is to be shown of the job of a file.
 #[derive(Clone, Copy)]
 pub struct Task<'w> {
-    pub word: Word,
+    pub order: Order<'w>,
+    /// The file of the job, or `None` for standard input.
+    pub file: Option<&'w String>,
+}
+
+/// What is to be written about a job: a word, with what it takes.
+#[derive(Clone, Copy)]
+pub enum Order<'w> {
+    /// The pipeline diagram as text.
+    Diagram(Run<'w>),
+    /// The same as a picture.
+    Svg(Run<'w>),
+}
+
+/// A run that is drawn.
+#[derive(Clone, Copy)]
+pub struct Run<'w> {
     /// The number of cycles, at most 1,000.
     pub count: u32,
     /// The names of the stages, each of 1 to 8 letters, digits or `_`; or none. There may be more or fewer than stages.
     pub names: &'w [String],
-    /// The file of the job, or `None` for standard input.
-    pub file: Option<&'w String>,
     pub ghost few: { count ≤ 1000 },
 }

@@ -2,18 +2,24 @@
 ghost use Rattle.std.specs.Prelude.{◌≡◌};
 ghost use Rattle.kp_view_words.specs.Texts.{help_text, usage_text, version_text};
 
-use crate::words::Topic;
+use crate::words::{Topic, Word};
 
 /// The version of the program, which the file VERSION at the top has too.
 pub const VERSION: &str = "kpview 0.10.0\n";
 
 /// How the program is called.
 pub const USAGE: &str = "usage: kpview diagram N [NAMES] [FILE]
+       kpview svg N [NAMES] [FILE]
        kpview --help
 ";
 
 /// How `diagram` is called.
 pub const USAGE_DIAGRAM: &str = "usage: kpview diagram N [NAMES] [FILE]
+N is 0 to 1000; a name has 1 to 8 letters, digits or `_`
+";
+
+/// How `svg` is called.
+pub const USAGE_SVG: &str = "usage: kpview svg N [NAMES] [FILE]
 N is 0 to 1000; a name has 1 to 8 letters, digits or `_`
 ";
 
@@ -24,6 +30,7 @@ usage: kpview WORD .. [FILE]
 
 words:
   diagram N [NAMES] [FILE]   N cycles of the pipeline, as text
+  svg N [NAMES] [FILE]       the same as a picture
 
 The job is read from FILE, or from standard input.
 
@@ -57,13 +64,35 @@ A cell names the stage that holds the instruction in the cycle, with a mark:
   x   squashed
 ";
 
+/// The help of `svg`.
+pub const HELP_SVG: &str =
+    "Draws N cycles of the pipelined machine of a job as a picture, in SVG 1.1: a row
+for each instruction that is fetched, a column for each cycle, and the account
+of the cycles below them.
+
+usage: kpview svg N [NAMES] [FILE]
+
+  N       the number of cycles, 0 to 1000
+  NAMES   a name for each stage, of 1 to 8 letters, digits or `_`, as in
+          IF ID EX ME WB; without names the stages are numbered
+  FILE    the job; without it, standard input is read. A single word after N
+          is a file. Of several, the last one is a file if it has a character
+          other than letters, digits and `_`, as in ./job
+
+A cell has the colour of the stage that holds the instruction in the cycle, and
+its name. The legend of the picture says how a cell shows that the instruction
+waits, is held from outside or is squashed. A column is grey if a guess was
+found wrong in its cycle.
+";
+
 /// The help on a topic.
 pub fn help_of(topic: Topic) -> &'static str
     ensures { result.now ≡ help_text topic }
 {
     match topic {
         Topic::Program => HELP,
-        Topic::Diagram => HELP_DIAGRAM,
+        Topic::Of(Word::Diagram) => HELP_DIAGRAM,
+        Topic::Of(Word::Svg) => HELP_SVG,
     }
 }
 
@@ -73,7 +102,8 @@ pub fn usage_of(topic: Topic) -> &'static str
 {
     match topic {
         Topic::Program => USAGE,
-        Topic::Diagram => USAGE_DIAGRAM,
+        Topic::Of(Word::Diagram) => USAGE_DIAGRAM,
+        Topic::Of(Word::Svg) => USAGE_SVG,
     }
 }
 

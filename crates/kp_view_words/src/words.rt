@@ -2,35 +2,37 @@
 ghost use Rattle.std.specs.Prelude.{◌≡◌, ◌&&◌, ltb, leb, ◌≤◌, IfSome, map, string_bytes, option_map, Ok, None, Some, IfOk, true, false, length, drop, slice_get};
 ghost use Rattle.std.specs.List.{list_any, list_all};
 ghost use Rattle.std.specs.Option.{option_map_or};
-ghost use Rattle.kp_view_words.specs.Asked.{asked, file_asked, task_seen};
+ghost use Rattle.kp_view_words.specs.Asked.{asked, file_asked, order_seen, task_seen};
 ghost use Rattle.kp_base.specs.Characters.{is_word};
-ghost use Rattle.kp_view_words.specs.Words.{asked_for, topic_of, topic_named, help_place, is_help_word, is_help_flag, is_version_flag, begins_with_dash, asks_help, task_of, task_with, word_named, count_of, names_in, file_in, is_file_after, is_name, is_path};
-ghost use Rattle.kp_view_words.specs.inner.Matching.{head_of};
+ghost use Rattle.kp_view_words.specs.Words.{asked_for, names_for, topic_of, topic_named, help_place, is_help_word, is_help_flag, is_version_flag, begins_with_dash, asks_help, task_of, task_with, run_in, run_with, word_named, count_of, names_in, file_in, is_file_after, is_name, is_path};
+ghost use Rattle.kp_view_words.specs.inner.Asking.{run_asked};
 
-use crate::matching::{Head, head_of};
-use crate::task::Task;
+use crate::matching::word_of;
+use crate::task::{Order, Run, Task};
 use kp_base::{NoMemory, is_word};
 use kp_bits::read_number;
 use std::alloc::Global;
 
-/// The greatest number of cycles.
-const MOST_CYCLES: u32 = 1_000;
+/// The greatest number of cycles that are drawn.
+const MOST_DRAWN: u32 = 1_000;
 
 /// The greatest length of a stage's name, in bytes.
 const MOST_NAME: usize = 8;
 
-/// A word that draws a job.
+/// A word, which says what is to be written about a job.
 #[derive(Clone, Copy, Debug, PartialEq, Eq)]
 pub enum Word {
     /// `diagram`: the pipeline diagram as text.
     Diagram,
+    /// `svg`: the same as a picture.
+    Svg,
 }
 
 /// What help and usage are about: the program or one of its words.
 #[derive(Clone, Copy, Debug, PartialEq, Eq)]
 pub enum Topic {
     Program,
-    Diagram,
+    Of(Word),
 }
 
 /// What the words of a command line ask for.
@@ -40,7 +42,7 @@ pub enum Request<'w> {
     BadWords(Topic),
     Help(Topic),
     Version,
-    Draw(Task<'w>),
+    Show(Task<'w>),
 }
 
 impl<'w> Request<'w> {
@@ -56,41 +58,53 @@ impl<'w> Request<'w> {
             return Ok(Request::Version);
         }
         match task_of(alloc, words)? {
-            Some(task) => Ok(Request::Draw(task)),
+            Some(task) => Ok(Request::Show(task)),
             None => Ok(Request::BadWords(topic)),
         }
     }
 
-    /// The file of a drawing. `None` if standard input is read, or nothing.
+    /// The file of the job. `None` if standard input is read, or nothing.
     pub fn file(&self) -> Option<&'w String>
         ensures { option_map (λ word. string_bytes word.now) result ≡ file_asked (asked self.now) }
     {
         match self {
-            Request::Draw(task) => task.file,
+            Request::Show(task) => task.file,
             Request::BadWords(_) | Request::Help(_) | Request::Version => None,
         }
     }
 }
 
-impl Topic {
-    // The topic of a word: the word itself if it draws, and otherwise the program.
-    fn named(word: &str) -> Self
-        ensures { result ≡ topic_named word.now }
+impl<'w> Order<'w> {
+    /// The names of the stages that are given; or none.
+    pub fn names(&self) -> &'w [String]
+        ensures { map string_bytes result.now ≡ names_for (order_seen self.now) }
     {
-        match word {
-            "diagram" => Topic::Diagram,
-            _ => Topic::Program,
+        match self {
+            Order::Diagram(run) | Order::Svg(run) => run.names,
+        }
+    }
+}
+
+impl Topic {
+    // The topic of a name: its word, or the program.
+    fn named(name: &str) -> Self
+        ensures { result ≡ topic_named name.now }
+    {
+        match Word::named(name) {
+            Some(word) => Topic::Of(word),
+            None => Topic::Program,
         }
     }
 }
 
 impl Word {
     /// The word that is spelled so.
-    pub fn named(word: &str) -> Option<Self>
-        ensures { result ≡ word_named word.now }
+    pub fn named(name: &str) -> Option<Self>
+        ensures { result ≡ word_named name.now }
     {
-        match word {
+        match name {
             "diagram" => Some(Word::Diagram),
+            "svg" => Some(Word::Svg),
             _ => None,
         }
     }
@@ -168,33 +182,69 @@ fn asks_help(words: &[String]) -> bool
     help_place(words) == 1 || has_help_flag(words)
 }
 
-// The drawing that the words ask for. `None` if one of them begins with `-`, or if they are none of a drawing.
+// What the words ask for. `None` if one of them begins with `-`, if the first is no word, or if those after it aren't words for it.
 fn task_of<'w>(alloc: Global, words: &'w [String]) -> Result<Option<Task<'w>>, NoMemory>
     ensures { IfOk result (λ task. option_map task_seen task ≡ task_of (map string_bytes words.now)) }
 {
     if has_dash(words) {
         return Ok(None);
     }
-    let Some(rest) = words.get(2..) else {
+    let Some(rest) = words.get(1..) else {
         return Ok(None);
     };
-    match head_of(alloc, words)? {
-        Some(head) => Ok(task_with(head, rest)),
+    match word_of(alloc, words)? {
+        Some(word) => Ok(task_with(word, rest)),
         None => Ok(None),
     }
 }
 
-// The drawing with this head and these words after it: names of stages and a file.
-fn task_with<'w>(head: Head, rest: &'w [String]) -> Option<Task<'w>>
-    requires { head.count ≤ 1000 }
-    ensures { option_map task_seen result ≡ task_with head (map string_bytes rest.now) }
+// What a word asks for, with these words after it. Each word is an arm here.
+fn task_with<'w>(word: Word, rest: &'w [String]) -> Option<Task<'w>>
+    ensures { option_map task_seen result ≡ task_with word (map string_bytes rest.now) }
+{
+    match word {
+        Word::Diagram => {
+            let asked = run_in(rest)?;
+            Some(Task {
+                order: Order::Diagram(asked.run),
+                file: asked.file,
+            })
+        }
+        Word::Svg => {
+            let asked = run_in(rest)?;
+            Some(Task {
+                order: Order::Svg(asked.run),
+                file: asked.file,
+            })
+        }
+    }
+}
+
+// A run and a file.
+#[derive(Clone, Copy)]
+struct RunAsked<'w> {
+    run: Run<'w>,
+    file: Option<&'w String>,
+}
+
+// The run that is drawn: a number of cycles, and then names of stages and a file.
+fn run_in<'w>(rest: &'w [String]) -> Option<RunAsked<'w>>
+    ensures { option_map run_asked result ≡ run_in (map string_bytes rest.now) }
+{
+    let (number, more) = rest.split_first()?;
+    let count = count_of(number.as_bytes(), MOST_DRAWN)?;
+    run_with(count, more)
+}
+
+// The run with this number of cycles, and these words after it.
+fn run_with<'w>(count: u32, rest: &'w [String]) -> Option<RunAsked<'w>>
+    requires { count ≤ 1000 }
+    ensures { option_map run_asked result ≡ run_with count (map string_bytes rest.now) }
 {
     let names = names_in(rest);
     if are_names(names) {
-        Some(Task {
-            word: head.word,
-            count: head.count,
-            names,
+        Some(RunAsked {
+            run: Run { count, names },
             file: file_in(rest),
         })
     } else {
@@ -270,17 +320,17 @@ fn is_all_word(bytes: &[u8]) -> bool
     bytes.iter().all(|byte| is_word(*byte))
 }
 
-/// The number of cycles that 1 to 20 decimal digits denote, up to 1,000.
+/// The number of cycles that 1 to 20 decimal digits denote, up to the greatest one.
 #[tactic(auto, unfolding(crate::specs::Words::count_of))]
-pub fn count_of(word: &[u8]) -> Option<u32>
-    ensures count { result ≡ count_of word.now }
-    ensures few { IfSome result (λ count. count ≤ 1000) }
+fn count_of(word: &[u8], most: u32) -> Option<u32>
+    ensures count { result ≡ count_of most word.now }
+    ensures few { IfSome result (λ count. count ≤ most) }
 {
     if word.len() > 20 {
         return None;
     }
     let number = read_number(word)?;
-    if number <= u64::from(MOST_CYCLES) {
+    if number <= u64::from(most) {
         Some(number as u32)
     } else {
         None

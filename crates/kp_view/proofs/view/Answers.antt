@@ -24,6 +24,12 @@ returns-clause-bad_words g c = λ topic is final.
     ends.bad g.K.Sink.held g.K.Sink.faults g.E.Sink.held g.E.Sink.faults ⊥ _ _ _ _ _ _ _ topic c.status_of.result is
     (ends.completes g.K.Sink.held g.K.Sink.faults g.E.Sink.held g.E.Sink.faults _ _ _ _ _ _ _ _ _ c.status_of.result c.ended.ensures.ends c.status_of.ensures final)
 
+pub returns-clause-unaccepted : goal.returns-clause-unaccepted
+returns-clause-unaccepted g c = λ one.
+    ends.unaccepted g.K.Sink.held g.E.Sink.held _ _ _ _ _ _ _ c.status_of.result one
+    (ends.completes g.K.Sink.held g.K.Sink.faults g.E.Sink.held g.E.Sink.faults _ _ _ _ _ _ _ _ _ c.status_of.result c.ended.ensures.ends c.status_of.ensures
+    (λ e. omega (arith, one, e), λ e. omega (arith, one, e), λ e. omega (arith, one, e)))
+
 pub returns-clause-refused : goal.returns-clause-refused
 returns-clause-refused g c = λ d is two.
     ends.refused g.K.Sink.held g.E.Sink.held d _ _ _ _ _ _ _ is c.status_of.result two

@@ -1,24 +1,20 @@
 -- What `clap` is given of the words, and how the program interprets what it found.
-use Rattle.std.specs.Prelude.{ℕ, true, false, List, [], ◌∷◌, map, codes, length, nat_lt, if◌then◌else◌, Option, None, Some, option_and_then}
-use Rattle.clap.specs.Walk.{Row, Rule, Text, first_of}
+use Rattle.std.specs.Prelude.{true, false, List, [], ◌∷◌, map, codes, length, nat_lt, if◌then◌else◌, Option, None, Some}
+use Rattle.clap.specs.Walk.{Row, Rule, Text}
 use Rattle.clap.specs.Simple.{App, Shape, new_rule, new_shape}
-use Rattle.kp_view_words.specs.Words.{word_named, count_of}
-use Rattle.kp_view_words.specs.declared.matching.Head.{Head}
+use Rattle.kp_view_words.specs.Words.{word_named}
 use Rattle.kp_view_words.specs.declared.words.Word.{Word}
 
--- The words that draw.
+-- The words.
 abbrev pub known_names : List Text
-known_names = codes "diagram" ∷ []
+known_names = codes "diagram" ∷ codes "svg" ∷ []
 
--- A number is required, and any text is accepted as one; up to 13 words follow.
-abbrev pub number_rule : Rule
-number_rule = record (new_rule (codes "number")) { required = true }
-
+-- Up to 14 words follow.
 abbrev pub rest_rule : Rule
-rest_rule = record (new_rule (codes "rest")) { range = Some (record { start_inclusive = 0; end_inclusive = 13 }) }
+rest_rule = record (new_rule (codes "rest")) { range = Some (record { start_inclusive = 0; end_inclusive = 14 }) }
 
 abbrev pub shape_named : Text → Shape
-shape_named name = record (new_shape name) { rules = number_rule ∷ rest_rule ∷ [] }
+shape_named name = record (new_shape name) { rules = rest_rule ∷ [] }
 
 -- The first argument of the program is already a subcommand, and no argument requests help.
 abbrev pub program_shape : Shape
@@ -33,20 +29,12 @@ program_shape = record (new_shape (codes "kpview")) {
 abbrev pub program_of : List Text → App
 program_of names = record { top = program_shape; subs = map shape_named names }
 
-abbrev pub head_with : Option Word → Option ℕ → Option Head
-head_with (Some word) (Some count) = Some (record { word = word; count = count })
-head_with _ _ = None
+-- A parse finds the name of a subcommand and its rows, and the name determines the word.
+abbrev pub word_of_rows : Option (Text × List Row) → Option Word
+word_of_rows None = None
+word_of_rows (Some found) = word_named found.0
 
--- A name and the number that was found yield a head.
-abbrev pub head_by : Text → Option Text → Option Head
-head_by name number = head_with (word_named name) (option_and_then count_of number)
-
--- A parse finds the name of a subcommand and its rows, and these determine the head.
-abbrev pub head_of_rows : Option (Text × List Row) → Option Head
-head_of_rows None = None
-head_of_rows (Some found) = head_by found.0 (first_of (codes "number") found.1)
-
--- the head of an accepted list
-abbrev pub head_of : List Text → Option Head
-head_of (name ∷ count ∷ rest) = if nat_lt 13 (length rest) then None else head_by name (Some count)
-head_of _ = None
+-- the word of an accepted list
+abbrev pub word_of : List Text → Option Word
+word_of [] = None
+word_of (name ∷ rest) = if nat_lt 14 (length rest) then None else word_named name

@@ -1,10 +1,11 @@
-use Rattle.std.proofs.Common.{◌∙◌, ◌≤◌, sym, ap, arith, true}
-use Rattle.std.specs.Prelude.{string_bytes, ⊤}
+use Rattle.std.proofs.Common.{◌≡◌, ◌∙◌, ◌≤◌, sym, ap, arith, true}
+use Rattle.std.specs.Prelude.{List, ℕ, length, string_bytes, ⊤}
 use Rattle.std.proofs.lemmas.List.{length-map}
 use Rattle.kp_ast.specs.declared.tree.Job.{Job}
 use Rattle.kp_run.proofs.Machines.{stages_fit}
 use Rattle.kp_diagram_text.specs.Charts.{are_names}
 use Rattle.kp_view_words.specs.Asked.{task_seen}
+use Rattle.kp_view.specs.Due.{names_fit}
 use Rattle.kp_view.proofs.Ends.{by_names, names_wrong}
 use Rattle.kp_view.proofs.job.of_job.Goals as goal
 
@@ -15,10 +16,17 @@ overflow_cast-stages g c =
 
 pub returns-then-are_names : goal.returns-then-are_names
 returns-then-are_names g c =
-    by_names g.K.Sink.held g.K.Sink.faults (task_seen c.args.task.now).file (are_names (task_seen c.args.task.now).names c.args.job.now.design.job.stages.value) true
-    (task_seen c.args.task.now) c.args.job.now.design.job (rw c.job.ensures.job at (sym c.are_names.ensures ∙ c.if-are_names.true)) _ _ _ c.drawn.ensures
+    let order = (task_seen c.args.task.now).order in
+    by_names g.K.Sink.held g.K.Sink.faults (task_seen c.args.task.now).file (names_fit order c.args.job.now.design.job) true
+    order c.args.job.now.design.job
+    (ap (λ (names : List (List ℕ)). are_names names c.args.job.now.design.job.stages.value) (sym c.names-names.ensures)
+    ∙ rw c.job.ensures.job at (sym c.are_names.ensures ∙ c.if-are_names.true)) _ _ _ c.drawn.ensures
 
 pub returns-else-are_names : goal.returns-else-are_names
 returns-else-are_names g c =
-    names_wrong g.K.Sink.held g.K.Sink.faults (task_seen c.args.task.now).file ⊤ (task_seen c.args.task.now) c.args.job.now.design.job _ _ c.args.out.now
-    (rw c.job.ensures.job at (sym c.are_names.ensures ∙ c.if-are_names.false)) (sym (length-map c.args.task.now.names.now string_bytes)) (ap (λ (j : Job). j.stages.value) c.job.ensures.job)
+    let order = (task_seen c.args.task.now).order in
+    names_wrong g.K.Sink.held g.K.Sink.faults (task_seen c.args.task.now).file ⊤ order c.args.job.now.design.job _ _ c.args.out.now
+    (ap (λ (names : List (List ℕ)). are_names names c.args.job.now.design.job.stages.value) (sym c.names-names.ensures)
+    ∙ rw c.job.ensures.job at (sym c.are_names.ensures ∙ c.if-are_names.false))
+    (sym (length-map c.names-names.result.now string_bytes) ∙ ap (λ (names : List (List ℕ)). length names) c.names-names.ensures)
+    (ap (λ (j : Job). j.stages.value) c.job.ensures.job)

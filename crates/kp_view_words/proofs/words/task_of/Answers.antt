@@ -2,7 +2,7 @@ use Rattle.std.proofs.Common.{◌∙◌, sym, ap, map, string_bytes}
 use Rattle.std.proofs.lemmas.List.{drop-map}
 use Rattle.clap.proofs.WalkLemmas.{list_any-map}
 use Rattle.kp_view_words.specs.Words.{begins_with_dash, task_with}
-use Rattle.kp_view_words.proofs.Rests.{dash_none, rest_is, task_of_head}
+use Rattle.kp_view_words.proofs.Rests.{dash_none, rest_is, task_of_none, task_of_word}
 use Rattle.kp_view_words.proofs.words.task_of.Goals as goal
 
 pub returns-then-has_dash : goal.returns-then-has_dash
@@ -14,7 +14,7 @@ pub returns-in-Some-2 : goal.returns-in-Some-2
 returns-in-Some-2 c =
     let words = c.args.words.now in
     let free = sym (list_any-map begins_with_dash string_bytes words) ∙ sym c.has_dash.ensures ∙ c.if-has_dash.false in
-    let rest = rest_is c.in-Some.rest.now words 2 c.in-Some.ensures.lookup.0.2 in
+    let rest = rest_is c.in-Some.rest.now words 1 c.in-Some.ensures.lookup.0.2 in
     c.task_with.ensures
-    ∙ ap (task_with c.in-Some-2.head) (ap (map string_bytes) rest ∙ sym (drop-map string_bytes 2 words))
-    ∙ sym (task_of_head (map string_bytes words) c.in-Some-2.head free (sym c.in-Some-2.is ∙ c.in_ok-head.ensures.head))
+    ∙ ap (task_with c.in-Some-2.word) (ap (map string_bytes) rest ∙ sym (drop-map string_bytes 1 words))
+    ∙ sym (task_of_word (map string_bytes words) c.in-Some-2.word free (sym c.in-Some-2.is ∙ c.in_ok-word.ensures))

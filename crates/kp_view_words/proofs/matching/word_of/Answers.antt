@@ -7,22 +7,22 @@ use Rattle.clap.specs.Faults.{fault_of, is_simple_and_free}
 use Rattle.clap.specs.Words.{is_simple}
 use Rattle.clap.proofs.WalkLemmas.{list_any-map}
 use Rattle.kp_view_words.specs.Words.{begins_with_dash}
-use Rattle.kp_view_words.specs.inner.Matching.{head_of_rows, known_names}
+use Rattle.kp_view_words.specs.inner.Matching.{known_names, word_of_rows}
 use Rattle.kp_view_words.proofs.Parses.{matched, unmatched}
-use Rattle.kp_view_words.proofs.matching.head_of.Goals as goal
+use Rattle.kp_view_words.proofs.matching.word_of.Goals as goal
 
-pub returns-in-Ok-clause-head : goal.returns-in-Ok-clause-head
-returns-in-Ok-clause-head c =
+pub returns-in-Ok : goal.returns-in-Ok
+returns-in-Ok c =
     let texts = map string_bytes c.args.words.now in
     let good = sym (list_any-map begins_with_dash string_bytes c.args.words.now) ∙ c.requires in
     let program = c.in_ok-program.ensures in
     let found = c.in-Ok.ensures.matches (ap is_simple program) in
     let passed = c.in-Ok.ensures.kinds (ap is_simple_and_free program) in
-    c.of_matches.ensures.head ∙ (ap head_of_rows (found.1 ∙ ap (λ (a : App). subcommand_of a texts) program)
+    c.of_matches.ensures ∙ (ap word_of_rows (found.1 ∙ ap (λ (a : App). subcommand_of a texts) program)
     ∙ matched known_names texts good (ap (λ (a : App). fault_of a texts) (sym program) ∙ passed))
 
-pub returns-in-Err-2-clause-head : goal.returns-in-Err-2-clause-head
-returns-in-Err-2-clause-head c =
+pub returns-in-Err-2 : goal.returns-in-Err-2
+returns-in-Err-2 c =
     let texts = map string_bytes c.args.words.now in
     let good = sym (list_any-map begins_with_dash string_bytes c.args.words.now) ∙ c.requires in
     let program = c.in_ok-program.ensures in
