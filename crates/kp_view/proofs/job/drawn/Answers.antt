@@ -11,7 +11,7 @@ pub returns-in-Diagram : goal.returns-in-Diagram
 returns-in-Diagram g c =
     let task = task_seen c.args.task.now in
     let job = c.args.job.now.design.job in
-    let run = run_seen c.in-Diagram.run in
+    let run = run_seen c.in-Diagram.run' in
     said g.K.Sink.held g.K.Sink.faults task.file None ⊥ (Draws task.order job) (diagram_text (figure_drawn run job))
     (drawn_as task.order (diagram run) job _ (ap order_seen c.in-Diagram.is) refl (c.a_figure_shows_the_run.ensures run.names run.count)) _ _ _ c.diagram.ensures
 
@@ -19,6 +19,6 @@ pub returns-in-Svg : goal.returns-in-Svg
 returns-in-Svg g c =
     let task = task_seen c.args.task.now in
     let job = c.args.job.now.design.job in
-    let run = run_seen c.in-Svg.run in
+    let run = run_seen c.in-Svg.run' in
     said g.K.Sink.held g.K.Sink.faults task.file None ⊥ (Draws task.order job) (picture (figure_drawn run job) (rows_drawn run job))
     (drawn_as task.order (svg run) job _ (ap order_seen c.in-Svg.is) refl (c.a_figure_shows_the_run.ensures run.names run.count)) _ _ _ c.svg.ensures
