@@ -212,7 +212,7 @@ module _ {S T : Type 0} (held : S → Option (List ℕ)) (held_err : T → Optio
   refusal_at input text status (Err refusal, judged, due) two = (refusal, judged, due.1)
 
   drawn_at : (input text : List ℕ) (status : ℕ) → DueFor (show task) input status text → status ≡ 0 → IsDrawn task input text
-  drawn_at input text status (Ok job, judged, due) zero_is = 
+  drawn_at input text status (Ok job, judged, due) zero_is =
       let (fit, told, shown) = names_at_zero (names_fit task.order job) task.order job status text due zero_is in (job, judged, fit, told, shown)
   drawn_at input text status (Err refusal, judged, due) zero_is = let e = due.0 in absurd (omega (arith, e, zero_is))
 

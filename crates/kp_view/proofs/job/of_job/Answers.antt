@@ -1,4 +1,4 @@
-use Rattle.std.proofs.Common.{◌≡◌, ◌∙◌, ◌≤◌, sym, ap, arith, true}
+use Rattle.std.proofs.Common.{◌∙◌, ◌≤◌, sym, ap, arith, true}
 use Rattle.std.specs.Prelude.{List, ℕ, length, string_bytes, ⊤}
 use Rattle.std.proofs.lemmas.List.{length-map}
 use Rattle.kp_ast.specs.declared.tree.Job.{Job}
