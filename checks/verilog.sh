@@ -9,10 +9,12 @@
 #     run        CYCLES cycles in Icarus, 200 by default, under random stall words, samples and resets have the rows of `sim`, and the values of `seq`
 #                after as many instructions as the update enables count. After each reset both begin again with the words in the files of the
 #                circuit (checks/resets.py). Needs Python 3.
+#     gates      what `synth` of Yosys makes of it has the same `full`, `ue` and `back` in such a run of CYCLES cycles (checks/gates.py). Needs
+#                Python 3, Yosys and Icarus.
 #
 # A tool that isn't installed is left out, and the last line names it. That line is `N checked, M wrong`, and the status is 0 where M is 0, and 77
-# where nothing could be checked. Yosys has MOST seconds for a module, 60 by default: it unrolls the loops over large files, and is skipped where
-# that takes longer. KP names another program than ./kp, SEED the first random job, 1 by default.
+# where nothing could be checked. Yosys has MOST seconds for a module, and again for its gates, 60 by default: it unrolls the loops over large files
+# and makes flip-flops of their words, and is skipped where that takes longer. KP names another program than ./kp, SEED the first random job, 1 by default.
 . "$(dirname "$0")/common.sh"
 cycles=${CYCLES:-200}
 seconds=${MOST:-60}
@@ -48,6 +50,9 @@ verilog() {
     fi
     if has iverilog && has python3; then
         says "$name" run "$(python3 "$top/checks/resets.py" "$kp" "$job" "$3" "$cycles" 2>&1 | tail -n 1)"
+    fi
+    if has yosys && has iverilog && has python3; then
+        says "$name" gates "$(python3 "$top/checks/gates.py" "$kp" "$job" "$3" "$cycles" "$seconds" 2>&1 | tail -n 1)"
     fi
     rm -f "$module"
 }
