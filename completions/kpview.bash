@@ -20,8 +20,12 @@ _kpview() {
     fi
     compopt +o default 2>/dev/null
     case $count in
-        0) COMPREPLY=($(compgen -W 'diagram svg help --help --version' -- "$cur")) ;;
-        1) COMPREPLY=($(compgen -W '10 20 50 100 1000' -- "$cur")) ;;
+        0) COMPREPLY=($(compgen -W 'diagram svg paths help --help --version' -- "$cur")) ;;
+        1) if [[ ${COMP_WORDS[1]} == paths ]]; then
+               compopt -o default 2>/dev/null
+           else
+               COMPREPLY=($(compgen -W '10 20 50 100 1000' -- "$cur"))
+           fi ;;
     esac
 }
 complete -F _kpview kpview

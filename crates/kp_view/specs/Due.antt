@@ -7,7 +7,7 @@ use Rattle.kp_base.specs.declared.refusal.Refusal.{Refusal}
 use Rattle.kp_ast.specs.declared.tree.Job.{Job}
 use Rattle.kp_frontend.specs.Judging.{Judges}
 use Rattle.kp_view_words.specs.Texts.{help_text, usage_text, version_text}
-use Rattle.kp_view_words.specs.Words.{Asked, Order, Run, Task, bad_words, help, version, show, diagram, svg, names_for}
+use Rattle.kp_view_words.specs.Words.{Asked, Order, Run, Task, bad_words, help, version, show, diagram, svg, paths, names_for}
 use Rattle.kp_pipeline.specs.Rows.{Row}
 use Rattle.kp_diagram_text.specs.Charts.{are_names}
 use Rattle.kp_diagram_text.specs.Figures.{Figure}
@@ -15,6 +15,8 @@ use Rattle.kp_diagram_text.specs.Text.{diagram_text}
 use Rattle.kp_diagram_svg.specs.Picture.{picture}
 use Rattle.kp_diagram_run.specs.Runs.{job_figure, job_rows}
 use Rattle.kp_diagram_run.specs.Claims.{ShowsRun}
+use Rattle.kp_paths.specs.Claims.{ArePaths}
+use Rattle.kp_paths.specs.Text.{paths_text}
 use Rattle.kp_view.specs.Texts.{names_text, refusal_text}
 
 -- exactly this status and this text
@@ -32,11 +34,14 @@ rows_drawn run job = job_rows run.count job
 abbrev pub order_text : Order → Job → List ℕ
 order_text (diagram run) job = diagram_text (figure_drawn run job)
 order_text (svg run) job = picture (figure_drawn run job) (rows_drawn run job)
+order_text paths job = paths_text job
 
--- what that text shows: the fetches, cells, marks and the account in it are those of the run, and the laws of the diagram hold of them
+-- What that text shows. Of a diagram: the fetches, cells, marks and the account in it are those of the run, and the laws of the diagram hold of them.
+-- Of the table of paths: its cells say where the reads take their values from, in each state of each run.
 abbrev pub IsShown : Order → Job → Type 0
 IsShown (diagram run) job = ShowsRun job run.count (figure_drawn run job)
 IsShown (svg run) job = ShowsRun job run.count (figure_drawn run job)
+IsShown paths job = ArePaths job
 
 abbrev pub Draws : Order → Job → ℕ → List ℕ → Type 0
 Draws order job status text = (status ≡ 0) × (text ≡ order_text order job) × IsShown order job
@@ -117,8 +122,9 @@ abbrev pub Between : (left left_after held held_after : Option (List ℕ)) → (
 Between left left_after held held_after Fact =
     (input : List ℕ) × (text : List ℕ) × Consumes left left_after input × Appends held held_after text × Fact input text
 
--- THE HEADLINE. The input is a job that violates no rule, for whose stages the names are, and the text draws the run of its pipelined machine: the
--- instructions in the full stages, the marks with their reasons, the instructions that retire in order, and each cycle counted under its cause.
+-- THE HEADLINE. The input is a job that violates no rule, for whose stages the names are, and the text shows what was asked: the run of its pipelined
+-- machine, with the instructions in the full stages, the marks with their reasons, the instructions that retire in order, and each cycle counted under
+-- its cause; or the paths of its reads, with the stages that have a value, and those that never have one.
 abbrev pub IsDrawn : Task → List ℕ → List ℕ → Type 0
 IsDrawn task input text =
     (job : Job) × Judges input (Ok job) × (names_fit task.order job ≡ true) × (text ≡ order_text task.order job) × IsShown task.order job

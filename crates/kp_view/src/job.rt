@@ -7,11 +7,13 @@ ghost use Rattle.kp_view.specs.Ends.{Ends};
 
 use crate::diagram::diagram;
 use crate::failure::{Complaint, Failure};
+use crate::paths::paths;
 use crate::svg::svg;
 use kp_base::Sink;
 use kp_diagram_run::laws::a_figure_shows_the_run;
 use kp_diagram_text::are_names;
 use kp_frontend::{Accepted, judge};
+use kp_paths::laws::the_cells_are_the_paths;
 use kp_view_words::{Order, Task};
 use std::alloc::Global;
 
@@ -60,8 +62,10 @@ fn drawn<K: Sink>(
     ensures { Ends K.held K.faults ⊥ (Draws (task_seen task.now).order job.now.design.job) (task_seen task.now).file out.old out.new result }
 {
     a_figure_shows_the_run(job);
+    the_cells_are_the_paths();
     match &task.order {
         Order::Diagram(run) => diagram(alloc, run, job, out),
         Order::Svg(run) => svg(alloc, run, job, out),
+        Order::Paths => paths(alloc, job, out),
     }
 }

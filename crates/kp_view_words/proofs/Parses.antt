@@ -314,15 +314,17 @@ none_by false x h = h
 
 -- A name is that of no word, or it is among the known names. Each of these is a case here.
 listed : (name : Text) → (word_named name ≡ None) ⊎ IsKnown known_names name
-listed name = go (bytes_eq name (codes "diagram")) (bytes_eq name (codes "svg")) refl refl
+listed name = go (bytes_eq name (codes "diagram")) (bytes_eq name (codes "svg")) (bytes_eq name (codes "paths")) refl refl refl
   where
     is : (text : Text) → bytes_eq name text ≡ true → text ≡ name
     is text h = sym ((bytes_eq-Decides name text).0 h)
 
-    go : (diagram svg : Bool) → bytes_eq name (codes "diagram") ≡ diagram → bytes_eq name (codes "svg") ≡ svg → (word_named name ≡ None) ⊎ IsKnown known_names name
-    go true svg d s = inr (subst (IsKnown known_names) (is (codes "diagram") d) (refl, refl))
-    go false true d s = inr (subst (IsKnown known_names) (is (codes "svg") s) (refl, refl))
-    go false false d s = inl (rw (d, s) refl)
+    go : (diagram svg paths : Bool) → bytes_eq name (codes "diagram") ≡ diagram → bytes_eq name (codes "svg") ≡ svg
+        → bytes_eq name (codes "paths") ≡ paths → (word_named name ≡ None) ⊎ IsKnown known_names name
+    go true svg paths d s p = inr (subst (IsKnown known_names) (is (codes "diagram") d) (refl, refl))
+    go false true paths d s p = inr (subst (IsKnown known_names) (is (codes "svg") s) (refl, refl))
+    go false false true d s p = inr (subst (IsKnown known_names) (is (codes "paths") p) (refl, refl))
+    go false false false d s p = inl (rw (d, s, p) refl)
 
 pub unmatched : (words : List Text) → AreFree words → (IsPassed words → ⊥) → word_of words ≡ None
 unmatched [] h refused = refl

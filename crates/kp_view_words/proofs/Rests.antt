@@ -1,6 +1,6 @@
 -- The words after a number: names of stages and a file; and what all words ask for.
 use Rattle.std.proofs.Common.{◌≡◌, ◌∙◌, ℕ, ◌+◌, ◌-◌, ◌<◌, Bool, cond, true, false, ◌||◌, List, [], ◌∷◌, ◌++◌, map, length, take, drop, Option, Some, None, refl, sym, ap, ap₂, arith}
-use Rattle.std.specs.Prelude.{slice_get, nat_lt, option_and_then, unwrap_or}
+use Rattle.std.specs.Prelude.{slice_get, nat_lt, option_and_then}
 use Rattle.std.specs.List.{IsLastAndRest, list_all, list_any}
 use Rattle.std.specs.Option.{option_map_or}
 use Rattle.std.proofs.lemmas.Option.{slice_get-get_or}
@@ -95,18 +95,6 @@ task_of_word [] word free h = cc h
 task_of_word (name ∷ rest) word free h =
     let named : task_named (name ∷ rest) ≡ task_with word rest = with_word word name rest (nat_lt 14 (length rest)) refl h in
     rw free named
-
--- nothing is asked for by what is no word
-without_word : (name : Text) (rest : List Text) (many : Bool) → None ≡ cond many None (word_named name)
-    → cond many None (option_and_then (λ w. task_with w rest) (word_named name)) ≡ None
-without_word name rest true h = refl
-without_word name rest false h = ap (option_and_then (λ w. task_with w rest)) (sym h)
-
-pub task_of_none : (all : List Text) → list_any begins_with_dash all ≡ false → None ≡ word_of all → None ≡ task_of all
-task_of_none [] free h = refl
-task_of_none (name ∷ rest) free h =
-    let named : task_named (name ∷ rest) ≡ None = without_word name rest (nat_lt 14 (length rest)) h in
-    sym (rw free named)
 
 -- the rest of a list from a place on
 pub rest_is : {X : Type 0} (rest words : List X) (n : ℕ) → rest ≡ take (length words - n) (drop n words) → rest ≡ drop n words

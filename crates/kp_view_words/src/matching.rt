@@ -42,7 +42,8 @@ fn program<'a>(alloc: Global) -> Result<clap::Command<'a>, AllocError>
         .disable_help_flag(true)
         .disable_help_subcommand(true);
     let program = with_word(alloc, program, "diagram")?;
-    with_word(alloc, program, "svg")
+    let program = with_word(alloc, program, "svg")?;
+    with_word(alloc, program, "paths")
 }
 
 // The program, with the word of this name added.

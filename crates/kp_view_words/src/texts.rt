@@ -10,6 +10,7 @@ pub const VERSION: &str = "kpview 0.10.0\n";
 /// How the program is called.
 pub const USAGE: &str = "usage: kpview diagram N [NAMES] [FILE]
        kpview svg N [NAMES] [FILE]
+       kpview paths [FILE]
        kpview --help
 ";
 
@@ -23,6 +24,10 @@ pub const USAGE_SVG: &str = "usage: kpview svg N [NAMES] [FILE]
 N is 0 to 1000; a name has 1 to 8 letters, digits or `_`
 ";
 
+/// How `paths` is called.
+pub const USAGE_PATHS: &str = "usage: kpview paths [FILE]
+";
+
 /// The help of the program.
 pub const HELP: &str = "Draws how instructions move through the pipelined machine of a kp job.
 
@@ -31,6 +36,7 @@ usage: kpview WORD .. [FILE]
 words:
   diagram N [NAMES] [FILE]   N cycles of the pipeline, as text
   svg N [NAMES] [FILE]       the same as a picture
+  paths [FILE]               where each read takes its value from
 
 The job is read from FILE, or from standard input.
 
@@ -85,6 +91,24 @@ waits, is held from outside or is squashed. A column is grey if a guess was
 found wrong in its cycle.
 ";
 
+/// The help of `paths`.
+pub const HELP_PATHS: &str =
+    "Prints a table of the forwarding paths of the pipelined machine of a job: a row
+for each read, with its line and its stage, and a column for each stage.
+
+usage: kpview paths [FILE]
+
+  FILE    the job; without it, standard input is read
+
+A cell says what an older instruction in that stage has for the read:
+  bypass  the value, once the stage isn't stalled
+  maybe   the value if a set took place; else the read waits
+  wait    nothing: no value is set yet, or it isn't known whether the
+          instruction writes what is read; the read waits
+  guess   the same, but the read goes on with its guess
+  .       the read takes no value from that stage
+";
+
 /// The help on a topic.
 pub fn help_of(topic: Topic) -> &'static str
     ensures { result.now ≡ help_text topic }
@@ -93,6 +117,7 @@ pub fn help_of(topic: Topic) -> &'static str
         Topic::Program => HELP,
         Topic::Of(Word::Diagram) => HELP_DIAGRAM,
         Topic::Of(Word::Svg) => HELP_SVG,
+        Topic::Of(Word::Paths) => HELP_PATHS,
     }
 }
 
@@ -104,6 +129,7 @@ pub fn usage_of(topic: Topic) -> &'static str
         Topic::Program => USAGE,
         Topic::Of(Word::Diagram) => USAGE_DIAGRAM,
         Topic::Of(Word::Svg) => USAGE_SVG,
+        Topic::Of(Word::Paths) => USAGE_PATHS,
     }
 }
 

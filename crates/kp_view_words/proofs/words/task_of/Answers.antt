@@ -2,7 +2,7 @@ use Rattle.std.proofs.Common.{◌∙◌, sym, ap, map, string_bytes}
 use Rattle.std.proofs.lemmas.List.{drop-map}
 use Rattle.clap.proofs.WalkLemmas.{list_any-map}
 use Rattle.kp_view_words.specs.Words.{begins_with_dash, task_with}
-use Rattle.kp_view_words.proofs.Rests.{dash_none, rest_is, task_of_none, task_of_word}
+use Rattle.kp_view_words.proofs.Rests.{dash_none, rest_is, task_of_word}
 use Rattle.kp_view_words.proofs.words.task_of.Goals as goal
 
 pub returns-then-has_dash : goal.returns-then-has_dash

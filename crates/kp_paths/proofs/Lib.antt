@@ -1,0 +1,6 @@
+pub mod Valid
+pub mod Setting
+pub mod CellLaws
+pub mod Ported
+pub mod Steps
+pub mod Named

@@ -1,0 +1,31 @@
+-- The steps of the loops that write the table.
+use Rattle.std.proofs.Common.{◌≡◌, ◌∙◌, ℕ, suc, ◌+◌, ◌-◌, ◌<◌, List, ◌∷◌, ◌++◌, length, get_or, drop, decimal, Option, ap, sym, subst, arith}
+use Rattle.std.proofs.lemmas.List.{drop_more}
+use Rattle.kp_base.specs.inner.Bytes.{WrittenUpTo}
+use Rattle.kp_ast.specs.declared.tree.Job.{Job}
+use Rattle.kp_ast.specs.declared.tree.ReadStmt.{ReadStmt}
+use Rattle.kp_ast.specs.declared.tree.Stmt.{Stmt}
+use Rattle.kp_ast.specs.declared.tree.Block.{Block}
+use Rattle.kp_paths.specs.Table.{cell_at}
+use Rattle.kp_paths.specs.Text.{at_right, cell_word, cells_text, numbers_text, rows_from, rows_in, rows_of}
+
+-- what is left is the same text
+pub left_is : (whole rest same : List ℕ) (a b : Option (List ℕ)) → rest ≡ same → WrittenUpTo whole rest a b → WrittenUpTo whole same a b
+left_is whole rest same a b e written = subst (λ (text : List ℕ). WrittenUpTo whole text a b) e written
+
+pub numbers_next : (count j : ℕ) → j < count → numbers_text j (count - j) ≡ at_right 7 (decimal j) ++ numbers_text (j + 1) (count - (j + 1))
+numbers_next count j h = let one : count - j ≡ suc (count - (j + 1)) = omega arith in ap (λ (m : ℕ). numbers_text j m) one
+
+pub cells_next : (job : Job) (r : ReadStmt) (k count j : ℕ) → j < count
+    → cells_text job r k j (count - j) ≡ at_right 7 (cell_word (cell_at job r k j)) ++ cells_text job r k (j + 1) (count - (j + 1))
+cells_next job r k count j h = let one : count - j ≡ suc (count - (j + 1)) = omega arith in ap (λ (m : ℕ). cells_text job r k j m) one
+
+pub rows_next : (job : Job) (width k : ℕ) (stmts : List Stmt) (i : ℕ) (s : Stmt) → i < length stmts → s ≡ get_or stmts i s
+    → rows_in job width k (drop i stmts) ≡ rows_of job width k s.kind ++ rows_in job width k (drop (i + 1) stmts)
+rows_next job width k stmts i s b is =
+    ap (rows_in job width k) (drop_more stmts i s b ∙ ap (λ (x : Stmt). x ∷ drop (i + 1) stmts) (sym is))
+
+pub blocks_next : (job : Job) (width : ℕ) (blocks : List Block) (k : ℕ) (x : Block) → k < length blocks → x ≡ get_or blocks k x
+    → rows_from job width k (drop k blocks) ≡ rows_in job width k x.stmts ++ rows_from job width (k + 1) (drop (k + 1) blocks)
+blocks_next job width blocks k x b is =
+    ap (rows_from job width k) (drop_more blocks k x b ∙ ap (λ (y : Block). y ∷ drop (k + 1) blocks) (sym is))

@@ -1,0 +1,195 @@
+// The rows of the table.
+ghost use Rattle.std.specs.Prelude.{◌≡◌, ◌≤◌, ◌++◌, ◌-◌, codes, length};
+ghost use Rattle.kp_base.specs.Bytes.{Writes};
+ghost use Rattle.kp_base.specs.Causes.{HasCause};
+ghost use Rattle.kp_paths.specs.Text.{cells_text, label, longer, longest_from, longest_in, note as note_of, place_text, row_text, rows_from, rows_in, rows_of};
+
+use crate::pieces::{LONGEST, label_length, write_label, write_place, write_right};
+use crate::table::Paths;
+use kp_ast::{Block, ReadStmt, Stmt, StmtKind};
+use kp_base::{Sink, SinkFault, write_pieces};
+
+// The length of the longest label of a read in these blocks, or `from` if that is more.
+pub(crate) fn longest(blocks: &[Block], from: usize) -> usize
+    requires { from ≤ LONGEST }
+    ensures value { result ≡ longest_from from blocks.now }
+    ensures few { result ≤ LONGEST }
+{
+    let mut width = from;
+    for block in blocks {
+        width = longest_label(block.stmts.as_slice(), width);
+    }
+    width
+}
+
+fn longest_label(stmts: &[Stmt], from: usize) -> usize
+    requires { from ≤ LONGEST }
+    ensures value { result ≡ longest_in from stmts.now }
+    ensures few { result ≤ LONGEST }
+{
+    let mut width = from;
+    for stmt in stmts {
+        width = longer_of(width, &stmt.kind);
+    }
+    width
+}
+
+fn longer_of(width: usize, stmt: &StmtKind) -> usize
+    requires { width ≤ LONGEST }
+    ensures value { result ≡ longer width stmt.now }
+    ensures few { result ≤ LONGEST }
+{
+    match stmt {
+        StmtKind::Read(read) => width.max(label_length(read)),
+        _ => width,
+    }
+}
+
+// The rows of the reads.
+pub(crate) fn write_rows<K: Sink>(
+    paths: &Paths<'_>,
+    width: usize,
+    sink: &mut K,
+) -> Result<(), SinkFault>
+    requires { width ≤ LONGEST }
+    ensures text { Writes (K.held sink.old) (K.held sink.new) (rows_from paths.now width 0 paths.now.blocks) result }
+    ensures cause { HasCause (K.faults sink.old) (K.faults sink.new) result }
+{
+    write_blocks(paths, paths.job().blocks.as_slice(), width, sink)
+}
+
+fn write_blocks<K: Sink>(
+    paths: &Paths<'_>,
+    blocks: &[Block],
+    width: usize,
+    sink: &mut K,
+) -> Result<(), SinkFault>
+    requires { width ≤ LONGEST }
+    ensures text { Writes (K.held sink.old) (K.held sink.new) (rows_from paths.now width 0 blocks.now) result }
+    ensures cause { HasCause (K.faults sink.old) (K.faults sink.new) result }
+{
+    for (k, block) in blocks.iter().enumerate() {
+        write_block(paths, block.stmts.as_slice(), width, k, sink)?;
+    }
+    Ok(())
+}
+
+fn write_block<K: Sink>(
+    paths: &Paths<'_>,
+    stmts: &[Stmt],
+    width: usize,
+    k: usize,
+    sink: &mut K,
+) -> Result<(), SinkFault>
+    requires { width ≤ LONGEST }
+    ensures text { Writes (K.held sink.old) (K.held sink.new) (rows_in paths.now width k stmts.now) result }
+    ensures cause { HasCause (K.faults sink.old) (K.faults sink.new) result }
+{
+    for stmt in stmts {
+        write_stmt(paths, &stmt.kind, width, k, sink)?;
+    }
+    Ok(())
+}
+
+// The row of a statement that is a read.
+fn write_stmt<K: Sink>(
+    paths: &Paths<'_>,
+    stmt: &StmtKind,
+    width: usize,
+    k: usize,
+    sink: &mut K,
+) -> Result<(), SinkFault>
+    requires { width ≤ LONGEST }
+    ensures text { Writes (K.held sink.old) (K.held sink.new) (rows_of paths.now width k stmt.now) result }
+    ensures cause { HasCause (K.faults sink.old) (K.faults sink.new) result }
+{
+    match stmt {
+        StmtKind::Read(read) => write_row(paths, read, width, k, sink),
+        _ => Ok(()),
+    }
+}
+
+#[tactic(auto, using(kp_base::proofs::Bytes::writes_next, kp_base::proofs::Bytes::part_more))]
+fn write_row<K: Sink>(
+    paths: &Paths<'_>,
+    read: &ReadStmt,
+    width: usize,
+    k: usize,
+    sink: &mut K,
+) -> Result<(), SinkFault>
+    requires { width ≤ LONGEST }
+    ensures text { Writes (K.held sink.old) (K.held sink.new) (row_text paths.now width k read.now) result }
+    ensures cause { HasCause (K.faults sink.old) (K.faults sink.new) result }
+{
+    write_label(read, sink)?;
+    write_after_label(paths, read, width, k, sink)
+}
+
+#[tactic(auto, using(kp_base::proofs::Bytes::writes_next, kp_base::proofs::Bytes::part_more))]
+fn write_after_label<K: Sink>(
+    paths: &Paths<'_>,
+    read: &ReadStmt,
+    width: usize,
+    k: usize,
+    sink: &mut K,
+) -> Result<(), SinkFault>
+    requires { width ≤ LONGEST }
+    ensures text { Writes (K.held sink.old) (K.held sink.new)
+        (place_text (width - length (label read.now)) read.now.name.at.line k
+        ++ (cells_text paths.now read.now k 0 paths.now.stages.value ++ (note_of paths.now read.now ++ codes "\n"))) result }
+    ensures cause { HasCause (K.faults sink.old) (K.faults sink.new) result }
+{
+    let pad = width.saturating_sub(label_length(read));
+    write_place(pad, read.name.at.line, k, sink)?;
+    write_cells_and_note(paths, read, k, sink)
+}
+
+#[tactic(auto, using(kp_base::proofs::Bytes::writes_next, kp_base::proofs::Bytes::part_more))]
+fn write_cells_and_note<K: Sink>(
+    paths: &Paths<'_>,
+    read: &ReadStmt,
+    k: usize,
+    sink: &mut K,
+) -> Result<(), SinkFault>
+    ensures text { Writes (K.held sink.old) (K.held sink.new)
+        (cells_text paths.now read.now k 0 paths.now.stages.value ++ (note_of paths.now read.now ++ codes "\n")) result }
+    ensures cause { HasCause (K.faults sink.old) (K.faults sink.new) result }
+{
+    write_cells(paths, read, k, paths.stages(), sink)?;
+    write_note(paths, read, sink)
+}
+
+// The cells of `count` stages.
+fn write_cells<K: Sink>(
+    paths: &Paths<'_>,
+    read: &ReadStmt,
+    k: usize,
+    count: usize,
+    sink: &mut K,
+) -> Result<(), SinkFault>
+    ensures text { Writes (K.held sink.old) (K.held sink.new) (cells_text paths.now read.now k 0 count) result }
+    ensures cause { HasCause (K.faults sink.old) (K.faults sink.new) result }
+{
+    for j in 0..count {
+        write_right(paths.cell(read, k, j).word(), sink)?;
+    }
+    Ok(())
+}
+
+fn write_note<K: Sink>(paths: &Paths<'_>, read: &ReadStmt, sink: &mut K) -> Result<(), SinkFault>
+    ensures text { Writes (K.held sink.old) (K.held sink.new) (note_of paths.now read.now ++ codes "\n") result }
+    ensures cause { HasCause (K.faults sink.old) (K.faults sink.new) result }
+{
+    let pieces = [note(paths, read), b"\n".as_slice()];
+    write_pieces(sink, &pieces)
+}
+
+fn note(paths: &Paths<'_>, read: &ReadStmt) -> &'static [u8]
+    ensures { result.now ≡ note_of paths.now read.now }
+{
+    if paths.is_written(read) {
+        b""
+    } else {
+        b"   never written"
+    }
+}
