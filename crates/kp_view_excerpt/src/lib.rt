@@ -1,0 +1,10 @@
+//! Excerpts of a source text: a line with its number, and carets under the token at a place.
+//!
+//! Of a long line the part around the place is shown.
+#![tactic(auto)]
+
+mod excerpt;
+mod place;
+
+pub use excerpt::Excerpt;
+pub use place::offset_of;

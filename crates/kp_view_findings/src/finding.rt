@@ -1,0 +1,79 @@
+// What a pass over a job finds.
+ghost use Rattle.std.specs.Prelude.{◌≡◌, leb, vec_len};
+
+use crate::table::Table;
+use kp_ast::Name;
+use kp_base::{NoMemory, Place};
+use kp_view_message::{Message, Warning};
+use std::alloc::Global;
+
+/// The most findings that are listed for one text.
+pub const MOST: usize = 20;
+
+/// A broken rule, with the place that the rule names.
+#[derive(Clone, Copy)]
+pub struct Finding<'t> {
+    pub place: Place,
+    pub message: Message<'t>,
+}
+
+/// A warning, with its place.
+#[derive(Clone, Copy)]
+pub struct Caution<'t> {
+    pub place: Place,
+    pub warning: Warning<'t>,
+}
+
+/// The first findings of a pass, in its order.
+#[derive(Drop)]
+pub struct Findings<'t> {
+    all: Vec<Finding<'t>>,
+    /// The names whose declarations are missing or doubtful. Of these no more is said, since it may follow from that.
+    doubtful: Table<bool>,
+}
+
+impl<'t> Findings<'t> {
+    /// No findings.
+    pub fn new(alloc: Global) -> Findings<'t> {
+        Findings {
+            all: Vec::new(alloc),
+            doubtful: Table::new(alloc),
+        }
+    }
+
+    /// Notes a finding, unless there are enough.
+    pub fn add(&mut self, place: Place, message: Message<'t>) -> Result<(), NoMemory> {
+        if self.all.len() < MOST {
+            self.all.push(Finding { place, message })?;
+        }
+        Ok(())
+    }
+
+    /// Notes a finding of a name whose declaration is missing or doubtful.
+    pub fn add_name(
+        &mut self,
+        name: &Name,
+        place: Place,
+        message: Message<'t>,
+    ) -> Result<(), NoMemory> {
+        self.doubtful.set_first(name, true)?;
+        self.add(place, message)
+    }
+
+    /// Whether the declaration of a name is missing or doubtful.
+    pub fn is_doubtful(&self, name: &Name) -> bool {
+        self.doubtful.get(name).is_some()
+    }
+
+    /// Whether no more are noted.
+    pub fn is_full(&self) -> bool
+        ensures { result ≡ leb 20 (vec_len self.all) }
+    {
+        self.all.len() >= MOST
+    }
+
+    /// The findings in the order in which they were noted.
+    pub fn as_slice(&self) -> &[Finding<'t>] {
+        self.all.as_slice()
+    }
+}

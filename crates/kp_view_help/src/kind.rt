@@ -1,0 +1,81 @@
+// What names are, and what is wanted at a place.
+use std::fmt;
+
+/// What a name names.
+#[derive(Clone, Copy, PartialEq, Eq)]
+pub enum Kind {
+    Register,
+    File,
+    Pipe,
+    Output,
+    Hint,
+    Sample,
+    Function,
+    Parameter,
+    Read,
+    Local,
+}
+
+impl fmt::Display for Kind {
+    fn fmt<W: fmt::Write>(&self, f: &mut fmt::Formatter<W>) -> fmt::Result {
+        f.write_str(match self {
+            Kind::Register => "register",
+            Kind::File => "file",
+            Kind::Pipe => "pipe",
+            Kind::Output => "result",
+            Kind::Hint => "hint",
+            Kind::Sample => "sample",
+            Kind::Function => "function",
+            Kind::Parameter => "parameter",
+            Kind::Read => "name given by `read`",
+            Kind::Local => "name given by `let`",
+        })
+    }
+}
+
+/// What may stand at a place.
+#[derive(Clone, Copy, PartialEq, Eq)]
+pub enum Wanted {
+    /// A value in a stage.
+    Value,
+    /// A value in a function.
+    Parameter,
+    Register,
+    File,
+    Pipe,
+    Output,
+    Hint,
+    Function,
+}
+
+impl Wanted {
+    /// Whether a name of this kind may stand there.
+    pub fn takes(self, kind: Kind) -> bool {
+        match (self, kind) {
+            (Wanted::Value, Kind::Pipe | Kind::Hint | Kind::Sample | Kind::Read | Kind::Local)
+            | (Wanted::Parameter, Kind::Parameter)
+            | (Wanted::Register, Kind::Register)
+            | (Wanted::File, Kind::File)
+            | (Wanted::Pipe, Kind::Pipe)
+            | (Wanted::Output, Kind::Output)
+            | (Wanted::Hint, Kind::Hint)
+            | (Wanted::Function, Kind::Function) => true,
+            _ => false,
+        }
+    }
+}
+
+impl fmt::Display for Wanted {
+    fn fmt<W: fmt::Write>(&self, f: &mut fmt::Formatter<W>) -> fmt::Result {
+        f.write_str(match self {
+            Wanted::Value => "a pipe, a sample, or a name of this stage",
+            Wanted::Parameter => "a parameter of the function",
+            Wanted::Register => "a register",
+            Wanted::File => "a file",
+            Wanted::Pipe => "a pipe",
+            Wanted::Output => "a result",
+            Wanted::Hint => "a hint",
+            Wanted::Function => "a function",
+        })
+    }
+}

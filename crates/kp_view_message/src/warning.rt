@@ -1,0 +1,132 @@
+// What is said of an accepted job that may not be meant so.
+use kp_view_help::{Help, Kind, Word};
+use std::fmt;
+
+/// A warning, with the facts that it rests on.
+#[derive(Clone, Copy)]
+pub enum Warning<'t> {
+    // W1
+    NeverSet {
+        result: Word<'t>,
+        target: Word<'t>,
+    },
+    MaybeUnset {
+        result: Word<'t>,
+        target: Word<'t>,
+        file: bool,
+        stage: u64,
+        lines: [Option<u32>; 4],
+    },
+    // W3
+    SetInVain {
+        result: Word<'t>,
+        stage: usize,
+        line: u32,
+    },
+    // W4
+    UnusedPipe(Word<'t>),
+    // W5
+    UnusedLocal {
+        name: Word<'t>,
+        stage: usize,
+    },
+    UnusedName {
+        name: Word<'t>,
+        kind: Kind,
+    },
+    // W6
+    NoResult(Word<'t>),
+    // W7
+    PutLate {
+        name: Word<'t>,
+        target: Word<'t>,
+        earliest: usize,
+    },
+}
+
+impl<'t> Warning<'t> {
+    /// The number of the warning.
+    pub fn number(&self) -> u8 {
+        match self {
+            Warning::NeverSet { .. } | Warning::MaybeUnset { .. } => 1,
+            Warning::SetInVain { .. } => 3,
+            Warning::UnusedPipe(_) => 4,
+            Warning::UnusedLocal { .. } | Warning::UnusedName { .. } => 5,
+            Warning::NoResult(_) => 6,
+            Warning::PutLate { .. } => 7,
+        }
+    }
+
+    /// What helps, in up to three lines.
+    pub fn helps(&self) -> [Option<Help<'t>>; 3] {
+        match self {
+            Warning::MaybeUnset {
+                result,
+                target,
+                file,
+                stage,
+                lines,
+            } => [
+                Some(Help::SetOnlyIn {
+                    name: *result,
+                    lines: *lines,
+                }),
+                Some(Help::EnableIt {
+                    target: *target,
+                    stage: *stage,
+                    file: *file,
+                }),
+                None,
+            ],
+            Warning::SetInVain { .. } => [Some(Help::FirstCounts), None, None],
+            _ => [None, None, None],
+        }
+    }
+}
+
+impl<'t> fmt::Display for Warning<'t> {
+    fn fmt<W: fmt::Write>(&self, f: &mut fmt::Formatter<W>) -> fmt::Result {
+        match self {
+            Warning::NeverSet { result, target } => write!(
+                f,
+                "`{result}` is never set: each instruction that writes `{target}` makes it 0"
+            ),
+            Warning::MaybeUnset {
+                result,
+                target,
+                file,
+                ..
+            } => {
+                let address = if *file { "[..]" } else { "" };
+                write!(
+                    f,
+                    "an instruction that sets no `{result}` writes 0 to `{target}{address}`"
+                )
+            }
+            Warning::SetInVain {
+                result,
+                stage,
+                line,
+            } => write!(
+                f,
+                "this `set` never takes place: stage {stage} (line {line}) has set `{result}` in every instruction"
+            ),
+            Warning::UnusedPipe(name) => write!(f, "the pipe `{name}` is used nowhere"),
+            Warning::UnusedLocal { name, stage } => {
+                write!(f, "`{name}` is used nowhere in stage {stage}")
+            }
+            Warning::UnusedName { name, kind } => write!(f, "the {kind} `{name}` is used nowhere"),
+            Warning::PutLate {
+                name,
+                target,
+                earliest,
+            } => write!(
+                f,
+                "the pipe `{name}` can be put in stage {earliest} already: instructions that read `{target}` wait until it is put"
+            ),
+            Warning::NoResult(name) => {
+                write!(f, "the register `{name}` has no result, and never changes")
+            }
+        }
+    }
+}

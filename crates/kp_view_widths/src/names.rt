@@ -1,0 +1,80 @@
+// The names in scope, as far as they are known.
+use kp_ast::Name;
+use kp_base::NoMemory;
+use kp_view_findings::Table;
+use kp_view_help::Kind;
+use std::alloc::Global;
+
+/// What is known of a declared name: its width is unknown where its declaration breaks a rule.
+#[derive(Clone, Copy)]
+pub(crate) struct Known {
+    pub kind: Kind,
+    pub width: Option<u8>,
+    /// The width of a file's addresses.
+    pub address: Option<u8>,
+    pub line: u32,
+    /// The number of the declaration.
+    pub from: usize,
+}
+
+impl Known {
+    pub fn new(kind: Kind, width: Option<u8>, line: u32, from: usize) -> Known {
+        Known {
+            kind,
+            width,
+            address: None,
+            line,
+            from,
+        }
+    }
+}
+
+/// Where the pass is.
+#[derive(Clone, Copy, PartialEq, Eq)]
+pub(crate) enum Position {
+    Text,
+    Function,
+    Stage(usize),
+}
+
+/// The names in scope at a place in the text.
+#[derive(Drop)]
+pub(crate) struct Names {
+    pub text: Table<Known>,
+    pub local: Table<Known>,
+    /// The names of the stages before this one, of each the first.
+    pub past: Table<(usize, Known)>,
+    pub position: Position,
+}
+
+impl Names {
+    pub fn new(alloc: Global) -> Names {
+        Names {
+            text: Table::new(alloc),
+            local: Table::new(alloc),
+            past: Table::new(alloc),
+            position: Position::Text,
+        }
+    }
+
+    /// A function, a stage or the text itself begins.
+    pub fn open(&mut self, alloc: Global, position: Position) {
+        self.local = Table::new(alloc);
+        self.position = position;
+    }
+
+    pub fn find(&self, name: &Name) -> Option<Known> {
+        match self.local.get(name) {
+            Some(known) => Some(known),
+            None => self.text.get(name),
+        }
+    }
+
+    /// Declares a name of the function or the stage that is open.
+    pub fn add_local(&mut self, name: &Name, known: Known) -> Result<(), NoMemory> {
+        if let Position::Stage(stage) = self.position {
+            self.past.set_first(name, (stage, known))?;
+        }
+        self.local.set(name, known)
+    }
+}
