@@ -20,12 +20,14 @@ _kpview() {
     fi
     compopt +o default 2>/dev/null
     case $count in
-        0) COMPREPLY=($(compgen -W 'diagram svg paths help --help --version' -- "$cur")) ;;
-        1) if [[ ${COMP_WORDS[1]} == paths ]]; then
-               compopt -o default 2>/dev/null
-           else
-               COMPREPLY=($(compgen -W '10 20 50 100 1000' -- "$cur"))
-           fi ;;
+        0) COMPREPLY=($(compgen -W 'diagram svg paths explain help --help --version' -- "$cur")) ;;
+        1)
+            case ${COMP_WORDS[1]} in
+                paths) compopt -o default 2>/dev/null ;;
+                explain) COMPREPLY=($(compgen -f -W '--werror' -- "$cur")) ;;
+                *) COMPREPLY=($(compgen -W '10 20 50 100 1000' -- "$cur")) ;;
+            esac
+            ;;
     esac
 }
 complete -F _kpview kpview
