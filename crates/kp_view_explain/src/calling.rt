@@ -60,7 +60,7 @@ pub fn explain_source<S: Source, E: Sink>(
 }
 
 // What is said of the input of a source.
-#[tactic(auto, using(crate::proofs::Inputs::of_input, crate::proofs::Inputs::of_excess))]
+#[tactic(auto, using(crate::proofs::Inputs::of_input))]
 fn explanation<S: Source>(
     alloc: Global,
     file: &[u8],
@@ -73,14 +73,14 @@ fn explanation<S: Source>(
 {
     match read_all(alloc, source) {
         Ok(input) => Ok(explain(alloc, file, strict, input.as_slice())?),
-        Err(ReadAll::TooLong) => Ok(too_long(alloc, file)?),
+        Err(ReadAll::TooLong) => Ok(of_excess(alloc, file)?),
         Err(ReadAll::Fault) => Err(Stop::ReadFault),
         Err(ReadAll::NoMemory) => Err(Stop::NoMemory),
     }
 }
 
 // What is said of an input that is longer than it may be.
-fn too_long(alloc: Global, file: &[u8]) -> Result<Explanation, NoMemory>
+fn of_excess(alloc: Global, file: &[u8]) -> Result<Explanation, NoMemory>
     ensures said { IfOk result (λ e. (strict : Bool) → Says strict file.now (Err too_long) e.status e.text.items) }
     ensures low { IfOk result (λ e. e.status ≡ 2) }
 {

@@ -67,7 +67,7 @@ impl<'t> Findings<'t> {
 
     /// Whether no more are noted.
     pub fn is_full(&self) -> bool
-        ensures { result ≡ leb 20 (vec_len self.all) }
+        ensures { result ≡ leb 20 (vec_len self.now.all) }
     {
         self.all.len() >= MOST
     }
