@@ -11,6 +11,7 @@ pub const VERSION: &str = "kpview 0.10.0\n";
 pub const USAGE: &str = "usage: kpview diagram N [NAMES] [FILE]
        kpview svg N [NAMES] [FILE]
        kpview paths [FILE]
+       kpview explain [--werror] [FILE]
        kpview --help
 ";
 
@@ -37,6 +38,7 @@ words:
   diagram N [NAMES] [FILE]   N cycles of the pipeline, as text
   svg N [NAMES] [FILE]       the same as a picture
   paths [FILE]               where each read takes its value from
+  explain [--werror] [FILE]  why the job is rejected, and warnings
 
 The job is read from FILE, or from standard input.
 
