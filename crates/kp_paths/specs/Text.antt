@@ -94,7 +94,7 @@ head_text job width = title_text job.name.name width ++ (numbers_text 0 job.stag
 
 unfoldable pub legend : List ℕ
 legend =
-    codes "\nbypass  the stage has the value, once it isn't stalled\nmaybe   it has the value if a set took place; else the read waits\nwait    the read waits: nothing is set yet, or it isn't known whether the stage writes what is read\nguess   the same, but the read goes on with its guess\n"
+    codes "\nbypass  the stage has the value, once it isn't stalled\nmaybe   it has the value if a set took place; else the read waits, or goes on with its guess\nwait    the read waits: nothing is set yet, or it isn't known whether the stage writes what is read\nguess   the same, but the read goes on with its guess\n"
 
 -- THE TEXT.
 unfoldable pub paths_text : Job → List ℕ

@@ -2,9 +2,9 @@
 //! text, and the laws that join it to the runs of the pipelined machine.
 //!
 //! `specs/Cells.antt` defines a cell over the abstract machine and `specs/Table.antt` the cells of a job, both from its declarations and sets
-//! alone; `specs/Text.antt` is the text, and `specs/Claims.antt` what the laws say: a `bypass` is never waited for, a `wait` and a `guess` never
-//! have a value, and no read takes its value from a stage whose cell is empty. A `Paths` contains the tables of a design; its writer allocates
-//! nothing.
+//! alone; `specs/Text.antt` is the text, and `specs/Claims.antt` what the laws say: a `bypass` has a value once its stage isn't stalled, a `wait`
+//! and a `guess` have none, and no read takes its value from a stage whose cell is empty. A `Paths` contains the tables of a design; its writer
+//! allocates nothing.
 #![tactic(auto)]
 
 mod cell;

@@ -56,7 +56,7 @@ fn write_legend<K: Sink>(sink: &mut K) -> Result<(), SinkFault>
 {
     write_all(
         sink,
-        b"\nbypass  the stage has the value, once it isn't stalled\nmaybe   it has the value if a set took place; else the read waits\nwait    the read waits: nothing is set yet, or it isn't known whether the stage writes what is read\nguess   the same, but the read goes on with its guess\n",
+        b"\nbypass  the stage has the value, once it isn't stalled\nmaybe   it has the value if a set took place; else the read waits, or goes on with its guess\nwait    the read waits: nothing is set yet, or it isn't known whether the stage writes what is read\nguess   the same, but the read goes on with its guess\n",
     )
 }
 

@@ -104,7 +104,8 @@ usage: kpview paths [FILE]
 
 A cell says what an older instruction in that stage has for the read:
   bypass  the value, once the stage isn't stalled
-  maybe   the value if a set took place; else the read waits
+  maybe   the value if a set took place; else the read waits, or goes on with
+          its guess
   wait    nothing: no value is set yet, or it isn't known whether the
           instruction writes what is read; the read waits
   guess   the same, but the read goes on with its guess
