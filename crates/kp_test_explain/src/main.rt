@@ -72,6 +72,9 @@ fn print_case(rt: &impl Print, alloc: Global, line: &[u8], input: &[u8]) -> io::
     }
     let head = head_of(alloc, line)?;
     let input = input_of(alloc, &head, input)?;
+    let most = head.most.max(1);
+    let mut source = MemSource::new(input, most, head.read_fails);
+    let mut err = MemSink::new(alloc, head.room, most, head.write_fails).map_err(|_| AllocError)?;
     let Some(order) = Order::of(&head.words) else {
         return println!(rt; "==== {line} isn't accepted\n");
     };
@@ -79,9 +82,6 @@ fn print_case(rt: &impl Print, alloc: Global, line: &[u8], input: &[u8]) -> io::
         Some(name) => name.as_bytes(),
         None => b"<stdin>",
     };
-    let most = head.most.max(1);
-    let mut source = MemSource::new(input, most, head.read_fails);
-    let mut err = MemSink::new(alloc, head.room, most, head.write_fails).map_err(|_| AllocError)?;
     let status = explain_source(alloc, file, order.strict, &mut source, &mut err);
     let text = String::from_utf8_lossy(alloc, err.bytes())?;
     println!(rt; "==== {line} gives {status}\n{text}")
