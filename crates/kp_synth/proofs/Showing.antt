@@ -22,7 +22,8 @@ use Rattle.kp_synth_spec.specs.Shows.{Shows, IsInOrder, HasRegister, HasFile}
 use Rattle.kp_synth_spec.specs.Anew.{trace_from, left_by_reset, HasMemory, BeginsAnew}
 use Rattle.kp_synth_spec.proofs.Anew.{left_alike}
 use Rattle.kp_synth_close.specs.Shows as place
-use Rattle.kp_synth_close.specs.Shows.{NamedBy, reg_slot, file_slot, port_slot, named_with, shown_word}
+use Rattle.kp_synth_close.specs.Shows.{NamedBy, HoldsFrom, reg_slot, file_slot, port_slot, named_with, shown_word}
+use Rattle.kp_synth.specs.Carrying.{Carries}
 use Rattle.kp_synth.proofs.Places.{passes_at, comes_from, stands_at, first_at, file_number}
 
 -- names by way of slots
@@ -266,6 +267,12 @@ module _ (net : Net) (job : Job) (h : place.Shows net job) (n : IsNamed net) whe
     runs = λ st i ins m r q.
         subst (λ (v : ℕ → ℕ → ℕ). ShowsAlike job (trace_from job net (state_after net i st) ins) (pipe (machine_of job) v (start_hints job) (inputs_seen job ins)))
         (left_is st) (alike_anew st i ins m r q);
+  }
+
+  pub carries : Carries net job
+  carries = record {
+    runs = h.holds;
+    anew = λ st i ins m r q. subst (λ (v : ℕ → ℕ → ℕ). HoldsFrom net job (state_after net i st) v ins) (left_is st) (h.holds_anew st i ins (words_are st m) r q);
   }
 
   pub shows : job.stages.value ≤ 12 → Shows net job

@@ -17,6 +17,7 @@ ghost use Rattle.kp_net.specs.Widths.{Distinct};
 ghost use Rattle.kp_synth_close.specs.Bound as bounds;
 ghost use Rattle.kp_synth_spec.specs.Shows.{Shows, IsInOrder};
 ghost use Rattle.kp_synth_spec.specs.Anew.{BeginsAnew};
+ghost use Rattle.kp_synth.specs.Carrying.{Carries};
 
 use crate::bound::enough_nodes;
 use crate::making::make;
@@ -28,15 +29,18 @@ use std::alloc::Global;
 /// A netlist that shows the pipelined machine of the design from its start state on, and restarts after each reset
 /// with the present contents of its files. The only error is out of memory.
 ///
+/// Its registers hold the state of the pipeline, each as the key of its number says (`carries`).
+///
 /// It has a reset, a stall bit for each stage and a port for each sample. No two of its nodes are equal, and there
 /// are at most `node_bound` of them, so its size grows with that of the expressions, and with the entries of the
 /// tables times the stages.
-#[tactic(auto, using(crate::proofs::Showing::shows, crate::proofs::Showing::begins_anew, crate::proofs::Showing::in_order))]
+#[tactic(auto, using(crate::proofs::Showing::shows, crate::proofs::Showing::begins_anew, crate::proofs::Showing::carries, crate::proofs::Showing::in_order))]
 pub fn synth(alloc: Global, design: &Design, start: &Start) -> Result<Netlist, NoMemory>
     requires begins { start.now ≡ start_of design.now.job }
     requires suits { IsStartOf design.now.job start.now }
     ensures shows { IfOk result (λ net. Shows net design.now.job) }
     ensures anew { IfOk result (λ net. BeginsAnew net design.now.job) }
+    ensures carries { IfOk result (λ net. Carries net design.now.job) }
     ensures named { IfOk result (λ net. IsNamed net) }
     ensures order { IfOk result (λ net. IsInOrder net design.now.job) }
     ensures distinct { IfOk result (λ net. Distinct net.nodes) }

@@ -31,7 +31,7 @@ use Rattle.kp_synth_tables.proofs.Places.{has_place}
 use Rattle.kp_synth_close.specs.Nexts.{port_word, PortFits}
 use Rattle.kp_synth_close.specs.inner.After.{CellsAfter}
 use Rattle.kp_synth_close.specs.Closed.{next_in, port_in, Closed}
-use Rattle.kp_synth_close.specs.Shows.{shown_word, row_bits, no_state, ShowsOver, HasWords, ShowsAnew}
+use Rattle.kp_synth_close.specs.Shows.{shown_word, row_bits, no_state, ShowsOver, HasWords, ShowsAnew, HoldsFrom}
 use Rattle.kp_pipeline.specs.Trimming.{trimmed}
 use Rattle.kp_pipeline.proofs.Trimming.{row-same, cycle-same}
 use Rattle.kp_synth_close.proofs.Bare.{Bare, or_zero, zero_trimmed, bare_start, bare_next, bare_trimmed, absent_trimmed, unset_trimmed}
@@ -221,6 +221,15 @@ module _ (job : Job) (net : Net) (start : Start) (outs : List Outcome) (p : Held
       let e = not_reset i s (All-head (λ (x : Input). x.reset ≡ false) i ins q) in
       rw e (seen_along ins (after i s) (cycle (machine_of job) st (inputs_of job i)) (All-tail (λ (x : Input). x.reset ≡ false) i ins q) (carries_next i s st h) T t a (omega arith) l m)
 
+  holds_along : (ins : List Input) (s : State) (st : PipelineState) → NeverReset ins → Carries job net s st → (T : ℕ) (j : Input) → T ≤ length ins
+      → Holds job (cells_of j (get_or (states_from net s ins) T no_state)) (trimmed (is_alive job) (pipeline_after (machine_of job) st (map (inputs_of job) ins) T)) (inputs_of job j)
+  holds_along [] s st q h zero j x = h.holds j
+  holds_along [] s st q h (suc T) j x = absurd (omega arith)
+  holds_along (i ∷ ins) s st q h zero j x = h.holds j
+  holds_along (i ∷ ins) s st q h (suc T) j x =
+      let e = not_reset i s (All-head (λ (x : Input). x.reset ≡ false) i ins q) in
+      rw e (holds_along ins (after i s) (cycle (machine_of job) st (inputs_of job i)) (All-tail (λ (x : Input). x.reset ≡ false) i ins q) (carries_next i s st h) T j (omega arith))
+
   -- THE START: the registers have their start values, and the files any words. So it is at the start, and after a reset.
   abbrev begun : List (List ℕ) → State
   begun files = record { regs = start_regs net; files = files }
@@ -348,6 +357,12 @@ module _ (job : Job) (net : Net) (start : Start) (outs : List Outcome) (p : Held
         visible = seen_along ins (start_of net) (pipeline_start (state_of job (job_start job)) (start_hints job)) q h;
       }
 
+  pub holds_over : start ≡ job_start job → (ins : List Input) → NeverReset ins → HoldsFrom net job (start_of net) (state_of job (job_start job)) ins
+  holds_over e ins q =
+      let h : Carries job net (start_of net) (pipeline_start (state_of job (job_start job)) (start_hints job)) =
+      subst (λ (x : Start). Carries job net (start_of net) (pipeline_start (state_of job x) (start_hints job))) e start_carries in
+      record { keys = all.starts.regs; holds = holds_along ins (start_of net) (pipeline_start (state_of job (job_start job)) (start_hints job)) q h }
+
   -- AFTER A RESET: the words of the files are unchanged, and the registers may have had any values.
   abbrev left : Start → State → ℕ → ℕ → ℕ
   left x s t a = cond (is_register (target_at job t)) (state_of job x t a) (shown_word job s t a)
@@ -379,6 +394,13 @@ module _ (job : Job) (net : Net) (start : Start) (outs : List Outcome) (p : Held
         rows = rows_along ins (state_after net i s) (pipeline_start (left (job_start job) s) (start_hints job)) q own;
         visible = seen_along ins (state_after net i s) (pipeline_start (left (job_start job) s) (start_hints job)) q own;
       }
+
+  pub holds_anew : start ≡ job_start job → (s : State) (i : Input) (ins : List Input) → HasWords net job s → i.reset ≡ true → NeverReset ins
+      → HoldsFrom net job (state_after net i s) (left (job_start job) s) ins
+  holds_anew e s i ins h r q =
+      let own : Carries job net (state_after net i s) (pipeline_start (left (job_start job) s) (start_hints job)) =
+      subst (λ (x : Start). Carries job net (state_after net i s) (pipeline_start (left x s) (start_hints job))) e (carries_anew i s r h) in
+      record { keys = all.starts.regs; holds = holds_along ins (state_after net i s) (pipeline_start (left (job_start job) s) (start_hints job)) q own }
 
   -- and each state that it reaches contains all words of the files
   words_of : (s : State) (st : PipelineState) → Carries job net s st → HasWords net job s

@@ -3,18 +3,20 @@ use Rattle.std.specs.Prelude.{◌≡◌, ℕ, zero, suc, ◌-◌, ◌<◌, ◌�
 use Rattle.std.specs.List.{filter}
 use Rattle.kp_base.specs.declared.row.Row.{Row as NetRow}
 use Rattle.kp_ast.specs.declared.tree.Job.{Job}
-use Rattle.kp_pipeline.specs.Rows.{Row, Trace, bits, pipe}
+use Rattle.kp_pipeline.specs.Pipeline.{pipeline_start}
+use Rattle.kp_pipeline.specs.Rows.{Row, Trace, bits, pipe, state_after as pipeline_after}
+use Rattle.kp_pipeline.specs.Trimming.{trimmed}
 use Rattle.kp_stage.specs.Start.{start_of}
 use Rattle.kp_machine.specs.Slots.{Slot, targets_of, is_register}
 use Rattle.kp_machine.specs.Machine.{machine_of, state_of, start_hints, pipe_of, registers_before, files_before}
 use Rattle.kp_net.specs.declared.netlist.NetReg.{NetReg}
 use Rattle.kp_net.specs.declared.netlist.NetFile.{NetFile}
 use Rattle.kp_net.specs.declared.netlist.Port.{Port}
-use Rattle.kp_net.specs.Netlist.{Net, Input, State, state_after, states_from, rows_from, run, last_of}
+use Rattle.kp_net.specs.Netlist.{Net, Input, State, cells_of, start_of as net_start, state_after, states_from, rows_from, run, last_of}
 use Rattle.kp_net.specs.Widths.{wide}
-use Rattle.kp_synth_tables.specs.Keys.{target_at}
+use Rattle.kp_synth_tables.specs.Keys.{target_at, keys_of, is_alive}
 use Rattle.kp_machine.specs.Slots.{samples_of}
-use Rattle.kp_synth_registers.specs.Holding.{word_bit, inputs_of}
+use Rattle.kp_synth_registers.specs.Holding.{Holds, word_bit, inputs_of}
 
 -- A name and a width, and for a file the width of its addresses.
 abbrev pub named_with : List ℕ → Slot → Slot
@@ -91,6 +93,14 @@ pub record ShowsAnew (net : Net) (job : Job) (s : State) (i : Input) (ins : List
   pub visible : (T t a : ℕ) → T ≤ length ins → t < length (targets_of job.decls) → a < 2 ^ (target_at job t).address
       → shown_word job (get_or (states_from net (state_after net i s) ins) T no_state) t a ≡ (pipe_anew job s ins).visible T t a
 
+-- ITS REGISTERS HOLD THE PIPELINE over these inputs, from a state of the netlist on: in the state after any number of cycles, whatever comes in then,
+-- they hold the state of the pipeline, which starts with these values of the targets, after as many cycles. A pipe is 0 past its last use.
+pub record HoldsFrom (net : Net) (job : Job) (s : State) (v : ℕ → ℕ → ℕ) (ins : List Input) : Type 0 where
+  pub keys : length net.parts.regs ≡ length (keys_of job)
+  pub holds : (T : ℕ) (i : Input) → T ≤ length ins
+      → Holds job (cells_of i (get_or (states_from net s ins) T no_state))
+      (trimmed (is_alive job) (pipeline_after (machine_of job) (pipeline_start v (start_hints job)) (map (inputs_of job) ins) T)) (inputs_of job i)
+
 -- For every list of inputs that never reset it; and in any state with complete files, for every such list after a
 -- reset. Each state that it reaches contains all words of the files.
 pub record Shows (net : Net) (job : Job) : Type 0 where
@@ -103,3 +113,6 @@ pub record Shows (net : Net) (job : Job) : Type 0 where
   pub runs : (ins : List Input) → All (λ (i : Input). i.reset ≡ false) ins → ShowsOver net job ins
   pub words : (ins : List Input) → HasWords net job (last_of net ins)
   pub anew : (s : State) (i : Input) (ins : List Input) → HasWords net job s → i.reset ≡ true → All (λ (j : Input). j.reset ≡ false) ins → ShowsAnew net job s i ins
+  pub holds : (ins : List Input) → All (λ (i : Input). i.reset ≡ false) ins → HoldsFrom net job (net_start net) (state_of job (start_of job)) ins
+  pub holds_anew : (s : State) (i : Input) (ins : List Input) → HasWords net job s → i.reset ≡ true → All (λ (j : Input). j.reset ≡ false) ins
+      → HoldsFrom net job (state_after net i s) (left_by_reset job (shown_word job s)) ins

@@ -28,7 +28,7 @@ use Rattle.kp_synth_tables.proofs.Limits.{few, keys_few}
 use Rattle.kp_synth_registers.specs.declared.outcome.Outcome.{Outcome}
 use Rattle.kp_synth_close.specs.declared.control.RowNodes.{RowNodes}
 use Rattle.kp_synth_close.specs.Shows.{named_with, reg_slot, file_slot, port_slot, registers_of, files_of, other_names, NamedBy, Shows}
-use Rattle.kp_synth_close.proofs.Whole.{shows_over, words_always, shows_anew}
+use Rattle.kp_synth_close.proofs.Whole.{shows_over, words_always, shows_anew, holds_over, holds_anew}
 use Rattle.kp_synth_parts.specs.inner.Built.{no_word, reg_count, visible_regs, other_regs, net_parts, made_net, Spelled}
 use Rattle.kp_synth_parts.proofs.Making.{zero_plus, visible_named, wide, others_counted, others_named, ports_named, files_named}
 use Rattle.kp_synth_parts.proofs.Spelled.{regs_all, files_all, ports_all}
@@ -188,6 +188,8 @@ module _ (job : Job) (p : Held) (outs : List Outcome) (start : Start) (nexts : L
     runs = λ ins q. shows_over job (made_net job p start nexts ports row) start outs p (closed job p outs start nexts ports row s) s.begins ins q;
     words = λ ins. words_always job (made_net job p start nexts ports row) start outs p (closed job p outs start nexts ports row s) ins;
     anew = λ st i ins h r q. shows_anew job (made_net job p start nexts ports row) start outs p (closed job p outs start nexts ports row s) s.begins st i ins h r q;
+    holds = λ ins q. holds_over job (made_net job p start nexts ports row) start outs p (closed job p outs start nexts ports row s) s.begins ins q;
+    holds_anew = λ st i ins h r q. holds_anew job (made_net job p start nexts ports row) start outs p (closed job p outs start nexts ports row s) s.begins st i ins h r q;
   }
 
   -- and a text can have its names
