@@ -1,11 +1,12 @@
 -- The operation of a node computes the node's value.
 use Rattle.std.proofs.Common.{◌≡◌, ◌∙◌, ℕ, ◌+◌, ◌-◌, ◌*◌, ◌/◌, ◌%◌, ◌^◌, ◌<◌, ◌≤◌, ◌==◌, Bool, true, false, cond, List, [], ◌∷◌, length, get_or, refl, ap, sym, subst, arith, bit_and, bit_or}
-use Rattle.std.specs.Prelude.{All}
+use Rattle.std.specs.Prelude.{All, nat_lt}
+use Rattle.std.proofs.lemmas.Bool.{ltb-true}
 use Rattle.std.proofs.Math.Nat.{mod-eq_of_lt, mul-add, add-mul-mod_self_left}
 use Rattle.std.proofs.lemmas.Nat.{and_mask, pow-add, pow_pos}
 use Rattle.kp_bits.specs.declared.operator.BinOp.{BinOp}
 use Rattle.kp_bits.specs.Word.{Word}
-use Rattle.kp_bits.proofs.Powers.{low_of, concat_value, pow_le, sub_above}
+use Rattle.kp_bits.proofs.Powers.{low_of, concat_value, concat_fits, pow_le, sub_above}
 use Rattle.kp_net.specs.declared.node.NodeId.{NodeId}
 use Rattle.kp_net.specs.declared.node.Kind.{Kind}
 use Rattle.kp_net.specs.declared.node.Kind.TheVariants.{Const, Ext, Sample, Reg, Word as FileWord, Not, Binary, Mux, Concat, Slice}
@@ -61,6 +62,22 @@ join_number : (a b i j : ℕ) → 1 ≤ i → a < 2 ^ i → b < 2 ^ j → i + j 
 join_number a b i j h f g l =
     ap (λ k. bit_or (a * 2 ^ k % 2 ^ 64) b) (low_six j (omega arith)) ∙ concat_value a b i j f g l
 
+cond_same : (t : Bool) (x y z : ℕ) → (t ≡ true → x ≡ y) → cond t x z ≡ cond t y z
+cond_same true x y z h = h refl
+cond_same false x y z h = refl
+
+shift_below : (b w : ℕ) → w ≤ 64 → nat_lt b w ≡ true → bit_and b 63 ≡ b
+shift_below b w h t = let l = ltb-true b w t in low_six b (omega arith)
+
+shl_number : (w a b : ℕ) → w ≤ 64 → cond (nat_lt b w) (bit_and (a * 2 ^ bit_and b 63 % 2 ^ 64) (2 ^ w - 1)) 0 ≡ cond (nat_lt b w) (a * 2 ^ b % 2 ^ w) 0
+shl_number w a b h =
+    cond_same (nat_lt b w) (bit_and (a * 2 ^ bit_and b 63 % 2 ^ 64) (2 ^ w - 1)) (a * 2 ^ b % 2 ^ w) 0
+    (λ t. add_number w (a * 2 ^ bit_and b 63) h ∙ ap (λ k. a * 2 ^ k % 2 ^ w) (shift_below b w h t))
+
+shr_number : (w a b : ℕ) → w ≤ 64 → cond (nat_lt b w) (a / 2 ^ bit_and b 63) 0 ≡ cond (nat_lt b w) (a / 2 ^ b) 0
+shr_number w a b h =
+    cond_same (nat_lt b w) (a / 2 ^ bit_and b 63) (a / 2 ^ b) 0 (λ t. ap (λ k. a / 2 ^ k) (shift_below b w h t))
+
 slice_number : (x k lo : ℕ) → lo < 64 → bit_and (x / 2 ^ bit_and lo 63) (2 ^ k - 1) ≡ x / 2 ^ lo % 2 ^ k
 slice_number x k lo h = ones (x / 2 ^ bit_and lo 63) k ∙ ap (λ j. x / 2 ^ j % 2 ^ k) (low_six lo h)
 
@@ -72,7 +89,7 @@ cond_value false x y = refl
 module _ (c : Cells) (ns : List Node) (v : List ℕ) (m k plain : ℕ) (small : k ≤ 64)
     (have : (j : ℕ) → j < m → Has (wide ns j) (seen ns v j)) where
   binary : (op : BinOp) (a b : NodeId) → KindOk ns m k (Binary op a b) → plain ≡ (word_of_kind c (seen ns v) k (Binary op a b)).value
-      → number_of c v plain (binary_op op a b (2 ^ k - 1)) ≡ plain
+      → number_of c v plain (binary_op op a b k (2 ^ k - 1)) ≡ plain
   binary BinOp.And a b ok e = sym e
   binary BinOp.Or a b ok e = sym e
   binary BinOp.Xor a b ok e = sym e
@@ -80,11 +97,11 @@ module _ (c : Cells) (ns : List Node) (v : List ℕ) (m k plain : ℕ) (small : 
   binary BinOp.Sub a b ok e =
       let f : get_or v b.0 0 < 2 ^ k = subst (λ w. get_or v b.0 0 < 2 ^ w) ok.2.1 (have b.0 ok.1).word.fits in
       sub_number k (get_or v a.0 0) (get_or v b.0 0) small f ∙ ap (λ w. (get_or v a.0 0 + 2 ^ w - get_or v b.0 0) % 2 ^ w) (sym ok.2.0) ∙ sym e
-  binary BinOp.Mul a b ok e = refl
+  binary BinOp.Mul a b ok e = add_number k _ small ∙ ap (λ w. get_or v a.0 0 * get_or v b.0 0 % 2 ^ w) (sym ok.2.0) ∙ sym e
   binary BinOp.Eq a b ok e = sym e
   binary BinOp.Lt a b ok e = sym e
-  binary BinOp.Shl a b ok e = refl
-  binary BinOp.Shr a b ok e = refl
+  binary BinOp.Shl a b ok e = shl_number k (get_or v a.0 0) (get_or v b.0 0) small ∙ ap (λ w. cond (nat_lt (get_or v b.0 0) w) (get_or v a.0 0 * 2 ^ get_or v b.0 0 % 2 ^ w) 0) (sym ok.2) ∙ sym e
+  binary BinOp.Shr a b ok e = shr_number k (get_or v a.0 0) (get_or v b.0 0) small ∙ ap (λ w. cond (nat_lt (get_or v b.0 0) w) (get_or v a.0 0 / 2 ^ get_or v b.0 0) 0) (sym ok.2) ∙ sym e
 
   joined : (parts : List NodeId) → KindOk ns m k (Concat parts) → plain ≡ (word_of_kind c (seen ns v) k (Concat parts)).value
       → number_of c v plain (joined_op ns parts) ≡ plain
@@ -95,10 +112,20 @@ module _ (c : Cells) (ns : List Node) (v : List ℕ) (m k plain : ℕ) (small : 
       let y = (have b.0 (ok.2 1 b (omega arith))).word in
       let l : wide ns a.0 + wide ns b.0 ≤ 64 = omega (arith, ok.3, small) in
       join_number (get_or v a.0 0) (get_or v b.0 0) (wide ns a.0) (wide ns b.0) x.positive x.fits y.fits l ∙ sym e
-  joined (a ∷ (b ∷ (d ∷ rest))) ok e = refl
+  joined (a ∷ (b ∷ (d ∷ []))) ok e =
+      let i = wide ns a.0 in
+      let j = wide ns b.0 in
+      let x = (have a.0 (ok.2 0 a (omega arith))).word in
+      let y = (have b.0 (ok.2 1 b (omega arith))).word in
+      let z = (have d.0 (ok.2 2 d (omega arith))).word in
+      let upper : ℕ = get_or v a.0 0 * 2 ^ j + get_or v b.0 0 in
+      let l : i + j + wide ns d.0 ≤ 64 = omega (arith, ok.3, small) in
+      ap (λ n. bit_or (n * 2 ^ bit_and (wide ns d.0) 63 % 2 ^ 64) (get_or v d.0 0)) (join_number (get_or v a.0 0) (get_or v b.0 0) i j x.positive x.fits y.fits (omega arith))
+      ∙ join_number upper (get_or v d.0 0) (i + j) (wide ns d.0) (omega (arith, x.positive)) (concat_fits (get_or v a.0 0) (get_or v b.0 0) i j x.fits y.fits) z.fits l ∙ sym e
+  joined (a ∷ (b ∷ (d ∷ (f ∷ rest)))) ok e = refl
 
   kinds : (o : Kind) → KindOk ns m k o → (is_cell o ≡ false → plain ≡ (word_of_kind c (seen ns v) k o).value) → plain ≡ (word_of_kind c (seen ns v) k o).value % 2 ^ k
-      → number_of c v plain (kind_op ns (2 ^ k - 1) o) ≡ plain
+      → number_of c v plain (kind_op ns k (2 ^ k - 1) o) ≡ plain
   kinds (Const n) ok e f = sym (e refl)
   kinds Ext ok e f = ones c.ext k ∙ sym f
   kinds (Sample s) ok e f = refl
@@ -125,26 +152,27 @@ coded c ns v i right h fits =
     (λ e. sym (whole c ns v i n.kind right h fits refl e)) refl
 
 -- all that it reads is there
-module _ (ns : List Node) (p : Parts) (i m mask : ℕ) (e : i ≤ m) where
+module _ (ns : List Node) (p : Parts) (i m width mask : ℕ) (e : i ≤ m) where
   ready_parts : (parts : List NodeId) → All (λ a. a.0 < i) parts → IsReady m (length p.regs) (joined_op ns parts)
   ready_parts [] h = tt
   ready_parts (a ∷ []) h = tt
   ready_parts (a ∷ (b ∷ [])) h = (omega (arith, h 0 a (omega arith)), omega (arith, h 1 b (omega arith)))
-  ready_parts (a ∷ (b ∷ (d ∷ rest))) h = tt
+  ready_parts (a ∷ (b ∷ (d ∷ []))) h = (omega (arith, h 0 a (omega arith)), omega (arith, h 1 b (omega arith)), omega (arith, h 2 d (omega arith)))
+  ready_parts (a ∷ (b ∷ (d ∷ (f ∷ rest)))) h = tt
 
-  ready_binary : (op : BinOp) (a b : NodeId) → a.0 < m → b.0 < m → IsReady m (length p.regs) (binary_op op a b mask)
+  ready_binary : (op : BinOp) (a b : NodeId) → a.0 < m → b.0 < m → IsReady m (length p.regs) (binary_op op a b width mask)
   ready_binary BinOp.And a b h k = (h, k)
   ready_binary BinOp.Or a b h k = (h, k)
   ready_binary BinOp.Xor a b h k = (h, k)
   ready_binary BinOp.Add a b h k = (h, k)
   ready_binary BinOp.Sub a b h k = (h, k)
-  ready_binary BinOp.Mul a b h k = tt
+  ready_binary BinOp.Mul a b h k = (h, k)
   ready_binary BinOp.Eq a b h k = (h, k)
   ready_binary BinOp.Lt a b h k = (h, k)
-  ready_binary BinOp.Shl a b h k = tt
-  ready_binary BinOp.Shr a b h k = tt
+  ready_binary BinOp.Shl a b h k = (h, k)
+  ready_binary BinOp.Shr a b h k = (h, k)
 
-  pub ready_kind : (k : ℕ) (o : Kind) → KindOk ns i k o → CellOk ns p k o → IsReady m (length p.regs) (kind_op ns mask o)
+  pub ready_kind : (k : ℕ) (o : Kind) → KindOk ns i k o → CellOk ns p k o → IsReady m (length p.regs) (kind_op ns width mask o)
   ready_kind k (Const n) h l = tt
   ready_kind k Ext h l = tt
   ready_kind k (Sample s) h l = tt
@@ -162,4 +190,4 @@ ready net m i h l =
     let n : Node = get_or net.nodes i no_node in
     let P : ℕ → Type 0 = λ r. IsReady (length m.nodes) r (op_for net.nodes n) in
     subst P (sym h.regs)
-    (ready_kind net.nodes net.parts i (length m.nodes) (2 ^ n.width - 1) (omega (arith, l, h.nodes)) n.width n.kind (h.right.right i l).kind (h.right.parts.cells i l))
+    (ready_kind net.nodes net.parts i (length m.nodes) n.width (2 ^ n.width - 1) (omega (arith, l, h.nodes)) n.width n.kind (h.right.right i l).kind (h.right.parts.cells i l))

@@ -33,13 +33,21 @@ struct Add;
 
 struct Sub;
 
+struct Mul;
+
 struct Eq;
 
 struct Lt;
 
+struct Shl;
+
+struct Shr;
+
 struct Mux;
 
 struct Join;
+
+struct Join3;
 
 struct Slice;
 
@@ -99,6 +107,13 @@ impl Batch for Sub {
     }
 }
 
+impl Batch for Mul {
+    fn value(op: &Op, memory: &Memory) -> Option<u64> {
+        let Op::Mul(a, b, mask) = op else { return None };
+        Some(memory.node(a.0).wrapping_mul(memory.node(b.0)) & *mask)
+    }
+}
+
 impl Batch for Eq {
     fn value(op: &Op, memory: &Memory) -> Option<u64> {
         let Op::Eq(a, b) = op else { return None };
@@ -110,6 +125,34 @@ impl Batch for Lt {
     fn value(op: &Op, memory: &Memory) -> Option<u64> {
         let Op::Lt(a, b) = op else { return None };
         Some(u64::from(memory.node(a.0) < memory.node(b.0)))
+    }
+}
+
+impl Batch for Shl {
+    fn value(op: &Op, memory: &Memory) -> Option<u64> {
+        let Op::Shl(a, b, width, mask) = op else {
+            return None
+        };
+        let distance = memory.node(b.0);
+        Some(if distance < u64::from(*width) {
+            (memory.node(a.0) << (distance & 63)) & *mask
+        } else {
+            0
+        })
+    }
+}
+
+impl Batch for Shr {
+    fn value(op: &Op, memory: &Memory) -> Option<u64> {
+        let Op::Shr(a, b, width) = op else {
+            return None
+        };
+        let distance = memory.node(b.0);
+        Some(if distance < u64::from(*width) {
+            memory.node(a.0) >> (distance & 63)
+        } else {
+            0
+        })
     }
 }
 
@@ -130,6 +173,16 @@ impl Batch for Join {
             return None
         };
         Some((memory.node(high.0) << (*width & 63)) | memory.node(low.0))
+    }
+}
+
+impl Batch for Join3 {
+    fn value(op: &Op, memory: &Memory) -> Option<u64> {
+        let Op::Join3(high, middle, low, width, last) = op else {
+            return None
+        };
+        let upper = (memory.node(high.0) << (*width & 63)) | memory.node(middle.0);
+        Some((upper << (*last & 63)) | memory.node(low.0))
     }
 }
 
@@ -165,10 +218,14 @@ pub fn take_batch(net: &Netlist, steps: &[Step], memory: &mut Memory, from: usiz
         Op::Xor(_, _) => take_while::<Xor>(net, steps, memory, from),
         Op::Add(_, _, _) => take_while::<Add>(net, steps, memory, from),
         Op::Sub(_, _, _) => take_while::<Sub>(net, steps, memory, from),
+        Op::Mul(_, _, _) => take_while::<Mul>(net, steps, memory, from),
         Op::Eq(_, _) => take_while::<Eq>(net, steps, memory, from),
         Op::Lt(_, _) => take_while::<Lt>(net, steps, memory, from),
+        Op::Shl(_, _, _, _) => take_while::<Shl>(net, steps, memory, from),
+        Op::Shr(_, _, _) => take_while::<Shr>(net, steps, memory, from),
         Op::Mux(_, _, _) => take_while::<Mux>(net, steps, memory, from),
         Op::Join(_, _, _) => take_while::<Join>(net, steps, memory, from),
+        Op::Join3(_, _, _, _, _) => take_while::<Join3>(net, steps, memory, from),
         Op::Slice(_, _, _) => take_while::<Slice>(net, steps, memory, from),
         Op::Ext(_) | Op::Plain => from,
     }

@@ -25,12 +25,20 @@ pub enum Op {
     Add(NodeId, NodeId, u64),
     /// A difference, under the mask.
     Sub(NodeId, NodeId, u64),
+    /// A product, under the mask.
+    Mul(NodeId, NodeId, u64),
     Eq(NodeId, NodeId),
     Lt(NodeId, NodeId),
+    /// A node shifted left by the value of another, with the width and the mask.
+    Shl(NodeId, NodeId, u8, u64),
+    /// A node shifted right by the value of another, with the width.
+    Shr(NodeId, NodeId, u8),
     /// `test ? yes : no`, in this order.
     Mux(NodeId, NodeId, NodeId),
     /// High bits and low bits, and the width of the low ones.
     Join(NodeId, NodeId, u64),
+    /// High, middle and low bits, and the widths of the last two.
+    Join3(NodeId, NodeId, NodeId, u8, u8),
     /// The lowest bit, and the mask.
     Slice(NodeId, u64, u64),
     /// A rare operation: it is computed from the node itself.
@@ -56,7 +64,7 @@ pub fn op_of(nodes: &[Node], node: &Node) -> Op
         Kind::Ext => Op::Ext(mask),
         Kind::Reg(reg) => Op::Reg(*reg, mask),
         Kind::Not(a) => Op::Not(*a, mask),
-        Kind::Binary(op, a, b) => binary(*op, *a, *b, mask),
+        Kind::Binary(op, a, b) => binary(*op, *a, *b, node.width, mask),
         Kind::Mux(test, yes, no) => Op::Mux(*test, *yes, *no),
         Kind::Concat(parts) => joined(nodes, parts.nodes()),
         Kind::Slice(a, _, lo) => Op::Slice(*a, u64::from(*lo), mask),
@@ -64,8 +72,8 @@ pub fn op_of(nodes: &[Node], node: &Node) -> Op
     }
 }
 
-fn binary(op: BinOp, a: NodeId, b: NodeId, mask: u64) -> Op
-    ensures { result ≡ binary_op op a b mask }
+fn binary(op: BinOp, a: NodeId, b: NodeId, width: u8, mask: u64) -> Op
+    ensures { result ≡ binary_op op a b width mask }
 {
     match op {
         BinOp::And => Op::And(a, b),
@@ -73,35 +81,36 @@ fn binary(op: BinOp, a: NodeId, b: NodeId, mask: u64) -> Op
         BinOp::Xor => Op::Xor(a, b),
         BinOp::Add => Op::Add(a, b, mask),
         BinOp::Sub => Op::Sub(a, b, mask),
+        BinOp::Mul => Op::Mul(a, b, mask),
         BinOp::Eq => Op::Eq(a, b),
         BinOp::Lt => Op::Lt(a, b),
-        BinOp::Mul | BinOp::Shl | BinOp::Shr => Op::Plain,
+        BinOp::Shl => Op::Shl(a, b, width, mask),
+        BinOp::Shr => Op::Shr(a, b, width),
     }
 }
 
-// Two parts concatenated.
+// Two or three parts concatenated.
 fn joined(nodes: &[Node], parts: &[NodeId]) -> Op
     requires { length parts.now ≤ 12 }
     ensures { result ≡ joined_op nodes.now parts.now }
 {
-    if parts.len() != 2 {
-        return Op::Plain;
+    match parts.len() {
+        2 => Op::Join(parts[0], parts[1], u64::from(width_at(nodes, parts[1]))),
+        3 => {
+            let widths = (width_at(nodes, parts[1]), width_at(nodes, parts[2]));
+            Op::Join3(parts[0], parts[1], parts[2], widths.0, widths.1)
+        }
+        _ => Op::Plain,
     }
-    let low = parts[1];
-    Op::Join(parts[0], low, width_at(nodes, low))
 }
 
 // The width of a node, and 0 if it doesn't exist.
 #[tactic(auto, unfolding(kp_net::specs::Widths::wide), using(std::proofs::lemmas::List::get_or_default, std::proofs::lemmas::List::get_or_past))]
-fn width_at(nodes: &[Node], a: NodeId) -> u64
+fn width_at(nodes: &[Node], a: NodeId) -> u8
     ensures { result ≡ wide nodes.now a.0 }
 {
     let a = a.0 as usize;
-    if a < nodes.len() {
-        u64::from(nodes[a].width)
-    } else {
-        0
-    }
+    if a < nodes.len() { nodes[a].width } else { 0 }
 }
 
 // The greatest number of this width.

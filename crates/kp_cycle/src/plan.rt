@@ -133,7 +133,7 @@ fn listed(alloc: Global, nodes: &[Node], marks: &[bool]) -> Result<Vec<u32>, NoM
 }
 
 // The number of passes over the nodes, each for one operation. Nodes that are left then stay in their old order.
-const PASSES: usize = 240;
+const PASSES: usize = 256;
 
 // The same nodes, with those of one operation adjacent as far as their operands allow.
 fn in_batches(alloc: Global, nodes: &[Node], order: &[u32]) -> Result<Vec<u32>, NoMemory>
@@ -148,7 +148,7 @@ fn in_batches(alloc: Global, nodes: &[Node], order: &[u32]) -> Result<Vec<u32>, 
             take_ready(
                 nodes,
                 order,
-                (pass % 15) as u8,
+                (pass % 16) as u8,
                 done.as_mut_slice(),
                 &mut batched,
             )?;
@@ -264,7 +264,7 @@ fn are_done(nodes: &[NodeId], done: &[bool]) -> bool
     true
 }
 
-// The operation of a node of this kind, as a number below 15.
+// The operation of a node of this kind, as a number below 16.
 fn class_of(kind: &Kind) -> u8 {
     match kind {
         Kind::Const(_) => 0,
@@ -280,7 +280,11 @@ fn class_of(kind: &Kind) -> u8 {
         Kind::Binary(BinOp::Eq, _, _) => 10,
         Kind::Binary(BinOp::Lt, _, _) => 11,
         Kind::Mux(_, _, _) => 12,
-        Kind::Concat(parts) => { if parts.nodes().len() == 2 { 13 } else { 14 } }
+        Kind::Concat(parts) => match parts.nodes().len() {
+            2 => 13,
+            3 => 15,
+            _ => 14,
+        },
         Kind::Binary(_, _, _) | Kind::Sample(_) | Kind::Word(_, _) => 14,
     }
 }

@@ -8,37 +8,40 @@ use Rattle.kp_net.specs.declared.node.Node.{Node}
 use Rattle.kp_net.specs.Nodes.{Cells}
 use Rattle.kp_net.specs.Widths.{wide}
 use Rattle.kp_cycle.specs.declared.codes.Op.{Op}
-use Rattle.kp_cycle.specs.declared.codes.Op.TheVariants.{Number, Ext, Reg, Not, And, Or, Xor, Add, Sub, Eq, Lt, Mux, Join, Slice, Plain}
+use Rattle.kp_cycle.specs.declared.codes.Op.TheVariants.{Number, Ext, Reg, Not, And, Or, Xor, Add, Sub, Mul, Eq, Lt, Shl, Shr, Mux, Join, Join3, Slice, Plain}
 
 -- the operation of a node
-abbrev pub binary_op : BinOp → NodeId → NodeId → ℕ → Op
-binary_op BinOp.And a b mask = And a b
-binary_op BinOp.Or a b mask = Or a b
-binary_op BinOp.Xor a b mask = Xor a b
-binary_op BinOp.Add a b mask = Add a b mask
-binary_op BinOp.Sub a b mask = Sub a b mask
-binary_op BinOp.Eq a b mask = Eq a b
-binary_op BinOp.Lt a b mask = Lt a b
-binary_op _ a b mask = Plain
+abbrev pub binary_op : BinOp → NodeId → NodeId → ℕ → ℕ → Op
+binary_op BinOp.And a b width mask = And a b
+binary_op BinOp.Or a b width mask = Or a b
+binary_op BinOp.Xor a b width mask = Xor a b
+binary_op BinOp.Add a b width mask = Add a b mask
+binary_op BinOp.Sub a b width mask = Sub a b mask
+binary_op BinOp.Mul a b width mask = Mul a b mask
+binary_op BinOp.Eq a b width mask = Eq a b
+binary_op BinOp.Lt a b width mask = Lt a b
+binary_op BinOp.Shl a b width mask = Shl a b width mask
+binary_op BinOp.Shr a b width mask = Shr a b width
 
 abbrev pub joined_op : List Node → List NodeId → Op
 joined_op ns (a ∷ (b ∷ [])) = Join a b (wide ns b.0)
+joined_op ns (a ∷ (b ∷ (d ∷ []))) = Join3 a b d (wide ns b.0) (wide ns d.0)
 joined_op ns _ = Plain
 
-abbrev pub kind_op : List Node → ℕ → Kind → Op
-kind_op ns mask (kind.Const n) = Number n
-kind_op ns mask kind.Ext = Ext mask
-kind_op ns mask (kind.Sample s) = Plain
-kind_op ns mask (kind.Reg r) = Reg r mask
-kind_op ns mask (kind.Word f a) = Plain
-kind_op ns mask (kind.Not a) = Not a mask
-kind_op ns mask (kind.Binary op a b) = binary_op op a b mask
-kind_op ns mask (kind.Mux test a b) = Mux test a b
-kind_op ns mask (kind.Concat parts) = joined_op ns parts
-kind_op ns mask (kind.Slice a hi lo) = Slice a lo mask
+abbrev pub kind_op : List Node → ℕ → ℕ → Kind → Op
+kind_op ns width mask (kind.Const n) = Number n
+kind_op ns width mask kind.Ext = Ext mask
+kind_op ns width mask (kind.Sample s) = Plain
+kind_op ns width mask (kind.Reg r) = Reg r mask
+kind_op ns width mask (kind.Word f a) = Plain
+kind_op ns width mask (kind.Not a) = Not a mask
+kind_op ns width mask (kind.Binary op a b) = binary_op op a b width mask
+kind_op ns width mask (kind.Mux test a b) = Mux test a b
+kind_op ns width mask (kind.Concat parts) = joined_op ns parts
+kind_op ns width mask (kind.Slice a hi lo) = Slice a lo mask
 
 abbrev pub op_for : List Node → Node → Op
-op_for ns n = kind_op ns (2 ^ n.width - 1) n.kind
+op_for ns n = kind_op ns n.width (2 ^ n.width - 1) n.kind
 
 -- the result of an operation, given these numbers of the nodes before it; a plain one yields this number
 abbrev pub number_of : Cells → List ℕ → ℕ → Op → ℕ
@@ -51,10 +54,14 @@ number_of c v plain (Or a b) = bit_or (get_or v a.0 0) (get_or v b.0 0)
 number_of c v plain (Xor a b) = bit_xor (get_or v a.0 0) (get_or v b.0 0)
 number_of c v plain (Add a b mask) = bit_and ((get_or v a.0 0 + get_or v b.0 0) % 2 ^ 64) mask
 number_of c v plain (Sub a b mask) = bit_and ((get_or v a.0 0 + (2 ^ 64 - get_or v b.0 0)) % 2 ^ 64) mask
+number_of c v plain (Mul a b mask) = bit_and (get_or v a.0 0 * get_or v b.0 0 % 2 ^ 64) mask
 number_of c v plain (Eq a b) = if get_or v a.0 0 == get_or v b.0 0 then 1 else 0
 number_of c v plain (Lt a b) = if nat_lt (get_or v a.0 0) (get_or v b.0 0) then 1 else 0
+number_of c v plain (Shl a b width mask) = if nat_lt (get_or v b.0 0) width then bit_and (get_or v a.0 0 * 2 ^ bit_and (get_or v b.0 0) 63 % 2 ^ 64) mask else 0
+number_of c v plain (Shr a b width) = if nat_lt (get_or v b.0 0) width then get_or v a.0 0 / 2 ^ bit_and (get_or v b.0 0) 63 else 0
 number_of c v plain (Mux test a b) = if get_or v test.0 0 == 1 then get_or v a.0 0 else get_or v b.0 0
 number_of c v plain (Join a b width) = bit_or (get_or v a.0 0 * 2 ^ bit_and width 63 % 2 ^ 64) (get_or v b.0 0)
+number_of c v plain (Join3 a b d i j) = bit_or (bit_or (get_or v a.0 0 * 2 ^ bit_and i 63 % 2 ^ 64) (get_or v b.0 0) * 2 ^ bit_and j 63 % 2 ^ 64) (get_or v d.0 0)
 number_of c v plain (Slice a lo mask) = bit_and (get_or v a.0 0 / 2 ^ bit_and lo 63) mask
 number_of c v plain Plain = plain
 
@@ -69,9 +76,13 @@ IsReady m regs (Or a b) = (a.0 < m) × (b.0 < m)
 IsReady m regs (Xor a b) = (a.0 < m) × (b.0 < m)
 IsReady m regs (Add a b mask) = (a.0 < m) × (b.0 < m)
 IsReady m regs (Sub a b mask) = (a.0 < m) × (b.0 < m)
+IsReady m regs (Mul a b mask) = (a.0 < m) × (b.0 < m)
 IsReady m regs (Eq a b) = (a.0 < m) × (b.0 < m)
 IsReady m regs (Lt a b) = (a.0 < m) × (b.0 < m)
+IsReady m regs (Shl a b width mask) = (a.0 < m) × (b.0 < m)
+IsReady m regs (Shr a b width) = (a.0 < m) × (b.0 < m)
 IsReady m regs (Mux test a b) = (test.0 < m) × (a.0 < m) × (b.0 < m)
 IsReady m regs (Join a b width) = (a.0 < m) × (b.0 < m)
+IsReady m regs (Join3 a b d i j) = (a.0 < m) × (b.0 < m) × (d.0 < m)
 IsReady m regs (Slice a lo mask) = a.0 < m
 IsReady m regs Plain = Unit {0}
