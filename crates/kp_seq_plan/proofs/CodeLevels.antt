@@ -59,3 +59,15 @@ module _ (A : Type 0) (step : Code-F A → A) where
   pub code-Field : (place lo mask : ℕ) → folded (leaf.Field place lo mask) ≡ step (level.Field place lo mask)
   unfolding roll-Code denote.Hole.Carrier.roll
   code-Field place lo mask = fold_at (level.Field place lo mask)
+
+  pub code-Flip : (place mask : ℕ) → folded (leaf.Flip place mask) ≡ step (level.Flip place mask)
+  unfolding roll-Code denote.Hole.Carrier.roll
+  code-Flip place mask = fold_at (level.Flip place mask)
+
+  pub code-Among : (place set : ℕ) → folded (leaf.Among place set) ≡ step (level.Among place set)
+  unfolding roll-Code denote.Hole.Carrier.roll
+  code-Among place set = fold_at (level.Among place set)
+
+  pub code-Case : (place word : ℕ) (a b : Code) → folded (codes.Case place word a b) ≡ step (level.Case place word (folded a) (folded b))
+  unfolding roll-Code denote.Hole.Carrier.roll
+  code-Case place word a b = fold_at (level.Case place word a b)

@@ -1,5 +1,6 @@
 -- The value of a code.
 use Rattle.std.specs.Prelude.{◌+◌, ◌-◌, ◌*◌, ◌/◌, ◌%◌, ◌^◌, ◌==◌, ℕ, nat_lt, if◌then◌else◌, bit_and, bit_or, bit_xor, length, List, map, sum, slice_index}
+use Rattle.std.specs.Int.{bit_at}
 use Rattle.kp_bits.specs.declared.operator.BinOp.{BinOp}
 use Rattle.kp_seq_plan.specs.declared.code.Code.{Code}
 use Rattle.kp_seq_plan.specs.declared.code.Code.TheOpen.{Code-F}
@@ -19,6 +20,10 @@ applied BinOp.Lt a b width mask = if nat_lt a b then 1 else 0
 applied BinOp.Shl a b width mask = if nat_lt b width then bit_and (a * 2 ^ bit_and b 63 % 2 ^ 64) mask else 0
 applied BinOp.Shr a b width mask = if nat_lt b width then a / 2 ^ bit_and b 63 else 0
 
+-- whether a number is in a set of numbers below 64: the bit of the set at this number
+abbrev pub member : ℕ → ℕ → ℕ
+member set n = if nat_lt n 64 then bit_at set n else 0
+
 -- one level: the value of a code, given those of its parts, for these values by index
 abbrev pub value_level : Code-F (List ℕ → ℕ) → List ℕ → ℕ
 value_level (level.Word w) s = w
@@ -32,6 +37,9 @@ value_level (level.Sext a top more) s = if nat_lt top (a s) then (a s + more) % 
 value_level (level.Call args body) s = body (map (λ p. p s) args)
 value_level (level.Same place word) s = if slice_index s place == word then 1 else 0
 value_level (level.Field place lo mask) s = bit_and (slice_index s place / 2 ^ bit_and lo 63) mask
+value_level (level.Flip place mask) s = (mask + (2 ^ 64 - slice_index s place)) % 2 ^ 64
+value_level (level.Among place set) s = member set (slice_index s place)
+value_level (level.Case place word a b) s = if slice_index s place == word then a s else b s
 
 abbrev pub value_of : Code → List ℕ → ℕ
 value_of = fold-Code (List ℕ → ℕ) value_level
@@ -49,6 +57,9 @@ space_level (level.Sext a top more) = a
 space_level (level.Call args body) = body + (length args + sum args)
 space_level (level.Same place word) = 0
 space_level (level.Field place lo mask) = 0
+space_level (level.Flip place mask) = 0
+space_level (level.Among place set) = 0
+space_level (level.Case place word a b) = a + b
 
 abbrev pub space_of : Code → ℕ
 space_of = fold-Code ℕ space_level

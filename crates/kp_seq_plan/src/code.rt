@@ -28,6 +28,12 @@ pub enum Code {
     Same(usize, u64),
     /// Bits of the value under an index: the lowest one, and the mask of the result. `Slice` in one step.
     Field(usize, u64, u64),
+    /// The complement of the value under an index, given the mask. `Not` in one step.
+    Flip(usize, u64),
+    /// Whether the value under an index is in a set of numbers below 64, given as bits. `|` of comparisons in one step.
+    Among(usize, u64),
+    /// `test ? yes : no`, where the test is whether the value under an index is a word. `Mux` in one step.
+    Case(usize, u64, Boxed<Code>, Boxed<Code>),
 }
 
 /// A code, and how many bits its values have.

@@ -1,6 +1,6 @@
 //! The value of a code. Computing it allocates nothing: the arguments of calls are stored in scratch space of the caller.
 ghost use Rattle.std.specs.Prelude.{◌≡◌, ◌≤◌, ◌+◌, length, map, All, sum_by, slice_index};
-ghost use Rattle.kp_seq_plan.specs.Codes.{value_of, space_of, applied};
+ghost use Rattle.kp_seq_plan.specs.Codes.{value_of, space_of, applied, member};
 
 use crate::code::Code;
 use kp_bits::BinOp;
@@ -18,6 +18,8 @@ pub fn value(code: &Code, names: &[u64], room: &mut [u64]) -> u64
         Code::Name(place) => held(names, *place),
         Code::Same(place, word) => u64::from(held(names, *place) == *word),
         Code::Field(place, lo, mask) => (held(names, *place) >> (*lo & 63)) & *mask,
+        Code::Flip(place, mask) => mask.wrapping_sub(held(names, *place)),
+        Code::Among(place, set) => member(*set, held(names, *place)),
         _ => of_parts(code, names, room),
     }
 }
@@ -46,6 +48,13 @@ fn of_parts(code: &Code, names: &[u64], room: &mut [u64]) -> u64
                 value(b.get(), names, room)
             }
         }
+        Code::Case(place, word, a, b) => {
+            if held(names, *place) == *word {
+                value(a.get(), names, room)
+            } else {
+                value(b.get(), names, room)
+            }
+        }
         Code::Join(high, low, width) => {
             let high = value(high.get(), names, room);
             let low = value(low.get(), names, room);
@@ -59,6 +68,8 @@ fn of_parts(code: &Code, names: &[u64], room: &mut [u64]) -> u64
         Code::Call(args, body) => called(args.as_slice(), body.get(), names, room),
         Code::Same(place, word) => u64::from(held(names, *place) == *word),
         Code::Field(place, lo, mask) => (held(names, *place) >> (*lo & 63)) & *mask,
+        Code::Flip(place, mask) => mask.wrapping_sub(held(names, *place)),
+        Code::Among(place, set) => member(*set, held(names, *place)),
     }
 }
 
@@ -93,6 +104,15 @@ fn held(names: &[u64], place: usize) -> u64
     ensures { result ≡ slice_index names.now place }
 {
     if place < names.len() { names[place] } else { 0 }
+}
+
+// Whether a number is in a set of numbers below 64: the bit of the set at this number.
+#[inline]
+#[tactic(auto, using(std::proofs::lemmas::Nat::Bits::shr_and_one))]
+fn member(set: u64, number: u64) -> u64
+    ensures { result ≡ member set number }
+{
+    if number < 64 { (set >> number) & 1 } else { 0 }
 }
 
 // A binary operator on values of this width, with this mask.

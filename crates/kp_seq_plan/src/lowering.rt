@@ -1,11 +1,14 @@
 //! Lowering of plans to codes, once for all instructions: the width of each part is computed, so that values are plain numbers.
 ghost use Rattle.std.specs.Prelude.{◌≡◌, ◌+◌, ◌||◌, ◌==◌, ℕ, Some, IfOk, IfSome, sum_by};
 ghost use Rattle.kp_bits.specs.Operators.{is_shift};
+ghost use Rattle.kp_bits.specs.declared.operator.BinOp.{BinOp};
 ghost use Rattle.std.specs.Option.{option_map, option_and_then};
 ghost use Rattle.kp_bits.specs.Word.{not_of};
 ghost use Rattle.kp_bits.specs.Checked.{checked_slice, checked_zext, checked_sext};
 ghost use Rattle.kp_seq_plan.specs.Names.{at_place};
 ghost use Rattle.kp_seq_plan.specs.Plans.{meaning, space};
+ghost use Rattle.kp_seq_plan.specs.declared.code.Code.{Code};
+ghost use Rattle.kp_seq_plan.specs.declared.code.Code.TheVariants as ends;
 ghost use Rattle.kp_seq_plan.specs.declared.code.Code.TheViews as codes;
 ghost use Rattle.kp_seq_plan.specs.Lowering.{Gives};
 ghost use Rattle.kp_seq_plan.specs.inner.Parts.{GivesOne, GivesTwo, GivesMux, GivesAll, GivesCall, GivesWord, Replaces, IsMask, binary_width, binary_found, join_found, joined_found, call_found, call_space};
@@ -187,17 +190,27 @@ fn name_of(widths: &[Option<u64>], place: Option<usize>) -> Option<Typed>
     })
 }
 
-#[tactic(auto, using(crate::proofs::Typing::not_none, crate::proofs::Typing::not_gives))]
+#[tactic(auto, using(crate::proofs::Typing::not_none))]
 fn complement(alloc: Global, a: Option<Typed>) -> Result<Option<Typed>, NoMemory>
     ensures { IfOk result (λ c. GivesOne (option_map not_of) a c) }
 {
     let Some(a) = a else {
         return Ok(None);
     };
-    Ok(Some(Typed {
-        code: Code::Not(Boxed::new(alloc, a.code)?, mask(a.width)),
-        width: a.width,
-    }))
+    let width = a.width;
+    let code = flipped(alloc, a.code, mask(width))?;
+    Ok(Some(Typed { code, width }))
+}
+
+// The code of a complement.
+#[tactic(auto, using(crate::proofs::Replacing::flip_is, crate::proofs::Replacing::itself))]
+fn flipped(alloc: Global, a: Code, mask: u64) -> Result<Code, NoMemory>
+    ensures { IfOk result (λ c. Replaces c (codes.Not a mask)) }
+{
+    match a {
+        Code::Name(place) => Ok(Code::Flip(place, mask)),
+        _ => Ok(Code::Not(Boxed::new(alloc, a)?, mask)),
+    }
 }
 
 #[tactic(auto, using(crate::proofs::Typing::binary_unless, crate::proofs::Typing::two_with))]
@@ -242,8 +255,92 @@ fn applied(
     if let Some(code) = same(op, &a, &b) {
         return Ok(code);
     }
+    if let Some(code) = union(op, &a, &b) {
+        return Ok(code);
+    }
+    grouped(alloc, op, a, b, width, mask)
+}
+
+// The code of a binary operator that no single step computes. In a chain of `|` the last two operands become one set where they can.
+fn grouped(
+    alloc: Global,
+    op: BinOp,
+    a: Code,
+    b: Code,
+    width: u64,
+    mask: u64,
+) -> Result<Code, NoMemory>
+    ensures { IfOk result (λ c. Replaces c (codes.Binary op a b width mask)) }
+{
+    match a {
+        Code::Binary(inner, first, last, width_of_a, mask_of_a) => {
+            let chain = Chain {
+                op: inner,
+                first,
+                last,
+                width: width_of_a,
+                mask: mask_of_a,
+            };
+            regrouped(alloc, op, chain, b, width, mask)
+        }
+        other => pair(alloc, op, other, b, width, mask),
+    }
+}
+
+// A binary operator on two codes, with the width and the mask of the first one.
+#[derive(Drop)]
+struct Chain {
+    op: BinOp,
+    first: Boxed<Code>,
+    last: Boxed<Code>,
+    width: u64,
+    mask: u64,
+}
+
+// The code of a binary operator whose left operand is one too.
+fn regrouped(
+    alloc: Global,
+    op: BinOp,
+    a: Chain,
+    b: Code,
+    width: u64,
+    mask: u64,
+) -> Result<Code, NoMemory>
+    ensures { IfOk result (λ c. Replaces c (codes.Binary op (codes.Binary a.op a.first a.last a.width a.mask) b width mask)) }
+{
+    let set = last_set(op, a.op, a.last.get(), &b);
+    match set {
+        Some(set) => {
+            let last = Boxed::new(alloc, set)?;
+            Ok(Code::Binary(BinOp::Or, a.first, last, width, mask))
+        }
+        None => {
+            let left = Code::Binary(a.op, a.first, a.last, a.width, a.mask);
+            pair(alloc, op, left, b, width, mask)
+        }
+    }
+}
+
+// The code of a binary operator on two codes.
+#[tactic(auto, using(crate::proofs::Replacing::itself))]
+fn pair(alloc: Global, op: BinOp, a: Code, b: Code, width: u64, mask: u64) -> Result<Code, NoMemory>
+    ensures { IfOk result (λ c. Replaces c (codes.Binary op a b width mask)) }
+{
     let (left, right) = boxed(alloc, a, b)?;
     Ok(Code::Binary(op, left, right, width, mask))
+}
+
+// The union of the last two operands in a chain of `|`, if both are sets that the same name is tested for.
+fn last_set(op: BinOp, inner: BinOp, last: &Code, b: &Code) -> Option<Code>
+    ensures { (x : Code) (w m width mask : ℕ) → IfSome result (λ c. Replaces (codes.Binary BinOp.Or x c width mask) (codes.Binary op (codes.Binary inner x last.now w m) b.now width mask)) }
+{
+    match (op, inner) {
+        (BinOp::Or, BinOp::Or) => {
+            let set = union(BinOp::Or, last, b)?;
+            Some(set)
+        }
+        _ => None,
+    }
 }
 
 // The code of a comparison of a name with a word.
@@ -253,6 +350,30 @@ fn same(op: BinOp, a: &Code, b: &Code) -> Option<Code>
 {
     match (op, a, b) {
         (BinOp::Eq, Code::Name(place), Code::Word(word)) => Some(Code::Same(*place, *word)),
+        _ => None,
+    }
+}
+
+// The code of an `|` of two sets that the same name is tested for.
+fn union(op: BinOp, a: &Code, b: &Code) -> Option<Code>
+    ensures { (width mask : ℕ) → IfSome result (λ c. Replaces c (codes.Binary op a.now b.now width mask)) }
+{
+    let (place, left) = set_of(a)?;
+    let (other, right) = set_of(b)?;
+    match op {
+        BinOp::Or if place == other => Some(Code::Among(place, left | right)),
+        _ => None,
+    }
+}
+
+// The name that a code tests for a set of numbers below 64, and the set.
+#[tactic(auto, using(crate::proofs::Replacing::itself))]
+fn set_of(code: &Code) -> Option<(usize, u64)>
+    ensures { IfSome result (λ s. Replaces (ends.Among s.0 s.1) code.now) }
+{
+    match code {
+        Code::Same(place, word) if *word < 64 => Some((*place, 1 << *word)),
+        Code::Among(place, set) => Some((*place, *set)),
         _ => None,
     }
 }
@@ -298,7 +419,7 @@ fn choice(
     }
 }
 
-#[tactic(auto, using(crate::proofs::Typing::mux_wrong, crate::proofs::Typing::mux_gives))]
+#[tactic(auto, using(crate::proofs::Typing::mux_wrong))]
 fn chosen(alloc: Global, test: Typed, a: Typed, b: Typed) -> Result<Option<Typed>, NoMemory>
     ensures { IfOk result (λ c. GivesMux (Some test) (Some a) (Some b) c) }
 {
@@ -313,12 +434,16 @@ fn chosen(alloc: Global, test: Typed, a: Typed, b: Typed) -> Result<Option<Typed
 }
 
 // The code of a choice.
+#[tactic(auto, using(crate::proofs::Replacing::case_of_same, crate::proofs::Replacing::case_of_name, crate::proofs::Replacing::itself))]
 fn mux(alloc: Global, test: Code, a: Code, b: Code) -> Result<Code, NoMemory>
-    ensures { IfOk result (λ c. c ≡ codes.Mux test a b) }
+    ensures { IfOk result (λ c. Replaces c (codes.Mux test a b)) }
 {
     let (yes, no) = boxed(alloc, a, b)?;
-    let test = Boxed::new(alloc, test)?;
-    Ok(Code::Mux(test, yes, no))
+    match test {
+        Code::Same(place, word) => Ok(Code::Case(place, word, yes, no)),
+        Code::Name(place) => Ok(Code::Case(place, 1, yes, no)),
+        _ => Ok(Code::Mux(Boxed::new(alloc, test)?, yes, no)),
+    }
 }
 
 #[tactic(auto, using(crate::proofs::Typing::join_unless, crate::proofs::Typing::two_with))]
