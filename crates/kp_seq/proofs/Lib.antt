@@ -4,6 +4,7 @@ pub mod Sampling
 pub mod Lengths
 pub mod Start
 pub mod Runs
+pub mod Carrying
 pub mod Stage
 pub mod Trees
 pub mod Changes

@@ -1,11 +1,12 @@
 //! The execution of one instruction.
-ghost use Rattle.std.specs.Prelude.{◌≡◌, ◌≤◌, ◌+◌, None, length, get_or, All, IfOk, if◌then◌else◌, slice_index, unwrap_or};
+ghost use Rattle.std.specs.Prelude.{◌≡◌, ◌≤◌, ◌+◌, None, length, get_or, All, IfOk, IfSome, if◌then◌else◌, slice_index, unwrap_or};
 ghost use Rattle.kp_seq_plan.specs.Codes.{value_of, space_of};
 ghost use Rattle.kp_seq.specs.inner.Ready.{HasRoom};
 ghost use Rattle.kp_seq.specs.inner.Steps.{is_enabled, address_by, written_by, written_from};
-ghost use Rattle.kp_seq.specs.inner.Resolved.{outputs, holds_at, address_at, asked_at, value_asked, note_step, note_steps, note_stages, noted, with_place, put_pipe, set_first, with_target, begun_at, after_step, after_steps, with_row_at, with_carried, entered_at, after_stages, ran, option_space, step_space, steps_space};
+ghost use Rattle.kp_seq.specs.inner.Resolved.{outputs, holds_at, address_at, asked_at, value_asked, note_step, note_steps, note_stages, noted, with_place, put_pipe, set_first, with_target, begun_at, after_step, after_steps, with_row_at, with_carried, with_run, entered_at, after_stages, ran, option_space, step_space, steps_space};
 
 use crate::notes::Notes;
+use crate::places::Places;
 use crate::program::{Program, Reading, Step};
 use crate::tables::{Port, Tables};
 use crate::words::Words;
@@ -120,11 +121,49 @@ impl Instruction {
         ensures { self.new ≡ entered_at program.now row.now self.old }
     {
         self.sample(program.samples.as_slice(), row);
-        self.bring_pipes(program.pipes.as_slice());
+        self.bring_pipes(&program.pipes);
     }
 
     // Binds the names of the pipes to the values of the pipes.
-    fn bring_pipes(&mut self, places: &[Option<usize>])
+    fn bring_pipes(&mut self, places: &Places)
+        ensures { self.new ≡ with_carried self.old 0 places.now }
+    {
+        if let Some(first) = places.first() {
+            if let Some(end) = self.end_of(first, places.len()) {
+                self.bring_run(first, end);
+                return;
+            }
+        }
+        self.bring_each(places.as_slice());
+    }
+
+    // The end of this many names from an index on, if there are as many, and as many pipes.
+    fn end_of(&self, first: usize, count: usize) -> Option<usize>
+        ensures end { IfSome result (λ end. end ≡ first + count) }
+        ensures pipes { IfSome result (λ end. count ≡ length self.now.pipes) }
+        ensures names { IfSome result (λ end. end ≤ length self.now.names) }
+    {
+        if count != self.pipes.len() {
+            return None;
+        }
+        let end = first.checked_add(count)?;
+        if end > self.names.len() {
+            return None;
+        }
+        Some(end)
+    }
+
+    // The same where the indices of the names are in sequence, in this range.
+    fn bring_run(&mut self, first: usize, end: usize)
+        requires end { end ≡ first + length self.old.pipes }
+        requires names { end ≤ length self.old.names }
+        ensures { self.new ≡ with_run self.old first }
+    {
+        self.names.as_mut_slice()[first..end].copy_from_slice(self.pipes.as_slice());
+    }
+
+    // The same, one by one.
+    fn bring_each(&mut self, places: &[Option<usize>])
         ensures { self.new ≡ with_carried self.old 0 places.now }
     {
         for i in 0..places.len() {

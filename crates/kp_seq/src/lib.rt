@@ -5,6 +5,7 @@ mod instruction;
 pub mod laws;
 mod machine;
 mod notes;
+mod places;
 mod program;
 mod tables;
 mod words;

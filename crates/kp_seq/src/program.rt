@@ -2,6 +2,7 @@
 ghost use Rattle.std.specs.Prelude.{◌≡◌, ◌&&◌, nat_le, IfOk};
 ghost use Rattle.kp_seq.specs.inner.Resolved.{IsCode, IsOptionCode, IsReading, Does, DoesRead, DoesStage, AllDo, Resolves, places_of, entry_widths, with_widths, with_width, unnamed};
 
+use crate::places::Places;
 use crate::tables::{Slot, Tables, number_of, target_of, width_of};
 use kp_ast::{Block, Expr, ReadStmt, Stmt, StmtKind};
 use kp_base::{List, NoMemory};
@@ -38,7 +39,7 @@ pub(crate) enum Step {
 #[derive(Drop)]
 pub(crate) struct Program {
     pub samples: Vec<Option<usize>>,
-    pub pipes: Vec<Option<usize>>,
+    pub pipes: Places,
     pub stages: Vec<List<Step>>,
 }
 
@@ -51,7 +52,7 @@ impl Model for Program {
 
     ghost coded = { Prim.hlevel (codes, e.the_row.coded) };
 
-    ghost view = { λ p. record { samples = p.samples.items; pipes = p.pipes.items; stages = p.stages.items } };
+    ghost view = { λ p. record { samples = p.samples.items; pipes = p.pipes; stages = p.stages.items } };
 }
 
 impl Program {
@@ -66,7 +67,7 @@ impl Program {
         let stages = stages_of(alloc, tables, widths.as_slice(), blocks)?;
         Ok(Program {
             samples,
-            pipes,
+            pipes: Places::new(pipes),
             stages,
         })
     }

@@ -1,9 +1,13 @@
 -- Names that have values, by their indices in a list of names.
-use Rattle.std.specs.Prelude.{ℕ, List, Option, Some, None, set}
+use Rattle.std.specs.Prelude.{◌≡◌, ◌<◌, ◌+◌, ℕ, List, Option, Some, None, length, get_or, set}
 use Rattle.std.specs.List.{position}
 use Rattle.kp_bits.specs.Word.{Word}
 use Rattle.kp_ast.specs.Expressions.{is_same_name}
 use Rattle.kp_seq_plan.specs.Names.{at_place}
+
+-- indices in sequence, from this one on
+abbrev pub IsRun : ℕ → List (Option ℕ) → Type 0
+IsRun f ps = (i : ℕ) → i < length ps → get_or ps i None ≡ Some (f + i)
 
 -- the value of a name, if it has one
 abbrev pub held : List (List ℕ) → List (Option Word) → List ℕ → Option Word

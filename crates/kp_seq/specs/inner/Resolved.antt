@@ -1,5 +1,5 @@
 -- A resolved job, and the effect of its instructions, on plain numbers.
-use Rattle.std.specs.Prelude.{◌≡◌, ◌≤◌, ◌+◌, ℕ, List, [], ◌∷◌, Option, Some, None, Bool, true, ◌==◌, if◌then◌else◌, length, map, sum_by, replicate, set, get_or, slice_index}
+use Rattle.std.specs.Prelude.{◌≡◌, ◌≤◌, ◌+◌, ℕ, List, [], ◌∷◌, ◌++◌, take, drop, Option, Some, None, Bool, true, ◌==◌, if◌then◌else◌, length, map, sum_by, replicate, set, get_or, slice_index}
 use Rattle.std.specs.List.{position}
 use Rattle.kp_bits.specs.Word.{Word}
 use Rattle.kp_ast.specs.Expressions.{is_same_name}
@@ -98,6 +98,10 @@ with_row_at r (p ∷ ps) (w ∷ row) = with_row_at (with_place r p w.value) ps r
 abbrev pub with_carried : Raw → ℕ → List (Option ℕ) → Raw
 with_carried r i [] = r
 with_carried r i (p ∷ ps) = with_carried (with_place r p (slice_index r.pipes i)) (i + 1) ps
+
+-- the values from this index on are set to those of the pipes
+abbrev pub with_run : Raw → ℕ → Raw
+with_run r f = record r { names = take f r.names ++ (r.pipes ++ drop (f + length r.pipes) r.names) }
 
 -- the start of a stage: the names of the samples and of the pipes are bound to their values
 abbrev pub entered_at : Outline → List Word → Raw → Raw
