@@ -97,8 +97,19 @@ fn difference_among(
     ensures { ComparesTarget machine.now.job (value_shown machine.now.job sim.now.net sim.now.state t) (state machine.now t) cycle t result }
 {
     let first = difference_where(sim, machine, t, place, noted, cycle);
-    let second = difference_where(sim, machine, t, place, wrote, cycle);
+    let other = another(noted, wrote);
+    let second = difference_where(sim, machine, t, place, other, cycle);
     lower(first, second)
+}
+
+// The second of two addresses, if it isn't the first.
+fn another(first: Option<u32>, second: Option<u32>) -> Option<u32>
+    ensures { (a : ℕ) → first ≢ Some a → result ≢ Some a → second ≢ Some a }
+{
+    match (first, second) {
+        (Some(a), Some(b)) if a == b => None,
+        _ => second,
+    }
 }
 
 // The difference at an address, if there is an address and the target has it.
