@@ -1,0 +1,5 @@
+mod Tests
+mod Transfer
+mod Sentences
+mod Machine
+mod Exact

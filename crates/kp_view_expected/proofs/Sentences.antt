@@ -1,0 +1,130 @@
+-- Each list of symbols has a sentence.
+use Rattle.std.specs.Prelude.{⊤}
+use Rattle.std.proofs.Common.{ℕ, zero, suc, ◌≡◌, ◌==◌, List, [], ◌∷◌, ◌++◌, map, Bool, true, false, ◌&&◌, Option, Some, None, refl, sym, ap, subst}
+use Rattle.std.specs.Prelude.{find}
+use Rattle.std.proofs.lemmas.Bool.{eqb-true}
+use Rattle.std.proofs.lemmas.List.{append_assoc}
+use Rattle.kp_grammar.specs.Grammar.{Terminal, Nonterminal, Action, alternatives, stay, expand, read, build}
+use Rattle.kp_grammar.specs.Tables.{choose, pick}
+use Rattle.kp_grammar.proofs.Check.{picks_rule}
+use Rattle.kp_parse_grammar.specs.Tokens.{LITERAL}
+use Rattle.kp_parse_grammar.specs.inner.Follow.{tables}
+use Rattle.kp_view_expected.specs.declared.token_class.TokenClass.{TokenClass}
+use Rattle.kp_view_expected.specs.declared.part.Part.{Part}
+use Rattle.kp_view_expected.specs.declared.part.Part.TheVariants as parts
+use Rattle.kp_view_expected.specs.declared.part.Symbol.{Symbol as CodeSymbol}
+use Rattle.kp_view_expected.specs.declared.part.Symbol.TheVariants as symbols
+use Rattle.kp_view_expected.specs.GoesOn.{all_classes}
+use Rattle.kp_view_expected.specs.inner.Plain.{Plain, number, name, plain, plain_symbol, Steps}
+use Rattle.kp_view_expected.proofs.Tests.{and_true}
+
+abbrev and_then : {A : Type 0} → Option A → (A → Bool) → Bool
+and_then None go = false
+and_then (Some x) go = go x
+
+abbrev numbered : ℕ → Option TokenClass
+numbered n = find (λ c. number c == n) all_classes
+
+-- The symbols come to an end within k steps, where each name becomes its alternative before a literal, or its last one.
+abbrev ends : ℕ → List Plain → Bool
+ends zero s = false
+ends (suc k) [] = true
+ends (suc k) (Terminal c way ∷ s) = and_then (numbered c) (λ x. (number x == c) && ends k s)
+ends (suc k) (Action a ∷ s) = false
+ends (suc k) (Nonterminal n ∷ s) = and_then (pick plain.rules tables n LITERAL) (λ b. ends k (b ++ s))
+
+abbrev pub HasSentence : List Plain → Type 0
+HasSentence s = (cs : List TokenClass) × Steps s cs [] []
+
+at_token : (c : ℕ) (way : ⊤) (s : List Plain) (go : Bool) (o : Option TokenClass) → and_then o (λ x. (number x == c) && go) ≡ true → (go ≡ true → HasSentence s) → HasSentence (Terminal c way ∷ s)
+at_token c way s go None h rest = cc h
+at_token c way s go (Some x) h rest =
+    let p = and_true (number x == c) go h in let r = rest p.1 in (x ∷ r.0, read (eqb-true (number x) c p.0) r.1)
+
+at_name : (n : ℕ) (s : List Plain) (go : List Plain → Bool) (o : Option (List Plain)) → pick plain.rules tables n LITERAL ≡ o → and_then o go ≡ true
+    → ((b : List Plain) → go b ≡ true → HasSentence (b ++ s)) → HasSentence (Nonterminal n ∷ s)
+at_name n s go None e h rest = cc h
+at_name n s go (Some b) e h rest = let r = rest b h in (r.0, expand b (picks_rule plain.rules tables n LITERAL b e) r.1)
+
+sentence : (k : ℕ) (s : List Plain) → ends k s ≡ true → HasSentence s
+sentence zero s h = cc h
+sentence (suc k) [] h = ([], stay)
+sentence (suc k) (Terminal c way ∷ s) h = at_token c way s (ends k s) (numbered c) h (λ q. sentence k s q)
+sentence (suc k) (Action a ∷ s) h = cc h
+sentence (suc k) (Nonterminal n ∷ s) h = at_name n s (λ b. ends k (b ++ s)) (pick plain.rules tables n LITERAL) refl h (λ b q. sentence k (b ++ s) q)
+
+-- Two derivations beside each other are one.
+beside : {a b s : List Plain} {cs ds left : List TokenClass} → Steps a cs [] [] → Steps b ds s left → Steps (a ++ b) (cs ++ ds) s left
+beside stay e = e
+beside {b = b} {s = s'} {cs = cs} {ds = ds} {left = left} (expand {n = n} {s = s} body m d) e =
+    expand body m (subst (λ (z : List Plain). Steps z (cs ++ ds) s' left) (append_assoc body s b) (beside d e))
+beside (read q d) e = read q (beside d e)
+beside (build {a = a} d) e = elim a [ ]
+
+ends_all : (p : Part) → ends 60 (Nonterminal (name p) ∷ []) ≡ true
+ends_all parts.Job = refl
+ends_all parts.Declarations = refl
+ends_all parts.Declaration = refl
+ends_all parts.Index = refl
+ends_all parts.Enable = refl
+ends_all parts.Parameter = refl
+ends_all parts.MoreParameters = refl
+ends_all parts.Stage = refl
+ends_all parts.MoreStages = refl
+ends_all parts.Statements = refl
+ends_all parts.Statement = refl
+ends_all parts.Binding = refl
+ends_all parts.Address = refl
+ends_all parts.Hedge = refl
+ends_all parts.When = refl
+ends_all parts.Whole = refl
+ends_all parts.Image = refl
+ends_all parts.Entries = refl
+ends_all parts.Entry = refl
+ends_all parts.Numbered = refl
+ends_all parts.MoreLiterals = refl
+ends_all parts.Stalls = refl
+ends_all parts.Spans = refl
+ends_all parts.Span = refl
+ends_all parts.Step = refl
+ends_all parts.Inputs = refl
+ends_all parts.Samples = refl
+ends_all parts.Sample = refl
+ends_all parts.Extended = refl
+ends_all parts.Expression = refl
+ends_all parts.Choice = refl
+ends_all parts.Unary = refl
+ends_all parts.Postfix = refl
+ends_all parts.Slices = refl
+ends_all parts.Low = refl
+ends_all parts.Primary = refl
+ends_all parts.Call = refl
+ends_all parts.Expressions = refl
+ends_all parts.MoreExpressions = refl
+ends_all parts.Or = refl
+ends_all parts.Xor = refl
+ends_all parts.And = refl
+ends_all parts.Compare = refl
+ends_all parts.Shift = refl
+ends_all parts.Sum = refl
+ends_all parts.Product = refl
+ends_all parts.MoreOr = refl
+ends_all parts.MoreXor = refl
+ends_all parts.MoreAnd = refl
+ends_all parts.MoreCompare = refl
+ends_all parts.MoreShift = refl
+ends_all parts.MoreSum = refl
+ends_all parts.MoreProduct = refl
+
+no_then : {A : Type 0} (o : Option A) (go : A → Bool) → o ≡ None → and_then o go ≡ true → ⊥
+no_then None go e h = cc h
+no_then (Some x) go e h = cc e
+
+-- Each part has an alternative.
+pub some_alternative : (p : Part) → alternatives plain.rules (name p) ≡ [] → ⊥
+some_alternative p e = no_then (pick plain.rules tables (name p) LITERAL) (λ b. ends 59 (b ++ [])) (ap (λ (z : List (List Plain)). choose tables LITERAL z) e) (ends_all p)
+
+pub completes : (symbols : List CodeSymbol) → HasSentence (map plain_symbol symbols)
+completes [] = ([], stay)
+completes (symbols.Token c ∷ s) = let h = completes s in (c ∷ h.0, read refl h.1)
+completes (symbols.Part p ∷ s) = let h = completes s in let k = sentence 60 (Nonterminal (name p) ∷ []) (ends_all p) in (k.0 ++ h.0, beside k.1 h.1)

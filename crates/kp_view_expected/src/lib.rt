@@ -1,0 +1,12 @@
+//! The tokens with which some description goes on after others.
+#![tactic(auto)]
+
+mod goes_on;
+mod part;
+mod rest;
+mod set;
+mod token_class;
+
+pub use goes_on::expected;
+pub use set::Expected;
+pub use token_class::TokenClass;
