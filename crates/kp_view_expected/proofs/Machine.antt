@@ -181,11 +181,11 @@ no_more : (e : Bool) (c : ℕ) (ys zs : List ℕ) → not e ≡ true → among c
 no_more true c ys zs h = cc h
 no_more false c ys zs h = ap (among c) (sym (append-nil ys))
 
-pub begins_part : (xs : List CodeSymbol) (p : Part) (c : ℕ) → slice_get xs 0 ≡ Some (symbols.Part p) → is_solid (map plain_symbol xs) ≡ true → among c (first_of tables (name p)) ≡ among c (firsts tables (map plain_symbol xs))
+pub begins_part : (xs : List CodeSymbol) (p : Part) (c : ℕ) → slice_get xs 0 ≡ Some (symbols.Inner p) → is_solid (map plain_symbol xs) ≡ true → among c (first_of tables (name p)) ≡ among c (firsts tables (map plain_symbol xs))
 begins_part [] p c e h = cc e
 begins_part (x ∷ xs) p c e h =
-    let same : symbols.Part p ≡ x = cc e in
-    let sound : is_solid (map plain_symbol (symbols.Part p ∷ xs)) ≡ true = subst (λ (z : CodeSymbol). is_solid (map plain_symbol (z ∷ xs)) ≡ true) (sym same) h in
+    let same : symbols.Inner p ≡ x = cc e in
+    let sound : is_solid (map plain_symbol (symbols.Inner p ∷ xs)) ≡ true = subst (λ (z : CodeSymbol). is_solid (map plain_symbol (z ∷ xs)) ≡ true) (sym same) h in
     subst (λ (z : CodeSymbol). among c (first_of tables (name p)) ≡ among c (firsts tables (map plain_symbol (z ∷ xs)))) same
     (no_more (empty_of tables (name p)) c (first_of tables (name p)) (firsts tables (map plain_symbol xs)) sound)
 

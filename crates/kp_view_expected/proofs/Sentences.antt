@@ -127,4 +127,4 @@ some_alternative p e = no_then (pick plain.rules tables (name p) LITERAL) (λ b.
 pub completes : (symbols : List CodeSymbol) → HasSentence (map plain_symbol symbols)
 completes [] = ([], stay)
 completes (symbols.Token c ∷ s) = let h = completes s in (c ∷ h.0, read refl h.1)
-completes (symbols.Part p ∷ s) = let h = completes s in let k = sentence 60 (Nonterminal (name p) ∷ []) (ends_all p) in (k.0 ++ h.0, beside k.1 h.1)
+completes (symbols.Inner p ∷ s) = let h = completes s in let k = sentence 60 (Nonterminal (name p) ∷ []) (ends_all p) in (k.0 ++ h.0, beside k.1 h.1)

@@ -1,6 +1,7 @@
 //! The tokens with which some description goes on after others.
 #![tactic(auto)]
 
+mod display;
 mod goes_on;
 mod part;
 mod rest;

@@ -20,7 +20,7 @@ impl Rest {
     pub(crate) fn whole(alloc: Global) -> Result<Rest, NoMemory>
         ensures { IfOk result (λ r. stack r.symbols.items ≡ Nonterminal JOB ∷ []) }
     {
-        let symbols = Vec::from_slice(alloc, &[Symbol::Part(Part::Job)])?;
+        let symbols = Vec::from_slice(alloc, &[Symbol::Inner(Part::Job)])?;
         Ok(Rest { symbols })
     }
 
@@ -31,7 +31,7 @@ impl Rest {
         'parts: while let Some(symbol) = self.symbols.pop() {
             match symbol {
                 Symbol::Token(wanted) => return Ok(wanted.is(class)),
-                Symbol::Part(part) => self.push(part.body(class))?,
+                Symbol::Inner(part) => self.push(part.body(class))?,
             }
         }
         Ok(false)

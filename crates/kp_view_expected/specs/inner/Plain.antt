@@ -84,7 +84,7 @@ Plain = Symbol ⊤ ⊥
 
 abbrev pub plain_symbol : CodeSymbol → Plain
 plain_symbol (symbols.Token c) = Terminal (number c) tt
-plain_symbol (symbols.Part p) = Nonterminal (name p)
+plain_symbol (symbols.Inner p) = Nonterminal (name p)
 
 abbrev pub stripped : {W B : Type 0} → List (Symbol W B) → List Plain
 stripped [] = []

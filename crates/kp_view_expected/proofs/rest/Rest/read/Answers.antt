@@ -14,13 +14,13 @@ returns-in-Token c =
 
 pub parts-smaller : goal.parts-smaller
 parts-smaller c =
-    pushed_smaller (number c.args.class) c.in-Part.part c.parts.self.symbols.items c.push.new.self.symbols.items c.pop.new.self.items c.body.result.now
-    (popped c.parts.self.symbols.items c.pop.new.self.items c.in-Some.symbol (symbols.Part c.in-Part.part) c.in-Some.ensures.items c.in-Part.is) c.body.ensures c.in_ok-push-in-Part.ensures
+    pushed_smaller (number c.args.class) c.in-Inner.part c.parts.self.symbols.items c.push.new.self.symbols.items c.pop.new.self.items c.body.result.now
+    (popped c.parts.self.symbols.items c.pop.new.self.items c.in-Some.symbol (symbols.Inner c.in-Inner.part) c.in-Some.ensures.items c.in-Inner.is) c.body.ensures c.in_ok-push-in-Inner.ensures
 
 pub parts-preserved : goal.parts-preserved
 parts-preserved c =
-    pushed_opens c.in-Part.part c.push.new.self.symbols.items c.pop.new.self.items c.body.result.now c.parts.invariant
-    (popped c.parts.self.symbols.items c.pop.new.self.items c.in-Some.symbol (symbols.Part c.in-Part.part) c.in-Some.ensures.items c.in-Part.is) c.body.ensures c.in_ok-push-in-Part.ensures
+    pushed_opens c.in-Inner.part c.push.new.self.symbols.items c.pop.new.self.items c.body.result.now c.parts.invariant
+    (popped c.parts.self.symbols.items c.pop.new.self.items c.in-Some.symbol (symbols.Inner c.in-Inner.part) c.in-Some.ensures.items c.in-Inner.is) c.body.ensures c.in_ok-push-in-Inner.ensures
 
 pub returns : goal.returns
 returns c = refused c.parts.invariant (none_left c.parts.self.symbols.items (omega (arith, c.parts.self.symbols.ok.0, c.in_default.ensures.cases.0)))
