@@ -1,5 +1,5 @@
 -- What is listed is exactly what goes on.
-use Rattle.std.proofs.Common.{ℕ, zero, suc, ◌≡◌, ◌==◌, ◌<◌, List, [], ◌∷◌, ◌++◌, map, Bool, true, false, cond, Option, Some, None, Result, Ok, Err, IfOk, All, length, set, get_or, ◌≤◌, ◌≢◌, ◌+◌, inl, inr, refl, sym, ap, ◌∙◌, subst, eq-eqb, arith}
+use Rattle.std.proofs.Common.{ℕ, ◌≡◌, ◌==◌, ◌<◌, List, [], ◌∷◌, ◌++◌, map, Bool, true, false, Option, Some, Result, Ok, Err, IfOk, All, length, set, get_or, ◌≤◌, ◌≢◌, ◌+◌, inl, inr, refl, sym, ap, ◌∙◌, subst, eq-eqb, arith}
 use Rattle.std.specs.Prelude.{find, slice_get, ◌↔◌}
 use Rattle.std.specs.List.{position_or_len}
 use Rattle.std.proofs.Math.ListN.{replicate}
@@ -10,7 +10,6 @@ use Rattle.std.proofs.lemmas.List.{get_or-set_same, get_or-set_other, get_or_pas
 use Rattle.std.proofs.lemmas.List.Elements.{All-get_or, All-replicate}
 use Rattle.std.proofs.lemmas.List.{map-append}
 use Rattle.kp_base.specs.declared.place.Place.{Place}
-use Rattle.kp_bits.specs.declared.literal.Literal.{Literal}
 use Rattle.kp_grammar.specs.Grammar.{Nonterminal}
 use Rattle.kp_grammar.proofs.Laws.{is_accepted, no_limit}
 use Rattle.kp_grammar.proofs.Prefix.{after}
@@ -19,14 +18,14 @@ use Rattle.kp_lex.specs.declared.token.Mark.TheVariants as marks
 use Rattle.kp_lex.specs.declared.token.TokenKind.{TokenKind}
 use Rattle.kp_lex.specs.declared.token.TokenKind.TheVariants as kinds
 use Rattle.kp_lex.specs.declared.token.Token.{Token}
-use Rattle.kp_parse_grammar.specs.Tokens.{Lexeme, lexeme_of, lexemes}
-use Rattle.kp_parse_grammar.specs.Language.{State, JOB, at}
+use Rattle.kp_parse_grammar.specs.Tokens.{Lexeme, lexemes}
+use Rattle.kp_parse_grammar.specs.Language.{JOB, at}
 use Rattle.kp_parse_grammar.specs.inner.Follow.{tables}
 use Rattle.kp_view_expected.specs.declared.token_class.TokenClass.{TokenClass}
 use Rattle.kp_view_expected.specs.declared.token_class.TokenClass.TheVariants as classes
 use Rattle.kp_view_expected.specs.declared.set.Expected.{Expected}
 use Rattle.kp_view_expected.specs.GoesOn.{class_of, GoesOn, all_classes, Lists}
-use Rattle.kp_view_expected.specs.inner.Plain.{Plain, number, plain, Steps, Runs, Refuses, Tells, Follows, Fails, IsListing}
+use Rattle.kp_view_expected.specs.inner.Plain.{Plain, number, plain, Steps, Runs, Tells, Follows, Fails, IsListing}
 use Rattle.kp_view_expected.proofs.Tests.{predictive}
 use Rattle.kp_view_expected.proofs.Transfer.{classes_of, to_plain, from_plain}
 

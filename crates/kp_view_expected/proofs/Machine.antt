@@ -6,7 +6,7 @@ use Rattle.std.proofs.lemmas.Option.{get_or_from_slice_get, slice_get-get_or, sl
 use Rattle.std.proofs.lemmas.List.{append-nil, drop_all, drop_more, length-map, map-append, reverse-append, reverse-reverse}
 use Rattle.kp_grammar.specs.Grammar.{Terminal, Nonterminal, Has, here, there, alternatives, stay, expand, read}
 use Rattle.kp_grammar.specs.Tables.{among, empty_of, first_of, firsts, pick}
-use Rattle.kp_grammar.specs.Machine.{accept, goes, take}
+use Rattle.kp_grammar.specs.Machine.{goes, take}
 use Rattle.kp_grammar.proofs.Check.{picks_rule}
 use Rattle.kp_grammar.proofs.Prefix.{after}
 use Rattle.kp_lex.specs.declared.token.Token.{Token}
@@ -16,7 +16,7 @@ use Rattle.kp_view_expected.specs.declared.part.Part.{Part}
 use Rattle.kp_view_expected.specs.declared.part.Symbol.{Symbol as CodeSymbol}
 use Rattle.kp_view_expected.specs.declared.part.Symbol.TheVariants as symbols
 use Rattle.kp_view_expected.specs.GoesOn.{class_of}
-use Rattle.kp_view_expected.specs.inner.Plain.{Plain, is_solid, name, number, plain, plain_symbol, stack, Runs, Opens, Reads, Refuses, Decides, Tells, Follows, Fails}
+use Rattle.kp_view_expected.specs.inner.Plain.{Plain, is_solid, name, number, plain, plain_symbol, stack, Runs, Opens, Refuses, Decides, Tells, Follows, Fails}
 use Rattle.kp_view_expected.proofs.Tests.{choose_or, chosen, lighter, solid, work}
 use Rattle.kp_view_expected.proofs.Sentences.{completes, some_alternative}
 

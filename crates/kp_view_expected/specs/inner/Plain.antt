@@ -1,5 +1,5 @@
 -- The grammar over classes of tokens, without what it builds.
-use Rattle.std.specs.Prelude.{ℕ, ◌≡◌, List, [], ◌∷◌, ◌++◌, map, reverse, slice_get, Bool, true, false, not, Option, Some, None, ⊤}
+use Rattle.std.specs.Prelude.{ℕ, ◌≡◌, List, [], ◌∷◌, ◌++◌, map, reverse, slice_get, Bool, true, false, not, Some, ⊤}
 use Rattle.kp_grammar.specs.Grammar.{Symbol, Terminal, Nonterminal, Action, Rules, Grammar, Derives}
 use Rattle.kp_grammar.specs.Tables.{empty_of}
 use Rattle.kp_grammar.specs.Machine.{Accepts, Leads}

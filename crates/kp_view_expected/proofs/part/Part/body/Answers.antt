@@ -1,6 +1,6 @@
 use Rattle.std.proofs.Common.{map, sym, ◌∙◌, arith}
 use Rattle.kp_view_expected.specs.inner.Plain.{name, number, plain_symbol}
-use Rattle.kp_view_expected.proofs.Machine.{seen, seen_at, seen_all, nowhere, solid_at, picked_now, picked_last, passed}
+use Rattle.kp_view_expected.proofs.Machine.{seen, seen_at, seen_all, solid_at, picked_now, picked_last, passed}
 use Rattle.kp_view_expected.proofs.part.Part.body.Goals as goal
 
 pub begins-requires : goal.begins-requires

@@ -1,4 +1,4 @@
-use Rattle.std.proofs.Common.{refl, sym, ◌∙◌, true, false, arith, true≢false}
+use Rattle.std.proofs.Common.{refl, sym, ◌∙◌, arith, true≢false}
 use Rattle.kp_view_expected.proofs.Exact.{is_listed, passed_over, none_listed}
 use Rattle.kp_view_expected.proofs.set.Expected.has.Goals as goal
 use Rattle.kp_view_expected.proofs.set.Expected.has.Goals.{else-is-via-then-is+else-self-i, else-is-via-else-is}
