@@ -1,5 +1,5 @@
 // The numbers of stages, blocks and declarations.
-use kp_ast::{Decl, Job, StmtKind};
+use kp_ast::{Block, Decl, Job, Num, StmtKind};
 use kp_base::NoMemory;
 use kp_view_findings::Findings;
 use kp_view_message::{Counted, Message, StageFault};
@@ -7,56 +7,74 @@ use kp_view_message::{Counted, Message, StageFault};
 // E15.
 pub(crate) fn check_stages<'t>(found: &mut Findings<'t>, job: &'t Job) -> Result<(), NoMemory> {
     let stages = job.stages.value;
-    let blocks = job.blocks.as_slice();
     if stages < 2 || stages > 12 {
         return found.add(
             job.stages.at,
             Message::Stage(StageFault::StageCount(stages)),
         );
     }
-    if stages > blocks.len() as u64 {
-        let blocks = blocks.len();
+    let blocks = job.blocks.as_slice().len();
+    if stages > blocks as u64 {
         found.add(
             job.stages.at,
             Message::Stage(StageFault::FewBlocks { stages, blocks }),
         )?;
     }
-    for decl in job.decls.as_slice() {
+    check_decls(found, stages, job.decls.as_slice())?;
+    check_blocks(found, stages, job.blocks.as_slice())
+}
+
+// A write stage, and the stage of a sample, is one of the stages.
+fn check_decls(found: &mut Findings<'_>, stages: u64, decls: &[Decl]) -> Result<(), NoMemory> {
+    for decl in decls {
         match decl {
-            Decl::Target(output) if output.stage.value >= stages => {
-                let number = output.stage.value;
-                let message = Message::Stage(StageFault::NoStage {
-                    found: number,
-                    stages,
-                });
-                found.add(output.stage.at, message)?;
-            }
-            Decl::Sample(_, _, stage) if stage.value >= stages => {
-                let message = Message::Stage(StageFault::NoStage {
-                    found: stage.value,
-                    stages,
-                });
-                found.add(stage.at, message)?;
-            }
+            Decl::Target(output) => check_stage(found, stages, output.stage)?,
+            Decl::Sample(_, _, stage) => check_stage(found, stages, *stage)?,
             _ => {}
         }
     }
+    Ok(())
+}
+
+fn check_stage(found: &mut Findings<'_>, stages: u64, stage: Num) -> Result<(), NoMemory> {
+    if stage.value < stages {
+        return Ok(());
+    }
+    let message = Message::Stage(StageFault::NoStage {
+        found: stage.value,
+        stages,
+    });
+    found.add(stage.at, message)
+}
+
+// The number of a block is its index, and one of the stages.
+fn check_blocks(found: &mut Findings<'_>, stages: u64, blocks: &[Block]) -> Result<(), NoMemory> {
     for (k, block) in blocks.iter().enumerate() {
-        let number = block.number.value;
-        if k as u64 >= stages {
-            found.add(
-                block.number.at,
-                Message::Stage(StageFault::BlockBeyond { stages }),
-            )?;
-        } else if number != k as u64 {
-            let message = Message::Stage(StageFault::BlockNumber {
-                found: number,
-                wanted: k,
-            });
-            found.add(block.number.at, message)?;
-        }
+        check_block(found, stages, k, block.number)?;
     }
     Ok(())
+}
+
+fn check_block(
+    found: &mut Findings<'_>,
+    stages: u64,
+    k: usize,
+    number: Num,
+) -> Result<(), NoMemory> {
+    if k as u64 >= stages {
+        return found.add(
+            number.at,
+            Message::Stage(StageFault::BlockBeyond { stages }),
+        );
+    }
+    if number.value == k as u64 {
+        return Ok(());
+    }
+    let message = Message::Stage(StageFault::BlockNumber {
+        found: number.value,
+        wanted: k,
+    });
+    found.add(number.at, message)
 }
 
 /// How many of each kind have come.

@@ -45,15 +45,20 @@ pub(crate) fn facts_of(alloc: Global, job: &Job) -> Result<Facts, NoMemory> {
         outputs: Table::new(alloc),
         top: 0,
     };
+    note_job(&mut facts, job)?;
+    Ok(facts)
+}
+
+fn note_job(facts: &mut Facts, job: &Job) -> Result<(), NoMemory> {
     for (number, decl) in job.decls.as_slice().iter().enumerate() {
-        note_decl(&mut facts, number, decl)?;
+        note_decl(facts, number, decl)?;
     }
     for (stage, block) in job.blocks.as_slice().iter().enumerate() {
         for (index, stmt) in block.stmts.as_slice().iter().enumerate() {
-            note_stmt(&mut facts, stage, index, stmt)?;
+            note_stmt(facts, stage, index, stmt)?;
         }
     }
-    Ok(facts)
+    Ok(())
 }
 
 fn note_decl(facts: &mut Facts, number: usize, decl: &Decl) -> Result<(), NoMemory> {

@@ -2,6 +2,7 @@
 //! violates none. The verdict itself is that of `kp_frontend`.
 #![tactic(auto)]
 
+mod adding;
 mod counts;
 mod facts;
 mod ready;

@@ -1,113 +1,159 @@
 // What becomes of a result: W1, W3 and W7.
+ghost use Rattle.std.specs.Prelude.{◌≡◌, IfSome, OnOk};
+ghost use Rattle.std.specs.List.{All};
+ghost use Rattle.kp_ast.specs.declared.tree.Job.{Job};
+ghost use Rattle.kp_view_sets.specs.Sets.{sets_from};
+ghost use Rattle.kp_view_stages.specs.Cautions.{ClaimsNothing, IsInVain, IsTrueOf};
+
+use crate::adding::add;
 use crate::ready::ready;
 use kp_ast::{Block, Expr, ExprKind, Job, Name, Named, ResultDecl, Stmt, StmtKind};
 use kp_base::NoMemory;
 use kp_view_findings::{Caution, Table};
 use kp_view_help::Word;
 use kp_view_message::Warning;
-
-// The sets of a result.
-#[derive(Clone, Copy)]
-struct Sets {
-    /// The first that is in every instruction, by its stage and its line.
-    always: Option<(usize, u32)>,
-    /// The lines of the first four.
-    lines: [Option<u32>; 4],
-    count: usize,
-}
+use kp_view_sets::laws::a_set_in_vain_never_takes_place;
+use kp_view_sets::{PlacedSet, first_sure, in_vain, sets_of};
+use std::alloc::Global;
 
 /// The warnings of a result.
 pub(crate) fn of_output<'t>(
+    alloc: Global,
     all: &mut Vec<Caution<'t>>,
     puts: &Table<usize>,
     job: &'t Job,
     output: &'t ResultDecl,
-) -> Result<(), NoMemory> {
-    let sets = sets_of(all, job, output)?;
-    let place = output.name.at;
-    let (result, target) = (Word::of(&output.name.name), Word::of(&output.target.name));
-    if sets.count == 0 {
-        let warning = Warning::NeverSet { result, target };
-        all.push(Caution { place, warning })?;
-    } else if output.enable.is_none()
-        && sets.always.is_none()
-        && !is_covered(puts, job, &output.name.name)
-    {
-        let warning = Warning::MaybeUnset {
-            result,
-            target,
-            file: output.address.is_some(),
-            stage: output.stage.value,
-            lines: sets.lines,
-        };
-        all.push(Caution { place, warning })?;
-    }
+) -> Result<(), NoMemory>
+    requires { All (IsTrueOf job.now) all.old.items }
+    ensures { OnOk result (All (IsTrueOf job.now) all.new.items) }
+{
+    of_sets(alloc, all, puts, job, output)?;
     if is_read(job, &output.target.name) {
-        put_late(all, puts, job, output, &output.address)?;
-        put_late(all, puts, job, output, &output.enable)?;
+        of_intent(all, puts, job, output)?;
     }
     Ok(())
 }
 
-// The sets of a result. One that never takes place is W3.
-fn sets_of<'t>(
+// W1 and W3.
+fn of_sets<'t>(
+    alloc: Global,
     all: &mut Vec<Caution<'t>>,
+    puts: &Table<usize>,
     job: &'t Job,
     output: &'t ResultDecl,
-) -> Result<Sets, NoMemory> {
-    let mut sets = Sets {
-        always: None,
-        lines: [None; 4],
-        count: 0,
-    };
-    for (stage, block) in job.blocks.as_slice().iter().enumerate() {
-        for stmt in block.stmts.as_slice() {
-            if let StmtKind::Set(named, _, when) = &stmt.kind {
-                if named.name == output.name.name {
-                    add_set(
-                        all,
-                        &mut sets,
-                        stage,
-                        stmt,
-                        Word::of(&named.name),
-                        when.is_none(),
-                    )?;
-                }
-            }
-        }
-    }
-    Ok(sets)
+) -> Result<(), NoMemory>
+    requires { All (IsTrueOf job.now) all.old.items }
+    ensures { OnOk result (All (IsTrueOf job.now) all.new.items) }
+{
+    let sets = sets_of(alloc, job.blocks.as_slice(), &output.name.name)?;
+    add_in_vain(all, job, &output.name.name, sets.as_slice())?;
+    add(all, job, unset(puts, job, output, sets.as_slice()))
 }
 
-fn add_set<'t>(
+// W3: the sets that never take place, since one without a condition comes before them.
+#[tactic(auto, using(crate::proofs::Told::told))]
+fn add_in_vain<'t>(
     all: &mut Vec<Caution<'t>>,
-    sets: &mut Sets,
-    stage: usize,
-    stmt: &'t Stmt,
-    name: Word<'t>,
-    takes_place: bool,
-) -> Result<(), NoMemory> {
-    let line = stmt.at.line;
-    match sets.always {
-        Some((stage, line)) => {
-            let warning = Warning::SetInVain {
-                result: name,
-                stage,
-                line,
-            };
-            all.push(Caution {
-                place: stmt.at,
-                warning,
-            })?;
+    job: &'t Job,
+    name: &'t Name,
+    sets: &[PlacedSet],
+) -> Result<(), NoMemory>
+    requires sets { sets.now ≡ sets_from name.now 0 job.now.blocks }
+    requires so_far { All (IsTrueOf job.now) all.old.items }
+    ensures { OnOk result (All (IsTrueOf job.now) all.new.items) }
+{
+    a_set_in_vain_never_takes_place();
+    if let Some(first) = first_sure(sets) {
+        for set in in_vain(sets) {
+            add_one(all, job, name, *set, first)?;
         }
-        None if takes_place => sets.always = Some((stage, line)),
-        None => {}
     }
-    if sets.count < 4 {
-        sets.lines[sets.count] = Some(line);
-    }
-    sets.count = sets.count.saturating_add(1);
     Ok(())
+}
+
+#[tactic(auto, using(crate::proofs::Told::all_pushed))]
+fn add_one<'t>(
+    all: &mut Vec<Caution<'t>>,
+    job: &'t Job,
+    name: &'t Name,
+    set: PlacedSet,
+    first: PlacedSet,
+) -> Result<(), NoMemory>
+    requires told { IsInVain job.now name.now set first }
+    requires so_far { All (IsTrueOf job.now) all.old.items }
+    ensures { OnOk result (All (IsTrueOf job.now) all.new.items) }
+{
+    all.push(in_vain_after(name, set, first))?;
+    Ok(())
+}
+
+fn in_vain_after<'t>(name: &'t Name, set: PlacedSet, first: PlacedSet) -> Caution<'t>
+    ensures { (job : Job) → IsInVain job name.now set first → IsTrueOf job result }
+{
+    let warning = Warning::SetInVain {
+        result: Word(name.bytes()),
+        stage: first.stage,
+        line: first.place.line,
+    };
+    let place = set.place;
+    Caution { place, warning }
+}
+
+// W7.
+fn of_intent<'t>(
+    all: &mut Vec<Caution<'t>>,
+    puts: &Table<usize>,
+    job: &'t Job,
+    output: &'t ResultDecl,
+) -> Result<(), NoMemory>
+    requires { All (IsTrueOf job.now) all.old.items }
+    ensures { OnOk result (All (IsTrueOf job.now) all.new.items) }
+{
+    add(all, job, late_put(puts, job, output, &output.address))?;
+    add(all, job, late_put(puts, job, output, &output.enable))
+}
+
+// W1: a result that is never set, or that some instruction may not set.
+fn unset<'t>(
+    puts: &Table<usize>,
+    job: &Job,
+    output: &'t ResultDecl,
+    sets: &[PlacedSet],
+) -> Option<Caution<'t>>
+    ensures { IfSome result ClaimsNothing }
+{
+    let place = output.name.at;
+    let (result, target) = (Word::of(&output.name.name), Word::of(&output.target.name));
+    if sets.is_empty() {
+        let warning = Warning::NeverSet { result, target };
+        return Some(Caution { place, warning });
+    }
+    if output.enable.is_some()
+        || first_sure(sets).is_some()
+        || is_covered(puts, job, &output.name.name)
+    {
+        return None;
+    }
+    let warning = Warning::MaybeUnset {
+        result,
+        target,
+        file: output.address.is_some(),
+        stage: output.stage.value,
+        lines: [
+            line_at(sets, 0),
+            line_at(sets, 1),
+            line_at(sets, 2),
+            line_at(sets, 3),
+        ],
+    };
+    Some(Caution { place, warning })
+}
+
+fn line_at(sets: &[PlacedSet], i: usize) -> Option<u32> {
+    match sets.get(i) {
+        Some(set) => Some(set.place.line),
+        None => None,
+    }
 }
 
 // Whether two of the sets of a result have complementary conditions, so that one of them takes place.
@@ -189,37 +235,64 @@ fn reads(block: &Block, target: &Name) -> bool {
     })
 }
 
-// The address or the enable of a result, where an earlier stage can compute it.
-fn put_late<'t>(
-    all: &mut Vec<Caution<'t>>,
+// W7: the address or the enable of a result, where an earlier stage can compute it.
+fn late_put<'t>(
     puts: &Table<usize>,
     job: &'t Job,
     output: &'t ResultDecl,
     pipe: &'t Option<Named>,
-) -> Result<(), NoMemory> {
+) -> Option<Caution<'t>>
+    ensures { IfSome result ClaimsNothing }
+{
     let Some(pipe) = pipe else {
-        return Ok(());
+        return None;
     };
     for (stage, block) in job.blocks.as_slice().iter().enumerate() {
-        for stmt in block.stmts.as_slice() {
-            match &stmt.kind {
-                StmtKind::Put(named, e) if named.name == pipe.name => match ready(puts, e) {
-                    Some(earliest) if earliest < stage => {
-                        let warning = Warning::PutLate {
-                            name: Word::of(&pipe.name),
-                            target: Word::of(&output.target.name),
-                            earliest,
-                        };
-                        all.push(Caution {
-                            place: named.at,
-                            warning,
-                        })?;
-                    }
-                    _ => {}
-                },
-                _ => {}
+        if let Some(caution) = late_in(puts, output, pipe, stage, block.stmts.as_slice()) {
+            return Some(caution);
+        }
+    }
+    None
+}
+
+fn late_in<'t>(
+    puts: &Table<usize>,
+    output: &'t ResultDecl,
+    pipe: &'t Named,
+    stage: usize,
+    stmts: &'t [Stmt],
+) -> Option<Caution<'t>>
+    ensures { IfSome result ClaimsNothing }
+{
+    for stmt in stmts {
+        if let StmtKind::Put(named, e) = &stmt.kind {
+            if named.name == pipe.name {
+                return late_at(puts, output, named, stage, e);
             }
         }
     }
-    Ok(())
+    None
+}
+
+fn late_at<'t>(
+    puts: &Table<usize>,
+    output: &'t ResultDecl,
+    pipe: &'t Named,
+    stage: usize,
+    e: &Expr,
+) -> Option<Caution<'t>>
+    ensures { IfSome result ClaimsNothing }
+{
+    match ready(puts, e) {
+        Some(earliest) if earliest < stage => {
+            let warning = Warning::PutLate {
+                name: Word::of(&pipe.name),
+                target: Word::of(&output.target.name),
+                earliest,
+            };
+            let place = pipe.at;
+            Some(Caution { place, warning })
+        }
+        _ => None,
+    }
 }

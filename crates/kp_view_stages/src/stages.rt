@@ -2,7 +2,7 @@
 use crate::counts::{check_counts, check_stages};
 use crate::facts::{Facts, Spot, facts_of};
 use crate::uses::in_stmt;
-use kp_ast::{Block, Decl, Job, Named, ReadStmt, Stmt, StmtKind};
+use kp_ast::{Block, Decl, Job, Named, Num, ReadStmt, ResultDecl, Stmt, StmtKind};
 use kp_base::NoMemory;
 use kp_view_findings::{Findings, Table};
 use kp_view_help::Word;
@@ -43,20 +43,30 @@ const RULES: [Rule; 12] = [
 /// The violations of stages in a job, by rules and then in text order. Where the stages themselves aren't right, no other rule is asked.
 pub fn faults<'t>(alloc: Global, job: &'t Job) -> Result<Findings<'t>, NoMemory> {
     let mut found = Findings::new(alloc);
-    check_stages(&mut found, job)?;
+    add_faults(alloc, &mut found, job)?;
+    Ok(found)
+}
+
+fn add_faults<'t>(alloc: Global, found: &mut Findings<'t>, job: &'t Job) -> Result<(), NoMemory> {
+    check_stages(found, job)?;
     if !found.as_slice().is_empty() {
-        return Ok(found);
+        return Ok(());
     }
+    ask_all(alloc, found, job)?;
+    if !found.as_slice().is_empty() {
+        return Ok(());
+    }
+    check_counts(found, job)
+}
+
+fn ask_all<'t>(alloc: Global, found: &mut Findings<'t>, job: &'t Job) -> Result<(), NoMemory> {
     let facts = facts_of(alloc, job)?;
     for rule in RULES {
         if !found.is_full() {
-            ask(alloc, &facts, &mut found, rule, job)?;
+            ask(alloc, &facts, found, rule, job)?;
         }
     }
-    if found.as_slice().is_empty() {
-        check_counts(&mut found, job)?;
-    }
-    Ok(found)
+    Ok(())
 }
 
 fn ask<'t>(
@@ -73,14 +83,21 @@ fn ask<'t>(
         if rule == Rule::E21 {
             check_sets(alloc, found, block)?;
         }
-        for (index, stmt) in block.stmts.as_slice().iter().enumerate() {
-            let here = Spot {
-                stage,
-                index,
-                line: stmt.at.line,
-            };
-            ask_stmt(facts, found, rule, here, stmt)?;
-        }
+        ask_stmts(facts, found, rule, stage, block.stmts.as_slice())?;
+    }
+    Ok(())
+}
+
+fn ask_stmts<'t>(
+    facts: &Facts,
+    found: &mut Findings<'t>,
+    rule: Rule,
+    stage: usize,
+    stmts: &'t [Stmt],
+) -> Result<(), NoMemory> {
+    for (index, stmt) in stmts.iter().enumerate() {
+        let line = stmt.at.line;
+        ask_stmt(facts, found, rule, Spot { stage, index, line }, stmt)?;
     }
     Ok(())
 }
@@ -94,58 +111,76 @@ fn ask_decl<'t>(
     decl: &'t Decl,
 ) -> Result<(), NoMemory> {
     match (rule, decl) {
-        (Rule::E16, Decl::Pipe(named, _)) => {
-            if facts.puts.get(&named.name).is_none() {
-                found.add(
-                    named.at,
-                    Message::Stage(StageFault::NeverPut(Word::of(&named.name))),
-                )?;
-            }
-            Ok(())
-        }
-        (Rule::E19, Decl::Target(output)) => {
-            put_before(facts, found, output.stage.value, &output.address)?;
-            put_before(facts, found, output.stage.value, &output.enable)
-        }
-        (Rule::E22, Decl::Target(output)) => {
-            let target = &output.target;
-            match facts.first.get(&target.name) {
-                Some(first) if first.number != number => {
-                    match job.decls.as_slice().get(first.number) {
-                        Some(Decl::Target(other)) => {
-                            let message = Message::Stage(StageFault::SecondResult {
-                                target: Word::of(&target.name),
-                                first: Word::of(&other.name.name),
-                                line: first.line,
-                            });
-                            found.add(target.at, message)
-                        }
-                        _ => Ok(()),
-                    }
-                }
-                _ => Ok(()),
-            }
-        }
-        (Rule::E24, Decl::Target(output)) => {
-            if output.stage.value.saturating_add(1) < facts.top {
-                found.add(
-                    output.stage.at,
-                    Message::Guess(GuessFault::EarlyWrite { top: facts.top }),
-                )?;
-            }
-            Ok(())
-        }
-        (Rule::E35, Decl::Sample(_, _, stage)) => {
-            if stage.value.saturating_add(1) < facts.top {
-                found.add(
-                    stage.at,
-                    Message::Guess(GuessFault::EarlySample { top: facts.top }),
-                )?;
-            }
-            Ok(())
-        }
+        (Rule::E16, Decl::Pipe(named, _)) => check_put(facts, found, named),
+        (Rule::E19, Decl::Target(output)) => check_intent(facts, found, output),
+        (Rule::E22, Decl::Target(output)) => check_one(facts, found, job, number, output),
+        (Rule::E24, Decl::Target(output)) => check_write(facts.top, found, output.stage),
+        (Rule::E35, Decl::Sample(_, _, stage)) => check_sample(facts.top, found, *stage),
         _ => Ok(()),
     }
+}
+
+// E16: a pipe is put.
+fn check_put<'t>(
+    facts: &Facts,
+    found: &mut Findings<'t>,
+    named: &'t Named,
+) -> Result<(), NoMemory> {
+    if facts.puts.get(&named.name).is_some() {
+        return Ok(());
+    }
+    let name = Word::of(&named.name);
+    found.add(named.at, Message::Stage(StageFault::NeverPut(name)))
+}
+
+// E19: the address and the enable of a result are put before its write stage.
+fn check_intent<'t>(
+    facts: &Facts,
+    found: &mut Findings<'t>,
+    output: &'t ResultDecl,
+) -> Result<(), NoMemory> {
+    put_before(facts, found, output.stage.value, &output.address)?;
+    put_before(facts, found, output.stage.value, &output.enable)
+}
+
+// E22: a result is the first of its target.
+fn check_one<'t>(
+    facts: &Facts,
+    found: &mut Findings<'t>,
+    job: &'t Job,
+    number: usize,
+    output: &'t ResultDecl,
+) -> Result<(), NoMemory> {
+    let target = &output.target;
+    let first = match facts.first.get(&target.name) {
+        Some(first) if first.number != number => first,
+        _ => return Ok(()),
+    };
+    let Some(Decl::Target(other)) = job.decls.as_slice().get(first.number) else {
+        return Ok(());
+    };
+    let message = Message::Stage(StageFault::SecondResult {
+        target: Word::of(&target.name),
+        first: Word::of(&other.name.name),
+        line: first.line,
+    });
+    found.add(target.at, message)
+}
+
+// E24: a write stage isn't below the one before the largest of a guessed register.
+fn check_write(top: u64, found: &mut Findings<'_>, stage: Num) -> Result<(), NoMemory> {
+    if stage.value.saturating_add(1) >= top {
+        return Ok(());
+    }
+    found.add(stage.at, Message::Guess(GuessFault::EarlyWrite { top }))
+}
+
+// E35: nor is the stage of a sample.
+fn check_sample(top: u64, found: &mut Findings<'_>, stage: Num) -> Result<(), NoMemory> {
+    if stage.value.saturating_add(1) >= top {
+        return Ok(());
+    }
+    found.add(stage.at, Message::Guess(GuessFault::EarlySample { top }))
 }
 
 // The address or the enable of a result is put before its write stage. A pipe that is never put breaks another rule.
@@ -202,60 +237,87 @@ fn ask_stmt<'t>(
     stmt: &'t Stmt,
 ) -> Result<(), NoMemory> {
     match (rule, &stmt.kind) {
-        (Rule::E16, StmtKind::Put(named, _)) => {
-            if let Some(first) = elsewhere(facts.puts.get(&named.name), here) {
-                let name = Word::of(&named.name);
-                let line = first.line;
-                found.add(
-                    named.at,
-                    Message::Stage(StageFault::PutAgain { name, line }),
-                )?;
-            }
-            Ok(())
-        }
-        (Rule::E18, StmtKind::Read(read)) => {
-            let target = &read.target;
-            if let Some(output) = facts.first.get(&target.name) {
-                if output.stage < here.stage as u64 {
-                    let message = Message::Stage(StageFault::ReadLate {
-                        name: Word::of(&target.name),
-                        write: output.stage,
-                        line: output.line,
-                    });
-                    found.add(target.at, message)?;
-                }
-            }
-            Ok(())
-        }
-        (Rule::E20, StmtKind::Set(named, _, _)) => {
-            if let Some(output) = facts.outputs.get(&named.name) {
-                if output.stage < here.stage as u64 {
-                    let message = Message::Stage(StageFault::SetLate {
-                        name: Word::of(&named.name),
-                        write: output.stage,
-                        line: output.line,
-                        here: here.stage,
-                    });
-                    found.add(named.at, message)?;
-                }
-            }
-            Ok(())
-        }
-        (Rule::E21, StmtKind::Aim(named, _)) => {
-            if let Some(first) = elsewhere(facts.aims.get(&named.name), here) {
-                let name = Word::of(&named.name);
-                let line = first.line;
-                found.add(
-                    named.at,
-                    Message::Stage(StageFault::AimedAgain { name, line }),
-                )?;
-            }
-            Ok(())
-        }
+        (Rule::E16, StmtKind::Put(named, _)) => check_put_once(facts, found, here, named),
+        (Rule::E18, StmtKind::Read(read)) => check_read(facts, found, here, &read.target),
+        (Rule::E20, StmtKind::Set(named, _, _)) => check_set(facts, found, here, named),
+        (Rule::E21, StmtKind::Aim(named, _)) => check_aim(facts, found, here, named),
         (Rule::E23, StmtKind::Read(read)) => check_guess(facts, found, here, read),
         (Rule::E17 | Rule::E25 | Rule::E34, kind) => in_stmt(facts, found, rule, here, kind),
         _ => Ok(()),
     }
+}
+
+// E16: a put is the first of its pipe.
+fn check_put_once<'t>(
+    facts: &Facts,
+    found: &mut Findings<'t>,
+    here: Spot,
+    named: &'t Named,
+) -> Result<(), NoMemory> {
+    let Some(first) = elsewhere(facts.puts.get(&named.name), here) else {
+        return Ok(());
+    };
+    let (name, line) = (Word::of(&named.name), first.line);
+    found.add(
+        named.at,
+        Message::Stage(StageFault::PutAgain { name, line }),
+    )
+}
+
+// E18: a target is read in no stage after its write stage.
+fn check_read<'t>(
+    facts: &Facts,
+    found: &mut Findings<'t>,
+    here: Spot,
+    target: &'t Named,
+) -> Result<(), NoMemory> {
+    let output = match facts.first.get(&target.name) {
+        Some(output) if output.stage < here.stage as u64 => output,
+        _ => return Ok(()),
+    };
+    let message = Message::Stage(StageFault::ReadLate {
+        name: Word::of(&target.name),
+        write: output.stage,
+        line: output.line,
+    });
+    found.add(target.at, message)
+}
+
+// E20: a result is set in no stage after its write stage.
+fn check_set<'t>(
+    facts: &Facts,
+    found: &mut Findings<'t>,
+    here: Spot,
+    named: &'t Named,
+) -> Result<(), NoMemory> {
+    let output = match facts.outputs.get(&named.name) {
+        Some(output) if output.stage < here.stage as u64 => output,
+        _ => return Ok(()),
+    };
+    let message = Message::Stage(StageFault::SetLate {
+        name: Word::of(&named.name),
+        write: output.stage,
+        line: output.line,
+        here: here.stage,
+    });
+    found.add(named.at, message)
+}
+
+// E21: an aim is the first of its hint.
+fn check_aim<'t>(
+    facts: &Facts,
+    found: &mut Findings<'t>,
+    here: Spot,
+    named: &'t Named,
+) -> Result<(), NoMemory> {
+    let Some(first) = elsewhere(facts.aims.get(&named.name), here) else {
+        return Ok(());
+    };
+    let (name, line) = (Word::of(&named.name), first.line);
+    found.add(
+        named.at,
+        Message::Stage(StageFault::AimedAgain { name, line }),
+    )
 }
 
 // The first statement, where it is another one than this.

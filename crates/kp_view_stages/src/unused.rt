@@ -1,5 +1,10 @@
 // Names that are used nowhere: W4, W5 and W6.
-use kp_ast::{Block, Decl, Expr, ExprKind, Job, Name, Stmt, StmtKind};
+ghost use Rattle.std.specs.Prelude.{◌≡◌, IfSome, OnOk};
+ghost use Rattle.std.specs.List.{All};
+ghost use Rattle.kp_view_stages.specs.Cautions.{ClaimsNothing, IsTrueOf};
+
+use crate::adding::add;
+use kp_ast::{Block, Decl, Expr, ExprKind, Job, Name, Named, ReadStmt, ResultDecl, Stmt, StmtKind};
 use kp_base::NoMemory;
 use kp_view_findings::{Caution, Table};
 use kp_view_help::{Kind, Word};
@@ -7,43 +12,51 @@ use kp_view_message::Warning;
 use std::alloc::Global;
 
 // W4, W5 and W6 at a declaration.
-pub(crate) fn of_decl<'t>(
-    all: &mut Vec<Caution<'t>>,
-    used: &Table<bool>,
-    job: &'t Job,
-    decl: &'t Decl,
-) -> Result<(), NoMemory> {
-    let (named, warning) = match decl {
-        Decl::Pipe(named, _) => (named, Warning::UnusedPipe(Word::of(&named.name))),
-        Decl::Hint(named, _, _) => (named, unused(&named.name, Kind::Hint)),
-        Decl::Sample(named, _, _) => (named, unused(&named.name, Kind::Sample)),
-        Decl::Func(func) => (&func.name, unused(&func.name.name, Kind::Function)),
-        Decl::Reg(named, _, _) => {
-            if !has_result(job, &named.name) {
-                let warning = Warning::NoResult(Word::of(&named.name));
-                all.push(Caution {
-                    place: named.at,
-                    warning,
-                })?;
-            }
-            return Ok(());
-        }
-        _ => return Ok(()),
-    };
-    if used.get(&named.name).is_none() {
-        all.push(Caution {
-            place: named.at,
-            warning,
-        })?;
+pub(crate) fn of_decl<'t>(used: &Table<bool>, job: &Job, decl: &'t Decl) -> Option<Caution<'t>>
+    ensures { IfSome result ClaimsNothing }
+{
+    match decl {
+        Decl::Pipe(named, _) => unused_pipe(used, named),
+        Decl::Hint(named, _, _) => unused_name(used, named, Kind::Hint),
+        Decl::Sample(named, _, _) => unused_name(used, named, Kind::Sample),
+        Decl::Func(func) => unused_name(used, &func.name, Kind::Function),
+        Decl::Reg(named, _, _) => without_result(job, named),
+        _ => None,
     }
-    Ok(())
 }
 
-fn unused<'t>(name: &'t Name, kind: Kind) -> Warning<'t> {
-    Warning::UnusedName {
-        name: Word::of(name),
-        kind,
+fn unused_pipe<'t>(used: &Table<bool>, named: &'t Named) -> Option<Caution<'t>>
+    ensures { IfSome result ClaimsNothing }
+{
+    if used.get(&named.name).is_some() {
+        return None;
     }
+    let warning = Warning::UnusedPipe(Word::of(&named.name));
+    let place = named.at;
+    Some(Caution { place, warning })
+}
+
+fn unused_name<'t>(used: &Table<bool>, named: &'t Named, kind: Kind) -> Option<Caution<'t>>
+    ensures { IfSome result ClaimsNothing }
+{
+    if used.get(&named.name).is_some() {
+        return None;
+    }
+    let name = Word::of(&named.name);
+    let warning = Warning::UnusedName { name, kind };
+    let place = named.at;
+    Some(Caution { place, warning })
+}
+
+fn without_result<'t>(job: &Job, named: &'t Named) -> Option<Caution<'t>>
+    ensures { IfSome result ClaimsNothing }
+{
+    if has_result(job, &named.name) {
+        return None;
+    }
+    let warning = Warning::NoResult(Word::of(&named.name));
+    let place = named.at;
+    Some(Caution { place, warning })
 }
 
 fn has_result(job: &Job, target: &Name) -> bool {
@@ -53,75 +66,122 @@ fn has_result(job: &Job, target: &Name) -> bool {
     })
 }
 
-// W5 at the statements of a stage. A read with a guess serves where nothing uses its name.
+// W5 at the statements of a stage.
 pub(crate) fn of_block<'t>(
     alloc: Global,
     all: &mut Vec<Caution<'t>>,
+    job: &'t Job,
     stage: usize,
     block: &'t Block,
-) -> Result<(), NoMemory> {
+) -> Result<(), NoMemory>
+    requires { All (IsTrueOf job.now) all.old.items }
+    ensures { OnOk result (All (IsTrueOf job.now) all.new.items) }
+{
     let mut used = Table::new(alloc);
-    for stmt in block.stmts.as_slice() {
-        add_stmt(&mut used, stmt)?;
-    }
-    for stmt in block.stmts.as_slice() {
-        let named = match &stmt.kind {
-            StmtKind::Read(read) if read.guess.is_none() => &read.name,
-            StmtKind::Let(named, _) => named,
-            _ => continue,
-        };
-        if used.get(&named.name).is_none() {
-            let warning = Warning::UnusedLocal {
-                name: Word::of(&named.name),
-                stage,
-            };
-            all.push(Caution {
-                place: named.at,
-                warning,
-            })?;
-        }
+    add_stmts(&mut used, block.stmts.as_slice())?;
+    of_stmts(all, job, &used, stage, block.stmts.as_slice())
+}
+
+fn of_stmts<'t>(
+    all: &mut Vec<Caution<'t>>,
+    job: &'t Job,
+    used: &Table<bool>,
+    stage: usize,
+    stmts: &'t [Stmt],
+) -> Result<(), NoMemory>
+    requires { All (IsTrueOf job.now) all.old.items }
+    ensures { OnOk result (All (IsTrueOf job.now) all.new.items) }
+{
+    for stmt in stmts {
+        add(all, job, of_stmt(used, stage, &stmt.kind))?;
     }
     Ok(())
 }
 
-// The names that stand in expressions, and the pipes of results.
+// A read with a guess serves where nothing uses its name.
+fn of_stmt<'t>(used: &Table<bool>, stage: usize, stmt: &'t StmtKind) -> Option<Caution<'t>>
+    ensures { IfSome result ClaimsNothing }
+{
+    match stmt {
+        StmtKind::Read(read) if read.guess.is_none() => unused_local(used, stage, &read.name),
+        StmtKind::Let(named, _) => unused_local(used, stage, named),
+        _ => None,
+    }
+}
+
+fn unused_local<'t>(used: &Table<bool>, stage: usize, named: &'t Named) -> Option<Caution<'t>>
+    ensures { IfSome result ClaimsNothing }
+{
+    if used.get(&named.name).is_some() {
+        return None;
+    }
+    let name = Word::of(&named.name);
+    let warning = Warning::UnusedLocal { name, stage };
+    let place = named.at;
+    Some(Caution { place, warning })
+}
+
+// The names in expressions, and the pipes of results.
 pub(crate) fn used_in_text(alloc: Global, job: &Job) -> Result<Table<bool>, NoMemory> {
     let mut used = Table::new(alloc);
-    for decl in job.decls.as_slice() {
-        match decl {
-            Decl::Target(output) => {
-                if let Some(pipe) = &output.address {
-                    used.set(&pipe.name, true)?;
-                }
-                if let Some(pipe) = &output.enable {
-                    used.set(&pipe.name, true)?;
-                }
-            }
-            Decl::Func(func) => add_expr(&mut used, &func.body)?,
-            _ => {}
-        }
-    }
-    for block in job.blocks.as_slice() {
-        for stmt in block.stmts.as_slice() {
-            add_stmt(&mut used, stmt)?;
-        }
-    }
+    add_job(&mut used, job)?;
     Ok(used)
 }
 
-fn add_stmt(used: &mut Table<bool>, stmt: &Stmt) -> Result<(), NoMemory> {
-    match &stmt.kind {
-        StmtKind::Read(read) => {
-            add_option(used, &read.address)?;
-            add_option(used, &read.when)?;
-            add_option(used, &read.guess)
-        }
-        StmtKind::Let(_, e) | StmtKind::Put(_, e) | StmtKind::Aim(_, e) => add_expr(used, e),
-        StmtKind::Set(_, e, when) => {
-            add_expr(used, e)?;
-            add_option(used, when)
-        }
+fn add_job(used: &mut Table<bool>, job: &Job) -> Result<(), NoMemory> {
+    for decl in job.decls.as_slice() {
+        add_decl(used, decl)?;
     }
+    for block in job.blocks.as_slice() {
+        add_stmts(used, block.stmts.as_slice())?;
+    }
+    Ok(())
+}
+
+fn add_decl(used: &mut Table<bool>, decl: &Decl) -> Result<(), NoMemory> {
+    match decl {
+        Decl::Target(output) => add_intent(used, output),
+        Decl::Func(func) => add_expr(used, &func.body),
+        _ => Ok(()),
+    }
+}
+
+fn add_intent(used: &mut Table<bool>, output: &ResultDecl) -> Result<(), NoMemory> {
+    add_pipe(used, &output.address)?;
+    add_pipe(used, &output.enable)
+}
+
+fn add_pipe(used: &mut Table<bool>, pipe: &Option<Named>) -> Result<(), NoMemory> {
+    match pipe {
+        Some(pipe) => used.set(&pipe.name, true),
+        None => Ok(()),
+    }
+}
+
+fn add_stmts(used: &mut Table<bool>, stmts: &[Stmt]) -> Result<(), NoMemory> {
+    for stmt in stmts {
+        add_stmt(used, &stmt.kind)?;
+    }
+    Ok(())
+}
+
+fn add_stmt(used: &mut Table<bool>, stmt: &StmtKind) -> Result<(), NoMemory> {
+    match stmt {
+        StmtKind::Read(read) => add_read(used, read),
+        StmtKind::Let(_, e) | StmtKind::Put(_, e) | StmtKind::Aim(_, e) => add_expr(used, e),
+        StmtKind::Set(_, e, when) => add_set(used, e, when),
+    }
+}
+
+fn add_read(used: &mut Table<bool>, read: &ReadStmt) -> Result<(), NoMemory> {
+    add_option(used, &read.address)?;
+    add_option(used, &read.when)?;
+    add_option(used, &read.guess)
+}
+
+fn add_set(used: &mut Table<bool>, e: &Expr, when: &Option<Expr>) -> Result<(), NoMemory> {
+    add_expr(used, e)?;
+    add_option(used, when)
 }
 
 fn add_option(used: &mut Table<bool>, e: &Option<Expr>) -> Result<(), NoMemory> {

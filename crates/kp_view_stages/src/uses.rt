@@ -1,7 +1,7 @@
 // The names in the expressions of a statement.
 use crate::facts::{Facts, Spot};
 use crate::stages::Rule;
-use kp_ast::{Expr, ExprKind, Name, StmtKind};
+use kp_ast::{Expr, ExprKind, Name, ReadStmt, StmtKind};
 use kp_base::{NoMemory, Place};
 use kp_view_findings::Findings;
 use kp_view_help::Word;
@@ -15,28 +15,53 @@ pub(crate) fn in_stmt<'t>(
     here: Spot,
     kind: &'t StmtKind,
 ) -> Result<(), NoMemory> {
-    let hints = rule == Rule::E25;
     match kind {
-        StmtKind::Read(read) => {
-            in_option(facts, found, rule, here, &read.address)?;
-            in_option(facts, found, rule, here, &read.when)?;
-            if hints {
-                return Ok(());
-            }
-            in_option(facts, found, rule, here, &read.guess)
-        }
+        StmtKind::Read(read) => in_read(facts, found, rule, here, read),
         StmtKind::Let(_, e) | StmtKind::Put(_, e) => in_expr(facts, found, rule, here, e),
-        StmtKind::Set(_, e, when) => {
-            in_expr(facts, found, rule, here, e)?;
-            in_option(facts, found, rule, here, when)
-        }
-        StmtKind::Aim(_, e) => {
-            if hints {
-                return Ok(());
-            }
-            in_expr(facts, found, rule, here, e)
-        }
+        StmtKind::Set(_, e, when) => in_set(facts, found, rule, here, e, when),
+        StmtKind::Aim(_, e) => in_hinted(facts, found, rule, here, e),
     }
+}
+
+fn in_read<'t>(
+    facts: &Facts,
+    found: &mut Findings<'t>,
+    rule: Rule,
+    here: Spot,
+    read: &'t ReadStmt,
+) -> Result<(), NoMemory> {
+    in_option(facts, found, rule, here, &read.address)?;
+    in_option(facts, found, rule, here, &read.when)?;
+    match &read.guess {
+        Some(e) => in_hinted(facts, found, rule, here, e),
+        None => Ok(()),
+    }
+}
+
+fn in_set<'t>(
+    facts: &Facts,
+    found: &mut Findings<'t>,
+    rule: Rule,
+    here: Spot,
+    e: &'t Expr,
+    when: &'t Option<Expr>,
+) -> Result<(), NoMemory> {
+    in_expr(facts, found, rule, here, e)?;
+    in_option(facts, found, rule, here, when)
+}
+
+// The names in an expression that may use hints.
+fn in_hinted<'t>(
+    facts: &Facts,
+    found: &mut Findings<'t>,
+    rule: Rule,
+    here: Spot,
+    e: &'t Expr,
+) -> Result<(), NoMemory> {
+    if rule == Rule::E25 {
+        return Ok(());
+    }
+    in_expr(facts, found, rule, here, e)
 }
 
 fn in_option<'t>(
