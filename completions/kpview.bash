@@ -24,7 +24,7 @@ _kpview() {
         1)
             case ${COMP_WORDS[1]} in
                 paths) compopt -o default 2>/dev/null ;;
-                explain) COMPREPLY=($(compgen -f -W '--werror' -- "$cur")) ;;
+                explain) COMPREPLY=($(compgen -f -W '--werror --help asm debug' -- "$cur")) ;;
                 *) COMPREPLY=($(compgen -W '10 20 50 100 1000' -- "$cur")) ;;
             esac
             ;;

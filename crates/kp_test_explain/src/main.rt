@@ -14,7 +14,7 @@
 #![tactic(auto)]
 
 use kp_base::{MemSink, MemSource};
-use kp_view_explain::{Order, explain_source};
+use kp_view_explain::{HELP, Order, asks_help, explain_source};
 use std::alloc::{AllocError, Global};
 use std::io;
 use std::io::{Read, Write};
@@ -75,6 +75,9 @@ fn print_case(rt: &impl Print, alloc: Global, line: &[u8], input: &[u8]) -> io::
     let most = head.most.max(1);
     let mut source = MemSource::new(input, most, head.read_fails);
     let mut err = MemSink::new(alloc, head.room, most, head.write_fails).map_err(|_| AllocError)?;
+    if asks_help(&head.words) {
+        return println!(rt; "==== {line} gives help\n{HELP}");
+    }
     let Some(order) = Order::of(&head.words) else {
         return println!(rt; "==== {line} isn't accepted\n");
     };
@@ -82,7 +85,14 @@ fn print_case(rt: &impl Print, alloc: Global, line: &[u8], input: &[u8]) -> io::
         Some(name) => name.as_bytes(),
         None => b"<stdin>",
     };
-    let status = explain_source(alloc, file, order.strict, &mut source, &mut err);
+    let status = explain_source(
+        alloc,
+        file,
+        order.subject,
+        order.strict,
+        &mut source,
+        &mut err,
+    );
     let text = String::from_utf8_lossy(alloc, err.bytes())?;
     println!(rt; "==== {line} gives {status}\n{text}")
 }

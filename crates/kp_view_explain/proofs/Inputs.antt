@@ -1,36 +1,69 @@
--- From the verdict on a text to what is said of the input of a source.
-use Rattle.std.proofs.Common.{◌≡◌, ◌≤◌, ℕ, Bool, List, length, Ok, Err, inl, inr, refl, arith}
+-- From what the readers find to what is said of the input of a source.
+use Rattle.std.proofs.Common.{◌≡◌, ◌≤◌, ℕ, Bool, List, [], length, Ok, Err, Some, None, inl, inr, refl, ap, sym, arith}
 use Rattle.std.specs.declared.option.Option.{Option}
 use Rattle.std.specs.declared.result.Result.{Result}
 use Rattle.std.specs.Io.KnownBytes.{Consumes, IsAtEnd}
 use Rattle.kp_base.specs.declared.refusal.Refusal.{Refusal}
+use Rattle.kp_ast.specs.declared.tree.Decl.{Decl}
 use Rattle.kp_ast.specs.declared.tree.Job.{Job}
-use Rattle.kp_frontend.specs.Judging.{JudgesText, too_long}
-use Rattle.kp_frontend.specs.Judging.Judges.{over, within}
-use Rattle.kp_view_findings.specs.Heads.{error_head}
-use Rattle.kp_view_explain.specs.Explaining.{BeginsWith, IsExplained, Says, warned}
+use Rattle.kp_asm.specs.Program.{assembled}
+use Rattle.kp_debug_script.specs.Scripts.{script_of}
+use Rattle.kp_debug_script.specs.declared.command.Command.{Command}
+use Rattle.kp_frontend.specs.Judging.{JudgesText, JudgesHeadText, too_long}
+use Rattle.kp_view_texts.specs.Heads.{rule_head}
+use Rattle.kp_view_explain.specs.Explaining.{BeginsWith, ExplainsText, IsExplained, Says, rule_of, warned}
+use Rattle.kp_view_explain.specs.Explaining.Finds.{over, within}
+use Rattle.kp_view_explain.specs.declared.words.Subject.{Subject}
+use Rattle.kp_view_explain.specs.declared.words.Subject.TheVariants as subjects
 
--- an accepted text
-pub says_accepted : (strict : Bool) (file text : List ℕ) (job : Job) (status : ℕ) (said : List ℕ) → JudgesText text (Ok job) → status ≡ warned strict said
-    → (verdict : Result Job Refusal) × JudgesText text verdict × Says strict file verdict status said
-says_accepted strict file text job status said judged is = (Ok job, judged, is)
+-- a job
+pub accepted_job : (strict : Bool) (file text : List ℕ) (job : Job) (status : ℕ) (said : List ℕ) → JudgesText text (Ok job) → status ≡ warned strict said
+    → ExplainsText subjects.Job strict file text status said
+accepted_job strict file text job status said judged is = (None, (Ok job, judged, refl), is)
 
--- a refused text
-pub says_refused : (strict : Bool) (file text : List ℕ) (refusal : Refusal) (said : List ℕ) → JudgesText text (Err refusal)
-    → BeginsWith (error_head file refusal) said → (verdict : Result Job Refusal) × JudgesText text verdict × Says strict file verdict 2 said
-says_refused strict file text refusal said judged begins = (Err refusal, judged, (refl, begins))
+pub refused_job : (strict : Bool) (file text : List ℕ) (refusal : Refusal) (status : ℕ) (said : List ℕ) → JudgesText text (Err refusal) → status ≡ 2
+    → BeginsWith (rule_head file refusal) said → ExplainsText subjects.Job strict file text status said
+refused_job strict file text refusal status said judged is begins = (Some refusal, (Err refusal, judged, refl), (is, begins))
+
+-- a program
+pub accepted_program : (file text words : List ℕ) (status : ℕ) (said : List ℕ) → assembled text ≡ Ok words → status ≡ 0 → said ≡ []
+    → (strict : Bool) → ExplainsText subjects.Program strict file text status said
+accepted_program file text words status said is zero empty strict = (None, sym (ap rule_of is), (zero, empty))
+
+pub refused_program : (file text : List ℕ) (refusal : Refusal) (status : ℕ) (said : List ℕ) → assembled text ≡ Err refusal → status ≡ 2
+    → BeginsWith (rule_head file refusal) said → (strict : Bool) → ExplainsText subjects.Program strict file text status said
+refused_program file text refusal status said is two begins strict = (Some refusal, sym (ap rule_of is), (two, begins))
+
+-- a job with a script
+pub refused_head : (file text : List ℕ) (refusal : Refusal) (status : ℕ) (said : List ℕ) → JudgesHeadText text (Err refusal) → status ≡ 2
+    → BeginsWith (rule_head file refusal) said → (strict : Bool) → ExplainsText subjects.Debugged strict file text status said
+refused_head file text refusal status said judged is begins strict = (Some refusal, (Err refusal, judged, refl), (is, begins))
+
+pub of_script : (file text : List ℕ) (job : Job) (from status : ℕ) (said : List ℕ) → JudgesHeadText text (Ok (job, from))
+    → ((strict : Bool) → Says subjects.Debugged strict file (rule_of (script_of job.decls text from)) status said)
+    → (strict : Bool) → ExplainsText subjects.Debugged strict file text status said
+of_script file text job from status said judged says strict = (rule_of (script_of job.decls text from), (Ok (job, from), judged, refl), says strict)
+
+pub accepted_script : (file text : List ℕ) (from : ℕ) (ds decls : List Decl) (commands : List Command) (status : ℕ) (said : List ℕ) → ds ≡ decls
+    → script_of ds text from ≡ Ok commands → status ≡ 0 → said ≡ []
+    → (strict : Bool) → Says subjects.Debugged strict file (rule_of (script_of decls text from)) status said
+accepted_script file text from ds decls commands status said same is zero empty strict = rw (sym same, is) (zero, empty)
+
+pub refused_script : (file text : List ℕ) (from : ℕ) (ds decls : List Decl) (refusal : Refusal) (status : ℕ) (said : List ℕ) → ds ≡ decls
+    → script_of ds text from ≡ Err refusal → status ≡ 2 → BeginsWith (rule_head file refusal) said
+    → (strict : Bool) → Says subjects.Debugged strict file (rule_of (script_of decls text from)) status said
+refused_script file text from ds decls refusal status said same is two begins strict = rw (sym same, is) (two, begins)
 
 -- the whole input of a source, which isn't too long
-pub of_input : (strict : Bool) (file : List ℕ) (old new : Option (List ℕ)) (input : List ℕ) (status : ℕ) (text : List ℕ)
-    → Consumes old new input → IsAtEnd new → length input ≤ 16777216
-    → ((verdict : Result Job Refusal) × JudgesText input verdict × Says strict file verdict status text)
-    → IsExplained strict file old new status text
-of_input strict file old new input status text consumed end few (verdict, judged, says) =
-    record { input = input; consumed = consumed; whole = inl (end, few); explained = (verdict, within few judged, says) }
+pub of_input : (subject : Subject) (strict : Bool) (file : List ℕ) (old new : Option (List ℕ)) (input : List ℕ) (status : ℕ) (text : List ℕ)
+    → Consumes old new input → IsAtEnd new → length input ≤ 16777216 → ExplainsText subject strict file input status text
+    → IsExplained subject strict file old new status text
+of_input subject strict file old new input status text consumed end few (found, finds, says) =
+    record { input = input; consumed = consumed; whole = inl (end, few); explained = (found, within few finds, says) }
 
 -- an input that is too long
-pub of_excess : (strict : Bool) (file : List ℕ) (old new : Option (List ℕ)) (input : List ℕ) (status : ℕ) (text : List ℕ)
-    → Consumes old new input → length input ≡ 16777217 → Says strict file (Err too_long) status text
-    → IsExplained strict file old new status text
-of_excess strict file old new input status text consumed count says =
-    record { input = input; consumed = consumed; whole = inr count; explained = (Err too_long, over (omega (arith, count)), says) }
+pub of_excess : (subject : Subject) (strict : Bool) (file : List ℕ) (old new : Option (List ℕ)) (input : List ℕ) (status : ℕ) (text : List ℕ)
+    → Consumes old new input → length input ≡ 16777217 → Says subject strict file (Some too_long) status text
+    → IsExplained subject strict file old new status text
+of_excess subject strict file old new input status text consumed count says =
+    record { input = input; consumed = consumed; whole = inr count; explained = (Some too_long, over (omega (arith, count)), says) }

@@ -1,10 +1,36 @@
 -- What is said of an input: a status, and a text for standard error.
-use Rattle.std.specs.Prelude.{◌≡◌, ◌≢◌, ◌≤◌, ◌++◌, ◌⊎◌, ◌&&◌, Bool, ℕ, List, length, ltb, if◌then◌else◌, Option, Result, Ok, Err}
+use Rattle.std.specs.Prelude.{◌≡◌, ◌≢◌, ◌<◌, ◌≤◌, [], ◌++◌, ◌⊎◌, ◌&&◌, Bool, ℕ, List, length, ltb, if◌then◌else◌, Option, Some, None, Result, Ok, Err}
 use Rattle.std.specs.Io.KnownBytes.{Consumes, IsAtEnd}
 use Rattle.kp_base.specs.declared.refusal.Refusal.{Refusal}
 use Rattle.kp_ast.specs.declared.tree.Job.{Job}
-use Rattle.kp_frontend.specs.Judging.{Judges}
-use Rattle.kp_view_findings.specs.Heads.{error_head}
+use Rattle.kp_asm.specs.Program.{assembled}
+use Rattle.kp_debug_script.specs.Scripts.{script_of}
+use Rattle.kp_frontend.specs.Judging.{JudgesText, JudgesHeadText, most_bytes, too_long}
+use Rattle.kp_view_texts.specs.Heads.{rule_head}
+use Rattle.kp_view_explain.specs.declared.words.Subject.{Subject}
+use Rattle.kp_view_explain.specs.declared.words.Subject.TheVariants as subjects
+
+-- the violated rule, if a verdict is one
+abbrev pub rule_of : {X : Type 0} → Result X Refusal → Option Refusal
+rule_of (Ok x) = None
+rule_of (Err refusal) = Some refusal
+
+-- the first of E39 to E41 that the script after a job violates, where a rule of the job comes first
+abbrev pub in_script : List ℕ → Result (Job × ℕ) Refusal → Option Refusal
+in_script text (Ok (job, from)) = rule_of (script_of job.decls text from)
+in_script text (Err refusal) = Some refusal
+
+-- The first rule that an input which is not too long violates, or none.
+abbrev pub FindsIn : Subject → List ℕ → Option Refusal → Type 0
+FindsIn subjects.Job text found = (verdict : Result Job Refusal) × JudgesText text verdict × (found ≡ rule_of verdict)
+FindsIn subjects.Program text found = found ≡ rule_of (assembled text)
+FindsIn subjects.Debugged text found = (verdict : Result (Job × ℕ) Refusal) × JudgesHeadText text verdict × (found ≡ in_script text verdict)
+
+-- The first rule that an input violates, or none.
+pub data Finds (subject : Subject) (input : List ℕ) : Option Refusal → Type 0 where
+  -- E3
+  over : most_bytes < length input → Finds subject input (Some too_long)
+  within : {found : Option Refusal} → length input ≤ most_bytes → FindsIn subject input found → Finds subject input found
 
 -- the status for an accepted job with these warnings, where warnings may count as errors
 abbrev pub warned : Bool → List ℕ → ℕ
@@ -14,23 +40,32 @@ warned strict text = if strict && ltb 0 (length text) then 2 else 0
 abbrev pub BeginsWith : List ℕ → List ℕ → Type 0
 BeginsWith front text = (rest : List ℕ) × (text ≡ front ++ rest)
 
--- The outcome for a verdict. For a refused input the status is 2, and the text begins with the file, the place and the rule of the verdict. For an
--- accepted one it is 0, or 2 where there are warnings and they count as errors.
-abbrev pub Says : Bool → List ℕ → Result Job Refusal → ℕ → List ℕ → Type 0
-Says strict file (Ok job) status text = status ≡ warned strict text
-Says strict file (Err refusal) status text = (status ≡ 2) × BeginsWith (error_head file refusal) text
+-- the outcome for an input that violates no rule: for a job status 0, or 2 where there are warnings and they count as errors; for other inputs status 0
+-- and no text
+abbrev pub SaysOfAccepted : Subject → Bool → ℕ → List ℕ → Type 0
+SaysOfAccepted subjects.Job strict status text = status ≡ warned strict text
+SaysOfAccepted _ strict status text = (status ≡ 0) × (text ≡ [])
 
--- the outcome for an input
-abbrev pub Explains : Bool → List ℕ → List ℕ → ℕ → List ℕ → Type 0
-Explains strict file input status text = (verdict : Result Job Refusal) × Judges input verdict × Says strict file verdict status text
+-- The outcome for an input. Where it violates a rule the status is 2, and the text begins with the file, the place and the first rule that it violates.
+abbrev pub Says : Subject → Bool → List ℕ → Option Refusal → ℕ → List ℕ → Type 0
+Says subject strict file None status text = SaysOfAccepted subject strict status text
+Says subject strict file (Some refusal) status text = (status ≡ 2) × BeginsWith (rule_head file refusal) text
+
+-- the same, for what the rules find in an input that is not too long
+abbrev pub ExplainsText : Subject → Bool → List ℕ → List ℕ → ℕ → List ℕ → Type 0
+ExplainsText subject strict file input status text = (found : Option Refusal) × FindsIn subject input found × Says subject strict file found status text
+
+-- the same for any input
+abbrev pub Explains : Subject → Bool → List ℕ → List ℕ → ℕ → List ℕ → Type 0
+Explains subject strict file input status text = (found : Option Refusal) × Finds subject input found × Says subject strict file found status text
 
 -- The status and the text are those for the bytes that were read from a source: to its end, where an input of at most 16,777,216 bytes ends, or one byte
 -- further.
-pub record IsExplained (strict : Bool) (file : List ℕ) (old new : Option (List ℕ)) (status : ℕ) (text : List ℕ) : Type 0 where
+pub record IsExplained (subject : Subject) (strict : Bool) (file : List ℕ) (old new : Option (List ℕ)) (status : ℕ) (text : List ℕ) : Type 0 where
   pub input : List ℕ
   pub consumed : Consumes old new input
   pub whole : (IsAtEnd new × (length input ≤ 16777216)) ⊎ (length input ≡ 16777217)
-  pub explained : Explains strict file input status text
+  pub explained : Explains subject strict file input status text
 
 -- a status of an outcome: not that of a read fault (3), a write fault (4) or of out of memory (5)
 abbrev pub IsFinal : ℕ → Type 0

@@ -1,15 +1,20 @@
-//! Why a description is refused: the rule and the place that `kp_frontend` names, and the facts behind it; and warnings for one that is accepted.
+//! Why an input is rejected: the rule and the place that its reader names, and the facts behind it; and warnings for a job that is accepted.
 //!
-//! The facts come from a second pass over the text, its tokens or its tree, which goes on after a violation. Where that pass has no finding of the rule
-//! at the place, a fixed sentence for the rule stands.
+//! The facts come from a second pass over the text, its tokens or its tree, which goes on after a violation of a job. Where that pass has no finding of
+//! the rule at the place, it is a fixed sentence for the rule.
 #![tactic(auto)]
 
 mod calling;
 mod explaining;
+mod explanation;
 mod front;
+mod of_job;
+mod program;
 mod reading;
+mod script;
 mod words;
 
 pub use calling::{Stop, explain_source};
-pub use explaining::{Explanation, explain};
-pub use words::Order;
+pub use explaining::explain;
+pub use explanation::Explanation;
+pub use words::{HELP, Order, Subject, asks_help};

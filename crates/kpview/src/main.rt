@@ -1,12 +1,12 @@
 //! The program `kpview`: it passes what the words of its command line ask for, a file or standard input, and the standard streams to a top call: that of
-//! `explain`, or that of all other words.
+//! `explain`, or that of all other words. The help of `explain` is printed here.
 #![tactic(auto)]
 
 mod output;
 
 use kp_base::{NoMemory, StdSink, StdSource};
 use kp_view::view;
-use kp_view_explain::{Order, explain_source};
+use kp_view_explain::{HELP, Order, asks_help, explain_source};
 use kp_view_words::Request;
 use output::Output;
 use std::alloc::AllocError;
@@ -53,6 +53,9 @@ fn words(rt: &(impl Env + AllocGlobal)) -> Result<Vec<String>, AllocError> {
 
 // Does what the words ask for.
 fn run(rt: &HostRuntime, words: &[String]) -> u8 {
+    if asks_help(words) {
+        return help(rt);
+    }
     if let Some(order) = Order::of(words) {
         return explain(rt, &order);
     }
@@ -89,23 +92,43 @@ fn on_source<R: Read + Drop>(rt: &HostRuntime, request: &Request<'_>, reader: R)
     }
 }
 
+// Prints the help of `explain`.
+fn help(rt: &HostRuntime) -> u8 {
+    match print!(rt; "{HELP}") {
+        Ok(()) => 0,
+        Err(_) => UNWRITTEN,
+    }
+}
+
 // Explains a file, or standard input.
 fn explain(rt: &HostRuntime, order: &Order<'_>) -> u8 {
     let Some(file) = order.file else {
-        return explain_reader(rt, b"<stdin>", order.strict, rt.reader());
+        return explain_reader(rt, b"<stdin>", order, rt.reader());
     };
     match fs::open(rt, file.as_str()) {
-        Ok(reader) => explain_reader(rt, file.as_bytes(), order.strict, reader),
+        Ok(reader) => explain_reader(rt, file.as_bytes(), order, reader),
         Err(error) if error.kind() == ErrorKind::OutOfMemory => NO_MEMORY,
         Err(_) => UNREAD,
     }
 }
 
 // Explains what a reader has, under the name of its file.
-fn explain_reader<R: Read + Drop>(rt: &HostRuntime, name: &[u8], strict: bool, reader: R) -> u8 {
+fn explain_reader<R: Read + Drop>(
+    rt: &HostRuntime,
+    name: &[u8],
+    order: &Order<'_>,
+    reader: R,
+) -> u8 {
     let mut source = StdSource::new(reader);
     let mut err = StdSink::new(rt.stderr());
-    explain_source(rt.alloc(), name, strict, &mut source, &mut err)
+    explain_source(
+        rt.alloc(),
+        name,
+        order.subject,
+        order.strict,
+        &mut source,
+        &mut err,
+    )
 }
 
 // Says on standard error why nothing, or not all, was printed. The status says the same, so a failure here is ignored.

@@ -1,0 +1,173 @@
+// Why the script of the debugger is rejected.
+use crate::note::{excerpt_at, write_fault};
+use crate::script_fault::{ScriptFault, Verb};
+use crate::tokens::is_blank;
+use kp_ast::{Decl, Named};
+use kp_base::{NoMemory, Refusal, is_digit, run_length};
+use kp_bits::{LiteralFault, read_literal};
+use kp_view_excerpt::offset_of;
+use kp_view_help::{Kind, Word};
+use std::alloc::Global;
+
+/// Appends what follows the head of a rule of scripts, for a job with these declarations: the message, the excerpt at its place, and what helps.
+pub fn write_script(
+    alloc: Global,
+    out: &mut Vec<u8>,
+    text: &[u8],
+    decls: &[Decl],
+    refusal: Refusal,
+) -> Result<(), NoMemory> {
+    let (before, rest) = text.split_at(offset_of(text, refusal.place));
+    let (word, after) = next_word(rest);
+    let fault = match refusal.number {
+        39 => no_command(word, after),
+        40 => ScriptFault::ManyCycles(Word(word)),
+        41 => wrong_register(decls, before, word, after),
+        _ => ScriptFault::Unknown,
+    };
+    let excerpt = excerpt_at(text, refusal.place, word.len());
+    write_fault(alloc, out, &excerpt, &fault, &fault.help())
+}
+
+// The first word of a line, and what follows it; no bytes where the line ends.
+fn next_word(line: &[u8]) -> (&[u8], &[u8]) {
+    let (_blanks, rest) = line.split_at(run_length(line, |byte| is_blank(byte)));
+    rest.split_at(run_length(rest, |byte| byte != b'\n' && !is_blank(byte)))
+}
+
+// E39.
+fn no_command<'t>(word: &'t [u8], after: &'t [u8]) -> ScriptFault<'t> {
+    let (first, rest) = next_word(after);
+    match Verb::of(word) {
+        None => ScriptFault::NoCommand(Word(word)),
+        Some(verb) => match verb {
+            Verb::Until => no_until(rest),
+            Verb::Step | Verb::Back => {
+                if first.is_empty() || !next_word(rest).0.is_empty() {
+                    ScriptFault::Words(verb)
+                } else {
+                    ScriptFault::NoCount {
+                        verb,
+                        word: Word(first),
+                    }
+                }
+            }
+            Verb::Show | Verb::Row => ScriptFault::Words(verb),
+        },
+    }
+}
+
+// The same for `until`, after its first word.
+fn no_until(line: &[u8]) -> ScriptFault<'_> {
+    let (literal, after) = next_word(line);
+    let (count, rest) = next_word(after);
+    if count.is_empty() || !next_word(rest).0.is_empty() {
+        ScriptFault::Words(Verb::Until)
+    } else if !is_literal(literal) {
+        ScriptFault::NoLiteral(Word(literal))
+    } else {
+        ScriptFault::NoCount {
+            verb: Verb::Until,
+            word: Word(count),
+        }
+    }
+}
+
+// Whether a word has the form of a literal, whatever its value.
+fn is_literal(word: &[u8]) -> bool {
+    !matches!(read_literal(word), Err(LiteralFault::BadDigit))
+}
+
+// E41: the name of no register, with a literal and a count after it, or the literal, with a count after it.
+fn wrong_register<'t>(
+    decls: &'t [Decl],
+    before: &'t [u8],
+    word: &'t [u8],
+    after: &'t [u8],
+) -> ScriptFault<'t> {
+    let (_count, rest) = next_word(after);
+    if next_word(rest).0.is_empty() {
+        return wrong_value(decls, last_word(before), word);
+    }
+    match decls.iter().find(|decl| named(decl).name.bytes() == word) {
+        Some(decl) => ScriptFault::NoRegister {
+            name: Word(word),
+            kind: kind_of(decl),
+            line: named(decl).at.line,
+        },
+        None => ScriptFault::Undeclared(Word(word)),
+    }
+}
+
+// The last word of a text.
+fn last_word(text: &[u8]) -> &[u8] {
+    let blanks = text
+        .iter()
+        .rev()
+        .take_while(|byte| is_blank(**byte))
+        .count();
+    let (front, _blanks) = text.split_at(text.len().saturating_sub(blanks));
+    let word = front
+        .iter()
+        .rev()
+        .take_while(|byte| !is_blank(**byte) && **byte != b'\n')
+        .count();
+    front.split_at(front.len().saturating_sub(word)).1
+}
+
+// The value of a register that has no such value.
+fn wrong_value<'t>(decls: &'t [Decl], name: &'t [u8], word: &'t [u8]) -> ScriptFault<'t> {
+    let Ok(literal) = read_literal(word) else {
+        return ScriptFault::LargeValue;
+    };
+    for decl in decls {
+        if let Decl::Reg(named, width, _) = decl {
+            if named.name.bytes() == name && width.value != literal.width {
+                return ScriptFault::Width {
+                    found: literal.width,
+                    wanted: width.value,
+                    name: Word(name),
+                    line: named.at.line,
+                    value: fitting(literal.value, width.value),
+                };
+            }
+        }
+    }
+    ScriptFault::Value {
+        value: literal.value,
+        width: literal.width,
+    }
+}
+
+// The value, if it is below 2^width.
+fn fitting(value: u64, width: u64) -> Option<u64> {
+    if width >= 64 || value >> width == 0 {
+        Some(value)
+    } else {
+        None
+    }
+}
+
+fn named(decl: &Decl) -> &Named {
+    match decl {
+        Decl::Reg(named, _, _)
+        | Decl::File(named, _, _)
+        | Decl::Pipe(named, _)
+        | Decl::Hint(named, _, _)
+        | Decl::Sample(named, _, _) => named,
+        Decl::Target(output) => &output.name,
+        Decl::Func(function) => &function.name,
+    }
+}
+
+fn kind_of(decl: &Decl) -> Kind {
+    match decl {
+        Decl::Reg(_, _, _) => Kind::Register,
+        Decl::File(_, _, _) => Kind::File,
+        Decl::Pipe(_, _) => Kind::Pipe,
+        Decl::Hint(_, _, _) => Kind::Hint,
+        Decl::Sample(_, _, _) => Kind::Sample,
+        Decl::Target(_) => Kind::Output,
+        Decl::Func(_) => Kind::Function,
+    }
+}
