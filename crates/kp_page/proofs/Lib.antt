@@ -1,0 +1,5 @@
+pub mod Lines
+pub mod Words
+pub mod Alike
+pub mod Running
+pub mod Listed

@@ -1,0 +1,25 @@
+use Rattle.std.proofs.Common.{◌∙◌, subst, sym}
+use Rattle.kp_tool_report.specs.inner.Targets.{StandsAt}
+use Rattle.kp_debug_report.specs.inner.Standing.{HasAddresses}
+use Rattle.kp_debug_report.proofs.Places.{register_is, file_is}
+use Rattle.kp_page.proofs.states.write_target.Goals as goal
+
+pub register_shown-value-requires-clause-register : goal.register_shown-value-requires-clause-register
+register_shown-value-requires-clause-register g c =
+    let stands = subst (StandsAt c.args.job.now.design.job c.args.t) c.in-Reg.is c.requires.stands in
+    register_is c.args.job.now.design.job c.netlist-net.result.now c.args.now.now.net c.args.t c.register_named-number.result c.in-Reg.name c.in-Reg.field-1
+    stands (sym c.netlist-net.ensures) c.register_named-number.ensures
+
+pub words_before-old-requires-clause-file : goal.words_before-old-requires-clause-file
+words_before-old-requires-clause-file g c =
+    let stands = subst (StandsAt c.args.job.now.design.job c.args.t) c.in-File.is c.requires.stands in
+    let some = subst HasAddresses c.in-File.is c.requires.some in
+    file_is c.args.job.now.design.job c.netlist-net.result.now c.args.before.now.net c.args.t c.file_named-number.result c.in-File.name c.in-File.field-1 c.in-File.address
+    stands.0 some (c.requires.net ∙ sym c.netlist-net.ensures) c.file_named-number.ensures
+
+pub write_words-requires-clause-file : goal.write_words-requires-clause-file
+write_words-requires-clause-file g c =
+    let stands = subst (StandsAt c.args.job.now.design.job c.args.t) c.in-File.is c.requires.stands in
+    let some = subst HasAddresses c.in-File.is c.requires.some in
+    file_is c.args.job.now.design.job c.netlist-net.result.now c.args.now.now.net c.args.t c.file_named-number.result c.in-File.name c.in-File.field-1 c.in-File.address
+    stands.0 some (sym c.netlist-net.ensures) c.file_named-number.ensures

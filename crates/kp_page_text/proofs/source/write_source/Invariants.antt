@@ -1,0 +1,10 @@
+use Rattle.std.proofs.Common.{◌≤◌, take}
+use Rattle.std.specs.Prelude.{flat_map}
+use Rattle.std.specs.Io.KnownBytes.{Appends}
+use Rattle.kp_page_text.specs.Page.{escaped}
+use Rattle.kp_page_text.proofs.source.write_source.Given as goal
+
+abbrev pub invariant-loop-byte : goal.invariant-loop-byte
+invariant-loop-byte g l =
+    Appends (g.K.Sink.held l.initial.sink) (g.K.Sink.held l.sink) (flat_map escaped (take l.byte-index l.source))
+    × (g.K.Sink.faults l.initial.sink ≤ g.K.Sink.faults l.sink)
