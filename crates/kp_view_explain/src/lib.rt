@@ -7,7 +7,6 @@
 mod calling;
 mod explaining;
 mod explanation;
-mod front;
 mod of_job;
 mod program;
 mod reading;

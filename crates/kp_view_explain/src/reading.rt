@@ -1,20 +1,17 @@
 // Why a text isn't read: no token begins, or no description goes on with one.
 ghost use Rattle.std.specs.Prelude.{◌≤◌, length};
 
-use crate::front::front_of;
 use kp_base::{NoMemory, Place, Refused, word_length};
 use kp_lex::{Token, TokenKind, lex};
 use kp_parse::parse;
 use kp_view_excerpt::offset_of;
-use kp_view_help::{Expected, FoundToken, KEYWORDS, MARKS, TokenClass, Word};
+use kp_view_expected::{Expected as Listed, TokenClass as Class, expected};
+use kp_view_help::{Expected, FoundToken, TokenClass, Word};
 use kp_view_message::{Message, ReadingFault};
 use std::alloc::Global;
 
 // The most bytes of a text that `lex` takes.
 const MOST: usize = 4_294_967_294;
-
-// The most bytes for which the tokens that may follow are listed.
-const MOST_FRONT: usize = 65_536;
 
 /// Why no token begins at a place.
 pub(crate) fn no_token(text: &[u8], place: Place) -> Message<'_> {
@@ -64,12 +61,30 @@ fn wrong_token<'t>(
         Some(token) => token_of(text, *token),
         None => FoundToken::End,
     };
-    let front = front_of(alloc, text, before)?;
-    if front.len() > MOST_FRONT {
-        return Ok(Message::Reading(ReadingFault::NoSentence(found)));
-    }
-    let expected = expected_after(alloc, front.as_slice())?;
+    let listed = expected(alloc, before)?;
+    let expected = told(&listed);
     Ok(Message::Reading(ReadingFault::Unexpected { found, expected }))
+}
+
+// The listed classes, as a message tells them.
+fn told(listed: &Listed) -> Expected {
+    let mut expected = Expected::none();
+    for class in Class::all() {
+        if listed.has(*class) {
+            expected.add(told_class(*class));
+        }
+    }
+    expected
+}
+
+fn told_class(class: Class) -> TokenClass {
+    match class {
+        Class::Keyword(word) => TokenClass::Keyword(word),
+        Class::Mark(mark) => TokenClass::Mark(mark),
+        Class::Name => TokenClass::Name,
+        Class::Number => TokenClass::Number,
+        Class::Literal => TokenClass::Literal,
+    }
 }
 
 // The number of the token at a place, or the number of tokens.
@@ -95,57 +110,8 @@ fn token_of<'t>(text: &'t [u8], token: Token) -> FoundToken<'t> {
     }
 }
 
-/// The bytes of a token.
-pub(crate) fn bytes_of<'t>(text: &'t [u8], token: Token) -> &'t [u8] {
+// The bytes of a token.
+fn bytes_of<'t>(text: &'t [u8], token: Token) -> &'t [u8] {
     let rest = text.get(token.start as usize..).unwrap_or(&[]);
     rest.get(..token.len as usize).unwrap_or(&[])
-}
-
-// The classes of tokens with which some description goes on after these bytes.
-fn expected_after(alloc: Global, front: &[u8]) -> Result<Expected, NoMemory> {
-    let mut expected = Expected::none();
-    for word in KEYWORDS {
-        try_class(alloc, front, &mut expected, TokenClass::Keyword(word))?;
-    }
-    for mark in MARKS {
-        try_class(alloc, front, &mut expected, TokenClass::Mark(mark))?;
-    }
-    try_class(alloc, front, &mut expected, TokenClass::Name)?;
-    try_class(alloc, front, &mut expected, TokenClass::Number)?;
-    try_class(alloc, front, &mut expected, TokenClass::Literal)?;
-    Ok(expected)
-}
-
-fn try_class(
-    alloc: Global,
-    front: &[u8],
-    expected: &mut Expected,
-    class: TokenClass,
-) -> Result<(), NoMemory> {
-    if may_follow(alloc, front, class)? {
-        expected.add(class);
-    }
-    Ok(())
-}
-
-// Whether some description goes on with a token of the class after these bytes: where `parse` doesn't refuse that token.
-fn may_follow(alloc: Global, front: &[u8], class: TokenClass) -> Result<bool, NoMemory> {
-    let mut text = Vec::from_slice(alloc, front)?;
-    text.extend_from_slice(class.sample())?;
-    if text.len() > MOST {
-        return Ok(false);
-    }
-    let lexed = match lex(alloc, text.as_slice()) {
-        Ok(lexed) => lexed,
-        Err(Refused::NoMemory) => return Err(NoMemory),
-        Err(Refused::Rule(_)) => return Ok(false),
-    };
-    let Some(last) = lexed.tokens.as_slice().last() else {
-        return Ok(false);
-    };
-    match parse(alloc, &lexed, text.as_slice()) {
-        Ok(_) => Ok(true),
-        Err(Refused::NoMemory) => Err(NoMemory),
-        Err(Refused::Rule(refusal)) => Ok(refusal.place != last.place),
-    }
 }
