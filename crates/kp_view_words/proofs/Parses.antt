@@ -314,17 +314,19 @@ none_by false x h = h
 
 -- A name is that of no word, or it is among the known names. Each of these is a case here.
 listed : (name : Text) → (word_named name ≡ None) ⊎ IsKnown known_names name
-listed name = go (bytes_eq name (codes "diagram")) (bytes_eq name (codes "svg")) (bytes_eq name (codes "paths")) refl refl refl
+listed name =
+    go (bytes_eq name (codes "diagram")) (bytes_eq name (codes "svg")) (bytes_eq name (codes "page")) (bytes_eq name (codes "paths")) refl refl refl refl
   where
     is : (text : Text) → bytes_eq name text ≡ true → text ≡ name
     is text h = sym ((bytes_eq-Decides name text).0 h)
 
-    go : (diagram svg paths : Bool) → bytes_eq name (codes "diagram") ≡ diagram → bytes_eq name (codes "svg") ≡ svg
-        → bytes_eq name (codes "paths") ≡ paths → (word_named name ≡ None) ⊎ IsKnown known_names name
-    go true svg paths d s p = inr (subst (IsKnown known_names) (is (codes "diagram") d) (refl, refl))
-    go false true paths d s p = inr (subst (IsKnown known_names) (is (codes "svg") s) (refl, refl))
-    go false false true d s p = inr (subst (IsKnown known_names) (is (codes "paths") p) (refl, refl))
-    go false false false d s p = inl (rw (d, s, p) refl)
+    go : (diagram svg page paths : Bool) → bytes_eq name (codes "diagram") ≡ diagram → bytes_eq name (codes "svg") ≡ svg
+        → bytes_eq name (codes "page") ≡ page → bytes_eq name (codes "paths") ≡ paths → (word_named name ≡ None) ⊎ IsKnown known_names name
+    go true svg page paths d s q p = inr (subst (IsKnown known_names) (is (codes "diagram") d) (refl, refl))
+    go false true page paths d s q p = inr (subst (IsKnown known_names) (is (codes "svg") s) (refl, refl))
+    go false false true paths d s q p = inr (subst (IsKnown known_names) (is (codes "page") q) (refl, refl))
+    go false false false true d s q p = inr (subst (IsKnown known_names) (is (codes "paths") p) (refl, refl))
+    go false false false false d s q p = inl (rw (d, s, q, p) refl)
 
 pub unmatched : (words : List Text) → AreFree words → (IsPassed words → ⊥) → word_of words ≡ None
 unmatched [] h refused = refl

@@ -1,6 +1,6 @@
 -- A request of the program, as what it asks for.
 use Rattle.std.specs.Prelude.{ℕ, List, Option, None, map, string_bytes, option_map}
-use Rattle.kp_view_words.specs.Words.{Asked, Order, Run, Task, bad_words, help, version, show, diagram, svg, paths}
+use Rattle.kp_view_words.specs.Words.{Asked, Order, Run, Task, bad_words, help, version, show, diagram, svg, page, paths}
 use Rattle.kp_view_words.specs.declared.task.Order as code_order
 use Rattle.kp_view_words.specs.declared.task.Order.TheVariants as orders
 use Rattle.kp_view_words.specs.declared.task.Run as code_run
@@ -14,6 +14,7 @@ run_seen run = record { count = run.count; names = map string_bytes run.names.no
 abbrev pub order_seen : code_order.Order → Order
 order_seen (orders.Diagram run) = diagram (run_seen run)
 order_seen (orders.Svg run) = svg (run_seen run)
+order_seen (orders.Page run) = page (run_seen run)
 order_seen orders.Paths = paths
 
 abbrev pub task_seen : code_task.Task → Task

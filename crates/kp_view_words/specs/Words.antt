@@ -22,6 +22,7 @@ pub record Run : Type 0 where
 pub data Order : Type 0 where
   diagram : Run → Order
   svg : Run → Order
+  page : Run → Order
   paths : Order
 
 -- What is to be shown of a job, and its file, or none for standard input.
@@ -39,6 +40,7 @@ pub data Asked : Type 0 where
 abbrev pub names_for : Order → List Text
 names_for (diagram run) = run.names
 names_for (svg run) = run.names
+names_for (page run) = run.names
 names_for paths = []
 
 -- the word of this name
@@ -46,7 +48,8 @@ abbrev pub word_named : Text → Option Word
 word_named name =
     if bytes_eq name (codes "diagram") then Some words.Diagram
     else (if bytes_eq name (codes "svg") then Some words.Svg
-    else (if bytes_eq name (codes "paths") then Some words.Paths else None))
+    else (if bytes_eq name (codes "page") then Some words.Page
+    else (if bytes_eq name (codes "paths") then Some words.Paths else None)))
 
 -- the topic of a name: its word, or the program
 abbrev pub topic_named : Text → Topic
@@ -117,15 +120,16 @@ abbrev pub run_in : List Text → Option RunAsked
 run_in [] = None
 run_in (number ∷ rest) = option_and_then (λ count. run_with count rest) (count_of 1000 number)
 
--- the paths of a job, with at most a file
-abbrev pub paths_with : List Text → Option Task
-paths_with rest = if nat_lt 1 (length rest) then None else Some (record { order = paths; file = slice_get rest 0 })
+-- what is to be written, with at most a file after it
+abbrev pub with_file : Order → List Text → Option Task
+with_file order rest = if nat_lt 1 (length rest) then None else Some (record { order = order; file = slice_get rest 0 })
 
 -- what a word asks for, with these words after it
 abbrev pub task_with : Word → List Text → Option Task
 task_with words.Diagram rest = option_map (λ asked. record { order = diagram asked.run; file = asked.file }) (run_in rest)
 task_with words.Svg rest = option_map (λ asked. record { order = svg asked.run; file = asked.file }) (run_in rest)
-task_with words.Paths rest = paths_with rest
+task_with words.Page rest = option_map (λ asked. record { order = page asked.run; file = asked.file }) (run_in rest)
+task_with words.Paths rest = with_file paths rest
 
 -- the task of an accepted list: a word, and at most 14 further words
 abbrev pub task_named : List Text → Option Task

@@ -43,6 +43,7 @@ fn program<'a>(alloc: Global) -> Result<clap::Command<'a>, AllocError>
         .disable_help_subcommand(true);
     let program = with_word(alloc, program, "diagram")?;
     let program = with_word(alloc, program, "svg")?;
+    let program = with_word(alloc, program, "page")?;
     with_word(alloc, program, "paths")
 }
 

@@ -16,6 +16,8 @@ pub enum Order<'w> {
     Diagram(Run<'w>),
     /// The same as a picture.
     Svg(Run<'w>),
+    /// A run with the states of its cycles, as an HTML page.
+    Page(Run<'w>),
     /// Where each read can take its value from.
     Paths,
 }

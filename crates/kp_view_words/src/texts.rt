@@ -10,6 +10,7 @@ pub const VERSION: &str = "kpview 0.10.0\n";
 /// How the program is called.
 pub const USAGE: &str = "usage: kpview diagram N [NAMES] [FILE]
        kpview svg N [NAMES] [FILE]
+       kpview page N [NAMES] [FILE]
        kpview paths [FILE]
        kpview explain [--werror] [FILE]
        kpview --help
@@ -25,6 +26,11 @@ pub const USAGE_SVG: &str = "usage: kpview svg N [NAMES] [FILE]
 N is 0 to 1000; a name has 1 to 8 letters, digits or `_`
 ";
 
+/// How `page` is called.
+pub const USAGE_PAGE: &str = "usage: kpview page N [NAMES] [FILE]
+N is 0 to 1000; a name has 1 to 8 letters, digits or `_`
+";
+
 /// How `paths` is called.
 pub const USAGE_PATHS: &str = "usage: kpview paths [FILE]
 ";
@@ -37,6 +43,7 @@ usage: kpview WORD .. [FILE]
 words:
   diagram N [NAMES] [FILE]   N cycles of the pipeline, as text
   svg N [NAMES] [FILE]       the same as a picture
+  page N [NAMES] [FILE]      the same as an HTML page, with the states
   paths [FILE]               where each read takes its value from
   explain [--werror] [FILE]  why the job is rejected, and warnings
 
@@ -93,6 +100,25 @@ waits, is held from outside or is squashed. A column is grey if a guess was
 found wrong in its cycle.
 ";
 
+/// The help of `page`.
+pub const HELP_PAGE: &str =
+    "Writes an HTML page about N cycles of the pipelined machine of a job: its source,
+the pipeline diagram, and for each cycle the registers, the words of files that
+changed, and why instructions wait or are squashed. A slider and the arrow keys
+choose the cycle.
+
+usage: kpview page N [NAMES] [FILE]
+
+  N       the number of cycles, 0 to 1000
+  NAMES   a name for each stage, of 1 to 8 letters, digits or `_`, as in
+          IF ID EX ME WB; without names the stages are numbered
+  FILE    the job; without it, standard input is read. A single word after N
+          is a file. Of several, the last one is a file if it has a character
+          other than letters, digits and `_`, as in ./job
+
+The page is one file, which needs no other file and no network.
+";
+
 /// The help of `paths`.
 pub const HELP_PATHS: &str =
     "Prints a table of the forwarding paths of the pipelined machine of a job: a row
@@ -120,6 +146,7 @@ pub fn help_of(topic: Topic) -> &'static str
         Topic::Program => HELP,
         Topic::Of(Word::Diagram) => HELP_DIAGRAM,
         Topic::Of(Word::Svg) => HELP_SVG,
+        Topic::Of(Word::Page) => HELP_PAGE,
         Topic::Of(Word::Paths) => HELP_PATHS,
     }
 }
@@ -132,6 +159,7 @@ pub fn usage_of(topic: Topic) -> &'static str
         Topic::Program => USAGE,
         Topic::Of(Word::Diagram) => USAGE_DIAGRAM,
         Topic::Of(Word::Svg) => USAGE_SVG,
+        Topic::Of(Word::Page) => USAGE_PAGE,
         Topic::Of(Word::Paths) => USAGE_PATHS,
     }
 }

@@ -4,7 +4,7 @@ ghost use Rattle.std.specs.List.{list_any, list_all};
 ghost use Rattle.std.specs.Option.{option_map_or};
 ghost use Rattle.kp_view_words.specs.Asked.{asked, file_asked, order_seen, task_seen};
 ghost use Rattle.kp_base.specs.Characters.{is_word};
-ghost use Rattle.kp_view_words.specs.Words.{asked_for, names_for, topic_of, topic_named, help_place, is_help_word, is_help_flag, is_version_flag, begins_with_dash, asks_help, task_of, task_with, paths_with, run_in, run_with, word_named, count_of, names_in, file_in, is_file_after, is_name, is_path};
+ghost use Rattle.kp_view_words.specs.Words.{asked_for, names_for, topic_of, topic_named, help_place, is_help_word, is_help_flag, is_version_flag, begins_with_dash, asks_help, task_of, task_with, with_file, run_in, run_with, word_named, count_of, names_in, file_in, is_file_after, is_name, is_path};
 ghost use Rattle.kp_view_words.specs.inner.Asking.{run_asked};
 
 use crate::matching::word_of;
@@ -26,6 +26,8 @@ pub enum Word {
     Diagram,
     /// `svg`: the same as a picture.
     Svg,
+    /// `page`: a run with the states of its cycles, as an HTML page.
+    Page,
     /// `paths`: where each read can take its value from.
     Paths,
 }
@@ -82,7 +84,7 @@ impl<'w> Order<'w> {
         ensures { map string_bytes result.now ≡ names_for (order_seen self.now) }
     {
         match self {
-            Order::Diagram(run) | Order::Svg(run) => run.names,
+            Order::Diagram(run) | Order::Svg(run) | Order::Page(run) => run.names,
             Order::Paths => &[],
         }
     }
@@ -108,6 +110,7 @@ impl Word {
         match name {
             "diagram" => Some(Word::Diagram),
             "svg" => Some(Word::Svg),
+            "page" => Some(Word::Page),
             "paths" => Some(Word::Paths),
             _ => None,
         }
@@ -221,19 +224,26 @@ fn task_with<'w>(word: Word, rest: &'w [String]) -> Option<Task<'w>>
                 file: asked.file,
             })
         }
-        Word::Paths => paths_with(rest),
+        Word::Page => {
+            let asked = run_in(rest)?;
+            Some(Task {
+                order: Order::Page(asked.run),
+                file: asked.file,
+            })
+        }
+        Word::Paths => with_file(Order::Paths, rest),
     }
 }
 
-// The paths of a job, with at most a file.
-fn paths_with<'w>(rest: &'w [String]) -> Option<Task<'w>>
-    ensures { option_map task_seen result ≡ paths_with (map string_bytes rest.now) }
+// What is to be written, with at most a file after it.
+fn with_file<'w>(order: Order<'w>, rest: &'w [String]) -> Option<Task<'w>>
+    ensures { option_map task_seen result ≡ with_file (order_seen order.entry) (map string_bytes rest.now) }
 {
     if rest.len() > 1 {
         return None;
     }
     Some(Task {
-        order: Order::Paths,
+        order,
         file: rest.first(),
     })
 }
