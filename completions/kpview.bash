@@ -20,7 +20,7 @@ _kpview() {
     fi
     compopt +o default 2>/dev/null
     case $count in
-        0) COMPREPLY=($(compgen -W 'diagram svg paths explain help --help --version' -- "$cur")) ;;
+        0) COMPREPLY=($(compgen -W 'diagram svg page paths explain help --help --version' -- "$cur")) ;;
         1)
             case ${COMP_WORDS[1]} in
                 paths) compopt -o default 2>/dev/null ;;

@@ -8,6 +8,7 @@ end
 
 complete -c kpview -n '__kpview_argument 1' -f
 complete -c kpview -n '__kpview_argument 1' -k -a paths -d 'Print where each read takes its value from'
+complete -c kpview -n '__kpview_argument 1' -k -a page -d 'Write N cycles with their states as a page of HTML'
 complete -c kpview -n '__kpview_argument 1' -k -a svg -d 'Draw N cycles of the pipeline as a picture'
 complete -c kpview -n '__kpview_argument 1' -k -a diagram -d 'Print N cycles of the pipeline as text'
 complete -c kpview -n '__kpview_argument 1' -k -a explain -d 'Say why a job is rejected, and warn'

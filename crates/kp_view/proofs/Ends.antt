@@ -58,23 +58,24 @@ module _ {S : Type 0} (held : S → Option (List ℕ)) (faults : S → ℕ) (fil
 
   -- a job that violates none
   pub accepted_job : (task : Task) (input : List ℕ) (job : Job) → length input ≤ 16777216 → JudgesText input (Ok job) → (old new : S) {T : Type 0} (r : Result T Failure)
-      → Ends held faults ⊥ (DueOfJob task.order job) file old new r → Ends held faults ⊥ (DueFor (show task) input) file old new r
+      → Ends held faults ⊥ (DueOfJob task.order input job) file old new r → Ends held faults ⊥ (DueFor (show task) input) file old new r
   accepted_job task input job short judged old new r ends =
-      weaker ⊥ ⊥ (DueOfJob task.order job) (DueFor (show task) input) (λ u. u) (λ status text due. (Ok job, within short judged, due)) old new r ends
+      weaker ⊥ ⊥ (DueOfJob task.order input job) (DueFor (show task) input) (λ u. u) (λ status text due. (Ok job, within short judged, due)) old new r ends
 
   -- the names are or aren't names for the stages of the job
-  pub by_names : (fit other : Bool) (order : Order) (job : Job) → fit ≡ other → (old new : S) {T : Type 0} (r : Result T Failure)
-      → Ends held faults ⊥ (DueOfNames other order job) file old new r → Ends held faults ⊥ (DueOfNames fit order job) file old new r
-  by_names fit other order job is old new r ends = subst (λ (b : Bool). Ends held faults ⊥ (DueOfNames b order job) file old new r) (sym is) ends
+  pub by_names : (fit other : Bool) (order : Order) (input : List ℕ) (job : Job) → fit ≡ other → (old new : S) {T : Type 0} (r : Result T Failure)
+      → Ends held faults ⊥ (DueOfNames other order input job) file old new r → Ends held faults ⊥ (DueOfNames fit order input job) file old new r
+  by_names fit other order input job is old new r ends = subst (λ (b : Bool). Ends held faults ⊥ (DueOfNames b order input job) file old new r) (sym is) ends
 
-  pub names_wrong : (T : Type 0) (order : Order) (job : Job) (given stages : ℕ) (s : S) → names_fit order job ≡ false → given ≡ length (names_for order)
-      → stages ≡ job.stages.value → Ends {U = T} held faults ⊥ (DueOfJob order job) file s s (Err (Complained (complaints.WrongNames given stages)))
-  names_wrong T order job given stages s unfit g k =
-      by_names (names_fit order job) false order job unfit s s {T = T} (Err (Complained (complaints.WrongNames given stages))) (refl, (refl, ap₂ names_text g k))
+  pub names_wrong : (T : Type 0) (order : Order) (input : List ℕ) (job : Job) (given stages : ℕ) (s : S) → names_fit order job ≡ false → given ≡ length (names_for order)
+      → stages ≡ job.stages.value → Ends {U = T} held faults ⊥ (DueOfJob order input job) file s s (Err (Complained (complaints.WrongNames given stages)))
+  names_wrong T order input job given stages s unfit g k =
+      by_names (names_fit order job) false order input job unfit s s {T = T} (Err (Complained (complaints.WrongNames given stages))) (refl, (refl, ap₂ names_text g k))
 
 -- the text of a word was written, which shows the run
-pub drawn_as : (order other : Order) (job : Job) (text : List ℕ) → order ≡ other → text ≡ order_text other job → IsShown other job → Draws order job 0 text
-drawn_as order other job text is same shows = subst (λ (o : Order). Draws o job 0 text) (sym is) (refl, same, shows)
+pub drawn_as : (order other : Order) (input : List ℕ) (job : Job) (text : List ℕ) → order ≡ other → text ≡ order_text other input job → IsShown other job
+    → Draws order input job 0 text
+drawn_as order other input job text is same shows = subst (λ (o : Order). Draws o input job 0 text) (sym is) (refl, same, shows)
 
 -- a complaint was written
 module _ {S T : Type 0} (held : S → Option (List ℕ)) (faults : S → ℕ) (held_err : T → Option (List ℕ)) (faults_err : T → ℕ) (V : Type 0) (Q : ℕ → List ℕ → Type 0) where

@@ -36,15 +36,15 @@ never_final NoMemory status is final = final.2 is
 abbrev IsLow : ℕ → Type 0
 IsLow status = status ≤ 2
 
-low_names : (fit : _) (order : Order) (job : Job) (status : ℕ) (text : List ℕ) → DueOfNames fit order job status text → IsLow status
-low_names true order job status text (zero_is, same, shows) = omega (arith, zero_is)
-low_names false order job status text (one, rest) = omega (arith, one)
+low_names : (fit : _) (order : Order) (input : List ℕ) (job : Job) (status : ℕ) (text : List ℕ) → DueOfNames fit order input job status text → IsLow status
+low_names true order input job status text (zero_is, same, shows) = omega (arith, zero_is)
+low_names false order input job status text (one, rest) = omega (arith, one)
 
 low : (asked : Asked) (input : List ℕ) (status : ℕ) (text : List ℕ) → DueFor asked input status text → IsLow status
 low (bad_words topic) input status text (is, rest) = omega (arith, is)
 low (help topic) input status text (is, rest) = omega (arith, is)
 low version input status text (is, rest) = omega (arith, is)
-low (show task) input status text (Ok job, judged, due) = low_names (names_fit task.order job) task.order job status text due
+low (show task) input status text (Ok job, judged, due) = low_names (names_fit task.order job) task.order input job status text due
 low (show task) input status text (Err refusal, judged, (is, rest)) = omega (arith, is)
 
 module _ {S : Type 0} (held : S → Option (List ℕ)) (faults : S → ℕ) (V : Type 0) where
@@ -90,6 +90,10 @@ judges_all taken rest {verdict} (inl none) judged = subst (λ (bytes : List ℕ)
 judges_all taken rest (inr count) (over long) = over (simp length-append (omega arith))
 judges_all taken rest (inr count) (within short judged) = absurd (omega arith)
 
+-- what is too long is no job
+never_long : (taken : List ℕ) (job : Job) → length taken ≡ 16777217 → Judges taken (Ok job) → ⊥
+never_long taken job count (within short judged) = omega (arith, short, count)
+
 ends_or_long : (taken rest : List ℕ) → IsWhole true taken (Some rest) → (rest ≡ []) ⊎ (length taken ≡ 16777217)
 ends_or_long taken rest (inl (end, short)) = inl end
 ends_or_long taken rest (inr count) = inr count
@@ -99,7 +103,14 @@ due_all : (asked : Asked) (taken rest : List ℕ) (status : ℕ) (text : List �
 due_all (bad_words topic) taken rest status text whole due = due
 due_all (help topic) taken rest status text whole due = due
 due_all version taken rest status text whole due = due
-due_all (show task) taken rest status text whole (verdict, judged, due) = (verdict, judges_all taken rest (ends_or_long taken rest whole) judged, due)
+due_all (show task) taken rest status text whole (Ok job, judged, due) = go (ends_or_long taken rest whole)
+  where
+    go : ((rest ≡ []) ⊎ (length taken ≡ 16777217)) → DueFor (show task) (taken ++ rest) status text
+    go (inl none) =
+        let all : taken ++ rest ≡ taken = ap (λ (r : List ℕ). taken ++ r) none ∙ append-nil taken in
+        subst (λ (bytes : List ℕ). DueFor (show task) bytes status text) (sym all) (Ok job, judged, due)
+    go (inr count) = absurd (never_long taken job count judged)
+due_all (show task) taken rest status text whole (Err refusal, judged, due) = (Err refusal, judges_all taken rest (ends_or_long taken rest whole) judged, due)
 
 -- where the bytes of the source are known, the outcome is the one for all of them
 for_all_bytes : (asked : Asked) (left left_after : Option (List ℕ)) (status : ℕ) (text : List ℕ) → IsDue asked left left_after status text
@@ -172,22 +183,22 @@ module _ {S T : Type 0} (held : S → Option (List ℕ)) (faults : S → ℕ) (h
       said_so.0
 
 -- by the status, whether the names do or don't fit
-names_never_two : (fit : _) (order : Order) (job : Job) (status : ℕ) (text : List ℕ) → DueOfNames fit order job status text → status ≡ 2 → ⊥
-names_never_two fit order job status text due two = go fit due
+names_never_two : (fit : _) (order : Order) (input : List ℕ) (job : Job) (status : ℕ) (text : List ℕ) → DueOfNames fit order input job status text → status ≡ 2 → ⊥
+names_never_two fit order input job status text due two = go fit due
   where
-    go : (fit : _) → DueOfNames fit order job status text → ⊥
+    go : (fit : _) → DueOfNames fit order input job status text → ⊥
     go true due = let e = due.0 in omega (arith, e, two)
     go false due = let e = due.0 in omega (arith, e, two)
 
-names_at_zero : (fit : _) (order : Order) (job : Job) (status : ℕ) (text : List ℕ) → DueOfNames fit order job status text → status ≡ 0
-    → (fit ≡ true) × (text ≡ order_text order job) × IsShown order job
-names_at_zero true order job status text (is, same, shows) zero_is = (refl, same, shows)
-names_at_zero false order job status text due zero_is = let e = due.0 in absurd (omega (arith, e, zero_is))
+names_at_zero : (fit : _) (order : Order) (input : List ℕ) (job : Job) (status : ℕ) (text : List ℕ) → DueOfNames fit order input job status text → status ≡ 0
+    → (fit ≡ true) × (text ≡ order_text order input job) × IsShown order job
+names_at_zero true order input job status text (is, same, shows) zero_is = (refl, same, shows)
+names_at_zero false order input job status text due zero_is = let e = due.0 in absurd (omega (arith, e, zero_is))
 
-names_at_one : (fit : _) (order : Order) (job : Job) (status : ℕ) (text : List ℕ) → DueOfNames fit order job status text → status ≡ 1
+names_at_one : (fit : _) (order : Order) (input : List ℕ) (job : Job) (status : ℕ) (text : List ℕ) → DueOfNames fit order input job status text → status ≡ 1
     → (fit ≡ false) × (text ≡ wrong_names_text order job)
-names_at_one true order job status text due one = let e = due.0 in absurd (omega (arith, e, one))
-names_at_one false order job status text (is, same) one = (refl, same)
+names_at_one true order input job status text due one = let e = due.0 in absurd (omega (arith, e, one))
+names_at_one false order input job status text (is, same) one = (refl, same)
 
 -- what isn't accepted
 unaccepted_at : (asked : Asked) (input text : List ℕ) (status : ℕ) → DueFor asked input status text → status ≡ 1 → IsUnaccepted asked input text
@@ -195,7 +206,7 @@ unaccepted_at (bad_words topic) input text status (is, same) one = same
 unaccepted_at (help topic) input text status (is, same) one = absurd (omega (arith, is, one))
 unaccepted_at version input text status (is, same) one = absurd (omega (arith, is, one))
 unaccepted_at (show task) input text status (Ok job, judged, due) one =
-    let (unfit, same) = names_at_one (names_fit task.order job) task.order job status text due one in (job, judged, unfit, same)
+    let (unfit, same) = names_at_one (names_fit task.order job) task.order input job status text due one in (job, judged, unfit, same)
 unaccepted_at (show task) input text status (Err refusal, judged, (is, same)) one = absurd (omega (arith, is, one))
 
 module _ {S T : Type 0} (held : S → Option (List ℕ)) (held_err : T → Option (List ℕ)) (asked : Asked) (left left_after : Option (List ℕ)) (old new : S)
@@ -208,12 +219,12 @@ module _ {S T : Type 0} (held : S → Option (List ℕ)) (held_err : T → Optio
 
 module _ {S T : Type 0} (held : S → Option (List ℕ)) (held_err : T → Option (List ℕ)) (task : Task) where
   refusal_at : (input text : List ℕ) (status : ℕ) → DueFor (show task) input status text → status ≡ 2 → IsRefusal task input text
-  refusal_at input text status (Ok job, judged, due) two = absurd (names_never_two (names_fit task.order job) task.order job status text due two)
+  refusal_at input text status (Ok job, judged, due) two = absurd (names_never_two (names_fit task.order job) task.order input job status text due two)
   refusal_at input text status (Err refusal, judged, due) two = (refusal, judged, due.1)
 
   drawn_at : (input text : List ℕ) (status : ℕ) → DueFor (show task) input status text → status ≡ 0 → IsDrawn task input text
   drawn_at input text status (Ok job, judged, due) zero_is =
-      let (fit, told, shown) = names_at_zero (names_fit task.order job) task.order job status text due zero_is in (job, judged, fit, told, shown)
+      let (fit, told, shown) = names_at_zero (names_fit task.order job) task.order input job status text due zero_is in (job, judged, fit, told, shown)
   drawn_at input text status (Err refusal, judged, due) zero_is = let e = due.0 in absurd (omega (arith, e, zero_is))
 
   module _ (asked : Asked) (left left_after : Option (List ℕ)) (old new : S) (old_err new_err : T) (is : asked ≡ show task) where

@@ -7,7 +7,7 @@ use Rattle.kp_base.specs.declared.refusal.Refusal.{Refusal}
 use Rattle.kp_ast.specs.declared.tree.Job.{Job}
 use Rattle.kp_frontend.specs.Judging.{Judges}
 use Rattle.kp_view_words.specs.Texts.{help_text, usage_text, version_text}
-use Rattle.kp_view_words.specs.Words.{Asked, Order, Run, Task, bad_words, help, version, show, diagram, svg, paths, names_for}
+use Rattle.kp_view_words.specs.Words.{Asked, Order, Run, Task, bad_words, help, version, show, diagram, svg, page, paths, names_for}
 use Rattle.kp_pipeline.specs.Rows.{Row}
 use Rattle.kp_diagram_text.specs.Charts.{are_names}
 use Rattle.kp_diagram_text.specs.Figures.{Figure}
@@ -15,6 +15,10 @@ use Rattle.kp_diagram_text.specs.Text.{diagram_text}
 use Rattle.kp_diagram_svg.specs.Picture.{picture}
 use Rattle.kp_diagram_run.specs.Runs.{job_figure, job_rows}
 use Rattle.kp_diagram_run.specs.Claims.{ShowsRun}
+use Rattle.kp_machine.specs.Machine.{inputs_from, pipe_of}
+use Rattle.kp_page.specs.Claims.{listed_last}
+use Rattle.kp_page.specs.States.{states_text}
+use Rattle.kp_page_text.specs.Page.{page as page_text}
 use Rattle.kp_paths.specs.Claims.{ArePaths}
 use Rattle.kp_paths.specs.Text.{paths_text}
 use Rattle.kp_view.specs.Texts.{names_text, refusal_text}
@@ -30,21 +34,28 @@ figure_drawn run job = job_figure run.names run.count job
 abbrev pub rows_drawn : Run → Job → List Row
 rows_drawn run job = job_rows run.count job
 
--- THE TEXT that a word writes about a job.
-abbrev pub order_text : Order → Job → List ℕ
-order_text (diagram run) job = diagram_text (figure_drawn run job)
-order_text (svg run) job = picture (figure_drawn run job) (rows_drawn run job)
-order_text paths job = paths_text job
+-- THE TEXT that a word writes about the job of an input.
+abbrev pub order_text : Order → List ℕ → Job → List ℕ
+order_text (diagram run) input job = diagram_text (figure_drawn run job)
+order_text (svg run) input job = picture (figure_drawn run job) (rows_drawn run job)
+order_text (page run) input job = page_text (figure_drawn run job) (rows_drawn run job) input (paths_text job) (states_text job run.count)
+order_text paths input job = paths_text job
+
+-- What the states that a page records of n cycles and the end after them tell: the value of a word in a cycle is the one that was listed last, or 0 if
+-- none was.
+abbrev pub TellsStates : Job → ℕ → Type 0
+TellsStates job n = (T t a : ℕ) → listed_last (pipe_of job (inputs_from job 0 n)).visible T t a ≡ (pipe_of job (inputs_from job 0 n)).visible T t a
 
 -- What that text shows. Of a diagram: the fetches, cells, marks and the account in it are those of the run, and the laws of the diagram hold of them.
--- Of the table of paths: its cells say where the reads take their values from, in each state of each run.
+-- Of the table of paths: its cells say where the reads take their values from, in each state of each run. A page has both, and tells the states.
 abbrev pub IsShown : Order → Job → Type 0
 IsShown (diagram run) job = ShowsRun job run.count (figure_drawn run job)
 IsShown (svg run) job = ShowsRun job run.count (figure_drawn run job)
+IsShown (page run) job = ShowsRun job run.count (figure_drawn run job) × ArePaths job × TellsStates job run.count
 IsShown paths job = ArePaths job
 
-abbrev pub Draws : Order → Job → ℕ → List ℕ → Type 0
-Draws order job status text = (status ≡ 0) × (text ≡ order_text order job) × IsShown order job
+abbrev pub Draws : Order → List ℕ → Job → ℕ → List ℕ → Type 0
+Draws order input job status text = (status ≡ 0) × (text ≡ order_text order input job) × IsShown order job
 
 -- the names that are given are names for the stages of the job
 abbrev pub names_fit : Order → Job → Bool
@@ -54,24 +65,24 @@ abbrev pub wrong_names_text : Order → Job → List ℕ
 wrong_names_text order job = names_text (length (names_for order)) job.stages.value
 
 -- the outcome for a job, where the names do or don't fit
-abbrev pub DueOfNames : Bool → Order → Job → ℕ → List ℕ → Type 0
-DueOfNames true order job = Draws order job
-DueOfNames false order job = Says 1 (wrong_names_text order job)
+abbrev pub DueOfNames : Bool → Order → List ℕ → Job → ℕ → List ℕ → Type 0
+DueOfNames true order input job = Draws order input job
+DueOfNames false order input job = Says 1 (wrong_names_text order job)
 
-abbrev pub DueOfJob : Order → Job → ℕ → List ℕ → Type 0
-DueOfJob order job = DueOfNames (names_fit order job) order job
+abbrev pub DueOfJob : Order → List ℕ → Job → ℕ → List ℕ → Type 0
+DueOfJob order input job = DueOfNames (names_fit order job) order input job
 
 -- the outcome for a verdict on the input
-abbrev pub DueOfVerdict : Task → Result Job Refusal → ℕ → List ℕ → Type 0
-DueOfVerdict task (Ok job) = DueOfJob task.order job
-DueOfVerdict task (Err refusal) = Says 2 (refusal_text task.file refusal)
+abbrev pub DueOfVerdict : Task → List ℕ → Result Job Refusal → ℕ → List ℕ → Type 0
+DueOfVerdict task input (Ok job) = DueOfJob task.order input job
+DueOfVerdict task input (Err refusal) = Says 2 (refusal_text task.file refusal)
 
 -- the outcome for what is asked, on an input
 abbrev pub DueFor : Asked → List ℕ → ℕ → List ℕ → Type 0
 DueFor (bad_words topic) input status text = Says 1 (usage_text topic) status text
 DueFor (help topic) input status text = Says 0 (help_text topic) status text
 DueFor version input status text = Says 0 version_text status text
-DueFor (show task) input status text = (verdict : Result Job Refusal) × Judges input verdict × DueOfVerdict task verdict status text
+DueFor (show task) input status text = (verdict : Result Job Refusal) × Judges input verdict × DueOfVerdict task input verdict status text
 
 -- what is asked about a job reads the source, and nothing else does
 abbrev pub reads_input : Asked → Bool
@@ -124,10 +135,10 @@ Between left left_after held held_after Fact =
 
 -- THE HEADLINE. The input is a job that violates no rule, for whose stages the names are, and the text shows what was asked: the run of its pipelined
 -- machine, with the instructions in the full stages, the marks with their reasons, the instructions that retire in order, and each cycle counted under
--- its cause; or the paths of its reads, with the stages that have a value, and those that never have one.
+-- its cause; or the paths of its reads, with the stages that have a value, and those that never have one; or all of this, with the input and the states.
 abbrev pub IsDrawn : Task → List ℕ → List ℕ → Type 0
 IsDrawn task input text =
-    (job : Job) × Judges input (Ok job) × (names_fit task.order job ≡ true) × (text ≡ order_text task.order job) × IsShown task.order job
+    (job : Job) × Judges input (Ok job) × (names_fit task.order job ≡ true) × (text ≡ order_text task.order input job) × IsShown task.order job
 
 -- the text names the first rule that the input violates
 abbrev pub IsRefusal : Task → List ℕ → List ℕ → Type 0

@@ -7,12 +7,14 @@ ghost use Rattle.kp_view.specs.Ends.{Ends};
 
 use crate::diagram::diagram;
 use crate::failure::{Complaint, Failure};
+use crate::page::page;
 use crate::paths::paths;
 use crate::svg::svg;
 use kp_base::Sink;
 use kp_diagram_run::laws::a_figure_shows_the_run;
 use kp_diagram_text::are_names;
 use kp_frontend::{Accepted, judge};
+use kp_page::laws::listed_words_tell_the_states;
 use kp_paths::laws::the_cells_are_the_paths;
 use kp_view_words::{Order, Task};
 use std::alloc::Global;
@@ -28,7 +30,7 @@ pub fn on_job<K: Sink>(
     ensures { Ends K.held K.faults ⊥ (DueFor (show (task_seen task.now)) input.now) (task_seen task.now).file out.old out.new result }
 {
     let job = judge(alloc, input)?;
-    let end = of_job(alloc, task, &job, out);
+    let end = of_job(alloc, task, input, &job, out);
     drop(job);
     end
 }
@@ -37,15 +39,16 @@ pub fn on_job<K: Sink>(
 fn of_job<K: Sink>(
     alloc: Global,
     task: &Task<'_>,
+    input: &[u8],
     job: &Accepted,
     out: &mut K,
 ) -> Result<(), Failure>
-    ensures { Ends K.held K.faults ⊥ (DueOfJob (task_seen task.now).order job.now.design.job) (task_seen task.now).file out.old out.new result }
+    ensures { Ends K.held K.faults ⊥ (DueOfJob (task_seen task.now).order input.now job.now.design.job) (task_seen task.now).file out.old out.new result }
 {
     let stages = job.design.job().stages.value as u8;
     let names = task.order.names();
     if are_names(names, stages) {
-        drawn(alloc, task, job, out)
+        drawn(alloc, task, input, job, out)
     } else {
         Err(Failure::Complained(Complaint::WrongNames(names.len(), stages)))
     }
@@ -55,17 +58,20 @@ fn of_job<K: Sink>(
 fn drawn<K: Sink>(
     alloc: Global,
     task: &Task<'_>,
+    input: &[u8],
     job: &Accepted,
     out: &mut K,
 ) -> Result<(), Failure>
     requires { names_fit (task_seen task.now).order job.now.design.job ≡ true }
-    ensures { Ends K.held K.faults ⊥ (Draws (task_seen task.now).order job.now.design.job) (task_seen task.now).file out.old out.new result }
+    ensures { Ends K.held K.faults ⊥ (Draws (task_seen task.now).order input.now job.now.design.job) (task_seen task.now).file out.old out.new result }
 {
     a_figure_shows_the_run(job);
     the_cells_are_the_paths();
+    listed_words_tell_the_states();
     match &task.order {
         Order::Diagram(run) => diagram(alloc, run, job, out),
         Order::Svg(run) => svg(alloc, run, job, out),
+        Order::Page(run) => page(alloc, run, input, job, out),
         Order::Paths => paths(alloc, job, out),
     }
 }

@@ -11,6 +11,7 @@ mod complaint;
 mod diagram;
 mod failure;
 mod job;
+mod page;
 mod paths;
 mod sentences;
 mod svg;

@@ -18,14 +18,14 @@ pub returns-then-are_names : goal.returns-then-are_names
 returns-then-are_names g c =
     let order = (task_seen c.args.task.now).order in
     by_names g.K.Sink.held g.K.Sink.faults (task_seen c.args.task.now).file (names_fit order c.args.job.now.design.job) true
-    order c.args.job.now.design.job
+    order c.args.input.now c.args.job.now.design.job
     (ap (λ (names : List (List ℕ)). are_names names c.args.job.now.design.job.stages.value) (sym c.names-names.ensures)
     ∙ rw c.job.ensures.job at (sym c.are_names.ensures ∙ c.if-are_names.true)) _ _ _ c.drawn.ensures
 
 pub returns-else-are_names : goal.returns-else-are_names
 returns-else-are_names g c =
     let order = (task_seen c.args.task.now).order in
-    names_wrong g.K.Sink.held g.K.Sink.faults (task_seen c.args.task.now).file ⊤ order c.args.job.now.design.job _ _ c.args.out.now
+    names_wrong g.K.Sink.held g.K.Sink.faults (task_seen c.args.task.now).file ⊤ order c.args.input.now c.args.job.now.design.job _ _ c.args.out.now
     (ap (λ (names : List (List ℕ)). are_names names c.args.job.now.design.job.stages.value) (sym c.names-names.ensures)
     ∙ rw c.job.ensures.job at (sym c.are_names.ensures ∙ c.if-are_names.false))
     (sym (length-map c.names-names.result.now string_bytes) ∙ ap (λ (names : List (List ℕ)). length names) c.names-names.ensures)
