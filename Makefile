@@ -14,7 +14,7 @@ programs = kp kpview
 lock     = out/build.lock
 
 # The scripts of checks/ that pass or fail.
-all_checks = names.py cited_lemmas.py version.sh manual.py pictures.sh page.sh memory.sh verilog.sh waves.sh hardware.sh dist.sh build.sh
+all_checks = names.py cited_lemmas.py version.sh manual.py editors.sh pictures.sh page.sh memory.sh verilog.sh waves.sh hardware.sh dist.sh build.sh
 all_benches = asm seq sim watch synth nodes read hostile
 
 .PHONY: all $(programs) $(programs:%=built-%) check checks bench pictures install uninstall dist clean help
@@ -67,8 +67,9 @@ root    = $(DESTDIR)$(PREFIX)
 shared  = bin share/man/man1 share/man/man5 share/bash-completion/completions share/zsh/site-functions share/fish/vendor_completions.d \
           $(addprefix share/vim/vimfiles/,compiler ftdetect ftplugin syntax)
 own     = share/doc/kp share/kp
+vim     = compiler/kp.vim compiler/kpview.vim ftdetect/kp.vim ftplugin/kp.vim syntax/kp.vim
 files   = share/man/man5/kp.5 $(foreach it,$(programs),bin/$(it) share/man/man1/$(it).1 share/bash-completion/completions/$(it) \
-          share/zsh/site-functions/_$(it) share/fish/vendor_completions.d/$(it).fish) $(addprefix share/vim/vimfiles/,$(addsuffix /kp.vim,compiler ftdetect ftplugin syntax))
+          share/zsh/site-functions/_$(it) share/fish/vendor_completions.d/$(it).fish) $(addprefix share/vim/vimfiles/,$(vim))
 needs = $(foreach it,$(KP_BINARY) $(KPVIEW_BINARY),$(if $(wildcard $(it)),,$(error $(it) isn't there: run make first, which builds it)))
 trees   = find docs examples \( -name out -o -name __pycache__ \) -prune -o -type f -print
 
@@ -88,9 +89,7 @@ install:
 	    install -m 644 completions/_$$it "$(root)/share/zsh/site-functions/_$$it" && \
 	    install -m 644 completions/$$it.fish "$(root)/share/fish/vendor_completions.d/$$it.fish" || exit 1; \
 	done && \
-	for it in compiler ftdetect ftplugin syntax; do \
-	    install -m 644 editors/vim/$$it/kp.vim "$(root)/share/vim/vimfiles/$$it/kp.vim" || exit 1; \
-	done && \
+	for it in $(vim); do install -m 644 editors/vim/$$it "$(root)/share/vim/vimfiles/$$it" || exit 1; done && \
 	install -m 644 README.md CHANGELOG.md CONTRIBUTING.md VERSION $(wildcard LICENSE*) "$(root)/share/doc/kp" && \
 	install -m 644 editors/kp.tmLanguage.json "$(root)/share/kp/kp.tmLanguage.json" && \
 	$(trees) | while read -r it; do \

@@ -65,7 +65,7 @@ at=$work/root/opt/some
         cmp completions/_$it "$at/share/zsh/site-functions/_$it"
         cmp completions/$it.fish "$at/share/fish/vendor_completions.d/$it.fish"
     done
-    for it in compiler ftdetect ftplugin syntax; do cmp "editors/vim/$it/kp.vim" "$at/share/vim/vimfiles/$it/kp.vim"; done
+    (cd editors/vim && find . -type f) | while read -r it; do cmp "editors/vim/$it" "$at/share/vim/vimfiles/$it"; done
     cmp editors/kp.tmLanguage.json "$at/share/kp/kp.tmLanguage.json"
     grep -n '@[A-Z]*@' "$at"/share/man/man?/kp*.?
     grep -L "version $(cat VERSION)" "$at"/share/man/man?/kp*.? | sed 's/$/: has no version/'
