@@ -1,4 +1,4 @@
--- WHAT THE RECORDED STATES TELL: all of each state.
+-- WHAT FOLLOWS FROM THE RECORDED STATES: all of each state.
 use Rattle.std.specs.Prelude.{ℕ, zero, suc, ◌==◌, if◌then◌else◌}
 use Rattle.kp_tool_report.specs.States.{State}
 

@@ -1,9 +1,9 @@
-//! What the recorded states tell.
+//! What follows from the recorded states.
 ghost use Rattle.std.specs.Prelude.{◌≡◌, ℕ};
 ghost use Rattle.kp_tool_report.specs.States.{State};
 ghost use Rattle.kp_page.specs.Claims.{listed_last};
 
-/// The states can be told from what is recorded: in each cycle the value of a word is the one that was listed last, or 0 if none was.
+/// All states follow from what is recorded: in each cycle the value of a word is the one that was listed last, or 0 if none was.
 pub fn listed_words_tell_the_states()
     ensures { (visible : ℕ → State) (T t a : ℕ) → listed_last visible T t a ≡ visible T t a }
 {}

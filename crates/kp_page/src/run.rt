@@ -14,7 +14,7 @@ use kp_frontend::Accepted;
 use kp_run::laws::a_job_gives_its_own_inputs;
 
 /// Runs a netlist that implements the machine of a job for `count` cycles, under the job's own stall words and samples, and writes the states in these
-/// cycles and after them. Both simulators of the netlist are in its start state, as `Sim::open` returns them; the first one stays a cycle behind. `room`
+/// cycles and after them. Both simulators of the netlist are in its start state, as `Sim::open` returns them; the first one is a cycle behind. `room`
 /// is a buffer for the sample values, with one entry for each sample. A fault comes only from the sink, which then has a prefix of the text. Allocates
 /// nothing.
 pub fn write_run<K: Sink>(
