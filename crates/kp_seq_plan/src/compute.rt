@@ -24,10 +24,30 @@ pub fn value(code: &Code, names: &[u64], room: &mut [u64]) -> u64
     }
 }
 
-// The value of a code, from those of its parts. Inlined into `value`, it would make each leaf a call.
+// The value of a code with parts. Inlined into `value`, it would make each leaf a call. A chain of cases is a loop that saves no register.
 #[inline(never)]
 #[cycle(compute)]
 fn of_parts(code: &Code, names: &[u64], room: &mut [u64]) -> u64
+    requires { space_of code.now ≤ length room.old }
+    ensures value { result ≡ value_of code.now names.now }
+    ensures room { length room.new ≡ length room.old }
+{
+    match code {
+        Code::Case(place, word, a, b) => {
+            if held(names, *place) == *word {
+                value(a.get(), names, room)
+            } else {
+                value(b.get(), names, room)
+            }
+        }
+        _ => of_others(code, names, room),
+    }
+}
+
+// The value of a code, from those of its parts.
+#[inline(never)]
+#[cycle(compute)]
+fn of_others(code: &Code, names: &[u64], room: &mut [u64]) -> u64
     requires { space_of code.now ≤ length room.old }
     ensures value { result ≡ value_of code.now names.now }
     ensures room { length room.new ≡ length room.old }

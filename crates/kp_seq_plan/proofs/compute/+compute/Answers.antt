@@ -21,8 +21,8 @@ put_values-loop-i-preserved t c =
       c.value.ensures.room ∙ c.loop-i.invariant.2,
     )
 
-pub of_parts-returns-in-Call-clause-value : goal.of_parts-returns-in-Call-clause-value
-of_parts-returns-in-Call-clause-value t c =
+pub of_others-returns-in-Call-clause-value : goal.of_others-returns-in-Call-clause-value
+of_others-returns-in-Call-clause-value t c =
     let vs = c.args.names.now in
     c.called.ensures.value
     ∙ ap (λ cs. value_of c.get-in-Call.result.now (map (λ k. value_of k vs) cs)) c.as_slice.ensures
