@@ -1,9 +1,10 @@
 -- Marks of nodes, and lists in which operands come first.
-use Rattle.std.proofs.Common.{◌≡◌, ℕ, Bool, true, false, true≢false, ◌+◌, ◌<◌, ◌≤◌, List, [], ◌∷◌, ◌++◌, length, get_or, set, map, refl, sym, subst, ap, ◌∙◌, arith, ⊎_elim}
+use Rattle.std.proofs.Common.{◌≡◌, ℕ, Bool, true, false, true≢false, ◌+◌, ◌<◌, ◌≤◌, List, [], ◌∷◌, ◌++◌, length, get_or, set, map, take, ◌-◌, refl, sym, subst, ap, ◌∙◌, arith, ⊎_elim, inl, inr}
 use Rattle.std.specs.Prelude.{All}
 use Rattle.std.proofs.lemmas.Bool.{cases_lt}
-use Rattle.std.proofs.lemmas.List.{get_or-set_other, length-set, get_or_append_left, get_or_push, length_push, get_or_past}
+use Rattle.std.proofs.lemmas.List.{get_or-set_other, length-set, get_or_append_left, get_or_push, length_push, get_or_past, get_or-map, length-take-le, take_more, map-append}
 use Rattle.std.proofs.lemmas.Grind.{get_or-set_at}
+use Rattle.std.proofs.Math.Seq.{take-length}
 use Rattle.std.proofs.lemmas.List.Elements.{All-nil, All-cons}
 use Rattle.kp_net.specs.declared.node.NodeId.{NodeId}
 use Rattle.kp_net.specs.declared.node.Kind.{Kind}
@@ -11,7 +12,7 @@ use Rattle.kp_net.specs.declared.node.Kind.TheVariants.{Const, Ext, Sample, Reg,
 use Rattle.kp_net.specs.declared.node.Node.{Node}
 use Rattle.kp_net.specs.Netlist.{Net}
 use Rattle.kp_net.specs.Widths.{no_node, AllRight, KindOk}
-use Rattle.kp_cycle.specs.inner.Plans.{reads, reads_at, IsMarked, Grows, Among, IsOrdered, OfRoots, Needed, Taken, IsPlan, targets, step_for}
+use Rattle.kp_cycle.specs.inner.Plans.{reads, reads_at, IsMarked, Grows, Among, IsOrdered, OfRoots, Needed, Taken, IsPlan, HasCode, targets, step_for, by_node, no_step}
 use Rattle.kp_cycle.specs.declared.codes.Step.{Step}
 use Rattle.kp_cycle.proofs.Clocking.{length_map}
 use Rattle.kp_cycle.proofs.Stepping.{same_or_not, roots_are}
@@ -131,14 +132,36 @@ targets_of : (ns : List Node) (ts : List ℕ) → targets (map (step_for ns) ts)
 targets_of ns [] = refl
 targets_of ns (t ∷ ts) = ap (λ (xs : List ℕ). t ∷ xs) (targets_of ns ts)
 
-pub plan_is : (net : Net) (ts : List ℕ) (steps : List Step) → steps ≡ map (step_for net.nodes) ts → IsOrdered net.nodes ts → OfRoots net (Among ts (length ts)) → IsPlan net steps
-plan_is net ts steps is ordered roots =
-    let same : targets steps ≡ ts = ap targets is ∙ targets_of net.nodes ts in
-    let size : length ts ≡ length steps = sym (ap length is ∙ length_map (step_for net.nodes) ts) in
+pub plan_is : (net : Net) (ts : List ℕ) (steps : List Step) → 1 ≤ length ts → steps ≡ map (step_for net.nodes) (take (length ts - 1) ts) ++ by_node (get_or ts (length ts - 1) 0) ∷ []
+    → IsOrdered net.nodes ts → OfRoots net (Among ts (length ts)) → IsPlan net steps
+plan_is net ts steps some is ordered roots =
+    let n : ℕ = length ts - 1 in
+    let front : List ℕ = take n ts in
+    let coded : List Step = map (step_for net.nodes) front in
+    let end : Step = by_node (get_or ts n 0) in
+    let behind : n + 1 ≡ length ts = omega (arith, some) in
+    let many : length coded ≡ n = length_map (step_for net.nodes) front ∙ length-take-le n ts (omega arith) in
+    let all : front ++ get_or ts n 0 ∷ [] ≡ ts = sym (take_more ts n 0 (omega arith)) ∙ ap (λ (m : ℕ). take m ts) behind ∙ take-length ts in
+    let same : targets steps ≡ ts = ap targets is ∙ map-append (λ (s : Step). s.target) coded (end ∷ []) ∙ ap (λ (xs : List ℕ). xs ++ get_or ts n 0 ∷ []) (targets_of net.nodes front) ∙ all in
+    let size : length ts ≡ length steps = omega (arith, ap length is, length_push coded end, many, some) in
     let P : List ℕ → Type 0 = IsOrdered net.nodes in
-    let Q : ℕ → Type 0 = λ n. OfRoots net (Among (targets steps) n) in
+    let Q : ℕ → Type 0 = λ m. OfRoots net (Among (targets steps) m) in
     let R : List ℕ → Type 0 = λ xs. OfRoots net (Among xs (length ts)) in
-    record { codes = is ∙ ap (map (step_for net.nodes)) (sym same); ordered = subst P (sym same) ordered; roots = subst Q size (subst R (sym same) roots) }
+    let H : Step → Type 0 = HasCode net.nodes in
+    let at_end : (k : ℕ) → k ≡ n → get_or steps k no_step ≡ end = λ k e. ap (λ (ss : List Step). get_or ss k no_step) is ∙ get_or_push coded end no_step k (many ∙ sym e) in
+    record {
+      codes = λ k l. ⊎_elim
+          (λ (low : k < n).
+          let l' : k < length front = omega (arith, low, length-take-le n ts (omega arith)) in
+          let e : get_or steps k no_step ≡ step_for net.nodes (get_or front k 0) =
+          ap (λ (ss : List Step). get_or ss k no_step) is ∙ get_or_append_left coded (end ∷ []) no_step k (omega (arith, low, many)) ∙ get_or-map (step_for net.nodes) front k 0 no_step l' in
+          subst H (sym e) (inl refl))
+          (λ (high : n ≤ k). subst H (sym (at_end k (omega (arith, l, size)))) (inr refl))
+          (cases_lt k n);
+      last = λ k e. ap (λ (s : Step). s.op) (at_end k (omega (arith, e, size)));
+      ordered = subst P (sym same) ordered;
+      roots = subst Q size (subst R (sym same) roots);
+    }
 
 -- a mark is that of a node
 pub marked_inside : (marks : List Bool) (j : ℕ) → IsMarked marks j → j < length marks

@@ -18,9 +18,10 @@ use Rattle.kp_net.specs.Netlist.{Net, Input}
 use Rattle.kp_net.specs.Parts.{no_reg, no_file}
 use Rattle.kp_net.proofs.Values.{word_there, word_is, at_fits}
 use Rattle.kp_cycle.specs.declared.codes.Op.{Op}
+use Rattle.kp_cycle.specs.declared.codes.Op.TheVariants.{Plain}
 use Rattle.kp_cycle.specs.declared.codes.Step.{Step}
 use Rattle.kp_cycle.specs.inner.Codes.{op_for, number_of, IsReady}
-use Rattle.kp_cycle.specs.inner.Plans.{reads, reads_at, Among, OfPort, OfRoots, IsPlan, Settled, no_step, step_for, targets}
+use Rattle.kp_cycle.specs.inner.Plans.{reads, reads_at, Among, OfPort, OfRoots, IsPlan, Settled, no_step, targets}
 use Rattle.kp_cycle.specs.inner.Storage.{Stored, Fits, cells, seen}
 use Rattle.kp_cycle.proofs.Clocking.{length_map}
 use Rattle.kp_cycle.proofs.Coding.{coded, ready}
@@ -83,16 +84,26 @@ module _ (net : Net) (steps : List Step) (k : ℕ) (plan : IsPlan net steps) (h 
   pub target_inside : (get_or steps k no_step).target < length net.nodes
   target_inside = omega (arith, target_is, plan.ordered.inside k (omega (arith, h, length_targets)))
 
-  pub op_is : (get_or steps k no_step).op ≡ op_for net.nodes (get_or net.nodes (get_or steps k no_step).target no_node)
-  op_is =
-      ap (λ (ss : List Step). (get_or ss k no_step).op) plan.codes
-      ∙ ap (λ (s : Step). s.op) (get_or-map (step_for net.nodes) (targets steps) k 0 no_step (omega (arith, h, length_targets)))
-      ∙ ap (λ (t : ℕ). op_for net.nodes (get_or net.nodes t no_node)) target_is
-
   pub step_ready : (m : Stored) → Fits net m → IsReady (length m.nodes) (length m.regs) (get_or steps k no_step).op
   step_ready m fits =
       let P : Op → Type 0 = IsReady (length m.nodes) (length m.regs) in
-      subst P (sym op_is) (ready net m (get_or steps k no_step).target fits target_inside)
+      ⊎_elim
+      (λ (own : (get_or steps k no_step).op ≡ op_for net.nodes (get_or net.nodes (get_or steps k no_step).target no_node)).
+      subst P (sym own) (ready net m (get_or steps k no_step).target fits target_inside))
+      (λ (none : (get_or steps k no_step).op ≡ Plain). subst P (sym none) tt)
+      (plan.codes k h)
+
+  -- a step with a number of its own isn't the last one
+  pub step_inside : (c : Cells) (v : List ℕ) (x : ℕ) → ((plain : ℕ) → x ≡ number_of c v plain (get_or steps k no_step).op) → k + 1 < length steps
+  step_inside c v x is =
+      ⊎_elim
+      (λ (low : k + 1 < length steps). low)
+      (λ (high : length steps ≤ k + 1).
+      let last : (get_or steps k no_step).op ≡ Plain = plan.last k (omega (arith, h, high)) in
+      let at_0 : x ≡ 0 = is 0 ∙ ap (number_of c v 0) last in
+      let at_1 : x ≡ 1 = is 1 ∙ ap (number_of c v 1) last in
+      absurd (omega (arith, at_0, at_1)))
+      (cases_lt (k + 1) (length steps))
 
   have_values : (c : Cells) (v : List ℕ) → ((q : ℕ) → q < k → get_or v (get_or (targets steps) q 0) 0 ≡ at c net.nodes (get_or (targets steps) q 0))
       → All (λ a. HasValue c net.nodes v a.0) (reads_at net.nodes (get_or steps k no_step).target)
@@ -118,9 +129,14 @@ module _ (net : Net) (steps : List Step) (k : ℕ) (plan : IsPlan net steps) (h 
       let t : ℕ = (get_or steps k no_step).target in
       let c : Cells = cells input m in
       let plain : ℕ = (word_of_node c (seen net.nodes m.nodes) (get_or net.nodes t no_node)).value in
+      let number : number_of c m.nodes plain (get_or steps k no_step).op ≡ plain =
+      ⊎_elim
+      (λ (own : (get_or steps k no_step).op ≡ op_for net.nodes (get_or net.nodes t no_node)).
+      ap (number_of c m.nodes plain) own ∙ coded c net.nodes m.nodes t fits.right.right target_inside (λ j l. settled.widths j (omega (arith, target_inside))))
+      (λ (none : (get_or steps k no_step).op ≡ Plain). ap (number_of c m.nodes plain) none)
+      (plan.codes k h) in
       is plain
-      ∙ ap (number_of c m.nodes plain) op_is
-      ∙ coded c net.nodes m.nodes t fits.right.right target_inside (λ j l. settled.widths j (omega (arith, target_inside)))
+      ∙ number
       ∙ step_word input m fits settled
 
   -- with this value one more step is taken

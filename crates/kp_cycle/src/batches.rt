@@ -231,7 +231,8 @@ pub fn take_batch(net: &Netlist, steps: &[Step], memory: &mut Memory, from: usiz
     }
 }
 
-// Evaluates the steps from this one on that have this operation.
+// Evaluates the steps from this one on that have this operation. The last step of all has none of these operations, so no end is looked for.
+#[inline(always)]
 fn take_while<B: Batch>(net: &Netlist, steps: &[Step], memory: &mut Memory, from: usize) -> usize
     requires plan { IsPlan net.now steps.now }
     requires fits { Fits net.now memory.old }
@@ -244,11 +245,10 @@ fn take_while<B: Batch>(net: &Netlist, steps: &[Step], memory: &mut Memory, from
     ensures files { memory.new.files ≡ memory.old.files }
     ensures slots { memory.new.slots ≡ memory.old.slots }
 {
-    for k in from..steps.len() {
-        let Some(value) = B::value(&steps[k].op, memory) else {
-            return k;
-        };
+    let mut k = from;
+    'batch: while let Some(value) = B::value(&steps[k].op, memory) {
         memory.set_node(steps[k].target, value);
+        k += 1;
     }
-    steps.len()
+    k
 }

@@ -1,10 +1,10 @@
 //! Which nodes a cycle evaluates, and in which order. Nodes that no output, register or write port needs are omitted,
 //! and nodes with the same operation are adjacent as far as their operands allow.
-ghost use Rattle.std.specs.Prelude.{◌≡◌, ◌+◌, ◌<◌, ◌≤◌, true, false, ℕ, length, get_or, map, All, IfOk};
+ghost use Rattle.std.specs.Prelude.{◌≡◌, ◌+◌, ◌-◌, ◌<◌, ◌≤◌, true, false, ℕ, ◌∷◌, ◌++◌, [], length, get_or, map, take, All, IfOk};
 ghost use Rattle.kp_net.specs.Widths.{no_node};
-ghost use Rattle.kp_cycle.specs.inner.Plans.{reads, reads_at, step_for, IsMarked, Grows, Among, IsOrdered, OfPort, OfRoots, Needed, Taken, IsPlan};
+ghost use Rattle.kp_cycle.specs.inner.Plans.{reads, reads_at, step_for, by_node, IsMarked, Grows, Among, IsOrdered, OfPort, OfRoots, Needed, Taken, IsPlan};
 
-use crate::codes::{Step, op_of};
+use crate::codes::{Op, Step, op_of};
 use kp_base::NoMemory;
 use kp_bits::BinOp;
 use kp_net::{Kind, Netlist, Node, NodeId, WritePort};
@@ -133,7 +133,12 @@ fn listed(alloc: Global, nodes: &[Node], marks: &[bool]) -> Result<Vec<u32>, NoM
 }
 
 // The number of passes over the nodes, each for one operation. Nodes that are left then stay in their old order.
-const PASSES: usize = 256;
+const PASSES: usize = 384;
+
+// The operations of 24 passes, as `class_of` numbers them, in an order that makes few batches of the nodes of a pipeline. It was found by trials.
+const TURNS: [u8; 24] = [
+    0, 3, 7, 5, 6, 8, 5, 13, 13, 6, 12, 12, 4, 12, 3, 10, 14, 9, 5, 15, 11, 2, 9, 1,
+];
 
 // The same nodes, with those of one operation adjacent as far as their operands allow.
 fn in_batches(alloc: Global, nodes: &[Node], order: &[u32]) -> Result<Vec<u32>, NoMemory>
@@ -148,7 +153,7 @@ fn in_batches(alloc: Global, nodes: &[Node], order: &[u32]) -> Result<Vec<u32>, 
             take_ready(
                 nodes,
                 order,
-                (pass % 16) as u8,
+                TURNS[pass % 24],
                 done.as_mut_slice(),
                 &mut batched,
             )?;
@@ -289,17 +294,23 @@ fn class_of(kind: &Kind) -> u8 {
     }
 }
 
-// A step for each of these nodes.
+// A step for each of these nodes. The last one is computed from its node, so that each batch ends before it.
 fn steps_of(alloc: Global, nodes: &[Node], order: &[u32]) -> Result<Vec<Step>, NoMemory>
+    requires some { 1 ≤ length order.now }
     requires inside { (k : ℕ) → k < length order.now → get_or order.now k 0 < length nodes.now }
     requires widths { (i : ℕ) → i < length nodes.now → (1 ≤ (get_or nodes.now i no_node).width) × ((get_or nodes.now i no_node).width ≤ 64) }
-    ensures { IfOk result (λ steps. steps.items ≡ map (step_for nodes.now) order.now) }
+    ensures { IfOk result (λ steps. steps.items ≡ map (step_for nodes.now) (take (length order.now - 1) order.now) ++ by_node (get_or order.now (length order.now - 1) 0) ∷ []) }
 {
     let mut steps = Vec::with_capacity(alloc, order.len())?;
-    for k in 0..order.len() {
+    let last = order.len() - 1;
+    for k in 0..last {
         let target = order[k];
         let op = op_of(nodes, &nodes[target as usize]);
         steps.push(Step { target, op })?;
     }
+    steps.push(Step {
+        target: order[last],
+        op: Op::Plain,
+    })?;
     Ok(steps)
 }

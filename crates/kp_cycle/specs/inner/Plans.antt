@@ -1,5 +1,5 @@
 -- Which nodes are evaluated in a cycle, and in which order.
-use Rattle.std.specs.Prelude.{ℕ, ◌<◌, ◌≤◌, ◌≡◌, Bool, true, false, List, [], ◌∷◌, length, get_or, map, All, Option, None, Some}
+use Rattle.std.specs.Prelude.{ℕ, ◌+◌, ◌<◌, ◌≤◌, ◌≡◌, ◌⊎◌, Bool, true, false, List, [], ◌∷◌, length, get_or, map, All, Option, None, Some}
 use Rattle.kp_net.specs.declared.node.NodeId.{NodeId}
 use Rattle.kp_net.specs.declared.node.Kind.{Kind}
 use Rattle.kp_net.specs.declared.node.Kind.TheVariants.{Word, Not, Binary, Mux, Concat, Slice}
@@ -9,7 +9,7 @@ use Rattle.kp_net.specs.Nodes.{at}
 use Rattle.kp_net.specs.Netlist.{Net, Input}
 use Rattle.kp_net.specs.Parts.{no_reg, no_file}
 use Rattle.kp_net.specs.Widths.{no_node}
-use Rattle.kp_cycle.specs.declared.codes.Op.TheVariants.{Number}
+use Rattle.kp_cycle.specs.declared.codes.Op.TheVariants.{Number, Plain}
 use Rattle.kp_cycle.specs.declared.codes.Step.{Step}
 use Rattle.kp_cycle.specs.inner.Codes.{op_for}
 use Rattle.kp_cycle.specs.inner.Storage.{Stored, FitsBelow, cells}
@@ -78,9 +78,19 @@ step_for ns t = record { target = t; op = op_for ns (get_or ns t no_node) }
 abbrev pub targets : List Step → List ℕ
 targets steps = map (λ s. s.target) steps
 
--- steps that compute the value of each node that is read at the end of a cycle
+-- a step that is computed from its node itself
+abbrev pub by_node : ℕ → Step
+by_node t = record { target = t; op = Plain }
+
+-- a step has the operation of its target, or is computed from the node
+abbrev pub HasCode : List Node → Step → Type 0
+HasCode ns s = (s.op ≡ op_for ns (get_or ns s.target no_node)) ⊎ (s.op ≡ Plain)
+
+-- steps that compute the value of each node that is read at the end of a cycle; the last one is computed from its node, so that each batch ends
+-- before it
 pub record IsPlan (net : Net) (steps : List Step) : Type 0 where
-  pub codes : steps ≡ map (step_for net.nodes) (targets steps)
+  pub codes : (k : ℕ) → k < length steps → HasCode net.nodes (get_or steps k no_step)
+  pub last : (k : ℕ) → k + 1 ≡ length steps → (get_or steps k no_step).op ≡ Plain
   pub ordered : IsOrdered net.nodes (targets steps)
   pub roots : OfRoots net (Among (targets steps) (length steps))
 
