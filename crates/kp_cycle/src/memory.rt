@@ -12,12 +12,12 @@ use std::alloc::Global;
 use std::marker::Model;
 
 /// The values of the nodes and of the registers of a netlist, and the words of its files, each in a span of one
-/// region. The registers and files are adjacent, so that the complete state is a span as well, and each slot is
-/// another span of its size.
+/// region. The nodes are in the first span, so that the index of a node is that of its word. The registers and files
+/// are adjacent, so that the complete state is a span as well, and each slot is another span of its size.
 #[derive(Debug, Drop)]
 pub struct Memory {
     region: Region,
-    nodes: Span,
+    node_count: u32,
     regs: Span,
     files: Vec<Span>,
     whole: Span,
@@ -28,18 +28,18 @@ impl Model for Memory {
     ghost use Rattle.std.specs.Prelude.{map};
     ghost use Rattle.kp_region.specs.Words.{span_words};
     ghost use Rattle.kp_cycle.specs.inner.Storage.{Stored};
-    ghost use Rattle.kp_cycle.specs.inner.Spans.{held, Laid};
+    ghost use Rattle.kp_cycle.specs.inner.Spans.{first_span, held, Laid};
 
     ghost Value = { Stored };
 
     ghost view = { λ m. record {
-      nodes = span_words m.region m.nodes;
+      nodes = span_words m.region (first_span m.node_count);
       regs = span_words m.region m.regs;
       files = map (span_words m.region) m.files.items;
       slots = map (held m.region m.regs m.files.items m.whole) m.slots.items;
     } };
 
-    ghost invariant = { λ m. Laid m.region m.nodes m.regs m.files.items m.whole m.slots.items };
+    ghost invariant = { λ m. Laid m.region (first_span m.node_count) m.regs m.files.items m.whole m.slots.items };
 }
 
 impl Memory {
@@ -89,7 +89,7 @@ impl Memory {
         let copies = carve_slots(alloc, &mut region, size, slots)?;
         Ok(Memory {
             region,
-            nodes,
+            node_count: nodes.len,
             regs,
             files: spans,
             whole,
@@ -102,7 +102,11 @@ impl Memory {
         requires { i < length self.now.nodes }
         ensures { result ≡ get_or self.now.nodes i 0 }
     {
-        self.region.get(self.nodes, i)
+        let nodes = Span {
+            start: 0,
+            len: self.node_count,
+        };
+        self.region.get(nodes, i)
     }
 
     /// Sets the value of a node.
@@ -110,7 +114,11 @@ impl Memory {
         requires { i < length self.old.nodes }
         ensures { self.new ≡ record self.old { nodes = set self.old.nodes i value } }
     {
-        self.region.put(self.nodes, i, value);
+        let nodes = Span {
+            start: 0,
+            len: self.node_count,
+        };
+        self.region.put(nodes, i, value);
     }
 
     /// The value of a register.

@@ -4,7 +4,7 @@ use Rattle.std.proofs.lemmas.List.{get_or_default}
 use Rattle.kp_region.specs.declared.span.Span.{Span}
 use Rattle.kp_region.specs.Words.{Words, IsWithin, IsDisjoint, span_words, copied}
 use Rattle.kp_cycle.specs.declared.slots.Slot.{Slot}
-use Rattle.kp_cycle.specs.inner.Spans.{Laid, no_slot, state_in, held}
+use Rattle.kp_cycle.specs.inner.Spans.{first_span, Laid, no_slot, state_in, held}
 use Rattle.kp_cycle.specs.inner.Storage.{Stored}
 use Rattle.kp_cycle.proofs.Copies.{is_marked, slot_within, beside_whole, held_loaded, nodes_loaded, slots_loaded}
 use Rattle.kp_cycle.proofs.memory.Memory.load.Goals as goal
@@ -45,33 +45,33 @@ module _ (r : Words) (n g : Span) (fs : List Span) (w : Span) (slots : List Slot
 
 pub copy-requires-clause-same_length : goal.copy-requires-clause-same_length
 copy-requires-clause-same_length c =
-    let m = c.self.inside in same m.region m.nodes m.regs m.files.items m.whole m.slots.items c.self.invariant c.args.self.now c.args.slot c.index-copy.result.now c.self.view_is c.requires c.index-copy.ensures
+    let m = c.self.inside in same m.region (first_span m.node_count) m.regs m.files.items m.whole m.slots.items c.self.invariant c.args.self.now c.args.slot c.index-copy.result.now c.self.view_is c.requires c.index-copy.ensures
 
 pub copy-requires-clause-from_within : goal.copy-requires-clause-from_within
 copy-requires-clause-from_within c =
-    let m = c.self.inside in within m.region m.nodes m.regs m.files.items m.whole m.slots.items c.self.invariant c.args.self.now c.args.slot c.index-copy.result.now c.self.view_is c.requires c.index-copy.ensures
+    let m = c.self.inside in within m.region (first_span m.node_count) m.regs m.files.items m.whole m.slots.items c.self.invariant c.args.self.now c.args.slot c.index-copy.result.now c.self.view_is c.requires c.index-copy.ensures
 
 pub copy-requires-clause-to_within : goal.copy-requires-clause-to_within
 copy-requires-clause-to_within c = c.self.invariant.beside.within 1 (omega arith)
 
 pub copy-requires-clause-disjoint : goal.copy-requires-clause-disjoint
 copy-requires-clause-disjoint c =
-    let m = c.self.inside in beside m.region m.nodes m.regs m.files.items m.whole m.slots.items c.self.invariant c.args.self.now c.args.slot c.index-copy.result.now c.self.view_is c.requires c.index-copy.ensures
+    let m = c.self.inside in beside m.region (first_span m.node_count) m.regs m.files.items m.whole m.slots.items c.self.invariant c.args.self.now c.args.slot c.index-copy.result.now c.self.view_is c.requires c.index-copy.ensures
 
 pub returns-clause-state : goal.returns-clause-state
 returns-clause-state c =
     let m = c.self.inside in
-    state m.region m.nodes m.regs m.files.items m.whole m.slots.items c.self.invariant c.args.self.now c.args.slot c.index-copy.result.now c.self.view_is c.requires c.index-copy.ensures
+    state m.region (first_span m.node_count) m.regs m.files.items m.whole m.slots.items c.self.invariant c.args.self.now c.args.slot c.index-copy.result.now c.self.view_is c.requires c.index-copy.ensures
     c.copy.new.self c.copy.ensures.copied
 
 pub returns-clause-nodes : goal.returns-clause-nodes
 returns-clause-nodes c =
     let m = c.self.inside in
-    nodes m.region m.nodes m.regs m.files.items m.whole m.slots.items c.self.invariant c.args.self.now c.args.slot c.index-copy.result.now c.self.view_is c.requires c.index-copy.ensures
+    nodes m.region (first_span m.node_count) m.regs m.files.items m.whole m.slots.items c.self.invariant c.args.self.now c.args.slot c.index-copy.result.now c.self.view_is c.requires c.index-copy.ensures
     c.copy.new.self c.copy.ensures.copied
 
 pub returns-clause-slots : goal.returns-clause-slots
 returns-clause-slots c =
     let m = c.self.inside in
-    others m.region m.nodes m.regs m.files.items m.whole m.slots.items c.self.invariant c.args.self.now c.args.slot c.index-copy.result.now c.self.view_is c.requires c.index-copy.ensures
+    others m.region (first_span m.node_count) m.regs m.files.items m.whole m.slots.items c.self.invariant c.args.self.now c.args.slot c.index-copy.result.now c.self.view_is c.requires c.index-copy.ensures
     c.copy.new.self c.copy.ensures.copied

@@ -3,7 +3,7 @@ use Rattle.std.proofs.lemmas.List.{get_or_default, length-map}
 use Rattle.kp_region.specs.declared.span.Span.{Span}
 use Rattle.kp_region.specs.Words.{Words, IsWithin, IsDisjoint, span_words, copied}
 use Rattle.kp_cycle.specs.declared.slots.Slot.{Slot}
-use Rattle.kp_cycle.specs.inner.Spans.{Laid, no_slot, state_in, held}
+use Rattle.kp_cycle.specs.inner.Spans.{first_span, Laid, no_slot, state_in, held}
 use Rattle.kp_cycle.specs.inner.Storage.{Stored, state_of}
 use Rattle.kp_cycle.proofs.Copies.{other_way, slot_within, beside_whole, laid_saved, nodes_saved, state_saved, slots_saved}
 use Rattle.kp_cycle.proofs.memory.Memory.save.Goals as goal
@@ -17,6 +17,9 @@ module _ (r : Words) (n g : Span) (fs : List Span) (w : Span) (slots : List Slot
 
   is : x ≡ get_or slots j no_slot
   is = read ∙ get_or_default slots j x no_slot there
+
+  same : w.len ≡ x.span.len
+  same = sym (ap (λ (s : Slot). s.span.len) is ∙ h.sizes j there)
 
   within : IsWithin x.span r
   within = let P : Slot → Type 0 = λ s. IsWithin s.span r in subst P (sym is) (slot_within r n g fs w slots h j there)
@@ -63,25 +66,29 @@ module _ (r : Words) (n g : Span) (fs : List Span) (w : Span) (slots : List Slot
           slots = map (held a g fs w) (set slots j (record y { is_saved = true }));
         }) saved ∙ whole
 
+pub copy-requires-clause-same_length : goal.copy-requires-clause-same_length
+copy-requires-clause-same_length c =
+    let m = c.self.inside in same m.region (first_span m.node_count) m.regs m.files.items m.whole m.slots.items c.self.invariant c.args.self.now c.args.slot c.index-copy.result.now c.self.view_is c.requires c.index-copy.ensures
+
 pub copy-requires-clause-from_within : goal.copy-requires-clause-from_within
 copy-requires-clause-from_within c = c.self.invariant.beside.within 1 (omega arith)
 
 pub copy-requires-clause-to_within : goal.copy-requires-clause-to_within
 copy-requires-clause-to_within c =
-    let m = c.self.inside in within m.region m.nodes m.regs m.files.items m.whole m.slots.items c.self.invariant c.args.self.now c.args.slot c.index-copy.result.now c.self.view_is c.requires c.index-copy.ensures
+    let m = c.self.inside in within m.region (first_span m.node_count) m.regs m.files.items m.whole m.slots.items c.self.invariant c.args.self.now c.args.slot c.index-copy.result.now c.self.view_is c.requires c.index-copy.ensures
 
 pub copy-requires-clause-disjoint : goal.copy-requires-clause-disjoint
 copy-requires-clause-disjoint c =
-    let m = c.self.inside in beside m.region m.nodes m.regs m.files.items m.whole m.slots.items c.self.invariant c.args.self.now c.args.slot c.index-copy.result.now c.self.view_is c.requires c.index-copy.ensures
+    let m = c.self.inside in beside m.region (first_span m.node_count) m.regs m.files.items m.whole m.slots.items c.self.invariant c.args.self.now c.args.slot c.index-copy.result.now c.self.view_is c.requires c.index-copy.ensures
 
 pub invariant_of-self : goal.invariant_of-self
 invariant_of-self c =
     let m = c.self.inside in
-    laid m.region m.nodes m.regs m.files.items m.whole m.slots.items c.self.invariant c.args.self.now c.args.slot c.index-copy.result.now c.self.view_is c.requires c.index-copy.ensures
+    laid m.region (first_span m.node_count) m.regs m.files.items m.whole m.slots.items c.self.invariant c.args.self.now c.args.slot c.index-copy.result.now c.self.view_is c.requires c.index-copy.ensures
     c.copy.new.self c.copy.ensures.copied c.index_mut.result.now c.index_mut.ensures.value
 
 pub returns : goal.returns
 returns c =
     let m = c.self.inside in
-    view_is m.region m.nodes m.regs m.files.items m.whole m.slots.items c.self.invariant c.args.self.now c.args.slot c.index-copy.result.now c.self.view_is c.requires c.index-copy.ensures
+    view_is m.region (first_span m.node_count) m.regs m.files.items m.whole m.slots.items c.self.invariant c.args.self.now c.args.slot c.index-copy.result.now c.self.view_is c.requires c.index-copy.ensures
     c.copy.new.self c.copy.ensures.copied c.index_mut.result.now c.index_mut.ensures.value
