@@ -1,5 +1,5 @@
 -- A netlist that implements the machine of a job has the specified values after a run.
-use Rattle.std.proofs.Common.{◌≡◌, ◌∙◌, ℕ, ◌<◌, ◌≤◌, List, [], length, get_or, None, refl, ap, sym, subst, arith}
+use Rattle.std.proofs.Common.{◌≡◌, ◌∙◌, ℕ, ◌≤◌, List, length, None, ap, sym, arith}
 use Rattle.kp_base.specs.First.{first}
 use Rattle.kp_base.specs.declared.row.Row.{Row}
 use Rattle.kp_bits.specs.Word.{Word, word}
@@ -10,7 +10,6 @@ use Rattle.kp_pipeline.specs.Accepted.{Accepted}
 use Rattle.kp_pipeline.specs.Pipeline.{Inputs}
 use Rattle.kp_pipeline.specs.Rows as law
 use Rattle.kp_machine.specs.Machine.{machine_of, inputs_from, pipe_of}
-use Rattle.kp_machine.specs.Slots.{targets_of}
 use Rattle.kp_net.specs.Netlist.{Net, State, last_of}
 use Rattle.kp_sched.specs.Monitors.{Kept}
 use Rattle.kp_sched.specs.Rows.{rows_seen}
@@ -24,7 +23,7 @@ use Rattle.kp_run.specs.Boards.{due_behind}
 use Rattle.kp_run.specs.Cycles.{inputs_to, HasRows}
 use Rattle.kp_run.specs.Homes.{AreHomes}
 use Rattle.kp_run.specs.inner.Boards.{HasCounts}
-use Rattle.kp_run.specs.inner.Finals.{AreWords, AreFinals}
+use Rattle.kp_run.specs.inner.Finals.{AreFinals}
 use Rattle.kp_run.proofs.Inputs.{seen_to, quiet_to}
 use Rattle.kp_run.proofs.Legal.{as_many, traced}
 use Rattle.kp_run.proofs.Machines.{home_passes}
@@ -50,16 +49,13 @@ module _ (job : Job) (widths : first (widths_of job).asked ≡ None) (sections :
       ∙ ap (λ (ins : List Inputs). (pipe_of job ins).visible n t a) (seen_to job widths sections n)
       ∙ due t a there
 
-  -- and all words that are stored
-  pub finals_are_due : (st : State) (finals : List (List Word)) → st ≡ last_of net (inputs_to job n)
-      → AreFinals job (value_shown job net st) finals → AreFinals job (due_behind job rows) finals
-  finals_are_due st finals e are = record {
-    there = are.there;
-    words = λ t h. record {
-      there = (are.words t h).there;
-      values = λ a there.
-          (are.words t h).values a there
-          ∙ ap (λ (s : State). word (target job t).width (value_shown job net s t a)) e
-          ∙ ap (word (target job t).width) (shown_is_due t a there);
-    };
-  }
+-- stored words of a state are those of another with the same words
+pub finals_alike : (job : Job) (shown due : ℕ → ℕ → ℕ) (finals : List (List Word)) → ((t a : ℕ) → HasWord job t a → shown t a ≡ due t a)
+    → AreFinals job shown finals → AreFinals job due finals
+finals_alike job shown due finals same are = record {
+  there = are.there;
+  words = λ t h. record {
+    there = (are.words t h).there;
+    values = λ a there. (are.words t h).values a there ∙ ap (word (target job t).width) (same t a there);
+  };
+}

@@ -5,7 +5,7 @@ use Rattle.std.proofs.lemmas.Bool.{eqb-true}
 use Rattle.std.proofs.lemmas.List.{get_or-map, length-map, drop_more, append_assoc}
 use Rattle.kp_base.specs.First.{first}
 use Rattle.kp_width.specs.Widths.{widths_of}
-use Rattle.kp_bits.specs.Word.{Word, word}
+use Rattle.kp_bits.specs.Word.{word}
 use Rattle.kp_ast.specs.declared.tree.Decl.{Decl}
 use Rattle.kp_ast.specs.declared.tree.Decl.TheVariants as decls
 use Rattle.kp_ast.specs.declared.tree.Job.{Job}

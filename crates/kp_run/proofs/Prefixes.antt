@@ -5,7 +5,7 @@ use Rattle.std.proofs.lemmas.Bool.{ltb-true, ltb-false}
 use Rattle.std.proofs.lemmas.List.{get_or_at, get_or_append_left, length-take-le}
 use Rattle.kp_base.specs.declared.row.Row as masks
 use Rattle.kp_ast.specs.declared.tree.Job.{Job}
-use Rattle.kp_pipeline.specs.Rows.{Row, bit, bits, one_if, passed}
+use Rattle.kp_pipeline.specs.Rows.{bit, bits, one_if, passed}
 use Rattle.kp_net.specs.Netlist.{Net, Input, State, start_of, state_after, states_from, rows_from, last_of, run}
 use Rattle.kp_net.proofs.Runs.{states_more, last_more}
 use Rattle.kp_sched.specs.Rows.{bit_of, rows_seen}

@@ -7,8 +7,8 @@ ghost use Rattle.kp_machine.specs.Slots.{targets_of};
 ghost use Rattle.kp_sched.specs.Monitors.{HasSeen};
 ghost use Rattle.kp_sched.specs.Rows.{rows_seen};
 ghost use Rattle.kp_seq.specs.Running.{HasWord, target};
-ghost use Rattle.kp_synth_spec.specs.Naming.{sample_ports};
-ghost use Rattle.kp_synth_spec.specs.Shows.{HasOutputs, Shows};
+ghost use Rattle.kp_synth_spec.specs.Naming.{sample_ports, value_shown};
+ghost use Rattle.kp_synth_spec.specs.Shows.{HasOutputs, IsOfJob, Shows};
 ghost use Rattle.kp_run.specs.Boards.{due_behind, passes_behind};
 ghost use Rattle.kp_run.specs.Cycles.{HasRows};
 ghost use Rattle.kp_run.specs.inner.Boards.{IsBoard, HasCounts};
@@ -22,6 +22,7 @@ use crate::lanes::machines_after;
 use crate::laws::a_run_tells_of_the_pipeline;
 use kp_base::NoMemory;
 use kp_bits::Bits;
+use kp_cycle::Sim;
 use kp_frontend::Accepted;
 use kp_machine_laws::laws::a_design_is_accepted;
 use kp_net::Netlist;
@@ -131,15 +132,35 @@ pub fn board_shown<'a>(
 {
     // The invariant of the type, for the proof only.
     let _kept = job.design.job();
-    a_design_is_accepted(&job.design);
     a_run_tells_of_the_pipeline(job);
     let run = run_of(alloc, job, net, count)?;
-    let finals = finals_of(alloc, &job.design, &run.sim)?;
+    board_with(alloc, job, run.cycles, &run.sim)
+}
+
+/// A run that has ended, where a netlist has the specified values in its state after it. The only error is out of memory.
+pub fn board_with<'a>(
+    alloc: Global,
+    job: &'a Accepted,
+    cycles: Cycles,
+    sim: &Sim<'_>,
+) -> Result<Board<'a>, NoMemory>
+    requires of_job { IsOfJob sim.now.net job.now.design.job }
+    requires seen { HasSeen cycles.monitor cycles.rows.items }
+    requires stages { cycles.monitor.stages ≡ job.now.design.job.stages.value }
+    requires values { (t a : ℕ) → HasWord job.now.design.job t a
+        → value_shown job.now.design.job sim.now.net sim.now.state t a ≡ due_behind job.now.design.job cycles.rows.items t a }
+    ensures job { IfOk result (λ b. b.design.now.job ≡ job.now.design.job) }
+    ensures cycles { IfOk result (λ b. b.cycles ≡ cycles) }
+{
+    // The invariant of the type, for the proof only.
+    let _kept = job.design.job();
+    a_design_is_accepted(&job.design);
+    let finals = finals_of(alloc, &job.design, sim)?;
     let homes = homes_of(alloc, &job.design)?;
     let machines = Vec::new(alloc);
     Ok(Board {
         design: &job.design,
-        cycles: run.cycles,
+        cycles,
         lanes: Lanes { machines, homes },
         finals: Some(finals),
     })

@@ -5,14 +5,20 @@ ghost use Rattle.kp_bits.specs.Operators.{no_word};
 ghost use Rattle.kp_pipeline.specs.Rows.{bit, bits};
 ghost use Rattle.kp_image.specs.Feeds.{row_in};
 ghost use Rattle.kp_machine.specs.Slots.{sample_stages};
+ghost use Rattle.kp_net.specs.Netlist.{run};
 ghost use Rattle.kp_sched.specs.Rows.{bit_of, rows_seen};
+ghost use Rattle.kp_synth_spec.specs.Naming.{sample_ports};
+ghost use Rattle.kp_synth_spec.specs.Shows.{HasOutputs};
 ghost use Rattle.kp_run.specs.Columns.{AreColumns, words_taken, word_taken};
+ghost use Rattle.kp_run.specs.Cycles.{inputs_to};
 
+use crate::cycles::cycles_of;
 use kp_ast::Decl;
 use kp_base::{NoMemory, Row};
 use kp_bits::Bits;
 use kp_frontend::Accepted;
 use kp_image::InputPattern;
+use kp_net::Netlist;
 use std::alloc::Global;
 use std::marker::Model;
 
@@ -57,6 +63,25 @@ pub fn columns_of(alloc: Global, job: &Accepted, rows: &[Row]) -> Result<Vec<Col
         columns.push(column_for(alloc, inputs, x as u32, stages[x], tree.stages.value, rows)?)?;
     }
     Ok(columns)
+}
+
+/// The same for the rows of a netlist in its run over `count` cycles. It runs here only for a job that has samples. The only error is out of memory.
+pub fn columns_in(
+    alloc: Global,
+    job: &Accepted,
+    net: &Netlist,
+    count: u32,
+) -> Result<Vec<Column>, NoMemory>
+    requires outputs { HasOutputs net.now }
+    requires samples { net.now.parts.samples ≡ sample_ports job.now.design.job }
+    ensures { IfOk result (λ columns. AreColumns job.now.design.job (run net.now (inputs_to job.now.design.job count)).rows columns.items) }
+{
+    let stages = stages_of(alloc, job.design.job().decls.as_slice())?;
+    if stages.len() == 0 {
+        return Ok(Vec::new(alloc));
+    }
+    let cycles = cycles_of(alloc, job, net, count)?;
+    columns_of(alloc, job, cycles.rows.as_slice())
 }
 
 // The stages of the samples.

@@ -14,8 +14,8 @@ mod lanes;
 pub mod laws;
 mod places;
 
-pub use board::{Board, board_of, board_shown};
-pub use columns::{Column, columns_of, updates};
+pub use board::{Board, board_of, board_shown, board_with};
+pub use columns::{Column, columns_in, columns_of, updates};
 pub use cycles::{Cycles, cycles_of, fill, step};
 pub use homes::{homes_of, number_of};
 pub use lanes::take;

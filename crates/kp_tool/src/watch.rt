@@ -17,9 +17,9 @@ use crate::outcome::{Outcome, finish};
 use kp_base::{NoMemory, Sink, SinkFault};
 use kp_frontend::{Accepted, Head, judge_head};
 use kp_net::Netlist;
-use kp_run::{Board, board_of};
+use kp_run::Board;
 use kp_tool_report::{write_board, write_difference};
-use kp_watch::{Difference, first_difference};
+use kp_watch::{Difference, watched};
 use std::alloc::Global;
 
 /// `watch N`: runs the netlist of a Verilog text after a job over `count` cycles, and writes the run, or the run up to its first difference from the
@@ -73,8 +73,7 @@ fn compared<'a>(
     requires outputs { HasOutputs net.now }
     ensures { IfOk result (λ w. DueOfRun count job.now.design.job net.now (status_by w.difference) (text_by w.board w.difference)) }
 {
-    let board = board_of(alloc, job, net, count)?;
-    let difference = first_difference(alloc, job, net, &board, count)?;
+    let (board, difference) = watched(alloc, job, net, count)?;
     Ok(Watched { board, difference })
 }
 

@@ -3,5 +3,6 @@ pub mod Lanes
 pub mod Placing
 pub mod Comparing
 pub mod Kept
+pub mod Rows
 pub mod Targets
 pub mod Whole

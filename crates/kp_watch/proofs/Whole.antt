@@ -19,6 +19,7 @@ use Rattle.kp_seq.specs.Running.{Running, HasWord, target}
 use Rattle.kp_synth_spec.specs.Naming.{value_shown}
 use Rattle.kp_synth_spec.specs.Shows.{IsOfJob}
 use Rattle.kp_synth_spec.specs.Traces.{trace_of}
+use Rattle.kp_run.specs.Boards.{due_behind}
 use Rattle.kp_run.specs.Columns.{Taken, AreColumns}
 use Rattle.kp_run.specs.Cycles.{inputs_to}
 use Rattle.kp_run.proofs.Gathering.{taken_is}
@@ -26,7 +27,7 @@ use Rattle.kp_watch.specs.Watching.{own_trace, own_due, Agrees, IsFirstDifferenc
 use Rattle.kp_watch.specs.declared.compare.Difference.{Difference}
 use Rattle.kp_watch.specs.declared.beside.Beside.{Beside}
 use Rattle.kp_watch.specs.declared.compare.Tables.{Tables}
-use Rattle.kp_watch.specs.inner.Beside.{IsTold, AreTables, HaveCome}
+use Rattle.kp_watch.specs.inner.Beside.{IsTold, AreTables}
 use Rattle.kp_watch.specs.inner.Changes.{AreNoted, AgreeElsewhere, IsComparable, noted_at}
 use Rattle.kp_watch.specs.inner.Places.{place_in, places_in}
 use Rattle.kp_watch.specs.inner.Comparing.{IsFirstIn, Compares}
@@ -34,6 +35,7 @@ use Rattle.kp_watch.specs.inner.Machines.{given, HaveRun, due_by}
 use Rattle.kp_watch.proofs.Kept.{value_kept, told_there, due_kept}
 use Rattle.kp_watch.proofs.Lanes.{due_at}
 use Rattle.kp_watch.proofs.Prefixes.{state_is, rows_many}
+use Rattle.kp_watch.proofs.Rows.{HaveComeIn}
 
 abbrev State : Type 0
 State = ℕ → ℕ → ℕ
@@ -97,7 +99,7 @@ module _ (job : Job) (net : Net) (n : ℕ) where
         (λ t a there. ap (λ (ms : List Running). due_by job ms t a) same ∙ due_is T have_run have t a there)
 
     -- what was not written in cycle T agrees after it, if all words agree before it
-    pub elsewhere : (T : ℕ) (tables : Tables) (both : Beside) → IsOfJob net job → T < n → tables.columns.items ≡ columns → HaveCome job net rows tables (T + 1) both
+    pub elsewhere : (T : ℕ) (tables : Tables) (both : Beside) → IsOfJob net job → T < n → tables.columns.items ≡ columns → HaveComeIn job net rows tables (T + 1) both
         → AreNoted job net T both.written.items → ((t a : ℕ) → HasWord job t a → (own_trace job net n).visible T t a ≡ own_due job net n T t a) → AgreeElsewhere job both
     elsewhere T tables both of_job low of_columns come noted agreed t a there not_noted not_wrote =
         let upto : T ≤ n = omega (arith, low) in
@@ -112,7 +114,7 @@ module _ (job : Job) (net : Net) (n : ℕ) where
         ∙ sym (due_kept job acc (given columns) rows T both.machines.items both.monitor t run come.stages come.seen before there.target a not_wrote)
         ∙ sym (due_at job acc (rows_seen job.stages.value rows) (T + 1) (given columns) both.machines.items run t a there.target)
 
-    pub comparable : (T : ℕ) (tables : Tables) (both : Beside) → IsOfJob net job → AreTables job net rows tables → tables.columns.items ≡ columns → T < n → HaveCome job net rows tables (T + 1) both
+    pub comparable : (T : ℕ) (tables : Tables) (both : Beside) → IsOfJob net job → AreTables job net rows tables → tables.columns.items ≡ columns → T < n → HaveComeIn job net rows tables (T + 1) both
         → AreNoted job net T both.written.items → ((t a : ℕ) → HasWord job t a → (own_trace job net n).visible T t a ≡ own_due job net n T t a) → IsComparable job tables both
     comparable T tables both of_job tabled of_columns low come noted agreed =
         let same_net : net ≡ both.sim.net = sym (ap (λ (s : Simulated). s.net) come.sim) in
@@ -162,3 +164,16 @@ module _ (job : Job) (net : Net) (n : ℕ) where
   pub agrees : AgreeTo (n + 1) → Agrees job net n
   unfolding trace_of
   agrees agreed T t a h there = agreed T t a (omega (arith, h, cycles)) there
+
+  -- then the specified values after it are those of the netlist
+  pub last_is_due : (rows : List masks.Row) → rows ≡ (run net (inputs_to job n)).rows → Agrees job net n → (t a : ℕ) → HasWord job t a
+      → value_shown job net (last_of net (inputs_to job n)) t a ≡ due_behind job rows t a
+  unfolding trace_of
+  last_is_due rows is all t a there =
+      let many : length rows ≡ n = ap (λ (l : List masks.Row). length l) is ∙ rows_many job net n in
+      let whole : n ≤ n = omega arith in
+      let within : n ≤ length seen = omega (arith, cycles) in
+      ap (λ (f : State). f t a) (shown_is n whole)
+      ∙ all n t a within there
+      ∙ ap (λ (m : ℕ). due_value job (inputs_from job 0 m) seen m t a) (sym many)
+      ∙ ap (λ (l : List masks.Row). due_value job (inputs_from job 0 (length rows)) (rows_seen job.stages.value l) (length rows) t a) (sym is)

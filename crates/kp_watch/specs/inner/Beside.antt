@@ -1,14 +1,13 @@
 -- A netlist and the machines of its job after some cycles of a run.
-use Rattle.std.specs.Prelude.{◌≡◌, ℕ, List, [], length, take, Option, MatchOption}
+use Rattle.std.specs.Prelude.{◌≡◌, ℕ, List, [], length, Option, MatchOption}
 use Rattle.kp_base.specs.declared.row.Row.{Row}
 use Rattle.kp_bits.specs.Word.{word}
 use Rattle.kp_ast.specs.declared.tree.Job.{Job}
 use Rattle.kp_net.specs.Netlist.{Net, last_of}
-use Rattle.kp_sched.specs.Monitors.{HasSeen}
 use Rattle.kp_sched.specs.Rows.{rows_seen}
 use Rattle.kp_seq.specs.Running.{target}
 use Rattle.kp_run.specs.Columns.{AreColumns}
-use Rattle.kp_run.specs.Cycles.{inputs_to}
+use Rattle.kp_run.specs.Cycles.{HasRows, inputs_to}
 use Rattle.kp_run.specs.Homes.{AreHomes}
 use Rattle.kp_watch.specs.Watching.{own_trace, own_due, Agrees, IsFirstDifference}
 use Rattle.kp_watch.specs.declared.compare.Difference.{Difference}
@@ -26,12 +25,11 @@ pub record AreTables (job : Job) (net : Net) (rows : List Row) (tables : Tables)
   pub results : AreResults job tables.results.items
   pub needed : AreNeeded job tables.needed.items
 
--- both have run the first T cycles of these rows
-pub record HaveCome (job : Job) (net : Net) (rows : List Row) (tables : Tables) (T : ℕ) (both : Beside) : Type 0 where
+-- both have run T cycles, whose rows are stored
+pub record HaveCome (job : Job) (net : Net) (tables : Tables) (T : ℕ) (both : Beside) : Type 0 where
   pub sim : both.sim ≡ record { net = net; state = last_of net (inputs_to job T); slots = [] }
-  pub machines : HaveRun job (given tables.columns.items) (rows_seen job.stages.value rows) T both.machines.items
-  pub stages : both.monitor.stages ≡ job.stages.value
-  pub seen : HasSeen both.monitor (take T rows)
+  pub rows : HasRows job net T both.rows.items both.monitor
+  pub machines : HaveRun job (given tables.columns.items) (rows_seen job.stages.value both.rows.items) T both.machines.items
   pub room : length both.room.items ≡ length tables.columns.items
   pub noted : length both.written.items ≡ length net.parts.files
 

@@ -1,4 +1,3 @@
-use Rattle.kp_stage.specs.Start.{input}
 use Rattle.kp_run.specs.Columns.{AreColumns}
 use Rattle.kp_run.proofs.Boards.{board_is}
 use Rattle.kp_run.proofs.Gathering.{rows_fit_taken}

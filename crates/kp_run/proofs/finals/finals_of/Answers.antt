@@ -1,4 +1,4 @@
-use Rattle.std.proofs.Common.{◌<◌, length, arith}
+use Rattle.std.proofs.Common.{arith}
 use Rattle.kp_run.proofs.Placing.{few_targets, as_many}
 use Rattle.kp_run.proofs.finals.finals_of.Goals as goal
 

@@ -1,4 +1,4 @@
-use Rattle.std.proofs.Common.{◌≡◌, ◌<◌, ◌∙◌, sym, ap, arith, length, get_or, length-set}
+use Rattle.std.proofs.Common.{◌≡◌, ◌<◌, ◌∙◌, sym, ap, arith, length, length-set}
 use Rattle.std.proofs.lemmas.List.{length-map, get_or-map}
 use Rattle.kp_bits.specs.Operators.{no_word}
 use Rattle.kp_run.specs.Columns.{Taken, word_taken, row_taken}
