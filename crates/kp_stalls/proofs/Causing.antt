@@ -1,0 +1,427 @@
+-- A wait has its cause.
+use Rattle.std.proofs.Common.{◌≡◌, ◌∙◌, ℕ, zero, suc, ◌+◌, ◌-◌, ◌<◌, ◌≤◌, List, [], ◌∷◌, ◌++◌, Option, Some, None, Bool, true, false, cond, leb, not, ◌&&◌, ◌||◌, length, get_or, refl, ap, sym, subst, arith, ⊎_elim, eq-eqb}
+use Rattle.std.specs.Prelude.{is_some, slice_get}
+use Rattle.std.proofs.lemmas.Bool.{and_parts, cases_lt, false≢true}
+use Rattle.std.proofs.lemmas.List.{length-append, get_or_append_left, get_or_past, get_or_push}
+use Rattle.std.proofs.lemmas.Option.{same_Some}
+use Rattle.kp_ast.specs.declared.tree.Decl.{Decl}
+use Rattle.kp_ast.specs.declared.tree.Stmt.{Stmt}
+use Rattle.kp_ast.specs.declared.tree.StmtKind.{StmtKind}
+use Rattle.kp_ast.specs.declared.tree.StmtKind.TheVariants as stmts
+use Rattle.kp_ast.specs.declared.tree.Block.{Block}
+use Rattle.kp_ast.specs.declared.tree.Job.{Job}
+use Rattle.kp_base.specs.First.{first}
+use Rattle.kp_width.specs.Widths.{widths_of}
+use Rattle.kp_stage.specs.Facts.{stmts_in}
+use Rattle.kp_stage.specs.Start.{start_of}
+use Rattle.kp_stage.specs.Stages.{broken_of}
+use Rattle.kp_pipeline.specs.Accepted.{Accepted}
+use Rattle.kp_pipeline.specs.Machine.{Machine}
+use Rattle.kp_pipeline.specs.Pipeline.{Inputs, is_candidate, outcome}
+use Rattle.kp_pipeline.specs.Rows.{Row, bit}
+use Rattle.kp_pipeline.specs.Sequential.{before_stage, instruction_before}
+use Rattle.kp_pipeline.specs.Timeline.{ReadyAbove, some_unmet}
+use Rattle.kp_pipeline.specs.SpeculativeTimeline as timeline
+use Rattle.kp_pipeline.specs.SpeculativeTimeline.{blocked, blocked_given, moves_on, ready_above, ready_from, waits, waits_given}
+use Rattle.kp_pipeline.specs.RightPath.{IsRightFrom, Moment, WaitsWhereItMust, held}
+use Rattle.kp_machine.specs.Slots.{Slot, targets_of, number_of, result_to}
+use Rattle.kp_machine.specs.Trees.{Progress, entered}
+use Rattle.kp_machine.specs.Machine.{machine_of, result_for, sequential, stage_tree, state_of}
+use Rattle.kp_machine.proofs.Cases.{by_option}
+use Rattle.kp_machine.proofs.Stages.{stages_inside}
+use Rattle.kp_machine.proofs.Text.{fits_text, target_slot}
+use Rattle.kp_seq.specs.Told.{read_told, reads_told, done_after, stage_reads, reads_from, told_of}
+use Rattle.kp_stalls.specs.declared.crew.Stage.{Stage}
+use Rattle.kp_stalls.specs.declared.sites.Site.{Site}
+use Rattle.kp_stalls.specs.declared.sites.Writer.{Writer}
+use Rattle.kp_stalls.specs.declared.cause.Wait.{Wait}
+use Rattle.kp_stalls.specs.Sites.{no_site, result_number, site_of, sited, sites_from, sites_in, writer_at, writer_by, writers_to}
+use Rattle.kp_stalls.specs.Crew.{Flown, Seen, at, crew_of, flown, no_stage}
+use Rattle.kp_stalls.specs.Causes.{first_wait, is_met, is_ready, is_source, may_write, nearest, nearest_above}
+use Rattle.kp_stalls.specs.Claims.{IsCause, ShowsMoment, has_ready, is_writer, read_site}
+use Rattle.kp_stalls.proofs.Asks.{asks_unmet, stage_asks}
+use Rattle.kp_stalls.proofs.Crews.{flown_at, stage_at}
+use Rattle.kp_stalls.proofs.Results.{IsResult, is_result, no_result, ready_same, writes_same}
+use Rattle.kp_stalls.proofs.Waits.{AllMet, first_is, left_met, met_of, near_is, none_waits, right_met, wait_is}
+use Rattle.kp_stalls.proofs.Windows.{writers_many}
+
+-- ---- how a target is written
+writer_get : (job : Job) (n t : ℕ) → t < n → get_or (writers_to job n) t None ≡ writer_at job t
+writer_get job zero t b = absurd (omega (arith, b))
+writer_get job (suc n) t b = ⊎_elim
+    (λ (lt : t < n). get_or_append_left (writers_to job n) (writer_at job n ∷ []) None t (let m = writers_many job n in omega (arith, lt, m)) ∙ writer_get job n t lt)
+    (λ (ge : n ≤ t).
+    let same : n ≡ t = omega (arith, ge, b) in
+    get_or_push (writers_to job n) (writer_at job n) None t (writers_many job n ∙ same) ∙ ap (writer_at job) same)
+    (cases_lt t n)
+
+-- ---- the reads of a job, stage by stage
+one_count : (targets : List Slot) (ds : List Decl) (k : ℕ) (done : Progress) (x : StmtKind) → length (site_of targets k x) ≡ length (read_told ds done x)
+one_count targets ds k done (stmts.Read r) = refl
+one_count targets ds k done (stmts.Let n e) = refl
+one_count targets ds k done (stmts.Put n e) = refl
+one_count targets ds k done (stmts.Set n e when) = refl
+one_count targets ds k done (stmts.Aim n e) = refl
+
+stage_count : (targets : List Slot) (ds : List Decl) (s : ℕ → ℕ → ℕ) (k : ℕ) (done : Progress) (xs : List Stmt) → length (sites_in targets k xs) ≡ length (reads_told ds s done xs)
+stage_count targets ds s k done [] = refl
+stage_count targets ds s k done (x ∷ xs) =
+    let later = done_after ds s done x.kind in
+    let a = length-append (site_of targets k x.kind) (sites_in targets k xs) in
+    let b = length-append (read_told ds done x.kind) (reads_told ds s later xs) in
+    let c = one_count targets ds k done x.kind in
+    let d = stage_count targets ds s k later xs in
+    omega (arith, a, b, c, d)
+
+abbrev AllIn : ℕ → List Site → Type 0
+AllIn k [] = Unit {0}
+AllIn k (site ∷ sites) = (site.stage ≡ k) × AllIn k sites
+
+one_in : (targets : List Slot) (k : ℕ) (x : StmtKind) (sites : List Site) → AllIn k sites → AllIn k (site_of targets k x ++ sites)
+one_in targets k (stmts.Read r) sites h = (refl, h)
+one_in targets k (stmts.Let n e) sites h = h
+one_in targets k (stmts.Put n e) sites h = h
+one_in targets k (stmts.Set n e when) sites h = h
+one_in targets k (stmts.Aim n e) sites h = h
+
+all_in : (targets : List Slot) (k : ℕ) (xs : List Stmt) → AllIn k (sites_in targets k xs)
+all_in targets k [] = tt
+all_in targets k (x ∷ xs) = one_in targets k x.kind (sites_in targets k xs) (all_in targets k xs)
+
+module _ (job : Job) (st : ℕ → ℕ → ℕ) (q : ℕ → ℕ) (crew : List Seen) (k : ℕ) where
+  abbrev told_at : ℕ → List (Option ℕ)
+  told_at j = stage_reads job st q j
+
+  abbrev sites_at : ℕ → List Site
+  sites_at j = sites_in (targets_of job.decls) j (stmts_in (slice_get job.blocks j))
+
+  part_count : (j : ℕ) → length (sites_at j) ≡ length (told_at j)
+  unfolding stage_reads
+  part_count j = stage_count (targets_of job.decls) job.decls st j (entered job.decls q (before_stage (machine_of job) st q j).pipes) (stmts_in (slice_get job.blocks j))
+
+  abbrev Following : ℕ → List Block → Type 0
+  Following j bs = (i : ℕ) (x : Block) → slice_get bs i ≡ Some x → slice_get job.blocks (j + i) ≡ Some x
+
+  first_there : (j : ℕ) (x : Block) (bs : List Block) → Following j (x ∷ bs) → sites_in (targets_of job.decls) j x.stmts ≡ sites_at j
+  first_there j x bs follow =
+      let z : j + 0 ≡ j = omega arith in
+      let here : slice_get job.blocks j ≡ Some x = subst (λ i. slice_get job.blocks i ≡ Some x) z (follow 0 x refl) in
+      ap (λ o. sites_in (targets_of job.decls) j (stmts_in o)) (sym here)
+
+  following : (j : ℕ) (x : Block) (bs : List Block) → Following j (x ∷ bs) → Following (suc j) bs
+  following j x bs follow i y e = let z : j + suc i ≡ suc j + i = omega arith in subst (λ v. slice_get job.blocks v ≡ Some y) z (follow (suc i) y e)
+
+  pub blocks_count : (j : ℕ) (bs : List Block) → Following j bs → length (sites_from (targets_of job.decls) j bs) ≡ length (reads_from job st q (length bs) j)
+  blocks_count j [] follow = refl
+  blocks_count j (x ∷ bs) follow =
+      let next : j + 1 ≡ suc j = omega arith in
+      let a = length-append (sites_in (targets_of job.decls) j x.stmts) (sites_from (targets_of job.decls) (j + 1) bs) in
+      let c = length-append (told_at j) (reads_from job st q (length bs) (suc j)) in
+      let p = ap length (first_there j x bs follow) ∙ part_count j in
+      let r = ap (λ i. length (sites_from (targets_of job.decls) i bs)) next ∙ blocks_count (suc j) bs (following j x bs follow) in
+      omega (arith, a, c, p, r)
+
+  abbrev Met : List Site → List (Option ℕ) → Type 0
+  Met = AllMet (sited job) crew k
+
+  pub stage_met : (j : ℕ) (bs : List Block) → Following j bs → j ≤ k → k < j + length bs → Met (sites_from (targets_of job.decls) j bs) (reads_from job st q (length bs) j)
+      → Met (sites_at k) (told_at k)
+  stage_met j [] follow l g h = absurd (omega (arith, l, g))
+  stage_met j (x ∷ bs) follow l g h =
+      let next : j + 1 ≡ suc j = omega arith in
+      let rest = reads_from job st q (length bs) (suc j) in
+      let here = sites_in (targets_of job.decls) j x.stmts in
+      let many : length here ≡ length (told_at j) = ap length (first_there j x bs follow) ∙ part_count j in
+      ⊎_elim
+      (λ (lt : j < k).
+      stage_met (suc j) bs (following j x bs follow) (omega (arith, lt)) (omega (arith, g))
+      (subst (λ i. Met (sites_from (targets_of job.decls) i bs) rest) next (right_met (sited job) crew k here (sites_from (targets_of job.decls) (j + 1) bs) (told_at j) rest many h)))
+      (λ (ge : k ≤ j).
+      let is : j ≡ k = omega (arith, l, ge) in
+      subst (λ i. Met (sites_at i) (told_at i)) is
+      (subst (λ ss. Met ss (told_at j)) (first_there j x bs follow) (left_met (sited job) crew k here (sites_from (targets_of job.decls) (j + 1) bs) (told_at j) rest many h)))
+      (cases_lt j k)
+
+-- ---- a moment
+module _ (job : Job) (given : ℕ → ℕ → ℕ) (now : Moment) (i : Inputs) (r : Row) (stages : List Stage) (names : first (widths_of job).asked ≡ None) (rules : broken_of job ≡ None)
+    (acc : Accepted (machine_of job)) (must : WaitsWhereItMust (machine_of job) (state_of job (start_of job)) given now i r) (shows : ShowsMoment (machine_of job) now r stages) where
+  abbrev m : Machine
+  m = machine_of job
+
+  abbrev s : ℕ → ℕ → ℕ
+  s = state_of job (start_of job)
+
+  abbrev hold : ℕ → Option ℕ
+  hold = held now
+
+  abbrev crew : List Seen
+  crew = crew_of (flown job given) stages
+
+  abbrev from : ℕ → ℕ → ReadyAbove
+  from d j = ready_from m s given hold i d j
+
+  abbrev above : ℕ → ReadyAbove
+  above j = ready_above m s given hold i j
+
+  abbrev is_blocked : ℕ → Bool
+  is_blocked j = blocked m s given hold i j
+
+  count_is : job.stages.value ≡ m.stages
+  unfolding machine_of
+  count_is = refl
+
+  full_is : (j : ℕ) → j < m.stages → (at crew j).stage.full ≡ (now.state.stage j).full
+  full_is j b = ap (λ (x : Stage). x.full) (stage_at (flown job given) stages j) ∙ shows.full j b ∙ shows.row j b
+
+  number_is : (j : ℕ) → j < m.stages → (at crew j).stage.number ≡ now.count j
+  number_is j b = ap (λ (x : Stage). x.number) (stage_at (flown job given) stages j) ∙ shows.number j b
+
+  flown_is : (j : ℕ) → j < m.stages → (at crew j).flown ≡ flown job given (now.count j)
+  flown_is j b = flown_at (flown job given) stages j no_stage (let c = shows.count in omega (arith, b, c)) ∙ ap (flown job given) (shows.number j b)
+
+  module _ (k : ℕ) (right : IsRightFrom m s given now i k) where
+    right_above : (j : ℕ) → k ≤ j → IsRightFrom m s given now i j
+    right_above j l x y b = right x (omega (arith, l, y)) b
+
+    -- a full stage updates unless it is blocked
+    moves_is : (j n : ℕ) → k ≤ j → j < m.stages → hold j ≡ Some n → (at crew j).stage.moves ≡ not (is_blocked j)
+    unfolding moves_on
+    moves_is j n l b e =
+        ap (λ (x : Stage). x.moves) (stage_at (flown job given) stages j) ∙ shows.moves j b ∙ must.moves j b (right_above j l)
+        ∙ ap (λ o. is_some o && not (is_blocked j)) e
+
+    held_by : (j : ℕ) (x : Bool) → (now.state.stage j).full ≡ x → hold j ≡ cond x (Some (now.count j)) None
+    held_by j x e = ap (λ b. cond b (Some (now.count j)) None) e
+
+    no_and : (x : Bool) → (x && false) ≡ false
+    no_and true = refl
+    no_and false = refl
+
+    -- a target that has a result
+    module _ (t n : ℕ) (is : IsResult job t n) where
+      abbrev by : Writer
+      by = record { result = n; write = m.write_stage t; known = m.known_from t }
+
+      has : m.has_result t ≡ true
+      unfolding machine_of
+      has = ap is_some is.first
+
+      source_by : (j a : ℕ) (x : Bool) → j < m.stages → (now.state.stage j).full ≡ x → is_writer job given now t a j ≡ is_source crew by a j
+      source_by j a true b f =
+          let e : hold j ≡ Some (now.count j) = held_by j true f in
+          ap (λ o. is_candidate m j t && timeline.may_write m s given j o t a) e
+          ∙ ap (λ c. (c && leb j (m.write_stage t)) && timeline.may_write m s given j (Some (now.count j)) t a) has
+          ∙ ap (λ c. leb j (m.write_stage t) && c) (writes_same job s given j t n (now.count j) (at crew j) is (flown_is j b) a)
+          ∙ sym (ap (λ c. c && (leb j (m.write_stage t) && may_write by (at crew j) j a)) (full_is j b ∙ f))
+      source_by j a false b f =
+          let e : hold j ≡ None = held_by j false f in
+          ap (λ o. is_candidate m j t && timeline.may_write m s given j o t a) e ∙ no_and (is_candidate m j t)
+          ∙ sym (ap (λ c. c && (leb j (m.write_stage t) && may_write by (at crew j) j a)) (full_is j b ∙ f))
+
+      source_is : (j a : ℕ) → j < m.stages → is_writer job given now t a j ≡ is_source crew by a j
+      source_is j a b = source_by j a (now.state.stage j).full b refl
+
+      ready_is : (j : ℕ) → k ≤ j → j < m.stages → (now.state.stage j).full ≡ true → has_ready job given now i t j ≡ is_ready by (at crew j) j
+      ready_is j l b f =
+          let e : hold j ≡ Some (now.count j) = held_by j true f in
+          ap (λ o. timeline.is_ready m s given j o (is_blocked j) t) e
+          ∙ ready_same job s given j t n (now.count j) (at crew j) is (flown_is j b) (is_blocked j) (moves_is j (now.count j) l b e)
+
+      above_is : (d j : ℕ) → d + suc j ≡ m.stages → above j ≡ from d (suc j)
+      unfolding ready_above
+      above_is d j e = let z : m.stages - suc j ≡ d = omega (arith, e) in ap (λ x. from x (suc j)) z
+
+      blocked_is : (d j : ℕ) → d + suc j ≡ m.stages → blocked_given m s given hold i j (from d (suc j)) ≡ is_blocked j
+      unfolding blocked
+      blocked_is d j e = ap (blocked_given m s given hold i j) (sym (above_is d j e))
+
+      choose : (c : Bool) (x : Option ℕ) (w : Writer) (j : ℕ) → cond c (is_ready w (at crew j) j) (is_met crew w x) ≡ is_met crew w (cond c (Some j) x)
+      choose true x w j = refl
+      choose false x w j = refl
+
+      ready_at : (j : ℕ) (x : Bool) (y : Bool) (c : Bool) → k ≤ j → j < m.stages → (now.state.stage j).full ≡ x → (x ≡ false → c ≡ false) → cond c (has_ready job given now i t j) y ≡ cond c (is_ready by (at crew j) j) y
+      ready_at j true y c l b f none = ap (λ z. cond c z y) (ready_is j l b f)
+      ready_at j false y c l b f none = ap (λ z. cond z (has_ready job given now i t j) y) (none refl) ∙ sym (ap (λ z. cond z (is_ready by (at crew j) j) y) (none refl))
+
+      no_source : (j a : ℕ) → j < m.stages → (now.state.stage j).full ≡ false → is_source crew by a j ≡ false
+      no_source j a b f = ap (λ c. c && (leb j by.write && may_write by (at crew j) j a)) (full_is j b ∙ f)
+
+      met : (d j a : ℕ) → d + j ≡ m.stages → k ≤ j → (from d j).ready t a ≡ is_met crew by (nearest crew by a d j)
+      unfolding ready_from
+      met zero j a e l = refl
+      met (suc d) j a e l =
+          let b : j < m.stages = omega (arith, e) in
+          let z : d + suc j ≡ m.stages = omega (arith, e) in
+          let x = (from d (suc j)).ready t a in
+          ap (λ c. cond (is_writer job given now t a j) (timeline.is_ready m s given j (hold j) c t) x) (blocked_is d j z)
+          ∙ ap (λ c. cond c (has_ready job given now i t j) x) (source_is j a b)
+          ∙ ready_at j (now.state.stage j).full x (is_source crew by a j) l b refl (λ f. no_source j a b f)
+          ∙ ap (λ y. cond (is_source crew by a j) (is_ready by (at crew j) j) y) (met d (suc j) a z (omega (arith, l)))
+          ∙ choose (is_source crew by a j) (nearest crew by a d (suc j)) by j
+
+    -- a target that has none
+    unwritten : (t d j a : ℕ) → result_for job t ≡ None → (from d j).ready t a ≡ true
+    unfolding ready_from machine_of
+    unwritten t zero j a e = refl
+    unwritten t (suc d) j a e =
+        let x = (from d (suc j)).ready t a in
+        ap (λ o. cond ((is_some o && leb j (m.write_stage t)) && timeline.may_write m s given j (hold j) t a)
+        (timeline.is_ready m s given j (hold j) (blocked_given m s given hold i j (from d (suc j))) t) x) e
+        ∙ unwritten t d (suc j) a e
+
+    past_targets : (t : ℕ) → length (targets_of job.decls) ≤ t → result_for job t ≡ None
+    unfolding result_for
+    past_targets t l = by_option (result_to (targets_of job.decls) job.decls t) (λ e. e)
+        (λ x e.
+        let f = fits_text job names t x e in
+        let inside : number_of (targets_of job.decls) x.target.name < length (targets_of job.decls) = (target_slot job names x f.0).inside in
+        let same = f.1 in
+        absurd (omega (arith, inside, same, l)))
+
+    above_from : (d : ℕ) → d + suc k ≡ m.stages → above k ≡ from d (suc k)
+    unfolding ready_above
+    above_from d e = let z : m.stages - suc k ≡ d = omega (arith, e) in ap (λ x. from x (suc k)) z
+
+    met_result : (t a d : ℕ) (o : Option ℕ) → d + suc k ≡ m.stages → result_number (targets_of job.decls) job.decls 0 t ≡ o
+        → (from d (suc k)).ready t a ≡ met_of (sited job) crew k (writer_by job t o) a
+    met_result t a d None e is = unwritten t d (suc k) a (no_result job t is)
+    met_result t a d (Some n) e is =
+        let res = is_result job t n is in
+        let z : job.stages.value - suc k ≡ d = omega (arith, e, count_is) in
+        met t n res d (suc k) a e (omega arith) ∙ ap (λ x. is_met crew (by t n res) (nearest crew (by t n res) a x (suc k))) (sym z)
+
+    read_met : (t a d : ℕ) → d + suc k ≡ m.stages → (above k).ready t a ≡ met_of (sited job) crew k (get_or (sited job).writers t None) a
+    read_met t a d e =
+        ap (λ (x : ReadyAbove). x.ready t a) (above_from d e)
+        ∙ ⊎_elim
+        (λ (l : t < length (targets_of job.decls)).
+        met_result t a d (result_number (targets_of job.decls) job.decls 0 t) e refl
+        ∙ ap (λ o. met_of (sited job) crew k o a) (sym (writer_get job (length (targets_of job.decls)) t l)))
+        (λ (l : length (targets_of job.decls) ≤ t).
+        unwritten t d (suc k) a (past_targets t l)
+        ∙ ap (λ o. met_of (sited job) crew k o a) (sym (get_or_past (sited job).writers t None (let c = writers_many job (length (targets_of job.decls)) in omega (arith, c, l)))))
+        (cases_lt t (length (targets_of job.decls)))
+
+    -- no read of the stage is unmet, if none waits
+    no_asks : (d : ℕ) (xs : List Site) (os : List (Option ℕ)) → d + suc k ≡ m.stages → AllIn k xs → AllMet (sited job) crew k xs os → asks_unmet (above k).ready xs os ≡ false
+    no_asks d [] os e all h = refl
+    no_asks d (x ∷ xs) [] e all h = refl
+    no_asks d (x ∷ xs) (None ∷ os) e all h = no_asks d xs os e all.1 h.1
+    no_asks d (x ∷ xs) (Some a ∷ os) e all h =
+        ap (λ c. (not x.guessed && not c) || asks_unmet (above k).ready xs os) (read_met x.target a d e)
+        ∙ ap (λ c. c || asks_unmet (above k).ready xs os)
+        (sym (ap (λ c. (c && not x.guessed) && not (met_of (sited job) crew k (get_or (sited job).writers x.target None) a)) (eq-eqb x.stage k all.0)) ∙ h.0)
+        ∙ no_asks d xs os e all.1 h.1
+
+    -- a wait that is found is one by the timeline
+    module _ (below : k < m.stages) where
+      pub caused : (w : Wait) → first_wait (sited job) crew k 0 (sited job).reads ≡ Some w → IsCause job given now i k w
+      caused w e =
+          let f = first_is (sited job) crew k (sited job).reads 0 w e in
+          let l : ℕ = f.later in
+          let z : 0 + l ≡ l = omega arith in
+          let x = wait_is (sited job) crew k (0 + l) (get_or (sited job).reads l no_site) w (get_or (at crew k).flown.told.reads (0 + l) None) f.wait in
+          let same : w.read ≡ l = x.read ∙ z in
+          let site = read_site job w.read in
+          let at_read : get_or (sited job).reads l no_site ≡ site = ap (λ y. get_or (sited job).reads y no_site) (sym same) in
+          let target : get_or (sited job).writers site.target None ≡ Some x.by = ap (λ (y : Site). get_or (sited job).writers y.target None) (sym at_read) ∙ x.is_by in
+          cause_of w x.by target (ap (λ (y : Site). y.stage) (sym at_read) ∙ x.own) (ap (λ (y : Site). y.guessed) (sym at_read) ∙ x.plain)
+          (let b = f.there in omega (arith, b, same))
+          (ap (λ (g : Flown). get_or g.told.reads w.read None) (sym (flown_is k below)) ∙ ap (λ y. get_or (at crew k).flown.told.reads y None) x.read ∙ x.asked)
+          x.source x.unready x.number
+        where
+          by_result : (t : ℕ) (w : Wait) (b : Writer) (o : Option ℕ) → result_number (targets_of job.decls) job.decls 0 t ≡ o → writer_by job t o ≡ Some b
+              → (y : ℕ) × (IsResult job t y × (record { result = y; write = m.write_stage t; known = m.known_from t } ≡ b))
+          by_result t w b None is e = cc
+          by_result t w b (Some y) is e = (y, (is_result job t y is, same_Some _ b e))
+
+          declared : (t : ℕ) (b : Writer) → get_or (sited job).writers t None ≡ Some b → writer_at job t ≡ Some b
+          declared t b e = ⊎_elim
+              (λ (l : t < length (targets_of job.decls)). sym (writer_get job (length (targets_of job.decls)) t l) ∙ e)
+              (λ (l : length (targets_of job.decls) ≤ t).
+              let none = get_or_past (sited job).writers t None (let c = writers_many job (length (targets_of job.decls)) in omega (arith, c, l)) in
+              let no : None ≡ Some b = sym none ∙ e in cc)
+              (cases_lt t (length (targets_of job.decls)))
+
+          cause_of : (w : Wait) (b : Writer) → get_or (sited job).writers (read_site job w.read).target None ≡ Some b → (read_site job w.read).stage ≡ k
+              → (read_site job w.read).guessed ≡ false → w.read < length (sited job).reads
+              → get_or (flown job given (now.count k)).told.reads w.read None ≡ Some w.address → nearest_above (sited job) crew b w.address k ≡ Some w.stage
+              → is_ready b (at crew w.stage) w.stage ≡ false → w.writer ≡ (at crew w.stage).stage.number → IsCause job given now i k w
+          cause_of w b is own plain there asked near unready number =
+              let t = (read_site job w.read).target in
+              let h = by_result t w b (result_number (targets_of job.decls) job.decls 0 t) refl (declared t b is) in
+              let res = h.1.0 in
+              let same = h.1.1 in
+              let found = near_is crew b w.address (job.stages.value - suc k) (suc k) w.stage near in
+              let up : suc k ≤ w.stage = found.0.above in
+              let within : w.stage < m.stages = (let x = found.1 in omega (arith, x, below, count_is)) in
+              let source : is_source crew (by t h.0 res) w.address w.stage ≡ true = ap (λ v. is_source crew v w.address w.stage) same ∙ found.0.source in
+              let stands : (now.state.stage w.stage).full ≡ true = sym (full_is w.stage within) ∙ (and_parts (at crew w.stage).stage.full _ source).0 in
+              record {
+                there = there;
+                own = own;
+                plain = plain;
+                asked = asked;
+                above = omega (arith, up);
+                within = within;
+                number = held_by w.stage true stands ∙ ap (λ x. Some x) (sym (number_is w.stage within) ∙ sym number);
+                writes = source_is t h.0 res w.stage w.address within ∙ source;
+                unready = ready_is t h.0 res w.stage (omega (arith, up)) within stands ∙ ap (λ v. is_ready v (at crew w.stage) w.stage) same ∙ unready;
+                nearest = λ j l x.
+                    source_is t h.0 res j w.address (omega (arith, x, within)) ∙ ap (λ v. is_source crew v w.address j) same ∙ found.0.nothing j (omega (arith, l)) x;
+              }
+
+    module _ (below : k < m.stages) (full : bit r.full k ≡ true) (hazard : (outcome m now.state i k).hazard ≡ true)
+        (settled : (x : ℕ) → m.sample_stage x ≡ k → i.samples x ≡ given (now.count k) x) where
+      abbrev n : ℕ
+      n = now.count k
+
+      abbrev st : ℕ → ℕ → ℕ
+      st = sequential job given n
+
+      is_held : hold k ≡ Some n
+      is_held = held_by k true (sym (shows.row k below) ∙ full)
+
+      pipes : ℕ → ℕ
+      pipes = (instruction_before m s given n k).pipes
+
+      waiting : some_unmet (above k).ready st (m.body k i.samples (instruction_before m s given n k).pipes) ≡ true
+      unfolding waits
+      waiting =
+          sym (ap (λ o. waits_given m s given i o k (above k)) is_held)
+          ∙ sym (must.hazards k below right full) ∙ hazard
+
+      body_is : m.body k i.samples (instruction_before m s given n k).pipes ≡ m.body k (given n) (instruction_before m s given n k).pipes
+      body_is = acc.own_samples k i.samples (given n) (instruction_before m s given n k).pipes below settled
+
+      asks : asks_unmet (above k).ready (sites_at job st (given n) crew k k) (told_at job st (given n) crew k k) ≡ true
+      unfolding machine_of stage_tree stage_reads
+      asks =
+          sym (stage_asks (above k).ready st job.decls k (entered job.decls (given n) (before_stage (machine_of job) st (given n) k).pipes) (stmts_in (slice_get job.blocks k)))
+          ∙ sym (ap (some_unmet (above k).ready st) body_is) ∙ waiting
+
+      count : length job.blocks ≡ job.stages.value
+      count = stages_inside job rules
+
+      reads_are : (at crew k).flown.told.reads ≡ reads_from job st (given n) (length job.blocks) 0
+      unfolding told_of
+      reads_are = ap (λ (f : Flown). f.told.reads) (flown_is k below) ∙ ap (λ x. reads_from job st (given n) x 0) (sym count)
+
+      follow : (x : ℕ) (y : Block) → slice_get job.blocks x ≡ Some y → slice_get job.blocks (0 + x) ≡ Some y
+      follow x y e = let z : x ≡ 0 + x = omega arith in subst (λ v. slice_get job.blocks v ≡ Some y) z e
+
+      never : first_wait (sited job) crew k 0 (sited job).reads ≡ None → ⊥
+      never e =
+          let all = none_waits (sited job) crew k (sited job).reads [] (reads_from job st (given n) (length job.blocks) 0) reads_are
+          (blocks_count job st (given n) crew k 0 job.blocks follow) e in
+          let here = stage_met job st (given n) crew k 0 job.blocks follow (omega arith) (omega (arith, below, count, count_is)) all in
+          let no = no_asks (m.stages - suc k) (sites_at job st (given n) crew k k) (told_at job st (given n) crew k k) (omega (arith, below))
+          (all_in (targets_of job.decls) k (stmts_in (slice_get job.blocks k))) here in
+          false≢true (sym no ∙ asks)
+
+      pub has_cause : (w : Wait) × (first_wait (sited job) crew k 0 (sited job).reads ≡ Some w) × IsCause job given now i k w
+      has_cause = go (first_wait (sited job) crew k 0 (sited job).reads) refl
+        where
+          go : (o : Option Wait) → first_wait (sited job) crew k 0 (sited job).reads ≡ o → (w : Wait) × (first_wait (sited job) crew k 0 (sited job).reads ≡ Some w) × IsCause job given now i k w
+          go None e = absurd (never e)
+          go (Some w) e = (w, e, caused below w e)

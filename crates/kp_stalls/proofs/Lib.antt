@@ -1,0 +1,11 @@
+pub mod Writers
+pub mod Crews
+pub mod Steps
+pub mod Fates
+pub mod Windows
+pub mod Asks
+pub mod Results
+pub mod Waits
+pub mod Moments
+pub mod Causing
+pub mod Telling

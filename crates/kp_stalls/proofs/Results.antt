@@ -1,0 +1,140 @@
+-- The result of a target, by its number: what is reported about it is what the timeline requests.
+use Rattle.std.proofs.Common.{◌≡◌, ◌∙◌, ℕ, zero, suc, ◌+◌, List, [], ◌∷◌, Option, Some, None, Bool, true, false, cond, eqb, leb, ltb, not, ◌&&◌, ◌||◌, map, get_or, refl, ap, sym, subst, arith}
+use Rattle.std.specs.Prelude.{is_some, slice_get}
+use Rattle.std.proofs.lemmas.Bool.{eqb-true}
+use Rattle.std.proofs.lemmas.Option.{get_or_from_slice_get}
+use Rattle.kp_ast.specs.declared.tree.ResultDecl.{ResultDecl}
+use Rattle.kp_ast.specs.declared.tree.Decl.{Decl}
+use Rattle.kp_ast.specs.declared.tree.Decl.TheVariants as decls
+use Rattle.kp_ast.specs.declared.tree.Job.{Job}
+use Rattle.kp_pipeline.specs.Sequential.{before_stage, seq}
+use Rattle.kp_pipeline.specs.Timeline.{first_stage}
+use Rattle.kp_pipeline.specs.SpeculativeTimeline as timeline
+use Rattle.kp_pipeline.specs.SpeculativeTimeline.{setting_stage}
+use Rattle.kp_machine.specs.Slots.{Slot, targets_of, pipes_of, number_of, result_to}
+use Rattle.kp_machine.specs.Machine.{machine_of, result_for, write_stage_of, enabled_of, address_in, is_enabled_by, address_by}
+use Rattle.kp_seq.specs.Told.{where_true, results_of, write_told, setting_told, told_of}
+use Rattle.kp_stalls.specs.declared.sites.Writer.{Writer}
+use Rattle.kp_stalls.specs.Sites.{result_number}
+use Rattle.kp_stalls.specs.Crew.{Flown, Seen, flown_of}
+use Rattle.kp_stalls.specs.Causes.{wrote_at, may_write, is_ready}
+
+-- if the number of a result is found, the result is found
+pub record IsResult (job : Job) (t i : ℕ) : Type 0 where
+  pub result : ResultDecl
+  pub first : result_for job t ≡ Some result
+  pub there : slice_get (results_of job.decls) i ≡ Some result
+  pub target : number_of (targets_of job.decls) result.target.name ≡ t
+
+record Numbered (targets : List Slot) (ds : List Decl) (i t j : ℕ) : Type 0 where
+  result : ResultDecl
+  first : result_to targets ds t ≡ Some result
+  later : ℕ
+  place : j ≡ i + later
+  there : slice_get (results_of ds) later ≡ Some result
+  target : number_of targets result.target.name ≡ t
+
+one_number : (targets : List Slot) (ds : List Decl) (q : ResultDecl) (i t j : ℕ) (b : Bool) → eqb (number_of targets q.target.name) t ≡ b
+    → cond b (Some i) (result_number targets ds (i + 1) t) ≡ Some j
+    → (result_number targets ds (i + 1) t ≡ Some j → Numbered targets ds (i + 1) t j)
+    → Numbered targets (decls.Target q ∷ ds) i t j
+one_number targets ds q i t j true same e more =
+    let n : i ≡ j = cc in
+    let m : i ≡ i + 0 = omega arith in
+    record {
+      result = q;
+      first = ap (λ c. cond c (Some q) (result_to targets ds t)) same;
+      later = 0;
+      place = sym n ∙ m;
+      there = refl;
+      target = eqb-true (number_of targets q.target.name) t same;
+    }
+one_number targets ds q i t j false same e more =
+    let h = more e in
+    let p = h.place in
+    record {
+      result = h.result;
+      first = ap (λ c. cond c (Some q) (result_to targets ds t)) same ∙ h.first;
+      later = suc h.later;
+      place = let l : ℕ = h.later in omega arith;
+      there = h.there;
+      target = h.target;
+    }
+
+numbered : (targets : List Slot) (ds : List Decl) (i t j : ℕ) → result_number targets ds i t ≡ Some j → Numbered targets ds i t j
+numbered targets [] i t j e = cc
+numbered targets (decls.Target q ∷ ds) i t j e =
+    one_number targets ds q i t j (eqb (number_of targets q.target.name) t) refl e (numbered targets ds (i + 1) t j)
+numbered targets (decls.Reg n width start ∷ ds) i t j e = let h = numbered targets ds i t j e in record { result = h.result; first = h.first; later = h.later; place = h.place; there = h.there; target = h.target }
+numbered targets (decls.File n width address ∷ ds) i t j e = let h = numbered targets ds i t j e in record { result = h.result; first = h.first; later = h.later; place = h.place; there = h.there; target = h.target }
+numbered targets (decls.Pipe n width ∷ ds) i t j e = let h = numbered targets ds i t j e in record { result = h.result; first = h.first; later = h.later; place = h.place; there = h.there; target = h.target }
+numbered targets (decls.Hint n width start ∷ ds) i t j e = let h = numbered targets ds i t j e in record { result = h.result; first = h.first; later = h.later; place = h.place; there = h.there; target = h.target }
+numbered targets (decls.Func f ∷ ds) i t j e = let h = numbered targets ds i t j e in record { result = h.result; first = h.first; later = h.later; place = h.place; there = h.there; target = h.target }
+numbered targets (decls.Sample n width stage ∷ ds) i t j e = let h = numbered targets ds i t j e in record { result = h.result; first = h.first; later = h.later; place = h.place; there = h.there; target = h.target }
+
+pub is_result : (job : Job) (t i : ℕ) → result_number (targets_of job.decls) job.decls 0 t ≡ Some i → IsResult job t i
+unfolding result_for
+is_result job t i e =
+    let h = numbered (targets_of job.decls) job.decls 0 t i e in
+    let p = h.place in
+    let l : ℕ = h.later in
+    let same : l ≡ i = omega arith in
+    record { result = h.result; first = h.first; there = subst (λ n. slice_get (results_of job.decls) n ≡ Some h.result) same h.there; target = h.target }
+
+-- and if none is found, there is no result
+unnumbered_by : (b : Bool) (i : ℕ) (q : ResultDecl) (o : Option ℕ) (r : Option ResultDecl) → (o ≡ None → r ≡ None) → cond b (Some i) o ≡ None → cond b (Some q) r ≡ None
+unnumbered_by true i q o r h e = cc
+unnumbered_by false i q o r h e = h e
+
+unnumbered : (targets : List Slot) (ds : List Decl) (i t : ℕ) → result_number targets ds i t ≡ None → result_to targets ds t ≡ None
+unnumbered targets [] i t e = refl
+unnumbered targets (decls.Target q ∷ ds) i t e =
+    unnumbered_by (eqb (number_of targets q.target.name) t) i q (result_number targets ds (i + 1) t) (result_to targets ds t) (unnumbered targets ds (i + 1) t) e
+unnumbered targets (_ ∷ ds) i t e = unnumbered targets ds i t e
+
+pub no_result : (job : Job) (t : ℕ) → result_number (targets_of job.decls) job.decls 0 t ≡ None → result_for job t ≡ None
+unfolding result_for
+no_result job t e = unnumbered (targets_of job.decls) job.decls 0 t e
+
+mapped : {X Y : Type 0} (g : X → Y) (zs : List X) (j : ℕ) (x : X) → slice_get zs j ≡ Some x → slice_get (map g zs) j ≡ Some (g x)
+mapped g [] j x e = cc
+mapped g (z ∷ zs) zero x e = let is : z ≡ x = cc in ap (λ y. Some (g y)) is
+mapped g (z ∷ zs) (suc j) x e = mapped g zs j x e
+
+wrote : (b : Bool) (c a : ℕ) → (b && eqb c a) ≡ wrote_at (where_true b c) a
+wrote true c a = refl
+wrote false c a = refl
+
+module _ (job : Job) (s : ℕ → ℕ → ℕ) (given : ℕ → ℕ → ℕ) (k t i n : ℕ) (x : Seen) where
+  -- instruction n, about which this is reported
+  abbrev at_start : ℕ → ℕ → ℕ
+  at_start = seq (machine_of job) s given n
+
+  module _ (is : IsResult job t i) (tells : x.flown ≡ flown_of job at_start (given n)) where
+    abbrev writer : Writer
+    writer = record { result = i; write = (machine_of job).write_stage t; known = (machine_of job).known_from t }
+
+    pub writes_same : (a : ℕ) → timeline.may_write (machine_of job) s given k (Some n) t a ≡ may_write writer x k a
+    unfolding machine_of told_of
+    writes_same a =
+        let pipes = (before_stage (machine_of job) at_start (given n) job.stages.value).pipes in
+        let r = is.result in
+        let here : get_or x.flown.told.writes i None ≡ write_told job pipes r =
+        ap (λ (y : Flown). get_or y.told.writes i None) tells
+        ∙ get_or_from_slice_get (map (write_told job pipes) (results_of job.decls)) i (write_told job pipes r) None (mapped (write_told job pipes) (results_of job.decls) i r is.there) in
+        ap (λ o. not (leb ((machine_of job).known_from t) k) || (is_some o && (enabled_of (pipes_of job.decls) pipes o && eqb (address_in (pipes_of job.decls) pipes o) a))) is.first
+        ∙ ap (λ b. not (leb ((machine_of job).known_from t) k) || b)
+        (wrote (is_enabled_by (pipes_of job.decls) pipes r.enable) (address_by (pipes_of job.decls) pipes r.address) a ∙ sym (ap (λ o. wrote_at o a) here))
+
+    pub ready_same : (blocked : Bool) → x.stage.moves ≡ not blocked → timeline.is_ready (machine_of job) s given k (Some n) blocked t ≡ is_ready writer x k
+    unfolding machine_of told_of setting_stage setting_told
+    ready_same blocked moving =
+        let r = is.result in
+        let here : get_or x.flown.told.settings i 0 ≡ setting_told job at_start (given n) r =
+        ap (λ (y : Flown). get_or y.told.settings i 0) tells
+        ∙ get_or_from_slice_get (map (setting_told job at_start (given n)) (results_of job.decls)) i (setting_told job at_start (given n) r) 0 (mapped (setting_told job at_start (given n)) (results_of job.decls) i r is.there) in
+        let stage : setting_stage (machine_of job) at_start (given n) t ≡ setting_told job at_start (given n) r =
+        ap (λ o. first_stage (λ j. is_some ((before_stage (machine_of job) at_start (given n) (suc j)).results t)) job.stages.value 0 (write_stage_of o)) is.first
+        ∙ ap (λ y. first_stage (λ j. is_some ((before_stage (machine_of job) at_start (given n) (suc j)).results y)) job.stages.value 0 r.stage.value) (sym is.target) in
+        ap (λ y. leb ((machine_of job).known_from t) k && (ltb y k || (eqb y k && not blocked))) (stage ∙ sym here)
+        ∙ ap (λ b. leb ((machine_of job).known_from t) k && (ltb (get_or x.flown.told.settings i 0) k || (eqb (get_or x.flown.told.settings i 0) k && b))) (sym moving)

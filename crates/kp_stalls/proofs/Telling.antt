@@ -1,0 +1,50 @@
+-- What is told of an instruction that waits for a value.
+use Rattle.std.proofs.Common.{◌≡◌, ℕ, ◌+◌, Option, Some, None, Bool, true, false, cond, ap, List}
+use Rattle.kp_stalls.specs.declared.cause.Cause.{Cause}
+use Rattle.kp_stalls.specs.declared.cause.Cause.TheVariants.{Value, Unsure, Ahead, Held, Later, Squashed}
+use Rattle.kp_stalls.specs.declared.cause.Wait.{Wait}
+use Rattle.kp_stalls.specs.declared.cause.Wrong.{Wrong}
+use Rattle.kp_stalls.specs.Sites.{Sited}
+use Rattle.kp_stalls.specs.Crew.{Seen, at}
+use Rattle.kp_stalls.specs.Causes.{cause_at, cause_of_wait, first_wait, is_squashed_by, is_told, is_waiting, squashing_cause, wrong_of}
+
+pub told_wait : (s : Sited) (crew : List Seen) (k : ℕ) (w : Wait) → (at crew k).stage.full ≡ true → (at crew k).stage.squashed ≡ false → (at crew k).stage.moves ≡ false
+    → is_squashed_by (at crew k).stage.fate ≡ false → (at crew k).stage.held ≡ false → is_waiting (at crew (k + 1)).stage ≡ false → is_told s (at crew k).stage ≡ true
+    → first_wait s crew k 0 s.reads ≡ Some w → cause_at s crew k ≡ Some (Value w)
+told_wait s crew k w full squashed moves later held ahead told first = λ i.
+    cond (full i)
+    (cond (squashed i) (squashing_cause s crew k)
+    (cond (moves i) None (Some (cond (later i) Later (cond (held i) Held (cond (ahead i) Ahead (cond (told i) (cause_of_wait (first i)) Unsure)))))))
+    None
+
+-- the wait of a cause
+abbrev wait_in : Option Cause → Option Wait
+wait_in (Some (Value w)) = Some w
+wait_in _ = None
+
+never : (f : Option Wait) (w : Wait) → None ≡ Some w → f ≡ Some w
+never f w e = cc
+
+only_found : (f : Option Wait) (told : Bool) → (w : Wait) → wait_in (Some (cond told (cause_of_wait f) Unsure)) ≡ Some w → f ≡ Some w
+only_found None true w e = e
+only_found (Some v) true w e = e
+only_found f false w e = never f w e
+
+only_told : (full squashed next moves later held ahead told : Bool) (g : Wrong) (f : Option Wait) (w : Wait)
+    → wait_in (cond full
+    (cond squashed (cond next None (Some (Squashed g)))
+    (cond moves None (Some (cond later Later (cond held Held (cond ahead Ahead (cond told (cause_of_wait f) Unsure)))))))
+    None) ≡ Some w → f ≡ Some w
+only_told false _ _ _ _ _ _ _ g f w e = never f w e
+only_told true true true _ _ _ _ _ g f w e = never f w e
+only_told true true false _ _ _ _ _ g f w e = never f w e
+only_told true false _ true _ _ _ _ g f w e = never f w e
+only_told true false _ false true _ _ _ g f w e = never f w e
+only_told true false _ false false true _ _ g f w e = never f w e
+only_told true false _ false false false true _ g f w e = never f w e
+only_told true false _ false false false false told g f w e = only_found f told w e
+
+pub told_found : (s : Sited) (crew : List Seen) (k : ℕ) (w : Wait) → cause_at s crew k ≡ Some (Value w) → first_wait s crew k 0 s.reads ≡ Some w
+told_found s crew k w e =
+    only_told (at crew k).stage.full (at crew k).stage.squashed (at crew (k + 1)).stage.squashed (at crew k).stage.moves (is_squashed_by (at crew k).stage.fate)
+    (at crew k).stage.held (is_waiting (at crew (k + 1)).stage) (is_told s (at crew k).stage) (wrong_of s crew k) (first_wait s crew k 0 s.reads) w (ap wait_in e)

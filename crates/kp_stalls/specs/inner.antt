@@ -1,0 +1,2 @@
+-- For private contracts and proofs only: no public clause of the crate cites these definitions.
+pub mod Ported

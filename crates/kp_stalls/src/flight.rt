@@ -1,0 +1,214 @@
+//! What the sequential machine reported about an instruction.
+ghost use Rattle.std.specs.Prelude.{◌≡◌, ◌<◌, ◌≤◌, ◌^◌, None, IfOk, length, get_or, map};
+ghost use Rattle.kp_bits.specs.Word.{word};
+ghost use Rattle.kp_machine.specs.Slots.{targets_of};
+ghost use Rattle.kp_stage.specs.Counts.{summary_of};
+ghost use Rattle.kp_stage.specs.Start.{AreSamples};
+ghost use Rattle.kp_machine.specs.Machine.{values_in};
+ghost use Rattle.kp_seq.specs.Running.{after_one, state};
+ghost use Rattle.kp_stalls.specs.Sites.{sited};
+ghost use Rattle.kp_stalls.specs.Windows.{HasRoom};
+ghost use Rattle.kp_stalls.specs.Crew.{flown_of, no_value, value_before as value_of_site};
+
+use crate::sites::Site;
+use kp_base::NoMemory;
+use kp_bits::Bits;
+use kp_seq::SeqMachine;
+use std::alloc::Global;
+use std::marker::Model;
+
+/// The addresses of its reads and of its results, the stages in which the results were set, and the values that the targets of its reads had before it, each
+/// by number.
+#[derive(Drop)]
+pub(crate) struct Flight {
+    reads: Vec<Option<u32>>,
+    writes: Vec<Option<u32>>,
+    settings: Vec<u8>,
+    values: Vec<Bits>,
+}
+
+impl Model for Flight {
+    ghost use Rattle.kp_stalls.specs.Crew.{Flown};
+
+    ghost Value = { Flown };
+
+    ghost view = { λ f. record { told = record { reads = f.reads.items; writes = f.writes.items; settings = f.settings.items }; values = f.values.items } };
+}
+
+impl Flight {
+    /// An empty record for an instruction with the given numbers of reads, of results and of values. The only error is out of memory.
+    pub(crate) fn new(
+        alloc: Global,
+        reads: usize,
+        results: usize,
+        values: usize,
+    ) -> Result<Flight, NoMemory>
+        ensures reads { IfOk result (λ f. length f.told.reads ≡ reads) }
+        ensures writes { IfOk result (λ f. length f.told.writes ≡ results) }
+        ensures settings { IfOk result (λ f. length f.told.settings ≡ results) }
+        ensures values { IfOk result (λ f. length f.values ≡ values) }
+    {
+        Ok(Flight {
+            reads: vec![in alloc; None; reads]?,
+            writes: vec![in alloc; None; results]?,
+            settings: vec![in alloc; 0; results]?,
+            values: vec![in alloc; zero_bit(); values]?,
+        })
+    }
+
+    /// The address of a read, if its condition was true.
+    pub(crate) fn read(&self, number: usize) -> Option<u32>
+        ensures { result ≡ get_or self.now.told.reads number None }
+    {
+        if number < self.reads.len() {
+            self.reads[number]
+        } else {
+            None
+        }
+    }
+
+    /// The address at which a result wrote, if it was enabled.
+    pub(crate) fn write(&self, number: usize) -> Option<u32>
+        ensures { result ≡ get_or self.now.told.writes number None }
+    {
+        if number < self.writes.len() {
+            self.writes[number]
+        } else {
+            None
+        }
+    }
+
+    /// The stage in which a result was set.
+    pub(crate) fn setting(&self, number: usize) -> u8
+        ensures { result ≡ get_or self.now.told.settings number 0 }
+    {
+        if number < self.settings.len() {
+            self.settings[number]
+        } else {
+            0
+        }
+    }
+
+    /// The value of the target of a read before the instruction.
+    pub(crate) fn value(&self, number: usize) -> Bits
+        ensures { result ≡ get_or self.now.values number no_value }
+    {
+        if number < self.values.len() {
+            self.values[number]
+        } else {
+            zero_bit()
+        }
+    }
+
+    /// The machine executes its next instruction, and what it reports is stored here.
+    pub(crate) fn run(
+        &mut self,
+        machine: &mut SeqMachine<'_>,
+        sites: &[Site],
+        targets: usize,
+        row: &[Bits],
+    )
+        requires samples { AreSamples machine.old.job.decls row.now }
+        requires room { HasRoom machine.old.job self.old }
+        requires sites { sites.now ≡ (sited machine.old.job).reads }
+        requires targets { targets ≡ length (targets_of machine.old.job.decls) }
+        requires few { targets < 2 ^ 32 }
+        requires few_reads { (summary_of machine.old.job).reads < 2 ^ 32 }
+        requires few_results { (summary_of machine.old.job).results < 2 ^ 32 }
+        requires blocks { length machine.old.job.blocks ≡ machine.old.job.stages.value }
+        ensures job { machine.new.job ≡ machine.old.job }
+        ensures state { state machine.new ≡ after_one machine.old.job (state machine.old) row.now }
+        ensures flown { self.new ≡ flown_of machine.old.job (state machine.old) (values_in row.now) }
+    {
+        self.take_values(machine, sites, targets);
+        machine.step_with(row);
+        self.take(machine);
+    }
+
+    // Copies the values of the targets of the reads, before the instruction.
+    fn take_values(&mut self, machine: &SeqMachine, sites: &[Site], targets: usize)
+        requires count { length self.old.values ≡ length sites.now }
+        requires targets { targets ≡ length (targets_of machine.now.job.decls) }
+        requires few { targets < 2 ^ 32 }
+        ensures told { self.new.told ≡ self.old.told }
+        ensures values { self.new.values ≡ map (value_of_site machine.now.job (state machine.now)) sites.now }
+    {
+        fill_values(self.values.as_mut_slice(), machine, sites, targets);
+    }
+
+    // Copies what a machine reports about its last instruction.
+    fn take(&mut self, machine: &SeqMachine)
+        requires reads { length self.old.told.reads ≡ length machine.now.last.reads }
+        requires writes { length self.old.told.writes ≡ length machine.now.last.writes }
+        requires settings { length self.old.told.settings ≡ length machine.now.last.settings }
+        requires few_reads { length self.old.told.reads < 2 ^ 32 }
+        requires few_writes { length self.old.told.writes < 2 ^ 32 }
+        requires few_settings { length self.old.told.settings < 2 ^ 32 }
+        ensures told { self.new.told ≡ machine.now.last }
+        ensures values { self.new.values ≡ self.old.values }
+    {
+        take_reads(self.reads.as_mut_slice(), machine);
+        take_writes(self.writes.as_mut_slice(), machine);
+        take_settings(self.settings.as_mut_slice(), machine);
+    }
+}
+
+fn take_reads(reads: &mut [Option<u32>], machine: &SeqMachine)
+    requires same { length reads.old ≡ length machine.now.last.reads }
+    requires few { length reads.old < 2 ^ 32 }
+    ensures { reads.new ≡ machine.now.last.reads }
+{
+    for i in 0..reads.len() {
+        reads[i] = machine.reads(i as u32);
+    }
+}
+
+fn take_writes(writes: &mut [Option<u32>], machine: &SeqMachine)
+    requires same { length writes.old ≡ length machine.now.last.writes }
+    requires few { length writes.old < 2 ^ 32 }
+    ensures { writes.new ≡ machine.now.last.writes }
+{
+    for i in 0..writes.len() {
+        writes[i] = machine.writes(i as u32);
+    }
+}
+
+fn take_settings(settings: &mut [u8], machine: &SeqMachine)
+    requires same { length settings.old ≡ length machine.now.last.settings }
+    requires few { length settings.old < 2 ^ 32 }
+    ensures { settings.new ≡ machine.now.last.settings }
+{
+    for i in 0..settings.len() {
+        settings[i] = machine.setting(i as u32);
+    }
+}
+
+fn fill_values(values: &mut [Bits], machine: &SeqMachine, sites: &[Site], targets: usize)
+    requires count { length values.old ≡ length sites.now }
+    requires targets { targets ≡ length (targets_of machine.now.job.decls) }
+    requires few { targets < 2 ^ 32 }
+    ensures { values.new ≡ map (value_of_site machine.now.job (state machine.now)) sites.now }
+{
+    for i in 0..values.len() {
+        values[i] = value_before(machine, sites[i], targets);
+    }
+}
+
+// The value of the target of a read at address 0.
+fn value_before(machine: &SeqMachine, site: Site, targets: usize) -> Bits
+    requires targets { targets ≡ length (targets_of machine.now.job.decls) }
+    requires few { targets < 2 ^ 32 }
+    ensures { result ≡ value_of_site machine.now.job (state machine.now) site }
+{
+    if site.target < targets {
+        machine.value(site.target as u32, 0)
+    } else {
+        zero_bit()
+    }
+}
+
+fn zero_bit() -> Bits
+    ensures { result ≡ no_value }
+{
+    Bits::new(1, 0).unwrap()
+}
