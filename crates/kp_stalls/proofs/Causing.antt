@@ -31,16 +31,16 @@ use Rattle.kp_machine.proofs.Cases.{by_option}
 use Rattle.kp_machine.proofs.Stages.{stages_inside}
 use Rattle.kp_machine.proofs.Text.{fits_text, target_slot}
 use Rattle.kp_seq.specs.Told.{read_told, reads_told, done_after, stage_reads, reads_from, told_of}
-use Rattle.kp_stalls.specs.declared.crew.Stage.{Stage}
+use Rattle.kp_stalls.specs.declared.occupants.Stage.{Stage}
 use Rattle.kp_stalls.specs.declared.sites.Site.{Site}
 use Rattle.kp_stalls.specs.declared.sites.Writer.{Writer}
 use Rattle.kp_stalls.specs.declared.cause.Wait.{Wait}
 use Rattle.kp_stalls.specs.Sites.{no_site, result_number, site_of, sited, sites_from, sites_in, writer_at, writer_by, writers_to}
-use Rattle.kp_stalls.specs.Crew.{Flown, Seen, at, crew_of, flown, no_stage}
+use Rattle.kp_stalls.specs.Occupants.{Report, Seen, at, occupants_of, report, no_stage}
 use Rattle.kp_stalls.specs.Causes.{first_wait, is_met, is_ready, is_source, may_write, nearest, nearest_above}
 use Rattle.kp_stalls.specs.Claims.{IsCause, ShowsMoment, has_ready, is_writer, read_site}
 use Rattle.kp_stalls.proofs.Asks.{asks_unmet, stage_asks}
-use Rattle.kp_stalls.proofs.Crews.{flown_at, stage_at}
+use Rattle.kp_stalls.proofs.OccupantFacts.{report_at, stage_at}
 use Rattle.kp_stalls.proofs.Results.{IsResult, is_result, no_result, ready_same, writes_same}
 use Rattle.kp_stalls.proofs.Waits.{AllMet, first_is, left_met, met_of, near_is, none_waits, right_met, wait_is}
 use Rattle.kp_stalls.proofs.Windows.{writers_many}
@@ -88,7 +88,7 @@ all_in : (targets : List Slot) (k : ℕ) (xs : List Stmt) → AllIn k (sites_in 
 all_in targets k [] = tt
 all_in targets k (x ∷ xs) = one_in targets k x.kind (sites_in targets k xs) (all_in targets k xs)
 
-module _ (job : Job) (st : ℕ → ℕ → ℕ) (q : ℕ → ℕ) (crew : List Seen) (k : ℕ) where
+module _ (job : Job) (st : ℕ → ℕ → ℕ) (q : ℕ → ℕ) (occupants : List Seen) (k : ℕ) where
   abbrev told_at : ℕ → List (Option ℕ)
   told_at j = stage_reads job st q j
 
@@ -122,7 +122,7 @@ module _ (job : Job) (st : ℕ → ℕ → ℕ) (q : ℕ → ℕ) (crew : List S
       omega (arith, a, c, p, r)
 
   abbrev Met : List Site → List (Option ℕ) → Type 0
-  Met = AllMet (sited job) crew k
+  Met = AllMet (sited job) occupants k
 
   pub stage_met : (j : ℕ) (bs : List Block) → Following j bs → j ≤ k → k < j + length bs → Met (sites_from (targets_of job.decls) j bs) (reads_from job st q (length bs) j)
       → Met (sites_at k) (told_at k)
@@ -135,11 +135,11 @@ module _ (job : Job) (st : ℕ → ℕ → ℕ) (q : ℕ → ℕ) (crew : List S
       ⊎_elim
       (λ (lt : j < k).
       stage_met (suc j) bs (following j x bs follow) (omega (arith, lt)) (omega (arith, g))
-      (subst (λ i. Met (sites_from (targets_of job.decls) i bs) rest) next (right_met (sited job) crew k here (sites_from (targets_of job.decls) (j + 1) bs) (told_at j) rest many h)))
+      (subst (λ i. Met (sites_from (targets_of job.decls) i bs) rest) next (right_met (sited job) occupants k here (sites_from (targets_of job.decls) (j + 1) bs) (told_at j) rest many h)))
       (λ (ge : k ≤ j).
       let is : j ≡ k = omega (arith, l, ge) in
       subst (λ i. Met (sites_at i) (told_at i)) is
-      (subst (λ ss. Met ss (told_at j)) (first_there j x bs follow) (left_met (sited job) crew k here (sites_from (targets_of job.decls) (j + 1) bs) (told_at j) rest many h)))
+      (subst (λ ss. Met ss (told_at j)) (first_there j x bs follow) (left_met (sited job) occupants k here (sites_from (targets_of job.decls) (j + 1) bs) (told_at j) rest many h)))
       (cases_lt j k)
 
 -- ---- a moment
@@ -154,8 +154,8 @@ module _ (job : Job) (given : ℕ → ℕ → ℕ) (now : Moment) (i : Inputs) (
   abbrev hold : ℕ → Option ℕ
   hold = held now
 
-  abbrev crew : List Seen
-  crew = crew_of (flown job given) stages
+  abbrev occupants : List Seen
+  occupants = occupants_of (report job given) stages
 
   abbrev from : ℕ → ℕ → ReadyAbove
   from d j = ready_from m s given hold i d j
@@ -170,24 +170,24 @@ module _ (job : Job) (given : ℕ → ℕ → ℕ) (now : Moment) (i : Inputs) (
   unfolding machine_of
   count_is = refl
 
-  full_is : (j : ℕ) → j < m.stages → (at crew j).stage.full ≡ (now.state.stage j).full
-  full_is j b = ap (λ (x : Stage). x.full) (stage_at (flown job given) stages j) ∙ shows.full j b ∙ shows.row j b
+  full_is : (j : ℕ) → j < m.stages → (at occupants j).stage.full ≡ (now.state.stage j).full
+  full_is j b = ap (λ (x : Stage). x.full) (stage_at (report job given) stages j) ∙ shows.full j b ∙ shows.row j b
 
-  number_is : (j : ℕ) → j < m.stages → (at crew j).stage.number ≡ now.count j
-  number_is j b = ap (λ (x : Stage). x.number) (stage_at (flown job given) stages j) ∙ shows.number j b
+  number_is : (j : ℕ) → j < m.stages → (at occupants j).stage.number ≡ now.count j
+  number_is j b = ap (λ (x : Stage). x.number) (stage_at (report job given) stages j) ∙ shows.number j b
 
-  flown_is : (j : ℕ) → j < m.stages → (at crew j).flown ≡ flown job given (now.count j)
-  flown_is j b = flown_at (flown job given) stages j no_stage (let c = shows.count in omega (arith, b, c)) ∙ ap (flown job given) (shows.number j b)
+  report_is : (j : ℕ) → j < m.stages → (at occupants j).report ≡ report job given (now.count j)
+  report_is j b = report_at (report job given) stages j no_stage (let c = shows.count in omega (arith, b, c)) ∙ ap (report job given) (shows.number j b)
 
   module _ (k : ℕ) (right : IsRightFrom m s given now i k) where
     right_above : (j : ℕ) → k ≤ j → IsRightFrom m s given now i j
     right_above j l x y b = right x (omega (arith, l, y)) b
 
     -- a full stage updates unless it is blocked
-    moves_is : (j n : ℕ) → k ≤ j → j < m.stages → hold j ≡ Some n → (at crew j).stage.moves ≡ not (is_blocked j)
+    moves_is : (j n : ℕ) → k ≤ j → j < m.stages → hold j ≡ Some n → (at occupants j).stage.moves ≡ not (is_blocked j)
     unfolding moves_on
     moves_is j n l b e =
-        ap (λ (x : Stage). x.moves) (stage_at (flown job given) stages j) ∙ shows.moves j b ∙ must.moves j b (right_above j l)
+        ap (λ (x : Stage). x.moves) (stage_at (report job given) stages j) ∙ shows.moves j b ∙ must.moves j b (right_above j l)
         ∙ ap (λ o. is_some o && not (is_blocked j)) e
 
     held_by : (j : ℕ) (x : Bool) → (now.state.stage j).full ≡ x → hold j ≡ cond x (Some (now.count j)) None
@@ -206,26 +206,26 @@ module _ (job : Job) (given : ℕ → ℕ → ℕ) (now : Moment) (i : Inputs) (
       unfolding machine_of
       has = ap is_some is.first
 
-      source_by : (j a : ℕ) (x : Bool) → j < m.stages → (now.state.stage j).full ≡ x → is_writer job given now t a j ≡ is_source crew by a j
+      source_by : (j a : ℕ) (x : Bool) → j < m.stages → (now.state.stage j).full ≡ x → is_writer job given now t a j ≡ is_source occupants by a j
       source_by j a true b f =
           let e : hold j ≡ Some (now.count j) = held_by j true f in
           ap (λ o. is_candidate m j t && timeline.may_write m s given j o t a) e
           ∙ ap (λ c. (c && leb j (m.write_stage t)) && timeline.may_write m s given j (Some (now.count j)) t a) has
-          ∙ ap (λ c. leb j (m.write_stage t) && c) (writes_same job s given j t n (now.count j) (at crew j) is (flown_is j b) a)
-          ∙ sym (ap (λ c. c && (leb j (m.write_stage t) && may_write by (at crew j) j a)) (full_is j b ∙ f))
+          ∙ ap (λ c. leb j (m.write_stage t) && c) (writes_same job s given j t n (now.count j) (at occupants j) is (report_is j b) a)
+          ∙ sym (ap (λ c. c && (leb j (m.write_stage t) && may_write by (at occupants j) j a)) (full_is j b ∙ f))
       source_by j a false b f =
           let e : hold j ≡ None = held_by j false f in
           ap (λ o. is_candidate m j t && timeline.may_write m s given j o t a) e ∙ no_and (is_candidate m j t)
-          ∙ sym (ap (λ c. c && (leb j (m.write_stage t) && may_write by (at crew j) j a)) (full_is j b ∙ f))
+          ∙ sym (ap (λ c. c && (leb j (m.write_stage t) && may_write by (at occupants j) j a)) (full_is j b ∙ f))
 
-      source_is : (j a : ℕ) → j < m.stages → is_writer job given now t a j ≡ is_source crew by a j
+      source_is : (j a : ℕ) → j < m.stages → is_writer job given now t a j ≡ is_source occupants by a j
       source_is j a b = source_by j a (now.state.stage j).full b refl
 
-      ready_is : (j : ℕ) → k ≤ j → j < m.stages → (now.state.stage j).full ≡ true → has_ready job given now i t j ≡ is_ready by (at crew j) j
+      ready_is : (j : ℕ) → k ≤ j → j < m.stages → (now.state.stage j).full ≡ true → has_ready job given now i t j ≡ is_ready by (at occupants j) j
       ready_is j l b f =
           let e : hold j ≡ Some (now.count j) = held_by j true f in
           ap (λ o. timeline.is_ready m s given j o (is_blocked j) t) e
-          ∙ ready_same job s given j t n (now.count j) (at crew j) is (flown_is j b) (is_blocked j) (moves_is j (now.count j) l b e)
+          ∙ ready_same job s given j t n (now.count j) (at occupants j) is (report_is j b) (is_blocked j) (moves_is j (now.count j) l b e)
 
       above_is : (d j : ℕ) → d + suc j ≡ m.stages → above j ≡ from d (suc j)
       unfolding ready_above
@@ -235,18 +235,18 @@ module _ (job : Job) (given : ℕ → ℕ → ℕ) (now : Moment) (i : Inputs) (
       unfolding blocked
       blocked_is d j e = ap (blocked_given m s given hold i j) (sym (above_is d j e))
 
-      choose : (c : Bool) (x : Option ℕ) (w : Writer) (j : ℕ) → cond c (is_ready w (at crew j) j) (is_met crew w x) ≡ is_met crew w (cond c (Some j) x)
+      choose : (c : Bool) (x : Option ℕ) (w : Writer) (j : ℕ) → cond c (is_ready w (at occupants j) j) (is_met occupants w x) ≡ is_met occupants w (cond c (Some j) x)
       choose true x w j = refl
       choose false x w j = refl
 
-      ready_at : (j : ℕ) (x : Bool) (y : Bool) (c : Bool) → k ≤ j → j < m.stages → (now.state.stage j).full ≡ x → (x ≡ false → c ≡ false) → cond c (has_ready job given now i t j) y ≡ cond c (is_ready by (at crew j) j) y
+      ready_at : (j : ℕ) (x : Bool) (y : Bool) (c : Bool) → k ≤ j → j < m.stages → (now.state.stage j).full ≡ x → (x ≡ false → c ≡ false) → cond c (has_ready job given now i t j) y ≡ cond c (is_ready by (at occupants j) j) y
       ready_at j true y c l b f none = ap (λ z. cond c z y) (ready_is j l b f)
-      ready_at j false y c l b f none = ap (λ z. cond z (has_ready job given now i t j) y) (none refl) ∙ sym (ap (λ z. cond z (is_ready by (at crew j) j) y) (none refl))
+      ready_at j false y c l b f none = ap (λ z. cond z (has_ready job given now i t j) y) (none refl) ∙ sym (ap (λ z. cond z (is_ready by (at occupants j) j) y) (none refl))
 
-      no_source : (j a : ℕ) → j < m.stages → (now.state.stage j).full ≡ false → is_source crew by a j ≡ false
-      no_source j a b f = ap (λ c. c && (leb j by.write && may_write by (at crew j) j a)) (full_is j b ∙ f)
+      no_source : (j a : ℕ) → j < m.stages → (now.state.stage j).full ≡ false → is_source occupants by a j ≡ false
+      no_source j a b f = ap (λ c. c && (leb j by.write && may_write by (at occupants j) j a)) (full_is j b ∙ f)
 
-      met : (d j a : ℕ) → d + j ≡ m.stages → k ≤ j → (from d j).ready t a ≡ is_met crew by (nearest crew by a d j)
+      met : (d j a : ℕ) → d + j ≡ m.stages → k ≤ j → (from d j).ready t a ≡ is_met occupants by (nearest occupants by a d j)
       unfolding ready_from
       met zero j a e l = refl
       met (suc d) j a e l =
@@ -255,9 +255,9 @@ module _ (job : Job) (given : ℕ → ℕ → ℕ) (now : Moment) (i : Inputs) (
           let x = (from d (suc j)).ready t a in
           ap (λ c. cond (is_writer job given now t a j) (timeline.is_ready m s given j (hold j) c t) x) (blocked_is d j z)
           ∙ ap (λ c. cond c (has_ready job given now i t j) x) (source_is j a b)
-          ∙ ready_at j (now.state.stage j).full x (is_source crew by a j) l b refl (λ f. no_source j a b f)
-          ∙ ap (λ y. cond (is_source crew by a j) (is_ready by (at crew j) j) y) (met d (suc j) a z (omega (arith, l)))
-          ∙ choose (is_source crew by a j) (nearest crew by a d (suc j)) by j
+          ∙ ready_at j (now.state.stage j).full x (is_source occupants by a j) l b refl (λ f. no_source j a b f)
+          ∙ ap (λ y. cond (is_source occupants by a j) (is_ready by (at occupants j) j) y) (met d (suc j) a z (omega (arith, l)))
+          ∙ choose (is_source occupants by a j) (nearest occupants by a d (suc j)) by j
 
     -- a target that has none
     unwritten : (t d j a : ℕ) → result_for job t ≡ None → (from d j).ready t a ≡ true
@@ -283,51 +283,51 @@ module _ (job : Job) (given : ℕ → ℕ → ℕ) (now : Moment) (i : Inputs) (
     above_from d e = let z : m.stages - suc k ≡ d = omega (arith, e) in ap (λ x. from x (suc k)) z
 
     met_result : (t a d : ℕ) (o : Option ℕ) → d + suc k ≡ m.stages → result_number (targets_of job.decls) job.decls 0 t ≡ o
-        → (from d (suc k)).ready t a ≡ met_of (sited job) crew k (writer_by job t o) a
+        → (from d (suc k)).ready t a ≡ met_of (sited job) occupants k (writer_by job t o) a
     met_result t a d None e is = unwritten t d (suc k) a (no_result job t is)
     met_result t a d (Some n) e is =
         let res = is_result job t n is in
         let z : job.stages.value - suc k ≡ d = omega (arith, e, count_is) in
-        met t n res d (suc k) a e (omega arith) ∙ ap (λ x. is_met crew (by t n res) (nearest crew (by t n res) a x (suc k))) (sym z)
+        met t n res d (suc k) a e (omega arith) ∙ ap (λ x. is_met occupants (by t n res) (nearest occupants (by t n res) a x (suc k))) (sym z)
 
-    read_met : (t a d : ℕ) → d + suc k ≡ m.stages → (above k).ready t a ≡ met_of (sited job) crew k (get_or (sited job).writers t None) a
+    read_met : (t a d : ℕ) → d + suc k ≡ m.stages → (above k).ready t a ≡ met_of (sited job) occupants k (get_or (sited job).writers t None) a
     read_met t a d e =
         ap (λ (x : ReadyAbove). x.ready t a) (above_from d e)
         ∙ ⊎_elim
         (λ (l : t < length (targets_of job.decls)).
         met_result t a d (result_number (targets_of job.decls) job.decls 0 t) e refl
-        ∙ ap (λ o. met_of (sited job) crew k o a) (sym (writer_get job (length (targets_of job.decls)) t l)))
+        ∙ ap (λ o. met_of (sited job) occupants k o a) (sym (writer_get job (length (targets_of job.decls)) t l)))
         (λ (l : length (targets_of job.decls) ≤ t).
         unwritten t d (suc k) a (past_targets t l)
-        ∙ ap (λ o. met_of (sited job) crew k o a) (sym (get_or_past (sited job).writers t None (let c = writers_many job (length (targets_of job.decls)) in omega (arith, c, l)))))
+        ∙ ap (λ o. met_of (sited job) occupants k o a) (sym (get_or_past (sited job).writers t None (let c = writers_many job (length (targets_of job.decls)) in omega (arith, c, l)))))
         (cases_lt t (length (targets_of job.decls)))
 
     -- no read of the stage is unmet, if none waits
-    no_asks : (d : ℕ) (xs : List Site) (os : List (Option ℕ)) → d + suc k ≡ m.stages → AllIn k xs → AllMet (sited job) crew k xs os → asks_unmet (above k).ready xs os ≡ false
+    no_asks : (d : ℕ) (xs : List Site) (os : List (Option ℕ)) → d + suc k ≡ m.stages → AllIn k xs → AllMet (sited job) occupants k xs os → asks_unmet (above k).ready xs os ≡ false
     no_asks d [] os e all h = refl
     no_asks d (x ∷ xs) [] e all h = refl
     no_asks d (x ∷ xs) (None ∷ os) e all h = no_asks d xs os e all.1 h.1
     no_asks d (x ∷ xs) (Some a ∷ os) e all h =
         ap (λ c. (not x.guessed && not c) || asks_unmet (above k).ready xs os) (read_met x.target a d e)
         ∙ ap (λ c. c || asks_unmet (above k).ready xs os)
-        (sym (ap (λ c. (c && not x.guessed) && not (met_of (sited job) crew k (get_or (sited job).writers x.target None) a)) (eq-eqb x.stage k all.0)) ∙ h.0)
+        (sym (ap (λ c. (c && not x.guessed) && not (met_of (sited job) occupants k (get_or (sited job).writers x.target None) a)) (eq-eqb x.stage k all.0)) ∙ h.0)
         ∙ no_asks d xs os e all.1 h.1
 
     -- a wait that is found is one by the timeline
     module _ (below : k < m.stages) where
-      pub caused : (w : Wait) → first_wait (sited job) crew k 0 (sited job).reads ≡ Some w → IsCause job given now i k w
+      pub caused : (w : Wait) → first_wait (sited job) occupants k 0 (sited job).reads ≡ Some w → IsCause job given now i k w
       caused w e =
-          let f = first_is (sited job) crew k (sited job).reads 0 w e in
+          let f = first_is (sited job) occupants k (sited job).reads 0 w e in
           let l : ℕ = f.later in
           let z : 0 + l ≡ l = omega arith in
-          let x = wait_is (sited job) crew k (0 + l) (get_or (sited job).reads l no_site) w (get_or (at crew k).flown.told.reads (0 + l) None) f.wait in
+          let x = wait_is (sited job) occupants k (0 + l) (get_or (sited job).reads l no_site) w (get_or (at occupants k).report.told.reads (0 + l) None) f.wait in
           let same : w.read ≡ l = x.read ∙ z in
           let site = read_site job w.read in
           let at_read : get_or (sited job).reads l no_site ≡ site = ap (λ y. get_or (sited job).reads y no_site) (sym same) in
           let target : get_or (sited job).writers site.target None ≡ Some x.by = ap (λ (y : Site). get_or (sited job).writers y.target None) (sym at_read) ∙ x.is_by in
           cause_of w x.by target (ap (λ (y : Site). y.stage) (sym at_read) ∙ x.own) (ap (λ (y : Site). y.guessed) (sym at_read) ∙ x.plain)
           (let b = f.there in omega (arith, b, same))
-          (ap (λ (g : Flown). get_or g.told.reads w.read None) (sym (flown_is k below)) ∙ ap (λ y. get_or (at crew k).flown.told.reads y None) x.read ∙ x.asked)
+          (ap (λ (g : Report). get_or g.told.reads w.read None) (sym (report_is k below)) ∙ ap (λ y. get_or (at occupants k).report.told.reads y None) x.read ∙ x.asked)
           x.source x.unready x.number
         where
           by_result : (t : ℕ) (w : Wait) (b : Writer) (o : Option ℕ) → result_number (targets_of job.decls) job.decls 0 t ≡ o → writer_by job t o ≡ Some b
@@ -345,18 +345,18 @@ module _ (job : Job) (given : ℕ → ℕ → ℕ) (now : Moment) (i : Inputs) (
 
           cause_of : (w : Wait) (b : Writer) → get_or (sited job).writers (read_site job w.read).target None ≡ Some b → (read_site job w.read).stage ≡ k
               → (read_site job w.read).guessed ≡ false → w.read < length (sited job).reads
-              → get_or (flown job given (now.count k)).told.reads w.read None ≡ Some w.address → nearest_above (sited job) crew b w.address k ≡ Some w.stage
-              → is_ready b (at crew w.stage) w.stage ≡ false → w.writer ≡ (at crew w.stage).stage.number → IsCause job given now i k w
+              → get_or (report job given (now.count k)).told.reads w.read None ≡ Some w.address → nearest_above (sited job) occupants b w.address k ≡ Some w.stage
+              → is_ready b (at occupants w.stage) w.stage ≡ false → w.writer ≡ (at occupants w.stage).stage.number → IsCause job given now i k w
           cause_of w b is own plain there asked near unready number =
               let t = (read_site job w.read).target in
               let h = by_result t w b (result_number (targets_of job.decls) job.decls 0 t) refl (declared t b is) in
               let res = h.1.0 in
               let same = h.1.1 in
-              let found = near_is crew b w.address (job.stages.value - suc k) (suc k) w.stage near in
+              let found = near_is occupants b w.address (job.stages.value - suc k) (suc k) w.stage near in
               let up : suc k ≤ w.stage = found.0.above in
               let within : w.stage < m.stages = (let x = found.1 in omega (arith, x, below, count_is)) in
-              let source : is_source crew (by t h.0 res) w.address w.stage ≡ true = ap (λ v. is_source crew v w.address w.stage) same ∙ found.0.source in
-              let stands : (now.state.stage w.stage).full ≡ true = sym (full_is w.stage within) ∙ (and_parts (at crew w.stage).stage.full _ source).0 in
+              let source : is_source occupants (by t h.0 res) w.address w.stage ≡ true = ap (λ v. is_source occupants v w.address w.stage) same ∙ found.0.source in
+              let stands : (now.state.stage w.stage).full ≡ true = sym (full_is w.stage within) ∙ (and_parts (at occupants w.stage).stage.full _ source).0 in
               record {
                 there = there;
                 own = own;
@@ -366,9 +366,9 @@ module _ (job : Job) (given : ℕ → ℕ → ℕ) (now : Moment) (i : Inputs) (
                 within = within;
                 number = held_by w.stage true stands ∙ ap (λ x. Some x) (sym (number_is w.stage within) ∙ sym number);
                 writes = source_is t h.0 res w.stage w.address within ∙ source;
-                unready = ready_is t h.0 res w.stage (omega (arith, up)) within stands ∙ ap (λ v. is_ready v (at crew w.stage) w.stage) same ∙ unready;
+                unready = ready_is t h.0 res w.stage (omega (arith, up)) within stands ∙ ap (λ v. is_ready v (at occupants w.stage) w.stage) same ∙ unready;
                 nearest = λ j l x.
-                    source_is t h.0 res j w.address (omega (arith, x, within)) ∙ ap (λ v. is_source crew v w.address j) same ∙ found.0.nothing j (omega (arith, l)) x;
+                    source_is t h.0 res j w.address (omega (arith, x, within)) ∙ ap (λ v. is_source occupants v w.address j) same ∙ found.0.nothing j (omega (arith, l)) x;
               }
 
     module _ (below : k < m.stages) (full : bit r.full k ≡ true) (hazard : (outcome m now.state i k).hazard ≡ true)
@@ -394,7 +394,7 @@ module _ (job : Job) (given : ℕ → ℕ → ℕ) (now : Moment) (i : Inputs) (
       body_is : m.body k i.samples (instruction_before m s given n k).pipes ≡ m.body k (given n) (instruction_before m s given n k).pipes
       body_is = acc.own_samples k i.samples (given n) (instruction_before m s given n k).pipes below settled
 
-      asks : asks_unmet (above k).ready (sites_at job st (given n) crew k k) (told_at job st (given n) crew k k) ≡ true
+      asks : asks_unmet (above k).ready (sites_at job st (given n) occupants k k) (told_at job st (given n) occupants k k) ≡ true
       unfolding machine_of stage_tree stage_reads
       asks =
           sym (stage_asks (above k).ready st job.decls k (entered job.decls (given n) (before_stage (machine_of job) st (given n) k).pipes) (stmts_in (slice_get job.blocks k)))
@@ -403,25 +403,25 @@ module _ (job : Job) (given : ℕ → ℕ → ℕ) (now : Moment) (i : Inputs) (
       count : length job.blocks ≡ job.stages.value
       count = stages_inside job rules
 
-      reads_are : (at crew k).flown.told.reads ≡ reads_from job st (given n) (length job.blocks) 0
+      reads_are : (at occupants k).report.told.reads ≡ reads_from job st (given n) (length job.blocks) 0
       unfolding told_of
-      reads_are = ap (λ (f : Flown). f.told.reads) (flown_is k below) ∙ ap (λ x. reads_from job st (given n) x 0) (sym count)
+      reads_are = ap (λ (f : Report). f.told.reads) (report_is k below) ∙ ap (λ x. reads_from job st (given n) x 0) (sym count)
 
       follow : (x : ℕ) (y : Block) → slice_get job.blocks x ≡ Some y → slice_get job.blocks (0 + x) ≡ Some y
       follow x y e = let z : x ≡ 0 + x = omega arith in subst (λ v. slice_get job.blocks v ≡ Some y) z e
 
-      never : first_wait (sited job) crew k 0 (sited job).reads ≡ None → ⊥
+      never : first_wait (sited job) occupants k 0 (sited job).reads ≡ None → ⊥
       never e =
-          let all = none_waits (sited job) crew k (sited job).reads [] (reads_from job st (given n) (length job.blocks) 0) reads_are
-          (blocks_count job st (given n) crew k 0 job.blocks follow) e in
-          let here = stage_met job st (given n) crew k 0 job.blocks follow (omega arith) (omega (arith, below, count, count_is)) all in
-          let no = no_asks (m.stages - suc k) (sites_at job st (given n) crew k k) (told_at job st (given n) crew k k) (omega (arith, below))
+          let all = none_waits (sited job) occupants k (sited job).reads [] (reads_from job st (given n) (length job.blocks) 0) reads_are
+          (blocks_count job st (given n) occupants k 0 job.blocks follow) e in
+          let here = stage_met job st (given n) occupants k 0 job.blocks follow (omega arith) (omega (arith, below, count, count_is)) all in
+          let no = no_asks (m.stages - suc k) (sites_at job st (given n) occupants k k) (told_at job st (given n) occupants k k) (omega (arith, below))
           (all_in (targets_of job.decls) k (stmts_in (slice_get job.blocks k))) here in
           false≢true (sym no ∙ asks)
 
-      pub has_cause : (w : Wait) × (first_wait (sited job) crew k 0 (sited job).reads ≡ Some w) × IsCause job given now i k w
-      has_cause = go (first_wait (sited job) crew k 0 (sited job).reads) refl
+      pub has_cause : (w : Wait) × (first_wait (sited job) occupants k 0 (sited job).reads ≡ Some w) × IsCause job given now i k w
+      has_cause = go (first_wait (sited job) occupants k 0 (sited job).reads) refl
         where
-          go : (o : Option Wait) → first_wait (sited job) crew k 0 (sited job).reads ≡ o → (w : Wait) × (first_wait (sited job) crew k 0 (sited job).reads ≡ Some w) × IsCause job given now i k w
+          go : (o : Option Wait) → first_wait (sited job) occupants k 0 (sited job).reads ≡ o → (w : Wait) × (first_wait (sited job) occupants k 0 (sited job).reads ≡ Some w) × IsCause job given now i k w
           go None e = absurd (never e)
           go (Some w) e = (w, e, caused below w e)

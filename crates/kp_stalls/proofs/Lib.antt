@@ -1,5 +1,5 @@
 pub mod Writers
-pub mod Crews
+pub mod OccupantFacts
 pub mod Steps
 pub mod Fates
 pub mod Windows

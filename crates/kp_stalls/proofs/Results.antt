@@ -16,7 +16,7 @@ use Rattle.kp_machine.specs.Machine.{machine_of, result_for, write_stage_of, ena
 use Rattle.kp_seq.specs.Told.{where_true, results_of, write_told, setting_told, told_of}
 use Rattle.kp_stalls.specs.declared.sites.Writer.{Writer}
 use Rattle.kp_stalls.specs.Sites.{result_number}
-use Rattle.kp_stalls.specs.Crew.{Flown, Seen, flown_of}
+use Rattle.kp_stalls.specs.Occupants.{Report, Seen, report_of}
 use Rattle.kp_stalls.specs.Causes.{wrote_at, may_write, is_ready}
 
 -- if the number of a result is found, the result is found
@@ -110,7 +110,7 @@ module _ (job : Job) (s : ℕ → ℕ → ℕ) (given : ℕ → ℕ → ℕ) (k 
   abbrev at_start : ℕ → ℕ → ℕ
   at_start = seq (machine_of job) s given n
 
-  module _ (is : IsResult job t i) (tells : x.flown ≡ flown_of job at_start (given n)) where
+  module _ (is : IsResult job t i) (tells : x.report ≡ report_of job at_start (given n)) where
     abbrev writer : Writer
     writer = record { result = i; write = (machine_of job).write_stage t; known = (machine_of job).known_from t }
 
@@ -119,8 +119,8 @@ module _ (job : Job) (s : ℕ → ℕ → ℕ) (given : ℕ → ℕ → ℕ) (k 
     writes_same a =
         let pipes = (before_stage (machine_of job) at_start (given n) job.stages.value).pipes in
         let r = is.result in
-        let here : get_or x.flown.told.writes i None ≡ write_told job pipes r =
-        ap (λ (y : Flown). get_or y.told.writes i None) tells
+        let here : get_or x.report.told.writes i None ≡ write_told job pipes r =
+        ap (λ (y : Report). get_or y.told.writes i None) tells
         ∙ get_or_from_slice_get (map (write_told job pipes) (results_of job.decls)) i (write_told job pipes r) None (mapped (write_told job pipes) (results_of job.decls) i r is.there) in
         ap (λ o. not (leb ((machine_of job).known_from t) k) || (is_some o && (enabled_of (pipes_of job.decls) pipes o && eqb (address_in (pipes_of job.decls) pipes o) a))) is.first
         ∙ ap (λ b. not (leb ((machine_of job).known_from t) k) || b)
@@ -130,11 +130,11 @@ module _ (job : Job) (s : ℕ → ℕ → ℕ) (given : ℕ → ℕ → ℕ) (k 
     unfolding machine_of told_of setting_stage setting_told
     ready_same blocked moving =
         let r = is.result in
-        let here : get_or x.flown.told.settings i 0 ≡ setting_told job at_start (given n) r =
-        ap (λ (y : Flown). get_or y.told.settings i 0) tells
+        let here : get_or x.report.told.settings i 0 ≡ setting_told job at_start (given n) r =
+        ap (λ (y : Report). get_or y.told.settings i 0) tells
         ∙ get_or_from_slice_get (map (setting_told job at_start (given n)) (results_of job.decls)) i (setting_told job at_start (given n) r) 0 (mapped (setting_told job at_start (given n)) (results_of job.decls) i r is.there) in
         let stage : setting_stage (machine_of job) at_start (given n) t ≡ setting_told job at_start (given n) r =
         ap (λ o. first_stage (λ j. is_some ((before_stage (machine_of job) at_start (given n) (suc j)).results t)) job.stages.value 0 (write_stage_of o)) is.first
         ∙ ap (λ y. first_stage (λ j. is_some ((before_stage (machine_of job) at_start (given n) (suc j)).results y)) job.stages.value 0 r.stage.value) (sym is.target) in
         ap (λ y. leb ((machine_of job).known_from t) k && (ltb y k || (eqb y k && not blocked))) (stage ∙ sym here)
-        ∙ ap (λ b. leb ((machine_of job).known_from t) k && (ltb (get_or x.flown.told.settings i 0) k || (eqb (get_or x.flown.told.settings i 0) k && b))) (sym moving)
+        ∙ ap (λ b. leb ((machine_of job).known_from t) k && (ltb (get_or x.report.told.settings i 0) k || (eqb (get_or x.report.told.settings i 0) k && b))) (sym moving)

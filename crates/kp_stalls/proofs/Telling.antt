@@ -5,15 +5,15 @@ use Rattle.kp_stalls.specs.declared.cause.Cause.TheVariants.{Value, Unsure, Ahea
 use Rattle.kp_stalls.specs.declared.cause.Wait.{Wait}
 use Rattle.kp_stalls.specs.declared.cause.Wrong.{Wrong}
 use Rattle.kp_stalls.specs.Sites.{Sited}
-use Rattle.kp_stalls.specs.Crew.{Seen, at}
+use Rattle.kp_stalls.specs.Occupants.{Seen, at}
 use Rattle.kp_stalls.specs.Causes.{cause_at, cause_of_wait, first_wait, is_squashed_by, is_told, is_waiting, squashing_cause, wrong_of}
 
-pub told_wait : (s : Sited) (crew : List Seen) (k : ℕ) (w : Wait) → (at crew k).stage.full ≡ true → (at crew k).stage.squashed ≡ false → (at crew k).stage.moves ≡ false
-    → is_squashed_by (at crew k).stage.fate ≡ false → (at crew k).stage.held ≡ false → is_waiting (at crew (k + 1)).stage ≡ false → is_told s (at crew k).stage ≡ true
-    → first_wait s crew k 0 s.reads ≡ Some w → cause_at s crew k ≡ Some (Value w)
-told_wait s crew k w full squashed moves later held ahead told first = λ i.
+pub told_wait : (s : Sited) (occupants : List Seen) (k : ℕ) (w : Wait) → (at occupants k).stage.full ≡ true → (at occupants k).stage.squashed ≡ false → (at occupants k).stage.moves ≡ false
+    → is_squashed_by (at occupants k).stage.fate ≡ false → (at occupants k).stage.held ≡ false → is_waiting (at occupants (k + 1)).stage ≡ false → is_told s (at occupants k).stage ≡ true
+    → first_wait s occupants k 0 s.reads ≡ Some w → cause_at s occupants k ≡ Some (Value w)
+told_wait s occupants k w full squashed moves later held ahead told first = λ i.
     cond (full i)
-    (cond (squashed i) (squashing_cause s crew k)
+    (cond (squashed i) (squashing_cause s occupants k)
     (cond (moves i) None (Some (cond (later i) Later (cond (held i) Held (cond (ahead i) Ahead (cond (told i) (cause_of_wait (first i)) Unsure)))))))
     None
 
@@ -44,7 +44,7 @@ only_told true false _ false false true _ _ g f w e = never f w e
 only_told true false _ false false false true _ g f w e = never f w e
 only_told true false _ false false false false told g f w e = only_found f told w e
 
-pub told_found : (s : Sited) (crew : List Seen) (k : ℕ) (w : Wait) → cause_at s crew k ≡ Some (Value w) → first_wait s crew k 0 s.reads ≡ Some w
-told_found s crew k w e =
-    only_told (at crew k).stage.full (at crew k).stage.squashed (at crew (k + 1)).stage.squashed (at crew k).stage.moves (is_squashed_by (at crew k).stage.fate)
-    (at crew k).stage.held (is_waiting (at crew (k + 1)).stage) (is_told s (at crew k).stage) (wrong_of s crew k) (first_wait s crew k 0 s.reads) w (ap wait_in e)
+pub told_found : (s : Sited) (occupants : List Seen) (k : ℕ) (w : Wait) → cause_at s occupants k ≡ Some (Value w) → first_wait s occupants k 0 s.reads ≡ Some w
+told_found s occupants k w e =
+    only_told (at occupants k).stage.full (at occupants k).stage.squashed (at occupants (k + 1)).stage.squashed (at occupants k).stage.moves (is_squashed_by (at occupants k).stage.fate)
+    (at occupants k).stage.held (is_waiting (at occupants (k + 1)).stage) (is_told s (at occupants k).stage) (wrong_of s occupants k) (first_wait s occupants k 0 s.reads) w (ap wait_in e)

@@ -21,7 +21,7 @@ use Rattle.kp_seq.specs.Told.{Told, results_of, setting_told, told_of}
 use Rattle.kp_seq.proofs.Telling.{all_told}
 use Rattle.kp_stalls.specs.Sites.{Sited, sited, writers_to}
 use Rattle.kp_seq.specs.Running.{Running, after_one, state}
-use Rattle.kp_stalls.specs.Crew.{Flown, flown, flown_of, nothing, stored, value_before}
+use Rattle.kp_stalls.specs.Occupants.{Report, report, report_of, nothing, stored, value_before}
 use Rattle.kp_stalls.specs.Windows.{Follows, HasRoom, IsKept, Windowed}
 
 next_state : (job : Job) (given : ℕ → ℕ → ℕ) (i : ℕ) → exec (machine_of job) (sequential job given i) (given i) ≡ sequential job given (suc i)
@@ -43,33 +43,33 @@ apart i n b l e =
 module _ (job : Job) (given : ℕ → ℕ → ℕ) (old new : Windowed) (row : List Word) (job_is : old.machine.job ≡ job) (count : length old.ring ≡ 16)
     (now : given old.next ≡ values_in row) (next : new.next ≡ old.next + 1)
     (stepped : state new.machine ≡ after_one old.machine.job (state old.machine) row)
-    (written : new.ring ≡ set old.ring (old.next % 16) (flown_of old.machine.job (state old.machine) (values_in row)))
+    (written : new.ring ≡ set old.ring (old.next % 16) (report_of old.machine.job (state old.machine) (values_in row)))
     (follows : Follows job given old) where
-  newest : flown_of old.machine.job (state old.machine) (values_in row) ≡ flown job given old.next
-  newest = λ i. flown_of (job_is i) (follows.state_is i) (sym now i)
+  newest : report_of old.machine.job (state old.machine) (values_in row) ≡ report job given old.next
+  newest = λ i. report_of (job_is i) (follows.state_is i) (sym now i)
 
-  at_next : (i : ℕ) → i < old.next + 1 → old.next + 1 ≤ i + 16 → stored (set old.ring (old.next % 16) (flown job given old.next)) i ≡ flown job given i
+  at_next : (i : ℕ) → i < old.next + 1 → old.next + 1 ≤ i + 16 → stored (set old.ring (old.next % 16) (report job given old.next)) i ≡ report job given i
   at_next i b l = ⊎_elim
       (λ (lt : i < old.next).
-      get_or-set_other old.ring (old.next % 16) (i % 16) (flown job given old.next) nothing (λ e. apart i old.next lt (omega (arith, l)) (omega (arith, e)))
-      ∙ follows.flown i lt (omega (arith, l)))
+      get_or-set_other old.ring (old.next % 16) (i % 16) (report job given old.next) nothing (λ e. apart i old.next lt (omega (arith, l)) (omega (arith, e)))
+      ∙ follows.report i lt (omega (arith, l)))
       (λ (ge : old.next ≤ i).
       let is : old.next ≡ i = omega (arith, ge, b) in
-      ap (λ n. stored (set old.ring (n % 16) (flown job given n)) i) is
-      ∙ get_or-set_same old.ring (i % 16) (flown job given i) nothing (let p : i % 16 < 16 = mod-lt i (lit< tt) in omega (arith, p, count)))
+      ap (λ n. stored (set old.ring (n % 16) (report job given n)) i) is
+      ∙ get_or-set_same old.ring (i % 16) (report job given i) nothing (let p : i % 16 < 16 = mod-lt i (lit< tt) in omega (arith, p, count)))
       (cases_lt i old.next)
 
   pub next_follows : Follows job given new
   next_follows = record {
     state_is = stepped ∙ (λ i. exec (machine_of (job_is i)) (follows.state_is i) (sym now i)) ∙ next_state job given old.next
         ∙ (let e : suc old.next ≡ new.next = omega (arith, next) in ap (sequential job given) e);
-    flown = λ i b l.
+    report = λ i b l.
         ap (λ ring. stored ring i) (written ∙ ap (set old.ring (old.next % 16)) newest)
         ∙ at_next i (omega (arith, b, next)) (omega (arith, l, next));
   }
 
 -- the places keep their sizes
-pub room_set : (job : Job) (ring : List Flown) (p : ℕ) (f : Flown) → length ring ≡ 16 → HasRoom job f → ((j : ℕ) → j < 16 → HasRoom job (get_or ring j nothing))
+pub room_set : (job : Job) (ring : List Report) (p : ℕ) (f : Report) → length ring ≡ 16 → HasRoom job f → ((j : ℕ) → j < 16 → HasRoom job (get_or ring j nothing))
     → (j : ℕ) → j < 16 → HasRoom job (get_or (set ring p f) j nothing)
 room_set job ring p f count here all j b = ⊎_elim
     (λ (lt : j < p). subst (HasRoom job) (sym (get_or-set_other ring p j f nothing (λ q. omega (arith, lt, q)))) (all j b))
@@ -106,8 +106,8 @@ told_room job s q e = record {
   settings = length-map (results_of job.decls) (setting_told job s q) ∙ results_count job.decls;
 }
 
-pub flown_room : (job : Job) (s : ℕ → ℕ → ℕ) (q : ℕ → ℕ) → length job.blocks ≡ job.stages.value → HasRoom job (flown_of job s q)
-flown_room job s q e =
+pub report_room : (job : Job) (s : ℕ → ℕ → ℕ) (q : ℕ → ℕ) → length job.blocks ≡ job.stages.value → HasRoom job (report_of job s q)
+report_room job s q e =
     let told = told_room job s q e in
     record { reads = told.reads; writes = told.writes; settings = told.settings; values = length-map (sited job).reads (value_before job s) }
 
@@ -120,7 +120,7 @@ pub record FitsIn (told last : Told) : Type 0 where
   pub few_writes : length told.writes < 2 ^ 32
   pub few_settings : length told.settings < 2 ^ 32
 
-pub told_fits : (job : Job) (s : ℕ → ℕ → ℕ) (q : ℕ → ℕ) (f : Flown) (told last : Told) → length job.blocks ≡ job.stages.value → (summary_of job).reads < 2 ^ 32
+pub told_fits : (job : Job) (s : ℕ → ℕ → ℕ) (q : ℕ → ℕ) (f : Report) (told last : Told) → length job.blocks ≡ job.stages.value → (summary_of job).reads < 2 ^ 32
     → (summary_of job).results < 2 ^ 32 → HasRoom job f → told ≡ f.told → last ≡ told_of job s q → FitsIn told last
 told_fits job s q f told last count reads results room same e =
     let there = told_room job s q count in
@@ -151,7 +151,7 @@ targets_many job now s e same =
     ap (λ (x : Sited). length x.writers) e ∙ writers_many job (length (targets_of job.decls)) ∙ ap (λ (j : Job). length (targets_of j.decls)) (sym same)
 
 -- a window before its first instruction
-pub kept_first : (job : Job) (m : Running) (s : Sited) (ring : List Flown) → broken_of job ≡ None → length job.blocks ≡ job.stages.value → m.job ≡ job → s ≡ sited job → length ring ≡ 16
+pub kept_first : (job : Job) (m : Running) (s : Sited) (ring : List Report) → broken_of job ≡ None → length job.blocks ≡ job.stages.value → m.job ≡ job → s ≡ sited job → length ring ≡ 16
     → ((j : ℕ) → j < 16 → HasRoom job (get_or ring j nothing)) → (summary_of job).reads < 2 ^ 32 → (summary_of job).results < 2 ^ 32
     → IsKept m.job (record { machine = m; sites = s; next = 0; ring = ring })
 kept_first job m s ring rules blocks same sites count room reads results =
@@ -166,19 +166,19 @@ kept_first job m s ring rules blocks same sites count room reads results =
       targets = targets_few job s rules sites;
     })
 
-pub follows_first : (job : Job) (m : Running) (s : Sited) (ring : List Flown) (given : ℕ → ℕ → ℕ) → state m ≡ state_of job (start_of job)
+pub follows_first : (job : Job) (m : Running) (s : Sited) (ring : List Report) (given : ℕ → ℕ → ℕ) → state m ≡ state_of job (start_of job)
     → Follows job given (record { machine = m; sites = s; next = 0; ring = ring })
-follows_first job m s ring given e = record { state_is = e ∙ first_state job given; flown = λ i b l. absurd (omega (arith, b)) }
+follows_first job m s ring given e = record { state_is = e ∙ first_state job given; report = λ i b l. absurd (omega (arith, b)) }
 
 -- and after one more
 pub kept_next : (job : Job) (w : Windowed) (m : Running) (n p : ℕ) (s : ℕ → ℕ → ℕ) (q : ℕ → ℕ) → IsKept job w → m.job ≡ job
-    → IsKept m.job (record { machine = m; sites = w.sites; next = n; ring = set w.ring p (flown_of job s q) })
+    → IsKept m.job (record { machine = m; sites = w.sites; next = n; ring = set w.ring p (report_of job s q) })
 kept_next job w m n p s q kept same =
-    subst (λ j. IsKept j (record { machine = m; sites = w.sites; next = n; ring = set w.ring p (flown_of job s q) })) (sym same) (record {
+    subst (λ j. IsKept j (record { machine = m; sites = w.sites; next = n; ring = set w.ring p (report_of job s q) })) (sym same) (record {
       job_is = same;
       sites_are = kept.sites_are;
-      count = length-set w.ring p (flown_of job s q) ∙ kept.count;
-      room = room_set job w.ring p (flown_of job s q) kept.count (flown_room job s q kept.blocks) kept.room;
+      count = length-set w.ring p (report_of job s q) ∙ kept.count;
+      room = room_set job w.ring p (report_of job s q) kept.count (report_room job s q kept.blocks) kept.room;
       few_reads = kept.few_reads;
       few_results = kept.few_results;
       blocks = kept.blocks;
@@ -186,13 +186,13 @@ kept_next job w m n p s q kept same =
     })
 
 -- writing a slice back leaves it unchanged
-pub written_back : (n : ℕ) (xs ys zs : List Flown) → length xs ≡ n → xs ≡ zs → take n (xs ++ drop (length xs) ys) ≡ zs
+pub written_back : (n : ℕ) (xs ys zs : List Report) → length xs ≡ n → xs ≡ zs → take n (xs ++ drop (length xs) ys) ≡ zs
 written_back n xs ys zs l e = ap (λ k. take k (xs ++ drop (length xs) ys)) (sym l) ∙ take-append_seam xs (drop (length xs) ys) ∙ e
 
 -- one more step, where the window is seen as `now`
 pub follows_step : (old now new : Windowed) (row : List Word) → old ≡ now → length old.ring ≡ 16 → new.next ≡ old.next + 1
     → state new.machine ≡ after_one old.machine.job (state old.machine) row
-    → new.ring ≡ set old.ring (old.next % 16) (flown_of old.machine.job (state old.machine) (values_in row))
+    → new.ring ≡ set old.ring (old.next % 16) (report_of old.machine.job (state old.machine) (values_in row))
     → (given : ℕ → ℕ → ℕ) → given now.next ≡ values_in row → Follows now.machine.job given now → Follows now.machine.job given new
 follows_step old now new row e count next stepped written =
     subst (λ (x : Windowed). (given : ℕ → ℕ → ℕ) → given x.next ≡ values_in row → Follows x.machine.job given x → Follows x.machine.job given new) e

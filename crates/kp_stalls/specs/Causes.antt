@@ -4,7 +4,7 @@ use Rattle.std.specs.Prelude.{ℕ, zero, suc, ◌+◌, ◌-◌, List, [], ◌∷
 use Rattle.std.specs.List.{list_any}
 use Rattle.kp_stalls.specs.declared.sites.Site.{Site}
 use Rattle.kp_stalls.specs.declared.sites.Writer.{Writer}
-use Rattle.kp_stalls.specs.declared.crew.Stage.{Stage}
+use Rattle.kp_stalls.specs.declared.occupants.Stage.{Stage}
 use Rattle.kp_stalls.specs.declared.fate.Fate.{Fate}
 use Rattle.kp_stalls.specs.declared.fate.Fate.TheVariants as fates
 use Rattle.kp_stalls.specs.declared.cause.Cause.{Cause}
@@ -17,7 +17,7 @@ use Rattle.kp_stalls.specs.declared.cause.Guess.{Guess}
 use Rattle.kp_stalls.specs.declared.cause.Producer.{Producer}
 use Rattle.kp_stalls.specs.declared.cause.Line.{Line}
 use Rattle.kp_stalls.specs.Sites.{Sited, no_site}
-use Rattle.kp_stalls.specs.Crew.{Seen, at, no_value}
+use Rattle.kp_stalls.specs.Occupants.{Seen, at, no_value}
 
 -- SOURCES. Stage j may write the target of w at address a: it isn't known there whether and where its instruction writes, or it writes there.
 abbrev pub wrote_at : Option ℕ → ℕ → Bool
@@ -25,14 +25,14 @@ wrote_at None a = false
 wrote_at (Some b) a = b == a
 
 abbrev pub may_write : Writer → Seen → ℕ → ℕ → Bool
-may_write w x j a = not (nat_le w.known j) || wrote_at (get_or x.flown.told.writes w.result None) a
+may_write w x j a = not (nat_le w.known j) || wrote_at (get_or x.report.told.writes w.result None) a
 
 abbrev pub is_source : List Seen → Writer → ℕ → ℕ → Bool
-is_source crew w a j = (at crew j).stage.full && (nat_le j w.write && may_write w (at crew j) j a)
+is_source occupants w a j = (at occupants j).stage.full && (nat_le j w.write && may_write w (at occupants j) j a)
 
 -- the stage that sets the result
 abbrev pub setting : Writer → Seen → ℕ
-setting w x = get_or x.flown.told.settings w.result 0
+setting w x = get_or x.report.told.settings w.result 0
 
 -- The result is ready in stage j: the intent is known there, and the result was set before, or is set in it and the stage updates.
 abbrev pub is_ready : Writer → Seen → ℕ → Bool
@@ -40,31 +40,31 @@ is_ready w x j = nat_le w.known j && (nat_lt (setting w x) j || (setting w x == 
 
 -- the nearest of d stages from j on that may write
 abbrev pub nearest : List Seen → Writer → ℕ → ℕ → ℕ → Option ℕ
-nearest crew w a zero j = None
-nearest crew w a (suc d) j = if is_source crew w a j then Some j else nearest crew w a d (suc j)
+nearest occupants w a zero j = None
+nearest occupants w a (suc d) j = if is_source occupants w a j then Some j else nearest occupants w a d (suc j)
 
 abbrev pub nearest_above : Sited → List Seen → Writer → ℕ → ℕ → Option ℕ
-nearest_above s crew w a k = nearest crew w a (s.stages - suc k) (suc k)
+nearest_above s occupants w a k = nearest occupants w a (s.stages - suc k) (suc k)
 
 -- WAITS. When the value of a source in stage j can be had.
 abbrev pub had_by : Writer → Seen → ℕ → Had
 had_by w x j = if not (nat_le w.known j) then Known w.known else (if setting w x == j then Moved else Set (setting w x))
 
 abbrev pub wait_at : List Seen → Writer → ℕ → ℕ → Option ℕ → Option Wait
-wait_at crew w i a None = None
-wait_at crew w i a (Some j) =
-    if is_ready w (at crew j) j then None
-    else Some (record { read = i; address = a; writer = (at crew j).stage.number; stage = j; had = had_by w (at crew j) j })
+wait_at occupants w i a None = None
+wait_at occupants w i a (Some j) =
+    if is_ready w (at occupants j) j then None
+    else Some (record { read = i; address = a; writer = (at occupants j).stage.number; stage = j; had = had_by w (at occupants j) j })
 
 -- read number i of stage k, of a target at address a: a target that isn't written never makes wait
 abbrev pub wait_by : Sited → List Seen → ℕ → ℕ → ℕ → Option Writer → Option Wait
-wait_by s crew k i a None = None
-wait_by s crew k i a (Some w) = wait_at crew w i a (nearest_above s crew w a k)
+wait_by s occupants k i a None = None
+wait_by s occupants k i a (Some w) = wait_at occupants w i a (nearest_above s occupants w a k)
 
 -- A read waits if its condition holds, it isn't guessed, and the nearest source isn't ready.
 abbrev pub wait_of : Sited → List Seen → ℕ → ℕ → Site → Option ℕ → Option Wait
-wait_of s crew k i site None = None
-wait_of s crew k i site (Some a) = if (site.stage == k) && not site.guessed then wait_by s crew k i a (get_or s.writers site.target None) else None
+wait_of s occupants k i site None = None
+wait_of s occupants k i site (Some a) = if (site.stage == k) && not site.guessed then wait_by s occupants k i a (get_or s.writers site.target None) else None
 
 abbrev pub or_else : {X : Type 0} → Option X → Option X → Option X
 or_else None next = next
@@ -72,9 +72,9 @@ or_else (Some x) next = Some x
 
 -- the first read of stage k that waits, from read number i on
 abbrev pub first_wait : Sited → List Seen → ℕ → ℕ → List Site → Option Wait
-first_wait s crew k i [] = None
-first_wait s crew k i (site ∷ sites) =
-    or_else (wait_of s crew k i site (get_or (at crew k).flown.told.reads i None)) (first_wait s crew k (i + 1) sites)
+first_wait s occupants k i [] = None
+first_wait s occupants k i (site ∷ sites) =
+    or_else (wait_of s occupants k i site (get_or (at occupants k).report.told.reads i None)) (first_wait s occupants k (i + 1) sites)
 
 abbrev pub cause_of_wait : Option Wait → Cause
 cause_of_wait None = Unsure
@@ -97,7 +97,7 @@ abbrev pub is_told : Sited → Stage → Bool
 is_told s x = x.settled && (retires_by x.fate || not (has_guess s.reads))
 
 abbrev pub value_cause : Sited → List Seen → ℕ → Cause
-value_cause s crew k = if is_told s (at crew k).stage then cause_of_wait (first_wait s crew k 0 s.reads) else Unsure
+value_cause s occupants k = if is_told s (at occupants k).stage then cause_of_wait (first_wait s occupants k 0 s.reads) else Unsure
 
 -- a full stage that doesn't update
 abbrev pub is_waiting : Stage → Bool
@@ -105,51 +105,51 @@ is_waiting x = x.full && not x.moves
 
 -- What is squashed later has no other cause; of several others the first counts: from outside, the stage ahead, a value.
 abbrev pub waiting_cause : Sited → List Seen → ℕ → Cause
-waiting_cause s crew k =
-    if is_squashed_by (at crew k).stage.fate then Later
-    else (if (at crew k).stage.held then Held
-    else (if is_waiting (at crew (k + 1)).stage then Ahead
-    else value_cause s crew k))
+waiting_cause s occupants k =
+    if is_squashed_by (at occupants k).stage.fate then Later
+    else (if (at occupants k).stage.held then Held
+    else (if is_waiting (at occupants (k + 1)).stage then Ahead
+    else value_cause s occupants k))
 
 -- ROLLBACKS. A guess that may be wrong in stage k: a guessed read of an earlier stage whose condition holds, of a register that isn't written before
 -- stage k, and whose value can be had.
 abbrev pub is_met : List Seen → Writer → Option ℕ → Bool
-is_met crew w None = true
-is_met crew w (Some j) = is_ready w (at crew j) j
+is_met occupants w None = true
+is_met occupants w (Some j) = is_ready w (at occupants j) j
 
 abbrev pub is_open_by : Sited → List Seen → ℕ → Option Writer → Bool
-is_open_by s crew k None = false
-is_open_by s crew k (Some w) = nat_lt k w.write && is_met crew w (nearest_above s crew w 0 k)
+is_open_by s occupants k None = false
+is_open_by s occupants k (Some w) = nat_lt k w.write && is_met occupants w (nearest_above s occupants w 0 k)
 
 abbrev pub is_open : Sited → List Seen → ℕ → Site → Option ℕ → Bool
-is_open s crew k site asked =
-    site.guessed && (nat_lt site.stage k && (is_some asked && is_open_by s crew k (get_or s.writers site.target None)))
+is_open s occupants k site asked =
+    site.guessed && (nat_lt site.stage k && (is_some asked && is_open_by s occupants k (get_or s.writers site.target None)))
 
 -- the only one from read number i on and of one that was found before; none if there are several
 abbrev pub only_open : Sited → List Seen → ℕ → Option ℕ → ℕ → List Site → Option ℕ
-only_open s crew k found i [] = found
-only_open s crew k found i (site ∷ sites) =
-    if is_open s crew k site (get_or (at crew k).flown.told.reads i None)
-    then (if is_some found then None else only_open s crew k (Some i) (i + 1) sites)
-    else only_open s crew k found (i + 1) sites
+only_open s occupants k found i [] = found
+only_open s occupants k found i (site ∷ sites) =
+    if is_open s occupants k site (get_or (at occupants k).report.told.reads i None)
+    then (if is_some found then None else only_open s occupants k (Some i) (i + 1) sites)
+    else only_open s occupants k found (i + 1) sites
 
 -- the instruction that makes the value: that of the nearest stage that may write the register, if there is one
 abbrev pub producer_at : List Seen → Option ℕ → Option Producer
-producer_at crew None = None
-producer_at crew (Some j) = Some (record { number = (at crew j).stage.number; stage = j })
+producer_at occupants None = None
+producer_at occupants (Some j) = Some (record { number = (at occupants j).stage.number; stage = j })
 
 abbrev pub producer_by : Sited → List Seen → ℕ → Option Writer → Option Producer
-producer_by s crew k None = None
-producer_by s crew k (Some w) = producer_at crew (nearest_above s crew w 0 k)
+producer_by s occupants k None = None
+producer_by s occupants k (Some w) = producer_at occupants (nearest_above s occupants w 0 k)
 
 abbrev pub producer_of : Sited → List Seen → ℕ → ℕ → Option Producer
-producer_of s crew k i = producer_by s crew k (get_or s.writers (get_or s.reads i no_site).target None)
+producer_of s occupants k i = producer_by s occupants k (get_or s.writers (get_or s.reads i no_site).target None)
 
 -- the guess of read i, found wrong in stage k
 abbrev pub guess_of : Sited → List Seen → ℕ → Option ℕ → Option Guess
-guess_of s crew k None = None
-guess_of s crew k (Some i) =
-    Some (record { read = i; guessed = None; value = get_or (at crew k).flown.values i no_value; producer = producer_of s crew k i })
+guess_of s occupants k None = None
+guess_of s occupants k (Some i) =
+    Some (record { read = i; guessed = None; value = get_or (at occupants k).report.values i no_value; producer = producer_of s occupants k i })
 
 -- a full stage whose instruction doesn't retire
 abbrev pub is_lost : Stage → Bool
@@ -157,35 +157,35 @@ is_lost x = x.full && not (retires_by x.fate)
 
 -- The instructions in d stages from j on all retire.
 abbrev pub all_retire : List Seen → ℕ → ℕ → Bool
-all_retire crew zero j = true
-all_retire crew (suc d) j = not (is_lost (at crew j).stage) && all_retire crew d (suc j)
+all_retire occupants zero j = true
+all_retire occupants (suc d) j = not (is_lost (at occupants j).stage) && all_retire occupants d (suc j)
 
 -- The rollback of stage k: the guess is named where it can be no other, and all older instructions retire.
 abbrev pub wrong_guess : Sited → List Seen → ℕ → Option Guess
-wrong_guess s crew k =
-    if all_retire crew (s.stages - suc k) (suc k) then guess_of s crew k (only_open s crew k None 0 s.reads) else None
+wrong_guess s occupants k =
+    if all_retire occupants (s.stages - suc k) (suc k) then guess_of s occupants k (only_open s occupants k None 0 s.reads) else None
 
 abbrev pub wrong_of : Sited → List Seen → ℕ → Wrong
-wrong_of s crew k = record { last = (at crew 0).stage.number; guess = wrong_guess s crew k }
+wrong_of s occupants k = record { last = (at occupants 0).stage.number; guess = wrong_guess s occupants k }
 
 -- THE CAUSE of stage k: of the stages that are squashed, the highest one rolls back, and the others have none.
 abbrev pub squashing_cause : Sited → List Seen → ℕ → Option Cause
-squashing_cause s crew k = if (at crew (k + 1)).stage.squashed then None else Some (Squashed (wrong_of s crew k))
+squashing_cause s occupants k = if (at occupants (k + 1)).stage.squashed then None else Some (Squashed (wrong_of s occupants k))
 
 abbrev pub staying_cause : Sited → List Seen → ℕ → Option Cause
-staying_cause s crew k = if (at crew k).stage.moves then None else Some (waiting_cause s crew k)
+staying_cause s occupants k = if (at occupants k).stage.moves then None else Some (waiting_cause s occupants k)
 
 abbrev pub cause_at : Sited → List Seen → ℕ → Option Cause
-cause_at s crew k =
-    if (at crew k).stage.full
-    then (if (at crew k).stage.squashed then squashing_cause s crew k else staying_cause s crew k)
+cause_at s occupants k =
+    if (at occupants k).stage.full
+    then (if (at occupants k).stage.squashed then squashing_cause s occupants k else staying_cause s occupants k)
     else None
 
 -- THE LINES of a cycle, from the oldest instruction on, of the stages below number k.
 abbrev pub line_of : ℕ → List Seen → ℕ → Option Cause → List Line
-line_of T crew k None = []
-line_of T crew k (Some cause) = record { cycle = T; number = (at crew k).stage.number; stage = k; cause = cause } ∷ []
+line_of T occupants k None = []
+line_of T occupants k (Some cause) = record { cycle = T; number = (at occupants k).stage.number; stage = k; cause = cause } ∷ []
 
 abbrev pub lines_down : Sited → ℕ → List Seen → ℕ → List Line
-lines_down s T crew zero = []
-lines_down s T crew (suc k) = line_of T crew k (cause_at s crew k) ++ lines_down s T crew k
+lines_down s T occupants zero = []
+lines_down s T occupants (suc k) = line_of T occupants k (cause_at s occupants k) ++ lines_down s T occupants k

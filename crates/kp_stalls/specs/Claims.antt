@@ -9,10 +9,10 @@ use Rattle.kp_pipeline.specs.RightPath.{Moment, first_moment, held, next_moment}
 use Rattle.kp_pipeline.specs.SpeculativeTimeline as timeline
 use Rattle.kp_machine.specs.Machine.{machine_of, state_of}
 use Rattle.kp_stalls.specs.declared.cause.Wait.{Wait}
-use Rattle.kp_stalls.specs.declared.crew.Stage.{Stage}
+use Rattle.kp_stalls.specs.declared.occupants.Stage.{Stage}
 use Rattle.kp_stalls.specs.declared.sites.Site.{Site}
 use Rattle.kp_stalls.specs.Sites.{no_site, sited}
-use Rattle.kp_stalls.specs.Crew.{flown, no_stage}
+use Rattle.kp_stalls.specs.Occupants.{report, no_stage}
 
 -- The stages show the row of a moment, and the numbers of the instructions.
 pub record ShowsMoment (m : Machine) (now : Moment) (r : Row) (stages : List Stage) : Type 0 where
@@ -41,7 +41,7 @@ pub record IsCause (job : Job) (given : ℕ → ℕ → ℕ) (now : Moment) (i :
   pub there : w.read < length (sited job).reads
   pub own : (read_site job w.read).stage ≡ k
   pub plain : (read_site job w.read).guessed ≡ false
-  pub asked : get_or (flown job given (now.count k)).told.reads w.read None ≡ Some w.address
+  pub asked : get_or (report job given (now.count k)).told.reads w.read None ≡ Some w.address
   pub above : k < w.stage
   pub within : w.stage < (machine_of job).stages
   pub number : held now w.stage ≡ Some w.writer

@@ -2,11 +2,11 @@
 use Rattle.std.specs.Prelude.{ℕ, zero, suc, List, [], ◌∷◌, ◌++◌, Bool, cond, leb, nat_lt}
 use Rattle.kp_pipeline.specs.Rows.{Row, bit, count_after}
 use Rattle.kp_stalls.specs.declared.cause.Line.{Line}
-use Rattle.kp_stalls.specs.declared.crew.Stage.{Stage}
+use Rattle.kp_stalls.specs.declared.occupants.Stage.{Stage}
 use Rattle.kp_stalls.specs.declared.fate.Fate.{Fate}
 use Rattle.kp_stalls.specs.declared.fate.Fate.TheVariants.{Squashed, Retires, Open}
 use Rattle.kp_stalls.specs.Sites.{Sited}
-use Rattle.kp_stalls.specs.Crew.{Flown, crew_of}
+use Rattle.kp_stalls.specs.Occupants.{Report, occupants_of}
 use Rattle.kp_stalls.specs.Causes.{lines_down}
 
 -- The stages below `back` are squashed.
@@ -38,9 +38,9 @@ stages_from f zero k = []
 stages_from f (suc d) k = f k ∷ stages_from f d (suc k)
 
 -- The lines from cycle T on: `ext T k` says whether stage k is stalled from outside, `settled T k i` whether the samples of stage k have the values that
--- instruction i takes, `fly i` is what the sequential machine reports of instruction i, and `count` has the numbers in the stages.
-abbrev pub lines_from : Sited → (ℕ → ℕ → Bool) → (ℕ → ℕ → ℕ → Bool) → (ℕ → Flown) → ℕ → (ℕ → ℕ) → List Row → List Line
-lines_from s ext settled fly T count [] = []
-lines_from s ext settled fly T count (r ∷ rows) =
-    lines_down s T (crew_of fly (stages_from (stage_of s.stages (ext T) (settled T) count r rows) s.stages 0)) s.stages
-    ++ lines_from s ext settled fly (suc T) (count_after s.stages r count) rows
+-- instruction i takes, `reports i` is what the sequential machine reports of instruction i, and `count` has the numbers in the stages.
+abbrev pub lines_from : Sited → (ℕ → ℕ → Bool) → (ℕ → ℕ → ℕ → Bool) → (ℕ → Report) → ℕ → (ℕ → ℕ) → List Row → List Line
+lines_from s ext settled reports T count [] = []
+lines_from s ext settled reports T count (r ∷ rows) =
+    lines_down s T (occupants_of reports (stages_from (stage_of s.stages (ext T) (settled T) count r rows) s.stages 0)) s.stages
+    ++ lines_from s ext settled reports (suc T) (count_after s.stages r count) rows

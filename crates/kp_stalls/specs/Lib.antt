@@ -1,5 +1,5 @@
 pub mod Sites
-pub mod Crew
+pub mod Occupants
 pub mod Causes
 pub mod Cycles
 pub mod Windows

@@ -5,7 +5,7 @@ use Rattle.kp_stage.specs.Counts.{summary_of}
 use Rattle.kp_machine.specs.Machine.{sequential}
 use Rattle.kp_seq.specs.Running.{Running, state}
 use Rattle.kp_stalls.specs.Sites.{Sited, sited}
-use Rattle.kp_stalls.specs.Crew.{Flown, flown, nothing, stored}
+use Rattle.kp_stalls.specs.Occupants.{Report, report, nothing, stored}
 
 -- the machine, the tables of its job, the number of the instruction that it runs next, and what it reported of the last sixteen, each under its number
 -- modulo 16
@@ -13,10 +13,10 @@ pub record Windowed : Type 0 where
   pub machine : Running
   pub sites : Sited
   pub next : ℕ
-  pub ring : List Flown
+  pub ring : List Report
 
 -- a record of the size that the report of an instruction has
-pub record HasRoom (job : Job) (f : Flown) : Type 0 where
+pub record HasRoom (job : Job) (f : Report) : Type 0 where
   pub reads : length f.told.reads ≡ (summary_of job).reads
   pub writes : length f.told.writes ≡ (summary_of job).results
   pub settings : length f.told.settings ≡ (summary_of job).results
@@ -36,4 +36,4 @@ pub record IsKept (job : Job) (w : Windowed) : Type 0 where
 -- sixteen.
 pub record Follows (job : Job) (given : ℕ → ℕ → ℕ) (w : Windowed) : Type 0 where
   pub state_is : state w.machine ≡ sequential job given w.next
-  pub flown : (i : ℕ) → i < w.next → w.next ≤ i + 16 → stored w.ring i ≡ flown job given i
+  pub report : (i : ℕ) → i < w.next → w.next ≤ i + 16 → stored w.ring i ≡ report job given i

@@ -8,7 +8,7 @@ ghost use Rattle.kp_machine.specs.Machine.{values_in};
 ghost use Rattle.kp_seq.specs.Running.{after_one, state};
 ghost use Rattle.kp_stalls.specs.Sites.{sited};
 ghost use Rattle.kp_stalls.specs.Windows.{HasRoom};
-ghost use Rattle.kp_stalls.specs.Crew.{flown_of, no_value, value_before as value_of_site};
+ghost use Rattle.kp_stalls.specs.Occupants.{report_of, no_value, value_before as value_of_site};
 
 use crate::sites::Site;
 use kp_base::NoMemory;
@@ -28,9 +28,9 @@ pub(crate) struct Flight {
 }
 
 impl Model for Flight {
-    ghost use Rattle.kp_stalls.specs.Crew.{Flown};
+    ghost use Rattle.kp_stalls.specs.Occupants.{Report};
 
-    ghost Value = { Flown };
+    ghost Value = { Report };
 
     ghost view = { λ f. record { told = record { reads = f.reads.items; writes = f.writes.items; settings = f.settings.items }; values = f.values.items } };
 }
@@ -118,7 +118,7 @@ impl Flight {
         requires blocks { length machine.old.job.blocks ≡ machine.old.job.stages.value }
         ensures job { machine.new.job ≡ machine.old.job }
         ensures state { state machine.new ≡ after_one machine.old.job (state machine.old) row.now }
-        ensures flown { self.new ≡ flown_of machine.old.job (state machine.old) (values_in row.now) }
+        ensures report { self.new ≡ report_of machine.old.job (state machine.old) (values_in row.now) }
     {
         self.take_values(machine, sites, targets);
         machine.step_with(row);

@@ -1,24 +1,24 @@
 //! Why the instructions of a run wait, and why they are squashed.
 //!
-//! `specs/Causes.antt` defines the cause of a wait or a squash, from what the stages show in a cycle (`specs/Crew.antt`) and from what the sequential
+//! `specs/Causes.antt` defines the cause of a wait or a squash, from what the stages show in a cycle (`specs/Occupants.antt`) and from what the sequential
 //! machine reports of the instructions in them; `specs/Cycles.antt` defines the lines of a run. `Window` runs the sequential machine, and stores
 //! what it reported of the last sixteen instructions: a run is told with memory for its lines, and for no more instructions than the stages hold.
 #![tactic(auto)]
 
 mod cause;
-mod crew;
 mod fate;
 mod flight;
 pub mod laws;
 mod lines;
+mod occupants;
 mod sites;
 mod squashing;
 mod waiting;
 mod window;
 
 pub use cause::{Cause, Guess, Had, Line, Producer, Wait, Wrong};
-pub use crew::Stage;
 pub use fate::{Fate, fates_of};
 pub use lines::add_lines;
+pub use occupants::Stage;
 pub use sites::{Site, Sites, Writer};
 pub use window::Window;

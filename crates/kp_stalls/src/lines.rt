@@ -1,10 +1,10 @@
 //! The lines of a cycle.
 ghost use Rattle.std.specs.Prelude.{◌≡◌, ◌<◌, ◌≤◌, ◌++◌, List, OnOk, length};
 ghost use Rattle.kp_stalls.specs.Causes.{cause_at as cause_at_in, line_of, lines_down, squashing_cause as squashing_cause_in, waiting_cause as waiting_cause_in};
-ghost use Rattle.kp_stalls.specs.Crew.{at, crew_of, stored};
+ghost use Rattle.kp_stalls.specs.Occupants.{at, occupants_of, stored};
 
 use crate::cause::{Cause, Line};
-use crate::crew::{Crew, Stage};
+use crate::occupants::{Occupants, Stage};
 use crate::sites::Sites;
 use crate::squashing::wrong_of;
 use crate::waiting::value_cause;
@@ -20,13 +20,13 @@ pub fn add_lines(
     window: &Window<'_>,
 ) -> Result<(), NoMemory>
     requires { length stages.now ≡ sites.now.stages }
-    ensures { OnOk result (lines.new.items ≡ lines.old.items ++ lines_down sites.now cycle (crew_of (stored window.now.ring) stages.now) sites.now.stages) }
+    ensures { OnOk result (lines.new.items ≡ lines.old.items ++ lines_down sites.now cycle (occupants_of (stored window.now.ring) stages.now) sites.now.stages) }
 {
-    let crew = Crew {
+    let occupants = Occupants {
         stages,
         ring: window.ring(),
     };
-    add_all(lines, sites, cycle, &crew)
+    add_all(lines, sites, cycle, &occupants)
 }
 
 // The lines of all stages, from the last one down.
@@ -35,15 +35,15 @@ fn add_all(
     lines: &mut Vec<Line>,
     sites: &Sites,
     cycle: usize,
-    crew: &Crew<'_>,
+    occupants: &Occupants<'_>,
 ) -> Result<(), NoMemory>
-    requires { length crew.now ≡ sites.now.stages }
-    ensures { OnOk result (lines.new.items ≡ lines.old.items ++ lines_down sites.now cycle crew.now sites.now.stages) }
+    requires { length occupants.now ≡ sites.now.stages }
+    ensures { OnOk result (lines.new.items ≡ lines.old.items ++ lines_down sites.now cycle occupants.now sites.now.stages) }
 {
     let mut k = sites.stages();
     while k > 0 {
         k -= 1;
-        add_line(lines, cycle, crew, k, cause_at(sites, crew, k))?;
+        add_line(lines, cycle, occupants, k, cause_at(sites, occupants, k))?;
     }
     Ok(())
 }
@@ -51,16 +51,16 @@ fn add_all(
 fn add_line(
     lines: &mut Vec<Line>,
     cycle: usize,
-    crew: &Crew<'_>,
+    occupants: &Occupants<'_>,
     k: usize,
     cause: Option<Cause>,
 ) -> Result<(), NoMemory>
-    ensures { OnOk result (lines.new.items ≡ lines.old.items ++ line_of cycle crew.now k cause) }
+    ensures { OnOk result (lines.new.items ≡ lines.old.items ++ line_of cycle occupants.now k cause) }
 {
     if let Some(cause) = cause {
         lines.push(Line {
             cycle,
-            number: crew.stage(k).number,
+            number: occupants.stage(k).number,
             stage: k,
             cause,
         })?;
@@ -69,42 +69,42 @@ fn add_line(
 }
 
 // Why the instruction in stage k waits or is squashed, if it does or is.
-fn cause_at(sites: &Sites, crew: &Crew<'_>, k: usize) -> Option<Cause>
-    requires few { sites.now.stages ≤ length crew.now }
+fn cause_at(sites: &Sites, occupants: &Occupants<'_>, k: usize) -> Option<Cause>
+    requires few { sites.now.stages ≤ length occupants.now }
     requires below { k < sites.now.stages }
-    ensures { result ≡ cause_at_in sites.now crew.now k }
+    ensures { result ≡ cause_at_in sites.now occupants.now k }
 {
-    let stage = crew.stage(k);
+    let stage = occupants.stage(k);
     if !stage.full {
         None
     } else if stage.squashed {
-        squashing_cause(sites, crew, k)
+        squashing_cause(sites, occupants, k)
     } else if stage.moves {
         None
     } else {
-        Some(waiting_cause(sites, crew, k))
+        Some(waiting_cause(sites, occupants, k))
     }
 }
 
-fn squashing_cause(sites: &Sites, crew: &Crew<'_>, k: usize) -> Option<Cause>
-    requires few { sites.now.stages ≤ length crew.now }
+fn squashing_cause(sites: &Sites, occupants: &Occupants<'_>, k: usize) -> Option<Cause>
+    requires few { sites.now.stages ≤ length occupants.now }
     requires below { k < sites.now.stages }
-    ensures { result ≡ squashing_cause_in sites.now crew.now k }
+    ensures { result ≡ squashing_cause_in sites.now occupants.now k }
 {
-    if crew.next_stage(k).squashed {
+    if occupants.next_stage(k).squashed {
         None
     } else {
-        Some(Cause::Squashed(wrong_of(sites, crew, k)))
+        Some(Cause::Squashed(wrong_of(sites, occupants, k)))
     }
 }
 
-fn waiting_cause(sites: &Sites, crew: &Crew<'_>, k: usize) -> Cause
-    requires few { sites.now.stages ≤ length crew.now }
+fn waiting_cause(sites: &Sites, occupants: &Occupants<'_>, k: usize) -> Cause
+    requires few { sites.now.stages ≤ length occupants.now }
     requires below { k < sites.now.stages }
-    ensures { result ≡ waiting_cause_in sites.now crew.now k }
+    ensures { result ≡ waiting_cause_in sites.now occupants.now k }
 {
-    let stage = crew.stage(k);
-    let ahead = crew.next_stage(k);
+    let stage = occupants.stage(k);
+    let ahead = occupants.next_stage(k);
     if stage.fate.is_squashed() {
         Cause::Later
     } else if stage.held {
@@ -112,6 +112,6 @@ fn waiting_cause(sites: &Sites, crew: &Crew<'_>, k: usize) -> Cause
     } else if ahead.full && !ahead.moves {
         Cause::Ahead
     } else {
-        value_cause(sites, crew, k)
+        value_cause(sites, occupants, k)
     }
 }

@@ -1,57 +1,59 @@
 //! The read that an instruction waits for.
 ghost use Rattle.std.specs.Prelude.{◌≡◌, ◌-◌, ◌<◌, ◌≤◌, IfSome, length};
 ghost use Rattle.kp_stalls.specs.Causes.{first_wait, had_by, has_guess as has_guess_in, is_ready as is_ready_in, is_source as is_source_in, is_told as is_told_in, may_write as may_write_in, nearest as nearest_in, nearest_above as nearest_above_in, value_cause as value_cause_in, wait_at as wait_at_in, wait_by as wait_by_in, wait_of as wait_of_in};
-ghost use Rattle.kp_stalls.specs.Crew.{at};
+ghost use Rattle.kp_stalls.specs.Occupants.{at};
 
 use crate::cause::{Cause, Had, Wait};
-use crate::crew::{Crew, Stage};
+use crate::occupants::{Occupants, Stage};
 use crate::sites::{Site, Sites, Writer};
 
 // Whether the instruction in stage j may write the target of a writer at an address.
-fn may_write(writer: Writer, crew: &Crew<'_>, j: usize, address: u32) -> bool
-    requires { j < length crew.now }
-    ensures { result ≡ may_write_in writer (at crew.now j) j address }
+fn may_write(writer: Writer, occupants: &Occupants<'_>, j: usize, address: u32) -> bool
+    requires { j < length occupants.now }
+    ensures { result ≡ may_write_in writer (at occupants.now j) j address }
 {
     if writer.known as usize > j {
         return true;
     }
-    crew.flight(j).write(writer.result) == Some(address)
+    occupants.flight(j).write(writer.result) == Some(address)
 }
 
-fn is_source(writer: Writer, crew: &Crew<'_>, j: usize, address: u32) -> bool
-    requires { j < length crew.now }
-    ensures { result ≡ is_source_in crew.now writer address j }
+fn is_source(writer: Writer, occupants: &Occupants<'_>, j: usize, address: u32) -> bool
+    requires { j < length occupants.now }
+    ensures { result ≡ is_source_in occupants.now writer address j }
 {
-    crew.stage(j).full && j <= writer.write as usize && may_write(writer, crew, j, address)
+    occupants.stage(j).full
+        && j <= writer.write as usize
+        && may_write(writer, occupants, j, address)
 }
 
 // Whether the result of the instruction in stage j is ready there.
-pub(crate) fn is_ready(writer: Writer, crew: &Crew<'_>, j: usize) -> bool
-    requires { j < length crew.now }
-    ensures { result ≡ is_ready_in writer (at crew.now j) j }
+pub(crate) fn is_ready(writer: Writer, occupants: &Occupants<'_>, j: usize) -> bool
+    requires { j < length occupants.now }
+    ensures { result ≡ is_ready_in writer (at occupants.now j) j }
 {
     if writer.known as usize > j {
         return false;
     }
-    let setting = usize::from(crew.flight(j).setting(writer.result));
-    setting < j || (setting == j && crew.stage(j).moves)
+    let setting = usize::from(occupants.flight(j).setting(writer.result));
+    setting < j || (setting == j && occupants.stage(j).moves)
 }
 
 // The nearest stage, from one on, that may write the target of a writer at an address.
 #[tactic(auto, using(crate::proofs::Steps::near_here, crate::proofs::Steps::near_next, crate::proofs::Steps::near_none))]
 fn nearest(
-    crew: &Crew<'_>,
+    occupants: &Occupants<'_>,
     writer: Writer,
     address: u32,
     from: usize,
     stages: usize,
 ) -> Option<usize>
-    requires { stages ≤ length crew.now }
-    ensures value { result ≡ nearest_in crew.now writer address (stages - from) from }
-    ensures within { IfSome result (λ j. j < length crew.now) }
+    requires { stages ≤ length occupants.now }
+    ensures value { result ≡ nearest_in occupants.now writer address (stages - from) from }
+    ensures within { IfSome result (λ j. j < length occupants.now) }
 {
     for j in from..stages {
-        if is_source(writer, crew, j, address) {
+        if is_source(writer, occupants, j, address) {
             return Some(j);
         }
     }
@@ -62,29 +64,29 @@ fn nearest(
 #[tactic(auto, using(crate::proofs::Steps::near_first))]
 pub(crate) fn nearest_above(
     sites: &Sites,
-    crew: &Crew<'_>,
+    occupants: &Occupants<'_>,
     writer: Writer,
     address: u32,
     k: usize,
 ) -> Option<usize>
-    requires few { sites.now.stages ≤ length crew.now }
+    requires few { sites.now.stages ≤ length occupants.now }
     requires below { k < sites.now.stages }
-    ensures value { result ≡ nearest_above_in sites.now crew.now writer address k }
-    ensures within { IfSome result (λ j. j < length crew.now) }
+    ensures value { result ≡ nearest_above_in sites.now occupants.now writer address k }
+    ensures within { IfSome result (λ j. j < length occupants.now) }
 {
     let stages = sites.stages();
-    nearest(crew, writer, address, k + 1, stages)
+    nearest(occupants, writer, address, k + 1, stages)
 }
 
 // When the value of the instruction in stage j can be had.
-fn had_of(writer: Writer, crew: &Crew<'_>, j: usize) -> Had
-    requires { j < length crew.now }
-    ensures { result ≡ had_by writer (at crew.now j) j }
+fn had_of(writer: Writer, occupants: &Occupants<'_>, j: usize) -> Had
+    requires { j < length occupants.now }
+    ensures { result ≡ had_by writer (at occupants.now j) j }
 {
     if writer.known as usize > j {
         return Had::Known(writer.known);
     }
-    let setting = crew.flight(j).setting(writer.result);
+    let setting = occupants.flight(j).setting(writer.result);
     if usize::from(setting) == j {
         Had::Moved
     } else {
@@ -93,61 +95,68 @@ fn had_of(writer: Writer, crew: &Crew<'_>, j: usize) -> Had
 }
 
 fn wait_at(
-    crew: &Crew<'_>,
+    occupants: &Occupants<'_>,
     writer: Writer,
     read: usize,
     address: u32,
     source: Option<usize>,
 ) -> Option<Wait>
-    requires { IfSome source (λ j. j < length crew.now) }
-    ensures { result ≡ wait_at_in crew.now writer read address source }
+    requires { IfSome source (λ j. j < length occupants.now) }
+    ensures { result ≡ wait_at_in occupants.now writer read address source }
 {
     let j = source?;
-    if is_ready(writer, crew, j) {
+    if is_ready(writer, occupants, j) {
         return None;
     }
     Some(Wait {
         read,
         address,
-        writer: crew.stage(j).number,
+        writer: occupants.stage(j).number,
         stage: j,
-        had: had_of(writer, crew, j),
+        had: had_of(writer, occupants, j),
     })
 }
 
 fn wait_by(
     sites: &Sites,
-    crew: &Crew<'_>,
+    occupants: &Occupants<'_>,
     k: usize,
     read: usize,
     address: u32,
     writer: Option<Writer>,
 ) -> Option<Wait>
-    requires few { sites.now.stages ≤ length crew.now }
+    requires few { sites.now.stages ≤ length occupants.now }
     requires below { k < sites.now.stages }
-    ensures { result ≡ wait_by_in sites.now crew.now k read address writer }
+    ensures { result ≡ wait_by_in sites.now occupants.now k read address writer }
 {
     let writer = writer?;
-    let source = nearest_above(sites, crew, writer, address, k);
-    wait_at(crew, writer, read, address, source)
+    let source = nearest_above(sites, occupants, writer, address, k);
+    wait_at(occupants, writer, read, address, source)
 }
 
 // Why a read of stage k waits, if it does. `asked` is its address, if its condition was true.
 fn wait_of(
     sites: &Sites,
-    crew: &Crew<'_>,
+    occupants: &Occupants<'_>,
     k: usize,
     read: usize,
     site: Site,
     asked: Option<u32>,
 ) -> Option<Wait>
-    requires few { sites.now.stages ≤ length crew.now }
+    requires few { sites.now.stages ≤ length occupants.now }
     requires below { k < sites.now.stages }
-    ensures { result ≡ wait_of_in sites.now crew.now k read site asked }
+    ensures { result ≡ wait_of_in sites.now occupants.now k read site asked }
 {
     let address = asked?;
     if site.stage == k && !site.guessed {
-        wait_by(sites, crew, k, read, address, sites.writer(site.target))
+        wait_by(
+            sites,
+            occupants,
+            k,
+            read,
+            address,
+            sites.writer(site.target),
+        )
     } else {
         None
     }
@@ -155,15 +164,15 @@ fn wait_of(
 
 // The first read of stage k that waits.
 #[tactic(auto, using(crate::proofs::Steps::wait_here, crate::proofs::Steps::wait_next, crate::proofs::Steps::wait_end))]
-fn first(sites: &Sites, crew: &Crew<'_>, k: usize) -> Option<Wait>
-    requires few { sites.now.stages ≤ length crew.now }
+fn first(sites: &Sites, occupants: &Occupants<'_>, k: usize) -> Option<Wait>
+    requires few { sites.now.stages ≤ length occupants.now }
     requires below { k < sites.now.stages }
-    ensures { result ≡ first_wait sites.now crew.now k 0 sites.now.reads }
+    ensures { result ≡ first_wait sites.now occupants.now k 0 sites.now.reads }
 {
-    let flight = crew.flight(k);
+    let flight = occupants.flight(k);
     let reads = sites.reads();
     for i in 0..reads.len() {
-        let wait = wait_of(sites, crew, k, i, reads[i], flight.read(i));
+        let wait = wait_of(sites, occupants, k, i, reads[i], flight.read(i));
         if wait.is_some() {
             return wait;
         }
@@ -185,15 +194,15 @@ fn has_guess(sites: &[Site]) -> bool
 }
 
 /// The cause of an instruction in stage k that waits for a value.
-pub(crate) fn value_cause(sites: &Sites, crew: &Crew<'_>, k: usize) -> Cause
-    requires few { sites.now.stages ≤ length crew.now }
+pub(crate) fn value_cause(sites: &Sites, occupants: &Occupants<'_>, k: usize) -> Cause
+    requires few { sites.now.stages ≤ length occupants.now }
     requires below { k < sites.now.stages }
-    ensures { result ≡ value_cause_in sites.now crew.now k }
+    ensures { result ≡ value_cause_in sites.now occupants.now k }
 {
-    if !is_told(sites, crew.stage(k)) {
+    if !is_told(sites, occupants.stage(k)) {
         return Cause::Unsure;
     }
-    match first(sites, crew, k) {
+    match first(sites, occupants, k) {
         Some(wait) => Cause::Value(wait),
         None => Cause::Unsure,
     }

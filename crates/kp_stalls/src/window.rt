@@ -5,7 +5,7 @@ ghost use Rattle.kp_stage.specs.Start.{AreSamples, IsStartOf, start_of};
 ghost use Rattle.kp_machine.specs.Machine.{values_in};
 ghost use Rattle.kp_stalls.specs.Sites.{sited};
 ghost use Rattle.kp_seq.specs.Running.{after_one, state};
-ghost use Rattle.kp_stalls.specs.Crew.{flown_of, nothing};
+ghost use Rattle.kp_stalls.specs.Occupants.{report_of, nothing};
 ghost use Rattle.kp_stalls.specs.Windows.{Follows, HasRoom, IsKept};
 
 use crate::flight::Flight;
@@ -147,7 +147,7 @@ fn run_next(
     requires blocks { length machine.old.job.blocks ≡ machine.old.job.stages.value }
     ensures job { machine.new.job ≡ machine.old.job }
     ensures state { state machine.new ≡ after_one machine.old.job (state machine.old) row.now }
-    ensures ring { ring.new ≡ set ring.old place (flown_of machine.old.job (state machine.old) (values_in row.now)) }
+    ensures ring { ring.new ≡ set ring.old place (report_of machine.old.job (state machine.old) (values_in row.now)) }
 {
     ring[place].run(machine, sites.reads(), sites.targets(), row);
 }

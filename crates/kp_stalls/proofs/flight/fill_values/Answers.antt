@@ -1,7 +1,7 @@
 use Rattle.std.proofs.Common.{◌∙◌, map, sym, arith}
 use Rattle.std.proofs.lemmas.List.{ext_get_or, length-map}
 use Rattle.kp_seq.specs.Running.{state}
-use Rattle.kp_stalls.specs.Crew.{no_value, value_before}
+use Rattle.kp_stalls.specs.Occupants.{no_value, value_before}
 use Rattle.kp_stalls.proofs.flight.fill_values.Goals as goal
 
 pub returns : goal.returns

@@ -1,6 +1,6 @@
 use Rattle.std.proofs.Common.{◌≡◌, ℕ, ◌<◌, length, get_or, map}
 use Rattle.kp_seq.specs.Running.{state}
-use Rattle.kp_stalls.specs.Crew.{no_value, value_before}
+use Rattle.kp_stalls.specs.Occupants.{no_value, value_before}
 use Rattle.kp_stalls.proofs.flight.fill_values.Given as goal
 
 abbrev pub invariant-loop-i : goal.invariant-loop-i

@@ -2,7 +2,7 @@ use Rattle.kp_stage.specs.Start.{start_of}
 use Rattle.kp_pipeline.specs.RightPath.{first_moment}
 use Rattle.kp_machine.specs.Machine.{machine_of, state_of}
 use Rattle.kp_stalls.specs.Sites.{sited}
-use Rattle.kp_stalls.specs.Crew.{crew_of, flown}
+use Rattle.kp_stalls.specs.Occupants.{occupants_of, report}
 use Rattle.kp_stalls.specs.Claims.{run_given, run_moment, run_rows}
 use Rattle.kp_stalls.proofs.Causing.{caused}
 use Rattle.kp_stalls.proofs.Moments.{must_at}
@@ -14,5 +14,5 @@ returns c = λ job hints ins T i r stages k w names rules acc long here row show
     let s = state_of job (start_of job) in
     let must = must_at (machine_of job) s (run_given job hints ins) ins (first_moment s hints) (run_rows job hints ins) T i r
     (c.the_pipeline_waits_only_where_it_must.ensures (machine_of job) s hints ins acc) long here row in
-    let found = told_found (sited job) (crew_of (flown job (run_given job hints ins)) stages) k w told in
+    let found = told_found (sited job) (occupants_of (report job (run_given job hints ins)) stages) k w told in
     caused job (run_given job hints ins) (run_moment job hints ins T) i r stages names rules acc must shows k right below w found

@@ -3,4 +3,4 @@ use Rattle.kp_stalls.specs.Causes.{first_wait}
 use Rattle.kp_stalls.proofs.waiting.first.Given as goal
 
 abbrev pub invariant-loop-i : goal.invariant-loop-i
-invariant-loop-i l = first_wait l.sites l.crew l.k l.i (drop l.i l.reads) ≡ first_wait l.sites l.crew l.k 0 l.sites.reads
+invariant-loop-i l = first_wait l.sites l.occupants l.k l.i (drop l.i l.reads) ≡ first_wait l.sites l.occupants l.k 0 l.sites.reads

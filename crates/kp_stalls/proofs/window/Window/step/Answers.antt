@@ -1,7 +1,7 @@
 use Rattle.std.proofs.Common.{◌∙◌, ◌+◌, ◌%◌, List, length, length-set, set, ap, sym, subst, refl}
 use Rattle.kp_machine.specs.Machine.{values_in}
 use Rattle.kp_seq.specs.Running.{state}
-use Rattle.kp_stalls.specs.Crew.{Flown, flown_of}
+use Rattle.kp_stalls.specs.Occupants.{Report, report_of}
 use Rattle.kp_stalls.specs.Windows.{IsKept}
 use Rattle.kp_stalls.proofs.Windows.{follows_step, kept_next, written_back}
 use Rattle.kp_stalls.proofs.window.Window.step.Goals as goal
@@ -15,10 +15,10 @@ invariant_of-self c =
     let q = values_in c.args.row.now in
     let run = c.run_next.ensures in
     let whole =
-    written_back t.ring.len c.run_next.new.ring t.ring.items (set t.ring.items (t.next % 16) (flown_of job s q))
-    (ap (λ (l : List Flown). length l) run.ring ∙ length-set _ _ _ ∙ c.as_mut_slice.ensures.len)
-    (run.ring ∙ ap (λ (l : List Flown). set l (t.next % 16) (flown_of job s q)) c.as_mut_slice.ensures.value) in
-    subst (λ (ring : List Flown). IsKept c.run_next.new.machine.job (record { machine = c.run_next.new.machine; sites = t.sites; next = t.next + 1; ring = ring })) (sym whole)
+    written_back t.ring.len c.run_next.new.ring t.ring.items (set t.ring.items (t.next % 16) (report_of job s q))
+    (ap (λ (l : List Report). length l) run.ring ∙ length-set _ _ _ ∙ c.as_mut_slice.ensures.len)
+    (run.ring ∙ ap (λ (l : List Report). set l (t.next % 16) (report_of job s q)) c.as_mut_slice.ensures.value) in
+    subst (λ (ring : List Report). IsKept c.run_next.new.machine.job (record { machine = c.run_next.new.machine; sites = t.sites; next = t.next + 1; ring = ring })) (sym whole)
     (kept_next job (record { machine = t.machine; sites = t.sites; next = t.next; ring = t.ring.items }) c.run_next.new.machine (t.next + 1) (t.next % 16) s q k run.job)
 
 pub returns-clause-follows : goal.returns-clause-follows
@@ -30,7 +30,7 @@ returns-clause-follows c =
     let q = values_in c.args.row.now in
     let run = c.run_next.ensures in
     let whole =
-    written_back t.ring.len c.run_next.new.ring t.ring.items (set t.ring.items (t.next % 16) (flown_of job s q))
-    (ap (λ (l : List Flown). length l) run.ring ∙ length-set _ _ _ ∙ c.as_mut_slice.ensures.len)
-    (run.ring ∙ ap (λ (l : List Flown). set l (t.next % 16) (flown_of job s q)) c.as_mut_slice.ensures.value) in
+    written_back t.ring.len c.run_next.new.ring t.ring.items (set t.ring.items (t.next % 16) (report_of job s q))
+    (ap (λ (l : List Report). length l) run.ring ∙ length-set _ _ _ ∙ c.as_mut_slice.ensures.len)
+    (run.ring ∙ ap (λ (l : List Report). set l (t.next % 16) (report_of job s q)) c.as_mut_slice.ensures.value) in
     follows_step (record { machine = t.machine; sites = t.sites; next = t.next; ring = t.ring.items }) c.args.self.now _ c.args.row.now c.self.view_is k.count refl run.state whole

@@ -6,20 +6,20 @@ use Rattle.kp_machine.specs.Machine.{sequential}
 use Rattle.kp_machine.specs.Slots.{targets_of}
 use Rattle.kp_seq.specs.Running.{target}
 use Rattle.kp_seq.specs.Told.{Told, told_of}
-use Rattle.kp_stalls.specs.declared.crew.Stage.{Stage}
+use Rattle.kp_stalls.specs.declared.occupants.Stage.{Stage}
 use Rattle.kp_stalls.specs.declared.fate.Fate.TheVariants.{Open}
 use Rattle.kp_stalls.specs.declared.sites.Site.{Site}
 use Rattle.kp_stalls.specs.Sites.{sited}
 
 -- What the sequential machine reports of an instruction, and for each read the value that its target had before the instruction at address 0.
-pub record Flown : Type 0 where
+pub record Report : Type 0 where
   pub told : Told
   pub values : List Word
 
 abbrev pub nothing_told : Told
 nothing_told = record { reads = []; writes = []; settings = [] }
 
-abbrev pub nothing : Flown
+abbrev pub nothing : Report
 nothing = record { told = nothing_told; values = [] }
 
 -- the value of a read of a target that doesn't exist
@@ -31,31 +31,31 @@ value_before job s site =
     if nat_lt site.target (length (targets_of job.decls)) then word (target job site.target).width (s site.target 0) else no_value
 
 -- of the instruction on the state s with the sample values q
-abbrev pub flown_of : Job → (ℕ → ℕ → ℕ) → (ℕ → ℕ) → Flown
-flown_of job s q = record { told = told_of job s q; values = map (value_before job s) (sited job).reads }
+abbrev pub report_of : Job → (ℕ → ℕ → ℕ) → (ℕ → ℕ) → Report
+report_of job s q = record { told = told_of job s q; values = map (value_before job s) (sited job).reads }
 
 -- of instruction i of the run in which instruction j has the sample values `given j`
-abbrev pub flown : Job → (ℕ → ℕ → ℕ) → ℕ → Flown
-flown job given i = flown_of job (sequential job given i) (given i)
+abbrev pub report : Job → (ℕ → ℕ → ℕ) → ℕ → Report
+report job given i = report_of job (sequential job given i) (given i)
 
 pub record Seen : Type 0 where
   pub stage : Stage
-  pub flown : Flown
+  pub report : Report
 
 abbrev pub no_stage : Stage
 no_stage = record { full = false; moves = false; squashed = false; held = false; fate = Open; settled = false; number = 0 }
 
-abbrev pub nobody : Seen
-nobody = record { stage = no_stage; flown = nothing }
+abbrev pub no_occupant : Seen
+no_occupant = record { stage = no_stage; report = nothing }
 
--- stage j; past the last one nobody is seen
+-- stage j; past the last one there is no occupant
 abbrev pub at : List Seen → ℕ → Seen
-at crew j = get_or crew j nobody
+at occupants j = get_or occupants j no_occupant
 
--- THE CREW of a cycle: the stages with their instructions.
-abbrev pub crew_of : (ℕ → Flown) → List Stage → List Seen
-crew_of fly stages = map (λ (s : Stage). record { stage = s; flown = fly s.number }) stages
+-- THE OCCUPANTS of the stages in a cycle: their instructions.
+abbrev pub occupants_of : (ℕ → Report) → List Stage → List Seen
+occupants_of reports stages = map (λ (s : Stage). record { stage = s; report = reports s.number }) stages
 
 -- where the last sixteen instructions are stored, each under its number modulo 16
-abbrev pub stored : List Flown → ℕ → Flown
+abbrev pub stored : List Report → ℕ → Report
 stored ring i = get_or ring (i % 16) nothing

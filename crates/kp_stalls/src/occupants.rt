@@ -1,6 +1,6 @@
 // The stages in a cycle, with their instructions.
 ghost use Rattle.std.specs.Prelude.{◌≡◌, ◌+◌, ◌<◌, length};
-ghost use Rattle.kp_stalls.specs.Crew.{at};
+ghost use Rattle.kp_stalls.specs.Occupants.{at};
 
 use crate::fate::Fate;
 use crate::flight::Flight;
@@ -21,25 +21,25 @@ pub struct Stage {
 
 /// The stages, and what was reported of the last sixteen instructions.
 #[derive(Drop)]
-pub(crate) struct Crew<'a> {
+pub(crate) struct Occupants<'a> {
     pub stages: &'a [Stage],
     pub ring: &'a [Flight],
 }
 
-impl<'a> Model for Crew<'a> {
+impl<'a> Model for Occupants<'a> {
     ghost use Rattle.std.specs.Prelude.{◌≡◌, List, length};
-    ghost use Rattle.kp_stalls.specs.Crew.{Seen, crew_of, stored};
+    ghost use Rattle.kp_stalls.specs.Occupants.{Seen, occupants_of, stored};
 
     ghost Value = { List Seen };
 
-    ghost view = { λ c. crew_of (stored c.ring.now) c.stages.now };
+    ghost view = { λ c. occupants_of (stored c.ring.now) c.stages.now };
 
     ghost invariant = { λ c. length c.ring.now ≡ 16 };
 }
 
-impl Crew<'_> {
+impl Occupants<'_> {
     /// The number of stages.
-    #[tactic(auto, using(crate::proofs::Crews::count_at))]
+    #[tactic(auto, using(crate::proofs::OccupantFacts::count_at))]
     pub fn count(&self) -> usize
         ensures { result ≡ length self.now }
     {
@@ -47,7 +47,7 @@ impl Crew<'_> {
     }
 
     /// What a stage shows. A stage past the last one shows nothing.
-    #[tactic(auto, using(crate::proofs::Crews::stage_there, crate::proofs::Crews::stage_past))]
+    #[tactic(auto, using(crate::proofs::OccupantFacts::stage_there, crate::proofs::OccupantFacts::stage_past))]
     pub fn stage(&self, j: usize) -> Stage
         ensures { result ≡ (at self.now j).stage }
     {
@@ -59,7 +59,7 @@ impl Crew<'_> {
     }
 
     /// What the stage above stage k shows.
-    #[tactic(auto, using(crate::proofs::Crews::stage_past))]
+    #[tactic(auto, using(crate::proofs::OccupantFacts::stage_past))]
     pub fn next_stage(&self, k: usize) -> Stage
         ensures { result ≡ (at self.now (k + 1)).stage }
     {
@@ -71,10 +71,10 @@ impl Crew<'_> {
     }
 
     /// What was reported of the instruction in a stage.
-    #[tactic(auto, using(crate::proofs::Crews::flown_by))]
+    #[tactic(auto, using(crate::proofs::OccupantFacts::report_by))]
     pub fn flight(&self, j: usize) -> &Flight
         requires { j < length self.now }
-        ensures { result.now ≡ (at self.now j).flown }
+        ensures { result.now ≡ (at self.now j).report }
     {
         let number = self.stage(j).number;
         &self.ring[(number % 16) as usize]
