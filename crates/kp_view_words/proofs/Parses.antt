@@ -315,18 +315,21 @@ none_by false x h = h
 -- A name is that of no word, or it is among the known names. Each of these is a case here.
 listed : (name : Text) → (word_named name ≡ None) ⊎ IsKnown known_names name
 listed name =
-    go (bytes_eq name (codes "diagram")) (bytes_eq name (codes "svg")) (bytes_eq name (codes "page")) (bytes_eq name (codes "paths")) refl refl refl refl
+    go (bytes_eq name (codes "diagram")) (bytes_eq name (codes "svg")) (bytes_eq name (codes "page")) (bytes_eq name (codes "paths")) (bytes_eq name (codes "stalls"))
+    refl refl refl refl refl
   where
     is : (text : Text) → bytes_eq name text ≡ true → text ≡ name
     is text h = sym ((bytes_eq-Decides name text).0 h)
 
-    go : (diagram svg page paths : Bool) → bytes_eq name (codes "diagram") ≡ diagram → bytes_eq name (codes "svg") ≡ svg
-        → bytes_eq name (codes "page") ≡ page → bytes_eq name (codes "paths") ≡ paths → (word_named name ≡ None) ⊎ IsKnown known_names name
-    go true svg page paths d s q p = inr (subst (IsKnown known_names) (is (codes "diagram") d) (refl, refl))
-    go false true page paths d s q p = inr (subst (IsKnown known_names) (is (codes "svg") s) (refl, refl))
-    go false false true paths d s q p = inr (subst (IsKnown known_names) (is (codes "page") q) (refl, refl))
-    go false false false true d s q p = inr (subst (IsKnown known_names) (is (codes "paths") p) (refl, refl))
-    go false false false false d s q p = inl (rw (d, s, q, p) refl)
+    go : (diagram svg page paths stalls : Bool) → bytes_eq name (codes "diagram") ≡ diagram → bytes_eq name (codes "svg") ≡ svg
+        → bytes_eq name (codes "page") ≡ page → bytes_eq name (codes "paths") ≡ paths → bytes_eq name (codes "stalls") ≡ stalls
+        → (word_named name ≡ None) ⊎ IsKnown known_names name
+    go true svg page paths stalls d s q p w = inr (subst (IsKnown known_names) (is (codes "diagram") d) (refl, refl))
+    go false true page paths stalls d s q p w = inr (subst (IsKnown known_names) (is (codes "svg") s) (refl, refl))
+    go false false true paths stalls d s q p w = inr (subst (IsKnown known_names) (is (codes "page") q) (refl, refl))
+    go false false false true stalls d s q p w = inr (subst (IsKnown known_names) (is (codes "paths") p) (refl, refl))
+    go false false false false true d s q p w = inr (subst (IsKnown known_names) (is (codes "stalls") w) (refl, refl))
+    go false false false false false d s q p w = inl (rw (d, s, q, p, w) refl)
 
 pub unmatched : (words : List Text) → AreFree words → (IsPassed words → ⊥) → word_of words ≡ None
 unmatched [] h refused = refl

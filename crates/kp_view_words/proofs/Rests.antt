@@ -6,7 +6,7 @@ use Rattle.std.specs.Option.{option_map_or}
 use Rattle.std.proofs.lemmas.Option.{slice_get-get_or}
 use Rattle.std.proofs.lemmas.List.{map-append, length-drop, length-map, length-append, take_all}
 use Rattle.std.proofs.Math.Seq.{take-append_seam, get_or-append_seam}
-use Rattle.kp_view_words.specs.Words.{Task, Text, asked_for, asked_or, asks_help, begins_with_dash, file_in, help, is_file_after, help_place, is_help_flag, is_help_word, is_name, is_version_flag, names_in, run_with, task_named, task_of, task_with, topic_of, version, word_named}
+use Rattle.kp_view_words.specs.Words.{Task, Text, asked_for, asked_or, asks_help, begins_with_dash, file_in, flagged_task, help, is_file_after, help_place, is_help_flag, is_help_word, is_name, is_version_flag, names_in, run_with, task_named, task_of, task_with, topic_of, version, word_named}
 use Rattle.kp_view_words.specs.inner.Matching.{word_of}
 use Rattle.kp_view_words.specs.declared.words.Word.{Word}
 
@@ -80,9 +80,9 @@ run_some count rest names file n f h =
     ap₂ (λ (ns : List Text) (o : Option Text). Some (record { run = record { count = count; names = ns }; file = o })) n f
     ∙ sym (ap (λ b. cond b (Some (record { run = record { count = count; names = names_in rest }; file = file_in rest })) None) h)
 
--- nothing is asked for where a word begins with `-`
-pub dash_none : (all : List Text) → list_any begins_with_dash all ≡ true → None ≡ task_of all
-dash_none all h = sym (rw h refl)
+-- what is asked for where a word begins with `-`
+pub dash_flagged : (all : List Text) → list_any begins_with_dash all ≡ true → flagged_task all ≡ task_of all
+dash_flagged all h = sym (rw h refl)
 
 -- what a word asks for, with the words after it
 with_word : (word : Word) (name : Text) (rest : List Text) (many : Bool) → nat_lt 14 (length rest) ≡ many

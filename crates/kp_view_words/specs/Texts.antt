@@ -2,8 +2,8 @@
 use Rattle.std.specs.Prelude.{ℕ, List}
 use Rattle.kp_view_words.specs.declared.words.Topic.{Topic}
 use Rattle.kp_view_words.specs.declared.words.Topic.TheVariants.{Program, Of}
-use Rattle.kp_view_words.specs.declared.words.Word.TheVariants.{Diagram, Svg, Page, Paths}
-use Rattle.kp_view_words.specs.declared.texts.TheConstants.{VERSION, USAGE, USAGE_DIAGRAM, USAGE_SVG, USAGE_PAGE, USAGE_PATHS, HELP, HELP_DIAGRAM, HELP_SVG, HELP_PAGE, HELP_PATHS}
+use Rattle.kp_view_words.specs.declared.words.Word.TheVariants.{Diagram, Svg, Page, Paths, Stalls}
+use Rattle.kp_view_words.specs.declared.texts.TheConstants.{VERSION, USAGE, USAGE_DIAGRAM, USAGE_SVG, USAGE_PAGE, USAGE_PATHS, USAGE_STALLS, HELP, HELP_DIAGRAM, HELP_SVG, HELP_PAGE, HELP_PATHS, HELP_STALLS}
 
 abbrev pub help_text : Topic → List ℕ
 help_text Program = HELP.now
@@ -11,6 +11,7 @@ help_text (Of Diagram) = HELP_DIAGRAM.now
 help_text (Of Svg) = HELP_SVG.now
 help_text (Of Page) = HELP_PAGE.now
 help_text (Of Paths) = HELP_PATHS.now
+help_text (Of Stalls) = HELP_STALLS.now
 
 abbrev pub usage_text : Topic → List ℕ
 usage_text Program = USAGE.now
@@ -18,6 +19,7 @@ usage_text (Of Diagram) = USAGE_DIAGRAM.now
 usage_text (Of Svg) = USAGE_SVG.now
 usage_text (Of Page) = USAGE_PAGE.now
 usage_text (Of Paths) = USAGE_PATHS.now
+usage_text (Of Stalls) = USAGE_STALLS.now
 
 abbrev pub version_text : List ℕ
 version_text = VERSION.now

@@ -24,6 +24,8 @@ pub data Order : Type 0 where
   svg : Run → Order
   page : Run → Order
   paths : Order
+  paths_svg : Order
+  stalls : ℕ → Order
 
 -- What is to be shown of a job, and its file, or none for standard input.
 pub record Task : Type 0 where
@@ -42,6 +44,8 @@ names_for (diagram run) = run.names
 names_for (svg run) = run.names
 names_for (page run) = run.names
 names_for paths = []
+names_for paths_svg = []
+names_for (stalls count) = []
 
 -- the word of this name
 abbrev pub word_named : Text → Option Word
@@ -49,7 +53,8 @@ word_named name =
     if bytes_eq name (codes "diagram") then Some words.Diagram
     else (if bytes_eq name (codes "svg") then Some words.Svg
     else (if bytes_eq name (codes "page") then Some words.Page
-    else (if bytes_eq name (codes "paths") then Some words.Paths else None)))
+    else (if bytes_eq name (codes "paths") then Some words.Paths
+    else (if bytes_eq name (codes "stalls") then Some words.Stalls else None))))
 
 -- the topic of a name: its word, or the program
 abbrev pub topic_named : Text → Topic
@@ -124,20 +129,36 @@ run_in (number ∷ rest) = option_and_then (λ count. run_with count rest) (coun
 abbrev pub with_file : Order → List Text → Option Task
 with_file order rest = if nat_lt 1 (length rest) then None else Some (record { order = order; file = slice_get rest 0 })
 
+-- the stalls of a job: a number of at most 100,000 cycles, with at most a file after it
+abbrev pub stalls_with : List Text → Option Task
+stalls_with [] = None
+stalls_with (number ∷ files) = option_and_then (λ count. with_file (stalls count) files) (count_of 100000 number)
+
 -- what a word asks for, with these words after it
 abbrev pub task_with : Word → List Text → Option Task
 task_with words.Diagram rest = option_map (λ asked. record { order = diagram asked.run; file = asked.file }) (run_in rest)
 task_with words.Svg rest = option_map (λ asked. record { order = svg asked.run; file = asked.file }) (run_in rest)
 task_with words.Page rest = option_map (λ asked. record { order = page asked.run; file = asked.file }) (run_in rest)
 task_with words.Paths rest = with_file paths rest
+task_with words.Stalls rest = stalls_with rest
 
 -- the task of an accepted list: a word, and at most 14 further words
 abbrev pub task_named : List Text → Option Task
 task_named [] = None
 task_named (name ∷ rest) = if nat_lt 14 (length rest) then None else option_and_then (λ word. task_with word rest) (word_named name)
 
+-- The one flag of a word: `paths --svg`, with at most a file after it.
+abbrev pub asks_picture : Text → Text → Bool
+asks_picture word flag = bytes_eq word (codes "paths") && bytes_eq flag (codes "--svg")
+
+abbrev pub flagged_task : List Text → Option Task
+flagged_task [] = None
+flagged_task (word ∷ []) = None
+flagged_task (word ∷ flag ∷ files) =
+    if asks_picture word flag && not (list_any begins_with_dash files) then with_file paths_svg files else None
+
 abbrev pub task_of : List Text → Option Task
-task_of all = if list_any begins_with_dash all then None else task_named all
+task_of all = if list_any begins_with_dash all then flagged_task all else task_named all
 
 -- what is asked for
 abbrev pub asked_or : Topic → Option Task → Asked

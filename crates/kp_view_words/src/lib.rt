@@ -9,6 +9,6 @@ mod task;
 mod texts;
 mod words;
 
-pub use task::{Order, Run, Task};
+pub use task::{Cycles, Order, Run, Task};
 pub use texts::{help_of, usage_of, version};
 pub use words::{Request, Topic, Word};

@@ -44,7 +44,8 @@ fn program<'a>(alloc: Global) -> Result<clap::Command<'a>, AllocError>
     let program = with_word(alloc, program, "diagram")?;
     let program = with_word(alloc, program, "svg")?;
     let program = with_word(alloc, program, "page")?;
-    with_word(alloc, program, "paths")
+    let program = with_word(alloc, program, "paths")?;
+    with_word(alloc, program, "stalls")
 }
 
 // The program, with the word of this name added.

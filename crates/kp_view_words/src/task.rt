@@ -18,8 +18,20 @@ pub enum Order<'w> {
     Svg(Run<'w>),
     /// A run with the states of its cycles, as an HTML page.
     Page(Run<'w>),
-    /// Where each read can take its value from.
+    /// Where each read can take its value from, as a table.
     Paths,
+    /// The same as a picture.
+    PathsSvg,
+    /// Why instructions wait or are squashed.
+    Stalls(Cycles),
+}
+
+/// A number of cycles that are listed.
+#[derive(Clone, Copy)]
+pub struct Cycles {
+    /// At most 100,000.
+    pub count: u32,
+    pub ghost few: { count ≤ 100000 },
 }
 
 /// A run that is drawn.

@@ -11,8 +11,10 @@ pub const VERSION: &str = "kpview 0.10.0\n";
 pub const USAGE: &str = "usage: kpview diagram N [NAMES] [FILE]
        kpview svg N [NAMES] [FILE]
        kpview page N [NAMES] [FILE]
-       kpview paths [FILE]
+       kpview paths [--svg] [FILE]
+       kpview stalls N [FILE]
        kpview explain [--werror] [FILE]
+       kpview explain asm|debug|read|watch [FILE]
        kpview --help
 ";
 
@@ -32,7 +34,12 @@ N is 0 to 1000; a name has 1 to 8 letters, digits or `_`
 ";
 
 /// How `paths` is called.
-pub const USAGE_PATHS: &str = "usage: kpview paths [FILE]
+pub const USAGE_PATHS: &str = "usage: kpview paths [--svg] [FILE]
+";
+
+/// How `stalls` is called.
+pub const USAGE_STALLS: &str = "usage: kpview stalls N [FILE]
+N is 0 to 100000
 ";
 
 /// The help of the program.
@@ -44,8 +51,11 @@ words:
   diagram N [NAMES] [FILE]   N cycles of the pipeline, as text
   svg N [NAMES] [FILE]       the same as a picture
   page N [NAMES] [FILE]      the same as an HTML page, with the states
-  paths [FILE]               where each read takes its value from
+  paths [--svg] [FILE]       where each read takes its value from
+  stalls N [FILE]            why instructions wait or are squashed
   explain [--werror] [FILE]  why the job is rejected, and warnings
+  explain asm|debug|read|watch [FILE]
+                             why another input of kp is rejected
 
 The job is read from FILE, or from standard input.
 
@@ -124,8 +134,10 @@ pub const HELP_PATHS: &str =
     "Prints a table of the forwarding paths of the pipelined machine of a job: a row
 for each read, with its line and its stage, and a column for each stage.
 
-usage: kpview paths [FILE]
+usage: kpview paths [--svg] [FILE]
 
+  --svg   draw a picture, in SVG 1.1: the stages as columns, the reads as rows,
+          and for each cell but `.` an arrow to the stage of the read
   FILE    the job; without it, standard input is read
 
 A cell says what an older instruction in that stage has for the read:
@@ -138,6 +150,24 @@ A cell says what an older instruction in that stage has for the read:
   .       the read takes no value from that stage
 ";
 
+/// The help of `stalls`.
+pub const HELP_STALLS: &str =
+    "Prints why instructions wait in N cycles of the pipelined machine of a job: a
+line for each instruction that waits in a cycle, the oldest first, and one for
+each guess that is found wrong. Below them are the sums.
+
+usage: kpview stalls N [FILE]
+
+  N       the number of cycles, 0 to 100000
+  FILE    the job; without it, standard input is read
+
+An instruction waits for a value or for the stage ahead, is held from outside, or
+waits and is squashed in a later cycle. A wait for a value is told with what is
+read, the line of the read, and the nearest older instruction that writes it or
+may write it; in a job with guesses, only of an instruction that retires in
+these N cycles.
+";
+
 /// The help on a topic.
 pub fn help_of(topic: Topic) -> &'static str
     ensures { result.now ≡ help_text topic }
@@ -148,6 +178,7 @@ pub fn help_of(topic: Topic) -> &'static str
         Topic::Of(Word::Svg) => HELP_SVG,
         Topic::Of(Word::Page) => HELP_PAGE,
         Topic::Of(Word::Paths) => HELP_PATHS,
+        Topic::Of(Word::Stalls) => HELP_STALLS,
     }
 }
 
@@ -161,6 +192,7 @@ pub fn usage_of(topic: Topic) -> &'static str
         Topic::Of(Word::Svg) => USAGE_SVG,
         Topic::Of(Word::Page) => USAGE_PAGE,
         Topic::Of(Word::Paths) => USAGE_PATHS,
+        Topic::Of(Word::Stalls) => USAGE_STALLS,
     }
 }
 

@@ -4,17 +4,20 @@ ghost use Rattle.std.specs.List.{list_any, list_all};
 ghost use Rattle.std.specs.Option.{option_map_or};
 ghost use Rattle.kp_view_words.specs.Asked.{asked, file_asked, order_seen, task_seen};
 ghost use Rattle.kp_base.specs.Characters.{is_word};
-ghost use Rattle.kp_view_words.specs.Words.{asked_for, names_for, topic_of, topic_named, help_place, is_help_word, is_help_flag, is_version_flag, begins_with_dash, asks_help, task_of, task_with, with_file, run_in, run_with, word_named, count_of, names_in, file_in, is_file_after, is_name, is_path};
+ghost use Rattle.kp_view_words.specs.Words.{asked_for, names_for, topic_of, topic_named, help_place, is_help_word, is_help_flag, is_version_flag, begins_with_dash, asks_help, task_of, task_with, stalls_with, with_file, flagged_task, asks_picture, run_in, run_with, word_named, count_of, names_in, file_in, is_file_after, is_name, is_path};
 ghost use Rattle.kp_view_words.specs.inner.Asking.{run_asked};
 
 use crate::matching::word_of;
-use crate::task::{Order, Run, Task};
+use crate::task::{Cycles, Order, Run, Task};
 use kp_base::{NoMemory, is_word};
 use kp_bits::read_number;
 use std::alloc::Global;
 
 /// The greatest number of cycles that are drawn.
 const MOST_DRAWN: u32 = 1_000;
+
+/// The greatest number of cycles that are listed.
+const MOST_LISTED: u32 = 100_000;
 
 /// The greatest length of a stage's name, in bytes.
 const MOST_NAME: usize = 8;
@@ -30,6 +33,8 @@ pub enum Word {
     Page,
     /// `paths`: where each read can take its value from.
     Paths,
+    /// `stalls`: why instructions wait or are squashed.
+    Stalls,
 }
 
 /// What help and usage are about: the program or one of its words.
@@ -85,7 +90,7 @@ impl<'w> Order<'w> {
     {
         match self {
             Order::Diagram(run) | Order::Svg(run) | Order::Page(run) => run.names,
-            Order::Paths => &[],
+            Order::Paths | Order::PathsSvg | Order::Stalls(_) => &[],
         }
     }
 }
@@ -112,6 +117,7 @@ impl Word {
             "svg" => Some(Word::Svg),
             "page" => Some(Word::Page),
             "paths" => Some(Word::Paths),
+            "stalls" => Some(Word::Stalls),
             _ => None,
         }
     }
@@ -189,12 +195,12 @@ fn asks_help(words: &[String]) -> bool
     help_place(words) == 1 || has_help_flag(words)
 }
 
-// What the words ask for. `None` if one of them begins with `-`, if the first is no word, or if those after it aren't words for it.
+// What the words ask for. `None` if the first is no word, or if those after it aren't words for it.
 fn task_of<'w>(alloc: Global, words: &'w [String]) -> Result<Option<Task<'w>>, NoMemory>
     ensures { IfOk result (λ task. option_map task_seen task ≡ task_of (map string_bytes words.now)) }
 {
     if has_dash(words) {
-        return Ok(None);
+        return Ok(flagged_task(words));
     }
     let Some(rest) = words.get(1..) else {
         return Ok(None);
@@ -232,7 +238,17 @@ fn task_with<'w>(word: Word, rest: &'w [String]) -> Option<Task<'w>>
             })
         }
         Word::Paths => with_file(Order::Paths, rest),
+        Word::Stalls => stalls_with(rest),
     }
+}
+
+// The stalls of a job: a number of cycles, with at most a file after it.
+fn stalls_with<'w>(rest: &'w [String]) -> Option<Task<'w>>
+    ensures { option_map task_seen result ≡ stalls_with (map string_bytes rest.now) }
+{
+    let (number, files) = rest.split_first()?;
+    let count = count_of(number.as_bytes(), MOST_LISTED)?;
+    with_file(Order::Stalls(Cycles { count }), files)
 }
 
 // What is to be written, with at most a file after it.
@@ -246,6 +262,28 @@ fn with_file<'w>(order: Order<'w>, rest: &'w [String]) -> Option<Task<'w>>
         order,
         file: rest.first(),
     })
+}
+
+// What words ask for one of which begins with `-`: `paths --svg`, with at most a file.
+fn flagged_task<'w>(words: &'w [String]) -> Option<Task<'w>>
+    ensures { option_map task_seen result ≡ flagged_task (map string_bytes words.now) }
+{
+    match words {
+        [word, flag, files @ ..] => {
+            if asks_picture(word.as_str(), flag.as_str()) && !has_dash(files) {
+                with_file(Order::PathsSvg, files)
+            } else {
+                None
+            }
+        }
+        _ => None,
+    }
+}
+
+fn asks_picture(word: &str, flag: &str) -> bool
+    ensures { result ≡ asks_picture word.now flag.now }
+{
+    word == "paths" && flag == "--svg"
 }
 
 // A run and a file.

@@ -7,7 +7,7 @@ use Rattle.kp_view_words.specs.declared.words.Word.{Word}
 
 -- The words.
 abbrev pub known_names : List Text
-known_names = codes "diagram" ∷ codes "svg" ∷ codes "page" ∷ codes "paths" ∷ []
+known_names = codes "diagram" ∷ codes "svg" ∷ codes "page" ∷ codes "paths" ∷ codes "stalls" ∷ []
 
 -- Up to 14 words follow.
 abbrev pub rest_rule : Rule

@@ -2,12 +2,13 @@ use Rattle.std.proofs.Common.{◌∙◌, sym, ap, map, string_bytes}
 use Rattle.std.proofs.lemmas.List.{drop-map}
 use Rattle.clap.proofs.WalkLemmas.{list_any-map}
 use Rattle.kp_view_words.specs.Words.{begins_with_dash, task_with}
-use Rattle.kp_view_words.proofs.Rests.{dash_none, rest_is, task_of_word}
+use Rattle.kp_view_words.proofs.Rests.{dash_flagged, rest_is, task_of_word}
 use Rattle.kp_view_words.proofs.words.task_of.Goals as goal
 
 pub returns-then-has_dash : goal.returns-then-has_dash
 returns-then-has_dash c =
-    dash_none (map string_bytes c.args.words.now)
+    c.flagged_task.ensures
+    ∙ dash_flagged (map string_bytes c.args.words.now)
     (sym (list_any-map begins_with_dash string_bytes c.args.words.now) ∙ sym c.has_dash.ensures ∙ c.if-has_dash.true)
 
 pub returns-in-Some-2 : goal.returns-in-Some-2
