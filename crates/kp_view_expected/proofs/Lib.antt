@@ -3,3 +3,5 @@ mod Transfer
 mod Sentences
 mod Machine
 mod Exact
+mod Listing
+mod Named

@@ -1,2 +1,3 @@
 pub mod GoesOn
+pub mod Texts
 pub mod inner

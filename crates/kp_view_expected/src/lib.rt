@@ -3,6 +3,7 @@
 
 mod display;
 mod goes_on;
+pub mod laws;
 mod part;
 mod rest;
 mod set;
