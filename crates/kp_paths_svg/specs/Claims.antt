@@ -1,0 +1,16 @@
+-- WHAT THE ARROWS SAY: they are the cells of the table of kp_paths.
+use Rattle.std.specs.Prelude.{◌≡◌, ◌<◌, ℕ, true}
+use Rattle.std.specs.List.{Contains}
+use Rattle.kp_ast.specs.declared.tree.Job.{Job}
+use Rattle.kp_ast.specs.declared.tree.ReadStmt.{ReadStmt}
+use Rattle.kp_paths.specs.Table.{cell_at}
+use Rattle.kp_paths_svg.specs.Arrows.{Arrow, arrows, is_shown}
+
+-- In the row of each read in stage k:
+pub record ShowsCells (job : Job) : Type 0 where
+  -- where the table has `bypass`, `maybe`, `wait` or `guess` for a stage, there is an arrow from it that shows this cell
+  pub all : (r : ReadStmt) (k j : ℕ) → j < job.stages.value → is_shown (cell_at job r k j) ≡ true
+      → Contains (arrows job r k) (record { stage = j; cell = cell_at job r k j })
+  -- and there is no other arrow: each is from a stage for which the table has that cell
+  pub only : (r : ReadStmt) (k : ℕ) (a : Arrow) → Contains (arrows job r k) a
+      → (a.stage < job.stages.value) × (is_shown a.cell ≡ true) × (cell_at job r k a.stage ≡ a.cell)

@@ -1,0 +1,4 @@
+pub mod Arrows
+pub mod Claims
+pub mod Places
+pub mod Picture
