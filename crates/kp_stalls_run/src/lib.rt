@@ -1,0 +1,13 @@
+//! From a job to the lines that tell why the instructions of its run wait and are squashed.
+//!
+//! `specs/Runs.antt` defines the lines of a job, over the rows of its pipelined machine and the values of its sequential machine. All memory is
+//! allocated before anything is written, and out of memory is the only error.
+#![tactic(auto)]
+
+pub mod laws;
+mod reach;
+mod run;
+mod samples;
+mod stages;
+
+pub use run::stalls_of;

@@ -1,0 +1,4 @@
+pub mod Labels
+pub mod Text
+pub mod Reports
+pub mod inner
