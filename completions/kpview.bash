@@ -20,10 +20,10 @@ _kpview() {
     fi
     compopt +o default 2>/dev/null
     case $count in
-        0) COMPREPLY=($(compgen -W 'diagram svg page paths explain help --help --version' -- "$cur")) ;;
+        0) COMPREPLY=($(compgen -W 'diagram svg page paths stalls explain help --help --version' -- "$cur")) ;;
         1)
             case ${COMP_WORDS[1]} in
-                paths) compopt -o default 2>/dev/null ;;
+                paths) COMPREPLY=($(compgen -f -W '--svg' -- "$cur")) ;;
                 explain) COMPREPLY=($(compgen -f -W '--werror --help asm debug' -- "$cur")) ;;
                 *) COMPREPLY=($(compgen -W '10 20 50 100 1000' -- "$cur")) ;;
             esac

@@ -7,12 +7,14 @@ function __kpview_argument -a place
 end
 
 complete -c kpview -n '__kpview_argument 1' -f
-complete -c kpview -n '__kpview_argument 1' -k -a paths -d 'Print where each read takes its value from'
+complete -c kpview -n '__kpview_argument 1' -k -a paths -d 'Show where each read takes its value from'
 complete -c kpview -n '__kpview_argument 1' -k -a page -d 'Write N cycles with their states as a page of HTML'
 complete -c kpview -n '__kpview_argument 1' -k -a svg -d 'Draw N cycles of the pipeline as a picture'
 complete -c kpview -n '__kpview_argument 1' -k -a diagram -d 'Print N cycles of the pipeline as text'
+complete -c kpview -n '__kpview_argument 1' -k -a stalls -d 'Say why each instruction waits'
 complete -c kpview -n '__kpview_argument 1' -k -a explain -d 'Say why a job is rejected, and warn'
 complete -c kpview -n '__kpview_argument 2; and not __fish_seen_subcommand_from paths explain' -f -k -a '10 20 50 100 1000' -d 'Cycles, 0 to 1000'
+complete -c kpview -n '__kpview_argument 2; and __fish_seen_subcommand_from paths' -k -a '--svg'
 complete -c kpview -n '__kpview_argument 2; and __fish_seen_subcommand_from explain' -k -a '--werror asm debug'
 complete -c kpview -s h -l help -d 'Print help'
 complete -c kpview -s V -l version -d 'Print the version'

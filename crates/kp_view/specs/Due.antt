@@ -7,7 +7,7 @@ use Rattle.kp_base.specs.declared.refusal.Refusal.{Refusal}
 use Rattle.kp_ast.specs.declared.tree.Job.{Job}
 use Rattle.kp_frontend.specs.Judging.{Judges}
 use Rattle.kp_view_words.specs.Texts.{help_text, usage_text, version_text}
-use Rattle.kp_view_words.specs.Words.{Asked, Order, Run, Task, bad_words, help, version, show, diagram, svg, page, paths, names_for}
+use Rattle.kp_view_words.specs.Words.{Asked, Order, Run, Task, bad_words, help, version, show, diagram, svg, page, paths, paths_svg, stalls, names_for}
 use Rattle.kp_pipeline.specs.Rows.{Row}
 use Rattle.kp_diagram_text.specs.Charts.{are_names}
 use Rattle.kp_diagram_text.specs.Figures.{Figure}
@@ -21,6 +21,12 @@ use Rattle.kp_page.specs.States.{states_text}
 use Rattle.kp_page_text.specs.Page.{page as page_text}
 use Rattle.kp_paths.specs.Claims.{ArePaths}
 use Rattle.kp_paths.specs.Text.{paths_text}
+use Rattle.kp_paths_svg.specs.Claims.{ShowsCells}
+use Rattle.kp_paths_svg.specs.Picture.{paths_svg_text}
+use Rattle.kp_stalls_run.specs.Claims.{TellCauses}
+use Rattle.kp_stalls_run.specs.Runs.{job_stalls}
+use Rattle.kp_stalls_text.specs.Labels.{labels_from}
+use Rattle.kp_stalls_text.specs.Text.{stalls_text}
 use Rattle.kp_view.specs.Texts.{names_text, refusal_text}
 
 -- exactly this status and this text
@@ -40,6 +46,8 @@ order_text (diagram run) input job = diagram_text (figure_drawn run job)
 order_text (svg run) input job = picture (figure_drawn run job) (rows_drawn run job)
 order_text (page run) input job = page_text (figure_drawn run job) (rows_drawn run job) input (paths_text job) (states_text job run.count)
 order_text paths input job = paths_text job
+order_text paths_svg input job = paths_svg_text job
+order_text (stalls count) input job = stalls_text (labels_from job.blocks) (job_stalls count job)
 
 -- What the states that a page records of n cycles and the end after them tell: the value of a word in a cycle is the one that was listed last, or 0 if
 -- none was.
@@ -47,12 +55,15 @@ abbrev pub TellsStates : Job → ℕ → Type 0
 TellsStates job n = (T t a : ℕ) → listed_last (pipe_of job (inputs_from job 0 n)).visible T t a ≡ (pipe_of job (inputs_from job 0 n)).visible T t a
 
 -- What that text shows. Of a diagram: the fetches, cells, marks and the account in it are those of the run, and the laws of the diagram hold of them.
--- Of the table of paths: its cells say where the reads take their values from, in each state of each run. A page has both, and tells the states.
+-- Of the table of paths: its cells say where the reads take their values from, in each state of each run. The arrows of its picture are these cells. A page
+-- has a diagram and the table, and tells the states.
 abbrev pub IsShown : Order → Job → Type 0
 IsShown (diagram run) job = ShowsRun job run.count (figure_drawn run job)
 IsShown (svg run) job = ShowsRun job run.count (figure_drawn run job)
 IsShown (page run) job = ShowsRun job run.count (figure_drawn run job) × ArePaths job × TellsStates job run.count
 IsShown paths job = ArePaths job
+IsShown paths_svg job = ArePaths job × ShowsCells job
+IsShown (stalls count) job = TellCauses job count
 
 abbrev pub Draws : Order → List ℕ → Job → ℕ → List ℕ → Type 0
 Draws order input job status text = (status ≡ 0) × (text ≡ order_text order input job) × IsShown order job

@@ -9,6 +9,8 @@ use crate::diagram::diagram;
 use crate::failure::{Complaint, Failure};
 use crate::page::page;
 use crate::paths::paths;
+use crate::paths_svg::paths_svg;
+use crate::stalls::stalls;
 use crate::svg::svg;
 use kp_base::Sink;
 use kp_diagram_run::laws::a_figure_shows_the_run;
@@ -16,6 +18,8 @@ use kp_diagram_text::are_names;
 use kp_frontend::{Accepted, judge};
 use kp_page::laws::listed_words_tell_the_states;
 use kp_paths::laws::the_cells_are_the_paths;
+use kp_paths_svg::laws::the_arrows_are_the_cells;
+use kp_stalls_run::laws::the_lines_tell_causes;
 use kp_view_words::{Order, Task};
 use std::alloc::Global;
 
@@ -67,11 +71,15 @@ fn drawn<K: Sink>(
 {
     a_figure_shows_the_run(job);
     the_cells_are_the_paths();
+    the_arrows_are_the_cells();
     listed_words_tell_the_states();
+    the_lines_tell_causes(job);
     match &task.order {
         Order::Diagram(run) => diagram(alloc, run, job, out),
         Order::Svg(run) => svg(alloc, run, job, out),
         Order::Page(run) => page(alloc, run, input, job, out),
         Order::Paths => paths(alloc, job, out),
+        Order::PathsSvg => paths_svg(alloc, job, out),
+        Order::Stalls(cycles) => stalls(alloc, cycles.count, job, out),
     }
 }

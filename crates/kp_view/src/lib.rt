@@ -13,7 +13,9 @@ mod failure;
 mod job;
 mod page;
 mod paths;
+mod paths_svg;
 mod sentences;
+mod stalls;
 mod svg;
 
 ghost use Rattle.std.specs.Prelude.{◌≡◌, ◌≢◌, ◌⊎◌, List, ℕ, false, None, IfSome};

@@ -14,7 +14,7 @@ pub const USAGE: &str = "usage: kpview diagram N [NAMES] [FILE]
        kpview paths [--svg] [FILE]
        kpview stalls N [FILE]
        kpview explain [--werror] [FILE]
-       kpview explain asm|debug|read|watch [FILE]
+       kpview explain asm|debug [FILE]
        kpview --help
 ";
 
@@ -54,8 +54,7 @@ words:
   paths [--svg] [FILE]       where each read takes its value from
   stalls N [FILE]            why instructions wait or are squashed
   explain [--werror] [FILE]  why the job is rejected, and warnings
-  explain asm|debug|read|watch [FILE]
-                             why another input of kp is rejected
+  explain asm|debug [FILE]   why another input of kp is rejected
 
 The job is read from FILE, or from standard input.
 

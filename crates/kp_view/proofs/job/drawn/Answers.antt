@@ -4,9 +4,15 @@ use Rattle.kp_diagram_svg.specs.Picture.{picture}
 use Rattle.kp_machine.specs.Machine.{inputs_from, pipe_of}
 use Rattle.kp_page.specs.States.{states_text}
 use Rattle.kp_page_text.specs.Page.{page as page_text}
+use Rattle.kp_paths.specs.Claims.{ArePaths}
 use Rattle.kp_paths.specs.Text.{paths_text}
+use Rattle.kp_paths_svg.specs.Claims.{ShowsCells}
+use Rattle.kp_paths_svg.specs.Picture.{paths_svg_text}
+use Rattle.kp_stalls_run.specs.Runs.{job_stalls}
+use Rattle.kp_stalls_text.specs.Labels.{labels_from}
+use Rattle.kp_stalls_text.specs.Text.{stalls_text}
 use Rattle.kp_view_words.specs.Asked.{order_seen, run_seen, task_seen}
-use Rattle.kp_view_words.specs.Words.{diagram, svg, page, paths}
+use Rattle.kp_view_words.specs.Words.{diagram, svg, page, paths, paths_svg, stalls}
 use Rattle.kp_view.specs.Due.{Draws, figure_drawn, rows_drawn}
 use Rattle.kp_view.proofs.Ends.{drawn_as, said}
 use Rattle.kp_view.proofs.job.drawn.Goals as goal
@@ -47,3 +53,19 @@ returns-in-Paths g c =
     let job = c.args.job.now.design.job in
     said g.K.Sink.held g.K.Sink.faults task.file None ⊥ (Draws task.order c.args.input.now job) (paths_text job)
     (drawn_as task.order paths c.args.input.now job _ (ap order_seen c.in-Paths.is) refl (c.the_cells_are_the_paths.ensures job)) _ _ _ c.paths.ensures
+
+pub returns-in-PathsSvg : goal.returns-in-PathsSvg
+returns-in-PathsSvg g c =
+    let task = task_seen c.args.task.now in
+    let job = c.args.job.now.design.job in
+    let shown : ArePaths job × ShowsCells job = (c.the_cells_are_the_paths.ensures job, c.the_arrows_are_the_cells.ensures job) in
+    said g.K.Sink.held g.K.Sink.faults task.file None ⊥ (Draws task.order c.args.input.now job) (paths_svg_text job)
+    (drawn_as task.order paths_svg c.args.input.now job _ (ap order_seen c.in-PathsSvg.is) refl shown) _ _ _ c.paths_svg.ensures
+
+pub returns-in-Stalls : goal.returns-in-Stalls
+returns-in-Stalls g c =
+    let task = task_seen c.args.task.now in
+    let job = c.args.job.now.design.job in
+    let count = c.in-Stalls.cycles.count in
+    said g.K.Sink.held g.K.Sink.faults task.file None ⊥ (Draws task.order c.args.input.now job) (stalls_text (labels_from job.blocks) (job_stalls count job))
+    (drawn_as task.order (stalls count) c.args.input.now job _ (ap order_seen c.in-Stalls.is) refl (c.the_lines_tell_causes.ensures count)) _ _ _ c.stalls.ensures
