@@ -17,7 +17,7 @@ use kp_cycle::Sim;
 use kp_frontend::Accepted;
 use kp_run::step;
 
-/// Writes the states of `count` cycles, and of the end after them. Both simulators are in the start state; the first of them is one cycle behind the other.
+/// Writes the states of `count` cycles, and the state after the last one. Both simulators are in the start state; the first of them is one cycle behind the other.
 /// `room` is a buffer for the sample values, with one entry for each sample.
 #[tactic(auto, using(kp_base::proofs::Bytes::writes_next, kp_base::proofs::Bytes::part_more))]
 pub(crate) fn write_states<K: Sink>(

@@ -91,7 +91,7 @@ retires_by _ = false
 abbrev pub has_guess : List Site → Bool
 has_guess sites = list_any (λ (site : Site). site.guessed) sites
 
--- What an instruction waits for is told if no wrong guess can have brought it or an older one there: the job has no guess, or the instruction retires;
+-- The read for which an instruction waits is named if no wrong guess can have fetched it or an older one: the job has no guess, or the instruction retires;
 -- and if the samples of its stage have the values that it takes.
 abbrev pub is_told : Sited → Stage → Bool
 is_told s x = x.settled && (retires_by x.fate || not (has_guess s.reads))

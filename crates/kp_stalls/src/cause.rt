@@ -2,7 +2,7 @@
 
 use kp_bits::Bits;
 
-/// What is told of an instruction in a cycle: its number and its stage, and why it waits or is squashed.
+/// A line about an instruction in a cycle: its number and its stage, and why it waits or is squashed.
 #[derive(Clone, Copy)]
 pub struct Line {
     pub cycle: usize,
@@ -16,7 +16,7 @@ pub struct Line {
 pub enum Cause {
     /// It waits for the value of a read.
     Value(Wait),
-    /// It waits for a value, and which one isn't told: the job has guesses and the instruction doesn't retire in the run, or no read is unmet by the values
+    /// It waits for a value that isn't named: the job has guesses and the instruction doesn't retire in the run, or no read is unmet by the values
     /// that the sequential machine has.
     Unsure,
     /// It waits for the stage ahead.

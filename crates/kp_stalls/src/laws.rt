@@ -53,7 +53,7 @@ pub fn each_wait_of_a_run_has_its_cause()
     the_pipeline_waits_only_where_it_must();
 }
 
-/// Where a wait is told of an instruction on the right path, it is such a cause: the stage that is named is the nearest that may write what is read, and isn't
+/// A wait that a line names, of an instruction on the right path, is such a cause: the stage that is named is the nearest that may write what is read, and isn't
 /// ready.
 pub fn each_wait_that_is_told_is_a_cause()
     ensures { (job : Job) (hints : ℕ → ℕ) (ins : List Inputs) (T : ℕ) (i : Inputs) (r : Row) (stages : List Stage) (k : ℕ) (w : Wait)
@@ -68,7 +68,7 @@ pub fn each_wait_that_is_told_is_a_cause()
     the_pipeline_waits_only_where_it_must();
 }
 
-/// A wait that is found is told of its stage, if it isn't squashed in this cycle or later, isn't held from outside, doesn't wait for the stage
+/// A wait that is found is the cause of its stage, if it isn't squashed in this cycle or later, isn't held from outside, doesn't wait for the stage
 /// ahead, its samples have the values that its instruction takes, and this instruction retires or the job has no guess.
 pub fn a_wait_is_told()
     ensures { (s : Sited) (occupants : List Seen) (k : ℕ) (w : Wait)

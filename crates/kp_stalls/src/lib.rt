@@ -2,7 +2,7 @@
 //!
 //! `specs/Causes.antt` defines the cause of a wait or a squash, from what the stages show in a cycle (`specs/Occupants.antt`) and from what the sequential
 //! machine reports of the instructions in them; `specs/Cycles.antt` defines the lines of a run. `Window` runs the sequential machine, and stores
-//! what it reported of the last sixteen instructions: a run is told with memory for its lines, and for no more instructions than the stages hold.
+//! what it reported of the last sixteen instructions: a run needs memory for its lines, and for no more instructions than the stages hold.
 #![tactic(auto)]
 
 mod cause;

@@ -180,7 +180,7 @@ fn first(sites: &Sites, occupants: &Occupants<'_>, k: usize) -> Option<Wait>
     None
 }
 
-// Whether it is told what an instruction waits for.
+// Whether the read for which an instruction waits is named.
 fn is_told(sites: &Sites, stage: Stage) -> bool
     ensures { result ≡ is_told_in sites.now stage }
 {

@@ -15,7 +15,7 @@ use Rattle.kp_stalls_run.specs.Runs.{given_in, job_stalls}
 abbrev pub moment_in : ℕ → Job → ℕ → Moment
 moment_in n job T = run_moment job (start_hints job) (inputs_from job 0 n) T
 
--- What is told of the instruction of a line: in the cycle of the line it is in the stage of the line. And if the line names a wait, and in that cycle no
+-- What a line claims of its instruction: in the cycle of the line it is in the stage of the line. And if the line names a wait, and in that cycle no
 -- guess is wrong from this stage on, the wait has this cause: the stage that is named is the nearest that may write what is read, and isn't ready.
 pub record IsTrueOf (job : Job) (n : ℕ) (l : Line) : Type 0 where
   pub cycle : l.cycle < n

@@ -7,7 +7,7 @@ use kp_frontend::Accepted;
 use kp_machine_laws::laws::a_design_is_accepted;
 use kp_stalls::laws::each_wait_that_is_told_is_a_cause;
 
-/// Each line of a job tells of an instruction that is in this stage in this cycle; and a wait that it names on the right path has this cause.
+/// Each line of a job is about the instruction that is in this stage in this cycle; and a wait that it names on the right path has this cause.
 pub fn the_lines_tell_causes(job: &Accepted)
     ensures { (n : ℕ) → TellCauses job.now.design.job n }
 {

@@ -1,4 +1,4 @@
-//! From a job to the lines that tell why the instructions of its run wait and are squashed.
+//! From a job to the lines that say why the instructions of its run wait and are squashed.
 //!
 //! `specs/Runs.antt` defines the lines of a job, over the rows of its pipelined machine and the values of its sequential machine. All memory is
 //! allocated before anything is written, and out of memory is the only error.

@@ -1,4 +1,4 @@
--- What is told of a run: the labels of the reads, the lines, and for each read how many of them wait for it.
+-- The report of a run: the labels of the reads, the lines, and for each read how many of them wait for it.
 use Rattle.std.specs.Prelude.{◌≡◌, ℕ, ◌<◌, List, length, get_or}
 use Rattle.kp_stalls.specs.declared.cause.Line.{Line}
 use Rattle.kp_stalls_text.specs.Labels.{Labelled}

@@ -49,7 +49,7 @@ source_text l w = place_text l w.address ++ (line_number l.line ++ writer_text w
 abbrev pub value_text : List Labelled → ℕ → Wait → List ℕ
 value_text labels k w = waits_text k (codes " for ") ++ source_text (label_at labels w.read) w
 
--- A ROLLBACK: the guess that is wrong, with its value where it is told, and what makes the value of the register, if it isn't there already
+-- A ROLLBACK: the guess that is wrong, with its value where it is known, and what makes the value of the register, if it isn't there already
 unfoldable pub guessed_text : List ℕ → Option Word → List ℕ
 guessed_text name None = codes "guessed " ++ (name ++ codes " wrong")
 guessed_text name (Some v) = codes "guessed " ++ (name ++ (codes " = " ++ spelling v))

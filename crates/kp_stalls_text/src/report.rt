@@ -1,4 +1,4 @@
-// What is told of a run.
+// The lines of a run with what their text needs.
 ghost use Rattle.std.specs.Prelude.{◌≡◌, ℕ, ◌+◌, ◌-◌, ◌<◌, ◌^◌, ◌==◌, IfOk, cond, get_or, length};
 ghost use Rattle.kp_stalls_text.specs.Labels.{labels_from};
 ghost use Rattle.kp_stalls_text.specs.Reports.{AreWaits};

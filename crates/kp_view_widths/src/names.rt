@@ -18,6 +18,8 @@ pub(crate) struct Known {
 }
 
 impl Known {
+    /// A name of this kind that is declared in this line: the width of its values in bits, if it is known, and the number of its
+    /// declaration.
     pub fn new(kind: Kind, width: Option<u8>, line: u32, from: usize) -> Known {
         Known {
             kind,
@@ -48,6 +50,7 @@ pub(crate) struct Names {
 }
 
 impl Names {
+    /// No names. Allocates nothing.
     pub fn new(alloc: Global) -> Names {
         Names {
             text: Table::new(alloc),
@@ -63,6 +66,7 @@ impl Names {
         self.position = position;
     }
 
+    /// What is known of a name, if it is declared.
     pub fn find(&self, name: &Name) -> Option<Known> {
         match self.local.get(name) {
             Some(known) => Some(known),
