@@ -311,6 +311,93 @@ module _ (r : Words) (n g : Span) (fs : List Span) (w : Span) (slots : List Slot
         ∙ ap (λ (b : Bool). cond b (Some (state_in r (moved w target.span g) (map (moved w target.span) fs))) None) on
         ∙ ap (λ (st : State). Some st) (sym state_loaded)
 
+-- a word of a span
+word_at : (r : Words) (s : Span) (i : ℕ) → i < s.len → get_or (span_words r s) i 0 ≡ get_or r.words (s.start + i) 0
+word_at r s i l = get_or-between r.words s.start (s.start + s.len) i 0 (omega arith)
+
+-- the first registers copied to the first nodes
+module _ (r : Words) (n g : Span) (fs : List Span) (w : Span) (slots : List Slot) (h : Laid r n g fs w slots) (count : ℕ) (few_nodes : count ≤ n.len) (few_regs : count ≤ g.len) where
+  abbrev source : Span
+  source = record { start = g.start; len = count }
+
+  abbrev place : Span
+  place = record { start = n.start; len = count }
+
+  abbrev shown : Words
+  shown = copied r source place
+
+  place_inside : IsInside place n
+  place_inside = (omega arith, omega arith)
+
+  regs_beside : IsDisjoint g n
+  regs_beside = other_way n g (h.apart.apart 0 1 (omega arith) (omega arith))
+
+  pub source_within : IsWithin source r
+  source_within = let x = h.apart.within 1 (omega arith) in omega (arith, x)
+
+  pub place_within : IsWithin place r
+  place_within = let x = h.apart.within 0 (omega arith) in omega (arith, x)
+
+  beside_place : (t : Span) → IsDisjoint t n → IsDisjoint t place
+  beside_place t apart = other_way place t (within_disjoint place n t place_inside (other_way t n apart))
+
+  pub source_beside : IsDisjoint source place
+  source_beside = beside_place source (within_disjoint source g n (omega arith, omega arith) regs_beside)
+
+  shown_keeps : (t : Span) → IsDisjoint t place → Keeps r shown t
+  shown_keeps = copied_keeps r source place h.apart.sound source_within place_within refl
+
+  pub laid_shown : Laid shown n g fs w slots
+  laid_shown = laid_still r n g fs w slots h shown refl (length_copied r source place h.apart.sound source_within place_within refl)
+
+  pub regs_shown : span_words shown g ≡ span_words r g
+  regs_shown = shown_keeps g (beside_place g regs_beside) g (omega arith, omega arith)
+
+  pub files_shown : map (span_words shown) fs ≡ map (span_words r) fs
+  files_shown = map_alike (span_words shown) (span_words r) fs no_span
+      (λ k l. let s : Span = get_or fs k no_span in
+      let apart : IsDisjoint n s = h.apart.apart 0 (suc (suc k)) (omega arith) (omega arith) in
+      shown_keeps s (beside_place s (other_way n s apart)) s (omega arith, omega arith))
+
+  pub slots_shown : map (held shown g fs w) slots ≡ map (held r g fs w) slots
+  slots_shown = slots_stay r n g fs w slots h shown (λ k there. shown_keeps (get_or slots k no_slot).span (beside_place (get_or slots k no_slot).span (beside_nodes r n g fs w slots h k there)))
+
+  pub count_shown : length (span_words shown n) ≡ length (span_words r n)
+  count_shown =
+      span_length shown n laid_shown.apart.sound (laid_shown.apart.within 0 (omega arith)) ∙ sym (span_length r n h.apart.sound (h.apart.within 0 (omega arith)))
+
+  place_shown : span_words shown place ≡ span_words r source
+  place_shown =
+      let e : n.start ≡ n.start + (g.start - g.start) = omega arith in
+      ap (λ (a : ℕ). span_words shown (record { start = a; len = count })) e
+      ∙ copied_lands r source place h.apart.sound source_within place_within refl source (omega arith, omega arith)
+
+  pub front_shown : (i : ℕ) → i < count → get_or (span_words shown n) i 0 ≡ get_or (span_words r g) i 0
+  front_shown i l =
+      word_at shown n i (omega arith)
+      ∙ sym (word_at shown place i l)
+      ∙ ap (λ (ws : List ℕ). get_or ws i 0) place_shown
+      ∙ word_at r source i l
+      ∙ sym (word_at r g i (omega arith))
+
+  pub rest_shown : (i : ℕ) → count ≤ i → get_or (span_words shown n) i 0 ≡ get_or (span_words r n) i 0
+  rest_shown i m =
+      let u : Span = record { start = n.start + i; len = 1 } in
+      let e : n.start + i ≡ n.start + i + 0 = omega arith in
+      ⊎_elim
+      (λ (l : i < n.len).
+      word_at shown n i l
+      ∙ ap (λ (k : ℕ). get_or shown.words k 0) e
+      ∙ sym (word_at shown u 0 (omega arith))
+      ∙ ap (λ (ws : List ℕ). get_or ws 0 0) (shown_keeps u (inr (omega arith)) u (omega arith, omega arith))
+      ∙ word_at r u 0 (omega arith)
+      ∙ ap (λ (k : ℕ). get_or r.words k 0) (sym e)
+      ∙ sym (word_at r n i l))
+      (λ (l : n.len ≤ i).
+      let there : length (span_words r n) ≡ n.len = span_length r n h.apart.sound (h.apart.within 0 (omega arith)) in
+      get_or_past (span_words shown n) i 0 (omega (arith, count_shown, there)) ∙ sym (get_or_past (span_words r n) i 0 (omega (arith, there))))
+      (cases_lt i n.len)
+
 -- two spans side by side
 within_two : (r : Words) (n w : Span) → IsWithin n r → IsWithin w r → (k : ℕ) → k < 2 → IsWithin (get_or (n ∷ w ∷ []) k no_span) r
 within_two r n w a b zero l = a

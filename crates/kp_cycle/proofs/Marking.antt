@@ -1,8 +1,8 @@
 -- Marks of nodes, and lists in which operands come first.
-use Rattle.std.proofs.Common.{◌≡◌, ℕ, Bool, true, false, true≢false, ◌+◌, ◌<◌, ◌≤◌, List, [], ◌∷◌, ◌++◌, length, get_or, set, map, take, ◌-◌, refl, sym, subst, ap, ◌∙◌, arith, ⊎_elim, inl, inr}
+use Rattle.std.proofs.Common.{◌≡◌, ℕ, Bool, true, false, true≢false, ◌+◌, ◌<◌, ◌≤◌, List, [], ◌∷◌, ◌++◌, length, get_or, set, map, take, replicate, ◌-◌, refl, sym, subst, ap, ◌∙◌, arith, ⊎_elim, inl, inr}
 use Rattle.std.specs.Prelude.{All}
 use Rattle.std.proofs.lemmas.Bool.{cases_lt}
-use Rattle.std.proofs.lemmas.List.{get_or-set_other, length-set, get_or_append_left, get_or_push, length_push, get_or_past, get_or-map, length-take-le, take_more, map-append}
+use Rattle.std.proofs.lemmas.List.{get_or-set_other, length-set, get_or_append_left, get_or_push, length_push, get_or_past, get_or-map, get_or-replicate, length-replicate, length-take-le, take_more, map-append}
 use Rattle.std.proofs.lemmas.Grind.{get_or-set_at}
 use Rattle.std.proofs.Math.Seq.{take-length}
 use Rattle.std.proofs.lemmas.List.Elements.{All-nil, All-cons}
@@ -12,7 +12,7 @@ use Rattle.kp_net.specs.declared.node.Kind.TheVariants.{Const, Ext, Sample, Reg,
 use Rattle.kp_net.specs.declared.node.Node.{Node}
 use Rattle.kp_net.specs.Netlist.{Net}
 use Rattle.kp_net.specs.Widths.{no_node, AllRight, KindOk}
-use Rattle.kp_cycle.specs.inner.Plans.{reads, reads_at, IsMarked, Grows, Among, IsOrdered, OfRoots, Needed, Taken, IsPlan, HasCode, targets, step_for, by_node, no_step}
+use Rattle.kp_cycle.specs.inner.Plans.{reads, reads_at, IsMarked, Grows, Among, IsKnown, Leads, IsOrdered, OfRoots, Needed, Taken, IsPlan, HasCode, targets, step_for, by_node, no_step}
 use Rattle.kp_cycle.specs.declared.codes.Step.{Step}
 use Rattle.kp_cycle.proofs.Clocking.{length_map}
 use Rattle.kp_cycle.proofs.Stepping.{same_or_not, roots_are}
@@ -68,44 +68,56 @@ among_more ts t j a =
 pub among_last : (ts : List ℕ) (t j : ℕ) → j ≡ t → Among (ts ++ t ∷ []) (length (ts ++ t ∷ [])) j
 among_last ts t j e = (length ts, omega (arith, length_push ts t), get_or_push ts t 0 (length ts) refl ∙ sym e)
 
-pub ordered_more : (ns : List Node) (ts : List ℕ) (t : ℕ) → IsOrdered ns ts → t < length ns → All (λ a. Among ts (length ts) a.0) (reads_at ns t) → IsOrdered ns (ts ++ t ∷ [])
-ordered_more ns ts t o h ready =
+known_kept : (heads : ℕ) (ts : List ℕ) (t k j : ℕ) → k ≤ length ts → IsKnown heads ts k j → IsKnown heads (ts ++ t ∷ []) k j
+known_kept heads ts t k j h known = ⊎_elim (λ (first : j < heads). inl first) (λ (a : Among ts k j). inr (among_kept ts t k j h a)) known
+
+known_more : (heads : ℕ) (ts : List ℕ) (t j : ℕ) → IsKnown heads ts (length ts) j → IsKnown heads (ts ++ t ∷ []) (length (ts ++ t ∷ [])) j
+known_more heads ts t j known = ⊎_elim (λ (first : j < heads). inl first) (λ (a : Among ts (length ts) j). inr (among_more ts t j a)) known
+
+known_last : (heads : ℕ) (ts : List ℕ) (t j : ℕ) → j ≡ t → IsKnown heads (ts ++ t ∷ []) (length (ts ++ t ∷ [])) j
+known_last heads ts t j e = inr (among_last ts t j e)
+
+pub ordered_more : (ns : List Node) (heads : ℕ) (ts : List ℕ) (t : ℕ) → IsOrdered ns heads ts → t < length ns → All (λ a. IsKnown heads ts (length ts) a.0) (reads_at ns t)
+    → IsOrdered ns heads (ts ++ t ∷ [])
+ordered_more ns heads ts t o h ready =
     let new : List ℕ = ts ++ t ∷ [] in
     let last : (k : ℕ) → length ts ≤ k → k < length new → k ≡ length ts = λ k a b. omega (arith, length_push ts t) in
     let at_last : (k : ℕ) → k ≡ length ts → get_or new k 0 ≡ t = λ k e. get_or_push ts t 0 k (sym e) in
     record {
+      heads = o.heads;
       inside = λ k l. ⊎_elim
           (λ (low : k < length ts). omega (arith, o.inside k low, get_or_append_left ts (t ∷ []) 0 k low))
           (λ (high : length ts ≤ k). omega (arith, h, at_last k (last k high l)))
           (cases_lt k (length ts));
       before = λ k l. ⊎_elim
           (λ (low : k < length ts).
-          let P : ℕ → Type 0 = λ x. All (λ a. Among new k a.0) (reads_at ns x) in
-          subst P (sym (get_or_append_left ts (t ∷ []) 0 k low)) (λ i d m. among_kept ts t k (get_or (reads_at ns (get_or ts k 0)) i d).0 (omega arith) (o.before k low i d m)))
+          let P : ℕ → Type 0 = λ x. All (λ a. IsKnown heads new k a.0) (reads_at ns x) in
+          subst P (sym (get_or_append_left ts (t ∷ []) 0 k low)) (λ i d m. known_kept heads ts t k (get_or (reads_at ns (get_or ts k 0)) i d).0 (omega arith) (o.before k low i d m)))
           (λ (high : length ts ≤ k).
           let e : k ≡ length ts = last k high l in
-          let P : ℕ → Type 0 = λ x. All (λ a. Among new k a.0) (reads_at ns x) in
-          let Q : ℕ → Type 0 = λ n. All (λ a. Among new n a.0) (reads_at ns t) in
-          subst P (sym (at_last k e)) (subst Q (sym e) (λ i d m. among_kept ts t (length ts) (get_or (reads_at ns t) i d).0 (omega arith) (ready i d m))))
+          let P : ℕ → Type 0 = λ x. All (λ a. IsKnown heads new k a.0) (reads_at ns x) in
+          let Q : ℕ → Type 0 = λ n. All (λ a. IsKnown heads new n a.0) (reads_at ns t) in
+          subst P (sym (at_last k e)) (subst Q (sym e) (λ i d m. known_kept heads ts t (length ts) (get_or (reads_at ns t) i d).0 (omega arith) (ready i d m))))
           (cases_lt k (length ts));
     }
 
--- the list of the marked nodes, as far as node i
-abbrev pub Listed : List Node → List Bool → ℕ → List ℕ → Type 0
-Listed ns marks i ts = IsOrdered ns ts × ((j : ℕ) → j < i → IsMarked marks j → Among ts (length ts) j)
+-- the list of the marked nodes after the heads, as far as node i
+abbrev pub Listed : List Node → ℕ → List Bool → ℕ → List ℕ → Type 0
+Listed ns heads marks i ts = IsOrdered ns heads ts × ((j : ℕ) → j < i → IsMarked marks j → IsKnown heads ts (length ts) j)
 
-pub listed_more : (ns : List Node) (marks : List Bool) (i : ℕ) (ts : List ℕ) → i < length ns → All (λ a. a.0 < i) (reads_at ns i) → All (λ a. IsMarked marks a.0) (reads_at ns i)
-    → Listed ns marks i ts → Listed ns marks (i + 1) (ts ++ i ∷ [])
-listed_more ns marks i ts h below operands old = (
-  ordered_more ns ts i old.0 h (λ q d l. old.1 (get_or (reads_at ns i) q d).0 (below q d l) (operands q d l)),
+pub listed_more : (ns : List Node) (heads : ℕ) (marks : List Bool) (i : ℕ) (ts : List ℕ) → i < length ns → All (λ a. a.0 < i) (reads_at ns i)
+    → All (λ a. IsMarked marks a.0) (reads_at ns i) → Listed ns heads marks i ts → Listed ns heads marks (i + 1) (ts ++ i ∷ [])
+listed_more ns heads marks i ts h below operands old = (
+  ordered_more ns heads ts i old.0 h (λ q d l. old.1 (get_or (reads_at ns i) q d).0 (below q d l) (operands q d l)),
   λ j l m. ⊎_elim
-      (λ (low : j < i). among_more ts i j (old.1 j low m))
-      (λ (high : i ≤ j). among_last ts i j (omega arith))
+      (λ (low : j < i). known_more heads ts i j (old.1 j low m))
+      (λ (high : i ≤ j). known_last heads ts i j (omega arith))
       (cases_lt j i),
 )
 
-pub listed_skip : (ns : List Node) (marks : List Bool) (i : ℕ) (ts : List ℕ) → get_or marks i false ≡ false → Listed ns marks i ts → Listed ns marks (i + 1) ts
-listed_skip ns marks i ts off old = (
+pub listed_skip : (ns : List Node) (heads : ℕ) (marks : List Bool) (i : ℕ) (ts : List ℕ) → get_or marks i false ≡ false → Listed ns heads marks i ts
+    → Listed ns heads marks (i + 1) ts
+listed_skip ns heads marks i ts off old = (
   old.0,
   λ j l m. ⊎_elim
       (λ (low : j < i). old.1 j low m)
@@ -132,9 +144,10 @@ targets_of : (ns : List Node) (ts : List ℕ) → targets (map (step_for ns) ts)
 targets_of ns [] = refl
 targets_of ns (t ∷ ts) = ap (λ (xs : List ℕ). t ∷ xs) (targets_of ns ts)
 
-pub plan_is : (net : Net) (ts : List ℕ) (steps : List Step) → 1 ≤ length ts → steps ≡ map (step_for net.nodes) (take (length ts - 1) ts) ++ by_node (get_or ts (length ts - 1) 0) ∷ []
-    → IsOrdered net.nodes ts → OfRoots net (Among ts (length ts)) → IsPlan net steps
-plan_is net ts steps some is ordered roots =
+pub plan_is : (net : Net) (heads : ℕ) (ts : List ℕ) (steps : List Step) → 1 ≤ length ts
+    → steps ≡ map (step_for net.nodes) (take (length ts - 1) ts) ++ by_node (get_or ts (length ts - 1) 0) ∷ []
+    → Leads net heads → IsOrdered net.nodes heads ts → OfRoots net (IsKnown heads ts (length ts)) → IsPlan net heads steps
+plan_is net heads ts steps some is leads ordered roots =
     let n : ℕ = length ts - 1 in
     let front : List ℕ = take n ts in
     let coded : List Step = map (step_for net.nodes) front in
@@ -144,12 +157,13 @@ plan_is net ts steps some is ordered roots =
     let all : front ++ get_or ts n 0 ∷ [] ≡ ts = sym (take_more ts n 0 (omega arith)) ∙ ap (λ (m : ℕ). take m ts) behind ∙ take-length ts in
     let same : targets steps ≡ ts = ap targets is ∙ map-append (λ (s : Step). s.target) coded (end ∷ []) ∙ ap (λ (xs : List ℕ). xs ++ get_or ts n 0 ∷ []) (targets_of net.nodes front) ∙ all in
     let size : length ts ≡ length steps = omega (arith, ap length is, length_push coded end, many, some) in
-    let P : List ℕ → Type 0 = IsOrdered net.nodes in
-    let Q : ℕ → Type 0 = λ m. OfRoots net (Among (targets steps) m) in
-    let R : List ℕ → Type 0 = λ xs. OfRoots net (Among xs (length ts)) in
+    let P : List ℕ → Type 0 = IsOrdered net.nodes heads in
+    let Q : ℕ → Type 0 = λ m. OfRoots net (IsKnown heads (targets steps) m) in
+    let R : List ℕ → Type 0 = λ xs. OfRoots net (IsKnown heads xs (length ts)) in
     let H : Step → Type 0 = HasCode net.nodes in
     let at_end : (k : ℕ) → k ≡ n → get_or steps k no_step ≡ end = λ k e. ap (λ (ss : List Step). get_or ss k no_step) is ∙ get_or_push coded end no_step k (many ∙ sym e) in
     record {
+      leads = leads;
       codes = λ k l. ⊎_elim
           (λ (low : k < n).
           let l' : k < length front = omega (arith, low, length-take-le n ts (omega arith)) in
@@ -171,23 +185,76 @@ marked_inside marks j m =
     (λ (high : length marks ≤ j). absurd (true≢false (sym m ∙ get_or_past marks j false high)))
     (cases_lt j (length marks))
 
+-- marks of the heads alone
+pub heads_more : (marks : List Bool) (i : ℕ) → i < length marks → ((j : ℕ) → j < i → IsMarked marks j) → (j : ℕ) → j < i + 1 → IsMarked (set marks i true) j
+heads_more marks i h front j l =
+    ⊎_elim
+    (λ (low : j < i). marked_still marks i j h (front j low))
+    (λ (high : i ≤ j). marked_here marks i j (omega arith) h)
+    (cases_lt j i)
+
+pub heads_alone : (marks : List Bool) (i : ℕ) → ((j : ℕ) → IsMarked marks j → j < i) → (j : ℕ) → IsMarked (set marks i true) j → j < i + 1
+heads_alone marks i alone j m =
+    same_or_not j i (j < i + 1)
+    (λ e. omega arith)
+    (λ no. let l = alone j (sym (get_or-set_other marks i j true false no) ∙ m) in omega arith)
+
+-- no mark is made yet
+pub none_marked : (n j : ℕ) → get_or (replicate n false) j false ≡ false
+none_marked n j = ⊎_elim
+    (λ (l : j < n). get_or-replicate n j false false l)
+    (λ (l : n ≤ j). get_or_past (replicate n false) j false (omega (arith, length-replicate n false)))
+    (cases_lt j n)
+
+-- at first the heads are taken
+pub taken_first : (ns : List Node) (heads : ℕ) (done : List Bool) → heads ≤ length ns → length done ≡ length ns → ((j : ℕ) → j < heads → IsMarked done j)
+    → ((j : ℕ) → IsMarked done j → j < heads) → Taken ns heads done []
+taken_first ns heads done h count front alone = record {
+  count = count;
+  ordered = record { heads = h; inside = λ k l. absurd (omega arith); before = λ k l. absurd (omega arith) };
+  front = front;
+  there = λ j m. inl (alone j m);
+}
+
 -- one more node is taken
-pub taken_more : (ns : List Node) (done : List Bool) (ts : List ℕ) (t : ℕ) → Taken ns done ts → t < length ns → All (λ a. IsMarked done a.0) (reads_at ns t) → Taken ns (set done t true) (ts ++ t ∷ [])
-taken_more ns done ts t old h operands = record {
+pub taken_more : (ns : List Node) (heads : ℕ) (done : List Bool) (ts : List ℕ) (t : ℕ) → Taken ns heads done ts → t < length ns → All (λ a. IsMarked done a.0) (reads_at ns t)
+    → Taken ns heads (set done t true) (ts ++ t ∷ [])
+taken_more ns heads done ts t old h operands = record {
   count = length-set done t true ∙ old.count;
-  ordered = ordered_more ns ts t old.ordered h (λ q d l. old.there (get_or (reads_at ns t) q d).0 (operands q d l));
-  there = λ j m. same_or_not j t (Among (ts ++ t ∷ []) (length (ts ++ t ∷ [])) j)
-      (λ e. among_last ts t j e)
-      (λ no. among_more ts t j (old.there j (sym (get_or-set_other done t j true false no) ∙ m)));
+  ordered = ordered_more ns heads ts t old.ordered h (λ q d l. old.there (get_or (reads_at ns t) q d).0 (operands q d l));
+  front = λ j l. marked_still done t j (omega (arith, h, old.count)) (old.front j l);
+  there = λ j m. same_or_not j t (IsKnown heads (ts ++ t ∷ []) (length (ts ++ t ∷ [])) j)
+      (λ e. known_last heads ts t j e)
+      (λ no. known_more heads ts t j (old.there j (sym (get_or-set_other done t j true false no) ∙ m)));
 }
 
 -- an operand in an ordered list is a node
-pub operands_inside : (ns : List Node) (ts : List ℕ) (k : ℕ) → IsOrdered ns ts → k < length ts → All (λ a. a.0 < length ns) (reads_at ns (get_or ts k 0))
-operands_inside ns ts k o h q d l =
-    let a = o.before k h q d l in let low = a.1 in
-    let P : ℕ → Type 0 = λ x. x < length ns in subst P a.2 (o.inside a.0 (omega (arith, low, h)))
+pub operands_inside : (ns : List Node) (heads : ℕ) (ts : List ℕ) (k : ℕ) → IsOrdered ns heads ts → k < length ts → All (λ a. a.0 < length ns) (reads_at ns (get_or ts k 0))
+operands_inside ns heads ts k o h q d l =
+    let j : ℕ = (get_or (reads_at ns (get_or ts k 0)) q d).0 in
+    let P : ℕ → Type 0 = λ x. x < length ns in
+    ⊎_elim
+    (λ (first : j < heads). omega (arith, o.heads))
+    (λ (a : Among ts k j). let low = a.1 in subst P a.2 (o.inside a.0 (omega (arith, low, h))))
+    (o.before k h q d l)
 
--- the operands of a node of the list are taken if those before it are
-pub operands_taken : (ns : List Node) (ts : List ℕ) (done : List Bool) (k : ℕ) → IsOrdered ns ts → k < length ts → ((q : ℕ) → q < k → IsMarked done (get_or ts q 0)) → All (λ a. IsMarked done a.0) (reads_at ns (get_or ts k 0))
-operands_taken ns ts done k o h known q d l =
-    let a = o.before k h q d l in subst (IsMarked done) a.2 (known a.0 a.1)
+-- the operands of a node of the list are taken if the heads and those before it are
+pub operands_taken : (ns : List Node) (heads : ℕ) (ts : List ℕ) (done : List Bool) (k : ℕ) → IsOrdered ns heads ts → k < length ts
+    → ((j : ℕ) → j < heads → IsMarked done j) → ((q : ℕ) → q < k → IsMarked done (get_or ts q 0)) → All (λ a. IsMarked done a.0) (reads_at ns (get_or ts k 0))
+operands_taken ns heads ts done k o h front known q d l =
+    let j : ℕ = (get_or (reads_at ns (get_or ts k 0)) q d).0 in
+    ⊎_elim
+    (λ (first : j < heads). front j first)
+    (λ (a : Among ts k j). subst (IsMarked done) a.2 (known a.0 a.1))
+    (o.before k h q d l)
+
+-- all that is known of a list is taken if the heads and the list are
+pub known_taken : (heads : ℕ) (ts : List ℕ) (done : List Bool) → ((j : ℕ) → j < heads → IsMarked done j) → ((q : ℕ) → q < length ts → IsMarked done (get_or ts q 0))
+    → (j : ℕ) → IsKnown heads ts (length ts) j → IsMarked done j
+known_taken heads ts done front all j known =
+    ⊎_elim (λ (first : j < heads). front j first) (λ (a : Among ts (length ts) j). subst (IsMarked done) a.2 (all a.0 a.1)) known
+
+-- a node after the heads that is known is in the list
+pub known_at : (heads : ℕ) (ts : List ℕ) (j : ℕ) → heads ≤ j → IsKnown heads ts (length ts) j → 1 ≤ length ts
+known_at heads ts j h known =
+    ⊎_elim (λ (first : j < heads). absurd (omega arith)) (λ (a : Among ts (length ts) j). let l = a.1 in omega (arith, l)) known

@@ -1,5 +1,5 @@
 -- Nodes are evaluated in order.
-use Rattle.std.proofs.Common.{◌≡◌, ℕ, ◌<◌, List, length, get_or, set, refl, sym, subst, ap, ◌∙◌, arith, false}
+use Rattle.std.proofs.Common.{◌≡◌, ℕ, ◌<◌, List, [], length, get_or, set, refl, sym, subst, ap, ◌∙◌, arith, false}
 use Rattle.std.proofs.lemmas.List.{length-set}
 use Rattle.kp_bits.specs.Word as bits
 use Rattle.kp_net.specs.declared.node.Kind.{Kind}
@@ -31,3 +31,13 @@ whole c ns values i o right h fits e f =
 -- the width rule of a node of this kind
 pub kind_ok : (ns : List Node) (i : ℕ) (o : Kind) → AllRight ns → i < length ns → (get_or ns i no_node).kind ≡ o → KindOk ns i (get_or ns i no_node).width o
 kind_ok ns i o right h e = let P : Kind → Type 0 = KindOk ns i (get_or ns i no_node).width in subst P e (right i h).kind
+
+-- as many nodes, and the same state
+pub fits_as : (net : Net) (m new : Stored) → Fits net m → length new.nodes ≡ length m.nodes → new.regs ≡ m.regs → new.files ≡ m.files → Fits net new
+fits_as net m new h nodes regs files = record {
+  right = h.right;
+  nodes = nodes ∙ h.nodes;
+  regs = ap (λ (xs : List ℕ). length xs) regs ∙ h.regs;
+  files = ap (λ (xs : List (List ℕ)). length xs) files ∙ h.files;
+  words = λ f l. ap (λ (xs : List (List ℕ)). length (get_or xs f [])) files ∙ h.words f l;
+}

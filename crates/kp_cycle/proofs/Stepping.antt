@@ -1,6 +1,7 @@
 -- A step computes the value of its target, provided that its operands have theirs.
-use Rattle.std.proofs.Common.{◌≡◌, ℕ, ◌+◌, ◌<◌, ◌≤◌, ◌^◌, List, [], ◌∷◌, length, get_or, set, map, Option, None, Some, refl, sym, subst, ap, ◌∙◌, arith, ⊎_elim, ◌%◌}
+use Rattle.std.proofs.Common.{◌≡◌, ℕ, ◌+◌, ◌-◌, ◌<◌, ◌≤◌, ◌^◌, List, [], ◌∷◌, length, get_or, set, map, Option, None, Some, refl, sym, subst, ap, ◌∙◌, arith, ⊎_elim, ◌%◌}
 use Rattle.std.specs.Prelude.{All}
+use Rattle.std.proofs.Math.Nat.{mod-eq_of_lt}
 use Rattle.std.proofs.lemmas.Bool.{cases_lt}
 use Rattle.std.proofs.lemmas.List.{get_or-set_other, get_or-map}
 use Rattle.std.proofs.lemmas.Grind.{get_or-set_at}
@@ -15,14 +16,14 @@ use Rattle.kp_net.specs.Nodes.{Cells, Words, word_of_kind, word_of_node, word_at
 use Rattle.kp_net.specs.Widths.{wide, no_node, AllRight}
 use Rattle.kp_net.specs.declared.netlist.WritePort.{WritePort}
 use Rattle.kp_net.specs.Netlist.{Net, Input}
-use Rattle.kp_net.specs.Parts.{no_reg, no_file}
+use Rattle.kp_net.specs.Parts.{CellOk, no_reg, no_file}
 use Rattle.kp_net.proofs.Values.{word_there, word_is, at_fits}
 use Rattle.kp_cycle.specs.declared.codes.Op.{Op}
 use Rattle.kp_cycle.specs.declared.codes.Op.TheVariants.{Plain}
 use Rattle.kp_cycle.specs.declared.codes.Step.{Step}
 use Rattle.kp_cycle.specs.inner.Codes.{op_for, number_of, IsReady}
-use Rattle.kp_cycle.specs.inner.Plans.{reads, reads_at, Among, OfPort, OfRoots, IsPlan, Settled, no_step, targets}
-use Rattle.kp_cycle.specs.inner.Storage.{Stored, Fits, cells, seen}
+use Rattle.kp_cycle.specs.inner.Plans.{reads, reads_at, Among, IsKnown, OfPort, OfRoots, IsPlan, Settled, no_step, targets}
+use Rattle.kp_cycle.specs.inner.Storage.{Stored, Fits, FitsBelow, StateFits, cells, seen, state_of}
 use Rattle.kp_cycle.proofs.Clocking.{length_map}
 use Rattle.kp_cycle.proofs.Coding.{coded, ready}
 
@@ -74,7 +75,7 @@ same_or_not i j A same other =
     (cases_lt i j)
 
 -- what a plan says of its step k
-module _ (net : Net) (steps : List Step) (k : ℕ) (plan : IsPlan net steps) (h : k < length steps) where
+module _ (net : Net) (heads : ℕ) (steps : List Step) (k : ℕ) (plan : IsPlan net heads steps) (h : k < length steps) where
   length_targets : length (targets steps) ≡ length steps
   length_targets = length_map (λ (s : Step). s.target) steps
 
@@ -105,25 +106,27 @@ module _ (net : Net) (steps : List Step) (k : ℕ) (plan : IsPlan net steps) (h 
       absurd (omega (arith, at_0, at_1)))
       (cases_lt (k + 1) (length steps))
 
-  have_values : (c : Cells) (v : List ℕ) → ((q : ℕ) → q < k → get_or v (get_or (targets steps) q 0) 0 ≡ at c net.nodes (get_or (targets steps) q 0))
+  have_values : (c : Cells) (v : List ℕ) → ((j : ℕ) → j < heads → get_or v j 0 ≡ at c net.nodes j) → ((q : ℕ) → q < k → get_or v (get_or (targets steps) q 0) 0 ≡ at c net.nodes (get_or (targets steps) q 0))
       → All (λ a. HasValue c net.nodes v a.0) (reads_at net.nodes (get_or steps k no_step).target)
-  have_values c v known =
+  have_values c v leads known =
       let t : ℕ = (get_or steps k no_step).target in
       let P : ℕ → Type 0 = λ x. All (λ a. HasValue c net.nodes v a.0) (reads_at net.nodes x) in
       subst P target_is
       (λ i d l.
-      let m = plan.ordered.before k (omega (arith, h, length_targets)) i d l in
+      let j : ℕ = (get_or (reads_at net.nodes (get_or (targets steps) k 0)) i d).0 in
       let Q : ℕ → Type 0 = HasValue c net.nodes v in
-      let low = m.1 in
-      subst Q m.2 (plan.ordered.inside m.0 (omega (arith, h, low, length_targets)), known m.0 low))
+      ⊎_elim
+      (λ (first : j < heads). (omega (arith, plan.ordered.heads), leads j first))
+      (λ (m : Among (targets steps) k j). let low = m.1 in subst Q m.2 (plan.ordered.inside m.0 (omega (arith, h, low, length_targets)), known m.0 low))
+      (plan.ordered.before k (omega (arith, h, length_targets)) i d l))
 
   -- what the node of its target says is its value, and so is the number of its operation
-  pub step_word : (input : Input) (m : Stored) → Fits net m → Settled net input steps k m
+  pub step_word : (input : Input) (m : Stored) → Fits net m → Settled net input heads steps k m
       → (word_of_node (cells input m) (seen net.nodes m.nodes) (get_or net.nodes (get_or steps k no_step).target no_node)).value ≡ at (cells input m) net.nodes (get_or steps k no_step).target
   step_word input m fits settled =
-      step_value (cells input m) net.nodes m.nodes (get_or steps k no_step).target fits.right.right target_inside (have_values (cells input m) m.nodes settled.known)
+      step_value (cells input m) net.nodes m.nodes (get_or steps k no_step).target fits.right.right target_inside (have_values (cells input m) m.nodes settled.leads settled.known)
 
-  pub step_number : (input : Input) (m : Stored) (x : ℕ) → Fits net m → Settled net input steps k m
+  pub step_number : (input : Input) (m : Stored) (x : ℕ) → Fits net m → Settled net input heads steps k m
       → ((plain : ℕ) → x ≡ number_of (cells input m) m.nodes plain (get_or steps k no_step).op) → x ≡ at (cells input m) net.nodes (get_or steps k no_step).target
   step_number input m x fits settled is =
       let t : ℕ = (get_or steps k no_step).target in
@@ -140,8 +143,8 @@ module _ (net : Net) (steps : List Step) (k : ℕ) (plan : IsPlan net steps) (h 
       ∙ step_word input m fits settled
 
   -- with this value one more step is taken
-  pub step_more : (input : Input) (m : Stored) (x : ℕ) → Fits net m → Settled net input steps k m → x ≡ at (cells input m) net.nodes (get_or steps k no_step).target
-      → Settled net input steps (k + 1) (record m { nodes = set m.nodes (get_or steps k no_step).target x })
+  pub step_more : (input : Input) (m : Stored) (x : ℕ) → Fits net m → Settled net input heads steps k m → x ≡ at (cells input m) net.nodes (get_or steps k no_step).target
+      → Settled net input heads steps (k + 1) (record m { nodes = set m.nodes (get_or steps k no_step).target x })
   step_more input m x fits settled value =
       let t : ℕ = (get_or steps k no_step).target in
       let c : Cells = cells input m in
@@ -155,6 +158,9 @@ module _ (net : Net) (steps : List Step) (k : ℕ) (plan : IsPlan net steps) (h 
         widths = λ j l. same_or_not j t (get_or new j 0 < 2 ^ wide ns j)
             (λ same. subst (is_wide j) (sym (own j same)) (at_fits c ns j l))
             (λ no. subst (is_wide j) (sym (other j no)) (settled.widths j l));
+        leads = λ j l. same_or_not j t (get_or new j 0 ≡ at c ns j)
+            (own j)
+            (λ no. other j no ∙ settled.leads j l);
         known = λ q l. let j : ℕ = get_or (targets steps) q 0 in
             same_or_not j t (get_or new j 0 ≡ at c ns j)
             (own j)
@@ -178,8 +184,57 @@ roots_are net P Q f h = record {
   files = λ i l. port_is P Q (get_or net.parts.files i no_file).port f (h.files i l);
 }
 
-pub all_settled : (net : Net) (input : Input) (steps : List Step) (m : Stored) → IsPlan net steps → Settled net input steps (length steps) m
+pub all_settled : (net : Net) (input : Input) (heads : ℕ) (steps : List Step) (m : Stored) → IsPlan net heads steps → Settled net input heads steps (length steps) m
     → OfRoots net (λ j. get_or m.nodes j 0 ≡ at (cells input m) net.nodes j)
-all_settled net input steps m plan settled =
+all_settled net input heads steps m plan settled =
     let Q : ℕ → Type 0 = λ j. get_or m.nodes j 0 ≡ at (cells input m) net.nodes j in
-    roots_are net (Among (targets steps) (length steps)) Q (λ j a. subst Q a.2 (settled.known a.0 a.1)) plan.roots
+    roots_are net (IsKnown heads (targets steps) (length steps)) Q
+    (λ j known. ⊎_elim (λ (first : j < heads). settled.leads j first) (λ (a : Among (targets steps) (length steps) j). subst Q a.2 (settled.known a.0 a.1)) known)
+    plan.roots
+
+-- a node that is a register has the register's value
+reg_value : (c : Cells) (ns : List Node) (v : List ℕ) (j r : ℕ) → AllRight ns → j < length ns → (get_or ns j no_node).kind ≡ Reg r → c.reg r < 2 ^ (get_or ns j no_node).width
+    → c.reg r ≡ at c ns j
+reg_value c ns v j r right h is fits =
+    let n : Node = get_or ns j no_node in
+    let none : All (λ a. HasValue c ns v a.0) (reads_at ns j) =
+    (let P : Kind → Type 0 = λ o. All (λ (a : NodeId). HasValue c ns v a.0) (reads o) in subst P (sym is) (λ q d l. absurd (omega arith))) in
+    sym (mod-eq_of_lt fits)
+    ∙ ap (λ (o : Kind). (word_of_kind c (seen ns v) n.width o).value % 2 ^ n.width) (sym is)
+    ∙ step_value c ns v j right h none
+
+-- the registers were copied to the first nodes, and no step has been evaluated
+pub none_settled : (net : Net) (input : Input) (heads : ℕ) (steps : List Step) (old : List ℕ) (m : Stored) → IsPlan net heads steps → Fits net m → StateFits net (state_of m)
+    → FitsBelow net.nodes old (length net.nodes)
+    → ((j : ℕ) → j < heads → get_or m.nodes j 0 ≡ get_or m.regs j 0) → ((j : ℕ) → heads ≤ j → get_or m.nodes j 0 ≡ get_or old j 0)
+    → Settled net input heads steps 0 m
+none_settled net input heads steps old m plan fits state widths shown others =
+    let c : Cells = cells input m in
+    let ns : List Node = net.nodes in
+    let value : (j : ℕ) → j < heads → get_or m.nodes j 0 ≡ at c ns j =
+    λ j l. let h : j < length ns = omega (arith, l, plan.ordered.heads) in
+    let P : Kind → Type 0 = CellOk ns net.parts (get_or ns j no_node).width in
+    let cell = subst P (plan.leads j l) (fits.right.parts.cells j h) in
+    let Q : ℕ → Type 0 = λ w. get_or m.regs j 0 < 2 ^ w in
+    shown j l ∙ reg_value c ns m.nodes j j fits.right.right h (plan.leads j l) (subst Q cell.1 (state.regs j cell.0)) in
+    record {
+      widths = λ j h. let P : ℕ → Type 0 = λ x. x < 2 ^ wide ns j in
+          ⊎_elim
+          (λ (l : j < heads). subst P (sym (value j l)) (at_fits c ns j h))
+          (λ (l : heads ≤ j). subst P (sym (others j l)) (widths j h))
+          (cases_lt j heads);
+      leads = value;
+      known = λ q l. absurd (omega arith);
+    }
+
+-- there are as many registers
+pub heads_fit : (net : Net) (heads : ℕ) (steps : List Step) (m : Stored) → IsPlan net heads steps → Fits net m → heads ≤ length m.regs
+heads_fit net heads steps m plan fits =
+    ⊎_elim
+    (λ (some : 0 < heads).
+    let last : heads - 1 < heads = omega arith in
+    let P : Kind → Type 0 = CellOk net.nodes net.parts (get_or net.nodes (heads - 1) no_node).width in
+    let cell = subst P (plan.leads (heads - 1) last) (fits.right.parts.cells (heads - 1) (omega (arith, plan.ordered.heads))) in
+    let there = cell.0 in omega (arith, there, fits.regs))
+    (λ (none : heads ≤ 0). omega arith)
+    (cases_lt 0 heads)

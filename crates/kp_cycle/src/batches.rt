@@ -197,50 +197,62 @@ impl Batch for Slice {
 
 /// Evaluates the steps from this one on that have the same operation, and returns the index of the first with
 /// another. Evaluates none if the operation is one of those that are evaluated singly.
-pub fn take_batch(net: &Netlist, steps: &[Step], memory: &mut Memory, from: usize) -> usize
-    requires plan { IsPlan net.now steps.now }
+pub fn take_batch(
+    net: &Netlist,
+    heads: u32,
+    steps: &[Step],
+    memory: &mut Memory,
+    from: usize,
+) -> usize
+    requires plan { IsPlan net.now heads steps.now }
     requires fits { Fits net.now memory.old }
     requires inside { from < length steps.now }
     ensures forward { from ≤ result }
     ensures inside { result ≤ length steps.now }
     ensures fits { Fits net.now memory.new }
-    ensures settled { (input : Input) → Settled net.now input steps.now from memory.old → Settled net.now input steps.now result memory.new }
+    ensures settled { (input : Input) → Settled net.now input heads steps.now from memory.old → Settled net.now input heads steps.now result memory.new }
     ensures regs { memory.new.regs ≡ memory.old.regs }
     ensures files { memory.new.files ≡ memory.old.files }
     ensures slots { memory.new.slots ≡ memory.old.slots }
 {
     match &steps[from].op {
-        Op::Number(_) => take_while::<Number>(net, steps, memory, from),
-        Op::Reg(_, _) => take_while::<Reg>(net, steps, memory, from),
-        Op::Not(_, _) => take_while::<Not>(net, steps, memory, from),
-        Op::And(_, _) => take_while::<And>(net, steps, memory, from),
-        Op::Or(_, _) => take_while::<Or>(net, steps, memory, from),
-        Op::Xor(_, _) => take_while::<Xor>(net, steps, memory, from),
-        Op::Add(_, _, _) => take_while::<Add>(net, steps, memory, from),
-        Op::Sub(_, _, _) => take_while::<Sub>(net, steps, memory, from),
-        Op::Mul(_, _, _) => take_while::<Mul>(net, steps, memory, from),
-        Op::Eq(_, _) => take_while::<Eq>(net, steps, memory, from),
-        Op::Lt(_, _) => take_while::<Lt>(net, steps, memory, from),
-        Op::Shl(_, _, _, _) => take_while::<Shl>(net, steps, memory, from),
-        Op::Shr(_, _, _) => take_while::<Shr>(net, steps, memory, from),
-        Op::Mux(_, _, _) => take_while::<Mux>(net, steps, memory, from),
-        Op::Join(_, _, _) => take_while::<Join>(net, steps, memory, from),
-        Op::Join3(_, _, _, _, _) => take_while::<Join3>(net, steps, memory, from),
-        Op::Slice(_, _, _) => take_while::<Slice>(net, steps, memory, from),
+        Op::Number(_) => take_while::<Number>(net, heads, steps, memory, from),
+        Op::Reg(_, _) => take_while::<Reg>(net, heads, steps, memory, from),
+        Op::Not(_, _) => take_while::<Not>(net, heads, steps, memory, from),
+        Op::And(_, _) => take_while::<And>(net, heads, steps, memory, from),
+        Op::Or(_, _) => take_while::<Or>(net, heads, steps, memory, from),
+        Op::Xor(_, _) => take_while::<Xor>(net, heads, steps, memory, from),
+        Op::Add(_, _, _) => take_while::<Add>(net, heads, steps, memory, from),
+        Op::Sub(_, _, _) => take_while::<Sub>(net, heads, steps, memory, from),
+        Op::Mul(_, _, _) => take_while::<Mul>(net, heads, steps, memory, from),
+        Op::Eq(_, _) => take_while::<Eq>(net, heads, steps, memory, from),
+        Op::Lt(_, _) => take_while::<Lt>(net, heads, steps, memory, from),
+        Op::Shl(_, _, _, _) => take_while::<Shl>(net, heads, steps, memory, from),
+        Op::Shr(_, _, _) => take_while::<Shr>(net, heads, steps, memory, from),
+        Op::Mux(_, _, _) => take_while::<Mux>(net, heads, steps, memory, from),
+        Op::Join(_, _, _) => take_while::<Join>(net, heads, steps, memory, from),
+        Op::Join3(_, _, _, _, _) => take_while::<Join3>(net, heads, steps, memory, from),
+        Op::Slice(_, _, _) => take_while::<Slice>(net, heads, steps, memory, from),
         Op::Ext(_) | Op::Plain => from,
     }
 }
 
 // Evaluates the steps from this one on that have this operation. The last step of all has none of these operations, so no end is looked for.
 #[inline(always)]
-fn take_while<B: Batch>(net: &Netlist, steps: &[Step], memory: &mut Memory, from: usize) -> usize
-    requires plan { IsPlan net.now steps.now }
+fn take_while<B: Batch>(
+    net: &Netlist,
+    _heads: u32,
+    steps: &[Step],
+    memory: &mut Memory,
+    from: usize,
+) -> usize
+    requires plan { IsPlan net.now _heads steps.now }
     requires fits { Fits net.now memory.old }
     requires inside { from < length steps.now }
     ensures forward { from ≤ result }
     ensures inside { result ≤ length steps.now }
     ensures fits { Fits net.now memory.new }
-    ensures settled { (input : Input) → Settled net.now input steps.now from memory.old → Settled net.now input steps.now result memory.new }
+    ensures settled { (input : Input) → Settled net.now input _heads steps.now from memory.old → Settled net.now input _heads steps.now result memory.new }
     ensures regs { memory.new.regs ≡ memory.old.regs }
     ensures files { memory.new.files ≡ memory.old.files }
     ensures slots { memory.new.slots ≡ memory.old.slots }

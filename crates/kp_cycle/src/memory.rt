@@ -1,5 +1,5 @@
 // The storage of a simulator: one region with the values of nodes, registers and files, and the saved states.
-ghost use Rattle.std.specs.Prelude.{◌≡◌, ◌<◌, ◌≤◌, [], length, get_or, set, replicate, None, Some, IsSome, IfOk, All};
+ghost use Rattle.std.specs.Prelude.{◌≡◌, ◌<◌, ◌≤◌, ℕ, [], length, get_or, set, replicate, None, Some, IsSome, IfOk, All};
 ghost use Rattle.std.specs.List.{sum_by};
 ghost use Rattle.kp_net.specs.Netlist.{Net, start_regs, start_of};
 ghost use Rattle.kp_cycle.specs.inner.Storage.{Stored, Fits, FitsBelow, state_of};
@@ -119,6 +119,28 @@ impl Memory {
             len: self.node_count,
         };
         self.region.put(nodes, i, value);
+    }
+
+    /// Copies the first registers to the first nodes.
+    pub fn show_regs(&mut self, count: u32)
+        requires nodes { count ≤ length self.old.nodes }
+        requires regs { count ≤ length self.old.regs }
+        ensures count { length self.new.nodes ≡ length self.old.nodes }
+        ensures shown { (i : ℕ) → i < count → get_or self.new.nodes i 0 ≡ get_or self.old.regs i 0 }
+        ensures others { (i : ℕ) → count ≤ i → get_or self.new.nodes i 0 ≡ get_or self.old.nodes i 0 }
+        ensures regs { self.new.regs ≡ self.old.regs }
+        ensures files { self.new.files ≡ self.old.files }
+        ensures slots { self.new.slots ≡ self.old.slots }
+    {
+        let from = Span {
+            start: self.regs.start,
+            len: count,
+        };
+        let to = Span {
+            start: 0,
+            len: count,
+        };
+        self.region.copy(from, to);
     }
 
     /// The value of a register.

@@ -8,7 +8,7 @@ ghost use Rattle.kp_net.specs.Widths.{wide, no_node};
 ghost use Rattle.kp_net.specs.Parts.{NetOk};
 ghost use Rattle.kp_cycle.specs.Steps.{given};
 ghost use Rattle.kp_cycle.specs.inner.Plans.{IsPlan, OfRoots, Settled};
-ghost use Rattle.kp_cycle.specs.inner.Storage.{Fits, FitsBelow, cells, seen, state_of};
+ghost use Rattle.kp_cycle.specs.inner.Storage.{Fits, FitsBelow, StateFits, cells, seen, state_of};
 
 use crate::batches::take_batch;
 use crate::codes::Step;
@@ -16,10 +16,19 @@ use crate::memory::Memory;
 use kp_bits::Bits;
 use kp_net::{Kind, Netlist, NodeId};
 
-/// Evaluates all steps of the cycle with this stall word and these values of the sample ports.
-pub fn settle(net: &Netlist, steps: &[Step], memory: &mut Memory, ext: u64, samples: &[Bits])
-    requires plan { IsPlan net.now steps.now }
+/// Evaluates the nodes of the cycle with this stall word and these values of the sample ports: the heads are copied from the registers, and then all
+/// steps are evaluated.
+pub fn settle(
+    net: &Netlist,
+    heads: u32,
+    steps: &[Step],
+    memory: &mut Memory,
+    ext: u64,
+    samples: &[Bits],
+)
+    requires plan { IsPlan net.now heads steps.now }
     requires fits { Fits net.now memory.old }
+    requires state { StateFits net.now (state_of memory.old) }
     requires widths { FitsBelow net.now.nodes memory.old.nodes (length net.now.nodes) }
     requires samples { length samples.now ≡ length net.now.parts.samples }
     ensures fits { Fits net.now memory.new }
@@ -29,13 +38,14 @@ pub fn settle(net: &Netlist, steps: &[Step], memory: &mut Memory, ext: u64, samp
     ensures files { memory.new.files ≡ memory.old.files }
     ensures slots { memory.new.slots ≡ memory.old.slots }
 {
+    memory.show_regs(heads);
     let mut k = 0;
     'all: while k < steps.len() {
-        let end = take_batch(net, steps, memory, k);
+        let end = take_batch(net, heads, steps, memory, k);
         if end > k {
             k = end;
         } else {
-            take_one(net, steps, memory, ext, samples, k);
+            take_one(net, heads, steps, memory, ext, samples, k);
             k += 1;
         }
     }
@@ -44,19 +54,20 @@ pub fn settle(net: &Netlist, steps: &[Step], memory: &mut Memory, ext: u64, samp
 // Evaluates one step, as the node itself specifies.
 fn take_one(
     net: &Netlist,
+    _heads: u32,
     steps: &[Step],
     memory: &mut Memory,
     ext: u64,
     samples: &[Bits],
     k: usize,
 )
-    requires plan { IsPlan net.now steps.now }
+    requires plan { IsPlan net.now _heads steps.now }
     requires fits { Fits net.now memory.old }
     requires samples { length samples.now ≡ length net.now.parts.samples }
     requires inside { k < length steps.now }
-    requires settled { Settled net.now (given ext false samples.now) steps.now k memory.old }
+    requires settled { Settled net.now (given ext false samples.now) _heads steps.now k memory.old }
     ensures fits { Fits net.now memory.new }
-    ensures settled { Settled net.now (given ext false samples.now) steps.now (k + 1) memory.new }
+    ensures settled { Settled net.now (given ext false samples.now) _heads steps.now (k + 1) memory.new }
     ensures regs { memory.new.regs ≡ memory.old.regs }
     ensures files { memory.new.files ≡ memory.old.files }
     ensures slots { memory.new.slots ≡ memory.old.slots }

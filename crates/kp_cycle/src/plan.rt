@@ -1,8 +1,9 @@
 //! Which nodes a cycle evaluates, and in which order. Nodes that no output, register or write port needs are omitted,
 //! and nodes with the same operation are adjacent as far as their operands allow.
 ghost use Rattle.std.specs.Prelude.{◌≡◌, ◌+◌, ◌-◌, ◌<◌, ◌≤◌, true, false, ℕ, ◌∷◌, ◌++◌, [], length, get_or, map, take, All, IfOk};
+ghost use Rattle.kp_net.specs.declared.node.Kind.TheVariants.{Reg};
 ghost use Rattle.kp_net.specs.Widths.{no_node};
-ghost use Rattle.kp_cycle.specs.inner.Plans.{reads, reads_at, step_for, by_node, IsMarked, Grows, Among, IsOrdered, OfPort, OfRoots, Needed, Taken, IsPlan};
+ghost use Rattle.kp_cycle.specs.inner.Plans.{reads, reads_at, step_for, by_node, IsMarked, Grows, Among, IsKnown, Leads, IsOrdered, OfPort, OfRoots, Needed, Taken, IsPlan};
 
 use crate::codes::{Op, Step, op_of};
 use kp_base::NoMemory;
@@ -10,13 +11,42 @@ use kp_bits::BinOp;
 use kp_net::{Kind, Netlist, Node, NodeId, WritePort};
 use std::alloc::Global;
 
-/// The steps of a cycle.
-pub fn plan(alloc: Global, net: &Netlist) -> Result<Vec<Step>, NoMemory>
-    ensures { IfOk result (λ steps. IsPlan net.now steps.items) }
+/// How many nodes from the first on are the registers in their order. They need no steps, since the registers can be copied to them at once. The
+/// node of an output isn't among them, so that there is at least one step.
+pub fn heads_of(net: &Netlist) -> u32
+    ensures leads { Leads net.now result }
+    ensures inside { result ≤ net.now.parts.full.0 }
 {
+    let nodes = net.nodes();
+    let most = net.parts().full.0;
+    for i in 0..most {
+        if !shows(&nodes[i as usize].kind, i) {
+            return i;
+        }
+    }
+    most
+}
+
+// Whether a node of this kind is this register.
+fn shows(kind: &Kind, reg: u32) -> bool
+    ensures { result ≡ true → kind.now ≡ Reg reg }
+{
+    match kind {
+        Kind::Reg(shown) => *shown == reg,
+        _ => false,
+    }
+}
+
+/// The steps of a cycle, if the first nodes, the heads, are registers.
+pub fn plan(alloc: Global, net: &Netlist, heads: u32) -> Result<Vec<Step>, NoMemory>
+    requires leads { Leads net.now heads }
+    requires inside { heads ≤ net.now.parts.full.0 }
+    ensures { IfOk result (λ steps. IsPlan net.now heads steps.items) }
+{
+    let heads_count = heads as usize;
     let needed = needed_in(alloc, net)?;
-    let order = listed(alloc, net.nodes(), needed.as_slice())?;
-    let batched = in_batches(alloc, net.nodes(), order.as_slice())?;
+    let order = listed(alloc, net.nodes(), heads_count, needed.as_slice())?;
+    let batched = in_batches(alloc, net.nodes(), heads_count, order.as_slice())?;
     let steps = steps_of(alloc, net.nodes(), batched.as_slice())?;
     Ok(steps)
 }
@@ -114,17 +144,18 @@ fn mark_all(nodes: &[NodeId], marks: &mut [bool])
     }
 }
 
-// The marked nodes, in their order.
-fn listed(alloc: Global, nodes: &[Node], marks: &[bool]) -> Result<Vec<u32>, NoMemory>
+// The marked nodes after the heads, in their order.
+fn listed(alloc: Global, nodes: &[Node], heads: usize, marks: &[bool]) -> Result<Vec<u32>, NoMemory>
+    requires heads { heads ≤ length nodes.now }
     requires few { length nodes.now ≤ 16777216 }
     requires count { length marks.now ≡ length nodes.now }
     requires below { (i : ℕ) → i < length nodes.now → All (λ a. a.0 < i) (reads_at nodes.now i) }
     requires operands { (i : ℕ) → i < length nodes.now → IsMarked marks.now i → All (λ a. IsMarked marks.now a.0) (reads_at nodes.now i) }
-    ensures ordered { IfOk result (λ order. IsOrdered nodes.now order.items) }
-    ensures all { IfOk result (λ order. (j : ℕ) → j < length nodes.now → IsMarked marks.now j → Among order.items (length order.items) j) }
+    ensures ordered { IfOk result (λ order. IsOrdered nodes.now heads order.items) }
+    ensures all { IfOk result (λ order. (j : ℕ) → j < length nodes.now → IsMarked marks.now j → IsKnown heads order.items (length order.items) j) }
 {
     let mut order = Vec::new(alloc);
-    for i in 0..nodes.len() {
+    for i in heads..nodes.len() {
         if marks[i] {
             order.push(i as u32)?;
         }
@@ -141,48 +172,71 @@ const TURNS: [u8; 24] = [
 ];
 
 // The same nodes, with those of one operation adjacent as far as their operands allow.
-fn in_batches(alloc: Global, nodes: &[Node], order: &[u32]) -> Result<Vec<u32>, NoMemory>
-    requires { IsOrdered nodes.now order.now }
-    ensures ordered { IfOk result (λ batched. IsOrdered nodes.now batched.items) }
-    ensures all { IfOk result (λ batched. (j : ℕ) → Among order.now (length order.now) j → Among batched.items (length batched.items) j) }
+fn in_batches(
+    alloc: Global,
+    nodes: &[Node],
+    heads: usize,
+    order: &[u32],
+) -> Result<Vec<u32>, NoMemory>
+    requires { IsOrdered nodes.now heads order.now }
+    ensures ordered { IfOk result (λ batched. IsOrdered nodes.now heads batched.items) }
+    ensures all { IfOk result (λ batched. (j : ℕ) → IsKnown heads order.now (length order.now) j → IsKnown heads batched.items (length batched.items) j) }
 {
     let mut done = vec![in alloc; false; nodes.len()]?;
+    mark_heads(heads, done.as_mut_slice());
     let mut batched = Vec::with_capacity(alloc, order.len())?;
     for pass in 0..PASSES {
-        if batched.len() < order.len() {
-            take_ready(
-                nodes,
-                order,
-                TURNS[pass % 24],
-                done.as_mut_slice(),
-                &mut batched,
-            )?;
-        }
+        take_ready(
+            nodes,
+            heads,
+            order,
+            TURNS[pass % 24],
+            done.as_mut_slice(),
+            &mut batched,
+        )?;
     }
-    take_rest(nodes, order, done.as_mut_slice(), &mut batched)?;
+    take_rest(nodes, heads, order, done.as_mut_slice(), &mut batched)?;
     Ok(batched)
 }
 
-// Appends each of these nodes that has this operation, and whose operands are already in the order.
+// Marks the heads in a list without marks.
+fn mark_heads(heads: usize, done: &mut [bool])
+    requires inside { heads ≤ length done.old }
+    requires none { (j : ℕ) → get_or done.old j false ≡ false }
+    ensures count { length done.new ≡ length done.old }
+    ensures front { (j : ℕ) → j < heads → IsMarked done.new j }
+    ensures others { (j : ℕ) → IsMarked done.new j → j < heads }
+{
+    for i in 0..heads {
+        done[i] = true;
+    }
+}
+
+// Appends each of these nodes that has this operation, and whose operands are already in the order, unless all were appended before.
 fn take_ready(
     nodes: &[Node],
+    heads: usize,
     order: &[u32],
     class: u8,
     done: &mut [bool],
     batched: &mut Vec<u32>,
 ) -> Result<(), NoMemory>
-    requires order { IsOrdered nodes.now order.now }
-    requires taken { Taken nodes.now done.old batched.old.items }
-    ensures { IfOk result (λ _. Taken nodes.now done.new batched.new.items) }
+    requires order { IsOrdered nodes.now heads order.now }
+    requires taken { Taken nodes.now heads done.old batched.old.items }
+    ensures { IfOk result (λ _. Taken nodes.now heads done.new batched.new.items) }
 {
+    if batched.len() >= order.len() {
+        return Ok(());
+    }
     for k in 0..order.len() {
-        take_if_ready(nodes, order[k], class, done, batched)?;
+        take_if_ready(nodes, heads, order[k], class, done, batched)?;
     }
     Ok(())
 }
 
 fn take_if_ready(
     nodes: &[Node],
+    heads: usize,
     target: u32,
     class: u8,
     done: &mut [bool],
@@ -190,8 +244,8 @@ fn take_if_ready(
 ) -> Result<(), NoMemory>
     requires inside { target < length nodes.now }
     requires operands { All (λ a. a.0 < length nodes.now) (reads_at nodes.now target) }
-    requires taken { Taken nodes.now done.old batched.old.items }
-    ensures { IfOk result (λ _. Taken nodes.now done.new batched.new.items) }
+    requires taken { Taken nodes.now heads done.old batched.old.items }
+    ensures { IfOk result (λ _. Taken nodes.now heads done.new batched.new.items) }
 {
     let kind = &nodes[target as usize].kind;
     if class_of(kind) != class {
@@ -200,23 +254,24 @@ fn take_if_ready(
     if !is_ready(kind, done) {
         return Ok(());
     }
-    take(nodes, target, done, batched)
+    take(nodes, heads, target, done, batched)
 }
 
 // Appends all of these nodes that are left.
 fn take_rest(
     nodes: &[Node],
+    heads: usize,
     order: &[u32],
     done: &mut [bool],
     batched: &mut Vec<u32>,
 ) -> Result<(), NoMemory>
-    requires order { IsOrdered nodes.now order.now }
-    requires taken { Taken nodes.now done.old batched.old.items }
-    ensures taken { IfOk result (λ _. Taken nodes.now done.new batched.new.items) }
-    ensures all { IfOk result (λ _. (j : ℕ) → Among order.now (length order.now) j → IsMarked done.new j) }
+    requires order { IsOrdered nodes.now heads order.now }
+    requires taken { Taken nodes.now heads done.old batched.old.items }
+    ensures taken { IfOk result (λ _. Taken nodes.now heads done.new batched.new.items) }
+    ensures all { IfOk result (λ _. (j : ℕ) → IsKnown heads order.now (length order.now) j → IsMarked done.new j) }
 {
     for k in 0..order.len() {
-        take(nodes, order[k], done, batched)?;
+        take(nodes, heads, order[k], done, batched)?;
     }
     Ok(())
 }
@@ -224,14 +279,15 @@ fn take_rest(
 // Appends a node whose operands are already in the order.
 fn take(
     nodes: &[Node],
+    _heads: usize,
     target: u32,
     done: &mut [bool],
     batched: &mut Vec<u32>,
 ) -> Result<(), NoMemory>
     requires inside { target < length nodes.now }
     requires operands { All (λ a. IsMarked done.old a.0) (reads_at nodes.now target) }
-    requires taken { Taken nodes.now done.old batched.old.items }
-    ensures taken { IfOk result (λ _. Taken nodes.now done.new batched.new.items) }
+    requires taken { Taken nodes.now _heads done.old batched.old.items }
+    ensures taken { IfOk result (λ _. Taken nodes.now _heads done.new batched.new.items) }
     ensures grows { Grows done.old done.new }
     ensures marked { IsMarked done.new target }
 {

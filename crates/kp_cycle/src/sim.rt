@@ -12,7 +12,7 @@ use crate::clock::{clock, note_writes};
 use crate::codes::Step;
 use crate::memory::Memory;
 use crate::nodes::{settle, word};
-use crate::plan::plan;
+use crate::plan::{heads_of, plan};
 use kp_base::{NoMemory, Row};
 use kp_bits::Bits;
 use kp_net::{Netlist, NodeId};
@@ -23,6 +23,7 @@ use std::marker::Model;
 #[derive(Debug, Drop)]
 pub struct Sim<'n> {
     net: &'n Netlist,
+    heads: u32,
     steps: Vec<Step>,
     memory: Memory,
 }
@@ -37,7 +38,7 @@ impl<'n> Model for Sim<'n> {
 
     ghost view = { λ s. record { net = s.net.now; state = state_of s.memory; slots = s.memory.slots } };
 
-    ghost invariant = { λ s. Fits s.net.now s.memory × ShowsRows s.net.now × StateFits s.net.now (state_of s.memory) × SlotsFit s.net.now s.memory.slots × IsPlan s.net.now s.steps.items × FitsBelow s.net.now.nodes s.memory.nodes (length s.net.now.nodes) };
+    ghost invariant = { λ s. Fits s.net.now s.memory × ShowsRows s.net.now × StateFits s.net.now (state_of s.memory) × SlotsFit s.net.now s.memory.slots × IsPlan s.net.now s.heads s.steps.items × FitsBelow s.net.now.nodes s.memory.nodes (length s.net.now.nodes) };
 }
 
 impl<'n> Sim<'n> {
@@ -56,9 +57,15 @@ impl<'n> Sim<'n> {
         requires few { slots ≤ 64 }
         ensures { IfOk result (λ s. s ≡ record { net = net.now; state = start_of net.now; slots = replicate slots None }) }
     {
-        let steps = plan(alloc, net)?;
+        let heads = heads_of(net);
+        let steps = plan(alloc, net, heads)?;
         let memory = Memory::open(alloc, net, slots)?;
-        Ok(Sim { net, steps, memory })
+        Ok(Sim {
+            net,
+            heads,
+            steps,
+            memory,
+        })
     }
 
     /// The netlist that runs.
@@ -87,6 +94,7 @@ impl<'n> Sim<'n> {
     {
         cycle(
             self.net,
+            self.heads,
             self.steps.as_slice(),
             &mut self.memory,
             ext,
@@ -113,6 +121,7 @@ impl<'n> Sim<'n> {
     {
         let row = cycle(
             self.net,
+            self.heads,
             self.steps.as_slice(),
             &mut self.memory,
             ext,
@@ -188,13 +197,14 @@ fn file_width(net: &Netlist, file: u32) -> u8
 
 fn cycle(
     net: &Netlist,
+    heads: u32,
     steps: &[Step],
     memory: &mut Memory,
     ext: u16,
     rst: bool,
     samples: &[Bits],
 ) -> Row
-    requires plan { IsPlan net.now steps.now }
+    requires plan { IsPlan net.now heads steps.now }
     requires known { FitsBelow net.now.nodes memory.old.nodes (length net.now.nodes) }
     requires fits { Fits net.now memory.old }
     requires shows { ShowsRows net.now }
@@ -208,7 +218,7 @@ fn cycle(
     ensures slots { memory.new.slots ≡ memory.old.slots }
     ensures nodes { OfRoots net.now (λ j. get_or memory.new.nodes j 0 ≡ at (cells_of (given ext rst samples.now) (state_of memory.old)) net.now.nodes j) }
 {
-    settle(net, steps, memory, u64::from(ext), samples);
+    settle(net, heads, steps, memory, u64::from(ext), samples);
     let parts = net.parts();
     let row = Row {
         full: output(net, memory, parts.full),

@@ -2,7 +2,7 @@
 use Rattle.std.specs.Prelude.{ℕ, ◌+◌, ◌<◌, ◌≤◌, ◌≡◌, ◌⊎◌, Bool, true, false, List, [], ◌∷◌, length, get_or, map, All, Option, None, Some}
 use Rattle.kp_net.specs.declared.node.NodeId.{NodeId}
 use Rattle.kp_net.specs.declared.node.Kind.{Kind}
-use Rattle.kp_net.specs.declared.node.Kind.TheVariants.{Word, Not, Binary, Mux, Concat, Slice}
+use Rattle.kp_net.specs.declared.node.Kind.TheVariants.{Reg, Word, Not, Binary, Mux, Concat, Slice}
 use Rattle.kp_net.specs.declared.node.Node.{Node}
 use Rattle.kp_net.specs.declared.netlist.WritePort.{WritePort}
 use Rattle.kp_net.specs.Nodes.{at}
@@ -40,16 +40,26 @@ pub record Grows (old new : List Bool) : Type 0 where
 abbrev pub Among : List ℕ → ℕ → ℕ → Type 0
 Among ts k j = (q : ℕ) × (q < k) × (get_or ts q 0 ≡ j)
 
--- all are nodes, and the operands of each come before it
-pub record IsOrdered (ns : List Node) (ts : List ℕ) : Type 0 where
-  pub inside : (k : ℕ) → k < length ts → get_or ts k 0 < length ns
-  pub before : (k : ℕ) → k < length ts → All (λ a. Among ts k a.0) (reads_at ns (get_or ts k 0))
+-- the first h nodes are the first h registers, in their order
+abbrev pub Leads : Net → ℕ → Type 0
+Leads net h = (j : ℕ) → j < h → (get_or net.nodes j no_node).kind ≡ Reg j
 
--- the marked nodes are in a list in which operands come first
-pub record Taken (ns : List Node) (done : List Bool) (ts : List ℕ) : Type 0 where
+-- one of the first h nodes, or of the first k of these numbers
+abbrev pub IsKnown : ℕ → List ℕ → ℕ → ℕ → Type 0
+IsKnown h ts k j = (j < h) ⊎ Among ts k j
+
+-- all are nodes, and the operands of each come before it or are among the first h nodes
+pub record IsOrdered (ns : List Node) (h : ℕ) (ts : List ℕ) : Type 0 where
+  pub heads : h ≤ length ns
+  pub inside : (k : ℕ) → k < length ts → get_or ts k 0 < length ns
+  pub before : (k : ℕ) → k < length ts → All (λ a. IsKnown h ts k a.0) (reads_at ns (get_or ts k 0))
+
+-- the marked nodes are the first h, and those of a list in which operands come first
+pub record Taken (ns : List Node) (h : ℕ) (done : List Bool) (ts : List ℕ) : Type 0 where
   pub count : length done ≡ length ns
-  pub ordered : IsOrdered ns ts
-  pub there : (j : ℕ) → IsMarked done j → Among ts (length ts) j
+  pub ordered : IsOrdered ns h ts
+  pub front : (j : ℕ) → j < h → IsMarked done j
+  pub there : (j : ℕ) → IsMarked done j → IsKnown h ts (length ts) j
 
 -- this is true of all nodes that outputs, registers and write ports read
 abbrev pub OfPort : (ℕ → Type 0) → Option WritePort → Type 0
@@ -86,15 +96,17 @@ by_node t = record { target = t; op = Plain }
 abbrev pub HasCode : List Node → Step → Type 0
 HasCode ns s = (s.op ≡ op_for ns (get_or ns s.target no_node)) ⊎ (s.op ≡ Plain)
 
--- steps that compute the value of each node that is read at the end of a cycle; the last one is computed from its node, so that each batch ends
--- before it
-pub record IsPlan (net : Net) (steps : List Step) : Type 0 where
+-- steps that compute the value of each node that is read at the end of a cycle, given those of the first h, which are registers; the last one is
+-- computed from its node, so that each batch ends before it
+pub record IsPlan (net : Net) (h : ℕ) (steps : List Step) : Type 0 where
+  pub leads : Leads net h
   pub codes : (k : ℕ) → k < length steps → HasCode net.nodes (get_or steps k no_step)
   pub last : (k : ℕ) → k + 1 ≡ length steps → (get_or steps k no_step).op ≡ Plain
-  pub ordered : IsOrdered net.nodes (targets steps)
-  pub roots : OfRoots net (Among (targets steps) (length steps))
+  pub ordered : IsOrdered net.nodes h (targets steps)
+  pub roots : OfRoots net (IsKnown h (targets steps) (length steps))
 
--- the first k steps have been evaluated in this cycle
-pub record Settled (net : Net) (input : Input) (steps : List Step) (k : ℕ) (m : Stored) : Type 0 where
+-- the first h nodes have their values, and the first k steps have been evaluated in this cycle
+pub record Settled (net : Net) (input : Input) (h : ℕ) (steps : List Step) (k : ℕ) (m : Stored) : Type 0 where
   pub widths : FitsBelow net.nodes m.nodes (length net.nodes)
+  pub leads : (j : ℕ) → j < h → get_or m.nodes j 0 ≡ at (cells input m) net.nodes j
   pub known : (q : ℕ) → q < k → get_or m.nodes (get_or (targets steps) q 0) 0 ≡ at (cells input m) net.nodes (get_or (targets steps) q 0)

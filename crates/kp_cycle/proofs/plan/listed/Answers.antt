@@ -10,6 +10,6 @@ loop-i-preserved c =
     elim c.if-marks-i.branch [
       | then-marks-i+in_ok-push w ↦
           rw w.order-is (rw w.in_ok-push.ensures.items
-          (listed_more ns marks i c.loop-i.order.items c.loop-i-test.true (c.requires.below i c.loop-i-test.true) (c.requires.operands i c.loop-i-test.true w.if-marks-i.true) c.loop-i.invariant))
-      | else-marks-i w ↦ rw w.order-is (listed_skip ns marks i c.loop-i.order.items w.if-marks-i.false c.loop-i.invariant)
+          (listed_more ns c.args.heads marks i c.loop-i.order.items c.loop-i-test.true (c.requires.below i c.loop-i-test.true) (c.requires.operands i c.loop-i-test.true w.if-marks-i.true) c.loop-i.invariant))
+      | else-marks-i w ↦ rw w.order-is (listed_skip ns c.args.heads marks i c.loop-i.order.items w.if-marks-i.false c.loop-i.invariant)
     ]

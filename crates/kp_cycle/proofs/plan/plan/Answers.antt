@@ -1,6 +1,6 @@
 use Rattle.std.proofs.Common.{length, arith}
-use Rattle.kp_cycle.specs.inner.Plans.{IsMarked, Among}
-use Rattle.kp_cycle.proofs.Marking.{plan_is, marked_inside}
+use Rattle.kp_cycle.specs.inner.Plans.{IsMarked, IsKnown}
+use Rattle.kp_cycle.proofs.Marking.{plan_is, marked_inside, known_at}
 use Rattle.kp_cycle.proofs.Stepping.{roots_are}
 use Rattle.kp_cycle.proofs.plan.plan.Goals as goal
 
@@ -13,8 +13,7 @@ steps_of-requires-clause-some c =
     let all = (rw (c.nodes.ensures.nodes, c.as_slice.ensures.value) at c.in_ok-order.ensures.all) in
     let more = (rw c.as_slice-2.ensures.value at c.in_ok-batched.ensures.all) in
     let l = marked_inside marks full needed.1.full in
-    let a = more full (all full (omega (arith, l, needed.0)) needed.1.full) in
-    let b = a.1 in
+    let b = known_at c.args.heads c.in_ok-batched.batched.items full c.requires.inside (more full (all full (omega (arith, l, needed.0)) needed.1.full)) in
     rw c.as_slice-3.ensures.value (omega (arith, b))
 
 pub returns : goal.returns
@@ -27,10 +26,10 @@ returns c =
     let more = (rw c.as_slice-2.ensures.value at c.in_ok-batched.ensures.all) in
     let full = net.parts.full.0 in
     let l = marked_inside marks full needed.1.full in
-    let a = more full (all full (omega (arith, l, needed.0)) needed.1.full) in
-    let b = a.1 in
-    plan_is net ts c.in_ok-steps.steps.items
+    let b = known_at c.args.heads ts full c.requires.inside (more full (all full (omega (arith, l, needed.0)) needed.1.full)) in
+    plan_is net c.args.heads ts c.in_ok-steps.steps.items
     (omega (arith, b))
     (rw (c.nodes-3.ensures.nodes, c.as_slice-3.ensures.value) at c.in_ok-steps.ensures)
+    c.requires.leads
     (rw c.nodes-2.ensures.nodes at c.in_ok-batched.ensures.ordered)
-    (roots_are net (IsMarked marks) (Among ts (length ts)) (λ j m. let l = marked_inside marks j m in more j (all j (omega (arith, l, needed.0)) m)) needed.1)
+    (roots_are net (IsMarked marks) (IsKnown c.args.heads ts (length ts)) (λ j m. let l = marked_inside marks j m in more j (all j (omega (arith, l, needed.0)) m)) needed.1)

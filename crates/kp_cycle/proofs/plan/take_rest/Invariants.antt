@@ -3,4 +3,4 @@ use Rattle.kp_cycle.specs.inner.Plans.{IsMarked, Taken}
 use Rattle.kp_cycle.proofs.plan.take_rest.Given as goal
 
 abbrev pub invariant-loop-k : goal.invariant-loop-k
-invariant-loop-k l = Taken l.nodes l.done l.batched.items × ((q : ℕ) → q < l.k → IsMarked l.done (get_or l.order q 0))
+invariant-loop-k l = Taken l.nodes l.heads l.done l.batched.items × ((q : ℕ) → q < l.k → IsMarked l.done (get_or l.order q 0))
