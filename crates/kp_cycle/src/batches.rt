@@ -161,9 +161,12 @@ impl Batch for Mux {
         let Op::Mux(test, yes, no) = op else {
             return None
         };
-        let yes = memory.node(yes.0);
-        let no = memory.node(no.0);
-        Some(if memory.node(test.0) == 1 { yes } else { no })
+        let chosen = if memory.node(test.0) == 1 {
+            yes.0
+        } else {
+            no.0
+        };
+        Some(memory.node(chosen))
     }
 }
 
@@ -237,7 +240,8 @@ pub fn take_batch(
     }
 }
 
-// Evaluates the steps from this one on that have this operation. The last step of all has none of these operations, so no end is looked for.
+// Evaluates the steps from this one on that have this operation. The last step of all has none of these operations, so no end is looked for. Four
+// steps are evaluated in a turn of the loop, which saves counting.
 #[inline(always)]
 fn take_while<B: Batch>(
     net: &Netlist,
@@ -260,7 +264,59 @@ fn take_while<B: Batch>(
     let mut k = from;
     'batch: while let Some(value) = B::value(&steps[k].op, memory) {
         memory.set_node(steps[k].target, value);
-        k += 1;
+        k = take_three::<B>(net, _heads, steps, memory, k + 1);
     }
     k
+}
+
+// Evaluates up to three steps from this one on that have this operation.
+#[inline(always)]
+fn take_three<B: Batch>(
+    net: &Netlist,
+    _heads: u32,
+    steps: &[Step],
+    memory: &mut Memory,
+    from: usize,
+) -> usize
+    requires plan { IsPlan net.now _heads steps.now }
+    requires fits { Fits net.now memory.old }
+    requires inside { from < length steps.now }
+    ensures forward { from ≤ result }
+    ensures inside { result < length steps.now }
+    ensures fits { Fits net.now memory.new }
+    ensures settled { (input : Input) → Settled net.now input _heads steps.now from memory.old → Settled net.now input _heads steps.now result memory.new }
+    ensures regs { memory.new.regs ≡ memory.old.regs }
+    ensures files { memory.new.files ≡ memory.old.files }
+    ensures slots { memory.new.slots ≡ memory.old.slots }
+{
+    let second = take_if::<B>(net, _heads, steps, memory, from);
+    let third = take_if::<B>(net, _heads, steps, memory, second);
+    take_if::<B>(net, _heads, steps, memory, third)
+}
+
+// Evaluates this step if it has this operation.
+#[inline(always)]
+fn take_if<B: Batch>(
+    net: &Netlist,
+    _heads: u32,
+    steps: &[Step],
+    memory: &mut Memory,
+    k: usize,
+) -> usize
+    requires plan { IsPlan net.now _heads steps.now }
+    requires fits { Fits net.now memory.old }
+    requires inside { k < length steps.now }
+    ensures forward { k ≤ result }
+    ensures inside { result < length steps.now }
+    ensures fits { Fits net.now memory.new }
+    ensures settled { (input : Input) → Settled net.now input _heads steps.now k memory.old → Settled net.now input _heads steps.now result memory.new }
+    ensures regs { memory.new.regs ≡ memory.old.regs }
+    ensures files { memory.new.files ≡ memory.old.files }
+    ensures slots { memory.new.slots ≡ memory.old.slots }
+{
+    let Some(value) = B::value(&steps[k].op, memory) else {
+        return k
+    };
+    memory.set_node(steps[k].target, value);
+    k + 1
 }

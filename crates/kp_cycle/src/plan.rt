@@ -166,9 +166,11 @@ fn listed(alloc: Global, nodes: &[Node], heads: usize, marks: &[bool]) -> Result
 // The number of passes over the nodes, each for one operation. Nodes that are left then stay in their old order.
 const PASSES: usize = 384;
 
-// The operations of 24 passes, as `class_of` numbers them, in an order that makes few batches of the nodes of a pipeline. It was found by trials.
-const TURNS: [u8; 24] = [
-    0, 3, 7, 5, 6, 8, 5, 13, 13, 6, 12, 12, 4, 12, 3, 10, 14, 9, 5, 15, 11, 2, 9, 1,
+// The operations of 72 passes, as `class_of` numbers them, in an order that makes few batches of the nodes of a pipeline. It was found by trials.
+const TURNS: [u8; 72] = [
+    0, 2, 3, 15, 10, 3, 3, 1, 5, 12, 12, 10, 12, 13, 13, 0, 7, 12, 12, 2, 5, 6, 14, 3, 5, 2, 6, 5,
+    3, 9, 7, 5, 6, 9, 9, 1, 12, 5, 12, 5, 1, 6, 11, 15, 4, 11, 14, 7, 13, 15, 8, 5, 13, 9, 6, 12,
+    13, 5, 12, 3, 8, 10, 4, 11, 6, 0, 4, 13, 14, 9, 9, 8,
 ];
 
 // The same nodes, with those of one operation adjacent as far as their operands allow.
@@ -190,7 +192,7 @@ fn in_batches(
             nodes,
             heads,
             order,
-            TURNS[pass % 24],
+            TURNS[pass % 72],
             done.as_mut_slice(),
             &mut batched,
         )?;
