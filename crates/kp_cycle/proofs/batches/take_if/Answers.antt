@@ -1,4 +1,4 @@
-use Rattle.std.proofs.Common.{◌+◌, ◌<◌, [], false, length, sym, subst, arith}
+use Rattle.std.proofs.Common.{◌+◌, [], false, sym, subst, arith}
 use Rattle.kp_net.specs.Netlist.{Input}
 use Rattle.kp_cycle.specs.inner.Plans.{Settled}
 use Rattle.kp_cycle.specs.inner.Storage.{Stored, cells}

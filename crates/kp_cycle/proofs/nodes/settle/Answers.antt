@@ -1,8 +1,8 @@
-use Rattle.std.proofs.Common.{◌≡◌, ◌<◌, ◌≤◌, false, ℕ, List, length, get_or, ap, refl, sym, subst, arith, ◌∙◌}
+use Rattle.std.proofs.Common.{◌≡◌, ◌<◌, false, ℕ, List, length, get_or, ap, sym, subst, arith, ◌∙◌}
 use Rattle.kp_net.specs.Netlist.{State}
 use Rattle.kp_cycle.specs.Steps.{given}
 use Rattle.kp_cycle.specs.inner.Plans.{Settled}
-use Rattle.kp_cycle.specs.inner.Storage.{Stored, Fits, StateFits, state_of}
+use Rattle.kp_cycle.specs.inner.Storage.{Fits, StateFits, state_of}
 use Rattle.kp_cycle.proofs.Stepping.{all_settled, none_settled, heads_fit}
 use Rattle.kp_cycle.proofs.Settling.{fits_as}
 use Rattle.kp_cycle.proofs.nodes.settle.Goals as goal

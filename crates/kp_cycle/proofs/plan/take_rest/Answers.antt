@@ -1,5 +1,4 @@
-use Rattle.std.proofs.Common.{ℕ}
-use Rattle.kp_cycle.proofs.Marking.{operands_taken, known_taken}
+use Rattle.kp_cycle.proofs.Marking.{operands_taken}
 use Rattle.kp_cycle.proofs.plan.take_rest.Goals as goal
 
 pub take-requires-clause-operands : goal.take-requires-clause-operands
