@@ -249,6 +249,9 @@ fn take_if_ready(
     requires taken { Taken nodes.now heads done.old batched.old.items }
     ensures { IfOk result (λ _. Taken nodes.now heads done.new batched.new.items) }
 {
+    if done[target as usize] {
+        return Ok(());
+    }
     let kind = &nodes[target as usize].kind;
     if class_of(kind) != class {
         return Ok(());
