@@ -1,0 +1,59 @@
+-- A guess has the width of its register.
+use Rattle.std.proofs.Common.{◌≡◌, ℕ, zero, suc, ◌<◌, List, [], ◌∷◌, ◌++◌, Option, Some, None, true, false, length, get_or, refl, arith, ⊎_elim}
+use Rattle.std.proofs.lemmas.Bool.{cases_Bool}
+use Rattle.std.specs.List.{AllByRecursion}
+use Rattle.kp_ast.specs.Expressions.{is_same_name}
+use Rattle.kp_ast.specs.declared.tree.Block.{Block}
+use Rattle.kp_ast.specs.declared.tree.Expr.{Expr}
+use Rattle.kp_ast.specs.declared.tree.Job.{Job}
+use Rattle.kp_ast.specs.declared.tree.ReadStmt.{ReadStmt}
+use Rattle.kp_ast.specs.declared.tree.Stmt.{Stmt}
+use Rattle.kp_ast.specs.declared.tree.StmtKind.{StmtKind}
+use Rattle.kp_ast.specs.declared.tree.StmtKind.TheVariants as stmts
+use Rattle.kp_machine.specs.Slots.{Slot, number_of, targets_of, width_of}
+use Rattle.kp_synth_tables.specs.declared.key.GuessSlot.{GuessSlot}
+use Rattle.kp_synth_tables.specs.Keys.{guess_at, guesses_from, guesses_in, guesses_of, no_guess, no_slot, target_at, with_guess, with_read}
+
+named_width : (ss : List Slot) (name : List ℕ) → width_of ss name ≡ (get_or ss (number_of ss name) no_slot).width
+named_width [] name = refl
+named_width (s ∷ ss) name = ⊎_elim
+    (λ (e : is_same_name name s.name ≡ true). rw e refl)
+    (λ (e : is_same_name name s.name ≡ false). rw e (named_width ss name))
+    (cases_Bool (is_same_name name s.name))
+
+module _ (job : Job) where
+  abbrev IsSized : GuessSlot → Type 0
+  IsSized g = g.width ≡ (target_at job g.register).width
+
+  module _ (k : ℕ) where
+    read_sized : (i : ℕ) (r : ReadStmt) (o : Option Expr) (rest : ℕ → List GuessSlot) → ((m : ℕ) → AllByRecursion IsSized (rest m)) → AllByRecursion IsSized (with_read job k i r o rest)
+    read_sized i r None rest more = more i
+    read_sized i r (Some e) rest more = (named_width (targets_of job.decls) r.target.name, more (suc i))
+
+    kind_sized : (i : ℕ) (x : StmtKind) (rest : ℕ → List GuessSlot) → ((m : ℕ) → AllByRecursion IsSized (rest m)) → AllByRecursion IsSized (with_guess job k i x rest)
+    kind_sized i (stmts.Read r) rest more = read_sized i r r.guess rest more
+    kind_sized i (stmts.Let n e) rest more = more i
+    kind_sized i (stmts.Put n e) rest more = more i
+    kind_sized i (stmts.Set n e when) rest more = more i
+    kind_sized i (stmts.Aim n e) rest more = more i
+
+    block_sized : (i : ℕ) (ss : List Stmt) → AllByRecursion IsSized (guesses_in job k i ss)
+    block_sized i [] = tt
+    block_sized i (s ∷ ss) = kind_sized i s.kind (λ j. guesses_in job k j ss) (λ j. block_sized j ss)
+
+  all_append : (xs ys : List GuessSlot) → AllByRecursion IsSized xs → AllByRecursion IsSized ys → AllByRecursion IsSized (xs ++ ys)
+  all_append [] ys a b = b
+  all_append (x ∷ xs) ys a b = (a.0, all_append xs ys a.1 b)
+
+  blocks_sized : (k : ℕ) (bs : List Block) → AllByRecursion IsSized (guesses_from job k bs)
+  blocks_sized k [] = tt
+  blocks_sized k (b ∷ bs) = all_append (guesses_in job k 0 b.stmts) (guesses_from job (suc k) bs) (block_sized k 0 b.stmts) (blocks_sized (suc k) bs)
+
+  sized_at : (gs : List GuessSlot) (g : ℕ) → AllByRecursion IsSized gs → g < length gs → IsSized (get_or gs g no_guess)
+  sized_at [] g all b = absurd (omega (arith, b))
+  sized_at (x ∷ gs) zero all b = all.0
+  sized_at (x ∷ gs) (suc g) all b = sized_at gs g all.1 (omega (arith, b))
+
+  pub guess_sized : (g : ℕ) → g < length (guesses_of job) → (guess_at job g).width ≡ (target_at job (guess_at job g).register).width
+  unfolding guesses_of
+  guess_sized g b = sized_at (guesses_from job 0 job.blocks) g (blocks_sized 0 job.blocks) b
