@@ -17,7 +17,7 @@ use Rattle.kp_diagram_run.proofs.Words.{words-seen}
 use Rattle.kp_stalls.specs.Occupants.{report}
 use Rattle.kp_stalls.specs.Cycles.{lines_from}
 use Rattle.kp_stalls.specs.Sites.{sited}
-use Rattle.kp_stalls_run.specs.Runs.{job_stalls, settled}
+use Rattle.kp_stalls_run.specs.Runs.{run_lines, settled}
 use Rattle.kp_stalls_run.specs.inner.Running.{StaysClose}
 use Rattle.kp_stalls_run.proofs.Closeness.{stays_close}
 use Rattle.kp_stalls_run.proofs.Steps.{lines_same}
@@ -37,7 +37,7 @@ taken_in job seen = taken (machine_of job) (inputs_from job 0 (length seen)) see
 -- The lines of its rows are those of the job.
 pub job_lines : (job : Job) (n : ℕ) (rows : List masks.Row) (words : List ℕ) → inputs_seen job (inputs_to job n) ≡ inputs_from job 0 n → IsRunOf job n rows words
     → lines_from (sited job) (ext_in words) (settled job (taken_in job (rows_seen job.stages.value rows))) (report job (taken_in job (rows_seen job.stages.value rows))) 0 (λ k. 0)
-    (rows_seen job.stages.value rows) ≡ job_stalls n job
+    (rows_seen job.stages.value rows) ≡ run_lines n job
 job_lines job n rows words given run =
     let seen = rows_seen job.stages.value rows in
     let took = taken_in job seen in

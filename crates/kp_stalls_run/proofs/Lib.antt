@@ -5,3 +5,5 @@ pub mod Cycles
 pub mod Taking
 pub mod Jobs
 pub mod Telling
+pub mod Values
+pub mod Naming

@@ -15,6 +15,7 @@ ghost use Rattle.kp_stalls.specs.Windows.{Follows};
 ghost use Rattle.kp_stalls_run.specs.Runs.{job_stalls, settled};
 ghost use Rattle.kp_stalls_run.specs.inner.Running.{StaysClose, stage_now};
 
+use crate::guesses::add_values;
 use crate::reach::reach;
 use crate::samples::{Samples, stages_of};
 use crate::stages::{Moment, stages_at};
@@ -38,7 +39,9 @@ pub fn stalls_of(alloc: Global, job: &Accepted, count: u32) -> Result<Vec<Line>,
     let run = run_job(alloc, job, count)?;
     let lines = lines_of(alloc, job, run.rows.as_slice(), run.words.as_slice());
     drop(run);
-    lines
+    let mut lines = lines?;
+    add_values(alloc, job, lines.as_mut_slice())?;
+    Ok(lines)
 }
 
 // The lines of a run with these rows and stall words.
