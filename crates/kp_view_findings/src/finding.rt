@@ -1,5 +1,7 @@
 // What a pass over a job finds.
-ghost use Rattle.std.specs.Prelude.{◌≡◌, leb, vec_len};
+ghost use Rattle.std.specs.Prelude.{◌≡◌, is_some, leb, true, vec_len, OnErr, OnOk};
+ghost use Rattle.kp_view_findings.specs.Noted.{IsQuiet, noted, with_finding};
+ghost use Rattle.kp_view_findings.specs.Tables.{value_of, with_first};
 
 use crate::table::Table;
 use kp_ast::Name;
@@ -34,7 +36,9 @@ pub struct Findings<'t> {
 
 impl<'t> Findings<'t> {
     /// No findings.
-    pub fn new(alloc: Global) -> Findings<'t> {
+    pub fn new(alloc: Global) -> Findings<'t>
+        ensures { IsQuiet result }
+    {
         Findings {
             all: Vec::new(alloc),
             doubtful: Table::new(alloc),
@@ -42,7 +46,11 @@ impl<'t> Findings<'t> {
     }
 
     /// Notes a finding, unless there are enough.
-    pub fn add(&mut self, place: Place, message: Message<'t>) -> Result<(), NoMemory> {
+    pub fn add(&mut self, place: Place, message: Message<'t>) -> Result<(), NoMemory>
+        ensures noted { OnOk result (noted self.new ≡ with_finding (noted self.old) (record { place = place; message = message.entry })) }
+        ensures unchanged { OnErr result (noted self.new ≡ noted self.old) }
+        ensures doubtful { self.new.doubtful ≡ self.old.doubtful }
+    {
         if self.all.len() < MOST {
             self.all.push(Finding { place, message })?;
         }
@@ -55,13 +63,19 @@ impl<'t> Findings<'t> {
         name: &Name,
         place: Place,
         message: Message<'t>,
-    ) -> Result<(), NoMemory> {
+    ) -> Result<(), NoMemory>
+        ensures noted { OnOk result (noted self.new ≡ with_finding (noted self.old) (record { place = place; message = message.entry })) }
+        ensures unchanged { OnErr result (noted self.new ≡ noted self.old) }
+        ensures doubtful { OnOk result (self.new.doubtful ≡ with_first self.old.doubtful name.now true) }
+    {
         self.doubtful.set_first(name, true)?;
         self.add(place, message)
     }
 
     /// Whether the declaration of a name is missing or doubtful.
-    pub fn is_doubtful(&self, name: &Name) -> bool {
+    pub fn is_doubtful(&self, name: &Name) -> bool
+        ensures { result ≡ is_some (value_of self.now.doubtful name.now) }
+    {
         self.doubtful.get(name).is_some()
     }
 
@@ -73,7 +87,9 @@ impl<'t> Findings<'t> {
     }
 
     /// The findings in the order in which they were noted.
-    pub fn as_slice(&self) -> &[Finding<'t>] {
+    pub fn as_slice(&self) -> &[Finding<'t>]
+        ensures { result.now ≡ noted self.now }
+    {
         self.all.as_slice()
     }
 }

@@ -2,7 +2,7 @@
 use crate::checks::{
     check_condition, check_value, declared, fits, is_width, literal_width, width_in,
 };
-use crate::lookup::{Here, callee, check_count, params_of, used};
+use crate::lookup::{Here, callee, counted_params, used};
 use crate::names::{Names, Position};
 use kp_ast::{Expr, ExprKind, Name, Num, Param};
 use kp_base::{NoMemory, Place};
@@ -26,14 +26,7 @@ pub(crate) fn expression<'t>(
     }
     match &e.kind {
         ExprKind::Lit(literal) => literal_width(found, *literal, at),
-        ExprKind::Name(name) => {
-            let wanted = match names.position {
-                Position::Function => Wanted::Parameter,
-                Position::Text | Position::Stage(_) => Wanted::Value,
-            };
-            let known = used(here, names, found, wanted, name, at)?;
-            Ok(width_in(known))
-        }
+        ExprKind::Name(name) => named(here, names, found, name, at),
         ExprKind::Not(a) => expression(here, names, found, a.get()),
         ExprKind::Binary(op, a, b) => {
             let x = expression(here, names, found, a.get())?;
@@ -60,14 +53,28 @@ pub(crate) fn expression<'t>(
             extension(found, at, *number, width)
         }
         ExprKind::Call(name, args) => {
-            let known = callee(here, names, found, name, at)?;
-            let params = params_of(here, known);
             let args = args.as_slice();
-            let counts = check_count(found, at, name, known, params, args.len())?;
-            arguments(here, names, found, if counts { params } else { &[] }, args)?;
+            let known = callee(here, names, found, name, at)?;
+            let params = counted_params(here, found, name, known, args.len(), at)?;
+            arguments(here, names, found, params, args)?;
             Ok(width_in(known))
         }
     }
+}
+
+fn named<'t>(
+    here: Here<'t>,
+    names: &Names,
+    found: &mut Findings<'t>,
+    name: &'t Name,
+    at: Place,
+) -> Result<Option<u8>, NoMemory> {
+    let wanted = match names.position {
+        Position::Function => Wanted::Parameter,
+        Position::Text | Position::Stage(_) => Wanted::Value,
+    };
+    let known = used(here, names, found, wanted, name, at)?;
+    Ok(width_in(known))
 }
 
 // The sum of the widths, where all are known.

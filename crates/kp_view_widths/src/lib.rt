@@ -1,4 +1,4 @@
-//! The rules of names and widths, and those of the sections, over a tree that violates one: a pass that goes on after a violation, and tells what each
+//! The rules of names and widths, and those of the sections, over a tree that violates one: a pass that goes on after a violation, and says what each
 //! rests on. The verdict itself is that of `kp_frontend`.
 #![tactic(auto)]
 
@@ -7,6 +7,7 @@ mod expression;
 mod lookup;
 mod names;
 mod sections;
+mod told;
 mod widths;
 
 pub use sections::section_faults;

@@ -6,7 +6,7 @@ use kp_view_findings::Findings;
 use kp_view_help::{Kind, Wanted, Word};
 use kp_view_message::{Message, NameFault};
 
-/// The job, and how many of its declarations stand before the place where the pass is.
+/// The job, and how many of its declarations are before the place where the pass is.
 #[derive(Clone, Copy)]
 pub(crate) struct Here<'t> {
     pub job: &'t Job,
@@ -22,6 +22,18 @@ pub(crate) fn declared_name(decl: &Decl) -> &Named {
         | Decl::Sample(name, _, _) => name,
         Decl::Target(output) => &output.name,
         Decl::Func(func) => &func.name,
+    }
+}
+
+pub(crate) fn kind_of(decl: &Decl) -> Kind {
+    match decl {
+        Decl::Reg(_, _, _) => Kind::Register,
+        Decl::File(_, _, _) => Kind::File,
+        Decl::Pipe(_, _) => Kind::Pipe,
+        Decl::Hint(_, _, _) => Kind::Hint,
+        Decl::Target(_) => Kind::Output,
+        Decl::Func(_) => Kind::Function,
+        Decl::Sample(_, _, _) => Kind::Sample,
     }
 }
 
@@ -216,7 +228,7 @@ pub(crate) fn callee<'t>(
     used(here, names, found, Wanted::Function, name, at)
 }
 
-pub(crate) fn params_of<'t>(here: Here<'t>, known: Option<Known>) -> &'t [Param] {
+fn params_of<'t>(here: Here<'t>, known: Option<Known>) -> &'t [Param] {
     let Some(known) = known else {
         return &[];
     };
@@ -226,8 +238,24 @@ pub(crate) fn params_of<'t>(here: Here<'t>, known: Option<Known>) -> &'t [Param]
     }
 }
 
+// The parameters of the function of a call, where there are as many arguments; else none.
+pub(crate) fn counted_params<'t>(
+    here: Here<'t>,
+    found: &mut Findings<'t>,
+    name: &'t Name,
+    known: Option<Known>,
+    count: usize,
+    at: Place,
+) -> Result<&'t [Param], NoMemory> {
+    let params = params_of(here, known);
+    if check_count(found, at, name, known, params, count)? {
+        return Ok(params);
+    }
+    Ok(&[])
+}
+
 // Whether a call has as many arguments as the function has parameters.
-pub(crate) fn check_count<'t>(
+fn check_count<'t>(
     found: &mut Findings<'t>,
     at: Place,
     name: &'t Name,

@@ -18,8 +18,7 @@ pub(crate) struct Known {
 }
 
 impl Known {
-    /// A name of this kind that is declared in this line: the width of its values in bits, if it is known, and the number of its
-    /// declaration.
+    /// What is known of a name that has no addresses.
     pub fn new(kind: Kind, width: Option<u8>, line: u32, from: usize) -> Known {
         Known {
             kind,
@@ -50,7 +49,7 @@ pub(crate) struct Names {
 }
 
 impl Names {
-    /// No names. Allocates nothing.
+    /// No names, at the beginning of the text.
     pub fn new(alloc: Global) -> Names {
         Names {
             text: Table::new(alloc),
@@ -66,7 +65,7 @@ impl Names {
         self.position = position;
     }
 
-    /// What is known of a name, if it is declared.
+    /// What is known of a name in scope: of the function or the stage that is open, else of the text.
     pub fn find(&self, name: &Name) -> Option<Known> {
         match self.local.get(name) {
             Some(known) => Some(known),

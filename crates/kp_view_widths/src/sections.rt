@@ -1,6 +1,6 @@
 // The rules of sections, for a tree that violates no other rule.
 use crate::checks::{fits, literal_width};
-use crate::lookup::declared_name;
+use crate::lookup::{declared_name, kind_of};
 use crate::names::Known;
 use kp_ast::{Decl, Image, Inputs, Job, Lit, Name, Num, Stalls};
 use kp_base::NoMemory;
@@ -12,52 +12,77 @@ use std::alloc::Global;
 /// The violations in the sections of a job, in text order.
 pub fn section_faults<'t>(alloc: Global, job: &'t Job) -> Result<Findings<'t>, NoMemory> {
     let mut found = Findings::new(alloc);
+    add_sections(alloc, &mut found, job)?;
+    Ok(found)
+}
+
+fn add_sections<'t>(alloc: Global, found: &mut Findings<'t>, job: &'t Job) -> Result<(), NoMemory> {
     let names = declared(alloc, job)?;
+    image_entries(&names, found, job)?;
+    stall_entries(found, job)?;
+    input_entries(&names, found, job)
+}
+
+fn image_entries<'t>(
+    names: &Table<Known>,
+    found: &mut Findings<'t>,
+    job: &'t Job,
+) -> Result<(), NoMemory> {
     if let Some(image) = &job.image {
         for entry in image.as_slice() {
-            image_entry(&names, &mut found, entry)?;
+            image_entry(names, found, entry)?;
         }
     }
+    Ok(())
+}
+
+fn stall_entries<'t>(found: &mut Findings<'t>, job: &'t Job) -> Result<(), NoMemory> {
     if let Some(stalls) = &job.stalls {
         for entry in stalls.as_slice() {
-            stall_entry(job.stages.value, &mut found, entry)?;
+            stall_entry(job.stages.value, found, entry)?;
         }
     }
+    Ok(())
+}
+
+fn input_entries<'t>(
+    names: &Table<Known>,
+    found: &mut Findings<'t>,
+    job: &'t Job,
+) -> Result<(), NoMemory> {
     if let Some(inputs) = &job.inputs {
         for entry in inputs.as_slice() {
-            input_entry(&names, &mut found, entry)?;
+            input_entry(names, found, entry)?;
         }
     }
-    Ok(found)
+    Ok(())
 }
 
 // What is declared before the stages.
 fn declared(alloc: Global, job: &Job) -> Result<Table<Known>, NoMemory> {
     let mut names = Table::new(alloc);
     for (number, decl) in job.decls.as_slice().iter().enumerate() {
-        let named = declared_name(decl);
-        names.set_first(&named.name, known_of(decl, named.at.line, number))?;
+        names.set_first(&declared_name(decl).name, known_of(decl, number))?;
     }
     Ok(names)
 }
 
-fn known_of(decl: &Decl, line: u32, number: usize) -> Known {
-    let (kind, width) = match decl {
-        Decl::Reg(_, width, _) => (Kind::Register, *width),
-        Decl::File(_, width, _) => (Kind::File, *width),
-        Decl::Pipe(_, width) => (Kind::Pipe, *width),
-        Decl::Hint(_, width, _) => (Kind::Hint, *width),
-        Decl::Target(output) => (Kind::Output, output.width),
-        Decl::Func(function) => (Kind::Function, function.width),
-        Decl::Sample(_, width, _) => (Kind::Sample, *width),
+fn known_of(decl: &Decl, number: usize) -> Known {
+    let (width, address) = match decl {
+        Decl::Reg(_, width, _)
+        | Decl::Pipe(_, width)
+        | Decl::Hint(_, width, _)
+        | Decl::Sample(_, width, _) => (width.value, None),
+        Decl::File(_, width, address) => (width.value, u8::try_from(address.value).ok()),
+        Decl::Target(output) => (output.width.value, None),
+        Decl::Func(function) => (function.width.value, None),
     };
-    let known = Known::new(kind, u8::try_from(width.value).ok(), line, number);
-    match decl {
-        Decl::File(_, _, address) => Known {
-            address: u8::try_from(address.value).ok(),
-            ..known
-        },
-        _ => known,
+    Known {
+        kind: kind_of(decl),
+        width: u8::try_from(width).ok(),
+        address,
+        line: declared_name(decl).at.line,
+        from: number,
     }
 }
 

@@ -1,12 +1,17 @@
 // The rules of names and widths: a pass that goes on after a violation.
+ghost use Rattle.std.specs.Prelude.{IfOk};
+ghost use Rattle.kp_view_findings.specs.Noted.{noted};
+ghost use Rattle.kp_view_widths.specs.Telling.{FirstIsTrue};
+
 use crate::checks::{
     addresses, check_address, check_condition, check_value, declared, literal_width, width_in,
 };
 use crate::expression::expression;
-use crate::lookup::{Here, check_fresh, declared_name, storage, used};
+use crate::lookup::{Here, check_fresh, declared_name, kind_of, storage, used};
 use crate::names::{Known, Names, Position};
+use crate::told::confirmed;
 use kp_ast::{
-    Block, Decl, Expr, FuncDecl, Job, Lit, Named, Num, ReadStmt, ResultDecl, Stmt, StmtKind,
+    Block, Decl, Expr, FuncDecl, Job, Lit, Named, Num, Param, ReadStmt, ResultDecl, Stmt, StmtKind,
 };
 use kp_base::NoMemory;
 use kp_view_findings::Findings;
@@ -14,26 +19,49 @@ use kp_view_help::{Kind, Wanted, Word};
 use kp_view_message::{Goal, Message, WidthFault};
 use std::alloc::Global;
 
-/// The violations of names and widths in a job, in text order.
-pub fn faults<'t>(alloc: Global, job: &'t Job) -> Result<Findings<'t>, NoMemory> {
-    let decls = job.decls.as_slice();
-    let mut names = Names::new(alloc);
+/// The violations of names and widths in a job, in text order. The widths of expressions that the message of the first one tells are those that the rules
+/// define.
+pub fn faults<'t>(alloc: Global, job: &'t Job) -> Result<Findings<'t>, NoMemory>
+    ensures { IfOk result (λ f. FirstIsTrue job.now (noted f)) }
+{
     let mut found = Findings::new(alloc);
-    for (done, decl) in decls.iter().enumerate() {
+    add_job(alloc, &mut found, job)?;
+    confirmed(alloc, job, found.as_slice())
+}
+
+fn add_job<'t>(alloc: Global, found: &mut Findings<'t>, job: &'t Job) -> Result<(), NoMemory> {
+    let mut names = Names::new(alloc);
+    add_decls(alloc, &mut names, found, job)?;
+    add_blocks(alloc, &mut names, found, job)
+}
+
+fn add_decls<'t>(
+    alloc: Global,
+    names: &mut Names,
+    found: &mut Findings<'t>,
+    job: &'t Job,
+) -> Result<(), NoMemory> {
+    for (done, decl) in job.decls.as_slice().iter().enumerate() {
         if found.is_full() {
-            return Ok(found);
+            return Ok(());
         }
-        add_decl(alloc, Here { job, done }, &mut names, &mut found, decl)?;
+        add_decl(alloc, Here { job, done }, names, found, decl)?;
     }
+    Ok(())
+}
+
+fn add_blocks<'t>(
+    alloc: Global,
+    names: &mut Names,
+    found: &mut Findings<'t>,
+    job: &'t Job,
+) -> Result<(), NoMemory> {
+    let done = job.decls.as_slice().len();
     for (k, block) in job.blocks.as_slice().iter().enumerate() {
         names.open(alloc, Position::Stage(k));
-        let here = Here {
-            job,
-            done: decls.len(),
-        };
-        add_block(here, &mut names, &mut found, block)?;
+        add_block(Here { job, done }, names, found, block)?;
     }
-    Ok(found)
+    Ok(())
 }
 
 fn add_block<'t>(
@@ -62,38 +90,44 @@ fn add_decl<'t>(
     if !check_fresh(names, found, named, false)? {
         return Ok(());
     }
-    let line = named.at.line;
-    let known = match decl {
-        Decl::Reg(_, number, start) => {
-            let width = started(found, named, *number, *start)?;
-            Known::new(Kind::Register, width, line, here.done)
-        }
-        Decl::File(_, number, address) => {
-            let width = declared(found, *number)?;
-            let known = Known::new(Kind::File, width, line, here.done);
-            let address = addresses(found, *address)?;
-            Known { address, ..known }
-        }
-        Decl::Pipe(_, number) => {
-            Known::new(Kind::Pipe, declared(found, *number)?, line, here.done)
-        }
-        Decl::Hint(_, number, start) => {
-            let width = started(found, named, *number, *start)?;
-            Known::new(Kind::Hint, width, line, here.done)
-        }
-        Decl::Target(output) => {
-            let width = add_output(here, names, found, output)?;
-            Known::new(Kind::Output, width, line, here.done)
-        }
-        Decl::Func(func) => {
-            let width = add_function(alloc, here, names, found, func)?;
-            Known::new(Kind::Function, width, line, here.done)
-        }
-        Decl::Sample(_, number, _) => {
-            Known::new(Kind::Sample, declared(found, *number)?, line, here.done)
-        }
+    let width = declared_width(alloc, here, names, found, decl)?;
+    let address = declared_address(found, decl)?;
+    let known = Known {
+        kind: kind_of(decl),
+        width,
+        address,
+        line: named.at.line,
+        from: here.done,
     };
     names.text.set(&named.name, known)
+}
+
+// The width of a declared name, with what else its declaration says of widths.
+fn declared_width<'t>(
+    alloc: Global,
+    here: Here<'t>,
+    names: &mut Names,
+    found: &mut Findings<'t>,
+    decl: &'t Decl,
+) -> Result<Option<u8>, NoMemory> {
+    match decl {
+        Decl::Reg(named, number, start) | Decl::Hint(named, number, start) => {
+            started(found, named, *number, *start)
+        }
+        Decl::File(_, number, _) | Decl::Pipe(_, number) | Decl::Sample(_, number, _) => {
+            declared(found, *number)
+        }
+        Decl::Target(output) => add_output(here, names, found, output),
+        Decl::Func(func) => add_function(alloc, here, names, found, func),
+    }
+}
+
+// The width of the addresses of a file.
+fn declared_address(found: &mut Findings<'_>, decl: &Decl) -> Result<Option<u8>, NoMemory> {
+    match decl {
+        Decl::File(_, _, address) => addresses(found, *address),
+        _ => Ok(None),
+    }
 }
 
 // The width of a register or a hint, with its start value.
@@ -130,45 +164,72 @@ fn add_output<'t>(
 ) -> Result<Option<u8>, NoMemory> {
     let width = declared(found, output.width)?;
     let target = storage(here, names, found, &output.target, output.address.is_some())?;
-    let Some(target) = target else {
-        return Ok(width);
-    };
-    if let (Some(ours), Some(theirs)) = (width, target.width) {
-        if ours != theirs {
-            found.add(
-                output.target.at,
-                Message::Width(WidthFault::TargetWidth {
-                    result: ours,
-                    target: theirs,
-                    name: Word::of(&output.target.name),
-                    kind: target.kind,
-                    line: target.line,
-                }),
-            )?;
-        }
+    if let Some(target) = target {
+        check_target(found, &output.target, width, target)?;
+        check_pipes(here, names, found, output, target)?;
     }
+    Ok(width)
+}
+
+fn check_target<'t>(
+    found: &mut Findings<'t>,
+    named: &'t Named,
+    width: Option<u8>,
+    target: Known,
+) -> Result<(), NoMemory> {
+    match (width, target.width) {
+        (Some(ours), Some(theirs)) if ours != theirs => found.add(
+            named.at,
+            Message::Width(WidthFault::TargetWidth {
+                result: ours,
+                target: theirs,
+                name: Word::of(&named.name),
+                kind: target.kind,
+                line: target.line,
+            }),
+        ),
+        _ => Ok(()),
+    }
+}
+
+// The pipes of a result: its address, then its enable.
+fn check_pipes<'t>(
+    here: Here<'t>,
+    names: &Names,
+    found: &mut Findings<'t>,
+    output: &'t ResultDecl,
+    target: Known,
+) -> Result<(), NoMemory> {
     if let Some(pipe) = &output.address {
         let known = used(here, names, found, Wanted::Pipe, &pipe.name, pipe.at)?;
         check_address(found, pipe.at, width_in(known), target, &output.target.name)?;
     }
-    if let Some(pipe) = &output.enable {
-        let known = used(here, names, found, Wanted::Pipe, &pipe.name, pipe.at)?;
-        if let Some(known) = known {
-            if let Some(width) = known.width {
-                if width != 1 {
-                    found.add(
-                        pipe.at,
-                        Message::Width(WidthFault::Enable {
-                            found: width,
-                            name: Word::of(&pipe.name),
-                            line: known.line,
-                        }),
-                    )?;
-                }
-            }
-        }
+    match &output.enable {
+        Some(pipe) => check_enable(here, names, found, pipe),
+        None => Ok(()),
     }
-    Ok(width)
+}
+
+fn check_enable<'t>(
+    here: Here<'t>,
+    names: &Names,
+    found: &mut Findings<'t>,
+    pipe: &'t Named,
+) -> Result<(), NoMemory> {
+    let Some(known) = used(here, names, found, Wanted::Pipe, &pipe.name, pipe.at)? else {
+        return Ok(());
+    };
+    match known.width {
+        Some(width) if width != 1 => found.add(
+            pipe.at,
+            Message::Width(WidthFault::Enable {
+                found: width,
+                name: Word::of(&pipe.name),
+                line: known.line,
+            }),
+        ),
+        _ => Ok(()),
+    }
 }
 
 // The width of a function, with its parameters and its expression.
@@ -180,20 +241,39 @@ fn add_function<'t>(
     func: &'t FuncDecl,
 ) -> Result<Option<u8>, NoMemory> {
     names.open(alloc, Position::Function);
-    for param in func.params.as_slice() {
-        if check_fresh(names, found, &param.name, false)? {
-            let width = declared(found, param.width)?;
-            let line = param.name.at.line;
-            let known = Known::new(Kind::Parameter, width, line, here.done);
-            names.add_local(&param.name.name, known)?;
-        }
-    }
+    add_params(here, names, found, func.params.as_slice())?;
     let width = declared(found, func.width)?;
     let given = expression(here, names, found, &func.body)?;
     let goal = Goal::Body(Word::of(&func.name.name));
     check_value(found, &func.body, given, width.map(u64::from), goal)?;
     names.open(alloc, Position::Text);
     Ok(width)
+}
+
+fn add_params<'t>(
+    here: Here<'t>,
+    names: &mut Names,
+    found: &mut Findings<'t>,
+    params: &'t [Param],
+) -> Result<(), NoMemory> {
+    for param in params {
+        add_param(here, names, found, param)?;
+    }
+    Ok(())
+}
+
+fn add_param<'t>(
+    here: Here<'t>,
+    names: &mut Names,
+    found: &mut Findings<'t>,
+    param: &'t Param,
+) -> Result<(), NoMemory> {
+    if !check_fresh(names, found, &param.name, false)? {
+        return Ok(());
+    }
+    let width = declared(found, param.width)?;
+    let known = Known::new(Kind::Parameter, width, param.name.at.line, here.done);
+    names.add_local(&param.name.name, known)
 }
 
 fn add_stmt<'t>(
@@ -203,31 +283,55 @@ fn add_stmt<'t>(
     stmt: &'t Stmt,
 ) -> Result<(), NoMemory> {
     match &stmt.kind {
-        StmtKind::Read(read) => {
-            let fresh = check_fresh(names, found, &read.name, true)?;
-            let width = read_width(here, names, found, read)?;
-            if fresh {
-                let known = Known::new(Kind::Read, width, read.name.at.line, here.done);
-                names.add_local(&read.name.name, known)?;
-            }
-            Ok(())
-        }
-        StmtKind::Let(named, e) => {
-            let fresh = check_fresh(names, found, named, true)?;
-            let width = expression(here, names, found, e)?;
-            if fresh {
-                let known = Known::new(Kind::Local, width, named.at.line, here.done);
-                names.add_local(&named.name, known)?;
-            }
-            Ok(())
-        }
+        StmtKind::Read(read) => add_read(here, names, found, read),
+        StmtKind::Let(named, e) => add_let(here, names, found, named, e),
         StmtKind::Put(named, e) => given(here, names, found, Wanted::Pipe, named, e),
-        StmtKind::Set(named, e, when) => {
-            given(here, names, found, Wanted::Output, named, e)?;
-            condition(here, names, found, when)
-        }
+        StmtKind::Set(named, e, when) => add_set(here, names, found, named, e, when),
         StmtKind::Aim(named, e) => given(here, names, found, Wanted::Hint, named, e),
     }
+}
+
+fn add_read<'t>(
+    here: Here<'t>,
+    names: &mut Names,
+    found: &mut Findings<'t>,
+    read: &'t ReadStmt,
+) -> Result<(), NoMemory> {
+    let fresh = check_fresh(names, found, &read.name, true)?;
+    let width = read_width(here, names, found, read)?;
+    if fresh {
+        let known = Known::new(Kind::Read, width, read.name.at.line, here.done);
+        names.add_local(&read.name.name, known)?;
+    }
+    Ok(())
+}
+
+fn add_let<'t>(
+    here: Here<'t>,
+    names: &mut Names,
+    found: &mut Findings<'t>,
+    named: &'t Named,
+    e: &'t Expr,
+) -> Result<(), NoMemory> {
+    let fresh = check_fresh(names, found, named, true)?;
+    let width = expression(here, names, found, e)?;
+    if fresh {
+        let known = Known::new(Kind::Local, width, named.at.line, here.done);
+        names.add_local(&named.name, known)?;
+    }
+    Ok(())
+}
+
+fn add_set<'t>(
+    here: Here<'t>,
+    names: &Names,
+    found: &mut Findings<'t>,
+    named: &'t Named,
+    e: &'t Expr,
+    when: &'t Option<Expr>,
+) -> Result<(), NoMemory> {
+    given(here, names, found, Wanted::Output, named, e)?;
+    condition(here, names, found, when)
 }
 
 // A value that is put, set or aimed.
@@ -269,19 +373,43 @@ fn read_width<'t>(
     read: &'t ReadStmt,
 ) -> Result<Option<u8>, NoMemory> {
     let target = storage(here, names, found, &read.target, read.address.is_some())?;
-    if let Some(e) = &read.address {
-        let width = expression(here, names, found, e)?;
-        if let Some(file) = target {
-            check_address(found, e.place, width, file, &read.target.name)?;
-        }
-    }
+    read_address(here, names, found, read, target)?;
     condition(here, names, found, &read.when)?;
-    if let Some(e) = &read.guess {
-        let width = expression(here, names, found, e)?;
-        if let Some(target) = target {
-            let goal = Goal::Named(target.kind, Word::of(&read.target.name));
-            check_value(found, e, width, target.width.map(u64::from), goal)?;
-        }
-    }
+    read_guess(here, names, found, read, target)?;
     Ok(width_in(target))
+}
+
+fn read_address<'t>(
+    here: Here<'t>,
+    names: &Names,
+    found: &mut Findings<'t>,
+    read: &'t ReadStmt,
+    target: Option<Known>,
+) -> Result<(), NoMemory> {
+    let Some(e) = &read.address else {
+        return Ok(());
+    };
+    let width = expression(here, names, found, e)?;
+    match target {
+        Some(file) => check_address(found, e.place, width, file, &read.target.name),
+        None => Ok(()),
+    }
+}
+
+fn read_guess<'t>(
+    here: Here<'t>,
+    names: &Names,
+    found: &mut Findings<'t>,
+    read: &'t ReadStmt,
+    target: Option<Known>,
+) -> Result<(), NoMemory> {
+    let Some(e) = &read.guess else {
+        return Ok(());
+    };
+    let width = expression(here, names, found, e)?;
+    let Some(target) = target else {
+        return Ok(());
+    };
+    let goal = Goal::Named(target.kind, Word::of(&read.target.name));
+    check_value(found, e, width, target.width.map(u64::from), goal)
 }

@@ -1,0 +1,17 @@
+-- Names with what is noted of each, in the order in which they were noted.
+use Rattle.std.specs.Prelude.{ℕ, List, Option, if◌then◌else◌, is_some, nat_eq}
+use Rattle.std.specs.Cmp.Lexicographic.{pointwise}
+use Rattle.std.specs.Map.{lookup}
+use Rattle.indexmap.specs.IndexMap.{insert_entry}
+
+-- what is noted of a name
+abbrev pub value_of : {V : Type 0} → List (List ℕ × V) → List ℕ → Option V
+value_of table name = lookup (pointwise nat_eq name) table
+
+-- a value is noted in the place of an earlier one
+abbrev pub with_value : {V : Type 0} → List (List ℕ × V) → List ℕ → V → List (List ℕ × V)
+with_value table name value = insert_entry (pointwise nat_eq) table name value
+
+-- a value is noted unless there is one
+abbrev pub with_first : {V : Type 0} → List (List ℕ × V) → List ℕ → V → List (List ℕ × V)
+with_first table name value = if is_some (value_of table name) then table else with_value table name value

@@ -1,0 +1,131 @@
+// The widths that the first finding tells.
+ghost use Rattle.std.specs.Prelude.{◌≡◌, true, IfOk, OnOk};
+ghost use Rattle.kp_ast.specs.declared.tree.Job.{Job};
+ghost use Rattle.kp_view_findings.specs.Noted.{noted};
+ghost use Rattle.kp_view_widths.specs.Telling.{FirstIsTrue, TellsWidths};
+ghost use Rattle.kp_view_widths.specs.inner.Agreeing.{Agree, HasBranches, HasOne, HasOwn, HasTest, HasTwo, IsFilled, operands_in};
+
+use kp_ast::Job;
+use kp_base::{NoMemory, Place};
+use kp_view_findings::{Finding, Findings};
+use kp_view_message::{Message, WidthFault};
+use kp_view_operands::{ExprWidths, OperandWidths, widths_at};
+use std::alloc::Global;
+
+// The same findings, except that the first one tells only its rule where its widths aren't those that the rules define.
+pub(crate) fn confirmed<'t>(
+    alloc: Global,
+    job: &Job,
+    found: &[Finding<'t>],
+) -> Result<Findings<'t>, NoMemory>
+    ensures { IfOk result (λ f. FirstIsTrue job.now (noted f)) }
+{
+    let Some((first, rest)) = found.split_first() else {
+        return Ok(Findings::new(alloc));
+    };
+    let message = confirmed_message(alloc, job, first.place, first.message)?;
+    let mut all = Findings::new(alloc);
+    all.add(first.place, message)?;
+    add_all(&mut all, rest)?;
+    Ok(all)
+}
+
+#[tactic(auto, using(crate::proofs::Agreed::first_kept, crate::proofs::Agreed::still_filled))]
+fn add_all<'t>(all: &mut Findings<'t>, rest: &[Finding<'t>]) -> Result<(), NoMemory>
+    requires { IsFilled (noted all.old) }
+    ensures { OnOk result ((job : Job) → FirstIsTrue job (noted all.old) → FirstIsTrue job (noted all.new)) }
+{
+    for finding in rest {
+        all.add(finding.place, finding.message)?;
+    }
+    Ok(())
+}
+
+#[tactic(auto, using(crate::proofs::Agreed::agreed))]
+fn confirmed_message<'t>(
+    alloc: Global,
+    job: &Job,
+    place: Place,
+    message: Message<'t>,
+) -> Result<Message<'t>, NoMemory>
+    ensures { IfOk result (λ m. TellsWidths job.now place m) }
+{
+    let Message::Width(fault) = message else {
+        return Ok(message);
+    };
+    let told = widths_at(alloc, job, place)?;
+    if agree(&fault, told) {
+        Ok(message)
+    } else {
+        Ok(Message::Fixed(fault.rule()))
+    }
+}
+
+// Whether the widths of expressions that a fault tells are these.
+fn agree(fault: &WidthFault<'_>, told: Option<ExprWidths>) -> bool
+    ensures { result ≡ true → Agree told fault.now }
+{
+    match fault {
+        WidthFault::Operands { left, right, .. } => has_two(told, *left, *right),
+        WidthFault::Branches { yes, no, .. } => has_branches(told, *yes, *no),
+        WidthFault::ValueWidth { found, .. } => has_own(told, *found),
+        WidthFault::Condition { found } => has_own(told, *found) || has_test(told, *found),
+        WidthFault::Slice { width, .. } => has_one(told, *width),
+        WidthFault::Shortened { from, .. } => has_one(told, *from),
+        _ => true,
+    }
+}
+
+fn has_own(told: Option<ExprWidths>, a: u8) -> bool
+    ensures { result ≡ true → HasOwn told a }
+{
+    match told {
+        Some(widths) => widths.own == a && a <= 64,
+        None => false,
+    }
+}
+
+fn has_one(told: Option<ExprWidths>, a: u8) -> bool
+    ensures { result ≡ true → HasOne told a }
+{
+    match operands(told) {
+        OperandWidths::One(x) => x == a && a <= 64,
+        _ => false,
+    }
+}
+
+fn has_two(told: Option<ExprWidths>, a: u8, b: u8) -> bool
+    ensures { result ≡ true → HasTwo told a b }
+{
+    match operands(told) {
+        OperandWidths::Two(x, y) => x == a && y == b && a <= 64 && b <= 64,
+        _ => false,
+    }
+}
+
+fn has_branches(told: Option<ExprWidths>, a: u8, b: u8) -> bool
+    ensures { result ≡ true → HasBranches told a b }
+{
+    match operands(told) {
+        OperandWidths::Three(_, x, y) => x == a && y == b && a <= 64 && b <= 64,
+        _ => false,
+    }
+}
+
+fn has_test(told: Option<ExprWidths>, a: u8) -> bool
+    ensures { result ≡ true → HasTest told a }
+{
+    match operands(told) {
+        OperandWidths::Three(x, _, _) => x == a && a <= 64,
+        _ => false,
+    }
+}
+
+fn operands(told: Option<ExprWidths>) -> OperandWidths
+    ensures { result ≡ operands_in told }
+{
+    match told {
+        Some(widths) => widths.operands,
+        None => OperandWidths::Untold,
+    }
+}
