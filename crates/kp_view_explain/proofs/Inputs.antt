@@ -10,8 +10,9 @@ use Rattle.kp_debug_script.specs.Scripts.{script_of}
 use Rattle.kp_debug_script.specs.declared.command.Command.{Command}
 use Rattle.kp_frontend.specs.Judging.{JudgesText, JudgesHeadText, too_long}
 use Rattle.kp_view_texts.specs.Heads.{rule_head}
-use Rattle.kp_view_explain.specs.Explaining.{BeginsWith, ExplainsText, IsExplained, Says, rule_of, warned}
+use Rattle.kp_view_explain.specs.Explaining.{BeginsWith, ExplainsText, HasJob, IsExplained, Says, rule_of, warned}
 use Rattle.kp_view_explain.specs.Explaining.Finds.{over, within}
+use Rattle.kp_view_explain.specs.Listing.{ListsNext}
 use Rattle.kp_view_explain.specs.declared.words.Subject.{Subject}
 use Rattle.kp_view_explain.specs.declared.words.Subject.TheVariants as subjects
 
@@ -56,13 +57,14 @@ refused_script file text from ds decls refusal status said same is two begins st
 -- the whole input of a source, which isn't too long
 pub of_input : (subject : Subject) (strict : Bool) (file : List ℕ) (old new : Option (List ℕ)) (input : List ℕ) (status : ℕ) (text : List ℕ)
     → Consumes old new input → IsAtEnd new → length input ≤ 16777216 → ExplainsText subject strict file input status text
+    → (HasJob subject → ListsNext file input text)
     → IsExplained subject strict file old new status text
-of_input subject strict file old new input status text consumed end few (found, finds, says) =
-    record { input = input; consumed = consumed; whole = inl (end, few); explained = (found, within few finds, says) }
+of_input subject strict file old new input status text consumed end few (found, finds, says) next =
+    record { input = input; consumed = consumed; whole = inl (end, few); explained = (found, within few finds, says); next = λ job few. next job }
 
 -- an input that is too long
 pub of_excess : (subject : Subject) (strict : Bool) (file : List ℕ) (old new : Option (List ℕ)) (input : List ℕ) (status : ℕ) (text : List ℕ)
     → Consumes old new input → length input ≡ 16777217 → Says subject strict file (Some too_long) status text
     → IsExplained subject strict file old new status text
 of_excess subject strict file old new input status text consumed count says =
-    record { input = input; consumed = consumed; whole = inr count; explained = (Some too_long, over (omega (arith, count)), says) }
+    record { input = input; consumed = consumed; whole = inr count; explained = (Some too_long, over (omega (arith, count)), says); next = λ job few. absurd (omega (arith, count, few)) }

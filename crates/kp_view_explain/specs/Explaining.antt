@@ -7,6 +7,7 @@ use Rattle.kp_asm.specs.Program.{assembled}
 use Rattle.kp_debug_script.specs.Scripts.{script_of}
 use Rattle.kp_frontend.specs.Judging.{JudgesText, JudgesHeadText, most_bytes, too_long}
 use Rattle.kp_view_texts.specs.Heads.{rule_head}
+use Rattle.kp_view_explain.specs.Listing.{ListsNext}
 use Rattle.kp_view_explain.specs.declared.words.Subject.{Subject}
 use Rattle.kp_view_explain.specs.declared.words.Subject.TheVariants as subjects
 
@@ -59,6 +60,11 @@ ExplainsText subject strict file input status text = (found : Option Refusal) ×
 abbrev pub Explains : Subject → Bool → List ℕ → List ℕ → ℕ → List ℕ → Type 0
 Explains subject strict file input status text = (found : Option Refusal) × Finds subject input found × Says subject strict file found status text
 
+-- the input begins with a job
+abbrev pub HasJob : Subject → Type 0
+HasJob subjects.Program = ⊥
+HasJob _ = Unit {0}
+
 -- The status and the text are those for the bytes that were read from a source: to its end, where an input of at most 16,777,216 bytes ends, or one byte
 -- further.
 pub record IsExplained (subject : Subject) (strict : Bool) (file : List ℕ) (old new : Option (List ℕ)) (status : ℕ) (text : List ℕ) : Type 0 where
@@ -66,6 +72,7 @@ pub record IsExplained (subject : Subject) (strict : Bool) (file : List ℕ) (ol
   pub consumed : Consumes old new input
   pub whole : (IsAtEnd new × (length input ≤ 16777216)) ⊎ (length input ≡ 16777217)
   pub explained : Explains subject strict file input status text
+  pub next : HasJob subject → length input ≤ most_bytes → ListsNext file input text
 
 -- a status of an outcome: not that of a read fault (3), a write fault (4) or of out of memory (5)
 abbrev pub IsFinal : ℕ → Type 0

@@ -1,2 +1,4 @@
 pub mod Explaining
+pub mod Listing
 pub mod Words
+pub mod inner

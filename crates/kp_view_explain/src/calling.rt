@@ -64,7 +64,6 @@ pub fn explain_source<S: Source, E: Sink>(
 }
 
 // What is said of the input of a source.
-#[tactic(auto, using(crate::proofs::Inputs::of_input))]
 fn explanation<S: Source>(
     alloc: Global,
     file: &[u8],

@@ -2,23 +2,25 @@
 ghost use Rattle.std.specs.Prelude.{◌≡◌, ◌≢◌, ◌≤◌, length, IfOk};
 ghost use Rattle.kp_frontend.specs.Judging.{most_bytes};
 ghost use Rattle.kp_view_explain.specs.Explaining.{ExplainsText, warned};
+ghost use Rattle.kp_view_explain.specs.Listing.{ListsNext};
 ghost use Rattle.kp_view_explain.specs.declared.words.Subject.TheVariants as subjects;
+ghost use Rattle.kp_view_explain.specs.inner.Naming.{ListsAt};
 
 use crate::explanation::Explanation;
-use crate::reading::{no_sentence, no_token};
+use crate::reading::reading_message;
 use kp_ast::Job;
 use kp_base::{NoMemory, Refusal, Refused};
 use kp_frontend::judge;
 use kp_lex::lex;
 use kp_parse::parse;
 use kp_view_findings::{Finding, Findings, MOST, write_caution, write_finding, write_message};
-use kp_view_message::{Message, ReadingFault};
+use kp_view_message::Message;
 use kp_view_stages::cautions;
 use kp_view_widths::section_faults;
 use std::alloc::Global;
 
 /// The explanation of a job that is not too long: the first rule that it violates, and further violations, or warnings.
-#[tactic(auto, using(crate::proofs::Inputs::accepted_job, crate::proofs::Inputs::refused_job))]
+#[tactic(auto, using(crate::proofs::Inputs::accepted_job, crate::proofs::Inputs::refused_job, crate::proofs::Next::accepted_next, crate::proofs::Next::refused_next))]
 pub(crate) fn explain_job(
     alloc: Global,
     file: &[u8],
@@ -28,6 +30,7 @@ pub(crate) fn explain_job(
     requires { length text.now ≤ most_bytes }
     ensures said { IfOk result (λ e. ExplainsText subjects.Job strict file.now text.now e.status e.text.items) }
     ensures low { IfOk result (λ e. (e.status ≤ 2) × (e.status ≢ 1)) }
+    ensures next { IfOk result (λ e. ListsNext file.now text.now e.text.items) }
 {
     match judge(alloc, text) {
         Ok(accepted) => {
@@ -62,51 +65,43 @@ fn warnings(alloc: Global, file: &[u8], text: &[u8], job: &Job) -> Result<Vec<u8
 }
 
 /// What follows the head of the first rule that a job violates.
+#[tactic(auto, using(crate::proofs::Next::line_of, crate::proofs::Next::no_line))]
 pub(crate) fn facts(
     alloc: Global,
     file: &[u8],
     text: &[u8],
     refusal: Refusal,
-) -> Result<Vec<u8>, NoMemory> {
-    let mut out = Vec::new(alloc);
-    let place = refusal.place;
-    let message = match refusal.number {
-        1 => no_token(text, place),
-        2 => Message::Reading(ReadingFault::NoNumber),
-        4 => no_sentence(alloc, text, place)?,
-        27 => Message::Reading(ReadingFault::TooDeep),
-        _ => return of_tree(alloc, out, file, text, refusal),
-    };
-    write_message(alloc, &mut out, text, place, message)?;
-    Ok(out)
+) -> Result<Vec<u8>, NoMemory>
+    requires { length text.now ≤ most_bytes }
+    ensures { IfOk result (λ out. ListsAt text.now refusal out.items) }
+{
+    match reading_message(alloc, text, refusal)? {
+        Some(message) => {
+            let mut out = Vec::new(alloc);
+            write_message(alloc, &mut out, text, refusal.place, message)?;
+            Ok(out)
+        }
+        None => of_tree(alloc, file, text, refusal),
+    }
 }
 
 // The same where the text has a tree.
-fn of_tree(
-    alloc: Global,
-    out: Vec<u8>,
-    file: &[u8],
-    text: &[u8],
-    refusal: Refusal,
-) -> Result<Vec<u8>, NoMemory> {
-    let mut out = out;
-    if text.len() <= 4_294_967_294 {
-        match lex(alloc, text) {
-            Err(Refused::NoMemory) => return Err(NoMemory),
-            Err(Refused::Rule(_)) => {}
-            Ok(lexed) => match parse(alloc, &lexed, text) {
-                Err(Refused::NoMemory) => return Err(NoMemory),
-                Err(Refused::Rule(_)) => {}
-                Ok(parsed) => {
-                    let found = violations(alloc, &parsed.job)?;
-                    write_all_findings(alloc, &mut out, file, text, refusal, found.as_slice())?;
-                    return Ok(out);
-                }
-            },
+fn of_tree(alloc: Global, file: &[u8], text: &[u8], refusal: Refusal) -> Result<Vec<u8>, NoMemory>
+    requires { length text.now ≤ most_bytes }
+{
+    let lexed = match lex(alloc, text) {
+        Ok(lexed) => lexed,
+        Err(Refused::NoMemory) => return Err(NoMemory),
+        Err(Refused::Rule(_)) => return report(alloc, file, text, refusal, &[]),
+    };
+    match parse(alloc, &lexed, text) {
+        Ok(parsed) => {
+            let found = violations(alloc, &parsed.job)?;
+            report(alloc, file, text, refusal, found.as_slice())
         }
+        Err(Refused::NoMemory) => Err(NoMemory),
+        Err(Refused::Rule(_)) => report(alloc, file, text, refusal, &[]),
     }
-    write_all_findings(alloc, &mut out, file, text, refusal, &[])?;
-    Ok(out)
 }
 
 // The violations of names and widths; where there are none, those of stages; where there are none of them, those of sections.
@@ -123,25 +118,25 @@ fn violations<'t>(alloc: Global, job: &'t Job) -> Result<Findings<'t>, NoMemory>
 }
 
 // The finding of the rule at its place, and then the other ones.
-fn write_all_findings(
+fn report(
     alloc: Global,
-    out: &mut Vec<u8>,
     file: &[u8],
     text: &[u8],
     refusal: Refusal,
     found: &[Finding<'_>],
-) -> Result<(), NoMemory> {
+) -> Result<Vec<u8>, NoMemory> {
+    let mut out = Vec::new(alloc);
     let message = match found.iter().find(|each| is_of(refusal, each)) {
         Some(finding) => finding.message,
         None => Message::Fixed(refusal.number),
     };
-    write_message(alloc, out, text, refusal.place, message)?;
+    write_message(alloc, &mut out, text, refusal.place, message)?;
     for finding in found {
         if !is_of(refusal, finding) {
-            write_finding(alloc, out, text, file, finding)?;
+            write_finding(alloc, &mut out, text, file, finding)?;
         }
     }
-    Ok(())
+    Ok(out)
 }
 
 // Whether the finding is of the rule, at the place.

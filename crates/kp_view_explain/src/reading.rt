@@ -1,20 +1,41 @@
 // Why a text isn't read: no token begins, or no description goes on with one.
-ghost use Rattle.std.specs.Prelude.{◌≤◌, length};
+ghost use Rattle.std.specs.Prelude.{◌≡◌, ◌≤◌, drop, length, slice_get, take, IfOk};
+ghost use Rattle.std.specs.List.{position};
+ghost use Rattle.kp_frontend.specs.Judging.{most_bytes};
+ghost use Rattle.kp_view_explain.specs.Listing.{index_at, is_at, kind_text, token_text};
+ghost use Rattle.kp_view_help.specs.Texts.{found_text, shown};
+ghost use Rattle.kp_view_explain.specs.inner.Naming.{NamesAt, NamesNext, NamesWrong};
 
-use kp_base::{NoMemory, Place, Refused, word_length};
-use kp_lex::{Token, TokenKind, lex};
+use kp_base::{NoMemory, Place, Refusal, Refused, word_length};
+use kp_lex::{Mark, Token, TokenKind, lex};
 use kp_parse::parse;
 use kp_view_excerpt::offset_of;
-use kp_view_expected::{Expected as Listed, TokenClass as Class, expected};
-use kp_view_help::{Expected, FoundToken, TokenClass, Word};
+use kp_view_expected::expected;
+use kp_view_help::{FoundToken, Word};
 use kp_view_message::{Message, ReadingFault};
 use std::alloc::Global;
 
-// The most bytes of a text that `lex` takes.
-const MOST: usize = 4_294_967_294;
+/// The message for a violation of a rule of tokens or of the grammar; none for one of a rule of trees.
+#[tactic(auto, using(crate::proofs::Next::another_rule))]
+pub(crate) fn reading_message<'t>(
+    alloc: Global,
+    text: &'t [u8],
+    refusal: Refusal,
+) -> Result<Option<Message<'t>>, NoMemory>
+    requires { length text.now ≤ most_bytes }
+    ensures { IfOk result (λ m. NamesAt text.now refusal m) }
+{
+    match refusal.number {
+        1 => Ok(Some(no_token(text, refusal.place))),
+        2 => Ok(Some(Message::Reading(ReadingFault::NoNumber))),
+        4 => Ok(Some(no_sentence(alloc, text, refusal.place)?)),
+        27 => Ok(Some(Message::Reading(ReadingFault::TooDeep))),
+        _ => Ok(None),
+    }
+}
 
-/// Why no token begins at a place.
-pub(crate) fn no_token(text: &[u8], place: Place) -> Message<'_> {
+// Why no token begins at a place.
+fn no_token(text: &[u8], place: Place) -> Message<'_> {
     let rest = &text[offset_of(text, place)..];
     let length = word_length(rest);
     if length > 64 {
@@ -26,82 +47,78 @@ pub(crate) fn no_token(text: &[u8], place: Place) -> Message<'_> {
     }
 }
 
-/// Why the token at a place, or the end of the text there, can't follow: the classes of tokens that can.
-pub(crate) fn no_sentence<'t>(
-    alloc: Global,
-    text: &'t [u8],
-    place: Place,
-) -> Result<Message<'t>, NoMemory> {
-    if text.len() > MOST {
-        return Ok(Message::Fixed(4));
-    }
+// Why the token at a place, or the end of the text there, can't follow: the classes of tokens that can.
+#[tactic(auto, using(crate::proofs::Next::no_tokens, crate::proofs::Next::has_tree, crate::proofs::Next::names_wrong))]
+fn no_sentence<'t>(alloc: Global, text: &'t [u8], place: Place) -> Result<Message<'t>, NoMemory>
+    requires { length text.now ≤ most_bytes }
+    ensures { IfOk result (λ m. NamesWrong text.now place m) }
+{
     let lexed = match lex(alloc, text) {
         Ok(lexed) => lexed,
         Err(Refused::NoMemory) => return Err(NoMemory),
         Err(Refused::Rule(_)) => return Ok(Message::Fixed(4)),
     };
     match parse(alloc, &lexed, text) {
-        Ok(_) => return Ok(Message::Reading(ReadingFault::AfterEnd)),
-        Err(Refused::NoMemory) => return Err(NoMemory),
-        Err(Refused::Rule(_)) => {}
+        Ok(_) => Ok(Message::Reading(ReadingFault::AfterEnd)),
+        Err(Refused::NoMemory) => Err(NoMemory),
+        Err(Refused::Rule(_)) => wrong_token(alloc, text, lexed.tokens.as_slice(), place),
     }
-    wrong_token(alloc, text, lexed.tokens.as_slice(), place)
 }
 
-// The token at a place, and what may stand there.
+// The token at a place, and which tokens can be there.
+#[tactic(auto, using(crate::proofs::Next::names_next))]
 fn wrong_token<'t>(
     alloc: Global,
     text: &'t [u8],
     tokens: &[Token],
     place: Place,
-) -> Result<Message<'t>, NoMemory> {
-    let at = index_of(tokens, place);
-    let (before, rest) = tokens.split_at(at);
-    let found = match rest.first() {
-        Some(token) => token_of(text, *token),
-        None => FoundToken::End,
-    };
-    let listed = expected(alloc, before)?;
-    let expected = told(&listed);
-    Ok(Message::Reading(ReadingFault::Unexpected { found, expected }))
-}
-
-// The listed classes, as a message tells them.
-fn told(listed: &Listed) -> Expected {
-    let mut expected = Expected::none();
-    for class in Class::all() {
-        if listed.has(*class) {
-            expected.add(told_class(*class));
-        }
-    }
-    expected
-}
-
-fn told_class(class: Class) -> TokenClass {
-    match class {
-        Class::Keyword(word) => TokenClass::Keyword(word),
-        Class::Mark(mark) => TokenClass::Mark(mark),
-        Class::Name => TokenClass::Name,
-        Class::Number => TokenClass::Number,
-        Class::Literal => TokenClass::Literal,
-    }
-}
-
-// The number of the token at a place, or the number of tokens.
-fn index_of(tokens: &[Token], place: Place) -> usize
-    ensures { result ≤ length tokens.now }
+) -> Result<Message<'t>, NoMemory>
+    ensures { IfOk result (λ m. NamesNext text.now tokens.now place m) }
 {
-    for (i, token) in tokens.iter().enumerate() {
-        if token.place == place {
-            return i;
-        }
-    }
-    tokens.len()
+    let at = index_of(tokens, place);
+    let found = token_at(text, tokens, at);
+    let (before, _) = tokens.split_at(at);
+    let width = declared_width(before);
+    let expected = expected(alloc, before)?;
+    Ok(Message::Reading(ReadingFault::Unexpected {
+        found,
+        expected,
+        width,
+    }))
 }
 
-fn token_of<'t>(text: &'t [u8], token: Token) -> FoundToken<'t> {
-    let word = Word(bytes_of(text, token));
-    match token.kind {
+// The number of the first token at a place, or the number of tokens.
+fn index_of(tokens: &[Token], place: Place) -> usize
+    ensures index { result ≡ index_at place tokens.now }
+    ensures within { result ≤ length tokens.now }
+{
+    match first_at(tokens, place) {
+        Some(number) => number,
+        None => tokens.len(),
+    }
+}
+
+fn first_at(tokens: &[Token], place: Place) -> Option<usize>
+    ensures { result ≡ position (is_at place) tokens.now }
+{
+    tokens.iter().position(|token| token.place.line == place.line && token.place.col == place.col)
+}
+
+// The token of this number, or the end of the text.
+fn token_at<'t>(text: &'t [u8], tokens: &[Token], at: usize) -> FoundToken<'t>
+    ensures { found_text result ≡ token_text text.now (slice_get tokens.now at) }
+{
+    match tokens.get(at) {
+        Some(token) => found(token.kind, Word(bytes_of(text, *token))),
+        None => FoundToken::End,
+    }
+}
+
+// A token of this class, with its bytes.
+fn found<'t>(kind: TokenKind, word: Word<'t>) -> FoundToken<'t>
+    ensures { found_text result ≡ kind_text kind (shown word.entry.0.now) }
+{
+    match kind {
         TokenKind::Ident => FoundToken::Name(word),
         TokenKind::Keyword(_) => FoundToken::Keyword(word),
         TokenKind::Number(_) => FoundToken::Number(word),
@@ -110,8 +127,25 @@ fn token_of<'t>(text: &'t [u8], token: Token) -> FoundToken<'t> {
     }
 }
 
+// The width of a value that comes after these tokens, where they end as those of `reg X : 8 =`.
+fn declared_width(tokens: &[Token]) -> Option<u64> {
+    let [.., width, equals] = tokens else {
+        return None;
+    };
+    match (width.kind, equals.kind) {
+        (TokenKind::Number(bits), TokenKind::Mark(Mark::Equals)) if 1 <= bits && bits <= 64 => {
+            Some(bits)
+        }
+        _ => None,
+    }
+}
+
 // The bytes of a token.
-fn bytes_of<'t>(text: &'t [u8], token: Token) -> &'t [u8] {
-    let rest = text.get(token.start as usize..).unwrap_or(&[]);
-    rest.get(..token.len as usize).unwrap_or(&[])
+#[tactic(auto, using(std::proofs::lemmas::List::drop_min, std::proofs::lemmas::List::take_min))]
+fn bytes_of<'t>(text: &'t [u8], token: Token) -> &'t [u8]
+    ensures { result.now ≡ take token.len (drop token.start text.now) }
+{
+    let (_, rest) = text.split_at((token.start as usize).min(text.len()));
+    let (word, _) = rest.split_at((token.len as usize).min(rest.len()));
+    word
 }

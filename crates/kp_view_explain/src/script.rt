@@ -3,6 +3,7 @@ ghost use Rattle.std.specs.Prelude.{◌≡◌, ◌≢◌, ◌≤◌, length, Boo
 ghost use Rattle.kp_debug_script.specs.Scripts.{script_of};
 ghost use Rattle.kp_frontend.specs.Judging.{most_bytes};
 ghost use Rattle.kp_view_explain.specs.Explaining.{ExplainsText, Says, rule_of};
+ghost use Rattle.kp_view_explain.specs.Listing.{ListsNext};
 ghost use Rattle.kp_view_explain.specs.declared.words.Subject.TheVariants as subjects;
 
 use crate::explanation::Explanation;
@@ -14,7 +15,7 @@ use kp_view_texts::write_script;
 use std::alloc::Global;
 
 /// The explanation of a text that is not too long: the first rule that the job at its head violates, or else the script.
-#[tactic(auto, using(crate::proofs::Inputs::of_script, crate::proofs::Inputs::refused_head))]
+#[tactic(auto, using(crate::proofs::Inputs::of_script, crate::proofs::Inputs::refused_head, crate::proofs::Next::accepted_head_next, crate::proofs::Next::refused_head_next))]
 pub(crate) fn explain_debugged(
     alloc: Global,
     file: &[u8],
@@ -23,6 +24,7 @@ pub(crate) fn explain_debugged(
     requires { length text.now ≤ most_bytes }
     ensures said { IfOk result (λ e. (strict : Bool) → ExplainsText subjects.Debugged strict file.now text.now e.status e.text.items) }
     ensures low { IfOk result (λ e. (e.status ≤ 2) × (e.status ≢ 1)) }
+    ensures next { IfOk result (λ e. ListsNext file.now text.now e.text.items) }
 {
     match judge_head(alloc, text) {
         Ok(head) => {

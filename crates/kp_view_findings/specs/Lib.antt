@@ -1,3 +1,3 @@
-pub mod Heads
+pub mod Messages
 pub mod Noted
 pub mod Tables

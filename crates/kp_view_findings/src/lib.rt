@@ -6,5 +6,5 @@ mod report;
 mod table;
 
 pub use finding::{Caution, Finding, Findings, MOST};
-pub use report::{write_caution, write_finding, write_head, write_message};
+pub use report::{write_caution, write_finding, write_message};
 pub use table::Table;

@@ -1,31 +1,14 @@
-// The report: for each finding a line that names the file, the place and the rule, the excerpt at the place, and lines of help.
-ghost use Rattle.std.specs.Prelude.{◌≡◌, ◌++◌, OnOk};
-ghost use Rattle.kp_view_findings.specs.Heads.{error_head};
+// The report: for each finding a line with the file, the place and the rule, the excerpt at the place, and lines of help.
+ghost use Rattle.std.specs.Prelude.{OnOk};
+ghost use Rattle.kp_view_findings.specs.Messages.{AppendsMessage};
+ghost use Rattle.kp_view_message.specs.Texts.{message_text};
 
 use crate::finding::{Caution, Finding};
-use itoa::Buffer;
-use kp_base::{NoMemory, Place, Refusal};
+use kp_base::{NoMemory, Place};
 use kp_view_excerpt::Excerpt;
 use kp_view_help::Help;
 use kp_view_message::Message;
 use std::alloc::Global;
-
-/// Appends the head of a broken rule: `mini5.kp:11:13: error E9: `.
-#[tactic(auto, unfolding(crate::specs::Heads::error_head), using(std::proofs::Common::append_assoc))]
-pub fn write_head(out: &mut Vec<u8>, file: &[u8], refusal: Refusal) -> Result<(), NoMemory>
-    ensures { OnOk result (out.new.items ≡ out.old.items ++ error_head file.now refusal) }
-{
-    let (mut number, mut line, mut col) = (Buffer::new(), Buffer::new(), Buffer::new());
-    out.extend_from_slice(file)?;
-    out.extend_from_slice(b":")?;
-    out.extend_from_slice(line.format(refusal.place.line).as_bytes())?;
-    out.extend_from_slice(b":")?;
-    out.extend_from_slice(col.format(refusal.place.col).as_bytes())?;
-    out.extend_from_slice(b": error E")?;
-    out.extend_from_slice(number.format(refusal.number).as_bytes())?;
-    out.extend_from_slice(b": ")?;
-    Ok(())
-}
 
 /// Appends what follows the head of a broken rule: the message, the excerpt and the help.
 pub fn write_message(
@@ -34,10 +17,16 @@ pub fn write_message(
     text: &[u8],
     place: Place,
     message: Message<'_>,
-) -> Result<(), NoMemory> {
-    let line = format!(in alloc; "{message}\n")?;
+) -> Result<(), NoMemory>
+    ensures { OnOk result (AppendsMessage out.old.items out.new.items (message_text message.entry)) }
+{
+    let line = message.to_string(alloc)?;
+    let mut rest = Vec::new(alloc);
+    write_rest(alloc, &mut rest, text, place, &message.helps())?;
     out.extend_from_slice(line.as_bytes())?;
-    write_rest(alloc, out, text, place, &message.helps())
+    out.push(b'\n')?;
+    out.extend_from_slice(rest.as_slice())?;
+    Ok(())
 }
 
 /// Appends a further finding, after an empty line.
@@ -48,13 +37,16 @@ pub fn write_finding(
     file: &[u8],
     finding: &Finding<'_>,
 ) -> Result<(), NoMemory> {
+    let Place { line, col } = finding.place;
+    let number = finding.message.rule();
+    let head = format!(in alloc; ":{line}:{col}: error E{number}: ")?;
     out.push(b'\n')?;
-    let refusal = Refusal::e(finding.message.rule(), finding.place);
-    write_head(out, file, refusal)?;
+    out.extend_from_slice(file)?;
+    out.extend_from_slice(head.as_bytes())?;
     write_message(alloc, out, text, finding.place, finding.message)
 }
 
-/// Appends a warning, after an empty line where something stands before it.
+/// Appends a warning, after an empty line if the report has something already.
 pub fn write_caution(
     alloc: Global,
     out: &mut Vec<u8>,

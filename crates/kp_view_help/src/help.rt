@@ -1,17 +1,18 @@
 // What helps where a rule is broken.
-use crate::expected::{Expected, FoundToken};
-use crate::word::Word;
+use crate::found::FoundToken;
+use crate::word::{Bits, Word};
 use kp_lex::Mark;
+use kp_view_expected::{Expected, TokenClass};
 use std::fmt;
 
 /// A line of help.
 #[derive(Clone, Copy)]
 pub enum Help<'t> {
-    /// A number stands where a literal is wanted.
-    NumberAsValue(Word<'t>),
+    /// A number in the place of a literal, and the width that is declared for it.
+    NumberAsValue(Word<'t>, Option<u64>),
     /// `]` is wanted in a result's address.
     AddressInPipe,
-    /// `when` stands after `at`.
+    /// `when` comes after `at`.
     WhenBeforeAt,
     PipeIsPut,
     MoveUp,
@@ -70,25 +71,29 @@ pub enum Help<'t> {
 }
 
 impl<'t> Help<'t> {
-    /// What helps at a token that can't stand there.
-    pub fn at_token(found: FoundToken<'t>, expected: Expected) -> Option<Help<'t>> {
+    /// What helps at a token that can't be there. The width is that of a value there, where it is declared right before.
+    pub fn at_token(
+        found: FoundToken<'t>,
+        expected: Expected,
+        width: Option<u64>,
+    ) -> Option<Help<'t>> {
         match found {
             FoundToken::Number(word) => {
-                if expected.has_literal_alone() || expected.has_expression() {
-                    Some(Help::NumberAsValue(word))
+                if expected.has(TokenClass::Literal) {
+                    Some(Help::NumberAsValue(word, width))
                 } else {
                     None
                 }
             }
             FoundToken::Mark(Word(b"[")) => {
-                if expected.has_mark(Mark::CloseBracket) && !expected.has_mark(Mark::Plus) {
+                if has_mark(expected, Mark::CloseBracket) && !has_mark(expected, Mark::Plus) {
                     Some(Help::AddressInPipe)
                 } else {
                     None
                 }
             }
             FoundToken::Keyword(Word(b"when")) => {
-                if expected.has_mark(Mark::Semicolon) && !expected.has_mark(Mark::Plus) {
+                if has_mark(expected, Mark::Semicolon) && !has_mark(expected, Mark::Plus) {
                     Some(Help::WhenBeforeAt)
                 } else {
                     None
@@ -98,7 +103,7 @@ impl<'t> Help<'t> {
         }
     }
 
-    /// What helps where the number of words stands in the place of the width of their addresses.
+    /// What helps where the number of words is in the place of the width of their addresses.
     pub fn words(value: u64) -> Option<Help<'t>> {
         if value > 16 && value <= 65536 && value.is_power_of_two() {
             let bits = value.trailing_zeros();
@@ -109,13 +114,21 @@ impl<'t> Help<'t> {
     }
 }
 
+fn has_mark(expected: Expected, mark: Mark) -> bool {
+    expected.has(TokenClass::Mark(mark))
+}
+
 impl<'t> fmt::Display for Help<'t> {
     fn fmt<W: fmt::Write>(&self, f: &mut fmt::Formatter<W>) -> fmt::Result {
         match self {
-            Help::NumberAsValue(word) => write!(
-                f,
-                "a value is written with its width: for 8 bits, `8'd{word}`"
-            ),
+            Help::NumberAsValue(word, width) => {
+                let width = width.unwrap_or(8);
+                let bits = Bits(width);
+                write!(
+                    f,
+                    "a value is written with its width: for {bits}, `{width}'d{word}`"
+                )
+            }
             Help::AddressInPipe => f.write_str(
                 "a result is written at the address in a pipe: declare `pipe AD : w;`, `put` it in an earlier stage, and write `[AD]`",
             ),
@@ -137,7 +150,7 @@ impl<'t> fmt::Display for Help<'t> {
                 ),
                 None => write!(
                     f,
-                    "a later stage sees it through a pipe: write `put P = {name};` in stage {stage}, and use `P`"
+                    "a later stage sees it through a pipe: declare `pipe P : w;`, write `put P = {name};` in stage {stage}, and use `P`"
                 ),
             },
             Help::ReadRegister(name) => write!(
@@ -205,7 +218,7 @@ impl<'t> fmt::Display for Help<'t> {
             ),
             Help::OneSet(name) => write!(
                 f,
-                "write one `set` with a choice: `set {name} = c ? a : b;`"
+                "write one `set` with a choice: `set {name} = c ? a : b;`, and where both have a condition `set {name} = c ? a : b when c | d;`"
             ),
             Help::OneAim(name) => write!(
                 f,
@@ -242,7 +255,7 @@ impl<'t> fmt::Display for Help<'t> {
                 let address = if *file { "[A]" } else { "" };
                 write!(
                     f,
-                    "to leave `{target}` as it is, write the result `when` a pipe of one bit: `-> {target}{address} when W at {stage};`"
+                    "to leave `{target}` as it is, give the result an enable: declare `pipe E : 1;` before it, `put` it in an earlier stage, and write `-> {target}{address} when E at {stage};`"
                 )
             }
             Help::FirstCounts => f.write_str(

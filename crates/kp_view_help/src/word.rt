@@ -1,4 +1,9 @@
 // Pieces of messages.
+ghost use Rattle.std.specs.Prelude.{◌≡◌, flat_map, Some};
+ghost use Rattle.std.specs.Char.{encode_utf8};
+ghost use Rattle.std.specs.Fmt.{WritesOnOk};
+ghost use Rattle.kp_view_help.specs.Texts.{word_text};
+
 use kp_ast::Name;
 use std::fmt;
 
@@ -11,21 +16,36 @@ pub struct Word<'t>(pub &'t [u8]);
 
 impl<'t> Word<'t> {
     /// The word of a name.
-    pub fn of(name: &'t Name) -> Word<'t> {
+    pub fn of(name: &'t Name) -> Word<'t>
+        ensures { result.0.now ≡ name.now }
+    {
         Word(name.bytes())
     }
 }
 
 impl<'t> fmt::Display for Word<'t> {
+    ghost output = { λ w. Some (word_text w) };
+
     fn fmt<W: fmt::Write>(&self, f: &mut fmt::Formatter<W>) -> fmt::Result {
-        for byte in self.0.iter().take(MOST) {
-            f.write_char(char::from(*byte))?;
+        let bytes = self.0;
+        if bytes.len() > MOST {
+            let (front, _) = bytes.split_at(MOST);
+            write_bytes(f, front)?;
+            f.write_str("...")
+        } else {
+            write_bytes(f, bytes)
         }
-        if self.0.len() > MOST {
-            f.write_str("...")?;
-        }
-        Ok(())
     }
+}
+
+// Each byte as a character.
+fn write_bytes<W: fmt::Write>(f: &mut fmt::Formatter<W>, bytes: &[u8]) -> fmt::Result
+    ensures { WritesOnOk W.write_str_gives f.old result (flat_map encode_utf8 bytes.now) f.new }
+{
+    for byte in bytes {
+        f.write_char(char::from(*byte))?;
+    }
+    Ok(())
 }
 
 /// A number of bits: `1 bit`, `8 bits`.

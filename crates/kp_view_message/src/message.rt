@@ -1,4 +1,6 @@
-// What is said of a violated rule.
+// The message for a violated rule.
+ghost use Rattle.kp_view_message.specs.Texts.{message_text};
+
 use crate::guess_fault::GuessFault;
 use crate::name_fault::NameFault;
 use crate::reading_fault::ReadingFault;
@@ -50,6 +52,8 @@ impl<'t> Message<'t> {
 }
 
 impl<'t> fmt::Display for Message<'t> {
+    ghost output = { message_text };
+
     fn fmt<W: fmt::Write>(&self, f: &mut fmt::Formatter<W>) -> fmt::Result {
         match self {
             Message::Reading(fault) => write!(f, "{fault}"),

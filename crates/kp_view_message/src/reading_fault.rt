@@ -1,5 +1,8 @@
 // Why a text is no sentence of the language.
-use kp_view_help::{Expected, FoundToken, Help};
+ghost use Rattle.kp_view_message.specs.Texts.{reading_text};
+
+use kp_view_expected::Expected;
+use kp_view_help::{FoundToken, Help};
 use std::fmt;
 
 /// Why a text is no sentence of the language.
@@ -14,10 +17,10 @@ pub enum ReadingFault<'t> {
     Unexpected {
         found: FoundToken<'t>,
         expected: Expected,
+        /// The width of a value there, where it is declared right before.
+        width: Option<u64>,
     },
     AfterEnd,
-    /// The text before the token is too long for a list.
-    NoSentence(FoundToken<'t>),
     // E27
     TooDeep,
 }
@@ -28,9 +31,7 @@ impl<'t> ReadingFault<'t> {
         match self {
             ReadingFault::NoToken(_) | ReadingFault::LongName(_) => 1,
             ReadingFault::NoNumber => 2,
-            ReadingFault::Unexpected { .. }
-            | ReadingFault::AfterEnd
-            | ReadingFault::NoSentence(_) => 4,
+            ReadingFault::Unexpected { .. } | ReadingFault::AfterEnd => 4,
             ReadingFault::TooDeep => 27,
         }
     }
@@ -38,11 +39,11 @@ impl<'t> ReadingFault<'t> {
     /// What helps, in up to three lines.
     pub fn helps(&self) -> [Option<Help<'t>>; 3] {
         match self {
-            ReadingFault::Unexpected { found, expected } => [
-                Help::at_token(*found, *expected),
-                None,
-                None,
-            ],
+            ReadingFault::Unexpected {
+                found,
+                expected,
+                width,
+            } => { [Help::at_token(*found, *expected, *width), None, None] },
             ReadingFault::TooDeep => [Some(Help::NamePart), None, None],
             _ => [None, None, None],
         }
@@ -50,6 +51,8 @@ impl<'t> ReadingFault<'t> {
 }
 
 impl<'t> fmt::Display for ReadingFault<'t> {
+    ghost output = { reading_text };
+
     fn fmt<W: fmt::Write>(&self, f: &mut fmt::Formatter<W>) -> fmt::Result {
         match self {
             ReadingFault::NoToken(byte) => {
@@ -67,10 +70,11 @@ impl<'t> fmt::Display for ReadingFault<'t> {
             ReadingFault::NoNumber => {
                 f.write_str("neither a number below 2^64 nor a literal such as `8'h1f`")
             }
-            ReadingFault::Unexpected { found, expected } => {
-                write!(f, "expected {expected}, found {found}")
-            }
-            ReadingFault::NoSentence(found) => write!(f, "no description goes on with {found}"),
+            ReadingFault::Unexpected {
+                found,
+                expected,
+                ..
+            } => { write!(f, "expected {expected}, found {found}") }
             ReadingFault::AfterEnd => f.write_str("expected the end of the text after `end`"),
             ReadingFault::TooDeep => {
                 f.write_str("more than 64 brackets and operators of this expression are open here")

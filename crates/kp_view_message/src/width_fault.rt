@@ -1,6 +1,7 @@
 // A wrong width.
 use kp_lex::Mark;
-use kp_view_help::{Bits, Help, Kind, Word, mark_text};
+use kp_view_expected::TokenClass;
+use kp_view_help::{Bits, Help, Kind, Word};
 use std::fmt;
 
 /// What a value goes to, or comes from.
@@ -185,11 +186,11 @@ impl<'t> fmt::Display for WidthFault<'t> {
                 right,
                 ..
             } => {
-                let text = mark_text(*mark);
+                let operator = TokenClass::Mark(*mark);
                 let (left, right) = (Bits(u64::from(*left)), Bits(u64::from(*right)));
                 write!(
                     f,
-                    "the operands of `{text}` have different widths: {left} and {right}"
+                    "the operands of {operator} have different widths: {left} and {right}"
                 )
             }
             WidthFault::Branches { yes, no, .. } => {

@@ -1,6 +1,6 @@
 // The numbers of stages, blocks and declarations.
-use kp_ast::{Block, Decl, Job, Num, StmtKind};
-use kp_base::NoMemory;
+use kp_ast::{Block, Decl, Job, Num, ReadStmt, Stmt, StmtKind};
+use kp_base::{NoMemory, Place};
 use kp_view_findings::Findings;
 use kp_view_message::{Counted, Message, StageFault};
 
@@ -100,42 +100,72 @@ impl Counts {
         self.of[i] = self.of[i].saturating_add(1);
         self.of[i] > most
     }
+
+    // Counts a read, with its guess; what of it is more than there may be.
+    fn add_read(&mut self, read: &ReadStmt) -> Option<Counted> {
+        if self.add(Counted::Reads) {
+            return Some(Counted::Reads);
+        }
+        if read.guess.is_some() && self.add(Counted::Guesses) {
+            return Some(Counted::Guesses);
+        }
+        None
+    }
 }
 
-// E29, of each kind the first that is too many.
+// E29.
 pub(crate) fn check_counts<'t>(found: &mut Findings<'t>, job: &'t Job) -> Result<(), NoMemory> {
     let mut counts = Counts { of: [0; 9] };
-    for decl in job.decls.as_slice() {
-        let (counted, at) = match decl {
-            Decl::Reg(named, _, _) => (Counted::Registers, named.at),
-            Decl::File(named, _, _) => (Counted::Files, named.at),
-            Decl::Pipe(named, _) => (Counted::Pipes, named.at),
-            Decl::Target(output) => (Counted::Results, output.name.at),
-            Decl::Hint(named, _, _) => (Counted::Hints, named.at),
-            Decl::Func(func) => (Counted::Functions, func.name.at),
-            Decl::Sample(named, _, _) => (Counted::Samples, named.at),
-        };
+    let beyond = match decl_beyond(&mut counts, job.decls.as_slice()) {
+        Some(beyond) => Some(beyond),
+        None => read_beyond(&mut counts, job.blocks.as_slice()),
+    };
+    match beyond {
+        Some((counted, at)) => found.add(at, Message::Stage(StageFault::TooMany(counted))),
+        None => Ok(()),
+    }
+}
+
+// The first declaration that is too many of its kind.
+fn decl_beyond(counts: &mut Counts, decls: &[Decl]) -> Option<(Counted, Place)> {
+    for decl in decls {
+        let (counted, at) = counted_decl(decl);
         if counts.add(counted) {
-            return found.add(at, Message::Stage(StageFault::TooMany(counted)));
+            return Some((counted, at));
         }
     }
-    for block in job.blocks.as_slice() {
-        for stmt in block.stmts.as_slice() {
-            if let StmtKind::Read(read) = &stmt.kind {
-                if counts.add(Counted::Reads) {
-                    return found.add(
-                        read.name.at,
-                        Message::Stage(StageFault::TooMany(Counted::Reads)),
-                    );
-                }
-                if read.guess.is_some() && counts.add(Counted::Guesses) {
-                    return found.add(
-                        read.name.at,
-                        Message::Stage(StageFault::TooMany(Counted::Guesses)),
-                    );
-                }
+    None
+}
+
+fn counted_decl(decl: &Decl) -> (Counted, Place) {
+    match decl {
+        Decl::Reg(named, _, _) => (Counted::Registers, named.at),
+        Decl::File(named, _, _) => (Counted::Files, named.at),
+        Decl::Pipe(named, _) => (Counted::Pipes, named.at),
+        Decl::Target(output) => (Counted::Results, output.name.at),
+        Decl::Hint(named, _, _) => (Counted::Hints, named.at),
+        Decl::Func(func) => (Counted::Functions, func.name.at),
+        Decl::Sample(named, _, _) => (Counted::Samples, named.at),
+    }
+}
+
+// The first read that is too many, or whose guess is.
+fn read_beyond(counts: &mut Counts, blocks: &[Block]) -> Option<(Counted, Place)> {
+    for block in blocks {
+        if let Some(beyond) = read_beyond_in(counts, block.stmts.as_slice()) {
+            return Some(beyond);
+        }
+    }
+    None
+}
+
+fn read_beyond_in(counts: &mut Counts, stmts: &[Stmt]) -> Option<(Counted, Place)> {
+    for stmt in stmts {
+        if let StmtKind::Read(read) = &stmt.kind {
+            if let Some(counted) = counts.add_read(read) {
+                return Some((counted, read.name.at));
             }
         }
     }
-    Ok(())
+    None
 }

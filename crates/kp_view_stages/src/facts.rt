@@ -1,5 +1,5 @@
 // What the rules look up.
-use kp_ast::{Decl, Job, Stmt, StmtKind};
+use kp_ast::{Decl, Job, ReadStmt, Stmt, StmtKind};
 use kp_base::NoMemory;
 use kp_view_findings::Table;
 use std::alloc::Global;
@@ -54,9 +54,14 @@ fn note_job(facts: &mut Facts, job: &Job) -> Result<(), NoMemory> {
         note_decl(facts, number, decl)?;
     }
     for (stage, block) in job.blocks.as_slice().iter().enumerate() {
-        for (index, stmt) in block.stmts.as_slice().iter().enumerate() {
-            note_stmt(facts, stage, index, stmt)?;
-        }
+        note_stmts(facts, stage, block.stmts.as_slice())?;
+    }
+    Ok(())
+}
+
+fn note_stmts(facts: &mut Facts, stage: usize, stmts: &[Stmt]) -> Result<(), NoMemory> {
+    for (index, stmt) in stmts.iter().enumerate() {
+        note_stmt(facts, stage, index, stmt)?;
     }
     Ok(())
 }
@@ -92,13 +97,18 @@ fn note_stmt(facts: &mut Facts, stage: usize, index: usize, stmt: &Stmt) -> Resu
         StmtKind::Put(named, _) => facts.puts.set_first(&named.name, spot),
         StmtKind::Aim(named, _) => facts.aims.set_first(&named.name, spot),
         StmtKind::Read(read) => {
-            if read.guess.is_some() {
-                if let Some(output) = facts.first.get(&read.target.name) {
-                    facts.top = facts.top.max(output.stage);
-                }
-            }
+            note_guess(facts, read);
             Ok(())
         }
         _ => Ok(()),
+    }
+}
+
+fn note_guess(facts: &mut Facts, read: &ReadStmt) {
+    if read.guess.is_none() {
+        return;
+    }
+    if let Some(output) = facts.first.get(&read.target.name) {
+        facts.top = facts.top.max(output.stage);
     }
 }

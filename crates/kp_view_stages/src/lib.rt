@@ -1,4 +1,4 @@
-//! The rules of stages over a tree that violates one: a pass that goes on after a violation, and tells what each rests on. And the warnings of a job that
+//! The rules of stages over a tree that violates one: a pass that goes on after a violation, and says what each rests on. And the warnings of a job that
 //! violates none. The verdict itself is that of `kp_frontend`.
 #![tactic(auto)]
 

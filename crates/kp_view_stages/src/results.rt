@@ -206,16 +206,31 @@ fn has_condition(block: &Block, output: &Name, condition: &Expr) -> bool {
 // Whether two expressions are written alike. Choices, concatenations and calls aren't compared.
 #[cycle(same)]
 fn is_same(a: &Expr, b: &Expr) -> bool {
-    match (&a.kind, &b.kind) {
-        (ExprKind::Lit(x), ExprKind::Lit(y)) => *x == *y,
-        (ExprKind::Name(x), ExprKind::Name(y)) => *x == *y,
-        (ExprKind::Not(x), ExprKind::Not(y)) => is_same(x.get(), y.get()),
-        (ExprKind::Slice(x, hi, lo), ExprKind::Slice(y, high, low)) => {
-            *hi == *high && *lo == *low && is_same(x.get(), y.get())
-        }
-        (ExprKind::Binary(f, x, z), ExprKind::Binary(g, y, w)) => {
-            *f == *g && is_same(x.get(), y.get()) && is_same(z.get(), w.get())
-        }
+    match &a.kind {
+        ExprKind::Lit(x) => match &b.kind {
+            ExprKind::Lit(y) => *x == *y,
+            _ => false,
+        },
+        ExprKind::Name(x) => match &b.kind {
+            ExprKind::Name(y) => *x == *y,
+            _ => false,
+        },
+        ExprKind::Not(x) => match &b.kind {
+            ExprKind::Not(y) => is_same(x.get(), y.get()),
+            _ => false,
+        },
+        ExprKind::Slice(x, hi, lo) => match &b.kind {
+            ExprKind::Slice(y, high, low) => {
+                *hi == *high && *lo == *low && is_same(x.get(), y.get())
+            }
+            _ => false,
+        },
+        ExprKind::Binary(f, x, z) => match &b.kind {
+            ExprKind::Binary(g, y, w) => {
+                *f == *g && is_same(x.get(), y.get()) && is_same(z.get(), w.get())
+            }
+            _ => false,
+        },
         _ => false,
     }
 }

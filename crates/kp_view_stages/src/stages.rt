@@ -4,7 +4,7 @@ use crate::facts::{Facts, Spot, facts_of};
 use crate::uses::in_stmt;
 use kp_ast::{Block, Decl, Job, Named, Num, ReadStmt, ResultDecl, Stmt, StmtKind};
 use kp_base::NoMemory;
-use kp_view_findings::{Findings, Table};
+use kp_view_findings::{Finding, Findings, Table};
 use kp_view_help::Word;
 use kp_view_message::{GuessFault, Message, StageFault};
 use std::alloc::Global;
@@ -40,7 +40,8 @@ const RULES: [Rule; 12] = [
     Rule::E35,
 ];
 
-/// The violations of stages in a job, by rules and then in text order. Where the stages themselves aren't right, no other rule is asked.
+/// The violations of stages in a job, by rules and then in text order. Where the stages themselves aren't right, no other rule is asked, unless it is only
+/// that the last ones have no block.
 pub fn faults<'t>(alloc: Global, job: &'t Job) -> Result<Findings<'t>, NoMemory> {
     let mut found = Findings::new(alloc);
     add_faults(alloc, &mut found, job)?;
@@ -49,7 +50,7 @@ pub fn faults<'t>(alloc: Global, job: &'t Job) -> Result<Findings<'t>, NoMemory>
 
 fn add_faults<'t>(alloc: Global, found: &mut Findings<'t>, job: &'t Job) -> Result<(), NoMemory> {
     check_stages(found, job)?;
-    if !found.as_slice().is_empty() {
+    if !found.as_slice().iter().all(|each| lacks_blocks(each)) {
         return Ok(());
     }
     ask_all(alloc, found, job)?;
@@ -57,6 +58,13 @@ fn add_faults<'t>(alloc: Global, found: &mut Findings<'t>, job: &'t Job) -> Resu
         return Ok(());
     }
     check_counts(found, job)
+}
+
+fn lacks_blocks(finding: &Finding<'_>) -> bool {
+    matches!(
+        finding.message,
+        Message::Stage(StageFault::FewBlocks { .. })
+    )
 }
 
 fn ask_all<'t>(alloc: Global, found: &mut Findings<'t>, job: &'t Job) -> Result<(), NoMemory> {
@@ -190,19 +198,20 @@ fn put_before<'t>(
     write: u64,
     pipe: &'t Option<Named>,
 ) -> Result<(), NoMemory> {
-    if let Some(named) = pipe {
-        if let Some(spot) = facts.puts.get(&named.name) {
-            if spot.stage as u64 >= write {
-                let message = Message::Stage(StageFault::PutLate {
-                    name: Word::of(&named.name),
-                    put: spot.stage,
-                    write,
-                });
-                found.add(named.at, message)?;
-            }
+    let Some(named) = pipe else {
+        return Ok(());
+    };
+    match facts.puts.get(&named.name) {
+        Some(spot) if spot.stage as u64 >= write => {
+            let message = Message::Stage(StageFault::PutLate {
+                name: Word::of(&named.name),
+                put: spot.stage,
+                write,
+            });
+            found.add(named.at, message)
         }
+        _ => Ok(()),
     }
-    Ok(())
 }
 
 // E21: no result is set twice in a stage.
@@ -214,19 +223,25 @@ fn check_sets<'t>(
     let mut sets: Table<u32> = Table::new(alloc);
     for stmt in block.stmts.as_slice() {
         if let StmtKind::Set(named, _, _) = &stmt.kind {
-            match sets.get(&named.name) {
-                None => sets.set(&named.name, named.at.line)?,
-                Some(line) => {
-                    let name = Word::of(&named.name);
-                    found.add(
-                        named.at,
-                        Message::Stage(StageFault::SetAgain { name, line }),
-                    )?;
-                }
-            }
+            check_set_once(&mut sets, found, named)?;
         }
     }
     Ok(())
+}
+
+fn check_set_once<'t>(
+    sets: &mut Table<u32>,
+    found: &mut Findings<'t>,
+    named: &'t Named,
+) -> Result<(), NoMemory> {
+    let Some(line) = sets.get(&named.name) else {
+        return sets.set(&named.name, named.at.line);
+    };
+    let name = Word::of(&named.name);
+    found.add(
+        named.at,
+        Message::Stage(StageFault::SetAgain { name, line }),
+    )
 }
 
 fn ask_stmt<'t>(
@@ -236,13 +251,65 @@ fn ask_stmt<'t>(
     here: Spot,
     stmt: &'t Stmt,
 ) -> Result<(), NoMemory> {
-    match (rule, &stmt.kind) {
-        (Rule::E16, StmtKind::Put(named, _)) => check_put_once(facts, found, here, named),
-        (Rule::E18, StmtKind::Read(read)) => check_read(facts, found, here, &read.target),
-        (Rule::E20, StmtKind::Set(named, _, _)) => check_set(facts, found, here, named),
-        (Rule::E21, StmtKind::Aim(named, _)) => check_aim(facts, found, here, named),
-        (Rule::E23, StmtKind::Read(read)) => check_guess(facts, found, here, read),
-        (Rule::E17 | Rule::E25 | Rule::E34, kind) => in_stmt(facts, found, rule, here, kind),
+    match rule {
+        Rule::E16 => ask_put(facts, found, here, &stmt.kind),
+        Rule::E18 | Rule::E23 => ask_read(facts, found, rule, here, &stmt.kind),
+        Rule::E20 => ask_set(facts, found, here, &stmt.kind),
+        Rule::E21 => ask_aim(facts, found, here, &stmt.kind),
+        Rule::E17 | Rule::E25 | Rule::E34 => in_stmt(facts, found, rule, here, &stmt.kind),
+        _ => Ok(()),
+    }
+}
+
+fn ask_put<'t>(
+    facts: &Facts,
+    found: &mut Findings<'t>,
+    here: Spot,
+    kind: &'t StmtKind,
+) -> Result<(), NoMemory> {
+    match kind {
+        StmtKind::Put(named, _) => check_put_once(facts, found, here, named),
+        _ => Ok(()),
+    }
+}
+
+fn ask_read<'t>(
+    facts: &Facts,
+    found: &mut Findings<'t>,
+    rule: Rule,
+    here: Spot,
+    kind: &'t StmtKind,
+) -> Result<(), NoMemory> {
+    let StmtKind::Read(read) = kind else {
+        return Ok(());
+    };
+    if rule == Rule::E23 {
+        check_guess(facts, found, here, read)
+    } else {
+        check_read(facts, found, here, &read.target)
+    }
+}
+
+fn ask_set<'t>(
+    facts: &Facts,
+    found: &mut Findings<'t>,
+    here: Spot,
+    kind: &'t StmtKind,
+) -> Result<(), NoMemory> {
+    match kind {
+        StmtKind::Set(named, _, _) => check_set(facts, found, here, named),
+        _ => Ok(()),
+    }
+}
+
+fn ask_aim<'t>(
+    facts: &Facts,
+    found: &mut Findings<'t>,
+    here: Spot,
+    kind: &'t StmtKind,
+) -> Result<(), NoMemory> {
+    match kind {
+        StmtKind::Aim(named, _) => check_aim(facts, found, here, named),
         _ => Ok(()),
     }
 }
@@ -347,17 +414,25 @@ fn check_guess<'t>(
             target.at,
             Message::Guess(GuessFault::GuessWithoutResult(name)),
         ),
-        Some(output) => {
-            let stage = here.stage as u64;
-            if stage.saturating_add(2) > output.stage {
-                let message = Message::Guess(GuessFault::GuessLate {
-                    name,
-                    write: output.stage,
-                    here: here.stage,
-                });
-                found.add(target.at, message)?;
-            }
-            Ok(())
-        }
+        Some(output) => check_guess_stage(found, here, target, output.stage),
     }
+}
+
+// E23: a guess is at least two stages before the write stage of its register.
+fn check_guess_stage<'t>(
+    found: &mut Findings<'t>,
+    here: Spot,
+    target: &'t Named,
+    write: u64,
+) -> Result<(), NoMemory> {
+    let stage = here.stage as u64;
+    if stage.saturating_add(2) <= write {
+        return Ok(());
+    }
+    let message = Message::Guess(GuessFault::GuessLate {
+        name: Word::of(&target.name),
+        write,
+        here: here.stage,
+    });
+    found.add(target.at, message)
 }

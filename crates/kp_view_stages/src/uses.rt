@@ -126,35 +126,66 @@ fn of_name<'t>(
     name: &'t Name,
     at: Place,
 ) -> Result<(), NoMemory> {
-    let word = Word::of(name);
     match rule {
-        Rule::E17 => match facts.puts.get(name) {
-            Some(put) if here.stage <= put.stage => {
-                let message = Message::Stage(StageFault::UsedEarly {
-                    name: word,
-                    put: put.stage,
-                    here: here.stage,
-                    line: put.line,
-                });
-                found.add(at, message)
-            }
-            _ => Ok(()),
-        },
-        Rule::E25 => match facts.hints.get(name) {
-            Some(_) => found.add(at, Message::Guess(GuessFault::HintAsValue(word))),
-            None => Ok(()),
-        },
-        Rule::E34 => match facts.samples.get(name) {
-            Some(sample) if sample.stage != here.stage as u64 => {
-                let message = Message::Guess(GuessFault::SampleElsewhere {
-                    name: word,
-                    stage: sample.stage,
-                    line: sample.line,
-                });
-                found.add(at, message)
-            }
-            _ => Ok(()),
-        },
+        Rule::E17 => of_pipe(facts, found, here, name, at),
+        Rule::E25 => of_hint(facts, found, name, at),
+        Rule::E34 => of_sample(facts, found, here, name, at),
+        _ => Ok(()),
+    }
+}
+
+// E17: a pipe is used after the stage that puts it.
+fn of_pipe<'t>(
+    facts: &Facts,
+    found: &mut Findings<'t>,
+    here: Spot,
+    name: &'t Name,
+    at: Place,
+) -> Result<(), NoMemory> {
+    match facts.puts.get(name) {
+        Some(put) if here.stage <= put.stage => {
+            let message = Message::Stage(StageFault::UsedEarly {
+                name: Word::of(name),
+                put: put.stage,
+                here: here.stage,
+                line: put.line,
+            });
+            found.add(at, message)
+        }
+        _ => Ok(()),
+    }
+}
+
+// E25: a hint is used in guesses and aims alone.
+fn of_hint<'t>(
+    facts: &Facts,
+    found: &mut Findings<'t>,
+    name: &'t Name,
+    at: Place,
+) -> Result<(), NoMemory> {
+    if facts.hints.get(name).is_none() {
+        return Ok(());
+    }
+    found.add(at, Message::Guess(GuessFault::HintAsValue(Word::of(name))))
+}
+
+// E34: a sample is used in its stage alone.
+fn of_sample<'t>(
+    facts: &Facts,
+    found: &mut Findings<'t>,
+    here: Spot,
+    name: &'t Name,
+    at: Place,
+) -> Result<(), NoMemory> {
+    match facts.samples.get(name) {
+        Some(sample) if sample.stage != here.stage as u64 => {
+            let message = Message::Guess(GuessFault::SampleElsewhere {
+                name: Word::of(name),
+                stage: sample.stage,
+                line: sample.line,
+            });
+            found.add(at, message)
+        }
         _ => Ok(()),
     }
 }

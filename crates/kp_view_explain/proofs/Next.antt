@@ -1,0 +1,106 @@
+-- The line of a text whose tokens violate E4, from the readers up.
+use Rattle.std.proofs.Common.{◌≡◌, ◌≤◌, ℕ, List, [], ◌∷◌, ◌++◌, length, take, Ok, Err, Some, None, refl, ap, sym, subst, ◌∙◌}
+use Rattle.std.specs.Prelude.{◌↔◌, slice_get}
+use Rattle.std.specs.declared.option.Option.{Option}
+use Rattle.kp_base.specs.Refusal.{e_rule}
+use Rattle.kp_base.specs.declared.place.Place.{Place}
+use Rattle.kp_base.specs.declared.refusal.Refusal.{Refusal}
+use Rattle.kp_ast.specs.declared.tree.Job.{Job}
+use Rattle.kp_lex.specs.Text.{HasOutcome}
+use Rattle.kp_lex.specs.declared.token.Token.{Token}
+use Rattle.kp_lex.specs.declared.token.Lexed.{Lexed}
+use Rattle.kp_lex.proofs.Outcome.{one_outcome}
+use Rattle.kp_parse.specs.Sentence.{Breaks, IsTree, IsWrong}
+use Rattle.kp_parse.specs.Sentence.Breaks.{wrong_token}
+use Rattle.kp_parse.proofs.Unique.{no_rule}
+use Rattle.kp_parse_grammar.specs.Tokens.{Lexeme, lexemes}
+use Rattle.kp_frontend.specs.Judging.{JudgesText, JudgesHeadText, most_bytes}
+use Rattle.kp_frontend.specs.Judging.JudgesText.{no_sentence}
+use Rattle.kp_frontend.specs.Judging.Judges.{within}
+use Rattle.kp_frontend.specs.Judging.JudgesHeadText.{no_head_sentence}
+use Rattle.kp_frontend.specs.Judging.JudgesHead.{head_within}
+use Rattle.kp_frontend.proofs.Verdicts.{one_verdict, one_head}
+use Rattle.kp_view_expected.specs.GoesOn.{class_of, GoesOn, Lists}
+use Rattle.kp_view_expected.specs.declared.set.Expected.{Expected}
+use Rattle.kp_view_help.specs.Texts.{found_text}
+use Rattle.kp_view_help.specs.declared.found.FoundToken.{FoundToken}
+use Rattle.kp_view_message.specs.Texts.{message_text}
+use Rattle.kp_view_message.specs.declared.message.Message.{Message}
+use Rattle.kp_view_message.specs.declared.message.Message.TheVariants as messages
+use Rattle.kp_view_message.specs.declared.reading_fault.ReadingFault.TheVariants as faults
+use Rattle.kp_view_findings.specs.Messages.{AppendsMessage}
+use Rattle.kp_view_texts.specs.Heads.{rule_head}
+use Rattle.kp_view_explain.specs.Listing.{IsNext, ListsNext, SaysNext, index_at, token_text, tokens_before}
+use Rattle.kp_view_explain.specs.inner.Naming.{ListsAt, NamesAt, NamesNext, NamesWrong}
+
+-- the set after the tokens before a place
+pub names_next : (text : List ℕ) (tokens before : List Token) (p : Place) (n : ℕ) (found : FoundToken) (set : Expected) (width : Option ℕ) → n ≡ index_at p tokens
+    → found_text found ≡ token_text text (slice_get tokens n) → before ≡ take n tokens
+    → ((t : List ℕ) (x : Lexeme) → Lists set (class_of x.kind) ↔ GoesOn (lexemes t before) x)
+    → NamesNext text tokens p (messages.Reading (faults.Unexpected found set width))
+names_next text tokens before p n found set width at here front exact =
+    let same : before ≡ tokens_before p tokens = front ∙ ap (λ (k : ℕ). take k tokens) at in
+    record {
+      set = set;
+      found = found;
+      width = width;
+      is = refl;
+      here = here ∙ ap (λ (k : ℕ). token_text text (slice_get tokens k)) at;
+      exact = subst (λ (ts : List Token). IsNext text ts set) same (exact text);
+    }
+
+-- a text with an invalid token has no other tokens
+pub no_tokens : (text : List ℕ) (refusal : Refusal) (p : Place) (m : Message) → HasOutcome text (Err refusal) → NamesWrong text p m
+no_tokens text refusal p m none lexed r h broken = cc (one_outcome h none)
+
+-- and tokens with a tree violate no rule of the grammar
+pub has_tree : (text : List ℕ) (l : Lexed) (job : Job) (p : Place) (m : Message) → HasOutcome text (Ok l) → IsTree text l.tokens job → NamesWrong text p m
+has_tree text l job p m h tree lexed r i broken =
+    let same : lexed ≡ l = cc (one_outcome h i) in
+    absurd (no_rule text l.tokens job r tree (subst (λ (x : Lexed). Breaks text x.tokens r) same broken))
+
+pub names_wrong : (text : List ℕ) (l : Lexed) (p : Place) (m : Message) → HasOutcome text (Ok l) → NamesNext text l.tokens p m → NamesWrong text p m
+names_wrong text l p m h named lexed r i broken =
+    let same : l ≡ lexed = cc (one_outcome h i) in subst (λ (x : Lexed). NamesNext text x.tokens p m) same named
+
+-- of another rule nothing is said here
+pub another_rule : (text : List ℕ) (refusal : Refusal) (m : Option Message) → (refusal.number ≡ 4 → ⊥) → NamesAt text refusal m
+another_rule text refusal m other four = absurd (other four)
+
+-- the line of such a message
+pub line_of : (text : List ℕ) (refusal : Refusal) (m : Message) (said : List ℕ) → NamesAt text refusal (Some m) → AppendsMessage [] said (message_text m)
+    → ListsAt text refusal said
+line_of text refusal m said names appends lexed four h broken =
+    let named : NamesNext text lexed.tokens refusal.place m = names four lexed refusal h broken in
+    let written = subst (λ (x : Message). AppendsMessage [] said (message_text x)) named.is appends in
+    record { set = named.set; exact = named.exact; rest = written.0; line = rw (← named.here) written.1 }
+
+pub no_line : (text : List ℕ) (refusal : Refusal) (said : List ℕ) → NamesAt text refusal None → ListsAt text refusal said
+no_line text refusal said names lexed four h broken = absurd (names four)
+
+-- the text of a job that violates a rule
+pub refused_next : (file text facts said : List ℕ) (refusal : Refusal) → length text ≤ most_bytes → JudgesText text (Err refusal) → ListsAt text refusal facts
+    → said ≡ rule_head file refusal ++ facts → ListsNext file text said
+refused_next file text facts said refusal few judged lists whole lexed p h w =
+    let broken : Breaks text lexed.tokens (e_rule 4 p) = wrong_token w in
+    let same : refusal ≡ e_rule 4 p = cc (one_verdict text _ _ (within few judged) (within few (no_sentence h broken))) in
+    let here = subst (λ (r : Refusal). ListsAt text r facts) same lists in
+    (facts, here lexed refl h broken, subst (λ (r : Refusal). said ≡ rule_head file r ++ facts) same whole)
+
+-- and of one that violates none
+pub accepted_next : (file text said : List ℕ) (job : Job) → length text ≤ most_bytes → JudgesText text (Ok job) → ListsNext file text said
+accepted_next file text said job few judged lexed p h w =
+    absurd (cc (one_verdict text _ _ (within few judged) (within few (no_sentence h (wrong_token w)))))
+
+-- the same at the head of a text
+pub refused_head_next : (file text facts said : List ℕ) (refusal : Refusal) → length text ≤ most_bytes → JudgesHeadText text (Err refusal) → ListsAt text refusal facts
+    → said ≡ rule_head file refusal ++ facts → ListsNext file text said
+refused_head_next file text facts said refusal few judged lists whole lexed p h w =
+    let broken : Breaks text lexed.tokens (e_rule 4 p) = wrong_token w in
+    let same : refusal ≡ e_rule 4 p = cc (one_head text _ _ (head_within few judged) (head_within few (no_head_sentence h broken))) in
+    let here = subst (λ (r : Refusal). ListsAt text r facts) same lists in
+    (facts, here lexed refl h broken, subst (λ (r : Refusal). said ≡ rule_head file r ++ facts) same whole)
+
+pub accepted_head_next : (file text said : List ℕ) (job : Job) (from : ℕ) → length text ≤ most_bytes → JudgesHeadText text (Ok (job, from)) → ListsNext file text said
+accepted_head_next file text said job from few judged lexed p h w =
+    absurd (cc (one_head text _ _ (head_within few judged) (head_within few (no_head_sentence h (wrong_token w)))))
