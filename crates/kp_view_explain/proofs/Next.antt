@@ -1,6 +1,9 @@
 -- The line of a text whose tokens violate E4, from the readers up.
-use Rattle.std.proofs.Common.{◌≡◌, ◌≤◌, ℕ, List, [], ◌∷◌, ◌++◌, length, take, Ok, Err, Some, None, refl, ap, sym, subst, ◌∙◌}
+use Rattle.std.proofs.Common.{◌≡◌, ◌≤◌, ℕ, Bool, not, List, [], ◌++◌, length, take, Ok, Err, Some, None, refl, ap, subst, ◌∙◌, arith}
+use Rattle.std.proofs.lemmas.Grind.{common_steps}
+use Rattle.std.proofs.lemmas.List.Sums.{prefix_len-le-length}
 use Rattle.std.specs.Prelude.{◌↔◌, slice_get}
+use Rattle.std.specs.List.{position, position_or_len}
 use Rattle.std.specs.declared.option.Option.{Option}
 use Rattle.kp_base.specs.Refusal.{e_rule}
 use Rattle.kp_base.specs.declared.place.Place.{Place}
@@ -10,7 +13,7 @@ use Rattle.kp_lex.specs.Text.{HasOutcome}
 use Rattle.kp_lex.specs.declared.token.Token.{Token}
 use Rattle.kp_lex.specs.declared.token.Lexed.{Lexed}
 use Rattle.kp_lex.proofs.Outcome.{one_outcome}
-use Rattle.kp_parse.specs.Sentence.{Breaks, IsTree, IsWrong}
+use Rattle.kp_parse.specs.Sentence.{Breaks, IsTree}
 use Rattle.kp_parse.specs.Sentence.Breaks.{wrong_token}
 use Rattle.kp_parse.proofs.Unique.{no_rule}
 use Rattle.kp_parse_grammar.specs.Tokens.{Lexeme, lexemes}
@@ -30,8 +33,15 @@ use Rattle.kp_view_message.specs.declared.message.Message.TheVariants as message
 use Rattle.kp_view_message.specs.declared.reading_fault.ReadingFault.TheVariants as faults
 use Rattle.kp_view_findings.specs.Messages.{AppendsMessage}
 use Rattle.kp_view_texts.specs.Heads.{rule_head}
-use Rattle.kp_view_explain.specs.Listing.{IsNext, ListsNext, SaysNext, index_at, token_text, tokens_before}
+use Rattle.kp_view_explain.specs.Listing.{IsNext, ListsNext, index_at, token_text, tokens_before}
 use Rattle.kp_view_explain.specs.inner.Naming.{ListsAt, NamesAt, NamesNext, NamesWrong}
+
+-- where no item passes, the first that does is past all
+pub none_passes : {X : Type 0} (test : X → Bool) (xs : List X) → None ≡ position test xs → length xs ≡ position_or_len test xs
+none_passes test xs none =
+    let past : length xs ≤ position_or_len test xs = grind (arith, common_steps) in
+    let within : position_or_len test xs ≤ length xs = prefix_len-le-length (λ x. not (test x)) xs in
+    omega (arith, past, within)
 
 -- the set after the tokens before a place
 pub names_next : (text : List ℕ) (tokens before : List Token) (p : Place) (n : ℕ) (found : FoundToken) (set : Expected) (width : Option ℕ) → n ≡ index_at p tokens

@@ -20,7 +20,7 @@ use kp_view_widths::section_faults;
 use std::alloc::Global;
 
 /// The explanation of a job that is not too long: the first rule that it violates, and further violations, or warnings.
-#[tactic(auto, using(crate::proofs::Inputs::accepted_job, crate::proofs::Inputs::refused_job, crate::proofs::Next::accepted_next, crate::proofs::Next::refused_next))]
+#[tactic(auto, using(crate::proofs::Inputs::accepted_job, crate::proofs::Inputs::refused_job))]
 pub(crate) fn explain_job(
     alloc: Global,
     file: &[u8],

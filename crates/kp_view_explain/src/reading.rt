@@ -48,7 +48,7 @@ fn no_token(text: &[u8], place: Place) -> Message<'_> {
 }
 
 // Why the token at a place, or the end of the text there, can't follow: the classes of tokens that can.
-#[tactic(auto, using(crate::proofs::Next::no_tokens, crate::proofs::Next::has_tree, crate::proofs::Next::names_wrong))]
+#[tactic(auto, using(crate::proofs::Next::no_tokens, crate::proofs::Next::names_wrong))]
 fn no_sentence<'t>(alloc: Global, text: &'t [u8], place: Place) -> Result<Message<'t>, NoMemory>
     requires { length text.now ≤ most_bytes }
     ensures { IfOk result (λ m. NamesWrong text.now place m) }
@@ -66,7 +66,6 @@ fn no_sentence<'t>(alloc: Global, text: &'t [u8], place: Place) -> Result<Messag
 }
 
 // The token at a place, and which tokens can be there.
-#[tactic(auto, using(crate::proofs::Next::names_next))]
 fn wrong_token<'t>(
     alloc: Global,
     text: &'t [u8],

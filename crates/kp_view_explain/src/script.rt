@@ -15,7 +15,7 @@ use kp_view_texts::write_script;
 use std::alloc::Global;
 
 /// The explanation of a text that is not too long: the first rule that the job at its head violates, or else the script.
-#[tactic(auto, using(crate::proofs::Inputs::of_script, crate::proofs::Inputs::refused_head, crate::proofs::Next::accepted_head_next, crate::proofs::Next::refused_head_next))]
+#[tactic(auto, using(crate::proofs::Inputs::of_script, crate::proofs::Inputs::refused_head))]
 pub(crate) fn explain_debugged(
     alloc: Global,
     file: &[u8],

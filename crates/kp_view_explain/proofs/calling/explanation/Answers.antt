@@ -1,4 +1,4 @@
-use Rattle.std.proofs.Common.{◌∙◌, ℕ, List, ap, subst, Err}
+use Rattle.std.proofs.Common.{◌∙◌, ◌≤◌, ℕ, List, length, ap, subst, arith, Err}
 use Rattle.kp_view_explain.specs.Explaining.{ExplainsText}
 use Rattle.kp_view_explain.specs.Listing.{ListsNext}
 use Rattle.kp_view_explain.proofs.Inputs.{of_excess, of_input}
@@ -14,6 +14,7 @@ pub returns-in_ok-explain-in-Ok-clause-explained : goal.returns-in_ok-explain-in
 returns-in_ok-explain-in-Ok-clause-explained g c =
     let file = c.args.file.now in
     let said = c.in_ok-explain-in-Ok.field-0 in
+    let few : length c.in-Ok.input.items ≤ 16777216 = omega (arith, c.in-Ok.ensures.fits, c.as_slice.ensures.len, ap length c.as_slice.ensures.value) in
     let explained = subst (λ (x : List ℕ). ExplainsText c.args.subject c.args.strict file x said.status said.text.items) c.as_slice.ensures.value c.in_ok-explain-in-Ok.ensures.said in
-    of_input c.args.subject c.args.strict file _ _ c.in-Ok.input.items said.status said.text.items c.in-Ok.ensures.all c.in-Ok.ensures.end c.in-Ok.ensures.fits explained
+    of_input c.args.subject c.args.strict file _ _ c.in-Ok.input.items said.status said.text.items c.in-Ok.ensures.all c.in-Ok.ensures.end few explained
     (λ job. subst (λ (x : List ℕ). ListsNext file x said.text.items) c.as_slice.ensures.value (c.in_ok-explain-in-Ok.ensures.next job))
