@@ -49,18 +49,18 @@ order_text paths input job = paths_text job
 order_text paths_svg input job = paths_svg_text job
 order_text (stalls count) input job = stalls_text (labels_from job.blocks) (job_stalls count job)
 
--- What the states that a page records of n cycles and the end after them tell: the value of a word in a cycle is the one that was listed last, or 0 if
+-- What the states that a page records of n cycles and the end after them show: the value of a word in a cycle is the one that was listed last, or 0 if
 -- none was.
-abbrev pub TellsStates : Job → ℕ → Type 0
-TellsStates job n = (T t a : ℕ) → listed_last (pipe_of job (inputs_from job 0 n)).visible T t a ≡ (pipe_of job (inputs_from job 0 n)).visible T t a
+abbrev pub ShowsStates : Job → ℕ → Type 0
+ShowsStates job n = (T t a : ℕ) → listed_last (pipe_of job (inputs_from job 0 n)).visible T t a ≡ (pipe_of job (inputs_from job 0 n)).visible T t a
 
 -- What that text shows. Of a diagram: the fetches, cells, marks and the account in it are those of the run, and the laws of the diagram hold of them.
 -- Of the table of paths: its cells say where the reads take their values from, in each state of each run. The arrows of its picture are these cells. A page
--- has a diagram and the table, and tells the states.
+-- has a diagram and the table, and shows the states.
 abbrev pub IsShown : Order → Job → Type 0
 IsShown (diagram run) job = ShowsRun job run.count (figure_drawn run job)
 IsShown (svg run) job = ShowsRun job run.count (figure_drawn run job)
-IsShown (page run) job = ShowsRun job run.count (figure_drawn run job) × ArePaths job × TellsStates job run.count
+IsShown (page run) job = ShowsRun job run.count (figure_drawn run job) × ArePaths job × ShowsStates job run.count
 IsShown paths job = ArePaths job
 IsShown paths_svg job = ArePaths job × ShowsCells job
 IsShown (stalls count) job = TellCauses job count
