@@ -1,10 +1,15 @@
-use Rattle.std.proofs.Common.{◌≡◌, ◌∙◌, List, length, refl, ap, sym, subst}
+use Rattle.std.proofs.Common.{◌≡◌, ◌∙◌, ℕ, List, length, refl, ap, sym, subst}
+use Rattle.std.proofs.lemmas.Result.{err_from_is_err_and}
 use Rattle.kp_bits.specs.Word.{Word}
 use Rattle.kp_cycle.specs.Steps.{Running}
 use Rattle.kp_image.proofs.Given.{starts}
 use Rattle.kp_run.proofs.Given.{as_feeds}
 use Rattle.kp_synth_spec.specs.Shows.{Shows}
+use Rattle.kp_diagram_text.specs.Charts.{figure_of, rows_of}
 use Rattle.kp_page.specs.Runs.{after_cycles}
+use Rattle.kp_page.specs.States.{states_text}
+use Rattle.kp_page_text.specs.Page.{page as page_text}
+use Rattle.kp_paths.specs.Text.{paths_text}
 use Rattle.kp_view.proofs.page.with_states.Goals as goal
 
 pub synth-requires-clause-suits : goal.synth-requires-clause-suits
@@ -35,3 +40,12 @@ write_page-end-requires-clause-before g c =
 pub write_page-end-requires-clause-room : goal.write_page-end-requires-clause-room
 write_page-end-requires-clause-room g c =
     rw c.as_mut_slice-room.ensures.value (ap (λ (l : List Word). length l) c.in_ok-samples.ensures ∙ as_feeds c.args.job.now.sections.inputs 0)
+
+pub returns-in_err-end : goal.returns-in_err-end
+returns-in_err-end g c =
+    let exit = err_from_is_err_and c.from_residual-in_err-end.result c.from_residual-in_err-end.ensures.1 in
+    let due = c.in_err-end.ensures in
+    let text : List ℕ =
+    page_text (figure_of c.args.chart.now) (rows_of c.args.chart.now) c.args.input.now (paths_text c.args.paths.now)
+    (states_text c.args.job.now.design.job c.args.count) in
+    rw (exit.1, exit.2) (due.cause.failed, text, (refl, refl), due.text)
