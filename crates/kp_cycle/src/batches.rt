@@ -240,7 +240,7 @@ pub fn take_batch(
     }
 }
 
-// Evaluates the steps from this one on that have this operation. The last step of all has none of these operations, so no end is looked for. Eight
+// Evaluates the steps from this one on that have this operation. The last step of all has none of these operations, so no end is looked for. Four
 // steps are evaluated in a turn of the loop, which saves counting.
 #[inline(always)]
 fn take_while<B: Batch>(
@@ -264,34 +264,9 @@ fn take_while<B: Batch>(
     let mut k = from;
     'batch: while let Some(value) = B::value(&steps[k].op, memory) {
         memory.set_node(steps[k].target, value);
-        k = take_seven::<B>(net, _heads, steps, memory, k + 1);
+        k = take_three::<B>(net, _heads, steps, memory, k + 1);
     }
     k
-}
-
-// Evaluates up to seven steps from this one on that have this operation.
-#[inline(always)]
-fn take_seven<B: Batch>(
-    net: &Netlist,
-    _heads: u32,
-    steps: &[Step],
-    memory: &mut Memory,
-    from: usize,
-) -> usize
-    requires plan { IsPlan net.now _heads steps.now }
-    requires fits { Fits net.now memory.old }
-    requires inside { from < length steps.now }
-    ensures forward { from ≤ result }
-    ensures inside { result < length steps.now }
-    ensures fits { Fits net.now memory.new }
-    ensures settled { (input : Input) → Settled net.now input _heads steps.now from memory.old → Settled net.now input _heads steps.now result memory.new }
-    ensures regs { memory.new.regs ≡ memory.old.regs }
-    ensures files { memory.new.files ≡ memory.old.files }
-    ensures slots { memory.new.slots ≡ memory.old.slots }
-{
-    let three = take_three::<B>(net, _heads, steps, memory, from);
-    let six = take_three::<B>(net, _heads, steps, memory, three);
-    take_if::<B>(net, _heads, steps, memory, six)
 }
 
 // Evaluates up to three steps from this one on that have this operation.

@@ -6,10 +6,10 @@ use Rattle.kp_bits.specs.Literals.{is_number, number_of, literal_of, fit_of}
 use Rattle.kp_bits.specs.declared.literal.Literal.{Literal}
 use Rattle.kp_bits.specs.declared.literal.LiteralFault.{LiteralFault}
 use Rattle.kp_ast.specs.declared.tree.Decl.{Decl}
-use Rattle.kp_debug_script.specs.Lines.{Piece, piece_of, IsWithin}
+use Rattle.kp_lines.specs.Lines.{Piece, piece_of, IsWithin}
 use Rattle.kp_debug_script.specs.inner.Reading.{IsFaultIn}
 use Rattle.kp_debug_script.specs.Scripts.{verb_of, count_within, count_of, value_fitting, value_within, value_of, one_count, with_count, alone, with_value, with_register, register_from, until_at, until_by, is_literal, command_by, command_in}
-use Rattle.kp_debug_script.specs.declared.run.Run.{Run}
+use Rattle.kp_lines.specs.declared.run.Run.{Run}
 use Rattle.kp_debug_script.specs.declared.command.Command.{Command}
 use Rattle.kp_debug_script.specs.declared.command.Command.TheVariants as commands
 use Rattle.kp_debug_script.specs.declared.command.Verb.{Verb}

@@ -1,4 +1,3 @@
 pub mod Faults
-pub mod Splitting
 pub mod Turns
 pub mod Words

@@ -9,12 +9,12 @@ use Rattle.kp_base.specs.declared.refusal.Refused.{Refused}
 use Rattle.kp_base.specs.declared.refusal.Refused.TheVariants.{Rule, NoMemory}
 use Rattle.kp_base.specs.Check.{Gives}
 use Rattle.kp_ast.specs.declared.tree.Decl.{Decl}
-use Rattle.kp_debug_script.specs.Lines.{is_break, pieces, lines_of, words_of, piece_of}
+use Rattle.kp_lines.specs.Lines.{is_break, pieces, lines_of, words_of, piece_of}
 use Rattle.kp_debug_script.specs.Scripts.{command_in, with_line, commands_of, placed}
 use Rattle.kp_debug_script.specs.inner.Reading.{behind, IsAdded, IsBroken}
 use Rattle.kp_debug_script.specs.declared.command.Command.{Command}
 use Rattle.kp_debug_script.specs.declared.command.Fault.{Fault}
-use Rattle.kp_debug_script.proofs.Splitting.{Clean, between, first_piece, last_piece, lines_left}
+use Rattle.kp_lines.proofs.Splitting.{Clean, between, first_piece, last_piece, lines_left}
 
 -- ---- one line
 

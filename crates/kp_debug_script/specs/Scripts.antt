@@ -15,7 +15,7 @@ use Rattle.kp_bits.specs.declared.literal.LiteralFault.{LiteralFault}
 use Rattle.kp_bits.specs.declared.literal.LiteralFault.TheVariants.{BadDigit}
 use Rattle.kp_ast.specs.declared.tree.Decl.{Decl}
 use Rattle.kp_ast.specs.declared.tree.Decl.TheVariants as decls
-use Rattle.kp_debug_script.specs.Lines.{Piece, lines_of, words_of}
+use Rattle.kp_lines.specs.Lines.{Piece, lines_of, words_of}
 use Rattle.kp_debug_script.specs.declared.command.Command.{Command}
 use Rattle.kp_debug_script.specs.declared.command.Command.TheVariants as commands
 use Rattle.kp_debug_script.specs.declared.command.Verb.{Verb}

@@ -3,7 +3,6 @@
 
 mod command;
 mod line;
-mod run;
 mod script;
 
 pub use command::{Command, Register};

@@ -1,11 +1,10 @@
 -- A script that is read line by line.
-use Rattle.std.specs.Prelude.{◌≡◌, ◌≤◌, ℕ, nat_lt, if◌then◌else◌, List, [], ◌∷◌, ◌++◌, length, Option, Result, Ok, Err, IfErr, ⊤}
+use Rattle.std.specs.Prelude.{◌≡◌, ◌≤◌, ℕ, List, ◌++◌, length, Option, Result, Ok, Err, IfErr, ⊤}
 use Rattle.kp_base.specs.declared.refusal.Refused.{Refused}
 use Rattle.kp_base.specs.declared.refusal.Refused.TheVariants.{Rule, NoMemory}
 use Rattle.kp_debug_script.specs.Scripts.{with_line, placed}
 use Rattle.kp_debug_script.specs.declared.command.Command.{Command}
 use Rattle.kp_debug_script.specs.declared.command.Fault.{Fault}
-use Rattle.kp_debug_script.specs.declared.run.Run.{Run}
 
 -- commands that were read already, before those of a script
 abbrev pub behind : List Command → Result (List Command) Fault → Result (List Command) Fault
@@ -24,7 +23,3 @@ IsBroken text line NoMemory = ⊤
 -- a violated rule is reported at a byte of the text, or at its end
 abbrev pub IsFaultIn : {X : Type 0} → List ℕ → Result X Fault → Type 0
 IsFaultIn text result = IfErr result (λ fault. fault.at ≤ length text)
-
--- the token from one offset to another, unless it is empty
-abbrev pub word_between : ℕ → ℕ → List Run
-word_between at end = if nat_lt at end then record { at = at; end = end } ∷ [] else []

@@ -15,14 +15,14 @@ value-requires g c = step_ready c.args.net.now c.args._heads c.args.steps.now c.
 pub set_node-requires : goal.set_node-requires
 set_node-requires g c = omega (arith, target_inside c.args.net.now c.args._heads c.args.steps.now c.batch.k c.requires.plan c.batch.invariant.6, c.batch.invariant.0.nodes)
 
-pub take_seven-k-requires-clause-fits : goal.take_seven-k-requires-clause-fits
-take_seven-k-requires-clause-fits g c =
+pub take_three-k-requires-clause-fits : goal.take_three-k-requires-clause-fits
+take_three-k-requires-clause-fits g c =
     let net = c.args.net.now in
     let P : Stored → Type 0 = Fits net in
     subst P (sym c.set_node.ensures) (fits_more net c.batch.memory _ _ c.batch.invariant.0)
 
-pub take_seven-k-requires-clause-inside : goal.take_seven-k-requires-clause-inside
-take_seven-k-requires-clause-inside g c =
+pub take_three-k-requires-clause-inside : goal.take_three-k-requires-clause-inside
+take_three-k-requires-clause-inside g c =
     let m = c.batch.memory in
     let none : Input = record { ext = 0; reset = false; samples = [] } in
     step_inside c.args.net.now c.args._heads c.args.steps.now c.batch.k c.requires.plan c.batch.invariant.6 (cells none m) m.nodes c.in-Some.value
@@ -36,7 +36,7 @@ batch-preserved g c =
     let k = c.batch.k in
     let inv = c.batch.invariant in
     let one = c.set_node.ensures in
-    let t = c.take_seven-k.ensures in
+    let t = c.take_three-k.ensures in
     let P : (input : Input) → Stored → Type 0 = λ input. Settled net input c.args._heads steps (k + 1) in (
       t.fits,
       λ input s. t.settled input (subst (P input) (sym one)

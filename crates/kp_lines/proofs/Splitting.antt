@@ -4,17 +4,17 @@ use Rattle.std.specs.Prelude.{slice_range, filter, nat_lt}
 use Rattle.std.proofs.lemmas.List.{drop_more, map-append}
 use Rattle.std.proofs.lemmas.List.Edits.{length-between}
 use Rattle.std.proofs.lemmas.Bool.Decides.{nat_tests}
-use Rattle.kp_debug_script.specs.Lines.{Piece, IsWithin, pieces, piece_of, lengthened, is_blank, is_break}
-use Rattle.kp_debug_script.specs.declared.run.Run.{Run}
-use Rattle.kp_debug_script.specs.inner.Reading.{word_between}
+use Rattle.kp_lines.specs.Lines.{Piece, IsWithin, pieces, piece_of, lengthened, is_blank, is_break}
+use Rattle.kp_lines.specs.declared.run.Run.{Run}
+use Rattle.kp_lines.specs.inner.Words.{word_between}
 
 -- the first byte of a part of a text
-range_head : (text : List ℕ) (a e : ℕ) → a < e → e ≤ length text → slice_range text a e ≡ get_or text a 0 ∷ slice_range text (a + 1) e
+pub range_head : (text : List ℕ) (a e : ℕ) → a < e → e ≤ length text → slice_range text a e ≡ get_or text a 0 ∷ slice_range text (a + 1) e
 range_head text a e h within =
     let more : e - a ≡ suc (e - (a + 1)) = omega arith in
     ap (take (e - a)) (drop_more text a 0 (omega arith)) ∙ ap (λ (n : ℕ). take n (get_or text a 0 ∷ drop (a + 1) text)) more
 
-range_empty : (text : List ℕ) (a e : ℕ) → e ≤ a → slice_range text a e ≡ []
+pub range_empty : (text : List ℕ) (a e : ℕ) → e ≤ a → slice_range text a e ≡ []
 range_empty text a e h = let none : e - a ≡ 0 = omega arith in ap (λ (n : ℕ). take n (drop a text)) none
 
 module _ (separates : ℕ → Bool) (text : List ℕ) where
@@ -121,3 +121,25 @@ word_within text a e h within = go (nat_lt a e)
     go : (b : Bool) → All (IsWithin text) (cond b (record { at = a; end = e } ∷ []) [])
     go true = λ k d l. (let z : k ≡ 0 = omega arith in subst (λ (n : ℕ). IsWithin text (get_or (record { at = a; end = e } ∷ []) n d)) (sym z) (h, within))
     go false = λ k d l. absurd (omega arith)
+
+pub run_within : (text : List ℕ) (a e : ℕ) → a ≤ e → e ≤ length text → All (IsWithin text) (record { at = a; end = e } ∷ [])
+run_within text a e h within =
+    λ k d l. (let z : k ≡ 0 = omega arith in subst (λ (n : ℕ). IsWithin text (get_or (record { at = a; end = e } ∷ []) n d)) (sym z) (h, within))
+
+-- one line more
+pub lines_more : (text : List ℕ) (a i e : ℕ) (old new : List Run) → a ≤ i → i < e → e ≤ length text → Clean is_break text a i → is_break (get_or text i 0) ≡ true
+    → new ≡ old ++ record { at = a; end = i } ∷ [] → map (piece_of text) new ++ between is_break text (i + 1) e ≡ map (piece_of text) old ++ between is_break text a e
+lines_more text a i e old new h l within clean on is =
+    let line : List Piece = map (piece_of text) (record { at = a; end = i } ∷ []) in
+    let rest : List Piece = between is_break text (i + 1) e in
+    ap (λ (ws : List Run). map (piece_of text) ws ++ rest) is
+    ∙ ap (λ (ps : List Piece). ps ++ rest) (map-append (piece_of text) old (record { at = a; end = i } ∷ []))
+    ∙ append_assoc (map (piece_of text) old) line rest
+    ∙ ap (λ (ps : List Piece). map (piece_of text) old ++ ps) (sym (first_piece is_break text a i e h l within clean on))
+
+-- the last one
+pub lines_last : (text : List ℕ) (a e : ℕ) (old new : List Run) → a ≤ e → e ≤ length text → Clean is_break text a e → new ≡ old ++ record { at = a; end = e } ∷ []
+    → map (piece_of text) new ≡ map (piece_of text) old ++ between is_break text a e
+lines_last text a e old new h within clean is =
+    ap (map (piece_of text)) is ∙ map-append (piece_of text) old (record { at = a; end = e } ∷ [])
+    ∙ ap (λ (ps : List Piece). map (piece_of text) old ++ ps) (sym (last_piece is_break text a e h within clean))

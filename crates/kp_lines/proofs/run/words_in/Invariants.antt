@@ -1,7 +1,7 @@
 use Rattle.std.proofs.Common.{◌≡◌, ◌≤◌, ◌<◌, ℕ, ◌++◌, false, get_or, map, All}
-use Rattle.kp_debug_script.specs.Lines.{is_blank, piece_of, words_of, IsWithin}
-use Rattle.kp_debug_script.proofs.Splitting.{words_left}
-use Rattle.kp_debug_script.proofs.run.words_in.Given as goal
+use Rattle.kp_lines.specs.Lines.{is_blank, piece_of, words_of, IsWithin}
+use Rattle.kp_lines.proofs.Splitting.{words_left}
+use Rattle.kp_lines.proofs.run.words_in.Given as goal
 
 abbrev pub invariant-loop-i : goal.invariant-loop-i
 invariant-loop-i l = record {

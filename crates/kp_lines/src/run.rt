@@ -1,7 +1,7 @@
 // Runs of bytes of a text: lines, and the tokens of a line.
-ghost use Rattle.std.specs.Prelude.{◌≡◌, ◌+◌, ◌^◌, ◌<◌, ◌++◌, true, false, length, get_or, map, All, IfOk, OnOk};
-ghost use Rattle.kp_debug_script.specs.Lines.{is_blank, piece_of, words_of, IsWithin};
-ghost use Rattle.kp_debug_script.specs.inner.Reading.{word_between};
+ghost use Rattle.std.specs.Prelude.{◌≡◌, ◌+◌, ◌^◌, ◌<◌, ◌++◌, ◌∷◌, [], true, false, length, get_or, map, All, IfOk, OnOk};
+ghost use Rattle.kp_lines.specs.Lines.{is_blank, is_break, piece_of, words_of, lines_of, IsWithin};
+ghost use Rattle.kp_lines.specs.inner.Words.{word_between};
 
 use kp_base::NoMemory;
 use std::alloc::Global;
@@ -11,6 +11,37 @@ use std::alloc::Global;
 pub struct Run {
     pub at: u32,
     pub end: u32,
+}
+
+/// The lines of a run, of which there is one at least. The only error is out of memory.
+pub fn lines_in(alloc: Global, text: &[u8], run: Run) -> Result<Vec<Run>, NoMemory>
+    requires within { IsWithin text.now run }
+    requires few { length text.now < 2 ^ 32 }
+    ensures lines { IfOk result (λ lines. map (piece_of text.now) lines.items ≡ lines_of (piece_of text.now run)) }
+    ensures within { IfOk result (λ lines. All (IsWithin text.now) lines.items) }
+{
+    let mut lines = Vec::new(alloc);
+    let mut at = run.at;
+    for i in run.at..run.end {
+        at = end_line(text, at, i, &mut lines)?;
+    }
+    lines.push(Run { at, end: run.end })?;
+    Ok(lines)
+}
+
+// At a line feed, appends the line before it, and returns the offset after it, where the next line starts. Elsewhere returns `at`, where the present one
+// started.
+fn end_line(text: &[u8], at: u32, i: u32, lines: &mut Vec<Run>) -> Result<u32, NoMemory>
+    requires there { i < length text.now }
+    requires few { length text.now < 2 ^ 32 }
+    ensures goes_on { IfOk result (λ next. is_break (get_or text.now i 0) ≡ false → (next ≡ at) × (lines.new.items ≡ lines.old.items)) }
+    ensures ends { IfOk result (λ next. is_break (get_or text.now i 0) ≡ true → (next ≡ i + 1) × (lines.new.items ≡ lines.old.items ++ record { at = at; end = i } ∷ [])) }
+{
+    if text[i as usize] != b'\n' {
+        return Ok(at);
+    }
+    lines.push(Run { at, end: i })?;
+    Ok(i + 1)
 }
 
 /// The tokens of a line. The only error is out of memory.

@@ -1,6 +1,6 @@
--- The lines of a script, and the tokens of a line: the pieces between separators.
+-- The lines of a text, and the tokens of a line: the pieces between separators.
 use Rattle.std.specs.Prelude.{ℕ, ◌+◌, ◌≤◌, Bool, ◌||◌, ◌==◌, nat_lt, if◌then◌else◌, List, [], ◌∷◌, length, filter, slice_range}
-use Rattle.kp_debug_script.specs.declared.run.Run.{Run}
+use Rattle.kp_lines.specs.declared.run.Run.{Run}
 
 -- some bytes, and the number of bytes of the text before them
 pub record Piece : Type 0 where
