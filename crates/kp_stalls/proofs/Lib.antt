@@ -8,4 +8,4 @@ pub mod Results
 pub mod Waits
 pub mod Moments
 pub mod Causing
-pub mod Telling
+pub mod Reporting

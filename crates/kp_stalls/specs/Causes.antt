@@ -93,11 +93,11 @@ has_guess sites = list_any (λ (site : Site). site.guessed) sites
 
 -- The read for which an instruction waits is named if no wrong guess can have fetched it or an older one: the job has no guess, or the instruction retires;
 -- and if the samples of its stage have the values that it takes.
-abbrev pub is_told : Sited → Stage → Bool
-is_told s x = x.settled && (retires_by x.fate || not (has_guess s.reads))
+abbrev pub is_reported : Sited → Stage → Bool
+is_reported s x = x.settled && (retires_by x.fate || not (has_guess s.reads))
 
 abbrev pub value_cause : Sited → List Seen → ℕ → Cause
-value_cause s occupants k = if is_told s (at occupants k).stage then cause_of_wait (first_wait s occupants k 0 s.reads) else Unsure
+value_cause s occupants k = if is_reported s (at occupants k).stage then cause_of_wait (first_wait s occupants k 0 s.reads) else Unsure
 
 -- a full stage that doesn't update
 abbrev pub is_waiting : Stage → Bool

@@ -16,7 +16,7 @@ ghost use Rattle.kp_stalls.specs.declared.occupants.Stage.{Stage};
 ghost use Rattle.kp_stalls.specs.declared.cause.Cause.TheVariants.{Value};
 ghost use Rattle.kp_stalls.specs.Sites.{Sited, sited};
 ghost use Rattle.kp_stalls.specs.Occupants.{Seen, at, occupants_of, report};
-ghost use Rattle.kp_stalls.specs.Causes.{cause_at, first_wait, is_squashed_by, is_told, is_waiting};
+ghost use Rattle.kp_stalls.specs.Causes.{cause_at, first_wait, is_squashed_by, is_reported, is_waiting};
 ghost use Rattle.kp_stalls.specs.Claims.{IsCause, ShowsMoment, run_given, run_moment, run_rows};
 
 use kp_pipeline::no_needless_stall::the_pipeline_waits_only_where_it_must;
@@ -55,7 +55,7 @@ pub fn each_wait_of_a_run_has_its_cause()
 
 /// A wait that a line names, of an instruction on the right path, is such a cause: the stage that is named is the nearest that may write what is read, and isn't
 /// ready.
-pub fn each_wait_that_is_told_is_a_cause()
+pub fn each_reported_wait_is_a_cause()
     ensures { (job : Job) (hints : ℕ → ℕ) (ins : List Inputs) (T : ℕ) (i : Inputs) (r : Row) (stages : List Stage) (k : ℕ) (w : Wait)
         → first (widths_of job).asked ≡ None → broken_of job ≡ None → Accepted (machine_of job) → T < length ins
         → i ≡ get_or ins T i → r ≡ get_or (run_rows job hints ins) T r
@@ -70,9 +70,9 @@ pub fn each_wait_that_is_told_is_a_cause()
 
 /// A wait that is found is the cause of its stage, if it isn't squashed in this cycle or later, isn't held from outside, doesn't wait for the stage
 /// ahead, its samples have the values that its instruction takes, and this instruction retires or the job has no guess.
-pub fn a_wait_is_told()
+pub fn a_wait_is_reported()
     ensures { (s : Sited) (occupants : List Seen) (k : ℕ) (w : Wait)
         → (at occupants k).stage.full ≡ true → (at occupants k).stage.squashed ≡ false → (at occupants k).stage.moves ≡ false → is_squashed_by (at occupants k).stage.fate ≡ false
-        → (at occupants k).stage.held ≡ false → is_waiting (at occupants (k + 1)).stage ≡ false → is_told s (at occupants k).stage ≡ true
+        → (at occupants k).stage.held ≡ false → is_waiting (at occupants (k + 1)).stage ≡ false → is_reported s (at occupants k).stage ≡ true
         → first_wait s occupants k 0 s.reads ≡ Some w → cause_at s occupants k ≡ Some (Value w) }
 {}

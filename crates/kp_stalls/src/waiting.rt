@@ -1,6 +1,6 @@
 //! The read that an instruction waits for.
 ghost use Rattle.std.specs.Prelude.{◌≡◌, ◌-◌, ◌<◌, ◌≤◌, IfSome, length};
-ghost use Rattle.kp_stalls.specs.Causes.{first_wait, had_by, has_guess as has_guess_in, is_ready as is_ready_in, is_source as is_source_in, is_told as is_told_in, may_write as may_write_in, nearest as nearest_in, nearest_above as nearest_above_in, value_cause as value_cause_in, wait_at as wait_at_in, wait_by as wait_by_in, wait_of as wait_of_in};
+ghost use Rattle.kp_stalls.specs.Causes.{first_wait, had_by, has_guess as has_guess_in, is_ready as is_ready_in, is_source as is_source_in, is_reported as is_reported_in, may_write as may_write_in, nearest as nearest_in, nearest_above as nearest_above_in, value_cause as value_cause_in, wait_at as wait_at_in, wait_by as wait_by_in, wait_of as wait_of_in};
 ghost use Rattle.kp_stalls.specs.Occupants.{at};
 
 use crate::cause::{Cause, Had, Wait};
@@ -181,8 +181,8 @@ fn first(sites: &Sites, occupants: &Occupants<'_>, k: usize) -> Option<Wait>
 }
 
 // Whether the read for which an instruction waits is named.
-fn is_told(sites: &Sites, stage: Stage) -> bool
-    ensures { result ≡ is_told_in sites.now stage }
+fn is_reported(sites: &Sites, stage: Stage) -> bool
+    ensures { result ≡ is_reported_in sites.now stage }
 {
     stage.settled && (stage.fate.retires() || !has_guess(sites.reads()))
 }
@@ -199,7 +199,7 @@ pub(crate) fn value_cause(sites: &Sites, occupants: &Occupants<'_>, k: usize) ->
     requires below { k < sites.now.stages }
     ensures { result ≡ value_cause_in sites.now occupants.now k }
 {
-    if !is_told(sites, occupants.stage(k)) {
+    if !is_reported(sites, occupants.stage(k)) {
         return Cause::Unsure;
     }
     match first(sites, occupants, k) {

@@ -4,6 +4,6 @@ pub mod Settling
 pub mod Cycles
 pub mod Taking
 pub mod Jobs
-pub mod Telling
+pub mod Reporting
 pub mod Values
 pub mod Naming

@@ -15,7 +15,7 @@ use Rattle.kp_stalls.specs.declared.occupants.Stage.{Stage}
 use Rattle.kp_stalls.specs.declared.sites.Site.{Site}
 use Rattle.kp_stalls.specs.Sites.{Sited, no_site, sited}
 use Rattle.kp_stalls.specs.Occupants.{Seen, at, no_occupant, no_stage, no_value, occupants_of, report, value_before}
-use Rattle.kp_stalls.specs.Causes.{all_retire, cause_at, cause_of_wait, first_wait, guess_of, is_open, is_squashed_by, is_told, is_waiting, only_open, waiting_cause, wrong_of}
+use Rattle.kp_stalls.specs.Causes.{all_retire, cause_at, cause_of_wait, first_wait, guess_of, is_open, is_squashed_by, is_reported, is_waiting, only_open, waiting_cause, wrong_of}
 
 -- A WAIT is no squash.
 no_squash : (a b c d : Bool) (o : Option Wait) (w : Wrong) → cond a Later (cond b Held (cond c Ahead (cond d (cause_of_wait o) Unsure))) ≡ Squashed w → ⊥
@@ -96,7 +96,7 @@ module _ (s : Sited) (occupants : List Seen) (k : ℕ) where
   pub named : (w : Wrong) (g : Guess) → cause_at s occupants k ≡ Some (Squashed w) → w.guess ≡ Some g → IsNamed g
   named w g e is =
       let same = from_squash (at occupants k).stage.full (at occupants k).stage.squashed (at occupants (k + 1)).stage.squashed (at occupants k).stage.moves (waiting_cause s occupants k) (wrong_of s occupants k) w
-      (no_squash (is_squashed_by (at occupants k).stage.fate) (at occupants k).stage.held (is_waiting (at occupants (k + 1)).stage) (is_told s (at occupants k).stage) (first_wait s occupants k 0 s.reads) w) e in
+      (no_squash (is_squashed_by (at occupants k).stage.fate) (at occupants k).stage.held (is_waiting (at occupants (k + 1)).stage) (is_reported s (at occupants k).stage) (first_wait s occupants k 0 s.reads) w) e in
       named_if (all_retire occupants (s.stages - suc k) (suc k)) g (ap (λ (x : Wrong). x.guess) same ∙ is)
 
 -- Its value is that of its register before the instruction.

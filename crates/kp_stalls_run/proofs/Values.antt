@@ -37,7 +37,7 @@ use Rattle.kp_stalls_run.specs.Claims.{moment_in}
 use Rattle.kp_stalls_run.specs.Runs.{cause_with, given_in, guess_with, guessed_in, line_with, run_lines, settled, state_at, wrong_with}
 use Rattle.kp_stalls_run.specs.inner.Replays.{HoldsState, names_guess, names_one, no_line, run_at}
 use Rattle.kp_stalls_run.proofs.Naming.{same_wrongs}
-use Rattle.kp_stalls_run.proofs.Telling.{all_told}
+use Rattle.kp_stalls_run.proofs.Reporting.{all_reported}
 
 -- THE STATE of a moment, and that after a part of the inputs.
 moment_state : (m : Machine) (now : Moment) (ins : List Inputs) (T : ℕ) → (moment_at m now ins T).state ≡ state_after m now.state ins T
@@ -199,7 +199,7 @@ unfolding machine_of
 lines_below job n = λ k x b.
     let ins = inputs_from job 0 n in
     let given = given_in n job in
-    (all_told (machine_of job) (sited job) (same_stages job) (report job given) (stalls_of ins) (settled job given) ins (first_moment (state_of job (start_of job)) (start_hints job)) 0 k x b).told.below
+    (all_reported (machine_of job) (sited job) (same_stages job) (report job given) (stalls_of ins) (settled job given) ins (first_moment (state_of job (start_of job)) (start_hints job)) 0 k x b).told.below
 
 -- IN PLACE, one line after another.
 pub same_there : (ls : List Line) (i : ℕ) (d l : Line) → i < length ls → l ≡ get_or ls i l → get_or ls i d ≡ l

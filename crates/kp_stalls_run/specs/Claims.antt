@@ -40,5 +40,5 @@ pub record IsTrueOf (job : Job) (n : ℕ) (l : Line) : Type 0 where
       → IsCause job (given_in n job) (moment_in n job l.cycle) (inputs_at job l.cycle) l.stage w
   pub guess : (w : Wrong) (g : Guess) → l.cause ≡ Squashed w → w.guess ≡ Some g → IsWrongGuess job n l g
 
-abbrev pub TellCauses : Job → ℕ → Type 0
-TellCauses job n = All (IsTrueOf job n) (job_stalls n job)
+abbrev pub ShowCauses : Job → ℕ → Type 0
+ShowCauses job n = All (IsTrueOf job n) (job_stalls n job)

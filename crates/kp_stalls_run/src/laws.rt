@@ -1,17 +1,17 @@
 //! What the lines of a job say of its pipelined machine.
 
 ghost use Rattle.std.specs.Prelude.{ℕ};
-ghost use Rattle.kp_stalls_run.specs.Claims.{TellCauses};
+ghost use Rattle.kp_stalls_run.specs.Claims.{ShowCauses};
 
 use kp_frontend::Accepted;
 use kp_machine_laws::laws::a_design_is_accepted;
-use kp_stalls::laws::each_wait_that_is_told_is_a_cause;
+use kp_stalls::laws::each_reported_wait_is_a_cause;
 
 /// Each line of a job is about the instruction that is in this stage in this cycle; and a wait that it names on the right path has this cause.
-pub fn the_lines_tell_causes(job: &Accepted)
-    ensures { (n : ℕ) → TellCauses job.now.design.job n }
+pub fn the_lines_show_causes(job: &Accepted)
+    ensures { (n : ℕ) → ShowCauses job.now.design.job n }
 {
     let _kept = job.design.job();
     a_design_is_accepted(&job.design);
-    each_wait_that_is_told_is_a_cause();
+    each_reported_wait_is_a_cause();
 }

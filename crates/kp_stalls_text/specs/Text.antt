@@ -67,15 +67,15 @@ made_text g = producer_text g.producer ++ spelling g.value
 abbrev pub guess_text : Labelled → Guess → List ℕ
 guess_text l g = guessed_text l.name g.guessed ++ (line_number l.line ++ made_text g)
 
-abbrev pub told_text : List Labelled → Option Guess → List ℕ
-told_text labels None = codes "made a wrong guess"
-told_text labels (Some g) = guess_text (label_at labels g.read) g
+abbrev pub guess_part : List Labelled → Option Guess → List ℕ
+guess_part labels None = codes "made a wrong guess"
+guess_part labels (Some g) = guess_text (label_at labels g.read) g
 
 unfoldable pub squashed_text : ℕ → ℕ → List ℕ
 squashed_text i last = codes "; instructions " ++ (decimal i ++ (codes " to " ++ (decimal last ++ codes " are squashed\n")))
 
 abbrev pub wrong_text : List Labelled → ℕ → Wrong → List ℕ
-wrong_text labels i w = told_text labels w.guess ++ squashed_text i w.last
+wrong_text labels i w = guess_part labels w.guess ++ squashed_text i w.last
 
 -- THE LINE of a cause.
 abbrev pub cause_text : List Labelled → ℕ → ℕ → Cause → List ℕ

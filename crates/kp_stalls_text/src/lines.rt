@@ -4,7 +4,7 @@ ghost use Rattle.kp_base.specs.Bytes.{Writes};
 ghost use Rattle.kp_base.specs.Causes.{HasCause};
 ghost use Rattle.kp_bits.specs.Spelling.{spelling};
 ghost use Rattle.kp_stalls_text.specs.Labels.{label_at};
-ghost use Rattle.kp_stalls_text.specs.Text.{cause_text, guess_text, guessed_text, had_text, line_number, line_text, lines_text, made_by, made_text, producer_text, place_text, source_text, told_text, value_text, writer_text, wrong_text};
+ghost use Rattle.kp_stalls_text.specs.Text.{cause_text, guess_text, guessed_text, had_text, line_number, line_text, lines_text, made_by, made_text, producer_text, place_text, source_text, guess_part, value_text, writer_text, wrong_text};
 
 use crate::labels::{Label, is_file, line_of, name_of};
 use crate::pieces::{
@@ -166,16 +166,16 @@ fn write_wrong<K: Sink>(
     ensures text { Writes (K.held sink.old) (K.held sink.new) (wrong_text labels.now number wrong) result }
     ensures cause { HasCause (K.faults sink.old) (K.faults sink.new) result }
 {
-    write_told(labels, wrong.guess, sink)?;
+    write_guess_part(labels, wrong.guess, sink)?;
     write_squashed(number, wrong.last, sink)
 }
 
-fn write_told<K: Sink>(
+fn write_guess_part<K: Sink>(
     labels: &[Label],
     guess: Option<Guess>,
     sink: &mut K,
 ) -> Result<(), SinkFault>
-    ensures text { Writes (K.held sink.old) (K.held sink.new) (told_text labels.now guess) result }
+    ensures text { Writes (K.held sink.old) (K.held sink.new) (guess_part labels.now guess) result }
     ensures cause { HasCause (K.faults sink.old) (K.faults sink.new) result }
 {
     match guess {

@@ -23,7 +23,7 @@ use Rattle.kp_paths.specs.Claims.{ArePaths}
 use Rattle.kp_paths.specs.Text.{paths_text}
 use Rattle.kp_paths_svg.specs.Claims.{ShowsCells}
 use Rattle.kp_paths_svg.specs.Picture.{paths_svg_text}
-use Rattle.kp_stalls_run.specs.Claims.{TellCauses}
+use Rattle.kp_stalls_run.specs.Claims.{ShowCauses}
 use Rattle.kp_stalls_run.specs.Runs.{job_stalls}
 use Rattle.kp_stalls_text.specs.Labels.{labels_from}
 use Rattle.kp_stalls_text.specs.Text.{stalls_text}
@@ -63,7 +63,7 @@ IsShown (svg run) job = ShowsRun job run.count (figure_drawn run job)
 IsShown (page run) job = ShowsRun job run.count (figure_drawn run job) × ArePaths job × ShowsStates job run.count
 IsShown paths job = ArePaths job
 IsShown paths_svg job = ArePaths job × ShowsCells job
-IsShown (stalls count) job = TellCauses job count
+IsShown (stalls count) job = ShowCauses job count
 
 abbrev pub Draws : Order → List ℕ → Job → ℕ → List ℕ → Type 0
 Draws order input job status text = (status ≡ 0) × (text ≡ order_text order input job) × IsShown order job

@@ -16,10 +16,10 @@ use kp_base::Sink;
 use kp_diagram_run::laws::a_figure_shows_the_run;
 use kp_diagram_text::are_names;
 use kp_frontend::{Accepted, judge};
-use kp_page::laws::listed_words_tell_the_states;
+use kp_page::laws::listed_words_give_the_states;
 use kp_paths::laws::the_cells_are_the_paths;
 use kp_paths_svg::laws::the_arrows_are_the_cells;
-use kp_stalls_run::laws::the_lines_tell_causes;
+use kp_stalls_run::laws::the_lines_show_causes;
 use kp_view_words::{Order, Task};
 use std::alloc::Global;
 
@@ -72,8 +72,8 @@ fn drawn<K: Sink>(
     a_figure_shows_the_run(job);
     the_cells_are_the_paths();
     the_arrows_are_the_cells();
-    listed_words_tell_the_states();
-    the_lines_tell_causes(job);
+    listed_words_give_the_states();
+    the_lines_show_causes(job);
     match &task.order {
         Order::Diagram(run) => diagram(alloc, run, job, out),
         Order::Svg(run) => svg(alloc, run, job, out),

@@ -13,7 +13,7 @@ use Rattle.kp_ast.specs.declared.widths.NameKind.TheVariants as kinds
 use Rattle.kp_width.specs.Names.{Sense, sense, Names, Scoped, find, used_as, declared_local}
 use Rattle.kp_width.specs.Names as rules
 use Rattle.kp_width.specs.Declarations.{declaration_of, declarations_of, functions_in, parameters_of}
-use Rattle.kp_view_operands.specs.Told.{Table, NameWidths, look_up, added, capped, names_after_decl, opened, width_named, with_local, with_params}
+use Rattle.kp_view_operands.specs.Search.{Table, NameWidths, look_up, added, capped, names_after_decl, opened, width_named, with_local, with_params}
 
 by_test : {G : Type 0} (b : Bool) → (b ≡ true → G) → (b ≡ false → G) → G
 by_test true then_so else_so = then_so refl

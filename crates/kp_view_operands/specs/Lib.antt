@@ -1,2 +1,2 @@
-pub mod Told
-pub mod Standing
+pub mod Search
+pub mod Widths

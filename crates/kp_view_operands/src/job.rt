@@ -3,10 +3,10 @@ ghost use Rattle.std.specs.Prelude.{◌≡◌, None, IfOk, IfSome, OnOk};
 ghost use Rattle.kp_width.specs.Declarations.{name_of};
 ghost use Rattle.kp_ast.specs.declared.tree.Decl.TheVariants as decls;
 ghost use Rattle.kp_ast.specs.declared.tree.StmtKind.TheVariants as stmts;
-ghost use Rattle.kp_view_operands.specs.Standing.{AreWidthsAt};
-ghost use Rattle.kp_view_operands.specs.Told.{names_after_decl, names_after_decls, names_after_stmt, opened, told_in, told_in_blocks, told_in_decl, told_in_decls, told_in_option, told_in_stmt, told_in_stmts, width_in_decl, with_params};
+ghost use Rattle.kp_view_operands.specs.Widths.{AreWidthsAt};
+ghost use Rattle.kp_view_operands.specs.Search.{names_after_decl, names_after_decls, names_after_stmt, opened, found_in, found_in_blocks, found_in_decl, found_in_decls, found_in_option, found_in_stmt, found_in_stmts, width_in_decl, with_params};
 
-use crate::expression::{capped, look_at};
+use crate::expression::{capped, measure};
 use crate::names::Names;
 use crate::widths::ExprWidths;
 use kp_ast::{Block, Decl, Expr, FuncDecl, Job, Named, Param, ReadStmt, Stmt, StmtKind};
@@ -16,13 +16,13 @@ use std::alloc::Global;
 /// The widths of the expression at a place of a job and of its operands, or none where no expression is there. The only error is out of memory.
 #[tactic(auto, using(crate::proofs::Places::are_widths))]
 pub fn widths_at(alloc: Global, job: &Job, place: Place) -> Result<Option<ExprWidths>, NoMemory>
-    ensures told { IfOk result (λ t. t ≡ told_in place job.now) }
+    ensures found { IfOk result (λ t. t ≡ found_in place job.now) }
     ensures widths { IfOk result (λ t. IfSome t (λ w. AreWidthsAt job.now place w)) }
 {
     let mut names = Names::new(alloc);
-    let told = in_decls(alloc, &mut names, place, job.decls.as_slice())?;
-    if told.is_some() {
-        return Ok(told);
+    let found = in_decls(alloc, &mut names, place, job.decls.as_slice())?;
+    if found.is_some() {
+        return Ok(found);
     }
     in_blocks(alloc, &mut names, place, job.blocks.as_slice())
 }
@@ -33,13 +33,13 @@ fn in_decls(
     place: Place,
     decls: &[Decl],
 ) -> Result<Option<ExprWidths>, NoMemory>
-    ensures told { IfOk result (λ t. t ≡ told_in_decls place names.old decls.now) }
+    ensures found { IfOk result (λ t. t ≡ found_in_decls place names.old decls.now) }
     ensures names { IfOk result (λ t. t ≡ None → names.new ≡ names_after_decls names.old decls.now) }
 {
     for decl in decls {
-        let told = in_decl(alloc, names, place, decl)?;
-        if told.is_some() {
-            return Ok(told);
+        let found = in_decl(alloc, names, place, decl)?;
+        if found.is_some() {
+            return Ok(found);
         }
     }
     Ok(None)
@@ -51,16 +51,16 @@ fn in_decl(
     place: Place,
     decl: &Decl,
 ) -> Result<Option<ExprWidths>, NoMemory>
-    ensures told { IfOk result (λ t. t ≡ told_in_decl place names.old decl.now) }
+    ensures found { IfOk result (λ t. t ≡ found_in_decl place names.old decl.now) }
     ensures names { OnOk result (names.new ≡ names_after_decl names.old decl.now) }
 {
-    let told = match decl {
+    let found = match decl {
         Decl::Func(func) => in_body(alloc, names, place, func)?,
         _ => None,
     };
     names.open(alloc);
     names.add_text(&declared_name(decl).name, declared_width(decl))?;
-    Ok(told)
+    Ok(found)
 }
 
 fn declared_name(decl: &Decl) -> &Named
@@ -91,19 +91,19 @@ fn declared_width(decl: &Decl) -> u8
     }
 }
 
-// What is told of an expression in the body of a function.
+// The widths at the place, if it is in the body of the function.
 fn in_body(
     alloc: Global,
     names: &mut Names,
     place: Place,
     func: &FuncDecl,
 ) -> Result<Option<ExprWidths>, NoMemory>
-    ensures told { IfOk result (λ t. t ≡ told_in_decl place names.old (decls.Func func.now)) }
+    ensures found { IfOk result (λ t. t ≡ found_in_decl place names.old (decls.Func func.now)) }
     ensures text { OnOk result (names.new.text ≡ names.old.text) }
 {
     names.open(alloc);
     add_params(names, func.params.as_slice())?;
-    Ok(look_at(names, place, &func.body).told)
+    Ok(measure(names, place, &func.body).found)
 }
 
 fn add_params(names: &mut Names, params: &[Param]) -> Result<(), NoMemory>
@@ -122,58 +122,58 @@ fn in_blocks(
     place: Place,
     blocks: &[Block],
 ) -> Result<Option<ExprWidths>, NoMemory>
-    ensures { IfOk result (λ t. t ≡ told_in_blocks place names.old blocks.now) }
+    ensures { IfOk result (λ t. t ≡ found_in_blocks place names.old blocks.now) }
 {
     for block in blocks {
         names.open(alloc);
-        let told = in_stmts(names, place, block.stmts.as_slice())?;
-        if told.is_some() {
-            return Ok(told);
+        let found = in_stmts(names, place, block.stmts.as_slice())?;
+        if found.is_some() {
+            return Ok(found);
         }
     }
     Ok(None)
 }
 
 fn in_stmts(names: &mut Names, place: Place, stmts: &[Stmt]) -> Result<Option<ExprWidths>, NoMemory>
-    ensures told { IfOk result (λ t. t ≡ told_in_stmts place names.old stmts.now) }
+    ensures found { IfOk result (λ t. t ≡ found_in_stmts place names.old stmts.now) }
     ensures text { OnOk result (names.new.text ≡ names.old.text) }
 {
     for stmt in stmts {
-        let told = in_stmt(names, place, &stmt.kind)?;
-        if told.is_some() {
-            return Ok(told);
+        let found = in_stmt(names, place, &stmt.kind)?;
+        if found.is_some() {
+            return Ok(found);
         }
     }
     Ok(None)
 }
 
 fn in_stmt(names: &mut Names, place: Place, stmt: &StmtKind) -> Result<Option<ExprWidths>, NoMemory>
-    ensures told { IfOk result (λ t. t ≡ told_in_stmt place names.old stmt.now) }
+    ensures found { IfOk result (λ t. t ≡ found_in_stmt place names.old stmt.now) }
     ensures names { OnOk result (names.new ≡ names_after_stmt place names.old stmt.now) }
 {
     match stmt {
         StmtKind::Read(read) => {
-            let told = in_read(names, place, read);
+            let found = in_read(names, place, read);
             let width = names.width(&read.target.name);
             names.add_local(&read.name.name, width)?;
-            Ok(told)
+            Ok(found)
         }
         StmtKind::Let(named, e) => {
-            let value = look_at(names, place, e);
+            let value = measure(names, place, e);
             names.add_local(&named.name, value.width)?;
-            Ok(value.told)
+            Ok(value.found)
         }
-        StmtKind::Put(_, e) | StmtKind::Aim(_, e) => Ok(look_at(names, place, e).told),
+        StmtKind::Put(_, e) | StmtKind::Aim(_, e) => Ok(measure(names, place, e).found),
         StmtKind::Set(_, e, when) => Ok(
-            look_at(names, place, e)
-                .told
+            measure(names, place, e)
+                .found
                 .or(in_option(names, place, when)),
         ),
     }
 }
 
 fn in_read(names: &Names, place: Place, read: &ReadStmt) -> Option<ExprWidths>
-    ensures { result ≡ told_in_stmt place names.now (stmts.Read read.now) }
+    ensures { result ≡ found_in_stmt place names.now (stmts.Read read.now) }
 {
     let address = in_option(names, place, &read.address);
     let when = in_option(names, place, &read.when);
@@ -182,10 +182,10 @@ fn in_read(names: &Names, place: Place, read: &ReadStmt) -> Option<ExprWidths>
 }
 
 fn in_option(names: &Names, place: Place, e: &Option<Expr>) -> Option<ExprWidths>
-    ensures { result ≡ told_in_option place names.now e.now }
+    ensures { result ≡ found_in_option place names.now e.now }
 {
     match e {
-        Some(e) => look_at(names, place, e).told,
+        Some(e) => measure(names, place, e).found,
         None => None,
     }
 }

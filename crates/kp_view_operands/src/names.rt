@@ -1,6 +1,6 @@
 // The widths of the names in scope.
 ghost use Rattle.std.specs.Prelude.{◌≡◌, [], OnOk};
-ghost use Rattle.kp_view_operands.specs.Told.{added, look_up, no_names, opened, width_named, with_local, with_text};
+ghost use Rattle.kp_view_operands.specs.Search.{added, look_up, no_names, opened, width_named, with_local, with_text};
 
 use indexmap::IndexMap;
 use kp_ast::Name;
@@ -56,7 +56,7 @@ pub(crate) struct Names {
 }
 
 impl Model for Names {
-    ghost use Rattle.kp_view_operands.specs.Told.{NameWidths};
+    ghost use Rattle.kp_view_operands.specs.Search.{NameWidths};
 
     ghost Value = { NameWidths };
 

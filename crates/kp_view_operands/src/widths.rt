@@ -1,6 +1,6 @@
-// The widths that are told of an expression.
+// The widths of an expression and of its operands.
 
-/// The width of an expression and those of its operands, in bits. 65 stands for each width over 64, which no rule allows.
+/// The width of an expression and those of its operands, in bits. 65 denotes each width over 64, which no rule allows.
 #[derive(Clone, Copy, Debug)]
 pub struct ExprWidths {
     pub own: u8,
@@ -16,6 +16,6 @@ pub enum OperandWidths {
     Two(u8, u8),
     /// Of a choice: the test, and the two branches.
     Three(u8, u8, u8),
-    /// Those of any other expression are not told.
-    Untold,
+    /// Any other expression: its operands aren't measured.
+    Other,
 }

@@ -1,58 +1,58 @@
--- A fault whose widths agree with those at its place tells true ones; and the first finding stays the first.
+-- A fault whose widths agree with those at its place prints true ones; and the first finding stays the first.
 use Rattle.std.proofs.Common.{◌≡◌, ℕ, List, [], ◌∷◌, ◌++◌, Option, Some, None, Bool, true, false, cond, length, ltb, inl, inr, ap, subst, sym, ◌∙◌}
 use Rattle.std.specs.Prelude.{IfSome}
 use Rattle.kp_base.specs.declared.place.Place.{Place}
 use Rattle.kp_ast.specs.declared.tree.Job.{Job}
 use Rattle.kp_view_operands.specs.declared.widths.ExprWidths.{ExprWidths}
-use Rattle.kp_view_operands.specs.Standing.{AreWidthsAt}
+use Rattle.kp_view_operands.specs.Widths.{AreWidthsAt}
 use Rattle.kp_view_message.specs.declared.width_fault.WidthFault.{WidthFault}
 use Rattle.kp_view_message.specs.declared.width_fault.WidthFault.TheVariants as faults
 use Rattle.kp_view_findings.specs.declared.finding.Finding.{Finding}
 use Rattle.kp_view_findings.specs.Noted.{with_finding}
-use Rattle.kp_view_widths.specs.Telling.{FirstIsTrue, IsTrueOf, TellsBranches, TellsOne, TellsOwn, TellsTest, TellsTwo, TellsWidths}
+use Rattle.kp_view_widths.specs.PrintedWidths.{FirstIsTrue, IsTrueOf, AreBranchesAt, IsOperandAt, IsWidthAt, IsTestAt, AreOperandsAt, PrintsTrueWidths}
 use Rattle.kp_view_widths.specs.inner.Agreeing.{Agree, HasBranches, HasOne, HasOwn, HasTest, HasTwo, IsFilled}
 
 module _ (job : Job) (p : Place) where
   abbrev Known : Option ExprWidths → Type 0
-  Known told = IfSome told (λ w. AreWidthsAt job p w)
+  Known defined = IfSome defined (λ w. AreWidthsAt job p w)
 
-  own : (told : Option ExprWidths) (a : ℕ) → Known told → HasOwn told a → TellsOwn job p a
+  own : (defined : Option ExprWidths) (a : ℕ) → Known defined → HasOwn defined a → IsWidthAt job p a
   own None a k h = absurd h
   own (Some w) a k h = (w, k, h.0, h.1)
 
-  one : (told : Option ExprWidths) (a : ℕ) → Known told → HasOne told a → TellsOne job p a
+  one : (defined : Option ExprWidths) (a : ℕ) → Known defined → HasOne defined a → IsOperandAt job p a
   one None a k h = let e = h.0 in cc
   one (Some w) a k h = (w, k, h.0, h.1)
 
-  two : (told : Option ExprWidths) (a b : ℕ) → Known told → HasTwo told a b → TellsTwo job p a b
+  two : (defined : Option ExprWidths) (a b : ℕ) → Known defined → HasTwo defined a b → AreOperandsAt job p a b
   two None a b k h = let e = h.0 in cc
   two (Some w) a b k h = (w, k, h.0, h.1, h.2)
 
-  branches : (told : Option ExprWidths) (a b : ℕ) → Known told → HasBranches told a b → TellsBranches job p a b
+  branches : (defined : Option ExprWidths) (a b : ℕ) → Known defined → HasBranches defined a b → AreBranchesAt job p a b
   branches None a b k h = let e = h.1 in cc
   branches (Some w) a b k h = (w, h.0, k, h.1, h.2, h.3)
 
-  test : (told : Option ExprWidths) (t : ℕ) → Known told → HasTest told t → TellsTest job p t
+  test : (defined : Option ExprWidths) (t : ℕ) → Known defined → HasTest defined t → IsTestAt job p t
   test None t k h = let e = h.2 in cc
   test (Some w) t k h = (w, h.0, h.1, k, h.2, h.3)
 
-  pub agreed : (told : Option ExprWidths) (fault : WidthFault) → Known told → Agree told fault → IsTrueOf job p fault
-  agreed told (faults.Operands mark left right literal) k h = two told left right k h
-  agreed told (faults.Branches a b literal) k h = branches told a b k h
-  agreed told (faults.ValueWidth found wanted goal literal) k h = own told found k h
-  agreed told (faults.Condition found) k (inl h) = inl (own told found k h)
-  agreed told (faults.Condition found) k (inr h) = inr (test told found k h)
-  agreed told (faults.Slice hi lo width) k h = one told width k h
-  agreed told (faults.Shortened to from) k h = one told from k h
-  agreed told (faults.WidthRange value) k h = tt
-  agreed told (faults.LiteralWidth value) k h = tt
-  agreed told faults.JoinedWidth k h = tt
-  agreed told (faults.StartWidth found wanted name value) k h = tt
-  agreed told (faults.TargetWidth result target name kind line) k h = tt
-  agreed told (faults.Enable found name line) k h = tt
-  agreed told (faults.LiteralValue value width) k h = tt
-  agreed told (faults.AddressRange value) k h = tt
-  agreed told (faults.Address found wanted file line) k h = tt
+  pub agreed : (defined : Option ExprWidths) (fault : WidthFault) → Known defined → Agree defined fault → IsTrueOf job p fault
+  agreed defined (faults.Operands mark left right literal) k h = two defined left right k h
+  agreed defined (faults.Branches a b literal) k h = branches defined a b k h
+  agreed defined (faults.ValueWidth found wanted goal literal) k h = own defined found k h
+  agreed defined (faults.Condition found) k (inl h) = inl (own defined found k h)
+  agreed defined (faults.Condition found) k (inr h) = inr (test defined found k h)
+  agreed defined (faults.Slice hi lo width) k h = one defined width k h
+  agreed defined (faults.Shortened to from) k h = one defined from k h
+  agreed defined (faults.WidthRange value) k h = tt
+  agreed defined (faults.LiteralWidth value) k h = tt
+  agreed defined faults.JoinedWidth k h = tt
+  agreed defined (faults.StartWidth found wanted name value) k h = tt
+  agreed defined (faults.TargetWidth result target name kind line) k h = tt
+  agreed defined (faults.Enable found name line) k h = tt
+  agreed defined (faults.LiteralValue value width) k h = tt
+  agreed defined (faults.AddressRange value) k h = tt
+  agreed defined (faults.Address found wanted file line) k h = tt
 
 kept_by : (job : Job) (b : Bool) (f x : Finding) (fs : List Finding) → FirstIsTrue job (f ∷ fs) → FirstIsTrue job (cond b ((f ∷ fs) ++ x ∷ []) (f ∷ fs))
 kept_by job true f x fs h = h
@@ -66,7 +66,7 @@ filled_by : (b : Bool) (f x : Finding) (fs : List Finding) → IsFilled (cond b 
 filled_by true f x fs = tt
 filled_by false f x fs = tt
 
-pub one_finding : (job : Job) (old new : List Finding) (f : Finding) → new ≡ with_finding old f → old ≡ [] → TellsWidths job f.place f.message → FirstIsTrue job new
+pub one_finding : (job : Job) (old new : List Finding) (f : Finding) → new ≡ with_finding old f → old ≡ [] → PrintsTrueWidths job f.place f.message → FirstIsTrue job new
 one_finding job old new f added none h = subst (λ (fs : List Finding). FirstIsTrue job fs) (sym (added ∙ ap (λ (fs : List Finding). with_finding fs f) none)) h
 
 pub still_filled : (fs : List Finding) (x : Finding) → IsFilled fs → IsFilled (with_finding fs x)

@@ -3,11 +3,11 @@
 #![tactic(auto)]
 
 mod checks;
+mod confirmed;
 mod expression;
 mod lookup;
 mod names;
 mod sections;
-mod told;
 mod widths;
 
 pub use sections::section_faults;

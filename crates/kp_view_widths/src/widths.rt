@@ -1,7 +1,7 @@
 // The rules of names and widths: a pass that goes on after a violation.
 ghost use Rattle.std.specs.Prelude.{IfOk};
 ghost use Rattle.kp_view_findings.specs.Noted.{noted};
-ghost use Rattle.kp_view_widths.specs.Telling.{FirstIsTrue};
+ghost use Rattle.kp_view_widths.specs.PrintedWidths.{FirstIsTrue};
 
 use crate::checks::{
     addresses, check_address, check_condition, check_value, declared, literal_width, width_in,
@@ -9,7 +9,7 @@ use crate::checks::{
 use crate::expression::expression;
 use crate::lookup::{Here, check_fresh, declared_name, kind_of, storage, used};
 use crate::names::{Known, Names, Position};
-use crate::told::confirmed;
+use crate::confirmed::confirmed;
 use kp_ast::{
     Block, Decl, Expr, FuncDecl, Job, Lit, Named, Num, Param, ReadStmt, ResultDecl, Stmt, StmtKind,
 };
@@ -19,7 +19,7 @@ use kp_view_help::{Kind, Wanted, Word};
 use kp_view_message::{Goal, Message, WidthFault};
 use std::alloc::Global;
 
-/// The violations of names and widths in a job, in text order. The widths of expressions that the message of the first one tells are those that the rules
+/// The violations of names and widths in a job, in text order. The widths of expressions that the message of the first one prints are those that the rules
 /// define.
 pub fn faults<'t>(alloc: Global, job: &'t Job) -> Result<Findings<'t>, NoMemory>
     ensures { IfOk result (λ f. FirstIsTrue job.now (noted f)) }

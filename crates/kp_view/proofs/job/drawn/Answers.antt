@@ -42,7 +42,7 @@ returns-in-Page g c =
     let input = c.args.input.now in
     let run = run_seen c.in-Page.run' in
     let shown = c.a_figure_shows_the_run.ensures run.names run.count in
-    let tells = c.listed_words_tell_the_states.ensures (pipe_of job (inputs_from job 0 run.count)).visible in
+    let tells = c.listed_words_give_the_states.ensures (pipe_of job (inputs_from job 0 run.count)).visible in
     said g.K.Sink.held g.K.Sink.faults task.file None ⊥ (Draws task.order input job)
     (page_text (figure_drawn run job) (rows_drawn run job) input (paths_text job) (states_text job run.count))
     (drawn_as task.order (page run) input job _ (ap order_seen c.in-Page.is) refl (shown, c.the_cells_are_the_paths.ensures job, tells)) _ _ _ c.page.ensures
@@ -68,4 +68,4 @@ returns-in-Stalls g c =
     let job = c.args.job.now.design.job in
     let count = c.in-Stalls.cycles.count in
     said g.K.Sink.held g.K.Sink.faults task.file None ⊥ (Draws task.order c.args.input.now job) (stalls_text (labels_from job.blocks) (job_stalls count job))
-    (drawn_as task.order (stalls count) c.args.input.now job _ (ap order_seen c.in-Stalls.is) refl (c.the_lines_tell_causes.ensures count)) _ _ _ c.stalls.ensures
+    (drawn_as task.order (stalls count) c.args.input.now job _ (ap order_seen c.in-Stalls.is) refl (c.the_lines_show_causes.ensures count)) _ _ _ c.stalls.ensures

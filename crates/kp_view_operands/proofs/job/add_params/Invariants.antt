@@ -1,5 +1,5 @@
 use Rattle.std.proofs.Common.{◌≡◌, drop}
-use Rattle.kp_view_operands.specs.Told.{with_params}
+use Rattle.kp_view_operands.specs.Search.{with_params}
 use Rattle.kp_view_operands.proofs.job.add_params.Given as goal
 
 abbrev pub invariant-loop-param : goal.invariant-loop-param

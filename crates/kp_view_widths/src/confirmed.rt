@@ -1,8 +1,8 @@
-// The widths that the first finding tells.
+// The widths that the message of the first finding prints.
 ghost use Rattle.std.specs.Prelude.{◌≡◌, true, IfOk, OnOk};
 ghost use Rattle.kp_ast.specs.declared.tree.Job.{Job};
 ghost use Rattle.kp_view_findings.specs.Noted.{noted};
-ghost use Rattle.kp_view_widths.specs.Telling.{FirstIsTrue, TellsWidths};
+ghost use Rattle.kp_view_widths.specs.PrintedWidths.{FirstIsTrue, PrintsTrueWidths};
 ghost use Rattle.kp_view_widths.specs.inner.Agreeing.{Agree, HasBranches, HasOne, HasOwn, HasTest, HasTwo, IsFilled, operands_in};
 
 use kp_ast::Job;
@@ -12,7 +12,7 @@ use kp_view_message::{Message, WidthFault};
 use kp_view_operands::{ExprWidths, OperandWidths, widths_at};
 use std::alloc::Global;
 
-// The same findings, except that the first one tells only its rule where its widths aren't those that the rules define.
+// The same findings, except that the message of the first one is the fixed sentence of its rule where its widths aren't those that the rules define.
 pub(crate) fn confirmed<'t>(
     alloc: Global,
     job: &Job,
@@ -48,84 +48,84 @@ fn confirmed_message<'t>(
     place: Place,
     message: Message<'t>,
 ) -> Result<Message<'t>, NoMemory>
-    ensures { IfOk result (λ m. TellsWidths job.now place m) }
+    ensures { IfOk result (λ m. PrintsTrueWidths job.now place m) }
 {
     let Message::Width(fault) = message else {
         return Ok(message);
     };
-    let told = widths_at(alloc, job, place)?;
-    if agree(&fault, told) {
+    let defined = widths_at(alloc, job, place)?;
+    if agree(&fault, defined) {
         Ok(message)
     } else {
         Ok(Message::Fixed(fault.rule()))
     }
 }
 
-// Whether the widths of expressions that a fault tells are these.
-fn agree(fault: &WidthFault<'_>, told: Option<ExprWidths>) -> bool
-    ensures { result ≡ true → Agree told fault.now }
+// Whether the widths of expressions in a fault are these.
+fn agree(fault: &WidthFault<'_>, defined: Option<ExprWidths>) -> bool
+    ensures { result ≡ true → Agree defined fault.now }
 {
     match fault {
-        WidthFault::Operands { left, right, .. } => has_two(told, *left, *right),
-        WidthFault::Branches { yes, no, .. } => has_branches(told, *yes, *no),
-        WidthFault::ValueWidth { found, .. } => has_own(told, *found),
-        WidthFault::Condition { found } => has_own(told, *found) || has_test(told, *found),
-        WidthFault::Slice { width, .. } => has_one(told, *width),
-        WidthFault::Shortened { from, .. } => has_one(told, *from),
+        WidthFault::Operands { left, right, .. } => has_two(defined, *left, *right),
+        WidthFault::Branches { yes, no, .. } => has_branches(defined, *yes, *no),
+        WidthFault::ValueWidth { found, .. } => has_own(defined, *found),
+        WidthFault::Condition { found } => has_own(defined, *found) || has_test(defined, *found),
+        WidthFault::Slice { width, .. } => has_one(defined, *width),
+        WidthFault::Shortened { from, .. } => has_one(defined, *from),
         _ => true,
     }
 }
 
-fn has_own(told: Option<ExprWidths>, a: u8) -> bool
-    ensures { result ≡ true → HasOwn told a }
+fn has_own(defined: Option<ExprWidths>, a: u8) -> bool
+    ensures { result ≡ true → HasOwn defined a }
 {
-    match told {
+    match defined {
         Some(widths) => widths.own == a && a <= 64,
         None => false,
     }
 }
 
-fn has_one(told: Option<ExprWidths>, a: u8) -> bool
-    ensures { result ≡ true → HasOne told a }
+fn has_one(defined: Option<ExprWidths>, a: u8) -> bool
+    ensures { result ≡ true → HasOne defined a }
 {
-    match operands(told) {
+    match operands(defined) {
         OperandWidths::One(x) => x == a && a <= 64,
         _ => false,
     }
 }
 
-fn has_two(told: Option<ExprWidths>, a: u8, b: u8) -> bool
-    ensures { result ≡ true → HasTwo told a b }
+fn has_two(defined: Option<ExprWidths>, a: u8, b: u8) -> bool
+    ensures { result ≡ true → HasTwo defined a b }
 {
-    match operands(told) {
+    match operands(defined) {
         OperandWidths::Two(x, y) => x == a && y == b && a <= 64 && b <= 64,
         _ => false,
     }
 }
 
-fn has_branches(told: Option<ExprWidths>, a: u8, b: u8) -> bool
-    ensures { result ≡ true → HasBranches told a b }
+fn has_branches(defined: Option<ExprWidths>, a: u8, b: u8) -> bool
+    ensures { result ≡ true → HasBranches defined a b }
 {
-    match operands(told) {
+    match operands(defined) {
         OperandWidths::Three(_, x, y) => x == a && y == b && a <= 64 && b <= 64,
         _ => false,
     }
 }
 
-fn has_test(told: Option<ExprWidths>, a: u8) -> bool
-    ensures { result ≡ true → HasTest told a }
+fn has_test(defined: Option<ExprWidths>, a: u8) -> bool
+    ensures { result ≡ true → HasTest defined a }
 {
-    match operands(told) {
+    match operands(defined) {
         OperandWidths::Three(x, _, _) => x == a && a <= 64,
         _ => false,
     }
 }
 
-fn operands(told: Option<ExprWidths>) -> OperandWidths
-    ensures { result ≡ operands_in told }
+fn operands(defined: Option<ExprWidths>) -> OperandWidths
+    ensures { result ≡ operands_in defined }
 {
-    match told {
+    match defined {
         Some(widths) => widths.operands,
-        None => OperandWidths::Untold,
+        None => OperandWidths::Other,
     }
 }

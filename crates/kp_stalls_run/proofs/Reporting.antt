@@ -106,7 +106,7 @@ module _ (m : Machine) (s : Sited) (same : s.stages ≡ m.stages) (reports : ℕ
     lines_now = lines_here s.stages (omega (arith, same))
 
   -- THE CYCLES of a run.
-  pub record IsToldIn (T : ℕ) (now : Moment) (ins : List Inputs) (l : Line) : Type 0 where
+  pub record IsReportedIn (T : ℕ) (now : Moment) (ins : List Inputs) (l : Line) : Type 0 where
     pub d : ℕ
     pub i : Inputs
     pub within : d < length ins
@@ -115,20 +115,20 @@ module _ (m : Machine) (s : Sited) (same : s.stages ≡ m.stages) (reports : ℕ
     pub told : IsTold m s reports (moment_at m now ins d) i l
 
   module _ (ext : ℕ → ℕ → Bool) (settled : ℕ → ℕ → ℕ → Bool) where
-    pub all_told : (ins : List Inputs) (now : Moment) (T : ℕ) → All (IsToldIn T now ins) (lines_from s ext settled reports T now.count (rows_from m now.state ins))
-    all_told [] now T = All-nil (IsToldIn T now [])
-    all_told (i ∷ ins) now T =
+    pub all_reported : (ins : List Inputs) (now : Moment) (T : ℕ) → All (IsReportedIn T now ins) (lines_from s ext settled reports T now.count (rows_from m now.state ins))
+    all_reported [] now T = All-nil (IsReportedIn T now [])
+    all_reported (i ∷ ins) now T =
         let next = next_moment m now i in
         let rest = rows_from m next.state ins in
-        let above = all_told ins next (suc T) in
+        let above = all_reported ins next (suc T) in
         let here = lines_now (ext T) (settled T) now i rest T in
-        All-append (IsToldIn T now (i ∷ ins)) (lines_down s T (occupants (ext T) (settled T) now i rest T) s.stages)
+        All-append (IsReportedIn T now (i ∷ ins)) (lines_down s T (occupants (ext T) (settled T) now i rest T) s.stages)
         (lines_from s ext settled reports (suc T) (count_after s.stages (row m now.state i) now.count) rest)
         (λ k d b. first_cycle i ins now T _ (here k d b))
-        (subst (λ (n : ℕ). All (IsToldIn T now (i ∷ ins)) (lines_from s ext settled reports (suc T) (count_after n (row m now.state i) now.count) rest)) (sym same)
+        (subst (λ (n : ℕ). All (IsReportedIn T now (i ∷ ins)) (lines_from s ext settled reports (suc T) (count_after n (row m now.state i) now.count) rest)) (sym same)
         (λ k d b. later_cycle i ins now T _ (above k d b)))
       where
-        first_cycle : (i : Inputs) (ins : List Inputs) (now : Moment) (T : ℕ) (l : Line) → (l.cycle ≡ T) × IsTold m s reports now i l → IsToldIn T now (i ∷ ins) l
+        first_cycle : (i : Inputs) (ins : List Inputs) (now : Moment) (T : ℕ) (l : Line) → (l.cycle ≡ T) × IsTold m s reports now i l → IsReportedIn T now (i ∷ ins) l
         first_cycle i ins now T l (e, told) = record {
           d = 0;
           i = i;
@@ -138,7 +138,7 @@ module _ (m : Machine) (s : Sited) (same : s.stages ≡ m.stages) (reports : ℕ
           told = told;
         }
 
-        later_cycle : (i : Inputs) (ins : List Inputs) (now : Moment) (T : ℕ) (l : Line) → IsToldIn (suc T) (next_moment m now i) ins l → IsToldIn T now (i ∷ ins) l
+        later_cycle : (i : Inputs) (ins : List Inputs) (now : Moment) (T : ℕ) (l : Line) → IsReportedIn (suc T) (next_moment m now i) ins l → IsReportedIn T now (i ∷ ins) l
         later_cycle i ins now T l p = record {
           d = suc p.d;
           i = p.i;

@@ -6,10 +6,10 @@ use Rattle.kp_stalls.specs.declared.cause.Wait.{Wait}
 use Rattle.kp_stalls.specs.declared.cause.Wrong.{Wrong}
 use Rattle.kp_stalls.specs.Sites.{Sited}
 use Rattle.kp_stalls.specs.Occupants.{Seen, at}
-use Rattle.kp_stalls.specs.Causes.{cause_at, cause_of_wait, first_wait, is_squashed_by, is_told, is_waiting, squashing_cause, wrong_of}
+use Rattle.kp_stalls.specs.Causes.{cause_at, cause_of_wait, first_wait, is_squashed_by, is_reported, is_waiting, squashing_cause, wrong_of}
 
 pub told_wait : (s : Sited) (occupants : List Seen) (k : ℕ) (w : Wait) → (at occupants k).stage.full ≡ true → (at occupants k).stage.squashed ≡ false → (at occupants k).stage.moves ≡ false
-    → is_squashed_by (at occupants k).stage.fate ≡ false → (at occupants k).stage.held ≡ false → is_waiting (at occupants (k + 1)).stage ≡ false → is_told s (at occupants k).stage ≡ true
+    → is_squashed_by (at occupants k).stage.fate ≡ false → (at occupants k).stage.held ≡ false → is_waiting (at occupants (k + 1)).stage ≡ false → is_reported s (at occupants k).stage ≡ true
     → first_wait s occupants k 0 s.reads ≡ Some w → cause_at s occupants k ≡ Some (Value w)
 told_wait s occupants k w full squashed moves later held ahead told first = λ i.
     cond (full i)
@@ -47,4 +47,4 @@ only_told true false _ false false false false told g f w e = only_found f told 
 pub told_found : (s : Sited) (occupants : List Seen) (k : ℕ) (w : Wait) → cause_at s occupants k ≡ Some (Value w) → first_wait s occupants k 0 s.reads ≡ Some w
 told_found s occupants k w e =
     only_told (at occupants k).stage.full (at occupants k).stage.squashed (at occupants (k + 1)).stage.squashed (at occupants k).stage.moves (is_squashed_by (at occupants k).stage.fate)
-    (at occupants k).stage.held (is_waiting (at occupants (k + 1)).stage) (is_told s (at occupants k).stage) (wrong_of s occupants k) (first_wait s occupants k 0 s.reads) w (ap wait_in e)
+    (at occupants k).stage.held (is_waiting (at occupants (k + 1)).stage) (is_reported s (at occupants k).stage) (wrong_of s occupants k) (first_wait s occupants k 0 s.reads) w (ap wait_in e)

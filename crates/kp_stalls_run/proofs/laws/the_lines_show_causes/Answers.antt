@@ -17,9 +17,9 @@ use Rattle.kp_stalls_guess.specs.Guessed.{guessed_word}
 use Rattle.kp_stalls_run.specs.Claims.{IsTrueOf, moment_in}
 use Rattle.kp_stalls_run.specs.Runs.{given_in, line_with, run_lines, settled}
 use Rattle.kp_stalls_run.proofs.Naming.{named, value_named}
-use Rattle.kp_stalls_run.proofs.Telling.{IsToldIn, all_told, input_at, many_inputs, row_at}
+use Rattle.kp_stalls_run.proofs.Reporting.{IsReportedIn, all_reported, input_at, many_inputs, row_at}
 use Rattle.kp_stalls_run.proofs.Values.{filled, held_number, same_stages, state_of_moment, value_kept}
-use Rattle.kp_stalls_run.proofs.laws.the_lines_tell_causes.Goals as goal
+use Rattle.kp_stalls_run.proofs.laws.the_lines_show_causes.Goals as goal
 
 pub returns : goal.returns
 returns c = λ n. All-map (IsTrueOf c.args.job.now.design.job n) (line_with c.args.job.now.design.job) (run_lines n c.args.job.now.design.job) (λ k x b.
@@ -31,8 +31,8 @@ returns c = λ n. All-map (IsTrueOf c.args.job.now.design.job n) (line_with c.ar
     let ins = inputs_from job 0 n in
     let given = given_in n job in
     let l : Line = slice_index_or (run_lines n job) k x in
-    let p : IsToldIn m (sited job) (same_stages job) (report job given) 0 (first_moment s hints) ins l =
-    all_told m (sited job) (same_stages job) (report job given) (stalls_of ins) (settled job given) ins (first_moment s hints) 0 k x b in
+    let p : IsReportedIn m (sited job) (same_stages job) (report job given) 0 (first_moment s hints) ins l =
+    all_reported m (sited job) (same_stages job) (report job given) (stalls_of ins) (settled job given) ins (first_moment s hints) 0 k x b in
     let cycle : l.cycle ≡ p.d = (let e = p.cycle in omega (arith, e)) in
     let short : p.d < n = (let a = p.within in let many = many_inputs job 0 n in omega (arith, a, many)) in
     let from : 0 + p.d ≡ l.cycle = omega (arith, cycle) in
@@ -47,7 +47,7 @@ returns c = λ n. All-map (IsTrueOf c.args.job.now.design.job n) (line_with c.ar
           let right_there = subst (λ (T : ℕ). IsRightFrom m s given (moment_in n job T) p.i l.stage) cycle
           (subst (λ (i : Inputs). IsRightFrom m s given (moment_in n job l.cycle) i l.stage) (sym input) right) in
           let told = p.told.cause ∙ ap (λ (q : Cause). Some q) (value_kept job l.cycle l.stage l.cause w is) in
-          let found = c.each_wait_that_is_told_is_a_cause.ensures job hints ins p.d p.i r p.told.stages l.stage w sound.names sound.stages c.a_design_is_accepted.ensures
+          let found = c.each_reported_wait_is_a_cause.ensures job hints ins p.d p.i r p.told.stages l.stage w sound.names sound.stages c.a_design_is_accepted.ensures
           p.within p.input is_row p.told.shows right_there p.told.below told in
           subst (λ (i : Inputs). IsCause job given (moment_in n job l.cycle) i l.stage w) input
           (subst (λ (T : ℕ). IsCause job given (moment_in n job T) p.i l.stage w) (sym cycle) found);

@@ -6,8 +6,8 @@ use Rattle.kp_stalls.specs.Occupants.{occupants_of, report}
 use Rattle.kp_stalls.specs.Claims.{run_given, run_moment, run_rows}
 use Rattle.kp_stalls.proofs.Causing.{caused}
 use Rattle.kp_stalls.proofs.Moments.{must_at}
-use Rattle.kp_stalls.proofs.Telling.{told_found}
-use Rattle.kp_stalls.proofs.laws.each_wait_that_is_told_is_a_cause.Goals as goal
+use Rattle.kp_stalls.proofs.Reporting.{told_found}
+use Rattle.kp_stalls.proofs.laws.each_reported_wait_is_a_cause.Goals as goal
 
 pub returns : goal.returns
 returns c = λ job hints ins T i r stages k w names rules acc long here row shows right below told.

@@ -68,12 +68,12 @@ after_stmts job before xs =
     (statements_of job.decls (opened (blocks_of job.decls 0 (after_decls job job.decls) before).value (scopes.Stage (length before))) xs).value
 
 -- an expression of a job, with the number of declarations before it and the names that are in scope there
-pub data Stands (job : Job) : ℕ → Scoped → Expr → Type 0 where
-  in_body : (before after : List Decl) (f : FuncDecl) → job.decls ≡ before ++ decls.Func f ∷ after → Stands job (length before) (in_function job before f) f.body
+pub data Occurs (job : Job) : ℕ → Scoped → Expr → Type 0 where
+  in_body : (before after : List Decl) (f : FuncDecl) → job.decls ≡ before ++ decls.Func f ∷ after → Occurs job (length before) (in_function job before f) f.body
   in_stmt : (before after : List Block) (b : Block) (xs ys : List Stmt) (x : Stmt) (e : Expr) → job.blocks ≡ before ++ b ∷ after → b.stmts ≡ xs ++ x ∷ ys → IsOf e x.kind
-      → Stands job (length job.decls) (after_stmts job before xs) e
+      → Occurs job (length job.decls) (after_stmts job before xs) e
 
--- the width of an expression, where 65 stands for each one over 64
+-- the width of an expression, where 65 denotes each one over 64
 abbrev pub width_within : List Decl → ℕ → Scoped → Expr → ℕ
 width_within ds done s e = min (width_of ds done s e).value 65
 
@@ -86,14 +86,14 @@ pub data AreWidths (width : Expr → ℕ) : Expr → ExprWidths → Type 0 where
       → AreWidths width (at p (kind.Binary op a b)) (record { own = width (at p (kind.Binary op a b)); operands = operands.Two (width a) (width b) })
   of_choice : (p : Place) (t a b : Expr)
       → AreWidths width (at p (kind.Mux t a b)) (record { own = width (at p (kind.Mux t a b)); operands = operands.Three (width t) (width a) (width b) })
-  of_other : (e : Expr) → AreWidths width e (record { own = width e; operands = operands.Untold })
+  of_other : (e : Expr) → AreWidths width e (record { own = width e; operands = operands.Other })
 
 -- These are the widths of an expression at this place of the job and of its operands, by the rules of names and widths.
 pub record AreWidthsAt (job : Job) (p : Place) (w : ExprWidths) : Type 0 where
   pub done : ℕ
   pub scope : Scoped
   pub whole : Expr
-  pub stands : Stands job done scope whole
+  pub occurs : Occurs job done scope whole
   pub expression : Expr
   pub within : IsIn expression whole
   pub place : expression.place ≡ p
