@@ -31,7 +31,13 @@ pub(crate) fn measure(names: &Names, place: Place, e: &Expr) -> Measured
                 None,
             )
         }
-        ExprKind::Name(name) => measured_at(place, at, names.width(name), OperandWidths::Other, None),
+        ExprKind::Name(name) => measured_at(
+            place,
+            at,
+            names.width(name),
+            OperandWidths::Other,
+            None,
+        ),
         ExprKind::Not(a) => {
             let x = measure(names, place, a.get());
             measured_at(place, at, x.width, OperandWidths::Other, x.found)
@@ -53,7 +59,13 @@ pub(crate) fn measure(names: &Names, place: Place, e: &Expr) -> Measured
             let x = measure(names, place, yes.get());
             let y = measure(names, place, no.get());
             let operands = OperandWidths::Three(t.width, x.width, y.width);
-            measured_at(place, at, x.width, operands, t.found.or(x.found.or(y.found)))
+            measured_at(
+                place,
+                at,
+                x.width,
+                operands,
+                t.found.or(x.found.or(y.found)),
+            )
         }
         ExprKind::Concat(parts) => {
             let all = measure_all(names, place, parts.as_slice());

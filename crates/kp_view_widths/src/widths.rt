@@ -6,10 +6,10 @@ ghost use Rattle.kp_view_widths.specs.PrintedWidths.{FirstIsTrue};
 use crate::checks::{
     addresses, check_address, check_condition, check_value, declared, literal_width, width_in,
 };
+use crate::confirmed::confirmed;
 use crate::expression::expression;
 use crate::lookup::{Here, check_fresh, declared_name, kind_of, storage, used};
 use crate::names::{Known, Names, Position};
-use crate::confirmed::confirmed;
 use kp_ast::{
     Block, Decl, Expr, FuncDecl, Job, Lit, Named, Num, Param, ReadStmt, ResultDecl, Stmt, StmtKind,
 };
