@@ -13,7 +13,7 @@ use Rattle.kp_pipeline.specs.SpeculativeTimeline as timeline
 use Rattle.kp_pipeline.specs.SpeculativeTimeline.{setting_stage}
 use Rattle.kp_machine.specs.Slots.{Slot, targets_of, pipes_of, number_of, result_to}
 use Rattle.kp_machine.specs.Machine.{machine_of, result_for, write_stage_of, enabled_of, address_in, is_enabled_by, address_by}
-use Rattle.kp_seq.specs.Told.{where_true, results_of, write_guess_part, setting_told, told_of}
+use Rattle.kp_seq.specs.Told.{where_true, results_of, write_told, setting_told, told_of}
 use Rattle.kp_stalls.specs.declared.sites.Writer.{Writer}
 use Rattle.kp_stalls.specs.Sites.{result_number}
 use Rattle.kp_stalls.specs.Occupants.{Report, Seen, report_of}
@@ -119,9 +119,9 @@ module _ (job : Job) (s : ℕ → ℕ → ℕ) (given : ℕ → ℕ → ℕ) (k 
     writes_same a =
         let pipes = (before_stage (machine_of job) at_start (given n) job.stages.value).pipes in
         let r = is.result in
-        let here : get_or x.report.told.writes i None ≡ write_guess_part job pipes r =
+        let here : get_or x.report.told.writes i None ≡ write_told job pipes r =
         ap (λ (y : Report). get_or y.told.writes i None) tells
-        ∙ get_or_from_slice_get (map (write_guess_part job pipes) (results_of job.decls)) i (write_guess_part job pipes r) None (mapped (write_guess_part job pipes) (results_of job.decls) i r is.there) in
+        ∙ get_or_from_slice_get (map (write_told job pipes) (results_of job.decls)) i (write_told job pipes r) None (mapped (write_told job pipes) (results_of job.decls) i r is.there) in
         ap (λ o. not (leb ((machine_of job).known_from t) k) || (is_some o && (enabled_of (pipes_of job.decls) pipes o && eqb (address_in (pipes_of job.decls) pipes o) a))) is.first
         ∙ ap (λ b. not (leb ((machine_of job).known_from t) k) || b)
         (wrote (is_enabled_by (pipes_of job.decls) pipes r.enable) (address_by (pipes_of job.decls) pipes r.address) a ∙ sym (ap (λ o. wrote_at o a) here))

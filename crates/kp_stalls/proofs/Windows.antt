@@ -18,7 +18,7 @@ use Rattle.kp_synth_tables.proofs.Limits.{few}
 use Rattle.kp_machine.specs.Machine.{machine_of, sequential, state_of, values_in}
 use Rattle.kp_machine.specs.Slots.{targets_of}
 use Rattle.kp_seq.specs.Told.{Told, results_of, setting_told, told_of}
-use Rattle.kp_seq.proofs.Reporting.{all_reported}
+use Rattle.kp_seq.proofs.Telling.{all_reported}
 use Rattle.kp_stalls.specs.Sites.{Sited, sited, writers_to}
 use Rattle.kp_seq.specs.Running.{Running, after_one, state}
 use Rattle.kp_stalls.specs.Occupants.{Report, report, report_of, nothing, stored, value_before}
