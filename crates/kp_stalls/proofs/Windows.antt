@@ -18,7 +18,7 @@ use Rattle.kp_synth_tables.proofs.Limits.{few}
 use Rattle.kp_machine.specs.Machine.{machine_of, sequential, state_of, values_in}
 use Rattle.kp_machine.specs.Slots.{targets_of}
 use Rattle.kp_seq.specs.Told.{Told, results_of, setting_told, told_of}
-use Rattle.kp_seq.proofs.Telling.{all_reported}
+use Rattle.kp_seq.proofs.Telling.{all_told}
 use Rattle.kp_stalls.specs.Sites.{Sited, sited, writers_to}
 use Rattle.kp_seq.specs.Running.{Running, after_one, state}
 use Rattle.kp_stalls.specs.Occupants.{Report, report, report_of, nothing, stored, value_before}
@@ -101,7 +101,7 @@ results_count (decls.Func f ∷ ds) = let p = sum_by-cons results_in (decls.Func
 pub told_room : (job : Job) (s : ℕ → ℕ → ℕ) (q : ℕ → ℕ) → length job.blocks ≡ job.stages.value → IsToldOf job (told_of job s q)
 unfolding told_of summary_of
 told_room job s q e = record {
-  reads = all_reported job s q e;
+  reads = all_told job s q e;
   writes = length-map (results_of job.decls) _ ∙ results_count job.decls;
   settings = length-map (results_of job.decls) (setting_told job s q) ∙ results_count job.decls;
 }
