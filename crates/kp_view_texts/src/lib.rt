@@ -10,6 +10,6 @@ mod script;
 mod script_fault;
 mod tokens;
 
-pub use note::{excerpt_at, write_fault, write_head};
+pub use note::write_head;
 pub use program::write_program;
 pub use script::write_script;
