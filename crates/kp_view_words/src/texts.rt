@@ -14,7 +14,7 @@ pub const USAGE: &str = "usage: kpview diagram N [NAMES] [FILE]
        kpview paths [--svg] [FILE]
        kpview stalls N [FILE]
        kpview explain [--werror] [FILE]
-       kpview explain asm|debug [FILE]
+       kpview explain read|watch|asm|debug [FILE]
        kpview --help
 ";
 
@@ -54,7 +54,8 @@ words:
   paths [--svg] [FILE]       where each read takes its value from
   stalls N [FILE]            why instructions wait or are squashed
   explain [--werror] [FILE]  why the job is rejected, and warnings
-  explain asm|debug [FILE]   why another input of kp is rejected
+  explain read|watch|asm|debug [FILE]
+                             why another input of kp is rejected
 
 The job is read from FILE, or from standard input.
 
@@ -161,9 +162,9 @@ usage: kpview stalls N [FILE]
   FILE    the job; without it, standard input is read
 
 An instruction waits for a value or for the stage ahead, is held from outside, or
-waits and is squashed in a later cycle. A wait for a value is told with what is
-read, the line of the read, and the nearest older instruction that writes it or
-may write it; in a job with guesses, only of an instruction that retires in
+waits and is squashed in a later cycle. A wait for a value is printed with what
+is read, the line of the read, and the nearest older instruction that writes it
+or may write it; in a job with guesses, only of an instruction that retires in
 these N cycles.
 ";
 
