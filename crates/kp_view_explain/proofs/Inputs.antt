@@ -1,16 +1,22 @@
 -- From what the readers find to what is said of the input of a source.
-use Rattle.std.proofs.Common.{◌≡◌, ◌≤◌, ℕ, Bool, List, [], length, Ok, Err, Some, None, inl, inr, refl, ap, sym, arith}
+use Rattle.std.proofs.Common.{◌≡◌, ◌≤◌, ℕ, Bool, List, [], length, drop, Ok, Err, Some, None, inl, inr, refl, ap, sym, arith}
 use Rattle.std.specs.declared.option.Option.{Option}
 use Rattle.std.specs.Io.KnownBytes.{Consumes, IsAtEnd}
 use Rattle.kp_base.specs.declared.refusal.Refusal.{Refusal}
+use Rattle.kp_base.specs.declared.refusal.Refused.TheVariants as refused
 use Rattle.kp_ast.specs.declared.tree.Decl.{Decl}
 use Rattle.kp_ast.specs.declared.tree.Job.{Job}
+use Rattle.kp_net.specs.Netlist.{Net}
 use Rattle.kp_asm.specs.Program.{assembled}
+use Rattle.kp_vlog.specs.Denote.{Denotes}
+use Rattle.kp_vlog.specs.Verdict.{IsRefused}
 use Rattle.kp_debug_script.specs.Scripts.{script_of}
 use Rattle.kp_debug_script.specs.declared.command.Command.{Command}
+use Rattle.kp_synth_spec.specs.Shows.{IsOfJob}
+use Rattle.kp_vread_match.specs.Matching.{IsRefused as IsOfOther}
 use Rattle.kp_frontend.specs.Judging.{JudgesText, JudgesHeadText, too_long}
 use Rattle.kp_view_texts.specs.Heads.{rule_head}
-use Rattle.kp_view_explain.specs.Explaining.{BeginsWith, ExplainsText, HasJob, IsExplained, Says, rule_of, warned}
+use Rattle.kp_view_explain.specs.Explaining.{BeginsWith, ExplainsText, FindsInModule, HasJob, IsExplained, Says, rule_of, warned}
 use Rattle.kp_view_explain.specs.Explaining.Finds.{over, within}
 use Rattle.kp_view_explain.specs.Listing.{ListsNext}
 use Rattle.kp_view_explain.specs.declared.words.Subject.{Subject}
@@ -53,6 +59,41 @@ pub refused_script : (file text : List ℕ) (from : ℕ) (ds decls : List Decl) 
     → script_of ds text from ≡ Err refusal → status ≡ 2 → BeginsWith (rule_head file refusal) said
     → (strict : Bool) → Says subjects.Debugged strict file (rule_of (script_of decls text from)) status said
 refused_script file text from ds decls refusal status said same is two begins strict = rw (sym same, is) (two, begins)
+
+-- a Verilog text
+pub accepted_verilog : (file text : List ℕ) (net : Net) (status : ℕ) (said : List ℕ) → Denotes 0 text net → status ≡ 0 → said ≡ []
+    → (strict : Bool) → ExplainsText subjects.Verilog strict file text status said
+accepted_verilog file text net status said denotes zero empty strict = (None, (net, denotes), (zero, empty))
+
+pub refused_verilog : (file text : List ℕ) (refusal : Refusal) (status : ℕ) (said : List ℕ) → IsRefused text 0 refusal → status ≡ 2
+    → BeginsWith (rule_head file refusal) said → (strict : Bool) → ExplainsText subjects.Verilog strict file text status said
+refused_verilog file text refusal status said is two begins strict = (Some refusal, is, (two, begins))
+
+-- a job with a Verilog text
+pub refused_watched : (file text : List ℕ) (refusal : Refusal) (status : ℕ) (said : List ℕ) → JudgesHeadText text (Err refusal) → status ≡ 2
+    → BeginsWith (rule_head file refusal) said → (strict : Bool) → ExplainsText subjects.Watched strict file text status said
+refused_watched file text refusal status said judged is begins strict = (Some refusal, (Err refusal, judged, refl), (is, begins))
+
+pub of_module : (file text : List ℕ) (job : Job) (from status : ℕ) (said : List ℕ) → JudgesHeadText text (Ok (job, from))
+    → ((found : Option Refusal) × FindsInModule job text from found × ((strict : Bool) → Says subjects.Watched strict file found status said))
+    → (strict : Bool) → ExplainsText subjects.Watched strict file text status said
+of_module file text job from status said judged (found, finds, says) strict = (found, (Ok (job, from), judged, finds), says strict)
+
+pub misread_module : (file text : List ℕ) (job : Job) (from : ℕ) (refusal : Refusal) (status : ℕ) (said : List ℕ) → IsRefused text from refusal → status ≡ 2
+    → BeginsWith (rule_head file refusal) said
+    → (found : Option Refusal) × FindsInModule job text from found × ((strict : Bool) → Says subjects.Watched strict file found status said)
+misread_module file text job from refusal status said is two begins = (Some refusal, inl is, λ strict. (two, begins))
+
+pub own_netlist : (file text : List ℕ) (job : Job) (from : ℕ) (net : Net) (status : ℕ) (said : List ℕ) → Denotes from (drop from text) net → IsOfJob net job
+    → status ≡ 0 → said ≡ []
+    → (found : Option Refusal) × FindsInModule job text from found × ((strict : Bool) → Says subjects.Watched strict file found status said)
+own_netlist file text job from net status said denotes own zero empty = (None, (net, denotes, own), λ strict. (zero, empty))
+
+pub other_netlist : (file text : List ℕ) (job : Job) (from : ℕ) (net : Net) (refusal : Refusal) (status : ℕ) (said : List ℕ) → Denotes from (drop from text) net
+    → IsOfOther net job (refused.Rule refusal) → status ≡ 2 → BeginsWith (rule_head file refusal) said
+    → (found : Option Refusal) × FindsInModule job text from found × ((strict : Bool) → Says subjects.Watched strict file found status said)
+other_netlist file text job from net refusal status said denotes (is, other) two begins =
+    (Some refusal, inr (net, denotes, other, cc is), λ strict. (two, begins))
 
 -- the whole input of a source, which isn't too long
 pub of_input : (subject : Subject) (strict : Bool) (file : List ℕ) (old new : Option (List ℕ)) (input : List ℕ) (status : ℕ) (text : List ℕ)

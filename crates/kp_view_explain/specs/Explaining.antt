@@ -1,10 +1,15 @@
 -- What is said of an input: a status, and a text for standard error.
-use Rattle.std.specs.Prelude.{◌≡◌, ◌≢◌, ◌<◌, ◌≤◌, [], ◌++◌, ◌⊎◌, ◌&&◌, Bool, ℕ, List, length, ltb, if◌then◌else◌, Option, Some, None, Result, Ok, Err}
+use Rattle.std.specs.Prelude.{◌≡◌, ◌≢◌, ◌<◌, ◌≤◌, [], ◌++◌, ◌⊎◌, ◌&&◌, Bool, ℕ, List, length, drop, ltb, if◌then◌else◌, Option, Some, None, Result, Ok, Err}
 use Rattle.std.specs.Io.KnownBytes.{Consumes, IsAtEnd}
+use Rattle.kp_base.specs.Refusal.{v_rule}
 use Rattle.kp_base.specs.declared.refusal.Refusal.{Refusal}
 use Rattle.kp_ast.specs.declared.tree.Job.{Job}
+use Rattle.kp_net.specs.Netlist.{Net}
 use Rattle.kp_asm.specs.Program.{assembled}
+use Rattle.kp_vlog.specs.Denote.{Denotes}
+use Rattle.kp_vlog.specs.Verdict.{IsRefused}
 use Rattle.kp_debug_script.specs.Scripts.{script_of}
+use Rattle.kp_synth_spec.specs.Shows.{IsOfJob}
 use Rattle.kp_frontend.specs.Judging.{JudgesText, JudgesHeadText, most_bytes, too_long}
 use Rattle.kp_view_texts.specs.Heads.{rule_head}
 use Rattle.kp_view_explain.specs.Listing.{ListsNext}
@@ -16,6 +21,26 @@ abbrev pub rule_of : {X : Type 0} → Result X Refusal → Option Refusal
 rule_of (Ok x) = None
 rule_of (Err refusal) = Some refusal
 
+-- The first of V1 to V5 that the Verilog text from an offset on violates, or none where it denotes a netlist.
+abbrev pub FindsInVerilog : List ℕ → ℕ → Option Refusal → Type 0
+FindsInVerilog text from None = (net : Net) × Denotes from (drop from text) net
+FindsInVerilog text from (Some refusal) = IsRefused text from refusal
+
+-- V6: the text denotes a netlist, which isn't one of the job
+abbrev pub IsOther : Job → List ℕ → ℕ → Refusal → Type 0
+IsOther job text from refusal =
+    (net : Net) × Denotes from (drop from text) net × (IsOfJob net job → ⊥) × (refusal ≡ v_rule 6 (record { line = 1; col = 1 }))
+
+-- The first of V1 to V6 that the Verilog text after a job violates, or none where it denotes a netlist of the job.
+abbrev pub FindsInModule : Job → List ℕ → ℕ → Option Refusal → Type 0
+FindsInModule job text from None = (net : Net) × Denotes from (drop from text) net × IsOfJob net job
+FindsInModule job text from (Some refusal) = IsRefused text from refusal ⊎ IsOther job text from refusal
+
+-- the same, where a rule of the job comes first
+abbrev pub FindsWatched : List ℕ → Result (Job × ℕ) Refusal → Option Refusal → Type 0
+FindsWatched text (Ok (job, from)) found = FindsInModule job text from found
+FindsWatched text (Err refusal) found = found ≡ Some refusal
+
 -- the first of E39 to E41 that the script after a job violates, where a rule of the job comes first
 abbrev pub in_script : List ℕ → Result (Job × ℕ) Refusal → Option Refusal
 in_script text (Ok (job, from)) = rule_of (script_of job.decls text from)
@@ -24,6 +49,8 @@ in_script text (Err refusal) = Some refusal
 -- The first rule that an input which is not too long violates, or none.
 abbrev pub FindsIn : Subject → List ℕ → Option Refusal → Type 0
 FindsIn subjects.Job text found = (verdict : Result Job Refusal) × JudgesText text verdict × (found ≡ rule_of verdict)
+FindsIn subjects.Verilog text found = FindsInVerilog text 0 found
+FindsIn subjects.Watched text found = (verdict : Result (Job × ℕ) Refusal) × JudgesHeadText text verdict × FindsWatched text verdict found
 FindsIn subjects.Program text found = found ≡ rule_of (assembled text)
 FindsIn subjects.Debugged text found = (verdict : Result (Job × ℕ) Refusal) × JudgesHeadText text verdict × (found ≡ in_script text verdict)
 
@@ -62,6 +89,7 @@ Explains subject strict file input status text = (found : Option Refusal) × Fin
 
 -- the input begins with a job
 abbrev pub HasJob : Subject → Type 0
+HasJob subjects.Verilog = ⊥
 HasJob subjects.Program = ⊥
 HasJob _ = Unit {0}
 

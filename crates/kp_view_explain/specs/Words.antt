@@ -33,7 +33,8 @@ with_flag (first ∷ rest) = if bytes_eq first (codes "--werror") then with_file
 -- the command of `kp` whose input is asked about
 abbrev pub subject_of : List ℕ → Option Subject
 subject_of word =
-    if bytes_eq word (codes "asm") then Some subjects.Program else (if bytes_eq word (codes "debug") then Some subjects.Debugged else None)
+    if bytes_eq word (codes "read") then Some subjects.Verilog else (if bytes_eq word (codes "watch") then Some subjects.Watched
+    else (if bytes_eq word (codes "asm") then Some subjects.Program else (if bytes_eq word (codes "debug") then Some subjects.Debugged else None)))
 
 abbrev pub with_subject : Option Subject → List (List ℕ) → List (List ℕ) → Option Asked
 with_subject (Some subject) rest words = with_file subject false rest

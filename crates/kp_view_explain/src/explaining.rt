@@ -9,6 +9,7 @@ use crate::explanation::Explanation;
 use crate::of_job::explain_job;
 use crate::program::explain_program;
 use crate::script::explain_debugged;
+use crate::verilog::{explain_verilog, explain_watched};
 use crate::words::Subject;
 use kp_base::NoMemory;
 use std::alloc::Global;
@@ -29,6 +30,8 @@ pub fn explain(
 {
     match subject {
         Subject::Job => explain_job(alloc, file, strict, text),
+        Subject::Verilog => Ok(explain_verilog(alloc, file, text)?),
+        Subject::Watched => Ok(explain_watched(alloc, file, text)?),
         Subject::Program => Ok(explain_program(alloc, file, text)?),
         Subject::Debugged => Ok(explain_debugged(alloc, file, text)?),
     }

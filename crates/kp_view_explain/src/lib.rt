@@ -11,6 +11,7 @@ mod of_job;
 mod program;
 mod reading;
 mod script;
+mod verilog;
 mod words;
 
 pub use calling::{Stop, explain_source};

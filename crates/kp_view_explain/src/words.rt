@@ -8,13 +8,15 @@ pub const HELP: &str =
 rests on, and what helps. It is written to standard error.
 
 usage: kpview explain [--werror] [FILE]
-       kpview explain asm|debug [FILE]
+       kpview explain read|watch|asm|debug [FILE]
 
-  FILE      the input; without it, standard input is read. Write ./asm for a
-            file named asm
+  FILE      the input; without it, standard input is read. Write ./read for a
+            file named read
   --werror  warnings count as errors
 
 The input is a job, or that of a command of kp:
+  read      a Verilog text
+  watch     a job, and after its end a Verilog text
   asm       an assembler program
   debug     a job, and after its end a script
 
@@ -26,6 +28,10 @@ status: 0 the input violates no rule, 1 wrong words, 2 it violates a rule,
 #[derive(Clone, Copy, Debug, PartialEq, Eq)]
 pub enum Subject {
     Job,
+    /// Of `read`: a Verilog text.
+    Verilog,
+    /// Of `watch`: a job, and after its end a Verilog text.
+    Watched,
     /// Of `asm`: an assembler program.
     Program,
     /// Of `debug`: a job, and after its end a script.
@@ -37,7 +43,11 @@ impl Subject {
     fn of(word: &str) -> Option<Subject>
         ensures { result ≡ subject_of word.now }
     {
-        if word == "asm" {
+        if word == "read" {
+            Some(Subject::Verilog)
+        } else if word == "watch" {
+            Some(Subject::Watched)
+        } else if word == "asm" {
             Some(Subject::Program)
         } else if word == "debug" {
             Some(Subject::Debugged)

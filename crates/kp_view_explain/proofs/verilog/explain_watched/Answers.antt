@@ -1,0 +1,35 @@
+use Rattle.std.proofs.Common.{◌++◌, ◌∙◌, ℕ, List, Err, ap, subst}
+use Rattle.std.specs.declared.result.Result.{Result}
+use Rattle.kp_base.specs.declared.refusal.Refused.{Refused}
+use Rattle.kp_frontend.specs.Accepting.{AnswersHead}
+use Rattle.kp_frontend.specs.declared.accepted.Head.{Head}
+use Rattle.kp_view_texts.specs.Heads.{rule_head}
+use Rattle.kp_view_explain.proofs.Inputs.{of_module, refused_watched}
+use Rattle.kp_view_explain.proofs.Next.{accepted_head_next, refused_head_next}
+use Rattle.kp_view_explain.proofs.verilog.explain_watched.Goals as goal
+
+pub returns-in_ok-said-in-Ok-clause-said : goal.returns-in_ok-said-in-Ok-clause-said
+returns-in_ok-said-in-Ok-clause-said c =
+    let head = c.in-Ok.head in
+    of_module c.args.file.now c.args.text.now head.job.design.job head.rest _ _ c.in-Ok.ensures.answer c.in_ok-said-in-Ok.ensures.said
+
+pub returns-in_ok-refused-in-Err-Rule-clause-said : goal.returns-in_ok-refused-in-Err-Rule-clause-said
+returns-in_ok-refused-in-Err-Rule-clause-said c =
+    let text = c.args.text.now in
+    let judged = subst (λ (r : Result Head Refused). AnswersHead text r) (c.in-Err-Rule.is ∙ ap Err c.in-Err-Rule.field-0-is) c.judge_head.ensures.answer in
+    let refused = c.in_ok-refused-in-Err-Rule.ensures in
+    refused_watched c.args.file.now text _ _ _ judged refused.status refused.text
+
+pub returns-in_ok-said-in-Ok-clause-next : goal.returns-in_ok-said-in-Ok-clause-next
+returns-in_ok-said-in-Ok-clause-next c =
+    let head = c.in-Ok.head in
+    accepted_head_next c.args.file.now c.args.text.now c.in_ok-said-in-Ok.said.text.items head.job.design.job head.rest c.requires c.in-Ok.ensures.answer
+
+pub returns-in_ok-refused-in-Err-Rule-clause-next : goal.returns-in_ok-refused-in-Err-Rule-clause-next
+returns-in_ok-refused-in-Err-Rule-clause-next c =
+    let text = c.args.text.now in
+    let file = c.args.file.now in
+    let judged = subst (λ (r : Result Head Refused). AnswersHead text r) (c.in-Err-Rule.is ∙ ap Err c.in-Err-Rule.field-0-is) c.judge_head.ensures.answer in
+    let facts = c.in_ok-facts-in-Err-Rule.facts.items in
+    let whole = c.in_ok-refused-in-Err-Rule.ensures.whole ∙ ap (λ (xs : List ℕ). rule_head file c.in-Err-Rule.refusal ++ xs) c.as_slice.ensures.value in
+    refused_head_next file text facts c.in_ok-refused-in-Err-Rule.field-0.text.items c.in-Err-Rule.refusal c.requires judged c.in_ok-facts-in-Err-Rule.ensures whole

@@ -1,0 +1,132 @@
+// The explanation of a Verilog text, alone or after a job.
+ghost use Rattle.std.specs.Prelude.{◌≡◌, ◌≢◌, ◌≤◌, length, drop, Bool, Option, IfOk};
+ghost use Rattle.kp_base.specs.declared.refusal.Refusal.{Refusal as RefusalOf};
+ghost use Rattle.kp_vlog.specs.Denote.{Denotes};
+ghost use Rattle.kp_frontend.specs.Judging.{most_bytes};
+ghost use Rattle.kp_view_texts.specs.Heads.{rule_head};
+ghost use Rattle.kp_view_explain.specs.Explaining.{BeginsWith, ExplainsText, FindsInModule, Says};
+ghost use Rattle.kp_view_explain.specs.Listing.{ListsNext};
+ghost use Rattle.kp_view_explain.specs.declared.words.Subject.TheVariants as subjects;
+
+use crate::explanation::Explanation;
+use crate::of_job::facts;
+use kp_base::{NoMemory, Refusal, Refused};
+use kp_frontend::{Head, judge_head};
+use kp_net::Netlist;
+use kp_view_verilog::{write_other, write_verilog};
+use kp_vread::read_verilog;
+use kp_vread_match::matches;
+use std::alloc::Global;
+
+/// The explanation of a Verilog text that is not too long: the first rule that it violates.
+#[tactic(auto, using(crate::proofs::Inputs::accepted_verilog))]
+pub(crate) fn explain_verilog(
+    alloc: Global,
+    file: &[u8],
+    text: &[u8],
+) -> Result<Explanation, NoMemory>
+    requires { length text.now ≤ most_bytes }
+    ensures said { IfOk result (λ e. (strict : Bool) → ExplainsText subjects.Verilog strict file.now text.now e.status e.text.items) }
+    ensures low { IfOk result (λ e. (e.status ≤ 2) × (e.status ≢ 1)) }
+{
+    match read_verilog(alloc, text, 0) {
+        Ok(net) => {
+            drop(net);
+            Ok(Explanation::silent(alloc))
+        }
+        Err(Refused::NoMemory) => Err(NoMemory),
+        Err(Refused::Rule(refusal)) => Ok(misread(alloc, file, text, 0, refusal)?),
+    }
+}
+
+// A Verilog text from an offset on that violates a rule.
+fn misread(
+    alloc: Global,
+    file: &[u8],
+    text: &[u8],
+    from: u32,
+    refusal: Refusal,
+) -> Result<Explanation, NoMemory>
+    requires short { length text.now ≤ most_bytes }
+    requires within { from ≤ length text.now }
+    ensures status { IfOk result (λ e. e.status ≡ 2) }
+    ensures text { IfOk result (λ e. BeginsWith (rule_head file.now refusal) e.text.items) }
+{
+    let mut facts = Vec::new(alloc);
+    write_verilog(alloc, &mut facts, text, from, refusal)?;
+    Explanation::refused(alloc, file, refusal, facts.as_slice())
+}
+
+/// The explanation of a text that is not too long: the first rule that the job at its head violates, or else the Verilog text after it.
+pub(crate) fn explain_watched(
+    alloc: Global,
+    file: &[u8],
+    text: &[u8],
+) -> Result<Explanation, NoMemory>
+    requires { length text.now ≤ most_bytes }
+    ensures said { IfOk result (λ e. (strict : Bool) → ExplainsText subjects.Watched strict file.now text.now e.status e.text.items) }
+    ensures low { IfOk result (λ e. (e.status ≤ 2) × (e.status ≢ 1)) }
+    ensures next { IfOk result (λ e. ListsNext file.now text.now e.text.items) }
+{
+    match judge_head(alloc, text) {
+        Ok(head) => {
+            let said = explain_module(alloc, file, text, &head)?;
+            drop(head);
+            Ok(said)
+        }
+        Err(Refused::NoMemory) => Err(NoMemory),
+        Err(Refused::Rule(refusal)) => {
+            let facts = facts(alloc, file, text, refusal)?;
+            Ok(Explanation::refused(alloc, file, refusal, facts.as_slice())?)
+        }
+    }
+}
+
+// The same where the job violates no rule.
+fn explain_module(
+    alloc: Global,
+    file: &[u8],
+    text: &[u8],
+    head: &Head,
+) -> Result<Explanation, NoMemory>
+    requires short { length text.now ≤ most_bytes }
+    requires within { head.now.rest ≤ length text.now }
+    ensures said { IfOk result (λ e. (found : Option RefusalOf) × FindsInModule head.now.job.design.job text.now head.now.rest found
+        × ((strict : Bool) → Says subjects.Watched strict file.now found e.status e.text.items)) }
+    ensures low { IfOk result (λ e. (e.status ≤ 2) × (e.status ≢ 1)) }
+{
+    match read_verilog(alloc, text, head.rest) {
+        Ok(net) => {
+            let said = explain_netlist(alloc, file, text, head, &net)?;
+            drop(net);
+            Ok(said)
+        }
+        Err(Refused::NoMemory) => Err(NoMemory),
+        Err(Refused::Rule(refusal)) => Ok(misread(alloc, file, text, head.rest, refusal)?),
+    }
+}
+
+// The same where the text denotes a netlist.
+#[tactic(auto, using(crate::proofs::Inputs::own_netlist))]
+fn explain_netlist(
+    alloc: Global,
+    file: &[u8],
+    text: &[u8],
+    head: &Head,
+    net: &Netlist,
+) -> Result<Explanation, NoMemory>
+    requires { Denotes head.now.rest (drop head.now.rest text.now) net.now }
+    ensures said { IfOk result (λ e. (found : Option RefusalOf) × FindsInModule head.now.job.design.job text.now head.now.rest found
+        × ((strict : Bool) → Says subjects.Watched strict file.now found e.status e.text.items)) }
+    ensures low { IfOk result (λ e. (e.status ≤ 2) × (e.status ≢ 1)) }
+{
+    match matches(alloc, net, &head.job.design) {
+        Ok(()) => Ok(Explanation::silent(alloc)),
+        Err(Refused::NoMemory) => Err(NoMemory),
+        Err(Refused::Rule(refusal)) => {
+            let mut facts = Vec::new(alloc);
+            write_other(alloc, &mut facts, text, net, head.job.design.job(), refusal)?;
+            Ok(Explanation::refused(alloc, file, refusal, facts.as_slice())?)
+        }
+    }
+}
