@@ -1,0 +1,104 @@
+-- What a port shows or takes exists.
+use Rattle.std.proofs.Common.{◌≡◌, ℕ, suc, ◌+◌, ◌<◌, ◌≤◌, Bool, true, false, cond, ◌&&◌, ◌==◌, not, List, [], ◌∷◌, length, get_or, Option, Some, None, Result, Ok, Err, refl, sym, ap, subst, ◌∙◌, arith}
+use Rattle.std.specs.Prelude.{IfOk, IfSome}
+use Rattle.std.specs.Str.{bytes_eq}
+use Rattle.kp_ast.specs.declared.tree.Decl.{Decl}
+use Rattle.kp_ast.specs.declared.tree.Job.{Job}
+use Rattle.kp_machine.specs.Slots.{Slot, targets_of, pipes_of, is_register}
+use Rattle.kp_synth_tables.specs.Keys.{HasKey, no_slot, target_at}
+use Rattle.kp_synth_tables.specs.declared.key.Key.TheVariants as keys
+use Rattle.kp_core_ports.specs.Ports.{asks_register, is_of, target_from, pipe_from, target_ask, pipe_ask, Exists}
+use Rattle.kp_core_ports.specs.declared.port.TargetVerb.{TargetVerb}
+use Rattle.kp_core_ports.specs.declared.port.TargetVerb.TheVariants as targets
+use Rattle.kp_core_ports.specs.declared.port.PipeVerb.{PipeVerb}
+use Rattle.kp_core_ports.specs.declared.port.PipeVerb.TheVariants as pipes
+use Rattle.kp_core_ports.specs.declared.port.Ask.{Ask}
+use Rattle.kp_core_ports.specs.declared.port.Port.{Port}
+use Rattle.kp_core_ports.specs.declared.port.PortsRefused.{PortsRefused}
+
+either : {A : Type 0} (b : Bool) → (b ≡ true → A) → (b ≡ false → A) → A
+either true f g = f refl
+either false f g = g refl
+
+right_of : (a b : Bool) → (a && b) ≡ true → b ≡ true
+right_of true b h = h
+right_of false b h = cc h
+
+some_is : (a b : ℕ) → Some a ≡ Some b → a ≡ b
+some_is a b e = cc e
+
+-- the target that is found, counted from the first of these
+pub record FoundAt (register : Bool) (n t : ℕ) (ss : List Slot) : Type 0 where
+  pub index : ℕ
+  pub number : t ≡ n + index
+  pub there : index < length ss
+  pub kind : is_of register (get_or ss index no_slot).address ≡ true
+
+target_at_first : (register : Bool) (n t : ℕ) (s : Slot) (ss : List Slot) → is_of register s.address ≡ true → n ≡ t → FoundAt register n t (s ∷ ss)
+target_at_first register n t s ss kind is = record { index = 0; number = omega (arith, is); there = omega arith; kind = kind }
+
+target_behind : (register : Bool) (n t : ℕ) (s : Slot) (ss : List Slot) → FoundAt register (n + 1) t ss → FoundAt register n t (s ∷ ss)
+target_behind register n t s ss f = let a = f.number in let b = f.there in record { index = suc f.index; number = omega (arith, a); there = omega (arith, b); kind = f.kind }
+
+target_found : (register : Bool) (n t : ℕ) (ss : List Slot) (name : List ℕ) → target_from register n ss name ≡ Some t → FoundAt register n t ss
+target_found register n t [] name e = absurd (cc e)
+target_found register n t (s ∷ ss) name e =
+    let b : Bool = bytes_eq s.name name && is_of register s.address in
+    let rest : Option ℕ = target_from register (n + 1) ss name in
+    either b
+    (λ on. target_at_first register n t s ss (right_of (bytes_eq s.name name) (is_of register s.address) on)
+    (some_is n t (ap (λ (c : Bool). cond c (Some n) rest) (sym on) ∙ e)))
+    (λ off. target_behind register n t s ss (target_found register (n + 1) t ss name (ap (λ (c : Bool). cond c (Some n) rest) (sym off) ∙ e)))
+
+not_true : (b : Bool) → not b ≡ true → b ≡ false
+not_true true h = sym h
+not_true false h = refl
+
+file_exists : (job : Job) (name : List ℕ) (t : ℕ) → target_from false 0 (targets_of job.decls) name ≡ Some t
+    → (t < length (targets_of job.decls)) × (is_register (target_at job t) ≡ false)
+file_exists job name t e =
+    let f = target_found false 0 t (targets_of job.decls) name e in
+    let same : t ≡ f.index = let a = f.number in omega (arith, a) in
+    subst (λ (u : ℕ). (u < length (targets_of job.decls)) × (is_register (target_at job u) ≡ false)) (sym same)
+    (f.there, not_true ((get_or (targets_of job.decls) f.index no_slot).address == 0) f.kind)
+
+pub target_exists : (job : Job) (verb : TargetVerb) (name : List ℕ) (t : ℕ) → target_from (asks_register verb) 0 (targets_of job.decls) name ≡ Some t
+    → Exists job (target_ask verb t)
+target_exists job targets.Show name t e =
+    let f = target_found true 0 t (targets_of job.decls) name e in
+    let same : t ≡ f.index = let a = f.number in omega (arith, a) in
+    subst (λ (u : ℕ). (u < length (targets_of job.decls)) × (is_register (target_at job u) ≡ true)) (sym same) (f.there, f.kind)
+target_exists job targets.Peek name t e = file_exists job name t e
+target_exists job targets.Load name t e = file_exists job name t e
+
+-- what a line asks for, whose target is found
+pub named_exists : (job : Job) (verb : TargetVerb) (register : Bool) (ds : List Decl) (name : List ℕ) (target : Option ℕ) (result : Result Port PortsRefused)
+    → register ≡ asks_register verb → ds ≡ job.decls → target ≡ target_from register 0 (targets_of ds) name
+    → IfOk result (λ port. (t : ℕ) × (target ≡ Some t) × (port.ask ≡ target_ask verb t)) → IfOk result (λ port. Exists job port.ask)
+named_exists job verb register ds name target (Ok port) kind same is (t, found, asks) =
+    let here : target_from (asks_register verb) 0 (targets_of job.decls) name ≡ Some t =
+    ap (λ (b : Bool). target_from b 0 (targets_of job.decls) name) (sym kind) ∙ ap (λ (l : List Decl). target_from register 0 (targets_of l) name) (sym same) ∙ sym is ∙ found in
+    subst (λ (a : Ask). Exists job a) (sym asks) (target_exists job verb name t here)
+named_exists job verb register ds name target (Err e) kind same is asks = tt
+
+-- the pipe that is found
+pipe_found : (n x : ℕ) (ss : List Slot) (name : List ℕ) → pipe_from n ss name ≡ Some x → (n ≤ x) × (x < n + length ss)
+pipe_found n x [] name e = absurd (cc e)
+pipe_found n x (s ∷ ss) name e =
+    let b : Bool = bytes_eq s.name name in
+    let rest : Option ℕ = pipe_from (n + 1) ss name in
+    either b
+    (λ on. let is = some_is n x (ap (λ (c : Bool). cond c (Some n) rest) (sym on) ∙ e) in (omega (arith, is), omega (arith, is)))
+    (λ off. let f = pipe_found (n + 1) x ss name (ap (λ (c : Bool). cond c (Some n) rest) (sym off) ∙ e) in
+    let a = f.0 in let b = f.1 in (omega (arith, a), omega (arith, b)))
+
+pub pipe_there : (job : Job) (ds : List Decl) (name : List ℕ) (pipe : Option ℕ) → ds ≡ job.decls → pipe ≡ pipe_from 0 (pipes_of ds) name
+    → IfSome pipe (λ x. x < length (pipes_of job.decls))
+pipe_there job ds name None same is = tt
+pipe_there job ds name (Some x) same is =
+    let f = pipe_found 0 x (pipes_of job.decls) name (ap (λ (l : List Decl). pipe_from 0 (pipes_of l) name) (sym same) ∙ sym is) in
+    let a = f.1 in omega (arith, a)
+
+pub pipe_exists : (job : Job) (verb : PipeVerb) (x k : ℕ) → HasKey job (keys.Pipe x k) → Exists job (pipe_ask verb x k)
+pipe_exists job pipes.Probe x k h = h
+pipe_exists job pipes.Next x k h = h
