@@ -1,0 +1,44 @@
+-- THE WORDS of a command line of `kpcore`.
+use Rattle.std.specs.Prelude.{◌==◌, ℕ, Bool, true, false, ◌||◌, List, [], ◌∷◌, codes, if◌then◌else◌, Option, Some, None, option_map, string_bytes}
+use Rattle.std.specs.List.{list_any}
+use Rattle.std.specs.Str.{bytes_eq}
+use Rattle.kp_core_words.specs.declared.request.Request.{Request}
+use Rattle.kp_core_words.specs.declared.request.Request.TheVariants as requests
+
+-- what is asked for: the module of the job of a file, or of standard input, or a text of the program
+pub data Asked : Type 0 where
+  bad_words : Asked
+  help : Asked
+  version : Asked
+  write : Option (List ℕ) → Asked
+
+abbrev pub asked : Request → Asked
+asked requests.BadWords = bad_words
+asked requests.Help = help
+asked requests.Version = version
+asked (requests.Core file) = write (option_map (λ word. string_bytes word.now) file)
+
+abbrev pub is_help : List ℕ → Bool
+is_help word = bytes_eq word (codes "--help") || bytes_eq word (codes "-h")
+
+abbrev pub is_version : List ℕ → Bool
+is_version word = bytes_eq word (codes "--version") || bytes_eq word (codes "-V")
+
+abbrev pub begins_with_dash : List ℕ → Bool
+begins_with_dash [] = false
+begins_with_dash (c ∷ cs) = c == 45
+
+-- at most one word, which is a file
+abbrev pub file_of : List (List ℕ) → Asked
+file_of [] = write None
+file_of (name ∷ []) = if begins_with_dash name then bad_words else write (Some name)
+file_of (name ∷ other ∷ rest) = bad_words
+
+-- the words after the name of the program: a word for help counts first, then one for the version
+abbrev pub asked_for : List (List ℕ) → Asked
+asked_for words = if list_any is_help words then help else (if list_any is_version words then version else file_of words)
+
+-- a module reads the source, and nothing else does
+abbrev pub reads_input : Asked → Bool
+reads_input (write file) = true
+reads_input _ = false

@@ -1,0 +1,35 @@
+// The texts of help, usage and version. Each ends with a line feed.
+
+/// The version of the program, which the file VERSION at the top has too.
+pub const VERSION: &str = "kpcore 0.10.0\n";
+
+/// How the program is called.
+pub const USAGE: &str = "usage: kpcore [FILE]
+       kpcore --help
+";
+
+/// The help of the program.
+pub const HELP: &str = "Writes the pipelined machine of a kp job as a Verilog module with ports.
+
+usage: kpcore [FILE]
+
+  FILE    a job and, behind its `end`, lines that ask for ports; without it,
+          standard input is read. Write ./-job for a file named -job
+
+lines, with registers R, files F, pipes P and stages k of the job:
+  show R         output o_R: the register
+  peek F         input pa_F, output p_F: the word of the file at this address
+  load F         inputs le_F, la_F, l_F: while rst and le_F are 1, the word at
+                 la_F becomes l_F at each edge of clk
+  probe P at k   output o_P_k: the pipe, as stage k holds it
+  next P at k    output d_P_k: what it takes at the next edge
+  commit         output commit: an instruction leaves the last stage
+A comment begins with //. Without such lines the module is that of kp pipe.
+
+options:
+  -h, --help      print this help
+  -V, --version   print the version
+
+status: 0 done, 1 wrong words, 2 the job or a line violates a rule,
+3 reading failed, 4 writing failed, 5 out of memory
+";
