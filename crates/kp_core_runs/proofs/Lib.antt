@@ -1,0 +1,3 @@
+pub mod Beginning
+mod Loading
+mod Memory
