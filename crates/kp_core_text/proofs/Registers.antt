@@ -1,0 +1,24 @@
+-- The register of a pipe in a stage.
+use Rattle.std.proofs.Common.{◌≡◌, ℕ, zero, suc, ◌<◌, ◌≤◌, List, [], ◌∷◌, length, get_or, false, ◌==◌, refl, arith}
+use Rattle.kp_ast.specs.declared.tree.Job.{Job}
+use Rattle.kp_net.specs.Netlist.{Net}
+use Rattle.kp_synth_tables.specs.Keys.{keys_of, place_of, HasKey}
+use Rattle.kp_synth_tables.specs.declared.key.Key.TheVariants.{Pipe}
+use Rattle.kp_synth_tables.proofs.Places.{place_is, place_small}
+
+pub there : (net : Net) (job : Job) (x k : ℕ) → length net.parts.regs ≡ length (keys_of job) → HasKey job (Pipe x k) → place_of job (Pipe x k) < length net.parts.regs
+there net job x k same has =
+    let small = place_small job (keys_of job) (Pipe x k) refl has in
+    let is = place_is job (keys_of job) (Pipe x k) refl in
+    omega (arith, small, is, same)
+
+-- the entry at an index of a list doesn't depend on the default past its end
+pub any_default : {X : Type 0} (xs : List X) (i : ℕ) (d e : X) → i < length xs → get_or xs i d ≡ get_or xs i e
+any_default [] i d e h = absurd (omega arith)
+any_default (x ∷ xs) zero d e h = refl
+any_default (x ∷ xs) (suc i) d e h = any_default xs i d e (omega arith)
+
+-- the addresses of a file have a width
+pub positive : (a : ℕ) → (a == 0) ≡ false → 1 ≤ a
+positive zero h = absurd (cc h)
+positive (suc a) h = omega arith

@@ -1,0 +1,8 @@
+use Rattle.std.proofs.Common.{◌≡◌, ◌++◌, take}
+use Rattle.std.specs.Prelude.{flat_map}
+use Rattle.kp_core_text.specs.Ports.{line_text}
+use Rattle.kp_core_text.specs.Core.{comment}
+use Rattle.kp_core_text.proofs.text.lines.Given as goal
+
+abbrev pub invariant-loop-port : goal.invariant-loop-port
+invariant-loop-port l = l.text.items ≡ comment ++ flat_map (line_text l.net l.layout) (take l.port-index l.ports)
