@@ -11,14 +11,13 @@ use Rattle.kp_net.specs.declared.node.NodeId.{NodeId}
 use Rattle.kp_net.specs.declared.node.Kind.{Kind}
 use Rattle.kp_net.specs.declared.node.Kind.TheVariants.{Const, Ext, Sample, Reg, Word as FileWord, Not, Binary, Mux, Concat, Slice}
 use Rattle.kp_net.specs.declared.node.Node.{Node}
-use Rattle.kp_net.specs.declared.netlist.Parts.{Parts}
 use Rattle.kp_net.specs.Nodes.{Cells, word_of_kind, word_of_node}
 use Rattle.kp_net.specs.Widths.{wide, no_node, is_cell, KindOk, AllRight}
-use Rattle.kp_net.specs.Parts.{CellOk}
+use Rattle.kp_net.specs.Parts.{NetOk}
 use Rattle.kp_net.proofs.Exact.{Has}
 use Rattle.kp_cycle.specs.inner.Codes.{binary_op, joined_op, kind_op, op_for, number_of, IsReady}
 use Rattle.kp_net.specs.Netlist.{Net}
-use Rattle.kp_cycle.specs.inner.Storage.{Stored, Fits, FitsBelow, seen}
+use Rattle.kp_cycle.specs.inner.Storage.{FitsBelow, seen}
 use Rattle.kp_cycle.proofs.Settling.{operands_have, whole}
 
 -- numbers of 64 bits
@@ -89,7 +88,7 @@ cond_value false x y = refl
 module _ (c : Cells) (ns : List Node) (v : List ℕ) (m k plain : ℕ) (small : k ≤ 64)
     (have : (j : ℕ) → j < m → Has (wide ns j) (seen ns v j)) where
   binary : (op : BinOp) (a b : NodeId) → KindOk ns m k (Binary op a b) → plain ≡ (word_of_kind c (seen ns v) k (Binary op a b)).value
-      → number_of c v plain (binary_op op a b k (2 ^ k - 1)) ≡ plain
+      → number_of v plain (binary_op op a b k (2 ^ k - 1)) ≡ plain
   binary BinOp.And a b ok e = sym e
   binary BinOp.Or a b ok e = sym e
   binary BinOp.Xor a b ok e = sym e
@@ -104,7 +103,7 @@ module _ (c : Cells) (ns : List Node) (v : List ℕ) (m k plain : ℕ) (small : 
   binary BinOp.Shr a b ok e = shr_number k (get_or v a.0 0) (get_or v b.0 0) small ∙ ap (λ w. cond (nat_lt (get_or v b.0 0) w) (get_or v a.0 0 / 2 ^ get_or v b.0 0) 0) (sym ok.2) ∙ sym e
 
   joined : (parts : List NodeId) → KindOk ns m k (Concat parts) → plain ≡ (word_of_kind c (seen ns v) k (Concat parts)).value
-      → number_of c v plain (joined_op ns parts) ≡ plain
+      → number_of v plain (joined_op ns parts) ≡ plain
   joined [] ok e = refl
   joined (a ∷ []) ok e = refl
   joined (a ∷ (b ∷ [])) ok e =
@@ -124,43 +123,42 @@ module _ (c : Cells) (ns : List Node) (v : List ℕ) (m k plain : ℕ) (small : 
       ∙ join_number upper (get_or v d.0 0) (i + j) (wide ns d.0) (omega (arith, x.positive)) (concat_fits (get_or v a.0 0) (get_or v b.0 0) i j x.fits y.fits) z.fits l ∙ sym e
   joined (a ∷ (b ∷ (d ∷ (f ∷ rest)))) ok e = refl
 
-  kinds : (o : Kind) → KindOk ns m k o → (is_cell o ≡ false → plain ≡ (word_of_kind c (seen ns v) k o).value) → plain ≡ (word_of_kind c (seen ns v) k o).value % 2 ^ k
-      → number_of c v plain (kind_op ns k (2 ^ k - 1) o) ≡ plain
-  kinds (Const n) ok e f = sym (e refl)
-  kinds Ext ok e f = ones c.ext k ∙ sym f
-  kinds (Sample s) ok e f = refl
-  kinds (Reg r) ok e f = ones (c.reg r) k ∙ sym f
-  kinds (FileWord g a) ok e f = refl
-  kinds (Not a) ok e f =
+  kinds : (o : Kind) → KindOk ns m k o → (is_cell o ≡ false → plain ≡ (word_of_kind c (seen ns v) k o).value) → number_of v plain (kind_op ns k (2 ^ k - 1) o) ≡ plain
+  kinds (Const n) ok e = sym (e refl)
+  kinds Ext ok e = refl
+  kinds (Sample s) ok e = refl
+  kinds (Reg r) ok e = refl
+  kinds (FileWord g a) ok e = refl
+  kinds (Not a) ok e =
       let x : get_or v a.0 0 < 2 ^ k = subst (λ w. get_or v a.0 0 < 2 ^ w) ok.1 (have a.0 ok.0).word.fits in
       not_number k (get_or v a.0 0) small x ∙ ap (λ w. 2 ^ w - 1 - get_or v a.0 0) (sym ok.1) ∙ sym (e refl)
-  kinds (Binary op a b) ok e f = binary op a b ok (e refl)
-  kinds (Mux test a b) ok e f = cond_value (get_or v test.0 0 == 1) (seen ns v a.0) (seen ns v b.0) ∙ sym (e refl)
-  kinds (Concat parts) ok e f = joined parts ok (e refl)
-  kinds (Slice a hi lo) ok e f =
+  kinds (Binary op a b) ok e = binary op a b ok (e refl)
+  kinds (Mux test a b) ok e = cond_value (get_or v test.0 0 == 1) (seen ns v a.0) (seen ns v b.0) ∙ sym (e refl)
+  kinds (Concat parts) ok e = joined parts ok (e refl)
+  kinds (Slice a hi lo) ok e =
       let w : hi + 1 - lo ≡ k = omega (arith, ok.3) in
       let l : lo < 64 = omega (arith, ok.1, ok.2, (have a.0 ok.0).word.at_most) in
       slice_number (get_or v a.0 0) k lo l ∙ ap (λ j. get_or v a.0 0 / 2 ^ lo % 2 ^ j) (sym w) ∙ sym (e refl)
 
 -- the operation of node i computes its number
 pub coded : (c : Cells) (ns : List Node) (v : List ℕ) (i : ℕ) → AllRight ns → i < length ns → FitsBelow ns v i
-    → number_of c v (word_of_node c (seen ns v) (get_or ns i no_node)).value (op_for ns (get_or ns i no_node)) ≡ (word_of_node c (seen ns v) (get_or ns i no_node)).value
+    → number_of v (word_of_node c (seen ns v) (get_or ns i no_node)).value (op_for ns (get_or ns i no_node)) ≡ (word_of_node c (seen ns v) (get_or ns i no_node)).value
 coded c ns v i right h fits =
     let n : Node = get_or ns i no_node in
     let ok = right i h in
     kinds c ns v i n.width (word_of_node c (seen ns v) n).value ok.at_most (operands_have ns v i right h fits) n.kind ok.kind
-    (λ e. sym (whole c ns v i n.kind right h fits refl e)) refl
+    (λ e. sym (whole c ns v i n.kind right h fits refl e))
 
 -- all that it reads is there
-module _ (ns : List Node) (p : Parts) (i m width mask : ℕ) (e : i ≤ m) where
-  ready_parts : (parts : List NodeId) → All (λ a. a.0 < i) parts → IsReady m (length p.regs) (joined_op ns parts)
+module _ (ns : List Node) (i m width mask : ℕ) (e : i ≤ m) where
+  ready_parts : (parts : List NodeId) → All (λ a. a.0 < i) parts → IsReady m (joined_op ns parts)
   ready_parts [] h = tt
   ready_parts (a ∷ []) h = tt
   ready_parts (a ∷ (b ∷ [])) h = (omega (arith, h 0 a (omega arith)), omega (arith, h 1 b (omega arith)))
   ready_parts (a ∷ (b ∷ (d ∷ []))) h = (omega (arith, h 0 a (omega arith)), omega (arith, h 1 b (omega arith)), omega (arith, h 2 d (omega arith)))
   ready_parts (a ∷ (b ∷ (d ∷ (f ∷ rest)))) h = tt
 
-  ready_binary : (op : BinOp) (a b : NodeId) → a.0 < m → b.0 < m → IsReady m (length p.regs) (binary_op op a b width mask)
+  ready_binary : (op : BinOp) (a b : NodeId) → a.0 < m → b.0 < m → IsReady m (binary_op op a b width mask)
   ready_binary BinOp.And a b h k = (h, k)
   ready_binary BinOp.Or a b h k = (h, k)
   ready_binary BinOp.Xor a b h k = (h, k)
@@ -172,22 +170,20 @@ module _ (ns : List Node) (p : Parts) (i m width mask : ℕ) (e : i ≤ m) where
   ready_binary BinOp.Shl a b h k = (h, k)
   ready_binary BinOp.Shr a b h k = (h, k)
 
-  pub ready_kind : (k : ℕ) (o : Kind) → KindOk ns i k o → CellOk ns p k o → IsReady m (length p.regs) (kind_op ns width mask o)
-  ready_kind k (Const n) h l = tt
-  ready_kind k Ext h l = tt
-  ready_kind k (Sample s) h l = tt
-  ready_kind k (Reg r) h l = l.0
-  ready_kind k (FileWord f a) h l = tt
-  ready_kind k (Not a) h l = omega (arith, h.0)
-  ready_kind k (Binary op a b) h l = ready_binary op a b (omega (arith, h.0)) (omega (arith, h.1))
-  ready_kind k (Mux test a b) h l = (omega (arith, h.0), omega (arith, h.1), omega (arith, h.2))
-  ready_kind k (Concat parts) h l = ready_parts parts h.2
-  ready_kind k (Slice a hi lo) h l = omega (arith, h.0)
+  pub ready_kind : (k : ℕ) (o : Kind) → KindOk ns i k o → IsReady m (kind_op ns width mask o)
+  ready_kind k (Const n) h = tt
+  ready_kind k Ext h = tt
+  ready_kind k (Sample s) h = tt
+  ready_kind k (Reg r) h = tt
+  ready_kind k (FileWord f a) h = tt
+  ready_kind k (Not a) h = omega (arith, h.0)
+  ready_kind k (Binary op a b) h = ready_binary op a b (omega (arith, h.0)) (omega (arith, h.1))
+  ready_kind k (Mux test a b) h = (omega (arith, h.0), omega (arith, h.1), omega (arith, h.2))
+  ready_kind k (Concat parts) h = ready_parts parts h.2
+  ready_kind k (Slice a hi lo) h = omega (arith, h.0)
 
 -- the operation of node i of a netlist is ready
-pub ready : (net : Net) (m : Stored) (i : ℕ) → Fits net m → i < length net.nodes → IsReady (length m.nodes) (length m.regs) (op_for net.nodes (get_or net.nodes i no_node))
-ready net m i h l =
+pub ready : (net : Net) (m i : ℕ) → NetOk net → m ≡ length net.nodes → i < length net.nodes → IsReady m (op_for net.nodes (get_or net.nodes i no_node))
+ready net m i ok e l =
     let n : Node = get_or net.nodes i no_node in
-    let P : ℕ → Type 0 = λ r. IsReady (length m.nodes) r (op_for net.nodes n) in
-    subst P (sym h.regs)
-    (ready_kind net.nodes net.parts i (length m.nodes) n.width (2 ^ n.width - 1) (omega (arith, l, h.nodes)) n.width n.kind (h.right.right i l).kind (h.right.parts.cells i l))
+    ready_kind net.nodes i m n.width (2 ^ n.width - 1) (omega (arith, l, e)) n.width n.kind (ok.right i l).kind

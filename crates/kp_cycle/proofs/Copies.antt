@@ -122,30 +122,27 @@ held_stays r new g fs w slot inside same keeps =
     ap (span_words new) is ∙ keeps (moved w slot.span (get_or fs k no_span)) (moved_inside w slot.span (get_or fs k no_span) (inside (suc k) (omega arith)) same) ∙ ap (span_words r) (sym is)) in
     λ i. cond slot.is_saved (Some (record { regs = regs i; files = files i })) None
 
-module _ (r : Words) (n g : Span) (fs : List Span) (w : Span) (slots : List Slot) (h : Laid r n g fs w slots) where
+module _ (r : Words) (g : Span) (fs : List Span) (w : Span) (slots : List Slot) (h : Laid r g fs w slots) where
   -- slot k
   module _ (k : ℕ) (there : k < length slots) where
     in_spans : get_or (map (λ (s : Slot). s.span) slots) k no_span ≡ (get_or slots k no_slot).span
     in_spans = get_or-map (λ (s : Slot). s.span) slots k no_slot no_span there
 
-    many : suc (suc k) < length (n ∷ w ∷ map (λ (s : Slot). s.span) slots)
+    many : suc k < length (w ∷ map (λ (s : Slot). s.span) slots)
     many = omega (arith, length-map slots (λ (s : Slot). s.span))
 
     pub slot_within : IsWithin (get_or slots k no_slot).span r
-    slot_within = let P : Span → Type 0 = λ s. IsWithin s r in subst P in_spans (h.beside.within (suc (suc k)) many)
-
-    beside_nodes : IsDisjoint (get_or slots k no_slot).span n
-    beside_nodes = let P : Span → Type 0 = λ s. IsDisjoint s n in subst P in_spans (other_way n (get_or (map (λ (x : Slot). x.span) slots) k no_span) (h.beside.apart 0 (suc (suc k)) (omega arith) many))
+    slot_within = let P : Span → Type 0 = λ s. IsWithin s r in subst P in_spans (h.beside.within (suc k) many)
 
     pub beside_whole : IsDisjoint (get_or slots k no_slot).span w
-    beside_whole = let P : Span → Type 0 = λ s. IsDisjoint s w in subst P in_spans (other_way w (get_or (map (λ (x : Slot). x.span) slots) k no_span) (h.beside.apart 1 (suc (suc k)) (omega arith) many))
+    beside_whole = let P : Span → Type 0 = λ s. IsDisjoint s w in subst P in_spans (other_way w (get_or (map (λ (x : Slot). x.span) slots) k no_span) (h.beside.apart 0 (suc k) (omega arith) many))
 
   slots_beside : (j k : ℕ) → j < length slots → k < length slots → j ≢ k → IsDisjoint (get_or slots j no_slot).span (get_or slots k no_slot).span
   slots_beside j k lj lk apart =
       let P : Span → Span → Type 0 = λ s t. IsDisjoint s t in
       let both : (a b : ℕ) → a < b → a < length slots → b < length slots → IsDisjoint (get_or slots a no_slot).span (get_or slots b no_slot).span =
       λ a b l la lb. subst (λ (s : Span). P s (get_or slots b no_slot).span) (in_spans a la)
-      (subst (λ (s : Span). P (get_or (map (λ (x : Slot). x.span) slots) a no_span) s) (in_spans b lb) (h.beside.apart (suc (suc a)) (suc (suc b)) (omega arith) (many b lb))) in
+      (subst (λ (s : Span). P (get_or (map (λ (x : Slot). x.span) slots) a no_span) s) (in_spans b lb) (h.beside.apart (suc a) (suc b) (omega arith) (many b lb))) in
       ⊎_elim (λ (x : j < k). both j k x lj lk)
       (λ (x : k ≤ j). other_way (get_or slots k no_slot).span (get_or slots j no_slot).span (both k j (let y : k < j = omega arith in y) lk lj))
       (cases_lt j k)
@@ -162,20 +159,17 @@ module _ (r : Words) (n g : Span) (fs : List Span) (w : Span) (slots : List Slot
   slots_stay : (new : Words) → ((k : ℕ) → k < length slots → Keeps r new (get_or slots k no_slot).span) → map (held new g fs w) slots ≡ map (held r g fs w) slots
   slots_stay new keeps = map_alike (held new g fs w) (held r g fs w) slots no_slot (λ k l. held_stays r new g fs w (get_or slots k no_slot) h.inside (h.sizes k l) (keeps k l))
 
-  laid_still : (new : Words) → new.used ≡ r.used → length new.words ≡ length r.words → Laid new n g fs w slots
+  laid_still : (new : Words) → new.used ≡ r.used → length new.words ≡ length r.words → Laid new g fs w slots
   laid_still new used many = record {
-    apart = apart_still r new (n ∷ g ∷ fs) h.apart used many;
+    apart = apart_still r new (g ∷ fs) h.apart used many;
     inside = h.inside;
-    beside = apart_still r new (n ∷ w ∷ map (λ s. s.span) slots) h.beside used many;
+    beside = apart_still r new (w ∷ map (λ s. s.span) slots) h.beside used many;
     sizes = h.sizes;
   }
 
-  -- a write to a node, a register or a file
-  pub laid_written : (s : Span) (i v : ℕ) → Laid (written r s i v) n g fs w slots
+  -- a write to a register or a file
+  pub laid_written : (s : Span) (i v : ℕ) → Laid (written r s i v) g fs w slots
   laid_written s i v = laid_still (written r s i v) refl (length-set r.words (s.start + i) v)
-
-  pub node_written : (i v : ℕ) → i < n.len → map (held (written r n i v) g fs w) slots ≡ map (held r g fs w) slots
-  node_written i v l = slots_stay (written r n i v) (λ k there. written_keeps r (get_or slots k no_slot).span n i v (beside_nodes k there) l)
 
   pub part_written : (k i v : ℕ) → k < length (g ∷ fs) → i < (get_or (g ∷ fs) k no_span).len
       → map (held (written r (get_or (g ∷ fs) k no_span) i v) g fs w) slots ≡ map (held r g fs w) slots
@@ -196,7 +190,7 @@ module _ (r : Words) (n g : Span) (fs : List Span) (w : Span) (slots : List Slot
     marked = set slots j (record target { is_saved = true })
 
     whole_within : IsWithin w r
-    whole_within = h.beside.within 1 (omega arith)
+    whole_within = h.beside.within 0 (omega arith)
 
     same_size : w.len ≡ target.span.len
     same_size = sym (h.sizes j there)
@@ -210,22 +204,19 @@ module _ (r : Words) (n g : Span) (fs : List Span) (w : Span) (slots : List Slot
     many_saved : length saved.words ≡ length r.words
     many_saved = length_copied r w target.span h.apart.sound whole_within (slot_within j there) same_size
 
-    still : Laid saved n g fs w slots
+    still : Laid saved g fs w slots
     still = laid_still saved refl many_saved
 
-    pub laid_saved : Laid saved n g fs w marked
+    pub laid_saved : Laid saved g fs w marked
     laid_saved = record {
       apart = still.apart;
       inside = still.inside;
-      beside = (let P : List Span → Type 0 = λ ss. Apart saved (n ∷ w ∷ ss) in subst P (sym same_spans) still.beside);
+      beside = (let P : List Span → Type 0 = λ ss. Apart saved (w ∷ ss) in subst P (sym same_spans) still.beside);
       sizes = λ k l. let l' : k < length slots = omega (arith, l, length-set slots j (record target { is_saved = true })) in
           let len : Slot → ℕ = λ s. s.span.len in
           sym (get_or-map len marked k no_slot 0 l) ∙ ap (λ (ns : List ℕ). get_or ns k 0) (map-set_same len slots j (record target { is_saved = true }) no_slot refl)
           ∙ get_or-map len slots k no_slot 0 l' ∙ h.sizes k l';
     }
-
-    pub nodes_saved : span_words saved n ≡ span_words r n
-    nodes_saved = saved_keeps n (other_way target.span n (beside_nodes j there)) n (omega arith, omega arith)
 
     part_saved : (k : ℕ) → k < length (g ∷ fs) → span_words saved (get_or (g ∷ fs) k no_span) ≡ span_words r (get_or (g ∷ fs) k no_span)
     part_saved k l = saved_keeps w (other_way target.span w (beside_whole j there)) (get_or (g ∷ fs) k no_span) (h.inside k l)
@@ -282,11 +273,8 @@ module _ (r : Words) (n g : Span) (fs : List Span) (w : Span) (slots : List Slot
     loaded_keeps : (t : Span) → IsDisjoint t w → Keeps r loaded t
     loaded_keeps = copied_keeps r target.span w h.apart.sound (slot_within j there) whole_within (h.sizes j there)
 
-    pub laid_loaded : Laid loaded n g fs w slots
+    pub laid_loaded : Laid loaded g fs w slots
     laid_loaded = laid_still loaded refl (length_copied r target.span w h.apart.sound (slot_within j there) whole_within (h.sizes j there))
-
-    pub nodes_loaded : span_words loaded n ≡ span_words r n
-    nodes_loaded = loaded_keeps n (h.beside.apart 0 1 (omega arith) (omega arith)) n (omega arith, omega arith)
 
     pub slots_loaded : map (held loaded g fs w) slots ≡ map (held r g fs w) slots
     slots_loaded = slots_stay loaded (λ k l. loaded_keeps (get_or slots k no_slot).span (beside_whole k l))
@@ -311,122 +299,27 @@ module _ (r : Words) (n g : Span) (fs : List Span) (w : Span) (slots : List Slot
         ∙ ap (λ (b : Bool). cond b (Some (state_in r (moved w target.span g) (map (moved w target.span) fs))) None) on
         ∙ ap (λ (st : State). Some st) (sym state_loaded)
 
--- a word of a span
-word_at : (r : Words) (s : Span) (i : ℕ) → i < s.len → get_or (span_words r s) i 0 ≡ get_or r.words (s.start + i) 0
-word_at r s i l = get_or-between r.words s.start (s.start + s.len) i 0 (omega arith)
-
--- the first registers copied to the first nodes
-module _ (r : Words) (n g : Span) (fs : List Span) (w : Span) (slots : List Slot) (h : Laid r n g fs w slots) (count : ℕ) (few_nodes : count ≤ n.len) (few_regs : count ≤ g.len) where
-  abbrev source : Span
-  source = record { start = g.start; len = count }
-
-  abbrev place : Span
-  place = record { start = n.start; len = count }
-
-  abbrev shown : Words
-  shown = copied r source place
-
-  place_inside : IsInside place n
-  place_inside = (omega arith, omega arith)
-
-  regs_beside : IsDisjoint g n
-  regs_beside = other_way n g (h.apart.apart 0 1 (omega arith) (omega arith))
-
-  pub source_within : IsWithin source r
-  source_within = let x = h.apart.within 1 (omega arith) in omega (arith, x)
-
-  pub place_within : IsWithin place r
-  place_within = let x = h.apart.within 0 (omega arith) in omega (arith, x)
-
-  beside_place : (t : Span) → IsDisjoint t n → IsDisjoint t place
-  beside_place t apart = other_way place t (within_disjoint place n t place_inside (other_way t n apart))
-
-  pub source_beside : IsDisjoint source place
-  source_beside = beside_place source (within_disjoint source g n (omega arith, omega arith) regs_beside)
-
-  shown_keeps : (t : Span) → IsDisjoint t place → Keeps r shown t
-  shown_keeps = copied_keeps r source place h.apart.sound source_within place_within refl
-
-  pub laid_shown : Laid shown n g fs w slots
-  laid_shown = laid_still r n g fs w slots h shown refl (length_copied r source place h.apart.sound source_within place_within refl)
-
-  pub regs_shown : span_words shown g ≡ span_words r g
-  regs_shown = shown_keeps g (beside_place g regs_beside) g (omega arith, omega arith)
-
-  pub files_shown : map (span_words shown) fs ≡ map (span_words r) fs
-  files_shown = map_alike (span_words shown) (span_words r) fs no_span
-      (λ k l. let s : Span = get_or fs k no_span in
-      let apart : IsDisjoint n s = h.apart.apart 0 (suc (suc k)) (omega arith) (omega arith) in
-      shown_keeps s (beside_place s (other_way n s apart)) s (omega arith, omega arith))
-
-  pub slots_shown : map (held shown g fs w) slots ≡ map (held r g fs w) slots
-  slots_shown = slots_stay r n g fs w slots h shown (λ k there. shown_keeps (get_or slots k no_slot).span (beside_place (get_or slots k no_slot).span (beside_nodes r n g fs w slots h k there)))
-
-  pub count_shown : length (span_words shown n) ≡ length (span_words r n)
-  count_shown =
-      span_length shown n laid_shown.apart.sound (laid_shown.apart.within 0 (omega arith)) ∙ sym (span_length r n h.apart.sound (h.apart.within 0 (omega arith)))
-
-  place_shown : span_words shown place ≡ span_words r source
-  place_shown =
-      let e : n.start ≡ n.start + (g.start - g.start) = omega arith in
-      ap (λ (a : ℕ). span_words shown (record { start = a; len = count })) e
-      ∙ copied_lands r source place h.apart.sound source_within place_within refl source (omega arith, omega arith)
-
-  pub front_shown : (i : ℕ) → i < count → get_or (span_words shown n) i 0 ≡ get_or (span_words r g) i 0
-  front_shown i l =
-      word_at shown n i (omega arith)
-      ∙ sym (word_at shown place i l)
-      ∙ ap (λ (ws : List ℕ). get_or ws i 0) place_shown
-      ∙ word_at r source i l
-      ∙ sym (word_at r g i (omega arith))
-
-  pub rest_shown : (i : ℕ) → count ≤ i → get_or (span_words shown n) i 0 ≡ get_or (span_words r n) i 0
-  rest_shown i m =
-      let u : Span = record { start = n.start + i; len = 1 } in
-      let e : n.start + i ≡ n.start + i + 0 = omega arith in
-      ⊎_elim
-      (λ (l : i < n.len).
-      word_at shown n i l
-      ∙ ap (λ (k : ℕ). get_or shown.words k 0) e
-      ∙ sym (word_at shown u 0 (omega arith))
-      ∙ ap (λ (ws : List ℕ). get_or ws 0 0) (shown_keeps u (inr (omega arith)) u (omega arith, omega arith))
-      ∙ word_at r u 0 (omega arith)
-      ∙ ap (λ (k : ℕ). get_or r.words k 0) (sym e)
-      ∙ sym (word_at r n i l))
-      (λ (l : n.len ≤ i).
-      let there : length (span_words r n) ≡ n.len = span_length r n h.apart.sound (h.apart.within 0 (omega arith)) in
-      get_or_past (span_words shown n) i 0 (omega (arith, count_shown, there)) ∙ sym (get_or_past (span_words r n) i 0 (omega (arith, there))))
-      (cases_lt i n.len)
-
--- two spans side by side
-within_two : (r : Words) (n w : Span) → IsWithin n r → IsWithin w r → (k : ℕ) → k < 2 → IsWithin (get_or (n ∷ w ∷ []) k no_span) r
-within_two r n w a b zero l = a
-within_two r n w a b (suc zero) l = b
-within_two r n w a b (suc (suc k)) l = absurd (omega arith)
-
-apart_two : (n w : Span) → n.start + n.len ≤ w.start → (j k : ℕ) → j < k → k < 2 → IsDisjoint (get_or (n ∷ w ∷ []) j no_span) (get_or (n ∷ w ∷ []) k no_span)
-apart_two n w a zero zero h l = absurd (omega arith)
-apart_two n w a zero (suc zero) h l = inl a
-apart_two n w a (suc j) (suc zero) h l = absurd (omega arith)
-apart_two n w a (suc j) zero h l = absurd (omega arith)
-apart_two n w a j (suc (suc k)) h l = absurd (omega arith)
+-- one span
+within_one : (r : Words) (w : Span) → IsWithin w r → (k : ℕ) → k < 1 → IsWithin (get_or (w ∷ []) k no_span) r
+within_one r w a zero l = a
+within_one r w a (suc k) l = absurd (omega arith)
 
 -- spans that were carved one after another, followed by slots
-pub laid_out : (r new : Words) (n g : Span) (fs : List Span) (w : Span) (slots : List Slot) (count : ℕ) → Apart r (n ∷ g ∷ fs)
-    → ((k : ℕ) → k < length (g ∷ fs) → g.start ≤ (get_or (g ∷ fs) k no_span).start) → w.start ≡ g.start → r.used ≡ w.start + w.len → n.start + n.len ≤ g.start
+pub laid_out : (r new : Words) (g : Span) (fs : List Span) (w : Span) (slots : List Slot) (count : ℕ) → Apart r (g ∷ fs)
+    → ((k : ℕ) → k < length (g ∷ fs) → g.start ≤ (get_or (g ∷ fs) k no_span).start) → w.start ≡ g.start → r.used ≡ w.start + w.len
     → ((spans : List Span) → Apart r spans → Apart new (spans ++ map (λ s. s.span) slots)) → r.used ≤ new.used → length slots ≡ count
-    → ((k : ℕ) → k < count → (get_or slots k no_slot).span.len ≡ w.len) → Laid new n g fs w slots
-laid_out r new n g fs w slots count h starts begin end before later grown many sizes =
-    let two : Apart r (n ∷ w ∷ []) = record {
+    → ((k : ℕ) → k < count → (get_or slots k no_slot).span.len ≡ w.len) → Laid new g fs w slots
+laid_out r new g fs w slots count h starts begin end later grown many sizes =
+    let one : Apart r (w ∷ []) = record {
       sound = h.sound;
       few = h.few;
-      within = within_two r n w (h.within 0 (omega arith)) (omega arith);
-      apart = apart_two n w (omega arith);
+      within = within_one r w (omega arith);
+      apart = λ j k x l. absurd (omega arith);
     } in
-    let all : Apart new (n ∷ w ∷ map (λ s. s.span) slots) = later (n ∷ w ∷ []) two in
+    let all : Apart new (w ∷ map (λ s. s.span) slots) = later (w ∷ []) one in
     record {
-      apart = apart_grown r new (n ∷ g ∷ fs) (n ∷ w ∷ map (λ s. s.span) slots) h all grown;
-      inside = λ k l. let first = starts k l in let past = h.within (suc k) (omega arith) in (omega (arith, first, begin), omega (arith, past, end));
+      apart = apart_grown r new (g ∷ fs) (w ∷ map (λ s. s.span) slots) h all grown;
+      inside = λ k l. let first = starts k l in let past = h.within k (omega arith) in (omega (arith, first, begin), omega (arith, past, end));
       beside = all;
       sizes = λ k l. sizes k (omega (arith, many));
     }

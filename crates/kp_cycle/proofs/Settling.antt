@@ -1,6 +1,8 @@
 -- Nodes are evaluated in order.
-use Rattle.std.proofs.Common.{◌≡◌, ℕ, ◌<◌, List, [], length, get_or, set, refl, sym, subst, ap, ◌∙◌, arith, false}
-use Rattle.std.proofs.lemmas.List.{length-set}
+use Rattle.std.proofs.Common.{◌≡◌, ℕ, ◌+◌, ◌-◌, ◌<◌, ◌≤◌, ◌++◌, List, [], length, get_or, set, take, drop, refl, sym, subst, ap, ◌∙◌, arith, false}
+use Rattle.std.proofs.lemmas.List.{length-set, length-append, length-take-le, length-drop, get_or_append_left, get_or-take, get_or-drop, take_at}
+use Rattle.std.specs.List.{refill}
+use Rattle.std.proofs.Math.Seq.{get_or-append_right}
 use Rattle.kp_bits.specs.Word as bits
 use Rattle.kp_net.specs.declared.node.Kind.{Kind}
 use Rattle.kp_net.specs.declared.node.Node.{Node}
@@ -41,3 +43,23 @@ fits_as net m new h nodes regs files = record {
   files = ap (λ (xs : List (List ℕ)). length xs) files ∙ h.files;
   words = λ f l. ap (λ (xs : List (List ℕ)). length (get_or xs f [])) files ∙ h.words f l;
 }
+
+-- the first numbers of one list over those of another
+module _ (xs ys : List ℕ) (count : ℕ) (few : count ≤ length xs) where
+  front_many : length (take count xs) ≡ count
+  front_many = length-take-le count xs few
+
+  pub over_length : count ≤ length ys → length (take count xs ++ drop count ys) ≡ length ys
+  over_length l = omega (arith, l, front_many, length-append (take count xs) (drop count ys), length-drop count ys)
+
+  pub over_front : (i : ℕ) → i < count → get_or (take count xs ++ drop count ys) i 0 ≡ get_or xs i 0
+  over_front i l = get_or_append_left (take count xs) (drop count ys) 0 i (omega (arith, front_many)) ∙ get_or-take count xs i 0 l
+
+  pub over_rest : (i : ℕ) → count ≤ i → get_or (take count xs ++ drop count ys) i 0 ≡ get_or ys i 0
+  over_rest i l =
+      let e : count + (i - length (take count xs)) ≡ i = omega (arith, front_many) in
+      get_or-append_right (take count xs) (drop count ys) i 0 (omega (arith, front_many)) ∙ get_or-drop count ys (i - length (take count xs)) 0 ∙ ap (λ (k : ℕ). get_or ys k 0) e
+
+-- a list filled up with as many numbers is these
+pub refilled : (xs ws : List ℕ) → length ws ≡ length xs → refill (length xs) xs ws ≡ ws
+refilled xs ws e = take_at ws (drop (length ws) xs) (length xs) e

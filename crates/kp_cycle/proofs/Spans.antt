@@ -92,54 +92,54 @@ length_carved r n h =
     omega (arith, length-append (take r.used r.words) (zeros ++ rest), length-append zeros rest, length-replicate n zero, length-take-le r.used r.words (omega (arith, h)), length-drop (r.used + length zeros) r.words)
 
 -- a memory, as what its spans hold
-abbrev pub stored : List (Option State) → List (List ℕ) → Stored
-stored slots l = record { nodes = get_or l 0 []; regs = get_or l 1 []; files = drop 2 l; slots = slots }
+abbrev pub stored : List ℕ → List (Option State) → List (List ℕ) → Stored
+stored values slots l = record { nodes = values; regs = get_or l 0 []; files = drop 1 l; slots = slots }
 
-abbrev pub stored_in : Span → Span → List Span → List (Option State) → Words → Stored
-stored_in n g fs slots r = record { nodes = span_words r n; regs = span_words r g; files = map (span_words r) fs; slots = slots }
+abbrev pub stored_in : List ℕ → Span → List Span → List (Option State) → Words → Stored
+stored_in values g fs slots r = record { nodes = values; regs = span_words r g; files = map (span_words r) fs; slots = slots }
 
 -- the span of a file
 pub file_is : (r : Words) (fs : List Span) (file : ℕ) → file < length fs → get_or (map (span_words r) fs) file [] ≡ span_words r (get_or fs file no_span)
 file_is r fs file h = get_or-map (span_words r) fs file no_span [] h
 
 -- an address of a file is one in its span
-pub address_in : (r : Words) (n g : Span) (fs : List Span) (file address : ℕ) → Apart r (n ∷ g ∷ fs) → file < length fs → address < length (get_or (map (span_words r) fs) file []) → address < (get_or fs file no_span).len
-address_in r n g fs file address h l m = omega (arith, m, ap length (file_is r fs file l), span_length r (get_or fs file no_span) h.sound (h.within (suc (suc file)) (omega arith)))
+pub address_in : (r : Words) (g : Span) (fs : List Span) (file address : ℕ) → Apart r (g ∷ fs) → file < length fs → address < length (get_or (map (span_words r) fs) file []) → address < (get_or fs file no_span).len
+address_in r g fs file address h l m = omega (arith, m, ap length (file_is r fs file l), span_length r (get_or fs file no_span) h.sound (h.within (suc file) (omega arith)))
 
 -- spans of the right lengths fit the netlist
-pub fits_laid : (net : Net) (r : Words) (n g : Span) (fs : List Span) (slots : List (Option State)) → NetOk net → Apart r (n ∷ g ∷ fs) → n.len ≡ length net.nodes → g.len ≡ length net.parts.regs
-    → map (λ (s : Span). s.len) fs ≡ map (λ (f : NetFile). length f.words) net.parts.files → Fits net (stored_in n g fs slots r)
-fits_laid net r n g fs slots ok h a b e =
+pub fits_laid : (net : Net) (values : List ℕ) (r : Words) (g : Span) (fs : List Span) (slots : List (Option State)) → NetOk net → length values ≡ length net.nodes → Apart r (g ∷ fs) → g.len ≡ length net.parts.regs
+    → map (λ (s : Span). s.len) fs ≡ map (λ (f : NetFile). length f.words) net.parts.files → Fits net (stored_in values g fs slots r)
+fits_laid net values r g fs slots ok a h b e =
     let len : Span → ℕ = λ s. s.len in
     let size : NetFile → ℕ = λ f. length f.words in
     let same : length fs ≡ length net.parts.files = sym (length_map len fs) ∙ ap length e ∙ length_map size net.parts.files in
     record {
       right = ok;
-      nodes = span_length r n h.sound (h.within 0 (omega arith)) ∙ a;
-      regs = span_length r g h.sound (h.within 1 (omega arith)) ∙ b;
+      nodes = a;
+      regs = span_length r g h.sound (h.within 0 (omega arith)) ∙ b;
       files = length_map (span_words r) fs ∙ same;
       words = λ f l. let l' : f < length fs = omega (arith, same) in
           let file : FileOk net.nodes (get_or net.parts.files f no_file) = All-get_or (FileOk net.nodes) net.parts.files f no_file l ok.parts.files in
-          ap length (file_is r fs f l') ∙ span_length r (get_or fs f no_span) h.sound (h.within (suc (suc f)) (omega arith))
+          ap length (file_is r fs f l') ∙ span_length r (get_or fs f no_span) h.sound (h.within (suc f) (omega arith))
           ∙ sym (get_or-map len fs f no_span 0 l') ∙ ap (λ (xs : List ℕ). get_or xs f 0) e ∙ get_or-map size net.parts.files f no_file 0 l ∙ file.full;
     }
 
 -- the span that a memory has of a file holds each address of it
-pub file_span : (r : Words) (n g : Span) (fs : List Span) (slots : List (Option State)) (m : Stored) (file address : ℕ) (s : Span) → Apart r (n ∷ g ∷ fs) → stored_in n g fs slots r ≡ m → file < length m.files → address < length (get_or m.files file []) → s ≡ get_or fs file s
+pub file_span : (values : List ℕ) (r : Words) (g : Span) (fs : List Span) (slots : List (Option State)) (m : Stored) (file address : ℕ) (s : Span) → Apart r (g ∷ fs) → stored_in values g fs slots r ≡ m → file < length m.files → address < length (get_or m.files file []) → s ≡ get_or fs file s
     → IsWithin s r × (address < s.len) × (s ≡ get_or fs file no_span) × (file < length fs)
-file_span r n g fs slots m file address s h v l a e =
+file_span values r g fs slots m file address s h v l a e =
     let l' : file < length fs = omega (arith, l, ap (λ (x : Stored). length x.files) v, length_map (span_words r) fs) in
     let i : s ≡ get_or fs file no_span = e ∙ get_or_default fs file s no_span l' in
     let a' : address < length (get_or (map (span_words r) fs) file []) = omega (arith, a, ap (λ (x : Stored). length (get_or x.files file [])) v) in
     let P : Span → Type 0 = λ x. IsWithin x r in
-    (subst P (sym i) (h.within (suc (suc file)) (omega arith)), omega (arith, address_in r n g fs file address h l' a', ap (λ (x : Span). x.len) i), i, l')
+    (subst P (sym i) (h.within (suc file) (omega arith)), omega (arith, address_in r g fs file address h l' a', ap (λ (x : Span). x.len) i), i, l')
 
 -- a write into the span of a file is a write into the file
-pub write_file : (r : Words) (n g : Span) (fs : List Span) (slots : List (Option State)) (file address v : ℕ) → Apart r (n ∷ g ∷ fs) → file < length fs → address < (get_or fs file no_span).len
-    → stored_in n g fs slots (written r (get_or fs file no_span) address v) ≡ record (stored_in n g fs slots r) { files = set (map (span_words r) fs) file (set (get_or (map (span_words r) fs) file []) address v) }
-write_file r n g fs slots file address v h l m =
-    ap (stored slots) (write_one r (n ∷ g ∷ fs) (suc (suc file)) address v h (omega arith) m)
-    ∙ ap (λ (ws : List ℕ). record (stored_in n g fs slots r) { files = set (map (span_words r) fs) file (set ws address v) }) (sym (file_is r fs file l))
+pub write_file : (values : List ℕ) (r : Words) (g : Span) (fs : List Span) (slots : List (Option State)) (file address v : ℕ) → Apart r (g ∷ fs) → file < length fs → address < (get_or fs file no_span).len
+    → stored_in values g fs slots (written r (get_or fs file no_span) address v) ≡ record (stored_in values g fs slots r) { files = set (map (span_words r) fs) file (set (get_or (map (span_words r) fs) file []) address v) }
+write_file values r g fs slots file address v h l m =
+    ap (stored values slots) (write_one r (g ∷ fs) (suc file) address v h (omega arith) m)
+    ∙ ap (λ (ws : List ℕ). record (stored_in values g fs slots r) { files = set (map (span_words r) fs) file (set ws address v) }) (sym (file_is r fs file l))
 
 -- the spans of files have their lengths, one by one
 pub lens_more : (files : List NetFile) (spans : List Span) (i : ℕ) (s : Span) (x : NetFile) → i < length files → s.len ≡ length x.words → x ≡ get_or files i x

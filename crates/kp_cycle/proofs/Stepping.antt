@@ -16,7 +16,7 @@ use Rattle.kp_net.specs.Nodes.{Cells, Words, word_of_kind, word_of_node, word_at
 use Rattle.kp_net.specs.Widths.{wide, no_node, AllRight}
 use Rattle.kp_net.specs.declared.netlist.WritePort.{WritePort}
 use Rattle.kp_net.specs.Netlist.{Net, Input}
-use Rattle.kp_net.specs.Parts.{CellOk, no_reg, no_file}
+use Rattle.kp_net.specs.Parts.{CellOk, NetOk, no_reg, no_file}
 use Rattle.kp_net.proofs.Values.{word_there, word_is, at_fits}
 use Rattle.kp_cycle.specs.declared.codes.Op.{Op}
 use Rattle.kp_cycle.specs.declared.codes.Op.TheVariants.{Plain}
@@ -85,24 +85,24 @@ module _ (net : Net) (heads : ℕ) (steps : List Step) (k : ℕ) (plan : IsPlan 
   pub target_inside : (get_or steps k no_step).target < length net.nodes
   target_inside = omega (arith, target_is, plan.ordered.inside k (omega (arith, h, length_targets)))
 
-  pub step_ready : (m : Stored) → Fits net m → IsReady (length m.nodes) (length m.regs) (get_or steps k no_step).op
-  step_ready m fits =
-      let P : Op → Type 0 = IsReady (length m.nodes) (length m.regs) in
+  pub step_ready : (m : ℕ) → NetOk net → m ≡ length net.nodes → IsReady m (get_or steps k no_step).op
+  step_ready m ok e =
+      let P : Op → Type 0 = IsReady m in
       ⊎_elim
       (λ (own : (get_or steps k no_step).op ≡ op_for net.nodes (get_or net.nodes (get_or steps k no_step).target no_node)).
-      subst P (sym own) (ready net m (get_or steps k no_step).target fits target_inside))
+      subst P (sym own) (ready net m (get_or steps k no_step).target ok e target_inside))
       (λ (none : (get_or steps k no_step).op ≡ Plain). subst P (sym none) tt)
       (plan.codes k h)
 
   -- a step with a number of its own isn't the last one
-  pub step_inside : (c : Cells) (v : List ℕ) (x : ℕ) → ((plain : ℕ) → x ≡ number_of c v plain (get_or steps k no_step).op) → k + 1 < length steps
-  step_inside c v x is =
+  pub step_inside : (v : List ℕ) (x : ℕ) → ((plain : ℕ) → x ≡ number_of v plain (get_or steps k no_step).op) → k + 1 < length steps
+  step_inside v x is =
       ⊎_elim
       (λ (low : k + 1 < length steps). low)
       (λ (high : length steps ≤ k + 1).
       let last : (get_or steps k no_step).op ≡ Plain = plan.last k (omega (arith, h, high)) in
-      let at_0 : x ≡ 0 = is 0 ∙ ap (number_of c v 0) last in
-      let at_1 : x ≡ 1 = is 1 ∙ ap (number_of c v 1) last in
+      let at_0 : x ≡ 0 = is 0 ∙ ap (number_of v 0) last in
+      let at_1 : x ≡ 1 = is 1 ∙ ap (number_of v 1) last in
       absurd (omega (arith, at_0, at_1)))
       (cases_lt (k + 1) (length steps))
 
@@ -121,35 +121,35 @@ module _ (net : Net) (heads : ℕ) (steps : List Step) (k : ℕ) (plan : IsPlan 
       (plan.ordered.before k (omega (arith, h, length_targets)) i d l))
 
   -- what the node of its target says is its value, and so is the number of its operation
-  pub step_word : (input : Input) (m : Stored) → Fits net m → Settled net input heads steps k m
+  pub step_word : (input : Input) (m : Stored) → NetOk net → Settled net input heads steps k m
       → (word_of_node (cells input m) (seen net.nodes m.nodes) (get_or net.nodes (get_or steps k no_step).target no_node)).value ≡ at (cells input m) net.nodes (get_or steps k no_step).target
-  step_word input m fits settled =
-      step_value (cells input m) net.nodes m.nodes (get_or steps k no_step).target fits.right.right target_inside (have_values (cells input m) m.nodes settled.leads settled.known)
+  step_word input m ok settled =
+      step_value (cells input m) net.nodes m.nodes (get_or steps k no_step).target ok.right target_inside (have_values (cells input m) m.nodes settled.leads settled.known)
 
-  pub step_number : (input : Input) (m : Stored) (x : ℕ) → Fits net m → Settled net input heads steps k m
-      → ((plain : ℕ) → x ≡ number_of (cells input m) m.nodes plain (get_or steps k no_step).op) → x ≡ at (cells input m) net.nodes (get_or steps k no_step).target
-  step_number input m x fits settled is =
+  pub step_number : (input : Input) (m : Stored) (x : ℕ) → NetOk net → Settled net input heads steps k m
+      → ((plain : ℕ) → x ≡ number_of m.nodes plain (get_or steps k no_step).op) → x ≡ at (cells input m) net.nodes (get_or steps k no_step).target
+  step_number input m x ok settled is =
       let t : ℕ = (get_or steps k no_step).target in
       let c : Cells = cells input m in
       let plain : ℕ = (word_of_node c (seen net.nodes m.nodes) (get_or net.nodes t no_node)).value in
-      let number : number_of c m.nodes plain (get_or steps k no_step).op ≡ plain =
+      let number : number_of m.nodes plain (get_or steps k no_step).op ≡ plain =
       ⊎_elim
       (λ (own : (get_or steps k no_step).op ≡ op_for net.nodes (get_or net.nodes t no_node)).
-      ap (number_of c m.nodes plain) own ∙ coded c net.nodes m.nodes t fits.right.right target_inside (λ j l. settled.widths j (omega (arith, target_inside))))
-      (λ (none : (get_or steps k no_step).op ≡ Plain). ap (number_of c m.nodes plain) none)
+      ap (number_of m.nodes plain) own ∙ coded c net.nodes m.nodes t ok.right target_inside (λ j l. settled.widths j (omega (arith, target_inside))))
+      (λ (none : (get_or steps k no_step).op ≡ Plain). ap (number_of m.nodes plain) none)
       (plan.codes k h) in
       is plain
       ∙ number
-      ∙ step_word input m fits settled
+      ∙ step_word input m ok settled
 
   -- with this value one more step is taken
-  pub step_more : (input : Input) (m : Stored) (x : ℕ) → Fits net m → Settled net input heads steps k m → x ≡ at (cells input m) net.nodes (get_or steps k no_step).target
+  pub step_more : (input : Input) (m : Stored) (x : ℕ) → length m.nodes ≡ length net.nodes → Settled net input heads steps k m → x ≡ at (cells input m) net.nodes (get_or steps k no_step).target
       → Settled net input heads steps (k + 1) (record m { nodes = set m.nodes (get_or steps k no_step).target x })
-  step_more input m x fits settled value =
+  step_more input m x count settled value =
       let t : ℕ = (get_or steps k no_step).target in
       let c : Cells = cells input m in
       let ns : List Node = net.nodes in
-      let there : t < length m.nodes = omega (arith, target_inside, fits.nodes) in
+      let there : t < length m.nodes = omega (arith, target_inside, count) in
       let new : List ℕ = set m.nodes t x in
       let other : (j : ℕ) → (j ≡ t → ⊥) → get_or new j 0 ≡ get_or m.nodes j 0 = λ j no. get_or-set_other m.nodes t j x 0 no in
       let own : (j : ℕ) → j ≡ t → get_or new j 0 ≡ at c ns j = λ j same. get_or-set_at m.nodes t j x 0 same there ∙ value ∙ ap (at c ns) (sym same) in
@@ -225,6 +225,16 @@ none_settled net input heads steps old m plan fits state widths shown others =
           (cases_lt j heads);
       leads = value;
       known = λ q l. absurd (omega arith);
+    }
+
+-- the values of nodes by another name
+pub settled_as : (net : Net) (input : Input) (heads : ℕ) (steps : List Step) (k : ℕ) (m : Stored) (values : List ℕ) → values ≡ m.nodes → Settled net input heads steps k m → Settled net input heads steps k (record m { nodes = values })
+settled_as net input heads steps k m values e settled =
+    let P : List ℕ → Type 0 = λ v. FitsBelow net.nodes v (length net.nodes) in
+    record {
+      widths = subst P (sym e) settled.widths;
+      leads = λ j l. ap (λ (v : List ℕ). get_or v j 0) e ∙ settled.leads j l;
+      known = λ q l. ap (λ (v : List ℕ). get_or v (get_or (targets steps) q 0) 0) e ∙ settled.known q l;
     }
 
 -- there are as many registers

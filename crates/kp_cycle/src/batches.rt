@@ -1,25 +1,23 @@
 //! Consecutive steps with the same operation, each operation in a loop of its own.
-ghost use Rattle.std.specs.Prelude.{◌≡◌, ◌+◌, ◌<◌, ◌≤◌, ℕ, length, Some};
+ghost use Rattle.std.specs.Prelude.{◌≡◌, ◌<◌, ◌≤◌, ℕ, length, Some};
 ghost use Rattle.kp_net.specs.Netlist.{Input};
+ghost use Rattle.kp_net.specs.Parts.{NetOk};
 ghost use Rattle.kp_cycle.specs.inner.Codes.{number_of, IsReady};
 ghost use Rattle.kp_cycle.specs.inner.Plans.{IsPlan, Settled};
-ghost use Rattle.kp_cycle.specs.inner.Storage.{Fits, cells};
+ghost use Rattle.kp_cycle.specs.inner.Storage.{Stored};
 
 use crate::codes::{Op, Step};
-use crate::memory::Memory;
 use kp_net::Netlist;
 
 // One operation.
 trait Batch {
     // The number that this operation computes, or nothing for any other.
-    fn value(op: &Op, memory: &Memory) -> Option<u64>
-        requires { IsReady (length memory.now.nodes) (length memory.now.regs) op.now }
-        ensures { (input : Input) (plain x : ℕ) → result ≡ Some x → x ≡ number_of (cells input memory.now) memory.now.nodes plain op.now };
+    fn value(op: &Op, nodes: &[u64]) -> Option<u64>
+        requires { IsReady (length nodes.now) op.now }
+        ensures { (plain x : ℕ) → result ≡ Some x → x ≡ number_of nodes.now plain op.now };
 }
 
 struct Number;
-
-struct Reg;
 
 struct Not;
 
@@ -52,90 +50,83 @@ struct Join3;
 struct Slice;
 
 impl Batch for Number {
-    fn value(op: &Op, memory: &Memory) -> Option<u64> {
+    fn value(op: &Op, nodes: &[u64]) -> Option<u64> {
         let Op::Number(number) = op else { return None };
         Some(*number)
     }
 }
 
-impl Batch for Reg {
-    fn value(op: &Op, memory: &Memory) -> Option<u64> {
-        let Op::Reg(reg, mask) = op else { return None };
-        Some(memory.reg(*reg) & *mask)
-    }
-}
-
 impl Batch for Not {
-    fn value(op: &Op, memory: &Memory) -> Option<u64> {
+    fn value(op: &Op, nodes: &[u64]) -> Option<u64> {
         let Op::Not(a, mask) = op else { return None };
-        Some(mask.wrapping_sub(memory.node(a.0)))
+        Some(mask.wrapping_sub(nodes[a.0 as usize]))
     }
 }
 
 impl Batch for And {
-    fn value(op: &Op, memory: &Memory) -> Option<u64> {
+    fn value(op: &Op, nodes: &[u64]) -> Option<u64> {
         let Op::And(a, b) = op else { return None };
-        Some(memory.node(a.0) & memory.node(b.0))
+        Some(nodes[a.0 as usize] & nodes[b.0 as usize])
     }
 }
 
 impl Batch for Or {
-    fn value(op: &Op, memory: &Memory) -> Option<u64> {
+    fn value(op: &Op, nodes: &[u64]) -> Option<u64> {
         let Op::Or(a, b) = op else { return None };
-        Some(memory.node(a.0) | memory.node(b.0))
+        Some(nodes[a.0 as usize] | nodes[b.0 as usize])
     }
 }
 
 impl Batch for Xor {
-    fn value(op: &Op, memory: &Memory) -> Option<u64> {
+    fn value(op: &Op, nodes: &[u64]) -> Option<u64> {
         let Op::Xor(a, b) = op else { return None };
-        Some(memory.node(a.0) ^ memory.node(b.0))
+        Some(nodes[a.0 as usize] ^ nodes[b.0 as usize])
     }
 }
 
 impl Batch for Add {
-    fn value(op: &Op, memory: &Memory) -> Option<u64> {
+    fn value(op: &Op, nodes: &[u64]) -> Option<u64> {
         let Op::Add(a, b, mask) = op else { return None };
-        Some(memory.node(a.0).wrapping_add(memory.node(b.0)) & *mask)
+        Some(nodes[a.0 as usize].wrapping_add(nodes[b.0 as usize]) & *mask)
     }
 }
 
 impl Batch for Sub {
-    fn value(op: &Op, memory: &Memory) -> Option<u64> {
+    fn value(op: &Op, nodes: &[u64]) -> Option<u64> {
         let Op::Sub(a, b, mask) = op else { return None };
-        Some(memory.node(a.0).wrapping_sub(memory.node(b.0)) & *mask)
+        Some(nodes[a.0 as usize].wrapping_sub(nodes[b.0 as usize]) & *mask)
     }
 }
 
 impl Batch for Mul {
-    fn value(op: &Op, memory: &Memory) -> Option<u64> {
+    fn value(op: &Op, nodes: &[u64]) -> Option<u64> {
         let Op::Mul(a, b, mask) = op else { return None };
-        Some(memory.node(a.0).wrapping_mul(memory.node(b.0)) & *mask)
+        Some(nodes[a.0 as usize].wrapping_mul(nodes[b.0 as usize]) & *mask)
     }
 }
 
 impl Batch for Eq {
-    fn value(op: &Op, memory: &Memory) -> Option<u64> {
+    fn value(op: &Op, nodes: &[u64]) -> Option<u64> {
         let Op::Eq(a, b) = op else { return None };
-        Some(u64::from(memory.node(a.0) == memory.node(b.0)))
+        Some(u64::from(nodes[a.0 as usize] == nodes[b.0 as usize]))
     }
 }
 
 impl Batch for Lt {
-    fn value(op: &Op, memory: &Memory) -> Option<u64> {
+    fn value(op: &Op, nodes: &[u64]) -> Option<u64> {
         let Op::Lt(a, b) = op else { return None };
-        Some(u64::from(memory.node(a.0) < memory.node(b.0)))
+        Some(u64::from(nodes[a.0 as usize] < nodes[b.0 as usize]))
     }
 }
 
 impl Batch for Shl {
-    fn value(op: &Op, memory: &Memory) -> Option<u64> {
+    fn value(op: &Op, nodes: &[u64]) -> Option<u64> {
         let Op::Shl(a, b, width, mask) = op else {
             return None
         };
-        let distance = memory.node(b.0);
+        let distance = nodes[b.0 as usize];
         Some(if distance < u64::from(*width) {
-            (memory.node(a.0) << (distance & 63)) & *mask
+            (nodes[a.0 as usize] << (distance & 63)) & *mask
         } else {
             0
         })
@@ -143,13 +134,13 @@ impl Batch for Shl {
 }
 
 impl Batch for Shr {
-    fn value(op: &Op, memory: &Memory) -> Option<u64> {
+    fn value(op: &Op, nodes: &[u64]) -> Option<u64> {
         let Op::Shr(a, b, width) = op else {
             return None
         };
-        let distance = memory.node(b.0);
+        let distance = nodes[b.0 as usize];
         Some(if distance < u64::from(*width) {
-            memory.node(a.0) >> (distance & 63)
+            nodes[a.0 as usize] >> (distance & 63)
         } else {
             0
         })
@@ -157,44 +148,44 @@ impl Batch for Shr {
 }
 
 impl Batch for Mux {
-    fn value(op: &Op, memory: &Memory) -> Option<u64> {
+    fn value(op: &Op, nodes: &[u64]) -> Option<u64> {
         let Op::Mux(test, yes, no) = op else {
             return None
         };
-        let chosen = if memory.node(test.0) == 1 {
+        let chosen = if nodes[test.0 as usize] == 1 {
             yes.0
         } else {
             no.0
         };
-        Some(memory.node(chosen))
+        Some(nodes[chosen as usize])
     }
 }
 
 impl Batch for Join {
-    fn value(op: &Op, memory: &Memory) -> Option<u64> {
+    fn value(op: &Op, nodes: &[u64]) -> Option<u64> {
         let Op::Join(high, low, width) = op else {
             return None
         };
-        Some((memory.node(high.0) << (*width & 63)) | memory.node(low.0))
+        Some((nodes[high.0 as usize] << (*width & 63)) | nodes[low.0 as usize])
     }
 }
 
 impl Batch for Join3 {
-    fn value(op: &Op, memory: &Memory) -> Option<u64> {
+    fn value(op: &Op, nodes: &[u64]) -> Option<u64> {
         let Op::Join3(high, middle, low, width, last) = op else {
             return None
         };
-        let upper = (memory.node(high.0) << (*width & 63)) | memory.node(middle.0);
-        Some((upper << (*last & 63)) | memory.node(low.0))
+        let upper = (nodes[high.0 as usize] << (*width & 63)) | nodes[middle.0 as usize];
+        Some((upper << (*last & 63)) | nodes[low.0 as usize])
     }
 }
 
 impl Batch for Slice {
-    fn value(op: &Op, memory: &Memory) -> Option<u64> {
+    fn value(op: &Op, nodes: &[u64]) -> Option<u64> {
         let Op::Slice(a, lo, mask) = op else {
             return None
         };
-        Some((memory.node(a.0) >> (*lo & 63)) & *mask)
+        Some((nodes[a.0 as usize] >> (*lo & 63)) & *mask)
     }
 }
 
@@ -204,39 +195,35 @@ pub fn take_batch(
     net: &Netlist,
     heads: u32,
     steps: &[Step],
-    memory: &mut Memory,
+    nodes: &mut [u64],
     from: usize,
 ) -> usize
     requires plan { IsPlan net.now heads steps.now }
-    requires fits { Fits net.now memory.old }
+    requires right { NetOk net.now }
+    requires count { length nodes.old ≡ length net.now.nodes }
     requires inside { from < length steps.now }
     ensures forward { from ≤ result }
     ensures inside { result ≤ length steps.now }
-    ensures fits { Fits net.now memory.new }
-    ensures settled { (input : Input) → Settled net.now input heads steps.now from memory.old → Settled net.now input heads steps.now result memory.new }
-    ensures regs { memory.new.regs ≡ memory.old.regs }
-    ensures files { memory.new.files ≡ memory.old.files }
-    ensures slots { memory.new.slots ≡ memory.old.slots }
+    ensures settled { (input : Input) (m : Stored) → Settled net.now input heads steps.now from (record m { nodes = nodes.old }) → Settled net.now input heads steps.now result (record m { nodes = nodes.new }) }
 {
     match &steps[from].op {
-        Op::Number(_) => take_while::<Number>(net, heads, steps, memory, from),
-        Op::Reg(_, _) => take_while::<Reg>(net, heads, steps, memory, from),
-        Op::Not(_, _) => take_while::<Not>(net, heads, steps, memory, from),
-        Op::And(_, _) => take_while::<And>(net, heads, steps, memory, from),
-        Op::Or(_, _) => take_while::<Or>(net, heads, steps, memory, from),
-        Op::Xor(_, _) => take_while::<Xor>(net, heads, steps, memory, from),
-        Op::Add(_, _, _) => take_while::<Add>(net, heads, steps, memory, from),
-        Op::Sub(_, _, _) => take_while::<Sub>(net, heads, steps, memory, from),
-        Op::Mul(_, _, _) => take_while::<Mul>(net, heads, steps, memory, from),
-        Op::Eq(_, _) => take_while::<Eq>(net, heads, steps, memory, from),
-        Op::Lt(_, _) => take_while::<Lt>(net, heads, steps, memory, from),
-        Op::Shl(_, _, _, _) => take_while::<Shl>(net, heads, steps, memory, from),
-        Op::Shr(_, _, _) => take_while::<Shr>(net, heads, steps, memory, from),
-        Op::Mux(_, _, _) => take_while::<Mux>(net, heads, steps, memory, from),
-        Op::Join(_, _, _) => take_while::<Join>(net, heads, steps, memory, from),
-        Op::Join3(_, _, _, _, _) => take_while::<Join3>(net, heads, steps, memory, from),
-        Op::Slice(_, _, _) => take_while::<Slice>(net, heads, steps, memory, from),
-        Op::Ext(_) | Op::Plain => from,
+        Op::Number(_) => take_while::<Number>(net, heads, steps, nodes, from),
+        Op::Not(_, _) => take_while::<Not>(net, heads, steps, nodes, from),
+        Op::And(_, _) => take_while::<And>(net, heads, steps, nodes, from),
+        Op::Or(_, _) => take_while::<Or>(net, heads, steps, nodes, from),
+        Op::Xor(_, _) => take_while::<Xor>(net, heads, steps, nodes, from),
+        Op::Add(_, _, _) => take_while::<Add>(net, heads, steps, nodes, from),
+        Op::Sub(_, _, _) => take_while::<Sub>(net, heads, steps, nodes, from),
+        Op::Mul(_, _, _) => take_while::<Mul>(net, heads, steps, nodes, from),
+        Op::Eq(_, _) => take_while::<Eq>(net, heads, steps, nodes, from),
+        Op::Lt(_, _) => take_while::<Lt>(net, heads, steps, nodes, from),
+        Op::Shl(_, _, _, _) => take_while::<Shl>(net, heads, steps, nodes, from),
+        Op::Shr(_, _, _) => take_while::<Shr>(net, heads, steps, nodes, from),
+        Op::Mux(_, _, _) => take_while::<Mux>(net, heads, steps, nodes, from),
+        Op::Join(_, _, _) => take_while::<Join>(net, heads, steps, nodes, from),
+        Op::Join3(_, _, _, _, _) => take_while::<Join3>(net, heads, steps, nodes, from),
+        Op::Slice(_, _, _) => take_while::<Slice>(net, heads, steps, nodes, from),
+        Op::Plain => from,
     }
 }
 
@@ -247,24 +234,21 @@ fn take_while<B: Batch>(
     net: &Netlist,
     _heads: u32,
     steps: &[Step],
-    memory: &mut Memory,
+    nodes: &mut [u64],
     from: usize,
 ) -> usize
     requires plan { IsPlan net.now _heads steps.now }
-    requires fits { Fits net.now memory.old }
+    requires right { NetOk net.now }
+    requires count { length nodes.old ≡ length net.now.nodes }
     requires inside { from < length steps.now }
     ensures forward { from ≤ result }
     ensures inside { result ≤ length steps.now }
-    ensures fits { Fits net.now memory.new }
-    ensures settled { (input : Input) → Settled net.now input _heads steps.now from memory.old → Settled net.now input _heads steps.now result memory.new }
-    ensures regs { memory.new.regs ≡ memory.old.regs }
-    ensures files { memory.new.files ≡ memory.old.files }
-    ensures slots { memory.new.slots ≡ memory.old.slots }
+    ensures settled { (input : Input) (m : Stored) → Settled net.now input _heads steps.now from (record m { nodes = nodes.old }) → Settled net.now input _heads steps.now result (record m { nodes = nodes.new }) }
 {
     let mut k = from;
-    'batch: while let Some(value) = B::value(&steps[k].op, memory) {
-        memory.set_node(steps[k].target, value);
-        k = take_three::<B>(net, _heads, steps, memory, k + 1);
+    'batch: while let Some(value) = B::value(&steps[k].op, nodes) {
+        nodes[steps[k].target as usize] = value;
+        k = take_three::<B>(net, _heads, steps, nodes, k + 1);
     }
     k
 }
@@ -275,23 +259,20 @@ fn take_three<B: Batch>(
     net: &Netlist,
     _heads: u32,
     steps: &[Step],
-    memory: &mut Memory,
+    nodes: &mut [u64],
     from: usize,
 ) -> usize
     requires plan { IsPlan net.now _heads steps.now }
-    requires fits { Fits net.now memory.old }
+    requires right { NetOk net.now }
+    requires count { length nodes.old ≡ length net.now.nodes }
     requires inside { from < length steps.now }
     ensures forward { from ≤ result }
     ensures inside { result < length steps.now }
-    ensures fits { Fits net.now memory.new }
-    ensures settled { (input : Input) → Settled net.now input _heads steps.now from memory.old → Settled net.now input _heads steps.now result memory.new }
-    ensures regs { memory.new.regs ≡ memory.old.regs }
-    ensures files { memory.new.files ≡ memory.old.files }
-    ensures slots { memory.new.slots ≡ memory.old.slots }
+    ensures settled { (input : Input) (m : Stored) → Settled net.now input _heads steps.now from (record m { nodes = nodes.old }) → Settled net.now input _heads steps.now result (record m { nodes = nodes.new }) }
 {
-    let second = take_if::<B>(net, _heads, steps, memory, from);
-    let third = take_if::<B>(net, _heads, steps, memory, second);
-    take_if::<B>(net, _heads, steps, memory, third)
+    let second = take_if::<B>(net, _heads, steps, nodes, from);
+    let third = take_if::<B>(net, _heads, steps, nodes, second);
+    take_if::<B>(net, _heads, steps, nodes, third)
 }
 
 // Evaluates this step if it has this operation.
@@ -300,23 +281,20 @@ fn take_if<B: Batch>(
     net: &Netlist,
     _heads: u32,
     steps: &[Step],
-    memory: &mut Memory,
+    nodes: &mut [u64],
     k: usize,
 ) -> usize
     requires plan { IsPlan net.now _heads steps.now }
-    requires fits { Fits net.now memory.old }
+    requires right { NetOk net.now }
+    requires count { length nodes.old ≡ length net.now.nodes }
     requires inside { k < length steps.now }
     ensures forward { k ≤ result }
     ensures inside { result < length steps.now }
-    ensures fits { Fits net.now memory.new }
-    ensures settled { (input : Input) → Settled net.now input _heads steps.now k memory.old → Settled net.now input _heads steps.now result memory.new }
-    ensures regs { memory.new.regs ≡ memory.old.regs }
-    ensures files { memory.new.files ≡ memory.old.files }
-    ensures slots { memory.new.slots ≡ memory.old.slots }
+    ensures settled { (input : Input) (m : Stored) → Settled net.now input _heads steps.now k (record m { nodes = nodes.old }) → Settled net.now input _heads steps.now result (record m { nodes = nodes.new }) }
 {
-    let Some(value) = B::value(&steps[k].op, memory) else {
+    let Some(value) = B::value(&steps[k].op, nodes) else {
         return k
     };
-    memory.set_node(steps[k].target, value);
+    nodes[steps[k].target as usize] = value;
     k + 1
 }

@@ -12,10 +12,6 @@ use kp_net::{Kind, Node, NodeId};
 pub enum Op {
     /// A constant.
     Number(u64),
-    /// The stall word, under the mask.
-    Ext(u64),
-    /// A register, under the mask.
-    Reg(u32, u64),
     /// The mask minus the value of a node.
     Not(NodeId, u64),
     And(NodeId, NodeId),
@@ -41,7 +37,7 @@ pub enum Op {
     Join3(NodeId, NodeId, NodeId, u8, u8),
     /// The lowest bit, and the mask.
     Slice(NodeId, u64, u64),
-    /// A rare operation: it is computed from the node itself.
+    /// A rare operation, or one that reads more than nodes: it is computed from the node itself.
     Plain,
 }
 
@@ -61,14 +57,12 @@ pub fn op_of(nodes: &[Node], node: &Node) -> Op
     let mask = mask_of(node.width);
     match &node.kind {
         Kind::Const(number) => Op::Number(*number),
-        Kind::Ext => Op::Ext(mask),
-        Kind::Reg(reg) => Op::Reg(*reg, mask),
         Kind::Not(a) => Op::Not(*a, mask),
         Kind::Binary(op, a, b) => binary(*op, *a, *b, node.width, mask),
         Kind::Mux(test, yes, no) => Op::Mux(*test, *yes, *no),
         Kind::Concat(parts) => joined(nodes, parts.nodes()),
         Kind::Slice(a, _, lo) => Op::Slice(*a, u64::from(*lo), mask),
-        Kind::Sample(_) | Kind::Word(_, _) => Op::Plain,
+        Kind::Ext | Kind::Sample(_) | Kind::Reg(_) | Kind::Word(_, _) => Op::Plain,
     }
 }
 

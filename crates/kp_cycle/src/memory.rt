@@ -1,8 +1,10 @@
-// The storage of a simulator: one region with the values of nodes, registers and files, and the saved states.
-ghost use Rattle.std.specs.Prelude.{◌≡◌, ◌<◌, ◌≤◌, ℕ, [], length, get_or, set, replicate, None, Some, IsSome, IfOk, All};
+// The storage of a simulator: one region with the registers, the files and the saved states, and the values of the nodes.
+ghost use Rattle.std.specs.Prelude.{◌≡◌, ◌<◌, ◌≤◌, ◌++◌, [], length, get_or, set, take, drop, replicate, None, Some, IsSome, IfOk, All};
 ghost use Rattle.std.specs.List.{sum_by};
+ghost use Rattle.std.specs.Borrow.{sem};
 ghost use Rattle.kp_net.specs.Netlist.{Net, start_regs, start_of};
 ghost use Rattle.kp_cycle.specs.inner.Storage.{Stored, Fits, FitsBelow, state_of};
+ghost use Rattle.kp_cycle.specs.inner.Lending.{LendsNodes};
 
 use crate::slots::{Slot, carve_slots, words_of_slots};
 use kp_base::NoMemory;
@@ -11,13 +13,13 @@ use kp_region::{Region, Span};
 use std::alloc::Global;
 use std::marker::Model;
 
-/// The values of the nodes and of the registers of a netlist, and the words of its files, each in a span of one
-/// region. The nodes are in the first span, so that the index of a node is that of its word. The registers and files
-/// are adjacent, so that the complete state is a span as well, and each slot is another span of its size.
+/// The registers of a netlist and the words of its files, each in a span of one region. They are adjacent, so that the
+/// complete state is a span as well, and each slot is another span of its size. The values of the nodes are no part of
+/// the state: each cycle computes them anew.
 #[derive(Debug, Drop)]
 pub struct Memory {
+    nodes: Vec<u64>,
     region: Region,
-    node_count: u32,
     regs: Span,
     files: Vec<Span>,
     whole: Span,
@@ -28,18 +30,18 @@ impl Model for Memory {
     ghost use Rattle.std.specs.Prelude.{map};
     ghost use Rattle.kp_region.specs.Words.{span_words};
     ghost use Rattle.kp_cycle.specs.inner.Storage.{Stored};
-    ghost use Rattle.kp_cycle.specs.inner.Spans.{first_span, held, Laid};
+    ghost use Rattle.kp_cycle.specs.inner.Spans.{held, Laid};
 
     ghost Value = { Stored };
 
     ghost view = { λ m. record {
-      nodes = span_words m.region (first_span m.node_count);
+      nodes = m.nodes.items;
       regs = span_words m.region m.regs;
       files = map (span_words m.region) m.files.items;
       slots = map (held m.region m.regs m.files.items m.whole) m.slots.items;
     } };
 
-    ghost invariant = { λ m. Laid m.region (first_span m.node_count) m.regs m.files.items m.whole m.slots.items };
+    ghost invariant = { λ m. Laid m.region m.regs m.files.items m.whole m.slots.items };
 }
 
 impl Memory {
@@ -54,29 +56,27 @@ impl Memory {
         ensures slots { IfOk result (λ m. m.slots ≡ replicate slots None) }
     {
         let mut memory = Memory::lay_out(alloc, net, slots)?;
-        clear_nodes(net, &mut memory);
         fill_regs(net, &mut memory);
         fill_files(net, &mut memory);
         Ok(memory)
     }
 
-    // A span for the nodes, one for the registers, one for each file, and for each slot one of the size of the
-    // registers and files together.
+    // A span for the registers, one for each file, and for each slot one of the size of all these together.
     #[tactic(auto, using(std::proofs::lemmas::List::Sums::sum_by_more_le))]
     fn lay_out(alloc: Global, net: &Netlist, slots: u32) -> Result<Memory, NoMemory>
         requires { slots ≤ 64 }
         ensures fits { IfOk result (λ m. Fits net.now m) }
+        ensures nodes { IfOk result (λ m. FitsBelow net.now.nodes m.nodes (length net.now.nodes)) }
         ensures slots { IfOk result (λ m. m.slots ≡ replicate slots None) }
     {
         let files = net.parts().files.as_slice();
-        let node_count = net.nodes().len() as u32;
         let reg_count = net.parts().regs.as_slice().len() as u32;
         let file_words = words_of(files);
         let size = reg_count + file_words;
         let slot_words = words_of_slots(slots, size);
         let mut spans = Vec::with_capacity(alloc, files.len())?;
-        let mut region = Region::take(alloc, node_count + size + slot_words)?;
-        let nodes = region.carve(node_count).unwrap();
+        let nodes = vec![in alloc; 0; net.nodes().len()]?;
+        let mut region = Region::take(alloc, size + slot_words)?;
         let regs = region.carve(reg_count).unwrap();
         for file in files {
             let span = region.carve(file.words.as_slice().len() as u32).unwrap();
@@ -88,8 +88,8 @@ impl Memory {
         };
         let copies = carve_slots(alloc, &mut region, size, slots)?;
         Ok(Memory {
+            nodes,
             region,
-            node_count: nodes.len,
             regs,
             files: spans,
             whole,
@@ -102,11 +102,7 @@ impl Memory {
         requires { i < length self.now.nodes }
         ensures { result ≡ get_or self.now.nodes i 0 }
     {
-        let nodes = Span {
-            start: 0,
-            len: self.node_count,
-        };
-        self.region.get(nodes, i)
+        self.nodes[i as usize]
     }
 
     /// Sets the value of a node.
@@ -114,33 +110,25 @@ impl Memory {
         requires { i < length self.old.nodes }
         ensures { self.new ≡ record self.old { nodes = set self.old.nodes i value } }
     {
-        let nodes = Span {
-            start: 0,
-            len: self.node_count,
-        };
-        self.region.put(nodes, i, value);
+        self.nodes[i as usize] = value;
+    }
+
+    /// The values of all nodes, to be changed.
+    pub fn nodes_mut(&mut self) -> &mut [u64]
+        ensures* writes_back { sem 𝓛 (LendsNodes self.entry result) }
+        ensures value { result.now ≡ self.old.nodes }
+    {
+        self.nodes.as_mut_slice()
     }
 
     /// Copies the first registers to the first nodes.
     pub fn show_regs(&mut self, count: u32)
         requires nodes { count ≤ length self.old.nodes }
         requires regs { count ≤ length self.old.regs }
-        ensures count { length self.new.nodes ≡ length self.old.nodes }
-        ensures shown { (i : ℕ) → i < count → get_or self.new.nodes i 0 ≡ get_or self.old.regs i 0 }
-        ensures others { (i : ℕ) → count ≤ i → get_or self.new.nodes i 0 ≡ get_or self.old.nodes i 0 }
-        ensures regs { self.new.regs ≡ self.old.regs }
-        ensures files { self.new.files ≡ self.old.files }
-        ensures slots { self.new.slots ≡ self.old.slots }
+        ensures { self.new ≡ record self.old { nodes = take count self.old.regs ++ drop count self.old.nodes } }
     {
-        let from = Span {
-            start: self.regs.start,
-            len: count,
-        };
-        let to = Span {
-            start: 0,
-            len: count,
-        };
-        self.region.copy(from, to);
+        let regs = self.region.words(self.regs);
+        copy_front(self.nodes.as_mut_slice(), regs, count as usize);
     }
 
     /// The value of a register.
@@ -208,6 +196,15 @@ impl Memory {
     }
 }
 
+// Copies the first of the registers over the first of the nodes.
+fn copy_front(nodes: &mut [u64], regs: &[u64], count: usize)
+    requires nodes { count ≤ length nodes.old }
+    requires regs { count ≤ length regs.now }
+    ensures { nodes.new ≡ take count regs.now ++ drop count nodes.old }
+{
+    nodes[..count].copy_from_slice(&regs[..count]);
+}
+
 // The number of words of all files.
 fn words_of(files: &[NetFile]) -> u32
     requires few { length files.now ≤ 16 }
@@ -220,18 +217,6 @@ fn words_of(files: &[NetFile]) -> u32
         sum += file.words.as_slice().len() as u32;
     }
     sum
-}
-
-// Sets each node to 0.
-fn clear_nodes(net: &Netlist, memory: &mut Memory)
-    requires { Fits net.now memory.old }
-    ensures fits { Fits net.now memory.new }
-    ensures nodes { FitsBelow net.now.nodes memory.new.nodes (length net.now.nodes) }
-    ensures slots { memory.new.slots ≡ memory.old.slots }
-{
-    for i in 0..net.nodes().len() {
-        memory.set_node(i as u32, 0);
-    }
 }
 
 /// Sets each register to its start value.

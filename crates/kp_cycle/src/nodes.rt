@@ -41,7 +41,7 @@ pub fn settle(
     memory.show_regs(heads);
     let mut k = 0;
     'all: while k < steps.len() {
-        let end = take_batch(net, heads, steps, memory, k);
+        let end = take_batch(net, heads, steps, memory.nodes_mut(), k);
         if end > k {
             k = end;
         } else {

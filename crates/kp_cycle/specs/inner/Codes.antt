@@ -5,10 +5,9 @@ use Rattle.kp_net.specs.declared.node.NodeId.{NodeId}
 use Rattle.kp_net.specs.declared.node.Kind.{Kind}
 use Rattle.kp_net.specs.declared.node.Kind.TheVariants as kind
 use Rattle.kp_net.specs.declared.node.Node.{Node}
-use Rattle.kp_net.specs.Nodes.{Cells}
 use Rattle.kp_net.specs.Widths.{wide}
 use Rattle.kp_cycle.specs.declared.codes.Op.{Op}
-use Rattle.kp_cycle.specs.declared.codes.Op.TheVariants.{Number, Ext, Reg, Not, And, Or, Xor, Add, Sub, Mul, Eq, Lt, Shl, Shr, Mux, Join, Join3, Slice, Plain}
+use Rattle.kp_cycle.specs.declared.codes.Op.TheVariants.{Number, Not, And, Or, Xor, Add, Sub, Mul, Eq, Lt, Shl, Shr, Mux, Join, Join3, Slice, Plain}
 
 -- the operation of a node
 abbrev pub binary_op : BinOp → NodeId → NodeId → ℕ → ℕ → Op
@@ -30,9 +29,9 @@ joined_op ns _ = Plain
 
 abbrev pub kind_op : List Node → ℕ → ℕ → Kind → Op
 kind_op ns width mask (kind.Const n) = Number n
-kind_op ns width mask kind.Ext = Ext mask
+kind_op ns width mask kind.Ext = Plain
 kind_op ns width mask (kind.Sample s) = Plain
-kind_op ns width mask (kind.Reg r) = Reg r mask
+kind_op ns width mask (kind.Reg r) = Plain
 kind_op ns width mask (kind.Word f a) = Plain
 kind_op ns width mask (kind.Not a) = Not a mask
 kind_op ns width mask (kind.Binary op a b) = binary_op op a b width mask
@@ -44,45 +43,41 @@ abbrev pub op_for : List Node → Node → Op
 op_for ns n = kind_op ns n.width (2 ^ n.width - 1) n.kind
 
 -- the result of an operation, given these numbers of the nodes before it; a plain one yields this number
-abbrev pub number_of : Cells → List ℕ → ℕ → Op → ℕ
-number_of c v plain (Number n) = n
-number_of c v plain (Ext mask) = bit_and c.ext mask
-number_of c v plain (Reg r mask) = bit_and (c.reg r) mask
-number_of c v plain (Not a mask) = (mask + (2 ^ 64 - get_or v a.0 0)) % 2 ^ 64
-number_of c v plain (And a b) = bit_and (get_or v a.0 0) (get_or v b.0 0)
-number_of c v plain (Or a b) = bit_or (get_or v a.0 0) (get_or v b.0 0)
-number_of c v plain (Xor a b) = bit_xor (get_or v a.0 0) (get_or v b.0 0)
-number_of c v plain (Add a b mask) = bit_and ((get_or v a.0 0 + get_or v b.0 0) % 2 ^ 64) mask
-number_of c v plain (Sub a b mask) = bit_and ((get_or v a.0 0 + (2 ^ 64 - get_or v b.0 0)) % 2 ^ 64) mask
-number_of c v plain (Mul a b mask) = bit_and (get_or v a.0 0 * get_or v b.0 0 % 2 ^ 64) mask
-number_of c v plain (Eq a b) = if get_or v a.0 0 == get_or v b.0 0 then 1 else 0
-number_of c v plain (Lt a b) = if nat_lt (get_or v a.0 0) (get_or v b.0 0) then 1 else 0
-number_of c v plain (Shl a b width mask) = if nat_lt (get_or v b.0 0) width then bit_and (get_or v a.0 0 * 2 ^ bit_and (get_or v b.0 0) 63 % 2 ^ 64) mask else 0
-number_of c v plain (Shr a b width) = if nat_lt (get_or v b.0 0) width then get_or v a.0 0 / 2 ^ bit_and (get_or v b.0 0) 63 else 0
-number_of c v plain (Mux test a b) = if get_or v test.0 0 == 1 then get_or v a.0 0 else get_or v b.0 0
-number_of c v plain (Join a b width) = bit_or (get_or v a.0 0 * 2 ^ bit_and width 63 % 2 ^ 64) (get_or v b.0 0)
-number_of c v plain (Join3 a b d i j) = bit_or (bit_or (get_or v a.0 0 * 2 ^ bit_and i 63 % 2 ^ 64) (get_or v b.0 0) * 2 ^ bit_and j 63 % 2 ^ 64) (get_or v d.0 0)
-number_of c v plain (Slice a lo mask) = bit_and (get_or v a.0 0 / 2 ^ bit_and lo 63) mask
-number_of c v plain Plain = plain
+abbrev pub number_of : List ℕ → ℕ → Op → ℕ
+number_of v plain (Number n) = n
+number_of v plain (Not a mask) = (mask + (2 ^ 64 - get_or v a.0 0)) % 2 ^ 64
+number_of v plain (And a b) = bit_and (get_or v a.0 0) (get_or v b.0 0)
+number_of v plain (Or a b) = bit_or (get_or v a.0 0) (get_or v b.0 0)
+number_of v plain (Xor a b) = bit_xor (get_or v a.0 0) (get_or v b.0 0)
+number_of v plain (Add a b mask) = bit_and ((get_or v a.0 0 + get_or v b.0 0) % 2 ^ 64) mask
+number_of v plain (Sub a b mask) = bit_and ((get_or v a.0 0 + (2 ^ 64 - get_or v b.0 0)) % 2 ^ 64) mask
+number_of v plain (Mul a b mask) = bit_and (get_or v a.0 0 * get_or v b.0 0 % 2 ^ 64) mask
+number_of v plain (Eq a b) = if get_or v a.0 0 == get_or v b.0 0 then 1 else 0
+number_of v plain (Lt a b) = if nat_lt (get_or v a.0 0) (get_or v b.0 0) then 1 else 0
+number_of v plain (Shl a b width mask) = if nat_lt (get_or v b.0 0) width then bit_and (get_or v a.0 0 * 2 ^ bit_and (get_or v b.0 0) 63 % 2 ^ 64) mask else 0
+number_of v plain (Shr a b width) = if nat_lt (get_or v b.0 0) width then get_or v a.0 0 / 2 ^ bit_and (get_or v b.0 0) 63 else 0
+number_of v plain (Mux test a b) = if get_or v test.0 0 == 1 then get_or v a.0 0 else get_or v b.0 0
+number_of v plain (Join a b width) = bit_or (get_or v a.0 0 * 2 ^ bit_and width 63 % 2 ^ 64) (get_or v b.0 0)
+number_of v plain (Join3 a b d i j) = bit_or (bit_or (get_or v a.0 0 * 2 ^ bit_and i 63 % 2 ^ 64) (get_or v b.0 0) * 2 ^ bit_and j 63 % 2 ^ 64) (get_or v d.0 0)
+number_of v plain (Slice a lo mask) = bit_and (get_or v a.0 0 / 2 ^ bit_and lo 63) mask
+number_of v plain Plain = plain
 
--- all that an operation reads exists: there are this many nodes and registers
-abbrev pub IsReady : ℕ → ℕ → Op → Type 0
-IsReady m regs (Number n) = Unit {0}
-IsReady m regs (Ext mask) = Unit {0}
-IsReady m regs (Reg r mask) = r < regs
-IsReady m regs (Not a mask) = a.0 < m
-IsReady m regs (And a b) = (a.0 < m) × (b.0 < m)
-IsReady m regs (Or a b) = (a.0 < m) × (b.0 < m)
-IsReady m regs (Xor a b) = (a.0 < m) × (b.0 < m)
-IsReady m regs (Add a b mask) = (a.0 < m) × (b.0 < m)
-IsReady m regs (Sub a b mask) = (a.0 < m) × (b.0 < m)
-IsReady m regs (Mul a b mask) = (a.0 < m) × (b.0 < m)
-IsReady m regs (Eq a b) = (a.0 < m) × (b.0 < m)
-IsReady m regs (Lt a b) = (a.0 < m) × (b.0 < m)
-IsReady m regs (Shl a b width mask) = (a.0 < m) × (b.0 < m)
-IsReady m regs (Shr a b width) = (a.0 < m) × (b.0 < m)
-IsReady m regs (Mux test a b) = (test.0 < m) × (a.0 < m) × (b.0 < m)
-IsReady m regs (Join a b width) = (a.0 < m) × (b.0 < m)
-IsReady m regs (Join3 a b d i j) = (a.0 < m) × (b.0 < m) × (d.0 < m)
-IsReady m regs (Slice a lo mask) = a.0 < m
-IsReady m regs Plain = Unit {0}
+-- all nodes that an operation reads exist: there are this many
+abbrev pub IsReady : ℕ → Op → Type 0
+IsReady m (Number n) = Unit {0}
+IsReady m (Not a mask) = a.0 < m
+IsReady m (And a b) = (a.0 < m) × (b.0 < m)
+IsReady m (Or a b) = (a.0 < m) × (b.0 < m)
+IsReady m (Xor a b) = (a.0 < m) × (b.0 < m)
+IsReady m (Add a b mask) = (a.0 < m) × (b.0 < m)
+IsReady m (Sub a b mask) = (a.0 < m) × (b.0 < m)
+IsReady m (Mul a b mask) = (a.0 < m) × (b.0 < m)
+IsReady m (Eq a b) = (a.0 < m) × (b.0 < m)
+IsReady m (Lt a b) = (a.0 < m) × (b.0 < m)
+IsReady m (Shl a b width mask) = (a.0 < m) × (b.0 < m)
+IsReady m (Shr a b width) = (a.0 < m) × (b.0 < m)
+IsReady m (Mux test a b) = (test.0 < m) × (a.0 < m) × (b.0 < m)
+IsReady m (Join a b width) = (a.0 < m) × (b.0 < m)
+IsReady m (Join3 a b d i j) = (a.0 < m) × (b.0 < m) × (d.0 < m)
+IsReady m (Slice a lo mask) = a.0 < m
+IsReady m Plain = Unit {0}

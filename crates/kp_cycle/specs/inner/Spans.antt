@@ -9,10 +9,6 @@ use Rattle.kp_cycle.specs.declared.slots.Slot.{Slot}
 abbrev pub no_span : Span
 no_span = record { start = 0; len = 0 }
 
--- the first span of a region
-abbrev pub first_span : ℕ → Span
-first_span n = record { start = 0; len = n }
-
 -- all spans end within the used words, which are fewer than 2^32, and no two of them overlap
 pub record Apart (r : Words) (spans : List Span) : Type 0 where
   pub sound : IsSound r
@@ -41,11 +37,10 @@ abbrev pub held : Words → Span → List Span → Span → Slot → Option Stat
 held r regs files whole slot =
     if slot.is_saved then Some (state_in r (moved whole slot.span regs) (map (moved whole slot.span) files)) else None
 
--- the spans of a memory: those of the nodes, the registers and the files are disjoint, and the last two are inside
--- one of the complete state; and each slot has the size of the complete state, and is disjoint from it, the nodes and
--- the other slots
-pub record Laid (r : Words) (nodes regs : Span) (files : List Span) (whole : Span) (slots : List Slot) : Type 0 where
-  pub apart : Apart r (nodes ∷ regs ∷ files)
+-- the spans of a memory: those of the registers and the files are disjoint, and inside one of the complete state; and
+-- each slot has the size of the complete state, and is disjoint from it and the other slots
+pub record Laid (r : Words) (regs : Span) (files : List Span) (whole : Span) (slots : List Slot) : Type 0 where
+  pub apart : Apart r (regs ∷ files)
   pub inside : (k : ℕ) → k < length (regs ∷ files) → IsInside (get_or (regs ∷ files) k no_span) whole
-  pub beside : Apart r (nodes ∷ whole ∷ map (λ s. s.span) slots)
+  pub beside : Apart r (whole ∷ map (λ s. s.span) slots)
   pub sizes : (k : ℕ) → k < length slots → (get_or slots k no_slot).span.len ≡ whole.len

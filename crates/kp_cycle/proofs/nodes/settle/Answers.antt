@@ -1,10 +1,12 @@
-use Rattle.std.proofs.Common.{◌≡◌, ◌<◌, false, ℕ, List, length, get_or, ap, sym, subst, arith, ◌∙◌}
-use Rattle.kp_net.specs.Netlist.{State}
+use Rattle.std.proofs.Common.{◌≡◌, ◌<◌, ◌≤◌, ◌++◌, false, ℕ, List, length, get_or, take, drop, refl, ap, sym, subst, arith, ◌∙◌}
+use Rattle.std.specs.List.{refill}
+use Rattle.kp_net.specs.Netlist.{Net, Input, State}
+use Rattle.kp_cycle.specs.declared.codes.Step.{Step}
 use Rattle.kp_cycle.specs.Steps.{given}
 use Rattle.kp_cycle.specs.inner.Plans.{Settled}
-use Rattle.kp_cycle.specs.inner.Storage.{Fits, StateFits, state_of}
-use Rattle.kp_cycle.proofs.Stepping.{all_settled, none_settled, heads_fit}
-use Rattle.kp_cycle.proofs.Settling.{fits_as}
+use Rattle.kp_cycle.specs.inner.Storage.{Stored, Fits, StateFits, state_of}
+use Rattle.kp_cycle.proofs.Stepping.{all_settled, none_settled, heads_fit, settled_as}
+use Rattle.kp_cycle.proofs.Settling.{fits_as, over_length, over_front, over_rest, refilled}
 use Rattle.kp_cycle.proofs.nodes.settle.Goals as goal
 
 pub show_regs-requires-clause-nodes : goal.show_regs-requires-clause-nodes
@@ -19,15 +21,20 @@ all-init c =
     let m = c.args.memory.now in
     let n = c.show_regs.new.self in
     let e = c.show_regs.ensures in
-    let fits : Fits net n = fits_as net m n c.requires.fits e.count e.regs e.files in
-    let same : state_of m ≡ state_of n = λ i. record { regs = sym e.regs i; files = sym e.files i } in
+    let few = heads_fit net c.args.heads c.args.steps.now m c.requires.plan c.requires.fits in
+    let room : c.args.heads ≤ length m.nodes = omega (arith, c.requires.plan.ordered.heads, c.requires.fits.nodes) in
+    let over : n.nodes ≡ take c.args.heads m.regs ++ drop c.args.heads m.nodes = ap (λ (x : Stored). x.nodes) e in
+    let regs : n.regs ≡ m.regs = ap (λ (x : Stored). x.regs) e in
+    let files : n.files ≡ m.files = ap (λ (x : Stored). x.files) e in
+    let fits : Fits net n = fits_as net m n c.requires.fits (ap (λ (xs : List ℕ). length xs) over ∙ over_length m.regs m.nodes c.args.heads few room) regs files in
+    let same : state_of m ≡ state_of n = λ i. record { regs = sym regs i; files = sym files i } in
     let P : State → Type 0 = StateFits net in
-    let shown : (j : ℕ) → j < c.args.heads → get_or n.nodes j 0 ≡ get_or n.regs j 0 = λ j l. e.shown j l ∙ ap (λ (rs : List ℕ). get_or rs j 0) (sym e.regs) in (
+    let shown : (j : ℕ) → j < c.args.heads → get_or n.nodes j 0 ≡ get_or n.regs j 0 = λ j l. ap (λ (xs : List ℕ). get_or xs j 0) over ∙ over_front m.regs m.nodes c.args.heads few j l ∙ ap (λ (rs : List ℕ). get_or rs j 0) (sym regs) in (
       fits,
-      none_settled net (given c.args.ext false c.args.samples.now) c.args.heads c.args.steps.now m.nodes n c.requires.plan fits (subst P same c.requires.state) c.requires.widths shown e.others,
-      e.regs,
-      e.files,
-      e.slots,
+      none_settled net (given c.args.ext false c.args.samples.now) c.args.heads c.args.steps.now m.nodes n c.requires.plan fits (subst P same c.requires.state) c.requires.widths shown (λ j l. ap (λ (xs : List ℕ). get_or xs j 0) over ∙ over_rest m.regs m.nodes c.args.heads few j l),
+      regs,
+      files,
+      ap (λ (x : Stored). x.slots) e,
       omega arith,
     )
 
@@ -39,16 +46,50 @@ returns-clause-known c =
     let P : ℕ → Type 0 = λ k. Settled net input c.args.heads c.args.steps.now k c.all.memory in
     all_settled net input c.args.heads c.args.steps.now c.all.memory c.requires.plan (subst P e c.all.invariant.1)
 
+-- a batch of steps was evaluated
+module _ (net : Net) (input : Input) (heads : ℕ) (steps : List Step) (m : Stored) (old new : List ℕ) (k end : ℕ) (value : old ≡ m.nodes) (same : length new ≡ length old)
+    (batch : Settled net input heads steps k (record m { nodes = old }) → Settled net input heads steps end (record m { nodes = new })) where
+  many : length new ≡ length m.nodes
+  many = same ∙ ap (λ (v : List ℕ). length v) value
+
+  fits_batch : Fits net m → Fits net (record m { nodes = refill (length m.nodes) m.nodes new })
+  fits_batch fits = fits_as net m _ fits (ap (λ (v : List ℕ). length v) (refilled m.nodes new many) ∙ many) refl refl
+
+  settled_batch : Settled net input heads steps k m → Settled net input heads steps end (record m { nodes = refill (length m.nodes) m.nodes new })
+  settled_batch settled =
+      let P : List ℕ → Type 0 = λ v. Settled net input heads steps end (record m { nodes = v }) in
+      subst P (sym (refilled m.nodes new many)) (batch (settled_as net input heads steps k m old value settled))
+
 pub all-preserved-then-end-k : goal.all-preserved-then-end-k
 all-preserved-then-end-k c =
+    let net = c.args.net.now in
+    let m = c.all.memory in
+    let input = given c.args.ext false c.args.samples.now in
     let t = c.take_batch-end.ensures in
     let inv = c.all.invariant in
-    (t.fits, t.settled (given c.args.ext false c.args.samples.now) inv.1, t.regs ∙ inv.2, t.files ∙ inv.3, t.slots ∙ inv.4, t.inside)
+    let many = c.take_batch-end.auto.nodes in (
+      fits_batch net input c.args.heads c.args.steps.now m c.nodes_mut.result.now c.take_batch-end.new.nodes c.all.k c.take_batch-end.result c.nodes_mut.ensures.value many (t.settled input m) inv.0,
+      settled_batch net input c.args.heads c.args.steps.now m c.nodes_mut.result.now c.take_batch-end.new.nodes c.all.k c.take_batch-end.result c.nodes_mut.ensures.value many (t.settled input m) inv.1,
+      inv.2,
+      inv.3,
+      inv.4,
+      t.inside,
+    )
+
+pub take_one-requires-clause-fits : goal.take_one-requires-clause-fits
+take_one-requires-clause-fits c =
+    let input = given c.args.ext false c.args.samples.now in
+    fits_batch c.args.net.now input c.args.heads c.args.steps.now c.all.memory c.nodes_mut.result.now c.take_batch-end.new.nodes c.all.k c.take_batch-end.result c.nodes_mut.ensures.value c.take_batch-end.auto.nodes
+    (c.take_batch-end.ensures.settled input c.all.memory) c.all.invariant.0
 
 pub take_one-requires-clause-settled : goal.take_one-requires-clause-settled
 take_one-requires-clause-settled c =
+    let net = c.args.net.now in
+    let m = c.all.memory in
     let t = c.take_batch-end.ensures in
     let input = given c.args.ext false c.args.samples.now in
     let e : c.take_batch-end.result ≡ c.all.k = omega (arith, t.forward, c.if-end-k.false) in
-    let P : ℕ → Type 0 = λ k. Settled c.args.net.now input c.args.heads c.args.steps.now k c.take_batch-end.new.memory in
-    subst P e (t.settled input c.all.invariant.1)
+    let P : ℕ → Type 0 = λ k. Settled net input c.args.heads c.args.steps.now k (record m { nodes = refill (length m.nodes) m.nodes c.take_batch-end.new.nodes }) in
+    subst P e
+    (settled_batch net input c.args.heads c.args.steps.now m c.nodes_mut.result.now c.take_batch-end.new.nodes c.all.k c.take_batch-end.result c.nodes_mut.ensures.value c.take_batch-end.auto.nodes
+    (t.settled input m) c.all.invariant.1)

@@ -23,5 +23,5 @@ returns-clause-settled c =
     let input = given c.args.ext false c.args.samples.now in
     let P : Stored → Type 0 = Settled net input c.args._heads steps (c.args.k + 1) in
     subst P (sym c.set_node.ensures)
-    (step_more net c.args._heads steps c.args.k c.requires.plan c.requires.inside input m _ c.requires.fits c.requires.settled
-    (c.value_of-value.ensures ∙ step_word net c.args._heads steps c.args.k c.requires.plan c.requires.inside input m c.requires.fits c.requires.settled))
+    (step_more net c.args._heads steps c.args.k c.requires.plan c.requires.inside input m _ c.requires.fits.nodes c.requires.settled
+    (c.value_of-value.ensures ∙ step_word net c.args._heads steps c.args.k c.requires.plan c.requires.inside input m c.requires.fits.right c.requires.settled))

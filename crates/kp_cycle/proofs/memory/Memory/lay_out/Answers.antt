@@ -3,16 +3,22 @@ use Rattle.std.specs.Prelude.{IfOk, OnOk}
 use Rattle.std.specs.List.{sum_by}
 use Rattle.std.proofs.lemmas.List.Elements.{All-get_or, All-push}
 use Rattle.std.proofs.lemmas.List.Sums.{sum_by_more, sum_by_more_le}
+use Rattle.std.proofs.lemmas.Nat.{pow_pos}
+use Rattle.std.proofs.lemmas.List.{length-replicate, get_or-replicate}
 use Rattle.std.proofs.Math.Seq.{take-length}
 use Rattle.kp_net.specs.declared.netlist.NetFile.{NetFile}
 use Rattle.kp_net.specs.declared.netlist.Parts.{Parts}
+use Rattle.kp_net.specs.Widths.{wide}
 use Rattle.kp_region.specs.declared.span.Span.{Span}
 use Rattle.kp_region.specs.declared.region.Full.{Full}
 use Rattle.kp_region.specs.Words.{Words, IsSound, next_span, carved}
-use Rattle.kp_cycle.specs.inner.Spans.{Laid, first_span, no_span}
+use Rattle.kp_cycle.specs.inner.Spans.{no_span}
 use Rattle.kp_cycle.proofs.Spans.{apart_carved, length_carved, lens_more, fits_laid}
 use Rattle.kp_cycle.proofs.Copies.{laid_out, unsaved}
 use Rattle.kp_cycle.proofs.memory.Memory.lay_out.Goals as goal
+
+abbrev none : ℕ
+none = 0
 
 -- the first of some spans and those after it start no earlier than it does
 all_behind : (g : Span) (fs : List Span) → All (λ s. g.start ≤ s.start) fs → (k : ℕ) → k < length (g ∷ fs) → g.start ≤ (get_or (g ∷ fs) k no_span).start
@@ -33,24 +39,21 @@ loop-file-preserved c =
     let inv = c.loop-file.invariant in
     let is : s ≡ next_span r k = (let P : Result Span Full → Type 0 = λ o. IfOk o (λ t. t ≡ next_span r k) in subst P c.unwrap-span.ensures a.span) in
     let new : c.carve-in-loop-file.new.self ≡ carved r k = (let P : Result Span Full → Type 0 = λ o. OnOk o (c.carve-in-loop-file.new.self ≡ carved r k) in subst P c.unwrap-span.ensures a.carved) in
-    let nodes : length c.nodes.result.now ≡ length net.nodes = ap length c.nodes.ensures.nodes in
     let regs : length c.as_slice.result.now ≡ length net.parts.regs = ap length (c.as_slice.ensures ∙ ap (λ (p : Parts). p.regs) c.parts-2.ensures.parts) in
     let ks : k ≡ size x = ap length c.as_slice-in-loop-file.ensures in
     let fit : sum_by size (take i files) + k ≤ sum_by size files = omega (arith, sum_by_more_le size files i x c.loop-file-test.true, ap size c.file-item.is, ks) in
-    let few : r.used + k < 2 ^ 32 = omega (arith, fit, inv.2, c.words_of-file_words.ensures.sum, c.words_of-file_words.ensures.at_most, nodes, regs, c.nodes.ensures.right.count, c.nodes.ensures.right.parts.reg_count) in
+    let few : r.used + k < 2 ^ 32 = omega (arith, fit, inv.2, c.words_of-file_words.ensures.sum, c.words_of-file_words.ensures.at_most, regs, c.nodes.ensures.right.parts.reg_count) in
     let room : r.used + k ≤ length r.words = omega (arith, fit, inv.2, inv.3, c.words_of-file_words.ensures.sum) in
-    let apart = apart_carved r (c.unwrap-nodes.result ∷ c.unwrap-regs.result ∷ c.loop-file.spans.items) k inv.0 (subst IsSound new a.sound) few in
-    let first = inv.0.within 1 (omega arith) in
+    let apart = apart_carved r (c.unwrap-regs.result ∷ c.loop-file.spans.items) k inv.0 (subst IsSound new a.sound) few in
+    let first = inv.0.within 0 (omega arith) in
     let behind : c.unwrap-regs.result.start ≤ s.start = omega (arith, first, ap (λ (t : Span). t.start) is) in (
       rw (new, c.in_ok-push.ensures.items, is) apart,
       ap (map (λ (t : Span). t.len)) c.in_ok-push.ensures.items ∙ lens_more files c.loop-file.spans.items i s x c.loop-file-test.true (ap (λ (t : Span). t.len) is ∙ ks) c.file-item.is inv.1,
       omega (arith, ap (λ (w : Words). w.used) new, inv.2, sum_by_more size files i x c.loop-file-test.true, ap size c.file-item.is, ks),
       ap (λ (w : Words). length w.words) new ∙ length_carved r k room ∙ inv.3,
       inv.4,
-      inv.5,
-      (let P : List Span → Type 0 = All (λ (t : Span). c.unwrap-regs.result.start ≤ t.start) in subst P (sym c.in_ok-push.ensures.items) (All-push (λ (t : Span). c.unwrap-regs.result.start ≤ t.start) c.loop-file.spans.items s inv.6 behind)),
-      inv.7,
-      inv.8,
+      (let P : List Span → Type 0 = All (λ (t : Span). c.unwrap-regs.result.start ≤ t.start) in subst P (sym c.in_ok-push.ensures.items) (All-push (λ (t : Span). c.unwrap-regs.result.start ≤ t.start) c.loop-file.spans.items s inv.5 behind)),
+      inv.6,
     )
 
 pub invariant_of-result : goal.invariant_of-result
@@ -63,11 +66,8 @@ invariant_of-result c =
     let all : sum_by size (take c.loop-file.file-index files) ≡ sum_by size files = ap (λ (n : ℕ). sum_by size (take n files)) end ∙ ap (sum_by size) (take-length files) in
     let slots = c.in_ok-copies.ensures in
     let whole : Span = record { start = c.unwrap-regs.result.start; len = length c.as_slice.result.now + c.words_of-file_words.result } in
-    let start : c.unwrap-nodes.result.start ≡ 0 = omega (arith, inv.4, inv.7, inv.8) in
-    let first : c.unwrap-nodes.result ≡ first_span c.unwrap-nodes.result.len = λ i. record { start = start i; len = c.unwrap-nodes.result.len } in
-    let P : Span → Type 0 = λ s. Laid c.carve_slots.new.region s c.unwrap-regs.result c.loop-file.spans.items whole c.in_ok-copies.copies.items in
-    subst P first (laid_out c.loop-file.region c.carve_slots.new.region c.unwrap-nodes.result c.unwrap-regs.result c.loop-file.spans.items whole c.in_ok-copies.copies.items c.args.slots
-    inv.0 (all_behind c.unwrap-regs.result c.loop-file.spans.items inv.6) refl (omega (arith, inv.2, inv.8, all, c.words_of-file_words.ensures.sum)) inv.7 slots.apart c.carve_slots.ensures.used slots.count slots.sizes)
+    laid_out c.loop-file.region c.carve_slots.new.region c.unwrap-regs.result c.loop-file.spans.items whole c.in_ok-copies.copies.items c.args.slots
+    inv.0 (all_behind c.unwrap-regs.result c.loop-file.spans.items inv.5) refl (omega (arith, inv.2, inv.6, all, c.words_of-file_words.ensures.sum)) slots.apart c.carve_slots.ensures.used slots.count slots.sizes
 
 pub returns-clause-fits : goal.returns-clause-fits
 returns-clause-fits c =
@@ -77,10 +77,19 @@ returns-clause-fits c =
     let size : NetFile → ℕ = λ f. length f.words in
     let end : c.loop-file.file-index ≡ length files = omega (arith, c.loop-file.auto.file-index-end, c.loop-file-test.false) in
     let all : take c.loop-file.file-index files ≡ net.parts.files = ap (λ (n : ℕ). take n files) end ∙ take-length files ∙ c.as_slice-files.ensures ∙ ap (λ (p : Parts). p.files) c.parts.ensures.parts in
-    fits_laid net c.carve_slots.new.region (first_span c.unwrap-nodes.result.len) c.unwrap-regs.result c.loop-file.spans.items _ c.nodes.ensures.right (invariant_of-result c).apart
-    (inv.4 ∙ ap length c.nodes.ensures.nodes)
-    (inv.5 ∙ ap length (c.as_slice.ensures ∙ ap (λ (p : Parts). p.regs) c.parts-2.ensures.parts))
+    fits_laid net c.in_ok-nodes.nodes.items c.carve_slots.new.region c.unwrap-regs.result c.loop-file.spans.items _ c.nodes.ensures.right
+    (ap (λ (v : List ℕ). length v) (c.in_ok-nodes.ensures.items_if_clones_equal (λ y e. e)) ∙ length-replicate (length c.nodes.result.now) none ∙ ap length c.nodes.ensures.nodes)
+    (invariant_of-result c).apart
+    (inv.4 ∙ ap length (c.as_slice.ensures ∙ ap (λ (p : Parts). p.regs) c.parts-2.ensures.parts))
     (inv.1 ∙ ap (map size) all)
+
+pub returns-clause-nodes : goal.returns-clause-nodes
+returns-clause-nodes c i l =
+    let net = c.args.net.now in
+    let there : i < length c.nodes.result.now = omega (arith, l, ap length c.nodes.ensures.nodes) in
+    let is : get_or c.in_ok-nodes.nodes.items i 0 ≡ none = ap (λ (v : List ℕ). get_or v i 0) (c.in_ok-nodes.ensures.items_if_clones_equal (λ y e. e)) ∙ get_or-replicate (length c.nodes.result.now) i none none there in
+    let P : ℕ → Type 0 = λ x. x < 2 ^ wide net.nodes i in
+    subst P (sym is) (pow_pos (wide net.nodes i))
 
 pub returns-clause-slots : goal.returns-clause-slots
 returns-clause-slots c =

@@ -4,12 +4,10 @@ use Rattle.kp_cycle.specs.inner.Spans.{Apart}
 use Rattle.kp_cycle.proofs.memory.Memory.lay_out.Given as goal
 
 abbrev pub invariant-loop-file : goal.invariant-loop-file
-invariant-loop-file l = Apart l.region (l.nodes ∷ l.regs ∷ l.spans.items)
+invariant-loop-file l = Apart l.region (l.regs ∷ l.spans.items)
     × (map (λ s. s.len) l.spans.items ≡ map (λ f. length f.words) (take l.file-index l.files))
-    × (l.region.used ≡ l.node_count + l.reg_count + sum_by (λ f. length f.words) (take l.file-index l.files))
-    × (length l.region.words ≡ l.node_count + l.size + l.slots * l.size)
-    × (l.nodes.len ≡ l.node_count)
+    × (l.region.used ≡ l.reg_count + sum_by (λ f. length f.words) (take l.file-index l.files))
+    × (length l.region.words ≡ l.size + l.slots * l.size)
     × (l.regs.len ≡ l.reg_count)
     × All (λ s. l.regs.start ≤ s.start) l.spans.items
-    × (l.nodes.start + l.nodes.len ≤ l.regs.start)
-    × (l.regs.start ≡ l.node_count)
+    × (l.regs.start ≡ 0)

@@ -12,4 +12,4 @@ words-requires c =
     let there : c.args.file < length m.files.items = omega (arith, c.requires, ap (λ (x : Stored). length x.files) c.self.view_is, length-map m.files.items (span_words m.region)) in
     let is = c.index.ensures ∙ get_or_default m.files.items c.args.file c.index.result.now no_span there in
     let P : Span → Type 0 = λ s. IsWithin s m.region in
-    record { within = subst P (sym is) (c.self.invariant.apart.within (suc (suc c.args.file)) (omega (arith, there))) }
+    record { within = subst P (sym is) (c.self.invariant.apart.within (suc c.args.file) (omega (arith, there))) }

@@ -1,0 +1,10 @@
+-- What a memory lends.
+use Rattle.std.specs.Prelude.{ℕ, List, length}
+use Rattle.std.specs.List.{refill}
+use Rattle.std.specs.Borrow.{Lends, MutBor, Fml, Array, u64}
+use Rattle.kp_cycle.specs.inner.Storage.{Stored}
+use Rattle.kp_cycle.specs.contracts.memory.Memory.{the_row}
+
+-- the memory ends with the last values of the nodes, of which there are as many
+abbrev pub LendsNodes : MutBor Stored → MutBor (List ℕ) → Fml
+LendsNodes m r = Lends the_row (Array u64 0) m r (λ ws. record m.now { nodes = refill (length m.now.nodes) m.now.nodes ws })
