@@ -13,14 +13,15 @@ use kp_region::{Region, Span};
 use std::alloc::Global;
 use std::marker::Model;
 
-/// The registers of a netlist and the words of its files, each in a span of one region. They are adjacent, so that the
-/// complete state is a span as well, and each slot is another span of its size. The values of the nodes are no part of
-/// the state: each cycle computes them anew.
+/// The registers of a netlist and the words of its files, each in a span of one region. The registers are in the first
+/// span, so that the index of a register is that of its word. All these are adjacent, so that the complete state is a
+/// span as well, and each slot is another span of its size. The values of the nodes are no part of the state: each cycle
+/// computes those that are needed.
 #[derive(Debug, Drop)]
 pub struct Memory {
     nodes: Vec<u64>,
     region: Region,
-    regs: Span,
+    reg_count: u32,
     files: Vec<Span>,
     whole: Span,
     slots: Vec<Slot>,
@@ -30,18 +31,18 @@ impl Model for Memory {
     ghost use Rattle.std.specs.Prelude.{map};
     ghost use Rattle.kp_region.specs.Words.{span_words};
     ghost use Rattle.kp_cycle.specs.inner.Storage.{Stored};
-    ghost use Rattle.kp_cycle.specs.inner.Spans.{held, Laid};
+    ghost use Rattle.kp_cycle.specs.inner.Spans.{first_span, held, Laid};
 
     ghost Value = { Stored };
 
     ghost view = { λ m. record {
       nodes = m.nodes.items;
-      regs = span_words m.region m.regs;
+      regs = span_words m.region (first_span m.reg_count);
       files = map (span_words m.region) m.files.items;
-      slots = map (held m.region m.regs m.files.items m.whole) m.slots.items;
+      slots = map (held m.region (first_span m.reg_count) m.files.items m.whole) m.slots.items;
     } };
 
-    ghost invariant = { λ m. Laid m.region m.regs m.files.items m.whole m.slots.items };
+    ghost invariant = { λ m. Laid m.region (first_span m.reg_count) m.files.items m.whole m.slots.items };
 }
 
 impl Memory {
@@ -90,7 +91,7 @@ impl Memory {
         Ok(Memory {
             nodes,
             region,
-            regs,
+            reg_count: regs.len,
             files: spans,
             whole,
             slots: copies,
@@ -127,7 +128,11 @@ impl Memory {
         requires regs { count ≤ length self.old.regs }
         ensures { self.new ≡ record self.old { nodes = take count self.old.regs ++ drop count self.old.nodes } }
     {
-        let regs = self.region.words(self.regs);
+        let span = Span {
+            start: 0,
+            len: self.reg_count,
+        };
+        let regs = self.region.words(span);
         copy_front(self.nodes.as_mut_slice(), regs, count as usize);
     }
 
@@ -136,7 +141,11 @@ impl Memory {
         requires { i < length self.now.regs }
         ensures { result ≡ get_or self.now.regs i 0 }
     {
-        self.region.get(self.regs, i)
+        let regs = Span {
+            start: 0,
+            len: self.reg_count,
+        };
+        self.region.get(regs, i)
     }
 
     /// Sets the value of a register.
@@ -144,7 +153,11 @@ impl Memory {
         requires { i < length self.old.regs }
         ensures { self.new ≡ record self.old { regs = set self.old.regs i value } }
     {
-        self.region.put(self.regs, i, value);
+        let regs = Span {
+            start: 0,
+            len: self.reg_count,
+        };
+        self.region.put(regs, i, value);
     }
 
     /// The word of a file at an address.

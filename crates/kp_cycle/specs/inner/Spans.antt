@@ -9,6 +9,10 @@ use Rattle.kp_cycle.specs.declared.slots.Slot.{Slot}
 abbrev pub no_span : Span
 no_span = record { start = 0; len = 0 }
 
+-- the first span of a region
+abbrev pub first_span : ℕ → Span
+first_span n = record { start = 0; len = n }
+
 -- all spans end within the used words, which are fewer than 2^32, and no two of them overlap
 pub record Apart (r : Words) (spans : List Span) : Type 0 where
   pub sound : IsSound r

@@ -12,7 +12,7 @@ use Rattle.kp_net.specs.Widths.{wide}
 use Rattle.kp_region.specs.declared.span.Span.{Span}
 use Rattle.kp_region.specs.declared.region.Full.{Full}
 use Rattle.kp_region.specs.Words.{Words, IsSound, next_span, carved}
-use Rattle.kp_cycle.specs.inner.Spans.{no_span}
+use Rattle.kp_cycle.specs.inner.Spans.{Laid, first_span, no_span}
 use Rattle.kp_cycle.proofs.Spans.{apart_carved, length_carved, lens_more, fits_laid}
 use Rattle.kp_cycle.proofs.Copies.{laid_out, unsaved}
 use Rattle.kp_cycle.proofs.memory.Memory.lay_out.Goals as goal
@@ -66,8 +66,11 @@ invariant_of-result c =
     let all : sum_by size (take c.loop-file.file-index files) ≡ sum_by size files = ap (λ (n : ℕ). sum_by size (take n files)) end ∙ ap (sum_by size) (take-length files) in
     let slots = c.in_ok-copies.ensures in
     let whole : Span = record { start = c.unwrap-regs.result.start; len = length c.as_slice.result.now + c.words_of-file_words.result } in
-    laid_out c.loop-file.region c.carve_slots.new.region c.unwrap-regs.result c.loop-file.spans.items whole c.in_ok-copies.copies.items c.args.slots
-    inv.0 (all_behind c.unwrap-regs.result c.loop-file.spans.items inv.5) refl (omega (arith, inv.2, inv.6, all, c.words_of-file_words.ensures.sum)) slots.apart c.carve_slots.ensures.used slots.count slots.sizes
+    let start : c.unwrap-regs.result.start ≡ 0 = inv.6 in
+    let first : c.unwrap-regs.result ≡ first_span c.unwrap-regs.result.len = λ i. record { start = start i; len = c.unwrap-regs.result.len } in
+    let P : Span → Type 0 = λ s. Laid c.carve_slots.new.region s c.loop-file.spans.items whole c.in_ok-copies.copies.items in
+    subst P first (laid_out c.loop-file.region c.carve_slots.new.region c.unwrap-regs.result c.loop-file.spans.items whole c.in_ok-copies.copies.items c.args.slots
+    inv.0 (all_behind c.unwrap-regs.result c.loop-file.spans.items inv.5) refl (omega (arith, inv.2, inv.6, all, c.words_of-file_words.ensures.sum)) slots.apart c.carve_slots.ensures.used slots.count slots.sizes)
 
 pub returns-clause-fits : goal.returns-clause-fits
 returns-clause-fits c =
@@ -77,7 +80,7 @@ returns-clause-fits c =
     let size : NetFile → ℕ = λ f. length f.words in
     let end : c.loop-file.file-index ≡ length files = omega (arith, c.loop-file.auto.file-index-end, c.loop-file-test.false) in
     let all : take c.loop-file.file-index files ≡ net.parts.files = ap (λ (n : ℕ). take n files) end ∙ take-length files ∙ c.as_slice-files.ensures ∙ ap (λ (p : Parts). p.files) c.parts.ensures.parts in
-    fits_laid net c.in_ok-nodes.nodes.items c.carve_slots.new.region c.unwrap-regs.result c.loop-file.spans.items _ c.nodes.ensures.right
+    fits_laid net c.in_ok-nodes.nodes.items c.carve_slots.new.region (first_span c.unwrap-regs.result.len) c.loop-file.spans.items _ c.nodes.ensures.right
     (ap (λ (v : List ℕ). length v) (c.in_ok-nodes.ensures.items_if_clones_equal (λ y e. e)) ∙ length-replicate (length c.nodes.result.now) none ∙ ap length c.nodes.ensures.nodes)
     (invariant_of-result c).apart
     (inv.4 ∙ ap length (c.as_slice.ensures ∙ ap (λ (p : Parts). p.regs) c.parts-2.ensures.parts))
@@ -93,5 +96,5 @@ returns-clause-nodes c i l =
 
 pub returns-clause-slots : goal.returns-clause-slots
 returns-clause-slots c =
-    unsaved c.carve_slots.new.region c.unwrap-regs.result c.loop-file.spans.items
+    unsaved c.carve_slots.new.region (first_span c.unwrap-regs.result.len) c.loop-file.spans.items
     (record { start = c.unwrap-regs.result.start; len = length c.as_slice.result.now + c.words_of-file_words.result }) c.in_ok-copies.copies.items c.args.slots c.in_ok-copies.ensures.count c.in_ok-copies.ensures.unsaved

@@ -3,7 +3,7 @@ use Rattle.std.proofs.lemmas.List.{get_or_default, length-map}
 use Rattle.kp_region.specs.declared.span.Span.{Span}
 use Rattle.kp_region.specs.Words.{Words, IsWithin, IsDisjoint, span_words, copied}
 use Rattle.kp_cycle.specs.declared.slots.Slot.{Slot}
-use Rattle.kp_cycle.specs.inner.Spans.{Laid, no_slot, state_in, held}
+use Rattle.kp_cycle.specs.inner.Spans.{first_span, Laid, no_slot, state_in, held}
 use Rattle.kp_cycle.specs.inner.Storage.{Stored, state_of}
 use Rattle.kp_cycle.proofs.Copies.{other_way, slot_within, beside_whole, laid_saved, state_saved, slots_saved}
 use Rattle.kp_cycle.proofs.memory.Memory.save.Goals as goal
@@ -68,27 +68,27 @@ module _ (values : List ℕ) (r : Words) (g : Span) (fs : List Span) (w : Span) 
 
 pub copy-requires-clause-same_length : goal.copy-requires-clause-same_length
 copy-requires-clause-same_length c =
-    let m = c.self.inside in same m.nodes.items m.region m.regs m.files.items m.whole m.slots.items c.self.invariant c.args.self.now c.args.slot c.index-copy.result.now c.self.view_is c.requires c.index-copy.ensures
+    let m = c.self.inside in same m.nodes.items m.region (first_span m.reg_count) m.files.items m.whole m.slots.items c.self.invariant c.args.self.now c.args.slot c.index-copy.result.now c.self.view_is c.requires c.index-copy.ensures
 
 pub copy-requires-clause-from_within : goal.copy-requires-clause-from_within
 copy-requires-clause-from_within c = c.self.invariant.beside.within 0 (omega arith)
 
 pub copy-requires-clause-to_within : goal.copy-requires-clause-to_within
 copy-requires-clause-to_within c =
-    let m = c.self.inside in within m.nodes.items m.region m.regs m.files.items m.whole m.slots.items c.self.invariant c.args.self.now c.args.slot c.index-copy.result.now c.self.view_is c.requires c.index-copy.ensures
+    let m = c.self.inside in within m.nodes.items m.region (first_span m.reg_count) m.files.items m.whole m.slots.items c.self.invariant c.args.self.now c.args.slot c.index-copy.result.now c.self.view_is c.requires c.index-copy.ensures
 
 pub copy-requires-clause-disjoint : goal.copy-requires-clause-disjoint
 copy-requires-clause-disjoint c =
-    let m = c.self.inside in beside m.nodes.items m.region m.regs m.files.items m.whole m.slots.items c.self.invariant c.args.self.now c.args.slot c.index-copy.result.now c.self.view_is c.requires c.index-copy.ensures
+    let m = c.self.inside in beside m.nodes.items m.region (first_span m.reg_count) m.files.items m.whole m.slots.items c.self.invariant c.args.self.now c.args.slot c.index-copy.result.now c.self.view_is c.requires c.index-copy.ensures
 
 pub invariant_of-self : goal.invariant_of-self
 invariant_of-self c =
     let m = c.self.inside in
-    laid m.nodes.items m.region m.regs m.files.items m.whole m.slots.items c.self.invariant c.args.self.now c.args.slot c.index-copy.result.now c.self.view_is c.requires c.index-copy.ensures
+    laid m.nodes.items m.region (first_span m.reg_count) m.files.items m.whole m.slots.items c.self.invariant c.args.self.now c.args.slot c.index-copy.result.now c.self.view_is c.requires c.index-copy.ensures
     c.copy.new.self c.copy.ensures.copied c.index_mut.result.now c.index_mut.ensures.value
 
 pub returns : goal.returns
 returns c =
     let m = c.self.inside in
-    view_is m.nodes.items m.region m.regs m.files.items m.whole m.slots.items c.self.invariant c.args.self.now c.args.slot c.index-copy.result.now c.self.view_is c.requires c.index-copy.ensures
+    view_is m.nodes.items m.region (first_span m.reg_count) m.files.items m.whole m.slots.items c.self.invariant c.args.self.now c.args.slot c.index-copy.result.now c.self.view_is c.requires c.index-copy.ensures
     c.copy.new.self c.copy.ensures.copied c.index_mut.result.now c.index_mut.ensures.value
