@@ -1,0 +1,154 @@
+// Why a Verilog text is rejected.
+ghost use Rattle.std.specs.Prelude.{◌≤◌, ◌-◌, ◌^◌, length};
+
+use crate::lines::{offset_at, token_length, word_length};
+use crate::reading::{expected_at, found_at, no_token};
+use kp_base::{NoMemory, Refusal, Refused};
+use kp_view_excerpt::Excerpt;
+use kp_view_note::{excerpt_at, write_fault};
+use kp_view_verilog_faults::{Expected, ReadingFault};
+use kp_view_verilog_module::{driver_fault, name_fault, width_fault};
+use kp_vlog::{VModule, VToken, vlex};
+use kp_vread_parse::vparse;
+use std::alloc::Global;
+
+/// Appends what follows the head of one of V1 to V5 for a text that begins at an offset: the message, the excerpt at its place, and what helps.
+pub fn write_verilog(
+    alloc: Global,
+    out: &mut Vec<u8>,
+    text: &[u8],
+    from: u32,
+    refusal: Refusal,
+) -> Result<(), NoMemory>
+    requires within { from ≤ length text.now }
+    requires fits { length text.now ≤ 2 ^ 32 - 2 }
+{
+    match vlex(alloc, text, from) {
+        Err(Refused::NoMemory) => Err(NoMemory),
+        Err(Refused::Rule(_)) => write_no_token(alloc, out, text, refusal),
+        Ok(tokens) => match vparse(alloc, text, tokens.as_slice()) {
+            Err(Refused::NoMemory) => Err(NoMemory),
+            Err(Refused::Rule(_)) => {
+                write_wrong_token(alloc, out, text, tokens.as_slice(), refusal)
+            }
+            Ok(module) => {
+                let end = write_of_module(alloc, out, text, &module, refusal);
+                drop(module);
+                end
+            }
+        },
+    }
+}
+
+// V1.
+fn write_no_token(
+    alloc: Global,
+    out: &mut Vec<u8>,
+    text: &[u8],
+    refusal: Refusal,
+) -> Result<(), NoMemory> {
+    let (_before, rest) = text.split_at(offset_at(text, refusal.place));
+    let fault = no_token(rest);
+    let marked = match fault {
+        ReadingFault::OpenComment => 2,
+        _ => word_length(rest).max(1),
+    };
+    let excerpt = excerpt_at(text, refusal.place, marked);
+    write_fault(alloc, out, &excerpt, &fault, &fault.help())
+}
+
+// V2.
+fn write_wrong_token(
+    alloc: Global,
+    out: &mut Vec<u8>,
+    text: &[u8],
+    tokens: &[VToken],
+    refusal: Refusal,
+) -> Result<(), NoMemory> {
+    let at = offset_at(text, refusal.place);
+    let found = found_at(text, tokens, at);
+    let excerpt = excerpt_of(text, refusal);
+    match expected_at(alloc, text, tokens, at)? {
+        Some(classes) => {
+            let expected = Expected(classes.as_slice());
+            let fault = ReadingFault::Unexpected { found, expected };
+            write_fault(alloc, out, &excerpt, &fault, &fault.help())
+        }
+        None => {
+            let fault = ReadingFault::NoModule(found);
+            write_fault(alloc, out, &excerpt, &fault, &fault.help())
+        }
+    }
+}
+
+// V3 to V5: the rules of a module.
+fn write_of_module(
+    alloc: Global,
+    out: &mut Vec<u8>,
+    text: &[u8],
+    module: &VModule,
+    refusal: Refusal,
+) -> Result<(), NoMemory> {
+    let excerpt = excerpt_of(text, refusal);
+    let at = offset_at(text, refusal.place);
+    match refusal.number {
+        3 => write_names(alloc, out, text, &excerpt, module, at),
+        4 => write_widths(alloc, out, text, &excerpt, module, at),
+        5 => write_drivers(alloc, out, text, &excerpt, module, at),
+        _ => write_unknown(alloc, out, &excerpt),
+    }
+}
+
+fn write_names(
+    alloc: Global,
+    out: &mut Vec<u8>,
+    text: &[u8],
+    excerpt: &Excerpt<'_>,
+    module: &VModule,
+    at: usize,
+) -> Result<(), NoMemory> {
+    match name_fault(alloc, text, module, at)? {
+        Some(fault) => write_fault(alloc, out, excerpt, &fault, &fault.help()),
+        None => write_unknown(alloc, out, excerpt),
+    }
+}
+
+fn write_widths(
+    alloc: Global,
+    out: &mut Vec<u8>,
+    text: &[u8],
+    excerpt: &Excerpt<'_>,
+    module: &VModule,
+    at: usize,
+) -> Result<(), NoMemory> {
+    match width_fault(alloc, text, module, at)? {
+        Some(fault) => write_fault(alloc, out, excerpt, &fault, &fault.help()),
+        None => write_unknown(alloc, out, excerpt),
+    }
+}
+
+fn write_drivers(
+    alloc: Global,
+    out: &mut Vec<u8>,
+    text: &[u8],
+    excerpt: &Excerpt<'_>,
+    module: &VModule,
+    at: usize,
+) -> Result<(), NoMemory> {
+    match driver_fault(alloc, text, module, at)? {
+        Some(fault) => write_fault(alloc, out, excerpt, &fault, &fault.help()),
+        None => write_unknown(alloc, out, excerpt),
+    }
+}
+
+// A violation of which no more is known.
+fn write_unknown(alloc: Global, out: &mut Vec<u8>, excerpt: &Excerpt<'_>) -> Result<(), NoMemory> {
+    let fault = ReadingFault::Unknown;
+    write_fault(alloc, out, excerpt, &fault, &fault.help())
+}
+
+// The excerpt with a mark under the token at the place.
+fn excerpt_of<'t>(text: &'t [u8], refusal: Refusal) -> Excerpt<'t> {
+    let (_before, rest) = text.split_at(offset_at(text, refusal.place));
+    excerpt_at(text, refusal.place, token_length(rest))
+}
