@@ -24,7 +24,7 @@ _kpview() {
         1)
             case ${COMP_WORDS[1]} in
                 paths) COMPREPLY=($(compgen -f -W '--svg' -- "$cur")) ;;
-                explain) COMPREPLY=($(compgen -f -W '--werror --help asm debug' -- "$cur")) ;;
+                explain) COMPREPLY=($(compgen -f -W '--werror --help read watch asm debug' -- "$cur")) ;;
                 *) COMPREPLY=($(compgen -W '10 20 50 100 1000' -- "$cur")) ;;
             esac
             ;;

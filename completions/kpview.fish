@@ -15,6 +15,6 @@ complete -c kpview -n '__kpview_argument 1' -k -a stalls -d 'Say why each instru
 complete -c kpview -n '__kpview_argument 1' -k -a explain -d 'Say why a job is rejected, and warn'
 complete -c kpview -n '__kpview_argument 2; and not __fish_seen_subcommand_from paths explain' -f -k -a '10 20 50 100 1000' -d 'Cycles, 0 to 1000'
 complete -c kpview -n '__kpview_argument 2; and __fish_seen_subcommand_from paths' -k -a '--svg'
-complete -c kpview -n '__kpview_argument 2; and __fish_seen_subcommand_from explain' -k -a '--werror asm debug'
+complete -c kpview -n '__kpview_argument 2; and __fish_seen_subcommand_from explain' -k -a '--werror read watch asm debug'
 complete -c kpview -s h -l help -d 'Print help'
 complete -c kpview -s V -l version -d 'Print the version'
