@@ -1,0 +1,51 @@
+-- From the verdicts of the readers to what is specified.
+use Rattle.std.proofs.Common.{◌≡◌, ◌≤◌, ◌∙◌, ℕ, List, [], length, Some, Err, false, ap, sym, subst, inl, inr, arith}
+use Rattle.std.specs.declared.option.Option.{Option}
+use Rattle.std.specs.declared.result.Result.{Result}
+use Rattle.std.specs.Io.KnownBytes.{Consumes, IsAtEnd}
+use Rattle.kp_base.specs.declared.refusal.Refusal.{Refusal}
+use Rattle.kp_ast.specs.declared.tree.Job.{Job}
+use Rattle.kp_net.specs.Netlist.{Net}
+use Rattle.kp_synth_tables.specs.Keys.{keys_of}
+use Rattle.kp_synth.specs.Carrying.{Carries}
+use Rattle.kp_frontend.specs.Judging.{JudgesHead, JudgesHeadText, most_bytes, too_long}
+use Rattle.kp_frontend.specs.Judging.JudgesHead.{head_over, head_within}
+use Rattle.kp_view_texts.specs.Heads.{rule_head}
+use Rattle.kp_view_explain.specs.Explaining.{ExplainsText, Says, in_script}
+use Rattle.kp_view_explain.specs.declared.words.Subject.TheVariants as subjects
+use Rattle.kp_core_words.specs.Messages.{BeginsWith, file_name}
+use Rattle.kp_core_words.specs.Words.{write}
+use Rattle.kp_core.specs.Due.{DueOfHead, DueOfVerdict, IsDue}
+
+-- a job that violates a rule: the head of an input has one verdict, so the explanation names that rule
+pub explained : (one : (input : List ℕ) (a b : Result (Job × ℕ) Refusal) → JudgesHead input a → JudgesHead input b → a ≡ b)
+    (file text : List ℕ) (refusal : Refusal) (status : ℕ) (said : List ℕ) → length text ≤ most_bytes → JudgesHeadText text (Err refusal)
+    → ExplainsText subjects.Debugged false file text status said → DueOfHead file text status said
+explained one file text refusal status said short judged (found, (verdict, judges, is), says) =
+    let same : verdict ≡ Err refusal = one text verdict (Err refusal) (head_within short judges) (head_within short judged) in
+    let known : found ≡ Some refusal = is ∙ ap (in_script text) same in
+    (Err refusal, judged, subst (λ (f : Option Refusal). Says subjects.Debugged false file f status said) known says)
+
+-- a netlist whose registers hold the state of the pipeline has one for each key of the job
+pub all_registers : (net : Net) (job other : Job) → Carries net job → other ≡ job → length net.parts.regs ≡ length (keys_of other)
+all_registers net job other carries same = (carries.runs [] (λ k d l. absurd (omega (arith, l)))).keys ∙ ap (λ (j : Job). length (keys_of j)) (sym same)
+
+-- the whole input of a source, which isn't too long
+pub of_input : (name : Option (List ℕ)) (file : List ℕ) (old new : Option (List ℕ)) (input : List ℕ) (status : ℕ) (text : List ℕ) → file ≡ file_name name
+    → Consumes old new input → IsAtEnd new → length input ≤ 16777216 → DueOfHead file input status text → IsDue (write name) old new status text
+of_input name file old new input status text is consumed end few (verdict, judged, due) = record {
+  taken = input;
+  consumed = consumed;
+  whole = inl (end, few);
+  due = (verdict, head_within few judged, subst (λ (f : List ℕ). DueOfVerdict f input verdict status text) is due);
+}
+
+-- an input that is too long
+pub of_excess : (name : Option (List ℕ)) (file : List ℕ) (old new : Option (List ℕ)) (input : List ℕ) (status : ℕ) (text : List ℕ) → file ≡ file_name name
+    → Consumes old new input → length input ≡ 16777217 → (status ≡ 2) × BeginsWith (rule_head file too_long) text → IsDue (write name) old new status text
+of_excess name file old new input status text is consumed count said = record {
+  taken = input;
+  consumed = consumed;
+  whole = inr count;
+  due = (Err too_long, head_over (omega (arith, count)), subst (λ (f : List ℕ). DueOfVerdict f input (Err too_long) status text) is said);
+}

@@ -1,0 +1,84 @@
+-- What is specified: a status and a text for what is asked and the bytes of the source. The text of status 0 goes to standard output, and any other to
+-- standard error.
+use Rattle.std.specs.Prelude.{◌≡◌, ◌≢◌, ◌≤◌, ◌⊎◌, Bool, true, false, ℕ, zero, suc, List, [], length, Ok, Err, Option, Result}
+use Rattle.std.specs.Io.KnownBytes.{Consumes, Appends, IsAtEnd}
+use Rattle.kp_base.specs.Bytes.{AppendsPart}
+use Rattle.kp_base.specs.declared.refusal.Refusal.{Refusal}
+use Rattle.kp_ast.specs.declared.tree.Job.{Job}
+use Rattle.kp_frontend.specs.Judging.{JudgesHead, JudgesHeadText}
+use Rattle.kp_net.specs.Netlist.{Net}
+use Rattle.kp_net.specs.Names.{IsNamed}
+use Rattle.kp_synth_spec.specs.Shows.{Shows, IsInOrder}
+use Rattle.kp_synth_spec.specs.Anew.{BeginsAnew}
+use Rattle.kp_synth.specs.Carrying.{Carries}
+use Rattle.kp_view_texts.specs.Heads.{rule_head}
+use Rattle.kp_core_ports.specs.declared.port.Port.{Port}
+use Rattle.kp_core_ports.specs.declared.port.PortRefusal.{PortRefusal}
+use Rattle.kp_core_ports.specs.Ports.{ports_of}
+use Rattle.kp_core_text.specs.Core.{core_text}
+use Rattle.kp_core_words.specs.Messages.{BeginsWith, file_name, port_head}
+use Rattle.kp_core_words.specs.Words.{Asked, bad_words, help, version, write, reads_input}
+use Rattle.kp_core_words.specs.declared.texts.TheConstants.{HELP, USAGE, VERSION}
+
+-- exactly this status and this text
+abbrev pub Says : ℕ → List ℕ → ℕ → List ℕ → Type 0
+Says s t status text = (status ≡ s) × (text ≡ t)
+
+-- THE MODULE of a job with ports: the text of a netlist that shows the pipelined machine of the job, begins anew after each reset, and whose registers
+-- hold the state of the pipeline, with these ports added.
+pub record IsCoreOf (job : Job) (ports : List Port) (text : List ℕ) : Type 0 where
+  pub net : Net
+  pub shows : Shows net job
+  pub anew : BeginsAnew net job
+  pub carries : Carries net job
+  pub named : IsNamed net
+  pub order : IsInOrder net job
+  pub whole : text ≡ core_text net job ports
+
+-- the outcome for a job and the lines behind it
+abbrev pub DueOfLines : List ℕ → Job → Result (List Port) PortRefusal → ℕ → List ℕ → Type 0
+DueOfLines file job (Ok ports) status text = (status ≡ 0) × IsCoreOf job ports text
+DueOfLines file job (Err refusal) status text = (status ≡ 2) × BeginsWith (port_head file refusal) text
+
+-- the outcome for a verdict on the head of an input
+abbrev pub DueOfVerdict : List ℕ → List ℕ → Result (Job × ℕ) Refusal → ℕ → List ℕ → Type 0
+DueOfVerdict file input (Ok (job, rest)) status text = DueOfLines file job (ports_of job input rest) status text
+DueOfVerdict file input (Err refusal) status text = (status ≡ 2) × BeginsWith (rule_head file refusal) text
+
+-- the outcome for an input that is not too long
+abbrev pub DueOfHead : List ℕ → List ℕ → ℕ → List ℕ → Type 0
+DueOfHead file input status text = (verdict : Result (Job × ℕ) Refusal) × JudgesHeadText input verdict × DueOfVerdict file input verdict status text
+
+-- the outcome for what is asked, on an input
+abbrev pub DueFor : Asked → List ℕ → ℕ → List ℕ → Type 0
+DueFor bad_words input status text = Says 1 USAGE.now status text
+DueFor help input status text = Says 0 HELP.now status text
+DueFor version input status text = Says 0 VERSION.now status text
+DueFor (write file) input status text = (verdict : Result (Job × ℕ) Refusal) × JudgesHead input verdict × DueOfVerdict (file_name file) input verdict status text
+
+-- a source was read as far as is specified: not at all; or to its end, where an input of at most 16,777,216 bytes ends; or one byte further
+abbrev pub IsWhole : Bool → List ℕ → Option (List ℕ) → Type 0
+IsWhole false taken left = taken ≡ []
+IsWhole true taken left = (IsAtEnd left × (length taken ≤ 16777216)) ⊎ (length taken ≡ 16777217)
+
+-- the status and the text are those specified for the bytes that were read from the source
+pub record IsDue (asked : Asked) (old new : Option (List ℕ)) (status : ℕ) (text : List ℕ) : Type 0 where
+  pub taken : List ℕ
+  pub consumed : Consumes old new taken
+  pub whole : IsWhole (reads_input asked) taken new
+  pub due : DueFor asked taken status text
+
+-- a status of a specified outcome: not that of a read fault (3), a write fault (4) or of out of memory (5)
+abbrev pub IsFinal : ℕ → Type 0
+IsFinal status = (status ≢ 3) × (status ≢ 4) × (status ≢ 5)
+
+module _ {S T : Type 0} (held : S → Option (List ℕ)) (held_err : T → Option (List ℕ)) where
+  -- the complete text was appended to standard output for status 0, and to standard error for any other; nothing was written to the other one
+  abbrev pub Prints : (old new : S) (old_err new_err : T) → ℕ → List ℕ → Type 0
+  Prints old new old_err new_err zero text = Appends (held old) (held new) text × (new_err ≡ old_err)
+  Prints old new old_err new_err (suc status) text = (new ≡ old) × Appends (held_err old_err) (held_err new_err) text
+
+  -- the same of a prefix of the text
+  abbrev pub PrintsPart : (old new : S) (old_err new_err : T) → ℕ → List ℕ → Type 0
+  PrintsPart old new old_err new_err zero text = AppendsPart (held old) (held new) text × (new_err ≡ old_err)
+  PrintsPart old new old_err new_err (suc status) text = (new ≡ old) × AppendsPart (held_err old_err) (held_err new_err) text

@@ -1,0 +1,88 @@
+// The module of a job.
+ghost use Rattle.std.specs.Prelude.{◌≡◌, ◌≤◌, length, Err, IfOk};
+ghost use Rattle.kp_frontend.specs.Judging.{most_bytes, JudgesHeadText};
+ghost use Rattle.kp_core_ports.specs.Ports.{ports_of, AllExist};
+ghost use Rattle.kp_core.specs.Due.{DueOfHead, DueOfLines, IsCoreOf};
+ghost use Rattle.kp_base.specs.declared.refusal.Refusal.{Refusal};
+ghost use Rattle.kp_core.specs.Answers.{text_said};
+
+use crate::answer::{Answer, Said};
+use kp_base::{NoMemory, Refused};
+use kp_core_ports::{Port, PortsRefused, read_ports};
+use kp_core_text::core_text;
+use kp_core_words::message_of;
+use kp_frontend::laws::a_head_has_one_verdict;
+use kp_frontend::{Accepted, Head, judge_head};
+use kp_synth::synth;
+use kp_synth_tables::Layout;
+use kp_view_explain::{Explanation, Subject, explain};
+use std::alloc::Global;
+
+/// What is to be written for an input that is not too long, under the name of its file. The only error is out of memory.
+pub fn of_input(alloc: Global, file: &[u8], text: &[u8]) -> Result<Answer, NoMemory>
+    requires { length text.now ≤ most_bytes }
+    ensures due { IfOk result (λ a. DueOfHead file.now text.now a.status (text_said a.said)) }
+    ensures low { IfOk result (λ a. a.status ≤ 2) }
+{
+    match judge_head(alloc, text) {
+        Ok(head) => {
+            let answer = of_head(alloc, file, text, &head)?;
+            drop(head);
+            Ok(answer)
+        }
+        Err(Refused::Rule(_)) => explained(alloc, file, text),
+        Err(Refused::NoMemory) => Err(NoMemory),
+    }
+}
+
+// The same for a job that violates a rule.
+fn explained(alloc: Global, file: &[u8], text: &[u8]) -> Result<Answer, NoMemory>
+    requires { length text.now ≤ most_bytes }
+    ensures due { IfOk result (λ a. (refusal : Refusal) → JudgesHeadText text.now (Err refusal) → DueOfHead file.now text.now a.status (text_said a.said)) }
+    ensures low { IfOk result (λ a. a.status ≤ 2) }
+{
+    a_head_has_one_verdict();
+    let Explanation { status, text } = explain(alloc, file, Subject::Debugged, false, text)?;
+    Ok(Answer {
+        status,
+        said: Said::Made(text),
+    })
+}
+
+// The same for a job that violates none.
+fn of_head(alloc: Global, file: &[u8], text: &[u8], head: &Head) -> Result<Answer, NoMemory>
+    requires short { length text.now ≤ most_bytes }
+    requires within { head.now.rest ≤ length text.now }
+    ensures low { IfOk result (λ a. a.status ≤ 2) }
+    ensures due { IfOk result (λ a. DueOfLines file.now head.now.job.design.job (ports_of head.now.job.design.job text.now head.now.rest) a.status (text_said a.said)) }
+{
+    let layout = Layout::of(alloc, &head.job.design)?;
+    match read_ports(alloc, &layout, text, head.rest) {
+        Ok(ports) => Ok(Answer {
+            status: 0,
+            said: Said::Made(module_text(alloc, &head.job, &layout, ports.as_slice())?),
+        }),
+        Err(PortsRefused::Rule(refusal)) => Ok(Answer {
+            status: 2,
+            said: Said::Made(message_of(alloc, file, text, refusal)?),
+        }),
+        Err(PortsRefused::NoMemory) => Err(NoMemory),
+    }
+}
+
+// The module with these ports.
+fn module_text(
+    alloc: Global,
+    job: &Accepted,
+    layout: &Layout<'_>,
+    ports: &[Port],
+) -> Result<Vec<u8>, NoMemory>
+    requires layout { layout.now ≡ job.now.design.job }
+    requires exist { AllExist layout.now ports.now }
+    ensures { IfOk result (λ text. IsCoreOf job.now.design.job ports.now text.items) }
+{
+    // The invariant of the type, for the proof only.
+    let _kept = job.design.job();
+    let net = synth(alloc, &job.design, &job.sections.start)?;
+    core_text(alloc, &net, layout, ports)
+}
