@@ -1,0 +1,2 @@
+pub mod Occupants
+pub mod Showing
