@@ -9,11 +9,16 @@ MACHINES = {'rv32i': 5, 'rv32ib': 5, 'rv32ip': 5, 'rv32im': 12}       # name -> 
 MOST_CYCLES = 100_000
 
 
-def kp():
-    """The program kp: the variable KP, else the built program of this repository, else its script kp."""
+def built(name):
+    """A program of this repository: the variable KP or KPCORE, else the built program, else the script of its name."""
     top = os.path.join(HERE, '..', '..')
-    built = os.path.join(top, 'crates', 'kp', 'out', 'kp')
-    return os.environ.get('KP') or (built if os.path.exists(built) else os.path.join(top, 'kp'))
+    built = os.path.join(top, 'crates', name, 'out', name)
+    return os.environ.get(name.upper()) or (built if os.path.exists(built) else os.path.join(top, name))
+
+
+def kp():
+    """The program kp."""
+    return built('kp')
 
 
 def text_of(path):

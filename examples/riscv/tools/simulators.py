@@ -81,13 +81,13 @@ class Verilator:
 
 
 class Outside:
-    """rv32ix with its memories in soc.v, in Icarus Verilog."""
+    """The system of examples/soc, in Icarus Verilog."""
 
     def __init__(self, work):
         self.work = work
-        module, _ = execution.run([execution.kp(), 'pipe'], execution.machine_text('rv32ix'))
-        write(f'{work}/x.v', execution.run([f'{execution.HERE}/expose'], module)[0])
-        execution.run(['iverilog', '-g2005', '-DPROGRAM', '-o', f'{work}/vvp', f'{VERILOG}/soc_bench.v', f'{VERILOG}/soc.v', f'{work}/x.v'])
+        system = f'{execution.HERE}/../soc'
+        write(f'{work}/x.v', execution.run([execution.built('kpcore')], execution.text_of(f'{system}/core.kp'))[0])
+        execution.run(['iverilog', '-g2005', '-DPROGRAM', '-o', f'{work}/vvp', f'{system}/soc_bench.v', f'{system}/soc.v', f'{work}/x.v'])
 
     def run(self, program):
         write_hex(f'{self.work}/im.hex', execution.words(program.image, 'IM'), 1 << 14)
