@@ -1,5 +1,5 @@
-# make          proves and builds the programs kp and kpview where a source is newer: some 30 minutes on four processors from nothing
-# make kp       the first alone, crates/kp/out/kp; make kpview the second, crates/kpview/out/kpview
+# make          proves and builds the programs kp, kpview and kpcore where a source is newer: some 30 minutes on four processors from nothing
+# make kp       the first alone, crates/kp/out/kp; make kpview and make kpcore the others, crates/kpview/out/kpview and crates/kpcore/out/kpcore
 # make check    the gate: all proofs, the edits that proofs must reject, and all stored runs, as .ci/run does
 # make checks   the checks beside the gate: commands of the manual, other tools on the Verilog, refused memory; a line for each
 # make bench    the measurements of time and memory in benches/
@@ -10,7 +10,7 @@
 # make clean    removes what was built and proved here
 # make help     prints these lines
 
-programs = kp kpview
+programs = kp kpview kpcore
 lock     = out/build.lock
 
 # The scripts of checks/ that pass or fail.
@@ -54,12 +54,13 @@ bench: $(if $(KP),,kp)
 pictures: $(if $(KPVIEW),,kpview)
 	@bash checks/pictures.sh write
 
-# PREFIX is an absolute path. DESTDIR is a folder in which it is installed as if it were the root, for packages. KP_BINARY and KPVIEW_BINARY name
-# other files than the programs that are built here.
+# PREFIX is an absolute path. DESTDIR is a folder in which it is installed as if it were the root, for packages. KP_BINARY, KPVIEW_BINARY and
+# KPCORE_BINARY name other files than the programs that are built here.
 PREFIX        = /usr/local
 DESTDIR       =
 KP_BINARY     = crates/kp/out/kp
 KPVIEW_BINARY = crates/kpview/out/kpview
+KPCORE_BINARY = crates/kpcore/out/kpcore
 
 version = $(shell cat VERSION)
 root    = $(DESTDIR)$(PREFIX)
@@ -70,7 +71,7 @@ own     = share/doc/kp share/kp
 vim     = compiler/kp.vim compiler/kpview.vim ftdetect/kp.vim ftplugin/kp.vim syntax/kp.vim
 files   = share/man/man5/kp.5 $(foreach it,$(programs),bin/$(it) share/man/man1/$(it).1 share/bash-completion/completions/$(it) \
           share/zsh/site-functions/_$(it) share/fish/vendor_completions.d/$(it).fish) $(addprefix share/vim/vimfiles/,$(vim))
-needs = $(foreach it,$(KP_BINARY) $(KPVIEW_BINARY),$(if $(wildcard $(it)),,$(error $(it) isn't there: run make first, which builds it)))
+needs = $(foreach it,$(KP_BINARY) $(KPVIEW_BINARY) $(KPCORE_BINARY),$(if $(wildcard $(it)),,$(error $(it) isn't there: run make first, which builds it)))
 trees   = find docs examples \( -name out -o -name __pycache__ \) -prune -o -type f -print
 
 # share/kp has links to the programs, so that the commands of the documents run there as they are printed.
@@ -80,7 +81,8 @@ install:
 	install -d $(patsubst %,"$(root)/%",$(shared) $(own)) && \
 	install -m 755 "$(KP_BINARY)" "$(root)/bin/kp" && \
 	install -m 755 "$(KPVIEW_BINARY)" "$(root)/bin/kpview" && \
-	for it in kp.1 kp.5 kpview.1; do \
+	install -m 755 "$(KPCORE_BINARY)" "$(root)/bin/kpcore" && \
+	for it in kp.1 kp.5 kpview.1 kpcore.1; do \
 	    page="$(root)/share/man/man$${it##*.}/$$it" && \
 	    sed -e 's|@VERSION@|$(version)|g' -e 's|@PREFIX@|$(PREFIX)|g' man/$$it > "$$page" && chmod 644 "$$page" || exit 1; \
 	done && \
@@ -98,7 +100,8 @@ install:
 	    install -d "$${to%/*}" && install -m $$mode "$$it" "$$to" || exit 1; \
 	done && \
 	ln -sf ../../bin/kp "$(root)/share/kp/kp" && \
-	ln -sf ../../bin/kpview "$(root)/share/kp/kpview"
+	ln -sf ../../bin/kpview "$(root)/share/kp/kpview" && \
+	ln -sf ../../bin/kpcore "$(root)/share/kp/kpcore"
 
 # Folders that others use too are removed below DESTDIR alone, where they are empty.
 uninstall:
@@ -114,7 +117,7 @@ dist:
 	$(needs)
 	@rm -rf out/dist && mkdir -p out/dist/root
 	@$(MAKE) -s --no-print-directory install PREFIX=$(PREFIX) DESTDIR="$(CURDIR)/out/dist/root" KP_BINARY="$(KP_BINARY)" \
-	    KPVIEW_BINARY="$(KPVIEW_BINARY)"
+	    KPVIEW_BINARY="$(KPVIEW_BINARY)" KPCORE_BINARY="$(KPCORE_BINARY)"
 	@cd out/dist && mv "root$(PREFIX)" kp-$(version) && rm -rf root && \
 	tar --format=ustar --sort=name --owner=0 --group=0 --numeric-owner --mode=u=rwX,go=rX --mtime=@$(SOURCE_DATE_EPOCH) \
 	    -cf kp-$(version).tar kp-$(version) && \

@@ -22,6 +22,13 @@ if ! [ -x "$kpview" ]; then
     kpview=$work/view
 fi
 kpview=$(cd "$(dirname "$(command -v "$kpview")")" && pwd)/$(basename "$kpview")
+kpcore=${KPCORE:-$top/crates/kpcore/out/kpcore}
+if ! [ -x "$kpcore" ]; then
+    printf '#!/bin/sh\nexit 1\n' > "$work/core"
+    chmod 755 "$work/core"
+    kpcore=$work/core
+fi
+kpcore=$(cd "$(dirname "$(command -v "$kpcore")")" && pwd)/$(basename "$kpcore")
 cd "$top" || exit 70
 language=docs/LANGUAGE.md
 
@@ -38,7 +45,7 @@ same() {
 
 # made TARGET WORD..: runs make as a user does, and puts what it printed into a file
 made() {
-    env -u MAKEFLAGS -u MAKELEVEL make -s --no-print-directory "$@" KP_BINARY="$kp" KPVIEW_BINARY="$kpview" > "$work/made" 2>&1 < /dev/null ||
+    env -u MAKEFLAGS -u MAKELEVEL make -s --no-print-directory "$@" KP_BINARY="$kp" KPVIEW_BINARY="$kpview" KPCORE_BINARY="$kpcore" > "$work/made" 2>&1 < /dev/null ||
         echo "make $1 failed" >> "$work/made"
 }
 
@@ -54,13 +61,15 @@ at=$work/root/opt/some
     cmp "$kp" "$at/share/kp/kp"
     cmp "$kpview" "$at/bin/kpview"
     cmp "$kpview" "$at/share/kp/kpview"
+    cmp "$kpcore" "$at/bin/kpcore"
+    cmp "$kpcore" "$at/share/kp/kpcore"
     for it in $(git ls-files docs 2> /dev/null || find docs -type f); do cmp "$it" "$at/share/doc/kp/$it"; done
     for it in $(git ls-files examples 2> /dev/null || find examples -type f); do
         cmp "$it" "$at/share/kp/$it"
         [ -x "$it" ] && ! [ -x "$at/share/kp/$it" ] && echo "$it can't be executed"
     done
     for it in README.md CHANGELOG.md CONTRIBUTING.md VERSION; do cmp "$it" "$at/share/doc/kp/$it"; done
-    for it in kp kpview; do
+    for it in kp kpview kpcore; do
         cmp completions/$it.bash "$at/share/bash-completion/completions/$it"
         cmp completions/_$it "$at/share/zsh/site-functions/_$it"
         cmp completions/$it.fish "$at/share/fish/vendor_completions.d/$it.fish"
@@ -69,7 +78,7 @@ at=$work/root/opt/some
     cmp editors/kp.tmLanguage.json "$at/share/kp/kp.tmLanguage.json"
     grep -n '@[A-Z]*@' "$at"/share/man/man?/kp*.?
     grep -L "version $(cat VERSION)" "$at"/share/man/man?/kp*.? | sed 's/$/: has no version/'
-    for it in kp kpview; do
+    for it in kp kpview kpcore; do
         grep -q /opt/some/share "$at/share/man/man1/$it.1" || echo "$it.1 doesn't name the prefix"
     done
 } > "$work/said" 2>&1
@@ -81,7 +90,7 @@ made uninstall DESTDIR="$work/root" PREFIX=/opt/some
 quiet uninstall make "$work/said"
 
 # Without a program: one line, and nothing is installed
-env -u MAKEFLAGS -u MAKELEVEL make -s install DESTDIR="$work/root" KP_BINARY="$work/none" KPVIEW_BINARY="$kpview" > "$work/said" 2>&1
+env -u MAKEFLAGS -u MAKELEVEL make -s install DESTDIR="$work/root" KP_BINARY="$work/none" KPVIEW_BINARY="$kpview" KPCORE_BINARY="$kpcore" > "$work/said" 2>&1
 if [ $? -ne 0 ] && [ "$(wc -l < "$work/said")" -eq 1 ] && grep -q 'run make' "$work/said" && [ -z "$(find "$work/root" -mindepth 1)" ]; then
     says unbuilt make ok
 else
@@ -128,14 +137,14 @@ same rules kp.1 "$(sed -n 's/^\.It \([AV][0-9]*\)$/\1/p' man/kp.1)" \
     "$(sed -n '/^| rule | violated/,/^$/s/^| \([AV][0-9]*\) .*/\1/p' docs/VERILOG.md docs/DLX.md) V6"
 
 # What other tools say of the files
-if has mandoc; then (cd "$work/pages" && mandoc -T lint kp.1 kp.5 kpview.1) > "$work/said" 2>&1; quiet pages mandoc "$work/said"; fi
+if has mandoc; then (cd "$work/pages" && mandoc -T lint kp.1 kp.5 kpview.1 kpcore.1) > "$work/said" 2>&1; quiet pages mandoc "$work/said"; fi
 if has man && man --version 2> /dev/null | grep -q '^man '; then
-    for it in kp.1 kp.5 kpview.1; do LC_ALL=C.UTF-8 man --warnings -l "$work/pages/$it" 2>&1 > /dev/null; done > "$work/said"
+    for it in kp.1 kp.5 kpview.1 kpcore.1; do LC_ALL=C.UTF-8 man --warnings -l "$work/pages/$it" 2>&1 > /dev/null; done > "$work/said"
     quiet pages man "$work/said"
 fi
-for it in kp kpview; do bash -n completions/$it.bash; done > "$work/said" 2>&1
+for it in kp kpview kpcore; do bash -n completions/$it.bash; done > "$work/said" 2>&1
 quiet completion bash "$work/said"
-if has zsh; then for it in kp kpview; do zsh -n completions/_$it; done > "$work/said" 2>&1; quiet completion zsh "$work/said"; fi
-if has fish; then for it in kp kpview; do fish --no-execute completions/$it.fish; done > "$work/said" 2>&1; quiet completion fish "$work/said"; fi
+if has zsh; then for it in kp kpview kpcore; do zsh -n completions/_$it; done > "$work/said" 2>&1; quiet completion zsh "$work/said"; fi
+if has fish; then for it in kp kpview kpcore; do fish --no-execute completions/$it.fish; done > "$work/said" 2>&1; quiet completion fish "$work/said"; fi
 if has python3; then python3 -m json.tool editors/kp.tmLanguage.json 2>&1 > /dev/null | cat > "$work/said"; quiet textmate python3 "$work/said"; fi
 summary

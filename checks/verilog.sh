@@ -11,18 +11,47 @@
 #                circuit (checks/resets.py). Needs Python 3.
 #     gates      what `synth` of Yosys makes of it has the same `full`, `ue` and `back` in such a run of CYCLES cycles (checks/gates.py). Needs
 #                Python 3, Yosys and Icarus.
+#     ports      the module that kpcore writes for the same job, with ports of each kind, shows through these ports what `sim` and `seq` print, over
+#                the words that are loaded under resets (checks/ports.py), in Icarus, and in Verilator for the first two jobs. Needs Python 3, Icarus
+#                and the program kpcore. Icarus and Verilator print nothing of it, as above: ports-i and ports-v.
 #
 # A tool that isn't installed is left out, and the last line names it. That line is `N checked, M wrong`, and the status is 0 where M is 0, and 77
 # where nothing could be checked. Yosys has MOST seconds for a module, and again for its gates, 60 by default: it unrolls the loops over large files
-# and makes flip-flops of their words, and is skipped where that takes longer. KP names another program than ./kp, SEED the first random job, 1 by default.
+# and makes flip-flops of their words, and is skipped where that takes longer. KP and KPCORE name other programs than ./kp and ./kpcore, SEED the first random job, 1 by default.
 . "$(dirname "$0")/common.sh"
 cycles=${CYCLES:-200}
 seconds=${MOST:-60}
 seed=${SEED:-1}
+kpcore=${KPCORE:-$top/crates/kpcore/out/kpcore}
+verilated=2
 
 fail() {
     echo "verilog: $*" >&2
     exit 1
+}
+
+# lint NAME MODULE WORD WORD: what Icarus and Verilator say of a module, under these words
+lint() {
+    if has iverilog; then
+        iverilog -Wall -g2005 -o "$work/lint.vvp" "$2" >"$work/said" 2>&1 || echo "status $?" >>"$work/said"
+        quiet "$1" "$3" "$work/said"
+    fi
+    if has verilator; then
+        verilator --lint-only -Wall -Wno-UNUSEDSIGNAL -Wno-UNUSED -Wno-UNSIGNED -Wno-CMPCONST "$2" >"$work/said" 2>&1 || echo "status $?" >>"$work/said"
+        quiet "$1" "$4" "$work/said"
+    fi
+}
+
+# ports NAME JOB SEED MODULE
+ports() {
+    local tools=iverilog
+    if [ "$verilated" -gt 0 ] && has verilator; then
+        tools="iverilog verilator"
+        verilated=$((verilated - 1))
+    fi
+    : >"$4"
+    says "$1" ports "$(python3 "$top/checks/ports.py" "$kp" "$kpcore" "$2" "$3" "$cycles" "$4" $tools 2>&1 | tail -n 1)"
+    if [ -s "$4" ]; then lint "$1" "$4" ports-i ports-v; fi
 }
 
 # verilog NAME JOB SEED
@@ -32,14 +61,7 @@ verilog() {
         says "$name" pipe "$(head -c 200 "$module")"
         return
     fi
-    if has iverilog; then
-        iverilog -Wall -g2005 -o "$work/lint.vvp" "$module" >"$work/said" 2>&1 || echo "status $?" >>"$work/said"
-        quiet "$name" iverilog "$work/said"
-    fi
-    if has verilator; then
-        verilator --lint-only -Wall -Wno-UNUSEDSIGNAL -Wno-UNUSED -Wno-UNSIGNED -Wno-CMPCONST "$module" >"$work/said" 2>&1 || echo "status $?" >>"$work/said"
-        quiet "$name" verilator "$work/said"
-    fi
+    lint "$name" "$module" iverilog verilator
     if has yosys; then
         timeout "$seconds" yosys -q -p "read_verilog $module; hierarchy -check -auto-top; proc; check -assert" >"$work/said" 2>&1
         case $? in
@@ -54,6 +76,7 @@ verilog() {
     if has yosys && has iverilog && has python3; then
         says "$name" gates "$(python3 "$top/checks/gates.py" "$kp" "$job" "$3" "$cycles" "$seconds" 2>&1 | tail -n 1)"
     fi
+    if has "$kpcore" && has iverilog && has python3; then ports "$name" "$job" "$3" "$module"; fi
     rm -f "$module"
 }
 

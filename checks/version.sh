@@ -1,20 +1,25 @@
 #!/bin/bash
-# The version in VERSION is the one that kpview prints: bash checks/version.sh
+# The version in VERSION is the one that kpview and kpcore print: bash checks/version.sh
 #
-# The line of `kpview --version` is a constant of kp_view_words; it is compared in the source, and in the output of the program where one is
-# built. KPVIEW names another program. The last line is `N checked, M wrong`, and the status is 0 where M is 0.
+# The lines of `kpview --version` and `kpcore --version` are constants of kp_view_words and kp_core_words; they are compared in the source, and in the output
+# of the programs where they are built. KPVIEW and KPCORE name other programs. The last line is `N checked, M wrong`, and the status is 0 where M is 0.
 top=$(cd "$(dirname "$0")/.." && pwd) || exit 70
 cd "$top" || exit 70
 kpview=${KPVIEW:-crates/kpview/out/kpview}
+kpcore=${KPCORE:-crates/kpcore/out/kpcore}
 checked=0
 wrong=0
+# is PROGRAM WHERE LINE
 is() {
     checked=$((checked + 1))
-    [ "$2" = "kpview $(cat VERSION)" ] && return
-    echo "$1 has \`$2\`, VERSION has \`$(cat VERSION)\`"
+    [ "$3" = "$1 $(cat VERSION)" ] && return
+    echo "$2 of $1 has \`$3\`, VERSION has \`$(cat VERSION)\`"
     wrong=$((wrong + 1))
 }
-is source "$(sed -n 's/.*VERSION: &str = "\(.*\)\\n";/\1/p' crates/kp_view_words/src/texts.rt)"
-if [ -x "$kpview" ]; then is program "$("$kpview" --version)"; fi
+said() { sed -n 's/.*VERSION: &str = "\(.*\)\\n";/\1/p' "$1"; }
+is kpview source "$(said crates/kp_view_words/src/texts.rt)"
+is kpcore source "$(said crates/kp_core_words/src/texts.rt)"
+if [ -x "$kpview" ]; then is kpview program "$("$kpview" --version)"; fi
+if [ -x "$kpcore" ]; then is kpcore program "$("$kpcore" --version)"; fi
 echo "$checked checked, $wrong wrong"
 [ "$wrong" -eq 0 ]

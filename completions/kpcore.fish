@@ -1,0 +1,4 @@
+# Completion of kpcore for fish.
+
+complete -c kpcore -s h -l help -d 'Print help'
+complete -c kpcore -s V -l version -d 'Print the version'
