@@ -15,13 +15,14 @@ use Rattle.kp_view_explain.specs.Explaining.{ExplainsText, Says, in_script}
 use Rattle.kp_view_explain.specs.declared.words.Subject.TheVariants as subjects
 use Rattle.kp_core_words.specs.Messages.{BeginsWith, file_name}
 use Rattle.kp_core_words.specs.Words.{write}
+use Rattle.kp_core_words.specs.declared.request.Form.{Form}
 use Rattle.kp_core.specs.Due.{DueOfHead, DueOfVerdict, IsDue}
 
 -- a job that violates a rule: the head of an input has one verdict, so the explanation names that rule
 pub explained : (one : (input : List ℕ) (a b : Result (Job × ℕ) Refusal) → JudgesHead input a → JudgesHead input b → a ≡ b)
-    (file text : List ℕ) (refusal : Refusal) (status : ℕ) (said : List ℕ) → length text ≤ most_bytes → JudgesHeadText text (Err refusal)
-    → ExplainsText subjects.Debugged false file text status said → DueOfHead file text status said
-explained one file text refusal status said short judged (found, (verdict, judges, is), says) =
+    (form : Form) (file text : List ℕ) (refusal : Refusal) (status : ℕ) (said : List ℕ) → length text ≤ most_bytes → JudgesHeadText text (Err refusal)
+    → ExplainsText subjects.Debugged false file text status said → DueOfHead form file text status said
+explained one form file text refusal status said short judged (found, (verdict, judges, is), says) =
     let same : verdict ≡ Err refusal = one text verdict (Err refusal) (head_within short judges) (head_within short judged) in
     let known : found ≡ Some refusal = is ∙ ap (in_script text) same in
     (Err refusal, judged, subst (λ (f : Option Refusal). Says subjects.Debugged false file f status said) known says)
@@ -31,21 +32,21 @@ pub all_registers : (net : Net) (job other : Job) → Carries net job → other 
 all_registers net job other carries same = (carries.runs [] (λ k d l. absurd (omega (arith, l)))).keys ∙ ap (λ (j : Job). length (keys_of j)) (sym same)
 
 -- the whole input of a source, which isn't too long
-pub of_input : (name : Option (List ℕ)) (file : List ℕ) (old new : Option (List ℕ)) (input : List ℕ) (status : ℕ) (text : List ℕ) → file ≡ file_name name
-    → Consumes old new input → IsAtEnd new → length input ≤ 16777216 → DueOfHead file input status text → IsDue (write name) old new status text
-of_input name file old new input status text is consumed end few (verdict, judged, due) = record {
+pub of_input : (form : Form) (name : Option (List ℕ)) (file : List ℕ) (old new : Option (List ℕ)) (input : List ℕ) (status : ℕ) (text : List ℕ) → file ≡ file_name name
+    → Consumes old new input → IsAtEnd new → length input ≤ 16777216 → DueOfHead form file input status text → IsDue (write form name) old new status text
+of_input form name file old new input status text is consumed end few (verdict, judged, due) = record {
   taken = input;
   consumed = consumed;
   whole = inl (end, few);
-  due = (verdict, head_within few judged, subst (λ (f : List ℕ). DueOfVerdict f input verdict status text) is due);
+  due = (verdict, head_within few judged, subst (λ (f : List ℕ). DueOfVerdict form f input verdict status text) is due);
 }
 
 -- an input that is too long
-pub of_excess : (name : Option (List ℕ)) (file : List ℕ) (old new : Option (List ℕ)) (input : List ℕ) (status : ℕ) (text : List ℕ) → file ≡ file_name name
-    → Consumes old new input → length input ≡ 16777217 → (status ≡ 2) × BeginsWith (rule_head file too_long) text → IsDue (write name) old new status text
-of_excess name file old new input status text is consumed count said = record {
+pub of_excess : (form : Form) (name : Option (List ℕ)) (file : List ℕ) (old new : Option (List ℕ)) (input : List ℕ) (status : ℕ) (text : List ℕ) → file ≡ file_name name
+    → Consumes old new input → length input ≡ 16777217 → (status ≡ 2) × BeginsWith (rule_head file too_long) text → IsDue (write form name) old new status text
+of_excess form name file old new input status text is consumed count said = record {
   taken = input;
   consumed = consumed;
   whole = inr count;
-  due = (Err too_long, head_over (omega (arith, count)), subst (λ (f : List ℕ). DueOfVerdict f input (Err too_long) status text) is said);
+  due = (Err too_long, head_over (omega (arith, count)), subst (λ (f : List ℕ). DueOfVerdict form f input (Err too_long) status text) is said);
 }

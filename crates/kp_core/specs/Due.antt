@@ -16,6 +16,9 @@ use Rattle.kp_core_ports.specs.declared.port.Port.{Port}
 use Rattle.kp_core_ports.specs.declared.port.PortRefusal.{PortRefusal}
 use Rattle.kp_core_ports.specs.Ports.{ports_of}
 use Rattle.kp_core_text.specs.Core.{core_text}
+use Rattle.kp_core_names.specs.Names.{names_text}
+use Rattle.kp_core_words.specs.declared.request.Form.{Form}
+use Rattle.kp_core_words.specs.declared.request.Form.TheVariants as forms
 use Rattle.kp_core_words.specs.Messages.{BeginsWith, file_name, port_head}
 use Rattle.kp_core_words.specs.Words.{Asked, bad_words, help, version, write, reads_input}
 use Rattle.kp_core_words.specs.declared.texts.TheConstants.{HELP, USAGE, VERSION}
@@ -24,37 +27,42 @@ use Rattle.kp_core_words.specs.declared.texts.TheConstants.{HELP, USAGE, VERSION
 abbrev pub Says : ℕ → List ℕ → ℕ → List ℕ → Type 0
 Says s t status text = (status ≡ s) × (text ≡ t)
 
--- THE MODULE of a job with ports: the text of a netlist that shows the pipelined machine of the job, begins anew after each reset, and whose registers
--- hold the state of the pipeline, with these ports added.
-pub record IsCoreOf (job : Job) (ports : List Port) (text : List ℕ) : Type 0 where
+-- the text of a netlist with ports added, or the table of its registers
+abbrev pub text_for : Form → Net → Job → List Port → List ℕ
+text_for forms.Module net job ports = core_text net job ports
+text_for forms.Names net job ports = names_text net job
+
+-- THE MODULE of a job with ports, or its table: that of a netlist that shows the pipelined machine of the job, begins anew after each reset, and whose
+-- registers hold the state of the pipeline.
+pub record IsCoreOf (form : Form) (job : Job) (ports : List Port) (text : List ℕ) : Type 0 where
   pub net : Net
   pub shows : Shows net job
   pub anew : BeginsAnew net job
   pub carries : Carries net job
   pub named : IsNamed net
   pub order : IsInOrder net job
-  pub whole : text ≡ core_text net job ports
+  pub whole : text ≡ text_for form net job ports
 
 -- the outcome for a job and the lines behind it
-abbrev pub DueOfLines : List ℕ → Job → Result (List Port) PortRefusal → ℕ → List ℕ → Type 0
-DueOfLines file job (Ok ports) status text = (status ≡ 0) × IsCoreOf job ports text
-DueOfLines file job (Err refusal) status text = (status ≡ 2) × BeginsWith (port_head file refusal) text
+abbrev pub DueOfLines : Form → List ℕ → Job → Result (List Port) PortRefusal → ℕ → List ℕ → Type 0
+DueOfLines form file job (Ok ports) status text = (status ≡ 0) × IsCoreOf form job ports text
+DueOfLines form file job (Err refusal) status text = (status ≡ 2) × BeginsWith (port_head file refusal) text
 
 -- the outcome for a verdict on the head of an input
-abbrev pub DueOfVerdict : List ℕ → List ℕ → Result (Job × ℕ) Refusal → ℕ → List ℕ → Type 0
-DueOfVerdict file input (Ok (job, rest)) status text = DueOfLines file job (ports_of job input rest) status text
-DueOfVerdict file input (Err refusal) status text = (status ≡ 2) × BeginsWith (rule_head file refusal) text
+abbrev pub DueOfVerdict : Form → List ℕ → List ℕ → Result (Job × ℕ) Refusal → ℕ → List ℕ → Type 0
+DueOfVerdict form file input (Ok (job, rest)) status text = DueOfLines form file job (ports_of job input rest) status text
+DueOfVerdict form file input (Err refusal) status text = (status ≡ 2) × BeginsWith (rule_head file refusal) text
 
 -- the outcome for an input that is not too long
-abbrev pub DueOfHead : List ℕ → List ℕ → ℕ → List ℕ → Type 0
-DueOfHead file input status text = (verdict : Result (Job × ℕ) Refusal) × JudgesHeadText input verdict × DueOfVerdict file input verdict status text
+abbrev pub DueOfHead : Form → List ℕ → List ℕ → ℕ → List ℕ → Type 0
+DueOfHead form file input status text = (verdict : Result (Job × ℕ) Refusal) × JudgesHeadText input verdict × DueOfVerdict form file input verdict status text
 
 -- the outcome for what is asked, on an input
 abbrev pub DueFor : Asked → List ℕ → ℕ → List ℕ → Type 0
 DueFor bad_words input status text = Says 1 USAGE.now status text
 DueFor help input status text = Says 0 HELP.now status text
 DueFor version input status text = Says 0 VERSION.now status text
-DueFor (write file) input status text = (verdict : Result (Job × ℕ) Refusal) × JudgesHead input verdict × DueOfVerdict (file_name file) input verdict status text
+DueFor (write form file) input status text = (verdict : Result (Job × ℕ) Refusal) × JudgesHead input verdict × DueOfVerdict form (file_name file) input verdict status text
 
 -- a source was read as far as is specified: not at all; or to its end, where an input of at most 16,777,216 bytes ends; or one byte further
 abbrev pub IsWhole : Bool → List ℕ → Option (List ℕ) → Type 0

@@ -1,4 +1,4 @@
-// The module of a job.
+// The text for a job.
 ghost use Rattle.std.specs.Prelude.{◌≡◌, ◌≤◌, length, Err, IfOk};
 ghost use Rattle.kp_frontend.specs.Judging.{most_bytes, JudgesHeadText};
 ghost use Rattle.kp_core_ports.specs.Ports.{ports_of, AllExist};
@@ -8,9 +8,10 @@ ghost use Rattle.kp_core.specs.Answers.{text_said};
 
 use crate::answer::{Answer, Said};
 use kp_base::{NoMemory, Refused};
+use kp_core_names::names_text;
 use kp_core_ports::{Port, PortsRefused, read_ports};
 use kp_core_text::core_text;
-use kp_core_words::message_of;
+use kp_core_words::{Form, message_of};
 use kp_frontend::laws::a_head_has_one_verdict;
 use kp_frontend::{Accepted, Head, judge_head};
 use kp_synth::synth;
@@ -19,26 +20,26 @@ use kp_view_explain::{Explanation, Subject, explain};
 use std::alloc::Global;
 
 /// What is to be written for an input that is not too long, under the name of its file. The only error is out of memory.
-pub fn of_input(alloc: Global, file: &[u8], text: &[u8]) -> Result<Answer, NoMemory>
+pub fn of_input(alloc: Global, form: Form, file: &[u8], text: &[u8]) -> Result<Answer, NoMemory>
     requires { length text.now ≤ most_bytes }
-    ensures due { IfOk result (λ a. DueOfHead file.now text.now a.status (text_said a.said)) }
+    ensures due { IfOk result (λ a. DueOfHead form file.now text.now a.status (text_said a.said)) }
     ensures low { IfOk result (λ a. a.status ≤ 2) }
 {
     match judge_head(alloc, text) {
         Ok(head) => {
-            let answer = of_head(alloc, file, text, &head)?;
+            let answer = of_head(alloc, form, file, text, &head)?;
             drop(head);
             Ok(answer)
         }
-        Err(Refused::Rule(_)) => explained(alloc, file, text),
+        Err(Refused::Rule(_)) => explained(alloc, form, file, text),
         Err(Refused::NoMemory) => Err(NoMemory),
     }
 }
 
 // The same for a job that violates a rule.
-fn explained(alloc: Global, file: &[u8], text: &[u8]) -> Result<Answer, NoMemory>
+fn explained(alloc: Global, form: Form, file: &[u8], text: &[u8]) -> Result<Answer, NoMemory>
     requires { length text.now ≤ most_bytes }
-    ensures due { IfOk result (λ a. (refusal : Refusal) → JudgesHeadText text.now (Err refusal) → DueOfHead file.now text.now a.status (text_said a.said)) }
+    ensures due { IfOk result (λ a. (refusal : Refusal) → JudgesHeadText text.now (Err refusal) → DueOfHead form file.now text.now a.status (text_said a.said)) }
     ensures low { IfOk result (λ a. a.status ≤ 2) }
 {
     a_head_has_one_verdict();
@@ -50,17 +51,23 @@ fn explained(alloc: Global, file: &[u8], text: &[u8]) -> Result<Answer, NoMemory
 }
 
 // The same for a job that violates none.
-fn of_head(alloc: Global, file: &[u8], text: &[u8], head: &Head) -> Result<Answer, NoMemory>
+fn of_head(
+    alloc: Global,
+    form: Form,
+    file: &[u8],
+    text: &[u8],
+    head: &Head,
+) -> Result<Answer, NoMemory>
     requires short { length text.now ≤ most_bytes }
     requires within { head.now.rest ≤ length text.now }
     ensures low { IfOk result (λ a. a.status ≤ 2) }
-    ensures due { IfOk result (λ a. DueOfLines file.now head.now.job.design.job (ports_of head.now.job.design.job text.now head.now.rest) a.status (text_said a.said)) }
+    ensures due { IfOk result (λ a. DueOfLines form file.now head.now.job.design.job (ports_of head.now.job.design.job text.now head.now.rest) a.status (text_said a.said)) }
 {
     let layout = Layout::of(alloc, &head.job.design)?;
     match read_ports(alloc, &layout, text, head.rest) {
         Ok(ports) => Ok(Answer {
             status: 0,
-            said: Said::Made(module_text(alloc, &head.job, &layout, ports.as_slice())?),
+            said: Said::Made(job_text(alloc, form, &head.job, &layout, ports.as_slice())?),
         }),
         Err(PortsRefused::Rule(refusal)) => Ok(Answer {
             status: 2,
@@ -70,19 +77,23 @@ fn of_head(alloc: Global, file: &[u8], text: &[u8], head: &Head) -> Result<Answe
     }
 }
 
-// The module with these ports.
-fn module_text(
+// The module with these ports, or the table of its registers.
+fn job_text(
     alloc: Global,
+    form: Form,
     job: &Accepted,
     layout: &Layout<'_>,
     ports: &[Port],
 ) -> Result<Vec<u8>, NoMemory>
     requires layout { layout.now ≡ job.now.design.job }
     requires exist { AllExist layout.now ports.now }
-    ensures { IfOk result (λ text. IsCoreOf job.now.design.job ports.now text.items) }
+    ensures { IfOk result (λ text. IsCoreOf form job.now.design.job ports.now text.items) }
 {
     // The invariant of the type, for the proof only.
     let _kept = job.design.job();
     let net = synth(alloc, &job.design, &job.sections.start)?;
-    core_text(alloc, &net, layout, ports)
+    match form {
+        Form::Module => core_text(alloc, &net, layout, ports),
+        Form::Names => names_text(alloc, &net, layout),
+    }
 }

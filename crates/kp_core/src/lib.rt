@@ -8,5 +8,4 @@ mod answer;
 mod inputs;
 mod top;
 
-pub use answer::{Answer, Said};
-pub use top::{Stop, run_core};
+pub use top::run_core;

@@ -1,18 +1,18 @@
 // From what is asked for to what is written.
-ghost use Rattle.std.specs.Prelude.{◌≡◌, ◌≢◌, ◌≤◌, ◌⊎◌, ℕ, List, Option, false, option_map, string_bytes, IfOk, IsErrOf};
+ghost use Rattle.std.specs.Prelude.{◌≡◌, ◌≢◌, ◌≤◌, ◌⊎◌, ℕ, List, Option, false, option_map, string_bytes, IfOk, IfSome, IsErrOf};
 ghost use Rattle.kp_base.specs.Causes.{Rose};
 ghost use Rattle.kp_frontend.specs.Judging.{too_long};
 ghost use Rattle.kp_view_texts.specs.Heads.{rule_head};
 ghost use Rattle.kp_core_words.specs.Messages.{BeginsWith, file_name};
 ghost use Rattle.kp_core_words.specs.Words.{asked, reads_input, write};
 ghost use Rattle.kp_core.specs.Answers.{text_said};
-ghost use Rattle.kp_core.specs.Due.{IsDue, IsFinal, Prints, PrintsPart};
+ghost use Rattle.kp_core.specs.Due.{DueFor, IsDue, IsFinal, Prints, PrintsPart};
 ghost use Rattle.kp_core.specs.declared.top.Stop.TheVariants as stop;
 
 use crate::answer::{Answer, Said};
 use crate::inputs::of_input;
 use kp_base::{NoMemory, Place, ReadAll, Refusal, Sink, Source, read_all, write_all};
-use kp_core_words::{HELP, Request, USAGE, VERSION};
+use kp_core_words::{Form, HELP, Request, USAGE, VERSION};
 use kp_view_texts::write_head;
 use std::alloc::Global;
 
@@ -55,6 +55,11 @@ pub fn run_core<S: Source, K: Sink, E: Sink>(
         × PrintsPart K.held E.held out.old out.new err.old err.new status text }
     ensures no_memory { result ≡ 5 → (out.new ≡ out.old) × (err.new ≡ err.old) }
     ensures statuses { result ≤ 5 }
+
+    // If the bytes of the source are known and nothing failed, the outcome is the specified one for all of them, printed in full, unless out of memory.
+    ensures complete { ¬ Rose (S.faults source.old) (S.faults source.new) → ¬ Rose (K.faults out.old) (K.faults out.new)
+        → ¬ Rose (E.faults err.old) (E.faults err.new) → result ≢ 5 → IfSome (S.left source.old) (λ input.
+        (text : List ℕ) × DueFor (asked request.now) input result text × Prints K.held E.held out.old out.new err.old err.new result text) }
 {
     match answer(alloc, request, source) {
         Ok(answer) => written(&answer, out, err),
@@ -96,7 +101,7 @@ fn answer<S: Source>(alloc: Global, request: &Request<'_>, source: &mut S) -> Re
         Request::BadWords => Ok(fixed(1, USAGE)),
         Request::Help => Ok(fixed(0, HELP)),
         Request::Version => Ok(fixed(0, VERSION)),
-        Request::Core(file) => of_source(alloc, file_name(*file), source),
+        Request::Core(form, file) => of_source(alloc, *form, file_name(*file), source),
     }
 }
 
@@ -121,14 +126,19 @@ fn file_name<'w>(file: Option<&'w String>) -> &'w [u8]
 }
 
 // What is to be written for the input of a source.
-fn of_source<S: Source>(alloc: Global, file: &[u8], source: &mut S) -> Result<Answer, Stop>
+fn of_source<S: Source>(
+    alloc: Global,
+    form: Form,
+    file: &[u8],
+    source: &mut S,
+) -> Result<Answer, Stop>
     ensures due { (name : Option (List ℕ)) → file.now ≡ file_name name
-        → IfOk result (λ a. IsDue (write name) (S.left source.old) (S.left source.new) a.status (text_said a.said)) }
+        → IfOk result (λ a. IsDue (write form name) (S.left source.old) (S.left source.new) a.status (text_said a.said)) }
     ensures low { IfOk result (λ a. a.status ≤ 2) }
     ensures fault { IsErrOf result stop.ReadFault → Rose (S.faults source.old) (S.faults source.new) }
 {
     match read_all(alloc, source) {
-        Ok(input) => Ok(of_input(alloc, file, input.as_slice())?),
+        Ok(input) => Ok(of_input(alloc, form, file, input.as_slice())?),
         Err(ReadAll::TooLong) => Ok(of_excess(alloc, file)?),
         Err(ReadAll::Fault) => Err(Stop::ReadFault),
         Err(ReadAll::NoMemory) => Err(Stop::NoMemory),

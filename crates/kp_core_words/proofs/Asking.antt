@@ -1,7 +1,7 @@
 -- What words ask for, by the tests on them.
 use Rattle.std.proofs.Common.{◌≡◌, ℕ, Bool, true, false, cond, ◌||◌, List, [], ◌∷◌, map, refl, ap, ◌∙◌}
 use Rattle.std.specs.List.{list_any}
-use Rattle.kp_core_words.specs.Words.{Asked, help, version, is_help, is_version, file_of, asked_for}
+use Rattle.kp_core_words.specs.Words.{Asked, help, version, is_help, is_version, table_or_module, asked_for}
 
 -- a test of the texts of words
 any_text : {A : Type 0} (text : A → List ℕ) (test : List ℕ → Bool) (words : List A) → list_any (λ word. test (text word)) words ≡ list_any test (map text words)
@@ -19,15 +19,15 @@ module _ {A : Type 0} (text : A → List ℕ) (words : List A) where
   of_version b is = is ∙ any_text text is_version words
 
   pub helped : true ≡ list_any (λ word. is_help (text word)) words → help ≡ asked_for all
-  helped is = ap (λ (b : Bool). cond b help (cond (list_any is_version all) version (file_of all))) (of_help true is)
+  helped is = ap (λ (b : Bool). cond b help (cond (list_any is_version all) version (table_or_module all))) (of_help true is)
 
   pub versioned : false ≡ list_any (λ word. is_help (text word)) words → true ≡ list_any (λ word. is_version (text word)) words → version ≡ asked_for all
   versioned other is =
-      ap (λ (b : Bool). cond b version (file_of all)) (of_version true is)
-      ∙ ap (λ (b : Bool). cond b help (cond (list_any is_version all) version (file_of all))) (of_help false other)
+      ap (λ (b : Bool). cond b version (table_or_module all)) (of_version true is)
+      ∙ ap (λ (b : Bool). cond b help (cond (list_any is_version all) version (table_or_module all))) (of_help false other)
 
-  pub filed : (asked : Asked) → false ≡ list_any (λ word. is_help (text word)) words → false ≡ list_any (λ word. is_version (text word)) words → asked ≡ file_of all
+  pub filed : (asked : Asked) → false ≡ list_any (λ word. is_help (text word)) words → false ≡ list_any (λ word. is_version (text word)) words → asked ≡ table_or_module all
       → asked ≡ asked_for all
   filed asked other none is =
-      is ∙ ap (λ (b : Bool). cond b version (file_of all)) (of_version false none)
-      ∙ ap (λ (b : Bool). cond b help (cond (list_any is_version all) version (file_of all))) (of_help false other)
+      is ∙ ap (λ (b : Bool). cond b version (table_or_module all)) (of_version false none)
+      ∙ ap (λ (b : Bool). cond b help (cond (list_any is_version all) version (table_or_module all))) (of_help false other)

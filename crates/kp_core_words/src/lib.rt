@@ -6,5 +6,5 @@ mod request;
 mod texts;
 
 pub use message::message_of;
-pub use request::Request;
+pub use request::{Form, Request};
 pub use texts::{HELP, USAGE, VERSION};

@@ -1,7 +1,16 @@
 // The words of a command line, and what they ask for.
 ghost use Rattle.std.specs.Prelude.{◌≡◌, map, string_bytes};
 ghost use Rattle.std.specs.List.{list_any};
-ghost use Rattle.kp_core_words.specs.Words.{asked, asked_for, begins_with_dash, file_of, is_help, is_version};
+ghost use Rattle.kp_core_words.specs.Words.{asked, asked_for, begins_with_dash, file_of, is_help, is_names, is_version, table_or_module};
+
+/// What is written for a job that violates no rule.
+#[derive(Clone, Copy)]
+pub enum Form {
+    /// The module with ports.
+    Module,
+    /// The table of its registers.
+    Names,
+}
 
 /// What the words of a command line ask for.
 #[derive(Clone, Copy)]
@@ -10,8 +19,8 @@ pub enum Request<'w> {
     BadWords,
     Help,
     Version,
-    /// The module of the job of a file, or of standard input.
-    Core(Option<&'w String>),
+    /// The module, or the table of its registers, of the job of a file, or of standard input.
+    Core(Form, Option<&'w String>),
 }
 
 impl<'w> Request<'w> {
@@ -25,20 +34,32 @@ impl<'w> Request<'w> {
         if has_version(words) {
             return Request::Version;
         }
-        Request::of_file(words)
+        Request::of_form(words)
     }
 
     // The same where no word asks for help or the version.
-    fn of_file(words: &'w [String]) -> Self
-        ensures { asked result ≡ file_of (map string_bytes words.now) }
+    fn of_form(words: &'w [String]) -> Self
+        ensures { asked result ≡ table_or_module (map string_bytes words.now) }
+    {
+        if let [first, rest @ ..] = words {
+            if is_names(first.as_str()) {
+                return Request::of_file(Form::Names, rest);
+            }
+        }
+        Request::of_file(Form::Module, words)
+    }
+
+    // The same for this form, of which these are the other words.
+    fn of_file(form: Form, words: &'w [String]) -> Self
+        ensures { asked result ≡ file_of form (map string_bytes words.now) }
     {
         match words {
-            [] => Request::Core(None),
+            [] => Request::Core(form, None),
             [name] => {
                 if begins_with_dash(name.as_bytes()) {
                     Request::BadWords
                 } else {
-                    Request::Core(Some(name))
+                    Request::Core(form, Some(name))
                 }
             }
             _ => Request::BadWords,
@@ -70,6 +91,12 @@ fn is_version(word: &str) -> bool
     ensures { result ≡ is_version word.now }
 {
     word == "--version" || word == "-V"
+}
+
+fn is_names(word: &str) -> bool
+    ensures { result ≡ is_names word.now }
+{
+    word == "--names"
 }
 
 fn begins_with_dash(word: &[u8]) -> bool

@@ -4,14 +4,14 @@
 pub const VERSION: &str = "kpcore 0.10.0\n";
 
 /// How the program is called.
-pub const USAGE: &str = "usage: kpcore [FILE]
+pub const USAGE: &str = "usage: kpcore [--names] [FILE]
        kpcore --help
 ";
 
 /// The help of the program.
 pub const HELP: &str = "Writes the pipelined machine of a kp job as a Verilog module with ports.
 
-usage: kpcore [FILE]
+usage: kpcore [--names] [FILE]
 
   FILE    a job and, behind its `end`, lines that ask for ports; without it,
           standard input is read. Write ./-job for a file named -job
@@ -27,6 +27,9 @@ lines, with registers R, files F, pipes P and stages k of the job:
 A comment begins with //. Without such lines the module is that of kp pipe.
 
 options:
+  --names         print a line for each register of the module in its place:
+                  its name, and which pipe, result or guess of which stage
+                  it stores
   -h, --help      print this help
   -V, --version   print the version
 

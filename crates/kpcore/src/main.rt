@@ -56,7 +56,7 @@ fn words(rt: &(impl Env + AllocGlobal)) -> Result<Vec<String>, AllocError> {
 fn run(rt: &HostRuntime, words: &[String]) -> u8 {
     let request = Request::of(words);
     match request {
-        Request::Core(Some(file)) => on_file(rt, &request, file.as_str()),
+        Request::Core(_, Some(file)) => on_file(rt, &request, file.as_str()),
         _ => on_source(rt, &request, rt.reader()),
     }
 }

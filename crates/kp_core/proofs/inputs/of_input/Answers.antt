@@ -21,5 +21,5 @@ returns-in-Err-Rule-clause-due c =
     let file = c.args.file.now in
     let text = c.args.text.now in
     let judged = subst (λ (r : Result Head Refused). AnswersHead text r) (c.in-Err-Rule.is ∙ ap Err c.in-Err-Rule.field-0-is) c.judge_head.ensures.answer in
-    IfOk-weaker _ (λ (a : Answer). (refusal : Refusal) → JudgesHeadText text (Err refusal) → DueOfHead file text a.status (text_said a.said))
-    (λ (a : Answer). DueOfHead file text a.status (text_said a.said)) (λ a said. said _ judged) c.explained.ensures.due
+    IfOk-weaker _ (λ (a : Answer). (refusal : Refusal) → JudgesHeadText text (Err refusal) → DueOfHead c.args.form file text a.status (text_said a.said))
+    (λ (a : Answer). DueOfHead c.args.form file text a.status (text_said a.said)) (λ a said. said _ judged) c.explained.ensures.due
