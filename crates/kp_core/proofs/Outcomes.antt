@@ -1,5 +1,5 @@
 -- From the verdicts of the readers to what is specified.
-use Rattle.std.proofs.Common.{◌≡◌, ◌≤◌, ◌∙◌, ℕ, List, [], length, Some, Err, false, ap, sym, subst, inl, inr, arith}
+use Rattle.std.proofs.Common.{◌≡◌, ◌≤◌, ◌∙◌, ℕ, List, [], length, None, Some, Err, false, ap, sym, subst, inl, inr, refl, arith}
 use Rattle.std.specs.declared.option.Option.{Option}
 use Rattle.std.specs.declared.result.Result.{Result}
 use Rattle.std.specs.Io.KnownBytes.{Consumes, IsAtEnd}
@@ -14,7 +14,8 @@ use Rattle.kp_view_texts.specs.Heads.{rule_head}
 use Rattle.kp_view_explain.specs.Explaining.{ExplainsText, Says, in_script}
 use Rattle.kp_view_explain.specs.declared.words.Subject.TheVariants as subjects
 use Rattle.kp_core_words.specs.Messages.{BeginsWith, file_name}
-use Rattle.kp_core_words.specs.Words.{write}
+use Rattle.kp_core_words.specs.Words.{Asked, help, write}
+use Rattle.kp_core_words.specs.declared.texts.TheConstants.{HELP}
 use Rattle.kp_core_words.specs.declared.request.Form.{Form}
 use Rattle.kp_core.specs.Due.{DueOfHead, DueOfVerdict, IsDue}
 
@@ -50,3 +51,16 @@ of_excess form name file old new input status text is consumed count said = reco
   whole = inr count;
   due = (Err too_long, head_over (omega (arith, count)), subst (λ (f : List ℕ). DueOfVerdict form f input (Err too_long) status text) is said);
 }
+
+nothing_taken : (left : Option (List ℕ)) → Consumes left left []
+nothing_taken None = tt
+nothing_taken (Some input) = refl
+
+-- help, which reads nothing
+pub helped : (asked : Asked) (left : Option (List ℕ)) (status : ℕ) (text : List ℕ) → asked ≡ help → status ≡ 0 → text ≡ HELP.now → IsDue asked left left status text
+helped asked left status text is none same = subst (λ (a : Asked). IsDue a left left status text) (sym is) (record {
+  taken = [];
+  consumed = nothing_taken left;
+  whole = refl;
+  due = (none, same);
+})
