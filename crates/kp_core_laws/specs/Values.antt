@@ -2,7 +2,7 @@
 use Rattle.std.specs.Prelude.{◌≡◌, ℕ, ◌-◌, ◌<◌, ◌≤◌, true, List, get_or}
 use Rattle.kp_ast.specs.declared.tree.Job.{Job}
 use Rattle.kp_pipeline.specs.Pipeline.{Inputs, pipeline_start}
-use Rattle.kp_pipeline.specs.Rows.{one_if, pipe, counts, taken, state_after as pipeline_after}
+use Rattle.kp_pipeline.specs.Rows.{one_if, pipe, counts, state_after as pipeline_after}
 use Rattle.kp_pipeline.specs.Sequential.{instruction_before}
 use Rattle.kp_pipeline.specs.RightPath.{Moment, HasRightGuesses}
 use Rattle.kp_machine.specs.Machine.{machine_of, start_hints}
@@ -14,6 +14,7 @@ use Rattle.kp_synth_spec.specs.Traces.{no_state, inputs_seen}
 use Rattle.kp_synth_tables.specs.Keys.{target_at}
 use Rattle.kp_synth_tables.specs.declared.key.Key.TheVariants.{Pipe}
 use Rattle.kp_synth_registers.specs.Holding.{kept_in, word_bit}
+use Rattle.kp_core_runs.specs.Beginning.{taken_in}
 use Rattle.kp_core_ports.specs.declared.port.Ask.{Ask}
 use Rattle.kp_core_ports.specs.declared.port.Ask.TheVariants.{Show, Peek, Load, Probe, Next, Commit}
 use Rattle.kp_core_text.specs.Ports.{register_at}
@@ -41,10 +42,6 @@ moment_in job v ins T = record {
 -- Stage k is full then.
 abbrev pub IsFull : Job → (ℕ → ℕ → ℕ) → List Inputs → ℕ → ℕ → Type 0
 IsFull job v ins T k = ((moment_in job v ins T).state.stage k).full ≡ true
-
--- The samples that instructions take in a run of the netlist.
-abbrev pub taken_in : Job → Net → State → List Input → ℕ → ℕ → ℕ
-taken_in job net s ins = taken (machine_of job) (inputs_seen job ins) (trace_from job net s ins).rows
 
 -- No guess that is pending in stage k or in a later one is wrong.
 abbrev pub NoneWrong : Job → Net → State → (ℕ → ℕ → ℕ) → List Input → ℕ → ℕ → Type 0

@@ -2,10 +2,12 @@
 use Rattle.std.specs.Prelude.{◌≡◌, ℕ, List, ◌∷◌, All, ◌⊎◌}
 use Rattle.kp_ast.specs.declared.tree.Job.{Job}
 use Rattle.kp_stage.specs.Start.{start_of}
-use Rattle.kp_machine.specs.Machine.{state_of}
-use Rattle.kp_net.specs.Netlist.{Net, State, start_of as net_start}
+use Rattle.kp_pipeline.specs.Rows.{taken}
+use Rattle.kp_machine.specs.Machine.{machine_of, state_of}
+use Rattle.kp_net.specs.Netlist.{Net, Input, State, start_of as net_start}
 use Rattle.kp_synth_spec.specs.Naming.{value_shown}
-use Rattle.kp_synth_spec.specs.Anew.{HasMemory, left_by_reset}
+use Rattle.kp_synth_spec.specs.Anew.{trace_from, HasMemory, left_by_reset}
+use Rattle.kp_synth_spec.specs.Traces.{inputs_seen}
 use Rattle.kp_core_runs.specs.Loading.{Cycle, LoadsIn, after_cycles, all_loaded}
 
 -- power-up: the start values of the job, with its image
@@ -27,3 +29,7 @@ pub record IsAfterReset (net : Net) (job : Job) (s : State) (v : ℕ → ℕ →
 -- A run begins in the state s, with the values v.
 abbrev pub Begins : Net → Job → State → (ℕ → ℕ → ℕ) → Type 0
 Begins net job s v = IsPowerUp net job s v ⊎ IsAfterReset net job s v
+
+-- The samples that instructions take in a run from there.
+abbrev pub taken_in : Job → Net → State → List Input → ℕ → ℕ → ℕ
+taken_in job net s ins = taken (machine_of job) (inputs_seen job ins) (trace_from job net s ins).rows

@@ -4,9 +4,11 @@
 //! registers and files. No input of the run raises the reset.
 ghost use Rattle.std.specs.Prelude.{◌≡◌, ℕ, List, All};
 ghost use Rattle.kp_pipeline.specs.Claims.{Moves, HighestStays};
+ghost use Rattle.kp_pipeline.specs.RightPath.{NoWrongGuess, WaitsOnlyWhereItMust, first_moment};
+ghost use Rattle.kp_pipeline.specs.SpeculativeTimeline.{timeline_rows as path_rows};
 ghost use Rattle.kp_pipeline.specs.Timeline.{start_hold, timeline_rows};
 ghost use Rattle.kp_stage.specs.Counts.{summary_of};
-ghost use Rattle.kp_machine.specs.Machine.{machine_of};
+ghost use Rattle.kp_machine.specs.Machine.{machine_of, start_hints};
 ghost use Rattle.kp_net.specs.Netlist.{Net, Input, State, start_of};
 ghost use Rattle.kp_net.specs.Parts.{NetOk};
 ghost use Rattle.kp_synth_spec.specs.Shows.{Shows};
@@ -14,12 +16,15 @@ ghost use Rattle.kp_synth_spec.specs.Legal.{IsLegalFrom};
 ghost use Rattle.kp_synth_spec.specs.Traces.{inputs_seen, AreQuiet};
 ghost use Rattle.kp_synth_spec.specs.Anew.{trace_from, HasMemory, BeginsAnew};
 ghost use Rattle.kp_ast.specs.declared.tree.Job.{Job};
-ghost use Rattle.kp_core_runs.specs.Beginning.{Begins};
+ghost use Rattle.kp_core_runs.specs.Beginning.{Begins, taken_in};
 ghost use Rattle.kp_core_runs.specs.Loading.{IsLoad, Cycle, after_cycle};
 
 use kp_machine_laws::laws::{
-    a_design_is_legal, a_design_moves, rows_of_a_design_are_the_timeline,
+    a_design_is_accepted, a_design_is_legal, a_design_moves, rows_of_a_design_are_the_timeline,
     the_highest_full_stage_of_a_design_stays,
+};
+use kp_pipeline::no_needless_stall::{
+    rows_without_wrong_guesses_are_the_timeline, the_pipeline_waits_only_where_it_must,
 };
 use kp_stage::Design;
 
@@ -43,8 +48,28 @@ pub fn runs_are_legal_and_move(design: &Design)
     the_highest_full_stage_of_a_design_stays(design);
 }
 
-/// If a design has no guesses and no samples, the rows of a run are those of the timeline of that machine.
+/// No needless stall: in each cycle of a run, instructions on the right path wait only where they must, and a wrong guess is found in the first cycle in which it
+/// can be (`waits`). As long as no wrong guess is made, the rows are those of the timeline, in which a guessed read never waits (`right`).
 pub fn runs_have_no_needless_stall(design: &Design)
+    ensures waits { (net : Net) (s : State) (v : ℕ → ℕ → ℕ) (ins : List Input) → Shows net design.now.job → BeginsAnew net design.now.job
+        → Begins net design.now.job s v → AreQuiet ins
+        → WaitsOnlyWhereItMust (machine_of design.now.job) v (taken_in design.now.job net s ins) (first_moment v (start_hints design.now.job))
+        (inputs_seen design.now.job ins) (trace_from design.now.job net s ins).rows }
+    ensures right { (net : Net) (s : State) (v : ℕ → ℕ → ℕ) (ins : List Input) → Shows net design.now.job → BeginsAnew net design.now.job
+        → Begins net design.now.job s v → AreQuiet ins
+        → NoWrongGuess (machine_of design.now.job) v (taken_in design.now.job net s ins) (start_hints design.now.job) start_hold (inputs_seen design.now.job ins)
+        → (trace_from design.now.job net s ins).rows
+        ≡ path_rows (machine_of design.now.job) v (taken_in design.now.job net s ins) start_hold (inputs_seen design.now.job ins) }
+{
+    // The invariant of the type, for the proof only.
+    let _job = design.job();
+    a_design_is_accepted(design);
+    the_pipeline_waits_only_where_it_must();
+    rows_without_wrong_guesses_are_the_timeline();
+}
+
+/// If a design has no guesses and no samples, the rows of a run are those of the timeline of that machine.
+pub fn runs_without_guesses_are_the_timeline(design: &Design)
     requires guesses { (summary_of design.now.job).guesses ≡ 0 }
     requires samples { (summary_of design.now.job).samples ≡ 0 }
     ensures { (net : Net) (s : State) (v : ℕ → ℕ → ℕ) (ins : List Input) → Shows net design.now.job → BeginsAnew net design.now.job
