@@ -80,13 +80,13 @@ fn in_block(name: &Name, block: &Block) -> bool
     false
 }
 
-// The last stage that uses a name in an expression, or 0.
+// The last stage that uses a name in an expression, or 0. Whether stage 0 uses it makes no difference.
 fn last_use_in(blocks: &[Block], name: &Name) -> usize
     ensures { result ≡ last_use_in name.now 0 0 blocks.now }
 {
     let mut last = 0;
-    for (k, block) in blocks.iter().enumerate() {
-        if in_block(name, block) {
+    for k in 1..blocks.len() {
+        if in_block(name, &blocks[k]) {
             last = k;
         }
     }
