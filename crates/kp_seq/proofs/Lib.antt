@@ -22,3 +22,4 @@ pub mod Noted
 pub mod Low
 pub mod Asked
 pub mod Telling
+pub mod Stepping

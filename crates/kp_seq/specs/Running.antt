@@ -7,7 +7,7 @@ use Rattle.kp_machine.specs.Machine.{machine_of, values_in}
 use Rattle.kp_machine.specs.Slots.{Slot, targets_of}
 use Rattle.kp_seq.specs.Told.{Told}
 
--- a job, the words of the targets of its machine, and the record of the last instruction, which is unspecified before the first
+-- a job, the words of the targets of its machine, and the record of the last recorded instruction, which is unspecified before the first
 pub record Running : Type 0 where
   pub job : Job
   pub words : List (List ℕ)

@@ -66,7 +66,7 @@ impl Desk {
     }
 }
 
-/// The state between instructions: the words of the targets, and the record of the last instruction.
+/// The state between instructions: the words of the targets, and the record of the last recorded instruction.
 #[derive(Drop)]
 struct Memory {
     words: Words,
@@ -97,7 +97,8 @@ impl Memory {
     }
 }
 
-/// A machine that runs one instruction at a time; contracts see it as the job of its design and its present state.
+/// A machine that runs one instruction at a time; contracts see it as the job of its design and its present state. `unused` is
+/// a record of no reads and no results, for instructions that are not recorded.
 pub struct SeqMachine<'a> {
     design: &'a Design,
     resolved: Rc<Resolved<'a>>,
@@ -105,6 +106,7 @@ pub struct SeqMachine<'a> {
     room: Vec<u64>,
     words: Words,
     notes: Notes,
+    unused: Notes,
 }
 
 impl Drop for SeqMachine<'_> {
@@ -116,12 +118,14 @@ impl Drop for SeqMachine<'_> {
             room,
             words,
             notes,
+            unused,
         } = self;
         drop(resolved);
         drop(under);
         drop(room);
         drop(words);
         drop(notes);
+        drop(unused);
     }
 }
 
@@ -160,6 +164,7 @@ impl<'a> SeqMachine<'a> {
             room: desk.room,
             words: memory.words,
             notes: memory.notes,
+            unused: Notes::none(alloc),
         })
     }
 
@@ -178,6 +183,7 @@ impl<'a> SeqMachine<'a> {
             room: desk.room,
             words: memory.words,
             notes: memory.notes,
+            unused: Notes::none(alloc),
         })
     }
 
@@ -213,6 +219,26 @@ impl<'a> SeqMachine<'a> {
         );
     }
 
+    /// Runs one instruction with an input vector as `step_with` does, but leaves the record as it was. Allocates nothing.
+    pub fn step_unrecorded(&mut self, row: &[Bits])
+        requires { AreSamples self.old.job.decls row.now }
+        ensures job { self.new.job ≡ self.old.job }
+        ensures state { state self.new ≡ after_one self.old.job (state self.old) row.now }
+        ensures last { self.new.last ≡ self.old.last }
+    {
+        let resolved = self.resolved.as_ref();
+        let room = self.room.as_mut_slice();
+        execute(
+            &resolved.tables,
+            &resolved.program,
+            row,
+            &mut self.under,
+            room,
+            &mut self.words,
+            &mut self.unused,
+        );
+    }
+
     /// The value of a target at an address. The targets are the registers and files in the order of declaration. A register
     /// has address 0.
     pub fn value(&self, target: u32, address: u32) -> Bits
@@ -225,7 +251,7 @@ impl<'a> SeqMachine<'a> {
         fitted(width, self.words.word(target, u64::from(address)))
     }
 
-    /// The address that a read of the last instruction had, 0 for a register, or None exactly if its condition was
+    /// The address that a read of the last recorded instruction had, 0 for a register, or None exactly if its condition was
     /// false. Reads are numbered from 0 in text order.
     pub fn reads(&self, read: u32) -> Option<u32>
         requires { read < length self.now.last.reads }
@@ -234,8 +260,8 @@ impl<'a> SeqMachine<'a> {
         self.notes.reads()[read as usize]
     }
 
-    /// The address that a result of the last instruction wrote, 0 for a register, or None exactly if its enable pipe
-    /// was 0. Results are numbered from 0 in the order of declaration.
+    /// The address that a result of the last recorded instruction wrote, 0 for a register, or None exactly if its enable
+    /// pipe was 0. Results are numbered from 0 in the order of declaration.
     pub fn writes(&self, result_number: u32) -> Option<u32>
         requires { result_number < length self.now.last.writes }
         ensures { result ≡ get_or self.now.last.writes result_number None }
@@ -243,8 +269,8 @@ impl<'a> SeqMachine<'a> {
         self.notes.writes()[result_number as usize]
     }
 
-    /// The setting stage of a result in the last instruction: the stage of its first enabled set, or its write stage
-    /// if there was none.
+    /// The setting stage of a result in the last recorded instruction: the stage of its first enabled set, or its write
+    /// stage if there was none.
     pub fn setting(&self, result_number: u32) -> u8
         requires { result_number < length self.now.last.settings }
         ensures { result ≡ get_or self.now.last.settings result_number 0 }

@@ -1,5 +1,5 @@
 //! The record of an instruction while it runs: the addresses of its reads, and where and in which stages its results were set.
-ghost use Rattle.std.specs.Prelude.{◌≡◌, ◌+◌, ◌∷◌, None, get_or, set, IfOk, length, if◌then◌else◌};
+ghost use Rattle.std.specs.Prelude.{◌≡◌, ◌+◌, [], ◌∷◌, None, get_or, set, IfOk, length, if◌then◌else◌};
 ghost use Rattle.std.specs.Option.{option_map};
 ghost use Rattle.kp_machine.specs.Slots.{targets_of, pipes_of};
 ghost use Rattle.kp_seq.specs.inner.Resolved.{outputs};
@@ -67,6 +67,20 @@ impl Notes {
             writes: vec![in alloc; None; results]?,
             settings: vec![in alloc; 0; results]?,
         })
+    }
+
+    /// The record of a machine without reads and results, which takes no memory.
+    pub fn none(alloc: Global) -> Notes
+        ensures { result ≡ record { outlets = []; reads = []; next = 0; set_in = []; writes = []; settings = [] } }
+    {
+        Notes {
+            outlets: Vec::new(alloc),
+            reads: Vec::new(alloc),
+            next: 0,
+            set_in: Vec::new(alloc),
+            writes: Vec::new(alloc),
+            settings: Vec::new(alloc),
+        }
     }
 
     /// A copy of the record. Error: out of memory.
