@@ -72,7 +72,7 @@ fn advance(
 {
     for i in 0..count {
         let row = inputs.row(alloc, u64::from(i))?;
-        machine.step_with(row.as_slice());
+        machine.step_unrecorded(row.as_slice());
     }
     Ok(())
 }

@@ -10,7 +10,7 @@ loop-i-init c = (refl, at_first c.args.machine.now.job (state c.args.machine.now
 
 pub loop-i-preserved : goal.loop-i-preserved
 loop-i-preserved c = (
-  c.step_with.ensures.job ∙ c.loop-i.invariant.0,
+  c.step_unrecorded.ensures.job ∙ c.loop-i.invariant.0,
   one_step _ c.loop-i.machine.job _ (row_in c.args.inputs.now) c.loop-i.i (state c.loop-i.machine) _ _ c.loop-i.invariant.0 c.loop-i.invariant.1
-      (c.as_slice.ensures.value ∙ c.in_ok-row.ensures ∙ ap (row_in c.args.inputs.now) c.from.ensures) c.step_with.ensures.state,
+      (c.as_slice.ensures.value ∙ c.in_ok-row.ensures ∙ ap (row_in c.args.inputs.now) c.from.ensures) c.step_unrecorded.ensures.state,
 )
