@@ -37,7 +37,7 @@ shaken() {
 held() {
     awk -v cycles="$cycles" '
         function tell(until) {
-            for (; told < until; told++) for (s = 0; s < signals; s++) if (told < cycles || isreg[s]) print told + 0, name[s], value[s]
+            for (; printed < until; printed++) for (s = 0; s < signals; s++) if (printed < cycles || isreg[s]) print printed + 0, name[s], value[s]
         }
         $1 == "$var" { isreg[signals] = $2 == "reg"; name[signals++] = $5 }
         /^#/ { tell(substr($1, 2) + 0) }
@@ -50,10 +50,10 @@ held() {
 dumped() {
     awk -v cycles="$cycles" '
         function tell(until,  s, v) {
-            for (; told <= cycles && 3 * told + 1 < until; told++) for (s = 0; s < signals; s++) if (told < cycles || isreg[s]) {
+            for (; printed <= cycles && 3 * printed + 1 < until; printed++) for (s = 0; s < signals; s++) if (printed < cycles || isreg[s]) {
                 v = value[id[(s < 3 ? "" : "dut.") name[s]]]
                 while (length(v) < width[s]) v = "0" v
-                print told + 0, name[s], v
+                print printed + 0, name[s], v
             }
         }
         BEGIN { signals = 0 }

@@ -19,5 +19,5 @@ run_length test [] = 0
 run_length test (byte ∷ rest) = if test byte then run_length test rest + 1 else 0
 
 -- for each byte, the result of the call is the result of the test
-abbrev pub Tells : (ℕ → Bool → Type 0) → (ℕ → Bool) → Type 0
-Tells answered test = (byte : ℕ) (answer : Bool) → byte < 256 → answered byte answer → answer ≡ test byte
+abbrev pub Computes : (ℕ → Bool → Type 0) → (ℕ → Bool) → Type 0
+Computes answered test = (byte : ℕ) (answer : Bool) → byte < 256 → answered byte answer → answer ≡ test byte

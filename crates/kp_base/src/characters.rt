@@ -1,6 +1,6 @@
 // Classes of bytes, and the length of a run of bytes of one class.
 ghost use Rattle.std.specs.Prelude.{◌≡◌, ◌≤◌, ℕ, Bool, length};
-ghost use Rattle.kp_base.specs.Characters.{is_digit, is_letter, is_word, run_length, Tells};
+ghost use Rattle.kp_base.specs.Characters.{is_digit, is_letter, is_word, run_length, Computes};
 
 /// A decimal digit.
 pub fn is_digit(byte: u8) -> bool
@@ -26,7 +26,7 @@ pub fn is_word(byte: u8) -> bool
 /// The length of the longest prefix of the text whose bytes all pass the test.
 pub fn run_length<F: Fn(u8) -> bool>(text: &[u8], test: F) -> usize
     requires { F.IsAlwaysCallable test }
-    ensures value { (passes : ℕ → Bool) → Tells (F.post test) passes → result ≡ run_length passes text.now }
+    ensures value { (passes : ℕ → Bool) → Computes (F.post test) passes → result ≡ run_length passes text.now }
     ensures within { result ≤ length text.now }
 {
     for (i, byte) in text.iter().enumerate() {

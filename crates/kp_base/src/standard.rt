@@ -1,4 +1,4 @@
-// The real ends of a program: std's readers and writers, which tell no bytes.
+// The real ends of a program: std's readers and writers, whose ghost values have no bytes.
 ghost use Rattle.std.specs.Prelude.{◌≡◌, None, List, ℕ};
 
 use crate::{Failed, Sink, Source};

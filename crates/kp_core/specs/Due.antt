@@ -43,7 +43,7 @@ pub record IsCoreOf (form : Form) (job : Job) (ports : List Port) (text : List �
   pub order : IsInOrder net job
   pub whole : text ≡ text_for form net job ports
 
--- the outcome for a job and the lines behind it
+-- the outcome for a job and the lines after it
 abbrev pub DueOfLines : Form → List ℕ → Job → Result (List Port) PortRefusal → ℕ → List ℕ → Type 0
 DueOfLines form file job (Ok ports) status text = (status ≡ 0) × IsCoreOf form job ports text
 DueOfLines form file job (Err refusal) status text = (status ≡ 2) × BeginsWith (port_head file refusal) text

@@ -32,7 +32,7 @@ impl From<NoMemory> for Stop {
 }
 
 /// Does what is asked for: reads the source if a module is asked for, writes to standard output or to standard error, and returns the status. It is 0 if
-/// all was written to standard output, 1 for words that aren't accepted, 2 if the job or a line behind it violates a rule, 3 for a fault of the source, 4
+/// all was written to standard output, 1 for words that aren't accepted, 2 if the job or a line after it violates a rule, 3 for a fault of the source, 4
 /// for a fault of a sink, and 5 for out of memory.
 pub fn run_core<S: Source, K: Sink, E: Sink>(
     alloc: Global,

@@ -1,4 +1,4 @@
--- THE LINES BEHIND A JOB THAT ASK FOR PORTS of its module, and their rules.
+-- THE LINES AFTER A JOB THAT ASK FOR PORTS of its module, and their rules.
 --
 -- A line is `show R`, `peek F`, `load F`, `probe P at k`, `next P at k` or `commit`, or empty; a comment begins with `//`. A line of another form, or one
 -- that asks for a port whose name an earlier line gave already, violates rule P1 at its first token. If R is no register's name, F no file's, or P no

@@ -1,4 +1,4 @@
-//! The lines behind a job that ask for ports of its module, and their rules P1 to P3.
+//! The lines after a job that ask for ports of its module, and their rules P1 to P3.
 #![tactic(auto)]
 
 mod line;

@@ -78,6 +78,7 @@ pub fn stage_of(digits: &[u8]) -> u64
     }
 }
 
+/// Whether a word is a number: one or more digits.
 pub fn is_number(word: &[u8]) -> bool
     ensures { result ≡ is_number word.now }
 {

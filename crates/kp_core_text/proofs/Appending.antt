@@ -3,7 +3,7 @@ use Rattle.std.proofs.Common.{◌≡◌, ◌∙◌, ℕ, ◌+◌, ◌<◌, List,
 use Rattle.std.specs.Prelude.{flat_map}
 use Rattle.kp_vwrite.proofs.Passing.{flat_map_more}
 
--- one piece more, behind a text
+-- one piece more, after a text
 pub piece_more : {X : Type 0} (f : X → List ℕ) (xs : List X) (i : ℕ) (d : X) (front old new : List ℕ) → i < length xs → old ≡ front ++ flat_map f (take i xs)
     → new ≡ old ++ f (get_or xs i d) → new ≡ front ++ flat_map f (take (i + 1) xs)
 piece_more f xs i d front old new h is more =

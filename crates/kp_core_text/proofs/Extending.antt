@@ -1,5 +1,5 @@
 -- The canonical text of a netlist has one line with its ports, which ends with `);`, and a last line `endmodule`. So the ports and the lines that are added
--- come before these.
+-- are before these.
 use Rattle.std.proofs.Common.{◌≡◌, ◌∙◌, ℕ, zero, suc, ◌+◌, ◌-◌, ◌%◌, ◌^◌, ◌<◌, Bool, true, false, cond, ◌==◌, not, List, [], ◌∷◌, ◌++◌, length, take, drop, refl, sym, ap, subst, arith, append_assoc}
 use Rattle.std.specs.Prelude.{codes, decimal, slice_range, All, map, ◌&&◌}
 use Rattle.std.specs.List.{list_all}

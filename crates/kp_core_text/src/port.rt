@@ -82,7 +82,7 @@ fn add_load(out: &mut Vec<u8>, layout: &Layout<'_>, file: u32, label: &[u8]) -> 
     add_wire(out, b"input", layout.width(file), b"l_", label)
 }
 
-/// Appends the ports that a line asks for, as they stand in the header.
+/// Appends the ports that a line asks for, as the header has them.
 pub fn add_header(out: &mut Vec<u8>, layout: &Layout<'_>, port: &Port) -> Result<(), NoMemory>
     requires { Exists layout.now port.now.ask }
     ensures { OnOk result (out.new.items ≡ out.old.items ++ header_text layout.now port.now) }
@@ -228,7 +228,7 @@ fn register_at<'n>(net: &'n Netlist, layout: &Layout<'_>, pipe: u32, stage: u32)
     &net.parts().regs.as_slice()[place as usize]
 }
 
-/// Appends the line for the ports that a line asks for, as it stands in the body.
+/// Appends the line for the ports that a line asks for, as the body has it.
 pub fn add_line(
     out: &mut Vec<u8>,
     net: &Netlist,

@@ -13,7 +13,7 @@ pub const HELP: &str = "Writes the pipelined machine of a kp job as a Verilog mo
 
 usage: kpcore [--names] [FILE]
 
-  FILE    a job and, behind its `end`, lines that ask for ports; without it,
+  FILE    a job and, after its `end`, lines that ask for ports; without it,
           standard input is read. Write ./-job for a file named -job
 
 lines, with registers R, files F, pipes P and stages k of the job:

@@ -15,12 +15,12 @@ use Rattle.kp_sched.specs.Runs.{ShowsAlike}
 use Rattle.kp_debug_script.specs.declared.command.Command.{Command}
 use Rattle.kp_debug_script.specs.declared.command.Command.TheVariants as commands
 use Rattle.kp_seq.specs.Running.{target}
-use Rattle.kp_tool_report.specs.States.{untold}
+use Rattle.kp_tool_report.specs.States.{no_counts}
 use Rattle.kp_tool_report.proofs.Alike.{lines_alike}
 use Rattle.kp_synth_spec.specs.Shows.{Shows}
 use Rattle.kp_synth_spec.specs.Traces.{inputs_seen, AreQuiet}
 use Rattle.kp_watch.specs.Watching.{own_trace}
-use Rattle.kp_debug_report.specs.Inspecting.{all_cycles, whole_run, has_value, first_from, ahead, reached, hit_line, at_line, row_or_end, told_by, told, ends_in, IsOfTargets, AreOfJob}
+use Rattle.kp_debug_report.specs.Inspecting.{all_cycles, whole_run, has_value, first_from, ahead, reached, hit_line, at_line, row_or_end, printed_by, printed, ends_in, IsOfTargets, AreOfJob}
 use Rattle.kp_debug_report.proofs.Searching.{alike}
 use Rattle.kp_debug_report.specs.inner.Standing.{IsInspection, run_of}
 use Rattle.kp_debug_report.proofs.Standing.{reached_within, many}
@@ -41,22 +41,22 @@ module _ (job : Job) (a b : Trace) (same : ShowsAlike job a b) where
   reached_is cycle commands.Show h of = refl
   reached_is cycle commands.Row h of = refl
 
-  tells_alike : (cycle : ℕ) (command : Command) → cycle ≤ length a.rows → IsOfTargets job command → told_by job a cycle command ≡ told_by job b cycle command
-  tells_alike cycle (commands.Step n) h of = refl
-  tells_alike cycle (commands.Back n) h of = refl
-  tells_alike cycle (commands.Until t v n) h of = ap (λ (hit : Bool). hit_line hit cycle) (value_is t v cycle of.0 h)
-  tells_alike cycle commands.Show h of =
-      ap (λ (text : List ℕ). at_line cycle ++ text) (lines_alike job untold (a.visible cycle) (b.visible cycle) (λ t x there. same.values cycle t x h there))
-  tells_alike cycle commands.Row h of = ap (λ (rows : List Row). row_or_end cycle (slice_get rows cycle)) same.rows
+  prints_alike : (cycle : ℕ) (command : Command) → cycle ≤ length a.rows → IsOfTargets job command → printed_by job a cycle command ≡ printed_by job b cycle command
+  prints_alike cycle (commands.Step n) h of = refl
+  prints_alike cycle (commands.Back n) h of = refl
+  prints_alike cycle (commands.Until t v n) h of = ap (λ (hit : Bool). hit_line hit cycle) (value_is t v cycle of.0 h)
+  prints_alike cycle commands.Show h of =
+      ap (λ (text : List ℕ). at_line cycle ++ text) (lines_alike job no_counts (a.visible cycle) (b.visible cycle) (λ t x there. same.values cycle t x h there))
+  prints_alike cycle commands.Row h of = ap (λ (rows : List Row). row_or_end cycle (slice_get rows cycle)) same.rows
 
-  pub told_alike : (cycle : ℕ) (cs : List Command) → cycle ≤ length a.rows → AreOfJob job cs → told job a cycle cs ≡ told job b cycle cs
-  told_alike cycle [] h all = refl
-  told_alike cycle (c ∷ cs) h all =
+  pub printed_alike : (cycle : ℕ) (cs : List Command) → cycle ≤ length a.rows → AreOfJob job cs → printed job a cycle cs ≡ printed job b cycle cs
+  printed_alike cycle [] h all = refl
+  printed_alike cycle (c ∷ cs) h all =
       let of : IsOfTargets job c = all 0 c (omega arith) in
       let low : reached a cycle c ≤ length a.rows = reached_within a cycle c h in
       let rest : AreOfJob job cs = λ i d l. all (suc i) d (omega (arith, l)) in
-      ap₂ (λ (x y : List ℕ). x ++ y) (tells_alike (reached a cycle c) c low of) (told_alike (reached a cycle c) cs low rest)
-      ∙ ap (λ (k : ℕ). told_by job b k c ++ told job b k cs) (reached_is cycle c h of)
+      ap₂ (λ (x y : List ℕ). x ++ y) (prints_alike (reached a cycle c) c low of) (printed_alike (reached a cycle c) cs low rest)
+      ∙ ap (λ (k : ℕ). printed_by job b k c ++ printed job b k cs) (reached_is cycle c h of)
 
   pub ends_alike : (cycle : ℕ) (cs : List Command) → cycle ≤ length a.rows → AreOfJob job cs → ends_in a cycle cs ≡ ends_in b cycle cs
   ends_alike cycle [] h all = refl
@@ -75,12 +75,12 @@ own_is_whole job net shows seen quiet =
 
 -- what a session over such a netlist prints is the text of the job
 pub text_is : (job : Job) (net : Net) (d : Debugged) → IsInspection job net d → inputs_seen job (inputs_to job all_cycles) ≡ inputs_from job 0 all_cycles
-    → AreQuiet (inputs_to job all_cycles) → (cs : List Command) → AreOfJob job cs → told job (run_of job d) d.cycle cs ≡ told job (whole_run job) d.cycle cs
+    → AreQuiet (inputs_to job all_cycles) → (cs : List Command) → AreOfJob job cs → printed job (run_of job d) d.cycle cs ≡ printed job (whole_run job) d.cycle cs
 text_is job net d is seen quiet cs of =
     let shows : Shows d.net job = subst (λ (n : Net). Shows n job) (sym is.net_is) is.shows in
     let start = is.under.within in
     let low : d.cycle ≤ length (run_of job d).rows = omega (arith, start, many job d is.under) in
-    told_alike job (run_of job d) (whole_run job) (own_is_whole job d.net shows seen quiet) d.cycle cs low of
+    printed_alike job (run_of job d) (whole_run job) (own_is_whole job d.net shows seen quiet) d.cycle cs low of
 
 -- and it ends in the same cycle
 pub end_is : (job : Job) (net : Net) (d : Debugged) → IsInspection job net d → inputs_seen job (inputs_to job all_cycles) ≡ inputs_from job 0 all_cycles

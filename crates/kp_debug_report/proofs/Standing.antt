@@ -21,19 +21,19 @@ use Rattle.kp_synth_spec.specs.Naming.{value_shown}
 use Rattle.kp_synth_spec.specs.Shows.{Shows}
 use Rattle.kp_synth_spec.specs.Traces.{trace_of}
 use Rattle.kp_watch.proofs.Prefixes.{rows_many}
-use Rattle.kp_debug_report.specs.Inspecting.{all_cycles, has_value, first_from, ahead, reached, told_by, told, ends_in}
+use Rattle.kp_debug_report.specs.Inspecting.{all_cycles, has_value, first_from, ahead, reached, printed_by, printed, ends_in}
 use Rattle.kp_debug_report.specs.inner.Standing.{IsUnderWay, IsSearched, IsInspection, run_of, state_seen}
 use Rattle.kp_debug_report.proofs.Gathering.{inputs_many}
 use Rattle.kp_debug_report.proofs.Searching.{within, found, goes_on}
 
 -- one command more
-pub told_next : (job : Job) (trace : Trace) (cycle : ℕ) (cs : List Command) (i : ℕ) (c : Command) → i < length cs → c ≡ get_or cs i c
-    → told job trace cycle (drop i cs) ≡ told_by job trace (reached trace cycle c) c ++ told job trace (reached trace cycle c) (drop (i + 1) cs)
-told_next job trace cycle cs i c h is =
-    ap (told job trace cycle) (drop_more cs i c h ∙ ap (λ (x : Command). x ∷ drop (i + 1) cs) (sym is))
+pub printed_next : (job : Job) (trace : Trace) (cycle : ℕ) (cs : List Command) (i : ℕ) (c : Command) → i < length cs → c ≡ get_or cs i c
+    → printed job trace cycle (drop i cs) ≡ printed_by job trace (reached trace cycle c) c ++ printed job trace (reached trace cycle c) (drop (i + 1) cs)
+printed_next job trace cycle cs i c h is =
+    ap (printed job trace cycle) (drop_more cs i c h ∙ ap (λ (x : Command). x ∷ drop (i + 1) cs) (sym is))
 
-pub told_end : (job : Job) (trace : Trace) (cycle : ℕ) (cs : List Command) (i : ℕ) → length cs ≤ i → told job trace cycle (drop i cs) ≡ []
-told_end job trace cycle cs i h = ap (told job trace cycle) (drop_all i cs h)
+pub printed_end : (job : Job) (trace : Trace) (cycle : ℕ) (cs : List Command) (i : ℕ) → length cs ≤ i → printed job trace cycle (drop i cs) ≡ []
+printed_end job trace cycle cs i h = ap (printed job trace cycle) (drop_all i cs h)
 
 pub ends_next : (trace : Trace) (cycle : ℕ) (cs : List Command) (i : ℕ) (c : Command) → i < length cs → c ≡ get_or cs i c
     → ends_in trace cycle (drop i cs) ≡ ends_in trace (reached trace cycle c) (drop (i + 1) cs)
@@ -146,14 +146,14 @@ begins job net s shows is =
 
 -- one command more of those that are executed
 pub one_command : (job : Job) (s new : Debugged) (cs : List Command) (i : ℕ) (c : Command) → i < length cs → c ≡ get_or cs i c → (whole : List ℕ) (old mid end : Option (List ℕ))
-    → WrittenUpTo whole (told job (run_of job s) s.cycle (drop i cs)) old mid → new ≡ record s { cycle = reached (run_of job s) s.cycle c }
-    → Appends mid end (told_by job (run_of job s) (reached (run_of job s) s.cycle c) c) → WrittenUpTo whole (told job (run_of job new) new.cycle (drop (i + 1) cs)) old end
+    → WrittenUpTo whole (printed job (run_of job s) s.cycle (drop i cs)) old mid → new ≡ record s { cycle = reached (run_of job s) s.cycle c }
+    → Appends mid end (printed_by job (run_of job s) (reached (run_of job s) s.cycle c) c) → WrittenUpTo whole (printed job (run_of job new) new.cycle (drop (i + 1) cs)) old end
 one_command job s new cs i c h is whole old mid end text on piece =
-    let next = told_next job (run_of job s) s.cycle cs i c h is in
-    let more : List ℕ = told job (run_of job s) (reached (run_of job s) s.cycle c) (drop (i + 1) cs) in
-    let this : List ℕ = told_by job (run_of job s) (reached (run_of job s) s.cycle c) c in
-    subst (λ (x : Debugged). WrittenUpTo whole (told job (run_of job x) x.cycle (drop (i + 1) cs)) old end) (sym on)
-    (written_piece whole this more old mid end (left_is whole (told job (run_of job s) s.cycle (drop i cs)) (this ++ more) old mid next text) piece)
+    let next = printed_next job (run_of job s) s.cycle cs i c h is in
+    let more : List ℕ = printed job (run_of job s) (reached (run_of job s) s.cycle c) (drop (i + 1) cs) in
+    let this : List ℕ = printed_by job (run_of job s) (reached (run_of job s) s.cycle c) c in
+    subst (λ (x : Debugged). WrittenUpTo whole (printed job (run_of job x) x.cycle (drop (i + 1) cs)) old end) (sym on)
+    (written_piece whole this more old mid end (left_is whole (printed job (run_of job s) s.cycle (drop i cs)) (this ++ more) old mid next text) piece)
 
 -- and the cycle where all of them end
 pub one_end : (job : Job) (s new : Debugged) (cs : List Command) (i : ℕ) (c : Command) → i < length cs → c ≡ get_or cs i c → (last : ℕ)

@@ -9,7 +9,7 @@ use Rattle.kp_sched.specs.Lines.{row_line}
 use Rattle.kp_debug_script.specs.declared.command.Command.{Command}
 use Rattle.kp_debug_script.specs.declared.command.Command.TheVariants as commands
 use Rattle.kp_seq.specs.Running.{target}
-use Rattle.kp_tool_report.specs.States.{state_lines, untold}
+use Rattle.kp_tool_report.specs.States.{state_lines, no_counts}
 
 -- ---- the cycle that a command leads to
 
@@ -53,20 +53,20 @@ row_or_end cycle None = codes "end\n"
 
 -- the registers and files, without the numbers of instructions
 abbrev pub shown : Job → Trace → ℕ → List ℕ
-shown job trace cycle = at_line cycle ++ state_lines 0 untold (trace.visible cycle) job.decls
+shown job trace cycle = at_line cycle ++ state_lines 0 no_counts (trace.visible cycle) job.decls
 
-abbrev pub told_by : Job → Trace → ℕ → Command → List ℕ
-told_by job trace cycle (commands.Step n) = []
-told_by job trace cycle (commands.Back n) = []
-told_by job trace cycle (commands.Until t v n) = hit_line (has_value trace t v cycle) cycle
-told_by job trace cycle commands.Show = shown job trace cycle
-told_by job trace cycle commands.Row = row_or_end cycle (slice_get trace.rows cycle)
+abbrev pub printed_by : Job → Trace → ℕ → Command → List ℕ
+printed_by job trace cycle (commands.Step n) = []
+printed_by job trace cycle (commands.Back n) = []
+printed_by job trace cycle (commands.Until t v n) = hit_line (has_value trace t v cycle) cycle
+printed_by job trace cycle commands.Show = shown job trace cycle
+printed_by job trace cycle commands.Row = row_or_end cycle (slice_get trace.rows cycle)
 
 -- ---- all commands, from a cycle on
 
-abbrev pub told : Job → Trace → ℕ → List Command → List ℕ
-told job trace cycle [] = []
-told job trace cycle (c ∷ cs) = told_by job trace (reached trace cycle c) c ++ told job trace (reached trace cycle c) cs
+abbrev pub printed : Job → Trace → ℕ → List Command → List ℕ
+printed job trace cycle [] = []
+printed job trace cycle (c ∷ cs) = printed_by job trace (reached trace cycle c) c ++ printed job trace (reached trace cycle c) cs
 
 -- the cycle in which they end
 abbrev pub ends_in : Trace → ℕ → List Command → ℕ
@@ -93,7 +93,7 @@ whole_run job = pipe_of job (inputs_from job 0 all_cycles)
 
 -- DEBUG TEXT
 abbrev pub debug_text : Job → List Command → List ℕ
-debug_text job commands = told job (whole_run job) 0 commands
+debug_text job commands = printed job (whole_run job) 0 commands
 
 -- a job, and the current cycle
 pub record Inspected : Type 0 where

@@ -5,8 +5,8 @@ ghost use Rattle.kp_base.specs.Causes.{HasCause};
 ghost use Rattle.kp_machine.specs.Slots.{targets_of, is_register};
 ghost use Rattle.kp_sched.specs.Rows.{row_seen};
 ghost use Rattle.kp_seq.specs.Running.{target as target_of};
-ghost use Rattle.kp_tool_report.specs.States.{state_lines, untold};
-ghost use Rattle.kp_debug_report.specs.Inspecting.{all_cycles, found_word, has_value, first_from, reached, hit_line, at_line, row_or_end, told_by, told, ends_in, IsOfTargets, AreOfJob};
+ghost use Rattle.kp_tool_report.specs.States.{state_lines, no_counts};
+ghost use Rattle.kp_debug_report.specs.Inspecting.{all_cycles, found_word, has_value, first_from, reached, hit_line, at_line, row_or_end, printed_by, printed, ends_in, IsOfTargets, AreOfJob};
 ghost use Rattle.kp_debug_report.specs.inner.Standing.{IsUnderWay, IsRegisterOf, run_of, state_seen};
 
 use crate::inputs::all_cycles;
@@ -36,7 +36,7 @@ pub(crate) fn run_commands<K: Sink>(
     ensures net { session.new.net ≡ net.now }
     ensures under { IsUnderWay job.now.design.job session.new }
     ensures text { Writes (K.held sink.old) (K.held sink.new)
-        (told job.now.design.job (run_of job.now.design.job session.old) session.old.cycle commands.now) result }
+        (printed job.now.design.job (run_of job.now.design.job session.old) session.old.cycle commands.now) result }
     ensures cycle { OnOk result (session.new.cycle ≡ ends_in (run_of job.now.design.job session.old) session.old.cycle commands.now) }
     ensures cause { HasCause (K.faults sink.old) (K.faults sink.new) result }
 {
@@ -58,12 +58,12 @@ fn run_command<K: Sink>(
     requires under { IsUnderWay job.now.design.job session.old }
     requires command { IsOfTargets job.now.design.job command.now }
     ensures session { session.new ≡ record session.old { cycle = reached (run_of job.now.design.job session.old) session.old.cycle command.now } }
-    ensures text { Writes (K.held sink.old) (K.held sink.new) (told_by job.now.design.job (run_of job.now.design.job session.old)
+    ensures text { Writes (K.held sink.old) (K.held sink.new) (printed_by job.now.design.job (run_of job.now.design.job session.old)
         (reached (run_of job.now.design.job session.old) session.old.cycle command.now) command.now) result }
     ensures cause { HasCause (K.faults sink.old) (K.faults sink.new) result }
 {
     go(session, net, job, command);
-    tell(session, net, job, command, sink)
+    print_command(session, net, job, command, sink)
 }
 
 // Moves to the cycle that a command leads to.
@@ -129,7 +129,7 @@ fn is_met(session: &Session<'_>, job: &Accepted, target: u32, number: u32, value
 }
 
 // Writes what a command prints in the current cycle of a session, which doesn't change.
-fn tell<K: Sink>(
+fn print_command<K: Sink>(
     session: &mut Session<'_>,
     net: &Netlist,
     job: &Accepted,
@@ -141,7 +141,7 @@ fn tell<K: Sink>(
     requires command { IsOfTargets job.now.design.job command.now }
     ensures stays { session.new ≡ session.old }
     ensures text { Writes (K.held sink.old) (K.held sink.new)
-        (told_by job.now.design.job (run_of job.now.design.job session.old) session.old.cycle command.now) result }
+        (printed_by job.now.design.job (run_of job.now.design.job session.old) session.old.cycle command.now) result }
     ensures cause { HasCause (K.faults sink.old) (K.faults sink.new) result }
 {
     match command {
@@ -153,12 +153,12 @@ fn tell<K: Sink>(
             write_hit(hit, session.cycle(), sink)
         }
         Command::Show => show(session, net, job, sink),
-        Command::Row => tell_row(session, job, sink),
+        Command::Row => print_row(session, job, sink),
     }
 }
 
 // Writes the row of the current cycle of a session, which doesn't change.
-fn tell_row<K: Sink>(
+fn print_row<K: Sink>(
     session: &mut Session<'_>,
     job: &Accepted,
     sink: &mut K,
@@ -209,7 +209,7 @@ fn show<K: Sink>(
     requires net { session.now.net ≡ net.now }
     requires under { IsUnderWay job.now.design.job session.now }
     ensures text { Writes (K.held sink.old) (K.held sink.new)
-        (at_line session.now.cycle ++ state_lines 0 untold (state_seen job.now.design.job session.now) job.now.design.job.decls) result }
+        (at_line session.now.cycle ++ state_lines 0 no_counts (state_seen job.now.design.job session.now) job.now.design.job.decls) result }
     ensures cause { HasCause (K.faults sink.old) (K.faults sink.new) result }
 {
     write_at(session.cycle(), sink)?;

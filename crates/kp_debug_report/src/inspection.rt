@@ -4,7 +4,7 @@ ghost use Rattle.kp_base.specs.Bytes.{Writes};
 ghost use Rattle.kp_base.specs.Causes.{HasCause};
 ghost use Rattle.kp_run.specs.Cycles.{inputs_to};
 ghost use Rattle.kp_synth_spec.specs.Shows.{Shows};
-ghost use Rattle.kp_debug_report.specs.Inspecting.{all_cycles, whole_run, told, ends_in, AreOfJob};
+ghost use Rattle.kp_debug_report.specs.Inspecting.{all_cycles, whole_run, printed, ends_in, AreOfJob};
 
 use crate::commands::run_commands;
 use crate::inputs::{all_cycles, rows_to, words_to};
@@ -69,7 +69,7 @@ impl<'a> Inspection<'a> {
     pub fn write<K: Sink>(&mut self, commands: &[Command], sink: &mut K) -> Result<(), SinkFault>
         requires { AreOfJob self.old.job commands.now }
         ensures job { self.new.job ≡ self.old.job }
-        ensures text { Writes (K.held sink.old) (K.held sink.new) (told self.old.job (whole_run self.old.job) self.old.cycle commands.now) result }
+        ensures text { Writes (K.held sink.old) (K.held sink.new) (printed self.old.job (whole_run self.old.job) self.old.cycle commands.now) result }
         ensures cycle { OnOk result (self.new.cycle ≡ ends_in (whole_run self.old.job) self.old.cycle commands.now) }
         ensures cause { HasCause (K.faults sink.old) (K.faults sink.new) result }
     {

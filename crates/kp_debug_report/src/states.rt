@@ -6,7 +6,7 @@ ghost use Rattle.kp_base.specs.Causes.{HasCause};
 ghost use Rattle.kp_net.specs.Netlist.{Net};
 ghost use Rattle.kp_seq.specs.Running.{target};
 ghost use Rattle.kp_synth_spec.specs.Shows.{IsOfJob};
-ghost use Rattle.kp_tool_report.specs.States.{untold, lines_of_words, lines_of, state_lines};
+ghost use Rattle.kp_tool_report.specs.States.{no_counts, lines_of_words, lines_of, state_lines};
 ghost use Rattle.kp_tool_report.specs.inner.Targets.{StandsAt, HasWords, IsSmall};
 ghost use Rattle.kp_debug_report.specs.inner.Standing.{IsFileOf, HasAddresses, state_seen};
 
@@ -33,7 +33,7 @@ pub(crate) fn write_state<K: Sink>(
     requires few { length decls.now < 2 ^ 32 }
     requires small { All IsSmall decls.now }
     requires some { All HasAddresses decls.now }
-    ensures text { Writes (K.held sink.old) (K.held sink.new) (state_lines 0 untold (state_seen job.now.design.job session.now) decls.now) result }
+    ensures text { Writes (K.held sink.old) (K.held sink.new) (state_lines 0 no_counts (state_seen job.now.design.job session.now) decls.now) result }
     ensures cause { HasCause (K.faults sink.old) (K.faults sink.new) result }
 {
     let mut t = 0u32;

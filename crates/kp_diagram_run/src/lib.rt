@@ -18,7 +18,7 @@ use kp_base::{NoMemory, Row};
 use kp_diagram_text::Chart;
 use kp_frontend::Accepted;
 use kp_run::cycles_of;
-use kp_run::laws::{a_job_gives_its_own_inputs, a_run_tells_of_the_pipeline};
+use kp_run::laws::{a_job_gives_its_own_inputs, a_run_shows_the_pipeline};
 use kp_synth::synth;
 use std::alloc::Global;
 
@@ -68,7 +68,7 @@ fn rows_of(alloc: Global, job: &Accepted, count: u32) -> Result<Vec<Row>, NoMemo
 {
     // The invariant of the type, for the proof only.
     let _kept = job.design.job();
-    a_run_tells_of_the_pipeline(job);
+    a_run_shows_the_pipeline(job);
     let net = synth(alloc, &job.design, &job.sections.start)?;
     let cycles = cycles_of(alloc, job, &net, count)?;
     Ok(cycles.rows)

@@ -22,8 +22,8 @@ use Rattle.kp_equiv_trees.specs.Roots.{Root, Ports, Register, File, Full, Ue, Ba
 use Rattle.kp_equiv.specs.Roots.{IsComparable, IsVerdict}
 use Rattle.kp_equiv_trees.specs.Classes.{place, class_in}
 use Rattle.kp_equiv_trees.specs.Sections.{AgreeUpTo, Differing, FirstOf}
-use Rattle.kp_equiv_trees.proofs.Told.{alike_found}
-use Rattle.kp_equiv_classes.proofs.Telling.{SomeTells, some_tells}
+use Rattle.kp_equiv_trees.proofs.Determined.{alike_found}
+use Rattle.kp_equiv_classes.proofs.Determining.{SomeDetermines, some_determines}
 use Rattle.kp_equiv_trees.proofs.Inputs.{port_decides}
 use Rattle.kp_equiv_trees.proofs.Places.{has_place, reg_names_are, file_names_are, reg_count, file_count}
 use Rattle.kp_equiv_trees.proofs.Ordered.{register_found, file_found, namesake, file_namesake}
@@ -70,11 +70,11 @@ ports (x ∷ xs) [] = never (λ e. cc)
 ports (x ∷ xs) (y ∷ ys) =
     alike (λ (h : (x ≡ y) × (xs ≡ ys)). cons_same x y xs ys h.0 h.1) (λ e. (cc, cc)) (both (record { test = _; decides = port_decides x y }) (ports xs ys))
 
-module _ (a b : Net) (oka : NetOk a) (okb : NetOk b) (na : HasNames a) (nb : HasNames b) (t : SomeTells a b) where
+module _ (a b : Net) (oka : NetOk a) (okb : NetOk b) (na : HasNames a) (nb : HasNames b) (t : SomeDetermines a b) where
   nodes : (i j : NodeId) → i.0 < length a.nodes → j.0 < length b.nodes → Decided (Alike a b i j)
   nodes i j li lj = record {
     test = (class_in t.first i).0 == (class_in t.second j).0;
-    decides = alike_found a b t.first t.second i j (class_in t.first i) (class_in t.second j) _ t.tells li lj refl refl refl;
+    decides = alike_found a b t.first t.second i j (class_in t.first i) (class_in t.second j) _ t.determines li lj refl refl refl;
   }
 
   regs : (r q : NetReg) → RegOk a.nodes r → RegOk b.nodes q → Decided (RegsAlike a b r q)
@@ -190,7 +190,7 @@ verdict_of a b (Some n) h = (Differs n, record { there = h.there; before = h.bef
 
 pub some_verdict : (a b : Net) → NetOk a → NetOk b → IsComparable a b → (verdict : Verdict) × IsVerdict a b verdict
 some_verdict a b oka okb h =
-    let f = first_of a b (root a b oka okb h.first h.second (some_tells a b oka okb)) (roots a b) in
+    let f = first_of a b (root a b oka okb h.first h.second (some_determines a b oka okb)) (roots a b) in
     verdict_of a b f.0 f.1
 
 pub one_verdict : (a b : Net) (v w : Verdict) → IsVerdict a b v → IsVerdict a b w → v ≡ w

@@ -3,7 +3,7 @@ ghost use Rattle.std.specs.Prelude.{◌≡◌, ◌+◌, ◌^◌, ◌<◌, ◌≤
 ghost use Rattle.kp_equiv_trees.specs.Named.{reg_names, file_names, HasNames};
 ghost use Rattle.kp_equiv_trees.specs.Roots.{Register, File, Full, Ue, Back, names_of_second};
 ghost use Rattle.kp_equiv.specs.Roots.{IsComparable, IsVerdict};
-ghost use Rattle.kp_equiv_trees.specs.Classes.{Tells};
+ghost use Rattle.kp_equiv_trees.specs.Classes.{Determines};
 ghost use Rattle.kp_equiv_trees.specs.Sections.{FirstNew, FirstOf, behind_ports, joined};
 
 use crate::parts::{file_agrees, reg_at, register_agrees};
@@ -50,7 +50,7 @@ fn first_by_classes(
     b: &Netlist,
     classes: &Classes,
 ) -> Result<Option<usize>, NoMemory>
-    requires tells { Tells a.now b.now classes.now.first.items classes.now.second.items }
+    requires determines { Determines a.now b.now classes.now.first.items classes.now.second.items }
     requires first { HasNames a.now }
     requires second { HasNames b.now }
     ensures first { IfOk result (FirstOf a.now b.now (behind_ports a.now b.now)) }
@@ -104,7 +104,7 @@ fn search_registers(
     b: &Netlist,
     classes: &Classes,
 ) -> Result<Option<usize>, NoMemory>
-    requires tells { Tells a.now b.now classes.now.first.items classes.now.second.items }
+    requires determines { Determines a.now b.now classes.now.first.items classes.now.second.items }
     requires first { HasNames a.now }
     requires second { HasNames b.now }
     ensures first { IfOk result (FirstOf a.now b.now (map Register (reg_names a.now))) }
@@ -115,7 +115,7 @@ fn search_registers(
 }
 
 fn first_register(a: &Netlist, b: &Netlist, regs: &Names, classes: &Classes) -> Option<usize>
-    requires tells { Tells a.now b.now classes.now.first.items classes.now.second.items }
+    requires determines { Determines a.now b.now classes.now.first.items classes.now.second.items }
     requires names { regs.now ≡ reg_names b.now }
     requires first { HasNames a.now }
     requires second { HasNames b.now }
@@ -159,7 +159,7 @@ fn search_files(
     b: &Netlist,
     classes: &Classes,
 ) -> Result<Option<usize>, NoMemory>
-    requires tells { Tells a.now b.now classes.now.first.items classes.now.second.items }
+    requires determines { Determines a.now b.now classes.now.first.items classes.now.second.items }
     requires first { HasNames a.now }
     requires second { HasNames b.now }
     ensures first { IfOk result (FirstOf a.now b.now (map File (file_names a.now))) }
@@ -170,7 +170,7 @@ fn search_files(
 }
 
 fn first_file(a: &Netlist, b: &Netlist, files: &Names, classes: &Classes) -> Option<usize>
-    requires tells { Tells a.now b.now classes.now.first.items classes.now.second.items }
+    requires determines { Determines a.now b.now classes.now.first.items classes.now.second.items }
     requires names { files.now ≡ file_names b.now }
     requires first { HasNames a.now }
     requires second { HasNames b.now }

@@ -4,7 +4,7 @@ ghost use Rattle.std.specs.Bool.{Decides};
 ghost use Rattle.kp_net.specs.Parts.{WriteOk, no_reg, no_file};
 ghost use Rattle.kp_equiv_trees.specs.Alike.{reg_name, file_name};
 ghost use Rattle.kp_equiv_trees.specs.Named.{reg_names, file_names, HasNames};
-ghost use Rattle.kp_equiv_trees.specs.Classes.{Tells};
+ghost use Rattle.kp_equiv_trees.specs.Classes.{Determines};
 ghost use Rattle.kp_equiv_trees.specs.Roots.{RegisterAgrees, FileAgrees};
 
 use kp_equiv_classes::Names;
@@ -37,7 +37,7 @@ pub(crate) fn register_agrees(
     classes: &Classes,
     i: usize,
 ) -> bool
-    requires tells { Tells a.now b.now classes.now.first.items classes.now.second.items }
+    requires determines { Determines a.now b.now classes.now.first.items classes.now.second.items }
     requires names { regs.now ≡ reg_names b.now }
     requires first { HasNames a.now }
     requires second { HasNames b.now }
@@ -62,7 +62,7 @@ pub(crate) fn file_agrees(
     classes: &Classes,
     i: usize,
 ) -> bool
-    requires tells { Tells a.now b.now classes.now.first.items classes.now.second.items }
+    requires determines { Determines a.now b.now classes.now.first.items classes.now.second.items }
     requires names { files.now ≡ file_names b.now }
     requires first { HasNames a.now }
     requires second { HasNames b.now }

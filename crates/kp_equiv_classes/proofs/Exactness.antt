@@ -7,9 +7,9 @@ use Rattle.kp_net.specs.Netlist.{Net}
 use Rattle.kp_net.specs.Parts.{NetOk}
 use Rattle.kp_net.specs.Widths.{Distinct, no_node}
 use Rattle.kp_equiv_trees.specs.Alike.{AlikeWithin}
-use Rattle.kp_equiv_trees.specs.Classes.{class_in, Tells}
+use Rattle.kp_equiv_trees.specs.Classes.{class_in, Determines}
 use Rattle.kp_equiv_classes.specs.inner.Shapes.{known_of, shape, AreClasses}
-use Rattle.kp_equiv_trees.proofs.Told.{id_is}
+use Rattle.kp_equiv_trees.proofs.Determined.{id_is}
 use Rattle.kp_equiv_classes.proofs.Operations.{kinds_from, kinds_to}
 
 -- no shape occurs twice
@@ -56,8 +56,8 @@ module _ (a b : Net) (ns : List Node) (ca cb : List NodeId) (oka : NetOk a) (okb
       id_is (class_in ca i) (class_in cb j)
       (one_shape ns (class_in ca i).0 (class_in cb j).0 distinct (fa.inside i.0 li) (fb.inside j.0 lj) (fa.known i.0 li ∙ s ∙ sym (fb.known j.0 lj)))
 
-  pub tells : Distinct ns → Tells a b ca cb
-  tells distinct = record {
+  pub determines : Distinct ns → Determines a b ca cb
+  determines distinct = record {
     first_count = na;
     second_count = nb;
     same = λ i j li lj e. record { levels = suc i.0; alike = alike_from (suc i.0) i j (omega arith) li lj e };

@@ -17,9 +17,9 @@ use Rattle.kp_net.specs.Netlist.{Net}
 use Rattle.kp_net.specs.Parts.{NetOk, CellOk, no_file}
 use Rattle.kp_net.specs.Widths.{Distinct, KindOk, NodeOk, no_node}
 use Rattle.kp_equiv_trees.specs.Alike.{commutes}
-use Rattle.kp_equiv_trees.specs.Classes.{place, no_class, class_in, Tells}
+use Rattle.kp_equiv_trees.specs.Classes.{place, no_class, class_in, Determines}
 use Rattle.kp_equiv_classes.specs.inner.Shapes.{Known, known_of, AreFew, first_of_pair, second_of_pair, shape_kind, shape, AreClasses, Extends, Grown}
-use Rattle.kp_equiv_classes.proofs.Exactness.{tells}
+use Rattle.kp_equiv_classes.proofs.Exactness.{determines}
 use Rattle.kp_equiv_trees.proofs.Places.{reg_count, file_count, sample_count}
 
 -- a shape depends only on the classes of the operands
@@ -144,12 +144,12 @@ few_names net ks ok e = subst AreFew (sym e) (record {
 })
 
 -- and the classes of two netlists in one table determine whether nodes are equivalent
-pub classes_tell : (a b : Net) (ks : Known) (ta tb : List Node) (ca cb : List NodeId) → NetOk a → NetOk b → ks ≡ known_of a → length ca ≡ length a.nodes → length cb ≡ length b.nodes
-    → AreClasses ks a ta ca → AreClasses ks b tb cb → Extends ta tb → Distinct tb → Tells a b ca cb
-classes_tell a b ks ta tb ca cb oka okb e na nb fa fb grows d =
+pub classes_determine : (a b : Net) (ks : Known) (ta tb : List Node) (ca cb : List NodeId) → NetOk a → NetOk b → ks ≡ known_of a → length ca ≡ length a.nodes → length cb ≡ length b.nodes
+    → AreClasses ks a ta ca → AreClasses ks b tb cb → Extends ta tb → Distinct tb → Determines a b ca cb
+classes_determine a b ks ta tb ca cb oka okb e na nb fa fb grows d =
     let ga : AreClasses (known_of a) a ta ca = subst (λ (k : Known). AreClasses k a ta ca) e fa in
     let gb : AreClasses (known_of a) b tb cb = subst (λ (k : Known). AreClasses k b tb cb) e fb in
-    tells a b tb ca cb oka okb (classes_stay (known_of a) a ta tb ca ga grows) gb na nb d
+    determines a b tb ca cb oka okb (classes_stay (known_of a) a ta tb ca ga grows) gb na nb d
 
 abbrev pub listed : List (List ℕ) → List (List ℕ) → List (List ℕ) → Known
 listed regs files samples = record { regs = regs; files = files; samples = samples }

@@ -3,4 +3,4 @@ pub mod Growing
 pub mod Naming
 pub mod Operations
 pub mod Tables
-pub mod Telling
+pub mod Determining

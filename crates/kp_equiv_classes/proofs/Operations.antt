@@ -13,7 +13,7 @@ use Rattle.kp_equiv_trees.specs.Alike.{commutes, Relation, AllRelated, PairRelat
 use Rattle.kp_equiv_trees.specs.Classes.{place}
 use Rattle.kp_equiv_classes.specs.inner.Shapes.{Known, known_of, least, greatest, first_of_pair, second_of_pair, shape_kind}
 use Rattle.kp_equiv_trees.proofs.Places.{one_reg, one_file, one_sample}
-use Rattle.kp_equiv_trees.proofs.Told.{id_is}
+use Rattle.kp_equiv_trees.proofs.Determined.{id_is}
 
 -- two numbers in order are two others in order
 in_order : (x y u v : ℕ) → min x y ≡ min u v → max x y ≡ max u v → ((x ≡ u) × (y ≡ v)) ⊎ ((x ≡ v) × (y ≡ u))

@@ -2,7 +2,7 @@
 ghost use Rattle.std.specs.Prelude.{◌≡◌, ◌+◌, ◌<◌, ◌≤◌, [], length, IfOk, OnOk};
 ghost use Rattle.kp_net.specs.Parts.{NetOk};
 ghost use Rattle.kp_net.specs.Widths.{Distinct};
-ghost use Rattle.kp_equiv_trees.specs.Classes.{Tells};
+ghost use Rattle.kp_equiv_trees.specs.Classes.{Determines};
 ghost use Rattle.kp_equiv_trees.specs.Named.{HasNames};
 ghost use Rattle.kp_equiv_classes.specs.inner.Shapes.{known_of, AreFew, AreClasses, Extends};
 
@@ -17,7 +17,7 @@ use std::alloc::Global;
 /// once. The only error is out of memory.
 pub fn classes_of(alloc: Global, a: &Netlist, b: &Netlist) -> Result<Classes, NoMemory>
     requires { HasNames a.now }
-    ensures { IfOk result (λ c. Tells a.now b.now c.first.items c.second.items) }
+    ensures { IfOk result (λ c. Determines a.now b.now c.first.items c.second.items) }
 {
     let known = Known::new(alloc, a)?;
     let classes = classes_by(alloc, &known, a, b);
@@ -29,7 +29,7 @@ pub fn classes_of(alloc: Global, a: &Netlist, b: &Netlist) -> Result<Classes, No
 fn classes_by(alloc: Global, known: &Known, a: &Netlist, b: &Netlist) -> Result<Classes, NoMemory>
     requires known { known.now ≡ known_of a.now }
     requires few { AreFew known.now }
-    ensures { IfOk result (λ c. Tells a.now b.now c.first.items c.second.items) }
+    ensures { IfOk result (λ c. Determines a.now b.now c.first.items c.second.items) }
 {
     let mut table = Table::new(alloc);
     classes_in(alloc, known, a, b, &mut table)
@@ -47,7 +47,7 @@ fn classes_in(
     requires few { AreFew known.now }
     requires empty { table.old ≡ [] }
     requires distinct { Distinct table.old }
-    ensures { IfOk result (λ c. Tells a.now b.now c.first.items c.second.items) }
+    ensures { IfOk result (λ c. Determines a.now b.now c.first.items c.second.items) }
 {
     let first = classes_of_net(alloc, known, a, table)?;
     let second = classes_of_net(alloc, known, b, table)?;

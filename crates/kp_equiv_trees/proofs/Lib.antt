@@ -3,4 +3,4 @@ pub mod Inputs
 pub mod Naming
 pub mod Ordered
 pub mod Places
-pub mod Told
+pub mod Determined

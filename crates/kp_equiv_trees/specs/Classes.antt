@@ -18,7 +18,7 @@ abbrev pub class_in : List NodeId → NodeId → NodeId
 class_in classes i = get_or classes i.0 no_class
 
 -- each node of two netlists has a class, and two nodes have the same class exactly if their trees are equivalent
-pub record Tells (a b : Net) (first second : List NodeId) : Type 0 where
+pub record Determines (a b : Net) (first second : List NodeId) : Type 0 where
   pub first_count : length first ≡ length a.nodes
   pub second_count : length second ≡ length b.nodes
   pub same : (i j : NodeId) → i.0 < length a.nodes → j.0 < length b.nodes → class_in first i ≡ class_in second j → Alike a b i j

@@ -2,11 +2,11 @@
 ghost use Rattle.std.specs.Prelude.{◌≡◌, ◌<◌, length};
 ghost use Rattle.std.specs.Bool.{Decides};
 ghost use Rattle.kp_equiv_trees.specs.Alike.{Alike};
-ghost use Rattle.kp_equiv_trees.specs.Classes.{class_in, Tells};
+ghost use Rattle.kp_equiv_trees.specs.Classes.{class_in, Determines};
 
 use kp_net::{Netlist, NodeId};
 
-/// The classes of the nodes of two netlists, by the numbers of the nodes. In the classes of a netlist comparison (`Tells`), two nodes have the same
+/// The classes of the nodes of two netlists, by the numbers of the nodes. In the classes of a netlist comparison (`Determines`), two nodes have the same
 /// class exactly if their trees are equivalent.
 #[derive(Drop)]
 pub struct Classes {
@@ -19,7 +19,7 @@ pub struct Classes {
 impl Classes {
     /// Whether two nodes have equivalent trees.
     pub fn alike(&self, a: &Netlist, b: &Netlist, i: NodeId, j: NodeId) -> bool
-        requires tells { Tells a.now b.now self.now.first.items self.now.second.items }
+        requires determines { Determines a.now b.now self.now.first.items self.now.second.items }
         requires in_first { i.0 < length a.now.nodes }
         requires in_second { j.0 < length b.now.nodes }
         ensures { Decides result (Alike a.now b.now i j) }

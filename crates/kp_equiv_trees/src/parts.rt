@@ -3,7 +3,7 @@ ghost use Rattle.std.specs.Prelude.{◌≡◌, ◌<◌, length};
 ghost use Rattle.std.specs.Bool.{Decides};
 ghost use Rattle.kp_net.specs.Parts.{WriteOk};
 ghost use Rattle.kp_equiv_trees.specs.Alike.{Alike};
-ghost use Rattle.kp_equiv_trees.specs.Classes.{Tells};
+ghost use Rattle.kp_equiv_trees.specs.Classes.{Determines};
 ghost use Rattle.kp_equiv_trees.specs.Roots.{RegsAlike, WritesAlike, FilesAlike};
 ghost use Rattle.kp_equiv_trees.specs.inner.Inputs.{same_port};
 
@@ -42,7 +42,7 @@ fn is_same_port(x: &Port, y: &Port) -> bool
 
 /// Whether two registers have the same start value and equivalent next values, given exact classes.
 pub fn regs_are_alike(a: &Netlist, b: &Netlist, classes: &Classes, r: &NetReg, q: &NetReg) -> bool
-    requires tells { Tells a.now b.now classes.now.first.items classes.now.second.items }
+    requires determines { Determines a.now b.now classes.now.first.items classes.now.second.items }
     requires in_first { r.now.next.0 < length a.now.nodes }
     requires in_second { q.now.next.0 < length b.now.nodes }
     ensures { Decides result (RegsAlike a.now b.now r.now q.now) }
@@ -58,7 +58,7 @@ pub fn files_are_alike(
     f: &NetFile,
     g: &NetFile,
 ) -> bool
-    requires tells { Tells a.now b.now classes.now.first.items classes.now.second.items }
+    requires determines { Determines a.now b.now classes.now.first.items classes.now.second.items }
     requires in_first { WriteOk a.now.nodes f.now.width f.now.address_width f.now.port }
     requires in_second { WriteOk b.now.nodes g.now.width g.now.address_width g.now.port }
     ensures { Decides result (FilesAlike a.now b.now f.now g.now) }
@@ -67,7 +67,7 @@ pub fn files_are_alike(
 }
 
 fn writes_are_alike(a: &Netlist, b: &Netlist, classes: &Classes, f: &NetFile, g: &NetFile) -> bool
-    requires tells { Tells a.now b.now classes.now.first.items classes.now.second.items }
+    requires determines { Determines a.now b.now classes.now.first.items classes.now.second.items }
     requires in_first { WriteOk a.now.nodes f.now.width f.now.address_width f.now.port }
     requires in_second { WriteOk b.now.nodes g.now.width g.now.address_width g.now.port }
     ensures { Decides result (WritesAlike a.now b.now f.now.port g.now.port) }
@@ -88,7 +88,7 @@ fn ports_are_alike(
     p: &WritePort,
     q: &WritePort,
 ) -> bool
-    requires tells { Tells a.now b.now classes.now.first.items classes.now.second.items }
+    requires determines { Determines a.now b.now classes.now.first.items classes.now.second.items }
     requires enable_in_first { p.now.enable.0 < length a.now.nodes }
     requires address_in_first { p.now.address.0 < length a.now.nodes }
     requires value_in_first { p.now.value.0 < length a.now.nodes }

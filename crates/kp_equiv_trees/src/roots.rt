@@ -1,7 +1,7 @@
 // The roots of two netlists, counted, and those that are not compared by name.
 ghost use Rattle.std.specs.Prelude.{◌≡◌, ◌<◌, ◌≤◌, ◌∷◌, [], length, map, None, IfSome};
 ghost use Rattle.kp_net.specs.Netlist.{Net};
-ghost use Rattle.kp_equiv_trees.specs.Classes.{Tells};
+ghost use Rattle.kp_equiv_trees.specs.Classes.{Determines};
 ghost use Rattle.kp_equiv_trees.specs.Named.{reg_names};
 ghost use Rattle.kp_equiv_trees.specs.Roots.{Register, Full, Ue, Back, names_of_second, roots, AllAgree};
 ghost use Rattle.kp_equiv_trees.specs.Sections.{FirstNew, FirstOf};
@@ -47,7 +47,7 @@ pub fn first_of_second(found: Option<usize>) -> Option<usize>
 
 /// The first output of two netlists that doesn't agree, given exact classes.
 pub fn first_output(a: &Netlist, b: &Netlist, classes: &Classes) -> Option<usize>
-    requires tells { Tells a.now b.now classes.now.first.items classes.now.second.items }
+    requires determines { Determines a.now b.now classes.now.first.items classes.now.second.items }
     ensures first { FirstOf a.now b.now (Full ∷ Ue ∷ Back ∷ []) result }
     ensures small { IfSome result (λ n. n < 3) }
 {

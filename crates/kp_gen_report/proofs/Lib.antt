@@ -1,2 +1,2 @@
 mod Sums
-pub mod Told
+pub mod Reported

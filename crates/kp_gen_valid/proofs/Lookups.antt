@@ -31,14 +31,14 @@ abbrev pub drop_one : List ℕ → List ℕ
 drop_one [] = []
 drop_one (c ∷ cs) = cs
 
-decimal_tells : (i j : ℕ) → i < 2 ^ 64 → j < 2 ^ 64 → decimal i ≡ decimal j → i ≡ j
-decimal_tells i j h k e = sym (decimal_is_IsNumeral i h).1 ∙ ap (digits_value 10) e ∙ (decimal_is_IsNumeral j k).1
+decimal_determines : (i j : ℕ) → i < 2 ^ 64 → j < 2 ^ 64 → decimal i ≡ decimal j → i ≡ j
+decimal_determines i j h k e = sym (decimal_is_IsNumeral i h).1 ∙ ap (digits_value 10) e ∙ (decimal_is_IsNumeral j k).1
 
 -- names with the same letter and different numbers are different
 pub other_number : (letter i j : ℕ) → i < 2 ^ 64 → j < 2 ^ 64 → (i ≡ j → ⊥) → is_same_name (numbered letter i) (numbered letter j) ≡ false
 other_number letter i j h k other =
     false_from (is_same_name (numbered letter i) (numbered letter j))
-    (λ e. other (decimal_tells i j h k (ap (drop_one) ((bytes_decides (numbered letter i) (numbered letter j)).0 e))))
+    (λ e. other (decimal_determines i j h k (ap (drop_one) ((bytes_decides (numbered letter i) (numbered letter j)).0 e))))
 
 pub look_here : (name n : List ℕ) (m : Sense) (names : Names) → is_same_name name n ≡ true → look_up ((n, m) ∷ names) name ≡ Some m
 look_here name n m names e = rw e refl

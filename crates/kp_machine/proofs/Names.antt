@@ -22,8 +22,8 @@ here_or_later false true m n k both later h e = absurd (omega arith)
 here_or_later false false m n k both later h e = later (omega arith) (omega arith)
 
 -- names with the same number are equal, if an entry has the name
-pub number_tells : (ss : List Slot) (a b : List ℕ) → IsIn ss a → number_of ss a ≡ number_of ss b → a ≡ b
-number_tells [] a b h e = absurd (omega arith)
-number_tells (s ∷ ss) a b h e =
+pub number_determines : (ss : List Slot) (a b : List ℕ) → IsIn ss a → number_of ss a ≡ number_of ss b → a ≡ b
+number_determines [] a b h e = absurd (omega arith)
+number_determines (s ∷ ss) a b h e =
     here_or_later (is_same_name a s.name) (is_same_name b s.name) (number_of ss a) (number_of ss b) (length ss)
-    (λ x y. same_name a s.name x ∙ sym (same_name b s.name y)) (number_tells ss a b) h e
+    (λ x y. same_name a s.name x ∙ sym (same_name b s.name y)) (number_determines ss a b) h e

@@ -11,7 +11,7 @@ use Rattle.kp_stage.specs.Facts.{results_of, stage_at, write_at, less, least, wr
 use Rattle.kp_stage.specs.Rules.{holds_of}
 use Rattle.kp_machine.specs.Slots.{Slot, number_of, result_named, result_to}
 use Rattle.kp_machine.proofs.Cases.{by_test}
-use Rattle.kp_machine.proofs.Names.{IsIn, same_name, is_same, number_tells}
+use Rattle.kp_machine.proofs.Names.{IsIn, same_name, is_same, number_determines}
 
 -- a result is among the declarations
 pub record Stands (ds : List Decl) (r : ResultDecl) : Type 0 where
@@ -121,7 +121,7 @@ module _ (targets : List Slot) where
       cond-false (eqb (number_of targets q.target.name) (number_of targets r.target.name)) (Some q) (to ds r)
       (false_from_ne_true _ (λ y.
       let same : r.target.name ≡ q.target.name =
-      number_tells targets r.target.name q.target.name h (sym (eqb-true (number_of targets q.target.name) (number_of targets r.target.name) y)) in
+      number_determines targets r.target.name q.target.name h (sym (eqb-true (number_of targets q.target.name) (number_of targets r.target.name) y)) in
       both_ways _ n (is_same r.target.name q.target.name same)))
 
   -- A result that is the first of its target is the result of its target's number.

@@ -25,7 +25,7 @@ use Rattle.kp_pipeline.specs.Accepted.{Fits, EndFits}
 use Rattle.kp_machine.specs.Slots.{Slot, targets_of, pipes_of, hints_of, number_of, result_named}
 use Rattle.kp_machine.specs.Trees.{Progress, entered, holds, value_of, value_with_hints, with_name, with_put, with_set, with_aim, word_of, word_read, read_of, statement_of, tree_of}
 use Rattle.kp_machine.specs.Machine.{machine_of, stage_tree, result_for, write_stage_of, after_put, known_after, known_from_of, is_enabled_by, address_by, enabled_of, address_in}
-use Rattle.kp_machine.proofs.Names.{IsIn, number_tells}
+use Rattle.kp_machine.proofs.Names.{IsIn, number_determines}
 use Rattle.kp_machine.proofs.Placing.{IsPipeIn, IsPlaced, result_placed, own, stands}
 use Rattle.kp_machine.proofs.Rules.{rules_kept, stmts_kept}
 use Rattle.kp_machine.proofs.Results.{named_stands, written_where, written_by}
@@ -85,7 +85,7 @@ module _ (job : Job) (names : Unbroken (widths_of job)) (stages : broken_of job 
   result_written : (name : List ℕ) (r : ResultDecl) → result_for job (number_of targets name) ≡ Some r → facts.written name ≡ Some r.stage.value
   result_written name r e =
       let s = stands job names (number_of targets name) r e in
-      let same : r.target.name ≡ name = number_tells targets r.target.name name (result_placed job names r s.0).target s.1 in
+      let same : r.target.name ≡ name = number_determines targets r.target.name name (result_placed job names r s.0).target s.1 in
       let w = written_where job.decls name r s.0 same in
       let q = written_result name w.0 w.1 in
       let p : Some r ≡ Some q.0 = sym e ∙ q.1.0 in
@@ -129,7 +129,7 @@ module _ (job : Job) (names : Unbroken (widths_of job)) (stages : broken_of job 
       puts = λ q h b.
           cond_both (eqb (number_of pipes q) (number_of pipes n.name)) (Some v) (done.puts (number_of pipes q)) (λ o. o ≡ None)
           (λ y.
-          let same : q ≡ n.name = number_tells pipes q n.name h (eqb-true _ _ y) in
+          let same : q ≡ n.name = number_determines pipes q n.name h (eqb-true _ _ y) in
           let now : after_put (facts.put q) ≡ suc k = ap (λ x. after_put (facts.put x)) same ∙ put_is_here k j (facts.put n.name) e in
           absurd (omega (arith, now, b)))
           (λ _. fine.puts q h b);

@@ -19,7 +19,7 @@ use crate::cycles::{Cycles, cycles_of, run_of};
 use crate::finals::{Words, finals_of};
 use crate::homes::homes_of;
 use crate::lanes::machines_after;
-use crate::laws::a_run_tells_of_the_pipeline;
+use crate::laws::a_run_shows_the_pipeline;
 use kp_base::NoMemory;
 use kp_bits::Bits;
 use kp_cycle::Sim;
@@ -132,7 +132,7 @@ pub fn board_shown<'a>(
 {
     // The invariant of the type, for the proof only.
     let _kept = job.design.job();
-    a_run_tells_of_the_pipeline(job);
+    a_run_shows_the_pipeline(job);
     let run = run_of(alloc, job, net, count)?;
     board_with(alloc, job, run.cycles, &run.sim)
 }

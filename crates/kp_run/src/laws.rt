@@ -26,7 +26,7 @@ pub fn a_job_gives_its_own_inputs(job: &Accepted)
 
 /// If the netlist implements the machine of the job, the rows of a run are those of the job's pipeline under its own inputs (`rows`), and the
 /// specified values after them are those of that pipeline after as many cycles (`values`).
-pub fn a_run_tells_of_the_pipeline(job: &Accepted)
+pub fn a_run_shows_the_pipeline(job: &Accepted)
     ensures rows { (net : Net) (n : ℕ) (rows : List Row) (monitor : Kept) → Shows net job.now.design.job → HasRows job.now.design.job net n rows monitor
         → rows_seen job.now.design.job.stages.value rows ≡ (pipe_of job.now.design.job (inputs_from job.now.design.job 0 n)).rows }
     ensures values { (net : Net) (n : ℕ) (rows : List Row) (monitor : Kept) (t a : ℕ) → Shows net job.now.design.job → HasRows job.now.design.job net n rows monitor

@@ -36,7 +36,7 @@ pub fn what_shows_alike_is_legal_and_moves(design: &Design)
 /// sequential machine after as many instructions as the monitor counts for its write stage (`shown`). In each stage
 /// from `W - 1` on, for the last write stage `W` of a guessed register, and in each stage if no register is guessed,
 /// the number of the instruction is the number of instructions that have passed the stage (`agree`).
-pub fn a_monitor_tells_what_is_shown(design: &Design)
+pub fn a_monitor_reports_what_is_shown(design: &Design)
     ensures shown { (m : Kept) (ins : List Inputs) (rows : List Row) (t a : ℕ) → HasWatched design.now.job m ins rows
         → (machine_of design.now.job).has_result t ≡ true
         → (pipe_of design.now.job ins).visible (length ins) t a

@@ -32,7 +32,7 @@ use Rattle.kp_machine.specs.Trees.{Progress}
 use Rattle.kp_machine.specs.Trees as trees
 use Rattle.kp_machine.proofs.Scopes.{IsSlot, found_sense, storage_kind}
 use Rattle.kp_machine.proofs.Text.{placed, local_no, found_where}
-use Rattle.kp_seq.specs.Told.{where_true, read_told, reads_told}
+use Rattle.kp_seq.specs.Recorded.{where_true, read_recorded, reads_recorded}
 use Rattle.kp_seq.specs.Running.{state_in}
 use Rattle.kp_seq.specs.inner.Tables.{Laid}
 use Rattle.kp_seq.specs.inner.Steps.{Under, holds, address_in, after_stmt}
@@ -114,7 +114,7 @@ after_both n xs ys = ap (λ (p : List (Option ℕ) × ℕ). record n { reads = p
 
 module _ (job : Job) (unbroken : Unbroken (widths_of job)) (t : Laid) (tables : AreTables job t) (rule : _) (is25 : slice_get all_rules 10 ≡ Some rule) (k : ℕ) (words : List (List ℕ)) (fit : FitSlots (targets_of job.decls) words) (c : Instruction) where
   one_asked : (s : Scoped) (done : Progress) (u : Under) (n : Noted) (x : StmtKind) → Named job unbroken t tables rule is25 k s done u
-      → ask_values (facts_of job) rule k x ≡ None → Unbroken (statement_of job.decls s x) → note_stmt t u n x ≡ after_reads n (read_told job.decls done x)
+      → ask_values (facts_of job) rule k x ≡ None → Unbroken (statement_of job.decls s x) → note_stmt t u n x ≡ after_reads n (read_recorded job.decls done x)
   one_asked s done u n (stmts.Read r) now free right =
       let a = read_asked job unbroken t tables rule is25 k s done u now r free right in
       ap (λ b. cond b (with_read n (narrow_address (asked_in t u r))) n) a.0 ∙ ap (with_read n) a.1
@@ -126,15 +126,15 @@ module _ (job : Job) (unbroken : Unbroken (widths_of job)) (t : Laid) (tables : 
   -- the statements of a stage, from the one of number j on
   pub all_asked : (s : Scoped) (done : Progress) (u : Under) (n : Noted) (j : ℕ) (xs : List Stmt) → Before job unbroken t tables rule is25 k words fit c s done u
       → first (ask_stmts (facts_of job) rule k j xs) ≡ None → Unbroken (statements_of job.decls s xs) → Keyed job unbroken t tables rule is25 k words fit c s xs
-      → note_stmts t words u n xs ≡ after_reads n (reads_told job.decls (state_in words) done xs)
+      → note_stmts t words u n xs ≡ after_reads n (reads_recorded job.decls (state_in words) done xs)
   all_asked s done u n j [] h free right keys = refl
   all_asked s done u n j (x ∷ xs) h free right keys =
       let f = first_none (ask_stmt (facts_of job) rule k j x.kind) (ask_stmts (facts_of job) rule k (j + 1) xs) free in
       let r = bind_unbroken (statement_of job.decls s x.kind) (λ z. statements_of job.decls z xs) right in
       let v = values_free job unbroken t tables rule is25 k words fit c j x.kind f.0 in
       let later = next job.decls (state_in words) done x.kind in
-      let m = after_reads n (read_told job.decls done x.kind) in
+      let m = after_reads n (read_recorded job.decls done x.kind) in
       ap (λ y. note_stmts t words (after_stmt t words u x.kind) y xs) (one_asked s done u n x.kind h.named v r.0)
       ∙ all_asked (statement_of job.decls s x.kind).value later (after_stmt t words u x.kind) m (j + 1) xs
       (one_turn job unbroken t tables rule is25 k words fit c s done u x.kind h v r.0 keys.0) f.1 r.1 keys.1
-      ∙ after_both n (read_told job.decls done x.kind) (reads_told job.decls (state_in words) later xs)
+      ∙ after_both n (read_recorded job.decls done x.kind) (reads_recorded job.decls (state_in words) later xs)

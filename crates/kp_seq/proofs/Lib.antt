@@ -21,5 +21,5 @@ pub mod Step
 pub mod Noted
 pub mod Low
 pub mod Asked
-pub mod Telling
+pub mod Recording
 pub mod Stepping

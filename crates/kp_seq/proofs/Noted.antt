@@ -5,7 +5,7 @@ use Rattle.std.proofs.lemmas.Bool.{cond-true, lt-ltb}
 use Rattle.std.proofs.lemmas.List.{length-set, length-append, get_or-set_same, get_or-set_other, append_assoc}
 use Rattle.kp_pipeline.specs.Sequential.{first_value}
 use Rattle.kp_pipeline.specs.Timeline.{first_stage}
-use Rattle.kp_seq.specs.Told.{where_true}
+use Rattle.kp_seq.specs.Recorded.{where_true}
 use Rattle.kp_seq.specs.inner.Notes.{changed_from, narrowed}
 
 module _ {X Y : Type 0} (f : ℕ → X → Y → Y) (d : Y) where

@@ -33,7 +33,7 @@ use Rattle.kp_seq.specs.inner.Ready.{AreTables, HasPlaces, HasRoom}
 use Rattle.kp_seq.specs.declared.program.Step.{Step}
 use Rattle.kp_seq.specs.declared.tables.Port.{Port}
 use Rattle.kp_seq.specs.inner.Resolved.{Outline, Raw, Resolves, AllDo, DoesStage, after_steps, entered_at, entry_widths, after_stages, begun_at, outputs, ran, note_steps, note_stages, noted}
-use Rattle.kp_seq.specs.Told.{where_true}
+use Rattle.kp_seq.specs.Recorded.{where_true}
 use Rattle.kp_seq.specs.declared.notes.Outlet.{Outlet}
 use Rattle.kp_seq.specs.inner.Notes.{Noted, begun_notes, changed_from, narrowed, with_marks, write_noted, setting_noted, with_results, note_stmts, note_blocks}
 use Rattle.kp_seq.proofs.Resolved.{suits_length}

@@ -9,9 +9,9 @@ use Rattle.kp_stage.specs.Start.{AreSamples}
 use Rattle.kp_machine.specs.Machine.{values_in}
 use Rattle.kp_machine.specs.Slots.{targets_of}
 use Rattle.kp_seq.specs.Running.{state_in, after_one}
-use Rattle.kp_seq.specs.Told.{told_of}
+use Rattle.kp_seq.specs.Recorded.{record_of}
 use Rattle.kp_seq.specs.inner.Fits.{FitSlots}
-use Rattle.kp_seq.specs.inner.Notes.{Noted, told_by}
+use Rattle.kp_seq.specs.inner.Notes.{Noted, record_by}
 use Rattle.kp_seq.specs.inner.Ready.{HasPlaces, HasRoom, IsNoted, IsReady}
 use Rattle.kp_seq.specs.inner.Resolved.{Outline, Raw, entry_widths, steps_space, ran, after_stages, begun_at, noted}
 use Rattle.kp_seq.specs.inner.Steps.{Under, executed}
@@ -19,7 +19,7 @@ use Rattle.kp_seq.specs.inner.Tables.{Laid}
 use Rattle.kp_seq.proofs.Lengths.{all_same}
 use Rattle.kp_seq.proofs.Resolved.{enough}
 use Rattle.kp_seq.proofs.Step.{Follows, as_under, as_placed, step_state, step_fits, all_follow, ran_is, noted_is}
-use Rattle.kp_seq.proofs.Telling.{still_noted, noted_is_told}
+use Rattle.kp_seq.proofs.Recording.{still_noted, noted_is_recorded}
 
 module _ (job : Job) (t : Laid) (o : Outline) (r : Raw) (space : ℕ) (words : List (List ℕ)) (n : Noted) (ready : IsReady job t o r space words n) where
   -- the scratch space is enough for each stage
@@ -66,7 +66,7 @@ module _ (job : Job) (t : Laid) (o : Outline) (r : Raw) (space : ℕ) (words : L
         subst (IsNoted job) (sym (noted_is job ready.names ready.stages t ready.tables _ refl words ready.words row fits o ready.program u r n placed follows))
         (still_noted job ready.names ready.stages t ready.tables _ refl words ready.words row fits u n placed ready.notes)
 
-    pub record_after : told_by (noted o words row r n) ≡ told_of job (state_in words) (values_in row)
+    pub record_after : record_by (noted o words row r n) ≡ record_of job (state_in words) (values_in row)
     record_after =
-        ap told_by (noted_is job ready.names ready.stages t ready.tables _ refl words ready.words row fits o ready.program u r n placed follows)
-        ∙ noted_is_told job ready.names ready.stages t ready.tables _ refl words ready.words row fits u n placed ready.notes
+        ap record_by (noted_is job ready.names ready.stages t ready.tables _ refl words ready.words row fits o ready.program u r n placed follows)
+        ∙ noted_is_recorded job ready.names ready.stages t ready.tables _ refl words ready.words row fits u n placed ready.notes

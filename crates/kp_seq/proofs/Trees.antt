@@ -10,8 +10,8 @@ use Rattle.kp_pipeline.specs.Machine.{Tree, Done}
 use Rattle.kp_pipeline.specs.Sequential.{StageOutcome, run}
 use Rattle.kp_machine.specs.Slots.{targets_of, number_of, result_named}
 use Rattle.kp_machine.specs.Trees.{Progress, holds, value_of, word_read, with_name, with_set, read_of, statement_of, tree_of}
-use Rattle.kp_seq.specs.Told.{done_after}
-use Rattle.kp_seq.specs.Told as told
+use Rattle.kp_seq.specs.Recorded.{done_after}
+use Rattle.kp_seq.specs.Recorded as recorded
 
 module _ (ds : List Decl) (s : ℕ → ℕ → ℕ) where
   -- what a stage sees
@@ -22,11 +22,11 @@ module _ (ds : List Decl) (s : ℕ → ℕ → ℕ) where
   no_hints h = 0
 
   abbrev pub address_read : Progress → ReadStmt → Option Expr → ℕ
-  address_read = told.address_read ds
+  address_read = recorded.address_read ds
 
   -- the value of a read
   abbrev pub value_read : Progress → ReadStmt → ℕ
-  value_read = told.value_read ds s
+  value_read = recorded.value_read ds s
 
   -- what is done after a statement
   abbrev pub next : Progress → StmtKind → Progress

@@ -1,3 +1,3 @@
-pub mod Told
+pub mod Recorded
 pub mod Running
 pub mod inner

@@ -5,13 +5,13 @@ use Rattle.kp_ast.specs.declared.tree.Job.{Job}
 use Rattle.kp_pipeline.specs.Sequential.{exec}
 use Rattle.kp_machine.specs.Machine.{machine_of, values_in}
 use Rattle.kp_machine.specs.Slots.{Slot, targets_of}
-use Rattle.kp_seq.specs.Told.{Told}
+use Rattle.kp_seq.specs.Recorded.{Recorded}
 
 -- a job, the words of the targets of its machine, and the record of the last recorded instruction, which is unspecified before the first
 pub record Running : Type 0 where
   pub job : Job
   pub words : List (List ℕ)
-  pub last : Told
+  pub last : Recorded
 
 -- the default for a target that doesn't exist
 abbrev pub no_slot : Slot

@@ -5,7 +5,7 @@ ghost use Rattle.kp_stage.specs.Start.{IsStartOf, AreSamples};
 ghost use Rattle.kp_machine.specs.Slots.{samples_of};
 ghost use Rattle.kp_machine.specs.Machine.{state_of, values_in};
 ghost use Rattle.kp_seq.specs.Running.{HasWord, state, after_one, word_shown};
-ghost use Rattle.kp_seq.specs.Told.{told_of};
+ghost use Rattle.kp_seq.specs.Recorded.{record_of};
 ghost use Rattle.kp_seq.specs.inner.Ready.{AreTables, HasRoom, IsNoted, words_of_start};
 ghost use Rattle.kp_seq.specs.inner.Resolved.{Resolves};
 ghost use Rattle.kp_seq.specs.inner.Steps.{zero_bit, fitted};
@@ -134,14 +134,14 @@ impl<'a> Model for SeqMachine<'a> {
     ghost use Rattle.std.specs.Prelude.{length};
     ghost use Rattle.kp_ast.specs.contracts.tree.ExprKind as e;
     ghost use Rattle.kp_seq.specs.Running.{Running};
-    ghost use Rattle.kp_seq.specs.inner.Notes.{told_by};
+    ghost use Rattle.kp_seq.specs.inner.Notes.{record_by};
     ghost use Rattle.kp_seq.specs.inner.Ready.{IsReady};
 
     ghost Value = { Running };
 
     ghost coded = { Prim.hlevel (codes, e.the_row.coded) };
 
-    ghost view = { λ m. record { job = m.design.now.job; words = m.words; last = told_by m.notes } };
+    ghost view = { λ m. record { job = m.design.now.job; words = m.words; last = record_by m.notes } };
 
     ghost invariant = { λ m. IsReady m.design.now.job m.resolved.value.tables m.resolved.value.program m.under (length m.room.items) m.words m.notes };
 }
@@ -193,7 +193,7 @@ impl<'a> SeqMachine<'a> {
         requires { samples_of self.old.job.decls ≡ [] }
         ensures job { self.new.job ≡ self.old.job }
         ensures state { state self.new ≡ after_one self.old.job (state self.old) [] }
-        ensures told { self.new.last ≡ told_of self.old.job (state self.old) (λ x. 0) }
+        ensures recorded { self.new.last ≡ record_of self.old.job (state self.old) (λ x. 0) }
     {
         self.step_with(&[]);
     }
@@ -204,7 +204,7 @@ impl<'a> SeqMachine<'a> {
         requires { AreSamples self.old.job.decls row.now }
         ensures job { self.new.job ≡ self.old.job }
         ensures state { state self.new ≡ after_one self.old.job (state self.old) row.now }
-        ensures told { self.new.last ≡ told_of self.old.job (state self.old) (values_in row.now) }
+        ensures recorded { self.new.last ≡ record_of self.old.job (state self.old) (values_in row.now) }
     {
         let resolved = self.resolved.as_ref();
         let room = self.room.as_mut_slice();

@@ -11,7 +11,7 @@ use Rattle.kp_pipeline.specs.Machine.{Tree}
 use Rattle.kp_pipeline.specs.Timeline.{some_unmet}
 use Rattle.kp_machine.specs.Slots.{targets_of, number_of, result_named}
 use Rattle.kp_machine.specs.Trees.{Progress, holds, address_of, value_of, word_read, with_name, with_set, read_of, statement_of, tree_of}
-use Rattle.kp_seq.specs.Told.{where_true, address_read, done_after, read_told, reads_told}
+use Rattle.kp_seq.specs.Recorded.{where_true, address_read, done_after, read_recorded, reads_recorded}
 use Rattle.kp_stalls.specs.declared.sites.Site.{Site}
 use Rattle.kp_stalls.specs.Sites.{site_of, sites_in}
 
@@ -40,12 +40,12 @@ module _ (ready : ℕ → ℕ → Bool) (s : ℕ → ℕ → ℕ) (ds : List Dec
 
   -- one statement, if the others are alike
   one_asks : (done : Progress) (x : StmtKind) (xs : List Stmt)
-      → ((next : Progress) → some_unmet ready s (tree_of ds next xs) ≡ asks_unmet ready (sites_in (targets_of ds) k xs) (reads_told ds s next xs))
+      → ((next : Progress) → some_unmet ready s (tree_of ds next xs) ≡ asks_unmet ready (sites_in (targets_of ds) k xs) (reads_recorded ds s next xs))
       → some_unmet ready s (statement_of ds done x (λ next. tree_of ds next xs))
-      ≡ asks_unmet ready (site_of (targets_of ds) k x ++ sites_in (targets_of ds) k xs) (read_told ds done x ++ reads_told ds s (done_after ds s done x) xs)
+      ≡ asks_unmet ready (site_of (targets_of ds) k x ++ sites_in (targets_of ds) k xs) (read_recorded ds done x ++ reads_recorded ds s (done_after ds s done x) xs)
   one_asks done (stmts.Read r) xs more =
       read_asks done r r.guess (holds ds done r.when) (λ v. tree_of ds (with_name done r.name.name (word_read ds r v)) xs) (sites_in (targets_of ds) k xs)
-      (λ v. reads_told ds s (with_name done r.name.name (word_read ds r v)) xs) (λ v. more (with_name done r.name.name (word_read ds r v)))
+      (λ v. reads_recorded ds s (with_name done r.name.name (word_read ds r v)) xs) (λ v. more (with_name done r.name.name (word_read ds r v)))
   one_asks done (stmts.Let n e) xs more = more (done_after ds s done (stmts.Let n e))
   one_asks done (stmts.Put n e) xs more = more (done_after ds s done (stmts.Put n e))
   one_asks done (stmts.Set n e when) xs more =
@@ -54,6 +54,6 @@ module _ (ready : ℕ → ℕ → Bool) (s : ℕ → ℕ → ℕ) (ds : List Dec
   one_asks done (stmts.Aim n e) xs more = more (done_after ds s done (stmts.Aim n e))
 
   -- all statements of a stage
-  pub stage_asks : (done : Progress) (xs : List Stmt) → some_unmet ready s (tree_of ds done xs) ≡ asks_unmet ready (sites_in (targets_of ds) k xs) (reads_told ds s done xs)
+  pub stage_asks : (done : Progress) (xs : List Stmt) → some_unmet ready s (tree_of ds done xs) ≡ asks_unmet ready (sites_in (targets_of ds) k xs) (reads_recorded ds s done xs)
   stage_asks done [] = refl
   stage_asks done (x ∷ xs) = one_asks done x.kind xs (λ next. stage_asks next xs)

@@ -30,7 +30,7 @@ use Rattle.kp_machine.specs.Machine.{machine_of, result_for, sequential, stage_t
 use Rattle.kp_machine.proofs.Cases.{by_option}
 use Rattle.kp_machine.proofs.Stages.{stages_inside}
 use Rattle.kp_machine.proofs.Text.{fits_text, target_slot}
-use Rattle.kp_seq.specs.Told.{read_told, reads_told, done_after, stage_reads, reads_from, told_of}
+use Rattle.kp_seq.specs.Recorded.{read_recorded, reads_recorded, done_after, stage_reads, reads_from, record_of}
 use Rattle.kp_stalls.specs.declared.occupants.Stage.{Stage}
 use Rattle.kp_stalls.specs.declared.sites.Site.{Site}
 use Rattle.kp_stalls.specs.declared.sites.Writer.{Writer}
@@ -56,19 +56,19 @@ writer_get job (suc n) t b = ⊎_elim
     (cases_lt t n)
 
 -- ---- the reads of a job, stage by stage
-one_count : (targets : List Slot) (ds : List Decl) (k : ℕ) (done : Progress) (x : StmtKind) → length (site_of targets k x) ≡ length (read_told ds done x)
+one_count : (targets : List Slot) (ds : List Decl) (k : ℕ) (done : Progress) (x : StmtKind) → length (site_of targets k x) ≡ length (read_recorded ds done x)
 one_count targets ds k done (stmts.Read r) = refl
 one_count targets ds k done (stmts.Let n e) = refl
 one_count targets ds k done (stmts.Put n e) = refl
 one_count targets ds k done (stmts.Set n e when) = refl
 one_count targets ds k done (stmts.Aim n e) = refl
 
-stage_count : (targets : List Slot) (ds : List Decl) (s : ℕ → ℕ → ℕ) (k : ℕ) (done : Progress) (xs : List Stmt) → length (sites_in targets k xs) ≡ length (reads_told ds s done xs)
+stage_count : (targets : List Slot) (ds : List Decl) (s : ℕ → ℕ → ℕ) (k : ℕ) (done : Progress) (xs : List Stmt) → length (sites_in targets k xs) ≡ length (reads_recorded ds s done xs)
 stage_count targets ds s k done [] = refl
 stage_count targets ds s k done (x ∷ xs) =
     let later = done_after ds s done x.kind in
     let a = length-append (site_of targets k x.kind) (sites_in targets k xs) in
-    let b = length-append (read_told ds done x.kind) (reads_told ds s later xs) in
+    let b = length-append (read_recorded ds done x.kind) (reads_recorded ds s later xs) in
     let c = one_count targets ds k done x.kind in
     let d = stage_count targets ds s k later xs in
     omega (arith, a, b, c, d)
@@ -89,13 +89,13 @@ all_in targets k [] = tt
 all_in targets k (x ∷ xs) = one_in targets k x.kind (sites_in targets k xs) (all_in targets k xs)
 
 module _ (job : Job) (st : ℕ → ℕ → ℕ) (q : ℕ → ℕ) (occupants : List Seen) (k : ℕ) where
-  abbrev told_at : ℕ → List (Option ℕ)
-  told_at j = stage_reads job st q j
+  abbrev record_at : ℕ → List (Option ℕ)
+  record_at j = stage_reads job st q j
 
   abbrev sites_at : ℕ → List Site
   sites_at j = sites_in (targets_of job.decls) j (stmts_in (slice_get job.blocks j))
 
-  part_count : (j : ℕ) → length (sites_at j) ≡ length (told_at j)
+  part_count : (j : ℕ) → length (sites_at j) ≡ length (record_at j)
   unfolding stage_reads
   part_count j = stage_count (targets_of job.decls) job.decls st j (entered job.decls q (before_stage (machine_of job) st q j).pipes) (stmts_in (slice_get job.blocks j))
 
@@ -116,7 +116,7 @@ module _ (job : Job) (st : ℕ → ℕ → ℕ) (q : ℕ → ℕ) (occupants : L
   blocks_count j (x ∷ bs) follow =
       let next : j + 1 ≡ suc j = omega arith in
       let a = length-append (sites_in (targets_of job.decls) j x.stmts) (sites_from (targets_of job.decls) (j + 1) bs) in
-      let c = length-append (told_at j) (reads_from job st q (length bs) (suc j)) in
+      let c = length-append (record_at j) (reads_from job st q (length bs) (suc j)) in
       let p = ap length (first_there j x bs follow) ∙ part_count j in
       let r = ap (λ i. length (sites_from (targets_of job.decls) i bs)) next ∙ blocks_count (suc j) bs (following j x bs follow) in
       omega (arith, a, c, p, r)
@@ -125,21 +125,21 @@ module _ (job : Job) (st : ℕ → ℕ → ℕ) (q : ℕ → ℕ) (occupants : L
   Met = AllMet (sited job) occupants k
 
   pub stage_met : (j : ℕ) (bs : List Block) → Following j bs → j ≤ k → k < j + length bs → Met (sites_from (targets_of job.decls) j bs) (reads_from job st q (length bs) j)
-      → Met (sites_at k) (told_at k)
+      → Met (sites_at k) (record_at k)
   stage_met j [] follow l g h = absurd (omega (arith, l, g))
   stage_met j (x ∷ bs) follow l g h =
       let next : j + 1 ≡ suc j = omega arith in
       let rest = reads_from job st q (length bs) (suc j) in
       let here = sites_in (targets_of job.decls) j x.stmts in
-      let many : length here ≡ length (told_at j) = ap length (first_there j x bs follow) ∙ part_count j in
+      let many : length here ≡ length (record_at j) = ap length (first_there j x bs follow) ∙ part_count j in
       ⊎_elim
       (λ (lt : j < k).
       stage_met (suc j) bs (following j x bs follow) (omega (arith, lt)) (omega (arith, g))
-      (subst (λ i. Met (sites_from (targets_of job.decls) i bs) rest) next (right_met (sited job) occupants k here (sites_from (targets_of job.decls) (j + 1) bs) (told_at j) rest many h)))
+      (subst (λ i. Met (sites_from (targets_of job.decls) i bs) rest) next (right_met (sited job) occupants k here (sites_from (targets_of job.decls) (j + 1) bs) (record_at j) rest many h)))
       (λ (ge : k ≤ j).
       let is : j ≡ k = omega (arith, l, ge) in
-      subst (λ i. Met (sites_at i) (told_at i)) is
-      (subst (λ ss. Met ss (told_at j)) (first_there j x bs follow) (left_met (sited job) occupants k here (sites_from (targets_of job.decls) (j + 1) bs) (told_at j) rest many h)))
+      subst (λ i. Met (sites_at i) (record_at i)) is
+      (subst (λ ss. Met ss (record_at j)) (first_there j x bs follow) (left_met (sited job) occupants k here (sites_from (targets_of job.decls) (j + 1) bs) (record_at j) rest many h)))
       (cases_lt j k)
 
 -- ---- a moment
@@ -320,14 +320,14 @@ module _ (job : Job) (given : ℕ → ℕ → ℕ) (now : Moment) (i : Inputs) (
           let f = first_is (sited job) occupants k (sited job).reads 0 w e in
           let l : ℕ = f.later in
           let z : 0 + l ≡ l = omega arith in
-          let x = wait_is (sited job) occupants k (0 + l) (get_or (sited job).reads l no_site) w (get_or (at occupants k).report.told.reads (0 + l) None) f.wait in
+          let x = wait_is (sited job) occupants k (0 + l) (get_or (sited job).reads l no_site) w (get_or (at occupants k).report.recorded.reads (0 + l) None) f.wait in
           let same : w.read ≡ l = x.read ∙ z in
           let site = read_site job w.read in
           let at_read : get_or (sited job).reads l no_site ≡ site = ap (λ y. get_or (sited job).reads y no_site) (sym same) in
           let target : get_or (sited job).writers site.target None ≡ Some x.by = ap (λ (y : Site). get_or (sited job).writers y.target None) (sym at_read) ∙ x.is_by in
           cause_of w x.by target (ap (λ (y : Site). y.stage) (sym at_read) ∙ x.own) (ap (λ (y : Site). y.guessed) (sym at_read) ∙ x.plain)
           (let b = f.there in omega (arith, b, same))
-          (ap (λ (g : Report). get_or g.told.reads w.read None) (sym (report_is k below)) ∙ ap (λ y. get_or (at occupants k).report.told.reads y None) x.read ∙ x.asked)
+          (ap (λ (g : Report). get_or g.recorded.reads w.read None) (sym (report_is k below)) ∙ ap (λ y. get_or (at occupants k).report.recorded.reads y None) x.read ∙ x.asked)
           x.source x.unready x.number
         where
           by_result : (t : ℕ) (w : Wait) (b : Writer) (o : Option ℕ) → result_number (targets_of job.decls) job.decls 0 t ≡ o → writer_by job t o ≡ Some b
@@ -345,7 +345,7 @@ module _ (job : Job) (given : ℕ → ℕ → ℕ) (now : Moment) (i : Inputs) (
 
           cause_of : (w : Wait) (b : Writer) → get_or (sited job).writers (read_site job w.read).target None ≡ Some b → (read_site job w.read).stage ≡ k
               → (read_site job w.read).guessed ≡ false → w.read < length (sited job).reads
-              → get_or (report job given (now.count k)).told.reads w.read None ≡ Some w.address → nearest_above (sited job) occupants b w.address k ≡ Some w.stage
+              → get_or (report job given (now.count k)).recorded.reads w.read None ≡ Some w.address → nearest_above (sited job) occupants b w.address k ≡ Some w.stage
               → is_ready b (at occupants w.stage) w.stage ≡ false → w.writer ≡ (at occupants w.stage).stage.number → IsCause job given now i k w
           cause_of w b is own plain there asked near unready number =
               let t = (read_site job w.read).target in
@@ -394,7 +394,7 @@ module _ (job : Job) (given : ℕ → ℕ → ℕ) (now : Moment) (i : Inputs) (
       body_is : m.body k i.samples (instruction_before m s given n k).pipes ≡ m.body k (given n) (instruction_before m s given n k).pipes
       body_is = acc.own_samples k i.samples (given n) (instruction_before m s given n k).pipes below settled
 
-      asks : asks_unmet (above k).ready (sites_at job st (given n) occupants k k) (told_at job st (given n) occupants k k) ≡ true
+      asks : asks_unmet (above k).ready (sites_at job st (given n) occupants k k) (record_at job st (given n) occupants k k) ≡ true
       unfolding machine_of stage_tree stage_reads
       asks =
           sym (stage_asks (above k).ready st job.decls k (entered job.decls (given n) (before_stage (machine_of job) st (given n) k).pipes) (stmts_in (slice_get job.blocks k)))
@@ -403,9 +403,9 @@ module _ (job : Job) (given : ℕ → ℕ → ℕ) (now : Moment) (i : Inputs) (
       count : length job.blocks ≡ job.stages.value
       count = stages_inside job rules
 
-      reads_are : (at occupants k).report.told.reads ≡ reads_from job st (given n) (length job.blocks) 0
-      unfolding told_of
-      reads_are = ap (λ (f : Report). f.told.reads) (report_is k below) ∙ ap (λ x. reads_from job st (given n) x 0) (sym count)
+      reads_are : (at occupants k).report.recorded.reads ≡ reads_from job st (given n) (length job.blocks) 0
+      unfolding record_of
+      reads_are = ap (λ (f : Report). f.recorded.reads) (report_is k below) ∙ ap (λ x. reads_from job st (given n) x 0) (sym count)
 
       follow : (x : ℕ) (y : Block) → slice_get job.blocks x ≡ Some y → slice_get job.blocks (0 + x) ≡ Some y
       follow x y e = let z : x ≡ 0 + x = omega arith in subst (λ v. slice_get job.blocks v ≡ Some y) z e
@@ -415,7 +415,7 @@ module _ (job : Job) (given : ℕ → ℕ → ℕ) (now : Moment) (i : Inputs) (
           let all = none_waits (sited job) occupants k (sited job).reads [] (reads_from job st (given n) (length job.blocks) 0) reads_are
           (blocks_count job st (given n) occupants k 0 job.blocks follow) e in
           let here = stage_met job st (given n) occupants k 0 job.blocks follow (omega arith) (omega (arith, below, count, count_is)) all in
-          let no = no_asks (m.stages - suc k) (sites_at job st (given n) occupants k k) (told_at job st (given n) occupants k k) (omega (arith, below))
+          let no = no_asks (m.stages - suc k) (sites_at job st (given n) occupants k k) (record_at job st (given n) occupants k k) (omega (arith, below))
           (all_in (targets_of job.decls) k (stmts_in (slice_get job.blocks k))) here in
           false≢true (sym no ∙ asks)
 

@@ -13,7 +13,7 @@ use Rattle.kp_pipeline.specs.SpeculativeTimeline as timeline
 use Rattle.kp_pipeline.specs.SpeculativeTimeline.{setting_stage}
 use Rattle.kp_machine.specs.Slots.{Slot, targets_of, pipes_of, number_of, result_to}
 use Rattle.kp_machine.specs.Machine.{machine_of, result_for, write_stage_of, enabled_of, address_in, is_enabled_by, address_by}
-use Rattle.kp_seq.specs.Told.{where_true, results_of, write_told, setting_told, told_of}
+use Rattle.kp_seq.specs.Recorded.{where_true, results_of, write_recorded, setting_recorded, record_of}
 use Rattle.kp_stalls.specs.declared.sites.Writer.{Writer}
 use Rattle.kp_stalls.specs.Sites.{result_number}
 use Rattle.kp_stalls.specs.Occupants.{Report, Seen, report_of}
@@ -110,31 +110,31 @@ module _ (job : Job) (s : ℕ → ℕ → ℕ) (given : ℕ → ℕ → ℕ) (k 
   abbrev at_start : ℕ → ℕ → ℕ
   at_start = seq (machine_of job) s given n
 
-  module _ (is : IsResult job t i) (tells : x.report ≡ report_of job at_start (given n)) where
+  module _ (is : IsResult job t i) (record_is : x.report ≡ report_of job at_start (given n)) where
     abbrev writer : Writer
     writer = record { result = i; write = (machine_of job).write_stage t; known = (machine_of job).known_from t }
 
     pub writes_same : (a : ℕ) → timeline.may_write (machine_of job) s given k (Some n) t a ≡ may_write writer x k a
-    unfolding machine_of told_of
+    unfolding machine_of record_of
     writes_same a =
         let pipes = (before_stage (machine_of job) at_start (given n) job.stages.value).pipes in
         let r = is.result in
-        let here : get_or x.report.told.writes i None ≡ write_told job pipes r =
-        ap (λ (y : Report). get_or y.told.writes i None) tells
-        ∙ get_or_from_slice_get (map (write_told job pipes) (results_of job.decls)) i (write_told job pipes r) None (mapped (write_told job pipes) (results_of job.decls) i r is.there) in
+        let here : get_or x.report.recorded.writes i None ≡ write_recorded job pipes r =
+        ap (λ (y : Report). get_or y.recorded.writes i None) record_is
+        ∙ get_or_from_slice_get (map (write_recorded job pipes) (results_of job.decls)) i (write_recorded job pipes r) None (mapped (write_recorded job pipes) (results_of job.decls) i r is.there) in
         ap (λ o. not (leb ((machine_of job).known_from t) k) || (is_some o && (enabled_of (pipes_of job.decls) pipes o && eqb (address_in (pipes_of job.decls) pipes o) a))) is.first
         ∙ ap (λ b. not (leb ((machine_of job).known_from t) k) || b)
         (wrote (is_enabled_by (pipes_of job.decls) pipes r.enable) (address_by (pipes_of job.decls) pipes r.address) a ∙ sym (ap (λ o. wrote_at o a) here))
 
     pub ready_same : (blocked : Bool) → x.stage.moves ≡ not blocked → timeline.is_ready (machine_of job) s given k (Some n) blocked t ≡ is_ready writer x k
-    unfolding machine_of told_of setting_stage setting_told
+    unfolding machine_of record_of setting_stage setting_recorded
     ready_same blocked moving =
         let r = is.result in
-        let here : get_or x.report.told.settings i 0 ≡ setting_told job at_start (given n) r =
-        ap (λ (y : Report). get_or y.told.settings i 0) tells
-        ∙ get_or_from_slice_get (map (setting_told job at_start (given n)) (results_of job.decls)) i (setting_told job at_start (given n) r) 0 (mapped (setting_told job at_start (given n)) (results_of job.decls) i r is.there) in
-        let stage : setting_stage (machine_of job) at_start (given n) t ≡ setting_told job at_start (given n) r =
+        let here : get_or x.report.recorded.settings i 0 ≡ setting_recorded job at_start (given n) r =
+        ap (λ (y : Report). get_or y.recorded.settings i 0) record_is
+        ∙ get_or_from_slice_get (map (setting_recorded job at_start (given n)) (results_of job.decls)) i (setting_recorded job at_start (given n) r) 0 (mapped (setting_recorded job at_start (given n)) (results_of job.decls) i r is.there) in
+        let stage : setting_stage (machine_of job) at_start (given n) t ≡ setting_recorded job at_start (given n) r =
         ap (λ o. first_stage (λ j. is_some ((before_stage (machine_of job) at_start (given n) (suc j)).results t)) job.stages.value 0 (write_stage_of o)) is.first
         ∙ ap (λ y. first_stage (λ j. is_some ((before_stage (machine_of job) at_start (given n) (suc j)).results y)) job.stages.value 0 r.stage.value) (sym is.target) in
         ap (λ y. leb ((machine_of job).known_from t) k && (ltb y k || (eqb y k && not blocked))) (stage ∙ sym here)
-        ∙ ap (λ b. leb ((machine_of job).known_from t) k && (ltb (get_or x.report.told.settings i 0) k || (eqb (get_or x.report.told.settings i 0) k && b))) (sym moving)
+        ∙ ap (λ b. leb ((machine_of job).known_from t) k && (ltb (get_or x.report.recorded.settings i 0) k || (eqb (get_or x.report.recorded.settings i 0) k && b))) (sym moving)

@@ -32,7 +32,7 @@ module _ (occupants : List Seen) (w : Writer) (a : ℕ) where
 -- THE FIRST READ THAT WAITS.
 module _ (s : Sited) (occupants : List Seen) (k : ℕ) where
   abbrev asked : ℕ → Option ℕ
-  asked i = get_or (at occupants k).report.told.reads i None
+  asked i = get_or (at occupants k).report.recorded.reads i None
 
   pub wait_step : (sites : List Site) (i : ℕ) (d : Site) (o : Option Wait) → i < length sites → wait_of s occupants k i (get_or sites i d) (asked i) ≡ o
       → first_wait s occupants k i (drop i sites) ≡ or_else o (first_wait s occupants k (i + 1) (drop (i + 1) sites))

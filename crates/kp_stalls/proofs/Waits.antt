@@ -112,7 +112,7 @@ module _ (s : Sited) (occupants : List Seen) (k i : ℕ) (site : Site) (w : Wait
 -- THE FIRST ONE.
 module _ (s : Sited) (occupants : List Seen) (k : ℕ) where
   abbrev reads : List (Option ℕ)
-  reads = (at occupants k).report.told.reads
+  reads = (at occupants k).report.recorded.reads
 
   pub record IsFirst (sites : List Site) (i : ℕ) (w : Wait) : Type 0 where
     pub later : ℕ

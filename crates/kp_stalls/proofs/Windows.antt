@@ -17,8 +17,8 @@ use Rattle.kp_stage.specs.Stages.{broken_of}
 use Rattle.kp_synth_tables.proofs.Limits.{few}
 use Rattle.kp_machine.specs.Machine.{machine_of, sequential, state_of, values_in}
 use Rattle.kp_machine.specs.Slots.{targets_of}
-use Rattle.kp_seq.specs.Told.{Told, results_of, setting_told, told_of}
-use Rattle.kp_seq.proofs.Telling.{all_told}
+use Rattle.kp_seq.specs.Recorded.{Recorded, results_of, setting_recorded, record_of}
+use Rattle.kp_seq.proofs.Recording.{all_recorded}
 use Rattle.kp_stalls.specs.Sites.{Sited, sited, writers_to}
 use Rattle.kp_seq.specs.Running.{Running, after_one, state}
 use Rattle.kp_stalls.specs.Occupants.{Report, report, report_of, nothing, stored, value_before}
@@ -82,7 +82,7 @@ room_set job ring p f count here all j b = ⊎_elim
     (cases_lt j p)
 
 -- what is reported of an instruction has its size
-pub record IsToldOf (job : Job) (f : Told) : Type 0 where
+pub record IsRecordedOf (job : Job) (f : Recorded) : Type 0 where
   pub reads : length f.reads ≡ (summary_of job).reads
   pub writes : length f.writes ≡ (summary_of job).results
   pub settings : length f.settings ≡ (summary_of job).results
@@ -98,36 +98,36 @@ results_count (decls.Hint n width start ∷ ds) = let p = sum_by-cons results_in
 results_count (decls.Func f ∷ ds) = let p = sum_by-cons results_in (decls.Func f) ds in let q = results_count ds in omega (arith, p, q)
 
 -- what is reported about an instruction has its size
-pub told_room : (job : Job) (s : ℕ → ℕ → ℕ) (q : ℕ → ℕ) → length job.blocks ≡ job.stages.value → IsToldOf job (told_of job s q)
-unfolding told_of summary_of
-told_room job s q e = record {
-  reads = all_told job s q e;
+pub record_room : (job : Job) (s : ℕ → ℕ → ℕ) (q : ℕ → ℕ) → length job.blocks ≡ job.stages.value → IsRecordedOf job (record_of job s q)
+unfolding record_of summary_of
+record_room job s q e = record {
+  reads = all_recorded job s q e;
   writes = length-map (results_of job.decls) _ ∙ results_count job.decls;
-  settings = length-map (results_of job.decls) (setting_told job s q) ∙ results_count job.decls;
+  settings = length-map (results_of job.decls) (setting_recorded job s q) ∙ results_count job.decls;
 }
 
 pub report_room : (job : Job) (s : ℕ → ℕ → ℕ) (q : ℕ → ℕ) → length job.blocks ≡ job.stages.value → HasRoom job (report_of job s q)
 report_room job s q e =
-    let told = told_room job s q e in
-    record { reads = told.reads; writes = told.writes; settings = told.settings; values = length-map (sited job).reads (value_before job s) }
+    let recorded = record_room job s q e in
+    record { reads = recorded.reads; writes = recorded.writes; settings = recorded.settings; values = length-map (sited job).reads (value_before job s) }
 
 -- so what was reported before can be replaced by a new report
-pub record FitsIn (told last : Told) : Type 0 where
-  pub reads : length told.reads ≡ length last.reads
-  pub writes : length told.writes ≡ length last.writes
-  pub settings : length told.settings ≡ length last.settings
-  pub few_reads : length told.reads < 2 ^ 32
-  pub few_writes : length told.writes < 2 ^ 32
-  pub few_settings : length told.settings < 2 ^ 32
+pub record FitsIn (recorded last : Recorded) : Type 0 where
+  pub reads : length recorded.reads ≡ length last.reads
+  pub writes : length recorded.writes ≡ length last.writes
+  pub settings : length recorded.settings ≡ length last.settings
+  pub few_reads : length recorded.reads < 2 ^ 32
+  pub few_writes : length recorded.writes < 2 ^ 32
+  pub few_settings : length recorded.settings < 2 ^ 32
 
-pub told_fits : (job : Job) (s : ℕ → ℕ → ℕ) (q : ℕ → ℕ) (f : Report) (told last : Told) → length job.blocks ≡ job.stages.value → (summary_of job).reads < 2 ^ 32
-    → (summary_of job).results < 2 ^ 32 → HasRoom job f → told ≡ f.told → last ≡ told_of job s q → FitsIn told last
-told_fits job s q f told last count reads results room same e =
-    let there = told_room job s q count in
-    subst (λ (x : Told). FitsIn x last) (sym same) (record {
-      reads = room.reads ∙ sym (ap (λ (x : Told). length x.reads) e ∙ there.reads);
-      writes = room.writes ∙ sym (ap (λ (x : Told). length x.writes) e ∙ there.writes);
-      settings = room.settings ∙ sym (ap (λ (x : Told). length x.settings) e ∙ there.settings);
+pub record_fits : (job : Job) (s : ℕ → ℕ → ℕ) (q : ℕ → ℕ) (f : Report) (recorded last : Recorded) → length job.blocks ≡ job.stages.value → (summary_of job).reads < 2 ^ 32
+    → (summary_of job).results < 2 ^ 32 → HasRoom job f → recorded ≡ f.recorded → last ≡ record_of job s q → FitsIn recorded last
+record_fits job s q f recorded last count reads results room same e =
+    let there = record_room job s q count in
+    subst (λ (x : Recorded). FitsIn x last) (sym same) (record {
+      reads = room.reads ∙ sym (ap (λ (x : Recorded). length x.reads) e ∙ there.reads);
+      writes = room.writes ∙ sym (ap (λ (x : Recorded). length x.writes) e ∙ there.writes);
+      settings = room.settings ∙ sym (ap (λ (x : Recorded). length x.settings) e ∙ there.settings);
       few_reads = subst (λ n. n < 2 ^ 32) (sym room.reads) reads;
       few_writes = subst (λ n. n < 2 ^ 32) (sym room.writes) results;
       few_settings = subst (λ n. n < 2 ^ 32) (sym room.settings) results;

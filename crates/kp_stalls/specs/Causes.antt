@@ -25,14 +25,14 @@ wrote_at None a = false
 wrote_at (Some b) a = b == a
 
 abbrev pub may_write : Writer → Seen → ℕ → ℕ → Bool
-may_write w x j a = not (nat_le w.known j) || wrote_at (get_or x.report.told.writes w.result None) a
+may_write w x j a = not (nat_le w.known j) || wrote_at (get_or x.report.recorded.writes w.result None) a
 
 abbrev pub is_source : List Seen → Writer → ℕ → ℕ → Bool
 is_source occupants w a j = (at occupants j).stage.full && (nat_le j w.write && may_write w (at occupants j) j a)
 
 -- the stage that sets the result
 abbrev pub setting : Writer → Seen → ℕ
-setting w x = get_or x.report.told.settings w.result 0
+setting w x = get_or x.report.recorded.settings w.result 0
 
 -- The result is ready in stage j: the intent is known there, and the result was set before, or is set in it and the stage updates.
 abbrev pub is_ready : Writer → Seen → ℕ → Bool
@@ -74,7 +74,7 @@ or_else (Some x) next = Some x
 abbrev pub first_wait : Sited → List Seen → ℕ → ℕ → List Site → Option Wait
 first_wait s occupants k i [] = None
 first_wait s occupants k i (site ∷ sites) =
-    or_else (wait_of s occupants k i site (get_or (at occupants k).report.told.reads i None)) (first_wait s occupants k (i + 1) sites)
+    or_else (wait_of s occupants k i site (get_or (at occupants k).report.recorded.reads i None)) (first_wait s occupants k (i + 1) sites)
 
 abbrev pub cause_of_wait : Option Wait → Cause
 cause_of_wait None = Unsure
@@ -129,7 +129,7 @@ is_open s occupants k site asked =
 abbrev pub only_open : Sited → List Seen → ℕ → Option ℕ → ℕ → List Site → Option ℕ
 only_open s occupants k found i [] = found
 only_open s occupants k found i (site ∷ sites) =
-    if is_open s occupants k site (get_or (at occupants k).report.told.reads i None)
+    if is_open s occupants k site (get_or (at occupants k).report.recorded.reads i None)
     then (if is_some found then None else only_open s occupants k (Some i) (i + 1) sites)
     else only_open s occupants k found (i + 1) sites
 

@@ -41,7 +41,7 @@ pub record IsCause (job : Job) (given : ℕ → ℕ → ℕ) (now : Moment) (i :
   pub there : w.read < length (sited job).reads
   pub own : (read_site job w.read).stage ≡ k
   pub plain : (read_site job w.read).guessed ≡ false
-  pub asked : get_or (report job given (now.count k)).told.reads w.read None ≡ Some w.address
+  pub asked : get_or (report job given (now.count k)).recorded.reads w.read None ≡ Some w.address
   pub above : k < w.stage
   pub within : w.stage < (machine_of job).stages
   pub number : held now w.stage ≡ Some w.writer

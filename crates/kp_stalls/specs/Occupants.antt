@@ -5,7 +5,7 @@ use Rattle.kp_ast.specs.declared.tree.Job.{Job}
 use Rattle.kp_machine.specs.Machine.{sequential}
 use Rattle.kp_machine.specs.Slots.{targets_of}
 use Rattle.kp_seq.specs.Running.{target}
-use Rattle.kp_seq.specs.Told.{Told, told_of}
+use Rattle.kp_seq.specs.Recorded.{Recorded, record_of}
 use Rattle.kp_stalls.specs.declared.occupants.Stage.{Stage}
 use Rattle.kp_stalls.specs.declared.fate.Fate.TheVariants.{Open}
 use Rattle.kp_stalls.specs.declared.sites.Site.{Site}
@@ -13,14 +13,14 @@ use Rattle.kp_stalls.specs.Sites.{sited}
 
 -- What the sequential machine reports of an instruction, and for each read the value that its target had before the instruction at address 0.
 pub record Report : Type 0 where
-  pub told : Told
+  pub recorded : Recorded
   pub values : List Word
 
-abbrev pub nothing_told : Told
-nothing_told = record { reads = []; writes = []; settings = [] }
+abbrev pub nothing_recorded : Recorded
+nothing_recorded = record { reads = []; writes = []; settings = [] }
 
 abbrev pub nothing : Report
-nothing = record { told = nothing_told; values = [] }
+nothing = record { recorded = nothing_recorded; values = [] }
 
 -- the value of a read of a target that doesn't exist
 abbrev pub no_value : Word
@@ -32,7 +32,7 @@ value_before job s site =
 
 -- of the instruction on the state s with the sample values q
 abbrev pub report_of : Job → (ℕ → ℕ → ℕ) → (ℕ → ℕ) → Report
-report_of job s q = record { told = told_of job s q; values = map (value_before job s) (sited job).reads }
+report_of job s q = record { recorded = record_of job s q; values = map (value_before job s) (sited job).reads }
 
 -- of instruction i of the run in which instruction j has the sample values `given j`
 abbrev pub report : Job → (ℕ → ℕ → ℕ) → ℕ → Report

@@ -17,9 +17,9 @@ pub record Windowed : Type 0 where
 
 -- a record of the size that the report of an instruction has
 pub record HasRoom (job : Job) (f : Report) : Type 0 where
-  pub reads : length f.told.reads ≡ (summary_of job).reads
-  pub writes : length f.told.writes ≡ (summary_of job).results
-  pub settings : length f.told.settings ≡ (summary_of job).results
+  pub reads : length f.recorded.reads ≡ (summary_of job).reads
+  pub writes : length f.recorded.writes ≡ (summary_of job).results
+  pub settings : length f.recorded.settings ≡ (summary_of job).results
   pub values : length f.values ≡ length (sited job).reads
 
 pub record IsKept (job : Job) (w : Windowed) : Type 0 where

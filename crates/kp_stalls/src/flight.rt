@@ -32,7 +32,7 @@ impl Model for Flight {
 
     ghost Value = { Report };
 
-    ghost view = { λ f. record { told = record { reads = f.reads.items; writes = f.writes.items; settings = f.settings.items }; values = f.values.items } };
+    ghost view = { λ f. record { recorded = record { reads = f.reads.items; writes = f.writes.items; settings = f.settings.items }; values = f.values.items } };
 }
 
 impl Flight {
@@ -43,9 +43,9 @@ impl Flight {
         results: usize,
         values: usize,
     ) -> Result<Flight, NoMemory>
-        ensures reads { IfOk result (λ f. length f.told.reads ≡ reads) }
-        ensures writes { IfOk result (λ f. length f.told.writes ≡ results) }
-        ensures settings { IfOk result (λ f. length f.told.settings ≡ results) }
+        ensures reads { IfOk result (λ f. length f.recorded.reads ≡ reads) }
+        ensures writes { IfOk result (λ f. length f.recorded.writes ≡ results) }
+        ensures settings { IfOk result (λ f. length f.recorded.settings ≡ results) }
         ensures values { IfOk result (λ f. length f.values ≡ values) }
     {
         Ok(Flight {
@@ -58,7 +58,7 @@ impl Flight {
 
     /// The address of a read, if its condition was true.
     pub(crate) fn read(&self, number: usize) -> Option<u32>
-        ensures { result ≡ get_or self.now.told.reads number None }
+        ensures { result ≡ get_or self.now.recorded.reads number None }
     {
         if number < self.reads.len() {
             self.reads[number]
@@ -69,7 +69,7 @@ impl Flight {
 
     /// The address at which a result wrote, if it was enabled.
     pub(crate) fn write(&self, number: usize) -> Option<u32>
-        ensures { result ≡ get_or self.now.told.writes number None }
+        ensures { result ≡ get_or self.now.recorded.writes number None }
     {
         if number < self.writes.len() {
             self.writes[number]
@@ -80,7 +80,7 @@ impl Flight {
 
     /// The stage in which a result was set.
     pub(crate) fn setting(&self, number: usize) -> u8
-        ensures { result ≡ get_or self.now.told.settings number 0 }
+        ensures { result ≡ get_or self.now.recorded.settings number 0 }
     {
         if number < self.settings.len() {
             self.settings[number]
@@ -130,7 +130,7 @@ impl Flight {
         requires count { length self.old.values ≡ length sites.now }
         requires targets { targets ≡ length (targets_of machine.now.job.decls) }
         requires few { targets < 2 ^ 32 }
-        ensures told { self.new.told ≡ self.old.told }
+        ensures recorded { self.new.recorded ≡ self.old.recorded }
         ensures values { self.new.values ≡ map (value_of_site machine.now.job (state machine.now)) sites.now }
     {
         fill_values(self.values.as_mut_slice(), machine, sites, targets);
@@ -138,13 +138,13 @@ impl Flight {
 
     // Copies what a machine reports about its last instruction.
     fn take(&mut self, machine: &SeqMachine)
-        requires reads { length self.old.told.reads ≡ length machine.now.last.reads }
-        requires writes { length self.old.told.writes ≡ length machine.now.last.writes }
-        requires settings { length self.old.told.settings ≡ length machine.now.last.settings }
-        requires few_reads { length self.old.told.reads < 2 ^ 32 }
-        requires few_writes { length self.old.told.writes < 2 ^ 32 }
-        requires few_settings { length self.old.told.settings < 2 ^ 32 }
-        ensures told { self.new.told ≡ machine.now.last }
+        requires reads { length self.old.recorded.reads ≡ length machine.now.last.reads }
+        requires writes { length self.old.recorded.writes ≡ length machine.now.last.writes }
+        requires settings { length self.old.recorded.settings ≡ length machine.now.last.settings }
+        requires few_reads { length self.old.recorded.reads < 2 ^ 32 }
+        requires few_writes { length self.old.recorded.writes < 2 ^ 32 }
+        requires few_settings { length self.old.recorded.settings < 2 ^ 32 }
+        ensures recorded { self.new.recorded ≡ machine.now.last }
         ensures values { self.new.values ≡ self.old.values }
     {
         take_reads(self.reads.as_mut_slice(), machine);

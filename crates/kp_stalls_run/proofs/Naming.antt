@@ -46,13 +46,13 @@ module _ (s : Sited) (occupants : List Seen) (k : ℕ) where
   only_in : (found : Option ℕ) (i : ℕ) (sites : List Site) (r : ℕ) → only_open s occupants k found i sites ≡ Some r → (found ≡ Some r) ⊎ (r < i + length sites)
   only_in found i [] r e = inl e
   only_in found i (site ∷ sites) r e = ⊎_elim
-      (λ (h : is_open s occupants k site (get_or (at occupants k).report.told.reads i None) ≡ true).
+      (λ (h : is_open s occupants k site (get_or (at occupants k).report.recorded.reads i None) ≡ true).
       let open_now = sym (ap (λ c. cond c (cond (is_some found) None (only_open s occupants k (Some i) (i + 1) sites)) (only_open s occupants k found (i + 1) sites)) h) ∙ e in
       second found i sites r (only_in (Some i) (i + 1) sites r) open_now)
-      (λ (h : is_open s occupants k site (get_or (at occupants k).report.told.reads i None) ≡ false).
+      (λ (h : is_open s occupants k site (get_or (at occupants k).report.recorded.reads i None) ≡ false).
       let later = sym (ap (λ c. cond c (cond (is_some found) None (only_open s occupants k (Some i) (i + 1) sites)) (only_open s occupants k found (i + 1) sites)) h) ∙ e in
       shift found i sites r (only_in found (i + 1) sites r later))
-      (cases_Bool (is_open s occupants k site (get_or (at occupants k).report.told.reads i None)))
+      (cases_Bool (is_open s occupants k site (get_or (at occupants k).report.recorded.reads i None)))
     where
       shift : (found : Option ℕ) (i : ℕ) (sites : List Site) (r : ℕ) → (found ≡ Some r) ⊎ (r < i + 1 + length sites) → (found ≡ Some r) ⊎ (r < i + suc (length sites))
       shift found i sites r (inl f) = inl f

@@ -39,7 +39,7 @@ full_if true x c e = refl
 full_if false x c e = cc
 
 -- what a line says of a moment, with these inputs
-pub record IsTold (m : Machine) (s : Sited) (reports : ℕ → Report) (now : Moment) (i : Inputs) (l : Line) : Type 0 where
+pub record IsRecorded (m : Machine) (s : Sited) (reports : ℕ → Report) (now : Moment) (i : Inputs) (l : Line) : Type 0 where
   pub stages : List Stage
   pub shows : ShowsMoment m now (row m now.state i) stages
   pub below : l.stage < m.stages
@@ -79,7 +79,7 @@ module _ (m : Machine) (s : Sited) (same : s.stages ≡ m.stages) (reports : ℕ
     in_crew k b = stage_at reports stages k ∙ seen_at k b
 
     abbrev IsHere : Line → Type 0
-    IsHere l = (l.cycle ≡ T) × IsTold m s reports now i l
+    IsHere l = (l.cycle ≡ T) × IsRecorded m s reports now i l
 
     one_line : (k : ℕ) → k < m.stages → (c : Option Cause) → cause_at s occupants k ≡ c → All IsHere (line_of T occupants k c)
     one_line k b None e = All-nil IsHere
@@ -87,14 +87,14 @@ module _ (m : Machine) (s : Sited) (same : s.stages ≡ m.stages) (reports : ℕ
         let full = full_if (at occupants k).stage.full _ cause e in
         let is_full : (now.state.stage k).full ≡ true = sym (full_at k b) ∙ sym (ap (λ (x : Stage). x.full) (in_crew k b)) ∙ full in
         let number : (at occupants k).stage.number ≡ now.count k = ap (λ (x : Stage). x.number) (in_crew k b) in
-        let told : IsTold m s reports now i (record { cycle = T; number = (at occupants k).stage.number; stage = k; cause = cause }) = record {
+        let recorded : IsRecorded m s reports now i (record { cycle = T; number = (at occupants k).stage.number; stage = k; cause = cause }) = record {
           stages = stages;
           shows = shown;
           below = b;
           there = (λ p. cond (is_full p) (Some (now.count k)) None) ∙ ap (λ (x : ℕ). Some x) (sym number);
           cause = e;
         } in
-        All-cons IsHere _ [] (refl, told) (All-nil IsHere)
+        All-cons IsHere _ [] (refl, recorded) (All-nil IsHere)
 
     lines_here : (k : ℕ) → k ≤ m.stages → All IsHere (lines_down s T occupants k)
     lines_here zero b = All-nil IsHere
@@ -112,7 +112,7 @@ module _ (m : Machine) (s : Sited) (same : s.stages ≡ m.stages) (reports : ℕ
     pub within : d < length ins
     pub input : i ≡ get_or ins d i
     pub cycle : l.cycle ≡ T + d
-    pub told : IsTold m s reports (moment_at m now ins d) i l
+    pub recorded : IsRecorded m s reports (moment_at m now ins d) i l
 
   module _ (ext : ℕ → ℕ → Bool) (settled : ℕ → ℕ → ℕ → Bool) where
     pub all_reported : (ins : List Inputs) (now : Moment) (T : ℕ) → All (IsReportedIn T now ins) (lines_from s ext settled reports T now.count (rows_from m now.state ins))
@@ -128,14 +128,14 @@ module _ (m : Machine) (s : Sited) (same : s.stages ≡ m.stages) (reports : ℕ
         (subst (λ (n : ℕ). All (IsReportedIn T now (i ∷ ins)) (lines_from s ext settled reports (suc T) (count_after n (row m now.state i) now.count) rest)) (sym same)
         (λ k d b. later_cycle i ins now T _ (above k d b)))
       where
-        first_cycle : (i : Inputs) (ins : List Inputs) (now : Moment) (T : ℕ) (l : Line) → (l.cycle ≡ T) × IsTold m s reports now i l → IsReportedIn T now (i ∷ ins) l
-        first_cycle i ins now T l (e, told) = record {
+        first_cycle : (i : Inputs) (ins : List Inputs) (now : Moment) (T : ℕ) (l : Line) → (l.cycle ≡ T) × IsRecorded m s reports now i l → IsReportedIn T now (i ∷ ins) l
+        first_cycle i ins now T l (e, recorded) = record {
           d = 0;
           i = i;
           within = omega arith;
           input = refl;
           cycle = omega (arith, e);
-          told = told;
+          recorded = recorded;
         }
 
         later_cycle : (i : Inputs) (ins : List Inputs) (now : Moment) (T : ℕ) (l : Line) → IsReportedIn (suc T) (next_moment m now i) ins l → IsReportedIn T now (i ∷ ins) l
@@ -145,7 +145,7 @@ module _ (m : Machine) (s : Sited) (same : s.stages ≡ m.stages) (reports : ℕ
           within = (let b = p.within in omega (arith, b));
           input = p.input;
           cycle = (let e = p.cycle in omega (arith, e));
-          told = p.told;
+          recorded = p.recorded;
         }
 
 -- THE ROW of a cycle, and the inputs of a job.

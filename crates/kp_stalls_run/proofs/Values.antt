@@ -141,7 +141,7 @@ pub record IsFilled (job : Job) (T k : ℕ) (c : Cause) (g : Guess) : Type 0 whe
   pub is : c ≡ Squashed wrong
   pub names : wrong.guess ≡ Some named
   pub guessed : Word
-  pub told : g.guessed ≡ Some guessed
+  pub recorded : g.guessed ≡ Some guessed
   pub held : guessed_in job T k named.read ≡ Some guessed
   pub read : g.read ≡ named.read
   pub value : g.value ≡ named.value
@@ -164,7 +164,7 @@ module _ (job : Job) (T k : ℕ) (v : Wrong) (g : Guess) where
         is = refl;
         names = names;
         guessed = u;
-        told = ap (λ (x : Guess). x.guessed) (sym same);
+        recorded = ap (λ (x : Guess). x.guessed) (sym same);
         held = held;
         read = ap (λ (x : Guess). x.read) (sym same);
         value = ap (λ (x : Guess). x.value) (sym same);
@@ -199,7 +199,7 @@ unfolding machine_of
 lines_below job n = λ k x b.
     let ins = inputs_from job 0 n in
     let given = given_in n job in
-    (all_reported (machine_of job) (sited job) (same_stages job) (report job given) (stalls_of ins) (settled job given) ins (first_moment (state_of job (start_of job)) (start_hints job)) 0 k x b).told.below
+    (all_reported (machine_of job) (sited job) (same_stages job) (report job given) (stalls_of ins) (settled job given) ins (first_moment (state_of job (start_of job)) (start_hints job)) 0 k x b).recorded.below
 
 -- IN PLACE, one line after another.
 pub same_there : (ls : List Line) (i : ℕ) (d l : Line) → i < length ls → l ≡ get_or ls i l → get_or ls i d ≡ l

@@ -24,7 +24,7 @@ moment_in n job T = run_moment job (start_hints job) (inputs_from job 0 n) T
 -- value. The register has another value in the sequential machine before the instruction, so the guess is wrong.
 pub record IsWrongGuess (job : Job) (n : ℕ) (l : Line) (g : Guess) : Type 0 where
   pub guessed : Word
-  pub told : g.guessed ≡ Some guessed
+  pub recorded : g.guessed ≡ Some guessed
   pub held : guessed_word job (read_site job g.read).target ((moment_in n job l.cycle).state.stage l.stage).pending ≡ Some guessed
   pub value : g.value ≡ value_before job (sequential job (given_in n job) l.number) (read_site job g.read)
   pub wrong : guessed.value ≡ g.value.value → ⊥

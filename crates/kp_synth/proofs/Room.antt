@@ -9,7 +9,7 @@ use Rattle.kp_stage.specs.Stages.{broken_of}
 use Rattle.kp_net.specs.Growth.{Held}
 use Rattle.kp_synth_tables.proofs.Fitting.{fits}
 use Rattle.kp_synth_tables.proofs.Limits.{limits, samples_counted}
-use Rattle.kp_synth_registers.specs.Telling.{CellsFit}
+use Rattle.kp_synth_registers.specs.Meaning.{CellsFit}
 use Rattle.kp_synth_close.specs.Bound.{node_bound}
 use Rattle.kp_synth_close.proofs.Bounding.{closing_few}
 use Rattle.kp_synth_pipeline.proofs.Rooms.{stages_few}

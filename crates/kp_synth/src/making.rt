@@ -5,7 +5,7 @@ ghost use Rattle.kp_stage.specs.Start.{start_of, IsStartOf};
 ghost use Rattle.kp_net.specs.Growth.{Held};
 ghost use Rattle.kp_net.specs.Names.{IsNamed};
 ghost use Rattle.kp_net.specs.Widths.{Distinct};
-ghost use Rattle.kp_synth_registers.specs.Telling.{Added, CellsFit, Ready};
+ghost use Rattle.kp_synth_registers.specs.Meaning.{Added, CellsFit, Ready};
 ghost use Rattle.kp_synth_close.specs.Bound as bounds;
 ghost use Rattle.kp_synth_close.specs.Control.{AllSay};
 ghost use Rattle.kp_synth_close.specs.Shows as place;

@@ -15,7 +15,7 @@ use Rattle.kp_synth_tables.specs.Keys.{set_by, is_kept, is_stored, pipe_at, hint
 use Rattle.kp_synth_registers.specs.declared.outcome.Set.{Set}
 use Rattle.kp_synth_registers.specs.declared.outcome.Outcome.{Outcome}
 use Rattle.kp_synth_registers.specs.Holding.{kept_in, optional}
-use Rattle.kp_synth_registers.specs.Telling.{Tells, Gives, MayGive, Says, set_value, put_value, PutFits}
+use Rattle.kp_synth_registers.specs.Meaning.{IsTest, Gives, MayGive, Says, set_value, put_value, PutFits}
 use Rattle.kp_synth_registers.proofs.Growth.{says_kept}
 
 both_true : {G : Type 0} (a b : Bool) → (a ≡ true → b ≡ true → G) → (a && b) ≡ true → G
@@ -115,10 +115,10 @@ same_cond true v = refl
 same_cond false v = refl
 
 pub hint_some : (job : Job) (p q : Held) (k x : ℕ) (out : Outcome) (n u o r : NodeId) → Says job p k out → x < length (hints_of job.decls) → k ≡ (machine_of job).hint_stage x
-    → get_or out.aims x None ≡ Some n → Tells job p u (λ st i. ue (machine_of job) st i k) → ((c : Cells) → at c p.nodes o.0 ≡ kept_in job c (Hint x))
+    → get_or out.aims x None ≡ Some n → IsTest job p u (λ st i. ue (machine_of job) st i k) → ((c : Cells) → at c p.nodes o.0 ≡ kept_in job c (Hint x))
     → ((c : Cells) → at c q.nodes r.0 ≡ cond (on c p.nodes u.0) (at c p.nodes n.0) (at c p.nodes o.0))
     → Gives job q r (λ st i. (cycle (machine_of job) st i).hints x)
-unfolding Gives Tells next_hints
+unfolding Gives IsTest next_hints
 hint_some job p q k x out n u o r says l z e t v w = λ c st i h.
     let a = t c st i h in
     let b : Some (at c p.nodes n.0) ≡ (outcome (machine_of job) st i k).aims x = ap (put_value c p) (sym e) ∙ says.aims c st i h x l in

@@ -7,7 +7,7 @@ use Rattle.kp_pipeline.specs.Pipeline.{PipelineState, Inputs, ue, stall, back, g
 use Rattle.kp_net.specs.declared.node.NodeId.{NodeId}
 use Rattle.kp_net.specs.Nodes.{Cells, at, on}
 use Rattle.kp_net.specs.Growth.{Held}
-use Rattle.kp_synth_registers.specs.Telling.{node_at}
+use Rattle.kp_synth_registers.specs.Meaning.{node_at}
 
 pub test_kept : (c : Cells) (p : Held) (n : NodeId) (v : ℕ) → at c p.nodes n.0 ≡ v → on c p.nodes n.0 ≡ (v == 1)
 unfolding on

@@ -21,7 +21,7 @@ use Rattle.kp_synth_registers.specs.declared.outcome.Outcome.{Outcome}
 use Rattle.kp_synth_tables.specs.declared.key.GuessSlot.{GuessSlot}
 use Rattle.kp_synth_tables.specs.Keys.{no_guess, with_read, with_guess, guesses_in, guesses_from, guesses_of, is_carried}
 use Rattle.kp_synth_registers.specs.Holding.{some_of, pending_guess}
-use Rattle.kp_synth_registers.specs.Telling.{guesses_at, made_values, guess_value, MadeFit}
+use Rattle.kp_synth_registers.specs.Meaning.{guesses_at, made_values, guess_value, MadeFit}
 use Rattle.kp_synth_close.specs.Nexts.{no_made, outcome_at, made_at}
 
 -- Some guess passes one test or the other.

@@ -13,7 +13,7 @@ use Rattle.kp_net.specs.Widths.{wide}
 use Rattle.kp_net.specs.Growth.{Held, Wire}
 use Rattle.kp_net.proofs.Values.{at_fits, word_wide}
 use Rattle.kp_synth_registers.specs.Holding.{word_bit}
-use Rattle.kp_synth_registers.specs.Telling.{node_at}
+use Rattle.kp_synth_registers.specs.Meaning.{node_at}
 use Rattle.kp_synth_close.proofs.Bits.{get_any}
 
 -- a word with one more bit at its low end
@@ -97,7 +97,7 @@ module _ (p : Held) where
       joined_bit (map (λ (a : NodeId). word_at c p.nodes a.0) parts) k j (are_bits c parts h) (e ∙ sym (length-map parts (λ (a : NodeId). word_at c p.nodes a.0)))
       ∙ ap (λ (w : bits.Word). w.value == 1) (get_or-map (λ (a : NodeId). word_at c p.nodes a.0) parts j (record { 0 = 0 }) no_word (omega arith))
 
-pub joined_tells : (p q : Held) (parts : List NodeId) (n : NodeId) (c : Cells) (k j : ℕ) → ((i : ℕ) → i < length parts → Wire p (node_at parts i) 1) → k + (j + 1) ≡ length parts
+pub joined_is_test : (p q : Held) (parts : List NodeId) (n : NodeId) (c : Cells) (k j : ℕ) → ((i : ℕ) → i < length parts → Wire p (node_at parts i) 1) → k + (j + 1) ≡ length parts
     → ((d : Cells) → word_at d q.nodes n.0 ≡ joined_of (map (λ (a : NodeId). word_at d p.nodes a.0) parts)) → word_bit (at c q.nodes n.0) k ≡ on c p.nodes (node_at parts j).0
 unfolding at
-joined_tells p q parts n c k j h e w = ap (λ (x : bits.Word). word_bit x.value k) (w c) ∙ joined_on p c parts k j h e
+joined_is_test p q parts n c k j h e w = ap (λ (x : bits.Word). word_bit x.value k) (w c) ∙ joined_on p c parts k j h e

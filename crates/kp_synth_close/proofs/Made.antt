@@ -9,7 +9,7 @@ use Rattle.kp_synth_tables.specs.declared.key.GuessSlot.{GuessSlot}
 use Rattle.kp_synth_registers.specs.declared.outcome.Made.{Made}
 use Rattle.kp_synth_registers.specs.declared.outcome.Outcome.{Outcome}
 use Rattle.kp_synth_tables.specs.Keys.{no_guess, guesses_in, guesses_from, guesses_of, guess_at}
-use Rattle.kp_synth_registers.specs.Telling.{guesses_at, MadeFit, Says}
+use Rattle.kp_synth_registers.specs.Meaning.{guesses_at, MadeFit, Says}
 use Rattle.kp_synth_close.specs.Nexts.{no_made, outcome_at, made_at}
 use Rattle.kp_synth_close.proofs.Guesses.{Numbered, numbered}
 

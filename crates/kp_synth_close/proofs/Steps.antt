@@ -20,7 +20,7 @@ use Rattle.kp_synth_registers.specs.declared.outcome.Outcome.{Outcome}
 use Rattle.kp_synth_tables.specs.declared.key.GuessSlot.{GuessSlot}
 use Rattle.kp_synth_tables.specs.Keys.{no_guess, with_read, with_guess, guesses_in, guesses_from, guesses_of, guess_at, is_carried}
 use Rattle.kp_synth_registers.specs.Holding.{Holds, kept_in, some_of, some_guess, guess_passes, pending_guess}
-use Rattle.kp_synth_registers.specs.Telling.{Says}
+use Rattle.kp_synth_registers.specs.Meaning.{Says}
 use Rattle.kp_synth_close.specs.Nexts.{outcome_at, made_at, leaves_pending, leaves_with, GuessesFit}
 use Rattle.kp_synth_close.proofs.Guesses.{some_same, some_or, some_none, any_filter, made_passes, made_among, IsGuess, moves, moving, not_lt}
 

@@ -5,7 +5,7 @@ use Rattle.std.proofs.lemmas.Bool.{cases_Bool, cases_lt}
 use Rattle.std.proofs.Math.ListN.{get_or-append}
 use Rattle.std.proofs.Math.Seq.{get_or-append_seam}
 use Rattle.kp_net.proofs.Growing.{wire_kept}
-use Rattle.kp_synth_registers.proofs.Growth.{tells_kept, gives_kept}
+use Rattle.kp_synth_registers.proofs.Growth.{test_kept, gives_kept}
 use Rattle.kp_synth_tables.proofs.Places.{carried, key_had}
 use Rattle.kp_synth_close.specs.declared.control.Control.{Control}
 use Rattle.kp_ast.specs.declared.tree.Job.{Job}
@@ -21,7 +21,7 @@ use Rattle.kp_synth_tables.specs.declared.key.Key.TheVariants.{Visible, Full, Pi
 use Rattle.kp_synth_registers.specs.declared.outcome.Outcome.{Outcome}
 use Rattle.kp_synth_tables.specs.Keys.{guesses_of, guess_at, HasKey, keys_of, key_at, key_width, target_at}
 use Rattle.kp_synth_registers.specs.Holding.{Holds, kept_in, optional}
-use Rattle.kp_synth_registers.specs.Telling.{Says, Tells, Gives, MayGive, node_at}
+use Rattle.kp_synth_registers.specs.Meaning.{Says, IsTest, Gives, MayGive, node_at}
 use Rattle.kp_synth_close.specs.Control.{AllSay, Updating, Controls, NextsFrom, PortsFrom}
 use Rattle.kp_synth_close.specs.Nexts.{outcome_at, made_at, leaves_pending, leaves_with, NextIs, PortFits, port_word, Closes}
 use Rattle.kp_synth_close.proofs.Made.{made_wires}
@@ -59,7 +59,7 @@ next_kept job p q j w outs n c st i (Guess g k) a h has says e = λ d z.
     a.same c n.0 h.inside ∙ e d z ∙ ap (λ b. cond (ue (machine_of job) st i d) b (kept_in job c (Guess g k))) (sym s)
 next_kept job p q j w outs n c st i (Hint x) a h has says e = a.same c n.0 h.inside ∙ e
 
--- what a bit and a value tell apart
+-- what a bit and a value distinguish
 is_some_of : (b : Bool) (v : ℕ) → is_some (optional b v) ≡ b
 is_some_of true v = refl
 is_some_of false v = refl
@@ -78,9 +78,9 @@ pub value_next : (job : Job) (p : Held) (b v : NodeId) (f : PipelineState → In
 unfolding MayGive
 value_next job p b v f h c st i m y e = value_of (on c p.nodes b.0) (at c p.nodes v.0) y (h c st i m ∙ e)
 
-pub tells_out : (job : Job) (p : Held) (n : NodeId) (f : PipelineState → Inputs → Bool) → Tells job p n f → (c : Cells) (st : PipelineState) (i : Inputs) → Holds job c st i → on c p.nodes n.0 ≡ f st i
-unfolding Tells
-tells_out job p n f h = h
+pub test_out : (job : Job) (p : Held) (n : NodeId) (f : PipelineState → Inputs → Bool) → IsTest job p n f → (c : Cells) (st : PipelineState) (i : Inputs) → Holds job c st i → on c p.nodes n.0 ≡ f st i
+unfolding IsTest
+test_out job p n f h = h
 
 pub gives_out : (job : Job) (p : Held) (n : NodeId) (f : PipelineState → Inputs → ℕ) → Gives job p n f → (c : Cells) (st : PipelineState) (i : Inputs) → Holds job c st i → at c p.nodes n.0 ≡ f st i
 unfolding Gives
@@ -98,7 +98,7 @@ pub updating_kept : (job : Job) (p q : Held) (j : ℕ) (updates : List NodeId) �
 updating_kept job p q j updates a h = record {
   few = h.few;
   wires = λ k l. wire_kept p q j (node_at updates k) 1 a (h.wires k l);
-  tells = λ k l. tells_kept job p q j 1 (node_at updates k) _ a (h.wires k l) (h.tells k l);
+  is_test = λ k l. test_kept job p q j 1 (node_at updates k) _ a (h.wires k l) (h.is_test k l);
 }
 
 pub controls_kept : (job : Job) (p q : Held) (j : ℕ) (d : Control) → Kept p q j → Controls job p d → Controls job q d
@@ -106,7 +106,7 @@ controls_kept job p q j d a h = record {
   back_wire = wire_kept p q j d.back 4 a h.back_wire;
   back_gives = gives_kept job p q j 4 d.back _ a h.back_wire h.back_gives;
   swept_wires = λ k l. wire_kept p q j (node_at d.swept k) 1 a (h.swept_wires k l);
-  swept_tell = λ k l. tells_kept job p q j 1 (node_at d.swept k) _ a (h.swept_wires k l) (h.swept_tell k l);
+  swept_test = λ k l. test_kept job p q j 1 (node_at d.swept k) _ a (h.swept_wires k l) (h.swept_test k l);
   updating = updating_kept job p q j d.updates a h.updating;
 }
 

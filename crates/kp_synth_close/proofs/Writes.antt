@@ -17,7 +17,7 @@ use Rattle.kp_synth_tables.specs.declared.key.Key.TheVariants.{Visible}
 use Rattle.kp_synth_tables.specs.Keys.{is_kept, target_at}
 use Rattle.kp_synth_registers.specs.Holding.{Holds, optional, kept_in, own_word}
 use Rattle.kp_synth_tables.specs.Fits.{pipe_number, port_for, port_at, ResultFits, AddressFits}
-use Rattle.kp_synth_registers.specs.Telling.{Tells, Gives, MayGive}
+use Rattle.kp_synth_registers.specs.Meaning.{IsTest, Gives, MayGive}
 use Rattle.kp_synth_close.specs.Nexts.{port_word}
 use Rattle.kp_synth_close.specs.inner.Written.{writes, written_value, enabled_pipe, address_pipe}
 use Rattle.kp_synth_close.proofs.Bits.{test_kept}
@@ -94,8 +94,8 @@ visible_stays job st i t a e =
 
 -- the nodes
 pub writes_none : (job : Job) (p : Held) (t : ℕ) (port : Port) (u : NodeId) → port_at job t ≡ Some port → port.enable ≡ None
-    → Tells job p u (λ st i. ue (machine_of job) st i port.write) → Tells job p u (writes job t port.write)
-unfolding Tells machine_of
+    → IsTest job p u (λ st i. ue (machine_of job) st i port.write) → IsTest job p u (writes job t port.write)
+unfolding IsTest machine_of
 writes_none job p t port u e f h = λ c st i m.
     let d = (has_port job t port e).enabled (st.stage port.write).instruction.pipes ∙ ap (λ o. enabled_pipe o (st.stage port.write).instruction.pipes) f in
     h c st i m ∙ rw d (and_true (ue (machine_of job) st i port.write))
@@ -105,9 +105,9 @@ writes_none job p t port u e f h = λ c st i m.
     and_true false = refl
 
 pub writes_some : (job : Job) (p q r : Held) (j t x w : ℕ) (port : Port) (u n b : NodeId) → port_at job t ≡ Some port → port.enable ≡ Some x → Kept p q j → Wire p u w
-    → Tells job p u (λ st i. ue (machine_of job) st i port.write) → Gives job q n (λ st i. (st.stage port.write).instruction.pipes x)
-    → ((c : Cells) → on c r.nodes b.0 ≡ (on c q.nodes u.0 && on c q.nodes n.0)) → Tells job r b (writes job t port.write)
-unfolding Tells Gives machine_of
+    → IsTest job p u (λ st i. ue (machine_of job) st i port.write) → Gives job q n (λ st i. (st.stage port.write).instruction.pipes x)
+    → ((c : Cells) → on c r.nodes b.0 ≡ (on c q.nodes u.0 && on c q.nodes n.0)) → IsTest job r b (writes job t port.write)
+unfolding IsTest Gives machine_of
 writes_some job p q r j t x w port u n b e f k l h g v = λ c st i m.
     let d = (has_port job t port e).enabled (st.stage port.write).instruction.pipes ∙ ap (λ o. enabled_pipe o (st.stage port.write).instruction.pipes) f in
     let a = k.tests c u.0 l.inside ∙ h c st i m in
@@ -154,10 +154,10 @@ and_true false = refl
 
 pub register_some : (job : Job) (p q r : Held) (j t w : ℕ) (port : Port) (b v o n : NodeId) → t < length (targets_of job.decls) → is_register (target_at job t) ≡ true
     → port_at job t ≡ Some port → ResultFits job t (Some port) → Kept p q j → Wire p o w → ((c : Cells) → at c p.nodes o.0 ≡ kept_in job c (Visible t))
-    → Tells job q b (writes job t port.write) → Gives job q v (written_value job t port.write)
+    → IsTest job q b (writes job t port.write) → Gives job q v (written_value job t port.write)
     → ((c : Cells) → at c r.nodes n.0 ≡ cond (on c q.nodes b.0) (at c q.nodes v.0) (at c q.nodes o.0))
     → Gives job r n (λ st i. next_visible (machine_of job) st i t 0)
-unfolding Gives Tells
+unfolding Gives IsTest
 register_some job p q r j t w port b v o n l e f fits a g m x y z = λ c st i h.
     let own : at c q.nodes o.0 ≡ st.visible t 0 = a.same c o.0 g.inside ∙ m c ∙ own_value job c st i t l e h in
     let no = address_none job t port fits e in
@@ -172,11 +172,11 @@ pub port_none : (job : Job) (p : Held) (t : ℕ) → port_at job t ≡ None → 
 port_none job p t e c st i h a = visible_stays job st i t a e
 
 pub port_some : (job : Job) (q r : Held) (j t w : ℕ) (port : Port) (b v d : NodeId) → port_at job t ≡ Some port → Kept q r j → Wire q b 1 → Wire q v w
-    → Tells job q b (writes job t port.write) → Gives job q v (written_value job t port.write)
+    → IsTest job q b (writes job t port.write) → Gives job q v (written_value job t port.write)
     → Gives job r d (λ st i. address_pipe port.address (st.stage port.write).instruction.pipes)
     → (c : Cells) (st : PipelineState) (i : Inputs) → Holds job c st i
     → (a : ℕ) → next_visible (machine_of job) st i t a ≡ port_word c r (Some (record { enable = b; address = d; value = v })) a (st.visible t a)
-unfolding Gives Tells
+unfolding Gives IsTest
 port_some job q r j t w port b v d e k f g x y z c st i h a =
     let xx : on c r.nodes b.0 ≡ writes job t port.write st i = k.tests c b.0 f.inside ∙ x c st i h in
     let yy : at c r.nodes v.0 ≡ written_value job t port.write st i = k.same c v.0 g.inside ∙ y c st i h in

@@ -10,7 +10,7 @@ use Rattle.kp_net.specs.Growth.{Held, Wire}
 use Rattle.kp_synth_registers.specs.declared.outcome.Outcome.{Outcome}
 use Rattle.kp_synth_tables.specs.Keys.{keys_of, key_at, key_width, target_at}
 use Rattle.kp_synth_registers.specs.Holding.{Holds, word_bit}
-use Rattle.kp_synth_registers.specs.Telling.{Tells, Gives, Says, node_at}
+use Rattle.kp_synth_registers.specs.Meaning.{IsTest, Gives, Says, node_at}
 use Rattle.kp_synth_close.specs.declared.control.Control.{Control}
 use Rattle.kp_synth_close.specs.declared.control.RowNodes.{RowNodes}
 use Rattle.kp_net.specs.Nodes.{Cells, at}
@@ -25,14 +25,14 @@ pub record AllSay (job : Job) (p : Held) (outs : List Outcome) : Type 0 where
 pub record Updating (job : Job) (p : Held) (updates : List NodeId) : Type 0 where
   pub few : job.stages.value ≤ 12
   pub wires : (k : ℕ) → k < job.stages.value → Wire p (node_at updates k) 1
-  pub tells : (k : ℕ) → k < job.stages.value → Tells job p (node_at updates k) (λ st i. ue (machine_of job) st i k)
+  pub is_test : (k : ℕ) → k < job.stages.value → IsTest job p (node_at updates k) (λ st i. ue (machine_of job) st i k)
 
 -- Where rollback goes, which stages it squashes, and which stages update.
 pub record Controls (job : Job) (p : Held) (d : Control) : Type 0 where
   pub back_wire : Wire p d.back 4
   pub back_gives : Gives job p d.back (λ st i. back (machine_of job) st i)
   pub swept_wires : (k : ℕ) → k < job.stages.value → Wire p (node_at d.swept k) 1
-  pub swept_tell : (k : ℕ) → k < job.stages.value → Tells job p (node_at d.swept k) (λ st i. not (leb (back (machine_of job) st i) k))
+  pub swept_test : (k : ℕ) → k < job.stages.value → IsTest job p (node_at d.swept k) (λ st i. not (leb (back (machine_of job) st i) k))
   pub updating : Updating job p d.updates
 
 -- The first next nodes, one for each register in the order of the keys.

@@ -15,7 +15,7 @@ use Rattle.kp_synth_registers.specs.declared.outcome.Outcome.{Outcome}
 use Rattle.kp_synth_tables.specs.declared.key.GuessSlot.{GuessSlot}
 use Rattle.kp_synth_tables.specs.Keys.{target_at, guess_at, guesses_of, key_width, key_at, keys_of}
 use Rattle.kp_synth_registers.specs.Holding.{Holds, kept_in}
-use Rattle.kp_synth_registers.specs.Telling.{Says}
+use Rattle.kp_synth_registers.specs.Meaning.{Says}
 
 abbrev pub no_node_id : NodeId
 no_node_id = record { 0 = 0 }

@@ -3,7 +3,7 @@ ghost use Rattle.std.specs.Prelude.{◌≡◌, ℕ, ◌+◌, ◌*◌, ◌≤◌,
 ghost use Rattle.kp_machine.specs.Slots.{targets_of};
 ghost use Rattle.kp_net.specs.Growth.{Held, Grown};
 ghost use Rattle.kp_synth_tables.specs.Keys.{keys_of};
-ghost use Rattle.kp_synth_registers.specs.Telling.{Ready, node_at};
+ghost use Rattle.kp_synth_registers.specs.Meaning.{Ready, node_at};
 ghost use Rattle.kp_synth_close.specs.Control.{AllSay, ShowRow};
 ghost use Rattle.kp_synth_close.specs.Nexts.{Closes};
 

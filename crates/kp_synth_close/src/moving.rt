@@ -5,7 +5,7 @@ ghost use Rattle.kp_machine.specs.Slots.{pipes_of, hints_of};
 ghost use Rattle.kp_machine.specs.Machine.{machine_of};
 ghost use Rattle.kp_net.specs.Growth.{Held, Wire, Grown};
 ghost use Rattle.kp_synth_tables.specs.Keys.{pipe_at, hint_at};
-ghost use Rattle.kp_synth_registers.specs.Telling.{Ready, Tells, Gives, Says};
+ghost use Rattle.kp_synth_registers.specs.Meaning.{Ready, IsTest, Gives, Says};
 
 use kp_engine::full_next;
 use kp_net::{NodeId, Pool};
@@ -27,11 +27,11 @@ pub(crate) fn next_full(
     requires next { next ≡ suc stage }
     requires says { Says layout.now pool.old next out.now }
     requires update { Wire pool.old update 1 }
-    requires updates { Tells layout.now pool.old update (λ st i. ue (machine_of layout.now) st i stage) }
+    requires updates { IsTest layout.now pool.old update (λ st i. ue (machine_of layout.now) st i stage) }
     requires swept { Wire pool.old swept 1 }
-    requires sweeps { Tells layout.now pool.old swept (λ st i. not (leb (back (machine_of layout.now) st i) next)) }
+    requires sweeps { IsTest layout.now pool.old swept (λ st i. not (leb (back (machine_of layout.now) st i) next)) }
     ensures wire { Wire pool.new result 1 }
-    ensures tells { Tells layout.now pool.new result (λ st i. ((cycle (machine_of layout.now) st i).stage next).full) }
+    ensures is_test { IsTest layout.now pool.new result (λ st i. ((cycle (machine_of layout.now) st i).stage next).full) }
     ensures grown { Grown pool.old pool.new 3 }
 {
     full_next(pool, update, out.stall, swept)
@@ -79,7 +79,7 @@ pub(crate) fn next_pipe(
     requires ready { Ready layout.now pool.old reads.now }
     requires says { Says layout.now pool.old stage out.now }
     requires update { Wire pool.old update 1 }
-    requires updates { Tells layout.now pool.old update (λ st i. ue (machine_of layout.now) st i stage) }
+    requires updates { IsTest layout.now pool.old update (λ st i. ue (machine_of layout.now) st i stage) }
     ensures wire { Wire pool.new result (pipe_at layout.now pipe).width }
     ensures gives { Gives layout.now pool.new result (λ st i. ((cycle (machine_of layout.now) st i).stage next).instruction.pipes pipe) }
     ensures grown { Grown pool.old pool.new 3 }
@@ -105,7 +105,7 @@ pub(crate) fn next_hint(
     requires ready { Ready layout.now pool.old reads.now }
     requires says { Says layout.now pool.old stage out.now }
     requires update { Wire pool.old update 1 }
-    requires updates { Tells layout.now pool.old update (λ st i. ue (machine_of layout.now) st i stage) }
+    requires updates { IsTest layout.now pool.old update (λ st i. ue (machine_of layout.now) st i stage) }
     ensures wire { Wire pool.new result (hint_at layout.now hint).width }
     ensures gives { Gives layout.now pool.new result (λ st i. (cycle (machine_of layout.now) st i).hints hint) }
     ensures grown { Grown pool.old pool.new 1 }

@@ -8,7 +8,7 @@ ghost use Rattle.kp_net.specs.Growth.{Held, Wire, Grown};
 ghost use Rattle.kp_synth_tables.specs.declared.key.Key.TheVariants.{Visible, Full, Pipe, Valid, Value, Pending, Guess, Hint};
 ghost use Rattle.kp_synth_tables.specs.Keys.{HasKey, key_width, keys_of};
 ghost use Rattle.kp_synth_registers.specs.Holding.{Holds};
-ghost use Rattle.kp_synth_registers.specs.Telling.{Ready, Says};
+ghost use Rattle.kp_synth_registers.specs.Meaning.{Ready, Says};
 ghost use Rattle.kp_synth_close.specs.Nexts.{NextIs};
 ghost use Rattle.kp_synth_close.specs.Control.{AllSay, Updating, Controls, NextsFrom};
 

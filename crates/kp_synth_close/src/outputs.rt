@@ -4,7 +4,7 @@ ghost use Rattle.kp_net.specs.Nodes.{Cells, at, on};
 ghost use Rattle.kp_net.specs.Growth.{Held, Wire, Grown};
 ghost use Rattle.kp_synth_registers.specs.Holding.{word_bit};
 ghost use Rattle.kp_pipeline.specs.Pipeline.{PipelineState, Inputs};
-ghost use Rattle.kp_synth_registers.specs.Telling.{node_at, Ready, Tells};
+ghost use Rattle.kp_synth_registers.specs.Meaning.{node_at, Ready, IsTest};
 ghost use Rattle.kp_synth_close.specs.Control.{Controls, ShowRow};
 
 use crate::control::{Control, RowNodes};
@@ -60,7 +60,7 @@ fn fulls_of(pool: &mut Pool, layout: &Layout<'_>, reads: &Reads) -> [NodeId; 12]
     requires room { 12 ≤ pool.old.spare }
     requires ready { Ready layout.now pool.old reads.now }
     ensures wires { (k : ℕ) → k < layout.now.stages.value → Wire pool.new (node_at result k) 1 }
-    ensures tells { (k : ℕ) → k < layout.now.stages.value → Tells layout.now pool.new (node_at result k) (λ st i. (st.stage k).full) }
+    ensures is_test { (k : ℕ) → k < layout.now.stages.value → IsTest layout.now pool.new (node_at result k) (λ st i. (st.stage k).full) }
     ensures grown { Grown pool.old pool.new 12 }
 {
     let mut fulls = [NodeId(0); 12];

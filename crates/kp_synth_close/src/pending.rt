@@ -7,7 +7,7 @@ ghost use Rattle.kp_net.specs.Growth.{Held, Wire, Grown};
 ghost use Rattle.kp_synth_tables.specs.declared.key.Key.TheVariants.{Pending, Guess};
 ghost use Rattle.kp_synth_tables.specs.Keys.{guesses_of, guess_at, is_carried};
 ghost use Rattle.kp_synth_registers.specs.Holding.{Holds, kept_in};
-ghost use Rattle.kp_synth_registers.specs.Telling.{Ready, Tells, Says};
+ghost use Rattle.kp_synth_registers.specs.Meaning.{Ready, IsTest, Says};
 ghost use Rattle.kp_synth_close.specs.Nexts.{outcome_at, made_at, leaves_pending, leaves_with};
 
 use kp_net::{NodeId, Pool};
@@ -93,7 +93,7 @@ pub(crate) fn next_guess(
     requires ready { Ready layout.now pool.old reads.now }
     requires says { Says layout.now pool.old stage (outcome_at outs.now stage) }
     requires update { Wire pool.old update 1 }
-    requires updates { Tells layout.now pool.old update (λ st i. ue (machine_of layout.now) st i stage) }
+    requires updates { IsTest layout.now pool.old update (λ st i. ue (machine_of layout.now) st i stage) }
     ensures pending { Wire pool.new result.pending 1 }
     ensures value { Wire pool.new result.value (guess_at layout.now guess).width }
     ensures is_pending { (c : Cells) (st : PipelineState) (i : Inputs) → Holds layout.now c st i

@@ -8,7 +8,7 @@ ghost use Rattle.kp_net.specs.Nodes.{Cells, at, on};
 ghost use Rattle.kp_net.specs.Growth.{Held, Wire, Grown};
 ghost use Rattle.kp_synth_tables.specs.Keys.{target_at, is_kept};
 ghost use Rattle.kp_synth_registers.specs.Holding.{optional};
-ghost use Rattle.kp_synth_registers.specs.Telling.{Ready, Tells, MayGive, Says};
+ghost use Rattle.kp_synth_registers.specs.Meaning.{Ready, IsTest, MayGive, Says};
 
 use kp_net::{NodeId, Pool};
 use kp_net_gates::{choose, either, pick};
@@ -104,7 +104,7 @@ pub(crate) fn next_result(
     requires ready { Ready layout.now pool.old reads.now }
     requires says { Says layout.now pool.old stage out.now }
     requires update { Wire pool.old update 1 }
-    requires updates { Tells layout.now pool.old update (λ st i. ue (machine_of layout.now) st i stage) }
+    requires updates { IsTest layout.now pool.old update (λ st i. ue (machine_of layout.now) st i stage) }
     ensures enabled { Wire pool.new result.enabled 1 }
     ensures value { Wire pool.new result.value (target_at layout.now target).width }
     ensures gives { MayGive layout.now pool.new result.enabled result.value (λ st i. ((cycle (machine_of layout.now) st i).stage next).instruction.results target) }

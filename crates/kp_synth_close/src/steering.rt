@@ -4,7 +4,7 @@ ghost use Rattle.kp_pipeline.specs.Pipeline.{PipelineState, Inputs, ue, back, mi
 ghost use Rattle.kp_machine.specs.Machine.{machine_of};
 ghost use Rattle.kp_net.specs.Growth.{Held, Wire, Grown};
 ghost use Rattle.kp_engine.specs.Misses.{BitsOk};
-ghost use Rattle.kp_synth_registers.specs.Telling.{Ready, Tells, Gives, Says, node_at};
+ghost use Rattle.kp_synth_registers.specs.Meaning.{Ready, IsTest, Gives, Says, node_at};
 ghost use Rattle.kp_synth_close.specs.Nexts.{outcome_at};
 ghost use Rattle.kp_synth_close.specs.Control.{AllSay, Controls};
 
@@ -20,7 +20,7 @@ fn misses_of(pool: &mut Pool, layout: &Layout<'_>, outs: &[Outcome]) -> [NodeId;
     requires room { 1 ≤ pool.old.spare }
     requires says { AllSay layout.now pool.old outs.now }
     ensures wires { BitsOk pool.new result 12 }
-    ensures tells { (k : ℕ) → k < layout.now.stages.value → Tells layout.now pool.new (node_at result k) (λ st i. mismatches (machine_of layout.now) st i k) }
+    ensures is_test { (k : ℕ) → k < layout.now.stages.value → IsTest layout.now pool.new (node_at result k) (λ st i. mismatches (machine_of layout.now) st i k) }
     ensures grown { Grown pool.old pool.new 1 }
 {
     let zero = bit(pool, false);
@@ -45,9 +45,9 @@ fn update_in(
     requires ready { Ready layout.now pool.old reads.now }
     requires says { Says layout.now pool.old stage out.now }
     requires swept { Wire pool.old swept 1 }
-    requires tells { Tells layout.now pool.old swept (λ st i. not (leb (back (machine_of layout.now) st i) stage)) }
+    requires is_test { IsTest layout.now pool.old swept (λ st i. not (leb (back (machine_of layout.now) st i) stage)) }
     ensures wire { Wire pool.new result 1 }
-    ensures tells { Tells layout.now pool.new result (λ st i. ue (machine_of layout.now) st i stage) }
+    ensures is_test { IsTest layout.now pool.new result (λ st i. ue (machine_of layout.now) st i stage) }
     ensures grown { Grown pool.old pool.new 5 }
 {
     let full = full_in(pool, layout, reads, stage);
@@ -66,9 +66,9 @@ fn updates_of(
     requires ready { Ready layout.now pool.old reads.now }
     requires says { AllSay layout.now pool.old outs.now }
     requires swept { (k : ℕ) → k < layout.now.stages.value → Wire pool.old (node_at swept.now k) 1 }
-    requires tells { (k : ℕ) → k < layout.now.stages.value → Tells layout.now pool.old (node_at swept.now k) (λ st i. not (leb (back (machine_of layout.now) st i) k)) }
+    requires is_test { (k : ℕ) → k < layout.now.stages.value → IsTest layout.now pool.old (node_at swept.now k) (λ st i. not (leb (back (machine_of layout.now) st i) k)) }
     ensures wires { (k : ℕ) → k < layout.now.stages.value → Wire pool.new (node_at result k) 1 }
-    ensures tells { (k : ℕ) → k < layout.now.stages.value → Tells layout.now pool.new (node_at result k) (λ st i. ue (machine_of layout.now) st i k) }
+    ensures is_test { (k : ℕ) → k < layout.now.stages.value → IsTest layout.now pool.new (node_at result k) (λ st i. ue (machine_of layout.now) st i k) }
     ensures grown { Grown pool.old pool.new 60 }
 {
     let mut updates = [NodeId(0); 12];

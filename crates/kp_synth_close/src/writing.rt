@@ -8,7 +8,7 @@ ghost use Rattle.kp_net.specs.Growth.{Held, Wire, Grown};
 ghost use Rattle.kp_synth_tables.specs.Keys.{target_at, is_kept};
 ghost use Rattle.kp_synth_registers.specs.Holding.{Holds};
 ghost use Rattle.kp_synth_tables.specs.Fits.{port_at, EnableFits, ResultFits};
-ghost use Rattle.kp_synth_registers.specs.Telling.{Ready, Tells, Gives, Says};
+ghost use Rattle.kp_synth_registers.specs.Meaning.{Ready, IsTest, Gives, Says};
 ghost use Rattle.kp_synth_close.specs.Control.{AllSay, Updating, PortsFrom};
 ghost use Rattle.kp_synth_close.specs.Nexts.{port_word, PortFits};
 ghost use Rattle.kp_synth_close.specs.inner.Written.{writes, written_value, address_pipe};
@@ -38,9 +38,9 @@ fn enable_of(
     requires stage { port.write < layout.now.stages.value }
     requires ready { Ready layout.now pool.old reads.now }
     requires update { Wire pool.old update 1 }
-    requires updates { Tells layout.now pool.old update (λ st i. ue (machine_of layout.now) st i port.write) }
+    requires updates { IsTest layout.now pool.old update (λ st i. ue (machine_of layout.now) st i port.write) }
     ensures wire { Wire pool.new result 1 }
-    ensures tells { Tells layout.now pool.new result (writes layout.now target port.write) }
+    ensures is_test { IsTest layout.now pool.new result (writes layout.now target port.write) }
     ensures grown { Grown pool.old pool.new 2 }
 {
     match port.enable {
@@ -95,9 +95,9 @@ fn write_of(
     requires ready { Ready layout.now pool.old reads.now }
     requires says { Says layout.now pool.old port.write out.now }
     requires update { Wire pool.old update 1 }
-    requires updates { Tells layout.now pool.old update (λ st i. ue (machine_of layout.now) st i port.write) }
+    requires updates { IsTest layout.now pool.old update (λ st i. ue (machine_of layout.now) st i port.write) }
     ensures enabled { Wire pool.new result.enabled 1 }
-    ensures tells { Tells layout.now pool.new result.enabled (writes layout.now target port.write) }
+    ensures is_test { IsTest layout.now pool.new result.enabled (writes layout.now target port.write) }
     ensures value { Wire pool.new result.value (target_at layout.now target).width }
     ensures gives { Gives layout.now pool.new result.value (written_value layout.now target port.write) }
     ensures grown { Grown pool.old pool.new 8 }

@@ -36,7 +36,7 @@ use Rattle.kp_synth_tables.proofs.Fitting.{fits}
 use Rattle.kp_synth_tables.proofs.Limits.{few, limits, keys_few}
 use Rattle.kp_synth_tables.proofs.Places.{key_had}
 use Rattle.kp_synth_registers.specs.declared.outcome.Outcome.{Outcome}
-use Rattle.kp_synth_registers.specs.Telling.{CellsFit, node_at}
+use Rattle.kp_synth_registers.specs.Meaning.{CellsFit, node_at}
 use Rattle.kp_synth_registers.proofs.Growth.{grown_added}
 use Rattle.kp_synth_close.specs.declared.control.RowNodes.{RowNodes}
 use Rattle.kp_synth_close.specs.Nexts.{Closes, PortFits, no_node_id}

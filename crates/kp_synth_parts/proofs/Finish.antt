@@ -15,7 +15,7 @@ use Rattle.kp_net.specs.Netlist.{Net}
 use Rattle.kp_synth_registers.specs.declared.outcome.Outcome.{Outcome}
 use Rattle.kp_synth_tables.specs.Keys.{key_at, key_width}
 use Rattle.kp_synth_registers.specs.Holding.{word_bit}
-use Rattle.kp_synth_registers.specs.Telling.{CellFits, CellsFit}
+use Rattle.kp_synth_registers.specs.Meaning.{CellFits, CellsFit}
 use Rattle.kp_synth_close.specs.declared.control.RowNodes.{RowNodes}
 use Rattle.kp_synth_close.specs.Nexts.{Closes, NextIs, PortFits, port_word}
 use Rattle.kp_synth_close.specs.Control.{ShowRow}

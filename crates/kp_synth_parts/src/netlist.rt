@@ -9,7 +9,7 @@ ghost use Rattle.kp_net.specs.Growth.{Wire};
 ghost use Rattle.kp_net.specs.Names.{IsNamed};
 ghost use Rattle.kp_net.specs.Widths.{Distinct};
 ghost use Rattle.kp_synth_tables.specs.Keys.{key_at, key_width, keys_of};
-ghost use Rattle.kp_synth_registers.specs.Telling.{CellsFit, Ready, node_at};
+ghost use Rattle.kp_synth_registers.specs.Meaning.{CellsFit, Ready, node_at};
 ghost use Rattle.kp_synth_close.specs.Control.{AllSay};
 ghost use Rattle.kp_synth_close.specs.Shows.{Shows};
 ghost use Rattle.kp_synth_parts.specs.inner.Built.{net_parts, Spelled};

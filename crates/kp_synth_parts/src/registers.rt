@@ -4,7 +4,7 @@ ghost use Rattle.kp_bits.specs.Word.{word, IsWord};
 ghost use Rattle.kp_machine.specs.Machine.{hint_starts};
 ghost use Rattle.kp_net.specs.Growth.{Wire};
 ghost use Rattle.kp_synth_tables.specs.Keys.{HasKey, key_at, key_width, keys_of};
-ghost use Rattle.kp_synth_registers.specs.Telling.{node_at};
+ghost use Rattle.kp_synth_registers.specs.Meaning.{node_at};
 ghost use Rattle.kp_synth_parts.specs.inner.Built.{reg_count, visible_regs, first_start, other_reg, other_regs, net_regs, FirstsFit, SpelledReg, RegsSpelled};
 
 use crate::labels::{label, numbered};

@@ -6,7 +6,7 @@ use Rattle.kp_pipeline.specs.Pipeline.{PipelineState, Inputs, above, hits, is_ca
 use Rattle.kp_pipeline.specs.Sequential.{intends}
 use Rattle.kp_fwd.specs.Forward.{enable_on, set_on, set_value as number_of_set}
 use Rattle.kp_synth_registers.specs.declared.outcome.Set.{Set}
-use Rattle.kp_synth_registers.specs.Telling.{Tells, set_value}
+use Rattle.kp_synth_registers.specs.Meaning.{IsTest, set_value}
 use Rattle.kp_pipeline.proofs.Cycle.{truth-in}
 use Rattle.kp_machine.specs.Machine.{machine_of}
 use Rattle.kp_machine.specs.Slots.{targets_of}
@@ -101,12 +101,12 @@ pair_value c p (Some s) r e = ap (λ (x : Option (NodeId × NodeId)). optional (
 
 -- a row from its parts
 pub row_means : (job : Job) (k t : ℕ) (q : Held) (r : Row) → r.known ≡ intent_known (machine_of job) k t
-    → Tells job q r.full (λ st i. (st.stage k).full)
+    → IsTest job q r.full (λ st i. (st.stage k).full)
     → ((c : Cells) (st : PipelineState) (i : Inputs) → Holds job c st i → intent_known (machine_of job) k t ≡ true → (a : ℕ) → a < 2 ^ (target_at job t).address
     → (enable_on c q r.enable && address_is c q r.address a) ≡ intends (machine_of job) (st.stage k).instruction t a)
     → ((c : Cells) (st : PipelineState) (i : Inputs) → Holds job c st i → optional (on c q.nodes r.ok.0) (at c q.nodes r.value.0) ≡ forwarded (machine_of job) st i k t)
     → RowMeans job q r k t
-unfolding RowMeans Tells
+unfolding RowMeans IsTest
 row_means job k t q r known full intent value = λ c st i h. (
   (λ a l.
       let f : on c q.nodes r.full.0 ≡ (st.stage k).full = full c st i h in

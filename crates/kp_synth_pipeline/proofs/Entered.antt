@@ -19,7 +19,7 @@ use Rattle.kp_synth_tables.specs.declared.key.Key.TheVariants.{Visible, Hint}
 use Rattle.kp_synth_tables.specs.Keys.{no_slot, target_at}
 use Rattle.kp_synth_registers.specs.declared.registers.Reads.{Reads}
 use Rattle.kp_synth_registers.specs.Holding.{Holds, kept_in, own_word}
-use Rattle.kp_synth_registers.specs.Telling.{Tells, Gives, Ready, node_at}
+use Rattle.kp_synth_registers.specs.Meaning.{IsTest, Gives, Ready, node_at}
 use Rattle.kp_synth_tables.specs.Fits.{IsWidth, Fits}
 use Rattle.kp_synth_registers.proofs.Growth.{gives_kept}
 use Rattle.kp_synth_stage.specs.declared.row.Own.TheVariants.{Register, File}
@@ -61,8 +61,8 @@ hint_gives job p n h l e = λ c st i y. e c ∙ y.hints h l
 
 -- the stall word
 pub ext_bit : (job : Job) (p q : Held) (reads : Reads) (n : NodeId) (k : ℕ) → k < job.stages.value → Ready job p reads → ((c : Cells) → word_at c q.nodes n.0 ≡ bits.slice_of (word_at c p.nodes reads.ext.0) k k)
-    → Tells job q n (λ st i. i.ext k)
-unfolding Tells at
+    → IsTest job q n (λ st i. i.ext k)
+unfolding IsTest at
 ext_bit job p q reads n k l ready e = λ c st i h.
     let z : k + 1 - k ≡ 1 = omega arith in
     let a : (word_at c q.nodes n.0).value ≡ (c.ext % 2 ^ job.stages.value) / 2 ^ k % 2 =

@@ -9,7 +9,7 @@ use Rattle.kp_machine.specs.Slots.{targets_of}
 use Rattle.kp_net.specs.declared.node.NodeId.{NodeId}
 use Rattle.kp_net.specs.Nodes.{Cells, on}
 use Rattle.kp_net.specs.Growth.{Held, Wire}
-use Rattle.kp_synth_registers.specs.Telling.{Tells, Says, Added}
+use Rattle.kp_synth_registers.specs.Meaning.{IsTest, Says, Added}
 use Rattle.kp_synth_registers.specs.declared.outcome.Outcome.{Outcome}
 use Rattle.kp_synth_registers.proofs.Growth.{added_then, added_more}
 use Rattle.kp_synth_stage.specs.declared.row.Source.{Source}
@@ -27,9 +27,9 @@ get_small (x ∷ ss) zero s e = omega arith
 get_small (x ∷ ss) (suc t) s e = let l = get_small ss t s e in omega (arith, l)
 
 pub faces_below : (job : Job) (k j : ℕ) (p q : Held) (ss ss' : List Source) (higher halt : NodeId) → k ≡ suc j → k < job.stages.value → Faces job p ss higher k
-    → SourcesOk job q ss' → Few job j ss' → AllNearer job k (length (targets_of job.decls)) p ss q ss' → Wire q halt 1 → Tells job q halt (λ st i. stall (machine_of job) st i k) → Faces job q ss' halt j
+    → SourcesOk job q ss' → Few job j ss' → AllNearer job k (length (targets_of job.decls)) p ss q ss' → Wire q halt 1 → IsTest job q halt (λ st i. stall (machine_of job) st i k) → Faces job q ss' halt j
 unfolding AllNearer
-faces_below job k j p q ss ss' higher halt e l h ok few near wire tells =
+faces_below job k j p q ss ss' higher halt e l h ok few near wire is_test =
     let m : suc j < job.stages.value = omega (arith, e, l) in
     record {
       sources = ok;
@@ -37,7 +37,7 @@ faces_below job k j p q ss ss' higher halt e l h ok few near wire tells =
       sees = sees_down job j p q ss ss' m h.sources.count ok.count (subst (λ n. SeesAbove job p ss n) e h.sees)
           (λ t s s' f g. subst (λ n. Nearer job n t p s q s') e (near t s s' (let b = get_small ss t s f in let n = h.sources.count in omega (arith, b, n)) f g));
       wire = wire;
-      tells = stall_higher job q j halt m (subst (λ n. Tells job q halt (λ st i. stall (machine_of job) st i n)) e tells);
+      is_test = stall_higher job q j halt m (subst (λ n. IsTest job q halt (λ st i. stall (machine_of job) st i n)) e is_test);
     }
 
 -- bounds
@@ -79,13 +79,13 @@ first_room job n d s t e room kept = let z : n ≡ 0 + suc d = omega (arith, e) 
 -- what the last stage sees
 pub faces_top : (job : Job) (p : Held) (ss : List Source) (n : NodeId) (k : ℕ) → job.stages.value ≡ k + 1 → SourcesOk job p ss → ((j : ℕ) → j + 1 ≤ job.stages.value → Few job j ss)
     → ((j : ℕ) → job.stages.value ≡ j + 1 → SeesAbove job p ss j) → Wire p n 1 → ((c : Cells) → on c p.nodes n.0 ≡ false) → Faces job p ss n k
-unfolding Tells
+unfolding IsTest
 faces_top job p ss n k e ok few sees wire off = record {
   sources = ok;
   few = few k (omega (arith, e));
   sees = sees k e;
   wire = wire;
-  tells = stall_none job p k n e (λ c st i h. off c);
+  is_test = stall_none job p k n e (λ c st i h. off c);
 }
 
 pub none_said : (job : Job) (p : Held) (k : ℕ) (os : List Outcome) → os ≡ [] → SayFrom job p k os

@@ -19,8 +19,8 @@ use Rattle.kp_synth_tables.specs.Keys.{target_at}
 use Rattle.kp_synth_registers.specs.Holding.{Holds, optional}
 use Rattle.kp_synth_tables.specs.Spans.{set_after}
 use Rattle.kp_synth_tables.specs.Fits.{pipe_number, port_for, port_at, AddressFits}
-use Rattle.kp_synth_registers.specs.Telling.{Tells, MayGive, SetFits, set_value}
-use Rattle.kp_synth_registers.proofs.Growth.{tells_kept, may_give_kept, set_kept}
+use Rattle.kp_synth_registers.specs.Meaning.{IsTest, MayGive, SetFits, set_value}
+use Rattle.kp_synth_registers.proofs.Growth.{test_kept, may_give_kept, set_kept}
 use Rattle.kp_synth_stage.specs.declared.row.Row.{Row}
 use Rattle.kp_synth_stage.specs.declared.row.Source.{Source}
 use Rattle.kp_synth_stage.specs.declared.row.Own.{Own}
@@ -120,7 +120,7 @@ module _ (job : Job) (k t : ℕ) (port : Port) (is : port_at job t ≡ Some port
     (wide : AddressOk p3 (target_at job t).address address)
     (addresses : (c : Cells) (st : PipelineState) (i : Inputs) → Holds job c st i → (a : ℕ) → address_is c p3 address a ≡ addressed_by (st.stage k).instruction.pipes port.address a)
     (set_wires : SetFits p w set) (sets : SetMeans job p k t set)
-    (full_wire : Wire p full 1) (fulls : Tells job p full (λ st i. (st.stage k).full)) (halt_wire : Wire p halt 1) (halts : Tells job p halt (λ st i. stall (machine_of job) st i k))
+    (full_wire : Wire p full 1) (fulls : IsTest job p full (λ st i. (st.stage k).full)) (halt_wire : Wire p halt 1) (halts : IsTest job p halt (λ st i. stall (machine_of job) st i k))
     (knows : known ≡ leb port.known k) (ends : last ≡ eqb k port.write)
     (hits : (r.full ≡ full) × (r.known ≡ known) × (r.enable ≡ enable) × (r.address ≡ address))
     (value : (c : Cells) → optional (on c q.nodes r.ok.0) (at c q.nodes r.value.0)
@@ -145,16 +145,16 @@ module _ (job : Job) (k t : ℕ) (port : Port) (is : port_at job t ≡ Some port
       ap (λ (o : Option NodeId). address_is c q o a) hits.3 ∙ address_kept c p3 q 12 (target_at job t).address a address g4 wide ∙ addresses c st i h a in
       (λ j. e j && d j) ∙ intent_by job t port is fits (st.stage k).instruction a l
 
-  full_here : Tells job q r.full (λ st i. (st.stage k).full)
-  full_here = subst (λ (n : NodeId). Tells job q n (λ st i. (st.stage k).full)) (sym hits.0) (tells_kept job p q 16 1 full _ g04 full_wire fulls)
+  full_here : IsTest job q r.full (λ st i. (st.stage k).full)
+  full_here = subst (λ (n : NodeId). IsTest job q n (λ st i. (st.stage k).full)) (sym hits.0) (test_kept job p q 16 1 full _ g04 full_wire fulls)
 
   value_here : (c : Cells) (st : PipelineState) (i : Inputs) → Holds job c st i → optional (on c q.nodes r.ok.0) (at c q.nodes r.value.0)
       ≡ ok_value (intent_known (machine_of job) k t) ((st.stage k).instruction.results t) (stall (machine_of job) st i k) ((outcome (machine_of job) st i k).sets t) (eqb k ((machine_of job).write_stage t))
-  unfolding MayGive Tells SetMeans
+  unfolding MayGive IsTest SetMeans
   value_here c st i h =
       let a = knows ∙ sym (known_by job k t port is) in
       let b = may_give_kept job p1 p3 2 w stored.enabled stored.value (λ st i. (st.stage k).instruction.results t) g13 valid_wire value_wire gives c st i h in
-      let d = tells_kept job p p3 4 1 halt (λ st i. stall (machine_of job) st i k) g03 halt_wire halts c st i h in
+      let d = test_kept job p p3 4 1 halt (λ st i. stall (machine_of job) st i k) g03 halt_wire halts c st i h in
       let e = set_kept c p p3 4 w set g03 set_wires ∙ sets c st i h in
       let f = ends ∙ sym (last_by job k t port is) in
       value c ∙ (λ j. ok_value (a j) (b j) (d j) (e j) (f j))

@@ -9,9 +9,9 @@ use Rattle.kp_net.specs.declared.node.NodeId.{NodeId}
 use Rattle.kp_net.specs.Growth.{Held, Wire, Kept}
 use Rattle.kp_net.proofs.Growing.{wire_kept}
 use Rattle.kp_synth_registers.specs.declared.outcome.Outcome.{Outcome}
-use Rattle.kp_synth_registers.specs.Telling.{Ready, Tells, Says, guesses_at, node_at}
+use Rattle.kp_synth_registers.specs.Meaning.{Ready, IsTest, Says, guesses_at, node_at}
 use Rattle.kp_synth_registers.specs.declared.registers.Reads.{Reads}
-use Rattle.kp_synth_registers.proofs.Growth.{tells_kept, gives_kept, says_kept}
+use Rattle.kp_synth_registers.proofs.Growth.{test_kept, gives_kept, says_kept}
 use Rattle.kp_synth_stage.specs.declared.row.Source.{Source}
 use Rattle.kp_synth_stage.specs.declared.work.Work.{Work}
 use Rattle.kp_synth_stage.specs.Work.{Fits, SlotsHave}
@@ -24,7 +24,7 @@ use Rattle.kp_synth_pipeline.proofs.Stalling.{sees_above_kept}
 
 -- an outcome of these nodes
 pub says_by : (job : Job) (p : Held) (k : ℕ) (w : Work) (halt miss : NodeId) → Fits job p (guesses_at job k) w → Computes job p w k
-    → Wire p halt 1 → Tells job p halt (λ st i. stall (machine_of job) st i k) → Wire p miss 1 → Tells job p miss (λ st i. mismatches (machine_of job) st i k)
+    → Wire p halt 1 → IsTest job p halt (λ st i. stall (machine_of job) st i k) → Wire p miss 1 → IsTest job p miss (λ st i. mismatches (machine_of job) st i k)
     → Says job p k (record { stall = halt; miss = miss; puts = w.puts.items; sets = w.sets.items; made = w.made.items; aims = w.aims.items })
 unfolding Computes
 says_by job p k w halt miss fits computes sw st mw mt = record {
@@ -51,7 +51,7 @@ outcome_is o w halt miss a b d e f g = λ i. record { stall = sym a i; miss = sy
 
 pub says_of : (job : Job) (p : Held) (k : ℕ) (w : Work) (halt miss : NodeId) (o : Outcome) → o.stall ≡ halt → o.miss ≡ miss → o.puts ≡ w.puts.items → o.sets ≡ w.sets.items → o.made ≡ w.made.items → o.aims ≡ w.aims.items
     → Fits job p (guesses_at job k) w → Computes job p w k
-    → Wire p halt 1 → Tells job p halt (λ st i. stall (machine_of job) st i k) → Wire p miss 1 → Tells job p miss (λ st i. mismatches (machine_of job) st i k)
+    → Wire p halt 1 → IsTest job p halt (λ st i. stall (machine_of job) st i k) → Wire p miss 1 → IsTest job p miss (λ st i. mismatches (machine_of job) st i k)
     → Says job p k o
 says_of job p k w halt miss o a b d e f g fits computes sw st mw mt =
     subst (λ (x : Outcome). Says job p k x) (outcome_is o w halt miss a b d e f g) (says_by job p k w halt miss fits computes sw st mw mt)
@@ -88,9 +88,9 @@ entered_kept job p q m k e g h = record {
   hints = slots_kept p q m (hints_of job.decls) e.hints.items g h.hints;
   hint_values = hints_kept job p q m e.hints.items g h.hints h.hint_values;
   full_wire = wire_kept p q m e.full 1 g h.full_wire;
-  full_tells = tells_kept job p q m 1 e.full _ g h.full_wire h.full_tells;
+  full_is_test = test_kept job p q m 1 e.full _ g h.full_wire h.full_is_test;
   ext_wire = wire_kept p q m e.ext 1 g h.ext_wire;
-  ext_tells = tells_kept job p q m 1 e.ext _ g h.ext_wire h.ext_tells;
+  ext_is_test = test_kept job p q m 1 e.ext _ g h.ext_wire h.ext_is_test;
 }
 
 pub faces_kept : (job : Job) (p q : Held) (m : ℕ) (ss : List Source) (higher : NodeId) (k : ℕ) → Kept p q m → Faces job p ss higher k → Faces job q ss higher k
@@ -99,7 +99,7 @@ faces_kept job p q m ss higher k g h = record {
   few = h.few;
   sees = sees_above_kept job p q m ss k g h.sources h.sees;
   wire = wire_kept p q m higher 1 g h.wire;
-  tells = tells_kept job p q m 1 higher _ g h.wire h.tells;
+  is_test = test_kept job p q m 1 higher _ g h.wire h.is_test;
 }
 
 -- the sets of a stage
@@ -116,12 +116,12 @@ unfolding machine_of
 stages_end job k e = omega (arith, e)
 
 -- whether the next stage stalls
-pub stall_higher : (job : Job) (p : Held) (k : ℕ) (n : NodeId) → suc k < job.stages.value → Tells job p n (λ st i. stall (machine_of job) st i (suc k)) → Tells job p n (λ st i. (above (machine_of job) st i k).stall)
-unfolding Tells
+pub stall_higher : (job : Job) (p : Held) (k : ℕ) (n : NodeId) → suc k < job.stages.value → IsTest job p n (λ st i. stall (machine_of job) st i (suc k)) → IsTest job p n (λ st i. (above (machine_of job) st i k).stall)
+unfolding IsTest
 stall_higher job p k n l h = λ c st i y. h c st i y ∙ sym (stall-above (machine_of job) st i k (stages_are job (suc k) l))
 
-pub stall_none : (job : Job) (p : Held) (k : ℕ) (n : NodeId) → job.stages.value ≡ k + 1 → Tells job p n (λ st i. false) → Tells job p n (λ st i. (above (machine_of job) st i k).stall)
-unfolding Tells
+pub stall_none : (job : Job) (p : Held) (k : ℕ) (n : NodeId) → job.stages.value ≡ k + 1 → IsTest job p n (λ st i. false) → IsTest job p n (λ st i. (above (machine_of job) st i k).stall)
+unfolding IsTest
 stall_none job p k n e h = λ c st i y. h c st i y ∙ sym (stall-top (machine_of job) st i k (stages_end job k e))
 
 -- the outcomes stay

@@ -6,7 +6,7 @@ use Rattle.kp_machine.specs.Machine.{machine_of}
 use Rattle.kp_net.specs.declared.node.NodeId.{NodeId}
 use Rattle.kp_net.specs.Nodes.{Cells, on}
 use Rattle.kp_net.specs.Growth.{Held, Kept}
-use Rattle.kp_synth_registers.specs.Telling.{Tells, Gives, guesses_at}
+use Rattle.kp_synth_registers.specs.Meaning.{IsTest, Gives, guesses_at}
 use Rattle.kp_synth_stage.specs.declared.row.Source.{Source}
 use Rattle.kp_synth_stage.specs.declared.work.Work.{Work}
 use Rattle.kp_synth_stage.specs.Work.{Fits, Does}
@@ -23,10 +23,10 @@ module _ (job : Job) (k : ℕ) (p q z : Held) (m : ℕ) (g : Kept q z m) (ss : L
       means_kept job c q z m (guesses_at job k) w (outcome (machine_of job) st i k) g fits
       (does c (above (machine_of job) st i k).truth (st.stage k).instruction.pipes i.samples st.hints (sees c st i h) (λ x l. ps x l c st i h) (λ x l. ts x l c st i h) (λ x l. hs x l c st i h))
 
-  pub stalls : (full ext higher halt : NodeId) → Tells job q full (λ st i. (st.stage k).full) → Tells job q ext (λ st i. i.ext k) → Tells job q higher (λ st i. (above (machine_of job) st i k).stall)
+  pub stalls : (full ext higher halt : NodeId) → IsTest job q full (λ st i. (st.stage k).full) → IsTest job q ext (λ st i. i.ext k) → IsTest job q higher (λ st i. (above (machine_of job) st i k).stall)
       → ((c : Cells) → on c z.nodes halt.0 ≡ (on c q.nodes full.0 && (on c q.nodes w.hazard.0 || (on c q.nodes ext.0 || on c q.nodes higher.0))))
-      → Tells job z halt (λ st i. stall (machine_of job) st i k)
-  unfolding Tells SeesAbove PipesIn SamplesIn HintsIn Does Gives stall machine_of
+      → IsTest job z halt (λ st i. stall (machine_of job) st i k)
+  unfolding IsTest SeesAbove PipesIn SamplesIn HintsIn Does Gives stall machine_of
   stalls full ext higher halt f e u is = λ c st i h.
       let a = f c st i h in
       let b = (does c (above (machine_of job) st i k).truth (st.stage k).instruction.pipes i.samples st.hints (sees c st i h) (λ x l. ps x l c st i h) (λ x l. ts x l c st i h) (λ x l. hs x l c st i h)).hazard in

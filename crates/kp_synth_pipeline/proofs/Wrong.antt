@@ -16,7 +16,7 @@ use Rattle.kp_synth_tables.specs.declared.key.GuessSlot.{GuessSlot}
 use Rattle.kp_synth_tables.specs.declared.key.Key.TheVariants.{Pending, Guess}
 use Rattle.kp_synth_tables.specs.Keys.{target_at, no_guess, guesses_of, guess_at, is_carried}
 use Rattle.kp_synth_registers.specs.Holding.{Holds, kept_in, optional, some_of, some_guess, guess_passes, pending_guess}
-use Rattle.kp_synth_registers.specs.Telling.{Tells}
+use Rattle.kp_synth_registers.specs.Meaning.{IsTest}
 use Rattle.kp_synth_stage.specs.declared.row.Source.{Source}
 use Rattle.kp_synth_stage.specs.Rows.{Sees, view_of, source_view}
 use Rattle.kp_synth_pipeline.specs.Stages.{guess_room}
@@ -31,13 +31,13 @@ differs_by false v w o e = ap (λ (x : Option ℕ). differs x w) e
 
 pub guess_wrong : (job : Job) (k g : ℕ) (slot : GuessSlot) (p q r : Held) (m : ℕ) (ss : List Source) (s : Source) (full pending ok value guess n : NodeId) (w : ℕ) → Kept p q m
     → is_carried slot k ≡ true → GuessOk job slot → slice_get ss slot.register ≡ Some s → SeesAbove job p ss k
-    → Wire p full 1 → Tells job p full (λ st i. (st.stage k).full)
+    → Wire p full 1 → IsTest job p full (λ st i. (st.stage k).full)
     → Wire p pending 1 → ((c : Cells) → at c p.nodes pending.0 ≡ kept_in job c (Pending g k))
     → Wire p guess w → ((c : Cells) → at c p.nodes guess.0 ≡ kept_in job c (Guess g k))
     → ((c : Cells) → optional (on c q.nodes ok.0) (at c q.nodes value.0) ≡ source_view c p s 0)
     → ((c : Cells) → on c r.nodes n.0 ≡ (on c q.nodes full.0 && (on c q.nodes pending.0 && (on c q.nodes ok.0 && not (at c q.nodes value.0 == at c q.nodes guess.0)))))
     → (c : Cells) (st : PipelineState) (i : Inputs) → Holds job c st i → on c r.nodes n.0 ≡ ((st.stage k).full && guess_passes job c k (is_wrong job st i k) g slot)
-unfolding Tells SeesAbove Sees
+unfolding IsTest SeesAbove Sees
 guess_wrong job k g slot p q r m ss s full pending ok value guess n w kept carried fits there sees fw ft pw pv gw gv tv is c st i h =
     let a : on c q.nodes full.0 ≡ (st.stage k).full = kept.tests c full.0 fw.inside ∙ ft c st i h in
     let b : on c q.nodes pending.0 ≡ (kept_in job c (Pending g k) == 1) = kept.tests c pending.0 pw.inside ∙ bit_value c p pending _ (pv c) in
@@ -119,8 +119,8 @@ unfolding some_guess
 some_pending job zero l c st i h test = none_carried job c test 0 (guesses_of job) ∙ sym (ap (λ (s : StageState). list_any test s.pending) h.first)
 some_pending job (suc k) l c st i h test = h.pending (suc k) (omega arith) l test
 
-pub all_misses : (job : Job) (p : Held) (k m : ℕ) (n : NodeId) → k < job.stages.value → m ≡ length (guesses_of job) → Misses job p k m n → Tells job p n (λ st i. mismatches (machine_of job) st i k)
-unfolding Misses Tells
+pub all_misses : (job : Job) (p : Held) (k m : ℕ) (n : NodeId) → k < job.stages.value → m ≡ length (guesses_of job) → Misses job p k m n → IsTest job p n (λ st i. mismatches (machine_of job) st i k)
+unfolding Misses IsTest
 all_misses job p k m n l e h = λ c st i y.
     h c st i y ∙ ap (λ b. (st.stage k).full && b)
     (ap (λ (gs : List GuessSlot). some_of (guess_passes job c k (is_wrong job st i k)) 0 gs) (ap (λ x. take x (guesses_of job)) e ∙ take-length (guesses_of job))

@@ -9,7 +9,7 @@ ghost use Rattle.kp_fwd.specs.Forward.{BitOk, enable_on};
 ghost use Rattle.kp_synth_tables.specs.Keys.{target_at};
 ghost use Rattle.kp_synth_registers.specs.Holding.{Holds};
 ghost use Rattle.kp_synth_tables.specs.Fits.{EnableFits, AddressFits};
-ghost use Rattle.kp_synth_registers.specs.Telling.{Ready, Tells, SetFits, set_value};
+ghost use Rattle.kp_synth_registers.specs.Meaning.{Ready, IsTest, SetFits, set_value};
 ghost use Rattle.kp_synth_stage.specs.Rows.{AddressOk, address_is, SourceOk, SourcesOk};
 ghost use Rattle.kp_synth_pipeline.specs.inner.Seeing.{Nearer};
 ghost use Rattle.kp_synth_pipeline.specs.inner.Whole.{enabled_by, addressed_by, SetMeans, SetsMean, Few, AllNearer};
@@ -98,9 +98,9 @@ pub(crate) fn add_row(
     requires set { SetFits pool.old (target_at layout.now t).width set }
     requires set_means { SetMeans layout.now pool.old k t set }
     requires full { Wire pool.old full 1 }
-    requires full_tells { Tells layout.now pool.old full (λ st i. (st.stage k).full) }
+    requires full_is_test { IsTest layout.now pool.old full (λ st i. (st.stage k).full) }
     requires halt { Wire pool.old halt 1 }
-    requires halt_tells { Tells layout.now pool.old halt (λ st i. stall (machine_of layout.now) st i k) }
+    requires halt_is_test { IsTest layout.now pool.old halt (λ st i. stall (machine_of layout.now) st i k) }
     ensures source { IfOk result (λ u. SourceOk layout.now pool.new t source.new) }
     ensures few { IfOk result (λ u. length source.new.rows.items ≤ length source.old.rows.items + 1) }
     ensures nearer { IfOk result (λ u. Nearer layout.now k t pool.old source.old pool.new source.new) }
@@ -150,9 +150,9 @@ pub(crate) fn add_rows(
     requires few { Few layout.now k sources.old }
     requires sets { SetsMean layout.now pool.old k sets.now }
     requires full { Wire pool.old full 1 }
-    requires full_tells { Tells layout.now pool.old full (λ st i. (st.stage k).full) }
+    requires full_is_test { IsTest layout.now pool.old full (λ st i. (st.stage k).full) }
     requires halt { Wire pool.old halt 1 }
-    requires halt_tells { Tells layout.now pool.old halt (λ st i. stall (machine_of layout.now) st i k) }
+    requires halt_is_test { IsTest layout.now pool.old halt (λ st i. stall (machine_of layout.now) st i k) }
     ensures sources { IfOk result (λ u. SourcesOk layout.now pool.new sources.new) }
     ensures few { IfOk result (λ u. (j : ℕ) → k ≡ suc j → Few layout.now j sources.new) }
     ensures nearer { IfOk result (λ u. AllNearer layout.now k (length (targets_of layout.now.decls)) pool.old sources.old pool.new sources.new) }

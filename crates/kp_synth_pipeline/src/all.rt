@@ -1,7 +1,7 @@
 //! All stages, from the last one down to the first.
 ghost use Rattle.std.specs.Prelude.{◌≡◌, ℕ, suc, ◌+◌, ◌<◌, ◌≤◌, ◌∷◌, length, get_or, IfOk};
 ghost use Rattle.kp_net.specs.Growth.{Held, Wire};
-ghost use Rattle.kp_synth_registers.specs.Telling.{Ready, Says, Added};
+ghost use Rattle.kp_synth_registers.specs.Meaning.{Ready, Says, Added};
 ghost use Rattle.kp_synth_stage.specs.Work.{AreSlots};
 ghost use Rattle.kp_synth_pipeline.specs.inner.Whole.{RulesGive};
 ghost use Rattle.kp_synth_pipeline.specs.inner.Descending.{Faces, SayFrom};

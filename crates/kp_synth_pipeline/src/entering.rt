@@ -5,7 +5,7 @@ ghost use Rattle.kp_machine.specs.Slots.{targets_of, pipes_of, hints_of};
 ghost use Rattle.kp_net.specs.Growth.{Held, Wire, Grown};
 ghost use Rattle.kp_machine.specs.Machine.{registers_before, files_before};
 ghost use Rattle.kp_synth_tables.specs.Keys.{target_at};
-ghost use Rattle.kp_synth_registers.specs.Telling.{Ready, Tells, Added};
+ghost use Rattle.kp_synth_registers.specs.Meaning.{Ready, IsTest, Added};
 ghost use Rattle.kp_synth_stage.specs.Rows.{OwnOk, SourcesOk};
 ghost use Rattle.kp_synth_stage.specs.Work.{SlotsHave};
 ghost use Rattle.kp_synth_pipeline.specs.inner.Seeing.{SeesAbove, PipesIn, HintsIn};
@@ -72,7 +72,7 @@ pub(crate) fn ext_in(pool: &mut Pool, layout: &Layout<'_>, reads: &Reads, k: u32
     requires stage { k < layout.now.stages.value }
     requires ready { Ready layout.now pool.old reads.now }
     ensures wire { Wire pool.new result 1 }
-    ensures tells { Tells layout.now pool.new result (λ st i. i.ext k) }
+    ensures is_test { IsTest layout.now pool.new result (λ st i. i.ext k) }
     ensures grown { Grown pool.old pool.new 1 }
 {
     let n = layout.stages() as u8;

@@ -8,7 +8,7 @@ ghost use Rattle.kp_net.specs.Nodes.{Cells, at, on};
 ghost use Rattle.kp_net.specs.Growth.{Held, Wire};
 ghost use Rattle.kp_synth_tables.specs.Keys.{target_at, guesses_of, guess_at, is_carried};
 ghost use Rattle.kp_synth_registers.specs.Holding.{Holds, optional, guess_passes};
-ghost use Rattle.kp_synth_registers.specs.Telling.{Ready, Tells, Added};
+ghost use Rattle.kp_synth_registers.specs.Meaning.{Ready, IsTest, Added};
 ghost use Rattle.kp_synth_stage.specs.Rows.{SourceOk, SourcesOk, source_view};
 ghost use Rattle.kp_synth_pipeline.specs.Stages.{guess_room};
 ghost use Rattle.kp_synth_pipeline.specs.inner.Seeing.{SeesAbove};
@@ -67,7 +67,7 @@ fn guess_miss(
     requires sources { SourcesOk layout.now pool.old sources.now }
     requires sees { SeesAbove layout.now pool.old sources.now k }
     requires full { Wire pool.old full 1 }
-    requires tells { Tells layout.now pool.old full (λ st i. (st.stage k).full) }
+    requires is_test { IsTest layout.now pool.old full (λ st i. (st.stage k).full) }
     ensures wire { IfOk result (λ n. Wire pool.new n 1) }
     ensures value { IfOk result (λ n. (c : Cells) (st : PipelineState) (i : Inputs) → Holds layout.now c st i
         → on c pool.new.nodes n.0 ≡ ((st.stage k).full && guess_passes layout.now c k (is_wrong layout.now st i k) g slot)) }
@@ -107,7 +107,7 @@ fn with_guess(
     requires sources { SourcesOk layout.now pool.old sources.now }
     requires sees { SeesAbove layout.now pool.old sources.now k }
     requires full { Wire pool.old full 1 }
-    requires tells { Tells layout.now pool.old full (λ st i. (st.stage k).full) }
+    requires is_test { IsTest layout.now pool.old full (λ st i. (st.stage k).full) }
     requires wire { Wire pool.old miss 1 }
     requires misses { Misses layout.now pool.old k g miss }
     ensures wire { IfOk result (λ n. Wire pool.new n 1) }
@@ -139,9 +139,9 @@ pub(crate) fn miss_in(
     requires sources { SourcesOk layout.now pool.old sources.now }
     requires sees { SeesAbove layout.now pool.old sources.now k }
     requires full { Wire pool.old full 1 }
-    requires tells { Tells layout.now pool.old full (λ st i. (st.stage k).full) }
+    requires is_test { IsTest layout.now pool.old full (λ st i. (st.stage k).full) }
     ensures wire { IfOk result (λ n. Wire pool.new n 1) }
-    ensures tells { IfOk result (λ n. Tells layout.now pool.new n (λ st i. mismatches (machine_of layout.now) st i k)) }
+    ensures is_test { IfOk result (λ n. IsTest layout.now pool.new n (λ st i. mismatches (machine_of layout.now) st i k)) }
     ensures added { IfOk result (λ n. Added layout.now pool.old pool.new (guess_room layout.now (length (guesses_of layout.now)) + 1)) }
 {
     let _spare = pool.spare();

@@ -6,7 +6,7 @@ ghost use Rattle.kp_net.specs.Nodes.{Cells, at, on};
 ghost use Rattle.kp_net.specs.Growth.{Held, Wire, Grown};
 ghost use Rattle.kp_fwd.specs.Forward.{BitOk, PairOk, set_on, set_value as number_of_set};
 ghost use Rattle.kp_synth_registers.specs.Holding.{optional};
-ghost use Rattle.kp_synth_registers.specs.Telling.{SetFits, set_value};
+ghost use Rattle.kp_synth_registers.specs.Meaning.{SetFits, set_value};
 ghost use Rattle.kp_synth_stage.specs.Rows.{AddressOk, RowOk};
 
 use kp_fwd::carried;

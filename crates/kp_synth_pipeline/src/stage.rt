@@ -4,7 +4,7 @@ ghost use Rattle.kp_pipeline.specs.Pipeline.{PipelineState, Inputs, above, stall
 ghost use Rattle.kp_machine.specs.Machine.{machine_of};
 ghost use Rattle.kp_machine.specs.Slots.{pipes_of, hints_of, samples_of};
 ghost use Rattle.kp_net.specs.Growth.{Held, Wire};
-ghost use Rattle.kp_synth_registers.specs.Telling.{Tells, Added, guesses_at};
+ghost use Rattle.kp_synth_registers.specs.Meaning.{IsTest, Added, guesses_at};
 ghost use Rattle.kp_synth_stage.specs.Rows.{SourcesOk};
 ghost use Rattle.kp_synth_stage.specs.Work.{stmts_at, AreSlots, Fits, SlotsHave, costs_of};
 ghost use Rattle.kp_synth_pipeline.specs.inner.Seeing.{SeesAbove, PipesIn, SamplesIn, HintsIn, Computes};
@@ -50,15 +50,15 @@ pub(crate) fn run_stage<'a>(
     requires hints { SlotsHave pool.old (hints_of d.now.job.decls) hints.now }
     requires hints_in { HintsIn d.now.job pool.old hints.now }
     requires full_wire { Wire pool.old full 1 }
-    requires full { Tells d.now.job pool.old full (λ st i. (st.stage k).full) }
+    requires full { IsTest d.now.job pool.old full (λ st i. (st.stage k).full) }
     requires ext_wire { Wire pool.old ext 1 }
-    requires ext { Tells d.now.job pool.old ext (λ st i. i.ext k) }
+    requires ext { IsTest d.now.job pool.old ext (λ st i. i.ext k) }
     requires higher_wire { Wire pool.old higher 1 }
-    requires higher { Tells d.now.job pool.old higher (λ st i. (above (machine_of d.now.job) st i k).stall) }
+    requires higher { IsTest d.now.job pool.old higher (λ st i. (above (machine_of d.now.job) st i k).stall) }
     ensures fits { IfOk result (λ r. Fits d.now.job pool.new (guesses_at d.now.job k) r.work) }
     ensures computes { IfOk result (λ r. Computes d.now.job pool.new r.work k) }
     ensures wire { IfOk result (λ r. Wire pool.new r.stall 1) }
-    ensures stall { IfOk result (λ r. Tells d.now.job pool.new r.stall (λ st i. stall (machine_of d.now.job) st i k)) }
+    ensures stall { IfOk result (λ r. IsTest d.now.job pool.new r.stall (λ st i. stall (machine_of d.now.job) st i k)) }
     ensures added { IfOk result (λ r. Added d.now.job pool.old pool.new (costs_of d.now.job (stmts_at d.now.job k) + 65)) }
 {
     let work = run_block(alloc, pool, d, k, slots, sources, pipes, samples, hints)?;

@@ -4,7 +4,7 @@ ghost use Rattle.kp_pipeline.specs.Pipeline.{PipelineState, Inputs, stall};
 ghost use Rattle.kp_machine.specs.Machine.{machine_of};
 ghost use Rattle.kp_machine.specs.Slots.{targets_of, pipes_of, hints_of, samples_of};
 ghost use Rattle.kp_net.specs.Growth.{Held, Wire, Grown};
-ghost use Rattle.kp_synth_registers.specs.Telling.{Ready, Tells, Added, Says, guesses_at};
+ghost use Rattle.kp_synth_registers.specs.Meaning.{Ready, IsTest, Added, Says, guesses_at};
 ghost use Rattle.kp_synth_stage.specs.Work.{stmts_at, AreSlots, Fits, SlotsHave, costs_of};
 ghost use Rattle.kp_synth_pipeline.specs.inner.Seeing.{SamplesIn, Computes};
 ghost use Rattle.kp_synth_pipeline.specs.inner.Whole.{RulesGive};
@@ -82,7 +82,7 @@ fn ran<'a>(
     ensures fits { IfOk result (λ r. Fits layout.now pool.new (guesses_at layout.now k) r.work) }
     ensures computes { IfOk result (λ r. Computes layout.now pool.new r.work k) }
     ensures wire { IfOk result (λ r. Wire pool.new r.stall 1) }
-    ensures stall { IfOk result (λ r. Tells layout.now pool.new r.stall (λ st i. stall (machine_of layout.now) st i k)) }
+    ensures stall { IfOk result (λ r. IsTest layout.now pool.new r.stall (λ st i. stall (machine_of layout.now) st i k)) }
     ensures added { IfOk result (λ r. Added layout.now pool.old pool.new (costs_of layout.now (stmts_at layout.now k) + 65)) }
 {
     let d = layout.design();

@@ -20,7 +20,7 @@ use Rattle.kp_synth_tables.specs.declared.key.Key.TheVariants.{Visible}
 use Rattle.kp_synth_registers.specs.Holding.{Holds, kept_in, own_word}
 use Rattle.kp_synth_tables.specs.Keys.{key_width, key_at, keys_of, target_at, sample_at}
 use Rattle.kp_synth_registers.specs.declared.registers.Reads.{Reads}
-use Rattle.kp_synth_registers.specs.Telling.{Gives, node_at, Added, Ready}
+use Rattle.kp_synth_registers.specs.Meaning.{Gives, node_at, Added, Ready}
 use Rattle.kp_synth_registers.specs.inner.First.{FirstRead, FirstSamples}
 use Rattle.kp_synth_registers.proofs.Growth.{gives_kept, asked_added}
 

@@ -17,11 +17,11 @@ use Rattle.kp_synth_registers.specs.declared.outcome.Outcome.{Outcome}
 use Rattle.kp_synth_registers.specs.declared.registers.Reads.{Reads}
 use Rattle.kp_synth_tables.specs.declared.key.GuessSlot.{GuessSlot}
 use Rattle.kp_synth_registers.specs.Holding.{optional, pending_guess}
-use Rattle.kp_synth_registers.specs.Telling.{Tells, Gives, MayGive, node_at, CellFits, CellsFit, Added, Ready, Says, put_value, set_value, guess_value, made_values, PutFits, SetFits, MadeFit}
+use Rattle.kp_synth_registers.specs.Meaning.{IsTest, Gives, MayGive, node_at, CellFits, CellsFit, Added, Ready, Says, put_value, set_value, guess_value, made_values, PutFits, SetFits, MadeFit}
 
-pub tells_kept : (job : Job) (p q : Held) (j w : ℕ) (n : NodeId) (f : PipelineState → Inputs → Bool) → Kept p q j → Wire p n w → Tells job p n f → Tells job q n f
-unfolding Tells
-tells_kept job p q j w n f a h e = λ c st i m. a.tests c n.0 h.inside ∙ e c st i m
+pub test_kept : (job : Job) (p q : Held) (j w : ℕ) (n : NodeId) (f : PipelineState → Inputs → Bool) → Kept p q j → Wire p n w → IsTest job p n f → IsTest job q n f
+unfolding IsTest
+test_kept job p q j w n f a h e = λ c st i m. a.tests c n.0 h.inside ∙ e c st i m
 
 pub gives_kept : (job : Job) (p q : Held) (j w : ℕ) (n : NodeId) (f : PipelineState → Inputs → ℕ) → Kept p q j → Wire p n w → Gives job p n f → Gives job q n f
 unfolding Gives
@@ -138,9 +138,9 @@ made_kept c p q j (s ∷ ss) (m ∷ made) a h =
 pub says_kept : (job : Job) (p q : Held) (j k : ℕ) (o : Outcome) → Kept p q j → Says job p k o → Says job q k o
 says_kept job p q j k o a h = record {
   stall_wire = wire_kept p q j o.stall 1 a h.stall_wire;
-  stall = tells_kept job p q j 1 o.stall _ a h.stall_wire h.stall;
+  stall = test_kept job p q j 1 o.stall _ a h.stall_wire h.stall;
   miss_wire = wire_kept p q j o.miss 1 a h.miss_wire;
-  miss = tells_kept job p q j 1 o.miss _ a h.miss_wire h.miss;
+  miss = test_kept job p q j 1 o.miss _ a h.miss_wire h.miss;
   put_count = h.put_count;
   put_wires = λ x. put_fits p q j _ _ a (h.put_wires x);
   puts = λ c st i m x l. put_kept c p q j _ _ a (h.put_wires x) ∙ h.puts c st i m x l;

@@ -9,7 +9,7 @@ use Rattle.kp_net.specs.Growth.{Held}
 use Rattle.kp_synth_tables.specs.declared.key.Key.TheVariants.{Full, Pipe, Valid, Value}
 use Rattle.kp_synth_tables.specs.Keys.{is_kept, is_piped, is_stored}
 use Rattle.kp_synth_registers.specs.Holding.{kept_in, optional}
-use Rattle.kp_synth_registers.specs.Telling.{Tells, Gives, MayGive}
+use Rattle.kp_synth_registers.specs.Meaning.{IsTest, Gives, MayGive}
 
 test_of : (c : Cells) (p : Held) (n : NodeId) (v : ℕ) → at c p.nodes n.0 ≡ v → on c p.nodes n.0 ≡ (v == 1)
 unfolding on
@@ -20,8 +20,8 @@ later zero d = absurd (d refl)
 later (suc k) d = omega arith
 
 -- stage 0
-pub full_zero : (job : Job) (p : Held) (n : NodeId) (k : ℕ) → k ≡ 0 → ((c : Cells) → on c p.nodes n.0 ≡ true) → Tells job p n (λ st i. (st.stage k).full)
-unfolding Tells
+pub full_zero : (job : Job) (p : Held) (n : NodeId) (k : ℕ) → k ≡ 0 → ((c : Cells) → on c p.nodes n.0 ≡ true) → IsTest job p n (λ st i. (st.stage k).full)
+unfolding IsTest
 full_zero job p n k z e = λ c st i h. e c ∙ sym (ap (λ (s : StageState). s.full) (ap st.stage z ∙ h.first))
 
 pub pipe_zero : (job : Job) (p : Held) (n : NodeId) (x k : ℕ) → k ≡ 0 → ((c : Cells) → at c p.nodes n.0 ≡ 0) → Gives job p n (λ st i. (st.stage k).instruction.pipes x)
@@ -33,8 +33,8 @@ unfolding MayGive
 result_zero job p n v t k z e = λ c st i h. ap (λ b. optional b (at c p.nodes v.0)) (e c) ∙ sym (ap (λ (s : StageState). s.instruction.results t) (ap st.stage z ∙ h.first))
 
 -- a later stage
-pub full_kept : (job : Job) (p : Held) (n : NodeId) (k : ℕ) → (k ≡ 0 → ⊥) → k < job.stages.value → ((c : Cells) → at c p.nodes n.0 ≡ kept_in job c (Full k)) → Tells job p n (λ st i. (st.stage k).full)
-unfolding Tells
+pub full_kept : (job : Job) (p : Held) (n : NodeId) (k : ℕ) → (k ≡ 0 → ⊥) → k < job.stages.value → ((c : Cells) → at c p.nodes n.0 ≡ kept_in job c (Full k)) → IsTest job p n (λ st i. (st.stage k).full)
+unfolding IsTest
 full_kept job p n k d l e = λ c st i h. test_of c p n (kept_in job c (Full k)) (e c) ∙ h.full k (later k d) l
 
 pub pipe_kept : (job : Job) (p : Held) (n : NodeId) (x k : ℕ) → (k ≡ 0 → ⊥) → k < job.stages.value → x < length (pipes_of job.decls) → is_piped job x k ≡ true → ((c : Cells) → at c p.nodes n.0 ≡ kept_in job c (Pipe x k))

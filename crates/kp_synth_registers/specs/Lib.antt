@@ -1,3 +1,3 @@
 pub mod Holding
-pub mod Telling
+pub mod Meaning
 pub mod inner

@@ -6,7 +6,7 @@ ghost use Rattle.kp_net.specs.Nodes.{Cells, at, on};
 ghost use Rattle.kp_net.specs.Growth.{Held, Wire, Grown};
 ghost use Rattle.kp_synth_tables.specs.Keys.{target_at, pipe_at, sample_at, HasKey, key_width, is_kept};
 ghost use Rattle.kp_synth_registers.specs.Holding.{kept_in};
-ghost use Rattle.kp_synth_registers.specs.Telling.{Ready, Tells, Gives, MayGive};
+ghost use Rattle.kp_synth_registers.specs.Meaning.{Ready, IsTest, Gives, MayGive};
 
 use crate::outcome::Set;
 use crate::registers::Reads;
@@ -33,7 +33,7 @@ pub fn full_in(pool: &mut Pool, layout: &Layout<'_>, reads: &Reads, stage: u32) 
     requires stage { stage < layout.now.stages.value }
     requires ready { Ready layout.now pool.old reads.now }
     ensures wire { Wire pool.new result 1 }
-    ensures tells { Tells layout.now pool.new result (λ st i. (st.stage stage).full) }
+    ensures is_test { IsTest layout.now pool.new result (λ st i. (st.stage stage).full) }
     ensures grown { Grown pool.old pool.new 1 }
 {
     if stage == 0 {

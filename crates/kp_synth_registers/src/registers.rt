@@ -8,7 +8,7 @@ ghost use Rattle.kp_net.specs.Growth.{Held, Wire};
 ghost use Rattle.kp_synth_tables.specs.Keys.{HasKey, key_width, key_at, keys_of, target_at, sample_at};
 ghost use Rattle.kp_synth_tables.specs.Fits.{IsWidth};
 ghost use Rattle.kp_synth_registers.specs.Holding.{Holds};
-ghost use Rattle.kp_synth_registers.specs.Telling.{Gives, Ready, Added};
+ghost use Rattle.kp_synth_registers.specs.Meaning.{Gives, Ready, Added};
 ghost use Rattle.kp_synth_registers.specs.inner.First.{FirstRead, FirstSamples};
 
 use kp_base::{List, NoMemory};

@@ -28,7 +28,7 @@ use Rattle.kp_synth_registers.specs.declared.outcome.Made.{Made}
 use Rattle.kp_synth_tables.specs.declared.key.GuessSlot.{GuessSlot}
 use Rattle.kp_synth_tables.specs.Keys.{guess_slot, with_read, with_guess, guesses_in}
 use Rattle.kp_synth_registers.specs.Holding.{pending_guess}
-use Rattle.kp_synth_registers.specs.Telling.{guess_value, made_values, MadeFit}
+use Rattle.kp_synth_registers.specs.Meaning.{guess_value, made_values, MadeFit}
 use Rattle.kp_synth_registers.proofs.Growth.{put_kept, put_fits, set_kept, set_fits, made_fit, made_kept}
 use Rattle.kp_synth_stage.specs.Work.{stmts_at, Fits, Means}
 use Rattle.kp_synth_stage.specs.inner.Scopes.{Binds, Bound}

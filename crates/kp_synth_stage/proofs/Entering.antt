@@ -25,7 +25,7 @@ use Rattle.kp_net.specs.Growth.{Held, Wire, Kept}
 use Rattle.kp_net.proofs.Values.{word_is}
 use Rattle.kp_build.specs.Names.{Nodes, node_of, Scope, word_of}
 use Rattle.kp_synth_tables.specs.Keys.{no_slot, pipe_at, hint_at, target_at}
-use Rattle.kp_synth_registers.specs.Telling.{node_at, PutFits, SetFits, MadeFit, put_value, set_value, made_values}
+use Rattle.kp_synth_registers.specs.Meaning.{node_at, PutFits, SetFits, MadeFit, put_value, set_value, made_values}
 use Rattle.kp_width.proofs.Calls.{is_of_text}
 use Rattle.kp_synth_stage.specs.inner.Scopes.{declared, scope_at, is_bound, is_value, Binds, Bound}
 use Rattle.kp_synth_stage.specs.inner.Standing.{names_with, has_name, env_of, WorkOk, Stands, Enters, slots_at}

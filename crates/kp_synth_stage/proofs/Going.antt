@@ -5,7 +5,7 @@ use Rattle.std.proofs.lemmas.List.Sums.{fold-append}
 use Rattle.std.proofs.lemmas.List.{take_all}
 use Rattle.kp_machine.specs.Machine.{stage_tree}
 use Rattle.kp_machine.specs.Trees.{entered}
-use Rattle.kp_synth_registers.specs.Telling.{guesses_at}
+use Rattle.kp_synth_registers.specs.Meaning.{guesses_at}
 use Rattle.kp_synth_tables.specs.Keys.{guesses_in}
 use Rattle.kp_net.specs.declared.node.NodeId.{NodeId}
 use Rattle.kp_ast.specs.declared.tree.Decl.{Decl}

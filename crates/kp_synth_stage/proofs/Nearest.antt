@@ -5,7 +5,7 @@ use Rattle.std.proofs.lemmas.Bool.{eq-eqb}
 use Rattle.std.proofs.lemmas.List.Elements.{All-head, All-tail}
 use Rattle.kp_net.specs.declared.node.NodeId.{NodeId}
 use Rattle.kp_net.specs.Nodes.{Cells, at, on, word_at, word_of_node}
-use Rattle.kp_synth_registers.specs.Telling.{PutFits}
+use Rattle.kp_synth_registers.specs.Meaning.{PutFits}
 use Rattle.kp_synth_stage.specs.inner.Reading.{lacks, value_or_zero, Matched, given, AskInside, ask_width}
 use Rattle.kp_net.specs.Growth.{Held, Wire, Kept}
 use Rattle.kp_net.proofs.Values.{at_fits}

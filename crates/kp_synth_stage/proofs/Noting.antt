@@ -23,7 +23,7 @@ use Rattle.kp_synth_registers.specs.declared.outcome.Made.{Made}
 use Rattle.kp_synth_tables.specs.declared.key.GuessSlot.{GuessSlot}
 use Rattle.kp_synth_tables.specs.Keys.{target_at, guess_slot, with_read}
 use Rattle.kp_synth_registers.specs.Holding.{pending_guess}
-use Rattle.kp_synth_registers.specs.Telling.{made_values, guess_value, MadeFit}
+use Rattle.kp_synth_registers.specs.Meaning.{made_values, guess_value, MadeFit}
 use Rattle.kp_synth_stage.specs.declared.row.Source.{Source}
 use Rattle.kp_synth_stage.specs.declared.row.Answer.{Answer}
 use Rattle.kp_synth_stage.specs.declared.work.Work.{Work}

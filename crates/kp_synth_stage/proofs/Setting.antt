@@ -40,7 +40,7 @@ use Rattle.kp_build.specs.Names.{Gives}
 use Rattle.kp_synth_registers.specs.declared.outcome.Set.{Set}
 use Rattle.kp_synth_tables.specs.Keys.{target_at}
 use Rattle.kp_synth_registers.specs.Holding.{optional}
-use Rattle.kp_synth_registers.specs.Telling.{SetFits, set_value}
+use Rattle.kp_synth_registers.specs.Meaning.{SetFits, set_value}
 use Rattle.kp_synth_registers.proofs.Growth.{set_kept, set_fits}
 use Rattle.kp_synth_stage.specs.declared.row.Source.{Source}
 use Rattle.kp_synth_stage.specs.declared.work.Work.{Work}

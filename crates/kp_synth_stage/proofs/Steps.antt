@@ -32,7 +32,7 @@ use Rattle.kp_net.specs.Widths.{AllRight}
 use Rattle.kp_net.specs.Growth.{Held, Wire, Kept}
 use Rattle.kp_build.specs.Names.{Scope, Gives}
 use Rattle.kp_synth_tables.specs.Keys.{no_slot, pipe_at, hint_at}
-use Rattle.kp_synth_registers.specs.Telling.{put_value, PutFits}
+use Rattle.kp_synth_registers.specs.Meaning.{put_value, PutFits}
 use Rattle.kp_synth_stage.specs.declared.row.Source.{Source}
 use Rattle.kp_synth_stage.specs.declared.work.Work.{Work}
 use Rattle.kp_synth_stage.specs.inner.Doing.{Doing, after_stmt, outcome_of}

@@ -38,7 +38,7 @@ use Rattle.kp_net.proofs.Values.{at_fits}
 use Rattle.kp_fwd.specs.Forward.{BitOk, enable_on}
 use Rattle.kp_build.specs.Names.{Scope}
 use Rattle.kp_synth_tables.specs.Keys.{no_slot, target_at}
-use Rattle.kp_synth_registers.specs.Telling.{PutFits}
+use Rattle.kp_synth_registers.specs.Meaning.{PutFits}
 use Rattle.kp_synth_stage.specs.declared.row.Source.{Source}
 use Rattle.kp_synth_stage.specs.declared.row.Answer.{Answer}
 use Rattle.kp_synth_stage.specs.Rows.{asked, source_view, view_of, SourceOk, SourcesOk, Sees, AskOk}

@@ -13,7 +13,7 @@ use Rattle.kp_net.specs.Nodes.{Cells, at, on}
 use Rattle.kp_net.specs.declared.node.NodeId.{NodeId}
 use Rattle.kp_synth_tables.specs.Keys.{hint_at, no_slot, pipe_at, target_at}
 use Rattle.kp_synth_tables.specs.declared.key.GuessSlot.{GuessSlot}
-use Rattle.kp_synth_registers.specs.Telling.{MadeFit, PutFits, SetFits, guesses_at, made_values, node_at, put_value, set_value}
+use Rattle.kp_synth_registers.specs.Meaning.{MadeFit, PutFits, SetFits, guesses_at, made_values, node_at, put_value, set_value}
 use Rattle.kp_synth_stage.specs.Rows.{Sees}
 use Rattle.kp_synth_stage.specs.declared.row.Source.{Source}
 use Rattle.kp_synth_stage.specs.declared.slots.Slots.{Slots}

@@ -1,7 +1,7 @@
 // The statements of a stage, in order.
 ghost use Rattle.std.specs.Prelude.{◌≡◌, suc, ◌+◌, ◌<◌, ◌≤◌, Some, None, replicate, length, slice_get, IfOk};
 ghost use Rattle.kp_net.specs.Growth.{Held, Grown};
-ghost use Rattle.kp_synth_registers.specs.Telling.{Added, guesses_at};
+ghost use Rattle.kp_synth_registers.specs.Meaning.{Added, guesses_at};
 ghost use Rattle.kp_machine.specs.Slots.{pipes_of, hints_of, samples_of};
 ghost use Rattle.kp_synth_stage.specs.Rows.{SourcesOk};
 ghost use Rattle.kp_synth_stage.specs.Work.{stmts_at, Does, Fits, SlotsHave, cost_of, costs_of, AreSlots};

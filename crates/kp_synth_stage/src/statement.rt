@@ -6,7 +6,7 @@ ghost use Rattle.kp_net.specs.Widths.{wide};
 ghost use Rattle.kp_net.specs.Growth.{Held, Wire, Grown};
 ghost use Rattle.kp_pipeline.specs.Sequential.{first_value};
 ghost use Rattle.kp_synth_registers.specs.Holding.{optional};
-ghost use Rattle.kp_synth_registers.specs.Telling.{Added, SetFits, set_value};
+ghost use Rattle.kp_synth_registers.specs.Meaning.{Added, SetFits, set_value};
 ghost use Rattle.kp_synth_stage.specs.declared.row.Source.{Source as ASource};
 ghost use Rattle.kp_synth_stage.specs.inner.Standing.{WorkOk, StandsAt, GoesBy};
 ghost use Rattle.kp_synth_stage.specs.Work.{cost_of, AreSlots};

@@ -21,14 +21,14 @@ use Rattle.kp_machine.specs.Trees.{Progress, entered}
 use Rattle.kp_machine.specs.Machine.{machine_of, stage_tree, result_for}
 use Rattle.kp_machine.proofs.Cases.{by_option}
 use Rattle.kp_machine.proofs.Text.{fits_text, target_slot}
-use Rattle.kp_seq.specs.Told.{Told, read_told, reads_told, done_after, stage_reads, reads_from, told_of}
+use Rattle.kp_seq.specs.Recorded.{Recorded, read_recorded, reads_recorded, done_after, stage_reads, reads_from, record_of}
 use Rattle.kp_sched.specs.Rows.{bit_of}
 use Rattle.kp_timing.specs.declared.sites.Site.{Site}
 use Rattle.kp_timing.specs.declared.sites.Writer.{Writer}
 use Rattle.kp_timing.specs.Timed.{stalled_by}
 use Rattle.kp_timing.specs.inner.Sites.{Sited, AreSites, site_of, sites_in, sites_from, result_number, writer_by}
 use Rattle.kp_timing.specs.declared.deciding.Found.{Found}
-use Rattle.kp_timing.specs.inner.Deciding.{Held, told_in, is_full, may_write_by, is_ready_by, met_from, is_met, is_unmet, some_unmet_from, waits_by, is_blocked_by, found_at, found_down, no_stage_found, moves_by}
+use Rattle.kp_timing.specs.inner.Deciding.{Held, record_in, is_full, may_write_by, is_ready_by, met_from, is_met, is_unmet, some_unmet_from, waits_by, is_blocked_by, found_at, found_down, no_stage_found, moves_by}
 use Rattle.kp_timing.proofs.Asks.{asks_unmet, stage_asks}
 use Rattle.kp_timing.proofs.Results.{IsResult, is_result, no_result, writes_same, ready_same}
 
@@ -64,12 +64,12 @@ next_of [] ys y = refl
 next_of (x ∷ xs) ys y = ap (λ l. x ∷ l) (next_of xs ys y)
 
 -- the reads are looked up in order
-indexed : (sited : Sited) (h : Held) (b : List Bool) (k : ℕ) (sites : List Site) (xs ys : List (Option ℕ)) → (told_in h k).reads ≡ xs ++ ys → length sites ≡ length ys
+indexed : (sited : Sited) (h : Held) (b : List Bool) (k : ℕ) (sites : List Site) (xs ys : List (Option ℕ)) → (record_in h k).reads ≡ xs ++ ys → length sites ≡ length ys
     → some_unmet_from sited h b k (length xs) sites ≡ both_unmet (is_unmet sited h b k) sites ys
 indexed sited h b k [] xs ys e n = refl
 indexed sited h b k (site ∷ sites) xs [] e n = absurd (omega arith)
 indexed sited h b k (site ∷ sites) xs (y ∷ ys) e n =
-    let here : get_or (told_in h k).reads (length xs) None ≡ y = ap (λ l. get_or l (length xs) None) e ∙ at_end xs ys y in
+    let here : get_or (record_in h k).reads (length xs) None ≡ y = ap (λ l. get_or l (length xs) None) e ∙ at_end xs ys y in
     let l = length-append xs (y ∷ []) in
     let next : length xs + 1 ≡ length (xs ++ y ∷ []) = omega (arith, l) in
     let m : length sites ≡ length ys = omega arith in
@@ -78,19 +78,19 @@ indexed sited h b k (site ∷ sites) xs (y ∷ ys) e n =
     ∙ ap (λ x. is_unmet sited h b k site y || x) (indexed sited h b k sites (xs ++ y ∷ []) ys (e ∙ next_of xs ys y) m)
 
 -- a stage has as many reads as are reported about it
-one_count : (targets : List Slot) (ds : List Decl) (k : ℕ) (done : Progress) (x : StmtKind) → length (site_of targets k x) ≡ length (read_told ds done x)
+one_count : (targets : List Slot) (ds : List Decl) (k : ℕ) (done : Progress) (x : StmtKind) → length (site_of targets k x) ≡ length (read_recorded ds done x)
 one_count targets ds k done (stmts.Read r) = refl
 one_count targets ds k done (stmts.Let n e) = refl
 one_count targets ds k done (stmts.Put n e) = refl
 one_count targets ds k done (stmts.Set n e when) = refl
 one_count targets ds k done (stmts.Aim n e) = refl
 
-stage_count : (targets : List Slot) (ds : List Decl) (s : ℕ → ℕ → ℕ) (k : ℕ) (done : Progress) (xs : List Stmt) → length (sites_in targets k xs) ≡ length (reads_told ds s done xs)
+stage_count : (targets : List Slot) (ds : List Decl) (s : ℕ → ℕ → ℕ) (k : ℕ) (done : Progress) (xs : List Stmt) → length (sites_in targets k xs) ≡ length (reads_recorded ds s done xs)
 stage_count targets ds s k done [] = refl
 stage_count targets ds s k done (x ∷ xs) =
     let later = done_after ds s done x.kind in
     let a = length-append (site_of targets k x.kind) (sites_in targets k xs) in
-    let b = length-append (read_told ds done x.kind) (reads_told ds s later xs) in
+    let b = length-append (read_recorded ds done x.kind) (reads_recorded ds s later xs) in
     let c = one_count targets ds k done x.kind in
     let d = stage_count targets ds s k later xs in
     omega (arith, a, b, c, d)
@@ -111,7 +111,7 @@ all_in : (targets : List Slot) (k : ℕ) (xs : List Stmt) → AllIn k (sites_in 
 all_in targets k [] = tt
 all_in targets k (x ∷ xs) = one_in targets k x.kind (sites_in targets k xs) (all_in targets k xs)
 
-module _ (job : Job) (unbroken : Unbroken (widths_of job)) (sited : Sited) (sites : AreSites job sited) (s : ℕ → ℕ → ℕ) (h : Held) (ext : ℕ) (tells : (k i : ℕ) → k < job.stages.value → get_or h.hold k None ≡ Some i → told_in h k ≡ told_of job (seq (machine_of job) s no_samples i) (λ x. 0)) where
+module _ (job : Job) (unbroken : Unbroken (widths_of job)) (sited : Sited) (sites : AreSites job sited) (s : ℕ → ℕ → ℕ) (h : Held) (ext : ℕ) (record_is : (k i : ℕ) → k < job.stages.value → get_or h.hold k None ≡ Some i → record_in h k ≡ record_of job (seq (machine_of job) s no_samples i) (λ x. 0)) where
   abbrev hold : ℕ → Option ℕ
   hold k = get_or h.hold k None
 
@@ -150,13 +150,13 @@ module _ (job : Job) (unbroken : Unbroken (widths_of job)) (sited : Sited) (site
 
     stage_met : (k a : ℕ) (o : Option ℕ) (b x : Bool) → hold k ≡ o → k < job.stages.value
         → cond (((machine_of job).has_result t && leb k ((machine_of job).write_stage t)) && may_write (machine_of job) s k o t a) (is_ready (machine_of job) s k o b t) x
-        ≡ cond (is_some o && (leb k writer.write && may_write_by writer (told_in h k) k a)) (is_ready_by writer (told_in h k) k b) x
+        ≡ cond (is_some o && (leb k writer.write && may_write_by writer (record_in h k) k a)) (is_ready_by writer (record_in h k) k b) x
     stage_met k a None b x e l = ap (λ c. cond c false x) (and_no ((machine_of job).has_result t && leb k ((machine_of job).write_stage t)))
     stage_met k a (Some n) b x e l =
-        let t1 = tells k n l e in
+        let t1 = record_is k n l e in
         ap (λ c. cond ((c && leb k ((machine_of job).write_stage t)) && may_write (machine_of job) s k (Some n) t a) (is_ready (machine_of job) s k (Some n) b t) x) has
-        ∙ ap (λ c. cond (leb k writer.write && c) (is_ready (machine_of job) s k (Some n) b t) x) (writes_same job s k t i n (told_in h k) is t1 a)
-        ∙ ap (λ c. cond (leb k writer.write && may_write_by writer (told_in h k) k a) c x) (ready_same job s k t i n (told_in h k) is t1 b)
+        ∙ ap (λ c. cond (leb k writer.write && c) (is_ready (machine_of job) s k (Some n) b t) x) (writes_same job s k t i n (record_in h k) is t1 a)
+        ∙ ap (λ c. cond (leb k writer.write && may_write_by writer (record_in h k) k a) c x) (ready_same job s k t i n (record_in h k) is t1 b)
 
     met : (b : List Bool) (d k a : ℕ) → d + k ≡ job.stages.value → BlockedFrom b k → (from d k).ready t a ≡ met_from h b writer a d k
     unfolding ready_from
@@ -168,7 +168,7 @@ module _ (job : Job) (unbroken : Unbroken (widths_of job)) (sited : Sited) (site
         let x = (from d (suc k)).ready t a in
         ap (λ c. cond (((machine_of job).has_result t && leb k ((machine_of job).write_stage t)) && may_write (machine_of job) s k (hold k) t a) (is_ready (machine_of job) s k (hold k) c t) x) (blocked_is d k z ∙ sym here)
         ∙ stage_met k a (hold k) (get_or b k false) x refl l
-        ∙ ap (λ y. cond (is_full h k && (leb k writer.write && may_write_by writer (told_in h k) k a)) (is_ready_by writer (told_in h k) k (get_or b k false)) y)
+        ∙ ap (λ y. cond (is_full h k && (leb k writer.write && may_write_by writer (record_in h k) k a)) (is_ready_by writer (record_in h k) k (get_or b k false)) y)
         (met b d (suc k) a z (λ j m n. bl j (omega arith) n))
 
   -- a target that has none
@@ -234,13 +234,13 @@ module _ (job : Job) (unbroken : Unbroken (widths_of job)) (sited : Sited) (site
       abbrev state_n : ℕ → ℕ → ℕ
       state_n = seq (machine_of job) s no_samples n
 
-      abbrev told_at : ℕ → List (Option ℕ)
-      told_at j = stage_reads job state_n (λ x. 0) j
+      abbrev record_at : ℕ → List (Option ℕ)
+      record_at j = stage_reads job state_n (λ x. 0) j
 
       abbrev sites_at : ℕ → List Site
       sites_at j = sites_in (targets_of job.decls) j (stmts_in (slice_get job.blocks j))
 
-      part_count : (j : ℕ) → length (sites_at j) ≡ length (told_at j)
+      part_count : (j : ℕ) → length (sites_at j) ≡ length (record_at j)
       unfolding stage_reads
       part_count j =
           stage_count (targets_of job.decls) job.decls state_n j (entered job.decls (λ x. 0) (before_stage (machine_of job) state_n (λ x. 0) j).pipes) (stmts_in (slice_get job.blocks j))
@@ -265,21 +265,21 @@ module _ (job : Job) (unbroken : Unbroken (widths_of job)) (sited : Sited) (site
       blocks_count j (x ∷ bs) at =
           let next : j + 1 ≡ suc j = omega arith in
           let a = length-append (sites_in (targets_of job.decls) j x.stmts) (sites_from (targets_of job.decls) (j + 1) bs) in
-          let c = length-append (told_at j) (reads_from job state_n (λ x. 0) (length bs) (suc j)) in
+          let c = length-append (record_at j) (reads_from job state_n (λ x. 0) (length bs) (suc j)) in
           let p = ap length (first_there j x bs at) ∙ part_count j in
           let q = ap (λ i. length (sites_from (targets_of job.decls) i bs)) next ∙ blocks_count (suc j) bs (following j x bs at) in
           omega (arith, a, c, p, q)
 
       split : (j : ℕ) (x : Block) (bs : List Block) → Following j (x ∷ bs)
           → unmet_in (sites_from (targets_of job.decls) j (x ∷ bs)) (reads_from job state_n (λ x. 0) (suc (length bs)) j)
-          ≡ (unmet_in (sites_at j) (told_at j) || unmet_in (sites_from (targets_of job.decls) (suc j) bs) (reads_from job state_n (λ x. 0) (length bs) (suc j)))
+          ≡ (unmet_in (sites_at j) (record_at j) || unmet_in (sites_from (targets_of job.decls) (suc j) bs) (reads_from job state_n (λ x. 0) (length bs) (suc j)))
       split j x bs at =
           let next : j + 1 ≡ suc j = omega arith in
           let rest = reads_from job state_n (λ x. 0) (length bs) (suc j) in
-          both_parts (is_unmet sited h b k) (sites_in (targets_of job.decls) j x.stmts) (sites_from (targets_of job.decls) (j + 1) bs) (told_at j) rest
+          both_parts (is_unmet sited h b k) (sites_in (targets_of job.decls) j x.stmts) (sites_from (targets_of job.decls) (j + 1) bs) (record_at j) rest
           (ap length (first_there j x bs at) ∙ part_count j)
-          ∙ ap (λ l. unmet_in l (told_at j) || unmet_in (sites_from (targets_of job.decls) (j + 1) bs) rest) (first_there j x bs at)
-          ∙ ap (λ i. unmet_in (sites_at j) (told_at j) || unmet_in (sites_from (targets_of job.decls) i bs) rest) next
+          ∙ ap (λ l. unmet_in l (record_at j) || unmet_in (sites_from (targets_of job.decls) (j + 1) bs) rest) (first_there j x bs at)
+          ∙ ap (λ i. unmet_in (sites_at j) (record_at j) || unmet_in (sites_from (targets_of job.decls) i bs) rest) next
 
       differ : (j : ℕ) → (j ≡ k → ⊥) → eqb j k ≡ false
       differ j ne = false_from_ne_true (eqb j k) (λ y. ne (eqb-true j k y))
@@ -289,7 +289,7 @@ module _ (job : Job) (unbroken : Unbroken (widths_of job)) (sited : Sited) (site
       blocks_skip j (x ∷ bs) at l =
           split j x bs at
           ∙ ap (λ c. c || unmet_in (sites_from (targets_of job.decls) (suc j) bs) (reads_from job state_n (λ x. 0) (length bs) (suc j)))
-          (other_stage j (sites_at j) (told_at j) (all_in (targets_of job.decls) j (stmts_in (slice_get job.blocks j))) (differ j (λ y. omega arith)))
+          (other_stage j (sites_at j) (record_at j) (all_in (targets_of job.decls) j (stmts_in (slice_get job.blocks j))) (differ j (λ y. omega arith)))
           ∙ blocks_skip (suc j) bs (following j x bs at) (omega arith)
 
       or_no : (c : Bool) → (c || false) ≡ c
@@ -297,7 +297,7 @@ module _ (job : Job) (unbroken : Unbroken (widths_of job)) (sited : Sited) (site
       or_no false = refl
 
       blocks_find : (j : ℕ) (bs : List Block) → Following j bs → j ≤ k → k < j + length bs
-          → unmet_in (sites_from (targets_of job.decls) j bs) (reads_from job state_n (λ x. 0) (length bs) j) ≡ asks_unmet (above k).ready (sites_at k) (told_at k)
+          → unmet_in (sites_from (targets_of job.decls) j bs) (reads_from job state_n (λ x. 0) (length bs) j) ≡ asks_unmet (above k).ready (sites_at k) (record_at k)
       blocks_find j [] at l g = absurd (omega arith)
       blocks_find j (x ∷ bs) at l g =
           let rest = unmet_in (sites_from (targets_of job.decls) (suc j) bs) (reads_from job state_n (λ x. 0) (length bs) (suc j)) in
@@ -306,14 +306,14 @@ module _ (job : Job) (unbroken : Unbroken (widths_of job)) (sited : Sited) (site
           split j x bs at
           ∙ ⊎_elim
           (λ (lt : j < k).
-          ap (λ c. c || rest) (other_stage j (sites_at j) (told_at j) stands (differ j (λ y. omega arith)))
+          ap (λ c. c || rest) (other_stage j (sites_at j) (record_at j) stands (differ j (λ y. omega arith)))
           ∙ blocks_find (suc j) bs later (omega arith) (omega arith))
           (λ (ge : k ≤ j).
           let is : j ≡ k = omega arith in
-          ap (λ c. unmet_in (sites_at j) (told_at j) || c) (blocks_skip (suc j) bs later (omega arith))
-          ∙ or_no (unmet_in (sites_at j) (told_at j))
-          ∙ same_stage (sites_at j) (told_at j) (subst (λ i. AllIn i (sites_at j)) is stands)
-          ∙ ap (λ i. asks_unmet (above k).ready (sites_at i) (told_at i)) is)
+          ap (λ c. unmet_in (sites_at j) (record_at j) || c) (blocks_skip (suc j) bs later (omega arith))
+          ∙ or_no (unmet_in (sites_at j) (record_at j))
+          ∙ same_stage (sites_at j) (record_at j) (subst (λ i. AllIn i (sites_at j)) is stands)
+          ∙ ap (λ i. asks_unmet (above k).ready (sites_at i) (record_at i)) is)
           (cases_lt j k)
 
     module _ (count : length job.blocks ≡ job.stages.value) (plain : (summary_of job).guesses ≡ 0) where
@@ -329,18 +329,18 @@ module _ (job : Job) (unbroken : Unbroken (widths_of job)) (sited : Sited) (site
       unfolding summary_of
       free = no_guesses job.blocks k plain
 
-      asked : (n : ℕ) → asks_unmet (above k).ready (sites_at n k) (told_at n k) ≡ waits_given (machine_of job) s (Some n) k (above k)
+      asked : (n : ℕ) → asks_unmet (above k).ready (sites_at n k) (record_at n k) ≡ waits_given (machine_of job) s (Some n) k (above k)
       unfolding machine_of stage_tree stage_reads
       asked n =
           sym (stage_asks (above k).ready (state_n n) job.decls k (entered job.decls (λ x. 0) (before_stage (machine_of job) (state_n n) (λ x. 0) k).pipes) (stmts_in (slice_get job.blocks k)) free)
 
       waiting_by : (o : Option ℕ) → hold k ≡ o → (is_some o && some_unmet_from sited h b k 0 sited.reads) ≡ waits_given (machine_of job) s o k (above k)
-      unfolding told_of
+      unfolding record_of
       waiting_by None at = refl
       waiting_by (Some n) at =
           let l : k < job.stages.value = omega arith in
-          let reads : (told_in h k).reads ≡ reads_from job (state_n n) (λ x. 0) (length job.blocks) 0 =
-          ap (λ (x : Told). x.reads) (tells k n l at) ∙ ap (λ i. reads_from job (state_n n) (λ x. 0) i 0) (sym count) in
+          let reads : (record_in h k).reads ≡ reads_from job (state_n n) (λ x. 0) (length job.blocks) 0 =
+          ap (λ (x : Recorded). x.reads) (record_is k n l at) ∙ ap (λ i. reads_from job (state_n n) (λ x. 0) i 0) (sym count) in
           let follow : Following n 0 job.blocks = (λ i x e. let z : i ≡ 0 + i = omega arith in subst (λ v. slice_get job.blocks v ≡ Some x) z e) in
           let long : length sited.reads ≡ length (reads_from job (state_n n) (λ x. 0) (length job.blocks) 0) = ap length sites.reads ∙ blocks_count n 0 job.blocks follow in
           indexed sited h b k sited.reads [] (reads_from job (state_n n) (λ x. 0) (length job.blocks) 0) reads long

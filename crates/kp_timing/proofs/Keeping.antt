@@ -22,19 +22,19 @@ use Rattle.kp_machine.specs.Machine.{machine_of, state_of, values_in}
 use Rattle.kp_machine.proofs.Cases.{by_test}
 use Rattle.kp_machine.proofs.Stages.{stages_inside}
 use Rattle.kp_seq.specs.Running.{Running, state, after_one}
-use Rattle.kp_seq.specs.Told.{Told, results_of, setting_told, told_of}
-use Rattle.kp_seq.proofs.Telling.{all_told}
+use Rattle.kp_seq.specs.Recorded.{Recorded, results_of, setting_recorded, record_of}
+use Rattle.kp_seq.proofs.Recording.{all_recorded}
 use Rattle.kp_base.specs.declared.row.Row as masks
 use Rattle.kp_pipeline.specs.Rows.{bits}
 use Rattle.kp_sched.specs.Rows.{bit_of, row_seen}
 use Rattle.kp_timing.specs.Timed.{IsPlain, stalled_by}
 use Rattle.kp_timing.specs.inner.Sites.{Sited, AreSites}
 use Rattle.kp_timing.specs.declared.deciding.Found.{Found}
-use Rattle.kp_timing.specs.inner.Deciding.{Held, nothing_told, told_in, moves_by, taken_down, found_down, no_stage_found}
+use Rattle.kp_timing.specs.inner.Deciding.{Held, nothing_recorded, record_in, moves_by, taken_down, found_down, no_stage_found}
 use Rattle.kp_timing.specs.inner.Kept.{HasRoom, IsKept, Advances}
 use Rattle.kp_timing.proofs.Decisions.{AllFound, and_no, found, moves_is}
 use Rattle.kp_pipeline.proofs.Lists.{bits-same}
-use Rattle.kp_timing.proofs.Moving.{taken_counts, hold_first, hold_taken, told_up, told_kept, all_came_from}
+use Rattle.kp_timing.proofs.Moving.{taken_counts, hold_first, hold_taken, record_up, record_kept, all_came_from}
 
 -- a job that counts no samples has none
 sample_none : (ds : List Decl) → sum_by samples_in ds ≡ 0 → samples_of ds ≡ []
@@ -62,38 +62,38 @@ results_count (decls.Hint n width start ∷ ds) = let p = sum_by-cons results_in
 results_count (decls.Func f ∷ ds) = let p = sum_by-cons results_in (decls.Func f) ds in let q = results_count ds in omega (arith, p, q)
 
 -- what is reported about an instruction has its size
-pub told_room : (job : Job) (s : ℕ → ℕ → ℕ) (q : ℕ → ℕ) → length job.blocks ≡ job.stages.value → HasRoom job (told_of job s q)
-unfolding told_of summary_of
-told_room job s q e = record {
-  reads = all_told job s q e;
+pub record_room : (job : Job) (s : ℕ → ℕ → ℕ) (q : ℕ → ℕ) → length job.blocks ≡ job.stages.value → HasRoom job (record_of job s q)
+unfolding record_of summary_of
+record_room job s q e = record {
+  reads = all_recorded job s q e;
   writes = length-map (results_of job.decls) _ ∙ results_count job.decls;
-  settings = length-map (results_of job.decls) (setting_told job s q) ∙ results_count job.decls;
+  settings = length-map (results_of job.decls) (setting_recorded job s q) ∙ results_count job.decls;
 }
 
 -- so what was reported before can be replaced by a new report
-pub record FitsIn (job : Job) (told last : Told) : Type 0 where
-  pub reads : length told.reads ≡ length last.reads
-  pub writes : length told.writes ≡ length last.writes
-  pub settings : length told.settings ≡ length last.settings
-  pub few_reads : length told.reads < 2 ^ 32
-  pub few_writes : length told.writes < 2 ^ 32
-  pub few_settings : length told.settings < 2 ^ 32
+pub record FitsIn (job : Job) (recorded last : Recorded) : Type 0 where
+  pub reads : length recorded.reads ≡ length last.reads
+  pub writes : length recorded.writes ≡ length last.writes
+  pub settings : length recorded.settings ≡ length last.settings
+  pub few_reads : length recorded.reads < 2 ^ 32
+  pub few_writes : length recorded.writes < 2 ^ 32
+  pub few_settings : length recorded.settings < 2 ^ 32
 
-pub told_fits : (job : Job) (s : ℕ → ℕ → ℕ) (told last : Told) → length job.blocks ≡ job.stages.value → (summary_of job).reads < 2 ^ 32 → (summary_of job).results < 2 ^ 32
-    → HasRoom job told → last ≡ told_of job s (λ x. 0) → FitsIn job told last
-told_fits job s told last count reads results room e =
-    let there = told_room job s (λ x. 0) count in
+pub record_fits : (job : Job) (s : ℕ → ℕ → ℕ) (recorded last : Recorded) → length job.blocks ≡ job.stages.value → (summary_of job).reads < 2 ^ 32 → (summary_of job).results < 2 ^ 32
+    → HasRoom job recorded → last ≡ record_of job s (λ x. 0) → FitsIn job recorded last
+record_fits job s recorded last count reads results room e =
+    let there = record_room job s (λ x. 0) count in
     record {
-      reads = room.reads ∙ sym (ap (λ (x : Told). length x.reads) e ∙ there.reads);
-      writes = room.writes ∙ sym (ap (λ (x : Told). length x.writes) e ∙ there.writes);
-      settings = room.settings ∙ sym (ap (λ (x : Told). length x.settings) e ∙ there.settings);
+      reads = room.reads ∙ sym (ap (λ (x : Recorded). length x.reads) e ∙ there.reads);
+      writes = room.writes ∙ sym (ap (λ (x : Recorded). length x.writes) e ∙ there.writes);
+      settings = room.settings ∙ sym (ap (λ (x : Recorded). length x.settings) e ∙ there.settings);
       few_reads = subst (λ n. n < 2 ^ 32) (sym room.reads) reads;
       few_writes = subst (λ n. n < 2 ^ 32) (sym room.writes) results;
       few_settings = subst (λ n. n < 2 ^ 32) (sym room.settings) results;
     }
 
-pub rooms_taken : (job : Job) (b : List Bool) (d : ℕ) (h : Held) → d < length h.told → ((k : ℕ) → k < length h.told → HasRoom job (told_in h k))
-    → (k : ℕ) → k < length h.told → HasRoom job (told_in (taken_down b d h) k)
+pub rooms_taken : (job : Job) (b : List Bool) (d : ℕ) (h : Held) → d < length h.recorded → ((k : ℕ) → k < length h.recorded → HasRoom job (record_in h k))
+    → (k : ℕ) → k < length h.recorded → HasRoom job (record_in (taken_down b d h) k)
 rooms_taken job b d h l rooms k n = let from = all_came_from b d h k l n in subst (HasRoom job) (sym from.2) (rooms from.0 from.1)
 
 values_none : (x : ℕ) → values_in [] x ≡ 0
@@ -118,11 +118,11 @@ module _ (job : Job) (start : Start) (cycles : ℕ) (m : Running) (sited : Sited
   count : length job.blocks ≡ job.stages.value
   count = stages_inside job k.sites.rules
 
-  all : AllFound job k.sites.names sited k.sites begin h ext k.told 0 f
-  all = found job k.sites.names sited k.sites begin h ext k.told count k.plain.guesses k.few
+  all : AllFound job k.sites.names sited k.sites begin h ext k.recorded 0 f
+  all = found job k.sites.names sited k.sites begin h ext k.recorded count k.plain.guesses k.few
 
   pub moves_same : (j : ℕ) → j < job.stages.value → moves_by h f.blocked j ≡ moves_on machine begin holds (stalled_by ext) j
-  moves_same j l = moves_is job k.sites.names sited k.sites begin h ext k.told count k.plain.guesses k.few f j all l
+  moves_same j l = moves_is job k.sites.names sited k.sites begin h ext k.recorded count k.plain.guesses k.few f j all l
 
   pub waits_same : (j : ℕ) → j < job.stages.value → get_or f.waits j false ≡ waits machine begin holds (stalled_by ext) j
   waits_same j l = all.waits j (omega arith) l
@@ -136,7 +136,7 @@ module _ (job : Job) (start : Start) (cycles : ℕ) (m : Running) (sited : Sited
   inside : job.stages.value - 1 < length h.hold
   inside = let a = k.holds in let b = k.few in let c = k.some in omega arith
 
-  within : job.stages.value - 1 < length h.told
+  within : job.stages.value - 1 < length h.recorded
   within = let a = k.flights in let c = k.some in omega arith
 
   later : (i : ℕ) → suc i < job.stages.value → get_or T.hold (suc i) None ≡ next_hold machine begin holds (stalled_by ext) (suc i)
@@ -151,51 +151,51 @@ module _ (job : Job) (start : Start) (cycles : ℕ) (m : Running) (sited : Sited
       ∙ ap (λ x. cond (moves_on machine begin holds (stalled_by ext) i) (holds i) (cond (get_or f.blocked x false) (holds x) None)) z
       ∙ ap (λ c. cond (moves_on machine begin holds (stalled_by ext) i) (holds i) (cond c (holds (suc i)) None)) (all.blocked (suc i) (omega arith) l)
 
-  abbrev TellsAt : Held → ℕ → ℕ → Type 0
-  TellsAt x j i = told_in x j ≡ told_of job (seq machine begin no_samples i) (λ y. 0)
+  abbrev RecordedAt : Held → ℕ → ℕ → Type 0
+  RecordedAt x j i = record_in x j ≡ record_of job (seq machine begin no_samples i) (λ y. 0)
 
   stay_full : (j : ℕ) (c : Bool) (i : ℕ) → get_or f.blocked (j + 1) false ≡ c → cond c (holds (j + 1)) None ≡ Some i
       → (holds (j + 1) ≡ Some i) × (moves_by h f.blocked (j + 1) ≡ false)
   stay_full j true i e is = (is, ap (λ b. is_some (holds (j + 1)) && not b) e ∙ and_no (is_some (holds (j + 1))))
   stay_full j false i e is = cc
 
-  told_later : (j i : ℕ) → j + 1 < job.stages.value → get_or T.hold (j + 1) None ≡ Some i → TellsAt T (j + 1) i
-  told_later j i l e =
+  record_later : (j i : ℕ) → j + 1 < job.stages.value → get_or T.hold (j + 1) None ≡ Some i → RecordedAt T (j + 1) i
+  record_later j i l e =
       let low : j < job.stages.value - 1 = omega arith in
       let here : j < job.stages.value = omega arith in
       let taken = hold_taken f.blocked (job.stages.value - 1) h j inside low in
       by_test (moves_by h f.blocked j)
       (λ going.
       let from : holds j ≡ Some i = ap (λ c. cond c (holds j) (cond (get_or f.blocked (j + 1) false) (holds (j + 1)) None)) (sym going) ∙ sym taken ∙ e in
-      told_up f.blocked (job.stages.value - 1) h j within low going ∙ k.told j i here from)
+      record_up f.blocked (job.stages.value - 1) h j within low going ∙ k.recorded j i here from)
       (λ still.
       let from : cond (get_or f.blocked (j + 1) false) (holds (j + 1)) None ≡ Some i =
       ap (λ c. cond c (holds j) (cond (get_or f.blocked (j + 1) false) (holds (j + 1)) None)) (sym still) ∙ sym taken ∙ e in
       let stays = stay_full j (get_or f.blocked (j + 1) false) i refl from in
-      told_kept f.blocked (job.stages.value - 1) h (j + 1) within (omega arith)
+      record_kept f.blocked (job.stages.value - 1) h (j + 1) within (omega arith)
       (λ x q. let is : x ≡ j = omega arith in ap (moves_by h f.blocked) is ∙ still) (inr stays.1)
-      ∙ k.told (j + 1) i l stays.0)
+      ∙ k.recorded (j + 1) i l stays.0)
 
-  told_first : (i : ℕ) → moves_by h f.blocked 0 ≡ false → holds 0 ≡ Some i → TellsAt T 0 i
-  told_first i still e =
-      told_kept f.blocked (job.stages.value - 1) h 0 within (omega arith) (λ x q. absurd (omega arith)) (inr still) ∙ k.told 0 i (let a = k.some in omega arith) e
+  record_first : (i : ℕ) → moves_by h f.blocked 0 ≡ false → holds 0 ≡ Some i → RecordedAt T 0 i
+  record_first i still e =
+      record_kept f.blocked (job.stages.value - 1) h 0 within (omega arith) (λ x q. absurd (omega arith)) (inr still) ∙ k.recorded 0 i (let a = k.some in omega arith) e
 
-  room_T : (j : ℕ) → j < job.stages.value → HasRoom job (told_in T j)
+  room_T : (j : ℕ) → j < job.stages.value → HasRoom job (record_in T j)
   room_T j l =
       let n = k.flights in
       rooms_taken job f.blocked (job.stages.value - 1) h within (λ x q. k.room x (omega arith)) j (omega arith)
 
   module _ (m2 : Running) (h2 : Held) (ad : Advances m h f.blocked job.stages.value m2 h2) where
-    counts : (length h2.hold ≡ 12) × (length h2.told ≡ job.stages.value)
+    counts : (length h2.hold ≡ 12) × (length h2.recorded ≡ job.stages.value)
     counts = by_test (moves_by h f.blocked 0)
         (λ going.
         let e = (ad.moved going).held in
         let t = taken_counts f.blocked (job.stages.value - 1) h in
-        (ap (λ (x : Held). length x.hold) e ∙ length-set T.hold 0 _ ∙ t.0 ∙ k.holds, ap (λ (x : Held). length x.told) e ∙ length-set T.told 0 m2.last ∙ t.1 ∙ k.flights))
+        (ap (λ (x : Held). length x.hold) e ∙ length-set T.hold 0 _ ∙ t.0 ∙ k.holds, ap (λ (x : Held). length x.recorded) e ∙ length-set T.recorded 0 m2.last ∙ t.1 ∙ k.flights))
         (λ still.
         let e = (ad.stayed still).1 in
         let t = taken_counts f.blocked (job.stages.value - 1) h in
-        (ap (λ (x : Held). length x.hold) e ∙ t.0 ∙ k.holds, ap (λ (x : Held). length x.told) e ∙ t.1 ∙ k.flights))
+        (ap (λ (x : Held). length x.hold) e ∙ t.0 ∙ k.holds, ap (λ (x : Held). length x.recorded) e ∙ t.1 ∙ k.flights))
 
     first_T : get_or T.hold 0 None ≡ Some newest
     first_T = hold_first f.blocked (job.stages.value - 1) h ∙ k.newest
@@ -227,38 +227,38 @@ module _ (job : Job) (start : Start) (cycles : ℕ) (m : Running) (sited : Sited
         (λ still. first_stayed still ∙ sym k.newest ∙ ap (λ c. cond c (next_number (holds 0)) (holds 0)) (sym still ∙ moves_same 0 l))
     hold_next (suc j) l = hold_other_of j ∙ later j l
 
-    told_other_of : (j : ℕ) → told_in h2 (suc j) ≡ told_in T (suc j)
-    told_other_of j = by_test (moves_by h f.blocked 0)
-        (λ going. ap (λ (x : Held). told_in x (suc j)) (ad.moved going).held ∙ get_or-set_other T.told 0 (suc j) m2.last _ (λ q. omega arith))
-        (λ still. ap (λ (x : Held). told_in x (suc j)) (ad.stayed still).1)
+    record_other_of : (j : ℕ) → record_in h2 (suc j) ≡ record_in T (suc j)
+    record_other_of j = by_test (moves_by h f.blocked 0)
+        (λ going. ap (λ (x : Held). record_in x (suc j)) (ad.moved going).held ∙ get_or-set_other T.recorded 0 (suc j) m2.last _ (λ q. omega arith))
+        (λ still. ap (λ (x : Held). record_in x (suc j)) (ad.stayed still).1)
 
-    ran : m2.last ≡ told_of m.job (state m) (λ x. 0) → m2.last ≡ told_of job (seq machine begin no_samples (suc newest)) (λ x. 0)
-    ran e = e ∙ ap (λ x. told_of x (state m) (λ y. 0)) k.job_is ∙ ap (λ x. told_of job x (λ y. 0)) k.state_is
+    ran : m2.last ≡ record_of m.job (state m) (λ x. 0) → m2.last ≡ record_of job (seq machine begin no_samples (suc newest)) (λ x. 0)
+    ran e = e ∙ ap (λ x. record_of x (state m) (λ y. 0)) k.job_is ∙ ap (λ x. record_of job x (λ y. 0)) k.state_is
 
-    pub told_next : (j i : ℕ) → j < job.stages.value → get_or h2.hold j None ≡ Some i → TellsAt h2 j i
-    told_next zero i l e = by_test (moves_by h f.blocked 0)
+    pub record_next : (j i : ℕ) → j < job.stages.value → get_or h2.hold j None ≡ Some i → RecordedAt h2 j i
+    record_next zero i l e = by_test (moves_by h f.blocked 0)
         (λ going.
         let t = (taken_counts f.blocked (job.stages.value - 1) h).1 in
         let n = k.flights in
         let o : Some (suc newest) ≡ Some i = sym (first_moved going) ∙ e in
         let is : suc newest ≡ i = cc in
-        ap (λ (x : Held). told_in x 0) (ad.moved going).held ∙ get_or-set_same T.told 0 m2.last _ (omega arith)
-        ∙ ran (ad.moved going).told ∙ ap (λ x. told_of job (seq machine begin no_samples x) (λ y. 0)) is)
-        (λ still. ap (λ (x : Held). told_in x 0) (ad.stayed still).1 ∙ told_first i still (k.newest ∙ sym (first_stayed still) ∙ e))
-    told_next (suc j) i l e =
+        ap (λ (x : Held). record_in x 0) (ad.moved going).held ∙ get_or-set_same T.recorded 0 m2.last _ (omega arith)
+        ∙ ran (ad.moved going).recorded ∙ ap (λ x. record_of job (seq machine begin no_samples x) (λ y. 0)) is)
+        (λ still. ap (λ (x : Held). record_in x 0) (ad.stayed still).1 ∙ record_first i still (k.newest ∙ sym (first_stayed still) ∙ e))
+    record_next (suc j) i l e =
         let z : j + 1 ≡ suc j = omega arith in
         let at : get_or T.hold (j + 1) None ≡ Some i = ap (λ x. get_or T.hold x None) z ∙ sym (hold_other_of j) ∙ e in
-        told_other_of j ∙ ap (told_in T) (sym z) ∙ told_later j i (omega arith) at
+        record_other_of j ∙ ap (record_in T) (sym z) ∙ record_later j i (omega arith) at
 
-    room_next : (j : ℕ) → j < job.stages.value → HasRoom job (told_in h2 j)
+    room_next : (j : ℕ) → j < job.stages.value → HasRoom job (record_in h2 j)
     room_next zero l = by_test (moves_by h f.blocked 0)
         (λ going.
         let t = (taken_counts f.blocked (job.stages.value - 1) h).1 in
         let n = k.flights in
-        subst (HasRoom job) (sym (ap (λ (x : Held). told_in x 0) (ad.moved going).held ∙ get_or-set_same T.told 0 m2.last _ (omega arith) ∙ ran (ad.moved going).told))
-        (told_room job (seq machine begin no_samples (suc newest)) (λ x. 0) count))
-        (λ still. subst (HasRoom job) (sym (ap (λ (x : Held). told_in x 0) (ad.stayed still).1)) (room_T 0 l))
-    room_next (suc j) l = subst (HasRoom job) (sym (told_other_of j)) (room_T (suc j) l)
+        subst (HasRoom job) (sym (ap (λ (x : Held). record_in x 0) (ad.moved going).held ∙ get_or-set_same T.recorded 0 m2.last _ (omega arith) ∙ ran (ad.moved going).recorded))
+        (record_room job (seq machine begin no_samples (suc newest)) (λ x. 0) count))
+        (λ still. subst (HasRoom job) (sym (ap (λ (x : Held). record_in x 0) (ad.stayed still).1)) (room_T 0 l))
+    room_next (suc j) l = subst (HasRoom job) (sym (record_other_of j)) (room_T (suc j) l)
 
     stepped : state m2 ≡ after_one m.job (state m) [] → state m2 ≡ seq machine begin no_samples (suc (suc newest))
     unfolding seq
@@ -284,7 +284,7 @@ module _ (job : Job) (start : Start) (cycles : ℕ) (m : Running) (sited : Sited
           newest = e ∙ ap (λ o. Some (unwrap_or o 0)) (sym e);
           bound = subst (λ o. unwrap_or o 0 ≤ cycles + 1) (sym e) bound;
           state_is = st ∙ ap (λ o. seq machine begin no_samples (suc (unwrap_or o 0))) (sym e);
-          told = told_next;
+          recorded = record_next;
         }
 
 -- a row, bit by bit
@@ -318,17 +318,17 @@ pub opened_hold : (k : ℕ) → get_or first_hold k None ≡ start_hold k
 opened_hold zero = refl
 opened_hold (suc k) = empty_later 11 k
 
-told_only_first : (job : Job) (s : ℕ → ℕ → ℕ) (told : List Told) → get_or told 0 nothing_told ≡ told_of job s (λ x. 0) → (k i : ℕ) → get_or first_hold k None ≡ Some i
-    → get_or told k nothing_told ≡ told_of job (seq (machine_of job) s no_samples i) (λ x. 0)
+record_only_first : (job : Job) (s : ℕ → ℕ → ℕ) (recorded : List Recorded) → get_or recorded 0 nothing_recorded ≡ record_of job s (λ x. 0) → (k i : ℕ) → get_or first_hold k None ≡ Some i
+    → get_or recorded k nothing_recorded ≡ record_of job (seq (machine_of job) s no_samples i) (λ x. 0)
 unfolding seq
-told_only_first job s told e zero i is = let z : 0 ≡ i = cc in e ∙ ap (λ n. told_of job (seq (machine_of job) s no_samples n) (λ x. 0)) z
-told_only_first job s told e (suc k) i is = let z : None ≡ Some i = sym (empty_later 11 k) ∙ is in cc
+record_only_first job s recorded e zero i is = let z : 0 ≡ i = cc in e ∙ ap (λ n. record_of job (seq (machine_of job) s no_samples n) (λ x. 0)) z
+record_only_first job s recorded e (suc k) i is = let z : None ≡ Some i = sym (empty_later 11 k) ∙ is in cc
 
-pub kept_first : (job : Job) (start : Start) (m : Running) (sited : Sited) (told : List Told) → IsPlain job → AreSites job sited → (summary_of job).reads < 2 ^ 32 → (summary_of job).results < 2 ^ 32
-    → length told ≡ job.stages.value → ((k : ℕ) → k < job.stages.value → HasRoom job (get_or told k nothing_told)) → m.job ≡ job → state m ≡ after_one job (state_of job start) []
-    → get_or told 0 nothing_told ≡ told_of job (state_of job start) (λ x. 0) → IsKept job start 0 m sited (record { hold = first_hold; told = told })
+pub kept_first : (job : Job) (start : Start) (m : Running) (sited : Sited) (recorded : List Recorded) → IsPlain job → AreSites job sited → (summary_of job).reads < 2 ^ 32 → (summary_of job).results < 2 ^ 32
+    → length recorded ≡ job.stages.value → ((k : ℕ) → k < job.stages.value → HasRoom job (get_or recorded k nothing_recorded)) → m.job ≡ job → state m ≡ after_one job (state_of job start) []
+    → get_or recorded 0 nothing_recorded ≡ record_of job (state_of job start) (λ x. 0) → IsKept job start 0 m sited (record { hold = first_hold; recorded = recorded })
 unfolding seq
-kept_first job start m sited told plain sites reads results count room is st e =
+kept_first job start m sited recorded plain sites reads results count room is st e =
     let few = few_stages job sites.rules in
     let low = few.0 in
     record {
@@ -345,66 +345,66 @@ kept_first job start m sited told plain sites reads results count room is st e =
       newest = refl;
       bound = omega arith;
       state_is = st;
-      told = λ k i l h. told_only_first job (state_of job start) told e k i h;
+      recorded = λ k i l h. record_only_first job (state_of job start) recorded e k i h;
     }
 
 -- the timeline that was opened: the machine was opened, and executed instruction 0
-pub kept_opened : (job : Job) (start : Start) (m0 m : Running) (sited : Sited) (told : List Told) → IsPlain job → AreSites job sited
-    → (summary_of job).reads < 2 ^ 32 → (summary_of job).results < 2 ^ 32 → length told ≡ job.stages.value
-    → ((k : ℕ) → k < job.stages.value → HasRoom job (get_or told k nothing_told)) → m0.job ≡ job → state m0 ≡ state_of job start
-    → m.job ≡ m0.job → state m ≡ after_one m0.job (state m0) [] → m.last ≡ told_of m0.job (state m0) (λ x. 0)
-    → IsKept job start 0 m sited (record { hold = first_hold; told = set told 0 m.last })
-kept_opened job start m0 m sited told plain sites reads results count room is0 st0 is st e =
+pub kept_opened : (job : Job) (start : Start) (m0 m : Running) (sited : Sited) (recorded : List Recorded) → IsPlain job → AreSites job sited
+    → (summary_of job).reads < 2 ^ 32 → (summary_of job).results < 2 ^ 32 → length recorded ≡ job.stages.value
+    → ((k : ℕ) → k < job.stages.value → HasRoom job (get_or recorded k nothing_recorded)) → m0.job ≡ job → state m0 ≡ state_of job start
+    → m.job ≡ m0.job → state m ≡ after_one m0.job (state m0) [] → m.last ≡ record_of m0.job (state m0) (λ x. 0)
+    → IsKept job start 0 m sited (record { hold = first_hold; recorded = set recorded 0 m.last })
+kept_opened job start m0 m sited recorded plain sites reads results count room is0 st0 is st e =
     let few = few_stages job sites.rules in
     let low = few.0 in
     let blocks = stages_inside job sites.rules in
     let run : state m ≡ after_one job (state_of job start) [] = st ∙ ap (λ (x : Job). after_one x (state m0) []) is0 ∙ ap (λ x. after_one job x []) st0 in
-    let tells : m.last ≡ told_of job (state_of job start) (λ x. 0) = e ∙ ap (λ (x : Job). told_of x (state m0) (λ y. 0)) is0 ∙ ap (λ x. told_of job x (λ y. 0)) st0 in
-    let first : get_or (set told 0 m.last) 0 nothing_told ≡ m.last = get_or-set_same told 0 m.last nothing_told (omega (arith, count, low)) in
-    kept_first job start m sited (set told 0 m.last) plain sites reads results (length-set told 0 m.last ∙ count)
-    (λ k l. rooms k l first (subst (HasRoom job) (sym tells) (told_room job (state_of job start) (λ x. 0) blocks))) (is ∙ is0) run (first ∙ tells)
+    let record_is : m.last ≡ record_of job (state_of job start) (λ x. 0) = e ∙ ap (λ (x : Job). record_of x (state m0) (λ y. 0)) is0 ∙ ap (λ x. record_of job x (λ y. 0)) st0 in
+    let first : get_or (set recorded 0 m.last) 0 nothing_recorded ≡ m.last = get_or-set_same recorded 0 m.last nothing_recorded (omega (arith, count, low)) in
+    kept_first job start m sited (set recorded 0 m.last) plain sites reads results (length-set recorded 0 m.last ∙ count)
+    (λ k l. rooms k l first (subst (HasRoom job) (sym record_is) (record_room job (state_of job start) (λ x. 0) blocks))) (is ∙ is0) run (first ∙ record_is)
   where
-    rooms : (k : ℕ) → k < job.stages.value → get_or (set told 0 m.last) 0 nothing_told ≡ m.last → HasRoom job m.last → HasRoom job (get_or (set told 0 m.last) k nothing_told)
+    rooms : (k : ℕ) → k < job.stages.value → get_or (set recorded 0 m.last) 0 nothing_recorded ≡ m.last → HasRoom job m.last → HasRoom job (get_or (set recorded 0 m.last) k nothing_recorded)
     rooms zero l first here = subst (HasRoom job) (sym first) here
-    rooms (suc k) l first here = subst (HasRoom job) (sym (get_or-set_other told 0 (suc k) m.last nothing_told (λ q. omega arith))) (room (suc k) l)
+    rooms (suc k) l first here = subst (HasRoom job) (sym (get_or-set_other recorded 0 (suc k) m.last nothing_recorded (λ q. omega arith))) (room (suc k) l)
 
 -- after the instructions have moved on, the next one can be executed
 pub record CanFetch (job : Job) (h h2 : Held) : Type 0 where
   pub hold : length h2.hold ≡ 12
-  pub flights : 1 ≤ length h2.told
-  pub room : HasRoom job (told_in h2 0)
+  pub flights : 1 ≤ length h2.recorded
+  pub room : HasRoom job (record_in h2 0)
   pub first : get_or h2.hold 0 None ≡ get_or h.hold 0 None
 
-pub can_fetch : (job : Job) (b : List Bool) (n : ℕ) (h h2 : Held) → h2 ≡ taken_down b (n - 1) h → length h.hold ≡ 12 → length h.told ≡ n → 1 ≤ n
-    → ((k : ℕ) → k < n → HasRoom job (told_in h k)) → CanFetch job h h2
-can_fetch job b n h h2 e hold told some rooms =
+pub can_fetch : (job : Job) (b : List Bool) (n : ℕ) (h h2 : Held) → h2 ≡ taken_down b (n - 1) h → length h.hold ≡ 12 → length h.recorded ≡ n → 1 ≤ n
+    → ((k : ℕ) → k < n → HasRoom job (record_in h k)) → CanFetch job h h2
+can_fetch job b n h h2 e hold recorded some rooms =
     let t = taken_counts b (n - 1) h in
-    let c : length h2.told ≡ n = ap (λ (x : Held). length x.told) e ∙ t.1 ∙ told in
+    let c : length h2.recorded ≡ n = ap (λ (x : Held). length x.recorded) e ∙ t.1 ∙ recorded in
     record {
       hold = ap (λ (x : Held). length x.hold) e ∙ t.0 ∙ hold;
       flights = omega (arith, c, some);
-      room = subst (λ (x : Held). HasRoom job (told_in x 0)) (sym e)
-          (rooms_taken job b (n - 1) h (omega (arith, told, some)) (λ k l. rooms k (omega (arith, l, told))) 0 (omega (arith, told, some)));
+      room = subst (λ (x : Held). HasRoom job (record_in x 0)) (sym e)
+          (rooms_taken job b (n - 1) h (omega (arith, recorded, some)) (λ k l. rooms k (omega (arith, l, recorded))) 0 (omega (arith, recorded, some)));
       first = ap (λ (x : Held). get_or x.hold 0 None) e ∙ hold_first b (n - 1) h;
     }
 
 -- the first instruction can be executed
-pub record CanRun (m : Running) (told : List Told) : Type 0 where
+pub record CanRun (m : Running) (recorded : List Recorded) : Type 0 where
   pub samples : samples_of m.job.decls ≡ []
-  pub flights : 1 ≤ length told
-  pub room : HasRoom m.job (get_or told 0 nothing_told)
+  pub flights : 1 ≤ length recorded
+  pub room : HasRoom m.job (get_or recorded 0 nothing_recorded)
   pub reads : (summary_of m.job).reads < 2 ^ 32
   pub results : (summary_of m.job).results < 2 ^ 32
   pub blocks : length m.job.blocks ≡ m.job.stages.value
 
-pub can_run : (job : Job) (m : Running) (told : List Told) → IsPlain job → broken_of job ≡ None → m.job ≡ job → length told ≡ job.stages.value
-    → (summary_of job).reads < 2 ^ 32 → (summary_of job).results < 2 ^ 32 → ((k : ℕ) → k < job.stages.value → HasRoom job (get_or told k nothing_told)) → CanRun m told
-can_run job m told plain rules is count reads results room =
+pub can_run : (job : Job) (m : Running) (recorded : List Recorded) → IsPlain job → broken_of job ≡ None → m.job ≡ job → length recorded ≡ job.stages.value
+    → (summary_of job).reads < 2 ^ 32 → (summary_of job).results < 2 ^ 32 → ((k : ℕ) → k < job.stages.value → HasRoom job (get_or recorded k nothing_recorded)) → CanRun m recorded
+can_run job m recorded plain rules is count reads results room =
     let few = (few_stages job rules).0 in
     record {
       samples = subst (λ (x : Job). samples_of x.decls ≡ []) (sym is) (no_samples_declared job plain.samples);
       flights = omega (arith, few, count);
-      room = subst (λ (x : Job). HasRoom x (get_or told 0 nothing_told)) (sym is) (room 0 (omega (arith, few)));
+      room = subst (λ (x : Job). HasRoom x (get_or recorded 0 nothing_recorded)) (sym is) (room 0 (omega (arith, few)));
       reads = subst (λ (x : Job). (summary_of x).reads < 2 ^ 32) (sym is) reads;
       results = subst (λ (x : Job). (summary_of x).results < 2 ^ 32) (sym is) results;
       blocks = subst (λ (x : Job). length x.blocks ≡ x.stages.value) (sym is) (stages_inside job rules);

@@ -5,7 +5,7 @@ use Rattle.std.specs.List.{swap}
 use Rattle.std.proofs.lemmas.Bool.{cases_lt}
 use Rattle.std.proofs.lemmas.List.{length-set, get_or-set_same, get_or-set_other}
 use Rattle.std.proofs.lemmas.List.Edits.{swap_is}
-use Rattle.kp_timing.specs.inner.Deciding.{Held, nothing_told, told_in, moves_by, taken_by, taken_down}
+use Rattle.kp_timing.specs.inner.Deciding.{Held, nothing_recorded, record_in, moves_by, taken_by, taken_down}
 
 swap_count : {X : Type 0} (xs : List X) (i j : ℕ) → length (swap xs i j) ≡ length xs
 swap_count [] i j = refl
@@ -24,17 +24,17 @@ swap_other xs i j k d l m p q =
 -- one stage, if the one below moves on or not, and it is blocked or not
 abbrev step : Bool → Bool → Held → ℕ → Held
 step c e h d =
-    cond c (record { hold = set h.hold (d + 1) (get_or h.hold d None); told = swap h.told d (d + 1) }) (cond e h (record h { hold = set h.hold (d + 1) None }))
+    cond c (record { hold = set h.hold (d + 1) (get_or h.hold d None); recorded = swap h.recorded d (d + 1) }) (cond e h (record h { hold = set h.hold (d + 1) None }))
 
 hold_count : (c e : Bool) (h : Held) (d : ℕ) → length (step c e h d).hold ≡ length h.hold
 hold_count true e h d = length-set h.hold (d + 1) (get_or h.hold d None)
 hold_count false true h d = refl
 hold_count false false h d = length-set h.hold (d + 1) None
 
-told_count : (c e : Bool) (h : Held) (d : ℕ) → length (step c e h d).told ≡ length h.told
-told_count true e h d = swap_count h.told d (d + 1)
-told_count false true h d = refl
-told_count false false h d = refl
+record_count : (c e : Bool) (h : Held) (d : ℕ) → length (step c e h d).recorded ≡ length h.recorded
+record_count true e h d = swap_count h.recorded d (d + 1)
+record_count false true h d = refl
+record_count false false h d = refl
 
 hold_other : (c e : Bool) (h : Held) (d k : ℕ) → k ≢ d + 1 → get_or (step c e h d).hold k None ≡ get_or h.hold k None
 hold_other true e h d k p = get_or-set_other h.hold (d + 1) k (get_or h.hold d None) None p
@@ -47,19 +47,19 @@ hold_here true e h d l = get_or-set_same h.hold (d + 1) (get_or h.hold d None) N
 hold_here false true h d l = refl
 hold_here false false h d l = get_or-set_same h.hold (d + 1) None None l
 
-told_other : (c e : Bool) (h : Held) (d k : ℕ) → d + 1 < length h.told → k ≢ d → k ≢ d + 1 → told_in (step c e h d) k ≡ told_in h k
-told_other true e h d k l p q = swap_other h.told d (d + 1) k nothing_told (omega arith) l p q
-told_other false true h d k l p q = refl
-told_other false false h d k l p q = refl
+record_other : (c e : Bool) (h : Held) (d k : ℕ) → d + 1 < length h.recorded → k ≢ d → k ≢ d + 1 → record_in (step c e h d) k ≡ record_in h k
+record_other true e h d k l p q = swap_other h.recorded d (d + 1) k nothing_recorded (omega arith) l p q
+record_other false true h d k l p q = refl
+record_other false false h d k l p q = refl
 
-told_moved : (c e : Bool) (h : Held) (d : ℕ) → d + 1 < length h.told → c ≡ true → told_in (step c e h d) (d + 1) ≡ told_in h d
-told_moved true e h d l p = swap_to h.told d (d + 1) nothing_told (omega arith) l
-told_moved false e h d l p = cc
+record_moved : (c e : Bool) (h : Held) (d : ℕ) → d + 1 < length h.recorded → c ≡ true → record_in (step c e h d) (d + 1) ≡ record_in h d
+record_moved true e h d l p = swap_to h.recorded d (d + 1) nothing_recorded (omega arith) l
+record_moved false e h d l p = cc
 
-told_stays : (c e : Bool) (h : Held) (d k : ℕ) → c ≡ false → told_in (step c e h d) k ≡ told_in h k
-told_stays true e h d k p = cc
-told_stays false true h d k p = refl
-told_stays false false h d k p = refl
+record_stays : (c e : Bool) (h : Held) (d k : ℕ) → c ≡ false → record_in (step c e h d) k ≡ record_in h k
+record_stays true e h d k p = cc
+record_stays false true h d k p = refl
+record_stays false false h d k p = refl
 
 module _ (b : List Bool) where
   abbrev next : Held → ℕ → Held
@@ -71,25 +71,25 @@ module _ (b : List Bool) where
   abbrev e_of : ℕ → Bool
   e_of d = get_or b (d + 1) false
 
-  pub taken_count : (h : Held) (d : ℕ) → (length (taken_by b h d).hold ≡ length h.hold) × (length (taken_by b h d).told ≡ length h.told)
-  taken_count h d = (hold_count (c_of h d) (e_of d) h d, told_count (c_of h d) (e_of d) h d)
+  pub taken_count : (h : Held) (d : ℕ) → (length (taken_by b h d).hold ≡ length h.hold) × (length (taken_by b h d).recorded ≡ length h.recorded)
+  taken_count h d = (hold_count (c_of h d) (e_of d) h d, record_count (c_of h d) (e_of d) h d)
 
-  pub taken_counts : (d : ℕ) (h : Held) → (length (taken_down b d h).hold ≡ length h.hold) × (length (taken_down b d h).told ≡ length h.told)
+  pub taken_counts : (d : ℕ) (h : Held) → (length (taken_down b d h).hold ≡ length h.hold) × (length (taken_down b d h).recorded ≡ length h.recorded)
   taken_counts zero h = (refl, refl)
   taken_counts (suc d) h =
       let r = taken_counts d (next h d) in
-      (r.0 ∙ hold_count (c_of h d) (e_of d) h d, r.1 ∙ told_count (c_of h d) (e_of d) h d)
+      (r.0 ∙ hold_count (c_of h d) (e_of d) h d, r.1 ∙ record_count (c_of h d) (e_of d) h d)
 
   -- above the stages that are processed nothing changes
   hold_above : (d : ℕ) (h : Held) (j : ℕ) → d < j → get_or (taken_down b d h).hold j None ≡ get_or h.hold j None
   hold_above zero h j l = refl
   hold_above (suc d) h j l = hold_above d (next h d) j (omega arith) ∙ hold_other (c_of h d) (e_of d) h d j (λ q. omega arith)
 
-  told_above : (d : ℕ) (h : Held) (j : ℕ) → d < length h.told → d < j → told_in (taken_down b d h) j ≡ told_in h j
-  told_above zero h j n l = refl
-  told_above (suc d) h j n l =
-      let t = told_count (c_of h d) (e_of d) h d in
-      told_above d (next h d) j (omega (arith, t)) (omega arith) ∙ told_other (c_of h d) (e_of d) h d j (omega arith) (λ q. omega arith) (λ q. omega arith)
+  record_above : (d : ℕ) (h : Held) (j : ℕ) → d < length h.recorded → d < j → record_in (taken_down b d h) j ≡ record_in h j
+  record_above zero h j n l = refl
+  record_above (suc d) h j n l =
+      let t = record_count (c_of h d) (e_of d) h d in
+      record_above d (next h d) j (omega (arith, t)) (omega arith) ∙ record_other (c_of h d) (e_of d) h d j (omega arith) (λ q. omega arith) (λ q. omega arith)
 
   -- nor does stage 0
   pub hold_first : (d : ℕ) (h : Held) → get_or (taken_down b d h).hold 0 None ≡ get_or h.hold 0 None
@@ -118,41 +118,41 @@ module _ (b : List Bool) where
       (cases_lt j d)
 
   -- a report moves with an instruction that moves on
-  pub told_up : (d : ℕ) (h : Held) (j : ℕ) → d < length h.told → j < d → moves_by h b j ≡ true → told_in (taken_down b d h) (j + 1) ≡ told_in h j
-  told_up zero h j n l m = absurd (omega arith)
-  told_up (suc d) h j n l m = ⊎_elim
+  pub record_up : (d : ℕ) (h : Held) (j : ℕ) → d < length h.recorded → j < d → moves_by h b j ≡ true → record_in (taken_down b d h) (j + 1) ≡ record_in h j
+  record_up zero h j n l m = absurd (omega arith)
+  record_up (suc d) h j n l m = ⊎_elim
       (λ (lt : j < d).
-      let t = told_count (c_of h d) (e_of d) h d in
-      told_up d (next h d) j (omega (arith, t)) lt (moves_below h d j (omega arith) ∙ m)
-      ∙ told_other (c_of h d) (e_of d) h d j (omega arith) (λ q. omega arith) (λ q. omega arith))
+      let t = record_count (c_of h d) (e_of d) h d in
+      record_up d (next h d) j (omega (arith, t)) lt (moves_below h d j (omega arith) ∙ m)
+      ∙ record_other (c_of h d) (e_of d) h d j (omega arith) (λ q. omega arith) (λ q. omega arith))
       (λ (ge : d ≤ j).
       let is : d ≡ j = omega arith in
-      let t = told_count (c_of h d) (e_of d) h d in
-      told_above d (next h d) (j + 1) (omega (arith, t)) (omega arith)
-      ∙ subst (λ i. told_in (next h d) (i + 1) ≡ told_in h i) is (told_moved (c_of h d) (e_of d) h d (omega arith) (ap (moves_by h b) is ∙ m)))
+      let t = record_count (c_of h d) (e_of d) h d in
+      record_above d (next h d) (j + 1) (omega (arith, t)) (omega arith)
+      ∙ subst (λ i. record_in (next h d) (i + 1) ≡ record_in h i) is (record_moved (c_of h d) (e_of d) h d (omega arith) (ap (moves_by h b) is ∙ m)))
       (cases_lt j d)
 
   -- and stays with one that stays
-  pub told_kept : (d : ℕ) (h : Held) (j : ℕ) → d < length h.told → j ≤ d → ((i : ℕ) → j ≡ i + 1 → moves_by h b i ≡ false) → ((j ≡ d) ⊎ (moves_by h b j ≡ false))
-      → told_in (taken_down b d h) j ≡ told_in h j
-  told_kept zero h j n l m o = refl
-  told_kept (suc d) h j n l m o = ⊎_elim
+  pub record_kept : (d : ℕ) (h : Held) (j : ℕ) → d < length h.recorded → j ≤ d → ((i : ℕ) → j ≡ i + 1 → moves_by h b i ≡ false) → ((j ≡ d) ⊎ (moves_by h b j ≡ false))
+      → record_in (taken_down b d h) j ≡ record_in h j
+  record_kept zero h j n l m o = refl
+  record_kept (suc d) h j n l m o = ⊎_elim
       (λ (lt : j < d).
-      let t = told_count (c_of h d) (e_of d) h d in
+      let t = record_count (c_of h d) (e_of d) h d in
       let stays : moves_by h b j ≡ false = ⊎_elim (λ (q : j ≡ suc d). absurd (omega arith)) (λ (q : moves_by h b j ≡ false). q) o in
-      told_kept d (next h d) j (omega (arith, t)) (omega arith) (λ i q. moves_below h d i (omega arith) ∙ m i q) (inr (moves_below h d j (omega arith) ∙ stays))
-      ∙ told_other (c_of h d) (e_of d) h d j (omega arith) (λ q. omega arith) (λ q. omega arith))
+      record_kept d (next h d) j (omega (arith, t)) (omega arith) (λ i q. moves_below h d i (omega arith) ∙ m i q) (inr (moves_below h d j (omega arith) ∙ stays))
+      ∙ record_other (c_of h d) (e_of d) h d j (omega arith) (λ q. omega arith) (λ q. omega arith))
       (λ (ge : d ≤ j). ⊎_elim
       (λ (gt : d < j).
       let is : j ≡ d + 1 = omega arith in
-      let t = told_count (c_of h d) (e_of d) h d in
-      told_above d (next h d) j (omega (arith, t)) gt ∙ told_stays (c_of h d) (e_of d) h d j (m d is))
+      let t = record_count (c_of h d) (e_of d) h d in
+      record_above d (next h d) j (omega (arith, t)) gt ∙ record_stays (c_of h d) (e_of d) h d j (m d is))
       (λ (le : j ≤ d).
       let is : j ≡ d = omega arith in
-      let t = told_count (c_of h d) (e_of d) h d in
+      let t = record_count (c_of h d) (e_of d) h d in
       let stays : moves_by h b j ≡ false = ⊎_elim (λ (q : j ≡ suc d). absurd (omega arith)) (λ (q : moves_by h b j ≡ false). q) o in
-      told_kept d (next h d) j (omega (arith, t)) (omega arith) (λ i q. moves_below h d i (omega arith) ∙ m i q) (inl is)
-      ∙ told_stays (c_of h d) (e_of d) h d j (ap (moves_by h b) (sym is) ∙ stays))
+      record_kept d (next h d) j (omega (arith, t)) (omega arith) (λ i q. moves_below h d i (omega arith) ∙ m i q) (inl is)
+      ∙ record_stays (c_of h d) (e_of d) h d j (ap (moves_by h b) (sym is) ∙ stays))
       (cases_lt d j))
       (cases_lt j d)
 
@@ -162,35 +162,35 @@ swap_from xs i j d l m p =
     ∙ get_or-set_other (set xs i (get_or xs j d)) j i (get_or xs i d) d p ∙ get_or-set_same xs i (get_or xs j d) d l
 
 -- the report in a stage after one stage has moved was that of some stage before
-pub came_from : (b : List Bool) (h : Held) (d j : ℕ) → d + 1 < length h.told → j < length h.told
-    → (i : ℕ) × (i < length h.told) × (told_in (taken_by b h d) j ≡ told_in h i)
+pub came_from : (b : List Bool) (h : Held) (d j : ℕ) → d + 1 < length h.recorded → j < length h.recorded
+    → (i : ℕ) × (i < length h.recorded) × (record_in (taken_by b h d) j ≡ record_in h i)
 came_from b h d j l n = by_move (moves_by h b d) (get_or b (d + 1) false)
   where
-    by_move : (c e : Bool) → (i : ℕ) × (i < length h.told) × (told_in (step c e h d) j ≡ told_in h i)
+    by_move : (c e : Bool) → (i : ℕ) × (i < length h.recorded) × (record_in (step c e h d) j ≡ record_in h i)
     by_move true e = ⊎_elim
-        (λ (lt : j < d). (j, n, told_other true e h d j l (λ q. omega arith) (λ q. omega arith)))
+        (λ (lt : j < d). (j, n, record_other true e h d j l (λ q. omega arith) (λ q. omega arith)))
         (λ (ge : d ≤ j). ⊎_elim
         (λ (gt : d < j). ⊎_elim
-        (λ (more : d + 1 < j). (j, n, told_other true e h d j l (λ q. omega arith) (λ q. omega arith)))
+        (λ (more : d + 1 < j). (j, n, record_other true e h d j l (λ q. omega arith) (λ q. omega arith)))
         (λ (le : j ≤ d + 1).
         let is : d + 1 ≡ j = omega arith in
-        (d, omega arith, subst (λ x. told_in (step true e h d) x ≡ told_in h d) is (told_moved true e h d l refl)))
+        (d, omega arith, subst (λ x. record_in (step true e h d) x ≡ record_in h d) is (record_moved true e h d l refl)))
         (cases_lt (d + 1) j))
         (λ (le : j ≤ d).
         let is : d ≡ j = omega arith in
-        (d + 1, l, subst (λ x. told_in (step true e h d) x ≡ told_in h (d + 1)) is (swap_from h.told d (d + 1) nothing_told (omega arith) l (λ q. omega arith))))
+        (d + 1, l, subst (λ x. record_in (step true e h d) x ≡ record_in h (d + 1)) is (swap_from h.recorded d (d + 1) nothing_recorded (omega arith) l (λ q. omega arith))))
         (cases_lt d j))
         (cases_lt j d)
-    by_move false e = (j, n, told_stays false e h d j refl)
+    by_move false e = (j, n, record_stays false e h d j refl)
 
 -- and so after all of them
-pub all_came_from : (b : List Bool) (d : ℕ) (h : Held) (j : ℕ) → d < length h.told → j < length h.told
-    → (i : ℕ) × (i < length h.told) × (told_in (taken_down b d h) j ≡ told_in h i)
+pub all_came_from : (b : List Bool) (d : ℕ) (h : Held) (j : ℕ) → d < length h.recorded → j < length h.recorded
+    → (i : ℕ) × (i < length h.recorded) × (record_in (taken_down b d h) j ≡ record_in h i)
 all_came_from b zero h j l n = (j, n, refl)
 all_came_from b (suc d) h j l n =
-    let t = told_count (moves_by h b d) (get_or b (d + 1) false) h d in
+    let t = record_count (moves_by h b d) (get_or b (d + 1) false) h d in
     let later = all_came_from b d (taken_by b h d) j (omega (arith, t)) (omega (arith, t)) in
     let there = later.1 in
-    let inside : later.0 < length h.told = omega (arith, t, there) in
+    let inside : later.0 < length h.recorded = omega (arith, t, there) in
     let first = came_from b h d later.0 (omega arith) inside in
     (first.0, first.1, later.2 ∙ first.2)

@@ -11,7 +11,7 @@ use Rattle.kp_pipeline.specs.Sequential.{before_stage, seq}
 use Rattle.kp_pipeline.specs.Timeline.{no_samples, first_stage, setting_stage, may_write, is_ready}
 use Rattle.kp_machine.specs.Slots.{Slot, targets_of, pipes_of, number_of, result_to}
 use Rattle.kp_machine.specs.Machine.{machine_of, result_for, write_stage_of, enabled_of, address_in, is_enabled_by, address_by}
-use Rattle.kp_seq.specs.Told.{Told, where_true, results_of, write_told, setting_told, told_of}
+use Rattle.kp_seq.specs.Recorded.{Recorded, where_true, results_of, write_recorded, setting_recorded, record_of}
 use Rattle.kp_timing.specs.declared.sites.Writer.{Writer}
 use Rattle.kp_timing.specs.inner.Sites.{result_number}
 use Rattle.kp_timing.specs.inner.Deciding.{wrote_at, may_write_by, is_ready_by}
@@ -102,35 +102,35 @@ wrote : (b : Bool) (c a : ℕ) → (b && eqb c a) ≡ wrote_at (where_true b c) 
 wrote true c a = refl
 wrote false c a = refl
 
-module _ (job : Job) (s : ℕ → ℕ → ℕ) (k t i n : ℕ) (told : Told) where
+module _ (job : Job) (s : ℕ → ℕ → ℕ) (k t i n : ℕ) (recorded : Recorded) where
   -- instruction n, about which this is reported
   abbrev at_start : ℕ → ℕ → ℕ
   at_start = seq (machine_of job) s no_samples n
 
-  module _ (is : IsResult job t i) (tells : told ≡ told_of job at_start (λ x. 0)) where
+  module _ (is : IsResult job t i) (record_is : recorded ≡ record_of job at_start (λ x. 0)) where
     abbrev writer : Writer
     writer = record { result = i; write = (machine_of job).write_stage t; known = (machine_of job).known_from t }
 
-    pub writes_same : (a : ℕ) → may_write (machine_of job) s k (Some n) t a ≡ may_write_by writer told k a
-    unfolding machine_of told_of
+    pub writes_same : (a : ℕ) → may_write (machine_of job) s k (Some n) t a ≡ may_write_by writer recorded k a
+    unfolding machine_of record_of
     writes_same a =
         let pipes = (before_stage (machine_of job) at_start (λ x. 0) job.stages.value).pipes in
         let r = is.result in
-        let here : get_or told.writes i None ≡ write_told job pipes r =
-        ap (λ (x : Told). get_or x.writes i None) tells
-        ∙ get_or_from_slice_get (map (write_told job pipes) (results_of job.decls)) i (write_told job pipes r) None (mapped (write_told job pipes) (results_of job.decls) i r is.there) in
+        let here : get_or recorded.writes i None ≡ write_recorded job pipes r =
+        ap (λ (x : Recorded). get_or x.writes i None) record_is
+        ∙ get_or_from_slice_get (map (write_recorded job pipes) (results_of job.decls)) i (write_recorded job pipes r) None (mapped (write_recorded job pipes) (results_of job.decls) i r is.there) in
         ap (λ o. not (leb ((machine_of job).known_from t) k) || (is_some o && (enabled_of (pipes_of job.decls) pipes o && eqb (address_in (pipes_of job.decls) pipes o) a))) is.first
         ∙ ap (λ b. not (leb ((machine_of job).known_from t) k) || b)
         (wrote (is_enabled_by (pipes_of job.decls) pipes r.enable) (address_by (pipes_of job.decls) pipes r.address) a ∙ sym (ap (λ o. wrote_at o a) here))
 
-    pub ready_same : (blocked : Bool) → is_ready (machine_of job) s k (Some n) blocked t ≡ is_ready_by writer told k blocked
-    unfolding machine_of told_of setting_stage setting_told
+    pub ready_same : (blocked : Bool) → is_ready (machine_of job) s k (Some n) blocked t ≡ is_ready_by writer recorded k blocked
+    unfolding machine_of record_of setting_stage setting_recorded
     ready_same blocked =
         let r = is.result in
-        let here : get_or told.settings i 0 ≡ setting_told job at_start (λ x. 0) r =
-        ap (λ (x : Told). get_or x.settings i 0) tells
-        ∙ get_or_from_slice_get (map (setting_told job at_start (λ x. 0)) (results_of job.decls)) i (setting_told job at_start (λ x. 0) r) 0 (mapped (setting_told job at_start (λ x. 0)) (results_of job.decls) i r is.there) in
-        let stage : setting_stage (machine_of job) at_start t ≡ setting_told job at_start (λ x. 0) r =
+        let here : get_or recorded.settings i 0 ≡ setting_recorded job at_start (λ x. 0) r =
+        ap (λ (x : Recorded). get_or x.settings i 0) record_is
+        ∙ get_or_from_slice_get (map (setting_recorded job at_start (λ x. 0)) (results_of job.decls)) i (setting_recorded job at_start (λ x. 0) r) 0 (mapped (setting_recorded job at_start (λ x. 0)) (results_of job.decls) i r is.there) in
+        let stage : setting_stage (machine_of job) at_start t ≡ setting_recorded job at_start (λ x. 0) r =
         ap (λ o. first_stage (λ j. is_some ((before_stage (machine_of job) at_start (λ x. 0) (suc j)).results t)) job.stages.value 0 (write_stage_of o)) is.first
         ∙ ap (λ x. first_stage (λ j. is_some ((before_stage (machine_of job) at_start (λ y. 0) (suc j)).results x)) job.stages.value 0 r.stage.value) (sym is.target) in
         ap (λ x. leb ((machine_of job).known_from t) k && (ltb x k || (eqb x k && not blocked))) (stage ∙ sym here)

@@ -6,31 +6,31 @@ use Rattle.kp_timing.specs.declared.sites.Site.{Site}
 use Rattle.kp_timing.specs.declared.sites.Writer.{Writer}
 use Rattle.kp_timing.specs.declared.deciding.Found.{Found}
 use Rattle.kp_timing.specs.inner.Sites.{Sited}
-use Rattle.kp_timing.specs.inner.Deciding.{Held, told_in, is_full, may_write_by, is_ready_by, met_from, is_unmet, some_unmet_from, found_at, found_down, moves_by, taken_by, taken_down}
+use Rattle.kp_timing.specs.inner.Deciding.{Held, record_in, is_full, may_write_by, is_ready_by, met_from, is_unmet, some_unmet_from, found_at, found_down, moves_by, taken_by, taken_down}
 
 -- the stages above a read
-pub met_here : (h : Held) (b : List Bool) (w : Writer) (a n k : ℕ) → k < n → (is_full h k && (leb k w.write && may_write_by w (told_in h k) k a)) ≡ true
-    → met_from h b w a (n - k) k ≡ is_ready_by w (told_in h k) k (get_or b k false)
+pub met_here : (h : Held) (b : List Bool) (w : Writer) (a n k : ℕ) → k < n → (is_full h k && (leb k w.write && may_write_by w (record_in h k) k a)) ≡ true
+    → met_from h b w a (n - k) k ≡ is_ready_by w (record_in h k) k (get_or b k false)
 met_here h b w a n k l e =
     let one : n - k ≡ suc (n - (k + 1)) = omega arith in
     let next : suc k ≡ k + 1 = omega arith in
     ap (λ d. met_from h b w a d k) one
-    ∙ ap (λ c. cond c (is_ready_by w (told_in h k) k (get_or b k false)) (met_from h b w a (n - (k + 1)) (suc k))) e
+    ∙ ap (λ c. cond c (is_ready_by w (record_in h k) k (get_or b k false)) (met_from h b w a (n - (k + 1)) (suc k))) e
 
-pub met_above : (h : Held) (b : List Bool) (w : Writer) (a n k : ℕ) → k < n → (is_full h k && (leb k w.write && may_write_by w (told_in h k) k a)) ≡ false
+pub met_above : (h : Held) (b : List Bool) (w : Writer) (a n k : ℕ) → k < n → (is_full h k && (leb k w.write && may_write_by w (record_in h k) k a)) ≡ false
     → met_from h b w a (n - k) k ≡ met_from h b w a (n - (k + 1)) (k + 1)
 met_above h b w a n k l e =
     let one : n - k ≡ suc (n - (k + 1)) = omega arith in
     let next : suc k ≡ k + 1 = omega arith in
     ap (λ d. met_from h b w a d k) one
-    ∙ ap (λ c. cond c (is_ready_by w (told_in h k) k (get_or b k false)) (met_from h b w a (n - (k + 1)) (suc k))) e
+    ∙ ap (λ c. cond c (is_ready_by w (record_in h k) k (get_or b k false)) (met_from h b w a (n - (k + 1)) (suc k))) e
     ∙ ap (met_from h b w a (n - (k + 1))) next
 
 pub met_none : (h : Held) (b : List Bool) (w : Writer) (a n k : ℕ) → n ≤ k → met_from h b w a (n - k) k ≡ true
 met_none h b w a n k l = let none : n - k ≡ 0 = omega arith in ap (λ d. met_from h b w a d k) none
 
 -- the reads of a stage
-pub reads_next : (s : Sited) (h : Held) (b : List Bool) (k i : ℕ) (sites : List Site) (d : Site) (asked : Option ℕ) → i < length sites → asked ≡ get_or (told_in h k).reads i None
+pub reads_next : (s : Sited) (h : Held) (b : List Bool) (k i : ℕ) (sites : List Site) (d : Site) (asked : Option ℕ) → i < length sites → asked ≡ get_or (record_in h k).reads i None
     → is_unmet s h b k (get_or sites i d) asked ≡ false → some_unmet_from s h b k (i + 1) (drop (i + 1) sites) ≡ some_unmet_from s h b k i (drop i sites)
 reads_next s h b k i sites d asked l e u =
     sym (ap (some_unmet_from s h b k i) (drop_more sites i d l)
@@ -48,14 +48,14 @@ module _ (b : List Bool) (h : Held) (k : ℕ) (some : 1 ≤ k) where
   same : k - 1 + 1 ≡ k
   same = omega arith
 
-  pub taken_moved : moves_by h b (k - 1) ≡ true → taken_by b h (k - 1) ≡ record { hold = set h.hold k (get_or h.hold (k - 1) None); told = swap h.told (k - 1) k }
+  pub taken_moved : moves_by h b (k - 1) ≡ true → taken_by b h (k - 1) ≡ record { hold = set h.hold k (get_or h.hold (k - 1) None); recorded = swap h.recorded (k - 1) k }
   taken_moved e =
-      ap (λ c. cond c (record { hold = set h.hold (k - 1 + 1) (get_or h.hold (k - 1) None); told = swap h.told (k - 1) (k - 1 + 1) })
+      ap (λ c. cond c (record { hold = set h.hold (k - 1 + 1) (get_or h.hold (k - 1) None); recorded = swap h.recorded (k - 1) (k - 1 + 1) })
       (cond (get_or b (k - 1 + 1) false) h (record h { hold = set h.hold (k - 1 + 1) None }))) e
-      ∙ ap (λ i. record { hold = set h.hold i (get_or h.hold (k - 1) None); told = swap h.told (k - 1) i }) same
+      ∙ ap (λ i. record { hold = set h.hold i (get_or h.hold (k - 1) None); recorded = swap h.recorded (k - 1) i }) same
 
   pub taken_other : moves_by h b (k - 1) ≡ false → taken_by b h (k - 1) ≡ cond (get_or b k false) h (record h { hold = set h.hold k None })
   taken_other e =
-      ap (λ c. cond c (record { hold = set h.hold (k - 1 + 1) (get_or h.hold (k - 1) None); told = swap h.told (k - 1) (k - 1 + 1) })
+      ap (λ c. cond c (record { hold = set h.hold (k - 1 + 1) (get_or h.hold (k - 1) None); recorded = swap h.recorded (k - 1) (k - 1 + 1) })
       (cond (get_or b (k - 1 + 1) false) h (record h { hold = set h.hold (k - 1 + 1) None }))) e
       ∙ ap (λ i. cond (get_or b i false) h (record h { hold = set h.hold i None })) same

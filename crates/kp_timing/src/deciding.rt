@@ -1,6 +1,6 @@
 //! Which stages wait for data, which are blocked, and how the instructions move on.
 ghost use Rattle.std.specs.Prelude.{◌≡◌, ◌-◌, ◌≤◌, ◌<◌, ◌&&◌, None, nat_le, length, get_or};
-ghost use Rattle.kp_timing.specs.inner.Deciding.{may_write_by, is_ready_by, met_from, is_met, is_unmet, some_unmet_from, waits_by, is_blocked_by, found_down, no_stage_found, moves_by, taken_down, taken_by, told_in, is_full};
+ghost use Rattle.kp_timing.specs.inner.Deciding.{may_write_by, is_ready_by, met_from, is_met, is_unmet, some_unmet_from, waits_by, is_blocked_by, found_down, no_stage_found, moves_by, taken_down, taken_by, record_in, is_full};
 
 use crate::flight::Flight;
 use crate::masks::is_set;
@@ -19,7 +19,7 @@ impl Model for Pipeline {
 
     ghost Value = { Held };
 
-    ghost view = { λ p. record { hold = p.hold; told = p.flights.items } };
+    ghost view = { λ p. record { hold = p.hold; recorded = p.flights.items } };
 }
 
 /// The stages that wait, and those that are blocked.
@@ -48,41 +48,41 @@ impl Pipeline {
     }
 
     // What was reported about the instruction in a stage.
-    fn told(&self, k: usize) -> &Flight
-        requires { k < length self.now.told }
-        ensures { result.now ≡ told_in self.now k }
+    fn recorded(&self, k: usize) -> &Flight
+        requires { k < length self.now.recorded }
+        ensures { result.now ≡ record_in self.now k }
     {
         &self.flights[k]
     }
 }
 
 // Whether stage k may write a target at an address, by what was reported about its instruction.
-fn may_write(writer: Writer, told: &Flight, k: usize, address: u32) -> bool
-    ensures { result ≡ may_write_by writer told.now k address }
+fn may_write(writer: Writer, recorded: &Flight, k: usize, address: u32) -> bool
+    ensures { result ≡ may_write_by writer recorded.now k address }
 {
     if writer.known as usize > k {
         return true;
     }
     let result = writer.result;
-    result < told.writes.len() && told.writes[result] == Some(address)
+    result < recorded.writes.len() && recorded.writes[result] == Some(address)
 }
 
 // Whether the result of the instruction in stage k is ready there.
-fn is_ready(writer: Writer, told: &Flight, k: usize, is_blocked: bool) -> bool
-    ensures { result ≡ is_ready_by writer told.now k is_blocked }
+fn is_ready(writer: Writer, recorded: &Flight, k: usize, is_blocked: bool) -> bool
+    ensures { result ≡ is_ready_by writer recorded.now k is_blocked }
 {
     if writer.known as usize > k {
         return false;
     }
-    let setting = setting_of(told, writer.result);
+    let setting = setting_of(recorded, writer.result);
     setting < k || (setting == k && !is_blocked)
 }
 
-fn setting_of(told: &Flight, number: usize) -> usize
-    ensures { result ≡ get_or told.now.settings number 0 }
+fn setting_of(recorded: &Flight, number: usize) -> usize
+    ensures { result ≡ get_or recorded.now.settings number 0 }
 {
-    if number < told.settings.len() {
-        usize::from(told.settings[number])
+    if number < recorded.settings.len() {
+        usize::from(recorded.settings[number])
     } else {
         0
     }
@@ -98,13 +98,13 @@ fn is_met_from(
     stages: usize,
 ) -> bool
     requires hold { length held.now.hold ≡ 12 }
-    requires told { stages ≤ length held.now.told }
+    requires recorded { stages ≤ length held.now.recorded }
     requires few { stages ≤ 12 }
     ensures { result ≡ met_from held.now blocked.now writer address (stages - from) from }
 {
     for k in from..stages {
         if may_write_in(writer, held, k, address) {
-            return is_ready(writer, held.told(k), k, blocked[k]);
+            return is_ready(writer, held.recorded(k), k, blocked[k]);
         }
     }
     true
@@ -112,10 +112,10 @@ fn is_met_from(
 
 fn may_write_in(writer: Writer, held: &Pipeline, k: usize, address: u32) -> bool
     requires hold { length held.now.hold ≡ 12 }
-    requires told { k < length held.now.told }
-    ensures { result ≡ (is_full held.now k && (nat_le k writer.write && may_write_by writer (told_in held.now k) k address)) }
+    requires recorded { k < length held.now.recorded }
+    ensures { result ≡ (is_full held.now k && (nat_le k writer.write && may_write_by writer (record_in held.now k) k address)) }
 {
-    held.is_full(k) && k <= writer.write as usize && may_write(writer, held.told(k), k, address)
+    held.is_full(k) && k <= writer.write as usize && may_write(writer, held.recorded(k), k, address)
 }
 
 // Whether a read in stage k is not met.
@@ -128,7 +128,7 @@ fn is_unmet(
     asked: Option<u32>,
 ) -> bool
     requires hold { length held.now.hold ≡ 12 }
-    requires told { sites.now.stages ≤ length held.now.told }
+    requires recorded { sites.now.stages ≤ length held.now.recorded }
     requires few { sites.now.stages ≤ 12 }
     requires stage { k < 12 }
     ensures { result ≡ is_unmet sites.now held.now blocked.now k site asked }
@@ -148,7 +148,7 @@ fn is_unmet(
 // Whether stage k waits: some read of its instruction isn't met.
 fn waits(sites: &Sites, held: &Pipeline, blocked: &[bool; 13], k: usize) -> bool
     requires hold { length held.now.hold ≡ 12 }
-    requires told { sites.now.stages ≤ length held.now.told }
+    requires recorded { sites.now.stages ≤ length held.now.recorded }
     requires few { sites.now.stages ≤ 12 }
     requires stage { k < sites.now.stages }
     ensures { result ≡ waits_by sites.now held.now blocked.now k }
@@ -158,15 +158,15 @@ fn waits(sites: &Sites, held: &Pipeline, blocked: &[bool; 13], k: usize) -> bool
 
 fn some_unmet(sites: &Sites, held: &Pipeline, blocked: &[bool; 13], k: usize) -> bool
     requires hold { length held.now.hold ≡ 12 }
-    requires told { sites.now.stages ≤ length held.now.told }
+    requires recorded { sites.now.stages ≤ length held.now.recorded }
     requires few { sites.now.stages ≤ 12 }
     requires stage { k < sites.now.stages }
     ensures { result ≡ some_unmet_from sites.now held.now blocked.now k 0 sites.now.reads }
 {
-    let told = held.told(k);
+    let recorded = held.recorded(k);
     let reads = sites.reads();
     for i in 0..reads.len() {
-        if is_unmet(sites, held, blocked, k, reads[i], told.read(i)) {
+        if is_unmet(sites, held, blocked, k, reads[i], recorded.read(i)) {
             return true;
         }
     }
@@ -176,7 +176,7 @@ fn some_unmet(sites: &Sites, held: &Pipeline, blocked: &[bool; 13], k: usize) ->
 /// Which stages wait and which are blocked under a stall word with bit k for stage k, decided from the last stage down.
 pub(crate) fn find(sites: &Sites, held: &Pipeline, ext: u16) -> Found
     requires hold { length held.now.hold ≡ 12 }
-    requires told { sites.now.stages ≤ length held.now.told }
+    requires recorded { sites.now.stages ≤ length held.now.recorded }
     requires few { sites.now.stages ≤ 12 }
     ensures { result ≡ found_down sites.now held.now ext sites.now.stages no_stage_found }
 {
@@ -219,7 +219,7 @@ impl Found {
 /// if it is blocked, and is empty otherwise. Stage 0 is left unchanged.
 pub(crate) fn move_on(held: &mut Pipeline, blocked: &[bool; 13], stages: usize)
     requires hold { length held.old.hold ≡ 12 }
-    requires told { stages ≤ length held.old.told }
+    requires recorded { stages ≤ length held.old.recorded }
     requires few { stages ≤ 12 }
     ensures { held.new ≡ taken_down blocked.now (stages - 1) held.old }
 {
@@ -233,7 +233,7 @@ pub(crate) fn move_on(held: &mut Pipeline, blocked: &[bool; 13], stages: usize)
 // Stage k receives the instruction of the one before it, keeps its own, or becomes empty.
 fn move_into(held: &mut Pipeline, blocked: &[bool; 13], k: usize)
     requires hold { length held.old.hold ≡ 12 }
-    requires told { k < length held.old.told }
+    requires recorded { k < length held.old.recorded }
     requires some { 1 ≤ k }
     requires few { k < 12 }
     ensures { held.new ≡ taken_by blocked.now held.old (k - 1) }

@@ -15,9 +15,9 @@ pub(crate) struct Flight {
 }
 
 impl Model for Flight {
-    ghost use Rattle.kp_seq.specs.Told.{Told};
+    ghost use Rattle.kp_seq.specs.Recorded.{Recorded};
 
-    ghost Value = { Told };
+    ghost Value = { Recorded };
 
     ghost view = { λ f. record { reads = f.reads.items; writes = f.writes.items; settings = f.settings.items } };
 }

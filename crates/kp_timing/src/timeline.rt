@@ -4,11 +4,11 @@ ghost use Rattle.kp_stage.specs.Counts.{summary_of};
 ghost use Rattle.kp_stage.specs.Start.{IsStartOf};
 ghost use Rattle.kp_machine.specs.Slots.{samples_of};
 ghost use Rattle.kp_seq.specs.Running.{state, after_one};
-ghost use Rattle.kp_seq.specs.Told.{told_of};
+ghost use Rattle.kp_seq.specs.Recorded.{record_of};
 ghost use Rattle.kp_sched.specs.Rows.{bit_of};
 ghost use Rattle.kp_timing.specs.Timed.{IsPlain, IsOpened, IsCycle, hold_of};
 ghost use Rattle.kp_timing.specs.inner.Kept.{HasRoom, Advances};
-ghost use Rattle.kp_timing.specs.inner.Deciding.{nothing_told, told_in, is_full, moves_by, fetched};
+ghost use Rattle.kp_timing.specs.inner.Deciding.{nothing_recorded, record_in, is_full, moves_by, fetched};
 
 use crate::deciding::{Found, Pipeline, find, move_on};
 use crate::flight::Flight;
@@ -135,9 +135,9 @@ fn flights(alloc: Global, stages: usize, reads: u32, results: u32) -> Result<Vec
     ensures few_reads { reads < 2 ^ 32 }
     ensures few_results { results < 2 ^ 32 }
     ensures count { IfOk result (λ fs. length fs.items ≡ stages) }
-    ensures reads { IfOk result (λ fs. (k : ℕ) → k < stages → length (get_or fs.items k nothing_told).reads ≡ reads) }
-    ensures writes { IfOk result (λ fs. (k : ℕ) → k < stages → length (get_or fs.items k nothing_told).writes ≡ results) }
-    ensures settings { IfOk result (λ fs. (k : ℕ) → k < stages → length (get_or fs.items k nothing_told).settings ≡ results) }
+    ensures reads { IfOk result (λ fs. (k : ℕ) → k < stages → length (get_or fs.items k nothing_recorded).reads ≡ reads) }
+    ensures writes { IfOk result (λ fs. (k : ℕ) → k < stages → length (get_or fs.items k nothing_recorded).writes ≡ results) }
+    ensures settings { IfOk result (λ fs. (k : ℕ) → k < stages → length (get_or fs.items k nothing_recorded).settings ≡ results) }
 {
     let mut flights = Vec::new(alloc);
     while flights.len() < stages {
@@ -174,10 +174,10 @@ fn row_of(held: &Pipeline, found: &Found, stages: usize) -> Row
 fn advance(machine: &mut SeqMachine, held: &mut Pipeline, found: &Found, stages: usize)
     requires samples { samples_of machine.old.job.decls ≡ [] }
     requires hold { length held.old.hold ≡ 12 }
-    requires flights { length held.old.told ≡ stages }
+    requires flights { length held.old.recorded ≡ stages }
     requires some { 1 ≤ stages }
     requires few { stages ≤ 12 }
-    requires room { (k : ℕ) → k < stages → HasRoom machine.old.job (told_in held.old k) }
+    requires room { (k : ℕ) → k < stages → HasRoom machine.old.job (record_in held.old k) }
     requires reads { (summary_of machine.old.job).reads < 2 ^ 32 }
     requires results { (summary_of machine.old.job).results < 2 ^ 32 }
     requires parts { length machine.old.job.blocks ≡ machine.old.job.stages.value }
@@ -195,15 +195,15 @@ fn advance(machine: &mut SeqMachine, held: &mut Pipeline, found: &Found, stages:
 fn fetch(machine: &mut SeqMachine, held: &mut Pipeline)
     requires samples { samples_of machine.old.job.decls ≡ [] }
     requires hold { length held.old.hold ≡ 12 }
-    requires flights { 1 ≤ length held.old.told }
-    requires room { HasRoom machine.old.job (told_in held.old 0) }
+    requires flights { 1 ≤ length held.old.recorded }
+    requires room { HasRoom machine.old.job (record_in held.old 0) }
     requires reads { (summary_of machine.old.job).reads < 2 ^ 32 }
     requires results { (summary_of machine.old.job).results < 2 ^ 32 }
     requires parts { length machine.old.job.blocks ≡ machine.old.job.stages.value }
     requires small { unwrap_or (get_or held.old.hold 0 None) 0 < 2 ^ 64 - 1 }
     ensures job { machine.new.job ≡ machine.old.job }
     ensures state { state machine.new ≡ after_one machine.old.job (state machine.old) [] }
-    ensures told { machine.new.last ≡ told_of machine.old.job (state machine.old) (λ x. 0) }
+    ensures recorded { machine.new.last ≡ record_of machine.old.job (state machine.old) (λ x. 0) }
     ensures held { held.new ≡ fetched held.old machine.new.last }
 {
     run_next(machine, held.flights.as_mut_slice());
@@ -215,13 +215,13 @@ fn fetch(machine: &mut SeqMachine, held: &mut Pipeline)
 fn run_next(machine: &mut SeqMachine, flights: &mut [Flight])
     requires samples { samples_of machine.old.job.decls ≡ [] }
     requires flights { 1 ≤ length flights.old }
-    requires room { HasRoom machine.old.job (get_or flights.old 0 nothing_told) }
+    requires room { HasRoom machine.old.job (get_or flights.old 0 nothing_recorded) }
     requires reads { (summary_of machine.old.job).reads < 2 ^ 32 }
     requires results { (summary_of machine.old.job).results < 2 ^ 32 }
     requires parts { length machine.old.job.blocks ≡ machine.old.job.stages.value }
     ensures job { machine.new.job ≡ machine.old.job }
     ensures state { state machine.new ≡ after_one machine.old.job (state machine.old) [] }
-    ensures told { machine.new.last ≡ told_of machine.old.job (state machine.old) (λ x. 0) }
+    ensures recorded { machine.new.last ≡ record_of machine.old.job (state machine.old) (λ x. 0) }
     ensures flights { flights.new ≡ set flights.old 0 machine.new.last }
 {
     machine.step();

@@ -72,14 +72,14 @@ module _ (n : ℕ) (job : Job) (net : Net) (rows : List masks.Row) (monitor : Ke
       ap₂ (λ (l : List Row) (line : List ℕ). row_lines 0 l ++ line) (rows_taken job.stages.value rows d.cycle ∙ ap (take d.cycle) traced)
       (λ i. differs_line d.cycle (target job d.target) d.address (found i) (due i))
 
-abbrev Told : ℕ → Job → Net → Option Difference → Type 0
-Told n job net found = MatchOption found (Agrees job net n)
+abbrev Reported : ℕ → Job → Net → Option Difference → Type 0
+Reported n job net found = MatchOption found (Agrees job net n)
     (λ d. IsFirstDifference job net n d.cycle d.target d.address
     × (d.found ≡ word (target job d.target).width ((own_trace job net n).visible d.cycle d.target d.address))
     × (d.due ≡ word (target job d.target).width (own_due job net n d.cycle d.target d.address)))
 
 pub watched_is_due : (n : ℕ) (job : Job) (net : Net) (board : Board) (found : Option Difference) → board.design.now.job ≡ job
-    → HasRows job net n board.cycles.rows.items board.cycles.monitor → Told n job net found → DueOfRun n job net (status_by found) (text_by board found)
+    → HasRows job net n board.cycles.rows.items board.cycles.monitor → Reported n job net found → DueOfRun n job net (status_by found) (text_by board found)
 watched_is_due n job net board None same has all =
     agrees all (
       refl,
@@ -95,7 +95,7 @@ watched_is_due n job net board (Some d) same has (first, found, due) =
 
 -- the difference is in a cycle of the run, at a target of the job
 pub fits : (n : ℕ) (job : Job) (net : Net) (board : Board) (found : Option Difference) → board.design.now.job ≡ job
-    → HasRows job net n board.cycles.rows.items board.cycles.monitor → Told n job net found
+    → HasRows job net n board.cycles.rows.items board.cycles.monitor → Reported n job net found
     → IfSome found (λ d. (d.cycle ≤ length board.cycles.rows.items) × (d.target < length (targets_of board.design.now.job.decls)))
 fits n job net board None same has all = tt
 fits n job net board (Some d) same has (first, found, due) =

@@ -3,7 +3,7 @@ ghost use Rattle.std.specs.Prelude.{◌≤◌, length, IfOk, Ok, Some};
 ghost use Rattle.kp_base.specs.Check.{Gives};
 ghost use Rattle.kp_synth_spec.specs.Shows.{Shows};
 ghost use Rattle.kp_debug_script.specs.Scripts.{script_of};
-ghost use Rattle.kp_debug_report.specs.Inspecting.{told, whole_run, AreOfJob};
+ghost use Rattle.kp_debug_report.specs.Inspecting.{printed, whole_run, AreOfJob};
 ghost use Rattle.kp_tool_words.specs.declared.words.Command.TheVariants.{Debug};
 ghost use Rattle.kp_tool_spec.specs.Due.{DueFor};
 ghost use Rattle.kp_tool_spec.specs.Scripted.{DueOfScriptHead};
@@ -80,7 +80,7 @@ struct Scripted<'a> {
 impl Outcome for Scripted<'_> {
     ghost status = { λ _. 0 };
 
-    ghost text = { λ s. told s.inspection.job (whole_run s.inspection.job) s.inspection.cycle s.commands.now };
+    ghost text = { λ s. printed s.inspection.job (whole_run s.inspection.job) s.inspection.cycle s.commands.now };
 
     fn write<K: Sink>(self, sink: &mut K) -> Result<u8, SinkFault> {
         let Scripted {

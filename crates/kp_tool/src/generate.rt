@@ -12,7 +12,7 @@ use kp_frontend::Accepted;
 use kp_gen_report::{Totals, totals_of, write_totals};
 use kp_gen_valid::generated;
 use kp_run::board_shown;
-use kp_run::laws::a_run_tells_of_the_pipeline;
+use kp_run::laws::a_run_shows_the_pipeline;
 use kp_synth::synth;
 use std::alloc::Global;
 
@@ -46,7 +46,7 @@ fn summed(alloc: Global, number: u64, count: u32, job: &Accepted) -> Result<Gene
     // The invariant of the type, for the proof only.
     let _kept = job.design.job();
     let net = synth(alloc, &job.design, &job.sections.start)?;
-    a_run_tells_of_the_pipeline(job);
+    a_run_shows_the_pipeline(job);
     let board = board_shown(alloc, job, &net, count)?;
     let totals = totals_of(&board);
     Ok(GeneratedRun { number, totals })

@@ -11,7 +11,7 @@ use crate::failure::Failure;
 use crate::outcome::{Outcome, finish};
 use kp_base::{NoMemory, Sink, SinkFault};
 use kp_frontend::Accepted;
-use kp_run::laws::a_run_tells_of_the_pipeline;
+use kp_run::laws::a_run_shows_the_pipeline;
 use kp_run::{Board, board_shown};
 use kp_synth::synth;
 use kp_tool_report::write_board;
@@ -34,7 +34,7 @@ fn simulated(alloc: Global, count: u32, job: &Accepted) -> Result<Board<'_>, NoM
     // The invariant of the type, for the proof only.
     let _kept = job.design.job();
     let net = synth(alloc, &job.design, &job.sections.start)?;
-    a_run_tells_of_the_pipeline(job);
+    a_run_shows_the_pipeline(job);
     board_shown(alloc, job, &net, count)
 }
 

@@ -2,4 +2,4 @@ pub mod Alike
 pub mod Lines
 pub mod Numbers
 pub mod Sims
-pub mod Told
+pub mod Reported

@@ -16,8 +16,8 @@ State = ℕ → ℕ → ℕ
 abbrev pub Behind : Type 0
 Behind = ℕ → Option ℕ
 
-abbrev pub untold : Behind
-untold t = None
+abbrev pub no_counts : Behind
+no_counts t = None
 
 -- a word of a file has a line where it isn't 0
 abbrev pub line_of_word : List ℕ → ℕ → Option ℕ → ℕ → ℕ → List ℕ
@@ -48,7 +48,7 @@ state_lines t behind state (d ∷ ds) = lines_of d (behind t) (state t) ++ state
 
 -- the number of instructions, and the state after them
 abbrev pub text_after : ℕ → List Decl → State → List ℕ
-text_after count ds state = after_line count ++ state_lines 0 untold state ds
+text_after count ds state = after_line count ++ state_lines 0 no_counts state ds
 
 -- instruction i reads the sample values of cycle i
 abbrev pub sequential_text : ℕ → Job → List ℕ

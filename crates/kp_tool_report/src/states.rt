@@ -5,7 +5,7 @@ ghost use Rattle.kp_base.specs.Bytes.{Writes};
 ghost use Rattle.kp_base.specs.Causes.{HasCause};
 ghost use Rattle.kp_machine.specs.Slots.{targets_of};
 ghost use Rattle.kp_seq.specs.Running.{state, target};
-ghost use Rattle.kp_tool_report.specs.States.{untold, lines_of_words, lines_of, targets_in, state_lines, text_after};
+ghost use Rattle.kp_tool_report.specs.States.{no_counts, lines_of_words, lines_of, targets_in, state_lines, text_after};
 ghost use Rattle.kp_tool_report.specs.Texts.{after_line};
 ghost use Rattle.kp_tool_report.specs.inner.Targets.{StandsAt, HasWords, IsSmall};
 
@@ -57,7 +57,7 @@ fn write_state<K: Sink>(
     requires targets { targets_of decls.now ≡ targets_of machine.now.job.decls }
     requires few { length decls.now < 2 ^ 32 }
     requires small { All IsSmall decls.now }
-    ensures text { Writes (K.held sink.old) (K.held sink.new) (state_lines 0 untold (state machine.now) decls.now) result }
+    ensures text { Writes (K.held sink.old) (K.held sink.new) (state_lines 0 no_counts (state machine.now) decls.now) result }
     ensures cause { HasCause (K.faults sink.old) (K.faults sink.new) result }
 {
     let mut t = 0u32;

@@ -133,7 +133,7 @@ pub check_is_right : (input text : List ℕ) → DueFor (Some (OnJob Check)) inp
 check_is_right input text (Ok job, judged, said) = record {
   job = job;
   judged = judged;
-  told = said.1;
+  printed = said.1;
   own = own_only input job judged;
   zero = zero_for input job judged;
 }
@@ -181,7 +181,7 @@ module _ (n : ℕ) (input text : List ℕ) (job : Job) (rest : ℕ) (judged : Ju
     target = t;
     address = a;
     first = first_there;
-    told = said.1;
+    printed = said.1;
     fault = λ shows. agrees_everywhere job net n T t a (agrees_if_shown job (head_unbroken input job rest judged) net n shows) first_there;
   }
 

@@ -112,12 +112,12 @@ pub due_all : (words : List (List ℕ)) (taken rest : List ℕ) (status : ℕ) (
 due_all words = due_all_for (command_of words)
 
 -- what a complete call wrote, if the contents of the source and the sink are known
-pub told : (words : List (List ℕ)) (left left_after held held_after : Option (List ℕ)) (status : ℕ) → Completes words left left_after held held_after status → IfSome left (λ input. IfSome held (λ before. (text : List ℕ) × Due words input status text × (held_after ≡ Some (before ++ text))))
-told words None left_after held held_after status completes = tt
-told words (Some input) left_after None held_after status completes = tt
-told words (Some input) None (Some before) held_after status (text, is_due, written) = absurd is_due.consumed
-told words (Some input) (Some rest) (Some before) None status (text, is_due, written) = absurd written
-told words (Some input) (Some rest) (Some before) (Some after) status (text, is_due, written) =
+pub printed : (words : List (List ℕ)) (left left_after held held_after : Option (List ℕ)) (status : ℕ) → Completes words left left_after held held_after status → IfSome left (λ input. IfSome held (λ before. (text : List ℕ) × Due words input status text × (held_after ≡ Some (before ++ text))))
+printed words None left_after held held_after status completes = tt
+printed words (Some input) left_after None held_after status completes = tt
+printed words (Some input) None (Some before) held_after status (text, is_due, written) = absurd is_due.consumed
+printed words (Some input) (Some rest) (Some before) None status (text, is_due, written) = absurd written
+printed words (Some input) (Some rest) (Some before) (Some after) status (text, is_due, written) =
     let due = due_all words is_due.taken rest status text is_due.whole is_due.due in
     (text, rw is_due.consumed due, ap Some written)
 

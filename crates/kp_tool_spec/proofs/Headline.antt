@@ -87,13 +87,13 @@ legal_pipe job acc ins =
     alike_is_legal job ins _ _ (record { rows = refl; values = λ T t x h w. refl })
     (legal (machine_of job) (state_of job (start_of job)) (start_hints job) ins acc)
 
-told_run : (Fact : Job → List Inputs → Trace → Type 0) (n : ℕ) (input text : List ℕ) (job : Job) → Judges input (Ok job) → text ≡ sim_text n job
+printed_run : (Fact : Job → List Inputs → Trace → Type 0) (n : ℕ) (input text : List ℕ) (job : Job) → Judges input (Ok job) → text ≡ sim_text n job
     → Fact job (inputs_from job 0 n) (pipe_of job (inputs_from job 0 n)) → IsRunWith Fact n input text
 unfolding sim_text
-told_run Fact n input text job judged told holds = record {
+printed_run Fact n input text job judged printed holds = record {
   job = job;
   judged = judged;
-  told = told;
+  printed = printed;
   cycles = rows_many job n;
   holds = holds;
 }
@@ -102,7 +102,7 @@ told_run Fact n input text job judged told holds = record {
 sim_with : (Fact : Job → List Inputs → Trace → Type 0) → ((job : Job) (ins : List Inputs) → Accepted (machine_of job) → Fact job ins (pipe_of job ins))
     → (n : ℕ) (input text : List ℕ) → DueFor (Some (OnJob (Sim n))) input 0 text → IsRunWith Fact n input text
 sim_with Fact law n input text (Ok job, judged, due) =
-    told_run Fact n input text job judged due.1 (law job (inputs_from job 0 n) (accepted_machine job (judged_unbroken input job judged)))
+    printed_run Fact n input text job judged due.1 (law job (inputs_from job 0 n) (accepted_machine job (judged_unbroken input job judged)))
 sim_with Fact law n input text (Err refusal, judged, due) = absurd (omega (arith, due.0))
 
 -- what is true of each trace that shows an accepted pipeline, from any state on,
@@ -164,7 +164,7 @@ timed_job n input text job judged None is said =
       judged = judged;
       guesses = plain.guesses;
       samples = plain.samples;
-      told = said.1;
+      printed = said.1;
       rows = same-rows (machine_of job) (state_of job (start_of job)) (start_hints job) (inputs_from job 0 n) (accepted_machine job (judged_unbroken input job judged)) (guessless job plain.guesses plain.samples);
     }
 
@@ -196,7 +196,7 @@ vcd_with : (Fact : Job → List Inputs → Trace → Type 0) → ((job : Job) (i
 vcd_with Fact law n input text (Ok job, judged, due) = record {
   job = job;
   judged = judged;
-  told = due.1;
+  printed = due.1;
   cycles = rows_many job n;
   values = dump_values job n;
   changes = dump_changes job n;
@@ -218,11 +218,11 @@ gen_run : (Fact : Job → List Inputs → Trace → Type 0) → ((job : Job) (in
     → (number n : ℕ) (text : List ℕ) (job : Job) → job ≡ gen_job number → broken_in job ≡ None
     → text ≡ totals_line number (totals_of job (own_run job n).rows (due_value job (inputs_from job 0 n) (own_run job n).rows n))
     → IsGeneratedWith Fact number n text
-gen_run Fact law number n text job is none told = record {
+gen_run Fact law number n text job is none printed = record {
   job = job;
   generated = is;
   accepted = none;
-  told = told;
+  printed = printed;
   cycles = rows_many job n;
   holds = law job (inputs_from job 0 n) (accepted_machine job none);
 }
@@ -273,7 +273,7 @@ module _ (n : ℕ) (input text : List ℕ) (job : Job) (rest : ℕ) (judged : Ju
     net = net;
     denotes = denotes;
     of_job = is;
-    told = said.1;
+    printed = said.1;
     holds = all;
   }
 
@@ -304,7 +304,7 @@ module _ (input text : List ℕ) (job : Job) (rest : ℕ) (judged : JudgesHead i
         second = b;
         denotes_second = q;
         second_of_job = js;
-        told = said.1;
+        printed = said.1;
         alike = theorem a b right other pair all;
         shows = (second_shows a b job right other pair all, first_shows a b job right other pair all);
         begins = λ shown. (second_begins a b job right other pair all shown, first_begins a b job right other pair all (second_shows a b job right other pair all shown));
@@ -315,24 +315,24 @@ pair_is_alike input text (Ok (job, rest), head_within short judged, (middle, end
 pair_is_alike input text (Err refusal, judged, said) = absurd (omega (arith, said.0))
 
 -- what is true of each accepted pipeline is true of the run that `debug` prints from
-told_script : (Fact : Job → List Inputs → Trace → Type 0) → ((job : Job) (ins : List Inputs) → Accepted (machine_of job) → Fact job ins (pipe_of job ins))
+printed_script : (Fact : Job → List Inputs → Trace → Type 0) → ((job : Job) (ins : List Inputs) → Accepted (machine_of job) → Fact job ins (pipe_of job ins))
     → (input text : List ℕ) (job : Job) (rest : ℕ) → JudgesHead input (Ok (job, rest)) → (found : Result (List Command) Refusal) → script_of job.decls input rest ≡ found
     → DueOfScript job found 0 text → IsDebuggedWith Fact input text
 unfolding whole_run
-told_script Fact law input text job rest judged (Ok commands) is said = record {
+printed_script Fact law input text job rest judged (Ok commands) is said = record {
   job = job;
   rest = rest;
   judged = judged;
   commands = commands;
   script = is;
-  told = said.1;
+  printed = said.1;
   holds = law job (inputs_from job 0 all_cycles) (accepted_machine job (head_unbroken input job rest judged));
 }
-told_script Fact law input text job rest judged (Err refusal) is said = absurd (omega (arith, said.0))
+printed_script Fact law input text job rest judged (Err refusal) is said = absurd (omega (arith, said.0))
 
 debug_with : (Fact : Job → List Inputs → Trace → Type 0) → ((job : Job) (ins : List Inputs) → Accepted (machine_of job) → Fact job ins (pipe_of job ins))
     → (input text : List ℕ) → DueFor (Some Debug) input 0 text → IsDebuggedWith Fact input text
-debug_with Fact law input text (Ok (job, rest), judged, said) = told_script Fact law input text job rest judged (script_of job.decls input rest) refl said
+debug_with Fact law input text (Ok (job, rest), judged, said) = printed_script Fact law input text job rest judged (script_of job.decls input rest) refl said
 debug_with Fact law input text (Err refusal, judged, said) = absurd (omega (arith, said.0))
 
 pub debug_is_legal : (input text : List ℕ) → DueFor (Some Debug) input 0 text → IsDebuggedWith IsLegal input text

@@ -45,7 +45,7 @@ pub record IsSequential (n : ℕ) (input text : List ℕ) : Type 0 where
 pub record IsChecked (input text : List ℕ) : Type 0 where
   pub job : Job
   pub judged : Judges input (Ok job)
-  pub told : text ≡ accepted_line job.name.name (summary_of job)
+  pub printed : text ≡ accepted_line job.name.name (summary_of job)
   pub own : (command : JobCommand) (refusal : Refusal) → Breaks (OnJob command) input refusal → own_rule command job ≡ Some refusal
   pub zero : (command : JobCommand) (status : ℕ) (answer : List ℕ) → own_rule command job ≡ None
       → DueFor (Some (OnJob command)) input status answer → status ≡ 0
@@ -63,7 +63,7 @@ pub record IsFaulty (n : ℕ) (input text : List ℕ) : Type 0 where
   pub target : ℕ
   pub address : ℕ
   pub first : IsFirstDifference job net n cycle target address
-  pub told : text ≡ differing_text n job net cycle target address
+  pub printed : text ≡ differing_text n job net cycle target address
   pub fault : ShowsButName net job → ⊥
 
 -- `pipe` AND `read`: of a text that isn't too long, `read` writes the same text.

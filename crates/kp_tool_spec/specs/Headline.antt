@@ -29,7 +29,7 @@ use Rattle.kp_equiv.specs.Texts.{verdict_line}
 use Rattle.kp_frontend.specs.Judging.{Judges, JudgesHead, broken_in}
 use Rattle.kp_debug_script.specs.declared.command.Command.{Command}
 use Rattle.kp_debug_script.specs.Scripts.{script_of}
-use Rattle.kp_debug_report.specs.Inspecting.{all_cycles, told}
+use Rattle.kp_debug_report.specs.Inspecting.{all_cycles, printed}
 use Rattle.kp_watch.specs.Watching.{own_trace}
 use Rattle.kp_tool_report.specs.Runs.{run_text}
 use Rattle.kp_gen.specs.Generated.{gen_job}
@@ -80,7 +80,7 @@ pub record IsVerilogWith (Fact : Job → (ℕ → ℕ → ℕ) → List Inputs �
 pub record IsRunWith (Fact : Job → List Inputs → Trace → Type 0) (n : ℕ) (input text : List ℕ) : Type 0 where
   pub job : Job
   pub judged : Judges input (Ok job)
-  pub told : text ≡ run_text job (pipe_of job (inputs_from job 0 n)).rows
+  pub printed : text ≡ run_text job (pipe_of job (inputs_from job 0 n)).rows
       (λ t a. due_value job (inputs_from job 0 n) (pipe_of job (inputs_from job 0 n)).rows n t a)
   pub cycles : length (pipe_of job (inputs_from job 0 n)).rows ≡ n
   pub holds : Fact job (inputs_from job 0 n) (pipe_of job (inputs_from job 0 n))
@@ -90,7 +90,7 @@ pub record IsRunWith (Fact : Job → List Inputs → Trace → Type 0) (n : ℕ)
 pub record IsDumpedWith (Fact : Job → List Inputs → Trace → Type 0) (n : ℕ) (input text : List ℕ) : Type 0 where
   pub job : Job
   pub judged : Judges input (Ok job)
-  pub told : text ≡ vcd_text n job
+  pub printed : text ≡ vcd_text n job
   pub cycles : length (own_run job n).rows ≡ n
   pub values : (T s : ℕ) (w : Word) → T ≤ n → get_or (values_at job (own_run job n) T) s None ≡ Some w → held (vcd_dump n job) s T ≡ Some w
   pub changes : Changes (vcd_dump n job)
@@ -102,7 +102,7 @@ pub record IsGeneratedWith (Fact : Job → List Inputs → Trace → Type 0) (nu
   pub job : Job
   pub generated : job ≡ gen_job number
   pub accepted : broken_in job ≡ None
-  pub told : text ≡ totals_line number (totals_of job (own_run job n).rows (due_value job (inputs_from job 0 n) (own_run job n).rows n))
+  pub printed : text ≡ totals_line number (totals_of job (own_run job n).rows (due_value job (inputs_from job 0 n) (own_run job n).rows n))
   pub cycles : length (own_run job n).rows ≡ n
   pub holds : Fact job (inputs_from job 0 n) (own_run job n)
 
@@ -114,7 +114,7 @@ pub record IsTimed (n : ℕ) (input text : List ℕ) : Type 0 where
   pub judged : Judges input (Ok job)
   pub guesses : (summary_of job).guesses ≡ 0
   pub samples : (summary_of job).samples ≡ 0
-  pub told : text ≡ timing_text job n
+  pub printed : text ≡ timing_text job n
   pub rows : (pipe_of job (inputs_from job 0 n)).rows ≡ timeline_rows (machine_of job) (state_of job (start_of job)) start_hold (inputs_from job 0 n)
 
 -- The text prints what the script after a job asks about the run of its pipelined machine over all cycles of the debugger, under the job's own stall
@@ -125,7 +125,7 @@ pub record IsDebuggedWith (Fact : Job → List Inputs → Trace → Type 0) (inp
   pub judged : JudgesHead input (Ok (job, rest))
   pub commands : List Command
   pub script : script_of job.decls input rest ≡ Ok commands
-  pub told : text ≡ told job (pipe_of job (inputs_from job 0 all_cycles)) 0 commands
+  pub printed : text ≡ printed job (pipe_of job (inputs_from job 0 all_cycles)) 0 commands
   pub holds : Fact job (inputs_from job 0 all_cycles) (pipe_of job (inputs_from job 0 all_cycles))
 
 -- The text prints the run of the netlist that the Verilog after a job denotes, over n cycles of the job's own stall words and samples. The netlist is
@@ -137,7 +137,7 @@ pub record IsNetlistWith (Fact : Job → List Inputs → Trace → Type 0) (n : 
   pub net : Net
   pub denotes : ReadsVerilog input rest (Ok net)
   pub of_job : IsOfJob net job
-  pub told : text ≡ own_text n job net
+  pub printed : text ≡ own_text n job net
   pub holds : Fact job (inputs_from job 0 n) (own_trace job net n)
 
 -- The two texts after a job denote netlists of the job that run alike: for every list of inputs they have the same rows, and the same values of all
@@ -155,7 +155,7 @@ pub record IsPairAlike (input text : List ℕ) : Type 0 where
   pub second : Net
   pub denotes_second : ReadsVerilog input middle (Ok second)
   pub second_of_job : IsOfJob second job
-  pub told : text ≡ verdict_line first second Same
+  pub printed : text ≡ verdict_line first second Same
   pub alike : RunAlike first second
   pub shows : ShowsButName first job ↔ ShowsButName second job
   pub begins : ShowsButName first job → BeginsAnew (renamed first (module_name job)) job ↔ BeginsAnew (renamed second (module_name job)) job

@@ -25,7 +25,7 @@ pub fn one_outcome_is_due()
 
 /// What `sim N` prints for an accepted job is a run of its pipelined machine that is legal (`legal`), moves (`moves`), and waits only where it must
 /// (`no_needless_stall`).
-pub fn sim_tells_a_legal_run()
+pub fn sim_shows_a_legal_run()
     ensures legal { (n : ℕ) (input text : List ℕ) → DueFor (Some (OnJob (Sim n))) input 0 text → IsRunWith IsLegal n input text }
     ensures moves { (n : ℕ) (input text : List ℕ) → DueFor (Some (OnJob (Sim n))) input 0 text → IsRunWith IsMoving n input text }
     ensures no_needless_stall { (n : ℕ) (input text : List ℕ) → DueFor (Some (OnJob (Sim n))) input 0 text → IsRunWith HasNoNeedlessStall n input text }
@@ -50,7 +50,7 @@ pub fn gen_sums_up_a_legal_run()
 
 /// What `timing N` prints with status 0 is the timeline of a job without guesses and samples, and the rows of its pipelined machine are those of this
 /// timeline.
-pub fn timing_tells_the_rows_of_the_pipeline()
+pub fn timing_shows_the_rows_of_the_pipeline()
     ensures { (n : ℕ) (input text : List ℕ) → DueFor (Some (OnJob (Timing n))) input 0 text → IsTimed n input text }
 {}
 
@@ -64,19 +64,19 @@ pub fn written_verilog_is_legal_and_moves()
 
 /// What `debug` prints with status 0 describes a run of the pipelined machine that is legal (`legal`), moves (`moves`), and waits only where
 /// it must (`no_needless_stall`).
-pub fn debug_tells_of_a_legal_run()
+pub fn debug_shows_a_legal_run()
     ensures legal { (input text : List ℕ) → DueFor (Some Debug) input 0 text → IsDebuggedWith IsLegal input text }
     ensures moves { (input text : List ℕ) → DueFor (Some Debug) input 0 text → IsDebuggedWith IsMoving input text }
     ensures no_needless_stall { (input text : List ℕ) → DueFor (Some Debug) input 0 text → IsDebuggedWith HasNoNeedlessStall input text }
 {}
 
 /// What `watch N` prints with status 0 is the run of the netlist that the text after a job denotes, and this run is legal.
-pub fn watch_tells_a_legal_run()
+pub fn watch_shows_a_legal_run()
     ensures { (n : ℕ) (input text : List ℕ) → DueFor (Some (Watch n)) input 0 text → IsNetlistWith IsLegal n input text }
 {}
 
 /// If `equiv` ends with status 0, the two texts after the job denote netlists of the job that run alike.
-pub fn equiv_tells_of_netlists_that_run_alike()
+pub fn equiv_reports_netlists_that_run_alike()
     ensures { (input text : List ℕ) → DueFor (Some Compare) input 0 text → IsPairAlike input text }
 {}
 

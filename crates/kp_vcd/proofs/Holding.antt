@@ -53,9 +53,9 @@ untouched_by h b (Some w) s i other = go (is_value b w)
     go true = refl
     go false = rw other refl
 
-told_by : (h : Holding) (b v : Option Word) (s : ℕ) (w : Word) → v ≡ Some w → h s ≡ b → after h (change_of s b v) s ≡ Some w
-told_by h b None s w e known = cc
-told_by h b (Some x) s w e known = go (is_value b x) refl
+report_by : (h : Holding) (b v : Option Word) (s : ℕ) (w : Word) → v ≡ Some w → h s ≡ b → after h (change_of s b v) s ≡ Some w
+report_by h b None s w e known = cc
+report_by h b (Some x) s w e known = go (is_value b x) refl
   where
     go : (t : Bool) → is_value b x ≡ t → after h (if t then [] else record { signal = s; value = x } ∷ []) s ≡ Some w
     go true same = known ∙ same_value b x same ∙ e
@@ -94,18 +94,18 @@ untouched h before (v ∷ now) s i below =
     ∙ untouched (after h (change_of s (get_or before s None) v)) before now (s + 1) i (omega (arith, below))
     ∙ untouched_by h (get_or before s None) v s i (ne_eqb s i (λ same. omega (arith, below, same)))
 
-told : (h : Holding) (before now : Values) (s : ℕ) → Agrees h before s now → (k i : ℕ) (w : Word) → i ≡ s + k → get_or now k None ≡ Some w
+reported : (h : Holding) (before now : Values) (s : ℕ) → Agrees h before s now → (k i : ℕ) (w : Word) → i ≡ s + k → get_or now k None ≡ Some w
     → after h (changes_from s before now) i ≡ Some w
-told h before [] s agrees k i w is e = cc
-told h before (v ∷ now) s agrees zero i w is e =
+reported h before [] s agrees k i w is e = cc
+reported h before (v ∷ now) s agrees zero i w is e =
     let here : s ≡ i = omega (arith, is) in
     ap (λ (f : Holding). f i) (after-append h (change_of s (get_or before s None) v) (changes_from (s + 1) before now))
     ∙ untouched (after h (change_of s (get_or before s None) v)) before now (s + 1) i (omega (arith, is))
     ∙ subst (λ (j : ℕ). after h (change_of s (get_or before s None) v) j ≡ Some w) here
-    (told_by h (get_or before s None) v s w e (begins h before s v now agrees w e))
-told h before (v ∷ now) s agrees (suc k) i w is e =
+    (report_by h (get_or before s None) v s w e (begins h before s v now agrees w e))
+reported h before (v ∷ now) s agrees (suc k) i w is e =
     ap (λ (f : Holding). f i) (after-append h (change_of s (get_or before s None) v) (changes_from (s + 1) before now))
-    ∙ told (after h (change_of s (get_or before s None) v)) before now (s + 1) (agrees_next h before s v now agrees) k i w (omega (arith, is)) e
+    ∙ reported (after h (change_of s (get_or before s None) v)) before now (s + 1) (agrees_next h before s v now agrees) k i w (omega (arith, is)) e
 
 new : (h : Holding) (before now : Values) (s : ℕ) → Agrees h before s now → EachIsNew h (changes_from s before now)
 new h before [] s agrees = tt
@@ -194,16 +194,16 @@ module _ (values : ℕ → Values) (n : ℕ) where
         let before = lasts T i x (omega (arith, h)) (subst (λ (j : ℕ). get_or (values (suc T)) j None ≡ Some x) same there) in
         kept i before.0 before.1 ∙ sym before.1
 
-    told_at : (T : ℕ) → T ≤ n → (s : ℕ) (w : Word) → get_or (values T) s None ≡ Some w → holding (suc T) s ≡ Some w
-    told_at zero h s w e =
+    report_at : (T : ℕ) → T ≤ n → (s : ℕ) (w : Word) → get_or (values T) s None ≡ Some w → holding (suc T) s ≡ Some w
+    report_at zero h s w e =
         ap (λ (f : Holding). f s) (holding_next 0)
-        ∙ told nothing [] (values 0) 0 (λ k i x is there. refl) s s w (omega arith) e
-    told_at (suc T) h s w e =
+        ∙ reported nothing [] (values 0) 0 (λ k i x is there. refl) s s w (omega arith) e
+    report_at (suc T) h s w e =
         ap (λ (f : Holding). f s) (holding_next (suc T))
-        ∙ told (holding (suc T)) (values T) (values (suc T)) 0 (agrees_by T (omega (arith, h)) (told_at T (omega (arith, h)))) s s w (omega arith) e
+        ∙ reported (holding (suc T)) (values T) (values (suc T)) 0 (agrees_by T (omega (arith, h)) (report_at T (omega (arith, h)))) s s w (omega arith) e
 
     agrees_at : (T : ℕ) → suc T ≤ n → Agrees (holding (suc T)) (values T) 0 (values (suc T))
-    agrees_at T h = agrees_by T h (told_at T (omega (arith, h)))
+    agrees_at T h = agrees_by T h (report_at T (omega (arith, h)))
 
     new_before : (T : ℕ) → T ≤ suc n → EachIsNew nothing (all_changes (moments T))
     new_before zero h = tt
@@ -216,7 +216,7 @@ module _ (values : ℕ → Values) (n : ℕ) where
 
     pub recorded_held : (T : ℕ) → T ≤ n → (s : ℕ) (w : Word) → get_or (values T) s None ≡ Some w → after nothing (changes_to T (recorded values n)) s ≡ Some w
     recorded_held T h s w e =
-        ap (λ (cs : List Change). after nothing cs s) (beyond T (suc n) (omega (arith, h))) ∙ told_at T h s w e
+        ap (λ (cs : List Change). after nothing cs s) (beyond T (suc n) (omega (arith, h))) ∙ report_at T h s w e
 
     pub recorded_new : EachIsNew nothing (all_changes (recorded values n))
     recorded_new = new_before (suc n) (omega arith)

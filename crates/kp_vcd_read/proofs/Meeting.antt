@@ -104,8 +104,8 @@ flip false ne t e f = let h : t ≡ true = sym f ∙ e in rw h refl
 
 pub tested : {X : Type 0} (xs : List X) (f : X → List ℕ) (i : ℕ) (rest : X) (bytes found : List ℕ) (ne t : Bool) → i < length xs → bytes ≡ found
     → ne ≡ not (same_bytes bytes (f (get_or xs i rest))) → ne ≡ t → same_bytes found (get_or (map f xs) i []) ≡ not t
-tested xs f i rest bytes found ne t h is e told =
-    rw (get_or-map f xs i rest [] h, ← is) (flip (same_bytes bytes (f (get_or xs i rest))) ne t e told)
+tested xs f i rest bytes found ne t h is e reported =
+    rw (get_or-map f xs i rest [] h, ← is) (flip (same_bytes bytes (f (get_or xs i rest))) ne t e reported)
 
 -- ---- signals and changes
 
@@ -118,9 +118,9 @@ more_on d old new more t is h =
 pub change_on : (d : Dump) (time : ℕ) (changes : List Change) (old new : Left) (w : Spot) (bytes : List ℕ) (next : Option ℕ)
     → old.words ≡ w ∷ new.words → new.end ≡ old.end → bytes ≡ w.bytes → next ≡ time_of bytes → next ≡ None
     → gives_from (at (change time changes) d) old ≡ walk (begins d time changes w.place (said_by w.bytes)) new.words new.end
-change_on d time changes old new w bytes next took stays same told none =
+change_on d time changes old new w bytes next took stays same reported none =
     word_on (at (change time changes) d) old new w took stays
-    ∙ ap (λ (o : Option ℕ). walk (goes_on d time changes w o) new.words new.end) (ap time_of (sym same) ∙ sym told ∙ none)
+    ∙ ap (λ (o : Option ℕ). walk (goes_on d time changes w o) new.words new.end) (ap time_of (sym same) ∙ sym reported ∙ none)
 
 pub same_dump : (d : Dump) (moments : List Moment) → d.moments ≡ moments → d ≡ record d { moments = moments }
 same_dump d moments e = subst (λ (ms : List Moment). d ≡ record d { moments = ms }) e refl

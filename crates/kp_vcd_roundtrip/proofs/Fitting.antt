@@ -33,7 +33,7 @@ use Rattle.kp_vcd_run.specs.Dumps.{wire, register_signals, signals_of, number, o
 use Rattle.kp_vcd_run.proofs.Masks.{RollBackBelow, run_below}
 use Rattle.kp_vcd_roundtrip.proofs.Named.{RegistersNamed, JobNamed}
 use Rattle.kp_vcd_roundtrip.proofs.Values.{visible_fits}
-use Rattle.kp_vcd_roundtrip.proofs.Rising.{to_all, recorded_rises, FitSignals, recorded_told}
+use Rattle.kp_vcd_roundtrip.proofs.Rising.{to_all, recorded_rises, FitSignals, recorded_reported}
 
 -- ---- the signals
 
@@ -160,5 +160,5 @@ module _ (job : Job) (named : JobNamed job) (widths : first (widths_of job).aske
     signals = to_all IsSignal (signals_of job) signals_fit;
     few = signals_few;
     rises = recorded_rises (values_at job (own_run job n)) n small;
-    changes = recorded_told (signals_of job) (values_at job (own_run job n)) n signals_few values_fit;
+    changes = recorded_reported (signals_of job) (values_at job (own_run job n)) n signals_few values_fit;
   }

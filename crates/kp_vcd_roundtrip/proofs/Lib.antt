@@ -2,4 +2,4 @@ pub mod Named
 pub mod Values
 pub mod Rising
 pub mod Fitting
-pub mod Telling
+pub mod Reporting

@@ -110,23 +110,23 @@ module _ (signals : List Signal) where
       (omega (arith, few)) h.1)
 
   module _ (values : ℕ → Values) (n : ℕ) (few : length signals < 2 ^ 64) (fit : (T : ℕ) → T ≤ n → FitSignals signals (values T)) where
-    abbrev Told : Moment → Type 0
-    Told m = All (IsChange signals) m.changes
+    abbrev Reported : Moment → Type 0
+    Reported m = All (IsChange signals) m.changes
 
-    told : (T : ℕ) → T ≤ n → All (IsChange signals) (changes_at values T)
-    told T le = to_all (IsChange signals) (changes_at values T) (each_change signals 0 (values_before values T) (values T)
+    reported : (T : ℕ) → T ≤ n → All (IsChange signals) (changes_at values T)
+    reported T le = to_all (IsChange signals) (changes_at values T) (each_change signals 0 (values_before values T) (values T)
         (λ k. let e : 0 + k ≡ k = omega arith in ap (width_at signals) e)
         (omega (arith, few)) (fit T le))
 
-    one_told : (b : Bool) (T : ℕ) (cs : List Change) → All (IsChange signals) cs → AllByRecursion Told (one_moment b T cs)
-    one_told true T cs h = tt
-    one_told false T cs h = (h, tt)
+    one_reported : (b : Bool) (T : ℕ) (cs : List Change) → All (IsChange signals) cs → AllByRecursion Reported (one_moment b T cs)
+    one_reported true T cs h = tt
+    one_reported false T cs h = (h, tt)
 
-    each_told : (T : ℕ) → T ≤ suc n → AllByRecursion Told (moments_before values n T)
-    each_told zero le = tt
-    each_told (suc T) le =
-        each_append Told (moments_before values n T) (moment_of n T (changes_at values T)) (each_told T (omega (arith, le)))
-        (one_told _ T (changes_at values T) (told T (omega (arith, le))))
+    each_reported : (T : ℕ) → T ≤ suc n → AllByRecursion Reported (moments_before values n T)
+    each_reported zero le = tt
+    each_reported (suc T) le =
+        each_append Reported (moments_before values n T) (moment_of n T (changes_at values T)) (each_reported T (omega (arith, le)))
+        (one_reported _ T (changes_at values T) (reported T (omega (arith, le))))
 
-    pub recorded_told : All Told (recorded values n)
-    recorded_told = to_all Told (recorded values n) (each_told (suc n) (omega arith))
+    pub recorded_reported : All Reported (recorded values n)
+    recorded_reported = to_all Reported (recorded values n) (each_reported (suc n) (omega arith))

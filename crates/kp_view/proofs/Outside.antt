@@ -224,7 +224,7 @@ module _ {S T : Type 0} (held : S → Option (List ℕ)) (held_err : T → Optio
 
   drawn_at : (input text : List ℕ) (status : ℕ) → DueFor (show task) input status text → status ≡ 0 → IsDrawn task input text
   drawn_at input text status (Ok job, judged, due) zero_is =
-      let (fit, told, shown) = names_at_zero (names_fit task.order job) task.order input job status text due zero_is in (job, judged, fit, told, shown)
+      let (fit, reported, shown) = names_at_zero (names_fit task.order job) task.order input job status text due zero_is in (job, judged, fit, reported, shown)
   drawn_at input text status (Err refusal, judged, due) zero_is = let e = due.0 in absurd (omega (arith, e, zero_is))
 
   module _ (asked : Asked) (left left_after : Option (List ℕ)) (old new : S) (old_err new_err : T) (is : asked ≡ show task) where
@@ -249,5 +249,5 @@ module _ {S T : Type 0} (held : S → Option (List ℕ)) (held_err : T → Optio
 
     pub unrefused : (status : ℕ) → status ≡ 0 → All status → Between left left_after (held old) (held new) IsUnrefused
     unrefused status zero_is whole =
-        let (input, text, consumed, appended, (job, judged, fit, told, shown)) = drawn status zero_is whole in
+        let (input, text, consumed, appended, (job, judged, fit, reported, shown)) = drawn status zero_is whole in
         (input, text, consumed, appended, λ refusal broken. ok_never_err input job refusal judged broken)

@@ -25,7 +25,7 @@ use Rattle.kp_view_expected.specs.declared.token_class.TokenClass.{TokenClass}
 use Rattle.kp_view_expected.specs.declared.token_class.TokenClass.TheVariants as classes
 use Rattle.kp_view_expected.specs.declared.set.Expected.{Expected}
 use Rattle.kp_view_expected.specs.GoesOn.{class_of, GoesOn, all_classes, Lists}
-use Rattle.kp_view_expected.specs.inner.Plain.{Plain, number, plain, Steps, Runs, Tells, Follows, Fails, IsListing}
+use Rattle.kp_view_expected.specs.inner.Plain.{Plain, number, plain, Steps, Runs, IsAnswer, Follows, Fails, IsListing}
 use Rattle.kp_view_expected.proofs.Tests.{predictive}
 use Rattle.kp_view_expected.proofs.Transfer.{classes_of, to_plain, from_plain}
 
@@ -125,12 +125,12 @@ front_is text (t ∷ ts) = ap (λ (z : List TokenClass). class_of t.kind ∷ z) 
 
 module _ (front : List Lexeme) where
   -- If some sentence goes on with a class, some description goes on with each token of it;
-  goes : {s : List Plain} (t : Lexeme) → Follows (classes_of front) [] s → Tells true s (class_of t.kind) → GoesOn front t
-  goes t f told =
-      let rest = map (lexeme t.place) told.0 in
-      let d = after plain (f.derives (class_of t.kind ∷ told.0)) told.1 in
-      let same : classes_of (front ++ t ∷ rest) ≡ classes_of front ++ class_of t.kind ∷ told.0 =
-      map-append (λ (u : Lexeme). class_of u.kind) front (t ∷ rest) ∙ ap (λ (z : List TokenClass). classes_of front ++ class_of t.kind ∷ z) (lexemes_are t.place told.0) in
+  goes : {s : List Plain} (t : Lexeme) → Follows (classes_of front) [] s → IsAnswer true s (class_of t.kind) → GoesOn front t
+  goes t f answered =
+      let rest = map (lexeme t.place) answered.0 in
+      let d = after plain (f.derives (class_of t.kind ∷ answered.0)) answered.1 in
+      let same : classes_of (front ++ t ∷ rest) ≡ classes_of front ++ class_of t.kind ∷ answered.0 =
+      map-append (λ (u : Lexeme). class_of u.kind) front (t ∷ rest) ∙ ap (λ (z : List TokenClass). classes_of front ++ class_of t.kind ∷ z) (lexemes_are t.place answered.0) in
       let h = from_plain d (Nonterminal JOB ∷ []) (at [] []) (front ++ t ∷ rest) refl same in
       (rest, h.0, h.1)
 
@@ -146,11 +146,11 @@ module _ (front : List Lexeme) where
   listed_goes {s} e t f all has =
       let is = all has.0 (class_of t.kind) has.1 in
       let yes : is.0 ≡ true = cc (is.1, has.2) in
-      goes t f (subst (λ (b : Bool). Tells b s (class_of t.kind)) yes is.2)
+      goes t f (subst (λ (b : Bool). IsAnswer b s (class_of t.kind)) yes is.2)
 
-  not_refused : {s : List Plain} (b : Bool) (c : TokenClass) (cs : List TokenClass) → Runs s (c ∷ cs) → Tells b s c → b ≡ true
-  not_refused true c cs l told = refl
-  not_refused false c cs l told = absurd (told cs l)
+  not_refused : {s : List Plain} (b : Bool) (c : TokenClass) (cs : List TokenClass) → Runs s (c ∷ cs) → IsAnswer b s c → b ≡ true
+  not_refused true c cs l answered = refl
+  not_refused false c cs l answered = absurd (answered cs l)
 
   goes_listed : {s : List Plain} (e : Expected) (t : Lexeme) → Follows (classes_of front) [] s → IsListing e.listed s → GoesOn front t → Lists e (class_of t.kind)
   goes_listed {s} e t f all g =
@@ -224,11 +224,11 @@ nothing e off c has =
 pub all_off : (n : ℕ) → All (λ (b : Bool). b ≡ false) (replicate n false)
 all_off n = All-replicate (λ (b : Bool). b ≡ false) n false refl
 
--- What is told of each class up to one is told of this one too.
-pub told_more : (P : Bool → TokenClass → Type 0) (xs : List Bool) (all : List TokenClass) (i : ℕ) (v : Bool) (d : TokenClass) → all ≡ all_classes → length xs ≡ 53 → i < length all → P v (get_or all i d)
+-- A property of each class up to one is one of this class too.
+pub answer_more : (P : Bool → TokenClass → Type 0) (xs : List Bool) (all : List TokenClass) (i : ℕ) (v : Bool) (d : TokenClass) → all ≡ all_classes → length xs ≡ 53 → i < length all → P v (get_or all i d)
     → ((k : ℕ) (c : TokenClass) → k < i → slice_get all_classes k ≡ Some c → (b : Bool) × (slice_get xs k ≡ Some b) × P b c)
     → (k : ℕ) (c : TokenClass) → k < i + 1 → slice_get all_classes k ≡ Some c → (b : Bool) × (slice_get (set xs i v) k ≡ Some b) × P b c
-told_more P xs all i v d same size within now before k c h at = elim (cases_lt k i) [
+answer_more P xs all i v d same size within now before k c h at = elim (cases_lt k i) [
   | inl l ↦
       let r = before k c l at in
       let there = slice_get_within xs k r.0 r.1 in
@@ -247,10 +247,10 @@ told_more P xs all i v d same size within now before k c h at = elim (cases_lt k
 ]
 
 -- at the end of all classes
-pub told_all : (P : Bool → TokenClass → Type 0) (xs : List Bool) (all : List TokenClass) (i : ℕ) → all ≡ all_classes → length all ≤ i
+pub answer_all : (P : Bool → TokenClass → Type 0) (xs : List Bool) (all : List TokenClass) (i : ℕ) → all ≡ all_classes → length all ≤ i
     → ((k : ℕ) (c : TokenClass) → k < i → slice_get all_classes k ≡ Some c → (b : Bool) × (slice_get xs k ≡ Some b) × P b c)
     → (k : ℕ) (c : TokenClass) → slice_get all_classes k ≡ Some c → (b : Bool) × (slice_get xs k ≡ Some b) × P b c
-told_all P xs all i same h before k c at = let end = all_at_end all i same h in let within = slice_get_within all_classes k c at in before k c (omega (arith, within, end)) at
+answer_all P xs all i same h before k c at = let end = all_at_end all i same h in let within = slice_get_within all_classes k c at in before k c (omega (arith, within, end)) at
 
 -- the same where a call may run out of memory
 pub exact_result : {E : Type 0} (r : Result Expected E) (front : List Token) (s : List Plain) → Follows (map (λ (t : Token). class_of t.kind) front) [] s → IfOk r (λ e. IsListing e.listed s)

@@ -16,7 +16,7 @@ use Rattle.kp_view_expected.specs.declared.part.Part.{Part}
 use Rattle.kp_view_expected.specs.declared.part.Symbol.{Symbol as CodeSymbol}
 use Rattle.kp_view_expected.specs.declared.part.Symbol.TheVariants as symbols
 use Rattle.kp_view_expected.specs.GoesOn.{class_of}
-use Rattle.kp_view_expected.specs.inner.Plain.{Plain, is_solid, name, number, plain, plain_symbol, stack, Runs, Opens, Refuses, Decides, Tells, Follows, Fails}
+use Rattle.kp_view_expected.specs.inner.Plain.{Plain, is_solid, name, number, plain, plain_symbol, stack, Runs, Opens, Refuses, Decides, IsAnswer, Follows, Fails}
 use Rattle.kp_view_expected.proofs.Tests.{choose_or, chosen, lighter, solid, work}
 use Rattle.kp_view_expected.proofs.Sentences.{completes, some_alternative}
 
@@ -79,9 +79,9 @@ refused {s} {t} {c} o' same =
     λ cs l. at_end (o.runs cs l)
 
 -- What is read can be completed.
-pub told : (b : Bool) (s : List Plain) (c : TokenClass) (xs : List CodeSymbol) → Decides b s c (stack xs) → Tells b s c
-told true s c xs r = let k = completes (reverse xs) in (k.0, after plain (r.derives k.0) k.1)
-told false s c xs r = r
+pub answered : (b : Bool) (s : List Plain) (c : TokenClass) (xs : List CodeSymbol) → Decides b s c (stack xs) → IsAnswer b s c
+answered true s c xs r = let k = completes (reverse xs) in (k.0, after plain (r.derives k.0) k.1)
+answered false s c xs r = r
 
 pub begin : (front : List TokenClass) (s : List Plain) → s ≡ Nonterminal 1 ∷ [] → Follows front front s
 begin front s e = subst (λ (z : List Plain). Follows front front z) (sym e) (record { derives = λ cs. stay; runs = λ cs l. l })
@@ -96,9 +96,9 @@ stopped {front} {rest} {all} {s} {c} s' f' same r =
     let f : Follows front (c ∷ rest) s = subst (λ (z : List TokenClass). Follows front z s) same f' in
     λ cs l. r (rest ++ cs) (f.runs cs l)
 
-pub told_result : {E : Type 0} (r : Result Bool E) (s t : List Plain) (c : TokenClass) (xs : List CodeSymbol) → s ≡ t → IfOk r (λ b. Decides b s c (stack xs)) → IfOk r (λ b. Tells b t c)
-told_result (Ok b) s t c xs e h = subst (λ (z : List Plain). Tells b z c) e (told b s c xs h)
-told_result (Err x) s t c xs e h = tt
+pub answer_result : {E : Type 0} (r : Result Bool E) (s t : List Plain) (c : TokenClass) (xs : List CodeSymbol) → s ≡ t → IfOk r (λ b. Decides b s c (stack xs)) → IfOk r (λ b. IsAnswer b t c)
+answer_result (Ok b) s t c xs e h = subst (λ (z : List Plain). IsAnswer b z c) e (answered b s c xs h)
+answer_result (Err x) s t c xs e h = tt
 
 -- what is left before a token, and after it
 pub one_less : (front : List Token) (i : ℕ) (t : Token) (c : TokenClass) → i < length front → c ≡ class_of (get_or front i t).kind
@@ -166,7 +166,7 @@ seen_at all i h =
 pub seen_all : (all : List (Bor (List CodeSymbol))) (i : ℕ) → length all ≤ i → length (seen all) ≤ i
 seen_all all i h = subst (λ (n : ℕ). n ≤ i) (sym (length-map all (λ (a : Bor (List CodeSymbol)). map plain_symbol a.now))) h
 
--- What symbols begin with is told by the first of them.
+-- The first of the symbols determines what they begin with.
 or_false : (b : Bool) → b ≡ (b || false)
 or_false true = refl
 or_false false = refl

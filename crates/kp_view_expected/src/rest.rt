@@ -2,7 +2,7 @@
 ghost use Rattle.std.specs.Prelude.{◌≡◌, [], ◌∷◌, ◌++◌, reverse, IfOk, OnOk};
 ghost use Rattle.kp_grammar.specs.Grammar.{Nonterminal};
 ghost use Rattle.kp_parse_grammar.specs.Language.{JOB};
-ghost use Rattle.kp_view_expected.specs.inner.Plain.{stack, Decides, Tells};
+ghost use Rattle.kp_view_expected.specs.inner.Plain.{stack, Decides, IsAnswer};
 
 use crate::part::{Part, Symbol};
 use crate::token_class::TokenClass;
@@ -47,7 +47,7 @@ impl Rest {
 
     /// Whether a token of the class can come next.
     pub(crate) fn goes_on(&self, alloc: Global, class: TokenClass) -> Result<bool, NoMemory>
-        ensures { IfOk result (λ b. Tells b (stack self.now.symbols.items) class) }
+        ensures { IfOk result (λ b. IsAnswer b (stack self.now.symbols.items) class) }
     {
         let symbols = Vec::from_slice(alloc, self.symbols.as_slice())?;
         let mut trial = Rest { symbols };

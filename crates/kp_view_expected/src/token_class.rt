@@ -7,7 +7,7 @@ ghost use Rattle.kp_view_expected.specs.inner.Plain.{number};
 
 use kp_lex::{Keyword, Mark, TokenKind};
 
-/// A class of tokens: the grammar doesn't tell the tokens of one class apart.
+/// A class of tokens: the grammar doesn't distinguish the tokens of one class.
 #[derive(Clone, Copy, PartialEq, Eq)]
 pub enum TokenClass {
     Keyword(Keyword),

@@ -1,4 +1,4 @@
-//! Why an input is rejected: the rule and the place that its reader names, and the facts behind it; and warnings for a job that is accepted.
+//! Why an input is rejected: the rule and the place that its reader names, and the facts that it rests on; and warnings for a job that is accepted.
 //!
 //! The facts come from a second pass over the text, its tokens or its tree, which goes on after a violation of a job. Where that pass has no finding of
 //! the rule at the place, it is a fixed sentence for the rule.

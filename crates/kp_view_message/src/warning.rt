@@ -5,7 +5,7 @@ use std::fmt;
 /// A warning, with the facts that it rests on.
 #[derive(Clone, Copy)]
 pub enum Warning<'t> {
-    // W1
+    // a result that isn't set
     NeverSet {
         result: Word<'t>,
         target: Word<'t>,
@@ -17,15 +17,15 @@ pub enum Warning<'t> {
         stage: u64,
         lines: [Option<u32>; 4],
     },
-    // W3
+    // a set that never takes place
     SetInVain {
         result: Word<'t>,
         stage: usize,
         line: u32,
     },
-    // W4
+    // a pipe that nothing uses
     UnusedPipe(Word<'t>),
-    // W5
+    // a name that nothing uses
     UnusedLocal {
         name: Word<'t>,
         stage: usize,
@@ -34,9 +34,9 @@ pub enum Warning<'t> {
         name: Word<'t>,
         kind: Kind,
     },
-    // W6
+    // a register that never changes
     NoResult(Word<'t>),
-    // W7
+    // an address or an enable that is put later than it could be
     PutLate {
         name: Word<'t>,
         target: Word<'t>,

@@ -31,7 +31,7 @@ Sets job s q k j t =
     ((instruction_at job s q k j).results t ≡ None)
     × ((v : ℕ) × ((instruction_at job s q k (j + 1)).results t ≡ Some v))
 
--- THE CLAIM of W3: the statement sets no result, in no instruction on any state and with any samples.
+-- THE CLAIM that a set never takes place: the statement sets no result, in no instruction on any state and with any samples.
 abbrev pub NeverSets : Job → ℕ → ℕ → Type 0
 NeverSets job k j = (s : ℕ → ℕ → ℕ) (q : ℕ → ℕ) (t : ℕ) → Sets job s q k j t → ⊥
 
@@ -41,7 +41,7 @@ NeverTakesPlace job p = NeverSets job p.stage p.index
 abbrev pub AreInVain : Job → Type 0
 AreInVain job = (result : List ℕ) → All (NeverTakesPlace job) (in_vain (sets_from result 0 job.blocks))
 
--- THE CLAIM of W1: an instruction that doesn't set the result r of target t, which has no enable, writes 0 at its address.
+-- THE CLAIM that a result may be unset: an instruction that doesn't set the result r of target t, which has no enable, writes 0 at its address.
 abbrev pub WritesZero : Job → (ℕ → ℕ → ℕ) → (ℕ → ℕ) → ℕ → ResultDecl → Type 0
 WritesZero job s q t r =
     let m = machine_of job in

@@ -17,7 +17,7 @@ IsInVain job result set first =
     × Contains (in_vain (sets_from result 0 job.blocks)) set
     × NeverTakesPlace job set
 
--- W3: the set at this place never takes place, and that first set is in this stage and line.
+-- The set at this place never takes place, and that first set is in this stage and line.
 abbrev pub Claims : Job → Place → Warning → Type 0
 Claims job place (warnings.SetInVain result stage line) =
     (set : PlacedSet) × ((first : PlacedSet) × (IsInVain job result.0.now set first × (set.place ≡ place) × (first.stage ≡ stage) × (first.place.line ≡ line)))

@@ -1,4 +1,4 @@
-// What becomes of a result: W1, W3 and W7.
+// Warnings of results: one that isn't set, a set that never takes place, and an address or an enable that is put late.
 ghost use Rattle.std.specs.Prelude.{◌≡◌, IfSome, OnOk};
 ghost use Rattle.std.specs.List.{All};
 ghost use Rattle.kp_ast.specs.declared.tree.Job.{Job};
@@ -34,7 +34,7 @@ pub(crate) fn of_output<'t>(
     Ok(())
 }
 
-// W1 and W3.
+// A result that isn't set, and the sets of it that never take place.
 fn of_sets<'t>(
     alloc: Global,
     all: &mut Vec<Caution<'t>>,
@@ -50,8 +50,8 @@ fn of_sets<'t>(
     add(all, job, unset(puts, job, output, sets.as_slice()))
 }
 
-// W3: the sets that never take place, since one without a condition comes before them.
-#[tactic(auto, using(crate::proofs::Told::told))]
+// The sets that never take place, since one without a condition is before them.
+#[tactic(auto, using(crate::proofs::Reported::reported))]
 fn add_in_vain<'t>(
     all: &mut Vec<Caution<'t>>,
     job: &'t Job,
@@ -71,7 +71,7 @@ fn add_in_vain<'t>(
     Ok(())
 }
 
-#[tactic(auto, using(crate::proofs::Told::all_pushed))]
+#[tactic(auto, using(crate::proofs::Reported::all_pushed))]
 fn add_one<'t>(
     all: &mut Vec<Caution<'t>>,
     job: &'t Job,
@@ -79,7 +79,7 @@ fn add_one<'t>(
     set: PlacedSet,
     first: PlacedSet,
 ) -> Result<(), NoMemory>
-    requires told { IsInVain job.now name.now set first }
+    requires reported { IsInVain job.now name.now set first }
     requires so_far { All (IsTrueOf job.now) all.old.items }
     ensures { OnOk result (All (IsTrueOf job.now) all.new.items) }
 {
@@ -99,7 +99,7 @@ fn in_vain_after<'t>(name: &'t Name, set: PlacedSet, first: PlacedSet) -> Cautio
     Caution { place, warning }
 }
 
-// W7.
+// What is put later than it could be, for the address and the enable.
 fn of_intent<'t>(
     all: &mut Vec<Caution<'t>>,
     puts: &Table<usize>,
@@ -113,7 +113,7 @@ fn of_intent<'t>(
     add(all, job, late_put(puts, job, output, &output.enable))
 }
 
-// W1: a result that is never set, or that some instruction may not set.
+// A result that is never set, or that some instruction may not set.
 fn unset<'t>(
     puts: &Table<usize>,
     job: &Job,
@@ -250,7 +250,7 @@ fn reads(block: &Block, target: &Name) -> bool {
     })
 }
 
-// W7: the address or the enable of a result, where an earlier stage can compute it.
+// The address or the enable of a result, where an earlier stage can compute it.
 fn late_put<'t>(
     puts: &Table<usize>,
     job: &'t Job,

@@ -1,4 +1,4 @@
-// Names that are used nowhere: W4, W5 and W6.
+// Names that are used nowhere: pipes, local names, registers without a result and other declarations.
 ghost use Rattle.std.specs.Prelude.{◌≡◌, IfSome, OnOk};
 ghost use Rattle.std.specs.List.{All};
 ghost use Rattle.kp_view_stages.specs.Cautions.{ClaimsNothing, IsTrueOf};
@@ -11,7 +11,7 @@ use kp_view_help::{Kind, Word};
 use kp_view_message::Warning;
 use std::alloc::Global;
 
-// W4, W5 and W6 at a declaration.
+// The warning of a declaration.
 pub(crate) fn of_decl<'t>(used: &Table<bool>, job: &Job, decl: &'t Decl) -> Option<Caution<'t>>
     ensures { IfSome result ClaimsNothing }
 {
@@ -66,7 +66,7 @@ fn has_result(job: &Job, target: &Name) -> bool {
     })
 }
 
-// W5 at the statements of a stage.
+// The local names at the statements of a stage.
 pub(crate) fn of_block<'t>(
     alloc: Global,
     all: &mut Vec<Caution<'t>>,

@@ -12,8 +12,8 @@ use kp_base::NoMemory;
 use kp_view_findings::{Caution, Table};
 use std::alloc::Global;
 
-/// The warnings of a job, in text order. Each `set` that W3 names never takes place. The only error is out of memory.
-#[tactic(auto, using(crate::proofs::Told::all_moved))]
+/// The warnings of a job, in text order. Each `set` that a warning names as one that never takes place takes place in no instruction. The only error is out of memory.
+#[tactic(auto, using(crate::proofs::Reported::all_moved))]
 pub fn cautions<'t>(alloc: Global, job: &'t Job) -> Result<Vec<Caution<'t>>, NoMemory>
     ensures { IfOk result (λ all. All (IsTrueOf job.now) all.items) }
 {

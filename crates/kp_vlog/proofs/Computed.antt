@@ -43,30 +43,30 @@ abbrev pub lexed : ℕ → ℕ → List ℕ → Lexed
 lexed zero at text = tired
 lexed (suc k) at text = behind (front text) at text (lexed k)
 
-abbrev Told : ℕ → List ℕ → Lexed → Type 0
-Told at text (has ts) = Lexes at text ts
-Told at text (stops to) = LexesTo at text to
-Told at text tired = Unit {0}
+abbrev Reported : ℕ → List ℕ → Lexed → Type 0
+Reported at text (has ts) = Lexes at text ts
+Reported at text (stops to) = LexesTo at text to
+Reported at text tired = Unit {0}
 
-takes_told : (at : ℕ) (text : List ℕ) (w : Word) (n : ℕ) (r : Lexed) → front text ≡ takes w n → Told (at + n) (drop n text) r → Told at text (with_token (record { word = w; at = at }) r)
-takes_told at text w n (has ts) e h = token w n e h
-takes_told at text w n (stops to) e h = past_token w n e h
-takes_told at text w n tired e h = tt
+takes_reported : (at : ℕ) (text : List ℕ) (w : Word) (n : ℕ) (r : Lexed) → front text ≡ takes w n → Reported (at + n) (drop n text) r → Reported at text (with_token (record { word = w; at = at }) r)
+takes_reported at text w n (has ts) e h = token w n e h
+takes_reported at text w n (stops to) e h = past_token w n e h
+takes_reported at text w n tired e h = tt
 
-skips_told : (at : ℕ) (text : List ℕ) (n : ℕ) (r : Lexed) → front text ≡ skips n → Told (at + n) (drop n text) r → Told at text r
-skips_told at text n (has ts) e h = past n e h
-skips_told at text n (stops to) e h = past_gap n e h
-skips_told at text n tired e h = tt
+skips_reported : (at : ℕ) (text : List ℕ) (n : ℕ) (r : Lexed) → front text ≡ skips n → Reported (at + n) (drop n text) r → Reported at text r
+skips_reported at text n (has ts) e h = past n e h
+skips_reported at text n (stops to) e h = past_gap n e h
+skips_reported at text n tired e h = tt
 
-behind_told : (at : ℕ) (text : List ℕ) (next : ℕ → List ℕ → Lexed) (f : Front) → front text ≡ f → ((a : ℕ) (t : List ℕ) → Told a t (next a t)) → Told at text (behind f at text next)
-behind_told at text next finish e h = at_end e
-behind_told at text next (skips n) e h = skips_told at text n (next (at + n) (drop n text)) e (h (at + n) (drop n text))
-behind_told at text next (takes w n) e h = takes_told at text w n (next (at + n) (drop n text)) e (h (at + n) (drop n text))
-behind_told at text next tokens.broken e h = here e
+behind_reported : (at : ℕ) (text : List ℕ) (next : ℕ → List ℕ → Lexed) (f : Front) → front text ≡ f → ((a : ℕ) (t : List ℕ) → Reported a t (next a t)) → Reported at text (behind f at text next)
+behind_reported at text next finish e h = at_end e
+behind_reported at text next (skips n) e h = skips_reported at text n (next (at + n) (drop n text)) e (h (at + n) (drop n text))
+behind_reported at text next (takes w n) e h = takes_reported at text w n (next (at + n) (drop n text)) e (h (at + n) (drop n text))
+behind_reported at text next tokens.broken e h = here e
 
-told : (k at : ℕ) (text : List ℕ) → Told at text (lexed k at text)
-told zero at text = tt
-told (suc k) at text = behind_told at text (lexed k) (front text) refl (told k)
+reported : (k at : ℕ) (text : List ℕ) → Reported at text (lexed k at text)
+reported zero at text = tt
+reported (suc k) at text = behind_reported at text (lexed k) (front text) refl (reported k)
 
 -- Sentences.
 
@@ -185,11 +185,11 @@ parsed_holds text ts (wrong k) l d =
     })
 parsed_holds text ts unfinished l d = tt
 
-lexed_holds : (k : ℕ) (text : List ℕ) (r : Lexed) → Told 0 text r → Holds text (of_lexed k text r)
+lexed_holds : (k : ℕ) (text : List ℕ) (r : Lexed) → Reported 0 text r → Holds text (of_lexed k text r)
 lexed_holds k text (has ts) l = parsed_holds text ts (parsed k (Nonterminal MODULE ∷ []) [] ts) l (goes k (Nonterminal MODULE ∷ []) [] ts)
 lexed_holds k text (stops at) l = no_token l
 lexed_holds k text tired l = tt
 
 -- What is computed is true.
-pub told_by : (k : ℕ) (text : List ℕ) (v : Verdict) → verdict k text ≡ v → Holds text v
-told_by k text v e = subst (Holds text) e (lexed_holds k text (lexed k 0 text) (told k 0 text))
+pub report_by : (k : ℕ) (text : List ℕ) (v : Verdict) → verdict k text ≡ v → Holds text v
+report_by k text v e = subst (Holds text) e (lexed_holds k text (lexed k 0 text) (reported k 0 text))

@@ -6,15 +6,15 @@ use Rattle.kp_vlog.specs.Canon.{canon}
 use Rattle.kp_vlog.specs.Rules.{broken}
 use Rattle.kp_vlog.specs.Denote.{net_of, Denotes}
 use Rattle.kp_vlog.specs.Examples.{counter, counter_text, store, store_text}
-use Rattle.kp_vlog.proofs.Computed.{right, told_by}
+use Rattle.kp_vlog.proofs.Computed.{right, report_by}
 
 pub counter_denotes : Denotes 0 counter_text counter
 unfolding broken net_of
-counter_denotes = told_by 2000 counter_text (right counter) refl
+counter_denotes = report_by 2000 counter_text (right counter) refl
 
 pub store_denotes : Denotes 0 store_text store
 unfolding broken net_of
-store_denotes = told_by 3000 store_text (right store) refl
+store_denotes = report_by 3000 store_text (right store) refl
 
 pub counter_canonical : canon counter ≡ counter_text
 unfolding canon wide digits

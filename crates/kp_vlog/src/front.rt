@@ -28,7 +28,7 @@ pub enum Front {
 
 /// What the text starts with. A token is a number or a literal with its value, a keyword, a punctuator, or a name.
 pub fn read_front(text: &[u8]) -> Front
-    ensures told { seen text.now result ≡ front text.now }
+    ensures reported { seen text.now result ≡ front text.now }
     ensures fits { Fits (length text.now) result }
 {
     begin_of(text)

@@ -1,8 +1,8 @@
 -- A first module ends at one offset.
 use Rattle.std.proofs.Common.{ℕ, zero, suc, Bool, true, false, ◌+◌, ◌≤◌, ◌<◌, ◌≡◌, ◌∙◌, List, length, length-drop, drop, refl, sym, ap, subst, arith}
 use Rattle.std.proofs.lemmas.Bool.{false≢true}
-use Rattle.kp_vlog.specs.declared.front.Front.{Front as Told}
-use Rattle.kp_vlog.specs.declared.front.Front.TheVariants as told
+use Rattle.kp_vlog.specs.declared.front.Front.{Front as Reported}
+use Rattle.kp_vlog.specs.declared.front.Front.TheVariants as reported
 use Rattle.kp_vlog.specs.declared.token.Keyword.{Keyword}
 use Rattle.kp_vlog.specs.Tokens.{Word, keyword, Front, front, finish, skips, takes, broken}
 use Rattle.kp_vlog.specs.inner.Kinds.{front_of}
@@ -31,11 +31,11 @@ IsWithin len (skips n) = (0 < n) × (n ≤ len)
 IsWithin len (takes w n) = (0 < n) × (n ≤ len)
 IsWithin len broken = Unit {0}
 
-seen_within : (text : List ℕ) (t : Told) → Fits (length text) t → IsWithin (length text) (seen text t)
-seen_within text told.End h = tt
-seen_within text (told.Skip n) h = h
-seen_within text (told.Token k n) h = h
-seen_within text told.Broken h = tt
+seen_within : (text : List ℕ) (t : Reported) → Fits (length text) t → IsWithin (length text) (seen text t)
+seen_within text reported.End h = tt
+seen_within text (reported.Skip n) h = h
+seen_within text (reported.Token k n) h = h
+seen_within text reported.Broken h = tt
 
 pub front_within : (text : List ℕ) → IsWithin (length text) (front text)
 front_within text = subst (IsWithin (length text)) (seen_front text) (seen_within text (front_of text) (fits_front text))

@@ -28,51 +28,51 @@ length_in (leads.Closes n) = n
 length_in (leads.Past n) = n
 
 -- what the code computes of the front
-pub data Told (text : List ℕ) : Lead → Type 0 where
-  ended : front text ≡ finish → Told text leads.Stops
-  stuck : front text ≡ broken → Told text leads.Stops
-  gap : (n : ℕ) → front text ≡ skips n → Told text (leads.Past n)
-  closing : (w : Word) (n : ℕ) → front text ≡ takes w n → is_endmodule w ≡ true → Told text (leads.Closes n)
-  other : (w : Word) (n : ℕ) → front text ≡ takes w n → is_endmodule w ≡ false → Told text (leads.Past n)
+pub data Reported (text : List ℕ) : Lead → Type 0 where
+  ended : front text ≡ finish → Reported text leads.Stops
+  stuck : front text ≡ broken → Reported text leads.Stops
+  gap : (n : ℕ) → front text ≡ skips n → Reported text (leads.Past n)
+  closing : (w : Word) (n : ℕ) → front text ≡ takes w n → is_endmodule w ≡ true → Reported text (leads.Closes n)
+  other : (w : Word) (n : ℕ) → front text ≡ takes w n → is_endmodule w ≡ false → Reported text (leads.Past n)
 
-told_of : (text : List ℕ) → Told text (lead_of (front text))
-told_of text = by (front text) refl
+report_of : (text : List ℕ) → Reported text (lead_of (front text))
+report_of text = by (front text) refl
   where
-    token : (w : Word) (n : ℕ) → front text ≡ takes w n → (b : Bool) → is_endmodule w ≡ b → Told text (cond b (leads.Closes n) (leads.Past n))
+    token : (w : Word) (n : ℕ) → front text ≡ takes w n → (b : Bool) → is_endmodule w ≡ b → Reported text (cond b (leads.Closes n) (leads.Past n))
     token w n e true is = closing w n e is
     token w n e false is = other w n e is
 
-    by : (f : Front) → front text ≡ f → Told text (lead_of f)
+    by : (f : Front) → front text ≡ f → Reported text (lead_of f)
     by finish e = ended e
     by broken e = stuck e
     by (skips n) e = gap n e
     by (takes w n) e = token w n e (is_endmodule w) refl
 
-pub told : (text : List ℕ) (l : Lead) → l ≡ lead_of (front text) → Told text l
-told text l e = subst (Told text) (sym e) (told_of text)
+pub reported : (text : List ℕ) (l : Lead) → l ≡ lead_of (front text) → Reported text l
+reported text l e = subst (Reported text) (sym e) (report_of text)
 
-pub past_fits : (text : List ℕ) (n : ℕ) → Told text (leads.Past n) → (0 < n) × (n ≤ length text)
+pub past_fits : (text : List ℕ) (n : ℕ) → Reported text (leads.Past n) → (0 < n) × (n ≤ length text)
 past_fits text n (gap m e) = skips_fit text m e
 past_fits text n (other w m e is) = takes_fit text w m e
 
-pub closes_fits : (text : List ℕ) (n : ℕ) → Told text (leads.Closes n) → (0 < n) × (n ≤ length text)
+pub closes_fits : (text : List ℕ) (n : ℕ) → Reported text (leads.Closes n) → (0 < n) × (n ≤ length text)
 closes_fits text n (closing w m e is) = takes_fit text w m e
 
 module _ (text : List ℕ) (from start : ℕ) (rest : List ℕ) (h : Parting text from start rest) where
-  pub stopped : Told rest leads.Stops → FirstEnds from (drop from text) (length text)
+  pub stopped : Reported rest leads.Stops → FirstEnds from (drop from text) (length text)
   stopped (ended e) = h.leads (length text) (subst (FirstEnds start rest) h.within (over e))
   stopped (stuck e) = h.leads (length text) (subst (FirstEnds start rest) h.within (faulty e))
 
-  pub closed : (n : ℕ) → Told rest (leads.Closes n) → FirstEnds from (drop from text) (start + n)
+  pub closed : (n : ℕ) → Reported rest (leads.Closes n) → FirstEnds from (drop from text) (start + n)
   closed n (closing w m e is) = h.leads (start + m) (closes m (e ∙ ap (λ (v : Word). takes v m) (endmodule_is w is)))
 
-  pub passed : (n : ℕ) → Told rest (leads.Past n) → Parting text from (start + n) (drop n rest)
+  pub passed : (n : ℕ) → Reported rest (leads.Past n) → Parting text from (start + n) (drop n rest)
   passed n t = record {
     leads = λ to l. h.leads to (goes n t to l);
     within = (let w = h.within in let l = (past_fits rest n t).1 in omega (arith, length-drop n rest));
     after = (let a = h.after in omega arith);
   }
     where
-      goes : (n : ℕ) → Told rest (leads.Past n) → (to : ℕ) → FirstEnds (start + n) (drop n rest) to → FirstEnds start rest to
+      goes : (n : ℕ) → Reported rest (leads.Past n) → (to : ℕ) → FirstEnds (start + n) (drop n rest) to → FirstEnds start rest to
       goes n (gap m e) to l = past_gap m e l
       goes n (other w m e is) to l = past_token w m e (endmodule_not w is) l

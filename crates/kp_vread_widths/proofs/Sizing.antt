@@ -54,11 +54,11 @@ address_found (e ∷ es) n = step (same n e.0) (address_found es n)
     step true h = refl
     step false h = h
 
-pub width_told : (es : List (List ℕ × Size)) (n : List ℕ) (o : Option Size) → o ≡ lookup (same n) es → width_in (map sized_of es) n ≡ width_or o
-width_told es n o e = width_found es n ∙ ap width_or (sym e)
+pub width_reported : (es : List (List ℕ × Size)) (n : List ℕ) (o : Option Size) → o ≡ lookup (same n) es → width_in (map sized_of es) n ≡ width_or o
+width_reported es n o e = width_found es n ∙ ap width_or (sym e)
 
-pub address_told : (es : List (List ℕ × Size)) (n : List ℕ) (o : Option Size) → o ≡ lookup (same n) es → address_in (map sized_of es) n ≡ address_or o
-address_told es n o e = address_found es n ∙ ap address_or (sym e)
+pub address_reported : (es : List (List ℕ × Size)) (n : List ℕ) (o : Option Size) → o ≡ lookup (same n) es → address_in (map sized_of es) n ≡ address_or o
+address_reported es n o e = address_found es n ∙ ap address_or (sym e)
 
 -- an entry that is inserted
 pub sizes_put : (old new : List (List ℕ × Size)) (k : List ℕ) (s : Size) → ((n : List ℕ) → lookup (same n) new ≡ cond (same k n) (Some s) (lookup (same n) old))

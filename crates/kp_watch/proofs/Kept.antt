@@ -28,11 +28,11 @@ use Rattle.kp_sched.specs.Monitors.{Kept, HasSeen}
 use Rattle.kp_sched.specs.Rows.{bit_of, rows_seen}
 use Rattle.kp_sched.specs.Runs.{passes}
 use Rattle.kp_seq.specs.Running.{Running, HasWord, target}
-use Rattle.kp_seq.specs.Told.{Told, results_of, write_told, told_of}
+use Rattle.kp_seq.specs.Recorded.{Recorded, results_of, write_recorded, record_of}
 use Rattle.kp_synth_spec.specs.Naming.{register_of, file_of, value_shown}
 use Rattle.kp_synth_spec.specs.Shows.{IsOfJob}
 use Rattle.kp_watch.specs.declared.places.Place.TheVariants.{Register, File}
-use Rattle.kp_watch.specs.inner.Changes.{AreNoted, noted_at, last_write, no_told, told_by, wrote_by}
+use Rattle.kp_watch.specs.inner.Changes.{AreNoted, noted_at, last_write, no_record, record_by, wrote_by}
 use Rattle.kp_watch.specs.inner.Machines.{ran, HaveRun}
 use Rattle.kp_watch.specs.inner.Places.{place_in}
 use Rattle.kp_watch.specs.inner.Results.{result_number, result_in}
@@ -128,24 +128,24 @@ module _ (job : Job) (s : ℕ → ℕ → ℕ) (q : ℕ → ℕ) (t a : ℕ) whe
   abbrev pipes : ℕ → ℕ
   pipes = (before_stage (machine_of job) s q job.stages.value).pipes
 
-  intent_kept : (o : Option ResultDecl) (v w : ℕ) → ((r : ResultDecl) → o ≡ Some r → write_told job pipes r ≢ Some a)
+  intent_kept : (o : Option ResultDecl) (v w : ℕ) → ((r : ResultDecl) → o ≡ Some r → write_recorded job pipes r ≢ Some a)
       → cond (is_some o && (enabled_of (pipes_of job.decls) pipes o && eqb (address_in (pipes_of job.decls) pipes o) a)) v w ≡ w
   intent_kept None v w not = refl
   intent_kept (Some r) v w not =
       not_written (is_enabled_by (pipes_of job.decls) pipes r.enable) (eqb (address_by (pipes_of job.decls) pipes r.address) a) (address_by (pipes_of job.decls) pipes r.address) a v w refl (not r refl)
 
-  told_at : (r : ResultDecl) → result_for job t ≡ Some r → get_or (told_of job s q).writes (result_in job t) None ≡ write_told job pipes r
-  unfolding told_of result_for
-  told_at r e = result_there (targets_of job.decls) (write_told job pipes) job.decls t r e
+  record_at : (r : ResultDecl) → result_for job t ≡ Some r → get_or (record_of job s q).writes (result_in job t) None ≡ write_recorded job pipes r
+  unfolding record_of result_for
+  record_at r e = result_there (targets_of job.decls) (write_recorded job pipes) job.decls t r e
 
-  pub told_below : (r : ResultDecl) → result_for job t ≡ Some r → result_in job t < length (told_of job s q).writes
-  unfolding told_of result_for
-  told_below r e = let low = result_below (targets_of job.decls) job.decls t r e in omega (arith, low, length-map (results_of job.decls) (write_told job pipes))
+  pub record_below : (r : ResultDecl) → result_for job t ≡ Some r → result_in job t < length (record_of job s q).writes
+  unfolding record_of result_for
+  record_below r e = let low = result_below (targets_of job.decls) job.decls t r e in omega (arith, low, length-map (results_of job.decls) (write_recorded job pipes))
 
   -- an instruction changes a word only at the address in its record
-  pub exec_kept : get_or (told_of job s q).writes (result_in job t) None ≢ Some a → exec (machine_of job) s q t a ≡ s t a
+  pub exec_kept : get_or (record_of job s q).writes (result_in job t) None ≢ Some a → exec (machine_of job) s q t a ≡ s t a
   unfolding machine_of
-  exec_kept not = intent_kept (result_for job t) _ (s t a) (λ r e z. not (told_at r e ∙ z))
+  exec_kept not = intent_kept (result_for job t) _ (s t a) (λ r e z. not (record_at r e ∙ z))
 
 -- ---- the machine of a target
 
@@ -162,7 +162,7 @@ module _ (job : Job) (acc : Accepted (machine_of job)) (values : ℕ → ℕ →
   k = home_of job t
 
   abbrev none : Running
-  none = record { job = job; words = []; last = no_told }
+  none = record { job = job; words = []; last = no_record }
 
   by_result : (has : Bool) (w : ℕ) → (has ≡ true → w < n) → (if has then w else n) < n → has ≡ true
   by_result true w fits low = refl
@@ -197,30 +197,30 @@ module _ (job : Job) (acc : Accepted (machine_of job)) (values : ℕ → ℕ →
       ∙ passed_before n rows k (T + 1) upto
 
   -- the record of its last instruction
-  told_is : k < n → (i : ℕ) → passed seen k (T + 1) ≡ suc i → told_by machines k ≡ told_of job (sequential job values i) (values i)
-  told_is low i e =
+  record_is : k < n → (i : ℕ) → passed seen k (T + 1) ≡ suc i → record_by machines k ≡ record_of job (sequential job values i) (values i)
+  record_is low i e =
       let there : k < length machines = omega (arith, low, run.count) in
       let run_is : ran n seen (T + 1) k ≡ suc i = rw (lt-ltb k n low) e in
-      get_or-map (λ (m : Running). m.last) machines k none no_told there ∙ (run.each k none there (t, within, refl)).last_is i run_is
+      get_or-map (λ (m : Running). m.last) machines k none no_record there ∙ (run.each k none there (t, within, refl)).last_is i run_is
 
-  wrote_is : k < n → (i : ℕ) → passed seen k (T + 1) ≡ suc i → wrote_by job monitor machines t ≡ get_or (told_of job (sequential job values i) (values i)).writes (result_in job t) None
+  wrote_is : k < n → (i : ℕ) → passed seen k (T + 1) ≡ suc i → wrote_by job monitor machines t ≡ get_or (record_of job (sequential job values i) (values i)).writes (result_in job t) None
   wrote_is low i e =
       let some : 0 < get_or monitor.passed k 0 = omega (arith, counted low, e) in
       let stage : k < monitor.stages = omega (arith, low, stages) in
-      ap (λ (b : Bool). if b && nat_lt 0 (get_or monitor.passed k 0) then get_or (told_by machines k).writes (result_in job t) None else None) (lt-ltb k monitor.stages stage)
-      ∙ ap (λ (b : Bool). if true && b then get_or (told_by machines k).writes (result_in job t) None else None) (lt-ltb 0 (get_or monitor.passed k 0) some)
-      ∙ ap (λ (d : Told). get_or d.writes (result_in job t) None) (told_is low i e)
+      ap (λ (b : Bool). if b && nat_lt 0 (get_or monitor.passed k 0) then get_or (record_by machines k).writes (result_in job t) None else None) (lt-ltb k monitor.stages stage)
+      ∙ ap (λ (b : Bool). if true && b then get_or (record_by machines k).writes (result_in job t) None else None) (lt-ltb 0 (get_or monitor.passed k 0) some)
+      ∙ ap (λ (d : Recorded). get_or d.writes (result_in job t) None) (record_is low i e)
 
-  pub told_there : k < monitor.stages → 0 < get_or monitor.passed k 0 → result_in job t < length (told_by machines k).writes
-  told_there stage some =
+  pub record_there : k < monitor.stages → 0 < get_or monitor.passed k 0 → result_in job t < length (record_by machines k).writes
+  record_there stage some =
       let low : k < n = omega (arith, stage, stages) in
       go low (passed seen k (T + 1)) refl
     where
-      go : k < n → (p : ℕ) → passed seen k (T + 1) ≡ p → result_in job t < length (told_by machines k).writes
+      go : k < n → (p : ℕ) → passed seen k (T + 1) ≡ p → result_in job t < length (record_by machines k).writes
       go low zero e = absurd (omega (arith, e, counted low, some))
       go low (suc i) e =
           let r = some_result low in
-          subst (λ (d : Told). result_in job t < length d.writes) (sym (told_is low i e)) (told_below job (sequential job values i) (values i) t 0 r.0 r.1)
+          subst (λ (d : Recorded). result_in job t < length d.writes) (sym (record_is low i e)) (record_below job (sequential job values i) (values i) t 0 r.0 r.1)
 
   pub due_kept : (a : ℕ) → wrote_by job monitor machines t ≢ Some a → sequential job values (passes job seen (T + 1) t) t a ≡ sequential job values (passes job seen T t) t a
   due_kept a not = go (nat_lt k n) refl

@@ -16,7 +16,7 @@ use Rattle.kp_machine.specs.Slots.{targets_of}
 use Rattle.kp_sched.specs.Rows.{bit_of, rows_seen}
 use Rattle.kp_sched.specs.Runs.{passes}
 use Rattle.kp_seq.specs.Running.{Running, state}
-use Rattle.kp_seq.specs.Told.{told_of}
+use Rattle.kp_seq.specs.Recorded.{record_of}
 use Rattle.kp_stage.specs.Start.{start_of}
 use Rattle.kp_stage.specs.declared.start.Start.{Start}
 use Rattle.kp_run.specs.Homes.{home_of, AreHomes}
@@ -72,10 +72,10 @@ next_is job values i = refl
 
 -- one instruction more
 moved_on : (job : Job) (values : ℕ → ℕ → ℕ) (i : ℕ) (m new : Running) → m.job ≡ job → HasRun job values i m → state new ≡ exec (machine_of m.job) (state m) (values i)
-    → new.last ≡ told_of m.job (state m) (values i) → HasRun job values (suc i) new
-moved_on job values i m new same run stepped told = record {
+    → new.last ≡ record_of m.job (state m) (values i) → HasRun job values (suc i) new
+moved_on job values i m new same run stepped recorded = record {
   state_is = stepped ∙ (λ k. exec (machine_of (same k)) (run.state_is k) (values i)) ∙ next_is job values i;
-  last_is = λ j e. let at : i ≡ j = omega (arith, e) in told ∙ (λ k. told_of (same k) (run.state_is k) (values i)) ∙ ap (λ (l : ℕ). told_of job (sequential job values l) (values l)) at;
+  last_is = λ j e. let at : i ≡ j = omega (arith, e) in recorded ∙ (λ k. record_of (same k) (run.state_is k) (values i)) ∙ ap (λ (l : ℕ). record_of job (sequential job values l) (values l)) at;
 }
 
 -- ---- the machines of the first stages have executed one row more
@@ -138,9 +138,9 @@ module _ (job : Job) (values : ℕ → ℕ → ℕ) (rows : List masks.Row) (T :
 
   pub first_moves : (k i : ℕ) (machines : List Running) (m new d : Running) (r : masks.Row) → HaveRunFirst job values seen T k machines → k < n → T < length rows
       → bit (bits (bit_of (get_or rows T r).ue) n 0) k ≡ true → i ≡ passed seen k T → m ≡ get_or machines k d
-      → new.job ≡ m.job → state new ≡ exec (machine_of m.job) (state m) (values i) → new.last ≡ told_of m.job (state m) (values i)
+      → new.job ≡ m.job → state new ≡ exec (machine_of m.job) (state m) (values i) → new.last ≡ record_of m.job (state m) (values i)
       → HaveRunFirst job values seen T (k + 1) (set machines k new)
-  first_moves k i machines m new d r run low there moves count is same stepped told = record {
+  first_moves k i machines m new d r run low there moves count is same stepped recorded = record {
     count = length-set machines k new ∙ run.count;
     jobs = All-set (λ m. m.job ≡ job) machines k new (same ∙ of_job) run.jobs;
     each = λ j e h home. go j e home (omega (arith, h, length-set machines k new)) (nat_lt j k) (nat_lt k j) refl refl;
@@ -159,7 +159,7 @@ module _ (job : Job) (values : ℕ → ℕ → ℕ) (rows : List masks.Row) (T :
       begins home = subst (λ (x : Running). Is x i) (sym is) (subst (Is (get_or machines k d)) (before k ∙ ran_is) (run.each k d in_list home))
 
       moved : IsHome job k → Is new (after (T + 1) k)
-      moved home = subst (Is new) (let e = counted k r true low there moves in omega (arith, e, ran_is)) (moved_on job values i m new of_job (begins home) stepped told)
+      moved home = subst (Is new) (let e = counted k r true low there moves in omega (arith, e, ran_is)) (moved_on job values i m new of_job (begins home) stepped recorded)
 
       other : (j : ℕ) (e : Running) → IsHome job j → j < length machines → j ≢ k → Is (get_or (set machines k new) j e) (after (if nat_lt j (k + 1) then T + 1 else T) j)
       other j e home h apart = subst (λ (x : Running). Is x (after (if nat_lt j (k + 1) then T + 1 else T) j)) (sym (get_or-set_other machines k j new e apart))

@@ -6,13 +6,13 @@ use Rattle.kp_machine.specs.Slots.{targets_of}
 use Rattle.kp_run.specs.Homes.{home_of}
 use Rattle.kp_run.proofs.Machines.{default}
 use Rattle.kp_seq.specs.Running.{Running, HasWord, state, target}
-use Rattle.kp_seq.specs.Told.{Told}
+use Rattle.kp_seq.specs.Recorded.{Recorded}
 use Rattle.kp_synth_spec.specs.Naming.{value_shown}
 use Rattle.kp_watch.specs.declared.beside.Beside.{Beside}
 use Rattle.kp_watch.specs.declared.compare.Tables.{Tables}
 use Rattle.kp_watch.specs.declared.places.Place.{Place}
 use Rattle.kp_watch.specs.declared.places.Place.TheVariants.{File}
-use Rattle.kp_watch.specs.inner.Changes.{IsComparable, noted_at, last_write, no_told, told_by}
+use Rattle.kp_watch.specs.inner.Changes.{IsComparable, noted_at, last_write, no_record, record_by}
 use Rattle.kp_watch.specs.inner.Machines.{due_by}
 use Rattle.kp_watch.specs.inner.Places.{place_in}
 use Rattle.kp_watch.specs.inner.Results.{result_in}
@@ -41,10 +41,10 @@ module _ (job : Job) (tables : Tables) (both : Beside) (t : ℕ) (comparable : I
   machine_is k d m place is = machine_at job machines tables.homes.items t d k m comparable.homes comparable.count comparable.jobs within place is
 
   -- and so is its record of the last instruction
-  pub told_is : (k : ℕ) (m : Running) → k ≡ home_of job t → m ≡ get_or machines k m → m.last ≡ told_by machines (home_of job t)
-  told_is k m home is =
+  pub record_is : (k : ℕ) (m : Running) → k ≡ home_of job t → m ≡ get_or machines k m → m.last ≡ record_by machines (home_of job t)
+  record_is k m home is =
       let low : k < length machines = omega (arith, home, comparable.homes.within t, comparable.count) in
-      ap (λ (x : Running). x.last) is ∙ sym (get_or-map (λ (x : Running). x.last) machines k m no_told low) ∙ ap (told_by machines) home
+      ap (λ (x : Running). x.last) is ∙ sym (get_or-map (λ (x : Running). x.last) machines k m no_record low) ∙ ap (record_by machines) home
 
   -- the file of the target is one of the netlist
   pub file_noted : (place : Place) → place ≡ place_in both.sim.net (target job t) → (f words : ℕ) → place ≡ File f words → f < length both.written.items
@@ -53,22 +53,22 @@ module _ (job : Job) (tables : Tables) (both : Beside) (t : ℕ) (comparable : I
       omega (arith, there, comparable.noted)
 
   -- the record has an entry for its result
-  pub wrote_fits : (home number : ℕ) (told : Told) → home ≡ home_of job t → number ≡ result_in job t → told ≡ told_by machines (home_of job t)
-      → home < both.monitor.stages → 0 < get_or both.monitor.passed home 0 → number < length told.writes
-  wrote_fits home number told at is same stage some =
+  pub wrote_fits : (home number : ℕ) (recorded : Recorded) → home ≡ home_of job t → number ≡ result_in job t → recorded ≡ record_by machines (home_of job t)
+      → home < both.monitor.stages → 0 < get_or both.monitor.passed home 0 → number < length recorded.writes
+  wrote_fits home number recorded at is same stage some =
       let low : home_of job t < both.monitor.stages = omega (arith, stage, at) in
       let any : 0 < get_or both.monitor.passed (home_of job t) 0 = subst (λ (h : ℕ). 0 < get_or both.monitor.passed h 0) at some in
-      let fits : result_in job t < length (told_by machines (home_of job t)).writes = comparable.told t within low any in
-      subst (λ (x : Told). number < length x.writes) (sym same) (omega (arith, is, fits))
+      let fits : result_in job t < length (record_by machines (home_of job t)).writes = comparable.recorded t within low any in
+      subst (λ (x : Recorded). number < length x.writes) (sym same) (omega (arith, is, fits))
 
   -- the netlist and the machine agree at all addresses but these two
   pub agree_here : (place : Place) (home number : ℕ) (m : Running) (noted wrote : Option ℕ) → place ≡ place_in both.sim.net (target job t) → home ≡ home_of job t
-      → number ≡ result_in job t → m.job ≡ job → due_by job machines t ≡ state m t → m.last ≡ told_by machines (home_of job t)
+      → number ≡ result_in job t → m.job ≡ job → due_by job machines t ≡ state m t → m.last ≡ record_by machines (home_of job t)
       → noted ≡ noted_at both.written.items place → wrote ≡ last_write both.monitor home m.last number
       → (a : ℕ) → HasWord m.job t a → noted ≢ Some a → wrote ≢ Some a → value_shown m.job both.sim.net both.sim.state t a ≡ state m t a
-  agree_here place home number m noted wrote placed at is same due told noted_is wrote_is a there not_noted not_wrote =
+  agree_here place home number m noted wrote placed at is same due recorded noted_is wrote_is a there not_noted not_wrote =
       let here : HasWord job t a = subst (λ (j : Job). HasWord j t a) same there in
       let agree =
       comparable.elsewhere t a here (λ z. not_noted (noted_is ∙ ap (noted_at both.written.items) placed ∙ z))
-      (λ z. not_wrote (wrote_is ∙ (λ i. last_write both.monitor (at i) (told i) (is i)) ∙ z)) in
+      (λ z. not_wrote (wrote_is ∙ (λ i. last_write both.monitor (at i) (recorded i) (is i)) ∙ z)) in
       subst (λ (j : Job). value_shown j both.sim.net both.sim.state t a ≡ state m t a) (sym same) (agree ∙ ap (λ (f : ℕ → ℕ). f a) due)

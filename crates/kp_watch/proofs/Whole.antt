@@ -27,12 +27,12 @@ use Rattle.kp_watch.specs.Watching.{own_trace, own_due, Agrees, IsFirstDifferenc
 use Rattle.kp_watch.specs.declared.compare.Difference.{Difference}
 use Rattle.kp_watch.specs.declared.beside.Beside.{Beside}
 use Rattle.kp_watch.specs.declared.compare.Tables.{Tables}
-use Rattle.kp_watch.specs.inner.Beside.{IsTold, AreTables}
+use Rattle.kp_watch.specs.inner.Beside.{IsRecorded, AreTables}
 use Rattle.kp_watch.specs.inner.Changes.{AreNoted, AgreeElsewhere, IsComparable, noted_at}
 use Rattle.kp_watch.specs.inner.Places.{place_in, places_in}
 use Rattle.kp_watch.specs.inner.Comparing.{IsFirstIn, Compares}
 use Rattle.kp_watch.specs.inner.Machines.{given, HaveRun, due_by}
-use Rattle.kp_watch.proofs.Kept.{value_kept, told_there, due_kept}
+use Rattle.kp_watch.proofs.Kept.{value_kept, record_there, due_kept}
 use Rattle.kp_watch.proofs.Lanes.{due_at}
 use Rattle.kp_watch.proofs.Prefixes.{state_is, rows_many}
 use Rattle.kp_watch.proofs.Rows.{HaveComeIn}
@@ -127,7 +127,7 @@ module _ (job : Job) (net : Net) (n : ℕ) where
           count = come.machines.count;
           jobs = come.machines.jobs;
           noted = come.noted ∙ ap (λ (m : Net). length m.parts.files) same_net;
-          told = λ t within. told_there job acc (given tables.columns.items) rows T both.machines.items both.monitor t come.machines come.stages come.seen before within;
+          recorded = λ t within. record_there job acc (given tables.columns.items) rows T both.machines.items both.monitor t come.machines come.stages come.seen before within;
           elsewhere = elsewhere T tables both of_job low of_columns come noted agreed;
         }
 
@@ -148,8 +148,8 @@ module _ (job : Job) (net : Net) (n : ℕ) where
           subst (λ (m : ℕ). (own_trace job net n).visible m t a ≡ own_due job net n m t a) same (last t a there)
 
   -- the first difference of a state is that of the run
-  pub is_told : (T : ℕ) (d : Difference) → T ≤ n → AgreeTo T → IsFirstIn job ((own_trace job net n).visible T) (own_due job net n T) T d → IsTold job net n d
-  is_told T d h agreed first = (
+  pub is_recorded : (T : ℕ) (d : Difference) → T ≤ n → AgreeTo T → IsFirstIn job ((own_trace job net n).visible T) (own_due job net n T) T d → IsRecorded job net n d
+  is_recorded T d h agreed first = (
     subst (λ (c : ℕ). IsFirstDifference job net n c d.target d.address) (sym first.cycle_is) (record {
       within = h;
       there = first.there;

@@ -19,6 +19,6 @@ returns c =
     let cycles = c.in_ok-cycles.cycles in
     let has = c.in_ok-cycles.ensures in
     record {
-      rows = c.a_run_tells_of_the_pipeline.ensures.rows net c.args.count cycles.rows.items cycles.monitor c.in_ok-net.ensures.shows has;
+      rows = c.a_run_shows_the_pipeline.ensures.rows net c.args.count cycles.rows.items cycles.monitor c.in_ok-net.ensures.shows has;
       count = ap (λ (rs : List Row). length rs) has.rows ∙ rows_many job net c.args.count;
     }

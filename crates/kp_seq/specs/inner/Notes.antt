@@ -13,7 +13,7 @@ use Rattle.kp_ast.specs.declared.tree.Block.{Block}
 use Rattle.kp_pipeline.specs.Sequential.{first_value}
 use Rattle.kp_machine.specs.Slots.{Slot, number_of, width_of}
 use Rattle.kp_seq.specs.declared.notes.Outlet.{Outlet}
-use Rattle.kp_seq.specs.Told.{Told, where_true}
+use Rattle.kp_seq.specs.Recorded.{Recorded, where_true}
 use Rattle.kp_seq.specs.inner.Tables.{Laid, pipe_number}
 use Rattle.kp_seq.specs.inner.Steps.{Under, holds, address_in, is_enabled, address_by, after_stmt, entered, after_block}
 
@@ -27,8 +27,8 @@ pub record Noted : Type 0 where
   pub writes : List (Option ℕ)
   pub settings : List ℕ
 
-abbrev pub told_by : Noted → Told
-told_by n = record { reads = n.reads; writes = n.writes; settings = n.settings }
+abbrev pub record_by : Noted → Recorded
+record_by n = record { reads = n.reads; writes = n.writes; settings = n.settings }
 
 -- the results of these declarations
 abbrev pub outlet_by : List Slot → List Slot → ResultDecl → Outlet

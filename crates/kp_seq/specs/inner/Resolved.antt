@@ -26,7 +26,7 @@ use Rattle.kp_seq.specs.Running.{state_in}
 use Rattle.kp_seq.specs.inner.Fits.{FitSlots}
 use Rattle.kp_seq.specs.inner.Tables.{Laid}
 use Rattle.kp_seq.specs.inner.Steps.{Under, word_in, holds, address_in, value_read, after_stmt, after_stmts, written_from}
-use Rattle.kp_seq.specs.Told.{where_true}
+use Rattle.kp_seq.specs.Recorded.{where_true}
 use Rattle.kp_seq.specs.inner.Notes.{Noted, narrow_address, begun_notes, with_read, with_marks, with_results, asked_in, note_stmt, note_stmts}
 
 -- the indices of the names of the samples and of the pipes, and the steps of each stage

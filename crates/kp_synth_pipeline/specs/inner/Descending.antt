@@ -7,7 +7,7 @@ use Rattle.kp_machine.specs.Slots.{pipes_of, hints_of}
 use Rattle.kp_net.specs.declared.node.NodeId.{NodeId}
 use Rattle.kp_net.specs.Growth.{Held, Wire}
 use Rattle.kp_synth_registers.specs.declared.outcome.Outcome.{Outcome}
-use Rattle.kp_synth_registers.specs.Telling.{Tells, Says}
+use Rattle.kp_synth_registers.specs.Meaning.{IsTest, Says}
 use Rattle.kp_synth_stage.specs.declared.row.Source.{Source}
 use Rattle.kp_synth_stage.specs.Rows.{SourcesOk}
 use Rattle.kp_synth_stage.specs.Work.{SlotsHave}
@@ -22,9 +22,9 @@ pub record EnteredOk (job : Job) (p : Held) (k : ℕ) (e : Entered) : Type 0 whe
   pub hints : SlotsHave p (hints_of job.decls) e.hints.items
   pub hint_values : HintsIn job p e.hints.items
   pub full_wire : Wire p e.full 1
-  pub full_tells : Tells job p e.full (λ st i. (st.stage k).full)
+  pub full_is_test : IsTest job p e.full (λ st i. (st.stage k).full)
   pub ext_wire : Wire p e.ext 1
-  pub ext_tells : Tells job p e.ext (λ st i. i.ext k)
+  pub ext_is_test : IsTest job p e.ext (λ st i. i.ext k)
 
 -- what stage k sees of the stages above it
 pub record Faces (job : Job) (p : Held) (ss : List Source) (higher : NodeId) (k : ℕ) : Type 0 where
@@ -32,7 +32,7 @@ pub record Faces (job : Job) (p : Held) (ss : List Source) (higher : NodeId) (k 
   pub few : Few job k ss
   pub sees : SeesAbove job p ss k
   pub wire : Wire p higher 1
-  pub tells : Tells job p higher (λ st i. (above (machine_of job) st i k).stall)
+  pub is_test : IsTest job p higher (λ st i. (above (machine_of job) st i k).stall)
 
 -- the stages from k on have these nodes
 abbrev pub SayFrom : Job → Held → ℕ → List Outcome → Type 0

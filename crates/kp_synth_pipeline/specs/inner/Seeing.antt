@@ -8,7 +8,7 @@ use Rattle.kp_net.specs.Nodes.{Cells, at, on}
 use Rattle.kp_net.specs.Growth.{Held}
 use Rattle.kp_synth_registers.specs.Holding.{Holds, optional}
 use Rattle.kp_synth_tables.specs.Keys.{target_at}
-use Rattle.kp_synth_registers.specs.Telling.{Gives, guesses_at, node_at}
+use Rattle.kp_synth_registers.specs.Meaning.{Gives, guesses_at, node_at}
 use Rattle.kp_synth_stage.specs.declared.row.Row.{Row}
 use Rattle.kp_synth_stage.specs.declared.row.Source.{Source}
 use Rattle.kp_synth_stage.specs.declared.work.Work.{Work}

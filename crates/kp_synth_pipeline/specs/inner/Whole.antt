@@ -12,7 +12,7 @@ use Rattle.kp_synth_registers.specs.declared.outcome.Set.{Set}
 use Rattle.kp_synth_tables.specs.declared.key.GuessSlot.{GuessSlot}
 use Rattle.kp_synth_registers.specs.Holding.{Holds, some_of, guess_passes}
 use Rattle.kp_synth_tables.specs.Keys.{target_at, guesses_of, guess_at}
-use Rattle.kp_synth_registers.specs.Telling.{SetFits, set_value}
+use Rattle.kp_synth_registers.specs.Meaning.{SetFits, set_value}
 use Rattle.kp_synth_stage.specs.declared.row.Source.{Source}
 use Rattle.kp_synth_stage.specs.declared.row.Own.{Own}
 use Rattle.kp_synth_stage.specs.Rows.{own_value, SourceOk}

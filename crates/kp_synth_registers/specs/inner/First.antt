@@ -5,7 +5,7 @@ use Rattle.kp_net.specs.declared.node.NodeId.{NodeId}
 use Rattle.kp_net.specs.Nodes.{Cells, at}
 use Rattle.kp_net.specs.Growth.{Held, Wire}
 use Rattle.kp_synth_tables.specs.Keys.{key_width, key_at, sample_at}
-use Rattle.kp_synth_registers.specs.Telling.{Gives, node_at}
+use Rattle.kp_synth_registers.specs.Meaning.{Gives, node_at}
 
 -- The first registers are read.
 pub record FirstRead (job : Job) (p : Held) (nodes : List NodeId) : Type 0 where

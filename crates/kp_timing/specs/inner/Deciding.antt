@@ -1,7 +1,7 @@
 -- Which stages wait, and which are blocked, by what was reported about the instructions in them.
 use Rattle.std.specs.Prelude.{ℕ, zero, suc, ◌+◌, ◌-◌, List, [], ◌∷◌, Option, Some, None, Bool, true, false, not, ◌&&◌, ◌||◌, ◌==◌, nat_le, nat_lt, if◌then◌else◌, is_some, get_or, set, replicate, unwrap_or}
 use Rattle.std.specs.List.{swap}
-use Rattle.kp_seq.specs.Told.{Told}
+use Rattle.kp_seq.specs.Recorded.{Recorded}
 use Rattle.kp_sched.specs.Rows.{bit_of}
 use Rattle.kp_timing.specs.declared.deciding.Found.{Found}
 use Rattle.kp_timing.specs.declared.sites.Site.{Site}
@@ -11,16 +11,16 @@ use Rattle.kp_timing.specs.inner.Sites.{Sited}
 -- the instructions in the stages: their numbers, and what was reported about each
 pub record Held : Type 0 where
   pub hold : List (Option ℕ)
-  pub told : List Told
+  pub recorded : List Recorded
 
-abbrev pub nothing_told : Told
-nothing_told = record { reads = []; writes = []; settings = [] }
+abbrev pub nothing_recorded : Recorded
+nothing_recorded = record { reads = []; writes = []; settings = [] }
 
 abbrev pub is_full : Held → ℕ → Bool
 is_full h k = is_some (get_or h.hold k None)
 
-abbrev pub told_in : Held → ℕ → Told
-told_in h k = get_or h.told k nothing_told
+abbrev pub record_in : Held → ℕ → Recorded
+record_in h k = get_or h.recorded k nothing_recorded
 
 -- an instruction that wrote at this address
 abbrev pub wrote_at : Option ℕ → ℕ → Bool
@@ -28,20 +28,20 @@ wrote_at None a = false
 wrote_at (Some b) a = b == a
 
 -- stage k may write the target at an address
-abbrev pub may_write_by : Writer → Told → ℕ → ℕ → Bool
-may_write_by w told k a = not (nat_le w.known k) || wrote_at (get_or told.writes w.result None) a
+abbrev pub may_write_by : Writer → Recorded → ℕ → ℕ → Bool
+may_write_by w recorded k a = not (nat_le w.known k) || wrote_at (get_or recorded.writes w.result None) a
 
 -- its result is ready there
-abbrev pub is_ready_by : Writer → Told → ℕ → Bool → Bool
-is_ready_by w told k blocked =
-    nat_le w.known k && (nat_lt (get_or told.settings w.result 0) k || (get_or told.settings w.result 0 == k && not blocked))
+abbrev pub is_ready_by : Writer → Recorded → ℕ → Bool → Bool
+is_ready_by w recorded k blocked =
+    nat_le w.known k && (nat_lt (get_or recorded.settings w.result 0) k || (get_or recorded.settings w.result 0 == k && not blocked))
 
 -- d stages from k on: the nearest that may write is ready
 abbrev pub met_from : Held → List Bool → Writer → ℕ → ℕ → ℕ → Bool
 met_from h blocked w a zero k = true
 met_from h blocked w a (suc d) k =
-    if is_full h k && (nat_le k w.write && may_write_by w (told_in h k) k a)
-    then is_ready_by w (told_in h k) k (get_or blocked k false)
+    if is_full h k && (nat_le k w.write && may_write_by w (record_in h k) k a)
+    then is_ready_by w (record_in h k) k (get_or blocked k false)
     else met_from h blocked w a d (suc k)
 
 -- a read in stage k of a target at an address
@@ -57,7 +57,7 @@ is_unmet s h blocked k site (Some a) = site.stage == k && not (is_met s h blocke
 abbrev pub some_unmet_from : Sited → Held → List Bool → ℕ → ℕ → List Site → Bool
 some_unmet_from s h blocked k i [] = false
 some_unmet_from s h blocked k i (site ∷ sites) =
-    is_unmet s h blocked k site (get_or (told_in h k).reads i None) || some_unmet_from s h blocked k (i + 1) sites
+    is_unmet s h blocked k site (get_or (record_in h k).reads i None) || some_unmet_from s h blocked k (i + 1) sites
 
 abbrev pub waits_by : Sited → Held → List Bool → ℕ → Bool
 waits_by s h blocked k = is_full h k && some_unmet_from s h blocked k 0 s.reads
@@ -87,7 +87,7 @@ moves_by h blocked k = is_full h k && not (get_or blocked k false)
 abbrev pub taken_by : List Bool → Held → ℕ → Held
 taken_by blocked h k =
     if moves_by h blocked k
-    then record { hold = set h.hold (k + 1) (get_or h.hold k None); told = swap h.told k (k + 1) }
+    then record { hold = set h.hold (k + 1) (get_or h.hold k None); recorded = swap h.recorded k (k + 1) }
     else (if get_or blocked (k + 1) false then h else record h { hold = set h.hold (k + 1) None })
 
 -- so do the stages from n down to 1
@@ -96,5 +96,5 @@ taken_down blocked zero h = h
 taken_down blocked (suc k) h = taken_down blocked k (taken_by blocked h k)
 
 -- stage 0 receives the next instruction
-abbrev pub fetched : Held → Told → Held
-fetched h told = record { hold = set h.hold 0 (Some (unwrap_or (get_or h.hold 0 None) 0 + 1)); told = set h.told 0 told }
+abbrev pub fetched : Held → Recorded → Held
+fetched h recorded = record { hold = set h.hold 0 (Some (unwrap_or (get_or h.hold 0 None) 0 + 1)); recorded = set h.recorded 0 recorded }

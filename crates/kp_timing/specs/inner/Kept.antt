@@ -7,13 +7,13 @@ use Rattle.kp_pipeline.specs.Sequential.{seq}
 use Rattle.kp_pipeline.specs.Timeline.{no_samples}
 use Rattle.kp_machine.specs.Machine.{machine_of, state_of}
 use Rattle.kp_seq.specs.Running.{Running, state, after_one}
-use Rattle.kp_seq.specs.Told.{Told, told_of}
+use Rattle.kp_seq.specs.Recorded.{Recorded, record_of}
 use Rattle.kp_timing.specs.Timed.{IsPlain}
 use Rattle.kp_timing.specs.inner.Sites.{Sited, AreSites}
-use Rattle.kp_timing.specs.inner.Deciding.{Held, told_in, moves_by, taken_down, fetched}
+use Rattle.kp_timing.specs.inner.Deciding.{Held, record_in, moves_by, taken_down, fetched}
 
 -- a record of the size that the report about an instruction has
-pub record HasRoom (job : Job) (t : Told) : Type 0 where
+pub record HasRoom (job : Job) (t : Recorded) : Type 0 where
   pub reads : length t.reads ≡ (summary_of job).reads
   pub writes : length t.writes ≡ (summary_of job).results
   pub settings : length t.settings ≡ (summary_of job).results
@@ -28,19 +28,19 @@ pub record IsKept (job : Job) (start : Start) (cycles : ℕ) (m : Running) (s : 
   pub few_reads : (summary_of job).reads < 2 ^ 32
   pub few_results : (summary_of job).results < 2 ^ 32
   pub holds : length h.hold ≡ 12
-  pub flights : length h.told ≡ job.stages.value
-  pub room : (k : ℕ) → k < job.stages.value → HasRoom job (told_in h k)
+  pub flights : length h.recorded ≡ job.stages.value
+  pub room : (k : ℕ) → k < job.stages.value → HasRoom job (record_in h k)
   pub job_is : m.job ≡ job
   pub newest : get_or h.hold 0 None ≡ Some (unwrap_or (get_or h.hold 0 None) 0)
   pub bound : unwrap_or (get_or h.hold 0 None) 0 ≤ cycles
   pub state_is : state m ≡ seq (machine_of job) (state_of job start) no_samples (suc (unwrap_or (get_or h.hold 0 None) 0))
-  pub told : (k i : ℕ) → k < job.stages.value → get_or h.hold k None ≡ Some i
-      → told_in h k ≡ told_of job (seq (machine_of job) (state_of job start) no_samples i) (λ x. 0)
+  pub recorded : (k i : ℕ) → k < job.stages.value → get_or h.hold k None ≡ Some i
+      → record_in h k ≡ record_of job (seq (machine_of job) (state_of job start) no_samples i) (λ x. 0)
 
 -- The instructions move on unless they are blocked, and if that of stage 0 does, the machine executes the next one.
 pub record Moves (m : Running) (h : Held) (m2 : Running) (h2 : Held) : Type 0 where
   pub state_is : state m2 ≡ after_one m.job (state m) []
-  pub told : m2.last ≡ told_of m.job (state m) (λ x. 0)
+  pub recorded : m2.last ≡ record_of m.job (state m) (λ x. 0)
   pub held : h2 ≡ fetched h m2.last
 
 pub record Advances (m : Running) (h : Held) (b : List Bool) (n : ℕ) (m2 : Running) (h2 : Held) : Type 0 where

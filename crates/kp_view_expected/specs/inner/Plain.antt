@@ -136,9 +136,9 @@ Decides true s c s' = Reads s c s'
 Decides false s c s' = Refuses s c
 
 -- Some sentence of the symbols begins with the class, or the machine accepts none that does.
-abbrev pub Tells : Bool → List Plain → TokenClass → Type 0
-Tells true s c = (cs : List TokenClass) × Steps s (c ∷ cs) [] []
-Tells false s c = Refuses s c
+abbrev pub IsAnswer : Bool → List Plain → TokenClass → Type 0
+IsAnswer true s c = (cs : List TokenClass) × Steps s (c ∷ cs) [] []
+IsAnswer false s c = Refuses s c
 
 -- The front of the classes has been read: some symbols are left to be read after it,
 pub record Follows (front : List TokenClass) (rest : List TokenClass) (s : List Plain) : Type 0 where
@@ -149,6 +149,6 @@ pub record Follows (front : List TokenClass) (rest : List TokenClass) (s : List 
 abbrev pub Fails : List TokenClass → Type 0
 Fails front = (cs : List TokenClass) → Runs (Nonterminal JOB ∷ []) (front ++ cs) → ⊥
 
--- For each class a set says what is told of it.
+-- For each class the set has the answer whether it can follow.
 abbrev pub IsListing : List Bool → List Plain → Type 0
-IsListing listed s = (k : ℕ) (c : TokenClass) → slice_get all_classes k ≡ Some c → (b : Bool) × (slice_get listed k ≡ Some b) × Tells b s c
+IsListing listed s = (k : ℕ) (c : TokenClass) → slice_get all_classes k ≡ Some c → (b : Bool) × (slice_get listed k ≡ Some b) × IsAnswer b s c

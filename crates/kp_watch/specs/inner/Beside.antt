@@ -34,11 +34,11 @@ pub record HaveCome (job : Job) (net : Net) (tables : Tables) (T : ℕ) (both : 
   pub noted : length both.written.items ≡ length net.parts.files
 
 -- the difference that is returned for a run of n cycles
-abbrev pub IsTold : Job → Net → ℕ → Difference → Type 0
-IsTold job net n d =
+abbrev pub IsRecorded : Job → Net → ℕ → Difference → Type 0
+IsRecorded job net n d =
     IsFirstDifference job net n d.cycle d.target d.address
     × (d.found ≡ word (target job d.target).width ((own_trace job net n).visible d.cycle d.target d.address))
     × (d.due ≡ word (target job d.target).width (own_due job net n d.cycle d.target d.address))
 
 abbrev pub Answers : Job → Net → ℕ → Option Difference → Type 0
-Answers job net n result = MatchOption result (Agrees job net n) (IsTold job net n)
+Answers job net n result = MatchOption result (Agrees job net n) (IsRecorded job net n)

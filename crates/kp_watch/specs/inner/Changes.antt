@@ -7,7 +7,7 @@ use Rattle.kp_machine.specs.Slots.{targets_of}
 use Rattle.kp_net.specs.Netlist.{Net, last_of}
 use Rattle.kp_sched.specs.Monitors.{Kept}
 use Rattle.kp_seq.specs.Running.{Running, HasWord, target}
-use Rattle.kp_seq.specs.Told.{Told}
+use Rattle.kp_seq.specs.Recorded.{Recorded}
 use Rattle.kp_synth_spec.specs.Naming.{value_shown}
 use Rattle.kp_synth_spec.specs.Shows.{IsOfJob}
 use Rattle.kp_run.specs.Cycles.{input_at, inputs_to}
@@ -31,18 +31,18 @@ noted_at written (Register r) = Some 0
 noted_at written (File f words) = get_or written f None
 
 -- the address that result `number` of the last instruction of machine `home` wrote, if this machine has executed one
-abbrev pub last_write : Kept → ℕ → Told → ℕ → Option ℕ
-last_write monitor home told number = if nat_lt home monitor.stages && nat_lt 0 (get_or monitor.passed home 0) then get_or told.writes number None else None
+abbrev pub last_write : Kept → ℕ → Recorded → ℕ → Option ℕ
+last_write monitor home recorded number = if nat_lt home monitor.stages && nat_lt 0 (get_or monitor.passed home 0) then get_or recorded.writes number None else None
 
-abbrev pub no_told : Told
-no_told = record { reads = []; writes = []; settings = [] }
+abbrev pub no_record : Recorded
+no_record = record { reads = []; writes = []; settings = [] }
 
-abbrev pub told_by : List Running → ℕ → Told
-told_by machines k = get_or (map (λ m. m.last) machines) k no_told
+abbrev pub record_by : List Running → ℕ → Recorded
+record_by machines k = get_or (map (λ m. m.last) machines) k no_record
 
 -- the address of target t that its machine wrote last
 abbrev pub wrote_by : Job → Kept → List Running → ℕ → Option ℕ
-wrote_by job monitor machines t = last_write monitor (home_of job t) (told_by machines (home_of job t)) (result_in job t)
+wrote_by job monitor machines t = last_write monitor (home_of job t) (record_by machines (home_of job t)) (result_in job t)
 
 -- all other words agree in the netlist and the machines
 abbrev pub AgreeElsewhere : Job → Beside → Type 0
@@ -58,6 +58,6 @@ pub record IsComparable (job : Job) (tables : Tables) (both : Beside) : Type 0 w
   pub count : length both.machines.items ≡ job.stages.value + 1
   pub jobs : All (λ m. m.job ≡ job) both.machines.items
   pub noted : length both.written.items ≡ length both.sim.net.parts.files
-  pub told : (t : ℕ) → t < length (targets_of job.decls) → home_of job t < both.monitor.stages → 0 < get_or both.monitor.passed (home_of job t) 0
-      → result_in job t < length (told_by both.machines.items (home_of job t)).writes
+  pub recorded : (t : ℕ) → t < length (targets_of job.decls) → home_of job t < both.monitor.stages → 0 < get_or both.monitor.passed (home_of job t) 0
+      → result_in job t < length (record_by both.machines.items (home_of job t)).writes
   pub elsewhere : AgreeElsewhere job both

@@ -8,7 +8,7 @@ use Rattle.kp_machine.specs.Slots.{targets_of}
 use Rattle.kp_run.specs.Columns.{Taken, row_taken}
 use Rattle.kp_run.specs.Homes.{home_of}
 use Rattle.kp_seq.specs.Running.{Running, state}
-use Rattle.kp_seq.specs.Told.{told_of}
+use Rattle.kp_seq.specs.Recorded.{record_of}
 
 -- the sample values that instructions read
 abbrev pub given : List Taken → ℕ → ℕ → ℕ
@@ -30,7 +30,7 @@ AreNeeded job needed = (length needed ≡ job.stages.value + 1) × ((t : ℕ) �
 -- A machine that has executed i instructions: its state, and its record of the last of them.
 pub record HasRun (job : Job) (values : ℕ → ℕ → ℕ) (i : ℕ) (m : Running) : Type 0 where
   pub state_is : state m ≡ sequential job values i
-  pub last_is : (j : ℕ) → i ≡ suc j → m.last ≡ told_of job (sequential job values j) (values j)
+  pub last_is : (j : ℕ) → i ≡ suc j → m.last ≡ record_of job (sequential job values j) (values j)
 
 -- The machines of a job after T of these rows. Those that have the value of no target may be in any state.
 pub record HaveRun (job : Job) (values : ℕ → ℕ → ℕ) (rows : List Row) (T : ℕ) (machines : List Running) : Type 0 where

@@ -6,7 +6,7 @@ use Rattle.kp_debug.specs.Sessions.{Debugged}
 use Rattle.kp_tool_report.proofs.Lines.{left_is}
 use Rattle.kp_debug_report.specs.Inspecting.{reached, IsOfTargets}
 use Rattle.kp_debug_report.specs.inner.Standing.{run_of}
-use Rattle.kp_debug_report.proofs.Standing.{told_next, told_end, ends_end, one_command, one_end, under_at, reached_there}
+use Rattle.kp_debug_report.proofs.Standing.{printed_next, printed_end, ends_end, one_command, one_end, under_at, reached_there}
 use Rattle.kp_debug_report.proofs.commands.run_commands.Goals as goal
 
 pub run_command-requires-clause-command : goal.run_command-requires-clause-command
@@ -44,7 +44,7 @@ pub returns-in_err-run_command-clause-text : goal.returns-in_err-run_command-cla
 returns-in_err-run_command-clause-text g c =
     let job = c.args.job.now.design.job in
     let s = c.loop-command.session in
-    let next = told_next job (run_of job s) s.cycle c.args.commands.now c.loop-command.command-index c.command-item.result c.loop-command-test.true c.command-item.is in
+    let next = printed_next job (run_of job s) s.cycle c.args.commands.now c.loop-command.command-index c.command-item.result c.loop-command-test.true c.command-item.is in
     let exit = err_from_is_err_and c.from_residual.result c.from_residual.ensures.1 in
     rw exit.1 (written_part _ _ _ _ _ _ (left_is _ _ _ _ _ next c.loop-command.invariant.text) c.in_err-run_command.ensures.text)
 
@@ -52,7 +52,7 @@ pub returns-clause-text : goal.returns-clause-text
 returns-clause-text g c =
     let job = c.args.job.now.design.job in
     let s = c.loop-command.session in
-    let none = told_end job (run_of job s) s.cycle c.args.commands.now c.loop-command.command-index (omega arith) in
+    let none = printed_end job (run_of job s) s.cycle c.args.commands.now c.loop-command.command-index (omega arith) in
     rest_whole _ _ _ _ _ (left_is _ _ _ _ _ none c.loop-command.invariant.text) (Appends-nil _)
 
 pub returns-clause-cycle : goal.returns-clause-cycle

@@ -1,5 +1,5 @@
 use Rattle.std.proofs.Common.{length, ap, arith}
-use Rattle.kp_equiv_classes.proofs.Growing.{classes_tell}
+use Rattle.kp_equiv_classes.proofs.Growing.{classes_determine}
 use Rattle.kp_equiv_classes.proofs.building.classes_in.Goals as goal
 
 pub classes_of_net-requires-clause-few : goal.classes_of_net-requires-clause-few
@@ -26,5 +26,5 @@ pub returns : goal.returns
 returns c =
     let one = c.in_ok-first.ensures in
     let two = c.in_ok-second.ensures in
-    classes_tell c.args.a.now c.args.b.now c.args.known.now c.classes_of_net.new.table c.classes_of_net-2.new.table c.in_ok-first.first.items c.in_ok-second.second.items one.right two.right c.requires.known
+    classes_determine c.args.a.now c.args.b.now c.args.known.now c.classes_of_net.new.table c.classes_of_net-2.new.table c.in_ok-first.first.items c.in_ok-second.second.items one.right two.right c.requires.known
     one.count two.count one.classes two.classes two.extends two.distinct

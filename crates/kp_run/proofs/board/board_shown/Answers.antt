@@ -15,4 +15,4 @@ board_with-requires-clause-values c t a word =
     ap (λ (m : Net). value_shown job m ran.sim.state t a) c.in_ok-run.ensures.net
     ∙ ap (λ (st : State). value_shown job net st t a) c.in_ok-run.ensures.state
     ∙ shown_is_due job c.job-kept.ensures.sound.names accepted.unbroken net c.args.count rows ran.cycles.monitor c.requires has
-    (λ t a word. c.a_run_tells_of_the_pipeline.ensures.values net c.args.count rows ran.cycles.monitor t a c.requires has word) t a word
+    (λ t a word. c.a_run_shows_the_pipeline.ensures.values net c.args.count rows ran.cycles.monitor t a c.requires has word) t a word

@@ -39,28 +39,28 @@ returns c = λ n. All-map (IsTrueOf c.args.job.now.design.job n) (line_with c.ar
     let input : p.i ≡ inputs_at job l.cycle = p.input ∙ input_at job 0 n p.d p.i short ∙ ap (inputs_at job) from in
     let r : Row = row m (moment_in n job p.d).state p.i in
     let is_row : r ≡ get_or (run_rows job hints ins) p.d r = sym (row_at m ins (first_moment s hints) p.d p.i r p.within p.input) in
-    let there : held (moment_in n job l.cycle) l.stage ≡ Some l.number = subst (λ (T : ℕ). held (moment_in n job T) l.stage ≡ Some l.number) (sym cycle) p.told.there in
+    let there : held (moment_in n job l.cycle) l.stage ≡ Some l.number = subst (λ (T : ℕ). held (moment_in n job T) l.stage ≡ Some l.number) (sym cycle) p.recorded.there in
     record {
       cycle = omega (arith, cycle, short);
       there = there;
       cause = λ w is right.
           let right_there = subst (λ (T : ℕ). IsRightFrom m s given (moment_in n job T) p.i l.stage) cycle
           (subst (λ (i : Inputs). IsRightFrom m s given (moment_in n job l.cycle) i l.stage) (sym input) right) in
-          let told = p.told.cause ∙ ap (λ (q : Cause). Some q) (value_kept job l.cycle l.stage l.cause w is) in
-          let found = c.each_reported_wait_is_a_cause.ensures job hints ins p.d p.i r p.told.stages l.stage w sound.names sound.stages c.a_design_is_accepted.ensures
-          p.within p.input is_row p.told.shows right_there p.told.below told in
+          let recorded = p.recorded.cause ∙ ap (λ (q : Cause). Some q) (value_kept job l.cycle l.stage l.cause w is) in
+          let found = c.each_reported_wait_is_a_cause.ensures job hints ins p.d p.i r p.recorded.stages l.stage w sound.names sound.stages c.a_design_is_accepted.ensures
+          p.within p.input is_row p.recorded.shows right_there p.recorded.below recorded in
           subst (λ (i : Inputs). IsCause job given (moment_in n job l.cycle) i l.stage w) input
           (subst (λ (T : ℕ). IsCause job given (moment_in n job T) p.i l.stage w) (sym cycle) found);
       guess = λ w g is names.
           let f = filled job l.cycle l.stage l.cause w g is names in
-          let count : length p.told.stages ≡ m.stages = p.told.shows.count in
-          let below = p.told.below in
-          let number = p.told.shows.number l.stage below ∙ held_number ((moment_in n job p.d).state.stage l.stage).full ((moment_in n job p.d).count l.stage) l.number p.told.there in
-          let known = named (sited job) (occupants_of (report job given) p.told.stages) l.stage f.wrong f.named (p.told.cause ∙ ap (λ (q : Cause). Some q) f.is) f.names in
-          let value = value_named job given p.told.stages l.stage l.number f.named (omega (arith, count, below)) number known in
+          let count : length p.recorded.stages ≡ m.stages = p.recorded.shows.count in
+          let below = p.recorded.below in
+          let number = p.recorded.shows.number l.stage below ∙ held_number ((moment_in n job p.d).state.stage l.stage).full ((moment_in n job p.d).count l.stage) l.number p.recorded.there in
+          let known = named (sited job) (occupants_of (report job given) p.recorded.stages) l.stage f.wrong f.named (p.recorded.cause ∙ ap (λ (q : Cause). Some q) f.is) f.names in
+          let value = value_named job given p.recorded.stages l.stage l.number f.named (omega (arith, count, below)) number known in
           record {
             guessed = f.guessed;
-            told = f.told;
+            recorded = f.recorded;
             held =
                 (λ j. guessed_word job (read_site job (f.read j)).target (((state_of_moment job n l.cycle (omega (arith, cycle, short))) j).stage l.stage).pending)
                 ∙ f.held;

@@ -1,7 +1,7 @@
 use Rattle.std.proofs.Common.{ℕ, ap, arith}
 use Rattle.kp_pipeline.specs.Pipeline.{cycle}
 use Rattle.kp_machine.specs.Machine.{machine_of}
-use Rattle.kp_synth_registers.specs.Telling.{Gives, Tells}
+use Rattle.kp_synth_registers.specs.Meaning.{Gives, IsTest}
 use Rattle.kp_synth_close.proofs.Arms.{pipes_next}
 use Rattle.kp_synth_registers.proofs.Growth.{ready_kept}
 use Rattle.kp_synth_close.proofs.moving.next_pipe.Goals as goal
@@ -10,7 +10,7 @@ pub pipe_in-own-requires-clause-ready : goal.pipe_in-own-requires-clause-ready
 pipe_in-own-requires-clause-ready c = ready_kept _ _ _ _ _ c.pipe_leaving-came.ensures.grown.kept c.requires.ready
 
 pub returns-clause-gives : goal.returns-clause-gives
-unfolding Gives Tells
+unfolding Gives IsTest
 returns-clause-gives c = λ x st i h.
     let g = c.pipe_leaving-came.ensures.grown.kept in
     let k = c.pipe_in-own.ensures.grown.kept in

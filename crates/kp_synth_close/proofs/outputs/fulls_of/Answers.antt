@@ -2,8 +2,8 @@ use Rattle.std.proofs.Common.{◌≡◌, ◌∙◌, ℕ, ◌+◌, ◌<◌, sym, 
 use Rattle.std.proofs.lemmas.List.{length-set}
 use Rattle.kp_net.specs.Growth.{Wire}
 use Rattle.kp_net.proofs.Growing.{wire_kept, grown_then}
-use Rattle.kp_synth_registers.specs.Telling.{Tells}
-use Rattle.kp_synth_registers.proofs.Growth.{tells_kept, ready_kept}
+use Rattle.kp_synth_registers.specs.Meaning.{IsTest}
+use Rattle.kp_synth_registers.proofs.Growth.{test_kept, ready_kept}
 use Rattle.kp_synth_close.proofs.Bits.{at_set}
 use Rattle.kp_synth_close.proofs.outputs.fulls_of.Goals as goal
 
@@ -19,9 +19,9 @@ loop-k-preserved c =
     record {
       len = length-set c.loop-k.fulls c.loop-k.k _ ∙ v.len;
       wires = λ k m. at_set (λ k n. Wire c.full_in.new.pool n 1) c.loop-k.fulls c.loop-k.k c.full_in.result k (omega (arith, b, v.len)) (λ q. c.full_in.ensures.wire) (λ q. wire_kept _ _ _ _ _ g.kept (v.wires k (omega (arith, m, less q m))));
-      tells = λ k m. at_set (λ k n. Tells c.args.layout.now c.full_in.new.pool n (λ st i. (st.stage k).full)) c.loop-k.fulls c.loop-k.k c.full_in.result k (omega (arith, b, v.len))
-          (λ q. subst (λ j. Tells c.args.layout.now c.full_in.new.pool c.full_in.result (λ st i. (st.stage j).full)) (sym q) c.full_in.ensures.tells)
-          (λ q. tells_kept _ _ _ _ 1 _ _ g.kept (v.wires k (omega (arith, m, less q m))) (v.tells k (omega (arith, m, less q m))));
+      is_test = λ k m. at_set (λ k n. IsTest c.args.layout.now c.full_in.new.pool n (λ st i. (st.stage k).full)) c.loop-k.fulls c.loop-k.k c.full_in.result k (omega (arith, b, v.len))
+          (λ q. subst (λ j. IsTest c.args.layout.now c.full_in.new.pool c.full_in.result (λ st i. (st.stage j).full)) (sym q) c.full_in.ensures.is_test)
+          (λ q. test_kept _ _ _ _ 1 _ _ g.kept (v.wires k (omega (arith, m, less q m))) (v.is_test k (omega (arith, m, less q m))));
       grown = grown_then _ _ _ _ _ v.grown g;
     } where
       less : {k j : ℕ} → (k ≡ j → ⊥) → k < j + 1 → k < j

@@ -1,9 +1,9 @@
 use Rattle.std.proofs.Common.{◌∙◌, sym}
-use Rattle.kp_synth_close.proofs.Joined.{joined_tells, widths_are, all_inside}
+use Rattle.kp_synth_close.proofs.Joined.{joined_is_test, widths_are, all_inside}
 use Rattle.kp_synth_close.proofs.outputs.joined.Goals as goal
 
 pub returns-clause-bits : goal.returns-clause-bits
-returns-clause-bits c = λ x k j e. joined_tells c.args.pool.now c.join.new.pool c.args.parts c.join.result x k j c.requires.wires (e ∙ sym c.requires.count) c.join.ensures.word
+returns-clause-bits c = λ x k j e. joined_is_test c.args.pool.now c.join.new.pool c.args.parts c.join.result x k j c.requires.wires (e ∙ sym c.requires.count) c.join.ensures.word
 
 pub join-requires-clause-widths : goal.join-requires-clause-widths
 join-requires-clause-widths c = widths_are c.args.pool.now c.args.parts c.requires.wires ∙ c.requires.count

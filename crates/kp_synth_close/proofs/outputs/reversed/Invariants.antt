@@ -1,5 +1,5 @@
 use Rattle.std.proofs.Common.{◌≡◌, ◌-◌, ◌<◌, ℕ, length}
-use Rattle.kp_synth_registers.specs.Telling.{node_at}
+use Rattle.kp_synth_registers.specs.Meaning.{node_at}
 use Rattle.kp_synth_close.proofs.outputs.reversed.Given as goal
 
 abbrev pub invariant-loop-k : goal.invariant-loop-k

@@ -2,7 +2,7 @@ use Rattle.std.proofs.Common.{◌≡◌, ◌∙◌, ◌-◌, ℕ, List, ap, arit
 use Rattle.std.proofs.lemmas.List.{get_or-take}
 use Rattle.kp_net.specs.declared.node.NodeId.{NodeId}
 use Rattle.kp_net.specs.Nodes.{on}
-use Rattle.kp_synth_registers.specs.Telling.{node_at}
+use Rattle.kp_synth_registers.specs.Meaning.{node_at}
 use Rattle.kp_synth_close.proofs.outputs.word_of.Goals as goal
 
 pub returns-clause-bits : goal.returns-clause-bits

@@ -1,8 +1,8 @@
-use Rattle.kp_synth_registers.specs.Telling.{Tells}
+use Rattle.kp_synth_registers.specs.Meaning.{IsTest}
 use Rattle.kp_synth_close.proofs.pending.next_guess.Goals as goal
 
 pub returns-clause-is_pending : goal.returns-clause-is_pending
-unfolding Tells
+unfolding IsTest
 returns-clause-is_pending c = λ x st i h.
     let u = c.requires.updates x st i h in
     let a = c.guess_leaving-came.ensures.is_pending x in
@@ -12,7 +12,7 @@ returns-clause-is_pending c = λ x st i h.
     cc (u, a, b, f, k)
 
 pub returns-clause-is_value : goal.returns-clause-is_value
-unfolding Tells
+unfolding IsTest
 returns-clause-is_value c = λ x st i h.
     let u = c.requires.updates x st i h in
     let k = c.pick.ensures.grown.kept in

@@ -1,7 +1,7 @@
 use Rattle.std.proofs.Common.{ℕ, ap, arith}
 use Rattle.kp_pipeline.specs.Pipeline.{cycle}
 use Rattle.kp_machine.specs.Machine.{machine_of}
-use Rattle.kp_synth_registers.specs.Telling.{MayGive, Tells}
+use Rattle.kp_synth_registers.specs.Meaning.{MayGive, IsTest}
 use Rattle.kp_synth_close.proofs.Arms.{results_next}
 use Rattle.kp_synth_registers.proofs.Growth.{ready_kept}
 use Rattle.kp_synth_close.proofs.results.next_result.Goals as goal
@@ -10,7 +10,7 @@ pub result_in-own-requires-clause-ready : goal.result_in-own-requires-clause-rea
 result_in-own-requires-clause-ready c = ready_kept _ _ _ _ _ c.leaves-came.ensures.grown.kept c.requires.ready
 
 pub returns-clause-gives : goal.returns-clause-gives
-unfolding MayGive Tells
+unfolding MayGive IsTest
 returns-clause-gives c = λ x st i h.
     let k = c.result_in-own.ensures.grown.kept in
     let u = c.requires.updates x st i h in

@@ -4,7 +4,7 @@ use Rattle.kp_pipeline.specs.Pipeline.{mismatches}
 use Rattle.kp_machine.specs.Machine.{machine_of}
 use Rattle.kp_net.specs.Growth.{Wire}
 use Rattle.kp_synth_registers.specs.declared.outcome.Outcome.{Outcome}
-use Rattle.kp_synth_registers.specs.Telling.{Tells, Says}
+use Rattle.kp_synth_registers.specs.Meaning.{IsTest, Says}
 use Rattle.kp_synth_registers.proofs.Growth.{says_kept}
 use Rattle.kp_synth_close.specs.Nexts.{outcome_at, no_outcome}
 use Rattle.kp_synth_close.proofs.Bits.{get_any, at_set}
@@ -19,13 +19,13 @@ loop-k-preserved c =
     let b : c.loop-k.k < 12 = omega (arith, l, c.stages-k-end.ensures.fits.at_most) in
     let n = (get_or c.args.outs.now c.loop-k.k c.index-outs-k.result).miss in
     let w = subst (λ (o : Outcome). Wire c.bit-zero.new.pool o.miss 1) (sym e) s.miss_wire in
-    let t = subst (λ (o : Outcome). Tells c.args.layout.now c.bit-zero.new.pool o.miss (λ st i. mismatches (machine_of c.args.layout.now) st i c.loop-k.k)) (sym e) s.miss in
+    let t = subst (λ (o : Outcome). IsTest c.args.layout.now c.bit-zero.new.pool o.miss (λ st i. mismatches (machine_of c.args.layout.now) st i c.loop-k.k)) (sym e) s.miss in
     record {
       len = length-set c.loop-k.misses c.loop-k.k _ ∙ v.len;
       wires = λ k m. at_set (λ k n. Wire c.bit-zero.new.pool n 1) c.loop-k.misses c.loop-k.k n k (omega (arith, b, v.len)) (λ q. w) (λ q. v.wires k m);
-      tells = λ k m. at_set (λ k n. Tells c.args.layout.now c.bit-zero.new.pool n (λ st i. mismatches (machine_of c.args.layout.now) st i k)) c.loop-k.misses c.loop-k.k n k (omega (arith, b, v.len))
-          (λ q. subst (λ j. Tells c.args.layout.now c.bit-zero.new.pool n (λ st i. mismatches (machine_of c.args.layout.now) st i j)) (sym q) t)
-          (λ q. v.tells k (omega (arith, m, less q m)));
+      is_test = λ k m. at_set (λ k n. IsTest c.args.layout.now c.bit-zero.new.pool n (λ st i. mismatches (machine_of c.args.layout.now) st i k)) c.loop-k.misses c.loop-k.k n k (omega (arith, b, v.len))
+          (λ q. subst (λ j. IsTest c.args.layout.now c.bit-zero.new.pool n (λ st i. mismatches (machine_of c.args.layout.now) st i j)) (sym q) t)
+          (λ q. v.is_test k (omega (arith, m, less q m)));
     } where
       less : {k j : ℕ} → (k ≡ j → ⊥) → k < j + 1 → k < j
       less q m = omega arith

@@ -5,8 +5,8 @@ use Rattle.kp_machine.specs.Machine.{machine_of}
 use Rattle.kp_net.specs.Growth.{Wire}
 use Rattle.kp_net.proofs.Growing.{wire_kept, grown_then, grown_more}
 use Rattle.kp_synth_registers.specs.declared.outcome.Outcome.{Outcome}
-use Rattle.kp_synth_registers.specs.Telling.{Tells, Says}
-use Rattle.kp_synth_registers.proofs.Growth.{says_kept, tells_kept, ready_kept}
+use Rattle.kp_synth_registers.specs.Meaning.{IsTest, Says}
+use Rattle.kp_synth_registers.proofs.Growth.{says_kept, test_kept, ready_kept}
 use Rattle.kp_synth_close.specs.Nexts.{outcome_at, no_outcome}
 use Rattle.kp_synth_close.proofs.Bits.{get_any, at_set}
 use Rattle.kp_synth_close.proofs.steering.updates_of.Goals as goal
@@ -21,10 +21,10 @@ update_in-requires-clause-says c =
     let s : Says c.args.layout.now c.loop-k.pool c.loop-k.k (outcome_at c.args.outs.now c.loop-k.k) = says_kept _ _ _ _ _ _ c.loop-k.invariant.grown.kept (c.requires.says.says c.loop-k.k l) in
     subst (λ (o : Outcome). Says c.args.layout.now c.loop-k.pool c.loop-k.k o) (sym (c.index-outs-i.is ∙ e)) s
 
-pub update_in-requires-clause-tells : goal.update_in-requires-clause-tells
-update_in-requires-clause-tells c =
+pub update_in-requires-clause-is_test : goal.update_in-requires-clause-is_test
+update_in-requires-clause-is_test c =
     let l : c.loop-k.k < c.args.layout.now.stages.value = omega (arith, c.loop-k-test.true, c.stages-k-end.ensures.stages) in
-    tells_kept _ _ _ _ 1 _ _ c.loop-k.invariant.grown.kept (c.requires.swept c.loop-k.k l) (c.requires.tells c.loop-k.k l)
+    test_kept _ _ _ _ 1 _ _ c.loop-k.invariant.grown.kept (c.requires.swept c.loop-k.k l) (c.requires.is_test c.loop-k.k l)
 
 pub loop-k-preserved : goal.loop-k-preserved
 loop-k-preserved c =
@@ -35,9 +35,9 @@ loop-k-preserved c =
     record {
       len = length-set c.loop-k.updates c.loop-k.k _ ∙ v.len;
       wires = λ k m. at_set (λ k n. Wire c.update_in.new.pool n 1) c.loop-k.updates c.loop-k.k c.update_in.result k (omega (arith, b, v.len)) (λ q. c.update_in.ensures.wire) (λ q. wire_kept _ _ _ _ _ g.kept (v.wires k (omega (arith, m, less q m))));
-      tells = λ k m. at_set (λ k n. Tells c.args.layout.now c.update_in.new.pool n (λ st i. ue (machine_of c.args.layout.now) st i k)) c.loop-k.updates c.loop-k.k c.update_in.result k (omega (arith, b, v.len))
-          (λ q. subst (λ j. Tells c.args.layout.now c.update_in.new.pool c.update_in.result (λ st i. ue (machine_of c.args.layout.now) st i j)) (sym q) c.update_in.ensures.tells)
-          (λ q. tells_kept _ _ _ _ 1 _ _ g.kept (v.wires k (omega (arith, m, less q m))) (v.tells k (omega (arith, m, less q m))));
+      is_test = λ k m. at_set (λ k n. IsTest c.args.layout.now c.update_in.new.pool n (λ st i. ue (machine_of c.args.layout.now) st i k)) c.loop-k.updates c.loop-k.k c.update_in.result k (omega (arith, b, v.len))
+          (λ q. subst (λ j. IsTest c.args.layout.now c.update_in.new.pool c.update_in.result (λ st i. ue (machine_of c.args.layout.now) st i j)) (sym q) c.update_in.ensures.is_test)
+          (λ q. test_kept _ _ _ _ 1 _ _ g.kept (v.wires k (omega (arith, m, less q m))) (v.is_test k (omega (arith, m, less q m))));
       grown = grown_more _ _ _ _ (grown_then _ _ _ _ _ v.grown g) (omega arith);
     } where
       less : {k j : ℕ} → (k ≡ j → ⊥) → k < j + 1 → k < j

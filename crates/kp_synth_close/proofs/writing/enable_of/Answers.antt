@@ -11,9 +11,9 @@ pub both-requires-clause-second : goal.both-requires-clause-second
 both-requires-clause-second c =
     subst (λ w. Wire c.pipe_in-enable.new.pool c.pipe_in-enable.result w) (subst (EnableFits c.args.layout.now) c.in-Some.is c.requires.fits).1 c.pipe_in-enable.ensures.wire
 
-pub returns-in-Some-clause-tells : goal.returns-in-Some-clause-tells
-returns-in-Some-clause-tells c =
+pub returns-in-Some-clause-is_test : goal.returns-in-Some-clause-is_test
+returns-in-Some-clause-is_test c =
     writes_some _ _ _ _ _ _ c.in-Some.pipe 1 c.args.port c.args.update c.pipe_in-enable.result _ c.requires.port c.in-Some.is c.pipe_in-enable.ensures.grown.kept c.requires.update c.requires.updates c.pipe_in-enable.ensures.gives c.both.ensures.value
 
-pub returns-in-None-clause-tells : goal.returns-in-None-clause-tells
-returns-in-None-clause-tells c = writes_none _ _ _ c.args.port _ c.requires.port c.in-None.is c.requires.updates
+pub returns-in-None-clause-is_test : goal.returns-in-None-clause-is_test
+returns-in-None-clause-is_test c = writes_none _ _ _ c.args.port _ c.requires.port c.in-None.is c.requires.updates

@@ -8,7 +8,7 @@ returns-in-Some-clause-gives c =
     let e : port_at c.args.layout.now c.args.target ≡ Some c.in-Some.port = sym c.port.ensures.port ∙ c.in-Some.is in
     let f : ResultFits c.args.layout.now c.args.target (Some c.in-Some.port) = subst (ResultFits c.args.layout.now c.args.target) c.in-Some.is c.port.ensures.fits in
     register_some _ _ _ _ _ _ _ c.in-Some.port c.write_of-write.result.enabled c.write_of-write.result.value c.kept-own.result _ c.requires.target c.requires.register e f
-    c.write_of-write.ensures.grown.kept c.kept-own.ensures.wire c.kept-own.ensures.value c.write_of-write.ensures.tells c.write_of-write.ensures.gives c.choose.ensures.value
+    c.write_of-write.ensures.grown.kept c.kept-own.ensures.wire c.kept-own.ensures.value c.write_of-write.ensures.is_test c.write_of-write.ensures.gives c.choose.ensures.value
 
 pub returns-in-None-clause-gives : goal.returns-in-None-clause-gives
 returns-in-None-clause-gives c =

@@ -8,4 +8,4 @@ address_of-address-requires-clause-ready c = ready_kept _ _ _ _ _ c.write_of-wri
 pub returns-clause-is : goal.returns-clause-is
 returns-clause-is c =
     port_some _ _ _ _ _ _ c.args.port c.write_of-write.result.enabled c.write_of-write.result.value c.address_of-address.result c.requires.port c.address_of-address.ensures.grown.kept
-    c.write_of-write.ensures.enabled c.write_of-write.ensures.value c.write_of-write.ensures.tells c.write_of-write.ensures.gives c.address_of-address.ensures.gives
+    c.write_of-write.ensures.enabled c.write_of-write.ensures.value c.write_of-write.ensures.is_test c.write_of-write.ensures.gives c.address_of-address.ensures.gives

@@ -39,7 +39,7 @@ returns-in_ok-put_first-in-Some-clause-nearer c =
     c.result_in-stored.ensures.grown.kept c.enable_in-enable.ensures.grown.kept c.address_in-address.ensures.grown.kept c.row_of-row.ensures.grown.kept
     c.result_in-stored.result c.enable_in-enable.result c.address_in-address.result c.args.set c.args.full c.args.halt c.row_of-row.result _ _ (target_at job c.args.t).width
     c.result_in-stored.ensures.enabled c.result_in-stored.ensures.value c.result_in-stored.ensures.gives c.enable_in-enable.ensures.bit c.enable_in-enable.ensures.value
-    c.address_in-address.ensures.address c.address_in-address.ensures.value c.requires.set c.requires.set_means c.requires.full c.requires.full_tells c.requires.halt c.requires.halt_tells
+    c.address_in-address.ensures.address c.address_in-address.ensures.value c.requires.set c.requires.set_means c.requires.full c.requires.full_is_test c.requires.halt c.requires.halt_is_test
     refl refl c.row_of-row.ensures.hits c.row_of-row.ensures.value
     c.args.source.now c.put_first.new.source c.requires.source (le-leb _ _ c.if-k-port.true) c.in_ok-put_first-in-Some.ensures.own c.in_ok-put_first-in-Some.ensures.width c.in_ok-put_first-in-Some.ensures.rows
 

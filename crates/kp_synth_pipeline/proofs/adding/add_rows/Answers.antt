@@ -2,7 +2,7 @@ use Rattle.std.proofs.Common.{◌≡◌, ℕ, suc, ◌+◌, ◌*◌, ◌<◌, Li
 use Rattle.std.specs.Prelude.{slice_get}
 use Rattle.kp_net.specs.Growth.{Grown}
 use Rattle.kp_net.proofs.Growing.{grown_then, grown_more}
-use Rattle.kp_synth_registers.proofs.Growth.{tells_kept, ready_kept}
+use Rattle.kp_synth_registers.proofs.Growth.{test_kept, ready_kept}
 use Rattle.kp_synth_stage.specs.declared.row.Source.{Source}
 use Rattle.kp_synth_pipeline.specs.inner.Whole.{AllNearer}
 use Rattle.kp_synth_pipeline.proofs.Rising.{FewFrom, SameFrom, few_begun, few_ended, same_begun, none_nearer, ok_set, few_set, same_set, nearer_set, get_there, set_means_kept}
@@ -33,11 +33,11 @@ add_row-requires-clause-set_means c =
     let l : c.loop-t.t < length c.loop-t.sources = omega arith in
     set_means_kept c.args.layout.now c.args.k c.loop-t.t c.args.pool.now c.loop-t.pool (20 * c.loop-t.t) c.args.sets.now c.loop-t.invariant.grown.kept (omega (arith, l, e)) c.requires.sets
 
-pub add_row-requires-clause-full_tells : goal.add_row-requires-clause-full_tells
-add_row-requires-clause-full_tells c = tells_kept c.args.layout.now c.args.pool.now c.loop-t.pool (20 * c.loop-t.t) 1 c.args.full _ c.loop-t.invariant.grown.kept c.requires.full c.requires.full_tells
+pub add_row-requires-clause-full_is_test : goal.add_row-requires-clause-full_is_test
+add_row-requires-clause-full_is_test c = test_kept c.args.layout.now c.args.pool.now c.loop-t.pool (20 * c.loop-t.t) 1 c.args.full _ c.loop-t.invariant.grown.kept c.requires.full c.requires.full_is_test
 
-pub add_row-requires-clause-halt_tells : goal.add_row-requires-clause-halt_tells
-add_row-requires-clause-halt_tells c = tells_kept c.args.layout.now c.args.pool.now c.loop-t.pool (20 * c.loop-t.t) 1 c.args.halt _ c.loop-t.invariant.grown.kept c.requires.halt c.requires.halt_tells
+pub add_row-requires-clause-halt_is_test : goal.add_row-requires-clause-halt_is_test
+add_row-requires-clause-halt_is_test c = test_kept c.args.layout.now c.args.pool.now c.loop-t.pool (20 * c.loop-t.t) 1 c.args.halt _ c.loop-t.invariant.grown.kept c.requires.halt c.requires.halt_is_test
 
 pub loop-t-preserved : goal.loop-t-preserved
 loop-t-preserved c =

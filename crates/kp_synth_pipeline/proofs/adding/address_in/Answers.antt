@@ -1,6 +1,6 @@
 use Rattle.std.proofs.Common.{◌∙◌, ◌==◌, ℕ, ap, sym}
 use Rattle.std.specs.Prelude.{Option}
-use Rattle.kp_synth_registers.specs.Telling.{Gives}
+use Rattle.kp_synth_registers.specs.Meaning.{Gives}
 use Rattle.kp_synth_pipeline.specs.inner.Whole.{addressed_by}
 use Rattle.kp_synth_pipeline.proofs.adding.address_in.Goals as goal
 

@@ -1,6 +1,6 @@
 use Rattle.std.proofs.Common.{◌≡◌, ℕ, suc, ◌+◌, ◌-◌, ◌≤◌, List, length, sym, ap, subst, arith}
 use Rattle.kp_synth_registers.specs.declared.outcome.Outcome.{Outcome}
-use Rattle.kp_synth_registers.specs.Telling.{Added}
+use Rattle.kp_synth_registers.specs.Meaning.{Added}
 use Rattle.kp_synth_registers.proofs.Growth.{grown_added, added_more, ready_kept}
 use Rattle.kp_synth_stage.specs.declared.row.Source.{Source}
 use Rattle.kp_synth_pipeline.specs.inner.Descending.{Faces, SayFrom}

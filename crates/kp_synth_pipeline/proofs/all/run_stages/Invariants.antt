@@ -1,5 +1,5 @@
 use Rattle.std.proofs.Common.{◌≡◌, suc, ◌+◌, ◌-◌, length}
-use Rattle.kp_synth_registers.specs.Telling.{Added}
+use Rattle.kp_synth_registers.specs.Meaning.{Added}
 use Rattle.kp_synth_pipeline.specs.inner.Descending.{Faces, SayFrom}
 use Rattle.kp_synth_pipeline.specs.Stages.{stages_room}
 use Rattle.kp_synth_pipeline.proofs.all.run_stages.Given as goal

@@ -4,7 +4,7 @@ use Rattle.kp_machine.specs.Slots.{hints_of}
 use Rattle.kp_net.specs.declared.node.NodeId.{NodeId}
 use Rattle.kp_net.specs.Growth.{Wire}
 use Rattle.kp_synth_tables.specs.Keys.{hint_at}
-use Rattle.kp_synth_registers.specs.Telling.{Gives}
+use Rattle.kp_synth_registers.specs.Meaning.{Gives}
 use Rattle.kp_synth_stage.proofs.Binding.{kept_same}
 use Rattle.kp_synth_pipeline.specs.inner.Seeing.{HintsIn}
 use Rattle.kp_synth_pipeline.proofs.Entered.{FirstOf, one_first, hint_gives}

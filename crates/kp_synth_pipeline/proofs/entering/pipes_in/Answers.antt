@@ -4,7 +4,7 @@ use Rattle.kp_net.specs.declared.node.NodeId.{NodeId}
 use Rattle.kp_net.specs.Growth.{Wire}
 use Rattle.kp_net.proofs.Growing.{grown_then}
 use Rattle.kp_synth_tables.specs.Keys.{pipe_at}
-use Rattle.kp_synth_registers.specs.Telling.{Gives}
+use Rattle.kp_synth_registers.specs.Meaning.{Gives}
 use Rattle.kp_synth_pipeline.specs.inner.Seeing.{PipesIn}
 use Rattle.kp_synth_pipeline.proofs.Entered.{FirstOf, one_first}
 use Rattle.kp_synth_registers.proofs.Growth.{ready_kept}

@@ -1,6 +1,6 @@
 use Rattle.std.proofs.Common.{◌≡◌, ℕ, ◌+◌, ◌*◌, ◌≤◌, length, ap, subst, arith}
-use Rattle.kp_synth_registers.specs.Telling.{Added}
-use Rattle.kp_synth_registers.proofs.Growth.{tells_kept, grown_added, added_then, ready_kept}
+use Rattle.kp_synth_registers.specs.Meaning.{Added}
+use Rattle.kp_synth_registers.proofs.Growth.{test_kept, grown_added, added_then, ready_kept}
 use Rattle.kp_synth_stage.proofs.Nearest.{sources_kept}
 use Rattle.kp_synth_pipeline.proofs.Stalling.{sees_above_kept}
 use Rattle.kp_synth_tables.specs.Keys.{guesses_of}
@@ -24,11 +24,11 @@ pub with_guess-requires-clause-sees : goal.with_guess-requires-clause-sees
 with_guess-requires-clause-sees c =
     sees_above_kept c.args.layout.now c.args.pool.now c.loop-g.pool (guess_room c.args.layout.now c.loop-g.g + 1) c.args.sources.now c.args.k c.loop-g.invariant.added.kept c.requires.sources c.requires.sees
 
-pub with_guess-requires-clause-tells : goal.with_guess-requires-clause-tells
-with_guess-requires-clause-tells c = tells_kept c.args.layout.now c.args.pool.now c.loop-g.pool (guess_room c.args.layout.now c.loop-g.g + 1) 1 c.args.full _ c.loop-g.invariant.added.kept c.requires.full c.requires.tells
+pub with_guess-requires-clause-is_test : goal.with_guess-requires-clause-is_test
+with_guess-requires-clause-is_test c = test_kept c.args.layout.now c.args.pool.now c.loop-g.pool (guess_room c.args.layout.now c.loop-g.g + 1) 1 c.args.full _ c.loop-g.invariant.added.kept c.requires.full c.requires.is_test
 
-pub returns-clause-tells : goal.returns-clause-tells
-returns-clause-tells c = all_misses c.args.layout.now c.loop-g.pool c.args.k c.loop-g.g c.loop-g.miss c.requires.stage (let e = ap length c.guesses-g-end.ensures in omega (arith, e)) c.loop-g.invariant.misses
+pub returns-clause-is_test : goal.returns-clause-is_test
+returns-clause-is_test c = all_misses c.args.layout.now c.loop-g.pool c.args.k c.loop-g.g c.loop-g.miss c.requires.stage (let e = ap length c.guesses-g-end.ensures in omega (arith, e)) c.loop-g.invariant.misses
 
 pub with_guess-requires-clause-room : goal.with_guess-requires-clause-room
 with_guess-requires-clause-room c =

@@ -1,6 +1,6 @@
 use Rattle.std.proofs.Common.{◌+◌, ℕ, arith}
-use Rattle.kp_synth_registers.specs.Telling.{guesses_at}
-use Rattle.kp_synth_registers.proofs.Growth.{tells_kept, grown_added, added_then, added_more}
+use Rattle.kp_synth_registers.specs.Meaning.{guesses_at}
+use Rattle.kp_synth_registers.proofs.Growth.{test_kept, grown_added, added_then, added_more}
 use Rattle.kp_synth_stage.specs.Work.{stmts_at, costs_of}
 use Rattle.kp_synth_stage.proofs.Binding.{fits_kept}
 use Rattle.kp_synth_pipeline.proofs.Stalling.{computes, stalls}
@@ -21,9 +21,9 @@ returns-clause-stall c =
     let n : ℕ = costs_of job (stmts_at job c.args.k) + 1 in
     stalls job c.args.k c.args.pool.now c.run_block.new.pool c.stall_of-stall.new.pool 3 c.stall_of-stall.ensures.grown.kept c.args.sources.now c.args.pipes.now c.args.samples.now c.args.hints.now c.in_ok-work.work
     c.in_ok-work.ensures.fits c.requires.sees c.requires.pipes_in c.requires.samples_in c.requires.hints_in c.in_ok-work.ensures.does c.args.full c.args.ext c.args.higher c.stall_of-stall.result
-    (tells_kept job c.args.pool.now c.run_block.new.pool n 1 c.args.full _ g c.requires.full_wire c.requires.full)
-    (tells_kept job c.args.pool.now c.run_block.new.pool n 1 c.args.ext _ g c.requires.ext_wire c.requires.ext)
-    (tells_kept job c.args.pool.now c.run_block.new.pool n 1 c.args.higher _ g c.requires.higher_wire c.requires.higher)
+    (test_kept job c.args.pool.now c.run_block.new.pool n 1 c.args.full _ g c.requires.full_wire c.requires.full)
+    (test_kept job c.args.pool.now c.run_block.new.pool n 1 c.args.ext _ g c.requires.ext_wire c.requires.ext)
+    (test_kept job c.args.pool.now c.run_block.new.pool n 1 c.args.higher _ g c.requires.higher_wire c.requires.higher)
     c.stall_of-stall.ensures.value
 
 pub returns-clause-added : goal.returns-clause-added

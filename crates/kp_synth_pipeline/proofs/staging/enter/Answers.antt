@@ -2,7 +2,7 @@ use Rattle.std.proofs.Common.{ℕ, ◌+◌, length}
 use Rattle.kp_machine.specs.Slots.{pipes_of, hints_of}
 use Rattle.kp_net.specs.Growth.{Kept}
 use Rattle.kp_net.proofs.Growing.{kept_then, wire_kept}
-use Rattle.kp_synth_registers.proofs.Growth.{tells_kept, ready_kept}
+use Rattle.kp_synth_registers.proofs.Growth.{test_kept, ready_kept}
 use Rattle.kp_synth_pipeline.proofs.Spoken.{slots_kept, pipes_kept, hints_kept}
 use Rattle.kp_synth_pipeline.proofs.staging.enter.Goals as goal
 
@@ -20,9 +20,9 @@ returns-clause-entered c =
       hints = slots_kept p r 2 (hints_of job.decls) c.in_ok-hints.hints.items a c.in_ok-hints.ensures.nodes;
       hint_values = hints_kept job p r 2 c.in_ok-hints.hints.items a c.in_ok-hints.ensures.nodes c.in_ok-hints.ensures.values;
       full_wire = wire_kept q r 1 c.full_in-full.result 1 g c.full_in-full.ensures.wire;
-      full_tells = tells_kept job q r 1 1 c.full_in-full.result _ g c.full_in-full.ensures.wire c.full_in-full.ensures.tells;
+      full_is_test = test_kept job q r 1 1 c.full_in-full.result _ g c.full_in-full.ensures.wire c.full_in-full.ensures.is_test;
       ext_wire = c.ext_in-ext.ensures.wire;
-      ext_tells = c.ext_in-ext.ensures.tells;
+      ext_is_test = c.ext_in-ext.ensures.is_test;
     }
 
 pub hints_in-requires-clause-ready : goal.hints_in-requires-clause-ready

@@ -3,8 +3,8 @@ use Rattle.kp_machine.specs.Slots.{targets_of}
 use Rattle.kp_net.specs.Growth.{Kept}
 use Rattle.kp_net.proofs.Growing.{kept_then, wire_kept}
 use Rattle.kp_synth_registers.specs.declared.outcome.Set.{Set}
-use Rattle.kp_synth_registers.specs.Telling.{Added}
-use Rattle.kp_synth_registers.proofs.Growth.{tells_kept, says_kept, grown_added, added_then, added_more, ready_kept}
+use Rattle.kp_synth_registers.specs.Meaning.{Added}
+use Rattle.kp_synth_registers.proofs.Growth.{test_kept, says_kept, grown_added, added_then, added_more, ready_kept}
 use Rattle.kp_synth_pipeline.specs.inner.Whole.{SetsMean}
 use Rattle.kp_synth_pipeline.specs.Stages.{own_room, stage_room}
 use Rattle.kp_synth_pipeline.proofs.Spoken.{faces_kept, sets_of}
@@ -26,9 +26,9 @@ add_rows-requires-clause-sets c =
     (sets_of c.args.layout.now c.full_in-full.new.pool c.args.k c.in_ok-out.out
     (says_kept c.args.layout.now c.stage_in.new.pool c.full_in-full.new.pool 1 c.args.k c.in_ok-out.out c.full_in-full.ensures.grown.kept c.in_ok-out.ensures.says))
 
-pub add_rows-requires-clause-halt_tells : goal.add_rows-requires-clause-halt_tells
-add_rows-requires-clause-halt_tells c =
-    tells_kept c.args.layout.now c.stage_in.new.pool c.full_in-full.new.pool 1 1 c.in_ok-out.out.stall _ c.full_in-full.ensures.grown.kept c.in_ok-out.ensures.says.stall_wire c.in_ok-out.ensures.says.stall
+pub add_rows-requires-clause-halt_is_test : goal.add_rows-requires-clause-halt_is_test
+add_rows-requires-clause-halt_is_test c =
+    test_kept c.args.layout.now c.stage_in.new.pool c.full_in-full.new.pool 1 1 c.in_ok-out.out.stall _ c.full_in-full.ensures.grown.kept c.in_ok-out.ensures.says.stall_wire c.in_ok-out.ensures.says.stall
 
 pub returns-clause-says : goal.returns-clause-says
 returns-clause-says c =
@@ -51,7 +51,7 @@ returns-clause-faces c = λ j e.
     (faces_kept job p p2 (m + 1) c.args.sources.now c.args.higher c.args.k g c.requires.faces)
     c.in_ok-add_rows.ensures.sources (c.in_ok-add_rows.ensures.few j e) c.in_ok-add_rows.ensures.nearer
     (wire_kept p1 q (1 + n) c.in_ok-out.out.stall 1 h c.in_ok-out.ensures.says.stall_wire)
-    (tells_kept job p1 q (1 + n) 1 c.in_ok-out.out.stall _ h c.in_ok-out.ensures.says.stall_wire c.in_ok-out.ensures.says.stall)
+    (test_kept job p1 q (1 + n) 1 c.in_ok-out.out.stall _ h c.in_ok-out.ensures.says.stall_wire c.in_ok-out.ensures.says.stall)
 
 pub returns-clause-added : goal.returns-clause-added
 returns-clause-added c =

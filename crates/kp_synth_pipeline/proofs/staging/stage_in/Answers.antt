@@ -2,8 +2,8 @@ use Rattle.std.proofs.Common.{ℕ, ◌+◌, List, length, sym, subst, arith}
 use Rattle.kp_machine.specs.Slots.{pipes_of, samples_of}
 use Rattle.kp_net.proofs.Growing.{kept_then, wire_kept}
 use Rattle.kp_synth_tables.specs.Keys.{guesses_of}
-use Rattle.kp_synth_registers.specs.Telling.{Added}
-use Rattle.kp_synth_registers.proofs.Growth.{tells_kept, grown_added, added_then, added_more, ready_kept}
+use Rattle.kp_synth_registers.specs.Meaning.{Added}
+use Rattle.kp_synth_registers.proofs.Growth.{test_kept, grown_added, added_then, added_more, ready_kept}
 use Rattle.kp_synth_stage.specs.Work.{stmts_at, SlotsHave, costs_of}
 use Rattle.kp_net.specs.declared.node.NodeId.{NodeId}
 use Rattle.kp_synth_pipeline.specs.inner.Seeing.{SamplesIn}
@@ -40,7 +40,7 @@ returns-clause-says c =
     says_of job r c.args.k c.in_ok-ran.ran.work c.in_ok-ran.ran.stall c.in_ok-miss.miss c.outcome_of.result o.stall o.miss o.puts o.sets o.made o.aims
     c.in_ok-ran.ensures.fits c.in_ok-ran.ensures.computes c.in_ok-ran.ensures.wire c.in_ok-ran.ensures.stall
     (wire_kept q r n c.in_ok-miss.miss 1 c.in_ok-ran.ensures.added.kept c.in_ok-miss.ensures.wire)
-    (tells_kept job q r n 1 c.in_ok-miss.miss _ c.in_ok-ran.ensures.added.kept c.in_ok-miss.ensures.wire c.in_ok-miss.ensures.tells)
+    (test_kept job q r n 1 c.in_ok-miss.miss _ c.in_ok-ran.ensures.added.kept c.in_ok-miss.ensures.wire c.in_ok-miss.ensures.is_test)
 
 pub returns-clause-added : goal.returns-clause-added
 returns-clause-added c =

@@ -1,5 +1,5 @@
 use Rattle.std.proofs.Common.{◌≡◌, length}
-use Rattle.kp_synth_registers.specs.Telling.{Added}
+use Rattle.kp_synth_registers.specs.Meaning.{Added}
 use Rattle.kp_synth_registers.specs.inner.First.{FirstRead}
 use Rattle.kp_synth_registers.proofs.registers.registers.Given as goal
 

@@ -2,7 +2,7 @@ use Rattle.std.proofs.Common.{◌≡◌, ◌+◌, ◌<◌, ℕ, suc, List, Some,
 use Rattle.std.specs.Prelude.{slice_get}
 use Rattle.std.proofs.lemmas.Option.{slice_get_read}
 use Rattle.kp_ast.specs.declared.tree.Stmt.{Stmt}
-use Rattle.kp_synth_registers.specs.Telling.{Added}
+use Rattle.kp_synth_registers.specs.Meaning.{Added}
 use Rattle.kp_synth_registers.proofs.Growth.{added_then}
 use Rattle.kp_synth_stage.specs.Work.{stmts_at, cost_of, costs_of}
 use Rattle.kp_synth_stage.specs.inner.Standing.{WorkOk, AllGo}

@@ -1,5 +1,5 @@
 use Rattle.std.proofs.Common.{take}
-use Rattle.kp_synth_registers.specs.Telling.{Added}
+use Rattle.kp_synth_registers.specs.Meaning.{Added}
 use Rattle.kp_synth_stage.specs.Work.{stmts_at, costs_of}
 use Rattle.kp_synth_stage.specs.inner.Standing.{WorkOk, AllGo}
 use Rattle.kp_synth_stage.proofs.block.run_stmts.Given as goal

@@ -10,7 +10,7 @@ use Rattle.kp_net.specs.Nodes.{at as value_at, on}
 use Rattle.kp_pipeline.specs.Sequential.{first_value}
 use Rattle.kp_synth_tables.specs.Keys.{target_at}
 use Rattle.kp_synth_registers.specs.Holding.{optional}
-use Rattle.kp_synth_registers.specs.Telling.{SetFits, set_value}
+use Rattle.kp_synth_registers.specs.Meaning.{SetFits, set_value}
 use Rattle.kp_synth_registers.proofs.Growth.{grown_added, added_then, added_more}
 use Rattle.kp_synth_stage.specs.Work.{cost_of}
 use Rattle.kp_synth_stage.specs.inner.Statements.{target_named}

@@ -17,6 +17,6 @@ loop-k-preserved c =
     record {
       below = omega (arith, low);
       holds = ap (λ (x : Held). length x.hold) is ∙ count.0 ∙ kept.holds;
-      flights = ap (λ (x : Held). length x.told) is ∙ count.1 ∙ kept.flights;
+      flights = ap (λ (x : Held). length x.recorded) is ∙ count.1 ∙ kept.flights;
       moved = ap (taken_down b (k - 1 - 1)) is ∙ taken_next b h (k - 1) (omega (arith, more)) ∙ kept.moved;
     }

@@ -6,7 +6,7 @@ abbrev pub invariant-loop-k : goal.invariant-loop-k
 invariant-loop-k l = record {
   below : l.k ≤ l.stages;
   holds : length l.held.hold ≡ 12;
-  flights : length l.held.told ≡ length l.initial.held.told;
+  flights : length l.held.recorded ≡ length l.initial.held.recorded;
   moved : taken_down l.blocked (l.k - 1) l.held ≡ taken_down l.blocked (l.stages - 1) l.initial.held;
 }
 

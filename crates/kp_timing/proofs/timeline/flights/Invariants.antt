@@ -1,13 +1,13 @@
 use Rattle.std.proofs.Common.{◌≡◌, ℕ, ◌-◌, ◌<◌, ◌≤◌, length, get_or}
-use Rattle.kp_timing.specs.inner.Deciding.{nothing_told}
+use Rattle.kp_timing.specs.inner.Deciding.{nothing_recorded}
 use Rattle.kp_timing.proofs.timeline.flights.Given as goal
 
 abbrev pub invariant-loop-alloc : goal.invariant-loop-alloc
 invariant-loop-alloc l = record {
   few : length l.flights.items ≤ l.stages;
-  reads : (k : ℕ) → k < length l.flights.items → length (get_or l.flights.items k nothing_told).reads ≡ l.reads;
-  writes : (k : ℕ) → k < length l.flights.items → length (get_or l.flights.items k nothing_told).writes ≡ l.results;
-  settings : (k : ℕ) → k < length l.flights.items → length (get_or l.flights.items k nothing_told).settings ≡ l.results;
+  reads : (k : ℕ) → k < length l.flights.items → length (get_or l.flights.items k nothing_recorded).reads ≡ l.reads;
+  writes : (k : ℕ) → k < length l.flights.items → length (get_or l.flights.items k nothing_recorded).writes ≡ l.results;
+  settings : (k : ℕ) → k < length l.flights.items → length (get_or l.flights.items k nothing_recorded).settings ≡ l.results;
 }
 
 abbrev pub decreases-loop-alloc : goal.decreases-loop-alloc

@@ -1,31 +1,31 @@
 use Rattle.std.proofs.Common.{◌∙◌, length, get_or, ap, arith}
 use Rattle.std.proofs.lemmas.List.{get_or_default}
 use Rattle.kp_seq.specs.Running.{state}
-use Rattle.kp_seq.specs.Told.{Told}
-use Rattle.kp_timing.specs.inner.Deciding.{nothing_told}
-use Rattle.kp_timing.proofs.Keeping.{told_fits}
+use Rattle.kp_seq.specs.Recorded.{Recorded}
+use Rattle.kp_timing.specs.inner.Deciding.{nothing_recorded}
+use Rattle.kp_timing.proofs.Keeping.{record_fits}
 use Rattle.kp_timing.proofs.timeline.run_next.Goals as goal
 
 pub take-requires-clause-reads : goal.take-requires-clause-reads
 take-requires-clause-reads c =
     let q = c.requires in
     let some = q.flights in
-    let there = get_or c.args.flights.now 0 nothing_told in
-    let fits = told_fits c.args.machine.now.job (state c.args.machine.now) there c.step.new.self.last q.parts q.reads q.results q.room c.step.ensures.told in
-    ap (λ (t : Told). length t.reads) (get_or_default c.args.flights.now 0 c.index-flights-0.result nothing_told (omega (arith, some))) ∙ fits.reads
+    let there = get_or c.args.flights.now 0 nothing_recorded in
+    let fits = record_fits c.args.machine.now.job (state c.args.machine.now) there c.step.new.self.last q.parts q.reads q.results q.room c.step.ensures.recorded in
+    ap (λ (t : Recorded). length t.reads) (get_or_default c.args.flights.now 0 c.index-flights-0.result nothing_recorded (omega (arith, some))) ∙ fits.reads
 
 pub take-requires-clause-writes : goal.take-requires-clause-writes
 take-requires-clause-writes c =
     let q = c.requires in
     let some = q.flights in
-    let there = get_or c.args.flights.now 0 nothing_told in
-    let fits = told_fits c.args.machine.now.job (state c.args.machine.now) there c.step.new.self.last q.parts q.reads q.results q.room c.step.ensures.told in
-    ap (λ (t : Told). length t.writes) (get_or_default c.args.flights.now 0 c.index-flights-0.result nothing_told (omega (arith, some))) ∙ fits.writes
+    let there = get_or c.args.flights.now 0 nothing_recorded in
+    let fits = record_fits c.args.machine.now.job (state c.args.machine.now) there c.step.new.self.last q.parts q.reads q.results q.room c.step.ensures.recorded in
+    ap (λ (t : Recorded). length t.writes) (get_or_default c.args.flights.now 0 c.index-flights-0.result nothing_recorded (omega (arith, some))) ∙ fits.writes
 
 pub take-requires-clause-settings : goal.take-requires-clause-settings
 take-requires-clause-settings c =
     let q = c.requires in
     let some = q.flights in
-    let there = get_or c.args.flights.now 0 nothing_told in
-    let fits = told_fits c.args.machine.now.job (state c.args.machine.now) there c.step.new.self.last q.parts q.reads q.results q.room c.step.ensures.told in
-    ap (λ (t : Told). length t.settings) (get_or_default c.args.flights.now 0 c.index-flights-0.result nothing_told (omega (arith, some))) ∙ fits.settings
+    let there = get_or c.args.flights.now 0 nothing_recorded in
+    let fits = record_fits c.args.machine.now.job (state c.args.machine.now) there c.step.new.self.last q.parts q.reads q.results q.room c.step.ensures.recorded in
+    ap (λ (t : Recorded). length t.settings) (get_or_default c.args.flights.now 0 c.index-flights-0.result nothing_recorded (omega (arith, some))) ∙ fits.settings

@@ -10,7 +10,7 @@ use Rattle.kp_base.specs.declared.refusal.Refused.TheVariants.{Rule, NoMemory}
 use Rattle.kp_ast.specs.declared.tree.Job.{Job}
 use Rattle.kp_debug_script.specs.declared.command.Command.{Command}
 use Rattle.kp_debug_script.specs.Scripts.{script_of}
-use Rattle.kp_debug_report.specs.Inspecting.{Inspected, told, whole_run}
+use Rattle.kp_debug_report.specs.Inspecting.{Inspected, printed, whole_run}
 use Rattle.kp_tool_report.specs.Texts.{refusal_line}
 use Rattle.kp_tool_spec.specs.Scripted.{DueOfScript, DueOfScriptHead}
 use Rattle.kp_tool.specs.Ends.{Ends}
@@ -28,10 +28,10 @@ refused_end held faults value input job rest s NoMemory f is broken = rw is refl
 
 -- or none, and its machine is in cycle 0
 ran : (input : List ℕ) (job : Job) (rest : ℕ) (i : Inspected) (given commands : List Command) → script_of job.decls input rest ≡ Ok commands → i ≡ record { job = job; cycle = 0 }
-    → given ≡ commands → DueOfScriptHead input (Ok (job, rest)) 0 (told i.job (whole_run i.job) i.cycle given)
+    → given ≡ commands → DueOfScriptHead input (Ok (job, rest)) 0 (printed i.job (whole_run i.job) i.cycle given)
 ran input job rest i given commands read opened same =
-    subst (λ (found : Result (List Command) Refusal). DueOfScript job found 0 (told i.job (whole_run i.job) i.cycle given)) (sym read)
-    (refl, ap (λ (k : Inspected). told k.job (whole_run k.job) k.cycle given) opened ∙ ap (λ (cs : List Command). told job (whole_run job) 0 cs) same)
+    subst (λ (found : Result (List Command) Refusal). DueOfScript job found 0 (printed i.job (whole_run i.job) i.cycle given)) (sym read)
+    (refl, ap (λ (k : Inspected). printed k.job (whole_run k.job) k.cycle given) opened ∙ ap (λ (cs : List Command). printed job (whole_run job) 0 cs) same)
 
 pub returns-in_err-commands : goal.returns-in_err-commands
 returns-in_err-commands g c =

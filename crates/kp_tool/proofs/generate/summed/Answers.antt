@@ -15,4 +15,4 @@ returns c =
     let board = c.in_ok-board.board in
     ap (totals_line c.args.number) c.totals_of-totals.ensures
     ∙ summed_is_due c.args.number c.args.count c.args.job.now.design.job board.design.now.job board.cycles.rows.items c.requires c.in_ok-board.ensures.job
-    (c.a_run_tells_of_the_pipeline.ensures.rows c.in_ok-net.net c.args.count board.cycles.rows.items board.cycles.monitor c.in_ok-net.ensures.shows c.in_ok-board.ensures.rows)
+    (c.a_run_shows_the_pipeline.ensures.rows c.in_ok-net.net c.args.count board.cycles.rows.items board.cycles.monitor c.in_ok-net.ensures.shows c.in_ok-board.ensures.rows)

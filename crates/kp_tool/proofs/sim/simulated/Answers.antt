@@ -22,5 +22,5 @@ returns c =
     (λ b same has.
     subst (λ (j : Job). run_text j (rows_seen j.stages.value b.cycles.rows.items) (due_behind j b.cycles.rows.items) ≡ sim_text c.args.count job) (sym same)
     (run_is_sim job c.args.count b.cycles.rows.items
-    (c.a_run_tells_of_the_pipeline.ensures.rows net c.args.count b.cycles.rows.items b.cycles.monitor c.in_ok-net.ensures.shows has)))
+    (c.a_run_shows_the_pipeline.ensures.rows net c.args.count b.cycles.rows.items b.cycles.monitor c.in_ok-net.ensures.shows has)))
     c.board_shown.ensures.job c.board_shown.ensures.rows

@@ -1,5 +1,5 @@
 use Rattle.std.proofs.Common.{sym}
-use Rattle.kp_tool_report.proofs.Told.{board_is_run}
+use Rattle.kp_tool_report.proofs.Reported.{board_is_run}
 use Rattle.kp_tool_report.proofs.runs.write_board.Goals as goal
 
 pub returns-clause-text : goal.returns-clause-text

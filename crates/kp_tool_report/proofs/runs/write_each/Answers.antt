@@ -6,7 +6,7 @@ use Rattle.kp_sched.specs.Rows.{rows_seen}
 use Rattle.kp_sched.proofs.Counting.{seen_length}
 use Rattle.kp_tool_report.specs.Runs.{counts_behind}
 use Rattle.kp_tool_report.proofs.Lines.{left_is}
-use Rattle.kp_tool_report.proofs.Told.{counts_next}
+use Rattle.kp_tool_report.proofs.Reported.{counts_next}
 use Rattle.kp_tool_report.proofs.runs.write_each.Goals as goal
 
 pub returns-in_err-write_one-clause-text : goal.returns-in_err-write_one-clause-text

@@ -2,7 +2,7 @@ use Rattle.std.proofs.Common.{◌≡◌, Some, subst}
 use Rattle.kp_vcd.specs.Held.{held, Changes}
 use Rattle.kp_vcd.specs.declared.dump.Dump.{Dump}
 use Rattle.kp_vcd_run.specs.Dumps.{vcd_dump, vcd_text}
-use Rattle.kp_vcd_roundtrip.proofs.Telling.{job_fits, same_dump}
+use Rattle.kp_vcd_roundtrip.proofs.Reporting.{job_fits, same_dump}
 use Rattle.kp_vcd_roundtrip.proofs.laws.the_dump_of_a_job_is_read_back.Goals as goal
 
 pub returns-clause-read : goal.returns-clause-read

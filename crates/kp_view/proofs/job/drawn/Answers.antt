@@ -42,10 +42,10 @@ returns-in-Page g c =
     let input = c.args.input.now in
     let run = run_seen c.in-Page.run' in
     let shown = c.a_figure_shows_the_run.ensures run.names run.count in
-    let tells = c.listed_words_give_the_states.ensures (pipe_of job (inputs_from job 0 run.count)).visible in
+    let states = c.listed_words_give_the_states.ensures (pipe_of job (inputs_from job 0 run.count)).visible in
     said g.K.Sink.held g.K.Sink.faults task.file None ⊥ (Draws task.order input job)
     (page_text (figure_drawn run job) (rows_drawn run job) input (paths_text job) (states_text job run.count))
-    (drawn_as task.order (page run) input job _ (ap order_seen c.in-Page.is) refl (shown, c.the_cells_are_the_paths.ensures job, tells)) _ _ _ c.page.ensures
+    (drawn_as task.order (page run) input job _ (ap order_seen c.in-Page.is) refl (shown, c.the_cells_are_the_paths.ensures job, states)) _ _ _ c.page.ensures
 
 pub returns-in-Paths : goal.returns-in-Paths
 returns-in-Paths g c =

@@ -1,17 +1,17 @@
 use Rattle.std.proofs.Common.{◌∙◌, arith}
 use Rattle.std.proofs.lemmas.List.{length-set}
-use Rattle.kp_view_expected.specs.inner.Plain.{stack, Tells}
-use Rattle.kp_view_expected.proofs.Exact.{told_more, told_all}
+use Rattle.kp_view_expected.specs.inner.Plain.{stack, IsAnswer}
+use Rattle.kp_view_expected.proofs.Exact.{answer_more, answer_all}
 use Rattle.kp_view_expected.proofs.goes_on.listed.Goals as goal
 
 pub loop-i-preserved : goal.loop-i-preserved
 loop-i-preserved c = (
   length-set c.loop-i.expected.listed c.loop-i.i c.in_ok-expected.field-0 ∙ c.loop-i.invariant.0,
-  told_more (λ b x. Tells b (stack c.args.rest.now.symbols.items) x) c.loop-i.expected.listed c.all-class-items.result.now c.loop-i.i c.in_ok-expected.field-0 _
+  answer_more (λ b x. IsAnswer b (stack c.args.rest.now.symbols.items) x) c.loop-i.expected.listed c.all-class-items.result.now c.loop-i.i c.in_ok-expected.field-0 _
       c.all-class-items.ensures c.loop-i.invariant.0 c.loop-i-test.true c.in_ok-expected.ensures c.loop-i.invariant.1,
 )
 
 pub returns : goal.returns
 returns c =
-    told_all (λ b x. Tells b (stack c.args.rest.now.symbols.items) x) c.loop-i.expected.listed c.all-class-items.result.now c.loop-i.i c.all-class-items.ensures
+    answer_all (λ b x. IsAnswer b (stack c.args.rest.now.symbols.items) x) c.loop-i.expected.listed c.all-class-items.result.now c.loop-i.i c.all-class-items.ensures
     (omega (arith, c.loop-i-test.false)) c.loop-i.invariant.1

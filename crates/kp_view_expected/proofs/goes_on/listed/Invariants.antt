@@ -2,10 +2,10 @@ use Rattle.std.proofs.Common.{ℕ, ◌≡◌, ◌<◌, Bool, Some, length}
 use Rattle.std.specs.Prelude.{slice_get}
 use Rattle.kp_view_expected.specs.declared.token_class.TokenClass.{TokenClass}
 use Rattle.kp_view_expected.specs.GoesOn.{all_classes}
-use Rattle.kp_view_expected.specs.inner.Plain.{stack, Tells}
+use Rattle.kp_view_expected.specs.inner.Plain.{stack, IsAnswer}
 use Rattle.kp_view_expected.proofs.goes_on.listed.Given as goal
 
 abbrev pub invariant-loop-i : goal.invariant-loop-i
 invariant-loop-i l =
     (length l.expected.listed ≡ 53)
-    × ((k : ℕ) (c : TokenClass) → k < l.i → slice_get all_classes k ≡ Some c → (b : Bool) × (slice_get l.expected.listed k ≡ Some b) × Tells b (stack l.rest.symbols.items) c)
+    × ((k : ℕ) (c : TokenClass) → k < l.i → slice_get all_classes k ≡ Some c → (b : Bool) × (slice_get l.expected.listed k ≡ Some b) × IsAnswer b (stack l.rest.symbols.items) c)

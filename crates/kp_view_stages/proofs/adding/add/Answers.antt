@@ -2,7 +2,7 @@ use Rattle.std.proofs.Common.{◌∷◌, ◌++◌, [], IfSome, Option, subst}
 use Rattle.std.proofs.lemmas.List.Elements.{All-same}
 use Rattle.kp_view_findings.specs.declared.finding.Caution.{Caution}
 use Rattle.kp_view_stages.specs.Cautions.{ClaimsNothing, IsTrueOf}
-use Rattle.kp_view_stages.proofs.Told.{all_pushed}
+use Rattle.kp_view_stages.proofs.Reported.{all_pushed}
 use Rattle.kp_view_stages.proofs.adding.add.Goals as goal
 
 pub returns-in_ok-push : goal.returns-in_ok-push

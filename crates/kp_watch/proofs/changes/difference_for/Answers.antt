@@ -7,7 +7,7 @@ use Rattle.kp_watch.specs.inner.Changes.{noted_at}
 use Rattle.kp_watch.specs.inner.Machines.{due_by}
 use Rattle.kp_watch.specs.inner.Places.{place_in}
 use Rattle.kp_watch.proofs.Comparing.{target_alike}
-use Rattle.kp_watch.proofs.Targets.{place_is, home_is, number_is, machine_is, told_is, file_noted, wrote_fits, agree_here}
+use Rattle.kp_watch.proofs.Targets.{place_is, home_is, number_is, machine_is, record_is, file_noted, wrote_fits, agree_here}
 use Rattle.kp_watch.proofs.changes.difference_for.Goals as goal
 
 pub noted_at-noted-requires : goal.noted_at-noted-requires
@@ -23,8 +23,8 @@ last_write-wrote-requires c stage some =
     let job = c.args.job.now.design.job in
     let home = home_is job c.args.tables.now c.args.both.now c.args.t c.requires.comparable c.requires.target c.index-home.result.now _ c.index-home.ensures in
     let number = number_is job c.args.tables.now c.args.both.now c.args.t c.requires.comparable c.requires.target c.index.result.now _ c.index.ensures in
-    let told = told_is job c.args.tables.now c.args.both.now c.args.t c.requires.comparable c.requires.target c.from.result c.index-machine.result.now (c.from.ensures ∙ home) c.index-machine.ensures in
-    wrote_fits job c.args.tables.now c.args.both.now c.args.t c.requires.comparable c.requires.target c.index-home.result.now c.index.result.now c.index-machine.result.now.last home number told stage some
+    let recorded = record_is job c.args.tables.now c.args.both.now c.args.t c.requires.comparable c.requires.target c.from.result c.index-machine.result.now (c.from.ensures ∙ home) c.index-machine.ensures in
+    wrote_fits job c.args.tables.now c.args.both.now c.args.t c.requires.comparable c.requires.target c.index-home.result.now c.index.result.now c.index-machine.result.now.last home number recorded stage some
 
 pub difference_among-requires-clause-of_job : goal.difference_among-requires-clause-of_job
 difference_among-requires-clause-of_job c =
@@ -52,10 +52,10 @@ difference_among-requires-clause-elsewhere c =
     let home = home_is job c.args.tables.now c.args.both.now c.args.t c.requires.comparable c.requires.target c.index-home.result.now _ c.index-home.ensures in
     let number = number_is job c.args.tables.now c.args.both.now c.args.t c.requires.comparable c.requires.target c.index.result.now _ c.index.ensures in
     let found = machine_is job c.args.tables.now c.args.both.now c.args.t c.requires.comparable c.requires.target c.from.result _ c.index-machine.result.now (c.from.ensures ∙ c.index-home.ensures) c.index-machine.ensures in
-    let told = told_is job c.args.tables.now c.args.both.now c.args.t c.requires.comparable c.requires.target c.from.result c.index-machine.result.now (c.from.ensures ∙ home) c.index-machine.ensures in
+    let recorded = record_is job c.args.tables.now c.args.both.now c.args.t c.requires.comparable c.requires.target c.from.result c.index-machine.result.now (c.from.ensures ∙ home) c.index-machine.ensures in
     let noted = c.noted_at-noted.ensures ∙ ap (λ (l : List (Option ℕ)). noted_at l c.index-place.result.now) c.as_slice.ensures.value in
     agree_here job c.args.tables.now c.args.both.now c.args.t c.requires.comparable c.requires.target c.index-place.result.now c.index-home.result.now c.index.result.now c.index-machine.result.now
-    c.noted_at-noted.result c.last_write-wrote.result placed home number found.0 found.1 told noted c.last_write-wrote.ensures
+    c.noted_at-noted.result c.last_write-wrote.result placed home number found.0 found.1 recorded noted c.last_write-wrote.ensures
 
 pub returns : goal.returns
 returns c =

@@ -9,7 +9,7 @@ use Rattle.kp_machine.specs.Machine.{machine_of, values_in}
 use Rattle.kp_run.specs.Columns.{Taken, word_taken}
 use Rattle.kp_sched.specs.Rows.{bit_of, rows_seen}
 use Rattle.kp_seq.specs.Running.{state}
-use Rattle.kp_seq.specs.Told.{told_of}
+use Rattle.kp_seq.specs.Recorded.{record_of}
 use Rattle.kp_watch.specs.inner.Machines.{given, HaveRunFirst}
 use Rattle.kp_watch.proofs.Lanes.{first_begin, first_moves, first_stays, first_end, still}
 use Rattle.kp_watch.proofs.Prefixes.{passed_before}
@@ -34,7 +34,7 @@ loop-k-preserved c =
     let many : c.stages-stages.result ≡ n = c.stages-stages.ensures.stages ∙ c.requires.stages in
     let low : k < n = omega (arith, c.loop-k-test.true, many) in
     let marks = c.args.needed.now in
-    let told : c.moves.result ≡ (get_or marks k false && bit (bits (bit_of (get_or rows T none).ue) n 0) k) =
+    let recorded : c.moves.result ≡ (get_or marks k false && bit (bits (bit_of (get_or rows T none).ue) n 0) k) =
     c.moves.ensures ∙ ap (λ (m : ℕ). get_or marks k false && bit (bits (bit_of (get_or rows T none).ue) m 0) k) many in
     elim c.if-moves.branch [
       | then-moves w ↦
@@ -42,11 +42,11 @@ loop-k-preserved c =
           let m = get_or ms w.from.result d in
           let new = w.step_with.new.self in
           let at : c.if-moves.machines ≡ set ms k new = w.machines-is ∙ ap (λ i. set ms i new) w.from.ensures in
-          let both = and_parts (get_or marks k false) (bit (bits (bit_of (get_or rows T none).ue) n 0) k) (sym told ∙ w.if-moves.true) in
+          let both = and_parts (get_or marks k false) (bit (bits (bit_of (get_or rows T none).ue) n 0) k) (sym recorded ∙ w.if-moves.true) in
           let stepped : state new ≡ exec (machine_of m.job) (state m) (values w.passed.result) =
           w.step_with.ensures.state ∙ ap (λ (row : List Word). exec (machine_of m.job) (state m) (values_in row)) w.take.ensures in
-          let noted : new.last ≡ told_of m.job (state m) (values w.passed.result) =
-          w.step_with.ensures.told ∙ ap (λ (row : List Word). told_of m.job (state m) (values_in row)) w.take.ensures in
+          let noted : new.last ≡ record_of m.job (state m) (values w.passed.result) =
+          w.step_with.ensures.recorded ∙ ap (λ (row : List Word). record_of m.job (state m) (values_in row)) w.take.ensures in
           let before : T ≤ length rows = omega (arith, there) in
           let count : w.passed.result ≡ passed (rows_seen n rows) k T =
           w.passed.ensures.seen (take T rows) c.requires.seen
@@ -60,7 +60,7 @@ loop-k-preserved c =
       | else-moves w ↦ (
         ap (λ (l : List Word). length l) w.room-is ∙ kept.0,
         subst (λ l. HaveRunFirst job values (rows_seen n rows) T (k + 1) l) (sym w.machines-is)
-            (first_stays job values rows T k ms kept.1 (still job values rows T marks k none c.requires.needed low there (sym told ∙ w.if-moves.false))),
+            (first_stays job values rows T k ms kept.1 (still job values rows T marks k none c.requires.needed low there (sym recorded ∙ w.if-moves.false))),
       )
     ]
 

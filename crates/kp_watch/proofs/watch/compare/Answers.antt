@@ -8,7 +8,7 @@ use Rattle.kp_run.proofs.Given.{rows_given}
 use Rattle.kp_watch.specs.inner.Beside.{HaveCome}
 use Rattle.kp_watch.specs.inner.Changes.{AreNoted}
 use Rattle.kp_watch.proofs.Rows.{come_in}
-use Rattle.kp_watch.proofs.Whole.{compares_own, comparable, AgreeTo, agree_more, is_told, agrees}
+use Rattle.kp_watch.proofs.Whole.{compares_own, comparable, AgreeTo, agree_more, is_recorded, agrees}
 use Rattle.kp_watch.proofs.watch.compare.Goals as goal
 
 never : {X : Type 0} (x : X) → Some x ≡ None → ⊥
@@ -31,7 +31,7 @@ returns-in-Some-clause-difference c =
     let come = c.requires.come in
     let samples = rows_given job accepted.sections.inputs c.job-kept.ensures.sound.names accepted.unbroken accepted.inputs in
     let h : 0 ≤ n = omega arith in
-    is_told job net n 0 c.in-Some.difference h (λ U t a low there. absurd (omega (arith, low)))
+    is_recorded job net n 0 c.in-Some.difference h (λ U t a low there. absurd (omega (arith, low)))
     (compares_own job net n c.a_design_is_accepted.ensures samples rows refl c.args.tables.now.columns.items c.requires.tables.columns 0 c.args.both.now.sim
     c.as_slice-machines.result.now c.args.both.now.machines.items (Some c.in-Some.difference) h come.sim c.as_slice-machines.ensures.value (come_in job net n c.args.tables.now 0 c.args.both.now h come).machines c.in-Some.ensures)
 
@@ -94,7 +94,7 @@ returns-in-Some-difference_after-clause-difference c =
     let same : c.loop-cycle.both.sim.net ≡ net = ap (λ (s : Running). s.net) come.sim in
     let now = subst (λ (m : Net). HaveCome job m c.args.tables.now (T + 1) both) same c.step.ensures.come in
     let h : T + 1 ≤ n = omega (arith, c.loop-cycle-test.true) in
-    is_told job net n (T + 1) c.in-Some-difference_after.difference h c.loop-cycle.invariant.1
+    is_recorded job net n (T + 1) c.in-Some-difference_after.difference h c.loop-cycle.invariant.1
     (compares_own job net n c.a_design_is_accepted.ensures samples rows refl c.args.tables.now.columns.items c.requires.tables.columns (T + 1) both.sim
     both.machines.items both.machines.items (Some c.in-Some-difference_after.difference) h now.sim refl (come_in job net n c.args.tables.now (T + 1) both h now).machines c.in-Some-difference_after.ensures)
 

@@ -1,7 +1,7 @@
 use Rattle.std.proofs.Common.{◌≡◌, ℕ, List, sym, subst}
 use Rattle.std.specs.Prelude.{OnOk}
 use Rattle.kp_base.specs.Bytes.{Writes}
-use Rattle.kp_debug_report.specs.Inspecting.{Inspected, all_cycles, whole_run, told, ends_in, AreOfJob}
+use Rattle.kp_debug_report.specs.Inspecting.{Inspected, all_cycles, whole_run, printed, ends_in, AreOfJob}
 use Rattle.kp_debug_report.proofs.Alike.{text_is, end_is}
 use Rattle.kp_debug_report.proofs.inspection.Inspection.write.Goals as goal
 
@@ -24,7 +24,7 @@ returns-clause-text g c =
     let same =
     text_is job c.self.inside.net.now c.self.inside.session c.self.invariant (c.a_job_gives_its_own_inputs.ensures.seen all_cycles)
     (c.a_job_gives_its_own_inputs.ensures.quiet all_cycles) c.args.commands.now of in
-    subst (λ (x : Inspected). Writes (g.K.Sink.held c.args.sink.now) (g.K.Sink.held c.run_commands.new.sink) (told x.job (whole_run x.job) x.cycle c.args.commands.now) c.run_commands.result)
+    subst (λ (x : Inspected). Writes (g.K.Sink.held c.args.sink.now) (g.K.Sink.held c.run_commands.new.sink) (printed x.job (whole_run x.job) x.cycle c.args.commands.now) c.run_commands.result)
     c.self.view_is
     (subst (λ (text : List ℕ). Writes (g.K.Sink.held c.args.sink.now) (g.K.Sink.held c.run_commands.new.sink) text c.run_commands.result) same c.run_commands.ensures.text)
 

@@ -4,7 +4,7 @@ use Rattle.kp_seq.specs.inner.Fits.{FitSlots}
 use Rattle.kp_seq.specs.inner.Ready.{AreTables, HasRoom, IsNoted}
 use Rattle.kp_seq.specs.inner.Resolved.{Resolves}
 use Rattle.kp_seq.specs.declared.machine.Resolved.{Resolved}
-use Rattle.kp_seq.specs.inner.Notes.{Noted, told_by}
+use Rattle.kp_seq.specs.inner.Notes.{Noted, record_by}
 use Rattle.kp_seq.proofs.machine.SeqMachine.copied.Goals as goal
 
 pub invariant_of-result : goal.invariant_of-result
@@ -26,6 +26,6 @@ invariant_of-result c =
 pub returns : goal.returns
 returns c =
     let m = c.self.inside in
-    ap (λ words. record { job = m.design.now.job; words = words; last = told_by c.in_ok-memory.memory.notes }) c.in_ok-memory.ensures.words
-    ∙ ap (λ (n : Noted). record { job = m.design.now.job; words = m.words; last = told_by n }) c.in_ok-memory.ensures.notes
+    ap (λ words. record { job = m.design.now.job; words = words; last = record_by c.in_ok-memory.memory.notes }) c.in_ok-memory.ensures.words
+    ∙ ap (λ (n : Noted). record { job = m.design.now.job; words = m.words; last = record_by n }) c.in_ok-memory.ensures.notes
     ∙ c.self.view_is

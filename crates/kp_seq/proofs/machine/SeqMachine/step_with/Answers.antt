@@ -4,9 +4,9 @@ use Rattle.kp_stage.specs.Start.{AreSamples}
 use Rattle.kp_machine.specs.Machine.{values_in}
 use Rattle.kp_machine.specs.Slots.{targets_of}
 use Rattle.kp_seq.specs.Running.{Running, state, state_in, after_one}
-use Rattle.kp_seq.specs.Told.{told_of}
+use Rattle.kp_seq.specs.Recorded.{record_of}
 use Rattle.kp_seq.specs.inner.Fits.{FitSlots}
-use Rattle.kp_seq.specs.inner.Notes.{told_by}
+use Rattle.kp_seq.specs.inner.Notes.{record_by}
 use Rattle.kp_seq.specs.inner.Ready.{HasRoom, IsNoted}
 use Rattle.kp_seq.specs.inner.Resolved.{ran, after_stages, begun_at, noted, steps_space}
 use Rattle.kp_seq.specs.declared.machine.Resolved.{Resolved}
@@ -58,12 +58,12 @@ returns-clause-state c =
     ∙ state_after job d.tables d.program m.under (length m.room.items) m.words m.notes c.self.invariant c.args.row.now fits
     ∙ ap (λ (x : Running). after_one x.job (state x) c.args.row.now) c.self.view_is
 
-pub returns-clause-told : goal.returns-clause-told
-returns-clause-told c =
+pub returns-clause-recorded : goal.returns-clause-recorded
+returns-clause-recorded c =
     let m = c.self.inside in
     let d : Resolved = m.resolved.value in
     let job = m.design.now.job in
     let fits : AreSamples job.decls c.args.row.now = subst (λ (x : Running). AreSamples x.job.decls c.args.row.now) (sym c.self.view_is) c.requires in
-    ap told_by (subst (λ (x : Resolved). c.execute.new.notes ≡ noted x.program m.words c.args.row.now m.under m.notes) c.as_ref-resolved.ensures c.execute.ensures.notes)
+    ap record_by (subst (λ (x : Resolved). c.execute.new.notes ≡ noted x.program m.words c.args.row.now m.under m.notes) c.as_ref-resolved.ensures c.execute.ensures.notes)
     ∙ record_after job d.tables d.program m.under (length m.room.items) m.words m.notes c.self.invariant c.args.row.now fits
-    ∙ ap (λ (x : Running). told_of x.job (state x) (values_in c.args.row.now)) c.self.view_is
+    ∙ ap (λ (x : Running). record_of x.job (state x) (values_in c.args.row.now)) c.self.view_is

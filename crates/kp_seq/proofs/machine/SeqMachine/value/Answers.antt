@@ -1,7 +1,7 @@
 use Rattle.std.proofs.Common.{◌≡◌, ap, ◌∙◌, subst, sym, get_or}
 use Rattle.kp_seq.specs.Running.{Running, HasWord, no_slot, target, state_in, word_shown}
 use Rattle.kp_seq.specs.declared.machine.Resolved.{Resolved}
-use Rattle.kp_seq.specs.inner.Notes.{told_by}
+use Rattle.kp_seq.specs.inner.Notes.{record_by}
 use Rattle.kp_seq.specs.inner.Steps.{fitted}
 use Rattle.kp_seq.proofs.Start.{shown_is}
 use Rattle.kp_seq.proofs.machine.SeqMachine.value.Goals as goal
@@ -11,7 +11,7 @@ returns c =
     let m = c.self.inside in
     let t = c.args.target in
     let a = c.args.address in
-    let v : Running = record { job = m.design.now.job; words = m.words; last = told_by m.notes } in
+    let v : Running = record { job = m.design.now.job; words = m.words; last = record_by m.notes } in
     let has : HasWord v.job t a = subst (λ (x : Running). HasWord x.job t a) (sym c.self.view_is) c.requires in
     let w : c.target_width-width.result ≡ (target v.job t).width = c.target_width-width.ensures ∙ ap (λ (r : Resolved). (get_or r.tables.targets t no_slot).width) c.as_ref-resolved.ensures ∙ ap (λ ss. (get_or ss t no_slot).width) c.self.invariant.tables.targets in
     c.fitted.ensures

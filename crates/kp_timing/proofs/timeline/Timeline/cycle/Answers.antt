@@ -6,14 +6,14 @@ use Rattle.kp_machine.proofs.Stages.{stages_inside}
 use Rattle.kp_timing.specs.declared.deciding.Found.{Found}
 use Rattle.kp_timing.specs.Timed.{Timed, IsCycle}
 use Rattle.kp_timing.specs.inner.Kept.{HasRoom, Advances}
-use Rattle.kp_timing.specs.inner.Deciding.{told_in, moves_by}
+use Rattle.kp_timing.specs.inner.Deciding.{record_in, moves_by}
 use Rattle.kp_timing.proofs.Keeping.{f, no_samples_declared, kept_next, hold_next, moves_same, waits_same, waits_past, row_shown}
 use Rattle.kp_timing.proofs.timeline.Timeline.cycle.Goals as goal
 
 pub find-found-requires : goal.find-found-requires
 find-found-requires c =
     let k = c.self.invariant in
-    record { hold = k.holds; told = omega (arith, k.flights, k.sites.stages); few = omega (arith, k.few, k.sites.stages) }
+    record { hold = k.holds; recorded = omega (arith, k.flights, k.sites.stages); few = omega (arith, k.few, k.sites.stages) }
 
 pub row_of-row-requires : goal.row_of-row-requires
 row_of-row-requires c =
@@ -32,7 +32,7 @@ advance-requires c =
       flights = k.flights ∙ sym all;
       some = omega (arith, k.some, all);
       few = omega (arith, k.few, all);
-      room = λ j l. subst (λ (x : Job). HasRoom x (told_in t.held j)) (sym k.job_is) (k.room j (omega (arith, l, all)));
+      room = λ j l. subst (λ (x : Job). HasRoom x (record_in t.held j)) (sym k.job_is) (k.room j (omega (arith, l, all)));
       reads = subst (λ (x : Job). (summary_of x).reads < 2 ^ 32) (sym k.job_is) k.few_reads;
       results = subst (λ (x : Job). (summary_of x).results < 2 ^ 32) (sym k.job_is) k.few_results;
       parts = subst (λ (x : Job). length x.blocks ≡ x.stages.value) (sym k.job_is) (stages_inside job k.sites.rules);

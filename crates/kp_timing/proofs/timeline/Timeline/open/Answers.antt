@@ -1,13 +1,13 @@
 use Rattle.std.proofs.Common.{◌≡◌, ◌∙◌, ℕ, ◌<◌, ◌^◌, List, ◌++◌, take, drop, length, length-set, set, ap, sym, subst, arith}
 use Rattle.std.proofs.Math.Seq.{take-append_seam}
 use Rattle.kp_stage.specs.declared.counts.Summary.{Summary}
-use Rattle.kp_seq.specs.Told.{Told}
+use Rattle.kp_seq.specs.Recorded.{Recorded}
 use Rattle.kp_timing.specs.inner.Kept.{IsKept}
 use Rattle.kp_timing.proofs.Keeping.{CanRun, can_run, first_hold, kept_opened}
 use Rattle.kp_timing.proofs.timeline.Timeline.open.Goals as goal
 
 -- writing a slice back leaves it unchanged
-written_back : (n : ℕ) (xs ys zs : List Told) → length xs ≡ n → xs ≡ zs → take n (xs ++ drop (length xs) ys) ≡ zs
+written_back : (n : ℕ) (xs ys zs : List Recorded) → length xs ≡ n → xs ≡ zs → take n (xs ++ drop (length xs) ys) ≡ zs
 written_back n xs ys zs l e = ap (λ k. take k (xs ++ drop (length xs) ys)) (sym l) ∙ take-append_seam xs (drop (length xs) ys) ∙ e
 
 pub run_next-requires : goal.run_next-requires
@@ -46,10 +46,10 @@ invariant_of-result c =
       writes = fs.writes k (omega (arith, l, stages)) ∙ ap (λ (x : Summary). x.results) sum;
       settings = fs.settings k (omega (arith, l, stages)) ∙ ap (λ (x : Summary). x.results) sum;
     })
-    c.in_ok-machine.ensures.job c.in_ok-machine.ensures.state run.job run.state run.told in
+    c.in_ok-machine.ensures.job c.in_ok-machine.ensures.state run.job run.state run.recorded in
     let last = c.run_next.new.machine.last in
     let whole =
     written_back c.in_ok-flights.flights.len c.run_next.new.flights c.in_ok-flights.flights.items (set c.in_ok-flights.flights.items 0 last)
-    (ap (λ (l : List Told). length l) run.flights ∙ length-set c.as_mut_slice.result.now 0 last ∙ c.as_mut_slice.ensures.len)
-    (run.flights ∙ ap (λ (l : List Told). set l 0 last) c.as_mut_slice.ensures.value) in
-    subst (λ (told : List Told). IsKept job c.args.start.now 0 c.run_next.new.machine c.in_ok-sites.sites (record { hold = first_hold; told = told })) (sym whole) kept
+    (ap (λ (l : List Recorded). length l) run.flights ∙ length-set c.as_mut_slice.result.now 0 last ∙ c.as_mut_slice.ensures.len)
+    (run.flights ∙ ap (λ (l : List Recorded). set l 0 last) c.as_mut_slice.ensures.value) in
+    subst (λ (recorded : List Recorded). IsKept job c.args.start.now 0 c.run_next.new.machine c.in_ok-sites.sites (record { hold = first_hold; recorded = recorded })) (sym whole) kept

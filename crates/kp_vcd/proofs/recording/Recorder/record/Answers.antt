@@ -17,14 +17,14 @@ returns c values T has is =
     let at = ap (λ (r : Record). r.at) view in
     let moments = ap (λ (r : Record). r.moments) view in
     let next = ap (λ (t : ℕ). t + 1) at in
-    let told = ap₂ (λ (n t : ℕ). moment_of n t changes) last at in
+    let reported = ap₂ (λ (n t : ℕ). moment_of n t changes) last at in
     elim c.match-moment_of.branch [
       | in-Some+in_ok-push w ↦
           rw w.self-inside-is
-          (recorded_next values T old _ c.args.now.items (Some w.in-Some.moment) changes has is made (w.in-Some.ensures ∙ told) last next refl
+          (recorded_next values T old _ c.args.now.items (Some w.in-Some.moment) changes has is made (w.in-Some.ensures ∙ reported) last next refl
           (w.in_ok-push.ensures.items ∙ ap (λ (ms : List Moment). ms ++ w.in-Some.moment ∷ []) moments))
       | in_default w ↦
           rw w.self-inside-is
-          (recorded_next values T old _ c.args.now.items None changes has is made (w.in_default.ensures ∙ told) last next refl
+          (recorded_next values T old _ c.args.now.items None changes has is made (w.in_default.ensures ∙ reported) last next refl
           (moments ∙ sym (append-nil old.moments)))
     ]

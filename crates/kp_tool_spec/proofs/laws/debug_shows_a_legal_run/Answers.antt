@@ -1,5 +1,5 @@
 use Rattle.kp_tool_spec.proofs.Headline.{debug_is_legal, debug_moves, debug_waits}
-use Rattle.kp_tool_spec.proofs.laws.debug_tells_of_a_legal_run.Goals as goal
+use Rattle.kp_tool_spec.proofs.laws.debug_shows_a_legal_run.Goals as goal
 
 pub returns-clause-legal : goal.returns-clause-legal
 returns-clause-legal c = debug_is_legal

@@ -21,8 +21,8 @@ use Rattle.kp_synth_tables.specs.Keys.{target_at, pipe_at, hint_at, sample_at, g
 use Rattle.kp_synth_registers.specs.Holding.{Holds, optional, pending_guess}
 
 -- A node has the value of this test of the state and the inputs.
-unfoldable pub Tells : Job → Held → NodeId → (PipelineState → Inputs → Bool) → Type 0
-Tells job p n f = (c : Cells) (st : PipelineState) (i : Inputs) → Holds job c st i → on c p.nodes n.0 ≡ f st i
+unfoldable pub IsTest : Job → Held → NodeId → (PipelineState → Inputs → Bool) → Type 0
+IsTest job p n f = (c : Cells) (st : PipelineState) (i : Inputs) → Holds job c st i → on c p.nodes n.0 ≡ f st i
 
 -- A node has this value.
 unfoldable pub Gives : Job → Held → NodeId → (PipelineState → Inputs → ℕ) → Type 0
@@ -106,9 +106,9 @@ guesses_at job k = guesses_in job k 0 (stmts_in (slice_get job.blocks k))
 -- The nodes o mean what stage k does.
 pub record Says (job : Job) (p : Held) (k : ℕ) (o : Outcome) : Type 0 where
   pub stall_wire : Wire p o.stall 1
-  pub stall : Tells job p o.stall (λ st i. stall (machine_of job) st i k)
+  pub stall : IsTest job p o.stall (λ st i. stall (machine_of job) st i k)
   pub miss_wire : Wire p o.miss 1
-  pub miss : Tells job p o.miss (λ st i. mismatches (machine_of job) st i k)
+  pub miss : IsTest job p o.miss (λ st i. mismatches (machine_of job) st i k)
   pub put_count : length o.puts ≡ length (pipes_of job.decls)
   pub put_wires : (x : ℕ) → PutFits p (pipe_at job x).width (get_or o.puts x None)
   pub puts : (c : Cells) (st : PipelineState) (i : Inputs) → Holds job c st i → (x : ℕ) → x < length (pipes_of job.decls)

@@ -1,6 +1,6 @@
 use Rattle.kp_machine.specs.Machine.{inputs_from, pipe_of}
 use Rattle.kp_run.proofs.Legal.{rows_of_pipe, values_of_pipe, alike_itself}
-use Rattle.kp_run.proofs.laws.a_run_tells_of_the_pipeline.Goals as goal
+use Rattle.kp_run.proofs.laws.a_run_shows_the_pipeline.Goals as goal
 
 pub returns-clause-rows : goal.returns-clause-rows
 returns-clause-rows c net n rows monitor shows has =

@@ -1,4 +1,4 @@
--- Lists of true warnings, and why a W3 is one.
+-- Lists of true warnings, and why the warning of a set that never takes place is one.
 use Rattle.std.specs.List.{All, Contains}
 use Rattle.std.specs.List.Sorted.{IsPermutation}
 use Rattle.std.proofs.Common.{◌≡◌, ◌∙◌, ◌<◌, ℕ, List, [], ◌∷◌, ◌++◌, length, get_or, Some, ap, sym, subst}
@@ -18,10 +18,10 @@ pub all_moved : (job : Job) (xs ys : List Caution) → IsPermutation xs ys → A
 all_moved job xs ys p h = All-permutation (IsTrueOf job) xs ys p h
 
 -- a set among those in vain
-pub told : (job : Job) (name : List ℕ) (sets vain : List PlacedSet) (first set : PlacedSet) (i : ℕ) → ((j : Job) → AreInVain j)
+pub reported : (job : Job) (name : List ℕ) (sets vain : List PlacedSet) (first set : PlacedSet) (i : ℕ) → ((j : Job) → AreInVain j)
     → sets ≡ sets_from name 0 job.blocks → Some first ≡ first_sure sets → vain ≡ in_vain sets → i < length vain → set ≡ get_or vain i set
     → IsInVain job name set first
-told job name sets vain first set i law s f v l e =
+reported job name sets vain first set i law s f v l e =
     let whole = in_vain (sets_from name 0 job.blocks) in
     let d : Contains vain set = subst (λ (x : PlacedSet). Contains vain x) (sym e) (Contains-get_or vain i set l) in
     let g : Contains whole set = subst (λ (xs : List PlacedSet). Contains xs set) (v ∙ ap in_vain s) d in

@@ -2,11 +2,11 @@ use Rattle.std.proofs.Common.{◌++◌, sym, subst}
 use Rattle.std.proofs.KnownBytes.{Appends-nil}
 use Rattle.kp_base.specs.Bytes.{Writes}
 use Rattle.kp_net.specs.Netlist.{Net}
-use Rattle.kp_tool_report.specs.States.{State, state_lines, untold}
+use Rattle.kp_tool_report.specs.States.{State, state_lines, no_counts}
 use Rattle.kp_debug_report.specs.Inspecting.{at_line, IsOfTargets}
 use Rattle.kp_debug_report.specs.inner.Standing.{IsRegisterOf}
 use Rattle.kp_debug_report.proofs.Standing.{visible_is}
-use Rattle.kp_debug_report.proofs.commands.tell.Goals as goal
+use Rattle.kp_debug_report.proofs.commands.print_command.Goals as goal
 
 pub register_of-number-requires-clause-there : goal.register_of-number-requires-clause-there
 register_of-number-requires-clause-there g c = (subst (IsOfTargets c.args.job.now.design.job) c.in-Until.is c.requires.command).0
@@ -32,8 +32,8 @@ returns-in-Show-clause-text g c =
     let job = c.args.job.now.design.job in
     let d = c.args.session.now in
     rw c.in-Show.is
-    (subst (λ (shown : State). Writes (g.K.Sink.held c.args.sink.now) (g.K.Sink.held c.show.new.sink) (at_line d.cycle ++ state_lines 0 untold shown job.decls) c.show.result)
+    (subst (λ (shown : State). Writes (g.K.Sink.held c.args.sink.now) (g.K.Sink.held c.show.new.sink) (at_line d.cycle ++ state_lines 0 no_counts shown job.decls) c.show.result)
     (sym (visible_is job d c.requires.under)) c.show.ensures.text)
 
 pub returns-in-Row-clause-text : goal.returns-in-Row-clause-text
-returns-in-Row-clause-text g c = rw c.in-Row.is c.tell_row.ensures.text
+returns-in-Row-clause-text g c = rw c.in-Row.is c.print_row.ensures.text

@@ -9,11 +9,11 @@ use Rattle.kp_net.specs.Netlist.{Net}
 use Rattle.kp_net.specs.Parts.{NetOk}
 use Rattle.kp_net.specs.Widths.{Distinct, no_node}
 use Rattle.kp_net.proofs.Found.{is}
-use Rattle.kp_equiv_trees.specs.Classes.{class_in, Tells}
+use Rattle.kp_equiv_trees.specs.Classes.{class_in, Determines}
 use Rattle.kp_equiv_classes.specs.inner.Shapes.{Known, known_of, shape, Grown}
 use Rattle.kp_equiv_classes.proofs.Tables.{put, none_distinct}
 use Rattle.kp_equiv_classes.proofs.Growing.{none_grown, one_grown, classes_stay}
-use Rattle.kp_equiv_classes.proofs.Exactness.{tells}
+use Rattle.kp_equiv_classes.proofs.Exactness.{determines}
 
 -- the classes of the first nodes of a netlist, in a table that has grown by them
 record Classed (ks : Known) (net : Net) (start : List Node) (i : ℕ) : Type 0 where
@@ -39,18 +39,18 @@ classed ks net start ok d (suc i) h =
           (one_grown ks net start c.table new net.nodes c.classes (c.classes ++ x ∷ []) x n s i ok refl l (get_or_default net.nodes i no_node n l) c.grown refl p.there p.inside p.extends p.count p.distinct refl);
     }
 
-pub record SomeTells (a b : Net) : Type 0 where
+pub record SomeDetermines (a b : Net) : Type 0 where
   pub first : List NodeId
   pub second : List NodeId
-  pub tells : Tells a b first second
+  pub determines : Determines a b first second
 
-pub some_tells : (a b : Net) → NetOk a → NetOk b → SomeTells a b
-some_tells a b oka okb =
+pub some_determines : (a b : Net) → NetOk a → NetOk b → SomeDetermines a b
+some_determines a b oka okb =
     let x = classed (known_of a) a [] oka none_distinct (length a.nodes) (omega arith) in
     let y = classed (known_of a) b x.table okb x.grown.distinct (length b.nodes) (omega arith) in
     record {
       first = x.classes;
       second = y.classes;
-      tells = tells a b y.table x.classes y.classes oka okb (classes_stay (known_of a) a x.table y.table x.classes x.grown.classes_are y.grown.extends) y.grown.classes_are
+      determines = determines a b y.table x.classes y.classes oka okb (classes_stay (known_of a) a x.table y.table x.classes x.grown.classes_are y.grown.extends) y.grown.classes_are
           x.grown.count y.grown.count y.grown.distinct;
     }

@@ -1,5 +1,5 @@
 use Rattle.kp_tool_spec.proofs.Headline.{sim_is_legal, sim_moves, sim_waits}
-use Rattle.kp_tool_spec.proofs.laws.sim_tells_a_legal_run.Goals as goal
+use Rattle.kp_tool_spec.proofs.laws.sim_shows_a_legal_run.Goals as goal
 
 pub returns-clause-legal : goal.returns-clause-legal
 returns-clause-legal c = sim_is_legal

@@ -19,7 +19,7 @@ use Rattle.kp_machine.specs.Machine.{machine_of, is_enabled_by, address_by}
 
 -- For each read, in text order, its address, or None if its condition was false; for each result, in the order of
 -- declaration, the address that it wrote, or None if its enable pipe was 0; and for each result its setting stage.
-pub record Told : Type 0 where
+pub record Recorded : Type 0 where
   pub reads : List (Option ℕ)
   pub writes : List (Option ℕ)
   pub settings : List ℕ
@@ -45,19 +45,19 @@ done_after ds s done (stmts.Set n e when) = cond (holds ds done when) (with_set 
 done_after ds s done (stmts.Aim n e) = with_aim done (number_of (hints_of ds) n.name) (value_with_hints ds done e)
 
 -- a read is recorded with its address if its condition holds
-abbrev pub read_told : List Decl → Progress → StmtKind → List (Option ℕ)
-read_told ds done (stmts.Read r) = where_true (holds ds done r.when) (address_of ds done r.address) ∷ []
-read_told ds done _ = []
+abbrev pub read_recorded : List Decl → Progress → StmtKind → List (Option ℕ)
+read_recorded ds done (stmts.Read r) = where_true (holds ds done r.when) (address_of ds done r.address) ∷ []
+read_recorded ds done _ = []
 
 -- the reads of these statements, given the progress before them
-abbrev pub reads_told : List Decl → (ℕ → ℕ → ℕ) → Progress → List Stmt → List (Option ℕ)
-reads_told ds s done [] = []
-reads_told ds s done (x ∷ xs) = read_told ds done x.kind ++ reads_told ds s (done_after ds s done x.kind) xs
+abbrev pub reads_recorded : List Decl → (ℕ → ℕ → ℕ) → Progress → List Stmt → List (Option ℕ)
+reads_recorded ds s done [] = []
+reads_recorded ds s done (x ∷ xs) = read_recorded ds done x.kind ++ reads_recorded ds s (done_after ds s done x.kind) xs
 
 -- the reads of stage k in the instruction on the state s with the sample values q
 unfoldable pub stage_reads : Job → (ℕ → ℕ → ℕ) → (ℕ → ℕ) → ℕ → List (Option ℕ)
 stage_reads job s q k =
-    reads_told job.decls s (entered job.decls q (before_stage (machine_of job) s q k).pipes) (stmts_in (slice_get job.blocks k))
+    reads_recorded job.decls s (entered job.decls q (before_stage (machine_of job) s q k).pipes) (stmts_in (slice_get job.blocks k))
 
 -- those of n stages from k on
 abbrev pub reads_from : Job → (ℕ → ℕ → ℕ) → (ℕ → ℕ) → ℕ → ℕ → List (Option ℕ)
@@ -71,20 +71,20 @@ results_of (decls.Target r ∷ ds) = r ∷ results_of ds
 results_of (_ ∷ ds) = results_of ds
 
 -- the address that a result writes, given the values of the pipes
-abbrev pub write_told : Job → (ℕ → ℕ) → ResultDecl → Option ℕ
-write_told job pipes r =
+abbrev pub write_recorded : Job → (ℕ → ℕ) → ResultDecl → Option ℕ
+write_recorded job pipes r =
     where_true (is_enabled_by (pipes_of job.decls) pipes r.enable) (address_by (pipes_of job.decls) pipes r.address)
 
 -- the setting stage of a result: the first stage after which its target has a value, or its write stage
-unfoldable pub setting_told : Job → (ℕ → ℕ → ℕ) → (ℕ → ℕ) → ResultDecl → ℕ
-setting_told job s q r =
+unfoldable pub setting_recorded : Job → (ℕ → ℕ → ℕ) → (ℕ → ℕ) → ResultDecl → ℕ
+setting_recorded job s q r =
     first_stage (λ k. is_some ((before_stage (machine_of job) s q (suc k)).results (number_of (targets_of job.decls) r.target.name)))
     job.stages.value 0 r.stage.value
 
 -- the record of the instruction on the state s with the sample values q
-unfoldable pub told_of : Job → (ℕ → ℕ → ℕ) → (ℕ → ℕ) → Told
-told_of job s q = record {
+unfoldable pub record_of : Job → (ℕ → ℕ → ℕ) → (ℕ → ℕ) → Recorded
+record_of job s q = record {
   reads = reads_from job s q job.stages.value 0;
-  writes = map (write_told job (before_stage (machine_of job) s q job.stages.value).pipes) (results_of job.decls);
-  settings = map (setting_told job s q) (results_of job.decls);
+  writes = map (write_recorded job (before_stage (machine_of job) s q job.stages.value).pipes) (results_of job.decls);
+  settings = map (setting_recorded job s q) (results_of job.decls);
 }

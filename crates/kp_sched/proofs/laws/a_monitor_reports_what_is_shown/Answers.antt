@@ -1,7 +1,7 @@
 use Rattle.std.proofs.Common.{◌∙◌, ◌<◌, ℕ, ap, sym, subst, arith}
 use Rattle.kp_machine.specs.Machine.{machine_of, sequential, taken_of}
 use Rattle.kp_sched.proofs.Runs.{agree, passed_is}
-use Rattle.kp_sched.proofs.laws.a_monitor_tells_what_is_shown.Goals as goal
+use Rattle.kp_sched.proofs.laws.a_monitor_reports_what_is_shown.Goals as goal
 
 pub returns-clause-shown : goal.returns-clause-shown
 returns-clause-shown c m ins rows t a watched has =

@@ -7,7 +7,7 @@ use Rattle.kp_run.proofs.Machines.{stages_fit}
 use Rattle.kp_sched.specs.Rows.{row_seen}
 use Rattle.kp_debug_report.specs.Inspecting.{row_or_end}
 use Rattle.kp_debug_report.proofs.Standing.{row_is}
-use Rattle.kp_debug_report.proofs.commands.tell_row.Goals as goal
+use Rattle.kp_debug_report.proofs.commands.print_row.Goals as goal
 
 pub overflow_cast-stages : goal.overflow_cast-stages
 overflow_cast-stages g c =

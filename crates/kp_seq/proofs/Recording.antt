@@ -41,14 +41,14 @@ use Rattle.kp_machine.proofs.Scopes.{results_fit}
 use Rattle.kp_machine.proofs.Stages.{stages_inside}
 use Rattle.kp_machine.proofs.Text.{declared_right, target_slot}
 use Rattle.kp_seq.specs.declared.notes.Outlet.{Outlet}
-use Rattle.kp_seq.specs.Told.{where_true, read_told, reads_told, stage_reads, reads_from, results_of, write_told, setting_told, told_of, done_after}
+use Rattle.kp_seq.specs.Recorded.{where_true, read_recorded, reads_recorded, stage_reads, reads_from, results_of, write_recorded, setting_recorded, record_of, done_after}
 use Rattle.kp_seq.specs.Running.{state_in}
 use Rattle.kp_seq.specs.inner.Tables.{Laid}
 use Rattle.kp_seq.specs.inner.Steps.{Under, begun, entered, address_by, after_stmts, after_block, after_blocks}
 use Rattle.kp_seq.specs.inner.Steps as steps
 use Rattle.kp_seq.specs.inner.Ready.{AreTables, HasPlaces, IsNoted}
 use Rattle.kp_seq.specs.inner.Fits.{FitSlots}
-use Rattle.kp_seq.specs.inner.Notes.{Noted, told_by, outlet_by, outlets_of, begun_notes, changed_from, narrowed, marked, with_marks, write_noted, setting_noted, with_results, note_stmts, note_blocks}
+use Rattle.kp_seq.specs.inner.Notes.{Noted, record_by, outlet_by, outlets_of, begun_notes, changed_from, narrowed, marked, with_marks, write_noted, setting_noted, with_results, note_stmts, note_blocks}
 use Rattle.kp_seq.proofs.Entering.{enters}
 use Rattle.kp_seq.proofs.Keys.{pipe_placed, sample_placed, keyed}
 use Rattle.kp_seq.proofs.Written.{Ended, begun_ended, enabled_same, address_same, address_fits}
@@ -111,43 +111,43 @@ map_both f g [] = refl
 map_both f g (x ∷ xs) = ap (λ ys. f (g x) ∷ ys) (map_both f g xs)
 
 -- the number of reads in the record
-one_counted : (ds : List Decl) (done : Progress) (x : StmtKind) → length (read_told ds done x) ≡ reads_of x
+one_counted : (ds : List Decl) (done : Progress) (x : StmtKind) → length (read_recorded ds done x) ≡ reads_of x
 one_counted ds done (stmts.Read r) = refl
 one_counted ds done (stmts.Let n e) = refl
 one_counted ds done (stmts.Put n e) = refl
 one_counted ds done (stmts.Set n e when) = refl
 one_counted ds done (stmts.Aim n e) = refl
 
-stmts_counted : (ds : List Decl) (s : ℕ → ℕ → ℕ) (done : Progress) (xs : List Stmt) → length (reads_told ds s done xs) ≡ sum_by reads_in xs
+stmts_counted : (ds : List Decl) (s : ℕ → ℕ → ℕ) (done : Progress) (xs : List Stmt) → length (reads_recorded ds s done xs) ≡ sum_by reads_in xs
 stmts_counted ds s done [] = refl
 stmts_counted ds s done (x ∷ xs) =
     let later = done_after ds s done x.kind in
-    let n = length-append (read_told ds done x.kind) (reads_told ds s later xs) in
+    let n = length-append (read_recorded ds done x.kind) (reads_recorded ds s later xs) in
     let m = one_counted ds done x.kind in
     let o = stmts_counted ds s later xs in
     let p = sum_by-cons reads_in x xs in
     omega (arith, n, m, o, p)
 
-blocks_told : (job : Job) (s : ℕ → ℕ → ℕ) (q : ℕ → ℕ) (k : ℕ) (bs : List Block) → ((i : ℕ) (b : Block) → slice_get bs i ≡ Some b → slice_get job.blocks (k + i) ≡ Some b)
+blocks_recorded : (job : Job) (s : ℕ → ℕ → ℕ) (q : ℕ → ℕ) (k : ℕ) (bs : List Block) → ((i : ℕ) (b : Block) → slice_get bs i ≡ Some b → slice_get job.blocks (k + i) ≡ Some b)
     → length (reads_from job s q (length bs) k) ≡ sum_by (λ b. sum_by reads_in b.stmts) bs
 unfolding stage_reads
-blocks_told job s q k [] at = refl
-blocks_told job s q k (b ∷ bs) at =
+blocks_recorded job s q k [] at = refl
+blocks_recorded job s q k (b ∷ bs) at =
     let z : k + 0 ≡ k = none_after k in
     let here : slice_get job.blocks k ≡ Some b = subst (λ n. slice_get job.blocks n ≡ Some b) z (at 0 b refl) in
     let c = before_stage (machine_of job) s q k in
     let done = trees.entered job.decls q c.pipes in
     let n = length-append (stage_reads job s q k) (reads_from job s q (length bs) (suc k)) in
-    let m : length (stage_reads job s q k) ≡ sum_by reads_in b.stmts = ap (λ o. length (reads_told job.decls s done (stmts_in o))) here ∙ stmts_counted job.decls s done b.stmts in
-    let o = blocks_told job s q (suc k) bs (λ i y e. let w : k + suc i ≡ suc k + i = next_first k i in subst (λ v. slice_get job.blocks v ≡ Some y) w (at (suc i) y e)) in
+    let m : length (stage_reads job s q k) ≡ sum_by reads_in b.stmts = ap (λ o. length (reads_recorded job.decls s done (stmts_in o))) here ∙ stmts_counted job.decls s done b.stmts in
+    let o = blocks_recorded job s q (suc k) bs (λ i y e. let w : k + suc i ≡ suc k + i = next_first k i in subst (λ v. slice_get job.blocks v ≡ Some y) w (at (suc i) y e)) in
     let p = sum_by-cons (λ (x : Block). sum_by reads_in x.stmts) b bs in
     omega (arith, n, m, o, p)
 
-pub all_told : (job : Job) (s : ℕ → ℕ → ℕ) (q : ℕ → ℕ) → length job.blocks ≡ job.stages.value → length (reads_from job s q job.stages.value 0) ≡ (summary_of job).reads
+pub all_recorded : (job : Job) (s : ℕ → ℕ → ℕ) (q : ℕ → ℕ) → length job.blocks ≡ job.stages.value → length (reads_from job s q job.stages.value 0) ≡ (summary_of job).reads
 unfolding summary_of
-all_told job s q e =
+all_recorded job s q e =
     ap (λ n. length (reads_from job s q n 0)) (sym e)
-    ∙ blocks_told job s q 0 job.blocks (λ i b at. let w : i ≡ 0 + i = sym (none_before i) in subst (λ n. slice_get job.blocks n ≡ Some b) w at)
+    ∙ blocks_recorded job s q 0 job.blocks (λ i b at. let w : i ≡ 0 + i = sym (none_before i) in subst (λ n. slice_get job.blocks n ≡ Some b) w at)
 
 module _ (job : Job) (unbroken : Unbroken (widths_of job)) (kept : broken_of job ≡ None) (t : Laid) (tables : AreTables job t) (rule : _) (is25 : slice_get all_rules 10 ≡ Some rule) (words : List (List ℕ)) (fit : FitSlots (targets_of job.decls) words) (row : List Word) (fits : AreSamples job.decls row) where
   abbrev at_stage : ℕ → Instruction
@@ -163,8 +163,8 @@ module _ (job : Job) (unbroken : Unbroken (widths_of job)) (kept : broken_of job
     pub marks : (j : ℕ) (o : Outlet) → slice_get n.outlets j ≡ Some o → get_or n.set_in j None ≡ seen (sets o.target) k
 
   -- the notes of the stages from one on
-  record NotedAfter (n m : Noted) (told : List (Option ℕ)) (k : ℕ) : Type 0 where
-    pub reads : (m.reads, m.next) ≡ put_reads (n.reads, n.next) told
+  record NotedAfter (n m : Noted) (recorded : List (Option ℕ)) (k : ℕ) : Type 0 where
+    pub reads : (m.reads, m.next) ≡ put_reads (n.reads, n.next) recorded
     pub outlets : m.outlets ≡ n.outlets
     pub writes : m.writes ≡ n.writes
     pub settings : m.settings ≡ n.settings
@@ -180,17 +180,17 @@ module _ (job : Job) (unbroken : Unbroken (widths_of job)) (kept : broken_of job
       let inside = enters job unbroken t tables rule is25 k words fit row fits s c u h.of_text h.ended h.places.names h.places.pipes h.places.results (pipe_placed job unbroken t tables rule is25 k words fit c) (sample_placed job unbroken t tables rule is25 k words fit c) in
       let free = subst (λ o. first (ask_stmts (facts_of job) rule k 0 (stmts_in o)) ≡ None) at (stmts_kept (facts_of job) job (rules_kept job kept) 10 rule is25 k) in
       all_asked job unbroken t tables rule is25 k words fit c (opened s (scopes.Stage k)) done (entered t row u) n 0 b.stmts inside free right (keyed job unbroken t tables rule is25 k words fit c k b (opened s (scopes.Stage k)) at)
-      ∙ ap (λ o. after_reads n (reads_told job.decls (state_in words) done (stmts_in o))) (sym at)
+      ∙ ap (λ o. after_reads n (reads_recorded job.decls (state_in words) done (stmts_in o))) (sym at)
 
   block_noted : (k : ℕ) (b : Block) (s : Scoped) (u : Under) (n : Noted) → slice_get job.blocks k ≡ Some b → Unbroken (statements_of job.decls (opened s (scopes.Stage k)) b.stmts)
       → Reached job unbroken kept t tables rule is25 words fit row fits k s u → NotedTo k n
       → NotedAfter n (with_marks k (after_block t words row u b) (note_stmts t words (entered t row u) n b.stmts)) (stage_reads job (state_in words) (values_in row) k) (suc k)
   block_noted k b s u n at right h to =
       let w = after_block t words row u b in
-      let told = stage_reads job (state_in words) (values_in row) k in
+      let recorded = stage_reads job (state_in words) (values_in row) k in
       let ended = (block_end job unbroken kept t tables rule is25 words fit row fits k b s u at right h).ended in
       let mark = λ (i : ℕ) (o : Outlet) (old : Option ℕ). marked k w.results o old in
-      subst (λ m. NotedAfter n (with_marks k w m) told (suc k)) (sym (block_reads k b s u n at right h))
+      subst (λ m. NotedAfter n (with_marks k w m) recorded (suc k)) (sym (block_reads k b s u n at right h))
       (record {
         reads = refl;
         outlets = refl;
@@ -226,13 +226,13 @@ module _ (job : Job) (unbroken : Unbroken (widths_of job)) (kept : broken_of job
       let rest = blocks_noted (k + 1) bs after w m
       (λ i y e. let v : k + suc i ≡ (k + 1) + i = after_next k i in subst (λ j. slice_get job.blocks j ≡ Some y) v (at (suc i) y e))
       x.1 reached (subst (λ i. NotedTo i m) next one.to) in
-      let told = stage_reads job (state_in words) (values_in row) k in
+      let recorded = stage_reads job (state_in words) (values_in row) k in
       record {
         reads =
             rest.reads
             ∙ ap (λ p. put_reads p (reads_from job (state_in words) (values_in row) (length bs) (k + 1))) one.reads
-            ∙ ap (λ i. put_reads (put_reads (n.reads, n.next) told) (reads_from job (state_in words) (values_in row) (length bs) i)) (sym next)
-            ∙ sym (put_both (n.reads, n.next) told (reads_from job (state_in words) (values_in row) (length bs) (suc k)));
+            ∙ ap (λ i. put_reads (put_reads (n.reads, n.next) recorded) (reads_from job (state_in words) (values_in row) (length bs) i)) (sym next)
+            ∙ sym (put_both (n.reads, n.next) recorded (reads_from job (state_in words) (values_in row) (length bs) (suc k)));
         outlets = rest.outlets ∙ one.outlets;
         writes = rest.writes ∙ one.writes;
         settings = rest.settings ∙ one.settings;
@@ -267,10 +267,10 @@ module _ (job : Job) (unbroken : Unbroken (widths_of job)) (kept : broken_of job
       let w = after_blocks t words row (begun u) job.blocks in
       let m = note_blocks t words row 0 (begun u) (begun_notes n) job.blocks in
       let a = all_noted u n places ready in
-      let told = reads_from job (state_in words) (values_in row) (length job.blocks) 0 in
+      let recorded = reads_from job (state_in words) (values_in row) (length job.blocks) 0 in
       record {
         outlets = a.outlets ∙ ready.outlets;
-        reads = ap (λ (p : List (Option ℕ) × ℕ). length p.0) a.reads ∙ put_count (n.reads, 0) told ∙ ready.reads;
+        reads = ap (λ (p : List (Option ℕ) × ℕ). length p.0) a.reads ∙ put_count (n.reads, 0) recorded ∙ ready.reads;
         set_in = a.to.count;
         writes = changed_count (λ i o old. write_noted w o) None m.writes 0 m.outlets ∙ ap length a.writes ∙ ready.writes ∙ ap length (sym a.outlets);
         settings = changed_count (λ i o old. setting_noted (get_or m.set_in i None) o) 0 m.settings 0 m.outlets ∙ ap length a.settings ∙ ready.settings ∙ ap length (sym a.outlets);
@@ -278,7 +278,7 @@ module _ (job : Job) (unbroken : Unbroken (widths_of job)) (kept : broken_of job
 
   -- a result writes at an address, and is set in a stage
   module _ (u : Under) (ended : Ended job.decls (at_stage job.stages.value) u) where
-    wrote : (r : ResultDecl) → Stands job.decls r → write_noted u (outlet_by (targets_of job.decls) (pipes_of job.decls) r) ≡ write_told job (at_stage job.stages.value).pipes r
+    wrote : (r : ResultDecl) → Stands job.decls r → write_noted u (outlet_by (targets_of job.decls) (pipes_of job.decls) r) ≡ write_recorded job (at_stage job.stages.value).pipes r
     wrote r s =
         let c = at_stage job.stages.value in
         let f = results_fit job.decls 0 0 nothing job.decls refl (declared_right job unbroken) s.index r s.there in
@@ -291,8 +291,8 @@ module _ (job : Job) (unbroken : Unbroken (widths_of job)) (kept : broken_of job
         ∙ ap (where_true (is_enabled_by (pipes_of job.decls) c.pipes r.enable)) (address_same job unbroken t tables c u ended r.address)
 
   settled : (r : ResultDecl) → Stands job.decls r
-      → narrowed 8 (unwrap_or (seen (sets (number_of (targets_of job.decls) r.target.name)) job.stages.value) r.stage.value) ≡ setting_told job (state_in words) (values_in row) r
-  unfolding setting_told
+      → narrowed 8 (unwrap_or (seen (sets (number_of (targets_of job.decls) r.target.name)) job.stages.value) r.stage.value) ≡ setting_recorded job (state_in words) (values_in row) r
+  unfolding setting_recorded
   settled r s =
       let facts = facts_of job in
       let n = job.stages.value in
@@ -305,10 +305,10 @@ module _ (job : Job) (unbroken : Unbroken (widths_of job)) (kept : broken_of job
       ap (narrowed 8) (seen_first p n r.stage.value) ∙ narrowed_is 8 (first_stage p n 0 r.stage.value) fits
 
   -- so the stored record is the specified one
-  pub noted_is_told : (u : Under) (n : Noted) → HasPlaces t u → IsNoted job n
-      → told_by (with_results (after_blocks t words row (begun u) job.blocks) (note_blocks t words row 0 (begun u) (begun_notes n) job.blocks)) ≡ told_of job (state_in words) (values_in row)
-  unfolding told_of machine_of
-  noted_is_told u n places ready =
+  pub noted_is_recorded : (u : Under) (n : Noted) → HasPlaces t u → IsNoted job n
+      → record_by (with_results (after_blocks t words row (begun u) job.blocks) (note_blocks t words row 0 (begun u) (begun_notes n) job.blocks)) ≡ record_of job (state_in words) (values_in row)
+  unfolding record_of machine_of
+  noted_is_recorded u n places ready =
       let w = after_blocks t words row (begun u) job.blocks in
       let m = note_blocks t words row 0 (begun u) (begun_notes n) job.blocks in
       let a = all_noted u n places ready in
@@ -318,21 +318,21 @@ module _ (job : Job) (unbroken : Unbroken (widths_of job)) (kept : broken_of job
       let pipes = pipes_of job.decls in
       let results = results_of job.decls in
       let outlets : m.outlets ≡ map (outlet_by targets pipes) results = a.outlets ∙ ready.outlets ∙ outlets_are targets pipes job.decls in
-      let told = reads_from job (state_in words) (values_in row) (length job.blocks) 0 in
-      let room : length n.reads ≡ length told =
-      ready.reads ∙ sym (all_told job (state_in words) (values_in row) count) ∙ ap (λ i. length (reads_from job (state_in words) (values_in row) i 0)) (sym count) in
+      let recorded = reads_from job (state_in words) (values_in row) (length job.blocks) 0 in
+      let room : length n.reads ≡ length recorded =
+      ready.reads ∙ sym (all_recorded job (state_in words) (values_in row) count) ∙ ap (λ i. length (reads_from job (state_in words) (values_in row) i 0)) (sym count) in
       let reads : m.reads ≡ reads_from job (state_in words) (values_in row) job.stages.value 0 =
-      ap (λ (p : List (Option ℕ) × ℕ). p.0) a.reads ∙ all_put n.reads told room ∙ ap (λ i. reads_from job (state_in words) (values_in row) i 0) count in
-      let writes : changed_from (λ i o old. write_noted w o) None m.writes 0 m.outlets ≡ map (write_told job (at_stage job.stages.value).pipes) results =
+      ap (λ (p : List (Option ℕ) × ℕ). p.0) a.reads ∙ all_put n.reads recorded room ∙ ap (λ i. reads_from job (state_in words) (values_in row) i 0) count in
+      let writes : changed_from (λ i o old. write_noted w o) None m.writes 0 m.outlets ≡ map (write_recorded job (at_stage job.stages.value).pipes) results =
       changed_to (λ i o old. write_noted w o) (write_noted w) None m.writes m.outlets (ap length a.writes ∙ ready.writes ∙ ap length (sym a.outlets)) (λ j o is. refl)
       ∙ ap (map (write_noted w)) outlets ∙ map_both (write_noted w) (outlet_by targets pipes) results
-      ∙ map_same (λ r. write_noted w (outlet_by targets pipes r)) (write_told job (at_stage job.stages.value).pipes) results (λ j r is. wrote w ended r (stand job.decls j r is)) in
+      ∙ map_same (λ r. write_noted w (outlet_by targets pipes r)) (write_recorded job (at_stage job.stages.value).pipes) results (λ j r is. wrote w ended r (stand job.decls j r is)) in
       let set = λ (o : Outlet). narrowed 8 (unwrap_or (seen (sets o.target) job.stages.value) o.stage) in
-      let settings : changed_from (λ i o old. setting_noted (get_or m.set_in i None) o) 0 m.settings 0 m.outlets ≡ map (setting_told job (state_in words) (values_in row)) results =
+      let settings : changed_from (λ i o old. setting_noted (get_or m.set_in i None) o) 0 m.settings 0 m.outlets ≡ map (setting_recorded job (state_in words) (values_in row)) results =
       changed_to (λ i o old. setting_noted (get_or m.set_in i None) o) set 0 m.settings m.outlets (ap length a.settings ∙ ready.settings ∙ ap length (sym a.outlets))
       (λ j o is. ap (λ x. narrowed 8 (unwrap_or x o.stage)) (a.to.marks j o is) ∙ ap (λ i. narrowed 8 (unwrap_or (seen (sets o.target) i) o.stage)) count)
       ∙ ap (map set) outlets ∙ map_both set (outlet_by targets pipes) results
-      ∙ map_same (λ r. set (outlet_by targets pipes r)) (setting_told job (state_in words) (values_in row)) results (λ j r is. settled r (stand job.decls j r is)) in
+      ∙ map_same (λ r. set (outlet_by targets pipes r)) (setting_recorded job (state_in words) (values_in row)) results (λ j r is. settled r (stand job.decls j r is)) in
       ap (λ (x : List (Option ℕ)). record { reads = x; writes = changed_from (λ i o old. write_noted w o) None m.writes 0 m.outlets; settings = changed_from (λ i o old. setting_noted (get_or m.set_in i None) o) 0 m.settings 0 m.outlets }) reads
       ∙ ap (λ (x : List (Option ℕ)). record { reads = reads_from job (state_in words) (values_in row) job.stages.value 0; writes = x; settings = changed_from (λ i o old. setting_noted (get_or m.set_in i None) o) 0 m.settings 0 m.outlets }) writes
-      ∙ ap (λ (x : List ℕ). record { reads = reads_from job (state_in words) (values_in row) job.stages.value 0; writes = map (write_told job (at_stage job.stages.value).pipes) results; settings = x }) settings
+      ∙ ap (λ (x : List ℕ). record { reads = reads_from job (state_in words) (values_in row) job.stages.value 0; writes = map (write_recorded job (at_stage job.stages.value).pipes) results; settings = x }) settings

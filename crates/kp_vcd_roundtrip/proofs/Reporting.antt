@@ -45,8 +45,8 @@ job_kept : (job : Job) → IsAccepted job → Kept job
 job_kept job (of_input {input = input} h) = input_kept input job h
 job_kept job (of_head {input = input} {rest = rest} h) = head_kept input job rest h
 
-abbrev told : Dump → Result Dump Fault
-told d = Ok d
+abbrev reported : Dump → Result Dump Fault
+reported d = Ok d
 
 pub job_fits : (job : Job) (n : ℕ) → IsAccepted job → n < 2 ^ 64 → FitsForm (vcd_dump n job)
 job_fits job n h small = let k = job_kept job h in dump_fits job k.named k.widths k.stages k.sections n small
@@ -55,5 +55,5 @@ job_fits job n h small = let k = job_kept job h in dump_fits job k.named k.width
 pub same_dump : (text : List ℕ) (a b : Dump) → verdict text ≡ Ok a → verdict text ≡ Ok b → a ≡ b
 same_dump text a b e f = one (sym e ∙ f)
   where
-    one : told a ≡ told b → a ≡ b
+    one : reported a ≡ reported b → a ≡ b
     one e = cc

@@ -5,13 +5,13 @@ use Rattle.std.proofs.lemmas.Bool.Decides.{Decides-eqb}
 use Rattle.kp_net.specs.declared.node.NodeId.{NodeId}
 use Rattle.kp_net.specs.Netlist.{Net}
 use Rattle.kp_equiv_trees.specs.Alike.{Alike}
-use Rattle.kp_equiv_trees.specs.Classes.{class_in, Tells}
+use Rattle.kp_equiv_trees.specs.Classes.{class_in, Determines}
 
 pub id_is : (x y : NodeId) → x.0 ≡ y.0 → x ≡ y
 id_is x y e = ap (λ (n : ℕ). let z : NodeId = record { 0 = n } in z) e
 
 -- the result of comparing classes
-pub alike_found : (a b : Net) (ca cb : List NodeId) (i j x y : NodeId) (t : Bool) → Tells a b ca cb → i.0 < length a.nodes → j.0 < length b.nodes → x ≡ class_in ca i → y ≡ class_in cb j
+pub alike_found : (a b : Net) (ca cb : List NodeId) (i j x y : NodeId) (t : Bool) → Determines a b ca cb → i.0 < length a.nodes → j.0 < length b.nodes → x ≡ class_in ca i → y ≡ class_in cb j
     → t ≡ (x.0 == y.0) → Decides t (Alike a b i j)
 alike_found a b ca cb i j x y t h li lj ex ey e = (
   λ f. h.same i j li lj (sym ex ∙ id_is x y ((Decides-eqb x.0 y.0).0 (sym e ∙ f)) ∙ ey),
