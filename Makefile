@@ -1,11 +1,11 @@
 # make          proves and builds the programs kp, kpview and kpcore where a source is newer: some 30 minutes on four processors from nothing
 # make kp       the first alone, crates/kp/out/kp; make kpview and make kpcore the others, crates/kpview/out/kpview and crates/kpcore/out/kpcore
 # make check    the gate: all proofs, the edits that proofs must reject, and all stored runs, as .ci/run does
-# make checks   the checks beside the gate: commands of the manual, other tools on the Verilog, refused memory; a line for each
+# make checks   the checks beside the gate: commands of the manual, other tools on the Verilog, refused memory, two builds of the programs ..; a line for each
 # make bench    the measurements of time and memory in benches/
 # make pictures draws the pictures of docs/pictures/ anew
 # make install  installs the built programs, manual pages, completions, editor files, documents and examples: PREFIX=/usr/local DESTDIR=
-# make uninstall  removes what make install put there
+# make uninstall  removes what make install put there, with the same PREFIX and DESTDIR
 # make dist     packs what would be installed: out/dist/kp-VERSION.tar.gz, and its sum in out/dist/SHA256SUMS
 # make clean    removes what was built and proved here
 # make help     prints these lines
@@ -43,8 +43,8 @@ endif
 check:
 	@.ci/run
 
-# KP names another program than the one that is built here.
-checks: $(if $(KP),,kp) $(if $(KPVIEW),,kpview)
+# KP, KPVIEW and KPCORE name other programs than those that are built here.
+checks: $(if $(KP),,kp) $(if $(KPVIEW),,kpview) $(if $(KPCORE),,kpcore)
 	@checks/each $(all_checks)
 
 bench: $(if $(KP),,kp)
@@ -71,7 +71,8 @@ own     = share/doc/kp share/kp
 vim     = compiler/kp.vim compiler/kpview.vim ftdetect/kp.vim ftplugin/kp.vim syntax/kp.vim
 files   = share/man/man5/kp.5 $(foreach it,$(programs),bin/$(it) share/man/man1/$(it).1 share/bash-completion/completions/$(it) \
           share/zsh/site-functions/_$(it) share/fish/vendor_completions.d/$(it).fish) $(addprefix share/vim/vimfiles/,$(vim))
-needs = $(foreach it,$(KP_BINARY) $(KPVIEW_BINARY) $(KPCORE_BINARY),$(if $(wildcard $(it)),,$(error $(it) isn't there: run make first, which builds it)))
+absolute = $(if $(filter /%,$(PREFIX)),,$(error PREFIX has to be an absolute path, and is `$(PREFIX)`))
+needs = $(absolute)$(foreach it,$(KP_BINARY) $(KPVIEW_BINARY) $(KPCORE_BINARY),$(if $(wildcard $(it)),,$(error $(it) isn't there: run make first, which builds it)))
 trees   = find docs examples \( -name out -o -name __pycache__ \) -prune -o -type f -print
 
 # share/kp has links to the programs, so that the commands of the documents run there as they are printed.
@@ -105,6 +106,7 @@ install:
 
 # Folders that others use too are removed below DESTDIR alone, where they are empty.
 uninstall:
+	$(absolute)
 	@rm -f $(patsubst %,"$(root)/%",$(files))
 	@rm -rf $(patsubst %,"$(root)/%",$(own))
 	@[ ! -d "$(DESTDIR)" ] || { cd "$(DESTDIR)" && for it in $(shared) share/doc; do \
@@ -116,7 +118,7 @@ SOURCE_DATE_EPOCH ?= 1767225600
 dist:
 	$(needs)
 	@rm -rf out/dist && mkdir -p out/dist/root
-	@$(MAKE) -s --no-print-directory install PREFIX=$(PREFIX) DESTDIR="$(CURDIR)/out/dist/root" KP_BINARY="$(KP_BINARY)" \
+	@$(MAKE) -s --no-print-directory install PREFIX="$(PREFIX)" DESTDIR="$(CURDIR)/out/dist/root" KP_BINARY="$(KP_BINARY)" \
 	    KPVIEW_BINARY="$(KPVIEW_BINARY)" KPCORE_BINARY="$(KPCORE_BINARY)"
 	@cd out/dist && mv "root$(PREFIX)" kp-$(version) && rm -rf root && \
 	tar --format=ustar --sort=name --owner=0 --group=0 --numeric-owner --mode=u=rwX,go=rX --mtime=@$(SOURCE_DATE_EPOCH) \

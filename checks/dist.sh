@@ -1,12 +1,12 @@
 #!/bin/bash
 # What `make install`, `make uninstall` and `make dist` do: bash checks/dist.sh
 #
-# `make install` puts every file in its place in an empty folder, with the version and the prefix in the manual pages, and `make uninstall` leaves
-# nothing there. Two calls of `make dist` write the same bytes, though the second has another umask and older files; names are sorted, and the
-# owner is 0. VERSION is the newest heading of CHANGELOG.md. The commands in the manual page and the completions are those that `kp` accepts; the
-# keywords and rules in the manual pages and the editor files are those of docs/. Shells, mandoc and man, where they are installed, accept their
-# files without a message. Where no program is built, a stub is installed. KP and KPVIEW name other programs. The last line is `N checked, M wrong`, and
-# the status is 0 where M is 0.
+# `make install` puts every file in its place in an empty folder whose name has a blank, with the version and the prefix in the manual pages, readable
+# for all whatever the umask is, also over an earlier installation, and `make uninstall` leaves nothing there. A PREFIX that isn't absolute is rejected.
+# Two calls of `make dist` write the same bytes, though the second has another umask and older files; names are sorted, and the owner is 0. VERSION is
+# the newest heading of CHANGELOG.md. The commands in the manual page and the completions are those that `kp` accepts; the keywords and rules in the
+# manual pages and the editor files are those of docs/. Shells, mandoc and man, where they are installed, accept their files without a message. Where no
+# program is built, a stub is installed. KP, KPVIEW and KPCORE name other programs. The last line is `N checked, M wrong`, and the status is 0 where M is 0.
 [ -n "${KP:-}" ] || [ -x "$(dirname "$0")/../crates/kp/out/kp" ] || KP=:
 . "$(dirname "$0")/common.sh"
 if [ "$kp" = : ]; then
@@ -53,9 +53,12 @@ made() {
 same VERSION CHANGELOG "$(cat VERSION)" "$(sed -n 's/^## //p' CHANGELOG.md | head -n 1)"
 
 # Installed and removed
-made install DESTDIR="$work/root" PREFIX=/opt/some
+root="$work/the root"
+at=$root/opt/some
+(umask 077; made install DESTDIR="$root" PREFIX=/opt/some)
 quiet install make "$work/made"
-at=$work/root/opt/some
+made install DESTDIR="$root" PREFIX=/opt/some
+quiet again make "$work/made"
 {
     cmp "$kp" "$at/bin/kp"
     cmp "$kp" "$at/share/kp/kp"
@@ -81,21 +84,29 @@ at=$work/root/opt/some
     for it in kp kpview kpcore; do
         grep -q /opt/some/share "$at/share/man/man1/$it.1" || echo "$it.1 doesn't name the prefix"
     done
+    find "$root" -type d ! -perm 755 -o -type f ! -perm 644 ! -perm 755
+    find "$at/bin" -type f ! -perm 755
 } > "$work/said" 2>&1
 quiet files install "$work/said"
 mkdir "$work/pages"
 cp "$at"/share/man/man1/kp*.1 "$at/share/man/man5/kp.5" "$work/pages"
-made uninstall DESTDIR="$work/root" PREFIX=/opt/some
-{ cat "$work/made"; find "$work/root" -mindepth 1; } > "$work/said"
+made uninstall DESTDIR="$root" PREFIX=/opt/some
+{ cat "$work/made"; find "$root" -mindepth 1; } > "$work/said"
 quiet uninstall make "$work/said"
 
-# Without a program: one line, and nothing is installed
-env -u MAKEFLAGS -u MAKELEVEL make -s install DESTDIR="$work/root" KP_BINARY="$work/none" KPVIEW_BINARY="$kpview" KPCORE_BINARY="$kpcore" > "$work/said" 2>&1
-if [ $? -ne 0 ] && [ "$(wc -l < "$work/said")" -eq 1 ] && grep -q 'run make' "$work/said" && [ -z "$(find "$work/root" -mindepth 1)" ]; then
-    says unbuilt make ok
-else
-    says unbuilt make "$(head -n 1 "$work/said")"
-fi
+# rejects WHAT TEXT WORD..: ok where make says this in one line, and installs nothing
+rejects() {
+    local what=$1 text=$2
+    shift 2
+    if ! env -u MAKEFLAGS -u MAKELEVEL make -s "$@" > "$work/said" 2>&1 && [ "$(wc -l < "$work/said")" -eq 1 ] && grep -q "$text" "$work/said" &&
+        [ -z "$(find "$root" -mindepth 1)" ]; then
+        says "$what" make ok
+    else
+        says "$what" make "$(head -n 1 "$work/said")"
+    fi
+}
+rejects unbuilt 'run make' install DESTDIR="$root" KP_BINARY="$work/none" KPVIEW_BINARY="$kpview" KPCORE_BINARY="$kpcore"
+rejects prefix absolute install DESTDIR="$root/" PREFIX=opt KP_BINARY="$kp" KPVIEW_BINARY="$kpview" KPCORE_BINARY="$kpcore"
 
 # The same bytes twice
 archive=kp-$(cat VERSION).tar.gz
@@ -137,7 +148,7 @@ same rules kp.1 "$(sed -n 's/^\.It \([AV][0-9]*\)$/\1/p' man/kp.1)" \
     "$(sed -n '/^| rule | violated/,/^$/s/^| \([AV][0-9]*\) .*/\1/p' docs/VERILOG.md docs/DLX.md) V6"
 
 # What other tools say of the files
-if has mandoc; then (cd "$work/pages" && mandoc -T lint kp.1 kp.5 kpview.1 kpcore.1) > "$work/said" 2>&1; quiet pages mandoc "$work/said"; fi
+if has mandoc; then mandoc -T lint man/*.1 man/*.5 "$work"/pages/*.1 "$work/pages/kp.5" > "$work/said" 2>&1; quiet pages mandoc "$work/said"; fi
 if has man && man --version 2> /dev/null | grep -q '^man '; then
     for it in kp.1 kp.5 kpview.1 kpcore.1; do LC_ALL=C.UTF-8 man --warnings -l "$work/pages/$it" 2>&1 > /dev/null; done > "$work/said"
     quiet pages man "$work/said"
