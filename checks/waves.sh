@@ -3,11 +3,13 @@
 #
 # For each job, or each example, the Verilog that `pipe` writes runs in Icarus under random stalls and samples, and Icarus dumps its changes. In each
 # cycle `full`, `ue`, `back` and the registers must have the values in this dump that the dump of `vcd 200` contains at that time, and the registers
-# also after the last cycle. `vcd2fst`, of GTKWave, must accept each dump of `vcd` without a message. A tool that isn't installed is left out, and
-# the last line names it. That line is `N checked, M wrong`, and the status is 0 where M is 0, and 77 where nothing could be checked. KP names
-# another program than ./kp, CYCLES another number of cycles.
+# also after the last cycle. `vcd2fst`, of GTKWave, must accept each dump of `vcd` without a message. After the examples, examples/system runs in Icarus: it
+# must print lights that are one more than the keys, and its dump must have the signals that its list for GTKWave names. A tool that isn't installed is
+# left out, and the last line names it. That line is `N checked, M wrong`, and the status is 0 where M is 0, and 77 where nothing could be checked. KP
+# and KPCORE name other programs than ./kp and ./kpcore, CYCLES another number of cycles.
 . "$(dirname "$0")/common.sh"
 cycles=${CYCLES:-200}
+kpcore=${KPCORE:-$top/crates/kpcore/out/kpcore}
 
 # shaken JOB SEED: the job without its stalls and inputs, and with random ones for all stages and samples.
 shaken() {
@@ -123,7 +125,38 @@ convert() {
     if [ -s "$work/said" ]; then says "$1" vcd2fst "$(head -n 1 "$work/said")"; else says "$1" vcd2fst ok; fi
 }
 
-[ $# -gt 0 ] || set -- "$top"/examples/*.kp
+# The signals of a dump, as GTKWave names them.
+signals() {
+    awk '
+        $1 == "$scope" { path = path $3 "." }
+        $1 == "$upscope" { sub(/[^.]*[.]$/, "", path) }
+        $1 == "$var" { print path $5 ($6 == "$end" ? "" : $6) }' "$1"
+}
+
+# The system of examples/system, as docs/VERILOG.md runs it.
+system() {
+    local from="$top/examples/system"
+    has iverilog && has "$kpcore" || return
+    (
+        cd "$work" || exit
+        cat "$from/bus4.kp" "$from/bus4.ports" | "$kpcore" >core.v &&
+            iverilog -g2005 -o system.vvp "$from/bench.v" "$from/system.v" core.v && timeout 120 vvp -n system.vvp
+    ) >"$work/said" 2>&1 || echo "status $?" >>"$work/said"
+    if [ "$(awk '$2 == "lights" { printf "%s ", $3 }' "$work/said")" = '11 21 ' ]; then
+        says system iverilog ok
+    else
+        says system iverilog "$(tail -n 1 "$work/said")"
+        return
+    fi
+    grep -v '^[][*@-]' "$from/system.gtkw" | sort >"$work/listed"
+    signals "$work/system.vcd" | sort >"$work/dumped"
+    comm -23 "$work/listed" "$work/dumped" >"$work/said"
+    [ -s "$work/listed" ] || echo 'lists no signal' >>"$work/said"
+    quiet system gtkw "$work/said"
+}
+
+all=
+[ $# -gt 0 ] || { all=1; set -- "$top"/examples/*.kp; }
 seed=0
 for job; do
     [ -f "$job" ] || { echo "waves: there is no file $job" >&2; exit 1; }
@@ -135,4 +168,5 @@ for job; do
     run "$name" "$job"
     convert "$name"
 done
+[ -z "$all" ] || system
 summary
