@@ -12,6 +12,11 @@ that were loaded. Besides:
 - what `next P at k` shows is what `probe P at k` shows in the next cycle, unless `rst` is 1.
 
 The module is written to the file MODULE. TOOL is `iverilog` or `verilator`: with both, they print the same. Prints `ok: ..` or the first difference.
+
+What ports cost, in Yosys: python3 checks/ports.py cells KP KPCORE
+
+`synth` deletes the registers on which no output depends. The module of `kp pipe` for examples/acc3.kp has to have a flip-flop for each stage but the first
+(`full`), and one for whether C is set; with the lines `show X` and `commit` also those of X, of the pipe A and of the result C. `commit` alone adds none.
 """
 import os
 import random
@@ -23,6 +28,7 @@ import tempfile
 from resets import Job, Part, Wrong, image_of, number, plan, run
 
 MOST_PROBED = 6
+COUNTER = os.path.join(os.path.dirname(os.path.abspath(__file__)), "../examples/acc3.kp")
 
 
 class Ports:
@@ -208,15 +214,55 @@ def loaded_state(job, state, words):
     return {**state, **{f"{it}[{address}]": value for it, (address, value) in words.items()}}
 
 
-def main(words):
-    if len(words) < 7 or not words[4].isdecimal() or int(words[4]) < 1:
-        sys.exit(__doc__)
+def synthesised(module, name):
+    """The numbers of flip-flops and of all cells that Yosys makes of a module."""
+    with tempfile.TemporaryDirectory() as folder:
+        with open(f"{folder}/module.v", "w", encoding="ascii") as it:
+            it.write(module)
+        counts = "".join(f"tee -q -o {folder}/{it} select -count {cells}; " for it, cells in (("ff", "t:$_*DFF*_"), ("all", "t:*")))
+        run(["yosys", "-q", "-p", f"read_verilog {folder}/module.v; synth -flatten -top m_{name}; {counts}"])
+        found = []
+        for it in "ff", "all":
+            with open(f"{folder}/{it}", encoding="ascii") as count:
+                found.append(int(re.search(r"(\d+) objects", count.read())[1]))
+    return found
+
+
+def cells(kp, kpcore):
+    """The flip-flops of acc3: what its register, its pipe and its result store are all in one stage."""
+    with open(COUNTER, encoding="ascii") as it:
+        text = it.read()
+    job = Job(text)
+    widths = [*job.regs.values(), *(int(it) for it in re.findall(r"\b(?:pipe|result)\s+\w+\s*:\s*(\d+)", job.head))]
+    full, is_set = job.stages - 1, 1
+    modules = [("pipe", run([kp, "pipe"], text), full + is_set),
+               ("commit", run([kpcore], f"{text}commit\n"), full + is_set),
+               ("show X, commit", run([kpcore], f"{text}show X\ncommit\n"), full + is_set + sum(widths))]
+    said = []
+    for name, module, wanted in modules:
+        flip_flops, every = synthesised(module, job.name)
+        if flip_flops != wanted:
+            raise Wrong(f"{name}: {flip_flops} flip-flops and not {wanted}")
+        said.append(f"{name} {flip_flops} flip-flops of {every} cells")
+    return f"ok: {'; '.join(said)}"
+
+
+def printed(check, words):
+    """Prints the result of a check, and returns the status."""
     try:
-        print(compare(*words[:4], int(words[4]), words[5], words[6:]))
+        print(check(*words))
     except Wrong as it:
         print(it)
         return 1
     return 0
+
+
+def main(words):
+    if len(words) == 3 and words[0] == "cells":
+        return printed(cells, words[1:])
+    if len(words) < 7 or not words[4].isdecimal() or int(words[4]) < 1:
+        sys.exit(__doc__)
+    return printed(compare, [*words[:4], int(words[4]), words[5], words[6:]])
 
 
 if __name__ == "__main__":

@@ -15,6 +15,8 @@
 #                the words that are loaded under resets (checks/ports.py), in Icarus, and in Verilator for the first two jobs. Needs Python 3, Icarus
 #                and the program kpcore. Icarus and Verilator print nothing of it, as above: ports-i and ports-v.
 #
+# Where acc3 is among the jobs, Yosys has to make as many flip-flops of its module, with ports and without, as the widths of its values say (cells).
+#
 # A tool that isn't installed is left out, and the last line names it. That line is `N checked, M wrong`, and the status is 0 where M is 0, and 77
 # where nothing could be checked. Yosys has MOST seconds for a module, and again for its gates, 60 by default: it unrolls the loops over large files
 # and makes flip-flops of their words, and is skipped where that takes longer. KP and KPCORE name other programs than ./kp and ./kpcore, SEED the first random job, 1 by default.
@@ -77,6 +79,9 @@ verilog() {
         says "$name" gates "$(python3 "$top/checks/gates.py" "$kp" "$job" "$3" "$cycles" "$seconds" 2>&1 | tail -n 1)"
     fi
     if has "$kpcore" && has iverilog && has python3; then ports "$name" "$job" "$3" "$module"; fi
+    if [ "$name" = acc3 ] && has "$kpcore" && has yosys && has python3; then
+        says "$name" cells "$(python3 "$top/checks/ports.py" cells "$kp" "$kpcore" 2>&1 | tail -n 1)"
+    fi
     rm -f "$module"
 }
 
