@@ -3,19 +3,23 @@ ghost use Rattle.std.specs.Prelude.{◌≡◌, ◌<◌, ◌≤◌, ◌^◌, ◌&
 ghost use Rattle.kp_net.specs.Netlist.{start_regs};
 ghost use Rattle.kp_net.specs.Parts.{NetOk, no_file};
 ghost use Rattle.kp_net.specs.Widths.{wide};
-ghost use Rattle.kp_cycle.specs.inner.Storage.{Fits, FitsBelow, PortReady, regs_from, port_from, port_noted};
+ghost use Rattle.kp_cycle.specs.inner.Latches.{IsLatched, OfLatch, latch_for, latched};
+ghost use Rattle.kp_cycle.specs.inner.Storage.{Fits, FitsBelow, PortReady, port_from, port_noted};
 
+use crate::latches::Latch;
 use crate::memory::{Memory, fill_regs};
 use kp_net::{Netlist, WritePort};
 
 /// The end of a cycle: in a netlist with a reset that is raised each register gets its start value; else registers
 /// and files are updated from the values of the nodes.
-pub fn clock(net: &Netlist, memory: &mut Memory, rst: bool)
+pub fn clock(net: &Netlist, latches: &[Latch], memory: &mut Memory, rst: bool)
+    requires latches { IsLatched net.now latches.now }
     requires fits { Fits net.now memory.old }
     requires known { FitsBelow net.now.nodes memory.old.nodes (length net.now.nodes) }
     ensures fits { Fits net.now memory.new }
     ensures reset { (net.now.parts.reset && rst) ≡ true → (memory.new.regs ≡ start_regs net.now) × (memory.new.files ≡ memory.old.files) }
-    ensures regs { (net.now.parts.reset && rst) ≡ false → memory.new.regs ≡ regs_from net.now.parts.regs memory.old.nodes }
+    ensures regs { (net.now.parts.reset && rst) ≡ false → (r : ℕ) → r < length net.now.parts.regs
+        → get_or memory.new.regs r 0 ≡ latched memory.old.nodes (get_or memory.old.regs r 0) (latch_for net.now r) }
     ensures files { (net.now.parts.reset && rst) ≡ false → (f : ℕ) → f < length net.now.parts.files
         → get_or memory.new.files f [] ≡ port_from (get_or net.now.parts.files f no_file).port memory.old.nodes (get_or memory.old.files f []) }
     ensures slots { memory.new.slots ≡ memory.old.slots }
@@ -24,24 +28,40 @@ pub fn clock(net: &Netlist, memory: &mut Memory, rst: bool)
     if net.parts().reset && rst {
         fill_regs(net, memory);
     } else {
-        clock_regs(net, memory);
+        clock_regs(net, latches, memory);
         clock_files(net, memory);
     }
 }
 
-// Gives each register the value of its next node.
-fn clock_regs(net: &Netlist, memory: &mut Memory)
-    requires { Fits net.now memory.old }
+// Gives each register its next value.
+fn clock_regs(net: &Netlist, latches: &[Latch], memory: &mut Memory)
+    requires latches { IsLatched net.now latches.now }
+    requires fits { Fits net.now memory.old }
     ensures fits { Fits net.now memory.new }
-    ensures regs { memory.new.regs ≡ regs_from net.now.parts.regs memory.old.nodes }
+    ensures regs { (r : ℕ) → r < length net.now.parts.regs → get_or memory.new.regs r 0 ≡ latched memory.old.nodes (get_or memory.old.regs r 0) (latch_for net.now r) }
     ensures nodes { memory.new.nodes ≡ memory.old.nodes }
     ensures files { memory.new.files ≡ memory.old.files }
     ensures slots { memory.new.slots ≡ memory.old.slots }
 {
-    let regs = net.parts().regs.as_slice();
-    for i in 0..regs.len() {
-        let value = memory.node(regs[i].next.0);
-        memory.set_reg(i as u32, value);
+    let count = net.parts().regs.as_slice().len() as u32;
+    for r in 0..count {
+        latch(memory, r, latches[r as usize]);
+    }
+}
+
+// Gives a register its next value.
+fn latch(memory: &mut Memory, reg: u32, latch: Latch)
+    requires reg { reg < length memory.old.regs }
+    requires ready { OfLatch (λ j. j < length memory.old.nodes) latch }
+    ensures { memory.new ≡ record memory.old { regs = set memory.old.regs reg (latched memory.old.nodes (get_or memory.old.regs reg 0) latch) } }
+{
+    match latch {
+        Latch::Always(next) => memory.set_reg(reg, memory.node(next.0)),
+        Latch::If(test, value) => {
+            if memory.node(test.0) == 1 {
+                memory.set_reg(reg, memory.node(value.0));
+            }
+        }
     }
 }
 
