@@ -1,7 +1,7 @@
 -- Registers take their next values.
-use Rattle.std.proofs.Common.{◌≡◌, ◌==◌, ℕ, Bool, true, false, cond, ◌+◌, ◌<◌, ◌≤◌, List, length, get_or, set, sym, subst, ap, refl, ◌∙◌, arith, ⊎_elim}
+use Rattle.std.proofs.Common.{◌≡◌, ◌==◌, ◌⊎◌, ℕ, Bool, true, false, cond, ◌+◌, ◌<◌, ◌≤◌, List, [], ◌∷◌, ◌++◌, length, get_or, set, inl, inr, sym, subst, ap, refl, ◌∙◌, arith, ⊎_elim}
 use Rattle.std.proofs.lemmas.Bool.{cases_lt, cond_both, eqb-true}
-use Rattle.std.proofs.lemmas.List.{get_or-set_other}
+use Rattle.std.proofs.lemmas.List.{get_or-set_other, get_or_append_left, get_or_push, length_push}
 use Rattle.std.proofs.lemmas.List.Elements.{All-get_or}
 use Rattle.std.proofs.lemmas.Grind.{get_or-set_at}
 use Rattle.kp_bits.specs.Word as bits
@@ -15,11 +15,14 @@ use Rattle.kp_net.specs.Netlist.{Net, Input, State, cells_of}
 use Rattle.kp_net.specs.Parts.{NetOk, RegOk, no_reg}
 use Rattle.kp_net.proofs.Exact.{node_exact, word_has}
 use Rattle.kp_net.proofs.Values.{word_there}
+use Rattle.kp_cycle.specs.declared.latches.Latch.{Latch}
 use Rattle.kp_cycle.specs.declared.latches.Latch.TheVariants.{Always, If}
-use Rattle.kp_cycle.specs.inner.Latches.{is_reg, latch_in, latch_for, OfLatch, latched}
+use Rattle.kp_cycle.specs.declared.latches.Held.{Held}
+use Rattle.kp_cycle.specs.declared.latches.Moved.{Moved}
+use Rattle.kp_cycle.specs.inner.Latches.{is_reg, latch_in, latch_for, OfLatch, latched, no_moved, no_held, IsMoved, IsHeld, IsLatched}
 use Rattle.kp_cycle.specs.inner.Storage.{Stored, Fits, StateFits}
 use Rattle.kp_cycle.proofs.Coding.{cond_value}
-use Rattle.kp_cycle.proofs.Stepping.{reg_held}
+use Rattle.kp_cycle.proofs.Stepping.{same_or_not, reg_held}
 
 -- a node of this kind is this register
 pub reg_is : (o : Kind) (r : ℕ) → is_reg o r ≡ true → o ≡ Reg r
@@ -108,20 +111,180 @@ next_value net input st values r ok fits h known =
     (λ b l is. reg_held net input st b r ok fits l is)
     (get_or net.nodes next.0 no_node).kind refl known
 
--- the registers up to here have their next values, and the others are unchanged
-pub record Clocked (net : Net) (values old new : List ℕ) (i : ℕ) : Type 0 where
-  pub done : (r : ℕ) → r < i → get_or new r 0 ≡ latched values (get_or old r 0) (latch_for net r)
-  pub rest : (r : ℕ) → i ≤ r → get_or new r 0 ≡ get_or old r 0
+-- a register has its next value, from the values of nodes and its old value
+abbrev pub IsNext : Net → List ℕ → List ℕ → List ℕ → ℕ → Type 0
+IsNext net values old new r = get_or new r 0 ≡ latched values (get_or old r 0) (latch_for net r)
 
-pub clocked_more : (net : Net) (values old new : List ℕ) (i : ℕ) → i < length new → Clocked net values old new i
-    → Clocked net values old (set new i (latched values (get_or new i 0) (latch_for net i))) (i + 1)
-clocked_more net values old new i h w =
-    let v : ℕ = latched values (get_or new i 0) (latch_for net i) in
+-- each register has its old value or its next one
+abbrev pub Partly : Net → List ℕ → List ℕ → List ℕ → Type 0
+Partly net values old new = (r : ℕ) → (get_or new r 0 ≡ get_or old r 0) ⊎ IsNext net values old new r
+
+-- register i gets its next value
+module _ (net : Net) (values old new : List ℕ) (i v : ℕ) (h : i < length new) (is : v ≡ latched values (get_or old i 0) (latch_for net i)) where
+  pub next_here : (r : ℕ) → r ≡ i → IsNext net values old (set new i v) r
+  next_here r e = get_or-set_at new i r v 0 e h ∙ is ∙ ap (λ (x : ℕ). latched values (get_or old x 0) (latch_for net x)) (sym e)
+
+  pub next_kept : (r : ℕ) → IsNext net values old new r → IsNext net values old (set new i v) r
+  next_kept r done = same_or_not r i (IsNext net values old (set new i v) r)
+      (λ e. next_here r e)
+      (λ no. get_or-set_other new i r v 0 no ∙ done)
+
+  pub partly_more : Partly net values old new → Partly net values old (set new i v)
+  partly_more part r = same_or_not r i ((get_or (set new i v) r 0 ≡ get_or old r 0) ⊎ IsNext net values old (set new i v) r)
+      (λ e. inr (next_here r e))
+      (λ no. ⊎_elim
+      (λ (still : get_or new r 0 ≡ get_or old r 0). inl (get_or-set_other new i r v 0 no ∙ still))
+      (λ (done : IsNext net values old new r). inr (get_or-set_other new i r v 0 no ∙ done))
+      (part r))
+
+-- the registers of the first entries have their next values, and each other register its old value or its next one
+pub record Moving (net : Net) (values old new : List ℕ) (moved : List Moved) (i : ℕ) : Type 0 where
+  pub part : Partly net values old new
+  pub done : (q : ℕ) → q < i → IsNext net values old new (get_or moved q no_moved).reg
+
+pub record Holding (net : Net) (values old new : List ℕ) (held : List Held) (i : ℕ) : Type 0 where
+  pub part : Partly net values old new
+  pub done : (q : ℕ) → q < i → IsNext net values old new (get_or held q no_held).reg
+
+pub moving_first : (net : Net) (values old : List ℕ) (moved : List Moved) → Moving net values old old moved 0
+moving_first net values old moved = record { part = λ r. inl refl; done = λ q l. absurd (omega arith) }
+
+pub holding_first : (net : Net) (values old new : List ℕ) (held : List Held) → Partly net values old new → Holding net values old new held 0
+holding_first net values old new held part = record { part = part; done = λ q l. absurd (omega arith) }
+
+pub moving_more : (net : Net) (values old new : List ℕ) (n : ℕ) (moved : List Moved) (held : List Held) (i : ℕ) → IsLatched net n moved held → i < length moved
+    → (get_or moved i no_moved).reg < length new → Moving net values old new moved i
+    → Moving net values old (set new (get_or moved i no_moved).reg (get_or values (get_or moved i no_moved).next.0 0)) moved (i + 1)
+moving_more net values old new n moved held i is h there w =
+    let x : Moved = get_or moved i no_moved in
+    let v : ℕ = get_or values x.next.0 0 in
+    let own : ℕ = get_or old x.reg 0 in
+    let e : v ≡ latched values own (latch_for net x.reg) = ap (latched values own) (sym ((is.moves i h).1)) in
     record {
-      done = λ r l. ⊎_elim
-          (λ (k : r < i). get_or-set_other new i r v 0 (λ z. omega arith) ∙ w.done r k)
-          (λ (k : i ≤ r). let z : i ≡ r = omega arith in
-          get_or-set_at new i r v 0 (sym z) h ∙ ap (λ (x : ℕ). latched values x (latch_for net i)) (w.rest i (omega arith)) ∙ ap (λ (x : ℕ). latched values (get_or old x 0) (latch_for net x)) z)
-          (cases_lt r i);
-      rest = λ r l. get_or-set_other new i r v 0 (λ z. omega arith) ∙ w.rest r (omega arith);
+      part = partly_more net values old new x.reg v there e w.part;
+      done = λ q l. ⊎_elim
+          (λ (low : q < i). next_kept net values old new x.reg v there e (get_or moved q no_moved).reg (w.done q low))
+          (λ (high : i ≤ q). let z : q ≡ i = omega arith in next_here net values old new x.reg v there e (get_or moved q no_moved).reg (ap (λ (k : ℕ). (get_or moved k no_moved).reg) z))
+          (cases_lt q i);
     }
+
+-- a latch that is used twice
+latched_twice : (values : List ℕ) (own : ℕ) (l : Latch) → latched values (latched values own l) l ≡ latched values own l
+latched_twice values own (Always next) = refl
+latched_twice values own (If test a) =
+    let x : ℕ = get_or values a.0 0 in
+    let on : Bool = get_or values test.0 0 == 1 in
+    elim on as (λ b. cond b x (cond b x own) ≡ cond b x own) [ true ↦ refl | false ↦ refl ]
+
+pub held_next : (net : Net) (n : ℕ) (moved : List Moved) (held : List Held) (values old new : List ℕ) (k : ℕ) → IsLatched net n moved held → k < length held → Partly net values old new
+    → latched values (get_or new (get_or held k no_held).reg 0) (If (get_or held k no_held).test (get_or held k no_held).value)
+    ≡ latched values (get_or old (get_or held k no_held).reg 0) (latch_for net (get_or held k no_held).reg)
+held_next net n moved held values old new k is h part =
+    let x : Held = get_or held k no_held in
+    let l : Latch = latch_for net x.reg in
+    ap (latched values (get_or new x.reg 0)) (sym ((is.holds k h).1))
+    ∙ ⊎_elim
+    (λ (still : get_or new x.reg 0 ≡ get_or old x.reg 0). ap (λ (y : ℕ). latched values y l) still)
+    (λ (done : IsNext net values old new x.reg). ap (λ (y : ℕ). latched values y l) done ∙ latched_twice values (get_or old x.reg 0) l)
+    (part x.reg)
+
+pub holding_more : (net : Net) (values old new : List ℕ) (n : ℕ) (moved : List Moved) (held : List Held) (i : ℕ) → IsLatched net n moved held → i < length held
+    → (get_or held i no_held).reg < length new → Holding net values old new held i
+    → Holding net values old (set new (get_or held i no_held).reg (latched values (get_or new (get_or held i no_held).reg 0) (If (get_or held i no_held).test (get_or held i no_held).value))) held (i + 1)
+holding_more net values old new n moved held i is h there w =
+    let x : Held = get_or held i no_held in
+    let v : ℕ = latched values (get_or new x.reg 0) (If x.test x.value) in
+    let e : v ≡ latched values (get_or old x.reg 0) (latch_for net x.reg) = held_next net n moved held values old new i is h w.part in
+    record {
+      part = partly_more net values old new x.reg v there e w.part;
+      done = λ q l. ⊎_elim
+          (λ (low : q < i). next_kept net values old new x.reg v there e (get_or held q no_held).reg (w.done q low))
+          (λ (high : i ≤ q). let z : q ≡ i = omega arith in next_here net values old new x.reg v there e (get_or held q no_held).reg (ap (λ (k : ℕ). (get_or held k no_held).reg) z))
+          (cases_lt q i);
+    }
+
+-- entries that were moved stay so while others are held
+pub moved_still : (net : Net) (values old new : List ℕ) (n : ℕ) (moved : List Moved) (held : List Held) (i : ℕ) → IsLatched net n moved held → i < length held
+    → (get_or held i no_held).reg < length new → Holding net values old new held i → Moving net values old new moved (length moved)
+    → Moving net values old (set new (get_or held i no_held).reg (latched values (get_or new (get_or held i no_held).reg 0) (If (get_or held i no_held).test (get_or held i no_held).value))) moved (length moved)
+moved_still net values old new n moved held i is h there w m =
+    let x : Held = get_or held i no_held in
+    let v : ℕ = latched values (get_or new x.reg 0) (If x.test x.value) in
+    let e : v ≡ latched values (get_or old x.reg 0) (latch_for net x.reg) = held_next net n moved held values old new i is h w.part in
+    record {
+      part = partly_more net values old new x.reg v there e m.part;
+      done = λ q l. next_kept net values old new x.reg v there e (get_or moved q no_moved).reg (m.done q l);
+    }
+
+-- one entry more
+moved_kept : (moved : List Moved) (x : Moved) (r : ℕ) → IsMoved moved r → IsMoved (moved ++ x ∷ []) r
+moved_kept moved x r m = let l = m.1 in (m.0, omega (arith, l, length_push moved x), ap (λ (y : Moved). y.reg) (get_or_append_left moved (x ∷ []) no_moved m.0 (omega (arith, l))) ∙ m.2)
+
+held_kept : (held : List Held) (x : Held) (r : ℕ) → IsHeld held r → IsHeld (held ++ x ∷ []) r
+held_kept held x r m = let l = m.1 in (m.0, omega (arith, l, length_push held x), ap (λ (y : Held). y.reg) (get_or_append_left held (x ∷ []) no_held m.0 (omega (arith, l))) ∙ m.2)
+
+pub latched_moved : (net : Net) (n : ℕ) (moved : List Moved) (held : List Held) (x : Moved) → x.reg ≡ n → n < length net.parts.regs → latch_for net n ≡ Always x.next → IsLatched net n moved held
+    → IsLatched net (n + 1) (moved ++ x ∷ []) held
+latched_moved net n moved held x e h latch old =
+    let P : Moved → Type 0 = λ m. (m.reg < length net.parts.regs) × (latch_for net m.reg ≡ Always m.next) in
+    record {
+      moves = λ k l. ⊎_elim
+          (λ (low : k < length moved). subst P (sym (get_or_append_left moved (x ∷ []) no_moved k low)) (old.moves k low))
+          (λ (high : length moved ≤ k). subst P (sym (get_or_push moved x no_moved k (omega (arith, l, high, length_push moved x)))) (omega (arith, e, h), ap (latch_for net) e ∙ latch))
+          (cases_lt k (length moved));
+      holds = old.holds;
+      each = λ r l. ⊎_elim
+          (λ (low : r < n). ⊎_elim (λ (m : IsMoved moved r). inl (moved_kept moved x r m)) (λ (m : IsHeld held r). inr m) (old.each r low))
+          (λ (high : n ≤ r). let z : n ≡ r = omega arith in
+          inl (length moved, omega (arith, length_push moved x), ap (λ (m : Moved). m.reg) (get_or_push moved x no_moved (length moved) refl) ∙ e ∙ z))
+          (cases_lt r n);
+    }
+
+pub latched_held : (net : Net) (n : ℕ) (moved : List Moved) (held : List Held) (x : Held) → x.reg ≡ n → n < length net.parts.regs → latch_for net n ≡ If x.test x.value → IsLatched net n moved held
+    → IsLatched net (n + 1) moved (held ++ x ∷ [])
+latched_held net n moved held x e h latch old =
+    let P : Held → Type 0 = λ m. (m.reg < length net.parts.regs) × (latch_for net m.reg ≡ If m.test m.value) in
+    record {
+      moves = old.moves;
+      holds = λ k l. ⊎_elim
+          (λ (low : k < length held). subst P (sym (get_or_append_left held (x ∷ []) no_held k low)) (old.holds k low))
+          (λ (high : length held ≤ k). subst P (sym (get_or_push held x no_held k (omega (arith, l, high, length_push held x)))) (omega (arith, e, h), ap (latch_for net) e ∙ latch))
+          (cases_lt k (length held));
+      each = λ r l. ⊎_elim
+          (λ (low : r < n). ⊎_elim (λ (m : IsMoved moved r). inl m) (λ (m : IsHeld held r). inr (held_kept held x r m)) (old.each r low))
+          (λ (high : n ≤ r). let z : n ≡ r = omega arith in
+          inr (length held, omega (arith, length_push held x), ap (λ (m : Held). m.reg) (get_or_push held x no_held (length held) refl) ∙ e ∙ z))
+          (cases_lt r n);
+    }
+
+-- before the first entry
+pub latched_first : (net : Net) → IsLatched net 0 [] []
+latched_first net = record { moves = λ k l. absurd (omega arith); holds = λ k l. absurd (omega arith); each = λ r l. absurd (omega arith) }
+
+-- the nodes of an entry
+pub moved_inside : (net : Net) (n : ℕ) (moved : List Moved) (held : List Held) (m : Stored) (k : ℕ) → Fits net m → IsLatched net n moved held → k < length moved
+    → (get_or moved k no_moved).next.0 < length m.nodes
+moved_inside net n moved held m k fits is h =
+    let x = is.moves k h in subst (OfLatch (λ j. j < length m.nodes)) x.1 (latch_ready net m (get_or moved k no_moved).reg fits x.0)
+
+pub held_inside : (net : Net) (n : ℕ) (moved : List Moved) (held : List Held) (m : Stored) (k : ℕ) → Fits net m → IsLatched net n moved held → k < length held
+    → ((get_or held k no_held).test.0 < length m.nodes) × ((get_or held k no_held).value.0 < length m.nodes)
+held_inside net n moved held m k fits is h =
+    let x = is.holds k h in subst (OfLatch (λ j. j < length m.nodes)) x.1 (latch_ready net m (get_or held k no_held).reg fits x.0)
+
+-- the register of an entry
+pub moved_reg : (net : Net) (n : ℕ) (moved : List Moved) (held : List Held) (m : Stored) (k : ℕ) → Fits net m → IsLatched net n moved held → k < length moved
+    → (get_or moved k no_moved).reg < length m.regs
+moved_reg net n moved held m k fits is h = let x = (is.moves k h).0 in omega (arith, x, fits.regs)
+
+pub held_reg : (net : Net) (n : ℕ) (moved : List Moved) (held : List Held) (m : Stored) (k : ℕ) → Fits net m → IsLatched net n moved held → k < length held
+    → (get_or held k no_held).reg < length m.regs
+held_reg net n moved held m k fits is h = let x = (is.holds k h).0 in omega (arith, x, fits.regs)
+
+-- every register has its next value once all entries have
+pub all_next : (net : Net) (n : ℕ) (moved : List Moved) (held : List Held) (values old new : List ℕ) (r : ℕ) → IsLatched net n moved held
+    → Moving net values old new moved (length moved) → Holding net values old new held (length held) → r < n → IsNext net values old new r
+all_next net n moved held values old new r is m h l = ⊎_elim
+    (λ (a : IsMoved moved r). subst (IsNext net values old new) a.2 (m.done a.0 a.1))
+    (λ (a : IsHeld held r). subst (IsNext net values old new) a.2 (h.done a.0 a.1))
+    (is.each r l)

@@ -1,6 +1,6 @@
 //! How registers get their next values at the end of a cycle.
-ghost use Rattle.std.specs.Prelude.{◌≡◌, ◌<◌, ℕ, length, get_or, IfOk};
-ghost use Rattle.kp_cycle.specs.inner.Latches.{is_reg, latch_for, no_latch};
+ghost use Rattle.std.specs.Prelude.{◌≡◌, ◌+◌, ◌<◌, length, IfOk};
+ghost use Rattle.kp_cycle.specs.inner.Latches.{is_reg, latch_for, IsLatched};
 
 use kp_base::NoMemory;
 use kp_net::{Kind, Netlist, NodeId};
@@ -16,17 +16,58 @@ pub enum Latch {
     If(NodeId, NodeId),
 }
 
-/// The latches of all registers, in their order.
-pub fn latches_of(alloc: Global, net: &Netlist) -> Result<Vec<Latch>, NoMemory>
-    ensures count { IfOk result (λ latches. length latches.items ≡ length net.now.parts.regs) }
-    ensures all { IfOk result (λ latches. (r : ℕ) → r < length net.now.parts.regs → get_or latches.items r no_latch ≡ latch_for net.now r) }
+/// A register that takes the value of a node in each cycle.
+#[derive(Clone, Copy, Debug)]
+pub struct Moved {
+    pub reg: u32,
+    pub next: NodeId,
+}
+
+/// A register that takes the value of a node if that of `test` is 1, and else keeps its own.
+#[derive(Clone, Copy, Debug)]
+pub struct Held {
+    pub reg: u32,
+    pub test: NodeId,
+    pub value: NodeId,
+}
+
+/// The latches of all registers, by their kind.
+#[derive(Debug, Drop)]
+pub struct Latches {
+    pub moved: Vec<Moved>,
+    pub held: Vec<Held>,
+}
+
+/// The latches of all registers.
+pub fn latches_of(alloc: Global, net: &Netlist) -> Result<Latches, NoMemory>
+    ensures { IfOk result (λ latches. IsLatched net.now (length net.now.parts.regs) latches.moved.items latches.held.items) }
 {
-    let count = net.parts().regs.as_slice().len();
-    let mut latches = Vec::with_capacity(alloc, count)?;
+    let mut latches = Latches {
+        moved: Vec::new(alloc),
+        held: Vec::new(alloc),
+    };
+    let count = net.parts().regs.as_slice().len() as u32;
     for r in 0..count {
-        latches.push(latch_of(net, r))?;
+        add_latch(net, r, &mut latches)?;
     }
     Ok(latches)
+}
+
+// Appends the latch of a register.
+fn add_latch(net: &Netlist, r: u32, latches: &mut Latches) -> Result<(), NoMemory>
+    requires inside { r < length net.now.parts.regs }
+    requires latched { IsLatched net.now r latches.old.moved.items latches.old.held.items }
+    ensures { IfOk result (λ _. IsLatched net.now (r + 1) latches.new.moved.items latches.new.held.items) }
+{
+    match latch_of(net, r as usize) {
+        Latch::Always(next) => latches.moved.push(Moved { reg: r, next })?,
+        Latch::If(test, value) => latches.held.push(Held {
+            reg: r,
+            test,
+            value,
+        })?,
+    }
+    Ok(())
 }
 
 /// The latch of a register.

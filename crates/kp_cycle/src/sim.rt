@@ -11,7 +11,7 @@ ghost use Rattle.kp_cycle.specs.inner.Storage.{Fits, FitsBelow, StateFits, state
 
 use crate::clock::{clock, note_writes};
 use crate::codes::Step;
-use crate::latches::{Latch, latches_of};
+use crate::latches::{Latches, latches_of};
 use crate::memory::Memory;
 use crate::nodes::{put_constants, settle, word};
 use crate::plan::{heads_of, plan};
@@ -28,7 +28,7 @@ pub struct Sim<'n> {
     heads: u32,
     steps: Vec<Step>,
     fixed: usize,
-    latches: Vec<Latch>,
+    latches: Latches,
     memory: Memory,
 }
 
@@ -43,7 +43,7 @@ impl<'n> Model for Sim<'n> {
 
     ghost view = { λ s. record { net = s.net.now; state = state_of s.memory; slots = s.memory.slots } };
 
-    ghost invariant = { λ s. Fits s.net.now s.memory × ShowsRows s.net.now × StateFits s.net.now (state_of s.memory) × SlotsFit s.net.now s.memory.slots × IsPlan s.net.now s.heads s.steps.items × FitsBelow s.net.now.nodes s.memory.nodes (length s.net.now.nodes) × AreFixed s.net.now.nodes s.steps.items s.fixed s.memory.nodes × IsLatched s.net.now s.latches.items };
+    ghost invariant = { λ s. Fits s.net.now s.memory × ShowsRows s.net.now × StateFits s.net.now (state_of s.memory) × SlotsFit s.net.now s.memory.slots × IsPlan s.net.now s.heads s.steps.items × FitsBelow s.net.now.nodes s.memory.nodes (length s.net.now.nodes) × AreFixed s.net.now.nodes s.steps.items s.fixed s.memory.nodes × IsLatched s.net.now (length s.net.now.parts.regs) s.latches.moved.items s.latches.held.items };
 }
 
 impl<'n> Sim<'n> {
@@ -106,7 +106,7 @@ impl<'n> Sim<'n> {
             self.heads,
             self.steps.as_slice(),
             self.fixed,
-            self.latches.as_slice(),
+            &self.latches,
             &mut self.memory,
             ext,
             rst,
@@ -135,7 +135,7 @@ impl<'n> Sim<'n> {
             self.heads,
             self.steps.as_slice(),
             self.fixed,
-            self.latches.as_slice(),
+            &self.latches,
             &mut self.memory,
             ext,
             rst,
@@ -213,7 +213,7 @@ fn cycle(
     heads: u32,
     steps: &[Step],
     fixed: usize,
-    latches: &[Latch],
+    latches: &Latches,
     memory: &mut Memory,
     ext: u16,
     rst: bool,
@@ -226,7 +226,7 @@ fn cycle(
     requires widths { StateFits net.now (state_of memory.old) }
     requires samples { length samples.now ≡ length net.now.parts.samples }
     requires fixed { AreFixed net.now.nodes steps.now fixed memory.old.nodes }
-    requires latches { IsLatched net.now latches.now }
+    requires latches { IsLatched net.now (length net.now.parts.regs) latches.now.moved.items latches.now.held.items }
     ensures fixed { AreFixed net.now.nodes steps.now fixed memory.new.nodes }
     ensures widths { StateFits net.now (state_of memory.new) }
     ensures fits { Fits net.now memory.new }

@@ -1,5 +1,5 @@
 -- How registers get their next values at the end of a cycle.
-use Rattle.std.specs.Prelude.{ℕ, ◌<◌, ◌≡◌, ◌==◌, if◌then◌else◌, Bool, false, List, length, get_or}
+use Rattle.std.specs.Prelude.{ℕ, ◌<◌, ◌≡◌, ◌⊎◌, ◌==◌, if◌then◌else◌, Bool, false, List, length, get_or}
 use Rattle.kp_net.specs.declared.node.NodeId.{NodeId}
 use Rattle.kp_net.specs.declared.node.Kind.{Kind}
 use Rattle.kp_net.specs.declared.node.Kind.TheVariants.{Reg, Mux}
@@ -7,12 +7,10 @@ use Rattle.kp_net.specs.declared.node.Node.{Node}
 use Rattle.kp_net.specs.Netlist.{Net}
 use Rattle.kp_net.specs.Parts.{no_reg}
 use Rattle.kp_net.specs.Widths.{no_node}
+use Rattle.kp_cycle.specs.declared.latches.Held.{Held}
 use Rattle.kp_cycle.specs.declared.latches.Latch.{Latch}
 use Rattle.kp_cycle.specs.declared.latches.Latch.TheVariants.{Always, If}
-
--- the default for a latch that doesn't exist
-abbrev pub no_latch : Latch
-no_latch = Always (record { 0 = 0 })
+use Rattle.kp_cycle.specs.declared.latches.Moved.{Moved}
 
 -- whether a node of this kind is this register
 abbrev pub is_reg : Kind → ℕ → Bool
@@ -27,9 +25,27 @@ latch_in ns r next _ = Always next
 abbrev pub latch_for : Net → ℕ → Latch
 latch_for net r = latch_in net.nodes r (get_or net.parts.regs r no_reg).next (get_or net.nodes (get_or net.parts.regs r no_reg).next.0 no_node).kind
 
--- a latch for each register
-abbrev pub IsLatched : Net → List Latch → Type 0
-IsLatched net latches = (length latches ≡ length net.parts.regs) × ((r : ℕ) → r < length net.parts.regs → get_or latches r no_latch ≡ latch_for net r)
+-- the defaults for entries that don't exist
+abbrev pub no_moved : Moved
+no_moved = record { reg = 0; next = record { 0 = 0 } }
+
+abbrev pub no_held : Held
+no_held = record { reg = 0; test = record { 0 = 0 }; value = record { 0 = 0 } }
+
+-- register r has an entry
+abbrev pub IsMoved : List Moved → ℕ → Type 0
+IsMoved moved r = (k : ℕ) × (k < length moved) × ((get_or moved k no_moved).reg ≡ r)
+
+abbrev pub IsHeld : List Held → ℕ → Type 0
+IsHeld held r = (k : ℕ) × (k < length held) × ((get_or held k no_held).reg ≡ r)
+
+-- each entry is the latch of its register, and each of the first n registers has one
+pub record IsLatched (net : Net) (n : ℕ) (moved : List Moved) (held : List Held) : Type 0 where
+  pub moves : (k : ℕ) → k < length moved
+      → ((get_or moved k no_moved).reg < length net.parts.regs) × (latch_for net (get_or moved k no_moved).reg ≡ Always (get_or moved k no_moved).next)
+  pub holds : (k : ℕ) → k < length held
+      → ((get_or held k no_held).reg < length net.parts.regs) × (latch_for net (get_or held k no_held).reg ≡ If (get_or held k no_held).test (get_or held k no_held).value)
+  pub each : (r : ℕ) → r < n → IsMoved moved r ⊎ IsHeld held r
 
 -- this is true of the nodes that a latch reads
 abbrev pub OfLatch : (ℕ → Type 0) → Latch → Type 0

@@ -18,5 +18,5 @@ invariant_of-result c =
       c.in_ok-steps.ensures,
       put.widths,
       subst (λ (steps : List Step). AreFixed net.nodes steps c.put_constants-fixed.result m.nodes) c.as_slice.ensures.value put.fixed,
-      (c.in_ok-latches.ensures.count, c.in_ok-latches.ensures.all),
+      c.in_ok-latches.ensures,
     )
