@@ -14,7 +14,7 @@ use Rattle.kp_net.specs.Nodes.{Cells, at, on}
 use Rattle.kp_net.specs.Netlist.{Net, Input, State, start_regs, port_after, files_after, regs_after, resets, state_after, cells_of}
 use Rattle.kp_net.specs.Parts.{NetOk, FileOk, WriteOk, no_reg, no_file}
 use Rattle.kp_cycle.specs.inner.Plans.{OfPort, OfRoots}
-use Rattle.kp_cycle.specs.inner.Storage.{Stored, Fits, FitsBelow, PortReady, regs_from, port_from}
+use Rattle.kp_cycle.specs.inner.Storage.{Stored, Fits, FitsBelow, PortReady, port_from}
 
 pub length_map : {X Y : Type 0} (f : X → Y) (xs : List X) → length (map f xs) ≡ length xs
 length_map f [] = refl
@@ -23,21 +23,6 @@ length_map f (x ∷ xs) = ap (λ n. suc n) (length_map f xs)
 -- lists with the same elements
 pub same_elements : {X : Type 0} (xs ys : List X) (d : X) → length xs ≡ length ys → ((k : ℕ) → k < length xs → get_or xs k d ≡ get_or ys k d) → xs ≡ ys
 same_elements xs ys d e f = same_lists xs ys e (λ k d' l. get_or_default xs k d' d l ∙ f k l ∙ get_or_default ys k d d' (omega (arith, e)))
-
--- one more register
-pub reg_more : (regs : List NetReg) (old values : List ℕ) (i v : ℕ) → i < length old → v ≡ get_or values (get_or regs i no_reg).next.0 0
-    → ((j : ℕ) → j < i → get_or old j 0 ≡ get_or values (get_or regs j no_reg).next.0 0)
-    → (j : ℕ) → j < i + 1 → get_or (set old i v) j 0 ≡ get_or values (get_or regs j no_reg).next.0 0
-reg_more regs old values i v h e known j l =
-    ⊎_elim
-    (λ (k : j < i). get_or-set_other old i j v 0 (λ z. omega arith) ∙ known j k)
-    (λ (k : i ≤ j). let z : j ≡ i = omega arith in get_or-set_at old i j v 0 z h ∙ e ∙ ap (λ (x : ℕ). get_or values (get_or regs x no_reg).next.0 0) (sym z))
-    (cases_lt j i)
-
-pub regs_all : (regs : List NetReg) (new values : List ℕ) → length new ≡ length regs → ((j : ℕ) → j < length regs → get_or new j 0 ≡ get_or values (get_or regs j no_reg).next.0 0) → new ≡ regs_from regs values
-regs_all regs new values e known =
-    let f : NetReg → ℕ = λ r. get_or values r.next.0 0 in
-    same_elements new (map f regs) 0 (e ∙ sym (length_map f regs)) (λ k l. known k (omega (arith, e)) ∙ sym (get_or-map f regs k no_reg 0 (omega (arith, e))))
 
 pub fits_reg : (net : Net) (m : Stored) (i v : ℕ) → Fits net m → Fits net (record m { regs = set m.regs i v })
 fits_reg net m i v h = record { right = h.right; nodes = h.nodes; regs = length-set m.regs i v ∙ h.regs; files = h.files; words = h.words }
@@ -104,14 +89,15 @@ port_same c ns values (Some p) words known =
 -- all registers and files together
 pub state_is : (net : Net) (input : Input) (st : State) (values regs : List ℕ) (files : List (List ℕ)) → NetOk net → resets net input ≡ false → length st.files ≡ length net.parts.files → length files ≡ length net.parts.files
     → OfRoots net (λ j. get_or values j 0 ≡ at (cells_of input st) net.nodes j)
-    → regs ≡ regs_from net.parts.regs values
+    → length regs ≡ length net.parts.regs
+    → ((r : ℕ) → r < length net.parts.regs → get_or regs r 0 ≡ at (cells_of input st) net.nodes (get_or net.parts.regs r no_reg).next.0)
     → ((f : ℕ) → f < length net.parts.files → get_or files f [] ≡ port_from (get_or net.parts.files f no_file).port values (get_or st.files f []))
     → record { regs = regs; files = files } ≡ state_after net input st
-state_is net input st values regs files ok off e l known r w =
+state_is net input st values regs files ok off e l known many r w =
     let c : Cells = cells_of input st in
-    let rs : regs ≡ regs_after net c = r ∙ same_elements _ _ 0 (length_map (λ (x : NetReg). get_or values x.next.0 0) net.parts.regs ∙ sym (length_map (λ (x : NetReg). at c net.nodes x.next.0) net.parts.regs))
-    (λ k h. let h' : k < length net.parts.regs = omega (arith, length_map (λ (x : NetReg). get_or values x.next.0 0) net.parts.regs) in
-    get_or-map (λ (x : NetReg). get_or values x.next.0 0) net.parts.regs k no_reg 0 h' ∙ known.regs k h' ∙ sym (get_or-map (λ (x : NetReg). at c net.nodes x.next.0) net.parts.regs k no_reg 0 h')) in
+    let next : NetReg → ℕ = λ x. at c net.nodes x.next.0 in
+    let rs : regs ≡ regs_after net c = same_elements regs (map next net.parts.regs) 0 (many ∙ sym (length_map next net.parts.regs))
+    (λ k h. let h' : k < length net.parts.regs = omega (arith, many) in r k h' ∙ sym (get_or-map next net.parts.regs k no_reg 0 h')) in
     let g : NetFile × List ℕ → List ℕ = λ p. port_after c net.nodes p.0.port p.1 in
     let lz : length (zip net.parts.files st.files) ≡ length net.parts.files = omega (arith, length-zip net.parts.files st.files, e) in
     let fs : files ≡ files_after net c st.files = same_elements _ _ [] (l ∙ sym lz ∙ sym (length_map g (zip net.parts.files st.files)))

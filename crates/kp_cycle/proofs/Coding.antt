@@ -80,7 +80,7 @@ shr_number w a b h =
 slice_number : (x k lo : ℕ) → lo < 64 → bit_and (x / 2 ^ bit_and lo 63) (2 ^ k - 1) ≡ x / 2 ^ lo % 2 ^ k
 slice_number x k lo h = ones (x / 2 ^ bit_and lo 63) k ∙ ap (λ j. x / 2 ^ j % 2 ^ k) (low_six lo h)
 
-cond_value : (b : Bool) (x y : Word) → cond b x.value y.value ≡ (cond b x y).value
+pub cond_value : (b : Bool) (x y : Word) → cond b x.value y.value ≡ (cond b x y).value
 cond_value true x y = refl
 cond_value false x y = refl
 
@@ -124,7 +124,7 @@ module _ (c : Cells) (ns : List Node) (v : List ℕ) (m k plain : ℕ) (small : 
   joined (a ∷ (b ∷ (d ∷ (f ∷ rest)))) ok e = refl
 
   kinds : (o : Kind) → KindOk ns m k o → (is_cell o ≡ false → plain ≡ (word_of_kind c (seen ns v) k o).value) → number_of v plain (kind_op ns k (2 ^ k - 1) o) ≡ plain
-  kinds (Const n) ok e = sym (e refl)
+  kinds (Const n) ok e = refl
   kinds Ext ok e = refl
   kinds (Sample s) ok e = refl
   kinds (Reg r) ok e = refl

@@ -2,6 +2,7 @@ pub mod Clocking
 pub mod Coding
 pub mod Copies
 pub mod Counter
+pub mod Latching
 pub mod Marking
 pub mod Noting
 pub mod Reached

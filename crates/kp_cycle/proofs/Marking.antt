@@ -10,12 +10,15 @@ use Rattle.kp_net.specs.declared.node.NodeId.{NodeId}
 use Rattle.kp_net.specs.declared.node.Kind.{Kind}
 use Rattle.kp_net.specs.declared.node.Kind.TheVariants.{Const, Ext, Sample, Reg, Word, Not, Binary, Mux, Concat, Slice}
 use Rattle.kp_net.specs.declared.node.Node.{Node}
+use Rattle.kp_net.specs.declared.netlist.Parts.{Parts}
 use Rattle.kp_net.specs.Netlist.{Net}
+use Rattle.kp_net.specs.Parts.{NetOk, no_file}
 use Rattle.kp_net.specs.Widths.{no_node, AllRight, KindOk}
-use Rattle.kp_cycle.specs.inner.Plans.{reads, reads_at, IsMarked, Grows, Among, IsKnown, Leads, IsOrdered, OfRoots, Needed, Taken, IsPlan, HasCode, targets, step_for, by_node, no_step}
+use Rattle.kp_cycle.specs.inner.Latches.{latch_for, OfLatch}
+use Rattle.kp_cycle.specs.inner.Plans.{reads, reads_at, IsMarked, Grows, Among, IsKnown, Leads, IsOrdered, OfPort, OfRoots, Needed, Taken, IsPlan, HasCode, targets, step_for, by_node, no_step}
 use Rattle.kp_cycle.specs.declared.codes.Step.{Step}
 use Rattle.kp_cycle.proofs.Clocking.{length_map}
-use Rattle.kp_cycle.proofs.Stepping.{same_or_not, roots_are}
+use Rattle.kp_cycle.proofs.Stepping.{same_or_not, port_is, latch_is, roots_are}
 
 -- one mark more
 pub marked_here : (marks : List Bool) (a j : ℕ) → j ≡ a → a < length marks → IsMarked (set marks a true) j
@@ -124,6 +127,34 @@ listed_skip ns heads marks i ts off old = (
       (λ (high : i ≤ j). let e : j ≡ i = omega arith in absurd (true≢false (sym m ∙ ap (λ (x : ℕ). get_or marks x false) e ∙ off)))
       (cases_lt j i),
 )
+
+-- the nodes of the outputs are marked after those of registers and ports
+pub roots_marked : (net : Net) (marks : List Bool) (parts : Parts) → parts ≡ net.parts → NetOk net → length marks ≡ length net.nodes
+    → ((r : ℕ) → r < length net.parts.regs → OfLatch (IsMarked marks) (latch_for net r))
+    → ((f : ℕ) → f < length net.parts.files → OfPort (IsMarked marks) (get_or net.parts.files f no_file).port)
+    → OfRoots net (IsMarked (set (set (set marks parts.full.0 true) parts.ue.0 true) parts.back.0 true))
+roots_marked net marks parts e ok many regs files =
+    let a : List Bool = set marks parts.full.0 true in
+    let b : List Bool = set a parts.ue.0 true in
+    let d : List Bool = set b parts.back.0 true in
+    let full : parts.full.0 ≡ net.parts.full.0 = ap (λ (p : Parts). p.full.0) e in
+    let ue : parts.ue.0 ≡ net.parts.ue.0 = ap (λ (p : Parts). p.ue.0) e in
+    let back : parts.back.0 ≡ net.parts.back.0 = ap (λ (p : Parts). p.back.0) e in
+    let la : length a ≡ length marks = length-set marks parts.full.0 true in
+    let lb : length b ≡ length a = length-set a parts.ue.0 true in
+    let at_full : parts.full.0 < length marks = omega (arith, ok.parts.full, full, many) in
+    let at_ue : parts.ue.0 < length a = omega (arith, ok.parts.ue, ue, many, la) in
+    let at_back : parts.back.0 < length b = omega (arith, ok.parts.back, back, many, la, lb) in
+    let last : (j : ℕ) → IsMarked b j → IsMarked d j = λ j h. marked_still b parts.back.0 j at_back h in
+    let more : (j : ℕ) → IsMarked a j → IsMarked d j = λ j h. last j (marked_still a parts.ue.0 j at_ue h) in
+    let kept : (j : ℕ) → IsMarked marks j → IsMarked d j = λ j h. more j (marked_still marks parts.full.0 j at_full h) in
+    record {
+      full = more net.parts.full.0 (marked_here marks parts.full.0 net.parts.full.0 (sym full) at_full);
+      ue = last net.parts.ue.0 (marked_here a parts.ue.0 net.parts.ue.0 (sym ue) at_ue);
+      back = marked_here b parts.back.0 net.parts.back.0 (sym back) at_back;
+      regs = λ r l. latch_is (IsMarked marks) (IsMarked d) (latch_for net r) kept (regs r l);
+      files = λ f l. port_is (IsMarked marks) (IsMarked d) (get_or net.parts.files f no_file).port kept (files f l);
+    }
 
 -- what is needed, one node further down
 pub needed_more : (net : Net) (i : ℕ) (marks new : List Bool) → AllRight net.nodes → i < length net.nodes → Grows marks new → All (λ a. IsMarked new a.0) (reads_at net.nodes i)

@@ -13,16 +13,19 @@ use Rattle.kp_net.specs.declared.node.Kind.{Kind}
 use Rattle.kp_net.specs.declared.node.Kind.TheVariants.{Const, Ext, Sample, Reg, Word, Not, Binary, Mux, Concat, Slice}
 use Rattle.kp_net.specs.declared.node.Node.{Node}
 use Rattle.kp_net.specs.Nodes.{Cells, Words, word_of_kind, word_of_node, word_at, at}
-use Rattle.kp_net.specs.Widths.{wide, no_node, AllRight}
+use Rattle.kp_net.specs.Widths.{wide, no_node, KindOk, AllRight}
 use Rattle.kp_net.specs.declared.netlist.WritePort.{WritePort}
-use Rattle.kp_net.specs.Netlist.{Net, Input}
-use Rattle.kp_net.specs.Parts.{CellOk, NetOk, no_reg, no_file}
+use Rattle.kp_net.specs.Netlist.{Net, Input, State, cells_of}
+use Rattle.kp_net.specs.Parts.{CellOk, NetOk, no_file}
 use Rattle.kp_net.proofs.Values.{word_there, word_is, at_fits}
 use Rattle.kp_cycle.specs.declared.codes.Op.{Op}
 use Rattle.kp_cycle.specs.declared.codes.Op.TheVariants.{Plain}
 use Rattle.kp_cycle.specs.declared.codes.Step.{Step}
 use Rattle.kp_cycle.specs.inner.Codes.{op_for, number_of, IsReady}
-use Rattle.kp_cycle.specs.inner.Plans.{reads, reads_at, Among, IsKnown, OfPort, OfRoots, IsPlan, Settled, no_step, targets}
+use Rattle.kp_cycle.specs.declared.latches.Latch.{Latch}
+use Rattle.kp_cycle.specs.declared.latches.Latch.TheVariants.{Always, If}
+use Rattle.kp_cycle.specs.inner.Latches.{latch_for, OfLatch}
+use Rattle.kp_cycle.specs.inner.Plans.{reads, reads_at, Among, IsKnown, OfPort, OfRoots, AreFixed, IsPlan, Settled, no_step, targets}
 use Rattle.kp_cycle.specs.inner.Storage.{Stored, Fits, FitsBelow, StateFits, cells, seen, state_of}
 use Rattle.kp_cycle.proofs.Clocking.{length_map}
 use Rattle.kp_cycle.proofs.Coding.{coded, ready}
@@ -175,12 +178,16 @@ pub port_is : (P Q : ℕ → Type 0) (port : Option WritePort) → ((j : ℕ) �
 port_is P Q None f h = tt
 port_is P Q (Some p) f h = (f p.enable.0 h.0, f p.address.0 h.1, f p.value.0 h.2)
 
+pub latch_is : (P Q : ℕ → Type 0) (latch : Latch) → ((j : ℕ) → P j → Q j) → OfLatch P latch → OfLatch Q latch
+latch_is P Q (Always next) f h = f next.0 h
+latch_is P Q (If test a) f h = (f test.0 h.0, f a.0 h.1)
+
 pub roots_are : (net : Net) (P Q : ℕ → Type 0) → ((j : ℕ) → P j → Q j) → OfRoots net P → OfRoots net Q
 roots_are net P Q f h = record {
   full = f net.parts.full.0 h.full;
   ue = f net.parts.ue.0 h.ue;
   back = f net.parts.back.0 h.back;
-  regs = λ r l. f (get_or net.parts.regs r no_reg).next.0 (h.regs r l);
+  regs = λ r l. latch_is P Q (latch_for net r) f (h.regs r l);
   files = λ i l. port_is P Q (get_or net.parts.files i no_file).port f (h.files i l);
 }
 
@@ -203,20 +210,43 @@ reg_value c ns v j r right h is fits =
     ∙ ap (λ (o : Kind). (word_of_kind c (seen ns v) n.width o).value % 2 ^ n.width) (sym is)
     ∙ step_value c ns v j right h none
 
--- the registers were copied to the first nodes, and no step has been evaluated
-pub none_settled : (net : Net) (input : Input) (heads : ℕ) (steps : List Step) (old : List ℕ) (m : Stored) → IsPlan net heads steps → Fits net m → StateFits net (state_of m)
-    → FitsBelow net.nodes old (length net.nodes)
+pub reg_held : (net : Net) (input : Input) (st : State) (j r : ℕ) → NetOk net → StateFits net st → j < length net.nodes → (get_or net.nodes j no_node).kind ≡ Reg r
+    → get_or st.regs r 0 ≡ at (cells_of input st) net.nodes j
+reg_held net input st j r ok fits h is =
+    let P : Kind → Type 0 = CellOk net.nodes net.parts (get_or net.nodes j no_node).width in
+    let cell = subst P is (ok.parts.cells j h) in
+    let Q : ℕ → Type 0 = λ w. get_or st.regs r 0 < 2 ^ w in
+    reg_value (cells_of input st) net.nodes [] j r ok.right h is (subst Q cell.1 (fits.regs r cell.0))
+
+-- a constant has its value
+pub const_fits : (ns : List Node) (j n : ℕ) → AllRight ns → j < length ns → (get_or ns j no_node).kind ≡ Const n → n < 2 ^ wide ns j
+unfolding wide
+const_fits ns j n right h is = let P : Kind → Type 0 = KindOk ns j (get_or ns j no_node).width in subst P is (right j h).kind
+
+const_value : (c : Cells) (ns : List Node) (j n : ℕ) → AllRight ns → j < length ns → (get_or ns j no_node).kind ≡ Const n → n ≡ at c ns j
+unfolding wide
+const_value c ns j n right h is =
+    let x : Node = get_or ns j no_node in
+    let none : All (λ a. HasValue c ns [] a.0) (reads_at ns j) =
+    (let P : Kind → Type 0 = λ o. All (λ (a : NodeId). HasValue c ns [] a.0) (reads o) in subst P (sym is) (λ q d l. absurd (omega arith))) in
+    sym (mod-eq_of_lt (const_fits ns j n right h is))
+    ∙ ap (λ (o : Kind). (word_of_kind c (seen ns []) x.width o).value % 2 ^ x.width) (sym is)
+    ∙ step_value c ns [] j right h none
+
+-- the target of step q of a plan is a node
+target_there : (net : Net) (heads : ℕ) (steps : List Step) (q : ℕ) → IsPlan net heads steps → q < length steps → get_or (targets steps) q 0 < length net.nodes
+target_there net heads steps q plan h = plan.ordered.inside q (omega (arith, h, length_map (λ (s : Step). s.target) steps))
+
+-- the registers were copied to the first nodes, and only the steps of constants have been evaluated
+pub fixed_settled : (net : Net) (input : Input) (heads : ℕ) (steps : List Step) (fixed : ℕ) (old : List ℕ) (m : Stored) → IsPlan net heads steps → Fits net m → StateFits net (state_of m)
+    → FitsBelow net.nodes old (length net.nodes) → AreFixed net.nodes steps fixed old
     → ((j : ℕ) → j < heads → get_or m.nodes j 0 ≡ get_or m.regs j 0) → ((j : ℕ) → heads ≤ j → get_or m.nodes j 0 ≡ get_or old j 0)
-    → Settled net input heads steps 0 m
-none_settled net input heads steps old m plan fits state widths shown others =
+    → Settled net input heads steps fixed m
+fixed_settled net input heads steps fixed old m plan fits state widths are shown others =
     let c : Cells = cells input m in
     let ns : List Node = net.nodes in
     let value : (j : ℕ) → j < heads → get_or m.nodes j 0 ≡ at c ns j =
-    λ j l. let h : j < length ns = omega (arith, l, plan.ordered.heads) in
-    let P : Kind → Type 0 = CellOk ns net.parts (get_or ns j no_node).width in
-    let cell = subst P (plan.leads j l) (fits.right.parts.cells j h) in
-    let Q : ℕ → Type 0 = λ w. get_or m.regs j 0 < 2 ^ w in
-    shown j l ∙ reg_value c ns m.nodes j j fits.right.right h (plan.leads j l) (subst Q cell.1 (state.regs j cell.0)) in
+    λ j l. shown j l ∙ reg_held net input (state_of m) j j fits.right state (omega (arith, l, plan.ordered.heads)) (plan.leads j l) in
     record {
       widths = λ j h. let P : ℕ → Type 0 = λ x. x < 2 ^ wide ns j in
           ⊎_elim
@@ -224,8 +254,44 @@ none_settled net input heads steps old m plan fits state widths shown others =
           (λ (l : heads ≤ j). subst P (sym (others j l)) (widths j h))
           (cases_lt j heads);
       leads = value;
-      known = λ q l. absurd (omega arith);
+      known = λ q l. let j : ℕ = get_or (targets steps) q 0 in let few = are.0 in
+          ⊎_elim
+          (λ (first : j < heads). value j first)
+          (λ (rest : heads ≤ j). others j rest ∙ const_value c ns j (get_or old j 0) fits.right.right (target_there net heads steps q plan (omega (arith, few))) (are.1 q l))
+          (cases_lt j heads);
     }
+
+-- and they still have their values at the end of the cycle
+pub still_fixed : (net : Net) (input : Input) (heads : ℕ) (steps : List Step) (fixed : ℕ) (old : List ℕ) (m : Stored) → NetOk net → IsPlan net heads steps
+    → AreFixed net.nodes steps fixed old → Settled net input heads steps (length steps) m → AreFixed net.nodes steps fixed m.nodes
+still_fixed net input heads steps fixed old m ok plan are settled = let few = are.0 in (
+  few,
+  λ q l. let j : ℕ = get_or (targets steps) q 0 in
+      are.1 q l ∙ ap (λ (n : ℕ). Const n)
+      (const_value (cells input m) net.nodes j (get_or old j 0) ok.right (target_there net heads steps q plan (omega (arith, few))) (are.1 q l)
+      ∙ sym (settled.known q (omega (arith, few)))),
+)
+
+-- one constant more has its value
+pub fixed_more : (net : Net) (heads : ℕ) (steps : List Step) (k t v : ℕ) (values : List ℕ) → IsPlan net heads steps → k < length steps → t ≡ get_or (targets steps) k 0 → t < length values
+    → (get_or net.nodes t no_node).kind ≡ Const v → AreFixed net.nodes steps k values → AreFixed net.nodes steps (k + 1) (set values t v)
+fixed_more net heads steps k t v values plan h e there is old = (
+  omega (arith, h),
+  λ q l. let j : ℕ = get_or (targets steps) q 0 in
+      same_or_not j t ((get_or net.nodes j no_node).kind ≡ Const (get_or (set values t v) j 0))
+      (λ same. ap (λ (i : ℕ). (get_or net.nodes i no_node).kind) same ∙ is ∙ ap (λ (n : ℕ). Const n) (sym (get_or-set_at values t j v 0 same there)))
+      (λ no. ⊎_elim
+      (λ (below : q < k). old.1 q below ∙ ap (λ (n : ℕ). Const n) (sym (get_or-set_other values t j v 0 no)))
+      (λ (above : k ≤ q). let z : q ≡ k = omega arith in absurd (no (ap (λ (i : ℕ). get_or (targets steps) i 0) z ∙ sym e)))
+      (cases_lt q k)),
+)
+
+pub widths_more : (ns : List Node) (values : List ℕ) (t v : ℕ) → t < length values → v < 2 ^ wide ns t → FitsBelow ns values (length ns) → FitsBelow ns (set values t v) (length ns)
+widths_more ns values t v there fits old j l =
+    let P : ℕ → ℕ → Type 0 = λ i x. x < 2 ^ wide ns i in
+    same_or_not j t (P j (get_or (set values t v) j 0))
+    (λ same. subst (P j) (sym (get_or-set_at values t j v 0 same there)) (subst (λ (i : ℕ). P i v) (sym same) fits))
+    (λ no. subst (P j) (sym (get_or-set_other values t j v 0 no)) (old j l))
 
 -- the values of nodes by another name
 pub settled_as : (net : Net) (input : Input) (heads : ℕ) (steps : List Step) (k : ℕ) (m : Stored) (values : List ℕ) → values ≡ m.nodes → Settled net input heads steps k m → Settled net input heads steps k (record m { nodes = values })

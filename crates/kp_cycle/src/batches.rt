@@ -17,8 +17,6 @@ trait Batch {
         ensures { (plain x : ℕ) → result ≡ Some x → x ≡ number_of nodes.now plain op.now };
 }
 
-struct Number;
-
 struct Not;
 
 struct And;
@@ -48,13 +46,6 @@ struct Join;
 struct Join3;
 
 struct Slice;
-
-impl Batch for Number {
-    fn value(op: &Op, nodes: &[u64]) -> Option<u64> {
-        let Op::Number(number) = op else { return None };
-        Some(*number)
-    }
-}
 
 impl Batch for Not {
     fn value(op: &Op, nodes: &[u64]) -> Option<u64> {
@@ -207,7 +198,6 @@ pub fn take_batch(
     ensures settled { (input : Input) (m : Stored) → Settled net.now input heads steps.now from (record m { nodes = nodes.old }) → Settled net.now input heads steps.now result (record m { nodes = nodes.new }) }
 {
     match &steps[from].op {
-        Op::Number(_) => take_while::<Number>(net, heads, steps, nodes, from),
         Op::Not(_, _) => take_while::<Not>(net, heads, steps, nodes, from),
         Op::And(_, _) => take_while::<And>(net, heads, steps, nodes, from),
         Op::Or(_, _) => take_while::<Or>(net, heads, steps, nodes, from),

@@ -3,19 +3,24 @@ ghost use Rattle.std.specs.Prelude.{◌≡◌, ◌<◌, ◌≤◌, ◌^◌, ◌&
 ghost use Rattle.kp_net.specs.Netlist.{start_regs};
 ghost use Rattle.kp_net.specs.Parts.{NetOk, no_file};
 ghost use Rattle.kp_net.specs.Widths.{wide};
-ghost use Rattle.kp_cycle.specs.inner.Storage.{Fits, FitsBelow, PortReady, regs_from, port_from, port_noted};
+ghost use Rattle.kp_cycle.specs.declared.latches.Latch.TheVariants.{If};
+ghost use Rattle.kp_cycle.specs.inner.Latches.{IsLatched, latch_for, latched};
+ghost use Rattle.kp_cycle.specs.inner.Storage.{Fits, FitsBelow, PortReady, port_from, port_noted};
 
+use crate::latches::{Held, Latches, Moved};
 use crate::memory::{Memory, fill_regs};
 use kp_net::{Netlist, WritePort};
 
 /// The end of a cycle: in a netlist with a reset that is raised each register gets its start value; else registers
 /// and files are updated from the values of the nodes.
-pub fn clock(net: &Netlist, memory: &mut Memory, rst: bool)
+pub fn clock(net: &Netlist, latches: &Latches, memory: &mut Memory, rst: bool)
+    requires latches { IsLatched net.now (length net.now.parts.regs) latches.now.moved.items latches.now.held.items }
     requires fits { Fits net.now memory.old }
     requires known { FitsBelow net.now.nodes memory.old.nodes (length net.now.nodes) }
     ensures fits { Fits net.now memory.new }
     ensures reset { (net.now.parts.reset && rst) ≡ true → (memory.new.regs ≡ start_regs net.now) × (memory.new.files ≡ memory.old.files) }
-    ensures regs { (net.now.parts.reset && rst) ≡ false → memory.new.regs ≡ regs_from net.now.parts.regs memory.old.nodes }
+    ensures regs { (net.now.parts.reset && rst) ≡ false → (r : ℕ) → r < length net.now.parts.regs
+        → get_or memory.new.regs r 0 ≡ latched memory.old.nodes (get_or memory.old.regs r 0) (latch_for net.now r) }
     ensures files { (net.now.parts.reset && rst) ≡ false → (f : ℕ) → f < length net.now.parts.files
         → get_or memory.new.files f [] ≡ port_from (get_or net.now.parts.files f no_file).port memory.old.nodes (get_or memory.old.files f []) }
     ensures slots { memory.new.slots ≡ memory.old.slots }
@@ -24,24 +29,44 @@ pub fn clock(net: &Netlist, memory: &mut Memory, rst: bool)
     if net.parts().reset && rst {
         fill_regs(net, memory);
     } else {
-        clock_regs(net, memory);
+        clock_regs(
+            net,
+            latches.moved.as_slice(),
+            latches.held.as_slice(),
+            memory,
+        );
         clock_files(net, memory);
     }
 }
 
-// Gives each register the value of its next node.
-fn clock_regs(net: &Netlist, memory: &mut Memory)
-    requires { Fits net.now memory.old }
-    ensures fits { Fits net.now memory.new }
-    ensures regs { memory.new.regs ≡ regs_from net.now.parts.regs memory.old.nodes }
+// Gives each register its next value.
+fn clock_regs(_net: &Netlist, moved: &[Moved], held: &[Held], memory: &mut Memory)
+    requires latches { IsLatched _net.now (length _net.now.parts.regs) moved.now held.now }
+    requires fits { Fits _net.now memory.old }
+    ensures fits { Fits _net.now memory.new }
+    ensures regs { (r : ℕ) → r < length _net.now.parts.regs → get_or memory.new.regs r 0 ≡ latched memory.old.nodes (get_or memory.old.regs r 0) (latch_for _net.now r) }
     ensures nodes { memory.new.nodes ≡ memory.old.nodes }
     ensures files { memory.new.files ≡ memory.old.files }
     ensures slots { memory.new.slots ≡ memory.old.slots }
 {
-    let regs = net.parts().regs.as_slice();
-    for i in 0..regs.len() {
-        let value = memory.node(regs[i].next.0);
-        memory.set_reg(i as u32, value);
+    for i in 0..moved.len() {
+        let value = memory.node(moved[i].next.0);
+        memory.set_reg(moved[i].reg, value);
+    }
+    for k in 0..held.len() {
+        hold(memory, held[k]);
+    }
+}
+
+// Gives a register the value of a node if its test is 1.
+fn hold(memory: &mut Memory, held: Held)
+    requires reg { held.reg < length memory.old.regs }
+    requires test { held.test.0 < length memory.old.nodes }
+    requires value { held.value.0 < length memory.old.nodes }
+    ensures { memory.new ≡ record memory.old { regs = set memory.old.regs held.reg (latched memory.old.nodes (get_or memory.old.regs held.reg 0) (If held.test held.value)) } }
+{
+    if memory.node(held.test.0) == 1 {
+        memory.set_reg(held.reg, memory.node(held.value.0));
     }
 }
 

@@ -10,8 +10,8 @@ use kp_net::{Kind, Node, NodeId};
 /// has a one in each bit of the node's width.
 #[derive(Clone, Copy, Debug)]
 pub enum Op {
-    /// A constant.
-    Number(u64),
+    /// A constant, a rare operation, or one that reads more than nodes: it is computed from the node itself.
+    Plain,
     /// The mask minus the value of a node.
     Not(NodeId, u64),
     And(NodeId, NodeId),
@@ -37,8 +37,6 @@ pub enum Op {
     Join3(NodeId, NodeId, NodeId, u8, u8),
     /// The lowest bit, and the mask.
     Slice(NodeId, u64, u64),
-    /// A rare operation, or one that reads more than nodes: it is computed from the node itself.
-    Plain,
 }
 
 /// A node to evaluate, and its operation.
@@ -56,13 +54,12 @@ pub fn op_of(nodes: &[Node], node: &Node) -> Op
 {
     let mask = mask_of(node.width);
     match &node.kind {
-        Kind::Const(number) => Op::Number(*number),
         Kind::Not(a) => Op::Not(*a, mask),
         Kind::Binary(op, a, b) => binary(*op, *a, *b, node.width, mask),
         Kind::Mux(test, yes, no) => Op::Mux(*test, *yes, *no),
         Kind::Concat(parts) => joined(nodes, parts.nodes()),
         Kind::Slice(a, _, lo) => Op::Slice(*a, u64::from(*lo), mask),
-        Kind::Ext | Kind::Sample(_) | Kind::Reg(_) | Kind::Word(_, _) => Op::Plain,
+        Kind::Const(_) | Kind::Ext | Kind::Sample(_) | Kind::Reg(_) | Kind::Word(_, _) => Op::Plain,
     }
 }
 

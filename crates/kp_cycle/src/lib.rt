@@ -4,6 +4,7 @@
 mod batches;
 mod clock;
 mod codes;
+mod latches;
 pub mod laws;
 mod memory;
 mod nodes;

@@ -7,7 +7,7 @@ ghost use Rattle.kp_net.specs.Nodes.{word_of_node, at};
 ghost use Rattle.kp_net.specs.Widths.{wide, no_node};
 ghost use Rattle.kp_net.specs.Parts.{NetOk};
 ghost use Rattle.kp_cycle.specs.Steps.{given};
-ghost use Rattle.kp_cycle.specs.inner.Plans.{IsPlan, OfRoots, Settled};
+ghost use Rattle.kp_cycle.specs.inner.Plans.{IsPlan, OfRoots, AreFixed, Settled};
 ghost use Rattle.kp_cycle.specs.inner.Storage.{Fits, FitsBelow, StateFits, cells, seen, state_of};
 
 use crate::batches::take_batch;
@@ -21,6 +21,7 @@ use kp_net::{Kind, Netlist, NodeId};
 pub fn settle(
     net: &Netlist,
     heads: u32,
+    fixed: usize,
     steps: &[Step],
     memory: &mut Memory,
     ext: u64,
@@ -31,7 +32,9 @@ pub fn settle(
     requires state { StateFits net.now (state_of memory.old) }
     requires widths { FitsBelow net.now.nodes memory.old.nodes (length net.now.nodes) }
     requires samples { length samples.now ≡ length net.now.parts.samples }
+    requires fixed { AreFixed net.now.nodes steps.now fixed memory.old.nodes }
     ensures fits { Fits net.now memory.new }
+    ensures fixed { AreFixed net.now.nodes steps.now fixed memory.new.nodes }
     ensures known { OfRoots net.now (λ j. get_or memory.new.nodes j 0 ≡ at (cells (given ext false samples.now) memory.new) net.now.nodes j) }
     ensures widths { FitsBelow net.now.nodes memory.new.nodes (length net.now.nodes) }
     ensures regs { memory.new.regs ≡ memory.old.regs }
@@ -39,7 +42,7 @@ pub fn settle(
     ensures slots { memory.new.slots ≡ memory.old.slots }
 {
     memory.show_regs(heads);
-    let mut k = 0;
+    let mut k = fixed;
     'all: while k < steps.len() {
         let end = take_batch(net, heads, steps, memory.nodes_mut(), k);
         if end > k {
@@ -49,6 +52,28 @@ pub fn settle(
             k += 1;
         }
     }
+}
+
+/// Sets the targets of the first steps as far as they are constants, and returns how many these are. They keep their values in all cycles.
+pub fn put_constants(net: &Netlist, heads: u32, steps: &[Step], memory: &mut Memory) -> usize
+    requires plan { IsPlan net.now heads steps.now }
+    requires fits { Fits net.now memory.old }
+    requires widths { FitsBelow net.now.nodes memory.old.nodes (length net.now.nodes) }
+    ensures fits { Fits net.now memory.new }
+    ensures widths { FitsBelow net.now.nodes memory.new.nodes (length net.now.nodes) }
+    ensures fixed { AreFixed net.now.nodes steps.now result memory.new.nodes }
+    ensures regs { memory.new.regs ≡ memory.old.regs }
+    ensures files { memory.new.files ≡ memory.old.files }
+    ensures slots { memory.new.slots ≡ memory.old.slots }
+{
+    for k in 0..steps.len() {
+        let target = steps[k].target;
+        let Kind::Const(value) = &net.nodes()[target as usize].kind else {
+            return k;
+        };
+        memory.set_node(target, *value);
+    }
+    steps.len()
 }
 
 // Evaluates one step, as the node itself specifies.

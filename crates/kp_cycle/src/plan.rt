@@ -1,11 +1,12 @@
 //! Which nodes a cycle evaluates, and in which order. Nodes that no output, register or write port needs are omitted,
 //! and nodes with the same operation are adjacent as far as their operands allow.
 ghost use Rattle.std.specs.Prelude.{◌≡◌, ◌+◌, ◌-◌, ◌<◌, ◌≤◌, true, false, ℕ, ◌∷◌, ◌++◌, [], length, get_or, map, take, All, IfOk};
-ghost use Rattle.kp_net.specs.declared.node.Kind.TheVariants.{Reg};
 ghost use Rattle.kp_net.specs.Widths.{no_node};
+ghost use Rattle.kp_cycle.specs.inner.Latches.{OfLatch};
 ghost use Rattle.kp_cycle.specs.inner.Plans.{reads, reads_at, step_for, by_node, IsMarked, Grows, Among, IsKnown, Leads, IsOrdered, OfPort, OfRoots, Needed, Taken, IsPlan};
 
 use crate::codes::{Op, Step, op_of};
+use crate::latches::{Latch, latch_of, shows};
 use kp_base::NoMemory;
 use kp_bits::BinOp;
 use kp_net::{Kind, Netlist, Node, NodeId, WritePort};
@@ -25,16 +26,6 @@ pub fn heads_of(net: &Netlist) -> u32
         }
     }
     most
-}
-
-// Whether a node of this kind is this register.
-fn shows(kind: &Kind, reg: u32) -> bool
-    ensures { result ≡ true → kind.now ≡ Reg reg }
-{
-    match kind {
-        Kind::Reg(shown) => *shown == reg,
-        _ => false,
-    }
 }
 
 /// The steps of a cycle, if the first nodes, the heads, are registers.
@@ -92,7 +83,7 @@ fn mark_roots(net: &Netlist, marks: &mut [bool])
     let parts = net.parts();
     let regs = parts.regs.as_slice();
     for i in 0..regs.len() {
-        marks[regs[i].next.0 as usize] = true;
+        mark_latch(latch_of(net, i), marks);
     }
     let files = parts.files.as_slice();
     for i in 0..files.len() {
@@ -101,6 +92,21 @@ fn mark_roots(net: &Netlist, marks: &mut [bool])
     marks[parts.full.0 as usize] = true;
     marks[parts.ue.0 as usize] = true;
     marks[parts.back.0 as usize] = true;
+}
+
+// Marks the nodes that a register takes its value from.
+fn mark_latch(latch: Latch, marks: &mut [bool])
+    requires { OfLatch (λ j. j < length marks.old) latch }
+    ensures grows { Grows marks.old marks.new }
+    ensures latch { OfLatch (IsMarked marks.new) latch }
+{
+    match latch {
+        Latch::Always(next) => marks[next.0 as usize] = true,
+        Latch::If(test, value) => {
+            marks[test.0 as usize] = true;
+            marks[value.0 as usize] = true;
+        }
+    }
 }
 
 // Marks the nodes that a port reads, if there is one.

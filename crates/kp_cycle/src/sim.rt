@@ -5,13 +5,15 @@ ghost use Rattle.kp_net.specs.Netlist.{Net, State, start_of, state_after, row_of
 ghost use Rattle.kp_net.specs.Widths.{wide};
 ghost use Rattle.kp_net.specs.Parts.{no_reg, no_file};
 ghost use Rattle.kp_cycle.specs.Steps.{Running, ShowsRows, SamplesFit, given, reg_shown, word_shown, saved_in, written_in};
-ghost use Rattle.kp_cycle.specs.inner.Plans.{IsPlan, OfRoots};
+ghost use Rattle.kp_cycle.specs.inner.Latches.{IsLatched};
+ghost use Rattle.kp_cycle.specs.inner.Plans.{IsPlan, OfRoots, AreFixed};
 ghost use Rattle.kp_cycle.specs.inner.Storage.{Fits, FitsBelow, StateFits, state_of};
 
 use crate::clock::{clock, note_writes};
 use crate::codes::Step;
+use crate::latches::{Latches, latches_of};
 use crate::memory::Memory;
-use crate::nodes::{settle, word};
+use crate::nodes::{put_constants, settle, word};
 use crate::plan::{heads_of, plan};
 use kp_base::{NoMemory, Row};
 use kp_bits::Bits;
@@ -25,12 +27,15 @@ pub struct Sim<'n> {
     net: &'n Netlist,
     heads: u32,
     steps: Vec<Step>,
+    fixed: usize,
+    latches: Latches,
     memory: Memory,
 }
 
 impl<'n> Model for Sim<'n> {
     ghost use Rattle.std.specs.Prelude.{length, map};
-    ghost use Rattle.kp_cycle.specs.inner.Plans.{IsPlan};
+    ghost use Rattle.kp_cycle.specs.inner.Latches.{IsLatched};
+    ghost use Rattle.kp_cycle.specs.inner.Plans.{IsPlan, AreFixed};
     ghost use Rattle.kp_cycle.specs.Steps.{Running, ShowsRows};
     ghost use Rattle.kp_cycle.specs.inner.Storage.{Fits, FitsBelow, StateFits, SlotsFit, state_of};
 
@@ -38,7 +43,7 @@ impl<'n> Model for Sim<'n> {
 
     ghost view = { λ s. record { net = s.net.now; state = state_of s.memory; slots = s.memory.slots } };
 
-    ghost invariant = { λ s. Fits s.net.now s.memory × ShowsRows s.net.now × StateFits s.net.now (state_of s.memory) × SlotsFit s.net.now s.memory.slots × IsPlan s.net.now s.heads s.steps.items × FitsBelow s.net.now.nodes s.memory.nodes (length s.net.now.nodes) };
+    ghost invariant = { λ s. Fits s.net.now s.memory × ShowsRows s.net.now × StateFits s.net.now (state_of s.memory) × SlotsFit s.net.now s.memory.slots × IsPlan s.net.now s.heads s.steps.items × FitsBelow s.net.now.nodes s.memory.nodes (length s.net.now.nodes) × AreFixed s.net.now.nodes s.steps.items s.fixed s.memory.nodes × IsLatched s.net.now (length s.net.now.parts.regs) s.latches.moved.items s.latches.held.items };
 }
 
 impl<'n> Sim<'n> {
@@ -59,11 +64,15 @@ impl<'n> Sim<'n> {
     {
         let heads = heads_of(net);
         let steps = plan(alloc, net, heads)?;
-        let memory = Memory::open(alloc, net, slots)?;
+        let latches = latches_of(alloc, net)?;
+        let mut memory = Memory::open(alloc, net, slots)?;
+        let fixed = put_constants(net, heads, steps.as_slice(), &mut memory);
         Ok(Sim {
             net,
             heads,
             steps,
+            fixed,
+            latches,
             memory,
         })
     }
@@ -96,6 +105,8 @@ impl<'n> Sim<'n> {
             self.net,
             self.heads,
             self.steps.as_slice(),
+            self.fixed,
+            &self.latches,
             &mut self.memory,
             ext,
             rst,
@@ -123,6 +134,8 @@ impl<'n> Sim<'n> {
             self.net,
             self.heads,
             self.steps.as_slice(),
+            self.fixed,
+            &self.latches,
             &mut self.memory,
             ext,
             rst,
@@ -199,6 +212,8 @@ fn cycle(
     net: &Netlist,
     heads: u32,
     steps: &[Step],
+    fixed: usize,
+    latches: &Latches,
     memory: &mut Memory,
     ext: u16,
     rst: bool,
@@ -210,6 +225,9 @@ fn cycle(
     requires shows { ShowsRows net.now }
     requires widths { StateFits net.now (state_of memory.old) }
     requires samples { length samples.now ≡ length net.now.parts.samples }
+    requires fixed { AreFixed net.now.nodes steps.now fixed memory.old.nodes }
+    requires latches { IsLatched net.now (length net.now.parts.regs) latches.now.moved.items latches.now.held.items }
+    ensures fixed { AreFixed net.now.nodes steps.now fixed memory.new.nodes }
     ensures widths { StateFits net.now (state_of memory.new) }
     ensures fits { Fits net.now memory.new }
     ensures known { FitsBelow net.now.nodes memory.new.nodes (length net.now.nodes) }
@@ -218,14 +236,14 @@ fn cycle(
     ensures slots { memory.new.slots ≡ memory.old.slots }
     ensures nodes { OfRoots net.now (λ j. get_or memory.new.nodes j 0 ≡ at (cells_of (given ext rst samples.now) (state_of memory.old)) net.now.nodes j) }
 {
-    settle(net, heads, steps, memory, u64::from(ext), samples);
+    settle(net, heads, fixed, steps, memory, u64::from(ext), samples);
     let parts = net.parts();
     let row = Row {
         full: output(net, memory, parts.full),
         ue: output(net, memory, parts.ue),
         back: output(net, memory, parts.back) as u8,
     };
-    clock(net, memory, rst);
+    clock(net, latches, memory, rst);
     row
 }
 

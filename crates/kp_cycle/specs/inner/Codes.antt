@@ -7,7 +7,7 @@ use Rattle.kp_net.specs.declared.node.Kind.TheVariants as kind
 use Rattle.kp_net.specs.declared.node.Node.{Node}
 use Rattle.kp_net.specs.Widths.{wide}
 use Rattle.kp_cycle.specs.declared.codes.Op.{Op}
-use Rattle.kp_cycle.specs.declared.codes.Op.TheVariants.{Number, Not, And, Or, Xor, Add, Sub, Mul, Eq, Lt, Shl, Shr, Mux, Join, Join3, Slice, Plain}
+use Rattle.kp_cycle.specs.declared.codes.Op.TheVariants.{Not, And, Or, Xor, Add, Sub, Mul, Eq, Lt, Shl, Shr, Mux, Join, Join3, Slice, Plain}
 
 -- the operation of a node
 abbrev pub binary_op : BinOp → NodeId → NodeId → ℕ → ℕ → Op
@@ -28,7 +28,7 @@ joined_op ns (a ∷ (b ∷ (d ∷ []))) = Join3 a b d (wide ns b.0) (wide ns d.0
 joined_op ns _ = Plain
 
 abbrev pub kind_op : List Node → ℕ → ℕ → Kind → Op
-kind_op ns width mask (kind.Const n) = Number n
+kind_op ns width mask (kind.Const n) = Plain
 kind_op ns width mask kind.Ext = Plain
 kind_op ns width mask (kind.Sample s) = Plain
 kind_op ns width mask (kind.Reg r) = Plain
@@ -44,7 +44,6 @@ op_for ns n = kind_op ns n.width (2 ^ n.width - 1) n.kind
 
 -- the result of an operation, given these numbers of the nodes before it; a plain one yields this number
 abbrev pub number_of : List ℕ → ℕ → Op → ℕ
-number_of v plain (Number n) = n
 number_of v plain (Not a mask) = (mask + (2 ^ 64 - get_or v a.0 0)) % 2 ^ 64
 number_of v plain (And a b) = bit_and (get_or v a.0 0) (get_or v b.0 0)
 number_of v plain (Or a b) = bit_or (get_or v a.0 0) (get_or v b.0 0)
@@ -64,7 +63,6 @@ number_of v plain Plain = plain
 
 -- all nodes that an operation reads exist: there are this many
 abbrev pub IsReady : ℕ → Op → Type 0
-IsReady m (Number n) = Unit {0}
 IsReady m (Not a mask) = a.0 < m
 IsReady m (And a b) = (a.0 < m) × (b.0 < m)
 IsReady m (Or a b) = (a.0 < m) × (b.0 < m)

@@ -2,16 +2,17 @@
 use Rattle.std.specs.Prelude.{ℕ, ◌+◌, ◌<◌, ◌≤◌, ◌≡◌, ◌⊎◌, Bool, true, false, List, [], ◌∷◌, length, get_or, map, All, Option, None, Some}
 use Rattle.kp_net.specs.declared.node.NodeId.{NodeId}
 use Rattle.kp_net.specs.declared.node.Kind.{Kind}
-use Rattle.kp_net.specs.declared.node.Kind.TheVariants.{Reg, Word, Not, Binary, Mux, Concat, Slice}
+use Rattle.kp_net.specs.declared.node.Kind.TheVariants.{Const, Reg, Word, Not, Binary, Mux, Concat, Slice}
 use Rattle.kp_net.specs.declared.node.Node.{Node}
 use Rattle.kp_net.specs.declared.netlist.WritePort.{WritePort}
 use Rattle.kp_net.specs.Nodes.{at}
 use Rattle.kp_net.specs.Netlist.{Net, Input}
-use Rattle.kp_net.specs.Parts.{no_reg, no_file}
+use Rattle.kp_net.specs.Parts.{no_file}
 use Rattle.kp_net.specs.Widths.{no_node}
-use Rattle.kp_cycle.specs.declared.codes.Op.TheVariants.{Number, Plain}
+use Rattle.kp_cycle.specs.declared.codes.Op.TheVariants.{Plain}
 use Rattle.kp_cycle.specs.declared.codes.Step.{Step}
 use Rattle.kp_cycle.specs.inner.Codes.{op_for}
+use Rattle.kp_cycle.specs.inner.Latches.{latch_for, OfLatch}
 use Rattle.kp_cycle.specs.inner.Storage.{Stored, FitsBelow, cells}
 
 -- the operands of a node
@@ -70,7 +71,7 @@ pub record OfRoots (net : Net) (P : ℕ → Type 0) : Type 0 where
   pub full : P net.parts.full.0
   pub ue : P net.parts.ue.0
   pub back : P net.parts.back.0
-  pub regs : (r : ℕ) → r < length net.parts.regs → P (get_or net.parts.regs r no_reg).next.0
+  pub regs : (r : ℕ) → r < length net.parts.regs → OfLatch P (latch_for net r)
   pub files : (f : ℕ) → f < length net.parts.files → OfPort P (get_or net.parts.files f no_file).port
 
 -- the marks of what is needed, from the last node down to node i
@@ -80,7 +81,7 @@ Needed net i marks = (length marks ≡ length net.nodes) × OfRoots net (IsMarke
 
 -- steps, each with the operation of its target
 abbrev pub no_step : Step
-no_step = record { target = 0; op = Number 0 }
+no_step = record { target = 0; op = Plain }
 
 abbrev pub step_for : List Node → ℕ → Step
 step_for ns t = record { target = t; op = op_for ns (get_or ns t no_node) }
@@ -104,6 +105,11 @@ pub record IsPlan (net : Net) (h : ℕ) (steps : List Step) : Type 0 where
   pub last : (k : ℕ) → k + 1 ≡ length steps → (get_or steps k no_step).op ≡ Plain
   pub ordered : IsOrdered net.nodes h (targets steps)
   pub roots : OfRoots net (IsKnown h (targets steps) (length steps))
+
+-- the targets of the first n steps are constants, and these are their values
+abbrev pub AreFixed : List Node → List Step → ℕ → List ℕ → Type 0
+AreFixed ns steps n values = (n ≤ length steps)
+    × ((q : ℕ) → q < n → (get_or ns (get_or (targets steps) q 0) no_node).kind ≡ Const (get_or values (get_or (targets steps) q 0) 0))
 
 -- the first h nodes have their values, and the first k steps have been evaluated in this cycle
 pub record Settled (net : Net) (input : Input) (h : ℕ) (steps : List Step) (k : ℕ) (m : Stored) : Type 0 where

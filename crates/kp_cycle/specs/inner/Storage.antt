@@ -1,8 +1,7 @@
 -- The contents of a simulator, and how they fit its netlist.
-use Rattle.std.specs.Prelude.{ℕ, ◌^◌, ◌<◌, ◌≡◌, ◌==◌, if◌then◌else◌, List, [], length, get_or, map, set, Option, None, Some}
+use Rattle.std.specs.Prelude.{ℕ, ◌^◌, ◌<◌, ◌≡◌, ◌==◌, if◌then◌else◌, List, [], length, get_or, set, Option, None, Some}
 use Rattle.kp_bits.specs.Word.{Word, word}
 use Rattle.kp_net.specs.declared.node.Node.{Node}
-use Rattle.kp_net.specs.declared.netlist.NetReg.{NetReg}
 use Rattle.kp_net.specs.declared.netlist.WritePort.{WritePort}
 use Rattle.kp_net.specs.Widths.{wide}
 use Rattle.kp_net.specs.Nodes.{Cells}
@@ -55,10 +54,7 @@ seen ns values i = word (wide ns i) (get_or values i 0)
 abbrev pub FitsBelow : List Node → List ℕ → ℕ → Type 0
 FitsBelow ns values n = (i : ℕ) → i < n → get_or values i 0 < 2 ^ wide ns i
 
--- the values of registers and files after the cycle, from the values of nodes
-abbrev pub regs_from : List NetReg → List ℕ → List ℕ
-regs_from regs values = map (λ r. get_or values r.next.0 0) regs
-
+-- the words of a file after the cycle, from the values of nodes
 abbrev pub port_from : Option WritePort → List ℕ → List ℕ → List ℕ
 port_from None values words = words
 port_from (Some p) values words = if get_or values p.enable.0 0 == 1 then set words (get_or values p.address.0 0) (get_or values p.value.0 0) else words

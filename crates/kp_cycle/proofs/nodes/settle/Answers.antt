@@ -5,7 +5,7 @@ use Rattle.kp_cycle.specs.declared.codes.Step.{Step}
 use Rattle.kp_cycle.specs.Steps.{given}
 use Rattle.kp_cycle.specs.inner.Plans.{Settled}
 use Rattle.kp_cycle.specs.inner.Storage.{Stored, Fits, StateFits, state_of}
-use Rattle.kp_cycle.proofs.Stepping.{all_settled, none_settled, heads_fit, settled_as}
+use Rattle.kp_cycle.proofs.Stepping.{all_settled, fixed_settled, still_fixed, heads_fit, settled_as}
 use Rattle.kp_cycle.proofs.Settling.{fits_as, over_length, over_front, over_rest, refilled}
 use Rattle.kp_cycle.proofs.nodes.settle.Goals as goal
 
@@ -31,12 +31,20 @@ all-init c =
     let P : State → Type 0 = StateFits net in
     let shown : (j : ℕ) → j < c.args.heads → get_or n.nodes j 0 ≡ get_or n.regs j 0 = λ j l. ap (λ (xs : List ℕ). get_or xs j 0) over ∙ over_front m.regs m.nodes c.args.heads few j l ∙ ap (λ (rs : List ℕ). get_or rs j 0) (sym regs) in (
       fits,
-      none_settled net (given c.args.ext false c.args.samples.now) c.args.heads c.args.steps.now m.nodes n c.requires.plan fits (subst P same c.requires.state) c.requires.widths shown (λ j l. ap (λ (xs : List ℕ). get_or xs j 0) over ∙ over_rest m.regs m.nodes c.args.heads few j l),
+      fixed_settled net (given c.args.ext false c.args.samples.now) c.args.heads c.args.steps.now c.args.fixed m.nodes n c.requires.plan fits (subst P same c.requires.state) c.requires.widths c.requires.fixed shown (λ j l. ap (λ (xs : List ℕ). get_or xs j 0) over ∙ over_rest m.regs m.nodes c.args.heads few j l),
       regs,
       files,
       ap (λ (x : Stored). x.slots) e,
-      omega arith,
+      c.requires.fixed.0,
     )
+
+pub returns-clause-fixed : goal.returns-clause-fixed
+returns-clause-fixed c =
+    let net = c.args.net.now in
+    let input = given c.args.ext false c.args.samples.now in
+    let e : c.all.k ≡ length c.args.steps.now = omega (arith, c.all-test.false, c.all.invariant.5) in
+    let P : ℕ → Type 0 = λ k. Settled net input c.args.heads c.args.steps.now k c.all.memory in
+    still_fixed net input c.args.heads c.args.steps.now c.args.fixed c.args.memory.now.nodes c.all.memory c.requires.fits.right c.requires.plan c.requires.fixed (subst P e c.all.invariant.1)
 
 pub returns-clause-known : goal.returns-clause-known
 returns-clause-known c =

@@ -4,8 +4,11 @@ use Rattle.kp_net.specs.Netlist.{Input, State, cells_of, resets, state_after}
 use Rattle.kp_net.specs.Parts.{no_file}
 use Rattle.kp_net.proofs.Resets.{reset_state}
 use Rattle.kp_cycle.specs.Steps.{given}
+use Rattle.kp_cycle.specs.inner.Latches.{latch_for, latched}
+use Rattle.kp_cycle.specs.inner.Plans.{AreFixed, OfRoots}
 use Rattle.kp_cycle.specs.inner.Storage.{StateFits, port_from, state_of}
 use Rattle.kp_cycle.proofs.Clocking.{state_is}
+use Rattle.kp_cycle.proofs.Latching.{next_value}
 use Rattle.kp_cycle.proofs.Stepping.{roots_are}
 use Rattle.kp_cycle.proofs.Reached.{fits_after}
 use Rattle.kp_cycle.proofs.sim.cycle.Goals as goal
@@ -28,11 +31,18 @@ returns-clause-state c =
     on_or_off (resets net input) (state_of m2 ≡ state_after net input (state_of m0))
     (λ on. let k = c.clock.ensures.reset on in let f : m2.files ≡ m0.files = k.1 ∙ ef in
     (λ i. record { regs = k.0 i; files = f i }) ∙ sym (reset_state net input (state_of m0) on))
-    (λ off. state_is net input (state_of m0) m1.nodes m2.regs m2.files c.requires.fits.right off c.requires.fits.files c.clock.ensures.fits.files
-    (roots_are net (λ j. get_or m1.nodes j 0 ≡ at (cells_of (given c.from.result false c.args.samples.now) (state_of m1)) net.nodes j) (λ j. get_or m1.nodes j 0 ≡ at (cells_of input (state_of m0)) net.nodes j)
-    (λ j is. is ∙ (λ i. at (cells_of (given (x i) false c.args.samples.now) (s i)) net.nodes j)) c.settle.ensures.known)
-    (c.clock.ensures.regs off)
+    (λ off. let known : OfRoots net (λ j. get_or m1.nodes j 0 ≡ at (cells_of input (state_of m0)) net.nodes j) =
+    roots_are net (λ j. get_or m1.nodes j 0 ≡ at (cells_of (given c.from.result false c.args.samples.now) (state_of m1)) net.nodes j) (λ j. get_or m1.nodes j 0 ≡ at (cells_of input (state_of m0)) net.nodes j)
+    (λ j is. is ∙ (λ i. at (cells_of (given (x i) false c.args.samples.now) (s i)) net.nodes j)) c.settle.ensures.known in
+    state_is net input (state_of m0) m1.nodes m2.regs m2.files c.requires.fits.right off c.requires.fits.files c.clock.ensures.fits.files known c.clock.ensures.fits.regs
+    (λ r l. c.clock.ensures.regs off r l ∙ ap (λ (rs : List ℕ). latched m1.nodes (get_or rs r 0) (latch_for net r)) er
+    ∙ next_value net input (state_of m0) m1.nodes r c.requires.fits.right c.requires.widths l (known.regs r l))
     (λ f l. c.clock.ensures.files off f l ∙ (λ i. port_from (get_or net.parts.files f no_file).port m1.nodes (get_or (ef i) f []))))
+
+pub returns-clause-fixed : goal.returns-clause-fixed
+returns-clause-fixed c =
+    let P : List ℕ → Type 0 = AreFixed c.args.net.now.nodes c.args.steps.now c.args.fixed in
+    subst P (sym c.clock.ensures.nodes) c.settle.ensures.fixed
 
 pub returns-clause-nodes : goal.returns-clause-nodes
 returns-clause-nodes c =

@@ -1,6 +1,7 @@
 use Rattle.std.proofs.Common.{ℕ, List, length, sym, subst, ap, ◌∙◌}
 use Rattle.std.specs.Prelude.{IsSome}
 use Rattle.kp_cycle.specs.Steps.{Running, saved_in}
+use Rattle.kp_cycle.specs.inner.Plans.{AreFixed}
 use Rattle.kp_cycle.specs.inner.Storage.{FitsBelow, SlotsFit, state_of}
 use Rattle.kp_cycle.proofs.Copies.{fits_loaded}
 use Rattle.kp_cycle.proofs.sim.Sim.load.Goals as goal
@@ -20,6 +21,8 @@ invariant_of-self c =
       subst (SlotsFit net) (sym c.load.ensures.slots) h.3,
       h.4,
       subst (λ (v : List ℕ). FitsBelow net.nodes v (length net.nodes)) (sym c.load.ensures.nodes) h.5,
+      subst (AreFixed net.nodes c.self.inside.steps.items c.self.inside.fixed) (sym c.load.ensures.nodes) h.6,
+      h.7,
     )
 
 pub returns-clause-state : goal.returns-clause-state

@@ -1,6 +1,7 @@
 use Rattle.std.proofs.Common.{◌<◌, length, set, sym, subst, ap, ◌∙◌, arith, Some}
 use Rattle.kp_cycle.specs.Steps.{Running, ShowsRows}
-use Rattle.kp_cycle.specs.inner.Plans.{IsPlan}
+use Rattle.kp_cycle.specs.inner.Latches.{IsLatched}
+use Rattle.kp_cycle.specs.inner.Plans.{IsPlan, AreFixed}
 use Rattle.kp_cycle.specs.inner.Storage.{Stored, Fits, FitsBelow, StateFits, SlotsFit, state_of}
 use Rattle.kp_cycle.proofs.Copies.{fits_slots, is_state, slots_saved_fit}
 use Rattle.kp_cycle.proofs.sim.Sim.save.Goals as goal
@@ -14,9 +15,10 @@ invariant_of-self c =
     let m = c.self.inside.memory in
     let h = c.self.invariant in
     let there : c.args.slot < length m.slots = omega (arith, c.requires, ap (λ (r : Running). length r.slots) c.self.view_is) in
-    let P : Stored → Type 0 = λ x. Fits net x × ShowsRows net × StateFits net (state_of x) × SlotsFit net x.slots × IsPlan net c.self.inside.heads c.self.inside.steps.items × FitsBelow net.nodes x.nodes (length net.nodes) in
+    let P : Stored → Type 0 = λ x. Fits net x × ShowsRows net × StateFits net (state_of x) × SlotsFit net x.slots × IsPlan net c.self.inside.heads c.self.inside.steps.items × FitsBelow net.nodes x.nodes (length net.nodes)
+    × AreFixed net.nodes c.self.inside.steps.items c.self.inside.fixed x.nodes × IsLatched net (length net.parts.regs) c.self.inside.latches.moved.items c.self.inside.latches.held.items in
     subst P (sym c.save.ensures)
-    (fits_slots net m _ h.0, h.1, h.2, slots_saved_fit net m.slots c.args.slot (state_of m) there h.3 (is_state net m h.0 h.2), h.4, h.5)
+    (fits_slots net m _ h.0, h.1, h.2, slots_saved_fit net m.slots c.args.slot (state_of m) there h.3 (is_state net m h.0 h.2), h.4, h.5, h.6, h.7)
 
 pub returns : goal.returns
 returns c =

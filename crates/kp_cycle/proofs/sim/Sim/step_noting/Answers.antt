@@ -1,6 +1,8 @@
-use Rattle.std.proofs.Common.{◌<◌, length, sym, subst, ap, ◌∙◌, arith}
+use Rattle.std.proofs.Common.{List, ◌<◌, length, sym, subst, ap, ◌∙◌, arith}
 use Rattle.kp_net.specs.Netlist.{state_after}
 use Rattle.kp_cycle.specs.Steps.{Running, given, written_in}
+use Rattle.kp_cycle.specs.declared.codes.Step.{Step}
+use Rattle.kp_cycle.specs.inner.Plans.{AreFixed}
 use Rattle.kp_cycle.specs.inner.Storage.{SlotsFit, state_of}
 use Rattle.kp_cycle.proofs.Noting.{noted_is}
 use Rattle.kp_cycle.proofs.sim.Sim.step_noting.Goals as goal
@@ -8,7 +10,7 @@ use Rattle.kp_cycle.proofs.sim.Sim.step_noting.Goals as goal
 pub invariant_of-self : goal.invariant_of-self
 invariant_of-self c =
     let h = c.self.invariant in
-    (c.cycle-row.ensures.fits, h.1, c.cycle-row.ensures.widths, subst (SlotsFit c.self.inside.net.now) (sym c.cycle-row.ensures.slots) h.3, h.4, c.cycle-row.ensures.known)
+    (c.cycle-row.ensures.fits, h.1, c.cycle-row.ensures.widths, subst (SlotsFit c.self.inside.net.now) (sym c.cycle-row.ensures.slots) h.3, h.4, c.cycle-row.ensures.known, subst (λ (steps : List Step). AreFixed c.self.inside.net.now.nodes steps c.self.inside.fixed c.cycle-row.new.memory.nodes) c.as_slice.ensures.value c.cycle-row.ensures.fixed, h.7)
 
 pub returns-clause-state : goal.returns-clause-state
 returns-clause-state c =
