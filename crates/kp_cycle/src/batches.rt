@@ -180,9 +180,9 @@ impl Batch for Slice {
     }
 }
 
-/// Evaluates the steps from this one on that have the same operation, and returns the index of the first with
-/// another. Evaluates none if the operation is one of those that are evaluated singly.
-pub fn take_batch(
+/// Evaluates batches of steps from this one on, up to the first step that is evaluated singly, and returns the index of that. The last step of all
+/// is evaluated singly, so that nothing tests for the end of the steps.
+pub fn take_batches(
     net: &Netlist,
     heads: u32,
     steps: &[Step],
@@ -194,7 +194,28 @@ pub fn take_batch(
     requires count { length nodes.old ≡ length net.now.nodes }
     requires inside { from < length steps.now }
     ensures forward { from ≤ result }
-    ensures inside { result ≤ length steps.now }
+    ensures inside { result < length steps.now }
+    ensures settled { (input : Input) (m : Stored) → Settled net.now input heads steps.now from (record m { nodes = nodes.old }) → Settled net.now input heads steps.now result (record m { nodes = nodes.new }) }
+{
+    let mut k = from;
+    let mut is_single = false;
+    'more: while !is_single {
+        let end = take_batch(net, heads, steps, nodes, k);
+        is_single = end == k;
+        k = end;
+    }
+    k
+}
+
+// Evaluates the steps from this one on that have the same operation, and returns the index of the first with
+// another. Evaluates none if the operation is one of those that are evaluated singly.
+fn take_batch(net: &Netlist, heads: u32, steps: &[Step], nodes: &mut [u64], from: usize) -> usize
+    requires plan { IsPlan net.now heads steps.now }
+    requires right { NetOk net.now }
+    requires count { length nodes.old ≡ length net.now.nodes }
+    requires inside { from < length steps.now }
+    ensures forward { from ≤ result }
+    ensures inside { result < length steps.now }
     ensures settled { (input : Input) (m : Stored) → Settled net.now input heads steps.now from (record m { nodes = nodes.old }) → Settled net.now input heads steps.now result (record m { nodes = nodes.new }) }
 {
     match &steps[from].op {
@@ -217,7 +238,7 @@ pub fn take_batch(
     }
 }
 
-// Evaluates the steps from this one on that have this operation. The last step of all has none of these operations, so no end is looked for. Four
+// Evaluates the steps from this one on that have this operation. Four
 // steps are evaluated in a turn of the loop, which saves counting.
 #[inline(always)]
 fn take_while<B: Batch>(
@@ -232,37 +253,17 @@ fn take_while<B: Batch>(
     requires count { length nodes.old ≡ length net.now.nodes }
     requires inside { from < length steps.now }
     ensures forward { from ≤ result }
-    ensures inside { result ≤ length steps.now }
+    ensures inside { result < length steps.now }
     ensures settled { (input : Input) (m : Stored) → Settled net.now input _heads steps.now from (record m { nodes = nodes.old }) → Settled net.now input _heads steps.now result (record m { nodes = nodes.new }) }
 {
     let mut k = from;
     'batch: while let Some(value) = B::value(&steps[k].op, nodes) {
         nodes[steps[k].target as usize] = value;
-        k = take_three::<B>(net, _heads, steps, nodes, k + 1);
+        let second = take_if::<B>(net, _heads, steps, nodes, k + 1);
+        let third = take_if::<B>(net, _heads, steps, nodes, second);
+        k = take_if::<B>(net, _heads, steps, nodes, third);
     }
     k
-}
-
-// Evaluates up to three steps from this one on that have this operation.
-#[inline(always)]
-fn take_three<B: Batch>(
-    net: &Netlist,
-    _heads: u32,
-    steps: &[Step],
-    nodes: &mut [u64],
-    from: usize,
-) -> usize
-    requires plan { IsPlan net.now _heads steps.now }
-    requires right { NetOk net.now }
-    requires count { length nodes.old ≡ length net.now.nodes }
-    requires inside { from < length steps.now }
-    ensures forward { from ≤ result }
-    ensures inside { result < length steps.now }
-    ensures settled { (input : Input) (m : Stored) → Settled net.now input _heads steps.now from (record m { nodes = nodes.old }) → Settled net.now input _heads steps.now result (record m { nodes = nodes.new }) }
-{
-    let second = take_if::<B>(net, _heads, steps, nodes, from);
-    let third = take_if::<B>(net, _heads, steps, nodes, second);
-    take_if::<B>(net, _heads, steps, nodes, third)
 }
 
 // Evaluates this step if it has this operation.

@@ -10,7 +10,7 @@ ghost use Rattle.kp_cycle.specs.Steps.{given};
 ghost use Rattle.kp_cycle.specs.inner.Plans.{IsPlan, OfRoots, AreFixed, Settled};
 ghost use Rattle.kp_cycle.specs.inner.Storage.{Fits, FitsBelow, StateFits, cells, seen, state_of};
 
-use crate::batches::take_batch;
+use crate::batches::take_batches;
 use crate::codes::Step;
 use crate::memory::Memory;
 use kp_bits::Bits;
@@ -44,13 +44,9 @@ pub fn settle(
     memory.show_regs(heads);
     let mut k = fixed;
     'all: while k < steps.len() {
-        let end = take_batch(net, heads, steps, memory.nodes_mut(), k);
-        if end > k {
-            k = end;
-        } else {
-            take_one(net, heads, steps, memory, ext, samples, k);
-            k += 1;
-        }
+        k = take_batches(net, heads, steps, memory.nodes_mut(), k);
+        take_one(net, heads, steps, memory, ext, samples, k);
+        k += 1;
     }
 }
 

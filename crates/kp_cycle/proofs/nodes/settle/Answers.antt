@@ -68,36 +68,14 @@ module _ (net : Net) (input : Input) (heads : ℕ) (steps : List Step) (m : Stor
       let P : List ℕ → Type 0 = λ v. Settled net input heads steps end (record m { nodes = v }) in
       subst P (sym (refilled m.nodes new many)) (batch (settled_as net input heads steps k m old value settled))
 
-pub all-preserved-then-end-k : goal.all-preserved-then-end-k
-all-preserved-then-end-k c =
-    let net = c.args.net.now in
-    let m = c.all.memory in
-    let input = given c.args.ext false c.args.samples.now in
-    let t = c.take_batch-end.ensures in
-    let inv = c.all.invariant in
-    let many = c.take_batch-end.auto.nodes in (
-      fits_batch net input c.args.heads c.args.steps.now m c.nodes_mut.result.now c.take_batch-end.new.nodes c.all.k c.take_batch-end.result c.nodes_mut.ensures.value many (t.settled input m) inv.0,
-      settled_batch net input c.args.heads c.args.steps.now m c.nodes_mut.result.now c.take_batch-end.new.nodes c.all.k c.take_batch-end.result c.nodes_mut.ensures.value many (t.settled input m) inv.1,
-      inv.2,
-      inv.3,
-      inv.4,
-      t.inside,
-    )
-
 pub take_one-requires-clause-fits : goal.take_one-requires-clause-fits
 take_one-requires-clause-fits c =
     let input = given c.args.ext false c.args.samples.now in
-    fits_batch c.args.net.now input c.args.heads c.args.steps.now c.all.memory c.nodes_mut.result.now c.take_batch-end.new.nodes c.all.k c.take_batch-end.result c.nodes_mut.ensures.value c.take_batch-end.auto.nodes
-    (c.take_batch-end.ensures.settled input c.all.memory) c.all.invariant.0
+    let t = c.take_batches-k in
+    fits_batch c.args.net.now input c.args.heads c.args.steps.now c.all.memory c.nodes_mut.result.now t.new.nodes c.all.k t.result c.nodes_mut.ensures.value t.auto.nodes (t.ensures.settled input c.all.memory) c.all.invariant.0
 
 pub take_one-requires-clause-settled : goal.take_one-requires-clause-settled
 take_one-requires-clause-settled c =
-    let net = c.args.net.now in
-    let m = c.all.memory in
-    let t = c.take_batch-end.ensures in
     let input = given c.args.ext false c.args.samples.now in
-    let e : c.take_batch-end.result ≡ c.all.k = omega (arith, t.forward, c.if-end-k.false) in
-    let P : ℕ → Type 0 = λ k. Settled net input c.args.heads c.args.steps.now k (record m { nodes = refill (length m.nodes) m.nodes c.take_batch-end.new.nodes }) in
-    subst P e
-    (settled_batch net input c.args.heads c.args.steps.now m c.nodes_mut.result.now c.take_batch-end.new.nodes c.all.k c.take_batch-end.result c.nodes_mut.ensures.value c.take_batch-end.auto.nodes
-    (t.settled input m) c.all.invariant.1)
+    let t = c.take_batches-k in
+    settled_batch c.args.net.now input c.args.heads c.args.steps.now c.all.memory c.nodes_mut.result.now t.new.nodes c.all.k t.result c.nodes_mut.ensures.value t.auto.nodes (t.ensures.settled input c.all.memory) c.all.invariant.1
