@@ -12,8 +12,23 @@ import sys
 TOP = os.path.dirname(os.path.dirname(os.path.abspath(__file__)))
 PAGE = "docs/ARCHITECTURE.md"
 HEAD = ["| crate | modules of `proofs/` | cited by |", "|---|---|---|"]
+GROUP = re.compile(r"\buse (Rattle\.[^\s{]+?)\.\{([^}]*)\}")
 USE = re.compile(r"\buse Rattle\.(\w+)\.proofs\.([\w.]+?)(?:\.\{([^}]*)\}|(?= as |[;\s]))")
 PATH = re.compile(r"\b(kp_\w+)(?:\.|::)proofs(?:\.|::)(\w+)(?:(?:\.|::)(\w+))?")
+
+
+def spread(text):
+    """The text with one module a `use` line: `use M.{N.a, O.b}` is `use M.N.{a}`, `use M.O.{b}`."""
+
+    def lines(found):
+        modules = {}
+        for name in (it.strip() for it in found[2].split(",") if it.strip()):
+            before, renamed, after = name.partition(" as ")
+            below, dot, last = before.rpartition(".")
+            modules.setdefault(found[1] + dot + below, []).append(last + renamed + after)
+        return "\n".join(f"use {path}.{{{', '.join(names)}}}" for path, names in modules.items())
+
+    return GROUP.sub(lines, text)
 
 
 def order():
@@ -27,7 +42,7 @@ def sources(crate):
         for name in names:
             if name.endswith((".antt", ".rt")):
                 with open(os.path.join(folder, name), encoding="utf-8") as it:
-                    yield it.read()
+                    yield spread(it.read())
 
 
 def cited(crates):

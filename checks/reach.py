@@ -11,10 +11,25 @@ import sys
 
 TOP = os.path.dirname(os.path.dirname(os.path.abspath(__file__)))
 HEADLINE = [f"kp_tool_spec.specs.Headline.{it}" for it in ("IsVerilogWith", "IsRunWith", "IsMoving", "HasNoNeedlessStall", "HasNoNeedlessStallFrom")] + ["kp_sched.specs.Runs.IsLegal", "kp_synth_spec.specs.Legal.IsLegalFrom"]
+GROUP = re.compile(r"\buse (Rattle\.[^\s{]+?)\.\{([^}]*)\}")
 USE = re.compile(r"^use Rattle\.([^\s{]+?)(?:\.\{([^}]*)\})?(?: as (\S+))?$", re.M)
 FIELD = re.compile(r"^ +(?:pub )?\S+ :(?= )")
 HEAD = re.compile(r"^(?:abbrev |unfoldable )?(?:pub )?(?:(?:record|data) (\S+)|(\S+) :(?= ))")
 NAME = re.compile(r"[A-Za-z_][\w'\-]*(?:\.\w+)?")
+
+
+def spread(text):
+    """The text with one module a `use` line: `use M.{N.a, O.b}` is `use M.N.{a}`, `use M.O.{b}`."""
+
+    def lines(found):
+        modules = {}
+        for name in (it.strip() for it in found[2].split(",") if it.strip()):
+            before, renamed, after = name.partition(" as ")
+            below, dot, last = before.rpartition(".")
+            modules.setdefault(found[1] + dot + below, []).append(last + renamed + after)
+        return "\n".join(f"use {path}.{{{', '.join(names)}}}" for path, names in modules.items())
+
+    return GROUP.sub(lines, text)
 
 
 class File:
@@ -51,7 +66,7 @@ def files():
                 if name.endswith(".antt"):
                     path = os.path.relpath(os.path.join(folder, name), specs)[: -len(".antt")]
                     with open(os.path.join(folder, name), encoding="utf-8") as it:
-                        found[f"{crate}.specs.{path.replace('/', '.')}"] = File(it.read())
+                        found[f"{crate}.specs.{path.replace('/', '.')}"] = File(spread(it.read()))
     return found
 
 

@@ -1,9 +1,7 @@
 -- The first line of what is left.
 use Rattle.std.proofs.Common.{◌≡◌, ◌∙◌, ℕ, suc, ◌+◌, ◌≤◌, ◌<◌, List, [], ◌∷◌, length, take, drop, Bool, true, false, cond, refl, ap, sym, arith}
 use Rattle.std.specs.Prelude.{Result, Ok, Err}
-use Rattle.kp_base.specs.Check.{Gives, bind}
-use Rattle.kp_base.specs.declared.refusal.Refusal.{Refusal}
-use Rattle.kp_base.specs.declared.refusal.Refused.{Refused}
+use Rattle.kp_base.specs.{Check.Gives, Check.bind, declared.refusal.Refusal.Refusal, declared.refusal.Refused.Refused}
 use Rattle.kp_base.specs.declared.refusal.Refused.TheVariants.{Rule, NoMemory}
 use Rattle.kp_asm.specs.inner.Listing.{line_length}
 use Rattle.kp_asm.specs.Program.{Listing, is_line_end, lines_of, prepend, line_read, lines_read}

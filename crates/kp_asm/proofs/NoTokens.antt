@@ -1,9 +1,6 @@
 -- If no token is left, none violates a rule.
 use Rattle.std.proofs.Common.{◌≡◌, ℕ, ◌<◌, List, [], ◌∷◌, length, None, refl, arith}
-use Rattle.kp_asm.specs.Mnemonics.{first_breaking}
-use Rattle.kp_asm.specs.declared.token.Token.{Token}
-use Rattle.kp_asm.specs.declared.mnemonic.Piece.{Piece}
-use Rattle.kp_asm.specs.declared.operands.Rule.{Rule}
+use Rattle.kp_asm.specs.{Mnemonics.first_breaking, declared.token.Token.Token, declared.mnemonic.Piece.Piece, declared.operands.Rule.Rule}
 
 pub none_left : (text : List ℕ) (rule : Rule) (form : List Piece) (tokens : List Token) → length tokens < 1 → first_breaking text rule form tokens ≡ None
 none_left text rule [] tokens h = refl

@@ -2,11 +2,9 @@
 use Rattle.std.proofs.Common.{◌≡◌, ◌∙◌, ℕ, zero, suc, ◌+◌, ◌-◌, ◌≤◌, List, [], ◌∷◌, ◌++◌, length, take, drop, get_or, refl, ap, sym, arith, Result}
 use Rattle.std.proofs.lemmas.List.{take_all}
 use Rattle.kp_base.specs.declared.refusal.Refusal.{Refusal}
-use Rattle.kp_asm.specs.Tokens.{tokens_from, after_front, front_of, token_at}
-use Rattle.kp_asm.specs.declared.front.Front.{Front}
-use Rattle.kp_asm.specs.declared.front.Front.TheVariants as fronts
-use Rattle.kp_asm.specs.declared.token.Token.{Token}
+use Rattle.kp_asm.specs.{Tokens.tokens_from, Tokens.after_front, Tokens.front_of, Tokens.token_at, declared.front.Front.Front, declared.token.Token.Token}
 use Rattle.kp_asm.specs.declared.token.TokenKind.{TokenKind}
+use Rattle.kp_asm.specs.declared.front.Front.TheVariants as fronts
 
 pub skip : (text : List ℕ) (tokens : List Token) (start inside : ℕ) (rest : List ℕ) → inside ≤ length rest
     → tokens_from text tokens start inside rest ≡ tokens_from text tokens (start + inside) 0 (drop inside rest)

@@ -1,7 +1,6 @@
 -- The section of a description that fills the file IM with words.
 use Rattle.std.specs.Prelude.{ℕ, ◌+◌, List, [], ◌∷◌, ◌++◌, codes, decimal}
-use Rattle.kp_bits.specs.Word.{Word, word}
-use Rattle.kp_bits.specs.Spelling.{spelling}
+use Rattle.kp_bits.specs.{Word.Word, Word.word, Spelling.spelling}
 
 -- `  IM[0] = 32'h20010003;`
 unfoldable pub image_line : ℕ → Word → List ℕ

@@ -1,18 +1,12 @@
 -- The mnemonics, the form of each, and the requirements on a token.
 use Rattle.std.specs.Prelude.{ℕ, List, [], ◌∷◌, Option, Some, None, Bool, true, false, not, if◌then◌else◌, codes, find, map, option_map}
 use Rattle.std.specs.Str.{bytes_eq}
-use Rattle.kp_base.specs.First.{first}
-use Rattle.kp_base.specs.Check.{Answer}
-use Rattle.kp_asm.specs.Tokens.{bytes_of, broken}
-use Rattle.kp_asm.specs.Numbers.{is_register, is_low, in_range}
-use Rattle.kp_asm.specs.declared.token.Token.{Token}
-use Rattle.kp_asm.specs.declared.token.TokenKind.{TokenKind}
+use Rattle.kp_base.specs.{First.first, Check.Answer}
+use Rattle.kp_asm.specs.{Tokens.bytes_of, Tokens.broken, Numbers.is_register, Numbers.is_low, Numbers.in_range, declared.token.Token.Token}
+use Rattle.kp_asm.specs.declared.{token.TokenKind.TokenKind, mnemonic.Mnemonic.Mnemonic, mnemonic.Piece.Piece, operands.Rule.Rule}
 use Rattle.kp_asm.specs.declared.token.TokenKind.TheVariants as kinds
-use Rattle.kp_asm.specs.declared.mnemonic.Mnemonic.{Mnemonic}
 use Rattle.kp_asm.specs.declared.mnemonic.Mnemonic.TheVariants as mnemonics
-use Rattle.kp_asm.specs.declared.mnemonic.Piece.{Piece}
 use Rattle.kp_asm.specs.declared.mnemonic.Piece.TheVariants as pieces
-use Rattle.kp_asm.specs.declared.operands.Rule.{Rule}
 use Rattle.kp_asm.specs.declared.operands.Rule.TheVariants as rules
 
 -- the text of a mnemonic

@@ -1,20 +1,12 @@
 -- The contents of a program, line by line, and the words that it denotes.
 use Rattle.std.specs.Prelude.{ℕ, ◌+◌, ◌*◌, ◌==◌, nat_lt, nat_eq, List, [], ◌∷◌, ◌++◌, Bool, true, false, if◌then◌else◌, Option, Some, None, is_some, unwrap_or, slice_get, Result, Ok, Err}
-use Rattle.std.specs.Map.{lookup}
-use Rattle.std.specs.Cmp.Lexicographic.{pointwise}
-use Rattle.kp_base.specs.Check.{after, bind, unless}
-use Rattle.kp_base.specs.declared.refusal.Refusal.{Refusal}
-use Rattle.kp_asm.specs.Tokens.{bytes_of, broken, tokens_of}
-use Rattle.kp_asm.specs.Mnemonics.{mnemonic_of, form, broken_operand}
-use Rattle.kp_asm.specs.Words.{word_of}
-use Rattle.kp_asm.specs.declared.token.Token.{Token}
-use Rattle.kp_asm.specs.declared.token.TokenKind.{TokenKind}
-use Rattle.kp_asm.specs.declared.token.TokenKind.TheVariants as kinds
-use Rattle.kp_asm.specs.declared.mnemonic.Mnemonic.{Mnemonic}
-use Rattle.kp_asm.specs.declared.mnemonic.Mnemonic.TheVariants as mnemonics
-use Rattle.kp_asm.specs.declared.item.Label.{Label}
-use Rattle.kp_asm.specs.declared.item.Instruction.{Instruction}
+use Rattle.std.specs.{Map.lookup, Cmp.Lexicographic.pointwise}
+use Rattle.kp_base.specs.{Check.after, Check.bind, Check.unless, declared.refusal.Refusal.Refusal}
+use Rattle.kp_asm.specs.{Tokens.bytes_of, Tokens.broken, Tokens.tokens_of, Mnemonics.mnemonic_of, Mnemonics.form, Mnemonics.broken_operand, Words.word_of}
+use Rattle.kp_asm.specs.declared.{token.Token.Token, token.TokenKind.TokenKind, mnemonic.Mnemonic.Mnemonic, item.Label.Label, item.Instruction.Instruction}
 use Rattle.kp_asm.specs.declared.item.Item.{Item}
+use Rattle.kp_asm.specs.declared.token.TokenKind.TheVariants as kinds
+use Rattle.kp_asm.specs.declared.mnemonic.Mnemonic.TheVariants as mnemonics
 use Rattle.kp_asm.specs.declared.item.Item.TheVariants as items
 
 -- the token ends a line

@@ -1,13 +1,9 @@
 -- The tokens of an assembler program.
 use Rattle.std.specs.Prelude.{ℕ, zero, suc, ◌+◌, ◌==◌, ◌||◌, ◌&&◌, nat_lt, nat_le, not, List, [], ◌∷◌, ◌++◌, drop, take, Bool, false, if◌then◌else◌, Result, Ok, Err}
-use Rattle.kp_base.specs.Characters.{is_digit, is_letter, is_word, run_length}
-use Rattle.kp_base.specs.Place.{place_after}
-use Rattle.kp_base.specs.Refusal.{a_rule}
+use Rattle.kp_base.specs.{Characters.is_digit, Characters.is_letter, Characters.is_word, Characters.run_length, Place.place_after, Refusal.a_rule}
 use Rattle.kp_base.specs.declared.refusal.Refusal.{Refusal}
-use Rattle.kp_asm.specs.declared.token.Token.{Token}
-use Rattle.kp_asm.specs.declared.token.TokenKind.{TokenKind}
+use Rattle.kp_asm.specs.declared.{token.Token.Token, token.TokenKind.TokenKind, front.Front.Front}
 use Rattle.kp_asm.specs.declared.token.TokenKind.TheVariants as kinds
-use Rattle.kp_asm.specs.declared.front.Front.{Front}
 use Rattle.kp_asm.specs.declared.front.Front.TheVariants as fronts
 
 -- space, tab and carriage return; a line feed is a token

@@ -1,7 +1,6 @@
 -- The word of each instruction: one line for each line of the table of instructions.
 use Rattle.std.specs.Prelude.{ℕ, ◌+◌, ◌-◌, ◌*◌, ◌%◌, ◌^◌, List}
-use Rattle.kp_asm.specs.Numbers.{register, number}
-use Rattle.kp_asm.specs.declared.mnemonic.Mnemonic.{Mnemonic}
+use Rattle.kp_asm.specs.{Numbers.register, Numbers.number, declared.mnemonic.Mnemonic.Mnemonic}
 use Rattle.kp_asm.specs.declared.mnemonic.Mnemonic.TheVariants as mnemonics
 
 -- opcode 0 in bits 31 to 26, RS1 in 25 to 21, RS2 in 20 to 16, RD in 15 to 11, the function in 5 to 0

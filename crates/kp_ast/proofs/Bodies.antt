@@ -1,9 +1,7 @@
 -- The sizes of the bodies of functions, one declaration after another.
 use Rattle.std.proofs.Common.{◌≡◌, ◌∙◌, ℕ, ◌+◌, ◌<◌, zero, suc, min, Bool, true, false, cond, List, [], ◌∷◌, ◌++◌, length, take, get_or, fold, refl, ap, sym, arith}
-use Rattle.std.proofs.lemmas.List.{take_more}
-use Rattle.std.proofs.lemmas.List.Sums.{fold-append}
-use Rattle.kp_ast.specs.declared.tree.Decl.{Decl}
-use Rattle.kp_ast.specs.Expressions.{is_function}
+use Rattle.std.proofs.lemmas.List.{take_more, Sums.fold-append}
+use Rattle.kp_ast.specs.{declared.tree.Decl.Decl, Expressions.is_function}
 use Rattle.kp_ast.specs.Size.{Bodies, body_size_of, bodies_after, bodies_of, no_bodies, capped_from, capped_bodies}
 
 length-from : (known : Bodies) (ds : List Decl) → length (capped_from known ds) ≡ length ds

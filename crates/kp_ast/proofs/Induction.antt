@@ -1,17 +1,12 @@
 -- Induction over expressions.
 use Rattle.std.proofs.Common.{◌≡◌, ℕ, List, [], ◌∷◌, map, subst}
 use Rattle.kp_base.specs.declared.place.Place.{Place}
-use Rattle.kp_bits.specs.declared.literal.Literal.{Literal}
-use Rattle.kp_bits.specs.declared.operator.BinOp.{BinOp}
-use Rattle.kp_ast.specs.declared.tree.Num.{Num}
-use Rattle.kp_ast.specs.declared.tree.Expr.{Expr}
-use Rattle.kp_ast.specs.declared.tree.ExprKind.{ExprKind}
-use Rattle.kp_ast.specs.declared.tree.ExprKind.TheOpen.{ExprKind-F, Expr-F}
+use Rattle.kp_bits.specs.declared.{literal.Literal.Literal, operator.BinOp.BinOp}
+use Rattle.kp_ast.specs.declared.tree.{Num.Num, Expr.Expr, ExprKind.ExprKind, ExprKind.TheOpen.ExprKind-F, ExprKind.TheOpen.Expr-F}
+use Rattle.kp_ast.specs.declared.tree.ExprKind.{TheViews.roll-ExprKind, TheViews.roll-Expr, TheFolds.map-ExprKind, TheFolds.map-Expr, TheFolds.ind-Expr}
 use Rattle.kp_ast.specs.declared.tree.ExprKind.TheOpen as level
 use Rattle.kp_ast.specs.declared.tree.ExprKind.TheVariants as leaf
-use Rattle.kp_ast.specs.declared.tree.ExprKind.TheViews.{roll-ExprKind, roll-Expr}
 use Rattle.kp_ast.specs.declared.tree.ExprKind.TheViews as kind
-use Rattle.kp_ast.specs.declared.tree.ExprKind.TheFolds.{map-ExprKind, map-Expr, ind-Expr}
 
 -- P of each expression in a list
 abbrev pub Every : (Expr → Type 0) → List Expr → Type 0

@@ -1,17 +1,13 @@
 -- A fold over an expression, one level at a time: its value for each form, given its values for the parts.
 use Rattle.std.proofs.Common.{◌≡◌, ◌∙◌, ℕ, List, map, ap}
 use Rattle.kp_base.specs.declared.place.Place.{Place}
-use Rattle.kp_bits.specs.declared.literal.Literal.{Literal}
-use Rattle.kp_bits.specs.declared.operator.BinOp.{BinOp}
-use Rattle.kp_ast.specs.declared.tree.Num.{Num}
-use Rattle.kp_ast.specs.declared.tree.Expr.{Expr}
-use Rattle.kp_ast.specs.declared.tree.ExprKind.{ExprKind}
-use Rattle.kp_ast.specs.declared.tree.ExprKind.TheOpen.{ExprKind-F, Expr-F}
+use Rattle.kp_bits.specs.declared.{literal.Literal.Literal, operator.BinOp.BinOp}
+use Rattle.kp_ast.specs.declared.tree.{Num.Num, Expr.Expr, ExprKind.ExprKind, ExprKind.TheOpen.ExprKind-F, ExprKind.TheOpen.Expr-F}
+use Rattle.kp_ast.specs.declared.tree.ExprKind.TheViews.{roll-ExprKind, roll-Expr}
+use Rattle.kp_ast.specs.declared.tree.ExprKind.TheFolds.{fold-Expr, fold-ExprKind, map-ExprKind, fold-roll-Expr, fold-roll-ExprKind}
 use Rattle.kp_ast.specs.declared.tree.ExprKind.TheOpen as level
 use Rattle.kp_ast.specs.declared.tree.ExprKind.TheVariants as leaf
-use Rattle.kp_ast.specs.declared.tree.ExprKind.TheViews.{roll-ExprKind, roll-Expr}
 use Rattle.kp_ast.specs.declared.tree.ExprKind.TheViews as kind
-use Rattle.kp_ast.specs.declared.tree.ExprKind.TheFolds.{fold-Expr, fold-ExprKind, map-ExprKind, fold-roll-Expr, fold-roll-ExprKind}
 
 module _ (A B : Type 0) (step : ExprKind-F A B → A) (step' : Expr-F A B → B) where
   abbrev folded : Expr → B

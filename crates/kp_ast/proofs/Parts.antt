@@ -1,19 +1,14 @@
 -- The value and the size of an expression by those of its parts.
-use Rattle.std.proofs.Common.{◌≡◌, ◌∙◌, ℕ, ◌+◌, List, map, Option, ap, sym}
-use Rattle.std.specs.Prelude.{sum_by}
-use Rattle.std.specs.Option.{option_map, option_and_then}
-use Rattle.std.proofs.lemmas.List.Sums.{sum-map}
+use Rattle.std.proofs.{Common.◌≡◌, Common.◌∙◌, Common.ℕ, Common.◌+◌, Common.List, Common.map, Common.Option, Common.ap, Common.sym, lemmas.List.Sums.sum-map}
+use Rattle.std.specs.{Prelude.sum_by, Option.option_map, Option.option_and_then}
 use Rattle.kp_bits.specs.Word.{Word, not_of}
 use Rattle.kp_bits.specs.Checked.{checked_literal, checked_binary, checked_mux, checked_joined, checked_slice, checked_zext, checked_sext}
-use Rattle.kp_bits.specs.declared.literal.Literal.{Literal}
-use Rattle.kp_bits.specs.declared.operator.BinOp.{BinOp}
-use Rattle.kp_ast.specs.declared.tree.Num.{Num}
-use Rattle.kp_ast.specs.declared.tree.Expr.{Expr}
-use Rattle.kp_ast.specs.declared.tree.ExprKind.{ExprKind}
-use Rattle.kp_ast.specs.declared.tree.ExprKind.TheVariants as leaf
-use Rattle.kp_ast.specs.declared.tree.ExprKind.TheViews as kind
+use Rattle.kp_bits.specs.declared.{literal.Literal.Literal, operator.BinOp.BinOp}
+use Rattle.kp_ast.specs.declared.tree.{Num.Num, Expr.Expr, ExprKind.ExprKind}
 use Rattle.kp_ast.specs.Checked.{Known, checked, checked_kind, checked_level, all_there}
 use Rattle.kp_ast.specs.Size.{Bodies, size_with, size_of_kind, size_of_level}
+use Rattle.kp_ast.specs.declared.tree.ExprKind.TheVariants as leaf
+use Rattle.kp_ast.specs.declared.tree.ExprKind.TheViews as kind
 use Rattle.kp_ast.proofs.Levels.{fold-Lit, fold-Name, fold-Not, fold-Binary, fold-Mux, fold-Concat, fold-Slice, fold-Zext, fold-Sext, fold-Call}
 
 module _ (e : Expr) where

@@ -1,9 +1,8 @@
 -- How much work is in the bodies of functions.
 use Rattle.std.proofs.Common.{ℕ, ◌+◌, List}
 use Rattle.std.specs.Prelude.{sum_by}
-use Rattle.kp_ast.specs.declared.tree.Decl.{Decl}
+use Rattle.kp_ast.specs.declared.tree.{Decl.Decl, ExprKind.TheViews.size-Expr}
 use Rattle.kp_ast.specs.declared.tree.Decl.TheVariants as decls
-use Rattle.kp_ast.specs.declared.tree.ExprKind.TheViews.{size-Expr}
 
 abbrev pub weight_of : Decl → ℕ
 weight_of (decls.Func f) = 1 + size-Expr f.body

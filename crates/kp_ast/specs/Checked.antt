@@ -3,13 +3,10 @@
 use Rattle.std.specs.Prelude.{ℕ, ◌==◌, if◌then◌else◌, List, [], ◌∷◌, length, fold, Option, None, Some, option_map, option_and_then}
 use Rattle.kp_bits.specs.Checked.{checked_literal, checked_binary, checked_mux, checked_joined, checked_slice, checked_zext, checked_sext}
 use Rattle.kp_bits.specs.Word.{Word, not_of}
-use Rattle.kp_ast.specs.Expressions.{Values, look_up, arguments_of, is_function}
-use Rattle.kp_ast.specs.declared.tree.Decl.{Decl}
+use Rattle.kp_ast.specs.{Expressions.Values, Expressions.look_up, Expressions.arguments_of, Expressions.is_function, declared.tree.Decl.Decl}
+use Rattle.kp_ast.specs.declared.tree.{Expr.Expr, ExprKind.TheOpen.ExprKind-F, ExprKind.TheOpen.Expr-F, ExprKind.TheFolds.fold-Expr}
 use Rattle.kp_ast.specs.declared.tree.Decl.TheVariants as decls
-use Rattle.kp_ast.specs.declared.tree.Expr.{Expr}
-use Rattle.kp_ast.specs.declared.tree.ExprKind.TheOpen.{ExprKind-F, Expr-F}
 use Rattle.kp_ast.specs.declared.tree.ExprKind.TheOpen as level
-use Rattle.kp_ast.specs.declared.tree.ExprKind.TheFolds.{fold-Expr}
 
 -- the known values of names, and of calls with the values of their arguments
 pub record Known : Type 0 where

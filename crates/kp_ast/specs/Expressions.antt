@@ -1,18 +1,12 @@
 -- The meaning of an expression: its value, given an environment with the values of names and calls.
 use Rattle.std.specs.Prelude.{◌≡◌, ℕ, Bool, false, List, [], ◌∷◌, ◌++◌, if◌then◌else◌, nat_eq, Option, unwrap_or, fold, map}
-use Rattle.std.specs.List.{zip, flat_map}
-use Rattle.std.specs.Map.{lookup}
-use Rattle.std.specs.Cmp.Lexicographic.{pointwise}
+use Rattle.std.specs.{List.zip, List.flat_map, Map.lookup, Cmp.Lexicographic.pointwise}
 use Rattle.kp_bits.specs.Operators.{no_word, binary_of, joined_of}
 use Rattle.kp_bits.specs.Word.{Word, word, not_of, mux_of, slice_of, zext_of, sext_of}
-use Rattle.kp_ast.specs.declared.tree.Param.{Param}
-use Rattle.kp_ast.specs.declared.tree.FuncDecl.{FuncDecl}
-use Rattle.kp_ast.specs.declared.tree.Decl.{Decl}
-use Rattle.kp_ast.specs.declared.tree.Decl.TheVariants as decls
-use Rattle.kp_ast.specs.declared.tree.Expr.{Expr}
-use Rattle.kp_ast.specs.declared.tree.ExprKind.TheOpen.{ExprKind-F, Expr-F}
-use Rattle.kp_ast.specs.declared.tree.ExprKind.TheOpen as level
+use Rattle.kp_ast.specs.declared.tree.{Param.Param, FuncDecl.FuncDecl, Decl.Decl, Expr.Expr, ExprKind.TheOpen.ExprKind-F, ExprKind.TheOpen.Expr-F}
 use Rattle.kp_ast.specs.declared.tree.ExprKind.TheFolds.{fold-Expr}
+use Rattle.kp_ast.specs.declared.tree.Decl.TheVariants as decls
+use Rattle.kp_ast.specs.declared.tree.ExprKind.TheOpen as level
 
 -- the values of names, and of calls of functions with the values of their arguments
 abbrev pub Names : Type 0

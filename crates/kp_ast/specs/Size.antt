@@ -1,13 +1,10 @@
 -- The expanded size of an expression: the number of its literals, names, operators and calls, where each call also
 -- counts the body of its function. It is computed without expanding anything.
 use Rattle.std.specs.Prelude.{ℕ, ◌+◌, min, List, [], ◌∷◌, if◌then◌else◌, fold, sum}
-use Rattle.kp_ast.specs.Expressions.{is_function}
-use Rattle.kp_ast.specs.declared.tree.Decl.{Decl}
+use Rattle.kp_ast.specs.{Expressions.is_function, declared.tree.Decl.Decl, declared.tree.Expr.Expr}
+use Rattle.kp_ast.specs.declared.tree.ExprKind.{TheOpen.ExprKind-F, TheOpen.Expr-F, TheFolds.fold-Expr}
 use Rattle.kp_ast.specs.declared.tree.Decl.TheVariants as decls
-use Rattle.kp_ast.specs.declared.tree.Expr.{Expr}
-use Rattle.kp_ast.specs.declared.tree.ExprKind.TheOpen.{ExprKind-F, Expr-F}
 use Rattle.kp_ast.specs.declared.tree.ExprKind.TheOpen as level
-use Rattle.kp_ast.specs.declared.tree.ExprKind.TheFolds.{fold-Expr}
 
 -- the expanded sizes of the bodies of functions, by the functions' names
 abbrev pub Bodies : Type 0

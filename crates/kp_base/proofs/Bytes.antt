@@ -1,12 +1,8 @@
 -- Known bytes over several calls.
 use Rattle.std.proofs.Common.{◌∙◌, append_assoc, ℕ, List, ◌+◌, [], ◌++◌, take, drop, sym, subst, refl, arith, Ok, Err}
-use Rattle.std.specs.declared.option.Option.{Option}
-use Rattle.std.specs.declared.result.Result.{Result}
-use Rattle.std.proofs.Math.Seq.{take-add}
-use Rattle.std.specs.Io.KnownBytes.{Appends}
-use Rattle.std.proofs.KnownBytes.{Appends-nil, Appends-trans}
-use Rattle.kp_base.specs.Bytes.{AppendsPart, Writes}
-use Rattle.kp_base.specs.inner.Bytes.{WrittenUpTo}
+use Rattle.std.proofs.{Math.Seq.take-add, KnownBytes.Appends-nil, KnownBytes.Appends-trans}
+use Rattle.std.specs.{declared.option.Option.Option, declared.result.Result.Result, Io.KnownBytes.Appends}
+use Rattle.kp_base.specs.{Bytes.AppendsPart, Bytes.Writes, inner.Bytes.WrittenUpTo}
 
 -- the next bytes of a piece, after those that were taken
 pub appends_next : (a b c : Option (List ℕ)) (piece : List ℕ) (done count : ℕ) → Appends a b (take done piece) → Appends b c (take count (drop done piece)) → Appends a c (take (done + count) piece)

@@ -1,10 +1,7 @@
 -- The outcome step by step is the first answer.
 use Rattle.std.proofs.Common.{◌≡◌, ◌∙◌, Some, None, Result, Ok, Err, refl, sym}
-use Rattle.kp_base.specs.First.{first, Answers}
-use Rattle.kp_base.specs.Check.{Answer, Check, Gives, after}
-use Rattle.kp_base.specs.declared.refusal.Refusal.{Refusal}
-use Rattle.kp_base.specs.declared.refusal.Refused.{Refused}
-use Rattle.kp_base.specs.declared.refusal.Refused.TheVariants.{Rule, NoMemory}
+use Rattle.kp_base.specs.{First.first, First.Answers, Check.Answer, Check.Check, Check.Gives, Check.after, declared.refusal.Refusal.Refusal}
+use Rattle.kp_base.specs.declared.refusal.Refused.{Refused, TheVariants.Rule, TheVariants.NoMemory}
 
 ok_of : {X : Type 0} (broken : Answer) (x y : X) → after broken (Ok x) ≡ Ok y → (broken ≡ None) × (y ≡ x)
 ok_of None x y e = (refl, cc)

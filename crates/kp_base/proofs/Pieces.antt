@@ -1,7 +1,6 @@
 -- Pieces of a text, in order.
 use Rattle.std.proofs.Common.{◌≡◌, ℕ, suc, ◌<◌, List, ◌++◌, length, get_or, take, drop, sym, ap, ◌∙◌, drop-cons}
-use Rattle.std.proofs.lemmas.List.{take-append-drop}
-use Rattle.std.proofs.lemmas.Grind.{flat_map-append}
+use Rattle.std.proofs.lemmas.{List.take-append-drop, Grind.flat_map-append}
 use Rattle.std.specs.Prelude.{flat_map}
 
 -- the text before a piece, the piece, and the text after it

@@ -2,9 +2,7 @@
 -- step, as a program runs it. A field says that the two agree, so each rule is written once.
 use Rattle.std.specs.Prelude.{◌≡◌, List, [], ◌∷◌, ◌++◌, Option, Some, None, Result, Ok, Err, Bool, true, false, if◌then◌else◌, ⊤}
 use Rattle.std.proofs.Common.{refl, ap, sym, ◌∙◌}
-use Rattle.kp_base.specs.First.{first}
-use Rattle.kp_base.specs.declared.refusal.Refusal.{Refusal}
-use Rattle.kp_base.specs.declared.refusal.Refused.{Refused}
+use Rattle.kp_base.specs.{First.first, declared.refusal.Refusal.Refusal, declared.refusal.Refused.Refused}
 use Rattle.kp_base.specs.declared.refusal.Refused.TheVariants.{Rule, NoMemory}
 
 -- a violated rule, or none

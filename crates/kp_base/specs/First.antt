@@ -1,8 +1,6 @@
 -- The first violated rule: each rule is a question, and the first answer in the list that names a rule is returned.
 use Rattle.std.specs.Prelude.{◌≡◌, List, [], ◌∷◌, Option, Some, None, Result, Ok, Err, ⊤}
-use Rattle.kp_base.specs.declared.refusal.Refusal.{Refusal}
-use Rattle.kp_base.specs.declared.refusal.Refused.{Refused}
-use Rattle.kp_base.specs.declared.refusal.Refused.TheVariants.{Rule, NoMemory}
+use Rattle.kp_base.specs.declared.refusal.{Refusal.Refusal, Refused.Refused, Refused.TheVariants.Rule, Refused.TheVariants.NoMemory}
 
 -- the first answer that is not None
 abbrev pub first : {X : Type 0} → List (Option X) → Option X

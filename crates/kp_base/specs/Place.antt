@@ -1,6 +1,5 @@
 -- The position after a prefix of a text: its line and its column, both counted from 1, columns in bytes.
-use Rattle.std.specs.Prelude.{◌==◌, not, ℕ, ◌+◌, List, length, reverse, count_by}
-use Rattle.std.specs.List.{take_while}
+use Rattle.std.specs.{Prelude.◌==◌, Prelude.not, Prelude.ℕ, Prelude.◌+◌, Prelude.List, Prelude.length, Prelude.reverse, Prelude.count_by, List.take_while}
 use Rattle.kp_base.specs.declared.place.Place.{Place}
 
 -- one more than the number of line feeds in the prefix

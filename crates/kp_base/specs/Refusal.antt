@@ -1,8 +1,6 @@
 -- A rule of one of the three languages, violated at a position.
 use Rattle.std.specs.Prelude.{ℕ}
-use Rattle.kp_base.specs.declared.place.Place.{Place}
-use Rattle.kp_base.specs.declared.refusal.Family.{Family}
-use Rattle.kp_base.specs.declared.refusal.Refusal.{Refusal}
+use Rattle.kp_base.specs.declared.{place.Place.Place, refusal.Family.Family, refusal.Refusal.Refusal}
 
 -- rule E of this number: of descriptions
 abbrev pub e_rule : ℕ → Place → Refusal

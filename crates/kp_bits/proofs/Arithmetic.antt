@@ -1,8 +1,7 @@
 -- The laws that the definitions of the operations are checked by.
 use Rattle.std.proofs.Common.{◌≡◌, ◌∙◌, ◌↔◌, inl, inr, refl, sym, ap, ℕ, suc, ◌+◌, ◌-◌, ◌*◌, ◌/◌, ◌%◌, ◌^◌, ◌<◌, ◌≤◌, ◌==◌, arith, cond, eqb, ltb, pos, neg_ℤ}
 use Rattle.std.proofs.Math.Nat.{mod-eq_of_lt, add-mod_right, add-mod, mul-add, mod-add-mod, two-pow-succ}
-use Rattle.std.proofs.lemmas.Bool.{cond-true, cond-false, lt-ltb, le-ltb, cases_lt, eq-eqb}
-use Rattle.std.proofs.lemmas.Bool.Decides.{nat_tests}
+use Rattle.std.proofs.lemmas.Bool.{cond-true, cond-false, lt-ltb, le-ltb, cases_lt, eq-eqb, Decides.nat_tests}
 use Rattle.std.proofs.lemmas.Nat.{mul-mod_second, div-mul-add, mod-mul-add, shr_split, shr_below}
 use Rattle.kp_bits.specs.Word.{Word, word, IsWord, signed_of, not_of, add_of, sub_of, mul_of, eq_of, lt_of, shl_of, shr_of, concat_of, slice_of, zext_of, sext_of}
 use Rattle.kp_bits.proofs.Powers.{pow_le}

@@ -1,8 +1,7 @@
 -- Digits, and the numbers that they write.
 use Rattle.std.proofs.Common.{◌≡◌, ◌∙◌, ℕ, ◌+◌, ◌*◌, ◌^◌, ◌<◌, ◌≤◌, List, [], ◌∷◌, Some, None, fold, length, get_or, drop, arith, ltb, sym, ap, inl, inr}
 use Rattle.std.proofs.Math.Nat.{le-mul_of_pos_right}
-use Rattle.std.proofs.lemmas.Bool.{cond_both, cond-true, cond-false, lt-ltb, le-ltb, cases_lt}
-use Rattle.std.proofs.lemmas.List.{at_drop_more, at_drop_all}
+use Rattle.std.proofs.lemmas.{Bool.cond_both, Bool.cond-true, Bool.cond-false, Bool.lt-ltb, Bool.le-ltb, Bool.cases_lt, List.at_drop_more, List.at_drop_all}
 use Rattle.std.specs.Char.{digit_value}
 use Rattle.kp_bits.specs.Literals.{is_underscore, numeral_next, numeral_value, number_within}
 

@@ -1,22 +1,16 @@
 -- What is written is read back, and what is read has the form of a literal.
 use Rattle.std.proofs.Common.{◌≡◌, ◌∙◌, inl, inr, refl, sym, ap, ℕ, zero, suc, ◌+◌, ◌*◌, ◌/◌, ◌%◌, ◌^◌, ◌<◌, ◌≤◌, ◌==◌, ◌⊎◌, arith, cond, ltb, true, false, not, ◌&&◌, ◌||◌, List, [], ◌∷◌, ◌++◌, length, take, drop, map, fold, position, Some, None, Ok, Err, Option, IfOk, leb, get_or}
 use Rattle.std.proofs.lemmas.Bool.{cond_both, cond-true, cond-false, leb-true, lt-ltb, le-ltb, le-leb, cases_lt, cases_Bool, eqb-true, ltb-true, agree_below_at, and_from, or_left, and_parts}
-use Rattle.std.proofs.lemmas.Bool.Decides.{nat_tests}
-use Rattle.std.proofs.lemmas.Int.Digits.{number_digits_of, all_below_base_digits_of, length-digits_of_step}
-use Rattle.std.proofs.lemmas.List.{take_at, drop_at, length-append, length-map, length_push, append_assoc}
-use Rattle.std.proofs.lemmas.List.Sums.{split_at_first, passes_at_first}
-use Rattle.std.proofs.lemmas.Nat.{mod-pow-add}
-use Rattle.std.proofs.Math.Nat.{mod-eq_of_lt, pow-suc, add-mul, mul_assoc, mul_comm}
-use Rattle.std.specs.Char.{digit_value, digit_char, is_digit}
-use Rattle.std.specs.Int.Digits.{digits_of, number_from_digits_after, AllBelowBase}
+use Rattle.std.proofs.lemmas.{Bool.Decides.nat_tests, Int.Digits.number_digits_of, Int.Digits.all_below_base_digits_of, Int.Digits.length-digits_of_step}
+use Rattle.std.proofs.lemmas.List.{take_at, drop_at, length-append, length-map, length_push, append_assoc, Sums.split_at_first, Sums.passes_at_first}
+use Rattle.std.proofs.{lemmas.Nat.mod-pow-add, Math.Nat.mod-eq_of_lt, Math.Nat.pow-suc, Math.Nat.add-mul, Math.Nat.mul_assoc, Math.Nat.mul_comm}
+use Rattle.std.specs.{Char.digit_value, Char.digit_char, Char.is_digit, Int.Digits.digits_of, Int.Digits.number_from_digits_after, Int.Digits.AllBelowBase}
 use Rattle.std.specs.List.{list_all, position_or_len}
-use Rattle.kp_bits.specs.Word.{Word, word, IsWord}
 use Rattle.kp_bits.specs.Literals.{is_quote, is_underscore, is_number, is_numeral, numeral_next, numeral_value, number_within, number_of, base_of, literal_within, literal_in_base, literal_of_parts, literal_at, literal_of, fit_of, IsLiteral}
-use Rattle.kp_bits.specs.Spelling.{decimal_digits, hex_digits, quarters, spelling}
+use Rattle.kp_bits.specs.{Word.Word, Word.word, Word.IsWord, Spelling.decimal_digits, Spelling.hex_digits, Spelling.quarters, Spelling.spelling}
 use Rattle.kp_bits.specs.declared.literal.Literal.{Literal}
 use Rattle.kp_bits.specs.declared.literal.LiteralFault.TheVariants.{BadDigit, TooBig, BadWidth}
-use Rattle.kp_bits.proofs.Powers.{pow_le}
-use Rattle.kp_bits.proofs.Spellings.{sixteen}
+use Rattle.kp_bits.proofs.{Powers.pow_le, Spellings.sixteen}
 
 -- the character of a digit has its value, and is no `_`
 value_of_char : (d : ℕ) → d < 36 → digit_value (digit_char d) ≡ d

@@ -1,7 +1,6 @@
 -- Each operation returns a word, at the widths that it requires.
 use Rattle.std.proofs.Common.{◌≡◌, ℕ, ◌+◌, ◌-◌, ◌*◌, ◌/◌, ◌%◌, ◌^◌, ◌<◌, ◌≤◌, ◌==◌, arith, cond, ltb}
-use Rattle.std.proofs.lemmas.Bool.{cond_both}
-use Rattle.std.proofs.lemmas.Nat.{pow_pos, and_le_l, or_lt, xor_lt, mod_below, shr_le}
+use Rattle.std.proofs.lemmas.{Bool.cond_both, Nat.pow_pos, Nat.and_le_l, Nat.or_lt, Nat.xor_lt, Nat.mod_below, Nat.shr_le}
 use Rattle.kp_bits.specs.Word.{Word, IsWord, not_of, and_of, or_of, xor_of, add_of, sub_of, mul_of, eq_of, lt_of, shl_of, shr_of, mux_of, concat_of, slice_of, zext_of, sext_of}
 use Rattle.kp_bits.proofs.Powers.{concat_fits, pow_le}
 

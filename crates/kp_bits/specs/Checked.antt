@@ -1,10 +1,8 @@
 -- The operations on words, defined only for operands of the specified widths.
 use Rattle.std.specs.Prelude.{ℕ, ◌+◌, Bool, ◌&&◌, ◌||◌, ◌==◌, nat_lt, nat_le, if◌then◌else◌, List, [], ◌∷◌, Option, None, Some}
 use Rattle.std.specs.Result.{result_ok}
-use Rattle.kp_bits.specs.Literals.{fit_of}
-use Rattle.kp_bits.specs.Operators.{is_shift, binary_of}
-use Rattle.kp_bits.specs.Word.{Word, mux_of, concat_of, slice_of, zext_of, sext_of}
-use Rattle.kp_bits.specs.declared.literal.Literal.{Literal}
+use Rattle.kp_bits.specs.{Literals.fit_of, Operators.is_shift, Operators.binary_of}
+use Rattle.kp_bits.specs.{Word.Word, Word.mux_of, Word.concat_of, Word.slice_of, Word.zext_of, Word.sext_of, declared.literal.Literal.Literal}
 use Rattle.kp_bits.specs.declared.operator.BinOp.{BinOp}
 
 -- a value if a test passes

@@ -2,11 +2,8 @@
 --
 -- A literal is a sized constant of Verilog (IEEE 1364-2005, clause 3.5.1), here without spaces, and with leading zeros in the width allowed.
 use Rattle.std.specs.Prelude.{ℕ, ◌+◌, ◌*◌, ◌^◌, Bool, false, ◌&&◌, ◌||◌, nat_lt, nat_le, ◌==◌, if◌then◌else◌, List, [], ◌∷◌, Option, Some, None, Result, Ok, Err, fold, length, take, drop, position, ◌≡◌, ◌++◌, IsTrue}
-use Rattle.std.specs.List.{list_all}
-use Rattle.std.specs.Char.{digit_value, is_digit, to_ascii_lowercase}
-use Rattle.kp_bits.specs.Word.{Word, word}
-use Rattle.kp_bits.specs.declared.literal.Literal.{Literal}
-use Rattle.kp_bits.specs.declared.literal.LiteralFault.{LiteralFault}
+use Rattle.std.specs.{List.list_all, Char.digit_value, Char.is_digit, Char.to_ascii_lowercase}
+use Rattle.kp_bits.specs.{Word.Word, Word.word, declared.literal.Literal.Literal, declared.literal.LiteralFault.LiteralFault}
 use Rattle.kp_bits.specs.declared.literal.LiteralFault.TheVariants.{BadDigit, TooBig, BadWidth}
 
 -- the byte is a `'`

@@ -1,8 +1,6 @@
 -- The textual form of a word: the number 11 in 8 bits is `8'h0b`, a sized constant of Verilog (IEEE 1364-2005, clause 3.5.1).
-use Rattle.std.specs.Prelude.{ℕ, zero, suc, ◌+◌, ◌/◌, ◌%◌, ◌^◌, List, [], ◌∷◌, ◌++◌, map}
-use Rattle.std.specs.Prelude.{codes}
-use Rattle.std.specs.Char.{digit_char}
-use Rattle.std.specs.Int.Digits.{digits_of}
+use Rattle.std.specs.Prelude.{ℕ, zero, suc, ◌+◌, ◌/◌, ◌%◌, ◌^◌, List, [], ◌∷◌, ◌++◌, map, codes}
+use Rattle.std.specs.{Char.digit_char, Int.Digits.digits_of}
 use Rattle.kp_bits.specs.Word.{Word}
 
 -- a number in decimal, without leading zeros

@@ -1,29 +1,17 @@
 -- Literals, names, and calls of functions.
 use Rattle.std.proofs.Common.{◌≡◌, ◌∙◌, ℕ, ◌==◌, true, false, Bool, cond, List, [], ◌∷◌, Option, Some, None, length, refl, ap, sym, arith}
-use Rattle.std.specs.Prelude.{is_some}
-use Rattle.std.specs.Option.{option_map}
-use Rattle.std.proofs.lemmas.Bool.{eqb-true}
-use Rattle.std.proofs.lemmas.List.{length-map}
-use Rattle.kp_bits.specs.Word.{Word, not_of}
-use Rattle.kp_bits.specs.Checked.{checked_literal}
-use Rattle.kp_bits.specs.declared.literal.Literal.{Literal}
-use Rattle.kp_ast.specs.declared.tree.Decl.{Decl}
-use Rattle.kp_ast.specs.declared.tree.Decl.TheVariants as decls
-use Rattle.kp_ast.specs.declared.tree.FuncDecl.{FuncDecl}
-use Rattle.kp_ast.specs.declared.tree.Param.{Param}
-use Rattle.kp_ast.specs.declared.tree.Expr.{Expr}
-use Rattle.kp_ast.specs.declared.tree.ExprKind.TheVariants as leaf
+use Rattle.std.proofs.lemmas.{Bool.eqb-true, List.length-map, Option.same_Some}
+use Rattle.std.specs.{Prelude.is_some, Option.option_map}
+use Rattle.kp_bits.specs.{Word.Word, Word.not_of, Checked.checked_literal, declared.literal.Literal.Literal}
+use Rattle.kp_ast.specs.declared.tree.{Decl.Decl, FuncDecl.FuncDecl, Param.Param, Expr.Expr}
 use Rattle.kp_ast.specs.Expressions.{look_up, arguments_of, calls_of}
 use Rattle.kp_ast.specs.Checked.{Known, checked, checked_call, checked_calls_of}
-use Rattle.kp_net.specs.declared.node.NodeId.{NodeId}
-use Rattle.kp_net.specs.Nodes.{Cells, word_at}
-use Rattle.kp_net.specs.Growth.{Held}
+use Rattle.kp_ast.specs.declared.tree.Decl.TheVariants as decls
+use Rattle.kp_ast.specs.declared.tree.ExprKind.TheVariants as leaf
+use Rattle.kp_net.specs.{declared.node.NodeId.NodeId, Nodes.Cells, Nodes.word_at, Growth.Held}
 use Rattle.kp_build.specs.Names.{Scope, node_of, word_of, known_at, IsSound, Gives, Means}
 use Rattle.kp_build.specs.inner.Showing.{IsThere, Shows, words_at, value_in}
-use Rattle.std.proofs.lemmas.Option.{same_Some}
-use Rattle.kp_build.proofs.Agree.{agree, calls_agree}
-use Rattle.kp_build.proofs.Fitting.{no_cells}
-use Rattle.kp_build.proofs.Names.{given, known_in_call}
+use Rattle.kp_build.proofs.{Agree.agree, Agree.calls_agree, Fitting.no_cells, Names.given, Names.known_in_call}
 use Rattle.kp_ast.proofs.Parts.{value_Lit, value_Name}
 
 module _ (p : Held) (env : Scope) (e : Expr) where

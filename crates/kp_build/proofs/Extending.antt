@@ -1,7 +1,6 @@
 -- Extensions as concatenations.
 use Rattle.std.proofs.Common.{◌≡◌, ◌∙◌, ℕ, suc, ◌+◌, ◌-◌, ◌*◌, ◌/◌, ◌%◌, ◌^◌, ◌<◌, ◌≤◌, Bool, true, false, cond, eqb, ltb, refl, ap, sym, inl, inr, arith}
-use Rattle.std.proofs.Math.Nat.{div-eq_of_lt, div-eq_of_lt-le, two-pow-succ}
-use Rattle.std.proofs.lemmas.Nat.{pow-add, pow_pos}
+use Rattle.std.proofs.{Math.Nat.div-eq_of_lt, Math.Nat.div-eq_of_lt-le, Math.Nat.two-pow-succ, lemmas.Nat.pow-add, lemmas.Nat.pow_pos}
 use Rattle.std.proofs.lemmas.Bool.{cond-true, cond-false, lt-ltb, le-ltb, cases_lt}
 use Rattle.kp_bits.specs.Word.{Word, word, IsWord, not_of, concat_of, sext_of}
 use Rattle.kp_build.specs.inner.Showing.{copies}

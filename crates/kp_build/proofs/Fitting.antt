@@ -1,16 +1,11 @@
 -- Operations at nodes: what follows for the widths of the nodes if they have a value, and the meaning of a node with that value.
 use Rattle.std.proofs.Common.{◌≡◌, ◌∙◌, ℕ, ◌<◌, ◌≤◌, ◌&&◌, ◌||◌, ◌==◌, Bool, true, false, List, Some, length, refl, ap, sym, arith}
-use Rattle.std.specs.Prelude.{is_some, nat_lt, nat_le}
 use Rattle.std.proofs.lemmas.Bool.{ltb-true, leb-true, eqb-true}
-use Rattle.kp_bits.specs.Word.{Word, IsWord}
-use Rattle.kp_bits.specs.Operators.{is_shift}
+use Rattle.std.specs.Prelude.{is_some, nat_lt, nat_le}
+use Rattle.kp_bits.specs.{Word.Word, Word.IsWord, Operators.is_shift}
 use Rattle.kp_bits.specs.Checked.{where_so, checked_binary, checked_mux, checked_slice, is_extension}
 use Rattle.kp_bits.specs.declared.operator.BinOp.{BinOp}
-use Rattle.kp_net.specs.declared.node.NodeId.{NodeId}
-use Rattle.kp_net.specs.declared.node.Node.{Node}
-use Rattle.kp_net.specs.Nodes.{Cells, word_at, at}
-use Rattle.kp_net.specs.Widths.{wide, BinaryOk}
-use Rattle.kp_net.specs.Growth.{Held}
+use Rattle.kp_net.specs.{declared.node.NodeId.NodeId, declared.node.Node.Node, Nodes.Cells, Nodes.word_at, Nodes.at, Widths.wide, Widths.BinaryOk, Growth.Held}
 use Rattle.kp_net.proofs.Values.{word_wide, at_fits}
 use Rattle.kp_build.specs.inner.Showing.{IsThere, Shows, width_after}
 

@@ -1,17 +1,12 @@
 -- Each form of expression: its parts are sound if it is, and its value is that of its operation at the nodes of its parts.
 use Rattle.std.proofs.Common.{◌≡◌, ◌∙◌, ℕ, List, Option, Some, ap, sym, true}
-use Rattle.std.specs.Prelude.{is_some}
-use Rattle.std.specs.Option.{option_map, option_and_then}
+use Rattle.std.specs.{Prelude.is_some, Option.option_map, Option.option_and_then}
 use Rattle.kp_bits.specs.Word.{Word, not_of}
 use Rattle.kp_bits.specs.Checked.{checked_binary, checked_mux, checked_joined, checked_slice, checked_zext, checked_sext}
 use Rattle.kp_bits.specs.declared.operator.BinOp.{BinOp}
-use Rattle.kp_ast.specs.declared.tree.Num.{Num}
-use Rattle.kp_ast.specs.declared.tree.Expr.{Expr}
+use Rattle.kp_ast.specs.{declared.tree.Num.Num, declared.tree.Expr.Expr, Checked.checked_calls_of}
 use Rattle.kp_ast.specs.declared.tree.ExprKind.TheViews as kind
-use Rattle.kp_ast.specs.Checked.{checked_calls_of}
-use Rattle.kp_net.specs.declared.node.NodeId.{NodeId}
-use Rattle.kp_net.specs.Nodes.{Cells, word_at}
-use Rattle.kp_net.specs.Growth.{Held}
+use Rattle.kp_net.specs.{declared.node.NodeId.NodeId, Nodes.Cells, Nodes.word_at, Growth.Held}
 use Rattle.kp_build.specs.Names.{Scope, known_at, IsSound, Gives}
 use Rattle.kp_build.specs.inner.Showing.{IsThere, AllShow, words_at, value_in, values_in}
 use Rattle.kp_ast.proofs.Parts.{value_Not, value_Binary, value_Mux, value_Concat, value_Slice, value_Zext, value_Sext, value_Call}

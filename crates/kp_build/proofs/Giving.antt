@@ -1,13 +1,9 @@
 -- The meaning of nodes in terms of expressions, as the pool grows and from parts to the expression.
 use Rattle.std.proofs.Common.{◌≡◌, ◌∙◌, ℕ, ◌<◌, true, List, Option, Some, None, length, refl, ap, sym}
-use Rattle.std.specs.Prelude.{is_some}
-use Rattle.std.specs.Option.{option_map, option_and_then}
+use Rattle.std.specs.{Prelude.is_some, Option.option_map, Option.option_and_then}
 use Rattle.kp_bits.specs.Word.{Word}
-use Rattle.kp_ast.specs.declared.tree.Expr.{Expr}
-use Rattle.kp_ast.specs.Checked.{checked}
-use Rattle.kp_net.specs.declared.node.NodeId.{NodeId}
-use Rattle.kp_net.specs.Nodes.{Cells, word_at}
-use Rattle.kp_net.specs.Growth.{Held, Grown}
+use Rattle.kp_ast.specs.{declared.tree.Expr.Expr, Checked.checked}
+use Rattle.kp_net.specs.{declared.node.NodeId.NodeId, Nodes.Cells, Nodes.word_at, Growth.Held, Growth.Grown}
 use Rattle.kp_build.specs.Names.{Scope, AreInside, IsSound, Gives}
 use Rattle.kp_build.specs.inner.Showing.{IsThere, Shows, AllShow, words_at, value_in, values_in}
 use Rattle.kp_build.proofs.Names.{same_known}

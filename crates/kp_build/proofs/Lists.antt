@@ -1,14 +1,10 @@
 -- Lists of expressions, and their nodes.
 use Rattle.std.proofs.Common.{◌≡◌, ◌∙◌, ℕ, suc, zero, ◌+◌, ◌<◌, true, List, [], ◌∷◌, ◌++◌, map, Option, Some, None, length, get_or, take, refl, ap, sym, arith}
-use Rattle.std.specs.Prelude.{is_some}
-use Rattle.std.specs.Option.{option_map, option_and_then}
 use Rattle.std.proofs.lemmas.List.{take_more, map-append}
+use Rattle.std.specs.{Prelude.is_some, Option.option_map, Option.option_and_then}
 use Rattle.kp_bits.specs.Word.{Word}
-use Rattle.kp_ast.specs.declared.tree.Expr.{Expr}
-use Rattle.kp_ast.specs.Checked.{checked, all_there}
-use Rattle.kp_net.specs.declared.node.NodeId.{NodeId}
-use Rattle.kp_net.specs.Nodes.{word_at}
-use Rattle.kp_net.specs.Growth.{Held, Grown}
+use Rattle.kp_ast.specs.{declared.tree.Expr.Expr, Checked.checked, Checked.all_there}
+use Rattle.kp_net.specs.{declared.node.NodeId.NodeId, Nodes.word_at, Growth.Held, Growth.Grown}
 use Rattle.kp_build.specs.Names.{Scope, known_at, IsSound, Gives}
 use Rattle.kp_build.specs.inner.Showing.{IsThere, AllShow, AllInside, words_at, value_in, values_in}
 use Rattle.kp_build.proofs.Rows.{same_at}

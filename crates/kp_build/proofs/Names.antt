@@ -1,19 +1,12 @@
 -- Names and their nodes: what is preserved while the pool grows, and what changes when a name is bound to a node.
 use Rattle.std.proofs.Common.{◌≡◌, ◌∙◌, ℕ, ◌+◌, ◌<◌, List, [], ◌∷◌, length, get_or, drop, map, Option, Some, None, Bool, true, false, cond, refl, ap, sym, subst, arith}
-use Rattle.std.specs.Option.{option_map}
-use Rattle.std.specs.List.{zip}
-use Rattle.std.proofs.Math.Path.{fun_ext}
-use Rattle.std.proofs.lemmas.List.{drop_more}
-use Rattle.std.proofs.lemmas.List.Elements.{All-head, All-tail}
+use Rattle.std.proofs.{Math.Path.fun_ext, lemmas.List.drop_more, lemmas.List.Elements.All-head, lemmas.List.Elements.All-tail}
+use Rattle.std.specs.{Option.option_map, List.zip}
 use Rattle.kp_bits.specs.Word.{Word}
-use Rattle.kp_ast.specs.Expressions.{is_same_name, look_up, arguments_of}
-use Rattle.kp_ast.specs.declared.tree.Param.{Param}
-use Rattle.kp_ast.specs.declared.tree.Decl.{Decl}
+use Rattle.kp_ast.specs.{Expressions.is_same_name, Expressions.look_up, Expressions.arguments_of, declared.tree.Param.Param, declared.tree.Decl.Decl}
 use Rattle.kp_ast.specs.Checked.{checked_calls_of}
 use Rattle.kp_stage.proofs.Noted.{look_up-with_entry}
-use Rattle.kp_net.specs.declared.node.NodeId.{NodeId}
-use Rattle.kp_net.specs.Nodes.{Cells, word_at}
-use Rattle.kp_net.specs.Growth.{Held, Kept, Grown}
+use Rattle.kp_net.specs.{declared.node.NodeId.NodeId, Nodes.Cells, Nodes.word_at, Growth.Held, Growth.Kept, Growth.Grown}
 use Rattle.kp_build.specs.Names.{Scope, Nodes, node_of, with_node, word_of, known_at, AreInside}
 use Rattle.kp_build.specs.inner.Showing.{AllInside, words_at}
 

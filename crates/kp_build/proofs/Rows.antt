@@ -1,20 +1,11 @@
 -- Concatenations of nodes: their widths, and a concatenation in steps.
 use Rattle.std.proofs.Common.{◌≡◌, ◌∙◌, ℕ, ◌+◌, ◌<◌, ◌≤◌, Bool, true, false, cond, List, [], ◌∷◌, ◌++◌, fold, Option, Some, None, length, get_or, drop, refl, ap, sym, subst, arith}
-use Rattle.std.specs.Prelude.{is_some}
-use Rattle.std.specs.List.{sum_by}
-use Rattle.std.proofs.lemmas.Bool.{leb-true}
-use Rattle.std.proofs.lemmas.List.{map-append}
+use Rattle.std.proofs.lemmas.{Bool.leb-true, List.map-append}
 use Rattle.std.proofs.lemmas.List.Elements.{All-head, All-tail, All-weaker, All-drop, All-same, All-cons}
-use Rattle.std.proofs.lemmas.Option.{same_Some}
-use Rattle.std.proofs.Math.Seq.{drop-append_seam}
-use Rattle.std.proofs.lemmas.List.Sums.{sum_by-cons}
-use Rattle.kp_bits.specs.Word.{Word, concat_of}
-use Rattle.kp_bits.specs.Operators.{joined_of}
-use Rattle.kp_bits.specs.Checked.{checked_join, checked_joined}
-use Rattle.kp_net.specs.declared.node.NodeId.{NodeId}
-use Rattle.kp_net.specs.Nodes.{Cells, word_at}
-use Rattle.kp_net.specs.Widths.{wide, AllRight}
-use Rattle.kp_net.specs.Growth.{Held, Grown}
+use Rattle.std.proofs.{lemmas.Option.same_Some, Math.Seq.drop-append_seam, lemmas.List.Sums.sum_by-cons}
+use Rattle.std.specs.{Prelude.is_some, List.sum_by}
+use Rattle.kp_bits.specs.{Word.Word, Word.concat_of, Operators.joined_of, Checked.checked_join, Checked.checked_joined}
+use Rattle.kp_net.specs.{declared.node.NodeId.NodeId, Nodes.Cells, Nodes.word_at, Widths.wide, Widths.AllRight, Growth.Held, Growth.Grown}
 use Rattle.kp_net.proofs.Values.{word_wide}
 use Rattle.kp_build.specs.inner.Showing.{IsThere, Shows, AllInside, words_at}
 use Rattle.kp_build.proofs.Fitting.{no_cells}

@@ -1,10 +1,8 @@
 -- How much is left of a walk over an expression and the functions that it may call.
 use Rattle.std.proofs.Common.{ℕ, ◌+◌, List}
 use Rattle.std.specs.Prelude.{sum_by}
-use Rattle.kp_ast.specs.declared.tree.Decl.{Decl}
+use Rattle.kp_ast.specs.{declared.tree.Decl.Decl, declared.tree.Expr.Expr, Size.size_with, Size.no_bodies}
 use Rattle.kp_ast.specs.declared.tree.Decl.TheVariants as decls
-use Rattle.kp_ast.specs.declared.tree.Expr.{Expr}
-use Rattle.kp_ast.specs.Size.{size_with, no_bodies}
 
 -- the steps in an expression itself, where a call counts as one
 abbrev pub steps : Expr → ℕ

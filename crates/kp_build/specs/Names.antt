@@ -1,18 +1,12 @@
 -- Names with their nodes, and the value of an expression in terms of these nodes.
 use Rattle.std.specs.Prelude.{◌≡◌, ◌<◌, ℕ, List, Option, Some, nat_eq, length, true, is_some}
-use Rattle.std.specs.Option.{option_map}
-use Rattle.std.specs.Map.{lookup}
-use Rattle.std.specs.Cmp.Lexicographic.{pointwise}
+use Rattle.std.specs.{Option.option_map, Map.lookup, Cmp.Lexicographic.pointwise}
 use Rattle.indexmap.specs.IndexMap.{insert_entry}
-use Rattle.kp_ast.specs.Expressions.{is_same_name, eval, calls_of}
+use Rattle.kp_ast.specs.{Expressions.is_same_name, Expressions.eval, Expressions.calls_of, Checked.Known, Checked.checked, Checked.checked_calls_of}
+use Rattle.kp_ast.specs.declared.tree.{Decl.Decl, Expr.Expr}
 use Rattle.kp_ast.specs.Expressions as values
-use Rattle.kp_ast.specs.Checked.{Known, checked, checked_calls_of}
-use Rattle.kp_ast.specs.declared.tree.Decl.{Decl}
-use Rattle.kp_ast.specs.declared.tree.Expr.{Expr}
 use Rattle.kp_bits.specs.Word.{Word}
-use Rattle.kp_net.specs.declared.node.NodeId.{NodeId}
-use Rattle.kp_net.specs.Nodes.{Cells, word_at}
-use Rattle.kp_net.specs.Growth.{Held}
+use Rattle.kp_net.specs.{declared.node.NodeId.NodeId, Nodes.Cells, Nodes.word_at, Growth.Held}
 
 abbrev pub Nodes : Type 0
 Nodes = List (List ℕ × NodeId)

@@ -1,11 +1,9 @@
 -- Where the bytes of a source are known, the outcome is the one for all of them.
 use Rattle.std.proofs.Common.{true, ◌≡◌, ◌∙◌, ◌⊎◌, ℕ, List, [], ◌++◌, length, None, Some, Ok, Err, sym, ap, subst, inl, inr, arith, append-nil, length-append, IfSome}
-use Rattle.std.specs.declared.option.Option.{Option}
-use Rattle.std.specs.declared.result.Result.{Result}
+use Rattle.std.specs.declared.{option.Option.Option, result.Result.Result}
 use Rattle.kp_base.specs.declared.refusal.Refusal.{Refusal}
 use Rattle.kp_ast.specs.declared.tree.Job.{Job}
-use Rattle.kp_frontend.specs.Judging.{JudgesHead}
-use Rattle.kp_frontend.specs.Judging.JudgesHead.{head_over, head_within}
+use Rattle.kp_frontend.specs.Judging.{JudgesHead, JudgesHead.head_over, JudgesHead.head_within}
 use Rattle.kp_core_words.specs.Words.{Asked, bad_words, help, version, write, reads_input}
 use Rattle.kp_core.specs.Due.{DueFor, IsDue, IsWhole, Prints}
 

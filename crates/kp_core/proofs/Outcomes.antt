@@ -1,21 +1,16 @@
 -- From the verdicts of the readers to what is specified.
 use Rattle.std.proofs.Common.{◌≡◌, ◌≤◌, ◌∙◌, ℕ, List, [], length, None, Some, Err, false, ap, sym, subst, inl, inr, refl, arith}
-use Rattle.std.specs.declared.option.Option.{Option}
-use Rattle.std.specs.declared.result.Result.{Result}
-use Rattle.std.specs.Io.KnownBytes.{Consumes, IsAtEnd}
+use Rattle.std.specs.{declared.option.Option.Option, declared.result.Result.Result, Io.KnownBytes.Consumes, Io.KnownBytes.IsAtEnd}
 use Rattle.kp_base.specs.declared.refusal.Refusal.{Refusal}
 use Rattle.kp_ast.specs.declared.tree.Job.{Job}
 use Rattle.kp_net.specs.Netlist.{Net}
 use Rattle.kp_synth_tables.specs.Keys.{keys_of}
 use Rattle.kp_synth.specs.Carrying.{Carries}
-use Rattle.kp_frontend.specs.Judging.{JudgesHead, JudgesHeadText, most_bytes, too_long}
-use Rattle.kp_frontend.specs.Judging.JudgesHead.{head_over, head_within}
+use Rattle.kp_frontend.specs.Judging.{JudgesHead, JudgesHeadText, most_bytes, too_long, JudgesHead.head_over, JudgesHead.head_within}
 use Rattle.kp_view_texts.specs.Heads.{rule_head}
 use Rattle.kp_view_explain.specs.Explaining.{ExplainsText, Says, in_script}
 use Rattle.kp_view_explain.specs.declared.words.Subject.TheVariants as subjects
-use Rattle.kp_core_words.specs.Messages.{BeginsWith, file_name}
-use Rattle.kp_core_words.specs.Words.{Asked, help, write}
-use Rattle.kp_core_words.specs.declared.texts.TheConstants.{HELP}
+use Rattle.kp_core_words.specs.{Messages.BeginsWith, Messages.file_name, Words.Asked, Words.help, Words.write, declared.texts.TheConstants.HELP}
 use Rattle.kp_core_words.specs.declared.request.Form.{Form}
 use Rattle.kp_core.specs.Due.{DueOfHead, DueOfVerdict, IsDue}
 

@@ -2,26 +2,20 @@
 -- standard error.
 use Rattle.std.specs.Prelude.{◌≡◌, ◌≢◌, ◌≤◌, ◌⊎◌, Bool, true, false, ℕ, zero, suc, List, [], length, Ok, Err, Option, Result}
 use Rattle.std.specs.Io.KnownBytes.{Consumes, Appends, IsAtEnd}
-use Rattle.kp_base.specs.Bytes.{AppendsPart}
-use Rattle.kp_base.specs.declared.refusal.Refusal.{Refusal}
+use Rattle.kp_base.specs.{Bytes.AppendsPart, declared.refusal.Refusal.Refusal}
 use Rattle.kp_ast.specs.declared.tree.Job.{Job}
 use Rattle.kp_frontend.specs.Judging.{JudgesHead, JudgesHeadText}
-use Rattle.kp_net.specs.Netlist.{Net}
-use Rattle.kp_net.specs.Names.{IsNamed}
-use Rattle.kp_synth_spec.specs.Shows.{Shows, IsInOrder}
-use Rattle.kp_synth_spec.specs.Anew.{BeginsAnew}
+use Rattle.kp_net.specs.{Netlist.Net, Names.IsNamed}
+use Rattle.kp_synth_spec.specs.{Shows.Shows, Shows.IsInOrder, Anew.BeginsAnew}
 use Rattle.kp_synth.specs.Carrying.{Carries}
 use Rattle.kp_view_texts.specs.Heads.{rule_head}
-use Rattle.kp_core_ports.specs.declared.port.Port.{Port}
-use Rattle.kp_core_ports.specs.declared.port.PortRefusal.{PortRefusal}
-use Rattle.kp_core_ports.specs.Ports.{ports_of}
+use Rattle.kp_core_ports.specs.{declared.port.Port.Port, declared.port.PortRefusal.PortRefusal, Ports.ports_of}
 use Rattle.kp_core_text.specs.Core.{core_text}
 use Rattle.kp_core_names.specs.Names.{names_text}
-use Rattle.kp_core_words.specs.declared.request.Form.{Form}
-use Rattle.kp_core_words.specs.declared.request.Form.TheVariants as forms
-use Rattle.kp_core_words.specs.Messages.{BeginsWith, file_name, port_head}
+use Rattle.kp_core_words.specs.{declared.request.Form.Form, Messages.BeginsWith, Messages.file_name, Messages.port_head}
 use Rattle.kp_core_words.specs.Words.{Asked, bad_words, help, version, write, reads_input}
 use Rattle.kp_core_words.specs.declared.texts.TheConstants.{HELP, USAGE, VERSION}
+use Rattle.kp_core_words.specs.declared.request.Form.TheVariants as forms
 
 -- exactly this status and this text
 abbrev pub Says : ℕ → List ℕ → ℕ → List ℕ → Type 0

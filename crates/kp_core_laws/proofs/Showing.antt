@@ -1,35 +1,26 @@
 -- What the ports show, by the statements on the netlist.
 use Rattle.std.proofs.Common.{◌≡◌, ◌∙◌, ℕ, zero, suc, ◌^◌, ◌+◌, ◌-◌, ◌<◌, ◌≤◌, zero-add, Bool, true, false, cond, ◌&&◌, List, [], ◌∷◌, length, get_or, refl, sym, ap, subst, arith}
+use Rattle.std.proofs.lemmas.{Bool.cond-false, List.get_or-map, List.length-map}
 use Rattle.std.specs.Prelude.{nat_le}
-use Rattle.std.proofs.lemmas.Bool.{cond-false}
-use Rattle.std.proofs.lemmas.List.{get_or-map, length-map}
 use Rattle.kp_ast.specs.declared.tree.Job.{Job}
-use Rattle.kp_pipeline.specs.Accepted.{Accepted}
-use Rattle.kp_pipeline.specs.Pipeline.{PipelineState}
-use Rattle.kp_pipeline.specs.RightPath.{HasRightGuesses}
+use Rattle.kp_pipeline.specs.{Accepted.Accepted, Pipeline.PipelineState, RightPath.HasRightGuesses}
 use Rattle.kp_pipeline.specs.Rows.{Row, passed, one_if, bit, bits, counts, pipe, taken}
 use Rattle.kp_pipeline.specs.Sequential.{Instruction, instruction_before}
 use Rattle.kp_pipeline.proofs.Lists.{bit-bits}
 use Rattle.kp_width.specs.Widths.{widths_of}
 use Rattle.kp_width.proofs.Unbroken.{Unbroken}
 use Rattle.kp_machine.specs.Machine.{machine_of, start_hints}
-use Rattle.kp_net.specs.declared.netlist.NetReg.{NetReg}
-use Rattle.kp_net.specs.Nodes.{at}
+use Rattle.kp_net.specs.{declared.netlist.NetReg.NetReg, Nodes.at}
 use Rattle.kp_net.specs.Netlist.{Net, Input, State, cells_of, state_after, regs_after, files_after, start_regs, states_from, rows_from, row_of}
 use Rattle.kp_net.specs.Parts.{no_reg}
 use Rattle.kp_seq.specs.Running.{HasWord}
 use Rattle.kp_sched.specs.Rows.{rows_seen, bit_of}
 use Rattle.kp_sched.proofs.Counting.{seen_length}
-use Rattle.kp_synth_spec.specs.Naming.{value_of, value_shown}
-use Rattle.kp_synth_spec.specs.Shows.{Shows}
-use Rattle.kp_synth_spec.specs.Legal.{value_from, IsLegalFrom}
-use Rattle.kp_synth_spec.specs.Anew.{trace_from, BeginsAnew}
+use Rattle.kp_synth_spec.specs.{Naming.value_of, Naming.value_shown, Shows.Shows, Legal.value_from, Legal.IsLegalFrom, Anew.trace_from, Anew.BeginsAnew}
 use Rattle.kp_synth_spec.specs.Traces.{input_seen, inputs_seen, no_state, AreQuiet}
 use Rattle.kp_synth_close.specs.Shows.{HoldsFrom}
 use Rattle.kp_synth_registers.specs.Holding.{word_bit}
-use Rattle.kp_synth_tables.specs.Spans.{put_after}
-use Rattle.kp_synth_tables.specs.Keys.{target_at, pipe_at, is_alive, place_of}
-use Rattle.kp_synth_tables.specs.declared.key.Key.TheVariants.{Pipe}
+use Rattle.kp_synth_tables.specs.{Spans.put_after, Keys.target_at, Keys.pipe_at, Keys.is_alive, Keys.place_of, declared.key.Key.TheVariants.Pipe}
 use Rattle.kp_synth.specs.Carrying.{Carries}
 use Rattle.kp_core_ports.specs.Ports.{Exists}
 use Rattle.kp_core_ports.specs.declared.port.Ask.TheVariants.{Show, Peek, Probe, Next, Commit}

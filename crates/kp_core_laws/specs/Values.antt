@@ -1,18 +1,12 @@
 -- WHAT A PORT SHOWS IN A CYCLE: the value that its line in the module gives it, over the state of the netlist and the inputs of the cycle.
 use Rattle.std.specs.Prelude.{◌≡◌, ℕ, ◌-◌, ◌<◌, ◌≤◌, true, List, get_or}
 use Rattle.kp_ast.specs.declared.tree.Job.{Job}
-use Rattle.kp_pipeline.specs.Pipeline.{Inputs, pipeline_start}
-use Rattle.kp_pipeline.specs.Rows.{one_if, pipe, counts, state_after as pipeline_after}
-use Rattle.kp_pipeline.specs.Sequential.{instruction_before}
-use Rattle.kp_pipeline.specs.RightPath.{Moment, HasRightGuesses}
+use Rattle.kp_pipeline.specs.{Pipeline.Inputs, Pipeline.pipeline_start, Rows.one_if, Rows.pipe, Rows.counts, Rows.state_after as pipeline_after}
+use Rattle.kp_pipeline.specs.{Sequential.instruction_before, RightPath.Moment, RightPath.HasRightGuesses}
 use Rattle.kp_machine.specs.Machine.{machine_of, start_hints}
-use Rattle.kp_net.specs.Nodes.{at}
-use Rattle.kp_net.specs.Netlist.{Net, Input, State, cells_of, row_of, states_from}
-use Rattle.kp_synth_spec.specs.Naming.{value_of}
-use Rattle.kp_synth_spec.specs.Anew.{trace_from}
-use Rattle.kp_synth_spec.specs.Traces.{no_state, inputs_seen}
-use Rattle.kp_synth_tables.specs.Keys.{target_at}
-use Rattle.kp_synth_tables.specs.declared.key.Key.TheVariants.{Pipe}
+use Rattle.kp_net.specs.{Nodes.at, Netlist.Net, Netlist.Input, Netlist.State, Netlist.cells_of, Netlist.row_of, Netlist.states_from}
+use Rattle.kp_synth_spec.specs.{Naming.value_of, Anew.trace_from, Traces.no_state, Traces.inputs_seen}
+use Rattle.kp_synth_tables.specs.{Keys.target_at, declared.key.Key.TheVariants.Pipe}
 use Rattle.kp_synth_registers.specs.Holding.{kept_in, word_bit}
 use Rattle.kp_core_runs.specs.Beginning.{taken_in}
 use Rattle.kp_core_ports.specs.declared.port.Ask.{Ask}

@@ -1,20 +1,14 @@
 -- What a port shows or takes exists.
 use Rattle.std.proofs.Common.{◌≡◌, ℕ, suc, ◌+◌, ◌<◌, ◌≤◌, Bool, true, false, cond, ◌&&◌, ◌==◌, not, List, [], ◌∷◌, length, get_or, Option, Some, None, Result, Ok, Err, refl, sym, ap, subst, ◌∙◌, arith}
-use Rattle.std.specs.Prelude.{IfOk, IfSome}
-use Rattle.std.specs.Str.{bytes_eq}
-use Rattle.kp_ast.specs.declared.tree.Decl.{Decl}
-use Rattle.kp_ast.specs.declared.tree.Job.{Job}
+use Rattle.std.specs.{Prelude.IfOk, Prelude.IfSome, Str.bytes_eq}
+use Rattle.kp_ast.specs.declared.tree.{Decl.Decl, Job.Job}
 use Rattle.kp_machine.specs.Slots.{Slot, targets_of, pipes_of, is_register}
 use Rattle.kp_synth_tables.specs.Keys.{HasKey, no_slot, target_at}
 use Rattle.kp_synth_tables.specs.declared.key.Key.TheVariants as keys
 use Rattle.kp_core_ports.specs.Ports.{asks_register, is_of, target_from, pipe_from, target_ask, pipe_ask, Exists}
-use Rattle.kp_core_ports.specs.declared.port.TargetVerb.{TargetVerb}
+use Rattle.kp_core_ports.specs.declared.port.{TargetVerb.TargetVerb, PipeVerb.PipeVerb, Ask.Ask, Port.Port, PortsRefused.PortsRefused}
 use Rattle.kp_core_ports.specs.declared.port.TargetVerb.TheVariants as targets
-use Rattle.kp_core_ports.specs.declared.port.PipeVerb.{PipeVerb}
 use Rattle.kp_core_ports.specs.declared.port.PipeVerb.TheVariants as pipes
-use Rattle.kp_core_ports.specs.declared.port.Ask.{Ask}
-use Rattle.kp_core_ports.specs.declared.port.Port.{Port}
-use Rattle.kp_core_ports.specs.declared.port.PortsRefused.{PortsRefused}
 
 either : {A : Type 0} (b : Bool) → (b ≡ true → A) → (b ≡ false → A) → A
 either true f g = f refl

@@ -3,14 +3,9 @@ use Rattle.std.proofs.Common.{◌≡◌, ℕ, ◌≤◌, ◌-◌, List, [], ◌�
 use Rattle.std.proofs.lemmas.List.{take_all, length-drop}
 use Rattle.std.specs.Prelude.{slice_range}
 use Rattle.kp_ast.specs.declared.tree.Job.{Job}
-use Rattle.kp_lines.specs.Lines.{Piece, lines_of, piece_of}
-use Rattle.kp_lines.specs.declared.run.Run.{Run}
-use Rattle.kp_core_ports.specs.Ports.{port_in, tokens_of, ports_from, ports_of}
-use Rattle.kp_core_ports.specs.Rules.{Yields}
-use Rattle.kp_core_ports.specs.inner.Reading.{IsAdded}
-use Rattle.kp_core_ports.specs.declared.port.Port.{Port}
-use Rattle.kp_core_ports.specs.declared.port.PortRefusal.{PortRefusal}
-use Rattle.kp_core_ports.specs.declared.port.PortsRefused.{PortsRefused}
+use Rattle.kp_lines.specs.{Lines.Piece, Lines.lines_of, Lines.piece_of, declared.run.Run.Run}
+use Rattle.kp_core_ports.specs.{Ports.port_in, Ports.tokens_of, Ports.ports_from, Ports.ports_of, Rules.Yields, inner.Reading.IsAdded, declared.port.Port.Port}
+use Rattle.kp_core_ports.specs.declared.port.{PortRefusal.PortRefusal, PortsRefused.PortsRefused}
 use Rattle.kp_core_ports.specs.declared.port.PortsRefused.TheVariants.{Rule, NoMemory}
 
 -- the lines that are left after one

@@ -5,8 +5,7 @@
 -- pipe's, rule P2 is violated at the name, and if k isn't a stage that holds the pipe, rule P3 at the number. Of the rules that a line violates the
 -- one with the lowest number counts, and of the lines that violate one the first.
 use Rattle.std.specs.Prelude.{◌≡◌, ℕ, ◌+◌, ◌<◌, Bool, true, false, not, ◌&&◌, ◌==◌, nat_lt, if◌then◌else◌, List, [], ◌∷◌, ◌++◌, All, length, drop, codes, decimal, Option, Some, None, unwrap_or, Result, Ok, Err}
-use Rattle.std.specs.List.{list_any}
-use Rattle.std.specs.Str.{bytes_eq}
+use Rattle.std.specs.{List.list_any, Str.bytes_eq}
 use Rattle.kp_bits.specs.Literals.{is_number, number_of}
 use Rattle.kp_lines.specs.Lines.{Piece, lines_of, words_of}
 use Rattle.kp_ast.specs.declared.tree.Job.{Job}
@@ -15,17 +14,12 @@ use Rattle.kp_synth_tables.specs.Keys.{is_piped, target_at, HasKey}
 use Rattle.kp_synth_tables.specs.declared.key.Key.TheVariants as keys
 use Rattle.kp_core_ports.specs.declared.port.Ask.{Ask}
 use Rattle.kp_core_ports.specs.declared.port.Ask.TheVariants.{Show, Peek, Load, Probe, Next, Commit}
-use Rattle.kp_core_ports.specs.declared.port.Port.{Port}
-use Rattle.kp_core_ports.specs.declared.port.Verb.{Verb}
-use Rattle.kp_core_ports.specs.declared.port.Verb.TheVariants as verbs
-use Rattle.kp_core_ports.specs.declared.port.TargetVerb.{TargetVerb}
-use Rattle.kp_core_ports.specs.declared.port.TargetVerb.TheVariants as targets
-use Rattle.kp_core_ports.specs.declared.port.PipeVerb.{PipeVerb}
-use Rattle.kp_core_ports.specs.declared.port.PipeVerb.TheVariants as pipes
-use Rattle.kp_core_ports.specs.declared.port.PortRule.{PortRule}
-use Rattle.kp_core_ports.specs.declared.port.PortRule.TheVariants as port_rules
-use Rattle.kp_core_ports.specs.declared.port.PortRefusal.{PortRefusal}
+use Rattle.kp_core_ports.specs.declared.port.{Port.Port, Verb.Verb, TargetVerb.TargetVerb, PipeVerb.PipeVerb, PortRule.PortRule, PortRefusal.PortRefusal}
 use Rattle.kp_core_ports.specs.Rules.{broken}
+use Rattle.kp_core_ports.specs.declared.port.Verb.TheVariants as verbs
+use Rattle.kp_core_ports.specs.declared.port.TargetVerb.TheVariants as targets
+use Rattle.kp_core_ports.specs.declared.port.PipeVerb.TheVariants as pipes
+use Rattle.kp_core_ports.specs.declared.port.PortRule.TheVariants as port_rules
 
 -- P1, P2 and P3
 abbrev pub rule_number : PortRule → ℕ

@@ -1,9 +1,7 @@
 -- The outcome of a call that reads lines.
 use Rattle.std.specs.Prelude.{◌≡◌, ℕ, List, take, Result, Ok, Err, ⊤}
 use Rattle.kp_base.specs.Place.{place_after}
-use Rattle.kp_core_ports.specs.declared.port.PortRule.{PortRule}
-use Rattle.kp_core_ports.specs.declared.port.PortRefusal.{PortRefusal}
-use Rattle.kp_core_ports.specs.declared.port.PortsRefused.{PortsRefused}
+use Rattle.kp_core_ports.specs.declared.port.{PortRule.PortRule, PortRefusal.PortRefusal, PortsRefused.PortsRefused}
 use Rattle.kp_core_ports.specs.declared.port.PortsRefused.TheVariants.{Rule, NoMemory}
 
 -- the rule is violated by the token at this offset of the text

@@ -8,9 +8,7 @@ use Rattle.kp_width.proofs.Unbroken.{Unbroken}
 use Rattle.kp_machine.specs.Machine.{machine_of, state_of, start_hints, pipe_of}
 use Rattle.kp_net.specs.Netlist.{Net, Input, State, start_of as net_start, state_after}
 use Rattle.kp_sched.specs.Runs.{ShowsAlike}
-use Rattle.kp_synth_spec.specs.Naming.{value_shown}
-use Rattle.kp_synth_spec.specs.Shows.{Shows}
-use Rattle.kp_synth_spec.specs.Traces.{trace_of, inputs_seen, AreQuiet}
+use Rattle.kp_synth_spec.specs.{Naming.value_shown, Shows.Shows, Traces.trace_of, Traces.inputs_seen, Traces.AreQuiet}
 use Rattle.kp_synth_spec.specs.Anew.{trace_from, left_by_reset, HasMemory, BeginsAnew}
 use Rattle.kp_core_runs.specs.Beginning.{Begins}
 use Rattle.kp_core_runs.proofs.Loading.{after_loading}

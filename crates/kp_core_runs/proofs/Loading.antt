@@ -1,11 +1,8 @@
 -- A cycle that raises the reset and puts words into files leaves what a reset leaves of a state with these words.
 use Rattle.std.proofs.Common.{◌≡◌, ◌∙◌, ℕ, suc, ◌<◌, ◌≤◌, ⊎_elim, Bool, true, false, cond, ◌==◌, ◌&&◌, List, [], ◌∷◌, length, get_or, drop, ◌^◌, refl, sym, ap, subst, arith}
-use Rattle.std.specs.Prelude.{All, set, fold, if◌then◌else◌}
-use Rattle.std.specs.Cmp.Lexicographic.{bytes_decides}
-use Rattle.std.proofs.lemmas.Bool.{cases_lt, cond-true, cond-false, eqb-true, eqb-false, false≢true}
-use Rattle.std.proofs.lemmas.Grind.{get_or-set_at}
-use Rattle.std.proofs.lemmas.List.{length-map, length-set, get_or-set_other}
-use Rattle.std.proofs.lemmas.List.Elements.{All-head, All-tail}
+use Rattle.std.proofs.lemmas.{Bool.cases_lt, Bool.cond-true, Bool.cond-false, Bool.eqb-true, Bool.eqb-false, Bool.false≢true, Grind.get_or-set_at}
+use Rattle.std.proofs.lemmas.List.{length-map, length-set, get_or-set_other, Elements.All-head, Elements.All-tail}
+use Rattle.std.specs.{Prelude.All, Prelude.set, Prelude.fold, Prelude.if◌then◌else◌, Cmp.Lexicographic.bytes_decides}
 use Rattle.kp_ast.specs.declared.tree.Job.{Job}
 use Rattle.kp_width.specs.Widths.{widths_of}
 use Rattle.kp_width.proofs.Unbroken.{Unbroken}
@@ -15,8 +12,7 @@ use Rattle.kp_net.specs.Netlist.{Net, Input, State, start_regs, cells_of, regs_a
 use Rattle.kp_net.specs.Parts.{NetOk, no_file}
 use Rattle.kp_seq.specs.Running.{target}
 use Rattle.kp_synth_tables.proofs.Apart.{targets_apart}
-use Rattle.kp_synth_spec.specs.Naming.{file_name, file_names, file_of, place_among, value_shown}
-use Rattle.kp_synth_spec.specs.Shows.{Shows}
+use Rattle.kp_synth_spec.specs.{Naming.file_name, Naming.file_names, Naming.file_of, Naming.place_among, Naming.value_shown, Shows.Shows}
 use Rattle.kp_synth_spec.specs.Anew.{HasMemory, left_by_reset}
 use Rattle.kp_synth_spec.proofs.Anew.{left_alike}
 use Rattle.kp_core_runs.specs.Loading.{Load, IsLoad, Cycle, LoadsIn, put_in, after_cycle, after_cycles, with_load, with_loads, all_loaded}

@@ -1,15 +1,9 @@
 -- Complete files stay complete.
 use Rattle.std.proofs.Common.{◌≡◌, ◌∙◌, ℕ, ◌^◌, ◌<◌, ⊎_elim, Bool, true, false, List, [], length, get_or, refl, sym, ap, subst, arith}
-use Rattle.std.specs.Prelude.{set, Option, Some, None, if◌then◌else◌}
-use Rattle.std.specs.List.{zip}
-use Rattle.std.proofs.lemmas.Bool.{cases_eq}
-use Rattle.std.proofs.lemmas.Grind.{get_or-set_at}
-use Rattle.std.proofs.lemmas.List.{get_or-map, length-map, length-set, get_or-set_other}
-use Rattle.std.proofs.lemmas.List.Elements.{All-get_or}
-use Rattle.std.proofs.lemmas.Slice.Zip.{get_or-zip, length-zip}
-use Rattle.kp_net.specs.declared.netlist.NetFile.{NetFile}
-use Rattle.kp_net.specs.declared.netlist.WritePort.{WritePort}
-use Rattle.kp_net.specs.Nodes.{Cells, at, on}
+use Rattle.std.proofs.lemmas.{Bool.cases_eq, Grind.get_or-set_at, List.get_or-map, List.length-map, List.length-set, List.get_or-set_other}
+use Rattle.std.proofs.lemmas.{List.Elements.All-get_or, Slice.Zip.get_or-zip, Slice.Zip.length-zip}
+use Rattle.std.specs.{Prelude.set, Prelude.Option, Prelude.Some, Prelude.None, Prelude.if◌then◌else◌, List.zip}
+use Rattle.kp_net.specs.{declared.netlist.NetFile.NetFile, declared.netlist.WritePort.WritePort, Nodes.Cells, Nodes.at, Nodes.on}
 use Rattle.kp_net.specs.Netlist.{Net, Input, State, start_of as net_start, start_regs, cells_of, port_after, regs_after, files_after, resets, state_after}
 use Rattle.kp_net.specs.Parts.{NetOk, FileOk, WriteOk, no_file}
 use Rattle.kp_net.proofs.Values.{at_fits}

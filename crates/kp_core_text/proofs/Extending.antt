@@ -1,25 +1,15 @@
 -- The canonical text of a netlist has one line with its ports, which ends with `);`, and a last line `endmodule`. So the ports and the lines that are added
 -- are before these.
 use Rattle.std.proofs.Common.{◌≡◌, ◌∙◌, ℕ, zero, suc, ◌+◌, ◌-◌, ◌%◌, ◌^◌, ◌<◌, Bool, true, false, cond, ◌==◌, not, List, [], ◌∷◌, ◌++◌, length, take, drop, refl, sym, ap, subst, arith, append_assoc}
-use Rattle.std.specs.Prelude.{codes, decimal, slice_range, All, map, ◌&&◌}
-use Rattle.std.specs.List.{list_all}
-use Rattle.std.proofs.lemmas.Bool.{agree_below_at, eqb-true}
-use Rattle.std.proofs.lemmas.List.Folds.{list_all-append}
-use Rattle.std.proofs.lemmas.List.{length-append}
-use Rattle.std.proofs.lemmas.Fmt.{decimal_by_steps}
+use Rattle.std.proofs.lemmas.{Bool.agree_below_at, Bool.eqb-true, List.Folds.list_all-append, List.length-append, Fmt.decimal_by_steps}
 use Rattle.std.proofs.Math.Seq.{take-append_seam, drop-append_seam, drop-append-add}
+use Rattle.std.specs.{Prelude.codes, Prelude.decimal, Prelude.slice_range, Prelude.All, Prelude.map, Prelude.◌&&◌, List.list_all}
 use Rattle.kp_base.specs.Characters.{run_length}
-use Rattle.kp_net.specs.declared.node.Node.{Node}
-use Rattle.kp_net.specs.declared.netlist.Port.{Port}
-use Rattle.kp_net.specs.declared.netlist.Parts.{Parts}
-use Rattle.kp_net.specs.Names.{IsNamed, IsSpelled, is_in_identifier}
-use Rattle.kp_net.specs.Netlist.{Net}
-use Rattle.kp_net.specs.Parts.{NetOk, PortOk}
-use Rattle.kp_net.specs.Widths.{wide}
+use Rattle.kp_net.specs.declared.{node.Node.Node, netlist.Port.Port, netlist.Parts.Parts}
+use Rattle.kp_net.specs.{Names.IsNamed, Names.IsSpelled, Names.is_in_identifier, Netlist.Net, Parts.NetOk, Parts.PortOk, Widths.wide}
 use Rattle.kp_vlog.specs.Canon.{Pieces, text_of, reset_port, sample_ports, out_ports, header, reg_lines, file_lines, integer_line, node_lines, out_line, start_lines, fill_lines, body_lines, pieces, canon}
 use Rattle.kp_vwrite.proofs.Lines.{text_append}
-use Rattle.kp_core_text.specs.Core.{is_in_line, last_line, header_end, with_added}
-use Rattle.kp_core_text.specs.Extended.{IsExtended}
+use Rattle.kp_core_text.specs.{Core.is_in_line, Core.last_line, Core.header_end, Core.with_added, Extended.IsExtended}
 
 -- ---- bytes of one line
 

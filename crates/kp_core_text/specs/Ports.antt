@@ -1,13 +1,9 @@
 -- THE TEXTS OF PORTS: what a line that asks for ports adds to the header of a module, and the line that it adds to its body.
 use Rattle.std.specs.Prelude.{ℕ, ◌-◌, List, [], ◌∷◌, ◌++◌, get_or, codes, decimal}
 use Rattle.kp_ast.specs.declared.tree.Job.{Job}
-use Rattle.kp_net.specs.declared.netlist.NetReg.{NetReg}
-use Rattle.kp_net.specs.Netlist.{Net}
-use Rattle.kp_net.specs.Parts.{no_reg}
+use Rattle.kp_net.specs.{declared.netlist.NetReg.NetReg, Netlist.Net, Parts.no_reg}
 use Rattle.kp_vlog.specs.Canon.{text_of}
-use Rattle.kp_synth_tables.specs.Keys.{target_at, pipe_at, place_of}
-use Rattle.kp_synth_tables.specs.declared.key.Key.{Key}
-use Rattle.kp_synth_tables.specs.declared.key.Key.TheVariants.{Pipe}
+use Rattle.kp_synth_tables.specs.{Keys.target_at, Keys.pipe_at, Keys.place_of, declared.key.Key.Key, declared.key.Key.TheVariants.Pipe}
 use Rattle.kp_core_ports.specs.declared.port.Ask.{Ask}
 use Rattle.kp_core_ports.specs.declared.port.Ask.TheVariants.{Show, Peek, Load, Probe, Next, Commit}
 use Rattle.kp_core_ports.specs.declared.port.Port.{Port}

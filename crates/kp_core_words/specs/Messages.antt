@@ -1,7 +1,6 @@
 -- How a message on a line that asks for ports begins, and under which name an input is reported.
 use Rattle.std.specs.Prelude.{◌≡◌, ℕ, List, ◌++◌, codes, decimal, Option, Some, None}
-use Rattle.kp_core_ports.specs.Ports.{rule_number}
-use Rattle.kp_core_ports.specs.declared.port.PortRefusal.{PortRefusal}
+use Rattle.kp_core_ports.specs.{Ports.rule_number, declared.port.PortRefusal.PortRefusal}
 
 abbrev pub file_name : Option (List ℕ) → List ℕ
 file_name None = codes "<stdin>"

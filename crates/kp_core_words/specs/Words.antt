@@ -1,10 +1,8 @@
 -- THE WORDS of a command line of `kpcore`.
 use Rattle.std.specs.Prelude.{◌==◌, ℕ, Bool, true, false, ◌||◌, List, [], ◌∷◌, codes, if◌then◌else◌, Option, Some, None, option_map, string_bytes}
-use Rattle.std.specs.List.{list_any}
-use Rattle.std.specs.Str.{bytes_eq}
-use Rattle.kp_core_words.specs.declared.request.Form.{Form}
+use Rattle.std.specs.{List.list_any, Str.bytes_eq}
+use Rattle.kp_core_words.specs.declared.request.{Form.Form, Request.Request}
 use Rattle.kp_core_words.specs.declared.request.Form.TheVariants as forms
-use Rattle.kp_core_words.specs.declared.request.Request.{Request}
 use Rattle.kp_core_words.specs.declared.request.Request.TheVariants as requests
 
 -- what is asked for: the module of the job of a file, or of standard input, or the table of its registers, or a text of the program

@@ -1,20 +1,13 @@
 -- Registers and files take the values of nodes.
 use Rattle.std.proofs.Common.{◌≡◌, ◌==◌, ℕ, Bool, true, false, cond, suc, ◌+◌, ◌<◌, ◌≤◌, ◌^◌, List, [], ◌∷◌, length, get_or, set, map, refl, sym, subst, ap, ◌∙◌, arith, ⊎_elim, Option, None, Some}
+use Rattle.std.proofs.lemmas.{Bool.cases_lt, List.get_or-set_other, List.length-set, List.get_or-map, List.same_lists, List.get_or_default, Grind.get_or-set_at}
+use Rattle.std.proofs.lemmas.{List.Elements.All-get_or, Slice.Zip.get_or-zip, Slice.Zip.length-zip}
 use Rattle.std.specs.List.{zip}
-use Rattle.std.proofs.lemmas.Bool.{cases_lt}
-use Rattle.std.proofs.lemmas.List.{get_or-set_other, length-set, get_or-map, same_lists, get_or_default}
-use Rattle.std.proofs.lemmas.Grind.{get_or-set_at}
-use Rattle.std.proofs.lemmas.List.Elements.{All-get_or}
-use Rattle.std.proofs.lemmas.Slice.Zip.{get_or-zip, length-zip}
-use Rattle.kp_net.specs.declared.node.Node.{Node}
-use Rattle.kp_net.specs.declared.netlist.NetReg.{NetReg}
-use Rattle.kp_net.specs.declared.netlist.NetFile.{NetFile}
-use Rattle.kp_net.specs.declared.netlist.WritePort.{WritePort}
+use Rattle.kp_net.specs.declared.{node.Node.Node, netlist.NetReg.NetReg, netlist.NetFile.NetFile, netlist.WritePort.WritePort}
 use Rattle.kp_net.specs.Nodes.{Cells, at, on}
 use Rattle.kp_net.specs.Netlist.{Net, Input, State, start_regs, port_after, files_after, regs_after, resets, state_after, cells_of}
 use Rattle.kp_net.specs.Parts.{NetOk, FileOk, WriteOk, no_reg, no_file}
-use Rattle.kp_cycle.specs.inner.Plans.{OfPort, OfRoots}
-use Rattle.kp_cycle.specs.inner.Storage.{Stored, Fits, FitsBelow, PortReady, port_from}
+use Rattle.kp_cycle.specs.inner.{Plans.OfPort, Plans.OfRoots, Storage.Stored, Storage.Fits, Storage.FitsBelow, Storage.PortReady, Storage.port_from}
 
 pub length_map : {X Y : Type 0} (f : X → Y) (xs : List X) → length (map f xs) ≡ length xs
 length_map f [] = refl

@@ -1,23 +1,16 @@
 -- The operation of a node computes the node's value.
 use Rattle.std.proofs.Common.{◌≡◌, ◌∙◌, ℕ, ◌+◌, ◌-◌, ◌*◌, ◌/◌, ◌%◌, ◌^◌, ◌<◌, ◌≤◌, ◌==◌, Bool, true, false, cond, List, [], ◌∷◌, length, get_or, refl, ap, sym, subst, arith, bit_and, bit_or}
-use Rattle.std.specs.Prelude.{All, nat_lt}
-use Rattle.std.proofs.lemmas.Bool.{ltb-true}
-use Rattle.std.proofs.Math.Nat.{mod-eq_of_lt, mul-add, add-mul-mod_self_left}
+use Rattle.std.proofs.{lemmas.Bool.ltb-true, Math.Nat.mod-eq_of_lt, Math.Nat.mul-add, Math.Nat.add-mul-mod_self_left}
 use Rattle.std.proofs.lemmas.Nat.{and_mask, pow-add, pow_pos}
-use Rattle.kp_bits.specs.declared.operator.BinOp.{BinOp}
-use Rattle.kp_bits.specs.Word.{Word}
+use Rattle.std.specs.Prelude.{All, nat_lt}
+use Rattle.kp_bits.specs.{declared.operator.BinOp.BinOp, Word.Word}
 use Rattle.kp_bits.proofs.Powers.{low_of, concat_value, concat_fits, pow_le, sub_above}
-use Rattle.kp_net.specs.declared.node.NodeId.{NodeId}
-use Rattle.kp_net.specs.declared.node.Kind.{Kind}
+use Rattle.kp_net.specs.declared.node.{NodeId.NodeId, Kind.Kind}
 use Rattle.kp_net.specs.declared.node.Kind.TheVariants.{Const, Ext, Sample, Reg, Word as FileWord, Not, Binary, Mux, Concat, Slice}
-use Rattle.kp_net.specs.declared.node.Node.{Node}
-use Rattle.kp_net.specs.Nodes.{Cells, word_of_kind, word_of_node}
-use Rattle.kp_net.specs.Widths.{wide, no_node, is_cell, KindOk, AllRight}
-use Rattle.kp_net.specs.Parts.{NetOk}
+use Rattle.kp_net.specs.{declared.node.Node.Node, Nodes.Cells, Nodes.word_of_kind, Nodes.word_of_node}
+use Rattle.kp_net.specs.{Widths.wide, Widths.no_node, Widths.is_cell, Widths.KindOk, Widths.AllRight, Parts.NetOk, Netlist.Net}
 use Rattle.kp_net.proofs.Exact.{Has}
-use Rattle.kp_cycle.specs.inner.Codes.{binary_op, joined_op, kind_op, op_for, number_of, IsReady}
-use Rattle.kp_net.specs.Netlist.{Net}
-use Rattle.kp_cycle.specs.inner.Storage.{FitsBelow, seen}
+use Rattle.kp_cycle.specs.inner.{Codes.binary_op, Codes.joined_op, Codes.kind_op, Codes.op_for, Codes.number_of, Codes.IsReady, Storage.FitsBelow, Storage.seen}
 use Rattle.kp_cycle.proofs.Settling.{operands_have, whole}
 
 -- numbers of 64 bits

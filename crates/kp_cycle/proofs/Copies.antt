@@ -1,11 +1,10 @@
 -- Copies of the complete state are disjoint from it.
 use Rattle.std.proofs.Common.{◌≡◌, ◌≢◌, ℕ, ◌+◌, ◌-◌, ◌<◌, ◌≤◌, Bool, true, false, cond, List, [], ◌∷◌, ◌++◌, length, get_or, set, map, take, drop, replicate, zero, suc, refl, sym, subst, ap, ◌∙◌, arith, ⊎_elim, inl, inr, Option, None, Some}
-use Rattle.std.specs.Prelude.{IsSome}
 use Rattle.std.proofs.lemmas.Bool.{cases_lt}
 use Rattle.std.proofs.lemmas.List.{get_or-set_other, length-set, get_or-map, map-set, get_or_append_left, length-take-le, length-map, length-append, length-drop, get_or-replicate, get_or_past, length-replicate}
-use Rattle.std.proofs.lemmas.List.Edits.{length-between, get_or-between}
-use Rattle.std.proofs.lemmas.Grind.{get_or-set_at}
+use Rattle.std.proofs.lemmas.{List.Edits.length-between, List.Edits.get_or-between, Grind.get_or-set_at}
 use Rattle.std.proofs.Math.Seq.{get_or-append_right, map-set_same}
+use Rattle.std.specs.Prelude.{IsSome}
 use Rattle.kp_region.specs.declared.span.Span.{Span}
 use Rattle.kp_region.specs.Words.{Words, IsSound, IsWithin, IsDisjoint, span_words, written, copied}
 use Rattle.kp_region.proofs.Laid.{laid_below, laid_above}
@@ -13,8 +12,7 @@ use Rattle.kp_net.specs.Netlist.{Net, State}
 use Rattle.kp_cycle.specs.declared.slots.Slot.{Slot}
 use Rattle.kp_cycle.specs.inner.Spans.{Apart, IsInside, Laid, moved, no_span, no_slot, state_in, held}
 use Rattle.kp_cycle.specs.inner.Storage.{Stored, Fits, StateFits, SlotsFit, IsStateOf, state_of}
-use Rattle.kp_cycle.proofs.Clocking.{same_elements}
-use Rattle.kp_cycle.proofs.Spans.{span_length, span_stays, apart_grown}
+use Rattle.kp_cycle.proofs.{Clocking.same_elements, Spans.span_length, Spans.span_stays, Spans.apart_grown}
 
 -- lists whose elements two functions take to the same
 map_alike : {X Y : Type 0} (f h : X → Y) (xs : List X) (d : X) → ((k : ℕ) → k < length xs → f (get_or xs k d) ≡ h (get_or xs k d)) → map f xs ≡ map h xs

@@ -1,16 +1,11 @@
 -- The netlist of a counter is right.
 use Rattle.std.proofs.Common.{◌≡◌, ℕ, ◌<◌, ◌≤◌, ◌^◌, zero, suc, List, [], ◌∷◌, length, get_or, true, refl, subst, arith, ⊎_elim}
-use Rattle.std.proofs.lemmas.Bool.{cases_lt}
-use Rattle.std.proofs.lemmas.List.Elements.{All-cons, All-nil}
+use Rattle.std.proofs.lemmas.{Bool.cases_lt, List.Elements.All-cons, List.Elements.All-nil}
 use Rattle.std.specs.List.{All}
-use Rattle.kp_bits.specs.declared.operator.BinOp.{BinOp}
-use Rattle.kp_bits.specs.Word.{Word, word}
-use Rattle.kp_net.specs.declared.node.NodeId.{NodeId}
-use Rattle.kp_net.specs.declared.node.Kind.{Kind}
+use Rattle.kp_bits.specs.{declared.operator.BinOp.BinOp, Word.Word, Word.word}
+use Rattle.kp_net.specs.declared.node.{NodeId.NodeId, Kind.Kind}
 use Rattle.kp_net.specs.declared.node.Kind.TheVariants.{Const, Ext, Reg, Not, Binary, Mux, Concat, Slice}
-use Rattle.kp_net.specs.declared.node.Node.{Node}
-use Rattle.kp_net.specs.declared.netlist.NetReg.{NetReg}
-use Rattle.kp_net.specs.Netlist.{Net}
+use Rattle.kp_net.specs.{declared.node.Node.Node, declared.netlist.NetReg.NetReg, Netlist.Net}
 use Rattle.kp_net.specs.Widths.{AllRight, KindOk, NodeOk, no_node, wide}
 use Rattle.kp_net.specs.Parts.{NetOk, RegOk, FileOk, PortOk, CellOk, AllCells}
 

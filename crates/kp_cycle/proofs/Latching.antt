@@ -1,28 +1,18 @@
 -- Registers take their next values.
 use Rattle.std.proofs.Common.{◌≡◌, ◌==◌, ◌⊎◌, ℕ, Bool, true, false, cond, ◌+◌, ◌<◌, ◌≤◌, List, [], ◌∷◌, ◌++◌, length, get_or, set, inl, inr, sym, subst, ap, refl, ◌∙◌, arith, ⊎_elim}
-use Rattle.std.proofs.lemmas.Bool.{cases_lt, cond_both, eqb-true}
-use Rattle.std.proofs.lemmas.List.{get_or-set_other, get_or_append_left, get_or_push, length_push}
-use Rattle.std.proofs.lemmas.List.Elements.{All-get_or}
-use Rattle.std.proofs.lemmas.Grind.{get_or-set_at}
+use Rattle.std.proofs.lemmas.{Bool.cases_lt, Bool.cond_both, Bool.eqb-true, List.get_or-set_other, List.get_or_append_left, List.get_or_push, List.length_push}
+use Rattle.std.proofs.lemmas.{List.Elements.All-get_or, Grind.get_or-set_at}
 use Rattle.kp_bits.specs.Word as bits
-use Rattle.kp_net.specs.declared.node.NodeId.{NodeId}
-use Rattle.kp_net.specs.declared.node.Kind.{Kind}
+use Rattle.kp_net.specs.declared.node.{NodeId.NodeId, Kind.Kind}
 use Rattle.kp_net.specs.declared.node.Kind.TheVariants.{Const, Ext, Sample, Reg, Word, Not, Binary, Mux, Concat, Slice}
-use Rattle.kp_net.specs.declared.node.Node.{Node}
-use Rattle.kp_net.specs.Nodes.{Cells, word_of_kind, word_at, at}
-use Rattle.kp_net.specs.Widths.{no_node, is_cell, KindOk, AllRight}
-use Rattle.kp_net.specs.Netlist.{Net, Input, State, cells_of}
+use Rattle.kp_net.specs.{declared.node.Node.Node, Nodes.Cells, Nodes.word_of_kind, Nodes.word_at, Nodes.at}
+use Rattle.kp_net.specs.{Widths.no_node, Widths.is_cell, Widths.KindOk, Widths.AllRight, Netlist.Net, Netlist.Input, Netlist.State, Netlist.cells_of}
 use Rattle.kp_net.specs.Parts.{NetOk, RegOk, no_reg}
-use Rattle.kp_net.proofs.Exact.{node_exact, word_has}
-use Rattle.kp_net.proofs.Values.{word_there}
-use Rattle.kp_cycle.specs.declared.latches.Latch.{Latch}
-use Rattle.kp_cycle.specs.declared.latches.Latch.TheVariants.{Always, If}
-use Rattle.kp_cycle.specs.declared.latches.Held.{Held}
-use Rattle.kp_cycle.specs.declared.latches.Moved.{Moved}
+use Rattle.kp_net.proofs.{Exact.node_exact, Exact.word_has, Values.word_there}
+use Rattle.kp_cycle.specs.declared.latches.{Latch.Latch, Latch.TheVariants.Always, Latch.TheVariants.If, Held.Held, Moved.Moved}
 use Rattle.kp_cycle.specs.inner.Latches.{is_reg, latch_in, latch_for, OfLatch, latched, no_moved, no_held, IsMoved, IsHeld, IsLatched}
 use Rattle.kp_cycle.specs.inner.Storage.{Stored, Fits, StateFits}
-use Rattle.kp_cycle.proofs.Coding.{cond_value}
-use Rattle.kp_cycle.proofs.Stepping.{same_or_not, reg_held}
+use Rattle.kp_cycle.proofs.{Coding.cond_value, Stepping.same_or_not, Stepping.reg_held}
 
 -- a node of this kind is this register
 pub reg_is : (o : Kind) (r : ℕ) → is_reg o r ≡ true → o ≡ Reg r

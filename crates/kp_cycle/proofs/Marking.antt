@@ -1,24 +1,16 @@
 -- Marks of nodes, and lists in which operands come first.
 use Rattle.std.proofs.Common.{◌≡◌, ℕ, Bool, true, false, true≢false, ◌+◌, ◌<◌, ◌≤◌, List, [], ◌∷◌, ◌++◌, length, get_or, set, map, take, replicate, ◌-◌, refl, sym, subst, ap, ◌∙◌, arith, ⊎_elim, inl, inr}
-use Rattle.std.specs.Prelude.{All}
 use Rattle.std.proofs.lemmas.Bool.{cases_lt}
 use Rattle.std.proofs.lemmas.List.{get_or-set_other, length-set, get_or_append_left, get_or_push, length_push, get_or_past, get_or-map, get_or-replicate, length-replicate, length-take-le, take_more, map-append}
-use Rattle.std.proofs.lemmas.Grind.{get_or-set_at}
-use Rattle.std.proofs.Math.Seq.{take-length}
-use Rattle.std.proofs.lemmas.List.Elements.{All-nil, All-cons}
-use Rattle.kp_net.specs.declared.node.NodeId.{NodeId}
-use Rattle.kp_net.specs.declared.node.Kind.{Kind}
+use Rattle.std.proofs.{lemmas.Grind.get_or-set_at, Math.Seq.take-length, lemmas.List.Elements.All-nil, lemmas.List.Elements.All-cons}
+use Rattle.std.specs.Prelude.{All}
+use Rattle.kp_net.specs.declared.node.{NodeId.NodeId, Kind.Kind}
 use Rattle.kp_net.specs.declared.node.Kind.TheVariants.{Const, Ext, Sample, Reg, Word, Not, Binary, Mux, Concat, Slice}
-use Rattle.kp_net.specs.declared.node.Node.{Node}
-use Rattle.kp_net.specs.declared.netlist.Parts.{Parts}
-use Rattle.kp_net.specs.Netlist.{Net}
-use Rattle.kp_net.specs.Parts.{NetOk, no_file}
+use Rattle.kp_net.specs.{declared.node.Node.Node, declared.netlist.Parts.Parts, Netlist.Net, Parts.NetOk, Parts.no_file}
 use Rattle.kp_net.specs.Widths.{no_node, AllRight, KindOk}
-use Rattle.kp_cycle.specs.inner.Latches.{latch_for, OfLatch}
 use Rattle.kp_cycle.specs.inner.Plans.{reads, reads_at, IsMarked, Grows, Among, IsKnown, Leads, IsOrdered, OfPort, OfRoots, Needed, Taken, IsPlan, HasCode, targets, step_for, by_node, no_step}
-use Rattle.kp_cycle.specs.declared.codes.Step.{Step}
-use Rattle.kp_cycle.proofs.Clocking.{length_map}
-use Rattle.kp_cycle.proofs.Stepping.{same_or_not, port_is, latch_is, roots_are}
+use Rattle.kp_cycle.specs.{inner.Latches.latch_for, inner.Latches.OfLatch, declared.codes.Step.Step}
+use Rattle.kp_cycle.proofs.{Clocking.length_map, Stepping.same_or_not, Stepping.port_is, Stepping.latch_is, Stepping.roots_are}
 
 -- one mark more
 pub marked_here : (marks : List Bool) (a j : ℕ) → j ≡ a → a < length marks → IsMarked (set marks a true) j

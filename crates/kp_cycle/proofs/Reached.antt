@@ -1,19 +1,11 @@
 -- In every state that a run reaches, registers and words fit their widths.
 use Rattle.std.proofs.Common.{◌≡◌, ℕ, zero, ◌<◌, ◌≤◌, ◌^◌, List, [], length, get_or, set, sym, subst, ap, ◌∙◌, arith, ⊎_elim, All, Option, None, Some}
-use Rattle.std.specs.List.{zip}
-use Rattle.std.proofs.Math.ListN.{get_or-eq_default}
-use Rattle.std.proofs.lemmas.Nat.{pow_pos}
-use Rattle.std.proofs.lemmas.Bool.{cases_lt, cond_both}
-use Rattle.std.proofs.lemmas.List.{get_or-set_other, get_or-map, length-set}
-use Rattle.std.proofs.lemmas.Grind.{get_or-set_at}
-use Rattle.std.proofs.lemmas.List.Elements.{All-get_or}
+use Rattle.std.proofs.{Math.ListN.get_or-eq_default, lemmas.Nat.pow_pos, lemmas.Bool.cases_lt, lemmas.Bool.cond_both}
+use Rattle.std.proofs.lemmas.{List.get_or-set_other, List.get_or-map, List.length-set, Grind.get_or-set_at, List.Elements.All-get_or}
 use Rattle.std.proofs.lemmas.Slice.Zip.{get_or-zip, length-zip}
-use Rattle.kp_net.specs.declared.node.Node.{Node}
-use Rattle.kp_net.specs.declared.netlist.NetReg.{NetReg}
-use Rattle.kp_net.specs.declared.netlist.NetFile.{NetFile}
-use Rattle.kp_net.specs.declared.netlist.WritePort.{WritePort}
-use Rattle.kp_net.specs.Nodes.{Cells, at, on}
-use Rattle.kp_net.specs.Widths.{wide}
+use Rattle.std.specs.List.{zip}
+use Rattle.kp_net.specs.declared.{node.Node.Node, netlist.NetReg.NetReg, netlist.NetFile.NetFile, netlist.WritePort.WritePort}
+use Rattle.kp_net.specs.{Nodes.Cells, Nodes.at, Nodes.on, Widths.wide}
 use Rattle.kp_net.specs.Netlist.{Net, Input, State, start_of, start_regs, regs_after, files_after, port_after, state_after, resets, cells_of}
 use Rattle.kp_net.specs.Parts.{NetOk, RegOk, FileOk, WriteOk, no_reg, no_file}
 use Rattle.kp_net.proofs.Values.{at_fits}

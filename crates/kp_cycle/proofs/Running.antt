@@ -1,13 +1,11 @@
 -- Calls of `step` and `step_with` are the run of the netlist.
 use Rattle.std.proofs.Common.{◌≡◌, ℕ, zero, suc, List, ◌∷◌, map, set, get_or, replicate, Option, None, Some, refl, sym, ap, ◌∙◌}
+use Rattle.std.proofs.{lemmas.List.map-set, Math.ListN.get_or-map}
 use Rattle.std.specs.Prelude.{option_map}
-use Rattle.std.proofs.lemmas.List.{map-set}
-use Rattle.std.proofs.Math.ListN.{get_or-map}
 use Rattle.kp_base.specs.declared.row.Row.{Row}
 use Rattle.kp_net.specs.Netlist.{Net, Input, State, row_of, rows_from, state_after, last_from, last_of, start_of, run}
 use Rattle.kp_net.proofs.Runs.{last_more}
-use Rattle.kp_cycle.specs.Steps.{Running, saved_in, reg_shown, word_shown}
-use Rattle.kp_cycle.specs.Runs.{Steps, IsStep, Fed, Calls}
+use Rattle.kp_cycle.specs.{Steps.Running, Steps.saved_in, Steps.reg_shown, Steps.word_shown, Runs.Steps, Runs.IsStep, Runs.Fed, Runs.Calls}
 
 -- a netlist in a state, with these slots
 abbrev in_state : Net → List (Option State) → State → Running

@@ -1,14 +1,11 @@
 -- Nodes are evaluated in order.
 use Rattle.std.proofs.Common.{◌≡◌, ℕ, ◌+◌, ◌-◌, ◌<◌, ◌≤◌, ◌++◌, List, [], length, get_or, set, take, drop, refl, sym, subst, ap, ◌∙◌, arith, false}
 use Rattle.std.proofs.lemmas.List.{length-set, length-append, length-take-le, length-drop, get_or_append_left, get_or-take, get_or-drop, take_at}
-use Rattle.std.specs.List.{refill}
 use Rattle.std.proofs.Math.Seq.{get_or-append_right}
+use Rattle.std.specs.List.{refill}
 use Rattle.kp_bits.specs.Word as bits
-use Rattle.kp_net.specs.declared.node.Kind.{Kind}
-use Rattle.kp_net.specs.declared.node.Node.{Node}
-use Rattle.kp_net.specs.Nodes.{Cells, word_of_kind, word_of_node}
-use Rattle.kp_net.specs.Widths.{wide, no_node, is_cell, KindOk, AllRight}
-use Rattle.kp_net.specs.Netlist.{Net}
+use Rattle.kp_net.specs.{declared.node.Kind.Kind, declared.node.Node.Node, Nodes.Cells, Nodes.word_of_kind, Nodes.word_of_node}
+use Rattle.kp_net.specs.{Widths.wide, Widths.no_node, Widths.is_cell, Widths.KindOk, Widths.AllRight, Netlist.Net}
 use Rattle.kp_net.proofs.Exact.{Has, node_exact}
 use Rattle.kp_cycle.specs.inner.Storage.{Stored, Fits, FitsBelow, seen}
 

@@ -1,19 +1,12 @@
 -- Reading and writing words in disjoint spans.
 use Rattle.std.proofs.Common.{◌≡◌, ◌≢◌, ℕ, ◌+◌, ◌-◌, ◌^◌, ◌<◌, ◌≤◌, List, [], ◌∷◌, ◌++◌, length, get_or, set, map, take, drop, replicate, suc, sym, subst, ap, ◌∙◌, arith, ⊎_elim, inl, inr, length-append, length-drop, Option}
-use Rattle.std.proofs.lemmas.Bool.{cases_lt}
 use Rattle.std.proofs.lemmas.List.{get_or-set_other, length-set, get_or-map, drop-set-add, drop-set-lt, take-set-le, get_or_append_left, get_or_default, length-take-le, length-replicate, take_more, drop_more, set-set, get_or-set_same, map-append, append_assoc}
-use Rattle.std.proofs.lemmas.Slice.{between_is}
-use Rattle.std.proofs.lemmas.List.Edits.{length-between}
-use Rattle.std.proofs.lemmas.Grind.{get_or-set_at}
-use Rattle.std.proofs.lemmas.List.Elements.{All-get_or}
+use Rattle.std.proofs.lemmas.{Bool.cases_lt, Slice.between_is, List.Edits.length-between, Grind.get_or-set_at, List.Elements.All-get_or}
 use Rattle.std.proofs.Math.Seq.{take-set-lt, get_or-append_right, set-append_seam}
 use Rattle.kp_region.specs.declared.span.Span.{Span}
 use Rattle.kp_region.specs.Words.{Words, IsSound, IsWithin, IsDisjoint, span_words, next_span, carved, written}
-use Rattle.kp_cycle.specs.inner.Spans.{Apart, no_span}
-use Rattle.kp_net.specs.declared.netlist.NetFile.{NetFile}
-use Rattle.kp_net.specs.Netlist.{Net, State}
-use Rattle.kp_net.specs.Parts.{NetOk, FileOk, no_file}
-use Rattle.kp_cycle.specs.inner.Storage.{Stored, Fits}
+use Rattle.kp_cycle.specs.inner.{Spans.Apart, Spans.no_span, Storage.Stored, Storage.Fits}
+use Rattle.kp_net.specs.{declared.netlist.NetFile.NetFile, Netlist.Net, Netlist.State, Parts.NetOk, Parts.FileOk, Parts.no_file}
 use Rattle.kp_cycle.proofs.Clocking.{length_map, same_elements}
 
 -- a span holds as many words as its length says

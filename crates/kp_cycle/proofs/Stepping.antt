@@ -1,34 +1,22 @@
 -- A step computes the value of its target, provided that its operands have theirs.
 use Rattle.std.proofs.Common.{◌≡◌, ℕ, ◌+◌, ◌-◌, ◌<◌, ◌≤◌, ◌^◌, List, [], ◌∷◌, length, get_or, set, map, Option, None, Some, refl, sym, subst, ap, ◌∙◌, arith, ⊎_elim, ◌%◌}
-use Rattle.std.specs.Prelude.{All}
-use Rattle.std.proofs.Math.Nat.{mod-eq_of_lt}
-use Rattle.std.proofs.lemmas.Bool.{cases_lt}
-use Rattle.std.proofs.lemmas.List.{get_or-set_other, get_or-map}
-use Rattle.std.proofs.lemmas.Grind.{get_or-set_at}
+use Rattle.std.proofs.{Math.Nat.mod-eq_of_lt, lemmas.Bool.cases_lt, lemmas.List.get_or-set_other, lemmas.List.get_or-map, lemmas.Grind.get_or-set_at}
 use Rattle.std.proofs.lemmas.List.Elements.{All-head, All-tail}
+use Rattle.std.specs.Prelude.{All}
 use Rattle.kp_bits.specs.Word as bits
 use Rattle.kp_bits.specs.Operators.{binary_of, joined_of}
-use Rattle.kp_net.specs.declared.node.NodeId.{NodeId}
-use Rattle.kp_net.specs.declared.node.Kind.{Kind}
+use Rattle.kp_net.specs.declared.node.{NodeId.NodeId, Kind.Kind}
 use Rattle.kp_net.specs.declared.node.Kind.TheVariants.{Const, Ext, Sample, Reg, Word, Not, Binary, Mux, Concat, Slice}
-use Rattle.kp_net.specs.declared.node.Node.{Node}
-use Rattle.kp_net.specs.Nodes.{Cells, Words, word_of_kind, word_of_node, word_at, at}
-use Rattle.kp_net.specs.Widths.{wide, no_node, KindOk, AllRight}
-use Rattle.kp_net.specs.declared.netlist.WritePort.{WritePort}
-use Rattle.kp_net.specs.Netlist.{Net, Input, State, cells_of}
-use Rattle.kp_net.specs.Parts.{CellOk, NetOk, no_file}
+use Rattle.kp_net.specs.{declared.node.Node.Node, Nodes.Cells, Nodes.Words, Nodes.word_of_kind, Nodes.word_of_node, Nodes.word_at, Nodes.at}
+use Rattle.kp_net.specs.{Widths.wide, Widths.no_node, Widths.KindOk, Widths.AllRight, declared.netlist.WritePort.WritePort}
+use Rattle.kp_net.specs.{Netlist.Net, Netlist.Input, Netlist.State, Netlist.cells_of, Parts.CellOk, Parts.NetOk, Parts.no_file}
 use Rattle.kp_net.proofs.Values.{word_there, word_is, at_fits}
-use Rattle.kp_cycle.specs.declared.codes.Op.{Op}
-use Rattle.kp_cycle.specs.declared.codes.Op.TheVariants.{Plain}
-use Rattle.kp_cycle.specs.declared.codes.Step.{Step}
-use Rattle.kp_cycle.specs.inner.Codes.{op_for, number_of, IsReady}
-use Rattle.kp_cycle.specs.declared.latches.Latch.{Latch}
-use Rattle.kp_cycle.specs.declared.latches.Latch.TheVariants.{Always, If}
-use Rattle.kp_cycle.specs.inner.Latches.{latch_for, OfLatch}
+use Rattle.kp_cycle.specs.declared.codes.{Op.Op, Op.TheVariants.Plain, Step.Step}
+use Rattle.kp_cycle.specs.{inner.Codes.op_for, inner.Codes.number_of, inner.Codes.IsReady, declared.latches.Latch.Latch}
+use Rattle.kp_cycle.specs.{declared.latches.Latch.TheVariants.Always, declared.latches.Latch.TheVariants.If, inner.Latches.latch_for, inner.Latches.OfLatch}
 use Rattle.kp_cycle.specs.inner.Plans.{reads, reads_at, Among, IsKnown, OfPort, OfRoots, AreFixed, IsPlan, Settled, no_step, targets}
 use Rattle.kp_cycle.specs.inner.Storage.{Stored, Fits, FitsBelow, StateFits, cells, seen, state_of}
-use Rattle.kp_cycle.proofs.Clocking.{length_map}
-use Rattle.kp_cycle.proofs.Coding.{coded, ready}
+use Rattle.kp_cycle.proofs.{Clocking.length_map, Coding.coded, Coding.ready}
 
 -- a node's word depends on the words of its operands alone
 parts_read : (v w : Words) (parts : List NodeId) → All (λ a. v a.0 ≡ w a.0) parts → map (λ a. v a.0) parts ≡ map (λ a. w a.0) parts

@@ -1,13 +1,8 @@
 -- A simulator as its callers see it: its inputs and its outputs.
 use Rattle.std.specs.Prelude.{ℕ, Bool, ◌<◌, ◌≤◌, ◌≡◌, if◌then◌else◌, List, [], length, get_or, map, Option, None, Some}
-use Rattle.kp_bits.specs.Word.{Word, word}
-use Rattle.kp_net.specs.Widths.{wide}
-use Rattle.kp_bits.specs.Operators.{no_word}
-use Rattle.kp_net.specs.declared.node.Node.{Node}
-use Rattle.kp_net.specs.declared.netlist.WritePort.{WritePort}
-use Rattle.kp_net.specs.Nodes.{Cells, at, on}
-use Rattle.kp_net.specs.Netlist.{Net, Input, State, cells_of, resets}
-use Rattle.kp_net.specs.Parts.{no_port, no_reg, no_file}
+use Rattle.kp_bits.specs.{Word.Word, Word.word, Operators.no_word}
+use Rattle.kp_net.specs.{Widths.wide, declared.node.Node.Node, declared.netlist.WritePort.WritePort, Nodes.Cells, Nodes.at, Nodes.on}
+use Rattle.kp_net.specs.{Netlist.Net, Netlist.Input, Netlist.State, Netlist.cells_of, Netlist.resets, Parts.no_port, Parts.no_reg, Parts.no_file}
 
 -- a netlist, its present state, and its slots, each of which holds a state once it was saved
 pub record Running : Type 0 where

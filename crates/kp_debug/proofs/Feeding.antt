@@ -1,16 +1,11 @@
 -- The inputs of a cycle.
 use Rattle.std.proofs.Common.{◌≡◌, ℕ, zero, suc, ◌+◌, ◌-◌, ◌*◌, ◌<◌, ◌≤◌, false, List, [], ◌∷◌, length, get_or, take, drop, refl, sym, ap, ◌∙◌, arith}
+use Rattle.std.proofs.{Math.Nat.mul-le-mul_right, lemmas.List.drop-drop, lemmas.List.Edits.length-between, lemmas.List.Edits.get_or-between}
 use Rattle.std.specs.Prelude.{slice_range}
-use Rattle.std.proofs.Math.Nat.{mul-le-mul_right}
-use Rattle.std.proofs.lemmas.List.{drop-drop}
-use Rattle.std.proofs.lemmas.List.Edits.{length-between, get_or-between}
-use Rattle.kp_bits.specs.Word.{Word}
-use Rattle.kp_bits.specs.Operators.{no_word}
-use Rattle.kp_net.specs.Netlist.{Net, Input}
-use Rattle.kp_net.specs.Parts.{no_port}
+use Rattle.kp_bits.specs.{Word.Word, Operators.no_word}
+use Rattle.kp_net.specs.{Netlist.Net, Netlist.Input, Parts.no_port}
 use Rattle.kp_cycle.specs.Steps.{SamplesFit, given}
-use Rattle.kp_debug.specs.Sessions.{inputs_of, SamplesFitCycles}
-use Rattle.kp_debug.specs.inner.Kept.{no_input}
+use Rattle.kp_debug.specs.{Sessions.inputs_of, Sessions.SamplesFitCycles, inner.Kept.no_input}
 
 pub inputs_many : (ports : ℕ) (exts : List ℕ) (samples : List Word) → length (inputs_of ports exts samples) ≡ length exts
 inputs_many ports [] samples = refl

@@ -1,13 +1,11 @@
 -- The cycles of a run pass.
 use Rattle.std.proofs.Common.{◌≡◌, ℕ, zero, suc, ◌+◌, ◌<◌, ◌≤◌, List, [], ◌∷◌, length, get_or, take, Option, Some, None, refl, sym, ap, ◌∙◌, arith}
+use Rattle.std.proofs.lemmas.{List.take_more, Option.slice_get-get_or, Option.slice_get_past}
 use Rattle.std.specs.Prelude.{slice_get}
-use Rattle.std.proofs.lemmas.List.{take_more}
-use Rattle.std.proofs.lemmas.Option.{slice_get-get_or, slice_get_past}
 use Rattle.kp_base.specs.declared.row.Row.{Row}
 use Rattle.kp_net.specs.Netlist.{Net, Input, State, start_of, state_after, row_of, states_from, rows_from, last_from, last_of, run}
 use Rattle.kp_net.proofs.Runs.{last_more}
-use Rattle.kp_debug.specs.Sessions.{no_state}
-use Rattle.kp_debug.specs.inner.Kept.{no_input}
+use Rattle.kp_debug.specs.{Sessions.no_state, inner.Kept.no_input}
 
 state_from : (net : Net) (st : State) (inputs : List Input) (c : ℕ) → c ≤ length inputs → get_or (states_from net st inputs) c no_state ≡ last_from net st (take c inputs)
 state_from net st [] zero h = refl

@@ -1,15 +1,12 @@
 -- A session is at a cycle of a run, and advances by one.
 use Rattle.std.proofs.Common.{◌≡◌, ◌≢◌, ℕ, ◌+◌, ◌*◌, ◌<◌, ◌≤◌, List, [], length, get_or, set, take, Option, Some, None, refl, sym, subst, ap, ◌∙◌, arith, ⊎_elim}
-use Rattle.std.proofs.lemmas.Bool.{cases_lt}
-use Rattle.std.proofs.lemmas.List.{get_or-set_other, length-set}
-use Rattle.std.proofs.lemmas.Grind.{get_or-set_at}
+use Rattle.std.proofs.lemmas.{Bool.cases_lt, List.get_or-set_other, List.length-set, Grind.get_or-set_at}
 use Rattle.kp_bits.specs.Word.{Word}
 use Rattle.kp_net.specs.Netlist.{Net, Input, State, state_after, last_of, run}
 use Rattle.kp_cycle.specs.Steps.{Running, saved_in}
 use Rattle.kp_debug.specs.Sessions.{inputs_of, SamplesFitCycles, no_state}
 use Rattle.kp_debug.specs.inner.Kept.{no_input, HasRun, HasKept, IsSession}
-use Rattle.kp_debug.proofs.Feeding.{inputs_many}
-use Rattle.kp_debug.proofs.Passing.{state_at_cycle, run_more}
+use Rattle.kp_debug.proofs.{Feeding.inputs_many, Passing.state_at_cycle, Passing.run_more}
 
 -- the inputs of all cycles
 abbrev pub ins : Net → List ℕ → List Word → List Input

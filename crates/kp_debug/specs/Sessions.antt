@@ -1,10 +1,8 @@
 -- A session: a run of a netlist, and its current cycle.
 use Rattle.std.specs.Prelude.{ℕ, ◌+◌, ◌*◌, ◌-◌, ◌<◌, ◌≡◌, false, min, List, [], ◌∷◌, length, get_or, take, drop, slice_get, Option}
 use Rattle.kp_base.specs.declared.row.Row.{Row}
-use Rattle.kp_bits.specs.Word.{Word}
-use Rattle.kp_bits.specs.Operators.{no_word}
-use Rattle.kp_net.specs.Netlist.{Net, Input, State, run}
-use Rattle.kp_net.specs.Parts.{no_port}
+use Rattle.kp_bits.specs.{Word.Word, Operators.no_word}
+use Rattle.kp_net.specs.{Netlist.Net, Netlist.Input, Netlist.State, Netlist.run, Parts.no_port}
 use Rattle.kp_cycle.specs.Steps.{Running, given}
 
 -- the netlist, the inputs of each cycle of the run, and how many cycles have passed

@@ -1,13 +1,11 @@
 -- Runs that show the same values are printed alike.
 use Rattle.std.proofs.Common.{◌≡◌, ◌∙◌, ℕ, suc, ◌-◌, ◌<◌, ◌≤◌, List, [], ◌∷◌, ◌++◌, length, Bool, refl, ap, ap₂, sym, subst, arith}
-use Rattle.std.specs.Prelude.{◌==◌, slice_get}
 use Rattle.std.proofs.lemmas.Nat.{pow_pos}
+use Rattle.std.specs.Prelude.{◌==◌, slice_get}
 use Rattle.kp_bits.specs.Word.{Word}
 use Rattle.kp_ast.specs.declared.tree.Job.{Job}
-use Rattle.kp_pipeline.specs.Pipeline.{Inputs}
-use Rattle.kp_pipeline.specs.Rows.{Row, Trace}
-use Rattle.kp_machine.specs.Machine.{pipe_of, inputs_from}
-use Rattle.kp_machine.specs.Slots.{targets_of}
+use Rattle.kp_pipeline.specs.{Pipeline.Inputs, Rows.Row, Rows.Trace}
+use Rattle.kp_machine.specs.{Machine.pipe_of, Machine.inputs_from, Slots.targets_of}
 use Rattle.kp_net.specs.Netlist.{Net}
 use Rattle.kp_debug.specs.Sessions.{Debugged}
 use Rattle.kp_run.specs.Cycles.{inputs_to}
@@ -17,13 +15,11 @@ use Rattle.kp_debug_script.specs.declared.command.Command.TheVariants as command
 use Rattle.kp_seq.specs.Running.{target}
 use Rattle.kp_tool_report.specs.States.{no_counts}
 use Rattle.kp_tool_report.proofs.Alike.{lines_alike}
-use Rattle.kp_synth_spec.specs.Shows.{Shows}
-use Rattle.kp_synth_spec.specs.Traces.{inputs_seen, AreQuiet}
+use Rattle.kp_synth_spec.specs.{Shows.Shows, Traces.inputs_seen, Traces.AreQuiet}
 use Rattle.kp_watch.specs.Watching.{own_trace}
 use Rattle.kp_debug_report.specs.Inspecting.{all_cycles, whole_run, has_value, first_from, ahead, reached, hit_line, at_line, row_or_end, printed_by, printed, ends_in, IsOfTargets, AreOfJob}
-use Rattle.kp_debug_report.proofs.Searching.{alike}
 use Rattle.kp_debug_report.specs.inner.Standing.{IsInspection, run_of}
-use Rattle.kp_debug_report.proofs.Standing.{reached_within, many}
+use Rattle.kp_debug_report.proofs.{Searching.alike, Standing.reached_within, Standing.many}
 
 module _ (job : Job) (a b : Trace) (same : ShowsAlike job a b) where
   value_is : (t : ℕ) (v : Word) (k : ℕ) → t < length (targets_of job.decls) → k ≤ length a.rows → has_value a t v k ≡ has_value b t v k

@@ -1,26 +1,20 @@
 -- The inputs of the first cycles, from lists of stall words and of samples.
 use Rattle.std.proofs.Common.{◌≡◌, ◌∙◌, ℕ, zero, suc, ◌+◌, ◌*◌, ◌<◌, ◌≤◌, false, None, List, [], ◌∷◌, ◌++◌, length, length-append, get_or, take, drop, refl, ap, sym, subst, arith, ⊎_elim}
-use Rattle.std.proofs.Math.Nat.{mul-le-mul_right}
-use Rattle.std.proofs.lemmas.Bool.{cases_lt}
+use Rattle.std.proofs.{Math.Nat.mul-le-mul_right, lemmas.Bool.cases_lt}
 use Rattle.std.proofs.lemmas.List.{take_all, take-append-le, drop-append-le, length-drop, get_or_append_left, get_or-append-add}
 use Rattle.kp_base.specs.First.{first}
-use Rattle.kp_bits.specs.Word.{Word}
-use Rattle.kp_bits.specs.Operators.{no_word}
+use Rattle.kp_bits.specs.{Word.Word, Operators.no_word}
 use Rattle.kp_ast.specs.declared.tree.Job.{Job}
 use Rattle.kp_stage.specs.Start.{stall_word, input}
 use Rattle.kp_width.specs.Widths.{widths_of}
-use Rattle.kp_image.specs.Feeds.{Fed, row_in}
-use Rattle.kp_image.specs.Sections.{sections_of}
-use Rattle.kp_image.specs.Spans.{Pattern, word_in}
+use Rattle.kp_image.specs.{Feeds.Fed, Feeds.row_in, Sections.sections_of, Spans.Pattern, Spans.word_in}
 use Rattle.kp_net.specs.Netlist.{Net, Input}
 use Rattle.kp_cycle.specs.Steps.{SamplesFit, given}
 use Rattle.kp_debug.specs.Sessions.{inputs_of, SamplesFitCycles}
-use Rattle.kp_run.proofs.Given.{rows_fed}
-use Rattle.kp_run.proofs.Samples.{fits_ports}
+use Rattle.kp_run.proofs.{Given.rows_fed, Samples.fits_ports}
 use Rattle.kp_run.specs.Cycles.{inputs_to}
 use Rattle.kp_synth_spec.specs.Naming.{sample_ports}
-use Rattle.kp_debug_report.specs.Inspecting.{all_cycles}
-use Rattle.kp_debug_report.specs.inner.Lists.{words_to, rows_to}
+use Rattle.kp_debug_report.specs.{Inspecting.all_cycles, inner.Lists.words_to, inner.Lists.rows_to}
 
 pub inputs_many : (job : Job) (n : ℕ) → length (inputs_to job n) ≡ n
 inputs_many job zero = refl

@@ -1,22 +1,15 @@
 -- The registers of a script are registers of its job.
 use Rattle.std.proofs.Common.{◌≡◌, ◌∙◌, ℕ, zero, suc, ◌+◌, ◌<◌, List, [], ◌∷◌, length, get_or, drop, Bool, true, false, Option, None, Some, Ok, Err, refl, ap, sym, subst, arith}
-use Rattle.std.specs.declared.result.Result.{Result}
-use Rattle.std.specs.Prelude.{◌&&◌, if◌then◌else◌}
-use Rattle.std.specs.Str.{bytes_eq}
-use Rattle.kp_bits.specs.Literals.{is_number}
-use Rattle.kp_bits.specs.Word.{Word}
-use Rattle.kp_ast.specs.declared.tree.Decl.{Decl}
+use Rattle.std.specs.{declared.result.Result.Result, Prelude.◌&&◌, Prelude.if◌then◌else◌, Str.bytes_eq}
+use Rattle.kp_bits.specs.{Literals.is_number, Word.Word}
+use Rattle.kp_ast.specs.declared.tree.{Decl.Decl, Job.Job}
 use Rattle.kp_ast.specs.declared.tree.Decl.TheVariants as decls
-use Rattle.kp_ast.specs.declared.tree.Job.{Job}
 use Rattle.kp_machine.specs.Slots.{targets_of, is_register}
 use Rattle.kp_seq.specs.Running.{no_slot}
 use Rattle.kp_lines.specs.Lines.{Piece, lines_of, words_of}
 use Rattle.kp_debug_script.specs.Scripts.{verb_of, is_literal, or_else, register_from, count_of, value_of, one_count, with_count, alone, with_value, with_register, until_at, until_by, command_by, command_in, with_line, commands_of, placed, script_of, broken}
-use Rattle.kp_debug_script.specs.declared.command.Command.{Command}
+use Rattle.kp_debug_script.specs.declared.command.{Command.Command, Fault.Fault, Register.Register, Verb.Verb}
 use Rattle.kp_debug_script.specs.declared.command.Command.TheVariants as commands
-use Rattle.kp_debug_script.specs.declared.command.Fault.{Fault}
-use Rattle.kp_debug_script.specs.declared.command.Register.{Register}
-use Rattle.kp_debug_script.specs.declared.command.Verb.{Verb}
 use Rattle.kp_debug_script.specs.declared.command.Verb.TheVariants as verbs
 use Rattle.kp_debug_report.specs.Inspecting.{IsOfTargets, AreOfJob}
 

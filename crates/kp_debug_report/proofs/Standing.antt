@@ -1,9 +1,7 @@
 -- A session and the run that it steps through.
 use Rattle.std.proofs.Common.{◌≡◌, ◌∙◌, ℕ, ◌+◌, ◌-◌, ◌<◌, ◌≤◌, Bool, true, false, List, [], ◌∷◌, ◌++◌, length, get_or, drop, min, refl, ap, sym, subst, arith}
-use Rattle.std.specs.Prelude.{slice_get, option_map, Option}
-use Rattle.std.proofs.lemmas.List.{drop_more, drop_all}
-use Rattle.std.proofs.lemmas.Option.{slice_get-map}
-use Rattle.std.specs.Io.KnownBytes.{Appends}
+use Rattle.std.proofs.lemmas.{List.drop_more, List.drop_all, Option.slice_get-map}
+use Rattle.std.specs.{Prelude.slice_get, Prelude.option_map, Prelude.Option, Io.KnownBytes.Appends}
 use Rattle.kp_base.specs.inner.Bytes.{WrittenUpTo}
 use Rattle.kp_base.proofs.Bytes.{written_piece}
 use Rattle.kp_bits.specs.Word.{Word}
@@ -17,14 +15,11 @@ use Rattle.kp_sched.proofs.Counting.{seen_length}
 use Rattle.kp_debug_script.specs.declared.command.Command.{Command}
 use Rattle.kp_debug_script.specs.declared.command.Command.TheVariants as commands
 use Rattle.kp_tool_report.proofs.Lines.{left_is}
-use Rattle.kp_synth_spec.specs.Naming.{value_shown}
-use Rattle.kp_synth_spec.specs.Shows.{Shows}
-use Rattle.kp_synth_spec.specs.Traces.{trace_of}
+use Rattle.kp_synth_spec.specs.{Naming.value_shown, Shows.Shows, Traces.trace_of}
 use Rattle.kp_watch.proofs.Prefixes.{rows_many}
 use Rattle.kp_debug_report.specs.Inspecting.{all_cycles, has_value, first_from, ahead, reached, printed_by, printed, ends_in}
 use Rattle.kp_debug_report.specs.inner.Standing.{IsUnderWay, IsSearched, IsInspection, run_of, state_seen}
-use Rattle.kp_debug_report.proofs.Gathering.{inputs_many}
-use Rattle.kp_debug_report.proofs.Searching.{within, found, goes_on}
+use Rattle.kp_debug_report.proofs.{Gathering.inputs_many, Searching.within, Searching.found, Searching.goes_on}
 
 -- one command more
 pub printed_next : (job : Job) (trace : Trace) (cycle : ℕ) (cs : List Command) (i : ℕ) (c : Command) → i < length cs → c ≡ get_or cs i c

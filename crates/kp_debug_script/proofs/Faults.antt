@@ -1,21 +1,15 @@
 -- A violated rule is reported at a byte of the text, or at its end.
 use Rattle.std.proofs.Common.{◌≡◌, ℕ, suc, ◌≤◌, Bool, true, false, cond, List, [], ◌∷◌, length, map, All, Option, Some, None, Result, Ok, Err, sym, subst, arith}
 use Rattle.std.specs.Prelude.{nat_le, IfErr, IfSome, ◌&&◌, ◌==◌}
-use Rattle.kp_bits.specs.Word.{Word}
-use Rattle.kp_bits.specs.Literals.{is_number, number_of, literal_of, fit_of}
-use Rattle.kp_bits.specs.declared.literal.Literal.{Literal}
+use Rattle.kp_bits.specs.{Word.Word, Literals.is_number, Literals.number_of, Literals.literal_of, Literals.fit_of, declared.literal.Literal.Literal}
 use Rattle.kp_bits.specs.declared.literal.LiteralFault.{LiteralFault}
 use Rattle.kp_ast.specs.declared.tree.Decl.{Decl}
-use Rattle.kp_lines.specs.Lines.{Piece, piece_of, IsWithin}
-use Rattle.kp_debug_script.specs.inner.Reading.{IsFaultIn}
+use Rattle.kp_lines.specs.{Lines.Piece, Lines.piece_of, Lines.IsWithin, declared.run.Run.Run}
 use Rattle.kp_debug_script.specs.Scripts.{verb_of, count_within, count_of, value_fitting, value_within, value_of, one_count, with_count, alone, with_value, with_register, register_from, until_at, until_by, is_literal, command_by, command_in}
-use Rattle.kp_lines.specs.declared.run.Run.{Run}
-use Rattle.kp_debug_script.specs.declared.command.Command.{Command}
-use Rattle.kp_debug_script.specs.declared.command.Command.TheVariants as commands
-use Rattle.kp_debug_script.specs.declared.command.Verb.{Verb}
-use Rattle.kp_debug_script.specs.declared.command.Verb.TheVariants as verbs
-use Rattle.kp_debug_script.specs.declared.command.Register.{Register}
+use Rattle.kp_debug_script.specs.{inner.Reading.IsFaultIn, declared.command.Command.Command, declared.command.Verb.Verb, declared.command.Register.Register}
 use Rattle.kp_debug_script.specs.declared.command.Fault.{Fault}
+use Rattle.kp_debug_script.specs.declared.command.Command.TheVariants as commands
+use Rattle.kp_debug_script.specs.declared.command.Verb.TheVariants as verbs
 
 abbrev IsIn : {X : Type 0} → ℕ → Result X Fault → Type 0
 IsIn end result = IfErr result (λ f. f.at ≤ end)

@@ -5,23 +5,15 @@
 -- name or else at the literal. Of the rules that a line violates the one with the lowest number counts, and of the lines that violate one the first.
 use Rattle.std.specs.Prelude.{ℕ, ◌+◌, Bool, true, false, ◌&&◌, ◌==◌, nat_le, if◌then◌else◌, List, [], ◌∷◌, codes, Option, Some, None, Result, Ok, Err, take, drop}
 use Rattle.std.specs.Str.{bytes_eq}
-use Rattle.kp_base.specs.Place.{place_after}
-use Rattle.kp_base.specs.Refusal.{e_rule}
-use Rattle.kp_base.specs.declared.refusal.Refusal.{Refusal}
-use Rattle.kp_bits.specs.Word.{Word}
-use Rattle.kp_bits.specs.Literals.{is_number, number_of, literal_of, fit_of}
-use Rattle.kp_bits.specs.declared.literal.Literal.{Literal}
-use Rattle.kp_bits.specs.declared.literal.LiteralFault.{LiteralFault}
-use Rattle.kp_bits.specs.declared.literal.LiteralFault.TheVariants.{BadDigit}
+use Rattle.kp_base.specs.{Place.place_after, Refusal.e_rule, declared.refusal.Refusal.Refusal}
+use Rattle.kp_bits.specs.{Word.Word, Literals.is_number, Literals.number_of, Literals.literal_of, Literals.fit_of, declared.literal.Literal.Literal}
+use Rattle.kp_bits.specs.declared.literal.LiteralFault.{LiteralFault, TheVariants.BadDigit}
 use Rattle.kp_ast.specs.declared.tree.Decl.{Decl}
 use Rattle.kp_ast.specs.declared.tree.Decl.TheVariants as decls
 use Rattle.kp_lines.specs.Lines.{Piece, lines_of, words_of}
-use Rattle.kp_debug_script.specs.declared.command.Command.{Command}
+use Rattle.kp_debug_script.specs.declared.command.{Command.Command, Verb.Verb, Register.Register, Fault.Fault}
 use Rattle.kp_debug_script.specs.declared.command.Command.TheVariants as commands
-use Rattle.kp_debug_script.specs.declared.command.Verb.{Verb}
 use Rattle.kp_debug_script.specs.declared.command.Verb.TheVariants as verbs
-use Rattle.kp_debug_script.specs.declared.command.Register.{Register}
-use Rattle.kp_debug_script.specs.declared.command.Fault.{Fault}
 
 abbrev pub broken : {X : Type 0} → ℕ → ℕ → Result X Fault
 broken rule at = Err (record { rule = rule; at = at })

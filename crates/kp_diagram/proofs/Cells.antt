@@ -5,12 +5,9 @@ use Rattle.kp_pipeline.specs.Machine.{Machine}
 use Rattle.kp_pipeline.specs.Pipeline.{Inputs, PipelineState, cycle, next_stage, pipeline_start, stall, ue}
 use Rattle.kp_pipeline.specs.Rows.{Row, count_after, counts, counts_from, pipe, row, rows_from, state_after}
 use Rattle.kp_pipeline.specs.Accepted.{Accepted}
-use Rattle.kp_pipeline.proofs.Lists.{all-map, bit-at}
-use Rattle.kp_pipeline.proofs.Cycle.{ue-parts}
+use Rattle.kp_pipeline.proofs.{Lists.all-map, Lists.bit-at, Cycle.ue-parts}
 use Rattle.kp_pipeline.proofs.Movement.{count-moved, count-stays, kept-full, next-from, next-moved, next_count, stall-full}
-use Rattle.kp_pipeline.proofs.Invariant.{Shape}
-use Rattle.kp_pipeline.proofs.Pending.{shape-kept, shape-start}
-use Rattle.kp_pipeline.proofs.Counts.{AgreeBelow, counts-row}
+use Rattle.kp_pipeline.proofs.{Invariant.Shape, Pending.shape-kept, Pending.shape-start, Counts.AgreeBelow, Counts.counts-row}
 use Rattle.kp_diagram.specs.Diagram.{Cell, Fetch, cells_from, diagram, fetches_from, fetches_next, mark, next_place}
 use Rattle.kp_diagram.specs.Claims.{HasCell, HasReasons, Holds, IsReason, Shows, input_at, is_full, stalls_of}
 use Rattle.kp_diagram.proofs.Steps.{by-fate, fetches-moved, fetches-swept, place-leaves, place-moves, place-stays, place-swept, reason}

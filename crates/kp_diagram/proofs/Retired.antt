@@ -1,19 +1,12 @@
 use Rattle.std.specs.List.{AllByRecursion}
 use Rattle.std.proofs.Common.{◌≡◌, ℕ, zero, suc, ◌+◌, ◌-◌, ◌<◌, ◌≤◌, Bool, true, false, cond, not, ◌&&◌, ◌||◌, eqb, List, [], ◌∷◌, length, Option, Some, None, refl, sym, ap, ap₂, ◌∙◌, ⊎_elim, arith, eq-eqb}
 use Rattle.std.proofs.lemmas.Bool.{cases_Bool, cases_lt, both_ways, false≢true, false_from_ne_true, ne_eqb, cond-true, cond-false, and_from, and_left, and_right, or_left}
-use Rattle.kp_pipeline.specs.Machine.{Machine}
-use Rattle.kp_pipeline.specs.Sequential.{PendingGuess}
+use Rattle.kp_pipeline.specs.{Machine.Machine, Sequential.PendingGuess}
 use Rattle.kp_pipeline.specs.Pipeline.{Inputs, PipelineState, above, back, cycle, next_stage, pipeline_start, some_differs, stall, ue}
-use Rattle.kp_pipeline.specs.Rows.{bit, count_after, one_if, passed, pipe, row, rows_from}
-use Rattle.kp_pipeline.specs.Accepted.{Accepted}
-use Rattle.kp_pipeline.specs.Claims.{StandsBefore}
-use Rattle.kp_pipeline.proofs.Lists.{bit-at}
-use Rattle.kp_pipeline.proofs.Cycle.{stall-is, ue-parts}
+use Rattle.kp_pipeline.specs.{Rows.bit, Rows.count_after, Rows.one_if, Rows.passed, Rows.pipe, Rows.row, Rows.rows_from, Accepted.Accepted, Claims.StandsBefore}
+use Rattle.kp_pipeline.proofs.{Lists.bit-at, Cycle.stall-is, Cycle.ue-parts}
 use Rattle.kp_pipeline.proofs.Movement.{count-moved, count-one, count-stays, kept-below, kept-full, next-moved, next-none, next-swept, next_count}
-use Rattle.kp_pipeline.proofs.Invariant.{Shape}
-use Rattle.kp_pipeline.proofs.NextState.{back-mismatch}
-use Rattle.kp_pipeline.proofs.Pending.{shape-kept, shape-start}
-use Rattle.kp_pipeline.proofs.Counts.{AgreeBelow, counts-row}
+use Rattle.kp_pipeline.proofs.{Invariant.Shape, NextState.back-mismatch, Pending.shape-kept, Pending.shape-start, Counts.AgreeBelow, Counts.counts-row}
 use Rattle.kp_diagram.specs.Diagram.{cells_from, diagram, does_move, fetches_from, fetches_next, mark, next_place, retired_numbers, retires}
 use Rattle.kp_diagram.specs.Claims.{numbers_from}
 use Rattle.kp_diagram.proofs.Steps.{by-fate, fetches-moved, fetches-none, fetches-swept, moves-mark, place-moves, place-stays, place-swept}

@@ -2,9 +2,7 @@
 use Rattle.std.specs.Prelude.{◌≡◌, ℕ, ◌-◌, ◌<◌, List, Option, None, length, get_or}
 use Rattle.kp_ast.specs.declared.tree.Job.{Job}
 use Rattle.kp_stage.specs.Start.{start_of}
-use Rattle.kp_pipeline.specs.Machine.{Machine}
-use Rattle.kp_pipeline.specs.Pipeline.{Inputs, pipeline_start}
-use Rattle.kp_pipeline.specs.Rows.{passed, pipe}
+use Rattle.kp_pipeline.specs.{Machine.Machine, Pipeline.Inputs, Pipeline.pipeline_start, Rows.passed, Rows.pipe}
 use Rattle.kp_machine.specs.Machine.{inputs_from, machine_of, start_hints, state_of}
 use Rattle.kp_diagram.specs.Claims.{Counts, HasReasons, Holds, IsSpentFor, Shows, cycles_of, numbers_from}
 use Rattle.kp_diagram.specs.Diagram.{Loss, retired_numbers}

@@ -1,7 +1,7 @@
 -- The steps of the loop that fills a text.
 use Rattle.std.proofs.Common.{◌≡◌, ◌∙◌, ℕ, ◌+◌, ◌-◌, ◌<◌, ◌≤◌, min, List, ◌++◌, length, get_or, take, drop, ap, sym, append_assoc, arith, length-drop}
-use Rattle.std.specs.Prelude.{decimal}
 use Rattle.std.proofs.lemmas.List.{drop_all, drop_min, drop_more, drop-drop, take_all}
+use Rattle.std.specs.Prelude.{decimal}
 use Rattle.kp_diagram_svg.specs.Filling.{filled, hole_in}
 
 pub filled_next : (text numbers : List ℕ) (i d : ℕ) → i < length numbers

@@ -2,14 +2,8 @@
 use Rattle.std.proofs.Common.{◌≡◌, ◌∙◌, ℕ, ◌-◌, List, ◌++◌, length, refl, ap, ap₂, sym}
 use Rattle.kp_sched.proofs.Counting.{seen_length}
 use Rattle.kp_diagram.specs.Diagram.{account, diagram}
-use Rattle.kp_diagram_text.specs.declared.chart.Chart.{Chart}
-use Rattle.kp_diagram_text.specs.Charts.{ext_of, names_of, rows_of}
-use Rattle.kp_diagram_text.specs.Text.{longest}
-use Rattle.kp_diagram_svg.specs.Sizes.{half_of}
-use Rattle.kp_diagram_svg.specs.Symbols.{head}
-use Rattle.kp_diagram_svg.specs.Rows.{cells_part}
-use Rattle.kp_diagram_svg.specs.Foot.{foot}
-use Rattle.kp_diagram_svg.specs.Picture.{svg_text}
+use Rattle.kp_diagram_text.specs.{declared.chart.Chart.Chart, Charts.ext_of, Charts.names_of, Charts.rows_of, Text.longest}
+use Rattle.kp_diagram_svg.specs.{Sizes.half_of, Symbols.head, Rows.cells_part, Foot.foot, Picture.svg_text}
 
 -- the parts, for any half of a cell's width, and any numbers of cycles and rows
 abbrev pub parts : Chart → ℕ → ℕ → ℕ → List ℕ

@@ -2,8 +2,7 @@
 use Rattle.std.specs.Prelude.{ℕ, ◌+◌, ◌*◌, ◌==◌, List, [], ◌∷◌, ◌++◌, codes, if◌then◌else◌}
 use Rattle.kp_diagram.specs.Diagram.{Account}
 use Rattle.kp_diagram_text.specs.Text.{rate}
-use Rattle.kp_diagram_svg.specs.Filling.{filled}
-use Rattle.kp_diagram_svg.specs.Sizes.{account_left, legend_line}
+use Rattle.kp_diagram_svg.specs.{Filling.filled, Sizes.account_left, Sizes.legend_line}
 
 -- THE LEGEND shows each look of a cell, and the wedge of a wrong guess, one below the other, and what they mean.
 unfoldable pub legend_looks : ℕ → ℕ → List ℕ

@@ -1,14 +1,8 @@
 -- THE PICTURE of a run, as SVG 1.1: self-contained plain text in ASCII, with no script.
 use Rattle.std.specs.Prelude.{ℕ, List, ◌++◌, length}
 use Rattle.kp_pipeline.specs.Rows.{Row}
-use Rattle.kp_diagram_text.specs.declared.chart.Chart.{Chart}
-use Rattle.kp_diagram_text.specs.Charts.{figure_of, rows_of}
-use Rattle.kp_diagram_text.specs.Figures.{Figure}
-use Rattle.kp_diagram_text.specs.Text.{longest}
-use Rattle.kp_diagram_svg.specs.Sizes.{half_of}
-use Rattle.kp_diagram_svg.specs.Symbols.{head}
-use Rattle.kp_diagram_svg.specs.Rows.{cells_part}
-use Rattle.kp_diagram_svg.specs.Foot.{foot}
+use Rattle.kp_diagram_text.specs.{declared.chart.Chart.Chart, Charts.figure_of, Charts.rows_of, Figures.Figure, Text.longest}
+use Rattle.kp_diagram_svg.specs.{Sizes.half_of, Symbols.head, Rows.cells_part, Foot.foot}
 
 -- The picture of a figure, with the rows of its run.
 abbrev pub picture : Figure → List Row → List ℕ

@@ -3,8 +3,7 @@ use Rattle.std.specs.Prelude.{ℕ, ◌+◌, Bool, cond, List, [], ◌∷◌, ◌
 use Rattle.kp_pipeline.specs.Rows as pipeline
 use Rattle.kp_diagram.specs.Diagram.{Cell, Fetch, Mark, Moves, WaitsForValue, WaitsForStage, Held, Squashed, is_squashed}
 use Rattle.kp_diagram_text.specs.Text.{stage_name}
-use Rattle.kp_diagram_svg.specs.Filling.{filled}
-use Rattle.kp_diagram_svg.specs.Sizes.{line_of, middle_of}
+use Rattle.kp_diagram_svg.specs.{Filling.filled, Sizes.line_of, Sizes.middle_of}
 
 -- THE HEAD OF A COLUMN: the number of the cycle, and the grid's line below it, or the grey column if a guess was wrong.
 unfoldable pub column_text : ℕ → ℕ → Bool → List ℕ

@@ -1,7 +1,6 @@
 -- THE HEAD of a picture: its size and title, and the shapes of its cells, each with a name by which the cells use it.
 use Rattle.std.specs.Prelude.{ℕ, ◌+◌, ◌-◌, ◌*◌, ◌==◌, List, [], ◌∷◌, ◌++◌, codes, if◌then◌else◌}
-use Rattle.kp_diagram_svg.specs.Filling.{filled}
-use Rattle.kp_diagram_svg.specs.Sizes.{column_of, height_of, rows_of, width_of}
+use Rattle.kp_diagram_svg.specs.{Filling.filled, Sizes.column_of, Sizes.height_of, Sizes.rows_of, Sizes.width_of}
 
 -- A picture of this width and height begins. All of its text has these letters, and is centred. The caption that follows is its title.
 unfoldable pub canvas : ℕ → ℕ → List ℕ

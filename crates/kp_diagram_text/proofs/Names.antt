@@ -1,13 +1,10 @@
 -- NAMES of stages.
 use Rattle.std.proofs.Common.{◌≡◌, ◌∙◌, ℕ, suc, ◌+◌, ◌<◌, ◌≤◌, ◌==◌, ◌&&◌, ◌||◌, Bool, true, false, leb, ltb, max, List, [], length, get_or, map, take, decimal, refl, ap, ap₂, sym, ⊎_elim, arith}
+use Rattle.std.proofs.lemmas.{Bool.cases_lt, Bool.cond-true, Bool.cond-false, Bool.leb-true, Bool.lt-ltb, Bool.le-ltb, Fmt.length-decimal-le}
+use Rattle.std.proofs.lemmas.List.{get_or-map, length-map, take_all, Folds.list_all_at, Folds.list_all-map, Folds.list_all_more}
 use Rattle.std.specs.List.{list_all}
-use Rattle.std.proofs.lemmas.Bool.{cases_lt, cond-true, cond-false, leb-true, lt-ltb, le-ltb}
-use Rattle.std.proofs.lemmas.Fmt.{length-decimal-le}
-use Rattle.std.proofs.lemmas.List.{get_or-map, length-map, take_all}
-use Rattle.std.proofs.lemmas.List.Folds.{list_all_at, list_all-map, list_all_more}
 use Rattle.kp_base.specs.Characters.{is_word, run_length}
-use Rattle.kp_diagram_text.specs.Charts.{are_names, is_name}
-use Rattle.kp_diagram_text.specs.Text.{longest, stage_name}
+use Rattle.kp_diagram_text.specs.{Charts.are_names, Charts.is_name, Text.longest, Text.stage_name}
 
 first_true : (a b : Bool) → (a && b) ≡ true → a ≡ true
 first_true true b h = refl

@@ -9,9 +9,8 @@ use Rattle.kp_sched.specs.Rows.{row_seen, rows_seen}
 use Rattle.kp_sched.proofs.Counting.{seen_length, seen_more}
 use Rattle.kp_diagram.specs.Diagram.{Mark, account, cells_from, diagram, fetches_from, fetches_next, mark, next_place}
 use Rattle.kp_diagram.proofs.Cells.{cells-none}
-use Rattle.kp_diagram_text.specs.declared.chart.Chart.{Chart}
-use Rattle.kp_diagram_text.specs.Charts.{ext_of, figure_of, names_of, rows_of}
 use Rattle.kp_diagram_text.specs.Text.{account_text, cells_text, column, cycle_numbers, diagram_text, head, in_column, legend, line_at, lines_text, sign, spaces, stage_name}
+use Rattle.kp_diagram_text.specs.{declared.chart.Chart.Chart, Charts.ext_of, Charts.figure_of, Charts.names_of, Charts.rows_of}
 
 -- what is left is the same text
 pub left_is : (whole rest same : List ℕ) (a b : Option (List ℕ)) → rest ≡ same → WrittenUpTo whole rest a b → WrittenUpTo whole same a b

@@ -4,8 +4,7 @@ use Rattle.std.specs.List.{list_all}
 use Rattle.kp_base.specs.Characters.{is_word, run_length}
 use Rattle.kp_pipeline.specs.Rows.{Row}
 use Rattle.kp_sched.specs.Rows.{bit_of, rows_seen}
-use Rattle.kp_diagram_text.specs.declared.chart.Chart.{Chart}
-use Rattle.kp_diagram_text.specs.Figures.{Figure, figure_from}
+use Rattle.kp_diagram_text.specs.{declared.chart.Chart.Chart, Figures.Figure, Figures.figure_from}
 
 -- A name of a stage: 1 to 8 letters, digits or `_`.
 abbrev pub is_name : List ℕ → Bool

@@ -2,8 +2,7 @@
 use Rattle.std.proofs.Common.{◌≡◌, ◌∙◌, ℕ, suc, ◌+◌, ◌<◌, ◌≤◌, Bool, true, false, not, ◌||◌, leb, refl, sym, ap, arith, ⊎_elim, le-leb, eqb, eqb-true, List, length, set, subst, get_or-set_same, get_or-set_other}
 use Rattle.std.proofs.lemmas.Bool.{cases_Bool, cases_lt, eqb-false, lt-leb}
 use Rattle.kp_pipeline.specs.Pipeline.{greatest}
-use Rattle.kp_net.specs.declared.node.NodeId.{NodeId}
-use Rattle.kp_net.specs.Growth.{Held, Grown}
+use Rattle.kp_net.specs.{declared.node.NodeId.NodeId, Growth.Held, Growth.Grown}
 use Rattle.kp_net.proofs.Growing.{wire_grown}
 use Rattle.kp_engine.specs.Misses.{node_at, BitsOk}
 use Rattle.kp_pipeline.proofs.Cycle.{greatest-above, greatest-at}

@@ -1,32 +1,20 @@
 -- Two netlists that can be compared have one verdict.
 use Rattle.std.proofs.Common.{◌≡◌, ◌∙◌, ℕ, zero, suc, ◌==◌, ◌&&◌, ◌<◌, ◌≤◌, Bool, true, false, List, [], ◌∷◌, length, get_or, refl, sym, ap, subst, arith, ⊎_elim, Option, None, Some}
-use Rattle.std.specs.Bool.{Decides}
-use Rattle.std.specs.Cmp.Lexicographic.{bytes_decides}
-use Rattle.std.proofs.lemmas.Bool.{cases_lt, cases_eq, false≢true}
-use Rattle.std.proofs.lemmas.Bool.Decides.{Decides-and, Decides-eqb, Decides-like}
+use Rattle.std.proofs.lemmas.Bool.{cases_lt, cases_eq, false≢true, Decides.Decides-and, Decides.Decides-eqb, Decides.Decides-like}
 use Rattle.std.proofs.lemmas.List.Elements.{All-get_or}
+use Rattle.std.specs.{Bool.Decides, Cmp.Lexicographic.bytes_decides}
 use Rattle.kp_bits.specs.Word.{Word}
-use Rattle.kp_net.specs.declared.node.NodeId.{NodeId}
-use Rattle.kp_net.specs.declared.netlist.NetReg.{NetReg}
-use Rattle.kp_net.specs.declared.netlist.NetFile.{NetFile}
-use Rattle.kp_net.specs.declared.netlist.Port.{Port}
-use Rattle.kp_net.specs.declared.netlist.WritePort.{WritePort}
-use Rattle.kp_net.specs.Names.{same}
-use Rattle.kp_net.specs.Netlist.{Net}
-use Rattle.kp_net.specs.Parts.{NetOk, RegOk, FileOk, WriteOk, no_reg, no_file}
-use Rattle.kp_equiv.specs.declared.verdict.Verdict.{Verdict}
-use Rattle.kp_equiv.specs.declared.verdict.Verdict.TheVariants.{Same, Differs}
-use Rattle.kp_equiv_trees.specs.Alike.{Alike, reg_name, file_name}
-use Rattle.kp_equiv_trees.specs.Named.{reg_names, file_names, HasNames}
-use Rattle.kp_equiv_trees.specs.Roots.{Root, Ports, Register, File, Full, Ue, Back, roots, RegsAlike, WritesAlike, FilesAlike, PortsAgree, RegisterAgrees, FileAgrees, Agrees}
+use Rattle.kp_net.specs.declared.{node.NodeId.NodeId, netlist.NetReg.NetReg, netlist.NetFile.NetFile, netlist.Port.Port, netlist.WritePort.WritePort}
+use Rattle.kp_net.specs.{Names.same, Netlist.Net, Parts.NetOk, Parts.RegOk, Parts.FileOk, Parts.WriteOk, Parts.no_reg, Parts.no_file}
+use Rattle.kp_equiv.specs.declared.verdict.Verdict.{Verdict, TheVariants.Same, TheVariants.Differs}
 use Rattle.kp_equiv.specs.Roots.{IsComparable, IsVerdict}
-use Rattle.kp_equiv_trees.specs.Classes.{place, class_in}
-use Rattle.kp_equiv_trees.specs.Sections.{AgreeUpTo, Differing, FirstOf}
-use Rattle.kp_equiv_trees.proofs.Determined.{alike_found}
-use Rattle.kp_equiv_classes.proofs.Determining.{SomeDetermines, some_determines}
-use Rattle.kp_equiv_trees.proofs.Inputs.{port_decides}
+use Rattle.kp_equiv_trees.specs.Roots.{Root, Ports, Register, File, Full, Ue, Back, roots, RegsAlike, WritesAlike, FilesAlike, PortsAgree, RegisterAgrees, FileAgrees, Agrees}
+use Rattle.kp_equiv_trees.specs.{Alike.Alike, Alike.reg_name, Alike.file_name, Named.reg_names, Named.file_names, Named.HasNames}
+use Rattle.kp_equiv_trees.specs.{Classes.place, Classes.class_in, Sections.AgreeUpTo, Sections.Differing, Sections.FirstOf}
+use Rattle.kp_equiv_trees.proofs.{Determined.alike_found, Inputs.port_decides}
 use Rattle.kp_equiv_trees.proofs.Places.{has_place, reg_names_are, file_names_are, reg_count, file_count}
 use Rattle.kp_equiv_trees.proofs.Ordered.{register_found, file_found, namesake, file_namesake}
+use Rattle.kp_equiv_classes.proofs.Determining.{SomeDetermines, some_determines}
 
 -- a fact that a test decides
 record Decided (P : Type 0) : Type 0 where

@@ -2,16 +2,12 @@
 use Rattle.std.proofs.Common.{◌≡◌, ◌∙◌, ℕ, ◌<◌, [], length, get_or, sym, ap, arith}
 use Rattle.kp_ast.specs.declared.tree.Job.{Job}
 use Rattle.kp_machine.specs.Slots.{Slot}
-use Rattle.kp_net.specs.Names.{Differ, IsNamed}
-use Rattle.kp_net.specs.Netlist.{Net}
-use Rattle.kp_net.specs.Parts.{no_file}
+use Rattle.kp_net.specs.{Names.Differ, Names.IsNamed, Netlist.Net, Parts.no_file}
 use Rattle.kp_seq.specs.Running.{target}
-use Rattle.kp_synth_spec.specs.Naming.{file_name as target_file_name, file_of}
-use Rattle.kp_synth_spec.specs.Shows.{IsOfJob}
+use Rattle.kp_synth_spec.specs.{Naming.file_name as target_file_name, Naming.file_of, Shows.IsOfJob}
 use Rattle.kp_equiv_trees.specs.Named.{file_names, HasNames}
 use Rattle.kp_equiv.specs.Roots.{HasFiles, IsComparable}
-use Rattle.kp_equiv_trees.proofs.Naming.{one_number}
-use Rattle.kp_equiv_trees.proofs.Places.{file_names_are, file_count}
+use Rattle.kp_equiv_trees.proofs.{Naming.one_number, Places.file_names_are, Places.file_count}
 use Rattle.kp_equiv.proofs.Shown.{placed_at}
 
 has_files : (a b : Net) (job : Job) → Differ (file_names a) → IsOfJob a job → IsOfJob b job → HasFiles a.parts.files b.parts.files

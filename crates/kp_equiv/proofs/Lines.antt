@@ -2,10 +2,8 @@
 use Rattle.std.proofs.Common.{◌≡◌, ◌∙◌, ℕ, ◌++◌, List, length, codes, decimal, sym, ap, subst}
 use Rattle.kp_net.specs.Netlist.{Net}
 use Rattle.kp_equiv_trees.specs.Roots.{roots, root, AllAgree}
-use Rattle.kp_equiv.specs.Roots.{IsVerdict}
-use Rattle.kp_equiv.specs.declared.verdict.Verdict.{Verdict}
-use Rattle.kp_equiv.specs.declared.verdict.Verdict.TheVariants.{Same, Differs}
-use Rattle.kp_equiv.specs.Texts.{root_name, verdict_line}
+use Rattle.kp_equiv.specs.{Roots.IsVerdict, declared.verdict.Verdict.Verdict}
+use Rattle.kp_equiv.specs.{declared.verdict.Verdict.TheVariants.Same, declared.verdict.Verdict.TheVariants.Differs, Texts.root_name, Texts.verdict_line}
 
 -- the line of a verdict
 pub same_reported : (a b : Net) (v : Verdict) (n : ℕ) → v ≡ Same → IsVerdict a b v → ((other : Net) → AllAgree a other → n ≡ length (roots a other))

@@ -1,9 +1,6 @@
 -- The names in a list are those of a netlist.
 use Rattle.std.proofs.Common.{◌≡◌, ◌∙◌, ℕ, List, map, ap}
-use Rattle.kp_net.specs.declared.netlist.NetFile.{NetFile}
-use Rattle.kp_net.specs.declared.netlist.NetReg.{NetReg}
-use Rattle.kp_net.specs.declared.netlist.Parts.{Parts}
-use Rattle.kp_net.specs.Netlist.{Net}
+use Rattle.kp_net.specs.{declared.netlist.NetFile.NetFile, declared.netlist.NetReg.NetReg, declared.netlist.Parts.Parts, Netlist.Net}
 use Rattle.kp_equiv_trees.specs.Named.{reg_names, file_names}
 
 pub regs_listed : (a : Net) (p : Parts) (rs : List NetReg) (names : List (List ℕ)) → p ≡ a.parts → rs ≡ p.regs → names ≡ map (λ (r : NetReg). r.name) rs → names ≡ reg_names a

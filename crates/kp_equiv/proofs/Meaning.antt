@@ -1,21 +1,14 @@
 -- Equivalent nodes have equal words, if both netlists have the same sources by name.
 use Rattle.std.proofs.Common.{◌≡◌, ◌∙◌, ℕ, zero, suc, ◌%◌, ◌^◌, ◌==◌, ◌<◌, Bool, true, List, [], ◌∷◌, length, map, get_or, refl, sym, ap, arith, ⊎_elim}
-use Rattle.std.specs.Prelude.{if◌then◌else◌}
-use Rattle.std.proofs.Math.Nat.{add_comm, mul_comm}
-use Rattle.std.proofs.lemmas.Nat.{and_comm, or_comm, xor_comm}
-use Rattle.std.proofs.lemmas.Bool.{false≢true}
+use Rattle.std.proofs.{Math.Nat.add_comm, Math.Nat.mul_comm, lemmas.Nat.and_comm, lemmas.Nat.or_comm, lemmas.Nat.xor_comm, lemmas.Bool.false≢true}
 use Rattle.std.proofs.lemmas.Bool.Decides.{Decides-eqb, Decides-like, same_from_decides}
+use Rattle.std.specs.Prelude.{if◌then◌else◌}
 use Rattle.kp_bits.specs.Word as bits
-use Rattle.kp_bits.specs.Word.{word, not_of, mux_of, slice_of}
-use Rattle.kp_bits.specs.Operators.{binary_of, joined_of}
-use Rattle.kp_bits.specs.declared.operator.BinOp.{BinOp}
-use Rattle.kp_net.specs.declared.node.NodeId.{NodeId}
-use Rattle.kp_net.specs.declared.node.Kind.{Kind}
+use Rattle.kp_bits.specs.{Word.word, Word.not_of, Word.mux_of, Word.slice_of, Operators.binary_of, Operators.joined_of, declared.operator.BinOp.BinOp}
+use Rattle.kp_net.specs.declared.node.{NodeId.NodeId, Kind.Kind}
 use Rattle.kp_net.specs.declared.node.Kind.TheVariants.{Const, Ext, Sample, Reg, Word, Not, Binary, Mux, Concat, Slice}
-use Rattle.kp_net.specs.declared.node.Node.{Node}
-use Rattle.kp_net.specs.Netlist.{Net}
-use Rattle.kp_net.specs.Nodes.{Cells, Words, word_of_kind, word_of_node, word_at, at, on}
-use Rattle.kp_net.specs.Parts.{NetOk, CellOk}
+use Rattle.kp_net.specs.{declared.node.Node.Node, Netlist.Net}
+use Rattle.kp_net.specs.{Nodes.Cells, Nodes.Words, Nodes.word_of_kind, Nodes.word_of_node, Nodes.word_at, Nodes.at, Nodes.on, Parts.NetOk, Parts.CellOk}
 use Rattle.kp_net.specs.Widths.{KindOk, wide, no_node}
 use Rattle.kp_net.proofs.Values.{word_there, word_wide}
 use Rattle.kp_equiv_trees.specs.Alike.{commutes, Relation, AllRelated, PairRelated, KindAlike, Alike, AlikeWithin}

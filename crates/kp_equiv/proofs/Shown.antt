@@ -1,32 +1,22 @@
 -- Netlists that run alike implement the same machines, up to their modules' names.
 use Rattle.std.proofs.Common.{◌≡◌, ◌∙◌, ℕ, zero, suc, ◌<◌, ◌≤◌, Bool, true, false, cond, List, [], ◌∷◌, length, get_or, take, refl, sym, ap, subst, arith}
-use Rattle.std.specs.Prelude.{if◌then◌else◌}
-use Rattle.std.proofs.lemmas.Bool.{false≢true}
-use Rattle.std.proofs.lemmas.List.{length-map}
-use Rattle.std.specs.Cmp.Lexicographic.{bytes_decides}
+use Rattle.std.proofs.lemmas.{Bool.false≢true, List.length-map}
+use Rattle.std.specs.{Prelude.if◌then◌else◌, Cmp.Lexicographic.bytes_decides}
 use Rattle.kp_base.specs.declared.row.Row.{Row}
 use Rattle.kp_bits.specs.Word.{Word}
 use Rattle.kp_ast.specs.declared.tree.Job.{Job}
 use Rattle.kp_machine.specs.Slots.{targets_of, is_register}
-use Rattle.kp_net.specs.declared.node.NodeId.{NodeId}
-use Rattle.kp_net.specs.Names.{same}
+use Rattle.kp_net.specs.{declared.node.NodeId.NodeId, Names.same}
 use Rattle.kp_net.specs.Netlist.{Net, Input, State, start_of, state_after, row_of, states_from, rows_from, run}
-use Rattle.kp_net.specs.Parts.{NetOk, no_reg, no_file}
-use Rattle.kp_net.specs.Widths.{wide}
+use Rattle.kp_net.specs.{Parts.NetOk, Parts.no_reg, Parts.no_file, Widths.wide}
 use Rattle.kp_sched.specs.Rows.{rows_seen}
 use Rattle.kp_seq.specs.Running.{target}
 use Rattle.kp_synth_spec.specs.Naming.{module_name, register_name, file_name as target_file_name, place_among, register_of, file_of, value_of, value_shown}
-use Rattle.kp_synth_spec.specs.Shows.{IsOfJob}
-use Rattle.kp_synth_spec.specs.Traces.{trace_of, inputs_seen, AreQuiet}
+use Rattle.kp_synth_spec.specs.{Shows.IsOfJob, Traces.trace_of, Traces.inputs_seen, Traces.AreQuiet}
 use Rattle.kp_synth_spec.specs.Traces as traces
-use Rattle.kp_equiv_trees.specs.Alike.{Alike, AlikeWithin, reg_name, file_name}
-use Rattle.kp_equiv_trees.specs.Named.{reg_names, file_names}
-use Rattle.kp_equiv_trees.specs.Roots.{AllAgree}
-use Rattle.kp_equiv.specs.Roots.{IsComparable}
-use Rattle.kp_equiv.specs.Runs.{RunAlike}
-use Rattle.kp_equiv.specs.Showing.{renamed, ShowsButName}
-use Rattle.kp_equiv_trees.proofs.Naming.{one_number}
-use Rattle.kp_equiv_trees.proofs.Places.{reg_names_are, file_names_are, reg_count, file_count}
+use Rattle.kp_equiv_trees.specs.{Alike.Alike, Alike.AlikeWithin, Alike.reg_name, Alike.file_name, Named.reg_names, Named.file_names, Roots.AllAgree}
+use Rattle.kp_equiv.specs.{Roots.IsComparable, Runs.RunAlike, Showing.renamed, Showing.ShowsButName}
+use Rattle.kp_equiv_trees.proofs.{Naming.one_number, Places.reg_names_are, Places.file_names_are, Places.reg_count, Places.file_count}
 use Rattle.kp_equiv.proofs.Running.{agreed, regs_alike, theorem}
 
 -- the first index of a name

@@ -1,25 +1,17 @@
 -- A netlist agrees with itself, and agreement is symmetric.
 use Rattle.std.proofs.Common.{◌≡◌, ◌∙◌, ℕ, zero, suc, ◌<◌, true, inl, inr, List, [], ◌∷◌, length, get_or, Option, None, Some, refl, sym, subst, arith}
-use Rattle.std.specs.Prelude.{All}
 use Rattle.std.proofs.lemmas.List.Elements.{All-get_or}
+use Rattle.std.specs.Prelude.{All}
 use Rattle.kp_bits.specs.declared.operator.BinOp.{BinOp}
-use Rattle.kp_net.specs.declared.node.NodeId.{NodeId}
-use Rattle.kp_net.specs.declared.node.Kind.{Kind}
+use Rattle.kp_net.specs.declared.node.{NodeId.NodeId, Kind.Kind}
 use Rattle.kp_net.specs.declared.node.Kind.TheVariants.{Const, Ext, Sample, Reg, Word, Not, Binary, Mux, Concat, Slice}
-use Rattle.kp_net.specs.declared.node.Node.{Node}
-use Rattle.kp_net.specs.declared.netlist.NetReg.{NetReg}
-use Rattle.kp_net.specs.declared.netlist.NetFile.{NetFile}
-use Rattle.kp_net.specs.declared.netlist.WritePort.{WritePort}
-use Rattle.kp_net.specs.Names.{among}
-use Rattle.kp_net.specs.Netlist.{Net}
-use Rattle.kp_net.specs.Parts.{NetOk, RegOk, FileOk, WriteOk, no_reg, no_file}
+use Rattle.kp_net.specs.declared.{node.Node.Node, netlist.NetReg.NetReg, netlist.NetFile.NetFile, netlist.WritePort.WritePort}
+use Rattle.kp_net.specs.{Names.among, Netlist.Net, Parts.NetOk, Parts.RegOk, Parts.FileOk, Parts.WriteOk, Parts.no_reg, Parts.no_file}
 use Rattle.kp_net.specs.Widths.{KindOk, AllRight, no_node}
-use Rattle.kp_equiv_trees.specs.Alike.{Relation, AllRelated, PairRelated, KindAlike, Alike, AlikeWithin, reg_name, file_name}
-use Rattle.kp_equiv_trees.specs.Named.{reg_names}
 use Rattle.kp_equiv_trees.specs.Roots.{Root, Ports, Full, Ue, Back, roots, names_of_second, RegsAlike, WritesAlike, FilesAlike, PortsAgree, RegisterAgrees, FileAgrees, Agrees, AllAgree}
-use Rattle.kp_equiv_trees.specs.Sections.{AgreeUpTo, behind_ports}
-use Rattle.kp_equiv_trees.proofs.Naming.{among_at}
-use Rattle.kp_equiv_trees.proofs.Ordered.{all_behind, regs_all, files_all, none_of_second, second_agrees}
+use Rattle.kp_equiv_trees.specs.Alike.{Relation, AllRelated, PairRelated, KindAlike, Alike, AlikeWithin, reg_name, file_name}
+use Rattle.kp_equiv_trees.specs.{Named.reg_names, Sections.AgreeUpTo, Sections.behind_ports}
+use Rattle.kp_equiv_trees.proofs.{Naming.among_at, Ordered.all_behind, Ordered.regs_all, Ordered.files_all, Ordered.none_of_second, Ordered.second_agrees}
 use Rattle.kp_equiv_trees.proofs.Places.{reg_names_are, reg_count}
 use Rattle.kp_equiv.specs.Roots.{IsComparable}
 use Rattle.kp_equiv.proofs.Running.{Agreed, agreed, regs_alike, files_alike, theorem}

@@ -1,12 +1,8 @@
 -- WHICH NETLISTS ARE COMPARED, and the meaning of a verdict on their roots.
 use Rattle.std.specs.Prelude.{ℕ, ◌<◌, ◌≡◌, List, length, get_or}
-use Rattle.kp_net.specs.declared.netlist.NetFile.{NetFile}
-use Rattle.kp_net.specs.Netlist.{Net}
-use Rattle.kp_net.specs.Parts.{no_file}
-use Rattle.kp_equiv_trees.specs.Named.{HasNames}
-use Rattle.kp_equiv_trees.specs.Roots.{AllAgree, IsFirstDifference}
-use Rattle.kp_equiv.specs.declared.verdict.Verdict.{Verdict}
-use Rattle.kp_equiv.specs.declared.verdict.Verdict.TheVariants.{Same, Differs}
+use Rattle.kp_net.specs.{declared.netlist.NetFile.NetFile, Netlist.Net, Parts.no_file}
+use Rattle.kp_equiv_trees.specs.{Named.HasNames, Roots.AllAgree, Roots.IsFirstDifference}
+use Rattle.kp_equiv.specs.declared.verdict.Verdict.{Verdict, TheVariants.Same, TheVariants.Differs}
 
 -- THE MEANING OF A VERDICT
 abbrev pub IsVerdict : Net → Net → Verdict → Type 0

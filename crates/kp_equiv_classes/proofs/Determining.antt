@@ -1,19 +1,13 @@
 -- The nodes of any two well-formed netlists have classes that determine which trees are equivalent.
 use Rattle.std.proofs.Common.{ℕ, zero, suc, ◌≤◌, ◌<◌, ◌++◌, List, [], ◌∷◌, length, get_or, refl, subst, arith}
-use Rattle.std.specs.List.{position_or_len}
 use Rattle.std.proofs.lemmas.List.{get_or_default}
+use Rattle.std.specs.List.{position_or_len}
 use Rattle.indexmap.specs.IndexSet.{insert_key}
-use Rattle.kp_net.specs.declared.node.NodeId.{NodeId}
-use Rattle.kp_net.specs.declared.node.Node.{Node}
-use Rattle.kp_net.specs.Netlist.{Net}
-use Rattle.kp_net.specs.Parts.{NetOk}
-use Rattle.kp_net.specs.Widths.{Distinct, no_node}
+use Rattle.kp_net.specs.{declared.node.NodeId.NodeId, declared.node.Node.Node, Netlist.Net, Parts.NetOk, Widths.Distinct, Widths.no_node}
 use Rattle.kp_net.proofs.Found.{is}
 use Rattle.kp_equiv_trees.specs.Classes.{class_in, Determines}
 use Rattle.kp_equiv_classes.specs.inner.Shapes.{Known, known_of, shape, Grown}
-use Rattle.kp_equiv_classes.proofs.Tables.{put, none_distinct}
-use Rattle.kp_equiv_classes.proofs.Growing.{none_grown, one_grown, classes_stay}
-use Rattle.kp_equiv_classes.proofs.Exactness.{determines}
+use Rattle.kp_equiv_classes.proofs.{Tables.put, Tables.none_distinct, Growing.none_grown, Growing.one_grown, Growing.classes_stay, Exactness.determines}
 
 -- the classes of the first nodes of a netlist, in a table that has grown by them
 record Classed (ks : Known) (net : Net) (start : List Node) (i : ℕ) : Type 0 where

@@ -1,13 +1,8 @@
 -- Two nodes have the same class exactly if they are equivalent.
 use Rattle.std.proofs.Common.{◌≡◌, ◌∙◌, ℕ, zero, suc, ◌<◌, ◌≤◌, List, length, get_or, sym, ap, arith, ⊎_elim}
 use Rattle.std.proofs.lemmas.Bool.{cases_lt, cases_eq}
-use Rattle.kp_net.specs.declared.node.NodeId.{NodeId}
-use Rattle.kp_net.specs.declared.node.Node.{Node}
-use Rattle.kp_net.specs.Netlist.{Net}
-use Rattle.kp_net.specs.Parts.{NetOk}
-use Rattle.kp_net.specs.Widths.{Distinct, no_node}
-use Rattle.kp_equiv_trees.specs.Alike.{AlikeWithin}
-use Rattle.kp_equiv_trees.specs.Classes.{class_in, Determines}
+use Rattle.kp_net.specs.{declared.node.NodeId.NodeId, declared.node.Node.Node, Netlist.Net, Parts.NetOk, Widths.Distinct, Widths.no_node}
+use Rattle.kp_equiv_trees.specs.{Alike.AlikeWithin, Classes.class_in, Classes.Determines}
 use Rattle.kp_equiv_classes.specs.inner.Shapes.{known_of, shape, AreClasses}
 use Rattle.kp_equiv_trees.proofs.Determined.{id_is}
 use Rattle.kp_equiv_classes.proofs.Operations.{kinds_from, kinds_to}

@@ -1,23 +1,12 @@
 -- Classes of nodes, node by node.
 use Rattle.std.proofs.Common.{◌≡◌, ◌∙◌, ℕ, ◌+◌, ◌<◌, ◌≤◌, ◌++◌, List, [], ◌∷◌, length, map, get_or, refl, sym, ap, subst, arith, ⊎_elim, All, length-append}
-use Rattle.std.proofs.Math.ListN.{get_or-append}
-use Rattle.std.proofs.Math.Seq.{get_or-append_seam}
-use Rattle.std.proofs.lemmas.Bool.{cases_lt}
-use Rattle.std.proofs.lemmas.List.{get_or_default}
+use Rattle.std.proofs.{Math.ListN.get_or-append, Math.Seq.get_or-append_seam, lemmas.Bool.cases_lt, lemmas.List.get_or_default}
 use Rattle.std.proofs.lemmas.List.Elements.{All-head, All-tail}
-use Rattle.kp_net.specs.declared.node.NodeId.{NodeId}
-use Rattle.kp_net.specs.declared.node.Kind.{Kind}
+use Rattle.kp_net.specs.declared.node.{NodeId.NodeId, Kind.Kind}
 use Rattle.kp_net.specs.declared.node.Kind.TheVariants.{Const, Ext, Sample, Reg, Word, Not, Binary, Mux, Concat, Slice}
-use Rattle.kp_net.specs.declared.node.Node.{Node}
-use Rattle.kp_net.specs.declared.netlist.NetFile.{NetFile}
-use Rattle.kp_net.specs.declared.netlist.NetReg.{NetReg}
-use Rattle.kp_net.specs.declared.netlist.Parts.{Parts}
-use Rattle.kp_net.specs.declared.netlist.Port.{Port}
-use Rattle.kp_net.specs.Netlist.{Net}
-use Rattle.kp_net.specs.Parts.{NetOk, CellOk, no_file}
-use Rattle.kp_net.specs.Widths.{Distinct, KindOk, NodeOk, no_node}
-use Rattle.kp_equiv_trees.specs.Alike.{commutes}
-use Rattle.kp_equiv_trees.specs.Classes.{place, no_class, class_in, Determines}
+use Rattle.kp_net.specs.declared.{node.Node.Node, netlist.NetFile.NetFile, netlist.NetReg.NetReg, netlist.Parts.Parts, netlist.Port.Port}
+use Rattle.kp_net.specs.{Netlist.Net, Parts.NetOk, Parts.CellOk, Parts.no_file, Widths.Distinct, Widths.KindOk, Widths.NodeOk, Widths.no_node}
+use Rattle.kp_equiv_trees.specs.{Alike.commutes, Classes.place, Classes.no_class, Classes.class_in, Classes.Determines}
 use Rattle.kp_equiv_classes.specs.inner.Shapes.{Known, known_of, AreFew, first_of_pair, second_of_pair, shape_kind, shape, AreClasses, Extends, Grown}
 use Rattle.kp_equiv_classes.proofs.Exactness.{determines}
 use Rattle.kp_equiv_trees.proofs.Places.{reg_count, file_count, sample_count}

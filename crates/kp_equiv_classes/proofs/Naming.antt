@@ -1,11 +1,8 @@
 -- Lists of names, and look-ups in them.
 use Rattle.std.proofs.Common.{◌≡◌, ◌∙◌, ℕ, zero, suc, ◌+◌, ◌<◌, ◌≤◌, ◌++◌, ◌||◌, Bool, true, false, cond, not, List, [], ◌∷◌, length, map, get_or, take, refl, sym, ap, subst, arith, ⊎_elim, Option, None, Some, MatchOption}
-use Rattle.std.specs.Prelude.{if◌then◌else◌, nat_eq, nat_lt}
-use Rattle.std.proofs.Math.ListN.{get_or-map}
-use Rattle.std.proofs.lemmas.Bool.{cases_lt, false≢true}
-use Rattle.std.proofs.lemmas.Bool.Decides.{Decides-ltb}
+use Rattle.std.proofs.{Math.ListN.get_or-map, lemmas.Bool.cases_lt, lemmas.Bool.false≢true, lemmas.Bool.Decides.Decides-ltb}
 use Rattle.std.proofs.lemmas.List.{take_more, take_all, length-map, get_or_default}
-use Rattle.std.specs.Cmp.Lexicographic.{pointwise, bytes_decides}
+use Rattle.std.specs.{Prelude.if◌then◌else◌, Prelude.nat_eq, Prelude.nat_lt, Cmp.Lexicographic.pointwise, Cmp.Lexicographic.bytes_decides}
 use Rattle.std.specs.List.{list_any, position, position_or_len}
 use Rattle.indexmap.specs.IndexSet.{insert_key}
 use Rattle.kp_net.specs.Names.{same, among, Differ}

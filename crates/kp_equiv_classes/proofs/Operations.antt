@@ -1,19 +1,13 @@
 -- Nodes of one shape have the same operation, and nodes with the same operation have one shape.
 use Rattle.std.proofs.Common.{◌≡◌, ◌∙◌, ◌⊎◌, ℕ, ◌<◌, min, max, Bool, true, false, List, [], ◌∷◌, map, refl, sym, ap, subst, arith, ⊎_elim, inl, inr, All}
-use Rattle.std.proofs.lemmas.Bool.{cases_eq}
-use Rattle.std.proofs.lemmas.List.Elements.{All-head, All-tail}
+use Rattle.std.proofs.lemmas.{Bool.cases_eq, List.Elements.All-head, List.Elements.All-tail}
 use Rattle.kp_bits.specs.declared.operator.BinOp.{BinOp}
-use Rattle.kp_net.specs.declared.node.NodeId.{NodeId}
-use Rattle.kp_net.specs.declared.node.Kind.{Kind}
+use Rattle.kp_net.specs.declared.node.{NodeId.NodeId, Kind.Kind}
 use Rattle.kp_net.specs.declared.node.Kind.TheVariants.{Const, Ext, Sample, Reg, Word, Not, Binary, Mux, Concat, Slice}
-use Rattle.kp_net.specs.Netlist.{Net}
-use Rattle.kp_net.specs.Parts.{CellOk}
-use Rattle.kp_net.specs.Widths.{KindOk}
-use Rattle.kp_equiv_trees.specs.Alike.{commutes, Relation, AllRelated, PairRelated, KindAlike}
-use Rattle.kp_equiv_trees.specs.Classes.{place}
+use Rattle.kp_net.specs.{Netlist.Net, Parts.CellOk, Widths.KindOk}
+use Rattle.kp_equiv_trees.specs.{Alike.commutes, Alike.Relation, Alike.AllRelated, Alike.PairRelated, Alike.KindAlike, Classes.place}
 use Rattle.kp_equiv_classes.specs.inner.Shapes.{Known, known_of, least, greatest, first_of_pair, second_of_pair, shape_kind}
-use Rattle.kp_equiv_trees.proofs.Places.{one_reg, one_file, one_sample}
-use Rattle.kp_equiv_trees.proofs.Determined.{id_is}
+use Rattle.kp_equiv_trees.proofs.{Places.one_reg, Places.one_file, Places.one_sample, Determined.id_is}
 
 -- two numbers in order are two others in order
 in_order : (x y u v : ℕ) → min x y ≡ min u v → max x y ≡ max u v → ((x ≡ u) × (y ≡ v)) ⊎ ((x ≡ v) × (y ≡ u))

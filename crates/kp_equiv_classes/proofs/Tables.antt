@@ -1,20 +1,11 @@
 -- A table of shapes after one more.
 use Rattle.std.proofs.Common.{◌≡◌, ◌∙◌, ℕ, ◌+◌, ◌<◌, ◌≤◌, ◌++◌, Bool, true, false, cond, List, [], ◌∷◌, length, get_or, refl, sym, ap, subst, arith, ⊎_elim, None, Some, length-append}
-use Rattle.std.specs.Prelude.{if◌then◌else◌, nat_lt}
-use Rattle.std.proofs.Math.ListN.{get_or-append}
-use Rattle.std.proofs.Math.Seq.{get_or-append_seam}
-use Rattle.std.proofs.lemmas.Bool.{cases_lt, false≢true}
-use Rattle.std.proofs.lemmas.Bool.Decides.{Decides-ltb}
-use Rattle.std.proofs.lemmas.List.{get_or_default}
-use Rattle.std.proofs.lemmas.List.Folds.{list_any-from_Any}
-use Rattle.std.proofs.lemmas.List.Sums.{passes_at_first}
-use Rattle.std.specs.List.{list_any, position_or_len}
+use Rattle.std.proofs.{Math.ListN.get_or-append, Math.Seq.get_or-append_seam, lemmas.Bool.cases_lt, lemmas.Bool.false≢true, lemmas.Bool.Decides.Decides-ltb}
+use Rattle.std.proofs.lemmas.List.{get_or_default, Folds.list_any-from_Any, Sums.passes_at_first}
+use Rattle.std.specs.{Prelude.if◌then◌else◌, Prelude.nat_lt, List.list_any, List.position_or_len}
 use Rattle.indexmap.specs.IndexSet.{insert_key}
-use Rattle.kp_net.specs.declared.node.Node.{Node}
-use Rattle.kp_net.specs.Widths.{Distinct, no_node}
-use Rattle.kp_net.specs.inner.Lookup.{LacksBelow}
-use Rattle.kp_net.proofs.Found.{is, placed, not_any}
-use Rattle.kp_net.proofs.Same.{node_from_eq}
+use Rattle.kp_net.specs.{declared.node.Node.Node, Widths.Distinct, Widths.no_node, inner.Lookup.LacksBelow}
+use Rattle.kp_net.proofs.{Found.is, Found.placed, Found.not_any, Same.node_from_eq}
 use Rattle.kp_equiv_classes.specs.inner.Shapes.{Extends}
 use Rattle.kp_equiv_classes.proofs.Naming.{place_within}
 

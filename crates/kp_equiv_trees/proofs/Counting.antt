@@ -1,15 +1,10 @@
 -- Roots by their numbers, and their number.
 use Rattle.std.proofs.Common.{◌≡◌, ◌∙◌, ℕ, zero, suc, ◌+◌, ◌-◌, ◌<◌, ◌≤◌, ◌++◌, Bool, true, false, cond, not, List, [], ◌∷◌, length, map, get_or, refl, sym, ap, subst, arith, ⊎_elim, Option, None, Some, length-append}
+use Rattle.std.proofs.{Math.ListN.get_or-append, Math.Seq.get_or-append_right, lemmas.Bool.cases_lt, lemmas.List.length-map, lemmas.List.get_or-map}
 use Rattle.std.specs.List.{filter}
-use Rattle.std.proofs.Math.ListN.{get_or-append}
-use Rattle.std.proofs.Math.Seq.{get_or-append_right}
-use Rattle.std.proofs.lemmas.Bool.{cases_lt}
-use Rattle.std.proofs.lemmas.List.{length-map, get_or-map}
-use Rattle.kp_net.specs.Names.{among}
-use Rattle.kp_net.specs.Netlist.{Net}
-use Rattle.kp_equiv_trees.specs.Alike.{reg_name, file_name}
-use Rattle.kp_equiv_trees.specs.Named.{reg_names, file_names}
+use Rattle.kp_net.specs.{Names.among, Netlist.Net}
 use Rattle.kp_equiv_trees.specs.Roots.{Root, Ports, Register, File, Full, Ue, Back, names_of_second, roots, root, Agrees, AllAgree, IsFirstDifference}
+use Rattle.kp_equiv_trees.specs.{Alike.reg_name, Alike.file_name, Named.reg_names, Named.file_names}
 use Rattle.kp_equiv_trees.specs.Sections.{Differing, FirstNew, IsFirstNew, behind_regs}
 use Rattle.kp_equiv_trees.proofs.Places.{reg_names_are, reg_count, file_count}
 use Rattle.kp_equiv_trees.proofs.Ordered.{reg_root, file_root, is_new, filter_some, second_never, second_differs, none_of_second}

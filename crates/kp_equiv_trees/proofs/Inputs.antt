@@ -1,14 +1,9 @@
 -- Sample ports in order.
 use Rattle.std.proofs.Common.{◌≡◌, ◌∙◌, ℕ, ◌+◌, ◌==◌, ◌<◌, ◌≤◌, Bool, true, false, List, length, get_or, refl, sym, ap, arith, below_more}
-use Rattle.std.specs.Bool.{Decides}
-use Rattle.std.specs.Cmp.Lexicographic.{bytes_decides}
-use Rattle.std.proofs.Math.Seq.{ext_get_or}
-use Rattle.std.proofs.lemmas.Bool.{false≢true}
-use Rattle.std.proofs.lemmas.Bool.Decides.{Decides-and, Decides-eqb, Decides-like}
-use Rattle.std.proofs.lemmas.List.{get_or_default}
-use Rattle.kp_net.specs.declared.netlist.Port.{Port}
-use Rattle.kp_net.specs.Names.{same}
-use Rattle.kp_net.specs.Parts.{no_port}
+use Rattle.std.proofs.{Math.Seq.ext_get_or, lemmas.Bool.false≢true}
+use Rattle.std.proofs.lemmas.{Bool.Decides.Decides-and, Bool.Decides.Decides-eqb, Bool.Decides.Decides-like, List.get_or_default}
+use Rattle.std.specs.{Bool.Decides, Cmp.Lexicographic.bytes_decides}
+use Rattle.kp_net.specs.{declared.netlist.Port.Port, Names.same, Parts.no_port}
 use Rattle.kp_equiv_trees.specs.inner.Inputs.{same_port}
 
 -- two lists of the same length have the same first n ports

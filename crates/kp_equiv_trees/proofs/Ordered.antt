@@ -1,21 +1,12 @@
 -- The first root that does not agree, section by section.
 use Rattle.std.proofs.Common.{◌≡◌, ◌∙◌, ℕ, zero, suc, ◌+◌, ◌-◌, ◌<◌, ◌≤◌, ◌++◌, ◌||◌, Bool, true, false, cond, not, List, [], ◌∷◌, length, map, get_or, refl, sym, ap, subst, arith, ⊎_elim, Option, None, Some, length-append}
-use Rattle.std.specs.Bool.{Decides}
-use Rattle.std.specs.List.{filter}
-use Rattle.std.proofs.Math.ListN.{get_or-append}
-use Rattle.std.proofs.Math.Seq.{get_or-append_right}
-use Rattle.std.proofs.lemmas.Bool.{cases_lt, false≢true}
+use Rattle.std.proofs.{Math.ListN.get_or-append, Math.Seq.get_or-append_right, lemmas.Bool.cases_lt, lemmas.Bool.false≢true}
 use Rattle.std.proofs.lemmas.List.{length-map, get_or-map}
-use Rattle.kp_net.specs.declared.netlist.NetReg.{NetReg}
-use Rattle.kp_net.specs.declared.netlist.NetFile.{NetFile}
-use Rattle.kp_net.specs.declared.netlist.Parts.{Parts}
-use Rattle.kp_net.specs.Names.{same, among, Differ}
-use Rattle.kp_net.specs.Netlist.{Net}
-use Rattle.kp_net.specs.Parts.{no_reg, no_file}
-use Rattle.kp_equiv_trees.specs.Alike.{reg_name, file_name}
-use Rattle.kp_equiv_trees.specs.Named.{reg_names, file_names, HasNames}
+use Rattle.std.specs.{Bool.Decides, List.filter}
+use Rattle.kp_net.specs.{declared.netlist.NetReg.NetReg, declared.netlist.NetFile.NetFile, declared.netlist.Parts.Parts, Names.same, Names.among, Names.Differ}
+use Rattle.kp_net.specs.{Netlist.Net, Parts.no_reg, Parts.no_file}
 use Rattle.kp_equiv_trees.specs.Roots.{Root, Ports, Register, File, Full, Ue, Back, names_of_second, roots, RegsAlike, FilesAlike, PortsAgree, RegisterAgrees, FileAgrees, Agrees, AllAgree, IsFirstDifference}
-use Rattle.kp_equiv_trees.specs.Classes.{place}
+use Rattle.kp_equiv_trees.specs.{Alike.reg_name, Alike.file_name, Named.reg_names, Named.file_names, Named.HasNames, Classes.place}
 use Rattle.kp_equiv_trees.specs.Sections.{AgreeUpTo, Differing, FirstOf, behind_ports, joined}
 use Rattle.kp_equiv_trees.proofs.Naming.{among_at, one_number}
 use Rattle.kp_equiv_trees.proofs.Places.{at_place, has_place, reg_names_are, file_names_are, reg_count, file_count}

@@ -1,15 +1,10 @@
 -- Names by their indices.
 use Rattle.std.proofs.Common.{◌≡◌, ◌∙◌, ℕ, ◌<◌, ◌≤◌, List, [], length, get_or, sym, ap, arith, ⊎_elim}
-use Rattle.std.proofs.Math.ListN.{get_or-map}
-use Rattle.std.proofs.lemmas.Bool.{cases_lt, false≢true}
-use Rattle.std.proofs.lemmas.List.{length-map}
+use Rattle.std.proofs.{Math.ListN.get_or-map, lemmas.Bool.cases_lt, lemmas.Bool.false≢true, lemmas.List.length-map}
 use Rattle.std.proofs.lemmas.List.Sums.{fails_before_first, passes_at_first}
 use Rattle.std.specs.Cmp.Lexicographic.{bytes_decides}
-use Rattle.kp_net.specs.Names.{same}
-use Rattle.kp_net.specs.Netlist.{Net}
-use Rattle.kp_equiv_trees.specs.Alike.{reg_name, file_name, sample_name}
-use Rattle.kp_equiv_trees.specs.Named.{reg_names, file_names, sample_names}
-use Rattle.kp_equiv_trees.specs.Classes.{place}
+use Rattle.kp_net.specs.{Names.same, Netlist.Net}
+use Rattle.kp_equiv_trees.specs.{Alike.reg_name, Alike.file_name, Alike.sample_name, Named.reg_names, Named.file_names, Named.sample_names, Classes.place}
 
 -- the name at the index of a name is this one
 pub at_place : (names : List (List ℕ)) (n : List ℕ) → place names n < length names → n ≡ get_or names (place names n) []

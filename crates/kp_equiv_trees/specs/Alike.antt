@@ -3,13 +3,9 @@
 -- by name. Two trees are equivalent if they are equal up to the order of the two operands of `& | ^ + * ==`, at every depth.
 use Rattle.std.specs.Prelude.{ℕ, zero, suc, ◌<◌, ◌≡◌, ◌⊎◌, Bool, true, false, List, [], ◌∷◌, length, get_or}
 use Rattle.kp_bits.specs.declared.operator.BinOp.{BinOp}
-use Rattle.kp_net.specs.declared.node.NodeId.{NodeId}
-use Rattle.kp_net.specs.declared.node.Kind.{Kind}
+use Rattle.kp_net.specs.declared.node.{NodeId.NodeId, Kind.Kind}
 use Rattle.kp_net.specs.declared.node.Kind.TheVariants.{Const, Ext, Sample, Reg, Word, Not, Binary, Mux, Concat, Slice}
-use Rattle.kp_net.specs.declared.node.Node.{Node}
-use Rattle.kp_net.specs.Netlist.{Net}
-use Rattle.kp_net.specs.Parts.{no_port, no_reg, no_file}
-use Rattle.kp_net.specs.Widths.{no_node}
+use Rattle.kp_net.specs.{declared.node.Node.Node, Netlist.Net, Parts.no_port, Parts.no_reg, Parts.no_file, Widths.no_node}
 
 -- `& | ^ + * ==`
 abbrev pub commutes : BinOp → Bool

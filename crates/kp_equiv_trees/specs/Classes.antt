@@ -1,9 +1,6 @@
 -- CLASSES of the nodes of two netlists, and names by their indices.
-use Rattle.std.specs.Prelude.{ℕ, ◌<◌, ◌≡◌, List, length, get_or}
-use Rattle.std.specs.List.{position_or_len}
-use Rattle.kp_net.specs.declared.node.NodeId.{NodeId}
-use Rattle.kp_net.specs.Names.{same}
-use Rattle.kp_net.specs.Netlist.{Net}
+use Rattle.std.specs.{Prelude.ℕ, Prelude.◌<◌, Prelude.◌≡◌, Prelude.List, Prelude.length, Prelude.get_or, List.position_or_len}
+use Rattle.kp_net.specs.{declared.node.NodeId.NodeId, Names.same, Netlist.Net}
 use Rattle.kp_equiv_trees.specs.Alike.{Alike}
 
 -- the index of a name; for all others the number of names

@@ -1,7 +1,6 @@
 -- THE NAMES of a netlist's registers, files and sample ports.
 use Rattle.std.specs.Prelude.{ℕ, List, map}
-use Rattle.kp_net.specs.Names.{Differ}
-use Rattle.kp_net.specs.Netlist.{Net}
+use Rattle.kp_net.specs.{Names.Differ, Netlist.Net}
 
 abbrev pub reg_names : Net → List (List ℕ)
 reg_names net = map (λ r. r.name) net.parts.regs

@@ -1,14 +1,9 @@
 -- THE ROOTS of a pair of netlists, and when each agrees.
 use Rattle.std.specs.Prelude.{ℕ, ◌<◌, ◌≡◌, not, List, [], ◌∷◌, ◌++◌, length, map, get_or, Option, None, Some}
 use Rattle.std.specs.List.{filter}
-use Rattle.kp_net.specs.declared.netlist.NetReg.{NetReg}
-use Rattle.kp_net.specs.declared.netlist.NetFile.{NetFile}
-use Rattle.kp_net.specs.declared.netlist.WritePort.{WritePort}
-use Rattle.kp_net.specs.Names.{among}
-use Rattle.kp_net.specs.Netlist.{Net}
+use Rattle.kp_net.specs.{declared.netlist.NetReg.NetReg, declared.netlist.NetFile.NetFile, declared.netlist.WritePort.WritePort, Names.among, Netlist.Net}
 use Rattle.kp_net.specs.Parts.{no_reg, no_file}
-use Rattle.kp_equiv_trees.specs.Alike.{Alike, reg_name, file_name}
-use Rattle.kp_equiv_trees.specs.Named.{reg_names, file_names}
+use Rattle.kp_equiv_trees.specs.{Alike.Alike, Alike.reg_name, Alike.file_name, Named.reg_names, Named.file_names}
 
 -- what is compared: the inputs, a register or a file by name, and the three outputs
 pub data Root : Type 0 where

@@ -1,9 +1,7 @@
 -- The first of a list of roots that does not agree.
 use Rattle.std.specs.Prelude.{ℕ, ◌+◌, ◌<◌, ◌≡◌, true, false, List, [], ◌∷◌, ◌++◌, length, map, get_or, Option, None, Some}
-use Rattle.kp_net.specs.Names.{among}
-use Rattle.kp_net.specs.Netlist.{Net}
-use Rattle.kp_equiv_trees.specs.Alike.{reg_name}
-use Rattle.kp_equiv_trees.specs.Named.{reg_names, file_names}
+use Rattle.kp_net.specs.{Names.among, Netlist.Net}
+use Rattle.kp_equiv_trees.specs.{Alike.reg_name, Named.reg_names, Named.file_names}
 use Rattle.kp_equiv_trees.specs.Roots.{Root, Agrees, Ports, Register, File, Full, Ue, Back, names_of_second}
 
 abbrev pub AgreeUpTo : Net → Net → List Root → ℕ → Type 0

@@ -1,15 +1,10 @@
 -- A text and the results of the calls that read it and judge its tree.
 use Rattle.std.specs.Prelude.{IfOk}
 use Rattle.std.proofs.Common.{◌≡◌, ◌≤◌, ◌<◌, ◌^◌, ℕ, List, length, Result, Ok, Err, Some, None, lit<, ap, ◌∙◌, sym, subst, arith}
-use Rattle.kp_base.specs.First.{Answers}
-use Rattle.kp_base.specs.Refusal.{e_rule}
-use Rattle.kp_base.specs.declared.place.Place.{Place}
-use Rattle.kp_base.specs.declared.refusal.Refusal.{Refusal}
-use Rattle.kp_base.specs.declared.refusal.Refused.{Refused}
+use Rattle.kp_base.specs.{First.Answers, Refusal.e_rule, declared.place.Place.Place, declared.refusal.Refusal.Refusal, declared.refusal.Refused.Refused}
 use Rattle.kp_base.specs.declared.refusal.Refused.TheVariants.{Rule, NoMemory}
 use Rattle.kp_ast.specs.declared.tree.Job.{Job}
-use Rattle.kp_lex.specs.Text.{HasOutcome, AnswersOutcome, tail_of}
-use Rattle.kp_lex.specs.declared.token.Lexed.{Lexed}
+use Rattle.kp_lex.specs.{Text.HasOutcome, Text.AnswersOutcome, Text.tail_of, declared.token.Lexed.Lexed}
 use Rattle.kp_lex.proofs.Stands.{tokens_stand}
 use Rattle.kp_parse.specs.Sentence as parsing
 use Rattle.kp_parse.specs.declared.job.Parsed.{Parsed}
@@ -18,8 +13,7 @@ use Rattle.kp_frontend.specs.Judging.{Describes, JudgesText, JudgesHeadText, bro
 use Rattle.kp_frontend.specs.Judging.JudgesText.{no_tokens, no_sentence, no_end, no_job, accepted}
 use Rattle.kp_frontend.specs.Judging.JudgesHeadText.{no_head_tokens, no_head_sentence, no_head_job, head_accepted}
 use Rattle.kp_frontend.specs.Accepting.{AnswersText, AnswersHead}
-use Rattle.kp_frontend.specs.inner.Reading.{IsCountable, IsRead, IsUnread, AnswersRead, AnswersTree}
-use Rattle.kp_frontend.specs.inner.Reading.IsUnread.{wrong_tokens, wrong_sentence}
+use Rattle.kp_frontend.specs.inner.Reading.{IsCountable, IsRead, IsUnread, AnswersRead, AnswersTree, IsUnread.wrong_tokens, IsUnread.wrong_sentence}
 use Rattle.kp_frontend.specs.declared.accepted.Accepted.{Accepted}
 
 -- a tree has no more functions and blocks than its text has bytes

@@ -1,17 +1,13 @@
 -- An input has one verdict: one job, or one first violated rule at one position.
 use Rattle.std.proofs.Common.{◌≡◌, ℕ, List, length, Result, Ok, Err, Some, None, inl, inr, ap, subst, refl, sym, ◌∙◌, arith}
-use Rattle.std.specs.declared.option.Option.{Option}
 use Rattle.std.proofs.lemmas.Bool.{cases_lt}
-use Rattle.kp_base.specs.Refusal.{e_rule}
-use Rattle.kp_base.specs.declared.place.Place.{Place}
-use Rattle.kp_base.specs.declared.refusal.Refusal.{Refusal}
+use Rattle.std.specs.declared.option.Option.{Option}
+use Rattle.kp_base.specs.{Refusal.e_rule, declared.place.Place.Place, declared.refusal.Refusal.Refusal}
 use Rattle.kp_ast.specs.declared.tree.Job.{Job}
-use Rattle.kp_lex.specs.Text.{HasOutcome, tail_of}
-use Rattle.kp_lex.specs.declared.token.Lexed.{Lexed}
+use Rattle.kp_lex.specs.{Text.HasOutcome, Text.tail_of, declared.token.Lexed.Lexed}
 use Rattle.kp_lex.proofs.Outcome.{one_outcome, some_outcome}
 use Rattle.kp_parse.specs.Sentence.{IsTree, Breaks}
-use Rattle.kp_parse.proofs.Unique.{one_tree, one_rule, no_rule}
-use Rattle.kp_parse.proofs.Verdict.{has_verdict}
+use Rattle.kp_parse.proofs.{Unique.one_tree, Unique.one_rule, Unique.no_rule, Verdict.has_verdict}
 use Rattle.kp_frontend.specs.Judging.{IsSentenceOf, Describes, JudgesText, Judges, JudgesHeadText, JudgesHead, broken_in, most_bytes}
 use Rattle.kp_frontend.specs.Judging.JudgesText.{no_tokens, no_sentence, no_end, no_job, accepted}
 use Rattle.kp_frontend.specs.Judging.Judges.{over, within}

@@ -1,10 +1,7 @@
 -- The result of a call that judges a text.
 use Rattle.std.specs.Prelude.{ℕ, List, Result, Ok, Err, ⊤}
-use Rattle.kp_base.specs.declared.refusal.Refused.{Refused}
-use Rattle.kp_base.specs.declared.refusal.Refused.TheVariants.{Rule, NoMemory}
-use Rattle.kp_frontend.specs.Judging.{JudgesText, JudgesHeadText}
-use Rattle.kp_frontend.specs.declared.accepted.Accepted.{Accepted}
-use Rattle.kp_frontend.specs.declared.accepted.Head.{Head}
+use Rattle.kp_base.specs.declared.refusal.Refused.{Refused, TheVariants.Rule, TheVariants.NoMemory}
+use Rattle.kp_frontend.specs.{Judging.JudgesText, Judging.JudgesHeadText, declared.accepted.Accepted.Accepted, declared.accepted.Head.Head}
 
 -- the accepted job, or the first rule that the text violates; unspecified if out of memory
 abbrev pub AnswersText : List ℕ → Result Accepted Refused → Type 0

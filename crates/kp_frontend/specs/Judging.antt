@@ -4,14 +4,9 @@
 -- the rules of names and widths, of stages, and of the sections. The first violated rule is reported, at the first
 -- position in the text.
 use Rattle.std.specs.Prelude.{◌≡◌, ◌<◌, ◌≤◌, ℕ, List, [], ◌∷◌, length, Some, None, Result, Ok, Err}
-use Rattle.kp_base.specs.First.{first}
-use Rattle.kp_base.specs.Check.{Answer}
-use Rattle.kp_base.specs.Refusal.{e_rule}
-use Rattle.kp_base.specs.declared.place.Place.{Place}
-use Rattle.kp_base.specs.declared.refusal.Refusal.{Refusal}
+use Rattle.kp_base.specs.{First.first, Check.Answer, Refusal.e_rule, declared.place.Place.Place, declared.refusal.Refusal.Refusal}
 use Rattle.kp_ast.specs.declared.tree.Job.{Job}
-use Rattle.kp_lex.specs.Text.{HasOutcome, tail_of}
-use Rattle.kp_lex.specs.declared.token.Lexed.{Lexed}
+use Rattle.kp_lex.specs.{Text.HasOutcome, Text.tail_of, declared.token.Lexed.Lexed}
 use Rattle.kp_parse.specs.Sentence.{IsTree, Breaks}
 use Rattle.kp_width.specs.Widths.{widths_of}
 use Rattle.kp_stage.specs.Stages.{broken_of}

@@ -1,12 +1,9 @@
 -- Rows in halves, and while the pool grows.
 use Rattle.std.proofs.Common.{◌≡◌, ◌∙◌, ℕ, Bool, true, false, cond, ◌||◌, List, [], ◌∷◌, ◌++◌, All, refl, sym, ap, arith}
 use Rattle.std.proofs.lemmas.List.Elements.{All-head, All-tail}
-use Rattle.kp_net.specs.Nodes.{Cells, at, on}
-use Rattle.kp_net.specs.Growth.{Held, Grown}
+use Rattle.kp_net.specs.{Nodes.Cells, Nodes.at, Nodes.on, Growth.Held, Growth.Grown}
 use Rattle.kp_net.proofs.Growing.{wire_grown}
-use Rattle.kp_fwd.specs.declared.rows.Candidate.{Candidate}
-use Rattle.kp_fwd.specs.Forward.{first_of, CandidateOk}
-use Rattle.kp_fwd.specs.inner.Tree.{StandsFor}
+use Rattle.kp_fwd.specs.{declared.rows.Candidate.Candidate, Forward.first_of, Forward.CandidateOk, inner.Tree.StandsFor}
 
 -- a call that adds nothing
 pub grown_nothing : (p : Held) → Grown p p 0

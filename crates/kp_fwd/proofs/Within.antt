@@ -2,9 +2,7 @@
 use Rattle.std.proofs.Common.{◌≡◌, ℕ, zero, suc, ◌-◌, ◌*◌, ◌/◌, ◌^◌, ◌≤◌, List, All, refl, arith}
 use Rattle.kp_net.specs.Growth.{Held, Grown}
 use Rattle.kp_net.proofs.Depths.{still_no_deeper, deeper_yet}
-use Rattle.kp_fwd.specs.declared.rows.Candidate.{Candidate}
-use Rattle.kp_fwd.specs.declared.rows.Picked.{Picked}
-use Rattle.kp_fwd.specs.Forward.{CandidateOk, IsWithin, IsPickedWithin}
+use Rattle.kp_fwd.specs.{declared.rows.Candidate.Candidate, declared.rows.Picked.Picked, Forward.CandidateOk, Forward.IsWithin, Forward.IsPickedWithin}
 
 pub within_grown : (p q : Held) (k w d : ℕ) (r : Candidate) → Grown p q k → CandidateOk p w r → IsWithin p d r → IsWithin q d r
 within_grown p q k w d r g o h = record {

@@ -1,11 +1,7 @@
 -- Hits, carried results and the nearest hit, in terms of the values of the given nodes.
 use Rattle.std.specs.Prelude.{ℕ, Bool, true, false, ◌==◌, if◌then◌else◌, List, [], ◌∷◌, Option, Some, None}
-use Rattle.kp_net.specs.declared.node.NodeId.{NodeId}
-use Rattle.kp_net.specs.Nodes.{Cells, at, on}
-use Rattle.kp_net.specs.Depth.{IsNoDeeper}
-use Rattle.kp_net.specs.Growth.{Held, Wire}
-use Rattle.kp_fwd.specs.declared.rows.Candidate.{Candidate}
-use Rattle.kp_fwd.specs.declared.rows.Picked.{Picked}
+use Rattle.kp_net.specs.{declared.node.NodeId.NodeId, Nodes.Cells, Nodes.at, Nodes.on, Depth.IsNoDeeper, Growth.Held, Growth.Wire}
+use Rattle.kp_fwd.specs.declared.rows.{Candidate.Candidate, Picked.Picked}
 
 -- an optional bit, 1 if omitted
 abbrev pub enable_on : Cells → Held → Option NodeId → Bool

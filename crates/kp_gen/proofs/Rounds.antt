@@ -1,13 +1,9 @@
 -- One more item that is built for a register, or for a stage.
 use Rattle.std.proofs.Common.{◌-◌, false, map, arith, cond, ◌≡◌, ◌∙◌, ℕ, ◌+◌, ◌≤◌, ◌<◌, List, [], ◌∷◌, ◌++◌, length, get_or, drop, ap, sym, refl, append_assoc}
-use Rattle.std.proofs.lemmas.List.{at_drop_more, at_drop_all, append-nil}
-use Rattle.std.specs.Prelude.{◌==◌}
-use Rattle.std.specs.List.{range_with_len}
-use Rattle.std.proofs.lemmas.List.FromFn.{map-range_with_len_more}
-use Rattle.std.proofs.lemmas.Bool.{eq-eqb}
+use Rattle.std.proofs.lemmas.{List.at_drop_more, List.at_drop_all, List.append-nil, List.FromFn.map-range_with_len_more, Bool.eq-eqb}
+use Rattle.std.specs.{Prelude.◌==◌, List.range_with_len}
 use Rattle.kp_ast.specs.declared.tree.Stmt.{Stmt}
-use Rattle.kp_gen.specs.declared.draws.Route.{Route}
-use Rattle.kp_gen.specs.Generated.{for_each, sets_from, set}
+use Rattle.kp_gen.specs.{declared.draws.Route.Route, Generated.for_each, Generated.sets_from, Generated.set}
 
 pub each_more : {X : Type 0} (make : ℕ → Route → X) (made : List X) (rs : List Route) (i : ℕ) (r : Route) → i < length rs → r ≡ get_or rs i r
     → (made ++ make i r ∷ []) ++ for_each make (i + 1) (drop (i + 1) rs) ≡ made ++ for_each make i (drop i rs)

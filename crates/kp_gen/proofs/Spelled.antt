@@ -1,16 +1,11 @@
 -- Letters with numbers are names, and determine the number.
 use Rattle.std.proofs.Common.{◌≡◌, ℕ, ◌<◌, ◌≤◌, ◌^◌, List, [], ◌∷◌, length, Bool, true, false, ◌&&◌, ◌||◌, refl, arith}
-use Rattle.std.specs.Prelude.{All, IsTrue, decimal, nat_le}
-use Rattle.std.specs.List.{list_all}
-use Rattle.std.specs.Str.Parse.{AllDigits}
-use Rattle.std.proofs.lemmas.Bool.{le-leb, leb-true}
-use Rattle.std.proofs.lemmas.List.Elements.{All-nil, All-cons}
-use Rattle.std.proofs.lemmas.Str.Parse.{tells_digits}
+use Rattle.std.proofs.lemmas.{Bool.le-leb, Bool.leb-true, List.Elements.All-nil, List.Elements.All-cons, Str.Parse.tells_digits}
 use Rattle.std.proofs.lemmas.Fmt.{decimal_is_IsNumeral, length-decimal-le}
+use Rattle.std.specs.{Prelude.All, Prelude.IsTrue, Prelude.decimal, Prelude.nat_le, List.list_all, Str.Parse.AllDigits}
 use Rattle.kp_ast.specs.Name.{IsName}
 use Rattle.kp_base.specs.Characters.{is_word, is_letter}
-use Rattle.kp_gen.specs.Generated.{numbered}
-use Rattle.kp_gen.specs.inner.Spelling.{is_spelled}
+use Rattle.kp_gen.specs.{Generated.numbered, inner.Spelling.is_spelled}
 
 second : (a x y : Bool) → x ≡ true → y ≡ true → (a || (x && y)) ≡ true
 second true x y p q = refl

@@ -1,7 +1,6 @@
 -- The steps of the loop that sums the registers.
 use Rattle.std.proofs.Common.{◌≡◌, ◌∙◌, ℕ, ◌+◌, ◌*◌, ◌/◌, ◌%◌, ◌^◌, ◌<◌, ◌≤◌, List, ◌∷◌, length, get_or, drop, ap, sym, arith}
-use Rattle.std.proofs.Math.Nat.{mod-add-div, add-mul-mod_self_left}
-use Rattle.std.proofs.lemmas.List.{drop_more, drop_all}
+use Rattle.std.proofs.{Math.Nat.mod-add-div, Math.Nat.add-mul-mod_self_left, lemmas.List.drop_more, lemmas.List.drop_all}
 use Rattle.kp_ast.specs.declared.tree.Decl.{Decl}
 use Rattle.kp_tool_report.specs.States.{State, targets_in}
 use Rattle.kp_gen_report.specs.Line.{summand, registers_sum}

@@ -1,15 +1,13 @@
 -- The line that reports the run of a generated job: the size of the machine, how many cycles it ran, how many instructions retired, how many cycles
 -- accepted none, and the sum of its registers after them.
 use Rattle.std.specs.Prelude.{ℕ, ◌+◌, ◌-◌, ◌%◌, ◌^◌, List, [], ◌∷◌, ◌++◌, length, codes, decimal}
-use Rattle.kp_ast.specs.declared.tree.Decl.{Decl}
+use Rattle.kp_ast.specs.declared.tree.{Decl.Decl, Job.Job}
 use Rattle.kp_ast.specs.declared.tree.Decl.TheVariants as decls
-use Rattle.kp_ast.specs.declared.tree.Job.{Job}
 use Rattle.kp_pipeline.specs.Rows.{Row, passed}
 use Rattle.kp_stage.specs.Counts.{summary_of}
 use Rattle.kp_machine.specs.Machine.{pipe_of, inputs_from}
 use Rattle.kp_sched.specs.Runs.{due_value}
-use Rattle.kp_tool_report.specs.Runs.{counts_behind}
-use Rattle.kp_tool_report.specs.States.{State, targets_in}
+use Rattle.kp_tool_report.specs.{Runs.counts_behind, States.State, States.targets_in}
 use Rattle.kp_gen.specs.Generated.{gen_job}
 use Rattle.kp_gen_report.specs.declared.line.Totals.{Totals}
 

@@ -1,15 +1,11 @@
 -- The statements of a generated job obey a rule of names if the names in them do.
 use Rattle.std.proofs.Common.{◌≡◌, ◌∙◌, ℕ, ◌+◌, ◌%◌, List, [], ◌∷◌, None, Some, refl}
 use Rattle.std.specs.Prelude.{codes}
-use Rattle.kp_base.specs.First.{first}
-use Rattle.kp_base.specs.Check.{Answer}
-use Rattle.kp_base.specs.declared.place.Place.{Place}
+use Rattle.kp_base.specs.{First.first, Check.Answer, declared.place.Place.Place}
 use Rattle.kp_bits.specs.declared.operator.BinOp.{BinOp}
 use Rattle.kp_ast.specs.declared.tree.Expr.{Expr}
 use Rattle.kp_ast.proofs.Levels.{fold-Lit, fold-Name, fold-Binary, fold-Slice}
-use Rattle.kp_stage.specs.declared.rules.Rule.{Rule}
-use Rattle.kp_stage.specs.Facts.{Facts}
-use Rattle.kp_stage.specs.Rules.{ask_name, ask_expr, ask_kind, ask_level, ask_values}
+use Rattle.kp_stage.specs.{declared.rules.Rule.Rule, Facts.Facts, Rules.ask_name, Rules.ask_expr, Rules.ask_kind, Rules.ask_level, Rules.ask_values}
 use Rattle.kp_gen.specs.declared.draws.Route.{Route}
 use Rattle.kp_gen.specs.Generated.{place, name, number, binary, low_byte, read_name, pipe_name, set, file_read, address_put, value_put, file_set}
 use Rattle.kp_gen_valid.proofs.Forms.{put}

@@ -1,24 +1,18 @@
 -- The declarations of a generated job violate no rule of names and widths, and declare these names.
 use Rattle.std.proofs.Common.{◌≡◌, ◌∙◌, ℕ, ◌+◌, ◌<◌, ◌≤◌, ◌^◌, List, [], ◌∷◌, ◌++◌, length, ◌-◌, Some, None, Option, Result, Ok, refl, ap, sym, subst, arith, append_assoc}
+use Rattle.std.proofs.lemmas.{Bool.lt-ltb, List.append-nil}
 use Rattle.std.specs.Prelude.{◌==◌, codes}
-use Rattle.std.proofs.lemmas.Bool.{lt-ltb}
-use Rattle.std.proofs.lemmas.List.{append-nil}
-use Rattle.kp_base.specs.Check.{Check, bind, unless}
-use Rattle.kp_base.specs.Refusal.{e_rule}
-use Rattle.kp_base.specs.declared.refusal.Refusal.{Refusal}
-use Rattle.kp_ast.specs.declared.tree.Decl.{Decl}
+use Rattle.kp_base.specs.{Check.Check, Check.bind, Check.unless, Refusal.e_rule, declared.refusal.Refusal.Refusal}
+use Rattle.kp_ast.specs.declared.{tree.Decl.Decl, widths.Entry.Entry, widths.NameKind.NameKind}
 use Rattle.kp_ast.specs.declared.tree.Decl.TheVariants as decls
-use Rattle.kp_ast.specs.declared.widths.Entry.{Entry}
 use Rattle.kp_ast.specs.declared.widths.Scope.TheVariants as scopes
-use Rattle.kp_ast.specs.declared.widths.NameKind.{NameKind}
 use Rattle.kp_ast.specs.declared.widths.NameKind.TheVariants as kinds
 use Rattle.kp_width.specs.Names.{Sense, sense, Names, Scoped, passed, nothing, look_up, used_as, is_register, is_file, is_pipe, declared_text}
 use Rattle.kp_width.specs.Declarations.{address_width, name_of, after_name, declaration_of, declarations_of, functions_in}
 use Rattle.kp_gen.specs.declared.draws.Route.{Route}
 use Rattle.kp_gen.specs.Generated.{place, named, num, numbered, register_name, result_of, target, for_each, all_decls}
-use Rattle.kp_gen_valid.proofs.Forms.{register, pipe}
 use Rattle.kp_gen_valid.proofs.Texts.{registers_at, file_at, address_at, value_at, results_at, with_registers, with_file, with_pipes, with_address, with_value, with_results, all_names, free_registers, free_file, free_pipes, free_address, free_value, register_there, file_there, address_there, file_result_free}
-use Rattle.kp_gen_valid.proofs.Steps.{then, is_fresh}
+use Rattle.kp_gen_valid.proofs.{Forms.register, Forms.pipe, Steps.then, Steps.is_fresh}
 use Rattle.kp_gen_valid.proofs.Lookups.{spread, other_number, look_first, look_second, look_past}
 
 -- between two declarations these names are in scope, and these are the entries

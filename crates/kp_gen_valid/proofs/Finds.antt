@@ -1,8 +1,7 @@
 -- The first match of a name in a list with an entry for each register.
 use Rattle.std.proofs.Common.{◌≡◌, ◌∙◌, ℕ, ◌+◌, ◌<◌, ◌≤◌, List, [], ◌∷◌, ◌++◌, length, Option, None, Some, refl, ap, arith}
 use Rattle.kp_base.specs.First.{first}
-use Rattle.kp_gen.specs.declared.draws.Route.{Route}
-use Rattle.kp_gen.specs.Generated.{for_each}
+use Rattle.kp_gen.specs.{declared.draws.Route.Route, Generated.for_each}
 use Rattle.kp_gen_valid.proofs.Walks.{AllFrom}
 
 past_none : {X : Type 0} (a : Option X) (more : List (Option X)) → a ≡ None → first (a ∷ more) ≡ first more

@@ -1,8 +1,7 @@
 -- The parts of a generated job: its items for each register, with the register's number and choices, and the declarations for the file.
 use Rattle.std.specs.Prelude.{ℕ, ◌-◌, Some, codes}
-use Rattle.kp_ast.specs.declared.tree.Decl.{Decl}
+use Rattle.kp_ast.specs.declared.tree.{Decl.Decl, Stmt.Stmt}
 use Rattle.kp_ast.specs.declared.tree.Decl.TheVariants as decls
-use Rattle.kp_ast.specs.declared.tree.Stmt.{Stmt}
 use Rattle.kp_gen.specs.declared.draws.Route.{Route}
 use Rattle.kp_gen.specs.Generated as made
 

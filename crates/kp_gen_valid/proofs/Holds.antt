@@ -1,24 +1,13 @@
 -- A generated job violates no rule of stages, and none of the sections.
 use Rattle.std.proofs.Common.{◌≡◌, ℕ, zero, suc, ◌+◌, ◌-◌, ◌<◌, ◌≤◌, ◌/◌, ◌^◌, List, [], ◌∷◌, length, None, true, refl, ap, arith}
+use Rattle.std.proofs.{Math.Nat.mod-lt, lemmas.Bool.lt-ltb}
 use Rattle.std.specs.Prelude.{nat_lt}
-use Rattle.std.proofs.Math.Nat.{mod-lt}
-use Rattle.std.proofs.lemmas.Bool.{lt-ltb}
-use Rattle.kp_base.specs.First.{first}
-use Rattle.kp_base.specs.Check.{Answer, answer}
-use Rattle.kp_base.specs.Refusal.{e_rule}
-use Rattle.kp_stage.specs.Facts.{facts_of}
-use Rattle.kp_stage.specs.Rules.{broken_by}
-use Rattle.kp_stage.specs.Sizes.{sizes_of}
-use Rattle.kp_stage.specs.Counts.{counts_of}
-use Rattle.kp_stage.specs.Stages.{broken_of}
+use Rattle.kp_base.specs.{First.first, Check.Answer, Check.answer, Refusal.e_rule}
+use Rattle.kp_stage.specs.{Facts.facts_of, Rules.broken_by, Sizes.sizes_of, Counts.counts_of, Stages.broken_of}
 use Rattle.kp_image.specs.Sections.{sections_of}
-use Rattle.kp_gen.specs.declared.draws.Route.{Route}
-use Rattle.kp_gen.specs.Draws.{next, drawn, routes_from, routes_drawn, stages_drawn, registers_drawn}
+use Rattle.kp_gen.specs.{declared.draws.Route.Route, Draws.next, Draws.drawn, Draws.routes_from, Draws.routes_drawn, Draws.stages_drawn, Draws.registers_drawn}
 use Rattle.kp_gen.specs.Generated.{place, job_of, gen_job}
-use Rattle.kp_gen_valid.proofs.NamesHold.{few_registers}
-use Rattle.kp_gen_valid.proofs.Walks.{AllFrom}
-use Rattle.kp_gen_valid.proofs.Kept.{IsFine, rules_kept}
-use Rattle.kp_gen_valid.proofs.Totals.{sizes_kept, counts_kept}
+use Rattle.kp_gen_valid.proofs.{NamesHold.few_registers, Walks.AllFrom, Kept.IsFine, Kept.rules_kept, Totals.sizes_kept, Totals.counts_kept}
 
 three : (a b c : Answer) → a ≡ None → b ≡ None → c ≡ None → first (a ∷ b ∷ c ∷ []) ≡ None
 three a b c e f g = rw (e, f, g) refl

@@ -1,24 +1,17 @@
 -- A generated job obeys the rules E15 to E25, E34 and E35 of stages.
 use Rattle.std.proofs.Common.{◌≡◌, ◌∙◌, ℕ, ◌+◌, ◌-◌, ◌<◌, ◌≤◌, ◌%◌, List, [], ◌∷◌, length, map, Option, None, Some, Bool, true, false, refl, ap, arith}
+use Rattle.std.proofs.lemmas.{Bool.eq-eqb, Bool.lt-ltb, Bool.le-leb, Bool.ltb-true, List.FromFn.length-map-range_with_len}
 use Rattle.std.specs.Prelude.{◌&&◌, ◌==◌, not, nat_lt, nat_le, codes, is_some}
-use Rattle.std.proofs.lemmas.Bool.{eq-eqb, lt-ltb, le-leb, ltb-true}
-use Rattle.std.proofs.lemmas.List.FromFn.{length-map-range_with_len}
-use Rattle.kp_base.specs.First.{first}
-use Rattle.kp_base.specs.Check.{answer}
-use Rattle.kp_base.specs.Refusal.{e_rule}
-use Rattle.kp_base.specs.declared.refusal.Refusal.{Refusal}
+use Rattle.kp_base.specs.{First.first, Check.answer, Refusal.e_rule, declared.refusal.Refusal.Refusal}
 use Rattle.kp_ast.specs.declared.tree.Job.{Job}
-use Rattle.kp_stage.specs.declared.rules.Rule.{Rule}
-use Rattle.kp_stage.specs.Facts.{At, Facts, facts_of}
+use Rattle.kp_stage.specs.{declared.rules.Rule.Rule, Facts.At, Facts.Facts, Facts.facts_of}
 use Rattle.kp_stage.specs.Rules.{ask_head, ask_name, is_at, holds_of, put_before, broken_at, broken_by, all_rules}
 use Rattle.kp_gen.specs.declared.draws.Route.{Route}
 use Rattle.kp_gen.specs.Generated.{place, register_name, pipe_name, result_name, read_name, set, later_block, all_blocks, job_of}
-use Rattle.kp_gen_valid.proofs.Forms.{put}
-use Rattle.kp_gen_valid.proofs.Lookups.{false_from}
+use Rattle.kp_gen_valid.proofs.{Forms.put, Lookups.false_from}
 use Rattle.kp_gen_valid.proofs.Walks.{AllFrom, all_both, Any, all_any, past, decls_unasked, stmts_unasked, by_sets, rule_kept}
 use Rattle.kp_gen_valid.proofs.Declared.{no_hint, no_sample, results_found, file_result_found, stages_found, file_stage_found}
-use Rattle.kp_gen_valid.proofs.Puts.{puts_found, address_found, value_found, no_pipe, used_later, no_window}
-use Rattle.kp_gen_valid.proofs.Sets.{first_sets}
+use Rattle.kp_gen_valid.proofs.{Puts.puts_found, Puts.address_found, Puts.value_found, Puts.no_pipe, Puts.used_later, Puts.no_window, Sets.first_sets}
 use Rattle.kp_gen_valid.proofs.Asked.{no_pair, in_file_read, in_put, in_address_put, in_value_put, in_set, in_file_set}
 
 holding : (b : Bool) (r : Refusal) → b ≡ true → answer b r ≡ None

@@ -1,10 +1,7 @@
 -- Look-ups among numbered names.
 use Rattle.std.proofs.Common.{◌≡◌, ◌∙◌, ℕ, zero, suc, ◌<◌, ◌≤◌, ◌^◌, ◌+◌, List, [], ◌∷◌, ◌++◌, Option, Some, None, Bool, true, false, cond, refl, ap, sym, arith}
-use Rattle.std.specs.Prelude.{decimal, ◌==◌}
-use Rattle.std.specs.Cmp.Lexicographic.{bytes_decides}
-use Rattle.std.proofs.lemmas.Bool.{eqb-true, eqb-false}
-use Rattle.std.specs.Str.Parse.{digits_value}
-use Rattle.std.proofs.lemmas.Fmt.{decimal_is_IsNumeral}
+use Rattle.std.proofs.lemmas.{Bool.eqb-true, Bool.eqb-false, Fmt.decimal_is_IsNumeral}
+use Rattle.std.specs.{Prelude.decimal, Prelude.◌==◌, Cmp.Lexicographic.bytes_decides, Str.Parse.digits_value}
 use Rattle.kp_ast.specs.Expressions.{is_same_name}
 use Rattle.kp_width.specs.Names.{Sense, Names, look_up}
 use Rattle.kp_gen.specs.Generated.{numbered}

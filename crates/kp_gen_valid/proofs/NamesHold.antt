@@ -1,21 +1,13 @@
 -- A generated job violates no rule of names and widths.
 use Rattle.std.proofs.Common.{◌≡◌, ◌∙◌, ℕ, zero, suc, ◌<◌, ◌≤◌, ◌^◌, ◌/◌, List, length, None, refl, ap, sym, subst, arith}
-use Rattle.std.specs.List.{AllByRecursion}
 use Rattle.std.proofs.Math.Nat.{mod-lt}
-use Rattle.kp_base.specs.First.{first}
-use Rattle.kp_base.specs.Check.{ok, ◌>>=◌}
+use Rattle.std.specs.List.{AllByRecursion}
+use Rattle.kp_base.specs.{First.first, Check.ok, Check.◌>>=◌}
 use Rattle.kp_ast.specs.declared.tree.Decl.{Decl}
-use Rattle.kp_width.specs.Names.{Scoped, nothing}
-use Rattle.kp_width.specs.Declarations.{declarations_of}
-use Rattle.kp_width.specs.Statements.{blocks_of}
-use Rattle.kp_width.specs.Widths.{widths_of}
-use Rattle.kp_gen.specs.declared.draws.Route.{Route}
-use Rattle.kp_gen.specs.Draws.{next, drawn, routes_from, routes_drawn, stages_drawn, registers_drawn}
+use Rattle.kp_width.specs.{Names.Scoped, Names.nothing, Declarations.declarations_of, Statements.blocks_of, Widths.widths_of}
+use Rattle.kp_gen.specs.{declared.draws.Route.Route, Draws.next, Draws.drawn, Draws.routes_from, Draws.routes_drawn, Draws.stages_drawn, Draws.registers_drawn}
 use Rattle.kp_gen.specs.Generated.{all_decls, all_blocks, job_of, gen_job}
-use Rattle.kp_gen_valid.proofs.Steps.{then, unbroken}
-use Rattle.kp_gen_valid.proofs.Texts.{all_names}
-use Rattle.kp_gen_valid.proofs.Declarations.{between, all_pass}
-use Rattle.kp_gen_valid.proofs.Statements.{blocks_end}
+use Rattle.kp_gen_valid.proofs.{Steps.then, Steps.unbroken, Texts.all_names, Declarations.between, Declarations.all_pass, Statements.blocks_end}
 
 pub routes_length : (n m count x : ℕ) → length (routes_from n m count x) ≡ count
 routes_length n m zero x = refl

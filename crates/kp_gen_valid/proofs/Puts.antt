@@ -1,22 +1,15 @@
 -- The stage in which the pipes of a generated job are put: stage 0 for all.
 use Rattle.std.proofs.Common.{◌≡◌, ◌∙◌, ℕ, zero, suc, ◌+◌, ◌-◌, ◌<◌, ◌≤◌, List, [], ◌∷◌, ◌++◌, length, map, Option, None, Some, Bool, true, false, cond, refl, ap, arith, append_assoc}
-use Rattle.std.specs.Prelude.{◌==◌, codes, nat_le, max}
-use Rattle.std.specs.List.{range_with_len}
 use Rattle.std.proofs.lemmas.Bool.{leb-true}
+use Rattle.std.specs.{Prelude.◌==◌, Prelude.codes, Prelude.nat_le, Prelude.max, List.range_with_len}
 use Rattle.kp_base.specs.First.{first}
-use Rattle.kp_ast.specs.Expressions.{is_same_name}
-use Rattle.kp_ast.specs.declared.tree.Stmt.{Stmt}
-use Rattle.kp_ast.specs.declared.tree.StmtKind.{StmtKind}
+use Rattle.kp_ast.specs.{Expressions.is_same_name, declared.tree.Stmt.Stmt, declared.tree.StmtKind.StmtKind}
 use Rattle.kp_ast.specs.declared.tree.StmtKind.TheVariants as stmts
-use Rattle.kp_stage.specs.Facts.{At, put_at, puts_in, puts_of, guessed, largest_in, largest}
-use Rattle.kp_stage.specs.Rules.{holds_of}
+use Rattle.kp_stage.specs.{Facts.At, Facts.put_at, Facts.puts_in, Facts.puts_of, Facts.guessed, Facts.largest_in, Facts.largest, Rules.holds_of}
 use Rattle.kp_gen.specs.declared.draws.Route.{Route}
 use Rattle.kp_gen.specs.Generated.{pipe_name, set, file_read, address_put, value_put, file_sets, for_each, sets_from, first_stmts, later_stmts, later_block, all_blocks}
-use Rattle.kp_gen_valid.proofs.Forms.{read, put}
-use Rattle.kp_gen_valid.proofs.Lookups.{either, false_from, other_number, same_true}
-use Rattle.kp_gen_valid.proofs.Walks.{AllFrom}
-use Rattle.kp_gen_valid.proofs.Finds.{past_one, past_each, each_found, no_more}
-use Rattle.kp_gen_valid.proofs.Declared.{is_where, is_nowhere}
+use Rattle.kp_gen_valid.proofs.{Forms.read, Forms.put, Lookups.either, Lookups.false_from, Lookups.other_number, Lookups.same_true, Walks.AllFrom}
+use Rattle.kp_gen_valid.proofs.{Finds.past_one, Finds.past_each, Finds.each_found, Finds.no_more, Declared.is_where, Declared.is_nowhere}
 
 -- later stages put nothing
 module _ (q : List ℕ) (k : ℕ) where

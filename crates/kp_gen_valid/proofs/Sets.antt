@@ -1,22 +1,14 @@
 -- E21 in a generated job: each set is the first of its result in its stage.
 use Rattle.std.proofs.Common.{◌≡◌, ◌∙◌, ℕ, zero, suc, ◌+◌, ◌-◌, ◌<◌, ◌≤◌, List, [], ◌∷◌, ◌++◌, length, map, Option, None, Some, Bool, true, false, cond, refl, ap, arith}
-use Rattle.std.specs.Prelude.{◌==◌, codes, slice_get}
-use Rattle.std.specs.List.{range_with_len}
 use Rattle.std.proofs.lemmas.Bool.{eq-eqb}
-use Rattle.kp_base.specs.First.{first}
-use Rattle.kp_base.specs.Check.{answer}
-use Rattle.kp_base.specs.Refusal.{e_rule}
-use Rattle.kp_ast.specs.Expressions.{is_same_name}
-use Rattle.kp_ast.specs.declared.tree.Stmt.{Stmt}
-use Rattle.kp_ast.specs.declared.tree.Block.{Block}
-use Rattle.kp_stage.specs.declared.rules.Rule.{Rule}
-use Rattle.kp_stage.specs.Facts.{Facts, sets_in, stmts_in, first_set}
+use Rattle.std.specs.{Prelude.◌==◌, Prelude.codes, Prelude.slice_get, List.range_with_len}
+use Rattle.kp_base.specs.{First.first, Check.answer, Refusal.e_rule}
+use Rattle.kp_ast.specs.{Expressions.is_same_name, declared.tree.Stmt.Stmt, declared.tree.Block.Block}
+use Rattle.kp_stage.specs.{declared.rules.Rule.Rule, Facts.Facts, Facts.sets_in, Facts.stmts_in, Facts.first_set}
 use Rattle.kp_stage.specs.Rules.{ask_stmt, ask_stmts, holds_of}
 use Rattle.kp_gen.specs.declared.draws.Route.{Route}
 use Rattle.kp_gen.specs.Generated.{place, result_name, set, file_set, file_sets, sets_from, later_stmts, later_block, all_blocks}
-use Rattle.kp_gen_valid.proofs.Lookups.{either, other_number, same_true}
-use Rattle.kp_gen_valid.proofs.Texts.{no_number}
-use Rattle.kp_gen_valid.proofs.Walks.{past}
+use Rattle.kp_gen_valid.proofs.{Lookups.either, Lookups.other_number, Lookups.same_true, Texts.no_number, Walks.past}
 
 -- the statement at this number is the first
 is_first : (o : Option ℕ) (i : ℕ) → o ≡ Some i → answer (holds_of (λ (j : ℕ). j == i) o) (e_rule 21 place) ≡ None

@@ -1,14 +1,11 @@
 -- A generated job has no function and few stages.
 use Rattle.std.proofs.Common.{◌≡◌, ℕ, suc, ◌+◌, ◌-◌, ◌*◌, ◌<◌, ◌≤◌, ◌/◌, ◌^◌, List, length, refl, ap, arith}
+use Rattle.std.proofs.{Math.Nat.mod-lt, lemmas.List.FromFn.length-map-range_with_len}
 use Rattle.std.specs.Prelude.{sum_by}
-use Rattle.std.proofs.Math.Nat.{mod-lt}
-use Rattle.std.proofs.lemmas.List.FromFn.{length-map-range_with_len}
 use Rattle.kp_width.specs.Declarations.{functions_in}
-use Rattle.kp_gen.specs.declared.draws.Route.{Route}
-use Rattle.kp_gen.specs.Draws.{drawn, next, stages_drawn, routes_drawn}
+use Rattle.kp_gen.specs.{declared.draws.Route.Route, Draws.drawn, Draws.next, Draws.stages_drawn, Draws.routes_drawn}
 use Rattle.kp_gen.specs.Generated.{all_decls, all_blocks, later_block, job_of, gen_job}
-use Rattle.kp_gen_valid.proofs.NamesHold.{few_registers}
-use Rattle.kp_gen_valid.proofs.Totals.{sum_decls, length_decls}
+use Rattle.kp_gen_valid.proofs.{NamesHold.few_registers, Totals.sum_decls, Totals.length_decls}
 
 no_functions : (n : ℕ) (rs : List Route) → sum_by functions_in (all_decls n rs) ≡ 0
 no_functions n rs =

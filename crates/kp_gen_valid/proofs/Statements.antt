@@ -1,35 +1,23 @@
 -- The statements of a generated job violate no rule of names and widths.
 use Rattle.std.proofs.Common.{◌≡◌, ◌∙◌, ℕ, zero, suc, ◌+◌, ◌-◌, ◌<◌, ◌≤◌, ◌%◌, List, [], ◌∷◌, ◌++◌, length, map, Some, None, Bool, true, false, Ok, refl, ap, sym, subst, arith, append_assoc}
-use Rattle.std.specs.Prelude.{◌==◌, codes}
-use Rattle.std.specs.List.{range_with_len, AllByRecursion}
-use Rattle.std.proofs.Math.Nat.{mod-lt}
-use Rattle.std.proofs.lemmas.Bool.{eq-eqb}
-use Rattle.std.proofs.lemmas.List.{append-nil}
-use Rattle.kp_base.specs.Check.{Check, ok, wants, ◌>>=◌}
-use Rattle.kp_base.specs.Refusal.{e_rule}
-use Rattle.kp_base.specs.declared.place.Place.{Place}
-use Rattle.kp_ast.specs.Expressions.{is_same_name}
+use Rattle.std.proofs.{Math.Nat.mod-lt, lemmas.Bool.eq-eqb, lemmas.List.append-nil}
+use Rattle.std.specs.{Prelude.◌==◌, Prelude.codes, List.range_with_len, List.AllByRecursion}
+use Rattle.kp_base.specs.{Check.Check, Check.ok, Check.wants, Check.◌>>=◌, Refusal.e_rule, declared.place.Place.Place}
+use Rattle.kp_ast.specs.{Expressions.is_same_name, declared.tree.Named.Named, declared.tree.Expr.Expr, declared.tree.ReadStmt.ReadStmt, declared.tree.Decl.Decl}
+use Rattle.kp_ast.specs.declared.{tree.Stmt.Stmt, widths.Entry.Entry, widths.NameKind.NameKind}
 use Rattle.kp_bits.specs.declared.operator.BinOp.{BinOp}
-use Rattle.kp_ast.specs.declared.tree.Named.{Named}
-use Rattle.kp_ast.specs.declared.tree.Expr.{Expr}
-use Rattle.kp_ast.specs.declared.tree.ReadStmt.{ReadStmt}
-use Rattle.kp_ast.specs.declared.tree.Decl.{Decl}
-use Rattle.kp_ast.specs.declared.tree.Stmt.{Stmt}
 use Rattle.kp_ast.specs.declared.tree.StmtKind.TheVariants as stmts
-use Rattle.kp_ast.specs.declared.widths.Entry.{Entry}
 use Rattle.kp_ast.specs.declared.widths.Scope.TheVariants as scopes
-use Rattle.kp_ast.specs.declared.widths.NameKind.{NameKind}
 use Rattle.kp_ast.specs.declared.widths.NameKind.TheVariants as kinds
 use Rattle.kp_width.specs.Names.{Sense, sense, Names, Scoped, look_up, or_else, find, used, used_as, is_value_in, is_register, is_file, is_pipe, is_result, passed, declared_local}
 use Rattle.kp_width.specs.Expressions.{part_of, width_of, value_of, literal_of, binary_of, slice_of}
 use Rattle.kp_width.specs.Declarations.{kept, address_width}
 use Rattle.kp_width.specs.Statements.{when_of, address_of, read_of, given, statement_of, statements_of, blocks_of}
 use Rattle.kp_width.proofs.Unbroken.{width-Lit, width-Name, width-Binary, width-Slice}
-use Rattle.kp_gen.specs.declared.draws.Route.{Route}
 use Rattle.kp_gen.specs.Generated.{place, named, numbered, name, number, binary, low_byte, set, file_read, address_put, value_put, file_set, file_sets, for_each, sets_from, first_stmts, later_stmts, later_block, all_blocks}
-use Rattle.kp_gen_valid.proofs.Forms.{read, put}
-use Rattle.kp_gen_valid.proofs.Steps.{then, holds, is_fresh}
+use Rattle.kp_gen.specs.declared.draws.Route.{Route}
 use Rattle.kp_gen_valid.proofs.Texts.{registers_at, file_at, pipes_at, address_at, value_at, results_at, file_result_at, all_names, free_all, from_value, register_there, file_there, pipe_there, address_there, value_there, result_there, file_result_there}
+use Rattle.kp_gen_valid.proofs.{Forms.read, Forms.put, Steps.then, Steps.holds, Steps.is_fresh}
 use Rattle.kp_gen_valid.proofs.Lookups.{either, spread, spread_there, spread_none, other_number, look_first, look_second, look_past}
 
 -- in stage k these names are in scope

@@ -1,10 +1,7 @@
 -- Checks that pass, step by step.
 use Rattle.std.proofs.Common.{◌≡◌, ◌∙◌, ℕ, List, Some, None, Bool, true, false, Ok, refl, ap, sym}
 use Rattle.std.specs.Prelude.{not, is_some}
-use Rattle.kp_base.specs.First.{first}
-use Rattle.kp_base.specs.Check.{Check, Answer, after, bind, wants, ◌>>=◌}
-use Rattle.kp_base.specs.Refusal.{e_rule}
-use Rattle.kp_base.specs.declared.place.Place.{Place}
+use Rattle.kp_base.specs.{First.first, Check.Check, Check.Answer, Check.after, Check.bind, Check.wants, Check.◌>>=◌, Refusal.e_rule, declared.place.Place.Place}
 use Rattle.kp_base.specs.declared.refusal.Refusal.{Refusal}
 use Rattle.kp_width.specs.Names.{Scoped, find, fresh}
 

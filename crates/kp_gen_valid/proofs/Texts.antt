@@ -1,10 +1,7 @@
 -- The names that a generated job declares, and look-ups among them.
 use Rattle.std.proofs.Common.{◌≡◌, ◌∙◌, ℕ, ◌+◌, ◌<◌, ◌≤◌, ◌^◌, List, [], ◌∷◌, ◌++◌, Some, None, false, refl, ap, sym, subst, arith}
-use Rattle.std.specs.Prelude.{codes, decimal}
-use Rattle.std.specs.Cmp.Lexicographic.{bytes_decides}
-use Rattle.std.specs.Str.Parse.{AllDigits}
-use Rattle.std.proofs.lemmas.Str.Parse.{tells_digits}
-use Rattle.std.proofs.lemmas.Fmt.{decimal_is_IsNumeral}
+use Rattle.std.proofs.lemmas.{Str.Parse.tells_digits, Fmt.decimal_is_IsNumeral}
+use Rattle.std.specs.{Prelude.codes, Prelude.decimal, Cmp.Lexicographic.bytes_decides, Str.Parse.AllDigits}
 use Rattle.kp_ast.specs.Expressions.{is_same_name}
 use Rattle.kp_ast.specs.declared.widths.NameKind.TheVariants as kinds
 use Rattle.kp_width.specs.Names.{Sense, sense, Names, look_up}

@@ -1,27 +1,18 @@
 -- The numbers of a generated job are within the limits of E28 and E29.
 use Rattle.std.proofs.Common.{◌≡◌, ◌∙◌, ℕ, zero, suc, ◌+◌, ◌-◌, ◌*◌, ◌≤◌, ◌%◌, List, [], ◌∷◌, ◌++◌, length, map, None, Some, Bool, true, false, refl, ap, arith}
-use Rattle.std.specs.Prelude.{◌&&◌, ◌==◌, nat_le, codes, sum_by}
-use Rattle.std.specs.List.{range_with_len}
-use Rattle.std.proofs.lemmas.Bool.{le-leb}
-use Rattle.std.proofs.lemmas.List.{length-append}
-use Rattle.std.proofs.lemmas.List.Sums.{sum_by-cons, sum_by-append}
-use Rattle.kp_base.specs.First.{first}
-use Rattle.kp_base.specs.Check.{Check, Answer, answer}
-use Rattle.kp_base.specs.Refusal.{e_rule}
-use Rattle.kp_base.specs.declared.refusal.Refusal.{Refusal}
+use Rattle.std.proofs.lemmas.{Bool.le-leb, List.length-append, List.Sums.sum_by-cons, List.Sums.sum_by-append}
+use Rattle.std.specs.{Prelude.◌&&◌, Prelude.◌==◌, Prelude.nat_le, Prelude.codes, Prelude.sum_by, List.range_with_len}
+use Rattle.kp_base.specs.{First.first, Check.Check, Check.Answer, Check.answer, Refusal.e_rule, declared.refusal.Refusal.Refusal}
 use Rattle.kp_bits.specs.declared.operator.BinOp.{BinOp}
-use Rattle.kp_ast.specs.Size.{size, size_of_kind as size_of_form, size_of_level, bodies_of}
-use Rattle.kp_ast.specs.declared.tree.Expr.{Expr}
-use Rattle.kp_ast.specs.declared.tree.Decl.{Decl}
+use Rattle.kp_ast.specs.{Size.size, Size.size_of_kind as size_of_form, Size.size_of_level, Size.bodies_of, declared.tree.Expr.Expr, declared.tree.Decl.Decl}
 use Rattle.kp_ast.specs.declared.tree.Stmt.{Stmt}
 use Rattle.kp_ast.proofs.Levels.{fold-Lit, fold-Name, fold-Binary, fold-Slice}
 use Rattle.kp_width.specs.Declarations.{functions_in, name_of}
-use Rattle.kp_stage.specs.Sizes.{size_of_stmt, stmts_sized, blocks_sized, sizes_of}
 use Rattle.kp_stage.specs.Counts.{regs_in, files_in, pipes_in, results_in, hints_in, samples_in, reads_in, guesses_in, is_within, nothing_counted, with_decl, with_stmt, place_of_read, decls_counted, stmts_counted, blocks_counted, counts_of}
-use Rattle.kp_gen.specs.declared.draws.Route.{Route}
+use Rattle.kp_stage.specs.Sizes.{size_of_stmt, stmts_sized, blocks_sized, sizes_of}
 use Rattle.kp_gen.specs.Generated.{place, name, number, binary, low_byte, read_name, pipe_name, result_of, set, file_read, address_put, value_put, file_set, file_sets, for_each, sets_from, first_stmts, later_stmts, later_block, all_decls, all_blocks, job_of}
-use Rattle.kp_gen_valid.proofs.Forms.{register, pipe, read, put, file, pipe_AF, pipe_VF, file_result}
-use Rattle.kp_gen_valid.proofs.Lookups.{either}
+use Rattle.kp_gen.specs.declared.draws.Route.{Route}
+use Rattle.kp_gen_valid.proofs.{Forms.register, Forms.pipe, Forms.read, Forms.put, Forms.file, Forms.pipe_AF, Forms.pipe_VF, Forms.file_result, Lookups.either}
 
 -- the counts of kp_stage: their types
 abbrev TypeOf : {X : Type 0} → X → Type 0

@@ -1,14 +1,12 @@
 -- A generated job violates no rule of a job.
 use Rattle.std.proofs.Common.{◌≡◌, ◌∙◌, ℕ, [], ◌∷◌, None, ap}
-use Rattle.kp_base.specs.First.{first}
-use Rattle.kp_base.specs.Check.{Answer}
+use Rattle.kp_base.specs.{First.first, Check.Answer}
 use Rattle.kp_width.specs.Widths.{widths_of}
 use Rattle.kp_stage.specs.Stages.{broken_of}
 use Rattle.kp_image.specs.Sections.{sections_of}
 use Rattle.kp_frontend.specs.Judging.{broken_in}
 use Rattle.kp_gen.specs.Generated.{gen_job}
-use Rattle.kp_gen_valid.proofs.Holds.{generated_stages_hold, generated_sections_hold}
-use Rattle.kp_gen_valid.proofs.NamesHold.{generated_names_hold}
+use Rattle.kp_gen_valid.proofs.{Holds.generated_stages_hold, Holds.generated_sections_hold, NamesHold.generated_names_hold}
 
 no_answer : (a b c : Answer) → a ≡ None → b ≡ None → c ≡ None → first (a ∷ b ∷ c ∷ []) ≡ None
 no_answer a b c x y z =

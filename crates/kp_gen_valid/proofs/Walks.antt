@@ -1,20 +1,14 @@
 -- A generated job obeys a rule of stages if no form of declaration and of statement in it violates the rule.
 use Rattle.std.proofs.Common.{◌≡◌, ◌∙◌, ℕ, zero, suc, ◌+◌, ◌-◌, ◌<◌, ◌≤◌, List, [], ◌∷◌, ◌++◌, length, map, None, Some, refl, sym, subst, arith, append_assoc}
-use Rattle.std.specs.Prelude.{◌==◌}
-use Rattle.std.specs.List.{range_with_len}
 use Rattle.std.proofs.lemmas.Bool.{eqb-true}
-use Rattle.kp_base.specs.First.{first}
-use Rattle.kp_base.specs.Check.{Answer}
-use Rattle.kp_ast.specs.declared.tree.Decl.{Decl}
-use Rattle.kp_ast.specs.declared.tree.Stmt.{Stmt}
-use Rattle.kp_ast.specs.declared.tree.StmtKind.{StmtKind}
-use Rattle.kp_stage.specs.declared.rules.Rule.{Rule}
-use Rattle.kp_stage.specs.Facts.{Facts}
+use Rattle.std.specs.{Prelude.◌==◌, List.range_with_len}
+use Rattle.kp_base.specs.{First.first, Check.Answer}
+use Rattle.kp_ast.specs.declared.tree.{Decl.Decl, Stmt.Stmt, StmtKind.StmtKind}
+use Rattle.kp_stage.specs.{declared.rules.Rule.Rule, Facts.Facts}
 use Rattle.kp_stage.specs.Rules.{ask_head, ask_decl, ask_decls, ask_block, ask_stmt, ask_stmts, ask_in_block, ask_blocks, broken_at}
-use Rattle.kp_gen.specs.declared.draws.Route.{Route}
 use Rattle.kp_gen.specs.Generated.{result_of, set, file_read, address_put, value_put, file_set, file_sets, for_each, sets_from, first_stmts, later_stmts, later_block, block, all_decls, all_blocks, job_of}
-use Rattle.kp_gen_valid.proofs.Forms.{register, pipe, read, put, file, pipe_AF, pipe_VF, file_result}
-use Rattle.kp_gen_valid.proofs.Lookups.{either}
+use Rattle.kp_gen.specs.declared.draws.Route.{Route}
+use Rattle.kp_gen_valid.proofs.{Forms.register, Forms.pipe, Forms.read, Forms.put, Forms.file, Forms.pipe_AF, Forms.pipe_VF, Forms.file_result, Lookups.either}
 
 -- each choice, from that with the first number on
 abbrev pub AllFrom : (ℕ → Route → Type 0) → ℕ → List Route → Type 0

@@ -1,10 +1,9 @@
 -- What the test on tables finds.
 use Rattle.std.proofs.Common.{ℕ, ◌≡◌, ◌==◌, List, [], ◌∷◌, Bool, true, false, not, cond, ◌||◌, ◌&&◌, Some, refl, sym, ap, ◌∙◌, subst, inl, inr}
 use Rattle.std.proofs.lemmas.Bool.{eqb-true}
-use Rattle.kp_grammar.specs.Grammar.{Symbol, Terminal, Nonterminal, Action, Rules, alternatives, Has, here, there}
 use Rattle.kp_grammar.specs.Tables.{Tables, among, within, apart, first_of, empty_of, after_of, firsts, vanishes, choose, pick, follows_fit, body_fits, all_apart, last_vanishes, bodies_fit, rule_fits, rules_fit}
-use Rattle.kp_grammar.proofs.Conditions.{Follows, Decides}
-use Rattle.kp_grammar.proofs.Exact.{and_true, or_true}
+use Rattle.kp_grammar.specs.Grammar.{Symbol, Terminal, Nonterminal, Action, Rules, alternatives, Has, here, there}
+use Rattle.kp_grammar.proofs.{Conditions.Follows, Conditions.Decides, Exact.and_true, Exact.or_true}
 
 pub implied : (a b : Bool) → (not a || b) ≡ true → a ≡ true → b ≡ true
 implied true b h k = h

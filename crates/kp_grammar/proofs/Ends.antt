@@ -1,14 +1,12 @@
 -- The machine terminates, if no name leads back to itself before a token is read.
 use Rattle.std.proofs.Common.{ℕ, zero, suc, ◌≡◌, ◌==◌, ◌<◌, ◌≤◌, List, [], ◌∷◌, ◌++◌, length, Bool, true, false, not, cond, ◌||◌, ◌&&◌, Option, Some, None, refl, sym, subst, arith}
-use Rattle.std.specs.Prelude.{nat_lt}
 use Rattle.std.proofs.lemmas.Bool.{eqb-true, eq-eqb, ltb-true}
+use Rattle.std.specs.Prelude.{nat_lt}
+use Rattle.kp_grammar.specs.Machine.{Outcome, Accepts, Stops, Exceeds, Leads, accept, more, goes, take, make, wrong, lost, exceed, look}
 use Rattle.kp_grammar.specs.Grammar.{Symbol, Terminal, Nonterminal, Action, Rules, alternatives, Has, here, there, Grammar}
 use Rattle.kp_grammar.specs.Tables.{Tables, END_OF_TEXT, empty_of, vanishes, pick}
-use Rattle.kp_grammar.specs.Machine.{Outcome, Accepts, Stops, Exceeds, Leads, accept, more, goes, take, make, wrong, lost, exceed, look}
 use Rattle.kp_grammar.specs.Ranks.{Ranks, front_below, is_within_text, bodies_below, ranks_fit}
-use Rattle.kp_grammar.proofs.Conditions.{Decides}
-use Rattle.kp_grammar.proofs.Check.{implied, not_true, picks_rule}
-use Rattle.kp_grammar.proofs.Exact.{and_true}
+use Rattle.kp_grammar.proofs.{Conditions.Decides, Check.implied, Check.not_true, Check.picks_rule, Exact.and_true}
 
 -- what the test says of the alternatives of a name
 below_step : {W B : Type 0} → (t : Tables) (rank : Ranks) (m n : ℕ) (b rest : List (List (Symbol W B))) (a : Bool) → (m == n) ≡ a → bodies_below t rank (rank m) b ≡ true → bodies_below t rank (rank n) rest ≡ true

@@ -1,10 +1,10 @@
 -- The machine stops at exactly the first wrong token, and accepts with exactly what the sentence builds.
 use Rattle.std.proofs.Common.{ℕ, suc, ◌≡◌, ◌==◌, ◌<◌, ◌≤◌, List, [], ◌∷◌, ◌++◌, length, Bool, true, false, cond, ◌||◌, ◌&&◌, Some, refl, sym, ◌∙◌, subst, arith, ◌⊎◌, inl, inr, eq-eqb}
 use Rattle.std.proofs.Math.Nat.{eq-or-lt_of_le}
+use Rattle.kp_grammar.specs.Machine.{Outcome, Accepts, Stops, Exceeds, look, Leads, accept, more, goes, take, make, wrong, lost, exceed}
 use Rattle.kp_grammar.specs.Grammar.{Symbol, Terminal, Nonterminal, Action, alternatives, Has, Grammar, Derives, stay, expand, read, build}
 use Rattle.kp_grammar.specs.Tables.{Tables, among, first_of, empty_of, after_of, firsts, vanishes, pick}
 use Rattle.kp_grammar.proofs.Conditions.{Follows, Decides}
-use Rattle.kp_grammar.specs.Machine.{Outcome, Accepts, Stops, Exceeds, look, Leads, accept, more, goes, take, make, wrong, lost, exceed}
 
 pub or_true : (a b : Bool) → (a || b) ≡ true → (a ≡ true) ⊎ (b ≡ true)
 or_true true b h = inl refl

@@ -1,11 +1,9 @@
 -- The laws at the small grammar.
 use Rattle.std.proofs.Common.{ℕ, ◌≡◌, [], ◌∷◌, true, false, refl, arith}
 use Rattle.std.specs.Prelude.{nat_lt}
-use Rattle.kp_grammar.specs.Grammar.{stay, IsSentence, IsWrongAt, IsLimit, IsOverAt}
-use Rattle.kp_grammar.specs.Tables.{IsPredictive}
-use Rattle.kp_grammar.specs.Machine.{goes, take, wrong, exceed}
-use Rattle.kp_grammar.specs.Ranks.{Ranks, ranks_fit}
 use Rattle.kp_grammar.specs.Sample.{round, Token, number, plus, opening, closing, State, Way, plainly, as_value, as_opening, as_closing, Step, add, SUM, tables, sums, start, is_over}
+use Rattle.kp_grammar.specs.{Grammar.stay, Grammar.IsSentence, Grammar.IsWrongAt, Grammar.IsLimit, Grammar.IsOverAt, Tables.IsPredictive}
+use Rattle.kp_grammar.specs.{Machine.goes, Machine.take, Machine.wrong, Machine.exceed, Ranks.Ranks, Ranks.ranks_fit}
 use Rattle.kp_grammar.proofs.Laws.{wrong_at, over_at, computed}
 
 pub predictive : IsPredictive sums tables SUM

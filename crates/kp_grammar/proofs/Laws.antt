@@ -6,8 +6,7 @@ use Rattle.kp_grammar.specs.Tables.{Tables, among, after_of, IsPredictive}
 use Rattle.kp_grammar.specs.Machine.{Accepts, Stops, Exceeds, Leads, Config, advance}
 use Rattle.kp_grammar.proofs.Conditions.{Decides}
 use Rattle.kp_grammar.proofs.Exact.{IsGood, unique, accepted, complete, reached, reached_excess, unreached, within_before, over_all}
-use Rattle.kp_grammar.proofs.Check.{picks_rule, decides}
-use Rattle.kp_grammar.proofs.Steps.{Advanced, advanced}
+use Rattle.kp_grammar.proofs.{Check.picks_rule, Check.decides, Steps.Advanced, Steps.advanced}
 
 -- No limit is one that is never passed.
 pub no_limit : {W B X S : Type 0} (g : Grammar W B X S) → IsLimit g (λ (v : S). false)

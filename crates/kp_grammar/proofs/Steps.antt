@@ -2,8 +2,7 @@
 use Rattle.std.proofs.Common.{ℕ, zero, suc, ◌≡◌, ◌==◌, List, [], ◌∷◌, ◌++◌, Bool, true, false, cond, Option, Some, None, refl}
 use Rattle.std.proofs.lemmas.Bool.{eqb-true}
 use Rattle.kp_grammar.specs.Grammar.{Symbol, Terminal, Nonterminal, Action, Grammar, Has, alternatives, Derives, expand, read, build}
-use Rattle.kp_grammar.specs.Tables.{Tables, pick}
-use Rattle.kp_grammar.specs.Machine.{look, Config, goes_on, advance}
+use Rattle.kp_grammar.specs.{Tables.Tables, Tables.pick, Machine.look, Machine.Config, Machine.goes_on, Machine.advance}
 use Rattle.kp_grammar.proofs.Check.{picks_rule}
 
 module _ {W B X S : Type 0} (g : Grammar W B X S) (t : Tables) (s'' : List (Symbol W B)) (v'' : S) (ts'' : List X) where

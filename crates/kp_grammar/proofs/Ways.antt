@@ -1,7 +1,6 @@
 -- The machine's ways, in the form in which a reader's proof takes them.
 use Rattle.std.proofs.Common.{ℕ, ◌≡◌, List, ◌∷◌, ◌++◌, length, Bool, true, false, Some, sym, subst}
-use Rattle.kp_grammar.specs.Grammar.{Symbol, Terminal, Nonterminal, Grammar}
-use Rattle.kp_grammar.specs.Tables.{Tables, pick}
+use Rattle.kp_grammar.specs.{Grammar.Symbol, Grammar.Terminal, Grammar.Nonterminal, Grammar.Grammar, Tables.Tables, Tables.pick}
 use Rattle.kp_grammar.specs.Machine.{Outcome, Exceeds, Leads, look, goes, take, exceed}
 
 module _ {W B X S : Type 0} (g : Grammar W B X S) (over : S → Bool) (t : Tables) {s : List (Symbol W B)} {v : S} {ts : List X} where

@@ -3,9 +3,7 @@
 -- sum  = term { '+' term }
 -- term = NUMBER | '(' sum ')'
 use Rattle.std.specs.Prelude.{ℕ, ◌+◌, ◌-◌, ◌==◌, nat_lt, List, [], ◌∷◌, Bool, true, false, cond, ◌||◌}
-use Rattle.kp_grammar.specs.Grammar.{Terminal, Nonterminal, Action, Rules, Grammar}
-use Rattle.kp_grammar.specs.Tables.{Tables}
-use Rattle.kp_grammar.specs.Ranks.{Ranks}
+use Rattle.kp_grammar.specs.{Grammar.Terminal, Grammar.Nonterminal, Grammar.Action, Grammar.Rules, Grammar.Grammar, Tables.Tables, Ranks.Ranks}
 
 pub data Token : Type 0 where
   number : ℕ → Token

@@ -1,17 +1,11 @@
 -- Declarations that violate no rule: their numbers fit, and a register or file is found under its name.
 use Rattle.std.proofs.Common.{◌≡◌, ◌∙◌, ℕ, zero, suc, ◌+◌, ◌^◌, ◌<◌, ◌≤◌, List, [], ◌∷◌, ◌++◌, map, Option, Some, None, Bool, true, false, cond, refl, ap, sym, subst, arith}
-use Rattle.std.specs.Prelude.{◌&&◌, not, nat_eq, is_some}
-use Rattle.std.specs.List.{All}
-use Rattle.std.specs.Cmp.Lexicographic.{pointwise, nat_list_eq_equiv}
-use Rattle.std.proofs.lemmas.Bool.{leb-true, ltb-true, eqb-true}
-use Rattle.std.proofs.lemmas.List.{map-append, append_assoc}
-use Rattle.kp_base.specs.First.{first}
-use Rattle.kp_base.specs.Check.{ok, ◌>>=◌}
+use Rattle.std.proofs.lemmas.{Bool.leb-true, Bool.ltb-true, Bool.eqb-true, List.map-append, List.append_assoc}
+use Rattle.std.specs.{Prelude.◌&&◌, Prelude.not, Prelude.nat_eq, Prelude.is_some, List.All, Cmp.Lexicographic.pointwise, Cmp.Lexicographic.nat_list_eq_equiv}
+use Rattle.kp_base.specs.{First.first, Check.ok, Check.◌>>=◌}
 use Rattle.kp_base.proofs.First.{first_append_none}
 use Rattle.kp_bits.specs.Word.{IsWord, word}
-use Rattle.kp_ast.specs.declared.tree.Lit.{Lit}
-use Rattle.kp_ast.specs.declared.tree.Param.{Param}
-use Rattle.kp_ast.specs.declared.tree.Decl.{Decl}
+use Rattle.kp_ast.specs.declared.tree.{Lit.Lit, Param.Param, Decl.Decl}
 use Rattle.kp_ast.specs.declared.tree.Decl.TheVariants as decls
 use Rattle.kp_ast.specs.declared.widths.NameKind.TheVariants as kinds
 use Rattle.kp_width.specs.Names.{Names, Sense, sense, Scoped, look_up, or_else, declared_text, declared_local}

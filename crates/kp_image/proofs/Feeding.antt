@@ -3,15 +3,10 @@ use Rattle.std.proofs.Common.{◌≡◌, ◌∙◌, ℕ, zero, suc, List, [], �
 use Rattle.std.proofs.Math.Path.{fun_ext}
 use Rattle.std.specs.Prelude.{◌&&◌, if◌then◌else◌, slice_get}
 use Rattle.kp_bits.specs.Word.{word}
-use Rattle.kp_ast.specs.Expressions.{is_same_name}
-use Rattle.kp_ast.specs.declared.tree.Decl.{Decl}
+use Rattle.kp_ast.specs.{Expressions.is_same_name, declared.tree.Decl.Decl, declared.tree.Inputs.Inputs, declared.tree.Job.Job}
 use Rattle.kp_ast.specs.declared.tree.Decl.TheVariants as decls
-use Rattle.kp_ast.specs.declared.tree.Inputs.{Inputs}
-use Rattle.kp_ast.specs.declared.tree.Job.{Job}
 use Rattle.kp_stage.specs.Start.{gives_at, input_over, input_row, inputs_of, input}
-use Rattle.kp_image.specs.declared.inputs.Given.{Given}
-use Rattle.kp_image.specs.Cycles.{is_in}
-use Rattle.kp_image.specs.Feeds.{Fed, given_over, row_in, word_fed}
+use Rattle.kp_image.specs.{declared.inputs.Given.Given, Cycles.is_in, Feeds.Fed, Feeds.given_over, Feeds.row_in, Feeds.word_fed}
 use Rattle.kp_image.specs.inner.Kept.{kept_by, givens_of, feeds_of}
 
 by_name : (b c : Bool) (g : Given) (gs : List Given) (cycle v : ℕ) → c ≡ is_in g.cycles cycle

@@ -1,35 +1,21 @@
 -- Sections that violate no rule: each entry ends within its target's words, and each value fits its target.
 use Rattle.std.proofs.Common.{◌≡◌, ◌∙◌, ℕ, zero, suc, ◌+◌, ◌-◌, ◌^◌, ◌<◌, ◌≤◌, List, [], ◌∷◌, length, Option, Some, None, Bool, true, false, refl, ap, sym, subst, arith}
+use Rattle.std.proofs.lemmas.{Bool.ltb-true, Nat.pow_pos}
 use Rattle.std.specs.Prelude.{◌&&◌, not, ◌==◌, nat_le, unwrap_or, if◌then◌else◌, option_map, slice_get}
-use Rattle.std.specs.List.{All}
-use Rattle.std.specs.Cmp.Lexicographic.{bytes_decides}
-use Rattle.std.proofs.lemmas.Bool.{ltb-true}
-use Rattle.std.proofs.lemmas.Nat.{pow_pos}
-use Rattle.kp_base.specs.First.{first}
-use Rattle.kp_base.specs.Check.{ok, ◌>>=◌}
+use Rattle.std.specs.{List.All, Cmp.Lexicographic.bytes_decides}
+use Rattle.kp_base.specs.{First.first, Check.ok, Check.◌>>=◌}
 use Rattle.kp_bits.specs.Word.{IsWord, word}
-use Rattle.kp_ast.specs.Expressions.{is_same_name}
-use Rattle.kp_ast.specs.declared.tree.Num.{Num}
-use Rattle.kp_ast.specs.declared.tree.Lit.{Lit}
-use Rattle.kp_ast.specs.declared.tree.Decl.{Decl}
+use Rattle.kp_ast.specs.{Expressions.is_same_name, declared.tree.Num.Num, declared.tree.Lit.Lit, declared.tree.Decl.Decl, declared.tree.Image.Image}
+use Rattle.kp_ast.specs.declared.tree.{Inputs.Inputs, Job.Job}
 use Rattle.kp_ast.specs.declared.tree.Decl.TheVariants as decls
-use Rattle.kp_ast.specs.declared.tree.Image.{Image}
-use Rattle.kp_ast.specs.declared.tree.Inputs.{Inputs}
-use Rattle.kp_ast.specs.declared.tree.Job.{Job}
-use Rattle.kp_width.specs.Names.{nothing}
-use Rattle.kp_width.specs.Declarations.{start_of, declarations_of}
-use Rattle.kp_width.specs.Statements.{blocks_of}
-use Rattle.kp_width.specs.Widths.{widths_of}
+use Rattle.kp_width.specs.{Names.nothing, Declarations.start_of, Declarations.declarations_of, Statements.blocks_of, Widths.widths_of}
 use Rattle.kp_width.proofs.Unbroken.{Unbroken, bind_unbroken, answer_unbroken}
 use Rattle.kp_stage.specs.Start.{number_or, first_address, given_by, laid_over, start_regs, words_from, start_files, image_of, stalls_of, inputs_of, input, input_row, input_over, gives_at, AreRegs, AreFiles, AreSamples, IsStartOf}
+use Rattle.kp_stage.specs.{Stages.broken_of, Facts.facts_of}
 use Rattle.kp_stage.specs.Start as start
-use Rattle.kp_stage.specs.Stages.{broken_of}
-use Rattle.kp_stage.specs.Facts.{facts_of}
-use Rattle.kp_stage.proofs.Unbroken.{few_stages}
-use Rattle.kp_stage.proofs.Kept.{rules_kept}
+use Rattle.kp_stage.proofs.{Unbroken.few_stages, Kept.rules_kept}
 use Rattle.kp_image.specs.Sections.{Storage, storage_of, target_of, address_of, values_of, given_of, entry_of, entries_of, stalls_checked, sample_of, step_of, input_of, inputs_checked, sections_of}
-use Rattle.kp_image.specs.Feeds.{FitsFeed}
-use Rattle.kp_image.specs.inner.Kept.{FitsSample, InputsFit, kept_by}
+use Rattle.kp_image.specs.{Feeds.FitsFeed, inner.Kept.FitsSample, inner.Kept.InputsFit, inner.Kept.kept_by}
 use Rattle.kp_image.specs.inner.Fits.{HasFewWords, EndsWithin, StartFits}
 use Rattle.kp_image.proofs.Declared.{all_none, all_more, all_head, all_tail, fits, IsSettled, settled}
 

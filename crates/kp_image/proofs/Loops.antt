@@ -1,16 +1,12 @@
 -- The steps of the loops over words and over stages.
 use Rattle.std.proofs.Common.{◌≡◌, ◌≢◌, ◌∙◌, inl, inr, ℕ, zero, suc, ◌+◌, ◌-◌, ◌<◌, ◌≤◌, List, [], ◌∷◌, length, take, drop, get_or, set, None, Bool, true, false, refl, ap, sym, subst, arith}
-use Rattle.std.specs.Prelude.{◌&&◌, ◌||◌, ◌==◌, ◌^◌, nat_le, unwrap_or, if◌then◌else◌, option_map, slice_get}
-use Rattle.std.specs.List.{All}
 use Rattle.std.proofs.lemmas.Bool.{cases_lt, cases_eq, lt-leb, le-leb, ne_eqb}
 use Rattle.std.proofs.lemmas.List.{drop_more, nil_from_length, get_or-set_same, get_or-set_other, get_or-take, length-take-le}
-use Rattle.kp_ast.specs.declared.tree.Lit.{Lit}
-use Rattle.kp_ast.specs.declared.tree.Image.{Image}
+use Rattle.std.specs.Prelude.{◌&&◌, ◌||◌, ◌==◌, ◌^◌, nat_le, unwrap_or, if◌then◌else◌, option_map, slice_get}
+use Rattle.std.specs.List.{All}
+use Rattle.kp_ast.specs.declared.tree.{Lit.Lit, Image.Image}
 use Rattle.kp_stage.specs.Start.{laid_over, words_from, bits_below}
-use Rattle.kp_image.specs.inner.Laid.{laid_from}
-use Rattle.kp_image.specs.Cycles.{is_in}
-use Rattle.kp_image.specs.Spans.{span_stalls, some_stalls, IsSpan}
-use Rattle.kp_image.specs.declared.stalls.Span.{Span}
+use Rattle.kp_image.specs.{inner.Laid.laid_from, Cycles.is_in, Spans.span_stalls, Spans.some_stalls, Spans.IsSpan, declared.stalls.Span.Span}
 
 abbrev value : Lit → ℕ
 value l = l.literal.value

@@ -1,15 +1,11 @@
 -- What the code stores and returns is what the definitions specify.
 use Rattle.std.proofs.Common.{◌≡◌, ◌∙◌, ℕ, List, [], ◌∷◌, Bool, map, Some, None, Result, Ok, Err, MatchResult, refl, ap}
 use Rattle.std.specs.Prelude.{◌||◌}
-use Rattle.kp_base.specs.First.{first}
-use Rattle.kp_base.specs.Check.{Answer, after}
-use Rattle.kp_base.specs.declared.refusal.Refusal.{Refusal}
-use Rattle.kp_ast.specs.declared.tree.Stalls.{Stalls}
-use Rattle.kp_ast.specs.declared.tree.Job.{Job}
+use Rattle.kp_base.specs.{First.first, Check.Answer, Check.after, declared.refusal.Refusal.Refusal}
+use Rattle.kp_ast.specs.declared.tree.{Stalls.Stalls, Job.Job}
 use Rattle.kp_stage.specs.Start.{stalls_at, is_stalled, bits_below, stalls_of, stall_word}
 use Rattle.kp_width.specs.Names.{Checked}
-use Rattle.kp_image.specs.Spans.{some_stalls, word_in}
-use Rattle.kp_image.specs.inner.Kept.{span_of, pattern_of}
+use Rattle.kp_image.specs.{Spans.some_stalls, Spans.word_in, inner.Kept.span_of, inner.Kept.pattern_of}
 
 same_stalls : (es : List Stalls) (k cycle : ℕ) → some_stalls (map span_of es) k cycle ≡ is_stalled es k cycle
 same_stalls [] k cycle = refl

@@ -1,10 +1,8 @@
 -- The input pattern as it is stored: for each sample its width, and each entry of the inputs section for it as a
 -- value with its cycles.
-use Rattle.std.specs.Prelude.{ℕ, ◌^◌, ◌<◌, ◌≤◌, List, [], ◌∷◌, if◌then◌else◌, map}
-use Rattle.std.specs.List.{All}
+use Rattle.std.specs.{Prelude.ℕ, Prelude.◌^◌, Prelude.◌<◌, Prelude.◌≤◌, Prelude.List, Prelude.[], Prelude.◌∷◌, Prelude.if◌then◌else◌, Prelude.map, List.All}
 use Rattle.kp_bits.specs.Word.{Word, word}
-use Rattle.kp_image.specs.declared.inputs.Given.{Given}
-use Rattle.kp_image.specs.Cycles.{is_in}
+use Rattle.kp_image.specs.{declared.inputs.Given.Given, Cycles.is_in}
 
 -- the value after these entries, given the one before: the last entry for the cycle counts
 abbrev pub given_over : List Given → ℕ → ℕ → ℕ

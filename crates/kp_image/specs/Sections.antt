@@ -1,20 +1,11 @@
 -- The rules of the image, the stalls and the inputs section, in text order: E30 to E32, E36 and E37, and E8, E10 and
 -- E13 for the literals of image and inputs entries.
 use Rattle.std.specs.Prelude.{ℕ, ◌+◌, ◌^◌, List, [], ◌∷◌, Option, Some, None, Bool, true, false, not, ◌&&◌, if◌then◌else◌, ◌==◌, nat_lt, map}
-use Rattle.kp_base.specs.First.{first}
-use Rattle.kp_base.specs.Check.{Check, ok, ◌>>=◌, wants}
-use Rattle.kp_base.specs.Refusal.{e_rule}
-use Rattle.kp_ast.specs.Expressions.{is_same_name}
-use Rattle.kp_ast.specs.declared.tree.Num.{Num}
-use Rattle.kp_ast.specs.declared.tree.Lit.{Lit}
-use Rattle.kp_ast.specs.declared.tree.Decl.{Decl}
+use Rattle.kp_base.specs.{First.first, Check.Check, Check.ok, Check.◌>>=◌, Check.wants, Refusal.e_rule}
+use Rattle.kp_ast.specs.{Expressions.is_same_name, declared.tree.Num.Num, declared.tree.Lit.Lit, declared.tree.Decl.Decl, declared.tree.Image.Image}
+use Rattle.kp_ast.specs.declared.tree.{Stalls.Stalls, Inputs.Inputs, Job.Job}
 use Rattle.kp_ast.specs.declared.tree.Decl.TheVariants as decls
-use Rattle.kp_ast.specs.declared.tree.Image.{Image}
-use Rattle.kp_ast.specs.declared.tree.Stalls.{Stalls}
-use Rattle.kp_ast.specs.declared.tree.Inputs.{Inputs}
-use Rattle.kp_ast.specs.declared.tree.Job.{Job}
-use Rattle.kp_width.specs.Names.{Checked, passed}
-use Rattle.kp_width.specs.Declarations.{start_of}
+use Rattle.kp_width.specs.{Names.Checked, Names.passed, Declarations.start_of}
 use Rattle.kp_stage.specs.Start.{first_address, image_of, stalls_of, inputs_of}
 
 -- the destination of an entry's values: this many words of this many bits, with or without addresses, or a sample

@@ -1,9 +1,7 @@
 -- The stall pattern as it is stored: each entry of the stalls section as a stage and its cycles.
-use Rattle.std.specs.Prelude.{ℕ, ◌<◌, List, Bool, ◌&&◌, ◌==◌}
-use Rattle.std.specs.List.{list_any}
+use Rattle.std.specs.{Prelude.ℕ, Prelude.◌<◌, Prelude.List, Prelude.Bool, Prelude.◌&&◌, Prelude.◌==◌, List.list_any}
 use Rattle.kp_stage.specs.Start.{bits_below}
-use Rattle.kp_image.specs.declared.stalls.Span.{Span}
-use Rattle.kp_image.specs.Cycles.{is_in}
+use Rattle.kp_image.specs.{declared.stalls.Span.Span, Cycles.is_in}
 
 -- it stalls this stage in this cycle
 abbrev pub span_stalls : Span → ℕ → ℕ → Bool

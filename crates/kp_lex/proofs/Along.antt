@@ -1,18 +1,11 @@
 -- Going along a text.
 use Rattle.std.proofs.Common.{ℕ, suc, ◌+◌, ◌-◌, ◌^◌, ◌≤◌, ◌≡◌, ◌==◌, List, [], ◌∷◌, ◌++◌, length, take, drop, length-take-le, Bool, true, false, not, cond, Result, Ok, Err, refl, sym, ap, ◌∙◌, subst, arith}
-use Rattle.std.specs.Prelude.{reverse}
-use Rattle.std.specs.List.{take_while}
-use Rattle.std.proofs.Math.Seq.{take-add}
-use Rattle.std.proofs.lemmas.List.{drop-drop, length-reverse}
+use Rattle.std.proofs.{Math.Seq.take-add, lemmas.List.drop-drop, lemmas.List.length-reverse}
 use Rattle.std.proofs.lemmas.List.Sums.{count_by-le-length, take_while-cons}
-use Rattle.kp_base.specs.Place.{line_after, column_after, place_after}
-use Rattle.kp_base.specs.Refusal.{e_rule}
-use Rattle.kp_base.specs.declared.place.Place.{Place}
-use Rattle.kp_base.specs.declared.refusal.Refusal.{Refusal}
+use Rattle.std.specs.{Prelude.reverse, List.take_while}
+use Rattle.kp_base.specs.{Place.line_after, Place.column_after, Place.place_after, Refusal.e_rule, declared.place.Place.Place, declared.refusal.Refusal.Refusal}
 use Rattle.kp_lex.specs.declared.front.Front.TheVariants as fronts
-use Rattle.kp_lex.specs.declared.token.TokenKind.{TokenKind}
-use Rattle.kp_lex.specs.declared.token.Token.{Token}
-use Rattle.kp_lex.specs.declared.token.Lexed.{Lexed}
+use Rattle.kp_lex.specs.declared.token.{TokenKind.TokenKind, Token.Token, Lexed.Lexed}
 use Rattle.kp_lex.specs.Text.{front_of, is_end, token_at, Lexes, finish, skip, token, last, broken, HasOutcome}
 
 while_step : (b : Bool) (byte : ℕ) (xs ys : List ℕ) → length xs ≤ length ys → length (cond b (byte ∷ xs) []) ≤ suc (length ys)

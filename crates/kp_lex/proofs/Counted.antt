@@ -2,8 +2,7 @@
 use Rattle.std.proofs.Common.{ℕ, ◌+◌, ◌≤◌, ◌≡◌, List, [], ◌∷◌, ◌++◌, length, length-append, length-drop, Result, Ok, Err, arith}
 use Rattle.std.specs.Prelude.{⊤}
 use Rattle.kp_base.specs.declared.refusal.Refusal.{Refusal}
-use Rattle.kp_lex.specs.declared.token.Token.{Token}
-use Rattle.kp_lex.specs.declared.token.Lexed.{Lexed}
+use Rattle.kp_lex.specs.declared.token.{Token.Token, Lexed.Lexed}
 use Rattle.kp_lex.specs.Text.{token_at, Lexes, finish, skip, token, last, broken, HasOutcome}
 use Rattle.kp_lex.proofs.Fits.{gap_fits, token_fits}
 

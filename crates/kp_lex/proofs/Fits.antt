@@ -2,15 +2,11 @@
 use Rattle.std.proofs.Common.{ℕ, suc, ◌+◌, ◌≤◌, ◌<◌, ◌≡◌, List, [], ◌∷◌, length, length-take-le, ◌==◌, nat_lt, Bool, true, false, not, cond, ◌||◌, Option, Some, None, Result, Ok, Err, refl, subst, arith}
 use Rattle.std.proofs.lemmas.Bool.{ltb-true}
 use Rattle.kp_base.specs.Characters.{is_digit, is_letter, is_word, run_length}
-use Rattle.kp_bits.specs.Literals.{number_of, literal_of}
-use Rattle.kp_bits.specs.declared.literal.Literal.{Literal}
-use Rattle.kp_bits.specs.declared.literal.LiteralFault.{LiteralFault}
-use Rattle.kp_lex.specs.declared.front.Front.{Front}
-use Rattle.kp_lex.specs.declared.front.Front.TheVariants as fronts
-use Rattle.kp_lex.specs.declared.token.Mark.{Mark}
-use Rattle.kp_lex.specs.declared.token.TokenKind.{TokenKind}
-use Rattle.kp_lex.specs.Words.{keyword_of, single_mark, double_mark}
+use Rattle.kp_bits.specs.{Literals.number_of, Literals.literal_of, declared.literal.Literal.Literal, declared.literal.LiteralFault.LiteralFault}
 use Rattle.kp_lex.specs.Text.{is_layout, begins_comment, gap_length, is_in_run, run_of, keyword_or_name, identifier, literal_or_broken, number_or_literal, number_run, mark_or_broken, mark_or_shorter, mark, token_of, front_of}
+use Rattle.kp_lex.specs.declared.{front.Front.Front, token.Mark.Mark, token.TokenKind.TokenKind}
+use Rattle.kp_lex.specs.Words.{keyword_of, single_mark, double_mark}
+use Rattle.kp_lex.specs.declared.front.Front.TheVariants as fronts
 
 -- the length of a token or gap at the front of a text of this length; a violated rule is E1 or E2
 abbrev pub Fits : ℕ → Front → Type 0

@@ -1,11 +1,8 @@
 -- A keyword is found among those of its length.
 use Rattle.std.proofs.Common.{◌≡◌, ℕ, List, [], ◌∷◌, length, Bool, true, false, cond, Option, Some, refl, sym, ap, ◌∙◌}
-use Rattle.std.specs.Prelude.{◌==◌, find, filter}
-use Rattle.std.specs.Str.{bytes_eq}
-use Rattle.std.proofs.lemmas.Slice.Eq.{bytes_eq-Decides}
-use Rattle.std.proofs.lemmas.Bool.Decides.{Decides-eqb}
-use Rattle.kp_lex.specs.declared.token.Keyword.{Keyword}
-use Rattle.kp_lex.specs.Words.{spelling, all_keywords, keyword_of, keywords_of_length}
+use Rattle.std.proofs.lemmas.{Slice.Eq.bytes_eq-Decides, Bool.Decides.Decides-eqb}
+use Rattle.std.specs.{Prelude.◌==◌, Prelude.find, Prelude.filter, Str.bytes_eq}
+use Rattle.kp_lex.specs.{declared.token.Keyword.Keyword, Words.spelling, Words.all_keywords, Words.keyword_of, Words.keywords_of_length}
 
 -- a list with one more keyword, which is omitted only if it isn't found
 found_past : (test : Keyword → Bool) (k : Keyword) (kept : List Keyword) (rest : Option Keyword) (a b : Bool) → test k ≡ a → (a ≡ true → b ≡ true)

@@ -1,21 +1,14 @@
 -- A name is an identifier.
 use Rattle.std.proofs.Common.{ℕ, zero, suc, ◌+◌, ◌≤◌, ◌≡◌, List, [], ◌∷◌, length, drop, take, length-take-le, Bool, true, false, cond, nat_lt, Option, Some, None, Result, Ok, Err, All, IfSome, refl, sym, ap, ◌∙◌, subst, arith}
+use Rattle.std.proofs.lemmas.{Bool.ltb-false, List.Elements.All-nil, List.Elements.All-cons}
 use Rattle.std.specs.Prelude.{slice_get}
-use Rattle.std.proofs.lemmas.Bool.{ltb-false}
-use Rattle.std.proofs.lemmas.List.Elements.{All-nil, All-cons}
 use Rattle.kp_base.specs.Characters.{is_digit, is_letter, is_word, run_length}
-use Rattle.kp_bits.specs.Literals.{number_of, literal_of}
-use Rattle.kp_bits.specs.declared.literal.Literal.{Literal}
-use Rattle.kp_bits.specs.declared.literal.LiteralFault.{LiteralFault}
-use Rattle.kp_lex.specs.declared.front.Front.{Front}
-use Rattle.kp_lex.specs.declared.front.Front.TheVariants as fronts
-use Rattle.kp_lex.specs.declared.token.Keyword.{Keyword}
-use Rattle.kp_lex.specs.declared.token.Mark.{Mark}
-use Rattle.kp_lex.specs.declared.token.TokenKind.{TokenKind}
-use Rattle.kp_lex.specs.declared.token.TokenKind.TheVariants as kinds
-use Rattle.kp_lex.specs.declared.token.Token.{Token}
-use Rattle.kp_lex.specs.Words.{keyword_of, single_mark, double_mark}
+use Rattle.kp_bits.specs.{Literals.number_of, Literals.literal_of, declared.literal.Literal.Literal, declared.literal.LiteralFault.LiteralFault}
 use Rattle.kp_lex.specs.Text.{gap_length, is_in_run, run_of, keyword_or_name, identifier, literal_or_broken, number_or_literal, number_run, mark_or_broken, mark_or_shorter, mark, token_of, StandsIn, IsIdentifier}
+use Rattle.kp_lex.specs.declared.{front.Front.Front, token.Keyword.Keyword, token.Mark.Mark, token.TokenKind.TokenKind, token.Token.Token}
+use Rattle.kp_lex.specs.Words.{keyword_of, single_mark, double_mark}
+use Rattle.kp_lex.specs.declared.front.Front.TheVariants as fronts
+use Rattle.kp_lex.specs.declared.token.TokenKind.TheVariants as kinds
 use Rattle.kp_lex.proofs.Fits.{run_within, run_fits, or_left}
 
 pass_step : (test : ℕ → Bool) (byte : ℕ) (rest : List ℕ) (b : Bool) (n : ℕ) → test byte ≡ b

@@ -1,15 +1,10 @@
 -- A text has one outcome.
 use Rattle.std.proofs.Common.{ℕ, zero, suc, ◌+◌, ◌-◌, ◌≤◌, ◌<◌, ◌≡◌, List, [], ◌∷◌, ◌++◌, length, drop, take, Bool, true, false, Result, Ok, Err, refl, ap, ◌∙◌, subst, arith}
 use Rattle.std.proofs.lemmas.List.{length-drop}
-use Rattle.kp_base.specs.Refusal.{e_rule}
-use Rattle.kp_base.specs.Place.{place_after}
-use Rattle.kp_base.specs.declared.refusal.Refusal.{Refusal}
-use Rattle.kp_lex.specs.declared.front.Front.{Front}
-use Rattle.kp_lex.specs.declared.front.Front.TheVariants as fronts
-use Rattle.kp_lex.specs.declared.token.TokenKind.{TokenKind}
-use Rattle.kp_lex.specs.declared.token.Token.{Token}
-use Rattle.kp_lex.specs.declared.token.Lexed.{Lexed}
+use Rattle.kp_base.specs.{Refusal.e_rule, Place.place_after, declared.refusal.Refusal.Refusal}
+use Rattle.kp_lex.specs.declared.{front.Front.Front, token.TokenKind.TokenKind, token.Token.Token, token.Lexed.Lexed}
 use Rattle.kp_lex.specs.Text.{front_of, is_end, token_at, Lexes, finish, skip, token, last, broken, HasOutcome}
+use Rattle.kp_lex.specs.declared.front.Front.TheVariants as fronts
 use Rattle.kp_lex.proofs.Fits.{Fits, fits_front}
 
 abbrev both : List Token → List ℕ → TokenKind → ℕ → Result Lexed Refusal

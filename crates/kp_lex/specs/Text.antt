@@ -1,25 +1,14 @@
 -- What a text starts with, and the tokens of a text.
 use Rattle.std.specs.Prelude.{ℕ, ◌+◌, ◌≤◌, ◌≡◌, ◌==◌, nat_lt, List, [], ◌∷◌, ◌++◌, length, drop, take, Bool, true, false, not, ◌||◌, ◌&&◌, if◌then◌else◌, Option, Some, None, IfSome, Result, Ok, Err, All, slice_get, ⊤}
-use Rattle.kp_base.specs.Characters.{is_digit, is_letter, is_word, run_length}
-use Rattle.kp_base.specs.Place.{place_after}
-use Rattle.kp_base.specs.Refusal.{e_rule}
-use Rattle.kp_base.specs.declared.place.Place.{Place}
-use Rattle.kp_base.specs.declared.refusal.Refusal.{Refusal}
-use Rattle.kp_base.specs.declared.refusal.Refused.{Refused}
+use Rattle.kp_base.specs.{Characters.is_digit, Characters.is_letter, Characters.is_word, Characters.run_length, Place.place_after, Refusal.e_rule}
+use Rattle.kp_base.specs.declared.{place.Place.Place, refusal.Refusal.Refusal, refusal.Refused.Refused}
 use Rattle.kp_base.specs.declared.refusal.Refused.TheVariants as refused
-use Rattle.kp_bits.specs.Literals.{number_of, literal_of}
-use Rattle.kp_bits.specs.declared.literal.Literal.{Literal}
-use Rattle.kp_bits.specs.declared.literal.LiteralFault.{LiteralFault}
-use Rattle.kp_lex.specs.Words.{keyword_of, single_mark, double_mark}
-use Rattle.kp_lex.specs.declared.front.Front.{Front}
+use Rattle.kp_bits.specs.{Literals.number_of, Literals.literal_of, declared.literal.Literal.Literal, declared.literal.LiteralFault.LiteralFault}
+use Rattle.kp_lex.specs.{Words.keyword_of, Words.single_mark, Words.double_mark, declared.front.Front.Front, declared.token.Keyword.Keyword}
+use Rattle.kp_lex.specs.declared.token.{Mark.Mark, TokenKind.TokenKind, Token.Token, Lexed.Lexed}
 use Rattle.kp_lex.specs.declared.front.Front.TheVariants as fronts
-use Rattle.kp_lex.specs.declared.token.Keyword.{Keyword}
 use Rattle.kp_lex.specs.declared.token.Keyword.TheVariants as keywords
-use Rattle.kp_lex.specs.declared.token.Mark.{Mark}
-use Rattle.kp_lex.specs.declared.token.TokenKind.{TokenKind}
 use Rattle.kp_lex.specs.declared.token.TokenKind.TheVariants as kinds
-use Rattle.kp_lex.specs.declared.token.Token.{Token}
-use Rattle.kp_lex.specs.declared.token.Lexed.{Lexed}
 
 -- space, tab, carriage return and line feed
 abbrev pub is_layout : ℕ → Bool

@@ -1,9 +1,8 @@
 -- The keywords and the punctuators of the language.
 use Rattle.std.specs.Prelude.{ℕ, ◌==◌, ◌&&◌, List, [], ◌∷◌, length, Option, Some, None, if◌then◌else◌, codes, find, filter}
 use Rattle.std.specs.Str.{bytes_eq}
-use Rattle.kp_lex.specs.declared.token.Keyword.{Keyword}
+use Rattle.kp_lex.specs.declared.token.{Keyword.Keyword, Mark.Mark}
 use Rattle.kp_lex.specs.declared.token.Keyword.TheVariants as keywords
-use Rattle.kp_lex.specs.declared.token.Mark.{Mark}
 use Rattle.kp_lex.specs.declared.token.Mark.TheVariants as marks
 
 -- the text of a keyword

@@ -1,11 +1,8 @@
 -- Pieces of a text are found in order.
 use Rattle.std.proofs.Common.{◌≡◌, ℕ, zero, suc, ◌+◌, ◌-◌, ◌<◌, ◌≤◌, Bool, true, false, cond, List, [], ◌∷◌, ◌++◌, length, get_or, take, drop, map, All, refl, sym, subst, ap, ◌∙◌, append_assoc, arith}
+use Rattle.std.proofs.lemmas.{List.drop_more, List.map-append, List.Edits.length-between, Bool.Decides.nat_tests}
 use Rattle.std.specs.Prelude.{slice_range, filter, nat_lt}
-use Rattle.std.proofs.lemmas.List.{drop_more, map-append}
-use Rattle.std.proofs.lemmas.List.Edits.{length-between}
-use Rattle.std.proofs.lemmas.Bool.Decides.{nat_tests}
-use Rattle.kp_lines.specs.Lines.{Piece, IsWithin, pieces, piece_of, lengthened, is_blank, is_break}
-use Rattle.kp_lines.specs.declared.run.Run.{Run}
+use Rattle.kp_lines.specs.{Lines.Piece, Lines.IsWithin, Lines.pieces, Lines.piece_of, Lines.lengthened, Lines.is_blank, Lines.is_break, declared.run.Run.Run}
 use Rattle.kp_lines.specs.inner.Words.{word_between}
 
 -- the first byte of a part of a text

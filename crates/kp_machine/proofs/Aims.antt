@@ -2,16 +2,10 @@
 use Rattle.std.proofs.Common.{◌≡◌, ◌∙◌, ℕ, ◌+◌, ◌<◌, ◌≤◌, Bool, true, false, cond, List, [], ◌∷◌, Option, Some, None, length, arith}
 use Rattle.std.specs.Prelude.{slice_get}
 use Rattle.kp_base.specs.First.{first}
-use Rattle.kp_ast.specs.Expressions.{is_same_name}
-use Rattle.kp_ast.specs.declared.tree.Block.{Block}
-use Rattle.kp_ast.specs.declared.tree.Job.{Job}
-use Rattle.kp_ast.specs.declared.tree.Stmt.{Stmt}
-use Rattle.kp_ast.specs.declared.tree.StmtKind.{StmtKind}
+use Rattle.kp_ast.specs.{Expressions.is_same_name, declared.tree.Block.Block, declared.tree.Job.Job, declared.tree.Stmt.Stmt, declared.tree.StmtKind.StmtKind}
 use Rattle.kp_ast.specs.declared.tree.StmtKind.TheVariants as stmts
-use Rattle.kp_stage.specs.Facts.{At, facts_of, aim_at, aims_in, aims_of}
-use Rattle.kp_stage.specs.Stages.{broken_of}
-use Rattle.kp_machine.specs.Slots.{Slot, hints_of}
-use Rattle.kp_machine.specs.Machine.{machine_of, stage_or_zero, aim_stage}
+use Rattle.kp_stage.specs.{Facts.At, Facts.facts_of, Facts.aim_at, Facts.aims_in, Facts.aims_of, Stages.broken_of}
+use Rattle.kp_machine.specs.{Slots.Slot, Slots.hints_of, Machine.machine_of, Machine.stage_or_zero, Machine.aim_stage}
 use Rattle.kp_machine.proofs.Stages.{stages_inside}
 
 -- AIMS are in blocks.

@@ -1,25 +1,15 @@
 -- The results of a job that violates no rule: the names of each are declared, and each is the only result of its target.
 use Rattle.std.proofs.Common.{◌≡◌, ℕ, ◌+◌, List, Option, Some, None, true, eqb, refl, subst, arith}
 use Rattle.kp_base.specs.Refusal.{e_rule}
-use Rattle.kp_ast.specs.declared.tree.Named.{Named}
-use Rattle.kp_ast.specs.declared.tree.ResultDecl.{ResultDecl}
+use Rattle.kp_ast.specs.declared.tree.{Named.Named, ResultDecl.ResultDecl, Job.Job}
 use Rattle.kp_ast.specs.declared.tree.Decl.TheVariants as decls
-use Rattle.kp_ast.specs.declared.tree.Job.{Job}
-use Rattle.kp_width.specs.Declarations.{address_width}
-use Rattle.kp_width.specs.Names.{nothing}
-use Rattle.kp_width.specs.Widths.{widths_of}
+use Rattle.kp_width.specs.{Declarations.address_width, Names.nothing, Widths.widths_of}
 use Rattle.kp_width.proofs.Unbroken.{Unbroken}
-use Rattle.kp_stage.specs.Facts.{Facts, facts_of}
-use Rattle.kp_stage.specs.Rules.{holds_of}
-use Rattle.kp_stage.specs.Stages.{broken_of}
+use Rattle.kp_stage.specs.{Facts.Facts, Facts.facts_of, Rules.holds_of, Stages.broken_of}
 use Rattle.kp_stage.proofs.Unbroken.{answer_none}
-use Rattle.kp_machine.specs.Slots.{Slot, targets_of, pipes_of, number_of}
-use Rattle.kp_machine.specs.Machine.{result_for}
-use Rattle.kp_machine.proofs.Names.{IsIn}
-use Rattle.kp_machine.proofs.Results.{Stands, to_stands, first_result}
-use Rattle.kp_machine.proofs.Rules.{rules_kept, decl_kept}
-use Rattle.kp_machine.proofs.Scopes.{PipeFits, results_fit}
-use Rattle.kp_machine.proofs.Text.{text, declared_right, placed, target_slot}
+use Rattle.kp_machine.specs.{Slots.Slot, Slots.targets_of, Slots.pipes_of, Slots.number_of, Machine.result_for}
+use Rattle.kp_machine.proofs.{Names.IsIn, Results.Stands, Results.to_stands, Results.first_result, Rules.rules_kept, Rules.decl_kept}
+use Rattle.kp_machine.proofs.{Scopes.PipeFits, Scopes.results_fit, Text.text, Text.declared_right, Text.placed, Text.target_slot}
 
 -- a pipe that is named is declared
 abbrev pub IsPipeIn : List Slot → Option Named → Type 0

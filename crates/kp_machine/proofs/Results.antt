@@ -1,17 +1,13 @@
 -- The result of a target is the one that names it: its write stage is that of the target.
 use Rattle.std.proofs.Common.{◌≡◌, ◌∙◌, ℕ, zero, suc, ◌+◌, min, List, [], ◌∷◌, map, Option, Some, None, Bool, true, false, cond, eqb, refl, ap, sym, subst, arith, ⊎_elim}
-use Rattle.std.specs.Prelude.{slice_get}
 use Rattle.std.proofs.lemmas.Bool.{eqb-true, eq-eqb, both_ways, false_from_ne_true, cond-true, cond-false, cases_lt}
+use Rattle.std.specs.Prelude.{slice_get}
 use Rattle.kp_base.specs.First.{first}
-use Rattle.kp_ast.specs.Expressions.{is_same_name}
-use Rattle.kp_ast.specs.declared.tree.ResultDecl.{ResultDecl}
-use Rattle.kp_ast.specs.declared.tree.Decl.{Decl}
+use Rattle.kp_ast.specs.{Expressions.is_same_name, declared.tree.ResultDecl.ResultDecl, declared.tree.Decl.Decl}
 use Rattle.kp_ast.specs.declared.tree.Decl.TheVariants as decls
-use Rattle.kp_stage.specs.Facts.{results_of, stage_at, write_at, less, least, written_of}
-use Rattle.kp_stage.specs.Rules.{holds_of}
+use Rattle.kp_stage.specs.{Facts.results_of, Facts.stage_at, Facts.write_at, Facts.less, Facts.least, Facts.written_of, Rules.holds_of}
 use Rattle.kp_machine.specs.Slots.{Slot, number_of, result_named, result_to}
-use Rattle.kp_machine.proofs.Cases.{by_test}
-use Rattle.kp_machine.proofs.Names.{IsIn, same_name, is_same, number_determines}
+use Rattle.kp_machine.proofs.{Cases.by_test, Names.IsIn, Names.same_name, Names.is_same, Names.number_determines}
 
 -- a result is among the declarations
 pub record Stands (ds : List Decl) (r : ResultDecl) : Type 0 where

@@ -1,11 +1,8 @@
 -- If no rule of stages is violated, each check of a declaration or a statement passes.
 use Rattle.std.proofs.Common.{◌≡◌, ℕ, zero, suc, ◌+◌, List, [], ◌∷◌, map, Some, None, refl, arith, subst}
 use Rattle.std.specs.Prelude.{slice_get}
-use Rattle.kp_base.specs.First.{first}
-use Rattle.kp_base.specs.Check.{Answer}
-use Rattle.kp_ast.specs.declared.tree.Decl.{Decl}
-use Rattle.kp_ast.specs.declared.tree.Block.{Block}
-use Rattle.kp_ast.specs.declared.tree.Job.{Job}
+use Rattle.kp_base.specs.{First.first, Check.Answer}
+use Rattle.kp_ast.specs.declared.tree.{Decl.Decl, Block.Block, Job.Job}
 use Rattle.kp_stage.specs.Facts.{Facts, facts_of, stmts_in}
 use Rattle.kp_stage.specs.Rules.{ask_head, ask_decl, ask_decls, ask_block, ask_stmts, ask_in_block, ask_blocks, broken_at, broken_by, all_rules}
 use Rattle.kp_stage.specs.Stages.{broken_of}

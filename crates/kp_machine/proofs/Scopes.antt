@@ -1,28 +1,19 @@
 -- What the names of the text of a job name: which target, pipe or result, and of which width.
 use Rattle.std.proofs.Common.{◌≡◌, ◌∙◌, ℕ, zero, suc, ◌+◌, ◌<◌, List, [], ◌∷◌, ◌++◌, Option, Some, None, Bool, true, false, cond, not, ◌||◌, nat_eq, length, refl, ap, sym, subst, arith}
-use Rattle.std.specs.Prelude.{is_some, slice_get, ◌==◌}
 use Rattle.std.proofs.lemmas.Bool.{eqb-true, or_left, or_right}
-use Rattle.kp_base.specs.declared.place.Place.{Place}
-use Rattle.std.specs.Cmp.Lexicographic.{pointwise, bytes_decides}
-use Rattle.kp_base.specs.First.{first}
-use Rattle.kp_base.specs.Refusal.{e_rule}
-use Rattle.kp_base.specs.Check.{ok, ◌>>=◌, wants}
-use Rattle.kp_ast.specs.Expressions.{is_same_name}
-use Rattle.kp_ast.specs.declared.tree.Named.{Named}
-use Rattle.kp_ast.specs.declared.tree.ResultDecl.{ResultDecl}
-use Rattle.kp_ast.specs.declared.tree.Decl.{Decl}
-use Rattle.kp_ast.specs.declared.tree.Decl.TheVariants as decls
+use Rattle.std.specs.{Prelude.is_some, Prelude.slice_get, Prelude.◌==◌, Cmp.Lexicographic.pointwise, Cmp.Lexicographic.bytes_decides}
+use Rattle.kp_base.specs.{declared.place.Place.Place, First.first, Refusal.e_rule, Check.ok, Check.◌>>=◌, Check.wants}
+use Rattle.kp_ast.specs.{Expressions.is_same_name, declared.tree.Named.Named, declared.tree.ResultDecl.ResultDecl, declared.tree.Decl.Decl}
 use Rattle.kp_ast.specs.declared.widths.NameKind.{NameKind}
+use Rattle.kp_ast.specs.declared.tree.Decl.TheVariants as decls
 use Rattle.kp_ast.specs.declared.widths.NameKind.TheVariants as kinds
 use Rattle.kp_width.specs.Names.{Sense, sense, Names, Scoped, look_up, find, used, used_as, passed, or_else, is_register, is_file, is_pipe, is_result, is_hint, declared_text}
 use Rattle.kp_width.specs.Declarations.{kept, declared, storage_of, pipe_of, target_of, result_of, address_width, name_of, after_name, declaration_of, declarations_of, functions_in}
-use Rattle.kp_width.proofs.Unbroken.{Unbroken, bind_unbroken, answer_unbroken}
-use Rattle.kp_width.proofs.Calls.{pushed, parameters_text}
+use Rattle.kp_width.proofs.{Unbroken.Unbroken, Unbroken.bind_unbroken, Unbroken.answer_unbroken, Calls.pushed, Calls.parameters_text}
 use Rattle.kp_machine.specs.Slots.{Slot, slot, targets_of, pipes_of, samples_of, number_of, width_of, result_named}
 use Rattle.kp_machine.specs.Slots as slots
 use Rattle.kp_stage.specs.Facts.{hints_of}
-use Rattle.kp_machine.proofs.Cases.{by_test, by_option}
-use Rattle.kp_machine.proofs.Names.{IsIn}
+use Rattle.kp_machine.proofs.{Cases.by_test, Cases.by_option, Names.IsIn}
 
 -- the width of the addresses of a name
 abbrev pub addresses : List Slot → List ℕ → ℕ

@@ -1,34 +1,21 @@
 -- The text of a job whose names and widths are right: what its names name. And the names that the expressions of a stage may use.
 use Rattle.std.proofs.Common.{◌≡◌, ◌∙◌, ℕ, List, Some, None, Bool, true, false, not, refl, ap, sym}
-use Rattle.std.specs.Option.{option_map}
-use Rattle.std.specs.Prelude.{is_some, slice_get, unwrap_or}
-use Rattle.kp_base.specs.Check.{Answer, ok, ◌>>=◌}
-use Rattle.kp_base.specs.Refusal.{e_rule}
-use Rattle.kp_base.specs.declared.place.Place.{Place}
-use Rattle.kp_ast.specs.Expressions.{calls_of}
-use Rattle.kp_ast.specs.Checked.{checked_calls_of}
-use Rattle.kp_ast.specs.declared.tree.Expr.{Expr}
-use Rattle.kp_ast.specs.declared.tree.ExprKind.TheOpen.{ExprKind-F, Expr-F}
-use Rattle.kp_ast.specs.declared.tree.ExprKind.TheOpen as level
-use Rattle.kp_ast.specs.declared.tree.ExprKind.TheFolds.{fold-Expr}
-use Rattle.kp_ast.specs.declared.tree.ResultDecl.{ResultDecl}
-use Rattle.kp_ast.specs.declared.tree.Job.{Job}
-use Rattle.kp_ast.specs.declared.widths.Scope.TheVariants as scopes
+use Rattle.std.specs.{Option.option_map, Prelude.is_some, Prelude.slice_get, Prelude.unwrap_or}
+use Rattle.kp_base.specs.{Check.Answer, Check.ok, Check.◌>>=◌, Refusal.e_rule, declared.place.Place.Place}
+use Rattle.kp_ast.specs.{Expressions.calls_of, Checked.checked_calls_of, declared.tree.Expr.Expr}
+use Rattle.kp_ast.specs.declared.tree.{ExprKind.TheOpen.ExprKind-F, ExprKind.TheOpen.Expr-F, ExprKind.TheFolds.fold-Expr, ResultDecl.ResultDecl, Job.Job}
 use Rattle.kp_ast.specs.declared.widths.NameKind.{NameKind}
+use Rattle.kp_ast.specs.declared.tree.ExprKind.TheOpen as level
+use Rattle.kp_ast.specs.declared.widths.Scope.TheVariants as scopes
 use Rattle.kp_ast.specs.declared.widths.NameKind.TheVariants as kinds
 use Rattle.kp_width.specs.Names.{Sense, Names, Scoped, nothing, look_up, find, or_else, is_value_in, is_hint}
-use Rattle.kp_width.specs.Declarations.{address_width, declarations_of}
-use Rattle.kp_width.specs.Statements.{blocks_of}
-use Rattle.kp_width.specs.Widths.{widths_of}
-use Rattle.kp_width.proofs.Unbroken.{Unbroken, bind_unbroken}
-use Rattle.kp_width.proofs.Found.{first_name, name_kind, name_level}
+use Rattle.kp_width.specs.{Declarations.address_width, Declarations.declarations_of, Statements.blocks_of, Widths.widths_of}
+use Rattle.kp_width.proofs.{Unbroken.Unbroken, Unbroken.bind_unbroken, Found.first_name, Found.name_kind, Found.name_level}
 use Rattle.kp_width.proofs.Calls.{Open, declared_calls_fit}
-use Rattle.kp_stage.specs.Facts.{Facts}
-use Rattle.kp_stage.specs.Rules.{ask_name, ask_kind, ask_expr, all_rules}
+use Rattle.kp_stage.specs.{Facts.Facts, Rules.ask_name, Rules.ask_kind, Rules.ask_expr, Rules.all_rules}
 use Rattle.kp_stage.proofs.Unbroken.{answer_none}
 use Rattle.kp_machine.specs.Slots.{targets_of, number_of, result_to}
-use Rattle.kp_machine.proofs.Cases.{by_option}
-use Rattle.kp_machine.proofs.Results.{to_stands}
+use Rattle.kp_machine.proofs.{Cases.by_option, Results.to_stands}
 use Rattle.kp_machine.proofs.Scopes.{Placed, IsSlot, ResultFits, all_placed, results_fit, storage_kind}
 
 -- the question of a rule to the names in an expression

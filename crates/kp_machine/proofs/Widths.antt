@@ -1,15 +1,12 @@
 -- The widths of the targets of a job whose names and widths are right.
 use Rattle.std.proofs.Common.{◌≡◌, ℕ, ◌+◌, ◌≤◌, List, [], ◌∷◌, true, ◌&&◌}
-use Rattle.std.specs.Prelude.{nat_le, is_some, not}
 use Rattle.std.proofs.lemmas.Bool.{and_parts, leb-true}
-use Rattle.kp_base.specs.Refusal.{e_rule}
-use Rattle.kp_base.specs.Check.{ok, ◌>>=◌}
-use Rattle.kp_ast.specs.declared.tree.Decl.{Decl}
+use Rattle.std.specs.Prelude.{nat_le, is_some, not}
+use Rattle.kp_base.specs.{Refusal.e_rule, Check.ok, Check.◌>>=◌}
+use Rattle.kp_ast.specs.declared.tree.{Decl.Decl, Job.Job}
 use Rattle.kp_ast.specs.declared.tree.Decl.TheVariants as decls
 use Rattle.kp_ast.specs.declared.widths.NameKind.TheVariants as kinds
-use Rattle.kp_ast.specs.declared.tree.Job.{Job}
-use Rattle.kp_width.specs.Names.{Scoped, nothing, sense, find, declared_text}
-use Rattle.kp_width.specs.Expressions.{is_width}
+use Rattle.kp_width.specs.{Names.Scoped, Names.nothing, Names.sense, Names.find, Names.declared_text, Expressions.is_width}
 use Rattle.kp_width.specs.Declarations.{declared, start_of, started_of, addresses_of, after_name, declaration_of, declarations_of, functions_in}
 use Rattle.kp_width.specs.Widths.{widths_of}
 use Rattle.kp_width.proofs.Unbroken.{Unbroken, bind_unbroken, answer_unbroken}

@@ -2,18 +2,11 @@
 use Rattle.std.specs.Prelude.{ℕ, zero, suc, ◌-◌, max, List, [], ◌∷◌, length, take, Option, Some, None, Bool, true, is_some, ◌==◌, get_or, map, slice_get, slice_index, if◌then◌else◌}
 use Rattle.std.specs.List.{filter}
 use Rattle.kp_bits.specs.Word.{Word}
-use Rattle.kp_ast.specs.declared.tree.Named.{Named}
-use Rattle.kp_ast.specs.declared.tree.ResultDecl.{ResultDecl}
-use Rattle.kp_ast.specs.declared.tree.Decl.{Decl}
+use Rattle.kp_ast.specs.declared.tree.{Named.Named, ResultDecl.ResultDecl, Decl.Decl, Job.Job}
 use Rattle.kp_ast.specs.declared.tree.Decl.TheVariants as decls
-use Rattle.kp_ast.specs.declared.tree.Job.{Job}
-use Rattle.kp_stage.specs.Facts.{At, Facts, facts_of, stmts_in}
-use Rattle.kp_stage.specs.Start.{start_of, is_stalled, stalls_of, input}
+use Rattle.kp_stage.specs.{Facts.At, Facts.Facts, Facts.facts_of, Facts.stmts_in, Start.start_of, Start.is_stalled, Start.stalls_of, Start.input}
 use Rattle.kp_stage.specs.declared.start.Start.{Start}
-use Rattle.kp_pipeline.specs.Machine.{Machine, Tree}
-use Rattle.kp_pipeline.specs.Pipeline.{Inputs}
-use Rattle.kp_pipeline.specs.Rows.{Trace, pipe, taken}
-use Rattle.kp_pipeline.specs.Sequential.{seq}
+use Rattle.kp_pipeline.specs.{Machine.Machine, Machine.Tree, Pipeline.Inputs, Rows.Trace, Rows.pipe, Rows.taken, Sequential.seq}
 use Rattle.kp_machine.specs.Slots.{Slot, targets_of, pipes_of, hints_of, sample_stages, number_of, is_register, result_to}
 use Rattle.kp_machine.specs.Trees.{entered, tree_of}
 

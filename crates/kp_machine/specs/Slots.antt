@@ -2,10 +2,7 @@
 -- hints and its samples. The entries of each list are numbered from 0 in the order of declaration.
 use Rattle.std.specs.Prelude.{ℕ, suc, List, [], ◌∷◌, Option, Some, None, Bool, ◌==◌, if◌then◌else◌}
 use Rattle.kp_bits.specs.Word.{word}
-use Rattle.kp_ast.specs.Expressions.{Values, is_same_name}
-use Rattle.kp_ast.specs.declared.tree.Named.{Named}
-use Rattle.kp_ast.specs.declared.tree.Num.{Num}
-use Rattle.kp_ast.specs.declared.tree.ResultDecl.{ResultDecl}
+use Rattle.kp_ast.specs.{Expressions.Values, Expressions.is_same_name, declared.tree.Named.Named, declared.tree.Num.Num, declared.tree.ResultDecl.ResultDecl}
 use Rattle.kp_ast.specs.declared.tree.Decl.{Decl}
 use Rattle.kp_ast.specs.declared.tree.Decl.TheVariants as decls
 

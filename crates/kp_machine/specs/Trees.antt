@@ -6,16 +6,10 @@
 -- matter which of these is looked up first.
 use Rattle.std.specs.Prelude.{ℕ, List, [], ◌∷◌, ◌++◌, Option, Some, None, Bool, true, ◌==◌, if◌then◌else◌}
 use Rattle.kp_bits.specs.Word.{Word, word}
-use Rattle.kp_ast.specs.Expressions.{Values, eval, env_of}
-use Rattle.kp_ast.specs.declared.tree.Expr.{Expr}
-use Rattle.kp_ast.specs.declared.tree.ReadStmt.{ReadStmt}
-use Rattle.kp_ast.specs.declared.tree.ResultDecl.{ResultDecl}
-use Rattle.kp_ast.specs.declared.tree.Decl.{Decl}
-use Rattle.kp_ast.specs.declared.tree.Stmt.{Stmt}
-use Rattle.kp_ast.specs.declared.tree.StmtKind.{StmtKind}
+use Rattle.kp_ast.specs.{Expressions.Values, Expressions.eval, Expressions.env_of, declared.tree.Expr.Expr, declared.tree.ReadStmt.ReadStmt}
+use Rattle.kp_ast.specs.declared.tree.{ResultDecl.ResultDecl, Decl.Decl, Stmt.Stmt, StmtKind.StmtKind}
 use Rattle.kp_ast.specs.declared.tree.StmtKind.TheVariants as stmts
-use Rattle.kp_pipeline.specs.Machine.{Tree, Done, Ask, Guess}
-use Rattle.kp_pipeline.specs.Sequential.{first_value}
+use Rattle.kp_pipeline.specs.{Machine.Tree, Machine.Done, Machine.Ask, Machine.Guess, Sequential.first_value}
 use Rattle.kp_machine.specs.Slots.{targets_of, pipes_of, hints_of, samples_of, number_of, width_of, words_of, result_named}
 
 -- What the statements so far have done: the names that have values (the pipes, the samples, and then those of the

@@ -1,34 +1,21 @@
 -- The tree of a stage fits, since each statement of its block keeps the rules of stages.
 use Rattle.std.proofs.Common.{◌≡◌, ◌∙◌, ℕ, zero, suc, ◌+◌, ◌<◌, ◌≤◌, max, List, [], ◌∷◌, Option, Some, None, true, not, ◌&&◌, ◌||◌, cond, eqb, refl, ap, sym, subst, arith}
-use Rattle.std.specs.Prelude.{slice_get, is_some, unwrap_or, nat_lt, nat_le}
-use Rattle.std.specs.List.{AllByRecursion}
 use Rattle.std.proofs.lemmas.Bool.{cond_both, eqb-true, not-true, ltb-false, leb-true, and_parts}
-use Rattle.kp_base.specs.First.{first}
-use Rattle.kp_base.specs.Refusal.{e_rule}
-use Rattle.kp_ast.specs.declared.tree.Expr.{Expr}
-use Rattle.kp_ast.specs.declared.tree.Named.{Named}
-use Rattle.kp_ast.specs.declared.tree.ReadStmt.{ReadStmt}
-use Rattle.kp_ast.specs.declared.tree.ResultDecl.{ResultDecl}
-use Rattle.kp_ast.specs.declared.tree.Stmt.{Stmt}
-use Rattle.kp_ast.specs.declared.tree.StmtKind.{StmtKind}
+use Rattle.std.specs.{Prelude.slice_get, Prelude.is_some, Prelude.unwrap_or, Prelude.nat_lt, Prelude.nat_le, List.AllByRecursion}
+use Rattle.kp_base.specs.{First.first, Refusal.e_rule}
+use Rattle.kp_ast.specs.declared.tree.{Expr.Expr, Named.Named, ReadStmt.ReadStmt, ResultDecl.ResultDecl, Stmt.Stmt, StmtKind.StmtKind, Block.Block, Job.Job}
 use Rattle.kp_ast.specs.declared.tree.StmtKind.TheVariants as stmts
-use Rattle.kp_ast.specs.declared.tree.Block.{Block}
-use Rattle.kp_ast.specs.declared.tree.Job.{Job}
 use Rattle.kp_width.specs.Widths.{widths_of}
 use Rattle.kp_width.proofs.Unbroken.{Unbroken}
 use Rattle.kp_stage.specs.Facts.{At, Facts, facts_of, stmts_in, or_zero, guessed, largest_in, largest}
-use Rattle.kp_stage.specs.Rules.{holds_of, is_at, may_guess, ask_stmt, ask_stmts, all_rules}
-use Rattle.kp_stage.specs.Stages.{broken_of}
+use Rattle.kp_stage.specs.{Rules.holds_of, Rules.is_at, Rules.may_guess, Rules.ask_stmt, Rules.ask_stmts, Rules.all_rules, Stages.broken_of}
 use Rattle.kp_stage.proofs.Unbroken.{first_none, answer_none}
-use Rattle.kp_pipeline.specs.Machine.{Tree}
-use Rattle.kp_pipeline.specs.Accepted.{Fits, EndFits}
-use Rattle.kp_machine.specs.Slots.{Slot, targets_of, pipes_of, hints_of, number_of, result_named}
+use Rattle.kp_pipeline.specs.{Machine.Tree, Accepted.Fits, Accepted.EndFits}
 use Rattle.kp_machine.specs.Trees.{Progress, entered, holds, value_of, value_with_hints, with_name, with_put, with_set, with_aim, word_of, word_read, read_of, statement_of, tree_of}
+use Rattle.kp_machine.specs.Slots.{Slot, targets_of, pipes_of, hints_of, number_of, result_named}
 use Rattle.kp_machine.specs.Machine.{machine_of, stage_tree, result_for, write_stage_of, after_put, known_after, known_from_of, is_enabled_by, address_by, enabled_of, address_in}
-use Rattle.kp_machine.proofs.Names.{IsIn, number_determines}
-use Rattle.kp_machine.proofs.Placing.{IsPipeIn, IsPlaced, result_placed, own, stands}
-use Rattle.kp_machine.proofs.Rules.{rules_kept, stmts_kept}
-use Rattle.kp_machine.proofs.Results.{named_stands, written_where, written_by}
+use Rattle.kp_machine.proofs.{Names.IsIn, Names.number_determines, Placing.IsPipeIn, Placing.IsPlaced, Placing.result_placed, Placing.own, Placing.stands}
+use Rattle.kp_machine.proofs.{Rules.rules_kept, Rules.stmts_kept, Results.named_stands, Results.written_where, Results.written_by}
 
 pub some_from : {X : Type 0} (o : Option X) → is_some o ≡ true → (x : X) × (o ≡ Some x)
 some_from None e = cc

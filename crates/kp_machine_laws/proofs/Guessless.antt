@@ -1,24 +1,13 @@
 -- Where no read has a guess, no tree has one; and where no sample is declared, no stage looks at one.
 use Rattle.std.proofs.Common.{◌≡◌, ◌<◌, ℕ, zero, suc, List, [], ◌∷◌, Option, Some, None, ap, arith, refl}
-use Rattle.std.specs.Prelude.{slice_get, get_or, sum_by}
-use Rattle.std.specs.List.{AllByRecursion}
-use Rattle.std.proofs.lemmas.Bool.{cond_both}
-use Rattle.std.proofs.lemmas.List.Sums.{sum_by-cons}
-use Rattle.kp_ast.specs.declared.tree.Expr.{Expr}
-use Rattle.kp_ast.specs.declared.tree.ReadStmt.{ReadStmt}
-use Rattle.kp_ast.specs.declared.tree.Decl.{Decl}
-use Rattle.kp_ast.specs.declared.tree.Stmt.{Stmt}
-use Rattle.kp_ast.specs.declared.tree.StmtKind.{StmtKind}
+use Rattle.std.proofs.lemmas.{Bool.cond_both, List.Sums.sum_by-cons}
+use Rattle.std.specs.{Prelude.slice_get, Prelude.get_or, Prelude.sum_by, List.AllByRecursion}
+use Rattle.kp_ast.specs.declared.tree.{Expr.Expr, ReadStmt.ReadStmt, Decl.Decl, Stmt.Stmt, StmtKind.StmtKind, Block.Block, Job.Job}
 use Rattle.kp_ast.specs.declared.tree.StmtKind.TheVariants as stmts
-use Rattle.kp_ast.specs.declared.tree.Block.{Block}
-use Rattle.kp_ast.specs.declared.tree.Job.{Job}
-use Rattle.kp_stage.specs.Counts.{guesses_in, guesses_of, one_if_some, summary_of}
-use Rattle.kp_stage.specs.Facts.{stmts_in}
-use Rattle.kp_pipeline.specs.Machine.{Tree}
-use Rattle.kp_pipeline.specs.Timeline.{HasNoGuess, HasNoGuessOrSample}
-use Rattle.kp_machine.specs.Slots.{hints_of, pipes_of, sample_stages, number_of, result_named}
+use Rattle.kp_stage.specs.{Counts.guesses_in, Counts.guesses_of, Counts.one_if_some, Counts.summary_of, Facts.stmts_in}
+use Rattle.kp_pipeline.specs.{Machine.Tree, Timeline.HasNoGuess, Timeline.HasNoGuessOrSample}
 use Rattle.kp_machine.specs.Trees.{Progress, entered, holds, value_of, value_with_hints, with_name, with_put, with_set, with_aim, word_of, word_read, read_of, statement_of, tree_of}
-use Rattle.kp_machine.specs.Machine.{machine_of, stage_tree}
+use Rattle.kp_machine.specs.{Slots.hints_of, Slots.pipes_of, Slots.sample_stages, Slots.number_of, Slots.result_named, Machine.machine_of, Machine.stage_tree}
 use Rattle.kp_machine_laws.proofs.Sampleless.{none_declared}
 
 abbrev NoneIn : List Stmt → Type 0

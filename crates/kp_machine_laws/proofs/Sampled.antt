@@ -1,39 +1,26 @@
 -- A stage uses only its own samples: if two input vectors agree on these, its tree is the same.
 use Rattle.std.proofs.Common.{◌≡◌, ◌∙◌, ℕ, zero, suc, ◌+◌, List, [], ◌∷◌, ◌++◌, map, Option, Some, None, Bool, true, false, not, cond, eqb, refl, ap, sym, subst, arith}
-use Rattle.std.specs.Prelude.{slice_get, get_or, unwrap_or}
-use Rattle.std.specs.Option.{option_map}
 use Rattle.std.proofs.lemmas.Bool.{eqb-true}
-use Rattle.kp_base.specs.First.{first}
-use Rattle.kp_base.specs.Refusal.{e_rule}
-use Rattle.kp_base.specs.declared.place.Place.{Place}
+use Rattle.std.specs.{Prelude.slice_get, Prelude.get_or, Prelude.unwrap_or, Option.option_map}
+use Rattle.kp_base.specs.{First.first, Refusal.e_rule, declared.place.Place.Place, Check.Answer}
 use Rattle.kp_bits.specs.Word.{Word, word, not_of, mux_of, slice_of, zext_of, sext_of}
-use Rattle.kp_ast.specs.Expressions.{Env, Values, is_same_name, look_up, eval, env_of, value_of_kind, value_of_level}
 use Rattle.kp_bits.specs.Operators.{no_word, binary_of, joined_of}
-use Rattle.kp_ast.specs.declared.tree.Expr.{Expr}
-use Rattle.kp_ast.specs.declared.tree.Named.{Named}
-use Rattle.kp_ast.specs.declared.tree.Num.{Num}
-use Rattle.kp_ast.specs.declared.tree.ReadStmt.{ReadStmt}
-use Rattle.kp_ast.specs.declared.tree.ResultDecl.{ResultDecl}
-use Rattle.kp_ast.specs.declared.tree.Decl.{Decl}
-use Rattle.kp_ast.specs.declared.tree.Decl.TheVariants as decls
-use Rattle.kp_ast.specs.declared.tree.Stmt.{Stmt}
-use Rattle.kp_ast.specs.declared.tree.StmtKind.{StmtKind}
-use Rattle.kp_ast.specs.declared.tree.StmtKind.TheVariants as stmts
+use Rattle.kp_ast.specs.Expressions.{Env, Values, is_same_name, look_up, eval, env_of, value_of_kind, value_of_level}
+use Rattle.kp_ast.specs.declared.tree.{Expr.Expr, Named.Named, Num.Num, ReadStmt.ReadStmt, ResultDecl.ResultDecl, Decl.Decl, Stmt.Stmt, StmtKind.StmtKind}
 use Rattle.kp_ast.specs.declared.tree.Job.{Job}
+use Rattle.kp_ast.specs.declared.tree.Decl.TheVariants as decls
+use Rattle.kp_ast.specs.declared.tree.StmtKind.TheVariants as stmts
 use Rattle.kp_ast.proofs.Levels.{fold-Lit, fold-Name, fold-Not, fold-Binary, fold-Mux, fold-Concat, fold-Slice, fold-Zext, fold-Sext, fold-Call}
 use Rattle.kp_ast.proofs.Induction.{Every, induction}
-use Rattle.kp_base.specs.Check.{Answer}
 use Rattle.kp_width.proofs.Found.{none_of_two}
 use Rattle.kp_stage.specs.Facts.{Facts, facts_of, sample_at, stmts_in}
 use Rattle.kp_stage.specs.Rules.{holds_of, ask_name, ask_kind, ask_level, ask_expr, ask_option, ask_values, ask_guesses, ask_stmt, ask_stmts, all_rules}
 use Rattle.kp_stage.proofs.Unbroken.{first_none, answer_none}
-use Rattle.kp_pipeline.specs.Machine.{Tree, Done, Ask, Guess}
-use Rattle.kp_pipeline.specs.Sequential.{first_value}
-use Rattle.kp_machine.specs.Slots.{targets_of, pipes_of, hints_of, samples_of, sample_stages, number_of, words_from, words_of, result_named}
+use Rattle.kp_pipeline.specs.{Machine.Tree, Machine.Done, Machine.Ask, Machine.Guess, Sequential.first_value}
 use Rattle.kp_machine.specs.Trees.{Progress, entered, holds, address_of, value_of, value_with_hints, with_value, with_name, with_put, with_set, with_aim, word_of, word_read, read_of, statement_of, tree_of}
+use Rattle.kp_machine.specs.Slots.{targets_of, pipes_of, hints_of, samples_of, sample_stages, number_of, words_from, words_of, result_named}
 use Rattle.kp_machine.specs.Machine.{stage_tree}
-use Rattle.kp_machine.proofs.Cases.{by_test}
-use Rattle.kp_machine.proofs.LookUp.{or_else, look_up-append}
+use Rattle.kp_machine.proofs.{Cases.by_test, LookUp.or_else, LookUp.look_up-append}
 
 none_of_three : (a b c : Answer) → first (a ∷ b ∷ c ∷ []) ≡ None → (a ≡ None) × (b ≡ None) × (c ≡ None)
 none_of_three None b c e = let h = none_of_two b c e in (refl, h.0, h.1)

@@ -1,18 +1,13 @@
 -- A machine that looks at no sample computes the same whatever the samples are.
 use Rattle.std.proofs.Common.{◌≡◌, ◌∙◌, ℕ, zero, suc, List, [], ◌∷◌, ◌++◌, None, refl, ap, sym, arith}
-use Rattle.std.specs.Prelude.{cond, unwrap_or, Some}
-use Rattle.std.specs.Prelude.{sum_by, slice_get}
 use Rattle.std.proofs.lemmas.List.Sums.{sum_by-cons}
-use Rattle.kp_ast.specs.declared.tree.Decl.{Decl}
+use Rattle.std.specs.Prelude.{cond, unwrap_or, Some, sum_by, slice_get}
+use Rattle.kp_ast.specs.declared.tree.{Decl.Decl, Job.Job}
 use Rattle.kp_ast.specs.declared.tree.Decl.TheVariants as decls
-use Rattle.kp_ast.specs.declared.tree.Job.{Job}
-use Rattle.kp_stage.specs.Counts.{samples_in, summary_of}
-use Rattle.kp_stage.specs.Facts.{stmts_in}
-use Rattle.kp_stage.specs.Start.{start_of}
+use Rattle.kp_stage.specs.{Counts.samples_in, Counts.summary_of, Facts.stmts_in, Start.start_of}
 use Rattle.kp_pipeline.specs.Machine.{Machine, Tree}
 use Rattle.kp_pipeline.specs.Sequential.{Instruction, run, after_stage, before_stage, is_written, exec, seq}
-use Rattle.kp_machine.specs.Slots.{Slot, pipes_of, samples_of, sample_stages, words_of}
-use Rattle.kp_machine.specs.Trees.{Progress, entered, tree_of}
+use Rattle.kp_machine.specs.{Slots.Slot, Slots.pipes_of, Slots.samples_of, Slots.sample_stages, Slots.words_of, Trees.Progress, Trees.entered, Trees.tree_of}
 use Rattle.kp_machine.specs.Machine.{machine_of, stage_tree, state_of, sequential}
 
 module _ (m : Machine) (same : (k : ℕ) (q r p : ℕ → ℕ) → m.body k q p ≡ m.body k r p) where

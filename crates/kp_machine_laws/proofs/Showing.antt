@@ -2,12 +2,8 @@
 use Rattle.std.proofs.Common.{◌≡◌, ℕ, ◌≤◌, List, length, true, false, sym, subst}
 use Rattle.kp_ast.specs.declared.tree.Job.{Job}
 use Rattle.kp_stage.specs.Start.{start_of}
-use Rattle.kp_pipeline.specs.Accepted.{Accepted}
-use Rattle.kp_pipeline.specs.Pipeline.{Inputs, pipeline_start}
-use Rattle.kp_pipeline.specs.Rows.{passed}
-use Rattle.kp_pipeline.specs.Sequential.{seq}
-use Rattle.kp_pipeline.proofs.Taken.{rows-length}
-use Rattle.kp_pipeline.proofs.Legality.{legal}
+use Rattle.kp_pipeline.specs.{Accepted.Accepted, Pipeline.Inputs, Pipeline.pipeline_start, Rows.passed, Sequential.seq}
+use Rattle.kp_pipeline.proofs.{Taken.rows-length, Legality.legal}
 use Rattle.kp_machine.specs.Machine.{machine_of, state_of, start_hints, sequential, pipe_of, taken_of}
 
 module _ (job : Job) (accepted : Accepted (machine_of job)) (ins : List Inputs) (T t a : ℕ) (within : T ≤ length ins) where

@@ -2,19 +2,14 @@
 use Rattle.std.proofs.Common.{◌≡◌, ◌∙◌, ℕ, zero, suc, ◌+◌, ◌/◌, ◌%◌, ◌^◌, cond, eqb, List, [], ◌∷◌, ◌++◌, take, drop, Option, None, refl, ap}
 use Rattle.std.proofs.Math.Path.{fun_ext}
 use Rattle.std.specs.Prelude.{codes}
-use Rattle.kp_bits.specs.Word.{Word, word, add_of, slice_of}
+use Rattle.kp_bits.specs.{Word.Word, Word.word, Word.add_of, Word.slice_of, declared.operator.BinOp.BinOp}
 use Rattle.kp_ast.specs.Expressions.{Env, eval, env_of, names_of, calls_of, value_of_kind, value_of_level}
-use Rattle.kp_bits.specs.declared.operator.BinOp.{BinOp}
-use Rattle.kp_ast.specs.declared.tree.Decl.{Decl}
-use Rattle.kp_ast.specs.declared.tree.Stmt.{Stmt}
-use Rattle.kp_ast.specs.declared.tree.Job.{Job}
+use Rattle.kp_ast.specs.declared.tree.{Decl.Decl, Stmt.Stmt, Job.Job}
 use Rattle.kp_ast.proofs.Levels.{fold-Lit, fold-Name, fold-Binary, fold-Slice, fold-Call}
 use Rattle.kp_stage.specs.Start.{start_of}
 use Rattle.kp_pipeline.specs.Machine.{Machine, Tree, Done, Ask, Guess}
 use Rattle.kp_pipeline.specs.Pipeline.{above, back, from_stages, next_hints, next_stage, next_visible, outcome, stall, ue}
-use Rattle.kp_pipeline.specs.Rows.{pipe}
-use Rattle.kp_pipeline.specs.Sequential.{before_stage, first_value, seq}
-use Rattle.kp_pipeline.specs.Timeline.{no_samples}
+use Rattle.kp_pipeline.specs.{Rows.pipe, Sequential.before_stage, Sequential.first_value, Sequential.seq, Timeline.no_samples}
 use Rattle.kp_machine.specs.Slots.{words_of, hints_of, result_named}
 use Rattle.kp_machine.specs.Trees.{value_with_hints, Progress, entered, with_name, with_value, with_put, with_set, tree_of, value_of}
 use Rattle.kp_machine.specs.Machine.{machine_of, stage_tree, result_for, state_of, start_hints, inputs_from, pipe_of, sequential}

@@ -2,21 +2,12 @@
 use Rattle.std.specs.Prelude.{ℕ, List, [], ◌∷◌, Option, Some, None, map, codes}
 use Rattle.kp_base.specs.declared.place.Place.{Place}
 use Rattle.kp_bits.specs.declared.operator.BinOp.{BinOp}
-use Rattle.kp_ast.specs.declared.tree.Named.{Named}
-use Rattle.kp_ast.specs.declared.tree.Num.{Num}
-use Rattle.kp_ast.specs.declared.tree.Lit.{Lit}
-use Rattle.kp_ast.specs.declared.tree.Expr.{Expr}
+use Rattle.kp_ast.specs.declared.tree.{Named.Named, Num.Num, Lit.Lit, Expr.Expr, Decl.Decl, StmtKind.StmtKind, Block.Block, Image.Image, Job.Job}
 use Rattle.kp_ast.specs.declared.tree.ExprKind.TheVariants as leaves
 use Rattle.kp_ast.specs.declared.tree.ExprKind.TheViews as expressions
-use Rattle.kp_ast.specs.declared.tree.Decl.{Decl}
 use Rattle.kp_ast.specs.declared.tree.Decl.TheVariants as decls
-use Rattle.kp_ast.specs.declared.tree.StmtKind.{StmtKind}
 use Rattle.kp_ast.specs.declared.tree.StmtKind.TheVariants as stmts
-use Rattle.kp_ast.specs.declared.tree.Block.{Block}
-use Rattle.kp_ast.specs.declared.tree.Image.{Image}
-use Rattle.kp_ast.specs.declared.tree.Job.{Job}
-use Rattle.kp_pipeline.specs.Examples.{row3, row4}
-use Rattle.kp_pipeline.specs.Rows.{Row}
+use Rattle.kp_pipeline.specs.{Examples.row3, Examples.row4, Rows.Row}
 
 -- All positions are the same.
 abbrev pub place : Place

@@ -3,11 +3,8 @@ use Rattle.std.proofs.Common.{◌≡◌, ℕ, ◌<◌, ◌≤◌, false, List, l
 use Rattle.std.proofs.lemmas.Bool.{cases_lt, true≢false}
 use Rattle.kp_net.specs.declared.node.Kind.{Kind}
 use Rattle.kp_net.specs.declared.node.Kind.TheVariants.{Const, Ext, Sample, Reg, Word, Not, Binary, Mux, Concat, Slice}
-use Rattle.kp_net.specs.declared.node.Node.{Node}
-use Rattle.kp_net.specs.declared.netlist.Parts.{Parts}
-use Rattle.kp_net.specs.Widths.{wide, no_node, is_cell, KindOk, AllRight}
-use Rattle.kp_net.specs.Growth.{Held, Kept, Grown, AddsOnly}
-use Rattle.kp_net.specs.Parts.{CellOk, AllCells}
+use Rattle.kp_net.specs.{declared.node.Node.Node, declared.netlist.Parts.Parts, Widths.wide, Widths.no_node, Widths.is_cell, Widths.KindOk, Widths.AllRight}
+use Rattle.kp_net.specs.{Growth.Held, Growth.Kept, Growth.Grown, Growth.AddsOnly, Parts.CellOk, Parts.AllCells}
 
 -- constants and operations read no cell
 pub plain_ok : (ns : List Node) (p : Parts) (k : ℕ) (o : Kind) → is_cell o ≡ false → CellOk ns p k o

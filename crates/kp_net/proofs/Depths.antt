@@ -1,16 +1,10 @@
 -- The depths of nodes when nodes are added.
 use Rattle.std.proofs.Common.{◌≡◌, ℕ, ◌+◌, ◌<◌, ◌≤◌, List, [], ◌∷◌, ◌++◌, fold, map, length, get_or, take, drop, refl, sym, ap, ◌∙◌, arith, length-append, All, max}
-use Rattle.std.proofs.Math.ListN.{get_or-append}
-use Rattle.std.proofs.Math.Seq.{get_or-append_seam}
-use Rattle.std.proofs.lemmas.List.{take-append-drop, take_more, length-take-le, ext_get_or}
-use Rattle.std.proofs.lemmas.List.Sums.{fold-append}
-use Rattle.std.proofs.lemmas.List.Elements.{All-head, All-tail}
-use Rattle.kp_net.specs.declared.node.NodeId.{NodeId}
-use Rattle.kp_net.specs.declared.node.Kind.{Kind}
+use Rattle.std.proofs.Math.{ListN.get_or-append, Seq.get_or-append_seam}
+use Rattle.std.proofs.lemmas.List.{take-append-drop, take_more, length-take-le, ext_get_or, Sums.fold-append, Elements.All-head, Elements.All-tail}
+use Rattle.kp_net.specs.declared.node.{NodeId.NodeId, Kind.Kind}
 use Rattle.kp_net.specs.declared.node.Kind.TheVariants.{Const, Ext, Sample, Reg, Word, Not, Binary, Mux, Concat, Slice}
-use Rattle.kp_net.specs.declared.node.Node.{Node}
-use Rattle.kp_net.specs.Widths.{no_node, KindOk, NodeOk}
-use Rattle.kp_net.specs.Growth.{Held, Wire, Kept, Grown}
+use Rattle.kp_net.specs.{declared.node.Node.Node, Widths.no_node, Widths.KindOk, Widths.NodeOk, Growth.Held, Growth.Wire, Growth.Kept, Growth.Grown}
 use Rattle.kp_net.specs.Depth.{depth_of, depths_more, depths_of, depth, IsNoDeeper}
 
 length_from : (known : List ℕ) (ns : List Node) → length (fold depths_more known ns) ≡ length known + length ns

@@ -1,30 +1,20 @@
 -- The replacement of a foldable node has its word, and is no deeper.
 use Rattle.std.proofs.Common.{◌≡◌, ℕ, Bool, true, false, ◌+◌, ◌-◌, ◌<◌, ◌≤◌, ◌^◌, ◌%◌, ◌/◌, ◌==◌, ◌&&◌, List, [], ◌∷◌, map, length, get_or, refl, sym, subst, ap, ◌∙◌, arith, All, max, cond, bit_and, bit_or, leb, leb-true, ◌||◌}
 use Rattle.std.proofs.Math.Nat.{mod-eq_of_lt, le-max_left, le-max_right, div-one}
-use Rattle.std.proofs.lemmas.Bool.{false≢true, eqb-true, eq-eqb}
-use Rattle.std.proofs.lemmas.Nat.{and_mask, and_comm, or_comm}
-use Rattle.std.specs.Int.Bits.{or_zero_r, or_add_and}
+use Rattle.std.proofs.lemmas.{Bool.false≢true, Bool.eqb-true, Bool.eq-eqb, Nat.and_mask, Nat.and_comm, Nat.or_comm}
 use Rattle.std.proofs.lemmas.List.Elements.{All-head, All-tail}
-use Rattle.std.specs.List.{list_all}
-use Rattle.kp_bits.specs.Word.{IsWord, not_of, and_of, or_of, mux_of, slice_of}
-use Rattle.kp_bits.specs.Word as bits
-use Rattle.kp_bits.proofs.Arithmetic.{not_not, shl_past, shr_past}
-use Rattle.kp_bits.proofs.Powers.{pow_le}
-use Rattle.kp_bits.specs.declared.operator.BinOp.{BinOp}
+use Rattle.std.specs.{Int.Bits.or_zero_r, Int.Bits.or_add_and, List.list_all}
+use Rattle.kp_bits.specs.{Word.IsWord, Word.not_of, Word.and_of, Word.or_of, Word.mux_of, Word.slice_of, declared.operator.BinOp.BinOp}
 use Rattle.kp_bits.specs.Operators.{binary_of, joined_of, is_shift}
-use Rattle.kp_net.specs.declared.node.NodeId.{NodeId}
-use Rattle.kp_net.specs.declared.node.Kind.{Kind}
+use Rattle.kp_bits.specs.Word as bits
+use Rattle.kp_bits.proofs.{Arithmetic.not_not, Arithmetic.shl_past, Arithmetic.shr_past, Powers.pow_le}
+use Rattle.kp_net.specs.declared.node.{NodeId.NodeId, Kind.Kind}
 use Rattle.kp_net.specs.declared.node.Kind.TheVariants.{Const, Not, Binary, Mux, Concat, Slice}
-use Rattle.kp_net.specs.declared.node.Node.{Node}
-use Rattle.kp_net.specs.declared.fold.Masking.{Masking}
-use Rattle.kp_net.specs.Nodes.{Cells, Words, word_of_kind, word_at}
+use Rattle.kp_net.specs.{declared.node.Node.Node, declared.fold.Masking.Masking, Nodes.Cells, Nodes.Words, Nodes.word_of_kind, Nodes.word_at}
 use Rattle.kp_net.specs.Widths.{wide, no_node, is_cell, BinaryOk, KindOk, NodeOk, AllRight}
-use Rattle.kp_net.specs.Depth.{depth_of, depth}
-use Rattle.kp_net.specs.Folding.{is_const, is_masking, is_plain, is_past, folds}
+use Rattle.kp_net.specs.{Depth.depth_of, Depth.depth, Folding.is_const, Folding.is_masking, Folding.is_plain, Folding.is_past, Folding.folds}
 use Rattle.kp_net.specs.inner.Folds.{StandsFor, IsWordOf, Masks, number_in, number_at}
-use Rattle.kp_net.proofs.Values.{word_there, word_wide}
-use Rattle.kp_net.proofs.Exact.{Has, kind_has, node_exact, word_has}
-use Rattle.kp_net.proofs.Depths.{depth_there}
+use Rattle.kp_net.proofs.{Values.word_there, Values.word_wide, Exact.Has, Exact.kind_has, Exact.node_exact, Exact.word_has, Depths.depth_there}
 
 both : (a b : Bool) → (a && b) ≡ true → (a ≡ true) × (b ≡ true)
 both true b h = (refl, h)

@@ -1,17 +1,9 @@
 -- The index of a node in a list, by the test that compares nodes.
 use Rattle.std.proofs.Common.{◌≡◌, ◌⊎◌, ℕ, ◌<◌, ◌≤◌, ◌++◌, ◌∷◌, [], Bool, true, false, List, length, get_or, refl, sym, subst, ap, ◌∙◌, arith, ⊎_elim, Option, None, Some, MatchOption, length-append, if◌then◌else◌, IfOk, OnErr, Result, Ok, Err, inl, inr}
-use Rattle.std.proofs.lemmas.Bool.{cases_lt, false≢true}
-use Rattle.std.proofs.lemmas.Grind.{common_steps}
-use Rattle.std.proofs.lemmas.List.{get_or_default}
-use Rattle.std.proofs.lemmas.List.Quantifiers.{position-Some}
-use Rattle.std.proofs.lemmas.List.Sums.{fails_before_first}
-use Rattle.std.proofs.lemmas.List.Folds.{list_any_none}
-use Rattle.std.proofs.Math.ListN.{get_or-append}
-use Rattle.std.proofs.Math.Seq.{get_or-append_seam}
+use Rattle.std.proofs.lemmas.{Bool.cases_lt, Bool.false≢true, Grind.common_steps, List.get_or_default, List.Quantifiers.position-Some}
+use Rattle.std.proofs.{lemmas.List.Sums.fails_before_first, lemmas.List.Folds.list_any_none, Math.ListN.get_or-append, Math.Seq.get_or-append_seam}
 use Rattle.std.specs.List.{position, position_or_len, list_any}
-use Rattle.kp_net.specs.declared.node.Node.{Node}
-use Rattle.kp_net.specs.Widths.{no_node}
-use Rattle.kp_net.specs.inner.Lookup.{LacksBelow, IsFront}
+use Rattle.kp_net.specs.{declared.node.Node.Node, Widths.no_node, inner.Lookup.LacksBelow, inner.Lookup.IsFront}
 use Rattle.kp_net.specs.contracts.node.NodePartialEq.TheImpl as nodes
 use Rattle.kp_net.proofs.Same.{node_from_eq, node_eq_itself}
 

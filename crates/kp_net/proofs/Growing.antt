@@ -1,13 +1,8 @@
 -- What stays over calls of a pool.
 use Rattle.std.proofs.Common.{◌≡◌, ℕ, ◌+◌, ◌<◌, ◌≤◌, false, List, [], ◌∷◌, ◌++◌, length, get_or, refl, ap, ◌∙◌, arith, length-append, ⊎_elim, inl}
-use Rattle.std.proofs.Math.ListN.{get_or-append}
-use Rattle.std.proofs.Math.Seq.{get_or-append_seam}
-use Rattle.std.proofs.lemmas.Bool.{cases_lt}
-use Rattle.kp_net.specs.declared.node.NodeId.{NodeId}
-use Rattle.kp_net.specs.declared.node.Node.{Node}
-use Rattle.kp_net.specs.Nodes.{Cells, word_of_node, word_at, at, on}
-use Rattle.kp_net.specs.Widths.{wide, no_node, is_cell, AllRight}
-use Rattle.kp_net.specs.Growth.{Held, Wire, Kept, Grown, AddsOnly}
+use Rattle.std.proofs.{Math.ListN.get_or-append, Math.Seq.get_or-append_seam, lemmas.Bool.cases_lt}
+use Rattle.kp_net.specs.{declared.node.NodeId.NodeId, declared.node.Node.Node, Nodes.Cells, Nodes.word_of_node, Nodes.word_at, Nodes.at, Nodes.on}
+use Rattle.kp_net.specs.{Widths.wide, Widths.no_node, Widths.is_cell, Widths.AllRight, Growth.Held, Growth.Wire, Growth.Kept, Growth.Grown, Growth.AddsOnly}
 use Rattle.kp_net.proofs.Values.{word_front, at_front, on_front, wide_front, word_new, wide_new, word_there}
 
 -- a node is added

@@ -1,13 +1,10 @@
 -- A cycle with a reset, and the run from there on.
 use Rattle.std.proofs.Common.{◌≡◌, ℕ, true, cond, suc, List, [], ◌∷◌, length, map, refl, sym, ap, ◌∙◌, arith}
+use Rattle.std.proofs.lemmas.{Bool.cond_both, Slice.Zip.length-zip}
 use Rattle.std.specs.List.{zip}
-use Rattle.std.proofs.lemmas.Bool.{cond_both}
-use Rattle.std.proofs.lemmas.Slice.Zip.{length-zip}
 use Rattle.kp_base.specs.declared.row.Row.{Row}
-use Rattle.kp_net.specs.declared.node.Node.{Node}
-use Rattle.kp_net.specs.declared.netlist.NetFile.{NetFile}
-use Rattle.kp_net.specs.Nodes.{Cells}
 use Rattle.kp_net.specs.Netlist.{Net, Input, State, start_regs, start_of, regs_after, files_after, port_after, resets, cells_of, state_after, row_of, states_from, rows_from, run, last_from, last_of, restarted}
+use Rattle.kp_net.specs.{declared.node.Node.Node, declared.netlist.NetFile.NetFile, Nodes.Cells}
 
 pub reset_state : (net : Net) (i : Input) (st : State) → resets net i ≡ true → state_after net i st ≡ record { regs = start_regs net; files = st.files }
 reset_state net i st e = ap (λ b. cond b (record { regs = start_regs net; files = st.files }) (record { regs = regs_after net (cells_of i st); files = files_after net (cells_of i st) st.files })) e

@@ -1,17 +1,12 @@
 -- `==` on nodes is equality.
-use Rattle.std.proofs.Common.{◌≡◌, ◌&&◌, ℕ, Bool, true, false, refl, ap, eqb}
-use Rattle.std.specs.Bool.{Decides}
-use Rattle.std.proofs.lemmas.Bool.{false≢true}
-use Rattle.std.proofs.lemmas.Bool.Decides.{Decides-eqb}
-use Rattle.std.proofs.lemmas.Slice.Eq.{slice_eq-Decides}
-use Rattle.std.specs.Cmp.Derive.{both_true}
+use Rattle.std.proofs.{Common.◌≡◌, Common.◌&&◌, Common.ℕ, Common.Bool, Common.true, Common.false, Common.refl, Common.ap, Common.eqb, lemmas.Bool.false≢true}
+use Rattle.std.proofs.lemmas.{Bool.Decides.Decides-eqb, Slice.Eq.slice_eq-Decides}
+use Rattle.std.specs.{Bool.Decides, Cmp.Derive.both_true}
 use Rattle.kp_bits.specs.declared.operator.BinOp.{BinOp}
 use Rattle.kp_bits.specs.contracts.operator.BinOpPartialEq.TheImpl as operators
-use Rattle.kp_net.specs.declared.node.NodeId.{NodeId}
-use Rattle.kp_net.specs.declared.node.Kind.{Kind}
+use Rattle.kp_net.specs.declared.node.{NodeId.NodeId, Kind.Kind}
 use Rattle.kp_net.specs.declared.node.Kind.TheVariants.{Const, Ext, Sample, Reg, Word, Not, Binary, Mux, Concat, Slice}
-use Rattle.kp_net.specs.declared.node.Node.{Node}
-use Rattle.kp_net.specs.Operands.{same_id}
+use Rattle.kp_net.specs.{declared.node.Node.Node, Operands.same_id}
 use Rattle.kp_net.specs.contracts.node.NodePartialEq.TheImpl as nodes
 use Rattle.kp_net.specs.contracts.node.KindPartialEq.TheImpl as kinds
 

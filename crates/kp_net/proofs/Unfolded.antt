@@ -1,16 +1,12 @@
 -- A list without foldable nodes remains one when a node is added that is not foldable.
 use Rattle.std.proofs.Common.{◌≡◌, ℕ, false, ◌+◌, ◌<◌, ◌≤◌, ◌==◌, ◌&&◌, ◌||◌, List, [], ◌∷◌, ◌++◌, length, get_or, refl, ap, ◌∙◌, arith, All, length-append, ⊎_elim}
-use Rattle.std.proofs.Math.ListN.{get_or-append}
-use Rattle.std.proofs.Math.Seq.{get_or-append_seam}
-use Rattle.std.proofs.lemmas.Bool.{cases_lt}
+use Rattle.std.proofs.{Math.ListN.get_or-append, Math.Seq.get_or-append_seam, lemmas.Bool.cases_lt}
 use Rattle.std.proofs.lemmas.List.Elements.{All-head, All-tail}
 use Rattle.std.specs.List.{list_all}
 use Rattle.kp_bits.specs.Operators.{is_shift}
-use Rattle.kp_net.specs.declared.node.NodeId.{NodeId}
-use Rattle.kp_net.specs.declared.node.Kind.{Kind}
+use Rattle.kp_net.specs.declared.node.{NodeId.NodeId, Kind.Kind}
 use Rattle.kp_net.specs.declared.node.Kind.TheVariants.{Const, Ext, Sample, Reg, Word, Not, Binary, Mux, Concat, Slice}
-use Rattle.kp_net.specs.declared.node.Node.{Node}
-use Rattle.kp_net.specs.Widths.{no_node, KindOk, NodeOk, AllRight}
+use Rattle.kp_net.specs.{declared.node.Node.Node, Widths.no_node, Widths.KindOk, Widths.NodeOk, Widths.AllRight}
 use Rattle.kp_net.specs.Folding.{is_const, is_not, is_masking, is_plain, is_past, folds, foldable, NoneFoldable}
 
 parts_fold : (v w : ℕ → Node) (m : ℕ) (parts : List NodeId) → All (λ a. a.0 < m) parts → ((j : ℕ) → j < m → v j ≡ w j)

@@ -1,17 +1,10 @@
 -- The words of nodes when nodes are added.
 use Rattle.std.proofs.Common.{◌≡◌, ℕ, ◌+◌, ◌<◌, ◌≤◌, List, [], ◌∷◌, ◌++◌, fold, map, length, get_or, take, drop, refl, sym, subst, ap, ◌∙◌, arith, length-append, All, ◌^◌, ◌%◌, ◌==◌}
-use Rattle.std.proofs.Math.ListN.{get_or-append}
-use Rattle.std.proofs.Math.Seq.{get_or-append_seam}
-use Rattle.std.proofs.Math.Nat.{mod-lt}
-use Rattle.std.proofs.lemmas.Nat.{pow_pos}
-use Rattle.std.proofs.lemmas.List.{take-append-drop, take_more, length-take-le}
-use Rattle.std.proofs.lemmas.List.Sums.{fold-append}
-use Rattle.std.proofs.lemmas.List.Elements.{All-head, All-tail}
-use Rattle.kp_bits.specs.Word.{IsWord}
+use Rattle.std.proofs.{Math.ListN.get_or-append, Math.Seq.get_or-append_seam, Math.Nat.mod-lt, lemmas.Nat.pow_pos}
+use Rattle.std.proofs.lemmas.List.{take-append-drop, take_more, length-take-le, Sums.fold-append, Elements.All-head, Elements.All-tail}
+use Rattle.kp_bits.specs.{Word.IsWord, Operators.no_word, Operators.binary_of, Operators.joined_of}
 use Rattle.kp_bits.specs.Word as bits
-use Rattle.kp_bits.specs.Operators.{no_word, binary_of, joined_of}
-use Rattle.kp_net.specs.declared.node.NodeId.{NodeId}
-use Rattle.kp_net.specs.declared.node.Kind.{Kind}
+use Rattle.kp_net.specs.declared.node.{NodeId.NodeId, Kind.Kind}
 use Rattle.kp_net.specs.declared.node.Kind.TheVariants.{Const, Ext, Sample, Reg, Word, Not, Binary, Mux, Concat, Slice}
 use Rattle.kp_net.specs.declared.node.Node.{Node}
 use Rattle.kp_net.specs.Nodes.{Cells, Words, word_of_kind, word_of_node, words_more, words_of, word_at, at, on}

@@ -2,8 +2,7 @@
 use Rattle.std.specs.Prelude.{ℕ, ◌+◌, ◌≤◌, max, List, [], ◌∷◌, ◌++◌, fold, map, get_or}
 use Rattle.kp_net.specs.declared.node.Kind.{Kind}
 use Rattle.kp_net.specs.declared.node.Kind.TheVariants.{Const, Ext, Sample, Reg, Word, Not, Binary, Mux, Concat, Slice}
-use Rattle.kp_net.specs.declared.node.Node.{Node}
-use Rattle.kp_net.specs.declared.node.NodeId.{NodeId}
+use Rattle.kp_net.specs.declared.node.{Node.Node, NodeId.NodeId}
 
 -- the depth of a node of this kind, given the depths d of the nodes before it
 abbrev pub depth_of : (ℕ → ℕ) → Kind → ℕ

@@ -1,12 +1,10 @@
 -- Which nodes are foldable: an operand has their value already, or they are constant.
 use Rattle.std.specs.Prelude.{ℕ, ◌-◌, ◌^◌, ◌<◌, ◌≡◌, ◌==◌, ◌&&◌, ◌||◌, nat_le, Bool, true, false, List, length, get_or}
 use Rattle.std.specs.List.{list_all}
-use Rattle.kp_bits.specs.declared.operator.BinOp.{BinOp}
-use Rattle.kp_bits.specs.Operators.{is_shift}
+use Rattle.kp_bits.specs.{declared.operator.BinOp.BinOp, Operators.is_shift}
 use Rattle.kp_net.specs.declared.node.Kind.{Kind}
 use Rattle.kp_net.specs.declared.node.Kind.TheVariants.{Const, Ext, Sample, Reg, Word, Not, Binary, Mux, Concat, Slice}
-use Rattle.kp_net.specs.declared.node.Node.{Node}
-use Rattle.kp_net.specs.Widths.{no_node}
+use Rattle.kp_net.specs.{declared.node.Node.Node, Widths.no_node}
 
 abbrev pub is_const : Kind → Bool
 is_const (Const n) = true

@@ -1,8 +1,6 @@
 -- A pool of nodes, and what calls preserve while it grows.
 use Rattle.std.specs.Prelude.{ℕ, ◌+◌, ◌<◌, ◌≤◌, ◌≡◌, ◌⊎◌, false, List, length, get_or}
-use Rattle.kp_net.specs.declared.node.NodeId.{NodeId}
-use Rattle.kp_net.specs.declared.node.Node.{Node}
-use Rattle.kp_net.specs.Nodes.{Cells, word_at, at, on}
+use Rattle.kp_net.specs.{declared.node.NodeId.NodeId, declared.node.Node.Node, Nodes.Cells, Nodes.word_at, Nodes.at, Nodes.on}
 use Rattle.kp_net.specs.Widths.{wide, no_node, is_cell}
 
 -- the nodes of a pool, and how many more it has capacity for

@@ -2,8 +2,7 @@
 use Rattle.std.specs.Prelude.{ℕ, ◌==◌, ◌≤◌, ◌≡◌, nat_eq, List, [], ◌∷◌, length, map, All, Bool, true, false, ◌||◌, ◌&&◌}
 use Rattle.std.specs.Cmp.Lexicographic.{pointwise}
 use Rattle.kp_base.specs.Characters.{is_word}
-use Rattle.kp_net.specs.Netlist.{Net}
-use Rattle.kp_net.specs.Widths.{wide}
+use Rattle.kp_net.specs.{Netlist.Net, Widths.wide}
 
 -- the bytes of an identifier after the first: letters, digits, `_` and `$`
 abbrev pub is_in_identifier : ℕ → Bool

@@ -2,10 +2,7 @@
 use Rattle.std.specs.Prelude.{ℕ, Bool, false, ◌&&◌, if◌then◌else◌, List, [], ◌∷◌, map, get_or, set, Option, None, Some, fold}
 use Rattle.std.specs.List.{zip}
 use Rattle.kp_base.specs.declared.row.Row.{Row}
-use Rattle.kp_net.specs.declared.node.Node.{Node}
-use Rattle.kp_net.specs.declared.netlist.WritePort.{WritePort}
-use Rattle.kp_net.specs.declared.netlist.Parts.{Parts}
-use Rattle.kp_net.specs.Nodes.{Cells, at, on}
+use Rattle.kp_net.specs.{declared.node.Node.Node, declared.netlist.WritePort.WritePort, declared.netlist.Parts.Parts, Nodes.Cells, Nodes.at, Nodes.on}
 
 -- the nodes, and all other parts
 pub record Net : Type 0 where

@@ -1,7 +1,6 @@
 -- The meaning of a list of nodes: the word of each node in one cycle.
 use Rattle.std.specs.Prelude.{ℕ, ◌%◌, ◌^◌, ◌==◌, Bool, List, [], ◌∷◌, ◌++◌, fold, map, get_or}
-use Rattle.kp_bits.specs.Word.{word, not_of, mux_of, slice_of}
-use Rattle.kp_bits.specs.Operators.{binary_of, joined_of, no_word}
+use Rattle.kp_bits.specs.{Word.word, Word.not_of, Word.mux_of, Word.slice_of, Operators.binary_of, Operators.joined_of, Operators.no_word}
 use Rattle.kp_net.specs.declared.node.Kind.{Kind}
 use Rattle.kp_net.specs.declared.node.Kind.TheVariants.{Const, Ext, Sample, Reg, Word, Not, Binary, Mux, Concat, Slice}
 use Rattle.kp_net.specs.declared.node.Node.{Node}

@@ -1,6 +1,5 @@
 -- When two nodes are the same: they have the same number.
-use Rattle.std.specs.Prelude.{ℕ, Bool, nat_eq}
-use Rattle.std.specs.Ordering.{on}
+use Rattle.std.specs.{Prelude.ℕ, Prelude.Bool, Prelude.nat_eq, Ordering.on}
 use Rattle.kp_net.specs.declared.node.NodeId.{NodeId}
 
 abbrev pub number_of : NodeId → ℕ

@@ -1,17 +1,9 @@
 -- Which netlists are well-formed: each reference is to an existing part, and the widths fit.
 use Rattle.std.specs.Prelude.{ℕ, ◌^◌, ◌<◌, ◌≤◌, ◌≡◌, List, [], length, get_or, All, Option, None, Some}
 use Rattle.kp_bits.specs.Word.{IsWord}
-use Rattle.kp_net.specs.declared.node.NodeId.{NodeId}
-use Rattle.kp_net.specs.declared.node.Kind.{Kind}
-use Rattle.kp_net.specs.declared.node.Kind.TheVariants.{Ext, Sample, Reg, Word}
-use Rattle.kp_net.specs.declared.node.Node.{Node}
-use Rattle.kp_net.specs.declared.netlist.Port.{Port}
-use Rattle.kp_net.specs.declared.netlist.WritePort.{WritePort}
-use Rattle.kp_net.specs.declared.netlist.NetReg.{NetReg}
-use Rattle.kp_net.specs.declared.netlist.NetFile.{NetFile}
-use Rattle.kp_net.specs.declared.netlist.Parts.{Parts}
-use Rattle.kp_net.specs.Netlist.{Net}
-use Rattle.kp_net.specs.Widths.{wide, no_node, AllRight}
+use Rattle.kp_net.specs.declared.node.{NodeId.NodeId, Kind.Kind, Kind.TheVariants.Ext, Kind.TheVariants.Sample, Kind.TheVariants.Reg, Kind.TheVariants.Word}
+use Rattle.kp_net.specs.declared.{node.Node.Node, netlist.Port.Port, netlist.WritePort.WritePort, netlist.NetReg.NetReg, netlist.NetFile.NetFile}
+use Rattle.kp_net.specs.{declared.netlist.Parts.Parts, Netlist.Net, Widths.wide, Widths.no_node, Widths.AllRight}
 
 -- node a is in the list and has k bits
 abbrev pub NodeIs : List Node → NodeId → ℕ → Type 0

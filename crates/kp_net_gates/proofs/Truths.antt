@@ -2,9 +2,7 @@
 use Rattle.std.proofs.Common.{◌≡◌, ℕ, Bool, ◌-◌, ◌<◌, ◌≤◌, ◌^◌, ◌&&◌, ◌||◌, ◌==◌, not, true, false, cond, refl, subst, ap, ◌∙◌, arith, ⊎_elim, bit_and, bit_or}
 use Rattle.std.proofs.lemmas.Bool.{cases_lt}
 use Rattle.kp_bits.specs.Word as bits
-use Rattle.kp_net.specs.declared.node.NodeId.{NodeId}
-use Rattle.kp_net.specs.Nodes.{Cells, at, word_at}
-use Rattle.kp_net.specs.Growth.{Held, Wire}
+use Rattle.kp_net.specs.{declared.node.NodeId.NodeId, Nodes.Cells, Nodes.at, Nodes.word_at, Growth.Held, Growth.Wire}
 use Rattle.kp_net.proofs.Values.{at_fits, word_wide}
 
 -- a number below 2

@@ -2,14 +2,12 @@
 use Rattle.std.proofs.Common.{◌≡◌, ◌∙◌, ℕ, zero, suc, ◌+◌, ◌<◌, ◌≤◌, ◌^◌, List, [], ◌∷◌, ◌++◌, length, get_or, drop, refl, ap, ap₂, sym, subst, arith, None}
 use Rattle.std.proofs.lemmas.List.{drop-drop}
 use Rattle.kp_bits.specs.Word.{word}
-use Rattle.kp_ast.specs.declared.tree.Decl.{Decl}
+use Rattle.kp_ast.specs.declared.tree.{Decl.Decl, Job.Job}
 use Rattle.kp_ast.specs.declared.tree.Decl.TheVariants as decls
-use Rattle.kp_ast.specs.declared.tree.Job.{Job}
 use Rattle.kp_debug_report.specs.Inspecting.{at_line}
 use Rattle.kp_machine.specs.Slots.{Slot, targets_of}
 use Rattle.kp_seq.specs.Running.{HasWord, no_slot}
-use Rattle.kp_tool_report.specs.States.{State}
-use Rattle.kp_tool_report.specs.Texts.{register_line}
+use Rattle.kp_tool_report.specs.{States.State, Texts.register_line}
 use Rattle.kp_page.specs.States.{change_line, changes_of_words, change_lines, earlier, recorded_in, recorded_from, recorded}
 
 words_alike : (name : List ℕ) (width : ℕ) (o p f g : ℕ → ℕ) (address n : ℕ) → ((a : ℕ) → a < address + n → o a ≡ p a) → ((a : ℕ) → a < address + n → f a ≡ g a)

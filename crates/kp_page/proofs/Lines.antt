@@ -1,19 +1,15 @@
 -- The steps of the loops that write the states.
 use Rattle.std.proofs.Common.{◌≡◌, ◌∙◌, ℕ, suc, ◌+◌, ◌-◌, ◌<◌, ◌≤◌, List, [], ◌∷◌, ◌++◌, length, get_or, drop, ap, ap₂, sym, subst, arith}
 use Rattle.std.proofs.lemmas.List.{drop_more}
-use Rattle.std.specs.declared.option.Option.{Option}
-use Rattle.std.specs.declared.result.Result.{Result}
-use Rattle.std.specs.Io.KnownBytes.{Appends}
+use Rattle.std.specs.{declared.option.Option.Option, declared.result.Result.Result, Io.KnownBytes.Appends}
 use Rattle.kp_base.specs.Bytes.{AppendsPart, Writes}
-use Rattle.kp_ast.specs.declared.tree.Decl.{Decl}
-use Rattle.kp_ast.specs.declared.tree.Job.{Job}
+use Rattle.kp_ast.specs.declared.tree.{Decl.Decl, Job.Job}
 use Rattle.kp_cycle.specs.Steps.{Running}
 use Rattle.kp_debug_report.specs.Inspecting.{at_line}
 use Rattle.kp_net.specs.Netlist.{Net}
 use Rattle.kp_tool_report.specs.States.{State, targets_in}
 use Rattle.kp_page.specs.States.{change_line, changes_of_words, changes_of, change_lines, all_zero, earlier, recorded_in, recorded_from}
-use Rattle.kp_page.specs.Runs.{after_cycles}
-use Rattle.kp_page.specs.inner.Seen.{seen, states_of}
+use Rattle.kp_page.specs.{Runs.after_cycles, inner.Seen.seen, inner.Seen.states_of}
 
 module _ (name : List ℕ) (width : ℕ) (old new : ℕ → ℕ) (address count : ℕ) where
   pub words_next : address < count → changes_of_words name width old new address (count - address)

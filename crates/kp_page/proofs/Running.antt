@@ -8,11 +8,8 @@ use Rattle.kp_run.specs.Cycles.{inputs_to}
 use Rattle.kp_run.proofs.Prefixes.{rows_many, state_is}
 use Rattle.kp_sched.proofs.Counting.{seen_length}
 use Rattle.kp_seq.specs.Running.{HasWord}
-use Rattle.kp_synth_spec.specs.Naming.{value_shown}
-use Rattle.kp_synth_spec.specs.Shows.{Shows}
-use Rattle.kp_synth_spec.specs.Traces.{trace_of, inputs_seen, AreQuiet}
-use Rattle.kp_page.specs.States.{recorded, states_text}
-use Rattle.kp_page.specs.inner.Seen.{states_of}
+use Rattle.kp_synth_spec.specs.{Naming.value_shown, Shows.Shows, Traces.trace_of, Traces.inputs_seen, Traces.AreQuiet}
+use Rattle.kp_page.specs.{States.recorded, States.states_text, inner.Seen.states_of}
 use Rattle.kp_page.proofs.Alike.{recorded_alike}
 
 module _ (job : Job) (net : Net) (n : ℕ) (shows : Shows net job)

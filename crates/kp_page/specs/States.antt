@@ -1,12 +1,10 @@
 -- WHAT IS RECORDED of a run: for each cycle its number, the registers, and the words of files that differ from the cycle before.
 use Rattle.std.specs.Prelude.{ℕ, zero, suc, ◌+◌, ◌^◌, ◌==◌, List, [], ◌∷◌, ◌++◌, if◌then◌else◌, None}
 use Rattle.kp_bits.specs.Word.{word}
-use Rattle.kp_ast.specs.declared.tree.Decl.{Decl}
+use Rattle.kp_ast.specs.declared.tree.{Decl.Decl, Job.Job}
 use Rattle.kp_ast.specs.declared.tree.Decl.TheVariants as decls
-use Rattle.kp_ast.specs.declared.tree.Job.{Job}
 use Rattle.kp_machine.specs.Machine.{pipe_of, inputs_from}
-use Rattle.kp_tool_report.specs.States.{State, targets_in}
-use Rattle.kp_tool_report.specs.Texts.{register_line, word_line}
+use Rattle.kp_tool_report.specs.{States.State, States.targets_in, Texts.register_line, Texts.word_line}
 use Rattle.kp_debug_report.specs.Inspecting.{at_line}
 
 -- A word of a file has a line where it differs from an earlier value.

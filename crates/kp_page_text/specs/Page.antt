@@ -1,8 +1,7 @@
 -- THE PAGE of a run, as one self-contained HTML file.
 use Rattle.std.specs.Prelude.{ℕ, zero, suc, ◌+◌, ◌==◌, List, [], ◌∷◌, ◌++◌, flat_map, codes, if◌then◌else◌}
 use Rattle.kp_pipeline.specs.Rows.{Row}
-use Rattle.kp_diagram_text.specs.Figures.{Figure}
-use Rattle.kp_diagram_text.specs.Text.{stage_name}
+use Rattle.kp_diagram_text.specs.{Figures.Figure, Text.stage_name}
 use Rattle.kp_diagram_svg.specs.Picture.{picture}
 use Rattle.kp_page_text.specs.declared.texts.TheConstants.{FRONT, BEFORE_SOURCE, BEFORE_DIAGRAM, BEFORE_PATHS, BEFORE_STAGES, BEFORE_STATES, END}
 

@@ -2,20 +2,14 @@
 use Rattle.std.proofs.Common.{ℕ, ◌≡◌, List, [], ◌∷◌, length, drop, true, Ok, All, refl, ap}
 use Rattle.std.proofs.lemmas.List.Elements.{All-weaker}
 use Rattle.kp_base.specs.declared.place.Place.{Place}
-use Rattle.kp_ast.specs.Name.{IsName}
-use Rattle.kp_ast.specs.declared.tree.Job.{Job}
-use Rattle.kp_grammar.specs.Grammar.{IsLimit}
-use Rattle.kp_grammar.specs.Machine.{Accepts, Stops, Exceeds}
+use Rattle.kp_ast.specs.{Name.IsName, declared.tree.Job.Job}
+use Rattle.kp_grammar.specs.{Grammar.IsLimit, Machine.Accepts, Machine.Stops, Machine.Exceeds}
 use Rattle.kp_grammar.proofs.Laws.{sentence, one_state, wrong_at, within_stop, over_at, over_ends}
-use Rattle.kp_lex.specs.declared.token.Token.{Token}
-use Rattle.kp_lex.specs.declared.token.Lexed.{Lexed}
-use Rattle.kp_lex.specs.Text.{HasOutcome, StandsIn, IsIdentifier}
-use Rattle.kp_lex.proofs.Stands.{tokens_stand}
-use Rattle.kp_lex.proofs.Names.{name_is_identifier}
+use Rattle.kp_lex.specs.{declared.token.Token.Token, declared.token.Lexed.Lexed, Text.HasOutcome, Text.StandsIn, Text.IsIdentifier}
+use Rattle.kp_lex.proofs.{Stands.tokens_stand, Names.name_is_identifier}
 use Rattle.kp_parse_grammar.specs.Tokens.{Lexeme, IsSpelled, lexemes}
 use Rattle.kp_parse_grammar.specs.Language.{State, Way, JOB, job, language, at, is_over}
-use Rattle.kp_parse_grammar.specs.inner.Follow.{tables}
-use Rattle.kp_parse_grammar.specs.Reading.{JobGoes}
+use Rattle.kp_parse_grammar.specs.{inner.Follow.tables, Reading.JobGoes}
 use Rattle.kp_parse.specs.Sentence.{IsTree, IsWrong, IsTooDeep, place_from}
 use Rattle.kp_parse_grammar.proofs.Predictive.{is_predictive}
 

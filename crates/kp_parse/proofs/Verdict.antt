@@ -4,17 +4,13 @@ use Rattle.std.proofs.lemmas.List.{length-drop}
 use Rattle.kp_base.specs.declared.refusal.Refusal.{Refusal}
 use Rattle.kp_ast.specs.declared.tree.Job.{Job}
 use Rattle.kp_grammar.specs.Machine.{Outcome, Accepts, Stops, Exceeds, Leads, accept, more, goes, take, make, wrong, lost, exceed}
-use Rattle.kp_grammar.proofs.Check.{decides}
-use Rattle.kp_grammar.proofs.Ends.{ends}
+use Rattle.kp_grammar.proofs.{Check.decides, Ends.ends}
 use Rattle.kp_lex.specs.declared.token.Token.{Token}
 use Rattle.kp_parse_grammar.specs.Tokens.{Lexeme, lexemes}
 use Rattle.kp_parse_grammar.specs.Language.{JOB, Sym, State, language, rules, at, is_over}
-use Rattle.kp_parse_grammar.specs.inner.Follow.{tables}
-use Rattle.kp_parse_grammar.specs.Reading.{JobGoes}
+use Rattle.kp_parse_grammar.specs.{inner.Follow.tables, Reading.JobGoes}
 use Rattle.kp_parse.specs.Sentence.{IsTree, Breaks}
-use Rattle.kp_parse_grammar.proofs.Predictive.{is_predictive}
-use Rattle.kp_parse_grammar.proofs.Ranked.{rank, is_ranked}
-use Rattle.kp_parse_grammar.proofs.Shapes.{reads_job}
+use Rattle.kp_parse_grammar.proofs.{Predictive.is_predictive, Ranked.rank, Ranked.is_ranked, Shapes.reads_job}
 use Rattle.kp_parse.proofs.Text.{is_tree, is_wrong, is_too_deep}
 
 -- the number of tokens that are left where reading ends

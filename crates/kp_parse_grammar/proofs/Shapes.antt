@@ -2,26 +2,15 @@
 use Rattle.std.proofs.Common.{ℕ, zero, suc, ◌≡◌, List, [], ◌∷◌, ◌++◌, Bool, false, Option, refl, ap, ◌∙◌}
 use Rattle.kp_base.specs.declared.place.Place.{Place}
 use Rattle.kp_bits.specs.declared.operator.BinOp.{BinOp}
-use Rattle.kp_ast.specs.declared.tree.Named.{Named}
-use Rattle.kp_ast.specs.declared.tree.Num.{Num}
-use Rattle.kp_ast.specs.declared.tree.Lit.{Lit}
-use Rattle.kp_ast.specs.declared.tree.Expr.{Expr}
-use Rattle.kp_ast.specs.declared.tree.Stmt.{Stmt}
-use Rattle.kp_ast.specs.declared.tree.Block.{Block}
-use Rattle.kp_ast.specs.declared.tree.Param.{Param}
-use Rattle.kp_ast.specs.declared.tree.Decl.{Decl}
-use Rattle.kp_ast.specs.declared.tree.Image.{Image}
-use Rattle.kp_ast.specs.declared.tree.Stalls.{Stalls}
-use Rattle.kp_ast.specs.declared.tree.Inputs.{Inputs}
-use Rattle.kp_ast.specs.declared.tree.Job.{Job}
+use Rattle.kp_ast.specs.declared.tree.{Named.Named, Num.Num, Lit.Lit, Expr.Expr, Stmt.Stmt, Block.Block, Param.Param, Decl.Decl, Image.Image, Stalls.Stalls}
+use Rattle.kp_ast.specs.declared.tree.{Inputs.Inputs, Job.Job}
 use Rattle.kp_grammar.specs.Grammar.{Terminal, Nonterminal, Action, alternatives, Has, here, there}
 use Rattle.kp_grammar.specs.Machine.{Outcome, Accepts, Leads, accept, more, goes, take, make, wrong, lost, exceed}
 use Rattle.kp_grammar.proofs.Check.{picks_rule}
 use Rattle.kp_parse_grammar.specs.declared.level.Level.TheVariants as levels
-use Rattle.kp_parse_grammar.specs.Tokens.{Lexeme}
 use Rattle.kp_parse_grammar.specs.Language.{Value, Way, Step, State, Sym, language, rules, counts_read, values_read, counts_built, values_built, at, is_over}
+use Rattle.kp_parse_grammar.specs.{Tokens.Lexeme, inner.Follow.tables}
 use Rattle.kp_parse_grammar.specs.Language as l
-use Rattle.kp_parse_grammar.specs.inner.Follow.{tables}
 
 -- the kinds of values
 data Ty : Type 0 where

@@ -5,13 +5,11 @@ use Rattle.kp_base.specs.declared.place.Place.{Place}
 use Rattle.kp_grammar.specs.Grammar.{Terminal, Nonterminal}
 use Rattle.kp_grammar.specs.Machine.{Outcome, Accepts, Stops, Exceeds, accept, more}
 use Rattle.kp_grammar.proofs.Ways.{took, exceeded}
-use Rattle.kp_parse_grammar.specs.declared.fault.Fault.{Fault}
-use Rattle.kp_parse_grammar.specs.declared.fault.Fault.TheVariants as faults
-use Rattle.kp_parse_grammar.specs.Tokens.{Lexeme}
 use Rattle.kp_parse_grammar.specs.Language.{Sym, State, Value, Way, place, dropped, as_place, counts_one, opens, opens_at, closes, separates, language, EXPRS, at, is_over}
-use Rattle.kp_parse_grammar.specs.inner.Follow.{tables}
+use Rattle.kp_parse_grammar.specs.{declared.fault.Fault.Fault, Tokens.Lexeme, inner.Follow.tables}
 use Rattle.kp_parse_grammar.specs.Reading.{Goes, Finds, FaultIs, Misses, Ends, Fails, FailsList, Follows, JobGoes}
 use Rattle.kp_parse_grammar.specs.inner.Stretch.{FailsAll, EndsAll}
+use Rattle.kp_parse_grammar.specs.declared.fault.Fault.TheVariants as faults
 
 fits : (c : ℕ) → c < 64 → nat_lt 64 (c + 1) ≡ false
 fits c h = le-ltb 64 (c + 1) (omega arith)

@@ -1,16 +1,11 @@
 -- The token at an index.
 use Rattle.std.proofs.Common.{ℕ, suc, ◌≡◌, ◌==◌, ◌<◌, ◌≤◌, ◌+◌, ◌-◌, List, [], ◌∷◌, length, drop, take, map, true, false, refl, sym, ap, ◌∙◌, arith}
-use Rattle.std.proofs.lemmas.Bool.{eqb-true}
-use Rattle.std.proofs.lemmas.List.{drop_more, drop-map}
+use Rattle.std.proofs.lemmas.{Bool.eqb-true, List.drop_more, List.drop-map}
 use Rattle.std.specs.Prelude.{slice_index_or}
-use Rattle.kp_grammar.specs.Grammar.{Terminal}
-use Rattle.kp_grammar.specs.Machine.{Stops, look, wrong}
-use Rattle.kp_lex.specs.declared.token.Token.{Token}
-use Rattle.kp_lex.specs.declared.token.Keyword.{Keyword}
+use Rattle.kp_grammar.specs.{Grammar.Terminal, Machine.Stops, Machine.look, Machine.wrong}
+use Rattle.kp_lex.specs.declared.token.{Token.Token, Keyword.Keyword, Mark.Mark, TokenKind.TokenKind}
 use Rattle.kp_lex.specs.declared.token.Keyword.TheVariants as keywords
-use Rattle.kp_lex.specs.declared.token.Mark.{Mark}
 use Rattle.kp_lex.specs.declared.token.Mark.TheVariants as marks
-use Rattle.kp_lex.specs.declared.token.TokenKind.{TokenKind}
 use Rattle.kp_lex.specs.declared.token.TokenKind.TheVariants as kinds
 use Rattle.kp_bits.specs.declared.literal.Literal.{Literal}
 use Rattle.kp_grammar.proofs.Ways.{took}

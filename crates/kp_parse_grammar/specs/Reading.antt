@@ -2,15 +2,13 @@
 use Rattle.std.specs.Prelude.{ℕ, ◌+◌, ◌≤◌, ◌≡◌, List, [], ◌∷◌, ◌++◌, length, drop, Option, None, Some}
 use Rattle.kp_base.specs.declared.place.Place.{Place}
 use Rattle.kp_ast.specs.declared.tree.Expr.{Expr}
-use Rattle.kp_grammar.specs.Grammar.{Terminal, Nonterminal}
-use Rattle.kp_grammar.specs.Tables.{END_OF_TEXT}
+use Rattle.kp_grammar.specs.{Grammar.Terminal, Grammar.Nonterminal, Tables.END_OF_TEXT}
 use Rattle.kp_grammar.specs.Machine.{Outcome, Stops, Exceeds, Leads, look}
 use Rattle.kp_lex.specs.declared.token.TokenKind.{TokenKind}
-use Rattle.kp_parse_grammar.specs.declared.fault.Fault.{Fault}
-use Rattle.kp_parse_grammar.specs.declared.fault.Fault.TheVariants as faults
-use Rattle.kp_parse_grammar.specs.Tokens.{Lexeme, kind_class}
+use Rattle.kp_parse_grammar.specs.{declared.fault.Fault.Fault, Tokens.Lexeme, Tokens.kind_class}
 use Rattle.kp_parse_grammar.specs.Language.{Sym, State, Value, Way, at, is_over, exprs, language, EXPRS, PARTS, JOB}
 use Rattle.kp_parse_grammar.specs.inner.Follow.{tables}
+use Rattle.kp_parse_grammar.specs.declared.fault.Fault.TheVariants as faults
 
 abbrev pub Goes : List Sym → State → List Lexeme → Outcome State → Type 0
 Goes s v ts o = Leads language is_over tables s v ts o

@@ -1,18 +1,12 @@
 -- What the grammar sees of a token: its kind, its position, and its bytes.
 use Rattle.std.specs.Prelude.{ℕ, ◌+◌, ◌≤◌, ◌≡◌, List, map, take, drop, length}
 use Rattle.kp_base.specs.declared.place.Place.{Place}
-use Rattle.kp_ast.specs.Name.{IsName}
-use Rattle.kp_ast.specs.declared.tree.Named.{Named}
-use Rattle.kp_ast.specs.declared.tree.Num.{Num}
-use Rattle.kp_ast.specs.declared.tree.Lit.{Lit}
+use Rattle.kp_ast.specs.{Name.IsName, declared.tree.Named.Named, declared.tree.Num.Num, declared.tree.Lit.Lit}
 use Rattle.kp_bits.specs.declared.literal.Literal.{Literal}
-use Rattle.kp_lex.specs.declared.token.Keyword.{Keyword}
+use Rattle.kp_lex.specs.declared.token.{Keyword.Keyword, Mark.Mark, TokenKind.TokenKind, Token.Token}
 use Rattle.kp_lex.specs.declared.token.Keyword.TheVariants as keywords
-use Rattle.kp_lex.specs.declared.token.Mark.{Mark}
 use Rattle.kp_lex.specs.declared.token.Mark.TheVariants as marks
-use Rattle.kp_lex.specs.declared.token.TokenKind.{TokenKind}
 use Rattle.kp_lex.specs.declared.token.TokenKind.TheVariants as kinds
-use Rattle.kp_lex.specs.declared.token.Token.{Token}
 
 -- a token with its bytes
 pub record Lexeme : Type 0 where

@@ -1,22 +1,16 @@
 -- WHAT THE CELLS SAY.
 use Rattle.std.proofs.Common.{◌≡◌, ◌∙◌, ◌⊎◌, ℕ, ◌<◌, Bool, true, false, ◌||◌, ◌&&◌, not, eqb, inl, inr, refl, sym, ⊎_elim, arith, eq-eqb}
-use Rattle.std.specs.Prelude.{is_some, nat_lt, if◌then◌else◌}
-use Rattle.std.specs.List.{list_any}
 use Rattle.std.proofs.lemmas.Bool.{and_from, and_parts, both_ways, eqb-true, lt-ltb, or_cases, or_parts}
-use Rattle.kp_ast.specs.declared.tree.ReadStmt.{ReadStmt}
-use Rattle.kp_ast.specs.declared.tree.Job.{Job}
-use Rattle.kp_pipeline.specs.Machine.{Machine}
-use Rattle.kp_pipeline.specs.Nearest.{IsNearestHit}
-use Rattle.kp_pipeline.specs.Pipeline.{PipelineState, hits, intent_known, is_candidate}
+use Rattle.std.specs.{Prelude.is_some, Prelude.nat_lt, Prelude.if◌then◌else◌, List.list_any}
+use Rattle.kp_ast.specs.declared.tree.{ReadStmt.ReadStmt, Job.Job}
+use Rattle.kp_pipeline.specs.{Machine.Machine, Nearest.IsNearestHit, Pipeline.PipelineState, Pipeline.hits, Pipeline.intent_known, Pipeline.is_candidate}
 use Rattle.kp_pipeline.proofs.Nearest.{nearest-forwarded}
 use Rattle.kp_machine.specs.Machine.{machine_of}
 use Rattle.kp_paths.specs.declared.cell.Cell.{Cell}
 use Rattle.kp_paths.specs.declared.cell.Cell.TheVariants.{Reads, Empty, Wait, Guess, Maybe, Bypass}
-use Rattle.kp_paths.specs.Cells.{unmet}
-use Rattle.kp_paths.specs.Claims.{ArePaths, HasNoValue, HasValue, state_at}
+use Rattle.kp_paths.specs.{Cells.unmet, Claims.ArePaths, Claims.HasNoValue, Claims.HasValue, Claims.state_at}
 use Rattle.kp_paths.specs.Table.{cell_at, is_set_by, is_surely_set_by, sets_of, target_read}
-use Rattle.kp_paths.proofs.Setting.{sets_always, sets_never}
-use Rattle.kp_paths.proofs.Valid.{gives, gives_none, hits_all}
+use Rattle.kp_paths.proofs.{Setting.sets_always, Setting.sets_never, Valid.gives, Valid.gives_none, Valid.hits_all}
 
 -- a cell from its tests
 abbrev picked : (own inside known had set guessed : Bool) → Cell

@@ -1,13 +1,9 @@
 -- The set of a result that is named.
 use Rattle.std.proofs.Common.{◌≡◌, ℕ, List, Option, Some, None, refl}
-use Rattle.std.specs.Prelude.{is_none}
-use Rattle.std.specs.Option.{option_map}
-use Rattle.kp_ast.specs.declared.tree.Expr.{Expr}
-use Rattle.kp_ast.specs.declared.tree.Decl.{Decl}
-use Rattle.kp_ast.specs.declared.tree.ResultDecl.{ResultDecl}
+use Rattle.std.specs.{Prelude.is_none, Option.option_map}
+use Rattle.kp_ast.specs.declared.tree.{Expr.Expr, Decl.Decl, ResultDecl.ResultDecl}
 use Rattle.kp_machine.specs.Slots.{number_of, result_named, targets_of}
-use Rattle.kp_paths.specs.Table.{placed}
-use Rattle.kp_paths.specs.inner.Named.{number_named, placed_at}
+use Rattle.kp_paths.specs.{Table.placed, inner.Named.number_named, inner.Named.placed_at}
 
 one_same : (ds : List Decl) (k : ℕ) (when : Option Expr) (o : Option ResultDecl)
     → placed_at k (is_none when) (option_map (λ (r : ResultDecl). number_of (targets_of ds) r.target.name) o) ≡ placed ds k when o

@@ -1,25 +1,15 @@
 -- How a target is written, from the tables of its design.
 use Rattle.std.proofs.Common.{◌≡◌, ◌∙◌, ℕ, ◌≤◌, Bool, true, false, not, ◌&&◌, eqb, List, length, Option, Some, None, refl, ap, sym, subst, arith}
-use Rattle.std.specs.List.{list_any}
-use Rattle.std.specs.Prelude.{nat_lt, if◌then◌else◌, is_some}
-use Rattle.kp_ast.specs.declared.tree.Decl.{Decl}
-use Rattle.kp_ast.specs.declared.tree.ReadStmt.{ReadStmt}
-use Rattle.kp_ast.specs.declared.tree.ResultDecl.{ResultDecl}
-use Rattle.kp_ast.specs.declared.tree.Job.{Job}
+use Rattle.std.specs.{List.list_any, Prelude.nat_lt, Prelude.if◌then◌else◌, Prelude.is_some}
+use Rattle.kp_ast.specs.declared.tree.{Decl.Decl, ReadStmt.ReadStmt, ResultDecl.ResultDecl, Job.Job}
 use Rattle.kp_width.specs.Widths.{widths_of}
 use Rattle.kp_width.proofs.Unbroken.{Unbroken}
 use Rattle.kp_stage.specs.Design.{IsSound, Plan}
-use Rattle.kp_machine.specs.Slots.{number_of, targets_of}
-use Rattle.kp_machine.specs.Machine.{machine_of, result_for}
-use Rattle.kp_machine.proofs.Cases.{by_option}
-use Rattle.kp_machine.proofs.Placing.{result_placed, stands}
-use Rattle.kp_synth_tables.specs.declared.layout.Port.{Port}
-use Rattle.kp_synth_tables.specs.Fits.{port_at, port_for}
-use Rattle.kp_paths.specs.declared.cell.Cell.{Cell}
-use Rattle.kp_paths.specs.declared.cell.Cell.TheVariants.{Reads, Empty}
-use Rattle.kp_paths.specs.Cells.{cell_of}
-use Rattle.kp_paths.specs.declared.sets.Placed.{Placed}
-use Rattle.kp_paths.specs.Table.{cell_at, is_set_by, is_surely_set_by, sets_of, target_read}
+use Rattle.kp_machine.specs.{Slots.number_of, Slots.targets_of, Machine.machine_of, Machine.result_for}
+use Rattle.kp_machine.proofs.{Cases.by_option, Placing.result_placed, Placing.stands}
+use Rattle.kp_synth_tables.specs.{declared.layout.Port.Port, Fits.port_at, Fits.port_for}
+use Rattle.kp_paths.specs.{declared.cell.Cell.Cell, declared.cell.Cell.TheVariants.Reads, declared.cell.Cell.TheVariants.Empty, Cells.cell_of}
+use Rattle.kp_paths.specs.{declared.sets.Placed.Placed, Table.cell_at, Table.is_set_by, Table.is_surely_set_by, Table.sets_of, Table.target_read}
 use Rattle.kp_paths.specs.inner.Ported.{cell_by}
 
 empty_cell : (own later : Bool) (rest : Cell) → (if own then Reads else Empty) ≡ (if own then Reads else (if not (later && false) then Empty else rest))

@@ -1,25 +1,14 @@
 -- THE STAGES OF A JOB: a block with a set that has no condition always sets the result, and one without a set never does.
 use Rattle.std.proofs.Common.{◌≡◌, ◌∙◌, ℕ, zero, suc, ◌+◌, ◌≤◌, Bool, true, false, ◌||◌, ◌&&◌, eqb, List, [], ◌∷◌, Option, Some, None, refl, ap, sym, subst, ⊎_elim, arith, eq-eqb}
-use Rattle.std.specs.Prelude.{is_none, is_some, nat_le, slice_get, if◌then◌else◌}
-use Rattle.std.specs.List.{list_any}
 use Rattle.std.proofs.lemmas.Bool.{and_from, and_parts, cond_both, eqb-true, false_from_ne_true, leb-true, le-leb, or_cases, or_parts}
 use Rattle.std.proofs.lemmas.List.Folds.{list_any-append}
-use Rattle.kp_ast.specs.declared.tree.Expr.{Expr}
-use Rattle.kp_ast.specs.declared.tree.ReadStmt.{ReadStmt}
-use Rattle.kp_ast.specs.declared.tree.ResultDecl.{ResultDecl}
-use Rattle.kp_ast.specs.declared.tree.Decl.{Decl}
-use Rattle.kp_ast.specs.declared.tree.Stmt.{Stmt}
-use Rattle.kp_ast.specs.declared.tree.StmtKind.{StmtKind}
+use Rattle.std.specs.{Prelude.is_none, Prelude.is_some, Prelude.nat_le, Prelude.slice_get, Prelude.if◌then◌else◌, List.list_any}
+use Rattle.kp_ast.specs.declared.tree.{Expr.Expr, ReadStmt.ReadStmt, ResultDecl.ResultDecl, Decl.Decl, Stmt.Stmt, StmtKind.StmtKind, Block.Block, Job.Job}
 use Rattle.kp_ast.specs.declared.tree.StmtKind.TheVariants as stmts
-use Rattle.kp_ast.specs.declared.tree.Block.{Block}
-use Rattle.kp_ast.specs.declared.tree.Job.{Job}
 use Rattle.kp_stage.specs.Facts.{stmts_in}
-use Rattle.kp_pipeline.specs.Machine.{Tree}
-use Rattle.kp_pipeline.specs.Ends.{Ends}
-use Rattle.kp_pipeline.specs.Sequential.{first_value}
-use Rattle.kp_machine.specs.Slots.{targets_of, pipes_of, hints_of, number_of, result_named}
+use Rattle.kp_pipeline.specs.{Machine.Tree, Ends.Ends, Sequential.first_value}
 use Rattle.kp_machine.specs.Trees.{Progress, entered, holds, value_of, value_with_hints, with_aim, with_name, with_put, with_set, with_value, word_of, word_read, read_of, statement_of, tree_of}
-use Rattle.kp_machine.specs.Machine.{machine_of, stage_tree}
+use Rattle.kp_machine.specs.{Slots.targets_of, Slots.pipes_of, Slots.hints_of, Slots.number_of, Slots.result_named, Machine.machine_of, Machine.stage_tree}
 use Rattle.kp_machine.proofs.Cases.{by_test}
 use Rattle.kp_paths.specs.Claims.{SetsAlways, SetsNever}
 use Rattle.kp_paths.specs.Table.{is_set_by, is_surely_set_by, placed, set_in, sets_from, sets_in, sets_of}

@@ -1,14 +1,10 @@
 -- RESULTS THAT ARE SET, and those that aren't, in each state of a run.
 use Rattle.std.proofs.Common.{◌≡◌, ◌∙◌, ℕ, zero, suc, ◌<◌, ◌≤◌, Bool, true, false, ◌||◌, not, eqb, List, [], ◌∷◌, Option, Some, None, refl, ap, subst, ⊎_elim, arith, eq-eqb}
-use Rattle.std.specs.Prelude.{is_some, ◌≢◌}
 use Rattle.std.proofs.lemmas.Bool.{cases_Bool, cases_lt, eqb-true, false_from_ne_true, and_from}
-use Rattle.kp_pipeline.specs.Machine.{Machine}
-use Rattle.kp_pipeline.specs.Sequential.{Instruction, first_value, intends}
+use Rattle.std.specs.Prelude.{is_some, ◌≢◌}
 use Rattle.kp_pipeline.specs.Pipeline.{Inputs, PipelineState, above, candidate_hits, cycle, forwarded, hits, intent_known, is_candidate, next_stage, ok_value, outcome, pipeline_start, stall, ue}
-use Rattle.kp_pipeline.specs.Rows.{state_after}
-use Rattle.kp_pipeline.proofs.Cycle.{ue-parts}
-use Rattle.kp_pipeline.proofs.Ends.{run-ends}
-use Rattle.kp_pipeline.proofs.Movement.{next-from, stall-full}
+use Rattle.kp_pipeline.specs.{Machine.Machine, Sequential.Instruction, Sequential.first_value, Sequential.intends, Rows.state_after}
+use Rattle.kp_pipeline.proofs.{Cycle.ue-parts, Ends.run-ends, Movement.next-from, Movement.stall-full}
 use Rattle.kp_pipeline.proofs.NextState.{next-instruction, next-instruction-kept}
 use Rattle.kp_paths.specs.Claims.{HasNoValue, HasValue, SetsAlways, SetsNever, state_at}
 

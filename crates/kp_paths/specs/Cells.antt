@@ -1,7 +1,6 @@
 -- THE CELLS of a read: what each stage has for it.
 use Rattle.std.specs.Prelude.{ℕ, Bool, not, ◌&&◌, ◌||◌, ◌==◌, nat_lt, if◌then◌else◌}
-use Rattle.kp_pipeline.specs.Machine.{Machine}
-use Rattle.kp_pipeline.specs.Pipeline.{is_candidate, intent_known}
+use Rattle.kp_pipeline.specs.{Machine.Machine, Pipeline.is_candidate, Pipeline.intent_known}
 use Rattle.kp_paths.specs.declared.cell.Cell.{Cell}
 use Rattle.kp_paths.specs.declared.cell.Cell.TheVariants.{Reads, Empty, Wait, Guess, Maybe, Bypass}
 

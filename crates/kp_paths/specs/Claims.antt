@@ -1,10 +1,7 @@
 -- WHAT THE CELLS SAY of a run.
 use Rattle.std.specs.Prelude.{◌≡◌, ◌≢◌, ℕ, ◌≤◌, true, false, List, Some, None, is_some, ◌⊎◌}
-use Rattle.kp_ast.specs.declared.tree.ReadStmt.{ReadStmt}
-use Rattle.kp_ast.specs.declared.tree.Job.{Job}
-use Rattle.kp_pipeline.specs.Machine.{Machine}
-use Rattle.kp_pipeline.specs.Ends.{Ends}
-use Rattle.kp_pipeline.specs.Nearest.{IsNearestHit}
+use Rattle.kp_ast.specs.declared.tree.{ReadStmt.ReadStmt, Job.Job}
+use Rattle.kp_pipeline.specs.{Machine.Machine, Ends.Ends, Nearest.IsNearestHit}
 use Rattle.kp_pipeline.specs.Pipeline.{Inputs, PipelineState, above, candidate_hits, intent_known, pipeline_start, stall}
 use Rattle.kp_pipeline.specs.Rows.{state_after}
 use Rattle.kp_machine.specs.Machine.{machine_of}

@@ -1,20 +1,10 @@
 -- THE TABLE of a job: a row for each read, with a cell for each stage.
 use Rattle.std.specs.Prelude.{ℕ, ◌+◌, List, [], ◌∷◌, ◌++◌, Option, Some, None, Bool, ◌&&◌, ◌==◌, nat_le, is_some, is_none}
 use Rattle.std.specs.List.{list_any}
-use Rattle.kp_ast.specs.declared.tree.Expr.{Expr}
-use Rattle.kp_ast.specs.declared.tree.ReadStmt.{ReadStmt}
-use Rattle.kp_ast.specs.declared.tree.ResultDecl.{ResultDecl}
-use Rattle.kp_ast.specs.declared.tree.Decl.{Decl}
-use Rattle.kp_ast.specs.declared.tree.Stmt.{Stmt}
-use Rattle.kp_ast.specs.declared.tree.StmtKind.{StmtKind}
+use Rattle.kp_ast.specs.declared.tree.{Expr.Expr, ReadStmt.ReadStmt, ResultDecl.ResultDecl, Decl.Decl, Stmt.Stmt, StmtKind.StmtKind, Block.Block, Job.Job}
 use Rattle.kp_ast.specs.declared.tree.StmtKind.TheVariants as stmts
-use Rattle.kp_ast.specs.declared.tree.Block.{Block}
-use Rattle.kp_ast.specs.declared.tree.Job.{Job}
-use Rattle.kp_machine.specs.Slots.{targets_of, number_of, result_named}
-use Rattle.kp_machine.specs.Machine.{machine_of}
-use Rattle.kp_paths.specs.declared.cell.Cell.{Cell}
-use Rattle.kp_paths.specs.declared.sets.Placed.{Placed}
-use Rattle.kp_paths.specs.Cells.{cell_of}
+use Rattle.kp_machine.specs.{Slots.targets_of, Slots.number_of, Slots.result_named, Machine.machine_of}
+use Rattle.kp_paths.specs.{declared.cell.Cell.Cell, declared.sets.Placed.Placed, Cells.cell_of}
 
 -- THE SETS of a job in text order, each with its stage, the target of its result, and whether it has no condition.
 abbrev pub placed : List Decl → ℕ → Option Expr → Option ResultDecl → List Placed

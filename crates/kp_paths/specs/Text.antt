@@ -1,11 +1,7 @@
 -- THE TEXT of the table of a job.
 use Rattle.std.specs.Prelude.{ℕ, zero, suc, ◌+◌, ◌-◌, max, List, [], ◌∷◌, ◌++◌, length, replicate, codes, decimal, is_some, if◌then◌else◌}
-use Rattle.kp_ast.specs.declared.tree.ReadStmt.{ReadStmt}
-use Rattle.kp_ast.specs.declared.tree.Stmt.{Stmt}
-use Rattle.kp_ast.specs.declared.tree.StmtKind.{StmtKind}
+use Rattle.kp_ast.specs.declared.tree.{ReadStmt.ReadStmt, Stmt.Stmt, StmtKind.StmtKind, Block.Block, Job.Job}
 use Rattle.kp_ast.specs.declared.tree.StmtKind.TheVariants as stmts
-use Rattle.kp_ast.specs.declared.tree.Block.{Block}
-use Rattle.kp_ast.specs.declared.tree.Job.{Job}
 use Rattle.kp_machine.specs.Machine.{result_for}
 use Rattle.kp_paths.specs.declared.cell.Cell.{Cell}
 use Rattle.kp_paths.specs.declared.cell.Cell.TheVariants.{Reads, Empty, Wait, Guess, Maybe, Bypass}

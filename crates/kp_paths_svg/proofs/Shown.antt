@@ -1,14 +1,11 @@
 -- The arrows in the row of a read are the cells of the table.
 use Rattle.std.proofs.Common.{◌≡◌, ◌∙◌, ◌⊎◌, inl, inr, ℕ, zero, suc, ◌+◌, ◌≤◌, ◌<◌, Bool, true, false, refl, cond, List, [], ◌∷◌, ◌++◌, ap, sym, subst, arith}
-use Rattle.std.specs.List.{Contains}
 use Rattle.std.proofs.Math.Nat.{eq-or-lt_of_le}
 use Rattle.std.proofs.lemmas.List.Elements.{Contains-append_left, Contains-append_right, Contains-append_cases}
-use Rattle.kp_ast.specs.declared.tree.Job.{Job}
-use Rattle.kp_ast.specs.declared.tree.ReadStmt.{ReadStmt}
-use Rattle.kp_paths.specs.declared.cell.Cell.{Cell}
-use Rattle.kp_paths.specs.Table.{cell_at}
-use Rattle.kp_paths_svg.specs.Arrows.{Arrow, arrow_of, arrows, arrows_from, is_shown}
-use Rattle.kp_paths_svg.specs.Claims.{ShowsCells}
+use Rattle.std.specs.List.{Contains}
+use Rattle.kp_ast.specs.declared.tree.{Job.Job, ReadStmt.ReadStmt}
+use Rattle.kp_paths.specs.{declared.cell.Cell.Cell, Table.cell_at}
+use Rattle.kp_paths_svg.specs.{Arrows.Arrow, Arrows.arrow_of, Arrows.arrows, Arrows.arrows_from, Arrows.is_shown, Claims.ShowsCells}
 
 abbrev arrow_at : Job → ReadStmt → ℕ → ℕ → Arrow
 arrow_at job r k j = record { stage = j; cell = cell_at job r k j }

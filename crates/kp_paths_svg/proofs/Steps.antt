@@ -1,15 +1,10 @@
 -- The steps of the loops that write the picture.
 use Rattle.std.proofs.Common.{◌≡◌, ◌∙◌, ℕ, suc, ◌+◌, ◌-◌, ◌<◌, ◌≤◌, Bool, true, false, refl, cond, List, ◌∷◌, ◌++◌, length, get_or, drop, Option, ap, sym, subst, arith}
+use Rattle.std.proofs.lemmas.{List.drop_more, List.length-append, Grind.flat_map-append}
 use Rattle.std.specs.List.{flat_map}
-use Rattle.std.proofs.lemmas.List.{drop_more, length-append}
-use Rattle.std.proofs.lemmas.Grind.{flat_map-append}
 use Rattle.kp_base.specs.inner.Bytes.{WrittenUpTo}
-use Rattle.kp_ast.specs.declared.tree.Job.{Job}
-use Rattle.kp_ast.specs.declared.tree.ReadStmt.{ReadStmt}
-use Rattle.kp_ast.specs.declared.tree.Stmt.{Stmt}
-use Rattle.kp_ast.specs.declared.tree.Block.{Block}
-use Rattle.kp_paths.specs.declared.cell.Cell.{Cell}
-use Rattle.kp_paths.specs.Table.{cell_at}
+use Rattle.kp_ast.specs.declared.tree.{Job.Job, ReadStmt.ReadStmt, Stmt.Stmt, Block.Block}
+use Rattle.kp_paths.specs.{declared.cell.Cell.Cell, Table.cell_at}
 use Rattle.kp_paths_svg.specs.Arrows.{arrow_of, arrows_from, is_shown}
 use Rattle.kp_paths_svg.specs.Picture.{arrow_text, arrows_text, column_text, columns_text, rows_from, rows_in, rows_of}
 use Rattle.kp_paths_svg.specs.Places.{blocks_end, middle, row_end, rows_end}

@@ -1,7 +1,6 @@
 -- THE ARROWS in the row of a read: one from each stage that can be asked for the value, which shows the cell of the table.
 use Rattle.std.specs.Prelude.{ℕ, zero, suc, ◌+◌, Bool, true, false, List, [], ◌∷◌, ◌++◌, if◌then◌else◌}
-use Rattle.kp_ast.specs.declared.tree.Job.{Job}
-use Rattle.kp_ast.specs.declared.tree.ReadStmt.{ReadStmt}
+use Rattle.kp_ast.specs.declared.tree.{Job.Job, ReadStmt.ReadStmt}
 use Rattle.kp_paths.specs.declared.cell.Cell.{Cell}
 use Rattle.kp_paths.specs.declared.cell.Cell.TheVariants.{Reads, Empty, Wait, Guess, Maybe, Bypass}
 use Rattle.kp_paths.specs.Table.{cell_at}

@@ -1,8 +1,6 @@
 -- WHAT THE ARROWS SAY: they are the cells of the table of kp_paths.
-use Rattle.std.specs.Prelude.{◌≡◌, ◌<◌, ℕ, true}
-use Rattle.std.specs.List.{Contains}
-use Rattle.kp_ast.specs.declared.tree.Job.{Job}
-use Rattle.kp_ast.specs.declared.tree.ReadStmt.{ReadStmt}
+use Rattle.std.specs.{Prelude.◌≡◌, Prelude.◌<◌, Prelude.ℕ, Prelude.true, List.Contains}
+use Rattle.kp_ast.specs.declared.tree.{Job.Job, ReadStmt.ReadStmt}
 use Rattle.kp_paths.specs.Table.{cell_at}
 use Rattle.kp_paths_svg.specs.Arrows.{Arrow, arrows, is_shown}
 

@@ -1,17 +1,12 @@
 -- THE PICTURE of the paths of a job, in SVG 1.1: a column for each stage, and below them a row for each read. In a row an arrow goes to the stage of the
 -- read from each stage that can be asked for the value, and shows the cell of the table.
 use Rattle.std.specs.Prelude.{ℕ, zero, suc, ◌+◌, ◌-◌, List, [], ◌∷◌, ◌++◌, flat_map, length, codes, decimal, is_some, if◌then◌else◌}
-use Rattle.kp_ast.specs.declared.tree.Block.{Block}
-use Rattle.kp_ast.specs.declared.tree.Job.{Job}
-use Rattle.kp_ast.specs.declared.tree.ReadStmt.{ReadStmt}
-use Rattle.kp_ast.specs.declared.tree.Stmt.{Stmt}
-use Rattle.kp_ast.specs.declared.tree.StmtKind.{StmtKind}
+use Rattle.kp_ast.specs.declared.tree.{Block.Block, Job.Job, ReadStmt.ReadStmt, Stmt.Stmt, StmtKind.StmtKind}
 use Rattle.kp_ast.specs.declared.tree.StmtKind.TheVariants as stmts
 use Rattle.kp_machine.specs.Machine.{result_for}
 use Rattle.kp_paths.specs.declared.cell.Cell.{Cell}
 use Rattle.kp_paths.specs.declared.cell.Cell.TheVariants.{Reads, Empty, Wait, Guess, Maybe, Bypass}
-use Rattle.kp_paths.specs.Table.{target_read}
-use Rattle.kp_paths.specs.Text.{brackets, cell_word}
+use Rattle.kp_paths.specs.{Table.target_read, Text.brackets, Text.cell_word}
 use Rattle.kp_paths_svg.specs.Arrows.{Arrow, arrows}
 use Rattle.kp_paths_svg.specs.Places.{bottom, height_of, landing, left_end, level, line_in, middle, right_end, row_end, rows_end, width_of}
 use Rattle.kp_paths_svg.specs.declared.texts.TheConstants.{ABOUT, LEGEND}

@@ -1,7 +1,7 @@
 use Rattle.std.proofs.Common.{◌≡◌, ℕ, zero, suc, ◌-◌, ◌<◌, ◌≤◌, Bool, true, false, cond, not, ◌&&◌, ◌||◌, leb, Some, refl, ap, ⊎_elim, arith, leb-true, le-leb}
 use Rattle.std.proofs.lemmas.Bool.{and_parts, and_from, not-true, not_from_false, cases_Bool, cases_eq, cond-true, cond-false}
-use Rattle.kp_pipeline.specs.Machine.{Machine}
 use Rattle.kp_pipeline.specs.Pipeline.{FromAbove, Inputs, PipelineState, above, back, candidate_hits, forwarded, from_stages, greatest, outcome, pass_down, stall, ue}
+use Rattle.kp_pipeline.specs.Machine.{Machine}
 
 -- WHAT A STAGE SEES: the next stage, and through it what that stage sees.
 pub above-in : (m : Machine) (st : PipelineState) (inputs : Inputs) (k : ℕ) → suc k < m.stages

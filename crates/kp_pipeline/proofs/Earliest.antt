@@ -2,10 +2,8 @@ use Rattle.std.specs.List.{AllByRecursion}
 use Rattle.std.proofs.Common.{◌≡◌, ℕ, ◌+◌, ◌<◌, ◌≤◌, Bool, true, false, not, ◌&&◌, ◌||◌, eqb, ltb, List, [], ◌∷◌, Option, Some, None, is_some, refl, sym, ap, ◌∙◌, subst, arith, eq-eqb, lt-ltb}
 use Rattle.std.proofs.lemmas.Bool.{and_from, or_left, or_right, or_from, true≢false}
 use Rattle.kp_pipeline.specs.Machine.{Ask, Done, Guess, Machine, Tree}
-use Rattle.kp_pipeline.specs.Pipeline.{differs, ok_value, some_differs}
-use Rattle.kp_pipeline.specs.Claims.{StandsBefore}
-use Rattle.kp_pipeline.specs.Sequential.{PendingGuess, StageOutcome, after_guess, after_read, run}
-use Rattle.kp_pipeline.specs.Accepted.{Fits}
+use Rattle.kp_pipeline.specs.{Pipeline.differs, Pipeline.ok_value, Pipeline.some_differs, Claims.StandsBefore}
+use Rattle.kp_pipeline.specs.{Sequential.PendingGuess, Sequential.StageOutcome, Sequential.after_guess, Sequential.after_read, Sequential.run, Accepted.Fits}
 use Rattle.kp_pipeline.specs.Timeline.{some_unmet}
 use Rattle.kp_pipeline.proofs.Agreement.{IsRight}
 

@@ -1,8 +1,7 @@
 -- What comes of a stage is one of its ends.
 use Rattle.std.proofs.Common.{ℕ, Option, Some, None}
 use Rattle.kp_pipeline.specs.Machine.{Tree, Done, Ask, Guess}
-use Rattle.kp_pipeline.specs.Sequential.{StageOutcome, after_read, after_guess, run}
-use Rattle.kp_pipeline.specs.Ends.{Ends}
+use Rattle.kp_pipeline.specs.{Sequential.StageOutcome, Sequential.after_read, Sequential.after_guess, Sequential.run, Ends.Ends}
 
 module _ (P : (ℕ → Option ℕ) → (ℕ → Option ℕ) → Type 0) where
   read-ends : (o : Option ℕ) (go : ℕ → StageOutcome) → ((v : ℕ) → P (go v).puts (go v).sets) → P (after_read o go).puts (after_read o go).sets

@@ -1,10 +1,7 @@
 use Rattle.std.specs.List.{AllByRecursion}
 use Rattle.std.proofs.Common.{◌≡◌, ℕ, suc, ◌+◌, ◌<◌, ◌≤◌, true, false}
-use Rattle.kp_pipeline.specs.Machine.{Machine}
-use Rattle.kp_pipeline.specs.Sequential.{PendingGuess, instruction_before, seq}
-use Rattle.kp_pipeline.specs.Pipeline.{Inputs, PipelineState, stage_zero, ue}
-use Rattle.kp_pipeline.specs.Rows.{one_if}
-use Rattle.kp_pipeline.specs.Claims.{StandsBefore}
+use Rattle.kp_pipeline.specs.{Machine.Machine, Sequential.PendingGuess, Sequential.instruction_before, Sequential.seq}
+use Rattle.kp_pipeline.specs.{Pipeline.Inputs, Pipeline.PipelineState, Pipeline.stage_zero, Pipeline.ue, Rows.one_if, Claims.StandsBefore}
 use Rattle.kp_pipeline.proofs.Agreement.{IsRight}
 
 -- every pending guess of stage j is right

@@ -2,10 +2,8 @@ use Rattle.std.proofs.Common.{◌≡◌, ℕ, zero, suc, ◌+◌, ◌-◌, ◌<�
 use Rattle.std.proofs.lemmas.Bool.{cases_Bool, cases_lt, cond-true, cond-false, and_from, both_ways}
 use Rattle.kp_pipeline.specs.Machine.{Machine}
 use Rattle.kp_pipeline.specs.Pipeline.{Inputs, PipelineState, above, back, candidate_hits, forwarded, hits, mismatches}
-use Rattle.kp_pipeline.specs.Accepted.{Accepted}
-use Rattle.kp_pipeline.specs.Nearest.{HasNoHit, IsGreatestMismatch, IsNearestHit, candidates, select}
-use Rattle.kp_pipeline.proofs.Cycle.{greatest-above, greatest-at, truth-in, truth-top}
-use Rattle.kp_pipeline.proofs.Truths.{truth-own}
+use Rattle.kp_pipeline.specs.{Accepted.Accepted, Nearest.HasNoHit, Nearest.IsGreatestMismatch, Nearest.IsNearestHit, Nearest.candidates, Nearest.select}
+use Rattle.kp_pipeline.proofs.{Cycle.greatest-above, Cycle.greatest-at, Cycle.truth-in, Cycle.truth-top, Truths.truth-own}
 
 -- FORWARDING TAKES THE NEAREST HIT: the recursion down the stages finds what the plain definitions say.
 

@@ -1,16 +1,11 @@
 use Rattle.std.specs.List.{AllByRecursion}
 use Rattle.std.proofs.Common.{refl, ◌≡◌, ℕ, zero, suc, ◌+◌, ◌-◌, ◌<◌, ◌≤◌, true, false, not, eqb, List, ◌++◌, Some, None, sym, ◌∙◌, subst, ⊎_elim, arith}
 use Rattle.std.proofs.lemmas.Bool.{cases_Bool, cases_lt, not-true, eqb-false, cond-false, both_ways, false_from_ne_true, and_left, and_right}
-use Rattle.kp_pipeline.specs.Machine.{Machine}
-use Rattle.kp_pipeline.specs.Sequential.{PendingGuess}
 use Rattle.kp_pipeline.specs.Pipeline.{Inputs, PipelineState, above, back, candidate_hits, cycle, differs, is_candidate, next_stage, next_visible, outcome, pipeline_start, stall, start_stage, ue}
-use Rattle.kp_pipeline.specs.Accepted.{Accepted}
-use Rattle.kp_pipeline.specs.Claims.{StandsBefore}
-use Rattle.kp_pipeline.proofs.Lists.{all-append, all-both, all-kept, all-map}
-use Rattle.kp_pipeline.proofs.Cycle.{truth-in, ue-from, ue-parts}
+use Rattle.kp_pipeline.specs.{Machine.Machine, Sequential.PendingGuess, Accepted.Accepted, Claims.StandsBefore}
+use Rattle.kp_pipeline.proofs.{Lists.all-append, Lists.all-both, Lists.all-kept, Lists.all-map, Cycle.truth-in, Cycle.ue-from, Cycle.ue-parts}
 use Rattle.kp_pipeline.proofs.Movement.{chain-kept, kept-below, kept-full, moves-above, next-from, next-moved, next_count, stall-full}
-use Rattle.kp_pipeline.proofs.Sequential.{GuessedIn, run-absent}
-use Rattle.kp_pipeline.proofs.Invariant.{IsNear, Shape}
+use Rattle.kp_pipeline.proofs.{Sequential.GuessedIn, Sequential.run-absent, Invariant.IsNear, Invariant.Shape}
 use Rattle.kp_pipeline.proofs.NextState.{differs-not, guessed-in, next-pending, next-pending-kept, no_mismatch, truth-last}
 
 module _ (m : Machine) (acc : Accepted m) (st : PipelineState) (inputs : Inputs) where

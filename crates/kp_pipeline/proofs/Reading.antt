@@ -3,12 +3,9 @@ use Rattle.std.proofs.Common.{◌≡◌, ℕ, ◌+◌, ◌<◌, ◌≤◌, Bool,
 use Rattle.std.proofs.lemmas.Bool.{and_right, or_from, true≢false}
 use Rattle.kp_pipeline.specs.Machine.{Ask, Done, Guess, Machine, Tree}
 use Rattle.kp_pipeline.specs.Sequential.{PendingGuess, StageOutcome, after_guess, after_read, run}
-use Rattle.kp_pipeline.specs.Pipeline.{differs, some_differs}
-use Rattle.kp_pipeline.specs.Accepted.{Fits}
-use Rattle.kp_pipeline.specs.Claims.{StandsBefore}
-use Rattle.kp_pipeline.specs.Timeline.{HasNoGuess, some_unmet}
-use Rattle.kp_pipeline.proofs.Agreement.{IsRight}
+use Rattle.kp_pipeline.specs.{Pipeline.differs, Pipeline.some_differs, Accepted.Fits, Claims.StandsBefore, Timeline.HasNoGuess, Timeline.some_unmet}
 use Rattle.kp_pipeline.specs.RightPath.{MakesRightGuesses, some_missing, some_shows_wrong}
+use Rattle.kp_pipeline.proofs.Agreement.{IsRight}
 
 -- READS OF ONE STAGE, in the pipeline and in the timeline. A hazard is a read that isn't met; what comes after it doesn't matter.
 read-unmet : (o : Option ℕ) (b : Bool) (w : ℕ) (go : ℕ → StageOutcome) (c : Bool) → is_some o ≡ b → ((v : ℕ) → o ≡ Some v → v ≡ w)

@@ -1,22 +1,16 @@
 use Rattle.std.specs.List.{AllByRecursion}
 use Rattle.std.proofs.Common.{◌≡◌, ℕ, zero, suc, ◌+◌, ◌-◌, ◌<◌, ◌≤◌, Bool, true, false, cond, List, [], ◌∷◌, Option, Some, None, refl, sym, ap, ap₂, ◌∙◌, subst, ⊎_elim, arith}
 use Rattle.std.proofs.lemmas.Bool.{cases_Bool, cases_lt, and_from, both_ways}
-use Rattle.kp_pipeline.specs.Machine.{Machine}
-use Rattle.kp_pipeline.specs.Sequential.{instruction_before, seq}
 use Rattle.kp_pipeline.specs.Pipeline.{Inputs, PipelineState, above, back, cycle, mismatches, next_stage, outcome, pipeline_start, some_differs, stall, start_stage, ue}
-use Rattle.kp_pipeline.specs.Rows.{Row, bit, count_after, one_if, pipe, row, rows_from, taken}
-use Rattle.kp_pipeline.specs.Accepted.{Accepted}
-use Rattle.kp_pipeline.specs.Timeline.{start_hold}
-use Rattle.kp_pipeline.proofs.Lists.{bit-at}
-use Rattle.kp_pipeline.proofs.Cycle.{greatest-above, ue-from, ue-parts}
-use Rattle.kp_pipeline.proofs.Movement.{count-swept, kept-below, next-swept, next_count}
-use Rattle.kp_pipeline.proofs.Invariant.{Inv, Met, RightAt}
-use Rattle.kp_pipeline.proofs.NextState.{back-mismatch}
-use Rattle.kp_pipeline.proofs.Counts.{AgreeBelow, counts-row}
-use Rattle.kp_pipeline.proofs.Legality.{TakesAhead, inv-kept, inv-start, takes_ahead-kept, takes_ahead-met}
-use Rattle.kp_pipeline.specs.SpeculativeTimeline.{next_hold, ready_above, timeline_rows}
 use Rattle.kp_pipeline.specs.RightPath.{HasRightGuesses, IsRightFrom, IsRightIn, KeepsRightFrom, MakesRightGuesses, Moment, NoWrongGuess, WaitsOnlyWhereItMust, WaitsWhereItMust, first_moment, held, shows_wrong, some_missing, some_shows_wrong, waits_unguessed}
+use Rattle.kp_pipeline.specs.{Machine.Machine, Sequential.instruction_before, Sequential.seq}
+use Rattle.kp_pipeline.specs.{Rows.Row, Rows.bit, Rows.count_after, Rows.one_if, Rows.pipe, Rows.row, Rows.rows_from, Rows.taken, Accepted.Accepted}
+use Rattle.kp_pipeline.specs.{Timeline.start_hold, SpeculativeTimeline.next_hold, SpeculativeTimeline.ready_above, SpeculativeTimeline.timeline_rows}
 use Rattle.kp_pipeline.proofs.Seeing.{Kept, RightHere, calm-at, end-calm, end-had, end-wrong, hints-kept, hold-kept, moves-at, never-early, right-kept, row-here, still-right, wait-at}
+use Rattle.kp_pipeline.proofs.{Lists.bit-at, Cycle.greatest-above, Cycle.ue-from, Cycle.ue-parts}
+use Rattle.kp_pipeline.proofs.Movement.{count-swept, kept-below, next-swept, next_count}
+use Rattle.kp_pipeline.proofs.{Invariant.Inv, Invariant.Met, Invariant.RightAt, NextState.back-mismatch, Counts.AgreeBelow, Counts.counts-row}
+use Rattle.kp_pipeline.proofs.Legality.{TakesAhead, inv-kept, inv-start, takes_ahead-kept, takes_ahead-met}
 
 -- ONE CYCLE, with the counts of the rows: they are those of the invariant in the stages that there are.
 module _ (m : Machine) (acc : Accepted m) (s given : ℕ → ℕ → ℕ) (st : PipelineState) (i : Inputs) (c d updates : ℕ → ℕ) (inv : Inv m s given st d updates) (met : Met m given st i d) (agree : AgreeBelow m.stages c d) where

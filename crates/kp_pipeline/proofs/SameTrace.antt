@@ -1,9 +1,5 @@
 use Rattle.std.proofs.Common.{◌≡◌, ℕ, ◌≤◌, List, length, sym, ap, ◌∙◌, subst}
-use Rattle.kp_pipeline.specs.Machine.{Machine}
-use Rattle.kp_pipeline.specs.Sequential.{seq}
-use Rattle.kp_pipeline.specs.Pipeline.{Inputs}
-use Rattle.kp_pipeline.specs.Rows.{Row, Trace, passed, taken}
-use Rattle.kp_pipeline.specs.Claims.{Legal, Moves}
+use Rattle.kp_pipeline.specs.{Machine.Machine, Sequential.seq, Pipeline.Inputs, Rows.Row, Rows.Trace, Rows.passed, Rows.taken, Claims.Legal, Claims.Moves}
 use Rattle.kp_pipeline.proofs.Legality.{legal}
 
 -- A trace with the rows and the visible values of a legal one is legal: needed for a netlist that shows the machine.

@@ -1,22 +1,12 @@
 use Rattle.std.proofs.Common.{◌≡◌, ℕ, zero, suc, ◌+◌, ◌<◌, Bool, true, false, cond, not, ◌&&◌, eqb, eq-eqb, filter, List, [], ◌∷◌, ◌++◌, Option, Some, None, refl, sym, ap, ap₂, ◌∙◌, ⊎_elim, arith}
 use Rattle.std.proofs.lemmas.Bool.{cases_Bool, cond-true, cond-false, and_from, and_right, ne_eqb}
-use Rattle.kp_pipeline.specs.Machine.{Machine}
-use Rattle.kp_pipeline.specs.Sequential.{PendingGuess, instruction_before, seq}
+use Rattle.kp_pipeline.specs.{Machine.Machine, Sequential.PendingGuess, Sequential.instruction_before, Sequential.seq}
 use Rattle.kp_pipeline.specs.Pipeline.{Inputs, PipelineState, above, cycle, next_stage, outcome, pipeline_start, start_stage, ue}
-use Rattle.kp_pipeline.specs.Rows.{Row, bit, one_if, pipe, row, rows_from}
-use Rattle.kp_pipeline.specs.Accepted.{Accepted}
-use Rattle.kp_pipeline.specs.Timeline.{no_samples, start_hold}
-use Rattle.kp_pipeline.proofs.Lists.{bit-at}
-use Rattle.kp_pipeline.proofs.Cycle.{ue-parts}
-use Rattle.kp_pipeline.proofs.Movement.{next_count}
-use Rattle.kp_pipeline.proofs.Sequential.{run-no_guess}
-use Rattle.kp_pipeline.proofs.Invariant.{Inv, Met}
-use Rattle.kp_pipeline.proofs.NextState.{next-pending, next-pending-kept}
-use Rattle.kp_pipeline.proofs.Legality.{inv-kept, inv-start}
+use Rattle.kp_pipeline.specs.{Rows.Row, Rows.bit, Rows.one_if, Rows.pipe, Rows.row, Rows.rows_from, Accepted.Accepted, Timeline.no_samples, Timeline.start_hold}
 use Rattle.kp_pipeline.specs.SpeculativeTimeline.{IsWithoutGuess, is_held, moves_on, next_hold, next_taken, ready_above, taken_now, timeline_rows_taking}
-use Rattle.kp_pipeline.proofs.Reading.{no_guess-right}
-use Rattle.kp_pipeline.proofs.Seeing.{RightHere, goes, hold-kept, row-here}
-use Rattle.kp_pipeline.proofs.Runs.{start-tie}
+use Rattle.kp_pipeline.proofs.{Lists.bit-at, Cycle.ue-parts, Movement.next_count, Sequential.run-no_guess, Invariant.Inv, Invariant.Met}
+use Rattle.kp_pipeline.proofs.{NextState.next-pending, NextState.next-pending-kept, Legality.inv-kept, Legality.inv-start, Reading.no_guess-right}
+use Rattle.kp_pipeline.proofs.{Seeing.RightHere, Seeing.goes, Seeing.hold-kept, Seeing.row-here, Runs.start-tie}
 
 -- SAMPLES WITHOUT LOOKAHEAD. The values taken up to now fix all that matters: `given` agrees with them if it has the
 -- same value for each instruction that left the sample's stage.

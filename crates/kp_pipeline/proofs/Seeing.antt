@@ -1,24 +1,19 @@
-use Rattle.std.specs.List.{AllByRecursion}
+use Rattle.std.specs.{List.AllByRecursion, Prelude.unwrap_or}
 use Rattle.std.proofs.Common.{◌≡◌, ℕ, zero, suc, ◌+◌, ◌-◌, ◌<◌, ◌≤◌, ◌≢◌, Bool, true, false, cond, not, ◌&&◌, ◌||◌, eqb, ltb, leb, List, ◌++◌, Option, Some, None, is_some, refl, sym, ap, ap₂, ◌∙◌, subst, ⊎_elim, arith, le-leb, leb-true, eqb-true, eq-eqb, lt-ltb, le-ltb}
-use Rattle.std.specs.Prelude.{unwrap_or}
-use Rattle.std.proofs.Math.Path.{fun_ext}
 use Rattle.std.proofs.lemmas.Bool.{cases_Bool, cases_lt, cond-true, cond-false, and_parts, and_from, and_left, and_right, or_left, or_right, or_from, both_ways, false_from_ne_true, ne_eqb, lt-leb}
+use Rattle.std.proofs.Math.Path.{fun_ext}
+use Rattle.kp_pipeline.specs.Pipeline.{Inputs, PipelineState, StageState, above, back, candidate_hits, cycle, forwarded, hits, intent_known, is_candidate, mismatches, next_hints, next_stage, ok_value, outcome, some_differs, stall, ue}
+use Rattle.kp_pipeline.specs.SpeculativeTimeline.{aim_given, blocked, hints_after, is_ready, may_write, moves_on, next_hold, ready_above, ready_below, ready_from, setting_stage, timeline_row, waits}
 use Rattle.kp_pipeline.specs.Machine.{Machine}
 use Rattle.kp_pipeline.specs.Sequential.{Instruction, PendingGuess, first_value, instruction_before, is_written, run, seq}
-use Rattle.kp_pipeline.specs.Pipeline.{Inputs, PipelineState, StageState, above, back, candidate_hits, cycle, forwarded, hits, intent_known, is_candidate, mismatches, next_hints, next_stage, ok_value, outcome, some_differs, stall, ue}
-use Rattle.kp_pipeline.specs.Rows.{bits, row}
-use Rattle.kp_pipeline.specs.Accepted.{Accepted}
-use Rattle.kp_pipeline.specs.Timeline.{ReadyAbove, next_number, some_unmet}
+use Rattle.kp_pipeline.specs.{Rows.bits, Rows.row, Accepted.Accepted, Timeline.ReadyAbove, Timeline.next_number, Timeline.some_unmet}
+use Rattle.kp_pipeline.specs.RightPath.{MakesRightGuesses, some_missing, some_shows_wrong}
 use Rattle.kp_pipeline.proofs.Lists.{all-append, all-kept, all-map, bits-same}
 use Rattle.kp_pipeline.proofs.Cycle.{greatest-bound, stall-above, stall-is, stall-top, truth-in, truth-top, ue-from, ue-parts}
 use Rattle.kp_pipeline.proofs.Movement.{count-came, count-moved, count-stays, kept-below, next-from, next-kept, next-moved, next-none, next_count, no_stall-parts, stall-full}
-use Rattle.kp_pipeline.proofs.Sequential.{written-from}
-use Rattle.kp_pipeline.proofs.Agreement.{IsRight, aims-agree}
-use Rattle.kp_pipeline.proofs.Invariant.{Inv, Met, RightAt}
+use Rattle.kp_pipeline.proofs.{Sequential.written-from, Agreement.IsRight, Agreement.aims-agree, Invariant.Inv, Invariant.Met, Invariant.RightAt}
 use Rattle.kp_pipeline.proofs.Truths.{MadeRight, RightAbove, TruthIsRight, computes, truth-own, truth-right}
 use Rattle.kp_pipeline.proofs.NextState.{back-mismatch, next-pending, next-pending-kept}
-use Rattle.kp_pipeline.specs.SpeculativeTimeline.{aim_given, blocked, hints_after, is_ready, may_write, moves_on, next_hold, ready_above, ready_below, ready_from, setting_stage, timeline_row, waits}
-use Rattle.kp_pipeline.specs.RightPath.{MakesRightGuesses, some_missing, some_shows_wrong}
 use Rattle.kp_pipeline.proofs.SettingTimes.{setting-after, setting-before, setting-last}
 use Rattle.kp_pipeline.proofs.Reading.{had-all, hazard-unmet, makes-right, mismatch-wrong, right-not_wrong}
 use Rattle.kp_pipeline.proofs.Earliest.{ok_value-late, right-no_differs, unmet-none}

@@ -1,10 +1,9 @@
 use Rattle.std.specs.List.{AllByRecursion}
-use Rattle.std.proofs.lemmas.Bool.{cond-true, cond-false}
 use Rattle.std.proofs.Common.{◌≡◌, ℕ, zero, suc, ◌+◌, ◌-◌, ◌<◌, ◌≤◌, Bool, true, false, ◌&&◌, eqb, Option, Some, None, refl, ap₂, ◌∙◌, arith, ◌∷◌, [], unwrap_or}
+use Rattle.std.proofs.lemmas.Bool.{cond-true, cond-false}
 use Rattle.kp_pipeline.specs.Machine.{Ask, Done, Guess, Machine, Tree}
 use Rattle.kp_pipeline.specs.Sequential.{PendingGuess, StageOutcome, after_guess, after_read, before_stage, instruction_before, is_written, run, seq}
-use Rattle.kp_pipeline.specs.Accepted.{Accepted, EndFits, Fits}
-use Rattle.kp_pipeline.specs.Timeline.{HasNoGuess}
+use Rattle.kp_pipeline.specs.{Accepted.Accepted, Accepted.EndFits, Accepted.Fits, Timeline.HasNoGuess}
 
 -- RUNNING A TREE. A property of the end that a run reaches, whatever was read, is a property of its outcome. `P` must
 -- not depend on the hazard, nor, for the second lemma, be lost when a guess is added.

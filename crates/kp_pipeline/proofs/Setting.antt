@@ -1,9 +1,6 @@
 use Rattle.std.proofs.Common.{◌≡◌, ℕ, zero, suc, ◌+◌, ◌-◌, ◌<◌, ◌≤◌, ◌≢◌, Bool, true, false, Option, Some, None, is_some, refl, sym, ap, ◌∙◌, subst, ⊎_elim, arith}
 use Rattle.std.proofs.lemmas.Bool.{cases_Bool, cases_lt, cond-true, cond-false, both_ways}
-use Rattle.kp_pipeline.specs.Machine.{Machine}
-use Rattle.kp_pipeline.specs.Sequential.{before_stage}
-use Rattle.kp_pipeline.specs.Accepted.{Accepted}
-use Rattle.kp_pipeline.specs.Timeline.{first_stage, setting_stage}
+use Rattle.kp_pipeline.specs.{Machine.Machine, Sequential.before_stage, Accepted.Accepted, Timeline.first_stage, Timeline.setting_stage}
 use Rattle.kp_pipeline.proofs.Sequential.{no_result-final, result-stays}
 
 -- the first stage that passes

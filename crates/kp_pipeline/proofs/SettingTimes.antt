@@ -1,10 +1,6 @@
 use Rattle.std.proofs.Common.{◌≡◌, ℕ, zero, suc, ◌+◌, ◌-◌, ◌<◌, ◌≤◌, true, Option, Some, None, is_some, ap, sym, ◌∙◌, arith}
-use Rattle.kp_pipeline.specs.Machine.{Machine}
-use Rattle.kp_pipeline.specs.Sequential.{before_stage}
-use Rattle.kp_pipeline.specs.Accepted.{Accepted}
-use Rattle.kp_pipeline.specs.SpeculativeTimeline.{setting_stage}
-use Rattle.kp_pipeline.proofs.Sequential.{no_result-final, result-stays}
-use Rattle.kp_pipeline.proofs.Setting.{first-above, first-below, first-none}
+use Rattle.kp_pipeline.specs.{Machine.Machine, Sequential.before_stage, Accepted.Accepted, SpeculativeTimeline.setting_stage}
+use Rattle.kp_pipeline.proofs.{Sequential.no_result-final, Sequential.result-stays, Setting.first-above, Setting.first-below, Setting.first-none}
 
 none-is : (o : Option ℕ) → ((v : ℕ) → o ≡ Some v → ⊥) → o ≡ None
 none-is None h = cc

@@ -1,17 +1,12 @@
 use Rattle.std.specs.List.{AllByRecursion}
 use Rattle.std.proofs.Common.{◌≡◌, ℕ, zero, suc, ◌+◌, ◌-◌, ◌<◌, ◌≤◌, true, false, not, eqb, List, ◌++◌, refl, sym, ap, ◌∙◌, subst, ⊎_elim, arith}
 use Rattle.std.proofs.lemmas.Bool.{cases_Bool, cases_lt, cases_eq, both_ways, ne_eqb, not_from_false, false_from_ne_true}
-use Rattle.kp_pipeline.specs.Machine.{Machine}
-use Rattle.kp_pipeline.specs.Sequential.{PendingGuess, before_stage, instruction_before, seq}
+use Rattle.kp_pipeline.specs.{Machine.Machine, Sequential.PendingGuess, Sequential.before_stage, Sequential.instruction_before, Sequential.seq}
 use Rattle.kp_pipeline.specs.Pipeline.{Inputs, PipelineState, above, back, cycle, differs, next_stage, next_visible, outcome, stall, ue}
-use Rattle.kp_pipeline.specs.Accepted.{Accepted}
-use Rattle.kp_pipeline.specs.Claims.{StandsBefore}
-use Rattle.kp_pipeline.proofs.Lists.{all-both, all-left, all-map, all-passing, all-right}
-use Rattle.kp_pipeline.proofs.Cycle.{ue-from, ue-parts}
+use Rattle.kp_pipeline.specs.{Accepted.Accepted, Claims.StandsBefore}
+use Rattle.kp_pipeline.proofs.{Lists.all-both, Lists.all-left, Lists.all-map, Lists.all-passing, Lists.all-right, Cycle.ue-from, Cycle.ue-parts}
 use Rattle.kp_pipeline.proofs.Movement.{count-moved, count-stays, kept-below, next-from, next-kept, next-moved, next_count, no_stall-above, stall-full}
-use Rattle.kp_pipeline.proofs.Sequential.{GuessedIn}
-use Rattle.kp_pipeline.proofs.Agreement.{IsRight}
-use Rattle.kp_pipeline.proofs.Invariant.{Inv, Met, RightAt}
+use Rattle.kp_pipeline.proofs.{Sequential.GuessedIn, Agreement.IsRight, Invariant.Inv, Invariant.Met, Invariant.RightAt}
 use Rattle.kp_pipeline.proofs.Truths.{MadeRight, RightAbove, TruthIsRight, computes, truth-right}
 use Rattle.kp_pipeline.proofs.NextState.{differs-not, guessed-in, next-instruction, next-instruction-kept, next-pending, next-pending-kept, no_mismatch, truth-last}
 

@@ -1,7 +1,6 @@
 use Rattle.std.proofs.Common.{◌≡◌, ℕ, suc, ◌+◌, ◌<◌, ◌≤◌, true, cond, ◌&&◌, eqb, eq-eqb, List, [], ◌∷◌, ◌++◌, length, refl, ap, sym, ◌∙◌, ⊎_elim, arith}
 use Rattle.std.proofs.lemmas.Bool.{cases_Bool, cond-true, cond-false, and_from, and_left, and_right, ne_eqb}
-use Rattle.kp_pipeline.specs.Machine.{Machine}
-use Rattle.kp_pipeline.specs.Pipeline.{Inputs, PipelineState, cycle}
+use Rattle.kp_pipeline.specs.{Machine.Machine, Pipeline.Inputs, Pipeline.PipelineState, Pipeline.cycle}
 use Rattle.kp_pipeline.specs.Rows.{Row, bit, one_if, passed, row, rows_from, state_after, taken, taken_from}
 
 -- THE SAMPLE VALUES THAT INSTRUCTIONS TAKE: laws of lists of rows, independent of any machine.

@@ -1,19 +1,16 @@
 use Rattle.std.proofs.Common.{◌≡◌, ℕ, zero, suc, ◌+◌, ◌-◌, ◌<◌, ◌≤◌, ◌≢◌, Bool, true, false, cond, not, ◌&&◌, ◌||◌, eqb, ltb, leb, List, [], ◌∷◌, ◌++◌, Option, Some, None, is_some, refl, sym, ap, ap₂, ◌∙◌, ⊎_elim, arith, filter, le-leb, leb-true, eqb-true, eq-eqb, lt-ltb, le-ltb}
 use Rattle.std.proofs.lemmas.Bool.{cases_Bool, cases_lt, cond-true, cond-false, and_parts, and_from, and_left, and_right, or_left, or_right, or_from, both_ways, false_from_ne_true, ne_eqb, lt-leb}
+use Rattle.kp_pipeline.specs.Pipeline.{Inputs, PipelineState, StageState, above, back, candidate_hits, cycle, forwarded, greatest, hits, intent_known, is_candidate, mismatches, next_stage, ok_value, outcome, pipeline_start, stall, start_stage, ue}
+use Rattle.kp_pipeline.specs.Timeline.{HasNoGuess, HasNoGuessOrSample, ReadyAbove, blocked, is_ready, may_write, moves_on, next_hold, next_number, no_samples, ready_above, ready_below, ready_from, setting_stage, some_unmet, start_hold, timeline_rows, waits}
 use Rattle.kp_pipeline.specs.Machine.{Ask, Done, Guess, Machine, Tree}
 use Rattle.kp_pipeline.specs.Sequential.{Instruction, PendingGuess, StageOutcome, after_read, first_value, instruction_before, is_written, run, seq}
-use Rattle.kp_pipeline.specs.Pipeline.{Inputs, PipelineState, StageState, above, back, candidate_hits, cycle, forwarded, greatest, hits, intent_known, is_candidate, mismatches, next_stage, ok_value, outcome, pipeline_start, stall, start_stage, ue}
-use Rattle.kp_pipeline.specs.Rows.{Row, bits, pipe, rows_from}
-use Rattle.kp_pipeline.specs.Accepted.{Accepted, Fits}
-use Rattle.kp_pipeline.specs.Timeline.{HasNoGuess, HasNoGuessOrSample, ReadyAbove, blocked, is_ready, may_write, moves_on, next_hold, next_number, no_samples, ready_above, ready_below, ready_from, setting_stage, some_unmet, start_hold, timeline_rows, waits}
+use Rattle.kp_pipeline.specs.{Rows.Row, Rows.bits, Rows.pipe, Rows.rows_from, Accepted.Accepted, Accepted.Fits}
 use Rattle.kp_pipeline.proofs.Lists.{bits-same}
 use Rattle.kp_pipeline.proofs.Cycle.{stall-above, stall-is, stall-top, truth-in, truth-top, ue-from, ue-parts}
 use Rattle.kp_pipeline.proofs.Movement.{count-came, count-moved, count-stays, next-kept, next-moved, next-none, next_count, stall-full}
-use Rattle.kp_pipeline.proofs.Sequential.{run-no_guess, written-from}
-use Rattle.kp_pipeline.proofs.Invariant.{Inv, Met, RightAt}
+use Rattle.kp_pipeline.proofs.{Sequential.run-no_guess, Sequential.written-from, Invariant.Inv, Invariant.Met, Invariant.RightAt}
 use Rattle.kp_pipeline.proofs.Truths.{MadeRight, RightAbove, TruthIsRight, computes, truth-own, truth-right}
-use Rattle.kp_pipeline.proofs.NextState.{next-pending, next-pending-kept}
-use Rattle.kp_pipeline.proofs.Legality.{inv-kept, inv-start}
+use Rattle.kp_pipeline.proofs.{NextState.next-pending, NextState.next-pending-kept, Legality.inv-kept, Legality.inv-start}
 use Rattle.kp_pipeline.proofs.Setting.{setting-after, setting-before, setting-last}
 
 -- a hazard is a read that isn't met

@@ -1,7 +1,5 @@
 use Rattle.std.specs.Prelude.{◌≡◌, ℕ, zero, suc, ◌+◌, ◌-◌, ◌*◌, ◌<◌, ◌≤◌, Bool, true, false, not, ◌&&◌, List, [], ◌∷◌, length}
-use Rattle.kp_pipeline.specs.Machine.{Machine}
-use Rattle.kp_pipeline.specs.Sequential.{PendingGuess, seq}
-use Rattle.kp_pipeline.specs.Pipeline.{Inputs}
+use Rattle.kp_pipeline.specs.{Machine.Machine, Sequential.PendingGuess, Sequential.seq, Pipeline.Inputs}
 use Rattle.kp_pipeline.specs.Rows.{Row, Trace, bit, passed, one_if, taken}
 
 -- CLAIMS ON TRACES.

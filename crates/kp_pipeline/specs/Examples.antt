@@ -1,7 +1,5 @@
 use Rattle.std.specs.Prelude.{◌≡◌, ℕ, zero, suc, ◌+◌, Bool, true, false, cond, eqb, leb, List, [], ◌∷◌, length, Option, Some, None}
-use Rattle.kp_pipeline.specs.Machine.{Tree, Done, Ask, Guess, Machine}
-use Rattle.kp_pipeline.specs.Pipeline.{Inputs}
-use Rattle.kp_pipeline.specs.Rows.{Row, pipe, counts}
+use Rattle.kp_pipeline.specs.{Machine.Tree, Machine.Done, Machine.Ask, Machine.Guess, Machine.Machine, Pipeline.Inputs, Rows.Row, Rows.pipe, Rows.counts}
 use Rattle.kp_pipeline.specs.Accepted.{Accepted}
 
 -- SMALL MACHINES with their runs worked out by hand. Values have no width here.

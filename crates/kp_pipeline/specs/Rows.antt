@@ -1,6 +1,5 @@
 use Rattle.std.specs.Prelude.{ℕ, zero, suc, ◌+◌, ◌-◌, min, Bool, true, false, cond, ◌&&◌, eqb, leb, List, [], ◌∷◌}
-use Rattle.kp_pipeline.specs.Machine.{Machine}
-use Rattle.kp_pipeline.specs.Pipeline.{PipelineState, Inputs, back, ue, cycle, pipeline_start}
+use Rattle.kp_pipeline.specs.{Machine.Machine, Pipeline.PipelineState, Pipeline.Inputs, Pipeline.back, Pipeline.ue, Pipeline.cycle, Pipeline.pipeline_start}
 
 -- THE OUTPUTS OF A RUN: a row for each cycle, and the counts that are computed from rows alone.
 

@@ -1,7 +1,5 @@
 use Rattle.std.specs.Prelude.{ℕ, zero, suc, ◌+◌, cond, eqb, List, [], ◌∷◌}
-use Rattle.kp_pipeline.specs.Machine.{Tree, Done, Ask, Guess, Machine}
-use Rattle.kp_pipeline.specs.Pipeline.{Inputs}
-use Rattle.kp_pipeline.specs.Rows.{Row}
+use Rattle.kp_pipeline.specs.{Machine.Tree, Machine.Done, Machine.Ask, Machine.Guess, Machine.Machine, Pipeline.Inputs, Rows.Row}
 use Rattle.kp_pipeline.specs.Examples.{digit, ends, idle, late3, nothing, only, row3, sampled}
 
 -- SMALL MACHINES with their runs worked out by hand, as in kp_pipeline.

@@ -1,8 +1,6 @@
 use Rattle.std.specs.Prelude.{ℕ, zero, suc, ◌-◌, ◌<◌, Bool, true, false, cond, not, ◌&&◌, ◌||◌, eqb, ltb, List, [], ◌∷◌, Option, Some, None, is_some, unwrap_or}
-use Rattle.kp_pipeline.specs.Machine.{Machine}
-use Rattle.kp_pipeline.specs.Sequential.{before_stage, instruction_before, is_written, run, seq}
-use Rattle.kp_pipeline.specs.Pipeline.{Inputs, intent_known, is_candidate}
-use Rattle.kp_pipeline.specs.Rows.{Row, bits}
+use Rattle.kp_pipeline.specs.{Machine.Machine, Sequential.before_stage, Sequential.instruction_before, Sequential.is_written, Sequential.run, Sequential.seq}
+use Rattle.kp_pipeline.specs.{Pipeline.Inputs, Pipeline.intent_known, Pipeline.is_candidate, Rows.Row, Rows.bits}
 use Rattle.kp_pipeline.specs.Timeline.{HasNoGuess, ReadyAbove, first_stage, next_number, some_unmet}
 
 -- THE TIMELINE OF ANY MACHINE, with guesses and samples. As that of a machine without them, it is computed from

@@ -1,8 +1,7 @@
 use Rattle.std.specs.Prelude.{ℕ, zero, suc, ◌-◌, ◌<◌, ◌≤◌, Bool, true, false, cond, not, ◌&&◌, ◌||◌, eqb, ltb, List, [], ◌∷◌, Option, Some, None, is_some}
 use Rattle.kp_pipeline.specs.Machine.{Tree, Done, Ask, Guess, Machine}
 use Rattle.kp_pipeline.specs.Sequential.{before_stage, instruction_before, is_written, seq}
-use Rattle.kp_pipeline.specs.Pipeline.{Inputs, intent_known, is_candidate}
-use Rattle.kp_pipeline.specs.Rows.{Row, bits}
+use Rattle.kp_pipeline.specs.{Pipeline.Inputs, Pipeline.intent_known, Pipeline.is_candidate, Rows.Row, Rows.bits}
 
 -- THE TIMELINE of a machine without guesses and samples: which instruction each stage holds, computed from
 -- instruction numbers and values of the sequential machine alone. It has no valid bits and no carried values. `hold

@@ -1,7 +1,6 @@
 -- PIPES THAT NO STAGE USES after some stage.
 use Rattle.std.specs.Prelude.{◌≡◌, ℕ, suc, ◌≤◌, Bool, true, cond}
-use Rattle.kp_pipeline.specs.Machine.{Machine}
-use Rattle.kp_pipeline.specs.Pipeline.{StageState, PipelineState}
+use Rattle.kp_pipeline.specs.{Machine.Machine, Pipeline.StageState, Pipeline.PipelineState}
 
 -- The pipes of stage k, with 0 for each that isn't alive there.
 abbrev pub trim : (ℕ → ℕ → Bool) → ℕ → (ℕ → ℕ) → ℕ → ℕ

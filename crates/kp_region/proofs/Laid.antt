@@ -1,8 +1,7 @@
 -- Words that overwrite others don't change those before them and those after them.
 use Rattle.std.proofs.Common.{◌≡◌, ◌∙◌, ℕ, ◌+◌, ◌-◌, ◌≤◌, List, length, take, drop, arith, sym, ap, refl}
+use Rattle.std.proofs.lemmas.{List.length-take-le, List.take-append-le, List.take-take, List.drop-drop, Slice.between_is, Slice.drop-put_mid}
 use Rattle.std.specs.Prelude.{slice_range}
-use Rattle.std.proofs.lemmas.List.{length-take-le, take-append-le, take-take, drop-drop}
-use Rattle.std.proofs.lemmas.Slice.{between_is, drop-put_mid}
 use Rattle.kp_region.specs.Words.{laid_over}
 
 module _ (ws others : List ℕ) (at : ℕ) (room : at ≤ length ws) where

@@ -1,33 +1,20 @@
 -- A netlist that implements the machine of a job has the specified values after a run.
 use Rattle.std.proofs.Common.{◌≡◌, ◌∙◌, ℕ, ◌≤◌, List, length, None, ap, sym, arith}
-use Rattle.kp_base.specs.First.{first}
-use Rattle.kp_base.specs.declared.row.Row.{Row}
+use Rattle.kp_base.specs.{First.first, declared.row.Row.Row}
 use Rattle.kp_bits.specs.Word.{Word, word}
 use Rattle.kp_ast.specs.declared.tree.Job.{Job}
 use Rattle.kp_width.specs.Widths.{widths_of}
 use Rattle.kp_image.specs.Sections.{sections_of}
-use Rattle.kp_pipeline.specs.Accepted.{Accepted}
-use Rattle.kp_pipeline.specs.Pipeline.{Inputs}
+use Rattle.kp_pipeline.specs.{Accepted.Accepted, Pipeline.Inputs}
 use Rattle.kp_pipeline.specs.Rows as law
 use Rattle.kp_machine.specs.Machine.{machine_of, inputs_from, pipe_of}
 use Rattle.kp_net.specs.Netlist.{Net, State, last_of}
-use Rattle.kp_sched.specs.Monitors.{Kept}
-use Rattle.kp_sched.specs.Rows.{rows_seen}
-use Rattle.kp_sched.specs.Runs.{passes}
+use Rattle.kp_sched.specs.{Monitors.Kept, Rows.rows_seen, Runs.passes}
 use Rattle.kp_sched.proofs.Counting.{seen_length}
 use Rattle.kp_seq.specs.Running.{HasWord, target}
-use Rattle.kp_synth_spec.specs.Naming.{value_shown}
-use Rattle.kp_synth_spec.specs.Shows.{Shows}
-use Rattle.kp_synth_spec.specs.Traces.{trace_of}
-use Rattle.kp_run.specs.Boards.{due_behind}
-use Rattle.kp_run.specs.Cycles.{inputs_to, HasRows}
-use Rattle.kp_run.specs.Homes.{AreHomes}
-use Rattle.kp_run.specs.inner.Boards.{HasCounts}
-use Rattle.kp_run.specs.inner.Finals.{AreFinals}
-use Rattle.kp_run.proofs.Inputs.{seen_to, quiet_to}
-use Rattle.kp_run.proofs.Legal.{as_many, traced}
-use Rattle.kp_run.proofs.Machines.{home_passes}
-use Rattle.kp_run.proofs.Prefixes.{state_is}
+use Rattle.kp_synth_spec.specs.{Naming.value_shown, Shows.Shows, Traces.trace_of}
+use Rattle.kp_run.specs.{Boards.due_behind, Cycles.inputs_to, Cycles.HasRows, Homes.AreHomes, inner.Boards.HasCounts, inner.Finals.AreFinals}
+use Rattle.kp_run.proofs.{Inputs.seen_to, Inputs.quiet_to, Legal.as_many, Legal.traced, Machines.home_passes, Prefixes.state_is}
 
 pub counts_are : (job : Job) (rows : List Row) (homes : List ℕ) → Accepted (machine_of job) → AreHomes job homes → HasCounts job rows homes
 counts_are job rows homes acc are =

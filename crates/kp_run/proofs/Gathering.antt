@@ -1,20 +1,14 @@
 -- The words that are collected for each sample are those that the instructions of the run read.
 use Rattle.std.proofs.Common.{◌≡◌, ◌∙◌, ℕ, zero, suc, ◌+◌, ◌<◌, ◌≤◌, List, [], ◌∷◌, ◌++◌, length, get_or, drop, Bool, true, false, cond, eqb, eq-eqb, refl, ap, sym, subst, arith}
-use Rattle.std.proofs.Math.Path.{fun_ext}
+use Rattle.std.proofs.{Math.Path.fun_ext, lemmas.Bool.ltb-true, lemmas.Bool.ltb-false, lemmas.Bool.cond-true, lemmas.Bool.cond-false, lemmas.Bool.ne_eqb}
+use Rattle.std.proofs.lemmas.{Nat.pow_pos, List.get_or-map, List.length-map, List.append_assoc, List.drop_more, List.get_or_append_left, List.get_or_at}
 use Rattle.std.specs.Prelude.{nat_lt, ◌&&◌, if◌then◌else◌}
-use Rattle.std.proofs.lemmas.Bool.{ltb-true, ltb-false, cond-true, cond-false, ne_eqb}
-use Rattle.std.proofs.lemmas.Nat.{pow_pos}
-use Rattle.std.proofs.lemmas.List.{get_or-map, length-map, append_assoc, drop_more, get_or_append_left, get_or_at}
 use Rattle.kp_base.specs.declared.row.Row as masks
-use Rattle.kp_bits.specs.Word.{Word, word}
-use Rattle.kp_bits.specs.Operators.{no_word}
+use Rattle.kp_bits.specs.{Word.Word, Word.word, Operators.no_word}
 use Rattle.kp_ast.specs.declared.tree.Job.{Job}
-use Rattle.kp_pipeline.specs.Machine.{Machine}
-use Rattle.kp_pipeline.specs.Pipeline.{Inputs}
-use Rattle.kp_pipeline.specs.Rows.{Row, bit, bits, one_if, taken, taken_from}
+use Rattle.kp_pipeline.specs.{Machine.Machine, Pipeline.Inputs, Rows.Row, Rows.bit, Rows.bits, Rows.one_if, Rows.taken, Rows.taken_from}
 use Rattle.kp_stage.specs.Start.{input, AreSamples}
-use Rattle.kp_machine.specs.Machine.{machine_of, inputs_from, values_in}
-use Rattle.kp_machine.specs.Slots.{sample_stages}
+use Rattle.kp_machine.specs.{Machine.machine_of, Machine.inputs_from, Machine.values_in, Slots.sample_stages}
 use Rattle.kp_sched.specs.Rows.{bit_of, rows_seen}
 use Rattle.kp_run.specs.Columns.{Taken, word_taken, row_taken, words_taken, no_column, HasColumn, AreColumns}
 use Rattle.kp_run.proofs.Samples.{IsOf, many, width_at, word_at, fit_when, value_at, value_past}

@@ -1,17 +1,12 @@
 -- The inputs of a netlist of a job are those that its sections specify.
 use Rattle.std.proofs.Common.{◌≡◌, ◌∙◌, ℕ, zero, suc, ◌+◌, ◌%◌, ◌^◌, ◌<◌, ◌≤◌, List, [], ◌∷◌, ◌++◌, map, length, get_or, Bool, true, false, None, refl, ap, sym, arith}
-use Rattle.std.proofs.Math.Path.{fun_ext}
-use Rattle.std.proofs.Math.Nat.{mod-eq_of_lt, div-eq_of_lt}
+use Rattle.std.proofs.{Math.Path.fun_ext, Math.Nat.mod-eq_of_lt, Math.Nat.div-eq_of_lt, lemmas.Bool.ltb-true, lemmas.Bool.ltb-false, lemmas.Bool.eqb-true}
+use Rattle.std.proofs.lemmas.{Nat.pow_pos, List.Elements.All-push}
 use Rattle.std.specs.Prelude.{◌==◌, nat_lt, ◌||◌, ◌&&◌, slice_index}
-use Rattle.std.proofs.lemmas.Bool.{ltb-true, ltb-false, eqb-true}
-use Rattle.std.proofs.lemmas.Nat.{pow_pos}
-use Rattle.std.proofs.lemmas.List.Elements.{All-push}
 use Rattle.kp_base.specs.First.{first}
-use Rattle.kp_bits.specs.Word.{Word}
-use Rattle.kp_bits.specs.Operators.{no_word}
+use Rattle.kp_bits.specs.{Word.Word, Operators.no_word}
 use Rattle.kp_bits.proofs.Powers.{pow_le}
-use Rattle.kp_ast.specs.declared.tree.Job.{Job}
-use Rattle.kp_ast.specs.declared.tree.Stalls.{Stalls}
+use Rattle.kp_ast.specs.declared.tree.{Job.Job, Stalls.Stalls}
 use Rattle.kp_width.proofs.Unbroken.{Unbroken, bind_unbroken, answer_unbroken}
 use Rattle.kp_width.specs.Widths.{widths_of}
 use Rattle.kp_stage.specs.Start.{stall_word, stalls_at, is_stalled, bits_below, stalls_of, input, AreSamples}

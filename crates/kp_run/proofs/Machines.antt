@@ -1,32 +1,21 @@
 -- The machines after a run, and which of them has the value of a target.
 use Rattle.std.proofs.Common.{◌≡◌, ◌∙◌, ℕ, zero, suc, ◌+◌, ◌<◌, ◌≤◌, List, [], ◌∷◌, ◌++◌, length, get_or, Bool, true, false, Option, Some, None, refl, ap, sym, arith}
-use Rattle.std.specs.Prelude.{is_some, nat_lt, nat_le, ◌&&◌, if◌then◌else◌}
-use Rattle.std.specs.List.{All}
-use Rattle.std.proofs.lemmas.Bool.{ltb-true, ltb-false, leb-true, and_parts, lt-ltb, le-ltb}
-use Rattle.std.proofs.lemmas.List.{get_or_append_left, get_or_at}
-use Rattle.kp_base.specs.Refusal.{e_rule}
-use Rattle.kp_base.specs.declared.row.Row.{Row}
+use Rattle.std.proofs.lemmas.{Bool.ltb-true, Bool.ltb-false, Bool.leb-true, Bool.and_parts, Bool.lt-ltb, Bool.le-ltb, List.get_or_append_left, List.get_or_at}
+use Rattle.std.specs.{Prelude.is_some, Prelude.nat_lt, Prelude.nat_le, Prelude.◌&&◌, Prelude.if◌then◌else◌, List.All}
+use Rattle.kp_base.specs.{Refusal.e_rule, declared.row.Row.Row}
 use Rattle.kp_bits.specs.Word.{Word}
-use Rattle.kp_ast.specs.declared.tree.Job.{Job}
-use Rattle.kp_ast.specs.declared.tree.ResultDecl.{ResultDecl}
-use Rattle.kp_stage.specs.Facts.{facts_of}
-use Rattle.kp_stage.specs.Start.{start_of}
-use Rattle.kp_stage.specs.Stages.{broken_of}
+use Rattle.kp_ast.specs.declared.tree.{Job.Job, ResultDecl.ResultDecl}
+use Rattle.kp_stage.specs.{Facts.facts_of, Start.start_of, Stages.broken_of}
 use Rattle.kp_stage.proofs.Unbroken.{first_none, answer_none}
 use Rattle.kp_machine.proofs.Rules.{head_kept}
-use Rattle.kp_pipeline.specs.Accepted.{Accepted}
-use Rattle.kp_pipeline.specs.Sequential.{exec, seq}
+use Rattle.kp_pipeline.specs.{Accepted.Accepted, Sequential.exec, Sequential.seq, Rows.passed}
 use Rattle.kp_pipeline.specs.Rows as law
-use Rattle.kp_pipeline.specs.Rows.{passed}
 use Rattle.kp_machine.specs.Machine.{machine_of, result_for, state_of, sequential, values_in, write_stage_of}
 use Rattle.kp_machine.specs.Slots.{targets_of, result_to}
-use Rattle.kp_sched.specs.Monitors.{Kept, HasSeen}
-use Rattle.kp_sched.specs.Rows.{rows_seen}
-use Rattle.kp_sched.specs.Runs.{passes}
+use Rattle.kp_sched.specs.{Monitors.Kept, Monitors.HasSeen, Rows.rows_seen, Runs.passes}
 use Rattle.kp_sched.proofs.Counting.{seen_length}
 use Rattle.kp_seq.specs.Running.{Running, state}
-use Rattle.kp_run.specs.Homes.{home_of}
-use Rattle.kp_run.specs.inner.Lanes.{lane_state, lane_passes, lane_count, HaveRun, HaveRunFrom}
+use Rattle.kp_run.specs.{Homes.home_of, inner.Lanes.lane_state, inner.Lanes.lane_passes, inner.Lanes.lane_count, inner.Lanes.HaveRun, inner.Lanes.HaveRunFrom}
 use Rattle.kp_run.specs.inner.Homes.{home_by}
 
 abbrev State : Type 0

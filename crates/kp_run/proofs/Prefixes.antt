@@ -1,8 +1,7 @@
 -- The first cycles of a run.
 use Rattle.std.proofs.Common.{◌≡◌, ◌∙◌, ℕ, zero, suc, ◌+◌, ◌<◌, ◌≤◌, List, [], ◌∷◌, ◌++◌, length, take, get_or, Bool, true, false, refl, ap, sym, subst, arith, length-append}
+use Rattle.std.proofs.lemmas.{Bool.ltb-true, Bool.ltb-false, List.get_or_at, List.get_or_append_left, List.length-take-le}
 use Rattle.std.specs.Prelude.{nat_lt}
-use Rattle.std.proofs.lemmas.Bool.{ltb-true, ltb-false}
-use Rattle.std.proofs.lemmas.List.{get_or_at, get_or_append_left, length-take-le}
 use Rattle.kp_base.specs.declared.row.Row as masks
 use Rattle.kp_ast.specs.declared.tree.Job.{Job}
 use Rattle.kp_pipeline.specs.Rows.{bit, bits, one_if, passed}

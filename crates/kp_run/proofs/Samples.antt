@@ -1,19 +1,13 @@
 -- Input vectors of the samples, entry by entry.
 use Rattle.std.proofs.Common.{◌≡◌, ◌∙◌, ℕ, zero, suc, ◌<◌, ◌≤◌, ◌+◌, List, [], ◌∷◌, ◌++◌, length, get_or, refl, ap, sym, arith, Option, Some}
+use Rattle.std.proofs.lemmas.{List.get_or-map, List.length-map, List.take_all, List.take_more, List.take_more_set, Option.unwrap_or-slice_get}
 use Rattle.std.specs.Prelude.{take, set, unwrap_or, slice_get}
-use Rattle.std.proofs.lemmas.List.{get_or-map, length-map, take_all, take_more, take_more_set}
-use Rattle.std.proofs.lemmas.Option.{unwrap_or-slice_get}
-use Rattle.kp_bits.specs.Word.{Word, IsWord}
-use Rattle.kp_bits.specs.Operators.{no_word}
-use Rattle.kp_ast.specs.declared.tree.Decl.{Decl}
+use Rattle.kp_bits.specs.{Word.Word, Word.IsWord, Operators.no_word}
+use Rattle.kp_ast.specs.declared.tree.{Decl.Decl, Job.Job}
 use Rattle.kp_ast.specs.declared.tree.Decl.TheVariants as decls
-use Rattle.kp_ast.specs.declared.tree.Job.{Job}
 use Rattle.kp_stage.specs.Start.{AreSamples}
-use Rattle.kp_machine.specs.Machine.{values_in}
-use Rattle.kp_machine.specs.Slots.{samples_of, sample_stages}
-use Rattle.kp_net.specs.Netlist.{Net}
-use Rattle.kp_net.specs.Parts.{no_port}
-use Rattle.kp_net.specs.declared.netlist.Port.{Port}
+use Rattle.kp_machine.specs.{Machine.values_in, Slots.samples_of, Slots.sample_stages}
+use Rattle.kp_net.specs.{Netlist.Net, Parts.no_port, declared.netlist.Port.Port}
 use Rattle.kp_cycle.specs.Steps.{SamplesFit}
 use Rattle.kp_seq.specs.Running.{no_slot}
 use Rattle.kp_synth_spec.specs.Naming.{sample_port, sample_ports}

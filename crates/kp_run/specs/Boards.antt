@@ -3,8 +3,7 @@ use Rattle.std.specs.Prelude.{ℕ, List, length}
 use Rattle.kp_base.specs.declared.row.Row.{Row}
 use Rattle.kp_ast.specs.declared.tree.Job.{Job}
 use Rattle.kp_machine.specs.Machine.{inputs_from}
-use Rattle.kp_sched.specs.Rows.{rows_seen}
-use Rattle.kp_sched.specs.Runs.{passes, due_value}
+use Rattle.kp_sched.specs.{Rows.rows_seen, Runs.passes, Runs.due_value}
 
 -- The number of instructions that target t reflects.
 abbrev pub passes_behind : Job → List Row → ℕ → ℕ

@@ -1,8 +1,7 @@
 -- The sample values that the instructions of a run read, collected from its rows.
 use Rattle.std.specs.Prelude.{◌≡◌, ℕ, suc, ◌<◌, List, [], ◌∷◌, length, get_or, map, if◌then◌else◌}
 use Rattle.kp_base.specs.declared.row.Row as masks
-use Rattle.kp_bits.specs.Word.{Word, word}
-use Rattle.kp_bits.specs.Operators.{no_word}
+use Rattle.kp_bits.specs.{Word.Word, Word.word, Operators.no_word}
 use Rattle.kp_ast.specs.declared.tree.Job.{Job}
 use Rattle.kp_pipeline.specs.Rows.{Row, bit}
 use Rattle.kp_stage.specs.Start.{input}

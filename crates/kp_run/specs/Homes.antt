@@ -2,8 +2,7 @@
 -- that executes none.
 use Rattle.std.specs.Prelude.{◌≡◌, ℕ, ◌<◌, ◌≤◌, List, length, get_or, if◌then◌else◌}
 use Rattle.kp_ast.specs.declared.tree.Job.{Job}
-use Rattle.kp_machine.specs.Machine.{machine_of}
-use Rattle.kp_machine.specs.Slots.{targets_of}
+use Rattle.kp_machine.specs.{Machine.machine_of, Slots.targets_of}
 
 -- The machine of the write stage of the target, or the one that executes nothing if the target has no result.
 unfoldable pub home_of : Job → ℕ → ℕ

@@ -4,11 +4,8 @@ use Rattle.std.specs.Prelude.{cond, nat_le}
 use Rattle.kp_base.specs.declared.row.Row.{Row}
 use Rattle.kp_pipeline.specs.Rows as law
 use Rattle.kp_pipeline.specs.Rows.{bit, bits, count_after, count_moved, counts, passed, one_if}
-use Rattle.kp_pipeline.proofs.Lists.{bit-at}
-use Rattle.kp_pipeline.proofs.Counts.{counts-more, passed-more}
-use Rattle.kp_sched.specs.Rows.{bit_of, row_seen, rows_seen}
-use Rattle.kp_sched.specs.Monitors.{Kept, HasSeen}
-use Rattle.kp_sched.specs.inner.Counting.{count_next}
+use Rattle.kp_pipeline.proofs.{Lists.bit-at, Counts.counts-more, Counts.passed-more}
+use Rattle.kp_sched.specs.{Rows.bit_of, Rows.row_seen, Rows.rows_seen, Monitors.Kept, Monitors.HasSeen, inner.Counting.count_next}
 
 pub seen_more : (n : ℕ) (rows : List Row) (r : Row) → rows_seen n (rows ++ r ∷ []) ≡ rows_seen n rows ++ row_seen n r ∷ []
 seen_more n [] r = refl

@@ -4,18 +4,11 @@ use Rattle.std.specs.Prelude.{cond}
 use Rattle.kp_base.specs.declared.row.Row as masks
 use Rattle.kp_ast.specs.declared.tree.Job.{Job}
 use Rattle.kp_stage.specs.Start.{start_of}
-use Rattle.kp_pipeline.specs.Accepted.{Accepted}
-use Rattle.kp_pipeline.specs.Claims.{Legal, Moves, HighestStays}
-use Rattle.kp_pipeline.specs.Machine.{Machine}
-use Rattle.kp_pipeline.specs.Pipeline.{Inputs, pipeline_start}
-use Rattle.kp_pipeline.specs.Rows.{Row, Trace, counts, passed, taken}
-use Rattle.kp_pipeline.specs.Sequential.{seq}
-use Rattle.kp_pipeline.proofs.Counts.{counts-passed}
-use Rattle.kp_pipeline.proofs.SameTrace.{same-moves}
-use Rattle.kp_pipeline.proofs.Taken.{rows-length}
+use Rattle.kp_pipeline.specs.{Accepted.Accepted, Claims.Legal, Claims.Moves, Claims.HighestStays, Machine.Machine, Pipeline.Inputs, Pipeline.pipeline_start}
+use Rattle.kp_pipeline.specs.{Rows.Row, Rows.Trace, Rows.counts, Rows.passed, Rows.taken, Sequential.seq}
+use Rattle.kp_pipeline.proofs.{Counts.counts-passed, SameTrace.same-moves, Taken.rows-length}
 use Rattle.kp_machine.specs.Machine.{machine_of, state_of, start_hints, pipe_of}
-use Rattle.kp_sched.specs.Monitors.{Kept}
-use Rattle.kp_sched.specs.Runs.{passes, due_value, IsLegal, ShowsAlike, HasWatched}
+use Rattle.kp_sched.specs.{Monitors.Kept, Runs.passes, Runs.due_value, Runs.IsLegal, Runs.ShowsAlike, Runs.HasWatched}
 use Rattle.kp_sched.proofs.Counting.{seen_length}
 
 module _ (job : Job) where

@@ -1,50 +1,27 @@
 -- The reads of a stage: the implementation records what the definition specifies.
 use Rattle.std.proofs.Common.{◌≡◌, ◌∙◌, ℕ, ◌+◌, ◌^◌, ◌<◌, ◌≤◌, List, [], ◌∷◌, ◌++◌, Option, Some, None, Bool, true, false, ◌||◌, cond, length, refl, ap, sym, subst, arith, lit<}
+use Rattle.std.proofs.{lemmas.Bool.eqb-true, lemmas.Bool.le-leb, Math.Pow.pow_mono}
 use Rattle.std.specs.Prelude.{is_some, slice_get, not, nat_le, ◌&&◌, ◌==◌}
-use Rattle.std.proofs.lemmas.Bool.{eqb-true, le-leb}
-use Rattle.std.proofs.Math.Pow.{pow_mono}
-use Rattle.kp_base.specs.First.{first}
-use Rattle.kp_base.specs.Check.{ok, ◌>>=◌, wants}
-use Rattle.kp_base.specs.Refusal.{e_rule}
-use Rattle.kp_ast.specs.declared.tree.Expr.{Expr}
-use Rattle.kp_ast.specs.declared.tree.ReadStmt.{ReadStmt}
-use Rattle.kp_ast.specs.declared.tree.Stmt.{Stmt}
-use Rattle.kp_ast.specs.declared.tree.StmtKind.{StmtKind}
+use Rattle.kp_base.specs.{First.first, Check.ok, Check.◌>>=◌, Check.wants, Refusal.e_rule}
+use Rattle.kp_ast.specs.declared.tree.{Expr.Expr, ReadStmt.ReadStmt, Stmt.Stmt, StmtKind.StmtKind, Job.Job}
 use Rattle.kp_ast.specs.declared.tree.StmtKind.TheVariants as stmts
-use Rattle.kp_ast.specs.declared.tree.Job.{Job}
 use Rattle.kp_ast.specs.declared.widths.NameKind.TheVariants as kinds
 use Rattle.kp_width.specs.Names.{Sense, sense, Names, Scoped, look_up, find, is_register, is_file, declared_local, passed}
 use Rattle.kp_width.specs.Expressions.{width_of, part_of, value_of}
 use Rattle.kp_width.specs.Declarations.{kept, storage_of, address_width}
-use Rattle.kp_width.specs.Statements.{when_of, address_of, read_of, statement_of, statements_of}
-use Rattle.kp_width.specs.Widths.{widths_of}
-use Rattle.kp_width.proofs.Unbroken.{Unbroken, bind_unbroken, answer_unbroken}
-use Rattle.kp_width.proofs.Found.{none_of_two}
-use Rattle.kp_stage.specs.Facts.{facts_of}
-use Rattle.kp_stage.specs.Rules.{ask_option, ask_values, ask_stmt, ask_stmts, all_rules}
+use Rattle.kp_width.specs.{Statements.when_of, Statements.address_of, Statements.read_of, Statements.statement_of, Statements.statements_of, Widths.widths_of}
+use Rattle.kp_width.proofs.{Unbroken.Unbroken, Unbroken.bind_unbroken, Unbroken.answer_unbroken, Found.none_of_two}
+use Rattle.kp_stage.specs.{Facts.facts_of, Rules.ask_option, Rules.ask_values, Rules.ask_stmt, Rules.ask_stmts, Rules.all_rules}
 use Rattle.kp_stage.proofs.Unbroken.{first_none}
 use Rattle.kp_pipeline.specs.Sequential.{Instruction}
-use Rattle.kp_machine.specs.Slots.{targets_of, number_of, width_of as width_of_target}
-use Rattle.kp_machine.proofs.Widths.{job_fine}
-use Rattle.kp_seq.proofs.Reading.{number_get}
-use Rattle.kp_seq.proofs.Start.{target_width}
-use Rattle.kp_machine.specs.Trees.{Progress}
+use Rattle.kp_machine.specs.{Slots.targets_of, Slots.number_of, Slots.width_of as width_of_target, Trees.Progress}
+use Rattle.kp_machine.proofs.{Widths.job_fine, Scopes.IsSlot, Scopes.found_sense, Scopes.storage_kind, Text.placed, Text.local_no, Text.found_where}
+use Rattle.kp_seq.proofs.{Reading.number_get, Start.target_width, Stage.Named, Stage.value_found, Trees.next, Turns.holds_same, Turns.address_same}
+use Rattle.kp_seq.proofs.{Blocks.Before, Blocks.Keyed, Blocks.one_turn, Blocks.values_free, Noted.put_reads, Noted.put_both, Noted.narrowed_is, Low.target_low}
 use Rattle.kp_machine.specs.Trees as trees
-use Rattle.kp_machine.proofs.Scopes.{IsSlot, found_sense, storage_kind}
-use Rattle.kp_machine.proofs.Text.{placed, local_no, found_where}
-use Rattle.kp_seq.specs.Recorded.{where_true, read_recorded, reads_recorded}
-use Rattle.kp_seq.specs.Running.{state_in}
-use Rattle.kp_seq.specs.inner.Tables.{Laid}
-use Rattle.kp_seq.specs.inner.Steps.{Under, holds, address_in, after_stmt}
-use Rattle.kp_seq.specs.inner.Fits.{FitSlots}
-use Rattle.kp_seq.specs.inner.Ready.{AreTables}
+use Rattle.kp_seq.specs.{Recorded.where_true, Recorded.read_recorded, Recorded.reads_recorded, Running.state_in, inner.Tables.Laid}
+use Rattle.kp_seq.specs.inner.{Steps.Under, Steps.holds, Steps.address_in, Steps.after_stmt, Fits.FitSlots, Ready.AreTables}
 use Rattle.kp_seq.specs.inner.Notes.{Noted, is_wide, asked_in, narrow_address, with_read, note_stmt, note_stmts}
-use Rattle.kp_seq.proofs.Stage.{Named, value_found}
-use Rattle.kp_seq.proofs.Trees.{next}
-use Rattle.kp_seq.proofs.Turns.{holds_same, address_same}
-use Rattle.kp_seq.proofs.Blocks.{Before, Keyed, one_turn, values_free}
-use Rattle.kp_seq.proofs.Noted.{put_reads, put_both, narrowed_is}
-use Rattle.kp_seq.proofs.Low.{target_low}
 
 -- a number of at most 16 bits is not cut short
 pub low_fits : (v w : ℕ) → w ≤ 16 → v < 2 ^ w → v < 2 ^ 32

@@ -2,8 +2,7 @@
 use Rattle.std.proofs.Common.{◌≡◌, ◌∙◌, ℕ, suc, ◌+◌, ◌-◌, ◌<◌, ◌≤◌, List, [], ◌∷◌, ◌++◌, Option, Some, None, length, get_or, take, drop, set, ap, sym, arith, slice_index, ⊎_elim}
 use Rattle.std.proofs.lemmas.Bool.{cases_lt}
 use Rattle.std.proofs.lemmas.List.{append_assoc, drop_all, drop_more, drop-set-lt, length-set, take-append-drop, take_more_set}
-use Rattle.kp_seq.specs.inner.Names.{IsRun}
-use Rattle.kp_seq.specs.inner.Resolved.{Raw, with_place, with_carried, with_run}
+use Rattle.kp_seq.specs.inner.{Names.IsRun, Resolved.Raw, Resolved.with_place, Resolved.with_carried, Resolved.with_run}
 
 abbrev with_names : Raw → List ℕ → Raw
 with_names r names = record r { names = names }

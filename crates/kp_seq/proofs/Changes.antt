@@ -1,8 +1,7 @@
 -- What a put and a set change in the lists, and what they change in functions.
 use Rattle.std.proofs.Common.{◌≡◌, ◌∙◌, ℕ, zero, suc, ◌<◌, List, [], ◌∷◌, Option, Some, None, Bool, true, false, cond, get_or, set, length, refl, ap, sym, arith}
+use Rattle.std.proofs.{Math.Dec.eqb-suc-zero, Math.Dec.eqb-zero-suc, Math.Dec.eqb-suc-suc, lemmas.Bool.eqb-true}
 use Rattle.std.specs.Prelude.{slice_index, unwrap_or, ◌==◌}
-use Rattle.std.proofs.Math.Dec.{eqb-suc-zero, eqb-zero-suc, eqb-suc-suc}
-use Rattle.std.proofs.lemmas.Bool.{eqb-true}
 use Rattle.kp_pipeline.specs.Sequential.{first_value}
 use Rattle.kp_machine.specs.Trees.{with_value}
 

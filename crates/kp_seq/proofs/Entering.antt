@@ -1,54 +1,30 @@
 -- The start of a stage: only the samples and the pipes have values, those that they have in the abstract machine.
 use Rattle.std.proofs.Common.{◌≡◌, ◌∙◌, ℕ, suc, ◌+◌, ◌^◌, ◌<◌, List, [], ◌∷◌, ◌++◌, Option, Some, None, true, false, cond, length, get_or, replicate, refl, ap, sym, subst, arith}
-use Rattle.std.specs.Prelude.{slice_get, slice_index, unwrap_or}
-use Rattle.std.specs.List.{position}
-use Rattle.std.specs.Cmp.Lexicographic.{bytes_decides}
-use Rattle.std.proofs.lemmas.List.{length-replicate}
-use Rattle.std.proofs.lemmas.List.Quantifiers.{position-Some}
-use Rattle.kp_bits.specs.Word.{Word, word}
-use Rattle.kp_ast.specs.Expressions.{is_same_name, names_of}
-use Rattle.kp_bits.specs.Operators.{no_word}
+use Rattle.std.proofs.lemmas.List.{length-replicate, Quantifiers.position-Some}
+use Rattle.std.specs.{Prelude.slice_get, Prelude.slice_index, Prelude.unwrap_or, List.position, Cmp.Lexicographic.bytes_decides}
+use Rattle.kp_bits.specs.{Word.Word, Word.word, Operators.no_word}
+use Rattle.kp_ast.specs.{Expressions.is_same_name, Expressions.names_of, declared.tree.Decl.Decl, declared.tree.Job.Job, declared.widths.NameKind.NameKind}
 use Rattle.kp_ast.specs.Expressions as values
-use Rattle.kp_ast.specs.declared.tree.Decl.{Decl}
 use Rattle.kp_ast.specs.declared.tree.Decl.TheVariants as decls
-use Rattle.kp_ast.specs.declared.tree.Job.{Job}
 use Rattle.kp_ast.specs.declared.widths.Scope.TheVariants as scopes
-use Rattle.kp_ast.specs.declared.widths.NameKind.{NameKind}
 use Rattle.kp_ast.specs.declared.widths.NameKind.TheVariants as kinds
-use Rattle.kp_width.specs.Names.{Sense, Scoped, nothing, look_up, is_pipe, opened}
-use Rattle.kp_width.specs.Widths.{widths_of}
-use Rattle.kp_width.proofs.Unbroken.{Unbroken}
-use Rattle.kp_width.specs.Soundness.{HasWidth}
-use Rattle.kp_width.proofs.Calls.{is_of_text}
-use Rattle.kp_width.proofs.Found.{Found}
-use Rattle.kp_stage.specs.Rules.{all_rules}
-use Rattle.kp_stage.specs.Start.{AreSamples}
+use Rattle.kp_width.specs.{Names.Sense, Names.Scoped, Names.nothing, Names.look_up, Names.is_pipe, Names.opened, Widths.widths_of, Soundness.HasWidth}
+use Rattle.kp_width.proofs.{Unbroken.Unbroken, Calls.is_of_text, Found.Found}
+use Rattle.kp_stage.specs.{Rules.all_rules, Start.AreSamples}
 use Rattle.kp_pipeline.specs.Sequential.{Instruction}
 use Rattle.kp_machine.specs.Slots.{Slot, targets_of, pipes_of, samples_of, number_of, width_of, words_from}
-use Rattle.kp_machine.specs.Trees as trees
 use Rattle.kp_machine.specs.Machine.{values_in}
-use Rattle.kp_machine.proofs.Names.{IsIn}
-use Rattle.kp_machine.proofs.LookUp.{or_else, or_none, look_up-append}
-use Rattle.kp_seq_plan.specs.Names.{at_place}
-use Rattle.kp_seq.specs.inner.Names.{held}
-use Rattle.kp_seq.specs.inner.Tables.{Laid}
-use Rattle.kp_seq.specs.inner.Steps.{Under, fitted, pipe_words, with_name, with_pipes, with_row}
-use Rattle.kp_seq.specs.inner.Steps as steps
-use Rattle.kp_seq.specs.inner.Fits.{FitSlots}
-use Rattle.kp_seq.specs.inner.Ready.{AreTables}
-use Rattle.kp_seq_plan.specs.Lowering.{Holds, AllSuit}
-use Rattle.kp_seq.specs.inner.Resolved.{Outline, Raw, IsShown, with_place, with_row_at, with_carried, entered_at, place_in, places_of, with_width, with_widths, entry_widths}
-use Rattle.kp_seq.proofs.Resolved.{named, none_suit}
-use Rattle.kp_seq.proofs.Lengths.{row_same, entered_same}
-use Rattle.kp_seq.proofs.Start.{fitted_is}
-use Rattle.kp_machine.proofs.Scopes.{is_sample}
-use Rattle.kp_machine.proofs.Apart.{has_name, Apart, pipes_apart, samples_apart, pipe_named, sample_named}
-use Rattle.kp_machine.proofs.Cases.{by_test}
+use Rattle.kp_machine.specs.Trees as trees
+use Rattle.kp_machine.proofs.{Names.IsIn, LookUp.or_else, LookUp.or_none, LookUp.look_up-append, Scopes.is_sample}
+use Rattle.kp_machine.proofs.{Apart.has_name, Apart.Apart, Apart.pipes_apart, Apart.samples_apart, Apart.pipe_named, Apart.sample_named, Cases.by_test}
 use Rattle.kp_machine.proofs.Text.{is_bound, text, placed, declared_right, calls_open}
-use Rattle.kp_seq.proofs.Changes.{first_none}
-use Rattle.kp_seq.proofs.Binding.{held_bound}
-use Rattle.kp_seq.proofs.Blocks.{Before, HasPlace}
-use Rattle.kp_seq.proofs.Written.{Ended, all_default}
+use Rattle.kp_seq_plan.specs.{Names.at_place, Lowering.Holds, Lowering.AllSuit}
+use Rattle.kp_seq.specs.inner.{Names.held, Tables.Laid, Steps.Under, Steps.fitted, Steps.pipe_words, Steps.with_name, Steps.with_pipes, Steps.with_row}
+use Rattle.kp_seq.specs.inner.{Fits.FitSlots, Ready.AreTables}
+use Rattle.kp_seq.specs.inner.Resolved.{Outline, Raw, IsShown, with_place, with_row_at, with_carried, entered_at, place_in, places_of, with_width, with_widths, entry_widths}
+use Rattle.kp_seq.specs.inner.Steps as steps
+use Rattle.kp_seq.proofs.{Resolved.named, Resolved.none_suit, Lengths.row_same, Lengths.entered_same, Start.fitted_is, Changes.first_none, Binding.held_bound}
+use Rattle.kp_seq.proofs.{Blocks.Before, Blocks.HasPlace, Written.Ended, Written.all_default}
 use Rattle.kp_seq.proofs.Plain.{after_next, next_first, next_is, none_after, none_before, not_some, same_value, within}
 
 -- the values of the entries from number i on fit their widths, and their names have indices

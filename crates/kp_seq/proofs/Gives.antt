@@ -1,37 +1,22 @@
 -- A put and a set: what they change in the lists is what they change in the abstract machine, and values keep their widths.
 use Rattle.std.proofs.Common.{◌≡◌, ◌∙◌, ℕ, ◌^◌, ◌<◌, List, Option, Some, None, true, cond, length, get_or, refl, ap, sym, subst}
+use Rattle.std.proofs.lemmas.{Bool.eqb-true, List.length-set}
 use Rattle.std.specs.Prelude.{is_some, slice_get, slice_index, unwrap_or, ◌==◌}
-use Rattle.std.proofs.lemmas.Bool.{eqb-true}
-use Rattle.std.proofs.lemmas.List.{length-set}
 use Rattle.kp_bits.specs.Word.{Word}
-use Rattle.kp_ast.specs.declared.tree.Expr.{Expr}
+use Rattle.kp_ast.specs.declared.tree.{Expr.Expr, ResultDecl.ResultDecl, Decl.Decl, Job.Job}
 use Rattle.kp_ast.specs.declared.tree.Named as tree
-use Rattle.kp_ast.specs.declared.tree.ResultDecl.{ResultDecl}
-use Rattle.kp_ast.specs.declared.tree.Decl.{Decl}
-use Rattle.kp_ast.specs.declared.tree.Job.{Job}
 use Rattle.kp_width.specs.Names.{Sense, Names, Scoped, nothing, look_up, find, used, is_pipe, is_result}
-use Rattle.kp_width.specs.Expressions.{part_of, value_of}
-use Rattle.kp_width.specs.Declarations.{address_width}
-use Rattle.kp_width.specs.Statements.{given}
-use Rattle.kp_width.specs.Widths.{widths_of}
+use Rattle.kp_width.specs.{Expressions.part_of, Expressions.value_of, Declarations.address_width, Statements.given, Widths.widths_of}
 use Rattle.kp_width.proofs.Unbroken.{Unbroken, bind_unbroken}
-use Rattle.kp_stage.specs.Facts.{facts_of}
-use Rattle.kp_stage.specs.Rules.{ask_expr, all_rules}
+use Rattle.kp_stage.specs.{Facts.facts_of, Rules.ask_expr, Rules.all_rules}
 use Rattle.kp_pipeline.specs.Sequential.{Instruction, first_value}
 use Rattle.kp_machine.specs.Slots.{Slot, targets_of, pipes_of, number_of, width_of, result_named}
 use Rattle.kp_machine.specs.Trees.{Progress, with_value, with_put, with_set}
 use Rattle.kp_machine.specs.Trees as trees
-use Rattle.kp_machine.proofs.Results.{named_stands}
-use Rattle.kp_seq.specs.inner.Tables.{Laid}
-use Rattle.kp_seq.specs.inner.Steps.{Under, word_in, with_pipe, with_first, with_result}
-use Rattle.kp_seq.specs.inner.Ready.{AreTables}
-use Rattle.kp_machine.proofs.Scopes.{IsSlot, number_slot, found_sense, results_fit, storage_kind}
-use Rattle.kp_machine.proofs.Cases.{by_test}
-use Rattle.kp_machine.proofs.Text.{text, placed, declared_right, local_no, found_where}
-use Rattle.kp_seq.proofs.Stage.{Named}
-use Rattle.kp_seq.proofs.Changes.{set_seen, put_same, set_same}
-use Rattle.kp_seq.proofs.Turns.{given_fits}
-use Rattle.kp_seq.proofs.Plain.{within}
+use Rattle.kp_machine.proofs.{Results.named_stands, Scopes.IsSlot, Scopes.number_slot, Scopes.found_sense, Scopes.results_fit, Scopes.storage_kind}
+use Rattle.kp_machine.proofs.{Cases.by_test, Text.text, Text.placed, Text.declared_right, Text.local_no, Text.found_where}
+use Rattle.kp_seq.specs.inner.{Tables.Laid, Steps.Under, Steps.word_in, Steps.with_pipe, Steps.with_first, Steps.with_result, Ready.AreTables}
+use Rattle.kp_seq.proofs.{Stage.Named, Changes.set_seen, Changes.put_same, Changes.set_same, Turns.given_fits, Plain.within}
 
 first_fits : (o : Option ℕ) (v b w : ℕ) → v < 2 ^ w → ((x : ℕ) → o ≡ Some x → x < 2 ^ w) → first_value o (Some v) ≡ Some b → b < 2 ^ w
 first_fits None v b w h old e = let i : v ≡ b = cc in subst (λ z. z < 2 ^ w) i h

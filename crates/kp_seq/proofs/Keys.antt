@@ -1,43 +1,28 @@
 -- Each name that a job declares has an index in its tables.
 use Rattle.std.proofs.Common.{◌≡◌, ◌∙◌, ℕ, zero, suc, ◌+◌, ◌<◌, List, [], ◌∷◌, ◌++◌, Some, None, Bool, true, false, cond, not, ◌||◌, nat_eq, length, refl, ap, sym, arith}
-use Rattle.std.specs.Prelude.{is_some, slice_get}
-use Rattle.std.specs.List.{list_any, flat_map, position, position_or_len}
+use Rattle.std.proofs.lemmas.{Bool.cond_both, Bool.or_left, Bool.or_right, Bool.lt-ltb, List.Folds.list_any-append}
+use Rattle.std.specs.{Prelude.is_some, Prelude.slice_get, List.list_any, List.flat_map, List.position, List.position_or_len}
 use Rattle.std.specs.Cmp.Lexicographic.{pointwise, bytes_decides}
-use Rattle.std.proofs.lemmas.Bool.{cond_both, or_left, or_right, lt-ltb}
-use Rattle.std.proofs.lemmas.List.Folds.{list_any-append}
 use Rattle.indexmap.specs.IndexSet.{insert_key}
-use Rattle.kp_ast.specs.Expressions.{is_same_name}
-use Rattle.kp_ast.specs.declared.tree.Param.{Param}
-use Rattle.kp_ast.specs.declared.tree.Decl.{Decl}
+use Rattle.kp_ast.specs.{Expressions.is_same_name, declared.tree.Param.Param, declared.tree.Decl.Decl, declared.tree.Stmt.Stmt, declared.tree.StmtKind.StmtKind}
+use Rattle.kp_ast.specs.declared.{tree.Block.Block, tree.Job.Job, widths.Entry.Entry, widths.Scope.Scope, widths.NameKind.NameKind}
 use Rattle.kp_ast.specs.declared.tree.Decl.TheVariants as decls
-use Rattle.kp_ast.specs.declared.tree.Stmt.{Stmt}
-use Rattle.kp_ast.specs.declared.tree.StmtKind.{StmtKind}
 use Rattle.kp_ast.specs.declared.tree.StmtKind.TheVariants as stmts
-use Rattle.kp_ast.specs.declared.tree.Block.{Block}
-use Rattle.kp_ast.specs.declared.tree.Job.{Job}
-use Rattle.kp_ast.specs.declared.widths.Entry.{Entry}
-use Rattle.kp_ast.specs.declared.widths.Scope.{Scope}
 use Rattle.kp_ast.specs.declared.widths.Scope.TheVariants as scopes
-use Rattle.kp_ast.specs.declared.widths.NameKind.{NameKind}
 use Rattle.kp_ast.specs.declared.widths.NameKind.TheVariants as kinds
 use Rattle.kp_width.specs.Names.{Sense, sense, Scoped, nothing, look_up, find, or_else, is_pipe, opened, with_entry, declared_local}
 use Rattle.kp_width.specs.Expressions.{width_of}
 use Rattle.kp_width.specs.Declarations.{width_or_zero, name_of, parameters_of, function_opened, declaration_of, declarations_of, functions_in}
 use Rattle.kp_width.specs.Statements.{read_of, statement_of, statements_of, blocks_of}
-use Rattle.kp_width.specs.TextOrder.{names_in_stmt, names_in_block}
-use Rattle.kp_width.specs.Widths.{widths_of}
-use Rattle.kp_width.proofs.Unbroken.{Unbroken}
-use Rattle.kp_width.proofs.Calls.{pushed}
+use Rattle.kp_width.specs.{TextOrder.names_in_stmt, TextOrder.names_in_block, Widths.widths_of}
+use Rattle.kp_width.proofs.{Unbroken.Unbroken, Calls.pushed}
 use Rattle.kp_stage.specs.Rules.{all_rules}
 use Rattle.kp_pipeline.specs.Sequential.{Instruction}
 use Rattle.kp_machine.specs.Slots.{Slot, targets_of, pipes_of, samples_of}
-use Rattle.kp_machine.proofs.Apart.{is_pipe_or_sample, slot_by, slots_by, pipes_by, samples_by}
-use Rattle.kp_machine.proofs.Cases.{by_test, by_option}
+use Rattle.kp_machine.proofs.{Apart.is_pipe_or_sample, Apart.slot_by, Apart.slots_by, Apart.pipes_by, Apart.samples_by, Cases.by_test, Cases.by_option}
 use Rattle.kp_machine.proofs.Scopes.{sense_of, is_sample, find_none}
 use Rattle.kp_seq_plan.specs.Names.{keys_of}
-use Rattle.kp_seq.specs.inner.Tables.{Laid}
-use Rattle.kp_seq.specs.inner.Fits.{FitSlots}
-use Rattle.kp_seq.specs.inner.Ready.{AreTables}
+use Rattle.kp_seq.specs.inner.{Tables.Laid, Fits.FitSlots, Ready.AreTables}
 use Rattle.kp_seq.proofs.Blocks.{HasPlace, Keyed}
 
 one_of_two : {G : Type 0} (a b : Bool) → (a || b) ≡ true → (a ≡ true → G) → (b ≡ true → G) → G

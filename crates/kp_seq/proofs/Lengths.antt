@@ -1,18 +1,14 @@
 -- No step of an instruction changes how many names, pipes and results there are, or how many words a target has.
 use Rattle.std.proofs.Common.{◌≡◌, ◌∙◌, ℕ, List, [], ◌∷◌, Option, Some, None, Bool, true, false, cond, length, replicate, refl}
-use Rattle.std.specs.List.{position}
 use Rattle.std.proofs.lemmas.List.{length-set, length-replicate}
+use Rattle.std.specs.List.{position}
 use Rattle.kp_bits.specs.Word.{Word}
-use Rattle.kp_ast.specs.Expressions.{is_same_name}
-use Rattle.kp_ast.specs.declared.tree.ResultDecl.{ResultDecl}
-use Rattle.kp_ast.specs.declared.tree.Stmt.{Stmt}
-use Rattle.kp_ast.specs.declared.tree.StmtKind.{StmtKind}
-use Rattle.kp_ast.specs.declared.tree.StmtKind.TheVariants as stmts
+use Rattle.kp_ast.specs.{Expressions.is_same_name, declared.tree.ResultDecl.ResultDecl, declared.tree.Stmt.Stmt, declared.tree.StmtKind.StmtKind}
 use Rattle.kp_ast.specs.declared.tree.Block.{Block}
+use Rattle.kp_ast.specs.declared.tree.StmtKind.TheVariants as stmts
 use Rattle.kp_machine.specs.Slots.{Slot, number_of, width_of, result_named}
-use Rattle.kp_seq.specs.inner.Names.{set_place}
-use Rattle.kp_seq.specs.inner.Tables.{Laid}
 use Rattle.kp_seq.specs.inner.Steps.{Under, holds, word_in, fitted, value_read, with_name, with_pipe, with_result, after_stmt, after_stmts, with_row, pipe_words, entered, after_block, after_blocks, begun}
+use Rattle.kp_seq.specs.inner.{Names.set_place, Tables.Laid}
 
 pub record SameLengths (u v : Under) : Type 0 where
   pub names : length v.names ≡ length u.names

@@ -1,20 +1,17 @@
 -- The addresses of the files of a job whose names and widths are right have at most 16 bits.
 use Rattle.std.proofs.Common.{◌≡◌, ℕ, zero, suc, ◌+◌, ◌≤◌, List, [], ◌∷◌, Some, ◌&&◌, ap, ◌∙◌, arith}
-use Rattle.std.specs.Prelude.{nat_le, is_some, not, slice_get}
 use Rattle.std.proofs.lemmas.Bool.{and_parts, leb-true}
-use Rattle.kp_base.specs.Refusal.{e_rule}
-use Rattle.kp_base.specs.Check.{ok, ◌>>=◌}
-use Rattle.kp_ast.specs.declared.tree.Decl.{Decl}
+use Rattle.std.specs.Prelude.{nat_le, is_some, not, slice_get}
+use Rattle.kp_base.specs.{Refusal.e_rule, Check.ok, Check.◌>>=◌}
+use Rattle.kp_ast.specs.declared.tree.{Decl.Decl, Job.Job}
 use Rattle.kp_ast.specs.declared.tree.Decl.TheVariants as decls
 use Rattle.kp_ast.specs.declared.widths.NameKind.TheVariants as kinds
-use Rattle.kp_ast.specs.declared.tree.Job.{Job}
 use Rattle.kp_width.specs.Names.{Scoped, nothing, sense, find, declared_text}
 use Rattle.kp_width.specs.Declarations.{declared, addresses_of, after_name, declaration_of, declarations_of, functions_in}
 use Rattle.kp_width.specs.Widths.{widths_of}
 use Rattle.kp_width.proofs.Unbroken.{Unbroken, bind_unbroken, answer_unbroken}
 use Rattle.kp_machine.specs.Slots.{Slot, slot, targets_of}
-use Rattle.kp_machine.proofs.Scopes.{IsSlot, slot_of}
-use Rattle.kp_machine.proofs.Text.{declared_right}
+use Rattle.kp_machine.proofs.{Scopes.IsSlot, Scopes.slot_of, Text.declared_right}
 
 abbrev pub Low : List Decl → Type 0
 Low [] = Unit {0}

@@ -1,45 +1,26 @@
 -- A read: its value is that in the abstract machine, as a word of its target's width.
 use Rattle.std.proofs.Common.{◌≡◌, ◌∙◌, ℕ, ◌^◌, ◌<◌, ◌≤◌, List, Option, Some, None, cond, not, ◌||◌, length, get_or, refl, ap, sym, subst}
-use Rattle.std.specs.Prelude.{is_some, slice_get}
-use Rattle.std.specs.List.{position}
-use Rattle.std.proofs.lemmas.Bool.{cond_both}
-use Rattle.std.proofs.lemmas.Nat.{pow_pos}
-use Rattle.std.proofs.lemmas.Option.{get_or_from_slice_get}
-use Rattle.kp_base.specs.Check.{ok, ◌>>=◌}
-use Rattle.kp_base.specs.Refusal.{e_rule}
+use Rattle.std.proofs.lemmas.{Bool.cond_both, Nat.pow_pos, Option.get_or_from_slice_get}
+use Rattle.std.specs.{Prelude.is_some, Prelude.slice_get, List.position}
+use Rattle.kp_base.specs.{Check.ok, Check.◌>>=◌, Refusal.e_rule}
 use Rattle.kp_bits.specs.Word.{Word}
-use Rattle.kp_ast.specs.Expressions.{is_same_name}
+use Rattle.kp_ast.specs.{Expressions.is_same_name, declared.tree.Expr.Expr, declared.tree.ReadStmt.ReadStmt, declared.tree.Job.Job}
 use Rattle.kp_ast.specs.Expressions as values
-use Rattle.kp_ast.specs.declared.tree.Expr.{Expr}
-use Rattle.kp_ast.specs.declared.tree.ReadStmt.{ReadStmt}
 use Rattle.kp_ast.specs.declared.tree.StmtKind.TheVariants as stmts
-use Rattle.kp_ast.specs.declared.tree.Job.{Job}
 use Rattle.kp_ast.specs.declared.widths.NameKind.TheVariants as kinds
 use Rattle.kp_width.specs.Names.{Sense, sense, Names, Scoped, look_up, find, is_register, is_file, declared_local}
-use Rattle.kp_width.specs.Expressions.{part_of, value_of}
-use Rattle.kp_width.specs.Declarations.{kept, storage_of, address_width}
-use Rattle.kp_width.specs.Statements.{when_of, address_of, read_of, statement_of}
-use Rattle.kp_width.specs.Widths.{widths_of}
-use Rattle.kp_width.proofs.Unbroken.{Unbroken, bind_unbroken, answer_unbroken}
-use Rattle.kp_width.proofs.Found.{none_of_two}
-use Rattle.kp_stage.specs.Facts.{facts_of}
-use Rattle.kp_stage.specs.Rules.{ask_option, ask_values, all_rules}
-use Rattle.kp_machine.specs.Slots.{Slot, targets_of, number_of, width_of}
-use Rattle.kp_machine.specs.Trees.{Progress, with_name, word_read}
+use Rattle.kp_width.specs.{Expressions.part_of, Expressions.value_of, Declarations.kept, Declarations.storage_of, Declarations.address_width}
+use Rattle.kp_width.specs.{Statements.when_of, Statements.address_of, Statements.read_of, Statements.statement_of, Widths.widths_of}
+use Rattle.kp_width.proofs.{Unbroken.Unbroken, Unbroken.bind_unbroken, Unbroken.answer_unbroken, Found.none_of_two}
+use Rattle.kp_stage.specs.{Facts.facts_of, Rules.ask_option, Rules.ask_values, Rules.all_rules}
+use Rattle.kp_machine.specs.{Slots.Slot, Slots.targets_of, Slots.number_of, Slots.width_of, Trees.Progress, Trees.with_name, Trees.word_read}
 use Rattle.kp_machine.specs.Trees as trees
-use Rattle.kp_seq.specs.Running.{no_slot, state_in}
-use Rattle.kp_seq.specs.inner.Tables.{Laid}
-use Rattle.kp_seq.specs.inner.Steps.{Under, fitted, holds, address_in}
+use Rattle.kp_seq.specs.{Running.no_slot, Running.state_in, inner.Tables.Laid, inner.Steps.Under, inner.Steps.fitted, inner.Steps.holds, inner.Steps.address_in}
+use Rattle.kp_seq.specs.inner.{Fits.FitSlots, Ready.AreTables}
 use Rattle.kp_seq.specs.inner.Steps as steps
-use Rattle.kp_seq.specs.inner.Fits.{FitSlots}
-use Rattle.kp_seq.specs.inner.Ready.{AreTables}
-use Rattle.kp_machine.proofs.Scopes.{IsSlot, slot_of, found_sense, storage_kind, fresh_none}
-use Rattle.kp_machine.proofs.Names.{IsIn}
-use Rattle.kp_machine.proofs.Text.{placed, local_no, found_where}
-use Rattle.kp_machine.proofs.Widths.{job_fine}
-use Rattle.kp_seq.proofs.Stage.{Named}
-use Rattle.kp_seq.proofs.Start.{target_width, word_fits, fitted_is}
-use Rattle.kp_seq.proofs.Trees.{value_read, address_read}
+use Rattle.kp_machine.proofs.{Scopes.IsSlot, Scopes.slot_of, Scopes.found_sense, Scopes.storage_kind, Scopes.fresh_none, Names.IsIn}
+use Rattle.kp_machine.proofs.{Text.placed, Text.local_no, Text.found_where, Widths.job_fine}
+use Rattle.kp_seq.proofs.{Stage.Named, Start.target_width, Start.word_fits, Start.fitted_is, Trees.value_read, Trees.address_read}
 use Rattle.kp_seq.proofs.Turns.{holds_same, address_same, name_bound}
 
 pub number_get : (ss : List Slot) (q : List ℕ) → IsIn ss q → (get_or ss (number_of ss q) no_slot).width ≡ width_of ss q

@@ -1,62 +1,38 @@
 -- The implementation records of an instruction what the definition specifies.
 use Rattle.std.proofs.Common.{◌≡◌, ◌∙◌, ℕ, zero, suc, ◌+◌, ◌^◌, ◌<◌, ◌≤◌, List, [], ◌∷◌, Option, Some, None, Bool, true, false, ◌&&◌, length, map, get_or, replicate, refl, ap, sym, subst, arith, lit<}
+use Rattle.std.proofs.lemmas.{Bool.and_parts, Bool.leb-true, Bool.ltb-true, List.length-append, List.length-map, List.length-replicate, List.ext_get_or}
+use Rattle.std.proofs.lemmas.{List.Sums.sum_by-cons, Option.get_or_from_slice_get, Option.slice_get_within}
 use Rattle.std.specs.Prelude.{is_some, slice_get, unwrap_or, sum_by, nat_le, nat_lt}
-use Rattle.std.proofs.lemmas.Bool.{and_parts, leb-true, ltb-true}
-use Rattle.std.proofs.lemmas.List.{length-append, length-map, length-replicate, ext_get_or}
-use Rattle.std.proofs.lemmas.List.Sums.{sum_by-cons}
-use Rattle.std.proofs.lemmas.Option.{get_or_from_slice_get, slice_get_within}
-use Rattle.kp_base.specs.First.{first}
-use Rattle.kp_base.specs.Check.{ok, ◌>>=◌}
-use Rattle.kp_base.specs.Refusal.{e_rule}
+use Rattle.kp_base.specs.{First.first, Check.ok, Check.◌>>=◌, Refusal.e_rule}
 use Rattle.kp_bits.specs.Word.{Word}
-use Rattle.kp_ast.specs.declared.tree.ResultDecl.{ResultDecl}
-use Rattle.kp_ast.specs.declared.tree.Decl.{Decl}
+use Rattle.kp_ast.specs.declared.tree.{ResultDecl.ResultDecl, Decl.Decl, Block.Block, Stmt.Stmt, StmtKind.StmtKind, Job.Job}
 use Rattle.kp_ast.specs.declared.tree.Decl.TheVariants as decls
-use Rattle.kp_ast.specs.declared.tree.Block.{Block}
-use Rattle.kp_ast.specs.declared.tree.Stmt.{Stmt}
-use Rattle.kp_ast.specs.declared.tree.StmtKind.{StmtKind}
 use Rattle.kp_ast.specs.declared.tree.StmtKind.TheVariants as stmts
-use Rattle.kp_ast.specs.declared.tree.Job.{Job}
 use Rattle.kp_ast.specs.declared.widths.Scope.TheVariants as scopes
-use Rattle.kp_width.specs.Names.{Scoped, nothing, opened}
-use Rattle.kp_width.specs.Declarations.{declarations_of, address_width}
-use Rattle.kp_width.specs.Statements.{statements_of, blocks_of}
-use Rattle.kp_width.specs.Widths.{widths_of}
+use Rattle.kp_width.specs.{Names.Scoped, Names.nothing, Names.opened, Declarations.declarations_of, Declarations.address_width}
+use Rattle.kp_width.specs.{Statements.statements_of, Statements.blocks_of, Widths.widths_of}
 use Rattle.kp_width.proofs.Unbroken.{Unbroken, bind_unbroken}
-use Rattle.kp_stage.specs.Counts.{summary_of, reads_of, reads_in}
-use Rattle.kp_stage.specs.Facts.{facts_of, stmts_in}
-use Rattle.kp_stage.specs.Rules.{ask_stmts, all_rules}
-use Rattle.kp_stage.specs.Stages.{broken_of}
-use Rattle.kp_stage.specs.Start.{AreSamples}
+use Rattle.kp_stage.specs.{Counts.summary_of, Counts.reads_of, Counts.reads_in, Facts.facts_of, Facts.stmts_in, Rules.ask_stmts, Rules.all_rules}
+use Rattle.kp_stage.specs.{Stages.broken_of, Start.AreSamples}
 use Rattle.kp_stage.proofs.Unbroken.{answer_none}
-use Rattle.kp_pipeline.specs.Sequential.{Instruction, first_value, before_stage}
-use Rattle.kp_pipeline.specs.Timeline.{first_stage}
-use Rattle.kp_machine.specs.Slots.{Slot, targets_of, pipes_of, number_of}
-use Rattle.kp_machine.specs.Trees.{Progress}
-use Rattle.kp_machine.specs.Trees as trees
+use Rattle.kp_pipeline.specs.{Sequential.Instruction, Sequential.first_value, Sequential.before_stage, Timeline.first_stage}
+use Rattle.kp_machine.specs.{Slots.Slot, Slots.targets_of, Slots.pipes_of, Slots.number_of, Trees.Progress}
 use Rattle.kp_machine.specs.Machine.{machine_of, values_in, is_enabled_by}
-use Rattle.kp_machine.proofs.Results.{Stands}
-use Rattle.kp_machine.proofs.Rules.{rules_kept, head_kept, decl_kept, stmts_kept}
-use Rattle.kp_machine.proofs.Scopes.{results_fit}
-use Rattle.kp_machine.proofs.Stages.{stages_inside}
+use Rattle.kp_machine.specs.Trees as trees
+use Rattle.kp_machine.proofs.{Results.Stands, Rules.rules_kept, Rules.head_kept, Rules.decl_kept, Rules.stmts_kept, Scopes.results_fit, Stages.stages_inside}
 use Rattle.kp_machine.proofs.Text.{declared_right, target_slot}
+use Rattle.kp_seq.specs.inner.Notes.{Noted, record_by, outlet_by, outlets_of, begun_notes, changed_from, narrowed, marked, with_marks, write_noted, setting_noted, with_results, note_stmts, note_blocks}
 use Rattle.kp_seq.specs.declared.notes.Outlet.{Outlet}
 use Rattle.kp_seq.specs.Recorded.{where_true, read_recorded, reads_recorded, stage_reads, reads_from, results_of, write_recorded, setting_recorded, record_of, done_after}
-use Rattle.kp_seq.specs.Running.{state_in}
-use Rattle.kp_seq.specs.inner.Tables.{Laid}
+use Rattle.kp_seq.specs.{Running.state_in, inner.Tables.Laid}
 use Rattle.kp_seq.specs.inner.Steps.{Under, begun, entered, address_by, after_stmts, after_block, after_blocks}
+use Rattle.kp_seq.specs.inner.{Ready.AreTables, Ready.HasPlaces, Ready.IsNoted, Fits.FitSlots}
 use Rattle.kp_seq.specs.inner.Steps as steps
-use Rattle.kp_seq.specs.inner.Ready.{AreTables, HasPlaces, IsNoted}
-use Rattle.kp_seq.specs.inner.Fits.{FitSlots}
-use Rattle.kp_seq.specs.inner.Notes.{Noted, record_by, outlet_by, outlets_of, begun_notes, changed_from, narrowed, marked, with_marks, write_noted, setting_noted, with_results, note_stmts, note_blocks}
-use Rattle.kp_seq.proofs.Entering.{enters}
-use Rattle.kp_seq.proofs.Keys.{pipe_placed, sample_placed, keyed}
-use Rattle.kp_seq.proofs.Written.{Ended, begun_ended, enabled_same, address_same, address_fits}
-use Rattle.kp_seq.proofs.Lengths.{begun_same}
+use Rattle.kp_seq.proofs.{Entering.enters, Keys.pipe_placed, Keys.sample_placed, Keys.keyed}
+use Rattle.kp_seq.proofs.{Written.Ended, Written.begun_ended, Written.enabled_same, Written.address_same, Written.address_fits, Lengths.begun_same}
 use Rattle.kp_seq.proofs.Step.{Reached, block_end, all_ended, still_placed}
 use Rattle.kp_seq.proofs.Noted.{put_reads, put_both, put_count, all_put, changed_at, changed_count, seen, seen_first, first_below, narrowed_is}
-use Rattle.kp_seq.proofs.Low.{target_low}
-use Rattle.kp_seq.proofs.Asked.{after_reads, all_asked, low_fits}
+use Rattle.kp_seq.proofs.{Low.target_low, Asked.after_reads, Asked.all_asked, Asked.low_fits}
 use Rattle.kp_seq.proofs.Plain.{after_next, next_first, next_is, none_after, none_before, within}
 
 -- lists, by their entries

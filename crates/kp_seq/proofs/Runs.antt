@@ -2,8 +2,7 @@
 use Rattle.std.proofs.Common.{◌≡◌, ◌∙◌, ℕ, zero, suc, List, [], ◌∷◌, length, refl, ap, sym}
 use Rattle.kp_bits.specs.Word.{Word}
 use Rattle.kp_ast.specs.declared.tree.Job.{Job}
-use Rattle.kp_pipeline.specs.Machine.{Machine}
-use Rattle.kp_pipeline.specs.Sequential.{exec, seq}
+use Rattle.kp_pipeline.specs.{Machine.Machine, Sequential.exec, Sequential.seq}
 use Rattle.kp_machine.specs.Machine.{machine_of}
 use Rattle.kp_seq.specs.Running.{after_rows, after_one, given_by}
 

@@ -3,24 +3,15 @@ use Rattle.std.proofs.Common.{◌≡◌, ◌∙◌, ℕ, List, Option, Some, Non
 use Rattle.std.specs.Prelude.{is_some, slice_get, unwrap_or}
 use Rattle.kp_bits.specs.Word.{Word}
 use Rattle.kp_ast.specs.Expressions.{Env, eval, env_of, names_of, calls_of}
+use Rattle.kp_ast.specs.{Checked.checked, Checked.checked_calls_of, declared.tree.Expr.Expr, declared.tree.Decl.Decl, declared.tree.Job.Job}
 use Rattle.kp_ast.specs.Expressions as values
-use Rattle.kp_ast.specs.Checked.{checked, checked_calls_of}
-use Rattle.kp_ast.specs.declared.tree.Expr.{Expr}
-use Rattle.kp_ast.specs.declared.tree.Decl.{Decl}
-use Rattle.kp_ast.specs.declared.tree.Job.{Job}
 use Rattle.kp_ast.specs.declared.widths.Scope.TheVariants as scopes
 use Rattle.kp_width.specs.Names.{Sense, Names, Scoped, look_up, find, is_value_in, is_callee, is_hint}
-use Rattle.kp_width.specs.Expressions.{width_of}
-use Rattle.kp_width.specs.Widths.{widths_of}
-use Rattle.kp_width.proofs.Unbroken.{Unbroken}
-use Rattle.kp_width.proofs.Found.{Found, Meets, found}
-use Rattle.kp_stage.specs.Facts.{Facts, facts_of}
-use Rattle.kp_stage.specs.Rules.{ask_name, ask_expr, all_rules}
+use Rattle.kp_width.specs.{Expressions.width_of, Widths.widths_of}
+use Rattle.kp_width.proofs.{Unbroken.Unbroken, Found.Found, Found.Meets, Found.found}
+use Rattle.kp_stage.specs.{Facts.Facts, Facts.facts_of, Rules.ask_name, Rules.ask_expr, Rules.all_rules}
 use Rattle.kp_machine.specs.Trees.{Progress}
-use Rattle.kp_seq.specs.inner.Names.{held}
-use Rattle.kp_seq.specs.inner.Tables.{Laid}
-use Rattle.kp_seq.specs.inner.Steps.{Under, known_in, word_in, zero_bit}
-use Rattle.kp_seq.specs.inner.Ready.{AreTables}
+use Rattle.kp_seq.specs.inner.{Names.held, Tables.Laid, Steps.Under, Steps.known_in, Steps.word_in, Steps.zero_bit, Ready.AreTables}
 use Rattle.kp_machine.proofs.Text.{same_question, is_local, is_bound, value_kind, local_no, found_where, no_hint, text, placed, calls_open}
 
 module _ (job : Job) (unbroken : Unbroken (widths_of job)) (t : Laid) (tables : AreTables job t) (rule : _) (is25 : slice_get all_rules 10 ≡ Some rule) where

@@ -1,27 +1,19 @@
 -- The words of a start state are those of its state, and they fit their targets.
-use Rattle.std.proofs.Common.{◌≡◌, ◌∙◌, ℕ, zero, suc, ◌-◌, ◌^◌, ◌<◌, ◌≤◌, List, [], ◌∷◌, Option, Some, None, Bool, true, false, cond, ◌&&◌, length, get_or, take, refl, ap, sym, subst, arith}
-use Rattle.std.specs.Prelude.{slice_index, slice_get, ◌==◌, nat_le, nat_lt}
-use Rattle.std.specs.List.{filter}
-use Rattle.std.proofs.lemmas.Bool.{cases_lt, cond-true, le-leb, lt-ltb}
-use Rattle.std.proofs.lemmas.List.{get_or_past}
-use Rattle.std.proofs.lemmas.Nat.{pow_pos}
-use Rattle.std.proofs.Common.{⊎_elim}
+use Rattle.std.proofs.Common.{◌≡◌, ◌∙◌, ℕ, zero, suc, ◌-◌, ◌^◌, ◌<◌, ◌≤◌, List, [], ◌∷◌, Option, Some, None, Bool, true, false, cond, ◌&&◌, length, get_or, take, refl, ap, sym, subst, arith, ⊎_elim}
+use Rattle.std.proofs.lemmas.{Bool.cases_lt, Bool.cond-true, Bool.le-leb, Bool.lt-ltb, List.get_or_past, Nat.pow_pos}
 use Rattle.std.proofs.Math.Dec.{eqb-suc-zero}
+use Rattle.std.specs.{Prelude.slice_index, Prelude.slice_get, Prelude.◌==◌, Prelude.nat_le, Prelude.nat_lt, List.filter}
 use Rattle.kp_bits.specs.Word.{Word, word}
-use Rattle.kp_ast.specs.declared.tree.Decl.{Decl}
+use Rattle.kp_ast.specs.declared.tree.{Decl.Decl, Job.Job}
 use Rattle.kp_ast.specs.declared.tree.Decl.TheVariants as decls
-use Rattle.kp_ast.specs.declared.tree.Job.{Job}
 use Rattle.kp_width.specs.Widths.{widths_of}
 use Rattle.kp_width.proofs.Unbroken.{Unbroken}
-use Rattle.kp_stage.specs.Start.{AreRegs, AreFiles, IsStartOf}
-use Rattle.kp_stage.specs.declared.start.Start.{Start}
+use Rattle.kp_stage.specs.{Start.AreRegs, Start.AreFiles, Start.IsStartOf, declared.start.Start.Start}
 use Rattle.kp_machine.specs.Slots.{Slot, slot, targets_of, is_register}
 use Rattle.kp_machine.specs.Machine.{registers_before, files_before, register_words, file_words, target_words, state_of}
 use Rattle.kp_machine.proofs.Widths.{Fine, job_fine}
 use Rattle.kp_seq.specs.Running.{Running, HasWord, no_slot, target, state_in, state, word_shown}
-use Rattle.kp_seq.specs.inner.Steps.{fitted, zero_bit}
-use Rattle.kp_seq.specs.inner.Fits.{FitSlots}
-use Rattle.kp_seq.specs.inner.Ready.{words_of_start}
+use Rattle.kp_seq.specs.inner.{Steps.fitted, Steps.zero_bit, Fits.FitSlots, Ready.words_of_start}
 
 one_word : (v w : ℕ) (a : ℕ) → v < 2 ^ w → slice_index (v ∷ []) a < 2 ^ w
 one_word v w zero h = h

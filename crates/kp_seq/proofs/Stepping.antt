@@ -1,23 +1,15 @@
 -- An executed instruction of a machine: the state after it, and what the machine preserves.
 use Rattle.std.proofs.Common.{◌≡◌, ◌∙◌, ℕ, ◌≤◌, List, length, refl, ap, sym, subst, arith}
-use Rattle.std.specs.Prelude.{sum_by}
-use Rattle.std.specs.List.{All}
+use Rattle.std.specs.{Prelude.sum_by, List.All}
 use Rattle.kp_bits.specs.Word.{Word}
 use Rattle.kp_ast.specs.declared.tree.Job.{Job}
-use Rattle.kp_stage.specs.Sizes.{size_of_block, size_of_job}
-use Rattle.kp_stage.specs.Start.{AreSamples}
-use Rattle.kp_machine.specs.Machine.{values_in}
-use Rattle.kp_machine.specs.Slots.{targets_of}
-use Rattle.kp_seq.specs.Running.{state_in, after_one}
-use Rattle.kp_seq.specs.Recorded.{record_of}
-use Rattle.kp_seq.specs.inner.Fits.{FitSlots}
-use Rattle.kp_seq.specs.inner.Notes.{Noted, record_by}
+use Rattle.kp_stage.specs.{Sizes.size_of_block, Sizes.size_of_job, Start.AreSamples}
+use Rattle.kp_machine.specs.{Machine.values_in, Slots.targets_of}
+use Rattle.kp_seq.specs.{Running.state_in, Running.after_one, Recorded.record_of, inner.Fits.FitSlots, inner.Notes.Noted, inner.Notes.record_by}
 use Rattle.kp_seq.specs.inner.Ready.{HasPlaces, HasRoom, IsNoted, IsReady}
 use Rattle.kp_seq.specs.inner.Resolved.{Outline, Raw, entry_widths, steps_space, ran, after_stages, begun_at, noted}
-use Rattle.kp_seq.specs.inner.Steps.{Under, executed}
-use Rattle.kp_seq.specs.inner.Tables.{Laid}
-use Rattle.kp_seq.proofs.Lengths.{all_same}
-use Rattle.kp_seq.proofs.Resolved.{enough}
+use Rattle.kp_seq.specs.inner.{Steps.Under, Steps.executed, Tables.Laid}
+use Rattle.kp_seq.proofs.{Lengths.all_same, Resolved.enough}
 use Rattle.kp_seq.proofs.Step.{Follows, as_under, as_placed, step_state, step_fits, all_follow, ran_is, noted_is}
 use Rattle.kp_seq.proofs.Recording.{still_noted, noted_is_recorded}
 

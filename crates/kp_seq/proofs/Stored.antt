@@ -1,13 +1,10 @@
 -- Words of targets are written, and their ports are laid out.
 use Rattle.std.proofs.Common.{◌≡◌, ◌∙◌, ℕ, suc, ◌+◌, ◌-◌, ◌<◌, ◌≤◌, List, [], ◌∷◌, ◌++◌, map, Option, length, get_or, set, ap, sym, append_assoc, arith}
-use Rattle.std.specs.Prelude.{Vec}
-use Rattle.std.specs.declared.alloc.Global.{Global}
 use Rattle.std.proofs.lemmas.List.{set_past, set-get_or, map-set}
+use Rattle.std.specs.{Prelude.Vec, declared.alloc.Global.Global}
 use Rattle.kp_ast.specs.declared.tree.Decl.{Decl}
 use Rattle.kp_machine.specs.Slots.{Slot, result_to}
-use Rattle.kp_seq.specs.declared.tables.Port.{Port}
-use Rattle.kp_seq.specs.inner.Tables.{port_of, ports_from}
-use Rattle.kp_seq.specs.inner.Steps.{with_word}
+use Rattle.kp_seq.specs.{declared.tables.Port.Port, inner.Tables.port_of, inner.Tables.ports_from, inner.Steps.with_word}
 
 pub past_targets : (words : List (List ℕ)) (t a v : ℕ) → length words ≤ t → with_word words t a v ≡ words
 past_targets words t a v h = set_past words t (set (get_or words t []) a v) h

@@ -1,13 +1,8 @@
 -- A stage of the abstract machine that sees a state, statement by statement.
 use Rattle.std.proofs.Common.{◌≡◌, ◌∙◌, ℕ, List, [], ◌∷◌, Option, Some, None, Bool, true, false, cond, refl}
-use Rattle.kp_ast.specs.declared.tree.Expr.{Expr}
-use Rattle.kp_ast.specs.declared.tree.ReadStmt.{ReadStmt}
-use Rattle.kp_ast.specs.declared.tree.Decl.{Decl}
-use Rattle.kp_ast.specs.declared.tree.Stmt.{Stmt}
-use Rattle.kp_ast.specs.declared.tree.StmtKind.{StmtKind}
+use Rattle.kp_ast.specs.declared.tree.{Expr.Expr, ReadStmt.ReadStmt, Decl.Decl, Stmt.Stmt, StmtKind.StmtKind}
 use Rattle.kp_ast.specs.declared.tree.StmtKind.TheVariants as stmts
-use Rattle.kp_pipeline.specs.Machine.{Tree, Done}
-use Rattle.kp_pipeline.specs.Sequential.{StageOutcome, run}
+use Rattle.kp_pipeline.specs.{Machine.Tree, Machine.Done, Sequential.StageOutcome, Sequential.run}
 use Rattle.kp_machine.specs.Slots.{targets_of, number_of, result_named}
 use Rattle.kp_machine.specs.Trees.{Progress, holds, value_of, word_read, with_name, with_set, read_of, statement_of, tree_of}
 use Rattle.kp_seq.specs.Recorded.{done_after}

@@ -1,43 +1,25 @@
 -- A statement of a stage: what it does to the lists is what it does in the abstract machine.
 use Rattle.std.proofs.Common.{◌≡◌, ◌∙◌, ℕ, ◌<◌, List, [], ◌∷◌, ◌++◌, Option, Some, None, true, false, cond, not, length, refl, ap, sym, subst}
-use Rattle.std.specs.Prelude.{is_some, slice_get, unwrap_or, ◌==◌}
-use Rattle.std.specs.List.{position}
-use Rattle.std.specs.Cmp.Lexicographic.{bytes_decides}
-use Rattle.kp_base.specs.Check.{ok, ◌>>=◌, wants}
-use Rattle.kp_base.specs.Refusal.{e_rule}
-use Rattle.kp_bits.specs.Word.{Word}
-use Rattle.kp_ast.specs.Expressions.{env_of, names_of, eval, is_same_name}
-use Rattle.kp_bits.specs.Operators.{no_word}
+use Rattle.std.specs.{Prelude.is_some, Prelude.slice_get, Prelude.unwrap_or, Prelude.◌==◌, List.position, Cmp.Lexicographic.bytes_decides}
+use Rattle.kp_base.specs.{Check.ok, Check.◌>>=◌, Check.wants, Refusal.e_rule}
+use Rattle.kp_bits.specs.{Word.Word, Operators.no_word}
+use Rattle.kp_ast.specs.{Expressions.env_of, Expressions.names_of, Expressions.eval, Expressions.is_same_name, declared.tree.Expr.Expr, declared.tree.Job.Job}
 use Rattle.kp_ast.specs.Expressions as values
-use Rattle.kp_ast.specs.declared.tree.Expr.{Expr}
 use Rattle.kp_ast.specs.declared.tree.Named as tree
 use Rattle.kp_ast.specs.declared.tree.StmtKind.TheVariants as stmts
-use Rattle.kp_ast.specs.declared.tree.Job.{Job}
 use Rattle.kp_ast.specs.declared.widths.NameKind.TheVariants as kinds
 use Rattle.kp_width.specs.Names.{Sense, sense, Names, Scoped, look_up, find, or_else, passed, declared_local}
-use Rattle.kp_width.specs.Expressions.{width_of, part_of, value_of}
-use Rattle.kp_width.specs.Declarations.{kept}
-use Rattle.kp_width.specs.Statements.{when_of}
-use Rattle.kp_width.specs.Statements as statements
-use Rattle.kp_width.specs.Widths.{widths_of}
-use Rattle.kp_width.proofs.Unbroken.{Unbroken, bind_unbroken, answer_unbroken}
-use Rattle.kp_width.proofs.Parts.{given_parts}
+use Rattle.kp_width.specs.{Expressions.width_of, Expressions.part_of, Expressions.value_of, Declarations.kept, Statements.when_of, Widths.widths_of}
 use Rattle.kp_width.specs.Soundness.{HasWidth}
-use Rattle.kp_width.proofs.Calls.{pushed}
-use Rattle.kp_stage.specs.Facts.{facts_of}
-use Rattle.kp_stage.specs.Rules.{ask_expr, ask_option, all_rules}
+use Rattle.kp_width.specs.Statements as statements
+use Rattle.kp_width.proofs.{Unbroken.Unbroken, Unbroken.bind_unbroken, Unbroken.answer_unbroken, Parts.given_parts, Calls.pushed}
+use Rattle.kp_stage.specs.{Facts.facts_of, Rules.ask_expr, Rules.ask_option, Rules.all_rules}
 use Rattle.kp_machine.specs.Trees.{Progress, with_name}
 use Rattle.kp_machine.specs.Trees as trees
-use Rattle.kp_seq.specs.inner.Tables.{Laid}
-use Rattle.kp_seq.specs.inner.Steps.{Under, word_in, holds, address_in}
+use Rattle.kp_seq.specs.inner.{Tables.Laid, Steps.Under, Steps.word_in, Steps.holds, Steps.address_in, Ready.AreTables}
 use Rattle.kp_seq.specs.inner.Steps as steps
-use Rattle.kp_seq.specs.inner.Ready.{AreTables}
-use Rattle.kp_seq.proofs.Stage.{Named, value_found, word_is}
-use Rattle.kp_seq.proofs.Binding.{held_bound}
-use Rattle.kp_machine.proofs.Scopes.{look_last, fresh_none, find_none}
-use Rattle.kp_machine.proofs.Cases.{by_test}
-use Rattle.kp_machine.proofs.LookUp.{look_up_end}
-use Rattle.kp_machine.proofs.Text.{is_local}
+use Rattle.kp_seq.proofs.{Stage.Named, Stage.value_found, Stage.word_is, Binding.held_bound}
+use Rattle.kp_machine.proofs.{Scopes.look_last, Scopes.fresh_none, Scopes.find_none, Cases.by_test, LookUp.look_up_end, Text.is_local}
 
 look_past : (names : Names) (n q : List ℕ) (m : Sense) → is_same_name q n ≡ false → look_up (names ++ (n, m) ∷ []) q ≡ look_up names q
 look_past [] n q m y = ap (λ b. cond b (Some m) None) y

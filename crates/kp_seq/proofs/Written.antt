@@ -1,35 +1,22 @@
 -- What an instruction writes: the words of the targets after it are the state after it in the abstract machine, and they fit.
 use Rattle.std.proofs.Common.{◌≡◌, ◌≢◌, ◌∙◌, ℕ, zero, suc, ◌+◌, ◌^◌, ◌<◌, ◌≤◌, List, [], ◌∷◌, Option, Some, None, Bool, true, false, cond, eqb, ◌&&◌, length, get_or, set, replicate, refl, ap, sym, subst, arith, ⊎_elim}
-use Rattle.std.specs.Prelude.{is_some, slice_get, slice_index, unwrap_or, ◌==◌}
-use Rattle.std.proofs.lemmas.Bool.{cases_lt}
-use Rattle.std.proofs.lemmas.List.{length-set, get_or-set_other}
-use Rattle.std.proofs.lemmas.Nat.{pow_pos}
+use Rattle.std.proofs.lemmas.{Bool.cases_lt, List.length-set, List.get_or-set_other, Nat.pow_pos}
 use Rattle.std.proofs.Math.Dec.{eqb-suc-zero, eqb-zero-suc, eqb-suc-suc}
+use Rattle.std.specs.Prelude.{is_some, slice_get, slice_index, unwrap_or, ◌==◌}
 use Rattle.kp_bits.specs.Word.{Word}
-use Rattle.kp_ast.specs.declared.tree.Named.{Named}
-use Rattle.kp_ast.specs.declared.tree.ResultDecl.{ResultDecl}
-use Rattle.kp_ast.specs.declared.tree.Decl.{Decl}
-use Rattle.kp_ast.specs.declared.tree.Job.{Job}
-use Rattle.kp_width.specs.Declarations.{address_width}
-use Rattle.kp_width.specs.Widths.{widths_of}
+use Rattle.kp_ast.specs.declared.tree.{Named.Named, ResultDecl.ResultDecl, Decl.Decl, Job.Job}
+use Rattle.kp_width.specs.{Declarations.address_width, Widths.widths_of}
 use Rattle.kp_width.proofs.Unbroken.{Unbroken}
 use Rattle.kp_pipeline.specs.Sequential.{Instruction, StageOutcome, first_value, fresh_instruction, after_stage, before_stage, is_written}
-use Rattle.kp_machine.specs.Slots.{Slot, targets_of, pipes_of, number_of, result_to}
-use Rattle.kp_machine.specs.Trees.{Progress}
+use Rattle.kp_machine.specs.{Slots.Slot, Slots.targets_of, Slots.pipes_of, Slots.number_of, Slots.result_to, Trees.Progress}
 use Rattle.kp_machine.specs.Machine.{machine_of, values_in, result_for, is_enabled_by, enabled_of, address_in}
 use Rattle.kp_machine.specs.Machine as machines
-use Rattle.kp_seq.specs.declared.tables.Port.{Port}
-use Rattle.kp_seq.specs.inner.Tables.{Laid, pipe_number, port_of, ports_from}
+use Rattle.kp_seq.specs.{declared.tables.Port.Port, inner.Tables.Laid, inner.Tables.pipe_number, inner.Tables.port_of, inner.Tables.ports_from}
 use Rattle.kp_seq.specs.Running.{state_in, after_one}
 use Rattle.kp_seq.specs.inner.Steps.{Under, begun, is_enabled, address_by, with_word, written_by, written_from}
-use Rattle.kp_seq.specs.inner.Fits.{FitsSlot, FitSlots}
-use Rattle.kp_seq.specs.inner.Ready.{AreTables}
-use Rattle.kp_machine.proofs.Scopes.{PipeFits, slot_of}
-use Rattle.kp_machine.proofs.Cases.{by_option}
-use Rattle.kp_machine.proofs.Text.{text, placed, fits_text, target_slot}
-use Rattle.kp_seq.proofs.Changes.{set_seen}
-use Rattle.kp_seq.proofs.Gives.{Lists}
-use Rattle.kp_seq.proofs.Plain.{after_next, next_first, none_after, none_before}
+use Rattle.kp_seq.specs.inner.{Fits.FitsSlot, Fits.FitSlots, Ready.AreTables}
+use Rattle.kp_machine.proofs.{Scopes.PipeFits, Scopes.slot_of, Cases.by_option, Text.text, Text.placed, Text.fits_text, Text.target_slot}
+use Rattle.kp_seq.proofs.{Changes.set_seen, Gives.Lists, Plain.after_next, Plain.next_first, Plain.none_after, Plain.none_before}
 
 -- the words of one target after its port has written
 abbrev pub row_by : Under → List ℕ → ℕ → Option Port → List ℕ

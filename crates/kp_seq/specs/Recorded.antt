@@ -1,18 +1,11 @@
 -- The record of an instruction: where it read, where it wrote, and in which stages its results were set. A register
 -- is read and written at address 0.
 use Rattle.std.specs.Prelude.{ℕ, zero, suc, List, [], ◌∷◌, ◌++◌, Option, Some, None, Bool, cond, is_some, map, slice_get}
-use Rattle.kp_ast.specs.declared.tree.Expr.{Expr}
-use Rattle.kp_ast.specs.declared.tree.ReadStmt.{ReadStmt}
-use Rattle.kp_ast.specs.declared.tree.ResultDecl.{ResultDecl}
-use Rattle.kp_ast.specs.declared.tree.Decl.{Decl}
+use Rattle.kp_ast.specs.declared.tree.{Expr.Expr, ReadStmt.ReadStmt, ResultDecl.ResultDecl, Decl.Decl, Stmt.Stmt, StmtKind.StmtKind, Job.Job}
 use Rattle.kp_ast.specs.declared.tree.Decl.TheVariants as decls
-use Rattle.kp_ast.specs.declared.tree.Stmt.{Stmt}
-use Rattle.kp_ast.specs.declared.tree.StmtKind.{StmtKind}
 use Rattle.kp_ast.specs.declared.tree.StmtKind.TheVariants as stmts
-use Rattle.kp_ast.specs.declared.tree.Job.{Job}
 use Rattle.kp_stage.specs.Facts.{stmts_in}
-use Rattle.kp_pipeline.specs.Sequential.{before_stage}
-use Rattle.kp_pipeline.specs.Timeline.{first_stage}
+use Rattle.kp_pipeline.specs.{Sequential.before_stage, Timeline.first_stage}
 use Rattle.kp_machine.specs.Slots.{targets_of, pipes_of, hints_of, number_of, result_named}
 use Rattle.kp_machine.specs.Trees.{Progress, entered, holds, address_of, word_of, value_of, value_with_hints, word_read, with_name, with_put, with_set, with_aim}
 use Rattle.kp_machine.specs.Machine.{machine_of, is_enabled_by, address_by}

@@ -3,8 +3,7 @@ use Rattle.std.specs.Prelude.{ℕ, ◌^◌, ◌<◌, List, [], ◌∷◌, length
 use Rattle.kp_bits.specs.Word.{Word, word}
 use Rattle.kp_ast.specs.declared.tree.Job.{Job}
 use Rattle.kp_pipeline.specs.Sequential.{exec}
-use Rattle.kp_machine.specs.Machine.{machine_of, values_in}
-use Rattle.kp_machine.specs.Slots.{Slot, targets_of}
+use Rattle.kp_machine.specs.{Machine.machine_of, Machine.values_in, Slots.Slot, Slots.targets_of}
 use Rattle.kp_seq.specs.Recorded.{Recorded}
 
 -- a job, the words of the targets of its machine, and the record of the last recorded instruction, which is unspecified before the first

@@ -1,23 +1,16 @@
 -- A plan of each form, by the codes of its parts.
 use Rattle.std.proofs.Common.{◌≡◌, ◌∙◌, ℕ, zero, suc, ◌+◌, ◌<◌, ◌≤◌, List, [], ◌∷◌, Option, Some, None, length, get_or, map, refl, ap, sym, subst, arith}
 use Rattle.std.proofs.lemmas.List.{get_or-map, length-map}
-use Rattle.std.specs.Prelude.{sum_by}
-use Rattle.std.specs.Option.{option_map, option_and_then}
-use Rattle.kp_bits.specs.Word.{Word, not_of}
-use Rattle.kp_bits.specs.Checked.{checked_slice, checked_zext, checked_sext}
-use Rattle.kp_bits.specs.declared.operator.BinOp.{BinOp}
+use Rattle.std.specs.{Prelude.sum_by, Option.option_map, Option.option_and_then}
+use Rattle.kp_bits.specs.{Word.Word, Word.not_of, Checked.checked_slice, Checked.checked_zext, Checked.checked_sext, declared.operator.BinOp.BinOp}
 use Rattle.kp_ast.specs.Checked.{all_there}
-use Rattle.kp_seq_plan.specs.declared.plan.Plan.{Plan}
+use Rattle.kp_seq_plan.specs.{declared.plan.Plan.Plan, declared.code.Typed.Typed, Names.at_place}
+use Rattle.kp_seq_plan.specs.{Plans.Slots, Plans.meaning, Plans.meaning_level, Plans.space, Plans.space_level, Lowering.Gives}
+use Rattle.kp_seq_plan.specs.inner.Parts.{GivesOne, GivesTwo, GivesMux, GivesAll, GivesWord, binary_found, mux_found, joined_found, call_found, call_space}
 use Rattle.kp_seq_plan.specs.declared.plan.Plan.TheVariants as ends
 use Rattle.kp_seq_plan.specs.declared.plan.Plan.TheViews as plans
-use Rattle.kp_seq_plan.specs.declared.code.Typed.{Typed}
-use Rattle.kp_seq_plan.specs.Names.{at_place}
-use Rattle.kp_seq_plan.specs.Plans.{Slots, meaning, meaning_level, space, space_level}
-use Rattle.kp_seq_plan.specs.Lowering.{Gives}
-use Rattle.kp_seq_plan.specs.inner.Parts.{GivesOne, GivesTwo, GivesMux, GivesAll, GivesWord, binary_found, mux_found, joined_found, call_found, call_space}
 use Rattle.kp_seq_plan.proofs.Levels.{fold-Word, fold-Name, fold-Not, fold-Binary, fold-Mux, fold-Slice, fold-Zext, fold-Sext}
-use Rattle.kp_seq_plan.proofs.Meaning.{V, at, meaning_parts, meaning_call, space_parts, space_call}
-use Rattle.kp_seq_plan.proofs.Typing.{gives_same}
+use Rattle.kp_seq_plan.proofs.{Meaning.V, Meaning.at, Meaning.meaning_parts, Meaning.meaning_call, Meaning.space_parts, Meaning.space_call, Typing.gives_same}
 
 module _ (ws : List (Option ℕ)) (plan : Plan) (c : Option Typed) where
   same : (f : Slots → Option Word) (n : ℕ) (p : Plan) → plan ≡ p → ((s : Slots) → meaning p s ≡ f s) → n ≤ space p → Gives ws f n c → Gives ws (meaning plan) (space plan) c

@@ -1,30 +1,20 @@
 -- A call of the last function of a name: what its plan means.
-use Rattle.std.proofs.Common.{◌≡◌, ◌≢◌, ◌∙◌, ℕ, zero, suc, ◌+◌, ◌<◌, ◌≤◌, List, [], ◌∷◌, ◌++◌, Option, Some, None, Bool, true, false, cond, not, length, map, take, get_or, refl, ap, sym, subst, arith}
-use Rattle.std.specs.Prelude.{sum_by, ◌==◌, nat_lt}
-use Rattle.std.specs.Option.{option_map, option_and_then}
-use Rattle.std.specs.List.{position, position_or_len}
-use Rattle.std.proofs.Common.{⊎_elim}
+use Rattle.std.proofs.Common.{◌≡◌, ◌≢◌, ◌∙◌, ℕ, zero, suc, ◌+◌, ◌<◌, ◌≤◌, List, [], ◌∷◌, ◌++◌, Option, Some, None, Bool, true, false, cond, not, length, map, take, get_or, refl, ap, sym, subst, arith, ⊎_elim}
 use Rattle.std.proofs.Math.Dec.{eqb-suc-suc}
 use Rattle.std.proofs.lemmas.Bool.{cases_lt, cond-true, cond-false, eqb-true, le-ltb, lt-ltb}
-use Rattle.std.proofs.lemmas.List.{map-append, take_more, length-map}
-use Rattle.std.proofs.lemmas.List.Sums.{fold-append, sum_by-cons}
+use Rattle.std.proofs.lemmas.List.{map-append, take_more, length-map, Sums.fold-append, Sums.sum_by-cons}
+use Rattle.std.specs.{Prelude.sum_by, Prelude.◌==◌, Prelude.nat_lt, Option.option_map, Option.option_and_then, List.position, List.position_or_len}
 use Rattle.kp_bits.specs.Word.{Word}
-use Rattle.kp_ast.specs.declared.tree.Param.{Param}
-use Rattle.kp_ast.specs.declared.tree.FuncDecl.{FuncDecl}
-use Rattle.kp_ast.specs.declared.tree.Decl.{Decl}
-use Rattle.kp_ast.specs.declared.tree.Decl.TheVariants as decls
-use Rattle.kp_ast.specs.declared.tree.Expr.{Expr}
+use Rattle.kp_ast.specs.declared.tree.{Param.Param, FuncDecl.FuncDecl, Decl.Decl, Expr.Expr}
 use Rattle.kp_ast.specs.Expressions.{is_same_name, is_function, look_up, arguments_of}
 use Rattle.kp_ast.specs.Checked.{checked, checked_call, checked_calls_after, checked_calls_of, all_there}
 use Rattle.kp_ast.specs.Size.{size, size_with, bodies_of, bodies_after, body_size_of, no_bodies}
-use Rattle.kp_seq_plan.specs.declared.plan.Plan.{Plan}
+use Rattle.kp_ast.specs.declared.tree.Decl.TheVariants as decls
+use Rattle.kp_seq_plan.specs.{declared.plan.Plan.Plan, declared.resolve.Scope.Scope, Names.at_place, Names.place_of}
+use Rattle.kp_seq_plan.specs.Plans.{Slots, meaning, meaning_level, space, space_level, known_by, Means, AllMean, MeansCall, MeansBody}
 use Rattle.kp_seq_plan.specs.declared.plan.Plan.TheVariants as ends
 use Rattle.kp_seq_plan.specs.declared.plan.Plan.TheViews as plans
-use Rattle.kp_seq_plan.specs.declared.resolve.Scope.{Scope}
-use Rattle.kp_seq_plan.specs.Names.{at_place, place_of}
-use Rattle.kp_seq_plan.specs.Plans.{Slots, meaning, meaning_level, space, space_level, known_by, Means, AllMean, MeansCall, MeansBody}
-use Rattle.kp_seq_plan.proofs.Levels.{fold-Word}
-use Rattle.kp_seq_plan.proofs.Meaning.{V, at, meaning_call, space_call}
+use Rattle.kp_seq_plan.proofs.{Levels.fold-Word, Meaning.V, Meaning.at, Meaning.meaning_call, Meaning.space_call}
 
 -- no value of the arguments helps if there is no function
 abbrev nothing : List Word → Option Word

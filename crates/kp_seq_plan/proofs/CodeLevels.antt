@@ -1,13 +1,10 @@
 -- A fold over a code, one level at a time: its value for each form, given its values for the parts.
 use Rattle.std.proofs.Common.{◌≡◌, ℕ, List, map}
 use Rattle.kp_bits.specs.declared.operator.BinOp.{BinOp}
-use Rattle.kp_seq_plan.specs.declared.code.Code.{Code}
-use Rattle.kp_seq_plan.specs.declared.code.Code.TheOpen.{Code-F}
+use Rattle.kp_seq_plan.specs.declared.code.Code.{Code, TheOpen.Code-F, TheViews.roll-Code, TheFolds.fold-Code, TheFolds.map-Code, TheFolds.fold-roll-Code}
 use Rattle.kp_seq_plan.specs.declared.code.Code.TheOpen as level
 use Rattle.kp_seq_plan.specs.declared.code.Code.TheVariants as leaf
-use Rattle.kp_seq_plan.specs.declared.code.Code.TheViews.{roll-Code}
 use Rattle.kp_seq_plan.specs.declared.code.Code.TheViews as codes
-use Rattle.kp_seq_plan.specs.declared.code.Code.TheFolds.{fold-Code, map-Code, fold-roll-Code}
 
 module _ (A : Type 0) (step : Code-F A → A) where
   abbrev folded : Code → A

@@ -1,14 +1,10 @@
 -- A fold over a plan, one level at a time: its value for each form, given its values for the parts.
 use Rattle.std.proofs.Common.{◌≡◌, ℕ, List, Option, map}
-use Rattle.kp_bits.specs.Word.{Word}
-use Rattle.kp_bits.specs.declared.operator.BinOp.{BinOp}
-use Rattle.kp_seq_plan.specs.declared.plan.Plan.{Plan}
-use Rattle.kp_seq_plan.specs.declared.plan.Plan.TheOpen.{Plan-F}
+use Rattle.kp_bits.specs.{Word.Word, declared.operator.BinOp.BinOp}
+use Rattle.kp_seq_plan.specs.declared.plan.Plan.{Plan, TheOpen.Plan-F, TheViews.roll-Plan, TheFolds.fold-Plan, TheFolds.map-Plan, TheFolds.fold-roll-Plan}
 use Rattle.kp_seq_plan.specs.declared.plan.Plan.TheOpen as level
 use Rattle.kp_seq_plan.specs.declared.plan.Plan.TheVariants as leaf
-use Rattle.kp_seq_plan.specs.declared.plan.Plan.TheViews.{roll-Plan}
 use Rattle.kp_seq_plan.specs.declared.plan.Plan.TheViews as plans
-use Rattle.kp_seq_plan.specs.declared.plan.Plan.TheFolds.{fold-Plan, map-Plan, fold-roll-Plan}
 
 module _ (A : Type 0) (step : Plan-F A → A) where
   abbrev folded : Plan → A

@@ -1,22 +1,14 @@
 -- Codes in one step have the values of the codes that they replace.
 use Rattle.std.proofs.Common.{◌≡◌, ◌≢◌, ◌∙◌, ℕ, zero, suc, ◌+◌, ◌-◌, ◌*◌, ◌/◌, ◌%◌, ◌^◌, ◌<◌, ◌==◌, nat_lt, max, Option, Some, Bool, true, false, refl, ap, sym, subst, arith, ⊎_elim, bit_and, bit_or, slice_index}
-use Rattle.std.specs.Prelude.{if◌then◌else◌}
-use Rattle.std.specs.Int.{bit_at}
-use Rattle.std.proofs.lemmas.Bool.{lt-ltb}
-use Rattle.std.proofs.lemmas.Bool.Decides.{eqb_tells}
-use Rattle.std.proofs.lemmas.Nat.{one_shl}
+use Rattle.std.proofs.lemmas.{Bool.lt-ltb, Bool.Decides.eqb_tells, Nat.one_shl}
 use Rattle.std.proofs.lemmas.Nat.Bits.{bit_at_or, bit_at-pow_same, bit_at-pow_other, bit_at-lt, same_from_bits}
-use Rattle.kp_bits.specs.Word.{Word}
-use Rattle.kp_bits.specs.declared.operator.BinOp.{BinOp}
-use Rattle.kp_seq_plan.specs.declared.code.Code.{Code}
+use Rattle.std.specs.{Prelude.if◌then◌else◌, Int.bit_at}
+use Rattle.kp_bits.specs.{Word.Word, declared.operator.BinOp.BinOp}
+use Rattle.kp_seq_plan.specs.{declared.code.Code.Code, declared.code.Typed.Typed, Codes.value_of, Codes.value_level, Codes.space_level, Codes.member}
+use Rattle.kp_seq_plan.specs.{Lowering.Holds, inner.Parts.GivesOne, inner.Parts.GivesTwo, inner.Parts.GivesMux, inner.Parts.Replaces, inner.Parts.mux_found}
 use Rattle.kp_seq_plan.specs.declared.code.Code.TheVariants as leaf
 use Rattle.kp_seq_plan.specs.declared.code.Code.TheViews as codes
-use Rattle.kp_seq_plan.specs.declared.code.Typed.{Typed}
-use Rattle.kp_seq_plan.specs.Codes.{value_of, value_level, space_level, member}
-use Rattle.kp_seq_plan.specs.Lowering.{Holds}
-use Rattle.kp_seq_plan.specs.inner.Parts.{GivesOne, GivesTwo, GivesMux, Replaces, mux_found}
-use Rattle.kp_seq_plan.proofs.CodeCalls.{N, at}
-use Rattle.kp_seq_plan.proofs.Typing.{mux_gives}
+use Rattle.kp_seq_plan.proofs.{CodeCalls.N, CodeCalls.at, Typing.mux_gives}
 use Rattle.kp_seq_plan.proofs.CodeLevels.{code-Word, code-Name, code-Not, code-Binary, code-Mux, code-Slice, code-Same, code-Field, code-Flip, code-Among, code-Case}
 
 pub itself : (c d : Code) → c ≡ d → Replaces c d

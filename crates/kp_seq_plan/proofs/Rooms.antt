@@ -1,9 +1,7 @@
 -- The values of codes, in order, and the scratch space that they need.
 use Rattle.std.proofs.Common.{◌≡◌, ◌∙◌, ℕ, ◌+◌, ◌<◌, ◌≤◌, suc, zero, List, [], ◌∷◌, ◌++◌, length, get_or, set, take, map, refl, ap, sym, arith}
+use Rattle.std.proofs.lemmas.List.{take_more, map-append, Elements.All-cons, Sums.sum_by-cons}
 use Rattle.std.specs.Prelude.{All, sum_by}
-use Rattle.std.proofs.lemmas.List.{take_more, map-append}
-use Rattle.std.proofs.lemmas.List.Elements.{All-cons}
-use Rattle.std.proofs.lemmas.List.Sums.{sum_by-cons}
 
 -- if the space suffices for all together, it suffices for each one
 pub each_fits : {X : Type 0} (f : X → ℕ) (xs : List X) (r : ℕ) → sum_by f xs ≤ r → All (λ x. f x ≤ r) xs

@@ -1,28 +1,20 @@
 -- A code of each form has the values of a plan of that form, if its parts do.
-use Rattle.std.proofs.Common.{◌≡◌, ◌≢◌, ◌∙◌, ℕ, zero, suc, ◌+◌, ◌-◌, ◌/◌, ◌%◌, ◌^◌, ◌<◌, ◌≤◌, ◌==◌, List, [], ◌∷◌, ◌++◌, Option, Some, None, Bool, true, false, cond, length, get_or, take, drop, map, refl, ap, sym, subst, arith, ◌*◌, bit_or, bit_and}
-use Rattle.std.proofs.Common.{⊎_elim, ◌⊎◌, ◌||◌, inl, inr}
-use Rattle.std.specs.Prelude.{sum_by, slice_index, nat_le}
-use Rattle.std.specs.Option.{option_map, option_and_then, option_zip}
-use Rattle.std.proofs.lemmas.List.{take_more, drop_all, get_or_past}
-use Rattle.std.proofs.lemmas.List.Sums.{sum_by-cons}
-use Rattle.kp_bits.specs.Word.{Word, word, IsWord, not_of, concat_of}
-use Rattle.kp_bits.specs.Operators.{is_shift}
+use Rattle.std.proofs.Common.{◌≡◌, ◌≢◌, ◌∙◌, ℕ, zero, suc, ◌+◌, ◌-◌, ◌/◌, ◌%◌, ◌^◌, ◌<◌, ◌≤◌, ◌==◌, List, [], ◌∷◌, ◌++◌, Option, Some, None, Bool, true, false, cond, length, get_or, take, drop, map, refl, ap, sym, subst, arith, ◌*◌, bit_or, bit_and, ⊎_elim, ◌⊎◌, ◌||◌, inl, inr}
+use Rattle.std.proofs.lemmas.List.{take_more, drop_all, get_or_past, Sums.sum_by-cons}
+use Rattle.std.specs.{Prelude.sum_by, Prelude.slice_index, Prelude.nat_le, Option.option_map, Option.option_and_then, Option.option_zip}
+use Rattle.kp_bits.specs.{Word.Word, Word.word, Word.IsWord, Word.not_of, Word.concat_of, Operators.is_shift}
 use Rattle.kp_bits.specs.Checked.{checked_join, checked_joined, checked_slice, checked_zext, checked_sext}
 use Rattle.kp_bits.specs.declared.operator.BinOp.{BinOp}
 use Rattle.kp_ast.specs.Checked.{all_there}
-use Rattle.kp_seq_plan.specs.declared.plan.Plan.{Plan}
-use Rattle.kp_seq_plan.specs.declared.code.Code.{Code}
+use Rattle.kp_seq_plan.specs.inner.Parts.{AreTyped, GivesOne, GivesTwo, GivesMux, GivesJoined, GivesCall, GivesWord, IsMask, binary_found, binary_width, mux_found, join_found, values_in, joined_found, joined_below, call_found}
+use Rattle.kp_seq_plan.specs.{declared.plan.Plan.Plan, declared.code.Code.Code, declared.code.Typed.Typed, Names.at_place}
+use Rattle.kp_seq_plan.specs.{Plans.Slots, Plans.meaning, Plans.space, Codes.value_of, Codes.value_level, Codes.space_of, Codes.space_level}
+use Rattle.kp_seq_plan.specs.Lowering.{Holds, Suits, AllSuit, IsTyped, Gives}
 use Rattle.kp_seq_plan.specs.declared.code.Code.TheVariants as leaf
 use Rattle.kp_seq_plan.specs.declared.code.Code.TheViews as codes
-use Rattle.kp_seq_plan.specs.declared.code.Typed.{Typed}
-use Rattle.kp_seq_plan.specs.Names.{at_place}
-use Rattle.kp_seq_plan.specs.Plans.{Slots, meaning, space}
-use Rattle.kp_seq_plan.specs.Codes.{value_of, value_level, space_of, space_level}
-use Rattle.kp_seq_plan.specs.Lowering.{Holds, Suits, AllSuit, IsTyped, Gives}
-use Rattle.kp_seq_plan.specs.inner.Parts.{AreTyped, GivesOne, GivesTwo, GivesMux, GivesJoined, GivesCall, GivesWord, IsMask, binary_found, binary_width, mux_found, join_found, values_in, joined_found, joined_below, call_found}
+use Rattle.kp_seq_plan.proofs.Numbers.{binary_held, binary_fails, mux_held, mux_narrow, mux_other, join_held, join_fails, slice_held, slice_turned, slice_over, zext_held, zext_fails, sext_held, sext_fails, not_held, top_is, more_is}
 use Rattle.kp_seq_plan.proofs.CodeCalls.{N, at, space_called, value_called}
 use Rattle.kp_seq_plan.proofs.CodeLevels.{code-Word, code-Name, code-Not, code-Binary, code-Mux, code-Join, code-Slice, code-Sext}
-use Rattle.kp_seq_plan.proofs.Numbers.{binary_held, binary_fails, mux_held, mux_narrow, mux_other, join_held, join_fails, slice_held, slice_turned, slice_over, zext_held, zext_fails, sext_held, sext_fails, not_held, top_is, more_is}
 
 abbrev typed : Code → ℕ → Typed
 typed c w = record { code = c; width = w }

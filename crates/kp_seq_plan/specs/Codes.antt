@@ -2,10 +2,8 @@
 use Rattle.std.specs.Prelude.{◌+◌, ◌-◌, ◌*◌, ◌/◌, ◌%◌, ◌^◌, ◌==◌, ℕ, nat_lt, if◌then◌else◌, bit_and, bit_or, bit_xor, length, List, map, sum, slice_index}
 use Rattle.std.specs.Int.{bit_at}
 use Rattle.kp_bits.specs.declared.operator.BinOp.{BinOp}
-use Rattle.kp_seq_plan.specs.declared.code.Code.{Code}
-use Rattle.kp_seq_plan.specs.declared.code.Code.TheOpen.{Code-F}
+use Rattle.kp_seq_plan.specs.declared.code.Code.{Code, TheOpen.Code-F, TheFolds.fold-Code}
 use Rattle.kp_seq_plan.specs.declared.code.Code.TheOpen as level
-use Rattle.kp_seq_plan.specs.declared.code.Code.TheFolds.{fold-Code}
 
 -- a binary operator on numbers of 64 bits, of which those of this width matter
 abbrev pub applied : BinOp → ℕ → ℕ → ℕ → ℕ → ℕ

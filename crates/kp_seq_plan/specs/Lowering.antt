@@ -1,9 +1,7 @@
 -- What a code means in terms of a plan whose names have values of known widths.
 use Rattle.std.specs.Prelude.{◌≡◌, ◌≤◌, ℕ, List, [], ◌∷◌, Option, Some, None}
 use Rattle.kp_bits.specs.Word.{Word, word, IsWord}
-use Rattle.kp_seq_plan.specs.Plans.{Slots}
-use Rattle.kp_seq_plan.specs.declared.code.Typed.{Typed}
-use Rattle.kp_seq_plan.specs.Codes.{value_of, space_of}
+use Rattle.kp_seq_plan.specs.{Plans.Slots, declared.code.Typed.Typed, Codes.value_of, Codes.space_of}
 
 -- a value exists, and it is the word of this width and this number
 pub record Holds (found : Option Word) (width value : ℕ) : Type 0 where

@@ -1,11 +1,9 @@
 -- Names, and their indices.
 use Rattle.std.specs.Prelude.{ℕ, List, [], ◌∷◌, Option, Some, None, get_or, nat_eq}
-use Rattle.std.specs.List.{position}
-use Rattle.std.specs.Cmp.Lexicographic.{pointwise}
+use Rattle.std.specs.{List.position, Cmp.Lexicographic.pointwise}
 use Rattle.indexmap.specs.IndexSet.{insert_key}
 use Rattle.kp_bits.specs.Word.{Word}
-use Rattle.kp_ast.specs.Expressions.{is_same_name}
-use Rattle.kp_ast.specs.declared.widths.Entry.{Entry}
+use Rattle.kp_ast.specs.{Expressions.is_same_name, declared.widths.Entry.Entry}
 use Rattle.kp_seq_plan.specs.declared.resolve.Scope.{Scope}
 use Rattle.kp_seq_plan.specs.declared.resolve.Scope.TheVariants as scopes
 

@@ -4,16 +4,10 @@ use Rattle.std.specs.Option.{option_map, option_and_then}
 use Rattle.kp_bits.specs.Word.{Word, not_of}
 use Rattle.kp_bits.specs.Checked.{checked_binary, checked_mux, checked_joined, checked_slice, checked_zext, checked_sext}
 use Rattle.kp_ast.specs.Checked.{Known, checked, checked_call, checked_calls_of, all_there}
-use Rattle.kp_ast.specs.Size.{size, bodies_of, body_size_of}
-use Rattle.kp_ast.specs.inner.Sizes.{sizes_with}
-use Rattle.kp_ast.specs.declared.tree.Decl.{Decl}
-use Rattle.kp_ast.specs.declared.tree.Expr.{Expr}
-use Rattle.kp_seq_plan.specs.declared.plan.Plan.{Plan}
-use Rattle.kp_seq_plan.specs.declared.plan.Plan.TheOpen.{Plan-F}
-use Rattle.kp_seq_plan.specs.declared.plan.Plan.TheOpen as level
-use Rattle.kp_seq_plan.specs.declared.plan.Plan.TheFolds.{fold-Plan}
-use Rattle.kp_seq_plan.specs.declared.resolve.Scope.{Scope}
+use Rattle.kp_ast.specs.{Size.size, Size.bodies_of, Size.body_size_of, inner.Sizes.sizes_with, declared.tree.Decl.Decl, declared.tree.Expr.Expr}
+use Rattle.kp_seq_plan.specs.declared.{plan.Plan.Plan, plan.Plan.TheOpen.Plan-F, plan.Plan.TheFolds.fold-Plan, resolve.Scope.Scope}
 use Rattle.kp_seq_plan.specs.Names.{at_place, place_of}
+use Rattle.kp_seq_plan.specs.declared.plan.Plan.TheOpen as level
 
 -- the optional values by index
 abbrev pub Slots : Type 0

@@ -1,28 +1,18 @@
 -- The laws of E28 and E29: sizes and counts are within their bounds.
 use Rattle.std.proofs.Common.{◌≡◌, ◌∙◌, ℕ, zero, suc, ◌+◌, ◌<◌, ◌≤◌, List, [], ◌∷◌, length, get_or, Option, Some, None, true, refl, ap, subst, arith}
+use Rattle.std.proofs.lemmas.{Bool.and_parts, Bool.leb-true, List.Sums.sum_by-cons, List.Sums.sum_by-append}
 use Rattle.std.specs.Prelude.{nat_le, slice_get, sum_by, Contains}
-use Rattle.std.proofs.lemmas.Bool.{and_parts, leb-true}
-use Rattle.std.proofs.lemmas.List.Sums.{sum_by-cons, sum_by-append}
 use Rattle.kp_base.specs.Refusal.{e_rule}
-use Rattle.kp_ast.specs.Size.{size}
-use Rattle.kp_ast.specs.declared.tree.Expr.{Expr}
-use Rattle.kp_ast.specs.declared.tree.Decl.{Decl}
-use Rattle.kp_ast.specs.declared.tree.Stmt.{Stmt}
-use Rattle.kp_ast.specs.declared.tree.StmtKind.{StmtKind}
+use Rattle.kp_ast.specs.{Size.size, declared.tree.Expr.Expr, declared.tree.Decl.Decl, declared.tree.Stmt.Stmt, declared.tree.StmtKind.StmtKind}
+use Rattle.kp_ast.specs.declared.tree.{Block.Block, Job.Job}
 use Rattle.kp_ast.specs.declared.tree.StmtKind.TheVariants as stmts
-use Rattle.kp_ast.specs.declared.tree.Block.{Block}
-use Rattle.kp_ast.specs.declared.tree.Job.{Job}
 use Rattle.kp_width.specs.Declarations.{functions_in, name_of}
 use Rattle.kp_width.proofs.Unbroken.{Unbroken, bind_unbroken, answer_unbroken}
-use Rattle.kp_stage.specs.declared.counts.Counts.{Counts}
-use Rattle.kp_stage.specs.Facts.{stmts_in, facts_of}
-use Rattle.kp_stage.specs.Sizes.{size_of_option, size_of_kind, size_of_stmt, size_of_block, size_of_job, stmts_sized, blocks_sized, sizes_of}
 use Rattle.kp_stage.specs.Counts.{regs_in, files_in, pipes_in, results_in, hints_in, samples_in, reads_in, guesses_in, is_within, nothing_counted, with_decl, with_stmt, place_of_read, decls_counted, stmts_counted, blocks_counted, counts_of, summary_of, AreFew}
-use Rattle.kp_stage.specs.Stages.{broken_of}
-use Rattle.kp_stage.specs.Uses.{statement_at, listed, plain_in, guessed_in, exprs_in}
-use Rattle.kp_stage.proofs.Unbroken.{few_stages}
-use Rattle.kp_stage.proofs.Kept.{rules_kept, sizes_kept, counts_kept}
-use Rattle.kp_stage.proofs.Totals.{size_total, counts_total}
+use Rattle.kp_stage.specs.{declared.counts.Counts.Counts, Facts.stmts_in, Facts.facts_of}
+use Rattle.kp_stage.specs.Sizes.{size_of_option, size_of_kind, size_of_stmt, size_of_block, size_of_job, stmts_sized, blocks_sized, sizes_of}
+use Rattle.kp_stage.specs.{Stages.broken_of, Uses.statement_at, Uses.listed, Uses.plain_in, Uses.guessed_in, Uses.exprs_in}
+use Rattle.kp_stage.proofs.{Unbroken.few_stages, Kept.rules_kept, Kept.sizes_kept, Kept.counts_kept, Totals.size_total, Totals.counts_total}
 
 stmts_within : (ds : List Decl) (t : ℕ) (ss : List Stmt) → t ≤ 100000 → Unbroken (stmts_sized ds t ss) → (stmts_sized ds t ss).value ≤ 100000
 stmts_within ds t [] h u = h

@@ -1,22 +1,15 @@
 -- Checks of the names in expressions that pass.
 use Rattle.std.proofs.Common.{◌≡◌, ◌∙◌, ℕ, zero, suc, ◌<◌, List, [], ◌∷◌, ◌++◌, map, length, get_or, Option, Some, None, Bool, true, false, refl, ap, sym, subst, arith}
-use Rattle.std.specs.Prelude.{◌||◌, Contains}
-use Rattle.std.specs.List.{list_any}
-use Rattle.std.specs.Cmp.Lexicographic.{bytes_decides}
-use Rattle.kp_base.specs.First.{first}
-use Rattle.kp_base.specs.Check.{Answer}
-use Rattle.kp_base.specs.declared.place.Place.{Place}
-use Rattle.kp_bits.specs.Word.{Word, not_of, mux_of, slice_of, zext_of, sext_of}
-use Rattle.kp_bits.specs.Operators.{binary_of, joined_of}
-use Rattle.kp_ast.specs.Expressions.{Env, eval, value_of_kind, value_of_level}
-use Rattle.kp_ast.specs.declared.tree.Expr.{Expr}
+use Rattle.std.specs.{Prelude.◌||◌, Prelude.Contains, List.list_any, Cmp.Lexicographic.bytes_decides}
+use Rattle.kp_base.specs.{First.first, Check.Answer, declared.place.Place.Place}
+use Rattle.kp_bits.specs.{Word.Word, Word.not_of, Word.mux_of, Word.slice_of, Word.zext_of, Word.sext_of, Operators.binary_of, Operators.joined_of}
+use Rattle.kp_ast.specs.{Expressions.Env, Expressions.eval, Expressions.value_of_kind, Expressions.value_of_level, declared.tree.Expr.Expr}
 use Rattle.kp_ast.specs.declared.tree.StmtKind.{StmtKind}
 use Rattle.kp_ast.specs.declared.tree.StmtKind.TheVariants as stmts
 use Rattle.kp_ast.proofs.Levels.{fold-Lit, fold-Name, fold-Not, fold-Binary, fold-Mux, fold-Concat, fold-Slice, fold-Zext, fold-Sext, fold-Call}
 use Rattle.kp_ast.proofs.Induction.{Every, induction}
 use Rattle.kp_width.proofs.Found.{none_of_two}
-use Rattle.kp_stage.specs.declared.rules.Rule.{Rule}
-use Rattle.kp_stage.specs.Facts.{Facts}
+use Rattle.kp_stage.specs.{declared.rules.Rule.Rule, Facts.Facts}
 use Rattle.kp_stage.specs.Rules.{ask_name, ask_kind, ask_level, ask_expr, ask_option, ask_values, ask_guesses}
 use Rattle.kp_stage.specs.Uses.{listed, plain_in, guessed_in, exprs_in, uses, uses_in_kind, uses_in_level}
 use Rattle.kp_stage.proofs.Unbroken.{first_none}

@@ -1,18 +1,13 @@
 -- What is noted in tables are the facts of the job.
 use Rattle.std.proofs.Common.{◌≡◌, ◌∙◌, ℕ, zero, suc, ◌+◌, List, [], ◌∷◌, Option, Some, None, Bool, true, false, cond, nat_eq, map, refl, ap, sym, arith}
-use Rattle.std.specs.Prelude.{is_some, slice_get}
-use Rattle.std.specs.Cmp.Lexicographic.{pointwise, bytes_decides, nat_list_eq_equiv}
+use Rattle.std.specs.{Prelude.is_some, Prelude.slice_get, Cmp.Lexicographic.pointwise, Cmp.Lexicographic.bytes_decides, Cmp.Lexicographic.nat_list_eq_equiv}
 use Rattle.kp_base.specs.First.{first}
-use Rattle.kp_ast.specs.declared.tree.Decl.{Decl}
+use Rattle.kp_ast.specs.declared.tree.{Decl.Decl, Stmt.Stmt, StmtKind.StmtKind, Block.Block, Job.Job}
 use Rattle.kp_ast.specs.declared.tree.Decl.TheVariants as decls
-use Rattle.kp_ast.specs.declared.tree.Stmt.{Stmt}
-use Rattle.kp_ast.specs.declared.tree.StmtKind.{StmtKind}
 use Rattle.kp_ast.specs.declared.tree.StmtKind.TheVariants as stmts
-use Rattle.kp_ast.specs.declared.tree.Block.{Block}
-use Rattle.kp_ast.specs.declared.tree.Job.{Job}
 use Rattle.kp_stage.specs.Facts.{At, put_at, puts_in, puts_of, aim_at, aims_in, aims_of, set_at, sets_in, first_set, hint_at, hints_of, result_at, results_of, sample_at, stage_at, write_at, less, least, largest, facts_of}
-use Rattle.kp_stage.specs.Rules.{broken_by}
 use Rattle.kp_stage.specs.inner.Tables.{Entries, look_up, with_entry, with_first, with_less, less_than, put_noted, puts_noted, all_puts_noted, aim_noted, aims_noted, all_aims_noted, set_noted, sets_noted, sets_of, table_in, write_noted, writes_noted, hint_noted, hints_noted, result_noted, results_noted, sample_noted, samples_noted, stage_noted, stages_noted, tables_of, facts_in}
+use Rattle.kp_stage.specs.Rules.{broken_by}
 
 -- the first of two that is there
 abbrev or_else : {X : Type 0} → Option X → Option X → Option X

@@ -1,30 +1,19 @@
 -- The laws of E16 and E17, of E21 and of E25, from the checks.
 use Rattle.std.proofs.Common.{◌≡◌, ◌∙◌, ℕ, suc, ◌+◌, ◌<◌, List, [], ◌∷◌, Option, Some, None, Bool, true, false, not, cond, refl, ap, sym, arith}
-use Rattle.std.specs.Prelude.{◌||◌, ◌==◌, nat_le, is_some, slice_get, Contains}
-use Rattle.std.specs.List.{list_any}
-use Rattle.std.specs.Cmp.Lexicographic.{bytes_decides}
 use Rattle.std.proofs.lemmas.Bool.{and_parts, eqb-true, le-leb}
-use Rattle.kp_base.specs.First.{first}
-use Rattle.kp_base.specs.Refusal.{e_rule}
-use Rattle.kp_base.specs.declared.place.Place.{Place}
+use Rattle.std.specs.{Prelude.◌||◌, Prelude.◌==◌, Prelude.nat_le, Prelude.is_some, Prelude.slice_get, Prelude.Contains, List.list_any}
+use Rattle.std.specs.Cmp.Lexicographic.{bytes_decides}
+use Rattle.kp_base.specs.{First.first, Refusal.e_rule, declared.place.Place.Place}
 use Rattle.kp_bits.specs.Word.{Word}
-use Rattle.kp_ast.specs.Expressions.{Env, eval, is_same_name}
-use Rattle.kp_ast.specs.declared.tree.Expr.{Expr}
-use Rattle.kp_ast.specs.declared.tree.Decl.{Decl}
+use Rattle.kp_ast.specs.{Expressions.Env, Expressions.eval, Expressions.is_same_name, declared.tree.Expr.Expr, declared.tree.Decl.Decl, declared.tree.Stmt.Stmt}
+use Rattle.kp_ast.specs.declared.tree.{StmtKind.StmtKind, Block.Block, Job.Job}
 use Rattle.kp_ast.specs.declared.tree.Decl.TheVariants as decls
-use Rattle.kp_ast.specs.declared.tree.Stmt.{Stmt}
-use Rattle.kp_ast.specs.declared.tree.StmtKind.{StmtKind}
 use Rattle.kp_ast.specs.declared.tree.StmtKind.TheVariants as stmts
-use Rattle.kp_ast.specs.declared.tree.Block.{Block}
-use Rattle.kp_ast.specs.declared.tree.Job.{Job}
 use Rattle.kp_stage.specs.declared.rules.Rule.{Rule}
 use Rattle.kp_stage.specs.Facts.{At, Facts, facts_of, stmts_in, where_same, put_at, puts_in, puts_of, hint_at, hints_of}
-use Rattle.kp_stage.specs.Rules.{holds_of, is_at, ask_decl, ask_decls, ask_stmt, ask_name, ask_expr}
-use Rattle.kp_stage.specs.Stages.{broken_of}
+use Rattle.kp_stage.specs.{Rules.holds_of, Rules.is_at, Rules.ask_decl, Rules.ask_decls, Rules.ask_stmt, Rules.ask_name, Rules.ask_expr, Stages.broken_of}
 use Rattle.kp_stage.specs.Uses.{statement_at, plain_in, exprs_in, uses, puts, sets, aims, is_pipe, declares_pipe, is_hint, declares_hint, IsPutBefore}
-use Rattle.kp_stage.proofs.Unbroken.{first_none, answer_none}
-use Rattle.kp_stage.proofs.Kept.{rules_kept, decls_kept, stmt_kept}
-use Rattle.kp_stage.proofs.Noted.{by_test, by_option}
+use Rattle.kp_stage.proofs.{Unbroken.first_none, Unbroken.answer_none, Kept.rules_kept, Kept.decls_kept, Kept.stmt_kept, Noted.by_test, Noted.by_option}
 use Rattle.kp_stage.proofs.Names.{either, name_asked, same_value, plain_asked, exprs_asked, one_asked}
 
 -- E16 and E17

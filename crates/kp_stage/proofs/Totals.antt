@@ -1,15 +1,11 @@
 -- What is counted and summed on the way is the number of each kind, and the size of the machine.
-use Rattle.std.proofs.Common.{◌≡◌, ◌∙◌, ℕ, ◌+◌, List, [], ◌∷◌, refl, ap}
+use Rattle.std.proofs.{Common.◌≡◌, Common.◌∙◌, Common.ℕ, Common.◌+◌, Common.List, Common.[], Common.◌∷◌, Common.refl, Common.ap, lemmas.List.Sums.sum_by_from}
 use Rattle.std.specs.Prelude.{sum_by, fold}
-use Rattle.std.proofs.lemmas.List.Sums.{sum_by_from}
-use Rattle.kp_ast.specs.declared.tree.Decl.{Decl}
-use Rattle.kp_ast.specs.declared.tree.Stmt.{Stmt}
-use Rattle.kp_ast.specs.declared.tree.Block.{Block}
-use Rattle.kp_ast.specs.declared.tree.Job.{Job}
+use Rattle.kp_ast.specs.declared.tree.{Decl.Decl, Stmt.Stmt, Block.Block, Job.Job}
 use Rattle.kp_width.specs.Declarations.{functions_in}
+use Rattle.kp_stage.specs.Counts.{regs_in, files_in, pipes_in, results_in, hints_in, samples_in, reads_in, guesses_in, with_decl, with_stmt, nothing_counted, decls_counted, stmts_counted, blocks_counted, counts_of}
 use Rattle.kp_stage.specs.declared.counts.Counts.{Counts}
 use Rattle.kp_stage.specs.Sizes.{size_of_stmt, size_of_block, size_of_job, stmts_sized, blocks_sized, sizes_of}
-use Rattle.kp_stage.specs.Counts.{regs_in, files_in, pipes_in, results_in, hints_in, samples_in, reads_in, guesses_in, with_decl, with_stmt, nothing_counted, decls_counted, stmts_counted, blocks_counted, counts_of}
 
 -- a sum that starts with a number
 abbrev sum_from : {X : Type 0} → (X → ℕ) → ℕ → List X → ℕ

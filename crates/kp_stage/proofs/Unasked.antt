@@ -1,21 +1,15 @@
 -- A rule that isn't checked in blocks isn't violated there.
 use Rattle.std.proofs.Common.{◌≡◌, ◌∙◌, ℕ, ◌+◌, List, [], ◌∷◌, map, length, Option, Some, None, Bool, true, false, refl, ap, arith}
-use Rattle.std.specs.Prelude.{◌==◌, not, nat_le, is_some}
 use Rattle.std.proofs.lemmas.Bool.Decides.{Decides-eqb}
-use Rattle.kp_base.specs.First.{first}
-use Rattle.kp_base.specs.declared.place.Place.{Place}
-use Rattle.kp_ast.specs.declared.tree.Expr.{Expr}
-use Rattle.kp_ast.specs.declared.tree.Block.{Block}
-use Rattle.kp_ast.specs.declared.tree.Stmt.{Stmt}
-use Rattle.kp_ast.specs.declared.tree.StmtKind.{StmtKind}
+use Rattle.std.specs.Prelude.{◌==◌, not, nat_le, is_some}
+use Rattle.kp_base.specs.{First.first, declared.place.Place.Place}
+use Rattle.kp_ast.specs.declared.tree.{Expr.Expr, Block.Block, Stmt.Stmt, StmtKind.StmtKind}
 use Rattle.kp_ast.specs.declared.tree.StmtKind.TheVariants as stmts
 use Rattle.kp_ast.proofs.Levels.{fold-Lit, fold-Name, fold-Not, fold-Binary, fold-Mux, fold-Concat, fold-Slice, fold-Zext, fold-Sext, fold-Call}
 use Rattle.kp_ast.proofs.Induction.{Every, induction}
-use Rattle.kp_stage.specs.declared.rules.Rule.{Rule}
-use Rattle.kp_stage.specs.Facts.{At, Facts}
 use Rattle.kp_stage.specs.Rules.{ask_name, ask_kind, ask_level, ask_expr, ask_option, ask_values, ask_guesses, ask_stmt, ask_stmts, ask_block, ask_in_block, ask_blocks, broken_unless, holds_of}
-use Rattle.kp_stage.specs.inner.Tables.{Entries, Tables, look_up, facts_in}
-use Rattle.kp_stage.specs.inner.Asked.{asks_blocks}
+use Rattle.kp_stage.specs.{declared.rules.Rule.Rule, Facts.At, Facts.Facts}
+use Rattle.kp_stage.specs.inner.{Tables.Entries, Tables.Tables, Tables.look_up, Tables.facts_in, Asked.asks_blocks}
 
 -- a rule that no name violates
 module _ (facts : Facts) (rule : Rule) (k : ℕ) (names : (q : List ℕ) (at : Place) → ask_name facts rule k q at ≡ None) where

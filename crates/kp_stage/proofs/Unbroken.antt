@@ -1,13 +1,10 @@
 -- Properties of a job that violates no rule.
 use Rattle.std.proofs.Common.{◌≡◌, ◌≤◌, List, ◌∷◌, Some, None, Bool, true, false, refl}
-use Rattle.std.specs.Prelude.{◌&&◌, nat_le, length}
 use Rattle.std.proofs.lemmas.Bool.{leb-true}
-use Rattle.kp_base.specs.First.{first}
-use Rattle.kp_base.specs.Check.{Answer, answer}
-use Rattle.kp_base.specs.declared.refusal.Refusal.{Refusal}
+use Rattle.std.specs.Prelude.{◌&&◌, nat_le, length}
+use Rattle.kp_base.specs.{First.first, Check.Answer, Check.answer, declared.refusal.Refusal.Refusal}
 use Rattle.kp_ast.specs.declared.tree.Job.{Job}
-use Rattle.kp_stage.specs.Facts.{Facts}
-use Rattle.kp_stage.specs.Rules.{broken_at, broken_by}
+use Rattle.kp_stage.specs.{Facts.Facts, Rules.broken_at, Rules.broken_by}
 
 -- all answers are None
 pub first_none : (a : Answer) (more : List Answer) → first (a ∷ more) ≡ None → (a ≡ None) × (first more ≡ None)

@@ -1,20 +1,11 @@
 -- E29: how many registers, files, pipes, results, hints, functions, samples, reads and guesses a machine has.
 use Rattle.std.specs.Prelude.{ℕ, ◌≤◌, ◌+◌, List, [], ◌∷◌, Option, Some, None, Bool, ◌&&◌, nat_le, sum_by}
-use Rattle.kp_base.specs.Check.{Check, ok, wants, ◌>>=◌}
-use Rattle.kp_base.specs.Refusal.{e_rule}
-use Rattle.kp_base.specs.declared.place.Place.{Place}
-use Rattle.kp_ast.specs.declared.tree.Expr.{Expr}
-use Rattle.kp_ast.specs.declared.tree.Decl.{Decl}
+use Rattle.kp_base.specs.{Check.Check, Check.ok, Check.wants, Check.◌>>=◌, Refusal.e_rule, declared.place.Place.Place}
+use Rattle.kp_ast.specs.declared.tree.{Expr.Expr, Decl.Decl, Stmt.Stmt, StmtKind.StmtKind, Block.Block, Job.Job}
 use Rattle.kp_ast.specs.declared.tree.Decl.TheVariants as decls
-use Rattle.kp_ast.specs.declared.tree.Stmt.{Stmt}
-use Rattle.kp_ast.specs.declared.tree.StmtKind.{StmtKind}
 use Rattle.kp_ast.specs.declared.tree.StmtKind.TheVariants as stmts
-use Rattle.kp_ast.specs.declared.tree.Block.{Block}
-use Rattle.kp_ast.specs.declared.tree.Job.{Job}
 use Rattle.kp_width.specs.Declarations.{functions_in, name_of}
-use Rattle.kp_stage.specs.declared.counts.Counts.{Counts}
-use Rattle.kp_stage.specs.declared.counts.Summary.{Summary}
-use Rattle.kp_stage.specs.Sizes.{size_of_job}
+use Rattle.kp_stage.specs.{declared.counts.Counts.Counts, declared.counts.Summary.Summary, Sizes.size_of_job}
 
 -- each is 1 or 0: whether the declaration is of this kind
 abbrev pub regs_in : Decl → ℕ

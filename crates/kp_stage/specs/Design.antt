@@ -1,12 +1,9 @@
 -- A job that violates no rule of names, widths and stages.
 use Rattle.std.specs.Prelude.{◌≡◌, List, None}
 use Rattle.kp_base.specs.First.{first}
-use Rattle.kp_ast.specs.declared.tree.Job.{Job}
-use Rattle.kp_ast.specs.declared.widths.Entry.{Entry}
+use Rattle.kp_ast.specs.declared.{tree.Job.Job, widths.Entry.Entry}
 use Rattle.kp_width.specs.Widths.{widths_of}
-use Rattle.kp_stage.specs.declared.counts.Summary.{Summary}
-use Rattle.kp_stage.specs.Stages.{broken_of}
-use Rattle.kp_stage.specs.Counts.{summary_of}
+use Rattle.kp_stage.specs.{declared.counts.Summary.Summary, Stages.broken_of, Counts.summary_of}
 
 -- a job and the widths of its names
 pub record Plan : Type 0 where

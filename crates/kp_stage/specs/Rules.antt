@@ -5,25 +5,13 @@
 -- aimed is a hint, and a target that is read or written with an address is a file. And each rule may assume that
 -- those of lower numbers hold.
 use Rattle.std.specs.Prelude.{ℕ, ◌+◌, List, [], ◌∷◌, Option, Some, None, Bool, false, ◌&&◌, ◌||◌, not, ◌==◌, nat_lt, nat_le, is_some, map, length}
-use Rattle.kp_base.specs.First.{first}
-use Rattle.kp_base.specs.Check.{Answer, answer}
-use Rattle.kp_base.specs.Refusal.{e_rule}
-use Rattle.kp_base.specs.declared.place.Place.{Place}
-use Rattle.kp_ast.specs.declared.tree.Named.{Named}
-use Rattle.kp_ast.specs.declared.tree.Expr.{Expr}
-use Rattle.kp_ast.specs.declared.tree.ExprKind.TheOpen.{ExprKind-F, Expr-F}
+use Rattle.kp_base.specs.{First.first, Check.Answer, Check.answer, Refusal.e_rule, declared.place.Place.Place}
+use Rattle.kp_ast.specs.declared.tree.{Named.Named, Expr.Expr, ExprKind.TheOpen.ExprKind-F, ExprKind.TheOpen.Expr-F, ExprKind.TheFolds.fold-Expr}
+use Rattle.kp_ast.specs.declared.tree.{ReadStmt.ReadStmt, Decl.Decl, Stmt.Stmt, StmtKind.StmtKind, Block.Block, Job.Job}
 use Rattle.kp_ast.specs.declared.tree.ExprKind.TheOpen as level
-use Rattle.kp_ast.specs.declared.tree.ExprKind.TheFolds.{fold-Expr}
-use Rattle.kp_ast.specs.declared.tree.ReadStmt.{ReadStmt}
-use Rattle.kp_ast.specs.declared.tree.Decl.{Decl}
 use Rattle.kp_ast.specs.declared.tree.Decl.TheVariants as decls
-use Rattle.kp_ast.specs.declared.tree.Stmt.{Stmt}
-use Rattle.kp_ast.specs.declared.tree.StmtKind.{StmtKind}
 use Rattle.kp_ast.specs.declared.tree.StmtKind.TheVariants as stmts
-use Rattle.kp_ast.specs.declared.tree.Block.{Block}
-use Rattle.kp_ast.specs.declared.tree.Job.{Job}
-use Rattle.kp_stage.specs.declared.rules.Rule.{Rule}
-use Rattle.kp_stage.specs.Facts.{At, Facts}
+use Rattle.kp_stage.specs.{declared.rules.Rule.Rule, Facts.At, Facts.Facts}
 
 -- the number of a rule, as it is printed in an error message
 abbrev pub number_of : Rule → ℕ

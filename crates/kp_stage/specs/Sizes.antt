@@ -1,15 +1,9 @@
 -- E28: the expanded size of a machine, the sum over all expressions in stages, is at most 100,000.
 use Rattle.std.specs.Prelude.{ℕ, ◌+◌, List, [], ◌∷◌, Option, Some, None, nat_le, sum_by}
-use Rattle.kp_base.specs.Check.{Check, ok, wants, ◌>>=◌}
-use Rattle.kp_base.specs.Refusal.{e_rule}
-use Rattle.kp_ast.specs.Size.{size}
-use Rattle.kp_ast.specs.declared.tree.Expr.{Expr}
-use Rattle.kp_ast.specs.declared.tree.Decl.{Decl}
-use Rattle.kp_ast.specs.declared.tree.Stmt.{Stmt}
-use Rattle.kp_ast.specs.declared.tree.StmtKind.{StmtKind}
+use Rattle.kp_base.specs.{Check.Check, Check.ok, Check.wants, Check.◌>>=◌, Refusal.e_rule}
+use Rattle.kp_ast.specs.{Size.size, declared.tree.Expr.Expr, declared.tree.Decl.Decl, declared.tree.Stmt.Stmt, declared.tree.StmtKind.StmtKind}
+use Rattle.kp_ast.specs.declared.tree.{Block.Block, Job.Job}
 use Rattle.kp_ast.specs.declared.tree.StmtKind.TheVariants as stmts
-use Rattle.kp_ast.specs.declared.tree.Block.{Block}
-use Rattle.kp_ast.specs.declared.tree.Job.{Job}
 
 abbrev pub size_of_option : List Decl → Option Expr → ℕ
 size_of_option ds None = 0

@@ -1,12 +1,8 @@
 -- The first violated rule of stages.
 use Rattle.std.specs.Prelude.{[], ◌∷◌}
-use Rattle.kp_base.specs.First.{first}
-use Rattle.kp_base.specs.Check.{Answer}
+use Rattle.kp_base.specs.{First.first, Check.Answer}
 use Rattle.kp_ast.specs.declared.tree.Job.{Job}
-use Rattle.kp_stage.specs.Facts.{facts_of}
-use Rattle.kp_stage.specs.Rules.{broken_by}
-use Rattle.kp_stage.specs.Sizes.{sizes_of}
-use Rattle.kp_stage.specs.Counts.{counts_of}
+use Rattle.kp_stage.specs.{Facts.facts_of, Rules.broken_by, Sizes.sizes_of, Counts.counts_of}
 
 -- E15 to E25, then E34 and E35, then E28, then E29: the first violated rule in this order, at the first position in the text
 unfoldable pub broken_of : Job → Answer

@@ -8,14 +8,9 @@
 use Rattle.std.specs.Prelude.{◌≡◌, ℕ, zero, suc, ◌+◌, ◌-◌, ◌^◌, ◌%◌, ◌<◌, length, List, [], ◌∷◌, Option, Some, None, Bool, ◌&&◌, ◌==◌, nat_le, if◌then◌else◌, option_map, unwrap_or, slice_get}
 use Rattle.std.specs.List.{list_any, All}
 use Rattle.kp_bits.specs.Word.{Word, word, IsWord}
-use Rattle.kp_ast.specs.Expressions.{is_same_name}
-use Rattle.kp_ast.specs.declared.tree.Num.{Num}
-use Rattle.kp_ast.specs.declared.tree.Decl.{Decl}
+use Rattle.kp_ast.specs.{Expressions.is_same_name, declared.tree.Num.Num, declared.tree.Decl.Decl, declared.tree.Image.Image, declared.tree.Stalls.Stalls}
+use Rattle.kp_ast.specs.declared.tree.{Inputs.Inputs, Job.Job}
 use Rattle.kp_ast.specs.declared.tree.Decl.TheVariants as decls
-use Rattle.kp_ast.specs.declared.tree.Image.{Image}
-use Rattle.kp_ast.specs.declared.tree.Stalls.{Stalls}
-use Rattle.kp_ast.specs.declared.tree.Inputs.{Inputs}
-use Rattle.kp_ast.specs.declared.tree.Job.{Job}
 use Rattle.kp_stage.specs.declared.start.Start.{Start}
 
 abbrev pub number_or : Option Num → ℕ → ℕ

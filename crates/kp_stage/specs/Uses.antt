@@ -1,17 +1,11 @@
 -- The parts of a job: its statements, the expressions in them, and the names that these use.
 use Rattle.std.specs.Prelude.{◌≡◌, ℕ, ◌<◌, List, [], ◌∷◌, ◌++◌, Option, Some, None, Bool, false, ◌||◌, slice_get, IsTrue}
 use Rattle.std.specs.List.{list_any}
-use Rattle.kp_ast.specs.Expressions.{is_same_name}
-use Rattle.kp_ast.specs.declared.tree.Expr.{Expr}
-use Rattle.kp_ast.specs.declared.tree.ExprKind.TheOpen.{ExprKind-F, Expr-F}
+use Rattle.kp_ast.specs.{Expressions.is_same_name, declared.tree.Expr.Expr, declared.tree.ExprKind.TheOpen.ExprKind-F, declared.tree.ExprKind.TheOpen.Expr-F}
+use Rattle.kp_ast.specs.declared.tree.{ExprKind.TheFolds.fold-Expr, Decl.Decl, Stmt.Stmt, StmtKind.StmtKind, Job.Job}
 use Rattle.kp_ast.specs.declared.tree.ExprKind.TheOpen as level
-use Rattle.kp_ast.specs.declared.tree.ExprKind.TheFolds.{fold-Expr}
-use Rattle.kp_ast.specs.declared.tree.Decl.{Decl}
 use Rattle.kp_ast.specs.declared.tree.Decl.TheVariants as decls
-use Rattle.kp_ast.specs.declared.tree.Stmt.{Stmt}
-use Rattle.kp_ast.specs.declared.tree.StmtKind.{StmtKind}
 use Rattle.kp_ast.specs.declared.tree.StmtKind.TheVariants as stmts
-use Rattle.kp_ast.specs.declared.tree.Job.{Job}
 use Rattle.kp_stage.specs.Facts.{stmts_in}
 
 -- the statement of number j in stage k

@@ -1,19 +1,13 @@
 -- The reads that a stage's tree requests are those that are reported.
 use Rattle.std.proofs.Common.{◌≡◌, ◌∙◌, ℕ, List, [], ◌∷◌, ◌++◌, Option, Some, None, Bool, true, false, cond, not, ◌&&◌, ◌||◌, refl, ap}
 use Rattle.std.specs.Prelude.{is_some}
-use Rattle.kp_ast.specs.declared.tree.Expr.{Expr}
-use Rattle.kp_ast.specs.declared.tree.ReadStmt.{ReadStmt}
-use Rattle.kp_ast.specs.declared.tree.Decl.{Decl}
-use Rattle.kp_ast.specs.declared.tree.Stmt.{Stmt}
-use Rattle.kp_ast.specs.declared.tree.StmtKind.{StmtKind}
+use Rattle.kp_ast.specs.declared.tree.{Expr.Expr, ReadStmt.ReadStmt, Decl.Decl, Stmt.Stmt, StmtKind.StmtKind}
 use Rattle.kp_ast.specs.declared.tree.StmtKind.TheVariants as stmts
-use Rattle.kp_pipeline.specs.Machine.{Tree}
-use Rattle.kp_pipeline.specs.Timeline.{some_unmet}
+use Rattle.kp_pipeline.specs.{Machine.Tree, Timeline.some_unmet}
 use Rattle.kp_machine.specs.Slots.{targets_of, number_of, result_named}
 use Rattle.kp_machine.specs.Trees.{Progress, holds, address_of, value_of, word_read, with_name, with_set, read_of, statement_of, tree_of}
 use Rattle.kp_seq.specs.Recorded.{where_true, address_read, done_after, read_recorded, reads_recorded}
-use Rattle.kp_stalls.specs.declared.sites.Site.{Site}
-use Rattle.kp_stalls.specs.Sites.{site_of, sites_in}
+use Rattle.kp_stalls.specs.{declared.sites.Site.Site, Sites.site_of, Sites.sites_in}
 
 -- some read that is reported, and not guessed, isn't met
 abbrev pub asks_unmet : (ℕ → ℕ → Bool) → List Site → List (Option ℕ) → Bool

@@ -1,46 +1,28 @@
 -- A wait has its cause.
 use Rattle.std.proofs.Common.{◌≡◌, ◌∙◌, ℕ, zero, suc, ◌+◌, ◌-◌, ◌<◌, ◌≤◌, List, [], ◌∷◌, ◌++◌, Option, Some, None, Bool, true, false, cond, leb, not, ◌&&◌, ◌||◌, length, get_or, refl, ap, sym, subst, arith, ⊎_elim, eq-eqb}
-use Rattle.std.specs.Prelude.{is_some, slice_get}
-use Rattle.std.proofs.lemmas.Bool.{and_parts, cases_lt, false≢true}
-use Rattle.std.proofs.lemmas.List.{length-append, get_or_append_left, get_or_past, get_or_push}
+use Rattle.std.proofs.lemmas.{Bool.and_parts, Bool.cases_lt, Bool.false≢true, List.length-append, List.get_or_append_left, List.get_or_past, List.get_or_push}
 use Rattle.std.proofs.lemmas.Option.{same_Some}
-use Rattle.kp_ast.specs.declared.tree.Decl.{Decl}
-use Rattle.kp_ast.specs.declared.tree.Stmt.{Stmt}
-use Rattle.kp_ast.specs.declared.tree.StmtKind.{StmtKind}
+use Rattle.std.specs.Prelude.{is_some, slice_get}
+use Rattle.kp_ast.specs.declared.tree.{Decl.Decl, Stmt.Stmt, StmtKind.StmtKind, Block.Block, Job.Job}
 use Rattle.kp_ast.specs.declared.tree.StmtKind.TheVariants as stmts
-use Rattle.kp_ast.specs.declared.tree.Block.{Block}
-use Rattle.kp_ast.specs.declared.tree.Job.{Job}
 use Rattle.kp_base.specs.First.{first}
 use Rattle.kp_width.specs.Widths.{widths_of}
-use Rattle.kp_stage.specs.Facts.{stmts_in}
-use Rattle.kp_stage.specs.Start.{start_of}
-use Rattle.kp_stage.specs.Stages.{broken_of}
-use Rattle.kp_pipeline.specs.Accepted.{Accepted}
-use Rattle.kp_pipeline.specs.Machine.{Machine}
-use Rattle.kp_pipeline.specs.Pipeline.{Inputs, is_candidate, outcome}
-use Rattle.kp_pipeline.specs.Rows.{Row, bit}
-use Rattle.kp_pipeline.specs.Sequential.{before_stage, instruction_before}
-use Rattle.kp_pipeline.specs.Timeline.{ReadyAbove, some_unmet}
-use Rattle.kp_pipeline.specs.SpeculativeTimeline as timeline
+use Rattle.kp_stage.specs.{Facts.stmts_in, Start.start_of, Stages.broken_of}
+use Rattle.kp_pipeline.specs.{Accepted.Accepted, Machine.Machine, Pipeline.Inputs, Pipeline.is_candidate, Pipeline.outcome, Rows.Row, Rows.bit}
+use Rattle.kp_pipeline.specs.{Sequential.before_stage, Sequential.instruction_before, Timeline.ReadyAbove, Timeline.some_unmet}
 use Rattle.kp_pipeline.specs.SpeculativeTimeline.{blocked, blocked_given, moves_on, ready_above, ready_from, waits, waits_given}
 use Rattle.kp_pipeline.specs.RightPath.{IsRightFrom, Moment, WaitsWhereItMust, held}
-use Rattle.kp_machine.specs.Slots.{Slot, targets_of, number_of, result_to}
-use Rattle.kp_machine.specs.Trees.{Progress, entered}
+use Rattle.kp_pipeline.specs.SpeculativeTimeline as timeline
+use Rattle.kp_machine.specs.{Slots.Slot, Slots.targets_of, Slots.number_of, Slots.result_to, Trees.Progress, Trees.entered}
 use Rattle.kp_machine.specs.Machine.{machine_of, result_for, sequential, stage_tree, state_of}
-use Rattle.kp_machine.proofs.Cases.{by_option}
-use Rattle.kp_machine.proofs.Stages.{stages_inside}
-use Rattle.kp_machine.proofs.Text.{fits_text, target_slot}
+use Rattle.kp_machine.proofs.{Cases.by_option, Stages.stages_inside, Text.fits_text, Text.target_slot}
 use Rattle.kp_seq.specs.Recorded.{read_recorded, reads_recorded, done_after, stage_reads, reads_from, record_of}
-use Rattle.kp_stalls.specs.declared.occupants.Stage.{Stage}
-use Rattle.kp_stalls.specs.declared.sites.Site.{Site}
-use Rattle.kp_stalls.specs.declared.sites.Writer.{Writer}
-use Rattle.kp_stalls.specs.declared.cause.Wait.{Wait}
+use Rattle.kp_stalls.specs.declared.{occupants.Stage.Stage, sites.Site.Site, sites.Writer.Writer, cause.Wait.Wait}
 use Rattle.kp_stalls.specs.Sites.{no_site, result_number, site_of, sited, sites_from, sites_in, writer_at, writer_by, writers_to}
 use Rattle.kp_stalls.specs.Occupants.{Report, Seen, at, occupants_of, report, no_stage}
 use Rattle.kp_stalls.specs.Causes.{first_wait, is_met, is_ready, is_source, may_write, nearest, nearest_above}
 use Rattle.kp_stalls.specs.Claims.{IsCause, ShowsMoment, has_ready, is_writer, read_site}
-use Rattle.kp_stalls.proofs.Asks.{asks_unmet, stage_asks}
-use Rattle.kp_stalls.proofs.OccupantFacts.{report_at, stage_at}
+use Rattle.kp_stalls.proofs.{Asks.asks_unmet, Asks.stage_asks, OccupantFacts.report_at, OccupantFacts.stage_at}
 use Rattle.kp_stalls.proofs.Results.{IsResult, is_result, no_result, ready_same, writes_same}
 use Rattle.kp_stalls.proofs.Waits.{AllMet, first_is, left_met, met_of, near_is, none_waits, right_met, wait_is}
 use Rattle.kp_stalls.proofs.Windows.{writers_many}

@@ -1,8 +1,6 @@
 -- The cycles of a run.
 use Rattle.std.proofs.Common.{◌≡◌, ℕ, zero, suc, ◌<◌, List, [], ◌∷◌, length, get_or, sym, subst, arith}
-use Rattle.kp_pipeline.specs.Machine.{Machine}
-use Rattle.kp_pipeline.specs.Pipeline.{Inputs}
-use Rattle.kp_pipeline.specs.Rows.{Row}
+use Rattle.kp_pipeline.specs.{Machine.Machine, Pipeline.Inputs, Rows.Row}
 use Rattle.kp_pipeline.specs.RightPath.{Moment, WaitsOnlyWhereItMust, WaitsWhereItMust, next_moment}
 use Rattle.kp_stalls.specs.Claims.{moment_at}
 

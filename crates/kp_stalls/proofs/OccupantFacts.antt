@@ -1,8 +1,7 @@
 -- The occupant of a stage, and what is reported of it.
 use Rattle.std.proofs.Common.{◌≡◌, ◌∙◌, ℕ, zero, suc, ◌<◌, List, [], ◌∷◌, length, get_or, refl, ap, sym, arith, ◌≤◌}
 use Rattle.std.proofs.lemmas.List.{get_or_default, get_or_past, length-map}
-use Rattle.kp_stalls.specs.declared.occupants.Stage.{Stage}
-use Rattle.kp_stalls.specs.Occupants.{Report, at, occupants_of, no_stage}
+use Rattle.kp_stalls.specs.{declared.occupants.Stage.Stage, Occupants.Report, Occupants.at, Occupants.occupants_of, Occupants.no_stage}
 
 pub stage_at : (reports : ℕ → Report) (stages : List Stage) (j : ℕ) → (at (occupants_of reports stages) j).stage ≡ get_or stages j no_stage
 stage_at reports [] j = refl

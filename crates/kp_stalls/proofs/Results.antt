@@ -1,22 +1,15 @@
 -- The result of a target, by its number: what is reported about it is what the timeline requests.
 use Rattle.std.proofs.Common.{◌≡◌, ◌∙◌, ℕ, zero, suc, ◌+◌, List, [], ◌∷◌, Option, Some, None, Bool, true, false, cond, eqb, leb, ltb, not, ◌&&◌, ◌||◌, map, get_or, refl, ap, sym, subst, arith}
+use Rattle.std.proofs.lemmas.{Bool.eqb-true, Option.get_or_from_slice_get}
 use Rattle.std.specs.Prelude.{is_some, slice_get}
-use Rattle.std.proofs.lemmas.Bool.{eqb-true}
-use Rattle.std.proofs.lemmas.Option.{get_or_from_slice_get}
-use Rattle.kp_ast.specs.declared.tree.ResultDecl.{ResultDecl}
-use Rattle.kp_ast.specs.declared.tree.Decl.{Decl}
+use Rattle.kp_ast.specs.declared.tree.{ResultDecl.ResultDecl, Decl.Decl, Job.Job}
 use Rattle.kp_ast.specs.declared.tree.Decl.TheVariants as decls
-use Rattle.kp_ast.specs.declared.tree.Job.{Job}
-use Rattle.kp_pipeline.specs.Sequential.{before_stage, seq}
-use Rattle.kp_pipeline.specs.Timeline.{first_stage}
+use Rattle.kp_pipeline.specs.{Sequential.before_stage, Sequential.seq, Timeline.first_stage, SpeculativeTimeline.setting_stage}
 use Rattle.kp_pipeline.specs.SpeculativeTimeline as timeline
-use Rattle.kp_pipeline.specs.SpeculativeTimeline.{setting_stage}
 use Rattle.kp_machine.specs.Slots.{Slot, targets_of, pipes_of, number_of, result_to}
 use Rattle.kp_machine.specs.Machine.{machine_of, result_for, write_stage_of, enabled_of, address_in, is_enabled_by, address_by}
 use Rattle.kp_seq.specs.Recorded.{where_true, results_of, write_recorded, setting_recorded, record_of}
-use Rattle.kp_stalls.specs.declared.sites.Writer.{Writer}
-use Rattle.kp_stalls.specs.Sites.{result_number}
-use Rattle.kp_stalls.specs.Occupants.{Report, Seen, report_of}
+use Rattle.kp_stalls.specs.{declared.sites.Writer.Writer, Sites.result_number, Occupants.Report, Occupants.Seen, Occupants.report_of}
 use Rattle.kp_stalls.specs.Causes.{wrote_at, may_write, is_ready}
 
 -- if the number of a result is found, the result is found

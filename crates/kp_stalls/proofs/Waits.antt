@@ -1,13 +1,8 @@
 -- What a first wait says, and what it means that there is none.
 use Rattle.std.proofs.Common.{◌≡◌, ◌∙◌, ℕ, zero, suc, ◌+◌, ◌<◌, ◌≤◌, List, [], ◌∷◌, ◌++◌, Option, Some, None, Bool, true, false, cond, eqb, not, ◌&&◌, length, get_or, refl, ap, sym, arith, ⊎_elim}
+use Rattle.std.proofs.lemmas.{Bool.and_parts, Bool.cases_lt, Bool.eqb-true, List.length-append, Option.same_Some}
 use Rattle.std.specs.Prelude.{is_some}
-use Rattle.std.proofs.lemmas.Bool.{and_parts, cases_lt, eqb-true}
-use Rattle.std.proofs.lemmas.List.{length-append}
-use Rattle.std.proofs.lemmas.Option.{same_Some}
-use Rattle.kp_stalls.specs.declared.sites.Site.{Site}
-use Rattle.kp_stalls.specs.declared.sites.Writer.{Writer}
-use Rattle.kp_stalls.specs.declared.cause.Wait.{Wait}
-use Rattle.kp_stalls.specs.Sites.{Sited, no_site}
+use Rattle.kp_stalls.specs.{declared.sites.Site.Site, declared.sites.Writer.Writer, declared.cause.Wait.Wait, Sites.Sited, Sites.no_site}
 use Rattle.kp_stalls.specs.Occupants.{Seen, at}
 use Rattle.kp_stalls.specs.Causes.{first_wait, had_by, is_met, is_ready, is_source, nearest, nearest_above, or_else, wait_at, wait_by, wait_of}
 

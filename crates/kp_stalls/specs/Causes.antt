@@ -2,22 +2,12 @@
 -- them. `s` has the tables of the job; reads are numbered in text order.
 use Rattle.std.specs.Prelude.{ℕ, zero, suc, ◌+◌, ◌-◌, List, [], ◌∷◌, ◌++◌, Option, Some, None, Bool, true, false, not, ◌&&◌, ◌||◌, ◌==◌, nat_le, nat_lt, if◌then◌else◌, is_some, get_or}
 use Rattle.std.specs.List.{list_any}
-use Rattle.kp_stalls.specs.declared.sites.Site.{Site}
-use Rattle.kp_stalls.specs.declared.sites.Writer.{Writer}
-use Rattle.kp_stalls.specs.declared.occupants.Stage.{Stage}
-use Rattle.kp_stalls.specs.declared.fate.Fate.{Fate}
-use Rattle.kp_stalls.specs.declared.fate.Fate.TheVariants as fates
-use Rattle.kp_stalls.specs.declared.cause.Cause.{Cause}
+use Rattle.kp_stalls.specs.declared.{sites.Site.Site, sites.Writer.Writer, occupants.Stage.Stage, fate.Fate.Fate, cause.Cause.Cause}
 use Rattle.kp_stalls.specs.declared.cause.Cause.TheVariants.{Value, Unsure, Ahead, Held, Later, Squashed}
-use Rattle.kp_stalls.specs.declared.cause.Wait.{Wait}
-use Rattle.kp_stalls.specs.declared.cause.Had.{Had}
-use Rattle.kp_stalls.specs.declared.cause.Had.TheVariants.{Known, Set, Moved}
-use Rattle.kp_stalls.specs.declared.cause.Wrong.{Wrong}
-use Rattle.kp_stalls.specs.declared.cause.Guess.{Guess}
-use Rattle.kp_stalls.specs.declared.cause.Producer.{Producer}
-use Rattle.kp_stalls.specs.declared.cause.Line.{Line}
-use Rattle.kp_stalls.specs.Sites.{Sited, no_site}
+use Rattle.kp_stalls.specs.declared.cause.{Wait.Wait, Had.Had, Had.TheVariants.Known, Had.TheVariants.Set, Had.TheVariants.Moved, Wrong.Wrong, Guess.Guess}
+use Rattle.kp_stalls.specs.{declared.cause.Producer.Producer, declared.cause.Line.Line, Sites.Sited, Sites.no_site}
 use Rattle.kp_stalls.specs.Occupants.{Seen, at, no_value}
+use Rattle.kp_stalls.specs.declared.fate.Fate.TheVariants as fates
 
 -- SOURCES. Stage j may write the target of w at address a: it isn't known there whether and where its instruction writes, or it writes there.
 abbrev pub wrote_at : Option ℕ → ℕ → Bool

@@ -2,16 +2,11 @@
 use Rattle.std.specs.Prelude.{◌≡◌, ℕ, zero, suc, ◌<◌, Bool, true, false, ◌&&◌, List, [], ◌∷◌, Some, None, length, get_or}
 use Rattle.kp_ast.specs.declared.tree.Job.{Job}
 use Rattle.kp_stage.specs.Start.{start_of}
-use Rattle.kp_pipeline.specs.Machine.{Machine}
-use Rattle.kp_pipeline.specs.Pipeline.{Inputs, is_candidate}
-use Rattle.kp_pipeline.specs.Rows.{Row, bit, pipe, taken}
+use Rattle.kp_pipeline.specs.{Machine.Machine, Pipeline.Inputs, Pipeline.is_candidate, Rows.Row, Rows.bit, Rows.pipe, Rows.taken}
 use Rattle.kp_pipeline.specs.RightPath.{Moment, first_moment, held, next_moment}
 use Rattle.kp_pipeline.specs.SpeculativeTimeline as timeline
 use Rattle.kp_machine.specs.Machine.{machine_of, state_of}
-use Rattle.kp_stalls.specs.declared.cause.Wait.{Wait}
-use Rattle.kp_stalls.specs.declared.occupants.Stage.{Stage}
-use Rattle.kp_stalls.specs.declared.sites.Site.{Site}
-use Rattle.kp_stalls.specs.Sites.{no_site, sited}
+use Rattle.kp_stalls.specs.{declared.cause.Wait.Wait, declared.occupants.Stage.Stage, declared.sites.Site.Site, Sites.no_site, Sites.sited}
 use Rattle.kp_stalls.specs.Occupants.{report, no_stage}
 
 -- The stages show the row of a moment, and the numbers of the instructions.

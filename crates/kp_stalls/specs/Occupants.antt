@@ -2,14 +2,9 @@
 use Rattle.std.specs.Prelude.{ℕ, ◌%◌, List, [], false, nat_lt, if◌then◌else◌, length, get_or, map}
 use Rattle.kp_bits.specs.Word.{Word, word}
 use Rattle.kp_ast.specs.declared.tree.Job.{Job}
-use Rattle.kp_machine.specs.Machine.{sequential}
-use Rattle.kp_machine.specs.Slots.{targets_of}
-use Rattle.kp_seq.specs.Running.{target}
-use Rattle.kp_seq.specs.Recorded.{Recorded, record_of}
-use Rattle.kp_stalls.specs.declared.occupants.Stage.{Stage}
-use Rattle.kp_stalls.specs.declared.fate.Fate.TheVariants.{Open}
-use Rattle.kp_stalls.specs.declared.sites.Site.{Site}
-use Rattle.kp_stalls.specs.Sites.{sited}
+use Rattle.kp_machine.specs.{Machine.sequential, Slots.targets_of}
+use Rattle.kp_seq.specs.{Running.target, Recorded.Recorded, Recorded.record_of}
+use Rattle.kp_stalls.specs.{declared.occupants.Stage.Stage, declared.fate.Fate.TheVariants.Open, declared.sites.Site.Site, Sites.sited}
 
 -- What the sequential machine reports of an instruction, and for each read the value that its target had before the instruction at address 0.
 pub record Report : Type 0 where

@@ -1,16 +1,10 @@
 -- The tables of a job: the stages of its reads, and by which result and when each target is written.
 use Rattle.std.specs.Prelude.{ℕ, zero, suc, ◌+◌, ◌==◌, List, [], ◌∷◌, ◌++◌, Option, Some, None, false, if◌then◌else◌, length, is_some}
-use Rattle.kp_ast.specs.declared.tree.Decl.{Decl}
+use Rattle.kp_ast.specs.declared.tree.{Decl.Decl, Stmt.Stmt, StmtKind.StmtKind, Block.Block, Job.Job}
 use Rattle.kp_ast.specs.declared.tree.Decl.TheVariants as decls
-use Rattle.kp_ast.specs.declared.tree.Stmt.{Stmt}
-use Rattle.kp_ast.specs.declared.tree.StmtKind.{StmtKind}
 use Rattle.kp_ast.specs.declared.tree.StmtKind.TheVariants as stmts
-use Rattle.kp_ast.specs.declared.tree.Block.{Block}
-use Rattle.kp_ast.specs.declared.tree.Job.{Job}
-use Rattle.kp_machine.specs.Slots.{Slot, targets_of, number_of}
-use Rattle.kp_machine.specs.Machine.{machine_of}
-use Rattle.kp_stalls.specs.declared.sites.Site.{Site}
-use Rattle.kp_stalls.specs.declared.sites.Writer.{Writer}
+use Rattle.kp_machine.specs.{Slots.Slot, Slots.targets_of, Slots.number_of, Machine.machine_of}
+use Rattle.kp_stalls.specs.declared.sites.{Site.Site, Writer.Writer}
 
 -- the number of stages, the reads in text order, and how each target is written
 pub record Sited : Type 0 where

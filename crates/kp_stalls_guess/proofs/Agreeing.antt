@@ -1,9 +1,7 @@
 -- Lists of guesses that pass the same tests have the same guessed value.
 use Rattle.std.proofs.Common.{◌≡◌, ◌∙◌, ℕ, List, [], ◌∷◌, Option, Some, None, Bool, true, false, not, ◌&&◌, ◌||◌, cond, eq-eqb, refl, ap, sym, ⊎_elim}
-use Rattle.std.specs.Prelude.{◌==◌}
-use Rattle.std.specs.List.{list_any}
-use Rattle.std.proofs.lemmas.Bool.{cases_Bool, eqb-true, eqb-false, ne_eqb, false≢true}
-use Rattle.std.proofs.lemmas.Option.{same_Some}
+use Rattle.std.proofs.lemmas.{Bool.cases_Bool, Bool.eqb-true, Bool.eqb-false, Bool.ne_eqb, Bool.false≢true, Option.same_Some}
+use Rattle.std.specs.{Prelude.◌==◌, List.list_any}
 use Rattle.kp_pipeline.specs.Sequential.{PendingGuess}
 use Rattle.kp_stalls_guess.specs.Guessed.{agreed, first_guess, guessed_value, is_other_guess}
 

@@ -1,17 +1,12 @@
 -- The steps of the loops over guesses, and the guesses that cells hold.
 use Rattle.std.proofs.Common.{◌≡◌, ◌∙◌, ℕ, zero, suc, ◌+◌, ◌<◌, ◌≤◌, List, [], ◌∷◌, Option, Some, None, Bool, true, false, not, ◌&&◌, ◌||◌, cond, drop, eq-eqb, length, get_or, refl, ap, sym, arith, ⊎_elim}
-use Rattle.std.specs.Prelude.{◌==◌, is_some, nat_lt}
-use Rattle.std.specs.List.{list_any}
-use Rattle.std.proofs.lemmas.Bool.{cases_Bool, ltb-true}
-use Rattle.std.proofs.lemmas.List.{drop_all, drop_more}
-use Rattle.std.proofs.lemmas.Option.{same_Some}
+use Rattle.std.proofs.lemmas.{Bool.cases_Bool, Bool.ltb-true, List.drop_all, List.drop_more, Option.same_Some}
+use Rattle.std.specs.{Prelude.◌==◌, Prelude.is_some, Prelude.nat_lt, List.list_any}
 use Rattle.kp_bits.specs.Word.{Word, word}
 use Rattle.kp_ast.specs.declared.tree.Job.{Job}
 use Rattle.kp_net.specs.Nodes.{Cells}
-use Rattle.kp_pipeline.specs.Sequential.{PendingGuess}
-use Rattle.kp_pipeline.specs.Pipeline.{Inputs, PipelineState, StageState}
-use Rattle.kp_synth_tables.specs.declared.key.Key.TheVariants.{Pending, Guess}
-use Rattle.kp_synth_tables.specs.declared.key.GuessSlot.{GuessSlot}
+use Rattle.kp_pipeline.specs.{Sequential.PendingGuess, Pipeline.Inputs, Pipeline.PipelineState, Pipeline.StageState}
+use Rattle.kp_synth_tables.specs.declared.key.{Key.TheVariants.Pending, Key.TheVariants.Guess, GuessSlot.GuessSlot}
 use Rattle.kp_synth_tables.specs.Keys.{guesses_of, is_carried, target_at}
 use Rattle.kp_synth_registers.specs.Holding.{Holds, guess_passes, kept_in, pending_guess, some_guess, some_of}
 use Rattle.kp_stalls_guess.specs.Guessed.{agreed, as_word, first_guess, guessed_value, guessed_word, is_other_guess}

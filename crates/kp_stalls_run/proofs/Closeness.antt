@@ -2,17 +2,11 @@
 use Rattle.std.specs.List.{AllByRecursion}
 use Rattle.std.proofs.Common.{◌≡◌, ℕ, zero, suc, ◌+◌, ◌-◌, ◌<◌, ◌≤◌, List, [], ◌∷◌, Option, take, length, get_or, refl, ap, arith, Bool, true, false, ⊎_elim}
 use Rattle.std.proofs.lemmas.Bool.{cases_Bool, cases_lt, false≢true}
-use Rattle.kp_pipeline.specs.Accepted.{Accepted}
-use Rattle.kp_pipeline.specs.Claims.{StandsBefore}
-use Rattle.kp_pipeline.specs.Machine.{Machine}
-use Rattle.kp_pipeline.specs.Sequential.{PendingGuess}
+use Rattle.kp_pipeline.specs.{Accepted.Accepted, Claims.StandsBefore, Machine.Machine, Sequential.PendingGuess}
 use Rattle.kp_pipeline.specs.Pipeline.{Inputs, PipelineState, above, back, cycle, pipeline_start, some_differs, ue}
 use Rattle.kp_pipeline.specs.Rows.{Row, count_after, counts, counts_from, one_if, pipe, row, rows_from, state_after}
-use Rattle.kp_pipeline.proofs.Counts.{AgreeBelow, counts-chain, counts-row}
-use Rattle.kp_pipeline.proofs.Invariant.{Shape}
-use Rattle.kp_pipeline.proofs.Movement.{count-one, count-stays, next_count}
-use Rattle.kp_pipeline.proofs.NextState.{back-mismatch}
-use Rattle.kp_pipeline.proofs.Pending.{shape-kept, shape-start}
+use Rattle.kp_pipeline.proofs.{Counts.AgreeBelow, Counts.counts-chain, Counts.counts-row, Invariant.Shape}
+use Rattle.kp_pipeline.proofs.{Movement.count-one, Movement.count-stays, Movement.next_count, NextState.back-mismatch, Pending.shape-kept, Pending.shape-start}
 use Rattle.kp_stalls_run.specs.inner.Running.{StaysClose}
 
 -- neighbours differ by at most one

@@ -5,20 +5,12 @@ use Rattle.kp_base.specs.declared.row.Row as masks
 use Rattle.kp_ast.specs.declared.tree.Job.{Job}
 use Rattle.kp_pipeline.specs.Rows.{Row, count_after, counts}
 use Rattle.kp_pipeline.proofs.Counts.{counts-bound}
-use Rattle.kp_sched.specs.Monitors.{Kept, HasSeen}
-use Rattle.kp_sched.specs.Rows.{bit_of, row_seen, rows_seen}
-use Rattle.kp_stalls.specs.declared.cause.Line.{Line}
-use Rattle.kp_stalls.specs.declared.fate.Fate.{Fate}
-use Rattle.kp_stalls.specs.declared.fate.Fate.TheVariants.{Open}
-use Rattle.kp_stalls.specs.Sites.{sited}
-use Rattle.kp_stalls.specs.Occupants.{Seen, occupants_of, report, stored}
-use Rattle.kp_stalls.specs.Causes.{lines_down}
-use Rattle.kp_stalls.specs.Cycles.{fate_in, lines_from, stage_of, stages_from}
-use Rattle.kp_stalls.specs.Windows.{Windowed, Follows}
-use Rattle.kp_stalls_run.specs.Runs.{settled}
-use Rattle.kp_stalls_run.specs.inner.Running.{StaysClose, stage_now}
-use Rattle.kp_stalls_run.proofs.Closeness.{counts_first_rows, counts_next_row}
-use Rattle.kp_stalls_run.proofs.Steps.{occupants_shown, cycle_more, rows_at}
+use Rattle.kp_sched.specs.{Monitors.Kept, Monitors.HasSeen, Rows.bit_of, Rows.row_seen, Rows.rows_seen}
+use Rattle.kp_stalls.specs.{declared.cause.Line.Line, declared.fate.Fate.Fate, declared.fate.Fate.TheVariants.Open, Sites.sited}
+use Rattle.kp_stalls.specs.{Occupants.Seen, Occupants.occupants_of, Occupants.report, Occupants.stored, Causes.lines_down}
+use Rattle.kp_stalls.specs.{Cycles.fate_in, Cycles.lines_from, Cycles.stage_of, Cycles.stages_from, Windows.Windowed, Windows.Follows}
+use Rattle.kp_stalls_run.specs.{Runs.settled, inner.Running.StaysClose, inner.Running.stage_now}
+use Rattle.kp_stalls_run.proofs.{Closeness.counts_first_rows, Closeness.counts_next_row, Steps.occupants_shown, Steps.cycle_more, Steps.rows_at}
 
 -- THE NUMBERS that a monitor has after the first T rows.
 first_seen : (n : ℕ) (rows : List masks.Row) (T : ℕ) → rows_seen n (take T rows) ≡ take T (rows_seen n rows)

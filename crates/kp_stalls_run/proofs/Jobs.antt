@@ -3,8 +3,7 @@ use Rattle.std.proofs.Common.{◌≡◌, ◌∙◌, ℕ, ◌+◌, ◌<◌, List,
 use Rattle.std.proofs.Math.Path.{fun_ext}
 use Rattle.kp_base.specs.declared.row.Row as masks
 use Rattle.kp_ast.specs.declared.tree.Job.{Job}
-use Rattle.kp_pipeline.specs.Accepted.{Accepted}
-use Rattle.kp_pipeline.specs.Rows.{Row, taken}
+use Rattle.kp_pipeline.specs.{Accepted.Accepted, Rows.Row, Rows.taken}
 use Rattle.kp_stage.specs.Start.{start_of}
 use Rattle.kp_machine.specs.Machine.{inputs_from, machine_of, start_hints, state_of}
 use Rattle.kp_sched.specs.Rows.{bit_of, rows_seen}
@@ -14,13 +13,9 @@ use Rattle.kp_run.specs.Cycles.{inputs_to}
 use Rattle.kp_diagram.specs.Claims.{stalls_of}
 use Rattle.kp_diagram_run.specs.Runs.{IsRunOf}
 use Rattle.kp_diagram_run.proofs.Words.{words-seen}
-use Rattle.kp_stalls.specs.Occupants.{report}
-use Rattle.kp_stalls.specs.Cycles.{lines_from}
-use Rattle.kp_stalls.specs.Sites.{sited}
-use Rattle.kp_stalls_run.specs.Runs.{run_lines, settled}
-use Rattle.kp_stalls_run.specs.inner.Running.{StaysClose}
-use Rattle.kp_stalls_run.proofs.Closeness.{stays_close}
-use Rattle.kp_stalls_run.proofs.Steps.{lines_same}
+use Rattle.kp_stalls.specs.{Occupants.report, Cycles.lines_from, Sites.sited}
+use Rattle.kp_stalls_run.specs.{Runs.run_lines, Runs.settled, inner.Running.StaysClose}
+use Rattle.kp_stalls_run.proofs.{Closeness.stays_close, Steps.lines_same}
 
 pub run_close : (job : Job) (n : ℕ) (rows : List masks.Row) (words : List ℕ) → Accepted (machine_of job) → IsRunOf job n rows words
     → StaysClose job.stages.value (rows_seen job.stages.value rows)

@@ -1,18 +1,11 @@
 -- The guesses that lines name.
 use Rattle.std.proofs.Common.{◌≡◌, ◌∙◌, ℕ, suc, ◌+◌, ◌-◌, ◌<◌, List, [], ◌∷◌, length, get_or, Option, Some, None, Bool, true, false, cond, refl, ap, sym, arith, ◌⊎◌, inl, inr, ⊎_elim}
+use Rattle.std.proofs.lemmas.{Bool.cases_Bool, List.get_or-map, Option.same_Some}
 use Rattle.std.specs.Prelude.{is_some}
-use Rattle.std.proofs.lemmas.Bool.{cases_Bool}
-use Rattle.std.proofs.lemmas.List.{get_or-map}
-use Rattle.std.proofs.lemmas.Option.{same_Some}
 use Rattle.kp_ast.specs.declared.tree.Job.{Job}
 use Rattle.kp_machine.specs.Machine.{sequential}
-use Rattle.kp_stalls.specs.declared.cause.Cause.{Cause}
-use Rattle.kp_stalls.specs.declared.cause.Cause.TheVariants.{Unsure, Ahead, Held, Later, Squashed}
-use Rattle.kp_stalls.specs.declared.cause.Guess.{Guess}
-use Rattle.kp_stalls.specs.declared.cause.Wait.{Wait}
-use Rattle.kp_stalls.specs.declared.cause.Wrong.{Wrong}
-use Rattle.kp_stalls.specs.declared.occupants.Stage.{Stage}
-use Rattle.kp_stalls.specs.declared.sites.Site.{Site}
+use Rattle.kp_stalls.specs.declared.cause.Cause.{Cause, TheVariants.Unsure, TheVariants.Ahead, TheVariants.Held, TheVariants.Later, TheVariants.Squashed}
+use Rattle.kp_stalls.specs.declared.{cause.Guess.Guess, cause.Wait.Wait, cause.Wrong.Wrong, occupants.Stage.Stage, sites.Site.Site}
 use Rattle.kp_stalls.specs.Sites.{Sited, no_site, sited}
 use Rattle.kp_stalls.specs.Occupants.{Seen, at, no_occupant, no_stage, no_value, occupants_of, report, value_before}
 use Rattle.kp_stalls.specs.Causes.{all_retire, cause_at, cause_of_wait, first_wait, guess_of, is_open, is_squashed_by, is_reported, is_waiting, only_open, waiting_cause, wrong_of}

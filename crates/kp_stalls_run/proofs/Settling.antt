@@ -1,14 +1,11 @@
 -- The values of samples in a cycle.
 use Rattle.std.proofs.Common.{◌≡◌, ◌∙◌, ℕ, zero, suc, ◌+◌, ◌<◌, ◌≤◌, Bool, true, false, ◌&&◌, List, [], ◌∷◌, cond, eq-eqb, length, get_or, refl, ap, sym, arith, ⊎_elim}
+use Rattle.std.proofs.lemmas.{Bool.cases_lt, Bool.ne_eqb, List.get_or_default, Option.same_Some}
 use Rattle.std.specs.Prelude.{◌==◌, slice_get, Some}
-use Rattle.std.proofs.lemmas.Bool.{cases_lt, ne_eqb}
-use Rattle.std.proofs.lemmas.List.{get_or_default}
-use Rattle.std.proofs.lemmas.Option.{same_Some}
 use Rattle.kp_bits.specs.Word.{Word}
 use Rattle.kp_ast.specs.declared.tree.Job.{Job}
 use Rattle.kp_stage.specs.Start.{input}
-use Rattle.kp_machine.specs.Machine.{values_in}
-use Rattle.kp_machine.specs.Slots.{sample_stages}
+use Rattle.kp_machine.specs.{Machine.values_in, Slots.sample_stages}
 use Rattle.kp_run.specs.Columns.{Taken, row_taken, word_taken}
 use Rattle.kp_stalls_run.specs.Runs.{settled, settles, settles_to}
 

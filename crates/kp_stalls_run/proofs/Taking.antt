@@ -4,20 +4,14 @@ use Rattle.kp_base.specs.declared.row.Row as masks
 use Rattle.kp_base.specs.First.{first}
 use Rattle.kp_ast.specs.declared.tree.Job.{Job}
 use Rattle.kp_width.specs.Widths.{widths_of}
-use Rattle.kp_image.specs.Feeds.{Fed, row_in}
-use Rattle.kp_image.specs.Sections.{sections_of}
+use Rattle.kp_image.specs.{Feeds.Fed, Feeds.row_in, Sections.sections_of}
 use Rattle.kp_pipeline.specs.Rows.{taken}
 use Rattle.kp_stage.specs.Start.{AreSamples, input}
 use Rattle.kp_machine.specs.Machine.{inputs_from, machine_of, values_in}
 use Rattle.kp_run.specs.Columns.{AreColumns, Taken, row_taken}
-use Rattle.kp_run.proofs.Gathering.{rows_fit_taken, taken_is}
-use Rattle.kp_run.proofs.Given.{rows_fed, rows_given}
-use Rattle.kp_run.proofs.Samples.{many}
+use Rattle.kp_run.proofs.{Gathering.rows_fit_taken, Gathering.taken_is, Given.rows_fed, Given.rows_given, Samples.many}
 use Rattle.kp_sched.specs.Rows.{rows_seen}
-use Rattle.kp_stalls.specs.declared.cause.Line.{Line}
-use Rattle.kp_stalls.specs.Occupants.{report}
-use Rattle.kp_stalls.specs.Cycles.{lines_from}
-use Rattle.kp_stalls.specs.Sites.{sited}
+use Rattle.kp_stalls.specs.{declared.cause.Line.Line, Occupants.report, Cycles.lines_from, Sites.sited}
 use Rattle.kp_stalls_run.specs.Runs.{settled}
 
 module _ (job : Job) (feeds : List Fed) (names : first (widths_of job).asked ≡ None) (unbroken : first (sections_of job).asked ≡ None) (is : row_in feeds ≡ input job)

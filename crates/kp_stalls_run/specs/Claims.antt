@@ -1,18 +1,12 @@
 -- WHAT THE LINES OF A JOB SAY of the run of its pipelined machine.
-use Rattle.std.specs.Prelude.{◌≡◌, ℕ, ◌<◌, Some}
-use Rattle.std.specs.List.{All}
+use Rattle.std.specs.{Prelude.◌≡◌, Prelude.ℕ, Prelude.◌<◌, Prelude.Some, List.All}
 use Rattle.kp_bits.specs.Word.{Word}
 use Rattle.kp_ast.specs.declared.tree.Job.{Job}
 use Rattle.kp_stage.specs.Start.{start_of}
 use Rattle.kp_pipeline.specs.RightPath.{IsRightFrom, Moment, held}
 use Rattle.kp_machine.specs.Machine.{inputs_at, inputs_from, machine_of, sequential, start_hints, state_of}
-use Rattle.kp_stalls.specs.declared.cause.Cause.TheVariants.{Squashed, Value}
-use Rattle.kp_stalls.specs.declared.cause.Guess.{Guess}
-use Rattle.kp_stalls.specs.declared.cause.Line.{Line}
-use Rattle.kp_stalls.specs.declared.cause.Wait.{Wait}
-use Rattle.kp_stalls.specs.declared.cause.Wrong.{Wrong}
-use Rattle.kp_stalls.specs.Claims.{IsCause, read_site, run_moment}
-use Rattle.kp_stalls.specs.Occupants.{value_before}
+use Rattle.kp_stalls.specs.declared.cause.{Cause.TheVariants.Squashed, Cause.TheVariants.Value, Guess.Guess, Line.Line, Wait.Wait, Wrong.Wrong}
+use Rattle.kp_stalls.specs.{Claims.IsCause, Claims.read_site, Claims.run_moment, Occupants.value_before}
 use Rattle.kp_stalls_guess.specs.Guessed.{guessed_word}
 use Rattle.kp_stalls_run.specs.Runs.{given_in, job_stalls}
 

@@ -2,11 +2,9 @@
 use Rattle.std.proofs.Common.{◌≡◌, ◌∙◌, ℕ, suc, ◌+◌, ◌-◌, ◌<◌, List, ◌∷◌, ◌++◌, length, get_or, drop, Option, ap, sym, subst, arith, append_assoc}
 use Rattle.std.proofs.lemmas.List.{drop_more}
 use Rattle.kp_base.specs.inner.Bytes.{WrittenUpTo}
-use Rattle.kp_ast.specs.declared.tree.Stmt.{Stmt}
-use Rattle.kp_ast.specs.declared.tree.Block.{Block}
+use Rattle.kp_ast.specs.declared.tree.{Stmt.Stmt, Block.Block}
 use Rattle.kp_stalls.specs.declared.cause.Line.{Line}
-use Rattle.kp_stalls_text.specs.Labels.{Labelled, label_at, label_in, labels_from, labels_in}
-use Rattle.kp_stalls_text.specs.Reports.{AreWaits}
+use Rattle.kp_stalls_text.specs.{Labels.Labelled, Labels.label_at, Labels.label_in, Labels.labels_from, Labels.labels_in, Reports.AreWaits}
 use Rattle.kp_stalls_text.specs.Text.{line_text, lines_text, read_sum, reads_text}
 
 -- what is left is the same text

@@ -1,8 +1,7 @@
 -- The report of a run: the labels of the reads, the lines, and for each read how many of them wait for it.
 use Rattle.std.specs.Prelude.{◌≡◌, ℕ, ◌<◌, List, length, get_or}
 use Rattle.kp_stalls.specs.declared.cause.Line.{Line}
-use Rattle.kp_stalls_text.specs.Labels.{Labelled}
-use Rattle.kp_stalls_text.specs.Text.{count_of, is_wait_for}
+use Rattle.kp_stalls_text.specs.{Labels.Labelled, Text.count_of, Text.is_wait_for}
 
 pub record Reported : Type 0 where
   pub labels : List Labelled

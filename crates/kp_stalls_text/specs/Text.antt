@@ -1,16 +1,10 @@
 -- THE TEXT of the lines of a run.
 use Rattle.std.specs.Prelude.{ℕ, zero, suc, ◌+◌, ◌==◌, List, [], ◌∷◌, ◌++◌, Option, Some, None, Bool, true, false, if◌then◌else◌, codes, decimal, length, count_by}
-use Rattle.kp_bits.specs.Word.{Word}
-use Rattle.kp_bits.specs.Spelling.{spelling}
+use Rattle.kp_bits.specs.{Word.Word, Spelling.spelling}
 use Rattle.kp_stalls.specs.declared.cause.Cause.{Cause}
 use Rattle.kp_stalls.specs.declared.cause.Cause.TheVariants.{Value, Unsure, Ahead, Held, Later, Squashed}
-use Rattle.kp_stalls.specs.declared.cause.Wait.{Wait}
-use Rattle.kp_stalls.specs.declared.cause.Had.{Had}
-use Rattle.kp_stalls.specs.declared.cause.Had.TheVariants.{Known, Set, Moved}
-use Rattle.kp_stalls.specs.declared.cause.Wrong.{Wrong}
-use Rattle.kp_stalls.specs.declared.cause.Guess.{Guess}
-use Rattle.kp_stalls.specs.declared.cause.Producer.{Producer}
-use Rattle.kp_stalls.specs.declared.cause.Line.{Line}
+use Rattle.kp_stalls.specs.declared.cause.{Wait.Wait, Had.Had, Had.TheVariants.Known, Had.TheVariants.Set, Had.TheVariants.Moved, Wrong.Wrong, Guess.Guess}
+use Rattle.kp_stalls.specs.declared.cause.{Producer.Producer, Line.Line}
 use Rattle.kp_stalls_text.specs.Labels.{Labelled, label_at}
 
 -- `cycle 18: instruction 13 `

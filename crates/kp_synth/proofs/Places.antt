@@ -1,13 +1,8 @@
 -- Names and entries by their indices.
 use Rattle.std.proofs.Common.{◌≡◌, ◌∙◌, ℕ, zero, suc, ◌<◌, ◌≤◌, Bool, true, false, cond, ◌||◌, List, [], ◌∷◌, take, length, get_or, map, refl, ap, sym, subst, arith, ⊎_elim}
-use Rattle.std.specs.List.{filter}
-use Rattle.std.proofs.lemmas.Bool.{cases_Bool}
-use Rattle.std.proofs.lemmas.Bool.{eq-eqb, false≢true}
-use Rattle.std.proofs.lemmas.List.{length-take-le}
-use Rattle.std.proofs.lemmas.List.Filters.{length-filter_both}
-use Rattle.std.specs.Prelude.{not}
-use Rattle.kp_machine.specs.Slots.{Slot, is_register}
-use Rattle.kp_machine.specs.Machine.{files_before}
+use Rattle.std.proofs.lemmas.{Bool.cases_Bool, Bool.eq-eqb, Bool.false≢true, List.length-take-le, List.Filters.length-filter_both}
+use Rattle.std.specs.{List.filter, Prelude.not}
+use Rattle.kp_machine.specs.{Slots.Slot, Slots.is_register, Machine.files_before}
 use Rattle.kp_net.specs.Names.{same, among, Differ}
 use Rattle.kp_synth_spec.specs.Naming.{place_among}
 

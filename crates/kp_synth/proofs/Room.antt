@@ -4,11 +4,9 @@ use Rattle.std.proofs.Math.Nat.{suc-mul}
 use Rattle.kp_ast.specs.declared.tree.Job.{Job}
 use Rattle.kp_width.specs.Widths.{widths_of}
 use Rattle.kp_width.proofs.Unbroken.{Unbroken}
-use Rattle.kp_stage.specs.Counts.{summary_of}
-use Rattle.kp_stage.specs.Stages.{broken_of}
+use Rattle.kp_stage.specs.{Counts.summary_of, Stages.broken_of}
 use Rattle.kp_net.specs.Growth.{Held}
-use Rattle.kp_synth_tables.proofs.Fitting.{fits}
-use Rattle.kp_synth_tables.proofs.Limits.{limits, samples_counted}
+use Rattle.kp_synth_tables.proofs.{Fitting.fits, Limits.limits, Limits.samples_counted}
 use Rattle.kp_synth_registers.specs.Meaning.{CellsFit}
 use Rattle.kp_synth_close.specs.Bound.{node_bound}
 use Rattle.kp_synth_close.proofs.Bounding.{closing_few}

@@ -1,19 +1,15 @@
 -- From the statement that identifies parts by their indices to the one that identifies them by their names.
 use Rattle.std.proofs.Common.{◌≡◌, ◌∙◌, ℕ, zero, suc, ◌+◌, ◌-◌, ◌^◌, ◌<◌, ◌≤◌, Bool, true, false, not, List, [], ◌∷◌, ◌++◌, take, drop, length, get_or, map, refl, ap, sym, subst, arith, ⊎_elim}
-use Rattle.std.specs.Prelude.{codes, decimal}
 use Rattle.std.proofs.lemmas.List.{length-map, get_or-map, get_or-drop, length-drop, take-append-drop, map-append}
-use Rattle.std.proofs.Math.Seq.{take-length}
-use Rattle.std.proofs.lemmas.Bool.{cases_lt, cases_Bool}
+use Rattle.std.proofs.{Math.Seq.take-length, lemmas.Bool.cases_lt, lemmas.Bool.cases_Bool}
+use Rattle.std.specs.Prelude.{codes, decimal}
 use Rattle.kp_ast.specs.declared.tree.Job.{Job}
 use Rattle.kp_machine.specs.Slots.{Slot, targets_of, samples_of, is_register}
-use Rattle.kp_pipeline.specs.Rows.{pipe}
 use Rattle.kp_machine.specs.Machine.{machine_of, start_hints, pipe_of, registers_before, files_before}
-use Rattle.kp_net.specs.declared.netlist.NetReg.{NetReg}
-use Rattle.kp_net.specs.declared.netlist.NetFile.{NetFile}
-use Rattle.kp_net.specs.declared.netlist.Port.{Port}
+use Rattle.kp_pipeline.specs.Rows.{pipe}
+use Rattle.kp_net.specs.declared.netlist.{NetReg.NetReg, NetFile.NetFile, Port.Port}
 use Rattle.kp_net.specs.Netlist.{Net, Input, State, state_after, states_from, rows_from, run, last_of}
-use Rattle.kp_net.specs.Names.{IsNamed}
-use Rattle.kp_net.specs.Parts.{no_reg, no_file}
+use Rattle.kp_net.specs.{Names.IsNamed, Parts.no_reg, Parts.no_file}
 use Rattle.kp_seq.specs.Running.{no_slot, target}
 use Rattle.kp_sched.specs.Runs.{ShowsAlike}
 use Rattle.kp_synth_spec.specs.Naming.{register_name, file_name, sample_port, hidden_names, registers_of, files_of, register_names, file_names, register_of, file_of, value_shown, place_among}

@@ -1,20 +1,14 @@
 -- What the next nodes mean, arm by arm.
 use Rattle.std.proofs.Common.{◌≡◌, ◌∙◌, ℕ, suc, ◌<◌, Bool, true, false, cond, not, ◌&&◌, ◌||◌, leb, length, get_or, Option, Some, None, refl, sym, ap, subst, arith}
-use Rattle.std.specs.Prelude.{nat_le, is_some, unwrap_or}
 use Rattle.std.proofs.lemmas.Bool.{le-leb, leb-true}
+use Rattle.std.specs.Prelude.{nat_le, is_some, unwrap_or}
 use Rattle.kp_ast.specs.declared.tree.Job.{Job}
 use Rattle.kp_pipeline.specs.Sequential.{first_value, after_stage}
 use Rattle.kp_pipeline.specs.Pipeline.{PipelineState, Inputs, outcome, ue, stall, back, cycle, next_stage, next_hints}
-use Rattle.kp_machine.specs.Slots.{targets_of, pipes_of, hints_of}
-use Rattle.kp_machine.specs.Machine.{machine_of, result_for, write_stage_of}
-use Rattle.kp_net.specs.declared.node.NodeId.{NodeId}
-use Rattle.kp_net.specs.Nodes.{Cells, at, on}
-use Rattle.kp_net.specs.Growth.{Held, Wire, Kept}
-use Rattle.kp_synth_tables.specs.declared.key.Key.TheVariants.{Hint}
-use Rattle.kp_synth_tables.specs.Keys.{set_by, is_kept, is_stored, pipe_at, hint_at}
-use Rattle.kp_synth_registers.specs.declared.outcome.Set.{Set}
-use Rattle.kp_synth_registers.specs.declared.outcome.Outcome.{Outcome}
-use Rattle.kp_synth_registers.specs.Holding.{kept_in, optional}
+use Rattle.kp_machine.specs.{Slots.targets_of, Slots.pipes_of, Slots.hints_of, Machine.machine_of, Machine.result_for, Machine.write_stage_of}
+use Rattle.kp_net.specs.{declared.node.NodeId.NodeId, Nodes.Cells, Nodes.at, Nodes.on, Growth.Held, Growth.Wire, Growth.Kept}
+use Rattle.kp_synth_tables.specs.{declared.key.Key.TheVariants.Hint, Keys.set_by, Keys.is_kept, Keys.is_stored, Keys.pipe_at, Keys.hint_at}
+use Rattle.kp_synth_registers.specs.{declared.outcome.Set.Set, declared.outcome.Outcome.Outcome, Holding.kept_in, Holding.optional}
 use Rattle.kp_synth_registers.specs.Meaning.{IsTest, Gives, MayGive, Says, set_value, put_value, PutFits}
 use Rattle.kp_synth_registers.proofs.Growth.{says_kept}
 

@@ -1,13 +1,11 @@
 -- The nodes that read the registers and that close the netlist fit into a part of the bound.
-use Rattle.std.proofs.Common.{◌≡◌, ℕ, zero, suc, ◌+◌, ◌*◌, ◌≤◌, length, arith}
+use Rattle.std.proofs.{Common.◌≡◌, Common.ℕ, Common.zero, Common.suc, Common.◌+◌, Common.◌*◌, Common.◌≤◌, Common.length, Common.arith, Math.Nat.suc-mul}
 use Rattle.kp_ast.specs.declared.tree.Job.{Job}
 use Rattle.kp_stage.specs.Counts.{summary_of}
 use Rattle.kp_machine.specs.Slots.{targets_of, samples_of}
 use Rattle.kp_synth_tables.specs.Keys.{keys_of}
-use Rattle.kp_synth_tables.proofs.Counting.{keys_counted}
-use Rattle.kp_synth_tables.proofs.Limits.{targets_counted}
+use Rattle.kp_synth_tables.proofs.{Counting.keys_counted, Limits.targets_counted}
 use Rattle.kp_synth_close.specs.Bound.{node_bound, closing_cost}
-use Rattle.std.proofs.Math.Nat.{suc-mul}
 
 times_few : (n a q g : ℕ) → a ≤ 2 * q + 2 * g → n * a ≤ 2 * (n * q) + 2 * (n * g)
 times_few zero a q g l = omega arith

@@ -1,32 +1,23 @@
 -- The step of one cycle.
 use Rattle.std.proofs.Common.{◌≡◌, ◌∙◌, ℕ, zero, suc, ◌%◌, ◌^◌, ◌<◌, Bool, true, false, cond, ◌&&◌, ◌==◌, List, length, Option, Some, None, refl, sym, ap, subst, arith, ⊎_elim, eqb-true}
-use Rattle.std.specs.Prelude.{is_some}
-use Rattle.std.specs.List.{list_any}
-use Rattle.std.proofs.Math.Nat.{mod-eq_of_lt}
-use Rattle.std.proofs.lemmas.Bool.{cases_Bool, cond-true, cond-false, and_parts}
+use Rattle.std.proofs.{Math.Nat.mod-eq_of_lt, lemmas.Bool.cases_Bool, lemmas.Bool.cond-true, lemmas.Bool.cond-false, lemmas.Bool.and_parts}
+use Rattle.std.specs.{Prelude.is_some, List.list_any}
 use Rattle.kp_ast.specs.declared.tree.Job.{Job}
 use Rattle.kp_pipeline.specs.Sequential.{PendingGuess}
 use Rattle.kp_pipeline.specs.Pipeline.{PipelineState, Inputs, ue, cycle, next_stage, next_visible, stage_zero}
-use Rattle.kp_machine.specs.Slots.{targets_of, pipes_of, hints_of, is_register}
-use Rattle.kp_machine.specs.Machine.{machine_of, files_before}
-use Rattle.kp_net.specs.declared.node.NodeId.{NodeId}
-use Rattle.kp_net.specs.declared.netlist.WritePort.{WritePort}
-use Rattle.kp_net.specs.Nodes.{Cells, at, on}
-use Rattle.kp_net.specs.Growth.{Held, Wire}
+use Rattle.kp_pipeline.specs.Trimming.{trimmed, trimmed_stage}
+use Rattle.kp_machine.specs.{Slots.targets_of, Slots.pipes_of, Slots.hints_of, Slots.is_register, Slots.samples_of, Machine.machine_of, Machine.files_before}
+use Rattle.kp_net.specs.{declared.node.NodeId.NodeId, declared.netlist.WritePort.WritePort, Nodes.Cells, Nodes.at, Nodes.on, Growth.Held, Growth.Wire}
 use Rattle.kp_net.proofs.Values.{at_fits}
 use Rattle.kp_synth_tables.specs.declared.key.Key.{Key}
 use Rattle.kp_synth_tables.specs.declared.key.Key.TheVariants.{Visible, Full, Pipe, Valid, Value, Pending, Guess, Hint}
-use Rattle.kp_synth_registers.specs.declared.outcome.Outcome.{Outcome}
 use Rattle.kp_synth_tables.specs.Keys.{target_at, is_alive, is_piped, is_stored, HasKey, key_width, place_of, sample_at}
-use Rattle.kp_pipeline.specs.Trimming.{trimmed, trimmed_stage}
 use Rattle.kp_synth_tables.specs.Fits.{Fits}
-use Rattle.kp_synth_close.proofs.Bare.{Bare, zero_trimmed, bare_next, absent_trimmed, unset_trimmed}
-use Rattle.kp_machine.specs.Slots.{samples_of}
+use Rattle.kp_synth_registers.specs.declared.outcome.Outcome.{Outcome}
 use Rattle.kp_synth_registers.specs.Holding.{Holds, kept_in, optional, own_word, word_bit, some_guess}
+use Rattle.kp_synth_close.proofs.{Bare.Bare, Bare.zero_trimmed, Bare.bare_next, Bare.absent_trimmed, Bare.unset_trimmed, Steps.GuessesNext, Steps.pending_next}
 use Rattle.kp_synth_tables.proofs.Places.{has_place}
-use Rattle.kp_synth_close.specs.Nexts.{NextIs, port_word, PortFits, Closes, GuessesFit}
-use Rattle.kp_synth_close.specs.inner.After.{CellsAfter}
-use Rattle.kp_synth_close.proofs.Steps.{GuessesNext, pending_next}
+use Rattle.kp_synth_close.specs.{Nexts.NextIs, Nexts.port_word, Nexts.PortFits, Nexts.Closes, Nexts.GuessesFit, inner.After.CellsAfter}
 
 pub wire_fits : (p : Held) (n : NodeId) (w : ℕ) (c : Cells) → Wire p n w → at c p.nodes n.0 < 2 ^ w
 wire_fits p n w c h = subst (λ (k : ℕ). at c p.nodes n.0 < 2 ^ k) h.wide (at_fits c p.nodes n.0 h.inside)

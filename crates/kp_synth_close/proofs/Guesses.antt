@@ -1,27 +1,17 @@
 -- The guesses that are pending after a cycle.
 use Rattle.std.proofs.Common.{◌≡◌, ◌∙◌, ℕ, zero, suc, ◌+◌, ◌<◌, ◌≤◌, Bool, true, false, cond, not, ◌&&◌, ◌||◌, ◌==◌, List, [], ◌∷◌, length, get_or, Option, Some, None, refl, sym, ap, arith, ⊎_elim, eqb-true}
-use Rattle.std.specs.Prelude.{nat_lt, slice_get}
-use Rattle.std.specs.List.{list_any, filter}
-use Rattle.std.proofs.lemmas.Bool.{cases_Bool, eq-eqb, cases_lt, ltb-true, lt-ltb, eqb-false}
-use Rattle.std.proofs.lemmas.List.Folds.{list_any-append}
-use Rattle.kp_ast.specs.declared.tree.Expr.{Expr}
-use Rattle.kp_ast.specs.declared.tree.ReadStmt.{ReadStmt}
-use Rattle.kp_ast.specs.declared.tree.Stmt.{Stmt}
-use Rattle.kp_ast.specs.declared.tree.StmtKind.{StmtKind}
+use Rattle.std.proofs.lemmas.{Bool.cases_Bool, Bool.eq-eqb, Bool.cases_lt, Bool.ltb-true, Bool.lt-ltb, Bool.eqb-false, List.Folds.list_any-append}
+use Rattle.std.specs.{Prelude.nat_lt, Prelude.slice_get, List.list_any, List.filter}
+use Rattle.kp_ast.specs.declared.tree.{Expr.Expr, ReadStmt.ReadStmt, Stmt.Stmt, StmtKind.StmtKind, Block.Block, Job.Job}
 use Rattle.kp_ast.specs.declared.tree.StmtKind.TheVariants as stmts
-use Rattle.kp_ast.specs.declared.tree.Block.{Block}
-use Rattle.kp_ast.specs.declared.tree.Job.{Job}
 use Rattle.kp_stage.specs.Facts.{stmts_in}
 use Rattle.kp_pipeline.specs.Sequential.{PendingGuess}
 use Rattle.kp_machine.specs.Machine.{machine_of, result_for, write_stage_of}
-use Rattle.kp_net.specs.Nodes.{Cells, at, on}
-use Rattle.kp_net.specs.Growth.{Held}
-use Rattle.kp_synth_registers.specs.declared.outcome.Made.{Made}
-use Rattle.kp_synth_registers.specs.declared.outcome.Outcome.{Outcome}
+use Rattle.kp_net.specs.{Nodes.Cells, Nodes.at, Nodes.on, Growth.Held}
+use Rattle.kp_synth_registers.specs.{declared.outcome.Made.Made, declared.outcome.Outcome.Outcome, Holding.some_of, Holding.pending_guess}
+use Rattle.kp_synth_registers.specs.Meaning.{guesses_at, made_values, guess_value, MadeFit}
 use Rattle.kp_synth_tables.specs.declared.key.GuessSlot.{GuessSlot}
 use Rattle.kp_synth_tables.specs.Keys.{no_guess, with_read, with_guess, guesses_in, guesses_from, guesses_of, is_carried}
-use Rattle.kp_synth_registers.specs.Holding.{some_of, pending_guess}
-use Rattle.kp_synth_registers.specs.Meaning.{guesses_at, made_values, guess_value, MadeFit}
 use Rattle.kp_synth_close.specs.Nexts.{no_made, outcome_at, made_at}
 
 -- Some guess passes one test or the other.

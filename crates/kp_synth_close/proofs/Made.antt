@@ -1,15 +1,11 @@
 -- The nodes of a guess, among those of its stage.
 use Rattle.std.proofs.Common.{◌≡◌, ◌∙◌, ℕ, zero, suc, ◌+◌, ◌<◌, ◌≤◌, List, [], ◌∷◌, ◌++◌, length, get_or, refl, sym, ap, subst, arith, ⊎_elim, ◌⊎◌, inl, inr}
 use Rattle.std.specs.Prelude.{slice_get}
-use Rattle.kp_ast.specs.declared.tree.Block.{Block}
-use Rattle.kp_ast.specs.declared.tree.Job.{Job}
+use Rattle.kp_ast.specs.declared.tree.{Block.Block, Job.Job}
 use Rattle.kp_stage.specs.Facts.{stmts_in}
 use Rattle.kp_net.specs.Growth.{Held, Wire}
-use Rattle.kp_synth_tables.specs.declared.key.GuessSlot.{GuessSlot}
-use Rattle.kp_synth_registers.specs.declared.outcome.Made.{Made}
-use Rattle.kp_synth_registers.specs.declared.outcome.Outcome.{Outcome}
-use Rattle.kp_synth_tables.specs.Keys.{no_guess, guesses_in, guesses_from, guesses_of, guess_at}
-use Rattle.kp_synth_registers.specs.Meaning.{guesses_at, MadeFit, Says}
+use Rattle.kp_synth_tables.specs.{declared.key.GuessSlot.GuessSlot, Keys.no_guess, Keys.guesses_in, Keys.guesses_from, Keys.guesses_of, Keys.guess_at}
+use Rattle.kp_synth_registers.specs.{declared.outcome.Made.Made, declared.outcome.Outcome.Outcome, Meaning.guesses_at, Meaning.MadeFit, Meaning.Says}
 use Rattle.kp_synth_close.specs.Nexts.{no_made, outcome_at, made_at}
 use Rattle.kp_synth_close.proofs.Guesses.{Numbered, numbered}
 

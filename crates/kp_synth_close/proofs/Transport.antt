@@ -1,29 +1,22 @@
 -- What the next nodes mean stays while the pool grows.
 use Rattle.std.proofs.Common.{◌≡◌, ◌∙◌, ℕ, ◌<◌, ◌≤◌, Bool, true, false, cond, ◌==◌, List, [], ◌∷◌, ◌++◌, length, length-append, get_or, Option, Some, None, refl, sym, ap, subst, arith, ⊎_elim, eqb-true}
+use Rattle.std.proofs.{lemmas.Bool.cases_Bool, lemmas.Bool.cases_lt, Math.ListN.get_or-append, Math.Seq.get_or-append_seam}
 use Rattle.std.specs.Prelude.{is_some}
-use Rattle.std.proofs.lemmas.Bool.{cases_Bool, cases_lt}
-use Rattle.std.proofs.Math.ListN.{get_or-append}
-use Rattle.std.proofs.Math.Seq.{get_or-append_seam}
 use Rattle.kp_net.proofs.Growing.{wire_kept}
 use Rattle.kp_synth_registers.proofs.Growth.{test_kept, gives_kept}
 use Rattle.kp_synth_tables.proofs.Places.{carried, key_had}
-use Rattle.kp_synth_close.specs.declared.control.Control.{Control}
+use Rattle.kp_synth_close.specs.{declared.control.Control.Control, Control.AllSay, Control.Updating, Control.Controls, Control.NextsFrom, Control.PortsFrom}
+use Rattle.kp_synth_close.specs.Nexts.{outcome_at, made_at, leaves_pending, leaves_with, NextIs, PortFits, port_word, Closes}
 use Rattle.kp_ast.specs.declared.tree.Job.{Job}
 use Rattle.kp_pipeline.specs.Pipeline.{PipelineState, Inputs, ue, next_visible}
-use Rattle.kp_machine.specs.Slots.{targets_of, is_register}
-use Rattle.kp_machine.specs.Machine.{machine_of}
-use Rattle.kp_net.specs.declared.netlist.WritePort.{WritePort}
-use Rattle.kp_net.specs.declared.node.NodeId.{NodeId}
-use Rattle.kp_net.specs.Nodes.{Cells, at, on}
+use Rattle.kp_machine.specs.{Slots.targets_of, Slots.is_register, Machine.machine_of}
+use Rattle.kp_net.specs.{declared.netlist.WritePort.WritePort, declared.node.NodeId.NodeId, Nodes.Cells, Nodes.at, Nodes.on}
 use Rattle.kp_net.specs.Growth.{Held, Wire, Kept}
 use Rattle.kp_synth_tables.specs.declared.key.Key.{Key}
 use Rattle.kp_synth_tables.specs.declared.key.Key.TheVariants.{Visible, Full, Pipe, Valid, Value, Pending, Guess, Hint}
-use Rattle.kp_synth_registers.specs.declared.outcome.Outcome.{Outcome}
 use Rattle.kp_synth_tables.specs.Keys.{guesses_of, guess_at, HasKey, keys_of, key_at, key_width, target_at}
-use Rattle.kp_synth_registers.specs.Holding.{Holds, kept_in, optional}
+use Rattle.kp_synth_registers.specs.{declared.outcome.Outcome.Outcome, Holding.Holds, Holding.kept_in, Holding.optional}
 use Rattle.kp_synth_registers.specs.Meaning.{Says, IsTest, Gives, MayGive, node_at}
-use Rattle.kp_synth_close.specs.Control.{AllSay, Updating, Controls, NextsFrom, PortsFrom}
-use Rattle.kp_synth_close.specs.Nexts.{outcome_at, made_at, leaves_pending, leaves_with, NextIs, PortFits, port_word, Closes}
 use Rattle.kp_synth_close.proofs.Made.{made_wires}
 
 pub pending_kept : (job : Job) (p q : Held) (j k g : ℕ) (outs : List Outcome) (c : Cells) → Kept p q j → g < length (guesses_of job) → Says job p k (outcome_at outs k)

@@ -1,25 +1,17 @@
 -- What a target takes, by the tables.
 use Rattle.std.proofs.Common.{◌≡◌, ◌∙◌, ℕ, ◌<◌, Bool, true, false, cond, ◌&&◌, ◌==◌, ◌^◌, eqb-true, length, Option, Some, None, refl, sym, ap, subst, arith}
-use Rattle.std.specs.Prelude.{unwrap_or, nat_le, is_some}
 use Rattle.std.proofs.lemmas.Bool.{le-leb, cond-true}
-use Rattle.kp_ast.specs.declared.tree.Named.{Named}
-use Rattle.kp_ast.specs.declared.tree.ResultDecl.{ResultDecl}
-use Rattle.kp_ast.specs.declared.tree.Job.{Job}
+use Rattle.std.specs.Prelude.{unwrap_or, nat_le, is_some}
+use Rattle.kp_ast.specs.declared.tree.{Named.Named, ResultDecl.ResultDecl, Job.Job}
 use Rattle.kp_pipeline.specs.Sequential.{first_value, intends}
 use Rattle.kp_pipeline.specs.Pipeline.{PipelineState, Inputs, ue, outcome, next_visible}
 use Rattle.kp_machine.specs.Slots.{pipes_of, targets_of, is_register}
 use Rattle.kp_machine.specs.Machine.{machine_of, result_for, write_stage_of, is_enabled_by, address_by, enabled_of, address_in}
-use Rattle.kp_net.specs.declared.node.NodeId.{NodeId}
-use Rattle.kp_net.specs.Nodes.{Cells, at, on}
-use Rattle.kp_net.specs.Growth.{Held, Wire, Kept}
-use Rattle.kp_synth_tables.specs.declared.layout.Port.{Port}
-use Rattle.kp_synth_tables.specs.declared.key.Key.TheVariants.{Visible}
-use Rattle.kp_synth_tables.specs.Keys.{is_kept, target_at}
-use Rattle.kp_synth_registers.specs.Holding.{Holds, optional, kept_in, own_word}
+use Rattle.kp_net.specs.{declared.node.NodeId.NodeId, Nodes.Cells, Nodes.at, Nodes.on, Growth.Held, Growth.Wire, Growth.Kept}
+use Rattle.kp_synth_tables.specs.{declared.layout.Port.Port, declared.key.Key.TheVariants.Visible, Keys.is_kept, Keys.target_at}
 use Rattle.kp_synth_tables.specs.Fits.{pipe_number, port_for, port_at, ResultFits, AddressFits}
-use Rattle.kp_synth_registers.specs.Meaning.{IsTest, Gives, MayGive}
-use Rattle.kp_synth_close.specs.Nexts.{port_word}
-use Rattle.kp_synth_close.specs.inner.Written.{writes, written_value, enabled_pipe, address_pipe}
+use Rattle.kp_synth_registers.specs.{Holding.Holds, Holding.optional, Holding.kept_in, Holding.own_word, Meaning.IsTest, Meaning.Gives, Meaning.MayGive}
+use Rattle.kp_synth_close.specs.{Nexts.port_word, inner.Written.writes, inner.Written.written_value, inner.Written.enabled_pipe, inner.Written.address_pipe}
 use Rattle.kp_synth_close.proofs.Bits.{test_kept}
 
 enable_number : (job : Job) (o : Option Named) (values : ℕ → ℕ) → is_enabled_by (pipes_of job.decls) values o ≡ enabled_pipe (pipe_number job o) values

@@ -3,19 +3,12 @@ use Rattle.std.specs.Prelude.{◌≡◌, ℕ, ◌<◌, ◌^◌, List, length, ge
 use Rattle.kp_ast.specs.declared.tree.Job.{Job}
 use Rattle.kp_stage.specs.declared.start.Start.{Start}
 use Rattle.kp_pipeline.specs.Pipeline.{PipelineState, Inputs, ue, back}
-use Rattle.kp_machine.specs.Slots.{targets_of, is_register}
-use Rattle.kp_machine.specs.Machine.{machine_of, state_of, registers_before, files_before}
-use Rattle.kp_net.specs.declared.node.NodeId.{NodeId}
-use Rattle.kp_net.specs.declared.netlist.WritePort.{WritePort}
-use Rattle.kp_net.specs.Nodes.{Cells, at}
-use Rattle.kp_net.specs.Growth.{Held}
-use Rattle.kp_net.specs.Parts.{no_reg, no_file}
+use Rattle.kp_machine.specs.{Slots.targets_of, Slots.is_register, Machine.machine_of, Machine.state_of, Machine.registers_before, Machine.files_before}
+use Rattle.kp_net.specs.{declared.node.NodeId.NodeId, declared.netlist.WritePort.WritePort, Nodes.Cells, Nodes.at, Growth.Held, Parts.no_reg, Parts.no_file}
 use Rattle.kp_net.specs.Netlist.{Net}
 use Rattle.kp_synth_tables.specs.declared.key.Key.TheVariants.{Visible}
-use Rattle.kp_synth_registers.specs.declared.outcome.Outcome.{Outcome}
-use Rattle.kp_synth_tables.specs.Keys.{target_at, keys_of, key_at, key_width, key_start, place_of}
-use Rattle.kp_synth_tables.specs.Fits.{Fits}
-use Rattle.kp_synth_registers.specs.Holding.{Holds, word_bit}
+use Rattle.kp_synth_tables.specs.{Keys.target_at, Keys.keys_of, Keys.key_at, Keys.key_width, Keys.key_start, Keys.place_of, Fits.Fits}
+use Rattle.kp_synth_registers.specs.{declared.outcome.Outcome.Outcome, Holding.Holds, Holding.word_bit}
 use Rattle.kp_synth_close.specs.Nexts.{Closes, GuessesFit}
 
 abbrev pub next_in : Net → ℕ → NodeId

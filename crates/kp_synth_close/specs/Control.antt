@@ -2,18 +2,12 @@
 use Rattle.std.specs.Prelude.{◌≡◌, ℕ, ◌<◌, ◌≤◌, List, length, get_or, not, leb, false, Option, None}
 use Rattle.kp_ast.specs.declared.tree.Job.{Job}
 use Rattle.kp_pipeline.specs.Pipeline.{PipelineState, Inputs, next_visible, ue, back, ue as updates, back as rolls_back}
-use Rattle.kp_machine.specs.Slots.{targets_of, is_register}
-use Rattle.kp_machine.specs.Machine.{machine_of}
-use Rattle.kp_net.specs.declared.netlist.WritePort.{WritePort}
-use Rattle.kp_net.specs.declared.node.NodeId.{NodeId}
-use Rattle.kp_net.specs.Growth.{Held, Wire}
-use Rattle.kp_synth_registers.specs.declared.outcome.Outcome.{Outcome}
-use Rattle.kp_synth_tables.specs.Keys.{keys_of, key_at, key_width, target_at}
-use Rattle.kp_synth_registers.specs.Holding.{Holds, word_bit}
+use Rattle.kp_machine.specs.{Slots.targets_of, Slots.is_register, Machine.machine_of}
+use Rattle.kp_net.specs.{declared.netlist.WritePort.WritePort, declared.node.NodeId.NodeId, Growth.Held, Growth.Wire, Nodes.Cells, Nodes.at}
+use Rattle.kp_synth_registers.specs.{declared.outcome.Outcome.Outcome, Holding.Holds, Holding.word_bit}
 use Rattle.kp_synth_registers.specs.Meaning.{IsTest, Gives, Says, node_at}
-use Rattle.kp_synth_close.specs.declared.control.Control.{Control}
-use Rattle.kp_synth_close.specs.declared.control.RowNodes.{RowNodes}
-use Rattle.kp_net.specs.Nodes.{Cells, at}
+use Rattle.kp_synth_tables.specs.Keys.{keys_of, key_at, key_width, target_at}
+use Rattle.kp_synth_close.specs.declared.control.{Control.Control, RowNodes.RowNodes}
 use Rattle.kp_synth_close.specs.Nexts.{outcome_at, NextIs, PortFits, port_word}
 
 -- Each stage has its outcome.

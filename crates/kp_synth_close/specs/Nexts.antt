@@ -2,20 +2,12 @@
 use Rattle.std.specs.Prelude.{◌≡◌, ℕ, suc, ◌+◌, ◌<◌, ◌≤◌, ◌^◌, List, length, get_or, Option, Some, None, Bool, false, cond, ◌&&◌, ◌==◌, is_some, []}
 use Rattle.kp_ast.specs.declared.tree.Job.{Job}
 use Rattle.kp_pipeline.specs.Pipeline.{PipelineState, Inputs, ue, cycle, next_visible}
-use Rattle.kp_machine.specs.Slots.{targets_of, is_register}
-use Rattle.kp_machine.specs.Machine.{machine_of}
-use Rattle.kp_net.specs.declared.node.NodeId.{NodeId}
-use Rattle.kp_net.specs.declared.netlist.WritePort.{WritePort}
-use Rattle.kp_net.specs.Nodes.{Cells, at, on}
-use Rattle.kp_net.specs.Growth.{Held, Wire}
+use Rattle.kp_machine.specs.{Slots.targets_of, Slots.is_register, Machine.machine_of}
+use Rattle.kp_net.specs.{declared.node.NodeId.NodeId, declared.netlist.WritePort.WritePort, Nodes.Cells, Nodes.at, Nodes.on, Growth.Held, Growth.Wire}
 use Rattle.kp_synth_tables.specs.declared.key.Key.{Key}
 use Rattle.kp_synth_tables.specs.declared.key.Key.TheVariants.{Visible, Full, Pipe, Valid, Value, Pending, Guess, Hint}
-use Rattle.kp_synth_registers.specs.declared.outcome.Made.{Made}
-use Rattle.kp_synth_registers.specs.declared.outcome.Outcome.{Outcome}
-use Rattle.kp_synth_tables.specs.declared.key.GuessSlot.{GuessSlot}
-use Rattle.kp_synth_tables.specs.Keys.{target_at, guess_at, guesses_of, key_width, key_at, keys_of}
-use Rattle.kp_synth_registers.specs.Holding.{Holds, kept_in}
-use Rattle.kp_synth_registers.specs.Meaning.{Says}
+use Rattle.kp_synth_tables.specs.{declared.key.GuessSlot.GuessSlot, Keys.target_at, Keys.guess_at, Keys.guesses_of, Keys.key_width, Keys.key_at, Keys.keys_of}
+use Rattle.kp_synth_registers.specs.{declared.outcome.Made.Made, declared.outcome.Outcome.Outcome, Holding.Holds, Holding.kept_in, Meaning.Says}
 
 abbrev pub no_node_id : NodeId
 no_node_id = record { 0 = 0 }

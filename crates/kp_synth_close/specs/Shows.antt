@@ -3,19 +3,14 @@ use Rattle.std.specs.Prelude.{◌≡◌, ℕ, zero, suc, ◌-◌, ◌<◌, ◌�
 use Rattle.std.specs.List.{filter}
 use Rattle.kp_base.specs.declared.row.Row.{Row as NetRow}
 use Rattle.kp_ast.specs.declared.tree.Job.{Job}
-use Rattle.kp_pipeline.specs.Pipeline.{pipeline_start}
-use Rattle.kp_pipeline.specs.Rows.{Row, Trace, bits, pipe, state_after as pipeline_after}
-use Rattle.kp_pipeline.specs.Trimming.{trimmed}
+use Rattle.kp_pipeline.specs.{Pipeline.pipeline_start, Rows.Row, Rows.Trace, Rows.bits, Rows.pipe, Rows.state_after as pipeline_after, Trimming.trimmed}
 use Rattle.kp_stage.specs.Start.{start_of}
-use Rattle.kp_machine.specs.Slots.{Slot, targets_of, is_register}
+use Rattle.kp_machine.specs.Slots.{Slot, targets_of, is_register, samples_of}
 use Rattle.kp_machine.specs.Machine.{machine_of, state_of, start_hints, pipe_of, registers_before, files_before}
-use Rattle.kp_net.specs.declared.netlist.NetReg.{NetReg}
-use Rattle.kp_net.specs.declared.netlist.NetFile.{NetFile}
-use Rattle.kp_net.specs.declared.netlist.Port.{Port}
+use Rattle.kp_net.specs.declared.netlist.{NetReg.NetReg, NetFile.NetFile, Port.Port}
 use Rattle.kp_net.specs.Netlist.{Net, Input, State, cells_of, start_of as net_start, state_after, states_from, rows_from, run, last_of}
 use Rattle.kp_net.specs.Widths.{wide}
 use Rattle.kp_synth_tables.specs.Keys.{target_at, keys_of, is_alive}
-use Rattle.kp_machine.specs.Slots.{samples_of}
 use Rattle.kp_synth_registers.specs.Holding.{Holds, word_bit, inputs_of}
 
 -- A name and a width, and for a file the width of its addresses.

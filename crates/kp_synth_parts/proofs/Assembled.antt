@@ -1,52 +1,33 @@
 -- THE PARTS are those of the job: each register is that of its key, and each file that of its target.
 use Rattle.std.proofs.Common.{◌≡◌, ◌∙◌, ℕ, zero, suc, ◌+◌, ◌-◌, ◌^◌, ◌<◌, ◌≤◌, List, [], ◌∷◌, Option, Some, None, false, All, length, take, drop, get_or, length-append, refl, ap, sym, subst, arith, ⊎_elim}
-use Rattle.std.specs.Prelude.{codes, ◌==◌, sum_by}
-use Rattle.std.specs.List.{filter}
-use Rattle.std.proofs.lemmas.Bool.{cases_lt}
-use Rattle.std.proofs.lemmas.List.{get_or_append_left, get_or-append_right, get_or-drop, length-map}
-use Rattle.std.proofs.lemmas.List.Elements.{All-get_or, All-from_get_or}
-use Rattle.std.proofs.lemmas.List.Sums.{sum_by-cons}
+use Rattle.std.proofs.lemmas.{Bool.cases_lt, List.get_or_append_left, List.get_or-append_right, List.get_or-drop, List.length-map}
+use Rattle.std.proofs.lemmas.List.{Elements.All-get_or, Elements.All-from_get_or, Sums.sum_by-cons}
+use Rattle.std.specs.{Prelude.codes, Prelude.◌==◌, Prelude.sum_by, List.filter}
 use Rattle.kp_bits.specs.Word.{Word, IsWord}
-use Rattle.kp_ast.specs.declared.tree.Decl.{Decl}
+use Rattle.kp_ast.specs.declared.tree.{Decl.Decl, Job.Job}
 use Rattle.kp_ast.specs.declared.tree.Decl.TheVariants as decls
-use Rattle.kp_ast.specs.declared.tree.Job.{Job}
 use Rattle.kp_width.specs.Widths.{widths_of}
 use Rattle.kp_width.proofs.Unbroken.{Unbroken}
-use Rattle.kp_stage.specs.Counts.{files_in}
-use Rattle.kp_stage.specs.Stages.{broken_of}
-use Rattle.kp_stage.specs.Start.{start_of, IsStartOf}
-use Rattle.kp_stage.specs.declared.start.Start.{Start}
-use Rattle.kp_machine.specs.Slots.{Slot, targets_of, samples_of, is_register}
-use Rattle.kp_machine.specs.Machine.{files_before, hint_starts}
+use Rattle.kp_stage.specs.{Counts.files_in, Stages.broken_of, Start.start_of, Start.IsStartOf, declared.start.Start.Start}
+use Rattle.kp_machine.specs.{Slots.Slot, Slots.targets_of, Slots.samples_of, Slots.is_register, Machine.files_before, Machine.hint_starts}
 use Rattle.kp_machine.proofs.Widths.{Fine, job_fine}
-use Rattle.kp_net.specs.declared.node.Node.{Node}
-use Rattle.kp_net.specs.declared.node.NodeId.{NodeId}
-use Rattle.kp_net.specs.declared.netlist.WritePort.{WritePort}
-use Rattle.kp_net.specs.declared.netlist.NetReg.{NetReg}
-use Rattle.kp_net.specs.declared.netlist.NetFile.{NetFile}
-use Rattle.kp_net.specs.declared.netlist.Parts.{Parts}
-use Rattle.kp_net.specs.Growth.{Held, Grown}
+use Rattle.kp_net.specs.declared.{node.Node.Node, node.NodeId.NodeId, netlist.WritePort.WritePort, netlist.NetReg.NetReg, netlist.NetFile.NetFile}
+use Rattle.kp_net.specs.{declared.netlist.Parts.Parts, Growth.Held, Growth.Grown}
 use Rattle.kp_net.specs.Parts.{NodeIs, PortOk, RegOk, WriteOk, FileOk, PartsOk, no_port, no_reg, no_file}
 use Rattle.kp_net.specs.Netlist.{Net}
 use Rattle.kp_synth_tables.specs.declared.key.Key.{Key}
 use Rattle.kp_synth_tables.specs.declared.key.Key.TheVariants.{Visible, Full, Pipe, Valid, Value, Pending, Guess, Hint}
 use Rattle.kp_synth_tables.specs.Keys.{target_at, sample_at, HasKey, keys_of, key_at, key_width, key_start}
 use Rattle.kp_synth_tables.specs.Fits.{IsWidth, Fits}
-use Rattle.kp_synth_tables.proofs.Fitting.{fits}
-use Rattle.kp_synth_tables.proofs.Limits.{few, limits, keys_few}
-use Rattle.kp_synth_tables.proofs.Places.{key_had}
-use Rattle.kp_synth_registers.specs.declared.outcome.Outcome.{Outcome}
-use Rattle.kp_synth_registers.specs.Meaning.{CellsFit, node_at}
+use Rattle.kp_synth_tables.proofs.{Fitting.fits, Limits.few, Limits.limits, Limits.keys_few, Places.key_had}
+use Rattle.kp_synth_registers.specs.{declared.outcome.Outcome.Outcome, Meaning.CellsFit, Meaning.node_at}
 use Rattle.kp_synth_registers.proofs.Growth.{grown_added}
-use Rattle.kp_synth_close.specs.declared.control.RowNodes.{RowNodes}
-use Rattle.kp_synth_close.specs.Nexts.{Closes, PortFits, no_node_id}
-use Rattle.kp_synth_close.specs.Control.{ShowRow}
-use Rattle.kp_synth_close.specs.Closed.{Starts, Closed}
+use Rattle.kp_synth_close.specs.{declared.control.RowNodes.RowNodes, Nexts.Closes, Nexts.PortFits, Nexts.no_node_id, Control.ShowRow}
+use Rattle.kp_synth_close.specs.{Closed.Starts, Closed.Closed, Shows.files_of, Shows.file_slot, Shows.named_with}
 use Rattle.kp_synth_parts.specs.inner.Assembly.{MadeOf}
-use Rattle.kp_synth_close.specs.Shows.{files_of, file_slot, named_with}
+use Rattle.kp_synth_parts.specs.inner.Built.{no_word, reg_count, file_count, visible_regs, other_reg, other_regs, first_start, net_regs, net_files, net_parts, made_net}
 use Rattle.kp_synth_parts.proofs.Numbers.{is_file, register_place, file_number, file_found}
 use Rattle.kp_synth_parts.proofs.Finish.{cells_ok, outputs_ok, closes_ok}
-use Rattle.kp_synth_parts.specs.inner.Built.{no_word, reg_count, file_count, visible_regs, other_reg, other_regs, first_start, net_regs, net_files, net_parts, made_net}
 use Rattle.kp_synth_parts.proofs.Making.{zero_plus, visible_counted, visible_at, others_counted, other_at, port_at, ports_counted, FileIs, file_at, files_counted, files_named}
 use Rattle.kp_synth_parts.proofs.Begins.{hints_fit, first_word, regs_given, files_given, WordsFit, words_given, reg_value, file_word}
 use Rattle.kp_synth_parts.proofs.Visible.{is_visible, keys_rest, keys_count, key_seen, key_behind}

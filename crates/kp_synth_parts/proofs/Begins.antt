@@ -1,36 +1,24 @@
 -- The start values of the registers and files.
 use Rattle.std.proofs.Common.{◌≡◌, ℕ, zero, suc, ◌+◌, ◌^◌, ◌<◌, ◌≤◌, ◌∙◌, List, [], ◌∷◌, Some, true, false, cond, length, take, get_or, All, refl, ap, sym, subst, arith}
-use Rattle.std.specs.Prelude.{slice_index, slice_get, not, is_some, nat_lt, ◌==◌}
-use Rattle.std.specs.List.{filter}
-use Rattle.std.proofs.lemmas.Bool.{ltb-true, eqb-true}
-use Rattle.std.proofs.lemmas.Nat.{pow_pos}
-use Rattle.kp_base.specs.Refusal.{e_rule}
-use Rattle.kp_base.specs.Check.{ok, wants, ◌>>=◌}
+use Rattle.std.proofs.lemmas.{Bool.ltb-true, Bool.eqb-true, Nat.pow_pos}
+use Rattle.std.specs.{Prelude.slice_index, Prelude.slice_get, Prelude.not, Prelude.is_some, Prelude.nat_lt, Prelude.◌==◌, List.filter}
+use Rattle.kp_base.specs.{Refusal.e_rule, Check.ok, Check.wants, Check.◌>>=◌}
 use Rattle.kp_bits.specs.Word.{Word, word, IsWord}
-use Rattle.kp_ast.specs.declared.tree.Named.{Named}
-use Rattle.kp_ast.specs.declared.tree.Num.{Num}
-use Rattle.kp_ast.specs.declared.tree.Lit.{Lit}
-use Rattle.kp_ast.specs.declared.tree.Decl.{Decl}
+use Rattle.kp_ast.specs.declared.tree.{Named.Named, Num.Num, Lit.Lit, Decl.Decl, Job.Job}
 use Rattle.kp_ast.specs.declared.tree.Decl.TheVariants as decls
 use Rattle.kp_ast.specs.declared.widths.NameKind.TheVariants as kinds
-use Rattle.kp_ast.specs.declared.tree.Job.{Job}
 use Rattle.kp_width.specs.Names.{Scoped, nothing, passed, sense, find, declared_text}
 use Rattle.kp_width.specs.Expressions.{is_width, literal_of}
 use Rattle.kp_width.specs.Declarations.{declared, start_of, started_of, after_name, declaration_of, declarations_of, functions_in}
 use Rattle.kp_width.specs.Widths.{widths_of}
 use Rattle.kp_width.proofs.Unbroken.{Unbroken, bind_unbroken, answer_unbroken}
-use Rattle.kp_stage.specs.Start.{AreRegs, AreFiles}
-use Rattle.kp_stage.specs.declared.start.Start.{Start}
+use Rattle.kp_stage.specs.{Start.AreRegs, Start.AreFiles, declared.start.Start.Start}
 use Rattle.kp_machine.specs.Slots.{Slot, targets_of, hints_of, is_register}
 use Rattle.kp_machine.specs.Machine.{hint_starts, registers_before, files_before, register_words, file_words, target_words, state_of}
-use Rattle.kp_machine.proofs.Widths.{Fine}
-use Rattle.kp_machine.proofs.Text.{declared_right}
-use Rattle.kp_synth_tables.specs.declared.key.Key.{Key}
-use Rattle.kp_synth_tables.specs.declared.key.Key.TheVariants.{Hint}
-use Rattle.kp_synth_tables.specs.Keys.{no_slot, target_at, HasKey, key_width}
+use Rattle.kp_machine.proofs.{Widths.Fine, Text.declared_right}
+use Rattle.kp_synth_tables.specs.{declared.key.Key.Key, declared.key.Key.TheVariants.Hint, Keys.no_slot, Keys.target_at, Keys.HasKey, Keys.key_width}
 use Rattle.kp_synth_parts.specs.inner.Built.{no_word, reg_count, file_count, first_start, FirstsFit}
-use Rattle.kp_synth_parts.proofs.Numbers.{is_file}
-use Rattle.kp_synth_parts.proofs.Making.{not_zero}
+use Rattle.kp_synth_parts.proofs.{Numbers.is_file, Making.not_zero}
 
 -- each hint has its start value
 pub hints_started : (ds : List Decl) → length (hint_starts ds) ≡ length (hints_of ds)

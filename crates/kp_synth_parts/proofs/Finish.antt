@@ -1,24 +1,12 @@
 -- The parts that are built from the nodes: they fit, and the netlist shows the pipeline.
 use Rattle.std.proofs.Common.{◌≡◌, ◌∙◌, ℕ, List, get_or, Option, sym, ap, subst, arith}
 use Rattle.kp_ast.specs.declared.tree.Job.{Job}
-use Rattle.kp_net.specs.declared.node.NodeId.{NodeId}
-use Rattle.kp_net.specs.declared.node.Node.{Node}
-use Rattle.kp_net.specs.declared.node.Kind.{Kind}
+use Rattle.kp_net.specs.declared.{node.NodeId.NodeId, node.Node.Node, node.Kind.Kind, netlist.WritePort.WritePort, netlist.Parts.Parts}
+use Rattle.kp_net.specs.{Nodes.Cells, Nodes.at, Widths.no_node, Growth.Held, Growth.Wire, Parts.CellOk, Parts.AllCells, Netlist.Net}
 use Rattle.kp_net.specs.declared.node.Kind.TheVariants as kinds
-use Rattle.kp_net.specs.declared.netlist.WritePort.{WritePort}
-use Rattle.kp_net.specs.declared.netlist.Parts.{Parts}
-use Rattle.kp_net.specs.Nodes.{Cells, at}
-use Rattle.kp_net.specs.Widths.{no_node}
-use Rattle.kp_net.specs.Growth.{Held, Wire}
-use Rattle.kp_net.specs.Parts.{CellOk, AllCells}
-use Rattle.kp_net.specs.Netlist.{Net}
-use Rattle.kp_synth_registers.specs.declared.outcome.Outcome.{Outcome}
+use Rattle.kp_synth_registers.specs.{declared.outcome.Outcome.Outcome, Holding.word_bit, Meaning.CellFits, Meaning.CellsFit}
 use Rattle.kp_synth_tables.specs.Keys.{key_at, key_width}
-use Rattle.kp_synth_registers.specs.Holding.{word_bit}
-use Rattle.kp_synth_registers.specs.Meaning.{CellFits, CellsFit}
-use Rattle.kp_synth_close.specs.declared.control.RowNodes.{RowNodes}
-use Rattle.kp_synth_close.specs.Nexts.{Closes, NextIs, PortFits, port_word}
-use Rattle.kp_synth_close.specs.Control.{ShowRow}
+use Rattle.kp_synth_close.specs.{declared.control.RowNodes.RowNodes, Nexts.Closes, Nexts.NextIs, Nexts.PortFits, Nexts.port_word, Control.ShowRow}
 use Rattle.kp_synth_close.specs.Closed.{Outputs, next_in, port_in}
 use Rattle.kp_synth_parts.specs.inner.Assembly.{MadeOf}
 

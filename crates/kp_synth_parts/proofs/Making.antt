@@ -1,26 +1,17 @@
 -- The registers and files that are made have the names, the widths and the words of the job.
 use Rattle.std.proofs.Common.{◌≡◌, ◌∙◌, ℕ, zero, suc, ◌+◌, ◌-◌, ◌<◌, ◌≤◌, List, [], ◌∷◌, ◌++◌, map, Option, None, true, false, length, take, drop, get_or, append_assoc, refl, ap, sym, subst, arith}
-use Rattle.std.specs.Prelude.{codes, decimal, ◌==◌}
-use Rattle.std.specs.List.{filter}
-use Rattle.std.proofs.Math.Dec.{eqb-suc-zero}
-use Rattle.std.proofs.lemmas.List.{drop_more}
+use Rattle.std.proofs.{Math.Dec.eqb-suc-zero, lemmas.List.drop_more}
+use Rattle.std.specs.{Prelude.codes, Prelude.decimal, Prelude.◌==◌, List.filter}
 use Rattle.kp_bits.specs.Word.{Word}
-use Rattle.kp_ast.specs.declared.tree.Decl.{Decl}
+use Rattle.kp_ast.specs.declared.tree.{Decl.Decl, Job.Job}
 use Rattle.kp_ast.specs.declared.tree.Decl.TheVariants as decls
-use Rattle.kp_ast.specs.declared.tree.Job.{Job}
 use Rattle.kp_stage.specs.Start.{AreRegs}
 use Rattle.kp_machine.specs.Slots.{Slot, slot, targets_of, samples_of, is_register}
 use Rattle.kp_machine.proofs.Widths.{Fine}
-use Rattle.kp_net.specs.declared.node.NodeId.{NodeId}
-use Rattle.kp_net.specs.declared.netlist.WritePort.{WritePort}
-use Rattle.kp_net.specs.declared.netlist.NetReg.{NetReg}
-use Rattle.kp_net.specs.declared.netlist.NetFile.{NetFile}
+use Rattle.kp_net.specs.declared.{node.NodeId.NodeId, netlist.WritePort.WritePort, netlist.NetReg.NetReg, netlist.NetFile.NetFile}
 use Rattle.kp_net.specs.Parts.{no_port, no_reg, no_file}
-use Rattle.kp_synth_tables.specs.declared.key.Key.{Key}
-use Rattle.kp_synth_tables.specs.declared.key.Key.TheVariants.{Full}
-use Rattle.kp_synth_tables.specs.Keys.{no_slot, target_at, sample_at}
-use Rattle.kp_synth_close.specs.Nexts.{no_node_id}
-use Rattle.kp_synth_close.specs.Shows.{named_with, reg_slot, file_slot, port_slot, other_names}
+use Rattle.kp_synth_tables.specs.{declared.key.Key.Key, declared.key.Key.TheVariants.Full, Keys.no_slot, Keys.target_at, Keys.sample_at}
+use Rattle.kp_synth_close.specs.{Nexts.no_node_id, Shows.named_with, Shows.reg_slot, Shows.file_slot, Shows.port_slot, Shows.other_names}
 use Rattle.kp_synth_parts.proofs.Numbers.{is_file}
 use Rattle.kp_synth_parts.specs.inner.Built.{no_word, reg_count, file_count, visible_regs, other_reg, other_regs, net_files, net_ports}
 

@@ -1,30 +1,18 @@
 -- THE NAMES of the parts: they are those of the job and numbers, and no two are one.
 use Rattle.std.proofs.Common.{◌≡◌, ◌∙◌, ℕ, zero, suc, ◌+◌, ◌^◌, ◌<◌, ◌≤◌, List, [], ◌∷◌, ◌++◌, map, Option, Bool, true, false, cond, length, take, drop, get_or, length-append, refl, ap, sym, subst, arith, ⊎_elim}
-use Rattle.std.specs.Prelude.{codes, decimal, not, ◌||◌}
-use Rattle.std.specs.List.{filter}
-use Rattle.std.proofs.Math.Seq.{take-append_seam, drop-append_seam}
-use Rattle.std.proofs.lemmas.Bool.{cases_Bool, eq-eqb, false_from_ne_true}
-use Rattle.std.proofs.lemmas.Fmt.{decimal_injective}
-use Rattle.std.proofs.lemmas.List.{length-map, map-append}
-use Rattle.std.proofs.lemmas.List.Elements.{All-map}
-use Rattle.kp_ast.specs.Expressions.{is_same_name}
-use Rattle.kp_ast.specs.declared.tree.Job.{Job}
+use Rattle.std.proofs.{Math.Seq.take-append_seam, Math.Seq.drop-append_seam, lemmas.Bool.cases_Bool, lemmas.Bool.eq-eqb, lemmas.Bool.false_from_ne_true}
+use Rattle.std.proofs.lemmas.{Fmt.decimal_injective, List.length-map, List.map-append, List.Elements.All-map}
+use Rattle.std.specs.{Prelude.codes, Prelude.decimal, Prelude.not, Prelude.◌||◌, List.filter}
+use Rattle.kp_ast.specs.{Expressions.is_same_name, declared.tree.Job.Job}
 use Rattle.kp_width.specs.Names.{nothing}
 use Rattle.kp_stage.specs.declared.start.Start.{Start}
 use Rattle.kp_machine.specs.Slots.{Slot, targets_of, samples_of, is_register}
-use Rattle.kp_machine.proofs.Apart.{has_name, Apart, samples_apart}
-use Rattle.kp_machine.proofs.Names.{same_name}
-use Rattle.kp_machine.proofs.Text.{declared_right}
-use Rattle.kp_net.specs.declared.node.NodeId.{NodeId}
-use Rattle.kp_net.specs.declared.netlist.Port.{Port}
-use Rattle.kp_net.specs.declared.netlist.WritePort.{WritePort}
-use Rattle.kp_net.specs.declared.netlist.NetReg.{NetReg}
-use Rattle.kp_net.specs.declared.netlist.NetFile.{NetFile}
+use Rattle.kp_machine.proofs.{Apart.has_name, Apart.Apart, Apart.samples_apart, Names.same_name, Text.declared_right}
+use Rattle.kp_net.specs.declared.{node.NodeId.NodeId, netlist.Port.Port, netlist.WritePort.WritePort, netlist.NetReg.NetReg, netlist.NetFile.NetFile}
 use Rattle.kp_net.specs.Growth.{Held}
 use Rattle.kp_net.specs.Names.{same, among, Differ, IsSpelled, is_reg_name, is_file_name, is_sample_name, IsNamed}
 use Rattle.kp_synth_tables.specs.Keys.{no_slot, target_at, sample_at, keys_of}
-use Rattle.kp_synth_tables.proofs.Apart.{targets_apart}
-use Rattle.kp_synth_tables.proofs.Limits.{few, keys_few}
+use Rattle.kp_synth_tables.proofs.{Apart.targets_apart, Limits.few, Limits.keys_few}
 use Rattle.kp_synth_registers.specs.declared.outcome.Outcome.{Outcome}
 use Rattle.kp_synth_close.specs.declared.control.RowNodes.{RowNodes}
 use Rattle.kp_synth_close.specs.Shows.{named_with, reg_slot, file_slot, port_slot, registers_of, files_of, other_names, NamedBy, Shows}

@@ -1,13 +1,11 @@
 -- The names of parts are valid in a text.
 use Rattle.std.proofs.Common.{◌≡◌, ℕ, zero, suc, ◌+◌, ◌^◌, ◌<◌, ◌%◌, List, [], ◌∷◌, ◌++◌, All, true, length, refl, subst, sym, arith}
-use Rattle.std.specs.Prelude.{decimal}
 use Rattle.std.proofs.lemmas.List.Elements.{All-nil, All-cons, All-push, All-weaker}
 use Rattle.std.proofs.lemmas.Fmt.{decimal_by_steps, length-decimal-le, decimal_nonempty}
+use Rattle.std.specs.Prelude.{decimal}
 use Rattle.kp_base.specs.Characters.{is_word}
 use Rattle.kp_ast.specs.Name.{IsName}
-use Rattle.kp_net.specs.declared.netlist.Port.{Port}
-use Rattle.kp_net.specs.declared.netlist.NetReg.{NetReg}
-use Rattle.kp_net.specs.declared.netlist.NetFile.{NetFile}
+use Rattle.kp_net.specs.declared.netlist.{Port.Port, NetReg.NetReg, NetFile.NetFile}
 use Rattle.kp_net.specs.Names.{IsSpelled, is_in_identifier, is_module_name, is_reg_name, is_file_name, is_sample_name}
 use Rattle.kp_synth_parts.specs.inner.Built.{SpelledReg, SpelledFile, SpelledPort, RegsSpelled, FilesSpelled, PortsSpelled}
 

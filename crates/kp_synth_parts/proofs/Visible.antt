@@ -1,19 +1,16 @@
 -- THE KEYS of a job: those of its registers come first, in the order of declaration, and no other key is one of a register.
 use Rattle.std.proofs.Common.{◌≡◌, ◌∙◌, ℕ, zero, suc, ◌+◌, ◌<◌, List, [], ◌∷◌, ◌++◌, Bool, true, false, cond, drop, length, get_or, length-append, refl, ap, sym, subst, arith}
-use Rattle.std.proofs.Math.Seq.{drop-append_seam}
-use Rattle.std.proofs.lemmas.List.{get_or_append_left}
+use Rattle.std.proofs.{Math.Seq.drop-append_seam, lemmas.List.get_or_append_left}
 use Rattle.kp_bits.specs.Word.{Word, IsWord}
-use Rattle.kp_ast.specs.declared.tree.Decl.{Decl}
+use Rattle.kp_ast.specs.declared.tree.{Decl.Decl, Job.Job}
 use Rattle.kp_ast.specs.declared.tree.Decl.TheVariants as decls
-use Rattle.kp_ast.specs.declared.tree.Job.{Job}
 use Rattle.kp_stage.specs.Start.{AreRegs}
-use Rattle.kp_machine.specs.Slots.{Slot, targets_of, pipes_of, hints_of, is_register}
-use Rattle.kp_machine.specs.Machine.{registers_before}
+use Rattle.kp_machine.specs.{Slots.Slot, Slots.targets_of, Slots.pipes_of, Slots.hints_of, Slots.is_register, Machine.registers_before}
 use Rattle.kp_machine.proofs.Widths.{Fine}
+use Rattle.kp_synth_tables.specs.Keys.{no_slot, piped_at, is_stored, is_carried, guesses_of, visible_keys, pipe_keys, result_keys, guess_keys, stage_keys, stages_keys, later_keys, hint_keys, keys_of, key_at}
 use Rattle.kp_synth_tables.specs.declared.key.Key.{Key}
 use Rattle.kp_synth_tables.specs.declared.key.Key.TheVariants.{Visible, Full, Pipe, Valid, Value, Pending, Guess}
 use Rattle.kp_synth_tables.specs.declared.key.GuessSlot.{GuessSlot}
-use Rattle.kp_synth_tables.specs.Keys.{no_slot, piped_at, is_stored, is_carried, guesses_of, visible_keys, pipe_keys, result_keys, guess_keys, stage_keys, stages_keys, later_keys, hint_keys, keys_of, key_at}
 use Rattle.kp_synth_parts.specs.inner.Built.{no_word, reg_count}
 use Rattle.kp_synth_parts.proofs.Making.{not_zero}
 

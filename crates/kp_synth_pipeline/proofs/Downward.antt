@@ -5,19 +5,12 @@ use Rattle.kp_ast.specs.declared.tree.Job.{Job}
 use Rattle.kp_pipeline.specs.Pipeline.{PipelineState, Inputs, above, hits, is_candidate, candidate_hits, intent_known, forwarded, ok_value}
 use Rattle.kp_pipeline.specs.Sequential.{intends}
 use Rattle.kp_fwd.specs.Forward.{enable_on, set_on, set_value as number_of_set}
-use Rattle.kp_synth_registers.specs.declared.outcome.Set.{Set}
-use Rattle.kp_synth_registers.specs.Meaning.{IsTest, set_value}
+use Rattle.kp_synth_registers.specs.{declared.outcome.Set.Set, Meaning.IsTest, Meaning.set_value, Holding.Holds, Holding.optional}
 use Rattle.kp_pipeline.proofs.Cycle.{truth-in}
-use Rattle.kp_machine.specs.Machine.{machine_of}
-use Rattle.kp_machine.specs.Slots.{targets_of}
-use Rattle.kp_net.specs.declared.node.NodeId.{NodeId}
-use Rattle.kp_net.specs.Nodes.{Cells, at, on}
-use Rattle.kp_net.specs.Growth.{Held, Kept}
+use Rattle.kp_machine.specs.{Machine.machine_of, Slots.targets_of}
+use Rattle.kp_net.specs.{declared.node.NodeId.NodeId, Nodes.Cells, Nodes.at, Nodes.on, Growth.Held, Growth.Kept}
 use Rattle.kp_synth_tables.specs.Keys.{target_at}
-use Rattle.kp_synth_registers.specs.Holding.{Holds, optional}
-use Rattle.kp_synth_stage.specs.declared.row.Row.{Row}
-use Rattle.kp_synth_stage.specs.declared.row.Own.{Own}
-use Rattle.kp_synth_stage.specs.declared.row.Source.{Source}
+use Rattle.kp_synth_stage.specs.declared.row.{Row.Row, Own.Own, Source.Source}
 use Rattle.kp_synth_stage.specs.Rows.{row_hits, address_is, rows_view, own_value, source_view, view_of, SourceOk, Sees}
 use Rattle.kp_synth_stage.proofs.Nearest.{source_view_kept}
 use Rattle.kp_synth_pipeline.specs.inner.Seeing.{SeesAbove, RowMeans, Nearer}

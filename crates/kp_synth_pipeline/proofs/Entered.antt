@@ -1,33 +1,24 @@
 -- What enters a stage.
 use Rattle.std.proofs.Common.{◌≡◌, ◌∙◌, ℕ, zero, suc, ◌+◌, ◌-◌, ◌<◌, ◌≤◌, ◌^◌, ◌%◌, ◌/◌, Bool, true, false, cond, List, [], ◌∷◌, ◌++◌, take, length, get_or, length-append, Option, Some, refl, sym, ap, subst, arith, ◌⊎◌, inl, inr, ⊎_elim}
-use Rattle.std.specs.Prelude.{slice_get}
-use Rattle.std.specs.List.{filter}
-use Rattle.std.proofs.Math.ListN.{get_or-append}
-use Rattle.std.proofs.Math.Seq.{get_or-append_seam}
+use Rattle.std.proofs.Math.{ListN.get_or-append, Seq.get_or-append_seam}
 use Rattle.std.proofs.lemmas.Bool.{cases_lt, cases_Bool, cond-true, cond-false}
+use Rattle.std.specs.{Prelude.slice_get, List.filter}
 use Rattle.kp_bits.specs.Word as bits
 use Rattle.kp_ast.specs.declared.tree.Job.{Job}
 use Rattle.kp_pipeline.specs.Pipeline.{PipelineState, Inputs}
 use Rattle.kp_pipeline.proofs.Cycle.{truth-top}
 use Rattle.kp_machine.specs.Slots.{Slot, targets_of, hints_of, is_register}
 use Rattle.kp_machine.specs.Machine.{machine_of, registers_before, files_before}
-use Rattle.kp_net.specs.declared.node.NodeId.{NodeId}
-use Rattle.kp_net.specs.Nodes.{Cells, word_at, at}
-use Rattle.kp_net.specs.Growth.{Held, Wire, Kept}
+use Rattle.kp_net.specs.{declared.node.NodeId.NodeId, Nodes.Cells, Nodes.word_at, Nodes.at, Growth.Held, Growth.Wire, Growth.Kept}
 use Rattle.kp_net.proofs.Growing.{wire_kept}
-use Rattle.kp_synth_tables.specs.declared.key.Key.TheVariants.{Visible, Hint}
-use Rattle.kp_synth_tables.specs.Keys.{no_slot, target_at}
-use Rattle.kp_synth_registers.specs.declared.registers.Reads.{Reads}
-use Rattle.kp_synth_registers.specs.Holding.{Holds, kept_in, own_word}
-use Rattle.kp_synth_registers.specs.Meaning.{IsTest, Gives, Ready, node_at}
+use Rattle.kp_synth_tables.specs.{declared.key.Key.TheVariants.Visible, declared.key.Key.TheVariants.Hint, Keys.no_slot, Keys.target_at}
 use Rattle.kp_synth_tables.specs.Fits.{IsWidth, Fits}
+use Rattle.kp_synth_registers.specs.{declared.registers.Reads.Reads, Holding.Holds, Holding.kept_in, Holding.own_word}
+use Rattle.kp_synth_registers.specs.Meaning.{IsTest, Gives, Ready, node_at}
 use Rattle.kp_synth_registers.proofs.Growth.{gives_kept}
-use Rattle.kp_synth_stage.specs.declared.row.Own.TheVariants.{Register, File}
-use Rattle.kp_synth_stage.specs.declared.row.Row.{Row}
-use Rattle.kp_synth_stage.specs.declared.row.Source.{Source}
+use Rattle.kp_synth_stage.specs.declared.row.{Own.TheVariants.Register, Own.TheVariants.File, Row.Row, Source.Source}
 use Rattle.kp_synth_stage.specs.Rows.{Sees, view_of, rows_view, own_value, OwnOk, RowsOk, SourcesOk}
-use Rattle.kp_synth_pipeline.specs.inner.Seeing.{SeesAbove}
-use Rattle.kp_synth_pipeline.specs.inner.Whole.{Few, OwnMeans, Bare}
+use Rattle.kp_synth_pipeline.specs.inner.{Seeing.SeesAbove, Whole.Few, Whole.OwnMeans, Whole.Bare}
 use Rattle.kp_synth_pipeline.proofs.Ports.{bit_value}
 
 -- the first nodes of a list have these widths and values

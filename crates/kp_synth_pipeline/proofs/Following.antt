@@ -1,25 +1,17 @@
 -- From a stage to the one below it.
 use Rattle.std.proofs.Common.{◌≡◌, ◌∙◌, ℕ, zero, suc, ◌+◌, ◌<◌, ◌≤◌, List, [], ◌∷◌, ◌++◌, take, drop, length, get_or, ◌*◌, false, Some, sym, ap, subst, arith}
-use Rattle.std.specs.Prelude.{slice_get}
 use Rattle.std.proofs.lemmas.List.{drop_all, take_all, append-nil}
+use Rattle.std.specs.Prelude.{slice_get}
 use Rattle.kp_ast.specs.declared.tree.Job.{Job}
 use Rattle.kp_pipeline.specs.Pipeline.{stall}
-use Rattle.kp_machine.specs.Machine.{machine_of}
-use Rattle.kp_machine.specs.Slots.{targets_of}
-use Rattle.kp_net.specs.declared.node.NodeId.{NodeId}
-use Rattle.kp_net.specs.Nodes.{Cells, on}
-use Rattle.kp_net.specs.Growth.{Held, Wire}
-use Rattle.kp_synth_registers.specs.Meaning.{IsTest, Says, Added}
-use Rattle.kp_synth_registers.specs.declared.outcome.Outcome.{Outcome}
+use Rattle.kp_machine.specs.{Machine.machine_of, Slots.targets_of}
+use Rattle.kp_net.specs.{declared.node.NodeId.NodeId, Nodes.Cells, Nodes.on, Growth.Held, Growth.Wire}
+use Rattle.kp_synth_registers.specs.{Meaning.IsTest, Meaning.Says, Meaning.Added, declared.outcome.Outcome.Outcome}
 use Rattle.kp_synth_registers.proofs.Growth.{added_then, added_more}
-use Rattle.kp_synth_stage.specs.declared.row.Source.{Source}
-use Rattle.kp_synth_stage.specs.Rows.{SourcesOk}
-use Rattle.kp_synth_pipeline.specs.inner.Seeing.{SeesAbove, Nearer}
-use Rattle.kp_synth_pipeline.specs.inner.Whole.{Few, AllNearer}
-use Rattle.kp_synth_pipeline.specs.inner.Descending.{Faces, SayFrom}
+use Rattle.kp_synth_stage.specs.{declared.row.Source.Source, Rows.SourcesOk}
+use Rattle.kp_synth_pipeline.specs.inner.{Seeing.SeesAbove, Seeing.Nearer, Whole.Few, Whole.AllNearer, Descending.Faces, Descending.SayFrom}
 use Rattle.kp_synth_pipeline.specs.Stages.{no_outcome, own_room, stage_room, stages_room}
-use Rattle.kp_synth_pipeline.proofs.Downward.{sees_down}
-use Rattle.kp_synth_pipeline.proofs.Spoken.{stall_higher, stall_none, say_at}
+use Rattle.kp_synth_pipeline.proofs.{Downward.sees_down, Spoken.stall_higher, Spoken.stall_none, Spoken.say_at}
 
 get_small : (ss : List Source) (t : ℕ) (s : Source) → slice_get ss t ≡ Some s → t < length ss
 get_small [] t s e = cc

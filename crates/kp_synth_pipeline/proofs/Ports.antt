@@ -1,33 +1,22 @@
 -- What a stage adds to a target.
 use Rattle.std.proofs.Common.{◌≡◌, ◌∙◌, ℕ, ◌+◌, ◌<◌, ◌≤◌, ◌^◌, Bool, true, false, ◌&&◌, ◌==◌, eqb, leb, List, ◌∷◌, length, Option, Some, None, refl, sym, ap, subst, arith, eqb-true}
 use Rattle.std.specs.Prelude.{is_some}
-use Rattle.kp_ast.specs.declared.tree.Named.{Named}
-use Rattle.kp_ast.specs.declared.tree.ResultDecl.{ResultDecl}
-use Rattle.kp_ast.specs.declared.tree.Job.{Job}
+use Rattle.kp_ast.specs.declared.tree.{Named.Named, ResultDecl.ResultDecl, Job.Job}
 use Rattle.kp_pipeline.specs.Sequential.{Instruction, intends}
 use Rattle.kp_pipeline.specs.Pipeline.{PipelineState, Inputs, is_candidate, intent_known, ok_value, stall, outcome}
 use Rattle.kp_machine.specs.Slots.{pipes_of}
 use Rattle.kp_machine.specs.Machine.{machine_of, result_for, write_stage_of, is_enabled_by, address_by, enabled_of, address_in}
-use Rattle.kp_net.specs.declared.node.NodeId.{NodeId}
-use Rattle.kp_net.specs.Nodes.{Cells, at, on}
-use Rattle.kp_net.specs.Growth.{Held, Wire, Kept}
+use Rattle.kp_net.specs.{declared.node.NodeId.NodeId, Nodes.Cells, Nodes.at, Nodes.on, Growth.Held, Growth.Wire, Growth.Kept}
 use Rattle.kp_net.proofs.Growing.{kept_then}
 use Rattle.kp_fwd.specs.Forward.{BitOk, enable_on}
-use Rattle.kp_synth_registers.specs.declared.outcome.Set.{Set}
-use Rattle.kp_synth_tables.specs.declared.layout.Port.{Port}
-use Rattle.kp_synth_tables.specs.Keys.{target_at}
-use Rattle.kp_synth_registers.specs.Holding.{Holds, optional}
-use Rattle.kp_synth_tables.specs.Spans.{set_after}
-use Rattle.kp_synth_tables.specs.Fits.{pipe_number, port_for, port_at, AddressFits}
+use Rattle.kp_synth_registers.specs.{declared.outcome.Set.Set, Holding.Holds, Holding.optional}
 use Rattle.kp_synth_registers.specs.Meaning.{IsTest, MayGive, SetFits, set_value}
+use Rattle.kp_synth_tables.specs.{declared.layout.Port.Port, Keys.target_at, Spans.set_after, Fits.pipe_number, Fits.port_for, Fits.port_at, Fits.AddressFits}
 use Rattle.kp_synth_registers.proofs.Growth.{test_kept, may_give_kept, set_kept}
-use Rattle.kp_synth_stage.specs.declared.row.Row.{Row}
-use Rattle.kp_synth_stage.specs.declared.row.Source.{Source}
-use Rattle.kp_synth_stage.specs.declared.row.Own.{Own}
+use Rattle.kp_synth_stage.specs.declared.row.{Row.Row, Source.Source, Own.Own}
 use Rattle.kp_synth_stage.specs.Rows.{AddressOk, address_is, RowOk, RowsOk, OwnOk, SourceOk}
 use Rattle.kp_synth_stage.proofs.Nearest.{source_kept}
-use Rattle.kp_synth_pipeline.specs.inner.Seeing.{Nearer}
-use Rattle.kp_synth_pipeline.specs.inner.Whole.{enabled_by, addressed_by, SetMeans}
+use Rattle.kp_synth_pipeline.specs.inner.{Seeing.Nearer, Whole.enabled_by, Whole.addressed_by, Whole.SetMeans}
 use Rattle.kp_synth_pipeline.proofs.Downward.{nearer_row, row_means}
 
 -- a bit by the value of its node

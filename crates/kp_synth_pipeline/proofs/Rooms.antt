@@ -1,35 +1,22 @@
 -- The bound on the nodes of the stages, below what the registers and the ends of the netlist leave of the bound on all nodes.
 use Rattle.std.proofs.Common.{◌≡◌, ◌∙◌, ℕ, zero, suc, ◌+◌, ◌*◌, ◌≤◌, List, [], ◌∷◌, length, Some, None, Bool, true, false, cond, ◌||◌, refl, sym, ap, subst, arith}
-use Rattle.std.specs.Prelude.{slice_get, sum_by}
-use Rattle.std.specs.Cmp.Lexicographic.{bytes_decides}
-use Rattle.std.proofs.Math.Nat.{suc-mul, mul-add, mul_comm, mul_left_comm}
-use Rattle.std.proofs.lemmas.List.Sums.{sum_by-cons}
-use Rattle.kp_ast.specs.Expressions.{is_same_name}
-use Rattle.kp_ast.specs.declared.tree.ResultDecl.{ResultDecl}
-use Rattle.kp_ast.specs.declared.tree.Decl.{Decl}
+use Rattle.std.proofs.{Math.Nat.suc-mul, Math.Nat.mul-add, Math.Nat.mul_comm, Math.Nat.mul_left_comm, lemmas.List.Sums.sum_by-cons}
+use Rattle.std.specs.{Prelude.slice_get, Prelude.sum_by, Cmp.Lexicographic.bytes_decides}
+use Rattle.kp_ast.specs.{Expressions.is_same_name, declared.tree.ResultDecl.ResultDecl, declared.tree.Decl.Decl, declared.tree.Stmt.Stmt}
+use Rattle.kp_ast.specs.declared.tree.{StmtKind.StmtKind, Block.Block, Job.Job}
 use Rattle.kp_ast.specs.declared.tree.Decl.TheVariants as decls
-use Rattle.kp_ast.specs.declared.tree.Stmt.{Stmt}
-use Rattle.kp_ast.specs.declared.tree.StmtKind.{StmtKind}
 use Rattle.kp_ast.specs.declared.tree.StmtKind.TheVariants as stmts
-use Rattle.kp_ast.specs.declared.tree.Block.{Block}
-use Rattle.kp_ast.specs.declared.tree.Job.{Job}
 use Rattle.kp_width.specs.Widths.{widths_of}
 use Rattle.kp_width.proofs.Unbroken.{Unbroken}
-use Rattle.kp_stage.specs.Facts.{stmts_in}
-use Rattle.kp_stage.specs.Uses.{sets}
-use Rattle.kp_stage.specs.Counts.{results_in, reads_of, reads_in, summary_of}
-use Rattle.kp_stage.specs.Sizes.{size_of_stmt, size_of_block}
-use Rattle.kp_stage.specs.Stages.{broken_of}
+use Rattle.kp_stage.specs.{Facts.stmts_in, Uses.sets, Counts.results_in, Counts.reads_of, Counts.reads_in, Counts.summary_of}
+use Rattle.kp_stage.specs.{Sizes.size_of_stmt, Sizes.size_of_block, Stages.broken_of}
 use Rattle.kp_stage.proofs.Placed.{set_once}
 use Rattle.kp_machine.specs.Slots.{targets_of, pipes_of, hints_of, result_named}
-use Rattle.kp_machine.proofs.Cases.{by_test}
-use Rattle.kp_machine.proofs.Stages.{stages_inside}
+use Rattle.kp_machine.proofs.{Cases.by_test, Stages.stages_inside}
 use Rattle.kp_synth_tables.specs.Keys.{guesses_of}
-use Rattle.kp_synth_tables.proofs.Fitting.{fits}
-use Rattle.kp_synth_tables.proofs.Limits.{targets_counted, pipes_counted, hints_counted, guesses_counted}
+use Rattle.kp_synth_tables.proofs.{Fitting.fits, Limits.targets_counted, Limits.pipes_counted, Limits.hints_counted, Limits.guesses_counted}
 use Rattle.kp_synth_stage.specs.Work.{stmts_at, extra_of, cost_of, costs_of}
-use Rattle.kp_synth_stage.proofs.Scoping.{IsRight, is_right}
-use Rattle.kp_synth_stage.proofs.Setting.{set_right}
+use Rattle.kp_synth_stage.proofs.{Scoping.IsRight, Scoping.is_right, Setting.set_right}
 use Rattle.kp_synth_pipeline.specs.Stages.{guess_room, stages_room}
 use Rattle.kp_synth_pipeline.proofs.Rules.{StandFrom, stand_next, stand_here}
 

@@ -1,28 +1,18 @@
 -- What the rules of the language guarantee: a block for each stage, and guesses of registers alone.
 use Rattle.std.proofs.Common.{◌≡◌, ◌∙◌, ℕ, zero, suc, ◌+◌, ◌<◌, List, [], ◌∷◌, length, get_or, Option, Some, None, refl, sym, ap, subst, arith}
-use Rattle.std.specs.Prelude.{slice_get}
-use Rattle.std.specs.List.{AllByRecursion}
-use Rattle.kp_ast.specs.declared.tree.ReadStmt.{ReadStmt}
-use Rattle.kp_ast.specs.declared.tree.Expr.{Expr}
-use Rattle.kp_ast.specs.declared.tree.Stmt.{Stmt}
-use Rattle.kp_ast.specs.declared.tree.StmtKind.{StmtKind}
+use Rattle.std.specs.{Prelude.slice_get, List.AllByRecursion}
+use Rattle.kp_ast.specs.declared.tree.{ReadStmt.ReadStmt, Expr.Expr, Stmt.Stmt, StmtKind.StmtKind, Block.Block, Job.Job}
 use Rattle.kp_ast.specs.declared.tree.StmtKind.TheVariants as stmts
-use Rattle.kp_ast.specs.declared.tree.Block.{Block}
-use Rattle.kp_ast.specs.declared.tree.Job.{Job}
 use Rattle.kp_width.specs.Widths.{widths_of}
 use Rattle.kp_width.proofs.Unbroken.{Unbroken}
-use Rattle.kp_stage.specs.Facts.{stmts_in}
-use Rattle.kp_stage.specs.Stages.{broken_of}
-use Rattle.kp_stage.specs.Design.{Plan, IsSound}
+use Rattle.kp_stage.specs.{Facts.stmts_in, Stages.broken_of, Design.Plan, Design.IsSound}
 use Rattle.kp_pipeline.proofs.Lists.{all-append}
 use Rattle.kp_machine.specs.Slots.{targets_of}
 use Rattle.kp_machine.proofs.Stages.{stages_inside}
 use Rattle.kp_synth_tables.specs.declared.key.GuessSlot.{GuessSlot}
 use Rattle.kp_synth_tables.specs.Keys.{target_at, no_guess, guess_slot, with_read, with_guess, guesses_in, guesses_from, guesses_of}
 use Rattle.kp_synth_stage.specs.Work.{stmts_at}
-use Rattle.kp_synth_stage.proofs.Scoping.{IsRight, is_right}
-use Rattle.kp_synth_stage.proofs.Steps.{slot_width}
-use Rattle.kp_synth_stage.proofs.Taking.{ReadRight, Asks, read_right}
+use Rattle.kp_synth_stage.proofs.{Scoping.IsRight, Scoping.is_right, Steps.slot_width, Taking.ReadRight, Taking.Asks, Taking.read_right}
 use Rattle.kp_synth_pipeline.specs.inner.Whole.{GuessOk, GuessesOk, RulesGive}
 
 -- each entry of a list

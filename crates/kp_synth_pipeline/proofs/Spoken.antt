@@ -3,23 +3,16 @@ use Rattle.std.proofs.Common.{◌≡◌, ◌∙◌, ℕ, zero, suc, ◌+◌, ◌
 use Rattle.kp_ast.specs.declared.tree.Job.{Job}
 use Rattle.kp_pipeline.specs.Pipeline.{above, stall, mismatches}
 use Rattle.kp_pipeline.proofs.Cycle.{stall-above, stall-top}
-use Rattle.kp_machine.specs.Machine.{machine_of}
-use Rattle.kp_machine.specs.Slots.{Slot, pipes_of, hints_of, samples_of}
-use Rattle.kp_net.specs.declared.node.NodeId.{NodeId}
-use Rattle.kp_net.specs.Growth.{Held, Wire, Kept}
+use Rattle.kp_machine.specs.{Machine.machine_of, Slots.Slot, Slots.pipes_of, Slots.hints_of, Slots.samples_of}
+use Rattle.kp_net.specs.{declared.node.NodeId.NodeId, Growth.Held, Growth.Wire, Growth.Kept}
 use Rattle.kp_net.proofs.Growing.{wire_kept}
-use Rattle.kp_synth_registers.specs.declared.outcome.Outcome.{Outcome}
-use Rattle.kp_synth_registers.specs.Meaning.{Ready, IsTest, Says, guesses_at, node_at}
+use Rattle.kp_synth_registers.specs.{declared.outcome.Outcome.Outcome, Meaning.Ready, Meaning.IsTest, Meaning.Says, Meaning.guesses_at, Meaning.node_at}
 use Rattle.kp_synth_registers.specs.declared.registers.Reads.{Reads}
 use Rattle.kp_synth_registers.proofs.Growth.{test_kept, gives_kept, says_kept}
-use Rattle.kp_synth_stage.specs.declared.row.Source.{Source}
-use Rattle.kp_synth_stage.specs.declared.work.Work.{Work}
-use Rattle.kp_synth_stage.specs.Work.{Fits, SlotsHave}
+use Rattle.kp_synth_stage.specs.{declared.row.Source.Source, declared.work.Work.Work, Work.Fits, Work.SlotsHave}
 use Rattle.kp_synth_stage.proofs.Nearest.{sources_kept}
-use Rattle.kp_synth_pipeline.specs.declared.staging.Entered.{Entered}
-use Rattle.kp_synth_pipeline.specs.inner.Seeing.{PipesIn, SamplesIn, HintsIn, Computes}
-use Rattle.kp_synth_pipeline.specs.inner.Whole.{SetMeans, SetsMean}
-use Rattle.kp_synth_pipeline.specs.inner.Descending.{EnteredOk, Faces, SayFrom}
+use Rattle.kp_synth_pipeline.specs.{declared.staging.Entered.Entered, inner.Seeing.PipesIn, inner.Seeing.SamplesIn, inner.Seeing.HintsIn, inner.Seeing.Computes}
+use Rattle.kp_synth_pipeline.specs.inner.{Whole.SetMeans, Whole.SetsMean, Descending.EnteredOk, Descending.Faces, Descending.SayFrom}
 use Rattle.kp_synth_pipeline.proofs.Stalling.{sees_above_kept}
 
 -- an outcome of these nodes

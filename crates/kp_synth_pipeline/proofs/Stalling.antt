@@ -3,16 +3,10 @@ use Rattle.std.proofs.Common.{◌≡◌, ◌∙◌, ℕ, ◌&&◌, ◌||◌, Lis
 use Rattle.kp_ast.specs.declared.tree.Job.{Job}
 use Rattle.kp_pipeline.specs.Pipeline.{above, outcome, stall}
 use Rattle.kp_machine.specs.Machine.{machine_of}
-use Rattle.kp_net.specs.declared.node.NodeId.{NodeId}
-use Rattle.kp_net.specs.Nodes.{Cells, on}
-use Rattle.kp_net.specs.Growth.{Held, Kept}
+use Rattle.kp_net.specs.{declared.node.NodeId.NodeId, Nodes.Cells, Nodes.on, Growth.Held, Growth.Kept}
 use Rattle.kp_synth_registers.specs.Meaning.{IsTest, Gives, guesses_at}
-use Rattle.kp_synth_stage.specs.declared.row.Source.{Source}
-use Rattle.kp_synth_stage.specs.declared.work.Work.{Work}
-use Rattle.kp_synth_stage.specs.Work.{Fits, Does}
-use Rattle.kp_synth_stage.specs.Rows.{SourcesOk}
-use Rattle.kp_synth_stage.proofs.Binding.{means_kept}
-use Rattle.kp_synth_stage.proofs.Nearest.{sees_kept}
+use Rattle.kp_synth_stage.specs.{declared.row.Source.Source, declared.work.Work.Work, Work.Fits, Work.Does, Rows.SourcesOk}
+use Rattle.kp_synth_stage.proofs.{Binding.means_kept, Nearest.sees_kept}
 use Rattle.kp_synth_pipeline.specs.inner.Seeing.{SeesAbove, PipesIn, SamplesIn, HintsIn, Computes}
 
 module _ (job : Job) (k : ℕ) (p q z : Held) (m : ℕ) (g : Kept q z m) (ss : List Source) (pipes samples hints : List NodeId) (w : Work) (fits : Fits job q (guesses_at job k) w)

@@ -1,27 +1,18 @@
 -- The guesses that are wrong in a stage.
 use Rattle.std.proofs.Common.{◌≡◌, ◌∙◌, ℕ, zero, suc, ◌+◌, ◌*◌, ◌<◌, ◌≤◌, ◌^◌, Bool, true, false, not, ◌&&◌, ◌||◌, ◌==◌, List, [], ◌∷◌, take, length, get_or, Option, Some, refl, sym, ap, subst, arith}
-use Rattle.std.specs.Prelude.{slice_get, nat_lt}
-use Rattle.std.specs.List.{list_any}
-use Rattle.std.proofs.Math.Seq.{take-length}
-use Rattle.std.proofs.Math.Nat.{suc-mul, mul-le-mul_right}
-use Rattle.std.proofs.lemmas.Bool.{le-ltb}
+use Rattle.std.proofs.{Math.Seq.take-length, Math.Nat.suc-mul, Math.Nat.mul-le-mul_right, lemmas.Bool.le-ltb}
+use Rattle.std.specs.{Prelude.slice_get, Prelude.nat_lt, List.list_any}
 use Rattle.kp_ast.specs.declared.tree.Job.{Job}
 use Rattle.kp_pipeline.specs.Sequential.{PendingGuess}
 use Rattle.kp_pipeline.specs.Pipeline.{PipelineState, StageState, Inputs, above, differs, some_differs, mismatches}
 use Rattle.kp_machine.specs.Machine.{machine_of}
-use Rattle.kp_net.specs.declared.node.NodeId.{NodeId}
-use Rattle.kp_net.specs.Nodes.{Cells, at, on}
-use Rattle.kp_net.specs.Growth.{Held, Wire, Kept}
-use Rattle.kp_synth_tables.specs.declared.key.GuessSlot.{GuessSlot}
-use Rattle.kp_synth_tables.specs.declared.key.Key.TheVariants.{Pending, Guess}
+use Rattle.kp_net.specs.{declared.node.NodeId.NodeId, Nodes.Cells, Nodes.at, Nodes.on, Growth.Held, Growth.Wire, Growth.Kept}
+use Rattle.kp_synth_tables.specs.declared.key.{GuessSlot.GuessSlot, Key.TheVariants.Pending, Key.TheVariants.Guess}
 use Rattle.kp_synth_tables.specs.Keys.{target_at, no_guess, guesses_of, guess_at, is_carried}
 use Rattle.kp_synth_registers.specs.Holding.{Holds, kept_in, optional, some_of, some_guess, guess_passes, pending_guess}
 use Rattle.kp_synth_registers.specs.Meaning.{IsTest}
-use Rattle.kp_synth_stage.specs.declared.row.Source.{Source}
-use Rattle.kp_synth_stage.specs.Rows.{Sees, view_of, source_view}
-use Rattle.kp_synth_pipeline.specs.Stages.{guess_room}
-use Rattle.kp_synth_pipeline.specs.inner.Seeing.{SeesAbove}
-use Rattle.kp_synth_pipeline.specs.inner.Whole.{is_wrong, GuessOk, Misses}
+use Rattle.kp_synth_stage.specs.{declared.row.Source.Source, Rows.Sees, Rows.view_of, Rows.source_view}
+use Rattle.kp_synth_pipeline.specs.{Stages.guess_room, inner.Seeing.SeesAbove, inner.Whole.is_wrong, inner.Whole.GuessOk, inner.Whole.Misses}
 use Rattle.kp_synth_pipeline.proofs.Ports.{bit_value}
 
 -- a guess that is wrong, by its nodes

@@ -3,21 +3,14 @@ use Rattle.std.proofs.Common.{◌≡◌, ◌∙◌, ℕ, ◌+◌, ◌<◌, ◌�
 use Rattle.std.proofs.lemmas.Bool.{cases_lt}
 use Rattle.kp_ast.specs.declared.tree.Job.{Job}
 use Rattle.kp_pipeline.specs.Pipeline.{PipelineState, Inputs}
-use Rattle.kp_net.specs.declared.node.NodeId.{NodeId}
-use Rattle.kp_net.specs.declared.node.Node.{Node}
-use Rattle.kp_net.specs.declared.node.Kind.{Kind}
+use Rattle.kp_net.specs.{declared.node.NodeId.NodeId, declared.node.Node.Node, declared.node.Kind.Kind, Nodes.Cells, Nodes.at, Nodes.on}
+use Rattle.kp_net.specs.{Widths.no_node, Widths.is_cell, Growth.Held, Growth.Wire, Growth.Kept, Growth.Grown, Growth.AddsOnly}
 use Rattle.kp_net.specs.declared.node.Kind.TheVariants as kinds
-use Rattle.kp_net.specs.Nodes.{Cells, at, on}
-use Rattle.kp_net.specs.Widths.{no_node, is_cell}
-use Rattle.kp_net.specs.Growth.{Held, Wire, Kept, Grown, AddsOnly}
 use Rattle.kp_net.proofs.Growing.{wire_kept, kept_then, kept_more}
-use Rattle.kp_synth_registers.specs.declared.outcome.Set.{Set}
-use Rattle.kp_synth_registers.specs.declared.outcome.Made.{Made}
-use Rattle.kp_synth_registers.specs.declared.outcome.Outcome.{Outcome}
-use Rattle.kp_synth_registers.specs.declared.registers.Reads.{Reads}
-use Rattle.kp_synth_tables.specs.declared.key.GuessSlot.{GuessSlot}
-use Rattle.kp_synth_registers.specs.Holding.{optional, pending_guess}
 use Rattle.kp_synth_registers.specs.Meaning.{IsTest, Gives, MayGive, node_at, CellFits, CellsFit, Added, Ready, Says, put_value, set_value, guess_value, made_values, PutFits, SetFits, MadeFit}
+use Rattle.kp_synth_registers.specs.declared.{outcome.Set.Set, outcome.Made.Made, outcome.Outcome.Outcome, registers.Reads.Reads}
+use Rattle.kp_synth_registers.specs.Holding.{optional, pending_guess}
+use Rattle.kp_synth_tables.specs.declared.key.GuessSlot.{GuessSlot}
 
 pub test_kept : (job : Job) (p q : Held) (j w : ℕ) (n : NodeId) (f : PipelineState → Inputs → Bool) → Kept p q j → Wire p n w → IsTest job p n f → IsTest job q n f
 unfolding IsTest

@@ -2,12 +2,9 @@
 use Rattle.std.specs.Prelude.{◌≡◌, ℕ, suc, ◌<◌, ◌^◌, ◌%◌, ◌/◌, List, [], ◌∷◌, length, get_or, Option, Some, None, Bool, true, false, ◌&&◌, ◌||◌, ◌==◌, if◌then◌else◌}
 use Rattle.std.specs.List.{list_any}
 use Rattle.kp_ast.specs.declared.tree.Job.{Job}
-use Rattle.kp_pipeline.specs.Sequential.{PendingGuess}
-use Rattle.kp_pipeline.specs.Pipeline.{PipelineState, Inputs, stage_zero}
-use Rattle.kp_machine.specs.Slots.{targets_of, pipes_of, hints_of, samples_of, is_register}
-use Rattle.kp_machine.specs.Machine.{files_before}
-use Rattle.kp_net.specs.Nodes.{Cells}
-use Rattle.kp_net.specs.Netlist.{Input}
+use Rattle.kp_pipeline.specs.{Sequential.PendingGuess, Pipeline.PipelineState, Pipeline.Inputs, Pipeline.stage_zero}
+use Rattle.kp_machine.specs.{Slots.targets_of, Slots.pipes_of, Slots.hints_of, Slots.samples_of, Slots.is_register, Machine.files_before}
+use Rattle.kp_net.specs.{Nodes.Cells, Netlist.Input}
 use Rattle.kp_synth_tables.specs.declared.key.Key.{Key}
 use Rattle.kp_synth_tables.specs.declared.key.Key.TheVariants.{Visible, Full, Pipe, Valid, Value, Pending, Guess, Hint}
 use Rattle.kp_synth_tables.specs.declared.key.GuessSlot.{GuessSlot}

@@ -2,23 +2,15 @@
 use Rattle.std.specs.Prelude.{◌≡◌, ℕ, ◌<◌, ◌^◌, ◌%◌, List, [], ◌∷◌, length, get_or, Option, Some, None, Bool, true, false, slice_get}
 use Rattle.kp_ast.specs.declared.tree.Job.{Job}
 use Rattle.kp_stage.specs.Facts.{stmts_in}
-use Rattle.kp_pipeline.specs.Sequential.{PendingGuess}
-use Rattle.kp_pipeline.specs.Pipeline.{PipelineState, Inputs, outcome, stall, mismatches}
-use Rattle.kp_machine.specs.Slots.{targets_of, pipes_of, hints_of, samples_of, is_register}
-use Rattle.kp_machine.specs.Machine.{machine_of, files_before}
-use Rattle.kp_net.specs.declared.node.NodeId.{NodeId}
-use Rattle.kp_net.specs.declared.node.Kind.{Kind}
-use Rattle.kp_net.specs.declared.node.Kind.TheVariants as kinds
-use Rattle.kp_net.specs.Nodes.{Cells, at, on}
-use Rattle.kp_net.specs.Widths.{no_node}
+use Rattle.kp_pipeline.specs.{Sequential.PendingGuess, Pipeline.PipelineState, Pipeline.Inputs, Pipeline.outcome, Pipeline.stall, Pipeline.mismatches}
+use Rattle.kp_machine.specs.{Slots.targets_of, Slots.pipes_of, Slots.hints_of, Slots.samples_of, Slots.is_register, Machine.machine_of, Machine.files_before}
+use Rattle.kp_net.specs.{declared.node.NodeId.NodeId, declared.node.Kind.Kind, Nodes.Cells, Nodes.at, Nodes.on, Widths.no_node}
 use Rattle.kp_net.specs.Growth.{Held, Wire, Kept}
-use Rattle.kp_synth_registers.specs.declared.outcome.Made.{Made}
-use Rattle.kp_synth_registers.specs.declared.outcome.Set.{Set}
-use Rattle.kp_synth_registers.specs.declared.outcome.Outcome.{Outcome}
-use Rattle.kp_synth_registers.specs.declared.registers.Reads.{Reads}
+use Rattle.kp_net.specs.declared.node.Kind.TheVariants as kinds
+use Rattle.kp_synth_registers.specs.declared.{outcome.Made.Made, outcome.Set.Set, outcome.Outcome.Outcome, registers.Reads.Reads}
+use Rattle.kp_synth_registers.specs.Holding.{Holds, optional, pending_guess}
 use Rattle.kp_synth_tables.specs.declared.key.GuessSlot.{GuessSlot}
 use Rattle.kp_synth_tables.specs.Keys.{target_at, pipe_at, hint_at, sample_at, guesses_in, key_width, key_at, keys_of}
-use Rattle.kp_synth_registers.specs.Holding.{Holds, optional, pending_guess}
 
 -- A node has the value of this test of the state and the inputs.
 unfoldable pub IsTest : Job → Held → NodeId → (PipelineState → Inputs → Bool) → Type 0

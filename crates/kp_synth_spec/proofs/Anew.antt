@@ -1,24 +1,17 @@
 -- Each list of inputs has no reset, or a last one. From there on a netlist shows the pipeline that starts with the state after the reset.
 use Rattle.std.proofs.Common.{◌≡◌, ◌∙◌, ℕ, suc, ◌+◌, ◌<◌, ◌≤◌, ◌⊎◌, inl, inr, Bool, true, false, List, [], ◌∷◌, ◌++◌, drop, length, get_or, refl, ap, sym, subst, arith, ⊎_elim, zero-add}
 use Rattle.std.proofs.lemmas.Bool.{cases_Bool, cases_lt, cond-true, cond-false, false≢true}
-use Rattle.std.proofs.lemmas.List.{get_or_past, drop-map, length-append, length-drop, length-map}
-use Rattle.std.proofs.lemmas.List.Elements.{All-nil, All-cons}
+use Rattle.std.proofs.lemmas.List.{get_or_past, drop-map, length-append, length-drop, length-map, Elements.All-nil, Elements.All-cons}
 use Rattle.kp_ast.specs.declared.tree.Job.{Job}
-use Rattle.kp_pipeline.specs.Pipeline.{pipeline_start}
-use Rattle.kp_pipeline.specs.Rows.{Row, pipe}
+use Rattle.kp_pipeline.specs.{Pipeline.pipeline_start, Rows.Row, Rows.pipe}
 use Rattle.kp_pipeline.proofs.Taken.{rows-length}
 use Rattle.kp_stage.specs.Start.{start_of}
-use Rattle.kp_machine.specs.Machine.{machine_of, state_of, start_hints}
-use Rattle.kp_machine.specs.Slots.{targets_of, is_register}
+use Rattle.kp_machine.specs.{Machine.machine_of, Machine.state_of, Machine.start_hints, Slots.targets_of, Slots.is_register}
 use Rattle.kp_net.specs.Netlist.{Net, Input, State, start_of as net_start, state_after, states_from, rows_from, last_of}
-use Rattle.kp_sched.specs.Rows.{row_seen, rows_seen}
-use Rattle.kp_sched.specs.Runs.{ShowsAlike}
+use Rattle.kp_sched.specs.{Rows.row_seen, Rows.rows_seen, Runs.ShowsAlike}
 use Rattle.kp_seq.specs.Running.{no_slot, target}
-use Rattle.kp_synth_spec.specs.Naming.{value_shown}
-use Rattle.kp_synth_spec.specs.Shows.{Shows}
-use Rattle.kp_synth_spec.specs.Traces.{trace_of, no_state, input_seen, inputs_seen, AreQuiet}
-use Rattle.kp_synth_spec.specs.Anew.{trace_from, left_by_reset, BeginsAnew}
-use Rattle.kp_synth_spec.specs.Cuts.{counted_on, to_reset, since, begins_with}
+use Rattle.kp_synth_spec.specs.{Naming.value_shown, Shows.Shows, Traces.trace_of, Traces.no_state, Traces.input_seen, Traces.inputs_seen, Traces.AreQuiet}
+use Rattle.kp_synth_spec.specs.{Anew.trace_from, Anew.left_by_reset, Anew.BeginsAnew, Cuts.counted_on, Cuts.to_reset, Cuts.since, Cuts.begins_with}
 use Rattle.kp_synth_spec.proofs.Cutting.{rows_behind, states_behind, state_last, state_there}
 
 -- the inputs up to the last reset, and those after it

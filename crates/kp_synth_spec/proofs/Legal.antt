@@ -1,11 +1,7 @@
 -- A trace with the rows and values of a legal pipeline is legal, whichever values it starts with.
 use Rattle.std.proofs.Common.{◌≡◌, ◌∙◌, ℕ, ◌≤◌, Bool, true, false, cond, List, length, refl, ap, sym, subst}
 use Rattle.kp_ast.specs.declared.tree.Job.{Job}
-use Rattle.kp_pipeline.specs.Claims.{Legal}
-use Rattle.kp_pipeline.specs.Machine.{Machine}
-use Rattle.kp_pipeline.specs.Pipeline.{Inputs}
-use Rattle.kp_pipeline.specs.Rows.{Row, Trace, passed, taken}
-use Rattle.kp_pipeline.specs.Sequential.{seq}
+use Rattle.kp_pipeline.specs.{Claims.Legal, Machine.Machine, Pipeline.Inputs, Rows.Row, Rows.Trace, Rows.passed, Rows.taken, Sequential.seq}
 use Rattle.kp_machine.specs.Machine.{machine_of}
 use Rattle.kp_sched.specs.Runs.{passes, ShowsAlike}
 use Rattle.kp_synth_spec.specs.Legal.{value_from, IsLegalFrom}

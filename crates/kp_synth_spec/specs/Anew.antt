@@ -3,15 +3,11 @@ use Rattle.std.specs.Prelude.{◌≡◌, ℕ, ◌<◌, ◌^◌, true, List, [], 
 use Rattle.kp_ast.specs.declared.tree.Job.{Job}
 use Rattle.kp_stage.specs.Start.{start_of}
 use Rattle.kp_pipeline.specs.Rows.{Trace, pipe}
-use Rattle.kp_machine.specs.Slots.{is_register}
-use Rattle.kp_machine.specs.Machine.{machine_of, state_of, start_hints}
-use Rattle.kp_net.specs.Netlist.{Net, Input, State, state_after, states_from, rows_from, last_of}
-use Rattle.kp_net.specs.Parts.{no_file}
+use Rattle.kp_machine.specs.{Slots.is_register, Machine.machine_of, Machine.state_of, Machine.start_hints}
+use Rattle.kp_net.specs.{Netlist.Net, Netlist.Input, Netlist.State, Netlist.state_after, Netlist.states_from, Netlist.rows_from, Netlist.last_of, Parts.no_file}
 use Rattle.kp_seq.specs.Running.{target}
-use Rattle.kp_sched.specs.Rows.{rows_seen}
-use Rattle.kp_sched.specs.Runs.{ShowsAlike}
-use Rattle.kp_synth_spec.specs.Naming.{value_shown}
-use Rattle.kp_synth_spec.specs.Traces.{no_state, inputs_seen, AreQuiet}
+use Rattle.kp_sched.specs.{Rows.rows_seen, Runs.ShowsAlike}
+use Rattle.kp_synth_spec.specs.{Naming.value_shown, Traces.no_state, Traces.inputs_seen, Traces.AreQuiet}
 
 -- The run of a netlist from a state on, as a run of the machine of a job.
 unfoldable pub trace_from : Job → Net → State → List Input → Trace

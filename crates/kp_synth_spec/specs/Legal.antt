@@ -1,9 +1,7 @@
 -- WHAT IS REQUIRED OF A RUN that starts with the values s of registers and files.
 use Rattle.std.specs.Prelude.{◌≡◌, ℕ, ◌≤◌, List, length}
 use Rattle.kp_ast.specs.declared.tree.Job.{Job}
-use Rattle.kp_pipeline.specs.Pipeline.{Inputs}
-use Rattle.kp_pipeline.specs.Rows.{Row, Trace, taken}
-use Rattle.kp_pipeline.specs.Sequential.{seq}
+use Rattle.kp_pipeline.specs.{Pipeline.Inputs, Rows.Row, Rows.Trace, Rows.taken, Sequential.seq}
 use Rattle.kp_machine.specs.Machine.{machine_of}
 use Rattle.kp_seq.specs.Running.{HasWord}
 use Rattle.kp_sched.specs.Runs.{passes}

@@ -1,9 +1,7 @@
 -- THE RUN OF A NETLIST as a run of the machine of a job: its rows, and the values of its registers and files by target.
-use Rattle.std.specs.Prelude.{ℕ, ◌^◌, ◌%◌, ◌≡◌, List, [], get_or, map, false}
-use Rattle.std.specs.List.{All}
+use Rattle.std.specs.{Prelude.ℕ, Prelude.◌^◌, Prelude.◌%◌, Prelude.◌≡◌, Prelude.List, Prelude.[], Prelude.get_or, Prelude.map, Prelude.false, List.All}
 use Rattle.kp_ast.specs.declared.tree.Job.{Job}
-use Rattle.kp_pipeline.specs.Pipeline.{Inputs}
-use Rattle.kp_pipeline.specs.Rows.{Trace}
+use Rattle.kp_pipeline.specs.{Pipeline.Inputs, Rows.Trace}
 use Rattle.kp_machine.specs.Slots.{Slot, samples_of}
 use Rattle.kp_net.specs.Netlist.{Net, Input, State, run}
 use Rattle.kp_seq.specs.Running.{no_slot}

@@ -1,40 +1,23 @@
 -- What is preserved while the pool grows, and what changes when a name is bound to a node.
 use Rattle.std.proofs.Common.{◌≡◌, ◌∙◌, ℕ, zero, suc, ◌<◌, List, [], ◌∷◌, ◌++◌, length, take, Option, Some, None, Bool, true, false, cond, refl, ap, sym, subst, arith}
-use Rattle.std.specs.Prelude.{slice_get}
-use Rattle.std.specs.Option.{option_map}
-use Rattle.std.specs.Cmp.Lexicographic.{bytes_decides}
+use Rattle.std.specs.{Prelude.slice_get, Option.option_map, Cmp.Lexicographic.bytes_decides}
 use Rattle.kp_bits.specs.Word.{Word}
-use Rattle.kp_ast.specs.Expressions.{is_same_name}
+use Rattle.kp_ast.specs.{Expressions.is_same_name, declared.tree.Expr.Expr, declared.tree.ReadStmt.ReadStmt, declared.tree.Stmt.Stmt}
+use Rattle.kp_ast.specs.declared.tree.{StmtKind.StmtKind, Job.Job}
 use Rattle.kp_ast.specs.Expressions as values
-use Rattle.kp_ast.specs.declared.tree.Expr.{Expr}
-use Rattle.kp_ast.specs.declared.tree.ReadStmt.{ReadStmt}
-use Rattle.kp_ast.specs.declared.tree.Stmt.{Stmt}
-use Rattle.kp_ast.specs.declared.tree.StmtKind.{StmtKind}
 use Rattle.kp_ast.specs.declared.tree.StmtKind.TheVariants as stmts
-use Rattle.kp_ast.specs.declared.tree.Job.{Job}
 use Rattle.kp_width.specs.Names.{Sense, Names, Scoped, look_up, find, or_else, is_hint, declared_local}
 use Rattle.kp_pipeline.specs.Sequential.{StageOutcome, PendingGuess}
-use Rattle.kp_machine.proofs.Text.{is_local, local_no}
-use Rattle.kp_machine.proofs.Scopes.{look_last, find_none}
-use Rattle.kp_machine.proofs.Cases.{by_test}
-use Rattle.kp_machine.proofs.LookUp.{look_up_end}
-use Rattle.kp_net.specs.declared.node.NodeId.{NodeId}
-use Rattle.kp_net.specs.Nodes.{Cells, word_at, at, on}
-use Rattle.kp_net.specs.Growth.{Held, Wire, Kept}
+use Rattle.kp_machine.proofs.{Text.is_local, Text.local_no, Scopes.look_last, Scopes.find_none, Cases.by_test, LookUp.look_up_end}
+use Rattle.kp_net.specs.{declared.node.NodeId.NodeId, Nodes.Cells, Nodes.word_at, Nodes.at, Nodes.on, Growth.Held, Growth.Wire, Growth.Kept}
 use Rattle.kp_net.proofs.Growing.{wire_kept}
 use Rattle.kp_build.proofs.Names.{node_with}
 use Rattle.kp_build.specs.Names.{Scope, node_of, with_node, word_of, AreInside}
-use Rattle.kp_synth_registers.specs.declared.outcome.Made.{Made}
-use Rattle.kp_synth_tables.specs.declared.key.GuessSlot.{GuessSlot}
-use Rattle.kp_synth_tables.specs.Keys.{guess_slot, with_read, with_guess, guesses_in}
-use Rattle.kp_synth_registers.specs.Holding.{pending_guess}
-use Rattle.kp_synth_registers.specs.Meaning.{guess_value, made_values, MadeFit}
+use Rattle.kp_synth_registers.specs.{declared.outcome.Made.Made, Holding.pending_guess, Meaning.guess_value, Meaning.made_values, Meaning.MadeFit}
+use Rattle.kp_synth_tables.specs.{declared.key.GuessSlot.GuessSlot, Keys.guess_slot, Keys.with_read, Keys.with_guess, Keys.guesses_in}
 use Rattle.kp_synth_registers.proofs.Growth.{put_kept, put_fits, set_kept, set_fits, made_fit, made_kept}
-use Rattle.kp_synth_stage.specs.Work.{stmts_at, Fits, Means}
-use Rattle.kp_synth_stage.specs.inner.Scopes.{Binds, Bound}
-use Rattle.kp_synth_stage.specs.inner.Standing.{slots_at}
+use Rattle.kp_synth_stage.specs.{Work.stmts_at, Work.Fits, Work.Means, inner.Scopes.Binds, inner.Scopes.Bound, inner.Standing.slots_at, declared.work.Work.Work}
 use Rattle.kp_synth_stage.specs.inner.Standing as work
-use Rattle.kp_synth_stage.specs.declared.work.Work.{Work}
 
 look_past : (names : Names) (n q : List ℕ) (m : Sense) → is_same_name q n ≡ false → look_up (names ++ (n, m) ∷ []) q ≡ look_up names q
 look_past [] n q m y = ap (λ b. cond b (Some m) None) y

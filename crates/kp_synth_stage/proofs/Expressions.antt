@@ -1,36 +1,20 @@
 -- The value of an expression in a stage, provided that the nodes of the names have their values.
 use Rattle.std.proofs.Common.{◌≡◌, ◌∙◌, ℕ, ◌<◌, List, [], ◌∷◌, ◌++◌, length, Option, Some, None, Bool, true, false, cond, not, refl, ap, sym, subst}
-use Rattle.std.specs.Prelude.{is_some, unwrap_or}
-use Rattle.std.specs.Option.{option_map}
-use Rattle.kp_base.specs.Check.{Answer}
-use Rattle.kp_base.specs.declared.place.Place.{Place}
-use Rattle.kp_bits.specs.Word.{Word, IsWord}
+use Rattle.std.specs.{Prelude.is_some, Prelude.unwrap_or, Option.option_map}
+use Rattle.kp_base.specs.{Check.Answer, declared.place.Place.Place}
+use Rattle.kp_bits.specs.{Word.Word, Word.IsWord, Operators.no_word}
 use Rattle.kp_ast.specs.Expressions.{Env, eval, env_of, names_of, calls_of, is_same_name}
-use Rattle.kp_bits.specs.Operators.{no_word}
+use Rattle.kp_ast.specs.{Checked.checked, Checked.checked_calls_of, declared.tree.Expr.Expr, declared.tree.Job.Job, declared.widths.NameKind.NameKind}
 use Rattle.kp_ast.specs.Expressions as values
-use Rattle.kp_ast.specs.Checked.{checked, checked_calls_of}
-use Rattle.kp_ast.specs.declared.tree.Expr.{Expr}
-use Rattle.kp_ast.specs.declared.tree.Job.{Job}
 use Rattle.kp_ast.specs.declared.widths.Scope.TheVariants as scopes
-use Rattle.kp_ast.specs.declared.widths.NameKind.{NameKind}
 use Rattle.kp_ast.specs.declared.widths.NameKind.TheVariants as kinds
 use Rattle.kp_width.specs.Names.{Sense, Names, Scoped, look_up, find, is_value_in, is_callee, is_hint}
-use Rattle.kp_width.specs.Expressions.{width_of, params_of}
-use Rattle.kp_width.specs.Widths.{widths_of}
-use Rattle.kp_width.proofs.Unbroken.{Unbroken}
-use Rattle.kp_width.proofs.Calls.{is_of_text}
-use Rattle.kp_width.specs.Soundness.{HasWidth, AreArguments}
-use Rattle.kp_width.proofs.Found.{Found, Meets, found, no_answer}
-use Rattle.kp_stage.specs.Facts.{facts_of}
-use Rattle.kp_stage.specs.declared.rules.Rule.{Rule}
-use Rattle.kp_stage.specs.Rules.{ask_name, ask_expr}
+use Rattle.kp_width.specs.{Expressions.width_of, Expressions.params_of, Widths.widths_of, Soundness.HasWidth, Soundness.AreArguments}
+use Rattle.kp_width.proofs.{Unbroken.Unbroken, Calls.is_of_text, Found.Found, Found.Meets, Found.found, Found.no_answer}
+use Rattle.kp_stage.specs.{Facts.facts_of, declared.rules.Rule.Rule, Rules.ask_name, Rules.ask_expr}
 use Rattle.kp_machine.specs.Slots.{hints_of, words_of}
-use Rattle.kp_machine.proofs.Scopes.{Placed}
-use Rattle.kp_machine.proofs.Text.{local_no, found_where, no_hint, same_question, placed, calls_open}
-use Rattle.kp_net.specs.declared.node.NodeId.{NodeId}
-use Rattle.kp_net.specs.Nodes.{Cells, word_at, at}
-use Rattle.kp_net.specs.Widths.{wide, AllRight}
-use Rattle.kp_net.specs.Growth.{Held, Wire}
+use Rattle.kp_machine.proofs.{Scopes.Placed, Text.local_no, Text.found_where, Text.no_hint, Text.same_question, Text.placed, Text.calls_open}
+use Rattle.kp_net.specs.{declared.node.NodeId.NodeId, Nodes.Cells, Nodes.word_at, Nodes.at, Widths.wide, Widths.AllRight, Growth.Held, Growth.Wire}
 use Rattle.kp_net.proofs.Values.{word_is, word_wide, at_fits}
 use Rattle.kp_build.specs.Names.{Scope, node_of, word_of, known_at, IsSound, Gives}
 use Rattle.kp_synth_stage.specs.inner.Scopes.{declared, scope_at, is_bound, is_value, Binds, Bound}

@@ -1,25 +1,17 @@
 -- The statements of a stage, in order.
 use Rattle.std.proofs.Common.{◌≡◌, ◌∙◌, ℕ, zero, suc, ◌+◌, List, [], ◌∷◌, ◌++◌, take, length, Some, ap, sym, subst, arith}
+use Rattle.std.proofs.lemmas.List.{Sums.fold-append, take_all}
 use Rattle.std.specs.Prelude.{slice_get}
-use Rattle.std.proofs.lemmas.List.Sums.{fold-append}
-use Rattle.std.proofs.lemmas.List.{take_all}
-use Rattle.kp_machine.specs.Machine.{stage_tree}
-use Rattle.kp_machine.specs.Trees.{entered}
+use Rattle.kp_machine.specs.{Machine.stage_tree, Trees.entered}
 use Rattle.kp_synth_registers.specs.Meaning.{guesses_at}
 use Rattle.kp_synth_tables.specs.Keys.{guesses_in}
-use Rattle.kp_net.specs.declared.node.NodeId.{NodeId}
-use Rattle.kp_ast.specs.declared.tree.Decl.{Decl}
-use Rattle.kp_ast.specs.declared.tree.Stmt.{Stmt}
-use Rattle.kp_ast.specs.declared.tree.Job.{Job}
-use Rattle.kp_net.specs.Growth.{Held, Kept}
-use Rattle.kp_synth_stage.specs.declared.row.Source.{Source}
-use Rattle.kp_synth_stage.specs.declared.work.Work.{Work}
-use Rattle.kp_synth_stage.specs.Rows.{SourcesOk}
+use Rattle.kp_net.specs.{declared.node.NodeId.NodeId, Growth.Held, Growth.Kept}
+use Rattle.kp_ast.specs.declared.tree.{Decl.Decl, Stmt.Stmt, Job.Job}
+use Rattle.kp_synth_stage.specs.{declared.row.Source.Source, declared.work.Work.Work, Rows.SourcesOk}
 use Rattle.kp_synth_stage.specs.inner.Doing.{Doing, Truths, after_stmt, after_stmts, begun, outcome_of}
 use Rattle.kp_synth_stage.specs.Work.{stmts_at, Means, Does, cost_of, costs_of}
 use Rattle.kp_synth_stage.specs.inner.Standing.{slots_at, Stands, GoesBy, AllGo, Enters}
-use Rattle.kp_synth_stage.proofs.Nearest.{sees_kept}
-use Rattle.kp_synth_stage.proofs.Running.{stage_runs}
+use Rattle.kp_synth_stage.proofs.{Nearest.sees_kept, Running.stage_runs}
 
 -- one more statement
 after_more : (ds : List Decl) (v : Truths) (hints : ℕ → ℕ) (d : Doing) (xs : List Stmt) (j : ℕ) (x : Stmt) → slice_get xs j ≡ Some x

@@ -1,25 +1,15 @@
 -- The rows of a target, the candidates that are computed from them, and the value of a read.
 use Rattle.std.proofs.Common.{◌%◌, suc, zero, get_or, ◌&&◌, ◌||◌, ◌≡◌, ◌∙◌, ℕ, ◌<◌, ◌^◌, Bool, true, false, not, cond, List, [], ◌∷◌, ◌++◌, length, Option, Some, None, refl, sym, ap, subst, arith, ◌==◌}
+use Rattle.std.proofs.lemmas.{Bool.eq-eqb, List.Elements.All-head, List.Elements.All-tail}
 use Rattle.std.specs.Prelude.{All, slice_get, is_some}
-use Rattle.std.proofs.lemmas.Bool.{eq-eqb}
-use Rattle.std.proofs.lemmas.List.Elements.{All-head, All-tail}
-use Rattle.kp_net.specs.declared.node.NodeId.{NodeId}
-use Rattle.kp_net.specs.Nodes.{Cells, at, on, word_at, word_of_node}
-use Rattle.kp_synth_registers.specs.Meaning.{PutFits}
-use Rattle.kp_synth_stage.specs.inner.Reading.{lacks, value_or_zero, Matched, given, AskInside, ask_width}
-use Rattle.kp_net.specs.Growth.{Held, Wire, Kept}
-use Rattle.kp_net.proofs.Values.{at_fits}
-use Rattle.kp_net.proofs.Growing.{wire_kept}
-use Rattle.kp_fwd.specs.declared.rows.Candidate.{Candidate}
-use Rattle.kp_fwd.specs.Forward.{CandidateOk, first_ok, first_value, BitOk, enable_on}
-use Rattle.kp_synth_registers.specs.Holding.{optional}
-use Rattle.kp_synth_stage.specs.declared.row.Row.{Row}
-use Rattle.kp_synth_stage.specs.declared.row.Own.{Own}
-use Rattle.kp_synth_stage.specs.declared.row.Own.TheVariants.{Register, File}
-use Rattle.kp_synth_stage.specs.declared.row.Source.{Source}
+use Rattle.kp_net.specs.{declared.node.NodeId.NodeId, Nodes.Cells, Nodes.at, Nodes.on, Nodes.word_at, Nodes.word_of_node, Growth.Held, Growth.Wire, Growth.Kept}
+use Rattle.kp_synth_registers.specs.{Meaning.PutFits, Holding.optional}
 use Rattle.kp_synth_stage.specs.Rows.{AskOk, row_hits, rows_view, own_value, source_view, view_of, OwnOk, SourceOk, SourcesOk, Sees, RowOk, RowsOk, AddressOk, asked, address_is}
-use Rattle.kp_machine.specs.Slots.{targets_of, is_register}
-use Rattle.kp_machine.specs.Machine.{files_before}
+use Rattle.kp_synth_stage.specs.inner.Reading.{lacks, value_or_zero, Matched, given, AskInside, ask_width}
+use Rattle.kp_synth_stage.specs.declared.row.{Row.Row, Own.Own, Own.TheVariants.Register, Own.TheVariants.File, Source.Source}
+use Rattle.kp_net.proofs.{Values.at_fits, Growing.wire_kept}
+use Rattle.kp_fwd.specs.{declared.rows.Candidate.Candidate, Forward.CandidateOk, Forward.first_ok, Forward.first_value, Forward.BitOk, Forward.enable_on}
+use Rattle.kp_machine.specs.{Slots.targets_of, Slots.is_register, Machine.files_before}
 use Rattle.kp_synth_tables.specs.Keys.{target_at}
 use Rattle.kp_ast.specs.declared.tree.Job.{Job}
 use Rattle.kp_bits.specs.Word as bits

@@ -1,42 +1,26 @@
 -- A read: the state of the stage after it.
 use Rattle.std.proofs.Common.{◌≡◌, ◌∙◌, ℕ, zero, suc, ◌+◌, ◌<◌, ◌≤◌, List, [], ◌∷◌, ◌++◌, length, Option, Some, None, Bool, true, false, cond, not, ◌||◌, ◌&&◌, refl, ap, sym, subst, arith}
-use Rattle.std.specs.Prelude.{slice_get, is_some}
 use Rattle.std.proofs.lemmas.List.{append-nil}
-use Rattle.std.specs.Global.{Vec}
+use Rattle.std.specs.{Prelude.slice_get, Prelude.is_some, Global.Vec}
 use Rattle.kp_bits.specs.Word.{word}
-use Rattle.kp_ast.specs.declared.tree.Expr.{Expr}
-use Rattle.kp_ast.specs.declared.tree.ReadStmt.{ReadStmt}
+use Rattle.kp_ast.specs.declared.tree.{Expr.Expr, ReadStmt.ReadStmt, Job.Job}
 use Rattle.kp_ast.specs.declared.tree.StmtKind.TheVariants as stmts
-use Rattle.kp_ast.specs.declared.tree.Job.{Job}
 use Rattle.kp_ast.specs.declared.widths.NameKind.TheVariants as kinds
-use Rattle.kp_width.specs.Names.{sense}
-use Rattle.kp_width.specs.Statements.{read_of}
+use Rattle.kp_width.specs.{Names.sense, Statements.read_of}
 use Rattle.kp_machine.specs.Slots.{targets_of, width_of as width_of_slot}
 use Rattle.kp_machine.specs.Trees as trees
 use Rattle.kp_pipeline.specs.Sequential.{PendingGuess}
-use Rattle.kp_net.specs.declared.node.NodeId.{NodeId}
-use Rattle.kp_net.specs.Nodes.{Cells, word_at, at, on}
-use Rattle.kp_net.specs.Growth.{Held, Wire, Kept}
-use Rattle.kp_net.proofs.Growing.{wire_kept, kept_then}
-use Rattle.kp_net.proofs.Values.{word_is}
-use Rattle.kp_synth_registers.specs.declared.outcome.Made.{Made}
-use Rattle.kp_synth_tables.specs.declared.key.GuessSlot.{GuessSlot}
-use Rattle.kp_synth_tables.specs.Keys.{target_at, guess_slot, with_read}
-use Rattle.kp_synth_registers.specs.Holding.{pending_guess}
-use Rattle.kp_synth_registers.specs.Meaning.{made_values, guess_value, MadeFit}
-use Rattle.kp_synth_stage.specs.declared.row.Source.{Source}
-use Rattle.kp_synth_stage.specs.declared.row.Answer.{Answer}
-use Rattle.kp_synth_stage.specs.declared.work.Work.{Work}
-use Rattle.kp_synth_stage.specs.Rows.{SourcesOk}
+use Rattle.kp_net.specs.{declared.node.NodeId.NodeId, Nodes.Cells, Nodes.word_at, Nodes.at, Nodes.on, Growth.Held, Growth.Wire, Growth.Kept}
+use Rattle.kp_net.proofs.{Growing.wire_kept, Growing.kept_then, Values.word_is}
+use Rattle.kp_synth_registers.specs.{declared.outcome.Made.Made, Holding.pending_guess, Meaning.made_values, Meaning.guess_value, Meaning.MadeFit}
+use Rattle.kp_synth_tables.specs.{declared.key.GuessSlot.GuessSlot, Keys.target_at, Keys.guess_slot, Keys.with_read}
+use Rattle.kp_synth_stage.specs.{declared.row.Source.Source, declared.row.Answer.Answer, declared.work.Work.Work, Rows.SourcesOk}
 use Rattle.kp_synth_stage.specs.inner.Doing.{after_stmt, target_of, miss_of, hazard_of, guess_of, read_value, read_lacks}
-use Rattle.kp_synth_stage.specs.inner.Scopes.{scope_at, Bound}
-use Rattle.kp_synth_stage.specs.inner.Standing.{slots_at, WorkOk, Stands, StandsAt, GoesBy}
+use Rattle.kp_synth_stage.specs.inner.{Scopes.scope_at, Scopes.Bound, Standing.slots_at, Standing.WorkOk, Standing.Stands, Standing.StandsAt, Standing.GoesBy}
+use Rattle.kp_synth_stage.specs.inner.{Statements.GuessOk, Statements.ReadGives, Statements.made_of, Reading.value_or_zero}
 use Rattle.kp_synth_stage.specs.inner.Standing as work
-use Rattle.kp_synth_stage.specs.inner.Statements.{GuessOk, ReadGives, made_of}
-use Rattle.kp_synth_stage.specs.inner.Reading.{value_or_zero}
 use Rattle.kp_synth_stage.proofs.Binding.{bound_kept, bound_more, names_kept, names_more, fits_kept, means_kept, env_with, own_slots, made_more, made_values_more}
-use Rattle.kp_synth_stage.proofs.Steps.{slots_of, slot_width}
-use Rattle.kp_synth_stage.proofs.Taking.{ReadRight, guess_kept}
+use Rattle.kp_synth_stage.proofs.{Steps.slots_of, Steps.slot_width, Taking.ReadRight, Taking.guess_kept}
 
 source_in : (xs : List Source) (t : ℕ) → t < length xs → (s : Source) × (slice_get xs t ≡ Some s)
 source_in [] t h = absurd (omega arith)

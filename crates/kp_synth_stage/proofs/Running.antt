@@ -1,14 +1,9 @@
 -- A stage runs by executing its statements in order.
 use Rattle.std.proofs.Common.{◌≡◌, ◌∙◌, ℕ, Bool, true, false, cond, ◌||◌, List, [], ◌∷◌, ◌++◌, Option, Some, None, refl, sym, ap}
 use Rattle.std.proofs.lemmas.List.{append_assoc, append-nil}
-use Rattle.kp_ast.specs.declared.tree.Expr.{Expr}
-use Rattle.kp_ast.specs.declared.tree.ReadStmt.{ReadStmt}
-use Rattle.kp_ast.specs.declared.tree.Decl.{Decl}
-use Rattle.kp_ast.specs.declared.tree.Stmt.{Stmt}
-use Rattle.kp_ast.specs.declared.tree.StmtKind.{StmtKind}
+use Rattle.kp_ast.specs.declared.tree.{Expr.Expr, ReadStmt.ReadStmt, Decl.Decl, Stmt.Stmt, StmtKind.StmtKind}
 use Rattle.kp_ast.specs.declared.tree.StmtKind.TheVariants as stmts
-use Rattle.kp_pipeline.specs.Machine.{Tree}
-use Rattle.kp_pipeline.specs.Sequential.{StageOutcome, PendingGuess, after_read, after_guess, run}
+use Rattle.kp_pipeline.specs.{Machine.Tree, Sequential.StageOutcome, Sequential.PendingGuess, Sequential.after_read, Sequential.after_guess, Sequential.run}
 use Rattle.kp_machine.specs.Slots.{result_named}
 use Rattle.kp_machine.specs.Trees.{Progress, holds, value_of, with_name, with_set, word_read, read_of, statement_of, tree_of}
 use Rattle.kp_synth_stage.specs.inner.Reading.{given, lacks}

@@ -1,31 +1,18 @@
 -- A statement of a job that violates no rule: what is in scope before it and after it, and which rules it satisfies.
 use Rattle.std.proofs.Common.{◌≡◌, ◌∙◌, ℕ, zero, suc, ◌+◌, List, [], ◌∷◌, take, Option, Some, None, true, refl, ap, sym, subst, arith}
 use Rattle.std.specs.Prelude.{slice_get}
-use Rattle.kp_base.specs.Refusal.{e_rule}
-use Rattle.kp_base.specs.First.{first}
-use Rattle.kp_base.specs.Check.{ok, ◌>>=◌}
-use Rattle.kp_ast.specs.declared.tree.Decl.{Decl}
-use Rattle.kp_ast.specs.declared.tree.Stmt.{Stmt}
-use Rattle.kp_ast.specs.declared.tree.StmtKind.{StmtKind}
+use Rattle.kp_base.specs.{Refusal.e_rule, First.first, Check.ok, Check.◌>>=◌}
+use Rattle.kp_ast.specs.declared.tree.{Decl.Decl, Stmt.Stmt, StmtKind.StmtKind, Block.Block, Job.Job}
 use Rattle.kp_ast.specs.declared.tree.StmtKind.TheVariants as stmts
-use Rattle.kp_ast.specs.declared.tree.Block.{Block}
-use Rattle.kp_ast.specs.declared.tree.Job.{Job}
 use Rattle.kp_ast.specs.declared.widths.Scope.TheVariants as scopes
-use Rattle.kp_width.specs.Names.{Sense, Scoped, nothing, look_up, opened}
-use Rattle.kp_width.specs.Declarations.{declarations_of}
-use Rattle.kp_width.specs.Statements.{statement_of, statements_of, blocks_of}
-use Rattle.kp_width.specs.Widths.{widths_of}
-use Rattle.kp_width.proofs.Unbroken.{Unbroken, bind_unbroken}
-use Rattle.kp_width.proofs.Calls.{pushed}
-use Rattle.kp_stage.specs.Facts.{Facts, facts_of, stmts_in}
-use Rattle.kp_stage.specs.declared.rules.Rule.{Rule}
-use Rattle.kp_stage.specs.Rules.{ask_values, ask_stmt, may_guess, broken_by}
-use Rattle.kp_stage.specs.Stages.{broken_of}
-use Rattle.kp_stage.proofs.Unbroken.{answer_none}
-use Rattle.kp_stage.proofs.Kept.{rules_kept, stmt_kept}
+use Rattle.kp_width.specs.{Names.Sense, Names.Scoped, Names.nothing, Names.look_up, Names.opened, Declarations.declarations_of}
+use Rattle.kp_width.specs.{Statements.statement_of, Statements.statements_of, Statements.blocks_of, Widths.widths_of}
+use Rattle.kp_width.proofs.{Unbroken.Unbroken, Unbroken.bind_unbroken, Calls.pushed}
+use Rattle.kp_stage.specs.{Facts.Facts, Facts.facts_of, Facts.stmts_in, declared.rules.Rule.Rule}
+use Rattle.kp_stage.specs.{Rules.ask_values, Rules.ask_stmt, Rules.may_guess, Rules.broken_by, Stages.broken_of}
+use Rattle.kp_stage.proofs.{Unbroken.answer_none, Kept.rules_kept, Kept.stmt_kept}
 use Rattle.kp_machine.proofs.Text.{is_local}
-use Rattle.kp_synth_stage.specs.Work.{stmts_at}
-use Rattle.kp_synth_stage.specs.inner.Scopes.{declared, opened_at, scope_at}
+use Rattle.kp_synth_stage.specs.{Work.stmts_at, inner.Scopes.declared, inner.Scopes.opened_at, inner.Scopes.scope_at}
 
 -- the statement at an index violates no rule of names and widths, and leads to the scope of the next
 stmt_right : (ds : List Decl) (s : Scoped) (xs : List Stmt) (j : ℕ) (x : Stmt) → Unbroken (statements_of ds s xs) → slice_get xs j ≡ Some x

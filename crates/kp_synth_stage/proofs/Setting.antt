@@ -1,58 +1,35 @@
 -- A set: which rules it satisfies, and the state of the stage after it.
 use Rattle.std.proofs.Common.{◌≡◌, ◌∙◌, ℕ, suc, ◌+◌, ◌<◌, List, length, get_or, set, Option, Some, None, Bool, true, false, cond, refl, ap, sym, subst, arith, get_or-set_same, get_or-set_other}
-use Rattle.std.specs.Prelude.{is_some, ◌==◌}
-use Rattle.std.specs.Vec.{with_item}
-use Rattle.std.specs.Option.{option_map}
-use Rattle.std.proofs.lemmas.List.{length-set}
-use Rattle.std.proofs.lemmas.Bool.{eqb-true, eqb-false}
+use Rattle.std.proofs.lemmas.{List.length-set, Bool.eqb-true, Bool.eqb-false}
+use Rattle.std.specs.{Prelude.is_some, Prelude.◌==◌, Vec.with_item, Option.option_map}
 use Rattle.kp_base.specs.Check.{ok, ◌>>=◌}
 use Rattle.kp_bits.specs.Word.{Word}
-use Rattle.kp_ast.specs.declared.tree.Expr.{Expr}
+use Rattle.kp_ast.specs.declared.tree.{Expr.Expr, ResultDecl.ResultDecl, Job.Job}
 use Rattle.kp_ast.specs.declared.tree.Named as tree
-use Rattle.kp_ast.specs.declared.tree.ResultDecl.{ResultDecl}
 use Rattle.kp_ast.specs.declared.tree.StmtKind.TheVariants as stmts
-use Rattle.kp_ast.specs.declared.tree.Job.{Job}
-use Rattle.kp_width.specs.Names.{Sense, nothing, find, look_up, used, is_result}
-use Rattle.kp_width.specs.Expressions.{value_of, part_of}
-use Rattle.kp_width.specs.Declarations.{address_width}
-use Rattle.kp_width.specs.Statements.{given, when_of}
-use Rattle.kp_width.specs.Widths.{widths_of}
-use Rattle.kp_width.proofs.Unbroken.{Unbroken, bind_unbroken}
-use Rattle.kp_width.proofs.Found.{none_of_two}
-use Rattle.kp_width.proofs.Parts.{given_parts}
-use Rattle.kp_stage.specs.Facts.{facts_of}
-use Rattle.kp_stage.specs.declared.rules.Rule.{Rule}
-use Rattle.kp_stage.specs.Rules.{ask_expr, ask_option}
+use Rattle.kp_width.specs.{Names.Sense, Names.nothing, Names.find, Names.look_up, Names.used, Names.is_result, Expressions.value_of, Expressions.part_of}
+use Rattle.kp_width.specs.{Declarations.address_width, Statements.given, Statements.when_of, Widths.widths_of}
+use Rattle.kp_width.proofs.{Unbroken.Unbroken, Unbroken.bind_unbroken, Found.none_of_two, Parts.given_parts}
+use Rattle.kp_stage.specs.{Facts.facts_of, declared.rules.Rule.Rule, Rules.ask_expr, Rules.ask_option}
 use Rattle.kp_machine.specs.Slots.{targets_of, number_of, result_named}
 use Rattle.kp_machine.specs.Trees as trees
-use Rattle.kp_machine.proofs.Results.{named_stands}
-use Rattle.kp_pipeline.specs.Sequential.{first_value}
-use Rattle.kp_machine.proofs.Scopes.{IsSlot, results_fit, found_sense, storage_kind}
-use Rattle.kp_machine.proofs.Cases.{by_test}
+use Rattle.kp_machine.proofs.{Results.named_stands, Scopes.IsSlot, Scopes.results_fit, Scopes.found_sense, Scopes.storage_kind, Cases.by_test}
 use Rattle.kp_machine.proofs.Text.{local_no, found_where, declared_right}
-use Rattle.kp_net.specs.declared.node.NodeId.{NodeId}
-use Rattle.kp_net.specs.Nodes.{Cells, at, on}
-use Rattle.kp_net.specs.Widths.{AllRight}
-use Rattle.kp_net.specs.Growth.{Held, Wire, Kept}
+use Rattle.kp_pipeline.specs.Sequential.{first_value}
+use Rattle.kp_net.specs.{declared.node.NodeId.NodeId, Nodes.Cells, Nodes.at, Nodes.on, Widths.AllRight, Growth.Held, Growth.Wire, Growth.Kept}
 use Rattle.kp_net.proofs.Growing.{wire_kept, kept_then}
 use Rattle.kp_fwd.specs.Forward.{BitOk, enable_on}
 use Rattle.kp_build.specs.Names.{Gives}
-use Rattle.kp_synth_registers.specs.declared.outcome.Set.{Set}
+use Rattle.kp_synth_registers.specs.{declared.outcome.Set.Set, Holding.optional, Meaning.SetFits, Meaning.set_value}
 use Rattle.kp_synth_tables.specs.Keys.{target_at}
-use Rattle.kp_synth_registers.specs.Holding.{optional}
-use Rattle.kp_synth_registers.specs.Meaning.{SetFits, set_value}
 use Rattle.kp_synth_registers.proofs.Growth.{set_kept, set_fits}
-use Rattle.kp_synth_stage.specs.declared.row.Source.{Source}
-use Rattle.kp_synth_stage.specs.declared.work.Work.{Work}
-use Rattle.kp_synth_stage.specs.inner.Scopes.{scope_at, Bound}
+use Rattle.kp_synth_stage.specs.{declared.row.Source.Source, declared.work.Work.Work, inner.Scopes.scope_at, inner.Scopes.Bound}
 use Rattle.kp_synth_stage.specs.inner.Standing.{slots_at, WorkOk, Stands, StandsAt, GoesBy}
-use Rattle.kp_synth_stage.specs.inner.Standing as work
 use Rattle.kp_synth_stage.specs.inner.Statements.{width_in, OptionRight, OptionWire, OptionGives, target_named}
+use Rattle.kp_synth_stage.specs.inner.Standing as work
 use Rattle.kp_synth_stage.specs.inner.Statements as statements
-use Rattle.kp_synth_stage.proofs.Scoping.{IsRight, scope_locals}
-use Rattle.kp_synth_stage.proofs.Expressions.{plain_found, gives_is, placed_in}
-use Rattle.kp_synth_stage.proofs.Binding.{bound_kept, names_kept}
-use Rattle.kp_synth_stage.proofs.Steps.{fits_next, means_next, slot_width, text_sense, at_is}
+use Rattle.kp_synth_stage.proofs.{Scoping.IsRight, Scoping.scope_locals, Expressions.plain_found, Expressions.gives_is, Expressions.placed_in}
+use Rattle.kp_synth_stage.proofs.{Binding.bound_kept, Binding.names_kept, Steps.fits_next, Steps.means_next, Steps.slot_width, Steps.text_sense, Steps.at_is}
 use Rattle.kp_synth_stage.proofs.Taking.{HasWidths, bit_of, when_means, when_right}
 
 -- the rules that a set keeps

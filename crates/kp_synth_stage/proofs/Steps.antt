@@ -1,45 +1,27 @@
 -- What each statement does to the nodes of a stage.
 use Rattle.std.proofs.Common.{◌≡◌, ◌∙◌, ℕ, suc, ◌<◌, List, [], ◌∷◌, ◌++◌, length, get_or, set, Option, Some, None, cond, not, refl, ap, sym, subst, arith, get_or-set_same, get_or-set_other}
-use Rattle.std.specs.Prelude.{is_some, ◌==◌}
-use Rattle.std.specs.Vec.{with_item}
-use Rattle.std.proofs.lemmas.List.{append-nil, length-set}
-use Rattle.std.proofs.lemmas.Bool.{eqb-true, eqb-false}
-use Rattle.kp_base.specs.Check.{ok, ◌>>=◌}
-use Rattle.kp_base.specs.Refusal.{e_rule}
+use Rattle.std.proofs.lemmas.{List.append-nil, List.length-set, Bool.eqb-true, Bool.eqb-false}
+use Rattle.std.specs.{Prelude.is_some, Prelude.◌==◌, Vec.with_item}
+use Rattle.kp_base.specs.{Check.ok, Check.◌>>=◌, Refusal.e_rule}
 use Rattle.kp_bits.specs.Word.{Word}
-use Rattle.kp_ast.specs.Expressions.{is_same_name}
-use Rattle.kp_ast.specs.declared.tree.Expr.{Expr}
+use Rattle.kp_ast.specs.{Expressions.is_same_name, declared.tree.Expr.Expr, declared.tree.StmtKind.StmtKind, declared.tree.Job.Job}
 use Rattle.kp_ast.specs.declared.tree.Named as tree
-use Rattle.kp_ast.specs.declared.tree.StmtKind.{StmtKind}
 use Rattle.kp_ast.specs.declared.tree.StmtKind.TheVariants as stmts
-use Rattle.kp_ast.specs.declared.tree.Job.{Job}
 use Rattle.kp_ast.specs.declared.widths.NameKind.TheVariants as kinds
 use Rattle.kp_width.specs.Names.{Sense, sense, Names, find, look_up, used, is_pipe, is_hint, declared_local}
-use Rattle.kp_width.specs.Expressions.{width_of, value_of, part_of}
-use Rattle.kp_width.specs.Statements.{given}
-use Rattle.kp_width.proofs.Parts.{given_parts}
-use Rattle.kp_width.specs.Widths.{widths_of}
-use Rattle.kp_width.proofs.Unbroken.{Unbroken, bind_unbroken, answer_unbroken}
+use Rattle.kp_width.specs.{Expressions.width_of, Expressions.value_of, Expressions.part_of, Statements.given, Widths.widths_of}
+use Rattle.kp_width.proofs.{Parts.given_parts, Unbroken.Unbroken, Unbroken.bind_unbroken, Unbroken.answer_unbroken}
 use Rattle.kp_stage.specs.Stages.{broken_of}
 use Rattle.kp_machine.specs.Slots.{Slot, pipes_of, hints_of, number_of, width_of as width_of_slot}
 use Rattle.kp_machine.specs.Trees as trees
-use Rattle.kp_machine.proofs.Scopes.{fresh_none, found_sense, IsSlot, Placed}
-use Rattle.kp_machine.proofs.Cases.{by_test}
-use Rattle.kp_machine.proofs.Text.{local_no, found_where}
-use Rattle.kp_net.specs.declared.node.NodeId.{NodeId}
-use Rattle.kp_net.specs.Nodes.{Cells, word_at, at}
-use Rattle.kp_net.specs.Widths.{AllRight}
-use Rattle.kp_net.specs.Growth.{Held, Wire, Kept}
+use Rattle.kp_machine.proofs.{Scopes.fresh_none, Scopes.found_sense, Scopes.IsSlot, Scopes.Placed, Cases.by_test, Text.local_no, Text.found_where}
+use Rattle.kp_net.specs.{declared.node.NodeId.NodeId, Nodes.Cells, Nodes.word_at, Nodes.at, Widths.AllRight, Growth.Held, Growth.Wire, Growth.Kept}
 use Rattle.kp_build.specs.Names.{Scope, Gives}
 use Rattle.kp_synth_tables.specs.Keys.{no_slot, pipe_at, hint_at}
 use Rattle.kp_synth_registers.specs.Meaning.{put_value, PutFits}
-use Rattle.kp_synth_stage.specs.declared.row.Source.{Source}
-use Rattle.kp_synth_stage.specs.declared.work.Work.{Work}
-use Rattle.kp_synth_stage.specs.inner.Doing.{Doing, after_stmt, outcome_of}
-use Rattle.kp_synth_stage.specs.Work.{Fits, Means}
-use Rattle.kp_synth_stage.specs.inner.Scopes.{scope_at, Bound}
-use Rattle.kp_synth_stage.specs.inner.Standing.{slots_at, WorkOk, Stands, StandsAt, GoesBy}
-use Rattle.kp_synth_stage.specs.inner.Statements.{width_in}
+use Rattle.kp_synth_stage.specs.{declared.row.Source.Source, declared.work.Work.Work, inner.Doing.Doing, inner.Doing.after_stmt, inner.Doing.outcome_of}
+use Rattle.kp_synth_stage.specs.{Work.Fits, Work.Means, inner.Scopes.scope_at, inner.Scopes.Bound}
+use Rattle.kp_synth_stage.specs.inner.{Standing.slots_at, Standing.WorkOk, Standing.Stands, Standing.StandsAt, Standing.GoesBy, Statements.width_in}
 use Rattle.kp_synth_stage.specs.inner.Statements as statements
 use Rattle.kp_synth_stage.specs.inner.Standing as work
 use Rattle.kp_synth_stage.proofs.Scoping.{IsRight, is_right, scope_text, scope_locals}

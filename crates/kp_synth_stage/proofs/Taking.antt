@@ -1,54 +1,36 @@
 -- A read: which rules it keeps, and what its nodes mean.
 use Rattle.std.proofs.Common.{◌≡◌, ◌∙◌, ℕ, suc, ◌+◌, ◌<◌, ◌^◌, List, [], ◌∷◌, length, get_or, Option, Some, None, Bool, true, cond, not, ◌||◌, ◌&&◌, refl, ap, sym, subst, arith}
-use Rattle.std.specs.Prelude.{slice_get, is_some, ◌==◌}
 use Rattle.std.proofs.lemmas.Bool.{eqb-true}
-use Rattle.kp_base.specs.Check.{ok, ◌>>=◌, wants}
-use Rattle.kp_base.specs.Refusal.{e_rule}
+use Rattle.std.specs.Prelude.{slice_get, is_some, ◌==◌}
+use Rattle.kp_base.specs.{Check.ok, Check.◌>>=◌, Check.wants, Refusal.e_rule}
 use Rattle.kp_bits.specs.Word.{Word}
-use Rattle.kp_ast.specs.Expressions.{is_same_name}
-use Rattle.kp_ast.specs.declared.tree.Expr.{Expr}
-use Rattle.kp_ast.specs.declared.tree.ReadStmt.{ReadStmt}
-use Rattle.kp_ast.specs.declared.tree.StmtKind.TheVariants as stmts
-use Rattle.kp_ast.specs.declared.tree.Job.{Job}
+use Rattle.kp_ast.specs.{Expressions.is_same_name, declared.tree.Expr.Expr, declared.tree.ReadStmt.ReadStmt, declared.tree.Job.Job}
 use Rattle.kp_ast.specs.declared.widths.NameKind.{NameKind}
+use Rattle.kp_ast.specs.declared.tree.StmtKind.TheVariants as stmts
 use Rattle.kp_ast.specs.declared.widths.NameKind.TheVariants as kinds
 use Rattle.kp_width.specs.Names.{Sense, sense, Scoped, find, is_register, is_file, passed, declared_local}
 use Rattle.kp_width.specs.Expressions.{width_of, value_of, part_of}
 use Rattle.kp_width.specs.Declarations.{kept, storage_of, address_width}
-use Rattle.kp_width.specs.Statements.{when_of, address_of, read_of}
-use Rattle.kp_width.specs.Widths.{widths_of}
-use Rattle.kp_width.proofs.Unbroken.{Unbroken, bind_unbroken, answer_unbroken}
-use Rattle.kp_width.proofs.Found.{none_of_two}
-use Rattle.kp_width.proofs.Parts.{given_parts}
-use Rattle.kp_stage.specs.Facts.{facts_of}
-use Rattle.kp_stage.specs.declared.rules.Rule.{Rule}
-use Rattle.kp_stage.specs.Rules.{ask_option}
-use Rattle.kp_machine.specs.Slots.{Slot, targets_of, number_of}
-use Rattle.kp_machine.specs.Trees.{Progress}
+use Rattle.kp_width.specs.{Statements.when_of, Statements.address_of, Statements.read_of, Widths.widths_of}
+use Rattle.kp_width.proofs.{Unbroken.Unbroken, Unbroken.bind_unbroken, Unbroken.answer_unbroken, Found.none_of_two, Parts.given_parts}
+use Rattle.kp_stage.specs.{Facts.facts_of, declared.rules.Rule.Rule, Rules.ask_option}
+use Rattle.kp_machine.specs.{Slots.Slot, Slots.targets_of, Slots.number_of, Trees.Progress}
 use Rattle.kp_machine.specs.Trees as trees
-use Rattle.kp_machine.proofs.Scopes.{IsSlot, addresses, fresh_none, found_sense, storage_kind}
-use Rattle.kp_machine.proofs.Cases.{by_test}
+use Rattle.kp_machine.proofs.{Scopes.IsSlot, Scopes.addresses, Scopes.fresh_none, Scopes.found_sense, Scopes.storage_kind, Cases.by_test}
 use Rattle.kp_machine.proofs.Text.{local_no, found_where}
-use Rattle.kp_net.specs.declared.node.NodeId.{NodeId}
-use Rattle.kp_net.specs.Nodes.{Cells, at, on}
-use Rattle.kp_net.specs.Widths.{AllRight}
-use Rattle.kp_net.specs.Growth.{Held, Wire, Kept}
-use Rattle.kp_net.proofs.Growing.{wire_kept, kept_then}
-use Rattle.kp_net.proofs.Values.{at_fits}
+use Rattle.kp_net.specs.{declared.node.NodeId.NodeId, Nodes.Cells, Nodes.at, Nodes.on, Widths.AllRight, Growth.Held, Growth.Wire, Growth.Kept}
+use Rattle.kp_net.proofs.{Growing.wire_kept, Growing.kept_then, Values.at_fits}
 use Rattle.kp_fwd.specs.Forward.{BitOk, enable_on}
 use Rattle.kp_build.specs.Names.{Scope}
 use Rattle.kp_synth_tables.specs.Keys.{no_slot, target_at}
 use Rattle.kp_synth_registers.specs.Meaning.{PutFits}
-use Rattle.kp_synth_stage.specs.declared.row.Source.{Source}
-use Rattle.kp_synth_stage.specs.declared.row.Answer.{Answer}
+use Rattle.kp_synth_stage.specs.declared.row.{Source.Source, Answer.Answer}
 use Rattle.kp_synth_stage.specs.Rows.{asked, source_view, view_of, SourceOk, SourcesOk, Sees, AskOk}
-use Rattle.kp_synth_stage.specs.inner.Reading.{given, lacks, value_or_zero}
-use Rattle.kp_synth_stage.specs.inner.Doing.{target_of, address_read, truth_of, miss_of}
+use Rattle.kp_synth_stage.specs.inner.{Reading.given, Reading.lacks, Reading.value_or_zero, Doing.target_of, Doing.address_read, Doing.truth_of, Doing.miss_of}
 use Rattle.kp_synth_stage.specs.inner.Scopes.{scope_at, Bound}
-use Rattle.kp_synth_stage.specs.inner.Standing as work
 use Rattle.kp_synth_stage.specs.inner.Statements.{width_in, OptionRight, OptionWire, OptionGives, GuessOk, ReadGives}
-use Rattle.kp_synth_stage.proofs.Scoping.{IsRight, scope_locals}
-use Rattle.kp_synth_stage.proofs.Expressions.{plain_found, hinted_found, gives_is}
+use Rattle.kp_synth_stage.specs.inner.Standing as work
+use Rattle.kp_synth_stage.proofs.{Scoping.IsRight, Scoping.scope_locals, Expressions.plain_found, Expressions.hinted_found, Expressions.gives_is}
 use Rattle.kp_synth_stage.proofs.Binding.{bound_kept, names_kept}
 use Rattle.kp_synth_stage.proofs.Nearest.{ask_kept, ask_inside, asked_kept, source_kept, sees_kept, orzero_kept}
 use Rattle.kp_synth_stage.proofs.Steps.{slot_width, text_sense, at_value, at_is}

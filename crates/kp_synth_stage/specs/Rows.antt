@@ -1,18 +1,12 @@
 -- WHAT THE NODES OF THE STAGES ABOVE MEAN for a read.
 use Rattle.std.specs.Prelude.{Bool, List, None, Option, Some, [], false, if◌then◌else◌, length, not, slice_get, true, ℕ, ◌%◌, ◌&&◌, ◌+◌, ◌<◌, ◌==◌, ◌^◌, ◌||◌, ◌∷◌, ◌≡◌, ◌≤◌}
 use Rattle.kp_ast.specs.declared.tree.Job.{Job}
-use Rattle.kp_machine.specs.Machine.{files_before}
-use Rattle.kp_machine.specs.Slots.{is_register, targets_of}
-use Rattle.kp_net.specs.Growth.{Held, Wire}
-use Rattle.kp_net.specs.Nodes.{Cells, at, on}
-use Rattle.kp_net.specs.declared.node.NodeId.{NodeId}
+use Rattle.kp_machine.specs.{Machine.files_before, Slots.is_register, Slots.targets_of}
+use Rattle.kp_net.specs.{Growth.Held, Growth.Wire, Nodes.Cells, Nodes.at, Nodes.on, declared.node.NodeId.NodeId}
 use Rattle.kp_fwd.specs.Forward.{BitOk, enable_on}
 use Rattle.kp_synth_tables.specs.Keys.{target_at}
 use Rattle.kp_synth_registers.specs.Holding.{optional}
-use Rattle.kp_synth_stage.specs.declared.row.Own.{Own}
-use Rattle.kp_synth_stage.specs.declared.row.Own.TheVariants.{File, Register}
-use Rattle.kp_synth_stage.specs.declared.row.Row.{Row}
-use Rattle.kp_synth_stage.specs.declared.row.Source.{Source}
+use Rattle.kp_synth_stage.specs.declared.row.{Own.Own, Own.TheVariants.File, Own.TheVariants.Register, Row.Row, Source.Source}
 
 -- the address of a read: a register is read at address 0
 abbrev pub asked : Cells → Held → Option NodeId → ℕ

@@ -1,23 +1,13 @@
 -- WHAT THE NODES OF A STAGE MEAN.
 use Rattle.std.specs.Prelude.{List, None, Option, get_or, length, slice_get, sum_by, ℕ, ◌*◌, ◌+◌, ◌<◌, ◌≡◌}
-use Rattle.kp_ast.specs.declared.tree.Job.{Job}
-use Rattle.kp_ast.specs.declared.tree.Stmt.{Stmt}
-use Rattle.kp_ast.specs.declared.tree.StmtKind.{StmtKind}
-use Rattle.kp_stage.specs.Facts.{stmts_in}
-use Rattle.kp_stage.specs.Sizes.{size_of_kind}
+use Rattle.kp_ast.specs.declared.tree.{Job.Job, Stmt.Stmt, StmtKind.StmtKind}
+use Rattle.kp_stage.specs.{Facts.stmts_in, Sizes.size_of_kind}
 use Rattle.kp_pipeline.specs.Sequential.{StageOutcome, run}
-use Rattle.kp_machine.specs.Machine.{stage_tree}
-use Rattle.kp_machine.specs.Slots.{Slot, hints_of, pipes_of, samples_of, targets_of}
-use Rattle.kp_net.specs.Growth.{Held, Wire}
-use Rattle.kp_net.specs.Nodes.{Cells, at, on}
-use Rattle.kp_net.specs.declared.node.NodeId.{NodeId}
-use Rattle.kp_synth_tables.specs.Keys.{hint_at, no_slot, pipe_at, target_at}
-use Rattle.kp_synth_tables.specs.declared.key.GuessSlot.{GuessSlot}
+use Rattle.kp_machine.specs.{Machine.stage_tree, Slots.Slot, Slots.hints_of, Slots.pipes_of, Slots.samples_of, Slots.targets_of}
+use Rattle.kp_net.specs.{Growth.Held, Growth.Wire, Nodes.Cells, Nodes.at, Nodes.on, declared.node.NodeId.NodeId}
+use Rattle.kp_synth_tables.specs.{Keys.hint_at, Keys.no_slot, Keys.pipe_at, Keys.target_at, declared.key.GuessSlot.GuessSlot}
 use Rattle.kp_synth_registers.specs.Meaning.{MadeFit, PutFits, SetFits, guesses_at, made_values, node_at, put_value, set_value}
-use Rattle.kp_synth_stage.specs.Rows.{Sees}
-use Rattle.kp_synth_stage.specs.declared.row.Source.{Source}
-use Rattle.kp_synth_stage.specs.declared.slots.Slots.{Slots}
-use Rattle.kp_synth_stage.specs.declared.work.Work.{Work}
+use Rattle.kp_synth_stage.specs.{Rows.Sees, declared.row.Source.Source, declared.slots.Slots.Slots, declared.work.Work.Work}
 use Rattle.kp_ast.specs.declared.tree.StmtKind.TheVariants as stmts
 
 -- the statements of stage k

@@ -1,18 +1,13 @@
 -- No two targets of a job that violates no rule have the same name.
 use Rattle.std.proofs.Common.{◌≡◌, ◌∙◌, ℕ, zero, suc, ◌+◌, ◌<◌, List, [], ◌∷◌, Some, None, false, length, get_or, ap, sym, arith}
 use Rattle.std.proofs.lemmas.Bool.{false_from_ne_true}
-use Rattle.kp_ast.specs.Expressions.{is_same_name}
-use Rattle.kp_ast.specs.declared.tree.Decl.{Decl}
+use Rattle.kp_ast.specs.{Expressions.is_same_name, declared.tree.Decl.Decl, declared.tree.Job.Job}
 use Rattle.kp_ast.specs.declared.tree.Decl.TheVariants as decls
-use Rattle.kp_ast.specs.declared.tree.Job.{Job}
 use Rattle.kp_width.specs.Names.{Sense, Scoped, nothing, look_up}
-use Rattle.kp_width.specs.Declarations.{name_of, declaration_of, declarations_of, functions_in}
-use Rattle.kp_width.specs.Widths.{widths_of}
+use Rattle.kp_width.specs.{Declarations.name_of, Declarations.declaration_of, Declarations.declarations_of, Declarations.functions_in, Widths.widths_of}
 use Rattle.kp_width.proofs.Unbroken.{Unbroken, bind_unbroken}
 use Rattle.kp_machine.specs.Slots.{targets_of}
-use Rattle.kp_machine.proofs.Names.{same_name}
-use Rattle.kp_machine.proofs.Scopes.{sense_of, stays, new_name, text_has}
-use Rattle.kp_machine.proofs.Text.{declared_right}
+use Rattle.kp_machine.proofs.{Names.same_name, Scopes.sense_of, Scopes.stays, Scopes.new_name, Scopes.text_has, Text.declared_right}
 use Rattle.kp_synth_tables.specs.Keys.{no_slot, target_at}
 
 module _ (ds : List Decl) where

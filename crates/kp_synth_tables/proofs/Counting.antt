@@ -1,14 +1,10 @@
 -- How many registers a job has, by the counts of its declarations and guesses.
 use Rattle.std.proofs.Common.{◌≡◌, ℕ, zero, suc, ◌+◌, ◌*◌, ◌<◌, ◌≤◌, List, [], ◌∷◌, ◌++◌, Option, Some, Bool, true, false, cond, ◌&&◌, eqb, length, length-append, refl, arith, ⊎_elim}
-use Rattle.std.specs.Prelude.{sum_by, is_some, nat_le}
-use Rattle.std.proofs.lemmas.Bool.{cond_both, cases_Bool, eqb-true, false_from_ne_true}
-use Rattle.std.proofs.Math.Nat.{suc-mul}
+use Rattle.std.proofs.{lemmas.Bool.cond_both, lemmas.Bool.cases_Bool, lemmas.Bool.eqb-true, lemmas.Bool.false_from_ne_true, Math.Nat.suc-mul}
 use Rattle.std.proofs.lemmas.List.Sums.{sum_by-cons}
-use Rattle.kp_ast.specs.declared.tree.ResultDecl.{ResultDecl}
-use Rattle.kp_ast.specs.declared.tree.Decl.{Decl}
+use Rattle.std.specs.Prelude.{sum_by, is_some, nat_le}
+use Rattle.kp_ast.specs.declared.tree.{ResultDecl.ResultDecl, Decl.Decl, Block.Block, Job.Job}
 use Rattle.kp_ast.specs.declared.tree.Decl.TheVariants as decls
-use Rattle.kp_ast.specs.declared.tree.Block.{Block}
-use Rattle.kp_ast.specs.declared.tree.Job.{Job}
 use Rattle.kp_stage.specs.Counts.{regs_in, files_in, pipes_in, results_in, hints_in}
 use Rattle.kp_stage.specs.Counts as counts
 use Rattle.kp_machine.specs.Slots.{Slot, targets_of, pipes_of, hints_of, number_of, result_to}

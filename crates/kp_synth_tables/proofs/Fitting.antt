@@ -1,55 +1,35 @@
 -- A job that violates no rule fits: what the rules guarantee about its widths, its results, its guesses and its hints.
 use Rattle.std.proofs.Common.{◌≡◌, ◌∙◌, ℕ, zero, suc, ◌+◌, ◌<◌, ◌≤◌, List, [], ◌∷◌, Option, Some, None, Bool, true, false, cond, not, ◌&&◌, ◌||◌, length, get_or, refl, ap, sym, subst, arith}
-use Rattle.std.specs.Prelude.{is_some, slice_get, nat_lt, nat_le}
-use Rattle.std.specs.List.{AllByRecursion}
 use Rattle.std.proofs.lemmas.Bool.{and_parts, ltb-true, leb-true, eqb-true, eq-eqb, false_from_ne_true}
-use Rattle.kp_base.specs.First.{first}
-use Rattle.kp_base.specs.Check.{ok, ◌>>=◌}
-use Rattle.kp_base.specs.Refusal.{e_rule}
-use Rattle.kp_ast.specs.Expressions.{is_same_name}
-use Rattle.kp_ast.specs.declared.tree.Named.{Named}
-use Rattle.kp_ast.specs.declared.tree.Num.{Num}
-use Rattle.kp_ast.specs.declared.tree.Lit.{Lit}
-use Rattle.kp_ast.specs.declared.tree.Expr.{Expr}
-use Rattle.kp_ast.specs.declared.tree.ReadStmt.{ReadStmt}
-use Rattle.kp_ast.specs.declared.tree.ResultDecl.{ResultDecl}
-use Rattle.kp_ast.specs.declared.tree.Decl.{Decl}
-use Rattle.kp_ast.specs.declared.tree.Decl.TheVariants as decls
-use Rattle.kp_ast.specs.declared.tree.Stmt.{Stmt}
-use Rattle.kp_ast.specs.declared.tree.StmtKind.{StmtKind}
-use Rattle.kp_ast.specs.declared.tree.StmtKind.TheVariants as stmts
-use Rattle.kp_ast.specs.declared.tree.Block.{Block}
-use Rattle.kp_ast.specs.declared.tree.Job.{Job}
+use Rattle.std.specs.{Prelude.is_some, Prelude.slice_get, Prelude.nat_lt, Prelude.nat_le, List.AllByRecursion}
+use Rattle.kp_base.specs.{First.first, Check.ok, Check.◌>>=◌, Refusal.e_rule}
+use Rattle.kp_ast.specs.{Expressions.is_same_name, declared.tree.Named.Named, declared.tree.Num.Num, declared.tree.Lit.Lit, declared.tree.Expr.Expr}
+use Rattle.kp_ast.specs.declared.tree.{ReadStmt.ReadStmt, ResultDecl.ResultDecl, Decl.Decl, Stmt.Stmt, StmtKind.StmtKind, Block.Block, Job.Job}
 use Rattle.kp_ast.specs.declared.widths.NameKind.{NameKind}
+use Rattle.kp_ast.specs.declared.tree.Decl.TheVariants as decls
+use Rattle.kp_ast.specs.declared.tree.StmtKind.TheVariants as stmts
 use Rattle.kp_ast.specs.declared.widths.NameKind.TheVariants as kinds
 use Rattle.kp_width.specs.Names.{Sense, sense, Names, Scoped, nothing, look_up, find, declared_text}
-use Rattle.kp_width.specs.Names as names
 use Rattle.kp_width.specs.Expressions.{is_width}
 use Rattle.kp_width.specs.Declarations.{declared, start_of, started_of, addresses_of, address_width, name_of, after_name, declaration_of, declarations_of, functions_in}
 use Rattle.kp_width.specs.Widths.{widths_of}
+use Rattle.kp_width.specs.Names as names
 use Rattle.kp_width.proofs.Unbroken.{Unbroken, bind_unbroken, answer_unbroken}
 use Rattle.kp_stage.specs.Facts.{At, Facts, facts_of, stmts_in, aim_at, aims_in, aims_of}
-use Rattle.kp_stage.specs.Rules.{holds_of, may_guess, ask_stmt, ask_stmts, all_rules}
-use Rattle.kp_stage.specs.Stages.{broken_of}
+use Rattle.kp_stage.specs.{Rules.holds_of, Rules.may_guess, Rules.ask_stmt, Rules.ask_stmts, Rules.all_rules, Stages.broken_of}
 use Rattle.kp_stage.proofs.Unbroken.{first_none, answer_none}
 use Rattle.kp_pipeline.proofs.Lists.{all-append}
 use Rattle.kp_machine.specs.Slots.{Slot, targets_of, pipes_of, hints_of, samples_of, number_of, width_of}
 use Rattle.kp_machine.specs.Machine.{machine_of, result_for, write_stage_of, stage_or_zero, aim_stage}
-use Rattle.kp_machine.proofs.Aims.{aims_inside}
-use Rattle.kp_machine.proofs.Names.{IsIn}
-use Rattle.kp_machine.proofs.Apart.{Apart, pipes_apart, samples_apart}
-use Rattle.kp_machine.proofs.Cases.{by_test}
-use Rattle.kp_machine.proofs.Placing.{result_placed, own, stands}
-use Rattle.kp_machine.proofs.Results.{written_by}
+use Rattle.kp_machine.proofs.{Aims.aims_inside, Names.IsIn, Apart.Apart, Apart.pipes_apart, Apart.samples_apart, Cases.by_test}
+use Rattle.kp_machine.proofs.{Placing.result_placed, Placing.own, Placing.stands, Results.written_by}
 use Rattle.kp_machine.proofs.Rules.{rules_kept, head_kept, decl_kept, stmts_kept}
-use Rattle.kp_machine.proofs.Scopes.{addresses, PipeFits, results_fit, storage_kind}
-use Rattle.kp_machine.proofs.Stages.{stages_inside}
+use Rattle.kp_machine.proofs.{Scopes.addresses, Scopes.PipeFits, Scopes.results_fit, Scopes.storage_kind, Stages.stages_inside}
 use Rattle.kp_machine.proofs.Text.{text, declared_right, placed}
-use Rattle.kp_synth_tables.specs.declared.key.GuessSlot.{GuessSlot}
 use Rattle.kp_synth_tables.specs.Keys.{no_slot, target_at, pipe_at, hint_at, sample_at, no_guess, guess_slot, with_read, with_guess, guesses_in, guesses_from, guesses_of, guess_at}
-use Rattle.kp_synth_tables.proofs.Lasting.{lasting}
-use Rattle.kp_synth_tables.proofs.Quiet.{no_put, no_set}
+use Rattle.kp_synth_tables.specs.declared.key.GuessSlot.{GuessSlot}
 use Rattle.kp_synth_tables.specs.Fits.{pipe_number, port_for, IsWidth, EnableFits, AddressFits, ResultFits, Fits}
+use Rattle.kp_synth_tables.proofs.{Lasting.lasting, Quiet.no_put, Quiet.no_set}
 
 -- a property of each entry of a list holds for the one at an index
 all_at : {X : Type 0} (P : X → Type 0) (xs : List X) (d : X) → AllByRecursion P xs → (i : ℕ) → i < length xs → P (get_or xs i d)

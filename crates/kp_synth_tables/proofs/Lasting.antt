@@ -1,23 +1,17 @@
 -- A pipe counts up to its last use alone.
 use Rattle.std.proofs.Common.{◌≡◌, ◌∙◌, ℕ, zero, suc, ◌+◌, ◌<◌, ◌≤◌, max, List, [], ◌∷◌, Option, Some, None, Bool, true, cond, eqb, ◌||◌, false, length, get_or, refl, ap, sym, subst, arith}
-use Rattle.std.specs.Prelude.{slice_get, is_some}
 use Rattle.std.proofs.lemmas.Bool.{cond-true, leb-true, le-leb}
-use Rattle.kp_ast.specs.Expressions.{is_same_name}
-use Rattle.kp_ast.specs.declared.tree.Named.{Named}
-use Rattle.kp_ast.specs.declared.tree.ResultDecl.{ResultDecl}
-use Rattle.kp_ast.specs.declared.tree.Decl.{Decl}
-use Rattle.kp_ast.specs.declared.tree.Decl.TheVariants as decls
+use Rattle.std.specs.Prelude.{slice_get, is_some}
+use Rattle.kp_ast.specs.{Expressions.is_same_name, declared.tree.Named.Named, declared.tree.ResultDecl.ResultDecl, declared.tree.Decl.Decl}
 use Rattle.kp_ast.specs.declared.tree.Job.{Job}
+use Rattle.kp_ast.specs.declared.tree.Decl.TheVariants as decls
 use Rattle.kp_width.specs.Widths.{widths_of}
 use Rattle.kp_width.proofs.Unbroken.{Unbroken}
 use Rattle.kp_pipeline.specs.Trimming.{trim, Alive}
 use Rattle.kp_machine.specs.Slots.{Slot, targets_of, pipes_of, number_of}
 use Rattle.kp_machine.specs.Machine.{machine_of, result_for, write_stage_of, is_enabled_by, address_by, enabled_of, address_in}
-use Rattle.kp_machine.proofs.Cases.{by_test}
-use Rattle.kp_machine.proofs.Names.{IsIn, is_same, same_name}
-use Rattle.kp_machine.proofs.Placing.{IsPipeIn, result_placed, stands}
-use Rattle.kp_synth_tables.specs.Spans.{is_called, last_use_in, last_write, last_use}
-use Rattle.kp_synth_tables.specs.Keys.{no_slot, pipe_at, is_alive}
+use Rattle.kp_machine.proofs.{Cases.by_test, Names.IsIn, Names.is_same, Names.same_name, Placing.IsPipeIn, Placing.result_placed, Placing.stands}
+use Rattle.kp_synth_tables.specs.{Spans.is_called, Spans.last_use_in, Spans.last_write, Spans.last_use, Keys.no_slot, Keys.pipe_at, Keys.is_alive}
 use Rattle.kp_synth_tables.proofs.Pipes.{write_more, own_pipes}
 
 -- the entry of a name has it

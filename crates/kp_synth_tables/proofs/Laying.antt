@@ -1,15 +1,9 @@
 -- The tables of a job that violates no rule are those that the constructor builds.
 use Rattle.std.proofs.Common.{◌≡◌, ◌∙◌, ℕ, suc, ◌+◌, ◌-◌, ◌<◌, ◌≤◌, List, ◌∷◌, ◌++◌, Option, Some, None, append_assoc, ap, sym, arith}
-use Rattle.kp_ast.specs.declared.tree.Expr.{Expr}
-use Rattle.kp_ast.specs.declared.tree.ReadStmt.{ReadStmt}
-use Rattle.kp_ast.specs.declared.tree.StmtKind.{StmtKind}
+use Rattle.kp_ast.specs.declared.tree.{Expr.Expr, ReadStmt.ReadStmt, StmtKind.StmtKind, Job.Job}
 use Rattle.kp_ast.specs.declared.tree.StmtKind.TheVariants as stmts
-use Rattle.kp_ast.specs.declared.tree.Job.{Job}
 use Rattle.kp_stage.specs.Counts.{one_if_some}
-use Rattle.kp_synth_tables.specs.declared.key.GuessSlot.{GuessSlot}
-use Rattle.kp_synth_tables.specs.declared.key.Key.{Key}
-use Rattle.kp_synth_tables.specs.declared.layout.Piped.{Piped}
-use Rattle.kp_synth_tables.specs.declared.layout.Port.{Port}
+use Rattle.kp_synth_tables.specs.declared.{key.GuessSlot.GuessSlot, key.Key.Key, layout.Piped.Piped, layout.Port.Port}
 use Rattle.kp_synth_tables.specs.Keys.{guess_slot, with_read, with_guess}
 use Rattle.kp_synth_tables.specs.inner.Tables.{read_here, guess_here, guess_count, stage_by, stages_by}
 

@@ -1,33 +1,21 @@
 -- A job that violates no rule has few declarations, and so few registers.
 use Rattle.std.proofs.Common.{◌≡◌, ◌∙◌, ℕ, zero, suc, ◌+◌, ◌*◌, ◌≤◌, List, [], ◌∷◌, ◌++◌, Option, Some, None, Bool, true, ◌&&◌, length, length-append, refl, ap, subst, arith}
+use Rattle.std.proofs.lemmas.{Bool.and_parts, Bool.leb-true, Bool.cond_both, List.Sums.sum_by-cons}
 use Rattle.std.specs.Prelude.{sum_by, nat_le}
-use Rattle.std.proofs.lemmas.Bool.{and_parts, leb-true, cond_both}
-use Rattle.std.proofs.lemmas.List.Sums.{sum_by-cons}
-use Rattle.kp_base.specs.First.{first}
-use Rattle.kp_base.specs.Refusal.{e_rule}
-use Rattle.kp_ast.specs.declared.tree.Expr.{Expr}
-use Rattle.kp_ast.specs.declared.tree.ReadStmt.{ReadStmt}
-use Rattle.kp_ast.specs.declared.tree.Decl.{Decl}
+use Rattle.kp_base.specs.{First.first, Refusal.e_rule}
+use Rattle.kp_ast.specs.declared.tree.{Expr.Expr, ReadStmt.ReadStmt, Decl.Decl, Stmt.Stmt, StmtKind.StmtKind, Block.Block, Job.Job}
 use Rattle.kp_ast.specs.declared.tree.Decl.TheVariants as decls
-use Rattle.kp_ast.specs.declared.tree.Stmt.{Stmt}
-use Rattle.kp_ast.specs.declared.tree.StmtKind.{StmtKind}
 use Rattle.kp_ast.specs.declared.tree.StmtKind.TheVariants as stmts
-use Rattle.kp_ast.specs.declared.tree.Block.{Block}
-use Rattle.kp_ast.specs.declared.tree.Job.{Job}
 use Rattle.kp_width.specs.Declarations.{functions_in, name_of}
 use Rattle.kp_width.proofs.Unbroken.{Unbroken, bind_unbroken, answer_unbroken}
 use Rattle.kp_stage.specs.Counts.{regs_in, files_in, pipes_in, results_in, hints_in, samples_in, one_if_some, is_within, nothing_counted, with_decl, with_stmt, place_of_read, decls_counted, stmts_counted, blocks_counted, counts_of}
+use Rattle.kp_stage.specs.{Facts.facts_of, Rules.broken_by, Sizes.sizes_of, Stages.broken_of}
 use Rattle.kp_stage.specs.Counts as counts
-use Rattle.kp_stage.specs.Facts.{facts_of}
-use Rattle.kp_stage.specs.Rules.{broken_by}
-use Rattle.kp_stage.specs.Sizes.{sizes_of}
-use Rattle.kp_stage.specs.Stages.{broken_of}
-use Rattle.kp_stage.proofs.Unbroken.{first_none}
-use Rattle.kp_stage.proofs.Totals.{counts_total}
+use Rattle.kp_stage.proofs.{Unbroken.first_none, Totals.counts_total}
 use Rattle.kp_machine.specs.Slots.{Slot, targets_of, pipes_of, hints_of, samples_of, is_register}
+use Rattle.kp_synth_tables.specs.Keys.{guesses_in, guesses_from, guesses_of, piped_at, is_stored, is_carried, visible_keys, pipe_keys, result_keys, guess_keys, stage_keys, stages_keys, later_keys, hint_keys, keys_of}
 use Rattle.kp_synth_tables.specs.declared.key.GuessSlot.{GuessSlot}
 use Rattle.kp_synth_tables.specs.declared.key.Key.TheVariants.{Visible, Pipe, Valid, Value, Pending, Guess}
-use Rattle.kp_synth_tables.specs.Keys.{guesses_in, guesses_from, guesses_of, piped_at, is_stored, is_carried, visible_keys, pipe_keys, result_keys, guess_keys, stage_keys, stages_keys, later_keys, hint_keys, keys_of}
 use Rattle.kp_synth_tables.specs.inner.Tables.{read_here, guess_here, guess_count}
 use Rattle.kp_synth_tables.proofs.Laying.{guess_step}
 

@@ -1,49 +1,30 @@
 -- The tables that are laid out are those of the job.
 use Rattle.std.proofs.Common.{◌≡◌, ◌∙◌, ℕ, zero, suc, ◌+◌, ◌-◌, ◌<◌, ◌≤◌, max, List, [], ◌∷◌, ◌++◌, map, Option, Some, None, Bool, true, false, cond, ◌&&◌, ◌||◌, length, length-append, get_or, refl, ap, sym, subst, arith}
-use Rattle.std.specs.Prelude.{is_some, nat_lt, nat_le, slice_get}
-use Rattle.std.specs.List.{AllByRecursion}
-use Rattle.std.proofs.lemmas.List.{get_or-map, length-map}
-use Rattle.std.proofs.lemmas.Bool.{ltb-true}
-use Rattle.kp_base.specs.First.{first}
-use Rattle.kp_base.specs.Refusal.{e_rule}
+use Rattle.std.proofs.lemmas.{List.get_or-map, List.length-map, Bool.ltb-true}
+use Rattle.std.specs.{Prelude.is_some, Prelude.nat_lt, Prelude.nat_le, Prelude.slice_get, List.AllByRecursion}
+use Rattle.kp_base.specs.{First.first, Refusal.e_rule}
 use Rattle.kp_stage.proofs.Unbroken.{answer_none}
-use Rattle.kp_machine.proofs.Rules.{rules_kept, decl_kept}
-use Rattle.kp_ast.specs.declared.tree.Named.{Named}
-use Rattle.kp_ast.specs.declared.tree.Expr.{Expr}
-use Rattle.kp_ast.specs.declared.tree.ReadStmt.{ReadStmt}
-use Rattle.kp_ast.specs.declared.tree.ResultDecl.{ResultDecl}
-use Rattle.kp_ast.specs.declared.tree.Decl.{Decl}
-use Rattle.kp_ast.specs.declared.tree.Decl.TheVariants as decls
-use Rattle.kp_ast.specs.declared.tree.Stmt.{Stmt}
-use Rattle.kp_ast.specs.declared.tree.StmtKind.{StmtKind}
-use Rattle.kp_ast.specs.declared.tree.StmtKind.TheVariants as stmts
-use Rattle.kp_ast.specs.declared.tree.Block.{Block}
+use Rattle.kp_machine.proofs.{Rules.rules_kept, Rules.decl_kept, Cases.by_test, Stages.stages_inside}
+use Rattle.kp_ast.specs.declared.tree.{Named.Named, Expr.Expr, ReadStmt.ReadStmt, ResultDecl.ResultDecl, Decl.Decl, Stmt.Stmt, StmtKind.StmtKind, Block.Block}
 use Rattle.kp_ast.specs.declared.tree.Job.{Job}
+use Rattle.kp_ast.specs.declared.tree.Decl.TheVariants as decls
+use Rattle.kp_ast.specs.declared.tree.StmtKind.TheVariants as stmts
 use Rattle.kp_width.specs.Widths.{widths_of}
 use Rattle.kp_width.proofs.Unbroken.{Unbroken}
 use Rattle.kp_stage.specs.Facts.{At, Facts, facts_of, put_at, puts_in, puts_of, aim_at, aims_in, aims_of}
-use Rattle.kp_stage.specs.Stages.{broken_of}
-use Rattle.kp_stage.specs.Design.{Plan, IsSound}
+use Rattle.kp_stage.specs.{Stages.broken_of, Design.Plan, Design.IsSound}
 use Rattle.kp_pipeline.proofs.Lists.{all-append}
 use Rattle.kp_machine.specs.Slots.{Slot, targets_of, pipes_of, hints_of, samples_of}
 use Rattle.kp_machine.specs.Machine.{machine_of, result_for, write_stage_of, after_put, stage_or_zero, known_after, known_from_of, aim_stage}
-use Rattle.kp_machine.proofs.Cases.{by_test}
-use Rattle.kp_machine.proofs.Stages.{stages_inside}
-use Rattle.kp_synth_tables.specs.declared.key.GuessSlot.{GuessSlot}
-use Rattle.kp_synth_tables.specs.declared.key.Key.{Key}
-use Rattle.kp_synth_tables.specs.declared.key.Key.TheVariants.{Full, Pipe, Valid, Value}
-use Rattle.kp_synth_tables.specs.declared.layout.Sized.{Sized}
-use Rattle.kp_synth_tables.specs.declared.layout.Port.{Port}
-use Rattle.kp_synth_tables.specs.declared.layout.Piped.{Piped}
-use Rattle.kp_synth_tables.specs.declared.layout.Aimed.{Aimed}
 use Rattle.kp_synth_tables.specs.Keys.{no_slot, pipe_at, hint_at, no_guess, guesses_in, guesses_from, guesses_of, guess_at, piped_at, set_by, is_stored, visible_keys, pipe_keys, result_keys, guess_keys, stage_keys, stages_keys, later_keys, hint_keys, keys_of}
+use Rattle.kp_synth_tables.specs.inner.Tables.{byte, short, sized, is_aim, has_aim, aimed_in, short_piped, aimed, known_in, short_number, short_port, short_guess, read_here, guess_here, guess_count, piped_by, pipes_by, stored_by, result_here, results_by, stage_by, stages_by}
+use Rattle.kp_synth_tables.specs.declared.key.{GuessSlot.GuessSlot, Key.Key}
+use Rattle.kp_synth_tables.specs.declared.key.Key.TheVariants.{Full, Pipe, Valid, Value}
+use Rattle.kp_synth_tables.specs.declared.layout.{Sized.Sized, Port.Port, Piped.Piped, Aimed.Aimed}
 use Rattle.kp_synth_tables.specs.Spans.{is_put, has_put, put_after, has_set, set_after, uses_name, last_use_in, is_called, last_write, last_use}
 use Rattle.kp_synth_tables.specs.Fits.{pipe_number, port_for, port_at, IsWidth, EnableFits, AddressFits, ResultFits, Fits}
 use Rattle.kp_synth_tables.specs.inner.Laid.{no_size, no_aim, no_piped, piped_of, Vectors, IsLaid}
-use Rattle.kp_synth_tables.specs.inner.Tables.{byte, short, sized, is_aim, has_aim, aimed_in, short_piped, aimed, known_in, short_number, short_port, short_guess, read_here, guess_here, guess_count, piped_by, pipes_by, stored_by, result_here, results_by, stage_by, stages_by}
-use Rattle.kp_synth_tables.proofs.Fitting.{guess_there, fits}
-use Rattle.kp_synth_tables.proofs.Laying.{guess_step}
-use Rattle.kp_synth_tables.proofs.Limits.{IsFew, few, keys_few, guess_counted}
+use Rattle.kp_synth_tables.proofs.{Fitting.guess_there, Fitting.fits, Laying.guess_step, Limits.IsFew, Limits.few, Limits.keys_few, Limits.guess_counted}
 
 byte_is : (n : ℕ) → n ≤ 255 → byte n ≡ n
 byte_is n l = omega arith

@@ -1,37 +1,23 @@
 -- A stage looks at no pipe that isn't alive there: its tree is one for values that agree on those that are.
 use Rattle.std.proofs.Common.{◌≡◌, ◌∙◌, ℕ, zero, suc, ◌+◌, ◌<◌, ◌≤◌, max, List, [], ◌∷◌, ◌++◌, map, Option, Some, None, Bool, true, false, cond, eqb, ◌||◌, length, get_or, refl, ap, sym, subst, arith}
-use Rattle.std.specs.Prelude.{slice_get, unwrap_or, nat_le}
-use Rattle.std.specs.List.{list_any}
-use Rattle.std.proofs.lemmas.Bool.{or_left, or_right, leb-true, le-leb}
-use Rattle.std.proofs.lemmas.List.Folds.{list_any-append}
+use Rattle.std.proofs.lemmas.{Bool.or_left, Bool.or_right, Bool.leb-true, Bool.le-leb, List.Folds.list_any-append}
+use Rattle.std.specs.{Prelude.slice_get, Prelude.unwrap_or, Prelude.nat_le, List.list_any}
 use Rattle.kp_bits.specs.Word.{Word, word, not_of, mux_of, slice_of, zext_of, sext_of}
 use Rattle.kp_bits.specs.Operators.{no_word, binary_of, joined_of}
 use Rattle.kp_ast.specs.Expressions.{Env, Values, is_same_name, look_up, eval, env_of, value_of_kind, value_of_level}
-use Rattle.kp_ast.specs.declared.tree.Expr.{Expr}
-use Rattle.kp_ast.specs.declared.tree.Named.{Named}
-use Rattle.kp_ast.specs.declared.tree.ReadStmt.{ReadStmt}
-use Rattle.kp_ast.specs.declared.tree.ResultDecl.{ResultDecl}
-use Rattle.kp_ast.specs.declared.tree.Decl.{Decl}
-use Rattle.kp_ast.specs.declared.tree.Decl.TheVariants as decls
-use Rattle.kp_ast.specs.declared.tree.Stmt.{Stmt}
-use Rattle.kp_ast.specs.declared.tree.StmtKind.{StmtKind}
-use Rattle.kp_ast.specs.declared.tree.StmtKind.TheVariants as stmts
-use Rattle.kp_ast.specs.declared.tree.Block.{Block}
+use Rattle.kp_ast.specs.declared.tree.{Expr.Expr, Named.Named, ReadStmt.ReadStmt, ResultDecl.ResultDecl, Decl.Decl, Stmt.Stmt, StmtKind.StmtKind, Block.Block}
 use Rattle.kp_ast.specs.declared.tree.Job.{Job}
+use Rattle.kp_ast.specs.declared.tree.Decl.TheVariants as decls
+use Rattle.kp_ast.specs.declared.tree.StmtKind.TheVariants as stmts
 use Rattle.kp_ast.proofs.Levels.{fold-Lit, fold-Name, fold-Not, fold-Binary, fold-Mux, fold-Concat, fold-Slice, fold-Zext, fold-Sext, fold-Call}
 use Rattle.kp_ast.proofs.Induction.{Every, induction}
-use Rattle.kp_stage.specs.Facts.{stmts_in}
-use Rattle.kp_stage.specs.Uses.{listed, exprs_in, uses_in_kind, uses_in_level, uses}
-use Rattle.kp_pipeline.specs.Machine.{Tree, Done, Ask, Guess}
-use Rattle.kp_pipeline.specs.Sequential.{first_value}
-use Rattle.kp_machine.specs.Slots.{Slot, targets_of, pipes_of, hints_of, samples_of, number_of, words_from, words_of, result_named}
+use Rattle.kp_stage.specs.{Facts.stmts_in, Uses.listed, Uses.exprs_in, Uses.uses_in_kind, Uses.uses_in_level, Uses.uses}
+use Rattle.kp_pipeline.specs.{Machine.Tree, Machine.Done, Machine.Ask, Machine.Guess, Sequential.first_value}
 use Rattle.kp_machine.specs.Trees.{Progress, entered, holds, address_of, value_of, value_with_hints, with_value, with_name, with_put, with_set, with_aim, word_of, word_read, read_of, statement_of, tree_of}
+use Rattle.kp_machine.specs.Slots.{Slot, targets_of, pipes_of, hints_of, samples_of, number_of, words_from, words_of, result_named}
 use Rattle.kp_machine.specs.Machine.{stage_tree}
-use Rattle.kp_machine.proofs.Cases.{by_test}
-use Rattle.kp_machine.proofs.Names.{is_same, same_name}
-use Rattle.kp_machine.proofs.LookUp.{or_else, look_up-append}
-use Rattle.kp_synth_tables.specs.Spans.{uses_name, last_use_in, is_called, last_write, last_use}
-use Rattle.kp_synth_tables.specs.Keys.{no_slot, pipe_at}
+use Rattle.kp_machine.proofs.{Cases.by_test, Names.is_same, Names.same_name, LookUp.or_else, LookUp.look_up-append}
+use Rattle.kp_synth_tables.specs.{Spans.uses_name, Spans.last_use_in, Spans.is_called, Spans.last_write, Spans.last_use, Keys.no_slot, Keys.pipe_at}
 
 -- THE LAST USE is no earlier than any use.
 pub write_more : (n : List ℕ) (last : ℕ) (ds : List Decl) → last ≤ last_write n last ds

@@ -4,10 +4,10 @@ use Rattle.std.proofs.lemmas.Bool.{cases_Bool, eq-eqb, cases_lt, ltb-true}
 use Rattle.std.specs.Prelude.{nat_lt}
 use Rattle.kp_ast.specs.declared.tree.Job.{Job}
 use Rattle.kp_machine.specs.Slots.{Slot, targets_of, pipes_of, hints_of, is_register}
+use Rattle.kp_synth_tables.specs.Keys.{no_slot, no_guess, guesses_of, guess_at, is_carried, piped_at, is_piped, is_stored, visible_keys, pipe_keys, result_keys, guess_keys, stage_keys, stages_keys, later_keys, hint_keys, keys_of, HasKey, is_same_key, place_in, place_of, key_at}
 use Rattle.kp_synth_tables.specs.declared.key.Key.{Key}
 use Rattle.kp_synth_tables.specs.declared.key.Key.TheVariants.{Visible, Full, Pipe, Valid, Value, Pending, Guess, Hint}
 use Rattle.kp_synth_tables.specs.declared.key.GuessSlot.{GuessSlot}
-use Rattle.kp_synth_tables.specs.Keys.{no_slot, no_guess, guesses_of, guess_at, is_carried, piped_at, is_piped, is_stored, visible_keys, pipe_keys, result_keys, guess_keys, stage_keys, stages_keys, later_keys, hint_keys, keys_of, HasKey, is_same_key, place_in, place_of, key_at}
 
 both_true : {G : Type 0} (a b : Bool) → (a ≡ true → b ≡ true → G) → (a && b) ≡ true → G
 both_true true true f e = f refl refl

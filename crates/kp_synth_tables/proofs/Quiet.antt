@@ -1,34 +1,20 @@
 -- A stage puts no pipe that its block doesn't put, and sets no result that its block doesn't set.
 use Rattle.std.proofs.Common.{◌≡◌, ◌∙◌, ℕ, zero, suc, ◌+◌, ◌<◌, List, [], ◌∷◌, Option, Some, None, Bool, true, false, cond, eqb, ◌||◌, length, refl, ap, sym, subst, arith}
-use Rattle.std.specs.Prelude.{slice_get}
 use Rattle.std.proofs.lemmas.Bool.{cond_both, eqb-true, or_parts}
-use Rattle.kp_ast.specs.Expressions.{is_same_name}
-use Rattle.kp_ast.specs.declared.tree.Expr.{Expr}
-use Rattle.kp_ast.specs.declared.tree.Named.{Named}
-use Rattle.kp_ast.specs.declared.tree.ReadStmt.{ReadStmt}
-use Rattle.kp_ast.specs.declared.tree.ResultDecl.{ResultDecl}
-use Rattle.kp_ast.specs.declared.tree.Decl.{Decl}
+use Rattle.std.specs.Prelude.{slice_get}
+use Rattle.kp_ast.specs.{Expressions.is_same_name, declared.tree.Expr.Expr, declared.tree.Named.Named, declared.tree.ReadStmt.ReadStmt}
+use Rattle.kp_ast.specs.declared.tree.{ResultDecl.ResultDecl, Decl.Decl, Stmt.Stmt, StmtKind.StmtKind, Block.Block, Job.Job}
 use Rattle.kp_ast.specs.declared.tree.Decl.TheVariants as decls
-use Rattle.kp_ast.specs.declared.tree.Stmt.{Stmt}
-use Rattle.kp_ast.specs.declared.tree.StmtKind.{StmtKind}
 use Rattle.kp_ast.specs.declared.tree.StmtKind.TheVariants as stmts
-use Rattle.kp_ast.specs.declared.tree.Block.{Block}
-use Rattle.kp_ast.specs.declared.tree.Job.{Job}
 use Rattle.kp_width.specs.Widths.{widths_of}
 use Rattle.kp_width.proofs.Unbroken.{Unbroken}
-use Rattle.kp_stage.specs.Facts.{stmts_in}
-use Rattle.kp_stage.specs.Stages.{broken_of}
-use Rattle.kp_pipeline.specs.Machine.{Tree}
-use Rattle.kp_pipeline.specs.Ends.{Ends}
-use Rattle.kp_machine.specs.Slots.{Slot, targets_of, pipes_of, hints_of, number_of, result_named}
+use Rattle.kp_stage.specs.{Facts.stmts_in, Stages.broken_of}
+use Rattle.kp_pipeline.specs.{Machine.Tree, Ends.Ends}
 use Rattle.kp_machine.specs.Trees.{Progress, entered, holds, value_of, value_with_hints, with_name, with_put, with_set, with_aim, word_of, word_read, read_of, statement_of, tree_of}
+use Rattle.kp_machine.specs.Slots.{Slot, targets_of, pipes_of, hints_of, number_of, result_named}
 use Rattle.kp_machine.specs.Machine.{machine_of, stage_tree, result_for}
-use Rattle.kp_machine.proofs.Cases.{by_test}
-use Rattle.kp_machine.proofs.Names.{is_same, same_name}
-use Rattle.kp_machine.proofs.Results.{named_stands}
-use Rattle.kp_machine.proofs.Placing.{own}
-use Rattle.kp_synth_tables.specs.Spans.{is_put, has_put, put_after, is_set, has_set, set_after}
-use Rattle.kp_synth_tables.specs.Keys.{pipe_at, set_by}
+use Rattle.kp_machine.proofs.{Cases.by_test, Names.is_same, Names.same_name, Results.named_stands, Placing.own}
+use Rattle.kp_synth_tables.specs.{Spans.is_put, Spans.has_put, Spans.put_after, Spans.is_set, Spans.has_set, Spans.set_after, Keys.pipe_at, Keys.set_by}
 use Rattle.kp_synth_tables.proofs.Lasting.{number_there}
 
 -- a block before the put, and one before the first set

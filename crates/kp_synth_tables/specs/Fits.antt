@@ -1,14 +1,10 @@
 -- WHAT THE RULES GUARANTEE of a job: how its targets are written, and which widths, stages and pipes its tables can have.
 use Rattle.std.specs.Prelude.{◌≡◌, ℕ, suc, ◌+◌, ◌<◌, ◌≤◌, length, Option, Some, None, true, false}
-use Rattle.kp_ast.specs.declared.tree.Named.{Named}
-use Rattle.kp_ast.specs.declared.tree.ResultDecl.{ResultDecl}
-use Rattle.kp_ast.specs.declared.tree.Job.{Job}
-use Rattle.kp_pipeline.specs.Trimming.{Alive}
-use Rattle.kp_pipeline.specs.Ends.{Ends}
+use Rattle.kp_ast.specs.declared.tree.{Named.Named, ResultDecl.ResultDecl, Job.Job}
+use Rattle.kp_pipeline.specs.{Trimming.Alive, Ends.Ends}
 use Rattle.kp_machine.specs.Slots.{targets_of, pipes_of, hints_of, samples_of, number_of, is_register}
 use Rattle.kp_machine.specs.Machine.{machine_of, result_for}
-use Rattle.kp_synth_tables.specs.declared.layout.Port.{Port}
-use Rattle.kp_synth_tables.specs.Spans.{put_after, set_after}
+use Rattle.kp_synth_tables.specs.{declared.layout.Port.Port, Spans.put_after, Spans.set_after}
 use Rattle.kp_synth_tables.specs.Keys.{set_by, is_alive, target_at, pipe_at, hint_at, sample_at, guesses_of, guess_at}
 
 -- How a target is written, by its result.

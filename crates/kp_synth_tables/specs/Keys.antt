@@ -4,21 +4,13 @@
 -- each pipe from its put to its last use, each result from its first set to its write stage, and each guess from the
 -- stage after its read to the stage before the write stage of its register.
 use Rattle.std.specs.Prelude.{◌≡◌, ℕ, zero, suc, ◌<◌, List, [], ◌∷◌, ◌++◌, length, get_or, Option, Some, None, Bool, true, false, ◌&&◌, nat_lt, nat_le, ◌==◌, if◌then◌else◌, is_some}
-use Rattle.kp_synth_tables.specs.Spans.{put_after, set_after, last_use}
-use Rattle.kp_ast.specs.declared.tree.ReadStmt.{ReadStmt}
-use Rattle.kp_ast.specs.declared.tree.ResultDecl.{ResultDecl}
-use Rattle.kp_ast.specs.declared.tree.Expr.{Expr}
-use Rattle.kp_ast.specs.declared.tree.Stmt.{Stmt}
-use Rattle.kp_ast.specs.declared.tree.StmtKind.{StmtKind}
+use Rattle.kp_synth_tables.specs.{Spans.put_after, Spans.set_after, Spans.last_use, declared.key.GuessSlot.GuessSlot, declared.key.Key.Key}
+use Rattle.kp_synth_tables.specs.declared.key.Key.TheVariants.{Visible, Full, Pipe, Valid, Value, Pending, Guess, Hint}
+use Rattle.kp_ast.specs.declared.tree.{ReadStmt.ReadStmt, ResultDecl.ResultDecl, Expr.Expr, Stmt.Stmt, StmtKind.StmtKind, Block.Block, Job.Job}
 use Rattle.kp_ast.specs.declared.tree.StmtKind.TheVariants as stmts
-use Rattle.kp_ast.specs.declared.tree.Block.{Block}
-use Rattle.kp_ast.specs.declared.tree.Job.{Job}
 use Rattle.kp_stage.specs.declared.start.Start.{Start}
 use Rattle.kp_machine.specs.Slots.{Slot, targets_of, pipes_of, hints_of, samples_of, number_of, width_of, is_register}
 use Rattle.kp_machine.specs.Machine.{result_for, write_stage_of, state_of, start_hints}
-use Rattle.kp_synth_tables.specs.declared.key.GuessSlot.{GuessSlot}
-use Rattle.kp_synth_tables.specs.declared.key.Key.{Key}
-use Rattle.kp_synth_tables.specs.declared.key.Key.TheVariants.{Visible, Full, Pipe, Valid, Value, Pending, Guess, Hint}
 
 -- The default for an entry that doesn't exist.
 abbrev pub no_slot : Slot

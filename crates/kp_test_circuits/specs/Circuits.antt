@@ -1,9 +1,6 @@
 -- Nodes that may be used as operands.
-use Rattle.std.specs.Prelude.{ℕ, ◌≤◌, ◌<◌, ◌≡◌, List, length, All}
-use Rattle.std.specs.List.{sum_by}
-use Rattle.kp_net.specs.declared.node.NodeId.{NodeId}
-use Rattle.kp_net.specs.Growth.{Held}
-use Rattle.kp_net.specs.Widths.{wide}
+use Rattle.std.specs.{Prelude.ℕ, Prelude.◌≤◌, Prelude.◌<◌, Prelude.◌≡◌, Prelude.List, Prelude.length, Prelude.All, List.sum_by}
+use Rattle.kp_net.specs.{declared.node.NodeId.NodeId, Growth.Held, Widths.wide}
 
 -- these nodes are in the pool, and have w bits together
 pub record IsRow (p : Held) (parts : List NodeId) (w : ℕ) : Type 0 where

@@ -1,22 +1,15 @@
 -- The reads that a stage's tree requests are those that are reported about it.
-use Rattle.std.proofs.Common.{◌≡◌, ◌∙◌, ℕ, List, [], ◌∷◌, ◌++◌, Option, Some, None, Bool, true, false, cond, not, ◌||◌, refl, ap}
-use Rattle.std.specs.Prelude.{sum_by}
+use Rattle.std.proofs.Common.{◌≡◌, ◌∙◌, ℕ, List, [], ◌∷◌, ◌++◌, Option, Some, None, Bool, true, false, cond, not, ◌||◌, refl, ap, arith}
 use Rattle.std.proofs.lemmas.List.Sums.{sum_by-cons}
-use Rattle.std.proofs.Common.{arith}
-use Rattle.kp_ast.specs.declared.tree.Expr.{Expr}
-use Rattle.kp_ast.specs.declared.tree.ReadStmt.{ReadStmt}
-use Rattle.kp_ast.specs.declared.tree.Decl.{Decl}
-use Rattle.kp_ast.specs.declared.tree.Stmt.{Stmt}
-use Rattle.kp_ast.specs.declared.tree.StmtKind.{StmtKind}
+use Rattle.std.specs.Prelude.{sum_by}
+use Rattle.kp_ast.specs.declared.tree.{Expr.Expr, ReadStmt.ReadStmt, Decl.Decl, Stmt.Stmt, StmtKind.StmtKind}
 use Rattle.kp_ast.specs.declared.tree.StmtKind.TheVariants as stmts
 use Rattle.kp_stage.specs.Counts.{one_if_some, guesses_of, guesses_in}
-use Rattle.kp_pipeline.specs.Machine.{Tree}
-use Rattle.kp_pipeline.specs.Timeline.{some_unmet}
+use Rattle.kp_pipeline.specs.{Machine.Tree, Timeline.some_unmet}
 use Rattle.kp_machine.specs.Slots.{targets_of, number_of, result_named}
 use Rattle.kp_machine.specs.Trees.{Progress, holds, address_of, value_of, word_read, with_name, with_set, read_of, statement_of, tree_of}
 use Rattle.kp_seq.specs.Recorded.{where_true, address_read, done_after, read_recorded, reads_recorded}
-use Rattle.kp_timing.specs.declared.sites.Site.{Site}
-use Rattle.kp_timing.specs.inner.Sites.{site_of, sites_in}
+use Rattle.kp_timing.specs.{declared.sites.Site.Site, inner.Sites.site_of, inner.Sites.sites_in}
 
 -- some read that is reported isn't met
 abbrev pub asks_unmet : (ℕ → ℕ → Bool) → List Site → List (Option ℕ) → Bool

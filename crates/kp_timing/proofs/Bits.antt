@@ -1,9 +1,7 @@
 -- The bits of masks.
 use Rattle.std.proofs.Common.{◌≡◌, ◌∙◌, ℕ, zero, suc, ◌+◌, ◌*◌, ◌^◌, ◌/◌, ◌%◌, ◌<◌, ◌≤◌, List, Bool, true, false, eqb, get_or, refl, ap, arith, lit<}
-use Rattle.std.proofs.lemmas.Nat.Bits.{bit_at-suc, bit_at-zero, bit_at_lowest}
-use Rattle.std.proofs.lemmas.Nat.{div-mul-add, mod-mul-add}
-use Rattle.std.proofs.Math.Nat.{two-pow-succ}
-use Rattle.std.proofs.Math.Pow.{pow_mono}
+use Rattle.std.proofs.lemmas.Nat.{Bits.bit_at-suc, Bits.bit_at-zero, Bits.bit_at_lowest, div-mul-add, mod-mul-add}
+use Rattle.std.proofs.Math.{Nat.two-pow-succ, Pow.pow_mono}
 use Rattle.kp_pipeline.specs.Rows.{one_if}
 use Rattle.kp_sched.specs.Rows.{bit_of}
 

@@ -1,36 +1,25 @@
 -- The decisions on lists are those of the timeline of the laws.
 use Rattle.std.proofs.Common.{◌≡◌, ◌∙◌, ℕ, zero, suc, ◌+◌, ◌-◌, ◌<◌, ◌≤◌, List, [], ◌∷◌, ◌++◌, Option, Some, None, Bool, true, false, cond, eqb, leb, not, ◌&&◌, ◌||◌, length, get_or, set, replicate, refl, ap, sym, subst, arith, ⊎_elim}
-use Rattle.std.specs.Prelude.{is_some, slice_get, sum_by}
-use Rattle.std.proofs.lemmas.List.Sums.{sum_by-cons}
-use Rattle.kp_stage.specs.Counts.{summary_of, guesses_in}
-use Rattle.std.proofs.lemmas.Bool.{cases_lt, eq-eqb, eqb-true, false_from_ne_true}
+use Rattle.std.proofs.lemmas.{List.Sums.sum_by-cons, Bool.cases_lt, Bool.eq-eqb, Bool.eqb-true, Bool.false_from_ne_true}
 use Rattle.std.proofs.lemmas.List.{length-append, length-set, get_or_past, get_or-set_same, get_or-set_other}
-use Rattle.kp_ast.specs.declared.tree.Decl.{Decl}
-use Rattle.kp_ast.specs.declared.tree.Stmt.{Stmt}
-use Rattle.kp_ast.specs.declared.tree.StmtKind.{StmtKind}
+use Rattle.std.specs.Prelude.{is_some, slice_get, sum_by}
+use Rattle.kp_stage.specs.{Counts.summary_of, Counts.guesses_in, Facts.stmts_in}
+use Rattle.kp_ast.specs.declared.tree.{Decl.Decl, Stmt.Stmt, StmtKind.StmtKind, Block.Block, Job.Job}
 use Rattle.kp_ast.specs.declared.tree.StmtKind.TheVariants as stmts
-use Rattle.kp_ast.specs.declared.tree.Block.{Block}
-use Rattle.kp_ast.specs.declared.tree.Job.{Job}
 use Rattle.kp_width.specs.Widths.{widths_of}
 use Rattle.kp_width.proofs.Unbroken.{Unbroken}
-use Rattle.kp_stage.specs.Facts.{stmts_in}
 use Rattle.kp_pipeline.specs.Sequential.{seq, before_stage}
 use Rattle.kp_pipeline.specs.Timeline.{ReadyAbove, no_samples, may_write, is_ready, waits_given, blocked_given, ready_from, ready_above, waits, blocked, moves_on}
-use Rattle.kp_machine.specs.Slots.{Slot, targets_of, number_of, result_to}
-use Rattle.kp_machine.specs.Trees.{Progress, entered}
+use Rattle.kp_machine.specs.{Slots.Slot, Slots.targets_of, Slots.number_of, Slots.result_to, Trees.Progress, Trees.entered}
 use Rattle.kp_machine.specs.Machine.{machine_of, stage_tree, result_for}
-use Rattle.kp_machine.proofs.Cases.{by_option}
-use Rattle.kp_machine.proofs.Text.{fits_text, target_slot}
+use Rattle.kp_machine.proofs.{Cases.by_option, Text.fits_text, Text.target_slot}
 use Rattle.kp_seq.specs.Recorded.{Recorded, read_recorded, reads_recorded, done_after, stage_reads, reads_from, record_of}
 use Rattle.kp_sched.specs.Rows.{bit_of}
-use Rattle.kp_timing.specs.declared.sites.Site.{Site}
-use Rattle.kp_timing.specs.declared.sites.Writer.{Writer}
-use Rattle.kp_timing.specs.Timed.{stalled_by}
+use Rattle.kp_timing.specs.inner.Deciding.{Held, record_in, is_full, may_write_by, is_ready_by, met_from, is_met, is_unmet, some_unmet_from, waits_by, is_blocked_by, found_at, found_down, no_stage_found, moves_by}
+use Rattle.kp_timing.specs.{declared.sites.Site.Site, declared.sites.Writer.Writer, Timed.stalled_by}
 use Rattle.kp_timing.specs.inner.Sites.{Sited, AreSites, site_of, sites_in, sites_from, result_number, writer_by}
 use Rattle.kp_timing.specs.declared.deciding.Found.{Found}
-use Rattle.kp_timing.specs.inner.Deciding.{Held, record_in, is_full, may_write_by, is_ready_by, met_from, is_met, is_unmet, some_unmet_from, waits_by, is_blocked_by, found_at, found_down, no_stage_found, moves_by}
-use Rattle.kp_timing.proofs.Asks.{asks_unmet, stage_asks}
-use Rattle.kp_timing.proofs.Results.{IsResult, is_result, no_result, writes_same, ready_same}
+use Rattle.kp_timing.proofs.{Asks.asks_unmet, Asks.stage_asks, Results.IsResult, Results.is_result, Results.no_result, Results.writes_same, Results.ready_same}
 
 pub and_no : (c : Bool) → (c && false) ≡ false
 and_no true = refl

@@ -1,40 +1,28 @@
 -- The invariant of a timeline, cycle by cycle.
 use Rattle.std.proofs.Common.{◌≡◌, ◌∙◌, ℕ, zero, suc, ◌+◌, ◌-◌, ◌<◌, ◌≤◌, List, [], ◌∷◌, Option, Some, None, Bool, true, false, cond, not, ◌&&◌, length, get_or, set, replicate, ◌^◌, refl, ap, sym, subst, arith, inr}
-use Rattle.std.specs.Prelude.{is_some, unwrap_or, sum_by, nat_le}
-use Rattle.std.proofs.lemmas.Bool.{and_parts, leb-true}
-use Rattle.kp_base.specs.Refusal.{e_rule}
-use Rattle.kp_stage.specs.Facts.{facts_of}
-use Rattle.kp_stage.specs.Stages.{broken_of}
-use Rattle.kp_stage.proofs.Unbroken.{answer_none}
-use Rattle.kp_machine.proofs.Rules.{rules_kept, head_kept}
-use Rattle.std.proofs.lemmas.List.{length-map, length-set, get_or-set_same, get_or-set_other}
+use Rattle.std.proofs.lemmas.{Bool.and_parts, Bool.leb-true, List.length-map, List.length-set, List.get_or-set_same, List.get_or-set_other}
 use Rattle.std.proofs.lemmas.List.Sums.{sum_by-cons}
-use Rattle.kp_ast.specs.declared.tree.Decl.{Decl}
+use Rattle.std.specs.Prelude.{is_some, unwrap_or, sum_by, nat_le}
+use Rattle.kp_base.specs.Refusal.{e_rule}
+use Rattle.kp_stage.specs.{Facts.facts_of, Stages.broken_of, Counts.summary_of, Counts.samples_in, Counts.results_in, declared.start.Start.Start}
+use Rattle.kp_stage.proofs.Unbroken.{answer_none}
+use Rattle.kp_machine.proofs.{Rules.rules_kept, Rules.head_kept, Cases.by_test, Stages.stages_inside}
+use Rattle.kp_ast.specs.declared.tree.{Decl.Decl, Job.Job}
 use Rattle.kp_ast.specs.declared.tree.Decl.TheVariants as decls
-use Rattle.kp_ast.specs.declared.tree.Job.{Job}
-use Rattle.kp_stage.specs.Counts.{summary_of, samples_in, results_in}
-use Rattle.kp_stage.specs.declared.start.Start.{Start}
-use Rattle.kp_pipeline.specs.Sequential.{seq}
-use Rattle.kp_pipeline.specs.Machine.{Machine}
-use Rattle.kp_pipeline.specs.Timeline.{no_samples, waits, moves_on, next_number, next_hold, start_hold}
-use Rattle.kp_machine.specs.Slots.{samples_of}
-use Rattle.kp_machine.specs.Machine.{machine_of, state_of, values_in}
-use Rattle.kp_machine.proofs.Cases.{by_test}
-use Rattle.kp_machine.proofs.Stages.{stages_inside}
+use Rattle.kp_pipeline.specs.{Sequential.seq, Machine.Machine}
+use Rattle.kp_pipeline.specs.{Timeline.no_samples, Timeline.waits, Timeline.moves_on, Timeline.next_number, Timeline.next_hold, Timeline.start_hold, Rows.bits}
+use Rattle.kp_machine.specs.{Slots.samples_of, Machine.machine_of, Machine.state_of, Machine.values_in}
 use Rattle.kp_seq.specs.Running.{Running, state, after_one}
 use Rattle.kp_seq.specs.Recorded.{Recorded, results_of, setting_recorded, record_of}
 use Rattle.kp_seq.proofs.Recording.{all_recorded}
 use Rattle.kp_base.specs.declared.row.Row as masks
-use Rattle.kp_pipeline.specs.Rows.{bits}
 use Rattle.kp_sched.specs.Rows.{bit_of, row_seen}
-use Rattle.kp_timing.specs.Timed.{IsPlain, stalled_by}
-use Rattle.kp_timing.specs.inner.Sites.{Sited, AreSites}
-use Rattle.kp_timing.specs.declared.deciding.Found.{Found}
+use Rattle.kp_timing.specs.{Timed.IsPlain, Timed.stalled_by, inner.Sites.Sited, inner.Sites.AreSites, declared.deciding.Found.Found}
 use Rattle.kp_timing.specs.inner.Deciding.{Held, nothing_recorded, record_in, moves_by, taken_down, found_down, no_stage_found}
 use Rattle.kp_timing.specs.inner.Kept.{HasRoom, IsKept, Advances}
 use Rattle.kp_timing.proofs.Decisions.{AllFound, and_no, found, moves_is}
-use Rattle.kp_pipeline.proofs.Lists.{bits-same}
 use Rattle.kp_timing.proofs.Moving.{taken_counts, hold_first, hold_taken, record_up, record_kept, all_came_from}
+use Rattle.kp_pipeline.proofs.Lists.{bits-same}
 
 -- a job that counts no samples has none
 sample_none : (ds : List Decl) → sum_by samples_in ds ≡ 0 → samples_of ds ≡ []

@@ -1,10 +1,7 @@
 -- How the instructions move on: the instructions in the stages, and what is reported about them.
 use Rattle.std.proofs.Common.{◌≡◌, ◌≢◌, ◌∙◌, ℕ, zero, suc, ◌+◌, ◌<◌, ◌≤◌, List, [], ◌∷◌, None, Bool, true, false, cond, not, ◌&&◌, length, get_or, set, refl, ap, sym, subst, arith, ⊎_elim, ◌⊎◌, inl, inr}
-use Rattle.std.specs.Prelude.{is_some}
-use Rattle.std.specs.List.{swap}
-use Rattle.std.proofs.lemmas.Bool.{cases_lt}
-use Rattle.std.proofs.lemmas.List.{length-set, get_or-set_same, get_or-set_other}
-use Rattle.std.proofs.lemmas.List.Edits.{swap_is}
+use Rattle.std.proofs.lemmas.{Bool.cases_lt, List.length-set, List.get_or-set_same, List.get_or-set_other, List.Edits.swap_is}
+use Rattle.std.specs.{Prelude.is_some, List.swap}
 use Rattle.kp_timing.specs.inner.Deciding.{Held, nothing_recorded, record_in, moves_by, taken_by, taken_down}
 
 swap_count : {X : Type 0} (xs : List X) (i j : ℕ) → length (swap xs i j) ≡ length xs

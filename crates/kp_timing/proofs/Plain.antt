@@ -1,18 +1,11 @@
 -- A job that E38 doesn't reject has no guess and no sample.
 use Rattle.std.proofs.Common.{◌≡◌, ◌+◌, List, [], ◌∷◌, ◌++◌, length, length-append, Option, Some, None, option_map, refl, arith}
-use Rattle.std.specs.Prelude.{sum_by}
 use Rattle.std.proofs.lemmas.List.Sums.{sum_by-cons}
-use Rattle.kp_base.specs.Refusal.{e_rule}
-use Rattle.kp_base.specs.declared.place.Place.{Place}
-use Rattle.kp_ast.specs.declared.tree.Expr.{Expr}
-use Rattle.kp_ast.specs.declared.tree.ReadStmt.{ReadStmt}
-use Rattle.kp_ast.specs.declared.tree.Decl.{Decl}
+use Rattle.std.specs.Prelude.{sum_by}
+use Rattle.kp_base.specs.{Refusal.e_rule, declared.place.Place.Place}
+use Rattle.kp_ast.specs.declared.tree.{Expr.Expr, ReadStmt.ReadStmt, Decl.Decl, Stmt.Stmt, StmtKind.StmtKind, Block.Block, Job.Job}
 use Rattle.kp_ast.specs.declared.tree.Decl.TheVariants as decls
-use Rattle.kp_ast.specs.declared.tree.Stmt.{Stmt}
-use Rattle.kp_ast.specs.declared.tree.StmtKind.{StmtKind}
 use Rattle.kp_ast.specs.declared.tree.StmtKind.TheVariants as stmts
-use Rattle.kp_ast.specs.declared.tree.Block.{Block}
-use Rattle.kp_ast.specs.declared.tree.Job.{Job}
 use Rattle.kp_stage.specs.Counts.{summary_of, samples_in, one_if_some, guesses_of}
 use Rattle.kp_stage.specs.Counts as counts
 use Rattle.kp_timing.specs.Timed.{IsPlain}

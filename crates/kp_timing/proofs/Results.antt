@@ -1,19 +1,15 @@
 -- The result of a target, by its number: what is reported about it is what the timeline requests.
 use Rattle.std.proofs.Common.{◌≡◌, ◌∙◌, ℕ, zero, suc, ◌+◌, List, [], ◌∷◌, Option, Some, None, Bool, true, false, cond, eqb, leb, ltb, not, ◌&&◌, ◌||◌, map, get_or, refl, ap, sym, subst, arith}
+use Rattle.std.proofs.lemmas.{Bool.eqb-true, Option.get_or_from_slice_get}
 use Rattle.std.specs.Prelude.{is_some, slice_get}
-use Rattle.std.proofs.lemmas.Bool.{eqb-true}
-use Rattle.std.proofs.lemmas.Option.{get_or_from_slice_get}
-use Rattle.kp_ast.specs.declared.tree.ResultDecl.{ResultDecl}
-use Rattle.kp_ast.specs.declared.tree.Decl.{Decl}
+use Rattle.kp_ast.specs.declared.tree.{ResultDecl.ResultDecl, Decl.Decl, Job.Job}
 use Rattle.kp_ast.specs.declared.tree.Decl.TheVariants as decls
-use Rattle.kp_ast.specs.declared.tree.Job.{Job}
 use Rattle.kp_pipeline.specs.Sequential.{before_stage, seq}
 use Rattle.kp_pipeline.specs.Timeline.{no_samples, first_stage, setting_stage, may_write, is_ready}
 use Rattle.kp_machine.specs.Slots.{Slot, targets_of, pipes_of, number_of, result_to}
 use Rattle.kp_machine.specs.Machine.{machine_of, result_for, write_stage_of, enabled_of, address_in, is_enabled_by, address_by}
 use Rattle.kp_seq.specs.Recorded.{Recorded, where_true, results_of, write_recorded, setting_recorded, record_of}
-use Rattle.kp_timing.specs.declared.sites.Writer.{Writer}
-use Rattle.kp_timing.specs.inner.Sites.{result_number}
+use Rattle.kp_timing.specs.{declared.sites.Writer.Writer, inner.Sites.result_number}
 use Rattle.kp_timing.specs.inner.Deciding.{wrote_at, may_write_by, is_ready_by}
 
 -- if the number of a result is found, the result is found

@@ -4,15 +4,12 @@ use Rattle.std.specs.Prelude.{is_some}
 use Rattle.kp_base.specs.declared.row.Row as masks
 use Rattle.kp_ast.specs.declared.tree.Job.{Job}
 use Rattle.kp_stage.specs.declared.start.Start.{Start}
-use Rattle.kp_pipeline.specs.Machine.{Machine}
-use Rattle.kp_pipeline.specs.Pipeline.{Inputs, is_candidate}
-use Rattle.kp_pipeline.specs.Rows.{Row, bits}
 use Rattle.kp_pipeline.specs.Timeline.{ReadyAbove, may_write, is_ready, waits_given, blocked_given, ready_below, ready_from, ready_above, waits, blocked, moves_on, next_number, next_hold, start_hold, timeline_rows}
+use Rattle.kp_pipeline.specs.{Machine.Machine, Pipeline.Inputs, Pipeline.is_candidate, Rows.Row, Rows.bits}
 use Rattle.kp_pipeline.proofs.Lists.{bits-same}
 use Rattle.kp_machine.specs.Machine.{machine_of, state_of}
 use Rattle.kp_sched.specs.Rows.{row_seen, rows_seen}
-use Rattle.kp_timing.specs.Timed.{Timed, IsOpened, hold_of, stalled_by}
-use Rattle.kp_timing.specs.Cycles.{Cycles, StallAlike}
+use Rattle.kp_timing.specs.{Timed.Timed, Timed.IsOpened, Timed.hold_of, Timed.stalled_by, Cycles.Cycles, Cycles.StallAlike}
 
 -- a cycle of a timeline in n stages depends on the instructions in them, and on which of them are stalled
 module _ (m : Machine) (s : ℕ → ℕ → ℕ) (p q : ℕ → Option ℕ) (i j : Inputs) (same : (k : ℕ) → k < m.stages → p k ≡ q k) (alike : (k : ℕ) → k < m.stages → i.ext k ≡ j.ext k) where

@@ -1,12 +1,9 @@
 -- The steps of the loops over stages.
 use Rattle.std.proofs.Common.{◌≡◌, ◌∙◌, ℕ, suc, ◌+◌, ◌-◌, ◌<◌, ◌≤◌, List, Option, None, Bool, true, false, cond, leb, ◌&&◌, ◌||◌, drop, length, get_or, set, ap, sym, arith}
-use Rattle.std.specs.List.{swap}
 use Rattle.std.proofs.lemmas.List.{drop_more}
-use Rattle.kp_timing.specs.declared.sites.Site.{Site}
-use Rattle.kp_timing.specs.declared.sites.Writer.{Writer}
-use Rattle.kp_timing.specs.declared.deciding.Found.{Found}
-use Rattle.kp_timing.specs.inner.Sites.{Sited}
+use Rattle.std.specs.List.{swap}
 use Rattle.kp_timing.specs.inner.Deciding.{Held, record_in, is_full, may_write_by, is_ready_by, met_from, is_unmet, some_unmet_from, found_at, found_down, moves_by, taken_by, taken_down}
+use Rattle.kp_timing.specs.{declared.sites.Site.Site, declared.sites.Writer.Writer, declared.deciding.Found.Found, inner.Sites.Sited}
 
 -- the stages above a read
 pub met_here : (h : Held) (b : List Bool) (w : Writer) (a n k : ℕ) → k < n → (is_full h k && (leb k w.write && may_write_by w (record_in h k) k a)) ≡ true

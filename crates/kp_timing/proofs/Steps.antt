@@ -1,15 +1,12 @@
 -- The step of the loop that writes a timeline.
 use Rattle.std.proofs.Common.{◌≡◌, ◌∙◌, ℕ, suc, ◌+◌, ◌-◌, ◌<◌, ◌≤◌, List, ◌++◌, Option, None, Bool, true, false, get_or, ap, sym, subst, arith}
 use Rattle.std.specs.Prelude.{if◌then◌else◌}
-use Rattle.kp_base.specs.inner.Bytes.{WrittenUpTo}
-use Rattle.kp_base.specs.declared.row.Row.{Row}
+use Rattle.kp_base.specs.{inner.Bytes.WrittenUpTo, declared.row.Row.Row}
 use Rattle.kp_ast.specs.declared.tree.Job.{Job}
-use Rattle.kp_stage.specs.Start.{stall_word, start_of}
-use Rattle.kp_stage.specs.declared.start.Start.{Start}
+use Rattle.kp_stage.specs.{Start.stall_word, Start.start_of, declared.start.Start.Start}
 use Rattle.kp_pipeline.specs.Rows.{one_if}
 use Rattle.kp_sched.specs.Rows.{bit_of}
-use Rattle.kp_timing.specs.Lines.{timing_line, timing_text, total_line}
-use Rattle.kp_timing.specs.Timed.{Timed, IsCycle, IsOpened, hold_of}
+use Rattle.kp_timing.specs.{Lines.timing_line, Lines.timing_text, Lines.total_line, Timed.Timed, Timed.IsCycle, Timed.IsOpened, Timed.hold_of}
 use Rattle.kp_timing.proofs.Texts.{text_left, cycle_text, opening_text}
 use Rattle.kp_sched.proofs.Bits.{stalled_bit}
 

@@ -3,17 +3,13 @@ use Rattle.std.proofs.Common.{◌≡◌, ◌∙◌, ℕ, zero, suc, ◌+◌, ◌
 use Rattle.std.specs.Prelude.{codes, decimal, if◌then◌else◌}
 use Rattle.kp_base.specs.declared.row.Row as masks
 use Rattle.kp_ast.specs.declared.tree.Job.{Job}
-use Rattle.kp_stage.specs.declared.start.Start.{Start}
-use Rattle.kp_stage.specs.Start.{is_stalled, start_of, stalls_of}
-use Rattle.kp_pipeline.specs.Machine.{Machine}
-use Rattle.kp_pipeline.specs.Pipeline.{Inputs}
-use Rattle.kp_pipeline.specs.Rows as law
-use Rattle.kp_pipeline.specs.Rows.{bit, bits, one_if}
+use Rattle.kp_stage.specs.{declared.start.Start.Start, Start.is_stalled, Start.start_of, Start.stalls_of}
+use Rattle.kp_pipeline.specs.{Machine.Machine, Pipeline.Inputs, Rows.bit, Rows.bits, Rows.one_if}
 use Rattle.kp_pipeline.specs.Timeline.{waits, moves_on, next_hold, start_hold}
+use Rattle.kp_pipeline.specs.Rows as law
 use Rattle.kp_pipeline.proofs.Lists.{bit-at, bits-same}
 use Rattle.kp_machine.specs.Machine.{machine_of, state_of, inputs_at}
-use Rattle.kp_sched.specs.Lines.{digits}
-use Rattle.kp_sched.specs.Rows.{bit_of}
+use Rattle.kp_sched.specs.{Lines.digits, Rows.bit_of}
 use Rattle.kp_timing.specs.Lines.{held_text, holds_text, timing_line, timing_from, timing_text}
 use Rattle.kp_timing.specs.Timed.{Timed, IsCycle, IsOpened, hold_of, begins, stalled_by}
 use Rattle.kp_timing.proofs.Runs.{moves_same, waits_same, next_same}

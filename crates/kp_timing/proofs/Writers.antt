@@ -1,17 +1,11 @@
 -- How a target is written, from the tables of its design.
 use Rattle.std.proofs.Common.{◌≡◌, ◌∙◌, ℕ, ◌+◌, List, [], ◌∷◌, Option, Some, None, Bool, true, false, cond, eqb, refl, ap, sym}
 use Rattle.std.proofs.lemmas.Option.{same_Some}
-use Rattle.kp_ast.specs.declared.tree.ResultDecl.{ResultDecl}
-use Rattle.kp_ast.specs.declared.tree.Decl.{Decl}
+use Rattle.kp_ast.specs.declared.tree.{ResultDecl.ResultDecl, Decl.Decl, Block.Block, Job.Job}
 use Rattle.kp_ast.specs.declared.tree.Decl.TheVariants as decls
-use Rattle.kp_ast.specs.declared.tree.Block.{Block}
-use Rattle.kp_ast.specs.declared.tree.Job.{Job}
-use Rattle.kp_machine.specs.Slots.{Slot, targets_of, number_of, result_to}
-use Rattle.kp_machine.specs.Machine.{machine_of, result_for, write_stage_of}
-use Rattle.kp_synth_tables.specs.declared.layout.Port.{Port}
-use Rattle.kp_synth_tables.specs.Fits.{port_for, port_at}
-use Rattle.kp_timing.specs.declared.sites.Site.{Site}
-use Rattle.kp_timing.specs.declared.sites.Writer.{Writer}
+use Rattle.kp_machine.specs.{Slots.Slot, Slots.targets_of, Slots.number_of, Slots.result_to, Machine.machine_of, Machine.result_for, Machine.write_stage_of}
+use Rattle.kp_synth_tables.specs.{declared.layout.Port.Port, Fits.port_for, Fits.port_at}
+use Rattle.kp_timing.specs.declared.sites.{Site.Site, Writer.Writer}
 use Rattle.kp_timing.specs.inner.Sites.{sites_from, result_number, writer_by, writer_at, writer_with}
 
 -- a target without a port has no result

@@ -1,9 +1,7 @@
 -- The text of `timing N`: a line for each cycle, and one for the totals.
 use Rattle.std.specs.Prelude.{ℕ, zero, suc, ◌+◌, ◌-◌, List, [], ◌++◌, Option, Some, None, Bool, codes, decimal, if◌then◌else◌}
 use Rattle.kp_ast.specs.declared.tree.Job.{Job}
-use Rattle.kp_pipeline.specs.Machine.{Machine}
-use Rattle.kp_pipeline.specs.Pipeline.{Inputs}
-use Rattle.kp_pipeline.specs.Rows.{bits, one_if}
+use Rattle.kp_pipeline.specs.{Machine.Machine, Pipeline.Inputs, Rows.bits, Rows.one_if}
 use Rattle.kp_pipeline.specs.Timeline.{waits, moves_on, next_hold, start_hold}
 use Rattle.kp_stage.specs.Start.{start_of}
 use Rattle.kp_machine.specs.Machine.{machine_of, state_of, inputs_at}

@@ -2,11 +2,8 @@
 use Rattle.std.specs.Prelude.{◌≡◌, ℕ, ◌+◌, ◌<◌, ◌≤◌, List, Option, None, false, is_some, get_or}
 use Rattle.kp_base.specs.declared.row.Row.{Row}
 use Rattle.kp_ast.specs.declared.tree.Job.{Job}
-use Rattle.kp_stage.specs.declared.start.Start.{Start}
-use Rattle.kp_stage.specs.Counts.{summary_of}
-use Rattle.kp_pipeline.specs.Pipeline.{Inputs}
-use Rattle.kp_pipeline.specs.Rows.{bits}
-use Rattle.kp_pipeline.specs.Timeline.{waits, moves_on, next_hold, start_hold}
+use Rattle.kp_stage.specs.{declared.start.Start.Start, Counts.summary_of}
+use Rattle.kp_pipeline.specs.{Pipeline.Inputs, Rows.bits, Timeline.waits, Timeline.moves_on, Timeline.next_hold, Timeline.start_hold}
 use Rattle.kp_machine.specs.Machine.{machine_of, state_of}
 use Rattle.kp_sched.specs.Rows.{bit_of, row_seen}
 

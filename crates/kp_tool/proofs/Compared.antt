@@ -1,30 +1,21 @@
 -- What is written about a netlist that was run and compared is the specified outcome.
 use Rattle.std.proofs.Common.{◌≡◌, ◌∙◌, ℕ, ◌≤◌, ◌<◌, ◌++◌, List, length, take, Option, Some, None, refl, ap, ap₂, sym, subst, arith}
-use Rattle.std.specs.Prelude.{MatchOption, IfSome}
 use Rattle.std.proofs.lemmas.List.{take-map}
+use Rattle.std.specs.Prelude.{MatchOption, IfSome}
 use Rattle.kp_base.specs.declared.row.Row as masks
 use Rattle.kp_bits.specs.Word.{word}
 use Rattle.kp_ast.specs.declared.tree.Job.{Job}
 use Rattle.kp_pipeline.specs.Rows.{Row}
-use Rattle.kp_machine.specs.Machine.{inputs_from}
-use Rattle.kp_machine.specs.Slots.{targets_of}
+use Rattle.kp_machine.specs.{Machine.inputs_from, Slots.targets_of}
 use Rattle.kp_net.specs.Netlist.{Net}
-use Rattle.kp_sched.specs.Lines.{row_lines}
-use Rattle.kp_sched.specs.Monitors.{Kept}
-use Rattle.kp_sched.specs.Rows.{row_seen, rows_seen}
-use Rattle.kp_sched.specs.Runs.{due_value, passes}
+use Rattle.kp_sched.specs.{Lines.row_lines, Monitors.Kept, Rows.row_seen, Rows.rows_seen, Runs.due_value, Runs.passes}
 use Rattle.kp_sched.proofs.Counting.{seen_length}
 use Rattle.kp_seq.specs.Running.{HasWord, target}
 use Rattle.kp_synth_spec.specs.Traces.{trace_of}
-use Rattle.kp_run.specs.Boards.{due_behind}
-use Rattle.kp_run.specs.Cycles.{HasRows}
-use Rattle.kp_run.specs.declared.board.Board.{Board}
-use Rattle.kp_watch.specs.Watching.{own_trace, own_due, Agrees, IsFirstDifference}
-use Rattle.kp_watch.specs.declared.compare.Difference.{Difference}
+use Rattle.kp_run.specs.{Boards.due_behind, Cycles.HasRows, declared.board.Board.Board}
+use Rattle.kp_watch.specs.{Watching.own_trace, Watching.own_due, Watching.Agrees, Watching.IsFirstDifference, declared.compare.Difference.Difference}
 use Rattle.kp_watch.proofs.Prefixes.{rows_many}
-use Rattle.kp_tool_report.specs.Runs.{run_text, count_line}
-use Rattle.kp_tool_report.specs.States.{State}
-use Rattle.kp_tool_report.specs.Texts.{differs_line}
+use Rattle.kp_tool_report.specs.{Runs.run_text, Runs.count_line, States.State, Texts.differs_line}
 use Rattle.kp_tool_report.specs.inner.Differing as shown
 use Rattle.kp_tool_report.proofs.Alike.{lines_alike}
 use Rattle.kp_tool_spec.specs.Watched.{own_text, differing_text, DueOfRun, agrees, differs}

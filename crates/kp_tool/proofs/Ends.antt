@@ -1,30 +1,19 @@
 -- How commands end: from what was written to the specified outcome.
 use Rattle.std.proofs.Common.{◌≡◌, ℕ, ◌≤◌, List, length, Ok, Err, Some, None, refl, sym, subst}
-use Rattle.std.specs.declared.option.Option.{Option}
-use Rattle.std.specs.declared.result.Result.{Result}
-use Rattle.kp_base.specs.declared.refusal.Refusal.{Refusal}
-use Rattle.kp_base.specs.declared.refusal.Refused.{Refused}
+use Rattle.std.specs.declared.{option.Option.Option, result.Result.Result}
+use Rattle.kp_base.specs.declared.refusal.{Refusal.Refusal, Refused.Refused}
 use Rattle.kp_base.specs.declared.refusal.Refused.TheVariants as refused
 use Rattle.kp_ast.specs.declared.tree.Job.{Job}
-use Rattle.kp_tool_words.specs.declared.words.Command.TheVariants.{OnJob}
-use Rattle.kp_tool_words.specs.declared.words.JobCommand.{JobCommand}
-use Rattle.kp_tool_words.specs.declared.words.JobCommand.TheVariants.{Timing}
-use Rattle.kp_frontend.specs.Judging.{JudgesText, JudgesHeadText}
-use Rattle.kp_frontend.specs.Accepting.{AnswersText, AnswersHead}
+use Rattle.kp_tool_words.specs.declared.words.{Command.TheVariants.OnJob, JobCommand.JobCommand, JobCommand.TheVariants.Timing}
+use Rattle.kp_frontend.specs.{Judging.JudgesText, Judging.JudgesHeadText, Accepting.AnswersText, Accepting.AnswersHead}
 use Rattle.kp_vlog.specs.Verdict.{AnswersNet}
-use Rattle.kp_timing.specs.Unfit.{untimed}
-use Rattle.kp_timing.specs.Lines.{timing_text}
+use Rattle.kp_timing.specs.{Unfit.untimed, Lines.timing_text}
 use Rattle.kp_tool_report.specs.Texts.{refusal_line}
-use Rattle.kp_tool_spec.specs.Saying.{Says}
-use Rattle.kp_tool_spec.specs.Due.{DueFor, DueOfJob, DueOfTiming}
-use Rattle.kp_tool_spec.specs.Read.{ReadsVerilog}
+use Rattle.kp_tool_spec.specs.{Saying.Says, Due.DueFor, Due.DueOfJob, Due.DueOfTiming, Read.ReadsVerilog}
 use Rattle.kp_tool_spec.proofs.Dues.{accepted_is_due}
-use Rattle.kp_tool.specs.Ends.{Ends, EndsAt}
-use Rattle.kp_tool.specs.inner.Failures.{failure_of, misread_of}
-use Rattle.kp_tool.specs.declared.failure.Failure.{Failure}
+use Rattle.kp_tool.specs.{Ends.Ends, Ends.EndsAt, inner.Failures.failure_of, inner.Failures.misread_of, declared.failure.Failure.Failure}
+use Rattle.kp_tool.specs.declared.failure.Stop.{Stop, TheVariants.ReadFault, TheVariants.WriteFault, TheVariants.NoMemory}
 use Rattle.kp_tool.specs.declared.failure.Failure.TheVariants as failure
-use Rattle.kp_tool.specs.declared.failure.Stop.{Stop}
-use Rattle.kp_tool.specs.declared.failure.Stop.TheVariants.{ReadFault, WriteFault, NoMemory}
 
 module _ {S : Type 0} (held : S → Option (List ℕ)) (faults : S → ℕ) where
   -- an end with outcomes of one kind is an end with outcomes of a wider kind

@@ -1,23 +1,17 @@
 -- The module of a job: how it is read, the properties of its netlist, and how a command ends that reads it.
 use Rattle.std.proofs.Common.{◌≡◌, ℕ, List, drop, Ok, Err, refl, subst, sym}
 use Rattle.std.specs.declared.option.Option.{Option}
-use Rattle.kp_base.specs.declared.refusal.Refusal.{Refusal}
-use Rattle.kp_base.specs.declared.refusal.Refused.{Refused}
+use Rattle.kp_base.specs.declared.refusal.{Refusal.Refusal, Refused.Refused}
 use Rattle.kp_base.specs.declared.refusal.Refused.TheVariants as refused
 use Rattle.kp_ast.specs.declared.tree.Job.{Job}
 use Rattle.kp_vread_match.specs.Matching.{IsRefused}
-use Rattle.kp_net.specs.Names.{IsNamed}
-use Rattle.kp_net.specs.Netlist.{Net}
+use Rattle.kp_net.specs.{Names.IsNamed, Netlist.Net}
 use Rattle.kp_synth_spec.specs.Shows.{HasOutputs, IsOfJob}
 use Rattle.kp_vlog.specs.Verdict.{AnswersNet}
 use Rattle.kp_vlog.proofs.Sound.{denoted_named}
-use Rattle.kp_tool_spec.specs.Watched.{wrong_netlist}
-use Rattle.kp_tool_spec.specs.Compared.{ReadsModule, misread, not_jobs, jobs}
+use Rattle.kp_tool_spec.specs.{Watched.wrong_netlist, Compared.ReadsModule, Compared.misread, Compared.not_jobs, Compared.jobs}
 use Rattle.kp_tool_report.specs.Texts.{refusal_line}
-use Rattle.kp_tool.specs.Ends.{Ends}
-use Rattle.kp_tool.specs.inner.Failures.{misread_of}
-use Rattle.kp_tool.specs.inner.Modules.{RefusesModule, MisreadsModule}
-use Rattle.kp_tool.specs.declared.failure.Failure.{Failure}
+use Rattle.kp_tool.specs.{Ends.Ends, inner.Failures.misread_of, inner.Modules.RefusesModule, inner.Modules.MisreadsModule, declared.failure.Failure.Failure}
 use Rattle.kp_tool.specs.declared.failure.Failure.TheVariants as failure
 
 -- a rule of V1 to V5 is an error

@@ -1,24 +1,14 @@
 -- The ends of the top call: from the specified outcomes of an input to those of the arguments and the source, and to the status.
 use Rattle.std.proofs.Common.{true, false, ◌≤◌, ◌≡◌, ◌≢◌, ◌∙◌, ℕ, List, [], length, None, Some, Ok, Err, refl, sym, subst, inl, arith}
-use Rattle.std.specs.declared.option.Option.{Option}
-use Rattle.std.specs.declared.result.Result.{Result}
-use Rattle.std.specs.Io.KnownBytes.{Consumes, IsAtEnd}
-use Rattle.kp_base.specs.declared.refusal.Refusal.{Refusal}
-use Rattle.kp_base.specs.Causes.{Rose}
-use Rattle.kp_tool_words.specs.declared.words.Command.{Command}
-use Rattle.kp_tool_words.specs.Words.{command_of, reads_input}
+use Rattle.std.specs.{declared.option.Option.Option, declared.result.Result.Result, Io.KnownBytes.Consumes, Io.KnownBytes.IsAtEnd}
+use Rattle.kp_base.specs.{declared.refusal.Refusal.Refusal, Causes.Rose}
+use Rattle.kp_tool_words.specs.{declared.words.Command.Command, Words.command_of, Words.reads_input}
 use Rattle.kp_tool_report.specs.Texts.{bad_words}
 use Rattle.kp_tool_spec.proofs.Refusals.{refused_where_broken}
-use Rattle.kp_tool_spec.specs.Saying.{Says}
-use Rattle.kp_tool_spec.specs.Due.{DueFor, IsDue, IsFinal, Completes, Begins, Between}
-use Rattle.kp_tool_spec.specs.Refused.{Breaks}
-use Rattle.kp_tool.specs.Ends.{Ends, EndsAt}
-use Rattle.kp_tool.specs.inner.Failures.{stop_status, end_status}
-use Rattle.kp_tool.specs.declared.failure.Failure.{Failure}
-use Rattle.kp_tool.specs.declared.failure.Stop.{Stop}
-use Rattle.kp_tool.specs.declared.failure.Stop.TheVariants.{ReadFault, WriteFault, NoMemory}
-use Rattle.kp_tool.proofs.Ends.{weaker}
-use Rattle.kp_tool.proofs.Statuses.{final, no_command}
+use Rattle.kp_tool_spec.specs.{Saying.Says, Due.DueFor, Due.IsDue, Due.IsFinal, Due.Completes, Due.Begins, Due.Between, Refused.Breaks}
+use Rattle.kp_tool.specs.{Ends.Ends, Ends.EndsAt, inner.Failures.stop_status, inner.Failures.end_status, declared.failure.Failure.Failure}
+use Rattle.kp_tool.specs.declared.failure.Stop.{Stop, TheVariants.ReadFault, TheVariants.WriteFault, TheVariants.NoMemory}
+use Rattle.kp_tool.proofs.{Ends.weaker, Statuses.final, Statuses.no_command}
 
 nothing_taken : (left : Option (List ℕ)) → Consumes left left []
 nothing_taken None = tt

@@ -1,20 +1,14 @@
 -- The ends of `asm`: from an assembler program to the specified outcome.
 use Rattle.std.proofs.Common.{◌≡◌, ◌∙◌, ℕ, ◌≤◌, List, length, Ok, Err, Some, refl, sym, subst}
-use Rattle.std.specs.declared.option.Option.{Option}
-use Rattle.std.specs.declared.result.Result.{Result}
 use Rattle.std.proofs.lemmas.Bool.{le-ltb}
-use Rattle.kp_base.specs.Check.{Gives}
-use Rattle.kp_base.specs.declared.refusal.Refusal.{Refusal}
-use Rattle.kp_base.specs.declared.refusal.Refused.{Refused}
+use Rattle.std.specs.declared.{option.Option.Option, result.Result.Result}
+use Rattle.kp_base.specs.{Check.Gives, declared.refusal.Refusal.Refusal, declared.refusal.Refused.Refused}
 use Rattle.kp_base.specs.declared.refusal.Refused.TheVariants as refused
-use Rattle.kp_asm.specs.Image.{image_text_of}
-use Rattle.kp_asm.specs.Program.{assembled}
+use Rattle.kp_asm.specs.{Image.image_text_of, Program.assembled}
 use Rattle.kp_tool_words.specs.declared.words.Command.TheVariants.{Assemble}
 use Rattle.kp_tool_report.specs.Texts.{refusal_line}
 use Rattle.kp_tool_spec.specs.Due.{DueFor, DueOfProgram, program_of}
-use Rattle.kp_tool.specs.Ends.{Ends}
-use Rattle.kp_tool.specs.inner.Failures.{failure_of}
-use Rattle.kp_tool.specs.declared.failure.Failure.{Failure}
+use Rattle.kp_tool.specs.{Ends.Ends, inner.Failures.failure_of, declared.failure.Failure.Failure}
 
 is_assembled : (input : List ℕ) → length input ≤ 16777216 → program_of input ≡ assembled input
 unfolding program_of

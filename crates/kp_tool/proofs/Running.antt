@@ -2,8 +2,7 @@
 use Rattle.std.proofs.Common.{◌≡◌, ◌∙◌, ℕ, List, refl, ap, sym}
 use Rattle.kp_bits.specs.Word.{Word}
 use Rattle.kp_ast.specs.declared.tree.Job.{Job}
-use Rattle.kp_stage.specs.Start.{start_of, input}
-use Rattle.kp_stage.specs.declared.start.Start.{Start}
+use Rattle.kp_stage.specs.{Start.start_of, Start.input, declared.start.Start.Start}
 use Rattle.kp_pipeline.specs.Sequential.{seq}
 use Rattle.kp_machine.specs.Machine.{machine_of, state_of, sequential, values_in}
 use Rattle.kp_tool_report.specs.States.{State}

@@ -1,7 +1,6 @@
 -- The statuses of the specified outcomes: 1 if the arguments aren't accepted, and 0, 2, 6 or 7 for a command.
 use Rattle.std.proofs.Common.{◌≡◌, ◌⊎◌, ℕ, List, Ok, Err, Some, None, inl, inr, refl, arith}
-use Rattle.std.specs.declared.option.Option.{Option}
-use Rattle.std.specs.declared.result.Result.{Result}
+use Rattle.std.specs.declared.{option.Option.Option, result.Result.Result}
 use Rattle.kp_base.specs.declared.refusal.Refusal.{Refusal}
 use Rattle.kp_ast.specs.declared.tree.Job.{Job}
 use Rattle.kp_tool_words.specs.declared.words.Command.{Command}
@@ -11,13 +10,11 @@ use Rattle.kp_tool_words.specs.declared.words.JobCommand.TheVariants.{Seq, Check
 use Rattle.kp_net.specs.Netlist.{Net}
 use Rattle.kp_timing.specs.Unfit.{untimed}
 use Rattle.kp_equiv.specs.declared.verdict.Verdict.TheVariants.{Same, Differs}
-use Rattle.kp_debug_script.specs.declared.command.Command.{Command as Step}
-use Rattle.kp_debug_script.specs.Scripts.{script_of}
+use Rattle.kp_debug_script.specs.{declared.command.Command.Command as Step, Scripts.script_of}
 use Rattle.kp_tool_spec.specs.Due.{DueFor, DueOfJob, DueOfTiming, DueOfProgram, program_of, IsFinal}
 use Rattle.kp_tool_spec.specs.Read.{DueOfVerilog, read_over, read_within}
 use Rattle.kp_tool_spec.specs.Watched.{DueOfText, DueOfNetlist, of_other, of_job, agrees, differs}
-use Rattle.kp_tool_spec.specs.Compared.{DueOfSecond, DueOfFirst}
-use Rattle.kp_tool_spec.specs.Scripted.{DueOfScript}
+use Rattle.kp_tool_spec.specs.{Compared.DueOfSecond, Compared.DueOfFirst, Scripted.DueOfScript}
 
 abbrev pub IsOfCommand : ℕ → Type 0
 IsOfCommand s = (s ≡ 0) ⊎ ((s ≡ 2) ⊎ ((s ≡ 6) ⊎ (s ≡ 7)))

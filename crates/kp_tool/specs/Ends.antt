@@ -1,12 +1,8 @@
 -- HOW A COMMAND ENDS: what was appended to the sink, by the result. `Due` is the outcomes that are specified.
-use Rattle.std.specs.Prelude.{◌≡◌, ℕ, List, Option, Result, Ok, Err}
-use Rattle.std.specs.Io.KnownBytes.{Appends}
-use Rattle.kp_base.specs.Bytes.{AppendsPart}
-use Rattle.kp_base.specs.Causes.{Rose}
+use Rattle.std.specs.{Prelude.◌≡◌, Prelude.ℕ, Prelude.List, Prelude.Option, Prelude.Result, Prelude.Ok, Prelude.Err, Io.KnownBytes.Appends}
+use Rattle.kp_base.specs.{Bytes.AppendsPart, Causes.Rose}
 use Rattle.kp_tool_report.specs.Texts.{refusal_line}
-use Rattle.kp_tool.specs.declared.failure.Failure.{Failure}
-use Rattle.kp_tool.specs.declared.failure.Failure.TheVariants.{Refused, Misread, Stopped}
-use Rattle.kp_tool.specs.declared.failure.Stop.{Stop}
+use Rattle.kp_tool.specs.declared.failure.{Failure.Failure, Failure.TheVariants.Refused, Failure.TheVariants.Misread, Failure.TheVariants.Stopped, Stop.Stop}
 use Rattle.kp_tool.specs.declared.failure.Stop.TheVariants.{ReadFault, WriteFault, NoMemory}
 
 -- The complete text of a specified outcome was appended, or a prefix of it if the sink failed, or nothing. `Unread`: the source failed.

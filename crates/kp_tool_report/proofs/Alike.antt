@@ -1,15 +1,13 @@
 -- The lines of a state depend only on the words that exist in the job.
 use Rattle.std.proofs.Common.{◌≡◌, ◌∙◌, ℕ, zero, suc, ◌+◌, ◌<◌, ◌^◌, List, [], ◌∷◌, ◌++◌, length, get_or, drop, refl, ap, ap₂, sym, subst, arith}
-use Rattle.std.specs.declared.option.Option.{Option}
 use Rattle.std.proofs.lemmas.List.{drop-drop}
+use Rattle.std.specs.declared.option.Option.{Option}
 use Rattle.kp_bits.specs.Word.{word}
-use Rattle.kp_ast.specs.declared.tree.Decl.{Decl}
+use Rattle.kp_ast.specs.declared.tree.{Decl.Decl, Job.Job}
 use Rattle.kp_ast.specs.declared.tree.Decl.TheVariants as decls
-use Rattle.kp_ast.specs.declared.tree.Job.{Job}
 use Rattle.kp_machine.specs.Slots.{Slot, targets_of}
 use Rattle.kp_seq.specs.Running.{HasWord, no_slot}
-use Rattle.kp_tool_report.specs.States.{State, Behind, line_of_word, lines_of_words, state_lines}
-use Rattle.kp_tool_report.specs.Texts.{register_line}
+use Rattle.kp_tool_report.specs.{States.State, States.Behind, States.line_of_word, States.lines_of_words, States.state_lines, Texts.register_line}
 
 words_alike : (name : List ℕ) (width : ℕ) (behind : Option ℕ) (f g : ℕ → ℕ) (address n : ℕ) → ((a : ℕ) → a < address + n → f a ≡ g a)
     → lines_of_words name width behind f address n ≡ lines_of_words name width behind g address n

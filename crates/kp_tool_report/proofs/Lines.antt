@@ -1,12 +1,10 @@
 -- The steps of the loops that write a state.
 use Rattle.std.proofs.Common.{◌≡◌, ◌∙◌, ℕ, zero, suc, ◌+◌, ◌-◌, ◌<◌, ◌≤◌, List, [], ◌∷◌, ◌++◌, length, get_or, drop, ap, sym, subst, arith}
-use Rattle.std.specs.declared.option.Option.{Option}
-use Rattle.std.specs.List.{All}
 use Rattle.std.proofs.lemmas.List.{drop_more, drop_all, drop-drop}
+use Rattle.std.specs.{declared.option.Option.Option, List.All}
 use Rattle.kp_base.specs.inner.Bytes.{WrittenUpTo}
-use Rattle.kp_ast.specs.declared.tree.Decl.{Decl}
+use Rattle.kp_ast.specs.declared.tree.{Decl.Decl, Job.Job}
 use Rattle.kp_ast.specs.declared.tree.Decl.TheVariants as decls
-use Rattle.kp_ast.specs.declared.tree.Job.{Job}
 use Rattle.kp_machine.specs.Slots.{Slot, targets_of}
 use Rattle.kp_seq.specs.Running.{no_slot}
 use Rattle.kp_tool_report.specs.States.{State, Behind, line_of_word, lines_of_words, lines_of, targets_in, state_lines}

@@ -2,15 +2,11 @@
 use Rattle.std.proofs.Common.{◌≡◌, ◌∙◌, ℕ, suc, ◌+◌, ◌-◌, ◌<◌, List, ◌++◌, length, get_or, drop, ap, sym, Some, arith}
 use Rattle.std.proofs.lemmas.List.{drop_more}
 use Rattle.kp_base.specs.declared.row.Row.{Row}
-use Rattle.kp_sched.specs.Lines.{row_line, row_lines}
-use Rattle.kp_sched.specs.Rows.{row_seen, rows_seen}
+use Rattle.kp_sched.specs.{Lines.row_line, Lines.row_lines, Rows.row_seen, Rows.rows_seen, Runs.passes}
 use Rattle.kp_ast.specs.declared.tree.Job.{Job}
-use Rattle.kp_sched.specs.Runs.{passes}
 use Rattle.kp_sched.proofs.Counting.{seen_length}
 use Rattle.kp_run.specs.Boards.{due_behind}
-use Rattle.kp_tool_report.specs.Runs.{number_behind, counts_from, count_line, run_text}
-use Rattle.kp_tool_report.specs.States.{state_lines}
-use Rattle.kp_tool_report.specs.inner.Boards.{board_text}
+use Rattle.kp_tool_report.specs.{Runs.number_behind, Runs.counts_from, Runs.count_line, Runs.run_text, States.state_lines, inner.Boards.board_text}
 
 pub rows_next : (n : ℕ) (rows : List Row) (i : ℕ) (d : Row) → i < length rows
     → row_lines i (rows_seen n (drop i rows)) ≡ row_line i (row_seen n (get_or rows i d)) ++ row_lines (i + 1) (rows_seen n (drop (i + 1) rows))

@@ -7,8 +7,7 @@ use Rattle.kp_pipeline.specs.Pipeline.{pipeline_start}
 use Rattle.kp_pipeline.specs.Rows as law
 use Rattle.kp_pipeline.proofs.Taken.{rows-length}
 use Rattle.kp_machine.specs.Machine.{machine_of, state_of, start_hints, inputs_from, pipe_of}
-use Rattle.kp_sched.specs.Rows.{rows_seen}
-use Rattle.kp_sched.specs.Runs.{due_value}
+use Rattle.kp_sched.specs.{Rows.rows_seen, Runs.due_value}
 use Rattle.kp_sched.proofs.Counting.{seen_length}
 use Rattle.kp_run.specs.Boards.{due_behind}
 use Rattle.kp_run.proofs.Legal.{inputs_many}

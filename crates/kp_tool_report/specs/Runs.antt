@@ -3,8 +3,7 @@ use Rattle.std.specs.Prelude.{ℕ, zero, suc, ◌+◌, List, [], ◌++◌, lengt
 use Rattle.kp_ast.specs.declared.tree.Job.{Job}
 use Rattle.kp_pipeline.specs.Rows.{Row, counts}
 use Rattle.kp_machine.specs.Machine.{pipe_of, inputs_from}
-use Rattle.kp_sched.specs.Lines.{row_lines}
-use Rattle.kp_sched.specs.Runs.{passes, due_value}
+use Rattle.kp_sched.specs.{Lines.row_lines, Runs.passes, Runs.due_value}
 use Rattle.kp_tool_report.specs.States.{State, state_lines}
 
 -- ` 3 2 1`: the counts of n stages, from stage k on

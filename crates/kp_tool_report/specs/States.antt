@@ -1,9 +1,8 @@
 -- The text of a state: each register and file in the order of declaration.
 use Rattle.std.specs.Prelude.{ℕ, zero, suc, ◌+◌, ◌^◌, ◌==◌, List, [], ◌∷◌, ◌++◌, if◌then◌else◌, Option, None}
 use Rattle.kp_bits.specs.Word.{word}
-use Rattle.kp_ast.specs.declared.tree.Decl.{Decl}
+use Rattle.kp_ast.specs.declared.tree.{Decl.Decl, Job.Job}
 use Rattle.kp_ast.specs.declared.tree.Decl.TheVariants as decls
-use Rattle.kp_ast.specs.declared.tree.Job.{Job}
 use Rattle.kp_machine.specs.Machine.{sequential, values_in}
 use Rattle.kp_stage.specs.Start.{input}
 use Rattle.kp_tool_report.specs.Texts.{after_line, register_line, word_line}

@@ -1,10 +1,7 @@
 -- The texts that are printed.
 use Rattle.std.specs.Prelude.{ℕ, List, ◌++◌, ◌==◌, if◌then◌else◌, codes, decimal, Option, Some, None}
-use Rattle.kp_base.specs.declared.refusal.Family.{Family}
-use Rattle.kp_base.specs.declared.refusal.Family.TheVariants.{E, V, A}
-use Rattle.kp_base.specs.declared.refusal.Refusal.{Refusal}
-use Rattle.kp_bits.specs.Word.{Word}
-use Rattle.kp_bits.specs.Spelling.{spelling}
+use Rattle.kp_base.specs.declared.refusal.{Family.Family, Family.TheVariants.E, Family.TheVariants.V, Family.TheVariants.A, Refusal.Refusal}
+use Rattle.kp_bits.specs.{Word.Word, Spelling.spelling}
 use Rattle.kp_stage.specs.declared.counts.Summary.{Summary}
 use Rattle.kp_machine.specs.Slots.{Slot, is_register}
 

@@ -1,29 +1,21 @@
 -- How the commands agree, derived from the specified outcomes.
 use Rattle.std.proofs.Common.{◌∙◌, ◌≡◌, ℕ, true, List, [], ◌∷◌, length, None, Some, Ok, Err, inl, inr, refl, ap, sym, subst, arith}
-use Rattle.std.proofs.Math.Path.{fun_ext}
-use Rattle.std.proofs.lemmas.Bool.{cond-true}
+use Rattle.std.proofs.{Math.Path.fun_ext, lemmas.Bool.cond-true}
 use Rattle.std.specs.declared.option.Option.{Option}
-use Rattle.kp_base.specs.First.{first}
-use Rattle.kp_base.specs.declared.refusal.Refusal.{Refusal}
+use Rattle.kp_base.specs.{First.first, declared.refusal.Refusal.Refusal}
 use Rattle.kp_ast.specs.declared.tree.Job.{Job}
 use Rattle.kp_width.specs.Widths.{widths_of}
 use Rattle.kp_image.specs.Sections.{sections_of}
-use Rattle.kp_stage.specs.Counts.{summary_of}
-use Rattle.kp_stage.specs.Stages.{broken_of}
-use Rattle.kp_stage.specs.Start.{start_of, input as samples_at}
+use Rattle.kp_stage.specs.{Counts.summary_of, Stages.broken_of, Start.start_of, Start.input as samples_at}
 use Rattle.kp_stage.proofs.Unbroken.{first_none}
-use Rattle.kp_pipeline.specs.Accepted.{Accepted}
-use Rattle.kp_pipeline.specs.Pipeline.{Inputs}
-use Rattle.kp_pipeline.specs.Rows.{Row, Trace, counts, passed, taken}
-use Rattle.kp_pipeline.proofs.Counts.{counts-passed}
-use Rattle.kp_pipeline.proofs.Legality.{legal}
+use Rattle.kp_pipeline.specs.{Accepted.Accepted, Pipeline.Inputs, Rows.Row, Rows.Trace, Rows.counts, Rows.passed, Rows.taken}
+use Rattle.kp_pipeline.proofs.{Counts.counts-passed, Legality.legal}
 use Rattle.kp_machine.specs.Machine.{machine_of, state_of, start_hints, pipe_of, inputs_from, values_in}
 use Rattle.kp_machine_laws.proofs.Sampleless.{same_run}
 use Rattle.kp_net.specs.Netlist.{Net, Input}
 use Rattle.kp_sched.specs.Runs.{passes, due_value, ShowsAlike}
 use Rattle.kp_sched.proofs.Runs.{alike_is_legal}
-use Rattle.kp_synth_spec.specs.Naming.{module_name}
-use Rattle.kp_synth_spec.specs.Traces.{trace_of, inputs_seen}
+use Rattle.kp_synth_spec.specs.{Naming.module_name, Traces.trace_of, Traces.inputs_seen}
 use Rattle.kp_run.specs.Cycles.{inputs_to}
 use Rattle.kp_run.proofs.Inputs.{seen_to, quiet_to}
 use Rattle.kp_watch.specs.Watching.{own_trace, Agrees}
@@ -34,17 +26,13 @@ use Rattle.kp_timing.specs.Unfit.{untimed}
 use Rattle.kp_tool_words.specs.declared.words.JobCommand.{JobCommand}
 use Rattle.kp_tool_words.specs.declared.words.JobCommand.TheVariants.{Seq, Check, Sim, Vcd, Timing, Pipe}
 use Rattle.kp_tool_words.specs.declared.words.Command.TheVariants.{OnJob, Read, Watch}
-use Rattle.kp_tool_report.specs.States.{sequential_text, text_after}
-use Rattle.kp_tool_report.specs.Runs.{run_text, sim_text, counts_behind}
+use Rattle.kp_tool_report.specs.{States.sequential_text, States.text_after, Runs.run_text, Runs.sim_text, Runs.counts_behind}
 use Rattle.kp_tool_report.proofs.Sims.{rows_many}
 use Rattle.kp_vcd_run.specs.Dumps.{own_run}
-use Rattle.kp_tool_spec.specs.Due.{DueFor, DueOfJob, DueOfTiming}
-use Rattle.kp_tool_spec.specs.Read.{ReadsVerilog}
-use Rattle.kp_tool_spec.specs.Refused.{Breaks, own_rule}
+use Rattle.kp_tool_spec.specs.{Due.DueFor, Due.DueOfJob, Due.DueOfTiming, Read.ReadsVerilog, Refused.Breaks, Refused.own_rule}
 use Rattle.kp_tool_spec.specs.Watched.{DueOfNetlist, agrees, differs, of_other, of_job}
 use Rattle.kp_tool_spec.specs.Agreeing.{sequential_state, IsSequential, IsChecked, IsFaulty, IsReadBack}
-use Rattle.kp_tool_spec.proofs.Differences.{agrees_everywhere}
-use Rattle.kp_tool_spec.proofs.Dues.{denoted_is_due}
+use Rattle.kp_tool_spec.proofs.{Differences.agrees_everywhere, Dues.denoted_is_due}
 use Rattle.kp_tool_spec.proofs.Headline.{accepted_machine, judged_unbroken, head_unbroken, same_trace}
 
 -- ---- `sim` and `seq`

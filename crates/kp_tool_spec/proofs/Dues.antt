@@ -1,26 +1,18 @@
 -- The laws about specified outcomes that the top call needs.
 use Rattle.std.proofs.Common.{true, sym, subst, IfSome, ap, drop, [], ◌++◌, ◌⊎◌, ◌∙◌, inl, None, arith, append-nil, length-append, ◌≡◌, ℕ, ◌<◌, ◌≤◌, List, length, refl, inr, Some, Ok, Err}
-use Rattle.std.specs.declared.option.Option.{Option}
 use Rattle.std.proofs.lemmas.Bool.{lt-ltb}
-use Rattle.std.specs.Io.KnownBytes.{Consumes}
+use Rattle.std.specs.{declared.option.Option.Option, Io.KnownBytes.Consumes, declared.result.Result.Result}
 use Rattle.kp_tool_words.specs.declared.words.Command.TheVariants.{OnJob, Assemble, Read, Watch, Compare, Debug, Generate}
-use Rattle.kp_tool_words.specs.declared.words.Command.{Command}
-use Rattle.std.specs.declared.result.Result.{Result}
+use Rattle.kp_tool_words.specs.{declared.words.Command.Command, declared.words.JobCommand.JobCommand, Words.command_of, Words.reads_input}
 use Rattle.kp_base.specs.declared.refusal.Refusal.{Refusal}
 use Rattle.kp_ast.specs.declared.tree.Job.{Job}
-use Rattle.kp_tool_words.specs.declared.words.JobCommand.{JobCommand}
-use Rattle.kp_frontend.specs.Judging.{Judges, JudgesText, JudgesHeadText, too_long}
-use Rattle.kp_frontend.specs.Judging.JudgesHead.{head_over, head_within}
-use Rattle.kp_frontend.specs.Judging.Judges.{over, within}
-use Rattle.kp_tool_words.specs.Words.{command_of, reads_input}
+use Rattle.kp_frontend.specs.Judging.{Judges, JudgesText, JudgesHeadText, too_long, JudgesHead.head_over, JudgesHead.head_within, Judges.over, Judges.within}
 use Rattle.kp_tool_report.specs.Texts.{refusal_line}
 use Rattle.kp_net.specs.Netlist.{Net}
 use Rattle.kp_vlog.specs.Canon.{canon}
 use Rattle.kp_tool_spec.specs.Due.{Completes, Due, DueFor, DueOfJob, DueOfProgram, program_of, IsDue, IsWhole}
-use Rattle.kp_tool_spec.specs.Read.{ReadsVerilog, DueOfRead, read_over, read_within}
-use Rattle.kp_tool_spec.specs.Watched.{DueOfWatch, DueOfText}
-use Rattle.kp_tool_spec.specs.Compared.{DueOfModules, DueOfCompare}
-use Rattle.kp_tool_spec.specs.Scripted.{DueOfScript, DueOfDebug}
+use Rattle.kp_tool_spec.specs.{Read.ReadsVerilog, Read.DueOfRead, Read.read_over, Read.read_within, Watched.DueOfWatch, Watched.DueOfText}
+use Rattle.kp_tool_spec.specs.{Compared.DueOfModules, Compared.DueOfCompare, Scripted.DueOfScript, Scripted.DueOfDebug}
 use Rattle.kp_debug_script.specs.Scripts.{script_of}
 use Rattle.kp_vread_split.specs.Splitting.{FirstEnds}
 

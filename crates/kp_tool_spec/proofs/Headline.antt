@@ -1,40 +1,25 @@
 -- The headline, derived from the specified outcomes.
 use Rattle.std.proofs.Common.{◌∙◌, ◌≡◌, ◌≤◌, ℕ, List, length, get_or, drop, None, Some, Ok, Err, refl, sym, subst, arith}
-use Rattle.std.specs.declared.option.Option.{Option}
-use Rattle.std.specs.declared.result.Result.{Result}
+use Rattle.std.specs.declared.{option.Option.Option, result.Result.Result}
 use Rattle.kp_base.specs.declared.refusal.Refusal.{Refusal}
 use Rattle.kp_bits.specs.Word.{Word}
 use Rattle.kp_ast.specs.declared.tree.Job.{Job}
 use Rattle.kp_stage.specs.Start.{start_of}
 use Rattle.kp_stage.proofs.Unbroken.{first_none}
-use Rattle.kp_pipeline.specs.Accepted.{Accepted}
-use Rattle.kp_pipeline.specs.Pipeline.{Inputs}
-use Rattle.kp_pipeline.specs.Rows.{Row, Trace, pipe, taken}
-use Rattle.kp_pipeline.specs.Timeline.{start_hold}
-use Rattle.kp_pipeline.proofs.Legality.{legal}
-use Rattle.kp_pipeline.proofs.Progress.{moves, never-squashed}
-use Rattle.kp_pipeline.proofs.Timeline.{same-rows}
-use Rattle.kp_pipeline.specs.SpeculativeTimeline.{timeline_rows as path_rows}
-use Rattle.kp_pipeline.specs.RightPath.{NoWrongGuess, WaitsOnlyWhereItMust, first_moment}
-use Rattle.kp_pipeline.proofs.Runs.{rows-right, waits-only}
+use Rattle.kp_pipeline.specs.{Accepted.Accepted, Pipeline.Inputs, Rows.Row, Rows.Trace, Rows.pipe, Rows.taken, Timeline.start_hold}
+use Rattle.kp_pipeline.specs.{SpeculativeTimeline.timeline_rows as path_rows, RightPath.NoWrongGuess, RightPath.WaitsOnlyWhereItMust, RightPath.first_moment}
+use Rattle.kp_pipeline.proofs.{Legality.legal, Progress.moves, Progress.never-squashed, Timeline.same-rows, Runs.rows-right, Runs.waits-only}
 use Rattle.kp_pipeline.proofs.Sampled.{rows-taking}
-use Rattle.kp_machine_laws.proofs.Accepting.{accepted}
-use Rattle.kp_machine_laws.proofs.Guessless.{guessless, without_guess}
+use Rattle.kp_machine_laws.proofs.{Accepting.accepted, Guessless.guessless, Guessless.without_guess}
 use Rattle.kp_machine.specs.Machine.{machine_of, state_of, start_hints, pipe_of, inputs_from}
 use Rattle.kp_seq.specs.Running.{target}
-use Rattle.kp_sched.specs.Rows.{rows_seen}
-use Rattle.kp_sched.specs.Runs.{due_value, IsLegal, ShowsAlike}
+use Rattle.kp_sched.specs.{Rows.rows_seen, Runs.due_value, Runs.IsLegal, Runs.ShowsAlike}
 use Rattle.kp_sched.proofs.Runs.{alike_is_legal, alike_moves, alike_stays}
-use Rattle.kp_synth_spec.specs.Legal.{IsLegalFrom}
-use Rattle.kp_synth_spec.specs.Anew.{trace_from, left_by_reset, HasMemory, BeginsAnew}
+use Rattle.kp_synth_spec.specs.{Legal.IsLegalFrom, Anew.trace_from, Anew.left_by_reset, Anew.HasMemory, Anew.BeginsAnew}
+use Rattle.kp_synth_spec.specs.{Naming.module_name, Naming.value_shown, Naming.value_of, Shows.Shows, Traces.inputs_seen, Traces.trace_of, Traces.no_state}
 use Rattle.kp_synth_spec.proofs.Legal.{alike_is_legal_from}
-use Rattle.kp_synth_spec.specs.Naming.{module_name, value_shown, value_of}
-use Rattle.kp_synth_spec.specs.Shows.{Shows}
-use Rattle.kp_synth_spec.specs.Traces.{inputs_seen, trace_of, no_state}
-use Rattle.kp_frontend.specs.Judging.{Judges, broken_in}
-use Rattle.kp_frontend.specs.Judging.Judges.{within}
-use Rattle.kp_frontend.specs.Judging.JudgesText.{accepted as no_rule_broken}
-use Rattle.kp_frontend.specs.Judging.JudgesHeadText.{head_accepted}
+use Rattle.kp_frontend.specs.Judging.{Judges, broken_in, JudgesHead, Judges.within, JudgesText.accepted as no_rule_broken, JudgesHeadText.head_accepted}
+use Rattle.kp_frontend.specs.Judging.JudgesHead.{head_within}
 use Rattle.kp_tool_words.specs.declared.words.JobCommand.TheVariants.{Sim, Vcd, Timing, Pipe}
 use Rattle.kp_tool_words.specs.declared.words.Command.TheVariants.{OnJob, Watch, Compare, Debug, Generate}
 use Rattle.kp_tool_report.specs.Runs.{sim_text}
@@ -48,24 +33,16 @@ use Rattle.kp_vcd_run.specs.Dumps.{own_run, values_at, vcd_dump}
 use Rattle.kp_vcd_run.proofs.Lasting.{run_lasts}
 use Rattle.kp_timing.specs.Unfit.{untimed}
 use Rattle.kp_timing.proofs.Plain.{has_timeline}
-use Rattle.kp_tool_spec.specs.Due.{DueFor, DueOfTiming}
-use Rattle.kp_net.specs.Netlist.{Net, Input, State, start_of as begin_of, state_after, last_of}
-use Rattle.kp_frontend.specs.Judging.{JudgesHead}
-use Rattle.kp_frontend.specs.Judging.JudgesHead.{head_within}
-use Rattle.kp_vread_split.specs.Splitting.{FirstEnds}
-use Rattle.kp_equiv.specs.declared.verdict.Verdict.TheVariants.{Same, Differs}
-use Rattle.kp_equiv.proofs.Running.{theorem}
-use Rattle.kp_equiv.specs.Showing.{renamed}
-use Rattle.kp_equiv.proofs.Shown.{states_same, rows_same, first_shows, second_shows}
-use Rattle.kp_equiv.proofs.Anew.{first_begins, second_begins}
-use Rattle.kp_tool_spec.specs.Read.{ReadsVerilog}
-use Rattle.kp_tool_spec.specs.Watched.{agrees, differs, DueOfNetlist, of_other, of_job}
-use Rattle.kp_tool_spec.specs.Compared.{jobs, DueOfModules}
-use Rattle.kp_debug_script.specs.declared.command.Command.{Command}
-use Rattle.kp_debug_script.specs.Scripts.{script_of}
-use Rattle.kp_debug_report.specs.Inspecting.{all_cycles, whole_run}
-use Rattle.kp_tool_spec.specs.Scripted.{DueOfScript}
 use Rattle.kp_tool_spec.specs.Headline.{IsMoving, HasNoNeedlessStall, HasNoNeedlessStallFrom, IsVerilogWith, IsRunWith, IsDumpedWith, IsGeneratedWith, IsTimed, IsDebuggedWith, IsNetlistWith, IsPairAlike, Implements, IsImplementation, RunsWith, IsPairWith}
+use Rattle.kp_tool_spec.specs.{Due.DueFor, Due.DueOfTiming, Read.ReadsVerilog}
+use Rattle.kp_tool_spec.specs.{Watched.agrees, Watched.differs, Watched.DueOfNetlist, Watched.of_other, Watched.of_job, Compared.jobs, Compared.DueOfModules}
+use Rattle.kp_tool_spec.specs.Scripted.{DueOfScript}
+use Rattle.kp_net.specs.Netlist.{Net, Input, State, start_of as begin_of, state_after, last_of}
+use Rattle.kp_vread_split.specs.Splitting.{FirstEnds}
+use Rattle.kp_equiv.specs.{declared.verdict.Verdict.TheVariants.Same, declared.verdict.Verdict.TheVariants.Differs, Showing.renamed}
+use Rattle.kp_equiv.proofs.{Running.theorem, Shown.states_same, Shown.rows_same, Shown.first_shows, Shown.second_shows, Anew.first_begins, Anew.second_begins}
+use Rattle.kp_debug_script.specs.{declared.command.Command.Command, Scripts.script_of}
+use Rattle.kp_debug_report.specs.Inspecting.{all_cycles, whole_run}
 use Rattle.kp_tool_spec.proofs.Pairs.{first_right, second_right, comparable_pair}
 
 pub judged_unbroken : (input : List ℕ) (job : Job) → Judges input (Ok job) → broken_in job ≡ None

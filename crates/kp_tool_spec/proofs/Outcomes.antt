@@ -1,7 +1,6 @@
 -- The arguments and an input have exactly one specified outcome: one status with one text.
 use Rattle.std.proofs.Common.{◌≡◌, ◌∙◌, ◌≤◌, ℕ, List, take, drop, Bool, true, false, Result, Ok, Err, Some, None, length, inl, inr, sym, subst, refl, ap, arith}
-use Rattle.std.proofs.lemmas.Bool.{cases_lt}
-use Rattle.std.proofs.lemmas.Bool.Decides.{not_from_Decides}
+use Rattle.std.proofs.lemmas.Bool.{cases_lt, Decides.not_from_Decides}
 use Rattle.kp_vread_match.specs.inner.Whole.{is_of_job}
 use Rattle.kp_vread_match.proofs.Whole.{is_found}
 use Rattle.std.specs.declared.option.Option.{Option}
@@ -14,35 +13,27 @@ use Rattle.kp_tool_words.specs.declared.words.Command.TheVariants.{OnJob, Assemb
 use Rattle.kp_tool_words.specs.declared.words.JobCommand.{JobCommand}
 use Rattle.kp_tool_words.specs.declared.words.JobCommand.TheVariants.{Seq, Check, Sim, Pipe, Vcd, Timing}
 use Rattle.kp_tool_words.specs.Words.{command_of}
-use Rattle.kp_frontend.specs.Judging.{most_bytes, too_long, JudgesHead}
-use Rattle.kp_frontend.specs.Judging.JudgesHead.{head_within}
+use Rattle.kp_frontend.specs.Judging.{most_bytes, too_long, JudgesHead, JudgesHead.head_within}
 use Rattle.kp_frontend.proofs.Verdicts.{one_verdict, some_verdict, one_head, some_head}
-use Rattle.kp_tool_report.specs.Texts.{bad_words, refusal_line, accepted_line}
-use Rattle.kp_tool_report.specs.States.{sequential_text}
-use Rattle.kp_tool_report.specs.Runs.{sim_text}
+use Rattle.kp_tool_report.specs.{Texts.bad_words, Texts.refusal_line, Texts.accepted_line, States.sequential_text, Runs.sim_text}
 use Rattle.kp_gen_report.specs.Line.{gen_text}
 use Rattle.kp_vcd_run.specs.Dumps.{vcd_text}
 use Rattle.kp_net.specs.Netlist.{Net}
-use Rattle.kp_vlog.specs.Canon.{canon}
-use Rattle.kp_vlog.specs.Rules.{Fault}
-use Rattle.kp_vlog.specs.Verdict.{refusal_of}
+use Rattle.kp_vlog.specs.{Canon.canon, Rules.Fault, Verdict.refusal_of}
 use Rattle.kp_vread_split.proofs.Ends.{one_end, some_end}
 use Rattle.kp_synth_spec.specs.Shows.{IsOfJob}
 use Rattle.kp_equiv.specs.Texts.{verdict_line}
 use Rattle.kp_equiv.proofs.Deciding.{one_verdict as one_comparison, some_verdict as some_comparison}
 use Rattle.kp_vlog.proofs.Unique.{one_net, one_rule, no_rule}
-use Rattle.kp_timing.specs.Unfit.{untimed}
-use Rattle.kp_timing.specs.Lines.{timing_text}
+use Rattle.kp_timing.specs.{Unfit.untimed, Lines.timing_text}
 use Rattle.kp_tool_spec.specs.Due.{Due, DueFor, DueOfJob, DueOfTiming, DueOfVerdict, DueOfProgram, program_of}
 use Rattle.kp_tool_spec.specs.Read.{ReadsVerilog, DueOfVerilog, DueOfRead, read_over, read_within}
 use Rattle.kp_tool_spec.specs.Compared.{verdict_status, DueOfPair, ReadsModule, misread, not_jobs, jobs, DueOfSecond, DueOfFirst, DueOfModules, DueOfPairHead, DueOfCompare}
-use Rattle.kp_debug_script.specs.declared.command.Command.{Command as Step}
-use Rattle.kp_debug_script.specs.Scripts.{script_of}
-use Rattle.kp_debug_report.specs.Inspecting.{debug_text}
 use Rattle.kp_tool_spec.specs.Scripted.{DueOfScript, DueOfScriptHead, DueOfDebug}
 use Rattle.kp_tool_spec.specs.Watched.{wrong_netlist, DueOfNetlist, of_other, of_job, DueOfText, DueOfHead, DueOfWatch}
-use Rattle.kp_tool_spec.proofs.Pairs.{first_right, second_right, comparable_pair}
-use Rattle.kp_tool_spec.proofs.Readings.{some_reading}
+use Rattle.kp_debug_script.specs.{declared.command.Command.Command as Step, Scripts.script_of}
+use Rattle.kp_debug_report.specs.Inspecting.{debug_text}
+use Rattle.kp_tool_spec.proofs.{Pairs.first_right, Pairs.second_right, Pairs.comparable_pair, Readings.some_reading}
 use Rattle.kp_tool_spec.proofs.Differences.{said_of_run, run_said}
 
 -- the texts are equal, except for those that `pipe` may print for a job

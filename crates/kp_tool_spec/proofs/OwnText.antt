@@ -1,20 +1,16 @@
 -- The text of a run that agrees with the sequential machine is that of `sim`.
 use Rattle.std.proofs.Common.{◌∙◌, ◌≡◌, ℕ, ◌≤◌, List, ◌++◌, length, None, Some, ap, arith}
 use Rattle.kp_ast.specs.declared.tree.Job.{Job}
-use Rattle.kp_pipeline.specs.Pipeline.{Inputs}
-use Rattle.kp_pipeline.specs.Rows.{Row}
+use Rattle.kp_pipeline.specs.{Pipeline.Inputs, Rows.Row}
 use Rattle.kp_machine.specs.Machine.{inputs_from, pipe_of}
 use Rattle.kp_net.specs.Netlist.{Net}
-use Rattle.kp_sched.specs.Lines.{row_lines}
-use Rattle.kp_sched.specs.Runs.{passes, due_value}
+use Rattle.kp_sched.specs.{Lines.row_lines, Runs.passes, Runs.due_value}
 use Rattle.kp_seq.specs.Running.{HasWord}
 use Rattle.kp_watch.specs.Watching.{own_trace}
 use Rattle.kp_equiv.specs.Showing.{ShowsButName}
 use Rattle.kp_frontend.specs.Judging.{broken_in}
-use Rattle.kp_tool_report.specs.States.{State}
-use Rattle.kp_tool_report.specs.Runs.{count_line, run_text, sim_text}
-use Rattle.kp_tool_report.proofs.Alike.{lines_alike}
-use Rattle.kp_tool_report.proofs.Sims.{rows_many}
+use Rattle.kp_tool_report.specs.{States.State, Runs.count_line, Runs.run_text, Runs.sim_text}
+use Rattle.kp_tool_report.proofs.{Alike.lines_alike, Sims.rows_many}
 use Rattle.kp_tool_spec.specs.Watched.{own_text}
 use Rattle.kp_tool_spec.proofs.Agreeing.{shown_agrees, agrees_if_shown}
 

@@ -1,7 +1,6 @@
 -- The status is 2 exactly if the input violates a rule of the language, and the text names the first one.
 use Rattle.std.proofs.Common.{ap, sym, ◌≡◌, ℕ, List, Some, None, Ok, Err, inl, inr, subst, refl, arith}
-use Rattle.std.specs.declared.option.Option.{Option}
-use Rattle.std.specs.declared.result.Result.{Result}
+use Rattle.std.specs.declared.{option.Option.Option, result.Result.Result}
 use Rattle.kp_base.specs.declared.refusal.Refusal.{Refusal}
 use Rattle.kp_ast.specs.declared.tree.Job.{Job}
 use Rattle.kp_tool_words.specs.declared.words.Command.{Command}
@@ -12,15 +11,12 @@ use Rattle.kp_frontend.proofs.Verdicts.{one_verdict, one_head}
 use Rattle.kp_net.specs.Netlist.{Net}
 use Rattle.kp_tool_report.specs.Texts.{refusal_line}
 use Rattle.kp_timing.specs.Unfit.{untimed}
-use Rattle.kp_tool_spec.specs.Due.{DueFor, DueOfJob, DueOfTiming, DueOfProgram, program_of}
-use Rattle.kp_tool_spec.specs.Read.{DueOfVerilog, read_over, read_within}
+use Rattle.kp_tool_spec.specs.{Due.DueFor, Due.DueOfJob, Due.DueOfTiming, Due.DueOfProgram, Due.program_of, Read.DueOfVerilog, Read.read_over, Read.read_within}
 use Rattle.kp_tool_spec.specs.Refused.{Breaks, own_rule}
 use Rattle.kp_tool_spec.specs.Watched.{DueOfText, DueOfNetlist, of_other, of_job, agrees, differs}
-use Rattle.kp_tool_spec.specs.Compared.{DueOfPair, DueOfSecond, DueOfFirst}
+use Rattle.kp_tool_spec.specs.{Compared.DueOfPair, Compared.DueOfSecond, Compared.DueOfFirst, Scripted.DueOfScript}
 use Rattle.kp_equiv.specs.declared.verdict.Verdict.TheVariants.{Same, Differs}
-use Rattle.kp_debug_script.specs.declared.command.Command.{Command as Step}
-use Rattle.kp_debug_script.specs.Scripts.{script_of}
-use Rattle.kp_tool_spec.specs.Scripted.{DueOfScript}
+use Rattle.kp_debug_script.specs.{declared.command.Command.Command as Step, Scripts.script_of}
 
 -- status 2 for an accepted job means that it violates the command's own rule
 of_timing : (count : ℕ) (job : Job) (text : List ℕ) (found : Option Refusal) → untimed job ≡ found → DueOfTiming count job found 2 text

@@ -1,25 +1,14 @@
 -- The types of the values on the stack while a Verilog text is read: each step finds the values that it builds from, and a sentence builds a module.
 use Rattle.std.proofs.Common.{ℕ, ◌≡◌, List, [], ◌∷◌, ◌++◌, Bool, Option, refl, ◌∙◌}
 use Rattle.kp_bits.specs.declared.operator.BinOp.{BinOp}
-use Rattle.kp_vlog.specs.declared.tree.Named.{Named}
-use Rattle.kp_vlog.specs.declared.tree.Num.{Num}
-use Rattle.kp_vlog.specs.declared.tree.Lit.{Lit}
-use Rattle.kp_vlog.specs.declared.tree.Range.{Range}
-use Rattle.kp_vlog.specs.declared.tree.VPort.{VPort}
-use Rattle.kp_vlog.specs.declared.tree.Right.{Right}
-use Rattle.kp_vlog.specs.declared.tree.Item.{Item}
-use Rattle.kp_vlog.specs.declared.tree.Init.{Init}
-use Rattle.kp_vlog.specs.declared.tree.ResetValue.{ResetValue}
-use Rattle.kp_vlog.specs.declared.tree.ResetList.{ResetList}
-use Rattle.kp_vlog.specs.declared.tree.Update.{Update}
-use Rattle.kp_vlog.specs.declared.tree.VModule.{VModule}
+use Rattle.kp_vlog.specs.declared.tree.{Named.Named, Num.Num, Lit.Lit, Range.Range, VPort.VPort, Right.Right, Item.Item, Init.Init, ResetValue.ResetValue}
+use Rattle.kp_vlog.specs.{declared.tree.ResetList.ResetList, declared.tree.Update.Update, declared.tree.VModule.VModule, Tokens.Token}
+use Rattle.kp_vlog.specs.Language.{Value, Way, Step, Sym, verilog, rules, read_token, built}
+use Rattle.kp_vlog.specs.inner.Follow.{tables}
 use Rattle.kp_grammar.specs.Grammar.{Terminal, Nonterminal, Action, alternatives, Has, here, there}
 use Rattle.kp_grammar.specs.Machine.{Outcome, Accepts, Leads, accept, more, goes, take, make, wrong, lost, exceed}
 use Rattle.kp_grammar.proofs.Check.{picks_rule}
-use Rattle.kp_vlog.specs.Tokens.{Token}
-use Rattle.kp_vlog.specs.Language.{Value, Way, Step, Sym, verilog, rules, read_token, built}
 use Rattle.kp_vlog.specs.Language as l
-use Rattle.kp_vlog.specs.inner.Follow.{tables}
 
 -- the kinds of values
 data Ty : Type 0 where

@@ -6,18 +6,11 @@ use Rattle.kp_lex.specs.Text.{tail_of}
 use Rattle.kp_synth_spec.specs.Shows.{IsOfJob}
 use Rattle.kp_watch.specs.Watching.{Agrees}
 use Rattle.kp_equiv.specs.Showing.{ShowsButName}
-use Rattle.kp_frontend.specs.Judging.{JudgesText, JudgesHead, JudgesHeadText, broken_in, most_bytes}
-use Rattle.kp_frontend.specs.Judging.JudgesHead.{head_within}
+use Rattle.kp_frontend.specs.Judging.{JudgesText, JudgesHead, JudgesHeadText, broken_in, most_bytes, JudgesHead.head_within}
 use Rattle.kp_tool_words.specs.declared.words.Command.TheVariants.{Watch}
 use Rattle.kp_tool_report.specs.Runs.{sim_text}
-use Rattle.kp_tool_spec.specs.Due.{DueFor}
-use Rattle.kp_tool_spec.specs.Written.{IsVerilogOf}
-use Rattle.kp_tool_spec.specs.Read.{ReadsVerilog}
-use Rattle.kp_tool_spec.specs.Watched.{own_text, of_job, agrees}
-use Rattle.kp_tool_spec.proofs.Agreeing.{agrees_if_shown}
-use Rattle.kp_tool_spec.proofs.Headline.{implements}
-use Rattle.kp_tool_spec.proofs.Heads.{EndsLine, head_of_both, tail_is_gap}
-use Rattle.kp_tool_spec.proofs.OwnText.{own_is_sim}
+use Rattle.kp_tool_spec.specs.{Due.DueFor, Written.IsVerilogOf, Read.ReadsVerilog, Watched.own_text, Watched.of_job, Watched.agrees}
+use Rattle.kp_tool_spec.proofs.{Agreeing.agrees_if_shown, Headline.implements, Heads.EndsLine, Heads.head_of_both, Heads.tail_is_gap, OwnText.own_is_sim}
 use Rattle.kp_tool_spec.proofs.After.{reads_after}
 
 -- the outcome for a netlist that agrees with the sequential machine

@@ -2,26 +2,19 @@
 use Rattle.std.specs.Prelude.{◌≡◌, ◌≤◌, ◌++◌, ℕ, true, List, [], ◌∷◌, length, None, Some, Ok}
 use Rattle.kp_base.specs.declared.refusal.Refusal.{Refusal}
 use Rattle.kp_ast.specs.declared.tree.Job.{Job}
-use Rattle.kp_stage.specs.Counts.{summary_of}
-use Rattle.kp_stage.specs.Start.{input as samples_at}
+use Rattle.kp_stage.specs.{Counts.summary_of, Start.input as samples_at}
 use Rattle.kp_machine.specs.Machine.{machine_of, sequential, values_in}
 use Rattle.kp_net.specs.Netlist.{Net}
 use Rattle.kp_sched.specs.Runs.{passes}
 use Rattle.kp_synth_spec.specs.Shows.{IsOfJob}
 use Rattle.kp_equiv.specs.Showing.{ShowsButName}
-use Rattle.kp_tool_words.specs.declared.words.Command.TheVariants.{OnJob, Read, Watch}
-use Rattle.kp_tool_words.specs.declared.words.JobCommand.{JobCommand}
+use Rattle.kp_tool_words.specs.declared.words.{Command.TheVariants.OnJob, Command.TheVariants.Read, Command.TheVariants.Watch, JobCommand.JobCommand}
 use Rattle.kp_tool_words.specs.declared.words.JobCommand.TheVariants.{Seq, Sim}
 use Rattle.kp_frontend.specs.Judging.{Judges, JudgesHead, most_bytes}
 use Rattle.kp_watch.specs.Watching.{IsFirstDifference}
-use Rattle.kp_tool_report.specs.Texts.{accepted_line}
-use Rattle.kp_tool_report.specs.States.{text_after}
-use Rattle.kp_tool_report.specs.Runs.{run_text, counts_behind}
+use Rattle.kp_tool_report.specs.{Texts.accepted_line, States.text_after, Runs.run_text, Runs.counts_behind}
 use Rattle.kp_vcd_run.specs.Dumps.{own_run}
-use Rattle.kp_tool_spec.specs.Due.{DueFor}
-use Rattle.kp_tool_spec.specs.Read.{ReadsVerilog}
-use Rattle.kp_tool_spec.specs.Refused.{Breaks, own_rule}
-use Rattle.kp_tool_spec.specs.Watched.{differing_text}
+use Rattle.kp_tool_spec.specs.{Due.DueFor, Read.ReadsVerilog, Refused.Breaks, Refused.own_rule, Watched.differing_text}
 
 -- the state that `seq N` prints: that of the sequential machine after N instructions, of which instruction i has the samples of cycle i
 abbrev pub sequential_state : Job → ℕ → ℕ → ℕ → ℕ

@@ -5,15 +5,11 @@ use Rattle.kp_ast.specs.declared.tree.Job.{Job}
 use Rattle.kp_net.specs.Netlist.{Net}
 use Rattle.kp_synth_spec.specs.Shows.{IsOfJob}
 use Rattle.kp_vread_split.specs.Splitting.{FirstEnds}
-use Rattle.kp_equiv.specs.declared.verdict.Verdict.{Verdict}
-use Rattle.kp_equiv.specs.declared.verdict.Verdict.TheVariants.{Same, Differs}
-use Rattle.kp_equiv.specs.Roots.{IsVerdict}
-use Rattle.kp_equiv.specs.Texts.{verdict_line}
+use Rattle.kp_equiv.specs.declared.verdict.Verdict.{Verdict, TheVariants.Same, TheVariants.Differs}
+use Rattle.kp_equiv.specs.{Roots.IsVerdict, Texts.verdict_line}
 use Rattle.kp_frontend.specs.Judging.{JudgesHead}
 use Rattle.kp_tool_report.specs.Texts.{refusal_line}
-use Rattle.kp_tool_spec.specs.Saying.{Says}
-use Rattle.kp_tool_spec.specs.Read.{ReadsVerilog}
-use Rattle.kp_tool_spec.specs.Watched.{wrong_netlist}
+use Rattle.kp_tool_spec.specs.{Saying.Says, Read.ReadsVerilog, Watched.wrong_netlist}
 
 -- the status of a verdict
 abbrev pub verdict_status : Verdict → ℕ

@@ -1,31 +1,21 @@
 -- What is due: a status and a text for the words and the bytes of the source.
 use Rattle.std.specs.Prelude.{◌≡◌, ◌≢◌, ◌≤◌, ◌⊎◌, Bool, true, false, ℕ, List, [], length, nat_lt, if◌then◌else◌, Ok, Err, Some, None, Option, Result}
 use Rattle.std.specs.Io.KnownBytes.{Consumes, Appends, IsAtEnd}
-use Rattle.kp_base.specs.Bytes.{AppendsPart}
-use Rattle.kp_base.specs.declared.refusal.Refusal.{Refusal}
+use Rattle.kp_base.specs.{Bytes.AppendsPart, declared.refusal.Refusal.Refusal}
 use Rattle.kp_ast.specs.declared.tree.Job.{Job}
 use Rattle.kp_stage.specs.Counts.{summary_of}
-use Rattle.kp_asm.specs.Image.{image_text_of}
-use Rattle.kp_asm.specs.Program.{assembled}
+use Rattle.kp_asm.specs.{Image.image_text_of, Program.assembled}
 use Rattle.kp_tool_words.specs.declared.words.Command.{Command}
 use Rattle.kp_tool_words.specs.declared.words.Command.TheVariants.{OnJob, Assemble, Read, Watch, Compare, Debug, Generate}
 use Rattle.kp_tool_words.specs.declared.words.JobCommand.{JobCommand}
 use Rattle.kp_tool_words.specs.declared.words.JobCommand.TheVariants.{Seq, Check, Sim, Pipe, Vcd, Timing}
 use Rattle.kp_tool_words.specs.Words.{command_of, reads_input}
 use Rattle.kp_frontend.specs.Judging.{Judges, too_long}
-use Rattle.kp_tool_report.specs.Texts.{bad_words, refusal_line, accepted_line}
-use Rattle.kp_tool_report.specs.States.{sequential_text}
-use Rattle.kp_tool_report.specs.Runs.{sim_text}
+use Rattle.kp_tool_report.specs.{Texts.bad_words, Texts.refusal_line, Texts.accepted_line, States.sequential_text, Runs.sim_text}
 use Rattle.kp_gen_report.specs.Line.{gen_text}
 use Rattle.kp_vcd_run.specs.Dumps.{vcd_text}
-use Rattle.kp_timing.specs.Unfit.{untimed}
-use Rattle.kp_timing.specs.Lines.{timing_text}
-use Rattle.kp_tool_spec.specs.Saying.{Says}
-use Rattle.kp_tool_spec.specs.Written.{IsVerilogOf}
-use Rattle.kp_tool_spec.specs.Read.{DueOfRead}
-use Rattle.kp_tool_spec.specs.Watched.{DueOfWatch}
-use Rattle.kp_tool_spec.specs.Compared.{DueOfCompare}
-use Rattle.kp_tool_spec.specs.Scripted.{DueOfDebug}
+use Rattle.kp_timing.specs.{Unfit.untimed, Lines.timing_text}
+use Rattle.kp_tool_spec.specs.{Saying.Says, Written.IsVerilogOf, Read.DueOfRead, Watched.DueOfWatch, Compared.DueOfCompare, Scripted.DueOfDebug}
 
 -- the outcome of `timing N` on an accepted job: E38 if it has a guess or a sample, and otherwise its timeline
 abbrev pub DueOfTiming : ℕ → Job → Option Refusal → ℕ → List ℕ → Type 0

@@ -5,30 +5,21 @@
 use Rattle.std.specs.Prelude.{◌≡◌, ◌↔◌, ◌≤◌, ℕ, true, List, length, get_or, take, drop, None, Some, Ok}
 use Rattle.kp_bits.specs.Word.{Word}
 use Rattle.kp_ast.specs.declared.tree.Job.{Job}
-use Rattle.kp_stage.specs.Counts.{summary_of}
-use Rattle.kp_stage.specs.Start.{start_of}
-use Rattle.kp_pipeline.specs.Claims.{Moves, HighestStays}
-use Rattle.kp_pipeline.specs.Pipeline.{Inputs}
-use Rattle.kp_pipeline.specs.Rows.{Trace, taken}
+use Rattle.kp_stage.specs.{Counts.summary_of, Start.start_of}
+use Rattle.kp_pipeline.specs.{Claims.Moves, Claims.HighestStays, Pipeline.Inputs, Rows.Trace, Rows.taken}
 use Rattle.kp_pipeline.specs.Timeline.{no_samples, start_hold, timeline_rows}
 use Rattle.kp_pipeline.specs.SpeculativeTimeline.{timeline_rows as path_rows, timeline_rows_taking}
 use Rattle.kp_pipeline.specs.RightPath.{NoWrongGuess, WaitsOnlyWhereItMust, first_moment}
 use Rattle.kp_machine.specs.Machine.{machine_of, state_of, start_hints, pipe_of, inputs_from}
 use Rattle.kp_net.specs.Netlist.{Net, Input, State, state_after, last_of}
 use Rattle.kp_sched.specs.Runs.{due_value}
-use Rattle.kp_synth_spec.specs.Naming.{module_name, value_shown}
-use Rattle.kp_synth_spec.specs.Traces.{trace_of, inputs_seen, AreQuiet}
-use Rattle.kp_synth_spec.specs.Shows.{IsOfJob, HasOutputs}
+use Rattle.kp_synth_spec.specs.{Naming.module_name, Naming.value_shown, Traces.trace_of, Traces.inputs_seen, Traces.AreQuiet, Shows.IsOfJob, Shows.HasOutputs}
 use Rattle.kp_synth_spec.specs.Anew.{trace_from, left_by_reset, HasMemory, BeginsAnew}
 use Rattle.kp_vlog.specs.Denote.{Denotes}
 use Rattle.kp_vread_split.specs.Splitting.{FirstEnds}
-use Rattle.kp_equiv.specs.declared.verdict.Verdict.TheVariants.{Same}
-use Rattle.kp_equiv.specs.Runs.{RunAlike}
-use Rattle.kp_equiv.specs.Showing.{renamed, ShowsButName}
-use Rattle.kp_equiv.specs.Texts.{verdict_line}
+use Rattle.kp_equiv.specs.{declared.verdict.Verdict.TheVariants.Same, Runs.RunAlike, Showing.renamed, Showing.ShowsButName, Texts.verdict_line}
 use Rattle.kp_frontend.specs.Judging.{Judges, JudgesHead, broken_in}
-use Rattle.kp_debug_script.specs.declared.command.Command.{Command}
-use Rattle.kp_debug_script.specs.Scripts.{script_of}
+use Rattle.kp_debug_script.specs.{declared.command.Command.Command, Scripts.script_of}
 use Rattle.kp_debug_report.specs.Inspecting.{all_cycles, printed}
 use Rattle.kp_watch.specs.Watching.{own_trace}
 use Rattle.kp_tool_report.specs.Runs.{run_text}
@@ -37,8 +28,7 @@ use Rattle.kp_gen_report.specs.Line.{totals_of, totals_line}
 use Rattle.kp_vcd.specs.Held.{held, Changes}
 use Rattle.kp_vcd_run.specs.Dumps.{own_run, values_at, vcd_dump, vcd_text}
 use Rattle.kp_timing.specs.Lines.{timing_text}
-use Rattle.kp_tool_spec.specs.Read.{ReadsVerilog}
-use Rattle.kp_tool_spec.specs.Watched.{own_text}
+use Rattle.kp_tool_spec.specs.{Read.ReadsVerilog, Watched.own_text}
 
 -- MOVING: in a cycle in which no stage is stalled from outside the highest full stage updates, and any n stall-free cycles of a machine of n
 -- stages retire an instruction. The highest full stage is never squashed.

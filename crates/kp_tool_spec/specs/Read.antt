@@ -2,9 +2,7 @@
 use Rattle.std.specs.Prelude.{◌<◌, ◌≤◌, ℕ, List, length, drop, Ok, Err, Result}
 use Rattle.kp_base.specs.declared.refusal.Refusal.{Refusal}
 use Rattle.kp_net.specs.Netlist.{Net}
-use Rattle.kp_vlog.specs.Canon.{canon}
-use Rattle.kp_vlog.specs.Denote.{Denotes}
-use Rattle.kp_vlog.specs.Verdict.{IsRefused}
+use Rattle.kp_vlog.specs.{Canon.canon, Denote.Denotes, Verdict.IsRefused}
 use Rattle.kp_frontend.specs.Judging.{most_bytes, too_long}
 use Rattle.kp_tool_report.specs.Texts.{refusal_line}
 use Rattle.kp_tool_spec.specs.Saying.{Says}

@@ -1,7 +1,6 @@
 -- THE OUTCOME OF `watch N`, for a job and the netlist that the Verilog text after its `end` denotes.
 use Rattle.std.specs.Prelude.{ℕ, List, ◌++◌, take, Ok, Err, Result}
-use Rattle.kp_base.specs.Refusal.{v_rule}
-use Rattle.kp_base.specs.declared.refusal.Refusal.{Refusal}
+use Rattle.kp_base.specs.{Refusal.v_rule, declared.refusal.Refusal.Refusal}
 use Rattle.kp_bits.specs.Word.{word}
 use Rattle.kp_ast.specs.declared.tree.Job.{Job}
 use Rattle.kp_net.specs.Netlist.{Net}
@@ -10,10 +9,8 @@ use Rattle.kp_seq.specs.Running.{target}
 use Rattle.kp_synth_spec.specs.Shows.{IsOfJob}
 use Rattle.kp_frontend.specs.Judging.{JudgesHead}
 use Rattle.kp_watch.specs.Watching.{own_trace, own_due, Agrees, IsFirstDifference}
-use Rattle.kp_tool_report.specs.Texts.{refusal_line, differs_line}
-use Rattle.kp_tool_report.specs.Runs.{run_text}
-use Rattle.kp_tool_spec.specs.Saying.{Says}
-use Rattle.kp_tool_spec.specs.Read.{ReadsVerilog}
+use Rattle.kp_tool_report.specs.{Texts.refusal_line, Texts.differs_line, Runs.run_text}
+use Rattle.kp_tool_spec.specs.{Saying.Says, Read.ReadsVerilog}
 
 -- the rows of the netlist's own run, followed by the counts and the values of its registers and files
 abbrev pub own_text : ℕ → Job → Net → List ℕ

@@ -1,14 +1,10 @@
 -- A VERILOG TEXT OF A JOB.
 use Rattle.std.specs.Prelude.{◌≡◌, ℕ, ◌+◌, ◌*◌, ◌≤◌, List, length}
 use Rattle.kp_ast.specs.declared.tree.Job.{Job}
-use Rattle.kp_stage.specs.declared.counts.Summary.{Summary}
-use Rattle.kp_stage.specs.Counts.{summary_of}
-use Rattle.kp_net.specs.Netlist.{Net}
-use Rattle.kp_net.specs.Widths.{Distinct}
-use Rattle.kp_vlog.specs.Canon.{canon}
-use Rattle.kp_vlog.specs.Denote.{Denotes}
-use Rattle.kp_synth_spec.specs.Shows.{Shows, IsInOrder}
-use Rattle.kp_synth_spec.specs.Anew.{BeginsAnew}
+use Rattle.kp_stage.specs.{declared.counts.Summary.Summary, Counts.summary_of}
+use Rattle.kp_net.specs.{Netlist.Net, Widths.Distinct}
+use Rattle.kp_vlog.specs.{Canon.canon, Denote.Denotes}
+use Rattle.kp_synth_spec.specs.{Shows.Shows, Shows.IsInOrder, Anew.BeginsAnew}
 
 -- The most nodes that the netlist of a job has, by the numbers of its machine: those of its expressions, and a few for each stage and entry of
 -- its tables.

@@ -1,27 +1,18 @@
 -- What `clap` returns for arguments none of which begins with `-`.
 use Rattle.std.proofs.Common.{◌≡◌, ◌∙◌, ◌⊎◌, ℕ, Bool, cond, true, false, refl, sym, ap, ap₂, subst, List, [], ◌∷◌, map, fold, ◌&&◌, ◌||◌, ◌==◌, Option, Some, None, is_some, inl, inr, true≢false, codes, option_map}
+use Rattle.std.proofs.lemmas.{Slice.Eq.bytes_eq-Decides, Bool.eqb-true}
 use Rattle.std.specs.Prelude.{⊤, Box, nat_lt, nat_le, length, find, option_and_then, unwrap_or}
-use Rattle.std.specs.Str.{bytes_eq}
-use Rattle.std.specs.List.{list_any}
-use Rattle.std.specs.Option.{option_map_or}
-use Rattle.std.proofs.lemmas.Slice.Eq.{bytes_eq-Decides}
-use Rattle.clap.specs.Lexer.{long_of, short_of}
+use Rattle.std.specs.{Str.bytes_eq, List.list_any, Option.option_map_or, Box.box_value}
 use Rattle.clap.specs.Walk.{Held, Names, Row, Rule, Step, Text, Walk, idle, value, answers_to, arg_by_index, subcommand_met, word_met, walked, walk, walk_from, nothing_held, to_positional, after_step, rows_after, subcommand_or_other, settled, finished}
-use Rattle.clap.specs.Simple.{Shape, built, built_leaf, entered, rows_at, inherited, label_of, marked_built, subcommand_of, with_leaf_noted, with_filled_rules}
-use Rattle.std.specs.Box.{box_value}
-use Rattle.clap.specs.Simple.{subcommand_rows}
-use Rattle.clap.specs.declared.parser.matches.ArgMatches.TheViews.{out-SubCommand}
-use Rattle.clap.specs.declared.parser.matches.SubCommand.{SubCommand}
-use Rattle.clap.specs.Kinds.{Kinds, or_else}
+use Rattle.clap.specs.Lexer.{long_of, short_of}
+use Rattle.clap.specs.Simple.{Shape, built, built_leaf, entered, rows_at, inherited, label_of, marked_built, subcommand_of, with_leaf_noted, with_filled_rules, subcommand_rows}
+use Rattle.clap.specs.{declared.parser.matches.ArgMatches.TheViews.out-SubCommand, declared.parser.matches.SubCommand.SubCommand, Kinds.Kinds, Kinds.or_else}
 use Rattle.clap.specs.Faults.{fault_of, level_fault, turn_fault, step_fault, walk_fault, word_fault, defaults_fault, settle_fault, check_fault, entered_fault, other_fault}
-use Rattle.clap.proofs.WalkLemmas.{walk_stopped}
-use Rattle.clap.proofs.FaultLemmas.{stopped_fault}
-use Rattle.std.proofs.lemmas.Bool.{eqb-true}
+use Rattle.clap.proofs.{WalkLemmas.walk_stopped, FaultLemmas.stopped_fault}
 use Rattle.kp_bits.specs.Literals.{number_of, number_within, numeral_value}
 use Rattle.kp_tool_words.specs.declared.words.Command.{Command}
 use Rattle.kp_tool_words.specs.Words.{begins_with_dash, is_barred, at_most, command_of, count_of, seed_of, counted_command, plain_command, seeded_command}
-use Rattle.kp_tool_words.specs.inner.Matching.{Form, Numbers, plain, counted, seeded, known_forms, shape_of_form}
-use Rattle.kp_tool_words.specs.inner.Matching.{program_shape, program_of, command_of_rows}
+use Rattle.kp_tool_words.specs.inner.Matching.{Form, Numbers, plain, counted, seeded, known_forms, shape_of_form, program_shape, program_of, command_of_rows}
 
 -- ---- an argument that does not begin with `-`
 

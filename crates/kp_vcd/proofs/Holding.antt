@@ -1,11 +1,10 @@
 -- The values after the changes of given values.
 use Rattle.std.proofs.Common.{◌≡◌, ◌≢◌, ◌∙◌, ℕ, zero, suc, ◌+◌, ◌<◌, ◌≤◌, List, [], ◌∷◌, ◌++◌, get_or, Bool, true, false, Option, None, Some, refl, ap, ap₂, sym, subst, arith}
-use Rattle.std.specs.Prelude.{◌==◌, ◌&&◌, not, nat_le, nat_lt, if◌then◌else◌}
 use Rattle.std.proofs.lemmas.Bool.{eqb-true, eq-eqb, ne_eqb, le-leb, lt-leb, ltb-true, ltb-false, and_parts}
 use Rattle.std.proofs.lemmas.List.{append_assoc, append-nil}
+use Rattle.std.specs.Prelude.{◌==◌, ◌&&◌, not, nat_le, nat_lt, if◌then◌else◌}
 use Rattle.kp_bits.specs.Word.{Word, word}
-use Rattle.kp_vcd.specs.declared.dump.Change.{Change}
-use Rattle.kp_vcd.specs.declared.dump.Moment.{Moment}
+use Rattle.kp_vcd.specs.declared.dump.{Change.Change, Moment.Moment}
 use Rattle.kp_vcd.specs.Held.{Holding, nothing, after_change, after, changes_to, EachIsNew, all_changes}
 use Rattle.kp_vcd.specs.Recording.{Values, is_value, change_of, changes_from, changes_at, is_empty, moment_of, moments_before, recorded, Lasts}
 

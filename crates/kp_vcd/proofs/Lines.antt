@@ -1,11 +1,9 @@
 -- The lines of a list, in order.
 use Rattle.std.proofs.Common.{◌≡◌, ◌∙◌, ℕ, ◌+◌, ◌<◌, ◌≤◌, List, [], ◌∷◌, ◌++◌, length, get_or, drop, ap, sym, subst}
-use Rattle.std.specs.declared.option.Option.{Option}
 use Rattle.std.proofs.lemmas.List.{drop_more, drop_all}
+use Rattle.std.specs.declared.option.Option.{Option}
 use Rattle.kp_base.specs.inner.Bytes.{WrittenUpTo}
-use Rattle.kp_vcd.specs.declared.dump.Signal.{Signal}
-use Rattle.kp_vcd.specs.declared.dump.Change.{Change}
-use Rattle.kp_vcd.specs.declared.dump.Moment.{Moment}
+use Rattle.kp_vcd.specs.declared.dump.{Signal.Signal, Change.Change, Moment.Moment}
 use Rattle.kp_vcd.specs.Text.{signal_line, signal_lines, change_line, change_lines, time_line, moment_lines}
 
 -- the text that is left is the same

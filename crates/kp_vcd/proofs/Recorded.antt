@@ -1,8 +1,7 @@
 -- One time more is recorded.
 use Rattle.std.proofs.Common.{◌≡◌, ◌∙◌, ℕ, suc, ◌+◌, List, ◌++◌, Option, ap₂, subst, arith}
 use Rattle.std.specs.Option.{option_to_list}
-use Rattle.kp_vcd.specs.declared.dump.Change.{Change}
-use Rattle.kp_vcd.specs.declared.dump.Moment.{Moment}
+use Rattle.kp_vcd.specs.declared.dump.{Change.Change, Moment.Moment}
 use Rattle.kp_vcd.specs.Recording.{Values, Record, changes_from, changes_at, moment_of, HasRecorded}
 
 pub recorded_next : (values : ℕ → Values) (T : ℕ) (old new : Record) (now : Values) (kept : Option Moment) (changes : List Change) → HasRecorded values old.last T old → now ≡ values T

@@ -1,9 +1,7 @@
 -- THE VALUES OF THE SIGNALS in a dump.
 use Rattle.std.specs.Prelude.{◌≢◌, ℕ, ◌==◌, nat_le, List, [], ◌∷◌, ◌++◌, Option, None, Some, if◌then◌else◌, ⊤}
 use Rattle.kp_bits.specs.Word.{Word}
-use Rattle.kp_vcd.specs.declared.dump.Change.{Change}
-use Rattle.kp_vcd.specs.declared.dump.Moment.{Moment}
-use Rattle.kp_vcd.specs.declared.dump.Dump.{Dump}
+use Rattle.kp_vcd.specs.declared.dump.{Change.Change, Moment.Moment, Dump.Dump}
 
 -- the value of each signal, if it has one
 abbrev pub Holding : Type 0

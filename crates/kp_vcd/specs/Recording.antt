@@ -1,8 +1,7 @@
 -- THE CHANGES OF GIVEN VALUES. They are given for the times 0 to n, at each time by signal, and at some times a signal has none.
 use Rattle.std.specs.Prelude.{◌≡◌, ℕ, zero, suc, ◌+◌, ◌<◌, ◌==◌, ◌&&◌, not, List, [], ◌∷◌, ◌++◌, get_or, Bool, true, false, Option, None, Some, if◌then◌else◌}
 use Rattle.kp_bits.specs.Word.{Word}
-use Rattle.kp_vcd.specs.declared.dump.Change.{Change}
-use Rattle.kp_vcd.specs.declared.dump.Moment.{Moment}
+use Rattle.kp_vcd.specs.declared.dump.{Change.Change, Moment.Moment}
 
 abbrev pub Values : Type 0
 Values = List (Option Word)

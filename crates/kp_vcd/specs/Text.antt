@@ -1,10 +1,7 @@
 -- THE TEXT OF A DUMP, in the form of IEEE 1364-2005, clause 18.2.
 use Rattle.std.specs.Prelude.{ℕ, zero, suc, ◌+◌, ◌/◌, ◌%◌, ◌^◌, ◌==◌, List, [], ◌∷◌, ◌++◌, Bool, true, false, codes, decimal, if◌then◌else◌}
 use Rattle.kp_bits.specs.Word.{Word}
-use Rattle.kp_vcd.specs.declared.dump.Signal.{Signal}
-use Rattle.kp_vcd.specs.declared.dump.Change.{Change}
-use Rattle.kp_vcd.specs.declared.dump.Moment.{Moment}
-use Rattle.kp_vcd.specs.declared.dump.Dump.{Dump}
+use Rattle.kp_vcd.specs.declared.dump.{Signal.Signal, Change.Change, Moment.Moment, Dump.Dump}
 
 -- `wire` or `reg`
 abbrev pub kind_word : Bool → List ℕ

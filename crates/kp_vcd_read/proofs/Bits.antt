@@ -1,11 +1,9 @@
 -- The number that bits denote fits in as many bits.
 use Rattle.std.proofs.Common.{◌≡◌, ◌∙◌, ℕ, suc, ◌+◌, ◌*◌, ◌^◌, ◌<◌, ◌≤◌, ◌⊎◌, inl, inr, List, [], ◌∷◌, length, true, ap, sym, subst, Some, None, ltb, arith}
-use Rattle.std.specs.Prelude.{◌==◌, fold}
-use Rattle.std.specs.List.{list_all}
 use Rattle.std.proofs.Math.Nat.{pow-suc, mul-le-mul_right, mul_assoc, mul_comm}
 use Rattle.std.proofs.lemmas.Bool.{and_parts, or_cases, eqb-true, cond-true, lt-ltb, ltb-true}
-use Rattle.kp_bits.specs.Literals.{numeral_next, numeral_value, number_within}
-use Rattle.kp_bits.specs.Word.{word, IsWord}
+use Rattle.std.specs.{Prelude.◌==◌, Prelude.fold, List.list_all}
+use Rattle.kp_bits.specs.{Literals.numeral_next, Literals.numeral_value, Literals.number_within, Word.word, Word.IsWord}
 use Rattle.kp_bits.proofs.Powers.{pow_le}
 use Rattle.kp_vcd_read.specs.Forms.{is_bit, are_bits}
 

@@ -1,7 +1,6 @@
 -- A text has no more tokens than bytes.
 use Rattle.std.proofs.Common.{◌≡◌, ℕ, ◌+◌, ◌≤◌, Bool, true, false, List, [], ◌∷◌, ◌++◌, length, refl, arith, length-append}
-use Rattle.kp_vcd_read.specs.Words.{is_layout, Spot, ended, words_from}
-use Rattle.kp_vcd_read.specs.inner.Left.{left_at}
+use Rattle.kp_vcd_read.specs.{Words.is_layout, Words.Spot, Words.ended, Words.words_from, inner.Left.left_at}
 
 ended_few : (front bytes : List ℕ) (spots : List Spot) → length (ended front bytes spots) ≤ length bytes + length spots
 ended_few front [] spots = omega arith

@@ -1,14 +1,10 @@
 -- Parts of a text that lead from one state to another.
 use Rattle.std.proofs.Common.{◌≡◌, ◌∙◌, refl, sym, ap, subst, arith, ℕ, Bool, true, false, not, List, [], ◌∷◌, ◌++◌, Ok, append_assoc}
+use Rattle.std.proofs.lemmas.{Bool.and_parts, List.append-nil}
 use Rattle.std.specs.List.{list_all}
-use Rattle.std.proofs.lemmas.Bool.{and_parts}
-use Rattle.std.proofs.lemmas.List.{append-nil}
-use Rattle.kp_base.specs.Place.{place_after}
-use Rattle.kp_base.specs.declared.place.Place.{Place}
-use Rattle.kp_vcd_read.specs.Words.{is_layout, Spot, ended, words_from}
-use Rattle.kp_vcd_read.specs.Reading.{State, Step, step, walk}
-use Rattle.kp_vcd_read.proofs.Spots.{is_part}
-use Rattle.kp_vcd_read.proofs.Numerals.{IsPlain}
+use Rattle.kp_base.specs.{Place.place_after, declared.place.Place.Place}
+use Rattle.kp_vcd_read.specs.{Words.is_layout, Words.Spot, Words.ended, Words.words_from, Reading.State, Reading.Step, Reading.step, Reading.walk}
+use Rattle.kp_vcd_read.proofs.{Spots.is_part, Numerals.IsPlain}
 
 no_layout : (t : Bool) → not t ≡ true → t ≡ false
 no_layout true e = cc

@@ -1,11 +1,8 @@
 -- One token less is left.
 use Rattle.std.proofs.Common.{◌≡◌, ◌∙◌, ℕ, ◌+◌, ◌-◌, ◌≤◌, List, [], ◌∷◌, ◌++◌, length, take, drop, refl, ap, ap₂, sym, arith, length-take, length-drop}
-use Rattle.std.proofs.lemmas.List.{take_all, drop-drop}
-use Rattle.std.proofs.Math.Seq.{take-add}
-use Rattle.kp_base.specs.Characters.{run_length}
-use Rattle.kp_base.specs.Place.{place_after}
-use Rattle.kp_vcd_read.specs.Words.{is_layout, Spot, ended, words_from}
-use Rattle.kp_vcd_read.specs.inner.Left.{left_at, spot_at}
+use Rattle.std.proofs.{lemmas.List.take_all, lemmas.List.drop-drop, Math.Seq.take-add}
+use Rattle.kp_base.specs.{Characters.run_length, Place.place_after}
+use Rattle.kp_vcd_read.specs.{Words.is_layout, Words.Spot, Words.ended, Words.words_from, inner.Left.left_at, inner.Left.spot_at}
 use Rattle.kp_vcd_read.proofs.Spots.{is_part, layout_skipped, word_taken, nothing_left}
 
 whole_rest : (text : List ℕ) (i : ℕ) → take (length text - i) (drop i text) ≡ drop i text

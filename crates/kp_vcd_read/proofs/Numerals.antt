@@ -1,19 +1,12 @@
 -- How the numbers and the bits of a dump's text are read.
 use Rattle.std.proofs.Common.{◌≡◌, ◌∙◌, refl, sym, ap, ap₂, subst, arith, ℕ, zero, suc, ◌+◌, ◌*◌, ◌/◌, ◌%◌, ◌^◌, ◌<◌, ◌≤◌, Bool, true, false, not, ltb, List, [], ◌∷◌, length, map, fold, get_or, Option, None, Some, Ok, Err}
+use Rattle.std.proofs.lemmas.{Bool.cond-true, Bool.and_from, Bool.agree_below_at, Bool.lt-ltb, Bool.le-leb, Fmt.decimal-digits_of}
+use Rattle.std.proofs.lemmas.{Int.Digits.all_below_base_digits_of, Int.Digits.first_digits_of, Int.Digits.length-digits_of_step, List.length-map}
+use Rattle.std.proofs.{lemmas.Nat.mod-pow-add, Math.Nat.mod-eq_of_lt, Math.Nat.pow-suc, Math.Nat.add-mul, Math.Nat.mul_assoc, Math.Nat.mul_comm}
 use Rattle.std.specs.Prelude.{codes, decimal, nat_le, nat_lt, ◌==◌, ◌&&◌, ◌-◌, unwrap_or, if◌then◌else◌}
-use Rattle.std.specs.Fmt.{digits}
-use Rattle.std.specs.Char.{digit_char}
-use Rattle.std.specs.Int.Digits.{digits_of, AllBelowBase}
-use Rattle.std.specs.List.{list_all}
-use Rattle.std.proofs.lemmas.Bool.{cond-true, and_from, agree_below_at, lt-ltb, le-leb}
-use Rattle.std.proofs.lemmas.Fmt.{decimal-digits_of}
-use Rattle.std.proofs.lemmas.Int.Digits.{all_below_base_digits_of, first_digits_of, length-digits_of_step}
-use Rattle.std.proofs.lemmas.List.{length-map}
-use Rattle.std.proofs.lemmas.Nat.{mod-pow-add}
-use Rattle.std.proofs.Math.Nat.{mod-eq_of_lt, pow-suc, add-mul, mul_assoc, mul_comm}
+use Rattle.std.specs.{Fmt.digits, Char.digit_char, Int.Digits.digits_of, Int.Digits.AllBelowBase, List.list_all}
 use Rattle.kp_bits.specs.Literals.{is_number, numeral_next, numeral_value, number_within, number_of}
-use Rattle.kp_bits.specs.Spelling.{decimal_digits}
-use Rattle.kp_bits.specs.Word.{word}
+use Rattle.kp_bits.specs.{Spelling.decimal_digits, Word.word}
 use Rattle.kp_bits.proofs.RoundTrips.{decimal_value, decimal_number}
 use Rattle.kp_vcd.specs.Text.{bit_digits}
 use Rattle.kp_vcd_read.specs.Forms.{capped, is_padded, index_in, width_of, is_bit, are_bits, value_of}

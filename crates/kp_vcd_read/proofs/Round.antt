@@ -1,25 +1,18 @@
 -- The text of a dump that fits the form is read as this dump.
 use Rattle.std.proofs.Common.{◌≡◌, ◌∙◌, refl, sym, ap, subst, arith, ℕ, zero, suc, ◌+◌, ◌/◌, ◌%◌, ◌^◌, ◌<◌, ◌≤◌, Bool, true, false, not, List, [], ◌∷◌, ◌++◌, length, All, Option, Some, Result, Ok, Err, append_assoc, length-append, ◌⊎◌, inl, inr}
-use Rattle.std.specs.Prelude.{codes, decimal, nat_lt, nat_le, ◌==◌, ◌&&◌, ◌||◌}
-use Rattle.std.specs.List.{list_all}
 use Rattle.std.proofs.lemmas.Bool.{and_from, and_parts, or_cases, eq-eqb, eqb-true, lt-ltb, leb-true, cond-true, cond-false}
 use Rattle.std.proofs.lemmas.List.{append-nil}
-use Rattle.kp_base.specs.Place.{place_after}
-use Rattle.kp_base.specs.Characters.{is_word}
-use Rattle.kp_base.specs.declared.place.Place.{Place}
+use Rattle.std.specs.{Prelude.codes, Prelude.decimal, Prelude.nat_lt, Prelude.nat_le, Prelude.◌==◌, Prelude.◌&&◌, Prelude.◌||◌, List.list_all}
+use Rattle.kp_base.specs.{Place.place_after, Characters.is_word, declared.place.Place.Place}
 use Rattle.kp_bits.specs.Word.{Word, word}
 use Rattle.kp_vcd.specs.Text.{kind_word, declaration, signal_line, signal_lines, bit_digits, value_text, code_line, change_line, change_lines, time_line, moment_lines, head_words, name_line, end_lines, dump_text}
-use Rattle.kp_vcd.specs.declared.dump.Signal.{Signal}
-use Rattle.kp_vcd.specs.declared.dump.Change.{Change}
-use Rattle.kp_vcd.specs.declared.dump.Moment.{Moment}
-use Rattle.kp_vcd.specs.declared.dump.Dump.{Dump}
+use Rattle.kp_vcd.specs.declared.dump.{Signal.Signal, Change.Change, Moment.Moment, Dump.Dump}
+use Rattle.kp_vcd_read.specs.Reading.{Next, State, Step, step, walk, at, named, with_signal, with_moment, changed, these, end_word, begin, begins, goes_on, closes, says, verdict, Fault}
 use Rattle.kp_vcd_read.specs.Words.{is_layout, words_from}
 use Rattle.kp_vcd_read.specs.Forms.{is_name, same_bytes, name_of, kind_of, code_of, is_next, said_by_short, value_of, are_bits, width_at, change_of, or_wrong}
+use Rattle.kp_vcd_read.specs.{declared.forms.Said.Said, Fitting.IsSignal, Fitting.IsChange, Fitting.RisesAfter, Fitting.Rises, Fitting.FitsForm}
 use Rattle.kp_vcd_read.specs.Reading as reading
-use Rattle.kp_vcd_read.specs.Reading.{Next, State, Step, step, walk, at, named, with_signal, with_moment, changed, these, end_word, begin, begins, goes_on, closes, says, verdict, Fault}
-use Rattle.kp_vcd_read.specs.declared.forms.Said.{Said}
 use Rattle.kp_vcd_read.specs.declared.forms.Said.TheVariants as said
-use Rattle.kp_vcd_read.specs.Fitting.{IsSignal, IsChange, RisesAfter, Rises, FitsForm}
 use Rattle.kp_vcd_read.proofs.Spots.{is_part}
 use Rattle.kp_vcd_read.proofs.Numerals.{IsPlain, is_numeral, number_read, index_read, width_read, bits_plain, bits_read, value_read}
 use Rattle.kp_vcd_read.proofs.Leading.{Leads, nothing, both, same_part, one_word, two_words}

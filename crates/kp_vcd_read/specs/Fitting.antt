@@ -1,10 +1,7 @@
 -- DUMPS THAT A TEXT CAN DENOTE: reading the text returns all of the dump.
 use Rattle.std.specs.Prelude.{◌≡◌, ℕ, ◌<◌, ◌≤◌, ◌^◌, true, List, [], ◌∷◌, length, All, ⊤}
 use Rattle.kp_bits.specs.Word.{IsWord}
-use Rattle.kp_vcd.specs.declared.dump.Signal.{Signal}
-use Rattle.kp_vcd.specs.declared.dump.Change.{Change}
-use Rattle.kp_vcd.specs.declared.dump.Moment.{Moment}
-use Rattle.kp_vcd.specs.declared.dump.Dump.{Dump}
+use Rattle.kp_vcd.specs.declared.dump.{Signal.Signal, Change.Change, Moment.Moment, Dump.Dump}
 use Rattle.kp_vcd_read.specs.Forms.{is_name, width_at}
 
 pub record IsSignal (s : Signal) : Type 0 where

@@ -1,12 +1,9 @@
 -- THE MEANING OF A TOKEN OF A DUMP, or the rule that it violates.
 use Rattle.std.specs.Prelude.{ℕ, ◌==◌, ◌&&◌, ◌||◌, not, nat_eq, nat_lt, nat_le, Bool, true, false, List, [], ◌∷◌, length, map, get_or, codes, Option, None, Some, Result, Ok, Err, unwrap_or, ◌-◌, ◌^◌, if◌then◌else◌}
-use Rattle.std.specs.List.{list_all}
-use Rattle.std.specs.Cmp.Lexicographic.{pointwise}
+use Rattle.std.specs.{List.list_all, Cmp.Lexicographic.pointwise}
 use Rattle.kp_base.specs.Characters.{is_word}
-use Rattle.kp_bits.specs.Literals.{is_number, numeral_value, number_within, number_of}
-use Rattle.kp_bits.specs.Word.{Word, word}
-use Rattle.kp_vcd.specs.declared.dump.Signal.{Signal}
-use Rattle.kp_vcd.specs.declared.dump.Change.{Change}
+use Rattle.kp_bits.specs.{Literals.is_number, Literals.numeral_value, Literals.number_within, Literals.number_of, Word.Word, Word.word}
+use Rattle.kp_vcd.specs.declared.dump.{Signal.Signal, Change.Change}
 use Rattle.kp_vcd_read.specs.declared.forms.Said.{Said}
 use Rattle.kp_vcd_read.specs.declared.forms.Said.TheVariants as said
 

@@ -4,11 +4,9 @@
 -- change is of no declared signal, or doesn't have its width of bits; the position is that of its first token. 4: a time isn't greater than the one
 -- before.
 use Rattle.std.specs.Prelude.{ℕ, nat_lt, Bool, List, [], ◌∷◌, ◌++◌, length, codes, Option, None, Some, Result, Ok, Err, if◌then◌else◌}
-use Rattle.kp_base.specs.Place.{place_after}
-use Rattle.kp_base.specs.declared.place.Place.{Place}
+use Rattle.kp_base.specs.{Place.place_after, declared.place.Place.Place}
 use Rattle.kp_bits.specs.Word.{Word}
-use Rattle.kp_vcd.specs.declared.dump.Change.{Change}
-use Rattle.kp_vcd.specs.declared.dump.Dump.{Dump}
+use Rattle.kp_vcd.specs.declared.dump.{Change.Change, Dump.Dump}
 use Rattle.kp_vcd_read.specs.Words.{Spot, words_of}
 use Rattle.kp_vcd_read.specs.Forms.{Form, or_wrong, same_bytes, name_of, more_of, kind_of, width_of, code_of, index_of, time_of, said_by, change_of}
 use Rattle.kp_vcd_read.specs.declared.forms.Said.{Said}

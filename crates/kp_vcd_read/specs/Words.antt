@@ -1,7 +1,6 @@
 -- THE TOKENS OF A TEXT, each with its position.
 use Rattle.std.specs.Prelude.{ℕ, ◌==◌, ◌||◌, Bool, List, [], ◌∷◌, ◌++◌, if◌then◌else◌}
-use Rattle.kp_base.specs.Place.{place_after}
-use Rattle.kp_base.specs.declared.place.Place.{Place}
+use Rattle.kp_base.specs.{Place.place_after, declared.place.Place.Place}
 
 -- space, tab, carriage return and line feed separate tokens
 abbrev pub is_layout : ℕ → Bool

@@ -1,38 +1,26 @@
 -- The dump of a job that violates no rule is one that a text can denote.
 use Rattle.std.proofs.Common.{◌≡◌, ℕ, zero, suc, ◌+◌, ◌*◌, ◌<◌, ◌≤◌, ◌^◌, List, [], ◌∷◌, ◌++◌, length, get_or, Bool, true, false, ◌&&◌, None, refl, ap, subst, arith}
-use Rattle.std.specs.Prelude.{codes, nat_le}
-use Rattle.std.specs.List.{AllByRecursion, list_all}
-use Rattle.std.proofs.Math.Nat.{pow-suc}
-use Rattle.std.proofs.lemmas.Bool.{le-leb}
-use Rattle.std.proofs.lemmas.List.Sums.{list_all-from_AllPass}
-use Rattle.kp_base.specs.Characters.{is_word}
-use Rattle.kp_base.specs.First.{first}
+use Rattle.std.proofs.{Math.Nat.pow-suc, lemmas.Bool.le-leb, lemmas.List.Sums.list_all-from_AllPass}
+use Rattle.std.specs.{Prelude.codes, Prelude.nat_le, List.AllByRecursion, List.list_all}
+use Rattle.kp_base.specs.{Characters.is_word, First.first}
 use Rattle.kp_bits.specs.Word.{word, IsWord}
-use Rattle.kp_ast.specs.Name.{IsName}
-use Rattle.kp_ast.specs.declared.tree.Decl.{Decl}
+use Rattle.kp_ast.specs.{Name.IsName, declared.tree.Decl.Decl, declared.tree.Job.Job}
 use Rattle.kp_ast.specs.declared.tree.Decl.TheVariants as decls
-use Rattle.kp_ast.specs.declared.tree.Job.{Job}
 use Rattle.kp_width.specs.Widths.{widths_of}
-use Rattle.kp_stage.specs.Start.{start_of}
-use Rattle.kp_stage.specs.Stages.{broken_of}
+use Rattle.kp_stage.specs.{Start.start_of, Stages.broken_of}
 use Rattle.kp_image.specs.Sections.{sections_of}
-use Rattle.kp_pipeline.specs.Machine.{Machine}
-use Rattle.kp_pipeline.specs.Pipeline.{PipelineState, Inputs, cycle, pipeline_start}
+use Rattle.kp_pipeline.specs.{Machine.Machine, Pipeline.PipelineState, Pipeline.Inputs, Pipeline.cycle, Pipeline.pipeline_start}
 use Rattle.kp_pipeline.specs.Rows.{Row, bits, one_if, rows_from}
-use Rattle.kp_machine.specs.Machine.{machine_of, state_of, start_hints, inputs_from}
-use Rattle.kp_machine.specs.Slots.{targets_of}
+use Rattle.kp_machine.specs.{Machine.machine_of, Machine.state_of, Machine.start_hints, Machine.inputs_from, Slots.targets_of}
 use Rattle.kp_machine.proofs.Widths.{Fine, job_fine}
 use Rattle.kp_synth_tables.proofs.Limits.{limits, targets_counted}
 use Rattle.kp_seq.specs.Running.{no_slot}
 use Rattle.kp_run.proofs.Machines.{stages_fit}
-use Rattle.kp_vcd.specs.declared.dump.Signal.{Signal}
-use Rattle.kp_vcd.specs.Recording.{Values}
-use Rattle.kp_vcd_read.specs.Forms.{is_name}
-use Rattle.kp_vcd_read.specs.Fitting.{IsSignal, FitsForm}
+use Rattle.kp_vcd.specs.{declared.dump.Signal.Signal, Recording.Values}
+use Rattle.kp_vcd_read.specs.{Forms.is_name, Fitting.IsSignal, Fitting.FitsForm}
 use Rattle.kp_vcd_run.specs.Dumps.{wire, register_signals, signals_of, number, output_values, register_values, values_at, own_run, vcd_dump}
 use Rattle.kp_vcd_run.proofs.Masks.{RollBackBelow, run_below}
-use Rattle.kp_vcd_roundtrip.proofs.Named.{RegistersNamed, JobNamed}
-use Rattle.kp_vcd_roundtrip.proofs.Values.{visible_fits}
+use Rattle.kp_vcd_roundtrip.proofs.{Named.RegistersNamed, Named.JobNamed, Values.visible_fits}
 use Rattle.kp_vcd_roundtrip.proofs.Rising.{to_all, recorded_rises, FitSignals, recorded_reported}
 
 -- ---- the signals

@@ -7,19 +7,13 @@ use Rattle.kp_stage.specs.Stages.{broken_of}
 use Rattle.kp_stage.proofs.Unbroken.{first_none}
 use Rattle.kp_image.specs.Sections.{sections_of}
 use Rattle.kp_lex.specs.declared.token.Lexed.{Lexed}
-use Rattle.kp_frontend.specs.Judging.{Judges, JudgesHead, IsSentenceOf, broken_in}
-use Rattle.kp_frontend.specs.Judging.Judges.{within}
-use Rattle.kp_frontend.specs.Judging.JudgesText.{accepted}
-use Rattle.kp_frontend.specs.Judging.JudgesHead.{head_within}
+use Rattle.kp_frontend.specs.Judging.{Judges, JudgesHead, IsSentenceOf, broken_in, Judges.within, JudgesText.accepted, JudgesHead.head_within}
 use Rattle.kp_frontend.specs.Judging.JudgesHeadText.{head_accepted}
 use Rattle.kp_vcd.specs.declared.dump.Dump.{Dump}
-use Rattle.kp_vcd_read.specs.Reading.{Fault, verdict}
-use Rattle.kp_vcd_read.specs.Fitting.{FitsForm}
+use Rattle.kp_vcd_read.specs.{Reading.Fault, Reading.verdict, Fitting.FitsForm}
 use Rattle.kp_vcd_run.specs.Dumps.{vcd_dump}
-use Rattle.kp_vcd_roundtrip.specs.Accepted.{IsAccepted}
-use Rattle.kp_vcd_roundtrip.specs.Accepted.IsAccepted.{of_input, of_head}
-use Rattle.kp_vcd_roundtrip.proofs.Named.{JobNamed, job_named}
-use Rattle.kp_vcd_roundtrip.proofs.Fitting.{dump_fits}
+use Rattle.kp_vcd_roundtrip.specs.Accepted.{IsAccepted, IsAccepted.of_input, IsAccepted.of_head}
+use Rattle.kp_vcd_roundtrip.proofs.{Named.JobNamed, Named.job_named, Fitting.dump_fits}
 
 record Kept (job : Job) : Type 0 where
   named : JobNamed job

@@ -1,14 +1,10 @@
 -- Recorded moments: their times rise, and each change is of a signal and has its width of bits if the values do.
 use Rattle.std.proofs.Common.{◌≡◌, ◌∙◌, ℕ, zero, suc, ◌+◌, ◌<◌, ◌≤◌, ◌^◌, List, [], ◌∷◌, ◌++◌, length, get_or, Bool, true, false, Option, None, Some, All, ap, subst, arith}
-use Rattle.std.specs.Prelude.{if◌then◌else◌}
-use Rattle.std.specs.List.{AllByRecursion}
+use Rattle.std.specs.{Prelude.if◌then◌else◌, List.AllByRecursion}
 use Rattle.kp_bits.specs.Word.{Word, IsWord}
-use Rattle.kp_vcd.specs.declared.dump.Signal.{Signal}
-use Rattle.kp_vcd.specs.declared.dump.Change.{Change}
-use Rattle.kp_vcd.specs.declared.dump.Moment.{Moment}
+use Rattle.kp_vcd.specs.declared.dump.{Signal.Signal, Change.Change, Moment.Moment}
 use Rattle.kp_vcd.specs.Recording.{Values, is_value, change_of, changes_from, values_before, changes_at, moment_of, moments_before, recorded}
-use Rattle.kp_vcd_read.specs.Forms.{width_at}
-use Rattle.kp_vcd_read.specs.Fitting.{IsChange, RisesAfter, Rises}
+use Rattle.kp_vcd_read.specs.{Forms.width_at, Fitting.IsChange, Fitting.RisesAfter, Fitting.Rises}
 
 -- ---- each item of a list
 

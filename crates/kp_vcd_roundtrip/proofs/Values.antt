@@ -1,37 +1,24 @@
 -- The values of the registers in a run fit their widths.
 use Rattle.std.proofs.Common.{◌≡◌, ◌∙◌, ℕ, zero, suc, ◌+◌, ◌<◌, ◌≤◌, ◌^◌, List, [], ◌∷◌, length, get_or, Bool, true, false, Option, None, replicate, refl, ap, sym, subst, arith}
-use Rattle.std.proofs.lemmas.Bool.{cond_both}
-use Rattle.std.proofs.lemmas.List.{length-replicate}
-use Rattle.std.proofs.lemmas.Nat.{pow_pos}
+use Rattle.std.proofs.lemmas.{Bool.cond_both, List.length-replicate, Nat.pow_pos}
 use Rattle.kp_base.specs.First.{first}
 use Rattle.kp_bits.specs.Word.{Word, word}
-use Rattle.kp_ast.specs.declared.tree.Decl.{Decl}
+use Rattle.kp_ast.specs.declared.tree.{Decl.Decl, Job.Job}
 use Rattle.kp_ast.specs.declared.tree.Decl.TheVariants as decls
-use Rattle.kp_ast.specs.declared.tree.Job.{Job}
-use Rattle.kp_width.specs.Names.{nothing}
-use Rattle.kp_width.specs.Widths.{widths_of}
-use Rattle.kp_stage.specs.Start.{start_of, input, AreSamples}
-use Rattle.kp_stage.specs.Stages.{broken_of}
+use Rattle.kp_width.specs.{Names.nothing, Widths.widths_of}
+use Rattle.kp_stage.specs.{Start.start_of, Start.input, Start.AreSamples, Stages.broken_of}
 use Rattle.kp_image.specs.Sections.{sections_of}
 use Rattle.kp_image.proofs.Given.{starts, rows_fit}
-use Rattle.kp_pipeline.specs.Machine.{Machine}
-use Rattle.kp_pipeline.specs.Pipeline.{Inputs}
-use Rattle.kp_pipeline.specs.Rows.{Row, bit, one_if, taken_from, passed}
-use Rattle.kp_pipeline.specs.Sequential.{exec, seq}
+use Rattle.kp_pipeline.specs.{Machine.Machine, Pipeline.Inputs, Rows.Row, Rows.bit, Rows.one_if, Rows.taken_from, Rows.passed, Sequential.exec, Sequential.seq}
 use Rattle.kp_machine.specs.Machine.{machine_of, state_of, sequential, pipe_of, taken_of, inputs_from, values_in}
 use Rattle.kp_machine.specs.Slots.{targets_of, pipes_of, samples_of}
-use Rattle.kp_machine.proofs.Apart.{Apart, samples_apart}
-use Rattle.kp_machine.proofs.Text.{declared_right}
+use Rattle.kp_machine.proofs.{Apart.Apart, Apart.samples_apart, Text.declared_right}
 use Rattle.kp_machine_laws.proofs.Accepting as accepting
 use Rattle.kp_machine_laws.proofs.Showing.{shown, stays}
 use Rattle.kp_seq_plan.specs.Names.{keys_of}
-use Rattle.kp_seq.specs.Running.{no_slot, state_in}
-use Rattle.kp_seq.specs.inner.Tables.{Laid, ports_of}
-use Rattle.kp_seq.specs.inner.Fits.{FitSlots}
-use Rattle.kp_seq.specs.inner.Ready.{AreTables, HasPlaces, words_of_start}
-use Rattle.kp_seq.specs.inner.Steps.{Under, executed}
-use Rattle.kp_seq.proofs.Start.{start_fits, start_state, word_fits}
-use Rattle.kp_seq.proofs.Step.{step_state, step_fits}
+use Rattle.kp_seq.specs.{Running.no_slot, Running.state_in, inner.Tables.Laid, inner.Tables.ports_of, inner.Fits.FitSlots}
+use Rattle.kp_seq.specs.inner.{Ready.AreTables, Ready.HasPlaces, Ready.words_of_start, Steps.Under, Steps.executed}
+use Rattle.kp_seq.proofs.{Start.start_fits, Start.start_state, Start.word_fits, Step.step_state, Step.step_fits}
 
 -- ---- the values of samples
 

@@ -1,9 +1,8 @@
 -- A signal that has a value has one at each time before.
 use Rattle.std.proofs.Common.{◌≡◌, ℕ, zero, suc, ◌+◌, List, [], ◌∷◌, ◌++◌, get_or, None, Some, refl}
 use Rattle.kp_bits.specs.Word.{Word, word}
-use Rattle.kp_ast.specs.declared.tree.Decl.{Decl}
+use Rattle.kp_ast.specs.declared.tree.{Decl.Decl, Job.Job}
 use Rattle.kp_ast.specs.declared.tree.Decl.TheVariants as decls
-use Rattle.kp_ast.specs.declared.tree.Job.{Job}
 use Rattle.kp_pipeline.specs.Rows.{Row}
 use Rattle.kp_vcd.specs.Recording.{Values, Lasts}
 use Rattle.kp_vcd_run.specs.Dumps.{number, output_values, register_values, values_at, own_run}

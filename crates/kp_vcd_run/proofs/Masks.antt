@@ -1,16 +1,12 @@
 -- The rows of a netlist, as values of signals.
 use Rattle.std.proofs.Common.{◌≡◌, ◌∙◌, ℕ, zero, suc, ◌+◌, ◌*◌, ◌/◌, ◌%◌, ◌^◌, ◌<◌, ◌≤◌, List, [], ◌∷◌, ◌++◌, length, Bool, true, false, refl, ap, sym, arith}
+use Rattle.std.proofs.{Math.Nat.pow-suc, Math.Nat.div-div-eq-div-mul, lemmas.Bool.eqb-true, lemmas.Bool.eqb-false, lemmas.Nat.mod-pow-add}
 use Rattle.std.specs.Prelude.{◌==◌, cond}
-use Rattle.std.proofs.Math.Nat.{pow-suc, div-div-eq-div-mul}
-use Rattle.std.proofs.lemmas.Bool.{eqb-true, eqb-false}
-use Rattle.std.proofs.lemmas.Nat.{mod-pow-add}
 use Rattle.kp_base.specs.declared.row.Row as masks
-use Rattle.kp_pipeline.specs.Machine.{Machine}
-use Rattle.kp_pipeline.specs.Pipeline.{PipelineState, Inputs, back, cycle, greatest, mismatches}
+use Rattle.kp_pipeline.specs.{Machine.Machine, Pipeline.PipelineState, Pipeline.Inputs, Pipeline.back, Pipeline.cycle, Pipeline.greatest, Pipeline.mismatches}
 use Rattle.kp_pipeline.specs.Rows.{Row, bits, one_if, rows_from}
 use Rattle.kp_sched.specs.Rows.{bit_of, row_seen}
-use Rattle.kp_vcd_run.specs.Dumps.{number, row_values, no_row, output_values}
-use Rattle.kp_vcd_run.specs.inner.Shown.{mask_values}
+use Rattle.kp_vcd_run.specs.{Dumps.number, Dumps.row_values, Dumps.no_row, Dumps.output_values, inner.Shown.mask_values}
 
 -- ---- the number of bits
 

@@ -1,11 +1,8 @@
 -- The widths of registers, and the signals of declarations.
 use Rattle.std.proofs.Common.{◌≡◌, ◌∙◌, ℕ, zero, suc, ◌+◌, ◌<◌, ◌≤◌, List, [], ◌∷◌, ◌++◌, length, get_or, drop, refl, ap, sym, append_assoc, arith}
 use Rattle.std.proofs.lemmas.List.{drop_more}
-use Rattle.kp_ast.specs.declared.tree.Decl.{Decl}
+use Rattle.kp_ast.specs.declared.tree.{Decl.Decl, Named.Named, Num.Num, Lit.Lit}
 use Rattle.kp_ast.specs.declared.tree.Decl.TheVariants as decls
-use Rattle.kp_ast.specs.declared.tree.Named.{Named}
-use Rattle.kp_ast.specs.declared.tree.Num.{Num}
-use Rattle.kp_ast.specs.declared.tree.Lit.{Lit}
 use Rattle.kp_machine.proofs.Widths.{Fine}
 use Rattle.kp_vcd.specs.declared.dump.Signal.{Signal}
 use Rattle.kp_vcd_run.specs.Dumps.{register, register_signals}

@@ -2,18 +2,14 @@
 use Rattle.std.proofs.Common.{◌≡◌, ◌∙◌, ℕ, zero, suc, ◌+◌, ◌<◌, ◌≤◌, List, [], ◌∷◌, length, get_or, drop, true, Some, refl, ap, ap₂, sym, subst, arith}
 use Rattle.std.proofs.lemmas.List.{drop-drop}
 use Rattle.kp_bits.specs.Word.{Word, word}
-use Rattle.kp_ast.specs.declared.tree.Decl.{Decl}
+use Rattle.kp_ast.specs.declared.tree.{Decl.Decl, Job.Job}
 use Rattle.kp_ast.specs.declared.tree.Decl.TheVariants as decls
-use Rattle.kp_ast.specs.declared.tree.Job.{Job}
 use Rattle.kp_machine.specs.Slots.{Slot, slot, targets_of, is_register}
-use Rattle.kp_net.specs.Netlist.{Net, State}
-use Rattle.kp_net.specs.Parts.{no_reg}
+use Rattle.kp_net.specs.{Netlist.Net, Netlist.State, Parts.no_reg}
 use Rattle.kp_seq.specs.Running.{no_slot, target}
-use Rattle.kp_synth_spec.specs.Naming.{register_names, register_of, value_of, value_shown}
-use Rattle.kp_synth_spec.specs.Shows.{IsOfJob, HasRegister}
+use Rattle.kp_synth_spec.specs.{Naming.register_names, Naming.register_of, Naming.value_of, Naming.value_shown, Shows.IsOfJob, Shows.HasRegister}
 use Rattle.kp_vcd.specs.Recording.{Values}
-use Rattle.kp_vcd_run.specs.Dumps.{register_values}
-use Rattle.kp_vcd_run.specs.inner.Shown.{places_from, shown_at, ArePlaces}
+use Rattle.kp_vcd_run.specs.{Dumps.register_values, inner.Shown.places_from, inner.Shown.shown_at, inner.Shown.ArePlaces}
 
 slot_at : (ss : List Slot) (t : ℕ) (s : Slot) (more : List Slot) → drop t ss ≡ s ∷ more → (t < length ss) × (get_or ss t no_slot ≡ s)
 slot_at [] zero s more e = cc

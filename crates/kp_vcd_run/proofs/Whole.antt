@@ -1,28 +1,20 @@
 -- The values of a run of a netlist that implements the machine of a job.
 use Rattle.std.proofs.Common.{◌≡◌, ◌∙◌, ℕ, zero, suc, ◌+◌, ◌<◌, ◌≤◌, ◌^◌, List, [], ◌∷◌, ◌++◌, length, length-append, Bool, true, false, None, Some, refl, ap, ap₂, sym, subst, arith}
+use Rattle.std.proofs.lemmas.{Bool.ltb-true, Bool.ltb-false, List.map-append, List.length-map, Nat.pow_pos}
 use Rattle.std.specs.Prelude.{nat_lt}
-use Rattle.std.proofs.lemmas.Bool.{ltb-true, ltb-false}
-use Rattle.std.proofs.lemmas.List.{map-append, length-map}
-use Rattle.std.proofs.lemmas.Nat.{pow_pos}
 use Rattle.kp_base.specs.declared.row.Row as masks
 use Rattle.kp_ast.specs.declared.tree.Job.{Job}
-use Rattle.kp_pipeline.specs.Pipeline.{Inputs, pipeline_start}
-use Rattle.kp_pipeline.specs.Rows.{Row}
-use Rattle.kp_stage.specs.Start.{start_of as job_start}
-use Rattle.kp_stage.specs.Stages.{broken_of}
-use Rattle.kp_machine.specs.Machine.{machine_of, state_of, start_hints, pipe_of, inputs_from}
-use Rattle.kp_machine.specs.Slots.{targets_of}
+use Rattle.kp_pipeline.specs.{Pipeline.Inputs, Pipeline.pipeline_start, Rows.Row}
+use Rattle.kp_stage.specs.{Start.start_of as job_start, Stages.broken_of}
+use Rattle.kp_machine.specs.{Machine.machine_of, Machine.state_of, Machine.start_hints, Machine.pipe_of, Machine.inputs_from, Slots.targets_of}
 use Rattle.kp_synth_tables.proofs.Limits.{few}
 use Rattle.kp_cycle.specs.Steps.{Running, reg_shown}
 use Rattle.kp_net.specs.Netlist.{Net, State, start_of, row_of, last_of, run}
 use Rattle.kp_net.proofs.Runs.{rows_more}
-use Rattle.kp_sched.specs.Rows.{row_seen, rows_seen}
-use Rattle.kp_sched.specs.Runs.{ShowsAlike}
+use Rattle.kp_sched.specs.{Rows.row_seen, Rows.rows_seen, Runs.ShowsAlike}
 use Rattle.kp_sched.proofs.Counting.{seen_length}
 use Rattle.kp_seq.specs.Running.{target}
-use Rattle.kp_synth_spec.specs.Naming.{value_shown}
-use Rattle.kp_synth_spec.specs.Shows.{Shows}
-use Rattle.kp_synth_spec.specs.Traces.{trace_of, inputs_seen, AreQuiet}
+use Rattle.kp_synth_spec.specs.{Naming.value_shown, Shows.Shows, Traces.trace_of, Traces.inputs_seen, Traces.AreQuiet}
 use Rattle.kp_run.specs.Cycles.{input_at, inputs_to}
 use Rattle.kp_watch.proofs.Prefixes.{state_is, rows_many}
 use Rattle.kp_vcd.specs.Recording.{Values}

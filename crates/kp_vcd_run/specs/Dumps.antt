@@ -1,16 +1,12 @@
 -- THE CHANGE DUMP OF A RUN of the pipelined machine of a job, in which files, hints and samples have no signals.
 use Rattle.std.specs.Prelude.{ℕ, zero, suc, ◌+◌, ◌*◌, List, [], ◌∷◌, ◌++◌, Bool, true, false, None, Some, codes}
 use Rattle.kp_bits.specs.Word.{word}
-use Rattle.kp_ast.specs.declared.tree.Decl.{Decl}
+use Rattle.kp_ast.specs.declared.tree.{Decl.Decl, Job.Job}
 use Rattle.kp_ast.specs.declared.tree.Decl.TheVariants as decls
-use Rattle.kp_ast.specs.declared.tree.Job.{Job}
 use Rattle.kp_pipeline.specs.Rows.{Row, Trace, one_if}
 use Rattle.kp_machine.specs.Machine.{pipe_of, inputs_from}
 use Rattle.kp_synth_spec.specs.Naming.{module_name}
-use Rattle.kp_vcd.specs.Recording.{Values, recorded}
-use Rattle.kp_vcd.specs.Text.{dump_text}
-use Rattle.kp_vcd.specs.declared.dump.Signal.{Signal}
-use Rattle.kp_vcd.specs.declared.dump.Dump.{Dump}
+use Rattle.kp_vcd.specs.{Recording.Values, Recording.recorded, Text.dump_text, declared.dump.Signal.Signal, declared.dump.Dump.Dump}
 
 -- ---- the signals
 

@@ -1,28 +1,16 @@
 -- How calls end: from what was written to what is expected.
 use Rattle.std.proofs.Common.{◌≡◌, ℕ, ◌≤◌, Bool, false, List, length, Ok, Err, refl, sym, ap₂, subst, inl, inr, arith}
-use Rattle.std.specs.declared.option.Option.{Option}
-use Rattle.std.specs.declared.result.Result.{Result}
-use Rattle.std.specs.Prelude.{MatchResult}
-use Rattle.std.specs.Io.KnownBytes.{Appends}
-use Rattle.kp_base.specs.Bytes.{AppendsPart}
-use Rattle.kp_base.specs.Causes.{Rose}
-use Rattle.kp_base.specs.declared.refusal.Refused.{Refused}
+use Rattle.std.specs.{declared.option.Option.Option, declared.result.Result.Result, Prelude.MatchResult, Io.KnownBytes.Appends}
+use Rattle.kp_base.specs.{Bytes.AppendsPart, Causes.Rose, declared.refusal.Refused.Refused}
 use Rattle.kp_base.specs.declared.refusal.Refused.TheVariants as refused
 use Rattle.kp_ast.specs.declared.tree.Job.{Job}
-use Rattle.kp_frontend.specs.Judging.{JudgesText}
-use Rattle.kp_frontend.specs.Judging.Judges.{within}
-use Rattle.kp_frontend.specs.Accepting.{AnswersText}
+use Rattle.kp_frontend.specs.{Judging.JudgesText, Judging.Judges.within, Accepting.AnswersText}
 use Rattle.kp_view_words.specs.Words.{Order, Task, names_for, show}
 use Rattle.kp_view.specs.Complaints.{complaint_status, complaint_text}
-use Rattle.kp_view.specs.Due.{DueFor, DueOfJob, DueOfNames, Draws, IsShown, Says, names_fit, order_text}
-use Rattle.kp_view.specs.Texts.{names_text}
-use Rattle.kp_view.specs.Ends.{Ends, EndsAt}
-use Rattle.kp_view.specs.inner.Failures.{failure_of}
-use Rattle.kp_view.specs.declared.failure.Complaint.{Complaint}
+use Rattle.kp_view.specs.{Due.DueFor, Due.DueOfJob, Due.DueOfNames, Due.Draws, Due.IsShown, Due.Says, Due.names_fit, Due.order_text, Texts.names_text}
+use Rattle.kp_view.specs.{Ends.Ends, Ends.EndsAt, inner.Failures.failure_of, declared.failure.Complaint.Complaint, declared.failure.Failure.Failure}
+use Rattle.kp_view.specs.declared.failure.{Failure.TheVariants.Complained, Failure.TheVariants.Stopped, Stop.Stop}
 use Rattle.kp_view.specs.declared.failure.Complaint.TheVariants as complaints
-use Rattle.kp_view.specs.declared.failure.Failure.{Failure}
-use Rattle.kp_view.specs.declared.failure.Failure.TheVariants.{Complained, Stopped}
-use Rattle.kp_view.specs.declared.failure.Stop.{Stop}
 use Rattle.kp_view.specs.declared.failure.Stop.TheVariants as stops
 
 -- a complaint has another status than 0

@@ -1,26 +1,17 @@
 -- The ends of the top call: from what is expected of an input to what is expected of what is asked and of the bytes, and of the status.
 use Rattle.std.proofs.Common.{true, false, ◌≡◌, ◌≢◌, ◌∙◌, ◌⊎◌, ℕ, List, [], ◌++◌, length, None, Some, Ok, Err, refl, sym, ap, subst, inl, inr, arith, append-nil, length-append, ◌≤◌, IfSome}
-use Rattle.std.specs.declared.option.Option.{Option}
-use Rattle.std.specs.declared.result.Result.{Result}
-use Rattle.std.specs.Io.KnownBytes.{Consumes, IsAtEnd}
-use Rattle.kp_base.specs.declared.refusal.Refusal.{Refusal}
-use Rattle.kp_base.specs.Causes.{Rose}
+use Rattle.std.specs.{declared.option.Option.Option, declared.result.Result.Result, Io.KnownBytes.Consumes, Io.KnownBytes.IsAtEnd}
+use Rattle.kp_base.specs.{declared.refusal.Refusal.Refusal, Causes.Rose}
 use Rattle.kp_ast.specs.declared.tree.Job.{Job}
-use Rattle.kp_frontend.specs.Judging.{Judges, too_long}
-use Rattle.kp_frontend.specs.Judging.Judges.{over, within}
+use Rattle.kp_frontend.specs.Judging.{Judges, too_long, Judges.over, Judges.within}
 use Rattle.kp_frontend.proofs.Verdicts.{one_verdict}
-use Rattle.kp_view_words.specs.Words.{Asked, Order, Task, bad_words, help, version, show}
-use Rattle.kp_view_words.specs.declared.words.Topic.{Topic}
-use Rattle.kp_view.specs.Due.{Says, DueFor, IsShown, order_text, wrong_names_text, DueOfNames, IsDue, IsFinal, IsWhole, Completes, Begins, Between, Prints, IsDrawn, IsRefusal, IsUnaccepted, IsUnrefused, names_fit, reads_input}
-use Rattle.kp_view.specs.Texts.{refusal_text}
-use Rattle.kp_view.specs.Ends.{Ends, EndsAt}
-use Rattle.kp_view.specs.inner.Failures.{stop_status, end_status}
-use Rattle.kp_view.specs.declared.failure.Complaint.TheVariants as complaints
-use Rattle.kp_view.specs.declared.failure.Failure.{Failure}
-use Rattle.kp_view.specs.declared.failure.Failure.TheVariants.{Complained}
+use Rattle.kp_view_words.specs.{Words.Asked, Words.Order, Words.Task, Words.bad_words, Words.help, Words.version, Words.show, declared.words.Topic.Topic}
 use Rattle.kp_view_words.specs.Texts.{help_text, version_text}
-use Rattle.kp_view.specs.declared.failure.Stop.{Stop}
+use Rattle.kp_view.specs.Due.{Says, DueFor, IsShown, order_text, wrong_names_text, DueOfNames, IsDue, IsFinal, IsWhole, Completes, Begins, Between, Prints, IsDrawn, IsRefusal, IsUnaccepted, IsUnrefused, names_fit, reads_input}
+use Rattle.kp_view.specs.{Texts.refusal_text, Ends.Ends, Ends.EndsAt, inner.Failures.stop_status, inner.Failures.end_status, declared.failure.Failure.Failure}
+use Rattle.kp_view.specs.declared.failure.{Failure.TheVariants.Complained, Stop.Stop}
 use Rattle.kp_view.specs.declared.failure.Stop.TheVariants.{ReadFault, WriteFault, NoMemory}
+use Rattle.kp_view.specs.declared.failure.Complaint.TheVariants as complaints
 use Rattle.kp_view.proofs.Ends.{weaker, said}
 
 nothing_taken : (left : Option (List ℕ)) → Consumes left left []

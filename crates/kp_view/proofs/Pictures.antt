@@ -2,9 +2,7 @@
 use Rattle.std.proofs.Common.{◌≡◌, ◌∙◌, ℕ, List, ap, ap₂}
 use Rattle.kp_ast.specs.declared.tree.Job.{Job}
 use Rattle.kp_pipeline.specs.Rows.{Row}
-use Rattle.kp_diagram_text.specs.declared.chart.Chart.{Chart}
-use Rattle.kp_diagram_text.specs.Charts.{figure_of, rows_of}
-use Rattle.kp_diagram_text.specs.Figures.{Figure}
+use Rattle.kp_diagram_text.specs.{declared.chart.Chart.Chart, Charts.figure_of, Charts.rows_of, Figures.Figure}
 use Rattle.kp_diagram_svg.specs.Picture.{picture, svg_text}
 use Rattle.kp_page_text.specs.Page.{page}
 use Rattle.kp_paths.specs.Text.{paths_text}

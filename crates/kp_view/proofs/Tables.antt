@@ -1,9 +1,7 @@
 -- A text of a table.
 use Rattle.std.proofs.Common.{◌≡◌, ◌∙◌, ℕ, ◌<◌, ◌≤◌, List, [], map, length, slice_index_or, Some, None, refl, sym, ap, subst}
-use Rattle.std.specs.declared.option.Option.{Option}
-use Rattle.std.specs.Prelude.{option_map, slice_get, unwrap_or}
-use Rattle.std.specs.Option.{option_map_or}
 use Rattle.std.proofs.lemmas.Option.{slice_get-map, slice_get_past, slice_get_read}
+use Rattle.std.specs.{declared.option.Option.Option, Prelude.option_map, Prelude.slice_get, Prelude.unwrap_or, Option.option_map_or}
 
 mapped : {Y : Type 0} (text : Y → List ℕ) (entry : Option Y) → option_map_or text entry [] ≡ unwrap_or (option_map text entry) []
 mapped text None = refl

@@ -2,31 +2,22 @@
 -- standard error.
 use Rattle.std.specs.Prelude.{◌≡◌, ◌≢◌, ◌≤◌, ◌⊎◌, Bool, true, false, ℕ, zero, suc, List, [], length, Ok, Err, Option, Result}
 use Rattle.std.specs.Io.KnownBytes.{Consumes, Appends, IsAtEnd}
-use Rattle.kp_base.specs.Bytes.{AppendsPart}
-use Rattle.kp_base.specs.declared.refusal.Refusal.{Refusal}
+use Rattle.kp_base.specs.{Bytes.AppendsPart, declared.refusal.Refusal.Refusal}
 use Rattle.kp_ast.specs.declared.tree.Job.{Job}
 use Rattle.kp_frontend.specs.Judging.{Judges}
-use Rattle.kp_view_words.specs.Texts.{help_text, usage_text, version_text}
 use Rattle.kp_view_words.specs.Words.{Asked, Order, Run, Task, bad_words, help, version, show, diagram, svg, page, paths, paths_svg, stalls, names_for}
+use Rattle.kp_view_words.specs.Texts.{help_text, usage_text, version_text}
 use Rattle.kp_pipeline.specs.Rows.{Row}
-use Rattle.kp_diagram_text.specs.Charts.{are_names}
-use Rattle.kp_diagram_text.specs.Figures.{Figure}
-use Rattle.kp_diagram_text.specs.Text.{diagram_text}
+use Rattle.kp_diagram_text.specs.{Charts.are_names, Figures.Figure, Text.diagram_text}
 use Rattle.kp_diagram_svg.specs.Picture.{picture}
-use Rattle.kp_diagram_run.specs.Runs.{job_figure, job_rows}
-use Rattle.kp_diagram_run.specs.Claims.{ShowsRun}
+use Rattle.kp_diagram_run.specs.{Runs.job_figure, Runs.job_rows, Claims.ShowsRun}
 use Rattle.kp_machine.specs.Machine.{inputs_from, pipe_of}
-use Rattle.kp_page.specs.Claims.{listed_last}
-use Rattle.kp_page.specs.States.{states_text}
+use Rattle.kp_page.specs.{Claims.listed_last, States.states_text}
 use Rattle.kp_page_text.specs.Page.{page as page_text}
-use Rattle.kp_paths.specs.Claims.{ArePaths}
-use Rattle.kp_paths.specs.Text.{paths_text}
-use Rattle.kp_paths_svg.specs.Claims.{ShowsCells}
-use Rattle.kp_paths_svg.specs.Picture.{paths_svg_text}
-use Rattle.kp_stalls_run.specs.Claims.{ShowCauses}
-use Rattle.kp_stalls_run.specs.Runs.{job_stalls}
-use Rattle.kp_stalls_text.specs.Labels.{labels_from}
-use Rattle.kp_stalls_text.specs.Text.{stalls_text}
+use Rattle.kp_paths.specs.{Claims.ArePaths, Text.paths_text}
+use Rattle.kp_paths_svg.specs.{Claims.ShowsCells, Picture.paths_svg_text}
+use Rattle.kp_stalls_run.specs.{Claims.ShowCauses, Runs.job_stalls}
+use Rattle.kp_stalls_text.specs.{Labels.labels_from, Text.stalls_text}
 use Rattle.kp_view.specs.Texts.{names_text, refusal_text}
 
 -- exactly this status and this text

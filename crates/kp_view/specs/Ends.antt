@@ -1,13 +1,8 @@
 -- How a call ends: what is in the sinks after it, by its result, where `Due` has the expected statuses and texts.
-use Rattle.std.specs.Prelude.{◌≡◌, ◌⊎◌, ℕ, List, Option, Result, Ok, Err}
-use Rattle.std.specs.Io.KnownBytes.{Appends}
-use Rattle.kp_base.specs.Bytes.{AppendsPart}
-use Rattle.kp_base.specs.Causes.{Rose}
-use Rattle.kp_view.specs.Complaints.{complaint_status, complaint_text}
-use Rattle.kp_view.specs.Due.{Prints, PrintsPart}
-use Rattle.kp_view.specs.declared.failure.Failure.{Failure}
-use Rattle.kp_view.specs.declared.failure.Failure.TheVariants.{Complained, Stopped}
-use Rattle.kp_view.specs.declared.failure.Stop.{Stop}
+use Rattle.std.specs.{Prelude.◌≡◌, Prelude.◌⊎◌, Prelude.ℕ, Prelude.List, Prelude.Option, Prelude.Result, Prelude.Ok, Prelude.Err, Io.KnownBytes.Appends}
+use Rattle.kp_base.specs.{Bytes.AppendsPart, Causes.Rose}
+use Rattle.kp_view.specs.{Complaints.complaint_status, Complaints.complaint_text, Due.Prints, Due.PrintsPart, declared.failure.Failure.Failure}
+use Rattle.kp_view.specs.declared.failure.{Failure.TheVariants.Complained, Failure.TheVariants.Stopped, Stop.Stop}
 use Rattle.kp_view.specs.declared.failure.Stop.TheVariants.{ReadFault, WriteFault, NoMemory}
 
 -- A call that writes to standard output alone, with status 0: an expected text was appended in full, or a prefix of it where the sink failed. The

@@ -1,9 +1,7 @@
 -- The texts that are printed on standard error.
 use Rattle.std.specs.Prelude.{ℕ, List, [], ◌++◌, codes, decimal, slice_get, Option, Some, None}
 use Rattle.std.specs.Option.{option_map_or}
-use Rattle.kp_base.specs.declared.refusal.Family.{Family}
-use Rattle.kp_base.specs.declared.refusal.Family.TheVariants.{E, V, A}
-use Rattle.kp_base.specs.declared.refusal.Refusal.{Refusal}
+use Rattle.kp_base.specs.declared.refusal.{Family.Family, Family.TheVariants.E, Family.TheVariants.V, Family.TheVariants.A, Refusal.Refusal}
 use Rattle.kp_view.specs.declared.sentences.TheConstants.{SENTENCES}
 
 -- the name of a file, or of standard input

@@ -1,33 +1,22 @@
 -- What is listed is exactly what goes on.
 use Rattle.std.proofs.Common.{ℕ, ◌≡◌, ◌==◌, ◌<◌, List, [], ◌∷◌, ◌++◌, map, Bool, true, false, Option, Some, Result, Ok, Err, IfOk, All, length, set, get_or, ◌≤◌, ◌≢◌, ◌+◌, inl, inr, refl, sym, ap, ◌∙◌, subst, eq-eqb, arith}
-use Rattle.std.specs.Prelude.{find, slice_get, ◌↔◌}
-use Rattle.std.specs.List.{position_or_len}
-use Rattle.std.proofs.Math.ListN.{replicate}
-use Rattle.std.proofs.lemmas.List.Folds.{find_at}
-use Rattle.std.proofs.lemmas.Bool.{eqb-true, cases_lt}
+use Rattle.std.proofs.{Math.ListN.replicate, lemmas.List.Folds.find_at, lemmas.Bool.eqb-true, lemmas.Bool.cases_lt}
 use Rattle.std.proofs.lemmas.Option.{get_or_from_slice_get, slice_get-get_or, slice_get_within}
-use Rattle.std.proofs.lemmas.List.{get_or-set_same, get_or-set_other, get_or_past, length-set}
-use Rattle.std.proofs.lemmas.List.Elements.{All-get_or, All-replicate}
-use Rattle.std.proofs.lemmas.List.{map-append}
+use Rattle.std.proofs.lemmas.List.{get_or-set_same, get_or-set_other, get_or_past, length-set, map-append, Elements.All-get_or, Elements.All-replicate}
+use Rattle.std.specs.{Prelude.find, Prelude.slice_get, Prelude.◌↔◌, List.position_or_len}
 use Rattle.kp_base.specs.declared.place.Place.{Place}
 use Rattle.kp_grammar.specs.Grammar.{Nonterminal}
-use Rattle.kp_grammar.proofs.Laws.{is_accepted, no_limit}
-use Rattle.kp_grammar.proofs.Prefix.{after}
+use Rattle.kp_grammar.proofs.{Laws.is_accepted, Laws.no_limit, Prefix.after}
 use Rattle.kp_lex.specs.declared.token.Keyword.TheVariants as keywords
 use Rattle.kp_lex.specs.declared.token.Mark.TheVariants as marks
-use Rattle.kp_lex.specs.declared.token.TokenKind.{TokenKind}
+use Rattle.kp_lex.specs.declared.token.{TokenKind.TokenKind, Token.Token}
 use Rattle.kp_lex.specs.declared.token.TokenKind.TheVariants as kinds
-use Rattle.kp_lex.specs.declared.token.Token.{Token}
-use Rattle.kp_parse_grammar.specs.Tokens.{Lexeme, lexemes}
-use Rattle.kp_parse_grammar.specs.Language.{JOB, at}
-use Rattle.kp_parse_grammar.specs.inner.Follow.{tables}
-use Rattle.kp_view_expected.specs.declared.token_class.TokenClass.{TokenClass}
-use Rattle.kp_view_expected.specs.declared.token_class.TokenClass.TheVariants as classes
-use Rattle.kp_view_expected.specs.declared.set.Expected.{Expected}
+use Rattle.kp_parse_grammar.specs.{Tokens.Lexeme, Tokens.lexemes, Language.JOB, Language.at, inner.Follow.tables}
+use Rattle.kp_view_expected.specs.declared.{token_class.TokenClass.TokenClass, set.Expected.Expected}
 use Rattle.kp_view_expected.specs.GoesOn.{class_of, GoesOn, all_classes, Lists}
 use Rattle.kp_view_expected.specs.inner.Plain.{Plain, number, plain, Steps, Runs, IsAnswer, Follows, Fails, IsListing}
-use Rattle.kp_view_expected.proofs.Tests.{predictive}
-use Rattle.kp_view_expected.proofs.Transfer.{classes_of, to_plain, from_plain}
+use Rattle.kp_view_expected.specs.declared.token_class.TokenClass.TheVariants as classes
+use Rattle.kp_view_expected.proofs.{Tests.predictive, Transfer.classes_of, Transfer.to_plain, Transfer.from_plain}
 
 -- Each class is that of its number.
 abbrev decoded : ℕ → Option TokenClass

@@ -1,24 +1,18 @@
 -- The steps of the code.
 use Rattle.std.specs.Prelude.{⊤, slice_get, option_map}
 use Rattle.std.proofs.Common.{ℕ, ◌≡◌, ◌==◌, List, [], ◌∷◌, ◌++◌, map, reverse, Bool, true, false, not, cond, ◌||◌, Some, None, Result, Ok, Err, IfOk, Bor, zero, suc, ◌+◌, ◌<◌, ◌≤◌, length, drop, get_or, refl, sym, ap, ◌∙◌, subst, eq-eqb, arith}
-use Rattle.std.proofs.lemmas.Bool.{eqb-true}
-use Rattle.std.proofs.lemmas.Option.{get_or_from_slice_get, slice_get-get_or, slice_get-map, slice_get_within}
+use Rattle.std.proofs.lemmas.{Bool.eqb-true, Option.get_or_from_slice_get, Option.slice_get-get_or, Option.slice_get-map, Option.slice_get_within}
 use Rattle.std.proofs.lemmas.List.{append-nil, drop_all, drop_more, length-map, map-append, reverse-append, reverse-reverse}
 use Rattle.kp_grammar.specs.Grammar.{Terminal, Nonterminal, Has, here, there, alternatives, stay, expand, read}
-use Rattle.kp_grammar.specs.Tables.{among, empty_of, first_of, firsts, pick}
-use Rattle.kp_grammar.specs.Machine.{goes, take}
-use Rattle.kp_grammar.proofs.Check.{picks_rule}
-use Rattle.kp_grammar.proofs.Prefix.{after}
+use Rattle.kp_grammar.specs.{Tables.among, Tables.empty_of, Tables.first_of, Tables.firsts, Tables.pick, Machine.goes, Machine.take}
+use Rattle.kp_grammar.proofs.{Check.picks_rule, Prefix.after}
 use Rattle.kp_lex.specs.declared.token.Token.{Token}
 use Rattle.kp_parse_grammar.specs.inner.Follow.{tables}
-use Rattle.kp_view_expected.specs.declared.token_class.TokenClass.{TokenClass}
-use Rattle.kp_view_expected.specs.declared.part.Part.{Part}
-use Rattle.kp_view_expected.specs.declared.part.Symbol.{Symbol as CodeSymbol}
-use Rattle.kp_view_expected.specs.declared.part.Symbol.TheVariants as symbols
-use Rattle.kp_view_expected.specs.GoesOn.{class_of}
 use Rattle.kp_view_expected.specs.inner.Plain.{Plain, is_solid, name, number, plain, plain_symbol, stack, Runs, Opens, Refuses, Decides, IsAnswer, Follows, Fails}
-use Rattle.kp_view_expected.proofs.Tests.{choose_or, chosen, lighter, solid, work}
-use Rattle.kp_view_expected.proofs.Sentences.{completes, some_alternative}
+use Rattle.kp_view_expected.specs.declared.{token_class.TokenClass.TokenClass, part.Part.Part, part.Symbol.Symbol as CodeSymbol}
+use Rattle.kp_view_expected.specs.GoesOn.{class_of}
+use Rattle.kp_view_expected.specs.declared.part.Symbol.TheVariants as symbols
+use Rattle.kp_view_expected.proofs.{Tests.choose_or, Tests.chosen, Tests.lighter, Tests.solid, Tests.work, Sentences.completes, Sentences.some_alternative}
 
 pub popped : (xs ys : List CodeSymbol) (x y : CodeSymbol) → xs ≡ ys ++ x ∷ [] → x ≡ y → stack xs ≡ plain_symbol y ∷ stack ys
 popped xs ys x y e f = ap stack e ∙ (ap (map plain_symbol) (reverse-append ys (x ∷ [])) ∙ ap (λ (z : CodeSymbol). plain_symbol z ∷ stack ys) f)

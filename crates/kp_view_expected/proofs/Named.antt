@@ -3,15 +3,12 @@ use Rattle.std.specs.Prelude.{ℕ, zero, suc, ◌≡◌, ◌↔◌, List, [], �
 use Rattle.std.proofs.Common.{refl, sym, ap, subst, ◌∙◌, arith}
 use Rattle.kp_lex.specs.declared.token.Keyword.TheVariants as keywords
 use Rattle.kp_lex.specs.declared.token.Mark.TheVariants as marks
-use Rattle.kp_view_expected.specs.declared.token_class.TokenClass.{TokenClass}
-use Rattle.kp_view_expected.specs.declared.token_class.TokenClass.TheVariants as classes
-use Rattle.kp_view_expected.specs.declared.set.Expected.{Expected}
-use Rattle.kp_view_expected.specs.declared.display.Group.{Group}
-use Rattle.kp_view_expected.specs.declared.display.Group.TheVariants as groups
-use Rattle.kp_view_expected.specs.declared.display.Thing.{Thing}
-use Rattle.kp_view_expected.specs.declared.display.Thing.TheVariants as thing
+use Rattle.kp_view_expected.specs.declared.{token_class.TokenClass.TokenClass, set.Expected.Expected, display.Group.Group, display.Thing.Thing}
 use Rattle.kp_view_expected.specs.GoesOn.{all_classes, Lists}
 use Rattle.kp_view_expected.specs.Texts.{in_group, is_last, all_of, has_all, group_of, thing_of, things, before_these, Names, IsNamed}
+use Rattle.kp_view_expected.specs.declared.token_class.TokenClass.TheVariants as classes
+use Rattle.kp_view_expected.specs.declared.display.Group.TheVariants as groups
+use Rattle.kp_view_expected.specs.declared.display.Thing.TheVariants as thing
 
 abbrev At : List TokenClass → List Bool → TokenClass → Type 0
 At cs bs c = (k : ℕ) × (slice_get cs k ≡ Some c) × (slice_get bs k ≡ Some true)

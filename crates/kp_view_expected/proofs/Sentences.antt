@@ -1,21 +1,16 @@
 -- Each list of symbols has a sentence.
-use Rattle.std.specs.Prelude.{⊤}
+use Rattle.std.specs.Prelude.{⊤, find}
 use Rattle.std.proofs.Common.{ℕ, zero, suc, ◌≡◌, ◌==◌, List, [], ◌∷◌, ◌++◌, map, Bool, true, false, ◌&&◌, Option, Some, None, refl, ap, subst}
-use Rattle.std.specs.Prelude.{find}
-use Rattle.std.proofs.lemmas.Bool.{eqb-true}
-use Rattle.std.proofs.lemmas.List.{append_assoc}
+use Rattle.std.proofs.lemmas.{Bool.eqb-true, List.append_assoc}
 use Rattle.kp_grammar.specs.Grammar.{Terminal, Nonterminal, Action, alternatives, stay, expand, read, build}
 use Rattle.kp_grammar.specs.Tables.{choose, pick}
 use Rattle.kp_grammar.proofs.Check.{picks_rule}
-use Rattle.kp_parse_grammar.specs.Tokens.{LITERAL}
-use Rattle.kp_parse_grammar.specs.inner.Follow.{tables}
-use Rattle.kp_view_expected.specs.declared.token_class.TokenClass.{TokenClass}
-use Rattle.kp_view_expected.specs.declared.part.Part.{Part}
-use Rattle.kp_view_expected.specs.declared.part.Part.TheVariants as parts
-use Rattle.kp_view_expected.specs.declared.part.Symbol.{Symbol as CodeSymbol}
-use Rattle.kp_view_expected.specs.declared.part.Symbol.TheVariants as symbols
+use Rattle.kp_parse_grammar.specs.{Tokens.LITERAL, inner.Follow.tables}
+use Rattle.kp_view_expected.specs.declared.{token_class.TokenClass.TokenClass, part.Part.Part, part.Symbol.Symbol as CodeSymbol}
 use Rattle.kp_view_expected.specs.GoesOn.{all_classes}
 use Rattle.kp_view_expected.specs.inner.Plain.{Plain, number, name, plain, plain_symbol, Steps}
+use Rattle.kp_view_expected.specs.declared.part.Part.TheVariants as parts
+use Rattle.kp_view_expected.specs.declared.part.Symbol.TheVariants as symbols
 use Rattle.kp_view_expected.proofs.Tests.{and_true}
 
 abbrev and_then : {A : Type 0} → Option A → (A → Bool) → Bool

@@ -6,8 +6,7 @@ use Rattle.kp_lex.specs.declared.token.TokenKind.{TokenKind}
 use Rattle.kp_lex.specs.declared.token.TokenKind.TheVariants as kinds
 use Rattle.kp_parse_grammar.specs.Tokens.{Lexeme, kind_class}
 use Rattle.kp_parse_grammar.specs.Language.{Sym, State, Way, Step, language, rules}
-use Rattle.kp_view_expected.specs.declared.token_class.TokenClass.{TokenClass}
-use Rattle.kp_view_expected.specs.GoesOn.{class_of}
+use Rattle.kp_view_expected.specs.{declared.token_class.TokenClass.TokenClass, GoesOn.class_of}
 use Rattle.kp_view_expected.specs.inner.Plain.{Plain, number, stripped, stripped_rules, plain, Steps}
 
 abbrev pub classes_of : List Lexeme → List TokenClass

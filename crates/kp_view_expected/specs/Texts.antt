@@ -3,18 +3,14 @@
 -- Each class of the set is listed by itself, in the order of messages. But a group whose classes are all in the set is listed as one thing, in the place of
 -- the last one of them.
 use Rattle.std.specs.Prelude.{ℕ, ◌≡◌, slice_get, List, [], ◌∷◌, ◌++◌, Bool, true, false, ◌&&◌, ◌||◌, not, if◌then◌else◌, Option, Some, None, codes}
-use Rattle.kp_lex.specs.Words.{spelling}
+use Rattle.kp_lex.specs.{Words.spelling, declared.token.Mark.Mark}
 use Rattle.kp_lex.specs.declared.token.Keyword.TheVariants as keywords
-use Rattle.kp_lex.specs.declared.token.Mark.{Mark}
 use Rattle.kp_lex.specs.declared.token.Mark.TheVariants as marks
-use Rattle.kp_view_expected.specs.declared.token_class.TokenClass.{TokenClass}
-use Rattle.kp_view_expected.specs.declared.token_class.TokenClass.TheVariants as classes
-use Rattle.kp_view_expected.specs.declared.set.Expected.{Expected}
-use Rattle.kp_view_expected.specs.declared.display.Group.{Group}
-use Rattle.kp_view_expected.specs.declared.display.Group.TheVariants as groups
-use Rattle.kp_view_expected.specs.declared.display.Thing.{Thing}
-use Rattle.kp_view_expected.specs.declared.display.Thing.TheVariants as thing
+use Rattle.kp_view_expected.specs.declared.{token_class.TokenClass.TokenClass, set.Expected.Expected, display.Group.Group, display.Thing.Thing}
 use Rattle.kp_view_expected.specs.GoesOn.{all_classes}
+use Rattle.kp_view_expected.specs.declared.token_class.TokenClass.TheVariants as classes
+use Rattle.kp_view_expected.specs.declared.display.Group.TheVariants as groups
+use Rattle.kp_view_expected.specs.declared.display.Thing.TheVariants as thing
 
 -- the classes with which an expression begins
 abbrev pub begins_expression : TokenClass → Bool

@@ -1,25 +1,19 @@
 -- From what the readers find to what is said of the input of a source.
 use Rattle.std.proofs.Common.{◌≡◌, ◌≤◌, ℕ, Bool, List, [], length, drop, Ok, Err, Some, None, inl, inr, refl, ap, sym, arith}
-use Rattle.std.specs.declared.option.Option.{Option}
-use Rattle.std.specs.Io.KnownBytes.{Consumes, IsAtEnd}
+use Rattle.std.specs.{declared.option.Option.Option, Io.KnownBytes.Consumes, Io.KnownBytes.IsAtEnd}
 use Rattle.kp_base.specs.declared.refusal.Refusal.{Refusal}
 use Rattle.kp_base.specs.declared.refusal.Refused.TheVariants as refused
-use Rattle.kp_ast.specs.declared.tree.Decl.{Decl}
-use Rattle.kp_ast.specs.declared.tree.Job.{Job}
+use Rattle.kp_ast.specs.declared.tree.{Decl.Decl, Job.Job}
 use Rattle.kp_net.specs.Netlist.{Net}
 use Rattle.kp_asm.specs.Program.{assembled}
-use Rattle.kp_vlog.specs.Denote.{Denotes}
-use Rattle.kp_vlog.specs.Verdict.{IsRefused}
-use Rattle.kp_debug_script.specs.Scripts.{script_of}
-use Rattle.kp_debug_script.specs.declared.command.Command.{Command}
+use Rattle.kp_vlog.specs.{Denote.Denotes, Verdict.IsRefused}
+use Rattle.kp_debug_script.specs.{Scripts.script_of, declared.command.Command.Command}
 use Rattle.kp_synth_spec.specs.Shows.{IsOfJob}
 use Rattle.kp_vread_match.specs.Matching.{IsRefused as IsOfOther}
 use Rattle.kp_frontend.specs.Judging.{JudgesText, JudgesHeadText, too_long}
 use Rattle.kp_view_texts.specs.Heads.{rule_head}
-use Rattle.kp_view_explain.specs.Explaining.{BeginsWith, ExplainsText, FindsInModule, HasJob, IsExplained, Says, rule_of, warned}
-use Rattle.kp_view_explain.specs.Explaining.Finds.{over, within}
-use Rattle.kp_view_explain.specs.Listing.{ListsNext}
-use Rattle.kp_view_explain.specs.declared.words.Subject.{Subject}
+use Rattle.kp_view_explain.specs.Explaining.{BeginsWith, ExplainsText, FindsInModule, HasJob, IsExplained, Says, rule_of, warned, Finds.over, Finds.within}
+use Rattle.kp_view_explain.specs.{Listing.ListsNext, declared.words.Subject.Subject}
 use Rattle.kp_view_explain.specs.declared.words.Subject.TheVariants as subjects
 
 -- a job

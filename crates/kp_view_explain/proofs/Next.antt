@@ -1,34 +1,20 @@
 -- The line of a text whose tokens violate E4, from the readers up.
 use Rattle.std.proofs.Common.{◌≡◌, ◌≤◌, ℕ, Bool, not, List, [], ◌++◌, length, take, Ok, Err, Some, None, refl, ap, subst, ◌∙◌, arith}
-use Rattle.std.proofs.lemmas.Grind.{common_steps}
-use Rattle.std.proofs.lemmas.List.Sums.{prefix_len-le-length}
-use Rattle.std.specs.Prelude.{◌↔◌, slice_get}
-use Rattle.std.specs.List.{position, position_or_len}
-use Rattle.std.specs.declared.option.Option.{Option}
-use Rattle.kp_base.specs.Refusal.{e_rule}
-use Rattle.kp_base.specs.declared.place.Place.{Place}
-use Rattle.kp_base.specs.declared.refusal.Refusal.{Refusal}
+use Rattle.std.proofs.lemmas.{Grind.common_steps, List.Sums.prefix_len-le-length}
+use Rattle.std.specs.{Prelude.◌↔◌, Prelude.slice_get, List.position, List.position_or_len, declared.option.Option.Option}
+use Rattle.kp_base.specs.{Refusal.e_rule, declared.place.Place.Place, declared.refusal.Refusal.Refusal}
 use Rattle.kp_ast.specs.declared.tree.Job.{Job}
-use Rattle.kp_lex.specs.Text.{HasOutcome}
-use Rattle.kp_lex.specs.declared.token.Token.{Token}
-use Rattle.kp_lex.specs.declared.token.Lexed.{Lexed}
+use Rattle.kp_lex.specs.{Text.HasOutcome, declared.token.Token.Token, declared.token.Lexed.Lexed}
 use Rattle.kp_lex.proofs.Outcome.{one_outcome}
-use Rattle.kp_parse.specs.Sentence.{Breaks, IsTree}
-use Rattle.kp_parse.specs.Sentence.Breaks.{wrong_token}
+use Rattle.kp_parse.specs.Sentence.{Breaks, IsTree, Breaks.wrong_token}
 use Rattle.kp_parse.proofs.Unique.{no_rule}
 use Rattle.kp_parse_grammar.specs.Tokens.{Lexeme, lexemes}
-use Rattle.kp_frontend.specs.Judging.{JudgesText, JudgesHeadText, most_bytes}
-use Rattle.kp_frontend.specs.Judging.JudgesText.{no_sentence}
-use Rattle.kp_frontend.specs.Judging.Judges.{within}
-use Rattle.kp_frontend.specs.Judging.JudgesHeadText.{no_head_sentence}
+use Rattle.kp_frontend.specs.Judging.{JudgesText, JudgesHeadText, most_bytes, JudgesText.no_sentence, Judges.within, JudgesHeadText.no_head_sentence}
 use Rattle.kp_frontend.specs.Judging.JudgesHead.{head_within}
 use Rattle.kp_frontend.proofs.Verdicts.{one_verdict, one_head}
-use Rattle.kp_view_expected.specs.GoesOn.{class_of, GoesOn, Lists}
-use Rattle.kp_view_expected.specs.declared.set.Expected.{Expected}
-use Rattle.kp_view_help.specs.Texts.{found_text}
-use Rattle.kp_view_help.specs.declared.found.FoundToken.{FoundToken}
-use Rattle.kp_view_message.specs.Texts.{message_text}
-use Rattle.kp_view_message.specs.declared.message.Message.{Message}
+use Rattle.kp_view_expected.specs.{GoesOn.class_of, GoesOn.GoesOn, GoesOn.Lists, declared.set.Expected.Expected}
+use Rattle.kp_view_help.specs.{Texts.found_text, declared.found.FoundToken.FoundToken}
+use Rattle.kp_view_message.specs.{Texts.message_text, declared.message.Message.Message}
 use Rattle.kp_view_message.specs.declared.message.Message.TheVariants as messages
 use Rattle.kp_view_message.specs.declared.reading_fault.ReadingFault.TheVariants as faults
 use Rattle.kp_view_findings.specs.Messages.{AppendsMessage}

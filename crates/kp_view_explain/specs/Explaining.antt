@@ -1,19 +1,16 @@
 -- What is said of an input: a status, and a text for standard error.
 use Rattle.std.specs.Prelude.{◌≡◌, ◌≢◌, ◌<◌, ◌≤◌, [], ◌++◌, ◌⊎◌, ◌&&◌, Bool, ℕ, List, length, drop, ltb, if◌then◌else◌, Option, Some, None, Result, Ok, Err}
 use Rattle.std.specs.Io.KnownBytes.{Consumes, IsAtEnd}
-use Rattle.kp_base.specs.Refusal.{v_rule}
-use Rattle.kp_base.specs.declared.refusal.Refusal.{Refusal}
+use Rattle.kp_base.specs.{Refusal.v_rule, declared.refusal.Refusal.Refusal}
 use Rattle.kp_ast.specs.declared.tree.Job.{Job}
 use Rattle.kp_net.specs.Netlist.{Net}
 use Rattle.kp_asm.specs.Program.{assembled}
-use Rattle.kp_vlog.specs.Denote.{Denotes}
-use Rattle.kp_vlog.specs.Verdict.{IsRefused}
+use Rattle.kp_vlog.specs.{Denote.Denotes, Verdict.IsRefused}
 use Rattle.kp_debug_script.specs.Scripts.{script_of}
 use Rattle.kp_synth_spec.specs.Shows.{IsOfJob}
 use Rattle.kp_frontend.specs.Judging.{JudgesText, JudgesHeadText, most_bytes, too_long}
 use Rattle.kp_view_texts.specs.Heads.{rule_head}
-use Rattle.kp_view_explain.specs.Listing.{ListsNext}
-use Rattle.kp_view_explain.specs.declared.words.Subject.{Subject}
+use Rattle.kp_view_explain.specs.{Listing.ListsNext, declared.words.Subject.Subject}
 use Rattle.kp_view_explain.specs.declared.words.Subject.TheVariants as subjects
 
 -- the violated rule, if a verdict is one

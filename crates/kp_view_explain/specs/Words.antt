@@ -1,8 +1,7 @@
 -- The words of `explain`.
 use Rattle.std.specs.Prelude.{◌==◌, ℕ, Bool, true, false, ◌||◌, List, [], ◌∷◌, codes, if◌then◌else◌, Option, Some, None, is_some, option_map, string_bytes}
 use Rattle.std.specs.Str.{bytes_eq}
-use Rattle.kp_view_explain.specs.declared.words.Order.{Order}
-use Rattle.kp_view_explain.specs.declared.words.Subject.{Subject}
+use Rattle.kp_view_explain.specs.declared.words.{Order.Order, Subject.Subject}
 use Rattle.kp_view_explain.specs.declared.words.Subject.TheVariants as subjects
 
 -- what is asked for: what the input is, whether warnings count as errors, and the file, or none for standard input

@@ -1,7 +1,6 @@
 -- The line of a message, appended to a text.
 use Rattle.std.proofs.Common.{◌≡◌, ℕ, List, [], ◌∷◌, ◌++◌, Some, None, ap, append_assoc, ◌∙◌}
-use Rattle.std.specs.Prelude.{IfSome}
-use Rattle.std.specs.declared.option.Option.{Option}
+use Rattle.std.specs.{Prelude.IfSome, declared.option.Option.Option}
 use Rattle.kp_view_findings.specs.Messages.{AppendsMessage}
 
 pub appends_of : (old line bytes rest new : List ℕ) (message : Option (List ℕ)) → new ≡ ((old ++ line) ++ 10 ∷ []) ++ rest → line ≡ bytes

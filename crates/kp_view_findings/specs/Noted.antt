@@ -1,7 +1,6 @@
 -- What a pass has found.
 use Rattle.std.specs.Prelude.{◌≡◌, List, [], ◌∷◌, ◌++◌, length, nat_lt, if◌then◌else◌}
-use Rattle.kp_view_findings.specs.declared.finding.Finding.{Finding}
-use Rattle.kp_view_findings.specs.declared.finding.Findings.{Findings}
+use Rattle.kp_view_findings.specs.declared.finding.{Finding.Finding, Findings.Findings}
 
 -- the findings, in the order in which they were noted
 abbrev pub noted : Findings → List Finding

@@ -1,7 +1,5 @@
 -- Names with what is noted of each, in the order in which they were noted.
-use Rattle.std.specs.Prelude.{ℕ, List, Option, if◌then◌else◌, is_some, nat_eq}
-use Rattle.std.specs.Cmp.Lexicographic.{pointwise}
-use Rattle.std.specs.Map.{lookup}
+use Rattle.std.specs.{Prelude.ℕ, Prelude.List, Prelude.Option, Prelude.if◌then◌else◌, Prelude.is_some, Prelude.nat_eq, Cmp.Lexicographic.pointwise, Map.lookup}
 use Rattle.indexmap.specs.IndexMap.{insert_entry}
 
 -- what is noted of a name

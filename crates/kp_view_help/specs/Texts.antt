@@ -1,8 +1,7 @@
 -- The text of a word, and of the token at a place.
 use Rattle.std.specs.Prelude.{ℕ, List, ◌++◌, take, length, nat_lt, if◌then◌else◌, flat_map, codes}
 use Rattle.std.specs.Char.{encode_utf8}
-use Rattle.kp_view_help.specs.declared.word.Word.{Word}
-use Rattle.kp_view_help.specs.declared.found.FoundToken.{FoundToken}
+use Rattle.kp_view_help.specs.declared.{word.Word.Word, found.FoundToken.FoundToken}
 use Rattle.kp_view_help.specs.declared.found.FoundToken.TheVariants as tokens
 
 -- bytes, each as a character; of more than 80 the first 80

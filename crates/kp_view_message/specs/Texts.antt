@@ -2,9 +2,8 @@
 use Rattle.std.specs.Prelude.{ℕ, List, ◌++◌, Option, Some, None, codes}
 use Rattle.kp_view_expected.specs.Texts.{expected_text}
 use Rattle.kp_view_help.specs.Texts.{found_text}
-use Rattle.kp_view_message.specs.declared.reading_fault.ReadingFault.{ReadingFault}
+use Rattle.kp_view_message.specs.declared.{reading_fault.ReadingFault.ReadingFault, message.Message.Message}
 use Rattle.kp_view_message.specs.declared.reading_fault.ReadingFault.TheVariants as faults
-use Rattle.kp_view_message.specs.declared.message.Message.{Message}
 use Rattle.kp_view_message.specs.declared.message.Message.TheVariants as messages
 
 -- `expected CLASSES, found TOKEN`; nothing is said here of the texts of other messages

@@ -1,25 +1,18 @@
 -- What is found of the expression at a place of a job.
 use Rattle.std.proofs.Common.{◌≡◌, ◌∙◌, ℕ, ◌+◌, List, [], ◌∷◌, ◌++◌, Option, Some, None, length, refl, sym, subst, append_assoc}
-use Rattle.std.specs.Prelude.{sum_by}
-use Rattle.std.specs.Option.{option_or}
+use Rattle.std.specs.{Prelude.sum_by, Option.option_or}
 use Rattle.kp_base.specs.declared.place.Place.{Place}
-use Rattle.kp_ast.specs.declared.tree.Expr.{Expr}
-use Rattle.kp_ast.specs.declared.tree.Decl.{Decl}
+use Rattle.kp_ast.specs.declared.tree.{Expr.Expr, Decl.Decl, Stmt.Stmt, StmtKind.StmtKind, Block.Block, Job.Job}
 use Rattle.kp_ast.specs.declared.tree.Decl.TheVariants as decls
-use Rattle.kp_ast.specs.declared.tree.Stmt.{Stmt}
-use Rattle.kp_ast.specs.declared.tree.StmtKind.{StmtKind}
 use Rattle.kp_ast.specs.declared.tree.StmtKind.TheVariants as stmts
-use Rattle.kp_ast.specs.declared.tree.Block.{Block}
-use Rattle.kp_ast.specs.declared.tree.Job.{Job}
 use Rattle.kp_ast.specs.declared.widths.Scope.TheVariants as scopes
 use Rattle.kp_ast.specs.declared.widths.NameKind.TheVariants as kinds
-use Rattle.kp_width.specs.Names.{Scoped, sense, nothing, used, is_file, is_register}
-use Rattle.kp_width.specs.Names as rules
-use Rattle.kp_width.specs.Expressions.{width_of}
+use Rattle.kp_width.specs.{Names.Scoped, Names.sense, Names.nothing, Names.used, Names.is_file, Names.is_register, Expressions.width_of}
 use Rattle.kp_width.specs.Declarations.{declaration_of, declarations_of, function_opened, functions_in}
 use Rattle.kp_width.specs.Statements.{blocks_of, statement_of, statements_of}
-use Rattle.kp_view_operands.specs.declared.widths.ExprWidths.{ExprWidths}
+use Rattle.kp_width.specs.Names as rules
 use Rattle.kp_view_operands.specs.Search.{NameWidths, names_after_decl, names_after_decls, names_after_stmt, no_names, opened, measured, found_in, found_in_blocks, found_in_decl, found_in_decls, found_in_option, found_in_stmt, found_in_stmts, with_local, with_params}
+use Rattle.kp_view_operands.specs.declared.widths.ExprWidths.{ExprWidths}
 use Rattle.kp_view_operands.specs.Widths.{AreWidthsAt, IsOf, after_decls, after_stmts, in_function}
 use Rattle.kp_view_operands.specs.Widths.IsOf.{address, read_when, guess, let_value, put_value, set_value, set_when, aim_value}
 use Rattle.kp_view_operands.specs.Widths.Occurs.{in_body, in_stmt}

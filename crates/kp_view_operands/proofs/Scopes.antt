@@ -1,18 +1,14 @@
 -- The names in scope here and those of the rules: the same names with the same widths.
 use Rattle.std.proofs.Common.{◌≡◌, ◌∙◌, ℕ, ◌+◌, List, [], ◌∷◌, ◌++◌, Option, Some, None, Bool, true, false, cond, length, nat_eq, refl, ap, sym, arith}
-use Rattle.std.specs.Prelude.{is_some, unwrap_or, sum_by}
-use Rattle.std.specs.Option.{option_or}
-use Rattle.std.specs.Cmp.Lexicographic.{pointwise, bytes_decides}
 use Rattle.std.proofs.lemmas.List.Sums.{sum_by-cons}
+use Rattle.std.specs.{Prelude.is_some, Prelude.unwrap_or, Prelude.sum_by, Option.option_or, Cmp.Lexicographic.pointwise, Cmp.Lexicographic.bytes_decides}
 use Rattle.kp_base.specs.declared.place.Place.{Place}
-use Rattle.kp_ast.specs.declared.tree.Param.{Param}
-use Rattle.kp_ast.specs.declared.tree.Decl.{Decl}
+use Rattle.kp_ast.specs.declared.{tree.Param.Param, tree.Decl.Decl, widths.NameKind.NameKind}
 use Rattle.kp_ast.specs.declared.tree.Decl.TheVariants as decls
-use Rattle.kp_ast.specs.declared.widths.NameKind.{NameKind}
 use Rattle.kp_ast.specs.declared.widths.NameKind.TheVariants as kinds
 use Rattle.kp_width.specs.Names.{Sense, sense, Names, Scoped, find, used_as, declared_local}
-use Rattle.kp_width.specs.Names as rules
 use Rattle.kp_width.specs.Declarations.{declaration_of, declarations_of, functions_in, parameters_of}
+use Rattle.kp_width.specs.Names as rules
 use Rattle.kp_view_operands.specs.Search.{Table, NameWidths, look_up, added, capped, names_after_decl, opened, width_named, with_local, with_params}
 
 by_test : {G : Type 0} (b : Bool) → (b ≡ true → G) → (b ≡ false → G) → G

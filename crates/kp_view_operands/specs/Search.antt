@@ -1,27 +1,15 @@
 -- The search for the expression at a place of a job: its width and those of its operands. 65 denotes each width over 64.
 use Rattle.std.specs.Prelude.{ℕ, ◌+◌, ◌-◌, List, [], ◌∷◌, ◌++◌, Option, Some, None, Bool, ◌&&◌, ◌==◌, if◌then◌else◌, is_some, min, nat_eq, unwrap_or}
-use Rattle.std.specs.Option.{option_or}
-use Rattle.std.specs.Map.{lookup}
-use Rattle.std.specs.Cmp.Lexicographic.{pointwise}
+use Rattle.std.specs.{Option.option_or, Map.lookup, Cmp.Lexicographic.pointwise}
 use Rattle.kp_base.specs.declared.place.Place.{Place}
-use Rattle.kp_ast.specs.declared.tree.Param.{Param}
-use Rattle.kp_ast.specs.declared.tree.Decl.{Decl}
+use Rattle.kp_ast.specs.declared.tree.{Param.Param, Decl.Decl, Stmt.Stmt, StmtKind.StmtKind, Block.Block, Job.Job, Expr.Expr}
+use Rattle.kp_ast.specs.declared.tree.ExprKind.{TheOpen.ExprKind-F, TheOpen.Expr-F, TheFolds.fold-Expr}
 use Rattle.kp_ast.specs.declared.tree.Decl.TheVariants as decls
-use Rattle.kp_ast.specs.declared.tree.Stmt.{Stmt}
-use Rattle.kp_ast.specs.declared.tree.StmtKind.{StmtKind}
 use Rattle.kp_ast.specs.declared.tree.StmtKind.TheVariants as stmts
-use Rattle.kp_ast.specs.declared.tree.Block.{Block}
-use Rattle.kp_ast.specs.declared.tree.Job.{Job}
-use Rattle.kp_ast.specs.declared.tree.Expr.{Expr}
-use Rattle.kp_ast.specs.declared.tree.ExprKind.TheOpen.{ExprKind-F, Expr-F}
 use Rattle.kp_ast.specs.declared.tree.ExprKind.TheOpen as level
-use Rattle.kp_ast.specs.declared.tree.ExprKind.TheFolds.{fold-Expr}
-use Rattle.kp_width.specs.Expressions.{is_test}
-use Rattle.kp_width.specs.Declarations.{name_of}
-use Rattle.kp_view_operands.specs.declared.widths.ExprWidths.{ExprWidths}
-use Rattle.kp_view_operands.specs.declared.widths.OperandWidths.{OperandWidths}
+use Rattle.kp_width.specs.{Expressions.is_test, Declarations.name_of}
+use Rattle.kp_view_operands.specs.declared.{widths.ExprWidths.ExprWidths, widths.OperandWidths.OperandWidths, expression.Measured.Measured}
 use Rattle.kp_view_operands.specs.declared.widths.OperandWidths.TheVariants as operands
-use Rattle.kp_view_operands.specs.declared.expression.Measured.{Measured}
 
 -- names with their widths, in the order in which they were added
 abbrev pub Table : Type 0

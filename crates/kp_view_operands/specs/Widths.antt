@@ -2,22 +2,13 @@
 use Rattle.std.specs.Prelude.{◌≡◌, ℕ, List, ◌∷◌, ◌++◌, Option, Some, length, min, sum_by}
 use Rattle.kp_base.specs.declared.place.Place.{Place}
 use Rattle.kp_bits.specs.declared.operator.BinOp.{BinOp}
-use Rattle.kp_ast.specs.declared.tree.Num.{Num}
-use Rattle.kp_ast.specs.declared.tree.FuncDecl.{FuncDecl}
-use Rattle.kp_ast.specs.declared.tree.Named.{Named}
-use Rattle.kp_ast.specs.declared.tree.Decl.{Decl}
-use Rattle.kp_ast.specs.declared.tree.Decl.TheVariants as decls
-use Rattle.kp_ast.specs.declared.tree.Stmt.{Stmt}
-use Rattle.kp_ast.specs.declared.tree.StmtKind.{StmtKind}
-use Rattle.kp_ast.specs.declared.tree.StmtKind.TheVariants as stmts
-use Rattle.kp_ast.specs.declared.tree.Block.{Block}
-use Rattle.kp_ast.specs.declared.tree.Job.{Job}
-use Rattle.kp_ast.specs.declared.tree.Expr.{Expr}
+use Rattle.kp_ast.specs.declared.tree.{Num.Num, FuncDecl.FuncDecl, Named.Named, Decl.Decl, Stmt.Stmt, StmtKind.StmtKind, Block.Block, Job.Job, Expr.Expr}
 use Rattle.kp_ast.specs.declared.tree.ExprKind.{ExprKind}
+use Rattle.kp_ast.specs.declared.tree.Decl.TheVariants as decls
+use Rattle.kp_ast.specs.declared.tree.StmtKind.TheVariants as stmts
 use Rattle.kp_ast.specs.declared.tree.ExprKind.TheViews as kind
 use Rattle.kp_ast.specs.declared.widths.Scope.TheVariants as scopes
-use Rattle.kp_width.specs.Names.{Scoped, nothing, opened}
-use Rattle.kp_width.specs.Expressions.{width_of}
+use Rattle.kp_width.specs.{Names.Scoped, Names.nothing, Names.opened, Expressions.width_of}
 use Rattle.kp_width.specs.Declarations.{declarations_of, function_opened, functions_in, parameters_of}
 use Rattle.kp_width.specs.Statements.{blocks_of, statements_of}
 use Rattle.kp_view_operands.specs.declared.widths.ExprWidths.{ExprWidths}

@@ -1,23 +1,13 @@
 -- AN INSTRUCTION from statement to statement: what has been set before each.
 use Rattle.std.proofs.Common.{◌≡◌, ◌∙◌, ℕ, zero, suc, Bool, true, false, cond, eqb, List, [], ◌∷◌, length, take, ◌≤◌, Option, Some, None, is_some, refl, ap, sym, arith}
+use Rattle.std.proofs.lemmas.{Bool.cond_both, List.take_all}
 use Rattle.std.specs.Prelude.{slice_get, if◌then◌else◌}
-use Rattle.std.proofs.lemmas.Bool.{cond_both}
-use Rattle.std.proofs.lemmas.List.{take_all}
-use Rattle.kp_ast.specs.declared.tree.Expr.{Expr}
-use Rattle.kp_ast.specs.declared.tree.Named.{Named}
-use Rattle.kp_ast.specs.declared.tree.ReadStmt.{ReadStmt}
-use Rattle.kp_ast.specs.declared.tree.ResultDecl.{ResultDecl}
-use Rattle.kp_ast.specs.declared.tree.Decl.{Decl}
-use Rattle.kp_ast.specs.declared.tree.Stmt.{Stmt}
-use Rattle.kp_ast.specs.declared.tree.StmtKind.{StmtKind}
+use Rattle.kp_ast.specs.declared.tree.{Expr.Expr, Named.Named, ReadStmt.ReadStmt, ResultDecl.ResultDecl, Decl.Decl, Stmt.Stmt, StmtKind.StmtKind, Job.Job}
 use Rattle.kp_ast.specs.declared.tree.StmtKind.TheVariants as stmts
-use Rattle.kp_ast.specs.declared.tree.Job.{Job}
 use Rattle.kp_stage.specs.Facts.{stmts_in}
-use Rattle.kp_pipeline.specs.Machine.{Tree}
-use Rattle.kp_pipeline.specs.Sequential.{StageOutcome, before_stage, first_value, run}
-use Rattle.kp_machine.specs.Slots.{targets_of, pipes_of, hints_of, number_of, result_named}
+use Rattle.kp_pipeline.specs.{Machine.Tree, Sequential.StageOutcome, Sequential.before_stage, Sequential.first_value, Sequential.run}
 use Rattle.kp_machine.specs.Trees.{Progress, address_of, entered, holds, value_of, value_with_hints, with_aim, with_name, with_put, with_set, with_value, word_of, word_read, read_of, statement_of, tree_of}
-use Rattle.kp_machine.specs.Machine.{machine_of, stage_tree}
+use Rattle.kp_machine.specs.{Slots.targets_of, Slots.pipes_of, Slots.hints_of, Slots.number_of, Slots.result_named, Machine.machine_of, Machine.stage_tree}
 use Rattle.kp_view_sets.specs.Claims.{IsBetweenStages, instruction_at}
 
 -- of two optional values

@@ -1,15 +1,11 @@
 -- WHEN A SET TAKES PLACE.
 use Rattle.std.specs.Prelude.{◌≡◌, ℕ, suc, ◌+◌, true, List, length, take, slice_get, Some, None}
 use Rattle.std.specs.List.{All}
-use Rattle.kp_ast.specs.declared.tree.ResultDecl.{ResultDecl}
-use Rattle.kp_ast.specs.declared.tree.Job.{Job}
+use Rattle.kp_ast.specs.declared.tree.{ResultDecl.ResultDecl, Job.Job}
 use Rattle.kp_pipeline.specs.Sequential.{Instruction, after_stage, before_stage, exec, is_written, run}
 use Rattle.kp_stage.specs.Facts.{stmts_in}
-use Rattle.kp_machine.specs.Machine.{address_in, machine_of, result_for}
-use Rattle.kp_machine.specs.Slots.{pipes_of}
-use Rattle.kp_machine.specs.Trees.{entered, tree_of}
-use Rattle.kp_view_sets.specs.declared.sets.PlacedSet.{PlacedSet}
-use Rattle.kp_view_sets.specs.Sets.{in_vain, sets_from}
+use Rattle.kp_machine.specs.{Machine.address_in, Machine.machine_of, Machine.result_for, Slots.pipes_of, Trees.entered, Trees.tree_of}
+use Rattle.kp_view_sets.specs.{declared.sets.PlacedSet.PlacedSet, Sets.in_vain, Sets.sets_from}
 
 -- The instruction of the sequential machine on the state s with the sample values q, before statement j of stage k: after the stages below k, and
 -- then the first j statements of stage k.

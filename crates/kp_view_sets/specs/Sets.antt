@@ -1,11 +1,8 @@
 -- THE SETS of a result in text order, and those of them that are in vain.
 use Rattle.std.specs.Prelude.{ℕ, ◌+◌, List, [], ◌∷◌, ◌++◌, Option, Some, None, is_none, if◌then◌else◌}
 use Rattle.kp_base.specs.declared.place.Place.{Place}
-use Rattle.kp_ast.specs.Expressions.{is_same_name}
-use Rattle.kp_ast.specs.declared.tree.Stmt.{Stmt}
-use Rattle.kp_ast.specs.declared.tree.StmtKind.{StmtKind}
+use Rattle.kp_ast.specs.{Expressions.is_same_name, declared.tree.Stmt.Stmt, declared.tree.StmtKind.StmtKind, declared.tree.Block.Block}
 use Rattle.kp_ast.specs.declared.tree.StmtKind.TheVariants as stmts
-use Rattle.kp_ast.specs.declared.tree.Block.{Block}
 use Rattle.kp_view_sets.specs.declared.sets.PlacedSet.{PlacedSet}
 
 -- statement j of stage k, where it sets the result of this name

@@ -1,14 +1,10 @@
 -- Lists of true warnings, and why the warning of a set that never takes place is one.
-use Rattle.std.specs.List.{All, Contains}
-use Rattle.std.specs.List.Sorted.{IsPermutation}
+use Rattle.std.specs.List.{All, Contains, Sorted.IsPermutation}
 use Rattle.std.proofs.Common.{◌≡◌, ◌∙◌, ◌<◌, ℕ, List, [], ◌∷◌, ◌++◌, length, get_or, Some, ap, sym, subst}
-use Rattle.std.proofs.lemmas.List.Elements.{All-contains, All-push, Contains-get_or}
-use Rattle.std.proofs.lemmas.List.Sorted.{All-permutation}
+use Rattle.std.proofs.lemmas.List.{Elements.All-contains, Elements.All-push, Elements.Contains-get_or, Sorted.All-permutation}
 use Rattle.kp_ast.specs.declared.tree.Job.{Job}
 use Rattle.kp_view_findings.specs.declared.finding.Caution.{Caution}
-use Rattle.kp_view_sets.specs.declared.sets.PlacedSet.{PlacedSet}
-use Rattle.kp_view_sets.specs.Sets.{first_sure, in_vain, sets_from}
-use Rattle.kp_view_sets.specs.Claims.{AreInVain, NeverTakesPlace}
+use Rattle.kp_view_sets.specs.{declared.sets.PlacedSet.PlacedSet, Sets.first_sure, Sets.in_vain, Sets.sets_from, Claims.AreInVain, Claims.NeverTakesPlace}
 use Rattle.kp_view_stages.specs.Cautions.{IsInVain, IsTrueOf}
 
 pub all_pushed : (job : Job) (xs : List Caution) (c : Caution) → All (IsTrueOf job) xs → IsTrueOf job c → All (IsTrueOf job) (xs ++ c ∷ [])

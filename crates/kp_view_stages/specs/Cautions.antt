@@ -1,11 +1,8 @@
 -- WHAT A WARNING CLAIMS of a job.
-use Rattle.std.specs.Prelude.{◌≡◌, ℕ, List, Some}
-use Rattle.std.specs.List.{Contains}
+use Rattle.std.specs.{Prelude.◌≡◌, Prelude.ℕ, Prelude.List, Prelude.Some, List.Contains}
 use Rattle.kp_base.specs.declared.place.Place.{Place}
 use Rattle.kp_ast.specs.declared.tree.Job.{Job}
-use Rattle.kp_view_sets.specs.declared.sets.PlacedSet.{PlacedSet}
-use Rattle.kp_view_sets.specs.Sets.{first_sure, in_vain, sets_from}
-use Rattle.kp_view_sets.specs.Claims.{NeverTakesPlace}
+use Rattle.kp_view_sets.specs.{declared.sets.PlacedSet.PlacedSet, Sets.first_sure, Sets.in_vain, Sets.sets_from, Claims.NeverTakesPlace}
 use Rattle.kp_view_message.specs.declared.warning.Warning.{Warning}
 use Rattle.kp_view_message.specs.declared.warning.Warning.TheVariants as warnings
 use Rattle.kp_view_findings.specs.declared.finding.Caution.{Caution}

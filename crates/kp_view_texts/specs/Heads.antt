@@ -1,7 +1,6 @@
 -- How what is said of a violated rule begins.
 use Rattle.std.specs.Prelude.{ℕ, List, ◌++◌, codes, decimal}
-use Rattle.kp_base.specs.declared.refusal.Family.{Family}
-use Rattle.kp_base.specs.declared.refusal.Refusal.{Refusal}
+use Rattle.kp_base.specs.declared.refusal.{Family.Family, Refusal.Refusal}
 
 -- the letter of the language whose rule is violated: descriptions, Verilog or assembler programs
 abbrev pub letter : Family → List ℕ

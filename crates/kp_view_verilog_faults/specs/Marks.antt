@@ -1,7 +1,6 @@
 -- The texts of punctuators.
 use Rattle.std.specs.Prelude.{ℕ, List, [], ◌∷◌, ◌≡◌, Some}
-use Rattle.kp_vlog.specs.Words.{single_mark, double_mark}
-use Rattle.kp_vlog.specs.declared.token.Mark.{Mark}
+use Rattle.kp_vlog.specs.{Words.single_mark, Words.double_mark, declared.token.Mark.Mark}
 
 -- These one or two bytes are read as the punctuator.
 abbrev pub IsRead : List ℕ → Mark → Type 0

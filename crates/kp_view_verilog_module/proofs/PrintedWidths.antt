@@ -1,11 +1,9 @@
 -- The widths in a violation, by two tables that give each name the same.
 use Rattle.std.specs.Prelude.{ℕ, ◌^◌, IfSome, Option}
-use Rattle.std.proofs.Common.{◌∙◌, ap}
-use Rattle.std.proofs.lemmas.Option.{IfSome_then}
+use Rattle.std.proofs.{Common.◌∙◌, Common.ap, lemmas.Option.IfSome_then}
 use Rattle.kp_vlog.specs.Scope.{Sizes}
 use Rattle.kp_vread_widths.specs.Tables.{AlikeSizes}
-use Rattle.kp_view_verilog_faults.specs.declared.width_fault.Side.{Side}
-use Rattle.kp_view_verilog_faults.specs.declared.width_fault.WidthFault.{WidthFault}
+use Rattle.kp_view_verilog_faults.specs.declared.width_fault.{Side.Side, WidthFault.WidthFault}
 use Rattle.kp_view_verilog_faults.specs.declared.width_fault.WidthFault.TheVariants as faults
 use Rattle.kp_view_verilog_module.specs.PrintedWidths.{HasWidth, HasWidths, limited}
 

@@ -1,8 +1,7 @@
 -- THE WIDTHS IN A MESSAGE FOR V4 are those of the module.
 use Rattle.std.specs.Prelude.{ℕ, ◌-◌, ◌^◌, ◌≡◌, if◌then◌else◌, nat_lt}
 use Rattle.kp_vlog.specs.Scope.{Sizes, width_in, address_in}
-use Rattle.kp_view_verilog_faults.specs.declared.width_fault.Side.{Side}
-use Rattle.kp_view_verilog_faults.specs.declared.width_fault.WidthFault.{WidthFault}
+use Rattle.kp_view_verilog_faults.specs.declared.width_fault.{Side.Side, WidthFault.WidthFault}
 use Rattle.kp_view_verilog_faults.specs.declared.width_fault.WidthFault.TheVariants as faults
 
 -- a number of bits as a 64-bit number: the greatest of these where it is greater

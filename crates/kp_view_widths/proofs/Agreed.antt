@@ -3,12 +3,10 @@ use Rattle.std.proofs.Common.{◌≡◌, ℕ, List, [], ◌∷◌, ◌++◌, Opt
 use Rattle.std.specs.Prelude.{IfSome}
 use Rattle.kp_base.specs.declared.place.Place.{Place}
 use Rattle.kp_ast.specs.declared.tree.Job.{Job}
-use Rattle.kp_view_operands.specs.declared.widths.ExprWidths.{ExprWidths}
-use Rattle.kp_view_operands.specs.Widths.{AreWidthsAt}
+use Rattle.kp_view_operands.specs.{declared.widths.ExprWidths.ExprWidths, Widths.AreWidthsAt}
 use Rattle.kp_view_message.specs.declared.width_fault.WidthFault.{WidthFault}
 use Rattle.kp_view_message.specs.declared.width_fault.WidthFault.TheVariants as faults
-use Rattle.kp_view_findings.specs.declared.finding.Finding.{Finding}
-use Rattle.kp_view_findings.specs.Noted.{with_finding}
+use Rattle.kp_view_findings.specs.{declared.finding.Finding.Finding, Noted.with_finding}
 use Rattle.kp_view_widths.specs.PrintedWidths.{FirstIsTrue, IsTrueOf, AreBranchesAt, IsOperandAt, IsWidthAt, IsTestAt, AreOperandsAt, PrintsTrueWidths}
 use Rattle.kp_view_widths.specs.inner.Agreeing.{Agree, HasBranches, HasOne, HasOwn, HasTest, HasTwo, IsFilled}
 

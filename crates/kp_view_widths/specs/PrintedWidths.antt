@@ -2,12 +2,10 @@
 use Rattle.std.specs.Prelude.{◌≡◌, ◌≤◌, ◌⊎◌, ⊤, ℕ, List, [], ◌∷◌}
 use Rattle.kp_base.specs.declared.place.Place.{Place}
 use Rattle.kp_ast.specs.declared.tree.Job.{Job}
-use Rattle.kp_view_operands.specs.declared.widths.ExprWidths.{ExprWidths}
+use Rattle.kp_view_operands.specs.{declared.widths.ExprWidths.ExprWidths, Widths.AreWidthsAt}
 use Rattle.kp_view_operands.specs.declared.widths.OperandWidths.TheVariants as operands
-use Rattle.kp_view_operands.specs.Widths.{AreWidthsAt}
-use Rattle.kp_view_message.specs.declared.width_fault.WidthFault.{WidthFault}
+use Rattle.kp_view_message.specs.declared.{width_fault.WidthFault.WidthFault, message.Message.Message}
 use Rattle.kp_view_message.specs.declared.width_fault.WidthFault.TheVariants as faults
-use Rattle.kp_view_message.specs.declared.message.Message.{Message}
 use Rattle.kp_view_message.specs.declared.message.Message.TheVariants as messages
 use Rattle.kp_view_findings.specs.declared.finding.Finding.{Finding}
 

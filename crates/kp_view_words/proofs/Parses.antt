@@ -1,24 +1,17 @@
 -- What `clap` returns for words none of which begins with `-`.
 use Rattle.std.proofs.Common.{◌≡◌, ◌∙◌, ◌⊎◌, ℕ, Bool, cond, true, false, refl, sym, ap, ap₂, subst, List, [], ◌∷◌, ◌++◌, map, fold, ◌&&◌, ◌||◌, Option, Some, None, is_some, inl, inr, true≢false, codes, append-nil, append_assoc, arith}
-use Rattle.std.specs.Prelude.{⊤, Box, nat_lt, length, find, unwrap_or, option_map}
-use Rattle.std.specs.Str.{bytes_eq}
-use Rattle.std.specs.List.{list_any}
-use Rattle.std.specs.Option.{option_map_or}
-use Rattle.std.proofs.lemmas.Bool.{le-ltb}
-use Rattle.std.proofs.lemmas.Slice.Eq.{bytes_eq-Decides}
-use Rattle.clap.specs.Lexer.{long_of, short_of}
+use Rattle.std.proofs.lemmas.{Bool.le-ltb, Slice.Eq.bytes_eq-Decides}
+use Rattle.std.specs.{Prelude.⊤, Prelude.Box, Prelude.nat_lt, Prelude.length, Prelude.find, Prelude.unwrap_or, Prelude.option_map, Str.bytes_eq, List.list_any}
+use Rattle.std.specs.{Option.option_map_or, Box.box_value}
 use Rattle.clap.specs.Walk.{Held, Names, Row, Rule, Step, Text, Walk, idle, positional, value, answers_to, arg_by_index, subcommand_met, word_met, walked, walk, walk_from, nothing_held, to_positional, after_step, rows_after, subcommand_or_other, settled, finished}
-use Rattle.clap.specs.Simple.{Shape, built, built_leaf, entered, rows_at, inherited, label_of, marked_built, subcommand_of, with_leaf_noted, with_filled_rules}
-use Rattle.std.specs.Box.{box_value}
-use Rattle.clap.specs.Simple.{subcommand_rows}
-use Rattle.clap.specs.declared.parser.matches.ArgMatches.TheViews.{out-SubCommand}
-use Rattle.clap.specs.declared.parser.matches.SubCommand.{SubCommand}
-use Rattle.clap.specs.declared.builder.value_parser.ValueParser.TheVariants as parsers
-use Rattle.clap.specs.declared.error.kind.ErrorKind.TheVariants as kind
+use Rattle.clap.specs.Lexer.{long_of, short_of}
+use Rattle.clap.specs.Simple.{Shape, built, built_leaf, entered, rows_at, inherited, label_of, marked_built, subcommand_of, with_leaf_noted, with_filled_rules, subcommand_rows}
+use Rattle.clap.specs.declared.parser.matches.{ArgMatches.TheViews.out-SubCommand, SubCommand.SubCommand}
 use Rattle.clap.specs.Kinds.{Kinds, or_else, range_kinds, values_kinds}
 use Rattle.clap.specs.Faults.{fault_of, level_fault, turn_fault, step_fault, walk_fault, word_fault, defaults_fault, settle_fault, check_fault, entered_fault, other_fault}
-use Rattle.clap.proofs.WalkLemmas.{walk_stopped}
-use Rattle.clap.proofs.FaultLemmas.{stopped_fault}
+use Rattle.clap.specs.declared.builder.value_parser.ValueParser.TheVariants as parsers
+use Rattle.clap.specs.declared.error.kind.ErrorKind.TheVariants as kind
+use Rattle.clap.proofs.{WalkLemmas.walk_stopped, FaultLemmas.stopped_fault}
 use Rattle.kp_view_words.specs.Words.{begins_with_dash, word_named}
 use Rattle.kp_view_words.specs.inner.Matching.{known_names, program_of, program_shape, shape_named, word_of, word_of_rows}
 use Rattle.kp_view_words.specs.declared.words.Word.{Word}

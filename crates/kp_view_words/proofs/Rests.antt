@@ -1,14 +1,10 @@
 -- The words after a number: names of stages and a file; and what all words ask for.
 use Rattle.std.proofs.Common.{◌≡◌, ◌∙◌, ℕ, ◌+◌, ◌-◌, ◌<◌, Bool, cond, true, false, ◌||◌, List, [], ◌∷◌, ◌++◌, map, length, take, drop, Option, Some, None, refl, sym, ap, ap₂, arith}
-use Rattle.std.specs.Prelude.{slice_get, nat_lt, option_and_then}
-use Rattle.std.specs.List.{IsLastAndRest, list_all, list_any}
-use Rattle.std.specs.Option.{option_map_or}
-use Rattle.std.proofs.lemmas.Option.{slice_get-get_or}
-use Rattle.std.proofs.lemmas.List.{map-append, length-drop, length-map, length-append, take_all}
+use Rattle.std.proofs.lemmas.{Option.slice_get-get_or, List.map-append, List.length-drop, List.length-map, List.length-append, List.take_all}
 use Rattle.std.proofs.Math.Seq.{take-append_seam, get_or-append_seam}
+use Rattle.std.specs.{Prelude.slice_get, Prelude.nat_lt, Prelude.option_and_then, List.IsLastAndRest, List.list_all, List.list_any, Option.option_map_or}
 use Rattle.kp_view_words.specs.Words.{Task, Text, asked_for, asked_or, asks_help, begins_with_dash, file_in, flagged_task, help, is_file_after, help_place, is_help_flag, is_help_word, is_name, is_version_flag, names_in, run_with, task_named, task_of, task_with, topic_of, version, word_named}
-use Rattle.kp_view_words.specs.inner.Matching.{word_of}
-use Rattle.kp_view_words.specs.declared.words.Word.{Word}
+use Rattle.kp_view_words.specs.{inner.Matching.word_of, declared.words.Word.Word}
 
 -- some names, and a last word
 module _ (names : List Text) (last : Text) where

@@ -1,11 +1,11 @@
 -- A request of the program, as what it asks for.
 use Rattle.std.specs.Prelude.{ℕ, List, Option, None, map, string_bytes, option_map}
 use Rattle.kp_view_words.specs.Words.{Asked, Order, Run, Task, bad_words, help, version, show, diagram, svg, page, paths, paths_svg, stalls}
+use Rattle.kp_view_words.specs.declared.words.Request.{Request}
 use Rattle.kp_view_words.specs.declared.task.Order as code_order
 use Rattle.kp_view_words.specs.declared.task.Order.TheVariants as orders
 use Rattle.kp_view_words.specs.declared.task.Run as code_run
 use Rattle.kp_view_words.specs.declared.task.Task as code_task
-use Rattle.kp_view_words.specs.declared.words.Request.{Request}
 use Rattle.kp_view_words.specs.declared.words.Request.TheVariants as requests
 
 abbrev pub run_seen : code_run.Run → Run

@@ -1,9 +1,8 @@
 -- The texts of help, usage and version are constants of the program.
 use Rattle.std.specs.Prelude.{ℕ, List}
-use Rattle.kp_view_words.specs.declared.words.Topic.{Topic}
-use Rattle.kp_view_words.specs.declared.words.Topic.TheVariants.{Program, Of}
-use Rattle.kp_view_words.specs.declared.words.Word.TheVariants.{Diagram, Svg, Page, Paths, Stalls}
 use Rattle.kp_view_words.specs.declared.texts.TheConstants.{VERSION, USAGE, USAGE_DIAGRAM, USAGE_SVG, USAGE_PAGE, USAGE_PATHS, USAGE_STALLS, HELP, HELP_DIAGRAM, HELP_SVG, HELP_PAGE, HELP_PATHS, HELP_STALLS}
+use Rattle.kp_view_words.specs.declared.words.Topic.{Topic, TheVariants.Program, TheVariants.Of}
+use Rattle.kp_view_words.specs.declared.words.Word.TheVariants.{Diagram, Svg, Page, Paths, Stalls}
 
 abbrev pub help_text : Topic → List ℕ
 help_text Program = HELP.now

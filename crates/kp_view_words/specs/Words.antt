@@ -1,13 +1,10 @@
 -- What the words of a command line ask for.
 use Rattle.std.specs.Prelude.{◌==◌, ◌||◌, ◌&&◌, ◌-◌, not, ℕ, Bool, false, List, [], ◌∷◌, length, take, leb, ltb, nat_le, nat_lt, slice_get, if◌then◌else◌, codes, Option, Some, None, option_and_then, option_map}
-use Rattle.std.specs.List.{list_all, list_any}
-use Rattle.std.specs.Option.{option_map_or}
-use Rattle.std.specs.Str.{bytes_eq}
+use Rattle.std.specs.{List.list_all, List.list_any, Option.option_map_or, Str.bytes_eq}
 use Rattle.kp_base.specs.Characters.{is_word}
 use Rattle.kp_bits.specs.Literals.{number_of}
-use Rattle.kp_view_words.specs.declared.words.Topic.{Topic}
+use Rattle.kp_view_words.specs.declared.words.{Topic.Topic, Word.Word}
 use Rattle.kp_view_words.specs.declared.words.Topic.TheVariants as topics
-use Rattle.kp_view_words.specs.declared.words.Word.{Word}
 use Rattle.kp_view_words.specs.declared.words.Word.TheVariants as words
 
 abbrev pub Text : Type 0

@@ -1,12 +1,9 @@
 -- Lexing a text step by step.
 use Rattle.std.proofs.Common.{ℕ, ◌+◌, ◌≤◌, ◌≡◌, ◌∙◌, List, [], ◌∷◌, ◌++◌, length, length-drop, take, drop, map, append_assoc, append-nil, refl, sym, ap, subst, arith}
+use Rattle.std.proofs.lemmas.List.{drop-drop, map-append, Elements.All-nil, Elements.All-push}
 use Rattle.std.specs.Prelude.{All}
-use Rattle.std.proofs.lemmas.List.{drop-drop, map-append}
-use Rattle.std.proofs.lemmas.List.Elements.{All-nil, All-push}
-use Rattle.kp_vlog.specs.declared.token.VKind.{VKind}
-use Rattle.kp_vlog.specs.declared.token.VToken.{VToken}
 use Rattle.kp_vlog.specs.Tokens.{Token, front, finish, skips, takes, broken, Lexes, at_end, past, token, LexesTo, here, past_gap, past_token}
-use Rattle.kp_vlog.specs.Outcome.{word_of, token_of, StandsIn, HasTokens}
+use Rattle.kp_vlog.specs.{declared.token.VKind.VKind, declared.token.VToken.VToken, Outcome.word_of, Outcome.token_of, Outcome.StandsIn, Outcome.HasTokens}
 
 -- What is found from here is what is found from the offset where the call started.
 pub record Along (text : List ℕ) (from : ℕ) (found : List VToken) (start : ℕ) (rest : List ℕ) : Type 0 where

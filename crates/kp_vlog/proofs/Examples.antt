@@ -2,9 +2,7 @@
 use Rattle.std.proofs.Common.{◌≡◌, refl}
 use Rattle.std.specs.Fmt.{digits}
 use Rattle.kp_net.specs.Widths.{wide}
-use Rattle.kp_vlog.specs.Canon.{canon}
-use Rattle.kp_vlog.specs.Rules.{broken}
-use Rattle.kp_vlog.specs.Denote.{net_of, Denotes}
+use Rattle.kp_vlog.specs.{Canon.canon, Rules.broken, Denote.net_of, Denote.Denotes}
 use Rattle.kp_vlog.specs.Examples.{counter, counter_text, store, store_text}
 use Rattle.kp_vlog.proofs.Computed.{right, report_by}
 

@@ -2,21 +2,15 @@
 use Rattle.std.proofs.Common.{ℕ, suc, ◌+◌, ◌≤◌, ◌<◌, ◌≡◌, ◌∙◌, List, [], ◌∷◌, length, length-take-le, take, drop, ◌==◌, nat_lt, Bool, true, false, cond, ◌||◌, ◌&&◌, Option, Some, None, Result, Ok, Err, refl, ap, arith}
 use Rattle.std.proofs.lemmas.Bool.{false≢true}
 use Rattle.std.specs.Prelude.{IfSome}
-use Rattle.kp_bits.specs.Literals.{number_of, literal_of}
-use Rattle.kp_bits.specs.declared.literal.Literal.{Literal}
-use Rattle.kp_bits.specs.declared.literal.LiteralFault.{LiteralFault}
+use Rattle.kp_bits.specs.{Literals.number_of, Literals.literal_of, declared.literal.Literal.Literal, declared.literal.LiteralFault.LiteralFault}
 use Rattle.kp_net.specs.Names.{is_in_identifier}
-use Rattle.kp_base.specs.Characters.{is_letter, is_digit}
-use Rattle.kp_vlog.specs.declared.front.Front.{Front}
-use Rattle.kp_vlog.specs.declared.front.Front.TheVariants as fronts
-use Rattle.kp_vlog.specs.declared.token.Keyword.{Keyword}
-use Rattle.kp_vlog.specs.declared.token.Mark.{Mark}
+use Rattle.kp_base.specs.Characters.{is_letter, is_digit, run_length}
+use Rattle.kp_vlog.specs.declared.{front.Front.Front, token.Keyword.Keyword, token.Mark.Mark}
 use Rattle.kp_vlog.specs.Words.{keyword_of, single_mark, double_mark}
-use Rattle.kp_vlog.specs.Tokens.{is_layout, is_in_line, is_in_run, begins_with, one_more, to_close}
-use Rattle.kp_base.specs.Characters.{run_length}
-use Rattle.kp_vlog.specs.Tokens as tokens
-use Rattle.kp_vlog.specs.Fronts.{seen, Fits}
+use Rattle.kp_vlog.specs.{Tokens.is_layout, Tokens.is_in_line, Tokens.is_in_run, Tokens.begins_with, Tokens.one_more, Tokens.to_close, Fronts.seen, Fronts.Fits}
 use Rattle.kp_vlog.specs.inner.Kinds.{kind_or_name, identifier, literal_kind, number_kind, number_run, comment, mark_kind, mark_or_shorter, mark, front_of}
+use Rattle.kp_vlog.specs.declared.front.Front.TheVariants as fronts
+use Rattle.kp_vlog.specs.Tokens as tokens
 
 -- a comment that is closed the given number of bytes later
 abbrev pub shifted : ℕ → Option ℕ → Option ℕ

@@ -1,20 +1,12 @@
 -- The names among the tokens of a text are identifiers, and there are no more tokens than bytes.
 use Rattle.std.proofs.Common.{◌≡◌, ℕ, suc, ◌+◌, ◌≤◌, List, [], ◌∷◌, length, take, drop, Bool, true, false, Option, Some, None, Result, Ok, Err, refl, sym, subst, arith, All}
+use Rattle.std.proofs.lemmas.{Bool.Decides.nat_tests, List.length-drop, List.Elements.All-nil, List.Elements.All-cons}
 use Rattle.std.specs.Prelude.{◌==◌, ◌&&◌, ◌||◌, nat_lt, if◌then◌else◌}
-use Rattle.std.proofs.lemmas.Bool.Decides.{nat_tests}
-use Rattle.std.proofs.lemmas.List.{length-drop}
-use Rattle.std.proofs.lemmas.List.Elements.{All-nil, All-cons}
-use Rattle.kp_bits.specs.Literals.{number_of, literal_of}
-use Rattle.kp_bits.specs.declared.literal.Literal.{Literal}
-use Rattle.kp_bits.specs.declared.literal.LiteralFault.{LiteralFault}
+use Rattle.kp_bits.specs.{Literals.number_of, Literals.literal_of, declared.literal.Literal.Literal, declared.literal.LiteralFault.LiteralFault}
 use Rattle.kp_net.specs.Names.{is_in_identifier}
-use Rattle.kp_base.specs.Characters.{is_digit, is_letter}
-use Rattle.kp_vlog.specs.declared.token.Keyword.{Keyword}
-use Rattle.kp_vlog.specs.declared.token.Mark.{Mark}
-use Rattle.kp_vlog.specs.Words.{keyword_of, single_mark, double_mark}
+use Rattle.kp_base.specs.Characters.{is_digit, is_letter, run_length}
 use Rattle.kp_vlog.specs.Tokens.{Word, Token, Front, finish, takes, broken, is_layout, is_in_run, begins_with, to_close, keyword_or_name, identifier, literal_or_broken, number_or_literal, comment_front, mark_or_broken, mark_or_shorter, mark_front, front, Lexes, at_end, past, token}
-use Rattle.kp_base.specs.Characters.{run_length}
-use Rattle.kp_vlog.specs.Language.{name_in}
+use Rattle.kp_vlog.specs.{declared.token.Keyword.Keyword, declared.token.Mark.Mark, Words.keyword_of, Words.single_mark, Words.double_mark, Language.name_in}
 use Rattle.kp_vlog.proofs.Tests.{either_left, apart}
 
 -- bytes of an identifier, at most 70

@@ -1,35 +1,23 @@
 -- The nodes of a module that violates no rule are well-formed: by the items in order, with the names that are known, what is driven, and the nodes so
 -- far.
 use Rattle.std.proofs.Common.{◌≡◌, ◌∙◌, ℕ, ◌+◌, ◌^◌, ◌≤◌, ◌<◌, List, [], ◌∷◌, ◌++◌, length, get_or, map, fold, Bool, true, false, refl, sym, ap, subst, arith, inl, inr, length-append, All}
-use Rattle.std.specs.Prelude.{codes, ◌==◌, ◌&&◌, ◌||◌, nat_le, nat_lt, if◌then◌else◌}
-use Rattle.std.specs.List.{sum_by}
-use Rattle.std.proofs.lemmas.Bool.{eqb-true}
-use Rattle.std.proofs.lemmas.List.{length-map}
-use Rattle.std.proofs.lemmas.List.Elements.{All-nil, All-cons}
-use Rattle.std.proofs.lemmas.List.Sums.{sum_by-cons}
+use Rattle.std.proofs.lemmas.{Bool.eqb-true, List.length-map, List.Elements.All-nil, List.Elements.All-cons, List.Sums.sum_by-cons}
+use Rattle.std.specs.{Prelude.codes, Prelude.◌==◌, Prelude.◌&&◌, Prelude.◌||◌, Prelude.nat_le, Prelude.nat_lt, Prelude.if◌then◌else◌, List.sum_by}
 use Rattle.kp_bits.specs.declared.operator.BinOp.{BinOp}
-use Rattle.kp_net.specs.declared.node.NodeId.{NodeId}
-use Rattle.kp_net.specs.declared.node.Kind.TheVariants as kinds
-use Rattle.kp_net.specs.declared.node.Node.{Node}
-use Rattle.kp_net.specs.declared.netlist.Parts.{Parts}
+use Rattle.kp_net.specs.declared.{node.NodeId.NodeId, node.Node.Node, netlist.Parts.Parts}
 use Rattle.kp_net.specs.Names.{same, among, is_reg_name, is_file_name, is_sample_name}
-use Rattle.kp_net.specs.Widths.{wide, BinaryOk, KindOk, NodeOk, AllRight}
-use Rattle.kp_net.specs.Growth.{Held}
+use Rattle.kp_net.specs.{Widths.wide, Widths.BinaryOk, Widths.KindOk, Widths.NodeOk, Widths.AllRight, Growth.Held}
 use Rattle.kp_net.specs.Parts.{no_port, no_reg, no_file, CellOk, AllCells}
-use Rattle.kp_net.proofs.Values.{wide_front, wide_new}
-use Rattle.kp_net.proofs.Rightness.{right_more}
-use Rattle.kp_net.proofs.Growing.{kept_new, added_new}
-use Rattle.kp_net.proofs.Cells.{cells_added}
-use Rattle.kp_vlog.specs.declared.tree.Named.{Named}
-use Rattle.kp_vlog.specs.declared.tree.Right.{Right}
-use Rattle.kp_vlog.specs.declared.tree.Right.TheVariants as sides
-use Rattle.kp_vlog.specs.declared.tree.Item.{Item}
+use Rattle.kp_net.specs.declared.node.Kind.TheVariants as kinds
+use Rattle.kp_net.proofs.{Values.wide_front, Values.wide_new, Rightness.right_more, Growing.kept_new, Growing.added_new, Cells.cells_added}
+use Rattle.kp_vlog.specs.declared.tree.{Named.Named, Right.Right, Item.Item}
 use Rattle.kp_vlog.specs.declared.tree.Item.TheVariants.{Reg, File, Integer, Wire, Assign}
 use Rattle.kp_vlog.specs.declared.tree.VModule.{VModule}
 use Rattle.kp_vlog.specs.Scope.{scope_of, sizes_of, width_in, address_in, place_of, is_wire_name, is_output_name, reg_names, file_names}
 use Rattle.kp_vlog.specs.Occurrences.{Occurrence, occurs, uses_wire, uses_source, gives_no_wire, is_given, wires_used, right_names, item_names, items_names}
 use Rattle.kp_vlog.specs.Rules.{name_fits, Driven, op_fits, width_sum, right_fits, right_answers, literal_fits, item_answers, items_answers}
 use Rattle.kp_vlog.specs.Denote.{Made, node_of, kind_of, with_wire, with_item}
+use Rattle.kp_vlog.specs.declared.tree.Right.TheVariants as sides
 use Rattle.kp_vlog.proofs.Tests.{first_true, second_true, either, either_left, either_right, not_false, not_true, apart, le_of, lt_of, same_eq, output_no_wire, among_append, among_front, among_behind, place_in, place_front, place_new}
 use Rattle.kp_vlog.proofs.Scans.{NamesFit, DriversFit, NoneOf, learnt, learnt_append, driven_by, driven_append, driven_right, names_front, names_behind, drivers_front, drivers_behind, none_front, none_behind}
 use Rattle.kp_vlog.proofs.Declared.{want_none, Fits, Entries, width_fits, learnt_assign}

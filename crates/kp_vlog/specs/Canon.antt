@@ -1,20 +1,10 @@
 -- The canonical text of a netlist, in the Verilog subset.
 use Rattle.std.specs.Prelude.{ℕ, ◌+◌, ◌-◌, ◌^◌, ◌==◌, Bool, true, false, List, [], ◌∷◌, ◌++◌, get_or, codes, decimal, if◌then◌else◌, Option, Some, None}
-use Rattle.kp_bits.specs.Word.{word}
-use Rattle.kp_bits.specs.Spelling.{spelling}
-use Rattle.kp_bits.specs.declared.operator.BinOp.{BinOp}
-use Rattle.kp_net.specs.declared.node.NodeId.{NodeId}
-use Rattle.kp_net.specs.declared.node.Kind.{Kind}
+use Rattle.kp_bits.specs.{Word.word, Spelling.spelling, declared.operator.BinOp.BinOp}
+use Rattle.kp_net.specs.declared.node.{NodeId.NodeId, Kind.Kind}
 use Rattle.kp_net.specs.declared.node.Kind.TheVariants.{Const, Ext, Sample, Reg, Word, Not, Binary, Mux, Concat, Slice}
-use Rattle.kp_net.specs.declared.node.Node.{Node}
-use Rattle.kp_net.specs.declared.netlist.Port.{Port}
-use Rattle.kp_net.specs.declared.netlist.WritePort.{WritePort}
-use Rattle.kp_net.specs.declared.netlist.NetReg.{NetReg}
-use Rattle.kp_net.specs.declared.netlist.NetFile.{NetFile}
-use Rattle.kp_net.specs.declared.netlist.Parts.{Parts}
-use Rattle.kp_net.specs.Widths.{wide}
-use Rattle.kp_net.specs.Parts.{no_port, no_reg, no_file}
-use Rattle.kp_net.specs.Netlist.{Net}
+use Rattle.kp_net.specs.declared.{node.Node.Node, netlist.Port.Port, netlist.WritePort.WritePort, netlist.NetReg.NetReg, netlist.NetFile.NetFile}
+use Rattle.kp_net.specs.{declared.netlist.Parts.Parts, Widths.wide, Parts.no_port, Parts.no_reg, Parts.no_file, Netlist.Net}
 
 -- a text as the concatenation of pieces; each name, number and literal ends its piece
 abbrev pub Pieces : Type 0

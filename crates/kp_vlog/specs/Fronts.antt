@@ -1,9 +1,8 @@
 -- The front of a text as the code computes it.
 use Rattle.std.specs.Prelude.{ℕ, ◌<◌, ◌≤◌, ◌≡◌, List, take}
-use Rattle.kp_vlog.specs.declared.front.Front.{Front}
+use Rattle.kp_vlog.specs.{declared.front.Front.Front, Outcome.word_of}
 use Rattle.kp_vlog.specs.declared.front.Front.TheVariants as fronts
 use Rattle.kp_vlog.specs.Tokens as tokens
-use Rattle.kp_vlog.specs.Outcome.{word_of}
 
 -- its meaning for the text: if it is a token, the value of the token comes from its bytes
 abbrev pub seen : List ℕ → Front → tokens.Front

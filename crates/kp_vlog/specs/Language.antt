@@ -1,29 +1,16 @@
 -- The grammar of the Verilog subset, with what it builds.
 use Rattle.std.specs.Prelude.{ℕ, zero, suc, ◌+◌, List, [], ◌∷◌, ◌++◌, Option, Some, None}
-use Rattle.kp_bits.specs.declared.operator.BinOp.{BinOp}
-use Rattle.kp_bits.specs.declared.literal.Literal.{Literal}
+use Rattle.kp_bits.specs.declared.{operator.BinOp.BinOp, literal.Literal.Literal}
 use Rattle.kp_grammar.specs.Grammar.{Symbol, Terminal, Nonterminal, Action, Rules, Grammar}
-use Rattle.kp_vlog.specs.declared.token.Keyword.{Keyword}
-use Rattle.kp_vlog.specs.declared.token.Keyword.TheVariants as keywords
-use Rattle.kp_vlog.specs.declared.token.Mark.{Mark}
-use Rattle.kp_vlog.specs.declared.token.Mark.TheVariants as marks
-use Rattle.kp_vlog.specs.declared.tree.Num.{Num}
-use Rattle.kp_vlog.specs.declared.tree.Lit.{Lit}
-use Rattle.kp_vlog.specs.declared.tree.Named.{Named}
-use Rattle.kp_vlog.specs.declared.tree.Range.{Range}
-use Rattle.kp_vlog.specs.declared.tree.VPort.{VPort}
-use Rattle.kp_vlog.specs.declared.tree.Right.{Right}
-use Rattle.kp_vlog.specs.declared.tree.Right.TheVariants as sides
-use Rattle.kp_vlog.specs.declared.tree.Item.{Item}
-use Rattle.kp_vlog.specs.declared.tree.Item.TheVariants as lines
-use Rattle.kp_vlog.specs.declared.tree.Init.{Init}
-use Rattle.kp_vlog.specs.declared.tree.Init.TheVariants as starts
-use Rattle.kp_vlog.specs.declared.tree.ResetValue.{ResetValue}
-use Rattle.kp_vlog.specs.declared.tree.ResetList.{ResetList}
-use Rattle.kp_vlog.specs.declared.tree.Update.{Update}
-use Rattle.kp_vlog.specs.declared.tree.Update.TheVariants as edges
-use Rattle.kp_vlog.specs.declared.tree.VModule.{VModule}
+use Rattle.kp_vlog.specs.declared.{token.Keyword.Keyword, token.Mark.Mark, tree.Num.Num, tree.Lit.Lit, tree.Named.Named, tree.Range.Range, tree.VPort.VPort}
+use Rattle.kp_vlog.specs.declared.tree.{Right.Right, Item.Item, Init.Init, ResetValue.ResetValue, ResetList.ResetList, Update.Update, VModule.VModule}
 use Rattle.kp_vlog.specs.Tokens.{Word, Token}
+use Rattle.kp_vlog.specs.declared.token.Keyword.TheVariants as keywords
+use Rattle.kp_vlog.specs.declared.token.Mark.TheVariants as marks
+use Rattle.kp_vlog.specs.declared.tree.Right.TheVariants as sides
+use Rattle.kp_vlog.specs.declared.tree.Item.TheVariants as lines
+use Rattle.kp_vlog.specs.declared.tree.Init.TheVariants as starts
+use Rattle.kp_vlog.specs.declared.tree.Update.TheVariants as edges
 use Rattle.kp_vlog.specs.Tokens as words
 
 -- classes of tokens: an identifier, a number, a literal; each keyword and each punctuator is a class of its own

@@ -2,27 +2,16 @@
 use Rattle.std.specs.Prelude.{ℕ, ◌+◌, ◌^◌, ◌==◌, nat_lt, nat_le, List, [], ◌∷◌, ◌++◌, length, codes, map, Bool, true, false, not, ◌||◌, ◌&&◌, if◌then◌else◌, Option, Some, None}
 use Rattle.std.specs.Option.{is_some}
 use Rattle.kp_base.specs.First.{first}
-use Rattle.kp_bits.specs.declared.operator.BinOp.{BinOp}
-use Rattle.kp_bits.specs.declared.literal.Literal.{Literal}
+use Rattle.kp_bits.specs.declared.{operator.BinOp.BinOp, literal.Literal.Literal}
 use Rattle.kp_net.specs.Names.{same, among, is_module_name, is_reg_name, is_file_name, is_sample_name}
-use Rattle.kp_vlog.specs.declared.tree.Lit.{Lit}
-use Rattle.kp_vlog.specs.declared.tree.Named.{Named}
-use Rattle.kp_vlog.specs.declared.tree.Range.{Range}
-use Rattle.kp_vlog.specs.declared.tree.VPort.{VPort}
-use Rattle.kp_vlog.specs.declared.tree.Right.{Right}
-use Rattle.kp_vlog.specs.declared.tree.Right.TheVariants as sides
-use Rattle.kp_vlog.specs.declared.tree.Item.{Item}
-use Rattle.kp_vlog.specs.declared.tree.Item.TheVariants as lines
-use Rattle.kp_vlog.specs.declared.tree.Fill.{Fill}
-use Rattle.kp_vlog.specs.declared.tree.Init.{Init}
-use Rattle.kp_vlog.specs.declared.tree.Init.TheVariants as starts
-use Rattle.kp_vlog.specs.declared.tree.ResetValue.{ResetValue}
-use Rattle.kp_vlog.specs.declared.tree.ResetList.{ResetList}
-use Rattle.kp_vlog.specs.declared.tree.Update.{Update}
-use Rattle.kp_vlog.specs.declared.tree.Update.TheVariants as edges
-use Rattle.kp_vlog.specs.declared.tree.VModule.{VModule}
-use Rattle.kp_vlog.specs.Scope.{Scope, Sizes, scope_of, width_in, address_in, address_width, last_of, place_of, is_wire_name, is_output_name}
 use Rattle.kp_vlog.specs.Occurrences.{Role, names_module, declares_port, declares_sample, declares_reg, declares_file, declares_integer, declares_wire, gives, uses_wire, uses_source, uses_file, uses_integer, uses_port, starts_reg, starts_word, fills_file, resets_reg, updates_reg, updates_file, gives_no_wire, is_given, needs, Occurrence, names}
+use Rattle.kp_vlog.specs.declared.tree.{Lit.Lit, Named.Named, Range.Range, VPort.VPort, Right.Right, Item.Item, Fill.Fill, Init.Init, ResetValue.ResetValue}
+use Rattle.kp_vlog.specs.declared.tree.{ResetList.ResetList, Update.Update, VModule.VModule}
+use Rattle.kp_vlog.specs.Scope.{Scope, Sizes, scope_of, width_in, address_in, address_width, last_of, place_of, is_wire_name, is_output_name}
+use Rattle.kp_vlog.specs.declared.tree.Right.TheVariants as sides
+use Rattle.kp_vlog.specs.declared.tree.Item.TheVariants as lines
+use Rattle.kp_vlog.specs.declared.tree.Init.TheVariants as starts
+use Rattle.kp_vlog.specs.declared.tree.Update.TheVariants as edges
 
 -- V3: given the names that are declared so far, the name is one that its role allows. The kind of thing that a name denotes is determined by its
 -- form.

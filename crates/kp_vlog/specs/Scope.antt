@@ -3,9 +3,7 @@ use Rattle.std.specs.Prelude.{ℕ, ◌+◌, ◌^◌, ◌==◌, List, [], ◌∷�
 use Rattle.std.specs.List.{list_all}
 use Rattle.kp_net.specs.Names.{same}
 use Rattle.kp_base.specs.Characters.{is_digit}
-use Rattle.kp_vlog.specs.declared.tree.Range.{Range}
-use Rattle.kp_vlog.specs.declared.tree.VPort.{VPort}
-use Rattle.kp_vlog.specs.declared.tree.Item.{Item}
+use Rattle.kp_vlog.specs.declared.tree.{Range.Range, VPort.VPort, Item.Item}
 use Rattle.kp_vlog.specs.declared.tree.Item.TheVariants.{Reg, File, Integer, Wire, Assign}
 use Rattle.kp_vlog.specs.declared.tree.VModule.{VModule}
 

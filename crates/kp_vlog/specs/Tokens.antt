@@ -1,14 +1,9 @@
 -- The tokens of a Verilog text.
 use Rattle.std.specs.Prelude.{ℕ, ◌+◌, ◌==◌, ◌≡◌, nat_lt, List, [], ◌∷◌, length, drop, take, Bool, false, not, ◌||◌, ◌&&◌, if◌then◌else◌, Option, Some, None, Result, Ok, Err}
-use Rattle.kp_bits.specs.Literals.{number_of, literal_of}
-use Rattle.kp_bits.specs.declared.literal.Literal.{Literal}
-use Rattle.kp_bits.specs.declared.literal.LiteralFault.{LiteralFault}
-use Rattle.kp_base.specs.Characters.{run_length}
+use Rattle.kp_bits.specs.{Literals.number_of, Literals.literal_of, declared.literal.Literal.Literal, declared.literal.LiteralFault.LiteralFault}
+use Rattle.kp_base.specs.Characters.{run_length, is_digit, is_letter}
 use Rattle.kp_net.specs.Names.{is_in_identifier}
-use Rattle.kp_base.specs.Characters.{is_digit, is_letter}
-use Rattle.kp_vlog.specs.declared.token.Keyword.{Keyword}
-use Rattle.kp_vlog.specs.declared.token.Mark.{Mark}
-use Rattle.kp_vlog.specs.Words.{keyword_of, single_mark, double_mark}
+use Rattle.kp_vlog.specs.{declared.token.Keyword.Keyword, declared.token.Mark.Mark, Words.keyword_of, Words.single_mark, Words.double_mark}
 
 -- the value of a token: a name as its bytes, a number, a literal, a keyword or a punctuator
 pub data Word : Type 0 where

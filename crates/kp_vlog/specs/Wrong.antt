@@ -1,8 +1,7 @@
 -- A module with every form, and replacements for its lines that violate a rule.
 use Rattle.std.specs.Prelude.{ℕ, zero, suc, ◌-◌, List, [], ◌∷◌, codes}
 use Rattle.kp_base.specs.Refusal.{v_rule}
-use Rattle.kp_vlog.specs.Examples.{lines}
-use Rattle.kp_vlog.specs.Verdict.{IsRefused}
+use Rattle.kp_vlog.specs.{Examples.lines, Verdict.IsRefused}
 
 abbrev pub sample_lines : List (List ℕ)
 sample_lines =

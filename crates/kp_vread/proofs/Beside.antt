@@ -1,29 +1,17 @@
 -- The parts other than the nodes, by tables, are those of the module.
 use Rattle.std.proofs.Common.{◌≡◌, ℕ, List, [], ◌∷◌, map, Bool, true, false, Some, refl}
-use Rattle.std.specs.Prelude.{if◌then◌else◌, codes}
-use Rattle.std.specs.Option.{is_some}
-use Rattle.kp_bits.specs.Word.{word}
-use Rattle.kp_bits.specs.declared.literal.Literal.{Literal}
-use Rattle.kp_net.specs.declared.node.NodeId.{NodeId}
-use Rattle.kp_net.specs.declared.netlist.Port.{Port}
-use Rattle.kp_net.specs.declared.netlist.NetReg.{NetReg}
-use Rattle.kp_net.specs.declared.netlist.NetFile.{NetFile}
-use Rattle.kp_net.specs.Names.{same}
+use Rattle.std.specs.{Prelude.if◌then◌else◌, Prelude.codes, Option.is_some}
+use Rattle.kp_bits.specs.{Word.word, declared.literal.Literal.Literal}
+use Rattle.kp_net.specs.{declared.node.NodeId.NodeId, declared.netlist.Port.Port, declared.netlist.NetReg.NetReg, declared.netlist.NetFile.NetFile, Names.same}
 use Rattle.kp_vlog.specs.declared.tree.Right.TheVariants as sides
-use Rattle.kp_vlog.specs.declared.tree.Item.{Item}
-use Rattle.kp_vlog.specs.declared.tree.Item.TheVariants as lines
-use Rattle.kp_vlog.specs.declared.tree.Init.{Init}
-use Rattle.kp_vlog.specs.declared.tree.Init.TheVariants as starts
-use Rattle.kp_vlog.specs.declared.tree.Update.{Update}
-use Rattle.kp_vlog.specs.declared.tree.Update.TheVariants as edges
-use Rattle.kp_vlog.specs.declared.tree.VModule.{VModule}
-use Rattle.kp_vlog.specs.Occurrences.{start_in}
+use Rattle.kp_vlog.specs.{declared.tree.Item.Item, declared.tree.Init.Init, declared.tree.Update.Update, declared.tree.VModule.VModule, Occurrences.start_in}
 use Rattle.kp_vlog.specs.Scope.{Sizes, sizes_of, width_of}
 use Rattle.kp_vlog.specs.Denote.{start_of, output_of, port_of, regs_of, files_of, sample_of, parts_of}
+use Rattle.kp_vlog.specs.declared.tree.Item.TheVariants as lines
+use Rattle.kp_vlog.specs.declared.tree.Init.TheVariants as starts
+use Rattle.kp_vlog.specs.declared.tree.Update.TheVariants as edges
 use Rattle.kp_vread_widths.specs.Tables.{found, AlikeSizes}
-use Rattle.kp_vread.specs.inner.Numbering.{Numbered, AreNumbered}
-use Rattle.kp_vread.specs.inner.Building.{start_from}
-use Rattle.kp_vread.specs.inner.Nexts.{AreNexts}
+use Rattle.kp_vread.specs.inner.{Numbering.Numbered, Numbering.AreNumbered, Building.start_from, Nexts.AreNexts}
 use Rattle.kp_vread.specs.inner.Parts.{regs_by, output_by, port_by, files_by}
 use Rattle.kp_vread.proofs.Making.{node_same}
 

@@ -1,27 +1,17 @@
 -- The numbers of a module that violates no rule fit a netlist.
 use Rattle.std.proofs.Common.{◌≡◌, ◌∙◌, ℕ, ◌+◌, ◌≤◌, List, [], ◌∷◌, ◌++◌, length, map, Bool, true, false, All, Option, sym, ap, subst, arith}
+use Rattle.std.proofs.lemmas.{Bool.Decides.nat_tests, List.Elements.All-nil, List.Elements.All-cons, List.Elements.All-head, List.Elements.All-tail}
 use Rattle.std.specs.Prelude.{◌==◌, ◌&&◌, nat_le, nat_lt, if◌then◌else◌}
-use Rattle.std.proofs.lemmas.Bool.Decides.{nat_tests}
-use Rattle.std.proofs.lemmas.List.Elements.{All-nil, All-cons, All-head, All-tail}
-use Rattle.kp_bits.specs.Word.{IsWord}
-use Rattle.kp_bits.specs.declared.literal.Literal.{Literal}
-use Rattle.kp_net.specs.declared.node.Node.{Node}
-use Rattle.kp_net.specs.Names.{same}
-use Rattle.kp_net.specs.Parts.{RegOk, NetOk}
-use Rattle.kp_vlog.specs.declared.tree.Range.{Range}
-use Rattle.kp_vlog.specs.declared.tree.VPort.{VPort}
-use Rattle.kp_vlog.specs.declared.tree.Right.{Right}
-use Rattle.kp_vlog.specs.declared.tree.Right.TheVariants as sides
-use Rattle.kp_vlog.specs.declared.tree.Item.{Item}
-use Rattle.kp_vlog.specs.declared.tree.Item.TheVariants as lines
-use Rattle.kp_vlog.specs.declared.tree.VModule.{VModule}
-use Rattle.kp_vlog.specs.Scope.{Scope, Sizes, scope_of, sizes_of, width_in, width_of, port_size, item_sizes}
+use Rattle.kp_bits.specs.{Word.IsWord, declared.literal.Literal.Literal}
+use Rattle.kp_net.specs.{declared.node.Node.Node, Names.same, Parts.RegOk, Parts.NetOk}
 use Rattle.kp_vlog.specs.Rules.{want, range_fits, stall_fits, four_bits, words_fit, file_fits, right_fits, width_sum, item_answers, items_answers, ports_answers, header_answers, inits_answers, values_answers, reset_values, updates_answers}
+use Rattle.kp_vlog.specs.declared.tree.{Range.Range, VPort.VPort, Right.Right, Item.Item, VModule.VModule}
+use Rattle.kp_vlog.specs.Scope.{Scope, Sizes, scope_of, sizes_of, width_in, width_of, port_size, item_sizes}
 use Rattle.kp_vlog.specs.Denote.{start_of, regs_of, reg_of, net_of}
-use Rattle.kp_vlog.proofs.Tests.{first_true, second_true, le_of, lt_of}
-use Rattle.kp_vlog.proofs.Scans.{NoneOf, none_front, none_behind}
-use Rattle.kp_vlog.proofs.Declared.{want_none, range_width}
-use Rattle.kp_vlog.proofs.Sound.{Holds}
+use Rattle.kp_vlog.specs.declared.tree.Right.TheVariants as sides
+use Rattle.kp_vlog.specs.declared.tree.Item.TheVariants as lines
+use Rattle.kp_vlog.proofs.{Tests.first_true, Tests.second_true, Tests.le_of, Tests.lt_of, Scans.NoneOf, Scans.none_front, Scans.none_behind}
+use Rattle.kp_vlog.proofs.{Declared.want_none, Declared.range_width, Sound.Holds}
 use Rattle.kp_vread_widths.specs.Tables.{AlikeSizes, found}
 use Rattle.kp_vread.specs.inner.Building.{RightFits, ItemFits, AreNarrow, start_from}
 use Rattle.kp_vread.specs.inner.Parts.{PortFits, RegFits, AreStarted}

@@ -1,16 +1,11 @@
 -- The tables agree with the scope.
 use Rattle.std.proofs.Common.{◌≡◌, ◌∙◌, ℕ, ◌+◌, ◌<◌, List, [], ◌∷◌, ◌++◌, length, get_or, take, map, true, false, refl, sym, ap, subst}
 use Rattle.std.proofs.lemmas.List.Sums.{fold_more}
-use Rattle.kp_net.specs.declared.node.NodeId.{NodeId}
-use Rattle.kp_net.specs.declared.node.Kind.{Kind}
-use Rattle.kp_net.specs.declared.node.Node.{Node}
-use Rattle.kp_vlog.specs.declared.tree.Named.{Named}
-use Rattle.kp_vlog.specs.declared.tree.Right.{Right}
-use Rattle.kp_vlog.specs.declared.tree.Right.TheVariants as sides
-use Rattle.kp_vlog.specs.declared.tree.Item.{Item}
-use Rattle.kp_vlog.specs.declared.tree.Item.TheVariants as lines
-use Rattle.kp_vlog.specs.Scope.{Scope, width_in, is_output_name}
+use Rattle.kp_net.specs.declared.node.{NodeId.NodeId, Kind.Kind, Node.Node}
+use Rattle.kp_vlog.specs.{declared.tree.Named.Named, declared.tree.Right.Right, declared.tree.Item.Item, Scope.Scope, Scope.width_in, Scope.is_output_name}
 use Rattle.kp_vlog.specs.Denote.{node_of, source_of, kind_of, Made, with_wire, with_item, made_by}
+use Rattle.kp_vlog.specs.declared.tree.Right.TheVariants as sides
+use Rattle.kp_vlog.specs.declared.tree.Item.TheVariants as lines
 use Rattle.kp_vlog.proofs.Tests.{when_true, when_false}
 use Rattle.kp_vread.specs.inner.Numbering.{Numbered, AreNumbered}
 use Rattle.kp_vread.specs.inner.Building.{Numbers, IsScope, node_by, source_by, kind_by, IsMade}

@@ -1,14 +1,10 @@
 -- Names are numbered one by one.
 use Rattle.std.proofs.Common.{◌≡◌, ◌∙◌, ℕ, ◌+◌, ◌<◌, List, [], ◌∷◌, ◌++◌, length, get_or, take, map, Bool, true, false, cond, Option, Some, None, refl, sym, ap, subst, arith}
-use Rattle.std.specs.Prelude.{nat_eq, ◌||◌, if◌then◌else◌}
-use Rattle.std.specs.Option.{is_some}
-use Rattle.std.specs.Map.{lookup}
-use Rattle.kp_net.specs.Names.{same, among}
 use Rattle.std.proofs.lemmas.List.{take_more}
-use Rattle.kp_vlog.specs.declared.tree.VPort.{VPort}
-use Rattle.kp_vlog.specs.declared.tree.Item.{Item}
+use Rattle.std.specs.{Prelude.nat_eq, Prelude.◌||◌, Prelude.if◌then◌else◌, Option.is_some, Map.lookup}
+use Rattle.kp_net.specs.Names.{same, among}
+use Rattle.kp_vlog.specs.{declared.tree.VPort.VPort, declared.tree.Item.Item, Scope.place_of, Scope.reg_names, Scope.file_names}
 use Rattle.kp_vlog.specs.declared.tree.Item.TheVariants as lines
-use Rattle.kp_vlog.specs.Scope.{place_of, reg_names, file_names}
 use Rattle.kp_vlog.proofs.Tests.{apart, same_eq}
 use Rattle.kp_vread.specs.inner.Numbering.{Numbered, number_or, AreNumbered}
 

@@ -4,10 +4,7 @@ use Rattle.std.proofs.lemmas.List.{length-drop}
 use Rattle.kp_base.specs.declared.refusal.Refused.{Refused}
 use Rattle.kp_base.specs.declared.refusal.Refused.TheVariants as refused
 use Rattle.kp_net.specs.Netlist.{Net}
-use Rattle.kp_vlog.specs.declared.token.VToken.{VToken}
-use Rattle.kp_vlog.specs.declared.tree.VModule.{VModule}
-use Rattle.kp_vlog.specs.Outcome.{token_of, HasTokens, AnswersTokens}
-use Rattle.kp_vlog.specs.Rules.{broken}
+use Rattle.kp_vlog.specs.{declared.token.VToken.VToken, declared.tree.VModule.VModule, Outcome.token_of, Outcome.HasTokens, Outcome.AnswersTokens, Rules.broken}
 use Rattle.kp_vlog.specs.Denote.{net_of, IsModule, Denotes}
 use Rattle.kp_vlog.specs.Verdict.{fault, IsWrong, no_token, wrong_token, broken_rule, AnswersNet}
 use Rattle.kp_vlog.proofs.Built.{module_few}

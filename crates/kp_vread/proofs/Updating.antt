@@ -1,19 +1,12 @@
 -- The next values of registers, from the last update on.
 use Rattle.std.proofs.Common.{◌≡◌, ◌∙◌, ℕ, ◌+◌, ◌<◌, List, [], ◌∷◌, length, get_or, drop, Bool, true, false, cond, Some, refl, sym, ap, subst}
-use Rattle.std.specs.Prelude.{if◌then◌else◌}
-use Rattle.std.specs.Map.{lookup}
 use Rattle.std.proofs.lemmas.List.{drop_more}
-use Rattle.kp_net.specs.declared.node.NodeId.{NodeId}
-use Rattle.kp_net.specs.Names.{same}
-use Rattle.kp_vlog.specs.declared.tree.Named.{Named}
-use Rattle.kp_vlog.specs.declared.tree.Update.{Update}
+use Rattle.std.specs.{Prelude.if◌then◌else◌, Map.lookup}
+use Rattle.kp_net.specs.{declared.node.NodeId.NodeId, Names.same}
+use Rattle.kp_vlog.specs.{declared.tree.Named.Named, declared.tree.Update.Update, Denote.node_of, Denote.next_of}
 use Rattle.kp_vlog.specs.declared.tree.Update.TheVariants as edges
-use Rattle.kp_vlog.specs.Denote.{node_of, next_of}
-use Rattle.kp_vread.specs.inner.Numbering.{Numbered, AreNumbered}
-use Rattle.kp_vread.specs.inner.Building.{node_by}
-use Rattle.kp_vread.specs.inner.Nexts.{node_or_first, AreNexts}
-use Rattle.kp_vread.proofs.Numbering.{turned}
-use Rattle.kp_vread.proofs.Making.{node_same}
+use Rattle.kp_vread.specs.inner.{Numbering.Numbered, Numbering.AreNumbered, Building.node_by, Nexts.node_or_first, Nexts.AreNexts}
+use Rattle.kp_vread.proofs.{Numbering.turned, Making.node_same}
 
 pub no_nexts : (wires : Numbered) → AreNexts wires [] []
 no_nexts wires = record { nexts = λ ks a n. refl }

@@ -1,17 +1,10 @@
 -- The netlist of a module that violates no rule.
 use Rattle.std.proofs.Common.{◌≡◌, ◌∙◌, ℕ, ◌≤◌, List, length, None, sym, ap, subst}
-use Rattle.kp_net.specs.declared.node.Node.{Node}
-use Rattle.kp_net.specs.declared.netlist.Parts.{Parts}
-use Rattle.kp_net.specs.Netlist.{Net}
-use Rattle.kp_net.specs.Parts.{NetOk}
-use Rattle.kp_vlog.specs.declared.tree.VModule.{VModule}
-use Rattle.kp_vlog.specs.Scope.{scope_of, sizes_of}
-use Rattle.kp_vlog.specs.Rules.{broken}
-use Rattle.kp_vlog.specs.Denote.{made_by, parts_of, net_of}
+use Rattle.kp_net.specs.{declared.node.Node.Node, declared.netlist.Parts.Parts, Netlist.Net, Parts.NetOk}
+use Rattle.kp_vlog.specs.{declared.tree.VModule.VModule, Scope.scope_of, Scope.sizes_of, Rules.broken, Denote.made_by, Denote.parts_of, Denote.net_of}
 use Rattle.kp_vlog.proofs.Sound.{sound}
 use Rattle.kp_vread_widths.specs.Tables.{AlikeSizes}
-use Rattle.kp_vread.specs.inner.Numbering.{Numbered, AreNumbered}
-use Rattle.kp_vread.specs.inner.Building.{Numbers, IsScope, IsMade}
+use Rattle.kp_vread.specs.inner.{Numbering.Numbered, Numbering.AreNumbered, Building.Numbers, Building.IsScope, Building.IsMade}
 
 net : List Node → Parts → Net
 net nodes parts = record { nodes = nodes; parts = parts }

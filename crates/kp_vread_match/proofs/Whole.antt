@@ -1,22 +1,13 @@
 -- A netlist is accepted as one of the job exactly if it is one.
 use Rattle.std.proofs.Common.{◌≡◌, ◌∙◌, ℕ, ◌<◌, ◌==◌, List, [], ◌∷◌, ◌++◌, length, get_or, map, take, codes, true, false, not, ◌&&◌, ◌||◌, refl, ap, sym, arith}
-use Rattle.std.specs.Bool.{Decides}
-use Rattle.std.specs.Cmp.Lexicographic.{bytes_decides}
-use Rattle.std.proofs.Math.Dec.{eqb-suc-zero}
-use Rattle.std.proofs.lemmas.Bool.{false≢true}
-use Rattle.std.proofs.lemmas.Bool.Decides.{Decides-eqb}
+use Rattle.std.proofs.{Math.Dec.eqb-suc-zero, lemmas.Bool.false≢true, lemmas.Bool.Decides.Decides-eqb}
+use Rattle.std.specs.{Bool.Decides, Cmp.Lexicographic.bytes_decides}
 use Rattle.kp_ast.specs.declared.tree.Job.{Job}
 use Rattle.kp_machine.specs.Slots.{Slot, targets_of, samples_of, is_register}
-use Rattle.kp_net.specs.Names.{same}
-use Rattle.kp_net.specs.Netlist.{Net}
-use Rattle.kp_net.specs.Parts.{no_reg, no_file}
-use Rattle.kp_net.specs.declared.netlist.Port.{Port}
-use Rattle.kp_net.specs.declared.netlist.NetReg.{NetReg}
-use Rattle.kp_net.specs.declared.netlist.NetFile.{NetFile}
-use Rattle.kp_net.specs.declared.netlist.Parts.{Parts}
+use Rattle.kp_net.specs.{Names.same, Netlist.Net, Parts.no_reg, Parts.no_file, declared.netlist.Port.Port, declared.netlist.NetReg.NetReg}
+use Rattle.kp_net.specs.declared.netlist.{NetFile.NetFile, Parts.Parts}
 use Rattle.kp_seq.specs.Running.{no_slot}
-use Rattle.kp_synth_spec.specs.Naming.{place_among, register_name, file_name, sample_port}
-use Rattle.kp_synth_spec.specs.Shows.{IsOfJob}
+use Rattle.kp_synth_spec.specs.{Naming.place_among, Naming.register_name, Naming.file_name, Naming.sample_port, Shows.IsOfJob}
 use Rattle.kp_vread_match.specs.inner.Whole.{has_register, has_file, has_target, has_targets, names_register, names_file, is_visible, registers_known, files_known, is_port_of, are_ports_of, is_of_job}
 use Rattle.kp_vread_match.proofs.Tests.{holds, fails, both, implied, either_way, as_well, each, some, named}
 

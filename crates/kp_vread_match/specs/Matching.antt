@@ -1,7 +1,6 @@
 -- The result of a call that compares a netlist with a job.
 use Rattle.std.specs.Prelude.{◌≡◌}
-use Rattle.kp_base.specs.Refusal.{v_rule}
-use Rattle.kp_base.specs.declared.refusal.Refused.{Refused}
+use Rattle.kp_base.specs.{Refusal.v_rule, declared.refusal.Refused.Refused}
 use Rattle.kp_base.specs.declared.refusal.Refused.TheVariants as refused
 use Rattle.kp_ast.specs.declared.tree.Job.{Job}
 use Rattle.kp_net.specs.Netlist.{Net}

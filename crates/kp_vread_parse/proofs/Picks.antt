@@ -2,17 +2,12 @@
 use Rattle.std.proofs.Common.{ℕ, zero, suc, ◌≡◌, ◌==◌, ◌≤◌, ◌-◌, nat_lt, List, [], ◌∷◌, Bool, true, false, cond, ◌||◌, ◌&&◌, Option, Some, refl, sym, subst, arith}
 use Rattle.std.proofs.lemmas.Bool.{eqb-true}
 use Rattle.kp_bits.specs.declared.operator.BinOp.{BinOp}
-use Rattle.kp_grammar.specs.Grammar.{Nonterminal, Action}
-use Rattle.kp_grammar.specs.Tables.{pick, among}
-use Rattle.kp_grammar.specs.Machine.{Outcome, look, goes}
+use Rattle.kp_grammar.specs.{Grammar.Nonterminal, Grammar.Action, Tables.pick, Tables.among, Machine.Outcome, Machine.look, Machine.goes}
 use Rattle.kp_vlog.specs.declared.token.Keyword.TheVariants as keywords
-use Rattle.kp_vlog.specs.declared.token.Mark.{Mark}
-use Rattle.kp_vlog.specs.declared.token.Mark.TheVariants as marks
-use Rattle.kp_vlog.specs.Tokens.{Token}
 use Rattle.kp_vlog.specs.Language.{Sym, Value, verilog, word, mark, ID, NUM, LIT, keyword_class, mark_class, IDENTIFIER, NUMBER, LITERAL, NAMES, BEHIND, MODULE, WIRE, RANGE, PORT, STALLS, SAMPLES, ITEMS, ITEM, DECLARED, RIGHT, INDEX, INITS, INIT, START, BODY, CONDITION, VALUES, UPDATES, UPDATE, first_update, init_fill, init_reg, init_word, make_assign, make_binary, make_choice, make_concat, make_file, make_integer, make_literal, make_module, make_name, make_not, make_port, make_range, make_reg, make_slice, make_wire, make_word, no_inits, no_items, no_ports, no_reset, no_reset_port, no_updates, no_values, one_init, one_item, one_name, one_port, one_update, one_value, some_reset, some_reset_port, two_names, update_file, update_reg}
-use Rattle.kp_vlog.specs.inner.Follow.{tables}
-use Rattle.kp_vread_parse.specs.inner.Words.{item_words, init_words, update_words, operator_classes, sign}
-use Rattle.kp_vread_parse.specs.inner.Reading.{Goes}
+use Rattle.kp_vlog.specs.{declared.token.Mark.Mark, Tokens.Token, inner.Follow.tables}
+use Rattle.kp_vlog.specs.declared.token.Mark.TheVariants as marks
+use Rattle.kp_vread_parse.specs.inner.{Words.item_words, Words.init_words, Words.update_words, Words.operator_classes, Words.sign, Reading.Goes}
 
 other : (b : Bool) (x y z : Option (List Sym)) → false ≡ b → y ≡ z → cond (b || false) x y ≡ z
 other true x y z h e = cc h

@@ -1,11 +1,10 @@
 -- Steps of the machine, in the form that the readers use.
 use Rattle.std.proofs.Common.{ℕ, ◌≡◌, List, [], ◌∷◌, ◌++◌, length, drop, sym, subst}
 use Rattle.kp_grammar.specs.Machine.{Outcome, Accepts, Stops, accept, more}
-use Rattle.kp_vlog.specs.Tokens.{Token}
-use Rattle.kp_vlog.specs.Language.{Sym, Value}
+use Rattle.kp_vlog.specs.{Tokens.Token, Language.Sym, Language.Value}
 use Rattle.kp_vread_parse.specs.declared.fault.Fault.{Fault}
-use Rattle.kp_vread_parse.specs.declared.fault.Fault.TheVariants as faults
 use Rattle.kp_vread_parse.specs.inner.Reading.{Goes, FaultIs, Ends, Follows, ModuleGoes}
+use Rattle.kp_vread_parse.specs.declared.fault.Fault.TheVariants as faults
 
 -- A fault of a part is one of the complete text, if the machine reaches the part.
 mapped : (ts : List Token) (P Q : Outcome (List Value) → Type 0) (e : Fault) → FaultIs ts P e → ((o : Outcome (List Value)) → P o → Q o) → FaultIs ts Q e

@@ -1,26 +1,17 @@
 -- The token with a given number.
 use Rattle.std.proofs.Common.{ℕ, suc, ◌≡◌, ◌==◌, ◌<◌, ◌≤◌, ◌+◌, ◌-◌, List, [], ◌∷◌, length, drop, take, map, true, false, refl, sym, ap, ◌∙◌, arith}
-use Rattle.std.proofs.lemmas.Bool.Decides.{nat_tests}
-use Rattle.std.proofs.lemmas.List.{drop_more, drop-map}
+use Rattle.std.proofs.lemmas.{Bool.Decides.nat_tests, List.drop_more, List.drop-map}
 use Rattle.std.specs.Prelude.{slice_index_or}
 use Rattle.kp_bits.specs.declared.literal.Literal.{Literal}
-use Rattle.kp_grammar.specs.Grammar.{Terminal}
-use Rattle.kp_grammar.specs.Machine.{Stops, look, wrong}
-use Rattle.kp_grammar.specs.Tables.{among}
+use Rattle.kp_grammar.specs.{Grammar.Terminal, Machine.Stops, Machine.look, Machine.wrong, Tables.among}
 use Rattle.kp_grammar.proofs.Ways.{took}
-use Rattle.kp_vlog.specs.declared.token.Keyword.{Keyword}
-use Rattle.kp_vlog.specs.declared.token.Keyword.TheVariants as keywords
-use Rattle.kp_vlog.specs.declared.token.Mark.{Mark}
-use Rattle.kp_vlog.specs.declared.token.Mark.TheVariants as marks
-use Rattle.kp_vlog.specs.declared.token.VKind.{VKind}
-use Rattle.kp_vlog.specs.declared.token.VKind.TheVariants as kinds
-use Rattle.kp_vlog.specs.declared.token.VToken.{VToken}
-use Rattle.kp_vlog.specs.Tokens.{Token}
-use Rattle.kp_vlog.specs.Outcome.{token_of, word_of}
 use Rattle.kp_vlog.specs.Language.{Way, Sym, Value, ID, NUM, LIT, dropped, named, number, literal, word_class, keyword_class, mark_class, verilog}
-use Rattle.kp_vlog.specs.inner.Follow.{tables}
-use Rattle.kp_vread_parse.specs.inner.Words.{operator_classes}
-use Rattle.kp_vread_parse.specs.inner.Reading.{Goes, class_at, never, Turns}
+use Rattle.kp_vlog.specs.{declared.token.Keyword.Keyword, declared.token.Mark.Mark, declared.token.VKind.VKind, declared.token.VToken.VToken, Tokens.Token}
+use Rattle.kp_vlog.specs.{Outcome.token_of, Outcome.word_of, inner.Follow.tables}
+use Rattle.kp_vlog.specs.declared.token.Keyword.TheVariants as keywords
+use Rattle.kp_vlog.specs.declared.token.Mark.TheVariants as marks
+use Rattle.kp_vlog.specs.declared.token.VKind.TheVariants as kinds
+use Rattle.kp_vread_parse.specs.inner.{Words.operator_classes, Reading.Goes, Reading.class_at, Reading.never, Reading.Turns}
 
 -- the class of a token of this kind
 abbrev pub kind_class : VKind → ℕ

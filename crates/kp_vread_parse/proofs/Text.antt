@@ -1,24 +1,15 @@
 -- What the outcome of the machine means for a text.
 use Rattle.std.proofs.Common.{ℕ, zero, suc, ◌≡◌, ◌≤◌, ◌+◌, ◌<◌, List, [], ◌∷◌, length, drop, take, map, All, refl, ap, sym, subst, ◌∙◌, arith}
-use Rattle.std.proofs.lemmas.List.{length-drop, drop_more, drop_all, drop-map}
+use Rattle.std.proofs.lemmas.List.{length-drop, drop_more, drop_all, drop-map, Elements.All-weaker}
 use Rattle.std.specs.Prelude.{slice_index_or}
-use Rattle.std.proofs.lemmas.List.Elements.{All-weaker}
-use Rattle.kp_grammar.specs.Grammar.{IsSentence}
-use Rattle.kp_grammar.specs.Machine.{Accepts, Stops}
+use Rattle.kp_grammar.specs.{Grammar.IsSentence, Machine.Accepts, Machine.Stops}
 use Rattle.kp_grammar.proofs.Laws.{sentence, wrong_at}
 use Rattle.kp_vlog.specs.declared.token.VKind.TheVariants as kinds
-use Rattle.kp_vlog.specs.declared.token.VKind.{VKind}
-use Rattle.kp_vlog.specs.declared.token.VToken.{VToken}
-use Rattle.kp_vlog.specs.declared.tree.VModule.{VModule}
-use Rattle.kp_vlog.specs.Tokens.{Token, takes}
-use Rattle.kp_vlog.specs.Outcome.{StandsIn, token_of, word_of, bytes_of}
-use Rattle.kp_vlog.specs.Language.{MODULE, whole, verilog}
-use Rattle.kp_vlog.specs.inner.Follow.{tables}
-use Rattle.kp_vlog.specs.Verdict.{IsWrong, offset_of}
-use Rattle.kp_vlog.proofs.Predictive.{is_predictive}
-use Rattle.kp_vlog.proofs.Lexemes.{Fine, front_fine}
-use Rattle.kp_vread_parse.specs.inner.Spelled.{IsSpelled}
-use Rattle.kp_vread_parse.specs.inner.Reading.{ModuleGoes}
+use Rattle.kp_vlog.specs.{declared.token.VKind.VKind, declared.token.VToken.VToken, declared.tree.VModule.VModule, Tokens.Token, Tokens.takes}
+use Rattle.kp_vlog.specs.{Outcome.StandsIn, Outcome.token_of, Outcome.word_of, Outcome.bytes_of, Language.MODULE, Language.whole, Language.verilog}
+use Rattle.kp_vlog.specs.{inner.Follow.tables, Verdict.IsWrong, Verdict.offset_of}
+use Rattle.kp_vlog.proofs.{Predictive.is_predictive, Lexemes.Fine, Lexemes.front_fine}
+use Rattle.kp_vread_parse.specs.inner.{Spelled.IsSpelled, Reading.ModuleGoes}
 
 pub is_module : (ts : List Token) (m : VModule) → ModuleGoes ts (Accepts (whole m ∷ [])) → IsSentence verilog MODULE [] ts (whole m ∷ [])
 is_module ts m l = sentence verilog tables MODULE is_predictive l

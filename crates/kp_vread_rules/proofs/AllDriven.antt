@@ -1,26 +1,16 @@
 -- The names of a module drive what the module drives.
 use Rattle.std.proofs.Common.{◌≡◌, ◌∙◌, ℕ, ◌+◌, ◌<◌, List, [], ◌∷◌, ◌++◌, length, get_or, drop, Bool, true, false, Option, Some, None, refl, sym, ap, subst, map}
-use Rattle.std.specs.Prelude.{not, ◌||◌, codes, if◌then◌else◌}
 use Rattle.std.proofs.lemmas.List.{drop_more}
-use Rattle.std.specs.Option.{is_some}
-use Rattle.kp_vlog.specs.declared.tree.Named.{Named}
-use Rattle.kp_vlog.specs.declared.tree.VPort.{VPort}
-use Rattle.kp_vlog.specs.declared.tree.Right.{Right}
-use Rattle.kp_vlog.specs.declared.tree.Right.TheVariants as sides
-use Rattle.kp_vlog.specs.declared.tree.Item.{Item}
-use Rattle.kp_vlog.specs.declared.tree.Item.TheVariants as lines
-use Rattle.kp_vlog.specs.declared.tree.Init.{Init}
-use Rattle.kp_vlog.specs.declared.tree.Init.TheVariants as starts
-use Rattle.kp_vlog.specs.declared.tree.ResetValue.{ResetValue}
-use Rattle.kp_vlog.specs.declared.tree.ResetList.{ResetList}
-use Rattle.kp_vlog.specs.declared.tree.Update.{Update}
-use Rattle.kp_vlog.specs.declared.tree.Update.TheVariants as edges
-use Rattle.kp_vlog.specs.declared.tree.VModule.{VModule}
-use Rattle.kp_vlog.specs.Scope.{is_output_name}
+use Rattle.std.specs.{Prelude.not, Prelude.◌||◌, Prelude.codes, Prelude.if◌then◌else◌, Option.is_some}
 use Rattle.kp_vlog.specs.Occurrences.{Occurrence, Role, occurs, declares_port, declares_wire, declares_reg, declares_file, uses_wire, uses_source, gives_no_wire, is_given, wires_used, operands, right_names, items_names, inits_names, values_names, reset_names, updates_names, samples_names, reset_port_names, wide_port_names, header_names, body_names, names}
 use Rattle.kp_vlog.specs.Rules.{Driven, drives, driver_fits, bad_driver, nothing, items_given, inits_started, inits_filled, updates_updated, updates_written, reset_values, all_driven, module_driver}
-use Rattle.kp_vread_rules.specs.inner.Sets.{Alike, AlikeDriven, all_by}
-use Rattle.kp_vread_rules.specs.inner.Listed.{occurrence_of}
+use Rattle.kp_vlog.specs.declared.tree.{Named.Named, VPort.VPort, Right.Right, Item.Item, Init.Init, ResetValue.ResetValue, ResetList.ResetList, Update.Update}
+use Rattle.kp_vlog.specs.{declared.tree.VModule.VModule, Scope.is_output_name}
+use Rattle.kp_vlog.specs.declared.tree.Right.TheVariants as sides
+use Rattle.kp_vlog.specs.declared.tree.Item.TheVariants as lines
+use Rattle.kp_vlog.specs.declared.tree.Init.TheVariants as starts
+use Rattle.kp_vlog.specs.declared.tree.Update.TheVariants as edges
+use Rattle.kp_vread_rules.specs.inner.{Sets.Alike, Sets.AlikeDriven, Sets.all_by, Listed.occurrence_of}
 use Rattle.kp_vread_rules.specs.declared.names.Occurrence.{Occurrence as Listed}
 use Rattle.kp_vread_rules.proofs.Drives.{same_drives}
 

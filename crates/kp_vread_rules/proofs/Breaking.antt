@@ -1,18 +1,11 @@
 -- The first violated rule of a module.
 use Rattle.std.proofs.Common.{◌≡◌, ◌∙◌, ℕ, ◌≤◌, List, [], length, take, None, Err, refl, sym, ap, arith}
 use Rattle.std.proofs.lemmas.List.{take_all}
-use Rattle.kp_base.specs.First.{first}
-use Rattle.kp_base.specs.Place.{place_after}
-use Rattle.kp_base.specs.Refusal.{v_rule}
+use Rattle.kp_base.specs.{First.first, Place.place_after, Refusal.v_rule}
 use Rattle.kp_base.specs.declared.refusal.Refused.TheVariants as refused
-use Rattle.kp_vlog.specs.declared.tree.VModule.{VModule}
-use Rattle.kp_vlog.specs.Occurrences.{names}
-use Rattle.kp_vlog.specs.Rules.{broken, breaks, bad_name, width_answers, module_driver}
-use Rattle.kp_vlog.specs.Verdict.{fault}
-use Rattle.kp_vread_rules.specs.Broken.{IsBroken}
-use Rattle.kp_vread_rules.specs.inner.Refusing.{refusal_at}
-use Rattle.kp_vread_rules.specs.inner.Says.{Says}
-use Rattle.kp_vread_rules.specs.declared.fault.Fault.{Fault as Ending}
+use Rattle.kp_vlog.specs.{declared.tree.VModule.VModule, Occurrences.names}
+use Rattle.kp_vlog.specs.{Rules.broken, Rules.breaks, Rules.bad_name, Rules.width_answers, Rules.module_driver, Verdict.fault}
+use Rattle.kp_vread_rules.specs.{Broken.IsBroken, inner.Refusing.refusal_at, inner.Says.Says, declared.fault.Fault.Fault as Ending}
 use Rattle.kp_vread_rules.specs.declared.fault.Fault.TheVariants as endings
 
 pub names_broken : (text : List ℕ) (m : VModule) (e : Ending) → Says {T = Unit {0}} (Err e) (bad_name [] (names m)) → IsBroken text m (refusal_at text 3 e)

@@ -1,16 +1,12 @@
 -- Continuing past a name whose driver fits.
 use Rattle.std.proofs.Common.{◌≡◌, ◌∙◌, ℕ, ◌+◌, ◌<◌, List, [], ◌∷◌, length, get_or, drop, Bool, true, false, Option, Some, Result, Err, refl, sym, ap, subst, map}
-use Rattle.std.specs.Prelude.{not, if◌then◌else◌}
 use Rattle.std.proofs.lemmas.List.{drop_more}
+use Rattle.std.specs.Prelude.{not, if◌then◌else◌}
 use Rattle.kp_vlog.specs.Occurrences.{Occurrence, Role, gives, uses_wire, starts_reg, starts_word, fills_file, resets_reg, updates_reg, updates_file, is_given}
 use Rattle.kp_vlog.specs.Rules.{Driven, drives, driver_fits, bad_driver}
-use Rattle.kp_vread_rules.specs.inner.Sets.{Adds, AlikeDriven}
-use Rattle.kp_vread_rules.specs.inner.Roles.{role_of}
-use Rattle.kp_vread_rules.specs.inner.Says.{Says}
-use Rattle.kp_vread_rules.specs.declared.fault.Fault.{Fault}
+use Rattle.kp_vread_rules.specs.{inner.Sets.Adds, inner.Sets.AlikeDriven, inner.Roles.role_of, inner.Says.Says, declared.fault.Fault.Fault}
+use Rattle.kp_vread_rules.specs.{inner.Listed.occurrence_of, declared.names.Occurrence.Occurrence as Listed}
 use Rattle.kp_vread_rules.specs.declared.fault.Fault.TheVariants as faults
-use Rattle.kp_vread_rules.specs.inner.Listed.{occurrence_of}
-use Rattle.kp_vread_rules.specs.declared.names.Occurrence.{Occurrence as Listed}
 use Rattle.kp_vread_rules.proofs.Turns.{alike_itself, alike_added, one_more}
 
 pub as_before : (d : Driven) → AlikeDriven d d

@@ -1,9 +1,7 @@
 -- Look-ups in a set of names are those in its list.
 use Rattle.std.proofs.Common.{◌≡◌, ◌∙◌, ℕ, List, [], ◌∷◌, ◌++◌, Bool, true, false, refl, sym, ap}
-use Rattle.std.specs.Prelude.{◌||◌, if◌then◌else◌, nat_eq}
+use Rattle.std.specs.{Prelude.◌||◌, Prelude.if◌then◌else◌, Prelude.nat_eq, List.list_any, Cmp.Lexicographic.pointwise}
 use Rattle.indexmap.specs.IndexSet.{insert_key}
-use Rattle.std.specs.List.{list_any}
-use Rattle.std.specs.Cmp.Lexicographic.{pointwise}
 use Rattle.kp_net.specs.Names.{same, among}
 use Rattle.kp_vlog.proofs.Tests.{among_same}
 use Rattle.kp_vread_rules.specs.inner.Sets.{Adds}

@@ -1,9 +1,7 @@
 -- The names of a reset list, by a table of start values.
 use Rattle.std.proofs.Common.{◌≡◌, ◌∙◌, ℕ, List, [], ◌∷◌, ◌++◌, Option, Some, Result, Ok, Err, OnOk, codes, refl, ap}
 use Rattle.kp_bits.specs.declared.literal.Literal.{Literal}
-use Rattle.kp_vlog.specs.declared.tree.Init.{Init}
-use Rattle.kp_vlog.specs.declared.tree.ResetValue.{ResetValue}
-use Rattle.kp_vlog.specs.declared.tree.ResetList.{ResetList}
+use Rattle.kp_vlog.specs.declared.tree.{Init.Init, ResetValue.ResetValue, ResetList.ResetList}
 use Rattle.kp_vlog.specs.Occurrences.{Occurrence, occurs, resets_reg, needs, uses_port, start_in, is_literal, values_names, reset_names}
 use Rattle.kp_vread_rules.specs.inner.Starting.{values_by}
 

@@ -1,13 +1,11 @@
 -- Continuing past a name that fits.
 use Rattle.std.proofs.Common.{◌≡◌, ◌∙◌, ℕ, ◌+◌, ◌<◌, List, [], ◌∷◌, length, get_or, drop, Bool, true, false, Option, Some, refl, sym, ap, map}
-use Rattle.std.specs.Prelude.{◌||◌, if◌then◌else◌}
 use Rattle.std.proofs.lemmas.List.{drop_more}
+use Rattle.std.specs.Prelude.{◌||◌, if◌then◌else◌}
 use Rattle.kp_net.specs.Names.{same}
 use Rattle.kp_vlog.specs.Occurrences.{Occurrence, Role, names_module, declares_port, declares_sample, declares_reg, declares_file, declares_integer, declares_wire, gives_no_wire, is_given, needs}
 use Rattle.kp_vlog.specs.Rules.{name_fits, learns, bad_name}
-use Rattle.kp_vread_rules.specs.inner.Sets.{Alike, Adds}
-use Rattle.kp_vread_rules.specs.inner.Roles.{role_of}
-use Rattle.kp_vread_rules.specs.inner.Listed.{occurrence_of}
+use Rattle.kp_vread_rules.specs.inner.{Sets.Alike, Sets.Adds, Roles.role_of, Listed.occurrence_of}
 use Rattle.kp_vread_rules.specs.declared.names.Occurrence.{Occurrence as Listed}
 
 alike_fits : (ks js : List (List ℕ)) (r : Role) (n : List ℕ) → Alike ks js → name_fits ks r n ≡ name_fits js r n

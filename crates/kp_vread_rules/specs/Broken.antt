@@ -2,9 +2,7 @@
 use Rattle.std.specs.Prelude.{ℕ, ◌≡◌, List, Some, ⊤}
 use Rattle.kp_base.specs.declared.refusal.Refused.{Refused}
 use Rattle.kp_base.specs.declared.refusal.Refused.TheVariants as refused
-use Rattle.kp_vlog.specs.declared.tree.VModule.{VModule}
-use Rattle.kp_vlog.specs.Rules.{Fault, broken}
-use Rattle.kp_vlog.specs.Verdict.{refusal_of}
+use Rattle.kp_vlog.specs.{declared.tree.VModule.VModule, Rules.Fault, Rules.broken, Verdict.refusal_of}
 
 -- the error is the first of the rules V3 to V5 that a module of the text violates, or out of memory
 abbrev pub IsBroken : List ℕ → VModule → Refused → Type 0

@@ -1,12 +1,10 @@
 -- A first module ends at one offset.
 use Rattle.std.proofs.Common.{ℕ, zero, suc, Bool, true, false, ◌+◌, ◌≤◌, ◌<◌, ◌≡◌, ◌∙◌, List, length, length-drop, drop, refl, sym, ap, subst, arith}
 use Rattle.std.proofs.lemmas.Bool.{false≢true}
-use Rattle.kp_vlog.specs.declared.front.Front.{Front as Reported}
-use Rattle.kp_vlog.specs.declared.front.Front.TheVariants as reported
-use Rattle.kp_vlog.specs.declared.token.Keyword.{Keyword}
+use Rattle.kp_vlog.specs.declared.{front.Front.Front as Reported, token.Keyword.Keyword}
 use Rattle.kp_vlog.specs.Tokens.{Word, keyword, Front, front, finish, skips, takes, broken}
-use Rattle.kp_vlog.specs.inner.Kinds.{front_of}
-use Rattle.kp_vlog.specs.Fronts.{seen, Fits}
+use Rattle.kp_vlog.specs.{inner.Kinds.front_of, Fronts.seen, Fronts.Fits}
+use Rattle.kp_vlog.specs.declared.front.Front.TheVariants as reported
 use Rattle.kp_vlog.proofs.Fronts.{seen_front, fits_front}
 use Rattle.kp_vlog.proofs.Unique.{length_in, word_in, apart, finish_skips, finish_takes, skips_takes, skips_broken, takes_broken}
 use Rattle.kp_vread_split.specs.inner.Leads.{closes_module, is_endmodule}

@@ -2,9 +2,8 @@
 use Rattle.std.proofs.Common.{ℕ, ◌+◌, ◌≤◌, ◌<◌, ◌≡◌, ◌∙◌, Bool, true, false, cond, List, length, length-drop, drop, refl, sym, ap, subst, arith}
 use Rattle.kp_vlog.specs.Tokens.{Word, Front, front, finish, skips, takes, broken}
 use Rattle.kp_vread_split.specs.Splitting.{FirstEnds, closes, over, faulty, past_gap, past_token}
-use Rattle.kp_vread_split.specs.declared.lead.Lead.{Lead}
+use Rattle.kp_vread_split.specs.{declared.lead.Lead.Lead, inner.Leads.is_endmodule, inner.Leads.lead_of}
 use Rattle.kp_vread_split.specs.declared.lead.Lead.TheVariants as leads
-use Rattle.kp_vread_split.specs.inner.Leads.{is_endmodule, lead_of}
 use Rattle.kp_vread_split.proofs.Ends.{endmodule_is, endmodule_not, skips_fit, takes_fit}
 
 -- What ends the first module from here ends it from the offset where the call started.

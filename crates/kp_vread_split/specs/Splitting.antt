@@ -1,7 +1,6 @@
 -- WHERE THE FIRST OF TWO MODULES IN ONE TEXT ENDS.
 use Rattle.std.specs.Prelude.{ℕ, ◌+◌, ◌≡◌, List, length, drop}
-use Rattle.kp_vlog.specs.declared.token.Keyword.{Keyword}
-use Rattle.kp_vlog.specs.Tokens.{Word, keyword, front, finish, skips, takes, broken}
+use Rattle.kp_vlog.specs.{declared.token.Keyword.Keyword, Tokens.Word, Tokens.keyword, Tokens.front, Tokens.finish, Tokens.skips, Tokens.takes, Tokens.broken}
 
 -- The first module of the text that is left at an offset ends at this offset: after the first keyword `endmodule` that is a token with no invalid
 -- token before it, or else at the end of the text.

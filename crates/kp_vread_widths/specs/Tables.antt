@@ -1,6 +1,5 @@
 -- The entries of a module's tables for a name.
-use Rattle.std.specs.Prelude.{ℕ, ◌+◌, ◌≡◌, List, Option}
-use Rattle.std.specs.Map.{lookup}
+use Rattle.std.specs.{Prelude.ℕ, Prelude.◌+◌, Prelude.◌≡◌, Prelude.List, Prelude.Option, Map.lookup}
 use Rattle.kp_bits.specs.declared.literal.Literal.{Literal}
 use Rattle.kp_net.specs.Names.{same}
 use Rattle.kp_vlog.specs.Scope.{Sized, Sizes, address_width, or_zero, width_in, address_in}

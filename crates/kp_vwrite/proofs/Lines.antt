@@ -1,16 +1,10 @@
 -- One more line of each list of lines.
 use Rattle.std.proofs.Common.{◌≡◌, ◌∙◌, ℕ, ◌+◌, ◌-◌, ◌^◌, ◌<◌, ◌≤◌, List, [], ◌∷◌, ◌++◌, length, get_or, take, drop, arith, refl, sym, ap, append_assoc, append-nil}
-use Rattle.std.specs.Prelude.{codes, decimal, Option, Some, None}
-use Rattle.kp_bits.specs.Word.{word}
-use Rattle.kp_bits.specs.Spelling.{spelling}
-use Rattle.kp_net.specs.declared.node.NodeId.{NodeId}
-use Rattle.kp_net.specs.declared.node.Node.{Node}
-use Rattle.kp_net.specs.declared.netlist.Port.{Port}
-use Rattle.kp_net.specs.declared.netlist.WritePort.{WritePort}
-use Rattle.kp_net.specs.declared.netlist.NetReg.{NetReg}
-use Rattle.kp_net.specs.declared.netlist.NetFile.{NetFile}
-use Rattle.kp_net.specs.declared.netlist.Parts.{Parts}
 use Rattle.std.proofs.lemmas.List.{take_all}
+use Rattle.std.specs.Prelude.{codes, decimal, Option, Some, None}
+use Rattle.kp_bits.specs.{Word.word, Spelling.spelling}
+use Rattle.kp_net.specs.declared.{node.NodeId.NodeId, node.Node.Node, netlist.Port.Port, netlist.WritePort.WritePort, netlist.NetReg.NetReg}
+use Rattle.kp_net.specs.declared.netlist.{NetFile.NetFile, Parts.Parts}
 use Rattle.kp_vlog.specs.Canon.{text_of, right_side, more_parts, wire, sample_ports, reg_lines, file_lines, node_lines, start_lines, word_line, word_lines, fill_lines, update_lines, port_line, port_lines, reset_lines}
 use Rattle.kp_vwrite.specs.inner.Texts.{fixed, ranged_text, sample_text, samples_text, reg_text, regs_text, file_text, files_text, front_text, right_text, node_text, nodes_text, wire_text, part_text, parts_text, joined_text, given_text, value_text, values_text, fill_text, word_text, words_text, contents_text, fills_text, update_text, updates_text, enable_text, store_text, write_text, port_text, ports_text}
 

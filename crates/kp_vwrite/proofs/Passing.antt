@@ -1,12 +1,8 @@
 -- Texts that pass through a buffer in order.
 use Rattle.std.proofs.Common.{◌≡◌, ◌∙◌, ℕ, ◌+◌, ◌≤◌, ◌<◌, List, [], ◌∷◌, ◌++◌, length, get_or, take, drop, refl, sym, ap, subst, append_assoc, append-nil, Ok, Err}
-use Rattle.std.specs.Prelude.{flat_map}
-use Rattle.std.proofs.lemmas.List.{drop_more, drop_all, take_more}
-use Rattle.std.proofs.lemmas.Grind.{flat_map-append}
-use Rattle.std.specs.declared.option.Option.{Option}
-use Rattle.std.specs.declared.result.Result.{Result}
-use Rattle.std.specs.Io.KnownBytes.{Appends}
+use Rattle.std.proofs.lemmas.{List.drop_more, List.drop_all, List.take_more, Grind.flat_map-append}
 use Rattle.std.proofs.KnownBytes.{Appends-nil, Appends-trans}
+use Rattle.std.specs.{Prelude.flat_map, declared.option.Option.Option, declared.result.Result.Result, Io.KnownBytes.Appends}
 use Rattle.kp_base.specs.Bytes.{AppendsPart, Writes}
 use Rattle.kp_base.proofs.Bytes.{writes_next}
 use Rattle.kp_vwrite.specs.inner.Passing.{Passes, Stops, Sends}

@@ -1,15 +1,11 @@
 -- The invariants of a netlist's parts that writing needs.
 use Rattle.std.proofs.Common.{◌≡◌, ◌∙◌, ℕ, zero, suc, ◌≤◌, ◌<◌, List, [], ◌∷◌, length, get_or, refl, sym, ap, subst, arith}
-use Rattle.std.specs.Prelude.{All}
 use Rattle.std.proofs.lemmas.List.Elements.{All-weaker}
+use Rattle.std.specs.Prelude.{All}
 use Rattle.kp_net.specs.declared.node.Kind.{Kind}
 use Rattle.kp_net.specs.declared.node.Kind.TheVariants.{Const, Ext, Sample, Reg, Word, Not, Binary, Mux, Concat, Slice}
-use Rattle.kp_net.specs.declared.node.Node.{Node}
-use Rattle.kp_net.specs.declared.netlist.NetFile.{NetFile}
-use Rattle.kp_net.specs.declared.netlist.Parts.{Parts}
-use Rattle.kp_net.specs.Netlist.{Net}
-use Rattle.kp_net.specs.Widths.{wide, no_node, KindOk}
-use Rattle.kp_net.specs.Parts.{NetOk, CellOk, FileOk}
+use Rattle.kp_net.specs.{declared.node.Node.Node, declared.netlist.NetFile.NetFile, declared.netlist.Parts.Parts, Netlist.Net}
+use Rattle.kp_net.specs.{Widths.wide, Widths.no_node, Widths.KindOk, Parts.NetOk, Parts.CellOk, Parts.FileOk}
 use Rattle.kp_vwrite.specs.inner.Texts.{KindSafe, NodeSafe, AllSafe, FileSafe}
 
 -- the entry at an index of a list doesn't depend on the default past its end

@@ -1,10 +1,7 @@
 -- The canonical text is the concatenation of its parts.
 use Rattle.std.proofs.Common.{◌≡◌, ◌∙◌, ℕ, ◌-◌, Bool, true, false, List, [], ◌∷◌, ◌++◌, refl, ap, append_assoc, append-nil}
 use Rattle.std.specs.Prelude.{codes, decimal}
-use Rattle.kp_net.specs.declared.node.Node.{Node}
-use Rattle.kp_net.specs.declared.netlist.Parts.{Parts}
-use Rattle.kp_net.specs.Widths.{wide}
-use Rattle.kp_net.specs.Netlist.{Net}
+use Rattle.kp_net.specs.{declared.node.Node.Node, declared.netlist.Parts.Parts, Widths.wide, Netlist.Net}
 use Rattle.kp_vlog.specs.Canon.{canon, text_of, header, reset_port, sample_ports, out_ports, reg_lines, file_lines, integer_line, node_lines, out_line, start_lines, fill_lines, update_lines, port_lines, change_lines, reset_lines, body_lines}
 use Rattle.kp_vwrite.specs.inner.Texts.{fixed, ranged_text, reset_text, name_text, header_text, cells_text, fronts_text, outs_text, state_text, samples_text, regs_text, files_text, integer_text, nodes_text, given_text, values_text, fills_text, updates_text, ports_text, changes_text, body_text, whole_text}
 use Rattle.kp_vwrite.proofs.Lines.{text_append, starts_are, resets_are}

@@ -1,41 +1,25 @@
 -- A module that represents a netlist denotes it: its nodes, and all its parts.
 use Rattle.std.proofs.Common.{◌≡◌, ◌∙◌, ℕ, suc, ◌+◌, ◌-◌, ◌^◌, ◌≤◌, ◌<◌, List, [], ◌∷◌, ◌++◌, length, get_or, map, Bool, true, false, Option, Some, None, refl, sym, ap, arith, append_assoc, append-nil}
-use Rattle.std.specs.Prelude.{codes, All, fold, replicate, ◌==◌}
-use Rattle.std.specs.Option.{is_some}
 use Rattle.std.proofs.lemmas.List.Sums.{fold-append}
-use Rattle.std.proofs.lemmas.List.Elements.{All-nil, All-cons, All-head, All-tail, All-get_or}
+use Rattle.std.proofs.lemmas.List.Elements.{All-nil, All-cons, All-head, All-tail, All-get_or, All-weaker}
+use Rattle.std.specs.{Prelude.codes, Prelude.All, Prelude.fold, Prelude.replicate, Prelude.◌==◌, Option.is_some}
 use Rattle.kp_bits.specs.Word.{word}
 use Rattle.kp_bits.specs.Word as bits
-use Rattle.kp_net.specs.declared.node.NodeId.{NodeId}
-use Rattle.kp_net.specs.declared.node.Kind.{Kind}
+use Rattle.kp_net.specs.declared.{node.NodeId.NodeId, node.Kind.Kind, node.Node.Node, netlist.Port.Port, netlist.WritePort.WritePort, netlist.NetReg.NetReg}
+use Rattle.kp_net.specs.declared.netlist.{NetFile.NetFile, Parts.Parts}
+use Rattle.kp_net.specs.{Names.same, Names.IsNamed, Names.is_reg_name, Names.is_file_name, Names.is_sample_name, Names.IsSpelled, Netlist.Net}
+use Rattle.kp_net.specs.{Parts.no_port, Parts.no_reg, Parts.no_file, Parts.WriteOk, Parts.PortOk, Parts.CellOk, Parts.NetOk, Widths.wide, Widths.KindOk}
 use Rattle.kp_net.specs.declared.node.Kind.TheVariants as kinds
-use Rattle.kp_net.specs.declared.node.Node.{Node}
-use Rattle.kp_net.specs.declared.netlist.Port.{Port}
-use Rattle.kp_net.specs.declared.netlist.WritePort.{WritePort}
-use Rattle.kp_net.specs.declared.netlist.NetReg.{NetReg}
-use Rattle.kp_net.specs.declared.netlist.NetFile.{NetFile}
-use Rattle.kp_net.specs.declared.netlist.Parts.{Parts}
-use Rattle.kp_net.specs.Names.{same, IsNamed, is_reg_name, is_file_name, is_sample_name, IsSpelled}
-use Rattle.kp_net.specs.Netlist.{Net}
-use Rattle.kp_net.specs.Parts.{no_port, no_reg, no_file, WriteOk, PortOk, CellOk, NetOk}
-use Rattle.kp_net.specs.Widths.{wide, KindOk}
-use Rattle.kp_vlog.specs.declared.tree.Range.{Range}
-use Rattle.kp_vlog.specs.declared.tree.Named.{Named}
-use Rattle.kp_vlog.specs.declared.tree.VPort.{VPort}
-use Rattle.kp_vlog.specs.declared.tree.Right.{Right}
-use Rattle.kp_vlog.specs.declared.tree.Right.TheVariants as sides
-use Rattle.kp_vlog.specs.declared.tree.Item.{Item}
-use Rattle.kp_vlog.specs.declared.tree.Item.TheVariants as lines
-use Rattle.kp_vlog.specs.declared.tree.ResetList.{ResetList}
-use Rattle.kp_vlog.specs.declared.tree.VModule.{VModule}
-use Rattle.kp_vlog.specs.Canon.{wire, wire_name}
 use Rattle.kp_vlog.specs.Scope.{Scope, scope_of, Sized, Sizes, sizes_of, item_sizes, port_size, width_in, address_in, width_of, place_of, reg_names, file_names}
 use Rattle.kp_vlog.specs.Denote.{node_of, source_of, kind_of, Made, with_item, made_by, output_of, start_of, next_of, word_init, words_of, port_of, regs_of, files_of, sample_of, parts_of, net_of}
-use Rattle.kp_vwrite_roundtrip.proofs.Distinct.{not_true, when_true, when_false, apart, tag, tag_reg, tag_file, tag_sample, tag_wire, place_at, wires_to, wire_place}
+use Rattle.kp_vlog.specs.declared.tree.{Range.Range, Named.Named, VPort.VPort, Right.Right, Item.Item, ResetList.ResetList, VModule.VModule}
+use Rattle.kp_vlog.specs.Canon.{wire, wire_name}
+use Rattle.kp_vlog.specs.declared.tree.Right.TheVariants as sides
+use Rattle.kp_vlog.specs.declared.tree.Item.TheVariants as lines
 use Rattle.kp_vwrite_roundtrip.proofs.Sentence.{IsShown, named_at, number_at, range_at, port_at, out_at, ShowsNames, no_name, a_name, ShowsRight, a_const, an_ext, a_sample, a_reg, a_word, a_not, a_binary, a_mux, a_concat, a_slice, ShowsSamples, no_sample, one_sample, ShowsRegs, no_reg_line, reg_line, ShowsFiles, no_file_line, file_line, ShowsInteger, no_integer, an_integer, ShowsNodes, no_node_line, node_line, ShowsReset, no_reset_shown, reset_shown}
-use Rattle.kp_vwrite_roundtrip.proofs.Written.{RightFrom, all_right}
 use Rattle.kp_vwrite_roundtrip.proofs.SameNet.{words_are, starts_skipped, starts_are, nexts_are, updates_skipped, ported, ports_are, found, width_found, address_found, found_past, sizes_append, sized, samples_past, regs_past, files_past, integer_past, files_sized, WidthsAre, nodes_sized}
-use Rattle.std.proofs.lemmas.List.Elements.{All-weaker}
+use Rattle.kp_vwrite_roundtrip.proofs.Distinct.{not_true, when_true, when_false, apart, tag, tag_reg, tag_file, tag_sample, tag_wire, place_at, wires_to, wire_place}
+use Rattle.kp_vwrite_roundtrip.proofs.Written.{RightFrom, all_right}
 
 -- Look-ups skip lines about other parts.
 

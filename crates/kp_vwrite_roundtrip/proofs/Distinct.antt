@@ -1,12 +1,9 @@
 -- Which names are equal.
 use Rattle.std.proofs.Common.{◌≡◌, ◌∙◌, ℕ, zero, suc, ◌+◌, ◌≤◌, ◌<◌, List, [], ◌∷◌, ◌++◌, length, get_or, map, Bool, true, false, cond, refl, sym, ap, subst, arith, eq-eqb, length-append, inl, inr}
+use Rattle.std.proofs.lemmas.{Bool.eqb-true, Bool.false≢true, Bool.cases_lt, Fmt.decimal_injective, List.Elements.All-nil, List.Elements.All-cons}
 use Rattle.std.specs.Prelude.{decimal, All, ◌==◌, ◌&&◌, ◌||◌, if◌then◌else◌}
-use Rattle.std.proofs.lemmas.Bool.{eqb-true, false≢true, cases_lt}
-use Rattle.std.proofs.lemmas.Fmt.{decimal_injective}
-use Rattle.std.proofs.lemmas.List.Elements.{All-nil, All-cons}
 use Rattle.kp_net.specs.Names.{same, among, Differ, is_reg_name, is_file_name, is_sample_name}
-use Rattle.kp_vlog.specs.Scope.{place_of}
-use Rattle.kp_vlog.specs.Canon.{wire_name}
+use Rattle.kp_vlog.specs.{Scope.place_of, Canon.wire_name}
 use Rattle.kp_vwrite_roundtrip.proofs.Runs.{IsDigit, d0, d1, d2, d3, d4, d5, d6, d7, d8, d9, decimal_led}
 
 pub when_true : {X : Type 0} (p : Bool) (x y : X) → p ≡ true → cond p x y ≡ x

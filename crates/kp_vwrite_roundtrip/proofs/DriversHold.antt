@@ -1,42 +1,21 @@
 -- A module that represents a netlist violates no rule of drivers.
-use Rattle.std.proofs.Common.{◌≡◌, ◌∙◌, ℕ, suc, ◌+◌, ◌-◌, ◌≤◌, ◌<◌, List, [], ◌∷◌, ◌++◌, length, get_or, map, Bool, true, false, Option, Some, None, refl, sym, ap, subst, arith, append_assoc, inl, inr}
-use Rattle.std.specs.Prelude.{codes, All, ◌==◌, ◌||◌, not}
-use Rattle.std.specs.Option.{is_some}
-use Rattle.std.proofs.lemmas.Bool.{cases_lt}
-use Rattle.std.proofs.lemmas.List.Elements.{All-nil, All-cons, All-head, All-tail}
-use Rattle.kp_net.specs.declared.node.NodeId.{NodeId}
-use Rattle.kp_net.specs.declared.node.Kind.{Kind}
-use Rattle.kp_net.specs.declared.node.Node.{Node}
-use Rattle.kp_net.specs.declared.netlist.Port.{Port}
-use Rattle.kp_net.specs.declared.netlist.NetReg.{NetReg}
-use Rattle.kp_net.specs.declared.netlist.NetFile.{NetFile}
-use Rattle.kp_net.specs.declared.netlist.Parts.{Parts}
-use Rattle.kp_net.specs.Names.{same, among, Differ, IsNamed}
-use Rattle.kp_net.specs.Netlist.{Net}
-use Rattle.kp_net.specs.Parts.{WriteOk, RegOk, FileOk, NetOk}
-use Rattle.kp_net.specs.Widths.{wide, KindOk}
-use Rattle.kp_vlog.specs.declared.tree.Named.{Named}
-use Rattle.kp_vlog.specs.declared.tree.ResetList.{ResetList}
-use Rattle.kp_vlog.specs.declared.tree.ResetValue.{ResetValue}
-use Rattle.kp_vlog.specs.declared.tree.VPort.{VPort}
-use Rattle.kp_vlog.specs.declared.tree.Right.{Right}
-use Rattle.kp_vlog.specs.declared.tree.Item.{Item}
-use Rattle.kp_vlog.specs.declared.tree.Init.{Init}
+use Rattle.std.proofs.Common.{◌≡◌, ◌∙◌, ℕ, suc, ◌+◌, ◌-◌, ◌≤◌, ◌<◌, List, [], ◌∷◌, ◌++◌, length, get_or, map, Bool, true, false, Option, Some, None, refl, sym, ap, subst, arith, append_assoc, inl, inr, eq-eqb}
+use Rattle.std.proofs.lemmas.{Bool.cases_lt, List.Elements.All-nil, List.Elements.All-cons, List.Elements.All-head, List.Elements.All-tail}
+use Rattle.std.specs.{Prelude.codes, Prelude.All, Prelude.◌==◌, Prelude.◌||◌, Prelude.not, Option.is_some}
+use Rattle.kp_net.specs.declared.{node.NodeId.NodeId, node.Kind.Kind, node.Node.Node, netlist.Port.Port, netlist.NetReg.NetReg, netlist.NetFile.NetFile}
+use Rattle.kp_net.specs.{declared.netlist.Parts.Parts, Names.same, Names.among, Names.Differ, Names.IsNamed, Netlist.Net}
+use Rattle.kp_net.specs.{Parts.WriteOk, Parts.RegOk, Parts.FileOk, Parts.NetOk, Widths.wide, Widths.KindOk}
+use Rattle.kp_vlog.specs.Occurrences.{Occurrence, occurs, declares_port, is_given, wires_used, right_names, items_names, inits_names, start_in, is_literal, values_names, reset_names, updates_names, samples_names, reset_port_names, wide_port_names, body_names, names}
+use Rattle.kp_vlog.specs.declared.tree.{Named.Named, ResetList.ResetList, ResetValue.ResetValue, VPort.VPort, Right.Right, Item.Item, Init.Init, Update.Update}
+use Rattle.kp_vlog.specs.{declared.tree.VModule.VModule, Canon.wire, Canon.wire_name}
+use Rattle.kp_vlog.specs.Rules.{Driven, nothing, drives, all_driven, items_given, inits_started, inits_filled, updates_updated, reset_values, driver_fits, bad_driver, module_driver}
 use Rattle.kp_vlog.specs.declared.tree.Init.TheVariants as starts
-use Rattle.kp_vlog.specs.declared.tree.Update.{Update}
-use Rattle.kp_vlog.specs.declared.tree.VModule.{VModule}
-use Rattle.kp_vlog.specs.Canon.{wire, wire_name}
 use Rattle.kp_vwrite_roundtrip.proofs.Sentence.{IsShown, named_at, ShowsNames, no_name, a_name, ShowsRight, a_const, an_ext, a_sample, a_reg, a_word, a_not, a_binary, a_mux, a_concat, a_slice, ShowsSamples, no_sample, one_sample, ShowsRegs, no_reg_line, reg_line, ShowsFiles, no_file_line, file_line, ShowsInteger, no_integer, an_integer, ShowsNodes, no_node_line, node_line, ShowsStarts, no_start, a_start, ShowsWords, no_words, zero_word, some_word, ShowsFills, no_fill, a_fill, ShowsUpdates, no_update, an_update, ShowsWrites, no_write, not_written, a_write, ShowsReset, no_reset_shown, reset_shown, ShowsValues, no_value, a_value}
 use Rattle.kp_vwrite_roundtrip.proofs.Written.{RightFrom, all_right}
-use Rattle.kp_vlog.specs.Occurrences.{Occurrence, occurs, declares_port, is_given, wires_used, right_names, items_names, inits_names, start_in, is_literal, values_names, reset_names, updates_names, samples_names, reset_port_names, wide_port_names, body_names, names}
 use Rattle.kp_vwrite_roundtrip.proofs.Distinct.{when_true, when_false, both, same_refl, wires_differ, apart_all, or_both_false, or_left, or_right}
-use Rattle.kp_vwrite_roundtrip.proofs.Denoted.{outs}
-use Rattle.kp_vlog.specs.Rules.{Driven, nothing, drives, all_driven, items_given, inits_started, inits_filled, updates_updated, reset_values, driver_fits, bad_driver, module_driver}
-use Rattle.kp_vwrite_roundtrip.proofs.NamesHold.{whole, AllNew, new_more, negated}
-use Rattle.kp_vwrite_roundtrip.proofs.Denoted.{past_regs, past_files, past_integer}
-use Rattle.kp_vwrite_roundtrip.proofs.Runs.{literal_for}
+use Rattle.kp_vwrite_roundtrip.proofs.Denoted.{outs, past_regs, past_files, past_integer}
+use Rattle.kp_vwrite_roundtrip.proofs.{NamesHold.whole, NamesHold.AllNew, NamesHold.new_more, NamesHold.negated, Runs.literal_for}
 use Rattle.kp_bits.specs.declared.literal.Literal.{Literal}
-use Rattle.std.proofs.Common.{eq-eqb}
 
 -- what is driven so far, part by part
 abbrev state : List (List ℕ) → List (List ℕ) → List (List ℕ) → List (List ℕ) → List (List ℕ) → List (List ℕ) → Driven

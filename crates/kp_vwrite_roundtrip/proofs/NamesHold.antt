@@ -1,40 +1,19 @@
 -- A module that represents a netlist violates no rule of names.
 use Rattle.std.proofs.Common.{◌≡◌, ◌∙◌, ℕ, suc, ◌+◌, ◌≤◌, ◌<◌, List, [], ◌∷◌, ◌++◌, length, get_or, map, Bool, true, false, Option, Some, None, refl, sym, ap, subst, arith, append_assoc, inl, inr}
-use Rattle.std.specs.Prelude.{codes, All, ◌==◌, ◌&&◌, ◌||◌, not}
-use Rattle.std.specs.Option.{is_some}
-use Rattle.std.proofs.lemmas.Bool.{false≢true, cases_lt}
-use Rattle.std.proofs.lemmas.List.Elements.{All-nil, All-cons, All-head, All-tail}
-use Rattle.kp_net.specs.declared.node.NodeId.{NodeId}
-use Rattle.kp_net.specs.declared.node.Kind.{Kind}
-use Rattle.kp_net.specs.declared.node.Node.{Node}
-use Rattle.kp_net.specs.declared.netlist.Port.{Port}
-use Rattle.kp_net.specs.declared.netlist.NetReg.{NetReg}
-use Rattle.kp_net.specs.declared.netlist.NetFile.{NetFile}
-use Rattle.std.specs.List.{list_all}
-use Rattle.kp_net.specs.Names.{same, among, Differ, IsNamed, is_reg_name, is_file_name, is_sample_name}
-use Rattle.kp_base.specs.Characters.{is_digit}
-use Rattle.kp_net.specs.Netlist.{Net}
+use Rattle.std.proofs.lemmas.{Bool.false≢true, Bool.cases_lt, List.Elements.All-nil, List.Elements.All-cons, List.Elements.All-head, List.Elements.All-tail}
+use Rattle.std.specs.{Prelude.codes, Prelude.All, Prelude.◌==◌, Prelude.◌&&◌, Prelude.◌||◌, Prelude.not, Prelude.decimal, Option.is_some, List.list_all}
+use Rattle.kp_net.specs.declared.{node.NodeId.NodeId, node.Kind.Kind, node.Node.Node, netlist.Port.Port, netlist.NetReg.NetReg, netlist.NetFile.NetFile}
+use Rattle.kp_net.specs.{Names.same, Names.among, Names.Differ, Names.IsNamed, Names.is_reg_name, Names.is_file_name, Names.is_sample_name, Netlist.Net}
 use Rattle.kp_net.specs.Parts.{no_port, no_reg, no_file, NodeIs, WriteOk, RegOk, FileOk, CellOk, NetOk}
 use Rattle.kp_net.specs.Widths.{wide, KindOk}
-use Rattle.kp_vlog.specs.declared.tree.Named.{Named}
-use Rattle.kp_vlog.specs.declared.tree.ResetList.{ResetList}
-use Rattle.kp_vlog.specs.declared.tree.ResetValue.{ResetValue}
-use Rattle.kp_vlog.specs.declared.tree.VPort.{VPort}
-use Rattle.kp_vlog.specs.declared.tree.Right.{Right}
-use Rattle.kp_vlog.specs.declared.tree.Item.{Item}
-use Rattle.kp_vlog.specs.declared.tree.Init.{Init}
-use Rattle.kp_vlog.specs.declared.tree.Update.{Update}
-use Rattle.kp_vlog.specs.declared.tree.VModule.{VModule}
-use Rattle.kp_vlog.specs.Canon.{wire, wire_name}
-use Rattle.kp_vwrite_roundtrip.proofs.Sentence.{IsShown, named_at, port_at, ShowsNames, no_name, a_name, ShowsRight, a_const, an_ext, a_sample, a_reg, a_word, a_not, a_binary, a_mux, a_concat, a_slice, ShowsSamples, no_sample, one_sample, ShowsRegs, no_reg_line, reg_line, ShowsFiles, no_file_line, file_line, ShowsInteger, no_integer, an_integer, ShowsNodes, no_node_line, node_line, ShowsStarts, no_start, a_start, ShowsWords, no_words, zero_word, some_word, ShowsFills, no_fill, a_fill, ShowsUpdates, no_update, an_update, ShowsWrites, no_write, not_written, a_write, ShowsReset, no_reset_shown, reset_shown, ShowsValues, no_value, a_value}
-use Rattle.kp_vwrite_roundtrip.proofs.Written.{RightFrom, all_right}
-use Rattle.kp_vlog.specs.Scope.{is_wire_name}
+use Rattle.kp_base.specs.Characters.{is_digit}
 use Rattle.kp_vlog.specs.Occurrences.{Occurrence, occurs, declares_port, uses_source, uses_port, is_given, wires_used, right_names, items_names, inits_names, values_names, reset_names, updates_names, samples_names, reset_port_names, wide_port_names, body_names, names}
+use Rattle.kp_vlog.specs.declared.tree.{Named.Named, ResetList.ResetList, ResetValue.ResetValue, VPort.VPort, Right.Right, Item.Item, Init.Init, Update.Update}
+use Rattle.kp_vlog.specs.{declared.tree.VModule.VModule, Canon.wire, Canon.wire_name, Scope.is_wire_name, Rules.name_fits, Rules.learns, Rules.bad_name}
+use Rattle.kp_vwrite_roundtrip.proofs.Sentence.{IsShown, named_at, port_at, ShowsNames, no_name, a_name, ShowsRight, a_const, an_ext, a_sample, a_reg, a_word, a_not, a_binary, a_mux, a_concat, a_slice, ShowsSamples, no_sample, one_sample, ShowsRegs, no_reg_line, reg_line, ShowsFiles, no_file_line, file_line, ShowsInteger, no_integer, an_integer, ShowsNodes, no_node_line, node_line, ShowsStarts, no_start, a_start, ShowsWords, no_words, zero_word, some_word, ShowsFills, no_fill, a_fill, ShowsUpdates, no_update, an_update, ShowsWrites, no_write, not_written, a_write, ShowsReset, no_reset_shown, reset_shown, ShowsValues, no_value, a_value}
 use Rattle.kp_vwrite_roundtrip.proofs.Distinct.{when_true, both, same_refl, apart, tag, tag_reg, tag_file, tag_sample, tag_wire, wires_differ, apart_all, or_both_false, or_left, or_right}
-use Rattle.kp_vwrite_roundtrip.proofs.Runs.{Each, Led, decimal_led, decimal_names}
+use Rattle.kp_vwrite_roundtrip.proofs.{Written.RightFrom, Written.all_right, Runs.Each, Runs.Led, Runs.decimal_led, Runs.decimal_names}
 use Rattle.kp_vwrite_roundtrip.proofs.Denoted.{outs, spelled}
-use Rattle.kp_vlog.specs.Rules.{name_fits, learns, bad_name}
-use Rattle.std.specs.Prelude.{decimal}
 
 -- The module, with what it represents.
 abbrev pub whole : {net : Net} {m : VModule} → IsShown net m → VModule

@@ -1,26 +1,12 @@
 -- The round trip.
 use Rattle.std.proofs.Common.{◌≡◌, ◌∙◌, ℕ, ◌+◌, List, [], ◌∷◌, Option, None, sym, ap, subst}
-use Rattle.kp_net.specs.declared.node.Kind.{Kind}
+use Rattle.kp_net.specs.{declared.node.Kind.Kind, declared.node.Node.Node, Names.IsNamed, Netlist.Net, Parts.NetOk, Widths.KindOk}
 use Rattle.kp_net.specs.declared.node.Kind.TheVariants as kinds
-use Rattle.kp_net.specs.declared.node.Node.{Node}
-use Rattle.kp_net.specs.Names.{IsNamed}
-use Rattle.kp_net.specs.Netlist.{Net}
-use Rattle.kp_net.specs.Parts.{NetOk}
-use Rattle.kp_net.specs.Widths.{KindOk}
-use Rattle.kp_vlog.specs.declared.tree.VModule.{VModule}
-use Rattle.kp_vlog.specs.Canon.{canon}
-use Rattle.kp_vlog.specs.Rules.{breaks, broken}
-use Rattle.kp_vlog.specs.Denote.{Denotes}
+use Rattle.kp_vlog.specs.{declared.tree.VModule.VModule, Canon.canon, Rules.breaks, Rules.broken, Denote.Denotes, Language.MODULE, Language.verilog}
 use Rattle.kp_grammar.specs.Grammar.{Derives, Nonterminal}
-use Rattle.kp_vlog.specs.Language.{MODULE, verilog}
-use Rattle.kp_vwrite_roundtrip.proofs.Lex.{placed}
-use Rattle.kp_vwrite_roundtrip.proofs.Words.{net_words}
-use Rattle.kp_vwrite_roundtrip.proofs.Written.{canon_says, RightFrom, all_right}
-use Rattle.kp_vwrite_roundtrip.proofs.Sentence.{IsShown, Sizes, AllSizes, sentence}
-use Rattle.kp_vwrite_roundtrip.proofs.NamesHold.{whole_is, names_hold}
-use Rattle.kp_vwrite_roundtrip.proofs.DriversHold.{drivers_hold}
-use Rattle.kp_vwrite_roundtrip.proofs.WidthsHold.{widths_hold}
-use Rattle.kp_vwrite_roundtrip.proofs.Denoted.{same_net}
+use Rattle.kp_vwrite_roundtrip.proofs.{Lex.placed, Words.net_words, Written.canon_says, Written.RightFrom, Written.all_right}
+use Rattle.kp_vwrite_roundtrip.proofs.{Sentence.IsShown, Sentence.Sizes, Sentence.AllSizes, Sentence.sentence, NamesHold.whole_is, NamesHold.names_hold}
+use Rattle.kp_vwrite_roundtrip.proofs.{DriversHold.drivers_hold, WidthsHold.widths_hold, Denoted.same_net}
 
 size_of : (net : Net) (m k : ℕ) (kind : Kind) → KindOk net.nodes m k kind → Sizes kind
 size_of net m k (kinds.Const v) ok = tt

@@ -1,25 +1,19 @@
 -- Runs of bytes that are written: decimal numbers, literals, names.
 use Rattle.std.proofs.Common.{◌≡◌, ◌∙◌, ℕ, zero, suc, ◌+◌, ◌*◌, ◌/◌, ◌%◌, ◌^◌, ◌≤◌, ◌<◌, List, [], ◌∷◌, ◌++◌, length, take, drop, map, Bool, true, false, cond, Some, None, refl, sym, ap, subst, arith, length-append, nat_lt, add-one}
-use Rattle.std.specs.Prelude.{codes, decimal, fold, ◌==◌, ◌&&◌}
-use Rattle.std.specs.List.{list_all}
-use Rattle.std.specs.Char.{digit_char}
-use Rattle.std.specs.Char as chars
+use Rattle.std.proofs.lemmas.{Fmt.decimal_by_steps, Fmt.length-decimal-le, Fmt.decimal-digits_of, Int.Digits.all_below_base_digits_of}
+use Rattle.std.proofs.lemmas.Bool.{agree_below_at, cond-true, cond-false, Decides.nat_tests}
+use Rattle.std.specs.{Prelude.codes, Prelude.decimal, Prelude.fold, Prelude.◌==◌, Prelude.◌&&◌, List.list_all, Char.digit_char}
 use Rattle.std.specs.Int.Digits.{digits_of, AllBelowBase}
-use Rattle.std.proofs.lemmas.Fmt.{decimal_by_steps, length-decimal-le, decimal-digits_of}
-use Rattle.std.proofs.lemmas.Int.Digits.{all_below_base_digits_of}
-use Rattle.std.proofs.lemmas.Bool.{agree_below_at, cond-true, cond-false}
-use Rattle.std.proofs.lemmas.Bool.Decides.{nat_tests}
+use Rattle.std.specs.Char as chars
 use Rattle.kp_bits.specs.Word as bits
 use Rattle.kp_bits.specs.Literals as read
 use Rattle.kp_bits.specs.Literals.{number_of, literal_of, numeral_next, numeral_value, number_within, is_number}
-use Rattle.kp_bits.specs.Spelling.{decimal_digits, hex_digits, quarters, spelling}
+use Rattle.kp_bits.specs.{Spelling.decimal_digits, Spelling.hex_digits, Spelling.quarters, Spelling.spelling, declared.literal.Literal.Literal}
 use Rattle.kp_bits.proofs.RoundTrips.{spelling_read}
-use Rattle.kp_bits.specs.declared.literal.Literal.{Literal}
 use Rattle.kp_net.specs.Names.{is_in_identifier}
-use Rattle.kp_base.specs.Characters.{is_digit}
-use Rattle.kp_vlog.specs.Words.{keyword_of}
+use Rattle.kp_base.specs.Characters.{is_digit, run_length}
 use Rattle.kp_vlog.specs.Tokens.{Word, name, number, literal, takes, broken, front, is_in_run, identifier, keyword_or_name, number_run, number_or_literal, literal_or_broken}
-use Rattle.kp_base.specs.Characters.{run_length}
+use Rattle.kp_vlog.specs.Words.{keyword_of}
 use Rattle.kp_vwrite_roundtrip.proofs.Lex.{Spells, spells_takes}
 
 -- a test is true of each byte

@@ -1,51 +1,27 @@
 -- The tokens of a netlist are a sentence, and it builds a module that represents the netlist.
 use Rattle.std.proofs.Common.{◌≡◌, ◌∙◌, ℕ, zero, suc, ◌+◌, ◌-◌, ◌^◌, ◌≤◌, List, [], ◌∷◌, ◌++◌, ◌⊎◌, inl, inr, length, get_or, Bool, true, false, cond, Option, Some, None, refl, sym, subst, arith, append_assoc, append-nil}
-use Rattle.std.specs.Prelude.{codes, ◌==◌}
 use Rattle.std.proofs.lemmas.Bool.{false≢true}
-use Rattle.kp_grammar.specs.Grammar.{Nonterminal, Action, stay}
+use Rattle.std.specs.Prelude.{codes, ◌==◌}
+use Rattle.kp_grammar.specs.{Grammar.Nonterminal, Grammar.Action, Grammar.stay, Machine.advance}
 use Rattle.kp_grammar.proofs.Steps.{Completes, CompletesFrom, went}
-use Rattle.kp_grammar.specs.Machine.{advance}
-use Rattle.kp_bits.specs.Word.{word}
-use Rattle.kp_bits.specs.declared.operator.BinOp.{BinOp}
-use Rattle.kp_net.specs.declared.node.NodeId.{NodeId}
-use Rattle.kp_net.specs.declared.node.Kind.{Kind}
+use Rattle.kp_bits.specs.{Word.word, declared.operator.BinOp.BinOp}
+use Rattle.kp_net.specs.declared.{node.NodeId.NodeId, node.Kind.Kind, node.Node.Node, netlist.Port.Port, netlist.WritePort.WritePort, netlist.NetReg.NetReg}
+use Rattle.kp_net.specs.{declared.netlist.NetFile.NetFile, declared.netlist.Parts.Parts, Netlist.Net, Parts.no_port, Parts.no_reg, Parts.no_file, Widths.wide}
 use Rattle.kp_net.specs.declared.node.Kind.TheVariants as kinds
-use Rattle.kp_net.specs.declared.node.Node.{Node}
-use Rattle.kp_net.specs.declared.netlist.Port.{Port}
-use Rattle.kp_net.specs.declared.netlist.WritePort.{WritePort}
-use Rattle.kp_net.specs.declared.netlist.NetReg.{NetReg}
-use Rattle.kp_net.specs.declared.netlist.NetFile.{NetFile}
-use Rattle.kp_net.specs.declared.netlist.Parts.{Parts}
-use Rattle.kp_net.specs.Netlist.{Net}
-use Rattle.kp_net.specs.Parts.{no_port, no_reg, no_file}
-use Rattle.kp_net.specs.Widths.{wide}
 use Rattle.kp_vlog.specs.declared.token.Keyword.TheVariants as keywords
 use Rattle.kp_vlog.specs.declared.token.Mark.TheVariants as marks
-use Rattle.kp_vlog.specs.declared.tree.Num.{Num}
-use Rattle.kp_vlog.specs.declared.tree.Lit.{Lit}
-use Rattle.kp_vlog.specs.declared.tree.Named.{Named}
-use Rattle.kp_vlog.specs.declared.tree.Range.{Range}
-use Rattle.kp_vlog.specs.declared.tree.VPort.{VPort}
-use Rattle.kp_vlog.specs.declared.tree.Right.{Right}
-use Rattle.kp_vlog.specs.declared.tree.Right.TheVariants as sides
-use Rattle.kp_vlog.specs.declared.tree.Item.{Item}
-use Rattle.kp_vlog.specs.declared.tree.Item.TheVariants as lines
-use Rattle.kp_vlog.specs.declared.tree.Fill.{Fill}
-use Rattle.kp_vlog.specs.declared.tree.Init.{Init}
-use Rattle.kp_vlog.specs.declared.tree.Init.TheVariants as starts
-use Rattle.kp_vlog.specs.declared.tree.ResetValue.{ResetValue}
-use Rattle.kp_vlog.specs.declared.tree.ResetList.{ResetList}
-use Rattle.kp_vlog.specs.declared.tree.Update.{Update}
-use Rattle.kp_vlog.specs.declared.tree.Update.TheVariants as edges
-use Rattle.kp_vlog.specs.declared.tree.VModule.{VModule}
-use Rattle.kp_vlog.specs.Tokens.{Word, Token, name, number, literal, keyword, mark}
 use Rattle.kp_vlog.specs.Language.{Value, Sym, Way, Step, make_concat, MODULE, SAMPLES, ITEMS, RIGHT, NAMES, INITS, BODY, VALUES, UPDATES, verilog}
-use Rattle.kp_vlog.specs.Language as lang
-use Rattle.kp_vlog.specs.inner.Follow.{tables}
+use Rattle.kp_vlog.specs.declared.tree.{Num.Num, Lit.Lit, Named.Named, Range.Range, VPort.VPort, Right.Right, Item.Item, Fill.Fill, Init.Init}
+use Rattle.kp_vlog.specs.declared.tree.{ResetValue.ResetValue, ResetList.ResetList, Update.Update, VModule.VModule}
+use Rattle.kp_vlog.specs.{Tokens.Word, Tokens.Token, Tokens.name, Tokens.number, Tokens.literal, Tokens.keyword, Tokens.mark, inner.Follow.tables}
 use Rattle.kp_vlog.specs.Canon.{wire, wire_name}
-use Rattle.kp_vwrite_roundtrip.proofs.Lex.{placed}
-use Rattle.kp_vwrite_roundtrip.proofs.Runs.{literal_for}
+use Rattle.kp_vlog.specs.declared.tree.Right.TheVariants as sides
+use Rattle.kp_vlog.specs.declared.tree.Item.TheVariants as lines
+use Rattle.kp_vlog.specs.declared.tree.Init.TheVariants as starts
+use Rattle.kp_vlog.specs.declared.tree.Update.TheVariants as edges
+use Rattle.kp_vlog.specs.Language as lang
 use Rattle.kp_vwrite_roundtrip.proofs.Words.{port_words, reset_words, sample_words, outs_words, reg_words, file_words, integer_words, sign_mark, more_words, joined_words, right_words, node_words, out_words, start_words, content_words, fill_words, update_words, write_words, writes_words, value_words, body_words, w1, w2, w3, w4, w5, w6, w7, w8, net_words}
+use Rattle.kp_vwrite_roundtrip.proofs.{Lex.placed, Runs.literal_for}
 
 -- a supply of offsets further on
 abbrev pub shift : ℕ → (ℕ → ℕ) → ℕ → ℕ

@@ -1,53 +1,26 @@
 -- A module that represents a netlist violates no rule of widths.
-use Rattle.std.proofs.Common.{◌≡◌, ◌∙◌, ℕ, zero, suc, ◌+◌, ◌-◌, ◌^◌, ◌≤◌, ◌<◌, List, [], ◌∷◌, ◌++◌, length, get_or, map, Bool, true, false, Option, Some, None, refl, sym, ap, subst, arith}
-use Rattle.std.specs.Prelude.{codes, All, ◌==◌, ◌||◌}
-use Rattle.std.specs.Option.{is_some}
+use Rattle.std.proofs.Common.{◌≡◌, ◌∙◌, ℕ, zero, suc, ◌+◌, ◌-◌, ◌^◌, ◌≤◌, ◌<◌, List, [], ◌∷◌, ◌++◌, length, get_or, map, Bool, true, false, Option, Some, None, refl, sym, ap, subst, arith, eq-eqb}
 use Rattle.std.proofs.lemmas.Bool.{eqb-true, false≢true, agree_below_at}
 use Rattle.std.proofs.lemmas.List.Elements.{All-nil, All-cons, All-head, All-tail}
-use Rattle.kp_bits.specs.Word.{word}
+use Rattle.std.proofs.{Math.Nat.pow-le-pow_right, lemmas.List.Sums.sum_by-cons, lemmas.Bool.Decides.nat_tests}
+use Rattle.std.specs.{Prelude.codes, Prelude.All, Prelude.◌==◌, Prelude.◌||◌, Prelude.nat_lt, Prelude.nat_le, Option.is_some, List.sum_by}
+use Rattle.kp_bits.specs.{Word.word, Word.IsWord, declared.operator.BinOp.BinOp}
 use Rattle.kp_bits.specs.Word as bits
-use Rattle.kp_net.specs.declared.node.NodeId.{NodeId}
-use Rattle.kp_net.specs.declared.node.Kind.{Kind}
-use Rattle.kp_net.specs.declared.node.Node.{Node}
-use Rattle.kp_net.specs.declared.netlist.Port.{Port}
-use Rattle.kp_net.specs.declared.netlist.NetReg.{NetReg}
-use Rattle.kp_net.specs.declared.netlist.NetFile.{NetFile}
-use Rattle.kp_net.specs.Names.{Differ, IsNamed, is_reg_name, is_sample_name}
-use Rattle.kp_net.specs.Netlist.{Net}
+use Rattle.kp_net.specs.declared.{node.NodeId.NodeId, node.Kind.Kind, node.Node.Node, netlist.Port.Port, netlist.NetReg.NetReg, netlist.NetFile.NetFile}
+use Rattle.kp_net.specs.{Names.Differ, Names.IsNamed, Names.is_reg_name, Names.is_sample_name, Netlist.Net}
 use Rattle.kp_net.specs.Parts.{no_port, no_reg, no_file, WriteOk, PortOk, RegOk, FileOk, CellOk, NetOk}
-use Rattle.kp_net.specs.Widths.{wide, no_node, KindOk}
-use Rattle.std.proofs.Math.Nat.{pow-le-pow_right}
-use Rattle.kp_vlog.specs.declared.tree.Named.{Named}
-use Rattle.kp_vlog.specs.declared.tree.ResetList.{ResetList}
-use Rattle.kp_vlog.specs.declared.tree.ResetValue.{ResetValue}
-use Rattle.kp_vlog.specs.declared.tree.VPort.{VPort}
-use Rattle.kp_vlog.specs.declared.tree.Right.{Right}
-use Rattle.kp_vlog.specs.declared.tree.Item.{Item}
-use Rattle.kp_vlog.specs.declared.tree.Init.{Init}
-use Rattle.kp_vlog.specs.declared.tree.Update.{Update}
-use Rattle.kp_vlog.specs.declared.tree.VModule.{VModule}
-use Rattle.kp_vlog.specs.Canon.{wire, wire_name}
+use Rattle.kp_net.specs.Widths.{wide, no_node, KindOk, BinaryOk}
+use Rattle.kp_vlog.specs.Rules.{want, range_fits, stall_fits, four_bits, words_fit, literal_fits, op_fits, width_sum, right_fits, right_answers, file_fits, items_answers, start_answers, loop_fits, inits_answers, reset_values, values_answers, updates_answers, ports_answers, header_answers, width_answers}
+use Rattle.kp_vlog.specs.declared.tree.{Named.Named, ResetList.ResetList, ResetValue.ResetValue, VPort.VPort, Right.Right, Item.Item, Init.Init, Update.Update}
+use Rattle.kp_vlog.specs.{declared.tree.VModule.VModule, Canon.wire, Canon.wire_name}
 use Rattle.kp_vlog.specs.Scope.{Scope, scope_of, Sized, Sizes, sizes_of, item_sizes, port_size, width_in, address_in, place_of, address_width}
 use Rattle.kp_vwrite_roundtrip.proofs.Sentence.{IsShown, named_at, number_at, range_at, fill_at, ShowsNames, no_name, a_name, ShowsRight, a_const, an_ext, a_sample, a_reg, a_word, a_not, a_binary, a_mux, a_concat, a_slice, ShowsSamples, no_sample, one_sample, ShowsRegs, no_reg_line, reg_line, ShowsFiles, no_file_line, file_line, ShowsInteger, no_integer, an_integer, ShowsNodes, no_node_line, node_line, ShowsStarts, no_start, a_start, ShowsWords, no_words, zero_word, some_word, ShowsFills, no_fill, a_fill, ShowsUpdates, no_update, an_update, ShowsWrites, no_write, not_written, a_write, ShowsReset, no_reset_shown, reset_shown, ShowsValues, no_value, a_value}
 use Rattle.kp_vwrite_roundtrip.proofs.Written.{RightFrom, all_right}
-use Rattle.kp_vwrite_roundtrip.proofs.Distinct.{not_true, when_true, both, same_refl, apart, tag_reg, tag_sample, apart_all}
-use Rattle.kp_vwrite_roundtrip.proofs.Denoted.{outs, spelled}
-use Rattle.std.specs.Prelude.{nat_lt, nat_le}
-use Rattle.std.specs.List.{sum_by}
-use Rattle.std.proofs.lemmas.List.Sums.{sum_by-cons}
-use Rattle.std.proofs.Common.{eq-eqb}
-use Rattle.std.proofs.lemmas.Bool.Decides.{nat_tests}
-use Rattle.kp_base.specs.First.{first}
-use Rattle.kp_bits.specs.declared.operator.BinOp.{BinOp}
-use Rattle.kp_bits.specs.Word.{IsWord}
-use Rattle.kp_net.specs.Widths.{BinaryOk}
-use Rattle.kp_vlog.specs.Scope.{width_in, address_in, Sizes}
-use Rattle.kp_vlog.specs.Rules.{want, range_fits, stall_fits, four_bits, words_fit, literal_fits, op_fits, width_sum, right_fits, right_answers, file_fits, items_answers, start_answers, loop_fits, inits_answers, reset_values, values_answers, updates_answers, ports_answers, header_answers, width_answers}
-use Rattle.kp_vwrite_roundtrip.proofs.Runs.{literal_for}
-use Rattle.kp_vwrite_roundtrip.proofs.NamesHold.{whole}
+use Rattle.kp_vwrite_roundtrip.proofs.Distinct.{not_true, when_true, both, same_refl, apart, tag_reg, tag_sample, apart_all, place_at}
+use Rattle.kp_vwrite_roundtrip.proofs.Denoted.{outs, spelled, widths_are, file_sizes, scoped, table_is, ports_past, kinds_of}
+use Rattle.kp_vwrite_roundtrip.proofs.{Runs.literal_for, NamesHold.whole}
 use Rattle.kp_vwrite_roundtrip.proofs.SameNet.{found, width_found, address_found, found_past, found_here, sized, WidthsAre, samples_past}
-use Rattle.kp_vwrite_roundtrip.proofs.Denoted.{widths_are, file_sizes, scoped, table_is, ports_past, kinds_of}
-use Rattle.kp_vwrite_roundtrip.proofs.Distinct.{place_at}
+use Rattle.kp_base.specs.First.{first}
 
 -- no check yields an offset
 abbrev Clean : List (Option ℕ) → Type 0

@@ -1,25 +1,13 @@
 -- The tokens of the canonical text, each part before others.
 use Rattle.std.specs.Prelude.{ℕ, ◌+◌, ◌-◌, ◌^◌, ◌==◌, if◌then◌else◌, Bool, true, false, List, [], ◌∷◌, get_or, codes, Option, Some, None}
-use Rattle.kp_bits.specs.Word.{word}
-use Rattle.kp_bits.specs.declared.operator.BinOp.{BinOp}
-use Rattle.kp_net.specs.declared.node.NodeId.{NodeId}
-use Rattle.kp_net.specs.declared.node.Kind.{Kind}
+use Rattle.kp_bits.specs.{Word.word, declared.operator.BinOp.BinOp}
+use Rattle.kp_net.specs.declared.{node.NodeId.NodeId, node.Kind.Kind, node.Node.Node, netlist.Port.Port, netlist.WritePort.WritePort, netlist.NetReg.NetReg}
+use Rattle.kp_net.specs.{declared.netlist.NetFile.NetFile, declared.netlist.Parts.Parts, Netlist.Net, Parts.no_port, Parts.no_reg, Parts.no_file, Widths.wide}
 use Rattle.kp_net.specs.declared.node.Kind.TheVariants as kinds
-use Rattle.kp_net.specs.declared.node.Node.{Node}
-use Rattle.kp_net.specs.declared.netlist.Port.{Port}
-use Rattle.kp_net.specs.declared.netlist.WritePort.{WritePort}
-use Rattle.kp_net.specs.declared.netlist.NetReg.{NetReg}
-use Rattle.kp_net.specs.declared.netlist.NetFile.{NetFile}
-use Rattle.kp_net.specs.declared.netlist.Parts.{Parts}
-use Rattle.kp_net.specs.Netlist.{Net}
-use Rattle.kp_net.specs.Parts.{no_port, no_reg, no_file}
-use Rattle.kp_net.specs.Widths.{wide}
-use Rattle.kp_vlog.specs.declared.token.Keyword.{Keyword}
+use Rattle.kp_vlog.specs.declared.token.{Keyword.Keyword, Mark.Mark}
+use Rattle.kp_vlog.specs.{Tokens.Word, Tokens.name, Tokens.number, Tokens.literal, Tokens.keyword, Tokens.mark, Canon.wire, Canon.wire_name}
 use Rattle.kp_vlog.specs.declared.token.Keyword.TheVariants as keywords
-use Rattle.kp_vlog.specs.declared.token.Mark.{Mark}
 use Rattle.kp_vlog.specs.declared.token.Mark.TheVariants as marks
-use Rattle.kp_vlog.specs.Tokens.{Word, name, number, literal, keyword, mark}
-use Rattle.kp_vlog.specs.Canon.{wire, wire_name}
 use Rattle.kp_vwrite_roundtrip.proofs.Runs.{literal_for}
 
 abbrev pub range_words : ℕ → List Word → List Word

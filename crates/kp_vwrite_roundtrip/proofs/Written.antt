@@ -1,32 +1,22 @@
 -- The canonical text has the tokens of the netlist.
 use Rattle.std.proofs.Common.{◌≡◌, ℕ, zero, suc, ◌+◌, ◌-◌, ◌≤◌, ◌<◌, ◌^◌, List, [], ◌∷◌, ◌++◌, length, Bool, true, false, cond, refl, sym, subst, arith, append_assoc, get_or}
+use Rattle.std.proofs.{lemmas.List.Elements.All-head, lemmas.List.Elements.All-tail, lemmas.List.Elements.All-get_or, Math.Nat.pow-le-pow_right}
 use Rattle.std.specs.Prelude.{codes, decimal, All, Option, Some, None, ◌==◌}
-use Rattle.std.proofs.lemmas.List.Elements.{All-head, All-tail, All-get_or}
-use Rattle.std.proofs.Math.Nat.{pow-le-pow_right}
-use Rattle.kp_bits.specs.Word.{word, IsWord}
-use Rattle.kp_bits.specs.Spelling.{spelling}
-use Rattle.kp_bits.specs.declared.operator.BinOp.{BinOp}
-use Rattle.kp_net.specs.declared.node.NodeId.{NodeId}
-use Rattle.kp_net.specs.declared.node.Kind.{Kind}
-use Rattle.kp_net.specs.declared.node.Kind.TheVariants as kinds
-use Rattle.kp_net.specs.declared.node.Node.{Node}
-use Rattle.kp_net.specs.declared.netlist.Port.{Port}
-use Rattle.kp_net.specs.declared.netlist.WritePort.{WritePort}
-use Rattle.kp_net.specs.declared.netlist.NetReg.{NetReg}
-use Rattle.kp_net.specs.declared.netlist.NetFile.{NetFile}
-use Rattle.kp_net.specs.declared.netlist.Parts.{Parts}
-use Rattle.kp_net.specs.Names.{IsNamed, is_reg_name, is_file_name, is_sample_name}
-use Rattle.kp_net.specs.Netlist.{Net}
+use Rattle.kp_bits.specs.{Word.word, Word.IsWord, Spelling.spelling, declared.operator.BinOp.BinOp}
+use Rattle.kp_net.specs.declared.{node.NodeId.NodeId, node.Kind.Kind, node.Node.Node, netlist.Port.Port, netlist.WritePort.WritePort, netlist.NetReg.NetReg}
+use Rattle.kp_net.specs.declared.netlist.{NetFile.NetFile, Parts.Parts}
+use Rattle.kp_net.specs.{Names.IsNamed, Names.is_reg_name, Names.is_file_name, Names.is_sample_name, Netlist.Net}
 use Rattle.kp_net.specs.Parts.{no_port, no_reg, no_file, NodeIs, WriteOk, PortOk, RegOk, FileOk, CellOk, NetOk}
 use Rattle.kp_net.specs.Widths.{wide, no_node, KindOk, NodeOk}
+use Rattle.kp_net.specs.declared.node.Kind.TheVariants as kinds
+use Rattle.kp_vlog.specs.Canon.{Pieces, wire, wire_name, sign, more_parts, joined, right_side, reset_port, sample_ports, out_ports, header, reg_lines, file_lines, integer_line, node_lines, out_line, start_lines, word_line, word_lines, fill_lines, update_lines, port_line, port_lines, change_lines, reset_lines, body_lines, canon}
 use Rattle.kp_vlog.specs.Tokens.{Word, name, number, literal, keyword, mark, front, takes}
 use Rattle.kp_vlog.specs.declared.token.Keyword.TheVariants as keywords
 use Rattle.kp_vlog.specs.declared.token.Mark.TheVariants as marks
-use Rattle.kp_vlog.specs.Canon.{Pieces, wire, wire_name, sign, more_parts, joined, right_side, reset_port, sample_ports, out_ports, header, reg_lines, file_lines, integer_line, node_lines, out_line, start_lines, word_line, word_lines, fill_lines, update_lines, port_line, port_lines, change_lines, reset_lines, body_lines, canon}
+use Rattle.kp_vwrite_roundtrip.proofs.Words.{port_words, reset_words, sample_words, outs_words, header_words, reg_words, file_words, integer_words, sign_mark, more_words, joined_words, right_words, node_words, out_words, start_words, content_word, content_words, fill_words, update_words, write_words, writes_words, change_words, value_words, body_words, w1, w2, w3, w4, w5, w6, w7, w8, net_words}
 use Rattle.kp_vwrite_roundtrip.proofs.Lex.{Spells, Says, ate, spells_nothing, spells_takes}
 use Rattle.kp_vwrite_roundtrip.proofs.Runs.{IsWritten, spells_number, spells_literal, spells_name, wire_written, literal_for}
 use Rattle.kp_vwrite_roundtrip.proofs.Named.{module_written, reg_written, file_written, sample_written, all_written}
-use Rattle.kp_vwrite_roundtrip.proofs.Words.{port_words, reset_words, sample_words, outs_words, header_words, reg_words, file_words, integer_words, sign_mark, more_words, joined_words, right_words, node_words, out_words, start_words, content_word, content_words, fill_words, update_words, write_words, writes_words, change_words, value_words, body_words, w1, w2, w3, w4, w5, w6, w7, w8, net_words}
 
 -- what the text requires of the parts, with names that can be written
 pub record Writable (net : Net) : Type 0 where

@@ -1,43 +1,27 @@
 -- A word changes in a cycle only where it is written, in the netlist and in a machine.
 use Rattle.std.proofs.Common.{◌≡◌, ◌≢◌, ◌∙◌, ℕ, zero, suc, ◌+◌, ◌<◌, ◌≤◌, ◌^◌, List, [], ◌∷◌, length, get_or, set, map, take, Bool, true, false, cond, eqb, ◌&&◌, Option, Some, None, refl, ap, sym, subst, arith}
-use Rattle.std.specs.Prelude.{nat_lt, is_some, if◌then◌else◌}
-use Rattle.std.specs.List.{zip}
 use Rattle.std.proofs.lemmas.Bool.{eqb-true, lt-ltb, le-ltb, ltb-true, ltb-false, both_ways}
 use Rattle.std.proofs.lemmas.List.{get_or-map, get_or-set_other, length-map}
+use Rattle.std.specs.{Prelude.nat_lt, Prelude.is_some, Prelude.if◌then◌else◌, List.zip}
 use Rattle.kp_base.specs.declared.row.Row as masks
-use Rattle.kp_ast.specs.declared.tree.Decl.{Decl}
+use Rattle.kp_ast.specs.declared.tree.{Decl.Decl, Job.Job, ResultDecl.ResultDecl}
 use Rattle.kp_ast.specs.declared.tree.Decl.TheVariants as decls
-use Rattle.kp_ast.specs.declared.tree.Job.{Job}
-use Rattle.kp_ast.specs.declared.tree.ResultDecl.{ResultDecl}
 use Rattle.kp_cycle.specs.Steps.{port_writes, written_in}
 use Rattle.kp_machine.specs.Machine.{machine_of, result_for, sequential, write_stage_of, is_enabled_by, address_by, enabled_of, address_in}
 use Rattle.kp_machine.specs.Slots.{Slot, targets_of, pipes_of, is_register, number_of, result_to}
-use Rattle.kp_net.specs.declared.node.Node.{Node}
-use Rattle.kp_net.specs.declared.netlist.NetFile.{NetFile}
-use Rattle.kp_net.specs.declared.netlist.WritePort.{WritePort}
-use Rattle.kp_net.specs.Nodes.{Cells, at, on}
+use Rattle.kp_net.specs.{declared.node.Node.Node, declared.netlist.NetFile.NetFile, declared.netlist.WritePort.WritePort, Nodes.Cells, Nodes.at, Nodes.on}
 use Rattle.kp_net.specs.Netlist.{Net, Input, State as NetState, start_of, cells_of, port_after, resets, regs_after, files_after, start_regs, state_after, last_of}
 use Rattle.kp_net.specs.Parts.{no_file}
 use Rattle.kp_net.proofs.Runs.{last_more}
-use Rattle.kp_pipeline.specs.Accepted.{Accepted}
-use Rattle.kp_pipeline.specs.Rows.{Row, bit, bits, one_if, passed}
-use Rattle.kp_pipeline.specs.Sequential.{before_stage, exec}
-use Rattle.kp_run.specs.Cycles.{input_at, inputs_to}
-use Rattle.kp_run.specs.Homes.{home_of}
-use Rattle.kp_sched.specs.Monitors.{Kept, HasSeen}
-use Rattle.kp_sched.specs.Rows.{bit_of, rows_seen}
-use Rattle.kp_sched.specs.Runs.{passes}
-use Rattle.kp_seq.specs.Running.{Running, HasWord, target}
-use Rattle.kp_seq.specs.Recorded.{Recorded, results_of, write_recorded, record_of}
-use Rattle.kp_synth_spec.specs.Naming.{register_of, file_of, value_shown}
-use Rattle.kp_synth_spec.specs.Shows.{IsOfJob}
+use Rattle.kp_pipeline.specs.{Accepted.Accepted, Rows.Row, Rows.bit, Rows.bits, Rows.one_if, Rows.passed, Sequential.before_stage, Sequential.exec}
+use Rattle.kp_run.specs.{Cycles.input_at, Cycles.inputs_to, Homes.home_of}
+use Rattle.kp_sched.specs.{Monitors.Kept, Monitors.HasSeen, Rows.bit_of, Rows.rows_seen, Runs.passes}
+use Rattle.kp_seq.specs.{Running.Running, Running.HasWord, Running.target, Recorded.Recorded, Recorded.results_of, Recorded.write_recorded, Recorded.record_of}
+use Rattle.kp_synth_spec.specs.{Naming.register_of, Naming.file_of, Naming.value_shown, Shows.IsOfJob}
 use Rattle.kp_watch.specs.declared.places.Place.TheVariants.{Register, File}
 use Rattle.kp_watch.specs.inner.Changes.{AreNoted, noted_at, last_write, no_record, record_by, wrote_by}
-use Rattle.kp_watch.specs.inner.Machines.{ran, HaveRun}
-use Rattle.kp_watch.specs.inner.Places.{place_in}
-use Rattle.kp_watch.specs.inner.Results.{result_number, result_in}
-use Rattle.kp_watch.proofs.Lanes.{next_is}
-use Rattle.kp_watch.proofs.Prefixes.{passed_next, passed_before}
+use Rattle.kp_watch.specs.inner.{Machines.ran, Machines.HaveRun, Places.place_in, Results.result_number, Results.result_in}
+use Rattle.kp_watch.proofs.{Lanes.next_is, Prefixes.passed_next, Prefixes.passed_before}
 
 -- ---- the netlist
 

@@ -1,29 +1,19 @@
 -- The machines in lockstep with a run, row by row.
 use Rattle.std.proofs.Common.{◌≡◌, ◌≢◌, ◌∙◌, ℕ, suc, ◌+◌, ◌<◌, ◌≤◌, List, [], ◌∷◌, ◌++◌, length, get_or, set, map, Bool, true, false, ◌&&◌, refl, ap, sym, subst, arith, length-set}
-use Rattle.std.specs.Prelude.{nat_lt, if◌then◌else◌}
-use Rattle.std.specs.List.{All}
-use Rattle.std.proofs.lemmas.Bool.{ltb-true, ltb-false, lt-ltb, le-ltb, both_ways}
-use Rattle.std.proofs.lemmas.List.{get_or-map, get_or-set_other}
-use Rattle.std.proofs.lemmas.List.Elements.{All-set, All-push}
-use Rattle.std.proofs.lemmas.Grind.{get_or-set_at}
+use Rattle.std.proofs.lemmas.{Bool.ltb-true, Bool.ltb-false, Bool.lt-ltb, Bool.le-ltb, Bool.both_ways, List.get_or-map, List.get_or-set_other}
+use Rattle.std.proofs.lemmas.{List.Elements.All-set, List.Elements.All-push, Grind.get_or-set_at}
+use Rattle.std.specs.{Prelude.nat_lt, Prelude.if◌then◌else◌, Prelude.is_some, List.All}
 use Rattle.kp_base.specs.declared.row.Row as masks
 use Rattle.kp_ast.specs.declared.tree.Job.{Job}
-use Rattle.kp_pipeline.specs.Accepted.{Accepted}
-use Rattle.kp_pipeline.specs.Rows.{Row, bit, bits, one_if, passed}
-use Rattle.kp_pipeline.specs.Sequential.{exec, seq}
-use Rattle.kp_machine.specs.Machine.{machine_of, sequential, state_of, result_for, write_stage_of}
-use Rattle.kp_machine.specs.Slots.{targets_of}
-use Rattle.kp_sched.specs.Rows.{bit_of, rows_seen}
-use Rattle.kp_sched.specs.Runs.{passes}
-use Rattle.kp_seq.specs.Running.{Running, state}
-use Rattle.kp_seq.specs.Recorded.{record_of}
-use Rattle.kp_stage.specs.Start.{start_of}
-use Rattle.kp_stage.specs.declared.start.Start.{Start}
+use Rattle.kp_pipeline.specs.{Accepted.Accepted, Rows.Row, Rows.bit, Rows.bits, Rows.one_if, Rows.passed, Sequential.exec, Sequential.seq}
+use Rattle.kp_machine.specs.{Machine.machine_of, Machine.sequential, Machine.state_of, Machine.result_for, Machine.write_stage_of, Slots.targets_of}
+use Rattle.kp_sched.specs.{Rows.bit_of, Rows.rows_seen, Runs.passes}
+use Rattle.kp_seq.specs.{Running.Running, Running.state, Recorded.record_of}
+use Rattle.kp_stage.specs.{Start.start_of, declared.start.Start.Start}
 use Rattle.kp_run.specs.Homes.{home_of, AreHomes}
 use Rattle.kp_run.proofs.Machines.{homes_within, default}
 use Rattle.kp_watch.specs.inner.Machines.{ran, IsHome, AreNeeded, HasRun, HaveRun, HaveRunFirst, due_by}
 use Rattle.kp_watch.proofs.Prefixes.{passed_next}
-use Rattle.std.specs.Prelude.{is_some}
 
 abbrev State : Type 0
 State = ℕ → ℕ → ℕ

@@ -1,26 +1,18 @@
 -- The register or file of a netlist that stores a target.
 use Rattle.std.proofs.Common.{◌≡◌, ◌∙◌, ℕ, zero, suc, ◌+◌, ◌<◌, ◌≤◌, ◌^◌, List, [], ◌∷◌, ◌++◌, map, length, get_or, Bool, true, false, drop, None, refl, ap, sym, subst, arith}
+use Rattle.std.proofs.lemmas.{Bool.eqb-true, List.get_or-map, List.length-map, List.drop_more, List.append_assoc}
 use Rattle.std.specs.Prelude.{◌==◌, if◌then◌else◌}
-use Rattle.std.proofs.lemmas.Bool.{eqb-true}
-use Rattle.std.proofs.lemmas.List.{get_or-map, length-map, drop_more, append_assoc}
 use Rattle.kp_base.specs.First.{first}
 use Rattle.kp_width.specs.Widths.{widths_of}
 use Rattle.kp_bits.specs.Word.{Word, word}
-use Rattle.kp_ast.specs.declared.tree.Decl.{Decl}
+use Rattle.kp_ast.specs.declared.tree.{Decl.Decl, Job.Job, Lit.Lit, Named.Named, Num.Num}
 use Rattle.kp_ast.specs.declared.tree.Decl.TheVariants as decls
-use Rattle.kp_ast.specs.declared.tree.Job.{Job}
-use Rattle.kp_ast.specs.declared.tree.Lit.{Lit}
-use Rattle.kp_ast.specs.declared.tree.Named.{Named}
-use Rattle.kp_ast.specs.declared.tree.Num.{Num}
 use Rattle.kp_machine.proofs.Widths.{Fine, job_fine}
 use Rattle.kp_machine.specs.Slots.{Slot, slot, targets_of, is_register}
-use Rattle.kp_net.specs.Netlist.{Net, State}
-use Rattle.kp_net.specs.Parts.{NetOk, no_reg, no_file}
+use Rattle.kp_net.specs.{Netlist.Net, Netlist.State, Parts.NetOk, Parts.no_reg, Parts.no_file}
 use Rattle.kp_seq.specs.Running.{HasWord, no_slot, target}
-use Rattle.kp_synth_spec.specs.Naming.{register_of, file_of, value_shown}
-use Rattle.kp_synth_spec.specs.Shows.{IsOfJob}
-use Rattle.kp_watch.specs.declared.places.Place.{Place}
-use Rattle.kp_watch.specs.declared.places.Place.TheVariants.{Register, File}
+use Rattle.kp_synth_spec.specs.{Naming.register_of, Naming.file_of, Naming.value_shown, Shows.IsOfJob}
+use Rattle.kp_watch.specs.declared.places.Place.{Place, TheVariants.Register, TheVariants.File}
 use Rattle.kp_watch.specs.inner.Places.{place_in, places_in, words_at}
 
 -- ---- the addresses of a file

@@ -1,20 +1,15 @@
 -- The rows so far of a run are the first rows of all longer ones.
 use Rattle.std.proofs.Common.{◌≡◌, ◌∙◌, ℕ, zero, suc, ◌+◌, ◌<◌, ◌≤◌, List, [], ◌∷◌, ◌++◌, length, take, drop, get_or, Bool, true, false, refl, ap, sym, subst, arith}
+use Rattle.std.proofs.{Math.Seq.take-append_seam, lemmas.Bool.ltb-true, lemmas.Bool.ltb-false, lemmas.List.take_all, lemmas.List.take-append-le}
 use Rattle.std.specs.Prelude.{nat_lt, if◌then◌else◌}
-use Rattle.std.proofs.Math.Seq.{take-append_seam}
-use Rattle.std.proofs.lemmas.Bool.{ltb-true, ltb-false}
-use Rattle.std.proofs.lemmas.List.{take_all, take-append-le}
 use Rattle.kp_base.specs.declared.row.Row as masks
 use Rattle.kp_ast.specs.declared.tree.Job.{Job}
 use Rattle.kp_net.specs.Netlist.{Net, start_of, row_of, last_of, run}
 use Rattle.kp_net.proofs.Runs.{rows_more}
-use Rattle.kp_sched.specs.Monitors.{Kept, HasSeen}
-use Rattle.kp_sched.specs.Rows.{rows_seen}
+use Rattle.kp_sched.specs.{Monitors.Kept, Monitors.HasSeen, Rows.rows_seen}
 use Rattle.kp_seq.specs.Running.{Running}
 use Rattle.kp_run.specs.Cycles.{input_at, inputs_to}
-use Rattle.kp_watch.specs.declared.beside.Beside.{Beside}
-use Rattle.kp_watch.specs.declared.compare.Tables.{Tables}
-use Rattle.kp_watch.specs.inner.Beside.{HaveCome}
+use Rattle.kp_watch.specs.{declared.beside.Beside.Beside, declared.compare.Tables.Tables, inner.Beside.HaveCome}
 use Rattle.kp_watch.specs.inner.Machines.{given, ran, HasRun, HaveRun}
 use Rattle.kp_watch.proofs.Prefixes.{rows_many, passed_first}
 

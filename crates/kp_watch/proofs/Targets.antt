@@ -5,19 +5,12 @@ use Rattle.kp_ast.specs.declared.tree.Job.{Job}
 use Rattle.kp_machine.specs.Slots.{targets_of}
 use Rattle.kp_run.specs.Homes.{home_of}
 use Rattle.kp_run.proofs.Machines.{default}
-use Rattle.kp_seq.specs.Running.{Running, HasWord, state, target}
-use Rattle.kp_seq.specs.Recorded.{Recorded}
+use Rattle.kp_seq.specs.{Running.Running, Running.HasWord, Running.state, Running.target, Recorded.Recorded}
 use Rattle.kp_synth_spec.specs.Naming.{value_shown}
-use Rattle.kp_watch.specs.declared.beside.Beside.{Beside}
-use Rattle.kp_watch.specs.declared.compare.Tables.{Tables}
-use Rattle.kp_watch.specs.declared.places.Place.{Place}
-use Rattle.kp_watch.specs.declared.places.Place.TheVariants.{File}
-use Rattle.kp_watch.specs.inner.Changes.{IsComparable, noted_at, last_write, no_record, record_by}
-use Rattle.kp_watch.specs.inner.Machines.{due_by}
-use Rattle.kp_watch.specs.inner.Places.{place_in}
-use Rattle.kp_watch.specs.inner.Results.{result_in}
-use Rattle.kp_watch.proofs.Lanes.{machine_at}
-use Rattle.kp_watch.proofs.Placing.{place_at, file_there}
+use Rattle.kp_watch.specs.declared.{beside.Beside.Beside, compare.Tables.Tables, places.Place.Place, places.Place.TheVariants.File}
+use Rattle.kp_watch.specs.inner.{Changes.IsComparable, Changes.noted_at, Changes.last_write, Changes.no_record, Changes.record_by, Machines.due_by}
+use Rattle.kp_watch.specs.inner.{Places.place_in, Results.result_in}
+use Rattle.kp_watch.proofs.{Lanes.machine_at, Placing.place_at, Placing.file_there}
 
 module _ (job : Job) (tables : Tables) (both : Beside) (t : ℕ) (comparable : IsComparable job tables both) (within : t < length (targets_of job.decls)) where
   abbrev machines : List Running

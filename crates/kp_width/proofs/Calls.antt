@@ -1,28 +1,21 @@
 -- The calls of the functions that are declared are found and keep widths: each function at arguments of its parameters' widths.
 use Rattle.std.proofs.Common.{◌≡◌, ◌∙◌, ℕ, suc, ◌+◌, List, [], ◌∷◌, ◌++◌, Option, Some, None, Bool, true, false, cond, not, length, fold, nat_eq, refl, ap, sym, subst, arith}
-use Rattle.std.specs.Prelude.{slice_get, is_some, unwrap_or}
-use Rattle.std.specs.Cmp.Lexicographic.{pointwise, bytes_decides}
 use Rattle.std.proofs.lemmas.Bool.{eq-eqb}
-use Rattle.kp_base.specs.Check.{ok, ◌>>=◌}
-use Rattle.kp_base.specs.Refusal.{e_rule}
-use Rattle.kp_bits.specs.Word.{Word}
+use Rattle.std.specs.{Prelude.slice_get, Prelude.is_some, Prelude.unwrap_or, Cmp.Lexicographic.pointwise, Cmp.Lexicographic.bytes_decides}
+use Rattle.kp_base.specs.{Check.ok, Check.◌>>=◌, Refusal.e_rule}
+use Rattle.kp_bits.specs.{Word.Word, Operators.no_word}
 use Rattle.kp_ast.specs.Expressions.{Env, Calls, eval, names_of, arguments_of, is_function, calls_after, calls_of, no_calls, value_of_call}
-use Rattle.kp_bits.specs.Operators.{no_word}
+use Rattle.kp_ast.specs.{Checked.Known, Checked.checked, Checked.checked_call, Checked.checked_calls_after, Checked.checked_calls_of, declared.tree.Param.Param}
+use Rattle.kp_ast.specs.declared.{tree.FuncDecl.FuncDecl, tree.Decl.Decl, widths.NameKind.NameKind}
 use Rattle.kp_ast.specs.Expressions as values
-use Rattle.kp_ast.specs.Checked.{Known, checked, checked_call, checked_calls_after, checked_calls_of}
-use Rattle.kp_ast.specs.declared.tree.Param.{Param}
-use Rattle.kp_ast.specs.declared.tree.FuncDecl.{FuncDecl}
-use Rattle.kp_ast.specs.declared.tree.Decl.{Decl}
 use Rattle.kp_ast.specs.declared.tree.Decl.TheVariants as decls
 use Rattle.kp_ast.specs.declared.widths.Scope.TheVariants as scopes
-use Rattle.kp_ast.specs.declared.widths.NameKind.{NameKind}
 use Rattle.kp_ast.specs.declared.widths.NameKind.TheVariants as kinds
 use Rattle.kp_width.specs.Names.{Sense, sense, Names, Scoped, nothing, look_up, or_else, find, fresh, is_callee, is_value_in, declared_local, with_text}
 use Rattle.kp_width.specs.Expressions.{params_of, params_in, part_of, width_at, value_of}
 use Rattle.kp_width.specs.Declarations.{declared, parameters_of, function_opened, function_of, declaration_of, declarations_of, functions_in}
-use Rattle.kp_width.proofs.Unbroken.{Unbroken, bind_unbroken, answer_unbroken}
-use Rattle.kp_width.proofs.Parts.{given_parts}
 use Rattle.kp_width.specs.Soundness.{HasWidth, FitFrom, AreArguments}
+use Rattle.kp_width.proofs.{Unbroken.Unbroken, Unbroken.bind_unbroken, Unbroken.answer_unbroken, Parts.given_parts}
 use Rattle.kp_width.proofs.Found.{Found, Meets, found, no_answer}
 
 by_test : {G : Type 0} (b : Bool) → (b ≡ true → G) → (b ≡ false → G) → G

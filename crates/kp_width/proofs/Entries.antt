@@ -2,23 +2,15 @@
 use Rattle.std.proofs.Common.{◌≡◌, ◌∙◌, ℕ, ◌+◌, List, [], ◌∷◌, ◌++◌, map, length, ap, sym}
 use Rattle.std.proofs.lemmas.List.{map-append, append_assoc, append-nil}
 use Rattle.std.specs.List.{flat_map}
-use Rattle.kp_ast.specs.declared.tree.Param.{Param}
-use Rattle.kp_ast.specs.declared.tree.Decl.{Decl}
+use Rattle.kp_ast.specs.declared.{tree.Param.Param, tree.Decl.Decl, tree.Stmt.Stmt, tree.StmtKind.StmtKind, tree.Block.Block, tree.Job.Job, widths.Scope.Scope}
 use Rattle.kp_ast.specs.declared.tree.Decl.TheVariants as decls
-use Rattle.kp_ast.specs.declared.tree.Stmt.{Stmt}
-use Rattle.kp_ast.specs.declared.tree.StmtKind.{StmtKind}
 use Rattle.kp_ast.specs.declared.tree.StmtKind.TheVariants as stmts
-use Rattle.kp_ast.specs.declared.tree.Block.{Block}
-use Rattle.kp_ast.specs.declared.tree.Job.{Job}
-use Rattle.kp_ast.specs.declared.widths.Scope.{Scope}
 use Rattle.kp_ast.specs.declared.widths.Scope.TheVariants as scopes
 use Rattle.kp_ast.specs.declared.widths.NameKind.TheVariants as kinds
-use Rattle.kp_width.specs.Names.{Sense, sense, Scoped, nothing, opened, with_entry, declared_local}
-use Rattle.kp_width.specs.Expressions.{width_of}
+use Rattle.kp_width.specs.{Names.Sense, Names.sense, Names.Scoped, Names.nothing, Names.opened, Names.with_entry, Names.declared_local, Expressions.width_of}
 use Rattle.kp_width.specs.Declarations.{width_or_zero, parameters_of, function_opened, declaration_of, declarations_of, functions_in}
 use Rattle.kp_width.specs.Statements.{read_of, statement_of, statements_of, blocks_of}
-use Rattle.kp_width.specs.TextOrder.{names_in_decl, names_in_stmt, names_in_block, declared_names}
-use Rattle.kp_width.specs.Widths.{widths_of}
+use Rattle.kp_width.specs.{TextOrder.names_in_decl, TextOrder.names_in_stmt, TextOrder.names_in_block, TextOrder.declared_names, Widths.widths_of}
 
 abbrev Named : Type 0
 Named = List (List ℕ)

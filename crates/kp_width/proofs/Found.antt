@@ -2,35 +2,25 @@
 -- operands of the required widths. A check of the names may be added: if no name in the expression fails it, only the
 -- names that pass need to be known.
 use Rattle.std.proofs.Common.{◌≡◌, ◌≤◌, ◌<◌, ◌+◌, ℕ, List, [], ◌∷◌, map, min, fold, Option, Some, None, Ok, Err, Bool, true, false, cond, ◌==◌, ◌&&◌, ◌||◌, refl, ap, sym, subst, ◌∙◌, arith}
-use Rattle.std.specs.Option.{option_map, option_and_then}
-use Rattle.std.specs.Result.{result_ok}
-use Rattle.std.proofs.lemmas.Bool.{cond_both, eq-eqb, le-leb, lt-ltb}
-use Rattle.std.proofs.lemmas.List.{length-map}
-use Rattle.kp_base.specs.First.{first}
-use Rattle.kp_base.specs.Check.{Check, Answer}
-use Rattle.kp_base.specs.declared.place.Place.{Place}
+use Rattle.std.proofs.lemmas.{Bool.cond_both, Bool.eq-eqb, Bool.le-leb, Bool.lt-ltb, List.length-map}
+use Rattle.std.specs.{Option.option_map, Option.option_and_then, Result.result_ok}
+use Rattle.kp_base.specs.{First.first, Check.Check, Check.Answer, declared.place.Place.Place}
 use Rattle.kp_bits.specs.Word.{Word, IsWord, not_of, concat_of}
-use Rattle.kp_bits.specs.declared.literal.LiteralFault.TheVariants.{TooBig, BadWidth}
-use Rattle.kp_bits.proofs.Words.{not_word, concat_word, slice_word, zext_word, sext_word}
-use Rattle.kp_ast.specs.declared.tree.Decl.{Decl}
-use Rattle.kp_ast.specs.declared.tree.Expr.{Expr}
-use Rattle.kp_ast.specs.declared.tree.ExprKind.TheOpen.{ExprKind-F, Expr-F}
-use Rattle.kp_ast.specs.declared.tree.ExprKind.TheOpen as level
-use Rattle.kp_ast.specs.declared.tree.ExprKind.TheFolds.{fold-Expr}
-use Rattle.kp_ast.specs.Expressions.{Env, eval}
-use Rattle.kp_ast.specs.Checked.{Known, checked, checked_kind, checked_level, all_there}
-use Rattle.kp_bits.specs.Operators.{is_shift}
-use Rattle.kp_bits.specs.Operators as operators
+use Rattle.kp_bits.specs.{declared.literal.LiteralFault.TheVariants.TooBig, declared.literal.LiteralFault.TheVariants.BadWidth, Operators.is_shift}
 use Rattle.kp_bits.specs.Checked.{where_so, checked_join, checked_joined, checked_binary, checked_mux, checked_slice, checked_zext, checked_sext}
+use Rattle.kp_bits.proofs.Words.{not_word, concat_word, slice_word, zext_word, sext_word}
+use Rattle.kp_ast.specs.declared.tree.{Decl.Decl, Expr.Expr, ExprKind.TheOpen.ExprKind-F, ExprKind.TheOpen.Expr-F, ExprKind.TheFolds.fold-Expr}
+use Rattle.kp_ast.specs.{Expressions.Env, Expressions.eval, Checked.Known, Checked.checked, Checked.checked_kind, Checked.checked_level, Checked.all_there}
+use Rattle.kp_ast.specs.declared.tree.Param.{Param}
+use Rattle.kp_ast.specs.declared.tree.ExprKind.TheOpen as level
+use Rattle.kp_bits.specs.Operators as operators
 use Rattle.kp_ast.proofs.Levels.{fold-Lit, fold-Name, fold-Not, fold-Binary, fold-Mux, fold-Concat, fold-Slice, fold-Zext, fold-Sext, fold-Call}
 use Rattle.kp_ast.proofs.Induction.{Every, induction}
 use Rattle.kp_width.specs.Names.{Sense, is_value_in, is_callee, Scoped, find}
 use Rattle.kp_width.specs.Expressions.{Part, is_test, params_of, part_of, width_of, sum_of, arguments_of}
-use Rattle.kp_ast.specs.declared.tree.Param.{Param}
-use Rattle.kp_width.proofs.Unbroken.{Unbroken, width-Lit, width-Not}
-use Rattle.kp_width.proofs.Parts.{lit_parts, name_parts, not_parts, binary_parts, mux_parts, concat_parts, sum_parts, sum_grows, slice_parts, zext_parts, sext_parts, argument_parts, call_parts}
 use Rattle.kp_width.specs.Soundness.{HasWidth, FitFrom, AreArguments}
-use Rattle.kp_width.proofs.Sound.{binary_width}
+use Rattle.kp_width.proofs.Parts.{lit_parts, name_parts, not_parts, binary_parts, mux_parts, concat_parts, sum_parts, sum_grows, slice_parts, zext_parts, sext_parts, argument_parts, call_parts}
+use Rattle.kp_width.proofs.{Unbroken.Unbroken, Unbroken.width-Lit, Unbroken.width-Not, Sound.binary_width}
 
 -- the first violation of a check of each name that is used as a value, from left to right
 abbrev pub name_kind : (List ℕ → Place → Answer) → ExprKind-F (Place → Answer) Answer → Place → Answer

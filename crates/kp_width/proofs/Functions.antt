@@ -1,6 +1,5 @@
 -- A job has no more functions than declarations.
-use Rattle.std.proofs.Common.{◌≤◌, length, List, [], ◌∷◌, arith}
-use Rattle.std.proofs.lemmas.List.Sums.{sum_by-cons}
+use Rattle.std.proofs.{Common.◌≤◌, Common.length, Common.List, Common.[], Common.◌∷◌, Common.arith, lemmas.List.Sums.sum_by-cons}
 use Rattle.std.specs.Prelude.{sum_by}
 use Rattle.kp_ast.specs.declared.tree.Decl.{Decl}
 use Rattle.kp_ast.specs.declared.tree.Decl.TheVariants as decls

@@ -1,23 +1,14 @@
 -- Consequences for the parts of an expression that violates no rule: they violate none either, and they have the
 -- widths that the operation requires. And its own width, from theirs.
 use Rattle.std.proofs.Common.{◌≡◌, ◌≤◌, ◌<◌, ◌+◌, ◌-◌, ◌^◌, ℕ, List, [], ◌∷◌, map, length, drop, min, is_some, not, Option, Some, None, Bool, true, false, ◌&&◌, ◌||◌, ◌==◌, eqb, ltb, leb, cond, refl, ap, subst, arith}
-use Rattle.std.proofs.lemmas.Bool.{and_parts}
-use Rattle.std.proofs.lemmas.List.{length-map}
-use Rattle.std.proofs.lemmas.Bool.Decides.{nat_tests}
-use Rattle.kp_base.specs.Check.{Check, ok, ◌>>=◌, wants}
-use Rattle.kp_base.specs.Refusal.{e_rule}
-use Rattle.kp_base.specs.declared.place.Place.{Place}
-use Rattle.kp_bits.specs.declared.literal.Literal.{Literal}
-use Rattle.kp_bits.specs.declared.operator.BinOp.{BinOp}
-use Rattle.kp_ast.specs.declared.tree.Num.{Num}
-use Rattle.kp_ast.specs.declared.tree.Param.{Param}
-use Rattle.kp_ast.specs.declared.tree.Decl.{Decl}
-use Rattle.kp_ast.specs.declared.tree.Expr.{Expr}
+use Rattle.std.proofs.lemmas.{Bool.and_parts, List.length-map, Bool.Decides.nat_tests}
+use Rattle.kp_base.specs.{Check.Check, Check.ok, Check.◌>>=◌, Check.wants, Refusal.e_rule, declared.place.Place.Place}
+use Rattle.kp_bits.specs.{declared.literal.Literal.Literal, declared.operator.BinOp.BinOp, Operators.is_shift}
+use Rattle.kp_ast.specs.declared.tree.{Num.Num, Param.Param, Decl.Decl, Expr.Expr}
 use Rattle.kp_ast.specs.declared.tree.ExprKind.TheVariants as leaf
 use Rattle.kp_ast.specs.declared.tree.ExprKind.TheViews as kind
-use Rattle.kp_width.specs.Names.{Sense, is_value_in, is_callee, Scoped, find, used, used_as, passed}
 use Rattle.kp_width.specs.Expressions.{Part, is_test, is_width, binary_of, choice_of, slice_of, extension_of, sum_of, concatenation_of, arguments_of, callee_of, called_of, params_of, part_of, width_of, width_at, value_of, is_declared}
-use Rattle.kp_bits.specs.Operators.{is_shift}
+use Rattle.kp_width.specs.Names.{Sense, is_value_in, is_callee, Scoped, find, used, used_as, passed}
 use Rattle.kp_width.proofs.Unbroken.{Unbroken, bind_unbroken, answer_unbroken, at, width-Lit, width-Name, width-Not, width-Binary, width-Mux, width-Concat, width-Slice, width-Zext, width-Sext, width-Call}
 
 -- a test of numbers that passes

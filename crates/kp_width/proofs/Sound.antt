@@ -1,24 +1,17 @@
 -- An expression that violates no rule preserves widths: if each name and each call has a word of its width, so has the expression.
 use Rattle.std.proofs.Common.{◌≡◌, ◌≤◌, ◌+◌, ℕ, List, [], ◌∷◌, map, min, fold, false, cond, ◌==◌, refl, ap, sym, subst, ◌∙◌, arith}
-use Rattle.std.proofs.lemmas.Bool.{cond_both}
-use Rattle.std.proofs.lemmas.List.{length-map}
+use Rattle.std.proofs.lemmas.{Bool.cond_both, List.length-map}
 use Rattle.kp_base.specs.Check.{Check}
-use Rattle.kp_bits.specs.Word.{Word, IsWord, mux_of, concat_of}
+use Rattle.kp_bits.specs.{Word.Word, Word.IsWord, Word.mux_of, Word.concat_of, declared.operator.BinOp.BinOp, Operators.is_shift}
 use Rattle.kp_bits.proofs.Words.{not_word, and_word, or_word, xor_word, add_word, sub_word, mul_word, eq_word, lt_word, shl_word, shr_word, concat_word, slice_word, zext_word, sext_word}
-use Rattle.kp_bits.specs.declared.operator.BinOp.{BinOp}
-use Rattle.kp_ast.specs.declared.tree.Param.{Param}
-use Rattle.kp_ast.specs.declared.tree.Decl.{Decl}
-use Rattle.kp_ast.specs.declared.tree.Expr.{Expr}
-use Rattle.kp_ast.specs.Expressions.{Env, eval}
+use Rattle.kp_ast.specs.{declared.tree.Param.Param, declared.tree.Decl.Decl, declared.tree.Expr.Expr, Expressions.Env, Expressions.eval}
 use Rattle.kp_ast.proofs.Levels.{fold-Lit, fold-Name, fold-Not, fold-Binary, fold-Mux, fold-Concat, fold-Slice, fold-Zext, fold-Sext, fold-Call}
 use Rattle.kp_ast.proofs.Induction.{Every, induction}
-use Rattle.kp_width.specs.Names.{Scoped}
-use Rattle.kp_width.specs.Soundness.{HasWidth, FitFrom, Suits}
+use Rattle.kp_width.specs.{Names.Scoped, Soundness.HasWidth, Soundness.FitFrom, Soundness.Suits}
 use Rattle.kp_width.specs.Expressions.{Part, is_test, params_of, part_of, width_of, sum_of, arguments_of}
-use Rattle.kp_bits.specs.Operators.{is_shift}
 use Rattle.kp_bits.specs.Operators as operators
-use Rattle.kp_width.proofs.Unbroken.{Unbroken, width-Lit, width-Not}
 use Rattle.kp_width.proofs.Parts.{lit_parts, name_parts, not_parts, binary_parts, mux_parts, concat_parts, sum_parts, sum_grows, slice_parts, zext_parts, sext_parts, argument_parts, call_parts}
+use Rattle.kp_width.proofs.Unbroken.{Unbroken, width-Lit, width-Not}
 
 by_both : (u v : ℕ) (x y : Word) → u ≡ v → x ≡ y → HasWidth v y → HasWidth u x
 by_both u v x y e f h = record { word = rw f h.word; width = rw (f, e) h.width }

@@ -1,20 +1,14 @@
 -- If a check violates no rule, no part of it violates one, and each rule holds; and the width of an expression of each form.
 use Rattle.std.proofs.Common.{◌≡◌, ℕ, List, [], ◌∷◌, ◌++◌, map, Option, Some, None, Bool, true, false, refl, ap}
-use Rattle.kp_base.specs.First.{first}
-use Rattle.kp_base.specs.Check.{Check, Answer, answer, ok, ◌>>=◌}
-use Rattle.kp_base.specs.declared.place.Place.{Place}
+use Rattle.kp_base.specs.{First.first, Check.Check, Check.Answer, Check.answer, Check.ok, Check.◌>>=◌, declared.place.Place.Place}
 use Rattle.kp_base.specs.declared.refusal.Refusal.{Refusal}
-use Rattle.kp_bits.specs.declared.literal.Literal.{Literal}
-use Rattle.kp_bits.specs.declared.operator.BinOp.{BinOp}
-use Rattle.kp_ast.specs.declared.tree.Num.{Num}
-use Rattle.kp_ast.specs.declared.tree.Decl.{Decl}
-use Rattle.kp_ast.specs.declared.tree.Expr.{Expr}
-use Rattle.kp_ast.specs.declared.tree.ExprKind.{ExprKind}
+use Rattle.kp_bits.specs.declared.{literal.Literal.Literal, operator.BinOp.BinOp}
+use Rattle.kp_ast.specs.declared.tree.{Num.Num, Decl.Decl, Expr.Expr, ExprKind.ExprKind}
 use Rattle.kp_ast.specs.declared.tree.ExprKind.TheVariants as leaf
 use Rattle.kp_ast.specs.declared.tree.ExprKind.TheViews as kind
 use Rattle.kp_ast.proofs.Levels.{fold-Lit, fold-Name, fold-Not, fold-Binary, fold-Mux, fold-Concat, fold-Slice, fold-Zext, fold-Sext, fold-Call}
-use Rattle.kp_width.specs.Names.{is_value_in, Scoped, used}
 use Rattle.kp_width.specs.Expressions.{Part, literal_of, binary_of, choice_of, slice_of, extension_of, sum_of, concatenation_of, call_of, width_of_kind, part_of_level, part_of, width_of}
+use Rattle.kp_width.specs.Names.{is_value_in, Scoped, used}
 
 abbrev pub Unbroken : {X : Type 0} → Check X → Type 0
 Unbroken c = first c.asked ≡ None

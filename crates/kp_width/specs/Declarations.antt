@@ -1,17 +1,10 @@
 -- Declarations: rules E5 to E14 on them, from left to right.
 use Rattle.std.specs.Prelude.{ℕ, ◌+◌, List, [], ◌∷◌, Option, Some, None, Bool, ◌&&◌, if◌then◌else◌, ◌==◌, nat_le, is_some}
-use Rattle.kp_base.specs.Check.{Check, ok, ◌>>=◌, wants}
-use Rattle.kp_base.specs.Refusal.{e_rule}
-use Rattle.kp_ast.specs.declared.tree.Num.{Num}
-use Rattle.kp_ast.specs.declared.tree.Lit.{Lit}
-use Rattle.kp_ast.specs.declared.tree.Named.{Named}
-use Rattle.kp_ast.specs.declared.tree.Param.{Param}
-use Rattle.kp_ast.specs.declared.tree.ResultDecl.{ResultDecl}
-use Rattle.kp_ast.specs.declared.tree.FuncDecl.{FuncDecl}
-use Rattle.kp_ast.specs.declared.tree.Decl.{Decl}
+use Rattle.kp_base.specs.{Check.Check, Check.ok, Check.◌>>=◌, Check.wants, Refusal.e_rule}
+use Rattle.kp_ast.specs.declared.tree.{Num.Num, Lit.Lit, Named.Named, Param.Param, ResultDecl.ResultDecl, FuncDecl.FuncDecl, Decl.Decl}
+use Rattle.kp_ast.specs.declared.widths.NameKind.{NameKind}
 use Rattle.kp_ast.specs.declared.tree.Decl.TheVariants as decls
 use Rattle.kp_ast.specs.declared.widths.Scope.TheVariants as scopes
-use Rattle.kp_ast.specs.declared.widths.NameKind.{NameKind}
 use Rattle.kp_ast.specs.declared.widths.NameKind.TheVariants as kinds
 use Rattle.kp_width.specs.Names.{Sense, sense, is_register, is_file, is_pipe, Checked, passed, Scoped, fresh, used, opened, with_entry, with_text, declared_text, declared_local}
 use Rattle.kp_width.specs.Expressions.{is_width, literal_of, part_of, value_of}

@@ -3,21 +3,12 @@
 -- The parts of an expression are checked from left to right, and an operator after its operands.
 use Rattle.std.specs.Prelude.{ℕ, ◌+◌, ◌-◌, ◌^◌, List, [], ◌∷◌, Option, Some, None, Bool, true, false, ◌&&◌, ◌||◌, not, if◌then◌else◌, ◌==◌, nat_lt, nat_le, is_some, min, length, drop, slice_get}
 use Rattle.std.specs.List.{list_any}
-use Rattle.kp_base.specs.Check.{Check, ok, ◌>>=◌, wants}
-use Rattle.kp_base.specs.Refusal.{e_rule}
-use Rattle.kp_base.specs.declared.place.Place.{Place}
-use Rattle.kp_bits.specs.declared.literal.Literal.{Literal}
-use Rattle.kp_ast.specs.Expressions.{is_function}
-use Rattle.kp_bits.specs.Operators.{is_shift}
-use Rattle.kp_bits.specs.declared.operator.BinOp.{BinOp}
-use Rattle.kp_ast.specs.declared.tree.Num.{Num}
-use Rattle.kp_ast.specs.declared.tree.Param.{Param}
-use Rattle.kp_ast.specs.declared.tree.Decl.{Decl}
+use Rattle.kp_base.specs.{Check.Check, Check.ok, Check.◌>>=◌, Check.wants, Refusal.e_rule, declared.place.Place.Place}
+use Rattle.kp_bits.specs.{declared.literal.Literal.Literal, Operators.is_shift, declared.operator.BinOp.BinOp}
+use Rattle.kp_ast.specs.{Expressions.is_function, declared.tree.Num.Num, declared.tree.Param.Param, declared.tree.Decl.Decl, declared.tree.Expr.Expr}
+use Rattle.kp_ast.specs.declared.tree.ExprKind.{TheOpen.ExprKind-F, TheOpen.Expr-F, TheFolds.fold-Expr}
 use Rattle.kp_ast.specs.declared.tree.Decl.TheVariants as decls
-use Rattle.kp_ast.specs.declared.tree.Expr.{Expr}
-use Rattle.kp_ast.specs.declared.tree.ExprKind.TheOpen.{ExprKind-F, Expr-F}
 use Rattle.kp_ast.specs.declared.tree.ExprKind.TheOpen as level
-use Rattle.kp_ast.specs.declared.tree.ExprKind.TheFolds.{fold-Expr}
 use Rattle.kp_width.specs.Names.{Sense, is_callee, is_value_in, Checked, passed, Scoped, find, used}
 
 -- an expression as a part of another: its position, and the check that computes its width

@@ -4,15 +4,10 @@
 -- parameter is in scope to the end of its function, and the name of a `read` or a `let` from the end of its statement
 -- to the end of its block.
 use Rattle.std.specs.Prelude.{ℕ, List, [], ◌∷◌, ◌++◌, Option, Some, None, Bool, true, false, is_some, not, nat_eq}
-use Rattle.std.specs.Map.{lookup}
-use Rattle.std.specs.Cmp.Lexicographic.{pointwise}
-use Rattle.kp_base.specs.Check.{Check, ok, wants}
-use Rattle.kp_base.specs.Refusal.{e_rule}
-use Rattle.kp_base.specs.declared.place.Place.{Place}
-use Rattle.kp_ast.specs.declared.widths.Entry.{Entry}
-use Rattle.kp_ast.specs.declared.widths.Scope.{Scope}
+use Rattle.std.specs.{Map.lookup, Cmp.Lexicographic.pointwise}
+use Rattle.kp_base.specs.{Check.Check, Check.ok, Check.wants, Refusal.e_rule, declared.place.Place.Place}
+use Rattle.kp_ast.specs.declared.widths.{Entry.Entry, Scope.Scope, NameKind.NameKind}
 use Rattle.kp_ast.specs.declared.widths.Scope.TheVariants as scopes
-use Rattle.kp_ast.specs.declared.widths.NameKind.{NameKind}
 use Rattle.kp_ast.specs.declared.widths.NameKind.TheVariants as kinds
 
 -- a check without a value: only whether a rule is violated

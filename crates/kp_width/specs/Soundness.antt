@@ -1,11 +1,8 @@
 -- What it means that an expression has its width.
 use Rattle.std.specs.Prelude.{◌≡◌, ℕ, ◌+◌, List, [], ◌∷◌, length, Some, true}
 use Rattle.kp_bits.specs.Word.{Word, IsWord}
-use Rattle.kp_ast.specs.declared.tree.Param.{Param}
-use Rattle.kp_ast.specs.declared.tree.Decl.{Decl}
-use Rattle.kp_ast.specs.Expressions.{Env}
-use Rattle.kp_width.specs.Names.{Sense, is_value_in, is_callee, Scoped, find}
-use Rattle.kp_width.specs.Expressions.{params_of, width_at}
+use Rattle.kp_ast.specs.{declared.tree.Param.Param, declared.tree.Decl.Decl, Expressions.Env}
+use Rattle.kp_width.specs.{Names.Sense, Names.is_value_in, Names.is_callee, Names.Scoped, Names.find, Expressions.params_of, Expressions.width_at}
 
 -- a word of this width
 pub record HasWidth (w : ℕ) (v : Word) : Type 0 where

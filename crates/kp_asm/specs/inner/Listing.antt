@@ -1,9 +1,7 @@
 -- The length of a line, and the number of instructions.
 use Rattle.std.specs.Prelude.{ℕ, ◌+◌, if◌then◌else◌, List, [], ◌∷◌, Bool, true, false, count_by}
-use Rattle.kp_asm.specs.Program.{is_line_end}
-use Rattle.kp_asm.specs.declared.item.Item.{Item}
+use Rattle.kp_asm.specs.{Program.is_line_end, declared.item.Item.Item, declared.token.Token.Token}
 use Rattle.kp_asm.specs.declared.item.Item.TheVariants as items
-use Rattle.kp_asm.specs.declared.token.Token.{Token}
 
 -- the number of tokens of the first line, with its end
 abbrev pub line_length : List Token → ℕ

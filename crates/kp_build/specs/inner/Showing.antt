@@ -1,12 +1,8 @@
 -- Nodes that have the values of expressions.
 use Rattle.std.specs.Prelude.{◌≡◌, ◌<◌, ◌-◌, ℕ, List, map, length, All, Option, Some, true, is_some}
-use Rattle.kp_bits.specs.declared.operator.BinOp.{BinOp}
-use Rattle.kp_ast.specs.declared.tree.Expr.{Expr}
-use Rattle.kp_ast.specs.Checked.{checked, all_there}
-use Rattle.kp_bits.specs.Word.{Word, word, not_of, mux_of, slice_of}
-use Rattle.kp_net.specs.declared.node.NodeId.{NodeId}
-use Rattle.kp_net.specs.Nodes.{Cells, word_at}
-use Rattle.kp_net.specs.Growth.{Held}
+use Rattle.kp_bits.specs.{declared.operator.BinOp.BinOp, Word.Word, Word.word, Word.not_of, Word.mux_of, Word.slice_of}
+use Rattle.kp_ast.specs.{declared.tree.Expr.Expr, Checked.checked, Checked.all_there}
+use Rattle.kp_net.specs.{declared.node.NodeId.NodeId, Nodes.Cells, Nodes.word_at, Growth.Held}
 use Rattle.kp_build.specs.Names.{Scope, known_at}
 
 -- the words of nodes

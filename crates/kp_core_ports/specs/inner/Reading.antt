@@ -1,9 +1,6 @@
 -- Lines that are read one by one.
 use Rattle.std.specs.Prelude.{◌≡◌, List, Option, Some, None, Result, Ok, Err, ⊤}
-use Rattle.kp_core_ports.specs.Ports.{with_line}
-use Rattle.kp_core_ports.specs.declared.port.Port.{Port}
-use Rattle.kp_core_ports.specs.declared.port.PortRefusal.{PortRefusal}
-use Rattle.kp_core_ports.specs.declared.port.PortsRefused.{PortsRefused}
+use Rattle.kp_core_ports.specs.{Ports.with_line, declared.port.Port.Port, declared.port.PortRefusal.PortRefusal, declared.port.PortsRefused.PortsRefused}
 use Rattle.kp_core_ports.specs.declared.port.PortsRefused.TheVariants.{Rule, NoMemory}
 
 -- what a call returns that reads a line, which may have no tokens

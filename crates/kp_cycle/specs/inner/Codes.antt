@@ -1,13 +1,10 @@
 -- What nodes compute, as plain numbers.
 use Rattle.std.specs.Prelude.{ℕ, ◌+◌, ◌-◌, ◌*◌, ◌/◌, ◌%◌, ◌^◌, ◌<◌, ◌==◌, if◌then◌else◌, nat_lt, bit_and, bit_or, bit_xor, List, [], ◌∷◌, get_or}
 use Rattle.kp_bits.specs.declared.operator.BinOp.{BinOp}
-use Rattle.kp_net.specs.declared.node.NodeId.{NodeId}
-use Rattle.kp_net.specs.declared.node.Kind.{Kind}
+use Rattle.kp_net.specs.{declared.node.NodeId.NodeId, declared.node.Kind.Kind, declared.node.Node.Node, Widths.wide}
 use Rattle.kp_net.specs.declared.node.Kind.TheVariants as kind
-use Rattle.kp_net.specs.declared.node.Node.{Node}
-use Rattle.kp_net.specs.Widths.{wide}
-use Rattle.kp_cycle.specs.declared.codes.Op.{Op}
 use Rattle.kp_cycle.specs.declared.codes.Op.TheVariants.{Not, And, Or, Xor, Add, Sub, Mul, Eq, Lt, Shl, Shr, Mux, Join, Join3, Slice, Plain}
+use Rattle.kp_cycle.specs.declared.codes.Op.{Op}
 
 -- the operation of a node
 abbrev pub binary_op : BinOp → NodeId → NodeId → ℕ → ℕ → Op

@@ -1,16 +1,8 @@
 -- How registers get their next values at the end of a cycle.
 use Rattle.std.specs.Prelude.{ℕ, ◌<◌, ◌≡◌, ◌⊎◌, ◌==◌, if◌then◌else◌, Bool, false, List, length, get_or}
-use Rattle.kp_net.specs.declared.node.NodeId.{NodeId}
-use Rattle.kp_net.specs.declared.node.Kind.{Kind}
-use Rattle.kp_net.specs.declared.node.Kind.TheVariants.{Reg, Mux}
-use Rattle.kp_net.specs.declared.node.Node.{Node}
-use Rattle.kp_net.specs.Netlist.{Net}
-use Rattle.kp_net.specs.Parts.{no_reg}
-use Rattle.kp_net.specs.Widths.{no_node}
-use Rattle.kp_cycle.specs.declared.latches.Held.{Held}
-use Rattle.kp_cycle.specs.declared.latches.Latch.{Latch}
-use Rattle.kp_cycle.specs.declared.latches.Latch.TheVariants.{Always, If}
-use Rattle.kp_cycle.specs.declared.latches.Moved.{Moved}
+use Rattle.kp_net.specs.declared.node.{NodeId.NodeId, Kind.Kind, Kind.TheVariants.Reg, Kind.TheVariants.Mux, Node.Node}
+use Rattle.kp_net.specs.{Netlist.Net, Parts.no_reg, Widths.no_node}
+use Rattle.kp_cycle.specs.declared.latches.{Held.Held, Latch.Latch, Latch.TheVariants.Always, Latch.TheVariants.If, Moved.Moved}
 
 -- whether a node of this kind is this register
 abbrev pub is_reg : Kind → ℕ → Bool

@@ -1,9 +1,6 @@
 -- What a memory lends.
-use Rattle.std.specs.Prelude.{ℕ, List, length}
-use Rattle.std.specs.List.{refill}
-use Rattle.std.specs.Borrow.{Lends, MutBor, Fml, Array, u64}
-use Rattle.kp_cycle.specs.inner.Storage.{Stored}
-use Rattle.kp_cycle.specs.contracts.memory.Memory.{the_row}
+use Rattle.std.specs.{Prelude.ℕ, Prelude.List, Prelude.length, List.refill, Borrow.Lends, Borrow.MutBor, Borrow.Fml, Borrow.Array, Borrow.u64}
+use Rattle.kp_cycle.specs.{inner.Storage.Stored, contracts.memory.Memory.the_row}
 
 -- the memory ends with the last values of the nodes, of which there are as many
 abbrev pub LendsNodes : MutBor Stored → MutBor (List ℕ) → Fml

@@ -1,18 +1,9 @@
 -- Which nodes are evaluated in a cycle, and in which order.
 use Rattle.std.specs.Prelude.{ℕ, ◌+◌, ◌<◌, ◌≤◌, ◌≡◌, ◌⊎◌, Bool, true, false, List, [], ◌∷◌, length, get_or, map, All, Option, None, Some}
-use Rattle.kp_net.specs.declared.node.NodeId.{NodeId}
-use Rattle.kp_net.specs.declared.node.Kind.{Kind}
+use Rattle.kp_net.specs.declared.node.{NodeId.NodeId, Kind.Kind}
 use Rattle.kp_net.specs.declared.node.Kind.TheVariants.{Const, Reg, Word, Not, Binary, Mux, Concat, Slice}
-use Rattle.kp_net.specs.declared.node.Node.{Node}
-use Rattle.kp_net.specs.declared.netlist.WritePort.{WritePort}
-use Rattle.kp_net.specs.Nodes.{at}
-use Rattle.kp_net.specs.Netlist.{Net, Input}
-use Rattle.kp_net.specs.Parts.{no_file}
-use Rattle.kp_net.specs.Widths.{no_node}
-use Rattle.kp_cycle.specs.declared.codes.Op.TheVariants.{Plain}
-use Rattle.kp_cycle.specs.declared.codes.Step.{Step}
-use Rattle.kp_cycle.specs.inner.Codes.{op_for}
-use Rattle.kp_cycle.specs.inner.Latches.{latch_for, OfLatch}
+use Rattle.kp_net.specs.{declared.node.Node.Node, declared.netlist.WritePort.WritePort, Nodes.at, Netlist.Net, Netlist.Input, Parts.no_file, Widths.no_node}
+use Rattle.kp_cycle.specs.{declared.codes.Op.TheVariants.Plain, declared.codes.Step.Step, inner.Codes.op_for, inner.Latches.latch_for, inner.Latches.OfLatch}
 use Rattle.kp_cycle.specs.inner.Storage.{Stored, FitsBelow, cells}
 
 -- the operands of a node

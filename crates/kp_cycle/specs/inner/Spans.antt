@@ -1,7 +1,6 @@
 -- Disjoint spans of a region.
 use Rattle.std.specs.Prelude.{ℕ, ◌+◌, ◌-◌, ◌^◌, ◌≡◌, ◌<◌, ◌≤◌, if◌then◌else◌, false, List, ◌∷◌, length, get_or, map, Option, None, Some}
-use Rattle.kp_region.specs.declared.span.Span.{Span}
-use Rattle.kp_region.specs.Words.{Words, IsSound, IsWithin, IsDisjoint, span_words}
+use Rattle.kp_region.specs.{declared.span.Span.Span, Words.Words, Words.IsSound, Words.IsWithin, Words.IsDisjoint, Words.span_words}
 use Rattle.kp_net.specs.Netlist.{State}
 use Rattle.kp_cycle.specs.declared.slots.Slot.{Slot}
 

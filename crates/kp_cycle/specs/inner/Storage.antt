@@ -1,12 +1,8 @@
 -- The contents of a simulator, and how they fit its netlist.
 use Rattle.std.specs.Prelude.{ℕ, ◌^◌, ◌<◌, ◌≡◌, ◌==◌, if◌then◌else◌, List, [], length, get_or, set, Option, None, Some}
 use Rattle.kp_bits.specs.Word.{Word, word}
-use Rattle.kp_net.specs.declared.node.Node.{Node}
-use Rattle.kp_net.specs.declared.netlist.WritePort.{WritePort}
-use Rattle.kp_net.specs.Widths.{wide}
-use Rattle.kp_net.specs.Nodes.{Cells}
-use Rattle.kp_net.specs.Netlist.{Net, Input, State, cells_of}
-use Rattle.kp_net.specs.Parts.{NetOk, no_reg, no_file}
+use Rattle.kp_net.specs.{declared.node.Node.Node, declared.netlist.WritePort.WritePort, Widths.wide, Nodes.Cells}
+use Rattle.kp_net.specs.{Netlist.Net, Netlist.Input, Netlist.State, Netlist.cells_of, Parts.NetOk, Parts.no_reg, Parts.no_file}
 
 -- the values of the nodes and of the registers, the words of the files, and the states in slots
 pub record Stored : Type 0 where

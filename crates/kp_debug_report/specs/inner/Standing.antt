@@ -1,9 +1,8 @@
 -- A session over a netlist of a job.
 use Rattle.std.specs.Prelude.{◌≡◌, ℕ, ◌+◌, ◌-◌, ◌<◌, ◌≤◌, true, false, length}
 use Rattle.kp_bits.specs.Word.{Word}
-use Rattle.kp_ast.specs.declared.tree.Decl.{Decl}
+use Rattle.kp_ast.specs.declared.tree.{Decl.Decl, Job.Job}
 use Rattle.kp_ast.specs.declared.tree.Decl.TheVariants as decls
-use Rattle.kp_ast.specs.declared.tree.Job.{Job}
 use Rattle.kp_pipeline.specs.Rows.{Trace}
 use Rattle.kp_machine.specs.Slots.{targets_of, is_register}
 use Rattle.kp_net.specs.Netlist.{Net}
@@ -11,8 +10,7 @@ use Rattle.kp_debug.specs.Sessions.{Debugged, state_there}
 use Rattle.kp_run.specs.Cycles.{inputs_to}
 use Rattle.kp_seq.specs.Running.{target}
 use Rattle.kp_tool_report.specs.States.{State}
-use Rattle.kp_synth_spec.specs.Naming.{register_of, file_of, value_shown}
-use Rattle.kp_synth_spec.specs.Shows.{IsOfJob, Shows}
+use Rattle.kp_synth_spec.specs.{Naming.register_of, Naming.file_of, Naming.value_shown, Shows.IsOfJob, Shows.Shows}
 use Rattle.kp_watch.specs.Watching.{own_trace}
 use Rattle.kp_debug_report.specs.Inspecting.{all_cycles, has_value, first_from}
 

@@ -1,16 +1,10 @@
 -- Nodes of two netlists in one table, and the number of each there.
 use Rattle.std.specs.Prelude.{ℕ, ◌+◌, ◌<◌, ◌≤◌, ◌≡◌, min, max, Bool, cond, List, length, map, get_or}
-use Rattle.kp_net.specs.declared.node.NodeId.{NodeId}
-use Rattle.kp_net.specs.declared.node.Kind.{Kind}
+use Rattle.kp_net.specs.declared.node.{NodeId.NodeId, Kind.Kind}
 use Rattle.kp_net.specs.declared.node.Kind.TheVariants.{Const, Ext, Sample, Reg, Word, Not, Binary, Mux, Concat, Slice}
-use Rattle.kp_net.specs.declared.node.Node.{Node}
-use Rattle.kp_net.specs.declared.netlist.Parts.{Parts}
-use Rattle.kp_net.specs.Netlist.{Net}
-use Rattle.kp_net.specs.Parts.{no_port, no_reg, no_file}
+use Rattle.kp_net.specs.{declared.node.Node.Node, declared.netlist.Parts.Parts, Netlist.Net, Parts.no_port, Parts.no_reg, Parts.no_file}
 use Rattle.kp_net.specs.Widths.{Distinct, no_node}
-use Rattle.kp_equiv_trees.specs.Alike.{commutes}
-use Rattle.kp_equiv_trees.specs.Classes.{place, no_class, class_in}
-use Rattle.kp_equiv_trees.specs.Named.{reg_names, file_names, sample_names}
+use Rattle.kp_equiv_trees.specs.{Alike.commutes, Classes.place, Classes.no_class, Classes.class_in, Named.reg_names, Named.file_names, Named.sample_names}
 
 -- the names of the first netlist's registers, files and sample ports
 pub record Known : Type 0 where

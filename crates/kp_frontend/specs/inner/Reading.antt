@@ -1,14 +1,10 @@
 -- The result of the call that reads the tree of a text.
 use Rattle.std.specs.Prelude.{◌≡◌, ◌<◌, ◌≤◌, ◌^◌, ℕ, List, length, sum_by, Result, Ok, Err, ⊤}
-use Rattle.kp_base.specs.declared.refusal.Refusal.{Refusal}
-use Rattle.kp_base.specs.declared.refusal.Refused.{Refused}
-use Rattle.kp_base.specs.declared.refusal.Refused.TheVariants.{Rule, NoMemory}
+use Rattle.kp_base.specs.declared.refusal.{Refusal.Refusal, Refused.Refused, Refused.TheVariants.Rule, Refused.TheVariants.NoMemory}
 use Rattle.kp_ast.specs.declared.tree.Job.{Job}
 use Rattle.kp_width.specs.Declarations.{functions_in}
-use Rattle.kp_lex.specs.Text.{HasOutcome}
-use Rattle.kp_lex.specs.declared.token.Lexed.{Lexed}
-use Rattle.kp_parse.specs.Sentence.{Breaks}
-use Rattle.kp_parse.specs.declared.job.Parsed.{Parsed}
+use Rattle.kp_lex.specs.{Text.HasOutcome, declared.token.Lexed.Lexed}
+use Rattle.kp_parse.specs.{Sentence.Breaks, declared.job.Parsed.Parsed}
 use Rattle.kp_frontend.specs.Judging.{IsSentenceOf, Describes, JudgesText}
 
 -- The numbers of declarations, functions and blocks fit in 32 bits.

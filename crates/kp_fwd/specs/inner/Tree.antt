@@ -1,9 +1,7 @@
 -- The meaning of a part of a tree over rows.
 use Rattle.std.specs.Prelude.{ℕ, ◌≡◌, Bool, true, if◌then◌else◌, List}
-use Rattle.kp_net.specs.Nodes.{Cells, at, on}
-use Rattle.kp_net.specs.Growth.{Held}
-use Rattle.kp_fwd.specs.declared.rows.Candidate.{Candidate}
-use Rattle.kp_fwd.specs.Forward.{first_of}
+use Rattle.kp_net.specs.{Nodes.Cells, Nodes.at, Nodes.on, Growth.Held}
+use Rattle.kp_fwd.specs.{declared.rows.Candidate.Candidate, Forward.first_of}
 
 -- In q this candidate replaces these rows of p: it hits if one of them does, and has the value of the first that hits.
 pub record StandsFor (p : Held) (rows : List Candidate) (q : Held) (r : Candidate) : Type 0 where

@@ -1,6 +1,5 @@
 -- The names that are given as bytes.
-use Rattle.std.specs.Prelude.{ℕ, List, Bool, ◌&&◌, nat_le, length}
-use Rattle.std.specs.List.{list_all}
+use Rattle.std.specs.{Prelude.ℕ, Prelude.List, Prelude.Bool, Prelude.◌&&◌, Prelude.nat_le, Prelude.length, List.list_all}
 use Rattle.kp_base.specs.Characters.{is_word}
 
 -- a test for names

@@ -1,5 +1,4 @@
-use Rattle.kp_grammar.proofs.Check.{decides}
-use Rattle.kp_grammar.proofs.Ends.{ends}
+use Rattle.kp_grammar.proofs.{Check.decides, Ends.ends}
 use Rattle.kp_grammar.proofs.the_machine_ends.Goals as goal
 
 pub returns : goal.returns

@@ -1,11 +1,8 @@
 -- Properties of declarations and entries that violate no rule: every number in the start state fits its destination.
-use Rattle.std.specs.Prelude.{◌≡◌, ℕ, ◌+◌, ◌^◌, ◌≤◌, List, length, true}
-use Rattle.std.specs.List.{All}
+use Rattle.std.specs.{Prelude.◌≡◌, Prelude.ℕ, Prelude.◌+◌, Prelude.◌^◌, Prelude.◌≤◌, Prelude.List, Prelude.length, Prelude.true, List.All}
 use Rattle.kp_bits.specs.Word.{IsWord, word}
-use Rattle.kp_ast.specs.Expressions.{is_same_name}
-use Rattle.kp_ast.specs.declared.tree.Decl.{Decl}
+use Rattle.kp_ast.specs.{Expressions.is_same_name, declared.tree.Decl.Decl, declared.tree.Image.Image}
 use Rattle.kp_ast.specs.declared.tree.Decl.TheVariants as decls
-use Rattle.kp_ast.specs.declared.tree.Image.{Image}
 use Rattle.kp_stage.specs.Start.{first_address, laid_over}
 
 -- a file has at most 65,536 words

@@ -1,18 +1,10 @@
 -- What is stored of the entries of the stalls and the inputs section.
 use Rattle.std.specs.Prelude.{◌≡◌, true, ℕ, ◌≤◌, List, [], ◌∷◌, Option, if◌then◌else◌, map}
 use Rattle.std.specs.List.{All}
-use Rattle.kp_ast.specs.Expressions.{is_same_name}
-use Rattle.kp_ast.specs.declared.tree.Num.{Num}
-use Rattle.kp_ast.specs.declared.tree.Decl.{Decl}
+use Rattle.kp_ast.specs.{Expressions.is_same_name, declared.tree.Num.Num, declared.tree.Decl.Decl, declared.tree.Stalls.Stalls, declared.tree.Inputs.Inputs}
 use Rattle.kp_ast.specs.declared.tree.Decl.TheVariants as decls
-use Rattle.kp_ast.specs.declared.tree.Stalls.{Stalls}
-use Rattle.kp_ast.specs.declared.tree.Inputs.{Inputs}
 use Rattle.kp_stage.specs.Start.{number_or}
-use Rattle.kp_image.specs.declared.cycles.Cycles.{Cycles}
-use Rattle.kp_image.specs.declared.stalls.Span.{Span}
-use Rattle.kp_image.specs.declared.inputs.Given.{Given}
-use Rattle.kp_image.specs.Spans.{Pattern}
-use Rattle.kp_image.specs.Feeds.{Fed, FitsFeed}
+use Rattle.kp_image.specs.{declared.cycles.Cycles.Cycles, declared.stalls.Span.Span, declared.inputs.Given.Given, Spans.Pattern, Feeds.Fed, Feeds.FitsFeed}
 
 -- the cycles of an entry, in steps of 1 if it specifies none
 abbrev pub cycles_of : Num → Num → Option Num → Cycles

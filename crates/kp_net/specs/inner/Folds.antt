@@ -1,18 +1,9 @@
 -- What may replace a requested node.
 use Rattle.std.specs.Prelude.{ℕ, ◌<◌, ◌≤◌, ◌≡◌, ◌&&◌, true, false, List, length, get_or}
-use Rattle.kp_bits.specs.Word.{IsWord, word}
+use Rattle.kp_bits.specs.{Word.IsWord, Word.word, declared.operator.BinOp.BinOp, Operators.binary_of}
 use Rattle.kp_bits.specs.Word as bits
-use Rattle.kp_bits.specs.declared.operator.BinOp.{BinOp}
-use Rattle.kp_bits.specs.Operators.{binary_of}
-use Rattle.kp_net.specs.declared.node.NodeId.{NodeId}
-use Rattle.kp_net.specs.declared.node.Kind.{Kind}
-use Rattle.kp_net.specs.declared.node.Kind.TheVariants.{Const}
-use Rattle.kp_net.specs.declared.node.Node.{Node}
-use Rattle.kp_net.specs.declared.fold.Folded.{Folded}
-use Rattle.kp_net.specs.declared.fold.Masking.{Masking}
-use Rattle.kp_net.specs.Nodes.{Cells, word_at, word_of_kind}
-use Rattle.kp_net.specs.Widths.{wide, no_node, is_cell}
-use Rattle.kp_net.specs.Depth.{depth_of, depth}
+use Rattle.kp_net.specs.declared.{node.NodeId.NodeId, node.Kind.Kind, node.Kind.TheVariants.Const, node.Node.Node, fold.Folded.Folded, fold.Masking.Masking}
+use Rattle.kp_net.specs.{Nodes.Cells, Nodes.word_at, Nodes.word_of_kind, Widths.wide, Widths.no_node, Widths.is_cell, Depth.depth_of, Depth.depth}
 use Rattle.kp_net.specs.Folding.{folds, is_plain, is_masking}
 
 -- node i has the word of an operation of k bits, and is no deeper

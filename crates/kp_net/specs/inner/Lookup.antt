@@ -1,7 +1,6 @@
 -- Which nodes a lookup has searched.
 use Rattle.std.specs.Prelude.{ℕ, ◌<◌, ◌≤◌, ◌≡◌, List, length, get_or}
-use Rattle.kp_net.specs.declared.node.Node.{Node}
-use Rattle.kp_net.specs.Widths.{no_node}
+use Rattle.kp_net.specs.{declared.node.Node.Node, Widths.no_node}
 
 -- none of the first m nodes is this one
 abbrev pub LacksBelow : List Node → Node → ℕ → Type 0

@@ -4,9 +4,8 @@ use Rattle.kp_bits.specs.declared.operator.BinOp.{BinOp}
 use Rattle.kp_bits.specs.declared.operator.BinOp.TheVariants as ops
 use Rattle.kp_lex.specs.declared.token.Mark.{Mark}
 use Rattle.kp_lex.specs.declared.token.Mark.TheVariants as marks
-use Rattle.kp_parse_grammar.specs.declared.level.Level.{Level}
+use Rattle.kp_parse_grammar.specs.{declared.level.Level.Level, Tokens.mark_class}
 use Rattle.kp_parse_grammar.specs.declared.level.Level.TheVariants as levels
-use Rattle.kp_parse_grammar.specs.Tokens.{mark_class}
 
 abbrev pub operators_of : Level → List (Mark × BinOp)
 operators_of levels.Or = (marks.Bar, ops.Or) ∷ []

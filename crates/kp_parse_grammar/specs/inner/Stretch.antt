@@ -1,10 +1,8 @@
 -- A part of an alternative that is read by a function of its own: some symbols, in order.
 use Rattle.std.specs.Prelude.{ℕ, ◌+◌, ◌≤◌, List, [], ◌∷◌, ◌++◌, length, drop}
-use Rattle.kp_grammar.specs.Grammar.{Nonterminal}
-use Rattle.kp_grammar.specs.Machine.{Outcome}
+use Rattle.kp_grammar.specs.{Grammar.Nonterminal, Machine.Outcome}
 use Rattle.kp_lex.specs.declared.token.Mark.TheVariants as marks
-use Rattle.kp_parse_grammar.specs.declared.fault.Fault.{Fault}
-use Rattle.kp_parse_grammar.specs.Tokens.{Lexeme}
+use Rattle.kp_parse_grammar.specs.{declared.fault.Fault.Fault, Tokens.Lexeme}
 use Rattle.kp_parse_grammar.specs.Language.{Sym, State, Value, at, counted, mark, NUM, EXPR, LOW}
 use Rattle.kp_parse_grammar.specs.Reading.{Goes, FaultIs}
 

@@ -1,8 +1,6 @@
 -- The target of a result that is named.
-use Rattle.std.specs.Prelude.{ℕ, List, [], ◌∷◌, Option, Some, None, Bool}
-use Rattle.std.specs.Option.{option_map}
-use Rattle.kp_ast.specs.declared.tree.Decl.{Decl}
-use Rattle.kp_ast.specs.declared.tree.ResultDecl.{ResultDecl}
+use Rattle.std.specs.{Prelude.ℕ, Prelude.List, Prelude.[], Prelude.◌∷◌, Prelude.Option, Prelude.Some, Prelude.None, Prelude.Bool, Option.option_map}
+use Rattle.kp_ast.specs.declared.tree.{Decl.Decl, ResultDecl.ResultDecl}
 use Rattle.kp_paths.specs.declared.sets.Placed.{Placed}
 use Rattle.kp_machine.specs.Slots.{number_of, result_named, targets_of}
 

@@ -1,14 +1,11 @@
 -- What a board stores after the rows of a run.
-use Rattle.std.specs.Prelude.{◌≡◌, ℕ, ◌<◌, List, length}
-use Rattle.std.specs.List.{All}
+use Rattle.std.specs.{Prelude.◌≡◌, Prelude.ℕ, Prelude.◌<◌, Prelude.List, Prelude.length, List.All}
 use Rattle.kp_base.specs.declared.row.Row.{Row}
 use Rattle.kp_ast.specs.declared.tree.Job.{Job}
 use Rattle.kp_machine.specs.Slots.{targets_of}
 use Rattle.kp_sched.specs.Rows.{rows_seen}
 use Rattle.kp_seq.specs.Running.{Running}
-use Rattle.kp_run.specs.Boards.{passes_behind, due_behind}
-use Rattle.kp_run.specs.Homes.{AreHomes, home_of}
-use Rattle.kp_run.specs.inner.Lanes.{lane_state, lane_passes}
+use Rattle.kp_run.specs.{Boards.passes_behind, Boards.due_behind, Homes.AreHomes, Homes.home_of, inner.Lanes.lane_state, inner.Lanes.lane_passes}
 
 -- one of the machines has the value of each target, and has executed the instructions that the target reflects
 pub record IsBoard (job : Job) (rows : List Row) (machines : List Running) (given : List ℕ) : Type 0 where

@@ -3,8 +3,7 @@ use Rattle.std.specs.Prelude.{◌≡◌, ℕ, zero, suc, ◌+◌, ◌<◌, ◌�
 use Rattle.std.specs.List.{All}
 use Rattle.kp_ast.specs.declared.tree.Job.{Job}
 use Rattle.kp_pipeline.specs.Rows.{Row, passed}
-use Rattle.kp_machine.specs.Machine.{sequential}
-use Rattle.kp_machine.specs.Slots.{targets_of}
+use Rattle.kp_machine.specs.{Machine.sequential, Slots.targets_of}
 use Rattle.kp_seq.specs.Running.{Running, state}
 
 -- the state of machine k

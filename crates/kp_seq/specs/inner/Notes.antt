@@ -2,19 +2,12 @@
 use Rattle.std.specs.Prelude.{ℕ, ◌+◌, ◌^◌, List, [], ◌∷◌, Option, None, Bool, ◌&&◌, nat_le, nat_lt, if◌then◌else◌, is_some, length, get_or, set, replicate, unwrap_or}
 use Rattle.std.specs.Option.{option_map}
 use Rattle.kp_bits.specs.Word.{Word}
-use Rattle.kp_ast.specs.declared.tree.ResultDecl.{ResultDecl}
-use Rattle.kp_ast.specs.declared.tree.Decl.{Decl}
+use Rattle.kp_ast.specs.declared.tree.{ResultDecl.ResultDecl, Decl.Decl, ReadStmt.ReadStmt, Stmt.Stmt, StmtKind.StmtKind, Block.Block}
 use Rattle.kp_ast.specs.declared.tree.Decl.TheVariants as decls
-use Rattle.kp_ast.specs.declared.tree.ReadStmt.{ReadStmt}
-use Rattle.kp_ast.specs.declared.tree.Stmt.{Stmt}
-use Rattle.kp_ast.specs.declared.tree.StmtKind.{StmtKind}
 use Rattle.kp_ast.specs.declared.tree.StmtKind.TheVariants as stmts
-use Rattle.kp_ast.specs.declared.tree.Block.{Block}
 use Rattle.kp_pipeline.specs.Sequential.{first_value}
 use Rattle.kp_machine.specs.Slots.{Slot, number_of, width_of}
-use Rattle.kp_seq.specs.declared.notes.Outlet.{Outlet}
-use Rattle.kp_seq.specs.Recorded.{Recorded, where_true}
-use Rattle.kp_seq.specs.inner.Tables.{Laid, pipe_number}
+use Rattle.kp_seq.specs.{declared.notes.Outlet.Outlet, Recorded.Recorded, Recorded.where_true, inner.Tables.Laid, inner.Tables.pipe_number}
 use Rattle.kp_seq.specs.inner.Steps.{Under, holds, address_in, is_enabled, address_by, after_stmt, entered, after_block}
 
 -- the results of a machine; the record of the reads and of the results of an instruction; the number of reads so far;

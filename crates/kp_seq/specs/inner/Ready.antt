@@ -2,19 +2,13 @@
 use Rattle.std.specs.Prelude.{◌≡◌, ℕ, ◌≤◌, List, [], ◌∷◌, None, length}
 use Rattle.kp_base.specs.First.{first}
 use Rattle.kp_bits.specs.Word.{Word}
-use Rattle.kp_ast.specs.declared.tree.Decl.{Decl}
+use Rattle.kp_ast.specs.declared.tree.{Decl.Decl, Job.Job}
 use Rattle.kp_ast.specs.declared.tree.Decl.TheVariants as decls
-use Rattle.kp_ast.specs.declared.tree.Job.{Job}
 use Rattle.kp_width.specs.Widths.{widths_of}
-use Rattle.kp_stage.specs.Counts.{summary_of}
-use Rattle.kp_stage.specs.Sizes.{size_of_job}
-use Rattle.kp_stage.specs.Stages.{broken_of}
+use Rattle.kp_stage.specs.{Counts.summary_of, Sizes.size_of_job, Stages.broken_of}
 use Rattle.kp_machine.specs.Slots.{targets_of, pipes_of, samples_of}
 use Rattle.kp_seq_plan.specs.Names.{keys_of}
-use Rattle.kp_seq.specs.inner.Tables.{Laid, ports_of}
-use Rattle.kp_seq.specs.inner.Fits.{FitSlots}
-use Rattle.kp_seq.specs.inner.Resolved.{Outline, Raw, Resolves}
-use Rattle.kp_seq.specs.inner.Steps.{Under}
+use Rattle.kp_seq.specs.inner.{Tables.Laid, Tables.ports_of, Fits.FitSlots, Resolved.Outline, Resolved.Raw, Resolved.Resolves, Steps.Under}
 use Rattle.kp_seq.specs.inner.Notes.{Noted, outlets_of}
 
 -- the tables of a job, in which each declared name has an index

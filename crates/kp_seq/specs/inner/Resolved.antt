@@ -2,32 +2,19 @@
 use Rattle.std.specs.Prelude.{◌≡◌, ◌≤◌, ◌+◌, ℕ, List, [], ◌∷◌, ◌++◌, take, drop, Option, Some, None, Bool, true, ◌==◌, if◌then◌else◌, length, map, sum_by, replicate, set, get_or, slice_index}
 use Rattle.std.specs.List.{position}
 use Rattle.kp_bits.specs.Word.{Word}
-use Rattle.kp_ast.specs.Expressions.{is_same_name}
-use Rattle.kp_ast.specs.Size.{size}
-use Rattle.kp_ast.specs.declared.tree.Expr.{Expr}
-use Rattle.kp_ast.specs.declared.tree.ReadStmt.{ReadStmt}
-use Rattle.kp_ast.specs.declared.tree.Stmt.{Stmt}
-use Rattle.kp_ast.specs.declared.tree.StmtKind.{StmtKind}
+use Rattle.kp_ast.specs.{Expressions.is_same_name, Size.size, declared.tree.Expr.Expr, declared.tree.ReadStmt.ReadStmt, declared.tree.Stmt.Stmt}
+use Rattle.kp_ast.specs.declared.tree.{StmtKind.StmtKind, Block.Block}
 use Rattle.kp_ast.specs.declared.tree.StmtKind.TheVariants as stmts
-use Rattle.kp_ast.specs.declared.tree.Block.{Block}
 use Rattle.kp_pipeline.specs.Sequential.{first_value}
 use Rattle.kp_stage.specs.Sizes.{size_of_option, size_of_kind, size_of_stmt}
 use Rattle.kp_machine.specs.Slots.{Slot}
-use Rattle.kp_seq_plan.specs.Codes.{value_of, space_of}
-use Rattle.kp_seq_plan.specs.Lowering.{Holds, AllSuit}
-use Rattle.kp_seq_plan.specs.declared.code.Code.{Code}
-use Rattle.kp_seq_plan.specs.declared.code.Typed.{Typed}
-use Rattle.kp_seq.specs.declared.program.Reading.{Reading}
-use Rattle.kp_seq.specs.declared.program.Step.{Step}
-use Rattle.kp_seq.specs.declared.program.Step.TheVariants as moves
-use Rattle.kp_seq.specs.declared.program.Made.{Made}
-use Rattle.kp_seq.specs.declared.tables.Port.{Port}
-use Rattle.kp_seq.specs.Running.{state_in}
-use Rattle.kp_seq.specs.inner.Fits.{FitSlots}
-use Rattle.kp_seq.specs.inner.Tables.{Laid}
+use Rattle.kp_seq_plan.specs.{Codes.value_of, Codes.space_of, Lowering.Holds, Lowering.AllSuit, declared.code.Code.Code, declared.code.Typed.Typed}
+use Rattle.kp_seq.specs.{declared.program.Reading.Reading, declared.program.Step.Step, declared.program.Made.Made, declared.tables.Port.Port, Running.state_in}
+use Rattle.kp_seq.specs.inner.{Fits.FitSlots, Tables.Laid}
 use Rattle.kp_seq.specs.inner.Steps.{Under, word_in, holds, address_in, value_read, after_stmt, after_stmts, written_from}
 use Rattle.kp_seq.specs.Recorded.{where_true}
 use Rattle.kp_seq.specs.inner.Notes.{Noted, narrow_address, begun_notes, with_read, with_marks, with_results, asked_in, note_stmt, note_stmts}
+use Rattle.kp_seq.specs.declared.program.Step.TheVariants as moves
 
 -- the indices of the names of the samples and of the pipes, and the steps of each stage
 pub record Outline : Type 0 where

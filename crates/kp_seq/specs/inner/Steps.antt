@@ -1,20 +1,12 @@
 -- One instruction, step by step, over lists.
 use Rattle.std.specs.Prelude.{ℕ, ◌+◌, ◌^◌, List, [], ◌∷◌, Option, Some, None, Bool, true, ◌&&◌, ◌==◌, nat_lt, nat_le, if◌then◌else◌, length, get_or, set, replicate, unwrap_or, slice_index}
 use Rattle.kp_bits.specs.Word.{Word, word}
-use Rattle.kp_ast.specs.Checked.{Known, checked, checked_calls_of}
-use Rattle.kp_ast.specs.declared.tree.Expr.{Expr}
-use Rattle.kp_ast.specs.declared.tree.ReadStmt.{ReadStmt}
-use Rattle.kp_ast.specs.declared.tree.ResultDecl.{ResultDecl}
-use Rattle.kp_ast.specs.declared.tree.Stmt.{Stmt}
-use Rattle.kp_ast.specs.declared.tree.StmtKind.{StmtKind}
+use Rattle.kp_ast.specs.{Checked.Known, Checked.checked, Checked.checked_calls_of, declared.tree.Expr.Expr, declared.tree.ReadStmt.ReadStmt}
+use Rattle.kp_ast.specs.declared.tree.{ResultDecl.ResultDecl, Stmt.Stmt, StmtKind.StmtKind, Block.Block}
 use Rattle.kp_ast.specs.declared.tree.StmtKind.TheVariants as stmts
-use Rattle.kp_ast.specs.declared.tree.Block.{Block}
 use Rattle.kp_pipeline.specs.Sequential.{first_value}
 use Rattle.kp_machine.specs.Slots.{Slot, number_of, width_of, result_named}
-use Rattle.kp_seq.specs.declared.tables.Port.{Port}
-use Rattle.kp_seq.specs.Running.{state_in}
-use Rattle.kp_seq.specs.inner.Names.{held, bound}
-use Rattle.kp_seq.specs.inner.Tables.{Laid}
+use Rattle.kp_seq.specs.{declared.tables.Port.Port, Running.state_in, inner.Names.held, inner.Names.bound, inner.Tables.Laid}
 
 -- an instruction in flight: the values of names, of pipes, and of results by their targets
 pub record Under : Type 0 where

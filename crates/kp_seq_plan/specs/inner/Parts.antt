@@ -1,17 +1,10 @@
 -- The codes of a plan's parts, and the codes that are built from them.
 use Rattle.std.specs.Prelude.{◌≡◌, ◌≤◌, ◌+◌, ◌-◌, ◌^◌, ℕ, length, List, [], ◌∷◌, map, sum_by, Option, Some, None}
 use Rattle.std.specs.Option.{option_and_then}
-use Rattle.kp_bits.specs.Word.{Word}
-use Rattle.kp_bits.specs.Checked.{checked_binary, checked_mux, checked_join, checked_joined}
-use Rattle.kp_bits.specs.declared.operator.BinOp.{BinOp}
+use Rattle.kp_bits.specs.{Word.Word, Checked.checked_binary, Checked.checked_mux, Checked.checked_join, Checked.checked_joined, declared.operator.BinOp.BinOp}
 use Rattle.kp_ast.specs.Checked.{all_there}
-use Rattle.kp_seq_plan.specs.declared.plan.Plan.{Plan}
-use Rattle.kp_seq_plan.specs.Plans.{Slots, meaning, space}
-use Rattle.kp_seq_plan.specs.declared.code.Code.{Code}
-use Rattle.kp_seq_plan.specs.declared.code.Typed.{Typed}
-use Rattle.kp_seq_plan.specs.declared.lowering.Args.{Args}
-use Rattle.kp_seq_plan.specs.Codes.{value_of, space_of}
-use Rattle.kp_seq_plan.specs.Lowering.{AllSuit, IsTyped, Gives}
+use Rattle.kp_seq_plan.specs.{declared.plan.Plan.Plan, Plans.Slots, Plans.meaning, Plans.space, declared.code.Code.Code, declared.code.Typed.Typed}
+use Rattle.kp_seq_plan.specs.{declared.lowering.Args.Args, Codes.value_of, Codes.space_of, Lowering.AllSuit, Lowering.IsTyped, Lowering.Gives}
 
 -- the codes and the widths of several plans
 abbrev pub AreTyped : List (Option ℕ) → List Plan → List Code → List (Option ℕ) → Type 0

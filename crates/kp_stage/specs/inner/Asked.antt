@@ -1,7 +1,6 @@
 -- Which rules are checked in blocks at all.
 use Rattle.std.specs.Prelude.{◌==◌, length, Bool, true, false, not}
-use Rattle.kp_stage.specs.declared.rules.Rule.{Rule}
-use Rattle.kp_stage.specs.inner.Tables.{Tables}
+use Rattle.kp_stage.specs.{declared.rules.Rule.Rule, inner.Tables.Tables}
 
 -- E22, E24 and E35 are checked only at declarations; E17, E25 and E34 concern pipes that are put, hints and samples
 abbrev pub asks_blocks : Tables → Rule → Bool

@@ -2,8 +2,7 @@ use Rattle.std.proofs.Common.{◌≡◌, drop}
 use Rattle.std.specs.List.{list_any}
 use Rattle.kp_net.specs.Netlist.{cells_of, stalled}
 use Rattle.kp_synth_tables.specs.Keys.{guesses_of}
-use Rattle.kp_stalls_guess.specs.Guessed.{is_other_guess}
-use Rattle.kp_stalls_guess.specs.inner.Held.{held_from}
+use Rattle.kp_stalls_guess.specs.{Guessed.is_other_guess, inner.Held.held_from}
 use Rattle.kp_stalls_guess.proofs.differs.Given as goal
 
 abbrev pub invariant-loop-g : goal.invariant-loop-g

@@ -7,9 +7,7 @@ use Rattle.kp_pipeline.specs.Trimming.{trimmed}
 use Rattle.kp_run.specs.Cycles.{inputs_to}
 use Rattle.kp_synth_registers.specs.Holding.{Holds, inputs_of}
 use Rattle.kp_synth_tables.specs.Keys.{is_alive}
-use Rattle.kp_stalls.specs.declared.cause.Cause.{Cause}
-use Rattle.kp_stalls.specs.declared.cause.Cause.TheVariants.{Squashed, Unsure}
-use Rattle.kp_stalls.specs.declared.cause.Line.{Line}
+use Rattle.kp_stalls.specs.declared.cause.{Cause.Cause, Cause.TheVariants.Squashed, Cause.TheVariants.Unsure, Line.Line}
 use Rattle.kp_stalls_run.specs.Runs.{state_at}
 
 -- whether a cause names a guess

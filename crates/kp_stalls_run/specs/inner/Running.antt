@@ -3,9 +3,7 @@ use Rattle.std.specs.Prelude.{ℕ, suc, ◌+◌, ◌-◌, ◌<◌, ◌≤◌, Li
 use Rattle.kp_base.specs.declared.row.Row as masks
 use Rattle.kp_pipeline.specs.Rows.{Row, counts}
 use Rattle.kp_sched.specs.Rows.{bit_of}
-use Rattle.kp_stalls.specs.declared.occupants.Stage.{Stage}
-use Rattle.kp_stalls.specs.declared.fate.Fate.{Fate}
-use Rattle.kp_stalls.specs.declared.fate.Fate.TheVariants.{Open}
+use Rattle.kp_stalls.specs.declared.{occupants.Stage.Stage, fate.Fate.Fate, fate.Fate.TheVariants.Open}
 
 -- The numbers of the instructions in the stages stay close together: in each cycle that of the last of n stages is the least, and more than the greatest,
 -- that of stage 0, less n; and it never becomes less.

@@ -1,9 +1,7 @@
 -- How many lines there are of each cause.
 use Rattle.std.specs.Prelude.{◌+◌, List, cond}
-use Rattle.kp_stalls.specs.declared.cause.Cause.{Cause}
-use Rattle.kp_stalls.specs.declared.cause.Line.{Line}
-use Rattle.kp_stalls_text.specs.declared.sums.Tally.{Tally}
-use Rattle.kp_stalls_text.specs.Text.{count_of, is_ahead, is_held, is_later, is_squash, is_value}
+use Rattle.kp_stalls.specs.declared.cause.{Cause.Cause, Line.Line}
+use Rattle.kp_stalls_text.specs.{declared.sums.Tally.Tally, Text.count_of, Text.is_ahead, Text.is_held, Text.is_later, Text.is_squash, Text.is_value}
 
 abbrev pub tally_of : List Line → Tally
 tally_of lines = record {

@@ -1,12 +1,8 @@
 -- The cells of the next cycle.
 use Rattle.std.specs.Prelude.{◌≡◌, ℕ, ◌<◌, ◌^◌, length, Option, false}
 use Rattle.kp_ast.specs.declared.tree.Job.{Job}
-use Rattle.kp_machine.specs.Slots.{targets_of, is_register}
-use Rattle.kp_machine.specs.Machine.{files_before}
-use Rattle.kp_net.specs.declared.node.NodeId.{NodeId}
-use Rattle.kp_net.specs.declared.netlist.WritePort.{WritePort}
-use Rattle.kp_net.specs.Nodes.{Cells, at}
-use Rattle.kp_net.specs.Growth.{Held}
+use Rattle.kp_machine.specs.{Slots.targets_of, Slots.is_register, Machine.files_before}
+use Rattle.kp_net.specs.{declared.node.NodeId.NodeId, declared.netlist.WritePort.WritePort, Nodes.Cells, Nodes.at, Growth.Held}
 use Rattle.kp_synth_tables.specs.Keys.{target_at, keys_of}
 use Rattle.kp_synth_close.specs.Nexts.{port_word}
 

@@ -1,8 +1,7 @@
 -- What the result of a target writes, without the address.
 use Rattle.std.specs.Prelude.{ℕ, Bool, true, ◌&&◌, ◌==◌, Option, Some, None, unwrap_or}
 use Rattle.kp_ast.specs.declared.tree.Job.{Job}
-use Rattle.kp_pipeline.specs.Sequential.{first_value}
-use Rattle.kp_pipeline.specs.Pipeline.{PipelineState, Inputs, ue, outcome}
+use Rattle.kp_pipeline.specs.{Sequential.first_value, Pipeline.PipelineState, Pipeline.Inputs, Pipeline.ue, Pipeline.outcome}
 use Rattle.kp_machine.specs.Machine.{machine_of}
 
 -- Stage w updates, and the result is enabled in it.

@@ -1,11 +1,8 @@
 -- The parts of a netlist, built from the nodes that close it.
 use Rattle.std.specs.Prelude.{◌≡◌, ℕ, ◌<◌, length, get_or, Option, true, false}
 use Rattle.kp_ast.specs.declared.tree.Job.{Job}
-use Rattle.kp_machine.specs.Slots.{targets_of, samples_of, is_register}
-use Rattle.kp_machine.specs.Machine.{files_before}
-use Rattle.kp_net.specs.declared.node.NodeId.{NodeId}
-use Rattle.kp_net.specs.declared.netlist.WritePort.{WritePort}
-use Rattle.kp_net.specs.declared.netlist.Parts.{Parts}
+use Rattle.kp_machine.specs.{Slots.targets_of, Slots.samples_of, Slots.is_register, Machine.files_before}
+use Rattle.kp_net.specs.declared.{node.NodeId.NodeId, netlist.WritePort.WritePort, netlist.Parts.Parts}
 use Rattle.kp_net.specs.Parts.{no_reg, no_file, no_port}
 use Rattle.kp_synth_tables.specs.Keys.{target_at, sample_at, keys_of, key_at, key_width}
 use Rattle.kp_synth_close.specs.declared.control.RowNodes.{RowNodes}

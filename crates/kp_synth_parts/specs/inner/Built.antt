@@ -1,26 +1,16 @@
 -- THE PARTS that are built from the next nodes, the write ports and the start state.
 use Rattle.std.specs.Prelude.{ℕ, suc, ◌+◌, ◌-◌, ◌<◌, ◌^◌, List, [], ◌∷◌, ◌++◌, length, drop, get_or, slice_index, All, Option, None, true, codes, decimal}
 use Rattle.kp_bits.specs.Word.{Word, word}
-use Rattle.kp_ast.specs.declared.tree.Decl.{Decl}
+use Rattle.kp_ast.specs.declared.tree.{Decl.Decl, Job.Job}
 use Rattle.kp_ast.specs.declared.tree.Decl.TheVariants as decls
-use Rattle.kp_ast.specs.declared.tree.Job.{Job}
 use Rattle.kp_stage.specs.declared.start.Start.{Start}
-use Rattle.kp_machine.specs.Slots.{hints_of}
-use Rattle.kp_machine.specs.Machine.{hint_starts}
-use Rattle.kp_net.specs.declared.node.NodeId.{NodeId}
-use Rattle.kp_net.specs.declared.netlist.Port.{Port}
-use Rattle.kp_net.specs.declared.netlist.WritePort.{WritePort}
-use Rattle.kp_net.specs.declared.netlist.NetReg.{NetReg}
-use Rattle.kp_net.specs.declared.netlist.NetFile.{NetFile}
-use Rattle.kp_net.specs.declared.netlist.Parts.{Parts}
-use Rattle.kp_net.specs.Growth.{Held}
-use Rattle.kp_net.specs.Netlist.{Net}
+use Rattle.kp_machine.specs.{Slots.hints_of, Machine.hint_starts}
+use Rattle.kp_net.specs.declared.{node.NodeId.NodeId, netlist.Port.Port, netlist.WritePort.WritePort, netlist.NetReg.NetReg, netlist.NetFile.NetFile}
+use Rattle.kp_net.specs.{declared.netlist.Parts.Parts, Growth.Held, Netlist.Net}
 use Rattle.kp_net.specs.Names.{IsSpelled, is_module_name, is_reg_name, is_file_name, is_sample_name}
-use Rattle.kp_synth_tables.specs.declared.key.Key.{Key}
-use Rattle.kp_synth_tables.specs.declared.key.Key.TheVariants.{Hint}
+use Rattle.kp_synth_tables.specs.declared.key.Key.{Key, TheVariants.Hint}
 use Rattle.kp_synth_tables.specs.Keys.{target_at, sample_at, hint_at, key_width, keys_of}
-use Rattle.kp_synth_close.specs.declared.control.RowNodes.{RowNodes}
-use Rattle.kp_synth_close.specs.Nexts.{no_node_id}
+use Rattle.kp_synth_close.specs.{declared.control.RowNodes.RowNodes, Nexts.no_node_id}
 
 abbrev pub no_word : Word
 no_word = record { width = 0; value = 0 }

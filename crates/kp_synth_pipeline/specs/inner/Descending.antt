@@ -2,18 +2,11 @@
 use Rattle.std.specs.Prelude.{ℕ, suc, List, [], ◌∷◌}
 use Rattle.kp_ast.specs.declared.tree.Job.{Job}
 use Rattle.kp_pipeline.specs.Pipeline.{above}
-use Rattle.kp_machine.specs.Machine.{machine_of}
-use Rattle.kp_machine.specs.Slots.{pipes_of, hints_of}
-use Rattle.kp_net.specs.declared.node.NodeId.{NodeId}
-use Rattle.kp_net.specs.Growth.{Held, Wire}
-use Rattle.kp_synth_registers.specs.declared.outcome.Outcome.{Outcome}
-use Rattle.kp_synth_registers.specs.Meaning.{IsTest, Says}
-use Rattle.kp_synth_stage.specs.declared.row.Source.{Source}
-use Rattle.kp_synth_stage.specs.Rows.{SourcesOk}
-use Rattle.kp_synth_stage.specs.Work.{SlotsHave}
-use Rattle.kp_synth_pipeline.specs.declared.staging.Entered.{Entered}
-use Rattle.kp_synth_pipeline.specs.inner.Seeing.{SeesAbove, PipesIn, HintsIn}
-use Rattle.kp_synth_pipeline.specs.inner.Whole.{Few}
+use Rattle.kp_machine.specs.{Machine.machine_of, Slots.pipes_of, Slots.hints_of}
+use Rattle.kp_net.specs.{declared.node.NodeId.NodeId, Growth.Held, Growth.Wire}
+use Rattle.kp_synth_registers.specs.{declared.outcome.Outcome.Outcome, Meaning.IsTest, Meaning.Says}
+use Rattle.kp_synth_stage.specs.{declared.row.Source.Source, Rows.SourcesOk, Work.SlotsHave}
+use Rattle.kp_synth_pipeline.specs.{declared.staging.Entered.Entered, inner.Seeing.SeesAbove, inner.Seeing.PipesIn, inner.Seeing.HintsIn, inner.Whole.Few}
 
 -- the nodes of the inputs of stage k
 pub record EnteredOk (job : Job) (p : Held) (k : ℕ) (e : Entered) : Type 0 where

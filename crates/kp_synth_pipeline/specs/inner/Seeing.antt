@@ -3,16 +3,10 @@ use Rattle.std.specs.Prelude.{ℕ, ◌≡◌, ◌<◌, ◌^◌, cond, List, leng
 use Rattle.kp_ast.specs.declared.tree.Job.{Job}
 use Rattle.kp_pipeline.specs.Pipeline.{PipelineState, Inputs, above, outcome, hits, candidate_hits, forwarded}
 use Rattle.kp_machine.specs.Machine.{machine_of}
-use Rattle.kp_net.specs.declared.node.NodeId.{NodeId}
-use Rattle.kp_net.specs.Nodes.{Cells, at, on}
-use Rattle.kp_net.specs.Growth.{Held}
-use Rattle.kp_synth_registers.specs.Holding.{Holds, optional}
+use Rattle.kp_net.specs.{declared.node.NodeId.NodeId, Nodes.Cells, Nodes.at, Nodes.on, Growth.Held}
+use Rattle.kp_synth_registers.specs.{Holding.Holds, Holding.optional, Meaning.Gives, Meaning.guesses_at, Meaning.node_at}
 use Rattle.kp_synth_tables.specs.Keys.{target_at}
-use Rattle.kp_synth_registers.specs.Meaning.{Gives, guesses_at, node_at}
-use Rattle.kp_synth_stage.specs.declared.row.Row.{Row}
-use Rattle.kp_synth_stage.specs.declared.row.Source.{Source}
-use Rattle.kp_synth_stage.specs.declared.work.Work.{Work}
-use Rattle.kp_synth_stage.specs.Rows.{Sees, row_hits, source_view}
+use Rattle.kp_synth_stage.specs.{declared.row.Row.Row, declared.row.Source.Source, declared.work.Work.Work, Rows.Sees, Rows.row_hits, Rows.source_view}
 use Rattle.kp_synth_stage.specs.Work.{Means}
 
 -- the sources mean what stage k sees of the stages above it

@@ -1,21 +1,12 @@
 -- What the nodes of all stages mean, from the top stage down.
 use Rattle.std.specs.Prelude.{ℕ, suc, ◌≡◌, ◌+◌, ◌^◌, ◌<◌, ◌≤◌, ◌==◌, ◌&&◌, Bool, true, List, [], take, length, get_or, Option, Some, None, slice_get}
 use Rattle.kp_ast.specs.declared.tree.Job.{Job}
-use Rattle.kp_pipeline.specs.Sequential.{PendingGuess}
-use Rattle.kp_pipeline.specs.Pipeline.{PipelineState, Inputs, above, outcome, differs}
-use Rattle.kp_machine.specs.Machine.{machine_of}
-use Rattle.kp_machine.specs.Slots.{targets_of}
-use Rattle.kp_net.specs.declared.node.NodeId.{NodeId}
-use Rattle.kp_net.specs.Nodes.{Cells, on}
-use Rattle.kp_net.specs.Growth.{Held}
-use Rattle.kp_synth_registers.specs.declared.outcome.Set.{Set}
-use Rattle.kp_synth_tables.specs.declared.key.GuessSlot.{GuessSlot}
-use Rattle.kp_synth_registers.specs.Holding.{Holds, some_of, guess_passes}
-use Rattle.kp_synth_tables.specs.Keys.{target_at, guesses_of, guess_at}
-use Rattle.kp_synth_registers.specs.Meaning.{SetFits, set_value}
-use Rattle.kp_synth_stage.specs.declared.row.Source.{Source}
-use Rattle.kp_synth_stage.specs.declared.row.Own.{Own}
-use Rattle.kp_synth_stage.specs.Rows.{own_value, SourceOk}
+use Rattle.kp_pipeline.specs.{Sequential.PendingGuess, Pipeline.PipelineState, Pipeline.Inputs, Pipeline.above, Pipeline.outcome, Pipeline.differs}
+use Rattle.kp_machine.specs.{Machine.machine_of, Slots.targets_of}
+use Rattle.kp_net.specs.{declared.node.NodeId.NodeId, Nodes.Cells, Nodes.on, Growth.Held}
+use Rattle.kp_synth_registers.specs.{declared.outcome.Set.Set, Holding.Holds, Holding.some_of, Holding.guess_passes, Meaning.SetFits, Meaning.set_value}
+use Rattle.kp_synth_tables.specs.{declared.key.GuessSlot.GuessSlot, Keys.target_at, Keys.guesses_of, Keys.guess_at}
+use Rattle.kp_synth_stage.specs.{declared.row.Source.Source, declared.row.Own.Own, Rows.own_value, Rows.SourceOk}
 use Rattle.kp_synth_pipeline.specs.inner.Seeing.{Nearer}
 
 -- whether a result is enabled, by its enable pipe

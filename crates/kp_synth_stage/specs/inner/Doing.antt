@@ -1,10 +1,6 @@
 -- WHAT THE STATEMENTS OF A STAGE DO, in order, where the truth of a read may be missing.
 use Rattle.std.specs.Prelude.{Bool, List, None, Option, Some, [], false, if◌then◌else◌, ℕ, ◌++◌, ◌||◌, ◌∷◌}
-use Rattle.kp_ast.specs.declared.tree.Decl.{Decl}
-use Rattle.kp_ast.specs.declared.tree.Expr.{Expr}
-use Rattle.kp_ast.specs.declared.tree.ReadStmt.{ReadStmt}
-use Rattle.kp_ast.specs.declared.tree.Stmt.{Stmt}
-use Rattle.kp_ast.specs.declared.tree.StmtKind.{StmtKind}
+use Rattle.kp_ast.specs.declared.tree.{Decl.Decl, Expr.Expr, ReadStmt.ReadStmt, Stmt.Stmt, StmtKind.StmtKind}
 use Rattle.kp_pipeline.specs.Sequential.{PendingGuess, StageOutcome}
 use Rattle.kp_machine.specs.Slots.{hints_of, number_of, pipes_of, result_named, targets_of}
 use Rattle.kp_machine.specs.Trees.{Progress, address_of, holds, value_of, value_with_hints, with_aim, with_name, with_put, with_set, word_of, word_read}

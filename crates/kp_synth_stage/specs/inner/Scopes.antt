@@ -1,12 +1,9 @@
 -- THE SCOPE of each statement of a job, and the nodes of its names.
 use Rattle.std.specs.Prelude.{Bool, List, None, Option, Some, false, take, true, ℕ, ◌≡◌}
-use Rattle.kp_ast.specs.declared.tree.Job.{Job}
-use Rattle.kp_ast.specs.declared.widths.NameKind.{NameKind}
-use Rattle.kp_width.specs.Declarations.{declarations_of}
-use Rattle.kp_width.specs.Names.{Scoped, Sense, find, nothing, opened}
+use Rattle.kp_ast.specs.declared.{tree.Job.Job, widths.NameKind.NameKind}
+use Rattle.kp_width.specs.{Declarations.declarations_of, Names.Scoped, Names.Sense, Names.find, Names.nothing, Names.opened}
 use Rattle.kp_width.specs.Statements.{blocks_of, statements_of}
-use Rattle.kp_net.specs.Growth.{Held, Wire}
-use Rattle.kp_net.specs.declared.node.NodeId.{NodeId}
+use Rattle.kp_net.specs.{Growth.Held, Growth.Wire, declared.node.NodeId.NodeId}
 use Rattle.kp_build.specs.Names.{AreInside, Scope, node_of}
 use Rattle.kp_synth_stage.specs.Work.{stmts_at}
 use Rattle.kp_ast.specs.declared.widths.NameKind.TheVariants as kinds

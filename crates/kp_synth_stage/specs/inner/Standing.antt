@@ -1,22 +1,12 @@
 -- THE STATE OF A STAGE before one of its statements, as nodes.
 use Rattle.std.specs.Prelude.{Bool, List, None, Option, Some, [], false, if◌then◌else◌, slice_get, suc, take, true, ℕ, ◌∷◌, ◌≡◌}
-use Rattle.kp_ast.specs.Expressions.{is_same_name}
-use Rattle.kp_ast.specs.declared.tree.Job.{Job}
-use Rattle.kp_ast.specs.declared.tree.Stmt.{Stmt}
-use Rattle.kp_ast.specs.declared.tree.StmtKind.{StmtKind}
+use Rattle.kp_ast.specs.{Expressions.is_same_name, declared.tree.Job.Job, declared.tree.Stmt.Stmt, declared.tree.StmtKind.StmtKind}
 use Rattle.kp_width.specs.Names.{Scoped, Sense, find, is_hint}
-use Rattle.kp_machine.specs.Slots.{Slot, hints_of, pipes_of, samples_of, words_of}
-use Rattle.kp_machine.specs.Trees.{entered}
-use Rattle.kp_net.specs.Growth.{Held}
-use Rattle.kp_net.specs.Nodes.{Cells}
-use Rattle.kp_net.specs.declared.node.NodeId.{NodeId}
+use Rattle.kp_machine.specs.{Slots.Slot, Slots.hints_of, Slots.pipes_of, Slots.samples_of, Slots.words_of, Trees.entered}
+use Rattle.kp_net.specs.{Growth.Held, Nodes.Cells, declared.node.NodeId.NodeId}
 use Rattle.kp_build.specs.Names.{Nodes, Scope, with_node, word_of}
-use Rattle.kp_synth_tables.specs.Keys.{guesses_in}
-use Rattle.kp_synth_tables.specs.declared.key.GuessSlot.{GuessSlot}
-use Rattle.kp_synth_stage.specs.Rows.{Sees}
-use Rattle.kp_synth_stage.specs.Work.{Fits, Means, NodesHave, stmts_at}
-use Rattle.kp_synth_stage.specs.declared.row.Source.{Source}
-use Rattle.kp_synth_stage.specs.declared.work.Work.{Work}
+use Rattle.kp_synth_tables.specs.{Keys.guesses_in, declared.key.GuessSlot.GuessSlot}
+use Rattle.kp_synth_stage.specs.{Rows.Sees, Work.Fits, Work.Means, Work.NodesHave, Work.stmts_at, declared.row.Source.Source, declared.work.Work.Work}
 use Rattle.kp_synth_stage.specs.inner.Doing.{Doing, after_stmt, after_stmts, begun, outcome_of}
 use Rattle.kp_synth_stage.specs.inner.Scopes.{Bound, is_bound, scope_at}
 use Rattle.kp_ast.specs.Expressions as values

@@ -1,27 +1,15 @@
 -- Requirements and results of the calls for single statements.
 use Rattle.std.specs.Option.{option_map}
 use Rattle.std.specs.Prelude.{List, None, Option, Some, [], length, ℕ, ◌∷◌, ◌≡◌}
-use Rattle.kp_base.specs.Check.{Check}
-use Rattle.kp_base.specs.First.{first}
-use Rattle.kp_ast.specs.declared.tree.Decl.{Decl}
-use Rattle.kp_ast.specs.declared.tree.Expr.{Expr}
-use Rattle.kp_ast.specs.declared.tree.Job.{Job}
-use Rattle.kp_ast.specs.declared.tree.ReadStmt.{ReadStmt}
+use Rattle.kp_base.specs.{Check.Check, First.first}
+use Rattle.kp_ast.specs.declared.tree.{Decl.Decl, Expr.Expr, Job.Job, ReadStmt.ReadStmt}
 use Rattle.kp_width.specs.Expressions.{width_of}
-use Rattle.kp_machine.specs.Slots.{Slot, number_of, result_named}
-use Rattle.kp_machine.specs.Trees.{Progress}
-use Rattle.kp_net.specs.Growth.{Held, Wire}
-use Rattle.kp_net.specs.Nodes.{Cells, at, on}
-use Rattle.kp_net.specs.declared.node.NodeId.{NodeId}
+use Rattle.kp_machine.specs.{Slots.Slot, Slots.number_of, Slots.result_named, Trees.Progress}
+use Rattle.kp_net.specs.{Growth.Held, Growth.Wire, Nodes.Cells, Nodes.at, Nodes.on, declared.node.NodeId.NodeId}
 use Rattle.kp_build.specs.Names.{Gives, Scope}
 use Rattle.kp_synth_registers.specs.declared.outcome.Made.{Made}
-use Rattle.kp_synth_stage.specs.Rows.{Sees}
-use Rattle.kp_synth_stage.specs.declared.row.Answer.{Answer}
-use Rattle.kp_synth_stage.specs.declared.row.Source.{Source}
-use Rattle.kp_synth_stage.specs.inner.Doing.{Truths, miss_of, read_lacks, read_value}
-use Rattle.kp_synth_stage.specs.inner.Reading.{value_or_zero}
-use Rattle.kp_synth_stage.specs.inner.Scopes.{scope_at}
-use Rattle.kp_synth_stage.specs.inner.Standing.{Names}
+use Rattle.kp_synth_stage.specs.{Rows.Sees, declared.row.Answer.Answer, declared.row.Source.Source}
+use Rattle.kp_synth_stage.specs.inner.{Doing.Truths, Doing.miss_of, Doing.read_lacks, Doing.read_value, Reading.value_or_zero, Scopes.scope_at, Standing.Names}
 
 -- the target of a result
 abbrev pub target_named : List Decl → List Slot → List ℕ → Option ℕ

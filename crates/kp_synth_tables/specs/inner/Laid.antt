@@ -1,16 +1,9 @@
 -- The tables of a layout are those of its job.
 use Rattle.std.specs.Prelude.{◌≡◌, ℕ, ◌<◌, ◌≤◌, List, length, get_or, Option, None}
 use Rattle.kp_ast.specs.declared.tree.Job.{Job}
-use Rattle.kp_machine.specs.Slots.{Slot, targets_of, pipes_of, hints_of, samples_of}
-use Rattle.kp_machine.specs.Machine.{machine_of}
-use Rattle.kp_synth_tables.specs.declared.key.GuessSlot.{GuessSlot}
-use Rattle.kp_synth_tables.specs.declared.key.Key.{Key}
-use Rattle.kp_synth_tables.specs.declared.layout.Port.{Port}
-use Rattle.kp_synth_tables.specs.declared.layout.Sized.{Sized}
-use Rattle.kp_synth_tables.specs.declared.layout.Aimed.{Aimed}
-use Rattle.kp_synth_tables.specs.declared.layout.Piped.{Piped}
-use Rattle.kp_synth_tables.specs.Spans.{put_after, last_use}
-use Rattle.kp_synth_tables.specs.Keys.{target_at, pipe_at, hint_at, sample_at, guesses_of, keys_of}
+use Rattle.kp_machine.specs.{Slots.Slot, Slots.targets_of, Slots.pipes_of, Slots.hints_of, Slots.samples_of, Machine.machine_of}
+use Rattle.kp_synth_tables.specs.declared.{key.GuessSlot.GuessSlot, key.Key.Key, layout.Port.Port, layout.Sized.Sized, layout.Aimed.Aimed, layout.Piped.Piped}
+use Rattle.kp_synth_tables.specs.{Spans.put_after, Spans.last_use, Keys.target_at, Keys.pipe_at, Keys.hint_at, Keys.sample_at, Keys.guesses_of, Keys.keys_of}
 use Rattle.kp_synth_tables.specs.Fits.{port_at, Fits}
 
 -- the default for an entry that doesn't exist

@@ -1,28 +1,15 @@
 -- The contents of the tables of a job, as numbers of limited width.
 use Rattle.std.specs.Prelude.{ℕ, zero, suc, ◌+◌, min, max, List, [], ◌∷◌, ◌++◌, Option, Some, None, Bool, false, ◌||◌, ◌&&◌, if◌then◌else◌, nat_le}
-use Rattle.kp_ast.specs.Expressions.{is_same_name}
-use Rattle.kp_ast.specs.declared.tree.Named.{Named}
-use Rattle.kp_ast.specs.declared.tree.ResultDecl.{ResultDecl}
-use Rattle.kp_ast.specs.declared.tree.Expr.{Expr}
-use Rattle.kp_ast.specs.declared.tree.ReadStmt.{ReadStmt}
-use Rattle.kp_ast.specs.declared.tree.Stmt.{Stmt}
-use Rattle.kp_ast.specs.declared.tree.StmtKind.{StmtKind}
+use Rattle.kp_ast.specs.{Expressions.is_same_name, declared.tree.Named.Named, declared.tree.ResultDecl.ResultDecl, declared.tree.Expr.Expr}
+use Rattle.kp_ast.specs.declared.tree.{ReadStmt.ReadStmt, Stmt.Stmt, StmtKind.StmtKind, Block.Block, Decl.Decl, Job.Job}
 use Rattle.kp_ast.specs.declared.tree.StmtKind.TheVariants as stmts
-use Rattle.kp_ast.specs.declared.tree.Block.{Block}
-use Rattle.kp_ast.specs.declared.tree.Decl.{Decl}
 use Rattle.kp_ast.specs.declared.tree.Decl.TheVariants as decls
-use Rattle.kp_ast.specs.declared.tree.Job.{Job}
 use Rattle.kp_stage.specs.Counts.{one_if_some}
 use Rattle.kp_machine.specs.Slots.{Slot, pipes_of, number_of}
-use Rattle.kp_synth_tables.specs.declared.key.GuessSlot.{GuessSlot}
-use Rattle.kp_synth_tables.specs.declared.key.Key.{Key}
+use Rattle.kp_synth_tables.specs.declared.key.{GuessSlot.GuessSlot, Key.Key}
 use Rattle.kp_synth_tables.specs.declared.key.Key.TheVariants.{Full, Pipe, Valid, Value}
-use Rattle.kp_synth_tables.specs.Keys.{guess_slot, guess_keys}
-use Rattle.kp_synth_tables.specs.declared.layout.Sized.{Sized}
-use Rattle.kp_synth_tables.specs.declared.layout.Port.{Port}
-use Rattle.kp_synth_tables.specs.declared.layout.Piped.{Piped}
-use Rattle.kp_synth_tables.specs.Spans.{put_after, set_after, last_use}
-use Rattle.kp_synth_tables.specs.declared.layout.Aimed.{Aimed}
+use Rattle.kp_synth_tables.specs.{Keys.guess_slot, Keys.guess_keys, declared.layout.Sized.Sized, declared.layout.Port.Port, declared.layout.Piped.Piped}
+use Rattle.kp_synth_tables.specs.{Spans.put_after, Spans.set_after, Spans.last_use, declared.layout.Aimed.Aimed}
 
 -- a number that fits, else the largest that does
 abbrev pub byte : ℕ → ℕ

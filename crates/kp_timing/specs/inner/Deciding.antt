@@ -3,10 +3,7 @@ use Rattle.std.specs.Prelude.{ℕ, zero, suc, ◌+◌, ◌-◌, List, [], ◌∷
 use Rattle.std.specs.List.{swap}
 use Rattle.kp_seq.specs.Recorded.{Recorded}
 use Rattle.kp_sched.specs.Rows.{bit_of}
-use Rattle.kp_timing.specs.declared.deciding.Found.{Found}
-use Rattle.kp_timing.specs.declared.sites.Site.{Site}
-use Rattle.kp_timing.specs.declared.sites.Writer.{Writer}
-use Rattle.kp_timing.specs.inner.Sites.{Sited}
+use Rattle.kp_timing.specs.{declared.deciding.Found.Found, declared.sites.Site.Site, declared.sites.Writer.Writer, inner.Sites.Sited}
 
 -- the instructions in the stages: their numbers, and what was reported about each
 pub record Held : Type 0 where

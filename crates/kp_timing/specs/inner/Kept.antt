@@ -1,15 +1,11 @@
 -- The invariant of a timeline between its cycles.
 use Rattle.std.specs.Prelude.{◌≡◌, ℕ, suc, ◌-◌, ◌^◌, ◌≤◌, ◌<◌, List, [], Bool, true, false, Some, None, length, get_or, unwrap_or}
 use Rattle.kp_ast.specs.declared.tree.Job.{Job}
-use Rattle.kp_stage.specs.declared.start.Start.{Start}
-use Rattle.kp_stage.specs.Counts.{summary_of}
-use Rattle.kp_pipeline.specs.Sequential.{seq}
-use Rattle.kp_pipeline.specs.Timeline.{no_samples}
+use Rattle.kp_stage.specs.{declared.start.Start.Start, Counts.summary_of}
+use Rattle.kp_pipeline.specs.{Sequential.seq, Timeline.no_samples}
 use Rattle.kp_machine.specs.Machine.{machine_of, state_of}
-use Rattle.kp_seq.specs.Running.{Running, state, after_one}
-use Rattle.kp_seq.specs.Recorded.{Recorded, record_of}
-use Rattle.kp_timing.specs.Timed.{IsPlain}
-use Rattle.kp_timing.specs.inner.Sites.{Sited, AreSites}
+use Rattle.kp_seq.specs.{Running.Running, Running.state, Running.after_one, Recorded.Recorded, Recorded.record_of}
+use Rattle.kp_timing.specs.{Timed.IsPlain, inner.Sites.Sited, inner.Sites.AreSites}
 use Rattle.kp_timing.specs.inner.Deciding.{Held, record_in, moves_by, taken_down, fetched}
 
 -- a record of the size that the report about an instruction has

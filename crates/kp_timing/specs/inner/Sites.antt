@@ -1,20 +1,14 @@
 -- The tables of a job that its timeline uses: the stages of its reads, and by which result and when each target is written.
 use Rattle.std.specs.Prelude.{◌≡◌, ℕ, ◌+◌, ◌<◌, ◌==◌, List, [], ◌∷◌, ◌++◌, Option, Some, None, if◌then◌else◌, length, get_or}
-use Rattle.kp_ast.specs.declared.tree.Decl.{Decl}
+use Rattle.kp_ast.specs.declared.tree.{Decl.Decl, Stmt.Stmt, StmtKind.StmtKind, Block.Block, Job.Job}
 use Rattle.kp_ast.specs.declared.tree.Decl.TheVariants as decls
-use Rattle.kp_ast.specs.declared.tree.Stmt.{Stmt}
-use Rattle.kp_ast.specs.declared.tree.StmtKind.{StmtKind}
 use Rattle.kp_ast.specs.declared.tree.StmtKind.TheVariants as stmts
-use Rattle.kp_ast.specs.declared.tree.Block.{Block}
-use Rattle.kp_ast.specs.declared.tree.Job.{Job}
 use Rattle.kp_base.specs.First.{first}
 use Rattle.kp_width.specs.Widths.{widths_of}
 use Rattle.kp_stage.specs.Stages.{broken_of}
-use Rattle.kp_machine.specs.Slots.{Slot, targets_of, number_of}
-use Rattle.kp_machine.specs.Machine.{machine_of}
+use Rattle.kp_machine.specs.{Slots.Slot, Slots.targets_of, Slots.number_of, Machine.machine_of}
 use Rattle.kp_synth_tables.specs.declared.layout.Port.{Port}
-use Rattle.kp_timing.specs.declared.sites.Site.{Site}
-use Rattle.kp_timing.specs.declared.sites.Writer.{Writer}
+use Rattle.kp_timing.specs.declared.sites.{Site.Site, Writer.Writer}
 
 -- the number of stages, the reads in text order, and how each target is written
 pub record Sited : Type 0 where

@@ -2,10 +2,8 @@
 use Rattle.std.specs.Prelude.{ℕ, Result, Ok, Err}
 use Rattle.kp_base.specs.declared.refusal.Refused.{Refused}
 use Rattle.kp_base.specs.declared.refusal.Refused.TheVariants as refused
-use Rattle.kp_tool.specs.declared.failure.Failure.{Failure}
-use Rattle.kp_tool.specs.declared.failure.Failure.TheVariants.{Refused as Rule, Misread, Stopped}
-use Rattle.kp_tool.specs.declared.failure.Stop.{Stop}
-use Rattle.kp_tool.specs.declared.failure.Stop.TheVariants.{ReadFault, WriteFault, NoMemory}
+use Rattle.kp_tool.specs.declared.failure.Failure.{Failure, TheVariants.Refused as Rule, TheVariants.Misread, TheVariants.Stopped}
+use Rattle.kp_tool.specs.declared.failure.Stop.{Stop, TheVariants.ReadFault, TheVariants.WriteFault, TheVariants.NoMemory}
 
 abbrev pub stop_status : Stop → ℕ
 stop_status ReadFault = 3

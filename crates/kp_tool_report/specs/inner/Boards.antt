@@ -2,11 +2,9 @@
 use Rattle.std.specs.Prelude.{ℕ, List, ◌++◌, Some}
 use Rattle.kp_base.specs.declared.row.Row.{Row}
 use Rattle.kp_ast.specs.declared.tree.Job.{Job}
-use Rattle.kp_sched.specs.Lines.{row_lines}
-use Rattle.kp_sched.specs.Rows.{rows_seen}
+use Rattle.kp_sched.specs.{Lines.row_lines, Rows.rows_seen}
 use Rattle.kp_run.specs.Boards.{due_behind, passes_behind}
-use Rattle.kp_tool_report.specs.Runs.{count_line}
-use Rattle.kp_tool_report.specs.States.{Behind, state_lines}
+use Rattle.kp_tool_report.specs.{Runs.count_line, States.Behind, States.state_lines}
 
 -- the number of instructions that each target's value reflects
 abbrev pub behind : Job → List Row → Behind

@@ -2,8 +2,7 @@
 use Rattle.std.specs.Prelude.{ℕ, List, ◌++◌, take}
 use Rattle.kp_base.specs.declared.row.Row.{Row}
 use Rattle.kp_ast.specs.declared.tree.Job.{Job}
-use Rattle.kp_sched.specs.Lines.{row_lines}
-use Rattle.kp_sched.specs.Rows.{rows_seen}
+use Rattle.kp_sched.specs.{Lines.row_lines, Rows.rows_seen}
 use Rattle.kp_seq.specs.Running.{target}
 use Rattle.kp_tool_report.specs.Texts.{differs_line}
 use Rattle.kp_watch.specs.declared.compare.Difference.{Difference}

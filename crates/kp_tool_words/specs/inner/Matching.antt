@@ -1,9 +1,7 @@
 -- This file specifies what `clap` is given of the commands, and how the program interprets what it found.
 use Rattle.std.specs.Prelude.{ℕ, true, false, List, [], ◌∷◌, ◌++◌, map, codes, Option, None, Some, option_and_then}
-use Rattle.clap.specs.Walk.{Row, Rule, Text, first_of}
-use Rattle.clap.specs.Simple.{App, Shape, new_rule, new_shape}
-use Rattle.kp_tool_words.specs.Words.{plain_command, counted_command, seeded_command, count_of, seed_of}
-use Rattle.kp_tool_words.specs.declared.words.Command.{Command}
+use Rattle.clap.specs.{Walk.Row, Walk.Rule, Walk.Text, Walk.first_of, Simple.App, Simple.Shape, Simple.new_rule, Simple.new_shape}
+use Rattle.kp_tool_words.specs.{Words.plain_command, Words.counted_command, Words.seeded_command, Words.count_of, Words.seed_of, declared.words.Command.Command}
 
 -- The number arguments after a name are none, a count, or a seed and a count.
 pub data Numbers : Type 0 where

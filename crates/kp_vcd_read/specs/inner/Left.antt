@@ -1,7 +1,6 @@
 -- The rest of a text.
 use Rattle.std.specs.Prelude.{ℕ, List, [], take, drop}
-use Rattle.kp_base.specs.Place.{place_after}
-use Rattle.kp_base.specs.declared.place.Place.{Place}
+use Rattle.kp_base.specs.{Place.place_after, declared.place.Place.Place}
 use Rattle.kp_vcd_read.specs.Words.{Spot, words_from}
 
 -- the tokens that are left, and the end of the text

@@ -2,10 +2,8 @@
 use Rattle.std.specs.Prelude.{◌≡◌, ℕ, List, Option, None, Some, Result, Ok, Err, ⊤, []}
 use Rattle.kp_base.specs.declared.place.Place.{Place}
 use Rattle.kp_vcd.specs.declared.dump.Dump.{Dump}
-use Rattle.kp_vcd_read.specs.Words.{Spot}
-use Rattle.kp_vcd_read.specs.Forms.{Form}
-use Rattle.kp_vcd_read.specs.Reading.{Fault, State, change, walk, at, ends, step, says}
-use Rattle.kp_vcd_read.specs.inner.Left.{Left}
+use Rattle.kp_vcd_read.specs.{Words.Spot, Forms.Form}
+use Rattle.kp_vcd_read.specs.{Reading.Fault, Reading.State, Reading.change, Reading.walk, Reading.at, Reading.ends, Reading.step, Reading.says, inner.Left.Left}
 use Rattle.kp_vcd_read.specs.declared.refused.DumpRefused.{DumpRefused}
 use Rattle.kp_vcd_read.specs.declared.refused.DumpRefused.TheVariants as refused
 

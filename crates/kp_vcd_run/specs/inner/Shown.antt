@@ -2,9 +2,8 @@
 use Rattle.std.specs.Prelude.{◌≡◌, ℕ, ◌<◌, ◌≤◌, ◌%◌, ◌^◌, List, [], ◌∷◌, ◌++◌, Some, get_or, length, map, codes}
 use Rattle.kp_base.specs.declared.row.Row.{Row}
 use Rattle.kp_bits.specs.Word.{word}
-use Rattle.kp_ast.specs.declared.tree.Decl.{Decl}
+use Rattle.kp_ast.specs.declared.tree.{Decl.Decl, Job.Job}
 use Rattle.kp_ast.specs.declared.tree.Decl.TheVariants as decls
-use Rattle.kp_ast.specs.declared.tree.Job.{Job}
 use Rattle.kp_cycle.specs.Steps.{Running, reg_shown}
 use Rattle.kp_net.specs.Netlist.{Net, State}
 use Rattle.kp_synth_spec.specs.Naming.{place_among, value_shown}

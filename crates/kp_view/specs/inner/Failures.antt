@@ -3,9 +3,7 @@ use Rattle.std.specs.Prelude.{ℕ, Result, Ok, Err}
 use Rattle.kp_base.specs.declared.refusal.Refused.{Refused}
 use Rattle.kp_base.specs.declared.refusal.Refused.TheVariants as refused
 use Rattle.kp_view.specs.declared.failure.Complaint.TheVariants as complaint
-use Rattle.kp_view.specs.declared.failure.Failure.{Failure}
-use Rattle.kp_view.specs.declared.failure.Failure.TheVariants.{Complained, Stopped}
-use Rattle.kp_view.specs.declared.failure.Stop.{Stop}
+use Rattle.kp_view.specs.declared.failure.{Failure.Failure, Failure.TheVariants.Complained, Failure.TheVariants.Stopped, Stop.Stop}
 use Rattle.kp_view.specs.declared.failure.Stop.TheVariants.{ReadFault, WriteFault, NoMemory}
 
 abbrev pub stop_status : Stop → ℕ

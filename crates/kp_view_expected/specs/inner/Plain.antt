@@ -1,17 +1,13 @@
 -- The grammar over classes of tokens, without what it builds.
 use Rattle.std.specs.Prelude.{ℕ, ◌≡◌, List, [], ◌∷◌, ◌++◌, map, reverse, slice_get, Bool, true, false, not, Some, ⊤}
 use Rattle.kp_grammar.specs.Grammar.{Symbol, Terminal, Nonterminal, Action, Rules, Grammar, Derives}
-use Rattle.kp_grammar.specs.Tables.{empty_of}
-use Rattle.kp_grammar.specs.Machine.{Accepts, Leads}
-use Rattle.kp_parse_grammar.specs.Tokens.{IDENTIFIER, NUMBER, LITERAL, keyword_class, mark_class}
+use Rattle.kp_grammar.specs.{Tables.empty_of, Machine.Accepts, Machine.Leads}
 use Rattle.kp_parse_grammar.specs.Language.{rules, ADDRESS, BINDING, CALL, CHOICE, DECL, DECLS, ENABLE, ENTRIES, ENTRY, EXPR, EXPRS, EXTENDED, HEDGE, IMAGE, INDEX, INPUTS, JOB, LITS, LOW, NUMBERED, PAR, PARS, PARTS, POST, PRIM, SLICES, SPAN, SPANS, STAGE, STAGES, STALLS, STEP, STMT, STMTS, UNARY, WHEN, WHOLE, WORD, WORDS}
-use Rattle.kp_parse_grammar.specs.inner.Follow.{tables}
-use Rattle.kp_view_expected.specs.declared.token_class.TokenClass.{TokenClass}
-use Rattle.kp_view_expected.specs.declared.token_class.TokenClass.TheVariants as classes
-use Rattle.kp_view_expected.specs.GoesOn.{all_classes}
-use Rattle.kp_view_expected.specs.declared.part.Part.{Part}
-use Rattle.kp_view_expected.specs.declared.part.Part.TheVariants as parts
+use Rattle.kp_parse_grammar.specs.{Tokens.IDENTIFIER, Tokens.NUMBER, Tokens.LITERAL, Tokens.keyword_class, Tokens.mark_class, inner.Follow.tables}
+use Rattle.kp_view_expected.specs.{declared.token_class.TokenClass.TokenClass, GoesOn.all_classes, declared.part.Part.Part}
 use Rattle.kp_view_expected.specs.declared.part.Symbol.{Symbol as CodeSymbol}
+use Rattle.kp_view_expected.specs.declared.token_class.TokenClass.TheVariants as classes
+use Rattle.kp_view_expected.specs.declared.part.Part.TheVariants as parts
 use Rattle.kp_view_expected.specs.declared.part.Symbol.TheVariants as symbols
 
 -- the number of a class in the grammar

@@ -1,7 +1,6 @@
 -- When the widths in a fault are those that were found at its place.
 use Rattle.std.specs.Prelude.{◌≡◌, ◌≤◌, ◌⊎◌, ⊤, ℕ, List, [], ◌∷◌, Option, Some, None}
-use Rattle.kp_view_operands.specs.declared.widths.ExprWidths.{ExprWidths}
-use Rattle.kp_view_operands.specs.declared.widths.OperandWidths.{OperandWidths}
+use Rattle.kp_view_operands.specs.declared.widths.{ExprWidths.ExprWidths, OperandWidths.OperandWidths}
 use Rattle.kp_view_operands.specs.declared.widths.OperandWidths.TheVariants as operands
 use Rattle.kp_view_message.specs.declared.width_fault.WidthFault.{WidthFault}
 use Rattle.kp_view_message.specs.declared.width_fault.WidthFault.TheVariants as faults

@@ -1,9 +1,7 @@
 -- What `clap` is given of the words, and how the program interprets what it found.
 use Rattle.std.specs.Prelude.{true, false, List, [], ◌∷◌, map, codes, length, nat_lt, if◌then◌else◌, Option, None, Some}
-use Rattle.clap.specs.Walk.{Row, Rule, Text}
-use Rattle.clap.specs.Simple.{App, Shape, new_rule, new_shape}
-use Rattle.kp_view_words.specs.Words.{word_named}
-use Rattle.kp_view_words.specs.declared.words.Word.{Word}
+use Rattle.clap.specs.{Walk.Row, Walk.Rule, Walk.Text, Simple.App, Simple.Shape, Simple.new_rule, Simple.new_shape}
+use Rattle.kp_view_words.specs.{Words.word_named, declared.words.Word.Word}
 
 -- The words.
 abbrev pub known_names : List Text

@@ -1,19 +1,13 @@
 -- The front of a text, as the code computes it: `Tokens` with the kind of a token in place of its value.
 use Rattle.std.specs.Prelude.{ℕ, ◌+◌, ◌==◌, nat_lt, List, [], ◌∷◌, length, drop, take, ◌&&◌, if◌then◌else◌, Option, Some, None, Result, Ok, Err}
-use Rattle.kp_bits.specs.Literals.{number_of, literal_of}
-use Rattle.kp_bits.specs.declared.literal.Literal.{Literal}
-use Rattle.kp_bits.specs.declared.literal.LiteralFault.{LiteralFault}
+use Rattle.kp_bits.specs.{Literals.number_of, Literals.literal_of, declared.literal.Literal.Literal, declared.literal.LiteralFault.LiteralFault}
 use Rattle.kp_net.specs.Names.{is_in_identifier}
-use Rattle.kp_base.specs.Characters.{is_letter, is_digit}
-use Rattle.kp_vlog.specs.declared.front.Front.{Front}
-use Rattle.kp_vlog.specs.declared.front.Front.TheVariants as fronts
-use Rattle.kp_vlog.specs.declared.token.Keyword.{Keyword}
-use Rattle.kp_vlog.specs.declared.token.Mark.{Mark}
-use Rattle.kp_vlog.specs.declared.token.VKind.TheVariants as kinds
-use Rattle.kp_vlog.specs.declared.token.VKind.{VKind}
+use Rattle.kp_base.specs.Characters.{is_letter, is_digit, run_length}
+use Rattle.kp_vlog.specs.declared.{front.Front.Front, token.Keyword.Keyword, token.Mark.Mark, token.VKind.VKind}
 use Rattle.kp_vlog.specs.Words.{keyword_of, single_mark, double_mark}
 use Rattle.kp_vlog.specs.Tokens.{is_layout, is_in_line, is_in_run, begins_with, to_close}
-use Rattle.kp_base.specs.Characters.{run_length}
+use Rattle.kp_vlog.specs.declared.front.Front.TheVariants as fronts
+use Rattle.kp_vlog.specs.declared.token.VKind.TheVariants as kinds
 
 abbrev pub kind_or_name : Option Keyword → VKind
 kind_or_name (Some k) = kinds.Keyword k

@@ -1,19 +1,11 @@
 -- The parts of a netlist, by tables of names.
 use Rattle.std.specs.Prelude.{ℕ, ◌≤◌, ◌≡◌, List, length, codes, map, if◌then◌else◌, Option, Some, None}
-use Rattle.kp_bits.specs.Word.{Word, word}
-use Rattle.kp_bits.specs.declared.literal.Literal.{Literal}
-use Rattle.kp_net.specs.declared.node.NodeId.{NodeId}
-use Rattle.kp_net.specs.declared.node.Kind.{Kind}
+use Rattle.kp_bits.specs.{Word.Word, Word.word, declared.literal.Literal.Literal}
+use Rattle.kp_net.specs.{declared.node.NodeId.NodeId, declared.node.Kind.Kind, declared.node.Node.Node, Names.same, Names.is_sample_name}
 use Rattle.kp_net.specs.declared.node.Kind.TheVariants as kinds
-use Rattle.kp_net.specs.declared.node.Node.{Node}
-use Rattle.kp_net.specs.Names.{same, is_sample_name}
-use Rattle.kp_vlog.specs.declared.tree.Named.{Named}
-use Rattle.kp_vlog.specs.declared.tree.Right.{Right}
+use Rattle.kp_vlog.specs.{declared.tree.Named.Named, declared.tree.Right.Right, declared.tree.Item.Item, Scope.Scope, Scope.Sizes, Scope.width_in, Denote.Made}
 use Rattle.kp_vlog.specs.declared.tree.Right.TheVariants as sides
-use Rattle.kp_vlog.specs.declared.tree.Item.{Item}
 use Rattle.kp_vlog.specs.declared.tree.Item.TheVariants as lines
-use Rattle.kp_vlog.specs.Scope.{Scope, Sizes, width_in}
-use Rattle.kp_vlog.specs.Denote.{Made}
 use Rattle.kp_vread_widths.specs.Tables.{AlikeSizes}
 use Rattle.kp_vread.specs.inner.Numbering.{Numbered, place_by, AreNumbered}
 

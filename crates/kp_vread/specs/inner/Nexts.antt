@@ -1,10 +1,7 @@
 -- The next values of registers, as a table has them.
-use Rattle.std.specs.Prelude.{ℕ, ◌≡◌, List, Option, Some, None}
-use Rattle.std.specs.Map.{lookup}
-use Rattle.kp_net.specs.declared.node.NodeId.{NodeId}
-use Rattle.kp_net.specs.Names.{same}
-use Rattle.kp_vlog.specs.declared.tree.Update.{Update}
-use Rattle.kp_vlog.specs.Denote.{next_of}
+use Rattle.std.specs.{Prelude.ℕ, Prelude.◌≡◌, Prelude.List, Prelude.Option, Prelude.Some, Prelude.None, Map.lookup}
+use Rattle.kp_net.specs.{declared.node.NodeId.NodeId, Names.same}
+use Rattle.kp_vlog.specs.{declared.tree.Update.Update, Denote.next_of}
 use Rattle.kp_vread.specs.inner.Numbering.{Numbered, AreNumbered}
 
 abbrev pub node_or_first : Option NodeId → NodeId

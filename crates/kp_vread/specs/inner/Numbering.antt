@@ -1,7 +1,5 @@
 -- Names by their numbers, as a table has them.
-use Rattle.std.specs.Prelude.{ℕ, ◌≡◌, List, length, Option, Some, None}
-use Rattle.std.specs.Option.{is_some}
-use Rattle.std.specs.Map.{lookup}
+use Rattle.std.specs.{Prelude.ℕ, Prelude.◌≡◌, Prelude.List, Prelude.length, Prelude.Option, Prelude.Some, Prelude.None, Option.is_some, Map.lookup}
 use Rattle.kp_net.specs.Names.{same, among}
 use Rattle.kp_vlog.specs.Scope.{place_of}
 

@@ -1,27 +1,15 @@
 -- The parts of a netlist other than the nodes, by tables of names.
 use Rattle.std.specs.Prelude.{ℕ, ◌^◌, ◌≤◌, ◌≡◌, All, List, [], ◌∷◌, if◌then◌else◌, Option, Some, None}
-use Rattle.kp_bits.specs.Word.{IsWord}
-use Rattle.kp_bits.specs.declared.literal.Literal.{Literal}
-use Rattle.kp_net.specs.declared.node.NodeId.{NodeId}
-use Rattle.kp_net.specs.declared.netlist.WritePort.{WritePort}
-use Rattle.kp_net.specs.declared.netlist.NetReg.{NetReg}
-use Rattle.kp_net.specs.declared.netlist.NetFile.{NetFile}
+use Rattle.kp_bits.specs.{Word.IsWord, declared.literal.Literal.Literal}
+use Rattle.kp_net.specs.declared.{node.NodeId.NodeId, netlist.WritePort.WritePort, netlist.NetReg.NetReg, netlist.NetFile.NetFile}
 use Rattle.kp_net.specs.Names.{same}
-use Rattle.kp_vlog.specs.declared.tree.VPort.{VPort}
+use Rattle.kp_vlog.specs.declared.tree.{VPort.VPort, Item.Item, Init.Init, Update.Update, VModule.VModule}
+use Rattle.kp_vlog.specs.{Occurrences.start_in, Scope.Sizes, Scope.width_in, Scope.address_in, Denote.words_of}
 use Rattle.kp_vlog.specs.declared.tree.Right.TheVariants as sides
-use Rattle.kp_vlog.specs.declared.tree.Item.{Item}
 use Rattle.kp_vlog.specs.declared.tree.Item.TheVariants as lines
-use Rattle.kp_vlog.specs.declared.tree.Init.{Init}
-use Rattle.kp_vlog.specs.declared.tree.Update.{Update}
 use Rattle.kp_vlog.specs.declared.tree.Update.TheVariants as edges
-use Rattle.kp_vlog.specs.declared.tree.VModule.{VModule}
-use Rattle.kp_vlog.specs.Occurrences.{start_in}
-use Rattle.kp_vlog.specs.Scope.{Sizes, width_in, address_in}
-use Rattle.kp_vlog.specs.Denote.{words_of}
 use Rattle.kp_vread_widths.specs.Tables.{found}
-use Rattle.kp_vread.specs.inner.Numbering.{Numbered}
-use Rattle.kp_vread.specs.inner.Building.{node_by, start_from}
-use Rattle.kp_vread.specs.inner.Nexts.{next_by}
+use Rattle.kp_vread.specs.inner.{Numbering.Numbered, Building.node_by, Building.start_from, Nexts.next_by}
 
 -- the port is no wider than a node
 abbrev pub PortFits : VPort → Type 0

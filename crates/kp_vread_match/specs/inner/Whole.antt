@@ -2,11 +2,7 @@
 use Rattle.std.specs.Prelude.{ℕ, ◌==◌, List, [], ◌∷◌, ◌++◌, take, codes, Bool, true, false, not, ◌&&◌, ◌||◌, if◌then◌else◌}
 use Rattle.kp_ast.specs.declared.tree.Job.{Job}
 use Rattle.kp_machine.specs.Slots.{Slot, targets_of, samples_of, is_register}
-use Rattle.kp_net.specs.declared.netlist.Port.{Port}
-use Rattle.kp_net.specs.declared.netlist.NetReg.{NetReg}
-use Rattle.kp_net.specs.declared.netlist.NetFile.{NetFile}
-use Rattle.kp_net.specs.declared.netlist.Parts.{Parts}
-use Rattle.kp_net.specs.Names.{same}
+use Rattle.kp_net.specs.{declared.netlist.Port.Port, declared.netlist.NetReg.NetReg, declared.netlist.NetFile.NetFile, declared.netlist.Parts.Parts, Names.same}
 use Rattle.kp_synth_spec.specs.Naming.{register_name, file_name}
 
 -- the first register with this name has this width

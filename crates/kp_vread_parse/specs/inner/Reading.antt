@@ -1,10 +1,7 @@
 -- The contracts of the parser's functions: the steps of the machine. Tokens are numbered from 0.
 use Rattle.std.specs.Prelude.{ℕ, ◌+◌, ◌≤◌, List, [], ◌∷◌, ◌++◌, length, drop, Bool, false}
-use Rattle.kp_grammar.specs.Grammar.{Nonterminal}
-use Rattle.kp_grammar.specs.Machine.{Outcome, Stops, Leads, look}
-use Rattle.kp_vlog.specs.Tokens.{Token}
-use Rattle.kp_vlog.specs.Language.{Sym, Value, MODULE, verilog}
-use Rattle.kp_vlog.specs.inner.Follow.{tables}
+use Rattle.kp_grammar.specs.{Grammar.Nonterminal, Machine.Outcome, Machine.Stops, Machine.Leads, Machine.look}
+use Rattle.kp_vlog.specs.{Tokens.Token, Language.Sym, Language.Value, Language.MODULE, Language.verilog, inner.Follow.tables}
 use Rattle.kp_vread_parse.specs.declared.fault.Fault.{Fault}
 use Rattle.kp_vread_parse.specs.declared.fault.Fault.TheVariants as faults
 

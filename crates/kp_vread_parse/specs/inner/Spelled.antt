@@ -1,8 +1,7 @@
 -- What the parser requires of the lexer's tokens.
 use Rattle.std.specs.Prelude.{◌+◌, ◌≤◌, ◌≡◌, ℕ, List, length}
 use Rattle.kp_vlog.specs.declared.token.VKind.TheVariants as kinds
-use Rattle.kp_vlog.specs.declared.token.VToken.{VToken}
-use Rattle.kp_vlog.specs.Outcome.{bytes_of}
+use Rattle.kp_vlog.specs.{declared.token.VToken.VToken, Outcome.bytes_of}
 
 -- a token is within the text, and a name has 1 to 70 bytes
 pub record IsSpelled (text : List ℕ) (t : VToken) : Type 0 where

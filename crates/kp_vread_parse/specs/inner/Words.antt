@@ -3,9 +3,9 @@ use Rattle.std.specs.Prelude.{ℕ, List, [], ◌∷◌}
 use Rattle.kp_bits.specs.declared.operator.BinOp.{BinOp}
 use Rattle.kp_grammar.specs.Grammar.{Nonterminal, Action}
 use Rattle.kp_vlog.specs.declared.token.Keyword.TheVariants as keywords
+use Rattle.kp_vlog.specs.Language.{Sym, word, mark, ID, NUM, LIT, keyword_class, mark_class, IDENTIFIER, WIRE, PORT, STALLS, SAMPLES, ITEMS, RIGHT, INITS, BODY, VALUES, UPDATES, no_ports, no_items, two_names, no_inits, no_values, no_updates}
 use Rattle.kp_vlog.specs.declared.token.Mark.{Mark}
 use Rattle.kp_vlog.specs.declared.token.Mark.TheVariants as marks
-use Rattle.kp_vlog.specs.Language.{Sym, word, mark, ID, NUM, LIT, keyword_class, mark_class, IDENTIFIER, WIRE, PORT, STALLS, SAMPLES, ITEMS, RIGHT, INITS, BODY, VALUES, UPDATES, no_ports, no_items, two_names, no_inits, no_values, no_updates}
 
 -- what an item starts with
 abbrev pub item_words : List ℕ

@@ -1,9 +1,8 @@
 -- The meaning of the reader's roles and occurrences.
 use Rattle.std.specs.Prelude.{ℕ, List, codes}
 use Rattle.kp_vlog.specs.Occurrences as roles
-use Rattle.kp_vread_rules.specs.declared.role.PortName.{PortName}
+use Rattle.kp_vread_rules.specs.declared.role.{PortName.PortName, Role.Role}
 use Rattle.kp_vread_rules.specs.declared.role.PortName.TheVariants as ports
-use Rattle.kp_vread_rules.specs.declared.role.Role.{Role}
 use Rattle.kp_vread_rules.specs.declared.role.Role.TheVariants as kinds
 
 abbrev pub port_name : PortName → List ℕ

@@ -1,8 +1,7 @@
 -- Lists of names that have the same names, in some order.
 use Rattle.std.specs.Prelude.{ℕ, ◌≡◌, ◌||◌, List, [], ◌∷◌}
 use Rattle.kp_net.specs.Names.{same, among}
-use Rattle.kp_vlog.specs.Occurrences.{Occurrence}
-use Rattle.kp_vlog.specs.Rules.{Driven, drives}
+use Rattle.kp_vlog.specs.{Occurrences.Occurrence, Rules.Driven, Rules.drives}
 
 pub record Alike (xs ys : List (List ℕ)) : Type 0 where
   pub same_names : (n : List ℕ) → among xs n ≡ among ys n

@@ -1,10 +1,9 @@
 -- The rules of widths, by a table of sizes.
 use Rattle.std.specs.Prelude.{ℕ, ◌+◌, nat_lt, ◌&&◌, List, [], ◌∷◌, ◌++◌, Option}
-use Rattle.kp_vlog.specs.declared.tree.Item.{Item}
-use Rattle.kp_vlog.specs.declared.tree.Item.TheVariants as lines
-use Rattle.kp_vlog.specs.declared.tree.VModule.{VModule}
+use Rattle.kp_vlog.specs.declared.tree.{Item.Item, VModule.VModule}
 use Rattle.kp_vlog.specs.Scope.{Scope, Sizes, width_of, address_width, last_of, or_zero}
 use Rattle.kp_vlog.specs.Rules.{want, range_fits, words_fit, item_answers, header_answers, inits_answers, values_answers, reset_values, updates_answers}
+use Rattle.kp_vlog.specs.declared.tree.Item.TheVariants as lines
 
 -- what a line declares comes first
 abbrev pub with_item : Item → Sizes → Sizes

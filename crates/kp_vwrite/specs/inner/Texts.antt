@@ -1,18 +1,9 @@
 -- The lines of the canonical text, as they are written.
 use Rattle.std.specs.Prelude.{ℕ, ◌-◌, ◌^◌, ◌<◌, ◌≤◌, Bool, true, false, List, [], ◌∷◌, ◌++◌, codes, decimal, length, get_or, All, Option, Some, None}
-use Rattle.kp_bits.specs.Word.{word, IsWord}
-use Rattle.kp_bits.specs.Spelling.{spelling}
-use Rattle.kp_net.specs.declared.node.NodeId.{NodeId}
-use Rattle.kp_net.specs.declared.node.Kind.{Kind}
-use Rattle.kp_net.specs.declared.node.Kind.TheVariants.{Const, Sample, Reg, Word}
-use Rattle.kp_net.specs.declared.node.Node.{Node}
-use Rattle.kp_net.specs.declared.netlist.Port.{Port}
-use Rattle.kp_net.specs.declared.netlist.WritePort.{WritePort}
-use Rattle.kp_net.specs.declared.netlist.NetReg.{NetReg}
-use Rattle.kp_net.specs.declared.netlist.NetFile.{NetFile}
-use Rattle.kp_net.specs.declared.netlist.Parts.{Parts}
-use Rattle.kp_net.specs.Widths.{wide, no_node}
-use Rattle.kp_net.specs.Netlist.{Net}
+use Rattle.kp_bits.specs.{Word.word, Word.IsWord, Spelling.spelling}
+use Rattle.kp_net.specs.declared.node.{NodeId.NodeId, Kind.Kind, Kind.TheVariants.Const, Kind.TheVariants.Sample, Kind.TheVariants.Reg, Kind.TheVariants.Word}
+use Rattle.kp_net.specs.declared.{node.Node.Node, netlist.Port.Port, netlist.WritePort.WritePort, netlist.NetReg.NetReg, netlist.NetFile.NetFile}
+use Rattle.kp_net.specs.{declared.netlist.Parts.Parts, Widths.wide, Widths.no_node, Netlist.Net}
 use Rattle.kp_vlog.specs.Canon.{text_of, right_side, joined, sample_ports, reg_lines, file_lines, integer_line, node_lines, word_line, word_lines, fill_lines, update_lines, port_lines}
 
 -- a text that is the same for all netlists; sealed, so that a search treats it as one term

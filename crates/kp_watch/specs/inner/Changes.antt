@@ -6,19 +6,12 @@ use Rattle.kp_cycle.specs.Steps.{written_in}
 use Rattle.kp_machine.specs.Slots.{targets_of}
 use Rattle.kp_net.specs.Netlist.{Net, last_of}
 use Rattle.kp_sched.specs.Monitors.{Kept}
-use Rattle.kp_seq.specs.Running.{Running, HasWord, target}
-use Rattle.kp_seq.specs.Recorded.{Recorded}
-use Rattle.kp_synth_spec.specs.Naming.{value_shown}
-use Rattle.kp_synth_spec.specs.Shows.{IsOfJob}
-use Rattle.kp_run.specs.Cycles.{input_at, inputs_to}
-use Rattle.kp_run.specs.Homes.{home_of, AreHomes}
-use Rattle.kp_watch.specs.declared.beside.Beside.{Beside}
-use Rattle.kp_watch.specs.declared.compare.Tables.{Tables}
-use Rattle.kp_watch.specs.declared.places.Place.{Place}
-use Rattle.kp_watch.specs.declared.places.Place.TheVariants.{Register, File}
-use Rattle.kp_watch.specs.inner.Machines.{due_by}
-use Rattle.kp_watch.specs.inner.Places.{place_in, places_in}
-use Rattle.kp_watch.specs.inner.Results.{result_in, AreResults}
+use Rattle.kp_seq.specs.{Running.Running, Running.HasWord, Running.target, Recorded.Recorded}
+use Rattle.kp_synth_spec.specs.{Naming.value_shown, Shows.IsOfJob}
+use Rattle.kp_run.specs.{Cycles.input_at, Cycles.inputs_to, Homes.home_of, Homes.AreHomes}
+use Rattle.kp_watch.specs.declared.{beside.Beside.Beside, compare.Tables.Tables, places.Place.Place}
+use Rattle.kp_watch.specs.{declared.places.Place.TheVariants.Register, declared.places.Place.TheVariants.File, inner.Machines.due_by}
+use Rattle.kp_watch.specs.inner.{Places.place_in, Places.places_in, Results.result_in, Results.AreResults}
 
 -- the addresses that the write ports of a netlist wrote in cycle T
 pub record AreNoted (job : Job) (net : Net) (T : ℕ) (written : List (Option ℕ)) : Type 0 where

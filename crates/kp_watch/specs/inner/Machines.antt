@@ -3,12 +3,9 @@ use Rattle.std.specs.Prelude.{◌≡◌, ℕ, suc, ◌+◌, ◌<◌, List, lengt
 use Rattle.std.specs.List.{All}
 use Rattle.kp_ast.specs.declared.tree.Job.{Job}
 use Rattle.kp_pipeline.specs.Rows.{Row, passed}
-use Rattle.kp_machine.specs.Machine.{sequential, values_in}
-use Rattle.kp_machine.specs.Slots.{targets_of}
-use Rattle.kp_run.specs.Columns.{Taken, row_taken}
-use Rattle.kp_run.specs.Homes.{home_of}
-use Rattle.kp_seq.specs.Running.{Running, state}
-use Rattle.kp_seq.specs.Recorded.{record_of}
+use Rattle.kp_machine.specs.{Machine.sequential, Machine.values_in, Slots.targets_of}
+use Rattle.kp_run.specs.{Columns.Taken, Columns.row_taken, Homes.home_of}
+use Rattle.kp_seq.specs.{Running.Running, Running.state, Recorded.record_of}
 
 -- the sample values that instructions read
 abbrev pub given : List Taken → ℕ → ℕ → ℕ

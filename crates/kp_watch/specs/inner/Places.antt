@@ -4,8 +4,7 @@ use Rattle.kp_ast.specs.declared.tree.Job.{Job}
 use Rattle.kp_machine.specs.Slots.{Slot, targets_of, is_register}
 use Rattle.kp_net.specs.Netlist.{Net}
 use Rattle.kp_synth_spec.specs.Naming.{register_of, file_of}
-use Rattle.kp_watch.specs.declared.places.Place.{Place}
-use Rattle.kp_watch.specs.declared.places.Place.TheVariants.{Register, File}
+use Rattle.kp_watch.specs.declared.places.Place.{Place, TheVariants.Register, TheVariants.File}
 
 -- The register with the name of a target, or the file with the number of its words.
 abbrev pub place_in : Net → Slot → Place

@@ -1,7 +1,6 @@
 -- The kinds of names that each position of the code accepts.
 use Rattle.std.specs.Prelude.{Bool}
-use Rattle.kp_ast.specs.declared.widths.Scope.{Scope}
-use Rattle.kp_ast.specs.declared.widths.NameKind.{NameKind}
+use Rattle.kp_ast.specs.declared.widths.{Scope.Scope, NameKind.NameKind}
 use Rattle.kp_width.specs.declared.names.Position.{Position}
 use Rattle.kp_width.specs.Names.{is_value_in, is_register, is_file, is_pipe, is_result, is_hint, is_callee}
 

@@ -1,5 +1,4 @@
-use Rattle.std.proofs.Common.{rules, ◌∙◌, ◌<◌, length, arith}
-use Rattle.std.proofs.lemmas.Result.{err_from_is_err_and}
+use Rattle.std.proofs.{Common.rules, Common.◌∙◌, Common.◌<◌, Common.length, Common.arith, lemmas.Result.err_from_is_err_and}
 use Rattle.kp_asm.proofs.Lines.{within, positive, line_ok, line_err}
 use Rattle.kp_asm.proofs.listing.read_lines.Goals as goal
 

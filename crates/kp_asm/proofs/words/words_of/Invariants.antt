@@ -1,6 +1,5 @@
 use Rattle.std.proofs.Common.{◌≡◌, ◌+◌, [], drop, vec_len}
-use Rattle.kp_asm.specs.inner.Listing.{instructions_in}
-use Rattle.kp_asm.specs.Program.{words_from}
+use Rattle.kp_asm.specs.{inner.Listing.instructions_in, Program.words_from}
 use Rattle.kp_asm.proofs.words.words_of.Given as goal
 
 abbrev pub invariant-loop-item : goal.invariant-loop-item

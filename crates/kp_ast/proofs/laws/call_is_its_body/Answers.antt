@@ -1,6 +1,5 @@
 use Rattle.std.proofs.Common.{◌≡◌, ◌∙◌, ◌++◌, [], ◌∷◌, ap, cond, Bool, true, map}
-use Rattle.std.proofs.lemmas.Cmp.{nat_list_eq_equiv}
-use Rattle.std.proofs.lemmas.List.Sums.{fold-append}
+use Rattle.std.proofs.lemmas.{Cmp.nat_list_eq_equiv, List.Sums.fold-append}
 use Rattle.kp_ast.specs.Expressions.{Calls, env_of, eval, no_calls, calls_after}
 use Rattle.kp_ast.specs.Size.{Bodies, no_bodies, bodies_after}
 use Rattle.kp_ast.specs.declared.tree.Decl.TheVariants as decls

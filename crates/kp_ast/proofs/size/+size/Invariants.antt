@@ -1,6 +1,5 @@
 use Rattle.std.proofs.Common.{◌≡◌, ◌+◌, ◌≤◌, min, drop}
-use Rattle.kp_ast.specs.Size.{bodies_of}
-use Rattle.kp_ast.specs.inner.Sizes.{sizes_with}
+use Rattle.kp_ast.specs.{Size.bodies_of, inner.Sizes.sizes_with}
 use Rattle.kp_ast.proofs.size.+size.Given as goal
 
 abbrev pub invariant-expanded_sizes-loop-e : goal.invariant-expanded_sizes-loop-e

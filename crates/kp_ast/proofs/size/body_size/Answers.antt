@@ -1,8 +1,8 @@
 use Rattle.std.proofs.Common.{◌≡◌, ◌∙◌, true, false, length, arith, ap, get_or}
 use Rattle.kp_ast.specs.Expressions.{is_function}
 use Rattle.kp_ast.proofs.Bodies.{length-capped_bodies, found_here, found_before}
-use Rattle.kp_ast.proofs.size.body_size.Goals as goal
 use Rattle.kp_ast.proofs.size.body_size.Goals.{then-is_function, else-is_function}
+use Rattle.kp_ast.proofs.size.body_size.Goals as goal
 
 pub bounds-bodies-i : goal.bounds-bodies-i
 bounds-bodies-i c = omega (arith, ap length c.requires, length-capped_bodies c.args.decls.now)

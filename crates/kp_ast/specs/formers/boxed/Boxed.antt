@@ -12,13 +12,10 @@ use denote.HolePlaces.{Recodes, struct_places, laid, one_value}
 use denote.Hole.Fix.{over}
 use denote.Param.Weighed.{Weighed}
 use denote.Model.Placed.{view_places}
-use Rattle.std.specs.declared.boxed.Box.{Box}
+use Rattle.std.specs.{declared.boxed.Box.Box, declared.alloc.Global.Global, contracts.impls.GlobalAllocator.TheImpl.ghosts}
 use Rattle.std.specs.contracts.boxed.Box as box
-use Rattle.std.specs.declared.alloc.Global.{Global}
 use Rattle.std.specs.contracts.alloc.Global as heap
-use Rattle.std.specs.contracts.impls.GlobalAllocator.TheImpl.{ghosts}
-use Rattle.kp_ast.specs.declared.boxed.Boxed.TheInside.{Inside}
-use Rattle.kp_ast.specs.declared.boxed.Boxed.TheView.{view, invariant}
+use Rattle.kp_ast.specs.declared.boxed.Boxed.{TheInside.Inside, TheView.view, TheView.invariant}
 use Rattle.kp_ast.specs.contracts.boxed.Boxed as C
 use Rattle.kp_ast.specs.contracts.boxed.Boxed.TheInside as I
 

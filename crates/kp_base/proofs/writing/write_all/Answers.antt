@@ -1,7 +1,5 @@
-use Rattle.std.proofs.Common.{take, drop, arith, sym}
-use Rattle.std.proofs.lemmas.List.{take_rest, take-append-drop}
-use Rattle.std.proofs.lemmas.Result.{err_from_is_err_and}
-use Rattle.std.proofs.KnownBytes.{Appends-kept}
+use Rattle.std.proofs.{Common.take, Common.drop, Common.arith, Common.sym, lemmas.List.take_rest, lemmas.List.take-append-drop}
+use Rattle.std.proofs.{lemmas.Result.err_from_is_err_and, KnownBytes.Appends-kept}
 use Rattle.kp_base.proofs.Bytes.{appends_next}
 use Rattle.kp_base.proofs.writing.write_all.Goals as goal
 

@@ -1,6 +1,5 @@
 use Rattle.std.proofs.Common.{◌≤◌, take}
-use Rattle.std.specs.Prelude.{flat_map}
-use Rattle.std.specs.Io.KnownBytes.{Appends}
+use Rattle.std.specs.{Prelude.flat_map, Io.KnownBytes.Appends}
 use Rattle.kp_base.proofs.writing.write_pieces.Given as goal
 
 abbrev pub invariant-loop-piece : goal.invariant-loop-piece

@@ -1,5 +1,4 @@
-use Rattle.std.proofs.Common.{◌≡◌, ◌∙◌, ◌≤◌, ◌∷◌, length, ap, arith}
-use Rattle.std.proofs.lemmas.Result.{IfOk-weaker}
+use Rattle.std.proofs.{Common.◌≡◌, Common.◌∙◌, Common.◌≤◌, Common.◌∷◌, Common.length, Common.ap, Common.arith, lemmas.Result.IfOk-weaker}
 use Rattle.kp_build.proofs.Rows.{row_one, row_some, front_there, shorter_there, shorter_shows, shorter_inside}
 use Rattle.kp_build.proofs.joined.+joined_by_steps.Goals as goal
 

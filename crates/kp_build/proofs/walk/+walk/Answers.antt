@@ -1,26 +1,19 @@
 use Rattle.std.proofs.Common.{refl, ◌*◌, ◌<◌, ◌≤◌, ◌+◌, ◌++◌, ◌∷◌, [], length, take, Some, ap, sym, subst, arith}
-use Rattle.std.proofs.lemmas.Result.{IfOk-weaker}
-use Rattle.std.proofs.lemmas.List.Elements.{All-push, All-nil, All-same}
+use Rattle.std.proofs.lemmas.{Result.IfOk-weaker, List.Elements.All-push, List.Elements.All-nil, List.Elements.All-same}
 use Rattle.std.proofs.lemmas.List.Sums.{sum_by_more, sum_by_more_le, get_or-le-sum_by}
 use Rattle.kp_bits.specs.Word.{not_of}
 use Rattle.kp_bits.specs.Checked.{checked_literal, checked_binary, checked_mux, checked_joined, checked_slice, checked_zext, checked_sext}
 use Rattle.std.specs.Prelude.{sum_by}
-use Rattle.kp_ast.specs.Size.{size, bodies_of, body_size_of, no_bodies}
-use Rattle.kp_ast.specs.Checked.{checked_calls_of}
-use Rattle.kp_net.specs.Nodes.{word_at}
-use Rattle.kp_net.specs.Growth.{Grown}
+use Rattle.kp_ast.specs.{Size.size, Size.bodies_of, Size.body_size_of, Size.no_bodies, Checked.checked_calls_of}
+use Rattle.kp_net.specs.{Nodes.word_at, Growth.Grown}
 use Rattle.kp_net.proofs.Growing.{grown_then, grown_more}
-use Rattle.kp_build.proofs.Lists.{grown_same}
-use Rattle.kp_build.proofs.Work.{steps, work, work_of}
-use Rattle.kp_build.specs.Names.{known_at}
-use Rattle.kp_build.specs.inner.Showing.{IsThere, Shows, AllShow, words_at, values_in}
-use Rattle.kp_build.proofs.Names.{still_inside, call_inside}
+use Rattle.kp_build.proofs.Forms.{sound_Not, same_Not, sound_left, sound_right, same_Binary, sound_test, sound_yes, sound_no, same_Mux, sound_Slice, same_Slice, sound_Zext, same_Zext, sound_Sext, same_Sext, sound_Concat, same_Concat, sound_Call, same_Call}
+use Rattle.kp_build.proofs.{Lists.grown_same, Lists.element_sound, Lists.none_show, Lists.more_show, Work.steps, Work.work, Work.work_of}
+use Rattle.kp_build.proofs.{Names.still_inside, Names.call_inside, Giving.sound_later, Giving.gives_earlier, Giving.gives_later, Giving.fit_by, Giving.gives_by}
+use Rattle.kp_build.proofs.Calls.{literal_there, names_found, name_gives, not_shows, body_sound, body_shows, body_count, last_there, no_function}
+use Rattle.kp_build.specs.{Names.known_at, inner.Showing.IsThere, inner.Showing.Shows, inner.Showing.AllShow, inner.Showing.words_at, inner.Showing.values_in}
 use Rattle.kp_build.proofs.Rows as rows
 use Rattle.kp_ast.proofs.Parts.{value_Lit, size_Not, size_Binary, size_Mux, size_Concat, size_Slice, size_Zext, size_Sext, size_Call}
-use Rattle.kp_build.proofs.Giving.{sound_later, gives_earlier, gives_later, fit_by, gives_by}
-use Rattle.kp_build.proofs.Lists.{element_sound, none_show, more_show}
-use Rattle.kp_build.proofs.Forms.{sound_Not, same_Not, sound_left, sound_right, same_Binary, sound_test, sound_yes, sound_no, same_Mux, sound_Slice, same_Slice, sound_Zext, same_Zext, sound_Sext, same_Sext, sound_Concat, same_Concat, sound_Call, same_Call}
-use Rattle.kp_build.proofs.Calls.{literal_there, names_found, name_gives, not_shows, body_sound, body_shows, body_count, last_there, no_function}
 use Rattle.kp_build.proofs.walk.+walk.Goals as goal
 
 pub node_for-number-requires-clause-right : goal.node_for-number-requires-clause-right

@@ -1,14 +1,8 @@
-use Rattle.std.proofs.Common.{◌∙◌, Ok, Err, ap, subst}
+use Rattle.std.proofs.{Common.◌∙◌, Common.Ok, Common.Err, Common.ap, Common.subst, lemmas.Result.IfOk-weaker}
 use Rattle.std.specs.declared.result.Result.{Result}
-use Rattle.std.proofs.lemmas.Result.{IfOk-weaker}
-use Rattle.kp_base.specs.declared.refusal.Refused.{Refused}
-use Rattle.kp_base.specs.declared.refusal.Refusal.{Refusal}
-use Rattle.kp_frontend.specs.Accepting.{AnswersHead}
-use Rattle.kp_frontend.specs.Judging.{JudgesHeadText}
-use Rattle.kp_frontend.specs.declared.accepted.Head.{Head}
-use Rattle.kp_core.specs.Answers.{text_said}
-use Rattle.kp_core.specs.Due.{DueOfHead}
-use Rattle.kp_core.specs.declared.answer.Answer.{Answer}
+use Rattle.kp_base.specs.declared.refusal.{Refused.Refused, Refusal.Refusal}
+use Rattle.kp_frontend.specs.{Accepting.AnswersHead, Judging.JudgesHeadText, declared.accepted.Head.Head}
+use Rattle.kp_core.specs.{Answers.text_said, Due.DueOfHead, declared.answer.Answer.Answer}
 use Rattle.kp_core.proofs.inputs.of_input.Goals as goal
 
 pub returns-in_ok-answer-in-Ok-clause-due : goal.returns-in_ok-answer-in-Ok-clause-due

@@ -1,6 +1,5 @@
 use Rattle.std.proofs.Common.{◌∙◌, ◌≤◌, ℕ, List, length, ap, subst, arith, Err}
-use Rattle.kp_core.specs.Answers.{text_said}
-use Rattle.kp_core.specs.Due.{DueOfHead}
+use Rattle.kp_core.specs.{Answers.text_said, Due.DueOfHead}
 use Rattle.kp_core.proofs.Outcomes.{of_excess, of_input}
 use Rattle.kp_core.proofs.top.of_source.Goals as goal
 

@@ -1,5 +1,4 @@
-use Rattle.std.proofs.Common.{◌∙◌, Err, ap}
-use Rattle.std.proofs.lemmas.Result.{err_from_is_err_and}
+use Rattle.std.proofs.{Common.◌∙◌, Common.Err, Common.ap, lemmas.Result.err_from_is_err_and}
 use Rattle.kp_core_ports.proofs.Turns.{all_read, not_read}
 use Rattle.kp_core_ports.proofs.reading.read_ports.Goals as goal
 

@@ -1,5 +1,4 @@
-use Rattle.kp_core_runs.proofs.Loading.{cycle_memory}
-use Rattle.kp_core_runs.proofs.Memory.{start_memory}
+use Rattle.kp_core_runs.proofs.{Loading.cycle_memory, Memory.start_memory}
 use Rattle.kp_core_runs.proofs.laws.files_stay_complete.Goals as goal
 
 pub returns-clause-start : goal.returns-clause-start

@@ -1,7 +1,6 @@
 use Rattle.std.proofs.Common.{◌≡◌, ◌++◌, take}
 use Rattle.std.specs.Prelude.{flat_map}
-use Rattle.kp_core_text.specs.Ports.{line_text}
-use Rattle.kp_core_text.specs.Core.{comment}
+use Rattle.kp_core_text.specs.{Ports.line_text, Core.comment}
 use Rattle.kp_core_text.proofs.text.lines.Given as goal
 
 abbrev pub invariant-loop-port : goal.invariant-loop-port

@@ -1,5 +1,4 @@
-use Rattle.std.proofs.Common.{length, ◌∙◌, arith}
-use Rattle.std.proofs.lemmas.List.{length-set}
+use Rattle.std.proofs.{Common.length, Common.◌∙◌, Common.arith, lemmas.List.length-set}
 use Rattle.kp_cycle.proofs.Stepping.{target_inside, step_ready, step_inside, step_number, step_more}
 use Rattle.kp_cycle.proofs.batches.take_while.Goals as goal
 

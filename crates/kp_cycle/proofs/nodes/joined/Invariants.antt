@@ -1,7 +1,6 @@
 use Rattle.std.proofs.Common.{◌≡◌, map, take}
 use Rattle.std.specs.List.{sum_by}
-use Rattle.kp_bits.specs.Word.{IsWord}
-use Rattle.kp_bits.specs.Operators.{joined_of}
+use Rattle.kp_bits.specs.{Word.IsWord, Operators.joined_of}
 use Rattle.kp_net.specs.Widths.{wide}
 use Rattle.kp_cycle.specs.inner.Storage.{seen}
 use Rattle.kp_cycle.proofs.nodes.joined.Given as goal

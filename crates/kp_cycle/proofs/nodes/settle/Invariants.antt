@@ -1,7 +1,5 @@
 use Rattle.std.proofs.Common.{◌≡◌, ◌≤◌, ◌-◌, false, length}
-use Rattle.kp_cycle.specs.Steps.{given}
-use Rattle.kp_cycle.specs.inner.Plans.{Settled}
-use Rattle.kp_cycle.specs.inner.Storage.{Fits}
+use Rattle.kp_cycle.specs.{Steps.given, inner.Plans.Settled, inner.Storage.Fits}
 use Rattle.kp_cycle.proofs.nodes.settle.Given as goal
 
 abbrev pub invariant-all : goal.invariant-all

@@ -1,7 +1,5 @@
 use Rattle.std.proofs.Common.{false, ◌+◌, sym, subst, arith, ◌∙◌}
-use Rattle.kp_cycle.specs.Steps.{given}
-use Rattle.kp_cycle.specs.inner.Plans.{Settled}
-use Rattle.kp_cycle.specs.inner.Storage.{Stored}
+use Rattle.kp_cycle.specs.{Steps.given, inner.Plans.Settled, inner.Storage.Stored}
 use Rattle.kp_cycle.proofs.Stepping.{target_inside, step_word, step_more}
 use Rattle.kp_cycle.proofs.nodes.take_one.Goals as goal
 

@@ -2,13 +2,10 @@ use Rattle.std.proofs.Common.{◌≡◌, false, List, get_or, map, refl, sym, ap
 use Rattle.std.proofs.lemmas.List.{get_or_default}
 use Rattle.kp_bits.specs.Word as bits
 use Rattle.kp_bits.specs.Operators.{joined_of}
-use Rattle.kp_net.specs.declared.node.NodeId.{NodeId}
-use Rattle.kp_net.specs.declared.node.Kind.TheVariants.{Binary, Concat, Slice}
-use Rattle.kp_net.specs.declared.node.Node.{Node}
+use Rattle.kp_net.specs.declared.node.{NodeId.NodeId, Kind.TheVariants.Binary, Kind.TheVariants.Concat, Kind.TheVariants.Slice, Node.Node}
 use Rattle.kp_net.specs.Widths.{no_node}
 use Rattle.kp_net.proofs.Exact.{operand_widths}
-use Rattle.kp_cycle.specs.Steps.{given}
-use Rattle.kp_cycle.specs.inner.Storage.{seen, cells}
+use Rattle.kp_cycle.specs.{Steps.given, inner.Storage.seen, inner.Storage.cells}
 use Rattle.kp_cycle.proofs.Settling.{whole, kind_ok}
 use Rattle.kp_cycle.proofs.nodes.value_of.Goals as goal
 

@@ -1,7 +1,5 @@
-use Rattle.std.proofs.Common.{List, get_or, ap, ◌∙◌}
-use Rattle.std.proofs.lemmas.List.{get_or_default}
-use Rattle.kp_net.specs.declared.node.Node.{Node}
-use Rattle.kp_net.specs.Widths.{wide, no_node}
+use Rattle.std.proofs.{Common.List, Common.get_or, Common.ap, Common.◌∙◌, lemmas.List.get_or_default}
+use Rattle.kp_net.specs.{declared.node.Node.Node, Widths.wide, Widths.no_node}
 use Rattle.kp_cycle.proofs.nodes.width_of.Goals as goal
 
 pub returns-clause-width : goal.returns-clause-width

@@ -1,6 +1,5 @@
-use Rattle.kp_cycle.proofs.Marking.{listed_more, listed_skip}
+use Rattle.kp_cycle.proofs.{Marking.listed_more, Marking.listed_skip, plan.listed.Goals.then-marks-i+in_ok-push, plan.listed.Goals.else-marks-i}
 use Rattle.kp_cycle.proofs.plan.listed.Goals as goal
-use Rattle.kp_cycle.proofs.plan.listed.Goals.{then-marks-i+in_ok-push, else-marks-i}
 
 pub loop-i-preserved : goal.loop-i-preserved
 loop-i-preserved c =

@@ -1,5 +1,4 @@
-use Rattle.std.proofs.Common.{◌<◌, true, length, arith, ◌∙◌}
-use Rattle.std.proofs.lemmas.List.{length-set}
+use Rattle.std.proofs.{Common.◌<◌, Common.true, Common.length, Common.arith, Common.◌∙◌, lemmas.List.length-set}
 use Rattle.kp_cycle.proofs.Marking.{heads_more, heads_alone}
 use Rattle.kp_cycle.proofs.plan.mark_heads.Goals as goal
 

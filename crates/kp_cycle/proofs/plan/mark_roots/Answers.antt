@@ -1,11 +1,8 @@
 use Rattle.std.proofs.Common.{◌≡◌, ◌<◌, ◌≤◌, ℕ, length, subst, ap, ◌∙◌, arith, ⊎_elim}
 use Rattle.std.proofs.lemmas.Bool.{cases_lt}
 use Rattle.kp_net.specs.declared.netlist.Parts.{Parts}
-use Rattle.kp_cycle.specs.declared.latches.Latch.{Latch}
-use Rattle.kp_cycle.specs.inner.Latches.{OfLatch, latch_for}
-use Rattle.kp_cycle.specs.inner.Plans.{IsMarked}
-use Rattle.kp_cycle.proofs.Marking.{roots_marked}
-use Rattle.kp_cycle.proofs.Stepping.{latch_is}
+use Rattle.kp_cycle.specs.{declared.latches.Latch.Latch, inner.Latches.OfLatch, inner.Latches.latch_for, inner.Plans.IsMarked}
+use Rattle.kp_cycle.proofs.{Marking.roots_marked, Stepping.latch_is}
 use Rattle.kp_cycle.proofs.plan.mark_roots.Goals as goal
 
 pub loop-i-preserved : goal.loop-i-preserved

@@ -1,7 +1,6 @@
 use Rattle.std.proofs.Common.{◌≡◌, ◌<◌, ℕ, length, get_or}
 use Rattle.kp_net.specs.Parts.{no_file}
-use Rattle.kp_cycle.specs.inner.Latches.{OfLatch, latch_for}
-use Rattle.kp_cycle.specs.inner.Plans.{IsMarked, OfPort}
+use Rattle.kp_cycle.specs.inner.{Latches.OfLatch, Latches.latch_for, Plans.IsMarked, Plans.OfPort}
 use Rattle.kp_cycle.proofs.plan.mark_roots.Given as goal
 
 abbrev pub invariant-loop-i : goal.invariant-loop-i

@@ -1,16 +1,9 @@
 use Rattle.std.proofs.Common.{◌≡◌, Bool, ℕ, List, true, false, [], ap, get_or, refl, ◌∙◌, sym, subst}
-use Rattle.kp_net.specs.Nodes.{at}
-use Rattle.kp_net.specs.Netlist.{Input, State, cells_of, resets, state_after}
-use Rattle.kp_net.specs.Parts.{no_file}
+use Rattle.kp_net.specs.{Nodes.at, Netlist.Input, Netlist.State, Netlist.cells_of, Netlist.resets, Netlist.state_after, Parts.no_file}
 use Rattle.kp_net.proofs.Resets.{reset_state}
-use Rattle.kp_cycle.specs.Steps.{given}
-use Rattle.kp_cycle.specs.inner.Latches.{latch_for, latched}
-use Rattle.kp_cycle.specs.inner.Plans.{AreFixed, OfRoots}
+use Rattle.kp_cycle.specs.{Steps.given, inner.Latches.latch_for, inner.Latches.latched, inner.Plans.AreFixed, inner.Plans.OfRoots}
 use Rattle.kp_cycle.specs.inner.Storage.{StateFits, port_from, state_of}
-use Rattle.kp_cycle.proofs.Clocking.{state_is}
-use Rattle.kp_cycle.proofs.Latching.{next_value}
-use Rattle.kp_cycle.proofs.Stepping.{roots_are}
-use Rattle.kp_cycle.proofs.Reached.{fits_after}
+use Rattle.kp_cycle.proofs.{Clocking.state_is, Latching.next_value, Stepping.roots_are, Reached.fits_after}
 use Rattle.kp_cycle.proofs.sim.cycle.Goals as goal
 
 on_or_off : (b : Bool) (A : Type 0) → (b ≡ true → A) → (b ≡ false → A) → A

@@ -1,13 +1,9 @@
 use Rattle.std.proofs.Common.{◌≡◌, ◌+◌, ◌*◌, ◌^◌, ◌<◌, ◌≤◌, ℕ, List, [], ◌∷◌, ◌++◌, length, get_or, map, false, Bool, Result, Ok, Err, subst, sym, ap, ◌∙◌, refl, arith, append_assoc, ⊎_elim}
-use Rattle.std.specs.Prelude.{IsOk, IsErr, IfOk, OnOk}
 use Rattle.std.proofs.Math.Nat.{mul-le-mul_right}
-use Rattle.std.proofs.lemmas.List.{map-append, replicate_more, get_or_append_left, length-append, get_or_at}
-use Rattle.std.proofs.lemmas.Bool.{cases_lt}
-use Rattle.kp_region.specs.declared.span.Span.{Span}
-use Rattle.kp_region.specs.declared.region.Full.{Full}
-use Rattle.kp_region.specs.Words.{Words, IsSound, next_span, carved}
-use Rattle.kp_cycle.specs.declared.slots.Slot.{Slot}
-use Rattle.kp_cycle.specs.inner.Spans.{Apart, no_slot}
+use Rattle.std.proofs.lemmas.{List.map-append, List.replicate_more, List.get_or_append_left, List.length-append, List.get_or_at, Bool.cases_lt}
+use Rattle.std.specs.Prelude.{IsOk, IsErr, IfOk, OnOk}
+use Rattle.kp_region.specs.{declared.span.Span.Span, declared.region.Full.Full, Words.Words, Words.IsSound, Words.next_span, Words.carved}
+use Rattle.kp_cycle.specs.{declared.slots.Slot.Slot, inner.Spans.Apart, inner.Spans.no_slot}
 use Rattle.kp_cycle.proofs.Spans.{apart_carved, length_carved}
 use Rattle.kp_cycle.proofs.slots.carve_slots.Goals as goal
 

@@ -1,5 +1,4 @@
-use Rattle.std.proofs.Common.{◌*◌, ◌≤◌, arith}
-use Rattle.std.proofs.Math.Nat.{mul-le-mul_right}
+use Rattle.std.proofs.{Common.◌*◌, Common.◌≤◌, Common.arith, Math.Nat.mul-le-mul_right}
 use Rattle.kp_cycle.proofs.slots.words_of_slots.Goals as goal
 
 pub overflow_mul-result : goal.overflow_mul-result

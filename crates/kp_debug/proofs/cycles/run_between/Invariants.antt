@@ -1,6 +1,5 @@
 use Rattle.std.proofs.Common.{◌≡◌, length}
-use Rattle.kp_debug.specs.Sessions.{inputs_of}
-use Rattle.kp_debug.specs.inner.Kept.{HasRun}
+use Rattle.kp_debug.specs.{Sessions.inputs_of, inner.Kept.HasRun}
 use Rattle.kp_debug.proofs.cycles.run_between.Given as goal
 
 abbrev pub invariant-loop-cycle : goal.invariant-loop-cycle

@@ -1,10 +1,8 @@
-use Rattle.std.proofs.Common.{◌++◌, sym, subst}
-use Rattle.std.proofs.KnownBytes.{Appends-nil}
+use Rattle.std.proofs.{Common.◌++◌, Common.sym, Common.subst, KnownBytes.Appends-nil}
 use Rattle.kp_base.specs.Bytes.{Writes}
 use Rattle.kp_net.specs.Netlist.{Net}
 use Rattle.kp_tool_report.specs.States.{State, state_lines, no_counts}
-use Rattle.kp_debug_report.specs.Inspecting.{at_line, IsOfTargets}
-use Rattle.kp_debug_report.specs.inner.Standing.{IsRegisterOf}
+use Rattle.kp_debug_report.specs.{Inspecting.at_line, Inspecting.IsOfTargets, inner.Standing.IsRegisterOf}
 use Rattle.kp_debug_report.proofs.Standing.{visible_is}
 use Rattle.kp_debug_report.proofs.commands.print_command.Goals as goal
 

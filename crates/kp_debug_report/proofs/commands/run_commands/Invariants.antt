@@ -1,7 +1,6 @@
 use Rattle.std.proofs.Common.{◌≡◌, ◌≤◌, drop}
 use Rattle.kp_base.specs.inner.Bytes.{WrittenUpTo}
-use Rattle.kp_debug_report.specs.Inspecting.{printed, ends_in}
-use Rattle.kp_debug_report.specs.inner.Standing.{IsUnderWay, run_of}
+use Rattle.kp_debug_report.specs.{Inspecting.printed, Inspecting.ends_in, inner.Standing.IsUnderWay, inner.Standing.run_of}
 use Rattle.kp_debug_report.proofs.commands.run_commands.Given as goal
 
 abbrev pub invariant-loop-command : goal.invariant-loop-command

@@ -1,5 +1,4 @@
-use Rattle.std.proofs.Common.{◌∙◌, ap, arith}
-use Rattle.std.proofs.lemmas.Result.{IfOk-weaker}
+use Rattle.std.proofs.{Common.◌∙◌, Common.ap, Common.arith, lemmas.Result.IfOk-weaker}
 use Rattle.kp_run.specs.Cycles.{inputs_to}
 use Rattle.kp_debug_report.proofs.Gathering.{samples_fit, given_are, few_cycles}
 use Rattle.kp_debug_report.proofs.inspection.session_of.Goals as goal

@@ -1,5 +1,4 @@
-use Rattle.kp_diagram.proofs.Steps.{one-reason}
-use Rattle.kp_diagram.proofs.Cells.{reasons}
+use Rattle.kp_diagram.proofs.{Steps.one-reason, Cells.reasons}
 use Rattle.kp_diagram.proofs.laws.marks_have_their_reasons.Goals as goal
 
 pub returns-clause-reasons : goal.returns-clause-reasons

@@ -1,8 +1,7 @@
 use Rattle.std.proofs.Common.{◌≡◌, ◌≢◌, ℕ, List, [], ◌∷◌, refl, subst, eq-eqb, ne_eqb}
 use Rattle.std.specs.Prelude.{codes}
 use Rattle.kp_base.specs.Bytes.{Writes}
-use Rattle.kp_diagram_svg.specs.Filling.{filled}
-use Rattle.kp_diagram_svg.specs.Symbols.{stages_and_cycles}
+use Rattle.kp_diagram_svg.specs.{Filling.filled, Symbols.stages_and_cycles}
 use Rattle.kp_diagram_svg.proofs.head.write_stages_and_cycles.Goals as goal
 
 one : (n cycles : ℕ) → cycles ≡ 1 → filled (codes ": @ stages, @ cycle") (n ∷ cycles ∷ []) ≡ stages_and_cycles n cycles

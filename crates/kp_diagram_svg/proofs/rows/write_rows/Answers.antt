@@ -1,16 +1,12 @@
 use Rattle.std.proofs.Common.{◌≡◌, ◌∙◌, ℕ, List, get_or, take, ap, ap₂, refl, subst, arith}
-use Rattle.std.proofs.KnownBytes.{Appends-nil}
-use Rattle.std.proofs.lemmas.List.{length-take-le}
-use Rattle.std.proofs.lemmas.Result.{err_from_is_err_and}
+use Rattle.std.proofs.{KnownBytes.Appends-nil, lemmas.List.length-take-le, lemmas.Result.err_from_is_err_and}
 use Rattle.kp_base.specs.declared.row.Row.{Row}
 use Rattle.kp_base.proofs.Bytes.{written_piece, written_part, rest_whole}
 use Rattle.kp_pipeline.specs.Rows.{counts}
-use Rattle.kp_sched.specs.Monitors.{HasSeen}
-use Rattle.kp_sched.specs.Rows.{rows_seen}
+use Rattle.kp_sched.specs.{Monitors.HasSeen, Rows.rows_seen}
 use Rattle.kp_diagram_text.specs.Charts.{ext_of, names_of}
 use Rattle.kp_diagram_svg.specs.Rows.{rows_text}
-use Rattle.kp_diagram_svg.proofs.Left.{left_is}
-use Rattle.kp_diagram_svg.proofs.Steps.{fetches_end, fetches_step, row_after_few, rows_next, take_next}
+use Rattle.kp_diagram_svg.proofs.{Left.left_is, Steps.fetches_end, Steps.fetches_step, Steps.row_after_few, Steps.rows_next, Steps.take_next}
 use Rattle.kp_diagram_svg.proofs.rows.write_rows.Goals as goal
 
 pub cycle-requires : goal.cycle-requires

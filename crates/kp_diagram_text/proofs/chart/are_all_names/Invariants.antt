@@ -1,6 +1,5 @@
 use Rattle.std.proofs.Common.{◌≡◌, true, map, take}
-use Rattle.std.specs.Prelude.{string_bytes}
-use Rattle.std.specs.List.{list_all}
+use Rattle.std.specs.{Prelude.string_bytes, List.list_all}
 use Rattle.kp_diagram_text.specs.Charts.{is_name}
 use Rattle.kp_diagram_text.proofs.chart.are_all_names.Given as goal
 

@@ -2,9 +2,7 @@ use Rattle.std.proofs.Common.{◌≡◌, ◌∙◌, ℕ, ◌+◌, ◌-◌, List,
 use Rattle.std.proofs.lemmas.Result.{err_from_is_err_and}
 use Rattle.kp_base.specs.Bytes.{Writes}
 use Rattle.kp_base.proofs.Bytes.{part_more, writes_next}
-use Rattle.kp_diagram_text.specs.Charts.{names_of}
-use Rattle.kp_diagram_text.specs.Marks.{shown}
-use Rattle.kp_diagram_text.specs.Text.{in_column, sign, spaces, stage_name}
+use Rattle.kp_diagram_text.specs.{Charts.names_of, Marks.shown, Text.in_column, Text.sign, Text.spaces, Text.stage_name}
 use Rattle.kp_diagram_text.proofs.lines.write_cell.Goals as goal
 
 cell_is : (width here n : ℕ) (name given wanted : List ℕ) → given ≡ wanted → n ≡ length name → here ≡ width - (n + length given)

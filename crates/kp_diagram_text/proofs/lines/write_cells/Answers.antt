@@ -1,6 +1,4 @@
-use Rattle.std.proofs.Common.{refl, arith}
-use Rattle.std.proofs.KnownBytes.{Appends-nil}
-use Rattle.std.proofs.lemmas.Result.{err_from_is_err_and}
+use Rattle.std.proofs.{Common.refl, Common.arith, KnownBytes.Appends-nil, lemmas.Result.err_from_is_err_and}
 use Rattle.kp_base.proofs.Bytes.{written_piece, written_part, rest_whole}
 use Rattle.kp_diagram_text.specs.Charts.{ext_of, names_of}
 use Rattle.kp_diagram_text.proofs.Steps.{cells_end, cells_gone, cells_next, left_is}

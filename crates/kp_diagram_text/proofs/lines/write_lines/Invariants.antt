@@ -1,11 +1,9 @@
 use Rattle.std.proofs.Common.{◌≡◌, ◌≤◌, drop, take}
 use Rattle.kp_base.specs.inner.Bytes.{WrittenUpTo}
 use Rattle.kp_pipeline.specs.Rows.{counts}
-use Rattle.kp_sched.specs.Monitors.{HasSeen}
-use Rattle.kp_sched.specs.Rows.{rows_seen}
+use Rattle.kp_sched.specs.{Monitors.HasSeen, Rows.rows_seen}
 use Rattle.kp_diagram.specs.Diagram.{diagram, fetches_from}
-use Rattle.kp_diagram_text.specs.Charts.{ext_of, names_of, rows_of}
-use Rattle.kp_diagram_text.specs.Text.{lines_text}
+use Rattle.kp_diagram_text.specs.{Charts.ext_of, Charts.names_of, Charts.rows_of, Text.lines_text}
 use Rattle.kp_diagram_text.proofs.lines.write_lines.Given as goal
 
 abbrev pub invariant-loop-cycle : goal.invariant-loop-cycle

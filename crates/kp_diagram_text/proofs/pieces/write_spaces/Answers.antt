@@ -1,6 +1,4 @@
-use Rattle.std.proofs.Common.{◌≡◌, ◌≤◌, ℕ, take, arith}
-use Rattle.std.proofs.lemmas.List.{take-replicate}
-use Rattle.std.proofs.lemmas.Result.{err_from_is_err_and}
+use Rattle.std.proofs.{Common.◌≡◌, Common.◌≤◌, Common.ℕ, Common.take, Common.arith, lemmas.List.take-replicate, lemmas.Result.err_from_is_err_and}
 use Rattle.kp_base.proofs.Bytes.{written_piece, written_part}
 use Rattle.kp_diagram_text.specs.Text.{spaces}
 use Rattle.kp_diagram_text.proofs.Steps.{left_is, spaces_next}

@@ -1,8 +1,6 @@
 use Rattle.std.proofs.Common.{◌≡◌, ◌∙◌, ℕ, ◌+◌, ◌-◌, ◌<◌, not, leb, false, length, refl, arith, le-leb}
-use Rattle.std.proofs.Math.ListN.{length-set}
-use Rattle.std.proofs.lemmas.List.{get_or-replicate}
-use Rattle.kp_net.specs.Nodes.{Cells, on}
-use Rattle.kp_net.specs.Growth.{Wire}
+use Rattle.std.proofs.{Math.ListN.length-set, lemmas.List.get_or-replicate}
+use Rattle.kp_net.specs.{Nodes.Cells, Nodes.on, Growth.Wire}
 use Rattle.kp_net.proofs.Growing.{wire_grown, grown_then}
 use Rattle.kp_pipeline.specs.Pipeline.{greatest}
 use Rattle.kp_pipeline.proofs.Cycle.{greatest-bound}

@@ -1,5 +1,4 @@
-use Rattle.std.proofs.Common.{◌∙◌, sym, subst}
-use Rattle.std.proofs.lemmas.Bool.{false≢true}
+use Rattle.std.proofs.{Common.◌∙◌, Common.sym, Common.subst, lemmas.Bool.false≢true}
 use Rattle.kp_equiv_trees.specs.Sections.{FirstOf, behind_ports}
 use Rattle.kp_equiv_trees.proofs.Ordered.{ports_differ, all_agree, later_differs, ports_of, of_ports}
 use Rattle.kp_equiv.proofs.comparing.compare.Goals as goal

@@ -1,5 +1,4 @@
-use Rattle.std.proofs.Common.{◌∙◌, sym, arith}
-use Rattle.std.proofs.lemmas.Bool.{false≢true}
+use Rattle.std.proofs.{Common.◌∙◌, Common.sym, Common.arith, lemmas.Bool.false≢true}
 use Rattle.kp_equiv_trees.proofs.Ordered.{regs_differ, regs_all}
 use Rattle.kp_equiv.proofs.comparing.first_register.Goals as goal
 

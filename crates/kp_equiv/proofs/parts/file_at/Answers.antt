@@ -1,8 +1,5 @@
-use Rattle.std.proofs.Common.{ap, ◌∙◌, List, get_or}
-use Rattle.std.proofs.lemmas.List.{get_or_default}
-use Rattle.kp_net.specs.declared.netlist.NetFile.{NetFile}
-use Rattle.kp_net.specs.declared.netlist.Parts.{Parts}
-use Rattle.kp_net.specs.Parts.{no_file}
+use Rattle.std.proofs.{Common.ap, Common.◌∙◌, Common.List, Common.get_or, lemmas.List.get_or_default}
+use Rattle.kp_net.specs.{declared.netlist.NetFile.NetFile, declared.netlist.Parts.Parts, Parts.no_file}
 use Rattle.kp_equiv.proofs.parts.file_at.Goals as goal
 
 pub returns-clause-value : goal.returns-clause-value

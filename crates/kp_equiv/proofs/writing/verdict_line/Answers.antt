@@ -1,5 +1,4 @@
-use Rattle.std.proofs.Common.{◌∙◌}
-use Rattle.std.proofs.lemmas.Result.{IfOk-weaker}
+use Rattle.std.proofs.{Common.◌∙◌, lemmas.Result.IfOk-weaker}
 use Rattle.kp_equiv.proofs.Lines.{same_reported, difference_reported}
 use Rattle.kp_equiv.proofs.writing.verdict_line.Goals as goal
 

@@ -1,5 +1,4 @@
-use Rattle.kp_equiv_trees.proofs.Counting.{new_differs, none_new}
-use Rattle.kp_equiv_trees.proofs.Ordered.{second_agrees}
+use Rattle.kp_equiv_trees.proofs.{Counting.new_differs, Counting.none_new, Ordered.second_agrees}
 use Rattle.kp_equiv_trees.proofs.roots.first_of_second.Goals as goal
 
 pub returns-in-Some-clause-first : goal.returns-in-Some-clause-first

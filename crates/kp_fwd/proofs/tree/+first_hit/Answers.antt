@@ -1,9 +1,7 @@
 use Rattle.std.proofs.Common.{◌+◌, length, List, All, subst, sym, arith}
 use Rattle.std.proofs.lemmas.List.Elements.{All-take, All-drop}
 use Rattle.kp_net.proofs.Growing.{grown_then, grown_more}
-use Rattle.kp_fwd.specs.declared.rows.Candidate.{Candidate}
-use Rattle.kp_fwd.specs.Forward.{CandidateOk, IsWithin}
-use Rattle.kp_fwd.specs.inner.Tree.{StandsFor}
+use Rattle.kp_fwd.specs.{declared.rows.Candidate.Candidate, Forward.CandidateOk, Forward.IsWithin, inner.Tree.StandsFor}
 use Rattle.kp_fwd.proofs.Standing.{stands_later, stands_grown, stands_joined}
 use Rattle.kp_fwd.proofs.Within.{within_grown, within_more, all_within_grown, halves}
 use Rattle.kp_fwd.proofs.tree.+first_hit.Goals as goal

@@ -1,5 +1,4 @@
-use Rattle.kp_net.proofs.Growing.{grown_then}
-use Rattle.kp_net.proofs.Depths.{still_no_deeper}
+use Rattle.kp_net.proofs.{Growing.grown_then, Depths.still_no_deeper}
 use Rattle.kp_fwd.proofs.tree.joined.Goals as goal
 
 pub returns-clause-depth : goal.returns-clause-depth

@@ -1,7 +1,6 @@
 use Rattle.std.proofs.Common.{◌+◌, arith}
 use Rattle.kp_net.specs.Depth.{IsNoDeeper}
-use Rattle.kp_net.proofs.Growing.{grown_then}
-use Rattle.kp_net.proofs.Depths.{still_no_deeper, deeper_yet}
+use Rattle.kp_net.proofs.{Growing.grown_then, Depths.still_no_deeper, Depths.deeper_yet}
 use Rattle.kp_fwd.proofs.tree.picked.Goals as goal
 
 pub returns-clause-depth : goal.returns-clause-depth

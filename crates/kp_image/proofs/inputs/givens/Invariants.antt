@@ -1,7 +1,6 @@
 use Rattle.std.proofs.Common.{◌≡◌, ◌++◌, drop}
 use Rattle.std.specs.List.{All}
-use Rattle.kp_image.specs.Feeds.{FitsFeed}
-use Rattle.kp_image.specs.inner.Kept.{givens_of}
+use Rattle.kp_image.specs.{Feeds.FitsFeed, inner.Kept.givens_of}
 use Rattle.kp_image.proofs.inputs.givens.Given as goal
 
 abbrev pub invariant-loop-e : goal.invariant-loop-e

@@ -1,9 +1,7 @@
 use Rattle.std.proofs.Common.{◌≡◌, ◌++◌, drop, map, None}
 use Rattle.std.specs.List.{All}
 use Rattle.kp_base.specs.First.{first}
-use Rattle.kp_image.specs.Sections.{stalls_checked}
-use Rattle.kp_image.specs.Spans.{IsSpan}
-use Rattle.kp_image.specs.inner.Kept.{span_of}
+use Rattle.kp_image.specs.{Sections.stalls_checked, Spans.IsSpan, inner.Kept.span_of}
 use Rattle.kp_image.proofs.stalls.spans.Given as goal
 
 abbrev pub invariant-loop-e : goal.invariant-loop-e

@@ -1,7 +1,6 @@
 use Rattle.std.proofs.Common.{◌∙◌, sym, length-set}
-use Rattle.kp_image.proofs.Loops.{held_turn, missed_turn}
+use Rattle.kp_image.proofs.{Loops.held_turn, Loops.missed_turn, stalls.stalled_stages.Goals.then-holds, stalls.stalled_stages.Goals.else-holds}
 use Rattle.kp_image.proofs.stalls.stalled_stages.Goals as goal
-use Rattle.kp_image.proofs.stalls.stalled_stages.Goals.{then-holds, else-holds}
 
 pub loop-span-preserved : goal.loop-span-preserved
 loop-span-preserved c = elim c.if-holds.branch [

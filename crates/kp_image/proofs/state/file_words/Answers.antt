@@ -1,5 +1,4 @@
-use Rattle.std.proofs.Common.{◌∙◌, sym, ap, arith, get_or, List}
-use Rattle.std.proofs.lemmas.List.{drop_all}
+use Rattle.std.proofs.{Common.◌∙◌, Common.sym, Common.ap, Common.arith, Common.get_or, Common.List, lemmas.List.drop_all}
 use Rattle.kp_ast.specs.declared.tree.Image.{Image}
 use Rattle.kp_stage.specs.Start.{laid_over}
 use Rattle.kp_image.proofs.Loops.{words_from_start}

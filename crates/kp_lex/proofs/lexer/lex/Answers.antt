@@ -1,7 +1,6 @@
 use Rattle.std.proofs.Common.{ℕ, List, ◌++◌, ◌∙◌, take, sym, ap, arith}
 use Rattle.kp_base.specs.Place.{place_after}
-use Rattle.kp_lex.proofs.Fits.{gap_fits, token_fits}
-use Rattle.kp_lex.proofs.Along.{finished, ended, refused, skipped, read}
+use Rattle.kp_lex.proofs.{Fits.gap_fits, Fits.token_fits, Along.finished, Along.ended, Along.refused, Along.skipped, Along.read}
 use Rattle.kp_lex.proofs.lexer.lex.Goals as goal
 
 pub returns-in-End : goal.returns-in-End

@@ -1,8 +1,6 @@
 use Rattle.std.proofs.Common.{◌≡◌, ◌+◌, ◌<◌, ◌≤◌, ℕ, Bool, true, false, List, [], ◌∷◌, ◌++◌, length, get_or, map, All, refl, sym, subst, ap, ◌∙◌, arith, ⊎_elim}
-use Rattle.std.proofs.lemmas.Bool.{cases_lt}
-use Rattle.std.proofs.lemmas.List.Elements.{All-append}
-use Rattle.kp_lines.specs.Lines.{Piece, is_break, piece_of, IsWithin}
-use Rattle.kp_lines.specs.declared.run.Run.{Run}
+use Rattle.std.proofs.lemmas.{Bool.cases_lt, List.Elements.All-append}
+use Rattle.kp_lines.specs.{Lines.Piece, Lines.is_break, Lines.piece_of, Lines.IsWithin, declared.run.Run.Run}
 use Rattle.kp_lines.proofs.Splitting.{between, lines_more, lines_last, run_within}
 use Rattle.kp_lines.proofs.run.lines_in.Goals as goal
 

@@ -1,8 +1,6 @@
 use Rattle.std.proofs.Common.{◌≡◌, ◌<◌, ◌≤◌, ℕ, Bool, true, false, ◌++◌, length, get_or, map, All, refl, sym, subst, ap, ◌∙◌, arith, ⊎_elim}
-use Rattle.std.proofs.lemmas.Bool.{cases_lt}
-use Rattle.std.proofs.lemmas.List.Elements.{All-append}
-use Rattle.kp_lines.specs.Lines.{is_blank, piece_of, IsWithin}
-use Rattle.kp_lines.specs.inner.Words.{word_between}
+use Rattle.std.proofs.lemmas.{Bool.cases_lt, List.Elements.All-append}
+use Rattle.kp_lines.specs.{Lines.is_blank, Lines.piece_of, Lines.IsWithin, inner.Words.word_between}
 use Rattle.kp_lines.proofs.Splitting.{words_left, words_more, words_last, word_within}
 use Rattle.kp_lines.proofs.run.words_in.Goals as goal
 

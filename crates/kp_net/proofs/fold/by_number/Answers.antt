@@ -1,6 +1,5 @@
 use Rattle.std.proofs.Common.{ℕ, sym, ap, subst, ◌∙◌, ◌&&◌, leb}
-use Rattle.kp_bits.specs.Word.{IsWord, word}
-use Rattle.kp_bits.specs.Operators.{is_shift}
+use Rattle.kp_bits.specs.{Word.IsWord, Word.word, Operators.is_shift}
 use Rattle.kp_net.proofs.Folds.{zero_fits, shifted_out, right_wins, right_yields, undecided}
 use Rattle.kp_net.proofs.fold.by_number.Goals as goal
 

@@ -2,10 +2,7 @@ use Rattle.std.proofs.Common.{◌≡◌, ◌∙◌, List, length, take, subst, a
 use Rattle.std.proofs.Math.Seq.{take-length}
 use Rattle.std.specs.List.{list_all}
 use Rattle.kp_bits.specs.Operators.{joined_of}
-use Rattle.kp_net.specs.declared.node.NodeId.{NodeId}
-use Rattle.kp_net.specs.Widths.{no_node}
-use Rattle.kp_net.specs.Folding.{is_const}
-use Rattle.kp_net.specs.inner.Folds.{number_at}
+use Rattle.kp_net.specs.{declared.node.NodeId.NodeId, Widths.no_node, Folding.is_const, inner.Folds.number_at}
 use Rattle.kp_net.proofs.Folds.{row_of_consts}
 use Rattle.kp_net.proofs.fold.joined.Goals as goal
 

@@ -1,10 +1,7 @@
 use Rattle.std.proofs.Common.{◌≡◌, map, take, true, get_or}
 use Rattle.std.specs.List.{sum_by, list_all}
-use Rattle.kp_bits.specs.Word.{IsWord}
-use Rattle.kp_bits.specs.Operators.{joined_of}
-use Rattle.kp_net.specs.Widths.{wide, no_node}
-use Rattle.kp_net.specs.Folding.{is_const}
-use Rattle.kp_net.specs.inner.Folds.{number_at}
+use Rattle.kp_bits.specs.{Word.IsWord, Operators.joined_of}
+use Rattle.kp_net.specs.{Widths.wide, Widths.no_node, Folding.is_const, inner.Folds.number_at}
 use Rattle.kp_net.proofs.fold.joined.Given as goal
 
 abbrev pub invariant-loop-i : goal.invariant-loop-i

@@ -1,8 +1,7 @@
 use Rattle.std.proofs.Common.{◌∙◌, ◌-◌, ◌/◌, ◌^◌, sym, subst, ap}
 use Rattle.kp_bits.proofs.Powers.{mask_of}
 use Rattle.kp_bits.specs.declared.operator.BinOp.{BinOp}
-use Rattle.kp_net.specs.declared.fold.Masking.{Masking}
-use Rattle.kp_net.specs.inner.Folds.{Masks}
+use Rattle.kp_net.specs.{declared.fold.Masking.Masking, inner.Folds.Masks}
 use Rattle.kp_net.proofs.Folds.{and_ones, or_zero, or_ones}
 use Rattle.kp_net.proofs.fold.masks.Goals as goal
 

@@ -1,11 +1,7 @@
-use Rattle.std.proofs.Common.{◌≡◌, ◌∙◌, true, get_or, sym, subst, ap}
-use Rattle.std.proofs.lemmas.List.{get_or_default}
+use Rattle.std.proofs.{Common.◌≡◌, Common.◌∙◌, Common.true, Common.get_or, Common.sym, Common.subst, Common.ap, lemmas.List.get_or_default}
 use Rattle.kp_bits.specs.Word.{IsWord}
 use Rattle.kp_bits.specs.Word as bits
-use Rattle.kp_net.specs.declared.node.Node.{Node}
-use Rattle.kp_net.specs.Widths.{wide, no_node}
-use Rattle.kp_net.specs.Folding.{is_const}
-use Rattle.kp_net.specs.inner.Folds.{number_at}
+use Rattle.kp_net.specs.{declared.node.Node.Node, Widths.wide, Widths.no_node, Folding.is_const, inner.Folds.number_at}
 use Rattle.kp_net.proofs.Folds.{number_is}
 use Rattle.kp_net.proofs.fold.number.Goals as goal
 

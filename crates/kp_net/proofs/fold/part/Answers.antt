@@ -1,9 +1,6 @@
-use Rattle.std.proofs.Common.{refl, sym, ap, ◌∙◌}
-use Rattle.std.proofs.lemmas.List.{get_or_default}
+use Rattle.std.proofs.{Common.refl, Common.sym, Common.ap, Common.◌∙◌, lemmas.List.get_or_default}
 use Rattle.kp_bits.specs.Word.{slice_of}
-use Rattle.kp_net.specs.declared.node.Kind.TheVariants.{Slice}
-use Rattle.kp_net.specs.declared.node.Node.{Node}
-use Rattle.kp_net.specs.Widths.{wide, no_node}
+use Rattle.kp_net.specs.{declared.node.Kind.TheVariants.Slice, declared.node.Node.Node, Widths.wide, Widths.no_node}
 use Rattle.kp_net.proofs.Folds.{fold_word, number_word, whole_part}
 use Rattle.kp_net.proofs.fold.part.Goals as goal
 

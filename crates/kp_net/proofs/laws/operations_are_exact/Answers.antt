@@ -1,8 +1,6 @@
 use Rattle.std.proofs.Common.{◌∙◌, get_or, arith}
-use Rattle.kp_net.specs.Nodes.{word_at}
-use Rattle.kp_net.specs.Widths.{wide, no_node}
-use Rattle.kp_net.proofs.Values.{word_there}
-use Rattle.kp_net.proofs.Exact.{node_exact, word_has}
+use Rattle.kp_net.specs.{Nodes.word_at, Widths.wide, Widths.no_node}
+use Rattle.kp_net.proofs.{Values.word_there, Exact.node_exact, Exact.word_has}
 use Rattle.kp_net.proofs.laws.operations_are_exact.Goals as goal
 
 pub returns : goal.returns

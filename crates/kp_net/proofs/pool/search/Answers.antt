@@ -1,8 +1,6 @@
 use Rattle.std.proofs.Common.{◌≡◌, ◌<◌, ◌≤◌, true, get_or, sym, ap, ◌∙◌, arith, ⊎_elim}
-use Rattle.std.proofs.lemmas.Bool.{cases_lt, false≢true}
-use Rattle.std.proofs.lemmas.List.{get_or_default}
-use Rattle.kp_net.specs.declared.node.Node.{Node}
-use Rattle.kp_net.specs.Widths.{no_node}
+use Rattle.std.proofs.lemmas.{Bool.cases_lt, Bool.false≢true, List.get_or_default}
+use Rattle.kp_net.specs.{declared.node.Node.Node, Widths.no_node}
 use Rattle.kp_net.specs.contracts.node.NodePartialEq.TheImpl as nodes
 use Rattle.kp_net.proofs.Same.{node_from_eq, node_eq_itself}
 use Rattle.kp_net.proofs.pool.search.Goals as goal

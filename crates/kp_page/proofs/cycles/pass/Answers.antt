@@ -1,12 +1,9 @@
 use Rattle.std.proofs.Common.{◌≡◌, ◌∙◌, ap, arith, refl, ℕ, [], false}
 use Rattle.kp_net.specs.Netlist.{Input, State, last_of, state_after}
-use Rattle.kp_image.specs.Spans.{word_in}
-use Rattle.kp_image.specs.Feeds.{row_in}
+use Rattle.kp_image.specs.{Spans.word_in, Feeds.row_in}
 use Rattle.kp_cycle.specs.Steps.{Running, given}
 use Rattle.kp_run.specs.Cycles.{inputs_to, input_at}
-use Rattle.kp_run.proofs.Steps.{state_next}
-use Rattle.kp_run.proofs.Given.{rows_fed, feeds_few}
-use Rattle.kp_run.proofs.Samples.{fits_ports}
+use Rattle.kp_run.proofs.{Steps.state_next, Given.rows_fed, Given.feeds_few, Samples.fits_ports}
 use Rattle.kp_page.proofs.cycles.pass.Goals as goal
 
 pub step-requires-clause-few : goal.step-requires-clause-few

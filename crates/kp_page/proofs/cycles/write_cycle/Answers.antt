@@ -1,6 +1,5 @@
 use Rattle.std.proofs.Common.{◌≡◌, ◌∙◌, All, List, ap, sym, subst}
-use Rattle.kp_ast.specs.declared.tree.Decl.{Decl}
-use Rattle.kp_ast.specs.declared.tree.Job.{Job}
+use Rattle.kp_ast.specs.declared.tree.{Decl.Decl, Job.Job}
 use Rattle.kp_machine.proofs.Widths.{job_fine}
 use Rattle.kp_debug_report.specs.inner.Standing.{HasAddresses}
 use Rattle.kp_debug_report.proofs.Places.{some_addresses}

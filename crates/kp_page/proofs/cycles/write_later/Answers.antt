@@ -1,13 +1,10 @@
-use Rattle.std.proofs.Common.{◌∙◌, ◌+◌, ap, sym, subst, arith}
-use Rattle.std.proofs.lemmas.Result.{err_from_is_err_and}
-use Rattle.std.proofs.KnownBytes.{Appends-nil}
+use Rattle.std.proofs.{Common.◌∙◌, Common.◌+◌, Common.ap, Common.sym, Common.subst, Common.arith, lemmas.Result.err_from_is_err_and, KnownBytes.Appends-nil}
 use Rattle.kp_base.proofs.Bytes.{written_piece, written_part, rest_whole}
 use Rattle.kp_net.specs.Netlist.{Net}
 use Rattle.kp_cycle.specs.Steps.{Running}
 use Rattle.kp_synth_spec.specs.Shows.{IsOfJob, Shows}
 use Rattle.kp_tool_report.proofs.Lines.{left_is}
-use Rattle.kp_page.specs.Runs.{after_cycles}
-use Rattle.kp_page.specs.inner.Seen.{states_of}
+use Rattle.kp_page.specs.{Runs.after_cycles, inner.Seen.states_of}
 use Rattle.kp_page.proofs.Lines.{appends_as, part_as, cycle_is, cycles_next, cycles_end}
 use Rattle.kp_page.proofs.cycles.write_later.Goals as goal
 

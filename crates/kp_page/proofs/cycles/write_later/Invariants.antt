@@ -1,8 +1,6 @@
 use Rattle.std.proofs.Common.{◌≡◌, ◌+◌, ◌-◌, ◌≤◌, length}
 use Rattle.kp_base.specs.inner.Bytes.{WrittenUpTo}
-use Rattle.kp_page.specs.States.{recorded_from}
-use Rattle.kp_page.specs.Runs.{after_cycles}
-use Rattle.kp_page.specs.inner.Seen.{states_of}
+use Rattle.kp_page.specs.{States.recorded_from, Runs.after_cycles, inner.Seen.states_of}
 use Rattle.kp_page.proofs.cycles.write_later.Given as goal
 
 abbrev pub invariant-loop-cycle : goal.invariant-loop-cycle

@@ -1,5 +1,4 @@
-use Rattle.kp_page.proofs.Lines.{writes_as}
-use Rattle.kp_page.proofs.Running.{text_is}
+use Rattle.kp_page.proofs.{Lines.writes_as, Running.text_is}
 use Rattle.kp_page.proofs.run.write_run.Goals as goal
 
 pub returns-clause-text : goal.returns-clause-text

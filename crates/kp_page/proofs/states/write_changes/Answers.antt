@@ -1,5 +1,4 @@
-use Rattle.std.proofs.Common.{arith, ap}
-use Rattle.std.proofs.lemmas.Result.{err_from_is_err_and}
+use Rattle.std.proofs.{Common.arith, Common.ap, lemmas.Result.err_from_is_err_and}
 use Rattle.kp_base.proofs.Bytes.{written_piece, written_part}
 use Rattle.kp_machine.specs.Slots.{targets_of}
 use Rattle.kp_tool_report.proofs.Lines.{left_is, past, at_most_one, stands}

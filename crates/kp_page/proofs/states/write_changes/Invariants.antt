@@ -1,8 +1,7 @@
 use Rattle.std.proofs.Common.{◌≡◌, ◌≤◌, drop}
 use Rattle.kp_base.specs.inner.Bytes.{WrittenUpTo}
 use Rattle.kp_machine.specs.Slots.{targets_of}
-use Rattle.kp_page.specs.States.{change_lines}
-use Rattle.kp_page.specs.inner.Seen.{seen, seen_before}
+use Rattle.kp_page.specs.{States.change_lines, inner.Seen.seen, inner.Seen.seen_before}
 use Rattle.kp_page.proofs.states.write_changes.Given as goal
 
 abbrev pub invariant-loop-decl : goal.invariant-loop-decl

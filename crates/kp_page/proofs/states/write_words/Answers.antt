@@ -1,6 +1,4 @@
-use Rattle.std.proofs.Common.{arith, ℕ, get_or}
-use Rattle.std.proofs.lemmas.Result.{err_from_is_err_and}
-use Rattle.std.proofs.KnownBytes.{Appends-nil}
+use Rattle.std.proofs.{Common.arith, Common.ℕ, Common.get_or, lemmas.Result.err_from_is_err_and, KnownBytes.Appends-nil}
 use Rattle.kp_base.proofs.Bytes.{written_piece, written_part, rest_whole}
 use Rattle.kp_seq.specs.Running.{target}
 use Rattle.kp_tool_report.proofs.Lines.{left_is}

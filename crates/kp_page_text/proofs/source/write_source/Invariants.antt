@@ -1,6 +1,5 @@
 use Rattle.std.proofs.Common.{◌≤◌, take}
-use Rattle.std.specs.Prelude.{flat_map}
-use Rattle.std.specs.Io.KnownBytes.{Appends}
+use Rattle.std.specs.{Prelude.flat_map, Io.KnownBytes.Appends}
 use Rattle.kp_page_text.specs.Page.{escaped}
 use Rattle.kp_page_text.proofs.source.write_source.Given as goal
 

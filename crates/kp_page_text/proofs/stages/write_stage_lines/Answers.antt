@@ -1,5 +1,4 @@
-use Rattle.std.proofs.Common.{arith}
-use Rattle.std.proofs.lemmas.Result.{err_from_is_err_and}
+use Rattle.std.proofs.{Common.arith, lemmas.Result.err_from_is_err_and}
 use Rattle.kp_base.proofs.Bytes.{written_piece, written_part}
 use Rattle.kp_diagram_text.specs.Charts.{names_of}
 use Rattle.kp_page_text.proofs.Lines.{left_is, lines_next}

@@ -1,10 +1,7 @@
-use Rattle.std.proofs.Common.{arith}
-use Rattle.std.proofs.lemmas.List.{length_push}
-use Rattle.std.proofs.lemmas.Result.{err_from_is_err_and}
+use Rattle.std.proofs.{Common.arith, lemmas.List.length_push, lemmas.Result.err_from_is_err_and}
 use Rattle.kp_ast.specs.declared.tree.Decl.{Decl}
 use Rattle.kp_grammar.specs.Machine.{make}
-use Rattle.kp_parse_grammar.proofs.Steps.{end_end}
-use Rattle.kp_parse_grammar.proofs.Picks.{decls_1, decls_else}
+use Rattle.kp_parse_grammar.proofs.{Steps.end_end, Picks.decls_1, Picks.decls_else}
 use Rattle.kp_parse.proofs.declaration.declarations.Goals as goal
 
 pub returns-in_err-one : goal.returns-in_err-one

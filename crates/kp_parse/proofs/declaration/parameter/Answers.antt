@@ -1,8 +1,6 @@
-use Rattle.std.proofs.Common.{arith}
-use Rattle.std.proofs.lemmas.Result.{err_from_is_err_and}
+use Rattle.std.proofs.{Common.arith, lemmas.Result.err_from_is_err_and}
 use Rattle.kp_grammar.specs.Machine.{make}
-use Rattle.kp_parse_grammar.proofs.Steps.{by_dropped, one, miss_end, end_end}
-use Rattle.kp_parse_grammar.proofs.Picks.{par_all}
+use Rattle.kp_parse_grammar.proofs.{Steps.by_dropped, Steps.one, Steps.miss_end, Steps.end_end, Picks.par_all}
 use Rattle.kp_parse.proofs.declaration.parameter.Goals as goal
 
 pub returns-in_err-name : goal.returns-in_err-name

@@ -1,8 +1,6 @@
-use Rattle.std.proofs.Common.{arith}
-use Rattle.std.proofs.lemmas.Result.{err_from_is_err_and}
+use Rattle.std.proofs.{Common.arith, lemmas.Result.err_from_is_err_and}
 use Rattle.kp_grammar.specs.Machine.{make}
-use Rattle.kp_parse_grammar.proofs.Steps.{by_dropped, one, miss_end, end_end, stretch_end}
-use Rattle.kp_parse_grammar.proofs.Picks.{decl_6}
+use Rattle.kp_parse_grammar.proofs.{Steps.by_dropped, Steps.one, Steps.miss_end, Steps.end_end, Steps.stretch_end, Picks.decl_6}
 use Rattle.kp_parse.proofs.declaration.sample.Goals as goal
 
 pub returns-in_err-_sample : goal.returns-in_err-_sample

@@ -1,5 +1,4 @@
-use Rattle.std.proofs.Common.{refl, ap, ◌∙◌, length, arith}
-use Rattle.std.proofs.lemmas.List.{length-map}
+use Rattle.std.proofs.{Common.refl, Common.ap, Common.◌∙◌, Common.length, Common.arith, lemmas.List.length-map}
 use Rattle.kp_lex.proofs.Counted.{tokens_within}
 use Rattle.kp_parse_grammar.specs.Tokens.{lexeme_of, lexemes}
 use Rattle.kp_parse.specs.Sentence.{Breaks}

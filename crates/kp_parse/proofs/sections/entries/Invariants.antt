@@ -1,7 +1,6 @@
 use Rattle.std.proofs.Common.{[], ◌∷◌, length, drop}
 use Rattle.kp_grammar.specs.Grammar.{Nonterminal}
-use Rattle.kp_parse_grammar.specs.Language.{ENTRIES, inputs}
-use Rattle.kp_parse_grammar.specs.Reading.{TurnsYet}
+use Rattle.kp_parse_grammar.specs.{Language.ENTRIES, Language.inputs, Reading.TurnsYet}
 use Rattle.kp_parse.proofs.sections.entries.Given as goal
 
 abbrev pub invariant-all : goal.invariant-all

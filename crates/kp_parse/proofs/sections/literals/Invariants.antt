@@ -1,7 +1,6 @@
 use Rattle.std.proofs.Common.{[], ◌∷◌, length, drop}
 use Rattle.kp_grammar.specs.Grammar.{Nonterminal}
-use Rattle.kp_parse_grammar.specs.Language.{LITS, literals}
-use Rattle.kp_parse_grammar.specs.Reading.{TurnsYet}
+use Rattle.kp_parse_grammar.specs.{Language.LITS, Language.literals, Reading.TurnsYet}
 use Rattle.kp_parse.proofs.sections.literals.Given as goal
 
 abbrev pub invariant-all : goal.invariant-all

@@ -1,8 +1,6 @@
-use Rattle.std.proofs.Common.{arith}
-use Rattle.std.proofs.lemmas.Result.{err_from_is_err_and}
+use Rattle.std.proofs.{Common.arith, lemmas.Result.err_from_is_err_and}
 use Rattle.kp_grammar.specs.Machine.{make}
-use Rattle.kp_parse_grammar.proofs.Steps.{stretch_end}
-use Rattle.kp_parse_grammar.proofs.Picks.{numbered_1, numbered_else}
+use Rattle.kp_parse_grammar.proofs.{Steps.stretch_end, Picks.numbered_1, Picks.numbered_else}
 use Rattle.kp_parse.proofs.sections.numbered.Goals as goal
 
 pub returns-then-not-is_mark : goal.returns-then-not-is_mark

@@ -1,8 +1,6 @@
-use Rattle.std.proofs.Common.{arith}
-use Rattle.std.proofs.lemmas.Result.{err_from_is_err_and}
+use Rattle.std.proofs.{Common.arith, lemmas.Result.err_from_is_err_and}
 use Rattle.kp_grammar.specs.Machine.{make}
-use Rattle.kp_parse_grammar.proofs.Steps.{end_end}
-use Rattle.kp_parse_grammar.proofs.Picks.{spans_1, spans_else}
+use Rattle.kp_parse_grammar.proofs.{Steps.end_end, Picks.spans_1, Picks.spans_else}
 use Rattle.kp_parse.proofs.sections.spans.Goals as goal
 
 pub returns-in_err-one : goal.returns-in_err-one

@@ -1,8 +1,6 @@
-use Rattle.std.proofs.Common.{arith}
-use Rattle.std.proofs.lemmas.Result.{err_from_is_err_and}
+use Rattle.std.proofs.{Common.arith, lemmas.Result.err_from_is_err_and}
 use Rattle.kp_grammar.specs.Machine.{make}
-use Rattle.kp_parse_grammar.proofs.Steps.{by_dropped, one, miss_end, end_end}
-use Rattle.kp_parse_grammar.proofs.Picks.{address_1, address_else}
+use Rattle.kp_parse_grammar.proofs.{Steps.by_dropped, Steps.one, Steps.miss_end, Steps.end_end, Picks.address_1, Picks.address_else}
 use Rattle.kp_parse.proofs.stage.address.Goals as goal
 
 pub returns-then-not-is_mark : goal.returns-then-not-is_mark

@@ -1,8 +1,6 @@
-use Rattle.std.proofs.Common.{arith}
-use Rattle.std.proofs.lemmas.Result.{err_from_is_err_and}
+use Rattle.std.proofs.{Common.arith, lemmas.Result.err_from_is_err_and}
 use Rattle.kp_grammar.specs.Machine.{make}
-use Rattle.kp_parse_grammar.proofs.Steps.{by_placed, one, miss_end, stretch_end}
-use Rattle.kp_parse_grammar.proofs.Picks.{stmt_else}
+use Rattle.kp_parse_grammar.proofs.{Steps.by_placed, Steps.one, Steps.miss_end, Steps.stretch_end, Picks.stmt_else}
 use Rattle.kp_parse.proofs.stage.aim.Goals as goal
 
 pub returns-in_err-place : goal.returns-in_err-place

@@ -1,5 +1,4 @@
-use Rattle.std.proofs.Common.{arith}
-use Rattle.std.proofs.lemmas.Result.{err_from_is_err_and}
+use Rattle.std.proofs.{Common.arith, lemmas.Result.err_from_is_err_and}
 use Rattle.kp_parse_grammar.proofs.Steps.{by_dropped, one, miss_stretch, end_stretch}
 use Rattle.kp_parse.proofs.stage.bound.Goals as goal
 

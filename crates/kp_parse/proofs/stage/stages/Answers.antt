@@ -1,10 +1,7 @@
-use Rattle.std.proofs.Common.{arith}
-use Rattle.std.proofs.lemmas.List.{length_push}
-use Rattle.std.proofs.lemmas.Result.{err_from_is_err_and}
+use Rattle.std.proofs.{Common.arith, lemmas.List.length_push, lemmas.Result.err_from_is_err_and}
 use Rattle.kp_ast.specs.declared.tree.Block.{Block}
 use Rattle.kp_grammar.specs.Machine.{make}
-use Rattle.kp_parse_grammar.proofs.Steps.{end_end}
-use Rattle.kp_parse_grammar.proofs.Picks.{stages_1, stages_else}
+use Rattle.kp_parse_grammar.proofs.{Steps.end_end, Picks.stages_1, Picks.stages_else}
 use Rattle.kp_parse.proofs.stage.stages.Goals as goal
 
 pub all-init : goal.all-init

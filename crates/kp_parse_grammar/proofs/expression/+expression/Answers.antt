@@ -1,10 +1,9 @@
 -- Each return value specifies the steps of the machine.
-use Rattle.std.proofs.Common.{arith}
-use Rattle.std.proofs.lemmas.Result.{err_from_is_err_and}
+use Rattle.std.proofs.{Common.arith, lemmas.Result.err_from_is_err_and}
 use Rattle.kp_grammar.specs.Machine.{make}
 use Rattle.kp_parse_grammar.proofs.Steps.{by_dropped, by_placed, by_closed, by_separated, by_counted, by_opened, by_opened_at, over_counted, over_opened, over_opened_at, one, miss_fail, end_fail, fail_fail, list_fail, deep_fail, fail_list, miss_list, miss_all, fail_all, deep_all, all_fail}
-use Rattle.kp_parse_grammar.proofs.Operators.{chain_start, more_start, more_none, operators_go_on, compare_ends, post_reads}
 use Rattle.kp_parse_grammar.proofs.Picks.{expr_all, choice_1, choice_else, unary_1, post_all, slices_1, slices_else, prim_2, prim_3, prim_4, prim_5, prim_else, call_1, call_else, exprs_all, parts_1, parts_else, extended_all}
+use Rattle.kp_parse_grammar.proofs.Operators.{chain_start, more_start, more_none, operators_go_on, compare_ends, post_reads}
 use Rattle.kp_parse_grammar.proofs.expression.+expression.Goals as goal
 
 pub expression-returns-in_err-test : goal.expression-returns-in_err-test

@@ -1,6 +1,5 @@
 use Rattle.std.proofs.Common.{◌-◌, ◌*◌, ◌+◌, [], ◌∷◌, length, drop}
-use Rattle.kp_parse_grammar.specs.inner.Rank.{rank}
-use Rattle.kp_parse_grammar.specs.Language.{expr, POST, SLICES, CHAIN, MORE}
+use Rattle.kp_parse_grammar.specs.{inner.Rank.rank, Language.expr, Language.POST, Language.SLICES, Language.CHAIN, Language.MORE}
 use Rattle.kp_parse_grammar.specs.Reading.{ReadsYet, ListsYet}
 use Rattle.kp_parse_grammar.proofs.expression.+expression.Given as goal
 

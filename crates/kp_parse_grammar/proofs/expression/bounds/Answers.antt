@@ -1,5 +1,4 @@
-use Rattle.std.proofs.Common.{arith}
-use Rattle.std.proofs.lemmas.Result.{err_from_is_err_and}
+use Rattle.std.proofs.{Common.arith, lemmas.Result.err_from_is_err_and}
 use Rattle.kp_parse_grammar.proofs.Steps.{by_dropped, by_counted, over_counted, one, miss_all, end_all, deep_all}
 use Rattle.kp_parse_grammar.proofs.expression.bounds.Goals as goal
 

@@ -1,8 +1,6 @@
-use Rattle.std.proofs.Common.{arith}
-use Rattle.std.proofs.lemmas.Result.{err_from_is_err_and}
+use Rattle.std.proofs.{Common.arith, lemmas.Result.err_from_is_err_and}
 use Rattle.kp_grammar.specs.Machine.{make}
-use Rattle.kp_parse_grammar.proofs.Steps.{end_fail}
-use Rattle.kp_parse_grammar.proofs.Picks.{prim_1}
+use Rattle.kp_parse_grammar.proofs.{Steps.end_fail, Picks.prim_1}
 use Rattle.kp_parse_grammar.proofs.expression.literal.Goals as goal
 
 pub returns-in_err-lit : goal.returns-in_err-lit

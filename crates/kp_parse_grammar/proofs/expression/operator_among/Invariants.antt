@@ -1,6 +1,5 @@
 use Rattle.std.proofs.Common.{◌≡◌, drop}
-use Rattle.kp_parse_grammar.specs.inner.Operators.{operator_at}
-use Rattle.kp_parse_grammar.specs.Reading.{class_at}
+use Rattle.kp_parse_grammar.specs.{inner.Operators.operator_at, Reading.class_at}
 use Rattle.kp_parse_grammar.proofs.expression.operator_among.Given as goal
 
 abbrev pub invariant-loop-operator : goal.invariant-loop-operator

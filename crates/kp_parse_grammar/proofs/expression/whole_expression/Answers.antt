@@ -1,7 +1,6 @@
 use Rattle.std.proofs.lemmas.Result.{err_from_is_err_and}
 use Rattle.kp_grammar.specs.Machine.{make}
-use Rattle.kp_parse_grammar.proofs.Steps.{fail_end}
-use Rattle.kp_parse_grammar.proofs.Picks.{whole_all}
+use Rattle.kp_parse_grammar.proofs.{Steps.fail_end, Picks.whole_all}
 use Rattle.kp_parse_grammar.proofs.expression.whole_expression.Goals as goal
 
 pub returns-in_err-expr : goal.returns-in_err-expr

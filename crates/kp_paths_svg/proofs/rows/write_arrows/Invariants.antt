@@ -1,7 +1,6 @@
 use Rattle.std.proofs.Common.{◌-◌, ◌≤◌}
 use Rattle.kp_base.specs.inner.Bytes.{WrittenUpTo}
-use Rattle.kp_paths_svg.specs.Arrows.{arrows_from}
-use Rattle.kp_paths_svg.specs.Picture.{arrows_text}
+use Rattle.kp_paths_svg.specs.{Arrows.arrows_from, Picture.arrows_text}
 use Rattle.kp_paths_svg.proofs.rows.write_arrows.Given as goal
 
 abbrev pub invariant-loop-j : goal.invariant-loop-j

@@ -1,6 +1,4 @@
-use Rattle.kp_pipeline.specs.Examples.{quiets}
-use Rattle.kp_pipeline.specs.Rows.{taken}
-use Rattle.kp_pipeline.specs.SpeculativeExamples.{right3, right3_rows}
+use Rattle.kp_pipeline.specs.{Examples.quiets, Rows.taken, SpeculativeExamples.right3, SpeculativeExamples.right3_rows}
 use Rattle.kp_pipeline.proofs.SpeculativeRuns.{right3-none, right3-runs}
 use Rattle.kp_pipeline.proofs.speculation_examples.right3_never_waits.Goals as goal
 

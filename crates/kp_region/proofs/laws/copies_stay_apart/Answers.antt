@@ -1,5 +1,4 @@
-use Rattle.std.proofs.Common.{◌≡◌, ◌+◌, ◌≤◌, length, arith, ⊎_elim}
-use Rattle.std.proofs.lemmas.List.Edits.{length-between}
+use Rattle.std.proofs.{Common.◌≡◌, Common.◌+◌, Common.◌≤◌, Common.length, Common.arith, Common.⊎_elim, lemmas.List.Edits.length-between}
 use Rattle.kp_region.specs.Words.{span_words}
 use Rattle.kp_region.proofs.Laid.{laid_below, laid_above}
 use Rattle.kp_region.proofs.laws.copies_stay_apart.Goals as goal

@@ -1,7 +1,5 @@
 use Rattle.kp_run.specs.Columns.{AreColumns}
-use Rattle.kp_run.proofs.Boards.{board_is}
-use Rattle.kp_run.proofs.Gathering.{rows_fit_taken}
-use Rattle.kp_run.proofs.Given.{rows_given}
+use Rattle.kp_run.proofs.{Boards.board_is, Gathering.rows_fit_taken, Given.rows_given}
 use Rattle.kp_run.proofs.board.lanes_of.Goals as goal
 
 pub machines_after-requires-clause-samples : goal.machines_after-requires-clause-samples

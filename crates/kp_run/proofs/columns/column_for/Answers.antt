@@ -3,10 +3,9 @@ use Rattle.kp_bits.specs.Word.{Word, word}
 use Rattle.kp_image.specs.Feeds.{row_in}
 use Rattle.kp_sched.specs.Rows.{rows_seen}
 use Rattle.kp_run.specs.Columns.{words_taken}
-use Rattle.kp_run.proofs.Gathering.{one_taken, none_taken}
-use Rattle.kp_run.proofs.Samples.{is_got}
-use Rattle.kp_run.proofs.columns.column_for.Goals as goal
+use Rattle.kp_run.proofs.{Gathering.one_taken, Gathering.none_taken, Samples.is_got}
 use Rattle.kp_run.proofs.columns.column_for.Goals.{then-updates+in_ok-push, else-updates}
+use Rattle.kp_run.proofs.columns.column_for.Goals as goal
 
 pub loop-cycle-preserved : goal.loop-cycle-preserved
 loop-cycle-preserved c =

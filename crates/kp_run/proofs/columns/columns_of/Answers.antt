@@ -1,8 +1,6 @@
 use Rattle.std.proofs.Common.{◌≡◌, ℕ, List, ap, arith, length}
 use Rattle.kp_machine.specs.Slots.{sample_stages}
-use Rattle.kp_run.proofs.Given.{feeds_many}
-use Rattle.kp_run.proofs.Machines.{stages_fit}
-use Rattle.kp_run.proofs.Samples.{few}
+use Rattle.kp_run.proofs.{Given.feeds_many, Machines.stages_fit, Samples.few}
 use Rattle.kp_run.proofs.columns.columns_of.Goals as goal
 
 pub overflow_cast-x : goal.overflow_cast-x

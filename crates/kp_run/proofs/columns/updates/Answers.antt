@@ -1,5 +1,4 @@
-use Rattle.std.proofs.Common.{◌<◌, ◌≤◌, ◌∙◌, sym, arith}
-use Rattle.std.proofs.lemmas.Bool.{le-ltb}
+use Rattle.std.proofs.{Common.◌<◌, Common.◌≤◌, Common.◌∙◌, Common.sym, Common.arith, lemmas.Bool.le-ltb}
 use Rattle.kp_pipeline.proofs.Lists.{bit-at}
 use Rattle.kp_sched.specs.Rows.{bit_of}
 use Rattle.kp_run.proofs.Gathering.{bit_past}

@@ -1,14 +1,11 @@
 use Rattle.std.proofs.Common.{◌≡◌, ◌≤◌, ◌∙◌, sym, ap, subst, arith, refl, ℕ, [], ◌∷◌, ◌++◌, ◌+◌, length, false, List}
 use Rattle.std.specs.Prelude.{vec_len}
 use Rattle.kp_bits.specs.Word.{Word}
-use Rattle.kp_image.specs.Spans.{word_in}
-use Rattle.kp_image.specs.Feeds.{row_in}
+use Rattle.kp_image.specs.{Spans.word_in, Feeds.row_in}
 use Rattle.kp_net.specs.Netlist.{Input, State, last_of, row_of, state_after}
 use Rattle.kp_cycle.specs.Steps.{Running, SamplesFit, given}
 use Rattle.kp_run.specs.Cycles.{inputs_to, input_at, HasRows}
-use Rattle.kp_run.proofs.Steps.{state_next, rows_next, rows_begin}
-use Rattle.kp_run.proofs.Given.{rows_fed, as_feeds, feeds_few}
-use Rattle.kp_run.proofs.Machines.{stages_fit}
+use Rattle.kp_run.proofs.{Steps.state_next, Steps.rows_next, Steps.rows_begin, Given.rows_fed, Given.as_feeds, Given.feeds_few, Machines.stages_fit}
 use Rattle.kp_run.proofs.Samples.{fits_ports}
 use Rattle.kp_run.proofs.cycles.run_of.Goals as goal
 

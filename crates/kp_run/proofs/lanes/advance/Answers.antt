@@ -1,5 +1,4 @@
-use Rattle.std.proofs.Common.{◌≡◌, ◌∙◌, length, refl, ap, arith}
-use Rattle.std.proofs.lemmas.List.{length-map}
+use Rattle.std.proofs.{Common.◌≡◌, Common.◌∙◌, Common.length, Common.refl, Common.ap, Common.arith, lemmas.List.length-map}
 use Rattle.kp_pipeline.specs.Sequential.{seq}
 use Rattle.kp_machine.specs.Machine.{machine_of, values_in}
 use Rattle.kp_seq.specs.Running.{state}

@@ -1,12 +1,9 @@
 use Rattle.std.proofs.Common.{◌≡◌, ◌∙◌, ℕ, List, ◌<◌, ◌≤◌, sym, ap, subst, arith, length, ◌-◌, ◌+◌}
 use Rattle.std.proofs.lemmas.List.{length-map}
 use Rattle.kp_bits.specs.Word.{Word}
-use Rattle.kp_machine.specs.Machine.{values_in}
-use Rattle.kp_machine.specs.Slots.{sample_stages}
-use Rattle.kp_run.specs.Columns.{Taken, word_taken, row_taken}
-use Rattle.kp_run.specs.inner.Lanes.{HaveRunFrom}
-use Rattle.kp_run.proofs.Given.{feeds_many, as_feeds}
-use Rattle.kp_run.proofs.Samples.{many}
+use Rattle.kp_machine.specs.{Machine.values_in, Slots.sample_stages}
+use Rattle.kp_run.specs.{Columns.Taken, Columns.word_taken, Columns.row_taken, inner.Lanes.HaveRunFrom}
+use Rattle.kp_run.proofs.{Given.feeds_many, Given.as_feeds, Samples.many}
 use Rattle.kp_run.proofs.Machines.{opened_is, none_counted, lanes_begin, stage_counted, lanes_before, first_runs, have_run}
 use Rattle.kp_run.proofs.lanes.machines_after.Goals as goal
 

@@ -1,7 +1,6 @@
 use Rattle.std.proofs.Common.{◌≡◌, length}
 use Rattle.kp_machine.specs.Machine.{values_in}
-use Rattle.kp_run.specs.Columns.{row_taken}
-use Rattle.kp_run.specs.inner.Lanes.{HaveRunFrom, lane_count}
+use Rattle.kp_run.specs.{Columns.row_taken, inner.Lanes.HaveRunFrom, inner.Lanes.lane_count}
 use Rattle.kp_run.proofs.lanes.machines_after.Given as goal
 
 abbrev pub invariant-loop-k : goal.invariant-loop-k

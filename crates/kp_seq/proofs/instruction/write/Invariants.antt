@@ -1,6 +1,5 @@
 use Rattle.std.proofs.Common.{◌≡◌, drop}
-use Rattle.kp_seq.specs.inner.Steps.{written_from}
-use Rattle.kp_seq.specs.inner.Resolved.{outputs}
+use Rattle.kp_seq.specs.inner.{Steps.written_from, Resolved.outputs}
 use Rattle.kp_seq.proofs.instruction.write.Given as goal
 
 abbrev pub invariant-loop-t : goal.invariant-loop-t

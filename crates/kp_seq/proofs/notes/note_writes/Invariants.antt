@@ -1,6 +1,5 @@
 use Rattle.std.proofs.Common.{◌≡◌, drop, None}
-use Rattle.kp_seq.specs.inner.Notes.{changed_from, write_noted}
-use Rattle.kp_seq.specs.inner.Resolved.{outputs}
+use Rattle.kp_seq.specs.inner.{Notes.changed_from, Notes.write_noted, Resolved.outputs}
 use Rattle.kp_seq.proofs.notes.note_writes.Given as goal
 
 abbrev pub invariant-loop-i : goal.invariant-loop-i

@@ -1,10 +1,8 @@
-use Rattle.std.proofs.Common.{◌∙◌, ap, subst, sym}
+use Rattle.std.proofs.{Common.◌∙◌, Common.ap, Common.subst, Common.sym, lemmas.Result.IfOk-weaker}
 use Rattle.std.specs.List.{position}
 use Rattle.kp_ast.specs.Expressions.{is_same_name}
-use Rattle.kp_seq.specs.inner.Tables.{Laid}
+use Rattle.kp_seq.specs.inner.{Tables.Laid, Resolved.Does}
 use Rattle.kp_seq.proofs.Resolved.{does_let}
-use Rattle.std.proofs.lemmas.Result.{IfOk-weaker}
-use Rattle.kp_seq.specs.inner.Resolved.{Does}
 use Rattle.kp_seq.proofs.program.step_of.Goals as goal
 
 pub returns-in-Read : goal.returns-in-Read

@@ -1,5 +1,4 @@
-use Rattle.std.proofs.Common.{◌+◌, ◌++◌, ◌∷◌, [], subst, sym, take}
-use Rattle.std.proofs.lemmas.List.{take_all}
+use Rattle.std.proofs.{Common.◌+◌, Common.◌++◌, Common.◌∷◌, Common.[], Common.subst, Common.sym, Common.take, lemmas.List.take_all}
 use Rattle.kp_seq.specs.inner.Resolved.{Does, DoesAll}
 use Rattle.kp_seq.proofs.Resolved.{no_steps, more_steps}
 use Rattle.kp_seq.proofs.program.steps_of.Goals as goal

@@ -1,6 +1,5 @@
 use Rattle.std.proofs.Common.{◌≡◌, ◌+◌, ◌*◌, max, map, take, length}
-use Rattle.kp_seq_plan.specs.declared.code.Code.TheViews.{size-Code}
-use Rattle.kp_seq_plan.specs.Codes.{value_of}
+use Rattle.kp_seq_plan.specs.{declared.code.Code.TheViews.size-Code, Codes.value_of}
 use Rattle.kp_seq_plan.proofs.compute.+compute.Given as goal
 
 abbrev pub decreases-value : goal.decreases-value

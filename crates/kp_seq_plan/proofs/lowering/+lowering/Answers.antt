@@ -1,8 +1,5 @@
-use Rattle.std.proofs.Common.{subst, sym, take, ◌+◌, ◌++◌, ◌∷◌, []}
-use Rattle.std.proofs.lemmas.Result.{IfOk-weaker}
-use Rattle.kp_seq_plan.specs.Plans.{meaning, space}
-use Rattle.kp_seq_plan.specs.Lowering.{Gives}
-use Rattle.kp_seq_plan.specs.inner.Parts.{AreTyped}
+use Rattle.std.proofs.{Common.subst, Common.sym, Common.take, Common.◌+◌, Common.◌++◌, Common.◌∷◌, Common.[], lemmas.Result.IfOk-weaker}
+use Rattle.kp_seq_plan.specs.{Plans.meaning, Plans.space, Lowering.Gives, inner.Parts.AreTyped}
 use Rattle.kp_seq_plan.proofs.Typing.{typed_more, joined_first, joined_next}
 use Rattle.kp_seq_plan.proofs.Arms.{arm_word, arm_not, arm_binary, arm_mux, arm_concat, arm_slice, arm_zext, arm_sext, arm_call, args_none}
 use Rattle.kp_seq_plan.proofs.lowering.+lowering.Goals as goal

@@ -1,9 +1,6 @@
 use Rattle.std.proofs.Common.{◌+◌, ◌*◌, max, take, drop, Option}
 use Rattle.std.specs.Prelude.{sum_by}
-use Rattle.kp_seq_plan.specs.declared.plan.Plan.TheViews.{size-Plan}
-use Rattle.kp_seq_plan.specs.declared.code.Typed.{Typed}
-use Rattle.kp_seq_plan.specs.Plans.{space}
-use Rattle.kp_seq_plan.specs.Lowering.{Gives}
+use Rattle.kp_seq_plan.specs.{declared.plan.Plan.TheViews.size-Plan, declared.code.Typed.Typed, Plans.space, Lowering.Gives}
 use Rattle.kp_seq_plan.specs.inner.Parts.{AreTyped, GivesJoined, joined_found}
 use Rattle.kp_seq_plan.proofs.lowering.+lowering.Given as goal
 

@@ -2,8 +2,7 @@ use Rattle.std.proofs.Common.{refl}
 use Rattle.std.specs.Option.{option_map}
 use Rattle.kp_bits.specs.Word.{not_of}
 use Rattle.kp_seq_plan.specs.declared.code.Code.TheViews as codes
-use Rattle.kp_seq_plan.proofs.Typing.{not_gives}
-use Rattle.kp_seq_plan.proofs.Replacing.{replaced_one}
+use Rattle.kp_seq_plan.proofs.{Typing.not_gives, Replacing.replaced_one}
 use Rattle.kp_seq_plan.proofs.lowering.complement.Goals as goal
 
 pub returns : goal.returns

@@ -2,8 +2,7 @@ use Rattle.std.proofs.Common.{refl, sym, ◌∙◌, ◌≡◌, ◌||◌, ◌==�
 use Rattle.kp_bits.specs.Operators.{is_shift}
 use Rattle.kp_seq_plan.specs.declared.code.Code.TheViews as codes
 use Rattle.kp_seq_plan.specs.inner.Parts.{binary_found}
-use Rattle.kp_seq_plan.proofs.Typing.{binary_gives}
-use Rattle.kp_seq_plan.proofs.Replacing.{replaced_two}
+use Rattle.kp_seq_plan.proofs.{Typing.binary_gives, Replacing.replaced_two}
 use Rattle.kp_seq_plan.proofs.lowering.operation.Goals as goal
 
 pub returns : goal.returns

@@ -2,8 +2,7 @@ use Rattle.std.proofs.Common.{refl, ◌+◌, ◌-◌}
 use Rattle.std.specs.Option.{option_and_then}
 use Rattle.kp_bits.specs.Checked.{checked_slice}
 use Rattle.kp_seq_plan.specs.declared.code.Code.TheViews as codes
-use Rattle.kp_seq_plan.proofs.Typing.{slice_gives}
-use Rattle.kp_seq_plan.proofs.Replacing.{replaced_one}
+use Rattle.kp_seq_plan.proofs.{Typing.slice_gives, Replacing.replaced_one}
 use Rattle.kp_seq_plan.proofs.lowering.slice.Goals as goal
 
 pub returns : goal.returns

@@ -1,6 +1,5 @@
-use Rattle.std.proofs.Common.{arith, refl, subst, sym, take, ◌∙◌}
+use Rattle.std.proofs.{Common.arith, Common.refl, Common.subst, Common.sym, Common.take, Common.◌∙◌, lemmas.Result.IfOk-weaker}
 use Rattle.kp_seq_plan.specs.declared.plan.Plan.TheViews as plans
-use Rattle.std.proofs.lemmas.Result.{IfOk-weaker}
 use Rattle.kp_seq_plan.specs.Plans.{Means, AllMean, MeansBody}
 use Rattle.kp_seq_plan.proofs.Meaning.{means_Lit, means_Name, means_Not, means_Binary, means_Mux, means_Concat, means_Slice, means_Zext, means_Sext, means_Call}
 use Rattle.kp_seq_plan.proofs.Calling.{wrong_count, right_count, called_here, called_before, called_nowhere, none_mean, more_mean}

@@ -1,6 +1,5 @@
 use Rattle.std.proofs.Common.{◌≡◌, drop}
-use Rattle.kp_stage.specs.Facts.{largest_in}
-use Rattle.kp_stage.specs.inner.Tables.{look_up}
+use Rattle.kp_stage.specs.{Facts.largest_in, inner.Tables.look_up}
 use Rattle.kp_stage.proofs.facts.top_in.Given as goal
 
 abbrev pub invariant-loop-stmt : goal.invariant-loop-stmt

@@ -1,6 +1,5 @@
 use Rattle.std.proofs.Common.{◌≡◌, drop}
-use Rattle.kp_stage.specs.Facts.{largest}
-use Rattle.kp_stage.specs.inner.Tables.{look_up}
+use Rattle.kp_stage.specs.{Facts.largest, inner.Tables.look_up}
 use Rattle.kp_stage.proofs.facts.top_of.Given as goal
 
 abbrev pub invariant-loop-block : goal.invariant-loop-block

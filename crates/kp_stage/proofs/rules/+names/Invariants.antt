@@ -1,7 +1,6 @@
 use Rattle.std.proofs.Common.{◌≡◌, drop, map}
 use Rattle.kp_base.specs.First.{first}
-use Rattle.kp_stage.specs.Rules.{ask_expr}
-use Rattle.kp_stage.specs.inner.Tables.{facts_in}
+use Rattle.kp_stage.specs.{Rules.ask_expr, inner.Tables.facts_in}
 use Rattle.kp_stage.proofs.rules.+names.Given as goal
 
 abbrev pub invariant-in_exprs-loop-e : goal.invariant-in_exprs-loop-e

@@ -1,7 +1,6 @@
 use Rattle.std.proofs.Common.{◌≡◌, drop}
 use Rattle.kp_base.specs.First.{first}
-use Rattle.kp_stage.specs.Rules.{ask_stmts}
-use Rattle.kp_stage.specs.inner.Tables.{facts_in}
+use Rattle.kp_stage.specs.{Rules.ask_stmts, inner.Tables.facts_in}
 use Rattle.kp_stage.proofs.rules.in_stmts.Given as goal
 
 abbrev pub invariant-loop-j : goal.invariant-loop-j

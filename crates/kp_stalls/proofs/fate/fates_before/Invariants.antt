@@ -1,8 +1,7 @@
 use Rattle.std.proofs.Common.{◌≡◌, ℕ, ◌<◌, List, ◌∷◌, length, get_or}
 use Rattle.kp_pipeline.specs.Rows.{Row}
 use Rattle.kp_sched.specs.Rows.{row_seen}
-use Rattle.kp_stalls.specs.declared.fate.Fate.TheVariants.{Open}
-use Rattle.kp_stalls.specs.Cycles.{fate_in}
+use Rattle.kp_stalls.specs.{declared.fate.Fate.TheVariants.Open, Cycles.fate_in}
 use Rattle.kp_stalls.proofs.fate.fates_before.Given as goal
 
 abbrev pub invariant-loop-k : goal.invariant-loop-k

@@ -1,7 +1,6 @@
 use Rattle.std.proofs.Common.{◌≡◌, ℕ, ◌<◌, ◌≤◌, [], length, get_or, drop}
 use Rattle.kp_sched.specs.Rows.{rows_seen}
-use Rattle.kp_stalls.specs.declared.fate.Fate.TheVariants.{Open}
-use Rattle.kp_stalls.specs.Cycles.{fate_in}
+use Rattle.kp_stalls.specs.{declared.fate.Fate.TheVariants.Open, Cycles.fate_in}
 use Rattle.kp_stalls.proofs.fate.fates_of.Given as goal
 
 abbrev pub invariant-loop-cycle : goal.invariant-loop-cycle

@@ -1,5 +1,4 @@
-use Rattle.std.proofs.Common.{◌∙◌, map, sym, arith}
-use Rattle.std.proofs.lemmas.List.{ext_get_or, length-map}
+use Rattle.std.proofs.{Common.◌∙◌, Common.map, Common.sym, Common.arith, lemmas.List.ext_get_or, lemmas.List.length-map}
 use Rattle.kp_seq.specs.Running.{state}
 use Rattle.kp_stalls.specs.Occupants.{no_value, value_before}
 use Rattle.kp_stalls.proofs.flight.fill_values.Goals as goal

@@ -1,5 +1,4 @@
-use Rattle.std.proofs.Common.{◌∙◌, None, arith}
-use Rattle.std.proofs.lemmas.List.{ext_get_or}
+use Rattle.std.proofs.{Common.◌∙◌, Common.None, Common.arith, lemmas.List.ext_get_or}
 use Rattle.kp_stalls.proofs.flight.take_reads.Goals as goal
 
 pub returns : goal.returns

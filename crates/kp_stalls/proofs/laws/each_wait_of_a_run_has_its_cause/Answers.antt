@@ -2,8 +2,7 @@ use Rattle.kp_stage.specs.Start.{start_of}
 use Rattle.kp_pipeline.specs.RightPath.{first_moment}
 use Rattle.kp_machine.specs.Machine.{machine_of, state_of}
 use Rattle.kp_stalls.specs.Claims.{run_given, run_moment, run_rows}
-use Rattle.kp_stalls.proofs.Causing.{has_cause}
-use Rattle.kp_stalls.proofs.Moments.{must_at}
+use Rattle.kp_stalls.proofs.{Causing.has_cause, Moments.must_at}
 use Rattle.kp_stalls.proofs.laws.each_wait_of_a_run_has_its_cause.Goals as goal
 
 pub returns : goal.returns

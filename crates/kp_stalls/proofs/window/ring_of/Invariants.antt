@@ -1,6 +1,5 @@
 use Rattle.std.proofs.Common.{ℕ, ◌-◌, ◌<◌, ◌≤◌, length, get_or}
-use Rattle.kp_stalls.specs.Occupants.{nothing}
-use Rattle.kp_stalls.specs.Windows.{HasRoom}
+use Rattle.kp_stalls.specs.{Occupants.nothing, Windows.HasRoom}
 use Rattle.kp_stalls.proofs.window.ring_of.Given as goal
 
 abbrev pub invariant-loop-alloc : goal.invariant-loop-alloc

@@ -4,8 +4,7 @@ use Rattle.kp_cycle.specs.Steps.{Running}
 use Rattle.kp_synth.specs.Carrying.{Carries}
 use Rattle.kp_synth_spec.specs.Shows.{Shows}
 use Rattle.kp_stalls.specs.declared.cause.Line.{Line}
-use Rattle.kp_stalls_run.specs.Runs.{line_with}
-use Rattle.kp_stalls_run.specs.inner.Replays.{no_line, run_at}
+use Rattle.kp_stalls_run.specs.{Runs.line_with, inner.Replays.no_line, inner.Replays.run_at}
 use Rattle.kp_stalls_run.proofs.Values.{fill_done, fill_end, fill_rest, own_net, same_there}
 use Rattle.kp_stalls_run.proofs.guesses.fill.Goals as goal
 

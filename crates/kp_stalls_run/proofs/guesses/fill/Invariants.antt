@@ -1,6 +1,5 @@
 use Rattle.std.proofs.Common.{◌≡◌, ℕ, ◌<◌, ◌≤◌, length, get_or, map}
-use Rattle.kp_stalls_run.specs.Runs.{line_with}
-use Rattle.kp_stalls_run.specs.inner.Replays.{no_line, run_at}
+use Rattle.kp_stalls_run.specs.{Runs.line_with, inner.Replays.no_line, inner.Replays.run_at}
 use Rattle.kp_stalls_run.proofs.guesses.fill.Given as goal
 
 abbrev pub invariant-loop-i : goal.invariant-loop-i

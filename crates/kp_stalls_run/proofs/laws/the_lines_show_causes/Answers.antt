@@ -1,21 +1,14 @@
 use Rattle.std.proofs.Common.{◌≡◌, ◌∙◌, ℕ, ◌+◌, ◌<◌, Some, length, get_or, slice_index_or, ap, sym, subst, arith}
-use Rattle.std.proofs.lemmas.Bool.{eqb-false}
-use Rattle.std.proofs.lemmas.List.Elements.{All-map}
+use Rattle.std.proofs.lemmas.{Bool.eqb-false, List.Elements.All-map}
 use Rattle.kp_bits.specs.Word.{Word}
-use Rattle.kp_pipeline.specs.Pipeline.{Inputs}
-use Rattle.kp_pipeline.specs.RightPath.{IsRightFrom, first_moment, held}
-use Rattle.kp_pipeline.specs.Rows.{Row, row}
+use Rattle.kp_pipeline.specs.{Pipeline.Inputs, RightPath.IsRightFrom, RightPath.first_moment, RightPath.held, Rows.Row, Rows.row}
 use Rattle.kp_stage.specs.Start.{start_of}
 use Rattle.kp_machine.specs.Machine.{inputs_at, inputs_from, machine_of, sequential, start_hints, state_of}
 use Rattle.kp_diagram.specs.Claims.{stalls_of}
-use Rattle.kp_stalls.specs.declared.cause.Cause.{Cause}
-use Rattle.kp_stalls.specs.declared.cause.Line.{Line}
-use Rattle.kp_stalls.specs.Claims.{IsCause, read_site, run_rows}
-use Rattle.kp_stalls.specs.Occupants.{occupants_of, report, value_before}
-use Rattle.kp_stalls.specs.Sites.{sited}
+use Rattle.kp_stalls.specs.{declared.cause.Cause.Cause, declared.cause.Line.Line, Claims.IsCause, Claims.read_site, Claims.run_rows}
+use Rattle.kp_stalls.specs.{Occupants.occupants_of, Occupants.report, Occupants.value_before, Sites.sited}
 use Rattle.kp_stalls_guess.specs.Guessed.{guessed_word}
-use Rattle.kp_stalls_run.specs.Claims.{IsTrueOf, moment_in}
-use Rattle.kp_stalls_run.specs.Runs.{given_in, line_with, run_lines, settled}
+use Rattle.kp_stalls_run.specs.{Claims.IsTrueOf, Claims.moment_in, Runs.given_in, Runs.line_with, Runs.run_lines, Runs.settled}
 use Rattle.kp_stalls_run.proofs.Naming.{named, value_named}
 use Rattle.kp_stalls_run.proofs.Reporting.{IsReportedIn, all_reported, input_at, many_inputs, row_at}
 use Rattle.kp_stalls_run.proofs.Values.{filled, held_number, same_stages, state_of_moment, value_kept}

@@ -2,12 +2,8 @@ use Rattle.std.proofs.Common.{◌≡◌, ℕ, ◌+◌, ◌-◌, ◌≤◌, ◌++
 use Rattle.kp_machine.specs.Machine.{values_in}
 use Rattle.kp_pipeline.specs.Rows.{counts}
 use Rattle.kp_run.specs.Columns.{row_taken}
-use Rattle.kp_sched.specs.Monitors.{HasSeen}
-use Rattle.kp_sched.specs.Rows.{bit_of, rows_seen}
-use Rattle.kp_stalls.specs.Occupants.{report}
-use Rattle.kp_stalls.specs.Cycles.{lines_from}
-use Rattle.kp_stalls.specs.Sites.{sited}
-use Rattle.kp_stalls.specs.Windows.{Follows}
+use Rattle.kp_sched.specs.{Monitors.HasSeen, Rows.bit_of, Rows.rows_seen}
+use Rattle.kp_stalls.specs.{Occupants.report, Cycles.lines_from, Sites.sited, Windows.Follows}
 use Rattle.kp_stalls_run.specs.Runs.{settled}
 use Rattle.kp_stalls_run.proofs.run.add_cycles.Given as goal
 

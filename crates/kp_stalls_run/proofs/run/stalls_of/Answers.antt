@@ -4,8 +4,7 @@ use Rattle.std.specs.List.{All}
 use Rattle.kp_diagram_run.specs.Runs.{IsRunOf}
 use Rattle.kp_stalls.specs.declared.cause.Line.{Line}
 use Rattle.kp_stalls_run.specs.Runs.{line_with, run_lines}
-use Rattle.kp_stalls_run.proofs.Jobs.{job_lines, run_close}
-use Rattle.kp_stalls_run.proofs.Values.{lines_below}
+use Rattle.kp_stalls_run.proofs.{Jobs.job_lines, Jobs.run_close, Values.lines_below}
 use Rattle.kp_stalls_run.proofs.run.stalls_of.Goals as goal
 
 pub lines_of-lines-requires-clause-close : goal.lines_of-lines-requires-clause-close

@@ -1,6 +1,5 @@
 use Rattle.std.proofs.Common.{◌∙◌, ◌<◌, length, arith, sym}
-use Rattle.kp_machine.specs.Machine.{values_in}
-use Rattle.kp_machine.specs.Slots.{sample_stages}
+use Rattle.kp_machine.specs.{Machine.values_in, Slots.sample_stages}
 use Rattle.kp_run.specs.Columns.{row_taken}
 use Rattle.kp_stalls_run.proofs.Settling.{unsettled}
 use Rattle.kp_stalls_run.proofs.samples.is_settled.Goals as goal

@@ -2,8 +2,7 @@ use Rattle.std.proofs.Common.{◌≡◌, ◌-◌, ◌++◌, length}
 use Rattle.kp_machine.specs.Machine.{values_in}
 use Rattle.kp_run.specs.Columns.{row_taken}
 use Rattle.kp_stalls.specs.Cycles.{stages_from}
-use Rattle.kp_stalls_run.specs.Runs.{settled}
-use Rattle.kp_stalls_run.specs.inner.Running.{stage_now}
+use Rattle.kp_stalls_run.specs.{Runs.settled, inner.Running.stage_now}
 use Rattle.kp_stalls_run.proofs.stages.stages_at.Given as goal
 
 abbrev pub invariant-loop-k : goal.invariant-loop-k

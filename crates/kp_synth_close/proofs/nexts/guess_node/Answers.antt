@@ -2,8 +2,7 @@ use Rattle.std.proofs.Common.{◌≡◌, ◌∙◌, ◌==◌, ◌-◌, ℕ, Bool
 use Rattle.kp_pipeline.specs.Pipeline.{ue}
 use Rattle.kp_machine.specs.Machine.{machine_of}
 use Rattle.kp_net.specs.Nodes.{at, on}
-use Rattle.kp_synth_tables.specs.declared.key.Key.TheVariants.{Pending, Guess}
-use Rattle.kp_synth_tables.specs.Keys.{guess_at}
+use Rattle.kp_synth_tables.specs.{declared.key.Key.TheVariants.Pending, declared.key.Key.TheVariants.Guess, Keys.guess_at}
 use Rattle.kp_synth_registers.specs.Holding.{kept_in}
 use Rattle.kp_synth_close.specs.Nexts.{leaves_pending, leaves_with}
 use Rattle.kp_synth_close.proofs.Transport.{pending_kept, guessed_kept}

@@ -1,5 +1,4 @@
-use Rattle.std.proofs.Common.{◌≡◌, ◌∙◌, ℕ, ◌+◌, ◌<◌, sym, subst, arith}
-use Rattle.std.proofs.lemmas.List.{length-set}
+use Rattle.std.proofs.{Common.◌≡◌, Common.◌∙◌, Common.ℕ, Common.◌+◌, Common.◌<◌, Common.sym, Common.subst, Common.arith, lemmas.List.length-set}
 use Rattle.kp_net.specs.Growth.{Wire}
 use Rattle.kp_net.proofs.Growing.{wire_kept, grown_then}
 use Rattle.kp_synth_registers.specs.Meaning.{IsTest}

@@ -1,7 +1,5 @@
-use Rattle.std.proofs.Common.{◌≡◌, ◌∙◌, ◌-◌, ℕ, List, ap, arith}
-use Rattle.std.proofs.lemmas.List.{get_or-take}
-use Rattle.kp_net.specs.declared.node.NodeId.{NodeId}
-use Rattle.kp_net.specs.Nodes.{on}
+use Rattle.std.proofs.{Common.◌≡◌, Common.◌∙◌, Common.◌-◌, Common.ℕ, Common.List, Common.ap, Common.arith, lemmas.List.get_or-take}
+use Rattle.kp_net.specs.{declared.node.NodeId.NodeId, Nodes.on}
 use Rattle.kp_synth_registers.specs.Meaning.{node_at}
 use Rattle.kp_synth_close.proofs.outputs.word_of.Goals as goal
 

@@ -1,10 +1,8 @@
-use Rattle.std.proofs.Common.{◌≡◌, ◌∙◌, ℕ, ◌+◌, ◌<◌, get_or, sym, subst, arith}
-use Rattle.std.proofs.lemmas.List.{length-set}
+use Rattle.std.proofs.{Common.◌≡◌, Common.◌∙◌, Common.ℕ, Common.◌+◌, Common.◌<◌, Common.get_or, Common.sym, Common.subst, Common.arith, lemmas.List.length-set}
 use Rattle.kp_pipeline.specs.Pipeline.{mismatches}
 use Rattle.kp_machine.specs.Machine.{machine_of}
 use Rattle.kp_net.specs.Growth.{Wire}
-use Rattle.kp_synth_registers.specs.declared.outcome.Outcome.{Outcome}
-use Rattle.kp_synth_registers.specs.Meaning.{IsTest, Says}
+use Rattle.kp_synth_registers.specs.{declared.outcome.Outcome.Outcome, Meaning.IsTest, Meaning.Says}
 use Rattle.kp_synth_registers.proofs.Growth.{says_kept}
 use Rattle.kp_synth_close.specs.Nexts.{outcome_at, no_outcome}
 use Rattle.kp_synth_close.proofs.Bits.{get_any, at_set}

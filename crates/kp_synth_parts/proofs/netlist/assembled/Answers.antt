@@ -4,9 +4,7 @@ use Rattle.kp_width.specs.Widths.{widths_of}
 use Rattle.kp_width.proofs.Unbroken.{Unbroken}
 use Rattle.kp_stage.specs.Stages.{broken_of}
 use Rattle.kp_machine.proofs.Widths.{job_fine}
-use Rattle.kp_synth_parts.proofs.Begins.{hints_fit, regs_given, files_given}
-use Rattle.kp_synth_parts.proofs.Visible.{keys_count}
-use Rattle.kp_synth_parts.proofs.Assembled.{few_decls}
+use Rattle.kp_synth_parts.proofs.{Begins.hints_fit, Begins.regs_given, Begins.files_given, Visible.keys_count, Assembled.few_decls}
 use Rattle.kp_synth_parts.proofs.netlist.assembled.Goals as goal
 
 pub sample_ports-requires : goal.sample_ports-requires

@@ -1,12 +1,8 @@
 use Rattle.std.proofs.Common.{◌∙◌, ap, sym, subst}
-use Rattle.kp_net.specs.declared.netlist.Parts.{Parts}
-use Rattle.kp_net.specs.Names.{IsNamed}
-use Rattle.kp_net.specs.Netlist.{Net}
-use Rattle.kp_net.specs.Parts.{PartsOk}
+use Rattle.kp_net.specs.{declared.netlist.Parts.Parts, Names.IsNamed, Netlist.Net, Parts.PartsOk}
 use Rattle.kp_synth_close.specs.Shows.{Shows}
 use Rattle.kp_synth_parts.specs.inner.Built.{Spelled}
-use Rattle.kp_synth_parts.proofs.Assembled.{source, parts_ok}
-use Rattle.kp_synth_parts.proofs.Named.{shows, is_named}
+use Rattle.kp_synth_parts.proofs.{Assembled.source, Assembled.parts_ok, Named.shows, Named.is_named}
 use Rattle.kp_synth_parts.proofs.netlist.close.Goals as goal
 
 pub close-requires : goal.close-requires

@@ -2,8 +2,7 @@ use Rattle.std.proofs.Common.{◌<◌, List, length, sym, subst, arith}
 use Rattle.kp_net.specs.declared.netlist.NetReg.{NetReg}
 use Rattle.kp_synth_tables.specs.Keys.{keys_of}
 use Rattle.kp_synth_parts.specs.inner.Built.{RegsSpelled}
-use Rattle.kp_synth_parts.proofs.Making.{others_step}
-use Rattle.kp_synth_parts.proofs.Spelled.{reg_added}
+use Rattle.kp_synth_parts.proofs.{Making.others_step, Spelled.reg_added}
 use Rattle.kp_synth_parts.proofs.registers.add_others.Goals as goal
 
 pub loop-r-preserved : goal.loop-r-preserved

@@ -1,5 +1,4 @@
-use Rattle.std.proofs.Common.{arith}
-use Rattle.std.proofs.lemmas.Grind.{common_steps}
+use Rattle.std.proofs.{Common.arith, lemmas.Grind.common_steps}
 use Rattle.kp_synth_parts.proofs.Spelled.{no_regs, reg_more}
 use Rattle.kp_synth_parts.proofs.registers.visible.Goals as goal
 

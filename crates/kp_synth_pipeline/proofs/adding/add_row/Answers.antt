@@ -1,14 +1,10 @@
-use Rattle.std.proofs.Common.{◌≡◌, ◌∙◌, le-leb, refl, sym, subst}
-use Rattle.std.proofs.lemmas.Bool.{lt-leb}
-use Rattle.kp_net.specs.Widths.{wide}
-use Rattle.kp_net.specs.Growth.{Kept}
+use Rattle.std.proofs.{Common.◌≡◌, Common.◌∙◌, Common.le-leb, Common.refl, Common.sym, Common.subst, lemmas.Bool.lt-leb}
+use Rattle.kp_net.specs.{Widths.wide, Growth.Kept}
 use Rattle.kp_net.proofs.Growing.{kept_none, kept_then}
 use Rattle.kp_synth_registers.proofs.Growth.{ready_kept}
 use Rattle.kp_synth_stage.specs.Rows.{RowOk}
-use Rattle.kp_synth_tables.specs.Keys.{target_at}
-use Rattle.kp_synth_tables.specs.Fits.{ResultFits}
-use Rattle.kp_synth_pipeline.proofs.Ports.{no_candidate, candidate_by, row_nearer, source_more}
-use Rattle.kp_synth_pipeline.proofs.Downward.{nearer_none}
+use Rattle.kp_synth_tables.specs.{Keys.target_at, Fits.ResultFits}
+use Rattle.kp_synth_pipeline.proofs.{Ports.no_candidate, Ports.candidate_by, Ports.row_nearer, Ports.source_more, Downward.nearer_none}
 use Rattle.kp_synth_pipeline.proofs.adding.add_row.Goals as goal
 
 pub enable_in-enable-requires-clause-ready : goal.enable_in-enable-requires-clause-ready

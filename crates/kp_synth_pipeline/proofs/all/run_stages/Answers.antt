@@ -1,10 +1,8 @@
 use Rattle.std.proofs.Common.{◌≡◌, ℕ, suc, ◌+◌, ◌-◌, ◌≤◌, List, length, sym, ap, subst, arith}
-use Rattle.kp_synth_registers.specs.declared.outcome.Outcome.{Outcome}
-use Rattle.kp_synth_registers.specs.Meaning.{Added}
+use Rattle.kp_synth_registers.specs.{declared.outcome.Outcome.Outcome, Meaning.Added}
 use Rattle.kp_synth_registers.proofs.Growth.{grown_added, added_more, ready_kept}
 use Rattle.kp_synth_stage.specs.declared.row.Source.{Source}
-use Rattle.kp_synth_pipeline.specs.inner.Descending.{Faces, SayFrom}
-use Rattle.kp_synth_pipeline.specs.Stages.{stages_room}
+use Rattle.kp_synth_pipeline.specs.{inner.Descending.Faces, inner.Descending.SayFrom, Stages.stages_room}
 use Rattle.kp_synth_pipeline.proofs.Following.{room_for, first_room, faces_top, all_say, none_said, more_added, last_added, whole_slice}
 use Rattle.kp_synth_pipeline.proofs.Rules.{rules_of}
 use Rattle.kp_synth_pipeline.proofs.all.run_stages.Goals as goal

@@ -1,7 +1,6 @@
 use Rattle.std.proofs.Common.{◌≡◌, suc, ◌+◌, ◌-◌, length}
 use Rattle.kp_synth_registers.specs.Meaning.{Added}
-use Rattle.kp_synth_pipeline.specs.inner.Descending.{Faces, SayFrom}
-use Rattle.kp_synth_pipeline.specs.Stages.{stages_room}
+use Rattle.kp_synth_pipeline.specs.{inner.Descending.Faces, inner.Descending.SayFrom, Stages.stages_room}
 use Rattle.kp_synth_pipeline.proofs.all.run_stages.Given as goal
 
 abbrev pub invariant-loop-j : goal.invariant-loop-j

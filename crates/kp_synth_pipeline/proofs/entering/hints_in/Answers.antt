@@ -1,8 +1,7 @@
 use Rattle.std.proofs.Common.{◌≡◌, ℕ, ◌<◌, ◌∷◌, [], List, length, length-append, sym, ap, subst, arith}
 use Rattle.kp_pipeline.specs.Pipeline.{PipelineState, Inputs}
 use Rattle.kp_machine.specs.Slots.{hints_of}
-use Rattle.kp_net.specs.declared.node.NodeId.{NodeId}
-use Rattle.kp_net.specs.Growth.{Wire}
+use Rattle.kp_net.specs.{declared.node.NodeId.NodeId, Growth.Wire}
 use Rattle.kp_synth_tables.specs.Keys.{hint_at}
 use Rattle.kp_synth_registers.specs.Meaning.{Gives}
 use Rattle.kp_synth_stage.proofs.Binding.{kept_same}

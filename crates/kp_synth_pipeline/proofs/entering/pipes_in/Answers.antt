@@ -1,7 +1,6 @@
 use Rattle.std.proofs.Common.{◌≡◌, ℕ, ◌∷◌, [], List, length, length-append, sym, ap, subst, arith}
 use Rattle.kp_pipeline.specs.Pipeline.{PipelineState, Inputs}
-use Rattle.kp_net.specs.declared.node.NodeId.{NodeId}
-use Rattle.kp_net.specs.Growth.{Wire}
+use Rattle.kp_net.specs.{declared.node.NodeId.NodeId, Growth.Wire}
 use Rattle.kp_net.proofs.Growing.{grown_then}
 use Rattle.kp_synth_tables.specs.Keys.{pipe_at}
 use Rattle.kp_synth_registers.specs.Meaning.{Gives}

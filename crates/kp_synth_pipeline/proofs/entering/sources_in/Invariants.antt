@@ -1,6 +1,5 @@
 use Rattle.std.proofs.Common.{◌≡◌, ◌≤◌, length}
-use Rattle.kp_machine.specs.Slots.{targets_of}
-use Rattle.kp_machine.specs.Machine.{registers_before}
+use Rattle.kp_machine.specs.{Slots.targets_of, Machine.registers_before}
 use Rattle.kp_synth_pipeline.proofs.Entered.{AllBare}
 use Rattle.kp_synth_pipeline.proofs.entering.sources_in.Given as goal
 

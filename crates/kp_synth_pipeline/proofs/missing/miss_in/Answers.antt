@@ -2,10 +2,9 @@ use Rattle.std.proofs.Common.{◌≡◌, ℕ, ◌+◌, ◌*◌, ◌≤◌, lengt
 use Rattle.kp_synth_registers.specs.Meaning.{Added}
 use Rattle.kp_synth_registers.proofs.Growth.{test_kept, grown_added, added_then, ready_kept}
 use Rattle.kp_synth_stage.proofs.Nearest.{sources_kept}
-use Rattle.kp_synth_pipeline.proofs.Stalling.{sees_above_kept}
+use Rattle.kp_synth_pipeline.proofs.{Stalling.sees_above_kept, Wrong.no_misses, Wrong.all_misses, Wrong.guess_step, Wrong.guess_left}
 use Rattle.kp_synth_tables.specs.Keys.{guesses_of}
 use Rattle.kp_synth_pipeline.specs.Stages.{guess_room}
-use Rattle.kp_synth_pipeline.proofs.Wrong.{no_misses, all_misses, guess_step, guess_left}
 use Rattle.kp_synth_pipeline.proofs.missing.miss_in.Goals as goal
 
 pub loop-g-init : goal.loop-g-init

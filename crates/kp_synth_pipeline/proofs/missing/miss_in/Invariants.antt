@@ -1,8 +1,7 @@
 use Rattle.std.proofs.Common.{◌+◌}
 use Rattle.kp_net.specs.Growth.{Wire}
 use Rattle.kp_synth_registers.specs.Meaning.{Added}
-use Rattle.kp_synth_pipeline.specs.Stages.{guess_room}
-use Rattle.kp_synth_pipeline.specs.inner.Whole.{Misses}
+use Rattle.kp_synth_pipeline.specs.{Stages.guess_room, inner.Whole.Misses}
 use Rattle.kp_synth_pipeline.proofs.missing.miss_in.Given as goal
 
 abbrev pub invariant-loop-g : goal.invariant-loop-g

@@ -1,6 +1,5 @@
 use Rattle.std.proofs.Common.{◌≡◌, ◌∙◌, ℕ, ◌+◌, ◌-◌, ◌*◌, sym, ap, subst, false, ◌&&◌, arith}
-use Rattle.kp_synth_tables.specs.declared.key.GuessSlot.{GuessSlot}
-use Rattle.kp_synth_tables.specs.Keys.{guess_at, is_carried}
+use Rattle.kp_synth_tables.specs.{declared.key.GuessSlot.GuessSlot, Keys.guess_at, Keys.is_carried}
 use Rattle.kp_synth_pipeline.specs.inner.Whole.{is_wrong, GuessesOk, GuessOk}
 use Rattle.kp_synth_registers.specs.Holding.{guess_passes}
 use Rattle.kp_synth_registers.proofs.Growth.{grown_added, added_then, added_more}

@@ -1,6 +1,5 @@
 use Rattle.std.proofs.Common.{◌≡◌, length}
-use Rattle.kp_synth_registers.specs.Meaning.{Added}
-use Rattle.kp_synth_registers.specs.inner.First.{FirstRead}
+use Rattle.kp_synth_registers.specs.{Meaning.Added, inner.First.FirstRead}
 use Rattle.kp_synth_registers.proofs.registers.registers.Given as goal
 
 abbrev pub invariant-loop-r : goal.invariant-loop-r

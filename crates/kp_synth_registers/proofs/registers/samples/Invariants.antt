@@ -1,6 +1,5 @@
 use Rattle.std.proofs.Common.{◌≡◌, length}
-use Rattle.kp_synth_registers.specs.Meaning.{Added}
-use Rattle.kp_synth_registers.specs.inner.First.{FirstSamples}
+use Rattle.kp_synth_registers.specs.{Meaning.Added, inner.First.FirstSamples}
 use Rattle.kp_synth_registers.proofs.registers.samples.Given as goal
 
 abbrev pub invariant-loop-x : goal.invariant-loop-x

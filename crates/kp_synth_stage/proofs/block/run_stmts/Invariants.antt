@@ -1,7 +1,6 @@
 use Rattle.std.proofs.Common.{take}
 use Rattle.kp_synth_registers.specs.Meaning.{Added}
-use Rattle.kp_synth_stage.specs.Work.{stmts_at, costs_of}
-use Rattle.kp_synth_stage.specs.inner.Standing.{WorkOk, AllGo}
+use Rattle.kp_synth_stage.specs.{Work.stmts_at, Work.costs_of, inner.Standing.WorkOk, inner.Standing.AllGo}
 use Rattle.kp_synth_stage.proofs.block.run_stmts.Given as goal
 
 abbrev pub invariant-loop-j : goal.invariant-loop-j

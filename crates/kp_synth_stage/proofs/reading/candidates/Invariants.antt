@@ -1,9 +1,7 @@
 use Rattle.std.proofs.Common.{◌≡◌, ◌*◌, length, take, All}
-use Rattle.kp_net.specs.Nodes.{Cells}
-use Rattle.kp_net.specs.Growth.{Grown}
+use Rattle.kp_net.specs.{Nodes.Cells, Growth.Grown}
 use Rattle.kp_fwd.specs.Forward.{CandidateOk}
-use Rattle.kp_synth_stage.specs.Rows.{asked}
-use Rattle.kp_synth_stage.specs.inner.Reading.{Matched}
+use Rattle.kp_synth_stage.specs.{Rows.asked, inner.Reading.Matched}
 use Rattle.kp_synth_stage.proofs.reading.candidates.Given as goal
 
 abbrev pub invariant-loop-row : goal.invariant-loop-row

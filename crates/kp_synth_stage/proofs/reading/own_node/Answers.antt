@@ -4,8 +4,7 @@ use Rattle.kp_net.specs.Growth.{Wire}
 use Rattle.kp_net.proofs.Growing.{wire_kept}
 use Rattle.kp_synth_tables.specs.Keys.{target_at}
 use Rattle.kp_synth_registers.proofs.Growth.{asked_added}
-use Rattle.kp_synth_stage.specs.declared.row.Own.{Own}
-use Rattle.kp_synth_stage.specs.Rows.{own_value, asked, AskOk}
+use Rattle.kp_synth_stage.specs.{declared.row.Own.Own, Rows.own_value, Rows.asked, Rows.AskOk}
 use Rattle.kp_synth_stage.proofs.Nearest.{word_value, file_own}
 use Rattle.kp_synth_stage.proofs.reading.own_node.Goals as goal
 

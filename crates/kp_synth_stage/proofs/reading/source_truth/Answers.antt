@@ -1,11 +1,8 @@
 use Rattle.std.proofs.Common.{◌∙◌, ◌*◌, ◌+◌, ℕ, List, length, ap, sym, subst, arith}
-use Rattle.kp_net.specs.Nodes.{at}
-use Rattle.kp_net.specs.Widths.{wide}
+use Rattle.kp_net.specs.{Nodes.at, Widths.wide}
 use Rattle.kp_synth_tables.specs.Keys.{target_at}
 use Rattle.kp_synth_registers.proofs.Growth.{grown_added, added_then, added_more}
-use Rattle.kp_synth_stage.specs.declared.row.Row.{Row}
-use Rattle.kp_synth_stage.specs.Rows.{asked, own_value, rows_view, RowsOk}
-use Rattle.kp_synth_stage.specs.inner.Reading.{ask_width}
+use Rattle.kp_synth_stage.specs.{declared.row.Row.Row, Rows.asked, Rows.own_value, Rows.rows_view, Rows.RowsOk, inner.Reading.ask_width}
 use Rattle.kp_synth_stage.proofs.Nearest.{ask_inside, ask_wide, ask_kept, asked_kept, rows_kept, rows_view_kept}
 use Rattle.kp_synth_stage.proofs.reading.source_truth.Goals as goal
 

@@ -3,12 +3,8 @@ use Rattle.kp_ast.specs.declared.tree.StmtKind.TheVariants as stmts
 use Rattle.kp_stage.specs.Sizes.{size_of_kind}
 use Rattle.kp_build.specs.Names.{Scope}
 use Rattle.kp_synth_registers.proofs.Growth.{grown_added, added_then, added_more}
-use Rattle.kp_synth_stage.specs.inner.Doing.{target_of}
-use Rattle.kp_synth_stage.specs.inner.Standing.{WorkOk, GoesBy}
-use Rattle.kp_synth_stage.specs.Work.{cost_of}
-use Rattle.kp_synth_stage.proofs.Steps.{right_of}
-use Rattle.kp_synth_stage.proofs.Taking.{read_right}
-use Rattle.kp_synth_stage.proofs.Noting.{some_stage, read_work, read_goes}
+use Rattle.kp_synth_stage.specs.{inner.Doing.target_of, inner.Standing.WorkOk, inner.Standing.GoesBy, Work.cost_of}
+use Rattle.kp_synth_stage.proofs.{Steps.right_of, Taking.read_right, Noting.some_stage, Noting.read_work, Noting.read_goes}
 use Rattle.kp_synth_stage.proofs.statement.read.Goals as goal
 
 pub note-requires-clause-room : goal.note-requires-clause-room

@@ -6,12 +6,11 @@ use Rattle.kp_machine.specs.Slots.{Slot, number_of}
 use Rattle.kp_net.specs.Growth.{Wire}
 use Rattle.kp_synth_tables.specs.Keys.{target_at}
 use Rattle.kp_synth_registers.proofs.Growth.{grown_added, added_then, added_more}
-use Rattle.kp_synth_stage.specs.Rows.{SourceOk, AskOk}
-use Rattle.kp_synth_stage.specs.inner.Doing.{target_of}
+use Rattle.kp_synth_stage.specs.{Rows.SourceOk, Rows.AskOk, inner.Doing.target_of}
 use Rattle.kp_synth_stage.proofs.Binding.{kept_same}
 use Rattle.kp_synth_stage.proofs.Taking.{read_right, source_there, ask_there, bit_there, put_there, guess_there, read_gives, guess_kept}
-use Rattle.kp_ast.specs.declared.tree.StmtKind.TheVariants as stmts
 use Rattle.kp_synth_stage.proofs.Steps.{right_of}
+use Rattle.kp_ast.specs.declared.tree.StmtKind.TheVariants as stmts
 use Rattle.kp_synth_stage.proofs.statement.read_nodes.Goals as goal
 
 pub value_if-requires-clause-right : goal.value_if-requires-clause-right

@@ -1,21 +1,16 @@
 use Rattle.std.proofs.Common.{◌≡◌, ◌∙◌, ◌*◌, ◌+◌, ℕ, List, Some, None, ap, sym, subst, arith}
 use Rattle.std.proofs.lemmas.List.{get_or_default}
-use Rattle.kp_ast.specs.Size.{size}
-use Rattle.kp_ast.specs.declared.tree.Decl.{Decl}
-use Rattle.kp_ast.specs.declared.tree.Job.{Job}
+use Rattle.kp_ast.specs.{Size.size, declared.tree.Decl.Decl, declared.tree.Job.Job}
 use Rattle.kp_ast.specs.declared.tree.StmtKind.TheVariants as stmts
 use Rattle.kp_stage.specs.Sizes.{size_of_option}
 use Rattle.kp_machine.specs.Slots.{Slot, targets_of, number_of}
 use Rattle.kp_net.specs.Nodes.{at as value_at, on}
 use Rattle.kp_pipeline.specs.Sequential.{first_value}
 use Rattle.kp_synth_tables.specs.Keys.{target_at}
-use Rattle.kp_synth_registers.specs.Holding.{optional}
-use Rattle.kp_synth_registers.specs.Meaning.{SetFits, set_value}
+use Rattle.kp_synth_registers.specs.{Holding.optional, Meaning.SetFits, Meaning.set_value}
 use Rattle.kp_synth_registers.proofs.Growth.{grown_added, added_then, added_more}
-use Rattle.kp_synth_stage.specs.Work.{cost_of}
-use Rattle.kp_synth_stage.specs.inner.Statements.{target_named}
-use Rattle.kp_synth_stage.proofs.Binding.{kept_same}
-use Rattle.kp_synth_stage.proofs.Steps.{right_of}
+use Rattle.kp_synth_stage.specs.{Work.cost_of, inner.Statements.target_named}
+use Rattle.kp_synth_stage.proofs.{Binding.kept_same, Steps.right_of}
 use Rattle.kp_synth_stage.proofs.Setting.{set_right, target_found, test_fits, before_fits, node_wire, place_fits, set_work, set_goes}
 use Rattle.kp_synth_stage.proofs.statement.set.Goals as goal
 

@@ -1,6 +1,5 @@
 use Rattle.std.proofs.Common.{◌≡◌, ◌≤◌, ◌++◌, map, drop}
-use Rattle.kp_synth_tables.specs.Keys.{guesses_in}
-use Rattle.kp_synth_tables.specs.inner.Tables.{short_guess}
+use Rattle.kp_synth_tables.specs.{Keys.guesses_in, inner.Tables.short_guess}
 use Rattle.kp_synth_tables.proofs.tables.add_guesses.Given as goal
 
 abbrev pub invariant-loop-stmt : goal.invariant-loop-stmt

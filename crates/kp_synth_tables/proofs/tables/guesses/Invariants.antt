@@ -1,6 +1,5 @@
 use Rattle.std.proofs.Common.{◌≡◌, ◌++◌, map, drop}
-use Rattle.kp_synth_tables.specs.Keys.{guesses_from}
-use Rattle.kp_synth_tables.specs.inner.Tables.{short_guess}
+use Rattle.kp_synth_tables.specs.{Keys.guesses_from, inner.Tables.short_guess}
 use Rattle.kp_synth_tables.proofs.tables.guesses.Given as goal
 
 abbrev pub invariant-loop-k : goal.invariant-loop-k

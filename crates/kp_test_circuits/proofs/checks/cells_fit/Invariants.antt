@@ -1,6 +1,5 @@
 use Rattle.std.proofs.Common.{ℕ, ◌<◌, get_or}
-use Rattle.kp_net.specs.Widths.{no_node}
-use Rattle.kp_net.specs.Parts.{CellOk}
+use Rattle.kp_net.specs.{Widths.no_node, Parts.CellOk}
 use Rattle.kp_test_circuits.proofs.checks.cells_fit.Given as goal
 
 abbrev pub invariant-loop-i : goal.invariant-loop-i

@@ -1,8 +1,5 @@
-use Rattle.std.proofs.Common.{◌<◌, ◌∙◌, length, arith}
-use Rattle.std.proofs.lemmas.List.Elements.{All-more}
-use Rattle.std.proofs.lemmas.List.Sums.{sum_by_more}
-use Rattle.kp_net.specs.declared.node.NodeId.{NodeId}
-use Rattle.kp_net.specs.Widths.{wide}
+use Rattle.std.proofs.{Common.◌<◌, Common.◌∙◌, Common.length, Common.arith, lemmas.List.Elements.All-more, lemmas.List.Sums.sum_by_more}
+use Rattle.kp_net.specs.{declared.node.NodeId.NodeId, Widths.wide}
 use Rattle.kp_test_circuits.proofs.gates.width_of_row.Goals as goal
 
 pub loop-part-preserved : goal.loop-part-preserved

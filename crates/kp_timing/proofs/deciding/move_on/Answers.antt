@@ -1,7 +1,6 @@
 use Rattle.std.proofs.Common.{◌∙◌, ◌-◌, ap, length, arith}
 use Rattle.kp_timing.specs.inner.Deciding.{Held, taken_down}
-use Rattle.kp_timing.proofs.Moving.{taken_count}
-use Rattle.kp_timing.proofs.Stepping.{taken_next}
+use Rattle.kp_timing.proofs.{Moving.taken_count, Stepping.taken_next}
 use Rattle.kp_timing.proofs.deciding.move_on.Goals as goal
 
 pub loop-k-preserved : goal.loop-k-preserved

@@ -1,5 +1,4 @@
-use Rattle.std.proofs.Common.{◌∙◌, None, arith}
-use Rattle.std.proofs.lemmas.List.{ext_get_or}
+use Rattle.std.proofs.{Common.◌∙◌, Common.None, Common.arith, lemmas.List.ext_get_or}
 use Rattle.kp_timing.proofs.flight.take_writes.Goals as goal
 
 pub returns : goal.returns

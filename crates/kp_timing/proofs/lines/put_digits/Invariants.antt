@@ -1,7 +1,6 @@
 use Rattle.std.proofs.Common.{◌≡◌, ◌+◌, ◌-◌, ◌++◌, length, take}
 use Rattle.kp_pipeline.specs.Rows.{bits}
-use Rattle.kp_sched.specs.Rows.{bit_of}
-use Rattle.kp_sched.specs.Lines.{digits}
+use Rattle.kp_sched.specs.{Rows.bit_of, Lines.digits}
 use Rattle.kp_timing.proofs.lines.put_digits.Given as goal
 
 abbrev pub invariant-loop-k : goal.invariant-loop-k

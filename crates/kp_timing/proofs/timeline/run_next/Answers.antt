@@ -1,7 +1,5 @@
-use Rattle.std.proofs.Common.{◌∙◌, length, get_or, ap, arith}
-use Rattle.std.proofs.lemmas.List.{get_or_default}
-use Rattle.kp_seq.specs.Running.{state}
-use Rattle.kp_seq.specs.Recorded.{Recorded}
+use Rattle.std.proofs.{Common.◌∙◌, Common.length, Common.get_or, Common.ap, Common.arith, lemmas.List.get_or_default}
+use Rattle.kp_seq.specs.{Running.state, Recorded.Recorded}
 use Rattle.kp_timing.specs.inner.Deciding.{nothing_recorded}
 use Rattle.kp_timing.proofs.Keeping.{record_fits}
 use Rattle.kp_timing.proofs.timeline.run_next.Goals as goal

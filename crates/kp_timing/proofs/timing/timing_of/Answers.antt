@@ -1,7 +1,6 @@
 use Rattle.std.proofs.Common.{◌∙◌, ap, subst, sym}
 use Rattle.kp_ast.specs.declared.tree.Job.{Job}
-use Rattle.kp_stage.specs.declared.start.Start.{Start}
-use Rattle.kp_stage.specs.Start.{start_of, stall_word}
+use Rattle.kp_stage.specs.{declared.start.Start.Start, Start.start_of, Start.stall_word}
 use Rattle.kp_image.proofs.Given.{starts}
 use Rattle.kp_timing.specs.Timed.{IsOpened}
 use Rattle.kp_timing.proofs.Plain.{has_timeline}

@@ -1,5 +1,4 @@
-use Rattle.std.proofs.Common.{◌∙◌, ℕ, ◌+◌, ◌-◌, refl, ap, sym, arith}
-use Rattle.std.proofs.lemmas.Result.{err_from_is_err_and}
+use Rattle.std.proofs.{Common.◌∙◌, Common.ℕ, Common.◌+◌, Common.◌-◌, Common.refl, Common.ap, Common.sym, Common.arith, lemmas.Result.err_from_is_err_and}
 use Rattle.kp_base.proofs.Bytes.{written_none, written_piece, written_part, written_rest}
 use Rattle.kp_ast.specs.declared.tree.Job.{Job}
 use Rattle.kp_sched.specs.Rows.{bit_of}

@@ -1,7 +1,6 @@
 use Rattle.std.proofs.Common.{◌≡◌, ◌-◌, ◌≤◌}
 use Rattle.kp_base.specs.inner.Bytes.{WrittenUpTo}
-use Rattle.kp_timing.specs.Lines.{timing_text}
-use Rattle.kp_timing.specs.Timed.{hold_of}
+use Rattle.kp_timing.specs.{Lines.timing_text, Timed.hold_of}
 use Rattle.kp_timing.proofs.Texts.{text_left}
 use Rattle.kp_timing.proofs.writing.write_cycles.Given as goal
 

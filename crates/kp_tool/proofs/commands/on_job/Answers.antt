@@ -1,5 +1,4 @@
-use Rattle.std.proofs.Common.{Some}
-use Rattle.std.proofs.lemmas.Result.{err_from_is_err_and}
+use Rattle.std.proofs.{Common.Some, lemmas.Result.err_from_is_err_and}
 use Rattle.kp_tool_words.specs.declared.words.Command.TheVariants.{OnJob}
 use Rattle.kp_tool_spec.specs.Due.{DueFor}
 use Rattle.kp_tool_spec.proofs.Dues.{refused_is_due}

@@ -1,12 +1,8 @@
 use Rattle.std.proofs.Common.{◌≡◌, ◌∙◌, ℕ, List, Ok, Err, IfOk, ap, subst}
-use Rattle.std.specs.declared.result.Result.{Result}
-use Rattle.std.specs.Global.{Vec}
-use Rattle.kp_base.specs.Check.{Gives}
-use Rattle.kp_base.specs.declared.refusal.Refused.{Refused}
-use Rattle.kp_ast.specs.declared.tree.Decl.{Decl}
-use Rattle.kp_ast.specs.declared.tree.Job.{Job}
-use Rattle.kp_debug_script.specs.declared.command.Command.{Command}
-use Rattle.kp_debug_script.specs.Scripts.{script_of}
+use Rattle.std.specs.{declared.result.Result.Result, Global.Vec}
+use Rattle.kp_base.specs.{Check.Gives, declared.refusal.Refused.Refused}
+use Rattle.kp_ast.specs.declared.tree.{Decl.Decl, Job.Job}
+use Rattle.kp_debug_script.specs.{declared.command.Command.Command, Scripts.script_of}
 use Rattle.kp_debug_report.specs.Inspecting.{AreOfJob}
 use Rattle.kp_tool.proofs.debug.commands_of.Goals as goal
 

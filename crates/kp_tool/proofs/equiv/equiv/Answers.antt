@@ -1,10 +1,8 @@
-use Rattle.std.proofs.Common.{ℕ, ◌≤◌, List, length, Ok, Some}
-use Rattle.std.proofs.lemmas.Result.{err_from_is_err_and}
+use Rattle.std.proofs.{Common.ℕ, Common.◌≤◌, Common.List, Common.length, Common.Ok, Common.Some, lemmas.Result.err_from_is_err_and}
 use Rattle.kp_ast.specs.declared.tree.Job.{Job}
 use Rattle.kp_tool_words.specs.declared.words.Command.TheVariants.{Compare}
 use Rattle.kp_frontend.specs.Judging.{JudgesHeadText}
-use Rattle.kp_tool_spec.specs.Due.{DueFor}
-use Rattle.kp_tool_spec.specs.Compared.{DueOfPairHead}
+use Rattle.kp_tool_spec.specs.{Due.DueFor, Compared.DueOfPairHead}
 use Rattle.kp_tool_spec.proofs.Dues.{pair_head_refused_is_due, pair_head_accepted_is_due}
 use Rattle.kp_tool.proofs.Ends.{refused_head, wider}
 use Rattle.kp_tool.proofs.equiv.equiv.Goals as goal

@@ -1,10 +1,8 @@
-use Rattle.std.proofs.Common.{ℕ, ◌≤◌, List, length, Ok, Some}
-use Rattle.std.proofs.lemmas.Result.{err_from_is_err_and}
+use Rattle.std.proofs.{Common.ℕ, Common.◌≤◌, Common.List, Common.length, Common.Ok, Common.Some, lemmas.Result.err_from_is_err_and}
 use Rattle.kp_ast.specs.declared.tree.Job.{Job}
 use Rattle.kp_tool_words.specs.declared.words.Command.TheVariants.{Watch}
 use Rattle.kp_frontend.specs.Judging.{JudgesHeadText}
-use Rattle.kp_tool_spec.specs.Due.{DueFor}
-use Rattle.kp_tool_spec.specs.Watched.{DueOfHead}
+use Rattle.kp_tool_spec.specs.{Due.DueFor, Watched.DueOfHead}
 use Rattle.kp_tool_spec.proofs.Dues.{head_refused_is_due, head_accepted_is_due}
 use Rattle.kp_tool.proofs.Ends.{refused_head, wider}
 use Rattle.kp_tool.proofs.watch.watch.Goals as goal

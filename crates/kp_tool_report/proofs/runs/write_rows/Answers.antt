@@ -1,8 +1,6 @@
-use Rattle.std.proofs.Common.{arith}
-use Rattle.std.proofs.lemmas.Result.{err_from_is_err_and}
+use Rattle.std.proofs.{Common.arith, lemmas.Result.err_from_is_err_and}
 use Rattle.kp_base.proofs.Bytes.{written_piece, written_part}
-use Rattle.kp_tool_report.proofs.Lines.{left_is}
-use Rattle.kp_tool_report.proofs.Reported.{rows_next}
+use Rattle.kp_tool_report.proofs.{Lines.left_is, Reported.rows_next}
 use Rattle.kp_tool_report.proofs.runs.write_rows.Goals as goal
 
 pub returns-in_err-write_row-clause-text : goal.returns-in_err-write_row-clause-text

@@ -1,7 +1,6 @@
 use Rattle.std.proofs.Common.{◌≤◌, drop}
 use Rattle.kp_base.specs.inner.Bytes.{WrittenUpTo}
-use Rattle.kp_sched.specs.Lines.{row_lines}
-use Rattle.kp_sched.specs.Rows.{rows_seen}
+use Rattle.kp_sched.specs.{Lines.row_lines, Rows.rows_seen}
 use Rattle.kp_tool_report.proofs.runs.write_rows.Given as goal
 
 abbrev pub invariant-loop-cycle : goal.invariant-loop-cycle

@@ -1,5 +1,4 @@
-use Rattle.std.proofs.Common.{arith}
-use Rattle.std.proofs.lemmas.Result.{err_from_is_err_and}
+use Rattle.std.proofs.{Common.arith, lemmas.Result.err_from_is_err_and}
 use Rattle.kp_base.proofs.Bytes.{written_piece, written_part}
 use Rattle.kp_run.specs.Boards.{due_behind}
 use Rattle.kp_tool_report.specs.inner.Boards.{behind}

@@ -2,8 +2,7 @@ use Rattle.std.proofs.Common.{◌≡◌, ◌≤◌, drop}
 use Rattle.kp_base.specs.inner.Bytes.{WrittenUpTo}
 use Rattle.kp_machine.specs.Slots.{targets_of}
 use Rattle.kp_run.specs.Boards.{due_behind}
-use Rattle.kp_tool_report.specs.States.{state_lines}
-use Rattle.kp_tool_report.specs.inner.Boards.{behind}
+use Rattle.kp_tool_report.specs.{States.state_lines, inner.Boards.behind}
 use Rattle.kp_tool_report.proofs.runs.write_values.Given as goal
 
 abbrev pub invariant-loop-decl : goal.invariant-loop-decl

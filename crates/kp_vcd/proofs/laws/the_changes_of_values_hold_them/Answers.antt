@@ -1,6 +1,5 @@
 use Rattle.std.proofs.Common.{◌∙◌, List, ap, sym, subst}
-use Rattle.kp_vcd.specs.declared.dump.Moment.{Moment}
-use Rattle.kp_vcd.specs.Held.{nothing, after, changes_to, EachIsNew, all_changes}
+use Rattle.kp_vcd.specs.{declared.dump.Moment.Moment, Held.nothing, Held.after, Held.changes_to, Held.EachIsNew, Held.all_changes}
 use Rattle.kp_vcd.proofs.Holding.{recorded_held, recorded_new}
 use Rattle.kp_vcd.proofs.laws.the_changes_of_values_hold_them.Goals as goal
 

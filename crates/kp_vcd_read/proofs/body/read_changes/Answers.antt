@@ -1,5 +1,4 @@
-use Rattle.std.proofs.Common.{◌∙◌}
-use Rattle.std.proofs.lemmas.Result.{err_from_is_err_and}
+use Rattle.std.proofs.{Common.◌∙◌, lemmas.Result.err_from_is_err_and}
 use Rattle.kp_vcd_read.proofs.Meeting.{stops, change_on}
 use Rattle.kp_vcd_read.proofs.body.read_changes.Goals as goal
 

@@ -1,7 +1,6 @@
 use Rattle.std.proofs.Common.{◌≡◌, ◌≤◌, length, []}
 use Rattle.kp_vcd.specs.declared.dump.Dump.{Dump}
-use Rattle.kp_vcd_read.specs.Reading.{change, at}
-use Rattle.kp_vcd_read.specs.inner.Meeting.{gives_from}
+use Rattle.kp_vcd_read.specs.{Reading.change, Reading.at, inner.Meeting.gives_from}
 use Rattle.kp_vcd_read.proofs.body.read_changes.Given as goal
 
 abbrev pub invariant-loop-word : goal.invariant-loop-word

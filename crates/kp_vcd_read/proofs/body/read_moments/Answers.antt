@@ -1,5 +1,4 @@
-use Rattle.std.proofs.Common.{◌∙◌, ℕ, Option, sym, ap}
-use Rattle.std.proofs.lemmas.Result.{err_from_is_err_and}
+use Rattle.std.proofs.{Common.◌∙◌, Common.ℕ, Common.Option, Common.sym, Common.ap, lemmas.Result.err_from_is_err_and}
 use Rattle.kp_vcd.specs.declared.dump.Dump.{Dump}
 use Rattle.kp_vcd_read.specs.inner.Meeting.{gives_behind}
 use Rattle.kp_vcd_read.proofs.Meeting.{stops, same_dump}

@@ -1,8 +1,7 @@
 use Rattle.std.proofs.Common.{◌≡◌, ◌+◌, length, []}
 use Rattle.std.specs.Prelude.{is_some, if◌then◌else◌}
 use Rattle.kp_vcd.specs.declared.dump.Dump.{Dump}
-use Rattle.kp_vcd_read.specs.Reading.{first_time, at}
-use Rattle.kp_vcd_read.specs.inner.Meeting.{gives_from, gives_behind}
+use Rattle.kp_vcd_read.specs.{Reading.first_time, Reading.at, inner.Meeting.gives_from, inner.Meeting.gives_behind}
 use Rattle.kp_vcd_read.proofs.body.read_moments.Given as goal
 
 abbrev pub invariant-loop-next : goal.invariant-loop-next

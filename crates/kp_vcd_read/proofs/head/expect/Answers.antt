@@ -1,5 +1,4 @@
-use Rattle.std.proofs.Common.{◌∙◌, ap, arith, ◌<◌, length, map, true, false}
-use Rattle.std.proofs.lemmas.List.{length-map}
+use Rattle.std.proofs.{Common.◌∙◌, Common.ap, Common.arith, Common.◌<◌, Common.length, Common.map, Common.true, Common.false, lemmas.List.length-map}
 use Rattle.std.proofs.lemmas.Result.{err_from_is_err_and}
 use Rattle.kp_vcd_read.proofs.Meeting.{fails, given_ended, given_wrong, given_right, tested}
 use Rattle.kp_vcd_read.proofs.head.expect.Goals as goal

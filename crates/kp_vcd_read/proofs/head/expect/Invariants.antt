@@ -1,7 +1,6 @@
 use Rattle.std.proofs.Common.{◌≡◌, ◌≤◌, length, drop, map}
 use Rattle.kp_vcd.specs.declared.dump.Dump.{Dump}
-use Rattle.kp_vcd_read.specs.Reading.{Next, at, these}
-use Rattle.kp_vcd_read.specs.inner.Meeting.{gives_from}
+use Rattle.kp_vcd_read.specs.{Reading.Next, Reading.at, Reading.these, inner.Meeting.gives_from}
 use Rattle.kp_vcd_read.proofs.head.expect.Given as goal
 
 abbrev pub invariant-loop-wanted : goal.invariant-loop-wanted

@@ -1,5 +1,4 @@
-use Rattle.std.proofs.Common.{◌∙◌, []}
-use Rattle.std.proofs.lemmas.Result.{err_from_is_err_and}
+use Rattle.std.proofs.{Common.◌∙◌, Common.[], lemmas.Result.err_from_is_err_and}
 use Rattle.kp_vcd_read.specs.Reading.{module_name, declaration, named}
 use Rattle.kp_vcd_read.proofs.Meeting.{stops, name_wanted}
 use Rattle.kp_vcd_read.proofs.head.read_module.Goals as goal

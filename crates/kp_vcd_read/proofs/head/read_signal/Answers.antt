@@ -1,5 +1,4 @@
-use Rattle.std.proofs.Common.{◌∙◌}
-use Rattle.std.proofs.lemmas.Result.{err_from_is_err_and}
+use Rattle.std.proofs.{Common.◌∙◌, lemmas.Result.err_from_is_err_and}
 use Rattle.kp_vcd_read.specs.Reading.{declaration, with_signal}
 use Rattle.kp_vcd_read.proofs.Meeting.{stops, kind_wanted, width_wanted, code_wanted, signal_name_wanted}
 use Rattle.kp_vcd_read.proofs.head.read_signal.Goals as goal

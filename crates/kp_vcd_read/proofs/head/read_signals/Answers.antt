@@ -1,8 +1,7 @@
 use Rattle.std.proofs.Common.{◌∙◌, List, sym, ap, arith, true, false, length}
 use Rattle.std.proofs.lemmas.Result.{err_from_is_err_and}
 use Rattle.kp_vcd.specs.declared.dump.Signal.{Signal}
-use Rattle.kp_vcd_read.specs.Reading.{declaration, first_time, at, named}
-use Rattle.kp_vcd_read.specs.inner.Meeting.{gives_from}
+use Rattle.kp_vcd_read.specs.{Reading.declaration, Reading.first_time, Reading.at, Reading.named, inner.Meeting.gives_from}
 use Rattle.kp_vcd_read.proofs.Meeting.{stops, more_wanted, more_on}
 use Rattle.kp_vcd_read.proofs.head.read_signals.Goals as goal
 

@@ -1,6 +1,5 @@
 use Rattle.std.proofs.Common.{◌≡◌, ◌+◌, ◌≤◌, ℕ, List, length, vec_len}
-use Rattle.kp_vcd_read.specs.Reading.{declaration, at, named}
-use Rattle.kp_vcd_read.specs.inner.Meeting.{gives_from}
+use Rattle.kp_vcd_read.specs.{Reading.declaration, Reading.at, Reading.named, inner.Meeting.gives_from}
 use Rattle.kp_vcd_read.proofs.head.read_signals.Given as goal
 
 abbrev pub invariant-loop-signals : goal.invariant-loop-signals

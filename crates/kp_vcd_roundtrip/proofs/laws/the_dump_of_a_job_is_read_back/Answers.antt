@@ -1,6 +1,5 @@
 use Rattle.std.proofs.Common.{◌≡◌, Some, subst}
-use Rattle.kp_vcd.specs.Held.{held, Changes}
-use Rattle.kp_vcd.specs.declared.dump.Dump.{Dump}
+use Rattle.kp_vcd.specs.{Held.held, Held.Changes, declared.dump.Dump.Dump}
 use Rattle.kp_vcd_run.specs.Dumps.{vcd_dump, vcd_text}
 use Rattle.kp_vcd_roundtrip.proofs.Reporting.{job_fits, same_dump}
 use Rattle.kp_vcd_roundtrip.proofs.laws.the_dump_of_a_job_is_read_back.Goals as goal

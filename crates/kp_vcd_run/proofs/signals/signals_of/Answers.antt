@@ -5,8 +5,8 @@ use Rattle.kp_run.proofs.Machines.{stages_fit}
 use Rattle.kp_vcd.specs.declared.dump.Signal.{Signal}
 use Rattle.kp_vcd_run.specs.Dumps.{register_signals, signals_of}
 use Rattle.kp_vcd_run.proofs.Naming.{width_fits, signals_next, one_signal, no_signal}
-use Rattle.kp_vcd_run.proofs.signals.signals_of.Goals as goal
 use Rattle.kp_vcd_run.proofs.signals.signals_of.Goals.{in-Reg+in_ok-register+in_ok-push-4, in_default}
+use Rattle.kp_vcd_run.proofs.signals.signals_of.Goals as goal
 
 pub overflow_cast-stages : goal.overflow_cast-stages
 overflow_cast-stages c =

@@ -4,13 +4,10 @@ use Rattle.kp_diagram_svg.specs.Picture.{picture}
 use Rattle.kp_machine.specs.Machine.{inputs_from, pipe_of}
 use Rattle.kp_page.specs.States.{states_text}
 use Rattle.kp_page_text.specs.Page.{page as page_text}
-use Rattle.kp_paths.specs.Claims.{ArePaths}
-use Rattle.kp_paths.specs.Text.{paths_text}
-use Rattle.kp_paths_svg.specs.Claims.{ShowsCells}
-use Rattle.kp_paths_svg.specs.Picture.{paths_svg_text}
+use Rattle.kp_paths.specs.{Claims.ArePaths, Text.paths_text}
+use Rattle.kp_paths_svg.specs.{Claims.ShowsCells, Picture.paths_svg_text}
 use Rattle.kp_stalls_run.specs.Runs.{job_stalls}
-use Rattle.kp_stalls_text.specs.Labels.{labels_from}
-use Rattle.kp_stalls_text.specs.Text.{stalls_text}
+use Rattle.kp_stalls_text.specs.{Labels.labels_from, Text.stalls_text}
 use Rattle.kp_view_words.specs.Asked.{order_seen, run_seen, task_seen}
 use Rattle.kp_view_words.specs.Words.{diagram, svg, page, paths, paths_svg, stalls}
 use Rattle.kp_view.specs.Due.{Draws, figure_drawn, rows_drawn}

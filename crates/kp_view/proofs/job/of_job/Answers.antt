@@ -1,6 +1,5 @@
-use Rattle.std.proofs.Common.{◌∙◌, ◌≤◌, sym, ap, arith, true}
+use Rattle.std.proofs.{Common.◌∙◌, Common.◌≤◌, Common.sym, Common.ap, Common.arith, Common.true, lemmas.List.length-map}
 use Rattle.std.specs.Prelude.{List, ℕ, length, string_bytes, ⊤}
-use Rattle.std.proofs.lemmas.List.{length-map}
 use Rattle.kp_ast.specs.declared.tree.Job.{Job}
 use Rattle.kp_run.proofs.Machines.{stages_fit}
 use Rattle.kp_diagram_text.specs.Charts.{are_names}

@@ -1,10 +1,8 @@
 use Rattle.std.proofs.Common.{◌≡◌, ◌∙◌, rules, List, ℕ, None, ap, ap₂, subst}
 use Rattle.kp_ast.specs.declared.tree.Job.{Job}
 use Rattle.kp_stalls_run.specs.Runs.{job_stalls}
-use Rattle.kp_stalls_text.specs.Labels.{labels_from}
-use Rattle.kp_stalls_text.specs.Text.{stalls_text}
-use Rattle.kp_view.specs.Due.{Says}
-use Rattle.kp_view.specs.Ends.{Ends}
+use Rattle.kp_stalls_text.specs.{Labels.labels_from, Text.stalls_text}
+use Rattle.kp_view.specs.{Due.Says, Ends.Ends}
 use Rattle.kp_view.proofs.stalls.stalls.Goals as goal
 
 pub returns-in_err-end : goal.returns-in_err-end

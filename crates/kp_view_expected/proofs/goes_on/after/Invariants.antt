@@ -1,7 +1,6 @@
 use Rattle.std.proofs.Common.{map, drop}
 use Rattle.kp_lex.specs.declared.token.Token.{Token}
-use Rattle.kp_view_expected.specs.GoesOn.{class_of}
-use Rattle.kp_view_expected.specs.inner.Plain.{stack, Follows}
+use Rattle.kp_view_expected.specs.{GoesOn.class_of, inner.Plain.stack, inner.Plain.Follows}
 use Rattle.kp_view_expected.proofs.goes_on.after.Given as goal
 
 abbrev pub invariant-loop-token : goal.invariant-loop-token

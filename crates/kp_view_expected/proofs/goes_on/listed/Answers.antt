@@ -1,5 +1,4 @@
-use Rattle.std.proofs.Common.{◌∙◌, arith}
-use Rattle.std.proofs.lemmas.List.{length-set}
+use Rattle.std.proofs.{Common.◌∙◌, Common.arith, lemmas.List.length-set}
 use Rattle.kp_view_expected.specs.inner.Plain.{stack, IsAnswer}
 use Rattle.kp_view_expected.proofs.Exact.{answer_more, answer_all}
 use Rattle.kp_view_expected.proofs.goes_on.listed.Goals as goal

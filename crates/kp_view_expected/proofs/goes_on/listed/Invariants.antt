@@ -1,8 +1,6 @@
 use Rattle.std.proofs.Common.{ℕ, ◌≡◌, ◌<◌, Bool, Some, length}
 use Rattle.std.specs.Prelude.{slice_get}
-use Rattle.kp_view_expected.specs.declared.token_class.TokenClass.{TokenClass}
-use Rattle.kp_view_expected.specs.GoesOn.{all_classes}
-use Rattle.kp_view_expected.specs.inner.Plain.{stack, IsAnswer}
+use Rattle.kp_view_expected.specs.{declared.token_class.TokenClass.TokenClass, GoesOn.all_classes, inner.Plain.stack, inner.Plain.IsAnswer}
 use Rattle.kp_view_expected.proofs.goes_on.listed.Given as goal
 
 abbrev pub invariant-loop-i : goal.invariant-loop-i

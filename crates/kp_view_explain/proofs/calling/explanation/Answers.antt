@@ -1,6 +1,5 @@
 use Rattle.std.proofs.Common.{◌∙◌, ◌≤◌, ℕ, List, length, ap, subst, arith, Err}
-use Rattle.kp_view_explain.specs.Explaining.{ExplainsText}
-use Rattle.kp_view_explain.specs.Listing.{ListsNext}
+use Rattle.kp_view_explain.specs.{Explaining.ExplainsText, Listing.ListsNext}
 use Rattle.kp_view_explain.proofs.Inputs.{of_excess, of_input}
 use Rattle.kp_view_explain.proofs.calling.explanation.Goals as goal
 

@@ -1,6 +1,5 @@
 use Rattle.std.proofs.Common.{subst, sym}
-use Rattle.kp_view_explain.specs.Explaining.{ExplainsText}
-use Rattle.kp_view_explain.specs.declared.words.Subject.{Subject}
+use Rattle.kp_view_explain.specs.{Explaining.ExplainsText, declared.words.Subject.Subject}
 use Rattle.kp_view_explain.proofs.explaining.explain.Goals as goal
 
 pub returns-in_ok-explain_verilog-in-Verilog-clause-said : goal.returns-in_ok-explain_verilog-in-Verilog-clause-said

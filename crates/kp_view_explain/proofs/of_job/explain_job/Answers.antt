@@ -1,11 +1,9 @@
 use Rattle.std.proofs.Common.{◌++◌, ◌∙◌, ℕ, List, Err, ap, subst}
 use Rattle.std.specs.declared.result.Result.{Result}
 use Rattle.kp_base.specs.declared.refusal.Refused.{Refused}
-use Rattle.kp_frontend.specs.Accepting.{AnswersText}
-use Rattle.kp_frontend.specs.declared.accepted.Accepted.{Accepted}
+use Rattle.kp_frontend.specs.{Accepting.AnswersText, declared.accepted.Accepted.Accepted}
 use Rattle.kp_view_texts.specs.Heads.{rule_head}
-use Rattle.kp_view_explain.proofs.Inputs.{refused_job}
-use Rattle.kp_view_explain.proofs.Next.{accepted_next, refused_next}
+use Rattle.kp_view_explain.proofs.{Inputs.refused_job, Next.accepted_next, Next.refused_next}
 use Rattle.kp_view_explain.proofs.of_job.explain_job.Goals as goal
 
 pub returns-in_ok-refused-in-Err-Rule-clause-said : goal.returns-in_ok-refused-in-Err-Rule-clause-said

@@ -1,11 +1,9 @@
 use Rattle.std.proofs.Common.{◌++◌, ◌∙◌, ℕ, List, Err, ap, subst}
 use Rattle.std.specs.declared.result.Result.{Result}
 use Rattle.kp_base.specs.declared.refusal.Refused.{Refused}
-use Rattle.kp_frontend.specs.Accepting.{AnswersHead}
-use Rattle.kp_frontend.specs.declared.accepted.Head.{Head}
+use Rattle.kp_frontend.specs.{Accepting.AnswersHead, declared.accepted.Head.Head}
 use Rattle.kp_view_texts.specs.Heads.{rule_head}
-use Rattle.kp_view_explain.proofs.Inputs.{of_script, refused_head}
-use Rattle.kp_view_explain.proofs.Next.{accepted_head_next, refused_head_next}
+use Rattle.kp_view_explain.proofs.{Inputs.of_script, Inputs.refused_head, Next.accepted_head_next, Next.refused_head_next}
 use Rattle.kp_view_explain.proofs.script.explain_debugged.Goals as goal
 
 pub returns-in_ok-said-in-Ok-clause-said : goal.returns-in_ok-said-in-Ok-clause-said

@@ -1,7 +1,5 @@
 use Rattle.std.proofs.Common.{take}
-use Rattle.std.specs.Prelude.{flat_map}
-use Rattle.std.specs.Char.{encode_utf8}
-use Rattle.std.specs.Fmt.{HasWritten, IsPlainFormatter}
+use Rattle.std.specs.{Prelude.flat_map, Char.encode_utf8, Fmt.HasWritten, Fmt.IsPlainFormatter}
 use Rattle.kp_view_help.proofs.word.write_bytes.Given as goal
 
 abbrev pub invariant-loop-byte : goal.invariant-loop-byte

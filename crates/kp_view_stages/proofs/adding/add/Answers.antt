@@ -1,5 +1,4 @@
-use Rattle.std.proofs.Common.{◌∷◌, ◌++◌, [], IfSome, Option, subst}
-use Rattle.std.proofs.lemmas.List.Elements.{All-same}
+use Rattle.std.proofs.{Common.◌∷◌, Common.◌++◌, Common.[], Common.IfSome, Common.Option, Common.subst, lemmas.List.Elements.All-same}
 use Rattle.kp_view_findings.specs.declared.finding.Caution.{Caution}
 use Rattle.kp_view_stages.specs.Cautions.{ClaimsNothing, IsTrueOf}
 use Rattle.kp_view_stages.proofs.Reported.{all_pushed}

@@ -1,8 +1,6 @@
 use Rattle.std.proofs.Common.{List, sym, subst}
-use Rattle.kp_view_findings.specs.Noted.{noted}
-use Rattle.kp_view_findings.specs.declared.finding.Finding.{Finding}
-use Rattle.kp_view_widths.specs.PrintedWidths.{FirstIsTrue}
-use Rattle.kp_view_widths.specs.inner.Agreeing.{IsFilled}
+use Rattle.kp_view_findings.specs.{Noted.noted, declared.finding.Finding.Finding}
+use Rattle.kp_view_widths.specs.{PrintedWidths.FirstIsTrue, inner.Agreeing.IsFilled}
 use Rattle.kp_view_widths.proofs.Agreed.{first_kept, still_filled}
 use Rattle.kp_view_widths.proofs.confirmed.add_all.Goals as goal
 

@@ -1,7 +1,6 @@
 use Rattle.kp_ast.specs.declared.tree.Job.{Job}
 use Rattle.kp_view_findings.specs.Noted.{noted}
-use Rattle.kp_view_widths.specs.PrintedWidths.{FirstIsTrue}
-use Rattle.kp_view_widths.specs.inner.Agreeing.{IsFilled}
+use Rattle.kp_view_widths.specs.{PrintedWidths.FirstIsTrue, inner.Agreeing.IsFilled}
 use Rattle.kp_view_widths.proofs.confirmed.add_all.Given as goal
 
 abbrev pub invariant-loop-finding : goal.invariant-loop-finding

@@ -1,13 +1,8 @@
 use Rattle.std.proofs.Common.{◌≡◌, true, ◌∙◌, sym, ap, subst, inl, inr, true≢false, string_bytes}
-use Rattle.clap.specs.Kinds.{IsAmong}
-use Rattle.clap.specs.Values.{kind_of}
+use Rattle.clap.specs.{Kinds.IsAmong, Values.kind_of, Simple.App, Simple.subcommand_of, Faults.fault_of, Faults.is_simple_and_free, Words.is_simple}
 use Rattle.std.specs.Prelude.{map}
-use Rattle.clap.specs.Simple.{App, subcommand_of}
-use Rattle.clap.specs.Faults.{fault_of, is_simple_and_free}
-use Rattle.clap.specs.Words.{is_simple}
 use Rattle.clap.proofs.WalkLemmas.{list_any-map}
-use Rattle.kp_view_words.specs.Words.{begins_with_dash}
-use Rattle.kp_view_words.specs.inner.Matching.{known_names, word_of_rows}
+use Rattle.kp_view_words.specs.{Words.begins_with_dash, inner.Matching.known_names, inner.Matching.word_of_rows}
 use Rattle.kp_view_words.proofs.Parses.{matched, unmatched}
 use Rattle.kp_view_words.proofs.matching.word_of.Goals as goal
 

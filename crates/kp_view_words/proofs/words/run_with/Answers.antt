@@ -1,6 +1,5 @@
-use Rattle.std.proofs.Common.{◌∙◌, sym, ap, map, string_bytes}
+use Rattle.std.proofs.{Common.◌∙◌, Common.sym, Common.ap, Common.map, Common.string_bytes, lemmas.List.Folds.list_all-map}
 use Rattle.std.specs.List.{list_all}
-use Rattle.std.proofs.lemmas.List.Folds.{list_all-map}
 use Rattle.kp_view_words.specs.Words.{is_name}
 use Rattle.kp_view_words.proofs.Rests.{run_none, run_some}
 use Rattle.kp_view_words.proofs.words.run_with.Goals as goal

@@ -1,5 +1,4 @@
-use Rattle.std.proofs.Common.{◌∙◌, sym, ap, map, string_bytes}
-use Rattle.std.proofs.lemmas.List.{drop-map}
+use Rattle.std.proofs.{Common.◌∙◌, Common.sym, Common.ap, Common.map, Common.string_bytes, lemmas.List.drop-map}
 use Rattle.clap.proofs.WalkLemmas.{list_any-map}
 use Rattle.kp_view_words.specs.Words.{begins_with_dash, task_with}
 use Rattle.kp_view_words.proofs.Rests.{dash_flagged, rest_is, task_of_word}

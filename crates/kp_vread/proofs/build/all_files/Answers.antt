@@ -1,9 +1,6 @@
 use Rattle.std.proofs.Common.{◌∙◌, List, ap}
-use Rattle.kp_vlog.specs.declared.tree.Item.{Item}
-use Rattle.kp_vlog.specs.declared.tree.Init.{Init}
-use Rattle.kp_vlog.specs.declared.tree.Update.{Update}
-use Rattle.kp_vread.specs.inner.Building.{Numbers}
-use Rattle.kp_vread.specs.inner.Parts.{files_by}
+use Rattle.kp_vlog.specs.declared.tree.{Item.Item, Init.Init, Update.Update}
+use Rattle.kp_vread.specs.inner.{Building.Numbers, Parts.files_by}
 use Rattle.kp_vread.proofs.build.all_files.Goals as goal
 
 pub returns : goal.returns

@@ -1,11 +1,6 @@
-use Rattle.std.proofs.Common.{◌∙◌, List, All, sym, ap, subst}
-use Rattle.std.proofs.lemmas.Result.{IfOk-weaker}
-use Rattle.kp_vlog.specs.declared.tree.Item.{Item}
-use Rattle.kp_vlog.specs.declared.tree.Init.{Init}
-use Rattle.kp_vlog.specs.declared.tree.Update.{Update}
-use Rattle.kp_vlog.specs.Occurrences.{start_in}
-use Rattle.kp_vread.specs.inner.Nexts.{AreNexts}
-use Rattle.kp_vread.specs.inner.Parts.{RegFits, regs_by}
+use Rattle.std.proofs.{Common.◌∙◌, Common.List, Common.All, Common.sym, Common.ap, Common.subst, lemmas.Result.IfOk-weaker}
+use Rattle.kp_vlog.specs.{declared.tree.Item.Item, declared.tree.Init.Init, declared.tree.Update.Update, Occurrences.start_in}
+use Rattle.kp_vread.specs.inner.{Nexts.AreNexts, Parts.RegFits, Parts.regs_by}
 use Rattle.kp_vread.proofs.Beside.{regs_same}
 use Rattle.kp_vread.proofs.build.all_regs.Goals as goal
 

@@ -1,11 +1,8 @@
 use Rattle.std.proofs.Common.{◌∙◌, List, All, refl, sym, subst}
-use Rattle.kp_vlog.specs.declared.tree.Item.{Item}
-use Rattle.kp_vlog.specs.Scope.{scope_of}
-use Rattle.kp_vlog.specs.Denote.{made_by, net_of}
+use Rattle.kp_vlog.specs.{declared.tree.Item.Item, Scope.scope_of, Denote.made_by, Denote.net_of}
 use Rattle.kp_vlog.proofs.Sound.{holds}
 use Rattle.kp_vread.specs.inner.Building.{ItemFits, IsMade}
-use Rattle.kp_vread.proofs.Fitting.{narrow, all_fit, ext_fits, samples_fit, started}
-use Rattle.kp_vread.proofs.Whole.{net_same, net_ok}
+use Rattle.kp_vread.proofs.{Fitting.narrow, Fitting.all_fit, Fitting.ext_fits, Fitting.samples_fit, Fitting.started, Whole.net_same, Whole.net_ok}
 use Rattle.kp_vread.proofs.build.build_by.Goals as goal
 
 pub new-requires-clause-fit : goal.new-requires-clause-fit

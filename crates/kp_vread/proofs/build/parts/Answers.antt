@@ -1,8 +1,6 @@
 use Rattle.std.proofs.Common.{◌∙◌, List, map, refl, ap}
 use Rattle.std.specs.Prelude.{codes}
-use Rattle.kp_vlog.specs.declared.tree.Item.{Item}
-use Rattle.kp_vlog.specs.declared.tree.VPort.{VPort}
-use Rattle.kp_vlog.specs.Denote.{sample_of}
+use Rattle.kp_vlog.specs.{declared.tree.Item.Item, declared.tree.VPort.VPort, Denote.sample_of}
 use Rattle.kp_vread.specs.inner.Parts.{output_by}
 use Rattle.kp_vread.proofs.Beside.{parts_same}
 use Rattle.kp_vread.proofs.build.parts.Goals as goal

@@ -1,7 +1,5 @@
-use Rattle.std.proofs.Common.{ℕ, List, subst, arith}
-use Rattle.std.proofs.lemmas.List.{take_all}
-use Rattle.kp_vlog.specs.declared.tree.Item.{Item}
-use Rattle.kp_vlog.specs.Scope.{reg_names}
+use Rattle.std.proofs.{Common.ℕ, Common.List, Common.subst, Common.arith, lemmas.List.take_all}
+use Rattle.kp_vlog.specs.{declared.tree.Item.Item, Scope.reg_names}
 use Rattle.kp_vread.specs.inner.Numbering.{AreNumbered}
 use Rattle.kp_vread.proofs.Numbering.{more_regs}
 use Rattle.kp_vread.proofs.numbers.number_regs.Goals as goal

@@ -1,5 +1,4 @@
-use Rattle.std.proofs.Common.{ℕ, List, map, subst, arith}
-use Rattle.std.proofs.lemmas.List.{take_all}
+use Rattle.std.proofs.{Common.ℕ, Common.List, Common.map, Common.subst, Common.arith, lemmas.List.take_all}
 use Rattle.kp_vlog.specs.declared.tree.VPort.{VPort}
 use Rattle.kp_vread.specs.inner.Numbering.{AreNumbered}
 use Rattle.kp_vread.proofs.Numbering.{more_ports}

@@ -1,5 +1,4 @@
-use Rattle.std.proofs.Common.{◌≡◌, true, false}
-use Rattle.std.proofs.lemmas.Bool.Decides.{not_from_Decides}
+use Rattle.std.proofs.{Common.◌≡◌, Common.true, Common.false, lemmas.Bool.Decides.not_from_Decides}
 use Rattle.kp_vread_match.specs.inner.Whole.{is_of_job}
 use Rattle.kp_vread_match.proofs.Whole.{is_found}
 use Rattle.kp_vread_match.proofs.matching.matches.Goals as goal

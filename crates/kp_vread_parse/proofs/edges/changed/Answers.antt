@@ -1,9 +1,7 @@
-use Rattle.std.proofs.Common.{arith}
-use Rattle.std.proofs.lemmas.Result.{err_from_is_err_and}
+use Rattle.std.proofs.{Common.arith, lemmas.Result.err_from_is_err_and}
 use Rattle.kp_grammar.specs.Machine.{make}
-use Rattle.kp_vread_parse.proofs.Steps.{end_end, on_top}
+use Rattle.kp_vread_parse.proofs.{Steps.end_end, Steps.on_top, Picks.body_2}
 use Rattle.kp_vlog.specs.Language.{updates}
-use Rattle.kp_vread_parse.proofs.Picks.{body_2}
 use Rattle.kp_vread_parse.proofs.edges.changed.Goals as goal
 
 pub returns-in_err-name : goal.returns-in_err-name

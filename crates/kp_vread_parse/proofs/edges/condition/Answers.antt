@@ -1,9 +1,7 @@
-use Rattle.std.proofs.Common.{◌∙◌, sym, arith}
-use Rattle.std.proofs.lemmas.Result.{err_from_is_err_and}
+use Rattle.std.proofs.{Common.◌∙◌, Common.sym, Common.arith, lemmas.Result.err_from_is_err_and}
 use Rattle.kp_grammar.specs.Machine.{make}
-use Rattle.kp_vread_parse.proofs.Steps.{end_end, on_top}
+use Rattle.kp_vread_parse.proofs.{Steps.end_end, Steps.on_top, Picks.condition_else}
 use Rattle.kp_vlog.specs.Language.{updates}
-use Rattle.kp_vread_parse.proofs.Picks.{condition_else}
 use Rattle.kp_vread_parse.proofs.edges.condition.Goals as goal
 
 pub returns-in_err-file : goal.returns-in_err-file

@@ -1,5 +1,4 @@
-use Rattle.std.proofs.Common.{arith}
-use Rattle.std.proofs.lemmas.Result.{err_from_is_err_and}
+use Rattle.std.proofs.{Common.arith, lemmas.Result.err_from_is_err_and}
 use Rattle.kp_grammar.specs.Machine.{make}
 use Rattle.kp_vread_parse.proofs.Steps.{end_end, on_top}
 use Rattle.kp_vlog.specs.Language.{updates}

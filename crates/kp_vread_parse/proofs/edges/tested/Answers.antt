@@ -1,7 +1,5 @@
-use Rattle.std.proofs.Common.{arith}
-use Rattle.std.proofs.lemmas.Result.{err_from_is_err_and}
-use Rattle.kp_vread_parse.proofs.Steps.{end_end}
-use Rattle.kp_vread_parse.proofs.Picks.{body_1}
+use Rattle.std.proofs.{Common.arith, lemmas.Result.err_from_is_err_and}
+use Rattle.kp_vread_parse.proofs.{Steps.end_end, Picks.body_1}
 use Rattle.kp_vread_parse.proofs.edges.tested.Goals as goal
 
 pub returns-in_err-test : goal.returns-in_err-test

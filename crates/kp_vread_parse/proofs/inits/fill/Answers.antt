@@ -1,8 +1,6 @@
-use Rattle.std.proofs.Common.{arith}
-use Rattle.std.proofs.lemmas.Result.{err_from_is_err_and}
+use Rattle.std.proofs.{Common.arith, lemmas.Result.err_from_is_err_and}
 use Rattle.kp_grammar.specs.Machine.{make}
-use Rattle.kp_vread_parse.proofs.Steps.{end_end}
-use Rattle.kp_vread_parse.proofs.Picks.{init_1}
+use Rattle.kp_vread_parse.proofs.{Steps.end_end, Picks.init_1}
 use Rattle.kp_vread_parse.proofs.inits.fill.Goals as goal
 
 pub returns-in_err-counter : goal.returns-in_err-counter

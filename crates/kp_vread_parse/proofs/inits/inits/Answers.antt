@@ -1,8 +1,6 @@
-use Rattle.std.proofs.Common.{◌∙◌, sym, arith}
-use Rattle.std.proofs.lemmas.Result.{err_from_is_err_and}
+use Rattle.std.proofs.{Common.◌∙◌, Common.sym, Common.arith, lemmas.Result.err_from_is_err_and}
 use Rattle.kp_grammar.specs.Machine.{make}
-use Rattle.kp_vread_parse.proofs.Steps.{end_end}
-use Rattle.kp_vread_parse.proofs.Picks.{inits_1, inits_else}
+use Rattle.kp_vread_parse.proofs.{Steps.end_end, Picks.inits_1, Picks.inits_else}
 use Rattle.kp_vread_parse.proofs.inits.inits.Goals as goal
 
 pub returns-in_err-one : goal.returns-in_err-one

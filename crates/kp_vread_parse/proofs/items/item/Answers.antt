@@ -1,8 +1,6 @@
-use Rattle.std.proofs.Common.{◌∙◌, sym, arith}
-use Rattle.std.proofs.lemmas.Result.{err_from_is_err_and}
+use Rattle.std.proofs.{Common.◌∙◌, Common.sym, Common.arith, lemmas.Result.err_from_is_err_and}
 use Rattle.kp_grammar.specs.Machine.{make}
-use Rattle.kp_vread_parse.proofs.Steps.{end_end}
-use Rattle.kp_vread_parse.proofs.Picks.{item_else}
+use Rattle.kp_vread_parse.proofs.{Steps.end_end, Picks.item_else}
 use Rattle.kp_vread_parse.proofs.items.item.Goals as goal
 
 pub returns-in_err-target : goal.returns-in_err-target

@@ -1,5 +1,4 @@
-use Rattle.std.proofs.Common.{[]}
-use Rattle.std.proofs.lemmas.Result.{err_from_is_err_and}
+use Rattle.std.proofs.{Common.[], lemmas.Result.err_from_is_err_and}
 use Rattle.kp_vread_parse.proofs.Steps.{end_module, follow_module, accepted}
 use Rattle.kp_vread_parse.proofs.module.module.Goals as goal
 

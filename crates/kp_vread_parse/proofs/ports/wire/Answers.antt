@@ -1,7 +1,5 @@
-use Rattle.std.proofs.Common.{arith}
-use Rattle.std.proofs.lemmas.Result.{err_from_is_err_and}
-use Rattle.kp_vread_parse.proofs.Steps.{end_end}
-use Rattle.kp_vread_parse.proofs.Picks.{wire_1, wire_else}
+use Rattle.std.proofs.{Common.arith, lemmas.Result.err_from_is_err_and}
+use Rattle.kp_vread_parse.proofs.{Steps.end_end, Picks.wire_1, Picks.wire_else}
 use Rattle.kp_vread_parse.proofs.ports.wire.Goals as goal
 
 pub returns-then-not-is_keyword : goal.returns-then-not-is_keyword

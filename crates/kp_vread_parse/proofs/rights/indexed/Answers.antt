@@ -1,7 +1,5 @@
-use Rattle.std.proofs.Common.{arith}
-use Rattle.std.proofs.lemmas.Result.{err_from_is_err_and}
-use Rattle.kp_vread_parse.proofs.Steps.{end_end}
-use Rattle.kp_vread_parse.proofs.Picks.{behind_2}
+use Rattle.std.proofs.{Common.arith, lemmas.Result.err_from_is_err_and}
+use Rattle.kp_vread_parse.proofs.{Steps.end_end, Picks.behind_2}
 use Rattle.kp_vread_parse.proofs.rights.indexed.Goals as goal
 
 pub returns-in_err-next : goal.returns-in_err-next

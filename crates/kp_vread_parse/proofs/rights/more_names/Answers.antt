@@ -1,8 +1,6 @@
-use Rattle.std.proofs.Common.{◌∙◌, sym, arith}
-use Rattle.std.proofs.lemmas.Result.{err_from_is_err_and}
+use Rattle.std.proofs.{Common.◌∙◌, Common.sym, Common.arith, lemmas.Result.err_from_is_err_and}
 use Rattle.kp_grammar.specs.Machine.{make}
-use Rattle.kp_vread_parse.proofs.Steps.{end_end}
-use Rattle.kp_vread_parse.proofs.Picks.{names_none, names_some}
+use Rattle.kp_vread_parse.proofs.{Steps.end_end, Picks.names_none, Picks.names_some}
 use Rattle.kp_vread_parse.proofs.rights.more_names.Goals as goal
 
 pub returns-in_err-next : goal.returns-in_err-next

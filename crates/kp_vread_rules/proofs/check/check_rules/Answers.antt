@@ -1,6 +1,5 @@
 use Rattle.std.proofs.Common.{◌≡◌, List, [], Err, None, subst}
-use Rattle.kp_vlog.specs.Occurrences.{Occurrence}
-use Rattle.kp_vlog.specs.Rules.{bad_name}
+use Rattle.kp_vlog.specs.{Occurrences.Occurrence, Rules.bad_name}
 use Rattle.kp_vread_rules.specs.inner.Says.{Says}
 use Rattle.kp_vread_rules.proofs.Breaking.{names_broken, widths_broken, drivers_broken, not_broken}
 use Rattle.kp_vread_rules.proofs.check.check_rules.Goals as goal

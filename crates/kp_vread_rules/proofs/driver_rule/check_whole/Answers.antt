@@ -1,9 +1,6 @@
 use Rattle.std.proofs.Common.{◌∙◌, ℕ, List, map, Option, sym, subst}
-use Rattle.kp_vlog.specs.Rules.{nothing}
-use Rattle.kp_vlog.specs.Occurrences.{Occurrence}
-use Rattle.kp_vread_rules.specs.inner.Listed.{occurrence_of}
-use Rattle.kp_vread_rules.specs.inner.Says.{Says}
-use Rattle.kp_vread_rules.specs.inner.Sets.{AlikeDriven, all_by}
+use Rattle.kp_vlog.specs.{Rules.nothing, Occurrences.Occurrence}
+use Rattle.kp_vread_rules.specs.inner.{Listed.occurrence_of, Says.Says, Sets.AlikeDriven, Sets.all_by}
 use Rattle.kp_vread_rules.proofs.AllDriven.{module_bad}
 use Rattle.kp_vread_rules.proofs.driver_rule.check_whole.Goals as goal
 

@@ -1,10 +1,7 @@
 use Rattle.std.proofs.Common.{◌≡◌, ◌+◌, ◌-◌, ℕ, List, drop, map, length, sym, subst, arith}
 use Rattle.std.proofs.lemmas.List.{drop_all}
-use Rattle.kp_vread_rules.specs.inner.Listed.{occurrence_of}
-use Rattle.kp_vread_rules.specs.inner.Sets.{AlikeDriven, all_by}
-use Rattle.kp_vread_rules.specs.declared.names.Occurrence.{Occurrence as Listed}
-use Rattle.kp_vread_rules.proofs.Drives.{as_before}
-use Rattle.kp_vread_rules.proofs.AllDriven.{one_before}
+use Rattle.kp_vread_rules.specs.{inner.Listed.occurrence_of, inner.Sets.AlikeDriven, inner.Sets.all_by, declared.names.Occurrence.Occurrence as Listed}
+use Rattle.kp_vread_rules.proofs.{Drives.as_before, AllDriven.one_before}
 use Rattle.kp_vread_rules.proofs.driver_rule.drive_all.Goals as goal
 
 pub names-init : goal.names-init

@@ -1,6 +1,5 @@
 use Rattle.std.proofs.Common.{◌≤◌, drop, map, length}
-use Rattle.kp_vread_rules.specs.inner.Listed.{occurrence_of}
-use Rattle.kp_vread_rules.specs.inner.Sets.{AlikeDriven, all_by}
+use Rattle.kp_vread_rules.specs.inner.{Listed.occurrence_of, Sets.AlikeDriven, Sets.all_by}
 use Rattle.kp_vread_rules.proofs.driver_rule.drive_all.Given as goal
 
 abbrev pub invariant-names : goal.invariant-names

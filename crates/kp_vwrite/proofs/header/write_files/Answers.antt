@@ -1,8 +1,6 @@
-use Rattle.std.proofs.Common.{arith}
-use Rattle.std.proofs.lemmas.Result.{err_from_is_err_and}
+use Rattle.std.proofs.{Common.arith, lemmas.Result.err_from_is_err_and}
 use Rattle.kp_vwrite.specs.inner.Texts.{files_text, file_text}
-use Rattle.kp_vwrite.proofs.Passing.{line_passed, line_stopped, lines_end}
-use Rattle.kp_vwrite.proofs.Lines.{file_more, file_none}
+use Rattle.kp_vwrite.proofs.{Passing.line_passed, Passing.line_stopped, Passing.lines_end, Lines.file_more, Lines.file_none}
 use Rattle.kp_vwrite.proofs.header.write_files.Goals as goal
 
 pub returns-in_err-write_file-clause-text : goal.returns-in_err-write_file-clause-text

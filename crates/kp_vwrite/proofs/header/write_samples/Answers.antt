@@ -1,8 +1,6 @@
-use Rattle.std.proofs.Common.{arith}
-use Rattle.std.proofs.lemmas.Result.{err_from_is_err_and}
+use Rattle.std.proofs.{Common.arith, lemmas.Result.err_from_is_err_and}
 use Rattle.kp_vwrite.specs.inner.Texts.{samples_text, sample_text}
-use Rattle.kp_vwrite.proofs.Passing.{line_passed, line_stopped, lines_end}
-use Rattle.kp_vwrite.proofs.Lines.{sample_more, sample_none}
+use Rattle.kp_vwrite.proofs.{Passing.line_passed, Passing.line_stopped, Passing.lines_end, Lines.sample_more, Lines.sample_none}
 use Rattle.kp_vwrite.proofs.header.write_samples.Goals as goal
 
 pub returns-in_err-write_ranged-clause-text : goal.returns-in_err-write_ranged-clause-text

@@ -1,9 +1,6 @@
-use Rattle.std.proofs.Common.{arith}
-use Rattle.std.proofs.lemmas.Result.{err_from_is_err_and}
+use Rattle.std.proofs.{Common.arith, lemmas.Result.err_from_is_err_and}
 use Rattle.kp_vwrite.specs.inner.Texts.{nodes_text, node_text}
-use Rattle.kp_vwrite.proofs.Passing.{line_passed, line_stopped, lines_end}
-use Rattle.kp_vwrite.proofs.Lines.{node_more, node_none}
-use Rattle.kp_vwrite.proofs.Safe.{safe_at}
+use Rattle.kp_vwrite.proofs.{Passing.line_passed, Passing.line_stopped, Passing.lines_end, Lines.node_more, Lines.node_none, Safe.safe_at}
 use Rattle.kp_vwrite.proofs.nodes.write_nodes.Goals as goal
 
 pub write_node-requires : goal.write_node-requires

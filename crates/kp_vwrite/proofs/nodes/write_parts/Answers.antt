@@ -1,9 +1,6 @@
-use Rattle.std.proofs.Common.{arith}
-use Rattle.std.proofs.lemmas.Result.{err_from_is_err_and}
+use Rattle.std.proofs.{Common.arith, lemmas.Result.err_from_is_err_and}
 use Rattle.kp_vwrite.specs.inner.Texts.{parts_text, part_text}
-use Rattle.kp_vwrite.proofs.Passing.{line_passed, line_stopped, lines_end}
-use Rattle.kp_vwrite.proofs.Lines.{part_more, part_none}
-use Rattle.kp_vwrite.proofs.Safe.{get_again}
+use Rattle.kp_vwrite.proofs.{Passing.line_passed, Passing.line_stopped, Passing.lines_end, Lines.part_more, Lines.part_none, Safe.get_again}
 use Rattle.kp_vwrite.proofs.nodes.write_parts.Goals as goal
 
 pub returns-in_err-write_wire-clause-text : goal.returns-in_err-write_wire-clause-text

@@ -1,5 +1,4 @@
-use Rattle.std.proofs.Common.{arith, sym, subst}
-use Rattle.std.proofs.lemmas.Result.{err_from_is_err_and}
+use Rattle.std.proofs.{Common.arith, Common.sym, Common.subst, lemmas.Result.err_from_is_err_and}
 use Rattle.kp_base.proofs.Pieces.{flat_map_split}
 use Rattle.kp_vwrite.specs.inner.Passing.{Passes, Stops}
 use Rattle.kp_vwrite.proofs.Passing.{passes_next, stops_next, stops_more, flat_map_more}

@@ -1,8 +1,6 @@
-use Rattle.std.proofs.Common.{arith}
-use Rattle.std.proofs.lemmas.Result.{err_from_is_err_and}
+use Rattle.std.proofs.{Common.arith, lemmas.Result.err_from_is_err_and}
 use Rattle.kp_vwrite.specs.inner.Texts.{values_text, value_text}
-use Rattle.kp_vwrite.proofs.Passing.{line_passed, line_stopped, lines_end}
-use Rattle.kp_vwrite.proofs.Lines.{value_more, value_none}
+use Rattle.kp_vwrite.proofs.{Passing.line_passed, Passing.line_stopped, Passing.lines_end, Lines.value_more, Lines.value_none}
 use Rattle.kp_vwrite.proofs.state.write_values.Goals as goal
 
 pub returns-in_err-write_value-clause-text : goal.returns-in_err-write_value-clause-text

@@ -1,9 +1,6 @@
-use Rattle.std.proofs.Common.{arith}
-use Rattle.std.proofs.lemmas.Result.{err_from_is_err_and}
+use Rattle.std.proofs.{Common.arith, lemmas.Result.err_from_is_err_and}
 use Rattle.kp_vwrite.specs.inner.Texts.{words_text, word_text}
-use Rattle.kp_vwrite.proofs.Passing.{line_passed, line_stopped, lines_end}
-use Rattle.kp_vwrite.proofs.Lines.{word_more, word_none}
-use Rattle.kp_vwrite.proofs.Safe.{get_again}
+use Rattle.kp_vwrite.proofs.{Passing.line_passed, Passing.line_stopped, Passing.lines_end, Lines.word_more, Lines.word_none, Safe.get_again}
 use Rattle.kp_vwrite.proofs.state.write_words.Goals as goal
 
 pub returns-in_err-write_word-clause-text : goal.returns-in_err-write_word-clause-text

@@ -1,6 +1,5 @@
 use Rattle.std.proofs.lemmas.Result.{err_from_is_err_and}
-use Rattle.kp_vwrite.proofs.Passing.{sends_next, stops_next, stops_more}
-use Rattle.kp_vwrite.proofs.Safe.{net_files_safe, nodes_safe}
+use Rattle.kp_vwrite.proofs.{Passing.sends_next, Passing.stops_next, Passing.stops_more, Safe.net_files_safe, Safe.nodes_safe}
 use Rattle.kp_vwrite.proofs.writer.write_fronts.Goals as goal
 
 pub write_cells-requires : goal.write_cells-requires

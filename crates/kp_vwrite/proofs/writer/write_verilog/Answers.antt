@@ -1,6 +1,5 @@
 use Rattle.std.proofs.lemmas.Result.{err_from_is_err_and}
-use Rattle.kp_vwrite.proofs.Whole.{canon_is}
-use Rattle.kp_vwrite.proofs.Passing.{flushed, cut_short}
+use Rattle.kp_vwrite.proofs.{Whole.canon_is, Passing.flushed, Passing.cut_short}
 use Rattle.kp_vwrite.proofs.writer.write_verilog.Goals as goal
 
 pub returns-in_err-write_whole-clause-text : goal.returns-in_err-write_whole-clause-text

@@ -1,6 +1,5 @@
 use Rattle.std.proofs.lemmas.Result.{err_from_is_err_and}
-use Rattle.kp_vwrite.proofs.Passing.{sends_next, stops_more}
-use Rattle.kp_vwrite.proofs.Safe.{net_files_safe}
+use Rattle.kp_vwrite.proofs.{Passing.sends_next, Passing.stops_more, Safe.net_files_safe}
 use Rattle.kp_vwrite.proofs.writer.write_whole.Goals as goal
 
 pub write_blocks-requires : goal.write_blocks-requires

@@ -1,6 +1,5 @@
 use Rattle.kp_synth_spec.specs.Naming.{value_shown}
-use Rattle.kp_watch.specs.inner.Comparing.{AgreeBelow}
-use Rattle.kp_watch.specs.inner.Machines.{due_by}
+use Rattle.kp_watch.specs.inner.{Comparing.AgreeBelow, Machines.due_by}
 use Rattle.kp_watch.proofs.changes.difference_after.Given as goal
 
 abbrev pub invariant-loop-t : goal.invariant-loop-t

@@ -2,12 +2,9 @@ use Rattle.std.proofs.Common.{◌∙◌, ◌<◌, arith, sym, subst, length}
 use Rattle.kp_ast.specs.declared.tree.Job.{Job}
 use Rattle.kp_machine.specs.Slots.{targets_of}
 use Rattle.kp_seq.specs.Running.{target, state}
-use Rattle.kp_synth_spec.specs.Naming.{value_shown}
-use Rattle.kp_synth_spec.specs.Shows.{IsOfJob}
-use Rattle.kp_watch.specs.inner.Machines.{due_by}
-use Rattle.kp_watch.specs.inner.Places.{place_in}
-use Rattle.kp_watch.proofs.Comparing.{first_at_alike, agree_alike, target_more, first_in}
-use Rattle.kp_watch.proofs.Lanes.{machine_at}
+use Rattle.kp_synth_spec.specs.{Naming.value_shown, Shows.IsOfJob}
+use Rattle.kp_watch.specs.inner.{Machines.due_by, Places.place_in}
+use Rattle.kp_watch.proofs.{Comparing.first_at_alike, Comparing.agree_alike, Comparing.target_more, Comparing.first_in, Lanes.machine_at}
 use Rattle.kp_watch.proofs.Placing.{few_targets, as_many, place_at}
 use Rattle.kp_watch.proofs.compare.difference_in.Goals as goal
 

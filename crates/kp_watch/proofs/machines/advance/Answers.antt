@@ -1,20 +1,16 @@
 use Rattle.std.proofs.Common.{◌≡◌, ◌∙◌, ◌+◌, ◌<◌, ◌≤◌, ℕ, List, take, set, true, false, ◌&&◌, sym, subst, ap, arith, length, get_or}
-use Rattle.std.proofs.lemmas.Bool.{and_parts}
-use Rattle.std.proofs.lemmas.List.{length-map}
+use Rattle.std.proofs.lemmas.{Bool.and_parts, List.length-map}
 use Rattle.kp_base.specs.declared.row.Row.{Row}
 use Rattle.kp_bits.specs.Word.{Word}
-use Rattle.kp_pipeline.specs.Rows.{bit, bits, passed}
-use Rattle.kp_pipeline.specs.Sequential.{exec}
+use Rattle.kp_pipeline.specs.{Rows.bit, Rows.bits, Rows.passed, Sequential.exec}
 use Rattle.kp_machine.specs.Machine.{machine_of, values_in}
 use Rattle.kp_run.specs.Columns.{Taken, word_taken}
 use Rattle.kp_sched.specs.Rows.{bit_of, rows_seen}
-use Rattle.kp_seq.specs.Running.{state}
-use Rattle.kp_seq.specs.Recorded.{record_of}
+use Rattle.kp_seq.specs.{Running.state, Recorded.record_of}
 use Rattle.kp_watch.specs.inner.Machines.{given, HaveRunFirst}
-use Rattle.kp_watch.proofs.Lanes.{first_begin, first_moves, first_stays, first_end, still}
-use Rattle.kp_watch.proofs.Prefixes.{passed_before}
-use Rattle.kp_watch.proofs.machines.advance.Goals as goal
+use Rattle.kp_watch.proofs.{Lanes.first_begin, Lanes.first_moves, Lanes.first_stays, Lanes.first_end, Lanes.still, Prefixes.passed_before}
 use Rattle.kp_watch.proofs.machines.advance.Goals.{then-moves, else-moves}
+use Rattle.kp_watch.proofs.machines.advance.Goals as goal
 
 pub loop-k-init : goal.loop-k-init
 loop-k-init c = (c.requires.room, first_begin c.args.job.now.design.job (given c.args.columns.now) c.args.rows.now c.args.cycle c.args.machines.now c.requires.run)

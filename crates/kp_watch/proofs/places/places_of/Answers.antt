@@ -2,11 +2,10 @@ use Rattle.std.proofs.Common.{◌≡◌, ◌<◌, ◌∙◌, ◌∷◌, ◌+◌,
 use Rattle.kp_ast.specs.declared.tree.Decl.{Decl}
 use Rattle.kp_ast.specs.declared.tree.Decl.TheVariants as decls
 use Rattle.kp_machine.specs.Slots.{targets_of, slot}
-use Rattle.kp_watch.specs.inner.Places.{place_in}
-use Rattle.kp_watch.specs.declared.places.Place.TheVariants.{Register, File}
+use Rattle.kp_watch.specs.{inner.Places.place_in, declared.places.Place.TheVariants.Register, declared.places.Place.TheVariants.File}
 use Rattle.kp_watch.proofs.Placing.{FitsAddress, address_fits, file_place, no_target, some_place, no_place}
-use Rattle.kp_watch.proofs.places.places_of.Goals as goal
 use Rattle.kp_watch.proofs.places.places_of.Goals.{in-Reg+in_ok-push-in-Reg, in-File+in_ok-push-in-File, in_default}
+use Rattle.kp_watch.proofs.places.places_of.Goals as goal
 
 pub words_of-requires : goal.words_of-requires
 words_of-requires c =

@@ -3,12 +3,9 @@ use Rattle.std.specs.Prelude.{MatchOption}
 use Rattle.kp_cycle.specs.Steps.{Running}
 use Rattle.kp_net.specs.Netlist.{Net, run}
 use Rattle.kp_run.specs.Cycles.{inputs_to}
-use Rattle.kp_run.proofs.Gathering.{rows_fit_taken}
-use Rattle.kp_run.proofs.Given.{rows_given}
-use Rattle.kp_watch.specs.inner.Beside.{HaveCome}
-use Rattle.kp_watch.specs.inner.Changes.{AreNoted}
-use Rattle.kp_watch.proofs.Rows.{come_in}
-use Rattle.kp_watch.proofs.Whole.{compares_own, comparable, AgreeTo, agree_more, is_recorded, agrees}
+use Rattle.kp_run.proofs.{Gathering.rows_fit_taken, Given.rows_given}
+use Rattle.kp_watch.specs.inner.{Beside.HaveCome, Changes.AreNoted}
+use Rattle.kp_watch.proofs.{Rows.come_in, Whole.compares_own, Whole.comparable, Whole.AgreeTo, Whole.agree_more, Whole.is_recorded, Whole.agrees}
 use Rattle.kp_watch.proofs.watch.compare.Goals as goal
 
 never : {X : Type 0} (x : X) → Some x ≡ None → ⊥

@@ -1,8 +1,7 @@
 use Rattle.std.proofs.Common.{◌≡◌, ◌+◌, ◌<◌, ◌≤◌, ℕ}
 use Rattle.std.specs.Prelude.{vec_capacity}
 use Rattle.kp_seq.specs.Running.{HasWord}
-use Rattle.kp_watch.specs.Watching.{own_trace, own_due}
-use Rattle.kp_watch.specs.inner.Beside.{HaveCome}
+use Rattle.kp_watch.specs.{Watching.own_trace, Watching.own_due, inner.Beside.HaveCome}
 use Rattle.kp_watch.proofs.watch.compare.Given as goal
 
 abbrev pub invariant-loop-cycle : goal.invariant-loop-cycle

@@ -1,5 +1,4 @@
-use Rattle.std.proofs.Common.{arith}
-use Rattle.std.proofs.lemmas.Grind.{common_steps}
+use Rattle.std.proofs.{Common.arith, lemmas.Grind.common_steps}
 use Rattle.indexmap.proofs.CallerLemmas.{insert_entry-new}
 use Rattle.kp_asm.proofs.labels.Labels.insert.Goals as goal
 

@@ -1,20 +1,11 @@
 use Rattle.std.proofs.Common.{◌≡◌, ◌+◌, ◌^◌, ◌<◌, ◌≤◌, ℕ, List, ◌∷◌, length, get_or, map, take, zero, suc, refl, All, subst, sym, ap, ◌∙◌, arith, Result}
-use Rattle.std.specs.Prelude.{IfOk, OnOk}
-use Rattle.std.specs.List.{sum_by}
-use Rattle.std.proofs.lemmas.List.Elements.{All-get_or, All-push}
-use Rattle.std.proofs.lemmas.List.Sums.{sum_by_more, sum_by_more_le}
-use Rattle.std.proofs.lemmas.Nat.{pow_pos}
-use Rattle.std.proofs.lemmas.List.{length-replicate, get_or-replicate}
-use Rattle.std.proofs.Math.Seq.{take-length}
-use Rattle.kp_net.specs.declared.netlist.NetFile.{NetFile}
-use Rattle.kp_net.specs.declared.netlist.Parts.{Parts}
-use Rattle.kp_net.specs.Widths.{wide}
-use Rattle.kp_region.specs.declared.span.Span.{Span}
-use Rattle.kp_region.specs.declared.region.Full.{Full}
-use Rattle.kp_region.specs.Words.{Words, IsSound, next_span, carved}
+use Rattle.std.proofs.lemmas.{List.Elements.All-get_or, List.Elements.All-push, List.Sums.sum_by_more, List.Sums.sum_by_more_le, Nat.pow_pos}
+use Rattle.std.proofs.{lemmas.List.length-replicate, lemmas.List.get_or-replicate, Math.Seq.take-length}
+use Rattle.std.specs.{Prelude.IfOk, Prelude.OnOk, List.sum_by}
+use Rattle.kp_net.specs.{declared.netlist.NetFile.NetFile, declared.netlist.Parts.Parts, Widths.wide}
+use Rattle.kp_region.specs.{declared.span.Span.Span, declared.region.Full.Full, Words.Words, Words.IsSound, Words.next_span, Words.carved}
 use Rattle.kp_cycle.specs.inner.Spans.{Laid, first_span, no_span}
-use Rattle.kp_cycle.proofs.Spans.{apart_carved, length_carved, lens_more, fits_laid}
-use Rattle.kp_cycle.proofs.Copies.{laid_out, unsaved}
+use Rattle.kp_cycle.proofs.{Spans.apart_carved, Spans.length_carved, Spans.lens_more, Spans.fits_laid, Copies.laid_out, Copies.unsaved}
 use Rattle.kp_cycle.proofs.memory.Memory.lay_out.Goals as goal
 
 abbrev none : ℕ

@@ -1,10 +1,8 @@
 use Rattle.std.proofs.Common.{◌≡◌, ◌<◌, ℕ, List, Some, None, true, length, get_or, map, sym, subst, ap, ◌∙◌, arith}
-use Rattle.std.specs.Prelude.{IsSome}
 use Rattle.std.proofs.lemmas.List.{get_or_default}
-use Rattle.kp_region.specs.declared.span.Span.{Span}
-use Rattle.kp_region.specs.Words.{Words, IsWithin, IsDisjoint, span_words, copied}
-use Rattle.kp_cycle.specs.declared.slots.Slot.{Slot}
-use Rattle.kp_cycle.specs.inner.Spans.{first_span, Laid, no_slot, state_in, held}
+use Rattle.std.specs.Prelude.{IsSome}
+use Rattle.kp_region.specs.{declared.span.Span.Span, Words.Words, Words.IsWithin, Words.IsDisjoint, Words.span_words, Words.copied}
+use Rattle.kp_cycle.specs.{declared.slots.Slot.Slot, inner.Spans.first_span, inner.Spans.Laid, inner.Spans.no_slot, inner.Spans.state_in, inner.Spans.held}
 use Rattle.kp_cycle.specs.inner.Storage.{Stored}
 use Rattle.kp_cycle.proofs.Copies.{is_marked, slot_within, beside_whole, held_loaded, slots_loaded}
 use Rattle.kp_cycle.proofs.memory.Memory.load.Goals as goal

@@ -1,9 +1,7 @@
 use Rattle.std.proofs.Common.{◌≡◌, ◌<◌, ℕ, List, Some, true, length, get_or, map, set, sym, subst, ap, ◌∙◌, arith}
 use Rattle.std.proofs.lemmas.List.{get_or_default, length-map}
-use Rattle.kp_region.specs.declared.span.Span.{Span}
-use Rattle.kp_region.specs.Words.{Words, IsWithin, IsDisjoint, span_words, copied}
-use Rattle.kp_cycle.specs.declared.slots.Slot.{Slot}
-use Rattle.kp_cycle.specs.inner.Spans.{first_span, Laid, no_slot, state_in, held}
+use Rattle.kp_region.specs.{declared.span.Span.Span, Words.Words, Words.IsWithin, Words.IsDisjoint, Words.span_words, Words.copied}
+use Rattle.kp_cycle.specs.{declared.slots.Slot.Slot, inner.Spans.first_span, inner.Spans.Laid, inner.Spans.no_slot, inner.Spans.state_in, inner.Spans.held}
 use Rattle.kp_cycle.specs.inner.Storage.{Stored, state_of}
 use Rattle.kp_cycle.proofs.Copies.{other_way, slot_within, beside_whole, laid_saved, state_saved, slots_saved}
 use Rattle.kp_cycle.proofs.memory.Memory.save.Goals as goal

@@ -1,10 +1,8 @@
 use Rattle.std.proofs.Common.{◌<◌, ◌∷◌, List, Option, length, map, set, sym, subst, ap, ◌∙◌, arith}
 use Rattle.kp_region.specs.Words.{Words, written}
 use Rattle.kp_net.specs.Netlist.{State}
-use Rattle.kp_cycle.specs.inner.Spans.{first_span, Laid, held}
-use Rattle.kp_cycle.specs.inner.Storage.{Stored}
-use Rattle.kp_cycle.proofs.Spans.{span_length, write_one, stored, stored_in}
-use Rattle.kp_cycle.proofs.Copies.{laid_written, part_written}
+use Rattle.kp_cycle.specs.inner.{Spans.first_span, Spans.Laid, Spans.held, Storage.Stored}
+use Rattle.kp_cycle.proofs.{Spans.span_length, Spans.write_one, Spans.stored, Spans.stored_in, Copies.laid_written, Copies.part_written}
 use Rattle.kp_cycle.proofs.memory.Memory.set_reg.Goals as goal
 
 pub put-requires-clause-within : goal.put-requires-clause-within

@@ -1,11 +1,8 @@
 use Rattle.std.proofs.Common.{◌<◌, List, Option, get_or, map, set, suc, [], sym, subst, ap, ◌∙◌, arith}
-use Rattle.kp_region.specs.declared.span.Span.{Span}
-use Rattle.kp_region.specs.Words.{Words, written}
+use Rattle.kp_region.specs.{declared.span.Span.Span, Words.Words, Words.written}
 use Rattle.kp_net.specs.Netlist.{State}
-use Rattle.kp_cycle.specs.inner.Spans.{first_span, Laid, held, no_span}
-use Rattle.kp_cycle.specs.inner.Storage.{Stored}
-use Rattle.kp_cycle.proofs.Spans.{file_span, write_file, stored_in}
-use Rattle.kp_cycle.proofs.Copies.{laid_written, part_written}
+use Rattle.kp_cycle.specs.inner.{Spans.first_span, Spans.Laid, Spans.held, Spans.no_span, Storage.Stored}
+use Rattle.kp_cycle.proofs.{Spans.file_span, Spans.write_file, Spans.stored_in, Copies.laid_written, Copies.part_written}
 use Rattle.kp_cycle.proofs.memory.Memory.set_word.Goals as goal
 
 pub overflow_cast-address : goal.overflow_cast-address

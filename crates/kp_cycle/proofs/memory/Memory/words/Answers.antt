@@ -1,9 +1,7 @@
 use Rattle.std.proofs.Common.{◌<◌, length, suc, sym, subst, ap, ◌∙◌, arith}
 use Rattle.std.proofs.lemmas.List.{get_or_default, length-map}
-use Rattle.kp_region.specs.declared.span.Span.{Span}
-use Rattle.kp_region.specs.Words.{IsWithin, span_words}
-use Rattle.kp_cycle.specs.inner.Spans.{no_span}
-use Rattle.kp_cycle.specs.inner.Storage.{Stored}
+use Rattle.kp_region.specs.{declared.span.Span.Span, Words.IsWithin, Words.span_words}
+use Rattle.kp_cycle.specs.inner.{Spans.no_span, Storage.Stored}
 use Rattle.kp_cycle.proofs.memory.Memory.words.Goals as goal
 
 pub words-requires : goal.words-requires

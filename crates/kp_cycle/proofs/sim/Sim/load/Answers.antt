@@ -1,8 +1,6 @@
 use Rattle.std.proofs.Common.{ℕ, List, length, sym, subst, ap, ◌∙◌}
 use Rattle.std.specs.Prelude.{IsSome}
-use Rattle.kp_cycle.specs.Steps.{Running, saved_in}
-use Rattle.kp_cycle.specs.inner.Plans.{AreFixed}
-use Rattle.kp_cycle.specs.inner.Storage.{FitsBelow, SlotsFit, state_of}
+use Rattle.kp_cycle.specs.{Steps.Running, Steps.saved_in, inner.Plans.AreFixed, inner.Storage.FitsBelow, inner.Storage.SlotsFit, inner.Storage.state_of}
 use Rattle.kp_cycle.proofs.Copies.{fits_loaded}
 use Rattle.kp_cycle.proofs.sim.Sim.load.Goals as goal
 

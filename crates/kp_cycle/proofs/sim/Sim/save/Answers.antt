@@ -1,7 +1,5 @@
 use Rattle.std.proofs.Common.{◌<◌, length, set, sym, subst, ap, ◌∙◌, arith, Some}
-use Rattle.kp_cycle.specs.Steps.{Running, ShowsRows}
-use Rattle.kp_cycle.specs.inner.Latches.{IsLatched}
-use Rattle.kp_cycle.specs.inner.Plans.{IsPlan, AreFixed}
+use Rattle.kp_cycle.specs.{Steps.Running, Steps.ShowsRows, inner.Latches.IsLatched, inner.Plans.IsPlan, inner.Plans.AreFixed}
 use Rattle.kp_cycle.specs.inner.Storage.{Stored, Fits, FitsBelow, StateFits, SlotsFit, state_of}
 use Rattle.kp_cycle.proofs.Copies.{fits_slots, is_state, slots_saved_fit}
 use Rattle.kp_cycle.proofs.sim.Sim.save.Goals as goal

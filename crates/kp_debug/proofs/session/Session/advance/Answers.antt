@@ -1,8 +1,7 @@
 use Rattle.std.proofs.Common.{◌≡◌, ◌<◌, ℕ, length, ap, ◌∙◌, arith}
 use Rattle.kp_cycle.specs.Steps.{Running}
 use Rattle.kp_debug.specs.Sessions.{Debugged}
-use Rattle.kp_debug.proofs.Feeding.{inputs_many}
-use Rattle.kp_debug.proofs.Standing.{gone_on, session_more, session_kept}
+use Rattle.kp_debug.proofs.{Feeding.inputs_many, Standing.gone_on, Standing.session_more, Standing.session_kept}
 use Rattle.kp_debug.proofs.session.Session.advance.Goals as goal
 
 pub run_one-requires-clause-there : goal.run_one-requires-clause-there

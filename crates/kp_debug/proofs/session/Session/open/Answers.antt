@@ -1,8 +1,7 @@
 use Rattle.std.proofs.Common.{◌≡◌, ◌*◌, ◌<◌, ℕ, List, [], take, length, set, replicate, Option, None, Some, ap, ◌∙◌, arith, subst, sym, refl}
 use Rattle.kp_net.specs.Netlist.{Input, State, start_of, last_of}
 use Rattle.kp_cycle.specs.Steps.{Running, saved_in}
-use Rattle.kp_debug.specs.Sessions.{inputs_of}
-use Rattle.kp_debug.specs.inner.Kept.{IsSession}
+use Rattle.kp_debug.specs.{Sessions.inputs_of, inner.Kept.IsSession}
 use Rattle.kp_debug.proofs.session.Session.open.Goals as goal
 
 pub invariant_of-result : goal.invariant_of-result

@@ -1,6 +1,5 @@
 use Rattle.std.proofs.Common.{◌≡◌, ◌≤◌}
-use Rattle.kp_diagram_text.specs.Charts.{names_of}
-use Rattle.kp_diagram_text.specs.Text.{longest}
+use Rattle.kp_diagram_text.specs.{Charts.names_of, Text.longest}
 use Rattle.kp_diagram_text.proofs.chart.Chart.longest.Given as goal
 
 abbrev pub invariant-loop-k : goal.invariant-loop-k

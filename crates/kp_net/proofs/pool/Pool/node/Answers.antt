@@ -1,8 +1,5 @@
 use Rattle.std.proofs.Common.{◌≡◌, List, ap, sym, subst, ◌∙◌}
-use Rattle.kp_net.specs.declared.node.Node.{Node}
-use Rattle.kp_net.specs.Widths.{AllRight}
-use Rattle.kp_net.specs.Growth.{Held}
-use Rattle.kp_net.specs.inner.Folds.{StandsFor}
+use Rattle.kp_net.specs.{declared.node.Node.Node, Widths.AllRight, Growth.Held, inner.Folds.StandsFor}
 use Rattle.kp_net.proofs.Exact.{node_whole}
 use Rattle.kp_net.proofs.pool.Pool.node.Goals as goal
 

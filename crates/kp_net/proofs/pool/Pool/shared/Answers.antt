@@ -1,14 +1,7 @@
 use Rattle.std.proofs.Common.{◌≡◌, false, ◌<◌, ◌++◌, ◌∷◌, [], length, List, sym, ap, ◌∙◌, get_or, subst, arith}
-use Rattle.kp_net.specs.declared.node.Node.{Node}
-use Rattle.kp_net.specs.Widths.{NodeOk, AllRight, Distinct, no_node}
-use Rattle.kp_net.specs.Depth.{depth, depth_of}
-use Rattle.kp_net.specs.Folding.{foldable, NoneFoldable}
-use Rattle.kp_net.specs.Growth.{Held}
-use Rattle.kp_net.specs.inner.Lookup.{LacksBelow, IsFront}
-use Rattle.kp_net.proofs.Depths.{depth_new, depth_there}
-use Rattle.kp_net.proofs.Unfolded.{unfolded_more}
-use Rattle.kp_net.proofs.Exact.{node_whole}
-use Rattle.kp_net.proofs.Rightness.{right_more, distinct_more}
+use Rattle.kp_net.specs.{declared.node.Node.Node, Widths.NodeOk, Widths.AllRight, Widths.Distinct, Widths.no_node, Depth.depth, Depth.depth_of}
+use Rattle.kp_net.specs.{Folding.foldable, Folding.NoneFoldable, Growth.Held, inner.Lookup.LacksBelow, inner.Lookup.IsFront}
+use Rattle.kp_net.proofs.{Depths.depth_new, Depths.depth_there, Unfolded.unfolded_more, Exact.node_whole, Rightness.right_more, Rightness.distinct_more}
 use Rattle.kp_net.proofs.Growing.{kept_new, grown_new, added_new, wire_new, value_new, wire_there, value_there}
 use Rattle.kp_net.proofs.pool.Pool.shared.Goals as goal
 

@@ -1,6 +1,5 @@
 use Rattle.std.proofs.Common.{ap}
-use Rattle.kp_net.specs.declared.node.Node.{Node}
-use Rattle.kp_net.specs.Widths.{wide}
+use Rattle.kp_net.specs.{declared.node.Node.Node, Widths.wide}
 use Rattle.kp_net.proofs.pool.Pool.width.Goals as goal
 
 pub returns-clause-width : goal.returns-clause-width

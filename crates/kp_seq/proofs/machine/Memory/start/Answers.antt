@@ -1,11 +1,9 @@
 use Rattle.std.proofs.Common.{ap, ◌∙◌}
 use Rattle.std.specs.Prelude.{List}
-use Rattle.kp_ast.specs.declared.tree.Job.{Job}
-use Rattle.kp_ast.specs.declared.tree.Decl.{Decl}
+use Rattle.kp_ast.specs.declared.tree.{Job.Job, Decl.Decl}
 use Rattle.kp_stage.specs.declared.counts.Summary.{Summary}
 use Rattle.kp_machine.specs.Slots.{targets_of, pipes_of}
-use Rattle.kp_seq.specs.inner.Notes.{outlets_of}
-use Rattle.kp_seq.specs.inner.Ready.{words_of_start}
+use Rattle.kp_seq.specs.inner.{Notes.outlets_of, Ready.words_of_start}
 use Rattle.kp_seq.proofs.machine.Memory.start.Goals as goal
 
 pub returns-clause-words : goal.returns-clause-words

@@ -1,10 +1,7 @@
 use Rattle.std.proofs.Common.{◌≡◌, ◌∙◌, ap, subst, sym, arith}
 use Rattle.kp_machine.specs.Slots.{targets_of}
-use Rattle.kp_seq.specs.inner.Fits.{FitSlots}
-use Rattle.kp_seq.specs.inner.Ready.{AreTables, HasRoom, IsNoted}
-use Rattle.kp_seq.specs.inner.Resolved.{Resolves}
-use Rattle.kp_seq.specs.declared.machine.Resolved.{Resolved}
-use Rattle.kp_seq.specs.inner.Notes.{Noted, record_by}
+use Rattle.kp_seq.specs.inner.{Fits.FitSlots, Ready.AreTables, Ready.HasRoom, Ready.IsNoted, Resolved.Resolves}
+use Rattle.kp_seq.specs.{declared.machine.Resolved.Resolved, inner.Notes.Noted, inner.Notes.record_by}
 use Rattle.kp_seq.proofs.machine.SeqMachine.copied.Goals as goal
 
 pub invariant_of-result : goal.invariant_of-result

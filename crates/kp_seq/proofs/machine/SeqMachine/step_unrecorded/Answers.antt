@@ -2,9 +2,7 @@ use Rattle.std.proofs.Common.{◌≡◌, ◌≤◌, length, ap, ◌∙◌, subst
 use Rattle.std.specs.List.{All, length_refill}
 use Rattle.kp_stage.specs.Start.{AreSamples}
 use Rattle.kp_machine.specs.Slots.{targets_of}
-use Rattle.kp_seq.specs.Running.{Running, state, state_in, after_one}
-use Rattle.kp_seq.specs.inner.Fits.{FitSlots}
-use Rattle.kp_seq.specs.inner.Ready.{HasRoom}
+use Rattle.kp_seq.specs.{Running.Running, Running.state, Running.state_in, Running.after_one, inner.Fits.FitSlots, inner.Ready.HasRoom}
 use Rattle.kp_seq.specs.inner.Resolved.{ran, after_stages, begun_at, steps_space}
 use Rattle.kp_seq.specs.declared.machine.Resolved.{Resolved}
 use Rattle.kp_seq.proofs.Stepping.{room_is_enough, state_after, words_fit, places_kept}

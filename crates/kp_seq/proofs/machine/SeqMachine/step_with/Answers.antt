@@ -1,14 +1,9 @@
 use Rattle.std.proofs.Common.{◌≡◌, ◌≤◌, length, ap, ◌∙◌, subst, sym, arith}
 use Rattle.std.specs.List.{All, length_refill}
 use Rattle.kp_stage.specs.Start.{AreSamples}
-use Rattle.kp_machine.specs.Machine.{values_in}
-use Rattle.kp_machine.specs.Slots.{targets_of}
-use Rattle.kp_seq.specs.Running.{Running, state, state_in, after_one}
-use Rattle.kp_seq.specs.Recorded.{record_of}
-use Rattle.kp_seq.specs.inner.Fits.{FitSlots}
-use Rattle.kp_seq.specs.inner.Notes.{record_by}
-use Rattle.kp_seq.specs.inner.Ready.{HasRoom, IsNoted}
-use Rattle.kp_seq.specs.inner.Resolved.{ran, after_stages, begun_at, noted, steps_space}
+use Rattle.kp_machine.specs.{Machine.values_in, Slots.targets_of}
+use Rattle.kp_seq.specs.{Running.Running, Running.state, Running.state_in, Running.after_one, Recorded.record_of, inner.Fits.FitSlots, inner.Notes.record_by}
+use Rattle.kp_seq.specs.inner.{Ready.HasRoom, Ready.IsNoted, Resolved.ran, Resolved.after_stages, Resolved.begun_at, Resolved.noted, Resolved.steps_space}
 use Rattle.kp_seq.specs.declared.machine.Resolved.{Resolved}
 use Rattle.kp_seq.proofs.Stepping.{room_is_enough, state_after, words_fit, places_kept, record_kept, record_after}
 use Rattle.kp_seq.proofs.machine.SeqMachine.step_with.Goals as goal

@@ -1,7 +1,5 @@
-use Rattle.std.proofs.Common.{◌<◌, [], length, refl, ap, sym, ◌∙◌, arith}
-use Rattle.std.specs.Prelude.{ℕ, Vec}
-use Rattle.std.specs.declared.alloc.Global.{Global}
-use Rattle.std.proofs.lemmas.List.{get_or-map}
+use Rattle.std.proofs.{Common.◌<◌, Common.[], Common.length, Common.refl, Common.ap, Common.sym, Common.◌∙◌, Common.arith, lemmas.List.get_or-map}
+use Rattle.std.specs.{Prelude.ℕ, Prelude.Vec, declared.alloc.Global.Global}
 use Rattle.kp_seq.specs.inner.Steps.{with_word}
 use Rattle.kp_seq.proofs.Stored.{word_stored}
 use Rattle.kp_seq.proofs.words.Words.set_word.Goals as goal

@@ -1,8 +1,7 @@
 use Rattle.std.proofs.Common.{◌∙◌, ◌+◌, ◌%◌, List, length, length-set, set, ap, sym, subst, refl}
 use Rattle.kp_machine.specs.Machine.{values_in}
 use Rattle.kp_seq.specs.Running.{state}
-use Rattle.kp_stalls.specs.Occupants.{Report, report_of}
-use Rattle.kp_stalls.specs.Windows.{IsKept}
+use Rattle.kp_stalls.specs.{Occupants.Report, Occupants.report_of, Windows.IsKept}
 use Rattle.kp_stalls.proofs.Windows.{follows_step, kept_next, written_back}
 use Rattle.kp_stalls.proofs.window.Window.step.Goals as goal
 

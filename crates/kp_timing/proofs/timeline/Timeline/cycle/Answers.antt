@@ -3,9 +3,7 @@ use Rattle.kp_ast.specs.declared.tree.Job.{Job}
 use Rattle.kp_stage.specs.Counts.{summary_of}
 use Rattle.kp_machine.specs.Slots.{samples_of}
 use Rattle.kp_machine.proofs.Stages.{stages_inside}
-use Rattle.kp_timing.specs.declared.deciding.Found.{Found}
-use Rattle.kp_timing.specs.Timed.{Timed, IsCycle}
-use Rattle.kp_timing.specs.inner.Kept.{HasRoom, Advances}
+use Rattle.kp_timing.specs.{declared.deciding.Found.Found, Timed.Timed, Timed.IsCycle, inner.Kept.HasRoom, inner.Kept.Advances}
 use Rattle.kp_timing.specs.inner.Deciding.{record_in, moves_by}
 use Rattle.kp_timing.proofs.Keeping.{f, no_samples_declared, kept_next, hold_next, moves_same, waits_same, waits_past, row_shown}
 use Rattle.kp_timing.proofs.timeline.Timeline.cycle.Goals as goal

@@ -1,10 +1,8 @@
 use Rattle.std.proofs.Common.{◌≡◌, ◌∙◌, ℕ, ◌+◌, ◌++◌, ◌∷◌, [], None, Some, ap, ap₂, sym, refl, List}
 use Rattle.std.proofs.lemmas.List.{append-nil}
-use Rattle.kp_vcd.specs.declared.dump.Moment.{Moment}
-use Rattle.kp_vcd.specs.Recording.{Record, changes_from, moment_of}
-use Rattle.kp_vcd.proofs.Recorded.{recorded_next}
+use Rattle.kp_vcd.specs.{declared.dump.Moment.Moment, Recording.Record, Recording.changes_from, Recording.moment_of}
+use Rattle.kp_vcd.proofs.{Recorded.recorded_next, recording.Recorder.record.Goals.in-Some+in_ok-push, recording.Recorder.record.Goals.in_default}
 use Rattle.kp_vcd.proofs.recording.Recorder.record.Goals as goal
-use Rattle.kp_vcd.proofs.recording.Recorder.record.Goals.{in-Some+in_ok-push, in_default}
 
 pub returns : goal.returns
 returns c values T has is =

@@ -1,13 +1,11 @@
 use Rattle.std.proofs.Common.{◌∙◌, ◌+◌, Bool, List, ◌++◌, sym, ap, true, false, append-nil, drop, length, arith, rules}
-use Rattle.std.specs.declared.option.Option.{Option}
 use Rattle.std.proofs.Output.{has_written_append, has_written_of_eq, has_written_to_eq}
-use Rattle.kp_view_expected.specs.declared.display.Group.{Group}
-use Rattle.kp_view_expected.specs.declared.display.Thing.{Thing}
-use Rattle.kp_view_expected.specs.GoesOn.{all_classes}
+use Rattle.std.specs.declared.option.Option.{Option}
+use Rattle.kp_view_expected.specs.{declared.display.Group.Group, declared.display.Thing.Thing, GoesOn.all_classes}
 use Rattle.kp_view_expected.specs.Texts.{before_these, expected_text, joined, thing_text, things, things_of}
 use Rattle.kp_view_expected.proofs.Listing.{listed_from, none_from, one_fewer, written_more}
-use Rattle.kp_view_expected.proofs.display.ExpectedDisplay.fmt.Goals as goal
 use Rattle.kp_view_expected.proofs.display.ExpectedDisplay.fmt.Goals.{in-Some+in_ok-write, in_default}
+use Rattle.kp_view_expected.proofs.display.ExpectedDisplay.fmt.Goals as goal
 
 pub loop-i-preserved : goal.loop-i-preserved
 loop-i-preserved g c =

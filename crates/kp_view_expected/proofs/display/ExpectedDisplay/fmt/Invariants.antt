@@ -1,7 +1,6 @@
 use Rattle.std.proofs.Common.{ℕ, ◌≡◌, List, ◌++◌, drop, length, true}
 use Rattle.std.specs.Fmt.{HasWritten, IsPlainFormatter}
-use Rattle.kp_view_expected.specs.GoesOn.{all_classes}
-use Rattle.kp_view_expected.specs.Texts.{things, things_of, joined}
+use Rattle.kp_view_expected.specs.{GoesOn.all_classes, Texts.things, Texts.things_of, Texts.joined}
 use Rattle.kp_view_expected.proofs.display.ExpectedDisplay.fmt.Given as goal
 
 abbrev pub invariant-loop-i : goal.invariant-loop-i

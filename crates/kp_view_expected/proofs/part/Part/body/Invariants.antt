@@ -1,7 +1,6 @@
 use Rattle.std.proofs.Common.{◌≡◌, [], map, drop}
 use Rattle.kp_view_expected.specs.inner.Plain.{number, plain_symbol}
-use Rattle.kp_view_expected.proofs.Tests.{choose_or}
-use Rattle.kp_view_expected.proofs.Machine.{seen}
+use Rattle.kp_view_expected.proofs.{Tests.choose_or, Machine.seen}
 use Rattle.kp_view_expected.proofs.part.Part.body.Given as goal
 
 abbrev pub invariant-loop-one : goal.invariant-loop-one

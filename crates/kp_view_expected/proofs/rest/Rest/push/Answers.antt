@@ -1,5 +1,4 @@
-use Rattle.std.proofs.Common.{rules}
-use Rattle.std.proofs.lemmas.Iterator.Adapters.{items_from_extend, YieldsList-from_rev_slice}
+use Rattle.std.proofs.{Common.rules, lemmas.Iterator.Adapters.items_from_extend, lemmas.Iterator.Adapters.YieldsList-from_rev_slice}
 use Rattle.std.proofs.lemmas.Iterator.Consumers.{YieldsList-from_copied}
 use Rattle.kp_view_expected.proofs.rest.Rest.push.Goals as goal
 

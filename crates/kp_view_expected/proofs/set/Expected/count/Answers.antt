@@ -1,7 +1,7 @@
 use Rattle.std.proofs.Common.{sym, ◌∙◌, ap, length, false, arith, rules}
 use Rattle.kp_view_expected.proofs.Listing.{count_none, count_some, listed_from, none_from}
-use Rattle.kp_view_expected.proofs.set.Expected.count.Goals as goal
 use Rattle.kp_view_expected.proofs.set.Expected.count.Goals.{then-is_some, else-is_some}
+use Rattle.kp_view_expected.proofs.set.Expected.count.Goals as goal
 
 pub loop-i-preserved : goal.loop-i-preserved
 loop-i-preserved c =

@@ -1,6 +1,5 @@
 use Rattle.std.proofs.Common.{◌≡◌, ◌≤◌, ◌+◌, drop, length}
-use Rattle.kp_view_expected.specs.GoesOn.{all_classes}
-use Rattle.kp_view_expected.specs.Texts.{things, things_of}
+use Rattle.kp_view_expected.specs.{GoesOn.all_classes, Texts.things, Texts.things_of}
 use Rattle.kp_view_expected.proofs.set.Expected.count.Given as goal
 
 abbrev pub invariant-loop-i : goal.invariant-loop-i

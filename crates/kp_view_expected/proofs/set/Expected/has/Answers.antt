@@ -1,7 +1,7 @@
 use Rattle.std.proofs.Common.{refl, sym, ◌∙◌, arith, true≢false}
 use Rattle.kp_view_expected.proofs.Exact.{is_listed, passed_over, none_listed}
-use Rattle.kp_view_expected.proofs.set.Expected.has.Goals as goal
 use Rattle.kp_view_expected.proofs.set.Expected.has.Goals.{else-is-via-then-is+else-self-i, else-is-via-else-is}
+use Rattle.kp_view_expected.proofs.set.Expected.has.Goals as goal
 
 pub returns-then-self-i : goal.returns-then-self-i
 returns-then-self-i c = (

@@ -1,8 +1,8 @@
 use Rattle.std.proofs.Common.{sym, ◌∙◌, false, rules}
 use Rattle.kp_view_expected.specs.declared.token_class.TokenClass.TheVariants as classes
 use Rattle.kp_view_expected.proofs.Listing.{goes_on_listed, goes_on_other, is_missing, is_whole}
-use Rattle.kp_view_expected.proofs.set.Expected.has_all.Goals as goal
 use Rattle.kp_view_expected.proofs.set.Expected.has_all.Goals.{else-has-via-then-has+else-not-self-i, else-has-via-else-has}
+use Rattle.kp_view_expected.proofs.set.Expected.has_all.Goals as goal
 
 pub returns-then-not-self-i : goal.returns-then-not-self-i
 returns-then-not-self-i c =

@@ -1,6 +1,5 @@
 use Rattle.std.proofs.Common.{◌≡◌, drop}
-use Rattle.kp_view_expected.specs.GoesOn.{all_classes}
-use Rattle.kp_view_expected.specs.Texts.{all_of}
+use Rattle.kp_view_expected.specs.{GoesOn.all_classes, Texts.all_of}
 use Rattle.kp_view_expected.proofs.set.Expected.has_all.Given as goal
 
 abbrev pub invariant-loop-i : goal.invariant-loop-i

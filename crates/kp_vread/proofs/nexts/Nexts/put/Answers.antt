@@ -1,10 +1,8 @@
 use Rattle.std.proofs.Common.{◌∙◌, ◌∷◌, ℕ, List, cond, Some, sym, ap, subst}
 use Rattle.std.specs.Map.{lookup}
-use Rattle.kp_net.specs.declared.node.NodeId.{NodeId}
-use Rattle.kp_net.specs.Names.{same}
+use Rattle.kp_net.specs.{declared.node.NodeId.NodeId, Names.same}
 use Rattle.kp_vlog.specs.declared.tree.Update.{Update}
-use Rattle.kp_vread.specs.inner.Building.{node_by}
-use Rattle.kp_vread.specs.inner.Nexts.{AreNexts}
+use Rattle.kp_vread.specs.inner.{Building.node_by, Nexts.AreNexts}
 use Rattle.kp_vread.proofs.Updating.{reg_next}
 use Rattle.kp_vread.proofs.nexts.Nexts.put.Goals as goal
 

@@ -1,7 +1,5 @@
-use Rattle.std.proofs.Common.{List, subst, arith}
-use Rattle.std.proofs.lemmas.List.{take_all}
-use Rattle.kp_vlog.specs.declared.tree.Item.{Item}
-use Rattle.kp_vlog.specs.Denote.{Made, made_by}
+use Rattle.std.proofs.{Common.List, Common.subst, Common.arith, lemmas.List.take_all}
+use Rattle.kp_vlog.specs.{declared.tree.Item.Item, Denote.Made, Denote.made_by}
 use Rattle.kp_vread.specs.inner.Building.{IsMade}
 use Rattle.kp_vread.proofs.Making.{one_item}
 use Rattle.kp_vread.proofs.nodes.Made.new.Goals as goal

@@ -1,6 +1,5 @@
 use Rattle.std.proofs.Common.{◌≤◌, take}
-use Rattle.kp_vlog.specs.Scope.{Scope}
-use Rattle.kp_vlog.specs.Denote.{made_by}
+use Rattle.kp_vlog.specs.{Scope.Scope, Denote.made_by}
 use Rattle.kp_vread.specs.inner.Building.{IsScope, IsMade}
 use Rattle.kp_vread.proofs.nodes.Made.new.Given as goal
 

@@ -1,6 +1,5 @@
 use Rattle.std.proofs.Common.{◌≡◌, ◌∙◌, ◌+◌, ℕ, List, cond, Some, None, sym, ap}
-use Rattle.std.specs.Option.{is_some}
-use Rattle.std.specs.Map.{lookup}
+use Rattle.std.specs.{Option.is_some, Map.lookup}
 use Rattle.kp_net.specs.Names.{same}
 use Rattle.kp_vread.specs.inner.Numbering.{Numbered}
 use Rattle.kp_vread.proofs.Numbering.{numbered_again, numbered_new}

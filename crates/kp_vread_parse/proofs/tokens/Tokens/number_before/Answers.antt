@@ -1,5 +1,4 @@
-use Rattle.std.proofs.Common.{arith}
-use Rattle.std.proofs.lemmas.Result.{err_from_is_err_and}
+use Rattle.std.proofs.{Common.arith, lemmas.Result.err_from_is_err_and}
 use Rattle.kp_vread_parse.proofs.Steps.{end_end}
 use Rattle.kp_vread_parse.proofs.tokens.Tokens.number_before.Goals as goal
 

@@ -2,10 +2,8 @@ use Rattle.std.proofs.Common.{◌≡◌, ◌∙◌, ◌≤◌, ap, sym, subst, a
 use Rattle.kp_base.specs.declared.row.Row.{Row}
 use Rattle.kp_bits.specs.Word.{Word}
 use Rattle.kp_net.specs.declared.netlist.Parts.{Parts}
-use Rattle.kp_run.proofs.Given.{as_feeds, feeds_many}
+use Rattle.kp_run.proofs.{Given.as_feeds, Given.feeds_many, Machines.stages_fit, Steps.rows_begin}
 use Rattle.kp_run.specs.Cycles.{HasRows}
-use Rattle.kp_run.proofs.Machines.{stages_fit}
-use Rattle.kp_run.proofs.Steps.{rows_begin}
 use Rattle.kp_sched.specs.Rows.{rows_seen}
 use Rattle.kp_watch.specs.inner.Machines.{given}
 use Rattle.kp_watch.proofs.beside.Beside.open.Goals as goal

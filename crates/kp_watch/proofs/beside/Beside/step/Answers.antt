@@ -2,24 +2,15 @@ use Rattle.std.proofs.Common.{◌≡◌, ◌∙◌, ◌++◌, ◌∷◌, [], ℕ
 use Rattle.std.specs.Prelude.{vec_len, vec_capacity}
 use Rattle.kp_base.specs.declared.row.Row.{Row}
 use Rattle.kp_bits.specs.Word.{Word}
-use Rattle.kp_cycle.specs.Steps.{written_in}
-use Rattle.kp_cycle.specs.Steps.{Running, SamplesFit, given}
-use Rattle.kp_image.specs.Feeds.{row_in}
-use Rattle.kp_image.specs.Spans.{word_in}
+use Rattle.kp_cycle.specs.Steps.{written_in, Running, SamplesFit, given}
+use Rattle.kp_image.specs.{Feeds.row_in, Spans.word_in}
 use Rattle.kp_net.specs.Netlist.{Input, State, last_of, row_of, state_after}
-use Rattle.kp_sched.specs.Monitors.{HasSeen}
-use Rattle.kp_sched.specs.Rows.{rows_seen}
+use Rattle.kp_sched.specs.{Monitors.HasSeen, Rows.rows_seen}
 use Rattle.kp_seq.specs.Running.{Running as Machine}
-use Rattle.kp_run.specs.Columns.{Taken}
-use Rattle.kp_run.specs.Cycles.{input_at, inputs_to}
-use Rattle.kp_run.proofs.Given.{rows_fed, feeds_many, feeds_few}
-use Rattle.kp_run.proofs.Samples.{fits_ports}
-use Rattle.kp_run.proofs.Steps.{state_next, rows_next}
-use Rattle.kp_watch.specs.inner.Changes.{AreNoted}
-use Rattle.kp_watch.specs.inner.Machines.{HaveRun}
-use Rattle.kp_watch.specs.inner.Machines.{given as given_by}
-use Rattle.kp_watch.proofs.Prefixes.{rows_many}
-use Rattle.kp_watch.proofs.Rows.{run_within, first_of, written_back}
+use Rattle.kp_run.specs.{Columns.Taken, Cycles.input_at, Cycles.inputs_to}
+use Rattle.kp_run.proofs.{Given.rows_fed, Given.feeds_many, Given.feeds_few, Samples.fits_ports, Steps.state_next, Steps.rows_next}
+use Rattle.kp_watch.specs.inner.{Changes.AreNoted, Machines.HaveRun, Machines.given as given_by}
+use Rattle.kp_watch.proofs.{Prefixes.rows_many, Rows.run_within, Rows.first_of, Rows.written_back}
 use Rattle.kp_watch.proofs.beside.Beside.step.Goals as goal
 
 pub fill-requires-clause-room : goal.fill-requires-clause-room
