@@ -96,7 +96,8 @@ for name in rv32i rv32ib rv32ip; do
 done
 with_image rv32im digits.m > "$work/job"
 race rv32im "$work/job"
-race rv32ix "$riscv/rv32ix.kp"
+sed '/^end/q' "$top/examples/soc/core.kp" > "$work/job"
+race rv32ix "$work/job"
 
 large $cycles > "$work/large"
 for count in 1000 $cycles; do
