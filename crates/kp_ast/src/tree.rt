@@ -30,10 +30,18 @@ pub struct Named {
 /// Its position is that of its outermost operator, name, literal, call name, extension keyword, `?`, opening `[` of a
 /// slice or opening `{`.
 #[cycle(tree)]
-#[derive(Debug, Drop)]
+#[derive(Debug)]
 pub struct Expr {
     pub place: Place,
     pub kind: ExprKind,
+}
+
+impl Drop for Expr {
+    #[cycle(release)]
+    fn drop(self) {
+        let Expr { place: _, kind } = self;
+        drop(kind);
+    }
 }
 
 /// The kind of an expression.
