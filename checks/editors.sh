@@ -1,7 +1,7 @@
 #!/bin/bash
 # Reads what `kpview explain` prints as editors do: bash checks/editors.sh
 #
-# The messages are those that the stored runs of kp_test_explain expect. Each must be found, with its file, line, column, kind and rule, and nothing else:
+# The messages are those that the cases of `explain` in kp_test_cases expect. Each must be found, with its file, line, column, kind and rule, and nothing else:
 # by the regular expression of docs/KPVIEW.md, and by Vim with editors/vim/compiler/kpview.vim. Where Vim isn't installed, the expression alone is tried.
 #
 # The last line is `N checked, M wrong`, and the status is 0 where M is 0.
@@ -9,7 +9,8 @@ set -u
 top=$(cd "$(dirname "$0")/.." && pwd) || exit 70
 work=$(mktemp -d) || exit 70
 trap 'rm -rf "$work"' EXIT
-printed=$top/crates/kp_test_explain/stdout
+printed=$work/printed
+awk '/^==== / { is_explain = /^==== explain .*gives / && !/ (-h|--help) gives / } is_explain' "$top/crates/kp_test_cases/stdout" > "$printed"
 checked=0
 wrong=0
 missing=

@@ -8,6 +8,7 @@ that no source has, with their lines; the status is 0 where there are none. Name
 import os
 import re
 import sys
+from itertools import chain
 
 TOP = os.path.dirname(os.path.dirname(os.path.abspath(__file__)))
 PAGES = [f"docs/{it}.md" for it in ("PROVED", "PROOFS", "BELIEVE", "ARCHITECTURE", "CHANGING", "DECISIONS", "PARSING")]
@@ -19,7 +20,7 @@ FREE = re.compile(r"[rfsq]_\w|kp_\w+_|File|lemma|X|antt|decreases-loop-x")
 def sources():
     """All identifiers, the paths of all files below crates/, and the crates."""
     words, paths = set(), set()
-    for folder, folders, files in os.walk(f"{TOP}/crates"):
+    for folder, folders, files in chain(os.walk(f"{TOP}/crates"), os.walk(f"{TOP}/checks/edits")):
         folders[:] = [it for it in folders if it != "out"]
         for file in files:
             path = os.path.join(folder, file)

@@ -1,44 +1,32 @@
-//! Runs the top call on many inputs, and prints the result of each.
+//! Runs the top calls of the programs on many inputs, and prints the result of each.
 //!
-//! Standard input contains the cases. A case starts with its head, a line `==== WORDS`, where `""` denotes the empty word, and its input is the text
-//! up to the next head. For each case its head, its status and the text that was written are printed. A head of the words `# ..` is a title: it is
-//! printed, and the text below it is no input of any case.
+//! Standard input contains the cases. A case starts with its head, a line `==== PROGRAM WORDS`, where `""` denotes the empty word, and its input is the
+//! text up to the next head. The program is `kp`, `kpview`, `kpcore` or `explain`; the last is what `kpview explain` calls, and its words begin with its
+//! name. For each case its head, its status and the texts of standard output and standard error are printed; the second begins with a line `--`, and is
+//! left out where it is empty. `explain` has one text, that of standard error, or its help, and the status 1 where its words are not accepted. A head of
+//! the words `# ..` is a title: it is printed, and the text below it is no input of any case.
 //!
 //! After the words, each after ` | `, a head may have options:
 //!
-//! - `most N`: source and sink transfer at most N bytes a call;
-//! - `room N`: the sink has a capacity of N bytes;
-//! - `read-fails K,K..`, `write-fails K,K..`: the calls of the source or the sink that fail, counted from 1;
+//! - `most N`: source and sinks transfer at most N bytes a call;
+//! - `room N`, `err-room N`: standard output or standard error has a capacity of N bytes;
+//! - `read-fails K,K..`, `write-fails K,K..`, `err-fails K,K..`: the calls of the source, of standard output or of standard error that fail, counted
+//!   from 1; of `explain` standard error has the options of standard output;
 //! - `times N`: the first line of the input is repeated N times;
 //! - `unended`: the line feed that ends the input is not part of it.
 #![tactic(auto)]
 
-use kp_base::{MemSink, MemSource};
-use kp_tool::tool;
-use std::alloc::{AllocError, Global};
+mod head;
+mod programs;
+
+use head::Head;
+use programs::run;
+use std::alloc::Global;
 use std::io;
-use std::io::{Read, Write};
+use std::io::Read;
 
 /// The start of a head.
 const MARK: &[u8] = b"==== ";
-
-/// The default capacity of a sink, in bytes.
-const ROOM: usize = 1 << 20;
-
-/// The default for the most bytes that a call of a source or a sink transfers.
-const MOST: usize = 4096;
-
-/// The options of a head.
-#[derive(Drop)]
-struct Head {
-    words: Vec<String>,
-    most: usize,
-    room: usize,
-    read_fails: Vec<u64>,
-    write_fails: Vec<u64>,
-    times: usize,
-    is_unended: bool,
-}
 
 fn main(rt: HostRuntime) -> io::Result<()> {
     let alloc = rt.alloc();
@@ -70,76 +58,16 @@ fn print_case(rt: &impl Print, alloc: Global, line: &[u8], input: &[u8]) -> io::
     if line.starts_with("# ") {
         return println!(rt; "==== {line}\n");
     }
-    let head = head_of(alloc, line)?;
-    let input = input_of(alloc, &head, input)?;
-    let most = head.most.max(1);
-    let mut source = MemSource::new(input, most, head.read_fails);
-    let mut sink = MemSink::new(alloc, head.room, most, head.write_fails).map_err(|_| AllocError)?;
-    let status = tool(alloc, &head.words, &mut source, &mut sink);
-    let written = String::from_utf8_lossy(alloc, sink.bytes())?;
-    println!(rt; "==== {line} gives {status}\n{written}")
-}
-
-fn head_of(alloc: Global, line: &str) -> Result<Head, AllocError> {
-    let mut parts = line.split(" | ");
-    let mut head = Head {
-        words: words_of(alloc, parts.next().unwrap_or(""))?,
-        most: MOST,
-        room: ROOM,
-        read_fails: Vec::new(alloc),
-        write_fails: Vec::new(alloc),
-        times: 1,
-        is_unended: false,
-    };
-    for part in parts {
-        let (name, value) = part.split_once(" ").unwrap_or((part, ""));
-        match name {
-            "most" => head.most = number(value),
-            "room" => head.room = number(value),
-            "times" => head.times = number(value),
-            "read-fails" => head.read_fails = numbers(alloc, value)?,
-            "write-fails" => head.write_fails = numbers(alloc, value)?,
-            "unended" => head.is_unended = true,
-            _ => {}
-        }
+    let head = Head::of(alloc, line)?;
+    let input = head.input(alloc, input)?;
+    let ended = run(alloc, head, input)?;
+    let out = String::from_utf8_lossy(alloc, ended.out.bytes())?;
+    let err = String::from_utf8_lossy(alloc, ended.err.bytes())?;
+    let status = ended.status;
+    println!(rt; "==== {line} gives {status}\n{out}")?;
+    if err.is_empty() {
+        Ok(())
+    } else {
+        println!(rt; "--\n{err}")
     }
-    Ok(head)
-}
-
-fn words_of(alloc: Global, text: &str) -> Result<Vec<String>, AllocError> {
-    let mut words = Vec::new(alloc);
-    for word in text.split_whitespace() {
-        let word = if word == "\"\"" { "" } else { word };
-        words.push(String::from_str(alloc, word)?)?;
-    }
-    Ok(words)
-}
-
-fn number(text: &str) -> usize {
-    text.parse::<usize>().unwrap_or(0)
-}
-
-fn numbers(alloc: Global, text: &str) -> Result<Vec<u64>, AllocError> {
-    let mut all = Vec::new(alloc);
-    for part in text.split(",") {
-        all.push(part.parse::<u64>().unwrap_or(0))?;
-    }
-    Ok(all)
-}
-
-// The first line as often as the head specifies, then the others.
-fn input_of(alloc: Global, head: &Head, text: &[u8]) -> Result<Vec<u8>, AllocError> {
-    let first = text
-        .split_inclusive(|byte| *byte == b'\n')
-        .next()
-        .unwrap_or(b"");
-    let mut input = Vec::new(alloc);
-    for _ in 1..head.times {
-        input.extend_from_slice(first)?;
-    }
-    input.extend_from_slice(text)?;
-    if head.is_unended {
-        input.pop();
-    }
-    Ok(input)
 }

@@ -3,7 +3,6 @@
 #![tactic(auto)]
 
 mod checks;
-mod confirmed;
 mod expression;
 mod lookup;
 mod names;

@@ -1,9 +1,9 @@
-// The widths that the message of the first finding prints.
+// The widths of expressions that the message of the first finding prints.
 ghost use Rattle.std.specs.Prelude.{◌≡◌, true, IfOk, OnOk};
 ghost use Rattle.kp_ast.specs.declared.tree.Job.{Job};
 ghost use Rattle.kp_view_findings.specs.Noted.{noted};
-ghost use Rattle.kp_view_widths.specs.PrintedWidths.{FirstIsTrue, PrintsTrueWidths};
-ghost use Rattle.kp_view_widths.specs.inner.Agreeing.{Agree, HasBranches, HasOne, HasOwn, HasTest, HasTwo, IsFilled, operands_in};
+ghost use Rattle.kp_view_confirmed.specs.PrintedWidths.{FirstIsTrue, PrintsTrueWidths};
+ghost use Rattle.kp_view_confirmed.specs.inner.Agreeing.{Agree, HasBranches, HasOne, HasOwn, HasTest, HasTwo, IsFilled, operands_in};
 
 use kp_ast::Job;
 use kp_base::{NoMemory, Place};
@@ -12,8 +12,9 @@ use kp_view_message::{Message, WidthFault};
 use kp_view_operands::{ExprWidths, OperandWidths, widths_at};
 use std::alloc::Global;
 
-// The same findings, except that the message of the first one is the fixed sentence of its rule where its widths aren't those that the rules define.
-pub(crate) fn confirmed<'t>(
+/// The same findings, except that the message of the first one is the fixed sentence of its rule where its widths aren't those that the rules define. The
+/// only error is out of memory.
+pub fn confirmed<'t>(
     alloc: Global,
     job: &Job,
     found: &[Finding<'t>],

@@ -7,8 +7,8 @@ use Rattle.kp_view_operands.specs.{declared.widths.ExprWidths.ExprWidths, Widths
 use Rattle.kp_view_message.specs.declared.width_fault.WidthFault.{WidthFault}
 use Rattle.kp_view_message.specs.declared.width_fault.WidthFault.TheVariants as faults
 use Rattle.kp_view_findings.specs.{declared.finding.Finding.Finding, Noted.with_finding}
-use Rattle.kp_view_widths.specs.PrintedWidths.{FirstIsTrue, IsTrueOf, AreBranchesAt, IsOperandAt, IsWidthAt, IsTestAt, AreOperandsAt, PrintsTrueWidths}
-use Rattle.kp_view_widths.specs.inner.Agreeing.{Agree, HasBranches, HasOne, HasOwn, HasTest, HasTwo, IsFilled}
+use Rattle.kp_view_confirmed.specs.PrintedWidths.{FirstIsTrue, IsTrueOf, AreBranchesAt, IsOperandAt, IsWidthAt, IsTestAt, AreOperandsAt, PrintsTrueWidths}
+use Rattle.kp_view_confirmed.specs.inner.Agreeing.{Agree, HasBranches, HasOne, HasOwn, HasTest, HasTwo, IsFilled}
 
 module _ (job : Job) (p : Place) where
   abbrev Known : Option ExprWidths → Type 0
