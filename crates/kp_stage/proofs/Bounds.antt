@@ -1,13 +1,14 @@
 -- The laws of E28 and E29: sizes and counts are within their bounds.
-use Rattle.std.proofs.Common.{◌≡◌, ◌∙◌, ℕ, zero, suc, ◌+◌, ◌<◌, ◌≤◌, List, [], ◌∷◌, length, get_or, Option, Some, None, true, refl, ap, subst, arith}
-use Rattle.std.proofs.lemmas.{Bool.and_parts, Bool.leb-true, List.Sums.sum_by-cons, List.Sums.sum_by-append}
+use Rattle.std.proofs.Common.{◌≡◌, ◌∙◌, ℕ, ◌+◌, ◌<◌, ◌≤◌, List, [], ◌∷◌, length, get_or, Option, Some, None, true, refl, ap, subst, arith, sym}
+use Rattle.std.proofs.lemmas.{Bool.and_parts, Bool.leb-true, List.Sums.sum_by-cons, List.Sums.sum_by-append, List.Sums.get_or-le-sum_by}
+use Rattle.std.proofs.lemmas.Option.{slice_get_within, get_or_from_slice_get}
 use Rattle.std.specs.Prelude.{nat_le, slice_get, sum_by, Contains}
 use Rattle.kp_base.specs.Refusal.{e_rule}
 use Rattle.kp_ast.specs.{Size.size, declared.tree.Expr.Expr, declared.tree.Decl.Decl, declared.tree.Stmt.Stmt, declared.tree.StmtKind.StmtKind}
 use Rattle.kp_ast.specs.declared.tree.{Block.Block, Job.Job}
 use Rattle.kp_ast.specs.declared.tree.StmtKind.TheVariants as stmts
 use Rattle.kp_width.specs.Declarations.{functions_in, name_of}
-use Rattle.kp_width.proofs.Unbroken.{Unbroken, bind_unbroken, answer_unbroken}
+use Rattle.kp_width.proofs.{Unbroken.Unbroken, Unbroken.bind_unbroken, Unbroken.answer_unbroken, Calls.by_option}
 use Rattle.kp_stage.specs.Counts.{regs_in, files_in, pipes_in, results_in, hints_in, samples_in, reads_in, guesses_in, is_within, nothing_counted, with_decl, with_stmt, place_of_read, decls_counted, stmts_counted, blocks_counted, counts_of, summary_of, AreFew}
 use Rattle.kp_stage.specs.{declared.counts.Counts.Counts, Facts.stmts_in, Facts.facts_of}
 use Rattle.kp_stage.specs.Sizes.{size_of_option, size_of_kind, size_of_stmt, size_of_block, size_of_job, stmts_sized, blocks_sized, sizes_of}
@@ -36,28 +37,17 @@ machine_within job kept =
 
 -- a part of a sum is no more than the sum
 member_le : {X : Type 0} (f : X → ℕ) (xs : List X) (x : X) (i : ℕ) → i < length xs → get_or xs i x ≡ x → f x ≤ sum_by f xs
-member_le f [] x i l is = absurd (omega arith)
-member_le f (y ∷ xs) x zero l is = let sum = sum_by-cons f y xs in let same : f y ≡ f x = ap f is in omega (arith, sum, same)
-member_le f (y ∷ xs) x (suc i) l is =
-    let sum = sum_by-cons f y xs in
-    let more : f x ≤ sum_by f xs = member_le f xs x i (omega arith) is in
-    omega (arith, sum, more)
+member_le f xs x i l is = subst (λ y. f y ≤ sum_by f xs) is (get_or-le-sum_by f xs i x l)
 
 at_le : {X : Type 0} (f : X → ℕ) (xs : List X) (i : ℕ) (x : X) → slice_get xs i ≡ Some x → f x ≤ sum_by f xs
-at_le f [] i x is = cc
-at_le f (y ∷ xs) zero x is = let same : y ≡ x = cc in let sum = sum_by-cons f y xs in let one : f y ≡ f x = ap f same in omega (arith, sum, one)
-at_le f (y ∷ xs) (suc i) x is = let sum = sum_by-cons f y xs in let more : f x ≤ sum_by f xs = at_le f xs i x is in omega (arith, sum, more)
+at_le f xs i x is = member_le f xs x i (slice_get_within xs i x is) (get_or_from_slice_get xs i x x is)
 
 stmt_le : (ds : List Decl) (bs : List Block) (k j : ℕ) (s : Stmt) → slice_get (stmts_in (slice_get bs k)) j ≡ Some s → size_of_stmt ds s ≤ sum_by (size_of_block ds) bs
-stmt_le ds [] k j s is = cc
-stmt_le ds (b ∷ bs) zero j s is =
-    let sum = sum_by-cons (size_of_block ds) b bs in
-    let one : size_of_stmt ds s ≤ size_of_block ds b = at_le (size_of_stmt ds) b.stmts j s is in
-    omega (arith, sum, one)
-stmt_le ds (b ∷ bs) (suc k) j s is =
-    let sum = sum_by-cons (size_of_block ds) b bs in
-    let more : size_of_stmt ds s ≤ sum_by (size_of_block ds) bs = stmt_le ds bs k j s is in
-    omega (arith, sum, more)
+stmt_le ds bs k j s is = by_option (slice_get bs k)
+    (λ none. let e : None ≡ Some s = sym (ap (λ o. slice_get (stmts_in o) j) none) ∙ is in cc)
+    (λ b there.
+    let one : size_of_stmt ds s ≤ size_of_block ds b = at_le (size_of_stmt ds) b.stmts j s (sym (ap (λ o. slice_get (stmts_in o) j) there) ∙ is) in
+    omega (arith, one, at_le (size_of_block ds) bs k b there))
 
 -- the size of a statement is the sum of those of its expressions
 listed_total : (ds : List Decl) (o : Option Expr) → sum_by (size ds) (listed o) ≡ size_of_option ds o
@@ -66,15 +56,9 @@ listed_total ds (Some e) = omega arith
 
 plain_total : (ds : List Decl) (s : StmtKind) → sum_by (size ds) (plain_in s) + sum_by (size ds) (guessed_in s) ≡ size_of_kind ds s
 plain_total ds (stmts.Read r) =
-    let sum = sum_by-append (size ds) (listed r.address) (listed r.when) in
-    let a = listed_total ds r.address in
-    let w = listed_total ds r.when in
-    let g = listed_total ds r.guess in
-    omega (arith, sum, a, w, g)
-plain_total ds (stmts.Let n e) = omega arith
-plain_total ds (stmts.Put n e) = omega arith
+    omega (arith, sum_by-append (size ds) (listed r.address) (listed r.when), listed_total ds r.address, listed_total ds r.when, listed_total ds r.guess)
 plain_total ds (stmts.Set n e when) = let sum = sum_by-cons (size ds) e (listed when) in let w = listed_total ds when in omega (arith, sum, w)
-plain_total ds (stmts.Aim n e) = omega arith
+plain_total ds x = omega arith
 
 exprs_total : (ds : List Decl) (s : StmtKind) → sum_by (size ds) (exprs_in s) ≡ size_of_kind ds s
 exprs_total ds s = sum_by-append (size ds) (plain_in s) (guessed_in s) ∙ plain_total ds s

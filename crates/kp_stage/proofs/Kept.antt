@@ -1,6 +1,7 @@
 -- If no rule of stages is violated, each check of the head, a declaration or a statement passes.
-use Rattle.std.proofs.Common.{◌≡◌, ℕ, zero, suc, ◌+◌, List, [], ◌∷◌, map, Some, None, refl, arith, subst}
-use Rattle.std.specs.Prelude.{slice_get}
+use Rattle.std.proofs.Common.{◌≡◌, ℕ, zero, suc, ◌+◌, List, [], ◌∷◌, map, Some, None, refl, arith, subst, ◌∙◌, ap}
+use Rattle.std.proofs.lemmas.Option.{slice_get-map}
+use Rattle.std.specs.{Prelude.slice_get, Option.option_map}
 use Rattle.kp_base.specs.{First.first, Check.Answer}
 use Rattle.kp_ast.specs.declared.tree.{Decl.Decl, Stmt.Stmt, Block.Block, Job.Job}
 use Rattle.kp_stage.specs.{declared.rules.Rule.Rule, Facts.Facts, Facts.facts_of, Facts.stmts_in}
@@ -14,9 +15,7 @@ none_at (x ∷ xs) zero a e at = let p : x ≡ None = (first_none x xs e).0 in l
 none_at (x ∷ xs) (suc n) a e at = none_at xs n a (first_none x xs e).1 at
 
 get_map : {X Y : Type 0} (f : X → Y) (xs : List X) (n : ℕ) (x : X) → slice_get xs n ≡ Some x → slice_get (map f xs) n ≡ Some (f x)
-get_map f [] n x e = cc
-get_map f (y ∷ ys) zero x e = let p : y ≡ x = cc in rw p refl
-get_map f (y ∷ ys) (suc n) x e = get_map f ys n x e
+get_map f xs n x e = slice_get-map f xs n ∙ ap (option_map f) e
 
 -- a job that violates no rule of stages satisfies the rules E15 to E25, E34 and E35
 pub rules_kept : (job : Job) → broken_of job ≡ None → broken_by (facts_of job) job ≡ None

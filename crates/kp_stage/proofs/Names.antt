@@ -127,19 +127,16 @@ module _ (facts : Facts) (rule : Rule) (k : ℕ) where
   plain_asked (stmts.Read r) e =
       let both = none_of_two (ask_option facts rule k r.address) (ask_option facts rule k r.when) e in
       none_append (listed r.address) (listed r.when) (none_listed r.address both.0) (none_listed r.when both.1)
-  plain_asked (stmts.Let n x) e = ap (λ o. first (o ∷ [])) e
-  plain_asked (stmts.Put n x) e = ap (λ o. first (o ∷ [])) e
   plain_asked (stmts.Set n x when) e =
       let both = none_of_two (asked x) (ask_option facts rule k when) e in
       ap (λ o. first (o ∷ map asked (listed when))) both.0 ∙ none_listed when both.1
   plain_asked (stmts.Aim n x) e = refl
+  plain_asked x e = ap (λ o. first (o ∷ [])) e
 
   guessed_asked : (s : StmtKind) → ask_guesses facts rule k s ≡ None → first (map asked (guessed_in s)) ≡ None
   guessed_asked (stmts.Read r) e = none_listed r.guess e
-  guessed_asked (stmts.Let n x) e = refl
-  guessed_asked (stmts.Put n x) e = refl
-  guessed_asked (stmts.Set n x when) e = refl
   guessed_asked (stmts.Aim n x) e = ap (λ o. first (o ∷ [])) e
+  guessed_asked x e = refl
 
   pub exprs_asked : (s : StmtKind) → first (ask_values facts rule k s ∷ ask_guesses facts rule k s ∷ []) ≡ None → first (map asked (exprs_in s)) ≡ None
   exprs_asked s e =

@@ -8,6 +8,7 @@ use Rattle.kp_ast.specs.declared.tree.StmtKind.TheVariants as stmts
 use Rattle.kp_stage.specs.Facts.{At, put_at, puts_in, puts_of, aim_at, aims_in, aims_of, set_at, sets_in, first_set, hint_at, hints_of, result_at, results_of, sample_at, stage_at, write_at, less, least, largest, facts_of}
 use Rattle.kp_stage.specs.inner.Tables.{Entries, look_up, with_entry, with_first, with_less, less_than, put_noted, puts_noted, all_puts_noted, aim_noted, aims_noted, all_aims_noted, set_noted, sets_noted, sets_of, table_in, write_noted, writes_noted, hint_noted, hints_noted, result_noted, results_noted, sample_noted, samples_noted, stage_noted, stages_noted, tables_of, facts_in}
 use Rattle.kp_stage.specs.Rules.{broken_by}
+use Rattle.kp_width.proofs.Calls.{by_test, by_option}
 
 -- the first of two that is there
 abbrev or_else : {X : Type 0} → Option X → Option X → Option X
@@ -26,14 +27,9 @@ first_cons : {X : Type 0} (o : Option X) (os : List (Option X)) → first (o ∷
 first_cons None os = refl
 first_cons (Some x) os = refl
 
--- by cases of a test, and of what may be there
-pub by_test : {G : Type 0} (b : Bool) → (b ≡ true → G) → (b ≡ false → G) → G
-by_test true then_so else_so = then_so refl
-by_test false then_so else_so = else_so refl
-
-pub by_option : {X G : Type 0} (o : Option X) → (o ≡ None → G) → ((x : X) → o ≡ Some x → G) → G
-by_option None none some = none refl
-by_option (Some x) none some = some x refl
+-- what was there, then an answer, then the first of others
+first_more : {X : Type 0} (seen before o : Option X) (os : List (Option X)) (now : Option X) → seen ≡ or_else now (first os) → now ≡ or_else before o → seen ≡ or_else before (first (o ∷ os))
+first_more seen before o os now e f = e ∙ ap (λ x. or_else x (first os)) f ∙ or_assoc before o (first os) ∙ ap (or_else before) (sym (first_cons o os))
 
 swapped : {X : Type 0} (a b : Bool) (x y r : X) → (a ≡ true → b ≡ false) → cond b y (cond a x r) ≡ cond a x (cond b y r)
 swapped true true x y r h = cc (h refl)
@@ -114,58 +110,31 @@ look_up-with_less q n w es =
 module _ (q : List ℕ) where
   put_seen : (es : Entries At) (k j : ℕ) (s : StmtKind) → look_up (put_noted es k j s) q ≡ or_else (look_up es q) (put_at q k j s)
   put_seen es k j (stmts.Put n e) = look_up-with_first q n.name (record { stage = k; index = j }) es
-  put_seen es k j (stmts.Read r) = sym (or_none (look_up es q))
-  put_seen es k j (stmts.Let n e) = sym (or_none (look_up es q))
-  put_seen es k j (stmts.Set n e when) = sym (or_none (look_up es q))
-  put_seen es k j (stmts.Aim n e) = sym (or_none (look_up es q))
+  put_seen es k j x = sym (or_none (look_up es q))
 
   puts_seen : (es : Entries At) (k j : ℕ) (ss : List Stmt) → look_up (puts_noted es k j ss) q ≡ or_else (look_up es q) (first (puts_in q k j ss))
   puts_seen es k j [] = sym (or_none (look_up es q))
-  puts_seen es k j (s ∷ ss) =
-      puts_seen (put_noted es k j s.kind) k (j + 1) ss
-      ∙ ap (λ o. or_else o (first (puts_in q k (j + 1) ss))) (put_seen es k j s.kind)
-      ∙ or_assoc (look_up es q) (put_at q k j s.kind) _
-      ∙ ap (or_else (look_up es q)) (sym (first_cons (put_at q k j s.kind) (puts_in q k (j + 1) ss)))
+  puts_seen es k j (s ∷ ss) = first_more _ (look_up es q) (put_at q k j s.kind) _ _ (puts_seen (put_noted es k j s.kind) k (j + 1) ss) (put_seen es k j s.kind)
 
   all_puts_seen : (es : Entries At) (k : ℕ) (bs : List Block) → look_up (all_puts_noted es k bs) q ≡ or_else (look_up es q) (first (puts_of q k bs))
   all_puts_seen es k [] = sym (or_none (look_up es q))
-  all_puts_seen es k (b ∷ bs) =
-      all_puts_seen (puts_noted es k 0 b.stmts) (k + 1) bs
-      ∙ ap (λ o. or_else o (first (puts_of q (k + 1) bs))) (puts_seen es k 0 b.stmts)
-      ∙ or_assoc (look_up es q) (first (puts_in q k 0 b.stmts)) _
-      ∙ ap (or_else (look_up es q)) (sym (first_cons (first (puts_in q k 0 b.stmts)) (puts_of q (k + 1) bs)))
+  all_puts_seen es k (b ∷ bs) = first_more _ (look_up es q) (first (puts_in q k 0 b.stmts)) _ _ (all_puts_seen (puts_noted es k 0 b.stmts) (k + 1) bs) (puts_seen es k 0 b.stmts)
 
   aim_seen : (es : Entries At) (k j : ℕ) (s : StmtKind) → look_up (aim_noted es k j s) q ≡ or_else (look_up es q) (aim_at q k j s)
-  aim_seen es k j (stmts.Read r) = sym (or_none (look_up es q))
-  aim_seen es k j (stmts.Let n e) = sym (or_none (look_up es q))
-  aim_seen es k j (stmts.Set n e when) = sym (or_none (look_up es q))
-  aim_seen es k j (stmts.Put n e) = sym (or_none (look_up es q))
   aim_seen es k j (stmts.Aim n e) = look_up-with_first q n.name (record { stage = k; index = j }) es
+  aim_seen es k j x = sym (or_none (look_up es q))
 
   aims_seen : (es : Entries At) (k j : ℕ) (ss : List Stmt) → look_up (aims_noted es k j ss) q ≡ or_else (look_up es q) (first (aims_in q k j ss))
   aims_seen es k j [] = sym (or_none (look_up es q))
-  aims_seen es k j (s ∷ ss) =
-      aims_seen (aim_noted es k j s.kind) k (j + 1) ss
-      ∙ ap (λ o. or_else o (first (aims_in q k (j + 1) ss))) (aim_seen es k j s.kind)
-      ∙ or_assoc (look_up es q) (aim_at q k j s.kind) _
-      ∙ ap (or_else (look_up es q)) (sym (first_cons (aim_at q k j s.kind) (aims_in q k (j + 1) ss)))
+  aims_seen es k j (s ∷ ss) = first_more _ (look_up es q) (aim_at q k j s.kind) _ _ (aims_seen (aim_noted es k j s.kind) k (j + 1) ss) (aim_seen es k j s.kind)
 
   all_aims_seen : (es : Entries At) (k : ℕ) (bs : List Block) → look_up (all_aims_noted es k bs) q ≡ or_else (look_up es q) (first (aims_of q k bs))
   all_aims_seen es k [] = sym (or_none (look_up es q))
-  all_aims_seen es k (b ∷ bs) =
-      all_aims_seen (aims_noted es k 0 b.stmts) (k + 1) bs
-      ∙ ap (λ o. or_else o (first (aims_of q (k + 1) bs))) (aims_seen es k 0 b.stmts)
-      ∙ or_assoc (look_up es q) (first (aims_in q k 0 b.stmts)) _
-      ∙ ap (or_else (look_up es q)) (sym (first_cons (first (aims_in q k 0 b.stmts)) (aims_of q (k + 1) bs)))
+  all_aims_seen es k (b ∷ bs) = first_more _ (look_up es q) (first (aims_in q k 0 b.stmts)) _ _ (all_aims_seen (aims_noted es k 0 b.stmts) (k + 1) bs) (aims_seen es k 0 b.stmts)
 
   write_seen : (es : Entries ℕ) (d : Decl) → look_up (write_noted es d) q ≡ less (look_up es q) (write_at q d)
   write_seen es (decls.Target r) = look_up-with_less q r.target.name r.stage.value es
-  write_seen es (decls.Reg n w l) = sym (less_none (look_up es q))
-  write_seen es (decls.File n w a) = sym (less_none (look_up es q))
-  write_seen es (decls.Pipe n w) = sym (less_none (look_up es q))
-  write_seen es (decls.Hint n w l) = sym (less_none (look_up es q))
-  write_seen es (decls.Func f) = sym (less_none (look_up es q))
-  write_seen es (decls.Sample n w k) = sym (less_none (look_up es q))
+  write_seen es x = sym (less_none (look_up es q))
 
   writes_seen : (es : Entries ℕ) (ds : List Decl) → look_up (writes_noted es ds) q ≡ less (look_up es q) (least (map (write_at q) ds))
   writes_seen es [] = sym (less_none (look_up es q))
@@ -176,87 +145,44 @@ module _ (q : List ℕ) where
 
   result_seen : (es : Entries ℕ) (i : ℕ) (d : Decl) → look_up (result_noted es i d) q ≡ or_else (look_up es q) (result_at q i d)
   result_seen es i (decls.Target r) = look_up-with_first q r.target.name i es
-  result_seen es i (decls.Reg n w l) = sym (or_none (look_up es q))
-  result_seen es i (decls.File n w a) = sym (or_none (look_up es q))
-  result_seen es i (decls.Pipe n w) = sym (or_none (look_up es q))
-  result_seen es i (decls.Hint n w l) = sym (or_none (look_up es q))
-  result_seen es i (decls.Func f) = sym (or_none (look_up es q))
-  result_seen es i (decls.Sample n w k) = sym (or_none (look_up es q))
+  result_seen es i x = sym (or_none (look_up es q))
 
   results_seen : (es : Entries ℕ) (i : ℕ) (ds : List Decl) → look_up (results_noted es i ds) q ≡ or_else (look_up es q) (first (results_of q i ds))
   results_seen es i [] = sym (or_none (look_up es q))
-  results_seen es i (d ∷ ds) =
-      results_seen (result_noted es i d) (i + 1) ds
-      ∙ ap (λ o. or_else o (first (results_of q (i + 1) ds))) (result_seen es i d)
-      ∙ or_assoc (look_up es q) (result_at q i d) _
-      ∙ ap (or_else (look_up es q)) (sym (first_cons (result_at q i d) (results_of q (i + 1) ds)))
+  results_seen es i (d ∷ ds) = first_more _ (look_up es q) (result_at q i d) _ _ (results_seen (result_noted es i d) (i + 1) ds) (result_seen es i d)
 
   hint_seen : (es : Entries ℕ) (i : ℕ) (d : Decl) → look_up (hint_noted es i d) q ≡ or_else (look_up es q) (hint_at q i d)
-  hint_seen es i (decls.Target r) = sym (or_none (look_up es q))
-  hint_seen es i (decls.Reg n w l) = sym (or_none (look_up es q))
-  hint_seen es i (decls.File n w a) = sym (or_none (look_up es q))
-  hint_seen es i (decls.Pipe n w) = sym (or_none (look_up es q))
   hint_seen es i (decls.Hint n w l) = look_up-with_first q n.name i es
-  hint_seen es i (decls.Func f) = sym (or_none (look_up es q))
-  hint_seen es i (decls.Sample n w k) = sym (or_none (look_up es q))
+  hint_seen es i x = sym (or_none (look_up es q))
 
   hints_seen : (es : Entries ℕ) (i : ℕ) (ds : List Decl) → look_up (hints_noted es i ds) q ≡ or_else (look_up es q) (first (hints_of q i ds))
   hints_seen es i [] = sym (or_none (look_up es q))
-  hints_seen es i (d ∷ ds) =
-      hints_seen (hint_noted es i d) (i + 1) ds
-      ∙ ap (λ o. or_else o (first (hints_of q (i + 1) ds))) (hint_seen es i d)
-      ∙ or_assoc (look_up es q) (hint_at q i d) _
-      ∙ ap (or_else (look_up es q)) (sym (first_cons (hint_at q i d) (hints_of q (i + 1) ds)))
+  hints_seen es i (d ∷ ds) = first_more _ (look_up es q) (hint_at q i d) _ _ (hints_seen (hint_noted es i d) (i + 1) ds) (hint_seen es i d)
 
   stage_seen : (es : Entries ℕ) (d : Decl) → look_up (stage_noted es d) q ≡ or_else (look_up es q) (stage_at q d)
   stage_seen es (decls.Target r) = look_up-with_first q r.name.name r.stage.value es
-  stage_seen es (decls.Reg n w l) = sym (or_none (look_up es q))
-  stage_seen es (decls.File n w a) = sym (or_none (look_up es q))
-  stage_seen es (decls.Pipe n w) = sym (or_none (look_up es q))
-  stage_seen es (decls.Hint n w l) = sym (or_none (look_up es q))
-  stage_seen es (decls.Func f) = sym (or_none (look_up es q))
-  stage_seen es (decls.Sample n w k) = sym (or_none (look_up es q))
+  stage_seen es x = sym (or_none (look_up es q))
 
   stages_seen : (es : Entries ℕ) (ds : List Decl) → look_up (stages_noted es ds) q ≡ or_else (look_up es q) (first (map (stage_at q) ds))
   stages_seen es [] = sym (or_none (look_up es q))
-  stages_seen es (d ∷ ds) =
-      stages_seen (stage_noted es d) ds
-      ∙ ap (λ o. or_else o (first (map (stage_at q) ds))) (stage_seen es d)
-      ∙ or_assoc (look_up es q) (stage_at q d) _
-      ∙ ap (or_else (look_up es q)) (sym (first_cons (stage_at q d) (map (stage_at q) ds)))
+  stages_seen es (d ∷ ds) = first_more _ (look_up es q) (stage_at q d) _ _ (stages_seen (stage_noted es d) ds) (stage_seen es d)
 
   sample_seen : (es : Entries ℕ) (d : Decl) → look_up (sample_noted es d) q ≡ or_else (look_up es q) (sample_at q d)
   sample_seen es (decls.Sample n w k) = look_up-with_first q n.name k.value es
-  sample_seen es (decls.Reg n w l) = sym (or_none (look_up es q))
-  sample_seen es (decls.File n w a) = sym (or_none (look_up es q))
-  sample_seen es (decls.Pipe n w) = sym (or_none (look_up es q))
-  sample_seen es (decls.Hint n w l) = sym (or_none (look_up es q))
-  sample_seen es (decls.Func f) = sym (or_none (look_up es q))
-  sample_seen es (decls.Target r) = sym (or_none (look_up es q))
+  sample_seen es x = sym (or_none (look_up es q))
 
   samples_seen : (es : Entries ℕ) (ds : List Decl) → look_up (samples_noted es ds) q ≡ or_else (look_up es q) (first (map (sample_at q) ds))
   samples_seen es [] = sym (or_none (look_up es q))
-  samples_seen es (d ∷ ds) =
-      samples_seen (sample_noted es d) ds
-      ∙ ap (λ o. or_else o (first (map (sample_at q) ds))) (sample_seen es d)
-      ∙ or_assoc (look_up es q) (sample_at q d) _
-      ∙ ap (or_else (look_up es q)) (sym (first_cons (sample_at q d) (map (sample_at q) ds)))
+  samples_seen es (d ∷ ds) = first_more _ (look_up es q) (sample_at q d) _ _ (samples_seen (sample_noted es d) ds) (sample_seen es d)
 
 module _ (q : List ℕ) where
   set_seen : (es : Entries ℕ) (j : ℕ) (s : StmtKind) → look_up (set_noted es j s) q ≡ or_else (look_up es q) (set_at q j s)
   set_seen es j (stmts.Set n e when) = look_up-with_first q n.name j es
-  set_seen es j (stmts.Read r) = sym (or_none (look_up es q))
-  set_seen es j (stmts.Let n e) = sym (or_none (look_up es q))
-  set_seen es j (stmts.Put n e) = sym (or_none (look_up es q))
-  set_seen es j (stmts.Aim n e) = sym (or_none (look_up es q))
+  set_seen es j x = sym (or_none (look_up es q))
 
   sets_seen : (es : Entries ℕ) (j : ℕ) (ss : List Stmt) → look_up (sets_noted es j ss) q ≡ or_else (look_up es q) (first (sets_in q j ss))
   sets_seen es j [] = sym (or_none (look_up es q))
-  sets_seen es j (s ∷ ss) =
-      sets_seen (set_noted es j s.kind) (j + 1) ss
-      ∙ ap (λ o. or_else o (first (sets_in q (j + 1) ss))) (set_seen es j s.kind)
-      ∙ or_assoc (look_up es q) (set_at q j s.kind) _
-      ∙ ap (or_else (look_up es q)) (sym (first_cons (set_at q j s.kind) (sets_in q (j + 1) ss)))
+  sets_seen es j (s ∷ ss) = first_more _ (look_up es q) (set_at q j s.kind) _ _ (sets_seen (set_noted es j s.kind) (j + 1) ss) (set_seen es j s.kind)
 
   all_sets_seen : (bs : List Block) (k : ℕ) → look_up (table_in (slice_get (map sets_of bs) k)) q ≡ first_set bs k q
   all_sets_seen [] k = refl

@@ -1,6 +1,6 @@
 -- The laws of E16 and E17, of E21 and of E25, from the checks.
 use Rattle.std.proofs.Common.{◌≡◌, ◌∙◌, ℕ, suc, ◌+◌, ◌<◌, List, [], ◌∷◌, Option, Some, None, Bool, true, false, not, cond, refl, ap, sym, arith}
-use Rattle.std.proofs.lemmas.Bool.{and_parts, eqb-true, le-leb}
+use Rattle.std.proofs.lemmas.Bool.{and_parts, eqb-true, le-leb, not-true}
 use Rattle.std.specs.{Prelude.◌||◌, Prelude.◌==◌, Prelude.nat_le, Prelude.is_some, Prelude.slice_get, Prelude.Contains, List.list_any}
 use Rattle.std.specs.Cmp.Lexicographic.{bytes_decides}
 use Rattle.kp_base.specs.{First.first, Refusal.e_rule, declared.place.Place.Place}
@@ -13,8 +13,9 @@ use Rattle.kp_stage.specs.declared.rules.Rule.{Rule}
 use Rattle.kp_stage.specs.Facts.{At, Facts, facts_of, stmts_in, where_same, put_at, puts_in, puts_of, hint_at, hints_of}
 use Rattle.kp_stage.specs.{Rules.holds_of, Rules.is_at, Rules.ask_decl, Rules.ask_decls, Rules.ask_stmt, Rules.ask_name, Rules.ask_expr, Stages.broken_of}
 use Rattle.kp_stage.specs.Uses.{statement_at, plain_in, exprs_in, uses, puts, sets, aims, is_pipe, declares_pipe, is_hint, declares_hint, IsPutBefore}
-use Rattle.kp_stage.proofs.{Unbroken.first_none, Unbroken.answer_none, Kept.rules_kept, Kept.decls_kept, Kept.stmt_kept, Noted.by_test, Noted.by_option}
+use Rattle.kp_stage.proofs.{Unbroken.first_none, Unbroken.answer_none, Kept.rules_kept, Kept.decls_kept, Kept.stmt_kept}
 use Rattle.kp_stage.proofs.Names.{either, name_asked, same_value, plain_asked, exprs_asked, one_asked}
+use Rattle.kp_width.proofs.Calls.{by_test, by_option}
 
 -- E16 and E17
 
@@ -38,10 +39,7 @@ put_same q n at x e = by_test (is_same_name q n)
 
 put_here : (q : List ℕ) (k j : ℕ) (s : StmtKind) (x : At) → put_at q k j s ≡ Some x → (x.stage ≡ k) × (puts q s ≡ true)
 put_here q k j (stmts.Put n e) x is = put_same q n.name (record { stage = k; index = j }) x is
-put_here q k j (stmts.Read r) x is = cc
-put_here q k j (stmts.Let n e) x is = cc
-put_here q k j (stmts.Set n e when) x is = cc
-put_here q k j (stmts.Aim n e) x is = cc
+put_here q k j y x is = cc
 
 put_among : (q : List ℕ) (k j : ℕ) (ss : List Stmt) (x : At) → first (puts_in q k j ss) ≡ Some x → (x.stage ≡ k) × PutsAmong q ss
 put_among q k j [] x e = cc
@@ -71,12 +69,7 @@ pipe_put : (facts : Facts) (i : ℕ) (d : Decl) (q : List ℕ) → declares_pipe
 pipe_put facts i (decls.Pipe n w) q h e =
     let same : q ≡ n.name = (bytes_decides q n.name).0 h in
     ap (λ x. is_some (facts.put x)) same ∙ answer_none (is_some (facts.put n.name)) (e_rule 16 n.at) e
-pipe_put facts i (decls.Reg n w l) q h e = cc
-pipe_put facts i (decls.File n w a) q h e = cc
-pipe_put facts i (decls.Hint n w l) q h e = cc
-pipe_put facts i (decls.Target r) q h e = cc
-pipe_put facts i (decls.Func f) q h e = cc
-pipe_put facts i (decls.Sample n w s) q h e = cc
+pipe_put facts i x q h e = cc
 
 some_pipe_put : (facts : Facts) (i : ℕ) (ds : List Decl) (q : List ℕ) → list_any (declares_pipe q) ds ≡ true → first (ask_decls facts Rule.E16 i ds) ≡ None → is_some (facts.put q) ≡ true
 some_pipe_put facts i [] q h e = cc
@@ -84,12 +77,8 @@ some_pipe_put facts i (d ∷ ds) q h e =
     let both = first_none (ask_decl facts Rule.E16 i d) (ask_decls facts Rule.E16 (i + 1) ds) e in
     either (declares_pipe q d) (list_any (declares_pipe q) ds) h (λ y. pipe_put facts i d q y both.0) (λ y. some_pipe_put facts (i + 1) ds q y both.1)
 
-not_true : (b : Bool) → not b ≡ true → b ≡ false
-not_true true e = cc
-not_true false e = refl
-
 not_late : (k : ℕ) (o : Option At) (x : At) → o ≡ Some x → not (holds_of (λ (p : At). nat_le k p.stage) o) ≡ true → nat_le k x.stage ≡ false
-not_late k o x is e = not_true (nat_le k x.stage) (sym (ap (λ o. not (holds_of (λ (p : At). nat_le k p.stage) o)) is) ∙ e)
+not_late k o x is e = not-true (nat_le k x.stage) (sym (ap (λ o. not (holds_of (λ (p : At). nat_le k p.stage) o)) is) ∙ e)
 
 less_where : (k w : ℕ) → nat_le k w ≡ false → w < k
 less_where k w e = grind (arith, le-leb)
@@ -126,29 +115,19 @@ one_spot None k i l j e f = cc
 one_spot (Some x) k i l j e f =
     let a = and_parts (x.stage == k) (x.index == i) e in
     let b = and_parts (x.stage == l) (x.index == j) f in
-    let xk = eqb-true x.stage k a.0 in
-    let xi = eqb-true x.index i a.1 in
-    let xl = eqb-true x.stage l b.0 in
-    let xj = eqb-true x.index j b.1 in
-    (omega (arith, xk, xl), omega (arith, xi, xj))
+    (omega (arith, eqb-true x.stage k a.0, eqb-true x.stage l b.0), omega (arith, eqb-true x.index i a.1, eqb-true x.index j b.1))
 
 set_first : (facts : Facts) (k i : ℕ) (q : List ℕ) (s : StmtKind) → sets q s ≡ true → ask_stmt facts Rule.E21 k i s ≡ None → holds_of (λ x. x == i) (facts.set_in k q) ≡ true
 set_first facts k i q (stmts.Set n x when) h e =
     let same : q ≡ n.name = (bytes_decides q n.name).0 h in
     ap (λ y. holds_of (λ x. x == i) (facts.set_in k y)) same ∙ answer_none (holds_of (λ x. x == i) (facts.set_in k n.name)) (e_rule 21 n.at) e
-set_first facts k i q (stmts.Read r) h e = cc
-set_first facts k i q (stmts.Let n x) h e = cc
-set_first facts k i q (stmts.Put n x) h e = cc
-set_first facts k i q (stmts.Aim n x) h e = cc
+set_first facts k i q x h e = cc
 
 aim_first : (facts : Facts) (k i : ℕ) (q : List ℕ) (s : StmtKind) → aims q s ≡ true → ask_stmt facts Rule.E21 k i s ≡ None → holds_of (is_at k i) (facts.aim q) ≡ true
 aim_first facts k i q (stmts.Aim n x) h e =
     let same : q ≡ n.name = (bytes_decides q n.name).0 h in
     ap (λ y. holds_of (is_at k i) (facts.aim y)) same ∙ answer_none (holds_of (is_at k i) (facts.aim n.name)) (e_rule 21 n.at) e
-aim_first facts k i q (stmts.Read r) h e = cc
-aim_first facts k i q (stmts.Let n x) h e = cc
-aim_first facts k i q (stmts.Put n x) h e = cc
-aim_first facts k i q (stmts.Set n x when) h e = cc
+aim_first facts k i q x h e = cc
 
 pub set_once : (job : Job) → broken_of job ≡ None → (q : List ℕ) (k i j : ℕ) (s t : Stmt)
     → statement_at job k i ≡ Some s → sets q s.kind ≡ true → statement_at job k j ≡ Some t → sets q t.kind ≡ true → i ≡ j
@@ -176,12 +155,7 @@ some_first (Some x) os = refl
 
 hint_is : (q : List ℕ) (i : ℕ) (d : Decl) → is_some (hint_at q i d) ≡ declares_hint q d
 hint_is q i (decls.Hint n w l) = some_where (is_same_name q n.name) i
-hint_is q i (decls.Reg n w l) = refl
-hint_is q i (decls.File n w a) = refl
-hint_is q i (decls.Pipe n w) = refl
-hint_is q i (decls.Target r) = refl
-hint_is q i (decls.Func f) = refl
-hint_is q i (decls.Sample n w s) = refl
+hint_is q i x = refl
 
 some_hint : (q : List ℕ) (i : ℕ) (ds : List Decl) → is_some (first (hints_of q i ds)) ≡ list_any (declares_hint q) ds
 some_hint q i [] = refl
@@ -191,7 +165,7 @@ some_hint q i (d ∷ ds) =
 
 no_hint : (job : Job) (k : ℕ) (q : List ℕ) (at : Place) → ask_name (facts_of job) Rule.E25 k q at ≡ None → is_hint job q ≡ false
 no_hint job k q at e =
-    sym (some_hint q 0 job.decls) ∙ not_true (is_some (first (hints_of q 0 job.decls))) (answer_none (not (is_some (first (hints_of q 0 job.decls)))) (e_rule 25 at) e)
+    sym (some_hint q 0 job.decls) ∙ not-true (is_some (first (hints_of q 0 job.decls))) (answer_none (not (is_some (first (hints_of q 0 job.decls)))) (e_rule 25 at) e)
 
 module _ (job : Job) (kept : broken_of job ≡ None) (k j : ℕ) (s : Stmt) (there : statement_at job k j ≡ Some s) (e : Expr) (within : Contains (plain_in s.kind) e) where
   asked_plain : ask_expr (facts_of job) Rule.E25 k e ≡ None

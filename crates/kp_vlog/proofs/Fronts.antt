@@ -1,6 +1,6 @@
 -- The front that the code computes is that of the text, and it is no longer than the text.
 use Rattle.std.proofs.Common.{ℕ, suc, ◌+◌, ◌≤◌, ◌<◌, ◌≡◌, ◌∙◌, List, [], ◌∷◌, length, length-take-le, take, drop, ◌==◌, nat_lt, Bool, true, false, cond, ◌||◌, ◌&&◌, Option, Some, None, Result, Ok, Err, refl, ap, arith}
-use Rattle.std.proofs.lemmas.Bool.{false≢true}
+use Rattle.std.proofs.lemmas.Bool.{false≢true, and_parts, or_left, or_right}
 use Rattle.std.specs.Prelude.{IfSome}
 use Rattle.kp_bits.specs.{Literals.number_of, Literals.literal_of, declared.literal.Literal.Literal, declared.literal.LiteralFault.LiteralFault}
 use Rattle.kp_net.specs.Names.{is_in_identifier}
@@ -97,22 +97,6 @@ fits_cond : (len : ℕ) (b : Bool) (x y : Front) → (b ≡ true → Fits len x)
 fits_cond len true x y f g = f refl
 fits_cond len false x y f g = g
 
-and_left : (a b : Bool) → (a && b) ≡ true → a ≡ true
-and_left true b h = refl
-and_left false b h = h
-
-and_right : (a b : Bool) → (a && b) ≡ true → b ≡ true
-and_right true b h = h
-and_right false b h = absurd (false≢true h)
-
-or_right : (a b : Bool) → b ≡ true → (a || b) ≡ true
-or_right true b h = refl
-or_right false b h = h
-
-or_left : (a b : Bool) → a ≡ true → (a || b) ≡ true
-or_left true b h = refl
-or_left false b h = cc
-
 run_positive : (test : ℕ → Bool) (byte : ℕ) (rest : List ℕ) → test byte ≡ true → 0 < run_length test (byte ∷ rest)
 run_positive test byte rest h = rw h (omega arith)
 
@@ -143,7 +127,7 @@ close_within [] = tt
 close_within (b ∷ rest) = go (b == 42 && begins_with 47 rest) (to_close rest) refl (close_within rest)
   where
     go : (t : Bool) (o : Option ℕ) → (b == 42 && begins_with 47 rest) ≡ t → IfSome o (λ n. n ≤ length rest) → IfSome (cond t (Some 2) (one_more o)) (λ n. n ≤ suc (length rest))
-    go true o e h = let l = begun 47 rest (and_right (b == 42) (begins_with 47 rest) e) in omega arith
+    go true o e h = let l = begun 47 rest ((and_parts (b == 42) (begins_with 47 rest) e).1) in omega arith
     go false (Some n) e h = omega arith
     go false None e h = tt
 
@@ -172,9 +156,9 @@ fits_front [] = refl
 fits_front (b ∷ bs) =
     fits_cond (suc (length bs)) (is_layout b) _ _ (λ e. (omega arith, omega arith))
     (fits_cond (suc (length bs)) (b == 47 && begins_with 47 bs) _ _
-    (λ e. (run_positive is_in_line b bs (slash_in_line b (and_left (b == 47) (begins_with 47 bs) e)), run_within is_in_line (b ∷ bs)))
+    (λ e. (run_positive is_in_line b bs (slash_in_line b ((and_parts (b == 47) (begins_with 47 bs) e).0)), run_within is_in_line (b ∷ bs)))
     (fits_cond (suc (length bs)) (b == 47 && begins_with 42 bs) _ _
-    (λ e. fits_comment bs (and_right (b == 47) (begins_with 42 bs) e) (to_close (drop 1 bs)) (close_within (drop 1 bs)))
+    (λ e. fits_comment bs ((and_parts (b == 47) (begins_with 42 bs) e).1) (to_close (drop 1 bs)) (close_within (drop 1 bs)))
     (fits_cond (suc (length bs)) (is_letter b) _ _
     (λ e. let f = run_fits is_in_identifier b bs (or_left (is_letter b || is_digit b) (b == 36) (or_left (is_letter b) (is_digit b) e)) in fits_identifier _ (suc (length bs)) f.0 f.1)
     (fits_cond (suc (length bs)) (is_digit b) _ _

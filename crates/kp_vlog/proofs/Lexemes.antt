@@ -1,13 +1,13 @@
 -- The names among the tokens of a text are identifiers, and there are no more tokens than bytes.
 use Rattle.std.proofs.Common.{◌≡◌, ℕ, suc, ◌+◌, ◌≤◌, List, [], ◌∷◌, length, take, drop, Bool, true, false, Option, Some, None, Result, Ok, Err, refl, sym, subst, arith, All}
-use Rattle.std.proofs.lemmas.{Bool.Decides.nat_tests, List.length-drop, List.Elements.All-nil, List.Elements.All-cons}
+use Rattle.std.proofs.lemmas.{Bool.Decides.nat_tests, List.length-drop, List.Elements.All-nil, List.Elements.All-cons, Bool.or_left}
 use Rattle.std.specs.Prelude.{◌==◌, ◌&&◌, ◌||◌, nat_lt, if◌then◌else◌}
 use Rattle.kp_bits.specs.{Literals.number_of, Literals.literal_of, declared.literal.Literal.Literal, declared.literal.LiteralFault.LiteralFault}
 use Rattle.kp_net.specs.Names.{is_in_identifier}
 use Rattle.kp_base.specs.Characters.{is_digit, is_letter, run_length}
 use Rattle.kp_vlog.specs.Tokens.{Word, Token, Front, finish, takes, broken, is_layout, is_in_run, begins_with, to_close, keyword_or_name, identifier, literal_or_broken, number_or_literal, comment_front, mark_or_broken, mark_or_shorter, mark_front, front, Lexes, at_end, past, token}
 use Rattle.kp_vlog.specs.{declared.token.Keyword.Keyword, declared.token.Mark.Mark, Words.keyword_of, Words.single_mark, Words.double_mark, Language.name_in}
-use Rattle.kp_vlog.proofs.Tests.{either_left, apart}
+use Rattle.kp_vlog.proofs.Tests.{apart}
 
 -- bytes of an identifier, at most 70
 pub record IsIdentifier (n : List ℕ) : Type 0 where
@@ -82,10 +82,10 @@ comment_fine (Some n) = tt
 comment_fine None = tt
 
 letter_word : (b : ℕ) → is_letter b ≡ true → is_in_identifier b ≡ true
-letter_word b h = either_left (is_letter b || is_digit b) (b == 36) (either_left (is_letter b) (is_digit b) h)
+letter_word b h = or_left (is_letter b || is_digit b) (b == 36) (or_left (is_letter b) (is_digit b) h)
 
 digit_in_run : (b : ℕ) → is_digit b ≡ true → is_in_run b ≡ true
-digit_in_run b h = either_left (is_in_identifier b) (b == 39) (either_left (is_letter b || is_digit b) (b == 36) (by (is_letter b) h))
+digit_in_run b h = or_left (is_in_identifier b) (b == 39) (or_left (is_letter b || is_digit b) (b == 36) (by (is_letter b) h))
   where
     by : (c : Bool) → is_digit b ≡ true → (c || is_digit b) ≡ true
     by true h = refl

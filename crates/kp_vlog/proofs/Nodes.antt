@@ -1,7 +1,8 @@
 -- The nodes of a module that violates no rule are well-formed: by the items in order, with the names that are known, what is driven, and the nodes so
 -- far.
 use Rattle.std.proofs.Common.{◌≡◌, ◌∙◌, ℕ, ◌+◌, ◌^◌, ◌≤◌, ◌<◌, List, [], ◌∷◌, ◌++◌, length, get_or, map, fold, Bool, true, false, refl, sym, ap, subst, arith, inl, inr, length-append, All}
-use Rattle.std.proofs.lemmas.{Bool.eqb-true, List.length-map, List.Elements.All-nil, List.Elements.All-cons, List.Sums.sum_by-cons}
+use Rattle.std.proofs.lemmas.{Bool.eqb-true, Bool.or_left, Bool.or_right, Bool.or_cases, Bool.not-true, Bool.false_from_ne_true, List.length-map}
+use Rattle.std.proofs.lemmas.List.{Elements.All-nil, Elements.All-cons, Sums.sum_by-cons}
 use Rattle.std.specs.{Prelude.codes, Prelude.◌==◌, Prelude.◌&&◌, Prelude.◌||◌, Prelude.nat_le, Prelude.nat_lt, Prelude.if◌then◌else◌, List.sum_by}
 use Rattle.kp_bits.specs.declared.operator.BinOp.{BinOp}
 use Rattle.kp_net.specs.declared.{node.NodeId.NodeId, node.Node.Node, netlist.Parts.Parts}
@@ -10,31 +11,24 @@ use Rattle.kp_net.specs.{Widths.wide, Widths.BinaryOk, Widths.KindOk, Widths.Nod
 use Rattle.kp_net.specs.Parts.{no_port, no_reg, no_file, CellOk, AllCells}
 use Rattle.kp_net.specs.declared.node.Kind.TheVariants as kinds
 use Rattle.kp_net.proofs.{Values.wide_front, Values.wide_new, Rightness.right_more, Growing.kept_new, Growing.added_new, Cells.cells_added}
-use Rattle.kp_vlog.specs.declared.tree.{Named.Named, Right.Right, Item.Item}
-use Rattle.kp_vlog.specs.declared.tree.Item.TheVariants.{Reg, File, Integer, Wire, Assign}
-use Rattle.kp_vlog.specs.declared.tree.VModule.{VModule}
+use Rattle.kp_vlog.specs.declared.tree.{Named.Named, Right.Right, Item.Item, Item.TheVariants.Assign, VModule.VModule}
 use Rattle.kp_vlog.specs.Scope.{scope_of, sizes_of, width_in, address_in, place_of, is_wire_name, is_output_name, reg_names, file_names}
 use Rattle.kp_vlog.specs.Occurrences.{Occurrence, occurs, uses_wire, uses_source, gives_no_wire, is_given, wires_used, right_names, item_names, items_names}
 use Rattle.kp_vlog.specs.Rules.{name_fits, Driven, op_fits, width_sum, right_fits, right_answers, literal_fits, item_answers, items_answers}
 use Rattle.kp_vlog.specs.Denote.{Made, node_of, kind_of, with_wire, with_item}
 use Rattle.kp_vlog.specs.declared.tree.Right.TheVariants as sides
-use Rattle.kp_vlog.proofs.Tests.{first_true, second_true, either, either_left, either_right, not_false, not_true, apart, le_of, lt_of, same_eq, output_no_wire, among_append, among_front, among_behind, place_in, place_front, place_new}
+use Rattle.kp_vlog.proofs.Tests.{first_true, second_true, apart, le_of, lt_of, same_eq, output_no_wire, among_append, among_front, among_behind, place_in, place_front, place_new}
 use Rattle.kp_vlog.proofs.Scans.{NamesFit, DriversFit, NoneOf, learnt, learnt_append, driven_by, driven_append, driven_right, names_front, names_behind, drivers_front, drivers_behind, none_front, none_behind}
 use Rattle.kp_vlog.proofs.Declared.{want_none, Fits, Entries, width_fits, learnt_assign}
 use Rattle.kp_vlog.proofs.Known.{port_names, AllDeclared, Within, within_rest, item_declared}
 
 -- an operator whose operands fit
 op_right : (op : BinOp) (w a b : ℕ) → op_fits op w a b ≡ true → BinaryOk op w a b
-op_right BinOp.And w a b h = (eqb-true a w (first_true (a == w) (b == w) h), eqb-true b w (second_true (a == w) (b == w) h))
-op_right BinOp.Or w a b h = (eqb-true a w (first_true (a == w) (b == w) h), eqb-true b w (second_true (a == w) (b == w) h))
-op_right BinOp.Xor w a b h = (eqb-true a w (first_true (a == w) (b == w) h), eqb-true b w (second_true (a == w) (b == w) h))
-op_right BinOp.Add w a b h = (eqb-true a w (first_true (a == w) (b == w) h), eqb-true b w (second_true (a == w) (b == w) h))
-op_right BinOp.Sub w a b h = (eqb-true a w (first_true (a == w) (b == w) h), eqb-true b w (second_true (a == w) (b == w) h))
-op_right BinOp.Mul w a b h = (eqb-true a w (first_true (a == w) (b == w) h), eqb-true b w (second_true (a == w) (b == w) h))
 op_right BinOp.Eq w a b h = (eqb-true w 1 (first_true (w == 1) (a == b) h), eqb-true a b (second_true (w == 1) (a == b) h))
 op_right BinOp.Lt w a b h = (eqb-true w 1 (first_true (w == 1) (a == b) h), eqb-true a b (second_true (w == 1) (a == b) h))
 op_right BinOp.Shl w a b h = eqb-true a w h
 op_right BinOp.Shr w a b h = eqb-true a w h
+op_right x w a b h = (eqb-true a w (first_true (a == w) (b == w) h), eqb-true b w (second_true (a == w) (b == w) h))
 
 -- the widths of a list of nodes, and whether they exist
 module _ (m : VModule) where
@@ -140,18 +134,13 @@ module _ (m : VModule) where
         let x = facts.sample n f ((d n k).sample f) in (x.0, x.1 ∙ g)
     source_cell ns known n w false false e f g d h =
         let k = second_true (is_reg_name n || false) (among known n) h in
-        let r : is_reg_name n ≡ true = elim (either (is_reg_name n) false (first_true (is_reg_name n || false) (among known n) h)) [ inl y ↦ y | inr z ↦ absurd (apart false z refl) ] in
+        let r : is_reg_name n ≡ true = elim (or_cases (is_reg_name n) false (first_true (is_reg_name n || false) (among known n) h)) [ inl y ↦ y | inr z ↦ absurd (apart false z refl) ] in
         let x = facts.reg n r ((d n k).reg r) in (x.0, x.1 ∙ g)
 
     cell_right : (known : List (List ℕ)) (made : Made) (more : List Node) (w : ℕ) (r : Right) → RightOk known made r → right_fits (sizes_of m) w r ≡ true → AllDeclared m known
         → CellOk (made.nodes ++ more) p w (kind_of (scope_of m) made.wires r)
-    cell_right known made more w (sides.Literal l) ok h d = tt
     cell_right known made more w (sides.Name n) ok h d =
         source_cell (made.nodes ++ more) known n.name w (same n.name (codes "ext")) (is_sample_name n.name) refl refl (eqb-true (width_in (sizes_of m) n.name) w h) d ok
-    cell_right known made more w (sides.Not a) ok h d = tt
-    cell_right known made more w (sides.Binary op a b) ok h d = tt
-    cell_right known made more w (sides.Choice t a b) ok h d = tt
-    cell_right known made more w (sides.Slice a high low) ok h d = tt
     cell_right known made more w (sides.Word f a) ok h d =
         let g = first_true (is_file_name f.name) (among known f.name) ok.0 in
         let x = facts.file f.name g ((d f.name (second_true (is_file_name f.name) (among known f.name) ok.0)).file g) in
@@ -160,7 +149,7 @@ module _ (m : VModule) where
           x.1 ∙ eqb-true wf w (first_true (wf == w) (wa == af) h),
           wide_front made.nodes more (place_of made.wires a.name) ok.1.before ∙ ok.1.wide ∙ eqb-true wa af (second_true (wf == w) (wa == af) h) ∙ sym x.2,
         )
-    cell_right known made more w (sides.Concat parts) ok h d = tt
+    cell_right known made more w x ok h d = tt
 
     -- What agrees after some items: the names that are known, those that have a value, and the nodes.
     pub record Agree (known given : List (List ℕ)) (made : Made) : Type 0 where
@@ -223,7 +212,7 @@ module _ (m : VModule) where
           let n : Node = record { width = width; kind = kind_of (scope_of m) made.wires r } in
           let fits : Fits width = width_fits (sizes_of m) t.name entries ((a.declared t.name k).wire w) in
           let ok_node : NodeOk made.nodes (length made.nodes) n = record { positive = fits.0; at_most = fits.1; kind = kind_right known made width r ok fit lits } in
-          let new : among made.wires t.name ≡ false = not_true (among made.wires t.name) (λ e. apart (among given t.name) (a.wires_given t.name e) g) in
+          let new : among made.wires t.name ≡ false = false_from_ne_true (among made.wires t.name) (λ e. apart (among given t.name) (a.wires_given t.name e) g) in
           let before : Held = record { nodes = made.nodes; spare = 1 } in
           let after : Held = record { nodes = made.nodes ++ n ∷ []; spare = 0 } in
           let lw : length (made.wires ++ t.name ∷ []) ≡ length made.wires + 1 = length-append made.wires (t.name ∷ []) in
@@ -231,19 +220,19 @@ module _ (m : VModule) where
           let same_length = a.same_length in
           record {
             same_length = omega arith;
-            given_wires = λ x wx gx. elim (either (same x t.name) (among given x) gx) [
-              | inl e ↦ among_behind made.wires (t.name ∷ []) x (either_left (same x t.name) false e)
+            given_wires = λ x wx gx. elim (or_cases (same x t.name) (among given x) gx) [
+              | inl e ↦ among_behind made.wires (t.name ∷ []) x (or_left (same x t.name) false e)
               | inr e ↦ among_front made.wires (t.name ∷ []) x (a.given_wires x wx e)
             ];
             wires_given = λ x h. elim (among_append made.wires (t.name ∷ []) x h) [
-              | inl e ↦ either_right (same x t.name) (among given x) (a.wires_given x e)
-              | inr e ↦ elim (either (same x t.name) false e) [ inl s ↦ either_left (same x t.name) (among given x) s | inr f ↦ absurd (apart false f refl) ]
+              | inl e ↦ or_right (same x t.name) (among given x) (a.wires_given x e)
+              | inr e ↦ elim (or_cases (same x t.name) false e) [ inl s ↦ or_left (same x t.name) (among given x) s | inr f ↦ absurd (apart false f refl) ]
             ];
             widths = λ x h. elim (among_append made.wires (t.name ∷ []) x h) [
               | inl e ↦
                   let l = place_in made.wires x e in
                   ap (wide (made.nodes ++ n ∷ [])) (place_front made.wires (t.name ∷ []) x e) ∙ wide_front made.nodes (n ∷ []) (place_of made.wires x) (omega arith) ∙ a.widths x e
-              | inr e ↦ elim (either (same x t.name) false e) [
+              | inr e ↦ elim (or_cases (same x t.name) false e) [
                 | inl s ↦ subst (λ (z : List ℕ). wide (made.nodes ++ n ∷ []) (place_of (made.wires ++ t.name ∷ []) z) ≡ width_in (sizes_of m) z) (sym (same_eq x t.name s))
                     (ap (wide (made.nodes ++ n ∷ [])) (place_new made.wires t.name new ∙ same_length) ∙ wide_new made.nodes n)
                 | inr f ↦ absurd (apart false f refl)
@@ -258,11 +247,11 @@ module _ (m : VModule) where
       output_assigned : (known given : List (List ℕ)) (made : Made) (t : Named) → is_output_name t.name ≡ true → Agree known given made → Agree known (t.name ∷ given) made
       output_assigned known given made t o a = record {
         same_length = a.same_length;
-        given_wires = λ x w g. elim (either (same x t.name) (among given x) g) [
+        given_wires = λ x w g. elim (or_cases (same x t.name) (among given x) g) [
           | inl e ↦ absurd (apart (is_wire_name t.name) (subst (λ (z : List ℕ). is_wire_name z ≡ true) (same_eq x t.name e) w) (output_no_wire t.name o))
           | inr e ↦ a.given_wires x w e
         ];
-        wires_given = λ x h. either_right (same x t.name) (among given x) (a.wires_given x h);
+        wires_given = λ x h. or_right (same x t.name) (among given x) (a.wires_given x h);
         widths = a.widths;
         right = a.right;
         cells = a.cells;
@@ -274,9 +263,9 @@ module _ (m : VModule) where
           → Agree known (t.name ∷ d.given) (if b then made else with_wire (scope_of m) made t r)
       assigned known d made t r true e entries n h q a = output_assigned known d.given made t e a
       assigned known d made t r false e entries n h q a =
-          let w : (is_wire_name t.name && among known t.name) ≡ true = elim (either (is_output_name t.name) (is_wire_name t.name && among known t.name) n.0) [ inl o ↦ absurd (apart (is_output_name t.name) o e) | inr x ↦ x ] in
+          let w : (is_wire_name t.name && among known t.name) ≡ true = elim (or_cases (is_output_name t.name) (is_wire_name t.name && among known t.name) n.0) [ inl o ↦ absurd (apart (is_output_name t.name) o e) | inr x ↦ x ] in
           wire_assigned known d.given made t r entries (first_true (is_wire_name t.name) (among known t.name) w) (second_true (is_wire_name t.name) (among known t.name) w)
-          (not_false (among d.given t.name) h.0)
+          (not-true (among d.given t.name) h.0)
           (right_ok known d made t r e a (names_front known (right_names t r) (occurs is_given t ∷ []) n.1) (drivers_front resets all d (right_names t r) (occurs is_given t ∷ []) h.1))
           (want_none (right_fits (sizes_of m) (width_in (sizes_of m) t.name) r) t.at q.0) q.1 a
 
@@ -298,15 +287,12 @@ module _ (m : VModule) where
       one_item : (x : Item) (xs : List Item) (known : List (List ℕ)) (d : Driven) (made : Made) → Entries (sizes_of m) → Within m (x ∷ xs) → NamesFit known (item_names x)
           → DriversFit resets all d (item_names x) → NoneOf (item_answers (scope_of m) x) → Agree known d.given made
           → Agree (learnt known (item_names x)) (driven_by d (item_names x)).given (with_item (scope_of m) made x)
-      one_item (Reg r k) xs known d made entries w n h q a = with_known known (k.name ∷ known) d.given made (item_declared m (Reg r k) xs known w n a.declared) a
-      one_item (File r k v) xs known d made entries w n h q a = with_known known (k.name ∷ known) d.given made (item_declared m (File r k v) xs known w n a.declared) a
-      one_item (Integer k) xs known d made entries w n h q a = with_known known (k.name ∷ known) d.given made (item_declared m (Integer k) xs known w n a.declared) a
-      one_item (Wire r k) xs known d made entries w n h q a = with_known known (k.name ∷ known) d.given made (item_declared m (Wire r k) xs known w n a.declared) a
       one_item (Assign t r) xs known d made entries w n h q a =
           let made' : Made = if is_output_name t.name then made else with_wire (scope_of m) made t r in
           let x : Agree known (t.name ∷ d.given) made' = assigned known d made t r (is_output_name t.name) refl entries n h q a in
           let y : Agree known (driven_by d (item_names (Assign t r))).given made' = subst (λ (e : Driven). Agree known e.given made') (sym (driven_assign d t r)) x in
           subst (λ (k : List (List ℕ)). Agree k (driven_by d (item_names (Assign t r))).given made') (sym (learnt_assign known t r)) y
+      one_item x xs known d made entries w n h q a = with_known known (learnt known (item_names x)) d.given made (item_declared m x xs known w n a.declared) a
 
       -- All items.
       pub all_items : (xs : List Item) (known : List (List ℕ)) (d : Driven) (made : Made) → Entries (sizes_of m) → Within m xs → NamesFit known (items_names xs)

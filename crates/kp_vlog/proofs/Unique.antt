@@ -4,84 +4,50 @@ use Rattle.std.proofs.lemmas.{Bool.cases_lt, List.length-drop, List.drop_all}
 use Rattle.kp_grammar.specs.Grammar.{Nonterminal, Derives}
 use Rattle.kp_grammar.proofs.Laws.{one_state, one_wrong}
 use Rattle.kp_net.specs.Netlist.{Net}
-use Rattle.kp_vlog.specs.Tokens.{Word, name, Token, Front, finish, skips, takes, broken, front, Lexes, at_end, past, token, LexesTo, here, past_gap, past_token}
+use Rattle.kp_vlog.specs.Tokens.{Token, Front, finish, skips, takes, broken, front, Lexes, at_end, past, token, LexesTo, here, past_gap, past_token}
 use Rattle.kp_vlog.specs.{declared.tree.VModule.VModule, Language.Value, Language.whole, Language.MODULE, Language.verilog, inner.Follow.tables, Rules.Fault}
 use Rattle.kp_vlog.specs.Denote.{net_of, IsModule, Denotes}
 use Rattle.kp_vlog.specs.Verdict.{fault, offset_of, IsWrong, Breaks, no_token, wrong_token, broken_rule}
 use Rattle.kp_vlog.specs.Rules as rules
 use Rattle.kp_vlog.proofs.Predictive.{is_predictive}
 
--- The front of a text is unique.
-abbrev pub length_in : Front → ℕ
-length_in (skips n) = n
-length_in (takes w n) = n
-length_in _ = 0
+-- The tokens of a text, by its front, and the byte that begins none.
+abbrev Lexed : ℕ → List ℕ → Front → List Token → Type 0
+Lexed at text finish ts = ts ≡ []
+Lexed at text broken ts = ⊥
+Lexed at text (skips n) ts = Lexes (at + n) (drop n text) ts
+Lexed at text (takes w n) ts = (us : List Token) × Lexes (at + n) (drop n text) us × (ts ≡ record { word = w; at = at } ∷ us)
 
-abbrev pub word_in : Front → Word
-word_in (takes w n) = w
-word_in _ = name []
+lexed : {at : ℕ} {text : List ℕ} {ts : List Token} → Lexes at text ts → (f : Front) → front text ≡ f → Lexed at text f ts
+lexed {at = at} {text = text} (at_end e) f g = subst (λ (f : Front). Lexed at text f []) (sym e ∙ g) refl
+lexed {at = at} {text = text} {ts = ts} (past n e k) f g = subst (λ (f : Front). Lexed at text f ts) (sym e ∙ g) k
+lexed {at = at} {text = text} (token {ts = us} w n e k) f g = subst (λ (f : Front). Lexed at text f (record { word = w; at = at } ∷ us)) (sym e ∙ g) (us, k, refl)
 
-pub apart : {A : Type 0} (f g h : Front) → f ≡ g → f ≡ h → (g ≡ h → ⊥) → A
-apart f g h a b differ = absurd (differ (sym a ∙ b))
+abbrev LexedTo : ℕ → List ℕ → Front → ℕ → Type 0
+LexedTo at text finish b = ⊥
+LexedTo at text broken b = b ≡ at
+LexedTo at text (skips n) b = LexesTo (at + n) (drop n text) b
+LexedTo at text (takes w n) b = LexesTo (at + n) (drop n text) b
 
-pub finish_skips : (n : ℕ) → finish ≡ skips n → ⊥
-finish_skips n e = cc
-
-pub finish_takes : (w : Word) (n : ℕ) → finish ≡ takes w n → ⊥
-finish_takes w n e = cc
-
-pub finish_broken : finish ≡ broken → ⊥
-finish_broken e = cc
-
-pub skips_takes : (k : ℕ) (w : Word) (n : ℕ) → skips k ≡ takes w n → ⊥
-skips_takes k w n e = cc
-
-pub skips_broken : (k : ℕ) → skips k ≡ broken → ⊥
-skips_broken k e = cc
-
-pub takes_broken : (w : Word) (k : ℕ) → takes w k ≡ broken → ⊥
-takes_broken w k e = cc
+lexed_to : {at : ℕ} {text : List ℕ} {b : ℕ} → LexesTo at text b → (f : Front) → front text ≡ f → LexedTo at text f b
+lexed_to {at = at} {text = text} (here e) f g = subst (λ (f : Front). LexedTo at text f at) (sym e ∙ g) refl
+lexed_to {at = at} {text = text} {b = b} (past_gap n e k) f g = subst (λ (f : Front). LexedTo at text f b) (sym e ∙ g) k
+lexed_to {at = at} {text = text} {b = b} (past_token w n e k) f g = subst (λ (f : Front). LexedTo at text f b) (sym e ∙ g) k
 
 pub one_lexing : {at : ℕ} {text : List ℕ} {ts us : List Token} → Lexes at text ts → Lexes at text us → ts ≡ us
-one_lexing {text = text} (at_end e) (at_end f) = refl
-one_lexing {text = text} (at_end e) (past n f l) = apart (front text) finish (skips n) e f (finish_skips n)
-one_lexing {text = text} (at_end e) (token w n f l) = apart (front text) finish (takes w n) e f (finish_takes w n)
-one_lexing {text = text} (past n e k) (at_end f) = apart (front text) finish (skips n) f e (finish_skips n)
-one_lexing {at = at} {text = text} {us = us} (past n e k) (past n' f l) =
-    let z : n' ≡ n = ap length_in (sym f ∙ e) in one_lexing k (subst (λ (i : ℕ). Lexes (at + i) (drop i text) us) z l)
-one_lexing {text = text} (past n e k) (token w n' f l) = apart (front text) (skips n) (takes w n') e f (skips_takes n w n')
-one_lexing {text = text} (token w n e k) (at_end f) = apart (front text) finish (takes w n) f e (finish_takes w n)
-one_lexing {text = text} (token w n e k) (past n' f l) = apart (front text) (skips n') (takes w n) f e (skips_takes n' w n)
-one_lexing {at = at} {text = text} (token w n e k) (token {ts = us} w' n' f l) =
-    let z : n' ≡ n = ap length_in (sym f ∙ e) in let y : w ≡ w' = ap word_in (sym e ∙ f) in
-    let rest = one_lexing k (subst (λ (i : ℕ). Lexes (at + i) (drop i text) us) z l) in
-    λ i. record { word = y i; at = at } ∷ rest i
+one_lexing (at_end e) l = sym (lexed l finish e)
+one_lexing (past n e k) l = one_lexing k (lexed l (skips n) e)
+one_lexing {at = at} (token w n e k) l = let r = lexed l (takes w n) e in ap (λ (ts : List Token). record { word = w; at = at } ∷ ts) (one_lexing k r.1) ∙ sym r.2
 
 one_bad : {at : ℕ} {text : List ℕ} {a b : ℕ} → LexesTo at text a → LexesTo at text b → a ≡ b
-one_bad (here e) (here f) = refl
-one_bad {text = text} (here e) (past_gap n f l) = apart (front text) (skips n) broken f e (skips_broken n)
-one_bad {text = text} (here e) (past_token w n f l) = apart (front text) (takes w n) broken f e (takes_broken w n)
-one_bad {text = text} (past_gap n e k) (here f) = apart (front text) (skips n) broken e f (skips_broken n)
-one_bad {at = at} {text = text} {b = b} (past_gap n e k) (past_gap n' f l) =
-    let z : n' ≡ n = ap length_in (sym f ∙ e) in one_bad k (subst (λ (i : ℕ). LexesTo (at + i) (drop i text) b) z l)
-one_bad {text = text} (past_gap n e k) (past_token w n' f l) = apart (front text) (skips n) (takes w n') e f (skips_takes n w n')
-one_bad {text = text} (past_token w n e k) (here f) = apart (front text) (takes w n) broken e f (takes_broken w n)
-one_bad {text = text} (past_token w n e k) (past_gap n' f l) = apart (front text) (skips n') (takes w n) f e (skips_takes n' w n)
-one_bad {at = at} {text = text} {b = b} (past_token w n e k) (past_token w' n' f l) =
-    let z : n' ≡ n = ap length_in (sym f ∙ e) in one_bad k (subst (λ (i : ℕ). LexesTo (at + i) (drop i text) b) z l)
+one_bad (here e) l = sym (lexed_to l broken e)
+one_bad (past_gap n e k) l = one_bad k (lexed_to l (skips n) e)
+one_bad (past_token w n e k) l = one_bad k (lexed_to l (takes w n) e)
 
 not_both : {at : ℕ} {text : List ℕ} {ts : List Token} {b : ℕ} → Lexes at text ts → LexesTo at text b → ⊥
-not_both {text = text} (at_end e) (here f) = apart (front text) finish broken e f finish_broken
-not_both {text = text} (at_end e) (past_gap n f l) = apart (front text) finish (skips n) e f (finish_skips n)
-not_both {text = text} (at_end e) (past_token w n f l) = apart (front text) finish (takes w n) e f (finish_takes w n)
-not_both {text = text} (past n e k) (here f) = apart (front text) (skips n) broken e f (skips_broken n)
-not_both {at = at} {text = text} {b = b} (past n e k) (past_gap n' f l) =
-    let z : n' ≡ n = ap length_in (sym f ∙ e) in not_both k (subst (λ (i : ℕ). LexesTo (at + i) (drop i text) b) z l)
-not_both {text = text} (past n e k) (past_token w n' f l) = apart (front text) (skips n) (takes w n') e f (skips_takes n w n')
-not_both {text = text} (token w n e k) (here f) = apart (front text) (takes w n) broken e f (takes_broken w n)
-not_both {text = text} (token w n e k) (past_gap n' f l) = apart (front text) (skips n') (takes w n) f e (skips_takes n' w n)
-not_both {at = at} {text = text} {b = b} (token w n e k) (past_token w' n' f l) =
-    let z : n' ≡ n = ap length_in (sym f ∙ e) in not_both k (subst (λ (i : ℕ). LexesTo (at + i) (drop i text) b) z l)
+not_both (at_end e) l = lexed_to l finish e
+not_both (past n e k) l = not_both k (lexed_to l (skips n) e)
+not_both (token w n e k) l = not_both k (lexed_to l (takes w n) e)
 
 -- Modules.
 

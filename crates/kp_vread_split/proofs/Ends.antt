@@ -1,12 +1,11 @@
 -- A first module ends at one offset.
-use Rattle.std.proofs.Common.{ℕ, zero, suc, Bool, true, false, ◌+◌, ◌≤◌, ◌<◌, ◌≡◌, ◌∙◌, List, length, length-drop, drop, refl, sym, ap, subst, arith}
+use Rattle.std.proofs.Common.{ℕ, zero, suc, Bool, true, false, ◌+◌, ◌≤◌, ◌<◌, ◌≡◌, ◌∙◌, List, length, length-drop, drop, refl, sym, ap, subst, arith, ◌⊎◌, inl, inr}
 use Rattle.std.proofs.lemmas.Bool.{false≢true}
 use Rattle.kp_vlog.specs.declared.{front.Front.Front as Reported, token.Keyword.Keyword}
 use Rattle.kp_vlog.specs.Tokens.{Word, keyword, Front, front, finish, skips, takes, broken}
 use Rattle.kp_vlog.specs.{inner.Kinds.front_of, Fronts.seen, Fronts.Fits}
 use Rattle.kp_vlog.specs.declared.front.Front.TheVariants as reported
 use Rattle.kp_vlog.proofs.Fronts.{seen_front, fits_front}
-use Rattle.kp_vlog.proofs.Unique.{length_in, word_in, apart, finish_skips, finish_takes, skips_takes, skips_broken, takes_broken}
 use Rattle.kp_vread_split.specs.inner.Leads.{closes_module, is_endmodule}
 use Rattle.kp_vread_split.specs.Splitting.{FirstEnds, closes, over, faulty, past_gap, past_token}
 
@@ -24,56 +23,43 @@ endmodule_not w e f = false≢true (sym e ∙ ap is_endmodule f)
 
 -- the front is no longer than the text
 abbrev pub IsWithin : ℕ → Front → Type 0
-IsWithin len finish = Unit {0}
 IsWithin len (skips n) = (0 < n) × (n ≤ len)
 IsWithin len (takes w n) = (0 < n) × (n ≤ len)
-IsWithin len broken = Unit {0}
+IsWithin len x = Unit {0}
 
 seen_within : (text : List ℕ) (t : Reported) → Fits (length text) t → IsWithin (length text) (seen text t)
-seen_within text reported.End h = tt
 seen_within text (reported.Skip n) h = h
 seen_within text (reported.Token k n) h = h
-seen_within text reported.Broken h = tt
+seen_within text x h = tt
 
 pub front_within : (text : List ℕ) → IsWithin (length text) (front text)
 front_within text = subst (IsWithin (length text)) (seen_front text) (seen_within text (front_of text) (fits_front text))
 
+-- the end, by the front of the text
+abbrev Ended : ℕ → List ℕ → Front → ℕ → Type 0
+Ended at text (skips n) to = FirstEnds (at + n) (drop n text) to
+Ended at text (takes w n) to = ((w ≡ keyword Keyword.Endmodule) × (to ≡ at + n)) ⊎ ((w ≡ keyword Keyword.Endmodule → ⊥) × FirstEnds (at + n) (drop n text) to)
+Ended at text _ to = to ≡ at + length text
+
+ended : {at : ℕ} {text : List ℕ} {to : ℕ} → FirstEnds at text to → (f : Front) → front text ≡ f → Ended at text f to
+ended {at = at} {text = text} (closes n e) f g = subst (λ (f : Front). Ended at text f (at + n)) (sym e ∙ g) (inl (refl, refl))
+ended {at = at} {text = text} (over e) f g = subst (λ (f : Front). Ended at text f (at + length text)) (sym e ∙ g) refl
+ended {at = at} {text = text} (faulty e) f g = subst (λ (f : Front). Ended at text f (at + length text)) (sym e ∙ g) refl
+ended {at = at} {text = text} {to = to} (past_gap n e k) f g = subst (λ (f : Front). Ended at text f to) (sym e ∙ g) k
+ended {at = at} {text = text} {to = to} (past_token w n e never k) f g = subst (λ (f : Front). Ended at text f to) (sym e ∙ g) (inr (never, k))
+
 pub one_end : {at : ℕ} {text : List ℕ} {a b : ℕ} → FirstEnds at text a → FirstEnds at text b → a ≡ b
-one_end {at = at} (closes n e) (closes m f) = ap (λ (i : ℕ). at + i) (ap length_in (sym e ∙ f))
-one_end {text = text} (closes n e) (over f) = apart (front text) finish _ f e (finish_takes _ n)
-one_end {text = text} (closes n e) (faulty f) = apart (front text) _ broken e f (takes_broken _ n)
-one_end {text = text} (closes n e) (past_gap m f l) = apart (front text) (skips m) _ f e (skips_takes m _ n)
-one_end {text = text} (closes n e) (past_token w m f never l) = absurd (never (ap word_in (sym f ∙ e)))
-one_end {text = text} (over e) (closes n f) = apart (front text) finish _ e f (finish_takes _ n)
-one_end (over e) (over f) = refl
-one_end {text = text} (over e) (faulty f) = refl
-one_end {text = text} (over e) (past_gap n f l) = apart (front text) finish (skips n) e f (finish_skips n)
-one_end {text = text} (over e) (past_token w n f never l) = apart (front text) finish (takes w n) e f (finish_takes w n)
-one_end {text = text} (faulty e) (closes n f) = apart (front text) _ broken f e (takes_broken _ n)
-one_end (faulty e) (over f) = refl
-one_end (faulty e) (faulty f) = refl
-one_end {text = text} (faulty e) (past_gap n f l) = apart (front text) (skips n) broken f e (skips_broken n)
-one_end {text = text} (faulty e) (past_token w n f never l) = apart (front text) (takes w n) broken f e (takes_broken w n)
-one_end {text = text} (past_gap n e k) (closes m f) = apart (front text) (skips n) _ e f (skips_takes n _ m)
-one_end {text = text} (past_gap n e k) (over f) = apart (front text) finish (skips n) f e (finish_skips n)
-one_end {text = text} (past_gap n e k) (faulty f) = apart (front text) (skips n) broken e f (skips_broken n)
-one_end {at = at} {text = text} {b = b} (past_gap n e k) (past_gap n' f l) =
-    let z : n' ≡ n = ap length_in (sym f ∙ e) in one_end k (subst (λ (i : ℕ). FirstEnds (at + i) (drop i text) b) z l)
-one_end {text = text} (past_gap n e k) (past_token w m f never l) = apart (front text) (skips n) (takes w m) e f (skips_takes n w m)
-one_end {text = text} (past_token w n e never k) (closes m f) = absurd (never (ap word_in (sym e ∙ f)))
-one_end {text = text} (past_token w n e never k) (over f) = apart (front text) finish (takes w n) f e (finish_takes w n)
-one_end {text = text} (past_token w n e never k) (faulty f) = apart (front text) (takes w n) broken e f (takes_broken w n)
-one_end {text = text} (past_token w n e never k) (past_gap m f l) = apart (front text) (skips m) (takes w n) f e (skips_takes m w n)
-one_end {at = at} {text = text} {b = b} (past_token w n e never k) (past_token w' n' f never' l) =
-    let z : n' ≡ n = ap length_in (sym f ∙ e) in one_end k (subst (λ (i : ℕ). FirstEnds (at + i) (drop i text) b) z l)
+one_end (closes n e) l = elim (ended l (takes _ n) e) [ inl x ↦ sym x.1 | inr x ↦ absurd (x.0 refl) ]
+one_end (over e) l = sym (ended l finish e)
+one_end (faulty e) l = sym (ended l broken e)
+one_end (past_gap n e k) l = one_end k (ended l (skips n) e)
+one_end (past_token w n e never k) l = elim (ended l (takes w n) e) [ inl x ↦ absurd (never x.0) | inr x ↦ one_end k x.1 ]
 
 -- and the end is within the text
 pub ends_after : {at : ℕ} {text : List ℕ} {to : ℕ} → FirstEnds at text to → at ≤ to
-ends_after (closes n e) = omega arith
-ends_after (over e) = omega arith
-ends_after (faulty e) = omega arith
 ends_after (past_gap n e l) = let h = ends_after l in omega arith
 ends_after (past_token w n e never l) = let h = ends_after l in omega arith
+ends_after x = omega arith
 
 pub skips_fit : (text : List ℕ) (n : ℕ) → front text ≡ skips n → (0 < n) × (n ≤ length text)
 skips_fit text n e = subst (IsWithin (length text)) e (front_within text)
@@ -83,10 +69,9 @@ takes_fit text w n e = subst (IsWithin (length text)) e (front_within text)
 
 pub ends_within : {at : ℕ} {text : List ℕ} {to : ℕ} → FirstEnds at text to → to ≤ at + length text
 ends_within {text = text} (closes n e) = let f = (takes_fit text _ n e).1 in omega arith
-ends_within (over e) = omega arith
-ends_within (faulty e) = omega arith
 ends_within {text = text} (past_gap n e l) = let h = ends_within l in let f = (skips_fit text n e).1 in omega (arith, length-drop n text)
 ends_within {text = text} (past_token w n e never l) = let h = ends_within l in let f = (takes_fit text w n e).1 in omega (arith, length-drop n text)
+ends_within x = omega arith
 
 -- and every text has one
 abbrev pub SomeEnd : ℕ → List ℕ → Type 0

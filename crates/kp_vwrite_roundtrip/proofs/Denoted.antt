@@ -2,8 +2,8 @@
 use Rattle.std.proofs.Common.{◌≡◌, ◌∙◌, ℕ, suc, ◌+◌, ◌-◌, ◌^◌, ◌≤◌, ◌<◌, List, [], ◌∷◌, ◌++◌, length, get_or, map, Bool, true, false, Option, Some, None, refl, sym, ap, arith, append_assoc, append-nil}
 use Rattle.std.proofs.lemmas.List.Sums.{fold-append}
 use Rattle.std.proofs.lemmas.List.Elements.{All-nil, All-cons, All-head, All-tail, All-get_or, All-weaker}
+use Rattle.std.proofs.lemmas.Bool.{cond-true, cond-false, false_from_ne_true}
 use Rattle.std.specs.{Prelude.codes, Prelude.All, Prelude.fold, Prelude.replicate, Prelude.◌==◌, Option.is_some}
-use Rattle.kp_bits.specs.Word.{word}
 use Rattle.kp_bits.specs.Word as bits
 use Rattle.kp_net.specs.declared.{node.NodeId.NodeId, node.Kind.Kind, node.Node.Node, netlist.Port.Port, netlist.WritePort.WritePort, netlist.NetReg.NetReg}
 use Rattle.kp_net.specs.declared.netlist.{NetFile.NetFile, Parts.Parts}
@@ -16,9 +16,9 @@ use Rattle.kp_vlog.specs.declared.tree.{Range.Range, Named.Named, VPort.VPort, R
 use Rattle.kp_vlog.specs.Canon.{wire, wire_name}
 use Rattle.kp_vlog.specs.declared.tree.Right.TheVariants as sides
 use Rattle.kp_vlog.specs.declared.tree.Item.TheVariants as lines
-use Rattle.kp_vwrite_roundtrip.proofs.Sentence.{IsShown, named_at, number_at, range_at, port_at, out_at, ShowsNames, no_name, a_name, ShowsRight, a_const, an_ext, a_sample, a_reg, a_word, a_not, a_binary, a_mux, a_concat, a_slice, ShowsSamples, no_sample, one_sample, ShowsRegs, no_reg_line, reg_line, ShowsFiles, no_file_line, file_line, ShowsInteger, no_integer, an_integer, ShowsNodes, no_node_line, node_line, ShowsReset, no_reset_shown, reset_shown}
+use Rattle.kp_vwrite_roundtrip.proofs.Sentence.{IsShown, named_at, number_at, range_at, port_at, out_at, ShowsNames, no_name, a_name, ShowsRight, a_sample, a_reg, a_word, a_not, a_binary, a_mux, a_concat, a_slice, ShowsSamples, no_sample, one_sample, ShowsRegs, no_reg_line, reg_line, ShowsFiles, no_file_line, file_line, ShowsInteger, no_integer, an_integer, ShowsNodes, no_node_line, node_line, ShowsReset, no_reset_shown, reset_shown}
 use Rattle.kp_vwrite_roundtrip.proofs.SameNet.{words_are, starts_skipped, starts_are, nexts_are, updates_skipped, ported, ports_are, found, width_found, address_found, found_past, sizes_append, sized, samples_past, regs_past, files_past, integer_past, files_sized, WidthsAre, nodes_sized}
-use Rattle.kp_vwrite_roundtrip.proofs.Distinct.{not_true, when_true, when_false, apart, tag, tag_reg, tag_file, tag_sample, tag_wire, place_at, wires_to, wire_place}
+use Rattle.kp_vwrite_roundtrip.proofs.Distinct.{apart, tag, tag_reg, tag_file, tag_sample, tag_wire, place_at, wires_to, wire_place}
 use Rattle.kp_vwrite_roundtrip.proofs.Written.{RightFrom, all_right}
 
 -- Look-ups skip lines about other parts.
@@ -105,18 +105,16 @@ concat_is j _ _ (a_name {a = a} {parts = parts} {xs = xs} at k) h few =
 
 source_sample : (s : Scope) (n : List ℕ) → is_sample_name n ≡ true → source_of s n ≡ kinds.Sample (place_of s.samples n)
 source_sample s n h =
-    when_false (same n (codes "ext")) kinds.Ext _ (apart n (codes "ext") 1115 101 (tag_sample n h) refl refl)
-    ∙ when_true (is_sample_name n) (kinds.Sample (place_of s.samples n)) (kinds.Reg (place_of s.regs n)) h
+    cond-false (same n (codes "ext")) kinds.Ext _ (apart n (codes "ext") 1115 101 (tag_sample n h) refl refl)
+    ∙ cond-true (is_sample_name n) (kinds.Sample (place_of s.samples n)) (kinds.Reg (place_of s.regs n)) h
 
 source_reg : (s : Scope) (n : List ℕ) → is_reg_name n ≡ true → source_of s n ≡ kinds.Reg (place_of s.regs n)
 source_reg s n h =
-    when_false (same n (codes "ext")) kinds.Ext _ (apart n (codes "ext") 1114 101 (tag_reg n h) refl refl)
-    ∙ when_false (is_sample_name n) (kinds.Sample (place_of s.samples n)) (kinds.Reg (place_of s.regs n)) (not_true (is_sample_name n) (λ k. let e : 1114 ≡ 1115 = sym (tag_reg n h) ∙ tag_sample n k in omega arith))
+    cond-false (same n (codes "ext")) kinds.Ext _ (apart n (codes "ext") 1114 101 (tag_reg n h) refl refl)
+    ∙ cond-false (is_sample_name n) (kinds.Sample (place_of s.samples n)) (kinds.Reg (place_of s.regs n)) (false_from_ne_true (is_sample_name n) (λ k. let e : 1114 ≡ 1115 = sym (tag_reg n h) ∙ tag_sample n k in omega arith))
 
 kind_is : (net : Net) (named : IsNamed net) (s : Scope) (j k : ℕ) (kind : Kind) (r : Right) → Scoped net s → j ≤ 16777216 → ShowsRight net.parts k kind r → KindOk net.nodes j k kind → CellOk net.nodes net.parts k kind
     → kind_of s (wires_to j) r ≡ kind
-kind_is net named s j k _ _ sc few (a_const a) ok cell = refl
-kind_is net named s j k _ _ sc few (an_ext a) ok cell = refl
 kind_is net named s j k _ _ sc few (a_sample {i = i} a) ok cell =
     let n = (get_or net.parts.samples i no_port).name in
     source_sample s n (All-get_or (λ x. is_sample_name x.name ≡ true) net.parts.samples i no_port cell.0 (spelled is_sample_name (λ x. x.name) net.parts.samples named.samples))
@@ -125,20 +123,15 @@ kind_is net named s j k _ _ sc few (a_reg {i = i} a) ok cell =
     let n = (get_or net.parts.regs i no_reg).name in
     source_reg s n (All-get_or (λ x. is_reg_name x.name ≡ true) net.parts.regs i no_reg cell.0 (spelled is_reg_name (λ x. x.name) net.parts.regs named.regs))
     ∙ ap (λ ns. kinds.Reg (place_of ns n)) sc.regs ∙ ap (λ (m : ℕ). kinds.Reg m) (place_at (λ x. x.name) net.parts.regs i no_reg named.regs_differ cell.0)
-kind_is net named s j k _ _ sc few (a_word {i = i} {n = n} a b) ok cell =
-    let f = (get_or net.parts.files i no_file).name in
-    ap (λ ns. kinds.Word (place_of ns f) (node_of (wires_to j) (named_at (wire n) b))) sc.files
-    ∙ ap (λ (m : ℕ). kinds.Word m (node_of (wires_to j) (named_at (wire n) b))) (place_at (λ x. x.name) net.parts.files i no_file named.files_differ cell.0)
-    ∙ ap (λ (x : NodeId). kinds.Word i x) (node_is j n b ok few)
+kind_is net named s j k _ _ sc few (a_word {i = x} {n = n} a b) ok cell =
+    ap (λ ns. kinds.Word (place_of ns (get_or net.parts.files x no_file).name) (node_of (wires_to j) (named_at (wire n) b))) sc.files
+    ∙ (λ i. kinds.Word (place_at (λ f. f.name) net.parts.files x no_file named.files_differ cell.0 i) (node_is j n b ok few i))
 kind_is net named s j k _ _ sc few (a_not {n = n} a) ok cell = ap (λ (x : NodeId). kinds.Not x) (node_is j n a ok.0 few)
-kind_is net named s j k _ _ sc few (a_binary {op = op} {n = n} {m = m} a b) ok cell =
-    ap (λ (x : NodeId). kinds.Binary op x (node_of (wires_to j) (named_at (wire m) b))) (node_is j n a ok.0 few) ∙ ap (λ (x : NodeId). kinds.Binary op n x) (node_is j m b ok.1 few)
-kind_is net named s j k _ _ sc few (a_mux {t = t} {n = n} {m = m} a b c) ok cell =
-    ap (λ (x : NodeId). kinds.Mux x (node_of (wires_to j) (named_at (wire n) b)) (node_of (wires_to j) (named_at (wire m) c))) (node_is j t a ok.0 few)
-    ∙ ap (λ (x : NodeId). kinds.Mux t x (node_of (wires_to j) (named_at (wire m) c))) (node_is j n b ok.1 few)
-    ∙ ap (λ (x : NodeId). kinds.Mux t n x) (node_is j m c ok.2 few)
+kind_is net named s j k _ _ sc few (a_binary {op = op} {n = n} {m = m} a b) ok cell = λ i. kinds.Binary op (node_is j n a ok.0 few i) (node_is j m b ok.1 few i)
+kind_is net named s j k _ _ sc few (a_mux {t = t} {n = n} {m = m} a b c) ok cell = λ i. kinds.Mux (node_is j t a ok.0 few i) (node_is j n b ok.1 few i) (node_is j m c ok.2 few i)
 kind_is net named s j k _ _ sc few (a_concat {parts = parts} {xs = xs} shows) ok cell = ap (λ (ps : List NodeId). kinds.Concat ps) (concat_is j parts xs shows ok.2 few)
 kind_is net named s j k _ _ sc few (a_slice {n = n} {hi = hi} {lo = lo} a b c) ok cell = ap (λ (x : NodeId). kinds.Slice x hi lo) (node_is j n a ok.0 few)
+kind_is net named s j k _ _ sc few x ok cell = refl
 
 abbrev pub made : List (List ℕ) → List Node → Made
 made wires nodes = record { wires = wires; nodes = nodes }
@@ -178,14 +171,7 @@ abbrev pub whole_table : {net : Net} {m : VModule} → IsShown net m → Sizes
 whole_table {net} {m} s = port_size (port_at net.parts.ext (codes "ext") (s.p 2) (s.p 3) (s.p 4)) ∷ (map port_size m.samples ++ port_part net s.p (behind_ports s))
 
 pub table_is : (net : Net) (m : VModule) (s : IsShown net m) → sizes_of m ≡ whole_table s
-table_is net m s =
-    ap (λ (x : VPort). port_size x ∷ (map port_size m.samples ++ (port_size m.full ∷ port_size m.ue ∷ port_size m.back ∷ item_sizes m.items))) s.ext
-    ∙ ap (λ (x : VPort). port_size (port_at net.parts.ext (codes "ext") (s.p 2) (s.p 3) (s.p 4)) ∷ (map port_size m.samples ++ (port_size x ∷ port_size m.ue ∷ port_size m.back ∷ item_sizes m.items))) s.full
-    ∙ ap (λ (x : VPort). port_size (port_at net.parts.ext (codes "ext") (s.p 2) (s.p 3) (s.p 4)) ∷ (map port_size m.samples
-    ++ (port_size (port_at (wide net.nodes net.parts.full.0) (codes "full") (s.p 5) (s.p 6) (s.p 7)) ∷ port_size x ∷ port_size m.back ∷ item_sizes m.items))) s.ue
-    ∙ ap (λ (x : VPort). port_size (port_at net.parts.ext (codes "ext") (s.p 2) (s.p 3) (s.p 4)) ∷ (map port_size m.samples
-    ++ (port_size (port_at (wide net.nodes net.parts.full.0) (codes "full") (s.p 5) (s.p 6) (s.p 7)) ∷ port_size (port_at (wide net.nodes net.parts.ue.0) (codes "ue") (s.p 8) (s.p 9) (s.p 10)) ∷ port_size x ∷ item_sizes m.items))) s.back
-    ∙ ap (λ (t : Sizes). port_size (port_at net.parts.ext (codes "ext") (s.p 2) (s.p 3) (s.p 4)) ∷ (map port_size m.samples ++ port_part net s.p t)) (items_sized net m s)
+table_is net m s = λ i. port_size (s.ext i) ∷ (map port_size m.samples ++ (port_size (s.full i) ∷ port_size (s.ue i) ∷ port_size (s.back i) ∷ items_sized net m s i))
 
 -- a name that is no port's is found after the ports
 pub ports_past : (net : Net) (m : VModule) (s : IsShown net m) (named : IsNamed net) (n : List ℕ) (t : ℕ) → tag n ≡ t → (t == 101) ≡ false → (t == 1115) ≡ false → (t == 102) ≡ false → (t == 117) ≡ false → (t == 98) ≡ false
@@ -234,14 +220,8 @@ made_is net m s k named =
 -- Outputs.
 
 output_past : (wires : List (List ℕ)) (out : List ℕ) (t : Named) (r : Right) (zs : List Item) → same t.name out ≡ false → output_of wires out (lines.Assign t r ∷ zs) ≡ output_of wires out zs
-output_past wires out t (sides.Literal l) zs e = refl
-output_past wires out t (sides.Name n) zs e = when_false (same t.name out) (node_of wires n) (output_of wires out zs) e
-output_past wires out t (sides.Not a) zs e = refl
-output_past wires out t (sides.Binary op a b) zs e = refl
-output_past wires out t (sides.Choice c a b) zs e = refl
-output_past wires out t (sides.Slice a h l) zs e = refl
-output_past wires out t (sides.Word f a) zs e = refl
-output_past wires out t (sides.Concat ps) zs e = refl
+output_past wires out t (sides.Name n) zs e = cond-false (same t.name out) (node_of wires n) (output_of wires out zs) e
+output_past wires out t x zs e = refl
 
 output_is : (net : Net) (m : VModule) (s : IsShown net m) (wires : List (List ℕ)) (out : List ℕ) → ((i : ℕ) → same (wire_name i) out ≡ false) → output_of wires out m.items ≡ output_of wires out (outs s)
 output_is net m s wires out e =
@@ -254,9 +234,9 @@ regs_more : (wires : List (List ℕ)) (m : VModule) (rs : List NetReg) (xs ys : 
     → regs_of wires m (xs ++ ys) ≡ rs ++ regs_of wires m ys
 regs_more wires m _ _ ys no_reg_line a b = refl
 regs_more wires m _ _ ys (reg_line {r = r} {rs = rs} {xs = xs} c d e k) a b =
-    ap (λ (w : bits.Word). record { name = r.name; start = w; next = next_of wires m.updates r.name } ∷ regs_of wires m (xs ++ ys)) (All-head (λ r. start_of m.inits r.name ≡ r.start) r rs a)
-    ∙ ap (λ (n : NodeId). record { name = r.name; start = r.start; next = n } ∷ regs_of wires m (xs ++ ys)) (All-head (λ r. next_of wires m.updates r.name ≡ r.next) r rs b)
-    ∙ ap (λ (t : List NetReg). r ∷ t) (regs_more wires m rs xs ys k (All-tail (λ r. start_of m.inits r.name ≡ r.start) r rs a) (All-tail (λ r. next_of wires m.updates r.name ≡ r.next) r rs b))
+    let start = All-head (λ r. start_of m.inits r.name ≡ r.start) r rs a in let next = All-head (λ r. next_of wires m.updates r.name ≡ r.next) r rs b in
+    let rest = regs_more wires m rs xs ys k (All-tail (λ r. start_of m.inits r.name ≡ r.start) r rs a) (All-tail (λ r. next_of wires m.updates r.name ≡ r.next) r rs b) in
+    λ i. record { name = r.name; start = start i; next = next i } ∷ rest i
 
 regs_are : (net : Net) (m : VModule) (s : IsShown net m) → NetOk net → IsNamed net → regs_of (wires_to (length net.nodes)) m m.items ≡ net.parts.regs
 regs_are net m s k named =
@@ -275,10 +255,8 @@ regs_are net m s k named =
 port_is : (ns : List Node) (w a : ℕ) (port : Option WritePort) → WriteOk ns w a port → length ns ≤ 16777216 → ported (wires_to (length ns)) port ≡ port
 port_is ns w a None ok few = refl
 port_is ns w a (Some p) ok few =
-    let n = length ns in
-    ap (λ (x : ℕ). Some (record { enable = record { 0 = x }; address = record { 0 = place_of (wires_to n) (wire p.address) }; value = record { 0 = place_of (wires_to n) (wire p.value) } })) (wire_place n p.enable.0 ok.0.0 few)
-    ∙ ap (λ (x : ℕ). Some (record { enable = p.enable; address = record { 0 = x }; value = record { 0 = place_of (wires_to n) (wire p.value) } })) (wire_place n p.address.0 ok.1.0 few)
-    ∙ ap (λ (x : ℕ). Some (record { enable = p.enable; address = p.address; value = record { 0 = x } })) (wire_place n p.value.0 ok.2.0 few)
+    let place = λ (a : ℕ) (h : a < length ns). wire_place (length ns) a h few in
+    λ i. Some (record { enable = record { 0 = place p.enable.0 ok.0.0 i }; address = record { 0 = place p.address.0 ok.1.0 i }; value = record { 0 = place p.value.0 ok.2.0 i } })
 
 record IsFile (wires : List (List ℕ)) (m : VModule) (f : NetFile) : Type 0 where
   pub width : width_in (sizes_of m) f.name ≡ f.width
@@ -290,13 +268,8 @@ files_more : (wires : List (List ℕ)) (m : VModule) (fs : List NetFile) (xs ys 
 files_more wires m _ _ ys no_file_line a = refl
 files_more wires m _ _ ys (file_line {f = f} {fs = fs} {xs = xs} c d e g h k) a =
     let is = All-head (IsFile wires m) f fs a in
-    let n = f.name in
-    let rest = files_of wires m (xs ++ ys) in
-    ap (λ (w : ℕ). record { name = n; width = w; address_width = address_in (sizes_of m) n; words = words_of m.inits (2 ^ address_in (sizes_of m) n) n; port = port_of wires m.updates n } ∷ rest) is.width
-    ∙ ap (λ (us : List ℕ). record { name = n; width = f.width; address_width = address_in (sizes_of m) n; words = us; port = port_of wires m.updates n } ∷ rest) is.words
-    ∙ ap (λ (w : ℕ). record { name = n; width = f.width; address_width = w; words = f.words; port = port_of wires m.updates n } ∷ rest) is.address
-    ∙ ap (λ (p : Option WritePort). record { name = n; width = f.width; address_width = f.address_width; words = f.words; port = p } ∷ rest) is.port
-    ∙ ap (λ (t : List NetFile). f ∷ t) (files_more wires m fs xs ys k (All-tail (IsFile wires m) f fs a))
+    let rest = files_more wires m fs xs ys k (All-tail (IsFile wires m) f fs a) in
+    λ i. record { name = f.name; width = is.width i; address_width = is.address i; words = is.words i; port = is.port i } ∷ rest i
 
 files_are : (net : Net) (m : VModule) (s : IsShown net m) → NetOk net → IsNamed net → files_of (wires_to (length net.nodes)) m m.items ≡ net.parts.files
 files_are net m s k named =

@@ -1,6 +1,7 @@
 -- A module that represents a netlist violates no rule of drivers.
 use Rattle.std.proofs.Common.{◌≡◌, ◌∙◌, ℕ, suc, ◌+◌, ◌-◌, ◌≤◌, ◌<◌, List, [], ◌∷◌, ◌++◌, length, get_or, map, Bool, true, false, Option, Some, None, refl, sym, ap, subst, arith, append_assoc, inl, inr, eq-eqb}
-use Rattle.std.proofs.lemmas.{Bool.cases_lt, List.Elements.All-nil, List.Elements.All-cons, List.Elements.All-head, List.Elements.All-tail}
+use Rattle.std.proofs.lemmas.Bool.{cases_lt, cond-true, cond-false, and_from, or_from, not_from_false, or_left, or_right}
+use Rattle.std.proofs.lemmas.List.Elements.{All-nil, All-cons, All-head, All-tail}
 use Rattle.std.specs.{Prelude.codes, Prelude.All, Prelude.◌==◌, Prelude.◌||◌, Prelude.not, Option.is_some}
 use Rattle.kp_net.specs.declared.{node.NodeId.NodeId, node.Kind.Kind, node.Node.Node, netlist.Port.Port, netlist.NetReg.NetReg, netlist.NetFile.NetFile}
 use Rattle.kp_net.specs.{declared.netlist.Parts.Parts, Names.same, Names.among, Names.Differ, Names.IsNamed, Netlist.Net}
@@ -10,12 +11,12 @@ use Rattle.kp_vlog.specs.declared.tree.{Named.Named, ResetList.ResetList, ResetV
 use Rattle.kp_vlog.specs.{declared.tree.VModule.VModule, Canon.wire, Canon.wire_name}
 use Rattle.kp_vlog.specs.Rules.{Driven, nothing, drives, all_driven, items_given, inits_started, inits_filled, updates_updated, reset_values, driver_fits, bad_driver, module_driver}
 use Rattle.kp_vlog.specs.declared.tree.Init.TheVariants as starts
-use Rattle.kp_vwrite_roundtrip.proofs.Sentence.{IsShown, named_at, ShowsNames, no_name, a_name, ShowsRight, a_const, an_ext, a_sample, a_reg, a_word, a_not, a_binary, a_mux, a_concat, a_slice, ShowsSamples, no_sample, one_sample, ShowsRegs, no_reg_line, reg_line, ShowsFiles, no_file_line, file_line, ShowsInteger, no_integer, an_integer, ShowsNodes, no_node_line, node_line, ShowsStarts, no_start, a_start, ShowsWords, no_words, zero_word, some_word, ShowsFills, no_fill, a_fill, ShowsUpdates, no_update, an_update, ShowsWrites, no_write, not_written, a_write, ShowsReset, no_reset_shown, reset_shown, ShowsValues, no_value, a_value}
-use Rattle.kp_vwrite_roundtrip.proofs.Written.{RightFrom, all_right}
-use Rattle.kp_vwrite_roundtrip.proofs.Distinct.{when_true, when_false, both, same_refl, wires_differ, apart_all, or_both_false, or_left, or_right}
+use Rattle.kp_vwrite_roundtrip.proofs.Sentence.{IsShown, named_at, ShowsNames, no_name, a_name, ShowsRight, a_const, a_word, a_not, a_binary, a_mux, a_concat, a_slice, ShowsSamples, no_sample, one_sample, ShowsRegs, no_reg_line, reg_line, ShowsFiles, no_file_line, file_line, ShowsInteger, no_integer, an_integer, ShowsNodes, no_node_line, node_line, ShowsStarts, no_start, a_start, ShowsWords, no_words, zero_word, some_word, ShowsFills, no_fill, a_fill, ShowsUpdates, no_update, an_update, ShowsWrites, no_write, not_written, a_write, ShowsReset, no_reset_shown, reset_shown, ShowsValues, no_value, a_value}
+use Rattle.kp_vwrite_roundtrip.proofs.{Written.RightFrom, Written.all_right, Distinct.wires_differ, Distinct.apart_all}
 use Rattle.kp_vwrite_roundtrip.proofs.Denoted.{outs, past_regs, past_files, past_integer}
-use Rattle.kp_vwrite_roundtrip.proofs.{NamesHold.whole, NamesHold.AllNew, NamesHold.new_more, NamesHold.negated, Runs.literal_for}
+use Rattle.kp_vwrite_roundtrip.proofs.{NamesHold.whole, NamesHold.AllNew, NamesHold.new_more, Runs.literal_for}
 use Rattle.kp_bits.specs.declared.literal.Literal.{Literal}
+use Rattle.kp_vlog.proofs.Tests.{same_refl}
 
 -- what is driven so far, part by part
 abbrev state : List (List ℕ) → List (List ℕ) → List (List ℕ) → List (List ℕ) → List (List ℕ) → List (List ℕ) → Driven
@@ -107,8 +108,8 @@ start_found _ _ ys no_start d = All-nil (λ (r : NetReg). start_in ys r.name ≡
 start_found _ _ ys (a_start {r = r} {rs = rs} {xs = xs} a b h) d =
     let l : Literal = literal_for r.start in
     All-cons (λ z. start_in (starts.Reg (named_at r.name a) (record { literal = l; at = b }) ∷ (xs ++ ys)) z.name ≡ Some (literal_for z.start)) r rs
-    (when_true (same r.name r.name) (Some l) (start_in (xs ++ ys) r.name) (same_refl r.name))
-    (λ i e k. when_false (same (get_or rs i e).name r.name) (Some l) (start_in (xs ++ ys) (get_or rs i e).name) (apart_all (λ r. r.name) r.name rs d.0 i e k) ∙ start_found rs xs ys h d.1 i e k)
+    (cond-true (same r.name r.name) (Some l) (start_in (xs ++ ys) r.name) (same_refl r.name))
+    (λ i e k. cond-false (same (get_or rs i e).name r.name) (Some l) (start_in (xs ++ ys) (get_or rs i e).name) (apart_all (λ r. r.name) r.name rs d.0 i e k) ∙ start_found rs xs ys h d.1 i e k)
 
 module _ (resets : Bool) (all : Driven) where
   -- no name is badly driven
@@ -116,7 +117,7 @@ module _ (resets : Bool) (all : Driven) where
     pub none : bad_driver resets all d os ≡ None
 
   goes : (d : Driven) (o : Occurrence) (os : List Occurrence) → driver_fits resets all d o.role o.named.name ≡ true → Fine (drives d o.role o.named.name) os → Fine d (o ∷ os)
-  goes d o os e h = record { none = when_true (driver_fits resets all d o.role o.named.name) (bad_driver resets all (drives d o.role o.named.name) os) (Some o.named.at) e ∙ h.none }
+  goes d o os e h = record { none = cond-true (driver_fits resets all d o.role o.named.name) (bad_driver resets all (drives d o.role o.named.name) os) (Some o.named.at) e ∙ h.none }
 
   samples_fine : (ss : List Port) (xs : List VPort) (rest : List Occurrence) (d : Driven) → ShowsSamples ss xs → Fine d rest → Fine d (samples_names xs ++ rest)
   samples_fine _ _ rest d no_sample h = h
@@ -126,8 +127,8 @@ module _ (resets : Bool) (all : Driven) where
       → All (λ r. (not resets || among all.reset r.name) ≡ true) rs → Fine d (items_names ys ++ rest) → Fine d (items_names (xs ++ ys) ++ rest)
   regs_fine _ _ ys rest d no_reg_line s u e h = h
   regs_fine _ _ ys rest d (reg_line {r = r} {rs = rs} {xs = xs} a b c sh) s u e h =
-      goes d _ _ (both (among all.started r.name) _ (All-head (λ r. among all.started r.name ≡ true) r rs s)
-      (both (among all.updated r.name) _ (All-head (λ r. among all.updated r.name ≡ true) r rs u) (All-head (λ r. (not resets || among all.reset r.name) ≡ true) r rs e)))
+      goes d _ _ (and_from (among all.started r.name) _ (All-head (λ r. among all.started r.name ≡ true) r rs s)
+      (and_from (among all.updated r.name) _ (All-head (λ r. among all.updated r.name ≡ true) r rs u) (All-head (λ r. (not resets || among all.reset r.name) ≡ true) r rs e)))
       (regs_fine rs xs ys rest d sh (All-tail (λ r. among all.started r.name ≡ true) r rs s) (All-tail (λ r. among all.updated r.name ≡ true) r rs u) (All-tail (λ r. (not resets || among all.reset r.name) ≡ true) r rs e) h)
 
   files_fine : (fs : List NetFile) (xs ys : List Item) (rest : List Occurrence) (d : Driven) → ShowsFiles fs xs → All (λ f. among all.filled f.name ≡ true) fs → Fine d (items_names ys ++ rest) → Fine d (items_names (xs ++ ys) ++ rest)
@@ -148,15 +149,13 @@ module _ (resets : Bool) (all : Driven) where
   right_fine : (net : Net) (g : List (List ℕ)) (m k at i : ℕ) (kind : Kind) (r : Right) (its rest : List Occurrence) → ShowsRight net.parts k kind r → KindOk net.nodes m k kind → ((i : ℕ) → i < m → among g (wire_name i) ≡ true)
       → Fine (state (wire_name i ∷ g) [] [] [] [] []) (its ++ rest) → Fine (state g [] [] [] [] []) (((right_names (named_at (wire_name i) at) r ++ (occurs is_given (named_at (wire_name i) at) ∷ [])) ++ its) ++ rest)
   right_fine net g m k at i _ _ its rest (a_const a) ok old h = goes _ _ _ refl h
-  right_fine net g m k at i _ _ its rest (an_ext a) ok old h = goes _ _ _ refl (goes _ _ _ refl h)
-  right_fine net g m k at i _ _ its rest (a_sample a) ok old h = goes _ _ _ refl (goes _ _ _ refl h)
-  right_fine net g m k at i _ _ its rest (a_reg a) ok old h = goes _ _ _ refl (goes _ _ _ refl h)
   right_fine net g m k at i _ _ its rest (a_word {n = n} a b) ok old h = goes _ _ _ refl (goes _ _ _ (old n.0 ok) (goes _ _ _ refl h))
   right_fine net g m k at i _ _ its rest (a_not {n = n} a) ok old h = goes _ _ _ (old n.0 ok.0) (goes _ _ _ refl h)
   right_fine net g m k at i _ _ its rest (a_binary {n = n} {m = o} a b) ok old h = goes _ _ _ (old n.0 ok.0) (goes _ _ _ (old o.0 ok.1) (goes _ _ _ refl h))
   right_fine net g m k at i _ _ its rest (a_mux {t = t} {n = n} {m = o} a b c) ok old h = goes _ _ _ (old t.0 ok.0) (goes _ _ _ (old n.0 ok.1) (goes _ _ _ (old o.0 ok.2) (goes _ _ _ refl h)))
   right_fine net g m k at i _ _ its rest (a_concat {parts = parts} {xs = xs} sh) ok old h = wires_fine g m parts xs (occurs is_given (named_at (wire_name i) at) ∷ []) its rest sh ok.2 old (goes _ _ _ refl h)
   right_fine net g m k at i _ _ its rest (a_slice {n = n} a b c) ok old h = goes _ _ _ (old n.0 ok.0) (goes _ _ _ refl h)
+  right_fine net g m k at i _ _ its rest x ok old h = goes _ _ _ refl (goes _ _ _ refl h)
 
   record Given (j : ℕ) (g : List (List ℕ)) : Type 0 where
     pub old : (i : ℕ) → i < j → among g (wire_name i) ≡ true
@@ -171,10 +170,10 @@ module _ (resets : Bool) (all : Driven) where
       | inl l ↦ or_right (same (wire_name i) (wire_name j)) (among g (wire_name i)) (k.old i l)
       | inr b ↦ or_left (same (wire_name i) (wire_name j)) (among g (wire_name i)) (ap (λ z. same (wire_name i) (wire_name z)) (let e : j ≡ i = omega arith in e) ∙ same_refl (wire_name i))
     ];
-    new = λ i h b. or_both_false (same (wire_name i) (wire_name j)) (among g (wire_name i)) (wires_differ i j b (omega arith) (λ e. omega arith)) (k.new i (omega arith) b);
-    full = or_both_false (same (codes "full") (wire_name j)) _ refl k.full;
-    ue = or_both_false (same (codes "ue") (wire_name j)) _ refl k.ue;
-    back = or_both_false (same (codes "back") (wire_name j)) _ refl k.back;
+    new = λ i h b. or_from (same (wire_name i) (wire_name j)) (among g (wire_name i)) (wires_differ i j b (omega arith) (λ e. omega arith)) (k.new i (omega arith) b);
+    full = or_from (same (codes "full") (wire_name j)) _ refl k.full;
+    ue = or_from (same (codes "ue") (wire_name j)) _ refl k.ue;
+    back = or_from (same (codes "back") (wire_name j)) _ refl k.back;
   }
 
   nodes_fine : (net : Net) (j : ℕ) (ns : List Node) (xs ys : List Item) (g : List (List ℕ)) (rest : List Occurrence) → ShowsNodes net.parts j ns xs → RightFrom net j ns → j + length ns ≤ 16777216
@@ -182,7 +181,7 @@ module _ (resets : Bool) (all : Driven) where
       → Fine (state g [] [] [] [] []) (items_names (xs ++ ys) ++ rest)
   nodes_fine net j _ _ ys g rest no_node_line k few a gn h = h g (subst (λ i. Given i g) (let e : j ≡ j + 0 = omega arith in e) gn)
   nodes_fine net j _ _ ys g rest (node_line {n = n} {ns = ns} {r = r} {xs = xs} b c e f sh next) k few a gn h =
-      goes _ _ _ (a j (omega arith) (omega arith)) (goes _ _ _ (negated (among g (wire_name j)) (gn.new j (omega arith) (omega arith)))
+      goes _ _ _ (a j (omega arith) (omega arith)) (goes _ _ _ (not_from_false (among g (wire_name j)) (gn.new j (omega arith) (omega arith)))
       (right_fine net g j n.width f j n.kind r (items_names (xs ++ ys)) rest sh k.0.kind gn.old
       (nodes_fine net (j + 1) ns xs ys (wire_name j ∷ g) rest next k.2 (omega arith) (λ i l m. a i (omega arith) (omega arith)) (given_more j g (omega arith) gn)
       (λ g' gn'. h g' (subst (λ i. Given i g') (let e : j + 1 + length ns ≡ j + suc (length ns) = omega arith in e) gn')))))
@@ -191,7 +190,7 @@ module _ (resets : Bool) (all : Driven) where
       → ((s' : List (List ℕ)) → Fine (state g s' [] [] [] []) (inits_names ys ++ rest)) → Fine (state g s [] [] [] []) (inits_names (xs ++ ys) ++ rest)
   starts_fine g s _ _ ys rest no_start d new h = h s
   starts_fine g s _ _ ys rest (a_start {r = r} {rs = rs} {xs = xs} a b sh) d new h =
-      goes _ _ _ (negated (among s r.name) (All-head (λ r. among s r.name ≡ false) r rs new)) (starts_fine g (r.name ∷ s) rs xs ys rest sh d.1 (new_more (λ r. r.name) r rs s d new) h)
+      goes _ _ _ (not_from_false (among s r.name) (All-head (λ r. among s r.name ≡ false) r rs new)) (starts_fine g (r.name ∷ s) rs xs ys rest sh d.1 (new_more (λ r. r.name) r rs s d new) h)
 
   words_fine : (g s f : List (List ℕ)) (n : List ℕ) (w i : ℕ) (us : List ℕ) (xs ys : List Init) (rest : List Occurrence) → ShowsWords n w i us xs → among f n ≡ true
       → Fine (state g s f [] [] []) (inits_names ys ++ rest) → Fine (state g s f [] [] []) (inits_names (xs ++ ys) ++ rest)
@@ -203,15 +202,15 @@ module _ (resets : Bool) (all : Driven) where
       → ((f' : List (List ℕ)) → Fine (state g s f' [] [] []) rest) → Fine (state g s f [] [] []) (inits_names xs ++ rest)
   fills_fine g s f _ _ rest no_fill d new h = h f
   fills_fine g s f _ _ rest (a_fill {f = x} {fs = fs} {xs = xs} {ys = ys} p sh next) d new h =
-      goes _ _ _ refl (goes _ _ _ refl (goes _ _ _ refl (goes _ _ _ refl (goes _ _ _ (negated (among f x.name) (All-head (λ z. among f z.name ≡ false) x fs new)) (goes _ _ _ refl
+      goes _ _ _ refl (goes _ _ _ refl (goes _ _ _ refl (goes _ _ _ refl (goes _ _ _ (not_from_false (among f x.name) (All-head (λ z. among f z.name ≡ false) x fs new)) (goes _ _ _ refl
       (words_fine g s (x.name ∷ f) x.name x.width 0 x.words xs ys rest sh (or_left _ _ (same_refl x.name)) (fills_fine g s (x.name ∷ f) fs ys rest next d.1 (new_more (λ f. f.name) x fs f d new) h)))))))
 
   values_fine : (g s f r : List (List ℕ)) (inits : List Init) (rs : List NetReg) (xs : List ResetValue) (rest : List Occurrence) → ShowsValues rs xs → Differ (map (λ r. r.name) rs) → AllNew (λ r. r.name) r rs
       → All (λ r. start_in inits r.name ≡ Some (literal_for r.start)) rs → ((r' : List (List ℕ)) → Fine (state g s f r' [] []) rest) → Fine (state g s f r [] []) (values_names inits xs ++ rest)
   values_fine g s f r inits _ _ rest no_value d new a h = h r
   values_fine g s f r inits _ _ rest (a_value {r = x} {rs = rs} {xs = xs} b c sh) d new a h =
-      goes _ _ _ (negated (among r x.name) (All-head (λ z. among r z.name ≡ false) x rs new))
-      (goes _ _ _ (ap (λ o. is_literal o (literal_for x.start)) (All-head (λ r. start_in inits r.name ≡ Some (literal_for r.start)) x rs a) ∙ both (x.start.width == x.start.width) _ (eq-eqb x.start.width x.start.width refl) (eq-eqb x.start.value x.start.value refl))
+      goes _ _ _ (not_from_false (among r x.name) (All-head (λ z. among r z.name ≡ false) x rs new))
+      (goes _ _ _ (ap (λ o. is_literal o (literal_for x.start)) (All-head (λ r. start_in inits r.name ≡ Some (literal_for r.start)) x rs a) ∙ and_from (x.start.width == x.start.width) _ (eq-eqb x.start.width x.start.width refl) (eq-eqb x.start.value x.start.value refl))
       (values_fine g s f (x.name ∷ r) inits rs xs rest sh d.1 (new_more (λ r. r.name) x rs r d new) (All-tail (λ r. start_in inits r.name ≡ Some (literal_for r.start)) x rs a) h))
 
   reset_fine : (g s f : List (List ℕ)) (inits : List Init) (rs : List NetReg) (b : Bool) (rst : Option Named) (r : Option ResetList) (rest : List Occurrence) → ShowsReset rs b rst r → Differ (map (λ r. r.name) rs)
@@ -223,7 +222,7 @@ module _ (resets : Bool) (all : Driven) where
       → ((i : ℕ) → i < length net.nodes → among g (wire_name i) ≡ true) → ((u' : List (List ℕ)) → Fine (state g s f r u' []) (updates_names ys)) → Fine (state g s f r u []) (updates_names (xs ++ ys))
   updates_fine net g s f r u _ _ ys no_update ok d new old h = h u
   updates_fine net g s f r u _ _ ys (an_update {r = x} {rs = rs} {xs = xs} b c sh) ok d new old h =
-      goes _ _ _ (negated (among u x.name) (All-head (λ z. among u z.name ≡ false) x rs new)) (goes _ _ _ (old x.next.0 (All-head (RegOk net.nodes) x rs ok).next.0)
+      goes _ _ _ (not_from_false (among u x.name) (All-head (λ z. among u z.name ≡ false) x rs new)) (goes _ _ _ (old x.next.0 (All-head (RegOk net.nodes) x rs ok).next.0)
       (updates_fine net g s f r (x.name ∷ u) rs xs ys sh (All-tail (RegOk net.nodes) x rs ok) d.1 (new_more (λ r. r.name) x rs u d new) old h))
 
   writes_fine : (net : Net) (g s f r u w : List (List ℕ)) (fs : List NetFile) (xs : List Update) → ShowsWrites fs xs → All (FileOk net.nodes) fs → Differ (map (λ f. f.name) fs) → AllNew (λ f. f.name) w fs
@@ -233,7 +232,7 @@ module _ (resets : Bool) (all : Driven) where
       writes_fine net g s f r u w fs xs sh (All-tail (FileOk net.nodes) x fs ok) d.1 (All-tail (λ z. among w z.name ≡ false) x fs new) old
   writes_fine net g s f r u w _ _ (a_write {f = x} {fs = fs} {xs = xs} port p z sh) ok d new old =
       let port_ok = subst (WriteOk net.nodes x.width x.address_width) z (All-head (FileOk net.nodes) x fs ok).port in
-      goes _ _ _ (old port.enable.0 port_ok.0.0) (goes _ _ _ (negated (among w x.name) (All-head (λ z. among w z.name ≡ false) x fs new))
+      goes _ _ _ (old port.enable.0 port_ok.0.0) (goes _ _ _ (not_from_false (among w x.name) (All-head (λ z. among w z.name ≡ false) x fs new))
       (goes _ _ _ (old port.address.0 port_ok.1.0) (goes _ _ _ (old port.value.0 port_ok.2.0)
       (writes_fine net g s f r u (x.name ∷ w) fs xs sh (All-tail (FileOk net.nodes) x fs ok) d.1 (new_more (λ f. f.name) x fs w d new) old))))
 
@@ -245,9 +244,9 @@ module _ (resets : Bool) (all : Driven) where
   outs_fine net m s g k named gn =
       let p = net.parts in
       let found = start_found p.regs s.start_part s.fill_part s.shows_starts named.regs_differ in
-      goes _ _ _ (negated (among g (codes "full")) gn.full) (goes _ _ _ (gn.old p.full.0 k.parts.full) (goes _ _ _ refl
-      (goes _ _ _ (negated (among (codes "full" ∷ g) (codes "ue")) (or_both_false (same (codes "ue") (codes "full")) _ refl gn.ue)) (goes _ _ _ (or_right (same (wire p.ue) (codes "full")) _ (gn.old p.ue.0 k.parts.ue)) (goes _ _ _ refl
-      (goes _ _ _ (negated (among (codes "ue" ∷ codes "full" ∷ g) (codes "back")) (or_both_false (same (codes "back") (codes "ue")) _ refl (or_both_false (same (codes "back") (codes "full")) _ refl gn.back)))
+      goes _ _ _ (not_from_false (among g (codes "full")) gn.full) (goes _ _ _ (gn.old p.full.0 k.parts.full) (goes _ _ _ refl
+      (goes _ _ _ (not_from_false (among (codes "full" ∷ g) (codes "ue")) (or_from (same (codes "ue") (codes "full")) _ refl gn.ue)) (goes _ _ _ (or_right (same (wire p.ue) (codes "full")) _ (gn.old p.ue.0 k.parts.ue)) (goes _ _ _ refl
+      (goes _ _ _ (not_from_false (among (codes "ue" ∷ codes "full" ∷ g) (codes "back")) (or_from (same (codes "back") (codes "ue")) _ refl (or_from (same (codes "back") (codes "full")) _ refl gn.back)))
       (goes _ _ _ (or_right (same (wire p.back) (codes "ue")) _ (or_right (same (wire p.back) (codes "full")) _ (gn.old p.back.0 k.parts.back))) (goes _ _ _ refl
       (let g' = codes "back" ∷ codes "ue" ∷ codes "full" ∷ g in
       let old : (i : ℕ) → i < length net.nodes → among g' (wire_name i) ≡ true = λ i l.

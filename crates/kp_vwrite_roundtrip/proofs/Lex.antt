@@ -1,6 +1,6 @@
 -- The text that is written has the tokens that it was written from.
-use Rattle.std.proofs.Common.{◌≡◌, ℕ, zero, suc, ◌+◌, List, [], ◌∷◌, ◌++◌, drop, Option, Some, None, refl, subst}
-use Rattle.kp_vlog.specs.Tokens.{Word, Token, Front, finish, skips, takes, broken, front, Lexes, at_end, past, token}
+use Rattle.std.proofs.Common.{◌≡◌, ℕ, zero, suc, ◌+◌, List, [], ◌∷◌, ◌++◌, drop, Option, Some, None, refl, subst, length}
+use Rattle.kp_vlog.specs.Tokens.{Word, Token, Front, skips, takes, front, Lexes, at_end, past, token}
 use Rattle.kp_vlog.specs.Canon.{text_of}
 
 -- tokens at offsets from a supply
@@ -40,10 +40,9 @@ add w None = None
 add w (Some r) = Some (record { words = w ∷ r.words; text = r.text })
 
 abbrev bite : Front → (ℕ → Option Rest) → Option Rest
-bite finish go = None
 bite (skips n) go = go n
 bite (takes w n) go = add w (go n)
-bite broken go = None
+bite x go = None
 
 abbrev pub eat : ℕ → List ℕ → Option Rest
 eat zero text = Some (record { words = []; text = text })
@@ -63,24 +62,27 @@ taken text ws w n None e h = tt
 taken text ws w n (Some r) e h = λ s. spells_takes w n e (h s)
 
 bitten : (text : List ℕ) (ws : List Word) (f : Front) (go : ℕ → Option Rest) → front text ≡ f → ((n : ℕ) → Eaten (drop n text) ws (go n)) → Eaten text ws (bite f go)
-bitten text ws finish go e h = tt
 bitten text ws (skips n) go e h = skipped text ws n (go n) e (h n)
 bitten text ws (takes w n) go e h = taken text ws w n (go n) e (h n)
-bitten text ws broken go e h = tt
+bitten text ws x go e h = tt
 
 pub eaten : (k : ℕ) (text : List ℕ) (ws : List Word) → Eaten text ws (eat k text)
 eaten zero text ws = λ s. s
 eaten (suc k) text ws = bitten text ws (front text) (λ n. eat k (drop n text)) refl (λ n. eaten k (drop n text) ws)
 
--- the steps take the required tokens, up to some that the rest has
-abbrev pub Left : Option Rest → List Word → Type 0
-Left None ws = ⊥
-Left (Some r) ws = (more : List Word) × (r.words ++ more ≡ ws) × Spells r.text more
+-- the tokens that the steps take, and the rest
+abbrev pub taken_by : Option Rest → List Word
+taken_by None = []
+taken_by (Some r) = r.words
 
-left_is : (text : List ℕ) (ws : List Word) (o : Option Rest) → ((more : List Word) → Eaten text more o) → Left o ws → Spells text ws
-left_is text ws None h l = absurd l
-left_is text ws (Some r) h l = subst (Spells text) l.1 (h l.0 l.2)
+abbrev pub left_by : List ℕ → Option Rest → List ℕ
+left_by text None = text
+left_by text (Some r) = r.text
+
+left_is : (text : List ℕ) (ws : List Word) (o : Option Rest) → Eaten text ws o → Spells (left_by text o) ws → Spells text (taken_by o ++ ws)
+left_is text ws None h s = s
+left_is text ws (Some r) h s = h s
 
 -- A constant piece, by computation: the given number of steps takes its tokens.
-pub ate : (k : ℕ) {text : List ℕ} {ws : List Word} → Left (eat k text) ws → Spells text ws
-ate k {text} {ws} l = left_is text ws (eat k text) (λ more. eaten k text more) l
+pub ate : (k : ℕ) {text : List ℕ} {ws : List Word} → taken_by (eat k text) ++ drop (length (taken_by (eat k text))) ws ≡ ws → Spells (left_by text (eat k text)) (drop (length (taken_by (eat k text))) ws) → Spells text ws
+ate k {text} {ws} e s = subst (Spells text) e (left_is text (drop (length (taken_by (eat k text))) ws) (eat k text) (eaten k text _) s)

@@ -9,16 +9,8 @@ use Rattle.kp_vwrite_roundtrip.proofs.{Sentence.IsShown, Sentence.Sizes, Sentenc
 use Rattle.kp_vwrite_roundtrip.proofs.{DriversHold.drivers_hold, WidthsHold.widths_hold, Denoted.same_net}
 
 size_of : (net : Net) (m k : ℕ) (kind : Kind) → KindOk net.nodes m k kind → Sizes kind
-size_of net m k (kinds.Const v) ok = tt
-size_of net m k kinds.Ext ok = tt
-size_of net m k (kinds.Sample i) ok = tt
-size_of net m k (kinds.Reg i) ok = tt
-size_of net m k (kinds.Word i a) ok = tt
-size_of net m k (kinds.Not a) ok = tt
-size_of net m k (kinds.Binary op a b) ok = tt
-size_of net m k (kinds.Mux t a b) ok = tt
 size_of net m k (kinds.Concat parts) ok = (ok.0, ok.1)
-size_of net m k (kinds.Slice a hi lo) ok = tt
+size_of net m k x ok = tt
 
 all_sizes : (net : Net) (j : ℕ) (ns : List Node) → RightFrom net j ns → AllSizes ns
 all_sizes net j [] k = tt

@@ -1,13 +1,14 @@
 -- Runs of bytes that are written: decimal numbers, literals, names.
 use Rattle.std.proofs.Common.{◌≡◌, ◌∙◌, ℕ, zero, suc, ◌+◌, ◌*◌, ◌/◌, ◌%◌, ◌^◌, ◌≤◌, ◌<◌, List, [], ◌∷◌, ◌++◌, length, take, drop, map, Bool, true, false, cond, Some, None, refl, sym, ap, subst, arith, length-append, nat_lt, add-one}
 use Rattle.std.proofs.lemmas.{Fmt.decimal_by_steps, Fmt.length-decimal-le, Fmt.decimal-digits_of, Int.Digits.all_below_base_digits_of}
-use Rattle.std.proofs.lemmas.Bool.{agree_below_at, cond-true, cond-false, Decides.nat_tests}
+use Rattle.std.proofs.lemmas.Bool.{agree_below_at, cond-true, cond-false, and_from, lt-ltb, le-ltb, and_right, Decides.nat_tests}
+use Rattle.std.proofs.Math.Seq.{take-append_seam, drop-append_seam}
 use Rattle.std.specs.{Prelude.codes, Prelude.decimal, Prelude.fold, Prelude.◌==◌, Prelude.◌&&◌, List.list_all, Char.digit_char}
 use Rattle.std.specs.Int.Digits.{digits_of, AllBelowBase}
 use Rattle.std.specs.Char as chars
 use Rattle.kp_bits.specs.Word as bits
 use Rattle.kp_bits.specs.Literals as read
-use Rattle.kp_bits.specs.Literals.{number_of, literal_of, numeral_next, numeral_value, number_within, is_number}
+use Rattle.kp_bits.specs.Literals.{number_of, numeral_next, numeral_value, number_within, is_number}
 use Rattle.kp_bits.specs.{Spelling.decimal_digits, Spelling.hex_digits, Spelling.quarters, Spelling.spelling, declared.literal.Literal.Literal}
 use Rattle.kp_bits.proofs.RoundTrips.{spelling_read}
 use Rattle.kp_net.specs.Names.{is_in_identifier}
@@ -25,22 +26,10 @@ pub each_append : (p : ℕ → Bool) (xs ys : List ℕ) → Each p xs → Each p
 each_append p [] ys h k = k
 each_append p (x ∷ xs) ys h k = (h.0, each_append p xs ys h.1 k)
 
-if_true : (b : Bool) (x y : ℕ) → b ≡ true → cond b x y ≡ x
-if_true true x y e = refl
-if_true false x y e = cc
-
 -- a run that is written ends where what follows does not continue it
 pub run_written : (p : ℕ → Bool) (xs rest : List ℕ) → Each p xs → run_length p rest ≡ 0 → run_length p (xs ++ rest) ≡ length xs
 run_written p [] rest h stop = stop
-run_written p (x ∷ xs) rest h stop = if_true (p x) (run_length p (xs ++ rest) + 1) 0 h.0 ∙ ap (λ n. n + 1) (run_written p xs rest h.1 stop) ∙ add-one (length xs)
-
-pub take_written : (xs rest : List ℕ) → take (length xs) (xs ++ rest) ≡ xs
-take_written [] rest = refl
-take_written (x ∷ xs) rest = ap (λ ys. x ∷ ys) (take_written xs rest)
-
-pub drop_written : (xs rest : List ℕ) → drop (length xs) (xs ++ rest) ≡ rest
-drop_written [] rest = refl
-drop_written (x ∷ xs) rest = drop_written xs rest
+run_written p (x ∷ xs) rest h stop = cond-true (p x) (run_length p (xs ++ rest) + 1) 0 h.0 ∙ ap (λ n. n + 1) (run_written p xs rest h.1 stop) ∙ add-one (length xs)
 
 -- a digit
 pub data IsDigit : ℕ → Type 0 where
@@ -84,13 +73,9 @@ decimal_names = each_decimal is_digit (λ n h. agree_below_at (λ k. is_digit (4
 decimal_tens : (n : ℕ) → n < 2 ^ 64 → Each (λ c. chars.is_digit c 10) (decimal n)
 decimal_tens = each_decimal (λ c. chars.is_digit c 10) (λ n h. agree_below_at (λ k. chars.is_digit (48 + k) 10) (λ _. true) 10 n refl h)
 
-pub both_true : (p q : Bool) → p ≡ true → q ≡ true → (p && q) ≡ true
-both_true true q e f = f
-both_true false q e f = cc
-
 all_of : (p : ℕ → Bool) (xs : List ℕ) → Each p xs → list_all p xs ≡ true
 all_of p [] h = refl
-all_of p (x ∷ xs) h = both_true (p x) (list_all p xs) h.0 (all_of p xs h.1)
+all_of p (x ∷ xs) h = and_from (p x) (list_all p xs) h.0 (all_of p xs h.1)
 
 -- the value of what `decimal` writes
 next_digit : (m d : ℕ) → d < 10 → numeral_next 10 m (48 + d) ≡ m * 10 + d
@@ -113,14 +98,11 @@ decimal_counts = decimal_by_steps (λ n ds. numeral_value 10 ds ≡ n)
 decimal_some : (n : ℕ) → n < 2 ^ 64 → 0 < length (decimal n)
 decimal_some = decimal_by_steps (λ n ds. 0 < length ds) (λ n low. omega arith) (λ n ds high before. simp length-append (omega arith))
 
-lt_true : (a b : ℕ) → a < b → nat_lt a b ≡ true
-lt_true a b h = grind (arith, nat_tests)
-
 pub decimal_is : (n : ℕ) → n < 2 ^ 64 → number_of (decimal n) ≡ Some n
 decimal_is n h =
-    cond-true (is_number (decimal n)) (number_within (numeral_value 10 (decimal n))) None (both_true _ _ (lt_true 0 (length (decimal n)) (decimal_some n h)) (all_of _ (decimal n) (decimal_tens n h)))
+    cond-true (is_number (decimal n)) (number_within (numeral_value 10 (decimal n))) None (and_from _ _ (lt-ltb 0 (length (decimal n)) (decimal_some n h)) (all_of _ (decimal n) (decimal_tens n h)))
     ∙ ap number_within (decimal_counts n h)
-    ∙ cond-true (nat_lt n (2 ^ 64)) (Some n) None (lt_true n (2 ^ 64) h)
+    ∙ cond-true (nat_lt n (2 ^ 64)) (Some n) None (lt-ltb n (2 ^ 64) h)
 
 -- the first byte of a decimal number
 pub record Led (ds : List ℕ) : Type 0 where
@@ -137,24 +119,16 @@ decimal_led = decimal_by_steps (λ n ds. Led ds) (λ n low. record { first = 48 
 
 digit_front : (b : ℕ) (t : List ℕ) → IsDigit b → front (b ∷ t) ≡ number_run (take (run_length is_in_run (b ∷ t)) (b ∷ t))
 digit_front _ t d0 = refl
-digit_front _ t d1 = refl
-digit_front _ t d2 = refl
-digit_front _ t d3 = refl
-digit_front _ t d4 = refl
-digit_front _ t d5 = refl
-digit_front _ t d6 = refl
-digit_front _ t d7 = refl
-digit_front _ t d8 = refl
-digit_front _ t d9 = refl
+digit_front _ t x = refl
 
 -- A number run that is written, and that nothing continues.
 spells_run : (b : ℕ) (t rest : List ℕ) (w : Word) (ws : List Word) → IsDigit b → Each is_in_run (b ∷ t) → number_run (b ∷ t) ≡ takes w (length (b ∷ t)) → run_length is_in_run rest ≡ 0
     → Spells rest ws → Spells ((b ∷ t) ++ rest) (w ∷ ws)
 spells_run b t rest w ws d each value stop s =
     let len = run_written is_in_run (b ∷ t) rest each stop in
-    let run : take (run_length is_in_run ((b ∷ t) ++ rest)) ((b ∷ t) ++ rest) ≡ b ∷ t = ap (λ n. take n ((b ∷ t) ++ rest)) len ∙ take_written (b ∷ t) rest in
+    let run : take (run_length is_in_run ((b ∷ t) ++ rest)) ((b ∷ t) ++ rest) ≡ b ∷ t = ap (λ n. take n ((b ∷ t) ++ rest)) len ∙ take-append_seam (b ∷ t) rest in
     let here : front ((b ∷ t) ++ rest) ≡ takes w (length (b ∷ t)) = digit_front b (t ++ rest) d ∙ ap number_run run ∙ value in
-    spells_takes w (length (b ∷ t)) here (subst (λ (r : List ℕ). Spells r ws) (sym (drop_written (b ∷ t) rest)) s)
+    spells_takes w (length (b ∷ t)) here (subst (λ (r : List ℕ). Spells r ws) (sym (drop-append_seam (b ∷ t) rest)) s)
 
 spells_led : (ds rest : List ℕ) (w : Word) (ws : List Word) → Led ds → Each is_in_run ds → number_run ds ≡ takes w (length ds) → run_length is_in_run rest ≡ 0
     → Spells rest ws → Spells (ds ++ rest) (w ∷ ws)
@@ -172,7 +146,7 @@ literal_for a = record { width = a.width; value = a.value }
 
 same_digits : (ds : List ℕ) → AllBelowBase 10 ds → map (λ d. 48 + d) ds ≡ map digit_char ds
 same_digits [] h = refl
-same_digits (d ∷ ds) h = ap (λ c. c ∷ map (λ d. 48 + d) ds) (sym (cond-true (nat_lt d 10) (48 + d) (87 + d) (lt_true d 10 h.0))) ∙ ap (λ (cs : List ℕ). digit_char d ∷ cs) (same_digits ds h.1)
+same_digits (d ∷ ds) h = ap (λ c. c ∷ map (λ d. 48 + d) ds) (sym (cond-true (nat_lt d 10) (48 + d) (87 + d) (lt-ltb d 10 h.0))) ∙ ap (λ (cs : List ℕ). digit_char d ∷ cs) (same_digits ds h.1)
 
 width_digits : (n : ℕ) → 1 ≤ n → n < 2 ^ 64 → decimal n ≡ decimal_digits n
 width_digits n low h = decimal-digits_of n low h ∙ same_digits (digits_of 10 n) (all_below_base_digits_of 10 n (omega arith))
@@ -181,19 +155,15 @@ hex_runs : (k v : ℕ) → Each is_in_run (hex_digits k v)
 hex_runs zero v = tt
 hex_runs (suc k) v = (agree_below_at (λ d. is_in_run (digit_char d)) (λ _. true) 16 (v / 16 ^ k % 16) refl (omega arith), hex_runs k v)
 
-and_right_false : (p : Bool) → (p && false) ≡ false
-and_right_false true = refl
-and_right_false false = refl
-
 not_all : (p : ℕ → Bool) (xs : List ℕ) (y : ℕ) (ys : List ℕ) → p y ≡ false → list_all p (xs ++ y ∷ ys) ≡ false
 not_all p [] y ys e = ap (λ t. t && list_all p ys) e
-not_all p (x ∷ xs) y ys e = ap (λ t. p x && t) (not_all p xs y ys e) ∙ and_right_false (p x)
+not_all p (x ∷ xs) y ys e = ap (λ t. p x && t) (not_all p xs y ys e) ∙ and_right (p x) false refl
 
 no_number : (ds rest : List ℕ) → number_of (ds ++ 39 ∷ rest) ≡ None
 no_number ds rest =
     let run = ds ++ 39 ∷ rest in
     cond-false (is_number run) (number_within (numeral_value 10 run)) None
-    (ap (λ t. nat_lt 0 (length run) && t) (not_all (λ c. chars.is_digit c 10) ds 39 rest refl) ∙ and_right_false (nat_lt 0 (length run)))
+    (ap (λ t. nat_lt 0 (length run) && t) (not_all (λ c. chars.is_digit c 10) ds 39 rest refl) ∙ and_right (nat_lt 0 (length run)) false refl)
 
 pub spells_literal : (a : bits.Word) (rest : List ℕ) (ws : List Word) → bits.IsWord a → run_length is_in_run rest ≡ 0 → Spells rest ws → Spells (spelling a ++ rest) (literal (literal_for a) ∷ ws)
 spells_literal a rest ws h stop s =
@@ -219,11 +189,7 @@ pub data IsInitial : ℕ → Type 0 where
 
 letter_front : (b : ℕ) (t : List ℕ) → IsInitial b → front (b ∷ t) ≡ identifier (take (run_length is_in_identifier (b ∷ t)) (b ∷ t))
 letter_front _ t at_m = refl
-letter_front _ t at_n = refl
-letter_front _ t at_r = refl
-letter_front _ t at_q = refl
-letter_front _ t at_f = refl
-letter_front _ t at_s = refl
+letter_front _ t x = refl
 
 -- a name that can be written
 pub record IsWritten (n : List ℕ) : Type 0 where
@@ -235,19 +201,16 @@ pub record IsWritten (n : List ℕ) : Type 0 where
   pub short : length (first ∷ more) ≤ 70
   pub plain : keyword_of (first ∷ more) ≡ None
 
-not_longer : (a b : ℕ) → a ≤ b → nat_lt b a ≡ false
-not_longer a b h = grind (arith, nat_tests)
-
 name_here : (run : List ℕ) → length run ≤ 70 → keyword_of run ≡ None → identifier run ≡ takes (name run) (length run)
-name_here run h e = cond-false (nat_lt 70 (length run)) broken _ (not_longer (length run) 70 h) ∙ ap (λ k. takes (keyword_or_name run k) (length run)) e
+name_here run h e = cond-false (nat_lt 70 (length run)) broken _ (le-ltb 70 (length run) h) ∙ ap (λ k. takes (keyword_or_name run k) (length run)) e
 
 spells_letters : (b : ℕ) (t rest : List ℕ) (ws : List Word) → IsInitial b → Each is_in_identifier (b ∷ t) → length (b ∷ t) ≤ 70 → keyword_of (b ∷ t) ≡ None → run_length is_in_identifier rest ≡ 0
     → Spells rest ws → Spells ((b ∷ t) ++ rest) (name (b ∷ t) ∷ ws)
 spells_letters b t rest ws i each short plain stop s =
     let len = run_written is_in_identifier (b ∷ t) rest each stop in
-    let run : take (run_length is_in_identifier ((b ∷ t) ++ rest)) ((b ∷ t) ++ rest) ≡ b ∷ t = ap (λ n. take n ((b ∷ t) ++ rest)) len ∙ take_written (b ∷ t) rest in
+    let run : take (run_length is_in_identifier ((b ∷ t) ++ rest)) ((b ∷ t) ++ rest) ≡ b ∷ t = ap (λ n. take n ((b ∷ t) ++ rest)) len ∙ take-append_seam (b ∷ t) rest in
     let here : front ((b ∷ t) ++ rest) ≡ takes (name (b ∷ t)) (length (b ∷ t)) = letter_front b (t ++ rest) i ∙ ap identifier run ∙ name_here (b ∷ t) short plain in
-    spells_takes (name (b ∷ t)) (length (b ∷ t)) here (subst (λ (r : List ℕ). Spells r ws) (sym (drop_written (b ∷ t) rest)) s)
+    spells_takes (name (b ∷ t)) (length (b ∷ t)) here (subst (λ (r : List ℕ). Spells r ws) (sym (drop-append_seam (b ∷ t) rest)) s)
 
 pub spells_name : (n rest : List ℕ) (ws : List Word) → IsWritten n → run_length is_in_identifier rest ≡ 0 → Spells rest ws → Spells (n ++ rest) (name n ∷ ws)
 spells_name n rest ws h stop s =

@@ -1,6 +1,7 @@
 -- A module that represents a netlist denotes it.
 use Rattle.std.proofs.Common.{◌≡◌, ◌∙◌, ℕ, suc, ◌+◌, ◌-◌, ◌^◌, ◌≤◌, List, [], ◌∷◌, ◌++◌, length, get_or, set, map, Bool, true, false, cond, Option, Some, None, refl, sym, ap, arith, append_assoc, length-append}
-use Rattle.std.proofs.{lemmas.Bool.eqb-true, lemmas.Bool.false≢true, lemmas.Bool.agree_below_at, Math.Seq.set-append_seam, lemmas.List.Sums.fold-append}
+use Rattle.std.proofs.lemmas.Bool.{eqb-true, agree_below_at, cond-true, cond-false, false_from_ne_true, or_parts}
+use Rattle.std.proofs.{Math.Seq.set-append_seam, lemmas.List.Sums.fold-append}
 use Rattle.std.proofs.lemmas.List.Elements.{All-nil, All-cons, All-head, All-tail}
 use Rattle.std.specs.Prelude.{All, fold, replicate, ◌==◌, ◌||◌, if◌then◌else◌}
 use Rattle.kp_net.specs.declared.{node.Node.Node, netlist.Port.Port, netlist.WritePort.WritePort, netlist.NetReg.NetReg, netlist.NetFile.NetFile}
@@ -12,9 +13,10 @@ use Rattle.kp_vlog.specs.Denote.{node_of, start_of, next_of, word_init, port_of}
 use Rattle.kp_vlog.specs.declared.tree.Item.TheVariants as lines
 use Rattle.kp_vlog.specs.declared.tree.Init.TheVariants as starts
 use Rattle.kp_vlog.specs.declared.tree.Update.TheVariants as edges
-use Rattle.kp_vwrite_roundtrip.proofs.Distinct.{not_true, when_true, when_false, same_refl, first_false, second_false, apart, tag, tag_reg, tag_file, tag_sample, wires_differ, apart_all}
 use Rattle.kp_vwrite_roundtrip.proofs.Sentence.{named_at, fill_at, write_at, ShowsSamples, no_sample, one_sample, ShowsRegs, no_reg_line, reg_line, ShowsFiles, no_file_line, file_line, ShowsInteger, no_integer, an_integer, ShowsNodes, no_node_line, node_line, ShowsStarts, no_start, a_start, ShowsWords, no_words, zero_word, some_word, ShowsFills, no_fill, a_fill, ShowsUpdates, no_update, an_update, ShowsWrites, no_write, not_written, a_write}
+use Rattle.kp_vwrite_roundtrip.proofs.Distinct.{apart, tag, tag_reg, tag_file, tag_sample, wires_differ, apart_all, or_rest}
 use Rattle.kp_vwrite_roundtrip.proofs.Written.{RightFrom}
+use Rattle.kp_vlog.proofs.Tests.{same_refl}
 
 -- The words of a file: the fill, and then each word that is not 0.
 
@@ -31,7 +33,7 @@ words_filled n w i count _ _ done (zero_word {v = v} {vs = vs} {xs = xs} z h) e 
     ∙ append_assoc done (v ∷ []) vs
 words_filled n w i count _ _ done (some_word {v = v} {vs = vs} {xs = xs} a b c z h) e =
     ap (λ ws. fold (word_init count n) ws xs)
-    (when_true (same n n) (set (done ++ replicate (suc (length vs)) 0) i v) (done ++ replicate (suc (length vs)) 0) (same_refl n)
+    (cond-true (same n n) (set (done ++ replicate (suc (length vs)) 0) i v) (done ++ replicate (suc (length vs)) 0) (same_refl n)
     ∙ ap (λ k. set (done ++ 0 ∷ replicate (length vs) 0) k v) (sym e) ∙ set-append_seam done 0 (replicate (length vs) 0) v ∙ sym (append_assoc done (v ∷ []) (replicate (length vs) 0)))
     ∙ words_filled n w (i + 1) count vs xs (done ++ v ∷ []) h (length-append done (v ∷ []) ∙ ap (λ k. k + 1) e)
     ∙ append_assoc done (v ∷ []) vs
@@ -41,16 +43,16 @@ words_skipped : (n other : List ℕ) (w i count : ℕ) (vs : List ℕ) (xs : Lis
 words_skipped n other w i count _ _ ws no_words e = refl
 words_skipped n other w i count _ _ ws (zero_word {vs = vs} {xs = xs} z h) e = words_skipped n other w (i + 1) count vs xs ws h e
 words_skipped n other w i count _ _ ws (some_word {v = v} {vs = vs} {xs = xs} a b c z h) e =
-    ap (λ us. fold (word_init count n) us xs) (when_false (same n other) (set ws i v) ws e) ∙ words_skipped n other w (i + 1) count vs xs ws h e
+    ap (λ us. fold (word_init count n) us xs) (cond-false (same n other) (set ws i v) ws e) ∙ words_skipped n other w (i + 1) count vs xs ws h e
 
 fills_skipped : (n : List ℕ) (count : ℕ) (fs : List NetFile) (xs : List Init) (ws : List ℕ) → ShowsFills fs xs → among (map (λ f. f.name) fs) n ≡ false → fold (word_init count n) ws xs ≡ ws
 fills_skipped n count _ _ ws no_fill e = refl
 fills_skipped n count _ _ ws (a_fill {f = f} {fs = fs} {xs = xs} {ys = ys} p h k) e =
-    let other = first_false (same n f.name) (among (map (λ f. f.name) fs) n) e in
-    ap (λ us. fold (word_init count n) us (xs ++ ys)) (when_false (same n f.name) (replicate count 0) ws other)
+    let other = (or_parts (same n f.name) (among (map (λ f. f.name) fs) n) e).0 in
+    ap (λ us. fold (word_init count n) us (xs ++ ys)) (cond-false (same n f.name) (replicate count 0) ws other)
     ∙ fold-append (word_init count n) ws xs ys
     ∙ ap (λ us. fold (word_init count n) us ys) (words_skipped n f.name f.width 0 count f.words xs ws h other)
-    ∙ fills_skipped n count fs ys ws k (second_false (same n f.name) (among (map (λ f. f.name) fs) n) e)
+    ∙ fills_skipped n count fs ys ws k ((or_parts (same n f.name) (among (map (λ f. f.name) fs) n) e).1)
 
 -- each file has its words
 abbrev pub HasWords : List Init → NetFile → Type 0
@@ -63,12 +65,12 @@ words_are _ _ (a_fill {f = f} {fs = fs} {xs = xs} {ys = ys} p h k) d =
     let others = apart_all (λ f. f.name) f.name fs d.0 in
     let whole = starts.Fill (fill_at f p) ∷ (xs ++ ys) in
     let own : HasWords whole f = λ ws.
-    ap (λ us. fold (word_init (length f.words) f.name) us (xs ++ ys)) (when_true (same f.name f.name) (replicate (length f.words) 0) ws (same_refl f.name))
+    ap (λ us. fold (word_init (length f.words) f.name) us (xs ++ ys)) (cond-true (same f.name f.name) (replicate (length f.words) 0) ws (same_refl f.name))
     ∙ fold-append (word_init (length f.words) f.name) (replicate (length f.words) 0) xs ys
     ∙ ap (λ us. fold (word_init (length f.words) f.name) us ys) (words_filled f.name f.width 0 (length f.words) f.words xs [] h refl)
     ∙ fills_skipped f.name (length f.words) fs ys f.words k d.0 in
     All-cons (HasWords whole) f fs own (λ i e l ws. let g = get_or fs i e in
-    ap (λ us. fold (word_init (length g.words) g.name) us (xs ++ ys)) (when_false (same g.name f.name) (replicate (length g.words) 0) ws (others i e l))
+    ap (λ us. fold (word_init (length g.words) g.name) us (xs ++ ys)) (cond-false (same g.name f.name) (replicate (length g.words) 0) ws (others i e l))
     ∙ fold-append (word_init (length g.words) g.name) ws xs ys
     ∙ ap (λ us. fold (word_init (length g.words) g.name) us ys) (words_skipped g.name f.name f.width 0 (length g.words) f.words xs ws h (others i e l))
     ∙ rest i e l ws)
@@ -89,8 +91,8 @@ starts_are _ _ (a_start {r = r} {rs = rs} {xs = xs} a b h) d =
     let rest = starts_are rs xs h d.1 in
     let others = apart_all (λ r. r.name) r.name rs d.0 in
     let whole = starts.Reg (named_at r.name a) (record { literal = record { width = r.start.width; value = r.start.value }; at = b }) ∷ xs in
-    All-cons (HasStart whole) r rs (λ more. when_true (same r.name r.name) r.start (start_of (xs ++ more) r.name) (same_refl r.name))
-    (λ i e l more. let g = get_or rs i e in when_false (same g.name r.name) r.start (start_of (xs ++ more) g.name) (others i e l) ∙ rest i e l more)
+    All-cons (HasStart whole) r rs (λ more. cond-true (same r.name r.name) r.start (start_of (xs ++ more) r.name) (same_refl r.name))
+    (λ i e l more. let g = get_or rs i e in cond-false (same g.name r.name) r.start (start_of (xs ++ more) g.name) (others i e l) ∙ rest i e l more)
 
 abbrev pub HasNext : List (List ℕ) → List Update → NetReg → Type 0
 HasNext wires xs r = (rest : List Update) → next_of wires (xs ++ rest) r.name ≡ record { 0 = place_of wires (wire r.next) }
@@ -101,8 +103,8 @@ nexts_are wires _ _ (an_update {r = r} {rs = rs} {xs = xs} a b h) d =
     let rest = nexts_are wires rs xs h d.1 in
     let others = apart_all (λ r. r.name) r.name rs d.0 in
     let whole = edges.Reg (named_at r.name a) (named_at (wire r.next) b) ∷ xs in
-    All-cons (HasNext wires whole) r rs (λ more. when_true (same r.name r.name) (node_of wires (named_at (wire r.next) b)) (next_of wires (xs ++ more) r.name) (same_refl r.name))
-    (λ i e l more. let g = get_or rs i e in when_false (same g.name r.name) (node_of wires (named_at (wire r.next) b)) (next_of wires (xs ++ more) g.name) (others i e l) ∙ rest i e l more)
+    All-cons (HasNext wires whole) r rs (λ more. cond-true (same r.name r.name) (node_of wires (named_at (wire r.next) b)) (next_of wires (xs ++ more) r.name) (same_refl r.name))
+    (λ i e l more. let g = get_or rs i e in cond-false (same g.name r.name) (node_of wires (named_at (wire r.next) b)) (next_of wires (xs ++ more) g.name) (others i e l) ∙ rest i e l more)
 
 -- Write ports.
 
@@ -119,10 +121,10 @@ ported wires (Some w) = Some (port_in wires w)
 
 writes_skipped : (wires : List (List ℕ)) (n : List ℕ) (fs : List NetFile) (ws : List Update) → ShowsWrites fs ws → among (map (λ f. f.name) fs) n ≡ false → port_of wires ws n ≡ None
 writes_skipped wires n _ _ no_write e = refl
-writes_skipped wires n _ _ (not_written {f = f} {fs = fs} {xs = xs} z h) e = writes_skipped wires n fs xs h (second_false (same n f.name) (among (map (λ f. f.name) fs) n) e)
+writes_skipped wires n _ _ (not_written {f = f} {fs = fs} {xs = xs} z h) e = writes_skipped wires n fs xs h ((or_parts (same n f.name) (among (map (λ f. f.name) fs) n) e).1)
 writes_skipped wires n _ _ (a_write {f = f} {fs = fs} {xs = xs} w p z h) e =
-    when_false (same n f.name) (Some (port_in wires w)) (port_of wires xs n) (first_false (same n f.name) (among (map (λ f. f.name) fs) n) e)
-    ∙ writes_skipped wires n fs xs h (second_false (same n f.name) (among (map (λ f. f.name) fs) n) e)
+    cond-false (same n f.name) (Some (port_in wires w)) (port_of wires xs n) ((or_parts (same n f.name) (among (map (λ f. f.name) fs) n) e).0)
+    ∙ writes_skipped wires n fs xs h ((or_parts (same n f.name) (among (map (λ f. f.name) fs) n) e).1)
 
 abbrev pub HasPort : List (List ℕ) → List Update → NetFile → Type 0
 HasPort wires ws f = port_of wires ws f.name ≡ ported wires f.port
@@ -134,8 +136,8 @@ ports_are wires _ _ (not_written {f = f} {fs = fs} {xs = xs} z h) d =
 ports_are wires _ _ (a_write {f = f} {fs = fs} {xs = xs} w p z h) d =
     let rest = ports_are wires fs xs h d.1 in
     let others = apart_all (λ f. f.name) f.name fs d.0 in
-    All-cons (HasPort wires (write_at f.name w p ∷ xs)) f fs (when_true (same f.name f.name) (Some (port_in wires w)) (port_of wires xs f.name) (same_refl f.name) ∙ ap (ported wires) (sym z))
-    (λ i e l. let g = get_or fs i e in when_false (same g.name f.name) (Some (port_in wires w)) (port_of wires xs g.name) (others i e l) ∙ rest i e l)
+    All-cons (HasPort wires (write_at f.name w p ∷ xs)) f fs (cond-true (same f.name f.name) (Some (port_in wires w)) (port_of wires xs f.name) (same_refl f.name) ∙ ap (ported wires) (sym z))
+    (λ i e l. let g = get_or fs i e in cond-false (same g.name f.name) (Some (port_in wires w)) (port_of wires xs g.name) (others i e l) ∙ rest i e l)
 
 -- The table of widths.
 
@@ -165,19 +167,18 @@ address_found (s ∷ ss) n = ap (λ k. cond (same n s.name) s.address k) (addres
 
 pub found_past : (s : Sized) (ss : Sizes) (n : List ℕ) → same n s.name ≡ false → found (s ∷ ss) n ≡ found ss n
 unfolding found
-found_past s ss n e = when_false (same n s.name) s (found ss n) e
+found_past s ss n e = cond-false (same n s.name) s (found ss n) e
 
 pub found_here : (s : Sized) (ss : Sizes) (n : List ℕ) → same n s.name ≡ true → found (s ∷ ss) n ≡ s
 unfolding found
-found_here s ss n e = when_true (same n s.name) s (found ss n) e
+found_here s ss n e = cond-true (same n s.name) s (found ss n) e
 
 pub sizes_append : (xs ys : List Item) → item_sizes (xs ++ ys) ≡ item_sizes xs ++ item_sizes ys
 sizes_append [] ys = refl
 sizes_append (lines.Reg r n ∷ xs) ys = ap (λ (t : Sizes). sized n.name (width_of r) 0 ∷ t) (sizes_append xs ys)
 sizes_append (lines.File r n w ∷ xs) ys = ap (λ (t : Sizes). sized n.name (width_of r) (or_zero (address_width (last_of w))) ∷ t) (sizes_append xs ys)
-sizes_append (lines.Integer n ∷ xs) ys = sizes_append xs ys
 sizes_append (lines.Wire r n ∷ xs) ys = ap (λ (t : Sizes). sized n.name (width_of r) 0 ∷ t) (sizes_append xs ys)
-sizes_append (lines.Assign t r ∷ xs) ys = sizes_append xs ys
+sizes_append (x ∷ xs) ys = sizes_append xs ys
 
 pub samples_past : (n : List ℕ) (t : ℕ) (ss : List Port) (xs : List VPort) (rest : Sizes) → ShowsSamples ss xs → All (λ n. is_sample_name n ≡ true) (map (λ s. s.name) ss) → tag n ≡ t → (t == 1115) ≡ false
     → found (map port_size xs ++ rest) n ≡ found rest n
@@ -204,18 +205,13 @@ pub integer_past : (fs : List NetFile) (xs : List Item) → ShowsInteger fs xs �
 integer_past _ _ no_integer = refl
 integer_past _ _ (an_integer a) = refl
 
--- the width of an address, from the number of the last word
-second : (p q : Bool) → (p || q) ≡ true → p ≡ false → q ≡ true
-second true q h e = absurd (false≢true (sym e))
-second false q h e = h
-
 no_zero : (a : ℕ) → 1 ≤ a → (a == 0) ≡ false
-no_zero a h = not_true (a == 0) (λ e. let z : a ≡ 0 = eqb-true a 0 e in omega arith)
+no_zero a h = false_from_ne_true (a == 0) (λ e. let z : a ≡ 0 = eqb-true a 0 e in omega arith)
 
 address_is : (a : ℕ) → 1 ≤ a → a ≤ 16 → or_zero (address_width (2 ^ a - 1)) ≡ a
 address_is a low high =
     eqb-true (or_zero (address_width (2 ^ a - 1))) a
-    (second (a == 0) _ (agree_below_at (λ k. (k == 0) || (or_zero (address_width (2 ^ k - 1)) == k)) (λ _. true) 17 a refl (omega arith)) (no_zero a low))
+    (or_rest (a == 0) _ (agree_below_at (λ k. (k == 0) || (or_zero (address_width (2 ^ k - 1)) == k)) (λ _. true) 17 a refl (omega arith)) (no_zero a low))
 
 -- each file has its size
 abbrev pub HasSize : Sizes → NetFile → Type 0

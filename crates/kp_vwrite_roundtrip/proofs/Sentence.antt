@@ -10,7 +10,7 @@ use Rattle.kp_net.specs.{declared.netlist.NetFile.NetFile, declared.netlist.Part
 use Rattle.kp_net.specs.declared.node.Kind.TheVariants as kinds
 use Rattle.kp_vlog.specs.declared.token.Keyword.TheVariants as keywords
 use Rattle.kp_vlog.specs.declared.token.Mark.TheVariants as marks
-use Rattle.kp_vlog.specs.Language.{Value, Sym, Way, Step, make_concat, MODULE, SAMPLES, ITEMS, RIGHT, NAMES, INITS, BODY, VALUES, UPDATES, verilog}
+use Rattle.kp_vlog.specs.Language.{Value, Sym, make_concat, MODULE, SAMPLES, ITEMS, RIGHT, NAMES, INITS, BODY, VALUES, UPDATES, verilog}
 use Rattle.kp_vlog.specs.declared.tree.{Num.Num, Lit.Lit, Named.Named, Range.Range, VPort.VPort, Right.Right, Item.Item, Fill.Fill, Init.Init}
 use Rattle.kp_vlog.specs.declared.tree.{ResetValue.ResetValue, ResetList.ResetList, Update.Update, VModule.VModule}
 use Rattle.kp_vlog.specs.{Tokens.Word, Tokens.Token, Tokens.name, Tokens.number, Tokens.literal, Tokens.keyword, Tokens.mark, inner.Follow.tables}
@@ -196,110 +196,59 @@ module _ (P : VModule → Type 0) where
   abbrev goes : (k : ℕ) {s : List Sym} {vs : List Value} {ts : List Token} → CompletesFrom verilog tables (Built P) (advance verilog tables k s vs ts) → Reads s vs ts
   goes k r = went verilog tables (Built P) k r
 
-  names_read_0 : (parts : List NodeId) (q : ℕ → ℕ) (s : List Sym) (vs : List Value) (ws : List Word) (before : List Named) → length parts ≤ 0
-      → ((q' : ℕ → ℕ) (xs : List Named) → ShowsNames parts xs → Reads s (lang.right (sides.Concat (before ++ xs)) ∷ vs) (placed q' ws))
-      → Reads (N (NAMES 0) ∷ lang.mark marks.CloseBrace ∷ Action make_concat ∷ s) (lang.names before ∷ vs) (placed q (more_words parts ws))
-  names_read_0 [] q s vs ws before h d = goes 3 (subst (λ (xs : List Named). Reads s (lang.right (sides.Concat xs) ∷ vs) (placed (shift 1 q) ws)) (append-nil before) (d (shift 1 q) [] no_name))
-  names_read_0 (a ∷ parts) q s vs ws before h d = absurd (omega arith)
+  -- at most n more names of a concatenation are read
+  abbrev AtNames : ℕ → List Sym → List Value → List Named → List Token → Type 0
+  AtNames n s vs before ts = Reads (N (NAMES n) ∷ lang.mark marks.CloseBrace ∷ Action make_concat ∷ s) (lang.names before ∷ vs) ts
 
-  names_read_1 : (parts : List NodeId) (q : ℕ → ℕ) (s : List Sym) (vs : List Value) (ws : List Word) (before : List Named) → length parts ≤ 1
-      → ((q' : ℕ → ℕ) (xs : List Named) → ShowsNames parts xs → Reads s (lang.right (sides.Concat (before ++ xs)) ∷ vs) (placed q' ws))
-      → Reads (N (NAMES 1) ∷ lang.mark marks.CloseBrace ∷ Action make_concat ∷ s) (lang.names before ∷ vs) (placed q (more_words parts ws))
-  names_read_1 [] q s vs ws before h d = goes 3 (subst (λ (xs : List Named). Reads s (lang.right (sides.Concat xs) ∷ vs) (placed (shift 1 q) ws)) (append-nil before) (d (shift 1 q) [] no_name))
-  names_read_1 (a ∷ parts) q s vs ws before h d =
+  abbrev NamesRead : ℕ → Type 0
+  NamesRead n = (parts : List NodeId) (q : ℕ → ℕ) (s : List Sym) (vs : List Value) (ws : List Word) (before : List Named) → length parts ≤ n
+      → ((q' : ℕ → ℕ) (xs : List Named) → ShowsNames parts xs → Reads s (lang.right (sides.Concat (before ++ xs)) ∷ vs) (placed q' ws)) → AtNames n s vs before (placed q (more_words parts ws))
+
+  -- the end of the names, and one name, where the rule for n names is known
+  abbrev Closes : ℕ → Type 0
+  Closes n = (q : ℕ → ℕ) (s : List Sym) (vs : List Value) (ws : List Word) (before : List Named)
+      → Reads s (lang.right (sides.Concat before) ∷ vs) (placed (shift 1 q) ws) → AtNames n s vs before (placed q (mark marks.CloseBrace ∷ ws))
+
+  abbrev ReadsOne : ℕ → Type 0
+  ReadsOne n = (a : NodeId) (q : ℕ → ℕ) (s : List Sym) (vs : List Value) (ws : List Word) (before : List Named)
+      → AtNames n s vs (before ++ named_at (wire a) (q 1) ∷ []) (placed (shift 2 q) ws) → AtNames (suc n) s vs before (placed q (mark marks.Comma ∷ name (wire a) ∷ ws))
+
+  names_close : (n : ℕ) → Closes n → (q : ℕ → ℕ) (s : List Sym) (vs : List Value) (ws : List Word) (before : List Named)
+      → ((q' : ℕ → ℕ) (xs : List Named) → ShowsNames [] xs → Reads s (lang.right (sides.Concat (before ++ xs)) ∷ vs) (placed q' ws)) → AtNames n s vs before (placed q (mark marks.CloseBrace ∷ ws))
+  names_close n close q s vs ws before d = close q s vs ws before (subst (λ (xs : List Named). Reads s (lang.right (sides.Concat xs) ∷ vs) (placed (shift 1 q) ws)) (append-nil before) (d (shift 1 q) [] no_name))
+
+  no_names : Closes 0 → NamesRead 0
+  no_names close [] q s vs ws before h d = names_close 0 close q s vs ws before d
+  no_names close (a ∷ parts) q s vs ws before h d = absurd (omega arith)
+
+  one_more : (n : ℕ) → Closes (suc n) → ReadsOne n → NamesRead n → NamesRead (suc n)
+  one_more n close one rest [] q s vs ws before h d = names_close (suc n) close q s vs ws before d
+  one_more n close one rest (a ∷ parts) q s vs ws before h d =
       let x = named_at (wire a) (q 1) in
-      goes 4 (names_read_0 parts (shift 2 q) s vs ws (before ++ x ∷ []) (omega arith)
+      one a q s vs (more_words parts ws) before (rest parts (shift 2 q) s vs ws (before ++ x ∷ []) (omega arith)
       (λ q' xs shows. subst (λ (zs : List Named). Reads s (lang.right (sides.Concat zs) ∷ vs) (placed q' ws)) (sym (append_assoc before (x ∷ []) xs)) (d q' (x ∷ xs) (a_name (q 1) shows))))
 
-  names_read_2 : (parts : List NodeId) (q : ℕ → ℕ) (s : List Sym) (vs : List Value) (ws : List Word) (before : List Named) → length parts ≤ 2
-      → ((q' : ℕ → ℕ) (xs : List Named) → ShowsNames parts xs → Reads s (lang.right (sides.Concat (before ++ xs)) ∷ vs) (placed q' ws))
-      → Reads (N (NAMES 2) ∷ lang.mark marks.CloseBrace ∷ Action make_concat ∷ s) (lang.names before ∷ vs) (placed q (more_words parts ws))
-  names_read_2 [] q s vs ws before h d = goes 3 (subst (λ (xs : List Named). Reads s (lang.right (sides.Concat xs) ∷ vs) (placed (shift 1 q) ws)) (append-nil before) (d (shift 1 q) [] no_name))
-  names_read_2 (a ∷ parts) q s vs ws before h d =
-      let x = named_at (wire a) (q 1) in
-      goes 4 (names_read_1 parts (shift 2 q) s vs ws (before ++ x ∷ []) (omega arith)
-      (λ q' xs shows. subst (λ (zs : List Named). Reads s (lang.right (sides.Concat zs) ∷ vs) (placed q' ws)) (sym (append_assoc before (x ∷ []) xs)) (d q' (x ∷ xs) (a_name (q 1) shows))))
-
-  names_read_3 : (parts : List NodeId) (q : ℕ → ℕ) (s : List Sym) (vs : List Value) (ws : List Word) (before : List Named) → length parts ≤ 3
-      → ((q' : ℕ → ℕ) (xs : List Named) → ShowsNames parts xs → Reads s (lang.right (sides.Concat (before ++ xs)) ∷ vs) (placed q' ws))
-      → Reads (N (NAMES 3) ∷ lang.mark marks.CloseBrace ∷ Action make_concat ∷ s) (lang.names before ∷ vs) (placed q (more_words parts ws))
-  names_read_3 [] q s vs ws before h d = goes 3 (subst (λ (xs : List Named). Reads s (lang.right (sides.Concat xs) ∷ vs) (placed (shift 1 q) ws)) (append-nil before) (d (shift 1 q) [] no_name))
-  names_read_3 (a ∷ parts) q s vs ws before h d =
-      let x = named_at (wire a) (q 1) in
-      goes 4 (names_read_2 parts (shift 2 q) s vs ws (before ++ x ∷ []) (omega arith)
-      (λ q' xs shows. subst (λ (zs : List Named). Reads s (lang.right (sides.Concat zs) ∷ vs) (placed q' ws)) (sym (append_assoc before (x ∷ []) xs)) (d q' (x ∷ xs) (a_name (q 1) shows))))
-
-  names_read_4 : (parts : List NodeId) (q : ℕ → ℕ) (s : List Sym) (vs : List Value) (ws : List Word) (before : List Named) → length parts ≤ 4
-      → ((q' : ℕ → ℕ) (xs : List Named) → ShowsNames parts xs → Reads s (lang.right (sides.Concat (before ++ xs)) ∷ vs) (placed q' ws))
-      → Reads (N (NAMES 4) ∷ lang.mark marks.CloseBrace ∷ Action make_concat ∷ s) (lang.names before ∷ vs) (placed q (more_words parts ws))
-  names_read_4 [] q s vs ws before h d = goes 3 (subst (λ (xs : List Named). Reads s (lang.right (sides.Concat xs) ∷ vs) (placed (shift 1 q) ws)) (append-nil before) (d (shift 1 q) [] no_name))
-  names_read_4 (a ∷ parts) q s vs ws before h d =
-      let x = named_at (wire a) (q 1) in
-      goes 4 (names_read_3 parts (shift 2 q) s vs ws (before ++ x ∷ []) (omega arith)
-      (λ q' xs shows. subst (λ (zs : List Named). Reads s (lang.right (sides.Concat zs) ∷ vs) (placed q' ws)) (sym (append_assoc before (x ∷ []) xs)) (d q' (x ∷ xs) (a_name (q 1) shows))))
-
-  names_read_5 : (parts : List NodeId) (q : ℕ → ℕ) (s : List Sym) (vs : List Value) (ws : List Word) (before : List Named) → length parts ≤ 5
-      → ((q' : ℕ → ℕ) (xs : List Named) → ShowsNames parts xs → Reads s (lang.right (sides.Concat (before ++ xs)) ∷ vs) (placed q' ws))
-      → Reads (N (NAMES 5) ∷ lang.mark marks.CloseBrace ∷ Action make_concat ∷ s) (lang.names before ∷ vs) (placed q (more_words parts ws))
-  names_read_5 [] q s vs ws before h d = goes 3 (subst (λ (xs : List Named). Reads s (lang.right (sides.Concat xs) ∷ vs) (placed (shift 1 q) ws)) (append-nil before) (d (shift 1 q) [] no_name))
-  names_read_5 (a ∷ parts) q s vs ws before h d =
-      let x = named_at (wire a) (q 1) in
-      goes 4 (names_read_4 parts (shift 2 q) s vs ws (before ++ x ∷ []) (omega arith)
-      (λ q' xs shows. subst (λ (zs : List Named). Reads s (lang.right (sides.Concat zs) ∷ vs) (placed q' ws)) (sym (append_assoc before (x ∷ []) xs)) (d q' (x ∷ xs) (a_name (q 1) shows))))
-
-  names_read_6 : (parts : List NodeId) (q : ℕ → ℕ) (s : List Sym) (vs : List Value) (ws : List Word) (before : List Named) → length parts ≤ 6
-      → ((q' : ℕ → ℕ) (xs : List Named) → ShowsNames parts xs → Reads s (lang.right (sides.Concat (before ++ xs)) ∷ vs) (placed q' ws))
-      → Reads (N (NAMES 6) ∷ lang.mark marks.CloseBrace ∷ Action make_concat ∷ s) (lang.names before ∷ vs) (placed q (more_words parts ws))
-  names_read_6 [] q s vs ws before h d = goes 3 (subst (λ (xs : List Named). Reads s (lang.right (sides.Concat xs) ∷ vs) (placed (shift 1 q) ws)) (append-nil before) (d (shift 1 q) [] no_name))
-  names_read_6 (a ∷ parts) q s vs ws before h d =
-      let x = named_at (wire a) (q 1) in
-      goes 4 (names_read_5 parts (shift 2 q) s vs ws (before ++ x ∷ []) (omega arith)
-      (λ q' xs shows. subst (λ (zs : List Named). Reads s (lang.right (sides.Concat zs) ∷ vs) (placed q' ws)) (sym (append_assoc before (x ∷ []) xs)) (d q' (x ∷ xs) (a_name (q 1) shows))))
-
-  names_read_7 : (parts : List NodeId) (q : ℕ → ℕ) (s : List Sym) (vs : List Value) (ws : List Word) (before : List Named) → length parts ≤ 7
-      → ((q' : ℕ → ℕ) (xs : List Named) → ShowsNames parts xs → Reads s (lang.right (sides.Concat (before ++ xs)) ∷ vs) (placed q' ws))
-      → Reads (N (NAMES 7) ∷ lang.mark marks.CloseBrace ∷ Action make_concat ∷ s) (lang.names before ∷ vs) (placed q (more_words parts ws))
-  names_read_7 [] q s vs ws before h d = goes 3 (subst (λ (xs : List Named). Reads s (lang.right (sides.Concat xs) ∷ vs) (placed (shift 1 q) ws)) (append-nil before) (d (shift 1 q) [] no_name))
-  names_read_7 (a ∷ parts) q s vs ws before h d =
-      let x = named_at (wire a) (q 1) in
-      goes 4 (names_read_6 parts (shift 2 q) s vs ws (before ++ x ∷ []) (omega arith)
-      (λ q' xs shows. subst (λ (zs : List Named). Reads s (lang.right (sides.Concat zs) ∷ vs) (placed q' ws)) (sym (append_assoc before (x ∷ []) xs)) (d q' (x ∷ xs) (a_name (q 1) shows))))
-
-  names_read_8 : (parts : List NodeId) (q : ℕ → ℕ) (s : List Sym) (vs : List Value) (ws : List Word) (before : List Named) → length parts ≤ 8
-      → ((q' : ℕ → ℕ) (xs : List Named) → ShowsNames parts xs → Reads s (lang.right (sides.Concat (before ++ xs)) ∷ vs) (placed q' ws))
-      → Reads (N (NAMES 8) ∷ lang.mark marks.CloseBrace ∷ Action make_concat ∷ s) (lang.names before ∷ vs) (placed q (more_words parts ws))
-  names_read_8 [] q s vs ws before h d = goes 3 (subst (λ (xs : List Named). Reads s (lang.right (sides.Concat xs) ∷ vs) (placed (shift 1 q) ws)) (append-nil before) (d (shift 1 q) [] no_name))
-  names_read_8 (a ∷ parts) q s vs ws before h d =
-      let x = named_at (wire a) (q 1) in
-      goes 4 (names_read_7 parts (shift 2 q) s vs ws (before ++ x ∷ []) (omega arith)
-      (λ q' xs shows. subst (λ (zs : List Named). Reads s (lang.right (sides.Concat zs) ∷ vs) (placed q' ws)) (sym (append_assoc before (x ∷ []) xs)) (d q' (x ∷ xs) (a_name (q 1) shows))))
-
-  names_read_9 : (parts : List NodeId) (q : ℕ → ℕ) (s : List Sym) (vs : List Value) (ws : List Word) (before : List Named) → length parts ≤ 9
-      → ((q' : ℕ → ℕ) (xs : List Named) → ShowsNames parts xs → Reads s (lang.right (sides.Concat (before ++ xs)) ∷ vs) (placed q' ws))
-      → Reads (N (NAMES 9) ∷ lang.mark marks.CloseBrace ∷ Action make_concat ∷ s) (lang.names before ∷ vs) (placed q (more_words parts ws))
-  names_read_9 [] q s vs ws before h d = goes 3 (subst (λ (xs : List Named). Reads s (lang.right (sides.Concat xs) ∷ vs) (placed (shift 1 q) ws)) (append-nil before) (d (shift 1 q) [] no_name))
-  names_read_9 (a ∷ parts) q s vs ws before h d =
-      let x = named_at (wire a) (q 1) in
-      goes 4 (names_read_8 parts (shift 2 q) s vs ws (before ++ x ∷ []) (omega arith)
-      (λ q' xs shows. subst (λ (zs : List Named). Reads s (lang.right (sides.Concat zs) ∷ vs) (placed q' ws)) (sym (append_assoc before (x ∷ []) xs)) (d q' (x ∷ xs) (a_name (q 1) shows))))
-
-  names_read_10 : (parts : List NodeId) (q : ℕ → ℕ) (s : List Sym) (vs : List Value) (ws : List Word) (before : List Named) → length parts ≤ 10
-      → ((q' : ℕ → ℕ) (xs : List Named) → ShowsNames parts xs → Reads s (lang.right (sides.Concat (before ++ xs)) ∷ vs) (placed q' ws))
-      → Reads (N (NAMES 10) ∷ lang.mark marks.CloseBrace ∷ Action make_concat ∷ s) (lang.names before ∷ vs) (placed q (more_words parts ws))
-  names_read_10 [] q s vs ws before h d = goes 3 (subst (λ (xs : List Named). Reads s (lang.right (sides.Concat xs) ∷ vs) (placed (shift 1 q) ws)) (append-nil before) (d (shift 1 q) [] no_name))
-  names_read_10 (a ∷ parts) q s vs ws before h d =
-      let x = named_at (wire a) (q 1) in
-      goes 4 (names_read_9 parts (shift 2 q) s vs ws (before ++ x ∷ []) (omega arith)
-      (λ q' xs shows. subst (λ (zs : List Named). Reads s (lang.right (sides.Concat zs) ∷ vs) (placed q' ws)) (sym (append_assoc before (x ∷ []) xs)) (d q' (x ∷ xs) (a_name (q 1) shows))))
+  names_read : NamesRead 10
+  names_read =
+      one_more 9 (λ q s vs ws b d. goes 3 d) (λ a q s vs ws b d. goes 4 d)
+      (one_more 8 (λ q s vs ws b d. goes 3 d) (λ a q s vs ws b d. goes 4 d)
+      (one_more 7 (λ q s vs ws b d. goes 3 d) (λ a q s vs ws b d. goes 4 d)
+      (one_more 6 (λ q s vs ws b d. goes 3 d) (λ a q s vs ws b d. goes 4 d)
+      (one_more 5 (λ q s vs ws b d. goes 3 d) (λ a q s vs ws b d. goes 4 d)
+      (one_more 4 (λ q s vs ws b d. goes 3 d) (λ a q s vs ws b d. goes 4 d)
+      (one_more 3 (λ q s vs ws b d. goes 3 d) (λ a q s vs ws b d. goes 4 d)
+      (one_more 2 (λ q s vs ws b d. goes 3 d) (λ a q s vs ws b d. goes 4 d)
+      (one_more 1 (λ q s vs ws b d. goes 3 d) (λ a q s vs ws b d. goes 4 d)
+      (one_more 0 (λ q s vs ws b d. goes 3 d) (λ a q s vs ws b d. goes 4 d)
+      (no_names (λ q s vs ws b d. goes 3 d)))))))))))
 
   concat_reads : (parts : List NodeId) (q : ℕ → ℕ) (s : List Sym) (vs : List Value) (ws : List Word) → 2 ≤ length parts → length parts ≤ 12
       → ((q' : ℕ → ℕ) (xs : List Named) → ShowsNames parts xs → Reads s (lang.right (sides.Concat xs) ∷ vs) (placed q' (mark marks.Semicolon ∷ ws)))
       → Reads (N RIGHT ∷ s) vs (placed q (joined_words parts (mark marks.Semicolon ∷ ws)))
-  concat_reads [] q s vs ws low high d = absurd (omega arith)
-  concat_reads (a ∷ []) q s vs ws low high d = absurd (omega arith)
   concat_reads (a ∷ b ∷ parts) q s vs ws low high d =
       let x = named_at (wire a) (q 1) in let y = named_at (wire b) (q 3) in
-      goes 6 (names_read_10 parts (shift 4 q) s vs (mark marks.Semicolon ∷ ws) (x ∷ y ∷ []) (omega arith) (λ q' xs shows. d q' (x ∷ y ∷ xs) (a_name (q 1) (a_name (q 3) shows))))
+      goes 6 (names_read parts (shift 4 q) s vs (mark marks.Semicolon ∷ ws) (x ∷ y ∷ []) (omega arith) (λ q' xs shows. d q' (x ∷ y ∷ xs) (a_name (q 1) (a_name (q 3) shows))))
+  concat_reads x q s vs ws low high d = absurd (omega arith)
 
   abbrev Continues : (Right → Type 0) → List Sym → List Value → List Word → Type 0
   Continues Q s vs ws = (q' : ℕ → ℕ) (r : Right) → Q r → Reads s (lang.right r ∷ vs) (placed q' (mark marks.Semicolon ∷ ws))
@@ -307,15 +256,7 @@ module _ (P : VModule → Type 0) where
   binary_reads : (p : Parts) (k : ℕ) (op : BinOp) (a b : NodeId) (q : ℕ → ℕ) (s : List Sym) (vs : List Value) (ws : List Word) → Continues (ShowsRight p k (kinds.Binary op a b)) s vs ws
       → Reads (N RIGHT ∷ s) vs (placed q (name (wire a) ∷ mark (sign_mark op) ∷ name (wire b) ∷ mark marks.Semicolon ∷ ws))
   binary_reads p k BinOp.And a b q s vs ws d = goes 6 (d (shift 3 q) _ (a_binary (q 0) (q 2)))
-  binary_reads p k BinOp.Or a b q s vs ws d = goes 6 (d (shift 3 q) _ (a_binary (q 0) (q 2)))
-  binary_reads p k BinOp.Xor a b q s vs ws d = goes 6 (d (shift 3 q) _ (a_binary (q 0) (q 2)))
-  binary_reads p k BinOp.Add a b q s vs ws d = goes 6 (d (shift 3 q) _ (a_binary (q 0) (q 2)))
-  binary_reads p k BinOp.Sub a b q s vs ws d = goes 6 (d (shift 3 q) _ (a_binary (q 0) (q 2)))
-  binary_reads p k BinOp.Mul a b q s vs ws d = goes 6 (d (shift 3 q) _ (a_binary (q 0) (q 2)))
-  binary_reads p k BinOp.Eq a b q s vs ws d = goes 6 (d (shift 3 q) _ (a_binary (q 0) (q 2)))
-  binary_reads p k BinOp.Lt a b q s vs ws d = goes 6 (d (shift 3 q) _ (a_binary (q 0) (q 2)))
-  binary_reads p k BinOp.Shl a b q s vs ws d = goes 6 (d (shift 3 q) _ (a_binary (q 0) (q 2)))
-  binary_reads p k BinOp.Shr a b q s vs ws d = goes 6 (d (shift 3 q) _ (a_binary (q 0) (q 2)))
+  binary_reads p k x a b q s vs ws d = goes 6 (d (shift 3 q) _ (a_binary (q 0) (q 2)))
 
   right_reads : (p : Parts) (k : ℕ) (kind : Kind) (q : ℕ → ℕ) (s : List Sym) (vs : List Value) (ws : List Word) → Sizes kind → Continues (ShowsRight p k kind) s vs ws
       → Reads (N RIGHT ∷ s) vs (placed q (right_words p k kind (mark marks.Semicolon ∷ ws)))

@@ -1,8 +1,8 @@
 -- A module that represents a netlist violates no rule of widths.
-use Rattle.std.proofs.Common.{◌≡◌, ◌∙◌, ℕ, zero, suc, ◌+◌, ◌-◌, ◌^◌, ◌≤◌, ◌<◌, List, [], ◌∷◌, ◌++◌, length, get_or, map, Bool, true, false, Option, Some, None, refl, sym, ap, subst, arith, eq-eqb}
-use Rattle.std.proofs.lemmas.Bool.{eqb-true, false≢true, agree_below_at}
+use Rattle.std.proofs.Common.{◌≡◌, ◌∙◌, ℕ, zero, suc, ◌+◌, ◌-◌, ◌^◌, ◌≤◌, ◌<◌, List, [], ◌∷◌, ◌++◌, length, get_or, map, Bool, true, Option, Some, None, refl, sym, ap, subst, arith, eq-eqb}
+use Rattle.std.proofs.lemmas.Bool.{eqb-true, agree_below_at, cond-true, and_from, false_from_ne_true, le-leb, lt-ltb}
 use Rattle.std.proofs.lemmas.List.Elements.{All-nil, All-cons, All-head, All-tail}
-use Rattle.std.proofs.{Math.Nat.pow-le-pow_right, lemmas.List.Sums.sum_by-cons, lemmas.Bool.Decides.nat_tests}
+use Rattle.std.proofs.{Math.Nat.pow-le-pow_right, lemmas.List.Sums.sum_by-cons}
 use Rattle.std.specs.{Prelude.codes, Prelude.All, Prelude.◌==◌, Prelude.◌||◌, Prelude.nat_lt, Prelude.nat_le, Option.is_some, List.sum_by}
 use Rattle.kp_bits.specs.{Word.word, Word.IsWord, declared.operator.BinOp.BinOp}
 use Rattle.kp_bits.specs.Word as bits
@@ -16,11 +16,12 @@ use Rattle.kp_vlog.specs.{declared.tree.VModule.VModule, Canon.wire, Canon.wire_
 use Rattle.kp_vlog.specs.Scope.{Scope, scope_of, Sized, Sizes, sizes_of, item_sizes, port_size, width_in, address_in, place_of, address_width}
 use Rattle.kp_vwrite_roundtrip.proofs.Sentence.{IsShown, named_at, number_at, range_at, fill_at, ShowsNames, no_name, a_name, ShowsRight, a_const, an_ext, a_sample, a_reg, a_word, a_not, a_binary, a_mux, a_concat, a_slice, ShowsSamples, no_sample, one_sample, ShowsRegs, no_reg_line, reg_line, ShowsFiles, no_file_line, file_line, ShowsInteger, no_integer, an_integer, ShowsNodes, no_node_line, node_line, ShowsStarts, no_start, a_start, ShowsWords, no_words, zero_word, some_word, ShowsFills, no_fill, a_fill, ShowsUpdates, no_update, an_update, ShowsWrites, no_write, not_written, a_write, ShowsReset, no_reset_shown, reset_shown, ShowsValues, no_value, a_value}
 use Rattle.kp_vwrite_roundtrip.proofs.Written.{RightFrom, all_right}
-use Rattle.kp_vwrite_roundtrip.proofs.Distinct.{not_true, when_true, both, same_refl, apart, tag_reg, tag_sample, apart_all, place_at}
+use Rattle.kp_vwrite_roundtrip.proofs.Distinct.{apart, tag_reg, tag_sample, apart_all, place_at, or_rest}
 use Rattle.kp_vwrite_roundtrip.proofs.Denoted.{outs, spelled, widths_are, file_sizes, scoped, table_is, ports_past, kinds_of}
-use Rattle.kp_vwrite_roundtrip.proofs.{Runs.literal_for, NamesHold.whole}
+use Rattle.kp_vwrite_roundtrip.proofs.{Runs.literal_for, NamesHold.whole, NamesHold.whole_is}
 use Rattle.kp_vwrite_roundtrip.proofs.SameNet.{found, width_found, address_found, found_past, found_here, sized, WidthsAre, samples_past}
 use Rattle.kp_base.specs.First.{first}
+use Rattle.kp_vlog.proofs.Tests.{same_refl}
 
 -- no check yields an offset
 abbrev Clean : List (Option ℕ) → Type 0
@@ -37,25 +38,19 @@ clean_append [] ys h k = k
 clean_append (a ∷ xs) ys h k = (h.0, clean_append xs ys h.1 k)
 
 wanted : (holds : Bool) (at : ℕ) → holds ≡ true → want holds at ≡ None
-wanted holds at e = when_true holds None (Some at) e
-
-le_true : (a b : ℕ) → a ≤ b → nat_le a b ≡ true
-le_true a b h = grind (arith, nat_tests)
-
-lt_true : (a b : ℕ) → a < b → nat_lt a b ≡ true
-lt_true a b h = grind (arith, nat_tests)
+wanted holds at e = cond-true holds None (Some at) e
 
 range_ok : (w a b : ℕ) → w ≤ 64 → range_fits (range_at w a b) ≡ true
-range_ok w a b h = le_true (w - 1) 63 (omega arith)
+range_ok w a b h = le-leb (w - 1) 63 (omega arith)
 
 stall_ok : (w a b : ℕ) → 2 ≤ w → w ≤ 12 → stall_fits (range_at w a b) ≡ true
-stall_ok w a b low high = both (nat_le 1 (w - 1)) (nat_le (w - 1) 11) (le_true 1 (w - 1) (omega arith)) (le_true (w - 1) 11 (omega arith))
+stall_ok w a b low high = and_from (nat_le 1 (w - 1)) (nat_le (w - 1) 11) (le-leb 1 (w - 1) (omega arith)) (le-leb (w - 1) 11 (omega arith))
 
 four_ok : (w a b : ℕ) → w ≡ 4 → four_bits (range_at w a b) ≡ true
 four_ok w a b e = eq-eqb (w - 1) 3 (omega arith)
 
 literal_ok : (a : bits.Word) → IsWord a → literal_fits (literal_for a) ≡ true
-literal_ok a h = both (nat_le 1 a.width) _ (le_true 1 a.width h.positive) (both (nat_le a.width 64) (nat_lt a.value (2 ^ a.width)) (le_true a.width 64 h.at_most) (lt_true a.value (2 ^ a.width) h.fits))
+literal_ok a h = and_from (nat_le 1 a.width) _ (le-leb 1 a.width h.positive) (and_from (nat_le a.width 64) (nat_lt a.value (2 ^ a.width)) (le-leb a.width 64 h.at_most) (lt-ltb a.value (2 ^ a.width) h.fits))
 
 -- Widths by names.
 
@@ -134,9 +129,6 @@ all_wide net m s k named =
 
 -- Right sides.
 
-equal : (a b : ℕ) → a ≡ b → (a == b) ≡ true
-equal a b e = eq-eqb a b e
-
 wire_wide : (net : Net) (s : Scope) (m : ℕ) (a : NodeId) → Wide net s → m ≤ length net.nodes → a.0 < m → width_in s.sizes (wire a) ≡ wide net.nodes a.0
 wire_wide net s m a w le h = w.wires a.0 (omega arith)
 
@@ -150,35 +142,30 @@ names_length _ _ no_name = refl
 names_length _ _ (a_name {parts = parts} {xs = xs} at sh) = ap suc (names_length parts xs sh)
 
 op_ok : (op : BinOp) (k a b x y : ℕ) → BinaryOk op k a b → x ≡ a → y ≡ b → op_fits op k x y ≡ true
-op_ok BinOp.And k a b x y h e f = both (x == k) (y == k) (equal x k (e ∙ h.0)) (equal y k (f ∙ h.1))
-op_ok BinOp.Or k a b x y h e f = both (x == k) (y == k) (equal x k (e ∙ h.0)) (equal y k (f ∙ h.1))
-op_ok BinOp.Xor k a b x y h e f = both (x == k) (y == k) (equal x k (e ∙ h.0)) (equal y k (f ∙ h.1))
-op_ok BinOp.Add k a b x y h e f = both (x == k) (y == k) (equal x k (e ∙ h.0)) (equal y k (f ∙ h.1))
-op_ok BinOp.Sub k a b x y h e f = both (x == k) (y == k) (equal x k (e ∙ h.0)) (equal y k (f ∙ h.1))
-op_ok BinOp.Mul k a b x y h e f = both (x == k) (y == k) (equal x k (e ∙ h.0)) (equal y k (f ∙ h.1))
-op_ok BinOp.Eq k a b x y h e f = both (k == 1) (x == y) (equal k 1 h.0) (equal x y (e ∙ h.1 ∙ sym f))
-op_ok BinOp.Lt k a b x y h e f = both (k == 1) (x == y) (equal k 1 h.0) (equal x y (e ∙ h.1 ∙ sym f))
-op_ok BinOp.Shl k a b x y h e f = equal x k (e ∙ h)
-op_ok BinOp.Shr k a b x y h e f = equal x k (e ∙ h)
+op_ok BinOp.Eq k a b x y h e f = and_from (k == 1) (x == y) (eq-eqb k 1 h.0) (eq-eqb x y (e ∙ h.1 ∙ sym f))
+op_ok BinOp.Lt k a b x y h e f = and_from (k == 1) (x == y) (eq-eqb k 1 h.0) (eq-eqb x y (e ∙ h.1 ∙ sym f))
+op_ok BinOp.Shl k a b x y h e f = eq-eqb x k (e ∙ h)
+op_ok BinOp.Shr k a b x y h e f = eq-eqb x k (e ∙ h)
+op_ok z k a b x y h e f = and_from (x == k) (y == k) (eq-eqb x k (e ∙ h.0)) (eq-eqb y k (f ∙ h.1))
 
 right_wide : (net : Net) (s : Scope) (m k : ℕ) (kind : Kind) (r : Right) → Wide net s → m ≤ length net.nodes → 1 ≤ k → k ≤ 64 → ShowsRight net.parts k kind r → KindOk net.nodes m k kind → CellOk net.nodes net.parts k kind
     → (right_fits s.sizes k r ≡ true) × Clean (right_answers r)
-right_wide net s m k _ _ w le low high (a_const {v = v} a) ok cell = (equal k k refl, (wanted _ a (literal_ok (word k v) (record { positive = low; at_most = high; fits = ok })), tt))
-right_wide net s m k _ _ w le low high (an_ext a) ok cell = (equal _ k (w.ext ∙ sym cell), tt)
-right_wide net s m k _ _ w le low high (a_sample {i = i} a) ok cell = (equal _ k (w.samples i no_port cell.0 ∙ cell.1), tt)
-right_wide net s m k _ _ w le low high (a_reg {i = i} a) ok cell = (equal _ k (w.regs i no_reg cell.0 ∙ cell.1), tt)
+right_wide net s m k _ _ w le low high (a_const {v = v} a) ok cell = (eq-eqb k k refl, (wanted _ a (literal_ok (word k v) (record { positive = low; at_most = high; fits = ok })), tt))
+right_wide net s m k _ _ w le low high (an_ext a) ok cell = (eq-eqb _ k (w.ext ∙ sym cell), tt)
+right_wide net s m k _ _ w le low high (a_sample {i = i} a) ok cell = (eq-eqb _ k (w.samples i no_port cell.0 ∙ cell.1), tt)
+right_wide net s m k _ _ w le low high (a_reg {i = i} a) ok cell = (eq-eqb _ k (w.regs i no_reg cell.0 ∙ cell.1), tt)
 right_wide net s m k _ _ w le low high (a_word {i = i} {n = n} a b) ok cell =
-    (both _ _ (equal _ k (w.files i no_file cell.0 ∙ cell.1)) (equal _ _ (wire_wide net s m n w le ok ∙ cell.2 ∙ sym (w.addresses i no_file cell.0))), tt)
-right_wide net s m k _ _ w le low high (a_not {n = n} a) ok cell = (equal _ k (wire_wide net s m n w le ok.0 ∙ ok.1), tt)
+    (and_from _ _ (eq-eqb _ k (w.files i no_file cell.0 ∙ cell.1)) (eq-eqb _ _ (wire_wide net s m n w le ok ∙ cell.2 ∙ sym (w.addresses i no_file cell.0))), tt)
+right_wide net s m k _ _ w le low high (a_not {n = n} a) ok cell = (eq-eqb _ k (wire_wide net s m n w le ok.0 ∙ ok.1), tt)
 right_wide net s m k _ _ w le low high (a_binary {op = op} {n = n} {m = o} a b) ok cell =
     (op_ok op k (wide net.nodes n.0) (wide net.nodes o.0) _ _ ok.2 (wire_wide net s m n w le ok.0) (wire_wide net s m o w le ok.1), tt)
 right_wide net s m k _ _ w le low high (a_mux {t = t} {n = n} {m = o} a b c) ok cell =
-    (both _ _ (equal _ 1 (wire_wide net s m t w le ok.0 ∙ ok.3)) (both _ _ (equal _ k (wire_wide net s m n w le ok.1 ∙ ok.4)) (equal _ k (wire_wide net s m o w le ok.2 ∙ ok.5))), tt)
+    (and_from _ _ (eq-eqb _ 1 (wire_wide net s m t w le ok.0 ∙ ok.3)) (and_from _ _ (eq-eqb _ k (wire_wide net s m n w le ok.1 ∙ ok.4)) (eq-eqb _ k (wire_wide net s m o w le ok.2 ∙ ok.5))), tt)
 right_wide net s m k _ _ w le low high (a_concat {parts = parts} {xs = xs} sh) ok cell =
     let n = names_length parts xs sh in let few = ok.0 in let many = ok.1 in
-    (both _ _ (le_true 2 (length xs) (omega arith)) (both _ _ (le_true (length xs) 12 (omega arith)) (equal _ k (sum_is net s m parts xs w le sh ok.2 ∙ ok.3))), tt)
+    (and_from _ _ (le-leb 2 (length xs) (omega arith)) (and_from _ _ (le-leb (length xs) 12 (omega arith)) (eq-eqb _ k (sum_is net s m parts xs w le sh ok.2 ∙ ok.3))), tt)
 right_wide net s m k _ _ w le low high (a_slice {n = n} {hi = hi} {lo = lo} a b c) ok cell =
-    (both _ _ (le_true lo hi ok.1) (both _ _ (lt_true hi _ (subst (λ x. hi < x) (sym (wire_wide net s m n w le ok.0)) ok.2)) (equal (hi + 1) (k + lo) ok.3)), tt)
+    (and_from _ _ (le-leb lo hi ok.1) (and_from _ _ (lt-ltb hi _ (subst (λ x. hi < x) (sym (wire_wide net s m n w le ok.0)) ok.2)) (eq-eqb (hi + 1) (k + lo) ok.3)), tt)
 
 -- Items.
 
@@ -189,17 +176,13 @@ regs_clean ns s _ _ ys (reg_line {r = r} {rs = rs} {xs = xs} a b c sh) k h =
     (wanted _ c (range_ok r.start.width a b start.at_most), regs_clean ns s rs xs ys sh (All-tail (RegOk ns) r rs k) h)
 
 words_ok : (a d e : ℕ) → 1 ≤ a → a ≤ 16 → words_fit (record { high = number_at 0 d; low = number_at (2 ^ a - 1) e }) ≡ true
-words_ok a d e low high = second (a == 0) _ (agree_below_at (λ k. (k == 0) || is_some (address_width (2 ^ k - 1))) (λ _. true) 17 a refl (omega arith)) (not_true (a == 0) (λ t. let z : a ≡ 0 = eqb-true a 0 t in omega arith))
-  where
-    second : (p q : Bool) → (p || q) ≡ true → p ≡ false → q ≡ true
-    second true q h e = absurd (false≢true (sym e))
-    second false q h e = h
+words_ok a d e low high = or_rest (a == 0) _ (agree_below_at (λ k. (k == 0) || is_some (address_width (2 ^ k - 1))) (λ _. true) 17 a refl (omega arith)) (false_from_ne_true (a == 0) (λ t. let z : a ≡ 0 = eqb-true a 0 t in omega arith))
 
 files_clean : (ns : List Node) (s : Scope) (fs : List NetFile) (xs ys : List Item) → ShowsFiles fs xs → All (FileOk ns) fs → All (λ f. file_fits s f.name ≡ true) fs → Clean (items_answers s ys) → Clean (items_answers s (xs ++ ys))
 files_clean ns s _ _ ys no_file_line k few h = h
 files_clean ns s _ _ ys (file_line {f = f} {fs = fs} {xs = xs} a b c d e sh) k few h =
     let file = All-head (FileOk ns) f fs k in (
-      wanted _ c (both _ _ (range_ok f.width a b file.at_most) (both _ _ (words_ok f.address_width d e file.addressed file.addressed_at_most) (All-head (λ f. file_fits s f.name ≡ true) f fs few))),
+      wanted _ c (and_from _ _ (range_ok f.width a b file.at_most) (and_from _ _ (words_ok f.address_width d e file.addressed file.addressed_at_most) (All-head (λ f. file_fits s f.name ≡ true) f fs few))),
       files_clean ns s fs xs ys sh (All-tail (FileOk ns) f fs k) (All-tail (λ f. file_fits s f.name ≡ true) f fs few) h,
     )
 
@@ -222,7 +205,7 @@ nodes_clean net s j _ _ ys w sizes (node_line {n = n} {ns = ns} {r = r} {xs = xs
 -- Start values.
 
 start_clean : (s : Scope) (n : List ℕ) (a b : ℕ) (v : bits.Word) (holds : Bool) → width_in s.sizes n ≡ v.width → IsWord v → holds ≡ true → Clean (start_answers s (named_at n a) (record { literal = literal_for v; at = b }) holds)
-start_clean s n a b v holds e ok h = (wanted _ a (both (v.width == width_in s.sizes n) holds (equal v.width _ (sym e)) h), (wanted _ b (literal_ok v ok), tt))
+start_clean s n a b v holds e ok h = (wanted _ a (and_from (v.width == width_in s.sizes n) holds (eq-eqb v.width _ (sym e)) h), (wanted _ b (literal_ok v ok), tt))
 
 starts_clean : (ns : List Node) (s : Scope) (rs : List NetReg) (xs ys : List Init) → ShowsStarts rs xs → All (RegOk ns) rs → All (λ r. width_in s.sizes r.name ≡ r.start.width) rs → Clean (inits_answers s ys) → Clean (inits_answers s (xs ++ ys))
 starts_clean ns s _ _ ys no_start k w h = h
@@ -237,7 +220,7 @@ words_clean s n w a i _ _ ys (zero_word {v = v} {vs = vs} {xs = xs} z sh) e f lo
     words_clean s n w a (i + 1) vs xs ys sh e f low high (All-tail (λ v. v < 2 ^ w) v vs fit) (omega arith) h
 words_clean s n w a i _ _ ys (some_word {v = v} {vs = vs} {xs = xs} x y z t sh) e f low high fit few h =
     let ok = All-head (λ v. v < 2 ^ w) v vs fit in
-    let c = start_clean s n x z (word w v) (nat_lt i (2 ^ address_in s.sizes n)) e (record { positive = low; at_most = high; fits = ok }) (ap (λ q. nat_lt i (2 ^ q)) f ∙ lt_true i (2 ^ a) (omega arith)) in
+    let c = start_clean s n x z (word w v) (nat_lt i (2 ^ address_in s.sizes n)) e (record { positive = low; at_most = high; fits = ok }) (ap (λ q. nat_lt i (2 ^ q)) f ∙ lt-ltb i (2 ^ a) (omega arith)) in
     (c.0, (c.1.0, words_clean s n w a (i + 1) vs xs ys sh e f low high (All-tail (λ v. v < 2 ^ w) v vs fit) (omega arith) h))
 
 fills_clean : (ns : List Node) (s : Scope) (fs : List NetFile) (xs : List Init) → ShowsFills fs xs → All (FileOk ns) fs → All (λ f. width_in s.sizes f.name ≡ f.width) fs → All (λ f. address_in s.sizes f.name ≡ f.address_width) fs → Clean (inits_answers s xs)
@@ -249,7 +232,7 @@ fills_clean ns s _ _ (a_fill {f = f} {fs = fs} {xs = xs} {ys = ys} p sh next) k 
     let full = file.full in
     let positive : 2 ^ 0 ≤ 2 ^ f.width = pow-le-pow_right {n = 2} (omega arith) {i = 0} {j = f.width} (omega arith) in
     let c = start_clean s f.name (p 16) (p 21) (word f.width 0) (loop_fits s (fill_at f p)) width (record { positive = file.positive; at_most = file.at_most; fits = omega arith })
-    (equal (2 ^ f.address_width) (2 ^ address_in s.sizes f.name) (ap (λ q. 2 ^ q) (sym address))) in (
+    (eq-eqb (2 ^ f.address_width) (2 ^ address_in s.sizes f.name) (ap (λ q. 2 ^ q) (sym address))) in (
       c.0,
       (
         c.1.0,
@@ -272,7 +255,7 @@ updates_clean : (net : Net) (s : Scope) (rs : List NetReg) (xs ys : List Update)
 updates_clean net s _ _ ys wd no_update k w h = h
 updates_clean net s _ _ ys wd (an_update {r = r} {rs = rs} {xs = xs} a b sh) k w h =
     let next = (All-head (RegOk net.nodes) r rs k).next in (
-      wanted _ a (equal _ _ (wd.wires r.next.0 next.0 ∙ next.1 ∙ sym (All-head (λ r. width_in s.sizes r.name ≡ r.start.width) r rs w))),
+      wanted _ a (eq-eqb _ _ (wd.wires r.next.0 next.0 ∙ next.1 ∙ sym (All-head (λ r. width_in s.sizes r.name ≡ r.start.width) r rs w))),
       updates_clean net s rs xs ys wd sh (All-tail (RegOk net.nodes) r rs k) (All-tail (λ r. width_in s.sizes r.name ≡ r.start.width) r rs w) h,
     )
 
@@ -282,9 +265,9 @@ writes_clean net s _ _ wd (not_written {f = f} {fs = fs} {xs = xs} z sh) k w a =
     writes_clean net s fs xs wd sh (All-tail (FileOk net.nodes) f fs k) (All-tail (λ f. width_in s.sizes f.name ≡ f.width) f fs w) (All-tail (λ f. address_in s.sizes f.name ≡ f.address_width) f fs a)
 writes_clean net s _ _ wd (a_write {f = f} {fs = fs} {xs = xs} port p z sh) k w a =
     let ok = subst (WriteOk net.nodes f.width f.address_width) z (All-head (FileOk net.nodes) f fs k).port in (
-      wanted _ (p 4) (both _ _ (equal _ 1 (wd.wires port.enable.0 ok.0.0 ∙ ok.0.1))
-          (both _ _ (equal _ _ (wd.wires port.address.0 ok.1.0 ∙ ok.1.1 ∙ sym (All-head (λ f. address_in s.sizes f.name ≡ f.address_width) f fs a)))
-          (equal _ _ (wd.wires port.value.0 ok.2.0 ∙ ok.2.1 ∙ sym (All-head (λ f. width_in s.sizes f.name ≡ f.width) f fs w))))),
+      wanted _ (p 4) (and_from _ _ (eq-eqb _ 1 (wd.wires port.enable.0 ok.0.0 ∙ ok.0.1))
+          (and_from _ _ (eq-eqb _ _ (wd.wires port.address.0 ok.1.0 ∙ ok.1.1 ∙ sym (All-head (λ f. address_in s.sizes f.name ≡ f.address_width) f fs a)))
+          (eq-eqb _ _ (wd.wires port.value.0 ok.2.0 ∙ ok.2.1 ∙ sym (All-head (λ f. width_in s.sizes f.name ≡ f.width) f fs w))))),
       writes_clean net s fs xs wd sh (All-tail (FileOk net.nodes) f fs k) (All-tail (λ f. width_in s.sizes f.name ≡ f.width) f fs w) (All-tail (λ f. address_in s.sizes f.name ≡ f.address_width) f fs a),
     )
 
@@ -292,57 +275,22 @@ ports_clean : (ss : List Port) (xs : List VPort) → ShowsSamples ss xs → All 
 ports_clean _ _ no_sample k = tt
 ports_clean _ _ (one_sample {s = s} {ss = ss} {xs = xs} a b c sh) k = (wanted _ c (range_ok s.width a b (All-head PortOk s ss k).at_most), ports_clean ss xs sh (All-tail PortOk s ss k))
 
--- the same module represents the netlist
-whole_shown : (net : Net) (m : VModule) (s : IsShown net m) → IsShown net (whole s)
-whole_shown net m s = record {
-  p = s.p;
-  q = s.q;
-  name = refl;
-  clk = refl;
-  ext = refl;
-  samples = s.samples;
-  full = refl;
-  ue = refl;
-  back = refl;
-  regs = s.regs;
-  files = s.files;
-  integer = s.integer;
-  nodes = s.nodes;
-  shows_regs = s.shows_regs;
-  shows_files = s.shows_files;
-  shows_integer = s.shows_integer;
-  shows_nodes = s.shows_nodes;
-  items = refl;
-  start_part = s.start_part;
-  fill_part = s.fill_part;
-  shows_starts = s.shows_starts;
-  shows_fills = s.shows_fills;
-  inits = refl;
-  clock = refl;
-  reset = s.reset;
-  update_part = s.update_part;
-  write_part = s.write_part;
-  shows_updates = s.shows_updates;
-  shows_writes = s.shows_writes;
-  updates = refl;
-}
-
 -- A module that represents a netlist violates no rule of widths.
 pub widths_hold : (net : Net) (m : VModule) (s : IsShown net m) → NetOk net → IsNamed net → first (width_answers (whole s)) ≡ None
 widths_hold net m s k named =
     let p = net.parts in
     let w = whole s in
     let sc = scope_of w in
-    let shown = whole_shown net m s in
+    let shown = subst (IsShown net) (whole_is m s) s in
     let wd = all_wide net w shown k named in
     let named_scope = scoped net w shown in
     let fw = named.full in let uw = named.ue in let bw = named.back in let low = named.at_least in let high = named.at_most in
     let few = k.parts.file_count in
     let outs_ok : Clean (items_answers sc (outs s)) =
-    (wanted _ (s.q 0) (equal _ _ (wd.wires p.full.0 k.parts.full ∙ sym wd.full)), (wanted _ (s.q 2) (equal _ _ (wd.wires p.ue.0 k.parts.ue ∙ sym wd.ue)), (wanted _ (s.q 4) (equal _ _ (wd.wires p.back.0 k.parts.back ∙ sym wd.back)), tt))) in
+    (wanted _ (s.q 0) (eq-eqb _ _ (wd.wires p.full.0 k.parts.full ∙ sym wd.full)), (wanted _ (s.q 2) (eq-eqb _ _ (wd.wires p.ue.0 k.parts.ue ∙ sym wd.ue)), (wanted _ (s.q 4) (eq-eqb _ _ (wd.wires p.back.0 k.parts.back ∙ sym wd.back)), tt))) in
     let file_few : All (λ f. file_fits sc f.name ≡ true) p.files = λ i d l.
     ap (λ ns. nat_lt (place_of ns (get_or p.files i d).name) 16) named_scope.files
-    ∙ ap (λ x. nat_lt x 16) (place_at (λ f. f.name) p.files i d named.files_differ l) ∙ lt_true i 16 (omega arith) in
+    ∙ ap (λ x. nat_lt x 16) (place_at (λ f. f.name) p.files i d named.files_differ l) ∙ lt-ltb i 16 (omega arith) in
     let items_ok : Clean (items_answers sc w.items) =
     regs_clean net.nodes sc p.regs s.regs (s.files ++ (s.integer ++ (s.nodes ++ outs s))) s.shows_regs k.parts.regs
     (files_clean net.nodes sc p.files s.files (s.integer ++ (s.nodes ++ outs s)) s.shows_files k.parts.files file_few

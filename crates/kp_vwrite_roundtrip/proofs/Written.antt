@@ -50,41 +50,19 @@ colon {text} s = spells_takes (mark marks.Colon) 1 (colon_front text) s
 
 outs_say : (full ue back : ℕ) (ps : Pieces) (ws : List Word) → full ≤ 64 → ue ≤ 64 → back ≤ 64 → Says ps ws → Says (out_ports full ue back ++ ps) (outs_words full ue back ws)
 outs_say full ue back ps ws f u b s =
-    ate 4 (
-      _,
-      refl,
-      bracket (spells_number (full - 1) _ _ (omega arith) refl
-          (ate 11 (
-            _,
-            refl,
-            bracket (spells_number (ue - 1) _ _ (omega arith) refl
-                (ate 11 (
-                  _,
-                  refl,
-                  bracket (spells_number (back - 1) _ _ (omega arith) refl
-                      (ate 8 (_, refl, s))),
-                ))),
-          ))),
-    )
+    ate 4 refl (bracket (spells_number (full - 1) _ _ (omega arith) refl (ate 11 refl (bracket (spells_number (ue - 1) _ _ (omega arith) refl (ate 11 refl
+    (bracket (spells_number (back - 1) _ _ (omega arith) refl (ate 8 refl s)))))))))
 
 samples_say : (ss : List Port) (ps : Pieces) (ws : List Word) → All PortOk ss → All (λ s. IsWritten s.name) ss → Says ps ws → Says (sample_ports ss ++ ps) (sample_words ss ws)
 samples_say [] ps ws ok named s = s
 samples_say (x ∷ ss) ps ws ok named s =
     let port = All-head PortOk x ss ok in let high = port.at_most in
-    ate 4 (
-      _,
-      refl,
-      bracket (spells_number (x.width - 1) _ _ (omega arith) refl
-          (ate 4 (
-            _,
-            refl,
-            spells_name x.name _ _ (All-head (λ s. IsWritten s.name) x ss named) refl
-                (ate 2 (_, refl, samples_say ss ps ws (All-tail PortOk x ss ok) (All-tail (λ s. IsWritten s.name) x ss named) s)),
-          ))),
-    )
+    ate 4 refl (bracket (spells_number (x.width - 1) _ _ (omega arith) refl (ate 4 refl
+    (spells_name x.name _ _ (All-head (λ s. IsWritten s.name) x ss named) refl
+    (ate 2 refl (samples_say ss ps ws (All-tail PortOk x ss ok) (All-tail (λ s. IsWritten s.name) x ss named) s))))))
 
 reset_says : (reset : Bool) (ps : Pieces) (ws : List Word) → Says ps ws → Says (reset_port reset ++ ps) (reset_words reset ws)
-reset_says true ps ws s = ate 7 (_, refl, s)
+reset_says true ps ws s = ate 7 refl s
 reset_says false ps ws s = s
 
 header_says : (ns : List Node) (p : Parts) (ps : Pieces) (ws : List Word) → IsWritten p.name → p.ext ≤ 64 → ((i : ℕ) → wide ns i ≤ 64) → All PortOk p.samples → All (λ s. IsWritten s.name) p.samples
@@ -98,29 +76,17 @@ header_says ns p ps ws named ext short ok names s =
     let says1 : Says (outs ++ ps) v1 = outs_say (wide ns p.full.0) (wide ns p.ue.0) (wide ns p.back.0) ps ws (short p.full.0) (short p.ue.0) (short p.back.0) s in
     let says2 : Says ((sample_ports p.samples ++ outs) ++ ps) v2 =
     subst (λ (qs : Pieces). Says qs v2) (sym (append_assoc (sample_ports p.samples) outs ps)) (samples_say p.samples (outs ++ ps) v1 ok names says1) in
-    let says3 : Says (inputs ++ ps) v3 = ate 4 (_, refl, bracket (spells_number (p.ext - 1) _ _ (omega arith) refl (ate 7 (_, refl, says2)))) in
-    ate 2 (
-      _,
-      refl,
-      spells_name p.name _ _ named refl
-          (ate 8 (_, refl, subst (λ (qs : Pieces). Says qs (reset_words p.reset v3)) (sym (append_assoc (reset_port p.reset) inputs ps)) (reset_says p.reset (inputs ++ ps) v3 says3))),
-    )
+    let says3 : Says (inputs ++ ps) v3 = ate 4 refl (bracket (spells_number (p.ext - 1) _ _ (omega arith) refl (ate 7 refl says2))) in
+    ate 2 refl (spells_name p.name _ _ named refl (ate 8 refl
+    (subst (λ (qs : Pieces). Says qs (reset_words p.reset v3)) (sym (append_assoc (reset_port p.reset) inputs ps)) (reset_says p.reset (inputs ++ ps) v3 says3))))
 
 regs_say : (ns : List Node) (rs : List NetReg) (ps : Pieces) (ws : List Word) → All (RegOk ns) rs → All (λ r. IsWritten r.name) rs → Says ps ws → Says (reg_lines rs ++ ps) (reg_words rs ws)
 regs_say ns [] ps ws ok named s = s
 regs_say ns (r ∷ rs) ps ws ok named s =
     let reg = All-head (RegOk ns) r rs ok in let start = reg.start in let high = start.at_most in
-    ate 4 (
-      _,
-      refl,
-      bracket (spells_number (r.start.width - 1) _ _ (omega arith) refl
-          (ate 4 (
-            _,
-            refl,
-            spells_name r.name _ _ (All-head (λ r. IsWritten r.name) r rs named) refl
-                (ate 2 (_, refl, regs_say ns rs ps ws (All-tail (RegOk ns) r rs ok) (All-tail (λ r. IsWritten r.name) r rs named) s)),
-          ))),
-    )
+    ate 4 refl (bracket (spells_number (r.start.width - 1) _ _ (omega arith) refl (ate 4 refl
+    (spells_name r.name _ _ (All-head (λ r. IsWritten r.name) r rs named) refl
+    (ate 2 refl (regs_say ns rs ps ws (All-tail (RegOk ns) r rs ok) (All-tail (λ r. IsWritten r.name) r rs named) s))))))
 
 -- a file has few words
 few_words : (a : ℕ) → a ≤ 16 → 2 ^ a ≤ 65536
@@ -130,26 +96,14 @@ files_say : (ns : List Node) (fs : List NetFile) (ps : Pieces) (ws : List Word) 
 files_say ns [] ps ws ok named s = s
 files_say ns (f ∷ fs) ps ws ok named s =
     let file = All-head (FileOk ns) f fs ok in let high = file.at_most in let few = few_words f.address_width file.addressed_at_most in
-    ate 4 (
-      _,
-      refl,
-      bracket (spells_number (f.width - 1) _ _ (omega arith) refl
-          (ate 4 (
-            _,
-            refl,
-            spells_name f.name _ _ (All-head (λ f. IsWritten f.name) f fs named) refl
-                (ate 3 (
-                  _,
-                  refl,
-                  colon (spells_number (2 ^ f.address_width - 1) _ _ (omega arith) refl
-                      (ate 3 (_, refl, files_say ns fs ps ws (All-tail (FileOk ns) f fs ok) (All-tail (λ f. IsWritten f.name) f fs named) s))),
-                )),
-          ))),
-    )
+    ate 4 refl (bracket (spells_number (f.width - 1) _ _ (omega arith) refl (ate 4 refl
+    (spells_name f.name _ _ (All-head (λ f. IsWritten f.name) f fs named) refl (ate 3 refl (colon
+    (spells_number (2 ^ f.address_width - 1) _ _ (omega arith) refl
+    (ate 3 refl (files_say ns fs ps ws (All-tail (FileOk ns) f fs ok) (All-tail (λ f. IsWritten f.name) f fs named) s)))))))))
 
 integer_says : (fs : List NetFile) (ps : Pieces) (ws : List Word) → Says ps ws → Says (integer_line fs ++ ps) (integer_words fs ws)
 integer_says [] ps ws s = s
-integer_says (f ∷ fs) ps ws s = ate 7 (_, refl, s)
+integer_says (f ∷ fs) ps ws s = ate 7 refl s
 
 -- the wire of a node that is early enough
 wire_ok : (m : ℕ) (a : NodeId) → m ≤ 16777216 → a.0 < m → IsWritten (wire a)
@@ -157,57 +111,45 @@ wire_ok m a few h = wire_written a.0 (omega arith)
 
 more_say : (m : ℕ) (parts : List NodeId) (ps : Pieces) (ws : List Word) → m ≤ 16777216 → All (λ a. a.0 < m) parts → Says (codes ";\n" ∷ ps) ws
     → Says (more_parts parts ++ (codes ";\n" ∷ ps)) (more_words parts ws)
-more_say m [] ps ws few ok s = ate 1 (_, refl, s)
-more_say m (a ∷ []) ps ws few ok s = ate 2 (_, refl, spells_name (wire a) _ _ (wire_ok m a few (All-head (λ a. a.0 < m) a [] ok)) refl (ate 1 (_, refl, s)))
+more_say m [] ps ws few ok s = ate 1 refl s
+more_say m (a ∷ []) ps ws few ok s = ate 2 refl (spells_name (wire a) _ _ (wire_ok m a few (All-head (λ a. a.0 < m) a [] ok)) refl (ate 1 refl s))
 more_say m (a ∷ b ∷ parts) ps ws few ok s =
-    ate 2 (_, refl, spells_name (wire a) _ _ (wire_ok m a few (All-head (λ a. a.0 < m) a (b ∷ parts) ok)) refl (more_say m (b ∷ parts) ps ws few (All-tail (λ a. a.0 < m) a (b ∷ parts) ok) s))
+    ate 2 refl (spells_name (wire a) _ _ (wire_ok m a few (All-head (λ a. a.0 < m) a (b ∷ parts) ok)) refl (more_say m (b ∷ parts) ps ws few (All-tail (λ a. a.0 < m) a (b ∷ parts) ok) s))
 
 joined_says : (m : ℕ) (parts : List NodeId) (ps : Pieces) (ws : List Word) → m ≤ 16777216 → All (λ a. a.0 < m) parts → Says (codes ";\n" ∷ ps) ws
     → Says (joined parts ++ (codes ";\n" ∷ ps)) (joined_words parts ws)
-joined_says m [] ps ws few ok s = ate 2 (_, refl, s)
-joined_says m (a ∷ []) ps ws few ok s = ate 1 (_, refl, spells_name (wire a) _ _ (wire_ok m a few (All-head (λ a. a.0 < m) a [] ok)) refl (ate 1 (_, refl, s)))
+joined_says m [] ps ws few ok s = ate 2 refl s
+joined_says m (a ∷ []) ps ws few ok s = ate 1 refl (spells_name (wire a) _ _ (wire_ok m a few (All-head (λ a. a.0 < m) a [] ok)) refl (ate 1 refl s))
 joined_says m (a ∷ b ∷ parts) ps ws few ok s =
-    ate 1 (_, refl, spells_name (wire a) _ _ (wire_ok m a few (All-head (λ a. a.0 < m) a (b ∷ parts) ok)) refl (more_say m (b ∷ parts) ps ws few (All-tail (λ a. a.0 < m) a (b ∷ parts) ok) s))
+    ate 1 refl (spells_name (wire a) _ _ (wire_ok m a few (All-head (λ a. a.0 < m) a (b ∷ parts) ok)) refl (more_say m (b ∷ parts) ps ws few (All-tail (λ a. a.0 < m) a (b ∷ parts) ok) s))
 
 -- an operator between two wires
 sign_says : (op : BinOp) (a b : NodeId) (ps : Pieces) (ws : List Word) → IsWritten (wire a) → IsWritten (wire b) → Says (codes ";\n" ∷ ps) ws
     → Says (wire a ∷ sign op ∷ wire b ∷ codes ";\n" ∷ ps) (name (wire a) ∷ mark (sign_mark op) ∷ name (wire b) ∷ ws)
-sign_says BinOp.And a b ps ws x y s = spells_name (wire a) _ _ x refl (ate 3 (_, refl, spells_name (wire b) _ _ y refl s))
-sign_says BinOp.Or a b ps ws x y s = spells_name (wire a) _ _ x refl (ate 3 (_, refl, spells_name (wire b) _ _ y refl s))
-sign_says BinOp.Xor a b ps ws x y s = spells_name (wire a) _ _ x refl (ate 3 (_, refl, spells_name (wire b) _ _ y refl s))
-sign_says BinOp.Add a b ps ws x y s = spells_name (wire a) _ _ x refl (ate 3 (_, refl, spells_name (wire b) _ _ y refl s))
-sign_says BinOp.Sub a b ps ws x y s = spells_name (wire a) _ _ x refl (ate 3 (_, refl, spells_name (wire b) _ _ y refl s))
-sign_says BinOp.Mul a b ps ws x y s = spells_name (wire a) _ _ x refl (ate 3 (_, refl, spells_name (wire b) _ _ y refl s))
-sign_says BinOp.Eq a b ps ws x y s = spells_name (wire a) _ _ x refl (ate 3 (_, refl, spells_name (wire b) _ _ y refl s))
-sign_says BinOp.Lt a b ps ws x y s = spells_name (wire a) _ _ x refl (ate 3 (_, refl, spells_name (wire b) _ _ y refl s))
-sign_says BinOp.Shl a b ps ws x y s = spells_name (wire a) _ _ x refl (ate 3 (_, refl, spells_name (wire b) _ _ y refl s))
-sign_says BinOp.Shr a b ps ws x y s = spells_name (wire a) _ _ x refl (ate 3 (_, refl, spells_name (wire b) _ _ y refl s))
+sign_says BinOp.And a b ps ws x y s = spells_name (wire a) _ _ x refl (ate 3 refl (spells_name (wire b) _ _ y refl s))
+sign_says z a b ps ws x y s = spells_name (wire a) _ _ x refl (ate 3 refl (spells_name (wire b) _ _ y refl s))
 
 right_says : (net : Net) (m k : ℕ) (kind : Kind) (ps : Pieces) (ws : List Word) → Writable net → m ≤ 16777216 → 1 ≤ k → k ≤ 64 → ((i : ℕ) → wide net.nodes i ≤ 64)
     → KindOk net.nodes m k kind → CellOk net.nodes net.parts k kind → Says (codes ";\n" ∷ ps) ws → Says (right_side net.parts k kind ++ (codes ";\n" ∷ ps)) (right_words net.parts k kind ws)
 right_says net m k (kinds.Const v) ps ws n few low high short ok cell s = spells_literal (word k v) _ _ (record { positive = low; at_most = high; fits = ok }) refl s
-right_says net m k kinds.Ext ps ws n few low high short ok cell s = ate 1 (_, refl, s)
+right_says net m k kinds.Ext ps ws n few low high short ok cell s = ate 1 refl s
 right_says net m k (kinds.Sample i) ps ws n few low high short ok cell s =
     spells_name (get_or net.parts.samples i no_port).name _ _ (All-get_or (λ s. IsWritten s.name) net.parts.samples i no_port cell.0 n.samples) refl s
 right_says net m k (kinds.Reg i) ps ws n few low high short ok cell s =
     spells_name (get_or net.parts.regs i no_reg).name _ _ (All-get_or (λ r. IsWritten r.name) net.parts.regs i no_reg cell.0 n.regs) refl s
 right_says net m k (kinds.Word i a) ps ws n few low high short ok cell s =
     spells_name (get_or net.parts.files i no_file).name _ _ (All-get_or (λ f. IsWritten f.name) net.parts.files i no_file cell.0 n.files) refl
-    (ate 1 (_, refl, spells_name (wire a) _ _ (wire_ok m a few ok) refl (ate 1 (_, refl, s))))
-right_says net m k (kinds.Not a) ps ws n few low high short ok cell s = ate 1 (_, refl, spells_name (wire a) _ _ (wire_ok m a few ok.0) refl s)
+    (ate 1 refl (spells_name (wire a) _ _ (wire_ok m a few ok) refl (ate 1 refl s)))
+right_says net m k (kinds.Not a) ps ws n few low high short ok cell s = ate 1 refl (spells_name (wire a) _ _ (wire_ok m a few ok.0) refl s)
 right_says net m k (kinds.Binary op a b) ps ws n few low high short ok cell s = sign_says op a b ps ws (wire_ok m a few ok.0) (wire_ok m b few ok.1) s
 right_says net m k (kinds.Mux t a b) ps ws n few low high short ok cell s =
-    spells_name (wire t) _ _ (wire_ok m t few ok.0) refl (ate 3 (
-      _,
-      refl,
-      spells_name (wire a) _ _ (wire_ok m a few ok.1) refl
-          (ate 3 (_, refl, spells_name (wire b) _ _ (wire_ok m b few ok.2) refl s)),
-    ))
+    spells_name (wire t) _ _ (wire_ok m t few ok.0) refl (ate 3 refl (spells_name (wire a) _ _ (wire_ok m a few ok.1) refl (ate 3 refl
+    (spells_name (wire b) _ _ (wire_ok m b few ok.2) refl s))))
 right_says net m k (kinds.Concat parts) ps ws n few low high short ok cell s = joined_says m parts ps ws few ok.2 s
 right_says net m k (kinds.Slice a hi lo) ps ws n few low high short ok cell s =
     let w = short a.0 in let h = ok.2 in let l = ok.1 in
     spells_name (wire a) _ _ (wire_ok m a few ok.0) refl (bracket (spells_number hi _ _ (omega arith) refl
-    (colon (spells_number lo _ _ (omega arith) refl (ate 1 (_, refl, s))))))
+    (colon (spells_number lo _ _ (omega arith) refl (ate 1 refl s)))))
 
 -- the nodes from index j on, with what is known of each
 abbrev pub RightFrom : Net → ℕ → List Node → Type 0
@@ -230,49 +172,22 @@ nodes_say : (net : Net) (j : ℕ) (ns : List Node) (ps : Pieces) (ws : List Word
 nodes_say net j [] ps ws n short few ok s = s
 nodes_say net j (x ∷ ns) ps ws n short few ok s =
     let low = ok.0.positive in let high = ok.0.at_most in
-    ate 4 (
-      _,
-      refl,
-      bracket (spells_number (x.width - 1) _ _ (omega arith) refl
-          (ate 4 (
-            _,
-            refl,
-            spells_name (wire_name j) _ _ (wire_written j (omega arith)) refl
-                (ate 6 (
-                  _,
-                  refl,
-                  spells_name (wire_name j) _ _ (wire_written j (omega arith)) refl
-                      (ate 3 (
-                        _,
-                        refl,
-                        subst (λ (qs : Pieces). Says qs (right_words net.parts x.width x.kind (mark marks.Semicolon ∷ node_words net.parts (j + 1) ns ws)))
-                            (sym (append_assoc (right_side net.parts x.width x.kind) (codes ";\n" ∷ node_lines net.parts (j + 1) ns) ps))
-                            (right_says net j x.width x.kind (node_lines net.parts (j + 1) ns ++ ps) _ n (omega arith) low high short ok.0.kind ok.1
-                            (ate 2 (_, refl, nodes_say net (j + 1) ns ps ws n short (omega arith) ok.2 s))),
-                      )),
-                )),
-          ))),
-    )
+    ate 4 refl (bracket (spells_number (x.width - 1) _ _ (omega arith) refl (ate 4 refl (spells_name (wire_name j) _ _ (wire_written j (omega arith)) refl
+    (ate 6 refl (spells_name (wire_name j) _ _ (wire_written j (omega arith)) refl (ate 3 refl
+    (subst (λ (qs : Pieces). Says qs (right_words net.parts x.width x.kind (mark marks.Semicolon ∷ node_words net.parts (j + 1) ns ws))) (sym (append_assoc (right_side net.parts x.width x.kind) (codes ";\n" ∷ node_lines net.parts (j + 1) ns) ps))
+    (right_says net j x.width x.kind (node_lines net.parts (j + 1) ns ++ ps) _ n (omega arith) low high short ok.0.kind ok.1
+    (ate 2 refl (nodes_say net (j + 1) ns ps ws n short (omega arith) ok.2 s)))))))))))
 
 out_says : (port : List ℕ) (a : NodeId) (ps : Pieces) (ws : List Word) → a.0 < 16777216 → ((qs : Pieces) (vs : List Word) → Says qs vs → Says (codes "  assign " ∷ port ∷ codes " = " ∷ qs) (keyword keywords.Assign ∷ name port ∷ mark marks.Equals ∷ vs))
     → Says ps ws → Says (out_line port a ++ ps) (out_words port a ws)
-out_says port a ps ws h front s = front (wire a ∷ codes ";\n" ∷ ps) (name (wire a) ∷ mark marks.Semicolon ∷ ws) (spells_name (wire a) _ _ (wire_written a.0 (omega arith)) refl (ate 2 (_, refl, s)))
+out_says port a ps ws h front s = front (wire a ∷ codes ";\n" ∷ ps) (name (wire a) ∷ mark marks.Semicolon ∷ ws) (spells_name (wire a) _ _ (wire_written a.0 (omega arith)) refl (ate 2 refl s))
 
 starts_say : (ns : List Node) (rs : List NetReg) (ps : Pieces) (ws : List Word) → All (RegOk ns) rs → All (λ r. IsWritten r.name) rs → Says ps ws → Says (start_lines rs ++ ps) (start_words rs ws)
 starts_say ns [] ps ws ok named s = s
 starts_say ns (r ∷ rs) ps ws ok named s =
     let reg = All-head (RegOk ns) r rs ok in
-    ate 4 (
-      _,
-      refl,
-      spells_name r.name _ _ (All-head (λ r. IsWritten r.name) r rs named) refl
-          (ate 3 (
-            _,
-            refl,
-            spells_literal r.start _ _ reg.start refl
-                (ate 2 (_, refl, starts_say ns rs ps ws (All-tail (RegOk ns) r rs ok) (All-tail (λ r. IsWritten r.name) r rs named) s)),
-          )),
-    )
+    ate 4 refl (spells_name r.name _ _ (All-head (λ r. IsWritten r.name) r rs named) refl (ate 3 refl (spells_literal r.start _ _ reg.start refl
+    (ate 2 refl (starts_say ns rs ps ws (All-tail (RegOk ns) r rs ok) (All-tail (λ r. IsWritten r.name) r rs named) s)))))
 
 word_says : (n : List ℕ) (k a v : ℕ) (ps : Pieces) (ws : List Word) → IsWritten n → IsWord (word k v) → a < 65536 → Says ps ws → (t : Bool) → (v == 0) ≡ t → Says (word_line n k a v ++ ps) (content_word n k a v ws)
 word_says n k a v ps ws named ok low s true e =
@@ -281,12 +196,8 @@ word_says n k a v ps ws named ok low s true e =
 word_says n k a v ps ws named ok low s false e =
     subst (λ (b : Bool). Says (cond b [] (codes "    " ∷ n ∷ codes "[" ∷ decimal a ∷ codes "] = " ∷ spelling (word k v) ∷ codes ";\n" ∷ []) ++ ps)
     (cond b ws (name n ∷ mark marks.OpenBracket ∷ number a ∷ mark marks.CloseBracket ∷ mark marks.Equals ∷ literal (literal_for (word k v)) ∷ mark marks.Semicolon ∷ ws))) (sym e)
-    (ate 4 (
-      _,
-      refl,
-      spells_name n _ _ named refl (bracket (spells_number a _ _ (omega arith) refl
-          (ate 4 (_, refl, spells_literal (word k v) _ _ ok refl (ate 2 (_, refl, s)))))),
-    ))
+    (ate 4 refl (spells_name n _ _ named refl (bracket (spells_number a _ _ (omega arith) refl (ate 4 refl (spells_literal (word k v) _ _ ok refl
+    (ate 2 refl s)))))))
 
 words_say : (n : List ℕ) (k a : ℕ) (vs : List ℕ) (ps : Pieces) (ws : List Word) → IsWritten n → 1 ≤ k → k ≤ 64 → a + length vs ≤ 65536 → All (λ v. v < 2 ^ k) vs
     → Says ps ws → Says (word_lines n k a vs ++ ps) (content_words n k a vs ws)
@@ -302,28 +213,11 @@ fills_say ns (f ∷ fs) ps ws ok named s =
     let file = All-head (FileOk ns) f fs ok in let few = few_words f.address_width file.addressed_at_most in let full = file.full in
     let n = All-head (λ f. IsWritten f.name) f fs named in
     let zero_fits : 2 ^ 0 ≤ 2 ^ f.width = pow-le-pow_right {n = 2} (omega arith) {i = 0} {j = f.width} (omega arith) in
-    ate 18 (
-      _,
-      refl,
-      spells_number (2 ^ f.address_width) _ _ (omega arith) refl
-          (ate 13 (
-            _,
-            refl,
-            spells_name f.name _ _ n refl
-                (ate 6 (
-                  _,
-                  refl,
-                  spells_literal (word f.width 0) _ _ (record { positive = file.positive; at_most = file.at_most; fits = omega arith }) refl
-                      (ate 2 (
-                        _,
-                        refl,
-                        subst (λ (qs : Pieces). Says qs (content_words f.name f.width 0 f.words (fill_words fs ws))) (sym (append_assoc (word_lines f.name f.width 0 f.words) (fill_lines fs) ps))
-                            (words_say f.name f.width 0 f.words _ _ n file.positive file.at_most (omega arith) file.words
-                            (fills_say ns fs ps ws (All-tail (FileOk ns) f fs ok) (All-tail (λ f. IsWritten f.name) f fs named) s)),
-                      )),
-                )),
-          )),
-    )
+    ate 18 refl (spells_number (2 ^ f.address_width) _ _ (omega arith) refl (ate 13 refl (spells_name f.name _ _ n refl (ate 6 refl
+    (spells_literal (word f.width 0) _ _ (record { positive = file.positive; at_most = file.at_most; fits = omega arith }) refl (ate 2 refl
+    (subst (λ (qs : Pieces). Says qs (content_words f.name f.width 0 f.words (fill_words fs ws))) (sym (append_assoc (word_lines f.name f.width 0 f.words) (fill_lines fs) ps))
+    (words_say f.name f.width 0 f.words _ _ n file.positive file.at_most (omega arith) file.words
+    (fills_say ns fs ps ws (All-tail (FileOk ns) f fs ok) (All-tail (λ f. IsWritten f.name) f fs named) s)))))))))
 
 -- a margin of blanks is skipped
 pub record IsMargin (margin : List ℕ) : Type 0 where
@@ -338,38 +232,16 @@ updates_say margin ns [] ps ws pass few ok named s = s
 updates_say margin ns (r ∷ rs) ps ws pass few ok named s =
     let reg = All-head (RegOk ns) r rs ok in
     pass.passes _ _ (spells_name r.name _ _ (All-head (λ r. IsWritten r.name) r rs named) refl
-    (ate 3 (
-      _,
-      refl,
-      spells_name (wire r.next) _ _ (node_written ns r.next r.start.width few reg.next) refl
-          (ate 2 (_, refl, updates_say margin ns rs ps ws pass few (All-tail (RegOk ns) r rs ok) (All-tail (λ r. IsWritten r.name) r rs named) s)),
-    )))
+    (ate 3 refl (spells_name (wire r.next) _ _ (node_written ns r.next r.start.width few reg.next) refl
+    (ate 2 refl (updates_say margin ns rs ps ws pass few (All-tail (RegOk ns) r rs ok) (All-tail (λ r. IsWritten r.name) r rs named) s)))))
 
 write_says : (margin n : List ℕ) (ns : List Node) (w a : ℕ) (port : Option WritePort) (ps : Pieces) (ws : List Word) → IsMargin margin → length ns ≤ 16777216 → IsWritten n → WriteOk ns w a port
     → Says ps ws → Says (port_line margin n port ++ ps) (write_words n port ws)
 write_says margin n ns w a None ps ws pass few named ok s = s
 write_says margin n ns w a (Some p) ps ws pass few named ok s =
-    pass.passes _ _ (ate 3 (
-      _,
-      refl,
-      spells_name (wire p.enable) _ _ (node_written ns p.enable 1 few ok.0) refl
-          (ate 2 (
-            _,
-            refl,
-            spells_name n _ _ named refl
-                (ate 1 (
-                  _,
-                  refl,
-                  spells_name (wire p.address) _ _ (node_written ns p.address a few ok.1) refl
-                      (ate 4 (
-                        _,
-                        refl,
-                        spells_name (wire p.value) _ _ (node_written ns p.value w few ok.2) refl
-                            (ate 2 (_, refl, s)),
-                      )),
-                )),
-          )),
-    ))
+    pass.passes _ _ (ate 3 refl (spells_name (wire p.enable) _ _ (node_written ns p.enable 1 few ok.0) refl (ate 2 refl (spells_name n _ _ named refl
+    (ate 1 refl (spells_name (wire p.address) _ _ (node_written ns p.address a few ok.1) refl (ate 4 refl
+    (spells_name (wire p.value) _ _ (node_written ns p.value w few ok.2) refl (ate 2 refl s)))))))))
 
 writes_say : (margin : List ℕ) (ns : List Node) (fs : List NetFile) (ps : Pieces) (ws : List Word) → IsMargin margin → length ns ≤ 16777216 → All (FileOk ns) fs → All (λ f. IsWritten f.name) fs
     → Says ps ws → Says (port_lines margin fs ++ ps) (writes_words fs ws)
@@ -389,23 +261,14 @@ values_say : (ns : List Node) (rs : List NetReg) (ps : Pieces) (ws : List Word) 
 values_say ns [] ps ws ok named s = s
 values_say ns (r ∷ rs) ps ws ok named s =
     let reg = All-head (RegOk ns) r rs ok in
-    ate 6 (
-      _,
-      refl,
-      spells_name r.name _ _ (All-head (λ r. IsWritten r.name) r rs named) refl
-          (ate 3 (
-            _,
-            refl,
-            spells_literal r.start _ _ reg.start refl
-                (ate 2 (_, refl, values_say ns rs ps ws (All-tail (RegOk ns) r rs ok) (All-tail (λ r. IsWritten r.name) r rs named) s)),
-          )),
-    )
+    ate 6 refl (spells_name r.name _ _ (All-head (λ r. IsWritten r.name) r rs named) refl (ate 3 refl (spells_literal r.start _ _ reg.start refl
+    (ate 2 refl (values_say ns rs ps ws (All-tail (RegOk ns) r rs ok) (All-tail (λ r. IsWritten r.name) r rs named) s)))))
 
 four_pass : IsMargin (codes "    ")
-four_pass = record { passes = λ text vs s. ate 4 (_, refl, s) }
+four_pass = record { passes = λ text vs s. ate 4 refl s }
 
 six_pass : IsMargin (codes "      ")
-six_pass = record { passes = λ text vs s. ate 6 (_, refl, s) }
+six_pass = record { passes = λ text vs s. ate 6 refl s }
 
 body_says : (reset : Bool) (net : Net) (ps : Pieces) (ws : List Word) → NetOk net → Writable net → Says ps ws → Says (body_lines reset net.parts ++ ps) (body_words reset net.parts ws)
 body_says false net ps ws k n s = changes_say (codes "    ") net ps ws four_pass k n s
@@ -416,16 +279,12 @@ body_says true net ps ws k n s =
     let v1 = keyword keywords.End ∷ ws in
     let v2 = change_words p v1 in
     let v3 = keyword keywords.End ∷ keyword keywords.Else ∷ keyword keywords.Begin ∷ v2 in
-    let says1 : Says (last ++ ps) v1 = ate 6 (_, refl, s) in
+    let says1 : Says (last ++ ps) v1 = ate 6 refl s in
     let says2 : Says (changes ++ ps) v2 =
     subst (λ (qs : Pieces). Says qs v2) (sym (append_assoc (change_lines (codes "      ") p) last ps)) (changes_say (codes "      ") net (last ++ ps) v1 six_pass k n says1) in
-    let says3 : Says ((codes "    end else begin\n" ∷ changes) ++ ps) v3 = ate 10 (_, refl, says2) in
-    ate 12 (
-      _,
-      refl,
-      subst (λ (qs : Pieces). Says qs (value_words p.regs v3)) (sym (append_assoc (reset_lines p.regs) (codes "    end else begin\n" ∷ changes) ps))
-          (values_say net.nodes p.regs ((codes "    end else begin\n" ∷ changes) ++ ps) v3 k.parts.regs n.regs says3),
-    )
+    let says3 : Says ((codes "    end else begin\n" ∷ changes) ++ ps) v3 = ate 10 refl says2 in
+    ate 12 refl
+    (subst (λ (qs : Pieces). Says qs (value_words p.regs v3)) (sym (append_assoc (reset_lines p.regs) (codes "    end else begin\n" ∷ changes) ps)) (values_say net.nodes p.regs ((codes "    end else begin\n" ∷ changes) ++ ps) v3 k.parts.regs n.regs says3))
 
 wide_short : (net : Net) → NetOk net → (i : ℕ) → wide net.nodes i ≤ 64
 unfolding wide
@@ -448,20 +307,16 @@ canon_says net k named =
     let p1 : Pieces = codes "  end\nendmodule\n" ∷ [] in
     let p2 : Pieces = codes "  end\n  always @(posedge clk) begin\n" ∷ (body_lines p.reset p ++ p1) in
     let p3 : Pieces = codes "  initial begin\n" ∷ (start_lines p.regs ++ (fill_lines p.files ++ p2)) in
-    let s1 : Says p1 w1 = ate 6 (_, refl, spells_nothing) in
-    let s2 : Says p2 (w2 p) = ate 17 (_, refl, body_says p.reset net p1 w1 k n s1) in
-    let s3 : Says p3 (w3 p) = ate 6 (
-      _,
-      refl,
-      starts_say net.nodes p.regs (fill_lines p.files ++ p2) (fill_words p.files (w2 p)) k.parts.regs n.regs
-          (fills_say net.nodes p.files p2 (w2 p) k.parts.files n.files s2),
-    ) in
+    let s1 : Says p1 w1 = ate 6 refl spells_nothing in
+    let s2 : Says p2 (w2 p) = ate 17 refl (body_says p.reset net p1 w1 k n s1) in
+    let s3 : Says p3 (w3 p) = ate 6 refl (starts_say net.nodes p.regs (fill_lines p.files ++ p2) (fill_words p.files (w2 p)) k.parts.regs n.regs
+    (fills_say net.nodes p.files p2 (w2 p) k.parts.files n.files s2)) in
     let p4 : Pieces = out_line (codes "back") p.back ++ p3 in
     let p5 : Pieces = out_line (codes "ue") p.ue ++ p4 in
     let p6 : Pieces = out_line (codes "full") p.full ++ p5 in
-    let s4 : Says p4 (w4 p) = out_says (codes "back") p.back p3 (w3 p) (omega arith) (λ qs vs s. ate 8 (_, refl, s)) s3 in
-    let s5 : Says p5 (w5 p) = out_says (codes "ue") p.ue p4 (w4 p) (omega arith) (λ qs vs s. ate 8 (_, refl, s)) s4 in
-    let s6 : Says p6 (w6 p) = out_says (codes "full") p.full p5 (w5 p) (omega arith) (λ qs vs s. ate 8 (_, refl, s)) s5 in
+    let s4 : Says p4 (w4 p) = out_says (codes "back") p.back p3 (w3 p) (omega arith) (λ qs vs s. ate 8 refl s) s3 in
+    let s5 : Says p5 (w5 p) = out_says (codes "ue") p.ue p4 (w4 p) (omega arith) (λ qs vs s. ate 8 refl s) s4 in
+    let s6 : Says p6 (w6 p) = out_says (codes "full") p.full p5 (w5 p) (omega arith) (λ qs vs s. ate 8 refl s) s5 in
     let p7 : Pieces = node_lines p 0 net.nodes ++ p6 in
     let s7 : Says p7 (w7 net) = nodes_say net 0 net.nodes p6 (w6 p) n short (omega arith) (all_right net k) s6 in
     let p8 : Pieces = integer_line p.files ++ p7 in

@@ -1,10 +1,10 @@
 -- The calls of the functions that are declared are found and keep widths: each function at arguments of its parameters' widths.
-use Rattle.std.proofs.Common.{◌≡◌, ◌∙◌, ℕ, suc, ◌+◌, List, [], ◌∷◌, ◌++◌, Option, Some, None, Bool, true, false, cond, not, length, fold, nat_eq, refl, ap, sym, subst, arith}
+use Rattle.std.proofs.Common.{◌≡◌, ◌∙◌, ℕ, suc, ◌+◌, List, [], ◌∷◌, ◌++◌, Option, Some, None, Bool, true, false, cond, not, length, fold, nat_eq, refl, ap, sym, subst, arith, append-nil, append_assoc}
 use Rattle.std.proofs.lemmas.Bool.{eq-eqb}
 use Rattle.std.specs.{Prelude.slice_get, Prelude.is_some, Prelude.unwrap_or, Cmp.Lexicographic.pointwise, Cmp.Lexicographic.bytes_decides}
 use Rattle.kp_base.specs.{Check.ok, Check.◌>>=◌, Refusal.e_rule}
 use Rattle.kp_bits.specs.{Word.Word, Operators.no_word}
-use Rattle.kp_ast.specs.Expressions.{Env, Calls, eval, names_of, arguments_of, is_function, calls_after, calls_of, no_calls, value_of_call}
+use Rattle.kp_ast.specs.Expressions.{Env, Calls, names_of, arguments_of, is_function, calls_after, calls_of, no_calls, value_of_call}
 use Rattle.kp_ast.specs.{Checked.Known, Checked.checked, Checked.checked_call, Checked.checked_calls_after, Checked.checked_calls_of, declared.tree.Param.Param}
 use Rattle.kp_ast.specs.declared.{tree.FuncDecl.FuncDecl, tree.Decl.Decl, widths.NameKind.NameKind}
 use Rattle.kp_ast.specs.Expressions as values
@@ -18,25 +18,19 @@ use Rattle.kp_width.specs.Soundness.{HasWidth, FitFrom, AreArguments}
 use Rattle.kp_width.proofs.{Unbroken.Unbroken, Unbroken.bind_unbroken, Unbroken.answer_unbroken, Parts.given_parts}
 use Rattle.kp_width.proofs.Found.{Found, Meets, found, no_answer}
 
-by_test : {G : Type 0} (b : Bool) → (b ≡ true → G) → (b ≡ false → G) → G
+pub by_test : {G : Type 0} (b : Bool) → (b ≡ true → G) → (b ≡ false → G) → G
 by_test true then_so else_so = then_so refl
 by_test false then_so else_so = else_so refl
 
-by_option : {X G : Type 0} (o : Option X) → (o ≡ None → G) → ((x : X) → o ≡ Some x → G) → G
+pub by_option : {X G : Type 0} (o : Option X) → (o ≡ None → G) → ((x : X) → o ≡ Some x → G) → G
 by_option None none some = none refl
 by_option (Some x) none some = some x refl
-
-same_name : (a b : List ℕ) → pointwise nat_eq a b ≡ true → a ≡ b
-same_name a b e = (bytes_decides a b).0 e
-
-is_same : (a b : List ℕ) → a ≡ b → pointwise nat_eq a b ≡ true
-is_same a b e = (bytes_decides a b).1 e
 
 -- a name that is looked up after one more was added is one of those before, or that one
 pub pushed : {G : Type 0} (names : Names) (n q : List ℕ) (m x : Sense) → (look_up names q ≡ Some x → G) → (look_up names q ≡ None → q ≡ n → m ≡ x → G)
     → look_up (names ++ (n, m) ∷ []) q ≡ Some x → G
 pushed [] n q m x before here e = by_test (pointwise nat_eq q n)
-    (λ y. here refl (same_name q n y) (let f : Some m ≡ Some x = ap (λ b. cond b (Some m) None) (sym y) ∙ e in cc))
+    (λ y. here refl ((bytes_decides q n).0 y) (let f : Some m ≡ Some x = ap (λ b. cond b (Some m) None) (sym y) ∙ e in cc))
     (λ y. let f : None ≡ Some x = ap (λ b. cond b (Some m) None) (sym y) ∙ e in cc)
 pushed ((k, v) ∷ names) n q m x before here e = by_test (pointwise nat_eq q k)
     (λ y. before (ap (λ b. cond b (Some v) (look_up names q)) y ∙ sym (ap (λ b. cond b (Some v) (look_up (names ++ (n, m) ∷ []) q)) y) ∙ e))
@@ -57,14 +51,6 @@ abbrev pub senses : ℕ → List Param → Names
 senses i [] = []
 senses i (p ∷ ps) = (p.name.name, sense kinds.Param p.width.value i) ∷ senses i ps
 
-append_nil : (xs : Names) → xs ++ [] ≡ xs
-append_nil [] = refl
-append_nil (x ∷ xs) = ap (λ ys. x ∷ ys) (append_nil xs)
-
-append_assoc_names : (xs ys zs : Names) → (xs ++ ys) ++ zs ≡ xs ++ (ys ++ zs)
-append_assoc_names [] ys zs = refl
-append_assoc_names (x ∷ xs) ys zs = ap (λ l. x ∷ l) (append_assoc_names xs ys zs)
-
 pub parameters_text : (i : ℕ) (s : Scoped) (ps : List Param) → (parameters_of i s ps).value.text ≡ s.text
 parameters_text i s [] = refl
 parameters_text i s (p ∷ ps) = parameters_text i (declared_local s p.name.name (sense kinds.Param p.width.value i)) ps
@@ -74,10 +60,10 @@ parameters_here i s [] = refl
 parameters_here i s (p ∷ ps) = parameters_here i (declared_local s p.name.name (sense kinds.Param p.width.value i)) ps
 
 pub parameters_local : (i : ℕ) (s : Scoped) (ps : List Param) → (parameters_of i s ps).value.local ≡ s.local ++ senses i ps
-parameters_local i s [] = sym (append_nil s.local)
+parameters_local i s [] = sym (append-nil s.local)
 parameters_local i s (p ∷ ps) =
     let m : Sense = sense kinds.Param p.width.value i in
-    parameters_local i (declared_local s p.name.name m) ps ∙ append_assoc_names s.local ((p.name.name, m) ∷ []) (senses i ps)
+    parameters_local i (declared_local s p.name.name m) ps ∙ append_assoc s.local ((p.name.name, m) ∷ []) (senses i ps)
 
 width_next : (p : Param) (ps : List Param) (i : ℕ) → width_at (p ∷ ps) (i + 1) ≡ width_at ps i
 width_next p ps i = let e : i + 1 ≡ suc i = omega arith in ap (width_at (p ∷ ps)) e
@@ -120,15 +106,7 @@ sense_is_param i (p ∷ ps) q m e = by_test (pointwise nat_eq q p.name.name)
 
 only_params : (k : ℕ) (kind : NameKind) → is_value_in (scopes.Function k) kind ≡ true → is_of_text kind ≡ true → {G : Type 0} → G
 only_params k kinds.Param e f = cc
-only_params k kinds.Reg e f = cc
-only_params k (kinds.File a) e f = cc
-only_params k kinds.Pipe e f = cc
-only_params k kinds.Hint e f = cc
-only_params k kinds.Sample e f = cc
-only_params k kinds.Target e f = cc
-only_params k kinds.Func e f = cc
-only_params k kinds.Read e f = cc
-only_params k kinds.Let e f = cc
+only_params k x e f = cc
 
 -- what is known of calls
 abbrev pub Knowns : Type 0
@@ -223,11 +201,11 @@ module _ (ds : List Decl) where
     with_function u fresh = record {
       calls_fit = λ q x e. pushed s.text f.name.name q (sense kinds.Func f.width.value i) x
           (λ b c vs h. by_test (is_function q (decls.Func f))
-          (λ y. let same : q ≡ f.name.name = sym (same_name f.name.name q y) in let none : None ≡ Some x = sym fresh ∙ ap (look_up s.text) (sym same) ∙ b in cc)
+          (λ y. let same : q ≡ f.name.name = sym ((bytes_decides f.name.name q).0 y) in let none : None ≡ Some x = sym fresh ∙ ap (look_up s.text) (sym same) ∙ b in cc)
           (λ n. found_as x.width _ _ _ _ (after_known q vs false n) (after_call q vs false n) (open_here.fits.calls_fit q x b c vs h)))
           (λ none same is c vs h.
           let h' : AreArguments f.params vs = subst (λ ps. AreArguments ps vs) params_here (subst (λ (y : Sense). AreArguments (params_of ds y.from) vs) (sym is) h) in
-          let y = is_same f.name.name q (sym same) in
+          let y = (bytes_decides f.name.name q).1 (sym same) in
           subst (λ (z : Sense). Found z.width (checked_calls_after known (decls.Func f) q vs) (calls_after calls (decls.Func f) q vs)) is
           (found_as f.width.value _ _ _ _ (after_known q vs true y) (after_call q vs true y) (body_found u vs h'))) e;
       of_text = λ q x e. pushed s.text f.name.name q (sense kinds.Func f.width.value i) x (λ b. open_here.fits.of_text q x b) (λ none same is. ap (λ (y : Sense). is_of_text y.kind) (sym is)) e;

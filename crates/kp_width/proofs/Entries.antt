@@ -52,9 +52,7 @@ declarations ds i k s (d ∷ rest) =
 statement : (ds : List Decl) (s : Scoped) (x : StmtKind) → entered (statement_of ds s x).value ≡ entered s ++ names_in_stmt x
 statement ds s (stmts.Read r) = entered_next s s.here r.name.name (sense kinds.Read (read_of ds s r).value 0)
 statement ds s (stmts.Let n e) = entered_next s s.here n.name (sense kinds.Let (width_of ds (length ds) s e).value 0)
-statement ds s (stmts.Put n e) = sym (append-nil (entered s))
-statement ds s (stmts.Set n e when) = sym (append-nil (entered s))
-statement ds s (stmts.Aim n e) = sym (append-nil (entered s))
+statement ds s x = sym (append-nil (entered s))
 
 statements : (ds : List Decl) (s : Scoped) (xs : List Stmt) → entered (statements_of ds s xs).value ≡ entered s ++ flat_map (λ x. names_in_stmt x.kind) xs
 statements ds s [] = sym (append-nil (entered s))

@@ -2,7 +2,7 @@
 -- operands of the required widths. A check of the names may be added: if no name in the expression fails it, only the
 -- names that pass need to be known.
 use Rattle.std.proofs.Common.{◌≡◌, ◌≤◌, ◌<◌, ◌+◌, ℕ, List, [], ◌∷◌, map, min, fold, Option, Some, None, Ok, Err, Bool, true, false, cond, ◌==◌, ◌&&◌, ◌||◌, refl, ap, sym, subst, ◌∙◌, arith}
-use Rattle.std.proofs.lemmas.{Bool.cond_both, Bool.eq-eqb, Bool.le-leb, Bool.lt-ltb, List.length-map}
+use Rattle.std.proofs.lemmas.{Bool.cond_both, Bool.eq-eqb, Bool.le-leb, Bool.lt-ltb, Bool.and_from, List.length-map}
 use Rattle.std.specs.{Option.option_map, Option.option_and_then, Result.result_ok}
 use Rattle.kp_base.specs.{First.first, Check.Check, Check.Answer, declared.place.Place.Place}
 use Rattle.kp_bits.specs.Word.{Word, IsWord, not_of, concat_of}
@@ -18,7 +18,7 @@ use Rattle.kp_ast.proofs.Levels.{fold-Lit, fold-Name, fold-Not, fold-Binary, fol
 use Rattle.kp_ast.proofs.Induction.{Every, induction}
 use Rattle.kp_width.specs.Names.{Sense, is_value_in, is_callee, Scoped, find}
 use Rattle.kp_width.specs.Expressions.{Part, is_test, params_of, part_of, width_of, sum_of, arguments_of}
-use Rattle.kp_width.specs.Soundness.{HasWidth, FitFrom, AreArguments}
+use Rattle.kp_width.specs.Soundness.{HasWidth, FitFrom, Suits, AreArguments}
 use Rattle.kp_width.proofs.Parts.{lit_parts, name_parts, not_parts, binary_parts, mux_parts, concat_parts, sum_parts, sum_grows, slice_parts, zext_parts, sext_parts, argument_parts, call_parts}
 use Rattle.kp_width.proofs.{Unbroken.Unbroken, Unbroken.width-Lit, Unbroken.width-Not, Sound.binary_width}
 
@@ -76,10 +76,6 @@ fits_there true true w e f = refl
 fits_there true false w e f = cc
 fits_there false b w e f = cc
 
-both_pass : (a b : Bool) → a ≡ true → b ≡ true → (a && b) ≡ true
-both_pass true b e f = f
-both_pass false b e f = cc
-
 one_passes : (a b : Bool) → (a ≡ false → b ≡ true) → (a || b) ≡ true
 one_passes true b h = refl
 one_passes false b h = h refl
@@ -93,24 +89,27 @@ two f o p x y e g = ap (λ a. option_and_then (λ v. option_and_then (f v) p) a)
 cons_there : (o : Option Word) (v : Word) (os : List (Option Word)) (vs : List Word) → o ≡ Some v → all_there os ≡ Some vs → all_there (o ∷ os) ≡ Some (v ∷ vs)
 cons_there o v os vs e f = ap (λ x. all_there (x ∷ os)) e ∙ ap (option_map (λ xs. v ∷ xs)) f
 
--- a check of names that always passes
-pub no_answer : (e : Expr) → first_name (λ q at. None) e ≡ None
-no_answer = induction (λ e. first_name (λ q at. None) e ≡ None) (record {
-  literal = λ p l. fold-Lit _ _ _ _ p l;
-  name = λ p q. fold-Name _ _ _ _ p q;
-  not_ = λ p a h. fold-Not _ _ _ _ p a ∙ h;
-  binary = λ p op a b h k. fold-Binary _ _ _ _ p op a b ∙ ap (λ x. first (x ∷ first_name (λ q at. None) b ∷ [])) h ∙ ap (λ x. first (x ∷ [])) k;
-  mux = λ p t a b g h k. fold-Mux _ _ _ _ p t a b ∙ ap (λ x. first (x ∷ first_name (λ q at. None) a ∷ first_name (λ q at. None) b ∷ [])) g ∙ ap (λ x. first (x ∷ first_name (λ q at. None) b ∷ [])) h ∙ ap (λ x. first (x ∷ [])) k;
-  concat = λ p es hs. fold-Concat _ _ _ _ p es ∙ none_each es hs;
-  slice = λ p a hi lo h. fold-Slice _ _ _ _ p a hi lo ∙ h;
-  zext = λ p a n h. fold-Zext _ _ _ _ p a n ∙ h;
-  sext = λ p a n h. fold-Sext _ _ _ _ p a n ∙ h;
-  call = λ p q es hs. fold-Call _ _ _ _ p q es ∙ none_each es hs;
+-- a check of names that each name passes
+pub none_asked : (ask : List ℕ → Place → Answer) → ((q : List ℕ) (at : Place) → ask q at ≡ None) → (e : Expr) → first_name ask e ≡ None
+none_asked ask none = induction (λ e. first_name ask e ≡ None) (record {
+  literal = λ p l. fold-Lit _ _ (name_kind ask) name_level p l;
+  name = λ p q. fold-Name _ _ (name_kind ask) name_level p q ∙ none q p;
+  not_ = λ p a h. fold-Not _ _ (name_kind ask) name_level p a ∙ h;
+  binary = λ p op a b h k. fold-Binary _ _ (name_kind ask) name_level p op a b ∙ (λ i. first (h i ∷ k i ∷ []));
+  mux = λ p t a b g h k. fold-Mux _ _ (name_kind ask) name_level p t a b ∙ (λ i. first (g i ∷ h i ∷ k i ∷ []));
+  concat = λ p es hs. fold-Concat _ _ (name_kind ask) name_level p es ∙ each es hs;
+  slice = λ p a hi lo h. fold-Slice _ _ (name_kind ask) name_level p a hi lo ∙ h;
+  zext = λ p a n h. fold-Zext _ _ (name_kind ask) name_level p a n ∙ h;
+  sext = λ p a n h. fold-Sext _ _ (name_kind ask) name_level p a n ∙ h;
+  call = λ p q es hs. fold-Call _ _ (name_kind ask) name_level p q es ∙ each es hs;
 })
   where
-    none_each : (es : List Expr) → Every (λ e. first_name (λ q at. None) e ≡ None) es → first (map (first_name (λ q at. None)) es) ≡ None
-    none_each [] hs = refl
-    none_each (e ∷ es) hs = ap (λ x. first (x ∷ map (first_name (λ q at. None)) es)) hs.0 ∙ none_each es hs.1
+    each : (es : List Expr) → Every (λ e. first_name ask e ≡ None) es → first (map (first_name ask) es) ≡ None
+    each [] hs = refl
+    each (e ∷ es) hs = ap (λ x. first (x ∷ map (first_name ask) es)) hs.0 ∙ each es hs.1
+
+pub no_answer : (e : Expr) → first_name (λ q at. None) e ≡ None
+no_answer = none_asked (λ q at. None) (λ q at. refl)
 
 module _ (ds : List Decl) (done : ℕ) (s : Scoped) (known : Known) (env : Env) (ask : List ℕ → Place → Answer) (meets : Meets ds s known env ask) where
   abbrev width : Expr → Check ℕ
@@ -187,7 +186,7 @@ module _ (ds : List Decl) (done : ℕ) (s : Scoped) (known : Known) (env : Env) 
     literal = λ p l a u. let b = lit_parts ds done s p l u in
         by_all _ _ _ _ _ _ (ap (λ c. c.value) (width-Lit ds done s p l)) (fold-Lit _ _ (checked_kind known) checked_level p l) (fold-Lit _ _ _ _ p l)
         (record {
-          there = fits_there _ _ _ (both_pass _ _ (le-leb _ _ b.positive) (le-leb _ _ b.at_most)) (lt-ltb _ _ b.fits);
+          there = fits_there _ _ _ (and_from _ _ (le-leb _ _ b.positive) (le-leb _ _ b.at_most)) (lt-ltb _ _ b.fits);
           has = record { word = record { positive = b.positive; at_most = b.at_most; fits = b.fits }; width = refl };
         });
     name = λ p q a u. let b = name_parts ds done s p q u in
@@ -219,7 +218,7 @@ module _ (ds : List Decl) (done : ℕ) (s : Scoped) (known : Known) (env : Env) 
         (record {
           there = ap (λ o. option_and_then (λ v. option_and_then (λ w. option_and_then (checked_mux v w) (there y)) (there x)) o) ft.there
               ∙ two (checked_mux (value t)) (there x) (there y) (value x) (value y) fx.there fy.there
-              ∙ so_there _ _ (both_pass _ _ (eq-eqb _ _ (ft.has.width ∙ c.one_bit)) (eq-eqb _ _ (fx.has.width ∙ c.same ∙ sym fy.has.width)));
+              ∙ so_there _ _ (and_from _ _ (eq-eqb _ _ (ft.has.width ∙ c.one_bit)) (eq-eqb _ _ (fx.has.width ∙ c.same ∙ sym fy.has.width)));
           has = cond_both ((value t).value == 1) (value x) (value y) (HasWidth (width x).value) (λ _. fx.has) (λ _. subst (λ w. HasWidth w (value y)) (sym c.same) fy.has);
         });
     concat = λ p es hs a u.
@@ -235,7 +234,7 @@ module _ (ds : List Decl) (done : ℕ) (s : Scoped) (known : Known) (env : Env) 
         let i : hi < (value x).width = rw f.has.width c.inside in
         by_all _ _ _ _ _ _ c.value (fold-Slice _ _ (checked_kind known) checked_level p x hi lo) (fold-Slice _ _ _ _ p x hi lo)
         (record {
-          there = ap (option_and_then (checked_slice hi lo)) f.there ∙ so_there _ _ (both_pass _ _ (le-leb _ _ o) (lt-ltb _ _ i));
+          there = ap (option_and_then (checked_slice hi lo)) f.there ∙ so_there _ _ (and_from _ _ (le-leb _ _ o) (lt-ltb _ _ i));
           has = record { word = slice_word (value x) hi lo f.has.word o i; width = omega arith };
         });
     zext = λ p x n h a u.
@@ -244,7 +243,7 @@ module _ (ds : List Decl) (done : ℕ) (s : Scoped) (known : Known) (env : Env) 
         let w : (value x).width ≤ n.value = rw f.has.width c.wider in
         by_all _ _ _ _ _ _ c.value (fold-Zext _ _ (checked_kind known) checked_level p x n) (fold-Zext _ _ _ _ p x n)
         (record {
-          there = ap (option_and_then (checked_zext n.value)) f.there ∙ so_there _ _ (both_pass _ _ (le-leb _ _ w) (le-leb _ _ c.at_most));
+          there = ap (option_and_then (checked_zext n.value)) f.there ∙ so_there _ _ (and_from _ _ (le-leb _ _ w) (le-leb _ _ c.at_most));
           has = record { word = zext_word (value x) n.value f.has.word w c.at_most; width = refl };
         });
     sext = λ p x n h a u.
@@ -253,7 +252,7 @@ module _ (ds : List Decl) (done : ℕ) (s : Scoped) (known : Known) (env : Env) 
         let w : (value x).width ≤ n.value = rw f.has.width c.wider in
         by_all _ _ _ _ _ _ c.value (fold-Sext _ _ (checked_kind known) checked_level p x n) (fold-Sext _ _ _ _ p x n)
         (record {
-          there = ap (option_and_then (checked_sext n.value)) f.there ∙ so_there _ _ (both_pass _ _ (le-leb _ _ w) (le-leb _ _ c.at_most));
+          there = ap (option_and_then (checked_sext n.value)) f.there ∙ so_there _ _ (and_from _ _ (le-leb _ _ w) (le-leb _ _ c.at_most));
           has = record { word = sext_word (value x) n.value f.has.word w c.at_most; width = refl };
         });
     call = λ p q es hs a u.
@@ -264,3 +263,13 @@ module _ (ds : List Decl) (done : ℕ) (s : Scoped) (known : Known) (env : Env) 
         by_all _ _ _ _ _ _ c.value (fold-Call _ _ (checked_kind known) checked_level p q es) (fold-Call _ _ _ _ p q es)
         (record { there = ap (option_and_then (known.calls q)) args.1 ∙ f.there; has = f.has });
   })
+
+-- if each name and each call has a word of its width, so has an expression that violates no rule
+pub sound : (ds : List Decl) (done : ℕ) (s : Scoped) (env : Env) → Suits ds s env → (e : Expr) → Unbroken (width_of ds done s e) → HasWidth (width_of ds done s e).value (eval env e)
+sound ds done s env suits e u =
+    let known : Known = record { names = λ q. Some (env.names q); calls = λ q vs. Some (env.calls q vs) } in
+    let meets : Meets ds s known env (λ q at. None) = record {
+      names = λ q m at f k a. record { there = refl; has = suits.names q m f k };
+      calls = λ q m f k vs h. record { there = refl; has = suits.calls q m f k vs h };
+    } in
+    (found ds done s known env (λ q at. None) meets e (no_answer e) u).has

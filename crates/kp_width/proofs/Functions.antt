@@ -7,12 +7,7 @@ use Rattle.kp_width.specs.Declarations.{functions_in}
 
 at_most_one : (d : Decl) → functions_in d ≤ 1
 at_most_one (decls.Func f) = omega arith
-at_most_one (decls.Reg n width start) = omega arith
-at_most_one (decls.File n width address) = omega arith
-at_most_one (decls.Pipe n width) = omega arith
-at_most_one (decls.Hint n width start) = omega arith
-at_most_one (decls.Target r) = omega arith
-at_most_one (decls.Sample n width stage) = omega arith
+at_most_one x = omega arith
 
 pub functions_within : (ds : List Decl) → sum_by functions_in ds ≤ length ds
 functions_within [] = omega arith

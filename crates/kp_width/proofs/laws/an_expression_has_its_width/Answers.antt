@@ -1,4 +1,4 @@
-use Rattle.kp_width.proofs.Sound.{sound}
+use Rattle.kp_width.proofs.Found.{sound}
 use Rattle.kp_width.proofs.laws.an_expression_has_its_width.Goals as goal
 
 pub returns : goal.returns
