@@ -64,6 +64,15 @@ never : (b : Bool) (ks : Kinds) → cond (b && false) ks [] ≡ []
 never true ks = refl
 never false ks = refl
 
+-- Of a list of names, each with what it yields: a name yields nothing, or has what each name of the list has.
+pub named_or : {C : Type 0} (P : Text → Type 0) (name text : Text) (c : C) (rest : Option C) → P text → (rest ≡ None) ⊎ P name
+    → (cond (bytes_eq name text) (Some c) rest ≡ None) ⊎ P name
+named_or P name text c rest is others = go (bytes_eq name text) refl
+  where
+    go : (same : Bool) → bytes_eq name text ≡ same → (cond same (Some c) rest ≡ None) ⊎ P name
+    go true e = inr (subst P (sym ((bytes_eq-Decides name text).0 e)) is)
+    go false e = others
+
 -- ---- the program and its commands, as built
 
 module _ (program : Text) where
