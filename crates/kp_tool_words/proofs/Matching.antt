@@ -1,106 +1,30 @@
 -- What `clap` returns for arguments none of which begins with `-`.
-use Rattle.std.proofs.Common.{◌≡◌, ◌∙◌, ◌⊎◌, ℕ, Bool, cond, true, false, refl, sym, ap, ap₂, subst, List, [], ◌∷◌, map, fold, ◌&&◌, ◌||◌, ◌==◌, Option, Some, None, is_some, inl, inr, true≢false, codes, option_map}
-use Rattle.std.proofs.lemmas.{Slice.Eq.bytes_eq-Decides, Bool.eqb-true}
-use Rattle.std.specs.Prelude.{⊤, Box, nat_lt, nat_le, length, find, option_and_then, unwrap_or}
-use Rattle.std.specs.{Str.bytes_eq, List.list_any, Option.option_map_or, Box.box_value}
-use Rattle.clap.specs.Walk.{Held, Names, Row, Rule, Step, Text, Walk, idle, value, answers_to, arg_by_index, subcommand_met, word_met, walked, walk, walk_from, nothing_held, to_positional, after_step, rows_after, subcommand_or_other, settled, finished}
-use Rattle.clap.specs.Lexer.{long_of, short_of}
-use Rattle.clap.specs.Simple.{Shape, built, built_leaf, entered, rows_at, inherited, label_of, marked_built, subcommand_of, with_leaf_noted, with_filled_rules, subcommand_rows}
-use Rattle.clap.specs.{declared.parser.matches.ArgMatches.TheViews.out-SubCommand, declared.parser.matches.SubCommand.SubCommand, Kinds.Kinds, Kinds.or_else}
-use Rattle.clap.specs.Faults.{fault_of, level_fault, turn_fault, step_fault, walk_fault, word_fault, defaults_fault, settle_fault, check_fault, entered_fault, other_fault}
-use Rattle.clap.proofs.{WalkLemmas.walk_stopped, FaultLemmas.stopped_fault}
+use Rattle.std.proofs.Common.{◌≡◌, ◌∙◌, ◌⊎◌, ℕ, Bool, cond, true, false, refl, sym, ap, ap₂, subst, List, [], ◌∷◌, ◌&&◌, ◌||◌, ◌==◌, Option, Some, None, inl, inr, true≢false, codes, option_map, ⊎_elim}
+use Rattle.std.proofs.lemmas.{Bool.or_cases, Bool.or_parts, Slice.Eq.bytes_eq-Decides, Bool.eqb-true}
+use Rattle.std.specs.Prelude.{Box, nat_lt, nat_le, length, option_and_then, unwrap_or}
+use Rattle.std.specs.{Str.bytes_eq, List.list_any, Box.box_value}
+use Rattle.clap.specs.Walk.{Held, Row, Rule, Text, arg_by_index, walked, nothing_held, to_positional}
+use Rattle.clap.specs.Simple.{subcommand_of, subcommand_rows}
+use Rattle.clap.specs.{declared.parser.matches.ArgMatches.TheViews.out-SubCommand, declared.parser.matches.SubCommand.SubCommand, Simple.Shape}
+use Rattle.clap.specs.{Kinds.Kinds, Faults.fault_of, Faults.turn_fault, Faults.walk_fault, Faults.defaults_fault}
 use Rattle.kp_bits.specs.Literals.{number_of, number_within, numeral_value}
+use Rattle.kp_command_line.specs.Programs.{begins_with_dash}
+use Rattle.kp_command_line.proofs.Parses as parse
+use Rattle.kp_command_line.proofs.Parses.{IsRefused, plain_turn, plain_walked, refused_first, refused_second, standing}
 use Rattle.kp_tool_words.specs.declared.words.Command.{Command}
-use Rattle.kp_tool_words.specs.Words.{begins_with_dash, is_barred, at_most, command_of, count_of, seed_of, counted_command, plain_command, seeded_command}
-use Rattle.kp_tool_words.specs.inner.Matching.{Form, Numbers, plain, counted, seeded, known_forms, shape_of_form, program_shape, program_of, command_of_rows}
-
--- ---- an argument that does not begin with `-`
-
-no_dashes : (word : Text) → begins_with_dash word ≡ false → bytes_eq word (45 ∷ 45 ∷ []) ≡ false
-no_dashes [] h = refl
-no_dashes (c ∷ cs) h = rw h refl
-
-no_long : (word : Text) → begins_with_dash word ≡ false → long_of word ≡ None
-no_long [] h = refl
-no_long (c ∷ cs) h = rw h refl
-
-no_short : (word : Text) → begins_with_dash word ≡ false → short_of word ≡ None
-no_short [] h = refl
-no_short (c ∷ cs) h = rw h refl
-
--- where it names no subcommand, it goes to a positional
-plain_met : (rules : List Rule) (names : Names) (position : ℕ) (word : Text) (h : Held) → begins_with_dash word ≡ false → subcommand_met names idle word ≡ None
-    → word_met rules names false idle position word h ≡ (h, value)
-plain_met rules names position word h dash none = rw (none, no_dashes word dash, no_long word dash, no_short word dash) refl
-
-plain_fault : (s : Shape) (names : Names) (word : Text) (h : Held) → begins_with_dash word ≡ false → subcommand_met names idle word ≡ None
-    → word_fault s names false idle word h ≡ []
-plain_fault s names word h dash none = rw (none, no_dashes word dash, no_long word dash, no_short word dash) refl
-
--- the walk before an argument, with nothing pending
-abbrev standing : Held → ℕ → Walk
-standing h position = record { held = h; waiting = idle; position = position; is_trailing = false; stopped = None }
-
-plain_walked : (rules : List Rule) (names : Names) (position : ℕ) (word : Text) (h : Held) → begins_with_dash word ≡ false → subcommand_met names idle word ≡ None
-    → walked rules names (standing h position) word ≡ to_positional rules (arg_by_index rules position) word (standing h position) h
-unfolding walked
-plain_walked rules names position word h dash none =
-    ap (λ (met : Held × Step). after_step rules word (standing h position) met.0 met.1) (plain_met rules names position word h dash none)
-
-plain_turn : (s : Shape) (names : Names) (position : ℕ) (word : Text) (h : Held) → begins_with_dash word ≡ false → subcommand_met names idle word ≡ None
-    → turn_fault s names (standing h position) word ≡ step_fault s position h value
-plain_turn s names position word h dash none =
-    ap₂ (λ (first : Kinds) (met : Held × Step). or_else first (step_fault s position met.0 met.1)) (plain_fault s names word h dash none)
-    (plain_met s.rules names position word h dash none)
-
--- ---- the program and its commands, as built
-
-abbrev top : Shape
-top = with_filled_rules (with_leaf_noted (marked_built program_shape))
-
-abbrev leaf_of : Text → Numbers → Shape
-leaf_of name numbers = built_leaf (inherited (with_leaf_noted (marked_built program_shape)) (shape_of_form (record { name = name; numbers = numbers })))
-
-abbrev leaves : List Form → List Shape
-leaves forms = map built_leaf (map (inherited (with_leaf_noted (marked_built program_shape))) (map shape_of_form forms))
-
-built_is : (forms : List Form) → built (program_of forms) ≡ record { top = top; subs = leaves forms }
-built_is forms = refl
-
--- the first command with this name, as the parse looks for it
-abbrev entry_of : List Form → Text → Option Shape
-entry_of forms name = find (λ s. answers_to name (label_of s)) (leaves forms)
-
-abbrev met_of : List Form → Text → Option Text
-met_of forms name = subcommand_met (map label_of (leaves forms)) idle name
-
-abbrev IsUnknown : List Form → Text → Type 0
-IsUnknown forms name = (entry_of forms name ≡ None) × (met_of forms name ≡ None)
-
-abbrev IsKnown : List Form → Text → Type 0
-IsKnown forms name = (numbers : Numbers) × (entry_of forms name ≡ Some (leaf_of name numbers)) × (met_of forms name ≡ Some name)
-
--- a name is that of a command or of none
-known : (forms : List Form) (name : Text) → IsUnknown forms name ⊎ IsKnown forms name
-known [] name = inl (refl, refl)
-known (form ∷ forms) name = go (bytes_eq form.name name) refl (known forms name)
-  where
-    go : (same : Bool) → bytes_eq form.name name ≡ same → IsUnknown forms name ⊎ IsKnown forms name → IsUnknown (form ∷ forms) name ⊎ IsKnown (form ∷ forms) name
-    go false e (inl (entry, met)) = inl (rw e entry, rw e met)
-    go false e (inr (numbers, entry, met)) = inr (numbers, rw e entry, rw e met)
-    go true e rest =
-        let is : form.name ≡ name = (bytes_eq-Decides form.name name).0 e in
-        let entry : entry_of (form ∷ forms) name ≡ Some (leaf_of form.name form.numbers) = rw e refl in
-        let met : met_of (form ∷ forms) name ≡ Some form.name = rw e refl in
-        inr (form.numbers, entry ∙ ap (λ n. Some (leaf_of n form.numbers)) is, met ∙ ap Some is)
+use Rattle.kp_tool_words.specs.Words.{is_barred, at_most, command_of, count_of, seed_of, counted_command, plain_command, seeded_command}
+use Rattle.kp_tool_words.specs.inner.Matching.{Form, Numbers, plain, counted, seeded, known_forms, program_of, command_of_rows, rules_of}
 
 -- ---- the arguments after a command
 
+abbrev leaf_of : Text → Numbers → Shape
+leaf_of name numbers = parse.leaf_of (codes "kp") name (rules_of numbers)
+
 abbrev refused_after : Text → Numbers → List Text → Kinds
-refused_after name numbers words = level_fault (leaf_of name numbers) [] nothing_held words false []
+refused_after name numbers words = parse.refused_after (codes "kp") name (rules_of numbers) words
 
 abbrev found_after : Text → Numbers → List Text → List Row
-found_after name numbers words = rows_after (leaf_of name numbers).rules [] words
+found_after name numbers words = parse.found_after (codes "kp") name (rules_of numbers) words
 
 abbrev command_after : Text → Numbers → List Text → Option Command
 command_after name numbers words = command_of_rows (Some (name, found_after name numbers words))
@@ -128,10 +52,10 @@ plain_rows name = refl
 counted_passes : (name word : Text) → begins_with_dash word ≡ false → refused_after name counted (word ∷ []) ≡ []
 unfolding walk_fault defaults_fault
 counted_passes name word h =
-    rw (plain_walked (leaf_of name counted).rules [] 1 word nothing_held h refl, plain_turn (leaf_of name counted) [] 1 word nothing_held h refl) refl
+    rw (plain_walked [] 1 word nothing_held h refl (leaf_of name counted).rules, plain_turn [] 1 word nothing_held h refl (leaf_of name counted)) refl
 
 counted_rows : (name word : Text) → begins_with_dash word ≡ false → command_after name counted (word ∷ []) ≡ command_of (name ∷ word ∷ [])
-counted_rows name word h = rw (plain_walked (leaf_of name counted).rules [] 1 word nothing_held h refl) refl
+counted_rows name word h = rw (plain_walked [] 1 word nothing_held h refl (leaf_of name counted).rules) refl
 
 module _ (name word second : Text) (h : begins_with_dash word ≡ false) (k : begins_with_dash second ≡ false) where
   seeded_passes : refused_after name seeded (word ∷ second ∷ []) ≡ []
@@ -139,36 +63,25 @@ module _ (name word second : Text) (h : begins_with_dash word ≡ false) (k : be
   seeded_passes =
       let s = leaf_of name seeded in
       rw (
-        plain_walked s.rules [] 1 word nothing_held h refl,
-        plain_turn s [] 1 word nothing_held h refl,
-        plain_walked s.rules [] 2 second (first_held name seeded word) k refl,
-        plain_turn s [] 2 second (first_held name seeded word) k refl,
+        plain_walked [] 1 word nothing_held h refl s.rules,
+        plain_turn [] 1 word nothing_held h refl s,
+        plain_walked [] 2 second (first_held name seeded word) k refl s.rules,
+        plain_turn [] 2 second (first_held name seeded word) k refl s,
       ) (refl {a = []})
 
   seeded_rows : command_after name seeded (word ∷ second ∷ []) ≡ command_of (name ∷ word ∷ second ∷ [])
   seeded_rows =
       let rules = (leaf_of name seeded).rules in
-      rw (plain_walked rules [] 1 word nothing_held h refl, plain_walked rules [] 2 second (first_held name seeded word) k refl) refl
+      rw (plain_walked [] 1 word nothing_held h refl rules, plain_walked [] 2 second (first_held name seeded word) k refl rules) refl
 
--- something is rejected
-abbrev IsRefused : Kinds → Type 0
-IsRefused [] = ⊥
-IsRefused (k ∷ ks) = ⊤
-
-refused_first : (a b : Kinds) → IsRefused a → IsRefused (or_else a b)
-refused_first [] b h = absurd h
-refused_first (k ∷ ks) b h = tt
-
-refused_second : (a b : Kinds) → IsRefused b → IsRefused (or_else a b)
-refused_second [] b h = h
-refused_second (k ∷ ks) b h = tt
+-- ---- something is rejected
 
 more_refused : (name word : Text) (words : List Text) → begins_with_dash word ≡ false → IsRefused (refused_after name plain (word ∷ words))
 unfolding walk_fault
 more_refused name word words h =
     let s = leaf_of name plain in
     refused_first _ _ (refused_first (turn_fault s [] (standing nothing_held 1) word) (walk_fault s [] (walked s.rules [] (standing nothing_held 1) word) words)
-    (subst IsRefused (sym (plain_turn s [] 1 word nothing_held h refl)) tt))
+    (subst IsRefused (sym (plain_turn [] 1 word nothing_held h refl s)) tt))
 
 missing_refused : (name : Text) → IsRefused (refused_after name counted [])
 unfolding walk_fault defaults_fault
@@ -180,7 +93,7 @@ unfolding walk_fault
 second_refused name word second words h k =
     let s = leaf_of name counted in
     let w = walked s.rules [] (standing nothing_held 1) word in
-    let turn = ap (λ v. turn_fault s [] v second) (plain_walked s.rules [] 1 word nothing_held h refl) ∙ plain_turn s [] 2 second _ k refl in
+    let turn = ap (λ v. turn_fault s [] v second) (plain_walked [] 1 word nothing_held h refl s.rules) ∙ plain_turn [] 2 second _ k refl s in
     refused_first _ _ (refused_second (turn_fault s [] (standing nothing_held 1) word) _
     (refused_first (turn_fault s [] w second) (walk_fault s [] (walked s.rules [] w second) words) (subst IsRefused (sym turn) tt)))
 
@@ -191,7 +104,7 @@ both_missing_refused name = tt
 one_missing_refused : (name word : Text) → begins_with_dash word ≡ false → IsRefused (refused_after name seeded (word ∷ []))
 unfolding walk_fault defaults_fault
 one_missing_refused name word h =
-    rw (plain_walked (leaf_of name seeded).rules [] 1 word nothing_held h refl, plain_turn (leaf_of name seeded) [] 1 word nothing_held h refl) tt
+    rw (plain_walked [] 1 word nothing_held h refl (leaf_of name seeded).rules, plain_turn [] 1 word nothing_held h refl (leaf_of name seeded)) tt
 
 third_refused : (name word second third : Text) (words : List Text) → begins_with_dash word ≡ false → begins_with_dash second ≡ false
     → begins_with_dash third ≡ false → IsRefused (refused_after name seeded (word ∷ second ∷ third ∷ words))
@@ -200,73 +113,19 @@ third_refused name word second third words h k l =
     let s = leaf_of name seeded in
     let one = walked s.rules [] (standing nothing_held 1) word in
     let two = walked s.rules [] one second in
-    let turn = ap (λ v. turn_fault s [] (walked s.rules [] v second) third) (plain_walked s.rules [] 1 word nothing_held h refl)
-    ∙ ap (λ v. turn_fault s [] v third) (plain_walked s.rules [] 2 second (first_held name seeded word) k refl)
-    ∙ plain_turn s [] 3 third (second_held name word second) l refl in
+    let turn = ap (λ v. turn_fault s [] (walked s.rules [] v second) third) (plain_walked [] 1 word nothing_held h refl s.rules)
+    ∙ ap (λ v. turn_fault s [] v third) (plain_walked [] 2 second (first_held name seeded word) k refl s.rules)
+    ∙ plain_turn [] 3 third (second_held name word second) l refl s in
     refused_first _ _ (refused_second (turn_fault s [] (standing nothing_held 1) word) _ (refused_second (turn_fault s [] one second) _
     (refused_first (turn_fault s [] two third) (walk_fault s [] (walked s.rules [] two third) words) (subst IsRefused (sym turn) tt))))
 
--- ---- the complete parse
-
-or_else_nothing : (k : Kinds) → or_else k [] ≡ k
-or_else_nothing [] = refl
-or_else_nothing (k ∷ ks) = refl
-
-never : (b : Bool) (ks : Kinds) → cond (b && false) ks [] ≡ []
-never true ks = refl
-never false ks = refl
-
-unknown_refused : (forms : List Form) (name : Text) (words : List Text) → begins_with_dash name ≡ false → met_of forms name ≡ None
-    → IsRefused (fault_of (program_of forms) (name ∷ words))
-unfolding walk_fault
-unknown_refused forms name words h none =
-    let names = map label_of (leaves forms) in
-    refused_first _ _ (refused_first (turn_fault top names (standing nothing_held 1) name) (walk_fault top names (walked [] names (standing nothing_held 1) name) words)
-    (subst IsRefused (sym (plain_turn top names 1 name nothing_held h none)) tt))
-
-module _ (forms : List Form) (name : Text) (numbers : Numbers) (words : List Text) (entry : entry_of forms name ≡ Some (leaf_of name numbers)) (met : met_of forms name ≡ Some name) where
-  -- the walk stops at the name
-  name_walked : walked [] (map label_of (leaves forms)) (walk_from nothing_held) name ≡ record (walk_from nothing_held) { stopped = Some (name, []) }
-  unfolding walked
-  name_walked = ap (λ (m : Option Text). let p = subcommand_or_other [] m idle 1 name nothing_held in after_step [] name (walk_from nothing_held) p.0 p.1) met
-
-  name_stops : walk [] (map label_of (leaves forms)) nothing_held (name ∷ words) ≡ record (walk_from nothing_held) { stopped = Some (name, words) }
-  name_stops = ap (λ w. fold (walked [] (map label_of (leaves forms))) w words) name_walked ∙ sym (walk_stopped [] (map label_of (leaves forms)) (walk_from nothing_held) name [] words)
-
-  name_passes : turn_fault top (map label_of (leaves forms)) (walk_from nothing_held) name ≡ []
-  name_passes =
-      ap (λ (m : Option Text). let p = subcommand_or_other [] m idle 1 name nothing_held in or_else (other_fault top m name nothing_held) (step_fault top 1 p.0 p.1)) met
-      ∙ ap (λ k. or_else k []) (never (bytes_eq name (codes "help")) _)
-
-  walk_passes : walk_fault top (map label_of (leaves forms)) (walk_from nothing_held) (name ∷ words) ≡ []
-  unfolding walk_fault
-  walk_passes = ap₂ or_else name_passes (ap (λ w. walk_fault top (map label_of (leaves forms)) w words) name_walked
-      ∙ stopped_fault top (map label_of (leaves forms)) (walk_from nothing_held) (name, []) words)
-
-  known_refused : fault_of (program_of forms) (name ∷ words) ≡ refused_after name numbers words
-  unfolding defaults_fault
-  known_refused =
-      let a = built (program_of forms) in
-      ap₂ (λ (first : Kinds) (w : Walk). or_else first (or_else (entered_fault a w.stopped) (or_else (settle_fault [] false w.held)
-      (or_else (defaults_fault (settled [] w.held).rows []) (check_fault top (finished [] w.held) (is_some (entered a w.stopped))))))) walk_passes name_stops
-      ∙ ap (λ (e : Option Shape). or_else (option_map_or (λ s. level_fault s [] nothing_held words false []) e []) (check_fault top [] (is_some (option_map (λ s. rows_at s words) e)))) entry
-      ∙ or_else_nothing _
-
-  known_found : subcommand_of (program_of forms) (name ∷ words) ≡ Some (name, found_after name numbers words)
-  known_found =
-      ap (λ (w : Walk). entered (built (program_of forms)) w.stopped) name_stops ∙ ap (option_map (λ s. rows_at s words)) entry
-
 -- ---- the command of the arguments
-
-either_false : (a b : Bool) → (a || b) ≡ false → (a ≡ false) × (b ≡ false)
-either_false true b h = absurd (true≢false h)
-either_false false b h = (refl, h)
 
 -- the first argument does not begin with `-`, and no later argument is barred
 first_word : (word : Text) (words : List Text) → list_any is_barred (word ∷ words) ≡ false → (begins_with_dash word ≡ false) × (list_any is_barred words ≡ false)
 first_word word words h =
-    let both = either_false (is_barred word) (list_any is_barred words) h in
-    ((either_false (begins_with_dash word) (bytes_eq word (codes "help")) both.0).0, both.1)
+    let both = or_parts (is_barred word) (list_any is_barred words) h in
+    ((or_parts (begins_with_dash word) (bytes_eq word (codes "help")) both.0).0, both.1)
 
 after_name : (name : Text) (numbers : Numbers) (words : List Text) → list_any is_barred words ≡ false → refused_after name numbers words ≡ []
     → command_after name numbers words ≡ command_of (name ∷ words)
@@ -287,20 +146,32 @@ after_name name seeded (word ∷ second ∷ third ∷ words) h none =
     let next = first_word second (third ∷ words) first.1 in
     absurd (subst IsRefused none (third_refused name word second third words first.0 next.0 (first_word third words next.1).0))
 
+abbrev name_of : Form → Text
+name_of form = form.name
+
+abbrev form_rules : Form → List Rule
+form_rules form = rules_of form.numbers
+
+abbrev IsUnknown : List Form → Text → Type 0
+IsUnknown = parse.IsUnknown (codes "kp") name_of form_rules
+
+abbrev IsKnown : List Form → Text → Type 0
+IsKnown = parse.IsKnown (codes "kp") name_of form_rules
+
 -- what the parse found is the command, whatever table of commands it has
 pub matched : (forms : List Form) (words : List Text) → list_any is_barred words ≡ false → fault_of (program_of forms) words ≡ []
     → command_of_rows (subcommand_of (program_of forms) words) ≡ command_of words
 matched forms [] h none = refl
-matched forms (name ∷ words) h none = go (known forms name)
+matched forms (name ∷ words) h none = go (parse.known (codes "kp") name_of form_rules forms name)
   where
     first : (begins_with_dash name ≡ false) × (list_any is_barred words ≡ false)
     first = first_word name words h
 
     go : IsUnknown forms name ⊎ IsKnown forms name → command_of_rows (subcommand_of (program_of forms) (name ∷ words)) ≡ command_of (name ∷ words)
-    go (inl (entry, met)) = absurd (subst IsRefused none (unknown_refused forms name words first.0 met))
-    go (inr (numbers, entry, met)) =
-        ap command_of_rows (known_found forms name numbers words entry met)
-        ∙ after_name name numbers words first.1 (sym (known_refused forms name numbers words entry met) ∙ none)
+    go (inl (entry, met)) = absurd (subst IsRefused none (parse.unknown_refused (codes "kp") name_of form_rules forms name words first.0 met))
+    go (inr (form, entry, met)) =
+        ap command_of_rows (parse.known_found (codes "kp") name_of form_rules forms name (form_rules form) words entry met)
+        ∙ after_name name form.numbers words first.1 (sym (parse.known_refused (codes "kp") name_of form_rules forms name (form_rules form) words entry met) ∙ none)
 
 -- what `subcommand` returns is what the parse found
 module _ {Z : Type 0} where
@@ -314,134 +185,88 @@ module _ {Z : Type 0} where
 has_name : (name text : Text) → bytes_eq name text ≡ true → text ≡ name
 has_name name text h = sym ((bytes_eq-Decides name text).0 h)
 
-check_passes : fault_of (program_of known_forms) (codes "check" ∷ []) ≡ []
-check_passes = known_refused known_forms (codes "check") plain [] refl refl ∙ plain_passes (codes "check")
-
-pipe_passes : fault_of (program_of known_forms) (codes "pipe" ∷ []) ≡ []
-pipe_passes = known_refused known_forms (codes "pipe") plain [] refl refl ∙ plain_passes (codes "pipe")
-
-asm_passes : fault_of (program_of known_forms) (codes "asm" ∷ []) ≡ []
-asm_passes = known_refused known_forms (codes "asm") plain [] refl refl ∙ plain_passes (codes "asm")
-
-read_passes : fault_of (program_of known_forms) (codes "read" ∷ []) ≡ []
-read_passes = known_refused known_forms (codes "read") plain [] refl refl ∙ plain_passes (codes "read")
-
-equiv_passes : fault_of (program_of known_forms) (codes "equiv" ∷ []) ≡ []
-equiv_passes = known_refused known_forms (codes "equiv") plain [] refl refl ∙ plain_passes (codes "equiv")
-
-debug_passes : fault_of (program_of known_forms) (codes "debug" ∷ []) ≡ []
-debug_passes = known_refused known_forms (codes "debug") plain [] refl refl ∙ plain_passes (codes "debug")
-
-seq_passes : (word : Text) → begins_with_dash word ≡ false → fault_of (program_of known_forms) (codes "seq" ∷ word ∷ []) ≡ []
-seq_passes word h = known_refused known_forms (codes "seq") counted (word ∷ []) refl refl ∙ counted_passes (codes "seq") word h
-
-sim_passes : (word : Text) → begins_with_dash word ≡ false → fault_of (program_of known_forms) (codes "sim" ∷ word ∷ []) ≡ []
-sim_passes word h = known_refused known_forms (codes "sim") counted (word ∷ []) refl refl ∙ counted_passes (codes "sim") word h
-
-vcd_passes : (word : Text) → begins_with_dash word ≡ false → fault_of (program_of known_forms) (codes "vcd" ∷ word ∷ []) ≡ []
-vcd_passes word h = known_refused known_forms (codes "vcd") counted (word ∷ []) refl refl ∙ counted_passes (codes "vcd") word h
-
-timing_passes : (word : Text) → begins_with_dash word ≡ false → fault_of (program_of known_forms) (codes "timing" ∷ word ∷ []) ≡ []
-timing_passes word h = known_refused known_forms (codes "timing") counted (word ∷ []) refl refl ∙ counted_passes (codes "timing") word h
-
-watch_passes : (word : Text) → begins_with_dash word ≡ false → fault_of (program_of known_forms) (codes "watch" ∷ word ∷ []) ≡ []
-watch_passes word h = known_refused known_forms (codes "watch") counted (word ∷ []) refl refl ∙ counted_passes (codes "watch") word h
-
-gen_passes : (word second : Text) → begins_with_dash word ≡ false → begins_with_dash second ≡ false
-    → fault_of (program_of known_forms) (codes "gen" ∷ word ∷ second ∷ []) ≡ []
-gen_passes word second h k =
-    known_refused known_forms (codes "gen") seeded (word ∷ second ∷ []) refl refl ∙ seeded_passes (codes "gen") word second h k
-
 abbrev IsPassed : List Text → Type 0
 IsPassed words = fault_of (program_of known_forms) words ≡ []
 
--- a name of none of the commands without a number
-plain_unmatched : (name : Text) → (IsPassed (name ∷ []) → ⊥) → plain_command name ≡ None
-plain_unmatched name refused =
+-- a known name with these number arguments
+record IsForm (numbers : Numbers) (name : Text) : Type 0 where
+  entry : parse.entry_of (codes "kp") name_of form_rules known_forms name ≡ Some (leaf_of name numbers)
+  met : parse.met_of (codes "kp") name_of form_rules known_forms name ≡ Some name
+  fine : is_barred name ≡ false
+
+is_form : (numbers : Numbers) (name text : Text) → bytes_eq name text ≡ true → IsForm numbers text → IsForm numbers name
+is_form numbers name text e is = subst (IsForm numbers) (has_name name text e) is
+
+form_passes : (numbers : Numbers) (name : Text) (words : List Text) → IsForm numbers name → refused_after name numbers words ≡ [] → IsPassed (name ∷ words)
+form_passes numbers name words is passes =
+    parse.known_refused (codes "kp") name_of form_rules known_forms name (rules_of numbers) words is.entry is.met ∙ passes
+
+-- a name is that of a command without number arguments, or of none
+plain_named : (name : Text) → (plain_command name ≡ None) ⊎ IsForm plain name
+plain_named name =
     go (bytes_eq name (codes "check")) (bytes_eq name (codes "pipe")) (bytes_eq name (codes "asm")) (bytes_eq name (codes "read")) (bytes_eq name (codes "equiv"))
     (bytes_eq name (codes "debug")) refl refl refl refl refl refl
   where
-    named : (word : List ℕ) → bytes_eq name word ≡ true → IsPassed (word ∷ []) → ⊥
-    named word e passes = refused (subst (λ n. IsPassed (n ∷ [])) (has_name name word e) passes)
+    named : (text : Text) → IsForm plain text → bytes_eq name text ≡ true → (plain_command name ≡ None) ⊎ IsForm plain name
+    named text is e = inr (is_form plain name text e is)
 
     go : (check pipe asm read equiv debug : Bool) → bytes_eq name (codes "check") ≡ check → bytes_eq name (codes "pipe") ≡ pipe → bytes_eq name (codes "asm") ≡ asm
-        → bytes_eq name (codes "read") ≡ read → bytes_eq name (codes "equiv") ≡ equiv → bytes_eq name (codes "debug") ≡ debug → plain_command name ≡ None
-    go true pipe asm read equiv debug e p f r q d = absurd (named (codes "check") e check_passes)
-    go false true asm read equiv debug e p f r q d = absurd (named (codes "pipe") p pipe_passes)
-    go false false true read equiv debug e p f r q d = absurd (named (codes "asm") f asm_passes)
-    go false false false true equiv debug e p f r q d = absurd (named (codes "read") r read_passes)
-    go false false false false true debug e p f r q d = absurd (named (codes "equiv") q equiv_passes)
-    go false false false false false true e p f r q d = absurd (named (codes "debug") d debug_passes)
-    go false false false false false false e p f r q d = rw (e, p, f, r, q, d) refl
+        → bytes_eq name (codes "read") ≡ read → bytes_eq name (codes "equiv") ≡ equiv → bytes_eq name (codes "debug") ≡ debug
+        → (plain_command name ≡ None) ⊎ IsForm plain name
+    go true pipe asm read equiv debug e p f r q d = named (codes "check") (record { entry = refl; met = refl; fine = refl }) e
+    go false true asm read equiv debug e p f r q d = named (codes "pipe") (record { entry = refl; met = refl; fine = refl }) p
+    go false false true read equiv debug e p f r q d = named (codes "asm") (record { entry = refl; met = refl; fine = refl }) f
+    go false false false true equiv debug e p f r q d = named (codes "read") (record { entry = refl; met = refl; fine = refl }) r
+    go false false false false true debug e p f r q d = named (codes "equiv") (record { entry = refl; met = refl; fine = refl }) q
+    go false false false false false true e p f r q d = named (codes "debug") (record { entry = refl; met = refl; fine = refl }) d
+    go false false false false false false e p f r q d = inl (rw (e, p, f, r, q, d) refl)
 
-counted_none : (name : Text) (count : Option ℕ) → bytes_eq name (codes "seq") ≡ false → bytes_eq name (codes "sim") ≡ false → bytes_eq name (codes "vcd") ≡ false
-    → bytes_eq name (codes "timing") ≡ false → bytes_eq name (codes "watch") ≡ false → option_and_then (counted_command name) count ≡ None
-counted_none name None e f g t i = refl
-counted_none name (Some count) e f g t i = rw (e, f, g, t, i) refl
-
-counted_unmatched : (name word : Text) → begins_with_dash word ≡ false → (IsPassed (name ∷ word ∷ []) → ⊥) → option_and_then (counted_command name) (count_of word) ≡ None
-counted_unmatched name word h refused =
+-- or of one with a count
+counted_named : (name : Text) (count : Option ℕ) → (option_and_then (counted_command name) count ≡ None) ⊎ IsForm counted name
+counted_named name None = inl refl
+counted_named name (Some count) =
     go (bytes_eq name (codes "seq")) (bytes_eq name (codes "sim")) (bytes_eq name (codes "vcd")) (bytes_eq name (codes "timing")) (bytes_eq name (codes "watch"))
     refl refl refl refl refl
   where
-    named : (it : List ℕ) → bytes_eq name it ≡ true → IsPassed (it ∷ word ∷ []) → ⊥
-    named it e passes = refused (subst (λ n. IsPassed (n ∷ word ∷ [])) (has_name name it e) passes)
+    named : (text : Text) → IsForm counted text → bytes_eq name text ≡ true → (counted_command name count ≡ None) ⊎ IsForm counted name
+    named text is e = inr (is_form counted name text e is)
 
     go : (seq sim vcd timing watch : Bool) → bytes_eq name (codes "seq") ≡ seq → bytes_eq name (codes "sim") ≡ sim → bytes_eq name (codes "vcd") ≡ vcd
-        → bytes_eq name (codes "timing") ≡ timing → bytes_eq name (codes "watch") ≡ watch → option_and_then (counted_command name) (count_of word) ≡ None
-    go true sim vcd timing watch e f g t i = absurd (named (codes "seq") e (seq_passes word h))
-    go false true vcd timing watch e f g t i = absurd (named (codes "sim") f (sim_passes word h))
-    go false false true timing watch e f g t i = absurd (named (codes "vcd") g (vcd_passes word h))
-    go false false false true watch e f g t i = absurd (named (codes "timing") t (timing_passes word h))
-    go false false false false true e f g t i = absurd (named (codes "watch") i (watch_passes word h))
-    go false false false false false e f g t i = counted_none name (count_of word) e f g t i
+        → bytes_eq name (codes "timing") ≡ timing → bytes_eq name (codes "watch") ≡ watch → (counted_command name count ≡ None) ⊎ IsForm counted name
+    go true sim vcd timing watch e f g t i = named (codes "seq") (record { entry = refl; met = refl; fine = refl }) e
+    go false true vcd timing watch e f g t i = named (codes "sim") (record { entry = refl; met = refl; fine = refl }) f
+    go false false true timing watch e f g t i = named (codes "vcd") (record { entry = refl; met = refl; fine = refl }) g
+    go false false false true watch e f g t i = named (codes "timing") (record { entry = refl; met = refl; fine = refl }) t
+    go false false false false true e f g t i = named (codes "watch") (record { entry = refl; met = refl; fine = refl }) i
+    go false false false false false e f g t i = inl (rw (e, f, g, t, i) refl)
 
-seeded_none : (name : Text) (seed count : Option ℕ) → bytes_eq name (codes "gen") ≡ false → seeded_command name seed count ≡ None
-seeded_none name None count e = refl
-seeded_none name (Some number) None e = refl
-seeded_none name (Some number) (Some count) e = rw e refl
-
-seeded_unmatched : (name word second : Text) → begins_with_dash word ≡ false → begins_with_dash second ≡ false
-    → (IsPassed (name ∷ word ∷ second ∷ []) → ⊥) → seeded_command name (seed_of word) (count_of second) ≡ None
-seeded_unmatched name word second h k refused = go (bytes_eq name (codes "gen")) refl
+-- or of the one with a seed and a count
+seeded_named : (name : Text) (seed count : Option ℕ) → (seeded_command name seed count ≡ None) ⊎ IsForm seeded name
+seeded_named name None count = inl refl
+seeded_named name (Some seed) None = inl refl
+seeded_named name (Some seed) (Some count) = go (bytes_eq name (codes "gen")) refl
   where
-    go : (gen : Bool) → bytes_eq name (codes "gen") ≡ gen → seeded_command name (seed_of word) (count_of second) ≡ None
-    go true e = absurd (refused (subst (λ n. IsPassed (n ∷ word ∷ second ∷ [])) (has_name name (codes "gen") e) (gen_passes word second h k)))
-    go false e = seeded_none name (seed_of word) (count_of second) e
+    go : (gen : Bool) → bytes_eq name (codes "gen") ≡ gen → (seeded_command name (Some seed) (Some count) ≡ None) ⊎ IsForm seeded name
+    go true e = inr (is_form seeded name (codes "gen") e (record { entry = refl; met = refl; fine = refl }))
+    go false e = inl (rw e refl)
 
 -- arguments that the parse rejects are no command
-pub unmatched : (words : List Text) → list_any is_barred words ≡ false → (fault_of (program_of known_forms) words ≡ [] → ⊥) → command_of words ≡ None
+pub unmatched : (words : List Text) → list_any is_barred words ≡ false → (IsPassed words → ⊥) → command_of words ≡ None
 unmatched [] h refused = refl
-unmatched (name ∷ []) h refused = plain_unmatched name refused
-unmatched (name ∷ word ∷ []) h refused = counted_unmatched name word (first_word word [] (first_word name (word ∷ []) h).1).0 refused
+unmatched (name ∷ []) h refused = ⊎_elim (λ none. none) (λ is. absurd (refused (form_passes plain name [] is (plain_passes name)))) (plain_named name)
+unmatched (name ∷ word ∷ []) h refused =
+    ⊎_elim (λ none. none) (λ is. absurd (refused (form_passes counted name (word ∷ []) is (counted_passes name word (first_word word [] (first_word name (word ∷ []) h).1).0))))
+    (counted_named name (count_of word))
 unmatched (name ∷ word ∷ second ∷ []) h refused =
     let first = first_word word (second ∷ []) (first_word name (word ∷ second ∷ []) h).1 in
-    seeded_unmatched name word second first.0 (first_word second [] first.1).0 refused
+    ⊎_elim (λ none. none)
+    (λ is. absurd (refused (form_passes seeded name (word ∷ second ∷ []) is (seeded_passes name word second first.0 (first_word second [] first.1).0))))
+    (seeded_named name (seed_of word) (count_of second))
 unmatched (name ∷ word ∷ second ∷ third ∷ words) h refused = refl
 
 -- a barred argument is no name
-not_named : (name text : Text) → is_barred name ≡ true → is_barred text ≡ false → bytes_eq name text ≡ false
-not_named name text h fine = go (bytes_eq name text) refl
-  where
-    go : (same : Bool) → bytes_eq name text ≡ same → bytes_eq name text ≡ false
-    go true e = absurd (true≢false (sym h ∙ ap is_barred (sym (has_name name text e)) ∙ fine))
-    go false e = e
-
-plain_barred : (name : Text) → is_barred name ≡ true → plain_command name ≡ None
-plain_barred name h =
-    rw (
-      not_named name (codes "check") h refl,
-      not_named name (codes "pipe") h refl,
-      not_named name (codes "asm") h refl,
-      not_named name (codes "read") h refl,
-      not_named name (codes "equiv") h refl,
-      not_named name (codes "debug") h refl,
-    ) refl
-
-counted_barred : (name : Text) (count : Option ℕ) → is_barred name ≡ true → option_and_then (counted_command name) count ≡ None
-counted_barred name count h =
-    counted_none name count (not_named name (codes "seq") h refl) (not_named name (codes "sim") h refl) (not_named name (codes "vcd") h refl)
-    (not_named name (codes "timing") h refl) (not_named name (codes "watch") h refl)
+not_form : (numbers : Numbers) (name : Text) (P : Type 0) → is_barred name ≡ true → P ⊎ IsForm numbers name → P
+not_form numbers name P h named = ⊎_elim (λ none. none) (λ is. absurd (true≢false (sym h ∙ is.fine))) named
 
 never_and : (b : Bool) (number : Option ℕ) → cond (b && false) number None ≡ None
 never_and true number = refl
@@ -477,26 +302,20 @@ no_count : (name : Text) (seed : Option ℕ) → seeded_command name seed None �
 no_count name None = refl
 no_count name (Some number) = refl
 
+barred_last : (word : Text) → list_any is_barred (word ∷ []) ≡ true → is_barred word ≡ true
+barred_last word h = ⊎_elim (λ e. e) (λ e. absurd (true≢false (sym e))) (or_cases (is_barred word) false h)
+
 -- a barred argument leaves no command
 pub barred_none : (words : List Text) → list_any is_barred words ≡ true → command_of words ≡ None
 barred_none [] h = refl
-barred_none (name ∷ []) h = go (is_barred name) refl
-  where
-    go : (bad : Bool) → is_barred name ≡ bad → plain_command name ≡ None
-    go true e = plain_barred name e
-    go false e = let all : list_any is_barred (name ∷ []) ≡ false = rw e refl in absurd (true≢false (sym h ∙ all))
-barred_none (name ∷ word ∷ []) h = go (is_barred name) (is_barred word) refl refl
-  where
-    go : (bad worse : Bool) → is_barred name ≡ bad → is_barred word ≡ worse → option_and_then (counted_command name) (count_of word) ≡ None
-    go true worse e f = counted_barred name (count_of word) e
-    go false true e f = ap (option_and_then (counted_command name)) (count_barred word f)
-    go false false e f = let all : list_any is_barred (name ∷ word ∷ []) ≡ false = rw (e, f) refl in absurd (true≢false (sym h ∙ all))
-barred_none (name ∷ word ∷ second ∷ []) h = go (is_barred name) (is_barred word) (is_barred second) refl refl refl
-  where
-    go : (bad worse worst : Bool) → is_barred name ≡ bad → is_barred word ≡ worse → is_barred second ≡ worst
-        → seeded_command name (seed_of word) (count_of second) ≡ None
-    go true worse worst e f g = seeded_none name (seed_of word) (count_of second) (not_named name (codes "gen") e refl)
-    go false true worst e f g = ap (λ seed. seeded_command name seed (count_of second)) (seed_barred word f)
-    go false false true e f g = ap (seeded_command name (seed_of word)) (count_barred second g) ∙ no_count name (seed_of word)
-    go false false false e f g = let all : list_any is_barred (name ∷ word ∷ second ∷ []) ≡ false = rw (e, f, g) refl in absurd (true≢false (sym h ∙ all))
+barred_none (name ∷ []) h = not_form plain name _ (barred_last name h) (plain_named name)
+barred_none (name ∷ word ∷ []) h =
+    ⊎_elim (λ e. not_form counted name _ e (counted_named name (count_of word))) (λ r. ap (option_and_then (counted_command name)) (count_barred word (barred_last word r)))
+    (or_cases (is_barred name) (list_any is_barred (word ∷ [])) h)
+barred_none (name ∷ word ∷ second ∷ []) h =
+    ⊎_elim (λ e. not_form seeded name _ e (seeded_named name (seed_of word) (count_of second)))
+    (λ r. ⊎_elim (λ f. ap (λ seed. seeded_command name seed (count_of second)) (seed_barred word f))
+    (λ q. ap (seeded_command name (seed_of word)) (count_barred second (barred_last second q)) ∙ no_count name (seed_of word))
+    (or_cases (is_barred word) (list_any is_barred (second ∷ [])) r))
+    (or_cases (is_barred name) (list_any is_barred (word ∷ second ∷ [])) h)
 barred_none (name ∷ word ∷ second ∷ third ∷ words) h = refl

@@ -11,6 +11,7 @@ use clap::error::ErrorKind;
 use clap::{Arg, ArgMatches};
 use kp_base::NoMemory;
 use kp_bits::read_number;
+use kp_command_line::begins_with_dash;
 use std::alloc::{AllocError, Global};
 
 /// The greatest number of instructions or cycles.
@@ -145,7 +146,7 @@ fn has_barred(words: &[String]) -> bool
 fn is_barred(word: &str) -> bool
     ensures { result ≡ is_barred word.now }
 {
-    matches!(word.as_bytes(), [b'-', ..]) || word == "help"
+    begins_with_dash(word) || word == "help"
 }
 
 // The program, with each command as a subcommand. It has no help.

@@ -3,7 +3,8 @@ use Rattle.std.proofs.Common.{◌≡◌, ◌∙◌, ℕ, ◌+◌, ◌-◌, ◌<�
 use Rattle.std.proofs.lemmas.{Option.slice_get-get_or, List.map-append, List.length-drop, List.length-map, List.length-append, List.take_all}
 use Rattle.std.proofs.Math.Seq.{take-append_seam, get_or-append_seam}
 use Rattle.std.specs.{Prelude.slice_get, Prelude.nat_lt, Prelude.option_and_then, List.IsLastAndRest, List.list_all, List.list_any, Option.option_map_or}
-use Rattle.kp_view_words.specs.Words.{Task, Text, asked_for, asked_or, asks_help, begins_with_dash, file_in, flagged_task, help, is_file_after, help_place, is_help_flag, is_help_word, is_name, is_version_flag, names_in, run_with, task_named, task_of, task_with, topic_of, version, word_named}
+use Rattle.kp_command_line.specs.Programs.{begins_with_dash}
+use Rattle.kp_view_words.specs.Words.{Task, Text, asked_for, asked_or, asks_help, file_in, flagged_task, help, is_file_after, help_place, is_help_flag, is_help_word, is_name, is_version_flag, names_in, run_with, task_named, task_of, task_with, topic_of, version, word_named}
 use Rattle.kp_view_words.specs.{inner.Matching.word_of, declared.words.Word.Word}
 
 -- some names, and a last word

@@ -3,7 +3,7 @@ ghost use Rattle.std.specs.Prelude.{◌≡◌, map, string_bytes, IfOk, false};
 ghost use Rattle.std.specs.List.{list_any};
 ghost use Rattle.clap.specs.Words.{app_of, shape_of, subcommand_rows_of, with_subcommand};
 ghost use Rattle.clap.specs.declared.builder.command.Command.TheViews.{out-Command};
-ghost use Rattle.kp_view_words.specs.Words.{begins_with_dash};
+ghost use Rattle.kp_command_line.specs.Programs.{begins_with_dash};
 ghost use Rattle.kp_view_words.specs.inner.Matching.{known_names, program_of, shape_named, word_of, word_of_rows};
 
 use crate::words::Word;

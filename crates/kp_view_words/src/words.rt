@@ -4,13 +4,15 @@ ghost use Rattle.std.specs.List.{list_any, list_all};
 ghost use Rattle.std.specs.Option.{option_map_or};
 ghost use Rattle.kp_view_words.specs.Asked.{asked, file_asked, order_seen, task_seen};
 ghost use Rattle.kp_base.specs.Characters.{is_word};
-ghost use Rattle.kp_view_words.specs.Words.{asked_for, names_for, topic_of, topic_named, help_place, is_help_word, is_help_flag, is_version_flag, begins_with_dash, asks_help, task_of, task_with, stalls_with, with_file, flagged_task, asks_picture, run_in, run_with, word_named, count_of, names_in, file_in, is_file_after, is_name, is_path};
+ghost use Rattle.kp_view_words.specs.Words.{asked_for, names_for, topic_of, topic_named, help_place, is_help_word, is_help_flag, is_version_flag, asks_help, task_of, task_with, stalls_with, with_file, flagged_task, asks_picture, run_in, run_with, word_named, count_of, names_in, file_in, is_file_after, is_name, is_path};
+ghost use Rattle.kp_command_line.specs.Programs.{begins_with_dash};
 ghost use Rattle.kp_view_words.specs.inner.Asking.{run_asked};
 
 use crate::matching::word_of;
 use crate::task::{Cycles, Order, Run, Task};
 use kp_base::{NoMemory, is_word};
 use kp_bits::read_number;
+use kp_command_line::begins_with_dash;
 use std::alloc::Global;
 
 /// The greatest number of cycles that are drawn.
@@ -159,12 +161,6 @@ fn is_version_flag(word: &str) -> bool
     ensures { result ≡ is_version_flag word.now }
 {
     word == "--version" || word == "-V"
-}
-
-fn begins_with_dash(word: &str) -> bool
-    ensures { result ≡ begins_with_dash word.now }
-{
-    matches!(word.as_bytes(), [b'-', ..])
 }
 
 // One of the words is a flag for help.

@@ -1,6 +1,8 @@
 -- This file specifies what `clap` is given of the commands, and how the program interprets what it found.
 use Rattle.std.specs.Prelude.{ℕ, true, false, List, [], ◌∷◌, ◌++◌, map, codes, Option, None, Some, option_and_then}
-use Rattle.clap.specs.{Walk.Row, Walk.Rule, Walk.Text, Walk.first_of, Simple.App, Simple.Shape, Simple.new_rule, Simple.new_shape}
+use Rattle.clap.specs.{Walk.Row, Walk.Rule, Walk.Text, Walk.first_of, Simple.App, Simple.Shape, Simple.new_rule}
+use Rattle.kp_command_line.specs.Programs as commands
+use Rattle.kp_command_line.specs.Programs.{command_shape}
 use Rattle.kp_tool_words.specs.{Words.plain_command, Words.counted_command, Words.seeded_command, Words.count_of, Words.seed_of, declared.words.Command.Command}
 
 -- The number arguments after a name are none, a count, or a seed and a count.
@@ -58,22 +60,15 @@ known_forms = verilog_forms ++ record { name = codes "gen"; numbers = seeded } �
 abbrev pub number_rule : List ℕ → Rule
 number_rule id = record (new_rule id) { required = true }
 
+abbrev pub rules_of : Numbers → List Rule
+rules_of numbers = map number_rule (ids_of numbers)
+
 -- Each form is a subcommand of the program.
 abbrev pub shape_of_form : Form → Shape
-shape_of_form form = record (new_shape form.name) { rules = map number_rule (ids_of form.numbers) }
+shape_of_form form = command_shape form.name (rules_of form.numbers)
 
--- The first argument of the program is already a subcommand, and no argument requests help.
-abbrev pub program_shape : Shape
-program_shape = record (new_shape (codes "kp")) {
-  is_leaf = false;
-  no_binary_name = true;
-  disable_help_flag = true;
-  disable_help_subcommand = true;
-}
-
--- The program has a subcommand for each of the forms.
 abbrev pub program_of : List Form → App
-program_of forms = record { top = program_shape; subs = map shape_of_form forms }
+program_of forms = commands.program_of (codes "kp") shape_of_form forms
 
 -- A name yields a command with the seed argument and the number argument that were found, with a number argument only, or with none.
 abbrev pub command_by : List ℕ → Option (List ℕ) → Option (List ℕ) → Option Command

@@ -1,6 +1,8 @@
 -- What `clap` is given of the words, and how the program interprets what it found.
 use Rattle.std.specs.Prelude.{true, false, List, [], ◌∷◌, map, codes, length, nat_lt, if◌then◌else◌, Option, None, Some}
-use Rattle.clap.specs.{Walk.Row, Walk.Rule, Walk.Text, Simple.App, Simple.Shape, Simple.new_rule, Simple.new_shape}
+use Rattle.clap.specs.{Walk.Row, Walk.Rule, Walk.Text, Simple.App, Simple.Shape, Simple.new_rule}
+use Rattle.kp_command_line.specs.Programs as commands
+use Rattle.kp_command_line.specs.Programs.{command_shape}
 use Rattle.kp_view_words.specs.{Words.word_named, declared.words.Word.Word}
 
 -- The words.
@@ -12,20 +14,11 @@ abbrev pub rest_rule : Rule
 rest_rule = record (new_rule (codes "rest")) { range = Some (record { start_inclusive = 0; end_inclusive = 14 }) }
 
 abbrev pub shape_named : Text → Shape
-shape_named name = record (new_shape name) { rules = rest_rule ∷ [] }
-
--- The first argument of the program is already a subcommand, and no argument requests help.
-abbrev pub program_shape : Shape
-program_shape = record (new_shape (codes "kpview")) {
-  is_leaf = false;
-  no_binary_name = true;
-  disable_help_flag = true;
-  disable_help_subcommand = true;
-}
+shape_named name = command_shape name (rest_rule ∷ [])
 
 -- The program has a subcommand for each of the names.
 abbrev pub program_of : List Text → App
-program_of names = record { top = program_shape; subs = map shape_named names }
+program_of names = commands.program_of (codes "kpview") shape_named names
 
 -- A parse finds the name of a subcommand and its rows, and the name determines the word.
 abbrev pub word_of_rows : Option (Text × List Row) → Option Word

@@ -1,6 +1,7 @@
 use Rattle.std.proofs.{Common.◌∙◌, Common.sym, Common.ap, Common.map, Common.string_bytes, lemmas.List.drop-map}
 use Rattle.clap.proofs.WalkLemmas.{list_any-map}
-use Rattle.kp_view_words.specs.Words.{begins_with_dash, task_with}
+use Rattle.kp_command_line.specs.Programs.{begins_with_dash}
+use Rattle.kp_view_words.specs.Words.{task_with}
 use Rattle.kp_view_words.proofs.Rests.{dash_flagged, rest_is, task_of_word}
 use Rattle.kp_view_words.proofs.words.task_of.Goals as goal
 
