@@ -95,10 +95,7 @@ module _ (job : Job) (unbroken : Unbroken (widths_of job)) (t : Laid) (tables : 
   one_asked s done u n (stmts.Read r) now free right =
       let a = read_asked job unbroken t tables rule is25 k s done u now r free right in
       ap (λ b. cond b (with_read n (narrow_address (asked_in t u r))) n) a.0 ∙ ap (with_read n) a.1
-  one_asked s done u n (stmts.Let m e) now free right = refl
-  one_asked s done u n (stmts.Put m e) now free right = refl
-  one_asked s done u n (stmts.Set m e when) now free right = refl
-  one_asked s done u n (stmts.Aim m e) now free right = refl
+  one_asked s done u n _ now free right = refl
 
   -- the statements of a stage, from the one of number j on
   pub all_asked : (s : Scoped) (done : Progress) (u : Under) (n : Noted) (j : ℕ) (xs : List Stmt) → Before job unbroken t tables rule is25 k words fit c s done u

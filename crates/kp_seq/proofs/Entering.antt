@@ -27,10 +27,11 @@ use Rattle.kp_seq.proofs.{Resolved.named, Resolved.none_suit, Lengths.row_same, 
 use Rattle.kp_seq.proofs.{Blocks.Before, Blocks.HasPlace, Written.Ended, Written.all_default}
 use Rattle.kp_seq.proofs.Plain.{after_next, next_first, next_is, none_after, none_before, not_some, same_value, within}
 
--- the values of the entries from number i on fit their widths, and their names have indices
-abbrev Fitting : List (List ℕ) → (ℕ → ℕ) → ℕ → List Slot → Type 0
-Fitting keys vs i [] = Unit {0}
-Fitting keys vs i (s ∷ ss) = (vs i < 2 ^ s.width) × ((p : ℕ) × (position (is_same_name s.name) keys ≡ Some p)) × Fitting keys vs (suc i) ss
+-- a row has the words of the entries from the one of number i on, which fit their widths
+abbrev IsRow : (ℕ → ℕ) → ℕ → List Slot → List Word → Type 0
+IsRow vs i [] row = Unit {0}
+IsRow vs i (s ∷ ss) [] = ⊥
+IsRow vs i (s ∷ ss) (w ∷ row) = (w ≡ word s.width (vs i)) × (vs i < 2 ^ s.width) × IsRow vs (suc i) ss row
 
 -- a name that no entry has
 none_there : (vs : ℕ → ℕ) (i : ℕ) (ss : List Slot) (q : List ℕ) → has_name ss q ≡ false → values.look_up (words_from i vs ss) q ≡ None
@@ -42,34 +43,23 @@ none_there vs i (s ∷ ss) q e = by_test (is_same_name q s.name)
     ∙ none_there vs (suc i) ss q (sym (ap (λ b. cond b true (has_name ss q)) y) ∙ e))
 
 -- a name of an entry has a word of its width
-word_there : (keys : List (List ℕ)) (vs : ℕ → ℕ) (i : ℕ) (ss : List Slot) (q : List ℕ) → Apart ss → Fitting keys vs i ss → IsIn ss q
+word_there : (vs : ℕ → ℕ) (i : ℕ) (ss : List Slot) (row : List Word) (q : List ℕ) → Apart ss → IsRow vs i ss row → IsIn ss q
     → (w : Word) × (values.look_up (words_from i vs ss) q ≡ Some w) × HasWidth (width_of ss q) w
-word_there keys vs i [] q a f h = absurd (omega arith)
-word_there keys vs i (s ∷ ss) q a f h = by_test (is_same_name q s.name)
+word_there vs i [] row q a f h = absurd (omega arith)
+word_there vs i (s ∷ ss) [] q a f h = absurd f
+word_there vs i (s ∷ ss) (w ∷ row) q a f h = by_test (is_same_name q s.name)
     (λ y. (
       word s.width (vs i),
       ap (λ b. cond b (Some (word s.width (vs i))) (values.look_up (words_from (suc i) vs ss) q)) y,
-      record { word = record { positive = a.1; at_most = a.2; fits = f.0 }; width = sym (ap (λ b. cond b s.width (width_of ss q)) y) },
+      record { word = record { positive = a.1; at_most = a.2; fits = f.1 }; width = sym (ap (λ b. cond b s.width (width_of ss q)) y) },
     ))
     (λ y.
     let l : suc (number_of ss q) < suc (length ss) = subst (λ b. cond b 0 (suc (number_of ss q)) < suc (length ss)) y h in
-    let r = word_there keys vs (suc i) ss q a.3 f.2 (omega arith) in (
+    let r = word_there vs (suc i) ss row q a.3 f.2 (omega arith) in (
       r.0,
       ap (λ b. cond b (Some (word s.width (vs i))) (values.look_up (words_from (suc i) vs ss) q)) y ∙ r.1,
       subst (λ n. HasWidth n r.0) (sym (ap (λ b. cond b s.width (width_of ss q)) y)) r.2,
     ))
-
--- a row has the words of the entries from the one of number i on, which fit their widths
-abbrev IsRow : (ℕ → ℕ) → ℕ → List Slot → List Word → Type 0
-IsRow vs i [] row = Unit {0}
-IsRow vs i (s ∷ ss) [] = ⊥
-IsRow vs i (s ∷ ss) (w ∷ row) = (w ≡ word s.width (vs i)) × (vs i < 2 ^ s.width) × IsRow vs (suc i) ss row
-
-row_fitting : (keys : List (List ℕ)) (vs : ℕ → ℕ) (i : ℕ) (ss : List Slot) (row : List Word) → IsRow vs i ss row
-    → ((p : ℕ) (x : Slot) → slice_get ss p ≡ Some x → (j : ℕ) × (position (is_same_name x.name) keys ≡ Some j)) → Fitting keys vs i ss
-row_fitting keys vs i [] row h place = tt
-row_fitting keys vs i (s ∷ ss) [] h place = absurd h
-row_fitting keys vs i (s ∷ ss) (w ∷ row) h place = (h.1, place 0 s refl, row_fitting keys vs (suc i) ss row h.2 (λ p x e. place (suc p) x e))
 
 -- the words of pipes are such a row
 pipes_row : (vs : ℕ → ℕ) (pipes : List ℕ) (i : ℕ) (ss : List Slot) → Apart ss → ((p : ℕ) → slice_index pipes p ≡ vs p)
@@ -101,20 +91,21 @@ module _ (t : Laid) where
   row_results u (s ∷ ss) (w ∷ row) = row_results (with_name t u s.name w) ss row
 
   -- the names of these entries have their values, and all others what they had
-  row_held : (vs : ℕ → ℕ) (u : Under) (i : ℕ) (ss : List Slot) (row : List Word) (q : List ℕ) → Apart ss → IsRow vs i ss row → Fitting t.names vs i ss
+  row_held : (vs : ℕ → ℕ) (u : Under) (i : ℕ) (ss : List Slot) (row : List Word) (q : List ℕ) → Apart ss → IsRow vs i ss row → ((p : ℕ) (x : Slot) → slice_get ss p ≡ Some x → (j : ℕ) × (position (is_same_name x.name) t.names ≡ Some j))
       → length u.names ≡ length t.names
       → held t.names (with_row t u ss row).names q ≡ or_else (values.look_up (words_from i vs ss) q) (held t.names u.names q)
   row_held vs u i [] row q a r f n = refl
   row_held vs u i (s ∷ ss) [] q a r f n = absurd r
   row_held vs u i (s ∷ ss) (w ∷ row) q a r f n =
       let next : Under = with_name t u s.name w in
-      let l = (position-Some (is_same_name s.name) t.names f.1.0 [] f.1.1).0 in
-      let inside : f.1.0 < length u.names = within f.1.0 (length t.names) (length u.names) l n in
-      let rest = row_held vs next (suc i) ss row q a.3 r.2 f.2 ((row_same t u (s ∷ []) (w ∷ [])).names ∙ n) in
+      let at = f 0 s refl in
+      let l = (position-Some (is_same_name s.name) t.names at.0 [] at.1).0 in
+      let inside : at.0 < length u.names = within at.0 (length t.names) (length u.names) l n in
+      let rest = row_held vs next (suc i) ss row q a.3 r.2 (λ p x e. f (suc p) x e) ((row_same t u (s ∷ []) (w ∷ [])).names ∙ n) in
       let later : Option Word = values.look_up (words_from (suc i) vs ss) q in
       let old : Option Word = held t.names u.names q in
       rest
-      ∙ ap (or_else later) (held_bound t.names u.names s.name w f.1.0 f.1.1 inside q)
+      ∙ ap (or_else later) (held_bound t.names u.names s.name w at.0 at.1 inside q)
       ∙ by_test (is_same_name q s.name)
       (λ y.
       let e : s.name ≡ q = sym ((bytes_decides q s.name).0 y) in
@@ -199,9 +190,7 @@ module _ (job : Job) (unbroken : Unbroken (widths_of job)) (t : Laid) (tables : 
         let pipe_row : IsRow c.pipes 0 ss (pipe_words mid.pipes 0 ss) = pipes_row c.pipes mid.pipes 0 ss apart
         (λ p. ap (λ z. slice_index z p) mid_pipes ∙ h.pipes p)
         (λ p x e. let z : p ≡ 0 + p = sym (none_before p) in subst (λ n. c.pipes n < 2 ^ x.width) z (subst (λ v. v < 2 ^ x.width) (h.pipes p) (h.pipe_fits p x e))) in
-        let fitting : Fitting t.names c.pipes 0 ss = row_fitting t.names c.pipes 0 ss (pipe_words mid.pipes 0 ss) pipe_row place in
         let is_row : IsRow q_values 0 xs row = values_from q_values 0 job.decls row fits (λ p. let z : 0 + p ≡ p = none_before p in ap q_values z) in
-        let fitting_samples : Fitting t.names q_values 0 xs = row_fitting t.names q_values 0 xs row is_row sample_place in
         let in_text : (q : List ℕ) → look_up s.text q ≡ look_up (text job unbroken) q = λ q. ap (λ x. look_up x q) of_text in
         let mid_names : length mid.names ≡ length t.names = (row_same t start t.samples row).names ∙ length-replicate (length u.names) none ∙ names in
         let same_pipes : (steps.entered t row u).pipes ≡ u.pipes = row_pipes t mid t.pipes (pipe_words mid.pipes 0 t.pipes) ∙ mid_pipes in
@@ -222,10 +211,10 @@ module _ (job : Job) (unbroken : Unbroken (widths_of job)) (t : Laid) (tables : 
             locals = λ q m e. not_some m (sym e);
             same = λ q.
                 ap (λ zs. held t.names (with_pipes t mid 0 zs).names q) tables.pipes
-                ∙ row_held t c.pipes mid 0 ss (pipe_words mid.pipes 0 ss) q apart pipe_row fitting mid_names
+                ∙ row_held t c.pipes mid 0 ss (pipe_words mid.pipes 0 ss) q apart pipe_row place mid_names
                 ∙ ap (or_else (values.look_up of_pipes q))
                 (ap (λ zs. held t.names (with_row t start zs row).names q) tables.samples
-                ∙ row_held t q_values start 0 xs row q apart_samples is_row fitting_samples (length-replicate (length u.names) none ∙ names)
+                ∙ row_held t q_values start 0 xs row q apart_samples is_row sample_place (length-replicate (length u.names) none ∙ names)
                 ∙ ap (or_else (values.look_up of_samples q)) (none_held (length u.names) (position (is_same_name q) t.names))
                 ∙ or_none (values.look_up of_samples q))
                 ∙ sym (both q);
@@ -234,10 +223,10 @@ module _ (job : Job) (unbroken : Unbroken (widths_of job)) (t : Laid) (tables : 
                 let at = placed job unbroken q m f in
                 bound_kind m.kind b ((calls_open job unbroken).fits.of_text q m f)
                 (λ is.
-                let r = word_there t.names c.pipes 0 ss q apart fitting (at.pipe is).inside in
+                let r = word_there c.pipes 0 ss (pipe_words mid.pipes 0 ss) q apart pipe_row (at.pipe is).inside in
                 found_word q m r.0 (width_of ss q) (both q ∙ ap (λ o. or_else o (values.look_up of_samples q)) r.1) (at.pipe is).width r.2)
                 (λ is.
-                let r = word_there t.names q_values 0 xs q apart_samples fitting_samples (at.sample is).inside in
+                let r = word_there q_values 0 xs row q apart_samples is_row (at.sample is).inside in
                 let no : has_name ss q ≡ false = by_test (has_name ss q)
                 (λ y.
                 let p = pipe_named job.decls nothing right q y in

@@ -30,7 +30,7 @@ use Rattle.kp_seq.specs.inner.{Ready.AreTables, Ready.HasPlaces, Ready.IsNoted, 
 use Rattle.kp_seq.specs.inner.Steps as steps
 use Rattle.kp_seq.proofs.{Entering.enters, Keys.pipe_placed, Keys.sample_placed, Keys.keyed}
 use Rattle.kp_seq.proofs.{Written.Ended, Written.begun_ended, Written.enabled_same, Written.address_same, Written.address_fits, Lengths.begun_same}
-use Rattle.kp_seq.proofs.Step.{Reached, block_end, all_ended, still_placed}
+use Rattle.kp_seq.proofs.Step.{Reached, block_end, by_blocks, all_ended}
 use Rattle.kp_seq.proofs.Noted.{put_reads, put_both, put_count, all_put, changed_at, changed_count, seen, seen_first, first_below, narrowed_is}
 use Rattle.kp_seq.proofs.{Low.target_low, Asked.after_reads, Asked.all_asked, Asked.low_fits}
 use Rattle.kp_seq.proofs.Plain.{after_next, next_first, next_is, none_after, none_before, within}
@@ -89,10 +89,7 @@ map_both f g (x ∷ xs) = ap (λ ys. f (g x) ∷ ys) (map_both f g xs)
 -- the number of reads in the record
 one_counted : (ds : List Decl) (done : Progress) (x : StmtKind) → length (read_recorded ds done x) ≡ reads_of x
 one_counted ds done (stmts.Read r) = refl
-one_counted ds done (stmts.Let n e) = refl
-one_counted ds done (stmts.Put n e) = refl
-one_counted ds done (stmts.Set n e when) = refl
-one_counted ds done (stmts.Aim n e) = refl
+one_counted ds done _ = refl
 
 stmts_counted : (ds : List Decl) (s : ℕ → ℕ → ℕ) (done : Progress) (xs : List Stmt) → length (reads_recorded ds s done xs) ≡ sum_by reads_in xs
 stmts_counted ds s done [] = refl
@@ -182,39 +179,6 @@ module _ (job : Job) (unbroken : Unbroken (widths_of job)) (kept : broken_of job
         };
       })
 
-  blocks_noted : (k : ℕ) (bs : List Block) (s : Scoped) (u : Under) (n : Noted) → ((i : ℕ) (b : Block) → slice_get bs i ≡ Some b → slice_get job.blocks (k + i) ≡ Some b)
-      → Unbroken (blocks_of job.decls k s bs) → Reached job unbroken kept t tables rule is25 words fit row fits k s u → NotedTo k n
-      → NotedAfter n (note_blocks t words row k u n bs) (reads_from job (state_in words) (values_in row) (length bs) k) (k + length bs)
-  blocks_noted k [] s u n at right h to =
-      let z : k ≡ k + 0 = sym (none_after k) in
-      subst (NotedAfter n n []) z (record { reads = refl; outlets = refl; writes = refl; settings = refl; to = to })
-  blocks_noted k (b ∷ bs) s u n at right h to =
-      let z : k + 0 ≡ k = none_after k in
-      let next : suc k ≡ k + 1 = next_is k in
-      let more : (k + 1) + length bs ≡ k + suc (length bs) = sym (after_next k (length bs)) in
-      let here : slice_get job.blocks k ≡ Some b = subst (λ i. slice_get job.blocks i ≡ Some b) z (at 0 b refl) in
-      let x = bind_unbroken (statements_of job.decls (opened s (scopes.Stage k)) b.stmts) (λ y. blocks_of job.decls (k + 1) y bs) right in
-      let after : Scoped = (statements_of job.decls (opened s (scopes.Stage k)) b.stmts).value in
-      let w = after_block t words row u b in
-      let m = with_marks k w (note_stmts t words (entered t row u) n b.stmts) in
-      let reached = subst (λ i. Reached job unbroken kept t tables rule is25 words fit row fits i after w) next (block_end job unbroken kept t tables rule is25 words fit row fits k b s u here x.0 h) in
-      let one = block_noted k b s u n here x.0 h to in
-      let rest = blocks_noted (k + 1) bs after w m
-      (λ i y e. let v : k + suc i ≡ (k + 1) + i = after_next k i in subst (λ j. slice_get job.blocks j ≡ Some y) v (at (suc i) y e))
-      x.1 reached (subst (λ i. NotedTo i m) next one.to) in
-      let recorded = stage_reads job (state_in words) (values_in row) k in
-      record {
-        reads =
-            rest.reads
-            ∙ ap (λ p. put_reads p (reads_from job (state_in words) (values_in row) (length bs) (k + 1))) one.reads
-            ∙ ap (λ i. put_reads (put_reads (n.reads, n.next) recorded) (reads_from job (state_in words) (values_in row) (length bs) i)) (sym next)
-            ∙ sym (put_both (n.reads, n.next) recorded (reads_from job (state_in words) (values_in row) (length bs) (suc k)));
-        outlets = rest.outlets ∙ one.outlets;
-        writes = rest.writes ∙ one.writes;
-        settings = rest.settings ∙ one.settings;
-        to = subst (λ i. NotedTo i (note_blocks t words row (k + 1) w m bs)) more rest.to;
-      }
-
   nothing_seen : (xs : List (Option ℕ)) (j : ℕ) → get_or (replicate (length xs) None) j None ≡ seen (λ k. false) 0
   nothing_seen [] j = refl
   nothing_seen (x ∷ xs) zero = refl
@@ -222,18 +186,29 @@ module _ (job : Job) (unbroken : Unbroken (widths_of job)) (kept : broken_of job
 
   all_noted : (u : Under) (n : Noted) → HasPlaces t u → IsNoted job n
       → NotedAfter (begun_notes n) (note_blocks t words row 0 (begun u) (begun_notes n) job.blocks) (reads_from job (state_in words) (values_in row) (length job.blocks) 0) (length job.blocks)
-  unfolding before_stage
   all_noted u n places ready =
-      let d = declarations_of job.decls 0 0 nothing job.decls in
-      let more = (bind_unbroken d (λ s. blocks_of job.decls 0 s job.blocks >>= (λ y. ok y.entries)) unbroken).1 in
-      let right = (bind_unbroken (blocks_of job.decls 0 d.value job.blocks) (λ y. ok y.entries) more).0 in
-      let z : 0 + length job.blocks ≡ length job.blocks = none_before (length job.blocks) in
       let none : Option ℕ = None in
-      subst (NotedAfter (begun_notes n) (note_blocks t words row 0 (begun u) (begun_notes n) job.blocks) (reads_from job (state_in words) (values_in row) (length job.blocks) 0)) z
-      (blocks_noted 0 job.blocks d.value (begun u) (begun_notes n)
-      (λ i b e. let w : i ≡ 0 + i = sym (none_before i) in subst (λ j. slice_get job.blocks j ≡ Some b) w e)
-      right
-      (record { of_text = refl; ended = begun_ended job.decls u; places = still_placed t u (begun u) (begun_same t u) places })
+      let z : 0 + length job.blocks ≡ length job.blocks = none_before (length job.blocks) in
+      let q = λ (bs : List Block) (k : ℕ). reads_from job (state_in words) (values_in row) (length bs) k in
+      subst (NotedAfter (begun_notes n) (note_blocks t words row 0 (begun u) (begun_notes n) job.blocks) (q job.blocks 0)) z
+      (by_blocks job unbroken kept t tables rule is25 words fit row fits
+      (λ k bs s v. (m : Noted) → NotedTo k m → NotedAfter m (note_blocks t words row k v m bs) (q bs k) (k + length bs))
+      (λ k s v h m to. let w : k ≡ k + 0 = sym (none_after k) in subst (NotedAfter m m []) w (record { reads = refl; outlets = refl; writes = refl; settings = refl; to = to }))
+      (λ k b bs s v at right h rest m to.
+      let next : suc k ≡ k + 1 = next_is k in
+      let more : (k + 1) + length bs ≡ k + suc (length bs) = sym (after_next k (length bs)) in
+      let one = block_noted k b s v m at right h to in
+      let mid = with_marks k (after_block t words row v b) (note_stmts t words (entered t row v) m b.stmts) in
+      let all = rest mid (subst (λ i. NotedTo i mid) next one.to) in
+      let recorded = stage_reads job (state_in words) (values_in row) k in
+      record {
+        reads = all.reads ∙ ap (λ p. put_reads p (q bs (k + 1))) one.reads ∙ ap (λ i. put_reads (put_reads (m.reads, m.next) recorded) (q bs i)) (sym next) ∙ sym (put_both (m.reads, m.next) recorded (q bs (suc k)));
+        outlets = all.outlets ∙ one.outlets;
+        writes = all.writes ∙ one.writes;
+        settings = all.settings ∙ one.settings;
+        to = subst (λ i. NotedTo i (note_blocks t words row (k + 1) (after_block t words row v b) mid bs)) more all.to;
+      })
+      u places (begun_notes n)
       (record { count = length-replicate (length n.set_in) none ∙ ready.set_in; marks = λ j o is. nothing_seen n.set_in j }))
 
   -- the record keeps its size

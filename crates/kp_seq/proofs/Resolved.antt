@@ -1,6 +1,6 @@
 -- What an instruction does by the resolved job, in numbers, is what it does by the job.
 use Rattle.std.proofs.Common.{◌≡◌, ◌∙◌, ℕ, zero, suc, ◌+◌, ◌^◌, ◌<◌, ◌≤◌, List, [], ◌∷◌, ◌++◌, Option, Some, None, Bool, true, false, cond, length, set, take, get_or, replicate, refl, ap, sym, subst, arith, ⊎_elim}
-use Rattle.std.proofs.lemmas.{Bool.cases_lt, Nat.pow_pos, List.take_more, List.Elements.All-nil, List.Elements.All-cons, List.Sums.sum_by-cons}
+use Rattle.std.proofs.lemmas.{Bool.and_parts, Bool.leb-true, Nat.pow_pos, List.take_more, List.Elements.All-nil, List.Elements.All-cons, List.Sums.sum_by-cons, List.Sums.sum_by_push}
 use Rattle.std.specs.Prelude.{All, sum_by, is_some, nat_le, nat_lt, ◌&&◌, unwrap_or, ◌==◌}
 use Rattle.std.specs.{Option.option_map, List.position}
 use Rattle.kp_bits.specs.Word.{Word, word, IsWord}
@@ -16,7 +16,7 @@ use Rattle.kp_seq_plan.specs.declared.{plan.Plan.Plan, code.Code.Code, code.Type
 use Rattle.kp_seq_plan.specs.{Names.at_place, Names.place_of, Plans.Slots, Plans.Means, Plans.meaning, Plans.space}
 use Rattle.kp_seq_plan.specs.{Codes.value_of, Codes.value_level, Codes.space_level, Lowering.Holds, Lowering.Suits, Lowering.AllSuit, Lowering.Gives}
 use Rattle.kp_seq_plan.specs.declared.code.Code.TheVariants as leaf
-use Rattle.kp_seq_plan.proofs.{CodeLevels.code-Word, Numbers.le_false}
+use Rattle.kp_seq_plan.proofs.CodeLevels.{code-Word}
 use Rattle.kp_seq.specs.inner.Resolved.{Raw, AllDo, DoesAll, DoesStage, Does, DoesRead, IsShown, IsCode, IsOptionCode, IsReading, unnamed, address_at, value_at, note_step, note_steps, put_place, with_place, with_target, with_width, after_step, after_steps, steps_space, step_space}
 use Rattle.kp_seq.specs.{declared.program.Reading.Reading, declared.program.Step.Step, declared.program.Made.Made, Running.state_in, inner.Names.set_place}
 use Rattle.kp_seq.specs.inner.{Fits.FitSlots, Tables.Laid}
@@ -54,10 +54,7 @@ none_suit (suc n) (v ∷ vs) e = (refl, none_suit n vs (omega (arith, e)))
 
 -- the number of a word that is held
 number : (x : Word) (w v : ℕ) → Holds (Some x) w v → v ≡ x.value
-number x w v h = let e : x ≡ word w v = cc_of h.there in sym (ap (λ (y : Word). y.value) e)
-  where
-    cc_of : Some x ≡ Some (word w v) → x ≡ word w v
-    cc_of e = ap (λ o. unwrap_or o zero_bit) e
+number x w v h = sym (ap (λ o. (unwrap_or o zero_bit).value) h.there)
 
 bit_word : IsWord zero_bit
 bit_word = record { positive = omega arith; at_most = omega arith; fits = omega arith }
@@ -81,25 +78,15 @@ cond_below false x m h k = k
 no_fit : (w v : ℕ) → (nat_le 1 w && nat_le w 64) ≡ false → fitted w v ≡ zero_bit
 no_fit w v h = ap (λ b. cond (b && nat_lt v (2 ^ w)) (word w v) zero_bit) h
 
-both : (a b : Bool) → (a && b) ≡ true → (a ≡ true) × (b ≡ true)
-both true b e = (refl, e)
-both false b e = cc
-
-le_true : (a b : ℕ) → nat_le a b ≡ true → a ≤ b
-le_true a b h = ⊎_elim (λ (l : b < a). let f : true ≡ false = sym h ∙ le_false a b l in cc) (λ (l : a ≤ b). l) (cases_lt b a)
-
 module _ (t : Laid) where
   -- the scratch space of all stages suffices for each
-  rooms : (ws : List (Option ℕ)) (bs : List Block) (ss : List (List Step)) (r : ℕ) → AllDo t ws bs ss → sum_by (size_of_block t.decls) bs ≤ r → All (λ s. steps_space s ≤ r) ss
-  rooms ws [] ss r d l = subst (All (λ s. steps_space s ≤ r)) (sym d) (All-nil (λ s. steps_space s ≤ r))
-  rooms ws (b ∷ bs) [] r d l = absurd d
-  rooms ws (b ∷ bs) (s ∷ ss) r d l =
+  pub enough : (ws : List (Option ℕ)) (bs : List Block) (ss : List (List Step)) (r : ℕ) → AllDo t ws bs ss → sum_by (size_of_block t.decls) bs ≤ r → All (λ s. steps_space s ≤ r) ss
+  enough ws [] ss r d l = subst (All (λ s. steps_space s ≤ r)) (sym d) (All-nil (λ s. steps_space s ≤ r))
+  enough ws (b ∷ bs) [] r d l = absurd d
+  enough ws (b ∷ bs) (s ∷ ss) r d l =
       let n = sum_by-cons (size_of_block t.decls) b bs in
       let m = d.0.1.space in
-      All-cons (λ x. steps_space x ≤ r) s ss (omega arith) (rooms ws bs ss r d.1 (omega arith))
-
-  pub enough : (ws : List (Option ℕ)) (blocks : List Block) (ss : List (List Step)) → AllDo t ws blocks ss → (r : ℕ) → sum_by (size_of_block t.decls) blocks ≤ r → All (λ s. steps_space s ≤ r) ss
-  enough ws blocks ss h r l = rooms ws blocks ss r h l
+      All-cons (λ x. steps_space x ≤ r) s ss (omega arith) (enough ws bs ss r d.1 (omega arith))
 
   module _ (ws : List (Option ℕ)) where
     -- an expression
@@ -169,9 +156,9 @@ module _ (t : Laid) where
         → w ≡ width_of t.targets r.target.name → (nat_le 1 w && nat_le w 64) ≡ true → IsReading t ws r s → DoesRead t ws r (record { step = moves.Read s; place = o; width = w })
     does_read r s o w place width test h = record {
       after = λ words u x fit shown.
-          let in_range = both (nat_le 1 w) (nat_le w 64) test in
-          let low : 1 ≤ w = le_true 1 w in_range.0 in
-          let high : w ≤ 64 = le_true w 64 in_range.1 in
+          let in_range = and_parts (nat_le 1 w) (nat_le w 64) test in
+          let low : 1 ≤ w = leb-true 1 w in_range.0 in
+          let high : w ≤ 64 = leb-true w 64 in_range.1 in
           let v : ℕ = value_read t words u r in
           let tw : ℕ = width_of t.targets r.target.name in
           let small : v < 2 ^ tw = cond_below (holds t u r.when) (state_in words (number_of t.targets r.target.name) (address_read t u r r.guess)) (2 ^ tw)
@@ -278,10 +265,6 @@ module _ (t : Laid) where
   stmts_noted words u n [] x = refl
   stmts_noted words u n (y ∷ xs) x = stmts_noted words (after_stmt t words u y.kind) (note_stmt t u n y.kind) xs x
 
-  sum_last : {X : Type 0} (f : X → ℕ) (xs : List X) (x : X) → sum_by f (xs ++ x ∷ []) ≡ sum_by f xs + f x
-  sum_last f [] x = omega (arith, sum_by-cons f x [])
-  sum_last f (y ∷ xs) x = omega (arith, sum_by-cons f y (xs ++ x ∷ []), sum_by-cons f y xs, sum_last f xs x)
-
   more : (ws : List (Option ℕ)) (xs : List Stmt) (x : Stmt) (ss : List Step) (mid : List (Option ℕ)) (m : Made) → DoesAll t ws xs ss mid → Does t mid x.kind m
       → DoesAll t ws (xs ++ x ∷ []) (ss ++ m.step ∷ []) (with_width mid m.place m.width)
   more ws xs x ss mid m h one = record {
@@ -294,7 +277,7 @@ module _ (t : Laid) where
         ∙ ap (λ y. note_step (after_steps words r ss) y m.step) (h.noted words u r n fit shown)
         ∙ one.noted (after_stmts t words u xs) (after_steps words r ss) (note_stmts t words u n xs) (h.shown words u r fit shown)
         ∙ sym (stmts_noted words u n xs x);
-    space = let a = h.space in let b = one.space in omega (arith, a, b, sum_last step_space ss m.step, sum_last (size_of_stmt t.decls) xs x);
+    space = let a = h.space in let b = one.space in omega (arith, a, b, sum_by_push step_space ss m.step, sum_by_push (size_of_stmt t.decls) xs x);
   }
 
   pub more_steps : (ws : List (Option ℕ)) (xs : List Stmt) (i : ℕ) (x : Stmt) (ss : List Step) (mid : List (Option ℕ)) (m : Made) → i < length xs → x ≡ get_or xs i x → DoesAll t ws (take i xs) ss mid

@@ -121,36 +121,46 @@ module _ (job : Job) (unbroken : Unbroken (widths_of job)) (kept : broken_of job
         places = still_placed t u (after_block t words row u b) (block_same t words row u b) h.places;
       }
 
-  -- the blocks from the one of number k on
-  blocks_end : (k : ℕ) (bs : List Block) (s : Scoped) (u : Under) → ((i : ℕ) (b : Block) → slice_get bs i ≡ Some b → slice_get job.blocks (k + i) ≡ Some b)
-      → Unbroken (blocks_of job.decls k s bs) → Reached k s u → Ended job.decls (before (k + length bs)) (after_blocks t words row u bs)
-  blocks_end k [] s u at right h = let z : k ≡ k + 0 = sym (none_after k) in subst (λ n. Ended job.decls (before n) u) z h.ended
-  blocks_end k (b ∷ bs) s u at right h =
-      let z : k + 0 ≡ k = none_after k in
-      let next : suc k ≡ k + 1 = next_is k in
-      let more : (k + 1) + length bs ≡ k + suc (length bs) = sym (after_next k (length bs)) in
-      let here : slice_get job.blocks k ≡ Some b = subst (λ n. slice_get job.blocks n ≡ Some b) z (at 0 b refl) in
-      let x = bind_unbroken (statements_of job.decls (opened s (scopes.Stage k)) b.stmts) (λ y. blocks_of job.decls (k + 1) y bs) right in
-      let after : Scoped = (statements_of job.decls (opened s (scopes.Stage k)) b.stmts).value in
-      let reached = subst (λ n. Reached n after (after_block t words row u b)) next (block_end k b s u here x.0 h) in
-      subst (λ n. Ended job.decls (before n) (after_blocks t words row (after_block t words row u b) bs)) more
-      (blocks_end (k + 1) bs after (after_block t words row u b)
-      (λ i y e. let w : k + suc i ≡ (k + 1) + i = after_next k i in subst (λ n. slice_get job.blocks n ≡ Some y) w (at (suc i) y e))
-      x.1 reached)
+  -- an induction over the blocks, given what holds before each
+  module _ (G : ℕ → List Block → Scoped → Under → Type 0) (last : (k : ℕ) (s : Scoped) (u : Under) → Reached k s u → G k [] s u)
+      (more : (k : ℕ) (b : Block) (bs : List Block) (s : Scoped) (u : Under) → slice_get job.blocks k ≡ Some b → Unbroken (statements_of job.decls (opened s (scopes.Stage k)) b.stmts) → Reached k s u
+      → G (k + 1) bs (statements_of job.decls (opened s (scopes.Stage k)) b.stmts).value (after_block t words row u b) → G k (b ∷ bs) s u) where
+    from_block : (k : ℕ) (bs : List Block) (s : Scoped) (u : Under) → ((i : ℕ) (b : Block) → slice_get bs i ≡ Some b → slice_get job.blocks (k + i) ≡ Some b)
+        → Unbroken (blocks_of job.decls k s bs) → Reached k s u → G k bs s u
+    from_block k [] s u at right h = last k s u h
+    from_block k (b ∷ bs) s u at right h =
+        let z : k + 0 ≡ k = none_after k in
+        let next : suc k ≡ k + 1 = next_is k in
+        let here : slice_get job.blocks k ≡ Some b = subst (λ n. slice_get job.blocks n ≡ Some b) z (at 0 b refl) in
+        let x = bind_unbroken (statements_of job.decls (opened s (scopes.Stage k)) b.stmts) (λ y. blocks_of job.decls (k + 1) y bs) right in
+        let after : Scoped = (statements_of job.decls (opened s (scopes.Stage k)) b.stmts).value in
+        let reached = subst (λ n. Reached n after (after_block t words row u b)) next (block_end k b s u here x.0 h) in
+        more k b bs s u here x.0 h (from_block (k + 1) bs after (after_block t words row u b)
+        (λ i y e. let w : k + suc i ≡ (k + 1) + i = after_next k i in subst (λ n. slice_get job.blocks n ≡ Some y) w (at (suc i) y e))
+        x.1 reached)
+
+    -- all of them
+    pub by_blocks : (u : Under) → HasPlaces t u → G 0 job.blocks (declarations_of job.decls 0 0 nothing job.decls).value (begun u)
+    unfolding before_stage
+    by_blocks u places =
+        let d = declarations_of job.decls 0 0 nothing job.decls in
+        let rest = (bind_unbroken d (λ s. blocks_of job.decls 0 s job.blocks >>= (λ y. ok y.entries)) unbroken).1 in
+        from_block 0 job.blocks d.value (begun u)
+        (λ i b e. let w : i ≡ 0 + i = sym (none_before i) in subst (λ n. slice_get job.blocks n ≡ Some b) w e)
+        (bind_unbroken (blocks_of job.decls 0 d.value job.blocks) (λ y. ok y.entries) rest).0
+        (record { of_text = refl; ended = begun_ended job.decls u; places = still_placed t u (begun u) (begun_same t u) places })
 
   -- after the last stage
   pub all_ended : (u : Under) → HasPlaces t u → Ended job.decls (before (machine_of job).stages) (after_blocks t words row (begun u) job.blocks)
-  unfolding machine_of before_stage
+  unfolding machine_of
   all_ended u places =
-      let d = declarations_of job.decls 0 0 nothing job.decls in
-      let more = (bind_unbroken d (λ s. blocks_of job.decls 0 s job.blocks >>= (λ y. ok y.entries)) unbroken).1 in
-      let right = (bind_unbroken (blocks_of job.decls 0 d.value job.blocks) (λ y. ok y.entries) more).0 in
       let z : 0 + length job.blocks ≡ job.stages.value = none_before (length job.blocks) ∙ stages_inside job kept in
       subst (λ n. Ended job.decls (before n) (after_blocks t words row (begun u) job.blocks)) z
-      (blocks_end 0 job.blocks d.value (begun u)
-      (λ i b e. let w : i ≡ 0 + i = sym (none_before i) in subst (λ n. slice_get job.blocks n ≡ Some b) w e)
-      right
-      (record { of_text = refl; ended = begun_ended job.decls u; places = still_placed t u (begun u) (begun_same t u) places }))
+      (by_blocks (λ k bs s v. Ended job.decls (before (k + length bs)) (after_blocks t words row v bs))
+      (λ k s v h. let w : k ≡ k + 0 = sym (none_after k) in subst (λ n. Ended job.decls (before n) v) w h.ended)
+      (λ k b bs s v at right h rest. let w : (k + 1) + length bs ≡ k + suc (length bs) = sym (after_next k (length bs)) in
+      subst (λ n. Ended job.decls (before n) (after_blocks t words row (after_block t words row v b) bs)) w rest)
+      u places)
 
   -- in numbers: a stage, and all
   module _ (o : Outline) (resolved : Resolves t job.blocks o) where
@@ -165,21 +175,6 @@ module _ (job : Job) (unbroken : Unbroken (widths_of job)) (kept : broken_of job
           results = done.results;
         }
 
-    blocks_follow : (k : ℕ) (bs : List Block) (s : Scoped) (u : Under) (r : Raw) (ss : List (List Step)) → ((i : ℕ) (b : Block) → slice_get bs i ≡ Some b → slice_get job.blocks (k + i) ≡ Some b)
-        → Unbroken (blocks_of job.decls k s bs) → Reached k s u → Follows t u r → AllDo t (entry_widths t) bs ss → Follows t (after_blocks t words row u bs) (after_stages o words row r ss)
-    blocks_follow k [] s u r ss at right h f d = subst (λ xs. Follows t u (after_stages o words row r xs)) (sym d) f
-    blocks_follow k (b ∷ bs) s u r [] at right h f d = absurd d
-    blocks_follow k (b ∷ bs) s u r (x ∷ ss) at right h f d =
-        let z : k + 0 ≡ k = none_after k in
-        let next : suc k ≡ k + 1 = next_is k in
-        let here : slice_get job.blocks k ≡ Some b = subst (λ n. slice_get job.blocks n ≡ Some b) z (at 0 b refl) in
-        let y = bind_unbroken (statements_of job.decls (opened s (scopes.Stage k)) b.stmts) (λ y. blocks_of job.decls (k + 1) y bs) right in
-        let after : Scoped = (statements_of job.decls (opened s (scopes.Stage k)) b.stmts).value in
-        let reached = subst (λ n. Reached n after (after_block t words row u b)) next (block_end k b s u here y.0 h) in
-        blocks_follow (k + 1) bs after (after_block t words row u b) (after_steps words (entered_at o row r) x) ss
-        (λ i v e. let w : k + suc i ≡ (k + 1) + i = after_next k i in subst (λ n. slice_get job.blocks n ≡ Some v) w (at (suc i) v e))
-        y.1 reached (block_follows k b s u r x h f d.0) d.1
-
     -- what is noted too
     block_notes : (k : ℕ) (b : Block) (s : Scoped) (u : Under) (r : Raw) (n : Noted) (ss : List Step) → Reached k s u → Follows t u r → DoesStage t (entry_widths t) b.stmts ss
         → note_steps words (entered_at o row r) n ss ≡ note_stmts t words (entered t row u) n b.stmts
@@ -187,39 +182,35 @@ module _ (job : Job) (unbroken : Unbroken (widths_of job)) (kept : broken_of job
         let there = shown job unbroken t tables rule is25 k words fit row fits s (before k) u h.ended h.places.names o resolved.samples resolved.pipes r f.names f.pipes f.results in
         d.1.noted words (entered t row u) (entered_at o row r) n (subst (λ xs. FitSlots xs words) (sym tables.targets) fit) there
 
-    blocks_noted : (k : ℕ) (bs : List Block) (s : Scoped) (u : Under) (r : Raw) (n : Noted) (ss : List (List Step)) → ((i : ℕ) (b : Block) → slice_get bs i ≡ Some b → slice_get job.blocks (k + i) ≡ Some b)
-        → Unbroken (blocks_of job.decls k s bs) → Reached k s u → Follows t u r → AllDo t (entry_widths t) bs ss → note_stages o words row k r n ss ≡ note_blocks t words row k u n bs
-    blocks_noted k [] s u r n ss at right h f d = ap (note_stages o words row k r n) d
-    blocks_noted k (b ∷ bs) s u r n [] at right h f d = absurd d
-    blocks_noted k (b ∷ bs) s u r n (x ∷ ss) at right h f d =
-        let z : k + 0 ≡ k = none_after k in
-        let next : suc k ≡ k + 1 = next_is k in
-        let here : slice_get job.blocks k ≡ Some b = subst (λ i. slice_get job.blocks i ≡ Some b) z (at 0 b refl) in
-        let y = bind_unbroken (statements_of job.decls (opened s (scopes.Stage k)) b.stmts) (λ y. blocks_of job.decls (k + 1) y bs) right in
-        let after : Scoped = (statements_of job.decls (opened s (scopes.Stage k)) b.stmts).value in
+    -- what several stages leave, in numbers, and what is noted of them
+    abbrev InNumbers : ℕ → List Block → Scoped → Under → Type 0
+    InNumbers k bs s u = (r : Raw) (ss : List (List Step)) → Follows t u r → AllDo t (entry_widths t) bs ss
+        → Follows t (after_blocks t words row u bs) (after_stages o words row r ss) × ((n : Noted) → note_stages o words row k r n ss ≡ note_blocks t words row k u n bs)
+
+    in_numbers_more : (k : ℕ) (b : Block) (bs : List Block) (s : Scoped) (u : Under) → Reached k s u
+        → InNumbers (k + 1) bs (statements_of job.decls (opened s (scopes.Stage k)) b.stmts).value (after_block t words row u b) → InNumbers k (b ∷ bs) s u
+    in_numbers_more k b bs s u h rest r [] f d = absurd d
+    in_numbers_more k b bs s u h rest r (x ∷ ss) f d =
         let w = after_block t words row u b in
         let v = after_steps words (entered_at o row r) x in
-        let reached = subst (λ i. Reached i after w) next (block_end k b s u here y.0 h) in
         let follows = block_follows k b s u r x h f d.0 in
-        let m = note_stmts t words (entered t row u) n b.stmts in
-        ap (λ c. note_stages o words row (k + 1) v (with_marks k (outputs v) c) ss) (block_notes k b s u r n x h f d.0)
-        ∙ ap (λ (results : List (Option ℕ)). note_stages o words row (k + 1) v (with_marks k (record { names = []; pipes = v.pipes; results = results }) m) ss) follows.results
-        ∙ blocks_noted (k + 1) bs after w v (with_marks k w m) ss
-        (λ i c e. let q : k + suc i ≡ (k + 1) + i = after_next k i in subst (λ j. slice_get job.blocks j ≡ Some c) q (at (suc i) c e))
-        y.1 reached follows d.1
+        let all = rest v ss follows d.1 in (
+          all.0,
+          λ n. let m = note_stmts t words (entered t row u) n b.stmts in
+              ap (λ c. note_stages o words row (k + 1) v (with_marks k (outputs v) c) ss) (block_notes k b s u r n x h f d.0)
+              ∙ ap (λ (results : List (Option ℕ)). note_stages o words row (k + 1) v (with_marks k (record { names = []; pipes = v.pipes; results = results }) m) ss) follows.results
+              ∙ all.1 (with_marks k w m),
+        )
 
-    pub all_follow : (u : Under) (r : Raw) → HasPlaces t u → Follows t u r → Follows t (after_blocks t words row (begun u) job.blocks) (after_stages o words row (begun_at r) o.stages)
-    unfolding machine_of before_stage
-    all_follow u r places f =
-        let d = declarations_of job.decls 0 0 nothing job.decls in
-        let more = (bind_unbroken d (λ s. blocks_of job.decls 0 s job.blocks >>= (λ y. ok y.entries)) unbroken).1 in
-        let right = (bind_unbroken (blocks_of job.decls 0 d.value job.blocks) (λ y. ok y.entries) more).0 in
+    all_in_numbers : (u : Under) (r : Raw) → HasPlaces t u → Follows t u r → Follows t (after_blocks t words row (begun u) job.blocks) (after_stages o words row (begun_at r) o.stages)
+        × ((n : Noted) → note_stages o words row 0 (begun_at r) n o.stages ≡ note_blocks t words row 0 (begun u) n job.blocks)
+    all_in_numbers u r places f =
         let zero : ℕ = 0 in
         let none : Option ℕ = None in
-        blocks_follow 0 job.blocks d.value (begun u) (begun_at r) o.stages
-        (λ i b e. let w : i ≡ 0 + i = sym (none_before i) in subst (λ n. slice_get job.blocks n ≡ Some b) w e)
-        right
-        (record { of_text = refl; ended = begun_ended job.decls u; places = still_placed t u (begun u) (begun_same t u) places })
+        by_blocks InNumbers
+        (λ k s v h q ss g d. (subst (λ xs. Follows t v (after_stages o words row q xs)) (sym d) g, λ n. ap (note_stages o words row k q n) d))
+        (λ k b bs s v at right h rest. in_numbers_more k b bs s v h rest)
+        u places (begun_at r) o.stages
         (record {
           names = f.names;
           pipes = ap (λ (xs : List ℕ). replicate (length xs) zero) f.pipes;
@@ -227,33 +218,19 @@ module _ (job : Job) (unbroken : Unbroken (widths_of job)) (kept : broken_of job
         })
         resolved.stages
 
+    pub all_follow : (u : Under) (r : Raw) → HasPlaces t u → Follows t u r → Follows t (after_blocks t words row (begun u) job.blocks) (after_stages o words row (begun_at r) o.stages)
+    all_follow u r places f = (all_in_numbers u r places f).0
+
     pub ran_is : (u : Under) (r : Raw) → HasPlaces t u → Follows t u r → ran o t.ports row r words ≡ executed t row u job.blocks words
     ran_is u r places f =
         written_by_numbers t (after_blocks t words row (begun u) job.blocks) (after_stages o words row (begun_at r) o.stages) (all_follow u r places f) words t.ports
 
     pub noted_is : (u : Under) (r : Raw) (n : Noted) → HasPlaces t u → Follows t u r
         → noted o words row r n ≡ with_results (after_blocks t words row (begun u) job.blocks) (note_blocks t words row 0 (begun u) (begun_notes n) job.blocks)
-    unfolding machine_of before_stage
     noted_is u r n places f =
-        let d = declarations_of job.decls 0 0 nothing job.decls in
-        let more = (bind_unbroken d (λ s. blocks_of job.decls 0 s job.blocks >>= (λ y. ok y.entries)) unbroken).1 in
-        let right = (bind_unbroken (blocks_of job.decls 0 d.value job.blocks) (λ y. ok y.entries) more).0 in
-        let zero : ℕ = 0 in
-        let none : Option ℕ = None in
-        let w = after_blocks t words row (begun u) job.blocks in
-        let v = after_stages o words row (begun_at r) o.stages in
-        let follows = all_follow u r places f in
-        ap (with_results (outputs v)) (blocks_noted 0 job.blocks d.value (begun u) (begun_at r) (begun_notes n) o.stages
-        (λ i b e. let q : i ≡ 0 + i = sym (none_before i) in subst (λ j. slice_get job.blocks j ≡ Some b) q e)
-        right
-        (record { of_text = refl; ended = begun_ended job.decls u; places = still_placed t u (begun u) (begun_same t u) places })
-        (record {
-          names = f.names;
-          pipes = ap (λ (xs : List ℕ). replicate (length xs) zero) f.pipes;
-          results = ap (λ (xs : List (Option ℕ)). replicate (length xs) none) f.results;
-        })
-        resolved.stages)
-        ∙ results_by_numbers t w v follows (note_blocks t words row 0 (begun u) (begun_notes n) job.blocks)
+        let all = all_in_numbers u r places f in
+        ap (with_results (outputs (after_stages o words row (begun_at r) o.stages))) (all.1 (begun_notes n))
+        ∙ results_by_numbers t (after_blocks t words row (begun u) job.blocks) (after_stages o words row (begun_at r) o.stages) all.0 (note_blocks t words row 0 (begun u) (begun_notes n) job.blocks)
 
   -- an instruction leaves the state after it, and its words fit the targets
   pub step_state : (u : Under) → HasPlaces t u → state_in (executed t row u job.blocks words) ≡ after_one job (state_in words) row

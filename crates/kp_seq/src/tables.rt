@@ -10,6 +10,7 @@ use kp_ast::{Decl, Name, Named, Num};
 use kp_base::NoMemory;
 use kp_seq_plan::Keys;
 use kp_stage::Design;
+use kp_width::laws::one_entry_for_each_name;
 use std::alloc::Global;
 use std::marker::Model;
 
@@ -203,6 +204,7 @@ impl<'a> Tables<'a> {
         let samples = samples(alloc, decls)?;
         let ports = ports(alloc, decls, targets.as_slice(), pipes.as_slice())?;
         let names = Keys::of(alloc, d.widths())?;
+        one_entry_for_each_name();
         Ok(Tables {
             decls,
             targets,

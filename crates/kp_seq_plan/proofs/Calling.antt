@@ -1,8 +1,8 @@
 -- A call of the last function of a name: what its plan means.
 use Rattle.std.proofs.Common.{◌≡◌, ◌≢◌, ◌∙◌, ℕ, zero, suc, ◌+◌, ◌<◌, ◌≤◌, List, [], ◌∷◌, ◌++◌, Option, Some, None, Bool, true, false, cond, not, length, map, take, get_or, refl, ap, sym, subst, arith, ⊎_elim}
 use Rattle.std.proofs.Math.Dec.{eqb-suc-suc}
-use Rattle.std.proofs.lemmas.Bool.{cases_lt, cond-true, cond-false, eqb-true, le-ltb, lt-ltb}
-use Rattle.std.proofs.lemmas.List.{map-append, take_more, length-map, Sums.fold-append, Sums.sum_by-cons}
+use Rattle.std.proofs.lemmas.Bool.{cases_lt, cond-true, cond-false, eq-eqb, ne_eqb, le-ltb, lt-ltb}
+use Rattle.std.proofs.lemmas.List.{map_push, take_more, length-map, length_push, Sums.fold-append, Sums.sum_by_push}
 use Rattle.std.specs.{Prelude.sum_by, Prelude.◌==◌, Prelude.nat_lt, Option.option_map, Option.option_and_then, List.position, List.position_or_len}
 use Rattle.kp_bits.specs.Word.{Word}
 use Rattle.kp_ast.specs.declared.tree.{Param.Param, FuncDecl.FuncDecl, Decl.Decl, Expr.Expr}
@@ -77,20 +77,6 @@ args_at q (p ∷ ps) (v ∷ vs) =
     found true o h = refl
     found false o h = past o ∙ h
 
-eq_refl : (n : ℕ) → (n == n) ≡ true
-eq_refl zero = refl
-eq_refl (suc n) = eqb-suc-suc n n ∙ eq_refl n
-
-eq_same : (n m : ℕ) → n ≡ m → (n == m) ≡ true
-eq_same n m h = ap (λ k. n == k) (sym h) ∙ eq_refl n
-
-never : (b : Bool) → (b ≡ true → ⊥) → b ≡ false
-never true h = absurd (h refl)
-never false h = refl
-
-eq_other : (n m : ℕ) → n ≢ m → (n == m) ≡ false
-eq_other n m h = never (n == m) (λ e. h (eqb-true n m e))
-
 module _ (earlier : List Decl) (args : List Plan) where
   abbrev given : Slots → Option (List Word)
   given s = all_there (map (λ a. meaning a s) args)
@@ -124,7 +110,7 @@ module _ (earlier : List Decl) (args : List Plan) where
           at (fold-Word V meaning_level None) s
           ∙ none_then (given s)
           ∙ same_then (given s) nothing (checked_call (checked_calls_of earlier) d) (λ vs e.
-          let c : counted vs ≡ false = eq_other (length vs) (length f.params) (λ same. h (sym (count_of s vs e) ∙ same ∙ ap length (sym params))) in
+          let c : counted vs ≡ false = ne_eqb (length vs) (length f.params) (λ same. h (sym (count_of s vs e) ∙ same ∙ ap length (sym params))) in
           sym (called vs ∙ cond-false (counted vs) _ None c));
       space = omega (arith, fold-Word ℕ space_level None);
     }
@@ -140,7 +126,7 @@ module _ (earlier : List Decl) (args : List Plan) where
           let names : (q : List ℕ) → at_place (map Some vs) (place_of scope q) ≡ look_up (arguments_of f.params vs) q = λ q. ap (at_place (map Some vs)) (at_params q ∙ ap (position (λ p. is_same_name q p.name.name)) params) ∙ args_at q f.params vs in
           m.value (map Some vs)
           ∙ (λ i. checked (record { names = λ q. names q i; calls = checked_calls_of earlier }) f.body)
-          ∙ sym (called vs ∙ cond-true (counted vs) _ None (eq_same (length vs) (length f.params) n)));
+          ∙ sym (called vs ∙ cond-true (counted vs) _ None (eq-eqb (length vs) (length f.params) n)));
       space =
           let sz : body_size_of (bodies_of earlier) d ≡ size earlier f.body = ap (body_size_of (bodies_of earlier)) is in
           omega (arith, space_call args body, m.space, sz);
@@ -191,24 +177,12 @@ pub more_mean : (ds : List Decl) (scope : Scope) (es : List Expr) (i : ℕ) (e :
 more_mean ds scope es i e ps p l is m one =
     subst (λ xs. AllMean ds scope xs (ps ++ p ∷ [])) (sym (take_more es i e l ∙ ap (λ x. take i es ++ x ∷ []) (sym is))) (joined (take i es) ps m)
   where
-    sums : (f : Plan → ℕ) (ps : List Plan) → sum_by f (ps ++ p ∷ []) ≡ sum_by f ps + f p
-    sums f [] = omega (arith, sum_by-cons f p [])
-    sums f (x ∷ xs) = omega (arith, sum_by-cons f x (xs ++ p ∷ []), sum_by-cons f x xs, sums f xs)
-
-    sizes : (f : Expr → ℕ) (xs : List Expr) → sum_by f (xs ++ e ∷ []) ≡ sum_by f xs + f e
-    sizes f [] = omega (arith, sum_by-cons f e [])
-    sizes f (x ∷ xs) = omega (arith, sum_by-cons f x (xs ++ e ∷ []), sum_by-cons f x xs, sizes f xs)
-
-    counts : (xs : List Plan) → length (xs ++ p ∷ []) ≡ length xs + 1
-    counts [] = omega arith
-    counts (x ∷ xs) = omega (arith, counts xs)
-
     joined : (xs : List Expr) (ps : List Plan) → AllMean ds scope xs ps → AllMean ds scope (xs ++ e ∷ []) (ps ++ p ∷ [])
     joined xs ps m = record {
       values = λ s.
-          map-append (λ a. meaning a s) ps (p ∷ [])
+          map_push (λ a. meaning a s) ps p
           ∙ ap (λ ws. ws ++ meaning p s ∷ []) (m.values s)
           ∙ ap (λ w. map (checked (known_by ds scope s)) xs ++ w ∷ []) (one.value s)
-          ∙ sym (map-append (checked (known_by ds scope s)) xs (e ∷ []));
-      space = omega (arith, m.space, one.space, sums space ps, sizes (size_with (bodies_of ds)) xs, counts ps);
+          ∙ sym (map_push (checked (known_by ds scope s)) xs e);
+      space = omega (arith, m.space, one.space, sum_by_push space ps p, sum_by_push (size_with (bodies_of ds)) xs e, length_push ps p);
     }

@@ -1,7 +1,7 @@
 -- What machine words of 64 bits make of numbers that fit a width, and that a value of a width is held.
 use Rattle.std.proofs.Common.{◌≡◌, ◌≢◌, ◌∙◌, ℕ, zero, suc, ◌+◌, ◌-◌, ◌*◌, ◌/◌, ◌%◌, ◌^◌, ◌<◌, ◌≤◌, ◌==◌, ◌&&◌, ◌||◌, Option, Some, None, Bool, true, false, cond, refl, ap, sym, subst, arith, bit_and, bit_or, ⊎_elim, ◌⊎◌}
 use Rattle.std.proofs.Math.{Nat.mod-eq_of_lt, Nat.mul-add, Nat.add-mul-mod_self_left, Dec.eqb-suc-suc}
-use Rattle.std.proofs.lemmas.Bool.{cases_lt, cond-true, cond-false, eqb-true, ltb-true, lt-ltb, le-ltb, le-leb}
+use Rattle.std.proofs.lemmas.Bool.{cases_lt, cond-true, cond-false, eqb-true, eq-eqb, ne_eqb, ltb-true, lt-ltb, le-ltb, le-leb, lt-leb, and_left, and_right}
 use Rattle.std.proofs.lemmas.Nat.{and_mask, pow-add, pow_pos}
 use Rattle.std.specs.{Prelude.nat_lt, Prelude.nat_le, Option.option_map, Option.option_and_then}
 use Rattle.kp_bits.specs.Word.{Word, word, IsWord, not_of, and_of, or_of, xor_of, add_of, sub_of, mul_of, eq_of, lt_of, shl_of, shr_of, mux_of, concat_of, slice_of, zext_of, sext_of}
@@ -10,23 +10,6 @@ use Rattle.kp_bits.specs.declared.operator.BinOp.{BinOp}
 use Rattle.kp_bits.proofs.Words.{not_word, and_word, or_word, xor_word, add_word, sub_word, mul_word, eq_word, lt_word, shl_word, shr_word, concat_word, slice_word, zext_word, sext_word}
 use Rattle.kp_bits.proofs.Powers.{low_of, concat_value, half_of, pow_le, sub_above}
 use Rattle.kp_seq_plan.specs.{Codes.applied, Lowering.Holds, inner.Parts.binary_found, inner.Parts.binary_width, inner.Parts.mux_found, inner.Parts.join_found}
-
-pub eq_refl : (n : ℕ) → (n == n) ≡ true
-eq_refl zero = refl
-eq_refl (suc n) = eqb-suc-suc n n ∙ eq_refl n
-
-pub eq_same : (n m : ℕ) → n ≡ m → (n == m) ≡ true
-eq_same n m h = ap (λ k. n == k) (sym h) ∙ eq_refl n
-
-never : (b : Bool) → (b ≡ true → ⊥) → b ≡ false
-never true h = absurd (h refl)
-never false h = refl
-
-pub eq_other : (n m : ℕ) → n ≢ m → (n == m) ≡ false
-eq_other n m h = never (n == m) (λ e. h (eqb-true n m e))
-
-pub le_false : (a b : ℕ) → b < a → nat_le a b ≡ false
-le_false a b h = grind arith
 
 -- numbers
 ones : (x m w : ℕ) → m ≡ 2 ^ w - 1 → bit_and x m ≡ x % 2 ^ w
@@ -162,20 +145,16 @@ pub mux_held : (t o p : Option Word) (l i j z x y : ℕ) → Holds t l z → Hol
 mux_held t o p l i j z x y g h k one same =
     chosen (z == 1) (mux_found t o p) i j x y same h.word k.word
     (mux_at t o p l i j z x y g h k
-    ∙ ap (λ c. where_so (c && i == j) (mux_of (word l z) (word i x) (word j y))) (eq_same l 1 one)
-    ∙ ap (λ c. where_so c (mux_of (word l z) (word i x) (word j y))) (eq_same i j same))
+    ∙ ap (λ c. where_so (c && i == j) (mux_of (word l z) (word i x) (word j y))) (eq-eqb l 1 one)
+    ∙ ap (λ c. where_so c (mux_of (word l z) (word i x) (word j y))) (eq-eqb i j same))
 
 pub mux_narrow : (t o p : Option Word) (l i j z x y : ℕ) → Holds t l z → Holds o i x → Holds p j y → l ≢ 1 → mux_found t o p ≡ None
 mux_narrow t o p l i j z x y g h k n =
-    mux_at t o p l i j z x y g h k ∙ ap (λ c. where_so (c && i == j) (mux_of (word l z) (word i x) (word j y))) (eq_other l 1 n)
-
-mux_no : (c d : Bool) (w : Word) → d ≡ false → where_so (c && d) w ≡ None
-mux_no true d w e = ap (λ b. where_so b w) e
-mux_no false d w e = refl
+    mux_at t o p l i j z x y g h k ∙ ap (λ c. where_so (c && i == j) (mux_of (word l z) (word i x) (word j y))) (ne_eqb l 1 n)
 
 pub mux_other : (t o p : Option Word) (l i j z x y : ℕ) → Holds t l z → Holds o i x → Holds p j y → i ≢ j → mux_found t o p ≡ None
 mux_other t o p l i j z x y g h k n =
-    mux_at t o p l i j z x y g h k ∙ mux_no (l == 1) (i == j) (mux_of (word l z) (word i x) (word j y)) (eq_other i j n)
+    mux_at t o p l i j z x y g h k ∙ ap (λ c. where_so c (mux_of (word l z) (word i x) (word j y))) (and_right (l == 1) (i == j) (ne_eqb i j n))
 
 -- the concatenation of two parts
 join_at : (o p : Option Word) (i j x y : ℕ) → Holds o i x → Holds p j y → join_found o p ≡ where_so (nat_le (i + j) 64) (concat_of (word i x) (word j y))
@@ -188,7 +167,7 @@ join_held o p i j x y h k l =
     (concat_word (word i x) (word j y) h.word k.word l) refl (sym (join_number x y i j h.word.positive h.word.fits k.word.fits l))
 
 pub join_fails : (o p : Option Word) (i j x y : ℕ) → Holds o i x → Holds p j y → 64 < i + j → join_found o p ≡ None
-join_fails o p i j x y h k l = join_at o p i j x y h k ∙ ap (λ c. where_so c (concat_of (word i x) (word j y))) (le_false (i + j) 64 l)
+join_fails o p i j x y h k l = join_at o p i j x y h k ∙ ap (λ c. where_so c (concat_of (word i x) (word j y))) (lt-leb (i + j) 64 l)
 
 -- bits, and more bits
 pub slice_held : (o : Option Word) (w x hi lo m : ℕ) → Holds o w x → lo ≤ hi → hi < w → m ≡ 2 ^ (hi + 1 - lo) - 1
@@ -201,20 +180,18 @@ slice_held o w x hi lo m h l k e =
     ∙ ap (λ c. where_so c (slice_of (word w x) hi lo)) (lt-ltb hi w k))
     (slice_word (word w x) hi lo h.word l k) refl (sym (slice_number x hi lo m (omega arith) e))
 
-pub slice_turned : (o : Option Word) (w x hi lo : ℕ) → Holds o w x → hi < lo → option_and_then (checked_slice hi lo) o ≡ None
-slice_turned o w x hi lo h l =
-    ap (option_and_then (checked_slice hi lo)) h.there ∙ ap (λ c. where_so (c && nat_lt hi w) (slice_of (word w x) hi lo)) (le_false lo hi l)
-
-pub slice_over : (o : Option Word) (w x hi lo : ℕ) → Holds o w x → w ≤ hi → option_and_then (checked_slice hi lo) o ≡ None
-slice_over o w x hi lo h l =
-    ap (option_and_then (checked_slice hi lo)) h.there ∙ mux_no (nat_le lo hi) (nat_lt hi w) (slice_of (word w x) hi lo) (le-ltb hi w l)
+pub slice_fails : (o : Option Word) (w x hi lo : ℕ) → Holds o w x → (hi < lo) ⊎ (w ≤ hi) → option_and_then (checked_slice hi lo) o ≡ None
+slice_fails o w x hi lo h l =
+    ap (option_and_then (checked_slice hi lo)) h.there
+    ∙ ap (λ c. where_so c (slice_of (word w x) hi lo))
+    (⊎_elim (λ (k : hi < lo). and_left (nat_le lo hi) (nat_lt hi w) (lt-leb lo hi k)) (λ (k : w ≤ hi). and_right (nat_le lo hi) (nat_lt hi w) (le-ltb hi w k)) l)
 
 extends : (w n : ℕ) (z : Word) → w ≤ n → n ≤ 64 → where_so (nat_le w n && nat_le n 64) z ≡ Some z
 extends w n z l k = ap (λ c. where_so (c && nat_le n 64) z) (le-leb w n l) ∙ ap (λ c. where_so c z) (le-leb n 64 k)
 
 pub no_extension : (w n : ℕ) (z : Word) → n < w ⊎ 64 < n → where_so (nat_le w n && nat_le n 64) z ≡ None
 no_extension w n z h =
-    ⊎_elim (λ (l : n < w). ap (λ c. where_so (c && nat_le n 64) z) (le_false w n l)) (λ (l : 64 < n). mux_no (nat_le w n) (nat_le n 64) z (le_false n 64 l)) h
+    ap (λ c. where_so c z) (⊎_elim (λ (l : n < w). and_left (nat_le w n) (nat_le n 64) (lt-leb w n l)) (λ (l : 64 < n). and_right (nat_le w n) (nat_le n 64) (lt-leb n 64 l)) h)
 
 pub zext_held : (o : Option Word) (w x n : ℕ) → Holds o w x → w ≤ n → n ≤ 64 → Holds (option_and_then (checked_zext n) o) n x
 zext_held o w x n h l k =

@@ -8,7 +8,7 @@ use Rattle.kp_seq_plan.specs.{declared.code.Code.Code, declared.code.Typed.Typed
 use Rattle.kp_seq_plan.specs.{Lowering.Holds, inner.Parts.GivesOne, inner.Parts.GivesTwo, inner.Parts.GivesMux, inner.Parts.Replaces, inner.Parts.mux_found}
 use Rattle.kp_seq_plan.specs.declared.code.Code.TheVariants as leaf
 use Rattle.kp_seq_plan.specs.declared.code.Code.TheViews as codes
-use Rattle.kp_seq_plan.proofs.{CodeCalls.N, CodeCalls.at, Typing.mux_gives}
+use Rattle.kp_seq_plan.proofs.{CodeCalls.N, CodeCalls.at, Typing.typed, Typing.held_as, Typing.mux_gives}
 use Rattle.kp_seq_plan.proofs.CodeLevels.{code-Word, code-Name, code-Not, code-Binary, code-Mux, code-Slice, code-Same, code-Field, code-Flip, code-Among, code-Case}
 
 pub itself : (c d : Code) → c ≡ d → Replaces c d
@@ -161,12 +161,6 @@ pub regrouped : (op inner : BinOp) (x y b c : Code) (w m width mask : ℕ) → o
 regrouped op inner x y b c w m width mask e f h =
     subst (λ o. Replaces (codes.Binary BinOp.Or x c width mask) (codes.Binary o (codes.Binary inner x y w m) b width mask)) (sym e)
     (subst (λ o. Replaces (codes.Binary BinOp.Or x c width mask) (codes.Binary BinOp.Or (codes.Binary o x y w m) b width mask)) (sym f) (or_chain x y b c w m width mask h))
-
-abbrev typed : Code → ℕ → Typed
-typed c w = record { code = c; width = w }
-
-held_as : (o : Option Word) (w a b : ℕ) → a ≡ b → Holds o w b → Holds o w a
-held_as o w a b e h = subst (Holds o w) (sym e) h
 
 pub replaced_one : (g : Option Word → Option Word) (a : Option Typed) (c d : Code) (w : ℕ) → Replaces c d → GivesOne g a (Some (typed d w)) → GivesOne g a (Some (typed c w))
 replaced_one g a c d w r h = λ ws f n t. let is = h ws f n t in record {

@@ -1,6 +1,6 @@
 -- The values of codes, in order, and the scratch space that they need.
 use Rattle.std.proofs.Common.{◌≡◌, ◌∙◌, ℕ, ◌+◌, ◌<◌, ◌≤◌, suc, zero, List, [], ◌∷◌, ◌++◌, length, get_or, set, take, map, refl, ap, sym, arith}
-use Rattle.std.proofs.lemmas.List.{take_more, map-append, Elements.All-cons, Sums.sum_by-cons}
+use Rattle.std.proofs.lemmas.List.{take_all, take_more_set, map_more, Elements.All-cons, Sums.sum_by-cons}
 use Rattle.std.specs.Prelude.{All, sum_by}
 
 -- if the space suffices for all together, it suffices for each one
@@ -14,25 +14,11 @@ each_fits f (x ∷ xs) r h =
 pub filled_more : {X : Type 0} (f : X → ℕ) (es : List X) (vs : List ℕ) (i : ℕ) (e : X) (v : ℕ) → i < length es → length es ≡ length vs → e ≡ get_or es i e
     → v ≡ f e → take i vs ≡ map f (take i es) → take (i + 1) (set vs i v) ≡ map f (take (i + 1) es)
 filled_more {X} f es vs i e v l n is h so =
-    take_set vs i v (omega arith)
+    take_more_set vs i v (omega arith)
     ∙ ap (λ xs. xs ++ v ∷ []) so
     ∙ ap (λ x. map f (take i es) ++ x ∷ []) (h ∙ ap f is)
-    ∙ sym (map-append f (take i es) (get_or es i e ∷ []))
-    ∙ sym (ap (λ (xs : List X). map f xs) (take_more es i e l))
-  where
-    take_set : (vs : List ℕ) (i : ℕ) (v : ℕ) → i < length vs → take (i + 1) (set vs i v) ≡ take i vs ++ v ∷ []
-    take_set [] i v h = absurd (omega arith)
-    take_set (w ∷ vs) zero v h = refl
-    take_set (w ∷ vs) (suc i) v h =
-        let e : suc i + 1 ≡ suc (i + 1) = omega arith in
-        ap (λ n. take n (w ∷ set vs i v)) e ∙ ap (λ xs. w ∷ xs) (take_set vs i v (omega arith))
+    ∙ sym (map_more f es i e l)
 
 -- and all of them
-take_whole : {X : Type 0} (xs : List X) (i : ℕ) → length xs ≤ i → take i xs ≡ xs
-take_whole [] zero h = refl
-take_whole [] (suc i) h = refl
-take_whole (x ∷ xs) zero h = absurd (omega arith)
-take_whole (x ∷ xs) (suc i) h = ap (λ ys. x ∷ ys) (take_whole xs i (omega arith))
-
 pub filled_all : {X : Type 0} (f : X → ℕ) (es : List X) (vs : List ℕ) (i : ℕ) → length es ≤ i → length es ≡ length vs → take i vs ≡ map f (take i es) → vs ≡ map f es
-filled_all f es vs i h n so = sym (take_whole vs i (omega arith)) ∙ so ∙ ap (map f) (take_whole es i h)
+filled_all f es vs i h n so = sym (take_all i vs (omega arith)) ∙ so ∙ ap (map f) (take_all i es h)

@@ -1,6 +1,6 @@
 -- A code of each form has the values of a plan of that form, if its parts do.
 use Rattle.std.proofs.Common.{◌≡◌, ◌≢◌, ◌∙◌, ℕ, zero, suc, ◌+◌, ◌-◌, ◌/◌, ◌%◌, ◌^◌, ◌<◌, ◌≤◌, ◌==◌, List, [], ◌∷◌, ◌++◌, Option, Some, None, Bool, true, false, cond, length, get_or, take, drop, map, refl, ap, sym, subst, arith, ◌*◌, bit_or, bit_and, ⊎_elim, ◌⊎◌, ◌||◌, inl, inr}
-use Rattle.std.proofs.lemmas.List.{take_more, drop_all, get_or_past, Sums.sum_by-cons}
+use Rattle.std.proofs.lemmas.List.{take_more, drop_more, drop_all, get_or_past, Sums.sum_by-cons}
 use Rattle.std.specs.{Prelude.sum_by, Prelude.slice_index, Prelude.nat_le, Option.option_map, Option.option_and_then, Option.option_zip}
 use Rattle.kp_bits.specs.{Word.Word, Word.word, Word.IsWord, Word.not_of, Word.concat_of, Operators.is_shift}
 use Rattle.kp_bits.specs.Checked.{checked_join, checked_joined, checked_slice, checked_zext, checked_sext}
@@ -12,15 +12,15 @@ use Rattle.kp_seq_plan.specs.{Plans.Slots, Plans.meaning, Plans.space, Codes.val
 use Rattle.kp_seq_plan.specs.Lowering.{Holds, Suits, AllSuit, IsTyped, Gives}
 use Rattle.kp_seq_plan.specs.declared.code.Code.TheVariants as leaf
 use Rattle.kp_seq_plan.specs.declared.code.Code.TheViews as codes
-use Rattle.kp_seq_plan.proofs.Numbers.{binary_held, binary_fails, mux_held, mux_narrow, mux_other, join_held, join_fails, slice_held, slice_turned, slice_over, zext_held, zext_fails, sext_held, sext_fails, not_held, top_is, more_is}
+use Rattle.kp_seq_plan.proofs.Numbers.{binary_held, binary_fails, mux_held, mux_narrow, mux_other, join_held, join_fails, slice_held, slice_fails, zext_held, zext_fails, sext_held, sext_fails, not_held, top_is, more_is}
 use Rattle.kp_seq_plan.proofs.CodeCalls.{N, at, space_called, value_called}
 use Rattle.kp_seq_plan.proofs.CodeLevels.{code-Word, code-Name, code-Not, code-Binary, code-Mux, code-Join, code-Slice, code-Sext}
 
-abbrev typed : Code → ℕ → Typed
+abbrev pub typed : Code → ℕ → Typed
 typed c w = record { code = c; width = w }
 
 -- a number that a code has is held
-held_as : (o : Option Word) (w a b : ℕ) → a ≡ b → Holds o w b → Holds o w a
+pub held_as : (o : Option Word) (w a b : ℕ) → a ≡ b → Holds o w b → Holds o w a
 held_as o w a b e h = subst (Holds o w) (sym e) h
 
 -- one part
@@ -51,13 +51,9 @@ not_gives a x m e k = subst (λ o. GivesOne (option_map not_of) o (Some (typed (
 pub slice_none : (hi lo : ℕ) (a : Option Typed) → a ≡ None → GivesOne (option_and_then (checked_slice hi lo)) a None
 slice_none hi lo a e = subst (λ o. GivesOne (option_and_then (checked_slice hi lo)) o None) (sym e) (one_none (option_and_then (checked_slice hi lo)) refl)
 
-pub slice_order : (hi lo : ℕ) (a : Option Typed) (x : Typed) → a ≡ Some x → hi < lo → GivesOne (option_and_then (checked_slice hi lo)) a None
-slice_order hi lo a x e l = subst (λ o. GivesOne (option_and_then (checked_slice hi lo)) o None) (sym e)
-    (one_fails (option_and_then (checked_slice hi lo)) x (λ o v held. slice_turned o x.width v hi lo held l))
-
-pub slice_past : (hi lo : ℕ) (a : Option Typed) (x : Typed) → a ≡ Some x → x.width ≤ hi → GivesOne (option_and_then (checked_slice hi lo)) a None
-slice_past hi lo a x e l = subst (λ o. GivesOne (option_and_then (checked_slice hi lo)) o None) (sym e)
-    (one_fails (option_and_then (checked_slice hi lo)) x (λ o v held. slice_over o x.width v hi lo held l))
+pub slice_wrong : (hi lo : ℕ) (a : Option Typed) (x : Typed) → a ≡ Some x → (hi < lo) ⊎ (x.width ≤ hi) → GivesOne (option_and_then (checked_slice hi lo)) a None
+slice_wrong hi lo a x e l = subst (λ o. GivesOne (option_and_then (checked_slice hi lo)) o None) (sym e)
+    (one_fails (option_and_then (checked_slice hi lo)) x (λ o v held. slice_fails o x.width v hi lo held l))
 
 pub slice_gives : (hi lo : ℕ) (a : Option Typed) (x : Typed) (w m : ℕ) → a ≡ Some x → lo ≤ hi → hi < x.width → w ≡ hi - lo + 1 → IsMask w m
     → GivesOne (option_and_then (checked_slice hi lo)) a (Some (typed (codes.Slice x.code lo m) w))
@@ -73,13 +69,9 @@ slice_gives hi lo a x w m e l k more mask =
 pub zext_none : (n : ℕ) (a : Option Typed) → a ≡ None → GivesOne (option_and_then (checked_zext n)) a None
 zext_none n a e = subst (λ o. GivesOne (option_and_then (checked_zext n)) o None) (sym e) (one_none (option_and_then (checked_zext n)) refl)
 
-pub zext_narrow : (n : ℕ) (a : Option Typed) (x : Typed) → a ≡ Some x → n < x.width → GivesOne (option_and_then (checked_zext n)) a None
-zext_narrow n a x e l = subst (λ o. GivesOne (option_and_then (checked_zext n)) o None) (sym e)
-    (one_fails (option_and_then (checked_zext n)) x (λ o v held. zext_fails o x.width v n held (inl l)))
-
-pub zext_past : (n : ℕ) (a : Option Typed) (x : Typed) → a ≡ Some x → 64 < n → GivesOne (option_and_then (checked_zext n)) a None
-zext_past n a x e l = subst (λ o. GivesOne (option_and_then (checked_zext n)) o None) (sym e)
-    (one_fails (option_and_then (checked_zext n)) x (λ o v held. zext_fails o x.width v n held (inr l)))
+pub zext_wrong : (n : ℕ) (a : Option Typed) (x : Typed) → a ≡ Some x → (n < x.width) ⊎ (64 < n) → GivesOne (option_and_then (checked_zext n)) a None
+zext_wrong n a x e l = subst (λ o. GivesOne (option_and_then (checked_zext n)) o None) (sym e)
+    (one_fails (option_and_then (checked_zext n)) x (λ o v held. zext_fails o x.width v n held l))
 
 pub zext_gives : (n : ℕ) (a : Option Typed) (x : Typed) → a ≡ Some x → x.width ≤ n → n ≤ 64 → GivesOne (option_and_then (checked_zext n)) a (Some (typed x.code n))
 zext_gives n a x e l k = subst (λ o. GivesOne (option_and_then (checked_zext n)) o (Some (typed x.code n))) (sym e)
@@ -89,13 +81,9 @@ zext_gives n a x e l k = subst (λ o. GivesOne (option_and_then (checked_zext n)
 pub sext_none : (n : ℕ) (a : Option Typed) → a ≡ None → GivesOne (option_and_then (checked_sext n)) a None
 sext_none n a e = subst (λ o. GivesOne (option_and_then (checked_sext n)) o None) (sym e) (one_none (option_and_then (checked_sext n)) refl)
 
-pub sext_narrow : (n : ℕ) (a : Option Typed) (x : Typed) → a ≡ Some x → n < x.width → GivesOne (option_and_then (checked_sext n)) a None
-sext_narrow n a x e l = subst (λ o. GivesOne (option_and_then (checked_sext n)) o None) (sym e)
-    (one_fails (option_and_then (checked_sext n)) x (λ o v held. sext_fails o x.width v n held (inl l)))
-
-pub sext_past : (n : ℕ) (a : Option Typed) (x : Typed) → a ≡ Some x → 64 < n → GivesOne (option_and_then (checked_sext n)) a None
-sext_past n a x e l = subst (λ o. GivesOne (option_and_then (checked_sext n)) o None) (sym e)
-    (one_fails (option_and_then (checked_sext n)) x (λ o v held. sext_fails o x.width v n held (inr l)))
+pub sext_wrong : (n : ℕ) (a : Option Typed) (x : Typed) → a ≡ Some x → (n < x.width) ⊎ (64 < n) → GivesOne (option_and_then (checked_sext n)) a None
+sext_wrong n a x e l = subst (λ o. GivesOne (option_and_then (checked_sext n)) o None) (sym e)
+    (one_fails (option_and_then (checked_sext n)) x (λ o v held. sext_fails o x.width v n held l))
 
 pub sext_gives : (n : ℕ) (a : Option Typed) (x : Typed) (narrow wide top more : ℕ) → a ≡ Some x → x.width ≤ n → n ≤ 64 → IsMask x.width narrow → IsMask n wide
     → top ≡ narrow / 2 → more ≡ (wide + (2 ^ 64 - narrow)) % 2 ^ 64 → GivesOne (option_and_then (checked_sext n)) a (Some (typed (codes.Sext x.code top more) n))
@@ -108,11 +96,22 @@ sext_gives n a x narrow wide top more e l k u v t m = subst (λ o. GivesOne (opt
     (sext_held o x.width (value_of x.code vs) n top more h l k (t ∙ top_is x.width narrow low b) (m ∙ more_is x.width n wide narrow l k c b))))
 
 -- two parts
-two_none : (g : Option Word → Option Word → Option Word) (b : Option Typed) → ((p : Option Word) → g None p ≡ None) → GivesTwo g None b None
-two_none g b e = λ ws f h n m s t vs v suit. ap (λ o. g o (h vs)) (s vs v suit) ∙ e (h vs)
+-- if one of two has no value, and if both have
+zip_none : {A B : Type 0} (a : Option A) (b : Option B) → option_zip a b ≡ None → (a ≡ None) ⊎ (b ≡ None)
+zip_none None b e = inl refl
+zip_none (Some x) None e = inr refl
+zip_none (Some x) (Some y) e = cc
 
-then_none : (g : Option Word → Option Word → Option Word) (a : Option Typed) → ((o : Option Word) → g o None ≡ None) → GivesTwo g a None None
-then_none g a e = λ ws f h n m s t vs v suit. ap (g (f vs)) (t vs v suit) ∙ e (f vs)
+zip_both : {A B : Type 0} (a : Option A) (b : Option B) (x : A) (y : B) → option_zip a b ≡ Some (x, y) → (a ≡ Some x) × (b ≡ Some y)
+zip_both None b x y e = cc
+zip_both (Some u) None x y e = cc
+zip_both {A} {B} (Some u) (Some v) x y e = (ap (λ o. option_map (λ (p : A × B). p.0) o) e, ap (λ o. option_map (λ (p : A × B). p.1) o) e)
+
+two_unless : (g : Option Word → Option Word → Option Word) (a b : Option Typed) → ((p : Option Word) → g None p ≡ None) → ((o : Option Word) → g o None ≡ None) → option_zip a b ≡ None → GivesTwo g a b None
+two_unless g a b first second e = ⊎_elim
+    (λ (none : a ≡ None). subst (λ o. GivesTwo g o b None) (sym none) (λ ws f h n m s t vs v suit. ap (λ o. g o (h vs)) (s vs v suit) ∙ first (h vs)))
+    (λ (none : b ≡ None). subst (λ o. GivesTwo g a o None) (sym none) (λ ws f h n m s t vs v suit. ap (g (f vs)) (t vs v suit) ∙ second (f vs)))
+    (zip_none a b e)
 
 two_fails : (g : Option Word → Option Word → Option Word) (a b : Typed) → ((o p : Option Word) (x y : ℕ) → Holds o a.width x → Holds p b.width y → g o p ≡ None) → GivesTwo g (Some a) (Some b) None
 two_fails g a b e = λ ws f h n m s t slots vs suit. e (f slots) (h slots) (value_of a.code vs) (value_of b.code vs) (s.value slots vs suit) (t.value slots vs suit)
@@ -131,29 +130,12 @@ none_right : (op : BinOp) (o : Option Word) → binary_found op o None ≡ None
 none_right op None = refl
 none_right op (Some w) = refl
 
-pub binary_none : (op : BinOp) (a b : Option Typed) → a ≡ None → GivesTwo (binary_found op) a b None
-binary_none op a b e = subst (λ o. GivesTwo (binary_found op) o b None) (sym e) (two_none (binary_found op) b (λ p. refl))
-
-pub binary_half : (op : BinOp) (a b : Option Typed) → b ≡ None → GivesTwo (binary_found op) a b None
-binary_half op a b e = subst (λ o. GivesTwo (binary_found op) a o None) (sym e) (then_none (binary_found op) a (none_right op))
-
 pub binary_wrong : (op : BinOp) (a b : Option Typed) (x y : Typed) → a ≡ Some x → b ≡ Some y → (is_shift op || x.width == y.width) ≡ false → GivesTwo (binary_found op) a b None
 binary_wrong op a b x y d e n = subst (λ o. GivesTwo (binary_found op) o b None) (sym d) (subst (λ o. GivesTwo (binary_found op) (Some x) o None) (sym e)
     (two_fails (binary_found op) x y (λ o p u v h k. binary_fails op o p x.width y.width u v h k n)))
 
--- if one of two has no value, and if both have
-zip_none : {A B : Type 0} (a : Option A) (b : Option B) → option_zip a b ≡ None → (a ≡ None) ⊎ (b ≡ None)
-zip_none None b e = inl refl
-zip_none (Some x) None e = inr refl
-zip_none (Some x) (Some y) e = cc
-
-zip_both : {A B : Type 0} (a : Option A) (b : Option B) (x : A) (y : B) → option_zip a b ≡ Some (x, y) → (a ≡ Some x) × (b ≡ Some y)
-zip_both None b x y e = cc
-zip_both (Some u) None x y e = cc
-zip_both {A} {B} (Some u) (Some v) x y e = (ap (λ o. option_map (λ (p : A × B). p.0) o) e, ap (λ o. option_map (λ (p : A × B). p.1) o) e)
-
 pub binary_unless : (op : BinOp) (a b : Option Typed) → option_zip a b ≡ None → GivesTwo (binary_found op) a b None
-binary_unless op a b e = ⊎_elim (binary_none op a b) (binary_half op a b) (zip_none a b e)
+binary_unless op a b e = two_unless (binary_found op) a b (λ p. refl) (none_right op) e
 
 pub two_with : (g : Option Word → Option Word → Option Word) (a b : Option Typed) (x y : Typed) (c : Option Typed) → option_zip a b ≡ Some (x, y) → GivesTwo g (Some x) (Some y) c → GivesTwo g a b c
 two_with g a b x y c e h = let is = zip_both a b x y e in subst (λ o. GivesTwo g o b c) (sym is.0) (subst (λ o. GivesTwo g (Some x) o c) (sym is.1) h)
@@ -183,24 +165,12 @@ none_below : (o : Option Word) → join_found o None ≡ None
 none_below None = refl
 none_below (Some w) = refl
 
-pub join_none : (a b : Option Typed) → a ≡ None → GivesTwo join_found a b None
-join_none a b e = subst (λ o. GivesTwo join_found o b None) (sym e) (two_none join_found b (λ p. refl))
-
-pub join_half : (a b : Option Typed) → b ≡ None → GivesTwo join_found a b None
-join_half a b e = subst (λ o. GivesTwo join_found a o None) (sym e) (then_none join_found a none_below)
-
 pub join_unless : (a b : Option Typed) → option_zip a b ≡ None → GivesTwo join_found a b None
-join_unless a b e = ⊎_elim (join_none a b) (join_half a b) (zip_none a b e)
+join_unless a b e = two_unless join_found a b (λ p. refl) none_below e
 
-join_over : (a b : Option Typed) (x y : Typed) → a ≡ Some x → b ≡ Some y → 64 < x.width + y.width → GivesTwo join_found a b None
+pub join_over : (a b : Option Typed) (x y : Typed) → a ≡ Some x → b ≡ Some y → (64 < x.width) ⊎ (64 - x.width < y.width) → GivesTwo join_found a b None
 join_over a b x y d e l = subst (λ o. GivesTwo join_found o b None) (sym d) (subst (λ o. GivesTwo join_found (Some x) o None) (sym e)
-    (two_fails join_found x y (λ o p u v h k. join_fails o p x.width y.width u v h k l)))
-
-pub join_wide : (a b : Option Typed) (x y : Typed) → a ≡ Some x → b ≡ Some y → 64 < x.width → GivesTwo join_found a b None
-join_wide a b x y d e l = join_over a b x y d e (omega (arith, l))
-
-pub join_long : (a b : Option Typed) (x y : Typed) → a ≡ Some x → b ≡ Some y → 64 - x.width < y.width → GivesTwo join_found a b None
-join_long a b x y d e l = join_over a b x y d e (omega (arith, l))
+    (two_fails join_found x y (λ o p u v h k. join_fails o p x.width y.width u v h k (⊎_elim (λ (m : 64 < x.width). omega arith) (λ (m : 64 - x.width < y.width). omega arith) l))))
 
 pub join_gives : (a b : Option Typed) (x y : Typed) (w : ℕ) → a ≡ Some x → b ≡ Some y → x.width ≤ 64 → y.width ≤ 64 - x.width → w ≡ x.width + y.width
     → GivesTwo join_found a b (Some (typed (codes.Join x.code y.code y.width) w))
@@ -303,16 +273,11 @@ pub name_past : (ws : List (Option ℕ)) (o : Option ℕ) (i : ℕ) → o ≡ So
 name_past ws o i e l = name_unknown ws o i e (get_or_past ws i None l)
 
 -- no word has such a width
-name_wrong : (ws : List (Option ℕ)) (o : Option ℕ) (i w : ℕ) → o ≡ Some i → get_or ws i None ≡ Some w → (1 ≤ w → w ≤ 64 → ⊥) → Gives ws (λ s. at_place s o) 0 None
+pub name_wrong : (ws : List (Option ℕ)) (o : Option ℕ) (i w : ℕ) → o ≡ Some i → get_or ws i None ≡ Some w → (w ≡ 0) ⊎ (64 < w) → Gives ws (λ s. at_place s o) 0 None
 name_wrong ws o i w e is bad = λ s vs suit.
     let h : Suits (Some w) (get_or s i None) (slice_index vs i) = subst (λ x. Suits x (get_or s i None) (slice_index vs i)) is (suits_at ws s vs i suit) in
-    absurd (bad h.word.positive h.word.at_most)
-
-pub name_zero : (ws : List (Option ℕ)) (o : Option ℕ) (i w : ℕ) → o ≡ Some i → get_or ws i None ≡ Some w → w ≡ 0 → Gives ws (λ s. at_place s o) 0 None
-name_zero ws o i w e is z = name_wrong ws o i w e is (λ p q. omega (arith, z, p))
-
-pub name_wide : (ws : List (Option ℕ)) (o : Option ℕ) (i w : ℕ) → o ≡ Some i → get_or ws i None ≡ Some w → 64 < w → Gives ws (λ s. at_place s o) 0 None
-name_wide ws o i w e is z = name_wrong ws o i w e is (λ p q. omega (arith, z, q))
+    let least = h.word.positive in let most = h.word.at_most in
+    absurd (⊎_elim (λ (z : w ≡ 0). omega arith) (λ (z : 64 < w). omega arith) bad)
 
 -- concatenations
 join_more : (a b : Word) (vs : List Word) → checked_join a (b ∷ vs) ≡ option_and_then (λ x. checked_join x vs) (checked_join a (b ∷ []))
@@ -360,15 +325,10 @@ joined_more ws ps p rest all part next c e h two more = subst (λ xs. GivesJoine
     gives_same ws (joined_below (λ s. join_found (f s) (meaning p s)) rest) (joined_below f (p ∷ rest)) ((n + space p) + sum_by space rest) (n + sum_by space (p ∷ rest)) c
     (λ s. below_more (f s) (meaning p s) (map (λ q. meaning q s) rest)) (omega (arith, sum_by-cons space p rest)) j)
 
-drop_at : {X : Type 0} (xs : List X) (i : ℕ) (x : X) → i < length xs → x ≡ get_or xs i x → drop i xs ≡ x ∷ drop (i + 1) xs
-drop_at [] i x h e = absurd (omega arith)
-drop_at (y ∷ ys) zero x h e = ap (λ z. z ∷ ys) (sym e)
-drop_at (y ∷ ys) (suc i) x h e = let n : suc i + 1 ≡ suc (i + 1) = omega arith in drop_at ys i x (omega arith) e ∙ sym (ap (λ k. x ∷ drop k (y ∷ ys)) n)
-
 -- from one part to the next
 pub joined_next : (ws : List (Option ℕ)) (rest : List Plan) (i : ℕ) (p : Plan) (all part next c : Option Typed) → i < length rest → p ≡ get_or rest i p → Gives ws (meaning p) (space p) part
     → GivesTwo join_found all part next → GivesJoined ws (drop (i + 1) rest) next c → GivesJoined ws (drop i rest) all c
-joined_next ws rest i p all part next c l is h two more = joined_more ws (drop i rest) p (drop (i + 1) rest) all part next c (drop_at rest i p l is) h two more
+joined_next ws rest i p all part next c l is h two more = joined_more ws (drop i rest) p (drop (i + 1) rest) all part next c (drop_more rest i p l ∙ ap (λ x. x ∷ drop (i + 1) rest) (sym is)) h two more
 
 pub joined_done : (ws : List (Option ℕ)) (rest : List Plan) (i : ℕ) (all : Option Typed) → length rest ≤ i → GivesJoined ws (drop i rest) all all
 joined_done ws rest i all l = joined_all ws (drop i rest) all (drop_all i rest l)
@@ -400,10 +360,8 @@ typed_last : (ws : List (Option ℕ)) (ps : List Plan) (p : Plan) (cs : List Cod
 typed_last ws [] p [] [] c h one = (one, (refl, refl))
 typed_last ws [] p [] (k ∷ ks) c h one = let e = h.1 in cc
 typed_last ws [] p (d ∷ cs) ks c h one = let e = h.0 in cc
-typed_last ws (q ∷ ps) p [] ks c h one = absurd h
-typed_last ws (q ∷ ps) p (d ∷ cs) [] c h one = absurd h
-typed_last ws (q ∷ ps) p (d ∷ cs) (None ∷ ks) c h one = absurd h
 typed_last ws (q ∷ ps) p (d ∷ cs) (Some k ∷ ks) c h one = (h.0, typed_last ws ps p cs ks c h.1 one)
+typed_last ws _ p _ _ c h one = absurd h
 
 pub typed_more : (ws : List (Option ℕ)) (ps : List Plan) (i : ℕ) (p : Plan) (cs : List Code) (ks : List (Option ℕ)) (c : Typed) → i < length ps → p ≡ get_or ps i p
     → AreTyped ws (take i ps) cs ks → IsTyped ws (meaning p) (space p) c → AreTyped ws (take (i + 1) ps) (cs ++ c.code ∷ []) (ks ++ Some c.width ∷ [])
@@ -420,9 +378,6 @@ given : (ws : List (Option ℕ)) (ps : List Plan) (cs : List Code) (ks : List (O
 given ws [] [] [] s vs h suit = record { words = []; there = refl; suit = (refl, refl) }
 given ws [] [] (k ∷ ks) s vs h suit = let e = h.1 in cc
 given ws [] (c ∷ cs) ks s vs h suit = let e = h.0 in cc
-given ws (p ∷ ps) [] ks s vs h suit = absurd h
-given ws (p ∷ ps) (c ∷ cs) [] s vs h suit = absurd h
-given ws (p ∷ ps) (c ∷ cs) (None ∷ ks) s vs h suit = absurd h
 given ws (p ∷ ps) (c ∷ cs) (Some k ∷ ks) s vs h suit =
     let one = h.0.value s vs suit in
     let rest = given ws ps cs ks s vs h.1 suit in
@@ -431,17 +386,16 @@ given ws (p ∷ ps) (c ∷ cs) (Some k ∷ ks) s vs h suit =
       there = ap (λ o. all_there (o ∷ map (λ q. meaning q s) ps)) one.there ∙ ap (option_map (λ xs. word k (value_of c vs) ∷ xs)) rest.there;
       suit = (record { there = refl; word = one.word }, rest.suit);
     }
+given ws _ _ _ s vs h suit = absurd h
 
 spaces : (ws : List (Option ℕ)) (ps : List Plan) (cs : List Code) (ks : List (Option ℕ)) → AreTyped ws ps cs ks → (length cs ≡ length ps) × (sum_by space_of cs ≤ sum_by space ps)
 spaces ws [] [] ks h = (refl, omega arith)
 spaces ws [] (c ∷ cs) ks h = let e = h.0 in cc
-spaces ws (p ∷ ps) [] ks h = absurd h
-spaces ws (p ∷ ps) (c ∷ cs) [] h = absurd h
-spaces ws (p ∷ ps) (c ∷ cs) (None ∷ ks) h = absurd h
 spaces ws (p ∷ ps) (c ∷ cs) (Some k ∷ ks) h =
     let r = spaces ws ps cs ks h.1 in
     let one = h.0.space in
     (ap (λ n. suc n) r.0, (let l = r.1 in omega (arith, l, one, sum_by-cons space_of c cs, sum_by-cons space p ps)))
+spaces ws _ _ _ h = absurd h
 
 pub call_none : (cs : List Code) (body : Option Typed) → body ≡ None → GivesCall cs body None
 call_none cs body e = subst (λ o. GivesCall cs o None) (sym e) (λ ws ks ps f n h b s vs suit.

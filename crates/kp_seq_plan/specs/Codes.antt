@@ -44,8 +44,6 @@ value_of = fold-Code (List ℕ → ℕ) value_level
 
 -- one level: an upper bound on how many arguments are stored at a time
 abbrev pub space_level : Code-F ℕ → ℕ
-space_level (level.Word w) = 0
-space_level (level.Name place) = 0
 space_level (level.Not a mask) = a
 space_level (level.Binary op a b width mask) = a + b
 space_level (level.Mux test a b) = test + (a + b)
@@ -53,11 +51,8 @@ space_level (level.Join high low width) = high + low
 space_level (level.Slice a lo mask) = a
 space_level (level.Sext a top more) = a
 space_level (level.Call args body) = body + (length args + sum args)
-space_level (level.Same place word) = 0
-space_level (level.Field place lo mask) = 0
-space_level (level.Flip place mask) = 0
-space_level (level.Among place set) = 0
 space_level (level.Case place word a b) = a + b
+space_level _ = 0
 
 abbrev pub space_of : Code → ℕ
 space_of = fold-Code ℕ space_level

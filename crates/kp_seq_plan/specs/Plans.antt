@@ -33,8 +33,6 @@ meaning = fold-Plan (Slots → Option Word) meaning_level
 
 -- one level: an upper bound on how many values of parts and arguments are stored at a time
 abbrev pub space_level : Plan-F ℕ → ℕ
-space_level (level.Word w) = 0
-space_level (level.Name place) = 0
 space_level (level.Not a) = a
 space_level (level.Binary op a b) = a + b
 space_level (level.Mux test a b) = test + (a + b)
@@ -43,6 +41,7 @@ space_level (level.Slice a hi lo) = a
 space_level (level.Zext a width) = a
 space_level (level.Sext a width) = a
 space_level (level.Call args body) = body + (length args + sum args)
+space_level _ = 0
 
 abbrev pub space : Plan → ℕ
 space = fold-Plan ℕ space_level

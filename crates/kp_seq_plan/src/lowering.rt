@@ -169,7 +169,7 @@ fn word_of(word: Option<Bits>) -> Option<Typed>
     })
 }
 
-#[tactic(auto, using(crate::proofs::Typing::name_gives, crate::proofs::Typing::name_nowhere, crate::proofs::Typing::name_unknown, crate::proofs::Typing::name_zero, crate::proofs::Typing::name_wide, crate::proofs::Typing::name_past))]
+#[tactic(auto, using(crate::proofs::Typing::name_gives, crate::proofs::Typing::name_nowhere, crate::proofs::Typing::name_unknown, crate::proofs::Typing::name_wrong, crate::proofs::Typing::name_past))]
 fn name_of(widths: &[Option<u64>], place: Option<usize>) -> Option<Typed>
     ensures { Gives widths.now (λ s. at_place s place) 0 result }
 {
@@ -178,10 +178,7 @@ fn name_of(widths: &[Option<u64>], place: Option<usize>) -> Option<Typed>
         return None;
     }
     let width = widths[place]?;
-    if width == 0 {
-        return None;
-    }
-    if width > 64 {
+    if width == 0 || width > 64 {
         return None;
     }
     Some(Typed {
@@ -456,14 +453,11 @@ fn join(alloc: Global, high: Option<Typed>, low: Option<Typed>) -> Result<Option
     }
 }
 
-#[tactic(auto, using(crate::proofs::Typing::join_wide, crate::proofs::Typing::join_long, crate::proofs::Typing::join_gives))]
+#[tactic(auto, using(crate::proofs::Typing::join_over, crate::proofs::Typing::join_gives))]
 fn joined(alloc: Global, high: Typed, low: Typed) -> Result<Option<Typed>, NoMemory>
     ensures { IfOk result (λ c. GivesTwo join_found (Some high) (Some low) c) }
 {
-    if high.width > 64 {
-        return Ok(None);
-    }
-    if low.width > 64 - high.width {
+    if high.width > 64 || low.width > 64 - high.width {
         return Ok(None);
     }
     let (top, bottom) = boxed(alloc, high.code, low.code)?;
@@ -473,17 +467,14 @@ fn joined(alloc: Global, high: Typed, low: Typed) -> Result<Option<Typed>, NoMem
     }))
 }
 
-#[tactic(auto, using(crate::proofs::Typing::slice_none, crate::proofs::Typing::slice_order, crate::proofs::Typing::slice_past))]
+#[tactic(auto, using(crate::proofs::Typing::slice_none, crate::proofs::Typing::slice_wrong))]
 fn slice(alloc: Global, a: Option<Typed>, hi: u64, lo: u64) -> Result<Option<Typed>, NoMemory>
     ensures { IfOk result (λ c. GivesOne (option_and_then (checked_slice hi lo)) a c) }
 {
     let Some(a) = a else {
         return Ok(None);
     };
-    if lo > hi {
-        return Ok(None);
-    }
-    if hi >= a.width {
+    if lo > hi || hi >= a.width {
         return Ok(None);
     }
     let width = hi - lo + 1;
@@ -502,17 +493,14 @@ fn bits(alloc: Global, a: Code, lo: u64, mask: u64) -> Result<Code, NoMemory>
     }
 }
 
-#[tactic(auto, using(crate::proofs::Typing::zext_none, crate::proofs::Typing::zext_narrow, crate::proofs::Typing::zext_past, crate::proofs::Typing::zext_gives))]
+#[tactic(auto, using(crate::proofs::Typing::zext_none, crate::proofs::Typing::zext_wrong, crate::proofs::Typing::zext_gives))]
 fn zero_extended(a: Option<Typed>, width: u64) -> Option<Typed>
     ensures { GivesOne (option_and_then (checked_zext width)) a result }
 {
     let Some(a) = a else {
         return None;
     };
-    if a.width > width {
-        return None;
-    }
-    if width > 64 {
+    if a.width > width || width > 64 {
         return None;
     }
     Some(Typed {
@@ -521,17 +509,14 @@ fn zero_extended(a: Option<Typed>, width: u64) -> Option<Typed>
     })
 }
 
-#[tactic(auto, using(crate::proofs::Typing::sext_none, crate::proofs::Typing::sext_narrow, crate::proofs::Typing::sext_past, crate::proofs::Typing::sext_gives))]
+#[tactic(auto, using(crate::proofs::Typing::sext_none, crate::proofs::Typing::sext_wrong, crate::proofs::Typing::sext_gives))]
 fn sign_extended(alloc: Global, a: Option<Typed>, width: u64) -> Result<Option<Typed>, NoMemory>
     ensures { IfOk result (λ c. GivesOne (option_and_then (checked_sext width)) a c) }
 {
     let Some(a) = a else {
         return Ok(None);
     };
-    if a.width > width {
-        return Ok(None);
-    }
-    if width > 64 {
+    if a.width > width || width > 64 {
         return Ok(None);
     }
     let narrow = mask(a.width);

@@ -1,10 +1,10 @@
 -- The contents of a machine at its start, and what it preserves between its instructions.
-use Rattle.std.specs.Prelude.{◌≡◌, ℕ, ◌≤◌, List, [], ◌∷◌, None, length}
+use Rattle.std.specs.Prelude.{◌≡◌, ℕ, ◌≤◌, List, [], ◌∷◌, map, None, length}
 use Rattle.kp_base.specs.First.{first}
 use Rattle.kp_bits.specs.Word.{Word}
 use Rattle.kp_ast.specs.declared.tree.{Decl.Decl, Job.Job}
 use Rattle.kp_ast.specs.declared.tree.Decl.TheVariants as decls
-use Rattle.kp_width.specs.Widths.{widths_of}
+use Rattle.kp_width.specs.{TextOrder.declared_names, Widths.widths_of}
 use Rattle.kp_stage.specs.{Counts.summary_of, Sizes.size_of_job, Stages.broken_of}
 use Rattle.kp_machine.specs.Slots.{targets_of, pipes_of, samples_of}
 use Rattle.kp_seq_plan.specs.Names.{keys_of}
@@ -19,6 +19,7 @@ pub record AreTables (job : Job) (t : Laid) : Type 0 where
   pub samples : t.samples ≡ samples_of job.decls
   pub ports : t.ports ≡ ports_of job.decls
   pub names : t.names ≡ keys_of [] (widths_of job).value
+  pub declared : map (λ e. e.name) (widths_of job).value ≡ declared_names job
 
 -- an entry for each name, pipe and result
 pub record HasPlaces (t : Laid) (u : Under) : Type 0 where

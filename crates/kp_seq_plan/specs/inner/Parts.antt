@@ -9,10 +9,8 @@ use Rattle.kp_seq_plan.specs.{declared.lowering.Args.Args, Codes.value_of, Codes
 -- the codes and the widths of several plans
 abbrev pub AreTyped : List (Option ℕ) → List Plan → List Code → List (Option ℕ) → Type 0
 AreTyped widths [] codes ws = (codes ≡ []) × (ws ≡ [])
-AreTyped widths (p ∷ ps) [] ws = ⊥
-AreTyped widths (p ∷ ps) (c ∷ codes) [] = ⊥
-AreTyped widths (p ∷ ps) (c ∷ codes) (None ∷ ws) = ⊥
 AreTyped widths (p ∷ ps) (c ∷ codes) (Some w ∷ ws) = IsTyped widths (meaning p) (space p) (record { code = c; width = w }) × AreTyped widths ps codes ws
+AreTyped widths _ _ _ = ⊥
 
 -- the code of a part, and the code that is built from it
 abbrev pub GivesOne : (Option Word → Option Word) → Option Typed → Option Typed → Type 0

@@ -1,4 +1,4 @@
-use Rattle.std.proofs.Common.{refl, subst, sym, ◌+◌, Some}
+use Rattle.std.proofs.Common.{refl, arith, subst, sym, ◌+◌, Some}
 use Rattle.kp_seq_plan.specs.{declared.code.Code.Code, inner.Parts.GivesTwo, inner.Parts.join_found}
 use Rattle.kp_seq_plan.specs.declared.code.Code.TheViews as codes
 use Rattle.kp_seq_plan.proofs.Typing.{join_gives}
@@ -10,4 +10,4 @@ returns c =
     let low = c.args.low in
     let w = high.width + low.width in
     subst (λ (p : Code × Code). GivesTwo join_found (Some high) (Some low) (Some (record { code = codes.Join p.0 p.1 low.width; width = w }))) (sym c.in_ok-top.ensures)
-    (join_gives (Some high) (Some low) high low w refl refl c.if-high-gt64.false c.if-low-high.false refl)
+    (join_gives (Some high) (Some low) high low w refl refl (omega arith) (omega arith) refl)

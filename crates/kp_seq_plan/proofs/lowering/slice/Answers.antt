@@ -1,4 +1,4 @@
-use Rattle.std.proofs.Common.{refl, ◌+◌, ◌-◌}
+use Rattle.std.proofs.Common.{refl, arith, ◌+◌, ◌-◌}
 use Rattle.std.specs.Option.{option_and_then}
 use Rattle.kp_bits.specs.Checked.{checked_slice}
 use Rattle.kp_seq_plan.specs.declared.code.Code.TheViews as codes
@@ -12,4 +12,4 @@ returns c =
     let w = c.args.hi - lo + 1 in
     let m = c.mask.result in
     replaced_one (option_and_then (checked_slice c.args.hi lo)) c.args.a _ (codes.Slice a.code lo m) w c.in_ok-code.ensures
-    (slice_gives c.args.hi lo c.args.a a w m c.in-Some.is c.if-lo-hi.false c.if-hi-a.false refl c.mask.ensures)
+    (slice_gives c.args.hi lo c.args.a a w m c.in-Some.is (omega arith) (omega arith) refl c.mask.ensures)

@@ -1,5 +1,6 @@
+use Rattle.std.proofs.Common.{arith}
 use Rattle.kp_seq_plan.proofs.Typing.{zext_gives}
 use Rattle.kp_seq_plan.proofs.lowering.zero_extended.Goals as goal
 
 pub returns : goal.returns
-returns c = zext_gives c.args.width c.args.a c.in-Some.a c.in-Some.is c.if-a-width.false c.if-width-gt64.false
+returns c = zext_gives c.args.width c.args.a c.in-Some.a c.in-Some.is (omega arith) (omega arith)

@@ -15,4 +15,5 @@ returns c =
       samples = c.in_ok-samples.ensures ∙ ap samples_of e;
       ports = c.in_ok-ports.ensures ∙ ap ports_of e;
       names = c.in_ok-names.ensures ∙ ap (keys_of []) (c.widths.ensures ∙ c.job.ensures.sound.widths);
+      declared = c.one_entry_for_each_name.ensures c.args.d.now.job;
     }
