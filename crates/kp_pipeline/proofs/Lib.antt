@@ -13,7 +13,6 @@ pub mod Window
 pub mod Taken
 pub mod Legality
 pub mod Progress
-pub mod Setting
 pub mod Timeline
 pub mod SameTrace
 pub mod Nearest

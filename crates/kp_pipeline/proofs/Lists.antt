@@ -50,6 +50,12 @@ bit-bits f zero k j b = absurd (omega arith)
 bit-bits f (suc n) k zero b = let e : k + 0 ≡ k = omega arith in rw e refl
 bit-bits f (suc n) k (suc j) b = let e : k + suc j ≡ suc k + j = omega arith in rw e (bit-bits f n (suc k) j (omega arith))
 
+-- past the end
+pub bit-past : (f : ℕ → Bool) (n k j : ℕ) → n ≤ j → bit (bits f n k) j ≡ false
+bit-past f zero k j b = refl
+bit-past f (suc n) k zero b = absurd (omega arith)
+bit-past f (suc n) k (suc j) b = bit-past f n (suc k) j (omega arith)
+
 -- from 0 on
 pub bit-at : (f : ℕ → Bool) (n j : ℕ) → j < n → bit (bits f n 0) j ≡ f j
 bit-at f n j b = let e : 0 + j ≡ j = omega arith in rw e at (bit-bits f n 0 j b)

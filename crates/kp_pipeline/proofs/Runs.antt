@@ -143,7 +143,7 @@ waits-only m s hints ins acc =
     waits-along m acc s given ins (pipeline_start s hints) (λ k. 0) (λ k. 0) (λ k. 0) (inv-start m s given hints) (λ i x b. refl) (λ k b. refl)
 
 -- AS LONG AS NO WRONG GUESS IS MADE the rows are those of the timeline.
-rows-along : (m : Machine) (acc : Accepted m) (s given : ℕ → ℕ → ℕ) (ins : List Inputs) (st : PipelineState) (count updates : ℕ → ℕ)
+pub rows-along : (m : Machine) (acc : Accepted m) (s given : ℕ → ℕ → ℕ) (ins : List Inputs) (st : PipelineState) (count updates : ℕ → ℕ)
     → Inv m s given st count updates → TakesAhead m given st ins updates
     → (hold : ℕ → Option ℕ) → ((k : ℕ) → k < m.stages → hold k ≡ cond (st.stage k).full (Some (count k)) None)
     → ((k : ℕ) → k < m.stages → RightAt m s given st count k)
@@ -163,7 +163,7 @@ pub start-tie : (k : ℕ) → start_hold k ≡ cond (start_stage k).full (Some 0
 start-tie zero = refl
 start-tie (suc k) = refl
 
-start-right : (s : ℕ → ℕ → ℕ) (k : ℕ) → AllByRecursion (IsRightIn s) (start_stage k).pending
+pub start-right : (s : ℕ → ℕ → ℕ) (k : ℕ) → AllByRecursion (IsRightIn s) (start_stage k).pending
 start-right s zero = tt
 start-right s (suc k) = tt
 
