@@ -4,19 +4,18 @@ use Rattle.std.proofs.lemmas.List.Sums.{fold-append}
 use Rattle.std.proofs.lemmas.List.Elements.{All-nil, All-cons, All-head, All-tail, All-get_or, All-weaker}
 use Rattle.std.proofs.lemmas.Bool.{cond-true, cond-false, false_from_ne_true}
 use Rattle.std.specs.{Prelude.codes, Prelude.All, Prelude.fold, Prelude.replicate, Prelude.◌==◌, Option.is_some}
-use Rattle.kp_bits.specs.Word as bits
 use Rattle.kp_net.specs.declared.{node.NodeId.NodeId, node.Kind.Kind, node.Node.Node, netlist.Port.Port, netlist.WritePort.WritePort, netlist.NetReg.NetReg}
 use Rattle.kp_net.specs.declared.netlist.{NetFile.NetFile, Parts.Parts}
 use Rattle.kp_net.specs.{Names.same, Names.IsNamed, Names.is_reg_name, Names.is_file_name, Names.is_sample_name, Names.IsSpelled, Netlist.Net}
 use Rattle.kp_net.specs.{Parts.no_port, Parts.no_reg, Parts.no_file, Parts.WriteOk, Parts.PortOk, Parts.CellOk, Parts.NetOk, Widths.wide, Widths.KindOk}
 use Rattle.kp_net.specs.declared.node.Kind.TheVariants as kinds
-use Rattle.kp_vlog.specs.Scope.{Scope, scope_of, Sized, Sizes, sizes_of, item_sizes, port_size, width_in, address_in, width_of, place_of, reg_names, file_names}
 use Rattle.kp_vlog.specs.Denote.{node_of, source_of, kind_of, Made, with_item, made_by, output_of, start_of, next_of, word_init, words_of, port_of, regs_of, files_of, sample_of, parts_of, net_of}
+use Rattle.kp_vlog.specs.Scope.{Scope, scope_of, Sized, Sizes, sizes_of, item_sizes, port_size, width_in, address_in, place_of, reg_names, file_names}
 use Rattle.kp_vlog.specs.declared.tree.{Range.Range, Named.Named, VPort.VPort, Right.Right, Item.Item, ResetList.ResetList, VModule.VModule}
 use Rattle.kp_vlog.specs.Canon.{wire, wire_name}
 use Rattle.kp_vlog.specs.declared.tree.Right.TheVariants as sides
 use Rattle.kp_vlog.specs.declared.tree.Item.TheVariants as lines
-use Rattle.kp_vwrite_roundtrip.proofs.Sentence.{IsShown, named_at, number_at, range_at, port_at, out_at, ShowsNames, no_name, a_name, ShowsRight, a_sample, a_reg, a_word, a_not, a_binary, a_mux, a_concat, a_slice, ShowsSamples, no_sample, one_sample, ShowsRegs, no_reg_line, reg_line, ShowsFiles, no_file_line, file_line, ShowsInteger, no_integer, an_integer, ShowsNodes, no_node_line, node_line, ShowsReset, no_reset_shown, reset_shown}
+use Rattle.kp_vwrite_roundtrip.proofs.Sentence.{named_at, number_at, range_at, port_at, ShowsNames, no_name, a_name, ShowsRight, a_sample, a_reg, a_word, a_not, a_binary, a_mux, a_concat, a_slice, ShowsSamples, no_sample, one_sample, ShowsRegs, no_reg_line, reg_line, ShowsFiles, no_file_line, file_line, ShowsInteger, no_integer, an_integer, ShowsNodes, no_node_line, node_line, ShowsReset, no_reset_shown, reset_shown, Shown, outs, whole}
 use Rattle.kp_vwrite_roundtrip.proofs.SameNet.{words_are, starts_skipped, starts_are, nexts_are, updates_skipped, ported, ports_are, found, width_found, address_found, found_past, sizes_append, sized, samples_past, regs_past, files_past, integer_past, files_sized, WidthsAre, nodes_sized}
 use Rattle.kp_vwrite_roundtrip.proofs.Distinct.{apart, tag, tag_reg, tag_file, tag_sample, tag_wire, place_at, wires_to, wire_place}
 use Rattle.kp_vwrite_roundtrip.proofs.Written.{RightFrom, all_right}
@@ -43,17 +42,14 @@ past_nodes g p j _ _ ys h k (node_line {n = n} {ns = ns} {r = r} {xs = xs} a b c
     h (range_at n.width a b) (named_at (wire_name j) c) (lines.Assign (named_at (wire_name j) d) r ∷ (xs ++ ys)) ∙ k j d r (xs ++ ys) ∙ past_nodes g p (j + 1) ns xs ys h k rest
 
 -- all lines of declarations and nodes are skipped
-past_all : {A : Type 0} (g : List Item → A) (net : Net) (m : VModule) (s : IsShown net m) (ys : List Item)
+past_all : {A : Type 0} (g : List Item → A) (net : Net) (s : Shown net) (ys : List Item)
     → ((r : Range) (n : Named) (w : Range) (zs : List Item) → g (lines.File r n w ∷ zs) ≡ g zs) → ((n : Named) (zs : List Item) → g (lines.Integer n ∷ zs) ≡ g zs)
     → ((r : Range) (n : Named) (zs : List Item) → g (lines.Wire r n ∷ zs) ≡ g zs) → ((i at : ℕ) (r : Right) (zs : List Item) → g (lines.Assign (named_at (wire_name i) at) r ∷ zs) ≡ g zs)
     → g (s.files ++ (s.integer ++ (s.nodes ++ ys))) ≡ g ys
-past_all g net m s ys f i w a =
+past_all g net s ys f i w a =
     past_files g net.parts.files s.files (s.integer ++ (s.nodes ++ ys)) f s.shows_files
     ∙ past_integer g net.parts.files s.integer (s.nodes ++ ys) i s.shows_integer
     ∙ past_nodes g net.parts 0 net.nodes s.nodes ys w a s.shows_nodes
-
-abbrev pub outs : {net : Net} {m : VModule} → IsShown net m → List Item
-outs {net} s = out_at (codes "full") net.parts.full (s.q 0) (s.q 1) ∷ out_at (codes "ue") net.parts.ue (s.q 2) (s.q 3) ∷ out_at (codes "back") net.parts.back (s.q 4) (s.q 5) ∷ []
 
 -- Names of registers and files, in the order of declaration.
 
@@ -65,15 +61,15 @@ file_names_more : (fs : List NetFile) (xs ys : List Item) → ShowsFiles fs xs �
 file_names_more _ _ ys no_file_line = refl
 file_names_more _ _ ys (file_line {f = f} {fs = fs} {xs = xs} a b c d e k) = ap (λ (t : List (List ℕ)). f.name ∷ t) (file_names_more fs xs ys k)
 
-reg_names_are : (net : Net) (m : VModule) (s : IsShown net m) → reg_names m.items ≡ map (λ r. r.name) net.parts.regs
-reg_names_are net m s =
-    ap reg_names s.items ∙ reg_names_more net.parts.regs s.regs (s.files ++ (s.integer ++ (s.nodes ++ outs s))) s.shows_regs
-    ∙ ap (λ t. map (λ r. r.name) net.parts.regs ++ t) (past_all reg_names net m s (outs s) (λ r n w zs. refl) (λ n zs. refl) (λ r n zs. refl) (λ i at r zs. refl))
+reg_names_are : (net : Net) (s : Shown net) → reg_names (whole s).items ≡ map (λ r. r.name) net.parts.regs
+reg_names_are net s =
+    reg_names_more net.parts.regs s.regs (s.files ++ (s.integer ++ (s.nodes ++ outs s))) s.shows_regs
+    ∙ ap (λ t. map (λ r. r.name) net.parts.regs ++ t) (past_all reg_names net s (outs s) (λ r n w zs. refl) (λ n zs. refl) (λ r n zs. refl) (λ i at r zs. refl))
     ∙ append-nil (map (λ r. r.name) net.parts.regs)
 
-file_names_are : (net : Net) (m : VModule) (s : IsShown net m) → file_names m.items ≡ map (λ f. f.name) net.parts.files
-file_names_are net m s =
-    ap file_names s.items ∙ past_regs file_names net.parts.regs s.regs (s.files ++ (s.integer ++ (s.nodes ++ outs s))) (λ r n zs. refl) s.shows_regs
+file_names_are : (net : Net) (s : Shown net) → file_names (whole s).items ≡ map (λ f. f.name) net.parts.files
+file_names_are net s =
+    past_regs file_names net.parts.regs s.regs (s.files ++ (s.integer ++ (s.nodes ++ outs s))) (λ r n zs. refl) s.shows_regs
     ∙ file_names_more net.parts.files s.files (s.integer ++ (s.nodes ++ outs s)) s.shows_files
     ∙ ap (λ t. map (λ f. f.name) net.parts.files ++ t) (past_integer file_names net.parts.files s.integer (s.nodes ++ outs s) (λ n zs. refl) s.shows_integer
     ∙ past_nodes file_names net.parts 0 net.nodes s.nodes (outs s) (λ r n zs. refl) (λ i at r zs. refl) s.shows_nodes)
@@ -154,12 +150,12 @@ nodes_made net named s j _ done _ sc few (node_line {n = n} {ns = ns} {r = r} {x
 pub kinds_of : (test : List ℕ → Bool) (ns : List (List ℕ)) → All (IsSpelled test) ns → All (λ n. test n ≡ true) ns
 kinds_of test ns h = All-weaker (IsSpelled test) (λ n. test n ≡ true) (λ n k. k.kind) ns h
 
-abbrev pub behind_ports : {net : Net} {m : VModule} → IsShown net m → Sizes
+abbrev pub behind_ports : {net : Net} → Shown net → Sizes
 behind_ports s = item_sizes s.regs ++ (item_sizes s.files ++ (item_sizes s.integer ++ (item_sizes s.nodes ++ [])))
 
-items_sized : (net : Net) (m : VModule) (s : IsShown net m) → item_sizes m.items ≡ behind_ports s
-items_sized net m s =
-    ap item_sizes s.items ∙ sizes_append s.regs _
+items_sized : (net : Net) (s : Shown net) → item_sizes (whole s).items ≡ behind_ports s
+items_sized net s =
+    sizes_append s.regs _
     ∙ ap (λ t. item_sizes s.regs ++ t) (sizes_append s.files _ ∙ ap (λ t. item_sizes s.files ++ t) (sizes_append s.integer _ ∙ ap (λ t. item_sizes s.integer ++ t) (sizes_append s.nodes (outs s))))
 
 abbrev pub port_part : Net → (ℕ → ℕ) → Sizes → Sizes
@@ -167,54 +163,53 @@ port_part net p rest =
     port_size (port_at (wide net.nodes net.parts.full.0) (codes "full") (p 5) (p 6) (p 7)) ∷ port_size (port_at (wide net.nodes net.parts.ue.0) (codes "ue") (p 8) (p 9) (p 10))
     ∷ port_size (port_at (wide net.nodes net.parts.back.0) (codes "back") (p 11) (p 12) (p 13)) ∷ rest
 
-abbrev pub whole_table : {net : Net} {m : VModule} → IsShown net m → Sizes
-whole_table {net} {m} s = port_size (port_at net.parts.ext (codes "ext") (s.p 2) (s.p 3) (s.p 4)) ∷ (map port_size m.samples ++ port_part net s.p (behind_ports s))
+abbrev pub whole_table : {net : Net} → Shown net → Sizes
+whole_table {net} s = port_size (port_at net.parts.ext (codes "ext") (s.p 2) (s.p 3) (s.p 4)) ∷ (map port_size s.ports ++ port_part net s.p (behind_ports s))
 
-pub table_is : (net : Net) (m : VModule) (s : IsShown net m) → sizes_of m ≡ whole_table s
-table_is net m s = λ i. port_size (s.ext i) ∷ (map port_size m.samples ++ (port_size (s.full i) ∷ port_size (s.ue i) ∷ port_size (s.back i) ∷ items_sized net m s i))
+pub table_is : (net : Net) (s : Shown net) → sizes_of (whole s) ≡ whole_table s
+table_is net s = ap (λ t. port_size (whole s).ext ∷ (map port_size s.ports ++ port_part net s.p t)) (items_sized net s)
 
 -- a name that is no port's is found after the ports
-pub ports_past : (net : Net) (m : VModule) (s : IsShown net m) (named : IsNamed net) (n : List ℕ) (t : ℕ) → tag n ≡ t → (t == 101) ≡ false → (t == 1115) ≡ false → (t == 102) ≡ false → (t == 117) ≡ false → (t == 98) ≡ false
+pub ports_past : (net : Net) (s : Shown net) (named : IsNamed net) (n : List ℕ) (t : ℕ) → tag n ≡ t → (t == 101) ≡ false → (t == 1115) ≡ false → (t == 102) ≡ false → (t == 117) ≡ false → (t == 98) ≡ false
     → found (whole_table s) n ≡ found (behind_ports s) n
-ports_past net m s named n t e a b c d f =
+ports_past net s named n t e a b c d f =
     found_past _ _ n (apart n (codes "ext") t 101 e refl a)
-    ∙ samples_past n t net.parts.samples m.samples _ s.samples (kinds_of is_sample_name _ named.samples) e b
+    ∙ samples_past n t net.parts.samples s.ports _ s.samples (kinds_of is_sample_name _ named.samples) e b
     ∙ found_past _ _ n (apart n (codes "full") t 102 e refl c) ∙ found_past _ _ n (apart n (codes "ue") t 117 e refl d) ∙ found_past _ _ n (apart n (codes "back") t 98 e refl f)
 
-pub widths_are : (net : Net) (m : VModule) (s : IsShown net m) → NetOk net → IsNamed net → WidthsAre (sizes_of m) 0 net.nodes
-widths_are net m s k named =
+pub widths_are : (net : Net) (s : Shown net) → NetOk net → IsNamed net → WidthsAre (sizes_of (whole s)) 0 net.nodes
+widths_are net s k named =
     let few = k.count in
-    nodes_sized net net.parts 0 net.nodes s.nodes (sizes_of m) [] s.shows_nodes (omega arith) (all_right net k) (λ i l h.
-    ap (λ t. found t (wire_name i)) (table_is net m s)
-    ∙ ports_past net m s named (wire_name i) 110 (tag_wire i h) refl refl refl refl refl
+    nodes_sized net net.parts 0 net.nodes s.nodes (sizes_of (whole s)) [] s.shows_nodes (omega arith) (all_right net k) (λ i l h.
+    ap (λ t. found t (wire_name i)) (table_is net s)
+    ∙ ports_past net s named (wire_name i) 110 (tag_wire i h) refl refl refl refl refl
     ∙ regs_past (wire_name i) 110 net.parts.regs s.regs _ s.shows_regs (kinds_of is_reg_name _ named.regs) (tag_wire i h) refl
     ∙ files_past (wire_name i) 110 net.parts.files s.files _ s.shows_files (kinds_of is_file_name _ named.files) (tag_wire i h) refl
     ∙ ap (λ t. found (t ++ (item_sizes s.nodes ++ [])) (wire_name i)) (integer_past net.parts.files s.integer s.shows_integer))
 
-pub file_sizes : (net : Net) (m : VModule) (s : IsShown net m) → NetOk net → IsNamed net → All (λ f. found (sizes_of m) f.name ≡ sized f.name f.width f.address_width) net.parts.files
-file_sizes net m s k named i d l =
+pub file_sizes : (net : Net) (s : Shown net) → NetOk net → IsNamed net → All (λ f. found (sizes_of (whole s)) f.name ≡ sized f.name f.width f.address_width) net.parts.files
+file_sizes net s k named i d l =
     let f = get_or net.parts.files i d in
     let t = tag_file f.name (spelled is_file_name (λ f. f.name) net.parts.files named.files i d l) in
-    ap (λ z. found z f.name) (table_is net m s)
-    ∙ ports_past net m s named f.name 1102 t refl refl refl refl refl
+    ap (λ z. found z f.name) (table_is net s)
+    ∙ ports_past net s named f.name 1102 t refl refl refl refl refl
     ∙ regs_past f.name 1102 net.parts.regs s.regs _ s.shows_regs (kinds_of is_reg_name _ named.regs) t refl
     ∙ files_sized net.nodes net.parts.files s.files s.shows_files k.parts.files named.files_differ i d l (item_sizes s.integer ++ (item_sizes s.nodes ++ []))
 
-pub scoped : (net : Net) (m : VModule) (s : IsShown net m) → Scoped net (scope_of m)
-scoped net m s = record { samples = sample_names_are net.parts.samples m.samples s.samples; regs = reg_names_are net m s; files = file_names_are net m s }
+pub scoped : (net : Net) (s : Shown net) → Scoped net (scope_of (whole s))
+scoped net s = record { samples = sample_names_are net.parts.samples s.ports s.samples; regs = reg_names_are net s; files = file_names_are net s }
 
 -- All nodes.
 
-pub made_is : (net : Net) (m : VModule) (s : IsShown net m) → NetOk net → IsNamed net → made_by (scope_of m) m.items ≡ made (wires_to (length net.nodes)) net.nodes
-made_is net m s k named =
-    let f = with_item (scope_of m) in
+pub made_is : (net : Net) (s : Shown net) → NetOk net → IsNamed net → made_by (scope_of (whole s)) (whole s).items ≡ made (wires_to (length net.nodes)) net.nodes
+made_is net s k named =
+    let f = with_item (scope_of (whole s)) in
     let few = k.count in
-    ap (λ xs. fold f (made [] []) xs) s.items
-    ∙ past_regs (λ xs. fold f (made [] []) xs) net.parts.regs s.regs (s.files ++ (s.integer ++ (s.nodes ++ outs s))) (λ r n zs. refl) s.shows_regs
+    past_regs (λ xs. fold f (made [] []) xs) net.parts.regs s.regs (s.files ++ (s.integer ++ (s.nodes ++ outs s))) (λ r n zs. refl) s.shows_regs
     ∙ past_files (λ xs. fold f (made [] []) xs) net.parts.files s.files (s.integer ++ (s.nodes ++ outs s)) (λ r n w zs. refl) s.shows_files
     ∙ past_integer (λ xs. fold f (made [] []) xs) net.parts.files s.integer (s.nodes ++ outs s) (λ n zs. refl) s.shows_integer
     ∙ fold-append f (made [] []) s.nodes (outs s)
-    ∙ ap (λ (x : Made). fold f x (outs s)) (nodes_made net named (scope_of m) 0 net.nodes [] s.nodes (scoped net m s) (omega arith) s.shows_nodes (all_right net k) (widths_are net m s k named))
+    ∙ ap (λ (x : Made). fold f x (outs s)) (nodes_made net named (scope_of (whole s)) 0 net.nodes [] s.nodes (scoped net s) (omega arith) s.shows_nodes (all_right net k) (widths_are net s k named))
     ∙ ap (λ (i : ℕ). made (wires_to i) net.nodes) (let e : 0 + length net.nodes ≡ length net.nodes = omega arith in e)
 
 -- Outputs.
@@ -223,10 +218,10 @@ output_past : (wires : List (List ℕ)) (out : List ℕ) (t : Named) (r : Right)
 output_past wires out t (sides.Name n) zs e = cond-false (same t.name out) (node_of wires n) (output_of wires out zs) e
 output_past wires out t x zs e = refl
 
-output_is : (net : Net) (m : VModule) (s : IsShown net m) (wires : List (List ℕ)) (out : List ℕ) → ((i : ℕ) → same (wire_name i) out ≡ false) → output_of wires out m.items ≡ output_of wires out (outs s)
-output_is net m s wires out e =
-    ap (output_of wires out) s.items ∙ past_regs (output_of wires out) net.parts.regs s.regs (s.files ++ (s.integer ++ (s.nodes ++ outs s))) (λ r n zs. refl) s.shows_regs
-    ∙ past_all (output_of wires out) net m s (outs s) (λ r n w zs. refl) (λ n zs. refl) (λ r n zs. refl) (λ i at r zs. output_past wires out (named_at (wire_name i) at) r zs (e i))
+output_is : (net : Net) (s : Shown net) (wires : List (List ℕ)) (out : List ℕ) → ((i : ℕ) → same (wire_name i) out ≡ false) → output_of wires out (whole s).items ≡ output_of wires out (outs s)
+output_is net s wires out e =
+    past_regs (output_of wires out) net.parts.regs s.regs (s.files ++ (s.integer ++ (s.nodes ++ outs s))) (λ r n zs. refl) s.shows_regs
+    ∙ past_all (output_of wires out) net s (outs s) (λ r n w zs. refl) (λ n zs. refl) (λ r n zs. refl) (λ i at r zs. output_past wires out (named_at (wire_name i) at) r zs (e i))
 
 -- Registers.
 
@@ -238,16 +233,15 @@ regs_more wires m _ _ ys (reg_line {r = r} {rs = rs} {xs = xs} c d e k) a b =
     let rest = regs_more wires m rs xs ys k (All-tail (λ r. start_of m.inits r.name ≡ r.start) r rs a) (All-tail (λ r. next_of wires m.updates r.name ≡ r.next) r rs b) in
     λ i. record { name = r.name; start = start i; next = next i } ∷ rest i
 
-regs_are : (net : Net) (m : VModule) (s : IsShown net m) → NetOk net → IsNamed net → regs_of (wires_to (length net.nodes)) m m.items ≡ net.parts.regs
-regs_are net m s k named =
+regs_are : (net : Net) (s : Shown net) → NetOk net → IsNamed net → regs_of (wires_to (length net.nodes)) (whole s) (whole s).items ≡ net.parts.regs
+regs_are net s k named =
     let wires = wires_to (length net.nodes) in
-    ap (regs_of wires m) s.items
-    ∙ regs_more wires m net.parts.regs s.regs (s.files ++ (s.integer ++ (s.nodes ++ outs s))) s.shows_regs
-    (λ i d l. ap (λ xs. start_of xs (get_or net.parts.regs i d).name) s.inits ∙ starts_are net.parts.regs s.start_part s.shows_starts named.regs_differ i d l s.fill_part)
+    regs_more wires (whole s) net.parts.regs s.regs (s.files ++ (s.integer ++ (s.nodes ++ outs s))) s.shows_regs
+    (λ i d l. starts_are net.parts.regs s.start_part s.shows_starts named.regs_differ i d l s.fill_part)
     (λ i d l. let r = get_or net.parts.regs i d in let ok = (k.parts.regs i d l).next in
-    ap (λ xs. next_of wires xs r.name) s.updates ∙ nexts_are wires net.parts.regs s.update_part s.shows_updates named.regs_differ i d l s.write_part
+    nexts_are wires net.parts.regs s.update_part s.shows_updates named.regs_differ i d l s.write_part
     ∙ ap (λ (a : ℕ). record { 0 = a }) (wire_place (length net.nodes) r.next.0 ok.0 k.count))
-    ∙ ap (λ t. net.parts.regs ++ t) (past_all (regs_of wires m) net m s (outs s) (λ r n w zs. refl) (λ n zs. refl) (λ r n zs. refl) (λ i at r zs. refl))
+    ∙ ap (λ t. net.parts.regs ++ t) (past_all (regs_of wires (whole s)) net s (outs s) (λ r n w zs. refl) (λ n zs. refl) (λ r n zs. refl) (λ i at r zs. refl))
     ∙ append-nil net.parts.regs
 
 -- Files.
@@ -271,29 +265,27 @@ files_more wires m _ _ ys (file_line {f = f} {fs = fs} {xs = xs} c d e g h k) a 
     let rest = files_more wires m fs xs ys k (All-tail (IsFile wires m) f fs a) in
     λ i. record { name = f.name; width = is.width i; address_width = is.address i; words = is.words i; port = is.port i } ∷ rest i
 
-files_are : (net : Net) (m : VModule) (s : IsShown net m) → NetOk net → IsNamed net → files_of (wires_to (length net.nodes)) m m.items ≡ net.parts.files
-files_are net m s k named =
+files_are : (net : Net) (s : Shown net) → NetOk net → IsNamed net → files_of (wires_to (length net.nodes)) (whole s) (whole s).items ≡ net.parts.files
+files_are net s k named =
     let wires = wires_to (length net.nodes) in
-    ap (files_of wires m) s.items
-    ∙ past_regs (files_of wires m) net.parts.regs s.regs (s.files ++ (s.integer ++ (s.nodes ++ outs s))) (λ r n zs. refl) s.shows_regs
-    ∙ files_more wires m net.parts.files s.files (s.integer ++ (s.nodes ++ outs s)) s.shows_files (λ i d l.
+    past_regs (files_of wires (whole s)) net.parts.regs s.regs (s.files ++ (s.integer ++ (s.nodes ++ outs s))) (λ r n zs. refl) s.shows_regs
+    ∙ files_more wires (whole s) net.parts.files s.files (s.integer ++ (s.nodes ++ outs s)) s.shows_files (λ i d l.
     let f = get_or net.parts.files i d in
-    let size = file_sizes net m s k named i d l in
+    let size = file_sizes net s k named i d l in
     let ok = k.parts.files i d l in
-    let address : address_in (sizes_of m) f.name ≡ f.address_width = address_found (sizes_of m) f.name ∙ ap (λ (z : Sized). z.address) size in
+    let address : address_in (sizes_of (whole s)) f.name ≡ f.address_width = address_found (sizes_of (whole s)) f.name ∙ ap (λ (z : Sized). z.address) size in
     record {
-      width = width_found (sizes_of m) f.name ∙ ap (λ (z : Sized). z.width) size;
+      width = width_found (sizes_of (whole s)) f.name ∙ ap (λ (z : Sized). z.width) size;
       address = address;
-      words = ap (λ (c : ℕ). words_of m.inits (2 ^ c) f.name) address ∙ ap (λ (c : ℕ). words_of m.inits c f.name) (sym ok.full)
-          ∙ ap (λ xs. fold (word_init (length f.words) f.name) (replicate (length f.words) 0) xs) s.inits
+      words = ap (λ (c : ℕ). words_of (whole s).inits (2 ^ c) f.name) address ∙ ap (λ (c : ℕ). words_of (whole s).inits c f.name) (sym ok.full)
           ∙ fold-append (word_init (length f.words) f.name) (replicate (length f.words) 0) s.start_part s.fill_part
           ∙ ap (λ us. fold (word_init (length f.words) f.name) us s.fill_part) (starts_skipped f.name (length f.words) net.parts.regs s.start_part (replicate (length f.words) 0) s.shows_starts)
           ∙ words_are net.parts.files s.fill_part s.shows_fills named.files_differ i d l (replicate (length f.words) 0);
-      port = ap (λ xs. port_of wires xs f.name) s.updates ∙ updates_skipped wires f.name net.parts.regs s.update_part s.write_part s.shows_updates
+      port = updates_skipped wires f.name net.parts.regs s.update_part s.write_part s.shows_updates
           ∙ ports_are wires net.parts.files s.write_part s.shows_writes named.files_differ i d l ∙ port_is net.nodes f.width f.address_width f.port ok.port k.count;
     })
-    ∙ ap (λ t. net.parts.files ++ t) (past_integer (files_of wires m) net.parts.files s.integer (s.nodes ++ outs s) (λ n zs. refl) s.shows_integer
-    ∙ past_nodes (files_of wires m) net.parts 0 net.nodes s.nodes (outs s) (λ r n zs. refl) (λ i at r zs. refl) s.shows_nodes)
+    ∙ ap (λ t. net.parts.files ++ t) (past_integer (files_of wires (whole s)) net.parts.files s.integer (s.nodes ++ outs s) (λ n zs. refl) s.shows_integer
+    ∙ past_nodes (files_of wires (whole s)) net.parts 0 net.nodes s.nodes (outs s) (λ r n zs. refl) (λ i at r zs. refl) s.shows_nodes)
     ∙ append-nil net.parts.files
 
 samples_are : (ss : List Port) (xs : List VPort) → ShowsSamples ss xs → All PortOk ss → map sample_of xs ≡ ss
@@ -307,20 +299,16 @@ reset_same rs _ _ _ no_reset_shown = refl
 reset_same rs _ _ _ (reset_shown a b h) = refl
 
 -- A module that represents a netlist denotes it.
-pub same_net : (net : Net) (m : VModule) → NetOk net → IsNamed net → IsShown net m → net_of m ≡ net
+pub same_net : (net : Net) (s : Shown net) → NetOk net → IsNamed net → net_of (whole s) ≡ net
 unfolding net_of
-same_net net m k named s =
-    let n = length net.nodes in
-    let wires = wires_to n in
-    let p = net.parts in
-    let low = k.parts.ext_positive in
-    ap (λ (x : Made). record { nodes = x.nodes; parts = parts_of x.wires m }) (made_is net m s k named)
-    ∙ ap (λ (x : List ℕ). record { nodes = net.nodes; parts = record { name = x; ext = width_of m.ext.range; reset = is_some m.rst; samples = map sample_of m.samples; regs = regs_of wires m m.items; files = files_of wires m m.items; full = output_of wires (codes "full") m.items; ue = output_of wires (codes "ue") m.items; back = output_of wires (codes "back") m.items } }) (ap (λ (x : Named). x.name) s.name)
-    ∙ ap (λ (x : ℕ). record { nodes = net.nodes; parts = record { name = p.name; ext = x; reset = is_some m.rst; samples = map sample_of m.samples; regs = regs_of wires m m.items; files = files_of wires m m.items; full = output_of wires (codes "full") m.items; ue = output_of wires (codes "ue") m.items; back = output_of wires (codes "back") m.items } }) (ap (λ (x : VPort). width_of x.range) s.ext ∙ (let e : p.ext - 1 + 1 ≡ p.ext = omega arith in e))
-    ∙ ap (λ (x : Bool). record { nodes = net.nodes; parts = record { name = p.name; ext = p.ext; reset = x; samples = map sample_of m.samples; regs = regs_of wires m m.items; files = files_of wires m m.items; full = output_of wires (codes "full") m.items; ue = output_of wires (codes "ue") m.items; back = output_of wires (codes "back") m.items } }) (reset_same p.regs p.reset m.rst m.reset s.reset)
-    ∙ ap (λ (x : List Port). record { nodes = net.nodes; parts = record { name = p.name; ext = p.ext; reset = p.reset; samples = x; regs = regs_of wires m m.items; files = files_of wires m m.items; full = output_of wires (codes "full") m.items; ue = output_of wires (codes "ue") m.items; back = output_of wires (codes "back") m.items } }) (samples_are p.samples m.samples s.samples k.parts.samples)
-    ∙ ap (λ (x : List NetReg). record { nodes = net.nodes; parts = record { name = p.name; ext = p.ext; reset = p.reset; samples = p.samples; regs = x; files = files_of wires m m.items; full = output_of wires (codes "full") m.items; ue = output_of wires (codes "ue") m.items; back = output_of wires (codes "back") m.items } }) (regs_are net m s k named)
-    ∙ ap (λ (x : List NetFile). record { nodes = net.nodes; parts = record { name = p.name; ext = p.ext; reset = p.reset; samples = p.samples; regs = p.regs; files = x; full = output_of wires (codes "full") m.items; ue = output_of wires (codes "ue") m.items; back = output_of wires (codes "back") m.items } }) (files_are net m s k named)
-    ∙ ap (λ (x : NodeId). record { nodes = net.nodes; parts = record { name = p.name; ext = p.ext; reset = p.reset; samples = p.samples; regs = p.regs; files = p.files; full = x; ue = output_of wires (codes "ue") m.items; back = output_of wires (codes "back") m.items } }) (output_is net m s wires (codes "full") (λ i. refl) ∙ node_is n p.full (s.q 1) k.parts.full k.count)
-    ∙ ap (λ (x : NodeId). record { nodes = net.nodes; parts = record { name = p.name; ext = p.ext; reset = p.reset; samples = p.samples; regs = p.regs; files = p.files; full = p.full; ue = x; back = output_of wires (codes "back") m.items } }) (output_is net m s wires (codes "ue") (λ i. refl) ∙ node_is n p.ue (s.q 3) k.parts.ue k.count)
-    ∙ ap (λ (x : NodeId). record { nodes = net.nodes; parts = record { name = p.name; ext = p.ext; reset = p.reset; samples = p.samples; regs = p.regs; files = p.files; full = p.full; ue = p.ue; back = x } }) (output_is net m s wires (codes "back") (λ i. refl) ∙ node_is n p.back (s.q 5) k.parts.back k.count)
+same_net net s k named =
+    let n = length net.nodes in let p = net.parts in let wires = wires_to n in let low = k.parts.ext_positive in
+    let ext : p.ext - 1 + 1 ≡ p.ext = omega arith in
+    let reset = reset_same p.regs p.reset s.rst s.resets s.reset in
+    let samples = samples_are p.samples s.ports s.samples k.parts.samples in
+    let regs = regs_are net s k named in let files = files_are net s k named in
+    let full = output_is net s wires (codes "full") (λ i. refl) ∙ node_is n p.full (s.q 1) k.parts.full k.count in
+    let ue = output_is net s wires (codes "ue") (λ i. refl) ∙ node_is n p.ue (s.q 3) k.parts.ue k.count in
+    let back = output_is net s wires (codes "back") (λ i. refl) ∙ node_is n p.back (s.q 5) k.parts.back k.count in
+    ap (λ (x : Made). record { nodes = x.nodes; parts = parts_of x.wires (whole s) }) (made_is net s k named)
+    ∙ (λ i. record { nodes = net.nodes; parts = record { name = p.name; ext = ext i; reset = reset i; samples = samples i; regs = regs i; files = files i; full = full i; ue = ue i; back = back i } })

@@ -1,11 +1,11 @@
 -- Which names are eq-eqb.
-use Rattle.std.proofs.Common.{◌≡◌, ◌∙◌, ℕ, zero, suc, ◌+◌, ◌≤◌, ◌<◌, List, [], ◌∷◌, ◌++◌, length, get_or, map, Bool, true, false, cond, refl, sym, ap, subst, arith, eq-eqb, length-append, inl, inr}
+use Rattle.std.proofs.Common.{◌≡◌, ◌∙◌, ℕ, zero, suc, ◌+◌, ◌≤◌, ◌<◌, List, [], ◌∷◌, ◌++◌, length, get_or, map, Bool, true, false, refl, sym, ap, subst, arith, eq-eqb, length-append, inl, inr}
 use Rattle.std.proofs.lemmas.Bool.{false≢true, cases_lt, cond-true, cond-false, or_from, or_parts, or_left, or_right}
 use Rattle.std.proofs.{lemmas.Fmt.decimal_injective, lemmas.List.Elements.All-nil, lemmas.List.Elements.All-cons, Math.Bool.or_assoc}
-use Rattle.std.specs.Prelude.{decimal, All, ◌==◌, ◌&&◌, ◌||◌, if◌then◌else◌}
+use Rattle.std.specs.Prelude.{decimal, All, ◌==◌, ◌||◌, if◌then◌else◌}
 use Rattle.kp_net.specs.Names.{same, among, Differ, is_reg_name, is_file_name, is_sample_name}
 use Rattle.kp_vlog.specs.{Scope.place_of, Canon.wire_name}
-use Rattle.kp_vwrite_roundtrip.proofs.Runs.{IsDigit, d0, decimal_led}
+use Rattle.kp_vwrite_roundtrip.proofs.Runs.{IsDigit, decimal_led, digit_at}
 use Rattle.kp_vlog.proofs.Tests.{same_refl, differ, same_flip, place_front, place_new, reg_cases, file_cases, sample_cases}
 
 -- The kind of a name: its first byte, and whether `_` follows it.
@@ -27,8 +27,7 @@ pub tag_sample : (n : List ℕ) → is_sample_name n ≡ true → tag n ≡ 1115
 tag_sample = sample_cases (λ n. tag n ≡ 1115) (λ c rest. refl)
 
 digit_tag : (d : ℕ) (ds : List ℕ) → IsDigit d → tag (110 ∷ d ∷ ds) ≡ 110
-digit_tag _ ds d0 = refl
-digit_tag _ ds x = refl
+digit_tag d ds h = cond-false (d == 95) _ 110 (digit_at (λ c. c == 95) false refl d h)
 
 pub tag_wire : (j : ℕ) → j ≤ 16777216 → tag (wire_name j) ≡ 110
 tag_wire j h = let l = decimal_led j (omega arith) in ap (λ (ds : List ℕ). tag (110 ∷ ds)) l.whole ∙ digit_tag l.first l.more l.is

@@ -8,13 +8,12 @@ use Rattle.kp_net.specs.{declared.netlist.Parts.Parts, Names.same, Names.among, 
 use Rattle.kp_net.specs.{Parts.WriteOk, Parts.RegOk, Parts.FileOk, Parts.NetOk, Widths.wide, Widths.KindOk}
 use Rattle.kp_vlog.specs.Occurrences.{Occurrence, occurs, declares_port, is_given, wires_used, right_names, items_names, inits_names, start_in, is_literal, values_names, reset_names, updates_names, samples_names, reset_port_names, wide_port_names, body_names, names}
 use Rattle.kp_vlog.specs.declared.tree.{Named.Named, ResetList.ResetList, ResetValue.ResetValue, VPort.VPort, Right.Right, Item.Item, Init.Init, Update.Update}
-use Rattle.kp_vlog.specs.{declared.tree.VModule.VModule, Canon.wire, Canon.wire_name}
+use Rattle.kp_vlog.specs.Canon.{wire, wire_name}
 use Rattle.kp_vlog.specs.Rules.{Driven, nothing, drives, all_driven, items_given, inits_started, inits_filled, updates_updated, reset_values, driver_fits, bad_driver, module_driver}
 use Rattle.kp_vlog.specs.declared.tree.Init.TheVariants as starts
-use Rattle.kp_vwrite_roundtrip.proofs.Sentence.{IsShown, named_at, ShowsNames, no_name, a_name, ShowsRight, a_const, a_word, a_not, a_binary, a_mux, a_concat, a_slice, ShowsSamples, no_sample, one_sample, ShowsRegs, no_reg_line, reg_line, ShowsFiles, no_file_line, file_line, ShowsInteger, no_integer, an_integer, ShowsNodes, no_node_line, node_line, ShowsStarts, no_start, a_start, ShowsWords, no_words, zero_word, some_word, ShowsFills, no_fill, a_fill, ShowsUpdates, no_update, an_update, ShowsWrites, no_write, not_written, a_write, ShowsReset, no_reset_shown, reset_shown, ShowsValues, no_value, a_value}
+use Rattle.kp_vwrite_roundtrip.proofs.Sentence.{named_at, ShowsNames, no_name, a_name, ShowsRight, a_const, a_word, a_not, a_binary, a_mux, a_concat, a_slice, ShowsSamples, no_sample, one_sample, ShowsRegs, no_reg_line, reg_line, ShowsFiles, no_file_line, file_line, ShowsInteger, no_integer, an_integer, ShowsNodes, no_node_line, node_line, ShowsStarts, no_start, a_start, ShowsWords, no_words, zero_word, some_word, ShowsFills, no_fill, a_fill, ShowsUpdates, no_update, an_update, ShowsWrites, no_write, not_written, a_write, ShowsReset, no_reset_shown, reset_shown, ShowsValues, no_value, a_value, Shown, outs, whole}
 use Rattle.kp_vwrite_roundtrip.proofs.{Written.RightFrom, Written.all_right, Distinct.wires_differ, Distinct.apart_all}
-use Rattle.kp_vwrite_roundtrip.proofs.Denoted.{outs, past_regs, past_files, past_integer}
-use Rattle.kp_vwrite_roundtrip.proofs.{NamesHold.whole, NamesHold.AllNew, NamesHold.new_more, Runs.literal_for}
+use Rattle.kp_vwrite_roundtrip.proofs.{Denoted.past_regs, Denoted.past_files, Denoted.past_integer, NamesHold.AllNew, NamesHold.new_more, Runs.literal_for}
 use Rattle.kp_bits.specs.declared.literal.Literal.{Literal}
 use Rattle.kp_vlog.proofs.Tests.{same_refl}
 
@@ -78,8 +77,8 @@ record DrivesAll (net : Net) (resets : Bool) (all : Driven) : Type 0 where
   pub reset : All (λ r. (not resets || among all.reset r.name) ≡ true) net.parts.regs
   pub filled : All (λ f. among all.filled f.name ≡ true) net.parts.files
 
-given_past : (net : Net) (m : VModule) (s : IsShown net m) → items_given (s.regs ++ (s.files ++ (s.integer ++ (s.nodes ++ outs s)))) ≡ items_given (s.nodes ++ outs s)
-given_past net m s =
+given_past : (net : Net) (s : Shown net) → items_given (s.regs ++ (s.files ++ (s.integer ++ (s.nodes ++ outs s)))) ≡ items_given (s.nodes ++ outs s)
+given_past net s =
     past_regs items_given net.parts.regs s.regs (s.files ++ (s.integer ++ (s.nodes ++ outs s))) (λ r n zs. refl) s.shows_regs
     ∙ past_files items_given net.parts.files s.files (s.integer ++ (s.nodes ++ outs s)) (λ r n w zs. refl) s.shows_files
     ∙ past_integer items_given net.parts.files s.integer (s.nodes ++ outs s) (λ n zs. refl) s.shows_integer
@@ -88,9 +87,9 @@ resets_all : (rs : List NetReg) (b : Bool) (rst : Option Named) (r : Option Rese
 resets_all rs _ _ _ no_reset_shown i d l = refl
 resets_all rs _ _ _ (reset_shown {xs = xs} a b h) i d l = values_driven rs xs h i d l
 
-drives_all : (net : Net) (m : VModule) (s : IsShown net m) → DrivesAll net (is_some m.reset) (all_driven (whole s))
-drives_all net m s =
-    let given = given_past net m s in
+drives_all : (net : Net) (s : Shown net) → DrivesAll net (is_some s.resets) (all_driven (whole s))
+drives_all net s =
+    let given = given_past net s in
     record {
       wires = λ i l. ap (λ t. among t (wire_name i)) given ∙ nodes_given net.parts 0 net.nodes s.nodes (outs s) i s.shows_nodes (omega arith) (omega arith);
       full = ap (λ t. among t (codes "full")) given ∙ outs_given net.parts 0 net.nodes s.nodes (outs s) (codes "full") s.shows_nodes refl;
@@ -98,7 +97,7 @@ drives_all net m s =
       back = ap (λ t. among t (codes "back")) given ∙ outs_given net.parts 0 net.nodes s.nodes (outs s) (codes "back") s.shows_nodes refl;
       started = starts_driven net.parts.regs s.start_part s.fill_part s.shows_starts;
       updated = updates_driven net.parts.regs s.update_part s.write_part s.shows_updates;
-      reset = resets_all net.parts.regs net.parts.reset m.rst m.reset s.reset;
+      reset = resets_all net.parts.regs net.parts.reset s.rst s.resets s.reset;
       filled = λ i d l. ap (λ t. among t (get_or net.parts.files i d).name) (filled_past net.parts.regs s.start_part s.fill_part s.shows_starts) ∙ fills_driven net.parts.files s.fill_part s.shows_fills i d l;
     }
 
@@ -240,8 +239,8 @@ module _ (resets : Bool) (all : Driven) where
   reset_port_fine d rs _ _ _ os rest no_reset_shown h = h
   reset_port_fine d rs _ _ _ os rest (reset_shown a b sh) h = goes _ _ _ refl (goes _ _ _ refl h)
 
-  outs_fine : (net : Net) (m : VModule) (s : IsShown net m) (g : List (List ℕ)) → NetOk net → IsNamed net → Given (length net.nodes) g → Fine (state g [] [] [] [] []) (items_names (outs s) ++ body_names (whole s))
-  outs_fine net m s g k named gn =
+  outs_fine : (net : Net) (s : Shown net) (g : List (List ℕ)) → NetOk net → IsNamed net → Given (length net.nodes) g → Fine (state g [] [] [] [] []) (items_names (outs s) ++ body_names (whole s))
+  outs_fine net s g k named gn =
       let p = net.parts in
       let found = start_found p.regs s.start_part s.fill_part s.shows_starts named.regs_differ in
       goes _ _ _ (not_from_false (among g (codes "full")) gn.full) (goes _ _ _ (gn.old p.full.0 k.parts.full) (goes _ _ _ refl
@@ -254,21 +253,21 @@ module _ (resets : Bool) (all : Driven) where
       starts_fine g' [] p.regs s.start_part s.fill_part _ s.shows_starts named.regs_differ (λ i d l. refl) (λ s'.
       fills_fine g' s' [] p.files s.fill_part _ s.shows_fills named.files_differ (λ i d l. refl) (λ f'.
       goes _ _ _ refl
-      (reset_fine g' s' f' (s.start_part ++ s.fill_part) p.regs p.reset m.rst m.reset _ s.reset named.regs_differ found (λ r'.
+      (reset_fine g' s' f' (s.start_part ++ s.fill_part) p.regs p.reset s.rst s.resets _ s.reset named.regs_differ found (λ r'.
       updates_fine net g' s' f' r' [] p.regs s.update_part s.write_part s.shows_updates k.parts.regs named.regs_differ (λ i d l. refl) old (λ u'.
       writes_fine net g' s' f' r' u' [] p.files s.write_part s.shows_writes k.parts.files named.files_differ (λ i d l. refl) old))))))))))))))
 
-  ports_fine : (net : Net) (m : VModule) (s : IsShown net m) → NetOk net → IsNamed net → DrivesAll net resets all → Fine nothing (names (whole s))
-  ports_fine net m s k named all_ok =
+  ports_fine : (net : Net) (s : Shown net) → NetOk net → IsNamed net → DrivesAll net resets all → Fine nothing (names (whole s))
+  ports_fine net s k named all_ok =
       let p = net.parts in
       let w = whole s in
       let few = k.count in
       let rest = items_names w.items ++ body_names w in
       let ports = wide_port_names (codes "full") w.ext w.full ++ (wide_port_names (codes "ue") w.ext w.ue ++ (occurs (declares_port (codes "back")) w.back.port ∷ [])) in
       goes _ _ _ refl (goes _ _ _ refl
-      (reset_port_fine nothing p.regs p.reset m.rst m.reset (occurs (declares_port (codes "ext")) w.ext.port ∷ (samples_names m.samples ++ ports)) rest s.reset
-      (goes _ _ _ refl (subst (Fine nothing) (sym (append_assoc (samples_names m.samples) ports rest))
-      (samples_fine p.samples m.samples (ports ++ rest) nothing s.samples
+      (reset_port_fine nothing p.regs p.reset s.rst s.resets (occurs (declares_port (codes "ext")) w.ext.port ∷ (samples_names s.ports ++ ports)) rest s.reset
+      (goes _ _ _ refl (subst (Fine nothing) (sym (append_assoc (samples_names s.ports) ports rest))
+      (samples_fine p.samples s.ports (ports ++ rest) nothing s.samples
       (goes _ _ _ all_ok.full (goes _ _ _ (eq-eqb (wide net.nodes p.full.0 - 1) (p.ext - 1) (ap (λ x. x - 1) named.full))
       (goes _ _ _ all_ok.ue (goes _ _ _ (eq-eqb (wide net.nodes p.ue.0 - 1) (p.ext - 1) (ap (λ x. x - 1) named.ue))
       (goes _ _ _ all_ok.back
@@ -277,8 +276,8 @@ module _ (resets : Bool) (all : Driven) where
       (integer_fine p.files s.integer (s.nodes ++ outs s) (body_names w) nothing s.shows_integer
       (nodes_fine net 0 net.nodes s.nodes (outs s) [] (body_names w) s.shows_nodes (all_right net k) (omega arith) (λ i l h. all_ok.wires i (omega arith))
       (record { old = λ i l. absurd (omega arith); new = λ i l b. refl; full = refl; ue = refl; back = refl })
-      (λ g gn. outs_fine net m s g k named (subst (λ i. Given i g) (let e : 0 + length net.nodes ≡ length net.nodes = omega arith in e) gn))))))))))))))))
+      (λ g gn. outs_fine net s g k named (subst (λ i. Given i g) (let e : 0 + length net.nodes ≡ length net.nodes = omega arith in e) gn))))))))))))))))
 
 -- A module that represents a netlist violates no rule of drivers.
-pub drivers_hold : (net : Net) (m : VModule) (s : IsShown net m) → NetOk net → IsNamed net → module_driver (whole s) ≡ None
-drivers_hold net m s k named = (ports_fine (is_some m.reset) (all_driven (whole s)) net m s k named (drives_all net m s)).none
+pub drivers_hold : (net : Net) (s : Shown net) → NetOk net → IsNamed net → module_driver (whole s) ≡ None
+drivers_hold net s k named = (ports_fine (is_some s.resets) (all_driven (whole s)) net s k named (drives_all net s)).none

@@ -6,46 +6,15 @@ use Rattle.std.specs.{Prelude.codes, Prelude.All, Prelude.◌==◌, Prelude.◌&
 use Rattle.kp_net.specs.declared.{node.NodeId.NodeId, node.Kind.Kind, node.Node.Node, netlist.Port.Port, netlist.NetReg.NetReg, netlist.NetFile.NetFile}
 use Rattle.kp_net.specs.{Names.same, Names.among, Names.Differ, Names.IsNamed, Names.is_reg_name, Names.is_file_name, Names.is_sample_name, Netlist.Net}
 use Rattle.kp_net.specs.Parts.{no_port, no_reg, no_file, NodeIs, WriteOk, RegOk, FileOk, CellOk, NetOk}
-use Rattle.kp_net.specs.Widths.{wide, KindOk}
+use Rattle.kp_net.specs.Widths.{KindOk}
 use Rattle.kp_base.specs.Characters.{is_digit}
 use Rattle.kp_vlog.specs.Occurrences.{Occurrence, occurs, declares_port, uses_source, uses_port, is_given, wires_used, right_names, items_names, inits_names, values_names, reset_names, updates_names, samples_names, reset_port_names, wide_port_names, body_names, names}
 use Rattle.kp_vlog.specs.declared.tree.{Named.Named, ResetList.ResetList, ResetValue.ResetValue, VPort.VPort, Right.Right, Item.Item, Init.Init, Update.Update}
-use Rattle.kp_vlog.specs.{declared.tree.VModule.VModule, Canon.wire, Canon.wire_name, Scope.is_wire_name, Rules.name_fits, Rules.learns, Rules.bad_name}
-use Rattle.kp_vwrite_roundtrip.proofs.Sentence.{IsShown, named_at, port_at, ShowsNames, no_name, a_name, ShowsRight, a_const, an_ext, a_sample, a_reg, a_word, a_not, a_binary, a_mux, a_concat, a_slice, ShowsSamples, no_sample, one_sample, ShowsRegs, no_reg_line, reg_line, ShowsFiles, no_file_line, file_line, ShowsInteger, no_integer, an_integer, ShowsNodes, no_node_line, node_line, ShowsStarts, no_start, a_start, ShowsWords, no_words, zero_word, some_word, ShowsFills, no_fill, a_fill, ShowsUpdates, no_update, an_update, ShowsWrites, no_write, not_written, a_write, ShowsReset, no_reset_shown, reset_shown, ShowsValues, no_value, a_value}
+use Rattle.kp_vlog.specs.{Canon.wire, Canon.wire_name, Scope.is_wire_name, Rules.name_fits, Rules.learns, Rules.bad_name}
+use Rattle.kp_vwrite_roundtrip.proofs.Sentence.{named_at, ShowsNames, no_name, a_name, ShowsRight, a_const, an_ext, a_sample, a_reg, a_word, a_not, a_binary, a_mux, a_concat, a_slice, ShowsSamples, no_sample, one_sample, ShowsRegs, no_reg_line, reg_line, ShowsFiles, no_file_line, file_line, ShowsInteger, no_integer, an_integer, ShowsNodes, no_node_line, node_line, ShowsStarts, no_start, a_start, ShowsWords, no_words, zero_word, some_word, ShowsFills, no_fill, a_fill, ShowsUpdates, no_update, an_update, ShowsWrites, no_write, not_written, a_write, ShowsReset, no_reset_shown, reset_shown, ShowsValues, no_value, a_value, Shown, outs, whole}
 use Rattle.kp_vwrite_roundtrip.proofs.Distinct.{apart, tag, tag_reg, tag_file, tag_sample, tag_wire, wires_differ, apart_all}
-use Rattle.kp_vwrite_roundtrip.proofs.{Written.RightFrom, Written.all_right, Runs.Each, Runs.Led, Runs.decimal_led, Runs.decimal_names}
-use Rattle.kp_vwrite_roundtrip.proofs.Denoted.{outs, spelled}
+use Rattle.kp_vwrite_roundtrip.proofs.{Written.RightFrom, Written.all_right, Runs.Each, Runs.Led, Runs.decimal_led, Runs.decimal_names, Denoted.spelled}
 use Rattle.kp_vlog.proofs.Tests.{same_refl}
-
--- The module, with what it represents.
-abbrev pub whole : {net : Net} {m : VModule} → IsShown net m → VModule
-whole {net} {m} s = record {
-  name = named_at net.parts.name (s.p 0);
-  clk = named_at (codes "clk") (s.p 1);
-  rst = m.rst;
-  ext = port_at net.parts.ext (codes "ext") (s.p 2) (s.p 3) (s.p 4);
-  samples = m.samples;
-  full = port_at (wide net.nodes net.parts.full.0) (codes "full") (s.p 5) (s.p 6) (s.p 7);
-  ue = port_at (wide net.nodes net.parts.ue.0) (codes "ue") (s.p 8) (s.p 9) (s.p 10);
-  back = port_at (wide net.nodes net.parts.back.0) (codes "back") (s.p 11) (s.p 12) (s.p 13);
-  items = s.regs ++ (s.files ++ (s.integer ++ (s.nodes ++ outs s)));
-  inits = s.start_part ++ s.fill_part;
-  clock = named_at (codes "clk") (s.p 14);
-  reset = m.reset;
-  updates = s.update_part ++ s.write_part;
-}
-
-pub whole_is : {net : Net} (m : VModule) (s : IsShown net m) → m ≡ whole s
-whole_is m s =
-    ap (λ x. record m { name = x }) s.name ∙ ap (λ x. record (whole s) { clk = x; ext = m.ext; full = m.full; ue = m.ue; back = m.back; items = m.items; inits = m.inits; clock = m.clock; updates = m.updates }) s.clk
-    ∙ ap (λ x. record (whole s) { ext = x; full = m.full; ue = m.ue; back = m.back; items = m.items; inits = m.inits; clock = m.clock; updates = m.updates }) s.ext
-    ∙ ap (λ x. record (whole s) { full = x; ue = m.ue; back = m.back; items = m.items; inits = m.inits; clock = m.clock; updates = m.updates }) s.full
-    ∙ ap (λ x. record (whole s) { ue = x; back = m.back; items = m.items; inits = m.inits; clock = m.clock; updates = m.updates }) s.ue
-    ∙ ap (λ x. record (whole s) { back = x; items = m.items; inits = m.inits; clock = m.clock; updates = m.updates }) s.back
-    ∙ ap (λ x. record (whole s) { items = x; inits = m.inits; clock = m.clock; updates = m.updates }) s.items
-    ∙ ap (λ x. record (whole s) { inits = x; clock = m.clock; updates = m.updates }) s.inits
-    ∙ ap (λ x. record (whole s) { clock = x; updates = m.updates }) s.clock
-    ∙ ap (λ x. record (whole s) { updates = x }) s.updates
 
 -- no name is bad
 pub record Good (known : List (List ℕ)) (os : List Occurrence) : Type 0 where
@@ -279,9 +248,9 @@ keeps_more : (known : List (List ℕ)) (n x : List ℕ) → among known x ≡ tr
 keeps_more known n x e = or_right (same x n) (among known x) e
 
 -- the names after the header
-behind_named : (net : Net) (m : VModule) (s : IsShown net m) (known : List (List ℕ)) → NetOk net → IsNamed net → Knows net 0 known
+behind_named : (net : Net) (s : Shown net) (known : List (List ℕ)) → NetOk net → IsNamed net → Knows net 0 known
     → Good known (items_names (s.nodes ++ outs s) ++ body_names (whole s))
-behind_named net m s known k named kn =
+behind_named net s known k named kn =
     let few = k.count in
     let p = net.parts in
     let n = length net.nodes in
@@ -296,17 +265,17 @@ behind_named net m s known k named kn =
     (starts_named known1 p.regs s.start_part s.fill_part _ s.shows_starts regs kn'.regs
     (fills_named known1 p.files s.fill_part _ s.shows_fills files kn'.files kn'.integer
     (fits known1 _ _ kn'.clk
-    (reset_named known1 (s.start_part ++ s.fill_part) p.regs p.reset m.rst m.reset _ s.reset kn'.rst regs kn'.regs
+    (reset_named known1 (s.start_part ++ s.fill_part) p.regs p.reset s.rst s.resets _ s.reset kn'.rst regs kn'.regs
     (updates_named net known1 p.regs s.update_part s.write_part s.shows_updates k.parts.regs regs kn'.regs few kn'
     (writes_named net known1 p.files s.write_part s.shows_writes k.parts.files files kn'.files few kn'))))))))))))))))
   where
-    starts_split : (s : IsShown net m) → inits_names (s.start_part ++ s.fill_part) ++ (occurs (uses_port (codes "clk")) (named_at (codes "clk") (s.p 14)) ∷ (reset_names (s.start_part ++ s.fill_part) m.reset ++ updates_names (s.update_part ++ s.write_part)))
+    starts_split : (s : Shown net) → inits_names (s.start_part ++ s.fill_part) ++ (occurs (uses_port (codes "clk")) (named_at (codes "clk") (s.p 14)) ∷ (reset_names (s.start_part ++ s.fill_part) s.resets ++ updates_names (s.update_part ++ s.write_part)))
         ≡ body_names (whole s)
     starts_split s = refl
 
 -- A module that represents a netlist violates no rule of names.
-pub names_hold : (net : Net) (m : VModule) (s : IsShown net m) → NetOk net → IsNamed net → bad_name [] (names (whole s)) ≡ None
-names_hold net m s k named =
+pub names_hold : (net : Net) (s : Shown net) → NetOk net → IsNamed net → bad_name [] (names (whole s)) ≡ None
+names_hold net s k named =
     let p = net.parts in
     let w = whole s in
     let regs = spelled is_reg_name (λ r. r.name) p.regs named.regs in
@@ -317,11 +286,11 @@ names_hold net m s k named =
     let first : Free (codes "clk" ∷ []) 0 → Unit {0} = λ f. tt in
     let all : Good [] (names w) =
     fits [] _ _ named.name.kind (fits [] _ _ refl
-    (reset_port_named (codes "clk" ∷ []) p.regs p.reset m.rst m.reset (occurs (declares_port (codes "ext")) w.ext.port ∷ (samples_names m.samples ++ ports)) rest s.reset refl (λ k1 rst keep1 free1.
+    (reset_port_named (codes "clk" ∷ []) p.regs p.reset s.rst s.resets (occurs (declares_port (codes "ext")) w.ext.port ∷ (samples_names s.ports ++ ports)) rest s.reset refl (λ k1 rst keep1 free1.
     let base : (u : ℕ) → (u == 99) ≡ false → (u == 114) ≡ false → Free k1 u = λ u a b. free1 u b (free_more [] (codes "clk") 99 u refl a (λ x e. refl)) in
     fits k1 _ _ (not_from_false (among k1 (codes "ext")) (base 101 refl refl (codes "ext") refl))
-    (subst (Good (codes "ext" ∷ k1)) (sym (append_assoc (samples_names m.samples) ports rest))
-    (samples_named p.samples m.samples (codes "ext" ∷ k1) (ports ++ rest) s.samples samples named.samples_differ
+    (subst (Good (codes "ext" ∷ k1)) (sym (append_assoc (samples_names s.ports) ports rest))
+    (samples_named p.samples s.ports (codes "ext" ∷ k1) (ports ++ rest) s.samples samples named.samples_differ
     (all_new (λ (x : Port). x.name) p.samples 1115 (codes "ext" ∷ k1) (λ i d l. tag_sample (get_or p.samples i d).name (samples i d l)) (free_more k1 (codes "ext") 101 1115 refl refl (base 1115 refl refl))) (λ k2 g.
     let free2 : (u : ℕ) → (u == 99) ≡ false → (u == 114) ≡ false → (u == 101) ≡ false → (u == 1115) ≡ false → Free k2 u = λ u a b c d. g.frees u d (free_more k1 (codes "ext") 101 u refl c (base u a b)) in
     fits k2 _ _ (not_from_false (among k2 (codes "full")) (free2 102 refl refl refl refl (codes "full") refl))
@@ -340,7 +309,7 @@ names_hold net m s k named =
     (all_new (λ (x : NetFile). x.name) p.files 1102 k4 (λ i d l. tag_file (get_or p.files i d).name (files i d l)) (g4.frees 1102 refl (free3 1102 refl refl refl refl refl refl refl))) (λ k5 g5.
     integer_named k5 p.files s.integer (s.nodes ++ outs s) (body_names w) s.shows_integer
     (g5.frees 105 refl (g4.frees 105 refl (free3 105 refl refl refl refl refl refl refl)) (codes "i") refl) (λ k6 int keep6 free6.
-    behind_named net m s k6 k named (record {
+    behind_named net s k6 k named (record {
       samples = λ i d l. let n = (get_or p.samples i d).name in keep6 n (g5.keeps n (g4.keeps n (keeps_more (codes "ue" ∷ codes "full" ∷ k2) (codes "back") n (keeps_more (codes "full" ∷ k2) (codes "ue") n (keeps_more k2 (codes "full") n (g.has i d l))))));
       regs = λ i d l. let n = (get_or p.regs i d).name in keep6 n (g5.keeps n (g4.has i d l));
       files = λ i d l. keep6 (get_or p.files i d).name (g5.has i d l);

@@ -1,7 +1,7 @@
 -- Runs of bytes that are written: decimal numbers, literals, names.
-use Rattle.std.proofs.Common.{◌≡◌, ◌∙◌, ℕ, zero, suc, ◌+◌, ◌*◌, ◌/◌, ◌%◌, ◌^◌, ◌≤◌, ◌<◌, List, [], ◌∷◌, ◌++◌, length, take, drop, map, Bool, true, false, cond, Some, None, refl, sym, ap, subst, arith, length-append, nat_lt, add-one}
+use Rattle.std.proofs.Common.{◌≡◌, ◌∙◌, ℕ, zero, suc, ◌+◌, ◌*◌, ◌/◌, ◌%◌, ◌^◌, ◌≤◌, ◌<◌, List, [], ◌∷◌, ◌++◌, length, take, map, Bool, true, false, Some, None, refl, sym, ap, subst, arith, length-append, nat_lt, add-one}
 use Rattle.std.proofs.lemmas.{Fmt.decimal_by_steps, Fmt.length-decimal-le, Fmt.decimal-digits_of, Int.Digits.all_below_base_digits_of}
-use Rattle.std.proofs.lemmas.Bool.{agree_below_at, cond-true, cond-false, and_from, lt-ltb, le-ltb, and_right, Decides.nat_tests}
+use Rattle.std.proofs.lemmas.Bool.{agree_below_at, cond-true, cond-false, and_from, lt-ltb, le-ltb, and_right, agree_below, and_left, Decides.nat_tests}
 use Rattle.std.proofs.Math.Seq.{take-append_seam, drop-append_seam}
 use Rattle.std.specs.{Prelude.codes, Prelude.decimal, Prelude.fold, Prelude.◌==◌, Prelude.◌&&◌, List.list_all, Char.digit_char}
 use Rattle.std.specs.Int.Digits.{digits_of, AllBelowBase}
@@ -12,8 +12,8 @@ use Rattle.kp_bits.specs.Literals.{number_of, numeral_next, numeral_value, numbe
 use Rattle.kp_bits.specs.{Spelling.decimal_digits, Spelling.hex_digits, Spelling.quarters, Spelling.spelling, declared.literal.Literal.Literal}
 use Rattle.kp_bits.proofs.RoundTrips.{spelling_read}
 use Rattle.kp_net.specs.Names.{is_in_identifier}
-use Rattle.kp_base.specs.Characters.{is_digit, run_length}
-use Rattle.kp_vlog.specs.Tokens.{Word, name, number, literal, takes, broken, front, is_in_run, identifier, keyword_or_name, number_run, number_or_literal, literal_or_broken}
+use Rattle.kp_base.specs.Characters.{is_digit, run_length, is_letter}
+use Rattle.kp_vlog.specs.Tokens.{Word, name, number, literal, takes, broken, front, is_in_run, identifier, keyword_or_name, number_run, number_or_literal, literal_or_broken, is_layout, begins_with, Front}
 use Rattle.kp_vlog.specs.Words.{keyword_of}
 use Rattle.kp_vwrite_roundtrip.proofs.Lex.{Spells, spells_takes}
 
@@ -32,30 +32,12 @@ run_written p [] rest h stop = stop
 run_written p (x ∷ xs) rest h stop = cond-true (p x) (run_length p (xs ++ rest) + 1) 0 h.0 ∙ ap (λ n. n + 1) (run_written p xs rest h.1 stop) ∙ add-one (length xs)
 
 -- a digit
-pub data IsDigit : ℕ → Type 0 where
-  d0 : IsDigit 48
-  d1 : IsDigit 49
-  d2 : IsDigit 50
-  d3 : IsDigit 51
-  d4 : IsDigit 52
-  d5 : IsDigit 53
-  d6 : IsDigit 54
-  d7 : IsDigit 55
-  d8 : IsDigit 56
-  d9 : IsDigit 57
+abbrev pub IsDigit : ℕ → Type 0
+IsDigit b = (n : ℕ) × (n < 10) × (b ≡ 48 + n)
 
-pub digit : (n : ℕ) → n < 10 → IsDigit (48 + n)
-digit zero h = d0
-digit (suc zero) h = d1
-digit (suc (suc zero)) h = d2
-digit (suc (suc (suc zero))) h = d3
-digit (suc (suc (suc (suc zero)))) h = d4
-digit (suc (suc (suc (suc (suc zero))))) h = d5
-digit (suc (suc (suc (suc (suc (suc zero)))))) h = d6
-digit (suc (suc (suc (suc (suc (suc (suc zero))))))) h = d7
-digit (suc (suc (suc (suc (suc (suc (suc (suc zero)))))))) h = d8
-digit (suc (suc (suc (suc (suc (suc (suc (suc (suc zero))))))))) h = d9
-digit (suc (suc (suc (suc (suc (suc (suc (suc (suc (suc n)))))))))) h = absurd (omega arith)
+-- a test that has one answer at all digits
+pub digit_at : (p : ℕ → Bool) (a : Bool) → agree_below (λ k. p (48 + k)) (λ _. a) 10 ≡ true → (b : ℕ) → IsDigit b → p b ≡ a
+digit_at p a e b d = ap p d.2 ∙ agree_below_at (λ k. p (48 + k)) (λ _. a) 10 d.0 e d.1
 
 -- what is true of each digit is true of what `decimal` writes
 each_decimal : (p : ℕ → Bool) → ((n : ℕ) → n < 10 → p (48 + n) ≡ true) → (n : ℕ) → n < 2 ^ 64 → Each p (decimal n)
@@ -115,26 +97,29 @@ led_append : (xs ys : List ℕ) → Led xs → Led (xs ++ ys)
 led_append xs ys l = record { first = l.first; more = l.more ++ ys; whole = ap (λ zs. zs ++ ys) l.whole; is = l.is }
 
 pub decimal_led : (n : ℕ) → n < 2 ^ 64 → Led (decimal n)
-decimal_led = decimal_by_steps (λ n ds. Led ds) (λ n low. record { first = 48 + n; more = []; whole = refl; is = digit n low }) (λ n ds high l. led_append ds _ l)
+decimal_led = decimal_by_steps (λ n ds. Led ds) (λ n low. record { first = 48 + n; more = []; whole = refl; is = (n, low, refl) }) (λ n ds high l. led_append ds _ l)
 
 digit_front : (b : ℕ) (t : List ℕ) → IsDigit b → front (b ∷ t) ≡ number_run (take (run_length is_in_run (b ∷ t)) (b ∷ t))
-digit_front _ t d0 = refl
-digit_front _ t x = refl
+digit_front b t d =
+    let slash = digit_at (λ c. c == 47) false refl b d in
+    cond-false (is_layout b) _ _ (digit_at is_layout false refl b d)
+    ∙ cond-false (b == 47 && begins_with 47 t) _ _ (and_left (b == 47) _ slash) ∙ cond-false (b == 47 && begins_with 42 t) _ _ (and_left (b == 47) _ slash)
+    ∙ cond-false (is_letter b) _ _ (digit_at is_letter false refl b d) ∙ cond-true (is_digit b) _ _ (digit_at is_digit true refl b d)
 
--- A number run that is written, and that nothing continues.
-spells_run : (b : ℕ) (t rest : List ℕ) (w : Word) (ws : List Word) → IsDigit b → Each is_in_run (b ∷ t) → number_run (b ∷ t) ≡ takes w (length (b ∷ t)) → run_length is_in_run rest ≡ 0
-    → Spells rest ws → Spells ((b ∷ t) ++ rest) (w ∷ ws)
-spells_run b t rest w ws d each value stop s =
-    let len = run_written is_in_run (b ∷ t) rest each stop in
-    let run : take (run_length is_in_run ((b ∷ t) ++ rest)) ((b ∷ t) ++ rest) ≡ b ∷ t = ap (λ n. take n ((b ∷ t) ++ rest)) len ∙ take-append_seam (b ∷ t) rest in
-    let here : front ((b ∷ t) ++ rest) ≡ takes w (length (b ∷ t)) = digit_front b (t ++ rest) d ∙ ap number_run run ∙ value in
-    spells_takes w (length (b ∷ t)) here (subst (λ (r : List ℕ). Spells r ws) (sym (drop-append_seam (b ∷ t) rest)) s)
+-- A run that is written, and that nothing continues, is at the front.
+spells_front : (p : ℕ → Bool) (f : List ℕ → Front) (b : ℕ) (t rest : List ℕ) (w : Word) (ws : List Word) → ((u : List ℕ) → front (b ∷ u) ≡ f (take (run_length p (b ∷ u)) (b ∷ u)))
+    → Each p (b ∷ t) → f (b ∷ t) ≡ takes w (length (b ∷ t)) → run_length p rest ≡ 0 → Spells rest ws → Spells ((b ∷ t) ++ rest) (w ∷ ws)
+spells_front p f b t rest w ws first each value stop s =
+    let len = run_written p (b ∷ t) rest each stop in
+    let run : take (run_length p ((b ∷ t) ++ rest)) ((b ∷ t) ++ rest) ≡ b ∷ t = ap (λ n. take n ((b ∷ t) ++ rest)) len ∙ take-append_seam (b ∷ t) rest in
+    spells_takes w (length (b ∷ t)) (first (t ++ rest) ∙ ap f run ∙ value) (subst (λ (r : List ℕ). Spells r ws) (sym (drop-append_seam (b ∷ t) rest)) s)
 
 spells_led : (ds rest : List ℕ) (w : Word) (ws : List Word) → Led ds → Each is_in_run ds → number_run ds ≡ takes w (length ds) → run_length is_in_run rest ≡ 0
     → Spells rest ws → Spells (ds ++ rest) (w ∷ ws)
 spells_led ds rest w ws l each value stop s =
     subst (λ (xs : List ℕ). Spells (xs ++ rest) (w ∷ ws)) (sym l.whole)
-    (spells_run l.first l.more rest w ws l.is (subst (Each is_in_run) l.whole each) (subst (λ (xs : List ℕ). number_run xs ≡ takes w (length xs)) l.whole value) stop s)
+    (spells_front is_in_run number_run l.first l.more rest w ws (λ u. digit_front l.first u l.is) (subst (Each is_in_run) l.whole each)
+    (subst (λ (xs : List ℕ). number_run xs ≡ takes w (length xs)) l.whole value) stop s)
 
 pub spells_number : (n : ℕ) (rest : List ℕ) (ws : List Word) → n < 2 ^ 64 → run_length is_in_run rest ≡ 0 → Spells rest ws → Spells (decimal n ++ rest) (number n ∷ ws)
 spells_number n rest ws h stop s =
@@ -204,17 +189,11 @@ pub record IsWritten (n : List ℕ) : Type 0 where
 name_here : (run : List ℕ) → length run ≤ 70 → keyword_of run ≡ None → identifier run ≡ takes (name run) (length run)
 name_here run h e = cond-false (nat_lt 70 (length run)) broken _ (le-ltb 70 (length run) h) ∙ ap (λ k. takes (keyword_or_name run k) (length run)) e
 
-spells_letters : (b : ℕ) (t rest : List ℕ) (ws : List Word) → IsInitial b → Each is_in_identifier (b ∷ t) → length (b ∷ t) ≤ 70 → keyword_of (b ∷ t) ≡ None → run_length is_in_identifier rest ≡ 0
-    → Spells rest ws → Spells ((b ∷ t) ++ rest) (name (b ∷ t) ∷ ws)
-spells_letters b t rest ws i each short plain stop s =
-    let len = run_written is_in_identifier (b ∷ t) rest each stop in
-    let run : take (run_length is_in_identifier ((b ∷ t) ++ rest)) ((b ∷ t) ++ rest) ≡ b ∷ t = ap (λ n. take n ((b ∷ t) ++ rest)) len ∙ take-append_seam (b ∷ t) rest in
-    let here : front ((b ∷ t) ++ rest) ≡ takes (name (b ∷ t)) (length (b ∷ t)) = letter_front b (t ++ rest) i ∙ ap identifier run ∙ name_here (b ∷ t) short plain in
-    spells_takes (name (b ∷ t)) (length (b ∷ t)) here (subst (λ (r : List ℕ). Spells r ws) (sym (drop-append_seam (b ∷ t) rest)) s)
-
 pub spells_name : (n rest : List ℕ) (ws : List Word) → IsWritten n → run_length is_in_identifier rest ≡ 0 → Spells rest ws → Spells (n ++ rest) (name n ∷ ws)
 spells_name n rest ws h stop s =
-    subst (λ (xs : List ℕ). Spells (xs ++ rest) (name xs ∷ ws)) (sym h.whole) (spells_letters h.first h.more rest ws h.initial h.bytes h.short h.plain stop s)
+    subst (λ (xs : List ℕ). Spells (xs ++ rest) (name xs ∷ ws)) (sym h.whole)
+    (spells_front is_in_identifier identifier h.first h.more rest (name (h.first ∷ h.more)) ws (λ u. letter_front h.first u h.initial) h.bytes
+    (name_here (h.first ∷ h.more) h.short h.plain) stop s)
 
 pub wire_written : (j : ℕ) → j ≤ 16777216 → IsWritten (codes "n" ++ decimal j)
 wire_written j h = record {

@@ -140,17 +140,13 @@ pub data IsReset : Bool → Option Named → Type 0 where
   no_reset_port : IsReset false None
   a_reset_port : (at : ℕ) → IsReset true (Some (named_at (codes "rst") at))
 
--- a module that represents a netlist
-pub record IsShown (net : Net) (m : VModule) : Type 0 where
+-- Parts of a module that represent all parts of a netlist.
+pub record Shown (net : Net) : Type 0 where
   pub p : ℕ → ℕ
   pub q : ℕ → ℕ
-  pub name : m.name ≡ named_at net.parts.name (p 0)
-  pub clk : m.clk ≡ named_at (codes "clk") (p 1)
-  pub ext : m.ext ≡ port_at net.parts.ext (codes "ext") (p 2) (p 3) (p 4)
-  pub samples : ShowsSamples net.parts.samples m.samples
-  pub full : m.full ≡ port_at (wide net.nodes net.parts.full.0) (codes "full") (p 5) (p 6) (p 7)
-  pub ue : m.ue ≡ port_at (wide net.nodes net.parts.ue.0) (codes "ue") (p 8) (p 9) (p 10)
-  pub back : m.back ≡ port_at (wide net.nodes net.parts.back.0) (codes "back") (p 11) (p 12) (p 13)
+  pub rst : Option Named
+  pub ports : List VPort
+  pub samples : ShowsSamples net.parts.samples ports
   pub regs : List Item
   pub files : List Item
   pub integer : List Item
@@ -159,19 +155,41 @@ pub record IsShown (net : Net) (m : VModule) : Type 0 where
   pub shows_files : ShowsFiles net.parts.files files
   pub shows_integer : ShowsInteger net.parts.files integer
   pub shows_nodes : ShowsNodes net.parts 0 net.nodes nodes
-  pub items : m.items ≡ regs ++ (files ++ (integer ++ (nodes ++ out_at (codes "full") net.parts.full (q 0) (q 1) ∷ out_at (codes "ue") net.parts.ue (q 2) (q 3) ∷ out_at (codes "back") net.parts.back (q 4) (q 5) ∷ [])))
   pub start_part : List Init
   pub fill_part : List Init
   pub shows_starts : ShowsStarts net.parts.regs start_part
   pub shows_fills : ShowsFills net.parts.files fill_part
-  pub inits : m.inits ≡ start_part ++ fill_part
-  pub clock : m.clock ≡ named_at (codes "clk") (p 14)
-  pub reset : ShowsReset net.parts.regs net.parts.reset m.rst m.reset
+  pub resets : Option ResetList
+  pub reset : ShowsReset net.parts.regs net.parts.reset rst resets
   pub update_part : List Update
   pub write_part : List Update
   pub shows_updates : ShowsUpdates net.parts.regs update_part
   pub shows_writes : ShowsWrites net.parts.files write_part
-  pub updates : m.updates ≡ update_part ++ write_part
+
+abbrev pub outs : {net : Net} → Shown net → List Item
+outs {net} s = out_at (codes "full") net.parts.full (s.q 0) (s.q 1) ∷ out_at (codes "ue") net.parts.ue (s.q 2) (s.q 3) ∷ out_at (codes "back") net.parts.back (s.q 4) (s.q 5) ∷ []
+
+-- The module of these parts.
+abbrev pub whole : {net : Net} → Shown net → VModule
+whole {net} s = record {
+  name = named_at net.parts.name (s.p 0);
+  clk = named_at (codes "clk") (s.p 1);
+  rst = s.rst;
+  ext = port_at net.parts.ext (codes "ext") (s.p 2) (s.p 3) (s.p 4);
+  samples = s.ports;
+  full = port_at (wide net.nodes net.parts.full.0) (codes "full") (s.p 5) (s.p 6) (s.p 7);
+  ue = port_at (wide net.nodes net.parts.ue.0) (codes "ue") (s.p 8) (s.p 9) (s.p 10);
+  back = port_at (wide net.nodes net.parts.back.0) (codes "back") (s.p 11) (s.p 12) (s.p 13);
+  items = s.regs ++ (s.files ++ (s.integer ++ (s.nodes ++ outs s)));
+  inits = s.start_part ++ s.fill_part;
+  clock = named_at (codes "clk") (s.p 14);
+  reset = s.resets;
+  updates = s.update_part ++ s.write_part;
+}
+
+-- a module that represents a netlist
+abbrev pub IsShown : Net → VModule → Type 0
+IsShown net m = (s : Shown net) × (m ≡ whole s)
 
 -- a concatenation has 2 to 12 parts
 abbrev pub Sizes : Kind → Type 0
@@ -482,58 +500,32 @@ sentence net p sizes =
     (goes P 4 (starts_read P pa.regs (shift 17 q5) _ _ (fill_words pa.files (w2 pa)) [] (λ q6 st shows_st.
     fills_read P pa.files q6 _ _ (w2 pa) st (λ q7 fl shows_fl.
     goes P 9 (body_reads P pa pa.reset refl (shift 8 q7) _ (λ q8 r us xs shows_us shows_xs reset.
-    let m : VModule = record {
-      name = named_at pa.name (p 1);
-      clk = named_at (codes "clk") (p 5);
+    let s : Shown net = record {
+      p = places (p 1 ∷ p 5 ∷ a ∷ c ∷ e ∷ q1 3 ∷ q1 5 ∷ q1 7 ∷ q1 12 ∷ q1 14 ∷ q1 16 ∷ q1 21 ∷ q1 23 ∷ q1 25 ∷ q7 5 ∷ []);
+      q = places (q5 1 ∷ q5 3 ∷ q5 6 ∷ q5 8 ∷ q5 11 ∷ q5 13 ∷ []);
       rst = rst;
-      ext = port_at pa.ext (codes "ext") a c e;
-      samples = ss;
-      full = port_at full (codes "full") (q1 3) (q1 5) (q1 7);
-      ue = port_at ue (codes "ue") (q1 12) (q1 14) (q1 16);
-      back = port_at back (codes "back") (q1 21) (q1 23) (q1 25);
-      items = (((((rs ++ fs) ++ is) ++ ns) ++ out_at (codes "full") pa.full (q5 1) (q5 3) ∷ []) ++ out_at (codes "ue") pa.ue (q5 6) (q5 8) ∷ []) ++ out_at (codes "back") pa.back (q5 11) (q5 13) ∷ [];
-      inits = st ++ fl;
-      clock = named_at (codes "clk") (q7 5);
-      reset = r;
-      updates = us ++ xs;
+      ports = ss;
+      samples = shows_ss;
+      regs = rs;
+      files = fs;
+      integer = is;
+      nodes = ns;
+      shows_regs = shows_rs;
+      shows_files = shows_fs;
+      shows_integer = shows_is;
+      shows_nodes = shows_ns;
+      start_part = st;
+      fill_part = fl;
+      shows_starts = shows_st;
+      shows_fills = shows_fl;
+      resets = r;
+      reset = reset_is pa.regs pa.reset rst r is_rst reset;
+      update_part = us;
+      write_part = xs;
+      shows_updates = shows_us;
+      shows_writes = shows_xs;
     } in
-    goes P 3 (record {
-      built = lang.whole m ∷ [];
-      holds = (
-        m,
-        refl,
-        record {
-          p = places (p 1 ∷ p 5 ∷ a ∷ c ∷ e ∷ q1 3 ∷ q1 5 ∷ q1 7 ∷ q1 12 ∷ q1 14 ∷ q1 16 ∷ q1 21 ∷ q1 23 ∷ q1 25 ∷ q7 5 ∷ []);
-          q = places (q5 1 ∷ q5 3 ∷ q5 6 ∷ q5 8 ∷ q5 11 ∷ q5 13 ∷ []);
-          name = refl;
-          clk = refl;
-          ext = refl;
-          samples = shows_ss;
-          full = refl;
-          ue = refl;
-          back = refl;
-          regs = rs;
-          files = fs;
-          integer = is;
-          nodes = ns;
-          shows_regs = shows_rs;
-          shows_files = shows_fs;
-          shows_integer = shows_is;
-          shows_nodes = shows_ns;
-          items = simp append_assoc;
-          start_part = st;
-          fill_part = fl;
-          shows_starts = shows_st;
-          shows_fills = shows_fl;
-          inits = refl;
-          clock = refl;
-          reset = reset_is pa.regs pa.reset rst r is_rst reset;
-          update_part = us;
-          write_part = xs;
-          shows_updates = shows_us;
-          shows_writes = shows_xs;
-          updates = refl;
-        },
-      );
-      derives = stay;
-    }))))))))))))))))
+    let items = (((((rs ++ fs) ++ is) ++ ns) ++ out_at (codes "full") pa.full (q5 1) (q5 3) ∷ []) ++ out_at (codes "ue") pa.ue (q5 6) (q5 8) ∷ []) ++ out_at (codes "back") pa.back (q5 11) (q5 13) ∷ [] in
+    let m : VModule = record (whole s) { items = items } in
+    let same : items ≡ (whole s).items = simp append_assoc in
+    goes P 3 (record { built = lang.whole m ∷ []; holds = (m, refl, (s, λ i. record (whole s) { items = same i })); derives = stay }))))))))))))))))

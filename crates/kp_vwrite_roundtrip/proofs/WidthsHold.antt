@@ -12,13 +12,13 @@ use Rattle.kp_net.specs.Parts.{no_port, no_reg, no_file, WriteOk, PortOk, RegOk,
 use Rattle.kp_net.specs.Widths.{wide, no_node, KindOk, BinaryOk}
 use Rattle.kp_vlog.specs.Rules.{want, range_fits, stall_fits, four_bits, words_fit, literal_fits, op_fits, width_sum, right_fits, right_answers, file_fits, items_answers, start_answers, loop_fits, inits_answers, reset_values, values_answers, updates_answers, ports_answers, header_answers, width_answers}
 use Rattle.kp_vlog.specs.declared.tree.{Named.Named, ResetList.ResetList, ResetValue.ResetValue, VPort.VPort, Right.Right, Item.Item, Init.Init, Update.Update}
-use Rattle.kp_vlog.specs.{declared.tree.VModule.VModule, Canon.wire, Canon.wire_name}
+use Rattle.kp_vlog.specs.Canon.{wire, wire_name}
 use Rattle.kp_vlog.specs.Scope.{Scope, scope_of, Sized, Sizes, sizes_of, item_sizes, port_size, width_in, address_in, place_of, address_width}
-use Rattle.kp_vwrite_roundtrip.proofs.Sentence.{IsShown, named_at, number_at, range_at, fill_at, ShowsNames, no_name, a_name, ShowsRight, a_const, an_ext, a_sample, a_reg, a_word, a_not, a_binary, a_mux, a_concat, a_slice, ShowsSamples, no_sample, one_sample, ShowsRegs, no_reg_line, reg_line, ShowsFiles, no_file_line, file_line, ShowsInteger, no_integer, an_integer, ShowsNodes, no_node_line, node_line, ShowsStarts, no_start, a_start, ShowsWords, no_words, zero_word, some_word, ShowsFills, no_fill, a_fill, ShowsUpdates, no_update, an_update, ShowsWrites, no_write, not_written, a_write, ShowsReset, no_reset_shown, reset_shown, ShowsValues, no_value, a_value}
+use Rattle.kp_vwrite_roundtrip.proofs.Sentence.{named_at, number_at, range_at, fill_at, ShowsNames, no_name, a_name, ShowsRight, a_const, an_ext, a_sample, a_reg, a_word, a_not, a_binary, a_mux, a_concat, a_slice, ShowsSamples, no_sample, one_sample, ShowsRegs, no_reg_line, reg_line, ShowsFiles, no_file_line, file_line, ShowsInteger, no_integer, an_integer, ShowsNodes, no_node_line, node_line, ShowsStarts, no_start, a_start, ShowsWords, no_words, zero_word, some_word, ShowsFills, no_fill, a_fill, ShowsUpdates, no_update, an_update, ShowsWrites, no_write, not_written, a_write, ShowsReset, no_reset_shown, reset_shown, ShowsValues, no_value, a_value, Shown, outs, whole}
 use Rattle.kp_vwrite_roundtrip.proofs.Written.{RightFrom, all_right}
 use Rattle.kp_vwrite_roundtrip.proofs.Distinct.{apart, tag_reg, tag_sample, apart_all, place_at, or_rest}
-use Rattle.kp_vwrite_roundtrip.proofs.Denoted.{outs, spelled, widths_are, file_sizes, scoped, table_is, ports_past, kinds_of}
-use Rattle.kp_vwrite_roundtrip.proofs.{Runs.literal_for, NamesHold.whole, NamesHold.whole_is}
+use Rattle.kp_vwrite_roundtrip.proofs.Denoted.{spelled, widths_are, file_sizes, scoped, table_is, ports_past, kinds_of}
+use Rattle.kp_vwrite_roundtrip.proofs.Runs.{literal_for}
 use Rattle.kp_vwrite_roundtrip.proofs.SameNet.{found, width_found, address_found, found_past, found_here, sized, WidthsAre, samples_past}
 use Rattle.kp_base.specs.First.{first}
 use Rattle.kp_vlog.proofs.Tests.{same_refl}
@@ -99,32 +99,32 @@ regs_sized ns _ _ rest (reg_line {r = r} {rs = rs} {xs = xs} a b c h) k d =
     (found_here here (item_sizes xs ++ rest) r.name (same_refl r.name) ∙ ap (λ w. sized r.name w 0) width)
     (λ i e l. found_past here (item_sizes xs ++ rest) (get_or rs i e).name (apart_all (λ r. r.name) r.name rs d.0 i e l) ∙ regs_sized ns rs xs rest h (All-tail (RegOk ns) r rs k) d.1 i e l)
 
-all_wide : (net : Net) (m : VModule) (s : IsShown net m) → NetOk net → IsNamed net → Wide net (scope_of m)
-all_wide net m s k named =
+all_wide : (net : Net) (s : Shown net) → NetOk net → IsNamed net → Wide net (scope_of (whole s))
+all_wide net s k named =
     let p = net.parts in
-    let table = table_is net m s in
+    let table = table_is net s in
     let low = k.parts.ext_positive in
     let atleast = named.at_least in let fw = named.full in let uw = named.ue in let bw = named.back in
     let samples = kinds_of is_sample_name (map (λ x. x.name) p.samples) named.samples in
     let port : ℕ → List ℕ → ℕ → Sized = λ w n a. sized n (w - 1 + 1) 0 in
     record {
-      ext = width_found (sizes_of m) (codes "ext") ∙ ap (λ t. (found t (codes "ext")).width) table ∙ ap (λ (z : Sized). z.width) (found_here _ _ (codes "ext") refl) ∙ omega arith;
-      full = width_found (sizes_of m) (codes "full") ∙ ap (λ t. (found t (codes "full")).width) table
-          ∙ ap (λ (z : Sized). z.width) (found_past _ _ (codes "full") refl ∙ samples_past (codes "full") 102 p.samples m.samples _ s.samples samples refl refl ∙ found_here _ _ (codes "full") refl) ∙ omega arith;
-      ue = width_found (sizes_of m) (codes "ue") ∙ ap (λ t. (found t (codes "ue")).width) table
-          ∙ ap (λ (z : Sized). z.width) (found_past _ _ (codes "ue") refl ∙ samples_past (codes "ue") 117 p.samples m.samples _ s.samples samples refl refl ∙ found_past _ _ (codes "ue") refl ∙ found_here _ _ (codes "ue") refl) ∙ omega arith;
-      back = width_found (sizes_of m) (codes "back") ∙ ap (λ t. (found t (codes "back")).width) table
-          ∙ ap (λ (z : Sized). z.width) (found_past _ _ (codes "back") refl ∙ samples_past (codes "back") 98 p.samples m.samples _ s.samples samples refl refl ∙ found_past _ _ (codes "back") refl ∙ found_past _ _ (codes "back") refl ∙ found_here _ _ (codes "back") refl) ∙ omega arith;
+      ext = width_found (sizes_of (whole s)) (codes "ext") ∙ ap (λ t. (found t (codes "ext")).width) table ∙ ap (λ (z : Sized). z.width) (found_here _ _ (codes "ext") refl) ∙ omega arith;
+      full = width_found (sizes_of (whole s)) (codes "full") ∙ ap (λ t. (found t (codes "full")).width) table
+          ∙ ap (λ (z : Sized). z.width) (found_past _ _ (codes "full") refl ∙ samples_past (codes "full") 102 p.samples s.ports _ s.samples samples refl refl ∙ found_here _ _ (codes "full") refl) ∙ omega arith;
+      ue = width_found (sizes_of (whole s)) (codes "ue") ∙ ap (λ t. (found t (codes "ue")).width) table
+          ∙ ap (λ (z : Sized). z.width) (found_past _ _ (codes "ue") refl ∙ samples_past (codes "ue") 117 p.samples s.ports _ s.samples samples refl refl ∙ found_past _ _ (codes "ue") refl ∙ found_here _ _ (codes "ue") refl) ∙ omega arith;
+      back = width_found (sizes_of (whole s)) (codes "back") ∙ ap (λ t. (found t (codes "back")).width) table
+          ∙ ap (λ (z : Sized). z.width) (found_past _ _ (codes "back") refl ∙ samples_past (codes "back") 98 p.samples s.ports _ s.samples samples refl refl ∙ found_past _ _ (codes "back") refl ∙ found_past _ _ (codes "back") refl ∙ found_here _ _ (codes "back") refl) ∙ omega arith;
       samples = λ i d l. let n = (get_or p.samples i d).name in
-          width_found (sizes_of m) n ∙ ap (λ t. (found t n).width) table
-          ∙ ap (λ (z : Sized). z.width) (found_past _ _ n (apart n (codes "ext") 1115 101 (tag_sample n (spelled is_sample_name (λ x. x.name) p.samples named.samples i d l)) refl refl) ∙ samples_sized p.samples m.samples _ s.samples k.parts.samples named.samples_differ i d l);
+          width_found (sizes_of (whole s)) n ∙ ap (λ t. (found t n).width) table
+          ∙ ap (λ (z : Sized). z.width) (found_past _ _ n (apart n (codes "ext") 1115 101 (tag_sample n (spelled is_sample_name (λ x. x.name) p.samples named.samples i d l)) refl refl) ∙ samples_sized p.samples s.ports _ s.samples k.parts.samples named.samples_differ i d l);
       regs = λ i d l. let n = (get_or p.regs i d).name in
-          width_found (sizes_of m) n ∙ ap (λ t. (found t n).width) table
-          ∙ ap (λ (z : Sized). z.width) (ports_past net m s named n 1114 (tag_reg n (spelled is_reg_name (λ x. x.name) p.regs named.regs i d l)) refl refl refl refl refl ∙ regs_sized net.nodes p.regs s.regs _ s.shows_regs k.parts.regs named.regs_differ i d l);
-      files = λ i d l. width_found (sizes_of m) (get_or p.files i d).name ∙ ap (λ (z : Sized). z.width) (file_sizes net m s k named i d l);
-      addresses = λ i d l. address_found (sizes_of m) (get_or p.files i d).name ∙ ap (λ (z : Sized). z.address) (file_sizes net m s k named i d l);
+          width_found (sizes_of (whole s)) n ∙ ap (λ t. (found t n).width) table
+          ∙ ap (λ (z : Sized). z.width) (ports_past net s named n 1114 (tag_reg n (spelled is_reg_name (λ x. x.name) p.regs named.regs i d l)) refl refl refl refl refl ∙ regs_sized net.nodes p.regs s.regs _ s.shows_regs k.parts.regs named.regs_differ i d l);
+      files = λ i d l. width_found (sizes_of (whole s)) (get_or p.files i d).name ∙ ap (λ (z : Sized). z.width) (file_sizes net s k named i d l);
+      addresses = λ i d l. address_found (sizes_of (whole s)) (get_or p.files i d).name ∙ ap (λ (z : Sized). z.address) (file_sizes net s k named i d l);
       wires = λ i l. let e : 0 + i ≡ i = omega arith in
-          ap (λ x. width_in (sizes_of m) (wire_name x)) (sym e) ∙ width_at (sizes_of m) net.nodes net.nodes 0 i (widths_are net m s k named) (λ x h. wide_is net.nodes x) l ∙ ap (wide net.nodes) e;
+          ap (λ x. width_in (sizes_of (whole s)) (wire_name x)) (sym e) ∙ width_at (sizes_of (whole s)) net.nodes net.nodes 0 i (widths_are net s k named) (λ x h. wide_is net.nodes x) l ∙ ap (wide net.nodes) e;
     }
 
 -- Right sides.
@@ -276,14 +276,13 @@ ports_clean _ _ no_sample k = tt
 ports_clean _ _ (one_sample {s = s} {ss = ss} {xs = xs} a b c sh) k = (wanted _ c (range_ok s.width a b (All-head PortOk s ss k).at_most), ports_clean ss xs sh (All-tail PortOk s ss k))
 
 -- A module that represents a netlist violates no rule of widths.
-pub widths_hold : (net : Net) (m : VModule) (s : IsShown net m) → NetOk net → IsNamed net → first (width_answers (whole s)) ≡ None
-widths_hold net m s k named =
+pub widths_hold : (net : Net) (s : Shown net) → NetOk net → IsNamed net → first (width_answers (whole s)) ≡ None
+widths_hold net s k named =
     let p = net.parts in
     let w = whole s in
     let sc = scope_of w in
-    let shown = subst (IsShown net) (whole_is m s) s in
-    let wd = all_wide net w shown k named in
-    let named_scope = scoped net w shown in
+    let wd = all_wide net s k named in
+    let named_scope = scoped net s in
     let fw = named.full in let uw = named.ue in let bw = named.back in let low = named.at_least in let high = named.at_most in
     let few = k.parts.file_count in
     let outs_ok : Clean (items_answers sc (outs s)) =
@@ -295,16 +294,16 @@ widths_hold net m s k named =
     regs_clean net.nodes sc p.regs s.regs (s.files ++ (s.integer ++ (s.nodes ++ outs s))) s.shows_regs k.parts.regs
     (files_clean net.nodes sc p.files s.files (s.integer ++ (s.nodes ++ outs s)) s.shows_files k.parts.files file_few
     (integer_clean sc p.files s.integer (s.nodes ++ outs s) s.shows_integer
-    (nodes_clean net sc 0 net.nodes s.nodes (outs s) wd (widths_are net w shown k named) s.shows_nodes (all_right net k) (omega arith) outs_ok))) in
+    (nodes_clean net sc 0 net.nodes s.nodes (outs s) wd (widths_are net s k named) s.shows_nodes (all_right net k) (omega arith) outs_ok))) in
     let inits_ok : Clean (inits_answers sc w.inits) =
     starts_clean net.nodes sc p.regs s.start_part s.fill_part s.shows_starts k.parts.regs wd.regs (fills_clean net.nodes sc p.files s.fill_part s.shows_fills k.parts.files wd.files wd.addresses) in
     let updates_ok : Clean (updates_answers sc w.updates) =
     updates_clean net sc p.regs s.update_part s.write_part wd s.shows_updates k.parts.regs wd.regs (writes_clean net sc p.files s.write_part wd s.shows_writes k.parts.files wd.files wd.addresses) in
-    let reset_ok = reset_clean net.nodes sc p.regs p.reset m.rst m.reset s.reset k.parts.regs wd.regs in
+    let reset_ok = reset_clean net.nodes sc p.regs p.reset s.rst s.resets s.reset k.parts.regs wd.regs in
     let last_ports : Clean (want (stall_fits w.full.range) w.full.port.at ∷ want (stall_fits w.ue.range) w.ue.port.at ∷ want (four_bits w.back.range) w.back.port.at ∷ []) =
     (wanted _ (s.p 7) (stall_ok (wide net.nodes p.full.0) (s.p 5) (s.p 6) (omega arith) (omega arith)), (wanted _ (s.p 10) (stall_ok (wide net.nodes p.ue.0) (s.p 8) (s.p 9) (omega arith) (omega arith)), (wanted _ (s.p 13) (four_ok (wide net.nodes p.back.0) (s.p 11) (s.p 12) bw), tt))) in
     let header_ok : Clean (header_answers w) =
-    (wanted _ (s.p 4) (stall_ok p.ext (s.p 2) (s.p 3) low high), clean_append (ports_answers m.samples) _ (ports_clean p.samples m.samples s.samples k.parts.samples) last_ports) in
+    (wanted _ (s.p 4) (stall_ok p.ext (s.p 2) (s.p 3) low high), clean_append (ports_answers s.ports) _ (ports_clean p.samples s.ports s.samples k.parts.samples) last_ports) in
     first_none (width_answers w)
     (clean_append (header_answers w) _ header_ok (clean_append (items_answers sc w.items) _ items_ok
-    (clean_append (inits_answers sc w.inits) _ inits_ok (clean_append (values_answers sc (reset_values m.reset)) _ reset_ok updates_ok))))
+    (clean_append (inits_answers sc w.inits) _ inits_ok (clean_append (values_answers sc (reset_values s.resets)) _ reset_ok updates_ok))))
