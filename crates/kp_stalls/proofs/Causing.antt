@@ -1,6 +1,6 @@
 -- A wait has its cause.
 use Rattle.std.proofs.Common.{◌≡◌, ◌∙◌, ℕ, zero, suc, ◌+◌, ◌-◌, ◌<◌, ◌≤◌, List, [], ◌∷◌, ◌++◌, Option, Some, None, Bool, true, false, cond, leb, not, ◌&&◌, ◌||◌, length, get_or, refl, ap, sym, subst, arith, ⊎_elim, eq-eqb}
-use Rattle.std.proofs.lemmas.{Bool.and_parts, Bool.cases_lt, Bool.false≢true, List.length-append, List.get_or_append_left, List.get_or_past, List.get_or_push}
+use Rattle.std.proofs.lemmas.{Bool.and_parts, Bool.and_right, Bool.cases_lt, Bool.false≢true, List.get_or_append_left, List.get_or_past, List.get_or_push, List.length-append}
 use Rattle.std.proofs.lemmas.Option.{same_Some}
 use Rattle.std.specs.Prelude.{is_some, slice_get}
 use Rattle.kp_ast.specs.declared.tree.{Decl.Decl, Stmt.Stmt, StmtKind.StmtKind, Block.Block, Job.Job}
@@ -17,112 +17,18 @@ use Rattle.kp_machine.specs.{Slots.Slot, Slots.targets_of, Slots.number_of, Slot
 use Rattle.kp_machine.specs.Machine.{machine_of, result_for, sequential, stage_tree, state_of}
 use Rattle.kp_machine.proofs.{Cases.by_option, Stages.stages_inside, Text.fits_text, Text.target_slot}
 use Rattle.kp_seq.specs.Recorded.{read_recorded, reads_recorded, done_after, stage_reads, reads_from, record_of}
-use Rattle.kp_stalls.specs.declared.{occupants.Stage.Stage, sites.Site.Site, sites.Writer.Writer, cause.Wait.Wait}
-use Rattle.kp_stalls.specs.Sites.{no_site, result_number, site_of, sited, sites_from, sites_in, writer_at, writer_by, writers_to}
+use Rattle.kp_sites.specs.{declared.sites.Site.Site, declared.sites.Writer.Writer}
+use Rattle.kp_stalls.specs.declared.{occupants.Stage.Stage, cause.Wait.Wait}
+use Rattle.kp_sites.specs.Sites.{no_site, result_number, site_of, sited, sites_from, sites_in, writer_at, writer_by, writers_to}
 use Rattle.kp_stalls.specs.Occupants.{Report, Seen, at, occupants_of, report, no_stage}
-use Rattle.kp_stalls.specs.Causes.{first_wait, is_met, is_ready, is_source, may_write, nearest, nearest_above}
+use Rattle.kp_sites.specs.Reports as reports
+use Rattle.kp_sites.specs.Reports.{may_write}
+use Rattle.kp_stalls.specs.Causes.{first_wait, is_met, is_ready, is_source, nearest, nearest_above}
 use Rattle.kp_stalls.specs.Claims.{IsCause, ShowsMoment, has_ready, is_writer, read_site}
-use Rattle.kp_stalls.proofs.{Asks.asks_unmet, Asks.stage_asks, OccupantFacts.report_at, OccupantFacts.stage_at}
-use Rattle.kp_stalls.proofs.Results.{IsResult, is_result, no_result, ready_same, writes_same}
-use Rattle.kp_stalls.proofs.Waits.{AllMet, first_is, left_met, met_of, near_is, none_waits, right_met, wait_is}
-use Rattle.kp_stalls.proofs.Windows.{writers_many}
-
--- ---- how a target is written
-writer_get : (job : Job) (n t : ℕ) → t < n → get_or (writers_to job n) t None ≡ writer_at job t
-writer_get job zero t b = absurd (omega (arith, b))
-writer_get job (suc n) t b = ⊎_elim
-    (λ (lt : t < n). get_or_append_left (writers_to job n) (writer_at job n ∷ []) None t (let m = writers_many job n in omega (arith, lt, m)) ∙ writer_get job n t lt)
-    (λ (ge : n ≤ t).
-    let same : n ≡ t = omega (arith, ge, b) in
-    get_or_push (writers_to job n) (writer_at job n) None t (writers_many job n ∙ same) ∙ ap (writer_at job) same)
-    (cases_lt t n)
-
--- ---- the reads of a job, stage by stage
-one_count : (targets : List Slot) (ds : List Decl) (k : ℕ) (done : Progress) (x : StmtKind) → length (site_of targets k x) ≡ length (read_recorded ds done x)
-one_count targets ds k done (stmts.Read r) = refl
-one_count targets ds k done (stmts.Let n e) = refl
-one_count targets ds k done (stmts.Put n e) = refl
-one_count targets ds k done (stmts.Set n e when) = refl
-one_count targets ds k done (stmts.Aim n e) = refl
-
-stage_count : (targets : List Slot) (ds : List Decl) (s : ℕ → ℕ → ℕ) (k : ℕ) (done : Progress) (xs : List Stmt) → length (sites_in targets k xs) ≡ length (reads_recorded ds s done xs)
-stage_count targets ds s k done [] = refl
-stage_count targets ds s k done (x ∷ xs) =
-    let later = done_after ds s done x.kind in
-    let a = length-append (site_of targets k x.kind) (sites_in targets k xs) in
-    let b = length-append (read_recorded ds done x.kind) (reads_recorded ds s later xs) in
-    let c = one_count targets ds k done x.kind in
-    let d = stage_count targets ds s k later xs in
-    omega (arith, a, b, c, d)
-
-abbrev AllIn : ℕ → List Site → Type 0
-AllIn k [] = Unit {0}
-AllIn k (site ∷ sites) = (site.stage ≡ k) × AllIn k sites
-
-one_in : (targets : List Slot) (k : ℕ) (x : StmtKind) (sites : List Site) → AllIn k sites → AllIn k (site_of targets k x ++ sites)
-one_in targets k (stmts.Read r) sites h = (refl, h)
-one_in targets k (stmts.Let n e) sites h = h
-one_in targets k (stmts.Put n e) sites h = h
-one_in targets k (stmts.Set n e when) sites h = h
-one_in targets k (stmts.Aim n e) sites h = h
-
-all_in : (targets : List Slot) (k : ℕ) (xs : List Stmt) → AllIn k (sites_in targets k xs)
-all_in targets k [] = tt
-all_in targets k (x ∷ xs) = one_in targets k x.kind (sites_in targets k xs) (all_in targets k xs)
-
-module _ (job : Job) (st : ℕ → ℕ → ℕ) (q : ℕ → ℕ) (occupants : List Seen) (k : ℕ) where
-  abbrev record_at : ℕ → List (Option ℕ)
-  record_at j = stage_reads job st q j
-
-  abbrev sites_at : ℕ → List Site
-  sites_at j = sites_in (targets_of job.decls) j (stmts_in (slice_get job.blocks j))
-
-  part_count : (j : ℕ) → length (sites_at j) ≡ length (record_at j)
-  unfolding stage_reads
-  part_count j = stage_count (targets_of job.decls) job.decls st j (entered job.decls q (before_stage (machine_of job) st q j).pipes) (stmts_in (slice_get job.blocks j))
-
-  abbrev Following : ℕ → List Block → Type 0
-  Following j bs = (i : ℕ) (x : Block) → slice_get bs i ≡ Some x → slice_get job.blocks (j + i) ≡ Some x
-
-  first_there : (j : ℕ) (x : Block) (bs : List Block) → Following j (x ∷ bs) → sites_in (targets_of job.decls) j x.stmts ≡ sites_at j
-  first_there j x bs follow =
-      let z : j + 0 ≡ j = omega arith in
-      let here : slice_get job.blocks j ≡ Some x = subst (λ i. slice_get job.blocks i ≡ Some x) z (follow 0 x refl) in
-      ap (λ o. sites_in (targets_of job.decls) j (stmts_in o)) (sym here)
-
-  following : (j : ℕ) (x : Block) (bs : List Block) → Following j (x ∷ bs) → Following (suc j) bs
-  following j x bs follow i y e = let z : j + suc i ≡ suc j + i = omega arith in subst (λ v. slice_get job.blocks v ≡ Some y) z (follow (suc i) y e)
-
-  pub blocks_count : (j : ℕ) (bs : List Block) → Following j bs → length (sites_from (targets_of job.decls) j bs) ≡ length (reads_from job st q (length bs) j)
-  blocks_count j [] follow = refl
-  blocks_count j (x ∷ bs) follow =
-      let next : j + 1 ≡ suc j = omega arith in
-      let a = length-append (sites_in (targets_of job.decls) j x.stmts) (sites_from (targets_of job.decls) (j + 1) bs) in
-      let c = length-append (record_at j) (reads_from job st q (length bs) (suc j)) in
-      let p = ap length (first_there j x bs follow) ∙ part_count j in
-      let r = ap (λ i. length (sites_from (targets_of job.decls) i bs)) next ∙ blocks_count (suc j) bs (following j x bs follow) in
-      omega (arith, a, c, p, r)
-
-  abbrev Met : List Site → List (Option ℕ) → Type 0
-  Met = AllMet (sited job) occupants k
-
-  pub stage_met : (j : ℕ) (bs : List Block) → Following j bs → j ≤ k → k < j + length bs → Met (sites_from (targets_of job.decls) j bs) (reads_from job st q (length bs) j)
-      → Met (sites_at k) (record_at k)
-  stage_met j [] follow l g h = absurd (omega (arith, l, g))
-  stage_met j (x ∷ bs) follow l g h =
-      let next : j + 1 ≡ suc j = omega arith in
-      let rest = reads_from job st q (length bs) (suc j) in
-      let here = sites_in (targets_of job.decls) j x.stmts in
-      let many : length here ≡ length (record_at j) = ap length (first_there j x bs follow) ∙ part_count j in
-      ⊎_elim
-      (λ (lt : j < k).
-      stage_met (suc j) bs (following j x bs follow) (omega (arith, lt)) (omega (arith, g))
-      (subst (λ i. Met (sites_from (targets_of job.decls) i bs) rest) next (right_met (sited job) occupants k here (sites_from (targets_of job.decls) (j + 1) bs) (record_at j) rest many h)))
-      (λ (ge : k ≤ j).
-      let is : j ≡ k = omega (arith, l, ge) in
-      subst (λ i. Met (sites_at i) (record_at i)) is
-      (subst (λ ss. Met ss (record_at j)) (first_there j x bs follow) (left_met (sited job) occupants k here (sites_from (targets_of job.decls) (j + 1) bs) (record_at j) rest many h)))
-      (cases_lt j k)
+use Rattle.kp_sites.proofs.{Asking.stage_unmet, Sizes.writer_get, Sizes.writers_many}
+use Rattle.kp_sites.proofs.Results.{IsResult, is_result, no_result, past_targets, ready_same, writes_same}
+use Rattle.kp_stalls.proofs.{OccupantFacts.report_at, OccupantFacts.stage_at}
+use Rattle.kp_stalls.proofs.Waits.{first_is, met_of, near_is, some_waits, wait_is}
 
 -- ---- a moment
 module _ (job : Job) (given : ℕ → ℕ → ℕ) (now : Moment) (i : Inputs) (r : Row) (stages : List Stage) (names : first (widths_of job).asked ≡ None) (rules : broken_of job ≡ None)
@@ -175,9 +81,13 @@ module _ (job : Job) (given : ℕ → ℕ → ℕ) (now : Moment) (i : Inputs) (
     held_by : (j : ℕ) (x : Bool) → (now.state.stage j).full ≡ x → hold j ≡ cond x (Some (now.count j)) None
     held_by j x e = ap (λ b. cond b (Some (now.count j)) None) e
 
-    no_and : (x : Bool) → (x && false) ≡ false
-    no_and true = refl
-    no_and false = refl
+    above_is : (d j : ℕ) → d + suc j ≡ m.stages → above j ≡ from d (suc j)
+    unfolding ready_above
+    above_is d j e = let z : m.stages - suc j ≡ d = omega (arith, e) in ap (λ x. from x (suc j)) z
+
+    blocked_is : (d j : ℕ) → d + suc j ≡ m.stages → blocked_given m s given hold i j (from d (suc j)) ≡ is_blocked j
+    unfolding blocked
+    blocked_is d j e = ap (blocked_given m s given hold i j) (sym (above_is d j e))
 
     -- a target that has a result
     module _ (t n : ℕ) (is : IsResult job t n) where
@@ -193,12 +103,12 @@ module _ (job : Job) (given : ℕ → ℕ → ℕ) (now : Moment) (i : Inputs) (
           let e : hold j ≡ Some (now.count j) = held_by j true f in
           ap (λ o. is_candidate m j t && timeline.may_write m s given j o t a) e
           ∙ ap (λ c. (c && leb j (m.write_stage t)) && timeline.may_write m s given j (Some (now.count j)) t a) has
-          ∙ ap (λ c. leb j (m.write_stage t) && c) (writes_same job s given j t n (now.count j) (at occupants j) is (report_is j b) a)
-          ∙ sym (ap (λ c. c && (leb j (m.write_stage t) && may_write by (at occupants j) j a)) (full_is j b ∙ f))
+          ∙ ap (λ c. leb j (m.write_stage t) && c) (writes_same job s given j t n (now.count j) (at occupants j).report.recorded is (ap (λ (x : Report). x.recorded) (report_is j b)) a)
+          ∙ sym (ap (λ c. c && (leb j (m.write_stage t) && may_write by (at occupants j).report.recorded j a)) (full_is j b ∙ f))
       source_by j a false b f =
           let e : hold j ≡ None = held_by j false f in
-          ap (λ o. is_candidate m j t && timeline.may_write m s given j o t a) e ∙ no_and (is_candidate m j t)
-          ∙ sym (ap (λ c. c && (leb j (m.write_stage t) && may_write by (at occupants j) j a)) (full_is j b ∙ f))
+          ap (λ o. is_candidate m j t && timeline.may_write m s given j o t a) e ∙ and_right (is_candidate m j t) false refl
+          ∙ sym (ap (λ c. c && (leb j (m.write_stage t) && may_write by (at occupants j).report.recorded j a)) (full_is j b ∙ f))
 
       source_is : (j a : ℕ) → j < m.stages → is_writer job given now t a j ≡ is_source occupants by a j
       source_is j a b = source_by j a (now.state.stage j).full b refl
@@ -207,15 +117,8 @@ module _ (job : Job) (given : ℕ → ℕ → ℕ) (now : Moment) (i : Inputs) (
       ready_is j l b f =
           let e : hold j ≡ Some (now.count j) = held_by j true f in
           ap (λ o. timeline.is_ready m s given j o (is_blocked j) t) e
-          ∙ ready_same job s given j t n (now.count j) (at occupants j) is (report_is j b) (is_blocked j) (moves_is j (now.count j) l b e)
-
-      above_is : (d j : ℕ) → d + suc j ≡ m.stages → above j ≡ from d (suc j)
-      unfolding ready_above
-      above_is d j e = let z : m.stages - suc j ≡ d = omega (arith, e) in ap (λ x. from x (suc j)) z
-
-      blocked_is : (d j : ℕ) → d + suc j ≡ m.stages → blocked_given m s given hold i j (from d (suc j)) ≡ is_blocked j
-      unfolding blocked
-      blocked_is d j e = ap (blocked_given m s given hold i j) (sym (above_is d j e))
+          ∙ ready_same job s given j t n (now.count j) (at occupants j).report.recorded is (ap (λ (x : Report). x.recorded) (report_is j b)) (is_blocked j)
+          ∙ ap (reports.is_ready by (at occupants j).report.recorded j) (sym (moves_is j (now.count j) l b e))
 
       choose : (c : Bool) (x : Option ℕ) (w : Writer) (j : ℕ) → cond c (is_ready w (at occupants j) j) (is_met occupants w x) ≡ is_met occupants w (cond c (Some j) x)
       choose true x w j = refl
@@ -226,7 +129,7 @@ module _ (job : Job) (given : ℕ → ℕ → ℕ) (now : Moment) (i : Inputs) (
       ready_at j false y c l b f none = ap (λ z. cond z (has_ready job given now i t j) y) (none refl) ∙ sym (ap (λ z. cond z (is_ready by (at occupants j) j) y) (none refl))
 
       no_source : (j a : ℕ) → j < m.stages → (now.state.stage j).full ≡ false → is_source occupants by a j ≡ false
-      no_source j a b f = ap (λ c. c && (leb j by.write && may_write by (at occupants j) j a)) (full_is j b ∙ f)
+      no_source j a b f = ap (λ c. c && (leb j by.write && may_write by (at occupants j).report.recorded j a)) (full_is j b ∙ f)
 
       met : (d j a : ℕ) → d + j ≡ m.stages → k ≤ j → (from d j).ready t a ≡ is_met occupants by (nearest occupants by a d j)
       unfolding ready_from
@@ -251,19 +154,6 @@ module _ (job : Job) (given : ℕ → ℕ → ℕ) (now : Moment) (i : Inputs) (
         (timeline.is_ready m s given j (hold j) (blocked_given m s given hold i j (from d (suc j))) t) x) e
         ∙ unwritten t d (suc j) a e
 
-    past_targets : (t : ℕ) → length (targets_of job.decls) ≤ t → result_for job t ≡ None
-    unfolding result_for
-    past_targets t l = by_option (result_to (targets_of job.decls) job.decls t) (λ e. e)
-        (λ x e.
-        let f = fits_text job names t x e in
-        let inside : number_of (targets_of job.decls) x.target.name < length (targets_of job.decls) = (target_slot job names x f.0).inside in
-        let same = f.1 in
-        absurd (omega (arith, inside, same, l)))
-
-    above_from : (d : ℕ) → d + suc k ≡ m.stages → above k ≡ from d (suc k)
-    unfolding ready_above
-    above_from d e = let z : m.stages - suc k ≡ d = omega (arith, e) in ap (λ x. from x (suc k)) z
-
     met_result : (t a d : ℕ) (o : Option ℕ) → d + suc k ≡ m.stages → result_number (targets_of job.decls) job.decls 0 t ≡ o
         → (from d (suc k)).ready t a ≡ met_of (sited job) occupants k (writer_by job t o) a
     met_result t a d None e is = unwritten t d (suc k) a (no_result job t is)
@@ -274,26 +164,15 @@ module _ (job : Job) (given : ℕ → ℕ → ℕ) (now : Moment) (i : Inputs) (
 
     read_met : (t a d : ℕ) → d + suc k ≡ m.stages → (above k).ready t a ≡ met_of (sited job) occupants k (get_or (sited job).writers t None) a
     read_met t a d e =
-        ap (λ (x : ReadyAbove). x.ready t a) (above_from d e)
+        ap (λ (x : ReadyAbove). x.ready t a) (above_is d k e)
         ∙ ⊎_elim
         (λ (l : t < length (targets_of job.decls)).
         met_result t a d (result_number (targets_of job.decls) job.decls 0 t) e refl
         ∙ ap (λ o. met_of (sited job) occupants k o a) (sym (writer_get job (length (targets_of job.decls)) t l)))
         (λ (l : length (targets_of job.decls) ≤ t).
-        unwritten t d (suc k) a (past_targets t l)
+        unwritten t d (suc k) a (past_targets job names t l)
         ∙ ap (λ o. met_of (sited job) occupants k o a) (sym (get_or_past (sited job).writers t None (let c = writers_many job (length (targets_of job.decls)) in omega (arith, c, l)))))
         (cases_lt t (length (targets_of job.decls)))
-
-    -- no read of the stage is unmet, if none waits
-    no_asks : (d : ℕ) (xs : List Site) (os : List (Option ℕ)) → d + suc k ≡ m.stages → AllIn k xs → AllMet (sited job) occupants k xs os → asks_unmet (above k).ready xs os ≡ false
-    no_asks d [] os e all h = refl
-    no_asks d (x ∷ xs) [] e all h = refl
-    no_asks d (x ∷ xs) (None ∷ os) e all h = no_asks d xs os e all.1 h.1
-    no_asks d (x ∷ xs) (Some a ∷ os) e all h =
-        ap (λ c. (not x.guessed && not c) || asks_unmet (above k).ready xs os) (read_met x.target a d e)
-        ∙ ap (λ c. c || asks_unmet (above k).ready xs os)
-        (sym (ap (λ c. (c && not x.guessed) && not (met_of (sited job) occupants k (get_or (sited job).writers x.target None) a)) (eq-eqb x.stage k all.0)) ∙ h.0)
-        ∙ no_asks d xs os e all.1 h.1
 
     -- a wait that is found is one by the timeline
     module _ (below : k < m.stages) where
@@ -376,12 +255,6 @@ module _ (job : Job) (given : ℕ → ℕ → ℕ) (now : Moment) (i : Inputs) (
       body_is : m.body k i.samples (instruction_before m s given n k).pipes ≡ m.body k (given n) (instruction_before m s given n k).pipes
       body_is = acc.own_samples k i.samples (given n) (instruction_before m s given n k).pipes below settled
 
-      asks : asks_unmet (above k).ready (sites_at job st (given n) occupants k k) (record_at job st (given n) occupants k k) ≡ true
-      unfolding machine_of stage_tree stage_reads
-      asks =
-          sym (stage_asks (above k).ready st job.decls k (entered job.decls (given n) (before_stage (machine_of job) st (given n) k).pipes) (stmts_in (slice_get job.blocks k)))
-          ∙ sym (ap (some_unmet (above k).ready st) body_is) ∙ waiting
-
       count : length job.blocks ≡ job.stages.value
       count = stages_inside job rules
 
@@ -389,21 +262,17 @@ module _ (job : Job) (given : ℕ → ℕ → ℕ) (now : Moment) (i : Inputs) (
       unfolding record_of
       reads_are = ap (λ (f : Report). f.recorded.reads) (report_is k below) ∙ ap (λ x. reads_from job st (given n) x 0) (sym count)
 
-      follow : (x : ℕ) (y : Block) → slice_get job.blocks x ≡ Some y → slice_get job.blocks (0 + x) ≡ Some y
-      follow x y e = let z : x ≡ 0 + x = omega arith in subst (λ v. slice_get job.blocks v ≡ Some y) z e
-
-      never : first_wait (sited job) occupants k 0 (sited job).reads ≡ None → ⊥
-      never e =
-          let all = none_waits (sited job) occupants k (sited job).reads [] (reads_from job st (given n) (length job.blocks) 0) reads_are
-          (blocks_count job st (given n) occupants k 0 job.blocks follow) e in
-          let here = stage_met job st (given n) occupants k 0 job.blocks follow (omega arith) (omega (arith, below, count, count_is)) all in
-          let no = no_asks (m.stages - suc k) (sites_at job st (given n) occupants k k) (record_at job st (given n) occupants k k) (omega (arith, below))
-          (all_in (targets_of job.decls) k (stmts_in (slice_get job.blocks k))) here in
-          false≢true (sym no ∙ asks)
+      -- the tree of the stage requests a read that isn't ready, so one waits
+      some : is_some (first_wait (sited job) occupants k 0 (sited job).reads) ≡ true
+      some =
+          some_waits (sited job) occupants k 0 (sited job).reads
+          ∙ stage_unmet job st (given n) (λ t a. met_of (sited job) occupants k (get_or (sited job).writers t None) a) k (above k).ready
+          (λ t a. read_met t a (m.stages - suc k) (omega (arith, below))) (at occupants k).report.recorded.reads reads_are (omega (arith, below, count, count_is))
+          ∙ sym (ap (some_unmet (above k).ready st) body_is) ∙ waiting
 
       pub has_cause : (w : Wait) × (first_wait (sited job) occupants k 0 (sited job).reads ≡ Some w) × IsCause job given now i k w
       has_cause = go (first_wait (sited job) occupants k 0 (sited job).reads) refl
         where
           go : (o : Option Wait) → first_wait (sited job) occupants k 0 (sited job).reads ≡ o → (w : Wait) × (first_wait (sited job) occupants k 0 (sited job).reads ≡ Some w) × IsCause job given now i k w
-          go None e = absurd (never e)
+          go None e = absurd (false≢true (sym (ap is_some e) ∙ some))
           go (Some w) e = (w, e, caused below w e)

@@ -1,10 +1,7 @@
-pub mod Writers
 pub mod OccupantFacts
 pub mod Steps
 pub mod Fates
 pub mod Windows
-pub mod Asks
-pub mod Results
 pub mod Waits
 pub mod Moments
 pub mod Causing

@@ -2,7 +2,8 @@
 use Rattle.std.proofs.Common.{◌≡◌, ℕ, ◌+◌, Option, Some, None, Bool, true, false, cond, ap, List}
 use Rattle.kp_stalls.specs.declared.cause.Cause.{Cause}
 use Rattle.kp_stalls.specs.declared.cause.Cause.TheVariants.{Value, Unsure, Ahead, Held, Later, Squashed}
-use Rattle.kp_stalls.specs.{declared.cause.Wait.Wait, declared.cause.Wrong.Wrong, Sites.Sited, Occupants.Seen, Occupants.at}
+use Rattle.kp_sites.specs.Sites.{Sited}
+use Rattle.kp_stalls.specs.{declared.cause.Wait.Wait, declared.cause.Wrong.Wrong, Occupants.Seen, Occupants.at}
 use Rattle.kp_stalls.specs.Causes.{cause_at, cause_of_wait, first_wait, is_squashed_by, is_reported, is_waiting, squashing_cause, wrong_of}
 
 pub record_wait : (s : Sited) (occupants : List Seen) (k : ℕ) (w : Wait) → (at occupants k).stage.full ≡ true → (at occupants k).stage.squashed ≡ false → (at occupants k).stage.moves ≡ false
@@ -32,14 +33,9 @@ only_recorded : (full squashed next moves later held ahead recorded : Bool) (g :
     (cond squashed (cond next None (Some (Squashed g)))
     (cond moves None (Some (cond later Later (cond held Held (cond ahead Ahead (cond recorded (cause_of_wait f) Unsure)))))))
     None) ≡ Some w → f ≡ Some w
-only_recorded false _ _ _ _ _ _ _ g f w e = never f w e
-only_recorded true true true _ _ _ _ _ g f w e = never f w e
-only_recorded true true false _ _ _ _ _ g f w e = never f w e
-only_recorded true false _ true _ _ _ _ g f w e = never f w e
-only_recorded true false _ false true _ _ _ g f w e = never f w e
-only_recorded true false _ false false true _ _ g f w e = never f w e
-only_recorded true false _ false false false true _ g f w e = never f w e
 only_recorded true false _ false false false false recorded g f w e = only_found f recorded w e
+only_recorded true true true _ _ _ _ _ g f w e = never f w e
+only_recorded _ _ _ _ _ _ _ _ g f w e = never f w e
 
 pub record_found : (s : Sited) (occupants : List Seen) (k : ℕ) (w : Wait) → cause_at s occupants k ≡ Some (Value w) → first_wait s occupants k 0 s.reads ≡ Some w
 record_found s occupants k w e =

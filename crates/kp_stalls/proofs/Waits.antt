@@ -1,8 +1,10 @@
 -- What a first wait says, and what it means that there is none.
-use Rattle.std.proofs.Common.{◌≡◌, ◌∙◌, ℕ, zero, suc, ◌+◌, ◌<◌, ◌≤◌, List, [], ◌∷◌, ◌++◌, Option, Some, None, Bool, true, false, cond, eqb, not, ◌&&◌, length, get_or, refl, ap, sym, arith, ⊎_elim}
-use Rattle.std.proofs.lemmas.{Bool.and_parts, Bool.cases_lt, Bool.eqb-true, List.length-append, Option.same_Some}
+use Rattle.std.proofs.Common.{◌≡◌, ◌∙◌, ℕ, zero, suc, ◌+◌, ◌<◌, ◌≤◌, List, [], ◌∷◌, ◌++◌, Option, Some, None, Bool, true, false, cond, eqb, not, ◌&&◌, ◌||◌, length, get_or, refl, ap, ap₂, sym, arith, ⊎_elim}
+use Rattle.std.proofs.lemmas.{Bool.and_parts, Bool.cases_lt, Bool.eqb-true, Bool.not-true, List.length-append, Option.same_Some}
 use Rattle.std.specs.Prelude.{is_some}
-use Rattle.kp_stalls.specs.{declared.sites.Site.Site, declared.sites.Writer.Writer, declared.cause.Wait.Wait, Sites.Sited, Sites.no_site}
+use Rattle.kp_sites.specs.{declared.sites.Site.Site, declared.sites.Writer.Writer, Sites.Sited, Sites.no_site}
+use Rattle.kp_stalls.specs.declared.cause.Wait.{Wait}
+use Rattle.kp_sites.specs.Reports.{some_unmet_from, unmet_by}
 use Rattle.kp_stalls.specs.Occupants.{Seen, at}
 use Rattle.kp_stalls.specs.Causes.{first_wait, had_by, is_met, is_ready, is_source, nearest, nearest_above, or_else, wait_at, wait_by, wait_of}
 
@@ -89,16 +91,12 @@ module _ (s : Sited) (occupants : List Seen) (k i : ℕ) (site : Site) (w : Wait
   at_writer a None is own plain e = cc
   at_writer a (Some by) is own plain e = at_nearest by a (nearest_above s occupants by a k) refl is own plain e
 
-  not_false : (b : Bool) → not b ≡ true → b ≡ false
-  not_false true e = cc
-  not_false false e = refl
-
   at_read : (a : ℕ) (b : Bool) → (eqb site.stage k && not site.guessed) ≡ b → cond b (wait_by s occupants k i a (get_or s.writers site.target None)) None ≡ Some w
       → IsWait s occupants k i site (Some a) w
   at_read a false own e = cc
   at_read a true own e =
       let both = and_parts (eqb site.stage k) (not site.guessed) own in
-      at_writer a (get_or s.writers site.target None) refl (eqb-true site.stage k both.0) (not_false site.guessed both.1) e
+      at_writer a (get_or s.writers site.target None) refl (eqb-true site.stage k both.0) (not-true site.guessed both.1) e
 
   pub wait_is : (o : Option ℕ) → wait_of s occupants k i site o ≡ Some w → IsWait s occupants k i site o w
   wait_is None e = cc
@@ -130,14 +128,13 @@ module _ (s : Sited) (occupants : List Seen) (k : ℕ) where
   first_is [] i w e = cc
   first_is (site ∷ sites) i w e = first_by site sites i w (wait_of s occupants k i site (get_or reads i None)) refl e (first_is sites (i + 1) w)
 
-  -- NONE WAITS.
+  -- A READ THAT ISN'T MET waits.
   abbrev pub met_of : Option Writer → ℕ → Bool
   met_of None a = true
   met_of (Some w) a = is_met occupants w (nearest_above s occupants w a k)
 
   abbrev pub unmet : Site → Option ℕ → Bool
-  unmet site None = false
-  unmet site (Some a) = (eqb site.stage k && not site.guessed) && not (met_of (get_or s.writers site.target None) a)
+  unmet = unmet_by (λ t a. met_of (get_or s.writers t None) a) k
 
   some_unready : (b : Bool) (x : Wait) → is_some (cond b None (Some x)) ≡ not b
   some_unready true x = refl
@@ -161,42 +158,13 @@ module _ (s : Sited) (occupants : List Seen) (k : ℕ) where
       some_chosen (eqb site.stage k && not site.guessed) (wait_by s occupants k i a (get_or s.writers site.target None))
       ∙ ap (λ b. (eqb site.stage k && not site.guessed) && b) (some_by i a (get_or s.writers site.target None))
 
-  abbrev pub AllMet : List Site → List (Option ℕ) → Type 0
-  AllMet [] os = Unit {0}
-  AllMet (site ∷ sites) [] = Unit {0}
-  AllMet (site ∷ sites) (o ∷ os) = (unmet site o ≡ false) × AllMet sites os
+  some_first : (x y : Option Wait) → is_some (or_else x y) ≡ (is_some x || is_some y)
+  some_first None y = refl
+  some_first (Some x) y = refl
 
-  or_none : (x y : Option Wait) → or_else x y ≡ None → (x ≡ None) × (y ≡ None)
-  or_none None y e = (refl, e)
-  or_none (Some x) y e = cc
-
-  at_end : (xs ys : List (Option ℕ)) (y : Option ℕ) → get_or (xs ++ y ∷ ys) (length xs) None ≡ y
-  at_end [] ys y = refl
-  at_end (x ∷ xs) ys y = at_end xs ys y
-
-  next_of : (xs ys : List (Option ℕ)) (y : Option ℕ) → xs ++ y ∷ ys ≡ (xs ++ y ∷ []) ++ ys
-  next_of [] ys y = refl
-  next_of (x ∷ xs) ys y = ap (λ l. x ∷ l) (next_of xs ys y)
-
-  pub none_waits : (sites : List Site) (xs ys : List (Option ℕ)) → reads ≡ xs ++ ys → length sites ≡ length ys → first_wait s occupants k (length xs) sites ≡ None → AllMet sites ys
-  none_waits [] xs ys e n f = tt
-  none_waits (site ∷ sites) xs [] e n f = tt
-  none_waits (site ∷ sites) xs (y ∷ ys) e n f =
-      let here : get_or reads (length xs) None ≡ y = ap (λ l. get_or l (length xs) None) e ∙ at_end xs ys y in
-      let both = or_none (wait_of s occupants k (length xs) site (get_or reads (length xs) None)) (first_wait s occupants k (length xs + 1) sites) f in
-      let l = length-append xs (y ∷ []) in
-      let next : length xs + 1 ≡ length (xs ++ y ∷ []) = omega (arith, l) in (
-        sym (some_of (length xs) site y) ∙ ap (λ o. is_some (wait_of s occupants k (length xs) site o)) (sym here) ∙ ap is_some both.0,
-        none_waits sites (xs ++ y ∷ []) ys (e ∙ next_of xs ys y) (omega (arith, n)) (ap (λ m. first_wait s occupants k m sites) (sym next) ∙ both.1),
-      )
-
-  pub left_met : (as_ bs : List Site) (xs ys : List (Option ℕ)) → length as_ ≡ length xs → AllMet (as_ ++ bs) (xs ++ ys) → AllMet as_ xs
-  left_met [] bs xs ys e h = tt
-  left_met (a ∷ as_) bs [] ys e h = tt
-  left_met (a ∷ as_) bs (x ∷ xs) ys e h = (h.0, left_met as_ bs xs ys (omega (arith, e)) h.1)
-
-  pub right_met : (as_ bs : List Site) (xs ys : List (Option ℕ)) → length as_ ≡ length xs → AllMet (as_ ++ bs) (xs ++ ys) → AllMet bs ys
-  right_met [] bs [] ys e h = h
-  right_met [] bs (x ∷ xs) ys e h = absurd (omega (arith, e))
-  right_met (a ∷ as_) bs [] ys e h = absurd (omega (arith, e))
-  right_met (a ∷ as_) bs (x ∷ xs) ys e h = right_met as_ bs xs ys (omega (arith, e)) h.1
+  -- a first wait is found exactly where a read isn't met
+  pub some_waits : (i : ℕ) (sites : List Site) → is_some (first_wait s occupants k i sites) ≡ some_unmet_from unmet reads i sites
+  some_waits i [] = refl
+  some_waits i (site ∷ sites) =
+      some_first (wait_of s occupants k i site (get_or reads i None)) (first_wait s occupants k (i + 1) sites)
+      ∙ ap₂ (λ (x y : Bool). x || y) (some_of i site (get_or reads i None)) (some_waits (i + 1) sites)

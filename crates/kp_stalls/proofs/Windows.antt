@@ -1,6 +1,6 @@
 -- One instruction more in a window.
 use Rattle.std.proofs.Common.{◌≡◌, ◌∙◌, ℕ, zero, suc, ◌+◌, ◌*◌, ◌/◌, ◌%◌, ◌^◌, ◌<◌, ◌≤◌, List, [], ◌∷◌, length, get_or, set, refl, ap, sym, subst, arith, ⊎_elim, lit<, ◌++◌, take, drop, None}
-use Rattle.std.proofs.{Math.Nat.div-add-mod, Math.Nat.mod-lt, Math.Seq.take-append_seam, lemmas.Bool.cases_lt}
+use Rattle.std.proofs.{Math.Nat.div-add-mod, Math.Nat.mod-lt, Math.Seq.take-append_seam, lemmas.Bool.cases_eq, lemmas.Bool.cases_lt}
 use Rattle.std.proofs.lemmas.List.{get_or-set_same, get_or-set_other, length-append, length-map, length-set, Sums.sum_by-cons}
 use Rattle.std.specs.Prelude.{sum_by}
 use Rattle.kp_bits.specs.Word.{Word}
@@ -12,8 +12,8 @@ use Rattle.kp_synth_tables.proofs.Limits.{few}
 use Rattle.kp_machine.specs.{Machine.machine_of, Machine.sequential, Machine.state_of, Machine.values_in, Slots.targets_of}
 use Rattle.kp_seq.specs.Recorded.{Recorded, results_of, setting_recorded, record_of}
 use Rattle.kp_seq.specs.Running.{Running, after_one, state}
-use Rattle.kp_seq.proofs.Recording.{all_recorded}
-use Rattle.kp_stalls.specs.Sites.{Sited, sited, writers_to}
+use Rattle.kp_sites.proofs.Sizes.{record_room, writers_many}
+use Rattle.kp_sites.specs.Sites.{Sited, sited, writers_to}
 use Rattle.kp_stalls.specs.Occupants.{Report, report, report_of, nothing, stored, value_before}
 use Rattle.kp_stalls.specs.Windows.{Follows, HasRoom, IsKept, Windowed}
 
@@ -65,83 +65,25 @@ module _ (job : Job) (given : ℕ → ℕ → ℕ) (old new : Windowed) (row : L
 pub room_set : (job : Job) (ring : List Report) (p : ℕ) (f : Report) → length ring ≡ 16 → HasRoom job f → ((j : ℕ) → j < 16 → HasRoom job (get_or ring j nothing))
     → (j : ℕ) → j < 16 → HasRoom job (get_or (set ring p f) j nothing)
 room_set job ring p f count here all j b = ⊎_elim
-    (λ (lt : j < p). subst (HasRoom job) (sym (get_or-set_other ring p j f nothing (λ q. omega (arith, lt, q)))) (all j b))
-    (λ (ge : p ≤ j). ⊎_elim
-    (λ (gt : p < j). subst (HasRoom job) (sym (get_or-set_other ring p j f nothing (λ q. omega (arith, gt, q)))) (all j b))
-    (λ (le : j ≤ p).
-    let is : p ≡ j = omega (arith, ge, le) in
-    subst (HasRoom job) (sym (ap (λ q. get_or (set ring q f) j nothing) is ∙ get_or-set_same ring j f nothing (omega (arith, b, count)))) here)
-    (cases_lt p j))
-    (cases_lt j p)
+    (λ (is : j ≡ p). subst (HasRoom job) (sym (ap (λ q. get_or (set ring q f) j nothing) (sym is) ∙ get_or-set_same ring j f nothing (omega (arith, b, count)))) here)
+    (λ ne. subst (HasRoom job) (sym (get_or-set_other ring p j f nothing ne)) (all j b))
+    (cases_eq j p)
 
 -- what is reported of an instruction has its size
-pub record IsRecordedOf (job : Job) (f : Recorded) : Type 0 where
-  pub reads : length f.reads ≡ (summary_of job).reads
-  pub writes : length f.writes ≡ (summary_of job).results
-  pub settings : length f.settings ≡ (summary_of job).results
-
-results_count : (ds : List Decl) → length (results_of ds) ≡ sum_by results_in ds
-results_count [] = refl
-results_count (decls.Target r ∷ ds) = let p = sum_by-cons results_in (decls.Target r) ds in let q = results_count ds in omega (arith, p, q)
-results_count (decls.Sample n width stage ∷ ds) = let p = sum_by-cons results_in (decls.Sample n width stage) ds in let q = results_count ds in omega (arith, p, q)
-results_count (decls.Reg n width start ∷ ds) = let p = sum_by-cons results_in (decls.Reg n width start) ds in let q = results_count ds in omega (arith, p, q)
-results_count (decls.File n width address ∷ ds) = let p = sum_by-cons results_in (decls.File n width address) ds in let q = results_count ds in omega (arith, p, q)
-results_count (decls.Pipe n width ∷ ds) = let p = sum_by-cons results_in (decls.Pipe n width) ds in let q = results_count ds in omega (arith, p, q)
-results_count (decls.Hint n width start ∷ ds) = let p = sum_by-cons results_in (decls.Hint n width start) ds in let q = results_count ds in omega (arith, p, q)
-results_count (decls.Func f ∷ ds) = let p = sum_by-cons results_in (decls.Func f) ds in let q = results_count ds in omega (arith, p, q)
-
--- what is reported about an instruction has its size
-pub record_room : (job : Job) (s : ℕ → ℕ → ℕ) (q : ℕ → ℕ) → length job.blocks ≡ job.stages.value → IsRecordedOf job (record_of job s q)
-unfolding record_of summary_of
-record_room job s q e = record {
-  reads = all_recorded job s q e;
-  writes = length-map (results_of job.decls) _ ∙ results_count job.decls;
-  settings = length-map (results_of job.decls) (setting_recorded job s q) ∙ results_count job.decls;
-}
-
 pub report_room : (job : Job) (s : ℕ → ℕ → ℕ) (q : ℕ → ℕ) → length job.blocks ≡ job.stages.value → HasRoom job (report_of job s q)
 report_room job s q e =
     let recorded = record_room job s q e in
     record { reads = recorded.reads; writes = recorded.writes; settings = recorded.settings; values = length-map (sited job).reads (value_before job s) }
 
--- so what was reported before can be replaced by a new report
-pub record FitsIn (recorded last : Recorded) : Type 0 where
-  pub reads : length recorded.reads ≡ length last.reads
-  pub writes : length recorded.writes ≡ length last.writes
-  pub settings : length recorded.settings ≡ length last.settings
-  pub few_reads : length recorded.reads < 2 ^ 32
-  pub few_writes : length recorded.writes < 2 ^ 32
-  pub few_settings : length recorded.settings < 2 ^ 32
+pub targets_many : (job : Job) (s : Sited) → s ≡ sited job → length s.writers ≡ length (targets_of job.decls)
+targets_many job s e = ap (λ (x : Sited). length x.writers) e ∙ writers_many job (length (targets_of job.decls))
 
-pub record_fits : (job : Job) (s : ℕ → ℕ → ℕ) (q : ℕ → ℕ) (f : Report) (recorded last : Recorded) → length job.blocks ≡ job.stages.value → (summary_of job).reads < 2 ^ 32
-    → (summary_of job).results < 2 ^ 32 → HasRoom job f → recorded ≡ f.recorded → last ≡ record_of job s q → FitsIn recorded last
-record_fits job s q f recorded last count reads results room same e =
-    let there = record_room job s q count in
-    subst (λ (x : Recorded). FitsIn x last) (sym same) (record {
-      reads = room.reads ∙ sym (ap (λ (x : Recorded). length x.reads) e ∙ there.reads);
-      writes = room.writes ∙ sym (ap (λ (x : Recorded). length x.writes) e ∙ there.writes);
-      settings = room.settings ∙ sym (ap (λ (x : Recorded). length x.settings) e ∙ there.settings);
-      few_reads = subst (λ n. n < 2 ^ 32) (sym room.reads) reads;
-      few_writes = subst (λ n. n < 2 ^ 32) (sym room.writes) results;
-      few_settings = subst (λ n. n < 2 ^ 32) (sym room.settings) results;
-    })
-
-pub writers_many : (job : Job) (t : ℕ) → length (writers_to job t) ≡ t
-writers_many job zero = refl
-writers_many job (suc t) =
-    let e : length (writers_to job t) ≡ t = writers_many job t in
-    length-append (writers_to job t) _ ∙ (omega (arith, e))
-
-pub targets_few : (job : Job) (s : Sited) → broken_of job ≡ None → s ≡ sited job → length s.writers < 2 ^ 32
+targets_few : (job : Job) (s : Sited) → broken_of job ≡ None → s ≡ sited job → length s.writers < 2 ^ 32
 targets_few job s rules e =
     let f = few job rules in
     let l = f.targets in
-    let same : length s.writers ≡ length (targets_of job.decls) = ap (λ (x : Sited). length x.writers) e ∙ writers_many job (length (targets_of job.decls)) in
+    let same = targets_many job s e in
     omega (arith, l, same)
-
-pub targets_many : (job now : Job) (s : Sited) → s ≡ sited job → now ≡ job → length s.writers ≡ length (targets_of now.decls)
-targets_many job now s e same =
-    ap (λ (x : Sited). length x.writers) e ∙ writers_many job (length (targets_of job.decls)) ∙ ap (λ (j : Job). length (targets_of j.decls)) (sym same)
 
 -- a window before its first instruction
 pub kept_first : (job : Job) (m : Running) (s : Sited) (ring : List Report) → broken_of job ≡ None → length job.blocks ≡ job.stages.value → m.job ≡ job → s ≡ sited job → length ring ≡ 16
@@ -177,10 +119,6 @@ kept_next job w m n p s q kept same =
       blocks = kept.blocks;
       targets = kept.targets;
     })
-
--- writing a slice back leaves it unchanged
-pub written_back : (n : ℕ) (xs ys zs : List Report) → length xs ≡ n → xs ≡ zs → take n (xs ++ drop (length xs) ys) ≡ zs
-written_back n xs ys zs l e = ap (λ k. take k (xs ++ drop (length xs) ys)) (sym l) ∙ take-append_seam xs (drop (length xs) ys) ∙ e
 
 -- one more step, where the window is seen as `now`
 pub follows_step : (old now new : Windowed) (row : List Word) → old ≡ now → length old.ring ≡ 16 → new.next ≡ old.next + 1

@@ -6,7 +6,8 @@ use Rattle.kp_pipeline.specs.{Machine.Machine, Pipeline.Inputs, Pipeline.is_cand
 use Rattle.kp_pipeline.specs.RightPath.{Moment, first_moment, held, next_moment}
 use Rattle.kp_pipeline.specs.SpeculativeTimeline as timeline
 use Rattle.kp_machine.specs.Machine.{machine_of, state_of}
-use Rattle.kp_stalls.specs.{declared.cause.Wait.Wait, declared.occupants.Stage.Stage, declared.sites.Site.Site, Sites.no_site, Sites.sited}
+use Rattle.kp_sites.specs.{declared.sites.Site.Site, Sites.no_site, Sites.sited}
+use Rattle.kp_stalls.specs.{declared.cause.Wait.Wait, declared.occupants.Stage.Stage}
 use Rattle.kp_stalls.specs.Occupants.{report, no_stage}
 
 -- The stages show the row of a moment, and the numbers of the instructions.

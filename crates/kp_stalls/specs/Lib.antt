@@ -1,7 +1,5 @@
-pub mod Sites
 pub mod Occupants
 pub mod Causes
 pub mod Cycles
 pub mod Windows
 pub mod Claims
-pub mod inner

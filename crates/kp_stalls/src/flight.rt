@@ -6,24 +6,21 @@ ghost use Rattle.kp_stage.specs.Counts.{summary_of};
 ghost use Rattle.kp_stage.specs.Start.{AreSamples};
 ghost use Rattle.kp_machine.specs.Machine.{values_in};
 ghost use Rattle.kp_seq.specs.Running.{after_one, state};
-ghost use Rattle.kp_stalls.specs.Sites.{sited};
+ghost use Rattle.kp_sites.specs.Sites.{sited};
 ghost use Rattle.kp_stalls.specs.Windows.{HasRoom};
 ghost use Rattle.kp_stalls.specs.Occupants.{report_of, no_value, value_before as value_of_site};
 
-use crate::sites::Site;
 use kp_base::NoMemory;
 use kp_bits::Bits;
 use kp_seq::SeqMachine;
+use kp_sites::{Reported, Site};
 use std::alloc::Global;
 use std::marker::Model;
 
-/// The addresses of its reads and of its results, the stages in which the results were set, and the values that the targets of its reads had before it, each
-/// by number.
+/// Its report, and the values that the targets of its reads had before it, each by number.
 #[derive(Drop)]
 pub(crate) struct Flight {
-    reads: Vec<Option<u32>>,
-    writes: Vec<Option<u32>>,
-    settings: Vec<u8>,
+    reported: Reported,
     values: Vec<Bits>,
 }
 
@@ -32,7 +29,7 @@ impl Model for Flight {
 
     ghost Value = { Report };
 
-    ghost view = { λ f. record { recorded = record { reads = f.reads.items; writes = f.writes.items; settings = f.settings.items }; values = f.values.items } };
+    ghost view = { λ f. record { recorded = f.reported; values = f.values.items } };
 }
 
 impl Flight {
@@ -49,44 +46,16 @@ impl Flight {
         ensures values { IfOk result (λ f. length f.values ≡ values) }
     {
         Ok(Flight {
-            reads: vec![in alloc; None; reads]?,
-            writes: vec![in alloc; None; results]?,
-            settings: vec![in alloc; 0; results]?,
+            reported: Reported::new(alloc, reads, results)?,
             values: vec![in alloc; zero_bit(); values]?,
         })
     }
 
-    /// The address of a read, if its condition was true.
-    pub(crate) fn read(&self, number: usize) -> Option<u32>
-        ensures { result ≡ get_or self.now.recorded.reads number None }
+    /// What the machine reported.
+    pub(crate) fn reported(&self) -> &Reported
+        ensures { result.now ≡ self.now.recorded }
     {
-        if number < self.reads.len() {
-            self.reads[number]
-        } else {
-            None
-        }
-    }
-
-    /// The address at which a result wrote, if it was enabled.
-    pub(crate) fn write(&self, number: usize) -> Option<u32>
-        ensures { result ≡ get_or self.now.recorded.writes number None }
-    {
-        if number < self.writes.len() {
-            self.writes[number]
-        } else {
-            None
-        }
-    }
-
-    /// The stage in which a result was set.
-    pub(crate) fn setting(&self, number: usize) -> u8
-        ensures { result ≡ get_or self.now.recorded.settings number 0 }
-    {
-        if number < self.settings.len() {
-            self.settings[number]
-        } else {
-            0
-        }
+        &self.reported
     }
 
     /// The value of the target of a read before the instruction.
@@ -147,39 +116,7 @@ impl Flight {
         ensures recorded { self.new.recorded ≡ machine.now.last }
         ensures values { self.new.values ≡ self.old.values }
     {
-        take_reads(self.reads.as_mut_slice(), machine);
-        take_writes(self.writes.as_mut_slice(), machine);
-        take_settings(self.settings.as_mut_slice(), machine);
-    }
-}
-
-fn take_reads(reads: &mut [Option<u32>], machine: &SeqMachine)
-    requires same { length reads.old ≡ length machine.now.last.reads }
-    requires few { length reads.old < 2 ^ 32 }
-    ensures { reads.new ≡ machine.now.last.reads }
-{
-    for i in 0..reads.len() {
-        reads[i] = machine.reads(i as u32);
-    }
-}
-
-fn take_writes(writes: &mut [Option<u32>], machine: &SeqMachine)
-    requires same { length writes.old ≡ length machine.now.last.writes }
-    requires few { length writes.old < 2 ^ 32 }
-    ensures { writes.new ≡ machine.now.last.writes }
-{
-    for i in 0..writes.len() {
-        writes[i] = machine.writes(i as u32);
-    }
-}
-
-fn take_settings(settings: &mut [u8], machine: &SeqMachine)
-    requires same { length settings.old ≡ length machine.now.last.settings }
-    requires few { length settings.old < 2 ^ 32 }
-    ensures { settings.new ≡ machine.now.last.settings }
-{
-    for i in 0..settings.len() {
-        settings[i] = machine.setting(i as u32);
+        self.reported.take(machine);
     }
 }
 

@@ -5,11 +5,11 @@ ghost use Rattle.kp_stalls.specs.Occupants.{at, occupants_of, stored};
 
 use crate::cause::{Cause, Line};
 use crate::occupants::{Occupants, Stage};
-use crate::sites::Sites;
 use crate::squashing::wrong_of;
 use crate::waiting::value_cause;
 use crate::window::Window;
 use kp_base::NoMemory;
+use kp_sites::Sites;
 
 /// Adds the lines of a cycle in which the stages show this. The only error is out of memory.
 pub fn add_lines(

@@ -5,8 +5,8 @@ ghost use Rattle.kp_stalls.specs.Occupants.{at};
 
 use crate::cause::{Guess, Producer, Wrong};
 use crate::occupants::Occupants;
-use crate::sites::{Site, Sites, Writer};
 use crate::waiting::{is_ready, nearest_above};
+use kp_sites::{Site, Sites, Writer};
 
 fn is_met(occupants: &Occupants<'_>, writer: Writer, source: Option<usize>) -> bool
     requires { IfSome source (λ j. j < length occupants.now) }
@@ -59,11 +59,11 @@ fn only(sites: &Sites, occupants: &Occupants<'_>, k: usize) -> Option<usize>
     requires below { k < sites.now.stages }
     ensures { result ≡ only_open sites.now occupants.now k None 0 sites.now.reads }
 {
-    let flight = occupants.flight(k);
+    let reported = occupants.flight(k).reported();
     let reads = sites.reads();
     let mut found = None;
     for i in 0..reads.len() {
-        if is_open(sites, occupants, k, reads[i], flight.read(i)) {
+        if is_open(sites, occupants, k, reads[i], reported.read(i)) {
             if found.is_some() {
                 return None;
             }

@@ -1,22 +1,11 @@
 //! The read that an instruction waits for.
 ghost use Rattle.std.specs.Prelude.{◌≡◌, ◌-◌, ◌<◌, ◌≤◌, IfSome, length};
-ghost use Rattle.kp_stalls.specs.Causes.{first_wait, had_by, has_guess as has_guess_in, is_ready as is_ready_in, is_source as is_source_in, is_reported as is_reported_in, may_write as may_write_in, nearest as nearest_in, nearest_above as nearest_above_in, value_cause as value_cause_in, wait_at as wait_at_in, wait_by as wait_by_in, wait_of as wait_of_in};
+ghost use Rattle.kp_stalls.specs.Causes.{first_wait, had_by, has_guess as has_guess_in, is_ready as is_ready_in, is_source as is_source_in, is_reported as is_reported_in, nearest as nearest_in, nearest_above as nearest_above_in, value_cause as value_cause_in, wait_at as wait_at_in, wait_by as wait_by_in, wait_of as wait_of_in};
 ghost use Rattle.kp_stalls.specs.Occupants.{at};
 
 use crate::cause::{Cause, Had, Wait};
 use crate::occupants::{Occupants, Stage};
-use crate::sites::{Site, Sites, Writer};
-
-// Whether the instruction in stage j may write the target of a writer at an address.
-fn may_write(writer: Writer, occupants: &Occupants<'_>, j: usize, address: u32) -> bool
-    requires { j < length occupants.now }
-    ensures { result ≡ may_write_in writer (at occupants.now j) j address }
-{
-    if writer.known as usize > j {
-        return true;
-    }
-    occupants.flight(j).write(writer.result) == Some(address)
-}
+use kp_sites::{Site, Sites, Writer};
 
 fn is_source(writer: Writer, occupants: &Occupants<'_>, j: usize, address: u32) -> bool
     requires { j < length occupants.now }
@@ -24,7 +13,7 @@ fn is_source(writer: Writer, occupants: &Occupants<'_>, j: usize, address: u32) 
 {
     occupants.stage(j).full
         && j <= writer.write as usize
-        && may_write(writer, occupants, j, address)
+        && writer.may_write(occupants.flight(j).reported(), j, address)
 }
 
 // Whether the result of the instruction in stage j is ready there.
@@ -32,11 +21,7 @@ pub(crate) fn is_ready(writer: Writer, occupants: &Occupants<'_>, j: usize) -> b
     requires { j < length occupants.now }
     ensures { result ≡ is_ready_in writer (at occupants.now j) j }
 {
-    if writer.known as usize > j {
-        return false;
-    }
-    let setting = usize::from(occupants.flight(j).setting(writer.result));
-    setting < j || (setting == j && occupants.stage(j).moves)
+    writer.is_ready(occupants.flight(j).reported(), j, occupants.stage(j).moves)
 }
 
 // The nearest stage, from one on, that may write the target of a writer at an address.
@@ -86,7 +71,7 @@ fn had_of(writer: Writer, occupants: &Occupants<'_>, j: usize) -> Had
     if writer.known as usize > j {
         return Had::Known(writer.known);
     }
-    let setting = occupants.flight(j).setting(writer.result);
+    let setting = occupants.flight(j).reported().setting(writer.result);
     if usize::from(setting) == j {
         Had::Moved
     } else {
@@ -169,10 +154,10 @@ fn first(sites: &Sites, occupants: &Occupants<'_>, k: usize) -> Option<Wait>
     requires below { k < sites.now.stages }
     ensures { result ≡ first_wait sites.now occupants.now k 0 sites.now.reads }
 {
-    let flight = occupants.flight(k);
+    let reported = occupants.flight(k).reported();
     let reads = sites.reads();
     for i in 0..reads.len() {
-        let wait = wait_of(sites, occupants, k, i, reads[i], flight.read(i));
+        let wait = wait_of(sites, occupants, k, i, reads[i], reported.read(i));
         if wait.is_some() {
             return wait;
         }

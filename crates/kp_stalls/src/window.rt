@@ -3,16 +3,16 @@ ghost use Rattle.std.specs.Prelude.{◌≡◌, ℕ, ◌+◌, ◌<◌, ◌≤◌,
 ghost use Rattle.kp_stage.specs.Counts.{summary_of};
 ghost use Rattle.kp_stage.specs.Start.{AreSamples, IsStartOf, start_of};
 ghost use Rattle.kp_machine.specs.Machine.{values_in};
-ghost use Rattle.kp_stalls.specs.Sites.{sited};
+ghost use Rattle.kp_sites.specs.Sites.{sited};
 ghost use Rattle.kp_seq.specs.Running.{after_one, state};
 ghost use Rattle.kp_stalls.specs.Occupants.{report_of, nothing};
 ghost use Rattle.kp_stalls.specs.Windows.{Follows, HasRoom, IsKept};
 
 use crate::flight::Flight;
-use crate::sites::Sites;
 use kp_base::NoMemory;
 use kp_bits::Bits;
 use kp_seq::SeqMachine;
+use kp_sites::Sites;
 use kp_stage::{Design, Start};
 use std::alloc::Global;
 use std::marker::Model;

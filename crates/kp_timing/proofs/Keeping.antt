@@ -1,10 +1,10 @@
 -- The invariant of a timeline, cycle by cycle.
 use Rattle.std.proofs.Common.{◌≡◌, ◌∙◌, ℕ, zero, suc, ◌+◌, ◌-◌, ◌<◌, ◌≤◌, List, [], ◌∷◌, Option, Some, None, Bool, true, false, cond, not, ◌&&◌, length, get_or, set, replicate, ◌^◌, refl, ap, sym, subst, arith, inr}
-use Rattle.std.proofs.lemmas.{Bool.and_parts, Bool.leb-true, List.length-map, List.length-set, List.get_or-set_same, List.get_or-set_other}
+use Rattle.std.proofs.lemmas.{Bool.and_parts, Bool.and_right, Bool.leb-true, List.length-set, List.get_or-set_same, List.get_or-set_other}
 use Rattle.std.proofs.lemmas.List.Sums.{sum_by-cons}
 use Rattle.std.specs.Prelude.{is_some, unwrap_or, sum_by, nat_le}
 use Rattle.kp_base.specs.Refusal.{e_rule}
-use Rattle.kp_stage.specs.{Facts.facts_of, Stages.broken_of, Counts.summary_of, Counts.samples_in, Counts.results_in, declared.start.Start.Start}
+use Rattle.kp_stage.specs.{Facts.facts_of, Stages.broken_of, Counts.summary_of, Counts.samples_in, declared.start.Start.Start}
 use Rattle.kp_stage.proofs.Unbroken.{answer_none}
 use Rattle.kp_machine.proofs.{Rules.rules_kept, Rules.head_kept, Cases.by_test, Stages.stages_inside}
 use Rattle.kp_ast.specs.declared.tree.{Decl.Decl, Job.Job}
@@ -13,14 +13,15 @@ use Rattle.kp_pipeline.specs.{Sequential.seq, Machine.Machine}
 use Rattle.kp_pipeline.specs.{Timeline.no_samples, Timeline.waits, Timeline.moves_on, Timeline.next_number, Timeline.next_hold, Timeline.start_hold, Rows.bits}
 use Rattle.kp_machine.specs.{Slots.samples_of, Machine.machine_of, Machine.state_of, Machine.values_in}
 use Rattle.kp_seq.specs.Running.{Running, state, after_one}
-use Rattle.kp_seq.specs.Recorded.{Recorded, results_of, setting_recorded, record_of}
-use Rattle.kp_seq.proofs.Recording.{all_recorded}
+use Rattle.kp_seq.specs.Recorded.{Recorded, record_of}
 use Rattle.kp_base.specs.declared.row.Row as masks
 use Rattle.kp_sched.specs.Rows.{bit_of, row_seen}
-use Rattle.kp_timing.specs.{Timed.IsPlain, Timed.stalled_by, inner.Sites.Sited, inner.Sites.AreSites, declared.deciding.Found.Found}
-use Rattle.kp_timing.specs.inner.Deciding.{Held, nothing_recorded, record_in, moves_by, taken_down, found_down, no_stage_found}
-use Rattle.kp_timing.specs.inner.Kept.{HasRoom, IsKept, Advances}
-use Rattle.kp_timing.proofs.Decisions.{AllFound, and_no, found, moves_is}
+use Rattle.kp_sites.specs.{Sites.Sited, Reports.HasRoom, Reports.nothing_recorded}
+use Rattle.kp_sites.proofs.Sizes.{record_room}
+use Rattle.kp_timing.specs.{Timed.IsPlain, Timed.stalled_by, declared.deciding.Found.Found}
+use Rattle.kp_timing.specs.inner.Deciding.{Held, record_in, moves_by, taken_down, found_down, no_stage_found}
+use Rattle.kp_timing.specs.inner.Kept.{AreSites, IsKept, Advances}
+use Rattle.kp_timing.proofs.Decisions.{AllFound, found, moves_is, nothing}
 use Rattle.kp_timing.proofs.Moving.{taken_counts, hold_first, hold_taken, record_up, record_kept, all_came_from}
 use Rattle.kp_pipeline.proofs.Lists.{bits-same}
 
@@ -28,57 +29,14 @@ use Rattle.kp_pipeline.proofs.Lists.{bits-same}
 sample_none : (ds : List Decl) → sum_by samples_in ds ≡ 0 → samples_of ds ≡ []
 sample_none [] e = refl
 sample_none (decls.Sample n width stage ∷ ds) e = let p = sum_by-cons samples_in (decls.Sample n width stage) ds in absurd (omega (arith, p, e))
-sample_none (decls.Reg n width start ∷ ds) e = let p = sum_by-cons samples_in (decls.Reg n width start) ds in sample_none ds (omega (arith, p, e))
-sample_none (decls.File n width address ∷ ds) e = let p = sum_by-cons samples_in (decls.File n width address) ds in sample_none ds (omega (arith, p, e))
-sample_none (decls.Pipe n width ∷ ds) e = let p = sum_by-cons samples_in (decls.Pipe n width) ds in sample_none ds (omega (arith, p, e))
-sample_none (decls.Hint n width start ∷ ds) e = let p = sum_by-cons samples_in (decls.Hint n width start) ds in sample_none ds (omega (arith, p, e))
-sample_none (decls.Target r ∷ ds) e = let p = sum_by-cons samples_in (decls.Target r) ds in sample_none ds (omega (arith, p, e))
-sample_none (decls.Func f ∷ ds) e = let p = sum_by-cons samples_in (decls.Func f) ds in sample_none ds (omega (arith, p, e))
+sample_none (d ∷ ds) e = let p = sum_by-cons samples_in d ds in sample_none ds (omega (arith, p, e))
 
 pub no_samples_declared : (job : Job) → (summary_of job).samples ≡ 0 → samples_of job.decls ≡ []
 unfolding summary_of
 no_samples_declared job e = sample_none job.decls e
 
-results_count : (ds : List Decl) → length (results_of ds) ≡ sum_by results_in ds
-results_count [] = refl
-results_count (decls.Target r ∷ ds) = let p = sum_by-cons results_in (decls.Target r) ds in let q = results_count ds in omega (arith, p, q)
-results_count (decls.Sample n width stage ∷ ds) = let p = sum_by-cons results_in (decls.Sample n width stage) ds in let q = results_count ds in omega (arith, p, q)
-results_count (decls.Reg n width start ∷ ds) = let p = sum_by-cons results_in (decls.Reg n width start) ds in let q = results_count ds in omega (arith, p, q)
-results_count (decls.File n width address ∷ ds) = let p = sum_by-cons results_in (decls.File n width address) ds in let q = results_count ds in omega (arith, p, q)
-results_count (decls.Pipe n width ∷ ds) = let p = sum_by-cons results_in (decls.Pipe n width) ds in let q = results_count ds in omega (arith, p, q)
-results_count (decls.Hint n width start ∷ ds) = let p = sum_by-cons results_in (decls.Hint n width start) ds in let q = results_count ds in omega (arith, p, q)
-results_count (decls.Func f ∷ ds) = let p = sum_by-cons results_in (decls.Func f) ds in let q = results_count ds in omega (arith, p, q)
-
--- what is reported about an instruction has its size
-pub record_room : (job : Job) (s : ℕ → ℕ → ℕ) (q : ℕ → ℕ) → length job.blocks ≡ job.stages.value → HasRoom job (record_of job s q)
-unfolding record_of summary_of
-record_room job s q e = record {
-  reads = all_recorded job s q e;
-  writes = length-map (results_of job.decls) _ ∙ results_count job.decls;
-  settings = length-map (results_of job.decls) (setting_recorded job s q) ∙ results_count job.decls;
-}
-
--- so what was reported before can be replaced by a new report
-pub record FitsIn (job : Job) (recorded last : Recorded) : Type 0 where
-  pub reads : length recorded.reads ≡ length last.reads
-  pub writes : length recorded.writes ≡ length last.writes
-  pub settings : length recorded.settings ≡ length last.settings
-  pub few_reads : length recorded.reads < 2 ^ 32
-  pub few_writes : length recorded.writes < 2 ^ 32
-  pub few_settings : length recorded.settings < 2 ^ 32
-
-pub record_fits : (job : Job) (s : ℕ → ℕ → ℕ) (recorded last : Recorded) → length job.blocks ≡ job.stages.value → (summary_of job).reads < 2 ^ 32 → (summary_of job).results < 2 ^ 32
-    → HasRoom job recorded → last ≡ record_of job s (λ x. 0) → FitsIn job recorded last
-record_fits job s recorded last count reads results room e =
-    let there = record_room job s (λ x. 0) count in
-    record {
-      reads = room.reads ∙ sym (ap (λ (x : Recorded). length x.reads) e ∙ there.reads);
-      writes = room.writes ∙ sym (ap (λ (x : Recorded). length x.writes) e ∙ there.writes);
-      settings = room.settings ∙ sym (ap (λ (x : Recorded). length x.settings) e ∙ there.settings);
-      few_reads = subst (λ n. n < 2 ^ 32) (sym room.reads) reads;
-      few_writes = subst (λ n. n < 2 ^ 32) (sym room.writes) results;
-      few_settings = subst (λ n. n < 2 ^ 32) (sym room.settings) results;
-    }
+pub stages_are : {job : Job} {s : Sited} → AreSites job s → s.stages ≡ job.stages.value
+stages_are sites = ap (λ (s : Sited). s.stages) sites.is
 
 pub rooms_taken : (job : Job) (b : List Bool) (d : ℕ) (h : Held) → d < length h.recorded → ((k : ℕ) → k < length h.recorded → HasRoom job (record_in h k))
     → (k : ℕ) → k < length h.recorded → HasRoom job (record_in (taken_down b d h) k)
@@ -87,7 +45,7 @@ rooms_taken job b d h l rooms k n = let from = all_came_from b d h k l n in subs
 values_none : (x : ℕ) → values_in [] x ≡ 0
 values_none x = refl
 
-module _ (job : Job) (start : Start) (cycles : ℕ) (m : Running) (sited : Sited) (h : Held) (ext : ℕ) (k : IsKept job start cycles m sited h) where
+module _ (job : Job) (start : Start) (cycles : ℕ) (m : Running) (s : Sited) (h : Held) (ext : ℕ) (k : IsKept job start cycles m s h) where
   abbrev machine : Machine
   machine = machine_of job
 
@@ -101,16 +59,18 @@ module _ (job : Job) (start : Start) (cycles : ℕ) (m : Running) (sited : Sited
   newest = unwrap_or (holds 0) 0
 
   abbrev pub f : Found
-  f = found_down sited h ext sited.stages no_stage_found
+  f = found_down s h ext s.stages no_stage_found
 
   count : length job.blocks ≡ job.stages.value
   count = stages_inside job k.sites.rules
 
-  all : AllFound job k.sites.names sited k.sites begin h ext k.recorded 0 f
-  all = found job k.sites.names sited k.sites begin h ext k.recorded count k.plain.guesses k.few
+  all : AllFound job k.sites.names begin h ext k.recorded 0 f
+  all =
+      subst (λ (x : Sited). AllFound job k.sites.names begin h ext k.recorded 0 (found_down x h ext x.stages no_stage_found)) (sym k.sites.is)
+      (found job k.sites.names begin h ext k.recorded count k.few)
 
   pub moves_same : (j : ℕ) → j < job.stages.value → moves_by h f.blocked j ≡ moves_on machine begin holds (stalled_by ext) j
-  moves_same j l = moves_is job k.sites.names sited k.sites begin h ext k.recorded count k.plain.guesses k.few f j all l
+  moves_same j l = moves_is job k.sites.names begin h ext k.recorded count k.few f j all l
 
   pub waits_same : (j : ℕ) → j < job.stages.value → get_or f.waits j false ≡ waits machine begin holds (stalled_by ext) j
   waits_same j l = all.waits j (omega arith) l
@@ -144,7 +104,7 @@ module _ (job : Job) (start : Start) (cycles : ℕ) (m : Running) (sited : Sited
 
   stay_full : (j : ℕ) (c : Bool) (i : ℕ) → get_or f.blocked (j + 1) false ≡ c → cond c (holds (j + 1)) None ≡ Some i
       → (holds (j + 1) ≡ Some i) × (moves_by h f.blocked (j + 1) ≡ false)
-  stay_full j true i e is = (is, ap (λ b. is_some (holds (j + 1)) && not b) e ∙ and_no (is_some (holds (j + 1))))
+  stay_full j true i e is = (is, ap (λ b. is_some (holds (j + 1)) && not b) e ∙ and_right (is_some (holds (j + 1))) false refl)
   stay_full j false i e is = cc
 
   record_later : (j i : ℕ) → j + 1 < job.stages.value → get_or T.hold (j + 1) None ≡ Some i → RecordedAt T (j + 1) i
@@ -252,12 +212,12 @@ module _ (job : Job) (start : Start) (cycles : ℕ) (m : Running) (sited : Sited
     unfolding seq
     stepped e = e ∙ ap (λ x. after_one x (state m) []) k.job_is ∙ ap (λ x. after_one job x []) k.state_is
 
-    pub kept_next : IsKept job start (cycles + 1) m2 sited h2
+    pub kept_next : IsKept job start (cycles + 1) m2 s h2
     kept_next = by_test (moves_by h f.blocked 0)
         (λ going. kept_with (suc newest) (first_moved going) (stepped (ad.moved going).state_is) (let b = k.bound in omega arith))
         (λ still. kept_with newest (first_stayed still) ((ad.stayed still).0 ∙ k.state_is) (let b = k.bound in omega arith))
       where
-        kept_with : (i : ℕ) → get_or h2.hold 0 None ≡ Some i → state m2 ≡ seq machine begin no_samples (suc i) → i ≤ cycles + 1 → IsKept job start (cycles + 1) m2 sited h2
+        kept_with : (i : ℕ) → get_or h2.hold 0 None ≡ Some i → state m2 ≡ seq machine begin no_samples (suc i) → i ≤ cycles + 1 → IsKept job start (cycles + 1) m2 s h2
         kept_with i e st bound = record {
           plain = k.plain;
           sites = k.sites;
@@ -283,14 +243,6 @@ row_shown n row f u hf hu hb =
     ∙ ap (λ x. record { full = bits f n 0; ue = x; back = row.back }) (bits-same (bit_of row.ue) u n 0 (λ j l m. hu j (omega arith)))
     ∙ ap (λ x. record { full = bits f n 0; ue = bits u n 0; back = x }) hb
 
-abbrev empty : Option ℕ
-empty = None
-
-empty_later : (n j : ℕ) → get_or (replicate n empty) j empty ≡ empty
-empty_later zero j = refl
-empty_later (suc n) zero = refl
-empty_later (suc n) (suc j) = empty_later n j
-
 pub few_stages : (job : Job) → broken_of job ≡ None → (2 ≤ job.stages.value) × (job.stages.value ≤ 12)
 few_stages job kept =
     let n = job.stages.value in
@@ -304,13 +256,13 @@ first_hold = set (replicate 12 None) 0 (Some 0)
 
 pub opened_hold : (k : ℕ) → get_or first_hold k None ≡ start_hold k
 opened_hold zero = refl
-opened_hold (suc k) = empty_later 11 k
+opened_hold (suc k) = nothing None 11 k
 
 record_only_first : (job : Job) (s : ℕ → ℕ → ℕ) (recorded : List Recorded) → get_or recorded 0 nothing_recorded ≡ record_of job s (λ x. 0) → (k i : ℕ) → get_or first_hold k None ≡ Some i
     → get_or recorded k nothing_recorded ≡ record_of job (seq (machine_of job) s no_samples i) (λ x. 0)
 unfolding seq
 record_only_first job s recorded e zero i is = let z : 0 ≡ i = cc in e ∙ ap (λ n. record_of job (seq (machine_of job) s no_samples n) (λ x. 0)) z
-record_only_first job s recorded e (suc k) i is = let z : None ≡ Some i = sym (empty_later 11 k) ∙ is in cc
+record_only_first job s recorded e (suc k) i is = let z : None ≡ Some i = sym (nothing None 11 k) ∙ is in cc
 
 pub kept_first : (job : Job) (start : Start) (m : Running) (sited : Sited) (recorded : List Recorded) → IsPlain job → AreSites job sited → (summary_of job).reads < 2 ^ 32 → (summary_of job).results < 2 ^ 32
     → length recorded ≡ job.stages.value → ((k : ℕ) → k < job.stages.value → HasRoom job (get_or recorded k nothing_recorded)) → m.job ≡ job → state m ≡ after_one job (state_of job start) []

@@ -1,7 +1,4 @@
 pub mod Bits
-pub mod Asks
-pub mod Results
-pub mod Writers
 pub mod Decisions
 pub mod Moving
 pub mod Runs

@@ -1,8 +1,9 @@
 -- How the instructions move on: the instructions in the stages, and what is reported about them.
 use Rattle.std.proofs.Common.{◌≡◌, ◌≢◌, ◌∙◌, ℕ, zero, suc, ◌+◌, ◌<◌, ◌≤◌, List, [], ◌∷◌, None, Bool, true, false, cond, not, ◌&&◌, length, get_or, set, refl, ap, sym, subst, arith, ⊎_elim, ◌⊎◌, inl, inr}
-use Rattle.std.proofs.lemmas.{Bool.cases_lt, List.length-set, List.get_or-set_same, List.get_or-set_other, List.Edits.swap_is}
+use Rattle.std.proofs.lemmas.{Bool.cases_eq, Bool.cases_lt, List.length-set, List.get_or-set_same, List.get_or-set_other, List.Edits.swap_is}
 use Rattle.std.specs.{Prelude.is_some, List.swap}
-use Rattle.kp_timing.specs.inner.Deciding.{Held, nothing_recorded, record_in, moves_by, taken_by, taken_down}
+use Rattle.kp_sites.specs.Reports.{nothing_recorded}
+use Rattle.kp_timing.specs.inner.Deciding.{Held, record_in, moves_by, taken_by, taken_down}
 
 swap_count : {X : Type 0} (xs : List X) (i j : ℕ) → length (swap xs i j) ≡ length xs
 swap_count [] i j = refl
@@ -165,19 +166,13 @@ came_from b h d j l n = by_move (moves_by h b d) (get_or b (d + 1) false)
   where
     by_move : (c e : Bool) → (i : ℕ) × (i < length h.recorded) × (record_in (step c e h d) j ≡ record_in h i)
     by_move true e = ⊎_elim
-        (λ (lt : j < d). (j, n, record_other true e h d j l (λ q. omega arith) (λ q. omega arith)))
-        (λ (ge : d ≤ j). ⊎_elim
-        (λ (gt : d < j). ⊎_elim
-        (λ (more : d + 1 < j). (j, n, record_other true e h d j l (λ q. omega arith) (λ q. omega arith)))
-        (λ (le : j ≤ d + 1).
-        let is : d + 1 ≡ j = omega arith in
-        (d, omega arith, subst (λ x. record_in (step true e h d) x ≡ record_in h d) is (record_moved true e h d l refl)))
-        (cases_lt (d + 1) j))
-        (λ (le : j ≤ d).
-        let is : d ≡ j = omega arith in
-        (d + 1, l, subst (λ x. record_in (step true e h d) x ≡ record_in h (d + 1)) is (swap_from h.recorded d (d + 1) nothing_recorded (omega arith) l (λ q. omega arith))))
-        (cases_lt d j))
-        (cases_lt j d)
+        (λ (is : j ≡ d).
+        (d + 1, l, subst (λ x. record_in (step true e h d) x ≡ record_in h (d + 1)) (sym is) (swap_from h.recorded d (d + 1) nothing_recorded (omega arith) l (λ q. omega arith))))
+        (λ p. ⊎_elim
+        (λ (is : j ≡ d + 1). (d, omega arith, subst (λ x. record_in (step true e h d) x ≡ record_in h d) (sym is) (record_moved true e h d l refl)))
+        (λ q. (j, n, record_other true e h d j l p q))
+        (cases_eq j (d + 1)))
+        (cases_eq j d)
     by_move false e = (j, n, record_stays false e h d j refl)
 
 -- and so after all of them

@@ -23,13 +23,8 @@ none_first (p ∷ ps) h = absurd (first_there (earlier None p) ps h)
 -- there are as many positions as samples and guesses
 samples_many : (ds : List Decl) → length (samples_at ds) ≡ sum_by samples_in ds
 samples_many [] = refl
-samples_many (decls.Reg n width start ∷ ds) = let e = sum_by-cons samples_in (decls.Reg n width start) ds in omega (arith, e, samples_many ds)
-samples_many (decls.File n width address ∷ ds) = let e = sum_by-cons samples_in (decls.File n width address) ds in omega (arith, e, samples_many ds)
-samples_many (decls.Pipe n width ∷ ds) = let e = sum_by-cons samples_in (decls.Pipe n width) ds in omega (arith, e, samples_many ds)
-samples_many (decls.Target r ∷ ds) = let e = sum_by-cons samples_in (decls.Target r) ds in omega (arith, e, samples_many ds)
-samples_many (decls.Hint n width start ∷ ds) = let e = sum_by-cons samples_in (decls.Hint n width start) ds in omega (arith, e, samples_many ds)
-samples_many (decls.Func f ∷ ds) = let e = sum_by-cons samples_in (decls.Func f) ds in omega (arith, e, samples_many ds)
 samples_many (decls.Sample n width stage ∷ ds) = let e = sum_by-cons samples_in (decls.Sample n width stage) ds in omega (arith, e, samples_many ds)
+samples_many (d ∷ ds) = let e = sum_by-cons samples_in d ds in omega (arith, e, samples_many ds)
 
 guess_one : (r : ReadStmt) (o : Option Expr) → length (guess_at r o) ≡ one_if_some o
 guess_one r None = refl
@@ -37,10 +32,7 @@ guess_one r (Some guess) = refl
 
 guessed_one : (s : StmtKind) → length (guessed_at s) ≡ guesses_of s
 guessed_one (stmts.Read r) = guess_one r r.guess
-guessed_one (stmts.Let n e) = refl
-guessed_one (stmts.Put n e) = refl
-guessed_one (stmts.Set n e when) = refl
-guessed_one (stmts.Aim n e) = refl
+guessed_one _ = refl
 
 guesses_in_many : (ss : List Stmt) → length (guesses_in ss) ≡ sum_by counts.guesses_in ss
 guesses_in_many [] = refl

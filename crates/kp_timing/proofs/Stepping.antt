@@ -1,26 +1,27 @@
 -- The steps of the loops over stages.
-use Rattle.std.proofs.Common.{◌≡◌, ◌∙◌, ℕ, suc, ◌+◌, ◌-◌, ◌<◌, ◌≤◌, List, Option, None, Bool, true, false, cond, leb, ◌&&◌, ◌||◌, drop, length, get_or, set, ap, sym, arith}
+use Rattle.std.proofs.Common.{◌≡◌, ◌∙◌, ℕ, suc, ◌+◌, ◌-◌, ◌<◌, ◌≤◌, List, Option, None, Bool, true, false, cond, leb, not, ◌&&◌, ◌||◌, drop, length, get_or, set, ap, sym, arith}
 use Rattle.std.proofs.lemmas.List.{drop_more}
 use Rattle.std.specs.List.{swap}
-use Rattle.kp_timing.specs.inner.Deciding.{Held, record_in, is_full, may_write_by, is_ready_by, met_from, is_unmet, some_unmet_from, found_at, found_down, moves_by, taken_by, taken_down}
-use Rattle.kp_timing.specs.{declared.sites.Site.Site, declared.sites.Writer.Writer, declared.deciding.Found.Found, inner.Sites.Sited}
+use Rattle.kp_timing.specs.inner.Deciding.{Held, record_in, is_full, met_from, is_unmet, some_unmet_from, found_at, found_down, moves_by, taken_by, taken_down}
+use Rattle.kp_sites.specs.{declared.sites.Site.Site, declared.sites.Writer.Writer, Sites.Sited, Reports.is_ready, Reports.may_write}
+use Rattle.kp_timing.specs.declared.deciding.Found.{Found}
 
 -- the stages above a read
-pub met_here : (h : Held) (b : List Bool) (w : Writer) (a n k : ℕ) → k < n → (is_full h k && (leb k w.write && may_write_by w (record_in h k) k a)) ≡ true
-    → met_from h b w a (n - k) k ≡ is_ready_by w (record_in h k) k (get_or b k false)
+pub met_here : (h : Held) (b : List Bool) (w : Writer) (a n k : ℕ) → k < n → (is_full h k && (leb k w.write && may_write w (record_in h k) k a)) ≡ true
+    → met_from h b w a (n - k) k ≡ is_ready w (record_in h k) k (not (get_or b k false))
 met_here h b w a n k l e =
     let one : n - k ≡ suc (n - (k + 1)) = omega arith in
     let next : suc k ≡ k + 1 = omega arith in
     ap (λ d. met_from h b w a d k) one
-    ∙ ap (λ c. cond c (is_ready_by w (record_in h k) k (get_or b k false)) (met_from h b w a (n - (k + 1)) (suc k))) e
+    ∙ ap (λ c. cond c (is_ready w (record_in h k) k (not (get_or b k false))) (met_from h b w a (n - (k + 1)) (suc k))) e
 
-pub met_above : (h : Held) (b : List Bool) (w : Writer) (a n k : ℕ) → k < n → (is_full h k && (leb k w.write && may_write_by w (record_in h k) k a)) ≡ false
+pub met_above : (h : Held) (b : List Bool) (w : Writer) (a n k : ℕ) → k < n → (is_full h k && (leb k w.write && may_write w (record_in h k) k a)) ≡ false
     → met_from h b w a (n - k) k ≡ met_from h b w a (n - (k + 1)) (k + 1)
 met_above h b w a n k l e =
     let one : n - k ≡ suc (n - (k + 1)) = omega arith in
     let next : suc k ≡ k + 1 = omega arith in
     ap (λ d. met_from h b w a d k) one
-    ∙ ap (λ c. cond c (is_ready_by w (record_in h k) k (get_or b k false)) (met_from h b w a (n - (k + 1)) (suc k))) e
+    ∙ ap (λ c. cond c (is_ready w (record_in h k) k (not (get_or b k false))) (met_from h b w a (n - (k + 1)) (suc k))) e
     ∙ ap (met_from h b w a (n - (k + 1))) next
 
 pub met_none : (h : Held) (b : List Bool) (w : Writer) (a n k : ℕ) → n ≤ k → met_from h b w a (n - k) k ≡ true

@@ -1,17 +1,17 @@
 //! Which stages wait for data, which are blocked, and how the instructions move on.
 ghost use Rattle.std.specs.Prelude.{◌≡◌, ◌-◌, ◌≤◌, ◌<◌, ◌&&◌, None, nat_le, length, get_or};
-ghost use Rattle.kp_timing.specs.inner.Deciding.{may_write_by, is_ready_by, met_from, is_met, is_unmet, some_unmet_from, waits_by, is_blocked_by, found_down, no_stage_found, moves_by, taken_down, taken_by, record_in, is_full};
+ghost use Rattle.kp_sites.specs.Reports.{may_write};
+ghost use Rattle.kp_timing.specs.inner.Deciding.{met_from, is_met, is_unmet, some_unmet_from, waits_by, is_blocked_by, found_down, no_stage_found, moves_by, taken_down, taken_by, record_in, is_full};
 
-use crate::flight::Flight;
 use crate::masks::is_set;
-use crate::sites::{Site, Sites, Writer};
+use kp_sites::{Reported, Site, Sites, Writer};
 use std::marker::Model;
 
 /// The instructions in the stages: their numbers, and what the sequential machine reported about each.
 #[derive(Drop)]
 pub(crate) struct Pipeline {
     pub hold: [Option<u64>; 12],
-    pub flights: Vec<Flight>,
+    pub flights: Vec<Reported>,
 }
 
 impl Model for Pipeline {
@@ -48,43 +48,11 @@ impl Pipeline {
     }
 
     // What was reported about the instruction in a stage.
-    fn recorded(&self, k: usize) -> &Flight
+    fn recorded(&self, k: usize) -> &Reported
         requires { k < length self.now.recorded }
         ensures { result.now ≡ record_in self.now k }
     {
         &self.flights[k]
-    }
-}
-
-// Whether stage k may write a target at an address, by what was reported about its instruction.
-fn may_write(writer: Writer, recorded: &Flight, k: usize, address: u32) -> bool
-    ensures { result ≡ may_write_by writer recorded.now k address }
-{
-    if writer.known as usize > k {
-        return true;
-    }
-    let result = writer.result;
-    result < recorded.writes.len() && recorded.writes[result] == Some(address)
-}
-
-// Whether the result of the instruction in stage k is ready there.
-fn is_ready(writer: Writer, recorded: &Flight, k: usize, is_blocked: bool) -> bool
-    ensures { result ≡ is_ready_by writer recorded.now k is_blocked }
-{
-    if writer.known as usize > k {
-        return false;
-    }
-    let setting = setting_of(recorded, writer.result);
-    setting < k || (setting == k && !is_blocked)
-}
-
-fn setting_of(recorded: &Flight, number: usize) -> usize
-    ensures { result ≡ get_or recorded.now.settings number 0 }
-{
-    if number < recorded.settings.len() {
-        usize::from(recorded.settings[number])
-    } else {
-        0
     }
 }
 
@@ -104,7 +72,7 @@ fn is_met_from(
 {
     for k in from..stages {
         if may_write_in(writer, held, k, address) {
-            return is_ready(writer, held.recorded(k), k, blocked[k]);
+            return writer.is_ready(held.recorded(k), k, !blocked[k]);
         }
     }
     true
@@ -113,9 +81,9 @@ fn is_met_from(
 fn may_write_in(writer: Writer, held: &Pipeline, k: usize, address: u32) -> bool
     requires hold { length held.now.hold ≡ 12 }
     requires recorded { k < length held.now.recorded }
-    ensures { result ≡ (is_full held.now k && (nat_le k writer.write && may_write_by writer (record_in held.now k) k address)) }
+    ensures { result ≡ (is_full held.now k && (nat_le k writer.write && may_write writer (record_in held.now k) k address)) }
 {
-    held.is_full(k) && k <= writer.write as usize && may_write(writer, held.recorded(k), k, address)
+    held.is_full(k) && k <= writer.write as usize && writer.may_write(held.recorded(k), k, address)
 }
 
 // Whether a read in stage k is not met.
@@ -136,7 +104,7 @@ fn is_unmet(
     let Some(address) = asked else {
         return false;
     };
-    if site.stage != k as u64 {
+    if site.stage != k || site.guessed {
         return false;
     }
     match sites.writer(site.target) {

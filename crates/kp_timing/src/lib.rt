@@ -9,11 +9,9 @@
 #![tactic(auto)]
 
 mod deciding;
-mod flight;
 pub mod laws;
 mod lines;
 mod masks;
-mod sites;
 mod timeline;
 mod timing;
 mod totals;

@@ -6,16 +6,16 @@ ghost use Rattle.kp_machine.specs.Slots.{samples_of};
 ghost use Rattle.kp_seq.specs.Running.{state, after_one};
 ghost use Rattle.kp_seq.specs.Recorded.{record_of};
 ghost use Rattle.kp_sched.specs.Rows.{bit_of};
+ghost use Rattle.kp_sites.specs.Reports.{HasRoom, nothing_recorded};
 ghost use Rattle.kp_timing.specs.Timed.{IsPlain, IsOpened, IsCycle, hold_of};
-ghost use Rattle.kp_timing.specs.inner.Kept.{HasRoom, Advances};
-ghost use Rattle.kp_timing.specs.inner.Deciding.{nothing_recorded, record_in, is_full, moves_by, fetched};
+ghost use Rattle.kp_timing.specs.inner.Kept.{Advances};
+ghost use Rattle.kp_timing.specs.inner.Deciding.{record_in, is_full, moves_by, fetched};
 
 use crate::deciding::{Found, Pipeline, find, move_on};
-use crate::flight::Flight;
 use crate::masks::mask_of;
-use crate::sites::Sites;
 use kp_base::{NoMemory, Row};
 use kp_seq::SeqMachine;
+use kp_sites::{Reported, Sites};
 use kp_stage::{Design, Start};
 use std::alloc::Global;
 use std::marker::Model;
@@ -72,6 +72,8 @@ impl<'a> Timeline<'a> {
         requires plain { IsPlain d.now.job }
         ensures { IfOk result (λ t. IsOpened d.now.job start.now t) }
     {
+        // The invariant of the type, for the proof only.
+        let _kept = d.job();
         let sites = Sites::of(alloc, d)?;
         let mut machine = SeqMachine::open(alloc, d, start)?;
         let summary = d.summary();
@@ -131,7 +133,12 @@ impl<'a> Timeline<'a> {
 }
 
 // Empty records for an instruction in each stage.
-fn flights(alloc: Global, stages: usize, reads: u32, results: u32) -> Result<Vec<Flight>, NoMemory>
+fn flights(
+    alloc: Global,
+    stages: usize,
+    reads: u32,
+    results: u32,
+) -> Result<Vec<Reported>, NoMemory>
     ensures few_reads { reads < 2 ^ 32 }
     ensures few_results { results < 2 ^ 32 }
     ensures count { IfOk result (λ fs. length fs.items ≡ stages) }
@@ -141,7 +148,7 @@ fn flights(alloc: Global, stages: usize, reads: u32, results: u32) -> Result<Vec
 {
     let mut flights = Vec::new(alloc);
     while flights.len() < stages {
-        let flight = Flight::new(alloc, reads as usize, results as usize)?;
+        let flight = Reported::new(alloc, reads as usize, results as usize)?;
         flights.push(flight)?;
     }
     Ok(flights)
@@ -212,7 +219,7 @@ fn fetch(machine: &mut SeqMachine, held: &mut Pipeline)
 }
 
 // The machine executes the next instruction, and what it reports is stored for stage 0.
-fn run_next(machine: &mut SeqMachine, flights: &mut [Flight])
+fn run_next(machine: &mut SeqMachine, flights: &mut [Reported])
     requires samples { samples_of machine.old.job.decls ≡ [] }
     requires flights { 1 ≤ length flights.old }
     requires room { HasRoom machine.old.job (get_or flights.old 0 nothing_recorded) }

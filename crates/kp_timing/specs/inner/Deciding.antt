@@ -3,15 +3,15 @@ use Rattle.std.specs.Prelude.{ℕ, zero, suc, ◌+◌, ◌-◌, List, [], ◌∷
 use Rattle.std.specs.List.{swap}
 use Rattle.kp_seq.specs.Recorded.{Recorded}
 use Rattle.kp_sched.specs.Rows.{bit_of}
-use Rattle.kp_timing.specs.{declared.deciding.Found.Found, declared.sites.Site.Site, declared.sites.Writer.Writer, inner.Sites.Sited}
+use Rattle.kp_sites.specs.{declared.sites.Site.Site, declared.sites.Writer.Writer, Sites.Sited}
+use Rattle.kp_sites.specs.Reports as reports
+use Rattle.kp_sites.specs.Reports.{is_ready, may_write, nothing_recorded, unmet_by}
+use Rattle.kp_timing.specs.declared.deciding.Found.{Found}
 
 -- the instructions in the stages: their numbers, and what was reported about each
 pub record Held : Type 0 where
   pub hold : List (Option ℕ)
   pub recorded : List Recorded
-
-abbrev pub nothing_recorded : Recorded
-nothing_recorded = record { reads = []; writes = []; settings = [] }
 
 abbrev pub is_full : Held → ℕ → Bool
 is_full h k = is_some (get_or h.hold k None)
@@ -19,26 +19,12 @@ is_full h k = is_some (get_or h.hold k None)
 abbrev pub record_in : Held → ℕ → Recorded
 record_in h k = get_or h.recorded k nothing_recorded
 
--- an instruction that wrote at this address
-abbrev pub wrote_at : Option ℕ → ℕ → Bool
-wrote_at None a = false
-wrote_at (Some b) a = b == a
-
--- stage k may write the target at an address
-abbrev pub may_write_by : Writer → Recorded → ℕ → ℕ → Bool
-may_write_by w recorded k a = not (nat_le w.known k) || wrote_at (get_or recorded.writes w.result None) a
-
--- its result is ready there
-abbrev pub is_ready_by : Writer → Recorded → ℕ → Bool → Bool
-is_ready_by w recorded k blocked =
-    nat_le w.known k && (nat_lt (get_or recorded.settings w.result 0) k || (get_or recorded.settings w.result 0 == k && not blocked))
-
 -- d stages from k on: the nearest that may write is ready
 abbrev pub met_from : Held → List Bool → Writer → ℕ → ℕ → ℕ → Bool
 met_from h blocked w a zero k = true
 met_from h blocked w a (suc d) k =
-    if is_full h k && (nat_le k w.write && may_write_by w (record_in h k) k a)
-    then is_ready_by w (record_in h k) k (get_or blocked k false)
+    if is_full h k && (nat_le k w.write && may_write w (record_in h k) k a)
+    then is_ready w (record_in h k) k (not (get_or blocked k false))
     else met_from h blocked w a d (suc k)
 
 -- a read in stage k of a target at an address
@@ -47,14 +33,11 @@ is_met s h blocked k None a = true
 is_met s h blocked k (Some w) a = met_from h blocked w a (s.stages - suc k) (suc k)
 
 abbrev pub is_unmet : Sited → Held → List Bool → ℕ → Site → Option ℕ → Bool
-is_unmet s h blocked k site None = false
-is_unmet s h blocked k site (Some a) = site.stage == k && not (is_met s h blocked k (get_or s.writers site.target None) a)
+is_unmet s h blocked k site asked = unmet_by (λ t a. is_met s h blocked k (get_or s.writers t None) a) k site asked
 
 -- some read of stage k, from the one of number i on, isn't met
 abbrev pub some_unmet_from : Sited → Held → List Bool → ℕ → ℕ → List Site → Bool
-some_unmet_from s h blocked k i [] = false
-some_unmet_from s h blocked k i (site ∷ sites) =
-    is_unmet s h blocked k site (get_or (record_in h k).reads i None) || some_unmet_from s h blocked k (i + 1) sites
+some_unmet_from s h blocked k i sites = reports.some_unmet_from (is_unmet s h blocked k) (record_in h k).reads i sites
 
 abbrev pub waits_by : Sited → Held → List Bool → ℕ → Bool
 waits_by s h blocked k = is_full h k && some_unmet_from s h blocked k 0 s.reads

@@ -1,18 +1,21 @@
 -- The invariant of a timeline between its cycles.
 use Rattle.std.specs.Prelude.{◌≡◌, ℕ, suc, ◌-◌, ◌^◌, ◌≤◌, ◌<◌, List, [], Bool, true, false, Some, None, length, get_or, unwrap_or}
 use Rattle.kp_ast.specs.declared.tree.Job.{Job}
-use Rattle.kp_stage.specs.{declared.start.Start.Start, Counts.summary_of}
+use Rattle.kp_base.specs.First.{first}
+use Rattle.kp_width.specs.Widths.{widths_of}
+use Rattle.kp_stage.specs.{declared.start.Start.Start, Counts.summary_of, Stages.broken_of}
 use Rattle.kp_pipeline.specs.{Sequential.seq, Timeline.no_samples}
 use Rattle.kp_machine.specs.Machine.{machine_of, state_of}
 use Rattle.kp_seq.specs.{Running.Running, Running.state, Running.after_one, Recorded.Recorded, Recorded.record_of}
-use Rattle.kp_timing.specs.{Timed.IsPlain, inner.Sites.Sited, inner.Sites.AreSites}
+use Rattle.kp_sites.specs.{Sites.Sited, Sites.sited, Reports.HasRoom}
+use Rattle.kp_timing.specs.Timed.{IsPlain}
 use Rattle.kp_timing.specs.inner.Deciding.{Held, record_in, moves_by, taken_down, fetched}
 
--- a record of the size that the report about an instruction has
-pub record HasRoom (job : Job) (t : Recorded) : Type 0 where
-  pub reads : length t.reads ≡ (summary_of job).reads
-  pub writes : length t.writes ≡ (summary_of job).results
-  pub settings : length t.settings ≡ (summary_of job).results
+-- the job violates no rule of names, widths and stages, and these are its tables
+pub record AreSites (job : Job) (s : Sited) : Type 0 where
+  pub names : first (widths_of job).asked ≡ None
+  pub rules : broken_of job ≡ None
+  pub is : s ≡ sited job
 
 -- The machine has executed the instruction in stage 0 and those before it, and what it reported about each instruction in a stage is stored for that
 -- stage.

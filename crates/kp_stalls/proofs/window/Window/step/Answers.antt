@@ -1,8 +1,9 @@
-use Rattle.std.proofs.Common.{◌∙◌, ◌+◌, ◌%◌, List, length, length-set, set, ap, sym, subst, refl}
+use Rattle.std.proofs.Common.{◌+◌, ◌%◌, List, sym, subst, refl}
 use Rattle.kp_machine.specs.Machine.{values_in}
 use Rattle.kp_seq.specs.Running.{state}
 use Rattle.kp_stalls.specs.{Occupants.Report, Occupants.report_of, Windows.IsKept}
-use Rattle.kp_stalls.proofs.Windows.{follows_step, kept_next, written_back}
+use Rattle.kp_sites.proofs.Sizes.{set_back}
+use Rattle.kp_stalls.proofs.Windows.{follows_step, kept_next}
 use Rattle.kp_stalls.proofs.window.Window.step.Goals as goal
 
 pub invariant_of-self : goal.invariant_of-self
@@ -13,10 +14,7 @@ invariant_of-self c =
     let s = state t.machine in
     let q = values_in c.args.row.now in
     let run = c.run_next.ensures in
-    let whole =
-    written_back t.ring.len c.run_next.new.ring t.ring.items (set t.ring.items (t.next % 16) (report_of job s q))
-    (ap (λ (l : List Report). length l) run.ring ∙ length-set _ _ _ ∙ c.as_mut_slice.ensures.len)
-    (run.ring ∙ ap (λ (l : List Report). set l (t.next % 16) (report_of job s q)) c.as_mut_slice.ensures.value) in
+    let whole = set_back t.ring.len (t.next % 16) (report_of job s q) _ c.run_next.new.ring t.ring.items run.ring c.as_mut_slice.ensures.len c.as_mut_slice.ensures.value in
     subst (λ (ring : List Report). IsKept c.run_next.new.machine.job (record { machine = c.run_next.new.machine; sites = t.sites; next = t.next + 1; ring = ring })) (sym whole)
     (kept_next job (record { machine = t.machine; sites = t.sites; next = t.next; ring = t.ring.items }) c.run_next.new.machine (t.next + 1) (t.next % 16) s q k run.job)
 
@@ -28,8 +26,5 @@ returns-clause-follows c =
     let s = state t.machine in
     let q = values_in c.args.row.now in
     let run = c.run_next.ensures in
-    let whole =
-    written_back t.ring.len c.run_next.new.ring t.ring.items (set t.ring.items (t.next % 16) (report_of job s q))
-    (ap (λ (l : List Report). length l) run.ring ∙ length-set _ _ _ ∙ c.as_mut_slice.ensures.len)
-    (run.ring ∙ ap (λ (l : List Report). set l (t.next % 16) (report_of job s q)) c.as_mut_slice.ensures.value) in
+    let whole = set_back t.ring.len (t.next % 16) (report_of job s q) _ c.run_next.new.ring t.ring.items run.ring c.as_mut_slice.ensures.len c.as_mut_slice.ensures.value in
     follows_step (record { machine = t.machine; sites = t.sites; next = t.next; ring = t.ring.items }) c.args.self.now _ c.args.row.now c.self.view_is k.count refl run.state whole

@@ -3,27 +3,28 @@ use Rattle.kp_ast.specs.declared.tree.Job.{Job}
 use Rattle.kp_stage.specs.Counts.{summary_of}
 use Rattle.kp_machine.specs.Slots.{samples_of}
 use Rattle.kp_machine.proofs.Stages.{stages_inside}
-use Rattle.kp_timing.specs.{declared.deciding.Found.Found, Timed.Timed, Timed.IsCycle, inner.Kept.HasRoom, inner.Kept.Advances}
+use Rattle.kp_sites.specs.Reports.{HasRoom}
+use Rattle.kp_timing.specs.{declared.deciding.Found.Found, Timed.Timed, Timed.IsCycle, inner.Kept.Advances}
 use Rattle.kp_timing.specs.inner.Deciding.{record_in, moves_by}
-use Rattle.kp_timing.proofs.Keeping.{f, no_samples_declared, kept_next, hold_next, moves_same, waits_same, waits_past, row_shown}
+use Rattle.kp_timing.proofs.Keeping.{f, no_samples_declared, kept_next, hold_next, moves_same, waits_same, waits_past, row_shown, stages_are}
 use Rattle.kp_timing.proofs.timeline.Timeline.cycle.Goals as goal
 
 pub find-found-requires : goal.find-found-requires
 find-found-requires c =
     let k = c.self.invariant in
-    record { hold = k.holds; recorded = omega (arith, k.flights, k.sites.stages); few = omega (arith, k.few, k.sites.stages) }
+    record { hold = k.holds; recorded = omega (arith, k.flights, stages_are k.sites); few = omega (arith, k.few, stages_are k.sites) }
 
 pub row_of-row-requires : goal.row_of-row-requires
 row_of-row-requires c =
     let k = c.self.invariant in
-    record { hold = k.holds; few = omega (arith, k.few, k.sites.stages) }
+    record { hold = k.holds; few = omega (arith, k.few, stages_are k.sites) }
 
 pub advance-requires : goal.advance-requires
 advance-requires c =
     let t = c.self.inside in
     let k = c.self.invariant in
     let job = t.design.now.job in
-    let all = c.stages-stages.ensures ∙ k.sites.stages in
+    let all = c.stages-stages.ensures ∙ stages_are k.sites in
     record {
       samples = subst (λ (x : Job). samples_of x.decls ≡ []) (sym k.job_is) (no_samples_declared job k.plain.samples);
       hold = k.holds;
@@ -42,7 +43,7 @@ invariant_of-self c =
     let t = c.self.inside in
     let k = c.self.invariant in
     let job = t.design.now.job in
-    let all = c.stages-stages.ensures ∙ k.sites.stages in
+    let all = c.stages-stages.ensures ∙ stages_are k.sites in
     let ad = subst (λ n. Advances t.machine t.held (f job t.start.now t.cycles t.machine t.sites t.held c.args.ext k).blocked n c.advance.new.machine c.advance.new.held) all
     (subst (λ (x : Found). Advances t.machine t.held x.blocked c.stages-stages.result c.advance.new.machine c.advance.new.held) c.find-found.ensures c.advance.ensures) in
     kept_next job t.start.now t.cycles t.machine t.sites t.held c.args.ext k c.advance.new.machine c.advance.new.held ad
@@ -52,7 +53,7 @@ returns c =
     let t = c.self.inside in
     let k = c.self.invariant in
     let job = t.design.now.job in
-    let all = c.stages-stages.ensures ∙ k.sites.stages in
+    let all = c.stages-stages.ensures ∙ stages_are k.sites in
     let ad = subst (λ n. Advances t.machine t.held (f job t.start.now t.cycles t.machine t.sites t.held c.args.ext k).blocked n c.advance.new.machine c.advance.new.held) all
     (subst (λ (x : Found). Advances t.machine t.held x.blocked c.stages-stages.result c.advance.new.machine c.advance.new.held) c.find-found.ensures c.advance.ensures) in
     let after : Timed = record { job = job; start = t.start.now; cycles = t.cycles + 1; hold = c.advance.new.held.hold; waits = c.mask_of-self-inside.result } in
