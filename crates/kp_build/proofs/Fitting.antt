@@ -40,16 +40,11 @@ second true b h k = cc
 second false b h k = k
 
 binary_ok : (op : BinOp) (a b : ℕ) → (is_shift op ≡ false → a ≡ b) → BinaryOk op (width_after op a) a b
-binary_ok BinOp.And a b h = (refl, sym (h refl))
-binary_ok BinOp.Or a b h = (refl, sym (h refl))
-binary_ok BinOp.Xor a b h = (refl, sym (h refl))
-binary_ok BinOp.Add a b h = (refl, sym (h refl))
-binary_ok BinOp.Sub a b h = (refl, sym (h refl))
-binary_ok BinOp.Mul a b h = (refl, sym (h refl))
 binary_ok BinOp.Eq a b h = (refl, h refl)
 binary_ok BinOp.Lt a b h = (refl, h refl)
 binary_ok BinOp.Shl a b h = refl
 binary_ok BinOp.Shr a b h = refl
+binary_ok _ a b h = (refl, sym (h refl))
 
 -- the word of a node with a width
 pub is_word : (c : Cells) (ns : List Node) (i : ℕ) → i < length ns → 1 ≤ wide ns i → wide ns i ≤ 64 → IsWord (word_at c ns i)

@@ -1,16 +1,16 @@
 -- Each form of expression: its parts are sound if it is, and its value is that of its operation at the nodes of its parts.
-use Rattle.std.proofs.Common.{◌≡◌, ◌∙◌, ℕ, List, Option, Some, ap, sym, true}
+use Rattle.std.proofs.Common.{◌≡◌, ◌∙◌, Option, Some, ap, sym, true}
 use Rattle.std.specs.{Prelude.is_some, Option.option_map, Option.option_and_then}
 use Rattle.kp_bits.specs.Word.{Word, not_of}
-use Rattle.kp_bits.specs.Checked.{checked_binary, checked_mux, checked_joined, checked_slice, checked_zext, checked_sext}
+use Rattle.kp_bits.specs.Checked.{checked_binary, checked_mux}
 use Rattle.kp_bits.specs.declared.operator.BinOp.{BinOp}
-use Rattle.kp_ast.specs.{declared.tree.Num.Num, declared.tree.Expr.Expr, Checked.checked_calls_of}
+use Rattle.kp_ast.specs.declared.tree.Expr.{Expr}
 use Rattle.kp_ast.specs.declared.tree.ExprKind.TheViews as kind
 use Rattle.kp_net.specs.{declared.node.NodeId.NodeId, Nodes.Cells, Nodes.word_at, Growth.Held}
 use Rattle.kp_build.specs.Names.{Scope, known_at, IsSound, Gives}
-use Rattle.kp_build.specs.inner.Showing.{IsThere, AllShow, words_at, value_in, values_in}
-use Rattle.kp_ast.proofs.Parts.{value_Not, value_Binary, value_Mux, value_Concat, value_Slice, value_Zext, value_Sext, value_Call}
-use Rattle.kp_build.proofs.Giving.{first_there, second_there, third_there, mapped_there, sound_by, one_part, two_parts, three_parts, all_parts, all_sound}
+use Rattle.kp_build.specs.inner.Showing.{value_in}
+use Rattle.kp_ast.proofs.Parts.{value_Not, value_Binary, value_Mux}
+use Rattle.kp_build.proofs.Giving.{first_there, second_there, third_there, mapped_there, sound_by, one_part, two_parts, three_parts}
 
 module _ (p : Held) (env : Scope) (e : Expr) where
   -- ~a
@@ -65,58 +65,3 @@ module _ (p : Held) (env : Scope) (e : Expr) where
     pub same_Mux : (q : Held) (l n m : NodeId) → Gives p env s q l → Gives p env x q n → Gives p env y q m
         → (c : Cells) → value_in p env e c ≡ checked_mux (word_at c q.nodes l.0) (word_at c q.nodes n.0) (word_at c q.nodes m.0)
     same_Mux q l n m = three_parts p env e by_three s x y q l n m value_mux
-
-  -- a[hi:lo]
-  module _ (a x : Expr) (hi lo : ℕ) (is : e.kind ≡ kind.Slice a hi lo) (h : x ≡ a) where
-    value_slice : (c : Cells) → value_in p env e c ≡ option_and_then (λ w. checked_slice hi lo w) (value_in p env x c)
-    value_slice c = value_Slice e (known_at c p env) a x hi lo is h
-
-    pub sound_Slice : IsSound p env e → IsSound p env x
-    sound_Slice = sound_by p env e x (λ c s. first_there (λ w. checked_slice hi lo w) (value_in p env x c) (sym (ap is_some (value_slice c)) ∙ s))
-
-    pub same_Slice : (q : Held) (n : NodeId) → Gives p env x q n → (c : Cells) → value_in p env e c ≡ checked_slice hi lo (word_at c q.nodes n.0)
-    same_Slice q n = one_part p env e (λ c o. option_and_then (λ w. checked_slice hi lo w) o) x q n value_slice
-
-  -- zext(a, width)
-  module _ (a x : Expr) (n : Num) (is : e.kind ≡ kind.Zext a n) (h : x ≡ a) where
-    value_zext : (c : Cells) → value_in p env e c ≡ option_and_then (λ w. checked_zext n.value w) (value_in p env x c)
-    value_zext c = value_Zext e (known_at c p env) a x n is h
-
-    pub sound_Zext : IsSound p env e → IsSound p env x
-    sound_Zext = sound_by p env e x (λ c s. first_there (λ w. checked_zext n.value w) (value_in p env x c) (sym (ap is_some (value_zext c)) ∙ s))
-
-    pub same_Zext : (q : Held) (m : NodeId) → Gives p env x q m → (c : Cells) → value_in p env e c ≡ checked_zext n.value (word_at c q.nodes m.0)
-    same_Zext q m = one_part p env e (λ c o. option_and_then (λ w. checked_zext n.value w) o) x q m value_zext
-
-  -- sext(a, width)
-  module _ (a x : Expr) (n : Num) (is : e.kind ≡ kind.Sext a n) (h : x ≡ a) where
-    value_sext : (c : Cells) → value_in p env e c ≡ option_and_then (λ w. checked_sext n.value w) (value_in p env x c)
-    value_sext c = value_Sext e (known_at c p env) a x n is h
-
-    pub sound_Sext : IsSound p env e → IsSound p env x
-    sound_Sext = sound_by p env e x (λ c s. first_there (λ w. checked_sext n.value w) (value_in p env x c) (sym (ap is_some (value_sext c)) ∙ s))
-
-    pub same_Sext : (q : Held) (m : NodeId) → Gives p env x q m → (c : Cells) → value_in p env e c ≡ checked_sext n.value (word_at c q.nodes m.0)
-    same_Sext q m = one_part p env e (λ c o. option_and_then (λ w. checked_sext n.value w) o) x q m value_sext
-
-  -- {a, b}
-  module _ (es xs : List Expr) (is : e.kind ≡ kind.Concat es) (h : xs ≡ es) where
-    value_concat : (c : Cells) → value_in p env e c ≡ option_and_then checked_joined (values_in p env xs c)
-    value_concat c = value_Concat e (known_at c p env) es xs is h
-
-    pub sound_Concat : IsSound p env e → IsThere (values_in p env xs)
-    sound_Concat = all_sound p env e checked_joined xs value_concat
-
-    pub same_Concat : (q : Held) (ns : List NodeId) → AllShow q ns (values_in p env xs) → (c : Cells) → value_in p env e c ≡ checked_joined (words_at c q ns)
-    same_Concat q ns = all_parts p env e (option_and_then checked_joined) xs q ns value_concat
-
-  -- f(a, b)
-  module _ (name : List ℕ) (es xs : List Expr) (is : e.kind ≡ kind.Call name es) (h : xs ≡ es) where
-    value_call : (c : Cells) → value_in p env e c ≡ option_and_then (checked_calls_of env.decls name) (values_in p env xs c)
-    value_call c = value_Call e (known_at c p env) name es xs is h
-
-    pub sound_Call : IsSound p env e → IsThere (values_in p env xs)
-    sound_Call = all_sound p env e (checked_calls_of env.decls name) xs value_call
-
-    pub same_Call : (q : Held) (ns : List NodeId) → AllShow q ns (values_in p env xs) → (c : Cells) → value_in p env e c ≡ checked_calls_of env.decls name (words_at c q ns)
-    same_Call q ns = all_parts p env e (option_and_then (checked_calls_of env.decls name)) xs q ns value_call

@@ -9,13 +9,6 @@ use Rattle.kp_build.specs.inner.Showing.{IsThere, Shows, AllShow, words_at, valu
 use Rattle.kp_build.proofs.Names.{same_known}
 
 -- what comes of a value that is there
-pub then_in : {X Y : Type 0} (f : X → Option Y) (o : Option X) → is_some (option_and_then f o) ≡ true → (u : X) × ((o ≡ Some u) × (is_some (f u) ≡ true))
-then_in f None h = cc
-then_in f (Some u) h = (u, (refl, h))
-
-there_by : {X : Type 0} (o : Option X) (u : X) → o ≡ Some u → is_some o ≡ true
-there_by o u e = ap is_some e
-
 pub first_there : {X Y : Type 0} (f : X → Option Y) (o : Option X) → is_some (option_and_then f o) ≡ true → is_some o ≡ true
 first_there f None h = h
 first_there f (Some u) h = refl
@@ -68,6 +61,10 @@ module _ (p : Held) (env : Scope) (e : Expr) where
       → (c : Cells) → value_in p env e c ≡ F c (Some (word_at c q.nodes n.0))
   unfolding Gives
   one_part F x q n h g c = h c ∙ ap (F c) (g c)
+
+  -- of a value that must be there
+  pub one_sound : (f : Word → Option Word) (x : Expr) → ((c : Cells) → value_in p env e c ≡ option_and_then f (value_in p env x c)) → IsSound p env e → IsSound p env x
+  one_sound f x h = sound_by x (λ c s. first_there f (value_in p env x c) (sym (ap is_some (h c)) ∙ s))
 
   pub two_parts : (F : Option Word → Option Word → Option Word) (x y : Expr) (q : Held) (n m : NodeId) → ((c : Cells) → value_in p env e c ≡ F (value_in p env x c) (value_in p env y c))
       → Gives p env x q n → Gives p env y q m → (c : Cells) → value_in p env e c ≡ F (Some (word_at c q.nodes n.0)) (Some (word_at c q.nodes m.0))

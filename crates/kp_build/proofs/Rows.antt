@@ -47,10 +47,6 @@ join_front a (b ∷ xs) ys h =
     let more = join_front (concat_of a b) xs ys u.1 in
     (ap (λ t. is_some (cond t (checked_join (concat_of a b) xs) None)) u.0 ∙ more.0, ap (λ t. cond t (checked_join (concat_of a b) (xs ++ ys)) None) u.0 ∙ more.1)
 
-pub joined_front : (a : Word) (xs ys : List Word) → is_some (checked_joined ((a ∷ xs) ++ ys)) ≡ true
-    → (is_some (checked_joined (a ∷ xs)) ≡ true) × (checked_joined ((a ∷ xs) ++ ys) ≡ checked_joined (joined_of (a ∷ xs) ∷ ys))
-joined_front a xs ys h = join_front a xs ys h
-
 module _ (p : Held) where
   -- the words of nodes have the nodes' widths
   pub bits_at : (c : Cells) (ns : List NodeId) → AllInside p ns → bits_of (words_at c p ns) ≡ sum_by (λ n. wide p.nodes n.0) ns
@@ -63,11 +59,12 @@ module _ (p : Held) where
       let t = sum_by-cons (λ (n : NodeId). wide p.nodes n.0) n ns in
       omega arith
 
-  fits_by : (ns : List NodeId) → AllInside p ns → IsThere (λ c. checked_joined (words_at c p ns)) → 2 ≤ length ns → sum_by (λ n. wide p.nodes n.0) ns ≤ 64
+  -- two or more nodes that can be concatenated have at most 64 bits
+  pub row_fits : (ns : List NodeId) → AllInside p ns → IsThere (λ c. checked_joined (words_at c p ns)) → 2 ≤ length ns → sum_by (λ n. wide p.nodes n.0) ns ≤ 64
   unfolding IsThere
-  fits_by [] h there l = absurd (omega arith)
-  fits_by (a ∷ []) h there l = absurd (omega arith)
-  fits_by (a ∷ b ∷ ns) h there l =
+  row_fits [] h there l = absurd (omega arith)
+  row_fits (a ∷ []) h there l = absurd (omega arith)
+  row_fits (a ∷ b ∷ ns) h there l =
       let f = joined_fits (word_at no_cells p.nodes a.0) (word_at no_cells p.nodes b.0) (words_at no_cells p ns) (there no_cells) in
       let s = bits_at no_cells (a ∷ b ∷ ns) h in
       omega arith
@@ -83,44 +80,30 @@ module _ (p : Held) where
       let t = sum_by-cons (λ (n : NodeId). wide p.nodes n.0) n ns in
       omega arith
 
-  count_by_width : (ns : List NodeId) → AllInside p ns → IsThere (λ c. checked_joined (words_at c p ns)) → AllRight p.nodes → length ns ≤ 64
-  count_by_width [] h there right = omega arith
-  count_by_width (a ∷ []) h there right = omega arith
-  count_by_width (a ∷ b ∷ ns) h there right =
-      let f = fits_by (a ∷ b ∷ ns) h there (omega arith) in
+  -- there are at most 64
+  pub row_count : (ns : List NodeId) → AllInside p ns → IsThere (λ c. checked_joined (words_at c p ns)) → AllRight p.nodes → length ns ≤ 64
+  row_count [] h there right = omega arith
+  row_count (a ∷ []) h there right = omega arith
+  row_count (a ∷ b ∷ ns) h there right =
+      let f = row_fits (a ∷ b ∷ ns) h there (omega arith) in
       let m = as_many right (a ∷ b ∷ ns) h in
       omega arith
 
-  one_node : (ns : List NodeId) (d : NodeId) → length ns ≡ 1 → Shows p (get_or ns 0 d) (λ c. checked_joined (words_at c p ns))
+  pub row_one : (ns : List NodeId) (d : NodeId) → length ns ≡ 1 → Shows p (get_or ns 0 d) (λ c. checked_joined (words_at c p ns))
   unfolding Shows
-  one_node [] d e = absurd (omega arith)
-  one_node (n ∷ []) d e = λ c. refl
-  one_node (n ∷ m ∷ ns) d e = absurd (omega arith)
+  row_one [] d e = absurd (omega arith)
+  row_one (n ∷ []) d e = λ c. refl
+  row_one (n ∷ m ∷ ns) d e = absurd (omega arith)
 
-  some_nodes : (ns : List NodeId) → IsThere (λ c. checked_joined (words_at c p ns)) → length ns ≡ 0 → ⊥
+  pub row_some : (ns : List NodeId) → IsThere (λ c. checked_joined (words_at c p ns)) → length ns ≡ 0 → ⊥
   unfolding IsThere
-  some_nodes [] there e = let f : false ≡ true = there no_cells in cc
-  some_nodes (n ∷ ns) there e = absurd (omega arith)
+  row_some [] there e = let f : false ≡ true = there no_cells in cc
+  row_some (n ∷ ns) there e = absurd (omega arith)
 
-  -- nodes that can be concatenated
   module _ (ns : List NodeId) (inside : AllInside p ns) (there : IsThere (λ c. checked_joined (words_at c p ns))) where
-    -- two or more have at most 64 bits
-    pub row_fits : 2 ≤ length ns → sum_by (λ n. wide p.nodes n.0) ns ≤ 64
-    row_fits = fits_by ns inside there
-
-    -- there are at most 64
-    pub row_count : AllRight p.nodes → length ns ≤ 64
-    row_count right = count_by_width ns inside there right
-
     pub row_shows : (q : Held) (n : NodeId) → ((c : Cells) → word_at c q.nodes n.0 ≡ joined_of (words_at c p ns)) → Shows q n (λ c. checked_joined (words_at c p ns))
     unfolding IsThere Shows
     row_shows q n h = λ c. joined_value (words_at c p ns) (there c) ∙ ap Some (sym (h c))
-
-    pub row_one : (d : NodeId) → length ns ≡ 1 → Shows p (get_or ns 0 d) (λ c. checked_joined (words_at c p ns))
-    row_one d e = one_node ns d e
-
-    pub row_some : length ns ≡ 0 → ⊥
-    row_some e = some_nodes ns there e
 
 -- the same words in a pool that has grown
 pub same_at : (p q : Held) (k : ℕ) → Grown p q k → (c : Cells) (ns : List NodeId) → AllInside p ns → words_at c q ns ≡ words_at c p ns
@@ -140,7 +123,7 @@ front_by : (p : Held) (xs ys ns : List NodeId) → ns ≡ xs ++ ys → 1 ≤ len
 front_by p [] ys ns e l c there = absurd (omega arith)
 front_by p (x ∷ xs) ys ns e l c there =
     let s : words_at c p ns ≡ words_at c p (x ∷ xs) ++ words_at c p ys = ap (words_at c p) e ∙ map-append (λ (n : NodeId). word_at c p.nodes n.0) (x ∷ xs) ys in
-    let f = joined_front (word_at c p.nodes x.0) (words_at c p xs) (words_at c p ys) (sym (ap (λ ws. is_some (checked_joined ws)) s) ∙ there) in
+    let f = join_front (word_at c p.nodes x.0) (words_at c p xs) (words_at c p ys) (sym (ap (λ ws. is_some (checked_joined ws)) s) ∙ there) in
     (f.0, ap checked_joined s ∙ f.1)
 
 back_inside : (p : Held) (xs ys ns : List NodeId) → ns ≡ xs ++ ys → AllInside p ns → AllInside p ys

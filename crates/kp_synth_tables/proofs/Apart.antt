@@ -15,7 +15,7 @@ module _ (ds : List Decl) where
   here_right : (i k : ℕ) (s : Scoped) (d : Decl) (rest : List Decl) → Unbroken (declarations_of ds i k s (d ∷ rest)) → Unbroken (declaration_of ds i k s d)
   here_right i k s d rest u = (bind_unbroken (declaration_of ds i k s d) (λ t. declarations_of ds (i + 1) (k + functions_in d) t rest) u).0
 
-  rest_right : (i k : ℕ) (s : Scoped) (d : Decl) (rest : List Decl) → Unbroken (declarations_of ds i k s (d ∷ rest))
+  pub rest_right : (i k : ℕ) (s : Scoped) (d : Decl) (rest : List Decl) → Unbroken (declarations_of ds i k s (d ∷ rest))
       → Unbroken (declarations_of ds (i + 1) (k + functions_in d) (declaration_of ds i k s d).value rest)
   rest_right i k s d rest u = (bind_unbroken (declaration_of ds i k s d) (λ t. declarations_of ds (i + 1) (k + functions_in d) t rest) u).1
 

@@ -1,8 +1,9 @@
 -- How many registers a job has, by the counts of its declarations and guesses.
-use Rattle.std.proofs.Common.{◌≡◌, ℕ, zero, suc, ◌+◌, ◌*◌, ◌<◌, ◌≤◌, List, [], ◌∷◌, ◌++◌, Option, Some, Bool, true, false, cond, ◌&&◌, eqb, length, length-append, refl, arith, ⊎_elim}
-use Rattle.std.proofs.{lemmas.Bool.cond_both, lemmas.Bool.cases_Bool, lemmas.Bool.eqb-true, lemmas.Bool.false_from_ne_true, Math.Nat.suc-mul}
+use Rattle.std.proofs.Common.{◌≡◌, ℕ, zero, suc, ◌+◌, ◌*◌, ◌<◌, ◌≤◌, List, [], ◌∷◌, ◌++◌, Option, Some, None, Bool, true, false, cond, ◌&&◌, eqb, length, length-append, refl, arith, ⊎_elim}
+use Rattle.std.proofs.{lemmas.Bool.cond_both, lemmas.Bool.cases_Bool, lemmas.Bool.eqb-true, lemmas.Bool.false_from_ne_true, Math.Nat.suc-mul, Math.Nat.mul-le-mul}
 use Rattle.std.proofs.lemmas.List.Sums.{sum_by-cons}
 use Rattle.std.specs.Prelude.{sum_by, is_some, nat_le}
+use Rattle.kp_machine.proofs.Cases.{by_test}
 use Rattle.kp_ast.specs.declared.tree.{ResultDecl.ResultDecl, Decl.Decl, Block.Block, Job.Job}
 use Rattle.kp_ast.specs.declared.tree.Decl.TheVariants as decls
 use Rattle.kp_stage.specs.Counts.{regs_in, files_in, pipes_in, results_in, hints_in}
@@ -11,7 +12,10 @@ use Rattle.kp_machine.specs.Slots.{Slot, targets_of, pipes_of, hints_of, number_
 use Rattle.kp_machine.specs.Machine.{result_for, write_stage_of}
 use Rattle.kp_synth_tables.specs.declared.key.Key.TheVariants.{Valid, Value}
 use Rattle.kp_synth_tables.specs.Keys.{set_by, guesses_of, visible_keys, pipe_keys, result_keys, guess_keys, stage_keys, stages_keys, later_keys, hint_keys, keys_of}
-use Rattle.kp_synth_tables.proofs.Limits.{visible_few, pipes_few, guesses_few, hints_few, targets_counted, pipes_counted, hints_counted, guesses_counted}
+use Rattle.kp_stage.specs.Stages.{broken_of}
+use Rattle.kp_synth_tables.proofs.Listed.{few}
+use Rattle.kp_synth_tables.proofs.Listed as listed
+use Rattle.kp_synth_tables.proofs.Limits.{limits, targets_counted, pipes_counted, hints_counted, guesses_counted}
 
 -- how many of n numbers from t on pass a test
 abbrev one : Bool → ℕ
@@ -33,10 +37,9 @@ one_hit : (p t n : ℕ) → passing (λ i. eqb p i) t n ≤ 1
 one_hit p t zero = omega arith
 one_hit p t (suc n) =
     let more = one_hit p (suc t) n in
-    ⊎_elim
-    (λ (y : eqb p t ≡ true). let e = eqb-true p t y in let none = no_hit p (suc t) n (omega (arith, e)) in rw (y, none) (omega arith))
-    (λ (m : eqb p t ≡ false). rw m (omega (arith, more)))
-    (cases_Bool (eqb p t))
+    by_test (eqb p t)
+    (λ y. let e = eqb-true p t y in let none = no_hit p (suc t) n (omega (arith, e)) in rw (y, none) (omega arith))
+    (λ m. rw m (omega (arith, more)))
 
 -- so one more result adds at most one more target with a result
 one_more : (b : Bool) (r : ResultDecl) (o : Option ResultDecl) → one (is_some (cond b (Some r) o)) ≤ one b + one (is_some o)
@@ -100,9 +103,9 @@ module _ (job : Job) where
         arith,
         length-append pipes (results ++ guesses),
         length-append results guesses,
-        pipes_few job k 0 (pipes_of job.decls),
+        few (listed.pipes job k) 1 (λ n. omega arith) 0 (pipes_of job.decls),
         results_of_stage k,
-        guesses_few k 0 (guesses_of job),
+        few (listed.guesses k) 2 (λ n. omega arith) 0 (guesses_of job),
         pipes_counted job.decls,
         guesses_counted job,
       )
@@ -133,9 +136,16 @@ module _ (job : Job) where
         arith,
         length-append visible (later ++ hints),
         length-append later hints,
-        visible_few 0 (targets_of job.decls),
+        few listed.visible 1 (λ n. omega arith) 0 (targets_of job.decls),
         later_counted job.stages.value,
-        hints_few 0 (hints_of job.decls),
+        few listed.hints 1 (λ n. omega arith) 0 (hints_of job.decls),
         targets_counted job.decls,
         hints_counted job.decls,
       )
+
+  -- so there are few of them
+  pub keys_few : broken_of job ≡ None → job.stages.value ≤ 12 → length (keys_of job) ≤ 4096
+  keys_few kept early =
+      let l = limits job kept in
+      let size : stage_size ≤ 273 = omega (arith, l.pipes, l.results, l.guesses) in
+      omega (arith, keys_counted, mul-le-mul early size, l.regs, l.files, l.hints)

@@ -1,5 +1,5 @@
 -- A job that violates no rule fits: what the rules guarantee about its widths, its results, its guesses and its hints.
-use Rattle.std.proofs.Common.{◌≡◌, ◌∙◌, ℕ, zero, suc, ◌+◌, ◌<◌, ◌≤◌, List, [], ◌∷◌, Option, Some, None, Bool, true, false, cond, not, ◌&&◌, ◌||◌, length, get_or, refl, ap, sym, subst, arith}
+use Rattle.std.proofs.Common.{◌≡◌, ◌∙◌, ℕ, zero, suc, ◌+◌, ◌<◌, ◌≤◌, List, [], ◌∷◌, Option, Some, None, true, false, cond, not, ◌&&◌, ◌||◌, length, length-append, get_or, refl, ap, sym, subst, arith}
 use Rattle.std.proofs.lemmas.Bool.{and_parts, ltb-true, leb-true, eqb-true, eq-eqb, false_from_ne_true}
 use Rattle.std.specs.{Prelude.is_some, Prelude.slice_get, Prelude.nat_lt, Prelude.nat_le, List.AllByRecursion}
 use Rattle.kp_base.specs.{First.first, Check.ok, Check.◌>>=◌, Refusal.e_rule}
@@ -15,24 +15,24 @@ use Rattle.kp_width.specs.Declarations.{declared, start_of, started_of, addresse
 use Rattle.kp_width.specs.Widths.{widths_of}
 use Rattle.kp_width.specs.Names as names
 use Rattle.kp_width.proofs.Unbroken.{Unbroken, bind_unbroken, answer_unbroken}
-use Rattle.kp_stage.specs.Facts.{At, Facts, facts_of, stmts_in, aim_at, aims_in, aims_of}
+use Rattle.kp_stage.specs.Facts.{Facts, facts_of, stmts_in}
 use Rattle.kp_stage.specs.{Rules.holds_of, Rules.may_guess, Rules.ask_stmt, Rules.ask_stmts, Rules.all_rules, Stages.broken_of}
 use Rattle.kp_stage.proofs.Unbroken.{first_none, answer_none}
 use Rattle.kp_pipeline.proofs.Lists.{all-append}
 use Rattle.kp_machine.specs.Slots.{Slot, targets_of, pipes_of, hints_of, samples_of, number_of, width_of}
-use Rattle.kp_machine.specs.Machine.{machine_of, result_for, write_stage_of, stage_or_zero, aim_stage}
+use Rattle.kp_machine.specs.Machine.{machine_of, result_for, write_stage_of}
 use Rattle.kp_machine.proofs.{Aims.aims_inside, Names.IsIn, Apart.Apart, Apart.pipes_apart, Apart.samples_apart, Cases.by_test}
 use Rattle.kp_machine.proofs.{Placing.result_placed, Placing.own, Placing.stands, Results.written_by}
 use Rattle.kp_machine.proofs.Rules.{rules_kept, head_kept, decl_kept, stmts_kept}
-use Rattle.kp_machine.proofs.{Scopes.addresses, Scopes.PipeFits, Scopes.results_fit, Scopes.storage_kind, Stages.stages_inside}
+use Rattle.kp_machine.proofs.{Scopes.addresses, Scopes.PipeFits, Scopes.results_fit, Scopes.storage_kind}
 use Rattle.kp_machine.proofs.Text.{text, declared_right, placed}
 use Rattle.kp_synth_tables.specs.Keys.{no_slot, target_at, pipe_at, hint_at, sample_at, no_guess, guess_slot, with_read, with_guess, guesses_in, guesses_from, guesses_of, guess_at}
 use Rattle.kp_synth_tables.specs.declared.key.GuessSlot.{GuessSlot}
 use Rattle.kp_synth_tables.specs.Fits.{pipe_number, port_for, IsWidth, EnableFits, AddressFits, ResultFits, Fits}
-use Rattle.kp_synth_tables.proofs.{Lasting.lasting, Quiet.no_put, Quiet.no_set}
+use Rattle.kp_synth_tables.proofs.{Apart.rest_right, Lasting.lasting, Quiet.no_put, Quiet.no_set}
 
 -- a property of each entry of a list holds for the one at an index
-all_at : {X : Type 0} (P : X → Type 0) (xs : List X) (d : X) → AllByRecursion P xs → (i : ℕ) → i < length xs → P (get_or xs i d)
+pub all_at : {X : Type 0} (P : X → Type 0) (xs : List X) (d : X) → AllByRecursion P xs → (i : ℕ) → i < length xs → P (get_or xs i d)
 all_at P [] d all i l = absurd (omega arith)
 all_at P (x ∷ xs) d all zero l = all.0
 all_at P (x ∷ xs) d all (suc i) l = all_at P xs d all.1 i (omega arith)
@@ -60,10 +60,6 @@ module _ (ds : List Decl) where
       (answer_unbroken (not (is_some (find s (name_of d).name))) (e_rule 5 (name_of d).at) (after_name ds i k s d).asked
       (bind_unbroken (declaration_of ds i k s d) (λ x. declarations_of ds (i + 1) (k + functions_in d) x rest) u).0).1
 
-  rest_right : (i k : ℕ) (s : Scoped) (d : Decl) (rest : List Decl) → Unbroken (declarations_of ds i k s (d ∷ rest))
-      → Unbroken (declarations_of ds (i + 1) (k + functions_in d) (declaration_of ds i k s d).value rest)
-  rest_right i k s d rest u = (bind_unbroken (declaration_of ds i k s d) (λ x. declarations_of ds (i + 1) (k + functions_in d) x rest) u).1
-
   reg_right : (i k : ℕ) (s : Scoped) (n : Named) (width : Num) (l : Lit) (rest : List Decl) → Unbroken (declarations_of ds i k s (decls.Reg n width l ∷ rest)) → IsWidth width.value
   reg_right i k s n width l rest u = started_right width l (bind_unbroken (started_of width l) (λ w. ok (declared_text s n.name (sense kinds.Reg w i))) (here_right i k s (decls.Reg n width l) rest u)).0
 
@@ -78,16 +74,16 @@ module _ (ds : List Decl) where
 
   targets_right : (i k : ℕ) (s : Scoped) (rest : List Decl) → Unbroken (declarations_of ds i k s rest) → AllByRecursion IsSized (targets_of rest)
   targets_right i k s [] u = tt
-  targets_right i k s (decls.Reg n width l ∷ rest) u = (record { width = reg_right i k s n width l rest u; address = omega arith }, targets_right (i + 1) (k + functions_in (decls.Reg n width l)) (declaration_of ds i k s (decls.Reg n width l)).value rest (rest_right i k s (decls.Reg n width l) rest u))
+  targets_right i k s (decls.Reg n width l ∷ rest) u = (record { width = reg_right i k s n width l rest u; address = omega arith }, targets_right (i + 1) (k + functions_in (decls.Reg n width l)) (declaration_of ds i k s (decls.Reg n width l)).value rest (rest_right ds i k s (decls.Reg n width l) rest u))
   targets_right i k s (decls.File n width address ∷ rest) u =
       let f = file_right i k s n width address rest u in
-      (record { width = f.0; address = f.1 }, targets_right (i + 1) (k + functions_in (decls.File n width address)) (declaration_of ds i k s (decls.File n width address)).value rest (rest_right i k s (decls.File n width address) rest u))
-  targets_right i k s (d ∷ rest) u = targets_right (i + 1) (k + functions_in d) (declaration_of ds i k s d).value rest (rest_right i k s d rest u)
+      (record { width = f.0; address = f.1 }, targets_right (i + 1) (k + functions_in (decls.File n width address)) (declaration_of ds i k s (decls.File n width address)).value rest (rest_right ds i k s (decls.File n width address) rest u))
+  targets_right i k s (d ∷ rest) u = targets_right (i + 1) (k + functions_in d) (declaration_of ds i k s d).value rest (rest_right ds i k s d rest u)
 
   hints_right : (i k : ℕ) (s : Scoped) (rest : List Decl) → Unbroken (declarations_of ds i k s rest) → AllByRecursion IsSized (hints_of rest)
   hints_right i k s [] u = tt
-  hints_right i k s (decls.Hint n width l ∷ rest) u = (record { width = hint_right i k s n width l rest u; address = omega arith }, hints_right (i + 1) (k + functions_in (decls.Hint n width l)) (declaration_of ds i k s (decls.Hint n width l)).value rest (rest_right i k s (decls.Hint n width l) rest u))
-  hints_right i k s (d ∷ rest) u = hints_right (i + 1) (k + functions_in d) (declaration_of ds i k s d).value rest (rest_right i k s d rest u)
+  hints_right i k s (decls.Hint n width l ∷ rest) u = (record { width = hint_right i k s n width l rest u; address = omega arith }, hints_right (i + 1) (k + functions_in (decls.Hint n width l)) (declaration_of ds i k s (decls.Hint n width l)).value rest (rest_right ds i k s (decls.Hint n width l) rest u))
+  hints_right i k s (d ∷ rest) u = hints_right (i + 1) (k + functions_in d) (declaration_of ds i k s d).value rest (rest_right ds i k s d rest u)
 
 -- The pipes and the samples have the widths that they are declared with.
 apart_wide : (ss : List Slot) → Apart ss → (i : ℕ) → i < length ss → IsWidth (get_or ss i no_slot).width
@@ -100,13 +96,13 @@ module _ (q : List ℕ) where
   rest_in : (s : Slot) (ss : List Slot) → is_same_name q s.name ≡ false → IsIn (s ∷ ss) q → IsIn ss q
   rest_in s ss n h = let e : number_of (s ∷ ss) q ≡ suc (number_of ss q) = ap (λ b. cond b 0 (suc (number_of ss q))) n in omega (arith, e, h)
 
-  width_there : (ss : List Slot) → IsIn ss q → (get_or ss (number_of ss q) no_slot).width ≡ width_of ss q
+  pub width_there : (ss : List Slot) → IsIn ss q → (get_or ss (number_of ss q) no_slot).width ≡ width_of ss q
   width_there [] h = absurd (omega arith)
   width_there (s ∷ ss) h = by_test (is_same_name q s.name)
       (λ y. rw y refl)
       (λ n. let more = width_there ss (rest_in s ss n h) in rw n more)
 
-  address_there : (ss : List Slot) → IsIn ss q → (get_or ss (number_of ss q) no_slot).address ≡ addresses ss q
+  pub address_there : (ss : List Slot) → IsIn ss q → (get_or ss (number_of ss q) no_slot).address ≡ addresses ss q
   address_there [] h = absurd (omega arith)
   address_there (s ∷ ss) h = by_test (is_same_name q s.name)
       (λ y. rw y refl)
@@ -124,6 +120,7 @@ pub record IsGuess (job : Job) (g : GuessSlot) : Type 0 where
   pub early : g.stage + 2 ≤ g.write
   pub late : g.write < job.stages.value
   pub register : g.register < length (targets_of job.decls)
+  pub index : g.index < length (guesses_of job)
 
 in_time : (k : ℕ) (o : Option ℕ) → holds_of (λ w. nat_le (k + 2) w) o ≡ true → (w : ℕ) × ((o ≡ Some w) × (k + 2 ≤ w))
 in_time k None e = cc
@@ -190,8 +187,8 @@ module _ (job : Job) (right : Unbroken (widths_of job)) (kept : broken_of job �
       )
 
   -- GUESSES
-  guess_right : (k i : ℕ) (r : ReadStmt) (e : Expr) → r.guess ≡ Some e → may_guess facts k r ≡ true → IsGuess job (guess_slot job k i r)
-  guess_right k i r e is may =
+  guess_right : (k i : ℕ) (r : ReadStmt) (e : Expr) → r.guess ≡ Some e → may_guess facts k r ≡ true → i < length (guesses_of job) → IsGuess job (guess_slot job k i r)
+  guess_right k i r e is may few =
       let there : is_some r.guess ≡ true = ap is_some is in
       let late : holds_of (λ w. nat_le (k + 2) w) (facts.written r.target.name) ≡ true =
       (and_parts (not (is_some r.address)) (holds_of (λ w. nat_le (k + 2) w) (facts.written r.target.name))
@@ -209,44 +206,48 @@ module _ (job : Job) (right : Unbroken (widths_of job)) (kept : broken_of job �
         early = omega (arith, stage, after);
         late = omega (arith, stage, q.1.1.1, last);
         register = inside;
+        index = few;
       }
 
   abbrev Asked : ℕ → ℕ → StmtKind → Type 0
   Asked k j s = (n : ℕ) (rule : _) → slice_get all_rules n ≡ Some rule → ask_stmt facts rule k j s ≡ None
 
-  guess_in : (k j i : ℕ) (r : ReadStmt) (o : Option Expr) (rest : ℕ → List GuessSlot) → r.guess ≡ o → Asked k j (stmts.Read r)
-      → ((m : ℕ) → AllByRecursion (IsGuess job) (rest m)) → AllByRecursion (IsGuess job) (with_read job k i r o rest)
-  guess_in k j i r None rest is asked more = more i
-  guess_in k j i r (Some e) rest is asked more = (guess_right k i r e is (answer_none (may_guess facts k r) (e_rule 23 r.target.at) (asked 8 _ refl)), more (suc i))
+  -- n guessed reads precede these, and there are no more than those of the job
+  abbrev Fit : ℕ → List GuessSlot → Type 0
+  Fit n gs = n + length gs ≤ length (guesses_of job) → AllByRecursion (IsGuess job) gs
 
-  guess_of : (k j i : ℕ) (s : StmtKind) (rest : ℕ → List GuessSlot) → Asked k j s
-      → ((m : ℕ) → AllByRecursion (IsGuess job) (rest m)) → AllByRecursion (IsGuess job) (with_guess job k i s rest)
+  guess_in : (k j i : ℕ) (r : ReadStmt) (o : Option Expr) (rest : ℕ → List GuessSlot) → r.guess ≡ o → Asked k j (stmts.Read r) → ((m : ℕ) → Fit m (rest m)) → Fit i (with_read job k i r o rest)
+  guess_in k j i r None rest is asked more l = more i l
+  guess_in k j i r (Some e) rest is asked more l =
+      (guess_right k i r e is (answer_none (may_guess facts k r) (e_rule 23 r.target.at) (asked 8 _ refl)) (omega (arith, l)), more (suc i) (omega (arith, l)))
+
+  guess_of : (k j i : ℕ) (s : StmtKind) (rest : ℕ → List GuessSlot) → Asked k j s → ((m : ℕ) → Fit m (rest m)) → Fit i (with_guess job k i s rest)
   guess_of k j i (stmts.Read r) rest asked more = guess_in k j i r r.guess rest refl asked more
   guess_of k j i s rest asked more = more i
 
-  guesses_right : (k j i : ℕ) (ss : List Stmt) → ((n : ℕ) (rule : _) → slice_get all_rules n ≡ Some rule → first (ask_stmts facts rule k j ss) ≡ None)
-      → AllByRecursion (IsGuess job) (guesses_in job k i ss)
-  guesses_right k j i [] asked = tt
-  guesses_right k j i (s ∷ ss) asked =
+  guesses_right : (k j i : ℕ) (ss : List Stmt) → ((n : ℕ) (rule : _) → slice_get all_rules n ≡ Some rule → first (ask_stmts facts rule k j ss) ≡ None) → Fit i (guesses_in job k i ss)
+  guesses_right k j i [] asked l = tt
+  guesses_right k j i (s ∷ ss) asked l =
       guess_of k j i s.kind (λ m. guesses_in job k m ss) (λ n rule at. (first_none (ask_stmt facts rule k j s.kind) (ask_stmts facts rule k (j + 1) ss) (asked n rule at)).0)
-      (λ m. guesses_right k (j + 1) m ss (λ n rule at. (first_none (ask_stmt facts rule k j s.kind) (ask_stmts facts rule k (j + 1) ss) (asked n rule at)).1))
+      (λ m. guesses_right k (j + 1) m ss (λ n rule at. (first_none (ask_stmt facts rule k j s.kind) (ask_stmts facts rule k (j + 1) ss) (asked n rule at)).1)) l
 
   all_guesses_right : (k : ℕ) (bs : List Block) → ((i n : ℕ) (rule : _) → slice_get all_rules n ≡ Some rule → first (ask_stmts facts rule (k + i) 0 (stmts_in (slice_get bs i))) ≡ None)
-      → AllByRecursion (IsGuess job) (guesses_from job k bs)
-  all_guesses_right k [] asked = tt
-  all_guesses_right k (b ∷ bs) asked =
+      → Fit 0 (guesses_from job k bs)
+  all_guesses_right k [] asked l = tt
+  all_guesses_right k (b ∷ bs) asked l =
       let here : k + 0 ≡ k = omega arith in
+      let total = length-append (guesses_in job k 0 b.stmts) (guesses_from job (suc k) bs) in
       all-append (IsGuess job) (guesses_in job k 0 b.stmts) (guesses_from job (suc k) bs)
-      (guesses_right k 0 0 b.stmts (λ n rule at. subst (λ m. first (ask_stmts facts rule m 0 b.stmts) ≡ None) here (asked 0 n rule at)))
+      (guesses_right k 0 0 b.stmts (λ n rule at. subst (λ m. first (ask_stmts facts rule m 0 b.stmts) ≡ None) here (asked 0 n rule at)) (omega (arith, l, total)))
       (all_guesses_right (suc k) bs (λ i n rule at.
       let next : k + suc i ≡ suc k + i = omega arith in
-      subst (λ m. first (ask_stmts facts rule m 0 (stmts_in (slice_get bs i))) ≡ None) next (asked (suc i) n rule at)))
+      subst (λ m. first (ask_stmts facts rule m 0 (stmts_in (slice_get bs i))) ≡ None) next (asked (suc i) n rule at)) (omega (arith, l, total)))
 
   every_guess : AllByRecursion (IsGuess job) (guesses_of job)
   unfolding guesses_of
   every_guess = all_guesses_right 0 job.blocks (λ i n rule at.
       let here : i ≡ 0 + i = omega arith in
-      subst (λ m. first (ask_stmts facts rule m 0 (stmts_in (slice_get job.blocks i))) ≡ None) here (stmts_kept facts job (rules_kept job kept) n rule at i))
+      subst (λ m. first (ask_stmts facts rule m 0 (stmts_in (slice_get job.blocks i))) ≡ None) here (stmts_kept facts job (rules_kept job kept) n rule at i)) (omega arith)
 
   pub guess_there : (g : ℕ) → g < length (guesses_of job) → IsGuess job (guess_at job g)
   guess_there g l = all_at (IsGuess job) (guesses_of job) no_guess every_guess g l

@@ -1,14 +1,14 @@
 -- A pipe counts up to its last use alone.
-use Rattle.std.proofs.Common.{◌≡◌, ◌∙◌, ℕ, zero, suc, ◌+◌, ◌<◌, ◌≤◌, max, List, [], ◌∷◌, Option, Some, None, Bool, true, cond, eqb, ◌||◌, false, length, get_or, refl, ap, sym, subst, arith}
-use Rattle.std.proofs.lemmas.Bool.{cond-true, leb-true, le-leb}
-use Rattle.std.specs.Prelude.{slice_get, is_some}
+use Rattle.std.proofs.Common.{◌≡◌, ◌∙◌, ℕ, zero, suc, ◌<◌, ◌≤◌, max, List, [], ◌∷◌, Option, Some, None, true, cond, eqb, ◌||◌, length, get_or, refl, ap, sym, subst, arith}
+use Rattle.std.proofs.lemmas.Bool.{cond-true, leb-true, le-leb, or_left, or_right}
+use Rattle.std.specs.Prelude.{slice_get}
 use Rattle.kp_ast.specs.{Expressions.is_same_name, declared.tree.Named.Named, declared.tree.ResultDecl.ResultDecl, declared.tree.Decl.Decl}
 use Rattle.kp_ast.specs.declared.tree.Job.{Job}
 use Rattle.kp_ast.specs.declared.tree.Decl.TheVariants as decls
 use Rattle.kp_width.specs.Widths.{widths_of}
 use Rattle.kp_width.proofs.Unbroken.{Unbroken}
 use Rattle.kp_pipeline.specs.Trimming.{trim, Alive}
-use Rattle.kp_machine.specs.Slots.{Slot, targets_of, pipes_of, number_of}
+use Rattle.kp_machine.specs.Slots.{Slot, pipes_of, number_of}
 use Rattle.kp_machine.specs.Machine.{machine_of, result_for, write_stage_of, is_enabled_by, address_by, enabled_of, address_in}
 use Rattle.kp_machine.proofs.{Cases.by_test, Names.IsIn, Names.is_same, Names.same_name, Placing.IsPipeIn, Placing.result_placed, Placing.stands}
 use Rattle.kp_synth_tables.specs.{Spans.is_called, Spans.last_use_in, Spans.last_write, Spans.last_use, Keys.no_slot, Keys.pipe_at, Keys.is_alive}
@@ -38,14 +38,6 @@ write_late n last (decls.Target q ∷ ds) (suc i) r at e =
 write_late n last (d ∷ ds) zero r at e = cc
 write_late n last (d ∷ ds) (suc i) r at e = write_late n last ds i r at e
 
-or_first : (a b : Bool) → a ≡ true → (a || b) ≡ true
-or_first true b e = refl
-or_first false b e = cc
-
-or_second : (a b : Bool) → b ≡ true → (a || b) ≡ true
-or_second true b e = refl
-or_second false b e = e
-
 module _ (job : Job) (right : Unbroken (widths_of job)) where
   abbrev pipes : List Slot
   pipes = pipes_of job.decls
@@ -71,8 +63,8 @@ module _ (job : Job) (right : Unbroken (widths_of job)) where
         let at = result_placed job right r s in
         let late : (m : List ℕ) → (is_called m r.address || is_called m r.enable) ≡ true → k ≤ last_use job m =
         λ m c. let w = write_late m (last_use_in m 0 0 job.blocks) job.decls s.index r s.there c in omega (arith, w, l) in (
-          (pipe_same r.enable at.enable (λ n is. late n.name (or_second (is_called n.name r.address) _ (ap (is_called n.name) is ∙ is_same n.name n.name refl)))).0,
-          (pipe_same r.address at.address (λ n is. late n.name (or_first _ (is_called n.name r.enable) (ap (is_called n.name) is ∙ is_same n.name n.name refl)))).1,
+          (pipe_same r.enable at.enable (λ n is. late n.name (or_right (is_called n.name r.address) _ (ap (is_called n.name) is ∙ is_same n.name n.name refl)))).0,
+          (pipe_same r.address at.address (λ n is. late n.name (or_left _ (is_called n.name r.enable) (ap (is_called n.name) is ∙ is_same n.name n.name refl)))).1,
         )
 
   pub lasting : Alive (machine_of job) (is_alive job)

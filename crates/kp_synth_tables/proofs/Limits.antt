@@ -1,21 +1,20 @@
 -- A job that violates no rule has few declarations, and so few registers.
-use Rattle.std.proofs.Common.{◌≡◌, ◌∙◌, ℕ, zero, suc, ◌+◌, ◌*◌, ◌≤◌, List, [], ◌∷◌, ◌++◌, Option, Some, None, Bool, true, ◌&&◌, length, length-append, refl, ap, subst, arith}
-use Rattle.std.proofs.lemmas.{Bool.and_parts, Bool.leb-true, Bool.cond_both, List.Sums.sum_by-cons}
-use Rattle.std.specs.Prelude.{sum_by, nat_le}
+use Rattle.std.proofs.Common.{◌≡◌, ◌∙◌, ℕ, suc, ◌+◌, ◌≤◌, List, [], ◌∷◌, Option, Some, None, true, length, length-append, refl, ap, subst, arith}
+use Rattle.std.proofs.lemmas.{List.Sums.sum_by-cons}
+use Rattle.std.specs.Prelude.{sum_by}
 use Rattle.kp_base.specs.{First.first, Refusal.e_rule}
 use Rattle.kp_ast.specs.declared.tree.{Expr.Expr, ReadStmt.ReadStmt, Decl.Decl, Stmt.Stmt, StmtKind.StmtKind, Block.Block, Job.Job}
 use Rattle.kp_ast.specs.declared.tree.Decl.TheVariants as decls
 use Rattle.kp_ast.specs.declared.tree.StmtKind.TheVariants as stmts
 use Rattle.kp_width.specs.Declarations.{functions_in, name_of}
 use Rattle.kp_width.proofs.Unbroken.{Unbroken, bind_unbroken, answer_unbroken}
+use Rattle.std.proofs.lemmas.Bool.Decides.{nat_tests}
 use Rattle.kp_stage.specs.Counts.{regs_in, files_in, pipes_in, results_in, hints_in, samples_in, one_if_some, is_within, nothing_counted, with_decl, with_stmt, place_of_read, decls_counted, stmts_counted, blocks_counted, counts_of}
 use Rattle.kp_stage.specs.{Facts.facts_of, Rules.broken_by, Sizes.sizes_of, Stages.broken_of}
 use Rattle.kp_stage.specs.Counts as counts
 use Rattle.kp_stage.proofs.{Unbroken.first_none, Totals.counts_total}
-use Rattle.kp_machine.specs.Slots.{Slot, targets_of, pipes_of, hints_of, samples_of, is_register}
-use Rattle.kp_synth_tables.specs.Keys.{guesses_in, guesses_from, guesses_of, piped_at, is_stored, is_carried, visible_keys, pipe_keys, result_keys, guess_keys, stage_keys, stages_keys, later_keys, hint_keys, keys_of}
-use Rattle.kp_synth_tables.specs.declared.key.GuessSlot.{GuessSlot}
-use Rattle.kp_synth_tables.specs.declared.key.Key.TheVariants.{Visible, Pipe, Valid, Value, Pending, Guess}
+use Rattle.kp_machine.specs.Slots.{targets_of, pipes_of, hints_of, samples_of}
+use Rattle.kp_synth_tables.specs.Keys.{guesses_in, guesses_from, guesses_of}
 use Rattle.kp_synth_tables.specs.inner.Tables.{read_here, guess_here, guess_count}
 use Rattle.kp_synth_tables.proofs.Laying.{guess_step}
 
@@ -59,29 +58,18 @@ pub record Limits (job : Job) : Type 0 where
   pub samples : sum_by samples_in job.decls ≤ 16
   pub guesses : sum_by (λ (b : Block). sum_by counts.guesses_in b.stmts) job.blocks ≤ 8
 
-abbrev four : ℕ → ℕ → ℕ → ℕ → Bool
-four regs files pipes results = nat_le regs 64 && nat_le files 16 && nat_le pipes 128 && nat_le results 64
-
 limits_of : (c : _) → is_within c ≡ true
     → (c.regs ≤ 64) × (c.files ≤ 16) × (c.pipes ≤ 128) × (c.results ≤ 64) × (c.hints ≤ 16) × (c.functions ≤ 64) × (c.guesses ≤ 8) × (c.samples ≤ 16)
-limits_of c h =
-    let s = and_parts (four c.regs c.files c.pipes c.results && nat_le c.hints 16 && nat_le c.functions 64 && nat_le c.reads 256 && nat_le c.guesses 8) (nat_le c.samples 16) h in
-    let z = and_parts (four c.regs c.files c.pipes c.results && nat_le c.hints 16 && nat_le c.functions 64 && nat_le c.reads 256) (nat_le c.guesses 8) s.0 in
-    let y = and_parts (four c.regs c.files c.pipes c.results && nat_le c.hints 16 && nat_le c.functions 64) (nat_le c.reads 256) z.0 in
-    let x = and_parts (four c.regs c.files c.pipes c.results && nat_le c.hints 16) (nat_le c.functions 64) y.0 in
-    let w = and_parts (four c.regs c.files c.pipes c.results) (nat_le c.hints 16) x.0 in
-    let v = and_parts (nat_le c.regs 64 && nat_le c.files 16 && nat_le c.pipes 128) (nat_le c.results 64) w.0 in
-    let u = and_parts (nat_le c.regs 64 && nat_le c.files 16) (nat_le c.pipes 128) v.0 in
-    let r = and_parts (nat_le c.regs 64) (nat_le c.files 16) u.0 in (
-      leb-true c.regs 64 r.0,
-      leb-true c.files 16 r.1,
-      leb-true c.pipes 128 u.1,
-      leb-true c.results 64 v.1,
-      leb-true c.hints 16 w.1,
-      leb-true c.functions 64 x.1,
-      leb-true c.guesses 8 z.1,
-      leb-true c.samples 16 s.1,
-    )
+limits_of c h = (
+  grind (arith, nat_tests),
+  grind (arith, nat_tests),
+  grind (arith, nat_tests),
+  grind (arith, nat_tests),
+  grind (arith, nat_tests),
+  grind (arith, nat_tests),
+  grind (arith, nat_tests),
+  grind (arith, nat_tests),
+)
 
 pub limits : (job : Job) → broken_of job ≡ None → Limits job
 limits job e =
@@ -113,12 +101,7 @@ samples_counted (d ∷ ds) = let more = samples_counted ds in omega (arith, more
 
 one_kind : (d : Decl) → regs_in d + files_in d + pipes_in d + results_in d + hints_in d + functions_in d + samples_in d ≡ 1
 one_kind (decls.Reg n width start) = refl
-one_kind (decls.File n width address) = refl
-one_kind (decls.Pipe n width) = refl
-one_kind (decls.Hint n width start) = refl
-one_kind (decls.Sample n width stage) = refl
-one_kind (decls.Target r) = refl
-one_kind (decls.Func f) = refl
+one_kind _ = refl
 
 all_counted : (ds : List Decl) → length ds ≡ sum_by regs_in ds + sum_by files_in ds + sum_by pipes_in ds + sum_by results_in ds + sum_by hints_in ds + sum_by functions_in ds + sum_by samples_in ds
 all_counted [] = refl
@@ -181,74 +164,3 @@ few job e =
       samples = omega (arith, samples_counted job.decls, l.samples);
       guesses = omega (arith, blocks_counted_in job 0 job.blocks, l.guesses);
     }
-
--- THE KEYS are few too.
-pub visible_few : (t : ℕ) (ss : List Slot) → length (visible_keys t ss) ≤ length ss
-visible_few t [] = omega arith
-visible_few t (s ∷ ss) = let more = visible_few (suc t) ss in cond_both (is_register s) (Visible t ∷ visible_keys (suc t) ss) (visible_keys (suc t) ss) (λ l. length l ≤ suc (length ss)) (λ y. omega (arith, more)) (λ n. omega (arith, more))
-
-pub pipes_few : (job : Job) (k x : ℕ) (ss : List Slot) → length (pipe_keys job k x ss) ≤ length ss
-pipes_few job k x [] = omega arith
-pipes_few job k x (s ∷ ss) =
-    let more = pipes_few job k (suc x) ss in
-    cond_both (piped_at job s.name k) (Pipe x k ∷ pipe_keys job k (suc x) ss) (pipe_keys job k (suc x) ss) (λ l. length l ≤ suc (length ss)) (λ y. omega (arith, more)) (λ n. omega (arith, more))
-
-results_few : (job : Job) (k t : ℕ) (ss : List Slot) → length (result_keys job k t ss) ≤ 2 * length ss
-results_few job k t [] = omega arith
-results_few job k t (s ∷ ss) =
-    let more = results_few job k (suc t) ss in
-    cond_both (is_stored job t k) (Valid t k ∷ Value t k ∷ result_keys job k (suc t) ss) (result_keys job k (suc t) ss) (λ l. length l ≤ 2 * suc (length ss)) (λ y. omega (arith, more)) (λ n. omega (arith, more))
-
-pub guesses_few : (k g : ℕ) (ss : List GuessSlot) → length (guess_keys k g ss) ≤ 2 * length ss
-guesses_few k g [] = omega arith
-guesses_few k g (s ∷ ss) =
-    let more = guesses_few k (suc g) ss in
-    cond_both (is_carried s k) (Pending g k ∷ Guess g k ∷ guess_keys k (suc g) ss) (guess_keys k (suc g) ss) (λ l. length l ≤ 2 * suc (length ss)) (λ y. omega (arith, more)) (λ n. omega (arith, more))
-
-pub hints_few : (h : ℕ) (ss : List Slot) → length (hint_keys h ss) ≤ length ss
-hints_few h [] = omega arith
-hints_few h (s ∷ ss) = let more = hints_few (suc h) ss in omega (arith, more)
-
-module _ (job : Job) (n : IsFew job) where
-  stage_few : (k : ℕ) → length (stage_keys job k) ≤ 305
-  stage_few k =
-      let pipes = pipe_keys job k 0 (pipes_of job.decls) in
-      let results = result_keys job k 0 (targets_of job.decls) in
-      let guesses = guess_keys k 0 (guesses_of job) in
-      omega (
-        arith,
-        length-append pipes (results ++ guesses),
-        length-append results guesses,
-        pipes_few job k 0 (pipes_of job.decls),
-        results_few job k 0 (targets_of job.decls),
-        guesses_few k 0 (guesses_of job),
-        n.targets,
-        n.pipes,
-        n.guesses,
-      )
-
-  stages_few : (d k : ℕ) → length (stages_keys job d k) ≤ 305 * d
-  stages_few zero k = omega arith
-  stages_few (suc d) k = let here = stage_few k in let more = stages_few d (suc k) in omega (arith, here, more, length-append (stage_keys job k) (stages_keys job d (suc k)))
-
-  later_few : (s : ℕ) → length (later_keys job s) ≤ 305 * s
-  later_few zero = omega arith
-  later_few (suc s) = let more = stages_few s 1 in omega (arith, more)
-
-  pub keys_few : job.stages.value ≤ 12 → length (keys_of job) ≤ 4096
-  unfolding keys_of
-  keys_few l =
-      let visible = visible_keys 0 (targets_of job.decls) in
-      let later = later_keys job job.stages.value in
-      let hints = hint_keys 0 (hints_of job.decls) in
-      omega (
-        arith,
-        length-append visible (later ++ hints),
-        length-append later hints,
-        visible_few 0 (targets_of job.decls),
-        later_few job.stages.value,
-        hints_few 0 (hints_of job.decls),
-        n.targets,
-        n.hints,
-        l,
-      )

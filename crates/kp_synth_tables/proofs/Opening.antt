@@ -1,30 +1,29 @@
 -- The tables that are laid out are those of the job.
-use Rattle.std.proofs.Common.{◌≡◌, ◌∙◌, ℕ, zero, suc, ◌+◌, ◌-◌, ◌<◌, ◌≤◌, max, List, [], ◌∷◌, ◌++◌, map, Option, Some, None, Bool, true, false, cond, ◌&&◌, ◌||◌, length, length-append, get_or, refl, ap, sym, subst, arith}
-use Rattle.std.proofs.lemmas.{List.get_or-map, List.length-map, Bool.ltb-true}
-use Rattle.std.specs.{Prelude.is_some, Prelude.nat_lt, Prelude.nat_le, Prelude.slice_get, List.AllByRecursion}
+use Rattle.std.proofs.Common.{◌≡◌, ◌∙◌, ℕ, zero, suc, ◌+◌, ◌-◌, ◌<◌, ◌≤◌, max, List, [], ◌∷◌, ◌++◌, map, Option, Some, None, Bool, true, false, cond, ◌&&◌, ◌||◌, length, get_or, refl, ap, sym, arith}
+use Rattle.std.proofs.lemmas.{List.get_or-map, List.length-map, List.map-id, Option.slice_get-get_or, Bool.ltb-true}
+use Rattle.std.specs.{Prelude.is_some, Prelude.nat_lt, Prelude.nat_le, Prelude.slice_get, List.list_any}
 use Rattle.kp_base.specs.{First.first, Refusal.e_rule}
 use Rattle.kp_stage.proofs.Unbroken.{answer_none}
 use Rattle.kp_machine.proofs.{Rules.rules_kept, Rules.decl_kept, Cases.by_test, Stages.stages_inside}
-use Rattle.kp_ast.specs.declared.tree.{Named.Named, Expr.Expr, ReadStmt.ReadStmt, ResultDecl.ResultDecl, Decl.Decl, Stmt.Stmt, StmtKind.StmtKind, Block.Block}
+use Rattle.kp_ast.specs.declared.tree.{Named.Named, ResultDecl.ResultDecl, Decl.Decl, Stmt.Stmt, StmtKind.StmtKind, Block.Block}
 use Rattle.kp_ast.specs.declared.tree.Job.{Job}
 use Rattle.kp_ast.specs.declared.tree.Decl.TheVariants as decls
 use Rattle.kp_ast.specs.declared.tree.StmtKind.TheVariants as stmts
 use Rattle.kp_width.specs.Widths.{widths_of}
 use Rattle.kp_width.proofs.Unbroken.{Unbroken}
 use Rattle.kp_stage.specs.Facts.{At, Facts, facts_of, put_at, puts_in, puts_of, aim_at, aims_in, aims_of}
-use Rattle.kp_stage.specs.{Stages.broken_of, Design.Plan, Design.IsSound}
-use Rattle.kp_pipeline.proofs.Lists.{all-append}
+use Rattle.kp_stage.specs.{Stages.broken_of, Design.Plan, Design.IsSound, Uses.puts, Uses.aims}
 use Rattle.kp_machine.specs.Slots.{Slot, targets_of, pipes_of, hints_of, samples_of}
 use Rattle.kp_machine.specs.Machine.{machine_of, result_for, write_stage_of, after_put, stage_or_zero, known_after, known_from_of, aim_stage}
-use Rattle.kp_synth_tables.specs.Keys.{no_slot, pipe_at, hint_at, no_guess, guesses_in, guesses_from, guesses_of, guess_at, piped_at, set_by, is_stored, visible_keys, pipe_keys, result_keys, guess_keys, stage_keys, stages_keys, later_keys, hint_keys, keys_of}
-use Rattle.kp_synth_tables.specs.inner.Tables.{byte, short, sized, is_aim, has_aim, aimed_in, short_piped, aimed, known_in, short_number, short_port, short_guess, read_here, guess_here, guess_count, piped_by, pipes_by, stored_by, result_here, results_by, stage_by, stages_by}
+use Rattle.kp_synth_tables.specs.Keys.{no_slot, pipe_at, hint_at, no_guess, guesses_of, guess_at, piped_at, set_by, is_stored, visible_keys, pipe_keys, result_keys, guess_keys, stage_keys, stages_keys, later_keys, hint_keys, keys_of}
+use Rattle.kp_synth_tables.specs.inner.Tables.{byte, short, sized, has_aim, aimed_in, short_piped, aimed, known_in, short_number, short_port, short_guess, pipes_by, stored_by, result_here, results_by, stage_by, stages_by}
 use Rattle.kp_synth_tables.specs.declared.key.{GuessSlot.GuessSlot, Key.Key}
 use Rattle.kp_synth_tables.specs.declared.key.Key.TheVariants.{Full, Pipe, Valid, Value}
 use Rattle.kp_synth_tables.specs.declared.layout.{Sized.Sized, Port.Port, Piped.Piped, Aimed.Aimed}
-use Rattle.kp_synth_tables.specs.Spans.{is_put, has_put, put_after, has_set, set_after, uses_name, last_use_in, is_called, last_write, last_use}
+use Rattle.kp_synth_tables.specs.Spans.{has_put, put_after, has_set, set_after, uses_name, last_use_in, is_called, last_write, last_use}
 use Rattle.kp_synth_tables.specs.Fits.{pipe_number, port_for, port_at, IsWidth, EnableFits, AddressFits, ResultFits, Fits}
 use Rattle.kp_synth_tables.specs.inner.Laid.{no_size, no_aim, no_piped, piped_of, Vectors, IsLaid}
-use Rattle.kp_synth_tables.proofs.{Fitting.guess_there, Fitting.fits, Laying.guess_step, Limits.IsFew, Limits.few, Limits.keys_few, Limits.guess_counted}
+use Rattle.kp_synth_tables.proofs.{Fitting.guess_there, Fitting.fits, Limits.IsFew, Limits.few, Counting.keys_few}
 
 byte_is : (n : ℕ) → n ≤ 255 → byte n ≡ n
 byte_is n l = omega arith
@@ -41,18 +40,6 @@ bytes_count ss = length-map ss (λ (s : Slot). byte s.width)
 
 byte_at : (ss : List Slot) (x : ℕ) → x < length ss → IsWidth (get_or ss x no_slot).width → get_or (bytes_of ss) x 0 ≡ (get_or ss x no_slot).width
 byte_at ss x l w = get_or-map (λ (s : Slot). byte s.width) ss x no_slot 0 l ∙ byte_is _ (omega (arith, w.at_most))
-
-there : {X : Type 0} (xs : List X) (i : ℕ) (d : X) → i < length xs → slice_get xs i ≡ Some (get_or xs i d)
-there [] i d l = absurd (omega arith)
-there (x ∷ xs) zero d l = refl
-there (x ∷ xs) (suc i) d l = there xs i d (omega arith)
-
-map_same : {X : Type 0} (f : X → X) (xs : List X) (d : X) → ((i : ℕ) → i < length xs → f (get_or xs i d) ≡ get_or xs i d) → map f xs ≡ xs
-map_same f [] d h = refl
-map_same f (x ∷ xs) d h =
-    let here : f x ≡ x = h 0 (omega arith) in
-    let more = map_same f xs d (λ i l. h (suc i) (omega (arith, l))) in
-    λ i. here i ∷ more i
 
 maps_same : {X Y : Type 0} (f g : X → Y) (xs : List X) (d : X) → ((i : ℕ) → i < length xs → f (get_or xs i d) ≡ g (get_or xs i d)) → map f xs ≡ map g xs
 maps_same f g [] d h = refl
@@ -71,36 +58,35 @@ first_stage : (k : ℕ) (b c : Bool) (at : At) (os : List (Option At)) → at.st
 first_stage k true c at os e h = ap Some e
 first_stage k false c at os e h = h
 
+module _ (test : StmtKind → Bool) (at : ℕ → ℕ → StmtKind → Option At) (is : (k j : ℕ) (s : StmtKind) → at k j s ≡ cond (test s) (Some (record { stage = k; index = j })) None)
+    (all : ℕ → ℕ → List Stmt → List (Option At)) (none : (k j : ℕ) → all k j [] ≡ []) (more : (k j : ℕ) (s : Stmt) (ss : List Stmt) → all k j (s ∷ ss) ≡ at k j s.kind ∷ all k (j + 1) ss) where
+  stage_in : (k j : ℕ) (ss : List Stmt) → stage_of (first (all k j ss)) ≡ cond (list_any (λ (s : Stmt). test s.kind) ss) (Some k) None
+  stage_in k j [] = ap (λ (os : List (Option At)). stage_of (first os)) (none k j)
+  stage_in k j (s ∷ ss) =
+      ap (λ (os : List (Option At)). stage_of (first os)) (more k j s ss ∙ ap (λ (o : Option At). o ∷ all k (j + 1) ss) (is k j s.kind))
+      ∙ first_stage k (test s.kind) (list_any (λ (x : Stmt). test x.kind) ss) (record { stage = k; index = j }) (all k (j + 1) ss) refl (stage_in k (j + 1) ss)
+
+module _ (f : Option At → ℕ) (g : ℕ → ℕ) (some : (a : At) → f (Some a) ≡ g a.stage) where
+  block_stage : (k m : ℕ) (b : Bool) (o : Option At) (os : List (Option At)) → stage_of o ≡ cond b (Some k) None → m ≡ f (first os) → cond b (g k) m ≡ f (first (o ∷ os))
+  block_stage k m true None os e h = cc
+  block_stage k m false None os e h = h
+  block_stage k m true (Some at) os e h = let z : at.stage ≡ k = cc in ap g (sym z) ∙ sym (some at)
+  block_stage k m false (Some at) os e h = cc
+
 module _ (name : List ℕ) where
-  put_here : (k j : ℕ) (s : StmtKind) → put_at name k j s ≡ cond (is_put name s) (Some (record { stage = k; index = j })) None
+  put_here : (k j : ℕ) (s : StmtKind) → put_at name k j s ≡ cond (puts name s) (Some (record { stage = k; index = j })) None
   put_here k j (stmts.Put n e) = refl
   put_here k j s = refl
 
-  put_stage : (k j : ℕ) (ss : List Stmt) → stage_of (first (puts_in name k j ss)) ≡ cond (has_put name ss) (Some k) None
-  put_stage k j [] = refl
-  put_stage k j (s ∷ ss) =
-      ap (λ o. stage_of (first (o ∷ puts_in name k (j + 1) ss))) (put_here k j s.kind)
-      ∙ first_stage k (is_put name s.kind) (has_put name ss) (record { stage = k; index = j }) (puts_in name k (j + 1) ss) refl (put_stage k (j + 1) ss)
-
-  aim_here : (k j : ℕ) (s : StmtKind) → aim_at name k j s ≡ cond (is_aim name s) (Some (record { stage = k; index = j })) None
+  aim_here : (k j : ℕ) (s : StmtKind) → aim_at name k j s ≡ cond (aims name s) (Some (record { stage = k; index = j })) None
   aim_here k j (stmts.Aim n e) = refl
   aim_here k j s = refl
 
-  aim_stage_in : (k j : ℕ) (ss : List Stmt) → stage_of (first (aims_in name k j ss)) ≡ cond (has_aim name ss) (Some k) None
-  aim_stage_in k j [] = refl
-  aim_stage_in k j (s ∷ ss) =
-      ap (λ o. stage_of (first (o ∷ aims_in name k (j + 1) ss))) (aim_here k j s.kind)
-      ∙ first_stage k (is_aim name s.kind) (has_aim name ss) (record { stage = k; index = j }) (aims_in name k (j + 1) ss) refl (aim_stage_in k (j + 1) ss)
-
-  put_block : (k m : ℕ) (b : Bool) (o : Option At) (os : List (Option At)) → stage_of o ≡ cond b (Some k) None → m ≡ after_put (first os) → cond b (k + 1) m ≡ after_put (first (o ∷ os))
-  put_block k m true None os e h = cc
-  put_block k m false None os e h = h
-  put_block k m true (Some at) os e h = let f : at.stage ≡ k = cc in omega (arith, f)
-  put_block k m false (Some at) os e h = cc
-
   put_same : (k : ℕ) (bs : List Block) → put_after name k bs ≡ after_put (first (puts_of name k bs))
   put_same k [] = refl
-  put_same k (b ∷ bs) = put_block k _ (has_put name b.stmts) (first (puts_in name k 0 b.stmts)) (puts_of name (k + 1) bs) (put_stage k 0 b.stmts) (put_same (k + 1) bs)
+  put_same k (b ∷ bs) =
+      block_stage after_put (λ n. n + 1) (λ a. omega arith) k _ (has_put name b.stmts) (first (puts_in name k 0 b.stmts)) (puts_of name (k + 1) bs)
+      (stage_in (puts name) (put_at name) put_here (puts_in name) (λ n j. refl) (λ n j s ss. refl) k 0 b.stmts) (put_same (k + 1) bs)
 
   put_few : (k : ℕ) (bs : List Block) → put_after name k bs ≤ k + length bs
   put_few k [] = omega arith
@@ -117,15 +103,11 @@ module _ (name : List ℕ) where
       (λ y. rw y (let more = use_few k (k + 1) bs (omega arith) in omega (arith, more)))
       (λ n. rw n (let more = use_few last (k + 1) bs (omega (arith, l)) in omega (arith, more)))
 
-  aim_block : (k m : ℕ) (b : Bool) (o : Option At) (os : List (Option At)) → stage_of o ≡ cond b (Some k) None → m ≡ stage_or_zero (first os) → cond b k m ≡ stage_or_zero (first (o ∷ os))
-  aim_block k m true None os e h = cc
-  aim_block k m false None os e h = h
-  aim_block k m true (Some at) os e h = let f : at.stage ≡ k = cc in sym f
-  aim_block k m false (Some at) os e h = cc
-
   aim_same : (k : ℕ) (bs : List Block) → aimed_in name k bs ≡ stage_or_zero (first (aims_of name k bs))
   aim_same k [] = refl
-  aim_same k (b ∷ bs) = aim_block k _ (has_aim name b.stmts) (first (aims_in name k 0 b.stmts)) (aims_of name (k + 1) bs) (aim_stage_in k 0 b.stmts) (aim_same (k + 1) bs)
+  aim_same k (b ∷ bs) =
+      block_stage stage_or_zero (λ n. n) (λ a. refl) k _ (has_aim name b.stmts) (first (aims_in name k 0 b.stmts)) (aims_of name (k + 1) bs)
+      (stage_in (aims name) (aim_at name) aim_here (aims_in name) (λ n j. refl) (λ n j s ss. refl) k 0 b.stmts) (aim_same (k + 1) bs)
 
 module _ (job : Job) where
   -- HINTS
@@ -136,46 +118,6 @@ module _ (job : Job) where
   aimed_map [] = refl
   aimed_map (decls.Hint n width start ∷ ds) = ap (λ (more : List Aimed). record { width = byte width.value; stage = short (aimed_in n.name 0 job.blocks) } ∷ more) (aimed_map ds)
   aimed_map (d ∷ ds) = aimed_map ds
-
-  -- GUESSES. The numbers of the guesses of a stage.
-  abbrev Before : ℕ → GuessSlot → Type 0
-  Before m g = g.index < m
-
-  read_before : (m k i : ℕ) (r : ReadStmt) (o : Option Expr) → i + length (read_here job k i r o) ≤ m → AllByRecursion (Before m) (read_here job k i r o)
-  read_before m k i r None l = tt
-  read_before m k i r (Some e) l = (omega (arith, l), tt)
-
-  guess_before : (m k i : ℕ) (x : StmtKind) → i + length (guess_here job k i x) ≤ m → AllByRecursion (Before m) (guess_here job k i x)
-  guess_before m k i (stmts.Read r) l = read_before m k i r r.guess l
-  guess_before m k i x l = tt
-
-  stmts_before : (m k i : ℕ) (ss : List Stmt) → i + length (guesses_in job k i ss) ≤ m → AllByRecursion (Before m) (guesses_in job k i ss)
-  stmts_before m k i [] l = tt
-  stmts_before m k i (s ∷ ss) l =
-      let here = guess_here job k i s.kind in
-      let rest = guesses_in job k (i + guess_count s.kind) ss in
-      let step = guess_step job k i s.kind (λ j. guesses_in job k j ss) in
-      let total : length (guesses_in job k i (s ∷ ss)) ≡ length here + length rest = ap length step ∙ length-append here rest in
-      let count = guess_counted job k i s.kind in
-      subst (λ gs. AllByRecursion (Before m) gs) (sym step)
-      (all-append (Before m) here rest (guess_before m k i s.kind (omega (arith, l, total))) (stmts_before m k (i + guess_count s.kind) ss (omega (arith, l, total, count))))
-
-  blocks_before : (m k : ℕ) (bs : List Block) → length (guesses_from job k bs) ≤ m → AllByRecursion (Before m) (guesses_from job k bs)
-  blocks_before m k [] l = tt
-  blocks_before m k (b ∷ bs) l =
-      let here = guesses_in job k 0 b.stmts in
-      let rest = guesses_from job (suc k) bs in
-      let total = length-append here rest in
-      all-append (Before m) here rest (stmts_before m k 0 b.stmts (omega (arith, l, total))) (blocks_before m (suc k) bs (omega (arith, l, total)))
-
-  before_at : (m : ℕ) (gs : List GuessSlot) → AllByRecursion (Before m) gs → (g : ℕ) → g < length gs → (get_or gs g no_guess).index < m
-  before_at m [] all g l = absurd (omega arith)
-  before_at m (x ∷ gs) all zero l = all.0
-  before_at m (x ∷ gs) all (suc g) l = before_at m gs all.1 g (omega arith)
-
-  index_few : (g : ℕ) → g < length (guesses_of job) → (guess_at job g).index < length (guesses_of job)
-  unfolding guesses_of
-  index_few g l = before_at (length (guesses_of job)) (guesses_of job) (blocks_before (length (guesses_of job)) 0 job.blocks (omega arith)) g l
 
   -- KEYS
   stored_port : (t k : ℕ) (o : Option ResultDecl) → stored_by (port_for job t o) k ≡ (nat_le (set_by job o) k && (is_some o && nat_le k (write_stage_of o)))
@@ -325,7 +267,7 @@ module _ (job : Job) (right : Unbroken (widths_of job)) (kept : broken_of job �
   unfolding machine_of
   aim_is h l =
       let s = aim_same (hint_at job h).name 0 job.blocks in
-      let e : aimed_in (hint_at job h).name 0 job.blocks ≡ aim_stage facts (slice_get (hints_of job.decls) h) = s ∙ ap (aim_stage facts) (sym (there (hints_of job.decls) h no_slot l)) in
+      let e : aimed_in (hint_at job h).name 0 job.blocks ≡ aim_stage facts (slice_get (hints_of job.decls) h) = s ∙ ap (aim_stage facts) (sym (slice_get-get_or (hints_of job.decls) h no_slot l)) in
       let f : aim_stage facts (slice_get (hints_of job.decls) h) < job.stages.value = fit.aims h l in
       short_is _ (omega (arith, e, f, fit.at_most)) ∙ e
 
@@ -333,14 +275,14 @@ module _ (job : Job) (right : Unbroken (widths_of job)) (kept : broken_of job �
   guess_is g l =
       let h = guess_there job right kept g l in
       let a : short (guess_at job g).stage ≡ (guess_at job g).stage = short_is _ (omega (arith, h.early, h.late, fit.at_most)) in
-      let b : short (guess_at job g).index ≡ (guess_at job g).index = short_is _ (omega (arith, index_few job g l, small.guesses)) in
+      let b : short (guess_at job g).index ≡ (guess_at job g).index = short_is _ (omega (arith, h.index, small.guesses)) in
       let d : short (guess_at job g).register ≡ (guess_at job g).register = short_is _ (omega (arith, h.register, small.targets)) in
       let e : byte (guess_at job g).width ≡ (guess_at job g).width = byte_is _ (omega (arith, h.width.at_most)) in
       let f : short (guess_at job g).write ≡ (guess_at job g).write = short_is _ (omega (arith, h.late, fit.at_most)) in
       λ i. record { stage = a i; index = b i; register = d i; width = e i; write = f i }
 
   pub guesses_same : map short_guess (guesses_of job) ≡ guesses_of job
-  guesses_same = map_same short_guess (guesses_of job) no_guess guess_is
+  guesses_same = maps_same short_guess (λ g. g) (guesses_of job) no_guess guess_is ∙ map-id (guesses_of job)
 
   module _ (v : Vectors) where
     -- what is laid out is laid
@@ -387,7 +329,7 @@ module _ (job : Job) (right : Unbroken (widths_of job)) (kept : broken_of job �
               ap (λ (xs : List ℕ). get_or xs x 0) s ∙ byte_at (samples_of job.decls) x m (fit.samples x m);
           guesses = same;
           keys = all;
-          key_count = let k = keys_few job small fit.at_most in omega (arith, ap length all, k);
+          key_count = let k = keys_few job kept fit.at_most in omega (arith, ap length all, k);
         }
 
 -- THE TABLES OF A DESIGN.

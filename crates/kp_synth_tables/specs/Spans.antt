@@ -1,33 +1,22 @@
 -- WHICH STAGES STORE a pipe and a result: those in which its value may matter.
 use Rattle.std.specs.Prelude.{ℕ, ◌+◌, max, List, [], ◌∷◌, Option, Some, None, Bool, false, ◌||◌, if◌then◌else◌}
 use Rattle.std.specs.List.{list_any}
-use Rattle.kp_ast.specs.{Expressions.is_same_name, declared.tree.Named.Named, declared.tree.Stmt.Stmt, declared.tree.StmtKind.StmtKind}
+use Rattle.kp_ast.specs.{Expressions.is_same_name, declared.tree.Named.Named, declared.tree.Stmt.Stmt}
 use Rattle.kp_ast.specs.declared.tree.{Block.Block, Decl.Decl, Job.Job}
-use Rattle.kp_ast.specs.declared.tree.StmtKind.TheVariants as stmts
 use Rattle.kp_ast.specs.declared.tree.Decl.TheVariants as decls
-use Rattle.kp_stage.specs.Uses.{uses, exprs_in}
+use Rattle.kp_stage.specs.Uses.{puts, sets, uses, exprs_in}
 
 -- the stage after the put of a pipe, among the blocks from number k on, and 0 if there is none
-abbrev pub is_put : List ℕ → StmtKind → Bool
-is_put name (stmts.Put n e) = is_same_name name n.name
-is_put name _ = false
-
 abbrev pub has_put : List ℕ → List Stmt → Bool
-has_put name [] = false
-has_put name (s ∷ ss) = is_put name s.kind || has_put name ss
+has_put name ss = list_any (λ (s : Stmt). puts name s.kind) ss
 
 abbrev pub put_after : List ℕ → ℕ → List Block → ℕ
 put_after name k [] = 0
 put_after name k (b ∷ bs) = if has_put name b.stmts then k + 1 else put_after name (k + 1) bs
 
 -- the stage after the first that sets a result, and past all stages if there is none
-abbrev pub is_set : List ℕ → StmtKind → Bool
-is_set name (stmts.Set n e when) = is_same_name name n.name
-is_set name _ = false
-
 abbrev pub has_set : List ℕ → List Stmt → Bool
-has_set name [] = false
-has_set name (s ∷ ss) = is_set name s.kind || has_set name ss
+has_set name ss = list_any (λ (s : Stmt). sets name s.kind) ss
 
 abbrev pub set_after : List ℕ → ℕ → List Block → ℕ
 set_after name k [] = k
@@ -35,8 +24,7 @@ set_after name k (b ∷ bs) = if has_set name b.stmts then k + 1 else set_after 
 
 -- the last stage that uses a name in an expression, among the blocks from number k on, and `last` if none does
 abbrev pub uses_name : List ℕ → List Stmt → Bool
-uses_name name [] = false
-uses_name name (s ∷ ss) = list_any (uses name) (exprs_in s.kind) || uses_name name ss
+uses_name name ss = list_any (λ (s : Stmt). list_any (uses name) (exprs_in s.kind)) ss
 
 abbrev pub last_use_in : List ℕ → ℕ → ℕ → List Block → ℕ
 last_use_in name last k [] = last

@@ -144,14 +144,10 @@ pub(crate) fn sample_widths(alloc: Global, decls: &[Decl]) -> Result<Vec<u8>, No
 fn has_aim(block: &Block, name: &Name) -> bool
     ensures { result ≡ has_aim name.now block.now.stmts }
 {
-    for stmt in block.stmts.as_slice() {
-        if let StmtKind::Aim(named, _) = &stmt.kind {
-            if *name == named.name {
-                return true;
-            }
-        }
-    }
-    false
+    block.stmts.as_slice().iter().any(|stmt| match &stmt.kind {
+        StmtKind::Aim(named, _) => *name == named.name,
+        _ => false,
+    })
 }
 
 // The stage that aims a hint.
@@ -170,14 +166,10 @@ fn aimed_in(blocks: &[Block], name: &Name) -> usize
 fn has_put(block: &Block, name: &Name) -> bool
     ensures { result ≡ has_put name.now block.now.stmts }
 {
-    for stmt in block.stmts.as_slice() {
-        if let StmtKind::Put(named, _) = &stmt.kind {
-            if *name == named.name {
-                return true;
-            }
-        }
-    }
-    false
+    block.stmts.as_slice().iter().any(|stmt| match &stmt.kind {
+        StmtKind::Put(named, _) => *name == named.name,
+        _ => false,
+    })
 }
 
 // The stage after the put of a pipe.
@@ -196,14 +188,10 @@ fn put_after(blocks: &[Block], name: &Name) -> usize
 fn has_set(block: &Block, name: &Name) -> bool
     ensures { result ≡ has_set name.now block.now.stmts }
 {
-    for stmt in block.stmts.as_slice() {
-        if let StmtKind::Set(named, _, _) = &stmt.kind {
-            if *name == named.name {
-                return true;
-            }
-        }
-    }
-    false
+    block.stmts.as_slice().iter().any(|stmt| match &stmt.kind {
+        StmtKind::Set(named, _, _) => *name == named.name,
+        _ => false,
+    })
 }
 
 // The stage after the first that sets a result.

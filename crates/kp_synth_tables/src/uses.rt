@@ -72,12 +72,11 @@ fn in_stmt(name: &Name, stmt: &StmtKind) -> bool
 fn in_block(name: &Name, block: &Block) -> bool
     ensures { result ≡ uses_name name.now block.now.stmts }
 {
-    for stmt in block.stmts.as_slice() {
-        if in_stmt(name, &stmt.kind) {
-            return true;
-        }
-    }
-    false
+    block
+        .stmts
+        .as_slice()
+        .iter()
+        .any(|stmt| in_stmt(name, &stmt.kind))
 }
 
 // The last stage that uses a name in an expression, or 0. Whether stage 0 uses it makes no difference.

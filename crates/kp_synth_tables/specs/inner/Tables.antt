@@ -1,10 +1,11 @@
 -- The contents of the tables of a job, as numbers of limited width.
-use Rattle.std.specs.Prelude.{ℕ, zero, suc, ◌+◌, min, max, List, [], ◌∷◌, ◌++◌, Option, Some, None, Bool, false, ◌||◌, ◌&&◌, if◌then◌else◌, nat_le}
-use Rattle.kp_ast.specs.{Expressions.is_same_name, declared.tree.Named.Named, declared.tree.ResultDecl.ResultDecl, declared.tree.Expr.Expr}
+use Rattle.std.specs.Prelude.{ℕ, zero, suc, ◌+◌, min, max, List, [], ◌∷◌, ◌++◌, Option, Some, None, Bool, false, ◌&&◌, if◌then◌else◌, nat_le}
+use Rattle.std.specs.List.{list_any}
+use Rattle.kp_ast.specs.{declared.tree.Named.Named, declared.tree.ResultDecl.ResultDecl, declared.tree.Expr.Expr}
 use Rattle.kp_ast.specs.declared.tree.{ReadStmt.ReadStmt, Stmt.Stmt, StmtKind.StmtKind, Block.Block, Decl.Decl, Job.Job}
 use Rattle.kp_ast.specs.declared.tree.StmtKind.TheVariants as stmts
 use Rattle.kp_ast.specs.declared.tree.Decl.TheVariants as decls
-use Rattle.kp_stage.specs.Counts.{one_if_some}
+use Rattle.kp_stage.specs.{Counts.one_if_some, Uses.aims}
 use Rattle.kp_machine.specs.Slots.{Slot, pipes_of, number_of}
 use Rattle.kp_synth_tables.specs.declared.key.{GuessSlot.GuessSlot, Key.Key}
 use Rattle.kp_synth_tables.specs.declared.key.Key.TheVariants.{Full, Pipe, Valid, Value}
@@ -22,13 +23,8 @@ abbrev pub sized : Slot → Sized
 sized s = record { width = byte s.width; address = byte s.address }
 
 -- the stage that aims a hint, among the blocks from number k on, and 0 if none does
-abbrev pub is_aim : List ℕ → StmtKind → Bool
-is_aim name (stmts.Aim n e) = is_same_name name n.name
-is_aim name _ = false
-
 abbrev pub has_aim : List ℕ → List Stmt → Bool
-has_aim name [] = false
-has_aim name (s ∷ ss) = is_aim name s.kind || has_aim name ss
+has_aim name ss = list_any (λ (s : Stmt). aims name s.kind) ss
 
 abbrev pub aimed_in : List ℕ → ℕ → List Block → ℕ
 aimed_in name k [] = 0

@@ -3,10 +3,10 @@ use Rattle.kp_build.proofs.Rows.{row_one, row_some, front_there, shorter_there, 
 use Rattle.kp_build.proofs.joined.+joined_by_steps.Goals as goal
 
 pub unreachable-requires : goal.unreachable-requires
-unreachable-requires t c = row_some c.args.pool.now c.args.parts.now c.requires.inside c.requires.fit c.in-0.is
+unreachable-requires t c = row_some c.args.pool.now c.args.parts.now c.requires.fit c.in-0.is
 
 pub returns-in-1-clause-shows : goal.returns-in-1-clause-shows
-returns-in-1-clause-shows t c = row_one c.args.pool.now c.args.parts.now c.requires.inside c.requires.fit _ c.in-1.is
+returns-in-1-clause-shows t c = row_one c.args.pool.now c.args.parts.now _ c.in-1.is
 
 pub row-first-requires-clause-fit : goal.row-first-requires-clause-fit
 row-first-requires-clause-fit t c =

@@ -3,17 +3,17 @@ use Rattle.std.proofs.lemmas.{Result.IfOk-weaker, List.Elements.All-push, List.E
 use Rattle.std.proofs.lemmas.List.Sums.{sum_by_more, sum_by_more_le, get_or-le-sum_by}
 use Rattle.kp_bits.specs.Word.{not_of}
 use Rattle.kp_bits.specs.Checked.{checked_literal, checked_binary, checked_mux, checked_joined, checked_slice, checked_zext, checked_sext}
-use Rattle.std.specs.Prelude.{sum_by}
-use Rattle.kp_ast.specs.{Size.size, Size.bodies_of, Size.body_size_of, Size.no_bodies, Checked.checked_calls_of}
+use Rattle.std.specs.{Prelude.sum_by, Option.option_and_then}
+use Rattle.kp_ast.specs.{Size.Bodies, Size.size, Size.bodies_of, Size.body_size_of, Size.no_bodies, Checked.checked_calls_of}
 use Rattle.kp_net.specs.{Nodes.word_at, Growth.Grown}
 use Rattle.kp_net.proofs.Growing.{grown_then, grown_more}
-use Rattle.kp_build.proofs.Forms.{sound_Not, same_Not, sound_left, sound_right, same_Binary, sound_test, sound_yes, sound_no, same_Mux, sound_Slice, same_Slice, sound_Zext, same_Zext, sound_Sext, same_Sext, sound_Concat, same_Concat, sound_Call, same_Call}
+use Rattle.kp_build.proofs.Forms.{sound_Not, same_Not, sound_left, sound_right, same_Binary, sound_test, sound_yes, sound_no, same_Mux}
 use Rattle.kp_build.proofs.{Lists.grown_same, Lists.element_sound, Lists.none_show, Lists.more_show, Work.steps, Work.work, Work.work_of}
-use Rattle.kp_build.proofs.{Names.still_inside, Names.call_inside, Giving.sound_later, Giving.gives_earlier, Giving.gives_later, Giving.fit_by, Giving.gives_by}
+use Rattle.kp_build.proofs.{Names.still_inside, Names.call_inside, Giving.sound_later, Giving.gives_earlier, Giving.gives_later, Giving.fit_by, Giving.gives_by, Giving.one_sound, Giving.one_part, Giving.all_sound, Giving.all_parts}
 use Rattle.kp_build.proofs.Calls.{literal_there, names_found, name_gives, not_shows, body_sound, body_shows, body_count, last_there, no_function}
 use Rattle.kp_build.specs.{Names.known_at, inner.Showing.IsThere, inner.Showing.Shows, inner.Showing.AllShow, inner.Showing.words_at, inner.Showing.values_in}
 use Rattle.kp_build.proofs.Rows as rows
-use Rattle.kp_ast.proofs.Parts.{value_Lit, size_Not, size_Binary, size_Mux, size_Concat, size_Slice, size_Zext, size_Sext, size_Call}
+use Rattle.kp_ast.proofs.Parts.{value_Lit, value_Concat, value_Slice, value_Zext, value_Sext, value_Call, size_Not, size_Binary, size_Mux, size_Concat, size_Slice, size_Zext, size_Sext, size_Call}
 use Rattle.kp_build.proofs.walk.+walk.Goals as goal
 
 pub node_for-number-requires-clause-right : goal.node_for-number-requires-clause-right
@@ -34,9 +34,8 @@ node_for-returns-in-Name-clause-gives t c =
 
 pub node_for-node_for-requires : goal.node_for-node_for-requires
 node_for-node_for-requires t c =
-    let sz = size_Not c.args.e.now (bodies_of c.args.env.now.decls) c.in-Not.a c.get.result.now c.in-Not.is c.get.ensures in
-    let st = size_Not c.args.e.now no_bodies c.in-Not.a c.get.result.now c.in-Not.is c.get.ensures in
-    (omega (arith, st, c.decreases), (omega (arith, sz, c.requires.room), (c.requires.inside, sound_Not c.args.pool.now c.args.env.now c.args.e.now c.in-Not.a c.get.result.now c.in-Not.is c.get.ensures c.requires.sound)))
+    let of = λ (b : Bodies). size_Not c.args.e.now b c.in-Not.a c.get.result.now c.in-Not.is c.get.ensures in
+    (omega (arith, of no_bodies, c.decreases), (omega (arith, of (bodies_of c.args.env.now.decls), c.requires.room), (c.requires.inside, sound_Not c.args.pool.now c.args.env.now c.args.e.now c.in-Not.a c.get.result.now c.in-Not.is c.get.ensures c.requires.sound)))
 
 pub node_for-returns-in_ok-a-in-Not-clause-gives : goal.node_for-returns-in_ok-a-in-Not-clause-gives
 node_for-returns-in_ok-a-in-Not-clause-gives t c =
@@ -45,66 +44,67 @@ node_for-returns-in_ok-a-in-Not-clause-gives t c =
 
 pub node_for-node_for-requires-in-Slice : goal.node_for-node_for-requires-in-Slice
 node_for-node_for-requires-in-Slice t c =
-    let sz = size_Slice c.args.e.now (bodies_of c.args.env.now.decls) c.in-Slice.a c.get-in-Slice.result.now c.in-Slice.hi c.in-Slice.lo c.in-Slice.is c.get-in-Slice.ensures in
-    let st = size_Slice c.args.e.now no_bodies c.in-Slice.a c.get-in-Slice.result.now c.in-Slice.hi c.in-Slice.lo c.in-Slice.is c.get-in-Slice.ensures in
-    (omega (arith, st, c.decreases), (omega (arith, sz, c.requires.room), (c.requires.inside, sound_Slice c.args.pool.now c.args.env.now c.args.e.now c.in-Slice.a c.get-in-Slice.result.now c.in-Slice.hi c.in-Slice.lo c.in-Slice.is c.get-in-Slice.ensures c.requires.sound)))
+    let of = λ (b : Bodies). size_Slice c.args.e.now b c.in-Slice.a c.get-in-Slice.result.now c.in-Slice.hi c.in-Slice.lo c.in-Slice.is c.get-in-Slice.ensures in
+    (omega (arith, of no_bodies, c.decreases), (omega (arith, of (bodies_of c.args.env.now.decls), c.requires.room), (c.requires.inside, one_sound c.args.pool.now c.args.env.now c.args.e.now (checked_slice c.in-Slice.hi c.in-Slice.lo) c.get-in-Slice.result.now (λ c'. value_Slice c.args.e.now (known_at c' c.args.pool.now c.args.env.now) c.in-Slice.a c.get-in-Slice.result.now c.in-Slice.hi c.in-Slice.lo c.in-Slice.is c.get-in-Slice.ensures) c.requires.sound)))
 
 pub node_for-sliced-requires-clause-fit : goal.node_for-sliced-requires-clause-fit
 node_for-sliced-requires-clause-fit t c =
-    let same = same_Slice c.args.pool.now c.args.env.now c.args.e.now c.in-Slice.a c.get-in-Slice.result.now c.in-Slice.hi c.in-Slice.lo c.in-Slice.is c.get-in-Slice.ensures c.node_for-in-Slice.new.pool c.in_ok-a-in-Slice.a c.in_ok-a-in-Slice.ensures.gives in
+    let same = one_part c.args.pool.now c.args.env.now c.args.e.now (λ c'. option_and_then (checked_slice c.in-Slice.hi c.in-Slice.lo)) c.get-in-Slice.result.now c.node_for-in-Slice.new.pool c.in_ok-a-in-Slice.a
+    (λ c'. value_Slice c.args.e.now (known_at c' c.args.pool.now c.args.env.now) c.in-Slice.a c.get-in-Slice.result.now c.in-Slice.hi c.in-Slice.lo c.in-Slice.is c.get-in-Slice.ensures) c.in_ok-a-in-Slice.ensures.gives in
     fit_by c.args.pool.now c.args.env.now c.args.e.now (λ c'. checked_slice c.in-Slice.hi c.in-Slice.lo (word_at c' c.node_for-in-Slice.new.pool.nodes c.in_ok-a-in-Slice.a.0)) same c.requires.sound
 
 pub node_for-returns-in_ok-a-in-Slice-clause-gives : goal.node_for-returns-in_ok-a-in-Slice-clause-gives
 node_for-returns-in_ok-a-in-Slice-clause-gives t c =
-    let same = same_Slice c.args.pool.now c.args.env.now c.args.e.now c.in-Slice.a c.get-in-Slice.result.now c.in-Slice.hi c.in-Slice.lo c.in-Slice.is c.get-in-Slice.ensures c.node_for-in-Slice.new.pool c.in_ok-a-in-Slice.a c.in_ok-a-in-Slice.ensures.gives in
+    let same = one_part c.args.pool.now c.args.env.now c.args.e.now (λ c'. option_and_then (checked_slice c.in-Slice.hi c.in-Slice.lo)) c.get-in-Slice.result.now c.node_for-in-Slice.new.pool c.in_ok-a-in-Slice.a
+    (λ c'. value_Slice c.args.e.now (known_at c' c.args.pool.now c.args.env.now) c.in-Slice.a c.get-in-Slice.result.now c.in-Slice.hi c.in-Slice.lo c.in-Slice.is c.get-in-Slice.ensures) c.in_ok-a-in-Slice.ensures.gives in
     gives_by c.args.pool.now c.args.env.now c.args.e.now (λ c'. checked_slice c.in-Slice.hi c.in-Slice.lo (word_at c' c.node_for-in-Slice.new.pool.nodes c.in_ok-a-in-Slice.a.0)) same c.sliced.new.pool c.sliced.result c.sliced.ensures.shows
 
 pub node_for-node_for-requires-in-Zext : goal.node_for-node_for-requires-in-Zext
 node_for-node_for-requires-in-Zext t c =
-    let sz = size_Zext c.args.e.now (bodies_of c.args.env.now.decls) c.in-Zext.a c.get-in-Zext.result.now c.in-Zext.width c.in-Zext.is c.get-in-Zext.ensures in
-    let st = size_Zext c.args.e.now no_bodies c.in-Zext.a c.get-in-Zext.result.now c.in-Zext.width c.in-Zext.is c.get-in-Zext.ensures in
-    (omega (arith, st, c.decreases), (omega (arith, sz, c.requires.room), (c.requires.inside, sound_Zext c.args.pool.now c.args.env.now c.args.e.now c.in-Zext.a c.get-in-Zext.result.now c.in-Zext.width c.in-Zext.is c.get-in-Zext.ensures c.requires.sound)))
+    let of = λ (b : Bodies). size_Zext c.args.e.now b c.in-Zext.a c.get-in-Zext.result.now c.in-Zext.width c.in-Zext.is c.get-in-Zext.ensures in
+    (omega (arith, of no_bodies, c.decreases), (omega (arith, of (bodies_of c.args.env.now.decls), c.requires.room), (c.requires.inside, one_sound c.args.pool.now c.args.env.now c.args.e.now (checked_zext c.in-Zext.width.value) c.get-in-Zext.result.now (λ c'. value_Zext c.args.e.now (known_at c' c.args.pool.now c.args.env.now) c.in-Zext.a c.get-in-Zext.result.now c.in-Zext.width c.in-Zext.is c.get-in-Zext.ensures) c.requires.sound)))
 
 pub node_for-zero_extended-requires-clause-fit : goal.node_for-zero_extended-requires-clause-fit
 node_for-zero_extended-requires-clause-fit t c =
-    let same = same_Zext c.args.pool.now c.args.env.now c.args.e.now c.in-Zext.a c.get-in-Zext.result.now c.in-Zext.width c.in-Zext.is c.get-in-Zext.ensures c.node_for-in-Zext.new.pool c.in_ok-a-in-Zext.a c.in_ok-a-in-Zext.ensures.gives in
+    let same = one_part c.args.pool.now c.args.env.now c.args.e.now (λ c'. option_and_then (checked_zext c.in-Zext.width.value)) c.get-in-Zext.result.now c.node_for-in-Zext.new.pool c.in_ok-a-in-Zext.a
+    (λ c'. value_Zext c.args.e.now (known_at c' c.args.pool.now c.args.env.now) c.in-Zext.a c.get-in-Zext.result.now c.in-Zext.width c.in-Zext.is c.get-in-Zext.ensures) c.in_ok-a-in-Zext.ensures.gives in
     fit_by c.args.pool.now c.args.env.now c.args.e.now (λ c'. checked_zext c.in-Zext.width.value (word_at c' c.node_for-in-Zext.new.pool.nodes c.in_ok-a-in-Zext.a.0)) same c.requires.sound
 
 pub node_for-returns-in_ok-a-in-Zext-clause-gives : goal.node_for-returns-in_ok-a-in-Zext-clause-gives
 node_for-returns-in_ok-a-in-Zext-clause-gives t c =
-    let same = same_Zext c.args.pool.now c.args.env.now c.args.e.now c.in-Zext.a c.get-in-Zext.result.now c.in-Zext.width c.in-Zext.is c.get-in-Zext.ensures c.node_for-in-Zext.new.pool c.in_ok-a-in-Zext.a c.in_ok-a-in-Zext.ensures.gives in
+    let same = one_part c.args.pool.now c.args.env.now c.args.e.now (λ c'. option_and_then (checked_zext c.in-Zext.width.value)) c.get-in-Zext.result.now c.node_for-in-Zext.new.pool c.in_ok-a-in-Zext.a
+    (λ c'. value_Zext c.args.e.now (known_at c' c.args.pool.now c.args.env.now) c.in-Zext.a c.get-in-Zext.result.now c.in-Zext.width c.in-Zext.is c.get-in-Zext.ensures) c.in_ok-a-in-Zext.ensures.gives in
     gives_by c.args.pool.now c.args.env.now c.args.e.now (λ c'. checked_zext c.in-Zext.width.value (word_at c' c.node_for-in-Zext.new.pool.nodes c.in_ok-a-in-Zext.a.0)) same c.zero_extended.new.pool c.zero_extended.result c.zero_extended.ensures.shows
 
 pub node_for-node_for-requires-in-Sext : goal.node_for-node_for-requires-in-Sext
 node_for-node_for-requires-in-Sext t c =
-    let sz = size_Sext c.args.e.now (bodies_of c.args.env.now.decls) c.in-Sext.a c.get-in-Sext.result.now c.in-Sext.width c.in-Sext.is c.get-in-Sext.ensures in
-    let st = size_Sext c.args.e.now no_bodies c.in-Sext.a c.get-in-Sext.result.now c.in-Sext.width c.in-Sext.is c.get-in-Sext.ensures in
-    (omega (arith, st, c.decreases), (omega (arith, sz, c.requires.room), (c.requires.inside, sound_Sext c.args.pool.now c.args.env.now c.args.e.now c.in-Sext.a c.get-in-Sext.result.now c.in-Sext.width c.in-Sext.is c.get-in-Sext.ensures c.requires.sound)))
+    let of = λ (b : Bodies). size_Sext c.args.e.now b c.in-Sext.a c.get-in-Sext.result.now c.in-Sext.width c.in-Sext.is c.get-in-Sext.ensures in
+    (omega (arith, of no_bodies, c.decreases), (omega (arith, of (bodies_of c.args.env.now.decls), c.requires.room), (c.requires.inside, one_sound c.args.pool.now c.args.env.now c.args.e.now (checked_sext c.in-Sext.width.value) c.get-in-Sext.result.now (λ c'. value_Sext c.args.e.now (known_at c' c.args.pool.now c.args.env.now) c.in-Sext.a c.get-in-Sext.result.now c.in-Sext.width c.in-Sext.is c.get-in-Sext.ensures) c.requires.sound)))
 
 pub node_for-sign_extended-requires-clause-fit : goal.node_for-sign_extended-requires-clause-fit
 node_for-sign_extended-requires-clause-fit t c =
-    let same = same_Sext c.args.pool.now c.args.env.now c.args.e.now c.in-Sext.a c.get-in-Sext.result.now c.in-Sext.width c.in-Sext.is c.get-in-Sext.ensures c.node_for-in-Sext.new.pool c.in_ok-a-in-Sext.a c.in_ok-a-in-Sext.ensures.gives in
+    let same = one_part c.args.pool.now c.args.env.now c.args.e.now (λ c'. option_and_then (checked_sext c.in-Sext.width.value)) c.get-in-Sext.result.now c.node_for-in-Sext.new.pool c.in_ok-a-in-Sext.a
+    (λ c'. value_Sext c.args.e.now (known_at c' c.args.pool.now c.args.env.now) c.in-Sext.a c.get-in-Sext.result.now c.in-Sext.width c.in-Sext.is c.get-in-Sext.ensures) c.in_ok-a-in-Sext.ensures.gives in
     fit_by c.args.pool.now c.args.env.now c.args.e.now (λ c'. checked_sext c.in-Sext.width.value (word_at c' c.node_for-in-Sext.new.pool.nodes c.in_ok-a-in-Sext.a.0)) same c.requires.sound
 
 pub node_for-returns-in_ok-a-in-Sext-clause-gives : goal.node_for-returns-in_ok-a-in-Sext-clause-gives
 node_for-returns-in_ok-a-in-Sext-clause-gives t c =
-    let same = same_Sext c.args.pool.now c.args.env.now c.args.e.now c.in-Sext.a c.get-in-Sext.result.now c.in-Sext.width c.in-Sext.is c.get-in-Sext.ensures c.node_for-in-Sext.new.pool c.in_ok-a-in-Sext.a c.in_ok-a-in-Sext.ensures.gives in
+    let same = one_part c.args.pool.now c.args.env.now c.args.e.now (λ c'. option_and_then (checked_sext c.in-Sext.width.value)) c.get-in-Sext.result.now c.node_for-in-Sext.new.pool c.in_ok-a-in-Sext.a
+    (λ c'. value_Sext c.args.e.now (known_at c' c.args.pool.now c.args.env.now) c.in-Sext.a c.get-in-Sext.result.now c.in-Sext.width c.in-Sext.is c.get-in-Sext.ensures) c.in_ok-a-in-Sext.ensures.gives in
     gives_by c.args.pool.now c.args.env.now c.args.e.now (λ c'. checked_sext c.in-Sext.width.value (word_at c' c.node_for-in-Sext.new.pool.nodes c.in_ok-a-in-Sext.a.0)) same c.sign_extended.new.pool c.sign_extended.result c.sign_extended.ensures.shows
 
 pub node_for-node_for-requires-in-Binary : goal.node_for-node_for-requires-in-Binary
 node_for-node_for-requires-in-Binary t c =
-    let sz = size_Binary c.args.e.now (bodies_of c.args.env.now.decls) c.in-Binary.op c.in-Binary.a c.in-Binary.b c.get-in-Binary.result.now c.in-Binary.b c.in-Binary.is c.get-in-Binary.ensures refl in
-    let st = size_Binary c.args.e.now no_bodies c.in-Binary.op c.in-Binary.a c.in-Binary.b c.get-in-Binary.result.now c.in-Binary.b c.in-Binary.is c.get-in-Binary.ensures refl in
-    (omega (arith, st, c.decreases), (omega (arith, sz, c.requires.room), (c.requires.inside, sound_left c.args.pool.now c.args.env.now c.args.e.now c.in-Binary.op c.in-Binary.a c.in-Binary.b c.get-in-Binary.result.now c.in-Binary.b c.in-Binary.is c.get-in-Binary.ensures refl c.requires.sound)))
+    let of = λ (b : Bodies). size_Binary c.args.e.now b c.in-Binary.op c.in-Binary.a c.in-Binary.b c.get-in-Binary.result.now c.in-Binary.b c.in-Binary.is c.get-in-Binary.ensures refl in
+    (omega (arith, of no_bodies, c.decreases), (omega (arith, of (bodies_of c.args.env.now.decls), c.requires.room), (c.requires.inside, sound_left c.args.pool.now c.args.env.now c.args.e.now c.in-Binary.op c.in-Binary.a c.in-Binary.b c.get-in-Binary.result.now c.in-Binary.b c.in-Binary.is c.get-in-Binary.ensures refl c.requires.sound)))
 
 pub node_for-node_for-requires-in-Binary-2 : goal.node_for-node_for-requires-in-Binary-2
 node_for-node_for-requires-in-Binary-2 t c =
-    let sz = size_Binary c.args.e.now (bodies_of c.args.env.now.decls) c.in-Binary.op c.in-Binary.a c.in-Binary.b c.get-in-Binary.result.now c.get-in-Binary-2.result.now c.in-Binary.is c.get-in-Binary.ensures c.get-in-Binary-2.ensures in
-    let st = size_Binary c.args.e.now no_bodies c.in-Binary.op c.in-Binary.a c.in-Binary.b c.get-in-Binary.result.now c.get-in-Binary-2.result.now c.in-Binary.is c.get-in-Binary.ensures c.get-in-Binary-2.ensures in
+    let of = λ (b : Bodies). size_Binary c.args.e.now b c.in-Binary.op c.in-Binary.a c.in-Binary.b c.get-in-Binary.result.now c.get-in-Binary-2.result.now c.in-Binary.is c.get-in-Binary.ensures c.get-in-Binary-2.ensures in
     let g = c.in_ok-a-in-Binary.ensures.grown in (
-      omega (arith, st, c.decreases),
+      omega (arith, of no_bodies, c.decreases),
       (
-        omega (arith, sz, c.requires.room, g.kept.room),
+        omega (arith, of (bodies_of c.args.env.now.decls), c.requires.room, g.kept.room),
         (
           still_inside c.args.pool.now c.node_for-in-Binary.new.pool (8 * size c.args.env.now.decls c.get-in-Binary.result.now) c.args.env.now g c.requires.inside,
           sound_later c.args.pool.now c.node_for-in-Binary.new.pool (8 * size c.args.env.now.decls c.get-in-Binary.result.now) g c.args.env.now c.requires.inside c.get-in-Binary-2.result.now (sound_right c.args.pool.now c.args.env.now c.args.e.now c.in-Binary.op c.in-Binary.a c.in-Binary.b c.get-in-Binary.result.now c.get-in-Binary-2.result.now c.in-Binary.is c.get-in-Binary.ensures c.get-in-Binary-2.ensures c.requires.sound),
@@ -128,18 +128,16 @@ node_for-returns-in_ok-b-in-Binary-clause-gives t c =
 
 pub node_for-node_for-requires-in-Mux : goal.node_for-node_for-requires-in-Mux
 node_for-node_for-requires-in-Mux t c =
-    let sz = size_Mux c.args.e.now (bodies_of c.args.env.now.decls) c.in-Mux.test c.in-Mux.a c.in-Mux.b c.get-in-Mux.result.now c.in-Mux.a c.in-Mux.b c.in-Mux.is c.get-in-Mux.ensures refl refl in
-    let st = size_Mux c.args.e.now no_bodies c.in-Mux.test c.in-Mux.a c.in-Mux.b c.get-in-Mux.result.now c.in-Mux.a c.in-Mux.b c.in-Mux.is c.get-in-Mux.ensures refl refl in
-    (omega (arith, st, c.decreases), (omega (arith, sz, c.requires.room), (c.requires.inside, sound_test c.args.pool.now c.args.env.now c.args.e.now c.in-Mux.test c.in-Mux.a c.in-Mux.b c.get-in-Mux.result.now c.in-Mux.a c.in-Mux.b c.in-Mux.is c.get-in-Mux.ensures refl refl c.requires.sound)))
+    let of = λ (b : Bodies). size_Mux c.args.e.now b c.in-Mux.test c.in-Mux.a c.in-Mux.b c.get-in-Mux.result.now c.in-Mux.a c.in-Mux.b c.in-Mux.is c.get-in-Mux.ensures refl refl in
+    (omega (arith, of no_bodies, c.decreases), (omega (arith, of (bodies_of c.args.env.now.decls), c.requires.room), (c.requires.inside, sound_test c.args.pool.now c.args.env.now c.args.e.now c.in-Mux.test c.in-Mux.a c.in-Mux.b c.get-in-Mux.result.now c.in-Mux.a c.in-Mux.b c.in-Mux.is c.get-in-Mux.ensures refl refl c.requires.sound)))
 
 pub node_for-node_for-requires-in-Mux-2 : goal.node_for-node_for-requires-in-Mux-2
 node_for-node_for-requires-in-Mux-2 t c =
-    let sz = size_Mux c.args.e.now (bodies_of c.args.env.now.decls) c.in-Mux.test c.in-Mux.a c.in-Mux.b c.get-in-Mux.result.now c.get-in-Mux-2.result.now c.in-Mux.b c.in-Mux.is c.get-in-Mux.ensures c.get-in-Mux-2.ensures refl in
-    let st = size_Mux c.args.e.now no_bodies c.in-Mux.test c.in-Mux.a c.in-Mux.b c.get-in-Mux.result.now c.get-in-Mux-2.result.now c.in-Mux.b c.in-Mux.is c.get-in-Mux.ensures c.get-in-Mux-2.ensures refl in
+    let of = λ (b : Bodies). size_Mux c.args.e.now b c.in-Mux.test c.in-Mux.a c.in-Mux.b c.get-in-Mux.result.now c.get-in-Mux-2.result.now c.in-Mux.b c.in-Mux.is c.get-in-Mux.ensures c.get-in-Mux-2.ensures refl in
     let g = c.in_ok-test-in-Mux.ensures.grown in (
-      omega (arith, st, c.decreases),
+      omega (arith, of no_bodies, c.decreases),
       (
-        omega (arith, sz, c.requires.room, g.kept.room),
+        omega (arith, of (bodies_of c.args.env.now.decls), c.requires.room, g.kept.room),
         (
           still_inside c.args.pool.now c.node_for-in-Mux.new.pool (8 * size c.args.env.now.decls c.get-in-Mux.result.now) c.args.env.now g c.requires.inside,
           sound_later c.args.pool.now c.node_for-in-Mux.new.pool (8 * size c.args.env.now.decls c.get-in-Mux.result.now) g c.args.env.now c.requires.inside c.get-in-Mux-2.result.now (sound_yes c.args.pool.now c.args.env.now c.args.e.now c.in-Mux.test c.in-Mux.a c.in-Mux.b c.get-in-Mux.result.now c.get-in-Mux-2.result.now c.in-Mux.b c.in-Mux.is c.get-in-Mux.ensures c.get-in-Mux-2.ensures refl c.requires.sound),
@@ -149,12 +147,11 @@ node_for-node_for-requires-in-Mux-2 t c =
 
 pub node_for-node_for-requires-in-Mux-3 : goal.node_for-node_for-requires-in-Mux-3
 node_for-node_for-requires-in-Mux-3 t c =
-    let sz = size_Mux c.args.e.now (bodies_of c.args.env.now.decls) c.in-Mux.test c.in-Mux.a c.in-Mux.b c.get-in-Mux.result.now c.get-in-Mux-2.result.now c.get-in-Mux-3.result.now c.in-Mux.is c.get-in-Mux.ensures c.get-in-Mux-2.ensures c.get-in-Mux-3.ensures in
-    let st = size_Mux c.args.e.now no_bodies c.in-Mux.test c.in-Mux.a c.in-Mux.b c.get-in-Mux.result.now c.get-in-Mux-2.result.now c.get-in-Mux-3.result.now c.in-Mux.is c.get-in-Mux.ensures c.get-in-Mux-2.ensures c.get-in-Mux-3.ensures in
+    let of = λ (b : Bodies). size_Mux c.args.e.now b c.in-Mux.test c.in-Mux.a c.in-Mux.b c.get-in-Mux.result.now c.get-in-Mux-2.result.now c.get-in-Mux-3.result.now c.in-Mux.is c.get-in-Mux.ensures c.get-in-Mux-2.ensures c.get-in-Mux-3.ensures in
     let g = grown_then c.args.pool.now c.node_for-in-Mux.new.pool c.node_for-in-Mux-2.new.pool (8 * size c.args.env.now.decls c.get-in-Mux.result.now) (8 * size c.args.env.now.decls c.get-in-Mux-2.result.now) c.in_ok-test-in-Mux.ensures.grown c.in_ok-a-in-Mux.ensures.grown in (
-      omega (arith, st, c.decreases),
+      omega (arith, of no_bodies, c.decreases),
       (
-        omega (arith, sz, c.requires.room, g.kept.room),
+        omega (arith, of (bodies_of c.args.env.now.decls), c.requires.room, g.kept.room),
         (
           still_inside c.args.pool.now c.node_for-in-Mux-2.new.pool (8 * size c.args.env.now.decls c.get-in-Mux.result.now + 8 * size c.args.env.now.decls c.get-in-Mux-2.result.now) c.args.env.now g c.requires.inside,
           sound_later c.args.pool.now c.node_for-in-Mux-2.new.pool (8 * size c.args.env.now.decls c.get-in-Mux.result.now + 8 * size c.args.env.now.decls c.get-in-Mux-2.result.now) g c.args.env.now c.requires.inside c.get-in-Mux-3.result.now (sound_no c.args.pool.now c.args.env.now c.args.e.now c.in-Mux.test c.in-Mux.a c.in-Mux.b c.get-in-Mux.result.now c.get-in-Mux-2.result.now c.get-in-Mux-3.result.now c.in-Mux.is c.get-in-Mux.ensures c.get-in-Mux-2.ensures c.get-in-Mux-3.ensures c.requires.sound),
@@ -186,51 +183,49 @@ node_for-returns-in_ok-b-in-Mux-clause-gives t c =
 
 pub node_for-nodes_for-requires : goal.node_for-nodes_for-requires
 node_for-nodes_for-requires t c =
-    let sz = size_Concat c.args.e.now (bodies_of c.args.env.now.decls) c.in-Concat.parts c.as_slice.result.now c.in-Concat.is c.as_slice.ensures in
-    let st = size_Concat c.args.e.now no_bodies c.in-Concat.parts c.as_slice.result.now c.in-Concat.is c.as_slice.ensures in
-    (omega (arith, st, c.decreases), (omega (arith, sz, c.requires.room), (c.requires.inside, sound_Concat c.args.pool.now c.args.env.now c.args.e.now c.in-Concat.parts c.as_slice.result.now c.in-Concat.is c.as_slice.ensures c.requires.sound)))
+    let of = λ (b : Bodies). size_Concat c.args.e.now b c.in-Concat.parts c.as_slice.result.now c.in-Concat.is c.as_slice.ensures in
+    (omega (arith, of no_bodies, c.decreases), (omega (arith, of (bodies_of c.args.env.now.decls), c.requires.room), (c.requires.inside, all_sound c.args.pool.now c.args.env.now c.args.e.now checked_joined c.as_slice.result.now (λ c'. value_Concat c.args.e.now (known_at c' c.args.pool.now c.args.env.now) c.in-Concat.parts c.as_slice.result.now c.in-Concat.is c.as_slice.ensures) c.requires.sound)))
 
 pub node_for-joined-requires-clause-room : goal.node_for-joined-requires-clause-room
 node_for-joined-requires-clause-room t c =
     let sz = size_Concat c.args.e.now (bodies_of c.args.env.now.decls) c.in-Concat.parts c.as_slice.result.now c.in-Concat.is c.as_slice.ensures in
-    let st = size_Concat c.args.e.now no_bodies c.in-Concat.parts c.as_slice.result.now c.in-Concat.is c.as_slice.ensures in
     omega (arith, sz, c.requires.room, c.in_ok-parts-in-Concat.ensures.grown.kept.room)
 
 pub node_for-joined-requires-clause-fit : goal.node_for-joined-requires-clause-fit
 node_for-joined-requires-clause-fit t c =
     let shows = subst (λ ns. AllShow c.nodes_for.new.pool ns (values_in c.args.pool.now c.args.env.now c.as_slice.result.now)) (sym c.as_slice-in-Concat.ensures.value) c.in_ok-parts-in-Concat.ensures.shows in
-    let same = same_Concat c.args.pool.now c.args.env.now c.args.e.now c.in-Concat.parts c.as_slice.result.now c.in-Concat.is c.as_slice.ensures c.nodes_for.new.pool c.as_slice-in-Concat.result.now shows in
+    let same = all_parts c.args.pool.now c.args.env.now c.args.e.now (option_and_then checked_joined) c.as_slice.result.now c.nodes_for.new.pool c.as_slice-in-Concat.result.now
+    (λ c'. value_Concat c.args.e.now (known_at c' c.args.pool.now c.args.env.now) c.in-Concat.parts c.as_slice.result.now c.in-Concat.is c.as_slice.ensures) shows in
     fit_by c.args.pool.now c.args.env.now c.args.e.now (λ c'. checked_joined (words_at c' c.nodes_for.new.pool c.as_slice-in-Concat.result.now)) same c.requires.sound
 
 pub node_for-returns-in_ok-parts-in-Concat-clause-gives : goal.node_for-returns-in_ok-parts-in-Concat-clause-gives
 node_for-returns-in_ok-parts-in-Concat-clause-gives t c =
     let shows = subst (λ ns. AllShow c.nodes_for.new.pool ns (values_in c.args.pool.now c.args.env.now c.as_slice.result.now)) (sym c.as_slice-in-Concat.ensures.value) c.in_ok-parts-in-Concat.ensures.shows in
-    let same = same_Concat c.args.pool.now c.args.env.now c.args.e.now c.in-Concat.parts c.as_slice.result.now c.in-Concat.is c.as_slice.ensures c.nodes_for.new.pool c.as_slice-in-Concat.result.now shows in
+    let same = all_parts c.args.pool.now c.args.env.now c.args.e.now (option_and_then checked_joined) c.as_slice.result.now c.nodes_for.new.pool c.as_slice-in-Concat.result.now
+    (λ c'. value_Concat c.args.e.now (known_at c' c.args.pool.now c.args.env.now) c.in-Concat.parts c.as_slice.result.now c.in-Concat.is c.as_slice.ensures) shows in
     IfOk-weaker _ _ _ (λ n h. gives_by c.args.pool.now c.args.env.now c.args.e.now (λ c'. checked_joined (words_at c' c.nodes_for.new.pool c.as_slice-in-Concat.result.now)) same c.joined.new.pool n h) c.joined.ensures.shows
 
 pub node_for-returns-in_ok-parts-in-Concat-clause-grown : goal.node_for-returns-in_ok-parts-in-Concat-clause-grown
 node_for-returns-in_ok-parts-in-Concat-clause-grown t c =
     let sz = size_Concat c.args.e.now (bodies_of c.args.env.now.decls) c.in-Concat.parts c.as_slice.result.now c.in-Concat.is c.as_slice.ensures in
-    let st = size_Concat c.args.e.now no_bodies c.in-Concat.parts c.as_slice.result.now c.in-Concat.is c.as_slice.ensures in
     let k = 8 * sum_by (size c.args.env.now.decls) c.as_slice.result.now in
     grown_more c.args.pool.now c.joined.new.pool (k + 8) (8 * size c.args.env.now.decls c.args.e.now) (grown_then c.args.pool.now c.nodes_for.new.pool c.joined.new.pool k 8 c.in_ok-parts-in-Concat.ensures.grown c.joined.ensures.grown) (omega (arith, sz))
 
 pub node_for-nodes_for-requires-in-Call : goal.node_for-nodes_for-requires-in-Call
 node_for-nodes_for-requires-in-Call t c =
-    let sz = size_Call c.args.e.now (bodies_of c.args.env.now.decls) c.in-Call.name c.in-Call.args c.as_slice-in-Call.result.now c.in-Call.is c.as_slice-in-Call.ensures in
-    let st = size_Call c.args.e.now no_bodies c.in-Call.name c.in-Call.args c.as_slice-in-Call.result.now c.in-Call.is c.as_slice-in-Call.ensures in
-    (omega (arith, st, c.decreases), (omega (arith, sz, c.requires.room), (c.requires.inside, sound_Call c.args.pool.now c.args.env.now c.args.e.now c.in-Call.name c.in-Call.args c.as_slice-in-Call.result.now c.in-Call.is c.as_slice-in-Call.ensures c.requires.sound)))
+    let of = λ (b : Bodies). size_Call c.args.e.now b c.in-Call.name c.in-Call.args c.as_slice-in-Call.result.now c.in-Call.is c.as_slice-in-Call.ensures in
+    (omega (arith, of no_bodies, c.decreases), (omega (arith, of (bodies_of c.args.env.now.decls), c.requires.room), (c.requires.inside, all_sound c.args.pool.now c.args.env.now c.args.e.now (checked_calls_of c.args.env.now.decls c.in-Call.name) c.as_slice-in-Call.result.now (λ c'. value_Call c.args.e.now (known_at c' c.args.pool.now c.args.env.now) c.in-Call.name c.in-Call.args c.as_slice-in-Call.result.now c.in-Call.is c.as_slice-in-Call.ensures) c.requires.sound)))
 
 pub node_for-called-requires : goal.node_for-called-requires
 node_for-called-requires t c =
-    let sz = size_Call c.args.e.now (bodies_of c.args.env.now.decls) c.in-Call.name c.in-Call.args c.as_slice-in-Call.result.now c.in-Call.is c.as_slice-in-Call.ensures in
-    let st = size_Call c.args.e.now no_bodies c.in-Call.name c.in-Call.args c.as_slice-in-Call.result.now c.in-Call.is c.as_slice-in-Call.ensures in
+    let of = λ (b : Bodies). size_Call c.args.e.now b c.in-Call.name c.in-Call.args c.as_slice-in-Call.result.now c.in-Call.is c.as_slice-in-Call.ensures in
     let d = c.decls.ensures in
     let shows = subst (λ ns. AllShow c.nodes_for-in-Call.new.pool ns (values_in c.args.pool.now c.args.env.now c.as_slice-in-Call.result.now)) (sym c.as_slice-in-Call-2.ensures.value) c.in_ok-args-in-Call.ensures.shows in
-    let same = same_Call c.args.pool.now c.args.env.now c.args.e.now c.in-Call.name c.in-Call.args c.as_slice-in-Call.result.now c.in-Call.is c.as_slice-in-Call.ensures c.nodes_for-in-Call.new.pool c.as_slice-in-Call-2.result.now shows in
+    let same = all_parts c.args.pool.now c.args.env.now c.args.e.now (option_and_then (checked_calls_of c.args.env.now.decls c.in-Call.name)) c.as_slice-in-Call.result.now c.nodes_for-in-Call.new.pool c.as_slice-in-Call-2.result.now
+    (λ c'. value_Call c.args.e.now (known_at c' c.args.pool.now c.args.env.now) c.in-Call.name c.in-Call.args c.as_slice-in-Call.result.now c.in-Call.is c.as_slice-in-Call.ensures) shows in
     let fit = fit_by c.args.pool.now c.args.env.now c.args.e.now (λ c'. checked_calls_of c.args.env.now.decls c.in-Call.name (words_at c' c.nodes_for-in-Call.new.pool c.as_slice-in-Call-2.result.now)) same c.requires.sound in
-    let room : 8 * bodies_of c.args.env.now.decls c.in-Call.name ≤ c.nodes_for-in-Call.new.pool.spare = omega (arith, sz, c.requires.room, c.in_ok-args-in-Call.ensures.grown.kept.room) in (
-      omega (arith, st, c.decreases, ap work d),
+    let room : 8 * bodies_of c.args.env.now.decls c.in-Call.name ≤ c.nodes_for-in-Call.new.pool.spare = omega (arith, of (bodies_of c.args.env.now.decls), c.requires.room, c.in_ok-args-in-Call.ensures.grown.kept.room) in (
+      omega (arith, of no_bodies, c.decreases, ap work d),
       (
         subst (λ ds. 8 * bodies_of ds c.in-Call.name ≤ c.nodes_for-in-Call.new.pool.spare) (sym d) room,
         (
@@ -243,7 +238,8 @@ node_for-called-requires t c =
 pub node_for-returns-in_ok-args-in-Call-clause-gives : goal.node_for-returns-in_ok-args-in-Call-clause-gives
 node_for-returns-in_ok-args-in-Call-clause-gives t c =
     let shows = subst (λ ns. AllShow c.nodes_for-in-Call.new.pool ns (values_in c.args.pool.now c.args.env.now c.as_slice-in-Call.result.now)) (sym c.as_slice-in-Call-2.ensures.value) c.in_ok-args-in-Call.ensures.shows in
-    let same = same_Call c.args.pool.now c.args.env.now c.args.e.now c.in-Call.name c.in-Call.args c.as_slice-in-Call.result.now c.in-Call.is c.as_slice-in-Call.ensures c.nodes_for-in-Call.new.pool c.as_slice-in-Call-2.result.now shows in
+    let same = all_parts c.args.pool.now c.args.env.now c.args.e.now (option_and_then (checked_calls_of c.args.env.now.decls c.in-Call.name)) c.as_slice-in-Call.result.now c.nodes_for-in-Call.new.pool c.as_slice-in-Call-2.result.now
+    (λ c'. value_Call c.args.e.now (known_at c' c.args.pool.now c.args.env.now) c.in-Call.name c.in-Call.args c.as_slice-in-Call.result.now c.in-Call.is c.as_slice-in-Call.ensures) shows in
     let d = c.decls.ensures in
     IfOk-weaker _ _ _
     (λ n h. gives_by c.args.pool.now c.args.env.now c.args.e.now (λ c'. checked_calls_of c.args.env.now.decls c.in-Call.name (words_at c' c.nodes_for-in-Call.new.pool c.as_slice-in-Call-2.result.now)) same c.called.new.pool n (subst (λ ds. Shows c.called.new.pool n (λ c'. checked_calls_of ds c.in-Call.name (words_at c' c.nodes_for-in-Call.new.pool c.as_slice-in-Call-2.result.now))) d h))
@@ -252,7 +248,6 @@ node_for-returns-in_ok-args-in-Call-clause-gives t c =
 pub node_for-returns-in_ok-args-in-Call-clause-grown : goal.node_for-returns-in_ok-args-in-Call-clause-grown
 node_for-returns-in_ok-args-in-Call-clause-grown t c =
     let sz = size_Call c.args.e.now (bodies_of c.args.env.now.decls) c.in-Call.name c.in-Call.args c.as_slice-in-Call.result.now c.in-Call.is c.as_slice-in-Call.ensures in
-    let st = size_Call c.args.e.now no_bodies c.in-Call.name c.in-Call.args c.as_slice-in-Call.result.now c.in-Call.is c.as_slice-in-Call.ensures in
     let d = c.decls.ensures in
     let j = 8 * sum_by (size c.args.env.now.decls) c.as_slice-in-Call.result.now in
     let k = 8 * bodies_of c.args.env.now.decls c.in-Call.name in
