@@ -19,10 +19,7 @@ kind_class k = word_class (word_of [] k)
 
 same_class : (bytes : List ℕ) (k : VKind) → word_class (word_of bytes k) ≡ kind_class k
 same_class bytes kinds.Ident = refl
-same_class bytes (kinds.Keyword k) = refl
-same_class bytes (kinds.Number n) = refl
-same_class bytes (kinds.Literal l) = refl
-same_class bytes (kinds.Mark m) = refl
+same_class bytes _ = refl
 
 -- a token with its bytes
 abbrev pub spelled : List ℕ → VKind → ℕ → Token
@@ -62,13 +59,7 @@ pub missed_end : (ts : List Token) (i c : ℕ) → drop i ts ≡ [] → false �
 missed_end ts i c h e = missed ts i c (e ∙ ap (λ (d : ℕ). d == c) (sym (ap (look verilog) h)))
 
 one_less : (ts : List Token) (i j : ℕ) (t : Token) → drop i ts ≡ t ∷ drop j ts → length (drop j ts) + 1 ≤ length (drop i ts)
-one_less ts i j t h = at_most (add_one (length (drop j ts)) ∙ sym (ap length h))
-  where
-    add_one : (n : ℕ) → n + 1 ≡ suc n
-    add_one n = omega arith
-
-    at_most : {a b : ℕ} → a ≡ b → a ≤ b
-    at_most h = omega arith
+one_less ts i j t h = let e = ap length h in omega (arith, e)
 
 -- a keyword or a punctuator, a name, a number and a literal
 pub reads_word : (ts : List Token) (i j c : ℕ) (t : Token) → drop i ts ≡ t ∷ drop j ts → word_class t.word ≡ c → Turns ts (Terminal c dropped ∷ []) [] [] i j 1
@@ -107,35 +98,27 @@ pub mark_isnt_end : (k : Mark) → false ≡ (0 == mark_class k)
 mark_isnt_end marks.Semicolon = refl
 mark_isnt_end _ = refl
 
-keyword_isnt : (k : Keyword) → (false ≡ (keyword_class k == 1)) × (false ≡ (keyword_class k == 2)) × (false ≡ (keyword_class k == 3)) × (among (keyword_class k) operator_classes ≡ false)
-keyword_isnt keywords.Module = (refl, refl, refl, refl)
-keyword_isnt _ = (refl, refl, refl, refl)
-
-mark_isnt : (k : Mark) → (false ≡ (mark_class k == 1)) × (false ≡ (mark_class k == 2)) × (false ≡ (mark_class k == 3))
-mark_isnt marks.Semicolon = (refl, refl, refl)
-mark_isnt _ = (refl, refl, refl)
-
 -- what isn't a name, a number, a literal
 pub no_name : (k : VKind) → (k ≡ kinds.Ident → ⊥) → false ≡ (kind_class k == 1)
 no_name kinds.Ident h = absurd (h refl)
-no_name (kinds.Keyword k) h = (keyword_isnt k).0
-no_name (kinds.Mark m) h = (mark_isnt m).0
+no_name (kinds.Keyword keywords.Module) h = refl
+no_name (kinds.Mark marks.Semicolon) h = refl
 no_name _ h = refl
 
 pub no_number : (k : VKind) → ((n : ℕ) → k ≡ kinds.Number n → ⊥) → false ≡ (kind_class k == 2)
 no_number (kinds.Number n) h = absurd (h n refl)
-no_number (kinds.Keyword k) h = (keyword_isnt k).1
-no_number (kinds.Mark m) h = (mark_isnt m).1
+no_number (kinds.Keyword keywords.Module) h = refl
+no_number (kinds.Mark marks.Semicolon) h = refl
 no_number _ h = refl
 
 pub no_literal : (k : VKind) → ((l : Literal) → k ≡ kinds.Literal l → ⊥) → false ≡ (kind_class k == 3)
 no_literal (kinds.Literal l) h = absurd (h l refl)
-no_literal (kinds.Keyword k) h = (keyword_isnt k).2
-no_literal (kinds.Mark m) h = (mark_isnt m).2
+no_literal (kinds.Keyword keywords.Module) h = refl
+no_literal (kinds.Mark marks.Semicolon) h = refl
 no_literal _ h = refl
 
 -- what isn't a punctuator is no operator
 pub no_sign : (k : VKind) → ((m : Mark) → k ≡ kinds.Mark m → ⊥) → among (kind_class k) operator_classes ≡ false
 no_sign (kinds.Mark m) h = absurd (h m refl)
-no_sign (kinds.Keyword k) h = (keyword_isnt k).3
+no_sign (kinds.Keyword keywords.Module) h = refl
 no_sign _ h = refl

@@ -21,9 +21,12 @@ abbrev pub FaultIs : List Token → (Outcome (List Value) → Type 0) → Fault 
 FaultIs ts P faults.NoMemory = Unit {0}
 FaultIs ts P (faults.Wrong i) = P (Stops (length (drop i ts)))
 
+pub record Faults (ts : List Token) (P : Outcome (List Value) → Type 0) (e : Fault) : Type 0 where
+  pub ends : FaultIs ts P e
+
 -- A token follows where the text should end.
-pub record Follows (ts : List Token) (i : ℕ) (e : Fault) : Type 0 where
-  pub ends : FaultIs ts (λ o. (vs : List Value) → Goes [] vs (drop i ts) o) e
+abbrev pub Follows : List Token → ℕ → Fault → Type 0
+Follows ts i = Faults ts (λ o. (vs : List Value) → Goes [] vs (drop i ts) o)
 
 -- Reading the symbols leads from token i to token j, and from some values on top to others; it reads at least `least` tokens.
 pub record Turns (ts : List Token) (xs : List Sym) (before after : List Value) (i j least : ℕ) : Type 0 where
@@ -36,8 +39,8 @@ pub record TurnsYet (ts : List Token) (xs ys : List Sym) (before after : List Va
   pub shrinks : length (drop j ts) ≤ length (drop i ts)
 
 -- Reading the symbols from token i on ends with this fault.
-pub record Ends (ts : List Token) (xs : List Sym) (before : List Value) (i : ℕ) (e : Fault) : Type 0 where
-  pub ends : FaultIs ts (λ o. (s : List Sym) (vs : List Value) → Goes (xs ++ s) (before ++ vs) (drop i ts) o) e
+abbrev pub Ends : List Token → List Sym → List Value → ℕ → Fault → Type 0
+Ends ts xs before i = Faults ts (λ o. (s : List Sym) (vs : List Value) → Goes (xs ++ s) (before ++ vs) (drop i ts) o)
 
 -- Reading the complete text, from its first token on, ends with this outcome.
 abbrev pub ModuleGoes : List Token → Outcome (List Value) → Type 0

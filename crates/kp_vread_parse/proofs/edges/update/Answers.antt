@@ -1,20 +1,18 @@
-use Rattle.std.proofs.{Common.◌∙◌, Common.sym, Common.arith, lemmas.Result.err_from_is_err_and}
-use Rattle.kp_grammar.specs.Machine.{make}
-use Rattle.kp_vread_parse.proofs.{Steps.end_end, Picks.update_else}
+use Rattle.std.proofs.Common.{◌∙◌, sym, arith, refl}
+use Rattle.kp_grammar.specs.Machine.{make, goes}
+use Rattle.kp_vread_parse.proofs.{Steps.exits, Picks.other}
 use Rattle.kp_vread_parse.proofs.edges.update.Goals as goal
 
 pub returns-in_err-name : goal.returns-in_err-name
 returns-in_err-name c =
-    let p = err_from_is_err_and c.from_residual.result c.from_residual.ensures.1 in
-    rw (p.1, p.2) (end_end c.in_err-name.ensures (λ o h s vs. update_else (sym c.if-is_keyword.false ∙ c.is_keyword.ensures) (h _ _)))
+    exits _ _ _ c.from_residual.ensures.1 c.in_err-name.ensures (λ o h s vs. goes _ (other _ _ _ _ (sym c.if-is_keyword.false ∙ c.is_keyword.ensures) refl) (h _ _))
 
 pub returns-in_err-value : goal.returns-in_err-value
 returns-in_err-value c =
-    let p = err_from_is_err_and c.from_residual-in_err-value.result c.from_residual-in_err-value.ensures.1 in
-    rw (p.1, p.2) (end_end c.in_err-value.ensures (λ o h s vs. update_else (sym c.if-is_keyword.false ∙ c.is_keyword.ensures) (c.in_ok-name.ensures.leads _ _ _ (h _ _))))
+    exits _ _ _ c.from_residual-in_err-value.ensures.1 c.in_err-value.ensures (λ o h s vs. goes _ (other _ _ _ _ (sym c.if-is_keyword.false ∙ c.is_keyword.ensures) refl) (c.in_ok-name.ensures.leads _ _ _ (h _ _)))
 
 pub returns : goal.returns
 returns c = record {
-  leads = λ s vs o h. update_else (sym c.if-is_keyword.false ∙ c.is_keyword.ensures) (c.in_ok-name.ensures.leads _ _ _ (c.in_ok-value.ensures.leads _ _ _ (make (h))));
+  leads = λ s vs o h. goes _ (other _ _ _ _ (sym c.if-is_keyword.false ∙ c.is_keyword.ensures) refl) (c.in_ok-name.ensures.leads _ _ _ (c.in_ok-value.ensures.leads _ _ _ (make (h))));
   shrinks = omega (arith, c.in_ok-name.ensures.shrinks, c.in_ok-value.ensures.shrinks);
 }

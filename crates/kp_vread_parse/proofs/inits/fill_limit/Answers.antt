@@ -1,16 +1,12 @@
-use Rattle.std.proofs.{Common.arith, lemmas.Result.err_from_is_err_and}
-use Rattle.kp_vread_parse.proofs.Steps.{end_end}
+use Rattle.std.proofs.Common.{arith}
+use Rattle.kp_vread_parse.proofs.Steps.{exits}
 use Rattle.kp_vread_parse.proofs.inits.fill_limit.Goals as goal
 
 pub returns-in_err-tested : goal.returns-in_err-tested
-returns-in_err-tested c =
-    let p = err_from_is_err_and c.from_residual.result c.from_residual.ensures.1 in
-    rw (p.1, p.2) (end_end c.in_err-tested.ensures (λ o h s vs. h _ _))
+returns-in_err-tested c = exits _ _ _ c.from_residual.ensures.1 c.in_err-tested.ensures (λ o h s vs. h _ _)
 
 pub returns-in_err-limit : goal.returns-in_err-limit
-returns-in_err-limit c =
-    let p = err_from_is_err_and c.from_residual-in_err-limit.result c.from_residual-in_err-limit.ensures.1 in
-    rw (p.1, p.2) (end_end c.in_err-limit.ensures (λ o h s vs. c.in_ok-tested.ensures.leads _ _ _ (h _ _)))
+returns-in_err-limit c = exits _ _ _ c.from_residual-in_err-limit.ensures.1 c.in_err-limit.ensures (λ o h s vs. c.in_ok-tested.ensures.leads _ _ _ (h _ _))
 
 pub returns : goal.returns
 returns c = record {

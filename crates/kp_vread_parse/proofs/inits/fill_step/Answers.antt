@@ -1,21 +1,16 @@
-use Rattle.std.proofs.{Common.arith, lemmas.Result.err_from_is_err_and}
-use Rattle.kp_vread_parse.proofs.Steps.{end_end}
+use Rattle.std.proofs.Common.{arith}
+use Rattle.kp_vread_parse.proofs.Steps.{exits}
 use Rattle.kp_vread_parse.proofs.inits.fill_step.Goals as goal
 
 pub returns-in_err-stepped : goal.returns-in_err-stepped
-returns-in_err-stepped c =
-    let p = err_from_is_err_and c.from_residual.result c.from_residual.ensures.1 in
-    rw (p.1, p.2) (end_end c.in_err-stepped.ensures (λ o h s vs. h _ _))
+returns-in_err-stepped c = exits _ _ _ c.from_residual.ensures.1 c.in_err-stepped.ensures (λ o h s vs. h _ _)
 
 pub returns-in_err-old : goal.returns-in_err-old
-returns-in_err-old c =
-    let p = err_from_is_err_and c.from_residual-in_err-old.result c.from_residual-in_err-old.ensures.1 in
-    rw (p.1, p.2) (end_end c.in_err-old.ensures (λ o h s vs. c.in_ok-stepped.ensures.leads _ _ _ (h _ _)))
+returns-in_err-old c = exits _ _ _ c.from_residual-in_err-old.ensures.1 c.in_err-old.ensures (λ o h s vs. c.in_ok-stepped.ensures.leads _ _ _ (h _ _))
 
 pub returns-in_err-by : goal.returns-in_err-by
 returns-in_err-by c =
-    let p = err_from_is_err_and c.from_residual-in_err-by.result c.from_residual-in_err-by.ensures.1 in
-    rw (p.1, p.2) (end_end c.in_err-by.ensures (λ o h s vs. c.in_ok-stepped.ensures.leads _ _ _ (c.in_ok-old.ensures.leads _ _ _ (h _ _))))
+    exits _ _ _ c.from_residual-in_err-by.ensures.1 c.in_err-by.ensures (λ o h s vs. c.in_ok-stepped.ensures.leads _ _ _ (c.in_ok-old.ensures.leads _ _ _ (h _ _)))
 
 pub returns : goal.returns
 returns c = record {

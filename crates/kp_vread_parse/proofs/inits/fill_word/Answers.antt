@@ -1,26 +1,20 @@
-use Rattle.std.proofs.{Common.arith, lemmas.Result.err_from_is_err_and}
-use Rattle.kp_vread_parse.proofs.Steps.{end_end}
+use Rattle.std.proofs.Common.{arith}
+use Rattle.kp_vread_parse.proofs.Steps.{exits}
 use Rattle.kp_vread_parse.proofs.inits.fill_word.Goals as goal
 
 pub returns-in_err-file : goal.returns-in_err-file
-returns-in_err-file c =
-    let p = err_from_is_err_and c.from_residual.result c.from_residual.ensures.1 in
-    rw (p.1, p.2) (end_end c.in_err-file.ensures (λ o h s vs. h _ _))
+returns-in_err-file c = exits _ _ _ c.from_residual.ensures.1 c.in_err-file.ensures (λ o h s vs. h _ _)
 
 pub returns-in_err-index : goal.returns-in_err-index
-returns-in_err-index c =
-    let p = err_from_is_err_and c.from_residual-in_err-index.result c.from_residual-in_err-index.ensures.1 in
-    rw (p.1, p.2) (end_end c.in_err-index.ensures (λ o h s vs. c.in_ok-file.ensures.leads _ _ _ (h _ _)))
+returns-in_err-index c = exits _ _ _ c.from_residual-in_err-index.ensures.1 c.in_err-index.ensures (λ o h s vs. c.in_ok-file.ensures.leads _ _ _ (h _ _))
 
 pub returns-in_err-next : goal.returns-in_err-next
 returns-in_err-next c =
-    let p = err_from_is_err_and c.from_residual-in_err-next.result c.from_residual-in_err-next.ensures.1 in
-    rw (p.1, p.2) (end_end c.in_err-next.ensures (λ o h s vs. c.in_ok-file.ensures.leads _ _ _ (c.in_ok-index.ensures.leads _ _ _ (h _ _))))
+    exits _ _ _ c.from_residual-in_err-next.ensures.1 c.in_err-next.ensures (λ o h s vs. c.in_ok-file.ensures.leads _ _ _ (c.in_ok-index.ensures.leads _ _ _ (h _ _)))
 
 pub returns-in_err-value : goal.returns-in_err-value
 returns-in_err-value c =
-    let p = err_from_is_err_and c.from_residual-in_err-value.result c.from_residual-in_err-value.ensures.1 in
-    rw (p.1, p.2) (end_end c.in_err-value.ensures (λ o h s vs. c.in_ok-file.ensures.leads _ _ _ (c.in_ok-index.ensures.leads _ _ _ (c.in_ok-next.ensures.leads _ _ _ (h _ _)))))
+    exits _ _ _ c.from_residual-in_err-value.ensures.1 c.in_err-value.ensures (λ o h s vs. c.in_ok-file.ensures.leads _ _ _ (c.in_ok-index.ensures.leads _ _ _ (c.in_ok-next.ensures.leads _ _ _ (h _ _))))
 
 pub returns : goal.returns
 returns c = record {

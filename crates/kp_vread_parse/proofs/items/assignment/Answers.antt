@@ -1,21 +1,16 @@
-use Rattle.std.proofs.{Common.arith, lemmas.Result.err_from_is_err_and}
-use Rattle.kp_vread_parse.proofs.Steps.{end_end}
+use Rattle.std.proofs.Common.{arith}
+use Rattle.kp_vread_parse.proofs.Steps.{exits}
 use Rattle.kp_vread_parse.proofs.items.assignment.Goals as goal
 
 pub returns-in_err-next : goal.returns-in_err-next
-returns-in_err-next c =
-    let p = err_from_is_err_and c.from_residual.result c.from_residual.ensures.1 in
-    rw (p.1, p.2) (end_end c.in_err-next.ensures (λ o h s vs. h _ _))
+returns-in_err-next c = exits _ _ _ c.from_residual.ensures.1 c.in_err-next.ensures (λ o h s vs. h _ _)
 
 pub returns-in_err-target : goal.returns-in_err-target
-returns-in_err-target c =
-    let p = err_from_is_err_and c.from_residual-in_err-target.result c.from_residual-in_err-target.ensures.1 in
-    rw (p.1, p.2) (end_end c.in_err-target.ensures (λ o h s vs. c.in_ok-next.ensures.leads _ _ _ (h _ _)))
+returns-in_err-target c = exits _ _ _ c.from_residual-in_err-target.ensures.1 c.in_err-target.ensures (λ o h s vs. c.in_ok-next.ensures.leads _ _ _ (h _ _))
 
 pub returns-in_err-right : goal.returns-in_err-right
 returns-in_err-right c =
-    let p = err_from_is_err_and c.from_residual-in_err-right.result c.from_residual-in_err-right.ensures.1 in
-    rw (p.1, p.2) (end_end c.in_err-right.ensures (λ o h s vs. c.in_ok-next.ensures.leads _ _ _ (c.in_ok-target.ensures.leads _ _ _ (h _ _))))
+    exits _ _ _ c.from_residual-in_err-right.ensures.1 c.in_err-right.ensures (λ o h s vs. c.in_ok-next.ensures.leads _ _ _ (c.in_ok-target.ensures.leads _ _ _ (h _ _)))
 
 pub returns : goal.returns
 returns c = record {

@@ -1,21 +1,16 @@
-use Rattle.std.proofs.{Common.arith, lemmas.Result.err_from_is_err_and}
-use Rattle.kp_vread_parse.proofs.Steps.{end_end}
+use Rattle.std.proofs.Common.{arith}
+use Rattle.kp_vread_parse.proofs.Steps.{exits}
 use Rattle.kp_vread_parse.proofs.module.read_edge.Goals as goal
 
 pub returns-in_err-clock : goal.returns-in_err-clock
-returns-in_err-clock c =
-    let p = err_from_is_err_and c.from_residual.result c.from_residual.ensures.1 in
-    rw (p.1, p.2) (end_end c.in_err-clock.ensures (λ o h s vs. h _ _))
+returns-in_err-clock c = exits _ _ _ c.from_residual.ensures.1 c.in_err-clock.ensures (λ o h s vs. h _ _)
 
 pub returns-in_err-reset : goal.returns-in_err-reset
-returns-in_err-reset c =
-    let p = err_from_is_err_and c.from_residual-in_err-reset.result c.from_residual-in_err-reset.ensures.1 in
-    rw (p.1, p.2) (end_end c.in_err-reset.ensures (λ o h s vs. c.in_ok-clock.ensures.leads _ _ _ (h _ _)))
+returns-in_err-reset c = exits _ _ _ c.from_residual-in_err-reset.ensures.1 c.in_err-reset.ensures (λ o h s vs. c.in_ok-clock.ensures.leads _ _ _ (h _ _))
 
 pub returns-in_err-next : goal.returns-in_err-next
 returns-in_err-next c =
-    let p = err_from_is_err_and c.from_residual-in_err-next.result c.from_residual-in_err-next.ensures.1 in
-    rw (p.1, p.2) (end_end c.in_err-next.ensures (λ o h s vs. c.in_ok-clock.ensures.leads _ _ _ (c.in_ok-reset.ensures.leads _ _ _ (h _ _))))
+    exits _ _ _ c.from_residual-in_err-next.ensures.1 c.in_err-next.ensures (λ o h s vs. c.in_ok-clock.ensures.leads _ _ _ (c.in_ok-reset.ensures.leads _ _ _ (h _ _)))
 
 pub returns : goal.returns
 returns c = record {

@@ -1,27 +1,21 @@
-use Rattle.std.proofs.{Common.arith, lemmas.Result.err_from_is_err_and}
+use Rattle.std.proofs.Common.{arith}
 use Rattle.kp_grammar.specs.Machine.{make}
-use Rattle.kp_vread_parse.proofs.Steps.{end_end}
+use Rattle.kp_vread_parse.proofs.Steps.{exits}
 use Rattle.kp_vread_parse.proofs.ports.read_inputs.Goals as goal
 
 pub returns-in_err-name : goal.returns-in_err-name
-returns-in_err-name c =
-    let p = err_from_is_err_and c.from_residual.result c.from_residual.ensures.1 in
-    rw (p.1, p.2) (end_end c.in_err-name.ensures (λ o h s vs. h _ _))
+returns-in_err-name c = exits _ _ _ c.from_residual.ensures.1 c.in_err-name.ensures (λ o h s vs. h _ _)
 
 pub returns-in_err-next : goal.returns-in_err-next
-returns-in_err-next c =
-    let p = err_from_is_err_and c.from_residual-in_err-next.result c.from_residual-in_err-next.ensures.1 in
-    rw (p.1, p.2) (end_end c.in_err-next.ensures (λ o h s vs. c.in_ok-name.ensures.leads _ _ _ (h _ _)))
+returns-in_err-next c = exits _ _ _ c.from_residual-in_err-next.ensures.1 c.in_err-next.ensures (λ o h s vs. c.in_ok-name.ensures.leads _ _ _ (h _ _))
 
 pub returns-in_err-rst : goal.returns-in_err-rst
 returns-in_err-rst c =
-    let p = err_from_is_err_and c.from_residual-in_err-rst.result c.from_residual-in_err-rst.ensures.1 in
-    rw (p.1, p.2) (end_end c.in_err-rst.ensures (λ o h s vs. c.in_ok-name.ensures.leads _ _ _ (c.in_ok-next.ensures.leads _ _ _ (h _ _))))
+    exits _ _ _ c.from_residual-in_err-rst.ensures.1 c.in_err-rst.ensures (λ o h s vs. c.in_ok-name.ensures.leads _ _ _ (c.in_ok-next.ensures.leads _ _ _ (h _ _)))
 
 pub returns-in_err-all : goal.returns-in_err-all
 returns-in_err-all c =
-    let p = err_from_is_err_and c.from_residual-in_err-all.result c.from_residual-in_err-all.ensures.1 in
-    rw (p.1, p.2) (end_end c.in_err-all.ensures (λ o h s vs. c.in_ok-name.ensures.leads _ _ _ (c.in_ok-next.ensures.leads _ _ _ (c.in_ok-rst.ensures.leads _ _ _ (make (h _ _))))))
+    exits _ _ _ c.from_residual-in_err-all.ensures.1 c.in_err-all.ensures (λ o h s vs. c.in_ok-name.ensures.leads _ _ _ (c.in_ok-next.ensures.leads _ _ _ (c.in_ok-rst.ensures.leads _ _ _ (make (h _ _)))))
 
 pub returns : goal.returns
 returns c = record {

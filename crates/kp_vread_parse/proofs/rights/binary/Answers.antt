@@ -1,17 +1,14 @@
-use Rattle.std.proofs.{Common.arith, lemmas.Result.err_from_is_err_and}
+use Rattle.std.proofs.Common.{arith}
 use Rattle.kp_grammar.specs.Machine.{make}
-use Rattle.kp_vread_parse.proofs.{Steps.end_end, Picks.behind_op}
+use Rattle.kp_vread_parse.proofs.{Picks.behind_op, Steps.exits}
 use Rattle.kp_vread_parse.proofs.rights.binary.Goals as goal
 
 pub returns-in_err-next : goal.returns-in_err-next
-returns-in_err-next c =
-    let p = err_from_is_err_and c.from_residual.result c.from_residual.ensures.1 in
-    rw (p.1, p.2) (end_end c.in_err-next.ensures (λ o h s vs. behind_op _ _ c.mark_of.ensures c.requires (h _ _)))
+returns-in_err-next c = exits _ _ _ c.from_residual.ensures.1 c.in_err-next.ensures (λ o h s vs. behind_op _ _ c.mark_of.ensures c.requires (h _ _))
 
 pub returns-in_err-second : goal.returns-in_err-second
 returns-in_err-second c =
-    let p = err_from_is_err_and c.from_residual-in_err-second.result c.from_residual-in_err-second.ensures.1 in
-    rw (p.1, p.2) (end_end c.in_err-second.ensures (λ o h s vs. behind_op _ _ c.mark_of.ensures c.requires (c.in_ok-next.ensures.leads _ _ _ (h _ _))))
+    exits _ _ _ c.from_residual-in_err-second.ensures.1 c.in_err-second.ensures (λ o h s vs. behind_op _ _ c.mark_of.ensures c.requires (c.in_ok-next.ensures.leads _ _ _ (h _ _)))
 
 pub returns : goal.returns
 returns c = record {

@@ -1,17 +1,15 @@
-use Rattle.std.proofs.{Common.◌∙◌, Common.sym, Common.arith, lemmas.Result.err_from_is_err_and}
+use Rattle.std.proofs.Common.{◌∙◌, sym, arith}
 use Rattle.kp_grammar.specs.Machine.{make}
-use Rattle.kp_vread_parse.proofs.{Steps.end_end, Picks.names_none, Picks.names_some}
+use Rattle.kp_vread_parse.proofs.{Picks.names_none, Picks.names_some, Steps.exits}
 use Rattle.kp_vread_parse.proofs.rights.more_names.Goals as goal
 
 pub returns-in_err-next : goal.returns-in_err-next
 returns-in_err-next c =
-    let p = err_from_is_err_and c.from_residual.result c.from_residual.ensures.1 in
-    rw (p.1, p.2) (end_end c.in_err-next.ensures (λ o h s vs. c.all.invariant.1.leads _ _ _ (names_some _ c.all.invariant.0 (sym c.all-test.true ∙ c.goes_on.ensures) (h _ _))))
+    exits _ _ _ c.from_residual.ensures.1 c.in_err-next.ensures (λ o h s vs. c.all.invariant.1.leads _ _ _ (names_some _ c.all.invariant.0 (sym c.all-test.true ∙ c.goes_on.ensures) (h _ _)))
 
 pub returns-in_err-one : goal.returns-in_err-one
 returns-in_err-one c =
-    let p = err_from_is_err_and c.from_residual-in_err-one.result c.from_residual-in_err-one.ensures.1 in
-    rw (p.1, p.2) (end_end c.in_err-one.ensures (λ o h s vs. c.all.invariant.1.leads _ _ _ (names_some _ c.all.invariant.0 (sym c.all-test.true ∙ c.goes_on.ensures) (c.in_ok-next.ensures.leads _ _ _ (h _ _)))))
+    exits _ _ _ c.from_residual-in_err-one.ensures.1 c.in_err-one.ensures (λ o h s vs. c.all.invariant.1.leads _ _ _ (names_some _ c.all.invariant.0 (sym c.all-test.true ∙ c.goes_on.ensures) (c.in_ok-next.ensures.leads _ _ _ (h _ _))))
 
 pub all-preserved : goal.all-preserved
 all-preserved c = rw c.in_ok-push.ensures.items (
