@@ -84,10 +84,6 @@ module _ (job : Job) (d : Debugged) (under : IsUnderWay job d) where
   pub most_left : (n left : ℕ) → left ≡ min n (all_cycles - d.cycle) → ahead (run_of job d) d.cycle n - d.cycle ≡ left
   most_left n left is = let start = under.within in omega (arith, is, start, many)
 
-  -- one cycle on
-  pub steps_one : d.cycle < all_cycles → forward 1 d ≡ record d { cycle = d.cycle + 1 }
-  steps_one h = let on : min (d.cycle + 1) (length d.inputs) ≡ d.cycle + 1 = omega (arith, h, inputs_are) in λ i. record d { cycle = on i }
-
   -- the session at cycle k
   module _ (s : Debugged) (k : ℕ) (at : s ≡ record d { cycle = k }) where
     pub under_at : k ≤ all_cycles → IsUnderWay job s
