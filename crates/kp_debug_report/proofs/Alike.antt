@@ -45,22 +45,15 @@ module _ (job : Job) (a b : Trace) (same : ShowsAlike job a b) where
       ap (λ (text : List ℕ). at_line cycle ++ text) (lines_alike job no_counts (a.visible cycle) (b.visible cycle) (λ t x there. same.values cycle t x h there))
   prints_alike cycle commands.Row h of = ap (λ (rows : List Row). row_or_end cycle (slice_get rows cycle)) same.rows
 
-  pub printed_alike : (cycle : ℕ) (cs : List Command) → cycle ≤ length a.rows → AreOfJob job cs → printed job a cycle cs ≡ printed job b cycle cs
-  printed_alike cycle [] h all = refl
+  pub printed_alike : (cycle : ℕ) (cs : List Command) → cycle ≤ length a.rows → AreOfJob job cs → (printed job a cycle cs ≡ printed job b cycle cs) × (ends_in a cycle cs ≡ ends_in b cycle cs)
+  printed_alike cycle [] h all = (refl, refl)
   printed_alike cycle (c ∷ cs) h all =
       let of : IsOfTargets job c = all 0 c (omega arith) in
       let low : reached a cycle c ≤ length a.rows = reached_within a cycle c h in
-      let rest : AreOfJob job cs = λ i d l. all (suc i) d (omega (arith, l)) in
-      ap₂ (λ (x y : List ℕ). x ++ y) (prints_alike (reached a cycle c) c low of) (printed_alike (reached a cycle c) cs low rest)
-      ∙ ap (λ (k : ℕ). printed_by job b k c ++ printed job b k cs) (reached_is cycle c h of)
-
-  pub ends_alike : (cycle : ℕ) (cs : List Command) → cycle ≤ length a.rows → AreOfJob job cs → ends_in a cycle cs ≡ ends_in b cycle cs
-  ends_alike cycle [] h all = refl
-  ends_alike cycle (c ∷ cs) h all =
-      let of : IsOfTargets job c = all 0 c (omega arith) in
-      let low : reached a cycle c ≤ length a.rows = reached_within a cycle c h in
-      let rest : AreOfJob job cs = λ i d l. all (suc i) d (omega (arith, l)) in
-      ends_alike (reached a cycle c) cs low rest ∙ ap (λ (k : ℕ). ends_in b k cs) (reached_is cycle c h of)
+      let rest = printed_alike (reached a cycle c) cs low (λ i d l. all (suc i) d (omega (arith, l))) in (
+        ap₂ (λ (x y : List ℕ). x ++ y) (prints_alike (reached a cycle c) c low of) rest.0 ∙ ap (λ (k : ℕ). printed_by job b k c ++ printed job b k cs) (reached_is cycle c h of),
+        rest.1 ∙ ap (λ (k : ℕ). ends_in b k cs) (reached_is cycle c h of),
+      )
 
 -- the run of a netlist that implements the machine of a job is that of the job
 pub own_is_whole : (job : Job) (net : Net) → Shows net job → inputs_seen job (inputs_to job all_cycles) ≡ inputs_from job 0 all_cycles → AreQuiet (inputs_to job all_cycles)
@@ -69,20 +62,12 @@ unfolding whole_run
 own_is_whole job net shows seen quiet =
     subst (λ (ins : List Inputs). ShowsAlike job (own_trace job net all_cycles) (pipe_of job ins)) seen (shows.runs (inputs_to job all_cycles) quiet)
 
--- what a session over such a netlist prints is the text of the job
+-- what a session over such a netlist prints is the text of the job, and it ends in the same cycle
 pub text_is : (job : Job) (net : Net) (d : Debugged) → IsInspection job net d → inputs_seen job (inputs_to job all_cycles) ≡ inputs_from job 0 all_cycles
-    → AreQuiet (inputs_to job all_cycles) → (cs : List Command) → AreOfJob job cs → printed job (run_of job d) d.cycle cs ≡ printed job (whole_run job) d.cycle cs
+    → AreQuiet (inputs_to job all_cycles) → (cs : List Command) → AreOfJob job cs
+    → (printed job (run_of job d) d.cycle cs ≡ printed job (whole_run job) d.cycle cs) × (ends_in (run_of job d) d.cycle cs ≡ ends_in (whole_run job) d.cycle cs)
 text_is job net d is seen quiet cs of =
     let shows : Shows d.net job = subst (λ (n : Net). Shows n job) (sym is.net_is) is.shows in
     let start = is.under.within in
     let low : d.cycle ≤ length (run_of job d).rows = omega (arith, start, many job d is.under) in
     printed_alike job (run_of job d) (whole_run job) (own_is_whole job d.net shows seen quiet) d.cycle cs low of
-
--- and it ends in the same cycle
-pub end_is : (job : Job) (net : Net) (d : Debugged) → IsInspection job net d → inputs_seen job (inputs_to job all_cycles) ≡ inputs_from job 0 all_cycles
-    → AreQuiet (inputs_to job all_cycles) → (cs : List Command) → AreOfJob job cs → ends_in (run_of job d) d.cycle cs ≡ ends_in (whole_run job) d.cycle cs
-end_is job net d is seen quiet cs of =
-    let shows : Shows d.net job = subst (λ (n : Net). Shows n job) (sym is.net_is) is.shows in
-    let start = is.under.within in
-    let low : d.cycle ≤ length (run_of job d).rows = omega (arith, start, many job d is.under) in
-    ends_alike job (run_of job d) (whole_run job) (own_is_whole job d.net shows seen quiet) d.cycle cs low of

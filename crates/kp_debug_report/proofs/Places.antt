@@ -1,6 +1,6 @@
 -- The registers and files of a netlist that store the targets of its job, and their values.
 use Rattle.std.proofs.Common.{◌≡◌, ◌∙◌, ℕ, zero, suc, ◌<◌, ◌≤◌, ◌^◌, List, [], ◌∷◌, ◌++◌, length, get_or, All, Bool, true, false, refl, ap, sym, subst, arith}
-use Rattle.std.proofs.lemmas.Bool.{eqb-true}
+use Rattle.std.proofs.lemmas.Bool.{ne_eqb}
 use Rattle.std.specs.Prelude.{◌==◌, if◌then◌else◌, codes}
 use Rattle.kp_bits.specs.Word.{word}
 use Rattle.kp_ast.specs.declared.tree.{Decl.Decl, Job.Job, Named.Named, Num.Num}
@@ -24,27 +24,18 @@ module _ (job : Job) (net : Net) (t number : ℕ) (of_job : IsOfJob net job) whe
 
     pub register_value : (st : State) → word (get_or net.parts.regs number no_reg).start.width (get_or st.regs number 0) ≡ word s.width (value_shown job net st t 0)
     unfolding value_shown
-    register_value st =
-        ap (λ (i : ℕ). word (get_or net.parts.regs i no_reg).start.width (get_or st.regs i 0)) r.is
-        ∙ ap (λ (w : ℕ). word w (get_or st.regs (register_of net s) 0)) (of_job.registers t r.there r.kind).width
-        ∙ ap (λ (b : Bool). word s.width (if b then get_or st.regs (register_of net s) 0 else get_or (get_or st.files (file_of net s) []) 0 0)) (sym r.kind)
+    register_value st = rw (r.is, r.kind) (ap (λ (w : ℕ). word w (get_or st.regs (register_of net s) 0)) (of_job.registers t r.there r.kind).width)
 
   module _ (f : IsFileOf job net t number) where
     pub file_there : number < length net.parts.files
     file_there = let h = (of_job.files t f.there f.kind).there in omega (arith, h, f.is)
 
     pub address_there : (a : ℕ) → HasWord job t a → a < 2 ^ (get_or net.parts.files number no_file).address_width
-    address_there a h =
-        let wide : (get_or net.parts.files number no_file).address_width ≡ s.address =
-        ap (λ (i : ℕ). (get_or net.parts.files i no_file).address_width) f.is ∙ (of_job.files t f.there f.kind).address in
-        subst (λ (w : ℕ). a < 2 ^ w) (sym wide) h.address
+    address_there a h = rw (f.is, (of_job.files t f.there f.kind).address) h.address
 
     pub file_value : (st : State) (a : ℕ) → word (get_or net.parts.files number no_file).width (get_or (get_or st.files number []) a 0) ≡ word s.width (value_shown job net st t a)
     unfolding value_shown
-    file_value st a =
-        ap (λ (i : ℕ). word (get_or net.parts.files i no_file).width (get_or (get_or st.files i []) a 0)) f.is
-        ∙ ap (λ (w : ℕ). word w (get_or (get_or st.files (file_of net s) []) a 0)) (of_job.files t f.there f.kind).width
-        ∙ ap (λ (b : Bool). word s.width (if b then get_or st.regs (register_of net s) 0 else get_or (get_or st.files (file_of net s) []) a 0)) (sym f.kind)
+    file_value st a = rw (f.is, f.kind) (ap (λ (w : ℕ). word w (get_or (get_or st.files (file_of net s) []) a 0)) (of_job.files t f.there f.kind).width)
 
 -- the register or file of a declaration
 pub register_is : (job : Job) (net other : Net) (t number : ℕ) (n : Named) (width : Num) → IsTarget job t (slot n width 0) → other ≡ net
@@ -57,30 +48,15 @@ register_is job net other t number n width stands same is =
       is = is ∙ ap (register_of net) (sym stands.is);
     })
 
-some_address : (a : ℕ) → 1 ≤ a → (a == 0) ≡ false
-some_address a h = go (a == 0) refl
-  where
-    go : (b : Bool) → (a == 0) ≡ b → (a == 0) ≡ false
-    go true e = let none : a ≡ 0 = eqb-true a 0 e in absurd (omega (arith, h, none))
-    go false e = e
-
 pub file_is : (job : Job) (net other : Net) (t number : ℕ) (n : Named) (width address : Num) → IsTarget job t (slot n width address.value) → 1 ≤ address.value → other ≡ net
     → number ≡ place_among (file_names net) (codes "f_" ++ n.name) → IsFileOf job other t number
 file_is job net other t number n width address stands some same is =
     subst (λ (m : Net). IsFileOf job m t number) (sym same)
     (record {
       there = stands.within;
-      kind = ap is_register stands.is ∙ some_address address.value some;
+      kind = ap is_register stands.is ∙ ne_eqb address.value 0 (λ e. omega (arith, some, e));
       is = is ∙ ap (file_of net) (sym stands.is);
     })
-
--- a file has a word for each of its addresses
-pub words_there : (job : Job) (t count : ℕ) (s : Slot) → IsTarget job t s → count ≡ 2 ^ s.address → (a : ℕ) → a < count → HasWord job t a
-words_there job t count s stands many a h =
-    record {
-      target = stands.within;
-      address = subst (λ (x : Slot). a < 2 ^ x.address) (sym stands.is) (omega (arith, h, many));
-    }
 
 -- ---- files have addresses
 
@@ -90,13 +66,5 @@ some_addresses (decls.File n width address ∷ ds) fine zero d h = fine.2
 some_addresses (decls.File n width address ∷ ds) fine (suc i) d h = some_addresses ds fine.3 i d (omega (arith, h))
 some_addresses (decls.Reg n width start ∷ ds) fine zero d h = tt
 some_addresses (decls.Reg n width start ∷ ds) fine (suc i) d h = some_addresses ds fine.2 i d (omega (arith, h))
-some_addresses (decls.Pipe n width ∷ ds) fine zero d h = tt
-some_addresses (decls.Pipe n width ∷ ds) fine (suc i) d h = some_addresses ds fine i d (omega (arith, h))
-some_addresses (decls.Hint n width start ∷ ds) fine zero d h = tt
-some_addresses (decls.Hint n width start ∷ ds) fine (suc i) d h = some_addresses ds fine i d (omega (arith, h))
-some_addresses (decls.Sample n width stage ∷ ds) fine zero d h = tt
-some_addresses (decls.Sample n width stage ∷ ds) fine (suc i) d h = some_addresses ds fine i d (omega (arith, h))
-some_addresses (decls.Target r ∷ ds) fine zero d h = tt
-some_addresses (decls.Target r ∷ ds) fine (suc i) d h = some_addresses ds fine i d (omega (arith, h))
-some_addresses (decls.Func f ∷ ds) fine zero d h = tt
-some_addresses (decls.Func f ∷ ds) fine (suc i) d h = some_addresses ds fine i d (omega (arith, h))
+some_addresses (_ ∷ ds) fine zero d h = tt
+some_addresses (_ ∷ ds) fine (suc i) d h = some_addresses ds fine i d (omega (arith, h))

@@ -30,11 +30,7 @@ found t (decls.Reg n width start ∷ ds) name r e = go (bytes_eq n.name name) (f
     go true rest h = let same : r.target ≡ t = cc in record { k = 0; is = omega (arith, same); there = omega arith; kind = refl }
     go false rest h = let p = rest h in record { k = suc p.k; is = omega (arith, p.is); there = omega (arith, p.there); kind = p.kind }
 found t (decls.File n width address ∷ ds) name r e = let p = found (t + 1) ds name r e in record { k = suc p.k; is = omega (arith, p.is); there = omega (arith, p.there); kind = p.kind }
-found t (decls.Pipe n width ∷ ds) name r e = let p = found (t + 0) ds name r e in record { k = p.k; is = omega (arith, p.is); there = p.there; kind = p.kind }
-found t (decls.Hint n width start ∷ ds) name r e = let p = found (t + 0) ds name r e in record { k = p.k; is = omega (arith, p.is); there = p.there; kind = p.kind }
-found t (decls.Sample n width stage ∷ ds) name r e = let p = found (t + 0) ds name r e in record { k = p.k; is = omega (arith, p.is); there = p.there; kind = p.kind }
-found t (decls.Target x ∷ ds) name r e = let p = found (t + 0) ds name r e in record { k = p.k; is = omega (arith, p.is); there = p.there; kind = p.kind }
-found t (decls.Func f ∷ ds) name r e = let p = found (t + 0) ds name r e in record { k = p.k; is = omega (arith, p.is); there = p.there; kind = p.kind }
+found t (_ ∷ ds) name r e = let p = found (t + 0) ds name r e in record { k = p.k; is = omega (arith, p.is); there = p.there; kind = p.kind }
 
 module _ (job : Job) where
   -- ---- a command
@@ -67,29 +63,21 @@ module _ (job : Job) where
       go false h = cc
   until_words c at (r ∷ l ∷ n ∷ m ∷ args) e = cc
 
-  step_count : (c : Command) (r : Result ℕ Fault) → with_count r commands.Step ≡ Ok c → IsOfTargets job c
-  step_count c (Err f) e = cc
-  step_count c (Ok n) e = let same : commands.Step n ≡ c = cc in subst (IsOfTargets job) same tt
+  counted : (f : ℕ → Command) → ((n : ℕ) → IsOfTargets job (f n)) → (c : Command) (r : Result ℕ Fault) → with_count r f ≡ Ok c → IsOfTargets job c
+  counted f of c (Err fault) e = cc
+  counted f of c (Ok n) e = let same : f n ≡ c = cc in subst (IsOfTargets job) same (of n)
 
-  back_count : (c : Command) (r : Result ℕ Fault) → with_count r commands.Back ≡ Ok c → IsOfTargets job c
-  back_count c (Err f) e = cc
-  back_count c (Ok n) e = let same : commands.Back n ≡ c = cc in subst (IsOfTargets job) same tt
-
-  show_alone : (c : Command) (at : ℕ) (args : List Piece) → alone at args commands.Show ≡ Ok c → IsOfTargets job c
-  show_alone c at [] e = let same : commands.Show ≡ c = cc in subst (IsOfTargets job) same tt
-  show_alone c at (x ∷ args) e = cc
-
-  row_alone : (c : Command) (at : ℕ) (args : List Piece) → alone at args commands.Row ≡ Ok c → IsOfTargets job c
-  row_alone c at [] e = let same : commands.Row ≡ c = cc in subst (IsOfTargets job) same tt
-  row_alone c at (x ∷ args) e = cc
+  by_itself : (one c : Command) → IsOfTargets job one → (at : ℕ) (args : List Piece) → alone at args one ≡ Ok c → IsOfTargets job c
+  by_itself one c of at [] e = let same : one ≡ c = cc in subst (IsOfTargets job) same of
+  by_itself one c of at (x ∷ args) e = cc
 
   command_is : (at : ℕ) (verb : Option Verb) (args : List Piece) (c : Command) → command_by job.decls at verb args ≡ Ok c → IsOfTargets job c
   command_is at None args c e = cc
-  command_is at (Some verbs.Step) args c e = step_count c (one_count at args) e
-  command_is at (Some verbs.Back) args c e = back_count c (one_count at args) e
+  command_is at (Some verbs.Step) args c e = counted commands.Step (λ n. tt) c (one_count at args) e
+  command_is at (Some verbs.Back) args c e = counted commands.Back (λ n. tt) c (one_count at args) e
   command_is at (Some verbs.Until) args c e = until_words c at args e
-  command_is at (Some verbs.Show) args c e = show_alone c at args e
-  command_is at (Some verbs.Row) args c e = row_alone c at args e
+  command_is at (Some verbs.Show) args c e = by_itself commands.Show c tt at args e
+  command_is at (Some verbs.Row) args c e = by_itself commands.Row c tt at args e
 
   -- ---- all lines
 

@@ -16,7 +16,7 @@ use Rattle.kp_debug_script.specs.declared.command.Command.{Command}
 use Rattle.kp_debug_script.specs.declared.command.Command.TheVariants as commands
 use Rattle.kp_tool_report.proofs.Lines.{left_is}
 use Rattle.kp_synth_spec.specs.{Naming.value_shown, Shows.Shows, Traces.trace_of}
-use Rattle.kp_watch.proofs.Prefixes.{rows_many}
+use Rattle.kp_run.proofs.Prefixes.{rows_many}
 use Rattle.kp_debug_report.specs.Inspecting.{all_cycles, has_value, first_from, ahead, reached, printed_by, printed, ends_in}
 use Rattle.kp_debug_report.specs.inner.Standing.{IsUnderWay, IsSearched, IsInspection, run_of, state_seen}
 use Rattle.kp_debug_report.proofs.{Gathering.inputs_many, Searching.within, Searching.found, Searching.goes_on}
@@ -83,10 +83,6 @@ module _ (job : Job) (d : Debugged) (under : IsUnderWay job d) where
   -- how many cycles a search may move on
   pub most_left : (n left : ℕ) → left ≡ min n (all_cycles - d.cycle) → ahead (run_of job d) d.cycle n - d.cycle ≡ left
   most_left n left is = let start = under.within in omega (arith, is, start, many)
-
-  -- one cycle on
-  pub steps_one : d.cycle < all_cycles → forward 1 d ≡ record d { cycle = d.cycle + 1 }
-  steps_one h = let on : min (d.cycle + 1) (length d.inputs) ≡ d.cycle + 1 = omega (arith, h, inputs_are) in λ i. record d { cycle = on i }
 
   -- the session at cycle k
   module _ (s : Debugged) (k : ℕ) (at : s ≡ record d { cycle = k }) where

@@ -1,5 +1,6 @@
 -- The machines after a run have the specified values.
 use Rattle.std.proofs.Common.{◌≡◌, ◌∙◌, ℕ, ◌<◌, ◌^◌, List, length, get_or, ap, sym, subst, arith}
+use Rattle.std.proofs.lemmas.Grind.{get_or_default_zero}
 use Rattle.kp_base.specs.declared.row.Row.{Row}
 use Rattle.kp_ast.specs.declared.tree.Job.{Job}
 use Rattle.kp_pipeline.specs.{Accepted.Accepted, Rows.taken}
@@ -11,7 +12,7 @@ use Rattle.kp_sched.proofs.Counting.{seen_length}
 use Rattle.kp_seq.specs.Running.{Running, HasWord, no_slot, state}
 use Rattle.kp_run.specs.{Boards.due_behind, inner.Boards.IsBoard, Columns.Taken, Columns.row_taken, Columns.AreColumns, Homes.AreHomes, Homes.home_of}
 use Rattle.kp_run.specs.inner.Lanes.{HaveRun, lane_state}
-use Rattle.kp_run.proofs.{Gathering.taken_is, Machines.homes_within, Machines.home_passes, Machines.home_shows, Machines.lane_at, Machines.default}
+use Rattle.kp_run.proofs.{Gathering.taken_is, Machines.homes_within, Machines.home_passes, Machines.home_shows, Machines.lane_at}
 
 pub board_is : (job : Job) (rows : List Row) (columns : List Taken) (machines : List Running) (homes : List ℕ) → Accepted (machine_of job)
     → ((cycle : ℕ) → AreSamples job.decls (input job cycle)) → AreColumns job rows columns
@@ -24,7 +25,7 @@ board_is job rows columns machines homes acc given are ran shown =
       homes = shown;
       count = λ t. omega (arith, homes_within job acc t, ran.count);
       jobs = ran.jobs;
-      passes = λ t. home_passes job seen acc t ∙ ap (λ (T : ℕ). passes job seen T t) many;
+      passes = λ t. home_passes job seen acc (length seen) t ∙ ap (λ (T : ℕ). passes job seen T t) many;
       values = λ t a.
           home_shows job seen acc (λ i. values_in (row_taken columns i)) machines ran t a
           ∙ ap (λ (g : ℕ → ℕ → ℕ). sequential job g (passes job seen (length seen) t) t a) (taken_is job rows columns given are)
@@ -36,18 +37,9 @@ module _ (job : Job) (rows : List Row) (machines : List Running) (homes : List �
   pub home_at : (t d : ℕ) → t < length (targets_of job.decls) → get_or homes t d ≡ home_of job t
   home_at t d h =
       let there : t < length homes = omega (arith, h, is.homes.count) in
-      default homes t d there ∙ is.homes.homes t there
+      get_or_default_zero homes t d there ∙ is.homes.homes t there
 
   pub machine_shows : (k t a : ℕ) (d : Running) → k ≡ home_of job t → state (get_or machines k d) t a ≡ due_behind job rows t a
   machine_shows k t a d at =
       let there : k < length machines = omega (arith, at, is.count t) in
       ap (λ (s : ℕ → ℕ → ℕ). s t a) (sym (lane_at machines k d there) ∙ ap (lane_state machines) at) ∙ is.values t a
-
-  pub targets_alike : (k : ℕ) (d : Running) → k < length machines → targets_of (get_or machines k d).job.decls ≡ targets_of job.decls
-  targets_alike k d h = is.jobs k d h
-
-pub word_there : (job other : Job) (t a : ℕ) → targets_of other.decls ≡ targets_of job.decls → HasWord job t a → HasWord other t a
-word_there job other t a same has = record {
-  target = subst (λ (ss : List Slot). t < length ss) (sym same) has.target;
-  address = subst (λ (ss : List Slot). a < 2 ^ (get_or ss t no_slot).address) (sym same) has.address;
-}

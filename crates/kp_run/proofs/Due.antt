@@ -19,7 +19,7 @@ use Rattle.kp_run.proofs.{Inputs.seen_to, Inputs.quiet_to, Legal.as_many, Legal.
 pub counts_are : (job : Job) (rows : List Row) (homes : List ℕ) → Accepted (machine_of job) → AreHomes job homes → HasCounts job rows homes
 counts_are job rows homes acc are =
     let seen : List law.Row = rows_seen job.stages.value rows in
-    record { homes = are; passes = λ t. home_passes job seen acc t ∙ ap (λ (T : ℕ). passes job seen T t) (seen_length job.stages.value rows) }
+    record { homes = are; passes = λ t. home_passes job seen acc (length seen) t ∙ ap (λ (T : ℕ). passes job seen T t) (seen_length job.stages.value rows) }
 
 module _ (job : Job) (widths : first (widths_of job).asked ≡ None) (sections : first (sections_of job).asked ≡ None)
     (net : Net) (n : ℕ) (rows : List Row) (monitor : Kept) (shows : Shows net job) (has : HasRows job net n rows monitor)

@@ -1,7 +1,7 @@
 -- The words that are collected for each sample are those that the instructions of the run read.
 use Rattle.std.proofs.Common.{◌≡◌, ◌∙◌, ℕ, zero, suc, ◌+◌, ◌<◌, ◌≤◌, List, [], ◌∷◌, ◌++◌, length, get_or, drop, Bool, true, false, cond, eqb, eq-eqb, refl, ap, sym, subst, arith}
 use Rattle.std.proofs.{Math.Path.fun_ext, lemmas.Bool.ltb-true, lemmas.Bool.ltb-false, lemmas.Bool.cond-true, lemmas.Bool.cond-false, lemmas.Bool.ne_eqb}
-use Rattle.std.proofs.lemmas.{Nat.pow_pos, List.get_or-map, List.length-map, List.append_assoc, List.drop_more, List.get_or_append_left, List.get_or_at}
+use Rattle.std.proofs.lemmas.{Nat.pow_pos, List.get_or-map, List.length-map, List.append_assoc, List.drop_more, List.get_or_past}
 use Rattle.std.specs.Prelude.{nat_lt, ◌&&◌, if◌then◌else◌}
 use Rattle.kp_base.specs.declared.row.Row as masks
 use Rattle.kp_bits.specs.{Word.Word, Word.word, Operators.no_word}
@@ -63,11 +63,6 @@ nothing m n x h (r ∷ rows) (j ∷ ins) updates i =
     ap (λ (b : Bool). cond (b && eqb (updates (m.sample_stage x)) i) (j.samples x) (taken_from m (λ k. one_if (bit (bits (bit_of r.ue) n 0) k) + updates k) ins (rows_seen n rows) i x)) none
     ∙ nothing m n x h rows ins (λ k. one_if (bit (bits (bit_of r.ue) n 0) k) + updates k) i
 
-past_stages : (xs : List ℕ) (x d : ℕ) → length xs ≤ x → get_or xs x d ≡ d
-past_stages [] x d h = refl
-past_stages (s ∷ xs) zero d h = absurd (omega (arith, h))
-past_stages (s ∷ xs) (suc x) d h = past_stages xs x d (omega (arith, h))
-
 -- ---- all samples
 
 module _ (job : Job) (rows : List masks.Row) (columns : List Taken) (given : (cycle : ℕ) → AreSamples job.decls (input job cycle)) (are : AreColumns job rows columns) where
@@ -121,7 +116,7 @@ module _ (job : Job) (rows : List masks.Row) (columns : List Taken) (given : (cy
           let high : length columns ≤ x = ltb-false x (length columns) e in
           value_past (row_taken columns i) x (omega (arith, high, wide i))
           ∙ sym (nothing (machine_of job) job.stages.value x
-          (let at : (machine_of job).sample_stage x ≡ job.stages.value = stage x ∙ past_stages (sample_stages job.decls) x job.stages.value (omega (arith, high, are.count)) in omega (arith, at))
+          (let at : (machine_of job).sample_stage x ≡ job.stages.value = stage x ∙ get_or_past (sample_stages job.decls) x job.stages.value (omega (arith, high, are.count)) in omega (arith, at))
           rows (inputs_from job 0 (length seen)) (λ k. 0) i)
 
   -- and its values are those that the instruction reads
@@ -130,7 +125,7 @@ module _ (job : Job) (rows : List masks.Row) (columns : List Taken) (given : (cy
 
 -- ---- the loops
 
-pub words_more : (b : Bool) (w : Word) (ws rest : List Word) → (if b then ws ++ w ∷ [] else ws) ++ rest ≡ ws ++ (if b then w ∷ rest else rest)
+words_more : (b : Bool) (w : Word) (ws rest : List Word) → (if b then ws ++ w ∷ [] else ws) ++ rest ≡ ws ++ (if b then w ∷ rest else rest)
 words_more true w ws rest = append_assoc ws (w ∷ []) rest
 words_more false w ws rest = refl
 
@@ -157,26 +152,3 @@ module _ (given : ℕ → List Word) (x k n cycle : ℕ) (rows : List masks.Row)
 
   pub none_taken : updates ≡ false → ws ++ rest ≡ total
   none_taken e = ap (λ (b : Bool). (if b then ws ++ get_or (given cycle) x no_word ∷ [] else ws) ++ rest) (sym e) ∙ one_row
-
--- one column more
-pub columns_more : (given : ℕ → List Word) (stages : List ℕ) (n : ℕ) (rows : List masks.Row) (columns : List Taken) (c : Taken) (x : ℕ) → length columns ≡ x
-    → ((j : ℕ) → j < x → HasColumn given stages n rows j columns)
-    → c.words ≡ words_taken given x (get_or stages x n) 0 (rows_seen n rows) → c.none ≡ word (get_or (given 0) x no_word).width 0
-    → (j : ℕ) → j < x + 1 → HasColumn given stages n rows j (columns ++ c ∷ [])
-columns_more given stages n rows columns c x many kept words none j h = go (nat_lt j x) refl
-  where
-    go : (b : Bool) → nat_lt j x ≡ b → HasColumn given stages n rows j (columns ++ c ∷ [])
-    go true e =
-        let below : j < x = ltb-true j x e in
-        let same = get_or_append_left columns (c ∷ []) no_column j (omega (arith, below, many)) in
-        let has = kept j below in
-        record { words = ap (λ (k : Taken). k.words) same ∙ has.words; none = ap (λ (k : Taken). k.none) same ∙ has.none }
-    go false e =
-        let above : x ≤ j = ltb-false j x e in
-        let at : length columns ≡ j = omega (arith, above, h, many) in
-        let there : x ≡ j = omega (arith, above, h) in
-        let last : get_or (columns ++ c ∷ []) j no_column ≡ c = ap (λ (i : ℕ). get_or (columns ++ c ∷ []) i no_column) (sym at) ∙ get_or_at columns c [] no_column (length columns) refl in
-        record {
-          words = ap (λ (k : Taken). k.words) last ∙ words ∙ ap (λ (i : ℕ). words_taken given i (get_or stages i n) 0 (rows_seen n rows)) there;
-          none = ap (λ (k : Taken). k.none) last ∙ none ∙ ap (λ (i : ℕ). word (get_or (given 0) i no_word).width 0) there;
-        }

@@ -1,6 +1,6 @@
 -- The machines after a run, and which of them has the value of a target.
-use Rattle.std.proofs.Common.{◌≡◌, ◌∙◌, ℕ, zero, suc, ◌+◌, ◌<◌, ◌≤◌, List, [], ◌∷◌, ◌++◌, length, get_or, Bool, true, false, Option, Some, None, refl, ap, sym, arith}
-use Rattle.std.proofs.lemmas.{Bool.ltb-true, Bool.ltb-false, Bool.leb-true, Bool.and_parts, Bool.lt-ltb, Bool.le-ltb, List.get_or_append_left, List.get_or_at}
+use Rattle.std.proofs.Common.{◌≡◌, ◌∙◌, ℕ, zero, suc, ◌+◌, ◌<◌, ◌≤◌, List, [], ◌∷◌, ◌++◌, length, get_or, Bool, true, false, Option, Some, None, refl, ap, sym, arith, below_more}
+use Rattle.std.proofs.lemmas.{Bool.ltb-true, Bool.ltb-false, Bool.leb-true, Bool.and_parts, Bool.lt-ltb, Bool.le-ltb, List.get_or_append_left, List.get_or_push}
 use Rattle.std.specs.{Prelude.is_some, Prelude.nat_lt, Prelude.nat_le, Prelude.◌&&◌, Prelude.if◌then◌else◌, List.All}
 use Rattle.kp_base.specs.{Refusal.e_rule, declared.row.Row.Row}
 use Rattle.kp_bits.specs.Word.{Word}
@@ -15,7 +15,7 @@ use Rattle.kp_machine.specs.Slots.{targets_of, result_to}
 use Rattle.kp_sched.specs.{Monitors.Kept, Monitors.HasSeen, Rows.rows_seen, Runs.passes}
 use Rattle.kp_sched.proofs.Counting.{seen_length}
 use Rattle.kp_seq.specs.Running.{Running, state}
-use Rattle.kp_run.specs.{Homes.home_of, inner.Lanes.lane_state, inner.Lanes.lane_passes, inner.Lanes.lane_count, inner.Lanes.HaveRun, inner.Lanes.HaveRunFrom}
+use Rattle.kp_run.specs.{Homes.home_of, inner.Lanes.lane_state, inner.Lanes.passes_after, inner.Lanes.lane_passes, inner.Lanes.lane_count, inner.Lanes.HaveRun, inner.Lanes.HaveRunFrom}
 use Rattle.kp_run.specs.inner.Homes.{home_by}
 
 abbrev State : Type 0
@@ -51,15 +51,8 @@ homes_within job acc t = home_within job.stages.value (write_stage_of (result_fo
 
 pub homes_more : (job : Job) (homes : List ℕ) (t home : ℕ) → length homes ≡ t → ((j : ℕ) → j < t → get_or homes j 0 ≡ home_of job j) → home ≡ home_of job t
     → (j : ℕ) → j < t + 1 → get_or (homes ++ home ∷ []) j 0 ≡ home_of job j
-homes_more job homes t home many kept last j h = go (nat_lt j t) refl
-  where
-    go : (b : Bool) → nat_lt j t ≡ b → get_or (homes ++ home ∷ []) j 0 ≡ home_of job j
-    go true e = let below : j < t = ltb-true j t e in get_or_append_left homes (home ∷ []) 0 j (omega arith) ∙ kept j below
-    go false e =
-        let above : t ≤ j = ltb-false j t e in
-        let same : j ≡ length homes = omega arith in
-        let there : t ≡ j = omega arith in
-        ap (λ (i : ℕ). get_or (homes ++ home ∷ []) i 0) same ∙ get_or_at homes home [] 0 (length homes) refl ∙ last ∙ ap (home_of job) there
+homes_more job homes t home many kept last =
+    below_more (λ (j : ℕ). get_or (homes ++ home ∷ []) j 0 ≡ home_of job j) t (λ j h. get_or_append_left homes (home ∷ []) 0 j (omega (arith, h, many)) ∙ kept j h) (get_or_push homes home 0 t many ∙ last)
 
 -- ---- one machine
 
@@ -67,9 +60,9 @@ homes_more job homes t home many kept last j h = go (nat_lt j t) refl
 abbrev run : Job → State → (ℕ → List Word) → ℕ → State
 run job s rows i = seq (machine_of job) s (λ j. values_in (rows j)) i
 
-next_is : (job : Job) (s : State) (rows : ℕ → List Word) (i : ℕ) → exec (machine_of job) (run job s rows i) (values_in (rows i)) ≡ run job s rows (suc i)
+pub next_is : (job : Job) (s : State) (given : ℕ → ℕ → ℕ) (i : ℕ) → exec (machine_of job) (seq (machine_of job) s given i) (given i) ≡ seq (machine_of job) s given (suc i)
 unfolding seq
-next_is job s rows i = refl
+next_is job s given i = refl
 
 pub one_step : (job now : Job) (s : State) (rows : ℕ → List Word) (i : ℕ) (before after : State) (row : List Word) → now ≡ job → before ≡ run job s rows i → row ≡ rows i
     → after ≡ exec (machine_of now) before (values_in row) → after ≡ run job s rows (i + 1)
@@ -77,7 +70,7 @@ one_step job now s rows i before after row same is this stepped =
     let e : suc i ≡ i + 1 = omega arith in
     stepped
     ∙ (λ j. exec (machine_of (same j)) (is j) (values_in (this j)))
-    ∙ next_is job s rows i
+    ∙ next_is job s (λ j. values_in (rows j)) i
     ∙ ap (run job s rows) e
 
 -- an opened machine is at the start of the run
@@ -98,11 +91,6 @@ pub lane_at : (ms : List Running) (k : ℕ) (d : Running) → k < length ms → 
 lane_at [] k d h = absurd (omega arith)
 lane_at (m ∷ ms) zero d h = refl
 lane_at (m ∷ ms) (suc k) d h = lane_at ms k d (omega arith)
-
-pub default : (xs : List ℕ) (i d : ℕ) → i < length xs → get_or xs i d ≡ get_or xs i 0
-default [] i d h = absurd (omega arith)
-default (x ∷ xs) zero d h = refl
-default (x ∷ xs) (suc i) d h = default xs i d (omega arith)
 
 module _ (job : Job) (given : ℕ → ℕ → ℕ) where
   -- the machine that has executed nothing comes after those of all stages
@@ -184,18 +172,18 @@ module _ (job : Job) (given : ℕ → ℕ → ℕ) where
 -- ---- the values of a machine
 
 module _ (job : Job) (rows : List law.Row) (acc : Accepted (machine_of job)) where
-  passes_by : (has : Bool) (w : ℕ) → (has ≡ true → w < job.stages.value)
-      → lane_passes job rows (if has then w else job.stages.value) ≡ (if has then passed rows w (length rows) else 0)
-  passes_by true w h = rw (lt-ltb w job.stages.value (h refl)) refl
-  passes_by false w h = rw (le-ltb job.stages.value job.stages.value (let e : job.stages.value ≤ job.stages.value = omega arith in e)) refl
+  passes_by : (T : ℕ) (has : Bool) (w : ℕ) → (has ≡ true → w < job.stages.value)
+      → passes_after job rows T (if has then w else job.stages.value) ≡ (if has then passed rows w T else 0)
+  passes_by T true w h = rw (lt-ltb w job.stages.value (h refl)) refl
+  passes_by T false w h = rw (le-ltb job.stages.value job.stages.value (let e : job.stages.value ≤ job.stages.value = omega arith in e)) refl
 
   -- the machine of a target has executed the instructions that the target reflects
-  pub home_passes : (t : ℕ) → lane_passes job rows (home_of job t) ≡ passes job rows (length rows) t
+  pub home_passes : (T t : ℕ) → passes_after job rows T (home_of job t) ≡ passes job rows T t
   unfolding home_of passes machine_of
-  home_passes t = passes_by (is_some (result_for job t)) (write_stage_of (result_for job t)) (acc.writes t)
+  home_passes T t = passes_by T (is_some (result_for job t)) (write_stage_of (result_for job t)) (acc.writes t)
 
   pub home_shows : (given : ℕ → ℕ → ℕ) (machines : List Running) → HaveRun job given rows machines
       → (t a : ℕ) → lane_state machines (home_of job t) t a ≡ sequential job given (passes job rows (length rows) t) t a
   home_shows given machines ran t a =
       ap (λ (s : State). s t a) (ran.states (home_of job t) (homes_within job acc t))
-      ∙ ap (λ (i : ℕ). sequential job given i t a) (home_passes t)
+      ∙ ap (λ (i : ℕ). sequential job given i t a) (home_passes (length rows) t)

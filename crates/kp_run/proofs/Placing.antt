@@ -5,6 +5,7 @@ use Rattle.std.specs.Prelude.{◌==◌, if◌then◌else◌}
 use Rattle.kp_base.specs.First.{first}
 use Rattle.kp_width.specs.Widths.{widths_of}
 use Rattle.kp_bits.specs.Word.{word}
+use Rattle.kp_cycle.specs.Steps.{Running}
 use Rattle.kp_ast.specs.declared.tree.{Decl.Decl, Job.Job, Lit.Lit, Named.Named, Num.Num}
 use Rattle.kp_ast.specs.declared.tree.Decl.TheVariants as decls
 use Rattle.kp_machine.proofs.Widths.{Fine, job_fine}
@@ -13,7 +14,7 @@ use Rattle.kp_net.specs.{Netlist.Net, Netlist.State, Parts.NetOk, Parts.no_reg, 
 use Rattle.kp_seq.specs.Running.{HasWord, no_slot, target}
 use Rattle.kp_synth_spec.specs.{Naming.register_of, Naming.file_of, Naming.value_shown, Shows.IsOfJob}
 use Rattle.kp_run.specs.declared.places.Place.{Place, TheVariants.Register, TheVariants.File}
-use Rattle.kp_run.specs.inner.Places.{place_in, places_in, words_at}
+use Rattle.kp_run.specs.Places.{place_in, places_in, IsPlace, word_at}
 
 -- ---- the addresses of a file
 
@@ -24,12 +25,7 @@ FitsAddress _ = Unit {0}
 fits_at : (ds : List Decl) (i : ℕ) (d : Decl) → Fine ds → ((t : ℕ) → t < length (targets_of ds) → (get_or (targets_of ds) t no_slot).address ≤ 16) → i < length ds → FitsAddress (get_or ds i d)
 fits_at [] i d fine low h = absurd (omega (arith, h))
 fits_at (decls.File n width address ∷ ds) zero d fine low h = (fine.2, low 0 (omega arith))
-fits_at (decls.Reg n width start ∷ ds) zero d fine low h = tt
-fits_at (decls.Pipe n width ∷ ds) zero d fine low h = tt
-fits_at (decls.Hint n width start ∷ ds) zero d fine low h = tt
-fits_at (decls.Sample n width stage ∷ ds) zero d fine low h = tt
-fits_at (decls.Target r ∷ ds) zero d fine low h = tt
-fits_at (decls.Func f ∷ ds) zero d fine low h = tt
+fits_at (_ ∷ ds) zero d fine low h = tt
 fits_at (decls.Reg n width start ∷ ds) (suc i) d fine low h = fits_at ds i d fine.2 (λ t l. low (suc t) (omega (arith, l))) (omega (arith, h))
 fits_at (decls.File n width address ∷ ds) (suc i) d fine low h = fits_at ds i d fine.3 (λ t l. low (suc t) (omega (arith, l))) (omega (arith, h))
 fits_at (_ ∷ ds) (suc i) d fine low h = fits_at ds i d fine low (omega (arith, h))
@@ -58,11 +54,7 @@ file_place net n width address p some is = go (address.value == 0) refl
 pub no_target : (x : Decl) (ds : List Decl) → ((n : Named) (w : Num) (v : Lit) → x ≡ decls.Reg n w v → ⊥) → ((n : Named) (w a : Num) → x ≡ decls.File n w a → ⊥) → targets_of (x ∷ ds) ≡ targets_of ds
 no_target (decls.Reg n w v) ds other another = absurd (other n w v refl)
 no_target (decls.File n w a) ds other another = absurd (another n w a refl)
-no_target (decls.Pipe n width) ds other another = refl
-no_target (decls.Hint n width start) ds other another = refl
-no_target (decls.Sample n width stage) ds other another = refl
-no_target (decls.Target r) ds other another = refl
-no_target (decls.Func f) ds other another = refl
+no_target _ ds other another = refl
 
 module _ (net : Net) (ds : List Decl) (i : ℕ) (x : Decl) (places total : List Place) (low : i < length ds) (is : x ≡ get_or ds i x)
     (kept : places ++ map (place_in net) (targets_of (drop i ds)) ≡ total) where
@@ -92,11 +84,7 @@ pub few_targets : (ds : List Decl) → length (targets_of ds) ≤ length ds
 few_targets [] = omega arith
 few_targets (decls.Reg n width start ∷ ds) = let h = few_targets ds in omega (arith, h)
 few_targets (decls.File n width address ∷ ds) = let h = few_targets ds in omega (arith, h)
-few_targets (decls.Pipe n width ∷ ds) = let h = few_targets ds in omega (arith, h)
-few_targets (decls.Hint n width start ∷ ds) = let h = few_targets ds in omega (arith, h)
-few_targets (decls.Sample n width stage ∷ ds) = let h = few_targets ds in omega (arith, h)
-few_targets (decls.Target r ∷ ds) = let h = few_targets ds in omega (arith, h)
-few_targets (decls.Func f ∷ ds) = let h = few_targets ds in omega (arith, h)
+few_targets (_ ∷ ds) = let h = few_targets ds in omega (arith, h)
 
 pub as_many : (job : Job) (net : Net) (places : List Place) → places ≡ places_in job net → length places ≡ length (targets_of job.decls)
 as_many job net places is = ap (λ (l : List Place). length l) is ∙ length-map (targets_of job.decls) (place_in net)
@@ -104,82 +92,20 @@ as_many job net places is = ap (λ (l : List Place). length l) is ∙ length-map
 pub place_at : (job : Job) (net : Net) (places : List Place) (t : ℕ) (d : Place) → places ≡ places_in job net → t < length (targets_of job.decls) → get_or places t d ≡ place_in net (target job t)
 place_at job net places t d is h = ap (λ (l : List Place). get_or l t d) is ∙ get_or-map (place_in net) (targets_of job.decls) t no_slot d h
 
-module _ (job : Job) (net : Net) (t : ℕ) (within : t < length (targets_of job.decls)) where
-  words_by : (b : Bool) → is_register (target job t) ≡ b → words_at (place_in net (target job t)) ≡ 2 ^ (target job t).address
-  words_by true e = rw e (ap (λ (n : ℕ). 2 ^ n) (sym (eqb-true (target job t).address 0 e)))
-  words_by false e = rw e refl
+-- a netlist of the job has the place of each target
+pub place_there : (job : Job) (net : Net) (t : ℕ) (place : Place) → IsOfJob net job → t < length (targets_of job.decls) → place ≡ place_in net (target job t) → IsPlace net place
+place_there job net t place of_job within is = subst (IsPlace net) (sym is) (go (is_register (target job t)) refl)
+  where
+    go : (b : Bool) → is_register (target job t) ≡ b → IsPlace net (place_in net (target job t))
+    go true e = rw e (of_job.registers t within e).there
+    go false e = let file = of_job.files t within e in rw e (file.there, ap (λ (w : ℕ). 2 ^ w) (sym file.address))
 
-  -- its addresses are those of the target
-  words_are : (place : Place) → place ≡ place_in net (target job t) → words_at place ≡ 2 ^ (target job t).address
-  words_are place is = ap words_at is ∙ words_by (is_register (target job t)) refl
-
-  pub has_word : (place : Place) (a : ℕ) → place ≡ place_in net (target job t) → a < words_at place → HasWord job t a
-  has_word place a is h = let many = words_are place is in record { target = within; address = omega (arith, h, many) }
-
-  pub word_below : (place : Place) (a : ℕ) → place ≡ place_in net (target job t) → HasWord job t a → a < words_at place
-  word_below place a is there = let many = words_are place is in let h = there.address in omega (arith, h, many)
-
-  -- whether it is a register, and its number
-  abbrev kind : Place → Bool
-  kind (Register r) = true
-  kind (File f words) = false
-
-  abbrev number : Place → ℕ
-  number (Register r) = r
-  number (File f words) = f
-
-  kind_is : (b : Bool) → is_register (target job t) ≡ b → kind (place_in net (target job t)) ≡ b
-  kind_is true e = rw e refl
-  kind_is false e = rw e refl
-
-  register_kind : (place : Place) (b : Bool) → place ≡ place_in net (target job t) → kind place ≡ b → is_register (target job t) ≡ b
-  register_kind place b is this = sym (kind_is (is_register (target job t)) refl) ∙ ap kind (sym is) ∙ this
-
-  register_number : (place : Place) → place ≡ place_in net (target job t) → is_register (target job t) ≡ true → number place ≡ register_of net (target job t)
-  register_number place is e = ap number is ∙ rw e refl
-
-  file_number : (place : Place) → place ≡ place_in net (target job t) → is_register (target job t) ≡ false → number place ≡ file_of net (target job t)
-  file_number place is e = ap number is ∙ rw e refl
-
-  module _ (of_job : IsOfJob net job) (place : Place) (is : place ≡ place_in net (target job t)) (st : State) where
-    -- a register
-    module _ (r : ℕ) (this : place ≡ Register r) where
-      is_one : is_register (target job t) ≡ true
-      is_one = register_kind place true is (ap kind this)
-
-      at : r ≡ register_of net (target job t)
-      at = ap number (sym this) ∙ register_number place is is_one
-
-      pub register_there : r < length net.parts.regs
-      register_there = let h = (of_job.registers t within is_one).there in omega (arith, h, at)
-
-      pub register_shown : (a : ℕ) → word (get_or net.parts.regs r no_reg).start.width (get_or st.regs r 0) ≡ word (target job t).width (value_shown job net st t a)
-      unfolding value_shown
-      register_shown a =
-          ap (λ (i : ℕ). word (get_or net.parts.regs i no_reg).start.width (get_or st.regs i 0)) at
-          ∙ ap (λ (w : ℕ). word w (get_or st.regs (register_of net (target job t)) 0)) (of_job.registers t within is_one).width
-          ∙ ap (λ (b : Bool). word (target job t).width (if b then get_or st.regs (register_of net (target job t)) 0 else get_or (get_or st.files (file_of net (target job t)) []) a 0)) (sym is_one)
-
-    -- a file
-    module _ (f words : ℕ) (this : place ≡ File f words) where
-      is_more : is_register (target job t) ≡ false
-      is_more = register_kind place false is (ap kind this)
-
-      at_file : f ≡ file_of net (target job t)
-      at_file = ap number (sym this) ∙ file_number place is is_more
-
-      pub file_there : f < length net.parts.files
-      file_there = let h = (of_job.files t within is_more).there in omega (arith, h, at_file)
-
-      pub address_there : (a : ℕ) → a < words_at place → a < 2 ^ (get_or net.parts.files f no_file).address_width
-      address_there a h =
-          let many : words_at place ≡ 2 ^ (target job t).address = words_are place is in
-          let wide : (get_or net.parts.files f no_file).address_width ≡ (target job t).address = ap (λ (i : ℕ). (get_or net.parts.files i no_file).address_width) at_file ∙ (of_job.files t within is_more).address in
-          subst (λ (w : ℕ). a < 2 ^ w) (sym wide) (omega (arith, h, many))
-
-      pub file_shown : (a : ℕ) → word (get_or net.parts.files f no_file).width (get_or (get_or st.files f []) a 0) ≡ word (target job t).width (value_shown job net st t a)
-      unfolding value_shown
-      file_shown a =
-          ap (λ (i : ℕ). word (get_or net.parts.files i no_file).width (get_or (get_or st.files i []) a 0)) at_file
-          ∙ ap (λ (w : ℕ). word w (get_or (get_or st.files (file_of net (target job t)) []) a 0)) (of_job.files t within is_more).width
-          ∙ ap (λ (b : Bool). word (target job t).width (if b then get_or st.regs (register_of net (target job t)) 0 else get_or (get_or st.files (file_of net (target job t)) []) a 0)) (sym is_more)
+-- and the word there is the value of the target
+pub place_shown : (job : Job) (sim : Running) (t : ℕ) (place : Place) (a : ℕ) → IsOfJob sim.net job → t < length (targets_of job.decls) → place ≡ place_in sim.net (target job t)
+    → word_at sim place a ≡ word (target job t).width (value_shown job sim.net sim.state t a)
+unfolding value_shown
+place_shown job sim t place a of_job within is = ap (λ (p : Place). word_at sim p a) is ∙ go (is_register (target job t)) refl
+  where
+    go : (b : Bool) → is_register (target job t) ≡ b → word_at sim (place_in sim.net (target job t)) a ≡ word (target job t).width (value_shown job sim.net sim.state t a)
+    go true e = rw e (ap (λ (w : ℕ). word w (get_or sim.state.regs (register_of sim.net (target job t)) 0)) (of_job.registers t within e).width)
+    go false e = rw e (ap (λ (w : ℕ). word w (get_or (get_or sim.state.files (file_of sim.net (target job t)) []) a 0)) (of_job.files t within e).width)

@@ -70,7 +70,7 @@ state_is job net (suc n) T h = go (state_is job net n T) (nat_lt n T) refl
 
 -- ---- the update enables of rows
 
-passed_first : (n : ℕ) (rows : List masks.Row) (k T : ℕ) → passed (rows_seen n (take T rows)) k T ≡ passed (rows_seen n rows) k T
+pub passed_first : (n : ℕ) (rows : List masks.Row) (k T : ℕ) → passed (rows_seen n (take T rows)) k T ≡ passed (rows_seen n rows) k T
 passed_first n rows k zero = refl
 passed_first n [] k (suc T) = refl
 passed_first n (r ∷ rows) k (suc T) = ap (λ (m : ℕ). one_if (bit (bits (bit_of r.ue) n 0) k) + m) (passed_first n rows k T)

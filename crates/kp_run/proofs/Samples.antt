@@ -27,12 +27,7 @@ as_many (_ ∷ ds) = as_many ds
 pub few : (ds : List Decl) → length (sample_stages ds) ≤ length ds
 few [] = omega arith
 few (decls.Sample n width stage ∷ ds) = let h = few ds in omega (arith, h)
-few (decls.Reg n width start ∷ ds) = let h = few ds in omega (arith, h)
-few (decls.File n width address ∷ ds) = let h = few ds in omega (arith, h)
-few (decls.Pipe n width ∷ ds) = let h = few ds in omega (arith, h)
-few (decls.Hint n width start ∷ ds) = let h = few ds in omega (arith, h)
-few (decls.Target r ∷ ds) = let h = few ds in omega (arith, h)
-few (decls.Func f ∷ ds) = let h = few ds in omega (arith, h)
+few (_ ∷ ds) = let h = few ds in omega (arith, h)
 
 -- the width of each entry, and that the entry exists
 pub width_at : (ds : List Decl) (row : List Word) → AreSamples ds row → (x : ℕ) → x < length row → (get_or row x no_word).width ≡ (get_or (samples_of ds) x no_slot).width
@@ -98,7 +93,3 @@ set_next row room x w h there same is =
 
 pub is_got : (row : List Word) (x : ℕ) (w : Word) → slice_get row x ≡ Some w → w ≡ get_or row x no_word
 is_got row x w e = ap (λ (o : Option Word). unwrap_or o no_word) (sym e) ∙ unwrap_or-slice_get row x no_word
-
-pub all_written : (row room : List Word) (x : ℕ) → length room ≡ x → length row ≡ x → take x room ≡ take x row → room ≡ row
-all_written row room x many also same =
-    sym (take_all x room (omega (arith, many))) ∙ same ∙ take_all x row (omega (arith, also))

@@ -1,11 +1,18 @@
 -- The cycles of a run, in order.
-use Rattle.std.proofs.Common.{◌≡◌, ◌∙◌, ℕ, suc, ◌+◌, List, [], ◌∷◌, ◌++◌, refl, ap, sym, arith}
+use Rattle.std.proofs.Common.{◌≡◌, ◌∙◌, ℕ, suc, ◌+◌, List, [], ◌∷◌, ◌++◌, false, refl, ap, sym, arith}
 use Rattle.kp_base.specs.declared.row.Row.{Row}
+use Rattle.kp_bits.specs.Word.{Word}
 use Rattle.kp_ast.specs.declared.tree.Job.{Job}
+use Rattle.kp_stage.specs.Start.{stall_word, input}
+use Rattle.kp_cycle.specs.Steps.{given}
 use Rattle.kp_net.specs.Netlist.{Net, Input, State, start_of, row_of, state_after, last_of, run}
 use Rattle.kp_net.proofs.Runs.{rows_more, last_more}
 use Rattle.kp_sched.specs.Monitors.{Kept, HasSeen}
 use Rattle.kp_run.specs.Cycles.{input_at, inputs_to, HasRows}
+
+-- the inputs of a cycle, as the sections of the job specify them
+pub given_at : (job : Job) (stalls : ℕ → ℕ) (inputs : ℕ → List Word) (m n : ℕ) → stalls ≡ stall_word job → inputs ≡ input job → m ≡ n → given (stalls m) false (inputs m) ≡ input_at job n
+given_at job stalls inputs m n words rows same = λ i. given (words i (same i)) false (rows i (same i))
 
 module _ (job : Job) (net : Net) (n : ℕ) (i : Input) (is : i ≡ input_at job n) where
   next : n + 1 ≡ suc n

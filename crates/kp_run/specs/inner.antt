@@ -2,5 +2,4 @@
 pub mod Homes
 pub mod Lanes
 pub mod Boards
-pub mod Places
 pub mod Finals

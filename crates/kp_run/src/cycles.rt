@@ -1,13 +1,14 @@
 // A netlist that runs together with a monitor.
-ghost use Rattle.std.specs.Prelude.{◌≡◌, ◌<◌, ◌≤◌, ◌^◌, false, length, IfOk};
+ghost use Rattle.std.specs.Prelude.{◌≡◌, ◌+◌, ◌<◌, ◌≤◌, ◌^◌, [], false, length, IfOk};
 ghost use Rattle.kp_stage.specs.Start.{stall_word, input};
 ghost use Rattle.kp_image.specs.Spans.{word_in};
 ghost use Rattle.kp_image.specs.Feeds.{row_in};
-ghost use Rattle.kp_net.specs.Netlist.{row_of, state_after, last_of};
+ghost use Rattle.kp_net.specs.Netlist.{Net, row_of, state_after, last_of};
 ghost use Rattle.kp_cycle.specs.Steps.{SamplesFit, given};
 ghost use Rattle.kp_synth_spec.specs.Naming.{sample_ports};
 ghost use Rattle.kp_synth_spec.specs.Shows.{HasOutputs};
-ghost use Rattle.kp_run.specs.Cycles.{HasRows, inputs_to};
+ghost use Rattle.kp_sched.specs.Monitors.{HasSeen};
+ghost use Rattle.kp_run.specs.Cycles.{HasRows, after_cycles, input_at, inputs_to};
 
 use kp_base::{NoMemory, Row};
 use kp_bits::Bits;
@@ -16,6 +17,7 @@ use kp_frontend::Accepted;
 use kp_image::{InputPattern, Sections};
 use kp_net::Netlist;
 use kp_sched::Monitor;
+use kp_stage::Design;
 use std::alloc::Global;
 
 /// The rows of a run, and their counts.
@@ -61,19 +63,41 @@ pub(crate) fn run_of<'n>(
     ensures net { IfOk result (λ r. r.sim.net ≡ net.now) }
     ensures state { IfOk result (λ r. r.sim.state ≡ last_of net.now (inputs_to job.now.design.job count)) }
 {
-    let stages = job.design.job().stages.value;
     let mut sim = Sim::open(alloc, net)?;
     let mut samples = job.sections.inputs.row(alloc, 0)?;
     let room = samples.as_mut_slice();
     let mut rows = Vec::with_capacity(alloc, count as usize)?;
-    let mut monitor = Monitor::open(stages as u8);
+    let mut monitor = monitor_of(&job.design);
     for cycle in 0..count {
-        let row = step(&mut sim, &job.sections, room, u64::from(cycle));
+        let row = next_cycle(&mut sim, job, room, cycle);
         rows.push(row).unwrap();
         monitor.cycle(row);
     }
     let cycles = Cycles { rows, monitor };
     Ok(Ran { cycles, sim })
+}
+
+/// A monitor of the runs of a job that has counted no cycle.
+pub fn monitor_of(design: &Design) -> Monitor
+    ensures stages { result.stages ≡ design.now.job.stages.value }
+    ensures seen { HasSeen result [] }
+{
+    let stages = design.job().stages.value;
+    Monitor::open(stages as u8)
+}
+
+/// Runs the next cycle of a netlist that has run under the stall words and the samples of its job for `cycle` cycles. `room` is as in `step`.
+pub fn next_cycle(sim: &mut Sim<'_>, job: &Accepted, room: &mut [Bits], cycle: u32) -> Row
+    requires samples { sim.old.net.parts.samples ≡ sample_ports job.now.design.job }
+    requires room { length room.old ≡ length job.now.sections.inputs }
+    ensures row { (net : Net) → sim.old ≡ after_cycles job.now.design.job net cycle
+        → result ≡ row_of net (input_at job.now.design.job cycle) (last_of net (inputs_to job.now.design.job cycle)) }
+    ensures sim { (net : Net) → sim.old ≡ after_cycles job.now.design.job net cycle → sim.new ≡ after_cycles job.now.design.job net (cycle + 1) }
+    ensures room { length room.new ≡ length room.old }
+{
+    // The invariant of the type, for the proof only.
+    let _kept = job.design.job();
+    step(sim, &job.sections, room, u64::from(cycle))
 }
 
 /// Runs one cycle of a netlist under the stall word and the samples of a job, with the reset not raised. `room` is a buffer for the sample values,

@@ -5,7 +5,7 @@ ghost use Rattle.kp_machine.specs.Slots.{targets_of};
 ghost use Rattle.kp_seq.specs.Running.{HasWord, target};
 ghost use Rattle.kp_synth_spec.specs.Naming.{value_shown};
 ghost use Rattle.kp_synth_spec.specs.Shows.{IsOfJob};
-ghost use Rattle.kp_run.specs.inner.Places.{place_in, places_in, words_at};
+ghost use Rattle.kp_run.specs.Places.{place_in, places_in, words_at};
 ghost use Rattle.kp_run.specs.inner.Finals.{AreWords, AreFinals};
 
 use crate::places::{Place, places_of};
@@ -88,8 +88,5 @@ fn shown(_design: &Design, sim: &Sim<'_>, _t: u32, place: Place, address: u32) -
     requires address { address < words_at place }
     ensures { result ≡ word (target _design.now.job _t).width (value_shown _design.now.job sim.now.net sim.now.state _t address) }
 {
-    match place {
-        Place::Register(number) => sim.value(number),
-        Place::File(number, _) => sim.word(number, address),
-    }
+    place.word(sim, address)
 }

@@ -1,10 +1,12 @@
 // The registers and files of a netlist that store the targets of its job.
-ghost use Rattle.std.specs.Prelude.{◌≡◌, ◌≤◌, ◌^◌, IfOk};
+ghost use Rattle.std.specs.Prelude.{◌≡◌, ◌<◌, ◌≤◌, ◌^◌, IfOk};
 ghost use Rattle.kp_synth_spec.specs.Shows.{IsOfJob};
-ghost use Rattle.kp_run.specs.inner.Places.{places_in, words_at};
+ghost use Rattle.kp_run.specs.Places.{IsPlace, places_in, word_at, words_at};
 
 use kp_ast::Decl;
 use kp_base::NoMemory;
+use kp_bits::Bits;
+use kp_cycle::Sim;
 use kp_net::Netlist;
 use kp_stage::Design;
 use kp_synth_spec::{file_named, register_named};
@@ -12,7 +14,7 @@ use std::alloc::Global;
 
 /// The register of a target, or its file with the number of words.
 #[derive(Clone, Copy, Debug)]
-pub(crate) enum Place {
+pub enum Place {
     Register(u32),
     File(u32, u32),
 }
@@ -27,14 +29,22 @@ impl Place {
             Place::File(_, words) => words,
         }
     }
+
+    /// The word at an address in the state of a netlist.
+    pub fn word(self, sim: &Sim<'_>, address: u32) -> Bits
+        requires place { IsPlace sim.now.net self }
+        requires address { address < words_at self }
+        ensures { result ≡ word_at sim.now self address }
+    {
+        match self {
+            Place::Register(number) => sim.value(number),
+            Place::File(number, _) => sim.word(number, address),
+        }
+    }
 }
 
-/// The register or file of each target.
-pub(crate) fn places_of(
-    alloc: Global,
-    design: &Design,
-    net: &Netlist,
-) -> Result<Vec<Place>, NoMemory>
+/// The register or file of each target. The only error is out of memory.
+pub fn places_of(alloc: Global, design: &Design, net: &Netlist) -> Result<Vec<Place>, NoMemory>
     requires { IsOfJob net.now design.now.job }
     ensures { IfOk result (λ places. places.items ≡ places_in design.now.job net.now) }
 {

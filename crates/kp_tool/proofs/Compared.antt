@@ -14,7 +14,7 @@ use Rattle.kp_seq.specs.Running.{HasWord, target}
 use Rattle.kp_synth_spec.specs.Traces.{trace_of}
 use Rattle.kp_run.specs.{Boards.due_behind, Cycles.HasRows, declared.board.Board.Board}
 use Rattle.kp_watch.specs.{Watching.own_trace, Watching.own_due, Watching.Agrees, Watching.IsFirstDifference, declared.compare.Difference.Difference}
-use Rattle.kp_watch.proofs.Prefixes.{rows_many}
+use Rattle.kp_run.proofs.Prefixes.{rows_many}
 use Rattle.kp_tool_report.specs.{Runs.run_text, Runs.count_line, States.State, Texts.differs_line}
 use Rattle.kp_tool_report.specs.inner.Differing as shown
 use Rattle.kp_tool_report.proofs.Alike.{lines_alike}

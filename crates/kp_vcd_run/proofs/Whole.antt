@@ -16,7 +16,7 @@ use Rattle.kp_sched.proofs.Counting.{seen_length}
 use Rattle.kp_seq.specs.Running.{target}
 use Rattle.kp_synth_spec.specs.{Naming.value_shown, Shows.Shows, Traces.trace_of, Traces.inputs_seen, Traces.AreQuiet}
 use Rattle.kp_run.specs.Cycles.{input_at, inputs_to}
-use Rattle.kp_watch.proofs.Prefixes.{state_is, rows_many}
+use Rattle.kp_run.proofs.Prefixes.{state_is, rows_many}
 use Rattle.kp_vcd.specs.Recording.{Values}
 use Rattle.kp_vcd_run.specs.Dumps.{row_values, no_row, output_values, register_values, values_at, own_run}
 use Rattle.kp_vcd_run.specs.inner.Shown.{shown_at, ArePlaces, mask_values}

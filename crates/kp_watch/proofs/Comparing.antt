@@ -1,5 +1,5 @@
 -- The steps of a comparison.
-use Rattle.std.proofs.Common.{◌≡◌, ◌≢◌, ◌∙◌, ℕ, ◌+◌, ◌<◌, ◌≤◌, ◌⊎◌, inl, inr, Bool, true, false, eqb, Option, Some, None, refl, ap, sym, subst, arith}
+use Rattle.std.proofs.Common.{◌≡◌, ◌≢◌, ◌∙◌, ℕ, ◌+◌, ◌<◌, ◌≤◌, ◌⊎◌, inl, inr, Bool, true, false, eqb, Option, Some, None, refl, ap, sym, subst, arith, below_more}
 use Rattle.std.proofs.lemmas.Bool.{ltb-true, ltb-false, eqb-true, eq-eqb, both_ways}
 use Rattle.std.specs.Prelude.{nat_lt, if◌then◌else◌}
 use Rattle.kp_bits.specs.Word.{word}
@@ -10,34 +10,12 @@ use Rattle.kp_synth_spec.specs.Naming.{value_shown}
 use Rattle.kp_watch.specs.declared.compare.Difference.{Difference}
 use Rattle.kp_watch.specs.inner.Comparing.{IsFirstAt, IsOneAt, ComparesWord, ComparesTarget, lower, AgreeBelow, IsFirstIn}
 
--- one address more
-pub address_more : (shown owed : ℕ → ℕ) (a : ℕ) → ((b : ℕ) → b < a → shown b ≡ owed b) → shown a ≡ owed a → (b : ℕ) → b < a + 1 → shown b ≡ owed b
-address_more shown owed a kept last b h = go (nat_lt b a) refl
-  where
-    go : (t : Bool) → nat_lt b a ≡ t → shown b ≡ owed b
-    go true e = kept b (ltb-true b a e)
-    go false e =
-        let above : a ≤ b = ltb-false b a e in
-        let same : a ≡ b = omega (arith, above, h) in
-        subst (λ (i : ℕ). shown i ≡ owed i) same last
-
 -- ---- one address
 
 module _ (job : Job) (shown owed : ℕ → ℕ) (cycle t : ℕ) where
-  one_first : (d : Difference) → IsOneAt job shown owed cycle t d → ((b : ℕ) → b < d.address → HasWord job t b → shown b ≡ owed b) → IsFirstAt job shown owed cycle t d
-  one_first d one before = record {
-    cycle_is = one.cycle_is;
-    target_is = one.target_is;
-    there = one.there;
-    differs = one.differs;
-    before = before;
-    found_is = one.found_is;
-    due_is = one.due_is;
-  }
-
   -- the first of all addresses, if the lower ones agree
   pub first_at : (a : ℕ) (d : Difference) → IsOneAt job shown owed cycle t d × (Some a ≡ Some d.address) → ((b : ℕ) → b < a → shown b ≡ owed b) → IsFirstAt job shown owed cycle t d
-  first_at a d one kept = one_first d one.0 (λ b low there. kept b (let at : a ≡ d.address = cc in omega (arith, at, low)))
+  first_at a d one kept = record { one = one.0; before = λ b low there. kept b (let at : a ≡ d.address = cc in omega (arith, at, low)) }
 
   -- ---- two addresses
 
@@ -63,17 +41,17 @@ module _ (job : Job) (shown owed : ℕ → ℕ) (cycle t : ℕ) where
     -- of two differences the lower one is the first
     pub lower_first : (x y : Option Difference) → ComparesWord job shown owed cycle t p x → ComparesWord job shown owed cycle t q y → ComparesTarget job shown owed cycle t (lower x y)
     lower_first None None x y = λ a there. agree a there (x a there) (y a there)
-    lower_first None (Some e) x y = one_first e y.0 (λ b low there. agree b there (x b there) (not_below q e.address b y.1 low))
-    lower_first (Some d) None x y = one_first d x.0 (λ b low there. agree b there (not_below p d.address b x.1 low) (y b there))
+    lower_first None (Some e) x y = record { one = y.0; before = λ b low there. agree b there (x b there) (not_below q e.address b y.1 low) }
+    lower_first (Some d) None x y = record { one = x.0; before = λ b low there. agree b there (not_below p d.address b x.1 low) (y b there) }
     lower_first (Some d) (Some e) x y = go (nat_lt e.address d.address) refl
       where
         go : (c : Bool) → nat_lt e.address d.address ≡ c → ComparesTarget job shown owed cycle t (if c then Some e else Some d)
         go true is =
             let below : e.address < d.address = ltb-true e.address d.address is in
-            one_first e y.0 (λ b low there. agree b there (not_under p d.address e.address b x.1 (omega (arith, below)) low) (not_below q e.address b y.1 low))
+            record { one = y.0; before = λ b low there. agree b there (not_under p d.address e.address b x.1 (omega (arith, below)) low) (not_below q e.address b y.1 low) }
         go false is =
             let above : d.address ≤ e.address = ltb-false e.address d.address is in
-            one_first d x.0 (λ b low there. agree b there (not_below p d.address b x.1 low) (not_under q e.address d.address b y.1 above low))
+            record { one = x.0; before = λ b low there. agree b there (not_below p d.address b x.1 low) (not_under q e.address d.address b y.1 above low) }
 
 -- comparing with the job of a machine is comparing with the job
 module _ (net : Net) (st : State) (job other : Job) (cycle t : ℕ) (owed due : ℕ → ℕ) (same : other ≡ job) (is : due ≡ owed) where
@@ -94,28 +72,21 @@ module _ (net : Net) (st : State) (job other : Job) (cycle t : ℕ) (owed due : 
 module _ (job : Job) (shown owed : ℕ → ℕ → ℕ) (t : ℕ) (kept : AgreeBelow job shown owed t) where
   -- one target more
   pub target_more : ((a : ℕ) → HasWord job t a → shown t a ≡ owed t a) → AgreeBelow job shown owed (t + 1)
-  target_more last s b h there = go (nat_lt s t) refl
-    where
-      go : (c : Bool) → nat_lt s t ≡ c → shown s b ≡ owed s b
-      go true e = kept s b (ltb-true s t e) there
-      go false e =
-          let above : t ≤ s = ltb-false s t e in
-          let same : s ≡ t = omega (arith, above, h) in
-          subst (λ (i : ℕ). shown i b ≡ owed i b) (sym same) (last b (subst (λ (i : ℕ). HasWord job i b) same there))
+  target_more last s b h there = below_more (λ (i : ℕ). (c : ℕ) → HasWord job i c → shown i c ≡ owed i c) t (λ i low c. kept i c low) last s h b there
 
   -- the first difference of a target, if the targets before it have none
   pub first_in : (cycle : ℕ) (d : Difference) → IsFirstAt job (shown t) (owed t) cycle t d → IsFirstIn job shown owed cycle d
   first_in cycle d first = record {
-    cycle_is = first.cycle_is;
-    there = subst (λ (s : ℕ). HasWord job s d.address) (sym first.target_is) first.there;
-    differs = subst (λ (s : ℕ). shown s d.address ≢ owed s d.address) (sym first.target_is) first.differs;
+    cycle_is = first.one.cycle_is;
+    there = subst (λ (s : ℕ). HasWord job s d.address) (sym first.one.target_is) first.one.there;
+    differs = subst (λ (s : ℕ). shown s d.address ≢ owed s d.address) (sym first.one.target_is) first.one.differs;
     before = λ s b there. cases s b there;
-    found_is = subst (λ (s : ℕ). d.found ≡ word (target job s).width (shown s d.address)) (sym first.target_is) first.found_is;
-    due_is = subst (λ (s : ℕ). d.due ≡ word (target job s).width (owed s d.address)) (sym first.target_is) first.due_is;
+    found_is = subst (λ (s : ℕ). d.found ≡ word (target job s).width (shown s d.address)) (sym first.one.target_is) first.one.found_is;
+    due_is = subst (λ (s : ℕ). d.due ≡ word (target job s).width (owed s d.address)) (sym first.one.target_is) first.one.due_is;
   }
     where
       cases : (s b : ℕ) → HasWord job s b → (s < d.target) ⊎ ((s ≡ d.target) × (b < d.address)) → shown s b ≡ owed s b
-      cases s b there (inl lower) = kept s b (subst (λ (u : ℕ). s < u) first.target_is lower) there
+      cases s b there (inl lower) = kept s b (subst (λ (u : ℕ). s < u) first.one.target_is lower) there
       cases s b there (inr (same, lower)) =
-          let at : s ≡ t = same ∙ first.target_is in
+          let at : s ≡ t = same ∙ first.one.target_is in
           subst (λ (i : ℕ). shown i b ≡ owed i b) (sym at) (first.before b lower (subst (λ (i : ℕ). HasWord job i b) at there))

@@ -7,21 +7,21 @@ use Rattle.kp_base.specs.declared.row.Row as masks
 use Rattle.kp_ast.specs.declared.tree.{Decl.Decl, Job.Job, ResultDecl.ResultDecl}
 use Rattle.kp_ast.specs.declared.tree.Decl.TheVariants as decls
 use Rattle.kp_cycle.specs.Steps.{port_writes, written_in}
-use Rattle.kp_machine.specs.Machine.{machine_of, result_for, sequential, write_stage_of, is_enabled_by, address_by, enabled_of, address_in}
+use Rattle.kp_machine.specs.Machine.{machine_of, result_for, sequential, state_of, write_stage_of, is_enabled_by, address_by, enabled_of, address_in}
 use Rattle.kp_machine.specs.Slots.{Slot, targets_of, pipes_of, is_register, number_of, result_to}
 use Rattle.kp_net.specs.{declared.node.Node.Node, declared.netlist.NetFile.NetFile, declared.netlist.WritePort.WritePort, Nodes.Cells, Nodes.at, Nodes.on}
 use Rattle.kp_net.specs.Netlist.{Net, Input, State as NetState, start_of, cells_of, port_after, resets, regs_after, files_after, start_regs, state_after, last_of}
 use Rattle.kp_net.specs.Parts.{no_file}
 use Rattle.kp_net.proofs.Runs.{last_more}
 use Rattle.kp_pipeline.specs.{Accepted.Accepted, Rows.Row, Rows.bit, Rows.bits, Rows.one_if, Rows.passed, Sequential.before_stage, Sequential.exec}
-use Rattle.kp_run.specs.{Cycles.input_at, Cycles.inputs_to, Homes.home_of}
+use Rattle.kp_run.specs.{Cycles.input_at, Cycles.inputs_to, Homes.home_of, Places.place_in, declared.places.Place.TheVariants.Register, declared.places.Place.TheVariants.File}
 use Rattle.kp_sched.specs.{Monitors.Kept, Monitors.HasSeen, Rows.bit_of, Rows.rows_seen, Runs.passes}
+use Rattle.kp_stage.specs.Start.{start_of as job_start}
 use Rattle.kp_seq.specs.{Running.Running, Running.HasWord, Running.target, Recorded.Recorded, Recorded.results_of, Recorded.write_recorded, Recorded.record_of}
 use Rattle.kp_synth_spec.specs.{Naming.register_of, Naming.file_of, Naming.value_shown, Shows.IsOfJob}
-use Rattle.kp_watch.specs.declared.places.Place.TheVariants.{Register, File}
 use Rattle.kp_watch.specs.inner.Changes.{AreNoted, noted_at, last_write, no_record, record_by, wrote_by}
-use Rattle.kp_watch.specs.inner.{Machines.ran, Machines.HaveRun, Places.place_in, Results.result_number, Results.result_in}
-use Rattle.kp_watch.proofs.{Lanes.next_is, Prefixes.passed_next, Prefixes.passed_before}
+use Rattle.kp_watch.specs.inner.{Machines.ran, Machines.HaveRun, Results.result_number, Results.result_in}
+use Rattle.kp_run.proofs.{Machines.home_passes, Machines.next_is, Prefixes.passed_next, Prefixes.passed_before}
 
 -- ---- the netlist
 
@@ -83,25 +83,17 @@ module _ (job : Job) (net : Net) (of_job : IsOfJob net job) (T : ℕ) (written :
 
 -- the result of a target in a list with an entry for each result
 result_there : (targets : List Slot) (f : ResultDecl → Option ℕ) (ds : List Decl) (t : ℕ) (r : ResultDecl) → result_to targets ds t ≡ Some r
-    → get_or (map f (results_of ds)) (result_number targets ds t) None ≡ f r
+    → (result_number targets ds t < length (results_of ds)) × (get_or (map f (results_of ds)) (result_number targets ds t) None ≡ f r)
 result_there targets f [] t r e = cc
 result_there targets f (decls.Target q ∷ ds) t r e = go (eqb (number_of targets q.target.name) t) e (λ is. result_there targets f ds t r is)
   where
     go : (b : Bool) → (if b then Some q else result_to targets ds t) ≡ Some r
-        → (result_to targets ds t ≡ Some r → get_or (map f (results_of ds)) (result_number targets ds t) None ≡ f r)
-        → get_or (f q ∷ map f (results_of ds)) (if b then 0 else suc (result_number targets ds t)) None ≡ f r
-    go true is rest = let same : q ≡ r = cc in ap f same
-    go false is rest = rest is
+        → (result_to targets ds t ≡ Some r → (result_number targets ds t < length (results_of ds)) × (get_or (map f (results_of ds)) (result_number targets ds t) None ≡ f r))
+        → ((if b then 0 else suc (result_number targets ds t)) < suc (length (results_of ds)))
+        × (get_or (f q ∷ map f (results_of ds)) (if b then 0 else suc (result_number targets ds t)) None ≡ f r)
+    go true is rest = let same : q ≡ r = cc in (omega arith, ap f same)
+    go false is rest = let more = rest is in (omega (arith, more.0), more.1)
 result_there targets f (d ∷ ds) t r e = result_there targets f ds t r e
-
-result_below : (targets : List Slot) (ds : List Decl) (t : ℕ) (r : ResultDecl) → result_to targets ds t ≡ Some r → result_number targets ds t < length (results_of ds)
-result_below targets [] t r e = cc
-result_below targets (decls.Target q ∷ ds) t r e = go (eqb (number_of targets q.target.name) t) e (λ is. result_below targets ds t r is)
-  where
-    go : (b : Bool) → (if b then Some q else result_to targets ds t) ≡ Some r → (result_to targets ds t ≡ Some r → result_number targets ds t < length (results_of ds)) → (if b then 0 else suc (result_number targets ds t)) < suc (length (results_of ds))
-    go true is rest = omega arith
-    go false is rest = let low = rest is in omega (arith, low)
-result_below targets (d ∷ ds) t r e = result_below targets ds t r e
 
 not_written : (b c : Bool) (u a v w : ℕ) → eqb u a ≡ c → cond b (Some u) None ≢ Some a → cond (true && (b && c)) v w ≡ w
 not_written false c u a v w e not = refl
@@ -120,11 +112,13 @@ module _ (job : Job) (s : ℕ → ℕ → ℕ) (q : ℕ → ℕ) (t a : ℕ) whe
 
   record_at : (r : ResultDecl) → result_for job t ≡ Some r → get_or (record_of job s q).writes (result_in job t) None ≡ write_recorded job pipes r
   unfolding record_of result_for
-  record_at r e = result_there (targets_of job.decls) (write_recorded job pipes) job.decls t r e
+  record_at r e = (result_there (targets_of job.decls) (write_recorded job pipes) job.decls t r e).1
 
   pub record_below : (r : ResultDecl) → result_for job t ≡ Some r → result_in job t < length (record_of job s q).writes
   unfolding record_of result_for
-  record_below r e = let low = result_below (targets_of job.decls) job.decls t r e in omega (arith, low, length-map (results_of job.decls) (write_recorded job pipes))
+  record_below r e =
+      let low = (result_there (targets_of job.decls) (write_recorded job pipes) job.decls t r e).0 in
+      omega (arith, low, length-map (results_of job.decls) (write_recorded job pipes))
 
   -- an instruction changes a word only at the address in its record
   pub exec_kept : get_or (record_of job s q).writes (result_in job t) None ≢ Some a → exec (machine_of job) s q t a ≡ s t a
@@ -148,30 +142,14 @@ module _ (job : Job) (acc : Accepted (machine_of job)) (values : ℕ → ℕ →
   abbrev none : Running
   none = record { job = job; words = []; last = no_record }
 
-  by_result : (has : Bool) (w : ℕ) → (has ≡ true → w < n) → (if has then w else n) < n → has ≡ true
-  by_result true w fits low = refl
-  by_result false w fits low = absurd (omega (arith, low))
-
   -- a target whose machine executes instructions has a result
-  has_result : k < n → is_some (result_for job t) ≡ true
-  unfolding home_of machine_of
-  has_result low = by_result (is_some (result_for job t)) (write_stage_of (result_for job t)) (acc.writes t) low
-
   some_result : k < n → (r : ResultDecl) × (result_for job t ≡ Some r)
-  some_result low = go (result_for job t) refl (has_result low)
+  unfolding home_of machine_of
+  some_result low = go (result_for job t) refl low
     where
-      go : (o : Option ResultDecl) → result_for job t ≡ o → is_some o ≡ true → (r : ResultDecl) × (result_for job t ≡ Some r)
-      go None e is = cc
+      go : (o : Option ResultDecl) → result_for job t ≡ o → (if is_some o then write_stage_of o else n) < n → (r : ResultDecl) × (result_for job t ≡ Some r)
+      go None e is = absurd (omega (arith, is))
       go (Some r) e is = (r, e)
-
-  home_passes : (i : ℕ) → (k < n → passes job seen i t ≡ passed seen k i) × (n ≤ k → passes job seen i t ≡ 0)
-  unfolding home_of machine_of passes
-  home_passes i = go (is_some (result_for job t)) (write_stage_of (result_for job t)) (acc.writes t)
-    where
-      go : (has : Bool) (w : ℕ) → (has ≡ true → w < n)
-          → ((if has then w else n) < n → (if has then passed seen w i else 0) ≡ passed seen (if has then w else n) i) × (n ≤ (if has then w else n) → (if has then passed seen w i else 0) ≡ 0)
-      go true w fits = (λ low. refl, λ high. let low = fits refl in absurd (omega (arith, low, high)))
-      go false w fits = (λ low. absurd (omega (arith, low)), λ high. refl)
 
   counted : k < n → get_or monitor.passed k 0 ≡ passed seen k (T + 1)
   counted low =
@@ -207,24 +185,22 @@ module _ (job : Job) (acc : Accepted (machine_of job)) (values : ℕ → ℕ →
           subst (λ (d : Recorded). result_in job t < length d.writes) (sym (record_is low i e)) (record_below job (sequential job values i) (values i) t 0 r.0 r.1)
 
   pub due_kept : (a : ℕ) → wrote_by job monitor machines t ≢ Some a → sequential job values (passes job seen (T + 1) t) t a ≡ sequential job values (passes job seen T t) t a
-  due_kept a not = go (nat_lt k n) refl
+  due_kept a not =
+      ap (λ (m : ℕ). sequential job values m t a) (sym (home_passes job seen acc (T + 1) t)) ∙ go (nat_lt k n) refl ∙ ap (λ (m : ℕ). sequential job values m t a) (home_passes job seen acc T t)
     where
-      moved : k < n → (b : Bool) → bit (bits (bit_of (get_or rows T (record { full = 0; ue = 0; back = 0 })).ue) n 0) k ≡ b
+      none_set : masks.Row
+      none_set = record { full = 0; ue = 0; back = 0 }
+
+      moved : k < n → (b : Bool) → bit (bits (bit_of (get_or rows T none_set).ue) n 0) k ≡ b → passed seen k (T + 1) ≡ passed seen k T + one_if b
           → sequential job values (passed seen k (T + 1)) t a ≡ sequential job values (passed seen k T) t a
-      moved low false e =
-          let same : passed seen k (T + 1) ≡ passed seen k T = (let next = passed_next n rows k T (record { full = 0; ue = 0; back = 0 }) before ∙ ap (λ (b : Bool). passed seen k T + one_if b) e in omega (arith, next)) in
-          ap (λ (i : ℕ). sequential job values i t a) same
-      moved low true e =
-          let more : passed seen k (T + 1) ≡ suc (passed seen k T) = (let next = passed_next n rows k T (record { full = 0; ue = 0; back = 0 }) before ∙ ap (λ (b : Bool). passed seen k T + one_if b) e in omega (arith, next)) in
+      moved low false e next = ap (λ (i : ℕ). sequential job values i t a) (let same : passed seen k (T + 1) ≡ passed seen k T = omega (arith, next) in same)
+      moved low true e next =
+          let more : passed seen k (T + 1) ≡ suc (passed seen k T) = omega (arith, next) in
           let i = passed seen k T in
           ap (λ (m : ℕ). sequential job values m t a) more
-          ∙ sym (ap (λ (s : ℕ → ℕ → ℕ). s t a) (next_is job values i))
+          ∙ sym (ap (λ (s : ℕ → ℕ → ℕ). s t a) (next_is job (state_of job (job_start job)) values i))
           ∙ exec_kept job (sequential job values i) (values i) t a (λ z. not (wrote_is low i more ∙ z))
 
-      go : (b : Bool) → nat_lt k n ≡ b → sequential job values (passes job seen (T + 1) t) t a ≡ sequential job values (passes job seen T t) t a
-      go true e =
-          let low : k < n = ltb-true k n e in
-          ap (λ (m : ℕ). sequential job values m t a) ((home_passes (T + 1)).0 low) ∙ moved low _ refl ∙ sym (ap (λ (m : ℕ). sequential job values m t a) ((home_passes T).0 low))
-      go false e =
-          let high : n ≤ k = ltb-false k n e in
-          ap (λ (m : ℕ). sequential job values m t a) ((home_passes (T + 1)).1 high ∙ sym ((home_passes T).1 high))
+      go : (b : Bool) → nat_lt k n ≡ b → sequential job values (if b then passed seen k (T + 1) else 0) t a ≡ sequential job values (if b then passed seen k T else 0) t a
+      go true e = moved (ltb-true k n e) _ refl (passed_next n rows k T none_set before)
+      go false e = refl

@@ -1,7 +1,7 @@
 -- The machines in lockstep with a run, row by row.
-use Rattle.std.proofs.Common.{◌≡◌, ◌≢◌, ◌∙◌, ℕ, suc, ◌+◌, ◌<◌, ◌≤◌, List, [], ◌∷◌, ◌++◌, length, get_or, set, map, Bool, true, false, ◌&&◌, refl, ap, sym, subst, arith, length-set}
-use Rattle.std.proofs.lemmas.{Bool.ltb-true, Bool.ltb-false, Bool.lt-ltb, Bool.le-ltb, Bool.both_ways, List.get_or-map, List.get_or-set_other}
-use Rattle.std.proofs.lemmas.{List.Elements.All-set, List.Elements.All-push, Grind.get_or-set_at}
+use Rattle.std.proofs.Common.{◌≡◌, ◌≢◌, ◌∙◌, ℕ, suc, ◌+◌, ◌<◌, ◌≤◌, List, [], ◌∷◌, ◌++◌, length, get_or, set, map, Bool, true, false, ◌&&◌, refl, ap, sym, subst, arith, ⊎_elim, length-set}
+use Rattle.std.proofs.lemmas.{Bool.ltb-true, Bool.ltb-false, Bool.lt-ltb, Bool.le-ltb, Bool.both_ways, Bool.cases_eq, List.get_or-map, List.get_or-set_other}
+use Rattle.std.proofs.lemmas.{List.Elements.All-set, List.Elements.All-push, Grind.get_or-set_at, Grind.get_or_default_zero}
 use Rattle.std.specs.{Prelude.nat_lt, Prelude.if◌then◌else◌, Prelude.is_some, List.All}
 use Rattle.kp_base.specs.declared.row.Row as masks
 use Rattle.kp_ast.specs.declared.tree.Job.{Job}
@@ -11,9 +11,9 @@ use Rattle.kp_sched.specs.{Rows.bit_of, Rows.rows_seen, Runs.passes}
 use Rattle.kp_seq.specs.{Running.Running, Running.state, Recorded.record_of}
 use Rattle.kp_stage.specs.{Start.start_of, declared.start.Start.Start}
 use Rattle.kp_run.specs.Homes.{home_of, AreHomes}
-use Rattle.kp_run.proofs.Machines.{homes_within, default}
-use Rattle.kp_watch.specs.inner.Machines.{ran, IsHome, AreNeeded, HasRun, HaveRun, HaveRunFirst, due_by}
-use Rattle.kp_watch.proofs.Prefixes.{passed_next}
+use Rattle.kp_run.proofs.Machines.{homes_within, home_passes, next_is, opened_is}
+use Rattle.kp_watch.specs.inner.{Changes.no_record, Machines.ran, Machines.IsHome, Machines.AreNeeded, Machines.HasRun, Machines.HaveRun, Machines.HaveRunFirst, Machines.due_by}
+use Rattle.kp_run.proofs.Prefixes.{passed_next}
 
 abbrev State : Type 0
 State = ℕ → ℕ → ℕ
@@ -39,32 +39,24 @@ either false x = refl
 none_ran : (n : ℕ) (rows : List Row) (k : ℕ) → ran n rows 0 k ≡ 0
 none_ran n rows k = either (nat_lt k n) 0
 
-starts_are : (job : Job) (values : ℕ → ℕ → ℕ) → state_of job (start_of job) ≡ sequential job values 0
-unfolding seq
-starts_are job values = refl
-
 pub have_begun : (job : Job) (values : ℕ → ℕ → ℕ) (rows : List Row) (machines : List Running) → length machines ≡ job.stages.value + 1 → AreOpened job machines
     → HaveRun job values rows 0 machines
 have_begun job values rows machines many opened = record {
   count = many;
   jobs = opened.jobs;
   each = λ k d h home. record {
-    state_is = opened.starts k d h ∙ starts_are job values ∙ ap (sequential job values) (sym (none_ran job.stages.value rows k));
+    state_is = opened.starts k d h ∙ opened_is job values ∙ ap (sequential job values) (sym (none_ran job.stages.value rows k));
     last_is = λ j e. let none = none_ran job.stages.value rows k in absurd (omega (arith, e, none));
   };
 }
 
 -- ---- one machine
 
-pub next_is : (job : Job) (values : ℕ → ℕ → ℕ) (i : ℕ) → exec (machine_of job) (sequential job values i) (values i) ≡ sequential job values (suc i)
-unfolding seq
-next_is job values i = refl
-
 -- one instruction more
 moved_on : (job : Job) (values : ℕ → ℕ → ℕ) (i : ℕ) (m new : Running) → m.job ≡ job → HasRun job values i m → state new ≡ exec (machine_of m.job) (state m) (values i)
     → new.last ≡ record_of m.job (state m) (values i) → HasRun job values (suc i) new
 moved_on job values i m new same run stepped recorded = record {
-  state_is = stepped ∙ (λ k. exec (machine_of (same k)) (run.state_is k) (values i)) ∙ next_is job values i;
+  state_is = stepped ∙ (λ k. exec (machine_of (same k)) (run.state_is k) (values i)) ∙ next_is job (state_of job (start_of job)) values i;
   last_is = λ j e. let at : i ≡ j = omega (arith, e) in recorded ∙ (λ k. record_of (same k) (run.state_is k) (values i)) ∙ ap (λ (l : ℕ). record_of job (sequential job values l) (values l)) at;
 }
 
@@ -133,7 +125,12 @@ module _ (job : Job) (values : ℕ → ℕ → ℕ) (rows : List masks.Row) (T :
   first_moves k i machines m new d r run low there moves count is same stepped recorded = record {
     count = length-set machines k new ∙ run.count;
     jobs = All-set (λ m. m.job ≡ job) machines k new (same ∙ of_job) run.jobs;
-    each = λ j e h home. go j e home (omega (arith, h, length-set machines k new)) (nat_lt j k) (nat_lt k j) refl refl;
+    each = λ j e h home. ⊎_elim
+        (λ (at : j ≡ k).
+        subst (λ (x : Running). Is x (after (if nat_lt j (k + 1) then T + 1 else T) j)) (sym (get_or-set_at machines k j new e at in_list))
+        (subst (Is new) (sym (this k) ∙ ap (λ (l : ℕ). after (if nat_lt l (k + 1) then T + 1 else T) l) (sym at)) (moved (subst (IsHome job) at home))))
+        (λ (apart : j ≡ k → ⊥). other j e home (omega (arith, h, length-set machines k new)) apart)
+        (cases_eq j k);
   }
     where
       in_list : k < length machines
@@ -155,37 +152,20 @@ module _ (job : Job) (values : ℕ → ℕ → ℕ) (rows : List masks.Row) (T :
       other j e home h apart = subst (λ (x : Running). Is x (after (if nat_lt j (k + 1) then T + 1 else T) j)) (sym (get_or-set_other machines k j new e apart))
           (subst (Is (get_or machines j e)) (others k j apart) (run.each j e h home))
 
-      go : (j : ℕ) (e : Running) → IsHome job j → j < length machines → (b c : Bool) → nat_lt j k ≡ b → nat_lt k j ≡ c
-          → Is (get_or (set machines k new) j e) (after (if nat_lt j (k + 1) then T + 1 else T) j)
-      go j e home h true c is_low f = let below : j < k = ltb-true j k is_low in other j e home h (λ z. omega (arith, below, z))
-      go j e home h false true is_low is_high = let above : k < j = ltb-true k j is_high in other j e home h (λ z. omega (arith, above, z))
-      go j e home h false false is_low is_high =
-          let at_least : k ≤ j = ltb-false j k is_low in
-          let at_most : j ≤ k = ltb-false k j is_high in
-          let at : j ≡ k = omega (arith, at_least, at_most) in
-          subst (λ (x : Running). Is x (after (if nat_lt j (k + 1) then T + 1 else T) j)) (sym (get_or-set_at machines k j new e at in_list))
-          (subst (Is new) (sym (this k) ∙ ap (λ (l : ℕ). after (if nat_lt l (k + 1) then T + 1 else T) l) (sym at)) (moved (subst (IsHome job) at home)))
-
   -- no machine executes an instruction: the stage doesn't update, or no target needs machine k
   pub first_stays : (k : ℕ) (machines : List Running) → HaveRunFirst job values seen T k machines → (IsHome job k → after T k ≡ after (T + 1) k)
       → HaveRunFirst job values seen T (k + 1) machines
   first_stays k machines run still = record {
     count = run.count;
     jobs = run.jobs;
-    each = λ j e h home. subst (Is (get_or machines j e)) (go j home (nat_lt j k) (nat_lt k j) refl refl) (run.each j e h home);
+    each = λ j e h home. subst (Is (get_or machines j e)) (⊎_elim
+        (λ (at : j ≡ k).
+        ap (λ (l : ℕ). after (if nat_lt l k then T + 1 else T) l) at
+        ∙ before k ∙ still (subst (IsHome job) at home) ∙ sym (this k)
+        ∙ ap (λ (l : ℕ). after (if nat_lt l (k + 1) then T + 1 else T) l) (sym at))
+        (λ (apart : j ≡ k → ⊥). others k j apart)
+        (cases_eq j k)) (run.each j e h home);
   }
-    where
-      go : (j : ℕ) → IsHome job j → (b c : Bool) → nat_lt j k ≡ b → nat_lt k j ≡ c
-          → after (if nat_lt j k then T + 1 else T) j ≡ after (if nat_lt j (k + 1) then T + 1 else T) j
-      go j home true c is_low f = let below : j < k = ltb-true j k is_low in others k j (λ z. omega (arith, below, z))
-      go j home false true is_low is_high = let above : k < j = ltb-true k j is_high in others k j (λ z. omega (arith, above, z))
-      go j home false false is_low is_high =
-          let at_least : k ≤ j = ltb-false j k is_low in
-          let at_most : j ≤ k = ltb-false k j is_high in
-          let at : j ≡ k = omega (arith, at_least, at_most) in
-          ap (λ (l : ℕ). after (if nat_lt l k then T + 1 else T) l) at
-          ∙ before k ∙ still (subst (IsHome job) at home) ∙ sym (this k)
-          ∙ ap (λ (l : ℕ). after (if nat_lt l (k + 1) then T + 1 else T) l) (sym at)
 
   still_rests : (k : ℕ) (r : masks.Row) → k < n → T < length rows → bit (bits (bit_of (get_or rows T r).ue) n 0) k ≡ false → after T k ≡ after (T + 1) k
   still_rests k r low there rests = let e = counted k r false low there rests in omega (arith, e)
@@ -215,27 +195,15 @@ pub machine_at : (job : Job) (machines : List Running) (homes : List ℕ) (t d k
     → All (λ m. m.job ≡ job) machines → t < length (targets_of job.decls) → k ≡ get_or homes t d → m ≡ get_or machines k m → (m.job ≡ job) × (due_by job machines t ≡ state m t)
 machine_at job machines homes t d k m are many jobs within place is =
     let there : t < length homes = omega (arith, within, are.count) in
-    let home : k ≡ home_of job t = place ∙ default homes t d there ∙ are.homes t there in
+    let home : k ≡ home_of job t = place ∙ get_or_default_zero homes t d there ∙ are.homes t there in
     let low : k < length machines = omega (arith, home, are.within t, many) in
     (ap (λ (x : Running). x.job) is ∙ jobs k m low, at_home job machines t k m m home low is)
 
 module _ (job : Job) (acc : Accepted (machine_of job)) (rows : List Row) (T : ℕ) where
-  ran_by : (has : Bool) (w : ℕ) → (has ≡ true → w < job.stages.value) → ran job.stages.value rows T (if has then w else job.stages.value) ≡ (if has then passed rows w T else 0)
-  ran_by true w h = rw (lt-ltb w job.stages.value (h refl)) refl
-  ran_by false w h = rw (le-ltb job.stages.value job.stages.value (let e : job.stages.value ≤ job.stages.value = omega arith in e)) refl
-
-  -- the machine of a target has executed the instructions that the target reflects
-  home_ran : (t : ℕ) → ran job.stages.value rows T (home_of job t) ≡ passes job rows T t
-  unfolding home_of passes machine_of
-  home_ran t = ran_by (is_some (result_for job t)) (write_stage_of (result_for job t)) (acc.writes t)
-
   pub due_at : (values : ℕ → ℕ → ℕ) (machines : List Running) → HaveRun job values rows T machines → (t a : ℕ) → t < length (targets_of job.decls)
       → due_by job machines t a ≡ sequential job values (passes job rows T t) t a
-  due_at values machines run t a there = go machines refl
-    where
-      go : (ms : List Running) → machines ≡ ms → due_by job machines t a ≡ sequential job values (passes job rows T t) t a
-      go [] none = absurd (let many = run.count in let e : length machines ≡ 0 = ap (λ (l : List Running). length l) none in omega (arith, many, e))
-      go (d ∷ ms) some =
-          let within : home_of job t < length machines = omega (arith, homes_within job acc t, run.count) in
-          ap (λ (s : State). s t a) (get_or-map state machines (home_of job t) d (λ s a. 0) within ∙ (run.each (home_of job t) d within (t, there, refl)).state_is)
-          ∙ ap (λ (i : ℕ). sequential job values i t a) (home_ran t)
+  due_at values machines run t a there =
+      let d : Running = record { job = job; words = []; last = no_record } in
+      let within : home_of job t < length machines = omega (arith, homes_within job acc t, run.count) in
+      ap (λ (s : State). s t a) (get_or-map state machines (home_of job t) d (λ s a. 0) within ∙ (run.each (home_of job t) d within (t, there, refl)).state_is)
+      ∙ ap (λ (i : ℕ). sequential job values i t a) (home_passes job rows acc T t)

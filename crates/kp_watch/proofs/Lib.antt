@@ -1,6 +1,4 @@
-pub mod Prefixes
 pub mod Lanes
-pub mod Placing
 pub mod Comparing
 pub mod Kept
 pub mod Rows

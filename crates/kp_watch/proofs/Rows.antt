@@ -11,7 +11,7 @@ use Rattle.kp_seq.specs.Running.{Running}
 use Rattle.kp_run.specs.Cycles.{input_at, inputs_to}
 use Rattle.kp_watch.specs.{declared.beside.Beside.Beside, declared.compare.Tables.Tables, inner.Beside.HaveCome}
 use Rattle.kp_watch.specs.inner.Machines.{given, ran, HasRun, HaveRun}
-use Rattle.kp_watch.proofs.Prefixes.{rows_many, passed_first}
+use Rattle.kp_run.proofs.Prefixes.{rows_many, passed_first}
 
 pub first_rows : (job : Job) (net : Net) (n T : ℕ) → T ≤ n → take T (run net (inputs_to job n)).rows ≡ (run net (inputs_to job T)).rows
 first_rows job net zero zero h = refl

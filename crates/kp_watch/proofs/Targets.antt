@@ -1,16 +1,16 @@
 -- What a comparison of written words reads of one target.
 use Rattle.std.proofs.Common.{◌≡◌, ◌≢◌, ◌∙◌, ℕ, ◌<◌, List, length, get_or, Option, Some, ap, sym, subst, arith}
-use Rattle.std.proofs.lemmas.List.{get_or-map}
+use Rattle.std.proofs.lemmas.{Grind.get_or_default_zero, List.get_or-map}
 use Rattle.kp_ast.specs.declared.tree.Job.{Job}
 use Rattle.kp_machine.specs.Slots.{targets_of}
-use Rattle.kp_run.specs.Homes.{home_of}
-use Rattle.kp_run.proofs.Machines.{default}
+use Rattle.kp_run.specs.{Homes.home_of, Places.IsPlace, Places.place_in, declared.places.Place.Place, declared.places.Place.TheVariants.File}
+use Rattle.kp_run.proofs.Placing.{place_at, place_there}
 use Rattle.kp_seq.specs.{Running.Running, Running.HasWord, Running.state, Running.target, Recorded.Recorded}
 use Rattle.kp_synth_spec.specs.Naming.{value_shown}
-use Rattle.kp_watch.specs.declared.{beside.Beside.Beside, compare.Tables.Tables, places.Place.Place, places.Place.TheVariants.File}
+use Rattle.kp_watch.specs.declared.{beside.Beside.Beside, compare.Tables.Tables}
 use Rattle.kp_watch.specs.inner.{Changes.IsComparable, Changes.noted_at, Changes.last_write, Changes.no_record, Changes.record_by, Machines.due_by}
-use Rattle.kp_watch.specs.inner.{Places.place_in, Results.result_in}
-use Rattle.kp_watch.proofs.{Lanes.machine_at, Placing.place_at, Placing.file_there}
+use Rattle.kp_watch.specs.inner.Results.{result_in}
+use Rattle.kp_watch.proofs.Lanes.{machine_at}
 
 module _ (job : Job) (tables : Tables) (both : Beside) (t : ℕ) (comparable : IsComparable job tables both) (within : t < length (targets_of job.decls)) where
   abbrev machines : List Running
@@ -22,12 +22,12 @@ module _ (job : Job) (tables : Tables) (both : Beside) (t : ℕ) (comparable : I
   pub home_is : (home d : ℕ) → home ≡ get_or tables.homes.items t d → home ≡ home_of job t
   home_is home d is =
       let there : t < length tables.homes.items = omega (arith, within, comparable.homes.count) in
-      is ∙ default tables.homes.items t d there ∙ comparable.homes.homes t there
+      is ∙ get_or_default_zero tables.homes.items t d there ∙ comparable.homes.homes t there
 
   pub number_is : (number d : ℕ) → number ≡ get_or tables.results.items t d → number ≡ result_in job t
   number_is number d is =
       let there : t < length tables.results.items = omega (arith, within, comparable.results.count) in
-      is ∙ default tables.results.items t d there ∙ comparable.results.each t there
+      is ∙ get_or_default_zero tables.results.items t d there ∙ comparable.results.each t there
 
   -- its machine is one of the job, and has its value
   pub machine_is : (k d : ℕ) (m : Running) → k ≡ get_or tables.homes.items t d → m ≡ get_or machines k m → (m.job ≡ job) × (due_by job machines t ≡ state m t)
@@ -42,8 +42,8 @@ module _ (job : Job) (tables : Tables) (both : Beside) (t : ℕ) (comparable : I
   -- the file of the target is one of the netlist
   pub file_noted : (place : Place) → place ≡ place_in both.sim.net (target job t) → (f words : ℕ) → place ≡ File f words → f < length both.written.items
   file_noted place is f words file =
-      let there = file_there job both.sim.net t within comparable.of_job place is both.sim.state f words file in
-      omega (arith, there, comparable.noted)
+      let there = subst (IsPlace both.sim.net) file (place_there job both.sim.net t place comparable.of_job within is) in
+      omega (arith, there.0, comparable.noted)
 
   -- the record has an entry for its result
   pub wrote_fits : (home number : ℕ) (recorded : Recorded) → home ≡ home_of job t → number ≡ result_in job t → recorded ≡ record_by machines (home_of job t)

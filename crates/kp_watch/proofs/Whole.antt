@@ -1,5 +1,5 @@
 -- From the states of a run to the complete run.
-use Rattle.std.proofs.Common.{◌≡◌, ◌∙◌, ℕ, ◌+◌, ◌<◌, ◌≤◌, List, [], length, Bool, true, false, Option, Some, None, refl, ap, sym, subst, arith}
+use Rattle.std.proofs.Common.{◌≡◌, ◌∙◌, ℕ, ◌+◌, ◌<◌, ◌≤◌, List, [], length, Bool, true, false, Option, Some, None, refl, ap, sym, subst, arith, below_more}
 use Rattle.std.proofs.lemmas.Bool.{ltb-true, ltb-false}
 use Rattle.std.specs.Prelude.{nat_lt}
 use Rattle.kp_base.specs.declared.row.Row as masks
@@ -15,13 +15,13 @@ use Rattle.kp_sched.specs.{Rows.rows_seen, Runs.passes, Runs.due_value}
 use Rattle.kp_sched.proofs.Counting.{seen_length}
 use Rattle.kp_seq.specs.Running.{Running, HasWord, target}
 use Rattle.kp_synth_spec.specs.{Naming.value_shown, Shows.IsOfJob, Traces.trace_of}
-use Rattle.kp_run.specs.{Boards.due_behind, Columns.Taken, Columns.AreColumns, Cycles.inputs_to}
-use Rattle.kp_run.proofs.Gathering.{taken_is}
+use Rattle.kp_run.specs.{Boards.due_behind, Cycles.inputs_to, Places.place_in, Places.places_in}
+use Rattle.kp_run.proofs.{Gathering.taken_is, Prefixes.state_is, Prefixes.rows_many}
 use Rattle.kp_watch.specs.{Watching.own_trace, Watching.own_due, Watching.Agrees, Watching.IsFirstDifference, declared.compare.Difference.Difference}
-use Rattle.kp_watch.specs.{declared.beside.Beside.Beside, declared.compare.Tables.Tables, inner.Beside.IsRecorded, inner.Beside.AreTables}
-use Rattle.kp_watch.specs.inner.{Changes.AreNoted, Changes.AgreeElsewhere, Changes.IsComparable, Changes.noted_at, Places.place_in, Places.places_in}
+use Rattle.kp_watch.specs.{declared.beside.Beside.Beside, declared.compare.Tables.Tables, inner.Beside.IsRecorded, inner.Beside.AreTables, inner.Beside.HaveCome}
+use Rattle.kp_watch.specs.inner.{Changes.AreNoted, Changes.AgreeElsewhere, Changes.IsComparable, Changes.noted_at}
 use Rattle.kp_watch.specs.inner.{Comparing.IsFirstIn, Comparing.Compares, Machines.given, Machines.HaveRun, Machines.due_by}
-use Rattle.kp_watch.proofs.{Kept.value_kept, Kept.record_there, Kept.due_kept, Lanes.due_at, Prefixes.state_is, Prefixes.rows_many, Rows.HaveComeIn}
+use Rattle.kp_watch.proofs.{Kept.value_kept, Kept.record_there, Kept.due_kept, Lanes.due_at, Rows.HaveComeIn, Rows.come_in}
 
 abbrev State : Type 0
 State = ℕ → ℕ → ℕ
@@ -42,99 +42,29 @@ compares_alike job shown owed a b T (Some d) e f first = record {
 }
 
 module _ (job : Job) (net : Net) (n : ℕ) where
-  abbrev seen : List law.Row
-  seen = rows_seen job.stages.value (run net (inputs_to job n)).rows
+  abbrev rows : List masks.Row
+  rows = (run net (inputs_to job n)).rows
 
-  -- ---- one state
+  abbrev seen : List law.Row
+  seen = rows_seen job.stages.value rows
+
+  -- both agree in all states before T
+  abbrev pub AgreeTo : ℕ → Type 0
+  AgreeTo T = (U t a : ℕ) → U < T → HasWord job t a → (own_trace job net n).visible U t a ≡ own_due job net n U t a
 
   shown_is : (T : ℕ) → T ≤ n → value_shown job net (last_of net (inputs_to job T)) ≡ (own_trace job net n).visible T
   unfolding trace_of
   shown_is T h = ap (λ (st : NetState). value_shown job net st) (sym (state_is job net n T h))
 
   cycles : length seen ≡ n
-  cycles = seen_length job.stages.value (run net (inputs_to job n)).rows ∙ rows_many job net n
+  cycles = seen_length job.stages.value rows ∙ rows_many job net n
 
-  module _ (acc : Accepted (machine_of job)) (samples : (cycle : ℕ) → AreSamples job.decls (input job cycle))
-      (rows : List masks.Row) (is : rows ≡ (run net (inputs_to job n)).rows) (columns : List Taken) (are : AreColumns job rows columns) where
-    values_are : given columns ≡ taken (machine_of job) (inputs_from job 0 n) seen
-    values_are =
-        taken_is job rows columns samples are
-        ∙ ap (λ (l : List masks.Row). taken (machine_of job) (inputs_from job 0 (length (rows_seen job.stages.value l))) (rows_seen job.stages.value l)) is
-        ∙ ap (λ (m : ℕ). taken (machine_of job) (inputs_from job 0 m) seen) cycles
-
-    -- the specified value, in the rows at hand
-    due_here : (T t a : ℕ) → sequential job (given columns) (passes job (rows_seen job.stages.value rows) T t) t a ≡ own_due job net n T t a
-    unfolding due_value trace_of
-    due_here T t a =
-        ap (λ (l : List masks.Row). sequential job (given columns) (passes job (rows_seen job.stages.value l) T t) t a) is
-        ∙ ap (λ (g : ℕ → ℕ → ℕ). sequential job g (passes job seen T t) t a) values_are
-
-    due_is : (T : ℕ) (machines : List Running) → HaveRun job (given columns) (rows_seen job.stages.value rows) T machines → (t a : ℕ) → HasWord job t a
-        → due_by job machines t a ≡ own_due job net n T t a
-    due_is T machines have t a there = due_at job acc (rows_seen job.stages.value rows) T (given columns) machines have t a there.target ∙ due_here T t a
-
-    -- a comparison of one state is one of that state of the run
-    pub compares_own : (T : ℕ) (sim : Simulated) (machines have_run : List Running) (result : Option Difference) → T ≤ n
-        → sim ≡ record { net = net; state = last_of net (inputs_to job T); slots = [] } → machines ≡ have_run
-        → HaveRun job (given columns) (rows_seen job.stages.value rows) T have_run
-        → Compares job (value_shown job sim.net sim.state) (due_by job machines) T result
-        → Compares job ((own_trace job net n).visible T) (own_due job net n T) T result
-    compares_own T sim machines have_run result h at same have =
-        compares_alike job (value_shown job sim.net sim.state) (due_by job machines) ((own_trace job net n).visible T) (own_due job net n T) T result
-        (λ t a there. ap (λ (s : Simulated). value_shown job s.net s.state t a) at ∙ ap (λ (f : State). f t a) (shown_is T h))
-        (λ t a there. ap (λ (ms : List Running). due_by job ms t a) same ∙ due_is T have_run have t a there)
-
-    -- what was not written in cycle T agrees after it, if all words agree before it
-    pub elsewhere : (T : ℕ) (tables : Tables) (both : Beside) → IsOfJob net job → T < n → tables.columns.items ≡ columns → HaveComeIn job net rows tables (T + 1) both
-        → AreNoted job net T both.written.items → ((t a : ℕ) → HasWord job t a → (own_trace job net n).visible T t a ≡ own_due job net n T t a) → AgreeElsewhere job both
-    elsewhere T tables both of_job low of_columns come noted agreed t a there not_noted not_wrote =
-        let upto : T ≤ n = omega (arith, low) in
-        let before : T < length rows = omega (arith, low, ap (λ (l : List masks.Row). length l) is, rows_many job net n) in
-        let run = subst (λ (cs : List Taken). HaveRun job (given cs) (rows_seen job.stages.value rows) (T + 1) both.machines.items) of_columns come.machines in
-        let same_net : both.sim.net ≡ net = ap (λ (s : Simulated). s.net) come.sim in
-        ap (λ (s : Simulated). value_shown job s.net s.state t a) come.sim
-        ∙ value_kept job net of_job T both.written.items noted t a there (λ z. not_noted (ap (λ (m : Net). noted_at both.written.items (place_in m (target job t))) same_net ∙ z))
-        ∙ ap (λ (f : State). f t a) (shown_is T upto)
-        ∙ agreed t a there
-        ∙ sym (due_here T t a)
-        ∙ sym (due_kept job acc (given columns) rows T both.machines.items both.monitor t run come.stages come.seen before there.target a not_wrote)
-        ∙ sym (due_at job acc (rows_seen job.stages.value rows) (T + 1) (given columns) both.machines.items run t a there.target)
-
-    pub comparable : (T : ℕ) (tables : Tables) (both : Beside) → IsOfJob net job → AreTables job net rows tables → tables.columns.items ≡ columns → T < n → HaveComeIn job net rows tables (T + 1) both
-        → AreNoted job net T both.written.items → ((t a : ℕ) → HasWord job t a → (own_trace job net n).visible T t a ≡ own_due job net n T t a) → IsComparable job tables both
-    comparable T tables both of_job tabled of_columns low come noted agreed =
-        let same_net : net ≡ both.sim.net = sym (ap (λ (s : Simulated). s.net) come.sim) in
-        let before : T < length rows = omega (arith, low, ap (λ (l : List masks.Row). length l) is, rows_many job net n) in
-        record {
-          of_job = subst (λ (m : Net). IsOfJob m job) same_net of_job;
-          places = tabled.places ∙ ap (places_in job) same_net;
-          homes = tabled.homes;
-          results = tabled.results;
-          count = come.machines.count;
-          jobs = come.machines.jobs;
-          noted = come.noted ∙ ap (λ (m : Net). length m.parts.files) same_net;
-          recorded = λ t within. record_there job acc (given tables.columns.items) rows T both.machines.items both.monitor t come.machines come.stages come.seen before within;
-          elsewhere = elsewhere T tables both of_job low of_columns come noted agreed;
-        }
-
-  -- ---- all states
-
-  -- both agree in all states before T
-  abbrev pub AgreeTo : ℕ → Type 0
-  AgreeTo T = (U t a : ℕ) → U < T → HasWord job t a → (own_trace job net n).visible U t a ≡ own_due job net n U t a
-
-  pub agree_more : (T : ℕ) → AgreeTo T → Compares job ((own_trace job net n).visible T) (own_due job net n T) T None → AgreeTo (T + 1)
-  agree_more T agreed last U t a h there = go (nat_lt U T) refl
-    where
-      go : (c : Bool) → nat_lt U T ≡ c → (own_trace job net n).visible U t a ≡ own_due job net n U t a
-      go true e = agreed U t a (ltb-true U T e) there
-      go false e =
-          let above : T ≤ U = ltb-false U T e in
-          let same : T ≡ U = omega (arith, above, h) in
-          subst (λ (m : ℕ). (own_trace job net n).visible m t a ≡ own_due job net n m t a) same (last t a there)
+  agree_more : (T : ℕ) → AgreeTo T → Compares job ((own_trace job net n).visible T) (own_due job net n T) T None → AgreeTo (T + 1)
+  agree_more T agreed last U t a h there =
+      below_more (λ (V : ℕ). (s b : ℕ) → HasWord job s b → (own_trace job net n).visible V s b ≡ own_due job net n V s b) T (λ V low s b. agreed V s b low) last U h t a there
 
   -- the first difference of a state is that of the run
-  pub is_recorded : (T : ℕ) (d : Difference) → T ≤ n → AgreeTo T → IsFirstIn job ((own_trace job net n).visible T) (own_due job net n T) T d → IsRecorded job net n d
+  is_recorded : (T : ℕ) (d : Difference) → T ≤ n → AgreeTo T → IsFirstIn job ((own_trace job net n).visible T) (own_due job net n T) T d → IsRecorded job net n d
   is_recorded T d h agreed first = (
     subst (λ (c : ℕ). IsFirstDifference job net n c d.target d.address) (sym first.cycle_is) (record {
       within = h;
@@ -146,6 +76,68 @@ module _ (job : Job) (net : Net) (n : ℕ) where
     subst (λ (c : ℕ). d.found ≡ word (target job d.target).width ((own_trace job net n).visible c d.target d.address)) (sym first.cycle_is) first.found_is,
     subst (λ (c : ℕ). d.due ≡ word (target job d.target).width (own_due job net n c d.target d.address)) (sym first.cycle_is) first.due_is,
   )
+
+  -- ---- one state
+
+  module _ (acc : Accepted (machine_of job)) (samples : (cycle : ℕ) → AreSamples job.decls (input job cycle)) (tables : Tables) (tabled : AreTables job net rows tables) where
+    abbrev values : State
+    values = given tables.columns.items
+
+    -- the specified value, by the machines
+    due_here : (T t a : ℕ) → sequential job values (passes job seen T t) t a ≡ own_due job net n T t a
+    unfolding due_value trace_of
+    due_here T t a =
+        ap (λ (g : State). sequential job g (passes job seen T t) t a)
+        (taken_is job rows tables.columns.items samples tabled.columns ∙ ap (λ (m : ℕ). taken (machine_of job) (inputs_from job 0 m) seen) cycles)
+
+    -- a comparison of one state is one of that state of the run
+    compares_own : (T : ℕ) (both : Beside) (result : Option Difference) → T ≤ n → HaveCome job net tables T both
+        → Compares job (value_shown job both.sim.net both.sim.state) (due_by job both.machines.items) T result
+        → Compares job ((own_trace job net n).visible T) (own_due job net n T) T result
+    compares_own T both result h come =
+        compares_alike job (value_shown job both.sim.net both.sim.state) (due_by job both.machines.items) ((own_trace job net n).visible T) (own_due job net n T) T result
+        (λ t a there. ap (λ (s : Simulated). value_shown job s.net s.state t a) come.sim ∙ ap (λ (f : State). f t a) (shown_is T h))
+        (λ t a there. due_at job acc seen T values both.machines.items (come_in job net n tables T both h come).machines t a there.target ∙ due_here T t a)
+
+    pub state_differs : (T : ℕ) (both : Beside) (d : Difference) → T ≤ n → HaveCome job net tables T both → AgreeTo T
+        → Compares job (value_shown job both.sim.net both.sim.state) (due_by job both.machines.items) T (Some d) → IsRecorded job net n d
+    state_differs T both d h come agreed first = is_recorded T d h agreed (compares_own T both (Some d) h come first)
+
+    pub state_agrees : (T : ℕ) (both : Beside) → T ≤ n → HaveCome job net tables T both → AgreeTo T
+        → Compares job (value_shown job both.sim.net both.sim.state) (due_by job both.machines.items) T None → AgreeTo (T + 1)
+    state_agrees T both h come agreed none = agree_more T agreed (compares_own T both None h come none)
+
+    -- what was not written in cycle T agrees after it, if all words agree before it
+    elsewhere : (T : ℕ) (both : Beside) → IsOfJob net job → T < n → HaveComeIn job net rows tables (T + 1) both → AreNoted job net T both.written.items → AgreeTo (T + 1) → AgreeElsewhere job both
+    elsewhere T both of_job low come noted agreed t a there not_noted not_wrote =
+        let before : T < length rows = omega (arith, low, rows_many job net n) in
+        let same_net : both.sim.net ≡ net = ap (λ (s : Simulated). s.net) come.sim in
+        ap (λ (s : Simulated). value_shown job s.net s.state t a) come.sim
+        ∙ value_kept job net of_job T both.written.items noted t a there (λ z. not_noted (ap (λ (m : Net). noted_at both.written.items (place_in m (target job t))) same_net ∙ z))
+        ∙ ap (λ (f : State). f t a) (shown_is T (omega (arith, low)))
+        ∙ agreed T t a (omega arith) there
+        ∙ sym (due_here T t a)
+        ∙ sym (due_kept job acc values rows T both.machines.items both.monitor t come.machines come.stages come.seen before there.target a not_wrote)
+        ∙ sym (due_at job acc seen (T + 1) values both.machines.items come.machines t a there.target)
+
+    pub comparable : (T : ℕ) (both : Beside) → IsOfJob net job → T < n → HaveCome job net tables (T + 1) both → AreNoted job net T both.written.items → AgreeTo (T + 1) → IsComparable job tables both
+    comparable T both of_job low ran noted agreed =
+        let come = come_in job net n tables (T + 1) both (omega (arith, low)) ran in
+        let same_net : net ≡ both.sim.net = sym (ap (λ (s : Simulated). s.net) come.sim) in
+        let before : T < length rows = omega (arith, low, rows_many job net n) in
+        record {
+          of_job = subst (λ (m : Net). IsOfJob m job) same_net of_job;
+          places = tabled.places ∙ ap (places_in job) same_net;
+          homes = tabled.homes;
+          results = tabled.results;
+          count = come.machines.count;
+          jobs = come.machines.jobs;
+          noted = come.noted ∙ ap (λ (m : Net). length m.parts.files) same_net;
+          recorded = λ t within. record_there job acc values rows T both.machines.items both.monitor t come.machines come.stages come.seen before within;
+          elsewhere = elsewhere T both of_job low come noted agreed;
+        }
+
+  -- ---- all states
 
   pub agrees : AgreeTo (n + 1) → Agrees job net n
   unfolding trace_of

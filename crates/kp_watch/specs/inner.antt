@@ -1,5 +1,4 @@
 -- For private contracts and proofs only: a reader need not trust it.
-pub mod Places
 pub mod Results
 pub mod Machines
 pub mod Comparing

@@ -12,14 +12,13 @@ ghost use Rattle.kp_watch.specs.inner.Machines.{AreNeeded};
 
 use crate::compare::Tables;
 use crate::machines::{advance, machines_of, needed_of};
-use crate::places::places_of;
 use crate::results::results_of;
 use kp_base::{NoMemory, Row};
 use kp_bits::Bits;
 use kp_cycle::Sim;
 use kp_frontend::Accepted;
 use kp_net::Netlist;
-use kp_run::{Column, fill, homes_of};
+use kp_run::{Column, fill, homes_of, monitor_of, places_of};
 use kp_sched::Monitor;
 use kp_seq::SeqMachine;
 use std::alloc::Global;
@@ -74,13 +73,14 @@ impl<'a, 'n> Beside<'a, 'n> {
         ensures come { IfOk result (λ both. HaveCome job.now.design.job net.now tables.now 0 both) }
         ensures space { IfOk result (λ both. count ≤ vec_capacity both.rows) }
     {
-        let stages = job.design.job().stages.value;
+        // The invariant of the type, for the proof only.
+        let _kept = job.design.job();
         let sim = Sim::open(alloc, net)?;
         let machines = machines_of(alloc, job)?;
         let room = job.sections.inputs.row(alloc, 0)?;
         let written = vec![in alloc; None; net.parts().files.as_slice().len()]?;
         let rows = Vec::with_capacity(alloc, count as usize)?;
-        let monitor = Monitor::open(stages as u8);
+        let monitor = monitor_of(&job.design);
         Ok(Beside {
             sim,
             machines,

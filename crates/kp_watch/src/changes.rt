@@ -1,20 +1,20 @@
 // The words that were written in a cycle, compared.
 ghost use Rattle.std.specs.Prelude.{◌≡◌, ◌≢◌, ℕ, ◌<◌, length, get_or, Some};
 ghost use Rattle.kp_machine.specs.Slots.{targets_of};
+ghost use Rattle.kp_run.specs.Places.{place_in, words_at};
+ghost use Rattle.kp_run.specs.declared.places.Place.TheVariants.{File};
 ghost use Rattle.kp_seq.specs.Running.{HasWord, state, target};
 ghost use Rattle.kp_synth_spec.specs.Naming.{value_shown};
 ghost use Rattle.kp_synth_spec.specs.Shows.{IsOfJob};
-ghost use Rattle.kp_watch.specs.declared.places.Place.TheVariants.{File};
 ghost use Rattle.kp_watch.specs.inner.Changes.{IsComparable, noted_at, last_write};
 ghost use Rattle.kp_watch.specs.inner.Comparing.{Compares, ComparesTarget, ComparesWord, lower};
 ghost use Rattle.kp_watch.specs.inner.Machines.{due_by};
-ghost use Rattle.kp_watch.specs.inner.Places.{place_in, words_at};
 
 use crate::beside::Beside;
 use crate::compare::{Difference, Tables, difference_of};
-use crate::places::Place;
 use kp_cycle::Sim;
 use kp_frontend::Accepted;
+use kp_run::Place;
 use kp_sched::Monitor;
 use kp_seq::SeqMachine;
 

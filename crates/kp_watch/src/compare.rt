@@ -4,18 +4,17 @@ ghost use Rattle.std.specs.List.{All};
 ghost use Rattle.kp_bits.specs.Word.{word};
 ghost use Rattle.kp_machine.specs.Slots.{targets_of};
 ghost use Rattle.kp_run.specs.Homes.{AreHomes};
+ghost use Rattle.kp_run.specs.Places.{place_in, places_in, words_at};
 ghost use Rattle.kp_seq.specs.Running.{HasWord, state, target};
 ghost use Rattle.kp_synth_spec.specs.Naming.{value_shown};
 ghost use Rattle.kp_synth_spec.specs.Shows.{IsOfJob};
 ghost use Rattle.kp_watch.specs.inner.Comparing.{Compares, ComparesTarget, ComparesWord};
 ghost use Rattle.kp_watch.specs.inner.Machines.{due_by};
-ghost use Rattle.kp_watch.specs.inner.Places.{place_in, places_in, words_at};
 
-use crate::places::Place;
 use kp_bits::Bits;
 use kp_cycle::Sim;
 use kp_frontend::Accepted;
-use kp_run::Column;
+use kp_run::{Column, Place};
 use kp_seq::SeqMachine;
 
 /// The first word in which the value of a netlist isn't the specified one.
@@ -128,8 +127,5 @@ fn shown(sim: &Sim<'_>, _machine: &SeqMachine<'_>, _t: u32, place: Place, addres
     requires address { address < words_at place }
     ensures { result ≡ word (target _machine.now.job _t).width (value_shown _machine.now.job sim.now.net sim.now.state _t address) }
 {
-    match place {
-        Place::Register(number) => sim.value(number),
-        Place::File(number, _) => sim.word(number, address),
-    }
+    place.word(sim, address)
 }

@@ -11,7 +11,6 @@ mod beside;
 mod changes;
 mod compare;
 mod machines;
-mod places;
 mod results;
 mod watch;
 

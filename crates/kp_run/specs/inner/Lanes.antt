@@ -12,9 +12,12 @@ lane_state [] k = λ t a. 0
 lane_state (m ∷ ms) zero = state m
 lane_state (m ∷ ms) (suc k) = lane_state ms k
 
--- how many instructions machine k has executed after these rows
+-- how many instructions machine k has executed after T of these rows, and after all
+abbrev pub passes_after : Job → List Row → ℕ → ℕ → ℕ
+passes_after job rows T k = if nat_lt k job.stages.value then passed rows k T else 0
+
 abbrev pub lane_passes : Job → List Row → ℕ → ℕ
-lane_passes job rows k = if nat_lt k job.stages.value then passed rows k (length rows) else 0
+lane_passes job rows k = passes_after job rows (length rows) k
 
 -- how many instructions machine k has executed, by the counts of n stages
 abbrev pub lane_count : ℕ → List ℕ → ℕ → ℕ

@@ -6,10 +6,10 @@ use Rattle.kp_ast.specs.declared.tree.Job.{Job}
 use Rattle.kp_net.specs.Netlist.{Net, last_of}
 use Rattle.kp_sched.specs.Rows.{rows_seen}
 use Rattle.kp_seq.specs.Running.{target}
-use Rattle.kp_run.specs.{Columns.AreColumns, Cycles.HasRows, Cycles.inputs_to, Homes.AreHomes}
+use Rattle.kp_run.specs.{Columns.AreColumns, Cycles.HasRows, Cycles.inputs_to, Homes.AreHomes, Places.places_in}
 use Rattle.kp_watch.specs.{Watching.own_trace, Watching.own_due, Watching.Agrees, Watching.IsFirstDifference, declared.compare.Difference.Difference}
 use Rattle.kp_watch.specs.declared.{compare.Tables.Tables, beside.Beside.Beside}
-use Rattle.kp_watch.specs.inner.{Machines.given, Machines.HaveRun, Machines.AreNeeded, Places.places_in, Results.AreResults}
+use Rattle.kp_watch.specs.inner.{Machines.given, Machines.HaveRun, Machines.AreNeeded, Results.AreResults}
 
 -- what stays the same in all cycles
 pub record AreTables (job : Job) (net : Net) (rows : List Row) (tables : Tables) : Type 0 where

@@ -5,16 +5,6 @@ use Rattle.kp_ast.specs.declared.tree.Job.{Job}
 use Rattle.kp_seq.specs.Running.{HasWord, target}
 use Rattle.kp_watch.specs.declared.compare.Difference.{Difference}
 
--- The first address of a target at which two states differ.
-pub record IsFirstAt (job : Job) (shown owed : ℕ → ℕ) (cycle t : ℕ) (d : Difference) : Type 0 where
-  pub cycle_is : d.cycle ≡ cycle
-  pub target_is : d.target ≡ t
-  pub there : HasWord job t d.address
-  pub differs : shown d.address ≢ owed d.address
-  pub before : (b : ℕ) → b < d.address → HasWord job t b → shown b ≡ owed b
-  pub found_is : d.found ≡ word (target job t).width (shown d.address)
-  pub due_is : d.due ≡ word (target job t).width (owed d.address)
-
 -- An address of a target at which two states differ.
 pub record IsOneAt (job : Job) (shown owed : ℕ → ℕ) (cycle t : ℕ) (d : Difference) : Type 0 where
   pub cycle_is : d.cycle ≡ cycle
@@ -23,6 +13,11 @@ pub record IsOneAt (job : Job) (shown owed : ℕ → ℕ) (cycle t : ℕ) (d : D
   pub differs : shown d.address ≢ owed d.address
   pub found_is : d.found ≡ word (target job t).width (shown d.address)
   pub due_is : d.due ≡ word (target job t).width (owed d.address)
+
+-- The first such address.
+pub record IsFirstAt (job : Job) (shown owed : ℕ → ℕ) (cycle t : ℕ) (d : Difference) : Type 0 where
+  pub one : IsOneAt job shown owed cycle t d
+  pub before : (b : ℕ) → b < d.address → HasWord job t b → shown b ≡ owed b
 
 -- Whether they differ at this address, if there is one and the target has it.
 abbrev pub ComparesWord : Job → (shown owed : ℕ → ℕ) → (cycle t : ℕ) → Option ℕ → Option Difference → Type 0

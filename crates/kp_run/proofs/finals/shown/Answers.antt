@@ -1,16 +1,9 @@
 use Rattle.std.proofs.Common.{◌∙◌}
-use Rattle.kp_run.proofs.Placing.{register_there, register_shown, file_shown}
+use Rattle.kp_run.proofs.Placing.{place_shown, place_there}
 use Rattle.kp_run.proofs.finals.shown.Goals as goal
 
-pub value-requires : goal.value-requires
-value-requires c = register_there _ _ _ c.requires.target c.requires.of_job c.args.place c.requires.place c.args.sim.now.state c.in-Register.number c.in-Register.is
+pub word-requires-clause-place : goal.word-requires-clause-place
+word-requires-clause-place c = place_there c.args._design.now.job c.args.sim.now.net c.args._t c.args.place c.requires.of_job c.requires.target c.requires.place
 
-pub returns-in-Register : goal.returns-in-Register
-returns-in-Register c =
-    c.value.ensures
-    ∙ register_shown _ _ _ c.requires.target c.requires.of_job c.args.place c.requires.place c.args.sim.now.state c.in-Register.number c.in-Register.is c.args.address
-
-pub returns-in-File : goal.returns-in-File
-returns-in-File c =
-    c.word.ensures
-    ∙ file_shown _ _ _ c.requires.target c.requires.of_job c.args.place c.requires.place c.args.sim.now.state c.in-File.number c.in-File.field-1 c.in-File.is c.args.address
+pub returns : goal.returns
+returns c = c.word.ensures ∙ place_shown c.args._design.now.job c.args.sim.now c.args._t c.args.place c.args.address c.requires.of_job c.requires.target c.requires.place

@@ -2,7 +2,7 @@ use Rattle.std.proofs.Common.{◌≡◌, ◌<◌, ◌∙◌, ◌∷◌, ◌+◌,
 use Rattle.kp_ast.specs.declared.tree.Decl.{Decl}
 use Rattle.kp_ast.specs.declared.tree.Decl.TheVariants as decls
 use Rattle.kp_machine.specs.Slots.{targets_of, slot}
-use Rattle.kp_run.specs.{inner.Places.place_in, declared.places.Place.TheVariants.Register, declared.places.Place.TheVariants.File}
+use Rattle.kp_run.specs.{Places.place_in, declared.places.Place.TheVariants.Register, declared.places.Place.TheVariants.File}
 use Rattle.kp_run.proofs.Placing.{FitsAddress, address_fits, file_place, no_target, some_place, no_place}
 use Rattle.kp_run.proofs.places.places_of.Goals.{in-Reg+in_ok-push-in-Reg, in-File+in_ok-push-in-File, in_default}
 use Rattle.kp_run.proofs.places.places_of.Goals as goal

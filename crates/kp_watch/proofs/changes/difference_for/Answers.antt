@@ -3,7 +3,8 @@ use Rattle.kp_ast.specs.declared.tree.Job.{Job}
 use Rattle.kp_machine.specs.Slots.{targets_of}
 use Rattle.kp_seq.specs.Running.{state, target}
 use Rattle.kp_synth_spec.specs.Shows.{IsOfJob}
-use Rattle.kp_watch.specs.inner.{Changes.noted_at, Machines.due_by, Places.place_in}
+use Rattle.kp_run.specs.Places.{place_in}
+use Rattle.kp_watch.specs.inner.{Changes.noted_at, Machines.due_by}
 use Rattle.kp_watch.proofs.Comparing.{target_alike}
 use Rattle.kp_watch.proofs.Targets.{place_is, home_is, number_is, machine_is, record_is, file_noted, wrote_fits, agree_here}
 use Rattle.kp_watch.proofs.changes.difference_for.Goals as goal
@@ -24,36 +25,28 @@ last_write-wrote-requires c stage some =
     let recorded = record_is job c.args.tables.now c.args.both.now c.args.t c.requires.comparable c.requires.target c.from.result c.index-machine.result.now (c.from.ensures ∙ home) c.index-machine.ensures in
     wrote_fits job c.args.tables.now c.args.both.now c.args.t c.requires.comparable c.requires.target c.index-home.result.now c.index.result.now c.index-machine.result.now.last home number recorded stage some
 
-pub difference_among-requires-clause-of_job : goal.difference_among-requires-clause-of_job
-difference_among-requires-clause-of_job c =
+pub difference_among-requires : goal.difference_among-requires
+difference_among-requires c =
     let job = c.args.job.now.design.job in
-    let found = machine_is job c.args.tables.now c.args.both.now c.args.t c.requires.comparable c.requires.target c.from.result _ c.index-machine.result.now (c.from.ensures ∙ c.index-home.ensures) c.index-machine.ensures in
-    subst (IsOfJob c.args.both.now.sim.net) (sym found.0) c.requires.comparable.of_job
-
-pub difference_among-requires-clause-target : goal.difference_among-requires-clause-target
-difference_among-requires-clause-target c =
-    let job = c.args.job.now.design.job in
-    let found = machine_is job c.args.tables.now c.args.both.now c.args.t c.requires.comparable c.requires.target c.from.result _ c.index-machine.result.now (c.from.ensures ∙ c.index-home.ensures) c.index-machine.ensures in
-    subst (λ (j : Job). c.args.t < length (targets_of j.decls)) (sym found.0) c.requires.target
-
-pub difference_among-requires-clause-place : goal.difference_among-requires-clause-place
-difference_among-requires-clause-place c =
-    let job = c.args.job.now.design.job in
-    let found = machine_is job c.args.tables.now c.args.both.now c.args.t c.requires.comparable c.requires.target c.from.result _ c.index-machine.result.now (c.from.ensures ∙ c.index-home.ensures) c.index-machine.ensures in
-    place_is job c.args.tables.now c.args.both.now c.args.t c.requires.comparable c.requires.target c.index-place.result.now _ c.index-place.ensures
-    ∙ (λ i. place_in c.args.both.now.sim.net (target (sym found.0 i) c.args.t))
-
-pub difference_among-requires-clause-elsewhere : goal.difference_among-requires-clause-elsewhere
-difference_among-requires-clause-elsewhere c =
-    let job = c.args.job.now.design.job in
-    let placed = place_is job c.args.tables.now c.args.both.now c.args.t c.requires.comparable c.requires.target c.index-place.result.now _ c.index-place.ensures in
-    let home = home_is job c.args.tables.now c.args.both.now c.args.t c.requires.comparable c.requires.target c.index-home.result.now _ c.index-home.ensures in
-    let number = number_is job c.args.tables.now c.args.both.now c.args.t c.requires.comparable c.requires.target c.index.result.now _ c.index.ensures in
-    let found = machine_is job c.args.tables.now c.args.both.now c.args.t c.requires.comparable c.requires.target c.from.result _ c.index-machine.result.now (c.from.ensures ∙ c.index-home.ensures) c.index-machine.ensures in
-    let recorded = record_is job c.args.tables.now c.args.both.now c.args.t c.requires.comparable c.requires.target c.from.result c.index-machine.result.now (c.from.ensures ∙ home) c.index-machine.ensures in
+    let tables = c.args.tables.now in
+    let both = c.args.both.now in
+    let t = c.args.t in
+    let all = c.requires.comparable in
+    let within = c.requires.target in
+    let m = c.index-machine.result.now in
+    let placed = place_is job tables both t all within c.index-place.result.now _ c.index-place.ensures in
+    let home = home_is job tables both t all within c.index-home.result.now _ c.index-home.ensures in
+    let number = number_is job tables both t all within c.index.result.now _ c.index.ensures in
+    let found = machine_is job tables both t all within c.from.result _ m (c.from.ensures ∙ c.index-home.ensures) c.index-machine.ensures in
+    let recorded = record_is job tables both t all within c.from.result m (c.from.ensures ∙ home) c.index-machine.ensures in
     let noted = c.noted_at-noted.ensures ∙ ap (λ (l : List (Option ℕ)). noted_at l c.index-place.result.now) c.as_slice.ensures.value in
-    agree_here job c.args.tables.now c.args.both.now c.args.t c.requires.comparable c.requires.target c.index-place.result.now c.index-home.result.now c.index.result.now c.index-machine.result.now
-    c.noted_at-noted.result c.last_write-wrote.result placed home number found.0 found.1 recorded noted c.last_write-wrote.ensures
+    record {
+      of_job = subst (IsOfJob both.sim.net) (sym found.0) all.of_job;
+      target = subst (λ (j : Job). t < length (targets_of j.decls)) (sym found.0) within;
+      place = placed ∙ (λ i. place_in both.sim.net (target (sym found.0 i) t));
+      elsewhere = agree_here job tables both t all within c.index-place.result.now c.index-home.result.now c.index.result.now m c.noted_at-noted.result c.last_write-wrote.result
+          placed home number found.0 found.1 recorded noted c.last_write-wrote.ensures;
+    }
 
 pub returns : goal.returns
 returns c =

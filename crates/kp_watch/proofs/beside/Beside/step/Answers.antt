@@ -8,9 +8,9 @@ use Rattle.kp_net.specs.Netlist.{Input, State, last_of, row_of, state_after}
 use Rattle.kp_sched.specs.{Monitors.HasSeen, Rows.rows_seen}
 use Rattle.kp_seq.specs.Running.{Running as Machine}
 use Rattle.kp_run.specs.{Columns.Taken, Cycles.input_at, Cycles.inputs_to}
-use Rattle.kp_run.proofs.{Given.rows_fed, Given.feeds_many, Given.feeds_few, Samples.fits_ports, Steps.state_next, Steps.rows_next}
+use Rattle.kp_run.proofs.{Given.as_feeds, Given.rows_fed, Given.feeds_many, Given.feeds_few, Samples.fits_ports, Steps.given_at, Steps.state_next, Steps.rows_next, Prefixes.rows_many}
 use Rattle.kp_watch.specs.inner.{Changes.AreNoted, Machines.HaveRun, Machines.given as given_by}
-use Rattle.kp_watch.proofs.{Prefixes.rows_many, Rows.run_within, Rows.first_of, Rows.written_back}
+use Rattle.kp_watch.proofs.Rows.{run_within, first_of, written_back}
 use Rattle.kp_watch.proofs.beside.Beside.step.Goals as goal
 
 pub fill-requires-clause-room : goal.fill-requires-clause-room
@@ -38,9 +38,6 @@ step_noting-row-requires-clause-samples c =
     subst (SamplesFit net) (sym c.fill.ensures)
     (fits_ports job.design.job net row c.requires.samples (rows_fed job.design.job job.sections.inputs c.job-kept.ensures.sound.names job.unbroken job.inputs c.from-now.result))
 
-pub advance-requires-clause-samples : goal.advance-requires-clause-samples
-advance-requires-clause-samples c i = rw c.as_slice-columns.ensures.value (c.requires.fit i)
-
 pub unwrap-requires : goal.unwrap-requires
 unwrap-requires c =
     let rows = c.args.self.now.rows in
@@ -57,39 +54,26 @@ cycle-requires c =
     let few = c.ranges.cycle.fits in
     omega (arith, seen, many, few)
 
-pub advance-requires-clause-stages : goal.advance-requires-clause-stages
-advance-requires-clause-stages c = c.requires.come.rows.stages
-
-pub advance-requires-clause-seen : goal.advance-requires-clause-seen
-advance-requires-clause-seen c =
+pub advance-requires : goal.advance-requires
+advance-requires c =
     let job = c.args.job.now.design.job in
     let come = c.requires.come in
     let xs = c.args.self.now.rows.items in
     let row = c.step_noting-row.result in
-    let many : length xs ≡ c.args.cycle = ap (λ (l : List Row). length l) come.rows.rows ∙ rows_many job c.args.self.now.sim.net c.args.cycle in
+    let T = c.args.cycle in
+    let columns = c.as_slice-columns.ensures.value in
+    let many : length xs ≡ T = ap (λ (l : List Row). length l) come.rows.rows ∙ rows_many job c.args.self.now.sim.net T in
     let items : c.as_slice-rows.result.now ≡ xs ++ row ∷ [] = c.as_slice-rows.ensures.value ∙ (rw c.unwrap.ensures at c.push.ensures.items) in
-    rw items (subst (HasSeen c.args.self.now.monitor) (sym (first_of xs row c.args.cycle many)) come.rows.seen)
-
-pub advance-requires-clause-there : goal.advance-requires-clause-there
-advance-requires-clause-there c =
-    let job = c.args.job.now.design.job in
-    let xs = c.args.self.now.rows.items in
-    let row = c.step_noting-row.result in
-    let many : length xs ≡ c.args.cycle = ap (λ (l : List Row). length l) c.requires.come.rows.rows ∙ rows_many job c.args.self.now.sim.net c.args.cycle in
-    let items : c.as_slice-rows.result.now ≡ xs ++ row ∷ [] = c.as_slice-rows.ensures.value ∙ (rw c.unwrap.ensures at c.push.ensures.items) in
-    let more = length-append xs (row ∷ []) in
-    rw items (omega (arith, many, more))
-
-pub advance-requires-clause-run : goal.advance-requires-clause-run
-advance-requires-clause-run c =
-    let job = c.args.job.now.design.job in
-    let come = c.requires.come in
-    let xs = c.args.self.now.rows.items in
-    let row = c.step_noting-row.result in
-    let many : length xs ≡ c.args.cycle = ap (λ (l : List Row). length l) come.rows.rows ∙ rows_many job c.args.self.now.sim.net c.args.cycle in
-    let items : c.as_slice-rows.result.now ≡ xs ++ row ∷ [] = c.as_slice-rows.ensures.value ∙ (rw c.unwrap.ensures at c.push.ensures.items) in
-    rw (c.as_slice-columns.ensures.value, items, c.as_mut_slice-machines.ensures.value)
-    (run_within job (given_by c.args.tables.now.columns.items) xs (xs ++ row ∷ []) c.args.cycle c.args.self.now.machines.items (first_of xs row c.args.cycle many) come.machines)
+    let first = first_of xs row T many in
+    record {
+      stages = come.rows.stages;
+      seen = rw items (subst (HasSeen c.args.self.now.monitor) (sym first) come.rows.seen);
+      there = rw items (let more = length-append xs (row ∷ []) in omega (arith, many, more));
+      room = rw columns (ap (λ (l : List Word). length l) (c.fill.ensures) ∙ as_feeds _ _ ∙ feeds_many job _ c.job-kept.ensures.sound.names c.args.job.now.unbroken c.args.job.now.inputs ∙ sym c.requires.many);
+      needed = rw c.as_slice-needed.ensures.value c.requires.needed;
+      samples = λ i. rw columns (c.requires.fit i);
+      run = rw (columns, items, c.as_mut_slice-machines.ensures.value) (run_within job (given_by c.args.tables.now.columns.items) xs (xs ++ row ∷ []) T c.args.self.now.machines.items first come.machines);
+    }
 
 pub returns-clause-come : goal.returns-clause-come
 returns-clause-come c =
@@ -104,10 +88,8 @@ returns-clause-come c =
     let row = c.step_noting-row.result in
     let taken : Input = given c.word-stalls.result false c.fill.new.room in
     let is : taken ≡ input_at job T =
-    ap (λ (w : ℕ). given w false c.fill.new.room) c.word-stalls.ensures
-    ∙ ap (λ (l : List Word). given (word_in accepted.sections.stalls c.from-now.result) false l) c.fill.ensures
-    ∙ ap (λ (m : ℕ). given (word_in accepted.sections.stalls m) false (row_in accepted.sections.inputs m)) c.from-now.ensures
-    ∙ (λ i. given (accepted.stalls i T) false (accepted.inputs i T)) in
+    (λ i. given (c.word-stalls.ensures i) false (c.fill.ensures i))
+    ∙ given_at job (word_in accepted.sections.stalls) (row_in accepted.sections.inputs) c.from-now.result T accepted.stalls accepted.inputs c.from-now.ensures in
     let row_is : row ≡ row_of net taken begin = c.step_noting-row.ensures.row ∙ ap (λ (s : Running). row_of s.net taken s.state) come.sim in
     let items : c.push.new.self.items ≡ xs ++ row ∷ [] = rw c.unwrap.ensures at c.push.ensures.items in
     let rows : c.as_slice-rows.result.now ≡ xs ++ row ∷ [] = c.as_slice-rows.ensures.value ∙ items in
@@ -143,10 +125,8 @@ returns-clause-noted c =
     let new = c.step_noting-row.new.written in
     let taken : Input = given c.word-stalls.result false c.fill.new.room in
     let is : taken ≡ input_at job T =
-    ap (λ (w : ℕ). given w false c.fill.new.room) c.word-stalls.ensures
-    ∙ ap (λ (l : List Word). given (word_in accepted.sections.stalls c.from-now.result) false l) c.fill.ensures
-    ∙ ap (λ (m : ℕ). given (word_in accepted.sections.stalls m) false (row_in accepted.sections.inputs m)) c.from-now.ensures
-    ∙ (λ i. given (accepted.stalls i T) false (accepted.inputs i T)) in
+    (λ i. given (c.word-stalls.ensures i) false (c.fill.ensures i))
+    ∙ given_at job (word_in accepted.sections.stalls) (row_in accepted.sections.inputs) c.from-now.result T accepted.stalls accepted.inputs c.from-now.ensures in
     let many : old.len ≡ length new = omega (arith, c.step_noting-row.auto.written, c.as_mut_slice-written.ensures.len) in
     let whole = written_back old.items new old.len many in
     let noted : AreNoted job sim.net T new =
