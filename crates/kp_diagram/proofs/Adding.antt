@@ -4,12 +4,10 @@ use Rattle.kp_diagram.specs.Diagram.{Account, Loss, Filling, DataHazard, WrongGu
 use Rattle.kp_diagram.specs.Claims.{cycles_of}
 
 -- THE ACCOUNT ADDS UP, and what it says is retired are the update enables of the last stage.
-one-more : (o : Option Loss) (a : Account) → cycles_of (and_cycle o a) ≡ suc (cycles_of a)
+pub one-more : (o : Option Loss) (a : Account) → cycles_of (and_cycle o a) ≡ suc (cycles_of a)
 one-more None a = omega arith
 one-more (Some Filling) a = omega arith
-one-more (Some DataHazard) a = omega arith
-one-more (Some WrongGuess) a = omega arith
-one-more (Some Outside) a = omega arith
+one-more (Some _) a = omega arith
 
 pub adds-up : (last : ℕ) (ext : ℕ → ℕ → Bool) (T : ℕ) (loss : ℕ → Loss) (rows : List Row)
     → cycles_of (account_from last ext T loss rows) ≡ length rows
@@ -20,9 +18,7 @@ adds-up last ext T loss (r ∷ rows) =
 
 lost-retired : (l : Loss) (a : Account) → (and_cycle (Some l) a).retired ≡ a.retired
 lost-retired Filling a = refl
-lost-retired DataHazard a = refl
-lost-retired WrongGuess a = refl
-lost-retired Outside a = refl
+lost-retired _ a = refl
 
 retired-more : (u : Bool) (l : Loss) (a : Account) → (and_cycle (cond u None (Some l)) a).retired ≡ one_if u + a.retired
 retired-more true l a = omega arith

@@ -237,9 +237,7 @@ module _ (m : Machine) (acc : Accepted m) (s : ℕ → ℕ → ℕ) (hints : ℕ
 count-next : (o : Option Loss) (a : Account) (cycles : List (Option Loss)) → Counts a cycles → Counts (and_cycle o a) (o ∷ cycles)
 count-next None a cycles c = record { retired = omega (arith, c.retired); filling = omega (arith, c.filling); hazards = omega (arith, c.hazards); guesses = omega (arith, c.guesses); outside = omega (arith, c.outside) }
 count-next (Some Filling) a cycles c = record { retired = omega (arith, c.retired); filling = omega (arith, c.filling); hazards = omega (arith, c.hazards); guesses = omega (arith, c.guesses); outside = omega (arith, c.outside) }
-count-next (Some DataHazard) a cycles c = record { retired = omega (arith, c.retired); filling = omega (arith, c.filling); hazards = omega (arith, c.hazards); guesses = omega (arith, c.guesses); outside = omega (arith, c.outside) }
-count-next (Some WrongGuess) a cycles c = record { retired = omega (arith, c.retired); filling = omega (arith, c.filling); hazards = omega (arith, c.hazards); guesses = omega (arith, c.guesses); outside = omega (arith, c.outside) }
-count-next (Some Outside) a cycles c = record { retired = omega (arith, c.retired); filling = omega (arith, c.filling); hazards = omega (arith, c.hazards); guesses = omega (arith, c.guesses); outside = omega (arith, c.outside) }
+count-next (Some _) a cycles c = record { retired = omega (arith, c.retired); filling = omega (arith, c.filling); hazards = omega (arith, c.hazards); guesses = omega (arith, c.guesses); outside = omega (arith, c.outside) }
 
 pub counted : (last : ℕ) (ext : ℕ → ℕ → Bool) (T : ℕ) (loss : ℕ → Loss) (rows : List Row)
     → Counts (account_from last ext T loss rows) (spent_from last ext T loss rows)

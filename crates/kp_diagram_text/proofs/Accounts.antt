@@ -5,6 +5,7 @@ use Rattle.kp_pipeline.specs.Rows.{Row, bit}
 use Rattle.kp_sched.specs.Rows.{row_seen, rows_seen}
 use Rattle.kp_diagram.specs.Diagram.{Account, Loss, Filling, DataHazard, WrongGuess, Outside, account_from, and_cycle, is_squashed, loss_of_wait, losses_after, lost_to, spent_from}
 use Rattle.kp_diagram.specs.Claims.{cycles_of}
+use Rattle.kp_diagram.proofs.Adding.{one-more as counted-more}
 
 -- AN ACCOUNT that is kept from the front. The entries of cycles are added to one.
 abbrev pub onto : List (Option Loss) → Account → Account
@@ -17,29 +18,15 @@ nothing = record { retired = 0; filling = 0; hazards = 0; guesses = 0; outside =
 commute : (o p : Option Loss) (a : Account) → and_cycle o (and_cycle p a) ≡ and_cycle p (and_cycle o a)
 commute None None a = refl
 commute None (Some Filling) a = refl
-commute None (Some DataHazard) a = refl
-commute None (Some WrongGuess) a = refl
-commute None (Some Outside) a = refl
 commute (Some Filling) None a = refl
 commute (Some Filling) (Some Filling) a = refl
-commute (Some Filling) (Some DataHazard) a = refl
-commute (Some Filling) (Some WrongGuess) a = refl
-commute (Some Filling) (Some Outside) a = refl
 commute (Some DataHazard) None a = refl
 commute (Some DataHazard) (Some Filling) a = refl
-commute (Some DataHazard) (Some DataHazard) a = refl
-commute (Some DataHazard) (Some WrongGuess) a = refl
-commute (Some DataHazard) (Some Outside) a = refl
 commute (Some WrongGuess) None a = refl
 commute (Some WrongGuess) (Some Filling) a = refl
-commute (Some WrongGuess) (Some DataHazard) a = refl
-commute (Some WrongGuess) (Some WrongGuess) a = refl
-commute (Some WrongGuess) (Some Outside) a = refl
 commute (Some Outside) None a = refl
 commute (Some Outside) (Some Filling) a = refl
-commute (Some Outside) (Some DataHazard) a = refl
-commute (Some Outside) (Some WrongGuess) a = refl
-commute (Some Outside) (Some Outside) a = refl
+commute _ _ a = refl
 
 onto-and : (os : List (Option Loss)) (o : Option Loss) (a : Account) → onto os (and_cycle o a) ≡ and_cycle o (onto os a)
 onto-and [] o a = refl
@@ -112,8 +99,4 @@ account-end n last ext rows T losses a whole none so_far =
     sym (ap (λ (rs : List masks.Row). onto (spent_from last ext T losses (rows_seen n rs)) a) none) ∙ so_far
 
 pub cycles-more : (o : Option Loss) (a : Account) → cycles_of (and_cycle o a) ≡ cycles_of a + 1
-cycles-more None a = omega arith
-cycles-more (Some Filling) a = omega arith
-cycles-more (Some DataHazard) a = omega arith
-cycles-more (Some WrongGuess) a = omega arith
-cycles-more (Some Outside) a = omega arith
+cycles-more o a = let e = counted-more o a in omega (arith, e)

@@ -2,4 +2,5 @@ pub mod Marks
 pub mod Losses
 pub mod Accounts
 pub mod Names
+pub mod Fetches
 pub mod Steps

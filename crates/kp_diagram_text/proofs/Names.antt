@@ -1,18 +1,10 @@
 -- NAMES of stages.
 use Rattle.std.proofs.Common.{◌≡◌, ◌∙◌, ℕ, suc, ◌+◌, ◌<◌, ◌≤◌, ◌==◌, ◌&&◌, ◌||◌, Bool, true, false, leb, ltb, max, List, [], length, get_or, map, take, decimal, refl, ap, ap₂, sym, ⊎_elim, arith}
-use Rattle.std.proofs.lemmas.{Bool.cases_lt, Bool.cond-true, Bool.cond-false, Bool.leb-true, Bool.lt-ltb, Bool.le-ltb, Fmt.length-decimal-le}
+use Rattle.std.proofs.lemmas.{Bool.and_parts, Bool.cases_lt, Bool.cond-false, Bool.cond-true, Bool.le-ltb, Bool.leb-true, Bool.lt-ltb, Fmt.length-decimal-le}
 use Rattle.std.proofs.lemmas.List.{get_or-map, length-map, take_all, Folds.list_all_at, Folds.list_all-map, Folds.list_all_more}
 use Rattle.std.specs.List.{list_all}
 use Rattle.kp_base.specs.Characters.{is_word, run_length}
 use Rattle.kp_diagram_text.specs.{Charts.are_names, Charts.is_name, Text.longest, Text.stage_name}
-
-first_true : (a b : Bool) → (a && b) ≡ true → a ≡ true
-first_true true b h = refl
-first_true false b h = h
-
-second_true : (a b : Bool) → (a && b) ≡ true → b ≡ true
-second_true true b h = h
-second_true false b h = cc
 
 -- the name that a chart has for stage k, or its number
 pub name_at : {X : Type 0} (f : X → List ℕ) (names : List X) (k : ℕ) (x : X) → k < length names → x ≡ get_or names k x
@@ -30,7 +22,7 @@ name_past f names k b =
 short : (name : List ℕ) → is_name name ≡ true → length name ≤ 8
 short name h =
     leb-true (length name) 8
-    (second_true (ltb 0 (length name)) _ (first_true (ltb 0 (length name) && leb (length name) 8) (run_length is_word name == length name) h))
+    (and_parts (ltb 0 (length name)) _ (and_parts (ltb 0 (length name) && leb (length name) 8) (run_length is_word name == length name) h).0).1
 
 -- each name is short
 pub short_name : (names : List (List ℕ)) (n k : ℕ) → are_names names n ≡ true → k < 256 → length (stage_name names k) ≤ 8
@@ -43,7 +35,7 @@ short_name names n k h few = ⊎_elim
     go : k < length names → (c : Bool) → is_name (get_or names k []) ≡ c → length (get_or names k []) ≤ 8
     go b true e = short (get_or names k []) e
     go b false e =
-        let all = second_true (length names == 0 || length names == n) (list_all is_name names) h in
+        let all = (and_parts (length names == 0 || length names == n) (list_all is_name names) h).1 in
         cc (sym all ∙ list_all_at is_name names k [] b e)
 
 pub longest_next : (names : List (List ℕ)) (k old new : ℕ) → old ≡ longest names k → new ≡ length (stage_name names k)

@@ -23,14 +23,10 @@ picked own inside known had set guessed =
     else unmet guessed))))
 
 picked_bypass : (own inside known had set guessed : Bool) → picked own inside known had set guessed ≡ Bypass → (known ≡ true) × (had ≡ true)
-picked_bypass true inside known had set guessed h = cc
-picked_bypass false false known had set guessed h = cc
-picked_bypass false true false had set true h = cc
-picked_bypass false true false had set false h = cc
 picked_bypass false true true true set guessed h = (refl, refl)
-picked_bypass false true true false true guessed h = cc
 picked_bypass false true true false false true h = cc
-picked_bypass false true true false false false h = cc
+picked_bypass false true false had set true h = cc
+picked_bypass _ _ _ _ _ _ h = cc
 
 abbrev IsUnmet : Cell → Type 0
 IsUnmet c = (c ≡ Wait) ⊎ (c ≡ Guess)

@@ -1,6 +1,6 @@
 -- THE STAGES OF A JOB: a block with a set that has no condition always sets the result, and one without a set never does.
 use Rattle.std.proofs.Common.{◌≡◌, ◌∙◌, ℕ, zero, suc, ◌+◌, ◌≤◌, Bool, true, false, ◌||◌, ◌&&◌, eqb, List, [], ◌∷◌, Option, Some, None, refl, ap, sym, subst, ⊎_elim, arith, eq-eqb}
-use Rattle.std.proofs.lemmas.Bool.{and_from, and_parts, cond_both, eqb-true, false_from_ne_true, leb-true, le-leb, or_cases, or_parts}
+use Rattle.std.proofs.lemmas.Bool.{and_from, and_parts, cond_both, eqb-true, false_from_ne_true, le-leb, leb-true, or_cases, or_left, or_parts, or_right}
 use Rattle.std.proofs.lemmas.List.Folds.{list_any-append}
 use Rattle.std.specs.{Prelude.is_none, Prelude.is_some, Prelude.nat_le, Prelude.slice_get, Prelude.if◌then◌else◌, List.list_any}
 use Rattle.kp_ast.specs.declared.tree.{Expr.Expr, ReadStmt.ReadStmt, ResultDecl.ResultDecl, Decl.Decl, Stmt.Stmt, StmtKind.StmtKind, Block.Block, Job.Job}
@@ -12,7 +12,6 @@ use Rattle.kp_machine.specs.{Slots.targets_of, Slots.pipes_of, Slots.hints_of, S
 use Rattle.kp_machine.proofs.Cases.{by_test}
 use Rattle.kp_paths.specs.Claims.{SetsAlways, SetsNever}
 use Rattle.kp_paths.specs.Table.{is_set_by, is_surely_set_by, placed, set_in, sets_from, sets_in, sets_of}
-use Rattle.kp_paths.proofs.Valid.{either_first, either_second}
 
 read_ends : (P : (ℕ → Option ℕ) → (ℕ → Option ℕ) → Type 0) (ds : List Decl) (done : Progress) (r : ReadStmt) (o : Option Expr) (rest : ℕ → Tree) → ((v : ℕ) → Ends P (rest v)) → Ends P (read_of ds done r o rest)
 read_ends P ds done r None rest go = go
@@ -24,7 +23,7 @@ or_none false h = h
 
 more_step : (o n : Option ℕ) (later : Bool) → (is_some o || later) ≡ true → (is_some (first_value o n) || later) ≡ true
 more_step (Some x) n later h = refl
-more_step None n later h = either_second (is_some n) later h
+more_step None n later h = or_right (is_some n) later h
 
 sure_step : (o : Option ℕ) (t num v : ℕ) (le later : Bool) → (is_some o || (((true && (eqb num t && le)) || false) || later)) ≡ true
     → (is_some (first_value o (with_value num v (λ u. None) t)) || later) ≡ true
@@ -94,10 +93,7 @@ module _ (ds : List Decl) (t j k : ℕ) where
 
   set_low : (s : StmtKind) → list_any (is_surely_set_by t j) (set_in ds k s) ≡ true → k ≤ j
   set_low (stmts.Set n e when) h = placed_low when (result_named ds n.name) h
-  set_low (stmts.Read r) h = cc
-  set_low (stmts.Let n e) h = cc
-  set_low (stmts.Put n e) h = cc
-  set_low (stmts.Aim n e) h = cc
+  set_low _ h = cc
 
   sets_low : (ss : List Stmt) → list_any (is_surely_set_by t j) (sets_in ds k ss) ≡ true → k ≤ j
   sets_low [] h = cc
@@ -118,7 +114,7 @@ module _ (ds : List Decl) (t j k : ℕ) where
         (λ y.
         let n = number_of (targets_of ds) r.target.name in
         let a : (eqb n t && nat_le k j) ≡ true = and_from (eqb n t) (nat_le k j) (eq-eqb n t (sym (eqb-true t n y))) (le-leb k j low) in
-        let z : true ≡ false = sym (either_first (eqb n t && nat_le k j) false a) ∙ h in cc)
+        let z : true ≡ false = sym (or_left (eqb n t && nat_le k j) false a) ∙ h in cc)
         (λ _. refl))
 
     statement_never : (done : Progress) (s : StmtKind) (rest : Progress → Tree) → done.sets t ≡ None → list_any (is_set_by t j) (set_in ds k s) ≡ false

@@ -1,6 +1,6 @@
 -- RESULTS THAT ARE SET, and those that aren't, in each state of a run.
 use Rattle.std.proofs.Common.{◌≡◌, ◌∙◌, ℕ, zero, suc, ◌<◌, ◌≤◌, Bool, true, false, ◌||◌, not, eqb, List, [], ◌∷◌, Option, Some, None, refl, ap, subst, ⊎_elim, arith, eq-eqb}
-use Rattle.std.proofs.lemmas.Bool.{cases_Bool, cases_lt, eqb-true, false_from_ne_true, and_from}
+use Rattle.std.proofs.lemmas.Bool.{and_from, cases_Bool, cases_lt, eqb-true, false_from_ne_true, or_left, or_right}
 use Rattle.std.specs.Prelude.{is_some, ◌≢◌}
 use Rattle.kp_pipeline.specs.Pipeline.{Inputs, PipelineState, above, candidate_hits, cycle, forwarded, hits, intent_known, is_candidate, next_stage, ok_value, outcome, pipeline_start, stall, ue}
 use Rattle.kp_pipeline.specs.{Machine.Machine, Sequential.Instruction, Sequential.first_value, Sequential.intends, Rows.state_after}
@@ -116,14 +116,6 @@ ok_none None true fresh h g = refl
 ok_none None false (Some v) h g = g
 ok_none None false None h g = refl
 
-pub either_first : (a b : Bool) → a ≡ true → (a || b) ≡ true
-either_first true b h = refl
-either_first false b h = cc
-
-pub either_second : (a b : Bool) → b ≡ true → (a || b) ≡ true
-either_second true b h = refl
-either_second false b h = h
-
 module _ (m : Machine) (s : ℕ → ℕ → ℕ) (hints : ℕ → ℕ) (ins : List Inputs) (T : ℕ) (inputs : Inputs) (t j : ℕ) where
   abbrev st : PipelineState
   st = state_at m s hints ins T
@@ -141,16 +133,16 @@ module _ (m : Machine) (s : ℕ → ℕ → ℕ) (hints : ℕ → ℕ) (ins : Li
   gives h f w = some_is (forwarded m st inputs j t) (rw (h.known, w) (ok_some stored fresh last (⊎_elim written set h.set)))
     where
       written : j ≡ m.write_stage t → (is_some stored || (is_some fresh || last)) ≡ true
-      written e = either_second (is_some stored) (is_some fresh || last) (either_second (is_some fresh) last (eq-eqb j (m.write_stage t) e))
+      written e = or_right (is_some stored) (is_some fresh || last) (or_right (is_some fresh) last (eq-eqb j (m.write_stage t) e))
 
       set : ((i : ℕ) × (i ≤ j) × SetsAlways m i t) → (is_some stored || (is_some fresh || last)) ≡ true
       set a = ⊎_elim
-          (λ (b : a.0 < j). either_first (is_some stored) (is_some fresh || last) (run-set m t s hints ins T j a.0 f b a.2))
+          (λ (b : a.0 < j). or_left (is_some stored) (is_some fresh || last) (run-set m t s hints ins T j a.0 f b a.2))
           (λ (b : j ≤ a.0).
           let l : a.0 ≤ j = a.1 in
           let e : a.0 ≡ j = omega arith in
-          either_second (is_some stored) (is_some fresh || last)
-          (either_first (is_some fresh) last (sets_some m t st inputs j (subst (λ (n : ℕ). SetsAlways m n t) e a.2))))
+          or_right (is_some stored) (is_some fresh || last)
+          (or_left (is_some fresh) last (sets_some m t st inputs j (subst (λ (n : ℕ). SetsAlways m n t) e a.2))))
           (cases_lt a.0 j)
 
   pub gives_none : HasNoValue m t j → forwarded m st inputs j t ≡ None
@@ -169,4 +161,4 @@ pub hits_all : (m : Machine) (st : PipelineState) (t j a : ℕ) → is_candidate
     → (st.stage j).full ≡ true → candidate_hits m st j t a ≡ true
 hits_all m st t j a c u f =
     and_from (is_candidate m j t) (hits m st j t a) c
-    (and_from (st.stage j).full _ f (either_first (not (intent_known m j t)) (intends m (st.stage j).instruction t a) (ap not u)))
+    (and_from (st.stage j).full _ f (or_left (not (intent_known m j t)) (intends m (st.stage j).instruction t a) (ap not u)))

@@ -12,8 +12,7 @@ use Rattle.kp_machine.specs.Slots.{Slot, targets_of, pipes_of, number_of, result
 use Rattle.kp_machine.specs.Machine.{machine_of, result_for, write_stage_of, enabled_of, address_in, is_enabled_by, address_by}
 use Rattle.kp_machine.proofs.{Cases.by_option, Text.fits_text, Text.target_slot}
 use Rattle.kp_seq.specs.Recorded.{Recorded, where_true, results_of, write_recorded, setting_recorded, record_of}
-use Rattle.kp_sites.specs.{declared.sites.Writer.Writer, Sites.result_number}
-use Rattle.kp_sites.specs.Reports.{wrote_at, may_write, is_ready}
+use Rattle.kp_sites.specs.{declared.sites.Writer.Writer, Sites.result_number, Reports.wrote_at, Reports.may_write, Reports.is_ready}
 
 -- if the number of a result is found, the result is found
 pub record IsResult (job : Job) (t i : ℕ) : Type 0 where

@@ -1,15 +1,14 @@
 -- What is reported of an instruction has its size.
 use Rattle.std.proofs.Common.{◌≡◌, ◌∙◌, ℕ, zero, suc, ◌+◌, ◌^◌, ◌<◌, ◌≤◌, List, [], ◌∷◌, length, get_or, set, take, drop, ◌++◌, refl, ap, sym, subst, arith, None, ⊎_elim}
-use Rattle.std.proofs.Math.Seq.{take-append_seam}
-use Rattle.std.proofs.lemmas.{Bool.cases_lt, List.length-append, List.length-map, List.length-set, List.get_or_append_left, List.get_or_push, List.Sums.sum_by-cons}
+use Rattle.std.proofs.{Math.Seq.take-append_seam, lemmas.Bool.cases_lt}
+use Rattle.std.proofs.lemmas.List.{length-append, length-map, length-set, get_or_append_left, get_or_push, Sums.sum_by-cons}
 use Rattle.std.specs.Prelude.{sum_by}
 use Rattle.kp_ast.specs.declared.tree.{Decl.Decl, Job.Job}
 use Rattle.kp_ast.specs.declared.tree.Decl.TheVariants as decls
 use Rattle.kp_stage.specs.Counts.{summary_of, results_in}
 use Rattle.kp_seq.specs.Recorded.{Recorded, results_of, setting_recorded, record_of}
 use Rattle.kp_seq.proofs.Recording.{all_recorded}
-use Rattle.kp_sites.specs.Reports.{HasRoom}
-use Rattle.kp_sites.specs.Sites.{writer_at, writers_to}
+use Rattle.kp_sites.specs.{Reports.HasRoom, Sites.writer_at, Sites.writers_to}
 
 results_count : (ds : List Decl) → length (results_of ds) ≡ sum_by results_in ds
 results_count [] = refl

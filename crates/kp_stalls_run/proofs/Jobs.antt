@@ -13,7 +13,8 @@ use Rattle.kp_run.specs.Cycles.{inputs_to}
 use Rattle.kp_diagram.specs.Claims.{stalls_of}
 use Rattle.kp_diagram_run.specs.Runs.{IsRunOf}
 use Rattle.kp_diagram_run.proofs.Words.{words-seen}
-use Rattle.kp_stalls.specs.{Occupants.report, Cycles.lines_from, Sites.sited}
+use Rattle.kp_sites.specs.Sites.{sited}
+use Rattle.kp_stalls.specs.{Occupants.report, Cycles.lines_from}
 use Rattle.kp_stalls_run.specs.{Runs.run_lines, Runs.settled, inner.Running.StaysClose}
 use Rattle.kp_stalls_run.proofs.{Closeness.stays_close, Steps.lines_same}
 

@@ -5,19 +5,15 @@ use Rattle.std.specs.Prelude.{is_some}
 use Rattle.kp_ast.specs.declared.tree.Job.{Job}
 use Rattle.kp_machine.specs.Machine.{sequential}
 use Rattle.kp_stalls.specs.declared.cause.Cause.{Cause, TheVariants.Unsure, TheVariants.Ahead, TheVariants.Held, TheVariants.Later, TheVariants.Squashed}
-use Rattle.kp_stalls.specs.declared.{cause.Guess.Guess, cause.Wait.Wait, cause.Wrong.Wrong, occupants.Stage.Stage, sites.Site.Site}
-use Rattle.kp_stalls.specs.Sites.{Sited, no_site, sited}
+use Rattle.kp_stalls.specs.declared.{cause.Guess.Guess, cause.Wait.Wait, cause.Wrong.Wrong, occupants.Stage.Stage}
+use Rattle.kp_sites.specs.{declared.sites.Site.Site, Sites.Sited, Sites.no_site, Sites.sited}
 use Rattle.kp_stalls.specs.Occupants.{Seen, at, no_occupant, no_stage, no_value, occupants_of, report, value_before}
 use Rattle.kp_stalls.specs.Causes.{all_retire, cause_at, cause_of_wait, first_wait, guess_of, is_open, is_squashed_by, is_reported, is_waiting, only_open, waiting_cause, wrong_of}
 
 -- A WAIT is no squash.
 no_squash : (a b c d : Bool) (o : Option Wait) (w : Wrong) → cond a Later (cond b Held (cond c Ahead (cond d (cause_of_wait o) Unsure))) ≡ Squashed w → ⊥
-no_squash true b c d o w e = cc
-no_squash false true c d o w e = cc
-no_squash false false true d o w e = cc
 no_squash false false false true None w e = cc
-no_squash false false false true (Some x) w e = cc
-no_squash false false false false o w e = cc
+no_squash _ _ _ _ _ w e = cc
 
 abbrev wrong_in : Wrong → Cause → Wrong
 wrong_in v (Squashed w) = w
@@ -28,11 +24,9 @@ same_wrongs v w e = ap (wrong_in v) e
 
 from_squash : (full squashed up moves : Bool) (c : Cause) (v w : Wrong) → (c ≡ Squashed w → ⊥)
     → cond full (cond squashed (cond up None (Some (Squashed v))) (cond moves None (Some c))) None ≡ Some (Squashed w) → v ≡ w
-from_squash false squashed up moves c v w never e = cc
-from_squash true true true moves c v w never e = cc
 from_squash true true false moves c v w never e = same_wrongs v w (same_Some _ _ e)
-from_squash true false up true c v w never e = cc
 from_squash true false up false c v w never e = absurd (never (same_Some _ _ e))
+from_squash _ _ _ _ c v w never e = cc
 
 -- THE ONLY OPEN GUESS is one of the reads.
 module _ (s : Sited) (occupants : List Seen) (k : ℕ) where

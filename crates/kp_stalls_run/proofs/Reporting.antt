@@ -7,7 +7,8 @@ use Rattle.kp_pipeline.specs.{Machine.Machine, Pipeline.Inputs, Rows.Row, Rows.b
 use Rattle.kp_pipeline.specs.RightPath.{Moment, held, next_moment}
 use Rattle.kp_pipeline.proofs.Lists.{bit-at}
 use Rattle.kp_machine.specs.Machine.{inputs_at, inputs_from}
-use Rattle.kp_stalls.specs.{declared.cause.Cause.Cause, declared.cause.Line.Line, declared.occupants.Stage.Stage, Sites.Sited}
+use Rattle.kp_sites.specs.Sites.{Sited}
+use Rattle.kp_stalls.specs.{declared.cause.Cause.Cause, declared.cause.Line.Line, declared.occupants.Stage.Stage}
 use Rattle.kp_stalls.specs.Occupants.{Report, Seen, at, occupants_of, no_stage}
 use Rattle.kp_stalls.specs.{Causes.cause_at, Causes.line_of, Causes.lines_down, Claims.ShowsMoment, Claims.moment_at}
 use Rattle.kp_stalls.specs.Cycles.{lines_from, stage_of, stages_from}

@@ -1,6 +1,6 @@
 -- The values of samples in a cycle.
 use Rattle.std.proofs.Common.{◌≡◌, ◌∙◌, ℕ, zero, suc, ◌+◌, ◌<◌, ◌≤◌, Bool, true, false, ◌&&◌, List, [], ◌∷◌, cond, eq-eqb, length, get_or, refl, ap, sym, arith, ⊎_elim}
-use Rattle.std.proofs.lemmas.{Bool.cases_lt, Bool.ne_eqb, List.get_or_default, Option.same_Some}
+use Rattle.std.proofs.lemmas.{Bool.and_right, Bool.cases_lt, Bool.ne_eqb, List.get_or_default, Option.same_Some}
 use Rattle.std.specs.Prelude.{◌==◌, slice_get, Some}
 use Rattle.kp_bits.specs.Word.{Word}
 use Rattle.kp_ast.specs.declared.tree.Job.{Job}
@@ -42,17 +42,13 @@ pub settled_all : (job : Job) (given : ℕ → ℕ → ℕ) (T k i n : ℕ) → 
 settled_all job given T k i n all e = sym e ∙ ap (settles_to job given T k i) all
 
 -- once one differs, the samples do
-and_no : (x : Bool) → (x && false) ≡ false
-and_no true = refl
-and_no false = refl
-
 differs : (job : Job) (given : ℕ → ℕ → ℕ) (T k i n m : ℕ) → n < m → settles job given T k i n ≡ false → settles_to job given T k i m ≡ false
 differs job given T k i n zero b e = absurd (omega (arith, b))
 differs job given T k i n (suc m) b e = ⊎_elim
     (λ (l : n < m). ap (λ c. c && settles job given T k i m) (differs job given T k i n m l e))
     (λ (l : m ≤ n).
     let same : n ≡ m = omega (arith, l, b) in
-    ap (λ c. settles_to job given T k i m && c) (ap (settles job given T k i) (sym same) ∙ e) ∙ and_no (settles_to job given T k i m))
+    ap (λ c. settles_to job given T k i m && c) (ap (settles job given T k i) (sym same) ∙ e) ∙ and_right (settles_to job given T k i m) false refl)
     (cases_lt n m)
 
 pub unsettled : (job : Job) (given : ℕ → ℕ → ℕ) (T k i n : ℕ) → n < length (sample_stages job.decls) → settles job given T k i n ≡ false → false ≡ settled job given T k i

@@ -11,7 +11,8 @@ use Rattle.kp_machine.specs.Machine.{inputs_from, machine_of, values_in}
 use Rattle.kp_run.specs.Columns.{AreColumns, Taken, row_taken}
 use Rattle.kp_run.proofs.{Gathering.rows_fit_taken, Gathering.taken_is, Given.rows_fed, Given.rows_given, Samples.many}
 use Rattle.kp_sched.specs.Rows.{rows_seen}
-use Rattle.kp_stalls.specs.{declared.cause.Line.Line, Occupants.report, Cycles.lines_from, Sites.sited}
+use Rattle.kp_sites.specs.Sites.{sited}
+use Rattle.kp_stalls.specs.{declared.cause.Line.Line, Occupants.report, Cycles.lines_from}
 use Rattle.kp_stalls_run.specs.Runs.{settled}
 
 module _ (job : Job) (feeds : List Fed) (names : first (widths_of job).asked ≡ None) (unbroken : first (sections_of job).asked ≡ None) (is : row_in feeds ≡ input job)

@@ -1,6 +1,6 @@
 -- The values that were guessed, in the lines of a run.
 use Rattle.std.proofs.Common.{◌≡◌, ◌∙◌, ℕ, zero, suc, ◌+◌, ◌<◌, ◌≤◌, List, [], ◌∷◌, map, set, length, length-append, get_or, Option, Some, None, Bool, true, false, ◌||◌, cond, refl, ap, sym, subst, arith, ⊎_elim}
-use Rattle.std.proofs.lemmas.Bool.{cases_Bool, cases_lt}
+use Rattle.std.proofs.lemmas.Bool.{cases_Bool, cases_lt, or_parts}
 use Rattle.std.proofs.lemmas.List.{ext_get_or, get_or_default, get_or-map, get_or-set_other, get_or-set_same, length-map}
 use Rattle.std.proofs.lemmas.Option.{same_Some}
 use Rattle.std.specs.{Prelude.◌==◌, Prelude.IsSome, Prelude.is_some, Prelude.replicate, List.All, List.list_any}
@@ -21,7 +21,8 @@ use Rattle.kp_synth_tables.specs.Keys.{is_alive, keys_of}
 use Rattle.kp_stalls.specs.declared.cause.Cause.{Cause}
 use Rattle.kp_stalls.specs.declared.cause.Cause.TheVariants.{Value, Unsure, Ahead, Held, Later, Squashed}
 use Rattle.kp_stalls.specs.{declared.cause.Guess.Guess, declared.cause.Line.Line, declared.cause.Wait.Wait, declared.cause.Wrong.Wrong, Claims.moment_at}
-use Rattle.kp_stalls.specs.{Occupants.report, Sites.sited}
+use Rattle.kp_sites.specs.Sites.{sited}
+use Rattle.kp_stalls.specs.Occupants.{report}
 use Rattle.kp_diagram.specs.Claims.{stalls_of}
 use Rattle.kp_stalls_run.specs.Claims.{moment_in}
 use Rattle.kp_stalls_run.specs.Runs.{cause_with, given_in, guess_with, guessed_in, line_with, run_lines, settled, state_at, wrong_with}
@@ -92,36 +93,24 @@ same_wrong job T k None e = refl
 same_wrong job T k (Some g) e = cc
 
 same_cause : (job : Job) (T k : ℕ) (c : Cause) → names_guess c ≡ false → cause_with job T k c ≡ c
-same_cause job T k (Value w) e = refl
-same_cause job T k Unsure e = refl
-same_cause job T k Ahead e = refl
-same_cause job T k Held e = refl
-same_cause job T k Later e = refl
 same_cause job T k (Squashed w) e = ap (λ (o : Option Guess). Squashed (record { last = w.last; guess = o })) (same_wrong job T k w.guess e)
+same_cause job T k _ e = refl
 
 pub same_line : (job : Job) (l : Line) → names_guess l.cause ≡ false → l ≡ line_with job l
 same_line job l e = sym (ap (λ (c : Cause). record { cycle = l.cycle; number = l.number; stage = l.stage; cause = c }) (same_cause job l.cycle l.stage l.cause e))
 
-or_no : (a b : Bool) → (a || b) ≡ false → (a ≡ false) × (b ≡ false)
-or_no false b e = (refl, e)
-or_no true b e = cc
-
 pub same_lines : (job : Job) (ls : List Line) → list_any names_one ls ≡ false → ls ≡ map (line_with job) ls
 same_lines job [] e = refl
 same_lines job (l ∷ ls) e =
-    let both = or_no (names_guess l.cause) (list_any names_one ls) e in
+    let both = or_parts (names_guess l.cause) (list_any names_one ls) e in
     let here = same_line job l both.0 in
     let more = same_lines job ls both.1 in
     λ i. here i ∷ more i
 
 -- WHAT A LINE WITH A VALUE says.
 pub value_kept : (job : Job) (T k : ℕ) (c : Cause) (w : Wait) → cause_with job T k c ≡ Value w → c ≡ Value w
-value_kept job T k (Value v) w e = e
-value_kept job T k Unsure w e = e
-value_kept job T k Ahead w e = e
-value_kept job T k Held w e = e
-value_kept job T k Later w e = e
 value_kept job T k (Squashed v) w e = cc
+value_kept job T k _ w e = e
 
 -- the guess that a cause names, and its value
 pub record IsFilled (job : Job) (T k : ℕ) (c : Cause) (g : Guess) : Type 0 where
@@ -166,12 +155,8 @@ module _ (job : Job) (T k : ℕ) (v : Wrong) (g : Guess) where
   with_named (Some n) names e = with_word n (guessed_in job T k n.read) names refl e
 
 pub filled : (job : Job) (T k : ℕ) (c : Cause) (w : Wrong) (g : Guess) → cause_with job T k c ≡ Squashed w → w.guess ≡ Some g → IsFilled job T k c g
-filled job T k (Value v) w g e is = cc
-filled job T k Unsure w g e is = cc
-filled job T k Ahead w g e is = cc
-filled job T k Held w g e is = cc
-filled job T k Later w g e is = cc
 filled job T k (Squashed v) w g e is = with_named job T k v g v.guess refl (ap (λ (x : Wrong). x.guess) (same_wrongs _ w e) ∙ is)
+filled job T k _ w g e is = cc
 
 -- its instruction
 pub held_number : (b : Bool) (x n : ℕ) → cond b (Some x) None ≡ Some n → x ≡ n

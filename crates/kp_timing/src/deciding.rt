@@ -57,6 +57,7 @@ impl Pipeline {
 }
 
 // Whether a read is met by the nearest stage, from one on, that may write its target: that stage has the result ready, or there is none.
+#[tactic(auto, using(crate::proofs::Stepping::met_here, crate::proofs::Stepping::met_above, crate::proofs::Stepping::met_none))]
 fn is_met_from(
     writer: Writer,
     held: &Pipeline,
@@ -124,6 +125,7 @@ fn waits(sites: &Sites, held: &Pipeline, blocked: &[bool; 13], k: usize) -> bool
     held.is_full(k) && some_unmet(sites, held, blocked, k)
 }
 
+#[tactic(auto, using(crate::proofs::Stepping::reads_next))]
 fn some_unmet(sites: &Sites, held: &Pipeline, blocked: &[bool; 13], k: usize) -> bool
     requires hold { length held.now.hold ≡ 12 }
     requires recorded { sites.now.stages ≤ length held.now.recorded }

@@ -10,8 +10,10 @@ use Rattle.clap.specs.{Kinds.Kinds, Faults.fault_of, Faults.turn_fault, Faults.w
 use Rattle.kp_bits.specs.Literals.{number_of, number_within, numeral_value}
 use Rattle.kp_command_line.specs.Programs.{begins_with_dash}
 use Rattle.kp_command_line.proofs.Parses as parse
-use Rattle.kp_command_line.proofs.Parses.{IsRefused, plain_turn, plain_walked, refused_first, refused_second, standing}
+use Rattle.kp_command_line.proofs.Parses.{IsRefused, named_or, plain_turn, plain_walked, refused_first, refused_second, standing}
 use Rattle.kp_tool_words.specs.declared.words.Command.{Command}
+use Rattle.kp_tool_words.specs.declared.words.Command.TheVariants.{OnJob, Assemble, Read, Watch, Compare, Debug, Generate}
+use Rattle.kp_tool_words.specs.declared.words.JobCommand.TheVariants.{Seq, Check, Sim, Vcd, Timing, Pipe}
 use Rattle.kp_tool_words.specs.Words.{is_barred, at_most, command_of, count_of, seed_of, counted_command, plain_command, seeded_command}
 use Rattle.kp_tool_words.specs.inner.Matching.{Form, Numbers, plain, counted, seeded, known_forms, program_of, command_of_rows, rules_of}
 
@@ -182,9 +184,6 @@ module _ {Z : Type 0} where
 
 -- ---- the arguments that are rejected
 
-has_name : (name text : Text) → bytes_eq name text ≡ true → text ≡ name
-has_name name text h = sym ((bytes_eq-Decides name text).0 h)
-
 abbrev IsPassed : List Text → Type 0
 IsPassed words = fault_of (program_of known_forms) words ≡ []
 
@@ -194,9 +193,6 @@ record IsForm (numbers : Numbers) (name : Text) : Type 0 where
   met : parse.met_of (codes "kp") name_of form_rules known_forms name ≡ Some name
   fine : is_barred name ≡ false
 
-is_form : (numbers : Numbers) (name text : Text) → bytes_eq name text ≡ true → IsForm numbers text → IsForm numbers name
-is_form numbers name text e is = subst (IsForm numbers) (has_name name text e) is
-
 form_passes : (numbers : Numbers) (name : Text) (words : List Text) → IsForm numbers name → refused_after name numbers words ≡ [] → IsPassed (name ∷ words)
 form_passes numbers name words is passes =
     parse.known_refused (codes "kp") name_of form_rules known_forms name (rules_of numbers) words is.entry is.met ∙ passes
@@ -204,51 +200,29 @@ form_passes numbers name words is passes =
 -- a name is that of a command without number arguments, or of none
 plain_named : (name : Text) → (plain_command name ≡ None) ⊎ IsForm plain name
 plain_named name =
-    go (bytes_eq name (codes "check")) (bytes_eq name (codes "pipe")) (bytes_eq name (codes "asm")) (bytes_eq name (codes "read")) (bytes_eq name (codes "equiv"))
-    (bytes_eq name (codes "debug")) refl refl refl refl refl refl
-  where
-    named : (text : Text) → IsForm plain text → bytes_eq name text ≡ true → (plain_command name ≡ None) ⊎ IsForm plain name
-    named text is e = inr (is_form plain name text e is)
-
-    go : (check pipe asm read equiv debug : Bool) → bytes_eq name (codes "check") ≡ check → bytes_eq name (codes "pipe") ≡ pipe → bytes_eq name (codes "asm") ≡ asm
-        → bytes_eq name (codes "read") ≡ read → bytes_eq name (codes "equiv") ≡ equiv → bytes_eq name (codes "debug") ≡ debug
-        → (plain_command name ≡ None) ⊎ IsForm plain name
-    go true pipe asm read equiv debug e p f r q d = named (codes "check") (record { entry = refl; met = refl; fine = refl }) e
-    go false true asm read equiv debug e p f r q d = named (codes "pipe") (record { entry = refl; met = refl; fine = refl }) p
-    go false false true read equiv debug e p f r q d = named (codes "asm") (record { entry = refl; met = refl; fine = refl }) f
-    go false false false true equiv debug e p f r q d = named (codes "read") (record { entry = refl; met = refl; fine = refl }) r
-    go false false false false true debug e p f r q d = named (codes "equiv") (record { entry = refl; met = refl; fine = refl }) q
-    go false false false false false true e p f r q d = named (codes "debug") (record { entry = refl; met = refl; fine = refl }) d
-    go false false false false false false e p f r q d = inl (rw (e, p, f, r, q, d) refl)
+    named_or (IsForm plain) name (codes "check") (OnJob Check) _ (record { entry = refl; met = refl; fine = refl })
+    (named_or (IsForm plain) name (codes "pipe") (OnJob Pipe) _ (record { entry = refl; met = refl; fine = refl })
+    (named_or (IsForm plain) name (codes "asm") Assemble _ (record { entry = refl; met = refl; fine = refl })
+    (named_or (IsForm plain) name (codes "read") Read _ (record { entry = refl; met = refl; fine = refl })
+    (named_or (IsForm plain) name (codes "equiv") Compare _ (record { entry = refl; met = refl; fine = refl })
+    (named_or (IsForm plain) name (codes "debug") Debug _ (record { entry = refl; met = refl; fine = refl }) (inl refl))))))
 
 -- or of one with a count
 counted_named : (name : Text) (count : Option ℕ) → (option_and_then (counted_command name) count ≡ None) ⊎ IsForm counted name
 counted_named name None = inl refl
 counted_named name (Some count) =
-    go (bytes_eq name (codes "seq")) (bytes_eq name (codes "sim")) (bytes_eq name (codes "vcd")) (bytes_eq name (codes "timing")) (bytes_eq name (codes "watch"))
-    refl refl refl refl refl
-  where
-    named : (text : Text) → IsForm counted text → bytes_eq name text ≡ true → (counted_command name count ≡ None) ⊎ IsForm counted name
-    named text is e = inr (is_form counted name text e is)
-
-    go : (seq sim vcd timing watch : Bool) → bytes_eq name (codes "seq") ≡ seq → bytes_eq name (codes "sim") ≡ sim → bytes_eq name (codes "vcd") ≡ vcd
-        → bytes_eq name (codes "timing") ≡ timing → bytes_eq name (codes "watch") ≡ watch → (counted_command name count ≡ None) ⊎ IsForm counted name
-    go true sim vcd timing watch e f g t i = named (codes "seq") (record { entry = refl; met = refl; fine = refl }) e
-    go false true vcd timing watch e f g t i = named (codes "sim") (record { entry = refl; met = refl; fine = refl }) f
-    go false false true timing watch e f g t i = named (codes "vcd") (record { entry = refl; met = refl; fine = refl }) g
-    go false false false true watch e f g t i = named (codes "timing") (record { entry = refl; met = refl; fine = refl }) t
-    go false false false false true e f g t i = named (codes "watch") (record { entry = refl; met = refl; fine = refl }) i
-    go false false false false false e f g t i = inl (rw (e, f, g, t, i) refl)
+    named_or (IsForm counted) name (codes "seq") (OnJob (Seq count)) _ (record { entry = refl; met = refl; fine = refl })
+    (named_or (IsForm counted) name (codes "sim") (OnJob (Sim count)) _ (record { entry = refl; met = refl; fine = refl })
+    (named_or (IsForm counted) name (codes "vcd") (OnJob (Vcd count)) _ (record { entry = refl; met = refl; fine = refl })
+    (named_or (IsForm counted) name (codes "timing") (OnJob (Timing count)) _ (record { entry = refl; met = refl; fine = refl })
+    (named_or (IsForm counted) name (codes "watch") (Watch count) _ (record { entry = refl; met = refl; fine = refl }) (inl refl)))))
 
 -- or of the one with a seed and a count
 seeded_named : (name : Text) (seed count : Option ℕ) → (seeded_command name seed count ≡ None) ⊎ IsForm seeded name
 seeded_named name None count = inl refl
 seeded_named name (Some seed) None = inl refl
-seeded_named name (Some seed) (Some count) = go (bytes_eq name (codes "gen")) refl
-  where
-    go : (gen : Bool) → bytes_eq name (codes "gen") ≡ gen → (seeded_command name (Some seed) (Some count) ≡ None) ⊎ IsForm seeded name
-    go true e = inr (is_form seeded name (codes "gen") e (record { entry = refl; met = refl; fine = refl }))
-    go false e = inl (rw e refl)
+seeded_named name (Some seed) (Some count) =
+    named_or (IsForm seeded) name (codes "gen") (Generate seed count) _ (record { entry = refl; met = refl; fine = refl }) (inl refl)
 
 -- arguments that the parse rejects are no command
 pub unmatched : (words : List Text) → list_any is_barred words ≡ false → (IsPassed words → ⊥) → command_of words ≡ None
@@ -290,7 +264,7 @@ seed_barred (c ∷ cs) h = go (c == 45) (bytes_eq (c ∷ cs) (codes "help")) ref
   where
     go : (dash help : Bool) → (c == 45) ≡ dash → bytes_eq (c ∷ cs) (codes "help") ≡ help → seed_of (c ∷ cs) ≡ None
     go true help e f = subst (λ b. seed_of (b ∷ cs) ≡ None) (sym (eqb-true c 45 e)) (no_seed (45 ∷ cs) (dash_number cs))
-    go false true e f = subst (λ word. seed_of word ≡ None) (has_name (c ∷ cs) (codes "help") f) (no_seed (codes "help") refl)
+    go false true e f = subst (λ word. seed_of word ≡ None) (sym ((bytes_eq-Decides (c ∷ cs) (codes "help")).0 f)) (no_seed (codes "help") refl)
     go false false e f = let none : is_barred (c ∷ cs) ≡ false = rw (e, f) refl in absurd (true≢false (sym h ∙ none))
 
 count_barred : (word : Text) → is_barred word ≡ true → count_of word ≡ None

@@ -68,10 +68,7 @@ module _ (job : Job) (result : List ℕ) where
       cond_both (is_same_name n.name result) (record { stage = k; index = j; place = x.at; sure = is_none when } ∷ []) []
       (λ (l : List PlacedSet). AreNever ((l ++ more) ++ rest))
       (λ y. (never k j x n e when at is (same_name n.name result y) h, go)) (λ _. go)
-  all_one k j x (stmts.Read r) more rest is at h go = go
-  all_one k j x (stmts.Let n e) more rest is at h go = go
-  all_one k j x (stmts.Put n e) more rest is at h go = go
-  all_one k j x (stmts.Aim n e) more rest is at h go = go
+  all_one k j x _ more rest is at h go = go
 
   all_stmts : (k j : ℕ) (ss : List Stmt) (rest : List PlacedSet) → From k j ss → IsSetBefore k j → (IsSetBefore (k + 1) 0 → AreNever rest)
       → AreNever (sets_in result k j ss ++ rest)
@@ -110,10 +107,7 @@ module _ (job : Job) (result : List ℕ) where
   vain_one k j x (stmts.Set n e (Some c)) more rest is at all go =
       cond_both (is_same_name n.name result) (record { stage = k; index = j; place = x.at; sure = false } ∷ []) []
       (λ (l : List PlacedSet). AreNever (in_vain ((l ++ more) ++ rest))) (λ _. go) (λ _. go)
-  vain_one k j x (stmts.Read r) more rest is at all go = go
-  vain_one k j x (stmts.Let n e) more rest is at all go = go
-  vain_one k j x (stmts.Put n e) more rest is at all go = go
-  vain_one k j x (stmts.Aim n e) more rest is at all go = go
+  vain_one k j x _ more rest is at all go = go
 
   vain_stmts : (k j : ℕ) (ss : List Stmt) (rest : List PlacedSet) → From k j ss → (IsSetBefore (k + 1) 0 → AreNever rest) → AreNever (in_vain rest)
       → AreNever (in_vain (sets_in result k j ss ++ rest))

@@ -1,6 +1,7 @@
 use Rattle.std.proofs.{Common.refl, Common.arith, KnownBytes.Appends-nil, lemmas.Result.err_from_is_err_and}
 use Rattle.kp_base.proofs.Bytes.{written_piece, written_part, rest_whole}
-use Rattle.kp_diagram_svg.proofs.{Left.left_is, Steps.columns_end, Steps.columns_next}
+use Rattle.kp_diagram_text.proofs.Steps.{left_is}
+use Rattle.kp_diagram_svg.proofs.Steps.{columns_end, columns_next}
 use Rattle.kp_diagram_svg.proofs.columns.write_columns.Goals as goal
 
 pub returns-in_err-write_column_text-clause-text : goal.returns-in_err-write_column_text-clause-text

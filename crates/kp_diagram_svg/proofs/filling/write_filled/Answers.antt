@@ -1,6 +1,7 @@
 use Rattle.std.proofs.{Common.◌∙◌, Common.refl, Common.sym, Common.arith, lemmas.Result.err_from_is_err_and}
 use Rattle.kp_base.proofs.Bytes.{written_piece, written_part, written_rest}
-use Rattle.kp_diagram_svg.proofs.{Filled.filled_end, Filled.filled_step, Filled.tail_is, Left.left_is}
+use Rattle.kp_diagram_text.proofs.Steps.{left_is}
+use Rattle.kp_diagram_svg.proofs.Filled.{filled_end, filled_step, tail_is}
 use Rattle.kp_diagram_svg.proofs.filling.write_filled.Goals as goal
 
 pub returns-in_err-write_number-clause-text : goal.returns-in_err-write_number-clause-text

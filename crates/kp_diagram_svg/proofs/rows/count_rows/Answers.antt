@@ -3,7 +3,8 @@ use Rattle.kp_pipeline.specs.Rows.{counts}
 use Rattle.kp_sched.specs.Rows.{rows_seen}
 use Rattle.kp_diagram.specs.Diagram.{Fetch}
 use Rattle.kp_diagram_text.specs.Charts.{ext_of}
-use Rattle.kp_diagram_svg.proofs.Steps.{fetches_end, fetches_step, length_next, row_after_few}
+use Rattle.kp_diagram_text.proofs.Fetches.{fetches_end, fetches_step}
+use Rattle.kp_diagram_svg.proofs.Steps.{length_next, row_after_few}
 use Rattle.kp_diagram_svg.proofs.rows.count_rows.Goals as goal
 
 pub loop-cycle-preserved : goal.loop-cycle-preserved

@@ -6,7 +6,8 @@ use Rattle.kp_pipeline.specs.Rows.{counts}
 use Rattle.kp_sched.specs.{Monitors.HasSeen, Rows.rows_seen}
 use Rattle.kp_diagram_text.specs.Charts.{ext_of, names_of}
 use Rattle.kp_diagram_svg.specs.Rows.{rows_text}
-use Rattle.kp_diagram_svg.proofs.{Left.left_is, Steps.fetches_end, Steps.fetches_step, Steps.row_after_few, Steps.rows_next, Steps.take_next}
+use Rattle.kp_diagram_text.proofs.{Fetches.fetches_end, Fetches.fetches_step, Fetches.take_next, Steps.left_is}
+use Rattle.kp_diagram_svg.proofs.Steps.{row_after_few, rows_next}
 use Rattle.kp_diagram_svg.proofs.rows.write_rows.Goals as goal
 
 pub cycle-requires : goal.cycle-requires

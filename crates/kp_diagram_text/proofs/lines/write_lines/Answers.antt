@@ -5,7 +5,7 @@ use Rattle.kp_base.proofs.Bytes.{written_piece, written_part, rest_whole}
 use Rattle.kp_pipeline.specs.Rows.{counts}
 use Rattle.kp_sched.specs.{Monitors.HasSeen, Rows.rows_seen}
 use Rattle.kp_diagram_text.specs.Charts.{ext_of, names_of}
-use Rattle.kp_diagram_text.proofs.Steps.{left_is, lines_end, lines_next, take_next}
+use Rattle.kp_diagram_text.proofs.{Fetches.take_next, Steps.left_is, Steps.lines_end, Steps.lines_next}
 use Rattle.kp_diagram_text.proofs.lines.write_lines.Goals as goal
 
 pub cycle-requires : goal.cycle-requires
@@ -47,7 +47,7 @@ loop-cycle-preserved g c =
       later = omega arith;
       stages = c.cycle.ensures.stages ∙ c.loop-cycle.invariant.stages;
       seen = subst (λ (rs : List Row). HasSeen c.cycle.new.self rs)
-          (take_next chart.stages (ext_of chart) c.args.width (names_of chart) chart.rows.now T _ _ c.loop-cycle-test.true refl)
+          (take_next chart.stages (ext_of chart) chart.rows.now T _ _ c.loop-cycle-test.true refl)
           (c.cycle.ensures.seen (take T chart.rows.now) c.loop-cycle.invariant.seen);
     }
 
