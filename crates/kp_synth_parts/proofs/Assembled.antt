@@ -19,7 +19,7 @@ use Rattle.kp_synth_tables.specs.declared.key.Key.{Key}
 use Rattle.kp_synth_tables.specs.declared.key.Key.TheVariants.{Visible, Full, Pipe, Valid, Value, Pending, Guess, Hint}
 use Rattle.kp_synth_tables.specs.Keys.{target_at, sample_at, HasKey, keys_of, key_at, key_width, key_start}
 use Rattle.kp_synth_tables.specs.Fits.{IsWidth, Fits}
-use Rattle.kp_synth_tables.proofs.{Fitting.fits, Limits.few, Limits.limits, Limits.keys_few, Places.key_had}
+use Rattle.kp_synth_tables.proofs.{Fitting.fits, Counting.keys_few, Limits.few, Limits.limits, Places.key_had}
 use Rattle.kp_synth_registers.specs.{declared.outcome.Outcome.Outcome, Meaning.CellsFit, Meaning.node_at}
 use Rattle.kp_synth_registers.proofs.Growth.{grown_added}
 use Rattle.kp_synth_close.specs.{declared.control.RowNodes.RowNodes, Nexts.Closes, Nexts.PortFits, Nexts.no_node_id, Control.ShowRow}
@@ -302,7 +302,7 @@ module _ (job : Job) (p : Held) (outs : List Outcome) (start : Start) (nexts : L
     ext_positive = omega (arith, fit.at_least);
     ext_at_most = omega (arith, fit.at_most);
     sample_count = omega (arith, ports_counted job 0 job.decls, (few job s.stages).samples);
-    reg_count = omega (arith, regs_counted, keys_few job (few job s.stages) fit.at_most);
+    reg_count = omega (arith, regs_counted, keys_few job s.stages fit.at_most);
     file_count = omega (arith, files_counted job start.files ports 0 0 job.decls, files_summed job.decls, (limits job s.stages).files);
     samples = All-from_get_or PortOk made.samples no_port port_ok;
     regs = All-from_get_or (RegOk p.nodes) made.regs no_reg reg_ok;

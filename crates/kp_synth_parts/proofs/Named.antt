@@ -12,7 +12,7 @@ use Rattle.kp_net.specs.declared.{node.NodeId.NodeId, netlist.Port.Port, netlist
 use Rattle.kp_net.specs.Growth.{Held}
 use Rattle.kp_net.specs.Names.{same, among, Differ, IsSpelled, is_reg_name, is_file_name, is_sample_name, IsNamed}
 use Rattle.kp_synth_tables.specs.Keys.{no_slot, target_at, sample_at, keys_of}
-use Rattle.kp_synth_tables.proofs.{Apart.targets_apart, Limits.few, Limits.keys_few}
+use Rattle.kp_synth_tables.proofs.{Apart.targets_apart, Counting.keys_few}
 use Rattle.kp_synth_registers.specs.declared.outcome.Outcome.{Outcome}
 use Rattle.kp_synth_close.specs.declared.control.RowNodes.{RowNodes}
 use Rattle.kp_synth_close.specs.Shows.{named_with, reg_slot, file_slot, port_slot, registers_of, files_of, other_names, NamedBy, Shows}
@@ -146,7 +146,7 @@ module _ (job : Job) (p : Held) (outs : List Outcome) (start : Start) (nexts : L
   back_named = others_named job nexts first first 0 (drop first (keys_of job)) (omega arith) ∙ ap (other_names 0) (sym (others_counted job nexts first first (drop first (keys_of job))))
 
   back_few : length back ≤ 4096
-  back_few = omega (arith, length-append front back, regs_counted job p outs start nexts ports row s, keys_few job (few job s.stages) (fit job p outs start nexts ports row s).at_most)
+  back_few = omega (arith, length-append front back, regs_counted job p outs start nexts ports row s, keys_few job s.stages (fit job p outs start nexts ports row s).at_most)
 
   files_are : map file_slot (net_parts job start nexts ports row).files ≡ map (named_with (codes "f_")) (files_of job)
   files_are = files_named job start.files ports 0 0 job.decls (fine job p outs start nexts ports row s) (λ i l. ap (target_at job) (zero_plus i))
