@@ -17,13 +17,14 @@ use Rattle.kp_machine.proofs.{LookUp.or_else, LookUp.look_up-append, Cases.by_te
 use Rattle.kp_net.specs.{declared.node.NodeId.NodeId, Nodes.Cells, Nodes.word_at, Nodes.at, Nodes.on, Growth.Held, Growth.Wire, Growth.Kept}
 use Rattle.kp_net.proofs.{Values.word_is, Growing.wire_kept}
 use Rattle.kp_build.specs.Names.{Nodes, node_of, Scope, word_of}
+use Rattle.kp_synth_tables.proofs.Fitting.{width_there}
 use Rattle.kp_synth_tables.specs.Keys.{no_slot, pipe_at, hint_at, target_at}
 use Rattle.kp_synth_registers.specs.Meaning.{node_at, PutFits, SetFits, MadeFit, put_value, set_value, made_values}
 use Rattle.kp_synth_stage.specs.inner.Scopes.{declared, scope_at, is_bound, is_value, Binds, Bound}
 use Rattle.kp_synth_stage.specs.inner.Standing.{names_with, env_of, WorkOk, Stands, Enters, slots_at}
 use Rattle.kp_synth_stage.specs.{Work.NodesHave, Work.SlotsHave, declared.work.Work.Work}
 use Rattle.kp_synth_stage.specs.inner.Standing as work
-use Rattle.kp_synth_stage.proofs.{Scoping.scope_text, Scoping.scope_start, Expressions.placed_in, Expressions.text_kind, Steps.slot_width}
+use Rattle.kp_synth_stage.proofs.{Scoping.scope_text, Scoping.scope_start, Expressions.placed_in, Expressions.text_kind}
 use Rattle.kp_build.proofs.Names.{node_with}
 
 -- a name among slots
@@ -119,7 +120,7 @@ module _ (z : Held) (ss : List Slot) (ns : List NodeId) (h : SlotsHave z ss ns) 
       let count : length ns ≡ length ss = h.count in omega arith
 
   slot_wire : (w a : ℕ) → IsSlot ss q w a → Wire z node w
-  slot_wire w a at = subst (Wire z node) (slot_width ss q at.inside ∙ at.width) (h.wires (number_of ss q) (number_inside at.inside))
+  slot_wire w a at = subst (Wire z node) (width_there q ss at.inside ∙ at.width) (h.wires (number_of ss q) (number_inside at.inside))
 
   slot_binds : (names : Nodes) (w a : ℕ) → IsSlot ss q w a → node_of names q ≡ Some node → Binds z w (node_of names q)
   slot_binds names w a at e = subst (Binds z w) (sym e) (slot_wire w a at)

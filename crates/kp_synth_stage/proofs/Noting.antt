@@ -13,6 +13,7 @@ use Rattle.kp_pipeline.specs.Sequential.{PendingGuess}
 use Rattle.kp_net.specs.{declared.node.NodeId.NodeId, Nodes.Cells, Nodes.word_at, Nodes.at, Nodes.on, Growth.Held, Growth.Wire, Growth.Kept}
 use Rattle.kp_net.proofs.{Growing.wire_kept, Growing.kept_then, Values.word_is}
 use Rattle.kp_synth_registers.specs.{declared.outcome.Made.Made, Holding.pending_guess, Meaning.made_values, Meaning.guess_value, Meaning.MadeFit}
+use Rattle.kp_synth_tables.proofs.Fitting.{width_there}
 use Rattle.kp_synth_tables.specs.{declared.key.GuessSlot.GuessSlot, Keys.target_at, Keys.guess_slot, Keys.with_read}
 use Rattle.kp_synth_stage.specs.{declared.row.Source.Source, declared.row.Answer.Answer, declared.work.Work.Work, Rows.SourcesOk}
 use Rattle.kp_synth_stage.specs.inner.Doing.{after_stmt, target_of, miss_of, hazard_of, guess_of, read_value, read_lacks}
@@ -20,7 +21,7 @@ use Rattle.kp_synth_stage.specs.inner.{Scopes.scope_at, Scopes.Bound, Standing.s
 use Rattle.kp_synth_stage.specs.inner.{Statements.GuessOk, Statements.ReadGives, Statements.made_of, Reading.value_or_zero}
 use Rattle.kp_synth_stage.specs.inner.Standing as work
 use Rattle.kp_synth_stage.proofs.Binding.{bound_kept, bound_more, names_kept, names_more, fits_kept, means_kept, env_with, made_more, made_values_more}
-use Rattle.kp_synth_stage.proofs.{Steps.slot_width, Taking.ReadRight, Taking.guess_fits, Taking.guess_kept, Nearest.orzero_kept}
+use Rattle.kp_synth_stage.proofs.{Taking.ReadRight, Taking.guess_fits, Taking.guess_kept, Nearest.orzero_kept}
 
 source_in : (xs : List Source) (t : ℕ) → t < length xs → (s : Source) × (slice_get xs t ≡ Some s)
 source_in [] t h = absurd (omega arith)
@@ -81,7 +82,7 @@ module _ (job : Job) (k j : ℕ) (r : ReadStmt) (is : ReadRight job k j r) (p q 
   wide_z = wire_kept q z m2 a.value _ g2 wide
 
   same_width : (target_at job t).width ≡ width_of_slot (targets_of job.decls) r.target.name
-  same_width = slot_width (targets_of job.decls) r.target.name is.inside
+  same_width = width_there r.target.name (targets_of job.decls) is.inside
 
   read_work : WorkOk job k (suc j) z after
   read_work =

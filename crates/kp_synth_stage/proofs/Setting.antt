@@ -21,6 +21,7 @@ use Rattle.kp_net.proofs.Growing.{wire_kept, kept_then}
 use Rattle.kp_fwd.specs.Forward.{enable_on}
 use Rattle.kp_build.specs.Names.{Scope, Gives}
 use Rattle.kp_synth_registers.specs.{declared.outcome.Set.Set, Holding.optional, Meaning.SetFits, Meaning.set_value}
+use Rattle.kp_synth_tables.proofs.Fitting.{width_there}
 use Rattle.kp_synth_tables.specs.Keys.{target_at}
 use Rattle.kp_synth_registers.proofs.Growth.{set_kept, set_fits}
 use Rattle.kp_synth_stage.specs.{declared.row.Source.Source, declared.work.Work.Work, inner.Scopes.scope_at, inner.Scopes.Bound}
@@ -29,7 +30,7 @@ use Rattle.kp_synth_stage.specs.inner.Statements.{width_in, OptionRight, OptionG
 use Rattle.kp_synth_stage.specs.inner.Standing as work
 use Rattle.kp_synth_stage.specs.inner.Statements as statements
 use Rattle.kp_synth_stage.proofs.{Scoping.scope_locals, Expressions.plain_found, Expressions.gives_is, Expressions.placed_in}
-use Rattle.kp_synth_stage.proofs.{Binding.bound_kept, Binding.names_kept, Steps.Steps, Steps.each_set, Steps.fits_next, Steps.means_next, Steps.slot_width, Steps.text_sense, Steps.at_is}
+use Rattle.kp_synth_stage.proofs.{Binding.bound_kept, Binding.names_kept, Steps.Steps, Steps.each_set, Steps.fits_next, Steps.means_next, Steps.text_sense, Steps.at_is}
 use Rattle.kp_synth_stage.proofs.Taking.{HasWidths, when_means, when_right}
 
 -- the rules that a set keeps
@@ -69,7 +70,7 @@ set_right job u k j n e when is =
       named = r.1;
       inside = r.2.1.inside;
       right = g.0;
-      width = g.1 ∙ sym (ap (λ (m : Sense). m.width) f.3) ∙ sym r.2.1.width ∙ sym (slot_width (targets_of job.decls) r.0.target.name r.2.1.inside);
+      width = g.1 ∙ sym (ap (λ (m : Sense). m.width) f.3) ∙ sym r.2.1.width ∙ sym (width_there r.0.target.name (targets_of job.decls) r.2.1.inside);
       tested = c.0;
       one = c.1;
       free = none_of_two (ask_expr (facts_of job) Rule.E25 k e) (ask_option (facts_of job) Rule.E25 k when) is.free;

@@ -4,7 +4,7 @@ use Rattle.std.proofs.lemmas.{List.append-nil, List.length-set, Bool.eqb-true, B
 use Rattle.std.specs.{Prelude.is_some, Prelude.◌==◌, Vec.with_item}
 use Rattle.kp_base.specs.{Check.ok, Check.◌>>=◌, Refusal.e_rule}
 use Rattle.kp_bits.specs.Word.{Word}
-use Rattle.kp_ast.specs.{Expressions.is_same_name, declared.tree.Expr.Expr, declared.tree.StmtKind.StmtKind, declared.tree.Job.Job}
+use Rattle.kp_ast.specs.{declared.tree.Expr.Expr, declared.tree.StmtKind.StmtKind, declared.tree.Job.Job}
 use Rattle.kp_ast.specs.declared.tree.Named as tree
 use Rattle.kp_ast.specs.declared.tree.StmtKind.TheVariants as stmts
 use Rattle.kp_ast.specs.declared.widths.NameKind.{NameKind}
@@ -12,11 +12,12 @@ use Rattle.kp_ast.specs.declared.widths.NameKind.TheVariants as kinds
 use Rattle.kp_width.specs.Names.{Sense, sense, Names, find, look_up, used, is_pipe, is_hint, declared_local}
 use Rattle.kp_width.specs.{Expressions.width_of, Expressions.value_of, Expressions.part_of, Statements.given, Widths.widths_of}
 use Rattle.kp_width.proofs.{Parts.given_parts, Unbroken.Unbroken, Unbroken.bind_unbroken, Unbroken.answer_unbroken}
-use Rattle.kp_machine.specs.Slots.{Slot, pipes_of, hints_of, number_of, width_of as width_of_slot}
+use Rattle.kp_machine.specs.Slots.{Slot, pipes_of, hints_of, number_of}
 use Rattle.kp_machine.specs.Trees as trees
 use Rattle.kp_machine.proofs.{Scopes.fresh_none, Scopes.found_sense, Scopes.IsSlot, Scopes.Placed, Cases.by_test, Text.local_no, Text.found_where}
 use Rattle.kp_net.specs.{declared.node.NodeId.NodeId, Nodes.Cells, Nodes.word_at, Nodes.at, Widths.AllRight, Growth.Held, Growth.Wire, Growth.Kept}
 use Rattle.kp_build.specs.Names.{Scope, Gives}
+use Rattle.kp_synth_tables.proofs.Fitting.{width_there}
 use Rattle.kp_synth_tables.specs.Keys.{no_slot, pipe_at, hint_at}
 use Rattle.kp_synth_registers.specs.Meaning.{put_value, PutFits}
 use Rattle.kp_synth_stage.specs.{declared.row.Source.Source, declared.work.Work.Work, inner.Doing.Doing, inner.Doing.after_stmt, inner.Doing.outcome_of}
@@ -109,13 +110,6 @@ put_set_means c p xs x n v f m l is h = each_set (λ i o. i < m → put_value c 
     (λ b. ap Some is ∙ sym (ap (λ t. cond t (Some v) (f x)) (eq-eqb x x refl)))
     (λ i y b. h i b ∙ sym (ap (λ t. cond t (Some v) (f i)) y))
 
--- the entry of a name is that of its number
-pub slot_width : (ss : List Slot) (q : List ℕ) → number_of ss q < length ss → (get_or ss (number_of ss q) no_slot).width ≡ width_of_slot ss q
-slot_width [] q h = absurd (omega arith)
-slot_width (s ∷ ss) q h = by_test (is_same_name q s.name)
-    (λ y. rw y refl)
-    (λ y. let l : suc (number_of ss q) < suc (length ss) = subst (λ b. cond b 0 (suc (number_of ss q)) < suc (length ss)) y h in let r = slot_width ss q (omega arith) in rw y r)
-
 -- a slot of the text, for the value that a statement gives it
 pub record Given (job : Job) (k j : ℕ) (slots : List Slot) (n : List ℕ) (e : Expr) : Type 0 where
   pub inside : number_of slots n < length slots
@@ -123,7 +117,7 @@ pub record Given (job : Job) (k j : ℕ) (slots : List Slot) (n : List ℕ) (e :
   pub width : (width_in job k j e).value ≡ (get_or slots (number_of slots n) no_slot).width
 
 given_slot : (job : Job) (k j : ℕ) (slots : List Slot) (n : List ℕ) (e : Expr) (w a : ℕ) → IsSlot slots n w a → statements.IsRight job k j e → (width_in job k j e).value ≡ w → Given job k j slots n e
-given_slot job k j slots n e w a s r is = record { inside = s.inside; right = r; width = is ∙ sym s.width ∙ sym (slot_width slots n s.inside) }
+given_slot job k j slots n e w a s r is = record { inside = s.inside; right = r; width = is ∙ sym s.width ∙ sym (width_there n slots s.inside) }
 
 module _ (job : Job) (unbroken : Unbroken (widths_of job)) (k j : ℕ) where
   pub text_sense : (q : List ℕ) (m : Sense) → look_up (scope_at job k j).text q ≡ Some m → Placed job.decls q m

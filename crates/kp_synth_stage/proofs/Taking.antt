@@ -1,10 +1,10 @@
 -- A read: which rules it keeps, and what its nodes mean.
-use Rattle.std.proofs.Common.{◌≡◌, ◌∙◌, ℕ, suc, ◌+◌, ◌<◌, ◌^◌, List, [], ◌∷◌, ◌++◌, length, get_or, Option, Some, None, Bool, true, cond, not, ◌||◌, ◌&&◌, refl, ap, sym, subst, arith}
+use Rattle.std.proofs.Common.{◌≡◌, ◌∙◌, ℕ, suc, ◌+◌, ◌<◌, ◌^◌, List, [], ◌++◌, length, Option, Some, None, Bool, true, cond, not, ◌||◌, ◌&&◌, refl, ap, sym, subst, arith}
 use Rattle.std.proofs.lemmas.Bool.{eqb-true}
 use Rattle.std.specs.Prelude.{slice_get, is_some, ◌==◌}
 use Rattle.kp_base.specs.{Check.ok, Check.◌>>=◌, Check.wants, Refusal.e_rule}
 use Rattle.kp_bits.specs.Word.{Word}
-use Rattle.kp_ast.specs.{Expressions.is_same_name, declared.tree.Expr.Expr, declared.tree.ReadStmt.ReadStmt, declared.tree.Job.Job}
+use Rattle.kp_ast.specs.{declared.tree.Expr.Expr, declared.tree.ReadStmt.ReadStmt, declared.tree.Job.Job}
 use Rattle.kp_ast.specs.declared.tree.Decl.{Decl}
 use Rattle.kp_ast.specs.declared.widths.NameKind.{NameKind}
 use Rattle.kp_ast.specs.declared.tree.StmtKind.TheVariants as stmts
@@ -15,15 +15,16 @@ use Rattle.kp_width.specs.Declarations.{kept, storage_of, address_width}
 use Rattle.kp_width.specs.{Statements.when_of, Statements.address_of, Statements.read_of, Widths.widths_of}
 use Rattle.kp_width.proofs.{Unbroken.Unbroken, Unbroken.bind_unbroken, Unbroken.answer_unbroken, Found.none_of_two, Parts.given_parts}
 use Rattle.kp_stage.specs.{Facts.facts_of, declared.rules.Rule.Rule, Rules.ask_option}
-use Rattle.kp_machine.specs.{Slots.Slot, Slots.targets_of, Slots.number_of, Trees.Progress}
+use Rattle.kp_machine.specs.{Slots.targets_of, Trees.Progress}
 use Rattle.kp_machine.specs.Trees as trees
-use Rattle.kp_machine.proofs.{Scopes.IsSlot, Scopes.addresses, Scopes.fresh_none, Scopes.found_sense, Scopes.storage_kind, Cases.by_test}
+use Rattle.kp_machine.proofs.{Scopes.IsSlot, Scopes.fresh_none, Scopes.found_sense, Scopes.storage_kind}
 use Rattle.kp_machine.proofs.Text.{local_no, found_where}
 use Rattle.kp_net.specs.{declared.node.NodeId.NodeId, Nodes.Cells, Nodes.at, Nodes.on, Widths.AllRight, Growth.Held, Growth.Wire, Growth.Kept}
 use Rattle.kp_net.proofs.{Growing.wire_kept, Growing.kept_then, Values.at_fits}
 use Rattle.kp_fwd.specs.Forward.{BitOk, enable_on}
 use Rattle.kp_build.specs.Names.{Scope}
-use Rattle.kp_synth_tables.specs.Keys.{no_slot, target_at}
+use Rattle.kp_synth_tables.proofs.Fitting.{width_there, address_there, no_address}
+use Rattle.kp_synth_tables.specs.Keys.{target_at}
 use Rattle.kp_synth_registers.specs.Meaning.{PutFits}
 use Rattle.kp_synth_stage.specs.declared.row.{Source.Source, Answer.Answer}
 use Rattle.kp_synth_stage.specs.Rows.{asked, source_view, view_of, SourceOk, SourcesOk, Sees, AskOk}
@@ -35,18 +36,7 @@ use Rattle.kp_synth_stage.specs.inner.Standing as work
 use Rattle.kp_synth_stage.proofs.{Scoping.scope_locals, Expressions.plain_found, Expressions.hinted_found, Expressions.gives_is}
 use Rattle.kp_synth_stage.proofs.Binding.{bound_kept, names_kept}
 use Rattle.kp_synth_stage.proofs.Nearest.{bit_kept, enable_kept, ask_kept, ask_inside, asked_kept, source_kept, sees_kept, orzero_kept}
-use Rattle.kp_synth_stage.proofs.Steps.{slot_width, text_sense, at_value, at_is}
-
-register_plain : (kind : NameKind) → is_register kind ≡ true → address_width kind ≡ 0
-register_plain kinds.Reg e = refl
-register_plain (kinds.File a) e = cc
-register_plain kind e = refl
-
-slot_address : (ss : List Slot) (q : List ℕ) → number_of ss q < length ss → (get_or ss (number_of ss q) no_slot).address ≡ addresses ss q
-slot_address [] q h = absurd (omega arith)
-slot_address (s ∷ ss) q h = by_test (is_same_name q s.name)
-    (λ y. rw y refl)
-    (λ y. let l : suc (number_of ss q) < suc (length ss) = subst (λ b. cond b 0 (suc (number_of ss q)) < suc (length ss)) y h in let r = slot_address ss q (omega arith) in rw y r)
+use Rattle.kp_synth_stage.proofs.Steps.{text_sense, at_value, at_is}
 
 -- an expression that may be left out, and its width
 abbrev pub HasWidths : Job → ℕ → ℕ → ℕ → Option Expr → Type 0
@@ -93,7 +83,7 @@ module _ (job : Job) (unbroken : Unbroken (widths_of job)) (k j : ℕ) (r : Read
 
   asks_of : (o : Option Expr) (kind : NameKind) → cond (is_some o) is_file is_register kind ≡ true → Unbroken (kept o (λ e. address_of (part_of job.decls (length job.decls) s e) (address_width kind)))
       → OptionRight job k j o × Asks job k j (address_width kind) o
-  asks_of None kind t u = (tt, register_plain kind t)
+  asks_of None kind t u = (tt, no_address kind t)
   asks_of (Some e) kind t u =
       let x = bind_unbroken (width_of job.decls (length job.decls) s e) (λ x. wants (x == address_width kind) (e_rule 14 (part_of job.decls (length job.decls) s e).at) passed) u in
       let y = (answer_unbroken ((width_in job k j e).value == address_width kind) (e_rule 14 (part_of job.decls (length job.decls) s e).at) [] x.1).0 in
@@ -122,8 +112,8 @@ module _ (job : Job) (unbroken : Unbroken (widths_of job)) (k j : ℕ) (r : Read
       let e : m ≡ st.value = f.3 in
       let kind = storage_kind (is_some r.address) m.kind f.2 in
       let slot = target_slot m f.1 kind in
-      let wide : (target_at job (target_of job.decls r)).width ≡ st.value.width = slot_width (targets_of job.decls) r.target.name slot.inside ∙ slot.width ∙ ap (λ (v : Sense). v.width) e in
-      let far : (target_at job (target_of job.decls r)).address ≡ address_width st.value.kind = slot_address (targets_of job.decls) r.target.name slot.inside ∙ slot.address ∙ ap (λ (v : Sense). address_width v.kind) e in
+      let wide : (target_at job (target_of job.decls r)).width ≡ st.value.width = width_there r.target.name (targets_of job.decls) slot.inside ∙ slot.width ∙ ap (λ (v : Sense). v.width) e in
+      let far : (target_at job (target_of job.decls r)).address ≡ address_width st.value.kind = address_there r.target.name (targets_of job.decls) slot.inside ∙ slot.address ∙ ap (λ (v : Sense). address_width v.kind) e in
       let asks1 = asks_of r.address st.value.kind (subst (λ (v : Sense). cond (is_some r.address) is_file is_register v.kind ≡ true) e f.2) z.0 in
       let on_ = when_right job k j r.when w.0 in
       let fs = fits_of r.guess st.value.width g in
