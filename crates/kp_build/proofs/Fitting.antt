@@ -1,6 +1,6 @@
 -- Operations at nodes: what follows for the widths of the nodes if they have a value, and the meaning of a node with that value.
 use Rattle.std.proofs.Common.{◌≡◌, ◌∙◌, ℕ, ◌<◌, ◌≤◌, ◌&&◌, ◌||◌, ◌==◌, Bool, true, false, List, Some, length, refl, ap, sym, arith}
-use Rattle.std.proofs.lemmas.Bool.{ltb-true, leb-true, eqb-true}
+use Rattle.std.proofs.lemmas.Bool.{and_parts, ltb-true, leb-true, eqb-true}
 use Rattle.std.specs.Prelude.{is_some, nat_lt, nat_le}
 use Rattle.kp_bits.specs.{Word.Word, Word.IsWord, Operators.is_shift}
 use Rattle.kp_bits.specs.Checked.{where_so, checked_binary, checked_mux, checked_slice, is_extension}
@@ -30,10 +30,6 @@ shown t w q n h k = λ c. so_some (t c) (w c) (h c) ∙ ap Some (sym (k c))
 passes : (t : Cells → Bool) (w : Cells → Word) → IsThere (λ c. where_so (t c) (w c)) → t no_cells ≡ true
 unfolding IsThere
 passes t w h = so_true (t no_cells) (w no_cells) (h no_cells)
-
-both : (a b : Bool) → (a && b) ≡ true → (a ≡ true) × (b ≡ true)
-both true b h = (refl, h)
-both false b h = cc
 
 second : (a b : Bool) → a ≡ false → (a || b) ≡ true → b ≡ true
 second true b h k = cc
@@ -69,13 +65,13 @@ module _ (ns : List Node) where
   pub branches_ok : (t a b : ℕ) → t < length ns → a < length ns → b < length ns → IsThere (λ c. checked_mux (word_at c ns t) (word_at c ns a) (word_at c ns b))
       → (wide ns t ≡ 1) × (wide ns b ≡ wide ns a)
   branches_ok t a b h k l there =
-      let e = both _ _ (passes (λ c. (word_at c ns t).width == 1 && (word_at c ns a).width == (word_at c ns b).width) _ there) in
+      let e = and_parts _ _ (passes (λ c. (word_at c ns t).width == 1 && (word_at c ns a).width == (word_at c ns b).width) _ there) in
       (sym (width_at t h) ∙ eqb-true _ _ e.0, sym (width_at b l) ∙ sym (eqb-true _ _ e.1) ∙ width_at a k)
 
   -- the bits of a slice
   pub bits_ok : (hi lo a : ℕ) → a < length ns → IsThere (λ c. checked_slice hi lo (word_at c ns a)) → (lo ≤ hi) × (hi < wide ns a)
   bits_ok hi lo a h there =
-      let e = both _ _ (passes (λ c. nat_le lo hi && nat_lt hi (word_at c ns a).width) _ there) in
+      let e = and_parts _ _ (passes (λ c. nat_le lo hi && nat_lt hi (word_at c ns a).width) _ there) in
       let w = width_at a h in
       let below : hi < (word_at no_cells ns a).width = ltb-true _ _ e.1 in
       (leb-true _ _ e.0, omega arith)
@@ -83,7 +79,7 @@ module _ (ns : List Node) where
   -- an extension
   pub extension_ok : (width a : ℕ) (w : Cells → Word) → a < length ns → IsThere (λ c. where_so (is_extension width (word_at c ns a)) (w c)) → (wide ns a ≤ width) × (width ≤ 64)
   extension_ok width a w h there =
-      let e = both _ _ (passes (λ c. is_extension width (word_at c ns a)) w there) in
+      let e = and_parts _ _ (passes (λ c. is_extension width (word_at c ns a)) w there) in
       let k = width_at a h in
       let above : (word_at no_cells ns a).width ≤ width = leb-true _ _ e.0 in
       (omega arith, leb-true _ _ e.1)

@@ -1,35 +1,38 @@
--- THE PARTS are those of the job: each register is that of its key, and each file that of its target.
-use Rattle.std.proofs.Common.{◌≡◌, ◌∙◌, ℕ, zero, suc, ◌+◌, ◌-◌, ◌^◌, ◌<◌, ◌≤◌, List, [], ◌∷◌, Option, Some, None, false, All, length, take, drop, get_or, length-append, refl, ap, sym, subst, arith, ⊎_elim}
-use Rattle.std.proofs.lemmas.{Bool.cases_lt, List.get_or_append_left, List.get_or-append_right, List.get_or-drop, List.length-map}
-use Rattle.std.proofs.lemmas.List.{Elements.All-get_or, Elements.All-from_get_or, Sums.sum_by-cons}
-use Rattle.std.specs.{Prelude.codes, Prelude.◌==◌, Prelude.sum_by, List.filter}
+-- THE PARTS are those of the job: each register is that of its key, and each file that of its target. They fit the nodes, and have the names of the job and numbers.
+use Rattle.std.proofs.Common.{◌≡◌, ◌∙◌, ℕ, zero, suc, ◌+◌, ◌-◌, ◌^◌, ◌<◌, ◌≤◌, List, [], ◌∷◌, ◌++◌, map, Option, Some, None, false, All, length, take, drop, get_or, length-append, refl, ap, sym, subst, arith, ⊎_elim}
+use Rattle.std.proofs.lemmas.{Bool.cases_lt, List.get_or_append_left, List.get_or-append_right, List.get_or-drop, List.length-map, List.map-append}
+use Rattle.std.proofs.lemmas.List.{Elements.All-get_or, Elements.All-from_get_or, Elements.All-map, Sums.sum_by-cons}
+use Rattle.std.proofs.Math.Seq.{take-append_seam, drop-append_seam}
+use Rattle.std.specs.{Prelude.codes, Prelude.not, Prelude.◌==◌, Prelude.sum_by, List.filter}
 use Rattle.kp_bits.specs.Word.{Word, IsWord}
 use Rattle.kp_ast.specs.declared.tree.{Decl.Decl, Job.Job}
 use Rattle.kp_ast.specs.declared.tree.Decl.TheVariants as decls
-use Rattle.kp_width.specs.Widths.{widths_of}
+use Rattle.kp_width.specs.{Names.nothing, Widths.widths_of}
 use Rattle.kp_width.proofs.Unbroken.{Unbroken}
 use Rattle.kp_stage.specs.{Counts.files_in, Stages.broken_of, Start.start_of, Start.IsStartOf, declared.start.Start.Start}
 use Rattle.kp_machine.specs.{Slots.Slot, Slots.targets_of, Slots.samples_of, Slots.is_register, Machine.files_before, Machine.hint_starts}
-use Rattle.kp_machine.proofs.Widths.{Fine, job_fine}
-use Rattle.kp_net.specs.declared.{node.Node.Node, node.NodeId.NodeId, netlist.WritePort.WritePort, netlist.NetReg.NetReg, netlist.NetFile.NetFile}
-use Rattle.kp_net.specs.{declared.netlist.Parts.Parts, Growth.Held, Growth.Grown}
-use Rattle.kp_net.specs.Parts.{NodeIs, PortOk, RegOk, WriteOk, FileOk, PartsOk, no_port, no_reg, no_file}
+use Rattle.kp_machine.proofs.{Apart.samples_apart, Text.declared_right, Widths.Fine, Widths.job_fine}
+use Rattle.kp_net.specs.declared.{node.Node.Node, node.NodeId.NodeId, node.Kind.Kind, netlist.Port.Port, netlist.WritePort.WritePort, netlist.NetReg.NetReg, netlist.NetFile.NetFile}
+use Rattle.kp_net.specs.{declared.netlist.Parts.Parts, Growth.Held, Growth.Wire, Widths.no_node}
+use Rattle.kp_net.specs.declared.node.Kind.TheVariants as kinds
+use Rattle.kp_net.specs.Parts.{NodeIs, CellOk, AllCells, PortOk, RegOk, WriteOk, FileOk, PartsOk, no_port, no_reg, no_file}
 use Rattle.kp_net.specs.Netlist.{Net}
+use Rattle.kp_net.specs.Names.{Differ, IsSpelled, is_reg_name, is_file_name, is_sample_name, IsNamed}
 use Rattle.kp_synth_tables.specs.declared.key.Key.{Key}
-use Rattle.kp_synth_tables.specs.declared.key.Key.TheVariants.{Visible, Full, Pipe, Valid, Value, Pending, Guess, Hint}
+use Rattle.kp_synth_tables.specs.declared.key.Key.TheVariants.{Visible, Full, Pipe, Value, Guess, Hint}
 use Rattle.kp_synth_tables.specs.Keys.{target_at, sample_at, HasKey, keys_of, key_at, key_width, key_start}
 use Rattle.kp_synth_tables.specs.Fits.{IsWidth, Fits}
-use Rattle.kp_synth_tables.proofs.{Fitting.fits, Limits.few, Limits.limits, Limits.keys_few, Places.key_had}
-use Rattle.kp_synth_registers.specs.{declared.outcome.Outcome.Outcome, Meaning.CellsFit, Meaning.node_at}
-use Rattle.kp_synth_registers.proofs.Growth.{grown_added}
-use Rattle.kp_synth_close.specs.{declared.control.RowNodes.RowNodes, Nexts.Closes, Nexts.PortFits, Nexts.no_node_id, Control.ShowRow}
-use Rattle.kp_synth_close.specs.{Closed.Starts, Closed.Closed, Shows.files_of, Shows.file_slot, Shows.named_with}
-use Rattle.kp_synth_parts.specs.inner.Assembly.{MadeOf}
-use Rattle.kp_synth_parts.specs.inner.Built.{no_word, reg_count, file_count, visible_regs, other_reg, other_regs, first_start, net_regs, net_files, net_parts, made_net}
+use Rattle.kp_synth_tables.proofs.{Apart.targets_apart, Fitting.fits, Limits.few, Limits.limits, Counting.keys_few, Places.key_had}
+use Rattle.kp_synth_registers.specs.{declared.outcome.Outcome.Outcome, Meaning.CellFits, Meaning.CellsFit, Meaning.node_at}
+use Rattle.kp_synth_close.specs.{declared.control.RowNodes.RowNodes, Nexts.Closes, Nexts.NextIs, Nexts.port_word, Nexts.PortFits, Nexts.no_node_id, Control.ShowRow}
+use Rattle.kp_synth_close.specs.Closed.{Starts, Closed}
+use Rattle.kp_synth_close.specs.Shows.{named_with, reg_slot, file_slot, port_slot, registers_of, files_of, other_names, NamedBy, Shows}
+use Rattle.kp_synth_close.proofs.Whole.{shows_over, words_always, shows_anew, holds_over, holds_anew}
+use Rattle.kp_synth_parts.specs.inner.Built.{no_word, reg_count, file_count, visible_regs, other_reg, other_regs, first_start, net_regs, net_files, net_parts, made_net, SpelledReg, SpelledFile, SpelledPort, Spelled}
 use Rattle.kp_synth_parts.proofs.Numbers.{is_file, register_place, file_number, file_found}
-use Rattle.kp_synth_parts.proofs.Finish.{cells_ok, outputs_ok, closes_ok}
-use Rattle.kp_synth_parts.proofs.Making.{zero_plus, visible_counted, visible_at, others_counted, other_at, port_at, ports_counted, FileIs, file_at, files_counted, files_named}
+use Rattle.kp_synth_parts.proofs.Making.{zero_plus, visible_named, wide, visible_counted, visible_at, others_counted, others_named, other_at, ports_named, port_at, ports_counted, FileIs, file_at, files_counted, files_named}
 use Rattle.kp_synth_parts.proofs.Begins.{hints_fit, first_word, regs_given, files_given, WordsFit, words_given, reg_value, file_word}
+use Rattle.kp_synth_parts.proofs.{Spelled.all_spelled, Named.Own, Named.own_apart, Named.own_from, Named.own_filter, Named.led_name, Named.differ_led, Named.differ_both, Named.names_through}
 use Rattle.kp_synth_parts.proofs.Visible.{is_visible, keys_rest, keys_count, key_seen, key_behind}
 
 -- What the netlist is made of.
@@ -44,48 +47,24 @@ pub record Source (job : Job) (p : Held) (outs : List Outcome) (start : Start) (
   pub shows : ShowRow job p row
   pub cells : CellsFit job p
 
-pub source : (job : Job) (p q : Held) (k : ℕ) (outs : List Outcome) (start : Start) (nexts : List NodeId) (ports : List (Option WritePort)) (row : RowNodes)
-    → Unbroken (widths_of job) → broken_of job ≡ None → start ≡ start_of job → IsStartOf job start → CellsFit job p → Grown p q k
-    → length nexts ≡ length (keys_of job) → length ports ≡ length (targets_of job.decls) → Closes job q outs (node_at nexts) (λ t. get_or ports t None) → ShowRow job q row
-    → Source job q outs start nexts ports row
-source job p q k outs start nexts ports row names stages begins suits cells grown n m closes shows = record {
-  names = names;
-  stages = stages;
-  begins = begins;
-  suits = suits;
-  next_count = n;
-  port_count = m;
-  closes = closes;
-  shows = shows;
-  cells = (grown_added job p q k grown).fits cells;
-}
-
 pub few_decls : (job : Job) → broken_of job ≡ None → length job.decls ≤ 65536
 few_decls job e = let f = few job e in omega (arith, f.decls)
 
 -- the start value of a key that isn't one of a register
 first_is : (job : Job) (start : Start) (key : Key) → is_visible key ≡ false → first_start (hint_starts job.decls) key ≡ key_start job start key
 first_is job start (Visible t) e = cc
-first_is job start (Full k) e = refl
-first_is job start (Pipe x k) e = refl
-first_is job start (Valid t k) e = refl
-first_is job start (Value t k) e = refl
-first_is job start (Pending g k) e = refl
-first_is job start (Guess g k) e = refl
-first_is job start (Hint h) e = refl
+first_is job start _ e = refl
 
 one_wide : IsWidth 1
 one_wide = record { positive = omega arith; at_most = omega arith }
 
 key_wide : (job : Job) (key : Key) → Fits job → HasKey job key → IsWidth (key_width job key)
 key_wide job (Visible t) fit h = fit.targets t h.0
-key_wide job (Full k) fit h = one_wide
 key_wide job (Pipe x k) fit h = fit.pipes x h.0
-key_wide job (Valid t k) fit h = one_wide
 key_wide job (Value t k) fit h = fit.targets t h.0
-key_wide job (Pending g k) fit h = one_wide
 key_wide job (Guess g k) fit h = fit.guess_widths g h.0
 key_wide job (Hint x) fit h = fit.hints x h
+key_wide job _ fit h = one_wide
 
 -- A register that is that of key r.
 record RegIs (job : Job) (start : Start) (nexts : List NodeId) (r : ℕ) (x : NetReg) : Type 0 where
@@ -219,23 +198,6 @@ module _ (job : Job) (p : Held) (outs : List Outcome) (start : Start) (nexts : L
   sample_is : (x : ℕ) → x < length (samples_of job.decls) → (x < length made.samples) × ((get_or made.samples x no_port).width ≡ (sample_at job x).width)
   sample_is x l = let q = port_at job 0 job.decls x l in (q.0, q.1 ∙ ap (λ k. (sample_at job k).width) (zero_plus x))
 
-  pub made_of : MadeOf job (net_parts job start nexts ports row) (node_at nexts) (λ t. get_or ports t None) row
-  made_of = record {
-    ext = refl;
-    reset = refl;
-    reg_count = regs_counted;
-    reg_widths = λ r l. (reg_is r l).width;
-    reg_nexts = λ r l. (reg_is r l).next;
-    files = λ t l e. (file_is t l e).0;
-    file_widths = λ t l e. (file_is t l e).1.0;
-    file_addresses = λ t l e. (file_is t l e).1.1;
-    file_ports = λ t l e. (file_is t l e).1.3;
-    samples = λ x l. sample_is x l;
-    full = refl;
-    ue = refl;
-    back = refl;
-  }
-
   abbrev net : Net
   net = made_net job p start nexts ports row
 
@@ -259,10 +221,28 @@ module _ (job : Job) (p : Held) (outs : List Outcome) (start : Start) (nexts : L
     some = omega (arith, fit.at_least);
     fits = fit;
     guesses = fit.guesses;
-    closes = closes_ok job p net outs (node_at nexts) (λ t. get_or ports t None) row refl made_of s.closes;
-    outputs = outputs_ok job p net outs (node_at nexts) (λ t. get_or ports t None) row refl made_of s.shows;
+    closes = record {
+      says = s.closes.says;
+      wires = λ r l. subst (λ (n : NodeId). Wire p n (key_width job (key_at job r))) (sym (reg_is r l).next) (s.closes.wires r l);
+      next = λ c st i w r l. subst (λ (n : NodeId). NextIs job p outs n c st i (key_at job r)) (sym (reg_is r l).next) (s.closes.next c st i w r l);
+      port_wires = λ t l e. subst (PortFits job p t) (sym (file_is t l e).1.3) (s.closes.port_wires t l e);
+      port = λ c st i w t a l e d. s.closes.port c st i w t a l e d ∙ ap (λ (o : Option WritePort). port_word c p o a (st.visible t a)) (sym (file_is t l e).1.3);
+    };
+    outputs = record { full = s.shows.full_bits; ue = s.shows.ue_bits; back = s.shows.back_value };
     starts = starts;
   }
+
+  -- each cell that a node reads is there
+  cell_ok : (k : ℕ) (kind : Kind) → CellFits job p k kind → CellOk p.nodes made k kind
+  cell_ok k kinds.Ext h = h
+  cell_ok k (kinds.Sample x) h = let q = sample_is x h.0 in (q.0, q.1 ∙ sym h.1)
+  cell_ok k (kinds.Reg r) h = (omega (arith, h.0, regs_counted), (reg_is r h.0).width ∙ sym h.1)
+  cell_ok k (kinds.Word f a) h = let x = file_is h.0 h.1 h.2 in rw h.3 (x.0, x.1.0 ∙ sym h.4, h.5.wide ∙ sym x.1.1)
+  cell_ok k _ h = tt
+
+  cells_ok : AllCells p.nodes made
+  unfolding CellsFit
+  cells_ok = λ i l. cell_ok (get_or p.nodes i no_node).width (get_or p.nodes i no_node).kind (s.cells i l)
 
   -- THE PARTS FIT the nodes.
   reg_ok : (r : ℕ) → r < length made.regs → RegOk p.nodes (get_or made.regs r no_reg)
@@ -280,10 +260,11 @@ module _ (job : Job) (p : Held) (outs : List Outcome) (start : Start) (nexts : L
       x.1.0 x.1.1 x.1.2 x.1.3 (fit.targets t l) (has_address (target_at job t).address e) (fit.addresses t l) w.0 w.1
       (write_ok job p t (get_or ports t None) (s.closes.port_wires t l e))
 
-  pub files_same : length (net_files job start.files ports 0 0 job.decls) ≡ length (files_of job)
-  files_same =
-      let e = ap length (files_named job start.files ports 0 0 job.decls fine (λ i l. ap (target_at job) (zero_plus i))) in
-      omega (arith, e, length-map made.files file_slot, length-map {B = Slot} (files_of job) (named_with (codes "f_")))
+  files_are : map file_slot made.files ≡ map (named_with (codes "f_")) (files_of job)
+  files_are = files_named job start.files ports 0 0 job.decls fine (λ i l. ap (target_at job) (zero_plus i))
+
+  files_same : length (net_files job start.files ports 0 0 job.decls) ≡ length (files_of job)
+  files_same = omega (arith, ap length files_are, length-map made.files file_slot, length-map {B = Slot} (files_of job) (named_with (codes "f_")))
 
   file_ok_at : (f : ℕ) → f < length made.files → FileOk p.nodes (get_or made.files f no_file)
   file_ok_at f l =
@@ -302,13 +283,92 @@ module _ (job : Job) (p : Held) (outs : List Outcome) (start : Start) (nexts : L
     ext_positive = omega (arith, fit.at_least);
     ext_at_most = omega (arith, fit.at_most);
     sample_count = omega (arith, ports_counted job 0 job.decls, (few job s.stages).samples);
-    reg_count = omega (arith, regs_counted, keys_few job (few job s.stages) fit.at_most);
+    reg_count = omega (arith, regs_counted, keys_few job s.stages fit.at_most);
     file_count = omega (arith, files_counted job start.files ports 0 0 job.decls, files_summed job.decls, (limits job s.stages).files);
     samples = All-from_get_or PortOk made.samples no_port port_ok;
     regs = All-from_get_or (RegOk p.nodes) made.regs no_reg reg_ok;
     files = All-from_get_or (FileOk p.nodes) made.files no_file file_ok_at;
-    cells = cells_ok job p made (node_at nexts) (λ t. get_or ports t None) row made_of s.cells;
+    cells = cells_ok;
     full = s.shows.full_wire.inside;
     ue = s.shows.ue_wire.inside;
     back = s.shows.back_wire.inside;
+  }
+
+  -- THE NAMES of the parts
+  front_named : map reg_slot front ≡ map (named_with (codes "r_")) (registers_of job)
+  front_named = visible_named start.regs nexts 0 job.decls fine (wide start.regs nexts 0 job.decls start.regs (λ j. ap (λ k. get_or start.regs k no_word) (zero_plus j)) s.suits.regs)
+
+  front_count : length (registers_of job) ≡ length front
+  front_count = omega (arith, ap length front_named, length-map front reg_slot, length-map (registers_of job) (named_with (codes "r_")))
+
+  back_named : map (λ (r : NetReg). r.name) back ≡ other_names 0 (length back)
+  back_named = others_named job nexts first first 0 (drop first (keys_of job)) (omega arith) ∙ ap (other_names 0) (sym (others_counted job nexts first first (drop first (keys_of job))))
+
+  back_few : length back ≤ 4096
+  back_few = omega (arith, length-append front back, regs_counted, keys_few job s.stages fit.at_most)
+
+  samples_are : map port_slot made.samples ≡ map (named_with (codes "s_")) (samples_of job.decls)
+  samples_are = ports_named job 0 job.decls (λ i l. ap (sample_at job) (zero_plus i))
+
+  named_by : NamedBy net job
+  named_by = record {
+    name = refl;
+    visible = ap (λ k. map reg_slot (take k (front ++ back))) front_count ∙ ap (map reg_slot) (take-append_seam front back) ∙ front_named;
+    others = ap (λ k. map (λ (r : NetReg). r.name) (drop k (front ++ back))) front_count ∙ ap (map (λ (r : NetReg). r.name)) (drop-append_seam front back) ∙ back_named
+        ∙ ap (other_names 0) (omega (arith, length-append front back, front_count));
+    files = files_are;
+    samples = samples_are;
+  }
+
+  -- THE NETLIST SHOWS THE PIPELINE.
+  pub shows : Shows (made_net job p start nexts ports row) job
+  shows = record {
+    names = named_by;
+    ext = refl;
+    full = s.shows.full_wire.wide;
+    ue = s.shows.ue_wire.wide;
+    back = s.shows.back_wire.wide;
+    reset = refl;
+    runs = λ ins q. shows_over job net start outs p closed s.begins ins q;
+    words = λ ins. words_always job net start outs p closed ins;
+    anew = λ st i ins h r q. shows_anew job net start outs p closed s.begins st i ins h r q;
+    holds = λ ins q. holds_over job net start outs p closed s.begins ins q;
+    holds_anew = λ st i ins h r q. holds_anew job net start outs p closed s.begins st i ins h r q;
+  }
+
+  -- and a text can have its names
+  own_targets : Own (targets_of job.decls)
+  own_targets = own_from (targets_of job.decls) (targets_apart job s.names)
+
+  regs_differ : Differ (map (λ (r : NetReg). r.name) (front ++ back))
+  regs_differ =
+      let e : map (λ (r : NetReg). r.name) front ≡ map (led_name 114 95) (registers_of job)
+      = sym (names_through reg_slot front) ∙ ap (map (λ (x : Slot). x.name)) front_named ∙ names_through (named_with (codes "r_")) (registers_of job) in
+      subst Differ (sym (map-append (λ (r : NetReg). r.name) front back ∙ (λ i. e i ++ back_named i)))
+      (differ_both (registers_of job) 0 (length back) (own_filter is_register (targets_of job.decls) own_targets) (omega (arith, back_few)))
+
+  files_differ : Differ (map (λ (f : NetFile). f.name) made.files)
+  files_differ = subst Differ
+      (sym (sym (names_through file_slot made.files) ∙ ap (map (λ (x : Slot). x.name)) files_are ∙ names_through (named_with (codes "f_")) (files_of job)))
+      (differ_led 102 95 (files_of job) (own_filter (λ x. not (is_register x)) (targets_of job.decls) own_targets))
+
+  samples_differ : Differ (map (λ (x : Port). x.name) made.samples)
+  samples_differ = subst Differ
+      (sym (sym (names_through port_slot made.samples) ∙ ap (map (λ (x : Slot). x.name)) samples_are ∙ names_through (named_with (codes "s_")) (samples_of job.decls)))
+      (differ_led 115 95 (samples_of job.decls) (own_apart (samples_of job.decls) (samples_apart job.decls nothing (declared_right job s.names))))
+
+  pub is_named : Spelled (net_parts job start nexts ports row) → IsNamed (made_net job p start nexts ports row)
+  is_named h = record {
+    name = h.name;
+    samples = All-map (IsSpelled is_sample_name) (λ (x : Port). x.name) made.samples (all_spelled SpelledPort _ h.samples);
+    regs = All-map (IsSpelled is_reg_name) (λ (r : NetReg). r.name) (front ++ back) (all_spelled SpelledReg _ h.regs);
+    files = All-map (IsSpelled is_file_name) (λ (f : NetFile). f.name) made.files (all_spelled SpelledFile _ h.files);
+    samples_differ = samples_differ;
+    regs_differ = regs_differ;
+    files_differ = files_differ;
+    at_least = fit.at_least;
+    at_most = fit.at_most;
+    full = s.shows.full_wire.wide;
+    ue = s.shows.ue_wire.wide;
+    back = s.shows.back_wire.wide;
   }

@@ -1,6 +1,6 @@
 -- The start values of the registers and files.
-use Rattle.std.proofs.Common.{◌≡◌, ℕ, zero, suc, ◌+◌, ◌^◌, ◌<◌, ◌≤◌, ◌∙◌, List, [], ◌∷◌, Some, true, false, cond, length, take, get_or, All, refl, ap, sym, subst, arith}
-use Rattle.std.proofs.lemmas.{Bool.ltb-true, Bool.eqb-true, Nat.pow_pos}
+use Rattle.std.proofs.Common.{◌≡◌, ℕ, zero, suc, ◌+◌, ◌^◌, ◌<◌, ◌≤◌, ◌∙◌, List, [], ◌∷◌, true, false, cond, length, take, get_or, All, refl, ap, sym, subst, arith}
+use Rattle.std.proofs.lemmas.{Option.slice_get-get_or, Bool.ltb-true, Bool.eqb-true, Nat.pow_pos}
 use Rattle.std.specs.{Prelude.slice_index, Prelude.slice_get, Prelude.not, Prelude.is_some, Prelude.nat_lt, Prelude.◌==◌, List.filter}
 use Rattle.kp_base.specs.{Refusal.e_rule, Check.ok, Check.wants, Check.◌>>=◌}
 use Rattle.kp_bits.specs.Word.{Word, word, IsWord}
@@ -95,25 +95,20 @@ words_given (decls.File n width address ∷ ds) (w ∷ files) (suc i) f g l e =
     rw (not_zero address.value f.2) more
 words_given (_ ∷ ds) files i f g l e = words_given ds files i f g l e
 
-there : {X : Type 0} (xs : List X) (i : ℕ) (d : X) → i < length xs → slice_get xs i ≡ Some (get_or xs i d)
-there [] i d l = absurd (omega arith)
-there (x ∷ xs) zero d l = refl
-there (x ∷ xs) (suc i) d l = there xs i d (omega (arith, l))
-
 -- the value of a register, and a word of a file
 module _ (job : Job) (start : Start) (t : ℕ) (l : t < length (targets_of job.decls)) where
   pub reg_value : is_register (target_at job t) ≡ true → registers_before (targets_of job.decls) t < length start.regs
       → state_of job start t 0 ≡ (get_or start.regs (registers_before (targets_of job.decls) t) no_word).value
   unfolding state_of
   reg_value e m =
-      ap (λ o. slice_index (target_words (targets_of job.decls) start t o) 0) (there (targets_of job.decls) t no_slot l)
+      ap (λ o. slice_index (target_words (targets_of job.decls) start t o) 0) (slice_get-get_or (targets_of job.decls) t no_slot l)
       ∙ ap (λ b. slice_index (cond b (register_words (slice_get start.regs (registers_before (targets_of job.decls) t))) (file_words (slice_get start.files (files_before (targets_of job.decls) t)))) 0) e
-      ∙ ap (λ o. slice_index (register_words o) 0) (there start.regs (registers_before (targets_of job.decls) t) no_word m)
+      ∙ ap (λ o. slice_index (register_words o) 0) (slice_get-get_or start.regs (registers_before (targets_of job.decls) t) no_word m)
 
   pub file_word : (a : ℕ) → is_register (target_at job t) ≡ false → files_before (targets_of job.decls) t < length start.files
       → state_of job start t a ≡ get_or (get_or start.files (files_before (targets_of job.decls) t) []) a 0
   unfolding state_of
   file_word a e m =
-      ap (λ o. slice_index (target_words (targets_of job.decls) start t o) a) (there (targets_of job.decls) t no_slot l)
+      ap (λ o. slice_index (target_words (targets_of job.decls) start t o) a) (slice_get-get_or (targets_of job.decls) t no_slot l)
       ∙ ap (λ b. slice_index (cond b (register_words (slice_get start.regs (registers_before (targets_of job.decls) t))) (file_words (slice_get start.files (files_before (targets_of job.decls) t)))) a) e
-      ∙ ap (λ o. slice_index (file_words o) a) (there start.files (files_before (targets_of job.decls) t) [] m)
+      ∙ ap (λ o. slice_index (file_words o) a) (slice_get-get_or start.files (files_before (targets_of job.decls) t) [] m)

@@ -3,6 +3,5 @@ pub mod Numbers
 pub mod Making
 pub mod Begins
 pub mod Visible
-pub mod Finish
 pub mod Assembled
 pub mod Named

@@ -1,5 +1,5 @@
 -- The registers and files that are made have the names, the widths and the words of the job.
-use Rattle.std.proofs.Common.{◌≡◌, ◌∙◌, ℕ, zero, suc, ◌+◌, ◌-◌, ◌<◌, ◌≤◌, List, [], ◌∷◌, ◌++◌, map, Option, None, true, false, length, take, drop, get_or, append_assoc, refl, ap, sym, subst, arith}
+use Rattle.std.proofs.Common.{◌≡◌, ◌∙◌, ℕ, zero, suc, ◌+◌, ◌-◌, ◌<◌, ◌≤◌, List, [], ◌∷◌, ◌++◌, map, Option, None, false, length, take, drop, get_or, append_assoc, refl, ap, sym, subst, arith}
 use Rattle.std.proofs.{Math.Dec.eqb-suc-zero, lemmas.List.drop_more}
 use Rattle.std.specs.{Prelude.codes, Prelude.decimal, Prelude.◌==◌, List.filter}
 use Rattle.kp_bits.specs.Word.{Word}
@@ -22,13 +22,7 @@ pub not_zero : (a : ℕ) → 1 ≤ a → (a == 0) ≡ false
 not_zero zero h = absurd (omega arith)
 not_zero (suc a) h = eqb-suc-zero a
 
--- a file is one, and a register is none
-register_kept : (s : Slot) (ss : List Slot) → is_register s ≡ true → filter is_register (s ∷ ss) ≡ s ∷ filter is_register ss
-register_kept s ss e = rw e refl
-
-register_left : (s : Slot) (ss : List Slot) → is_register s ≡ true → filter is_file (s ∷ ss) ≡ filter is_file ss
-register_left s ss e = rw e refl
-
+-- a file among the slots
 file_kept : (s : Slot) (ss : List Slot) → is_register s ≡ false → filter is_file (s ∷ ss) ≡ s ∷ filter is_file ss
 file_kept s ss e = rw e refl
 
@@ -53,21 +47,12 @@ module _ (starts : List Word) (nexts : List NodeId) where
   visible_named i (decls.File n width address ∷ ds) f w =
       visible_named i ds f.3 w
       ∙ ap (map (named_with (codes "r_"))) (sym (file_left (slot n width address.value) (targets_of ds) (not_zero address.value f.2)))
-  visible_named i (decls.Pipe n width ∷ ds) f w = visible_named i ds f w
-  visible_named i (decls.Hint n width start ∷ ds) f w = visible_named i ds f w
-  visible_named i (decls.Target r ∷ ds) f w = visible_named i ds f w
-  visible_named i (decls.Func r ∷ ds) f w = visible_named i ds f w
-  visible_named i (decls.Sample n width stage ∷ ds) f w = visible_named i ds f w
+  visible_named i (_ ∷ ds) f w = visible_named i ds f w
 
   pub visible_counted : (i : ℕ) (ds : List Decl) → length (visible_regs starts nexts i ds) ≡ reg_count ds
   visible_counted i [] = refl
   visible_counted i (decls.Reg n width start ∷ ds) = ap suc (visible_counted (i + 1) ds)
-  visible_counted i (decls.File n width address ∷ ds) = visible_counted i ds
-  visible_counted i (decls.Pipe n width ∷ ds) = visible_counted i ds
-  visible_counted i (decls.Hint n width start ∷ ds) = visible_counted i ds
-  visible_counted i (decls.Target r ∷ ds) = visible_counted i ds
-  visible_counted i (decls.Func r ∷ ds) = visible_counted i ds
-  visible_counted i (decls.Sample n width stage ∷ ds) = visible_counted i ds
+  visible_counted i (_ ∷ ds) = visible_counted i ds
 
   -- the register of number j has its start value and its next node
   pub visible_at : (i : ℕ) (ds : List Decl) (j : ℕ) → j < reg_count ds
@@ -78,12 +63,7 @@ module _ (starts : List Word) (nexts : List NodeId) where
       let more = visible_at (i + 1) ds j (omega (arith, l)) in
       let z : (i + 1) + j ≡ i + suc j = omega arith in
       (more.0 ∙ ap (λ k. get_or starts k no_word) z, more.1 ∙ ap (λ k. get_or nexts k no_node_id) z)
-  visible_at i (decls.File n width address ∷ ds) j l = visible_at i ds j l
-  visible_at i (decls.Pipe n width ∷ ds) j l = visible_at i ds j l
-  visible_at i (decls.Hint n width start ∷ ds) j l = visible_at i ds j l
-  visible_at i (decls.Target r ∷ ds) j l = visible_at i ds j l
-  visible_at i (decls.Func r ∷ ds) j l = visible_at i ds j l
-  visible_at i (decls.Sample n width stage ∷ ds) j l = visible_at i ds j l
+  visible_at i (_ ∷ ds) j l = visible_at i ds j l
 
   -- so they are if each register of the job has its start value
   pub wide : (i : ℕ) (ds : List Decl) (values : List Word) → ((j : ℕ) → get_or starts (i + j) no_word ≡ get_or values j no_word) → AreRegs ds values → Wide i ds
@@ -166,11 +146,7 @@ module _ (job : Job) (words : List (List ℕ)) (ports : List (Option WritePort))
       let more = files_named (t + 1) (f + 1) ds g.3 (λ i l. let y : (t + 1) + i ≡ t + suc i = omega arith in ap (target_at job) y ∙ is (suc i) (omega (arith, l))) in
       (λ j. record { name = codes "f_" ++ n.name; width = (here j).width; address = (here j).address } ∷ more j)
       ∙ ap (map (named_with (codes "f_"))) (sym (file_kept s (targets_of ds) (not_zero address.value g.2)))
-  files_named t f (decls.Pipe n width ∷ ds) g is = files_named t f ds g is
-  files_named t f (decls.Hint n width start ∷ ds) g is = files_named t f ds g is
-  files_named t f (decls.Target r ∷ ds) g is = files_named t f ds g is
-  files_named t f (decls.Func r ∷ ds) g is = files_named t f ds g is
-  files_named t f (decls.Sample n width stage ∷ ds) g is = files_named t f ds g is
+  files_named t f (_ ∷ ds) g is = files_named t f ds g is
 
   abbrev pub FileIs : ℕ → ℕ → NetFile → Type 0
   FileIs t f x = (x.width ≡ (target_at job t).width) × (x.address_width ≡ (target_at job t).address) × (x.words ≡ get_or words f []) × (x.port ≡ get_or ports t None)
@@ -201,11 +177,7 @@ module _ (job : Job) (words : List (List ℕ)) (ports : List (Option WritePort))
       let all = net_files job words ports t f (decls.File n width address ∷ ds) in
       subst (λ m. (m < length all) × FileIs (t + suc i) (f + m) (get_or all m no_file)) (sym count)
       (omega (arith, more.0), subst (λ k. FileIs k (f + suc (before (targets_of ds) i)) x) z (subst (λ k. FileIs ((t + 1) + i) k x) y more.1))
-  file_at t f (decls.Pipe n width ∷ ds) g i l e = file_at t f ds g i l e
-  file_at t f (decls.Hint n width start ∷ ds) g i l e = file_at t f ds g i l e
-  file_at t f (decls.Target r ∷ ds) g i l e = file_at t f ds g i l e
-  file_at t f (decls.Func r ∷ ds) g i l e = file_at t f ds g i l e
-  file_at t f (decls.Sample n width stage ∷ ds) g i l e = file_at t f ds g i l e
+  file_at t f (_ ∷ ds) g i l e = file_at t f ds g i l e
 
   pub files_counted : (t f : ℕ) (ds : List Decl) → length (net_files job words ports t f ds) ≡ file_count ds
   files_counted t f [] = refl

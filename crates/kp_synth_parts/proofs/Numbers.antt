@@ -1,7 +1,8 @@
 -- The numbers of registers and files.
-use Rattle.std.proofs.Common.{◌≡◌, ◌∙◌, ℕ, zero, suc, ◌+◌, ◌<◌, ◌≤◌, Bool, true, false, cond, not, List, [], ◌∷◌, ◌++◌, take, length, get_or, refl, ap, subst, arith, ⊎_elim}
-use Rattle.std.proofs.lemmas.Bool.{cases_Bool, eq-eqb, eqb-true, false_from_ne_true}
+use Rattle.std.proofs.Common.{◌≡◌, ◌∙◌, ℕ, zero, suc, ◌+◌, ◌<◌, ◌≤◌, Bool, true, false, cond, not, List, [], ◌∷◌, ◌++◌, take, length, get_or, refl, ap, subst, arith}
+use Rattle.std.proofs.lemmas.Bool.{eq-eqb, eqb-true, false_from_ne_true}
 use Rattle.std.specs.{List.filter, Prelude.◌==◌}
+use Rattle.kp_machine.proofs.Cases.{by_test}
 use Rattle.kp_ast.specs.declared.tree.Job.{Job}
 use Rattle.kp_machine.specs.{Slots.Slot, Slots.targets_of, Slots.hints_of, Slots.is_register, Machine.registers_before, Machine.files_before}
 use Rattle.kp_synth_tables.specs.declared.key.Key.{Key, TheVariants.Visible}
@@ -22,10 +23,7 @@ place_visible (s ∷ ss) rest n zero t l r e =
 place_visible (s ∷ ss) rest n (suc i) t l r e =
     let more = place_visible ss rest (suc n) i t (omega arith) r (omega arith) in
     let q : (t == n) ≡ false = false_from_ne_true (t == n) (λ y. let z = eqb-true t n y in absurd (omega (arith, z, e))) in
-    ⊎_elim
-    (λ (b : is_register s ≡ true). rw (b, q) (ap suc more))
-    (λ (b : is_register s ≡ false). rw b more)
-    (cases_Bool (is_register s))
+    by_test (is_register s) (λ b. rw (b, q) (ap suc more)) (λ b. rw b more)
 
 pub register_place : (job : Job) (t : ℕ) → t < length (targets_of job.decls) → is_register (target_at job t) ≡ true → place_of job (Visible t) ≡ registers_before (targets_of job.decls) t
 unfolding place_of keys_of
@@ -37,10 +35,7 @@ both_kinds ss zero l = refl
 both_kinds [] (suc t) l = absurd (omega arith)
 both_kinds (s ∷ ss) (suc t) l =
     let more = both_kinds ss t (omega arith) in
-    ⊎_elim
-    (λ (b : is_register s ≡ true). rw b (omega (arith, more)))
-    (λ (b : is_register s ≡ false). rw b (omega (arith, more)))
-    (cases_Bool (is_register s))
+    by_test (is_register s) (λ b. rw b (omega (arith, more))) (λ b. rw b (omega (arith, more)))
 
 pub file_number : (ss : List Slot) (t : ℕ) → t ≤ length ss → files_before ss t ≡ length (filter is_file (take t ss))
 file_number ss t l = let a = both_kinds ss t l in omega (arith, a)
@@ -66,10 +61,7 @@ file_more s ss (suc g) b l more =
 
 found_in : (ss : List Slot) (f : ℕ) → f < length (filter is_file ss) → (t : ℕ) × FoundAt ss f t
 found_in [] f l = absurd (omega arith)
-found_in (s ∷ ss) f l = ⊎_elim
-    (λ (b : is_register s ≡ true). register_more s ss f b l (found_in ss f))
-    (λ (b : is_register s ≡ false). file_more s ss f b l (found_in ss))
-    (cases_Bool (is_register s))
+found_in (s ∷ ss) f l = by_test (is_register s) (λ b. register_more s ss f b l (found_in ss f)) (λ b. file_more s ss f b l (found_in ss))
 
 pub file_found : (job : Job) (f : ℕ) → f < length (files_of job)
     → (t : ℕ) × (t < length (targets_of job.decls)) × (is_register (target_at job t) ≡ false) × (files_before (targets_of job.decls) t ≡ f)

@@ -1,13 +1,14 @@
 -- The names of parts are valid in a text.
-use Rattle.std.proofs.Common.{◌≡◌, ℕ, zero, suc, ◌+◌, ◌^◌, ◌<◌, ◌%◌, List, [], ◌∷◌, ◌++◌, All, true, length, refl, subst, sym, arith}
+use Rattle.std.proofs.Common.{◌≡◌, ℕ, Bool, ◌&&◌, ◌==◌, ◌+◌, ◌^◌, ◌<◌, ◌%◌, List, [], ◌∷◌, ◌++◌, All, true, length, refl, subst, sym, arith}
 use Rattle.std.proofs.lemmas.List.Elements.{All-nil, All-cons, All-push, All-weaker}
+use Rattle.std.proofs.lemmas.Bool.{le-leb, or_left, or_right}
 use Rattle.std.proofs.lemmas.Fmt.{decimal_by_steps, length-decimal-le, decimal_nonempty}
 use Rattle.std.specs.Prelude.{decimal}
-use Rattle.kp_base.specs.Characters.{is_word}
+use Rattle.kp_base.specs.Characters.{is_word, is_letter, is_digit}
 use Rattle.kp_ast.specs.Name.{IsName}
 use Rattle.kp_net.specs.declared.netlist.{Port.Port, NetReg.NetReg, NetFile.NetFile}
 use Rattle.kp_net.specs.Names.{IsSpelled, is_in_identifier, is_module_name, is_reg_name, is_file_name, is_sample_name}
-use Rattle.kp_synth_parts.specs.inner.Built.{SpelledReg, SpelledFile, SpelledPort, RegsSpelled, FilesSpelled, PortsSpelled}
+use Rattle.kp_synth_parts.specs.inner.Built.{SpelledReg, SpelledFile, SpelledPort, AllSpelled}
 
 abbrev Passes : ℕ → Type 0
 Passes b = is_in_identifier b ≡ true
@@ -23,31 +24,16 @@ led letter name e n =
 pub module_spelled : (name : List ℕ) → IsName name → IsSpelled is_module_name (109 ∷ 95 ∷ name)
 module_spelled name n = record { kind = refl; bytes = led 109 name refl n; short = omega (arith, n.within) }
 
-reg_spelled : (name : List ℕ) → IsName name → IsSpelled is_reg_name (114 ∷ 95 ∷ name)
-reg_spelled [] n = absurd (omega (arith, n.not_empty))
-reg_spelled (c ∷ cs) n = record { kind = refl; bytes = led 114 (c ∷ cs) refl n; short = omega (arith, n.within) }
-
-file_spelled : (name : List ℕ) → IsName name → IsSpelled is_file_name (102 ∷ 95 ∷ name)
-file_spelled [] n = absurd (omega (arith, n.not_empty))
-file_spelled (c ∷ cs) n = record { kind = refl; bytes = led 102 (c ∷ cs) refl n; short = omega (arith, n.within) }
-
-sample_spelled : (name : List ℕ) → IsName name → IsSpelled is_sample_name (115 ∷ 95 ∷ name)
-sample_spelled [] n = absurd (omega (arith, n.not_empty))
-sample_spelled (c ∷ cs) n = record { kind = refl; bytes = led 115 (c ∷ cs) refl n; short = omega (arith, n.within) }
+led_spelled : (letter : ℕ) (kind : List ℕ → Bool) → Passes letter → ((c : ℕ) (cs : List ℕ) → kind (letter ∷ 95 ∷ c ∷ cs) ≡ true) → (name : List ℕ) → IsName name → IsSpelled kind (letter ∷ 95 ∷ name)
+led_spelled letter kind e is [] n = absurd (omega (arith, n.not_empty))
+led_spelled letter kind e is (c ∷ cs) n = record { kind = is c cs; bytes = led letter (c ∷ cs) e n; short = omega (arith, n.within) }
 
 -- `q_` and a number
 digit_passes : (d : ℕ) → d < 10 → Passes (48 + d)
-digit_passes zero h = refl
-digit_passes (suc zero) h = refl
-digit_passes (suc (suc zero)) h = refl
-digit_passes (suc (suc (suc zero))) h = refl
-digit_passes (suc (suc (suc (suc zero)))) h = refl
-digit_passes (suc (suc (suc (suc (suc zero))))) h = refl
-digit_passes (suc (suc (suc (suc (suc (suc zero)))))) h = refl
-digit_passes (suc (suc (suc (suc (suc (suc (suc zero))))))) h = refl
-digit_passes (suc (suc (suc (suc (suc (suc (suc (suc zero)))))))) h = refl
-digit_passes (suc (suc (suc (suc (suc (suc (suc (suc (suc zero))))))))) h = refl
-digit_passes (suc (suc (suc (suc (suc (suc (suc (suc (suc (suc d)))))))))) h = absurd (omega arith)
+digit_passes d h =
+    let low = le-leb 48 (48 + d) (omega arith) in
+    let high = le-leb (48 + d) 57 (omega arith) in
+    or_left (is_word (48 + d)) ((48 + d) == 36) (or_right (is_letter (48 + d)) (is_digit (48 + d)) (λ i. low i && high i))
 
 digits_pass : (n : ℕ) → n < 2 ^ 64 → All Passes (decimal n)
 digits_pass = decimal_by_steps (λ n ds. All Passes ds)
@@ -66,41 +52,23 @@ numbered_spelled n l = record {
 }
 
 -- no part, and one more
-pub no_regs : (regs : List NetReg) → regs ≡ [] → RegsSpelled regs
-unfolding RegsSpelled
-no_regs regs e = subst (All SpelledReg) (sym e) (All-nil SpelledReg)
+pub none_spelled : {X : Type 0} (P : X → Type 0) (xs : List X) → xs ≡ [] → AllSpelled P xs
+unfolding AllSpelled
+none_spelled P xs e = subst (All P) (sym e) (All-nil P)
 
-pub no_files : (files : List NetFile) → files ≡ [] → FilesSpelled files
-unfolding FilesSpelled
-no_files files e = subst (All SpelledFile) (sym e) (All-nil SpelledFile)
+pub one_spelled : {X : Type 0} (P : X → Type 0) (xs : List X) (x : X) → AllSpelled P xs → P x → AllSpelled P (xs ++ x ∷ [])
+unfolding AllSpelled
+one_spelled P xs x all s = All-push P xs x all s
 
-pub no_ports : (ports : List Port) → ports ≡ [] → PortsSpelled ports
-unfolding PortsSpelled
-no_ports ports e = subst (All SpelledPort) (sym e) (All-nil SpelledPort)
+pub reg_more : (regs : List NetReg) (r : NetReg) (name : List ℕ) → AllSpelled SpelledReg regs → IsName name → r.name ≡ 114 ∷ 95 ∷ name → AllSpelled SpelledReg (regs ++ r ∷ [])
+reg_more regs r name all n e = one_spelled SpelledReg regs r all (subst (IsSpelled is_reg_name) (sym e) (led_spelled 114 is_reg_name refl (λ c cs. refl) name n))
 
-pub reg_added : (regs : List NetReg) (r : NetReg) → RegsSpelled regs → SpelledReg r → RegsSpelled (regs ++ r ∷ [])
-unfolding RegsSpelled
-reg_added regs r all s = All-push SpelledReg regs r all s
+pub file_more : (files : List NetFile) (f : NetFile) (name : List ℕ) → AllSpelled SpelledFile files → IsName name → f.name ≡ 102 ∷ 95 ∷ name → AllSpelled SpelledFile (files ++ f ∷ [])
+file_more files f name all n e = one_spelled SpelledFile files f all (subst (IsSpelled is_file_name) (sym e) (led_spelled 102 is_file_name refl (λ c cs. refl) name n))
 
-pub reg_more : (regs : List NetReg) (r : NetReg) (name : List ℕ) → RegsSpelled regs → IsName name → r.name ≡ 114 ∷ 95 ∷ name → RegsSpelled (regs ++ r ∷ [])
-reg_more regs r name all n e = reg_added regs r all (subst (IsSpelled is_reg_name) (sym e) (reg_spelled name n))
+pub port_more : (ports : List Port) (s : Port) (name : List ℕ) → AllSpelled SpelledPort ports → IsName name → s.name ≡ 115 ∷ 95 ∷ name → AllSpelled SpelledPort (ports ++ s ∷ [])
+port_more ports s name all n e = one_spelled SpelledPort ports s all (subst (IsSpelled is_sample_name) (sym e) (led_spelled 115 is_sample_name refl (λ c cs. refl) name n))
 
-pub file_more : (files : List NetFile) (f : NetFile) (name : List ℕ) → FilesSpelled files → IsName name → f.name ≡ 102 ∷ 95 ∷ name → FilesSpelled (files ++ f ∷ [])
-unfolding FilesSpelled
-file_more files f name all n e = All-push SpelledFile files f all (subst (IsSpelled is_file_name) (sym e) (file_spelled name n))
-
-pub port_more : (ports : List Port) (s : Port) (name : List ℕ) → PortsSpelled ports → IsName name → s.name ≡ 115 ∷ 95 ∷ name → PortsSpelled (ports ++ s ∷ [])
-unfolding PortsSpelled
-port_more ports s name all n e = All-push SpelledPort ports s all (subst (IsSpelled is_sample_name) (sym e) (sample_spelled name n))
-
-pub regs_all : (regs : List NetReg) → RegsSpelled regs → All SpelledReg regs
-unfolding RegsSpelled
-regs_all regs h = h
-
-pub files_all : (files : List NetFile) → FilesSpelled files → All SpelledFile files
-unfolding FilesSpelled
-files_all files h = h
-
-pub ports_all : (ports : List Port) → PortsSpelled ports → All SpelledPort ports
-unfolding PortsSpelled
-ports_all ports h = h
+pub all_spelled : {X : Type 0} (P : X → Type 0) (xs : List X) → AllSpelled P xs → All P xs
+unfolding AllSpelled
+all_spelled P xs h = h

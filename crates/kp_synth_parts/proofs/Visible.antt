@@ -1,5 +1,5 @@
 -- THE KEYS of a job: those of its registers come first, in the order of declaration, and no other key is one of a register.
-use Rattle.std.proofs.Common.{◌≡◌, ◌∙◌, ℕ, zero, suc, ◌+◌, ◌<◌, List, [], ◌∷◌, ◌++◌, Bool, true, false, cond, drop, length, get_or, length-append, refl, ap, sym, subst, arith}
+use Rattle.std.proofs.Common.{◌≡◌, ◌∙◌, ℕ, zero, suc, ◌+◌, ◌<◌, List, [], ◌∷◌, ◌++◌, Bool, true, false, drop, length, get_or, length-append, refl, ap, sym, subst, arith}
 use Rattle.std.proofs.{Math.Seq.drop-append_seam, lemmas.List.get_or_append_left}
 use Rattle.kp_bits.specs.Word.{Word, IsWord}
 use Rattle.kp_ast.specs.declared.tree.{Decl.Decl, Job.Job}
@@ -7,10 +7,12 @@ use Rattle.kp_ast.specs.declared.tree.Decl.TheVariants as decls
 use Rattle.kp_stage.specs.Start.{AreRegs}
 use Rattle.kp_machine.specs.{Slots.Slot, Slots.targets_of, Slots.pipes_of, Slots.hints_of, Slots.is_register, Machine.registers_before}
 use Rattle.kp_machine.proofs.Widths.{Fine}
-use Rattle.kp_synth_tables.specs.Keys.{no_slot, piped_at, is_stored, is_carried, guesses_of, visible_keys, pipe_keys, result_keys, guess_keys, stage_keys, stages_keys, later_keys, hint_keys, keys_of, key_at}
+use Rattle.kp_synth_tables.specs.Keys.{no_slot, no_guess, guesses_of, visible_keys, pipe_keys, result_keys, stage_keys, stages_keys, later_keys, hint_keys, keys_of, key_at}
 use Rattle.kp_synth_tables.specs.declared.key.Key.{Key}
-use Rattle.kp_synth_tables.specs.declared.key.Key.TheVariants.{Visible, Full, Pipe, Valid, Value, Pending, Guess}
-use Rattle.kp_synth_tables.specs.declared.key.GuessSlot.{GuessSlot}
+use Rattle.kp_synth_tables.specs.declared.key.Key.TheVariants.{Visible, Full}
+use Rattle.std.specs.List.{AllByRecursion}
+use Rattle.kp_synth_tables.proofs.Fitting.{all_at}
+use Rattle.kp_synth_tables.proofs.Listed.{pipes, results, guesses, hints, each_both, each}
 use Rattle.kp_synth_parts.specs.inner.Built.{no_word, reg_count}
 use Rattle.kp_synth_parts.proofs.Making.{not_zero}
 
@@ -61,51 +63,24 @@ abbrev pub is_visible : Key → Bool
 is_visible (Visible t) = true
 is_visible _ = false
 
-abbrev pub NoneVisible : List Key → Type 0
-NoneVisible [] = Unit {0}
-NoneVisible (x ∷ xs) = (is_visible x ≡ false) × NoneVisible xs
+abbrev Hidden : Key → Type 0
+Hidden key = is_visible key ≡ false
 
-none_both : (xs ys : List Key) → NoneVisible xs → NoneVisible ys → NoneVisible (xs ++ ys)
-none_both [] ys a b = b
-none_both (x ∷ xs) ys a b = (a.0, none_both xs ys a.1 b)
-
-none_cond : (b : Bool) (xs ys : List Key) → NoneVisible xs → NoneVisible ys → NoneVisible (cond b xs ys)
-none_cond true xs ys a c = a
-none_cond false xs ys a c = c
-
-pipes_none : (job : Job) (k x : ℕ) (ss : List Slot) → NoneVisible (pipe_keys job k x ss)
-pipes_none job k x [] = tt
-pipes_none job k x (s ∷ ss) =
-    let more = pipes_none job k (suc x) ss in
-    none_cond (piped_at job s.name k) (Pipe x k ∷ pipe_keys job k (suc x) ss) (pipe_keys job k (suc x) ss) (refl, more) more
-
-results_none : (job : Job) (k t : ℕ) (ss : List Slot) → NoneVisible (result_keys job k t ss)
-results_none job k t [] = tt
-results_none job k t (s ∷ ss) =
-    let more = results_none job k (suc t) ss in
-    none_cond (is_stored job t k) (Valid t k ∷ Value t k ∷ result_keys job k (suc t) ss) (result_keys job k (suc t) ss) (refl, (refl, more)) more
-
-guesses_none : (k g : ℕ) (ss : List GuessSlot) → NoneVisible (guess_keys k g ss)
-guesses_none k g [] = tt
-guesses_none k g (s ∷ ss) =
-    let more = guesses_none k (suc g) ss in
-    none_cond (is_carried s k) (Pending g k ∷ Guess g k ∷ guess_keys k (suc g) ss) (guess_keys k (suc g) ss) (refl, (refl, more)) more
-
-hints_none : (h : ℕ) (ss : List Slot) → NoneVisible (hint_keys h ss)
-hints_none h [] = tt
-hints_none h (s ∷ ss) = (refl, hints_none (suc h) ss)
+abbrev NoneVisible : List Key → Type 0
+NoneVisible keys = AllByRecursion Hidden keys
 
 module _ (job : Job) where
   stage_none : (k : ℕ) → NoneVisible (stage_keys job k)
   stage_none k = (
     refl,
-    none_both (pipe_keys job k 0 (pipes_of job.decls)) _ (pipes_none job k 0 (pipes_of job.decls))
-        (none_both (result_keys job k 0 (targets_of job.decls)) _ (results_none job k 0 (targets_of job.decls)) (guesses_none k 0 (guesses_of job))),
+    each_both Hidden (pipe_keys job k 0 (pipes_of job.decls)) _ (each (pipes job k) Hidden (pipes_of job.decls) no_slot (λ x l t. (refl, tt)))
+        (each_both Hidden (result_keys job k 0 (targets_of job.decls)) _ (each (results job k) Hidden (targets_of job.decls) no_slot (λ x l t. (refl, (refl, tt))))
+        (each (guesses k) Hidden (guesses_of job) no_guess (λ x l t. (refl, (refl, tt))))),
   )
 
   stages_none : (d k : ℕ) → NoneVisible (stages_keys job d k)
   stages_none zero k = tt
-  stages_none (suc d) k = none_both (stage_keys job k) _ (stage_none k) (stages_none d (suc k))
+  stages_none (suc d) k = each_both Hidden (stage_keys job k) _ (stage_none k) (stages_none d (suc k))
 
   later_none : (n : ℕ) → NoneVisible (later_keys job n)
   later_none zero = tt
@@ -115,7 +90,7 @@ module _ (job : Job) where
   rest_of = later_keys job job.stages.value ++ hint_keys 0 (hints_of job.decls)
 
   pub rest_none : NoneVisible rest_of
-  rest_none = none_both (later_keys job job.stages.value) _ (later_none job.stages.value) (hints_none 0 (hints_of job.decls))
+  rest_none = each_both Hidden (later_keys job job.stages.value) _ (later_none job.stages.value) (each hints Hidden (hints_of job.decls) no_slot (λ x l t. (refl, tt)))
 
   -- the list of keys, at the number of the registers
   pub keys_rest : Fine job.decls → drop (reg_count job.decls) (keys_of job) ≡ rest_of
@@ -132,11 +107,6 @@ module _ (job : Job) where
       let c = visible_count 0 job.decls f in
       subst (Seen (targets_of job.decls) starts 0 j) (sym (get_or_append_left (visible_keys 0 (targets_of job.decls)) rest_of (Full 0) j (omega (arith, c, l)))) (seen job.decls starts 0 j f r l)
 
-none_at : (keys : List Key) (j : ℕ) → NoneVisible keys → j < length keys → is_visible (get_or keys j (Full 0)) ≡ false
-none_at [] j n l = absurd (omega arith)
-none_at (x ∷ xs) zero n l = n.0
-none_at (x ∷ xs) (suc j) n l = none_at xs j n.1 (omega (arith, l))
-
 -- a key after those of the registers
 pub key_behind : (job : Job) (j : ℕ) → Fine job.decls → j < length (rest_of job) → is_visible (get_or (rest_of job) j (Full 0)) ≡ false
-key_behind job j f l = none_at (rest_of job) j (rest_none job) l
+key_behind job j f l = all_at Hidden (rest_of job) (Full 0) (rest_none job) j l

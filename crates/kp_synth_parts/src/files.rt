@@ -1,7 +1,7 @@
 //! The files, and the ports of the samples.
 ghost use Rattle.std.specs.Prelude.{◌≡◌, ◌≤◌, length, IfOk};
 ghost use Rattle.kp_machine.specs.Slots.{targets_of, samples_of};
-ghost use Rattle.kp_synth_parts.specs.inner.Built.{file_count, net_files, net_ports, FilesSpelled, PortsSpelled};
+ghost use Rattle.kp_synth_parts.specs.inner.Built.{file_count, net_files, net_ports, AllSpelled, SpelledFile, AllSpelled, SpelledPort};
 
 use crate::labels::label;
 use kp_ast::Decl;
@@ -28,7 +28,7 @@ pub(crate) fn files(
     requires ports { length (targets_of layout.now.decls) ≤ length ports.now }
     requires few { length layout.now.decls ≤ 65536 }
     ensures files { IfOk result (λ files. files.items ≡ net_files layout.now words.now ports.now 0 0 layout.now.decls) }
-    ensures spelled { IfOk result (λ files. FilesSpelled files.items) }
+    ensures spelled { IfOk result (λ files. AllSpelled SpelledFile files.items) }
 {
     let mut files = Vec::new(alloc);
     let mut t = 0u32;
@@ -58,7 +58,7 @@ pub(crate) fn files(
 pub(crate) fn sample_ports(alloc: Global, layout: &Layout<'_>) -> Result<Vec<Port>, NoMemory>
     requires few { length layout.now.decls ≤ 65536 }
     ensures ports { IfOk result (λ ports. ports.items ≡ net_ports layout.now 0 layout.now.decls) }
-    ensures spelled { IfOk result (λ ports. PortsSpelled ports.items) }
+    ensures spelled { IfOk result (λ ports. AllSpelled SpelledPort ports.items) }
 {
     let mut ports = Vec::new(alloc);
     let mut x = 0u32;

@@ -5,7 +5,7 @@ ghost use Rattle.kp_machine.specs.Machine.{hint_starts};
 ghost use Rattle.kp_net.specs.Growth.{Wire};
 ghost use Rattle.kp_synth_tables.specs.Keys.{HasKey, key_at, key_width, keys_of};
 ghost use Rattle.kp_synth_registers.specs.Meaning.{node_at};
-ghost use Rattle.kp_synth_parts.specs.inner.Built.{reg_count, visible_regs, first_start, other_reg, other_regs, net_regs, FirstsFit, SpelledReg, RegsSpelled};
+ghost use Rattle.kp_synth_parts.specs.inner.Built.{reg_count, visible_regs, first_start, other_reg, other_regs, net_regs, FirstsFit, SpelledReg, AllSpelled, SpelledReg};
 
 use crate::labels::{label, numbered};
 use kp_ast::Decl;
@@ -25,7 +25,7 @@ fn visible(
     requires starts { reg_count decls.now ≤ length starts.now }
     requires nexts { reg_count decls.now ≤ length nexts.now }
     ensures regs { IfOk result (λ regs. regs.items ≡ visible_regs starts.now nexts.now 0 decls.now) }
-    ensures spelled { IfOk result (λ regs. RegsSpelled regs.items) }
+    ensures spelled { IfOk result (λ regs. AllSpelled SpelledReg regs.items) }
 {
     let mut regs = Vec::new(alloc);
     let mut i = 0;
@@ -114,14 +114,14 @@ fn add_others(
     nexts: &[NodeId],
 ) -> Result<(), NoMemory>
     requires within { length regs.old.items ≤ length (keys_of layout.now) }
-    requires spelled { RegsSpelled regs.old.items }
+    requires spelled { AllSpelled SpelledReg regs.old.items }
     requires hints { hints.now ≡ hint_starts layout.now.decls }
     requires fits { FirstsFit layout.now }
     requires all { length nexts.now ≡ length (keys_of layout.now) }
     requires wires { (i : ℕ) → i < length (keys_of layout.now) → Wire pool.now (node_at nexts.now i) (key_width layout.now (key_at layout.now i)) }
     ensures regs { OnOk result (regs.new.items
         ≡ regs.old.items ++ other_regs layout.now nexts.now (length regs.old.items) (length regs.old.items) (drop (length regs.old.items) (keys_of layout.now))) }
-    ensures spelled { OnOk result (RegsSpelled regs.new.items) }
+    ensures spelled { OnOk result (AllSpelled SpelledReg regs.new.items) }
 {
     let count = layout.key_count();
     let from = regs.len() as u32;
@@ -146,7 +146,7 @@ pub(crate) fn registers(
     requires all { length nexts.now ≡ length (keys_of layout.now) }
     requires wires { (i : ℕ) → i < length (keys_of layout.now) → Wire pool.now (node_at nexts.now i) (key_width layout.now (key_at layout.now i)) }
     ensures regs { IfOk result (λ regs. regs.items ≡ net_regs layout.now starts.now nexts.now) }
-    ensures spelled { IfOk result (λ regs. RegsSpelled regs.items) }
+    ensures spelled { IfOk result (λ regs. AllSpelled SpelledReg regs.items) }
 {
     let decls = layout.job().decls.as_slice();
     let hints = starts_of_hints(alloc, decls)?;

@@ -57,23 +57,7 @@ module _ (nodes : List NodeId) (n : NodeId) where
       subst (P r) (sym (at_end r z)) (subst (λ s. P s n) z last))
       (cases_lt r (length nodes))
 
--- registers
-pub none_read : (job : Job) (p : Held) → FirstRead job p []
-none_read job p = record { wires = λ r l. absurd (omega arith); values = λ c r l. absurd (omega arith) }
-
-pub one_read : (job : Job) (p q : Held) (j : ℕ) (nodes : List NodeId) (n : NodeId) → Kept p q j → FirstRead job p nodes
-    → Wire q n (key_width job (key_at job (length nodes))) → ((c : Cells) → at c q.nodes n.0 ≡ c.reg (length nodes) % 2 ^ key_width job (key_at job (length nodes)))
-    → FirstRead job q (nodes ++ n ∷ [])
-one_read job p q j nodes n a h w v = record {
-  wires = each_then nodes n (λ r x. Wire q x (key_width job (key_at job r))) (λ r b. wire_kept p q j (node_at nodes r) _ a (h.wires r b)) w;
-  values = λ c. each_then nodes n (λ r x. at c q.nodes x.0 ≡ c.reg r % 2 ^ key_width job (key_at job r))
-      (λ r b. a.same c (node_at nodes r).0 (h.wires r b).inside ∙ h.values c r b) (v c);
-}
-
 -- samples
-pub no_sample : (job : Job) (p : Held) → FirstSamples job p []
-no_sample job p = record { wires = λ x l. absurd (omega arith); gives = λ x l. absurd (omega arith) }
-
 pub one_sample : (job : Job) (p q : Held) (j x : ℕ) (nodes : List NodeId) (n : NodeId) → length nodes ≡ x → Kept p q j → FirstSamples job p nodes
     → Wire q n (sample_at job x).width → Gives job q n (λ st i. i.samples x) → FirstSamples job q (nodes ++ n ∷ [])
 one_sample job p q j x nodes n e a h w g = record {

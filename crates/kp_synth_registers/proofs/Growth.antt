@@ -43,9 +43,6 @@ ready_kept job p q k reads a h = record {
 
 -- cells
 fits_kept : (job : Job) (p q : Held) (j k : ℕ) (kind : Kind) → Kept p q j → CellFits job p k kind → CellFits job q k kind
-fits_kept job p q j k kinds.Ext a h = h
-fits_kept job p q j k (kinds.Sample x) a h = h
-fits_kept job p q j k (kinds.Reg r) a h = h
 fits_kept job p q j k (kinds.Word f n) a h = (h.0, h.1, h.2, h.3, h.4, wire_kept p q j n _ a h.5)
 fits_kept job p q j k _ a h = h
 
@@ -111,10 +108,8 @@ set_fits p q j w None a h = tt
 set_fits p q j w (Some s) a h = (wire_kept p q j s.enabled 1 a h.0, wire_kept p q j s.value w a h.1)
 
 pub made_fit : (p q : Held) (j : ℕ) (ss : List GuessSlot) (made : List Made) → Kept p q j → MadeFit p ss made → MadeFit q ss made
-made_fit p q j [] [] a h = tt
-made_fit p q j [] (m ∷ made) a h = absurd h
-made_fit p q j (s ∷ ss) [] a h = absurd h
 made_fit p q j (s ∷ ss) (m ∷ made) a h = (wire_kept p q j m.pending 1 a h.0, wire_kept p q j m.value s.width a h.1, made_fit p q j ss made a h.2)
+made_fit p q j _ _ a h = h
 
 pub made_kept : (c : Cells) (p q : Held) (j : ℕ) (ss : List GuessSlot) (made : List Made) → Kept p q j → MadeFit p ss made → made_values c q ss made ≡ made_values c p ss made
 made_kept c p q j [] [] a h = refl

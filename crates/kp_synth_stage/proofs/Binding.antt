@@ -11,12 +11,12 @@ use Rattle.kp_pipeline.specs.Sequential.{StageOutcome, PendingGuess}
 use Rattle.kp_machine.proofs.{Text.is_local, Text.local_no, Scopes.look_last, Scopes.find_none, Cases.by_test, LookUp.look_up_end}
 use Rattle.kp_net.specs.{declared.node.NodeId.NodeId, Nodes.Cells, Nodes.word_at, Nodes.at, Nodes.on, Growth.Held, Growth.Wire, Growth.Kept}
 use Rattle.kp_net.proofs.Growing.{wire_kept}
-use Rattle.kp_build.proofs.Names.{node_with}
+use Rattle.kp_build.proofs.{Lists.grown_same, Names.node_with}
 use Rattle.kp_build.specs.Names.{Scope, node_of, with_node, word_of, AreInside}
 use Rattle.kp_synth_registers.specs.{declared.outcome.Made.Made, Holding.pending_guess, Meaning.guess_value, Meaning.made_values, Meaning.MadeFit}
 use Rattle.kp_synth_tables.specs.{declared.key.GuessSlot.GuessSlot, Keys.guess_slot, Keys.with_read, Keys.with_guess, Keys.guesses_in}
 use Rattle.kp_synth_registers.proofs.Growth.{put_kept, put_fits, set_kept, set_fits, made_fit, made_kept}
-use Rattle.kp_synth_stage.specs.{Work.stmts_at, Work.Fits, Work.Means, inner.Scopes.Binds, inner.Scopes.Bound, inner.Standing.slots_at, declared.work.Work.Work}
+use Rattle.kp_synth_stage.specs.{Work.stmts_at, Work.Fits, Work.Means, inner.Scopes.Binds, inner.Scopes.Bound, inner.Standing.slots_at, inner.Standing.own_slots, declared.work.Work.Work}
 use Rattle.kp_synth_stage.specs.inner.Standing as work
 
 look_past : (names : Names) (n q : List ℕ) (m : Sense) → is_same_name q n ≡ false → look_up (names ++ (n, m) ∷ []) q ≡ look_up names q
@@ -149,9 +149,8 @@ means_kept job c p q k ss w o g f h = record {
 -- one more guess
 pub made_more : (p : Held) (ss : List GuessSlot) (ms : List Made) (s : GuessSlot) (m : Made) → MadeFit p ss ms → Wire p m.pending 1 → Wire p m.value s.width → MadeFit p (ss ++ s ∷ []) (ms ++ m ∷ [])
 made_more p [] [] s m h b v = (b, v, tt)
-made_more p [] (n ∷ ms) s m h b v = absurd h
-made_more p (r ∷ ss) [] s m h b v = absurd h
 made_more p (r ∷ ss) (n ∷ ms) s m h b v = (h.0, h.1, made_more p ss ms s m h.2 b v)
+made_more p _ _ s m h b v = absurd h
 
 guess_more : (b : Bool) (g : PendingGuess) (xs ys : List PendingGuess) → guess_value b g (xs ++ ys) ≡ guess_value b g xs ++ ys
 guess_more true g xs ys = refl
@@ -175,14 +174,7 @@ with_read_more job k i r (Some x) f g h e = let z = e (suc i) in (z.0, ap (λ xs
 with_guess_more : (job : Job) (k i : ℕ) (x : StmtKind) (f g h : ℕ → List GuessSlot) → ((m : ℕ) → (n : ℕ) × (f m ≡ g m ++ h n))
     → (n : ℕ) × (with_guess job k i x f ≡ with_guess job k i x g ++ h n)
 with_guess_more job k i (stmts.Read r) f g h e = with_read_more job k i r r.guess f g h e
-with_guess_more job k i (stmts.Let n e') f g h e = e i
-with_guess_more job k i (stmts.Put n e') f g h e = e i
-with_guess_more job k i (stmts.Set n e' when) f g h e = e i
-with_guess_more job k i (stmts.Aim n e') f g h e = e i
-
--- the slots of one statement, which i guessed reads precede
-abbrev pub own_slots : Job → ℕ → StmtKind → ℕ → List GuessSlot
-own_slots job k x i = with_guess job k i x (λ m. [])
+with_guess_more job k i _ f g h e = e i
 
 slots_more : (job : Job) (k i : ℕ) (xs : List Stmt) (j : ℕ) (x : Stmt) → slice_get xs j ≡ Some x
     → (n : ℕ) × (guesses_in job k i (take (suc j) xs) ≡ guesses_in job k i (take j xs) ++ own_slots job k x.kind n)
@@ -197,4 +189,4 @@ slots_next job k j x e = slots_more job k 0 (stmts_at job k) j x e
 
 -- nothing is added
 pub kept_same : (p : Held) → Kept p p 0
-kept_same p = record { longer = omega arith; total = refl; room = omega arith; words = λ c i l. refl; same = λ c i l. refl; tests = λ c i l. refl; widths = λ i l. refl; nodes = λ i l. refl }
+kept_same p = (grown_same p).kept

@@ -1,5 +1,5 @@
 -- A stage as it is entered: the names of the pipes, of the samples and of the hints.
-use Rattle.std.proofs.Common.{◌≡◌, ◌∙◌, ℕ, zero, suc, ◌+◌, ◌<◌, List, [], ◌∷◌, ◌++◌, length, get_or, replicate, Some, None, Bool, true, false, cond, refl, ap, sym, subst, arith}
+use Rattle.std.proofs.Common.{◌≡◌, ◌∙◌, ℕ, zero, suc, ◌+◌, ◌<◌, List, [], ◌∷◌, ◌++◌, length, get_or, replicate, Option, Some, None, Bool, true, false, cond, refl, ap, sym, subst, arith}
 use Rattle.std.proofs.lemmas.List.{length-replicate}
 use Rattle.std.specs.{Option.option_map, Cmp.Lexicographic.bytes_decides}
 use Rattle.kp_bits.specs.Word.{word}
@@ -8,122 +8,89 @@ use Rattle.kp_ast.specs.Expressions as values
 use Rattle.kp_ast.specs.declared.tree.Decl.TheVariants as decls
 use Rattle.kp_ast.specs.declared.widths.NameKind.TheVariants as kinds
 use Rattle.kp_width.specs.Names.{Sense, Scoped, Names, nothing, look_up, find, is_pipe, is_hint}
-use Rattle.kp_width.specs.{Declarations.name_of, Declarations.declaration_of, Declarations.declarations_of, Declarations.functions_in, Widths.widths_of}
+use Rattle.kp_width.specs.{Declarations.declaration_of, Declarations.declarations_of, Declarations.functions_in, Widths.widths_of}
 use Rattle.kp_width.proofs.{Unbroken.Unbroken, Unbroken.bind_unbroken, Calls.is_of_text}
 use Rattle.kp_machine.specs.Slots.{Slot, pipes_of, hints_of, samples_of, number_of, words_from, words_of, targets_of}
+use Rattle.kp_machine.proofs.Apart.{has_name, IsOfKind, pipe_named, sample_named}
 use Rattle.kp_machine.proofs.{Names.IsIn, Scopes.IsSlot, Scopes.is_sample, Scopes.sense_of, Scopes.stays, Scopes.text_has, Text.declared_right}
 use Rattle.kp_machine.proofs.{LookUp.or_else, LookUp.look_up-append, Cases.by_test}
 use Rattle.kp_net.specs.{declared.node.NodeId.NodeId, Nodes.Cells, Nodes.word_at, Nodes.at, Nodes.on, Growth.Held, Growth.Wire, Growth.Kept}
 use Rattle.kp_net.proofs.{Values.word_is, Growing.wire_kept}
 use Rattle.kp_build.specs.Names.{Nodes, node_of, Scope, word_of}
+use Rattle.kp_synth_tables.proofs.Fitting.{width_there}
 use Rattle.kp_synth_tables.specs.Keys.{no_slot, pipe_at, hint_at, target_at}
 use Rattle.kp_synth_registers.specs.Meaning.{node_at, PutFits, SetFits, MadeFit, put_value, set_value, made_values}
 use Rattle.kp_synth_stage.specs.inner.Scopes.{declared, scope_at, is_bound, is_value, Binds, Bound}
-use Rattle.kp_synth_stage.specs.inner.Standing.{names_with, has_name, env_of, WorkOk, Stands, Enters, slots_at}
+use Rattle.kp_synth_stage.specs.inner.Standing.{names_with, env_of, WorkOk, Stands, Enters, slots_at}
 use Rattle.kp_synth_stage.specs.{Work.NodesHave, Work.SlotsHave, declared.work.Work.Work}
 use Rattle.kp_synth_stage.specs.inner.Standing as work
-use Rattle.kp_synth_stage.proofs.{Scoping.scope_text, Scoping.scope_start, Expressions.placed_in, Expressions.text_kind, Steps.slot_width}
+use Rattle.kp_synth_stage.proofs.{Scoping.scope_text, Scoping.scope_start, Expressions.placed_in, Expressions.text_kind}
 use Rattle.kp_build.proofs.Names.{node_with}
 
 -- a name among slots
 pub name_in : (ss : List Slot) (q : List ℕ) → has_name ss q ≡ true → number_of ss q < length ss
 name_in [] q e = cc
 name_in (s ∷ ss) q e = by_test (is_same_name q s.name)
-    (λ y. let f : number_of (s ∷ ss) q ≡ 0 = ap (λ b. cond b 0 (suc (number_of ss q))) y in omega arith)
-    (λ y.
-    let f : number_of (s ∷ ss) q ≡ suc (number_of ss q) = ap (λ b. cond b 0 (suc (number_of ss q))) y in
-    let r = name_in ss q (sym (ap (λ b. cond b true (has_name ss q)) y) ∙ e) in omega arith)
+    (λ y. rw y (omega arith))
+    (λ y. let r = name_in ss q (sym (ap (λ b. cond b true (has_name ss q)) y) ∙ e) in rw y (omega (arith, r)))
 
 -- the node of a name that is bound, and of one that is not
 pub node_in : (names : Nodes) (ss : List Slot) (ns : List NodeId) (q : List ℕ) → length ns ≡ length ss → number_of ss q < length ss → node_of (names_with names ss ns) q ≡ Some (node_at ns (number_of ss q))
 node_in names [] ns q l h = absurd (omega arith)
 node_in names (s ∷ ss) [] q l h = absurd (omega arith)
-node_in names (s ∷ ss) (n ∷ ns) q l h = by_test (is_same_name q s.name)
+node_in names (s ∷ ss) (n ∷ ns) q l h =
+    let with_it = node_with (names_with names ss ns) s.name n q in
+    by_test (is_same_name q s.name)
+    (λ y. with_it ∙ rw y refl)
     (λ y.
-    node_with (names_with names ss ns) s.name n q ∙ ap (λ b. cond b (Some n) (node_of (names_with names ss ns) q)) y
-    ∙ sym (ap (λ b. Some (node_at (n ∷ ns) (cond b 0 (suc (number_of ss q))))) y))
-    (λ y.
-    let f : number_of (s ∷ ss) q ≡ suc (number_of ss q) = ap (λ b. cond b 0 (suc (number_of ss q))) y in
-    let r = node_in names ss ns q (omega arith) (omega arith) in
-    node_with (names_with names ss ns) s.name n q ∙ ap (λ b. cond b (Some n) (node_of (names_with names ss ns) q)) y ∙ r
-    ∙ sym (ap (λ b. Some (node_at (n ∷ ns) (cond b 0 (suc (number_of ss q))))) y))
+    let inside : suc (number_of ss q) < suc (length ss) = subst (λ b. cond b 0 (suc (number_of ss q)) < suc (length ss)) y h in
+    let r = node_in names ss ns q (omega arith) (omega arith) in with_it ∙ rw y r)
 
 pub node_out : (names : Nodes) (ss : List Slot) (ns : List NodeId) (q : List ℕ) → has_name ss q ≡ false → node_of (names_with names ss ns) q ≡ node_of names q
 node_out names [] ns q e = refl
 node_out names (s ∷ ss) [] q e = refl
 node_out names (s ∷ ss) (n ∷ ns) q e = by_test (is_same_name q s.name)
     (λ y. let f : true ≡ false = sym (ap (λ b. cond b true (has_name ss q)) y) ∙ e in cc)
-    (λ y.
-    node_with (names_with names ss ns) s.name n q ∙ ap (λ b. cond b (Some n) (node_of (names_with names ss ns) q)) y
-    ∙ node_out names ss ns q (sym (ap (λ b. cond b true (has_name ss q)) y) ∙ e))
+    (λ y. let r = node_out names ss ns q (sym (ap (λ b. cond b true (has_name ss q)) y) ∙ e) in node_with (names_with names ss ns) s.name n q ∙ rw y r)
 
 -- the words of slots
 pub words_in : (vs : ℕ → ℕ) (i : ℕ) (ss : List Slot) (q : List ℕ) → number_of ss q < length ss
     → values.look_up (words_from i vs ss) q ≡ Some (word (get_or ss (number_of ss q) no_slot).width (vs (i + number_of ss q)))
 words_in vs i [] q h = absurd (omega arith)
 words_in vs i (s ∷ ss) q h = by_test (is_same_name q s.name)
+    (λ y. let z : i ≡ i + 0 = omega arith in rw y (ap (λ n. Some (word s.width (vs n))) z))
     (λ y.
-    let z : i ≡ i + 0 = omega arith in
-    ap (λ b. cond b (Some (word s.width (vs i))) (values.look_up (words_from (suc i) vs ss) q)) y
-    ∙ ap (λ n. Some (word s.width (vs n))) z
-    ∙ sym (ap (λ b. Some (word (get_or (s ∷ ss) (cond b 0 (suc (number_of ss q))) no_slot).width (vs (i + cond b 0 (suc (number_of ss q)))))) y))
-    (λ y.
-    let f : number_of (s ∷ ss) q ≡ suc (number_of ss q) = ap (λ b. cond b 0 (suc (number_of ss q))) y in
-    let r = words_in vs (suc i) ss q (omega arith) in
+    let inside : suc (number_of ss q) < suc (length ss) = subst (λ b. cond b 0 (suc (number_of ss q)) < suc (length ss)) y h in
     let z : suc i + number_of ss q ≡ i + suc (number_of ss q) = omega arith in
-    ap (λ b. cond b (Some (word s.width (vs i))) (values.look_up (words_from (suc i) vs ss) q)) y ∙ r
-    ∙ ap (λ n. Some (word (get_or ss (number_of ss q) no_slot).width (vs n))) z
-    ∙ sym (ap (λ b. Some (word (get_or (s ∷ ss) (cond b 0 (suc (number_of ss q))) no_slot).width (vs (i + cond b 0 (suc (number_of ss q)))))) y))
+    let r = words_in vs (suc i) ss q (omega arith) ∙ ap (λ n. Some (word (get_or ss (number_of ss q) no_slot).width (vs n))) z in
+    rw y r)
 
 pub words_out : (vs : ℕ → ℕ) (i : ℕ) (ss : List Slot) (q : List ℕ) → has_name ss q ≡ false → values.look_up (words_from i vs ss) q ≡ None
 words_out vs i [] q e = refl
 words_out vs i (s ∷ ss) q e = by_test (is_same_name q s.name)
     (λ y. let f : true ≡ false = sym (ap (λ b. cond b true (has_name ss q)) y) ∙ e in cc)
-    (λ y.
-    ap (λ b. cond b (Some (word s.width (vs i))) (values.look_up (words_from (suc i) vs ss) q)) y
-    ∙ words_out vs (suc i) ss q (sym (ap (λ b. cond b true (has_name ss q)) y) ∙ e))
+    (λ y. let r = words_out vs (suc i) ss q (sym (ap (λ b. cond b true (has_name ss q)) y) ∙ e) in rw y r)
 
 -- the word of a node of a slot's width
 pub slot_word : (c : Cells) (p : Held) (n : NodeId) (w v : ℕ) → Wire p n w → at c p.nodes n.0 ≡ v → word_at c p.nodes n.0 ≡ word w v
 slot_word c p n w v h e = word_is c p.nodes n.0 h.inside ∙ ap (λ k. word k (at c p.nodes n.0)) h.wide ∙ ap (word w) e
 
--- THE NAMES of slots are those of the text of one kind, and nothing else.
-abbrev Senses : (NameKind → Bool) → Names → List ℕ → Type 0
-Senses takes text q = (m : Sense) × (look_up text q ≡ Some m) × (takes m.kind ≡ true)
-
--- a declaration of this kind has a slot, and no other has one
-abbrev OneSlot : (List Decl → List Slot) → (NameKind → Bool) → Type 0
-OneSlot slots takes = (i : ℕ) (d : Decl) (rest : List Decl) (q : List ℕ) → has_name (slots (d ∷ rest)) q ≡ cond (takes (sense_of i d).kind) (cond (is_same_name q (name_of d).name) true (has_name (slots rest) q)) (has_name (slots rest) q)
-
-one_pipe : OneSlot pipes_of is_pipe
-one_pipe i (decls.Pipe n width) rest q = refl
-one_pipe i _ rest q = refl
-
-one_sample : OneSlot samples_of is_sample
-one_sample i (decls.Sample n width stage) rest q = refl
-one_sample i _ rest q = refl
-
-one_hint : OneSlot hints_of is_hint
-one_hint i (decls.Hint n width start) rest q = refl
-one_hint i _ rest q = refl
-
-either_way : {G : Type 0} (a b c : Bool) → cond a (cond b true c) c ≡ true → (a ≡ true → b ≡ true → G) → (c ≡ true → G) → G
-either_way true true c e here later = here refl refl
-either_way true false c e here later = later e
-either_way false b c e here later = later e
-
-slot_sense : (slots : List Decl → List Slot) (takes : NameKind → Bool) → ((q : List ℕ) → has_name (slots []) q ≡ false) → OneSlot slots takes
-    → (ds : List Decl) (i k : ℕ) (s : Scoped) (rest : List Decl) → Unbroken (declarations_of ds i k s rest) → (q : List ℕ) → has_name (slots rest) q ≡ true
-    → Senses takes (declarations_of ds i k s rest).value.text q
-slot_sense slots takes none one ds i k s [] u q e = let f : false ≡ true = sym (none q) ∙ e in cc
-slot_sense slots takes none one ds i k s (d ∷ rest) u q e =
+-- A name that a hint has names a hint in the text.
+hint_named : (ds : List Decl) (i k : ℕ) (s : Scoped) (rest : List Decl) → Unbroken (declarations_of ds i k s rest) → (q : List ℕ) → has_name (hints_of rest) q ≡ true
+    → IsOfKind is_hint (declarations_of ds i k s rest).value.text q
+hint_named ds i k s [] u q e = cc
+hint_named ds i k s (decls.Hint n width start ∷ rest) u q e =
+    let d = decls.Hint n width start in
     let y = bind_unbroken (declaration_of ds i k s d) (λ t. declarations_of ds (i + 1) (k + functions_in d) t rest) u in
     let next : Scoped = (declaration_of ds i k s d).value in
-    either_way (takes (sense_of i d).kind) (is_same_name q (name_of d).name) (has_name (slots rest) q) (sym (one i d rest q) ∙ e)
-    (λ kind same.
-    let is : q ≡ (name_of d).name = (bytes_decides q (name_of d).name).0 same in
-    (sense_of i d, stays ds (i + 1) (k + functions_in d) next rest q (sense_of i d) (ap (look_up next.text) is ∙ text_has ds i k s d y.0), kind))
-    (λ later. slot_sense slots takes none one ds (i + 1) (k + functions_in d) next rest y.1 q later)
+    by_test (is_same_name q n.name)
+    (λ same.
+    let is : q ≡ n.name = (bytes_decides q n.name).0 same in
+    (sense_of i d, stays ds (i + 1) (k + functions_in d) next rest q (sense_of i d) (ap (look_up next.text) is ∙ text_has ds i k s d y.0), refl))
+    (λ other. hint_named ds (i + 1) (k + functions_in d) next rest y.1 q (sym (ap (λ b. cond b true (has_name (hints_of rest) q)) other) ∙ e))
+hint_named ds i k s (d ∷ rest) u q e =
+    hint_named ds (i + 1) (k + functions_in d) (declaration_of ds i k s d).value rest
+    (bind_unbroken (declaration_of ds i k s d) (λ t. declarations_of ds (i + 1) (k + functions_in d) t rest) u).1 q e
 
 value_text : {G : Type 0} (kind : NameKind) → is_value kind ≡ true → is_of_text kind ≡ true → (kind ≡ kinds.Pipe → G) → (kind ≡ kinds.Sample → G) → (kind ≡ kinds.Hint → G) → G
 value_text kinds.Pipe e f p s h = p refl
@@ -153,7 +120,7 @@ module _ (z : Held) (ss : List Slot) (ns : List NodeId) (h : SlotsHave z ss ns) 
       let count : length ns ≡ length ss = h.count in omega arith
 
   slot_wire : (w a : ℕ) → IsSlot ss q w a → Wire z node w
-  slot_wire w a at = subst (Wire z node) (slot_width ss q at.inside ∙ at.width) (h.wires (number_of ss q) (number_inside at.inside))
+  slot_wire w a at = subst (Wire z node) (width_there q ss at.inside ∙ at.width) (h.wires (number_of ss q) (number_inside at.inside))
 
   slot_binds : (names : Nodes) (w a : ℕ) → IsSlot ss q w a → node_of names q ≡ Some node → Binds z w (node_of names q)
   slot_binds names w a at e = subst (Binds z w) (sym e) (slot_wire w a at)
@@ -183,36 +150,34 @@ module _ (job : Job) (u : Unbroken (widths_of job)) (k : ℕ) where
       let z = scope_start job k in
       ap (λ (x : Scoped). find x q) z ∙ sym (ap (λ (x : Scoped). look_up x.text q) z) ∙ ap (λ (t : Names). look_up t q) (scope_text job k 0)
 
-  module _ (slots : List Decl → List Slot) (takes : NameKind → Bool) (none : (q : List ℕ) → has_name (slots []) q ≡ false) (one : OneSlot slots takes) where
+  module _ (slots : List Slot) (takes : NameKind → Bool) (named : (q : List ℕ) → has_name slots q ≡ true → IsOfKind takes (declared job).text q) where
     -- a name of another kind has no slot, and neither has one that isn't in scope
-    no_slot_of : (q : List ℕ) (m : Sense) → look_up (declared job).text q ≡ Some m → takes m.kind ≡ false → has_name (slots job.decls) q ≡ false
-    no_slot_of q m e other = by_test (has_name (slots job.decls) q)
+    no_slot_of : (q : List ℕ) (m : Sense) → look_up (declared job).text q ≡ Some m → takes m.kind ≡ false → has_name slots q ≡ false
+    no_slot_of q m e other = by_test (has_name slots q)
         (λ y.
-        let x = slot_sense slots takes none one job.decls 0 0 nothing job.decls (declared_right job u) q y in
+        let x = named q y in
         let f : Some x.0 ≡ Some m = sym x.1 ∙ e in
         let g : x.0 ≡ m = cc in
         let t : true ≡ false = sym x.2 ∙ ap (λ (v : Sense). takes v.kind) g ∙ other in cc)
         (λ y. y)
 
-    none_of : (q : List ℕ) → look_up (declared job).text q ≡ None → has_name (slots job.decls) q ≡ false
-    none_of q e = by_test (has_name (slots job.decls) q)
-        (λ y. let x = slot_sense slots takes none one job.decls 0 0 nothing job.decls (declared_right job u) q y in let f : Some x.0 ≡ None = sym x.1 ∙ e in cc)
-        (λ y. y)
+    none_of : (q : List ℕ) → look_up (declared job).text q ≡ None → has_name slots q ≡ false
+    none_of q e = by_test (has_name slots q) (λ y. let x = named q y in let f : Some x.0 ≡ None = sym x.1 ∙ e in cc) (λ y. y)
 
   no_pipe : (q : List ℕ) (m : Sense) → look_up (declared job).text q ≡ Some m → is_pipe m.kind ≡ false → has_name (pipes_of job.decls) q ≡ false
-  no_pipe = no_slot_of pipes_of is_pipe (λ q. refl) one_pipe
+  no_pipe = no_slot_of (pipes_of job.decls) is_pipe (pipe_named job.decls nothing (declared_right job u))
 
   no_sample : (q : List ℕ) (m : Sense) → look_up (declared job).text q ≡ Some m → is_sample m.kind ≡ false → has_name (samples_of job.decls) q ≡ false
-  no_sample = no_slot_of samples_of is_sample (λ q. refl) one_sample
+  no_sample = no_slot_of (samples_of job.decls) is_sample (sample_named job.decls nothing (declared_right job u))
 
   none_pipe : (q : List ℕ) → look_up (declared job).text q ≡ None → has_name (pipes_of job.decls) q ≡ false
-  none_pipe = none_of pipes_of is_pipe (λ q. refl) one_pipe
+  none_pipe = none_of (pipes_of job.decls) is_pipe (pipe_named job.decls nothing (declared_right job u))
 
   none_sample : (q : List ℕ) → look_up (declared job).text q ≡ None → has_name (samples_of job.decls) q ≡ false
-  none_sample = none_of samples_of is_sample (λ q. refl) one_sample
+  none_sample = none_of (samples_of job.decls) is_sample (sample_named job.decls nothing (declared_right job u))
 
   none_hint : (q : List ℕ) → look_up (declared job).text q ≡ None → has_name (hints_of job.decls) q ≡ false
-  none_hint = none_of hints_of is_hint (λ q. refl) one_hint
+  none_hint = none_of (hints_of job.decls) is_hint (hint_named job.decls 0 0 nothing job.decls (declared_right job u))
 
   -- what the names of the stage are known as
   abbrev known_at_start : (ℕ → ℕ) → (ℕ → ℕ) → values.Values
@@ -317,38 +282,32 @@ all_default zero i d = refl
 all_default (suc n) zero d = refl
 all_default (suc n) (suc i) d = all_default n i d
 
+none_at : {X : Type 0} (xs : List (Option X)) (n x : ℕ) → xs ≡ replicate n None → get_or xs x None ≡ None
+none_at xs n x e = ap (λ ys. get_or ys x None) e ∙ all_default n x None
+
 slots_kept : (p z : Held) (m : ℕ) (ss : List Slot) (ns : List NodeId) → Kept p z m → SlotsHave p ss ns → SlotsHave z ss ns
 slots_kept p z m ss ns g h = record { count = h.count; wires = λ i l. wire_kept p z m (node_at ns i) _ g (h.wires i l) }
 
 module _ (job : Job) (u : Unbroken (widths_of job)) (k : ℕ) (p z : Held) (m : ℕ) (g : Kept p z m) (pn sn hn : List NodeId) (ps : SlotsHave p (pipes_of job.decls) pn) (ts : SlotsHave p (samples_of job.decls) sn) (hs : SlotsHave p (hints_of job.decls) hn)
     (w : Work) (env : w.env ≡ env_of job pn sn hn) (hazard : Wire z w.hazard 1) (puts : w.puts.items ≡ replicate (length (pipes_of job.decls)) None) (sets : w.sets.items ≡ replicate (length (targets_of job.decls)) None)
     (made : w.made.items ≡ []) (aims : w.aims.items ≡ replicate (length (hints_of job.decls)) None) where
-  no_put : (x : ℕ) → get_or w.puts.items x None ≡ None
-  no_put x = ap (λ xs. get_or xs x None) puts ∙ all_default (length (pipes_of job.decls)) x None
-
-  no_set : (x : ℕ) → get_or w.sets.items x None ≡ None
-  no_set x = ap (λ xs. get_or xs x None) sets ∙ all_default (length (targets_of job.decls)) x None
-
-  no_aim : (x : ℕ) → get_or w.aims.items x None ≡ None
-  no_aim x = ap (λ xs. get_or xs x None) aims ∙ all_default (length (hints_of job.decls)) x None
-
-  pub enter_work : WorkOk job k 0 z w
+  enter_work : WorkOk job k 0 z w
   unfolding slots_at
   enter_work = record {
     env = subst (Bound job (scope_at job k 0) z) (sym env) (enter_bound job u k z pn sn hn (slots_kept p z m _ pn g ps) (slots_kept p z m _ sn g ts) (slots_kept p z m _ hn g hs));
     fits = record {
       hazard = hazard;
       put_count = ap length puts ∙ length-replicate (length (pipes_of job.decls)) None;
-      puts = λ x. subst (PutFits z (pipe_at job x).width) (sym (no_put x)) tt;
+      puts = λ x. subst (PutFits z (pipe_at job x).width) (sym (none_at w.puts.items _ x puts)) tt;
       set_count = ap length sets ∙ length-replicate (length (targets_of job.decls)) None;
-      sets = λ x. subst (SetFits z (target_at job x).width) (sym (no_set x)) tt;
+      sets = λ x. subst (SetFits z (target_at job x).width) (sym (none_at w.sets.items _ x sets)) tt;
       made = subst (λ xs. MadeFit z [] xs) (sym made) tt;
       aim_count = ap length aims ∙ length-replicate (length (hints_of job.decls)) None;
-      aims = λ x. subst (PutFits z (hint_at job x).width) (sym (no_aim x)) tt;
+      aims = λ x. subst (PutFits z (hint_at job x).width) (sym (none_at w.aims.items _ x aims)) tt;
     };
   }
 
-  pub enters : ((c : Cells) → on c z.nodes w.hazard.0 ≡ false) → Enters job k p pn sn hn z w
+  enters : ((c : Cells) → on c z.nodes w.hazard.0 ≡ false) → Enters job k p pn sn hn z w
   unfolding Enters slots_at
   enters clear = λ c vs taken hints pv tv hv. record {
     names = subst (λ e. work.Names job (scope_at job k 0) hints c z e (known_at_start job u k vs taken)) (sym env)
@@ -356,9 +315,12 @@ module _ (job : Job) (u : Unbroken (widths_of job)) (k : ℕ) (p z : Held) (m : 
         (λ i l. g.same c (node_at pn i).0 (ps.wires i l).inside ∙ pv i l) (λ i l. g.same c (node_at sn i).0 (ts.wires i l).inside ∙ tv i l) (λ i l. g.same c (node_at hn i).0 (hs.wires i l).inside ∙ hv i l));
     outcome = record {
       hazard = clear c;
-      puts = λ x l. ap (put_value c z) (no_put x);
-      sets = λ x l. ap (set_value c z) (no_set x);
+      puts = λ x l. ap (put_value c z) (none_at w.puts.items _ x puts);
+      sets = λ x l. ap (set_value c z) (none_at w.sets.items _ x sets);
       made = ap (λ xs. made_values c z [] xs) made;
-      aims = λ x l. ap (put_value c z) (no_aim x);
+      aims = λ x l. ap (put_value c z) (none_at w.aims.items _ x aims);
     };
   }
+
+  pub entered_with : WorkOk job k 0 z w × (((c : Cells) → on c z.nodes w.hazard.0 ≡ false) → Enters job k p pn sn hn z w)
+  entered_with = (enter_work, enters)

@@ -16,6 +16,7 @@ use Rattle.kp_machine.specs.Slots.{hints_of, words_of}
 use Rattle.kp_machine.proofs.{Scopes.Placed, Text.local_no, Text.found_where, Text.no_hint, Text.same_question, Text.placed, Text.calls_open}
 use Rattle.kp_net.specs.{declared.node.NodeId.NodeId, Nodes.Cells, Nodes.word_at, Nodes.at, Widths.wide, Widths.AllRight, Growth.Held, Growth.Wire}
 use Rattle.kp_net.proofs.Values.{word_is, word_wide, at_fits}
+use Rattle.kp_build.proofs.Fitting.{no_cells}
 use Rattle.kp_build.specs.Names.{Scope, node_of, word_of, known_at, IsSound, Gives}
 use Rattle.kp_synth_stage.specs.inner.Scopes.{declared, scope_at, is_bound, is_value, Binds, Bound}
 use Rattle.kp_synth_stage.specs.inner.Standing as work
@@ -166,10 +167,6 @@ module _ (job : Job) (unbroken : Unbroken (widths_of job)) (k j : ℕ) (p : Held
     pub hinted_found : (e : Expr) → Unbroken (width_of job.decls (length job.decls) s e)
         → Found (width_of job.decls (length job.decls) s e).value (checked (known_at c p env) e) (eval (env_of job.decls hinted) e)
     hinted_found e u = found job.decls (length job.decls) s (known_at c p env) (env_of job.decls hinted) no_question with_hints e (no_answer e) u
-
--- any cells
-no_cells : Cells
-no_cells = record { ext = 0; sample = λ s. 0; reg = λ r. 0; word = λ f a. 0 }
 
 module _ (job : Job) (unbroken : Unbroken (widths_of job)) (k j : ℕ) (p : Held) (env : Scope) (right : AllRight p.nodes) (bound : Bound job (scope_at job k j) p env) (e : Expr) (u : Unbroken (width_of job.decls (length job.decls) (scope_at job k j) e)) where
   -- an expression that keeps the rules has a value whatever the cells hold, and a node that has it has its width

@@ -28,17 +28,14 @@ given_value false ok value miss = refl
 
 -- candidates of rows stay while the pool grows, and one more comes
 pub matched_kept : (c : Cells) (p : Held) (a : ℕ) (q q' : Held) (k w : ℕ) (rs : List Row) (xs : List Candidate) → Kept q q' k → All (CandidateOk q w) xs → Matched c p a q rs xs → Matched c p a q' rs xs
-matched_kept c p a q q' k w [] [] g ok h = tt
-matched_kept c p a q q' k w [] (x ∷ xs) g ok h = h
-matched_kept c p a q q' k w (r ∷ rs) [] g ok h = h
 matched_kept c p a q q' k w (r ∷ rs) (x ∷ xs) g ok h = (g.tests c x.hit.0 (All-head (CandidateOk q w) x xs ok).hit.inside ∙ h.0, h.1, h.2, matched_kept c p a q q' k w rs xs g (All-tail (CandidateOk q w) x xs ok) h.3)
+matched_kept c p a q q' k w _ _ g ok h = h
 
 pub matched_more : (c : Cells) (p : Held) (a : ℕ) (q : Held) (rs : List Row) (xs : List Candidate) (r : Row) (x : Candidate) → Matched c p a q rs xs
     → on c q.nodes x.hit.0 ≡ row_hits c p r a → x.ok ≡ r.ok → x.value ≡ r.value → Matched c p a q (rs ++ r ∷ []) (xs ++ x ∷ [])
 matched_more c p a q [] [] r x h e f g = (e, f, g, tt)
-matched_more c p a q [] (y ∷ xs) r x h e f g = absurd h
-matched_more c p a q (s ∷ rs) [] r x h e f g = absurd h
 matched_more c p a q (s ∷ rs) (y ∷ xs) r x h e f g = (h.0, h.1, h.2, matched_more c p a q rs xs r x h.3 e f g)
+matched_more c p a q _ _ r x h e f g = absurd h
 
 -- the row at an index
 abbrev pub no_row : Row
@@ -49,18 +46,22 @@ row_at p a w [] i h l = absurd (omega arith)
 row_at p a w (x ∷ rs) zero h l = h.0
 row_at p a w (x ∷ rs) (suc i) h l = row_at p a w rs i h.1 (omega arith)
 
+pub bit_kept : (p q : Held) (k : ℕ) (o : Option NodeId) → Kept p q k → BitOk p o → BitOk q o
+bit_kept p q k None g b = tt
+bit_kept p q k (Some n) g b = wire_kept p q k n 1 g b
+
+pub enable_kept : (c : Cells) (p q : Held) (k : ℕ) (o : Option NodeId) → Kept p q k → BitOk p o → enable_on c q o ≡ enable_on c p o
+enable_kept c p q k None g b = refl
+enable_kept c p q k (Some n) g b = g.tests c n.0 b.inside
+
 pub row_kept : (p q : Held) (k a w : ℕ) (r : Row) → Kept p q k → RowOk p a w r → RowOk q a w r
 row_kept p q k a w r g h = record {
   full = wire_kept p q k r.full 1 g h.full;
-  enable = bit_kept r.enable h.enable;
+  enable = bit_kept p q k r.enable g h.enable;
   address = address_kept r.address h.address;
   ok = wire_kept p q k r.ok 1 g h.ok;
   value = wire_kept p q k r.value w g h.value;
 } where
-  bit_kept : (o : Option NodeId) → BitOk p o → BitOk q o
-  bit_kept None b = tt
-  bit_kept (Some e) b = wire_kept p q k e 1 g b
-
   address_kept : (o : Option NodeId) → AddressOk p a o → AddressOk q a o
   address_kept None b = tt
   address_kept (Some e) b = wire_kept p q k e a g b
@@ -79,20 +80,14 @@ first_view c p q k a b w (r ∷ rs) (x ∷ xs) own g ok h =
     let o : on c q.nodes x.ok.0 ≡ on c p.nodes r.ok.0 = ap (λ (n : NodeId). on c q.nodes n.0) h.1 ∙ g.tests c r.ok.0 ok.0.ok.inside in
     let v : at c q.nodes x.value.0 ≡ at c p.nodes r.value.0 = ap (λ (n : NodeId). at c q.nodes n.0) h.2 ∙ g.same c r.value.0 ok.0.value.inside in
     let rest = first_view c p q k a b w rs xs own g ok.1 h.3 in
-    elim-hit (row_hits c p r a) (on c q.nodes x.hit.0) h.0 (on c q.nodes x.ok.0) (on c p.nodes r.ok.0) (first_ok c q xs) (at c q.nodes x.value.0) (at c p.nodes r.value.0) (first_value c q xs own) (rows_view c p rs own a) o v rest
+    let hit : on c q.nodes x.hit.0 ≡ row_hits c p r a = h.0 in
+    choice (on c q.nodes x.hit.0) (on c q.nodes x.ok.0) (first_ok c q xs) (at c q.nodes x.value.0) (first_value c q xs own) ∙ (λ i. cond (hit i) (optional (o i) (v i)) (rest i))
   where
-    elim-hit : (hit hit' : Bool) → hit' ≡ hit → (ok ok' more : Bool) (v v' m : ℕ) (rest : Option ℕ) → ok ≡ ok' → v ≡ v' → optional more m ≡ rest
-        → optional (cond hit' ok more) (cond hit' v m) ≡ cond hit (optional ok' v') rest
-    elim-hit true true e ok ok' more v v' m rest o q r = λ i. optional (o i) (q i)
-    elim-hit false false e ok ok' more v v' m rest o q r = r
-    elim-hit true false e ok ok' more v v' m rest o q r = cc
-    elim-hit false true e ok ok' more v v' m rest o q r = cc
+    choice : (t b d : Bool) (m n : ℕ) → optional (cond t b d) (cond t m n) ≡ cond t (optional b m) (optional d n)
+    choice true b d m n = refl
+    choice false b d m n = refl
 
 -- a requested address is preserved
-pub ask_inside_kept : (p q : Held) (k : ℕ) (a : Option NodeId) → Kept p q k → AskInside p a → AskInside q a
-ask_inside_kept p q k None g h = tt
-ask_inside_kept p q k (Some n) g h = omega (arith, g.longer)
-
 pub ask_width_kept : (p q : Held) (k : ℕ) (a : Option NodeId) → Kept p q k → AskInside p a → ask_width q a ≡ ask_width p a
 ask_width_kept p q k None g h = refl
 ask_width_kept p q k (Some n) g h = g.widths n.0 h
@@ -104,14 +99,10 @@ asked_kept p q k (Some n) g h c = g.same c n.0 h
 pub hits_kept : (p q : Held) (k a w : ℕ) (r : Row) → Kept p q k → RowOk p a w r → (c : Cells) (x : ℕ) → row_hits c q r x ≡ row_hits c p r x
 hits_kept p q k a w r g h c x =
     let f = g.tests c r.full.0 h.full.inside in
-    let e = enable_kept r.enable h.enable in
+    let e = enable_kept c p q k r.enable g h.enable in
     let d = address_same r.address h.address in
     λ i. f i && (not r.known || (e i && d i))
   where
-    enable_kept : (o : Option NodeId) → BitOk p o → enable_on c q o ≡ enable_on c p o
-    enable_kept None b = refl
-    enable_kept (Some n) b = g.tests c n.0 b.inside
-
     address_same : (o : Option NodeId) → AddressOk p a o → address_is c q o x ≡ address_is c p o x
     address_same None b = refl
     address_same (Some n) b = ap (λ (v : ℕ). v == x) (g.same c n.0 b.inside)

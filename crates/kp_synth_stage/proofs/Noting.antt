@@ -13,14 +13,15 @@ use Rattle.kp_pipeline.specs.Sequential.{PendingGuess}
 use Rattle.kp_net.specs.{declared.node.NodeId.NodeId, Nodes.Cells, Nodes.word_at, Nodes.at, Nodes.on, Growth.Held, Growth.Wire, Growth.Kept}
 use Rattle.kp_net.proofs.{Growing.wire_kept, Growing.kept_then, Values.word_is}
 use Rattle.kp_synth_registers.specs.{declared.outcome.Made.Made, Holding.pending_guess, Meaning.made_values, Meaning.guess_value, Meaning.MadeFit}
+use Rattle.kp_synth_tables.proofs.Fitting.{width_there}
 use Rattle.kp_synth_tables.specs.{declared.key.GuessSlot.GuessSlot, Keys.target_at, Keys.guess_slot, Keys.with_read}
 use Rattle.kp_synth_stage.specs.{declared.row.Source.Source, declared.row.Answer.Answer, declared.work.Work.Work, Rows.SourcesOk}
 use Rattle.kp_synth_stage.specs.inner.Doing.{after_stmt, target_of, miss_of, hazard_of, guess_of, read_value, read_lacks}
-use Rattle.kp_synth_stage.specs.inner.{Scopes.scope_at, Scopes.Bound, Standing.slots_at, Standing.WorkOk, Standing.Stands, Standing.StandsAt, Standing.GoesBy}
+use Rattle.kp_synth_stage.specs.inner.{Scopes.scope_at, Scopes.Bound, Standing.slots_at, Standing.own_slots, Standing.WorkOk, Standing.Stands, Standing.GoesBy}
 use Rattle.kp_synth_stage.specs.inner.{Statements.GuessOk, Statements.ReadGives, Statements.made_of, Reading.value_or_zero}
 use Rattle.kp_synth_stage.specs.inner.Standing as work
-use Rattle.kp_synth_stage.proofs.Binding.{bound_kept, bound_more, names_kept, names_more, fits_kept, means_kept, env_with, own_slots, made_more, made_values_more}
-use Rattle.kp_synth_stage.proofs.{Steps.slots_of, Steps.slot_width, Taking.ReadRight, Taking.guess_kept}
+use Rattle.kp_synth_stage.proofs.Binding.{bound_kept, bound_more, names_kept, names_more, fits_kept, means_kept, env_with, made_more, made_values_more}
+use Rattle.kp_synth_stage.proofs.{Taking.ReadRight, Taking.guess_fits, Taking.guess_kept, Nearest.orzero_kept}
 
 source_in : (xs : List Source) (t : ℕ) → t < length xs → (s : Source) × (slice_get xs t ≡ Some s)
 source_in [] t h = absurd (omega arith)
@@ -36,9 +37,8 @@ some_stage job p ss t h l =
 made_fits : (job : Job) (k n w : ℕ) (q : Held) (r : ReadStmt) (o : Option Expr) (g : Option NodeId) (lacks : NodeId) (ss : List GuessSlot) (ms : List Made)
     → w ≡ width_of_slot (targets_of job.decls) r.target.name → Wire q lacks 1 → GuessOk q w o g → MadeFit q ss ms → MadeFit q (ss ++ with_read job k n r o (λ m. [])) (ms ++ made_of lacks g)
 made_fits job k n w q r None None lacks ss ms e l h f = subst (λ xs. MadeFit q xs (ms ++ [])) (sym (append-nil ss)) (subst (MadeFit q ss) (sym (append-nil ms)) f)
-made_fits job k n w q r None (Some g) lacks ss ms e l h f = absurd h
-made_fits job k n w q r (Some x) None lacks ss ms e l h f = absurd h
 made_fits job k n w q r (Some x) (Some g) lacks ss ms e l h f = made_more q ss ms (guess_slot job k n r) (record { pending = lacks; value = g }) f l (subst (Wire q g) e h)
+made_fits job k n w q r _ _ lacks ss ms e l h f = absurd h
 
 made_means : (job : Job) (k n w : ℕ) (c : Cells) (q : Held) (r : ReadStmt) (o : Option Expr) (g : Option NodeId) (lacks : NodeId) (ss : List GuessSlot) (ms : List Made) (gs : List PendingGuess) (lacking : Bool) (miss : ℕ)
     → GuessOk q w o g → MadeFit q ss ms → made_values c q ss ms ≡ gs → on c q.nodes lacks.0 ≡ lacking → value_or_zero c q g ≡ miss
@@ -60,11 +60,10 @@ made_means job k n w c q r (Some x) (Some g) lacks ss ms gs lacking miss h f e l
 
 hazard_means : (q : Held) (w : ℕ) (o : Option Expr) (g : Option NodeId) (a b c lacking : Bool) → GuessOk q w o g → a ≡ (b || (not (is_some g) && c)) → c ≡ lacking → a ≡ (b || hazard_of o lacking)
 hazard_means q w None None a b c lacking h e f = e ∙ ap (λ x. b || x) f
-hazard_means q w None (Some g) a b c lacking h e f = absurd h
-hazard_means q w (Some x) None a b c lacking h e f = absurd h
 hazard_means q w (Some x) (Some g) a b c lacking h e f = e
+hazard_means q w _ _ a b c lacking h e f = absurd h
 
-module _ (job : Job) (k j : ℕ) (r : ReadStmt) (at_ : StandsAt job k j (stmts.Read r)) (is : ReadRight job k j r) (p q z : Held) (m1 m2 : ℕ) (g1 : Kept p q m1) (g2 : Kept q z m2) (w : Work) (old : WorkOk job k j p w)
+module _ (job : Job) (k j : ℕ) (r : ReadStmt) (is : ReadRight job k j r) (p q z : Held) (m1 m2 : ℕ) (g1 : Kept p q m1) (g2 : Kept q z m2) (w : Work) (old : WorkOk job k j p w)
     (a : Answer) (wide : Wire q a.value (target_at job (target_of job.decls r)).width) (lack : Wire q a.lacks 1) (guess : GuessOk q (target_at job (target_of job.decls r)).width r.guess a.guess)
     (h : NodeId) (hazard : Wire z h 1) (made : Vec Made) (made_is : made.items ≡ w.made.items ++ made_of a.lacks a.guess) where
   abbrev after : Work
@@ -83,11 +82,11 @@ module _ (job : Job) (k j : ℕ) (r : ReadStmt) (at_ : StandsAt job k j (stmts.R
   wide_z = wire_kept q z m2 a.value _ g2 wide
 
   same_width : (target_at job t).width ≡ width_of_slot (targets_of job.decls) r.target.name
-  same_width = slot_width (targets_of job.decls) r.target.name is.inside
+  same_width = width_there r.target.name (targets_of job.decls) is.inside
 
-  pub read_work : WorkOk job k (suc j) z after
+  read_work : WorkOk job k (suc j) z after
   read_work =
-      let x = slots_of job k j (stmts.Read r) at_ in
+      let x = is.slots in
       let f = fits_kept job p z (m1 + m2) (slots_at job k j) w up old.fits in
       record {
         env = subst (λ s. Bound job s z after.env) (sym is.next)
@@ -106,18 +105,18 @@ module _ (job : Job) (k j : ℕ) (r : ReadStmt) (at_ : StandsAt job k j (stmts.R
         };
       }
 
-  pub read_goes : (ss : List Source) → ReadGives job k j r p w.env ss q a
+  read_goes : (ss : List Source) → ReadGives job k j r p w.env ss q a
       → ((c : Cells) → on c z.nodes h.0 ≡ (on c q.nodes w.hazard.0 || (not (is_some a.guess) && on c q.nodes a.lacks.0)))
       → GoesBy job k j (stmts.Read r) p w ss z after
   unfolding GoesBy ReadGives
   read_goes ss gives hazards = λ c v hints d sees st.
-      let x = slots_of job k j (stmts.Read r) at_ in
+      let x = is.slots in
       let ri = gives c v hints d.done sees st.names in
       let o = means_kept job c p z (m1 + m2) (slots_at job k j) w _ up old.fits st.outcome in
       let f = fits_kept job p z (m1 + m2) (slots_at job k j) w up old.fits in
       let value = g2.same c a.value.0 wide.inside ∙ ri.value in
       let lacks = g2.tests c a.lacks.0 lack.inside ∙ ri.lacks in
-      let miss = or_zero_kept c q z m2 (target_at job t).width r.guess a.guess g2 guess ∙ ri.guess in
+      let miss = orzero_kept c q z m2 (target_at job t).width a.guess g2 (guess_fits q (target_at job t).width r.guess a.guess guess) ∙ ri.guess in
       let words : word_at c z.nodes a.value.0 ≡ trees.word_read job.decls r (read_value job.decls v hints d.done r) =
       word_is c z.nodes a.value.0 wide_z.inside ∙ ap (λ n. word n (at c z.nodes a.value.0)) (wide_z.wide ∙ same_width) ∙ ap (word (width_of_slot (targets_of job.decls) r.target.name)) value in
       let before : on c q.nodes w.hazard.0 ≡ d.hazard = g1.tests c w.hazard.0 old.fits.hazard.inside ∙ st.outcome.hazard in
@@ -135,9 +134,8 @@ module _ (job : Job) (k j : ℕ) (r : ReadStmt) (at_ : StandsAt job k j (stmts.R
           aims = o.aims;
         };
       }
-    where
-      or_zero_kept : (c : Cells) (q z : Held) (m w : ℕ) (o : Option Expr) (g : Option NodeId) → Kept q z m → GuessOk q w o g → value_or_zero c z g ≡ value_or_zero c q g
-      or_zero_kept c q z m w None None k e = refl
-      or_zero_kept c q z m w None (Some n) k e = absurd e
-      or_zero_kept c q z m w (Some x) None k e = absurd e
-      or_zero_kept c q z m w (Some x) (Some n) k e = k.same c n.0 e.inside
+
+  pub read_step : (ss : List Source) → ReadGives job k j r p w.env ss q a
+      → ((c : Cells) → on c z.nodes h.0 ≡ (on c q.nodes w.hazard.0 || (not (is_some a.guess) && on c q.nodes a.lacks.0)))
+      → WorkOk job k (suc j) z after × GoesBy job k j (stmts.Read r) p w ss z after
+  read_step ss gives hazards = (read_work, read_goes ss gives hazards)

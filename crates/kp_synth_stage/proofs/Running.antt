@@ -1,6 +1,6 @@
 -- A stage runs by executing its statements in order.
 use Rattle.std.proofs.Common.{◌≡◌, ◌∙◌, ℕ, Bool, true, false, cond, ◌||◌, List, [], ◌∷◌, ◌++◌, Option, Some, None, refl, sym, ap}
-use Rattle.std.proofs.lemmas.List.{append_assoc, append-nil}
+use Rattle.std.proofs.{lemmas.List.append_assoc, lemmas.List.append-nil, Math.Bool.or-false}
 use Rattle.kp_ast.specs.declared.tree.{Expr.Expr, ReadStmt.ReadStmt, Decl.Decl, Stmt.Stmt, StmtKind.StmtKind}
 use Rattle.kp_ast.specs.declared.tree.StmtKind.TheVariants as stmts
 use Rattle.kp_pipeline.specs.{Machine.Tree, Sequential.StageOutcome, Sequential.PendingGuess, Sequential.after_read, Sequential.after_guess, Sequential.run}
@@ -13,38 +13,29 @@ use Rattle.kp_synth_stage.specs.inner.Doing.{Doing, Truths, target_of, truth_of,
 abbrev led : Bool → List PendingGuess → StageOutcome → StageOutcome
 led h gs o = record { hazard = h || o.hazard; puts = o.puts; sets = o.sets; guesses = gs ++ o.guesses; aims = o.aims }
 
+led_same : (o : StageOutcome) (h h' : Bool) (gs gs' : List PendingGuess) → h ≡ h' → gs ≡ gs'
+    → ◌≡◌ {A = StageOutcome} (record { hazard = h; puts = o.puts; sets = o.sets; guesses = gs; aims = o.aims }) (record { hazard = h'; puts = o.puts; sets = o.sets; guesses = gs'; aims = o.aims })
+led_same o h h' gs gs' e f = λ i. record { hazard = e i; puts = o.puts; sets = o.sets; guesses = f i; aims = o.aims }
+
 or_none : (a b : Bool) → (a || b) ≡ ((a || false) || b)
-or_none true b = refl
-or_none false b = refl
+or_none a b = ap (λ x. x || b) (sym (or-false a))
 
 or_one : (a b : Bool) → (a || true) ≡ ((a || true) || b)
 or_one true b = refl
 or_one false b = refl
 
 led_none : (h : Bool) (gs : List PendingGuess) (o : StageOutcome) → led h gs o ≡ led (h || false) (gs ++ []) o
-led_none h gs o =
-    let e = or_none h o.hazard in
-    let f : gs ++ o.guesses ≡ (gs ++ []) ++ o.guesses = ap (λ xs. xs ++ o.guesses) (sym (append-nil gs)) in
-    λ i. record { hazard = e i; puts = o.puts; sets = o.sets; guesses = f i; aims = o.aims }
+led_none h gs o = led_same o _ _ _ _ (or_none h o.hazard) (ap (λ xs. xs ++ o.guesses) (sym (append-nil gs)))
 
 ask_led : (h : Bool) (gs : List PendingGuess) (o : Option ℕ) (go : ℕ → StageOutcome)
     → led h gs (after_read o go) ≡ led (h || lacks true o) (gs ++ []) (go (given true o 0))
 ask_led h gs (Some x) go = led_none h gs (go x)
-ask_led h gs None go =
-    let r = go 0 in
-    let e = or_one h r.hazard in
-    let f : gs ++ r.guesses ≡ (gs ++ []) ++ r.guesses = ap (λ xs. xs ++ r.guesses) (sym (append-nil gs)) in
-    λ i. record { hazard = e i; puts = r.puts; sets = r.sets; guesses = f i; aims = r.aims }
+ask_led h gs None go = led_same (go 0) _ _ _ _ (or_one h (go 0).hazard) (ap (λ xs. xs ++ (go 0).guesses) (sym (append-nil gs)))
 
 guess_led : (h : Bool) (gs : List PendingGuess) (o : Option ℕ) (t miss : ℕ) (go : ℕ → StageOutcome)
     → led h gs (after_guess o t miss go) ≡ led (h || false) (gs ++ cond (lacks true o) (record { register = t; value = miss } ∷ []) []) (go (given true o miss))
 guess_led h gs (Some x) t miss go = led_none h gs (go x)
-guess_led h gs None t miss go =
-    let r = go miss in
-    let g : PendingGuess = record { register = t; value = miss } in
-    let e = or_none h r.hazard in
-    let f : gs ++ g ∷ r.guesses ≡ (gs ++ g ∷ []) ++ r.guesses = sym (append_assoc gs (g ∷ []) r.guesses) in
-    λ i. record { hazard = e i; puts = r.puts; sets = r.sets; guesses = f i; aims = r.aims }
+guess_led h gs None t miss go = led_same (go miss) _ _ _ _ (or_none h (go miss).hazard) (sym (append_assoc gs (record { register = t; value = miss } ∷ []) (go miss).guesses))
 
 module _ (ds : List Decl) (v : Truths) (hints : ℕ → ℕ) where
   abbrev outcome : Tree → StageOutcome
@@ -67,20 +58,11 @@ module _ (ds : List Decl) (v : Truths) (hints : ℕ → ℕ) where
   one_runs : (d : Doing) (x : StmtKind) (rest : Progress → Tree)
       → led d.hazard d.guesses (outcome (statement_of ds d.done x rest)) ≡ led (after_stmt ds v hints d x).hazard (after_stmt ds v hints d x).guesses (outcome (rest (after_stmt ds v hints d x).done))
   one_runs d (stmts.Read r) rest = read_runs d.hazard d.guesses d.done r r.guess (holds ds d.done r.when) rest
-  one_runs d (stmts.Let n e) rest = refl
-  one_runs d (stmts.Put n e) rest = refl
   one_runs d (stmts.Set n e when) rest = set_runs d.hazard d.guesses d.done (with_set ds d.done (result_named ds n.name) (value_of ds d.done e)) (holds ds d.done when) rest
-  one_runs d (stmts.Aim n e) rest = refl
+  one_runs d _ rest = refl
 
   end_led : (d : Doing) → led d.hazard d.guesses (record { hazard = false; puts = d.done.puts; sets = d.done.sets; guesses = []; aims = d.done.aims hints }) ≡ outcome_of hints d
-  end_led d =
-      let e : (d.hazard || false) ≡ d.hazard = or_false d.hazard in
-      let f = append-nil d.guesses in
-      λ i. record { hazard = e i; puts = d.done.puts; sets = d.done.sets; guesses = f i; aims = d.done.aims hints }
-    where
-      or_false : (b : Bool) → (b || false) ≡ b
-      or_false true = refl
-      or_false false = refl
+  end_led d = led_same (outcome_of hints d) _ _ _ _ (or-false d.hazard) (append-nil d.guesses)
 
   all_run : (d : Doing) (xs : List Stmt) → led d.hazard d.guesses (outcome (tree_of ds d.done xs)) ≡ outcome_of hints (after_stmts ds v hints d xs)
   all_run d [] = end_led d

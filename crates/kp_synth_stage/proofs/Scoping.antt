@@ -9,10 +9,12 @@ use Rattle.kp_width.specs.{Names.Sense, Names.Scoped, Names.nothing, Names.look_
 use Rattle.kp_width.specs.{Statements.statement_of, Statements.statements_of, Statements.blocks_of, Widths.widths_of}
 use Rattle.kp_width.proofs.{Unbroken.Unbroken, Unbroken.bind_unbroken, Calls.pushed}
 use Rattle.kp_stage.specs.{Facts.Facts, Facts.facts_of, Facts.stmts_in, declared.rules.Rule.Rule}
-use Rattle.kp_stage.specs.{Rules.ask_values, Rules.ask_stmt, Rules.may_guess, Rules.broken_by, Stages.broken_of}
+use Rattle.kp_stage.specs.{Rules.ask_stmt, Rules.may_guess, Rules.broken_by, Stages.broken_of}
 use Rattle.kp_stage.proofs.{Unbroken.answer_none, Kept.rules_kept, Kept.stmt_kept}
 use Rattle.kp_machine.proofs.Text.{is_local}
 use Rattle.kp_synth_stage.specs.{Work.stmts_at, inner.Scopes.declared, inner.Scopes.opened_at, inner.Scopes.scope_at}
+use Rattle.kp_synth_stage.specs.inner.Standing.{GuessRight, StmtRight}
+use Rattle.kp_synth_stage.proofs.Binding.{slots_next}
 
 -- the statement at an index violates no rule of names and widths, and leads to the scope of the next
 stmt_right : (ds : List Decl) (s : Scoped) (xs : List Stmt) (j : ℕ) (x : Stmt) → Unbroken (statements_of ds s xs) → slice_get xs j ≡ Some x
@@ -47,17 +49,11 @@ block_right ds k s (y ∷ bs) (suc i) b u e =
 -- what statements leave as it was
 pub one_text : (ds : List Decl) (s : Scoped) (x : StmtKind) → (statement_of ds s x).value.text ≡ s.text
 one_text ds s (stmts.Read r) = refl
-one_text ds s (stmts.Let n e) = refl
-one_text ds s (stmts.Put n e) = refl
-one_text ds s (stmts.Set n e when) = refl
-one_text ds s (stmts.Aim n e) = refl
+one_text ds s _ = refl
 
 one_here : (ds : List Decl) (s : Scoped) (x : StmtKind) → (statement_of ds s x).value.here ≡ s.here
 one_here ds s (stmts.Read r) = refl
-one_here ds s (stmts.Let n e) = refl
-one_here ds s (stmts.Put n e) = refl
-one_here ds s (stmts.Set n e when) = refl
-one_here ds s (stmts.Aim n e) = refl
+one_here ds s _ = refl
 
 abbrev Locals : Scoped → Type 0
 Locals s = (q : List ℕ) (m : Sense) → look_up s.local q ≡ Some m → is_local m.kind ≡ true
@@ -65,9 +61,7 @@ Locals s = (q : List ℕ) (m : Sense) → look_up s.local q ≡ Some m → is_lo
 one_locals : (ds : List Decl) (s : Scoped) (x : StmtKind) → Locals s → Locals (statement_of ds s x).value
 one_locals ds s (stmts.Read r) h q m e = pushed s.local r.name.name q _ m (λ b. h q m b) (λ z y is. ap (λ (v : Sense). is_local v.kind) (sym is)) e
 one_locals ds s (stmts.Let n e') h q m e = pushed s.local n.name q _ m (λ b. h q m b) (λ z y is. ap (λ (v : Sense). is_local v.kind) (sym is)) e
-one_locals ds s (stmts.Put n e') h q m e = h q m e
-one_locals ds s (stmts.Set n e' when) h q m e = h q m e
-one_locals ds s (stmts.Aim n e') h q m e = h q m e
+one_locals ds s _ h q m e = h q m e
 
 all_text : (ds : List Decl) (s : Scoped) (xs : List Stmt) → (statements_of ds s xs).value.text ≡ s.text
 all_text ds s [] = refl
@@ -106,23 +100,11 @@ pub scope_start : (job : Job) (k : ℕ) → scope_at job k 0 ≡ opened_at job k
 unfolding scope_at
 scope_start job k = refl
 
--- a guess is of a register, which is read without an address
-abbrev pub GuessRight : Facts → ℕ → StmtKind → Type 0
-GuessRight facts k (stmts.Read r) = may_guess facts k r ≡ true
-GuessRight facts k _ = Unit {0}
-
--- what holds of statement j of stage k
-pub record IsRight (job : Job) (k j : ℕ) (x : StmtKind) : Type 0 where
-  pub right : Unbroken (statement_of job.decls (scope_at job k j) x)
-  pub next : scope_at job k (suc j) ≡ (statement_of job.decls (scope_at job k j) x).value
-  pub free : ask_values (facts_of job) Rule.E25 k x ≡ None
-  pub guess : GuessRight (facts_of job) k x
-
 guess_right : (facts : Facts) (k j : ℕ) (x : StmtKind) → ask_stmt facts Rule.E23 k j x ≡ None → GuessRight facts k x
 guess_right facts k j (stmts.Read r) e = answer_none (may_guess facts k r) (e_rule 23 r.target.at) e
 guess_right facts k j _ e = tt
 
-pub is_right : (job : Job) (k j : ℕ) (x : Stmt) → first (widths_of job).asked ≡ None → broken_of job ≡ None → slice_get (stmts_at job k) j ≡ Some x → IsRight job k j x.kind
+pub is_right : (job : Job) (k j : ℕ) (x : Stmt) → first (widths_of job).asked ≡ None → broken_of job ≡ None → slice_get (stmts_at job k) j ≡ Some x → StmtRight job k j x.kind
 unfolding scope_at
 is_right job k j x u kept e =
     let b = in_block (slice_get job.blocks k) j x e in
@@ -140,4 +122,5 @@ is_right job k j x u kept e =
       next = stmt_next job.decls (opened_at job k) (stmts_at job k) j x e;
       free = stmt_kept (facts_of job) job rules Rule.E25 k j x e;
       guess = guess_right (facts_of job) k j x.kind (stmt_kept (facts_of job) job rules Rule.E23 k j x e);
+      slots = slots_next job k j x e;
     }

@@ -1,10 +1,11 @@
 -- A read: which rules it keeps, and what its nodes mean.
-use Rattle.std.proofs.Common.{◌≡◌, ◌∙◌, ℕ, suc, ◌+◌, ◌<◌, ◌^◌, List, [], ◌∷◌, length, get_or, Option, Some, None, Bool, true, cond, not, ◌||◌, ◌&&◌, refl, ap, sym, subst, arith}
+use Rattle.std.proofs.Common.{◌≡◌, ◌∙◌, ℕ, suc, ◌+◌, ◌<◌, ◌^◌, List, [], ◌++◌, length, Option, Some, None, Bool, true, cond, not, ◌||◌, ◌&&◌, refl, ap, sym, subst, arith}
 use Rattle.std.proofs.lemmas.Bool.{eqb-true}
 use Rattle.std.specs.Prelude.{slice_get, is_some, ◌==◌}
 use Rattle.kp_base.specs.{Check.ok, Check.◌>>=◌, Check.wants, Refusal.e_rule}
 use Rattle.kp_bits.specs.Word.{Word}
-use Rattle.kp_ast.specs.{Expressions.is_same_name, declared.tree.Expr.Expr, declared.tree.ReadStmt.ReadStmt, declared.tree.Job.Job}
+use Rattle.kp_ast.specs.{declared.tree.Expr.Expr, declared.tree.ReadStmt.ReadStmt, declared.tree.Job.Job}
+use Rattle.kp_ast.specs.declared.tree.Decl.{Decl}
 use Rattle.kp_ast.specs.declared.widths.NameKind.{NameKind}
 use Rattle.kp_ast.specs.declared.tree.StmtKind.TheVariants as stmts
 use Rattle.kp_ast.specs.declared.widths.NameKind.TheVariants as kinds
@@ -14,47 +15,28 @@ use Rattle.kp_width.specs.Declarations.{kept, storage_of, address_width}
 use Rattle.kp_width.specs.{Statements.when_of, Statements.address_of, Statements.read_of, Widths.widths_of}
 use Rattle.kp_width.proofs.{Unbroken.Unbroken, Unbroken.bind_unbroken, Unbroken.answer_unbroken, Found.none_of_two, Parts.given_parts}
 use Rattle.kp_stage.specs.{Facts.facts_of, declared.rules.Rule.Rule, Rules.ask_option}
-use Rattle.kp_machine.specs.{Slots.Slot, Slots.targets_of, Slots.number_of, Trees.Progress}
+use Rattle.kp_machine.specs.{Slots.targets_of, Trees.Progress}
 use Rattle.kp_machine.specs.Trees as trees
-use Rattle.kp_machine.proofs.{Scopes.IsSlot, Scopes.addresses, Scopes.fresh_none, Scopes.found_sense, Scopes.storage_kind, Cases.by_test}
+use Rattle.kp_machine.proofs.{Scopes.IsSlot, Scopes.fresh_none, Scopes.found_sense, Scopes.storage_kind}
 use Rattle.kp_machine.proofs.Text.{local_no, found_where}
 use Rattle.kp_net.specs.{declared.node.NodeId.NodeId, Nodes.Cells, Nodes.at, Nodes.on, Widths.AllRight, Growth.Held, Growth.Wire, Growth.Kept}
 use Rattle.kp_net.proofs.{Growing.wire_kept, Growing.kept_then, Values.at_fits}
 use Rattle.kp_fwd.specs.Forward.{BitOk, enable_on}
 use Rattle.kp_build.specs.Names.{Scope}
-use Rattle.kp_synth_tables.specs.Keys.{no_slot, target_at}
+use Rattle.kp_synth_tables.proofs.Fitting.{width_there, address_there, no_address}
+use Rattle.kp_synth_tables.specs.Keys.{target_at}
 use Rattle.kp_synth_registers.specs.Meaning.{PutFits}
 use Rattle.kp_synth_stage.specs.declared.row.{Source.Source, Answer.Answer}
 use Rattle.kp_synth_stage.specs.Rows.{asked, source_view, view_of, SourceOk, SourcesOk, Sees, AskOk}
 use Rattle.kp_synth_stage.specs.inner.{Reading.given, Reading.lacks, Reading.value_or_zero, Doing.target_of, Doing.address_read, Doing.truth_of, Doing.miss_of}
 use Rattle.kp_synth_stage.specs.inner.Scopes.{scope_at, Bound}
 use Rattle.kp_synth_stage.specs.inner.Statements.{width_in, OptionRight, OptionWire, OptionGives, GuessOk, ReadGives}
+use Rattle.kp_synth_stage.specs.inner.Standing.{StmtRight, own_slots, slots_at}
 use Rattle.kp_synth_stage.specs.inner.Standing as work
-use Rattle.kp_synth_stage.proofs.{Scoping.IsRight, Scoping.scope_locals, Expressions.plain_found, Expressions.hinted_found, Expressions.gives_is}
+use Rattle.kp_synth_stage.proofs.{Scoping.scope_locals, Expressions.plain_found, Expressions.hinted_found, Expressions.gives_is}
 use Rattle.kp_synth_stage.proofs.Binding.{bound_kept, names_kept}
-use Rattle.kp_synth_stage.proofs.Nearest.{ask_kept, ask_inside, asked_kept, source_kept, sees_kept, orzero_kept}
-use Rattle.kp_synth_stage.proofs.Steps.{slot_width, text_sense, at_value, at_is}
-
-register_plain : (kind : NameKind) → is_register kind ≡ true → address_width kind ≡ 0
-register_plain kinds.Reg e = refl
-register_plain (kinds.File a) e = cc
-register_plain kinds.Read e = refl
-register_plain kinds.Let e = refl
-register_plain kinds.Pipe e = refl
-register_plain kinds.Sample e = refl
-register_plain kinds.Hint e = refl
-register_plain kinds.Target e = refl
-register_plain kinds.Func e = refl
-register_plain kinds.Param e = refl
-
-slot_address : (ss : List Slot) (q : List ℕ) → number_of ss q < length ss → (get_or ss (number_of ss q) no_slot).address ≡ addresses ss q
-slot_address [] q h = absurd (omega arith)
-slot_address (s ∷ ss) q h = by_test (is_same_name q s.name)
-    (λ y. ap (λ b. (get_or (s ∷ ss) (cond b 0 (suc (number_of ss q))) no_slot).address) y ∙ sym (ap (λ b. cond b s.address (addresses ss q)) y))
-    (λ y.
-    let e : number_of (s ∷ ss) q ≡ suc (number_of ss q) = ap (λ b. cond b 0 (suc (number_of ss q))) y in
-    let l : number_of ss q < length ss = omega arith in
-    ap (λ b. (get_or (s ∷ ss) (cond b 0 (suc (number_of ss q))) no_slot).address) y ∙ slot_address ss q l ∙ sym (ap (λ b. cond b s.address (addresses ss q)) y))
+use Rattle.kp_synth_stage.proofs.Nearest.{bit_kept, enable_kept, ask_kept, ask_inside, asked_kept, source_kept, sees_kept, orzero_kept}
+use Rattle.kp_synth_stage.proofs.Steps.{text_sense, at_value, at_is}
 
 -- an expression that may be left out, and its width
 abbrev pub HasWidths : Job → ℕ → ℕ → ℕ → Option Expr → Type 0
@@ -79,29 +61,32 @@ pub record ReadRight (job : Job) (k j : ℕ) (r : ReadStmt) : Type 0 where
   pub plain : (e : Expr) → r.guess ≡ Some e → r.address ≡ None
   pub next : scope_at job k (suc j) ≡ declared_local (scope_at job k j) r.name.name (sense kinds.Read (read_of job.decls (scope_at job k j) r).value 0)
   pub free : (ask_option (facts_of job) Rule.E25 k r.address ≡ None) × (ask_option (facts_of job) Rule.E25 k r.when ≡ None)
+  pub slots : (n : ℕ) × (slots_at job k (suc j) ≡ slots_at job k j ++ own_slots job k (stmts.Read r) n)
+
+-- a condition of a read or of a set
+pub when_right : (job : Job) (k j : ℕ) (o : Option Expr) → Unbroken (when_of job.decls (scope_at job k j) o) → OptionRight job k j o × HasWidths job k j 1 o
+when_right job k j None u = (tt, tt)
+when_right job k j (Some e) u =
+    let s = scope_at job k j in
+    let x = bind_unbroken (width_of job.decls (length job.decls) s e) (λ x. wants (x == 1) (e_rule 11 (part_of job.decls (length job.decls) s e).at) passed) u in
+    let y = (answer_unbroken ((width_in job k j e).value == 1) (e_rule 11 (part_of job.decls (length job.decls) s e).at) [] x.1).0 in
+    (x.0, eqb-true _ _ y)
 
 plain_guess : (g a : Option Expr) (b : Bool) → (not (is_some g) || (not (is_some a) && b)) ≡ true → (e : Expr) → g ≡ Some e → a ≡ None
 plain_guess None a b h e f = cc
 plain_guess (Some x) None b h e f = refl
 plain_guess (Some x) (Some y) b h e f = cc
 
-module _ (job : Job) (unbroken : Unbroken (widths_of job)) (k j : ℕ) (r : ReadStmt) (is : IsRight job k j (stmts.Read r)) where
+module _ (job : Job) (unbroken : Unbroken (widths_of job)) (k j : ℕ) (r : ReadStmt) (is : StmtRight job k j (stmts.Read r)) where
   abbrev s : Scoped
   s = scope_at job k j
 
   asks_of : (o : Option Expr) (kind : NameKind) → cond (is_some o) is_file is_register kind ≡ true → Unbroken (kept o (λ e. address_of (part_of job.decls (length job.decls) s e) (address_width kind)))
       → OptionRight job k j o × Asks job k j (address_width kind) o
-  asks_of None kind t u = (tt, register_plain kind t)
+  asks_of None kind t u = (tt, no_address kind t)
   asks_of (Some e) kind t u =
       let x = bind_unbroken (width_of job.decls (length job.decls) s e) (λ x. wants (x == address_width kind) (e_rule 14 (part_of job.decls (length job.decls) s e).at) passed) u in
       let y = (answer_unbroken ((width_in job k j e).value == address_width kind) (e_rule 14 (part_of job.decls (length job.decls) s e).at) [] x.1).0 in
-      (x.0, eqb-true _ _ y)
-
-  one_of : (o : Option Expr) → Unbroken (when_of job.decls s o) → OptionRight job k j o × HasWidths job k j 1 o
-  one_of None u = (tt, tt)
-  one_of (Some e) u =
-      let x = bind_unbroken (width_of job.decls (length job.decls) s e) (λ x. wants (x == 1) (e_rule 11 (part_of job.decls (length job.decls) s e).at) passed) u in
-      let y = (answer_unbroken ((width_in job k j e).value == 1) (e_rule 11 (part_of job.decls (length job.decls) s e).at) [] x.1).0 in
       (x.0, eqb-true _ _ y)
 
   fits_of : (o : Option Expr) (w : ℕ) → Unbroken (kept o (λ e. value_of (part_of job.decls (length job.decls) s e) w)) → OptionRight job k j o × HasWidths job k j w o
@@ -127,10 +112,10 @@ module _ (job : Job) (unbroken : Unbroken (widths_of job)) (k j : ℕ) (r : Read
       let e : m ≡ st.value = f.3 in
       let kind = storage_kind (is_some r.address) m.kind f.2 in
       let slot = target_slot m f.1 kind in
-      let wide : (target_at job (target_of job.decls r)).width ≡ st.value.width = slot_width (targets_of job.decls) r.target.name slot.inside ∙ slot.width ∙ ap (λ (v : Sense). v.width) e in
-      let far : (target_at job (target_of job.decls r)).address ≡ address_width st.value.kind = slot_address (targets_of job.decls) r.target.name slot.inside ∙ slot.address ∙ ap (λ (v : Sense). address_width v.kind) e in
+      let wide : (target_at job (target_of job.decls r)).width ≡ st.value.width = width_there r.target.name (targets_of job.decls) slot.inside ∙ slot.width ∙ ap (λ (v : Sense). v.width) e in
+      let far : (target_at job (target_of job.decls r)).address ≡ address_width st.value.kind = address_there r.target.name (targets_of job.decls) slot.inside ∙ slot.address ∙ ap (λ (v : Sense). address_width v.kind) e in
       let asks1 = asks_of r.address st.value.kind (subst (λ (v : Sense). cond (is_some r.address) is_file is_register v.kind ≡ true) e f.2) z.0 in
-      let on_ = one_of r.when w.0 in
+      let on_ = when_right job k j r.when w.0 in
       let fs = fits_of r.guess st.value.width g in
       record {
         new = fresh_none (find s r.name.name) a.0;
@@ -145,46 +130,34 @@ module _ (job : Job) (unbroken : Unbroken (widths_of job)) (k j : ℕ) (r : Read
         plain = plain_guess r.guess r.address _ is.guess;
         next = is.next;
         free = none_of_two (ask_option (facts_of job) Rule.E25 k r.address) (ask_option (facts_of job) Rule.E25 k r.when) is.free;
+        slots = is.slots;
       }
 
 -- WIRES of what is left out or not
 pub ask_of : (job : Job) (k j : ℕ) (p : Held) (a : ℕ) (o : Option Expr) (n : Option NodeId) → Asks job k j a o → OptionWire job k j p o n → AskOk p a n
 ask_of job k j p a None None h w = h
-ask_of job k j p a None (Some n) h w = absurd w
-ask_of job k j p a (Some e) None h w = absurd w
 ask_of job k j p a (Some e) (Some n) h w = subst (Wire p n) h w
+ask_of job k j p a _ _ h w = absurd w
 
 pub bit_of : (job : Job) (k j : ℕ) (p : Held) (o : Option Expr) (n : Option NodeId) → HasWidths job k j 1 o → OptionWire job k j p o n → BitOk p n
 bit_of job k j p None None h w = tt
-bit_of job k j p None (Some n) h w = absurd w
-bit_of job k j p (Some e) None h w = absurd w
 bit_of job k j p (Some e) (Some n) h w = subst (Wire p n) h w
+bit_of job k j p _ _ h w = absurd w
 
 pub guess_of : (job : Job) (k j : ℕ) (p : Held) (a : ℕ) (o : Option Expr) (n : Option NodeId) → HasWidths job k j a o → OptionWire job k j p o n → GuessOk p a o n
 guess_of job k j p a None None h w = tt
-guess_of job k j p a None (Some n) h w = absurd w
-guess_of job k j p a (Some e) None h w = absurd w
 guess_of job k j p a (Some e) (Some n) h w = subst (Wire p n) h w
+guess_of job k j p a _ _ h w = absurd w
 
 pub guess_fits : (p : Held) (a : ℕ) (o : Option Expr) (n : Option NodeId) → GuessOk p a o n → PutFits p a n
 guess_fits p a None None h = tt
-guess_fits p a None (Some n) h = absurd h
-guess_fits p a (Some e) None h = absurd h
 guess_fits p a (Some e) (Some n) h = h
+guess_fits p a _ _ h = absurd h
 
 pub guess_kept : (p q : Held) (m a : ℕ) (o : Option Expr) (n : Option NodeId) → Kept p q m → GuessOk p a o n → GuessOk q a o n
 guess_kept p q m a None None g h = tt
-guess_kept p q m a None (Some n) g h = absurd h
-guess_kept p q m a (Some e) None g h = absurd h
 guess_kept p q m a (Some e) (Some n) g h = wire_kept p q m n a g h
-
-pub bit_kept : (p q : Held) (m : ℕ) (n : Option NodeId) → Kept p q m → BitOk p n → BitOk q n
-bit_kept p q m None g h = tt
-bit_kept p q m (Some n) g h = wire_kept p q m n 1 g h
-
-enable_kept : (c : Cells) (p q : Held) (m : ℕ) (n : Option NodeId) → Kept p q m → BitOk p n → enable_on c q n ≡ enable_on c p n
-enable_kept c p q m None g h = refl
-enable_kept c p q m (Some n) g h = g.tests c n.0 h.inside
+guess_kept p q m a _ _ g h = absurd h
 
 on_is : (c : Cells) (q : Held) (n : NodeId) → on c q.nodes n.0 ≡ (at_value c q n == 1)
 unfolding on at
@@ -194,27 +167,24 @@ on_is c q n = refl
 module _ (job : Job) (unbroken : Unbroken (widths_of job)) (k j : ℕ) (p : Held) (env : Scope) (right : AllRight p.nodes) (bound : Bound job (scope_at job k j) p env) (c : Cells) (hints : ℕ → ℕ) (done : Progress) (names : work.Names job (scope_at job k j) hints c p env done.names) where
   pub when_means : (o : Option Expr) → ask_option (facts_of job) Rule.E25 k o ≡ None → OptionRight job k j o → (q : Held) (n : Option NodeId) → OptionGives p env o q n → enable_on c q n ≡ trees.holds job.decls done o
   when_means None free u q None g = refl
-  when_means None free u q (Some n) g = absurd g
-  when_means (Some e) free u q None g = absurd g
   when_means (Some e) free u q (Some n) g =
       let f = plain_found job unbroken k j p env right bound c hints done.names names e free u in
       on_is c q n ∙ ap (λ (w : Word). w.value == 1) (gives_is c p env e q n (trees.word_of job.decls done e) g f.there)
+  when_means _ free u q _ g = absurd g
 
   pub address_means : (o : Option Expr) → ask_option (facts_of job) Rule.E25 k o ≡ None → OptionRight job k j o → (q : Held) (n : Option NodeId) → OptionGives p env o q n → asked c q n ≡ trees.address_of job.decls done o
   address_means None free u q None g = refl
-  address_means None free u q (Some n) g = absurd g
-  address_means (Some e) free u q None g = absurd g
   address_means (Some e) free u q (Some n) g =
       let f = plain_found job unbroken k j p env right bound c hints done.names names e free u in
       at_is c q n ∙ ap (λ (w : Word). w.value) (gives_is c p env e q n (trees.word_of job.decls done e) g f.there)
+  address_means _ free u q _ g = absurd g
 
   pub miss_means : (o : Option Expr) → OptionRight job k j o → (q : Held) (n : Option NodeId) → OptionGives p env o q n → value_or_zero c q n ≡ miss_of job.decls hints done o
   miss_means None u q None g = refl
-  miss_means None u q (Some n) g = absurd g
-  miss_means (Some e) u q None g = absurd g
   miss_means (Some e) u q (Some n) g =
       let f = hinted_found job unbroken k j p env right bound c hints done.names names e u in
       at_is c q n ∙ ap (λ (w : Word). w.value) (gives_is c p env e q n _ g f.there)
+  miss_means _ u q _ g = absurd g
 
 -- an address is one of the target's
 asked_fits : (c : Cells) (p : Held) (a : ℕ) (n : Option NodeId) → AskOk p a n → asked c p n < 2 ^ a
@@ -225,69 +195,72 @@ read_address : (job : Job) (done : Progress) (r : ReadStmt) (guess : Option Expr
 read_address job done r None plain = refl
 read_address job done r (Some e) plain = ap (trees.address_of job.decls done) (plain e refl)
 
-module _ (job : Job) (unbroken : Unbroken (widths_of job)) (k j : ℕ) (r : ReadStmt) (is : ReadRight job k j r) (p p1 p2 p3 q : Held) (n1 n2 n3 n4 : ℕ) (g1 : Kept p p1 n1) (g2 : Kept p1 p2 n2) (g3 : Kept p2 p3 n3) (g4 : Kept p3 q n4)
+-- what the nodes of a read's address, condition and guess mean
+pub record AskMeans (ds : List Decl) (hints : ℕ → ℕ) (done : Progress) (r : ReadStmt) (c : Cells) (q : Held) (an wn gn : Option NodeId) : Type 0 where
+  pub address : asked c q an ≡ address_read ds done r r.guess
+  pub when : enable_on c q wn ≡ trees.holds ds done r.when
+  pub guess : value_or_zero c q gn ≡ miss_of ds hints done r.guess
+
+pub record AskNodes (job : Job) (k j : ℕ) (r : ReadStmt) (p q : Held) (env : Scope) (an wn gn : Option NodeId) : Type 0 where
+  pub address : AskOk q (target_at job (target_of job.decls r)).address an
+  pub when : BitOk q wn
+  pub guess : GuessOk q (target_at job (target_of job.decls r)).width r.guess gn
+  pub means : (c : Cells) (hints : ℕ → ℕ) (done : Progress) → work.Names job (scope_at job k j) hints c p env done.names → AskMeans job.decls hints done r c q an wn gn
+  pub up : (n : ℕ) × Kept p q n
+
+module _ (job : Job) (unbroken : Unbroken (widths_of job)) (k j : ℕ) (r : ReadStmt) (is : ReadRight job k j r) (p p1 p2 q : Held) (n1 n2 n3 : ℕ) (g1 : Kept p p1 n1) (g2 : Kept p1 p2 n2) (g3 : Kept p2 q n3)
     (env : Scope) (bound : Bound job (scope_at job k j) p env) (a0 : AllRight p.nodes) (a1 : AllRight p1.nodes) (a2 : AllRight p2.nodes) (an wn gn : Option NodeId)
-    (w1 : OptionWire job k j p1 r.address an) (w2 : OptionWire job k j p2 r.when wn) (w3 : OptionWire job k j p3 r.guess gn)
-    (v1 : OptionGives p env r.address p1 an) (v2 : OptionGives p1 env r.when p2 wn) (v3 : OptionGives p2 env r.guess p3 gn)
+    (w1 : OptionWire job k j p1 r.address an) (w2 : OptionWire job k j p2 r.when wn) (w3 : OptionWire job k j q r.guess gn)
+    (v1 : OptionGives p env r.address p1 an) (v2 : OptionGives p1 env r.when p2 wn) (v3 : OptionGives p2 env r.guess q gn) where
+  pub ask_nodes : AskNodes job k j r p q env an wn gn
+  ask_nodes =
+      let t = target_of job.decls r in
+      let later = kept_then p1 p2 q n2 n3 g2 g3 in
+      let ask = ask_of job k j p1 (target_at job t).address r.address an is.asks w1 in
+      let bit = bit_of job k j p2 r.when wn is.one w2 in
+      record {
+        address = ask_kept p1 q (n2 + n3) (target_at job t).address an later ask;
+        when = bit_kept p2 q n3 wn g3 bit;
+        guess = guess_of job k j q (target_at job t).width r.guess gn is.fits w3;
+        up = (n1 + (n2 + n3), kept_then p p1 q n1 (n2 + n3) g1 later);
+        means = λ c hints done names.
+            let b1 = bound_kept job (scope_at job k j) p p1 n1 env g1 bound in
+            let m1 = names_kept job (scope_at job k j) hints c p p1 n1 env done.names g1 bound.inside names in
+            record {
+              address = asked_kept p1 q (n2 + n3) an later (ask_inside p1 (target_at job t).address an ask) c
+                  ∙ address_means job unbroken k j p env a0 bound c hints done names r.address is.free.0 is.address p1 an v1
+                  ∙ read_address job done r r.guess is.plain;
+              when = enable_kept c p2 q n3 wn g3 bit ∙ when_means job unbroken k j p1 env a1 b1 c hints done m1 r.when is.free.1 is.when p2 wn v2;
+              guess = miss_means job unbroken k j p2 env a2 (bound_kept job (scope_at job k j) p1 p2 n2 env g2 b1) c hints done
+                  (names_kept job (scope_at job k j) hints c p1 p2 n2 env done.names g2 b1.inside m1) r.guess is.guess q gn v3;
+            };
+      }
+
+module _ (job : Job) (k j : ℕ) (r : ReadStmt) (inside : target_of job.decls r < length (targets_of job.decls)) (p q z : Held) (n : ℕ) (g : Kept q z n) (env : Scope) (an wn gn : Option NodeId) (nodes : AskNodes job k j r p q env an wn gn)
     (ss : List Source) (sok : SourcesOk job p ss) (source : Source) (there : slice_get ss (target_of job.decls r) ≡ Some source) where
   abbrev t : ℕ
   t = target_of job.decls r
 
-  up3 : Kept p p3 ((n1 + n2) + n3)
-  up3 = kept_then p p2 p3 (n1 + n2) n3 (kept_then p p1 p2 n1 n2 g1 g2) g3
+  pub source_there : SourceOk job q t source
+  source_there = source_kept job p q nodes.up.0 t source nodes.up.1 (sok.each t source there)
 
-  pub source_there : SourceOk job p3 t source
-  source_there = source_kept job p p3 ((n1 + n2) + n3) t source up3 (sok.each t source there)
-
-  pub ask_there : AskOk p3 (target_at job t).address an
-  ask_there = ask_kept p1 p3 (n2 + n3) (target_at job t).address an (kept_then p1 p2 p3 n2 n3 g2 g3) (ask_of job k j p1 (target_at job t).address r.address an is.asks w1)
-
-  pub bit_there : BitOk p3 wn
-  bit_there = bit_kept p2 p3 n3 wn g3 (bit_of job k j p2 r.when wn is.one w2)
-
-  pub guess_there : GuessOk p3 (target_at job t).width r.guess gn
-  guess_there = guess_of job k j p3 (target_at job t).width r.guess gn is.fits w3
-
-  pub put_there : PutFits p3 source.width gn
-  put_there = subst (λ w. PutFits p3 w gn) (sym source_there.width) (guess_fits p3 (target_at job t).width r.guess gn guess_there)
+  pub put_there : PutFits q source.width gn
+  put_there = subst (λ w. PutFits q w gn) (sym source_there.width) (guess_fits q (target_at job t).width r.guess gn nodes.guess)
 
   pub read_gives : (a : Answer) → a.guess ≡ gn
-      → ((c : Cells) → at c q.nodes a.value.0 ≡ given (enable_on c p3 wn) (source_view c p3 source (asked c p3 an)) (value_or_zero c p3 gn))
-      → ((c : Cells) → on c q.nodes a.lacks.0 ≡ lacks (enable_on c p3 wn) (source_view c p3 source (asked c p3 an)))
-      → ReadGives job k j r p env ss q a
+      → ((c : Cells) → at c z.nodes a.value.0 ≡ given (enable_on c q wn) (source_view c q source (asked c q an)) (value_or_zero c q gn))
+      → ((c : Cells) → on c z.nodes a.lacks.0 ≡ lacks (enable_on c q wn) (source_view c q source (asked c q an)))
+      → ReadGives job k j r p env ss z a
   unfolding ReadGives Sees
   read_gives a same value lacking = λ c v hints done sees names.
-      let b1 = bound_kept job (scope_at job k j) p p1 n1 env g1 bound in
-      let b2 = bound_kept job (scope_at job k j) p1 p2 n2 env g2 b1 in
-      let m1 = names_kept job (scope_at job k j) hints c p p1 n1 env done.names g1 bound.inside names in
-      let m2 = names_kept job (scope_at job k j) hints c p1 p2 n2 env done.names g2 b1.inside m1 in
-      let when = enable_kept c p2 p3 n3 wn g3 (bit_of job k j p2 r.when wn is.one w2)
-      ∙ when_means job unbroken k j p1 env a1 b1 c hints done m1 r.when is.free.1 is.when p2 wn v2 in
-      let ask1 = ask_of job k j p1 (target_at job t).address r.address an is.asks w1 in
-      let address = asked_kept p1 p3 (n2 + n3) an (kept_then p1 p2 p3 n2 n3 g2 g3) (ask_inside p1 (target_at job t).address an ask1) c
-      ∙ address_means job unbroken k j p env a0 bound c hints done names r.address is.free.0 is.address p1 an v1
-      ∙ read_address job done r r.guess is.plain in
-      let miss = miss_means job unbroken k j p2 env a2 b2 c hints done m2 r.guess is.guess p3 gn v3 in
-      let x = asked c p3 an in
-      let see : source_view c p3 source x ≡ v t x = view_there c v x (sees_kept job c p p3 ((n1 + n2) + n3) ss v up3 sok sees) is.inside (asked_fits c p3 (target_at job t).address an ask_there) in
-      let truth : source_view c p3 source x ≡ truth_of job.decls v done r r.guess = see ∙ ap (v t) address in
+      let m = nodes.means c hints done names in
+      let x = asked c q an in
+      let see : view_of c q (slice_get ss t) x ≡ v t x = sees_kept job c p q nodes.up.0 ss v nodes.up.1 sok sees t x inside (asked_fits c q (target_at job t).address an nodes.address) in
+      let truth : source_view c q source x ≡ truth_of job.decls v done r r.guess = sym (ap (λ (o : Option Source). view_of c q o x) there) ∙ see ∙ ap (v t) m.address in
+      let when = m.when in
+      let miss = m.guess in
       record {
-        value = value c ∙ given_same _ _ _ _ _ _ when truth miss;
-        lacks = lacking c ∙ ap (λ w. lacks w (source_view c p3 source x)) when ∙ ap (lacks (trees.holds job.decls done r.when)) truth;
-        guess = ap (value_or_zero c q) same ∙ orzero_kept c p3 q n4 (target_at job t).width gn g4 (guess_fits p3 (target_at job t).width r.guess gn guess_there) ∙ miss;
+        value = value c ∙ (λ i. given (when i) (truth i) (miss i));
+        lacks = lacking c ∙ (λ i. lacks (when i) (truth i));
+        guess = ap (value_or_zero c z) same ∙ orzero_kept c q z n (target_at job t).width gn g (guess_fits q (target_at job t).width r.guess gn nodes.guess) ∙ miss;
       }
-    where
-      given_same : (w w' : Bool) (o o' : Option ℕ) (m m' : ℕ) → w ≡ w' → o ≡ o' → m ≡ m' → given w o m ≡ given w' o' m'
-      given_same w w' o o' m m' e f h = λ i. given (e i) (f i) (h i)
-
-      view_there : (c : Cells) (v : ℕ → ℕ → Option ℕ) (x : ℕ) → Sees job c p3 ss v → t < length (targets_of job.decls) → x < 2 ^ (target_at job t).address → source_view c p3 source x ≡ v t x
-      view_there c v x h l m = sym (ap (λ (o : Option Source). view_of c p3 o x) there) ∙ h t x l m
-
--- a condition of a set
-pub when_right : (job : Job) (k j : ℕ) (o : Option Expr) → Unbroken (when_of job.decls (scope_at job k j) o) → OptionRight job k j o × HasWidths job k j 1 o
-when_right job k j None u = (tt, tt)
-when_right job k j (Some e) u =
-    let s = scope_at job k j in
-    let x = bind_unbroken (width_of job.decls (length job.decls) s e) (λ x. wants (x == 1) (e_rule 11 (part_of job.decls (length job.decls) s e).at) passed) u in
-    let y = (answer_unbroken ((width_in job k j e).value == 1) (e_rule 11 (part_of job.decls (length job.decls) s e).at) [] x.1).0 in
-    (x.0, eqb-true _ _ y)

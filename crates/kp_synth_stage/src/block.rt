@@ -41,6 +41,7 @@ pub(crate) fn step(
     ensures goes { IfOk result (λ u. GoesBy d.now.job k j stmt.now.kind pool.old work.old sources.now pool.new work.new) }
     ensures added { IfOk result (λ u. Added d.now.job pool.old pool.new (cost_of d.now.job stmt.now.kind)) }
 {
+    let _job = d.job();
     match &stmt.kind {
         StmtKind::Read(r) => read(alloc, pool, d, k, j, slots, sources, r, work),
         StmtKind::Let(name, e) => let_name(alloc, pool, d, k, j, name, e, work),

@@ -8,7 +8,7 @@ ghost use Rattle.kp_pipeline.specs.Sequential.{first_value};
 ghost use Rattle.kp_synth_registers.specs.Holding.{optional};
 ghost use Rattle.kp_synth_registers.specs.Meaning.{Added, SetFits, set_value};
 ghost use Rattle.kp_synth_stage.specs.declared.row.Source.{Source as ASource};
-ghost use Rattle.kp_synth_stage.specs.inner.Standing.{WorkOk, StandsAt, GoesBy};
+ghost use Rattle.kp_synth_stage.specs.inner.Standing.{WorkOk, StmtRight, GoesBy};
 ghost use Rattle.kp_synth_stage.specs.Work.{cost_of, AreSlots};
 ghost use Rattle.kp_stage.specs.Sizes.{size_of_kind};
 ghost use Rattle.kp_synth_tables.specs.Keys.{target_at};
@@ -42,7 +42,7 @@ pub(crate) fn let_name(
     e: &Expr,
     work: &mut Work,
 ) -> Result<(), NoMemory>
-    requires at { StandsAt d.now.job k j (stmts.Let name.now e.now) }
+    requires right { StmtRight d.now.job k j (stmts.Let name.now e.now) }
     requires room { cost_of d.now.job (stmts.Let name.now e.now) ≤ pool.old.spare }
     requires work { WorkOk d.now.job k j pool.old work.old }
     ensures work { IfOk result (λ u. WorkOk d.now.job k (suc j) pool.new work.new) }
@@ -68,7 +68,7 @@ pub(crate) fn put(
     e: &Expr,
     work: &mut Work,
 ) -> Result<(), NoMemory>
-    requires at { StandsAt d.now.job k j (stmts.Put name.now e.now) }
+    requires right { StmtRight d.now.job k j (stmts.Put name.now e.now) }
     requires room { cost_of d.now.job (stmts.Put name.now e.now) ≤ pool.old.spare }
     requires slots { AreSlots d.now.job slots.now }
     requires work { WorkOk d.now.job k j pool.old work.old }
@@ -96,7 +96,7 @@ pub(crate) fn aim(
     e: &Expr,
     work: &mut Work,
 ) -> Result<(), NoMemory>
-    requires at { StandsAt d.now.job k j (stmts.Aim name.now e.now) }
+    requires right { StmtRight d.now.job k j (stmts.Aim name.now e.now) }
     requires room { cost_of d.now.job (stmts.Aim name.now e.now) ≤ pool.old.spare }
     requires slots { AreSlots d.now.job slots.now }
     requires work { WorkOk d.now.job k j pool.old work.old }
@@ -150,7 +150,7 @@ pub(crate) fn set(
     when: &Option<Expr>,
     work: &mut Work,
 ) -> Result<(), NoMemory>
-    requires at { StandsAt d.now.job k j (stmts.Set name.now e.now when.now) }
+    requires right { StmtRight d.now.job k j (stmts.Set name.now e.now when.now) }
     requires room { cost_of d.now.job (stmts.Set name.now e.now when.now) ≤ pool.old.spare }
     requires slots { AreSlots d.now.job slots.now }
     requires work { WorkOk d.now.job k j pool.old work.old }
@@ -170,7 +170,7 @@ pub(crate) fn set(
             work.sets[t] = Some(set);
             Ok(())
         }
-        None => Ok(()),
+        None => unreachable!(),
     }
 }
 
@@ -195,7 +195,7 @@ pub(crate) fn read_nodes(
     env: &Env,
     r: &ReadStmt,
 ) -> Result<Answer, NoMemory>
-    requires at { StandsAt d.now.job k j (stmts.Read r.now) }
+    requires right { StmtRight d.now.job k j (stmts.Read r.now) }
     requires room { cost_of d.now.job (stmts.Read r.now) ≤ pool.old.spare }
     requires slots { AreSlots d.now.job slots.now }
     requires sources { SourcesOk d.now.job pool.old sources.now }
@@ -261,7 +261,7 @@ pub(crate) fn read(
     r: &ReadStmt,
     work: &mut Work,
 ) -> Result<(), NoMemory>
-    requires at { StandsAt d.now.job k j (stmts.Read r.now) }
+    requires right { StmtRight d.now.job k j (stmts.Read r.now) }
     requires room { cost_of d.now.job (stmts.Read r.now) ≤ pool.old.spare }
     requires slots { AreSlots d.now.job slots.now }
     requires sources { SourcesOk d.now.job pool.old sources.now }

@@ -109,7 +109,7 @@ module _ (q : List ℕ) where
       (λ n. let more = address_there ss (rest_in s ss n h) in rw n more)
 
 -- a register has no addresses
-no_address : (kind : NameKind) → names.is_register kind ≡ true → address_width kind ≡ 0
+pub no_address : (kind : NameKind) → names.is_register kind ≡ true → address_width kind ≡ 0
 no_address kinds.Reg e = refl
 no_address (kinds.File a) e = cc
 no_address kind e = refl

@@ -1,5 +1,5 @@
 -- The tables of a job that violates no rule are those that the constructor builds.
-use Rattle.std.proofs.Common.{◌≡◌, ◌∙◌, ℕ, suc, ◌+◌, ◌-◌, ◌<◌, ◌≤◌, List, ◌∷◌, ◌++◌, Option, Some, None, append_assoc, ap, sym, arith}
+use Rattle.std.proofs.Common.{◌≡◌, ◌∙◌, ℕ, suc, ◌+◌, ◌-◌, ◌<◌, List, ◌∷◌, ◌++◌, Option, Some, None, append_assoc, ap, sym, arith}
 use Rattle.kp_ast.specs.declared.tree.{Expr.Expr, ReadStmt.ReadStmt, StmtKind.StmtKind, Job.Job}
 use Rattle.kp_ast.specs.declared.tree.StmtKind.TheVariants as stmts
 use Rattle.kp_stage.specs.Counts.{one_if_some}
@@ -15,14 +15,6 @@ read_step job k i r (Some e) rest = let z : suc i ≡ i + 1 = omega arith in ap 
 pub guess_step : (job : Job) (k i : ℕ) (x : StmtKind) (rest : ℕ → List GuessSlot) → with_guess job k i x rest ≡ guess_here job k i x ++ rest (i + guess_count x)
 guess_step job k i (stmts.Read r) rest = read_step job k i r r.guess rest
 guess_step job k i x rest = let z : i ≡ i + 0 = omega arith in ap rest z
-
-one_guess : (o : Option Expr) → one_if_some o ≤ 1
-one_guess None = omega arith
-one_guess (Some e) = omega arith
-
-pub few_guesses : (x : StmtKind) → guess_count x ≤ 1
-few_guesses (stmts.Read r) = one_guess r.guess
-few_guesses x = omega arith
 
 -- one more stage has its keys
 pub stages_turn : (ds : List Piped) (ports : List (Option Port)) (slots : List GuessSlot) (n k : ℕ) (xs ys all : List Key) → k < n → ys ≡ xs ++ stage_by k ds ports slots

@@ -2,7 +2,7 @@
 use Rattle.std.proofs.Common.{◌≡◌, ◌∙◌, ℕ, suc, ◌+◌, ◌≤◌, List, [], ◌∷◌, Option, Some, None, true, length, length-append, refl, ap, subst, arith}
 use Rattle.std.proofs.lemmas.{List.Sums.sum_by-cons}
 use Rattle.std.specs.Prelude.{sum_by}
-use Rattle.kp_base.specs.{First.first, Refusal.e_rule}
+use Rattle.kp_base.specs.{Refusal.e_rule}
 use Rattle.kp_ast.specs.declared.tree.{Expr.Expr, ReadStmt.ReadStmt, Decl.Decl, Stmt.Stmt, StmtKind.StmtKind, Block.Block, Job.Job}
 use Rattle.kp_ast.specs.declared.tree.Decl.TheVariants as decls
 use Rattle.kp_ast.specs.declared.tree.StmtKind.TheVariants as stmts
@@ -10,9 +10,9 @@ use Rattle.kp_width.specs.Declarations.{functions_in, name_of}
 use Rattle.kp_width.proofs.Unbroken.{Unbroken, bind_unbroken, answer_unbroken}
 use Rattle.std.proofs.lemmas.Bool.Decides.{nat_tests}
 use Rattle.kp_stage.specs.Counts.{regs_in, files_in, pipes_in, results_in, hints_in, samples_in, one_if_some, is_within, nothing_counted, with_decl, with_stmt, place_of_read, decls_counted, stmts_counted, blocks_counted, counts_of}
-use Rattle.kp_stage.specs.{Facts.facts_of, Rules.broken_by, Sizes.sizes_of, Stages.broken_of}
+use Rattle.kp_stage.specs.{Stages.broken_of}
 use Rattle.kp_stage.specs.Counts as counts
-use Rattle.kp_stage.proofs.{Unbroken.first_none, Totals.counts_total}
+use Rattle.kp_stage.proofs.{Kept.counts_kept, Totals.counts_total}
 use Rattle.kp_machine.specs.Slots.{targets_of, pipes_of, hints_of, samples_of}
 use Rattle.kp_synth_tables.specs.Keys.{guesses_in, guesses_from, guesses_of}
 use Rattle.kp_synth_tables.specs.inner.Tables.{read_here, guess_here, guess_count}
@@ -36,11 +36,6 @@ blocks_within c (b ∷ bs) h u =
     let x = bind_unbroken (stmts_counted c b.stmts) (λ t. blocks_counted t bs) u in
     blocks_within (stmts_counted c b.stmts).value bs (stmts_within c b.stmts h x.0) x.1
 
-counts_right : (job : Job) → broken_of job ≡ None → Unbroken (counts_of job)
-unfolding broken_of
-counts_right job e =
-    (first_none (first (counts_of job).asked) [] (first_none (first (sizes_of job).asked) (first (counts_of job).asked ∷ []) (first_none (broken_by (facts_of job) job) (first (sizes_of job).asked ∷ first (counts_of job).asked ∷ []) e).1).1).0
-
 counts_within : (job : Job) → Unbroken (counts_of job) → is_within (counts_of job).value ≡ true
 unfolding counts_of
 counts_within job u =
@@ -58,24 +53,19 @@ pub record Limits (job : Job) : Type 0 where
   pub samples : sum_by samples_in job.decls ≤ 16
   pub guesses : sum_by (λ (b : Block). sum_by counts.guesses_in b.stmts) job.blocks ≤ 8
 
-limits_of : (c : _) → is_within c ≡ true
-    → (c.regs ≤ 64) × (c.files ≤ 16) × (c.pipes ≤ 128) × (c.results ≤ 64) × (c.hints ≤ 16) × (c.functions ≤ 64) × (c.guesses ≤ 8) × (c.samples ≤ 16)
-limits_of c h = (
-  grind (arith, nat_tests),
-  grind (arith, nat_tests),
-  grind (arith, nat_tests),
-  grind (arith, nat_tests),
-  grind (arith, nat_tests),
-  grind (arith, nat_tests),
-  grind (arith, nat_tests),
-  grind (arith, nat_tests),
-)
-
 pub limits : (job : Job) → broken_of job ≡ None → Limits job
 limits job e =
-    let w = subst (λ c. is_within c ≡ true) (counts_total job) (counts_within job (counts_right job e)) in
-    let l = limits_of _ w in
-    record { regs = l.0; files = l.1; pipes = l.2; results = l.3; hints = l.4; functions = l.5; guesses = l.6; samples = l.7 }
+    let w = subst (λ c. is_within c ≡ true) (counts_total job) (counts_within job (counts_kept job e)) in
+    record {
+      regs = grind (arith, nat_tests);
+      files = grind (arith, nat_tests);
+      pipes = grind (arith, nat_tests);
+      results = grind (arith, nat_tests);
+      hints = grind (arith, nat_tests);
+      functions = grind (arith, nat_tests);
+      samples = grind (arith, nat_tests);
+      guesses = grind (arith, nat_tests);
+    }
 
 -- each declaration is counted once, and a register, a file, a pipe or a hint has its slot
 pub targets_counted : (ds : List Decl) → length (targets_of ds) ≡ sum_by regs_in ds + sum_by files_in ds

@@ -1,6 +1,6 @@
 -- Each key that a job has is in the list of its keys, and the list has no other.
 use Rattle.std.proofs.Common.{◌≡◌, ◌∙◌, ℕ, zero, suc, ◌+◌, ◌<◌, ◌≤◌, Bool, true, false, cond, ◌&&◌, ◌==◌, List, [], ◌∷◌, length, get_or, refl, sym, ap, subst, arith, ⊎_elim, inl, inr, eqb-true}
-use Rattle.std.proofs.lemmas.Bool.{eq-eqb, cases_lt, ltb-true}
+use Rattle.std.proofs.lemmas.Bool.{and_parts, eq-eqb, cases_lt, ltb-true}
 use Rattle.std.specs.{Prelude.nat_lt, List.AllByRecursion}
 use Rattle.kp_ast.specs.declared.tree.Job.{Job}
 use Rattle.kp_machine.specs.Slots.{targets_of, pipes_of, hints_of}
@@ -10,13 +10,8 @@ use Rattle.kp_synth_tables.specs.declared.key.Key.TheVariants.{Visible, Full, Pi
 use Rattle.kp_synth_tables.specs.declared.key.GuessSlot.{GuessSlot}
 use Rattle.kp_synth_tables.proofs.{Listed.IsIn, Listed.in_left, Listed.in_right, Listed.visible, Listed.pipes, Listed.results, Listed.guesses, Listed.hints, Listed.at_entry, Listed.each_both, Listed.each, Fitting.all_at}
 
-both_true : {G : Type 0} (a b : Bool) → (a ≡ true → b ≡ true → G) → (a && b) ≡ true → G
-both_true true true f e = f refl refl
-both_true true false f e = cc
-both_true false b f e = cc
-
 two : {A : Type 0} (f : ℕ → ℕ → A) (a b x y : ℕ) → ((a == b) && (x == y)) ≡ true → f a x ≡ f b y
-two f a b x y e = both_true (a == b) (x == y) (λ p q. ap (λ (n : ℕ). f n x) (eqb-true a b p) ∙ ap (f b) (eqb-true x y q)) e
+two f a b x y e = let p = and_parts (a == b) (x == y) e in ap (λ (n : ℕ). f n x) (eqb-true a b p.0) ∙ ap (f b) (eqb-true x y p.1)
 
 pub same_key : (a b : Key) → is_same_key a b ≡ true → a ≡ b
 same_key (Visible t) (Visible u) e = ap Visible (eqb-true t u e)
@@ -83,7 +78,7 @@ staged job key k z l h =
     (in_left key (later_keys job job.stages.value) (hint_keys 0 (hints_of job.decls)) (later_in job key job.stages.value k z l h))
 
 pub carried : (s : GuessSlot) (k : ℕ) → is_carried s k ≡ true → (s.stage < k) × (k < s.write)
-carried s k e = both_true (nat_lt s.stage k) (nat_lt k s.write) (λ a b. (ltb-true s.stage k a, ltb-true k s.write b)) e
+carried s k e = let p = and_parts (nat_lt s.stage k) (nat_lt k s.write) e in (ltb-true s.stage k p.0, ltb-true k s.write p.1)
 
 carried_later : (s : GuessSlot) (k : ℕ) → is_carried s k ≡ true → 0 < k
 carried_later s k e = let c = carried s k e in omega (arith, c.0)

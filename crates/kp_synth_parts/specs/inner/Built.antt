@@ -105,17 +105,11 @@ SpelledFile f = IsSpelled is_file_name f.name
 abbrev pub SpelledPort : Port → Type 0
 SpelledPort s = IsSpelled is_sample_name s.name
 
-unfoldable pub RegsSpelled : List NetReg → Type 0
-RegsSpelled regs = All SpelledReg regs
-
-unfoldable pub FilesSpelled : List NetFile → Type 0
-FilesSpelled files = All SpelledFile files
-
-unfoldable pub PortsSpelled : List Port → Type 0
-PortsSpelled ports = All SpelledPort ports
+unfoldable pub AllSpelled : {X : Type 0} → (X → Type 0) → List X → Type 0
+AllSpelled P xs = All P xs
 
 pub record Spelled (p : Parts) : Type 0 where
   pub name : IsSpelled is_module_name p.name
-  pub samples : PortsSpelled p.samples
-  pub regs : RegsSpelled p.regs
-  pub files : FilesSpelled p.files
+  pub samples : AllSpelled SpelledPort p.samples
+  pub regs : AllSpelled SpelledReg p.regs
+  pub files : AllSpelled SpelledFile p.files

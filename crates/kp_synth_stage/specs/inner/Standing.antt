@@ -1,11 +1,14 @@
 -- THE STATE OF A STAGE before one of its statements, as nodes.
-use Rattle.std.specs.Prelude.{Bool, List, None, Option, Some, [], false, if◌then◌else◌, slice_get, suc, take, true, ℕ, ◌∷◌, ◌≡◌}
-use Rattle.kp_ast.specs.{Expressions.is_same_name, declared.tree.Job.Job, declared.tree.Stmt.Stmt, declared.tree.StmtKind.StmtKind}
-use Rattle.kp_width.specs.Names.{Scoped, Sense, find, is_hint}
+use Rattle.std.specs.Prelude.{List, None, Option, Some, [], suc, take, true, ℕ, ◌++◌, ◌∷◌, ◌≡◌}
+use Rattle.kp_base.specs.First.{first}
+use Rattle.kp_ast.specs.{Expressions.is_same_name, declared.tree.Job.Job, declared.tree.StmtKind.StmtKind}
+use Rattle.kp_ast.specs.declared.tree.StmtKind.TheVariants as stmts
+use Rattle.kp_width.specs.{Names.Scoped, Names.Sense, Names.find, Names.is_hint, Statements.statement_of}
+use Rattle.kp_stage.specs.{Facts.Facts, Facts.facts_of, declared.rules.Rule.Rule, Rules.ask_values, Rules.may_guess}
 use Rattle.kp_machine.specs.{Slots.Slot, Slots.hints_of, Slots.pipes_of, Slots.samples_of, Slots.words_of, Trees.entered}
 use Rattle.kp_net.specs.{Growth.Held, Nodes.Cells, declared.node.NodeId.NodeId}
 use Rattle.kp_build.specs.Names.{Nodes, Scope, with_node, word_of}
-use Rattle.kp_synth_tables.specs.{Keys.guesses_in, declared.key.GuessSlot.GuessSlot}
+use Rattle.kp_synth_tables.specs.{Keys.guesses_in, Keys.with_guess, declared.key.GuessSlot.GuessSlot}
 use Rattle.kp_synth_stage.specs.{Rows.Sees, Work.Fits, Work.Means, Work.NodesHave, Work.stmts_at, declared.row.Source.Source, declared.work.Work.Work}
 use Rattle.kp_synth_stage.specs.inner.Doing.{Doing, after_stmt, after_stmts, begun, outcome_of}
 use Rattle.kp_synth_stage.specs.inner.Scopes.{Bound, is_bound, scope_at}
@@ -32,9 +35,22 @@ pub record Stands (job : Job) (k j : ℕ) (hints : ℕ → ℕ) (c : Cells) (p :
   pub names : Names job (scope_at job k j) hints c p w.env d.done.names
   pub outcome : Means job c p (slots_at job k j) w (outcome_of hints d)
 
--- statement j of stage k is this one
-unfoldable pub StandsAt : Job → ℕ → ℕ → StmtKind → Type 0
-StandsAt job k j kind = (x : Stmt) × (slice_get (stmts_at job k) j ≡ Some x) × (x.kind ≡ kind)
+-- a guess is of a register, which is read without an address
+abbrev pub GuessRight : Facts → ℕ → StmtKind → Type 0
+GuessRight facts k (stmts.Read r) = may_guess facts k r ≡ true
+GuessRight facts k _ = Unit {0}
+
+-- the slots of one statement, which i guessed reads precede
+abbrev pub own_slots : Job → ℕ → StmtKind → ℕ → List GuessSlot
+own_slots job k x i = with_guess job k i x (λ m. [])
+
+-- what holds of statement j of stage k
+pub record StmtRight (job : Job) (k j : ℕ) (x : StmtKind) : Type 0 where
+  pub right : first (statement_of job.decls (scope_at job k j) x).asked ≡ None
+  pub next : scope_at job k (suc j) ≡ (statement_of job.decls (scope_at job k j) x).value
+  pub free : ask_values (facts_of job) Rule.E25 k x ≡ None
+  pub guess : GuessRight (facts_of job) k x
+  pub slots : (n : ℕ) × (slots_at job k (suc j) ≡ slots_at job k j ++ own_slots job k x n)
 
 -- a statement of stage k is translated correctly: what its nodes mean after it is what it does
 unfoldable pub GoesBy : Job → ℕ → ℕ → StmtKind → Held → Work → List Source → Held → Work → Type 0
@@ -58,11 +74,6 @@ env_of job pipes samples hints = record {
   decls = job.decls;
   names = names_with (names_with (names_with [] (hints_of job.decls) hints) (samples_of job.decls) samples) (pipes_of job.decls) pipes;
 }
-
--- whether one of these slots has the name
-abbrev pub has_name : List Slot → List ℕ → Bool
-has_name [] q = false
-has_name (s ∷ ss) q = if is_same_name q s.name then true else has_name ss q
 
 -- the start of a stage: the pipes have the values of these nodes, and so have the samples and the hints
 unfoldable pub Enters : Job → ℕ → Held → List NodeId → List NodeId → List NodeId → Held → Work → Type 0

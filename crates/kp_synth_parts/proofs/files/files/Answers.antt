@@ -1,5 +1,6 @@
 use Rattle.std.proofs.{Common.arith, lemmas.Grind.common_steps}
-use Rattle.kp_synth_parts.proofs.Spelled.{no_files, file_more}
+use Rattle.kp_synth_parts.specs.inner.Built.{SpelledFile}
+use Rattle.kp_synth_parts.proofs.Spelled.{none_spelled, file_more}
 use Rattle.kp_synth_parts.proofs.files.files.Goals as goal
 
 pub loop-decl-init : goal.loop-decl-init
@@ -8,7 +9,7 @@ loop-decl-init c = record {
   targets = grind (arith, common_steps);
   count = grind (arith, common_steps);
   files = grind (arith, common_steps);
-  spelled = no_files _ c.new-files.ensures.items;
+  spelled = none_spelled SpelledFile _ c.new-files.ensures.items;
 }
 
 pub loop-decl-preserved : goal.loop-decl-preserved

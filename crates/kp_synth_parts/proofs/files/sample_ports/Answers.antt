@@ -1,5 +1,6 @@
 use Rattle.std.proofs.{Common.arith, lemmas.Grind.common_steps}
-use Rattle.kp_synth_parts.proofs.Spelled.{no_ports, port_more}
+use Rattle.kp_synth_parts.specs.inner.Built.{SpelledPort}
+use Rattle.kp_synth_parts.proofs.Spelled.{none_spelled, port_more}
 use Rattle.kp_synth_parts.proofs.files.sample_ports.Goals as goal
 
 pub loop-decl-init : goal.loop-decl-init
@@ -7,7 +8,7 @@ loop-decl-init c = record {
   few = grind (arith, common_steps);
   samples = grind (arith, common_steps);
   ports = grind (arith, common_steps);
-  spelled = no_ports _ c.new-ports.ensures.items;
+  spelled = none_spelled SpelledPort _ c.new-ports.ensures.items;
 }
 
 pub loop-decl-preserved : goal.loop-decl-preserved

@@ -1,8 +1,8 @@
 use Rattle.std.proofs.Common.{◌<◌, List, length, sym, subst, arith}
 use Rattle.kp_net.specs.declared.netlist.NetReg.{NetReg}
 use Rattle.kp_synth_tables.specs.Keys.{keys_of}
-use Rattle.kp_synth_parts.specs.inner.Built.{RegsSpelled}
-use Rattle.kp_synth_parts.proofs.{Making.others_step, Spelled.reg_added}
+use Rattle.kp_synth_parts.specs.inner.Built.{AllSpelled, SpelledReg}
+use Rattle.kp_synth_parts.proofs.{Making.others_step, Spelled.one_spelled}
 use Rattle.kp_synth_parts.proofs.registers.add_others.Goals as goal
 
 pub loop-r-preserved : goal.loop-r-preserved
@@ -12,5 +12,5 @@ loop-r-preserved c =
     record {
       behind = omega (arith, v.behind);
       regs = others_step c.args.layout.now c.args.nexts.now c.len-from.result c.loop-r.r (keys_of c.args.layout.now) c.loop-r.regs.items c.push.new.self.items c.in_ok-other.field-0 _ l c.in_ok-other.ensures.reg c.in_ok-push.ensures.items v.regs;
-      spelled = subst RegsSpelled (sym {A = List NetReg} c.in_ok-push.ensures.items) (reg_added c.loop-r.regs.items c.in_ok-other.field-0 v.spelled c.in_ok-other.ensures.spelled);
+      spelled = subst (AllSpelled SpelledReg) (sym {A = List NetReg} c.in_ok-push.ensures.items) (one_spelled SpelledReg c.loop-r.regs.items c.in_ok-other.field-0 v.spelled c.in_ok-other.ensures.spelled);
     }

@@ -1,12 +1,13 @@
 use Rattle.std.proofs.{Common.arith, lemmas.Grind.common_steps}
-use Rattle.kp_synth_parts.proofs.Spelled.{no_regs, reg_more}
+use Rattle.kp_synth_parts.specs.inner.Built.{SpelledReg}
+use Rattle.kp_synth_parts.proofs.Spelled.{none_spelled, reg_more}
 use Rattle.kp_synth_parts.proofs.registers.visible.Goals as goal
 
 pub loop-decl-init : goal.loop-decl-init
 loop-decl-init c = record {
   count = grind (arith, common_steps);
   regs = grind (arith, common_steps);
-  spelled = no_regs _ c.new-regs.ensures.items;
+  spelled = none_spelled SpelledReg _ c.new-regs.ensures.items;
 }
 
 pub loop-decl-preserved : goal.loop-decl-preserved

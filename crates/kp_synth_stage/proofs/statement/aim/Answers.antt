@@ -4,42 +4,29 @@ use Rattle.kp_ast.specs.declared.tree.StmtKind.TheVariants as stmts
 use Rattle.kp_machine.specs.Slots.{hints_of, number_of}
 use Rattle.kp_synth_registers.proofs.Growth.{grown_added, added_more}
 use Rattle.kp_synth_stage.specs.Work.{cost_of}
-use Rattle.kp_synth_stage.proofs.Steps.{right_of, aim_right, aim_work, aim_goes}
+use Rattle.kp_synth_stage.proofs.Steps.{aim_right, aim_step}
+use Rattle.kp_synth_stage.proofs.statement.aim.Goals.{After-number_of-x}
 use Rattle.kp_synth_stage.proofs.statement.aim.Goals as goal
 
 pub value-requires-clause-right : goal.value-requires-clause-right
-value-requires-clause-right c =
-    (aim_right c.args.d.now.job c.job-job.ensures.sound.names c.args.k c.args.j c.args.name.now c.args.e.now
-    (right_of c.args.d.now.job c.args.k c.args.j (stmts.Aim c.args.name.now c.args.e.now) c.job-job.ensures.sound.names c.job-job.ensures.sound.stages c.requires.at)).right
+value-requires-clause-right c = (aim_right c.args.d.now.job c.job-job.ensures.sound.names c.args.k c.args.j c.args.name.now c.args.e.now c.requires.right).right
+
+number : (c : After-number_of-x) → c.number_of-x.result ≡ number_of (hints_of c.args.d.now.job.decls) c.args.name.now.name
+number c = c.number_of-x.ensures ∙ ap (λ (ss : _). number_of ss c.args.name.now.name) (c.as_slice.ensures.value ∙ c.requires.slots.hints)
 
 pub index_mut-requires : goal.index_mut-requires
 index_mut-requires c =
-    let job = c.args.d.now.job in
-    let r = aim_right job c.job-job.ensures.sound.names c.args.k c.args.j c.args.name.now c.args.e.now
-    (right_of job c.args.k c.args.j (stmts.Aim c.args.name.now c.args.e.now) c.job-job.ensures.sound.names c.job-job.ensures.sound.stages c.requires.at) in
-    let e : c.number_of-x.result ≡ number_of (hints_of job.decls) c.args.name.now.name = c.number_of-x.ensures ∙ ap (λ (ss : _). number_of ss c.args.name.now.name) (c.as_slice.ensures.value ∙ c.requires.slots.hints) in
-    let i = r.inside in
-    let n = c.requires.work.fits.aim_count in
-    omega arith
+    let r = aim_right c.args.d.now.job c.job-job.ensures.sound.names c.args.k c.args.j c.args.name.now c.args.e.now c.requires.right in
+    omega (arith, number (goal.at.index_mut-requires c).After-number_of-x, r.inside, c.requires.work.fits.aim_count)
 
-pub returns-clause-work : goal.returns-clause-work
-returns-clause-work c =
+pub returns : goal.returns
+returns c =
     let job = c.args.d.now.job in
-    let is = right_of job c.args.k c.args.j (stmts.Aim c.args.name.now c.args.e.now) c.job-job.ensures.sound.names c.job-job.ensures.sound.stages c.requires.at in
-    aim_work job c.args.k c.args.j c.args.pool.now c.value.new.pool (8 * size job.decls c.args.e.now) c.in_ok-node.ensures.grown.kept c.args.work.now c.requires.work
-    c.job-job.ensures.sound.names c.spare-spare.ensures.right c.args.name.now c.args.e.now c.in_ok-node.node c.in_ok-node.ensures.wire c.in_ok-node.ensures.gives c.requires.at is c.number_of-x.result
-    (c.number_of-x.ensures ∙ ap (λ (ss : _). number_of ss c.args.name.now.name) (c.as_slice.ensures.value ∙ c.requires.slots.hints))
-
-pub returns-clause-goes : goal.returns-clause-goes
-returns-clause-goes c = λ ss.
-    let job = c.args.d.now.job in
-    let is = right_of job c.args.k c.args.j (stmts.Aim c.args.name.now c.args.e.now) c.job-job.ensures.sound.names c.job-job.ensures.sound.stages c.requires.at in
-    aim_goes job c.args.k c.args.j c.args.pool.now c.value.new.pool (8 * size job.decls c.args.e.now) c.in_ok-node.ensures.grown.kept c.args.work.now c.requires.work
-    c.job-job.ensures.sound.names c.spare-spare.ensures.right c.args.name.now c.args.e.now c.in_ok-node.node c.in_ok-node.ensures.wire c.in_ok-node.ensures.gives c.requires.at is c.number_of-x.result
-    (c.number_of-x.ensures ∙ ap (λ (ss : _). number_of ss c.args.name.now.name) (c.as_slice.ensures.value ∙ c.requires.slots.hints)) ss
-
-pub returns-clause-added : goal.returns-clause-added
-returns-clause-added c =
-    let job = c.args.d.now.job in
-    added_more job c.args.pool.now c.value.new.pool (8 * size job.decls c.args.e.now) (cost_of job (stmts.Aim c.args.name.now c.args.e.now))
-    (grown_added job c.args.pool.now c.value.new.pool (8 * size job.decls c.args.e.now) c.in_ok-node.ensures.grown) (omega arith)
+    let node = c.in_ok-node in
+    let step = aim_step job c.args.k c.args.j c.args.pool.now c.value.new.pool _ node.ensures.grown.kept c.args.work.now c.requires.work
+    c.job-job.ensures.sound.names c.spare-spare.ensures.right c.args.name.now c.args.e.now node.node node.ensures.wire node.ensures.gives c.requires.right c.number_of-x.result (number (goal.at.returns c).After-number_of-x) in
+    record {
+      work = step.0;
+      goes = step.1;
+      added = added_more job c.args.pool.now c.value.new.pool (8 * size job.decls c.args.e.now) (cost_of job (stmts.Aim c.args.name.now c.args.e.now)) (grown_added job _ _ _ node.ensures.grown) (omega arith);
+    }
