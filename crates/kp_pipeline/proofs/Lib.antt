@@ -21,7 +21,6 @@ pub mod Trimming
 pub mod Ends
 pub mod SettingTimes
 pub mod Reading
-pub mod Earliest
 pub mod Seeing
 pub mod Runs
 pub mod Sampled

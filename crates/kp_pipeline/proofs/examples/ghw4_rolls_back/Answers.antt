@@ -1,14 +1,9 @@
-use Rattle.kp_pipeline.proofs.WorkedRuns.{ghw4-runs, ghw4-value, ghw4-value-y, ghw4-value-later}
+use Rattle.std.proofs.Common.{refl}
+use Rattle.kp_pipeline.specs.{Sequential.before_stage, Sequential.seq}
+use Rattle.kp_pipeline.specs.Pipeline.{above, back, from_stages, next_hints, next_stage, next_visible, outcome, stall, ue}
+use Rattle.kp_pipeline.proofs.WorkedRuns.{ghw4-accepted}
 use Rattle.kp_pipeline.proofs.examples.ghw4_rolls_back.Goals as goal
 
 pub returns-clause-run : goal.returns-clause-run
-returns-clause-run c = ghw4-runs
-
-pub returns-clause-x : goal.returns-clause-x
-returns-clause-x c = ghw4-value
-
-pub returns-clause-y : goal.returns-clause-y
-returns-clause-y c = ghw4-value-y
-
-pub returns-clause-later : goal.returns-clause-later
-returns-clause-later c = ghw4-value-later
+unfolding next_stage next_visible next_hints ue back outcome stall above from_stages before_stage seq
+returns-clause-run c = record { accepted = ghw4-accepted; shown = refl; numbered = refl }

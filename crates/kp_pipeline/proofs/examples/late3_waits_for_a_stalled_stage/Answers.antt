@@ -1,11 +1,9 @@
-use Rattle.kp_pipeline.proofs.WorkedRuns.{late3_stalled-timeline, late3_stalled-runs, late3_stalled-value}
+use Rattle.std.proofs.Common.{refl}
+use Rattle.kp_pipeline.specs.{Sequential.before_stage, Sequential.seq}
+use Rattle.kp_pipeline.specs.Pipeline.{above, back, from_stages, next_hints, next_stage, next_visible, outcome, stall, ue}
+use Rattle.kp_pipeline.proofs.WorkedRuns.{late3-accepted}
 use Rattle.kp_pipeline.proofs.examples.late3_waits_for_a_stalled_stage.Goals as goal
 
 pub returns-clause-run : goal.returns-clause-run
-returns-clause-run c = late3_stalled-runs
-
-pub returns-clause-value : goal.returns-clause-value
-returns-clause-value c = late3_stalled-value
-
-pub returns-clause-timeline : goal.returns-clause-timeline
-returns-clause-timeline c = late3_stalled-timeline
+unfolding next_stage next_visible next_hints ue back outcome stall above from_stages before_stage seq
+returns-clause-run c = record { accepted = late3-accepted; shown = refl; numbered = refl }

@@ -1,11 +1,9 @@
-use Rattle.kp_pipeline.proofs.WorkedRuns.{near-runs, near-value-before, near-value}
+use Rattle.std.proofs.Common.{refl}
+use Rattle.kp_pipeline.specs.{Sequential.before_stage, Sequential.seq}
+use Rattle.kp_pipeline.specs.Pipeline.{above, back, from_stages, next_hints, next_stage, next_visible, outcome, stall, ue}
+use Rattle.kp_pipeline.proofs.WorkedRuns.{near-accepted}
 use Rattle.kp_pipeline.proofs.examples.near_takes_the_nearest.Goals as goal
 
 pub returns-clause-run : goal.returns-clause-run
-returns-clause-run c = near-runs
-
-pub returns-clause-before : goal.returns-clause-before
-returns-clause-before c = near-value-before
-
-pub returns-clause-value : goal.returns-clause-value
-returns-clause-value c = near-value
+unfolding next_stage next_visible next_hints ue back outcome stall above from_stages before_stage seq
+returns-clause-run c = record { accepted = near-accepted; shown = refl; numbered = refl }
