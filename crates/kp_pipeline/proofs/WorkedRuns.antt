@@ -1,10 +1,9 @@
-use Rattle.std.proofs.Common.{◌≡◌, subst, ℕ, zero, suc, ◌+◌, ◌<◌, ◌≤◌, true, eqb, [], ◌∷◌, None, refl, ap, arith, unwrap_or}
+use Rattle.std.proofs.Common.{◌≡◌, subst, ℕ, zero, suc, ◌+◌, ◌<◌, ◌≤◌, true, eqb, None, refl, ap, arith, unwrap_or}
 use Rattle.std.proofs.lemmas.Bool.{cond-false, ne_eqb}
-use Rattle.kp_pipeline.specs.Examples.{RunsAs, early, early_body, ends, ghw4, ghw4_body, ghw4_rows, ghw4_start, hint3, hint3_body, hint3_rows, late3, late3_body, late3_rows, late3_stalled_rows, late3_stalls, near, near_body, near_rows, near_start, no_hints, nothing, ones, only, quiets, smp3, smp3_body, smp3_inputs, smp3_rows, unk4, unk4_body, unk4_rows, zeros}
+use Rattle.kp_pipeline.specs.Examples.{early, early_body, ends, ghw4, ghw4_body, hint3, hint3_body, late3, late3_body, near, near_body, no_hints, nothing, only, quiets, smp3, smp3_body, unk4, unk4_body, zeros}
 use Rattle.kp_pipeline.specs.{Machine.Machine, Sequential.before_stage, Sequential.seq}
 use Rattle.kp_pipeline.specs.Pipeline.{above, back, from_stages, next_hints, next_stage, next_visible, outcome, stall, ue}
 use Rattle.kp_pipeline.specs.{Rows.passed, Rows.pipe, Rows.taken, Accepted.Accepted, Accepted.AcceptedButForWindow, Accepted.Fits, Claims.Legal}
-use Rattle.kp_pipeline.specs.Timeline.{blocked, moves_on, next_hold, ready_above, ready_from, setting_stage, start_hold, timeline_rows, waits}
 use Rattle.kp_pipeline.proofs.Legality.{legal}
 
 -- THE WORKED RUNS, by computation, and that the machines are accepted: so the laws speak of them.
