@@ -365,24 +365,21 @@ module _ (m : Machine) (acc : Accepted m) (s given : ℕ → ℕ → ℕ) (st : 
     -- What moved or stayed on it has right guesses after the cycle too.
     pub right-kept : (k : ℕ) → suc k < m.stages → (ue m st inputs k ≡ true → low ≤ k) → (stall m st inputs (suc k) ≡ true → back m st inputs ≤ suc k → low ≤ suc k)
         → RightAt m s given (cycle m st inputs) (next_count m st inputs count) (suc k)
-    right-kept k b came stayed f = let p = next-from m st inputs k f in ⊎_elim moved (kept p.0) p.1
-      where
-        moved : ue m st inputs k ≡ true
-            → AllByRecursion (IsRight (seq m s given (next_count m st inputs count (suc k)))) (next_stage m st inputs (suc k)).pending
-        moved u =
-            let i : low ≤ k = came u in
-            let r = right k i (omega arith) in
-            rw (count-moved m st inputs count inv.chain k b u, next-pending m st inputs k u)
-            (all-kept (IsRight (seq m s given (count k))) (λ p. not (eqb (m.write_stage p.register) (suc k))) ((outcome m st inputs k).guesses ++ (st.stage k).pending)
-            (all-map (IsRight (seq m s given (count k))) (λ p. not (eqb (m.write_stage p.register) (suc k)) ≡ true → IsRight (seq m s given (count k)) p) (λ p h _. h) ((outcome m st inputs k).guesses ++ (st.stage k).pending)
-            (all-append (IsRight (seq m s given (count k))) (outcome m st inputs k).guesses (st.stage k).pending
-            (made-here k (omega arith) (seen-at k (omega arith) (omega arith)) r u) (r.0 (ue-parts m st inputs k u).0))))
-
-        kept : back m st inputs ≤ suc k → stall m st inputs (suc k) ≡ true
-            → AllByRecursion (IsRight (seq m s given (next_count m st inputs count (suc k)))) (next_stage m st inputs (suc k)).pending
-        kept bk q =
-            rw (count-stays m st inputs count (suc k) bk (ue-stalled m st inputs (suc k) q), next-pending-kept m st inputs k (kept-below m st inputs k b q))
-            ((right (suc k) (stayed q bk) b).0 (stall-full m st inputs (suc k) q))
+    right-kept k b came stayed f =
+        let p = next-from m st inputs k f in
+        ⊎_elim
+        (λ (u : ue m st inputs k ≡ true).
+        let i : low ≤ k = came u in
+        let r = right k i (omega arith) in
+        rw (count-moved m st inputs count inv.chain k b u, next-pending m st inputs k u)
+        (all-kept (IsRight (seq m s given (count k))) (λ p. not (eqb (m.write_stage p.register) (suc k))) ((outcome m st inputs k).guesses ++ (st.stage k).pending)
+        (all-map (IsRight (seq m s given (count k))) (λ p. not (eqb (m.write_stage p.register) (suc k)) ≡ true → IsRight (seq m s given (count k)) p) (λ p h _. h) ((outcome m st inputs k).guesses ++ (st.stage k).pending)
+        (all-append (IsRight (seq m s given (count k))) (outcome m st inputs k).guesses (st.stage k).pending
+        (made-here k (omega arith) (seen-at k (omega arith) (omega arith)) r u) (r.0 (ue-parts m st inputs k u).0)))))
+        (λ (q : stall m st inputs (suc k) ≡ true).
+        rw (count-stays m st inputs count (suc k) p.0 (ue-stalled m st inputs (suc k) q), next-pending-kept m st inputs k (kept-below m st inputs k b q))
+        ((right (suc k) (stayed q p.0) b).0 (stall-full m st inputs (suc k) q)))
+        p.1
 
     -- The stage below the end of the right path: what it sees, and when it mismatches.
     pub end-calm : (k : ℕ) → k < m.stages → low ≤ suc k → back m st inputs ≤ suc k
