@@ -25,3 +25,4 @@ pub mod Seeing
 pub mod Runs
 pub mod Sampled
 pub mod SpeculativeRuns
+pub mod Proved

@@ -48,3 +48,5 @@ right3-none given =
       right3-cycle given no_hints start_hold 0 refl refl,
       (right3-cycle given a f 1 refl refl, (right3-cycle given b g 2 refl refl, (right3-cycle given c h 3 refl refl, tt))),
     )
+
+pub ruleset accepted = (right3-accepted)

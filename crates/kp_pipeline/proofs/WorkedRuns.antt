@@ -142,3 +142,5 @@ early-illegal legal =
     let x = early-shows in
     let y = early-due in
     absurd (omega arith)
+
+pub ruleset accepted = (late3-accepted, near-accepted, unk4-accepted, ghw4-accepted, hint3-accepted, smp3-accepted)
