@@ -1,15 +1,14 @@
 -- Cells that hold the state hold the next state after a cycle.
-use Rattle.std.proofs.Common.{◌≡◌, ◌∙◌, ℕ, zero, suc, ◌<◌, Bool, true, false, cond, not, ◌&&◌, ◌||◌, ◌==◌, List, [], ◌∷◌, ◌++◌, length, get_or, Option, Some, None, refl, sym, ap, subst, arith, ⊎_elim}
+use Rattle.std.proofs.Common.{◌≡◌, ◌∙◌, ℕ, zero, suc, ◌<◌, Bool, true, false, cond, not, ◌&&◌, ◌||◌, ◌==◌, List, [], ◌∷◌, ◌++◌, length, get_or, refl, sym, ap, subst, arith, ⊎_elim}
 use Rattle.std.proofs.lemmas.{Bool.le-ltb, Bool.cases_Bool, Bool.cond-true, Bool.cond-false, List.Folds.list_any-append}
 use Rattle.std.specs.List.{list_any, filter, AllByRecursion}
-use Rattle.kp_ast.specs.declared.tree.{Expr.Expr, ReadStmt.ReadStmt, Stmt.Stmt, StmtKind.StmtKind, Block.Block, Job.Job}
-use Rattle.kp_ast.specs.declared.tree.StmtKind.TheVariants as stmts
+use Rattle.kp_ast.specs.declared.tree.{Block.Block, Job.Job}
 use Rattle.kp_pipeline.specs.Sequential.{PendingGuess}
 use Rattle.kp_pipeline.specs.Pipeline.{PipelineState, StageState, Inputs, ue, cycle, outcome, next_stage}
 use Rattle.kp_machine.specs.Machine.{machine_of, result_for, write_stage_of}
 use Rattle.kp_net.specs.{Nodes.Cells, Nodes.at, Nodes.on, Growth.Held}
 use Rattle.kp_synth_tables.specs.declared.key.{Key.TheVariants.Pending, Key.TheVariants.Guess, GuessSlot.GuessSlot}
-use Rattle.kp_synth_tables.specs.Keys.{no_guess, with_read, with_guess, guesses_in, guesses_from, guesses_of, guess_at, is_carried}
+use Rattle.kp_synth_tables.specs.Keys.{no_guess, guesses_in, guesses_from, guesses_of, guess_at, is_carried}
 use Rattle.kp_synth_registers.specs.declared.outcome.Outcome.{Outcome}
 use Rattle.kp_synth_registers.specs.Holding.{Holds, kept_in, some_of, some_guess, guess_passes, pending_guess}
 use Rattle.kp_synth_registers.specs.Meaning.{Says}

@@ -1,5 +1,5 @@
 -- From a stage to the one below it.
-use Rattle.std.proofs.Common.{◌≡◌, ◌∙◌, ℕ, zero, suc, ◌+◌, ◌<◌, ◌≤◌, List, [], ◌∷◌, ◌++◌, take, drop, length, get_or, ◌*◌, false, Some, sym, ap, subst, arith, ⊎_elim}
+use Rattle.std.proofs.Common.{◌≡◌, ◌∙◌, ℕ, zero, suc, ◌+◌, ◌<◌, ◌≤◌, List, [], ◌++◌, take, drop, length, get_or, ◌*◌, false, Some, sym, ap, subst, arith, ⊎_elim}
 use Rattle.std.proofs.lemmas.{List.drop_all, List.take_all, List.append-nil, Option.slice_get_cases}
 use Rattle.std.specs.Prelude.{slice_get}
 use Rattle.kp_ast.specs.declared.tree.Job.{Job}
