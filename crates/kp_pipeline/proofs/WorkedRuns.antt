@@ -143,4 +143,4 @@ early-illegal legal =
     let y = early-due in
     absurd (omega arith)
 
-pub ruleset accepted = (late3-accepted, near-accepted, unk4-accepted, ghw4-accepted, hint3-accepted, smp3-accepted)
+pub ruleset accepted = (late3-accepted, near-accepted, unk4-accepted, ghw4-accepted, hint3-accepted, smp3-accepted, early-illegal)

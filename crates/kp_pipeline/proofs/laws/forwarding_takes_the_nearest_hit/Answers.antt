@@ -3,6 +3,3 @@ use Rattle.kp_pipeline.proofs.laws.forwarding_takes_the_nearest_hit.Goals as goa
 
 pub returns-clause-either : goal.returns-clause-either
 returns-clause-either c = nearest-or-none
-
-pub returns-clause-selected : goal.returns-clause-selected
-returns-clause-selected c m st i t a d k acc h e = truth-select m acc st i t a d k h e
