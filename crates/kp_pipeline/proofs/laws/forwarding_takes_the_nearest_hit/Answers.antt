@@ -1,4 +1,4 @@
-use Rattle.kp_pipeline.proofs.Nearest.{nearest-or-none, truth-select}
+use Rattle.kp_pipeline.proofs.Nearest.{nearest-or-none}
 use Rattle.kp_pipeline.proofs.laws.forwarding_takes_the_nearest_hit.Goals as goal
 
 pub returns-clause-either : goal.returns-clause-either
