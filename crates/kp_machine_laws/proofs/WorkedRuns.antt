@@ -50,20 +50,18 @@ computed job body same =
 
 abbrev late3_body : ℕ → (ℕ → ℕ) → Tree
 late3_body zero p = Ask 0 0 (λ v. Done (only v) no_values no_aims)
-late3_body (suc zero) p = Done no_values no_values no_aims
 late3_body (suc (suc zero)) p = Done no_values (only ((p 0 + 1) % 2 ^ 8)) no_aims
-late3_body (suc (suc (suc k))) p = Done no_values no_values no_aims
+late3_body _ p = Done no_values no_values no_aims
 
 late3_trees : (k : ℕ) (q p : ℕ → ℕ) → stage_tree late3 k q p ≡ late3_body k p
 unfolding stage_tree
 late3_trees zero q p =
     let end : (ℕ → ℕ) → Tree = λ f. Ask 0 0 (λ v. Done (only (f v)) no_values no_aims) in
     ap end (fun_ext (λ v. ap (λ (x : Word). x.value) (eval_name (at_names late3.decls (with_name (entered late3.decls q p) (codes "x") (word 8 v))) (codes "x"))))
-late3_trees (suc zero) q p = refl
 late3_trees (suc (suc zero)) q p =
     let end : Word → Tree = λ x. Done no_values (only x.value) no_aims in
     ap end (eval_plus (at_names late3.decls (entered late3.decls q p)) (codes "A") 8 1)
-late3_trees (suc (suc (suc k))) q p = refl
+late3_trees _ q p = refl
 
 pub late3-two : sequential late3 no_samples 2 0 0 ≡ 3
 unfolding before_stage seq machine_of result_for state_of start_of
@@ -81,9 +79,8 @@ late3-value =
 
 abbrev hint3_body : ℕ → (ℕ → ℕ) → Tree
 hint3_body zero p = Guess 0 (λ hints. hints 0) (λ v. Done (only v) no_values (λ hints. only ((v + 2) % 2 ^ 8)))
-hint3_body (suc zero) p = Done no_values no_values no_aims
 hint3_body (suc (suc zero)) p = Done no_values (only ((p 0 + 1) % 2 ^ 8)) no_aims
-hint3_body (suc (suc (suc k))) p = Done no_values no_values no_aims
+hint3_body _ p = Done no_values no_values no_aims
 
 -- the environment at these names and hints
 abbrev at_hints : List Decl → Progress → (ℕ → ℕ) → Env
@@ -102,11 +99,10 @@ hint3_trees zero q p =
     ∙ ap (λ f. whole (λ hints. hints 0) f aim) (fun_ext (λ v. ap (λ (x : Word). x.value) (eval_name (at_names hint3.decls (read v)) (codes "x"))))
     ∙ ap (λ f. whole (λ hints. hints 0) (λ v. v) f)
     (fun_ext (λ v. fun_ext (λ hints. ap (λ (x : Word). x.value) (eval_plus (at_hints hint3.decls (read v) hints) (codes "x") 8 2))))
-hint3_trees (suc zero) q p = refl
 hint3_trees (suc (suc zero)) q p =
     let end : Word → Tree = λ x. Done no_values (only x.value) no_aims in
     ap end (eval_plus (at_names hint3.decls (entered hint3.decls q p)) (codes "A") 8 1)
-hint3_trees (suc (suc (suc k))) q p = refl
+hint3_trees _ q p = refl
 
 pub hint3-one : sequential hint3 no_samples 1 0 0 ≡ 2
 unfolding before_stage seq machine_of result_for state_of start_of
@@ -125,9 +121,7 @@ hint3-value =
 abbrev near_body : ℕ → (ℕ → ℕ) → Tree
 near_body zero p = Ask 0 1 (λ v. Done (with_value 1 v (only 1)) no_values no_aims)
 near_body (suc zero) p = Done no_values (only ((p 1 + 1) % 2 ^ 8)) no_aims
-near_body (suc (suc zero)) p = Done no_values no_values no_aims
-near_body (suc (suc (suc zero))) p = Done no_values no_values no_aims
-near_body (suc (suc (suc (suc k)))) p = Done no_values no_values no_aims
+near_body _ p = Done no_values no_values no_aims
 
 near_trees : (k : ℕ) (q p : ℕ → ℕ) → stage_tree near k q p ≡ near_body k p
 unfolding stage_tree
@@ -143,9 +137,8 @@ near_trees zero q p =
 near_trees (suc zero) q p =
     let end : Word → Tree = λ x. Done no_values (only x.value) no_aims in
     ap end (eval_plus (at_names near.decls (entered near.decls q p)) (codes "V") 8 1)
-near_trees (suc (suc zero)) q p = refl
 near_trees (suc (suc (suc zero))) q p = refl
-near_trees (suc (suc (suc (suc k)))) q p = refl
+near_trees _ q p = refl
 
 pub near-four : sequential near no_samples 4 0 1 ≡ 14
 unfolding before_stage seq machine_of result_for state_of start_of
@@ -188,9 +181,8 @@ odd_read b end = cond (eqb b 1) (Ask 1 0 end) (end 0)
 
 abbrev odd_body : ℕ → (ℕ → ℕ) → Tree
 odd_body zero p = Ask 0 0 (λ x. odd_read (x / 2 ^ 0 % 2 ^ 1) (odd_end (x / 2 ^ 0 % 2 ^ 1) x))
-odd_body (suc zero) p = Done no_values no_values no_aims
 odd_body (suc (suc zero)) p = Done no_values (with_value 1 255 no_values) no_aims
-odd_body (suc (suc (suc k))) p = Done no_values no_values no_aims
+odd_body _ p = Done no_values no_values no_aims
 
 module _ (q p : ℕ → ℕ) (x : ℕ) where
   abbrev ds : List Decl
@@ -250,11 +242,10 @@ module _ (q p : ℕ → ℕ) (x : ℕ) where
 odd_trees : (k : ℕ) (q p : ℕ → ℕ) → stage_tree odd k q p ≡ odd_body k p
 unfolding stage_tree
 odd_trees zero q p = let whole : (ℕ → Tree) → Tree = λ f. Ask 0 0 f in ap whole (fun_ext (odd_reads q p))
-odd_trees (suc zero) q p = refl
 odd_trees (suc (suc zero)) q p =
     let end : Word → Tree = λ w. Done no_values (with_value 1 w.value no_values) no_aims in
     ap end (eval_number (at_names odd.decls (entered odd.decls q p)) 8 255)
-odd_trees (suc (suc (suc k))) q p = refl
+odd_trees _ q p = refl
 
 pub odd-x : sequential odd no_samples 4 0 0 ≡ 9
 unfolding before_stage seq machine_of result_for state_of start_of

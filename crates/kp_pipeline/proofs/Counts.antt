@@ -57,15 +57,10 @@ module _ (m : Machine) (st : PipelineState) (i : Inputs) (c d : ℕ → ℕ) (sa
   -- One cycle keeps the agreement.
   pub counts-row : AgreeBelow m.stages (count_after m.stages (row m st i) c) (next_count m st i d)
   unfolding next_count
-  counts-row k b = rw (back-min, bit-at (ue m st i) m.stages k b) (⊎_elim stays swept (cases_Bool (leb (back m st i) k)))
-    where
-      stays : leb (back m st i) k ≡ true
-          → cond (leb (back m st i) k) (cond (ue m st i k) (count_moved c k) (c k)) (c (back m st i - 1)) ≡ cond (leb (back m st i) k) (cond (ue m st i k) (count_moved d k) (d k)) (d (back m st i - 1))
-      stays e = rw e (ap₂ (λ (x y : ℕ). cond (ue m st i k) x y) (moved-same k b) (same k b))
-
-      swept : leb (back m st i) k ≡ false
-          → cond (leb (back m st i) k) (cond (ue m st i k) (count_moved c k) (c k)) (c (back m st i - 1)) ≡ cond (leb (back m st i) k) (cond (ue m st i k) (count_moved d k) (d k)) (d (back m st i - 1))
-      swept e = rw e (same (back m st i - 1) (let x = back-bound in omega arith))
+  counts-row k b =
+      rw (back-min, bit-at (ue m st i) m.stages k b)
+      (⊎_elim (λ e. rw e (ap₂ (λ (x y : ℕ). cond (ue m st i k) x y) (moved-same k b) (same k b)))
+      (λ e. rw e (same (back m st i - 1) (let x = back-bound in omega arith))) (cases_Bool (leb (back m st i) k)))
 
 -- At each cycle the invariant's shape holds with the counts of the rows so far.
 pub shape-along : (m : Machine) (acc : Accepted m) (ins : List Inputs) (st : PipelineState) (c d : ℕ → ℕ) → Shape m st d

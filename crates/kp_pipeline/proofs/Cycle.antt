@@ -47,13 +47,12 @@ stall-is m st inputs k = refl
 -- From `greatest p n` up nothing passes.
 pub greatest-above : (p : ℕ → Bool) (n k : ℕ) → greatest p n ≤ k → k < n → p k ≡ false
 greatest-above p zero k h i = absurd (omega arith)
-greatest-above p (suc n) k h i = ⊎_elim at-true (λ e. ⊎_elim (λ (q : k ≡ n). rw q e) (λ q. greatest-above p n k (below e) (omega arith)) (cases_eq k n)) (cases_Bool (p n))
-  where
-    at-true : p n ≡ true → p k ≡ false
-    at-true e = let g : suc n ≤ k = (rw (cond-true (p n) (suc n) (greatest p n) e) at h) in absurd (omega arith)
-
-    below : p n ≡ false → greatest p n ≤ k
-    below e = rw (cond-false (p n) (suc n) (greatest p n) e) at h
+greatest-above p (suc n) k h i = ⊎_elim
+    (λ (e : p n ≡ true). let g : suc n ≤ k = (rw (cond-true (p n) (suc n) (greatest p n) e) at h) in absurd (omega arith))
+    (λ (e : p n ≡ false).
+    let g : greatest p n ≤ k = (rw (cond-false (p n) (suc n) (greatest p n) e) at h) in
+    ⊎_elim (λ (q : k ≡ n). rw q e) (λ q. greatest-above p n k g (omega arith)) (cases_eq k n))
+    (cases_Bool (p n))
 
 pub greatest-bound : (p : ℕ → Bool) (n : ℕ) → greatest p n ≤ n
 greatest-bound p zero = omega arith
@@ -65,16 +64,15 @@ greatest-bound p (suc n) = ⊎_elim
 -- The number just below it passes.
 pub greatest-at : (p : ℕ → Bool) (n b : ℕ) → greatest p n ≡ suc b → (p b ≡ true) × (b < n)
 greatest-at p zero b h = absurd (omega arith)
-greatest-at p (suc n) b h = ⊎_elim at-true (λ e. let r = greatest-at p n b (below e) in (r.0, omega arith)) (cases_Bool (p n))
-  where
-    at-true : p n ≡ true → (p b ≡ true) × (b < suc n)
-    at-true e =
-        let g : suc n ≡ suc b = (rw (cond-true (p n) (suc n) (greatest p n) e) at h) in
-        let q : b ≡ n = omega arith in
-        (rw q e, omega arith)
-
-    below : p n ≡ false → greatest p n ≡ suc b
-    below e = rw (cond-false (p n) (suc n) (greatest p n) e) at h
+greatest-at p (suc n) b h = ⊎_elim
+    (λ (e : p n ≡ true).
+    let g : suc n ≡ suc b = (rw (cond-true (p n) (suc n) (greatest p n) e) at h) in
+    let q : b ≡ n = omega arith in
+    (rw q e, omega arith))
+    (λ (e : p n ≡ false).
+    let g : greatest p n ≡ suc b = (rw (cond-false (p n) (suc n) (greatest p n) e) at h) in
+    let r = greatest-at p n b g in (r.0, omega arith))
+    (cases_Bool (p n))
 
 -- The update enable: full, not stalled, not squashed.
 pub ue-parts : (m : Machine) (st : PipelineState) (inputs : Inputs) (k : ℕ) → ue m st inputs k ≡ true

@@ -21,8 +21,8 @@ pub mod Trimming
 pub mod Ends
 pub mod SettingTimes
 pub mod Reading
-pub mod Earliest
 pub mod Seeing
 pub mod Runs
 pub mod Sampled
 pub mod SpeculativeRuns
+pub mod Proved

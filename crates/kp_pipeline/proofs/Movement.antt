@@ -37,6 +37,14 @@ module _ (m : Machine) (st : PipelineState) (inputs : Inputs) where
   pub kept-below : (k : ℕ) → suc k < m.stages → stall m st inputs (suc k) ≡ true → ue m st inputs k ≡ false
   kept-below k h s = false_from_ne_true (ue m st inputs k) (λ u. both_ways (stall m st inputs (suc k)) (no_stall-above k h u) s)
 
+  -- No update in an empty stage, nor in a stalled one.
+  pub ue-empty : (k : ℕ) → (st.stage k).full ≡ false → ue m st inputs k ≡ false
+  unfolding ue
+  ue-empty k f = and_left (st.stage k).full _ f
+
+  pub ue-stalled : (k : ℕ) → stall m st inputs k ≡ true → ue m st inputs k ≡ false
+  ue-stalled k q = false_from_ne_true _ (λ v. both_ways _ (ue-parts m st inputs k v).1 q)
+
   pub stall-full : (k : ℕ) → stall m st inputs k ≡ true → (st.stage k).full ≡ true
   stall-full k s = (and_parts (st.stage k).full _ (sym (stall-is m st inputs k) ∙ s)).0
 
@@ -101,9 +109,7 @@ module _ (m : Machine) (st : PipelineState) (inputs : Inputs) where
       pub count-moved : (k : ℕ) → suc k < m.stages → ue m st inputs k ≡ true → next_count m st inputs count (suc k) ≡ count k
       count-moved k h u =
           ⊎_elim (λ f. count-came (suc k) (moves-above k h u f))
-          (λ f. count-stays (suc k) (let b : back m st inputs ≤ k = (ue-parts m st inputs k u).2 in omega arith)
-          (false_from_ne_true (ue m st inputs (suc k)) (λ v. both_ways (st.stage (suc k)).full f (ue-parts m st inputs (suc k) v).0))
-          ∙ sym (chain-empty k h f))
+          (λ f. count-stays (suc k) (let b : back m st inputs ≤ k = (ue-parts m st inputs k u).2 in omega arith) (ue-empty (suc k) f) ∙ sym (chain-empty k h f))
           (cases_Bool (st.stage (suc k)).full)
 
       -- And the count of an updating stage grows by one.
@@ -114,54 +120,37 @@ module _ (m : Machine) (st : PipelineState) (inputs : Inputs) where
       -- Part (a) after the cycle.
       pub chain-kept : (k : ℕ) → suc k < m.stages
           → next_count m st inputs count k ≡ next_count m st inputs count (suc k) + one_if (next_stage m st inputs (suc k)).full
-      chain-kept k h = ⊎_elim swept live (cases_lt (suc k) (back m st inputs))
+      chain-kept k h = ⊎_elim
+          (λ (b : suc k < back m st inputs).
+          let x = count-swept k (omega arith) in
+          let y = count-swept (suc k) b in
+          let z : one_if (next_stage m st inputs (suc k)).full ≡ 0 = ap one_if (next-swept k b) in
+          omega arith)
+          (λ (b : back m st inputs ≤ suc k). ⊎_elim
+          (λ (u : ue m st inputs k ≡ true).
+          let x = count-one k (omega arith) u in
+          let y = count-moved k h u in
+          let z : one_if (next_stage m st inputs (suc k)).full ≡ 1 = ap one_if (next-moved k u) in
+          omega arith)
+          (λ (u : ue m st inputs k ≡ false).
+          let x = same b u in
+          ⊎_elim
+          (λ (s : stall m st inputs (suc k) ≡ true).
+          let y = count-stays (suc k) b (ue-stalled (suc k) s) in
+          let w = chain-full k h (stall-full (suc k) s) in
+          let z : one_if (next_stage m st inputs (suc k)).full ≡ 1 = ap one_if (next-kept k b s) in
+          omega arith)
+          (λ (s : stall m st inputs (suc k) ≡ false).
+          let y : next_count m st inputs count (suc k) ≡ count k =
+          ⊎_elim (λ f. count-came (suc k) (ue-from m st inputs (suc k) f s b)) (λ f. count-stays (suc k) b (ue-empty (suc k) f) ∙ sym (chain-empty k h f)) (cases_Bool (st.stage (suc k)).full) in
+          let z : one_if (next_stage m st inputs (suc k)).full ≡ 0 = ap one_if (next-none k u s) in
+          omega arith)
+          (cases_Bool (stall m st inputs (suc k))))
+          (cases_Bool (ue m st inputs k)))
+          (cases_lt (suc k) (back m st inputs))
         where
-          swept : suc k < back m st inputs
-              → next_count m st inputs count k ≡ next_count m st inputs count (suc k) + one_if (next_stage m st inputs (suc k)).full
-          swept b =
-              let x = count-swept k (omega arith) in
-              let y = count-swept (suc k) b in
-              let z : one_if (next_stage m st inputs (suc k)).full ≡ 0 = ap one_if (next-swept k b) in
-              omega arith
-
-          moved : ue m st inputs k ≡ true
-              → next_count m st inputs count k ≡ next_count m st inputs count (suc k) + one_if (next_stage m st inputs (suc k)).full
-          moved u =
-              let x = count-one k (omega arith) u in
-              let y = count-moved k h u in
-              let z : one_if (next_stage m st inputs (suc k)).full ≡ 1 = ap one_if (next-moved k u) in
-              omega arith
-
           -- without an update of stage k its count stays, squashed or not
           same : back m st inputs ≤ suc k → ue m st inputs k ≡ false → next_count m st inputs count k ≡ count k
           same b u =
               ⊎_elim (λ (q : k < back m st inputs). let e : back m st inputs - 1 ≡ k = omega arith in count-swept k q ∙ ap count e)
               (λ q. count-stays k q u) (cases_lt k (back m st inputs))
-
-          kept : back m st inputs ≤ suc k → ue m st inputs k ≡ false → stall m st inputs (suc k) ≡ true
-              → next_count m st inputs count k ≡ next_count m st inputs count (suc k) + one_if (next_stage m st inputs (suc k)).full
-          kept b u s =
-              let x = same b u in
-              let y = count-stays (suc k) b (false_from_ne_true (ue m st inputs (suc k)) (λ v. both_ways (stall m st inputs (suc k)) (ue-parts m st inputs (suc k) v).1 s)) in
-              let w = chain-full k h (stall-full (suc k) s) in
-              let z : one_if (next_stage m st inputs (suc k)).full ≡ 1 = ap one_if (next-kept k b s) in
-              omega arith
-
-          left : back m st inputs ≤ suc k → ue m st inputs k ≡ false → stall m st inputs (suc k) ≡ false
-              → next_count m st inputs count (suc k) ≡ count k
-          left b u s =
-              ⊎_elim (λ f. count-came (suc k) (ue-from m st inputs (suc k) f s b))
-              (λ f. count-stays (suc k) b (false_from_ne_true (ue m st inputs (suc k)) (λ v. both_ways (st.stage (suc k)).full f (ue-parts m st inputs (suc k) v).0)) ∙ sym (chain-empty k h f))
-              (cases_Bool (st.stage (suc k)).full)
-
-          neither : back m st inputs ≤ suc k → ue m st inputs k ≡ false → stall m st inputs (suc k) ≡ false
-              → next_count m st inputs count k ≡ next_count m st inputs count (suc k) + one_if (next_stage m st inputs (suc k)).full
-          neither b u s =
-              let x = same b u in
-              let y = left b u s in
-              let z : one_if (next_stage m st inputs (suc k)).full ≡ 0 = ap one_if (next-none k u s) in
-              omega arith
-
-          live : back m st inputs ≤ suc k
-              → next_count m st inputs count k ≡ next_count m st inputs count (suc k) + one_if (next_stage m st inputs (suc k)).full
-          live b = ⊎_elim moved (λ u. ⊎_elim (kept b u) (neither b u) (cases_Bool (stall m st inputs (suc k)))) (cases_Bool (ue m st inputs k))

@@ -1,12 +1,12 @@
 use Rattle.std.specs.{List.AllByRecursion, Prelude.unwrap_or}
 use Rattle.std.proofs.Common.{◌≡◌, ℕ, suc, ◌-◌, ◌<◌, ◌≤◌, Bool, true, false, cond, not, ◌&&◌, ◌||◌, eqb, leb, List, [], ◌∷◌, ◌++◌, Option, Some, None, refl, sym, ap, ap₂, ◌∙◌, ⊎_elim, arith, le-leb, eqb-true, eq-eqb, filter}
-use Rattle.std.proofs.lemmas.Bool.{cases_Bool, cond-true, cond-false, and_parts, and_from, and_left, and_right, or_parts, both_ways, not-false, false_from_ne_true}
+use Rattle.std.proofs.lemmas.Bool.{cases_Bool, cond-true, cond-false, and_parts, and_from, and_left, and_right, or_parts, not-false}
 use Rattle.kp_pipeline.specs.Pipeline.{Inputs, PipelineState, above, back, candidate_hits, differs, forwarded, hits, intent_known, mismatches, next_stage, next_visible, ok_value, outcome, some_differs, stall, ue}
 use Rattle.kp_pipeline.specs.Machine.{Machine}
 use Rattle.kp_pipeline.specs.Sequential.{PendingGuess, after_stage, first_value, intends, is_written}
 use Rattle.kp_pipeline.specs.Accepted.{Accepted}
-use Rattle.kp_pipeline.proofs.Cycle.{greatest-above, greatest-at, truth-in, ue-from, ue-parts}
-use Rattle.kp_pipeline.proofs.{Sequential.GuessedIn, Sequential.run-guessed, Truths.truth-own}
+use Rattle.kp_pipeline.proofs.Cycle.{greatest-above, greatest-at, truth-in, ue-from}
+use Rattle.kp_pipeline.proofs.{Sequential.GuessedIn, Sequential.run-guessed, Truths.truth-own, Movement.ue-empty}
 
 -- WHAT THE CYCLE DOES TO THE STATE. No guess of a list that doesn't mismatch differs from its truth.
 pub no_differs : (view : ℕ → ℕ → Option ℕ) (xs : List PendingGuess) → some_differs view xs ≡ false
@@ -106,12 +106,21 @@ module _ (m : Machine) (acc : Accepted m) (st : PipelineState) (inputs : Inputs)
       is_empty : (st.stage (suc k)).full ≡ false
           → cond (candidate_hits m st (suc k) t a) (forwarded m st inputs (suc k) t) ((above m st inputs (suc k)).truth t a) ≡ Some (next_visible m st inputs t a)
       is_empty f =
-          cond-false _ _ _ (near ∙ and_left (st.stage (suc k)).full _ f) ∙ own
-          ∙ ap Some (sym (visible-kept m st inputs t a (rw e (false_from_ne_true (ue m st inputs (suc k)) (λ v. both_ways (st.stage (suc k)).full f (ue-parts m st inputs (suc k) v).0)))))
+          cond-false _ _ _ (near ∙ and_left (st.stage (suc k)).full _ f) ∙ own ∙ ap Some (sym (visible-kept m st inputs t a (rw e (ue-empty m st inputs (suc k) f))))
 
       full : (st.stage (suc k)).full ≡ true
           → cond (candidate_hits m st (suc k) t a) (forwarded m st inputs (suc k) t) ((above m st inputs (suc k)).truth t a) ≡ Some (next_visible m st inputs t a)
-      full f = ⊎_elim hit other (cases_Bool (intends m (st.stage (suc k)).instruction t a))
+      full f = ⊎_elim
+          (λ q.
+          let l : eqb (suc k) (m.write_stage t) ≡ true = eq-eqb (suc k) (m.write_stage t) (sym e) in
+          let u : ue m st inputs (m.write_stage t) ≡ true = rw e (ue-from m st inputs (suc k) f s b) in
+          let x : forwarded m st inputs (suc k) t ≡ Some (unwrap_or (first_value ((st.stage (suc k)).instruction.results t) ((outcome m st inputs (suc k)).sets t)) 0)
+          = rw (known, s, l) (ok_value-last ((st.stage (suc k)).instruction.results t) ((outcome m st inputs (suc k)).sets t)) in
+          let y : next_visible m st inputs t a ≡ unwrap_or (first_value ((st.stage (suc k)).instruction.results t) ((outcome m st inputs (suc k)).sets t)) 0
+          = (rw e at (visible-written m st inputs t a u (w ∙ q))) in
+          cond-true _ _ _ (n ∙ q) ∙ x ∙ ap Some (sym y))
+          (λ q. cond-false _ _ _ (n ∙ q) ∙ own ∙ ap Some (sym (visible-other m st inputs t a (w ∙ q))))
+          (cases_Bool (intends m (st.stage (suc k)).instruction t a))
         where
           known : intent_known m (suc k) t ≡ true
           known = let x : m.known_from t ≤ m.write_stage t = acc.knows t h in le-leb (m.known_from t) (suc k) (omega arith)
@@ -121,18 +130,3 @@ module _ (m : Machine) (acc : Accepted m) (st : PipelineState) (inputs : Inputs)
 
           w : is_written m (st.stage (m.write_stage t)).instruction t a ≡ (intends m (st.stage (suc k)).instruction t a)
           w = ap₂ (λ (x : Bool) (j : ℕ). x && (intends m (st.stage j).instruction t a)) h e
-
-          other : (intends m (st.stage (suc k)).instruction t a) ≡ false
-              → cond (candidate_hits m st (suc k) t a) (forwarded m st inputs (suc k) t) ((above m st inputs (suc k)).truth t a) ≡ Some (next_visible m st inputs t a)
-          other q = cond-false _ _ _ (n ∙ q) ∙ own ∙ ap Some (sym (visible-other m st inputs t a (w ∙ q)))
-
-          hit : (intends m (st.stage (suc k)).instruction t a) ≡ true
-              → cond (candidate_hits m st (suc k) t a) (forwarded m st inputs (suc k) t) ((above m st inputs (suc k)).truth t a) ≡ Some (next_visible m st inputs t a)
-          hit q =
-              let l : eqb (suc k) (m.write_stage t) ≡ true = eq-eqb (suc k) (m.write_stage t) (sym e) in
-              let u : ue m st inputs (m.write_stage t) ≡ true = rw e (ue-from m st inputs (suc k) f s b) in
-              let x : forwarded m st inputs (suc k) t ≡ Some (unwrap_or (first_value ((st.stage (suc k)).instruction.results t) ((outcome m st inputs (suc k)).sets t)) 0)
-              = rw (known, s, l) (ok_value-last ((st.stage (suc k)).instruction.results t) ((outcome m st inputs (suc k)).sets t)) in
-              let y : next_visible m st inputs t a ≡ unwrap_or (first_value ((st.stage (suc k)).instruction.results t) ((outcome m st inputs (suc k)).sets t)) 0
-              = (rw e at (visible-written m st inputs t a u (w ∙ q))) in
-              cond-true _ _ _ (n ∙ q) ∙ x ∙ ap Some (sym y)

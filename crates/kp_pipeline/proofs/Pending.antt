@@ -50,18 +50,14 @@ module _ (m : Machine) (acc : Accepted m) (st : PipelineState) (inputs : Inputs)
   pub between-kept : (k : ℕ) → k < m.stages → AllByRecursion (StandsBefore m k) (next_stage m st inputs k).pending
   unfolding next_stage
   between-kept zero b = tt
-  between-kept (suc k) b = ⊎_elim moved kept (cases_Bool (ue m st inputs k))
-    where
-      kept : ue m st inputs k ≡ false → AllByRecursion (StandsBefore m (suc k)) (next_stage m st inputs (suc k)).pending
-      kept u = subst (λ (l : List PendingGuess). AllByRecursion (StandsBefore m (suc k)) l) (sym (next-pending-kept m st inputs k u)) (shape.between (suc k) b)
-
-      moved : ue m st inputs k ≡ true → AllByRecursion (StandsBefore m (suc k)) (next_stage m st inputs (suc k)).pending
-      moved u =
-          subst (λ (l : List PendingGuess). AllByRecursion (StandsBefore m (suc k)) l) (sym (next-pending m st inputs k u))
-          (all-kept (StandsBefore m (suc k)) (λ p. not (eqb (m.write_stage p.register) (suc k))) ((outcome m st inputs k).guesses ++ (st.stage k).pending)
-          (all-append _ (outcome m st inputs k).guesses (st.stage k).pending
-          (all-map (GuessedIn m k) (λ p. not (eqb (m.write_stage p.register) (suc k)) ≡ true → StandsBefore m (suc k) p) (λ p h _. (h.0, (let x : k + 2 ≤ m.write_stage p.register = h.1 in let y : suc k < m.write_stage p.register = omega arith in y), h.2)) (outcome m st inputs k).guesses (guessed-in m acc st inputs k (omega arith)))
-          (all-map (StandsBefore m k) (λ p. not (eqb (m.write_stage p.register) (suc k)) ≡ true → StandsBefore m (suc k) p) (λ p h n. (h.0, stands-further m k p h n, h.2)) (st.stage k).pending (shape.between k (omega arith)))))
+  between-kept (suc k) b = ⊎_elim
+      (λ u. subst (λ (l : List PendingGuess). AllByRecursion (StandsBefore m (suc k)) l) (sym (next-pending m st inputs k u))
+      (all-kept (StandsBefore m (suc k)) (λ p. not (eqb (m.write_stage p.register) (suc k))) ((outcome m st inputs k).guesses ++ (st.stage k).pending)
+      (all-append _ (outcome m st inputs k).guesses (st.stage k).pending
+      (all-map (GuessedIn m k) (λ p. not (eqb (m.write_stage p.register) (suc k)) ≡ true → StandsBefore m (suc k) p) (λ p h _. (h.0, (let x : k + 2 ≤ m.write_stage p.register = h.1 in let y : suc k < m.write_stage p.register = omega arith in y), h.2)) (outcome m st inputs k).guesses (guessed-in m acc st inputs k (omega arith)))
+      (all-map (StandsBefore m k) (λ p. not (eqb (m.write_stage p.register) (suc k)) ≡ true → StandsBefore m (suc k) p) (λ p h n. (h.0, stands-further m k p h n, h.2)) (st.stage k).pending (shape.between k (omega arith))))))
+      (λ u. subst (λ (l : List PendingGuess). AllByRecursion (StandsBefore m (suc k)) l) (sym (next-pending-kept m st inputs k u)) (shape.between (suc k) b))
+      (cases_Bool (ue m st inputs k))
 
   absent-here : (k : ℕ) → AllByRecursion (λ p. (above m st inputs k).truth p.register 0 ≡ None) (outcome m st inputs k).guesses
   unfolding outcome
@@ -124,7 +120,7 @@ module _ (m : Machine) (acc : Accepted m) (st : PipelineState) (inputs : Inputs)
               differs-not ((above m st inputs k).truth p.register 0) (next_visible m st inputs p.register 0) p.value (view p h.0 (stands-further m k p h n) gap) d
 
 -- THE SHAPE holds at the start, and is kept by each cycle.
-start-near : (P : ℕ → PendingGuess → Type 0) (k : ℕ) → AllByRecursion (P k) (start_stage k).pending
+pub start-near : (P : ℕ → PendingGuess → Type 0) (k : ℕ) → AllByRecursion (P k) (start_stage k).pending
 start-near P zero = tt
 start-near P (suc k) = tt
 

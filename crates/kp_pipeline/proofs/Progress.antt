@@ -1,9 +1,9 @@
 use Rattle.std.specs.List.{AllByRecursion}
-use Rattle.std.proofs.Common.{◌≡◌, ℕ, zero, suc, ◌+◌, ◌-◌, ◌*◌, ◌<◌, ◌≤◌, Bool, true, false, not, List, [], ◌∷◌, length, Option, Some, None, refl, sym, ap, ◌∙◌, subst, ⊎_elim, arith, eq-eqb, mul-one}
+use Rattle.std.proofs.Common.{◌≡◌, ℕ, zero, suc, ◌+◌, ◌-◌, ◌*◌, ◌<◌, ◌≤◌, Bool, true, false, not, List, [], ◌∷◌, length, Option, Some, refl, sym, ap, ◌∙◌, subst, ⊎_elim, arith, eq-eqb, mul-one}
 use Rattle.std.proofs.lemmas.Bool.{cases_Bool, cases_lt, cases_eq, cond-false, both_ways, false_from_ne_true, and_parts, and_left, and_right, or_from, not-true, not_from_true}
 use Rattle.kp_pipeline.specs.Pipeline.{Inputs, PipelineState, StageState, above, back, candidate_hits, cycle, differs, greatest, is_candidate, next_stage, outcome, pipeline_start, some_differs, stage_zero, stall, ue}
 use Rattle.kp_pipeline.specs.Machine.{Ask, Done, Guess, Machine, Tree}
-use Rattle.kp_pipeline.specs.Sequential.{PendingGuess, StageOutcome, after_guess, after_read, run}
+use Rattle.kp_pipeline.specs.Sequential.{PendingGuess, run}
 use Rattle.kp_pipeline.specs.{Rows.bit, Rows.bits, Rows.one_if, Rows.passed, Rows.pipe, Rows.row, Rows.rows_from, Accepted.Accepted}
 use Rattle.kp_pipeline.specs.Claims.{HighestStays, HighestUpdates, IsHighestFull, Moves, StandsBefore, is_stall_free, stall_free_cycles}
 use Rattle.kp_pipeline.proofs.Lists.{all-both, bit-at}
@@ -12,21 +12,11 @@ use Rattle.kp_pipeline.proofs.{Movement.kept-full, Movement.next-moved, Movement
 use Rattle.kp_pipeline.proofs.Pending.{shape-kept, shape-start}
 
 -- a stage that has every truth meets no hazard
-read-no_hazard : (o : Option ℕ) (w : ℕ) (go : ℕ → StageOutcome) → o ≡ Some w → ((v : ℕ) → (go v).hazard ≡ false)
-    → (after_read o go).hazard ≡ false
-read-no_hazard (Some v) w go e h = h v
-read-no_hazard None w go e h = cc
-
-guess-no_hazard : (o : Option ℕ) (t g : ℕ) (go : ℕ → StageOutcome) → ((v : ℕ) → (go v).hazard ≡ false)
-    → (after_guess o t g go).hazard ≡ false
-guess-no_hazard (Some v) t g go h = h v
-guess-no_hazard None t g go h = h g
-
 run-no_hazard : (view : ℕ → ℕ → Option ℕ) (vis : ℕ → ℕ → ℕ) (h : ℕ → ℕ) (x : Tree) → ((t a : ℕ) → view t a ≡ Some (vis t a))
     → (run view h x).hazard ≡ false
 run-no_hazard view vis h (Done p s w) all = refl
-run-no_hazard view vis h (Ask t a g) all = read-no_hazard (view t a) (vis t a) (λ v. run view h (g v)) (all t a) (λ v. run-no_hazard view vis h (g v) all)
-run-no_hazard view vis h (Guess t e g) all = guess-no_hazard (view t 0) t (e h) (λ v. run view h (g v)) (λ v. run-no_hazard view vis h (g v) all)
+run-no_hazard view vis h (Ask t a g) all = rw (all t a) (run-no_hazard view vis h (g (vis t a)) all)
+run-no_hazard view vis h (Guess t e g) all = rw (all t 0) (run-no_hazard view vis h (g (vis t 0)) all)
 
 stall_free-at : (n : ℕ) (inputs : ℕ → Bool) (k : ℕ) → is_stall_free n inputs ≡ true → k < n → inputs k ≡ false
 stall_free-at zero inputs k c b = absurd (omega arith)
@@ -94,7 +84,25 @@ module _ (m : Machine) (acc : Accepted m) (st : PipelineState) (inputs : Inputs)
   -- what the cycle does to the highest full stage
   pub highest-next : (g : ℕ) → IsHighestFull m.stages (λ k. ((cycle m st inputs).stage k).full) g
       → one_if (is_stall_free m.stages inputs.ext) + h ≤ m.stages * one_if (ue m st inputs (m.stages - 1)) + g
-  highest-next g next = ⊎_elim moves stays (cases_Bool (ue m st inputs h))
+  highest-next g next =
+      ⊎_elim
+      (λ u.
+      let c = small (is_stall_free m.stages inputs.ext) in
+      ⊎_elim
+      (λ (i : suc h < m.stages). let x : suc h ≤ g = reach (suc h) i (next-moved m st inputs h u) in omega arith)
+      (λ (i : m.stages ≤ suc h).
+      let b : h < m.stages = top.0 in
+      let e : m.stages - 1 ≡ h = omega arith in
+      let z : one_if (ue m st inputs (m.stages - 1)) ≡ 1 = rw e (ap one_if u) in
+      let y : m.stages * one_if (ue m st inputs (m.stages - 1)) ≡ m.stages = rw z (mul-one m.stages) in
+      omega arith)
+      (cases_lt (suc h) m.stages))
+      (λ u.
+      let c : is_stall_free m.stages inputs.ext ≡ false = false_from_ne_true _ (λ c. both_ways _ u (highest-updates c)) in
+      let z : one_if (is_stall_free m.stages inputs.ext) ≡ 0 = ap one_if c in
+      let x : h ≤ g = reach h top.0 (kept-full m st inputs h highest-stays (⊎_elim (λ q. q) (λ q. absurd (both_ways _ u (ue-from m st inputs h top.1 q highest-stays))) (cases_Bool (stall m st inputs h)))) in
+      omega arith)
+      (cases_Bool (ue m st inputs h))
     where
       small : (b : Bool) → one_if b ≤ 1
       small true = omega arith
@@ -102,29 +110,6 @@ module _ (m : Machine) (acc : Accepted m) (st : PipelineState) (inputs : Inputs)
 
       reach : (j : ℕ) → j < m.stages → (next_stage m st inputs j).full ≡ true → j ≤ g
       reach j b f = ⊎_elim (λ (q : g < j). absurd (both_ways _ (next.2 j q b) f)) (λ (q : j ≤ g). q) (cases_lt g j)
-
-      stays : ue m st inputs h ≡ false
-          → one_if (is_stall_free m.stages inputs.ext) + h ≤ m.stages * one_if (ue m st inputs (m.stages - 1)) + g
-      stays u =
-          let c : is_stall_free m.stages inputs.ext ≡ false = false_from_ne_true _ (λ c. both_ways _ u (highest-updates c)) in
-          let z : one_if (is_stall_free m.stages inputs.ext) ≡ 0 = ap one_if c in
-          let x : h ≤ g = reach h top.0 (kept-full m st inputs h highest-stays (⊎_elim (λ q. q) (λ q. absurd (both_ways _ u (ue-from m st inputs h top.1 q highest-stays))) (cases_Bool (stall m st inputs h)))) in
-          omega arith
-
-      -- The law that the pipeline moves.
-      moves : ue m st inputs h ≡ true
-          → one_if (is_stall_free m.stages inputs.ext) + h ≤ m.stages * one_if (ue m st inputs (m.stages - 1)) + g
-      moves u =
-          let c = small (is_stall_free m.stages inputs.ext) in
-          ⊎_elim
-          (λ (i : suc h < m.stages). let x : suc h ≤ g = reach (suc h) i (next-moved m st inputs h u) in omega arith)
-          (λ (i : m.stages ≤ suc h).
-          let b : h < m.stages = top.0 in
-          let e : m.stages - 1 ≡ h = omega arith in
-          let z : one_if (ue m st inputs (m.stages - 1)) ≡ 1 = rw e (ap one_if u) in
-          let y : m.stages * one_if (ue m st inputs (m.stages - 1)) ≡ m.stages = rw z (mul-one m.stages) in
-          omega arith)
-          (cases_lt (suc h) m.stages)
 
 -- A highest full stage exists, since stage 0 is full.
 pub highest-exists : (m : Machine) (st : PipelineState) → 1 ≤ m.stages → st.stage 0 ≡ stage_zero

@@ -7,7 +7,7 @@ use Rattle.kp_pipeline.specs.{Machine.Machine, Sequential.instruction_before, Se
 use Rattle.kp_pipeline.specs.{Rows.Row, Rows.bit, Rows.count_after, Rows.one_if, Rows.pipe, Rows.row, Rows.rows_from, Rows.taken, Accepted.Accepted}
 use Rattle.kp_pipeline.specs.{Timeline.start_hold, SpeculativeTimeline.next_hold, SpeculativeTimeline.ready_above, SpeculativeTimeline.timeline_rows}
 use Rattle.kp_pipeline.proofs.Seeing.{Kept, RightHere, calm-at, end-calm, end-had, end-wrong, hints-kept, hold-kept, moves-at, never-early, right-kept, row-here, still-right, wait-at}
-use Rattle.kp_pipeline.proofs.{Lists.bit-at, Cycle.greatest-above, Cycle.ue-from, Cycle.ue-parts}
+use Rattle.kp_pipeline.proofs.{Lists.bit-at, Pending.start-near, Cycle.greatest-above, Cycle.ue-from, Cycle.ue-parts}
 use Rattle.kp_pipeline.proofs.Movement.{count-swept, kept-below, next-swept, next_count}
 use Rattle.kp_pipeline.proofs.{Invariant.Inv, Invariant.Met, Invariant.RightAt, NextState.back-mismatch, Counts.AgreeBelow, Counts.counts-row}
 use Rattle.kp_pipeline.proofs.Legality.{TakesAhead, inv-kept, inv-start, takes_ahead-kept, takes_ahead-met}
@@ -163,10 +163,6 @@ pub start-tie : (k : ℕ) → start_hold k ≡ cond (start_stage k).full (Some 0
 start-tie zero = refl
 start-tie (suc k) = refl
 
-pub start-right : (s : ℕ → ℕ → ℕ) (k : ℕ) → AllByRecursion (IsRightIn s) (start_stage k).pending
-start-right s zero = tt
-start-right s (suc k) = tt
-
 -- The law.
 pub rows-right : (m : Machine) (s : ℕ → ℕ → ℕ) (hints : ℕ → ℕ) (ins : List Inputs) → Accepted m
     → NoWrongGuess m s (taken m ins (pipe m s hints ins).rows) hints start_hold ins
@@ -174,4 +170,4 @@ pub rows-right : (m : Machine) (s : ℕ → ℕ → ℕ) (hints : ℕ → ℕ) (
 rows-right m s hints ins acc none =
     let given : ℕ → ℕ → ℕ = taken m ins (rows_from m (pipeline_start s hints) ins) in
     rows-along m acc s given ins (pipeline_start s hints) (λ k. 0) (λ k. 0) (inv-start m s given hints) (λ i x b. refl) start_hold (λ k b. start-tie k)
-    (λ k b f. start-right (seq m s given 0) k) none
+    (λ k b f. start-near (λ _. IsRightIn (seq m s given 0)) k) none

@@ -56,21 +56,16 @@ module _ (m : Machine) (acc : Accepted m) (s : ℕ → ℕ → ℕ) (q : ℕ →
   stage-fits k h = run-fits m k (λ t a. Some (s t a)) (λ h. 0) (m.body k q (before_stage m s q k).pipes) (acc.fits k q (before_stage m s q k).pipes h)
 
   -- a known intent stays
-  pub enabled-stays : (t k d : ℕ) → m.has_result t ≡ true → m.known_from t ≤ k → k + d ≤ m.stages
-      → m.enabled t (before_stage m s q (k + d)).pipes ≡ m.enabled t (before_stage m s q k).pipes
+  intent-stays : (t k d : ℕ) → m.has_result t ≡ true → m.known_from t ≤ k → k + d ≤ m.stages
+      → (m.enabled t (before_stage m s q (k + d)).pipes ≡ m.enabled t (before_stage m s q k).pipes)
+      × (m.address t (before_stage m s q (k + d)).pipes ≡ m.address t (before_stage m s q k).pipes)
   unfolding before_stage
-  enabled-stays t k zero h e b = let e' : k + 0 ≡ k = omega arith in rw e' refl
-  enabled-stays t k (suc d) h e b =
+  intent-stays t k zero h e b = let e' : k + 0 ≡ k = omega arith in rw e' (refl, refl)
+  intent-stays t k (suc d) h e b =
       let e' : k + suc d ≡ suc (k + d) = omega arith in
-      rw e' ((stage-fits (k + d) (omega arith)).0 t (before_stage m s q (k + d)).pipes h (omega arith)).0 ∙ enabled-stays t k d h e (omega arith)
-
-  pub address-stays : (t k d : ℕ) → m.has_result t ≡ true → m.known_from t ≤ k → k + d ≤ m.stages
-      → m.address t (before_stage m s q (k + d)).pipes ≡ m.address t (before_stage m s q k).pipes
-  unfolding before_stage
-  address-stays t k zero h e b = let e' : k + 0 ≡ k = omega arith in rw e' refl
-  address-stays t k (suc d) h e b =
-      let e' : k + suc d ≡ suc (k + d) = omega arith in
-      rw e' ((stage-fits (k + d) (omega arith)).0 t (before_stage m s q (k + d)).pipes h (omega arith)).1 ∙ address-stays t k d h e (omega arith)
+      let x = (stage-fits (k + d) (omega arith)).0 t (before_stage m s q (k + d)).pipes h (omega arith) in
+      let y = intent-stays t k d h e (omega arith) in
+      rw e' (x.0 ∙ y.0, x.1 ∙ y.1)
 
   -- a result that is set stays, and none is set after the write stage
   pub result-stays : (t k d v : ℕ) → (before_stage m s q k).results t ≡ Some v → (before_stage m s q (k + d)).results t ≡ Some v
@@ -95,9 +90,8 @@ module _ (m : Machine) (acc : Accepted m) (s : ℕ → ℕ → ℕ) (q : ℕ →
       → is_written m (before_stage m s q m.stages) t a ≡ is_written m (before_stage m s q k) t a
   written-from t a k h e b =
       let e' : k + (m.stages - k) ≡ m.stages = omega arith in
-      let x : m.enabled t (before_stage m s q m.stages).pipes ≡ m.enabled t (before_stage m s q k).pipes = (rw e' at (enabled-stays t k (m.stages - k) h e (omega arith))) in
-      let y : m.address t (before_stage m s q m.stages).pipes ≡ m.address t (before_stage m s q k).pipes = (rw e' at (address-stays t k (m.stages - k) h e (omega arith))) in
-      ap₂ (λ (b : Bool) (n : ℕ). m.has_result t && (b && eqb n a)) x y
+      let x = rw e' at (intent-stays t k (m.stages - k) h e (omega arith)) in
+      ap₂ (λ (b : Bool) (n : ℕ). m.has_result t && (b && eqb n a)) x.0 x.1
 
   -- The final result is known from the stage in which it is set, and from the write stage on if it isn't set.
   pub result-final : (t k v : ℕ) → k ≤ m.stages → (before_stage m s q k).results t ≡ Some v

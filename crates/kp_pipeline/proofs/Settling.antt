@@ -1,11 +1,11 @@
 use Rattle.std.specs.List.{AllByRecursion}
 use Rattle.std.proofs.Common.{◌≡◌, ℕ, zero, suc, ◌+◌, ◌-◌, ◌<◌, ◌≤◌, true, false, not, eqb, List, ◌++◌, refl, sym, ap, ◌∙◌, subst, ⊎_elim, arith}
-use Rattle.std.proofs.lemmas.Bool.{cases_Bool, cases_lt, cases_eq, both_ways, ne_eqb, not_from_false, false_from_ne_true}
+use Rattle.std.proofs.lemmas.Bool.{cases_Bool, cases_lt, cases_eq, both_ways, ne_eqb, not_from_false}
 use Rattle.kp_pipeline.specs.{Machine.Machine, Sequential.PendingGuess, Sequential.before_stage, Sequential.instruction_before, Sequential.seq}
 use Rattle.kp_pipeline.specs.Pipeline.{Inputs, PipelineState, above, back, cycle, differs, next_stage, next_visible, outcome, stall, ue}
 use Rattle.kp_pipeline.specs.{Accepted.Accepted, Claims.StandsBefore}
-use Rattle.kp_pipeline.proofs.{Lists.all-both, Lists.all-left, Lists.all-map, Lists.all-passing, Lists.all-right, Cycle.ue-from, Cycle.ue-parts}
-use Rattle.kp_pipeline.proofs.Movement.{count-moved, count-stays, kept-below, next-from, next-kept, next-moved, next_count, no_stall-above, stall-full}
+use Rattle.kp_pipeline.proofs.{Lists.all-both, Lists.all-map, Lists.all-parts, Lists.all-passing, Cycle.ue-from, Cycle.ue-parts}
+use Rattle.kp_pipeline.proofs.Movement.{count-moved, count-stays, kept-below, next-from, next-kept, next-moved, next_count, no_stall-above, stall-full, ue-stalled}
 use Rattle.kp_pipeline.proofs.{Sequential.GuessedIn, Agreement.IsRight, Invariant.Inv, Invariant.Met, Invariant.RightAt}
 use Rattle.kp_pipeline.proofs.Truths.{MadeRight, RightAbove, TruthIsRight, computes, truth-right}
 use Rattle.kp_pipeline.proofs.NextState.{differs-not, guessed-in, next-instruction, next-instruction-kept, next-pending, next-pending-kept, no_mismatch, truth-last}
@@ -59,7 +59,7 @@ module _ (m : Machine) (acc : Accepted m) (s given : ℕ → ℕ → ℕ) (st : 
       all-both (GuessedIn m k) (λ p. not (eqb (m.write_stage p.register) (suc k)) ≡ true → IsRight (seq m s given (count k)) p) (IsRight (seq m s given (count k)))
       (λ p h g. g (not_from_false _ (ne_eqb (m.write_stage p.register) (suc k) (λ e. let x : k + 2 ≤ m.write_stage p.register = h.1 in omega arith))))
       (outcome m st inputs k).guesses (guessed-in m acc st inputs k b)
-      (all-left _ (outcome m st inputs k).guesses (st.stage k).pending (moved-right k i u (up (suc k) (omega arith) i))))
+      (all-parts _ (outcome m st inputs k).guesses (st.stage k).pending (moved-right k i u (up (suc k) (omega arith) i))).0)
       (λ (i : m.stages ≤ suc k).
       all-map (GuessedIn m k) (IsRight (seq m s given (count k)))
       (λ p h. let x : m.write_stage p.register < m.stages = acc.writes p.register h.0 in let y : k + 2 ≤ m.write_stage p.register = h.1 in absurd (omega arith)) (outcome m st inputs k).guesses (guessed-in m acc st inputs k b))
@@ -69,31 +69,25 @@ module _ (m : Machine) (acc : Accepted m) (s given : ℕ → ℕ → ℕ) (st : 
   pub pending-right : (k : ℕ) → k < m.stages → back m st inputs ≤ k → RightAbove m s given st inputs count k → NextRightAbove k
       → (stall m st inputs k ≡ true → NextRight k) → RightAt m s given st count k
   pending-right zero b r up next here f = rw (inv.first) tt
-  pending-right (suc k) b r up next here f = ⊎_elim kept moved (cases_Bool (stall m st inputs (suc k)))
-    where
-      kept : stall m st inputs (suc k) ≡ true
-          → AllByRecursion (IsRight (seq m s given (count (suc k)))) (st.stage (suc k)).pending
-      kept q =
-          let u : ue m st inputs (suc k) ≡ false = false_from_ne_true _ (λ v. both_ways _ (ue-parts m st inputs (suc k) v).1 q) in
-          let x = here q (next-kept m st inputs k r q) in
-          let y : AllByRecursion (IsRight (seq m s given (count (suc k)))) (next_stage m st inputs (suc k)).pending
-          = subst (λ (n : ℕ). AllByRecursion (IsRight (seq m s given n)) (next_stage m st inputs (suc k)).pending) (count-stays m st inputs count (suc k) r u) x in
-          subst (λ (l : List PendingGuess). AllByRecursion (IsRight (seq m s given (count (suc k)))) l) (next-pending-kept m st inputs k (kept-below m st inputs k b q)) y
-
-      moved : stall m st inputs (suc k) ≡ false
-          → AllByRecursion (IsRight (seq m s given (count (suc k)))) (st.stage (suc k)).pending
-      moved q =
-          let u = ue-from m st inputs (suc k) f q r in
-          ⊎_elim
-          (λ (i : suc (suc k) < m.stages).
-          all-both (λ p. m.write_stage p.register ≡ suc (suc k) → IsRight (seq m s given (count (suc k))) p) (λ p. not (eqb (m.write_stage p.register) (suc (suc k))) ≡ true → IsRight (seq m s given (count (suc k))) p) (IsRight (seq m s given (count (suc k))))
-          (λ p x y. ⊎_elim x (λ n. y (not_from_false _ (ne_eqb (m.write_stage p.register) (suc (suc k)) n))) (cases_eq (m.write_stage p.register) (suc (suc k))))
-          (st.stage (suc k)).pending (leaving (suc k) b u up)
-          (all-right _ (outcome m st inputs (suc k)).guesses (st.stage (suc k)).pending (moved-right (suc k) i u (next (suc (suc k)) (omega arith) i))))
-          (λ (i : m.stages ≤ suc (suc k)).
-          all-map (StandsBefore m (suc k)) (IsRight (seq m s given (count (suc k))))
-          (λ p h. let x : m.write_stage p.register < m.stages = acc.writes p.register h.0 in let y : suc k < m.write_stage p.register = h.1 in absurd (omega arith)) (st.stage (suc k)).pending (inv.between (suc k) b))
-          (cases_lt (suc (suc k)) m.stages)
+  pending-right (suc k) b r up next here f = ⊎_elim
+      (λ q.
+      let x = here q (next-kept m st inputs k r q) in
+      let y : AllByRecursion (IsRight (seq m s given (count (suc k)))) (next_stage m st inputs (suc k)).pending
+      = subst (λ (n : ℕ). AllByRecursion (IsRight (seq m s given n)) (next_stage m st inputs (suc k)).pending) (count-stays m st inputs count (suc k) r (ue-stalled m st inputs (suc k) q)) x in
+      subst (λ (l : List PendingGuess). AllByRecursion (IsRight (seq m s given (count (suc k)))) l) (next-pending-kept m st inputs k (kept-below m st inputs k b q)) y)
+      (λ q.
+      let u = ue-from m st inputs (suc k) f q r in
+      ⊎_elim
+      (λ (i : suc (suc k) < m.stages).
+      all-both (λ p. m.write_stage p.register ≡ suc (suc k) → IsRight (seq m s given (count (suc k))) p) (λ p. not (eqb (m.write_stage p.register) (suc (suc k))) ≡ true → IsRight (seq m s given (count (suc k))) p) (IsRight (seq m s given (count (suc k))))
+      (λ p x y. ⊎_elim x (λ n. y (not_from_false _ (ne_eqb (m.write_stage p.register) (suc (suc k)) n))) (cases_eq (m.write_stage p.register) (suc (suc k))))
+      (st.stage (suc k)).pending (leaving (suc k) b u up)
+      (all-parts _ (outcome m st inputs (suc k)).guesses (st.stage (suc k)).pending (moved-right (suc k) i u (next (suc (suc k)) (omega arith) i))).1)
+      (λ (i : m.stages ≤ suc (suc k)).
+      all-map (StandsBefore m (suc k)) (IsRight (seq m s given (count (suc k))))
+      (λ p h. let x : m.write_stage p.register < m.stages = acc.writes p.register h.0 in let y : suc k < m.write_stage p.register = h.1 in absurd (omega arith)) (st.stage (suc k)).pending (inv.between (suc k) b))
+      (cases_lt (suc (suc k)) m.stages))
+      (cases_Bool (stall m st inputs (suc k)))
 
   -- All of them, from the last stage down: right guesses above after the cycle were right before it.
   pub settle : (d k : ℕ) → suc (k + d) ≡ m.stages → back m st inputs ≤ suc k → NextRightAbove k
@@ -131,9 +125,8 @@ module _ (m : Machine) (acc : Accepted m) (s given : ℕ → ℕ → ℕ) (st : 
       (λ (q : stall m st inputs (suc k) ≡ true).
       let up = settle-at (suc k) b (omega arith) (λ j x y. next j (omega arith) y) in
       let here = pending-right (suc k) b p.0 up (λ j x y. next j (omega arith) y) (λ _. next (suc k) (omega arith) b) in
-      let u : ue m st inputs (suc k) ≡ false = false_from_ne_true _ (λ v. both_ways _ (ue-parts m st inputs (suc k) v).1 q) in
       next-instruction-kept m st inputs k (kept-below m st inputs k b q)
       ∙ inv.held (suc k) b (stall-full m st inputs (suc k) q)
       (λ j x y. ⊎_elim (λ (i : suc k < j). (up j i y).0) (λ i. let w : suc k ≡ j = omega arith in subst (λ (n : ℕ). RightAt m s given st count n) w here) (cases_lt (suc k) j))
-      ∙ ap (λ (n : ℕ). instruction_before m s given n (suc k)) (sym (count-stays m st inputs count (suc k) p.0 u)))
+      ∙ ap (λ (n : ℕ). instruction_before m s given n (suc k)) (sym (count-stays m st inputs count (suc k) p.0 (ue-stalled m st inputs (suc k) q))))
       p.1

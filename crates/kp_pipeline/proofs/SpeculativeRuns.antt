@@ -1,48 +1,23 @@
-use Rattle.std.proofs.Common.{◌≡◌, ℕ, zero, suc, ◌<◌, Bool, [], ◌∷◌, Option, Some, unwrap_or, refl, sym, ap, ◌∙◌, arith}
+use Rattle.std.proofs.Common.{◌≡◌, ℕ, zero, suc, ◌<◌, Bool, Option, Some, unwrap_or, refl, sym, ap, ◌∙◌, arith}
 use Rattle.kp_pipeline.specs.Sequential.{before_stage, instruction_before, seq}
-use Rattle.kp_pipeline.specs.Pipeline.{PipelineState, above, back, cycle, from_stages, next_hints, next_stage, next_visible, outcome, pipeline_start, stall, ue}
-use Rattle.kp_pipeline.specs.{Rows.pipe, Accepted.Accepted, Accepted.Fits, Examples.RunsAs, Examples.no_hints, Examples.quiet, Examples.quiets, Examples.zeros}
-use Rattle.kp_pipeline.specs.Timeline.{no_samples, start_hold}
-use Rattle.kp_pipeline.specs.SpeculativeTimeline.{blocked, hints_after, moves_on, next_hold, ready_above, ready_from, setting_stage, timeline_rows_taking, waits}
+use Rattle.kp_pipeline.specs.{Accepted.Accepted, Accepted.Fits, Examples.no_hints, Examples.quiet, Examples.quiets, Examples.zeros}
+use Rattle.kp_pipeline.specs.Timeline.{start_hold}
+use Rattle.kp_pipeline.specs.SpeculativeTimeline.{blocked, hints_after, moves_on, next_hold, ready_above, ready_from, setting_stage, waits}
 use Rattle.kp_pipeline.specs.RightPath.{MakesRightGuesses, NoWrongGuess}
-use Rattle.kp_pipeline.specs.SpeculativeExamples.{right3, right3_body, right3_rows, sees5, sees5_inputs, sees5_rows}
+use Rattle.kp_pipeline.specs.SpeculativeExamples.{right3, right3_body}
+use Rattle.kp_pipeline.proofs.WorkedRuns.{no_sample-accepted}
 
 -- THE WORKED RUNS, by computation.
-pub sees5-shown : (pipe sees5 zeros no_hints sees5_inputs).rows ≡ sees5_rows
-unfolding next_stage next_visible next_hints ue back outcome stall above from_stages before_stage seq
-sees5-shown = refl
-
-pub sees5-timeline : timeline_rows_taking sees5 zeros no_samples start_hold sees5_inputs ≡ sees5_rows
-unfolding next_hold moves_on blocked waits ready_above ready_from setting_stage before_stage seq
-sees5-timeline = refl
-
-right3-fits : (k : ℕ) (q p : ℕ → ℕ) → k < 3 → Fits right3 k (right3_body k q p)
-right3-fits zero q p b = (refl, omega arith, omega arith, (λ v. ((λ t p h k. (refl, refl)), (λ t h k. absurd (omega arith)))))
-right3-fits (suc zero) q p b = ((λ t p h k. (refl, refl)), (λ t h k. absurd (omega arith)))
-right3-fits (suc (suc k)) q p b = ((λ t p h k. (refl, refl)), (λ t h k. absurd (omega arith)))
-
-right3-own : (k : ℕ) (q r p : ℕ → ℕ) → k < 3 → ((x : ℕ) → right3.sample_stage x ≡ k → q x ≡ r x) → right3_body k q p ≡ right3_body k r p
-right3-own zero q r p b same = refl
-right3-own (suc zero) q r p b same = refl
-right3-own (suc (suc k)) q r p b same = refl
+right3-fits : (k : ℕ) (p : ℕ → ℕ) → k < 3 → Fits right3 k (right3_body k p)
+right3-fits zero p b = (refl, omega arith, omega arith, (λ v. ((λ t p h k. (refl, refl)), (λ t h k. absurd (omega arith)))))
+right3-fits (suc zero) p b = ((λ t p h k. (refl, refl)), (λ t h k. absurd (omega arith)))
+right3-fits (suc (suc k)) p b = ((λ t p h k. (refl, refl)), (λ t h k. absurd (omega arith)))
 
 pub right3-accepted : Accepted right3
 right3-accepted = record {
-  but_for_window = record {
-    some_stages = omega arith;
-    fits = right3-fits;
-    own_samples = right3-own;
-    late_samples = λ x b. absurd (omega arith);
-    writes = λ t h. omega arith;
-    knows = λ t h. omega arith;
-    aims = λ x. omega arith;
-  };
+  but_for_window = no_sample-accepted right3 (omega arith) right3-fits (λ k q r p. refl) (λ x. omega arith) (λ t. omega arith) (λ t. omega arith) (λ x. omega arith);
   window = λ t h. omega arith;
 }
-
-pub right3-runs : RunsAs right3 zeros no_hints (quiets 4) right3_rows (4 ∷ 3 ∷ 2 ∷ [])
-unfolding next_stage next_visible next_hints ue back outcome stall above from_stages before_stage seq
-right3-runs = record { accepted = right3-accepted; shown = refl; numbered = refl }
 
 -- Its guesses are right: a guess is made in each cycle but the first, and its hint has counted as far as the register will.
 right3-state : (given : ℕ → ℕ → ℕ) (n : ℕ) → seq right3 zeros given n 0 0 ≡ n
@@ -50,15 +25,15 @@ unfolding seq before_stage
 right3-state given zero = refl
 right3-state given (suc n) = let e = right3-state given n in omega (arith, e)
 
-right3-makes : (ready : ℕ → ℕ → Bool) (h : ℕ → ℕ) (s : ℕ → ℕ → ℕ) (q p : ℕ → ℕ) (k : ℕ) → (k ≡ 0 → h 0 ≡ s 0 0) → MakesRightGuesses ready h s (right3_body k q p)
-right3-makes ready h s q p zero e = ((λ _. e refl), tt)
-right3-makes ready h s q p (suc zero) e = tt
-right3-makes ready h s q p (suc (suc k)) e = tt
+right3-makes : (ready : ℕ → ℕ → Bool) (h : ℕ → ℕ) (s : ℕ → ℕ → ℕ) (p : ℕ → ℕ) (k : ℕ) → (k ≡ 0 → h 0 ≡ s 0 0) → MakesRightGuesses ready h s (right3_body k p)
+right3-makes ready h s p zero e = ((λ _. e refl), tt)
+right3-makes ready h s p (suc zero) e = tt
+right3-makes ready h s p (suc (suc k)) e = tt
 
 right3-cycle : (given : ℕ → ℕ → ℕ) (hints : ℕ → ℕ) (hold : ℕ → Option ℕ) (T : ℕ) → hints 0 ≡ T → hold 0 ≡ Some T → (k n : ℕ) → k < 3 → hold k ≡ Some n
-    → MakesRightGuesses (ready_above right3 zeros given hold quiet k).ready hints (seq right3 zeros given n) (right3_body k quiet.samples (instruction_before right3 zeros given n k).pipes)
+    → MakesRightGuesses (ready_above right3 zeros given hold quiet k).ready hints (seq right3 zeros given n) (right3_body k (instruction_before right3 zeros given n k).pipes)
 right3-cycle given hints hold T e f k n b g =
-    right3-makes (ready_above right3 zeros given hold quiet k).ready hints (seq right3 zeros given n) quiet.samples (instruction_before right3 zeros given n k).pipes k
+    right3-makes (ready_above right3 zeros given hold quiet k).ready hints (seq right3 zeros given n) (instruction_before right3 zeros given n k).pipes k
     (λ z. let same : T ≡ n = ap (λ (o : Option ℕ). unwrap_or o 0) (sym f ∙ sym (ap hold z) ∙ g) in e ∙ same ∙ sym (right3-state given n))
 
 pub right3-none : (given : ℕ → ℕ → ℕ) → NoWrongGuess right3 zeros given no_hints start_hold (quiets 4)
@@ -73,3 +48,5 @@ right3-none given =
       right3-cycle given no_hints start_hold 0 refl refl,
       (right3-cycle given a f 1 refl refl, (right3-cycle given b g 2 refl refl, (right3-cycle given c h 3 refl refl, tt))),
     )
+
+pub ruleset accepted = (right3-accepted)

@@ -56,7 +56,7 @@ module _ (m : Machine) (acc : Accepted m) (s given : ℕ → ℕ → ℕ) (st : 
       let p = ue-parts m st inputs k u in
       let no_stall = no_stall-parts m st inputs k p.0 p.1 in
       let e = inv.held k b p.0 (λ j q r. ⊎_elim (λ (i : k < j). (up j i r).0) (λ i. let w : k ≡ j = omega arith in subst (λ n. RightAt m s given st count n) w right) (cases_lt k j)) in
-      let same = run-agrees m k (above m st inputs k).truth st.hints (λ h. 0) (seq m s given (count k)) (m.body k inputs.samples (st.stage k).instruction.pipes) (acc.fits k inputs.samples (st.stage k).instruction.pipes b) truth no_stall.0 (made u) in
+      let same = (run-agrees m k (above m st inputs k).truth st.hints (λ h. 0) (seq m s given (count k)) (m.body k inputs.samples (st.stage k).instruction.pipes) (acc.fits k inputs.samples (st.stage k).instruction.pipes b) truth no_stall.0 (made u)).0 in
       let looks : m.body k inputs.samples (st.stage k).instruction.pipes ≡ m.body k (given (count k)) (instruction_before m s given (count k) k).pipes
       = acc.own_samples k inputs.samples (given (count k)) (st.stage k).instruction.pipes b (λ x q. sym (subst (λ (n : ℕ). n < m.stages → ue m st inputs n ≡ true → given (count n) x ≡ inputs.samples x) q (met x) b u)) ∙ ap (λ (c : Instruction). m.body k (given (count k)) c.pipes) e in
       after-same (st.stage k).instruction (instruction_before m s given (count k) k) (outcome m st inputs k) (run (λ t a. Some (seq m s given (count k) t a)) (λ h. 0) (m.body k (given (count k)) (instruction_before m s given (count k) k).pipes)) e
@@ -78,14 +78,10 @@ module _ (m : Machine) (acc : Accepted m) (s given : ℕ → ℕ → ℕ) (st : 
       → ok_value true ((st.stage k).instruction.results t) (stall m st inputs k) ((outcome m st inputs k).sets t) (eqb k (m.write_stage t)) ≡ Some v
       → v ≡ unwrap_or ((instruction_before m s given (count k) m.stages).results t) 0
   forwarded-right t v k h b r f e c w =
-      ⊎_elim stored-right fresh-right (ok_value-cases ((st.stage k).instruction.results t) (stall m st inputs k) ((outcome m st inputs k).sets t) (eqb k (m.write_stage t)) v w)
+      ⊎_elim
+      (λ q. let x = result-final m acc (seq m s given (count k)) (given (count k)) t k v (omega arith) (ap (λ (y : Instruction). y.results t) (sym e) ∙ q) in sym (ap (λ (o : Option ℕ). unwrap_or o 0) x))
+      fresh-right (ok_value-cases ((st.stage k).instruction.results t) (stall m st inputs k) ((outcome m st inputs k).sets t) (eqb k (m.write_stage t)) v w)
     where
-      stored-right : (st.stage k).instruction.results t ≡ Some v
-          → v ≡ unwrap_or ((instruction_before m s given (count k) m.stages).results t) 0
-      stored-right q =
-          let x = result-final m acc (seq m s given (count k)) (given (count k)) t k v (omega arith) (ap (λ (y : Instruction). y.results t) (sym e) ∙ q) in
-          sym (ap (λ (o : Option ℕ). unwrap_or o 0) x)
-
       fresh-right : ((st.stage k).instruction.results t ≡ None) × (stall m st inputs k ≡ false) × (((outcome m st inputs k).sets t ≡ Some v) ⊎ (((outcome m st inputs k).sets t ≡ None) × (eqb k (m.write_stage t) ≡ true) × (v ≡ 0)))
           → v ≡ unwrap_or ((instruction_before m s given (count k) m.stages).results t) 0
       fresh-right q =
@@ -114,18 +110,16 @@ module _ (m : Machine) (acc : Accepted m) (s given : ℕ → ℕ → ℕ) (st : 
   truth-through : (t a v k : ℕ) → m.has_result t ≡ true → suc k ≤ m.write_stage t → suc k < m.stages → back m st inputs ≤ suc k
       → TruthIsRight m s given st inputs count (suc k) → RightAbove m s given st inputs count k
       → (above m st inputs k).truth t a ≡ Some v → v ≡ seq m s given (count k) t a
-  truth-through t a v k h q b r ih up w = ⊎_elim is_full is_empty (cases_Bool (st.stage (suc k)).full)
+  truth-through t a v k h q b r ih up w =
+      ⊎_elim is_full
+      (λ f. from_higher (candidate-hits t a (suc k) h q ∙ and_left (st.stage (suc k)).full _ f) ∙ ap (λ (n : ℕ). seq m s given n t a) (sym (chain-empty m st inputs count inv.chain k b f)))
+      (cases_Bool (st.stage (suc k)).full)
     where
       from_higher : candidate_hits m st (suc k) t a ≡ false → v ≡ seq m s given (count (suc k)) t a
       from_higher e = ih t a v (λ _. q) (sym (cond-false (candidate_hits m st (suc k) t a) _ _ e) ∙ sym (truth-in m st inputs k t a b) ∙ w)
 
       from_hit : candidate_hits m st (suc k) t a ≡ true → forwarded m st inputs (suc k) t ≡ Some v
       from_hit e = sym (cond-true (candidate_hits m st (suc k) t a) _ _ e) ∙ sym (truth-in m st inputs k t a b) ∙ w
-
-      is_empty : (st.stage (suc k)).full ≡ false → v ≡ seq m s given (count k) t a
-      is_empty f =
-          let e = candidate-hits t a (suc k) h q ∙ and_left (st.stage (suc k)).full _ f in
-          from_higher e ∙ ap (λ (n : ℕ). seq m s given n t a) (sym (chain-empty m st inputs count inv.chain k b f))
 
       is_full : (st.stage (suc k)).full ≡ true → v ≡ seq m s given (count k) t a
       is_full f = ⊎_elim known unknown (cases_Bool (intent_known m (suc k) t))
@@ -143,24 +137,19 @@ module _ (m : Machine) (acc : Accepted m) (s given : ℕ → ℕ → ℕ) (st : 
               cc
 
           known : intent_known m (suc k) t ≡ true → v ≡ seq m s given (count k) t a
-          known u = ⊎_elim hit no_hit (cases_Bool (intends m (st.stage (suc k)).instruction t a))
+          known u = ⊎_elim
+              (λ e.
+              let x : ok_value true ((st.stage (suc k)).instruction.results t) (stall m st inputs (suc k)) ((outcome m st inputs (suc k)).sets t) (eqb (suc k) (m.write_stage t)) ≡ Some v = (rw u at (from_hit (n ∙ e))) in
+              forwarded-right t v (suc k) h b r f core (λ go. computes (suc k) b go ih (λ j y z. up j (omega arith) z) (up (suc k) (omega arith) b).0 (up (suc k) (omega arith) b).1) x
+              ∙ sym (seq-written m s given t a (count (suc k)) (wr ∙ e)) ∙ ap (λ (y : ℕ). seq m s given y t a) (sym i))
+              (λ e. from_higher (n ∙ e) ∙ sym (seq-other m s given t a (count (suc k)) (wr ∙ e)) ∙ ap (λ (x : ℕ). seq m s given x t a) (sym i))
+              (cases_Bool (intends m (st.stage (suc k)).instruction t a))
             where
               n : candidate_hits m st (suc k) t a ≡ (intends m (st.stage (suc k)).instruction t a)
               n = candidate-hits t a (suc k) h q ∙ ap₂ (λ (x : Bool) (y : Bool). x && (not y || (intends m (st.stage (suc k)).instruction t a))) f u
 
               wr : is_written m (instruction_before m s given (count (suc k)) m.stages) t a ≡ (intends m (st.stage (suc k)).instruction t a)
               wr = known-written t a (suc k) h (leb-true (m.known_from t) (suc k) u) b core
-
-              no_hit : (intends m (st.stage (suc k)).instruction t a) ≡ false
-                  → v ≡ seq m s given (count k) t a
-              no_hit e = from_higher (n ∙ e) ∙ sym (seq-other m s given t a (count (suc k)) (wr ∙ e)) ∙ ap (λ (x : ℕ). seq m s given x t a) (sym i)
-
-              hit : (intends m (st.stage (suc k)).instruction t a) ≡ true
-                  → v ≡ seq m s given (count k) t a
-              hit e =
-                  let x : ok_value true ((st.stage (suc k)).instruction.results t) (stall m st inputs (suc k)) ((outcome m st inputs (suc k)).sets t) (eqb (suc k) (m.write_stage t)) ≡ Some v = (rw u at (from_hit (n ∙ e))) in
-                  forwarded-right t v (suc k) h b r f core (λ go. computes (suc k) b go ih (λ j y z. up j (omega arith) z) (up (suc k) (omega arith) b).0 (up (suc k) (omega arith) b).1) x
-                  ∙ sym (seq-written m s given t a (count (suc k)) (wr ∙ e)) ∙ ap (λ (y : ℕ). seq m s given y t a) (sym i)
 
   -- Every truth is right, from the last stage down.
   pub truth-right : (d k : ℕ) → suc (k + d) ≡ m.stages → back m st inputs ≤ suc k → RightAbove m s given st inputs count k

@@ -44,15 +44,19 @@ module _ (m : Machine) (acc : Accepted m) (s given : ℕ → ℕ → ℕ) (st : 
   -- part (e) after the cycle
   pub visible-right-kept : (t a : ℕ) → m.has_result t ≡ true
       → next_visible m st inputs t a ≡ seq m s given (next_count m st inputs count (m.write_stage t)) t a
-  visible-right-kept t a h = ⊎_elim moved kept (cases_Bool (ue m st inputs (m.write_stage t)))
+  visible-right-kept t a h =
+      ⊎_elim moved
+      (λ u. visible-kept m st inputs t a u ∙ inv.visible t a h ∙ ap (λ (n : ℕ). seq m s given n t a) (sym (count-window m acc st inputs count inv.shape (m.write_stage t) (acc.window t h) u)))
+      (cases_Bool (ue m st inputs (m.write_stage t)))
     where
-      kept : ue m st inputs (m.write_stage t) ≡ false
-          → next_visible m st inputs t a ≡ seq m s given (next_count m st inputs count (m.write_stage t)) t a
-      kept u = visible-kept m st inputs t a u ∙ inv.visible t a h ∙ ap (λ (n : ℕ). seq m s given n t a) (sym (count-window m acc st inputs count inv.shape (m.write_stage t) (acc.window t h) u))
-
       moved : ue m st inputs (m.write_stage t) ≡ true
           → next_visible m st inputs t a ≡ seq m s given (next_count m st inputs count (m.write_stage t)) t a
-      moved u = ⊎_elim written not_written (cases_Bool (is_written m (st.stage (m.write_stage t)).instruction t a))
+      moved u = ⊎_elim
+          (λ w. visible-written m st inputs t a u w
+          ∙ ap (λ (o : Option ℕ). unwrap_or o 0) (sym (result-at_write_stage m acc (seq m s given (count (m.write_stage t))) (given (count (m.write_stage t))) t h _ (ap (λ (c : Instruction). c.results t) (sym ended))))
+          ∙ sym (seq-written m s given t a (count (m.write_stage t)) (wr ∙ w)) ∙ ap (λ (n : ℕ). seq m s given n t a) (sym one))
+          (λ w. visible-other m st inputs t a w ∙ inv.visible t a h ∙ sym (seq-other m s given t a (count (m.write_stage t)) (wr ∙ w)) ∙ ap (λ (n : ℕ). seq m s given n t a) (sym one))
+          (cases_Bool (is_written m (st.stage (m.write_stage t)).instruction t a))
         where
           win : RightAbove m s given st inputs count (m.write_stage t) × RightAt m s given st count (m.write_stage t) × MadeRight m s given st inputs count (m.write_stage t)
           win = window (m.write_stage t) (acc.writes t h) u (acc.window t h)
@@ -74,14 +78,3 @@ module _ (m : Machine) (acc : Accepted m) (s given : ℕ → ℕ → ℕ) (st : 
 
           one : next_count m st inputs count (m.write_stage t) ≡ suc (count (m.write_stage t))
           one = count-one m st inputs count inv.chain (m.write_stage t) (acc.writes t h) u
-
-          written : is_written m (st.stage (m.write_stage t)).instruction t a ≡ true
-              → next_visible m st inputs t a ≡ seq m s given (next_count m st inputs count (m.write_stage t)) t a
-          written w =
-              visible-written m st inputs t a u w
-              ∙ ap (λ (o : Option ℕ). unwrap_or o 0) (sym (result-at_write_stage m acc (seq m s given (count (m.write_stage t))) (given (count (m.write_stage t))) t h _ (ap (λ (c : Instruction). c.results t) (sym ended))))
-              ∙ sym (seq-written m s given t a (count (m.write_stage t)) (wr ∙ w)) ∙ ap (λ (n : ℕ). seq m s given n t a) (sym one)
-
-          not_written : is_written m (st.stage (m.write_stage t)).instruction t a ≡ false
-              → next_visible m st inputs t a ≡ seq m s given (next_count m st inputs count (m.write_stage t)) t a
-          not_written w = visible-other m st inputs t a w ∙ inv.visible t a h ∙ sym (seq-other m s given t a (count (m.write_stage t)) (wr ∙ w)) ∙ ap (λ (n : ℕ). seq m s given n t a) (sym one)

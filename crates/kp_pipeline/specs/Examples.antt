@@ -66,15 +66,15 @@ pub record RunsAs (m : Machine) (s : ℕ → ℕ → ℕ) (hints : ℕ → ℕ) 
   pub numbered : counted m.stages rows (length rows) m.stages 0 ≡ numbers
 
 -- LATE3: three stages. Stage 0 reads X and puts it; stage 2 sets X to that value plus one, and writes it.
-abbrev pub late3_body : ℕ → (ℕ → ℕ) → (ℕ → ℕ) → Tree
-late3_body zero q p = Ask 0 0 (λ x. ends (only 0 x) nothing)
-late3_body (suc zero) q p = idle
-late3_body (suc (suc k)) q p = ends nothing (only 0 (p 0 + 1))
+abbrev pub late3_body : ℕ → (ℕ → ℕ) → Tree
+late3_body zero p = Ask 0 0 (λ x. ends (only 0 x) nothing)
+late3_body (suc zero) p = idle
+late3_body (suc (suc k)) p = ends nothing (only 0 (p 0 + 1))
 
 abbrev pub late3 : Machine
 late3 = record {
   stages = 3;
-  body = late3_body;
+  body = λ k q. late3_body k;
   sample_stage = λ x. 3;
   hint_stage = λ h. 0;
   has_result = λ t. eqb t 0;
@@ -109,15 +109,15 @@ late3_stalled_rows =
 
 -- NEAR: a file F, target 0, of which word 1 is read, incremented in stage 1 and written in stage 3. With all stages
 -- full, two of them hold results for the word, and the nearest is forwarded. Pipe 0 is the address, pipe 1 the value.
-abbrev pub near_body : ℕ → (ℕ → ℕ) → (ℕ → ℕ) → Tree
-near_body zero q p = Ask 0 1 (λ v. ends (λ x. cond (eqb x 0) (Some 1) (only 1 v x)) nothing)
-near_body (suc zero) q p = ends nothing (only 0 (p 1 + 1))
-near_body (suc (suc k)) q p = idle
+abbrev pub near_body : ℕ → (ℕ → ℕ) → Tree
+near_body zero p = Ask 0 1 (λ v. ends (λ x. cond (eqb x 0) (Some 1) (only 1 v x)) nothing)
+near_body (suc zero) p = ends nothing (only 0 (p 1 + 1))
+near_body (suc (suc k)) p = idle
 
 abbrev pub near : Machine
 near = record {
   stages = 4;
-  body = near_body;
+  body = λ k q. near_body k;
   sample_stage = λ x. 4;
   hint_stage = λ h. 0;
   has_result = λ t. eqb t 0;
@@ -143,15 +143,15 @@ near_rows =
     ∷ []
 
 -- UNK4: X has an enable pipe, number 0, that is put in stage 1, as 0. Until then the intent is unknown: a hit without a value.
-abbrev pub unk4_body : ℕ → (ℕ → ℕ) → (ℕ → ℕ) → Tree
-unk4_body zero q p = Ask 0 0 (λ x. ends nothing (only 0 (x + 1)))
-unk4_body (suc zero) q p = ends (only 0 0) nothing
-unk4_body (suc (suc k)) q p = idle
+abbrev pub unk4_body : ℕ → (ℕ → ℕ) → Tree
+unk4_body zero p = Ask 0 0 (λ x. ends nothing (only 0 (x + 1)))
+unk4_body (suc zero) p = ends (only 0 0) nothing
+unk4_body (suc (suc k)) p = idle
 
 abbrev pub unk4 : Machine
 unk4 = record {
   stages = 4;
-  body = unk4_body;
+  body = λ k q. unk4_body k;
   sample_stage = λ x. 4;
   hint_stage = λ h. 0;
   has_result = λ t. eqb t 0;
@@ -173,15 +173,15 @@ unk4_rows =
 
 -- GHW4: the same unknown writer, but X is guessed as 9, and Y, target 1, is set from it. The writer turns out not to write,
 -- so the guess is compared with X's own value, 5, and the stages 0 and 1 are squashed.
-abbrev pub ghw4_body : ℕ → (ℕ → ℕ) → (ℕ → ℕ) → Tree
-ghw4_body zero q p = Guess 0 (λ h. 9) (λ x. ends nothing (λ t. Some x))
-ghw4_body (suc zero) q p = ends (only 0 0) nothing
-ghw4_body (suc (suc k)) q p = idle
+abbrev pub ghw4_body : ℕ → (ℕ → ℕ) → Tree
+ghw4_body zero p = Guess 0 (λ h. 9) (λ x. ends nothing (λ t. Some x))
+ghw4_body (suc zero) p = ends (only 0 0) nothing
+ghw4_body (suc (suc k)) p = idle
 
 abbrev pub ghw4 : Machine
 ghw4 = record {
   stages = 4;
-  body = ghw4_body;
+  body = λ k q. ghw4_body k;
   sample_stage = λ x. 4;
   hint_stage = λ h. 0;
   has_result = λ t. leb t 1;
@@ -205,13 +205,13 @@ ghw4_rows =
 
 -- HINT3: X is guessed from hint 0, which stage 0 aims at the value read plus two, one too high: the second
 -- instruction is squashed in the cycle in which the first writes.
-abbrev pub hint3_body : ℕ → (ℕ → ℕ) → (ℕ → ℕ) → Tree
-hint3_body zero q p = Guess 0 (λ h. h 0) (λ x. Done (only 0 x) nothing (λ h. only 0 (x + 2)))
-hint3_body (suc zero) q p = idle
-hint3_body (suc (suc k)) q p = ends nothing (only 0 (p 0 + 1))
+abbrev pub hint3_body : ℕ → (ℕ → ℕ) → Tree
+hint3_body zero p = Guess 0 (λ h. h 0) (λ x. Done (only 0 x) nothing (λ h. only 0 (x + 2)))
+hint3_body (suc zero) p = idle
+hint3_body (suc (suc k)) p = ends nothing (only 0 (p 0 + 1))
 
 abbrev pub hint3 : Machine
-hint3 = record late3 { body = hint3_body; last_guessed = 2 }
+hint3 = record late3 { body = λ k q. hint3_body k; last_guessed = 2 }
 
 abbrev pub hint3_rows : List Row
 hint3_rows =
@@ -223,9 +223,8 @@ hint3_rows =
 -- SMP3: stage 1 sets X to a sample, stage 2 writes it. With stage 1 stalled in cycle 1 the first instruction takes
 -- the sample of cycle 2.
 abbrev pub smp3_body : ℕ → (ℕ → ℕ) → (ℕ → ℕ) → Tree
-smp3_body zero q p = idle
 smp3_body (suc zero) q p = ends nothing (only 0 (q 0))
-smp3_body (suc (suc k)) q p = idle
+smp3_body _ q p = idle
 
 abbrev pub smp3 : Machine
 smp3 = record late3 { body = smp3_body; sample_stage = λ x. 1 }
@@ -243,17 +242,15 @@ smp3_rows =
 
 -- EARLY: it violates the window rule and no other. X is guessed as 7 in stage 0 and written in stage 4; Y, target 1,
 -- is set from the guess and written in stage 2, before the guess is found wrong.
-abbrev pub early_body : ℕ → (ℕ → ℕ) → (ℕ → ℕ) → Tree
-early_body zero q p = Guess 0 (λ h. 7) (λ x. ends (only 0 x) (only 1 x))
-early_body (suc zero) q p = idle
-early_body (suc (suc zero)) q p = idle
-early_body (suc (suc (suc zero))) q p = idle
-early_body (suc (suc (suc (suc k)))) q p = ends nothing (only 0 (p 0 + 1))
+abbrev pub early_body : ℕ → (ℕ → ℕ) → Tree
+early_body zero p = Guess 0 (λ h. 7) (λ x. ends (only 0 x) (only 1 x))
+early_body (suc (suc (suc (suc k)))) p = ends nothing (only 0 (p 0 + 1))
+early_body _ p = idle
 
 abbrev pub early : Machine
 early = record {
   stages = 5;
-  body = early_body;
+  body = λ k q. early_body k;
   sample_stage = λ x. 5;
   hint_stage = λ h. 0;
   has_result = λ t. leb t 1;

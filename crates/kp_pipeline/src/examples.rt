@@ -1,5 +1,6 @@
 //! Worked runs of small machines, by computation: they show that the laws aren't vacuous. The machines, their inputs
 //! and their rows are defined in `specs/Examples.antt`.
+#![tactic(auto, using(crate::proofs::WorkedRuns::accepted), unfolding(crate::specs::Pipeline::next_stage, crate::specs::Pipeline::next_visible, crate::specs::Pipeline::next_hints, crate::specs::Pipeline::ue, crate::specs::Pipeline::back, crate::specs::Pipeline::outcome, crate::specs::Pipeline::stall, crate::specs::Pipeline::above, crate::specs::Pipeline::from_stages, crate::specs::Sequential::before_stage, crate::specs::Sequential::seq, crate::specs::Timeline::next_hold, crate::specs::Timeline::moves_on, crate::specs::Timeline::blocked, crate::specs::Timeline::waits, crate::specs::Timeline::ready_above, crate::specs::Timeline::ready_from, crate::specs::Timeline::setting_stage))]
 
 ghost use Rattle.std.specs.Prelude.{◌≡◌, ℕ, ◌≤◌, List, [], ◌∷◌, ◌+◌};
 ghost use Rattle.kp_pipeline.specs.Accepted.{AcceptedButForWindow};

@@ -1,5 +1,6 @@
 //! The laws. `s` is the start state by target and address, `hints` the start values of the hints, `ins` the inputs of the
 //! cycles: a stall word and sample values for each. `W` is the last write stage of a guessed register.
+#![tactic(auto, using(crate::proofs::Proved::laws, crate::proofs::Proved::nearest))]
 
 ghost use Rattle.std.specs.Prelude.{◌≡◌, ℕ, suc, ◌+◌, ◌<◌, ◌≤◌, List, [], ◌∷◌, ◌++◌, length, true, false, Option, Some, ◌⊎◌};
 ghost use Rattle.std.specs.List.{AllByRecursion};

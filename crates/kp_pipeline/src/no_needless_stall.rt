@@ -1,5 +1,6 @@
 //! The laws. `s` is the start state by target and address, `hints` the start values of the hints, `ins` the inputs of the
 //! cycles: a stall word and sample values for each.
+#![tactic(auto, using(crate::proofs::Proved::waiting))]
 
 ghost use Rattle.std.specs.Prelude.{◌≡◌, ℕ, List};
 ghost use Rattle.kp_pipeline.specs.Accepted.{Accepted};

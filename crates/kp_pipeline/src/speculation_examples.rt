@@ -1,5 +1,6 @@
 //! Worked runs of small machines, by computation: they show that the laws aren't vacuous. The machines, their inputs
 //! and their rows are defined in `specs/Examples.antt`.
+#![tactic(auto, using(crate::proofs::SpeculativeRuns::accepted), unfolding(crate::specs::Pipeline::next_stage, crate::specs::Pipeline::next_visible, crate::specs::Pipeline::next_hints, crate::specs::Pipeline::ue, crate::specs::Pipeline::back, crate::specs::Pipeline::outcome, crate::specs::Pipeline::stall, crate::specs::Pipeline::above, crate::specs::Pipeline::from_stages, crate::specs::Sequential::before_stage, crate::specs::Sequential::seq, crate::specs::SpeculativeTimeline::next_hold, crate::specs::SpeculativeTimeline::moves_on, crate::specs::SpeculativeTimeline::blocked, crate::specs::SpeculativeTimeline::waits, crate::specs::SpeculativeTimeline::ready_above, crate::specs::SpeculativeTimeline::ready_from, crate::specs::SpeculativeTimeline::setting_stage))]
 
 ghost use Rattle.std.specs.Prelude.{◌≡◌, ℕ, List, [], ◌∷◌};
 ghost use Rattle.kp_pipeline.specs.Examples.{RunsAs, quiets, zeros, no_hints};

@@ -1,6 +1,6 @@
 -- What the next nodes mean, arm by arm.
 use Rattle.std.proofs.Common.{◌≡◌, ◌∙◌, ℕ, suc, ◌<◌, Bool, true, false, cond, not, ◌&&◌, ◌||◌, leb, length, get_or, Option, Some, None, refl, sym, ap, subst, arith}
-use Rattle.std.proofs.lemmas.Bool.{le-leb, leb-true}
+use Rattle.std.proofs.lemmas.Bool.{and_from, and_parts, le-leb, leb-true}
 use Rattle.std.specs.Prelude.{nat_le, is_some, unwrap_or}
 use Rattle.kp_ast.specs.declared.tree.Job.{Job}
 use Rattle.kp_pipeline.specs.Sequential.{first_value, after_stage}
@@ -11,11 +11,7 @@ use Rattle.kp_synth_tables.specs.{declared.key.Key.TheVariants.Hint, Keys.set_by
 use Rattle.kp_synth_registers.specs.{declared.outcome.Set.Set, declared.outcome.Outcome.Outcome, Holding.kept_in, Holding.optional}
 use Rattle.kp_synth_registers.specs.Meaning.{IsTest, Gives, MayGive, Says, set_value, put_value, PutFits}
 use Rattle.kp_synth_registers.proofs.Growth.{says_kept}
-
-both_true : {G : Type 0} (a b : Bool) → (a ≡ true → b ≡ true → G) → (a && b) ≡ true → G
-both_true true true f e = f refl refl
-both_true true false f e = cc
-both_true false b f e = cc
+use Rattle.kp_synth_close.proofs.Bits.{not_not}
 
 pub first_is : (a b : Bool) (v w : ℕ) → optional (a || b) (cond a v w) ≡ first_value (optional a v) (optional b w)
 first_is true b v w = refl
@@ -28,12 +24,14 @@ chosen_is false a b v w = refl
 
 -- a result that is kept in the next stage is kept in this one
 pub kept_before : (job : Job) (t k : ℕ) → is_kept job t (suc k) ≡ true → is_kept job t k ≡ true
-kept_before job t k e = both_true (is_some (result_for job t)) (nat_le (suc k) (write_stage_of (result_for job t)))
-    (λ a b. let l = leb-true (suc k) (write_stage_of (result_for job t)) b in let m : nat_le k (write_stage_of (result_for job t)) ≡ true = le-leb k (write_stage_of (result_for job t)) (omega arith) in rw (a, m) refl) e
+kept_before job t k e =
+    let p = and_parts (is_some (result_for job t)) (nat_le (suc k) (write_stage_of (result_for job t))) e in
+    let l = leb-true (suc k) (write_stage_of (result_for job t)) p.1 in
+    and_from (is_some (result_for job t)) (nat_le k (write_stage_of (result_for job t))) p.0 (le-leb k (write_stage_of (result_for job t)) (omega arith))
 
 -- what is stored is kept
 pub stored_kept : (job : Job) (t k : ℕ) → is_stored job t k ≡ true → is_kept job t k ≡ true
-stored_kept job t k e = both_true (nat_le (set_by job (result_for job t)) k) (is_kept job t k) (λ a b. b) e
+stored_kept job t k e = (and_parts (nat_le (set_by job (result_for job t)) k) (is_kept job t k) e).1
 
 -- the stage after stage k
 pub results_next : (job : Job) (st : PipelineState) (i : Inputs) (t k : ℕ) → ((cycle (machine_of job) st i).stage (suc k)).instruction.results t
@@ -75,10 +73,6 @@ pipes_next job st i x k = elim (ue (machine_of job) st i k) as
     (λ (u : Bool). (cond u (after_stage (st.stage k).instruction (outcome (machine_of job) st i k)) (st.stage (suc k)).instruction).pipes x
     ≡ cond u (unwrap_or ((outcome (machine_of job) st i k).puts x) ((st.stage k).instruction.pipes x)) ((st.stage (suc k)).instruction.pipes x))
     [ true ↦ refl | false ↦ refl ]
-
-not_not : (b : Bool) → not (not b) ≡ b
-not_not true = refl
-not_not false = refl
 
 pub full_is : (job : Job) (st : PipelineState) (i : Inputs) (k n : ℕ) (u s w : Bool) → n ≡ suc k → u ≡ ue (machine_of job) st i k → s ≡ stall (machine_of job) st i n
     → w ≡ not (leb (back (machine_of job) st i) n) → (not w && (u || s)) ≡ ((cycle (machine_of job) st i).stage n).full

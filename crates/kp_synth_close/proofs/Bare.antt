@@ -1,11 +1,11 @@
 -- BEFORE ITS PUT a pipe is 0, and before the first stage that sets it a result isn't set. So what isn't kept needs no register, once
 -- the pipes past their last use are 0 too.
-use Rattle.std.proofs.Common.{◌≡◌, ◌∙◌, ℕ, zero, suc, ◌<◌, ◌≤◌, Bool, true, false, cond, ◌&&◌, [], length, Option, Some, None, refl, sym, ap, arith, ⊎_elim}
-use Rattle.std.proofs.lemmas.Bool.{cond_both, cond-false, cases_Bool, cases_lt, le-leb}
+use Rattle.std.proofs.Common.{◌≡◌, ◌∙◌, ℕ, zero, suc, ◌<◌, ◌≤◌, Bool, true, false, cond, ◌&&◌, [], length, None, refl, sym, ap, arith, ⊎_elim}
+use Rattle.std.proofs.lemmas.Bool.{cond_both, cond-false, cases_lt, le-leb}
 use Rattle.std.specs.Prelude.{nat_le, unwrap_or}
 use Rattle.kp_ast.specs.declared.tree.Job.{Job}
-use Rattle.kp_pipeline.specs.Sequential.{Instruction, first_value, after_stage}
-use Rattle.kp_pipeline.specs.Pipeline.{PipelineState, StageState, Inputs, outcome, ue, cycle, next_stage, pipeline_start, stage_zero}
+use Rattle.kp_pipeline.specs.Sequential.{first_value, after_stage}
+use Rattle.kp_pipeline.specs.Pipeline.{PipelineState, Inputs, outcome, ue, cycle, next_stage, pipeline_start, stage_zero}
 use Rattle.kp_pipeline.specs.Trimming.{trimmed, trimmed_stage}
 use Rattle.kp_pipeline.proofs.Ends.{run-ends}
 use Rattle.kp_machine.specs.{Slots.pipes_of, Machine.machine_of, Machine.result_for}

@@ -23,7 +23,7 @@ at_set F xs i v k h a b = ⊎_elim
     (λ (e : (k == i) ≡ false). let f : node_at (set xs i v) k ≡ node_at xs k = get_or-set_other xs i k v _ (λ q. eqb-false k i e q) in subst (F k) (sym f) (b (λ q. eqb-false k i e q)))
     (cases_Bool (k == i))
 
-not_not : (b : Bool) → not (not b) ≡ b
+pub not_not : (b : Bool) → not (not b) ≡ b
 not_not true = refl
 not_not false = refl
 

@@ -1,6 +1,6 @@
 -- The guesses that are pending after a cycle.
 use Rattle.std.proofs.Common.{◌≡◌, ◌∙◌, ℕ, zero, suc, ◌+◌, ◌<◌, ◌≤◌, Bool, true, false, cond, not, ◌&&◌, ◌||◌, ◌==◌, List, [], ◌∷◌, length, get_or, Option, Some, None, refl, sym, ap, arith, ⊎_elim, eqb-true}
-use Rattle.std.proofs.lemmas.{Bool.cases_Bool, Bool.eq-eqb, Bool.cases_lt, Bool.ltb-true, Bool.lt-ltb, Bool.eqb-false, List.Folds.list_any-append}
+use Rattle.std.proofs.lemmas.{Bool.cases_Bool, Bool.eq-eqb, Bool.ne_eqb, Bool.cases_lt, Bool.le-ltb, Bool.lt-ltb, Bool.eqb-false, List.Folds.list_any-append}
 use Rattle.std.specs.{Prelude.nat_lt, Prelude.slice_get, List.list_any, List.filter}
 use Rattle.kp_ast.specs.declared.tree.{Expr.Expr, ReadStmt.ReadStmt, Stmt.Stmt, StmtKind.StmtKind, Block.Block, Job.Job}
 use Rattle.kp_ast.specs.declared.tree.StmtKind.TheVariants as stmts
@@ -97,10 +97,7 @@ elsewhere : (job : Job) (p : Held) (outs : List Outcome) (c : Cells) (k : ℕ) (
     → (b ≡ k → ⊥) → Numbered job b i ss → list_any (made_passes p outs c k test) ss ≡ false
 elsewhere job p outs c k test b i [] d is = refl
 elsewhere job p outs c k test b i (s ∷ ss) d is =
-    let no : (s.stage == k) ≡ false = ⊎_elim
-    (λ (e : (s.stage == k) ≡ true). absurd (d (sym is.0.stage ∙ eqb-true s.stage k e)))
-    (λ (e : (s.stage == k) ≡ false). e)
-    (cases_Bool (s.stage == k)) in
+    let no : (s.stage == k) ≡ false = ne_eqb s.stage k (λ e. d (sym is.0.stage ∙ e)) in
     rw (no, elsewhere job p outs c k test b (suc i) ss d is.1) refl
 
 made_past : (job : Job) (p : Held) (outs : List Outcome) (c : Cells) (k : ℕ) (test : PendingGuess → Bool) (b : ℕ) (bs : List Block)
@@ -155,29 +152,20 @@ moving a true false true x y mx my ox oy h f g = rw (h.1 refl) (sym (and_no ox o
 moving a true false false x y mx my ox oy h f g = let p = h.1 refl in rw (f p, g p, p) refl
 moving a false false q x y mx my ox oy h f g = rw (h.1 refl) refl
 
-pub not_lt : (a b : ℕ) → b ≤ a → nat_lt a b ≡ false
-not_lt a b l = ⊎_elim (λ (e : nat_lt a b ≡ true). (let m = ltb-true a b e in absurd (omega arith))) (λ (e : nat_lt a b ≡ false). e) (cases_Bool (nat_lt a b))
-
-pub not_eq : (a b : ℕ) → (a ≡ b → ⊥) → (a == b) ≡ false
-not_eq a b d = ⊎_elim (λ (e : (a == b) ≡ true). absurd (d (eqb-true a b e))) (λ (e : (a == b) ≡ false). e) (cases_Bool (a == b))
-
 -- a bound that is one more
 lt_next : (s k w : ℕ) (q : Bool) → q ≡ (w == suc k) → (s ≡ k → ⊥) → (nat_lt s (suc k) && nat_lt (suc k) w) ≡ ((nat_lt s k && nat_lt k w) && not q)
 lt_next s k w q e d = ⊎_elim
     (λ (l : s < k). ⊎_elim
-    (λ (m : suc k < w). (let n : q ≡ false = e ∙ not_eq w (suc k) (λ z. absurd (omega arith)) in
+    (λ (m : suc k < w). (let n : q ≡ false = e ∙ ne_eqb w (suc k) (λ z. absurd (omega arith)) in
     rw (lt-ltb s (suc k) (omega arith), lt-ltb (suc k) w m, lt-ltb s k l, lt-ltb k w (omega arith), n) refl))
     (λ (m : w ≤ suc k). ⊎_elim
     (λ (o : k < w). (let n : q ≡ true = e ∙ eq-eqb w (suc k) (omega arith) in
-    rw (lt-ltb s (suc k) (omega arith), not_lt (suc k) w m, lt-ltb s k l, lt-ltb k w o, n) refl))
-    (λ (o : w ≤ k). rw (lt-ltb s (suc k) (omega arith), not_lt (suc k) w m, lt-ltb s k l, not_lt k w o) refl)
+    rw (lt-ltb s (suc k) (omega arith), le-ltb (suc k) w m, lt-ltb s k l, lt-ltb k w o, n) refl))
+    (λ (o : w ≤ k). rw (lt-ltb s (suc k) (omega arith), le-ltb (suc k) w m, lt-ltb s k l, le-ltb k w o) refl)
     (cases_lt k w))
     (cases_lt (suc k) w))
-    (λ (l : k ≤ s). (let far : suc k ≤ s = far_from s k l d in rw (not_lt s (suc k) far, not_lt s k l) refl))
+    (λ (l : k ≤ s). (let far : suc k ≤ s = omega arith in rw (le-ltb s (suc k) far, le-ltb s k l) refl))
     (cases_lt s k)
-  where
-    far_from : (a b : ℕ) → b ≤ a → (a ≡ b → ⊥) → suc b ≤ a
-    far_from a b l d = ⊎_elim (λ (m : b < a). omega arith) (λ (m : a ≤ b). absurd (d (omega arith))) (cases_lt b a)
 
 -- what is known of each guess of a job
 pub record IsGuess (job : Job) (s : GuessSlot) : Type 0 where
@@ -196,8 +184,8 @@ moves job s k h = (here, there) where
       let f : s.stage ≡ k = eqb-true s.stage k e in
       let a : nat_lt s.stage (suc k) ≡ true = lt-ltb s.stage (suc k) (omega arith) in
       let b : nat_lt (suc k) s.write ≡ true = lt-ltb (suc k) s.write (omega (arith, h.fits)) in
-      let d : nat_lt s.stage k ≡ false = not_lt s.stage k (omega arith) in
-      (rw (a, b) refl, rw d refl, same ∙ not_eq s.write (suc k) (λ z. absurd (omega (arith, h.fits))))
+      let d : nat_lt s.stage k ≡ false = le-ltb s.stage k (omega arith) in
+      (rw (a, b) refl, rw d refl, same ∙ ne_eqb s.write (suc k) (λ z. absurd (omega (arith, h.fits))))
 
   there : (s.stage == k) ≡ false → is_carried s (suc k) ≡ (is_carried s k && not (write_stage_of (result_for job s.register) == suc k))
   there e = lt_next s.stage k s.write (write_stage_of (result_for job s.register) == suc k) same (λ z. eqb-false s.stage k e z)

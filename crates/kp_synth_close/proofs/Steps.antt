@@ -1,45 +1,32 @@
 -- Cells that hold the state hold the next state after a cycle.
-use Rattle.std.proofs.Common.{◌≡◌, ◌∙◌, ℕ, zero, suc, ◌<◌, Bool, true, false, cond, not, ◌&&◌, ◌||◌, ◌==◌, List, [], ◌∷◌, ◌++◌, length, get_or, Option, Some, None, refl, sym, ap, subst, arith, ⊎_elim}
-use Rattle.std.proofs.lemmas.{Bool.cases_Bool, Bool.cond-true, Bool.cond-false, List.Folds.list_any-append}
-use Rattle.std.specs.List.{list_any, filter}
-use Rattle.kp_ast.specs.declared.tree.{Expr.Expr, ReadStmt.ReadStmt, Stmt.Stmt, StmtKind.StmtKind, Block.Block, Job.Job}
-use Rattle.kp_ast.specs.declared.tree.StmtKind.TheVariants as stmts
+use Rattle.std.proofs.Common.{◌≡◌, ◌∙◌, ℕ, zero, suc, ◌<◌, Bool, true, false, cond, not, ◌&&◌, ◌||◌, ◌==◌, List, [], ◌∷◌, ◌++◌, length, get_or, refl, sym, ap, subst, arith, ⊎_elim}
+use Rattle.std.proofs.lemmas.{Bool.le-ltb, Bool.cases_Bool, Bool.cond-true, Bool.cond-false, List.Folds.list_any-append}
+use Rattle.std.specs.List.{list_any, filter, AllByRecursion}
+use Rattle.kp_ast.specs.declared.tree.{Block.Block, Job.Job}
 use Rattle.kp_pipeline.specs.Sequential.{PendingGuess}
 use Rattle.kp_pipeline.specs.Pipeline.{PipelineState, StageState, Inputs, ue, cycle, outcome, next_stage}
 use Rattle.kp_machine.specs.Machine.{machine_of, result_for, write_stage_of}
 use Rattle.kp_net.specs.{Nodes.Cells, Nodes.at, Nodes.on, Growth.Held}
 use Rattle.kp_synth_tables.specs.declared.key.{Key.TheVariants.Pending, Key.TheVariants.Guess, GuessSlot.GuessSlot}
-use Rattle.kp_synth_tables.specs.Keys.{no_guess, with_read, with_guess, guesses_in, guesses_from, guesses_of, guess_at, is_carried}
+use Rattle.kp_synth_tables.specs.Keys.{no_guess, guesses_in, guesses_from, guesses_of, guess_at, is_carried}
 use Rattle.kp_synth_registers.specs.declared.outcome.Outcome.{Outcome}
 use Rattle.kp_synth_registers.specs.Holding.{Holds, kept_in, some_of, some_guess, guess_passes, pending_guess}
 use Rattle.kp_synth_registers.specs.Meaning.{Says}
 use Rattle.kp_synth_close.specs.Nexts.{outcome_at, made_at, leaves_pending, leaves_with, GuessesFit}
-use Rattle.kp_synth_close.proofs.Guesses.{some_same, some_or, some_none, any_filter, made_passes, made_among, IsGuess, moves, moving, not_lt}
+use Rattle.kp_pipeline.proofs.Lists.{all-append}
+use Rattle.kp_synth_close.proofs.Guesses.{Numbered, numbered, some_same, some_or, some_none, any_filter, made_passes, made_among, IsGuess, moves, moving}
 
 -- the write stage of each guess
 abbrev AllWritten : Job → List GuessSlot → Type 0
-AllWritten job [] = Unit {0}
-AllWritten job (s ∷ ss) = (s.write ≡ write_stage_of (result_for job s.register)) × AllWritten job ss
+AllWritten job ss = AllByRecursion (λ (s : GuessSlot). s.write ≡ write_stage_of (result_for job s.register)) ss
 
-read_written : (job : Job) (k i : ℕ) (r : ReadStmt) (o : Option Expr) (rest : ℕ → List GuessSlot) → ((j : ℕ) → AllWritten job (rest j)) → AllWritten job (with_read job k i r o rest)
-read_written job k i r None rest h = h i
-read_written job k i r (Some e) rest h = (refl, h (suc i))
-
-guess_written : (job : Job) (k i : ℕ) (s : StmtKind) (rest : ℕ → List GuessSlot) → ((j : ℕ) → AllWritten job (rest j)) → AllWritten job (with_guess job k i s rest)
-guess_written job k i (stmts.Read r) rest h = read_written job k i r r.guess rest h
-guess_written job k i _ rest h = h i
-
-written_in : (job : Job) (k i : ℕ) (ss : List Stmt) → AllWritten job (guesses_in job k i ss)
-written_in job k i [] = tt
-written_in job k i (s ∷ ss) = guess_written job k i s.kind (λ j. guesses_in job k j ss) (λ j. written_in job k j ss)
-
-written_both : (job : Job) (xs ys : List GuessSlot) → AllWritten job xs → AllWritten job ys → AllWritten job (xs ++ ys)
-written_both job [] ys a b = b
-written_both job (x ∷ xs) ys a b = (a.0, written_both job xs ys a.1 b)
+written_in : (job : Job) (k i : ℕ) (ss : List GuessSlot) → Numbered job k i ss → AllWritten job ss
+written_in job k i [] h = tt
+written_in job k i (s ∷ ss) h = (h.0.write, written_in job k (suc i) ss h.1)
 
 written_from : (job : Job) (k : ℕ) (bs : List Block) → AllWritten job (guesses_from job k bs)
 written_from job k [] = tt
-written_from job k (b ∷ bs) = written_both job (guesses_in job k 0 b.stmts) (guesses_from job (suc k) bs) (written_in job k 0 b.stmts) (written_from job (suc k) bs)
+written_from job k (b ∷ bs) = all-append _ (guesses_in job k 0 b.stmts) (guesses_from job (suc k) bs) (written_in job k 0 (guesses_in job k 0 b.stmts) (numbered job k 0 b.stmts)) (written_from job (suc k) bs)
 
 written_get : (job : Job) (ss : List GuessSlot) (g : ℕ) → AllWritten job ss → g < length ss → (get_or ss g no_guess).write ≡ write_stage_of (result_for job (get_or ss g no_guess).register)
 written_get job [] g h l = absurd (omega arith)
@@ -110,7 +97,7 @@ guesses_move job p outs c c' k test keep fit is h =
 
 -- What is pending in stage k by the cells, with stage 0, which has none.
 before_zero : (s : GuessSlot) → is_carried s 0 ≡ false
-before_zero s = rw (not_lt s.stage 0 (omega arith)) refl
+before_zero s = rw (le-ltb s.stage 0 (omega arith)) refl
 
 pending_before : (job : Job) (c : Cells) (st : PipelineState) (i : Inputs) (k : ℕ) (test : PendingGuess → Bool) → k < job.stages.value → Holds job c st i
     → some_guess job c k test ≡ list_any test (st.stage k).pending

@@ -1,6 +1,6 @@
 -- What the next nodes mean stays while the pool grows.
 use Rattle.std.proofs.Common.{◌≡◌, ◌∙◌, ℕ, ◌<◌, ◌≤◌, Bool, true, false, cond, ◌==◌, List, [], ◌∷◌, ◌++◌, length, length-append, get_or, Option, Some, None, refl, sym, ap, subst, arith, ⊎_elim, eqb-true}
-use Rattle.std.proofs.{lemmas.Bool.cases_Bool, lemmas.Bool.cases_lt, Math.ListN.get_or-append, Math.Seq.get_or-append_seam}
+use Rattle.std.proofs.{lemmas.Bool.cases_Bool, lemmas.Bool.cases_lt, lemmas.List.get_or_push, Math.ListN.get_or-append}
 use Rattle.std.specs.Prelude.{is_some}
 use Rattle.kp_net.proofs.Growing.{wire_kept}
 use Rattle.kp_synth_registers.proofs.Growth.{test_kept, gives_kept}
@@ -106,26 +106,24 @@ controls_kept job p q j d a h = record {
 pub nexts_none : (job : Job) (p : Held) (outs : List Outcome) → NextsFrom job p outs []
 nexts_none job p outs = record { few = omega arith; wires = λ r l. absurd (omega arith); next = λ c st i h r l. absurd (omega arith) }
 
--- one more
+-- what holds of each entry of a list holds with one more
+pushed : {A : Type 0} (F : ℕ → A → Type 0) (xs : List A) (x d : A) → ((r : ℕ) → r < length xs → F r (get_or xs r d)) → F (length xs) x
+    → (r : ℕ) → r < length (xs ++ x ∷ []) → F r (get_or (xs ++ x ∷ []) r d)
+pushed F xs x d old new r l = ⊎_elim
+    (λ (b : r < length xs). subst (F r) (sym (get_or-append xs (x ∷ []) d r b)) (old r b))
+    (λ (b : length xs ≤ r). let z : length xs ≡ r = omega (arith, l, length-append xs (x ∷ [])) in
+    subst (F r) (sym (get_or_push xs x d r z)) (subst (λ s. F s x) z new))
+    (cases_lt r (length xs))
+
 pub nexts_more : (job : Job) (p q : Held) (j w : ℕ) (outs : List Outcome) (nexts : List NodeId) (n : NodeId) → Kept p q j → AllSay job p outs → NextsFrom job p outs nexts
     → length nexts < length (keys_of job) → Wire q n (key_width job (key_at job (length nexts)))
     → ((c : Cells) (st : PipelineState) (i : Inputs) → Holds job c st i → NextIs job q outs n c st i (key_at job (length nexts)))
     → NextsFrom job q outs (nexts ++ n ∷ [])
 nexts_more job p q j w outs nexts n a says h l wire next = record {
   few = omega (arith, length-append nexts (n ∷ []), l);
-  wires = λ r m. ⊎_elim
-      (λ (b : r < length nexts). subst (λ (x : NodeId). Wire q x (key_width job (key_at job r))) (sym (get_or-append nexts (n ∷ []) (record { 0 = 0 }) r b)) (wire_kept p q j (node_at nexts r) _ a (h.wires r b)))
-      (λ (b : length nexts ≤ r). let z : length nexts ≡ r = omega (arith, m, length-append nexts (n ∷ [])) in
-      let e : n ≡ node_at (nexts ++ n ∷ []) r = sym (get_or-append_seam nexts n [] (record { 0 = 0 })) ∙ ap (node_at (nexts ++ n ∷ [])) z in
-      subst (λ (x : NodeId). Wire q x (key_width job (key_at job r))) e (subst (λ s. Wire q n (key_width job (key_at job s))) z wire))
-      (cases_lt r (length nexts));
-  next = λ c st i k r m. ⊎_elim
-      (λ (b : r < length nexts). subst (λ (x : NodeId). NextIs job q outs x c st i (key_at job r)) (sym (get_or-append nexts (n ∷ []) (record { 0 = 0 }) r b))
-      (next_kept job p q j _ outs (node_at nexts r) c st i (key_at job r) a (h.wires r b) (key_had job r (omega (arith, b, l))) says (h.next c st i k r b)))
-      (λ (b : length nexts ≤ r). let z : length nexts ≡ r = omega (arith, m, length-append nexts (n ∷ [])) in
-      let e : n ≡ node_at (nexts ++ n ∷ []) r = sym (get_or-append_seam nexts n [] (record { 0 = 0 })) ∙ ap (node_at (nexts ++ n ∷ [])) z in
-      subst (λ (x : NodeId). NextIs job q outs x c st i (key_at job r)) e (subst (λ s. NextIs job q outs n c st i (key_at job s)) z (next c st i k)))
-      (cases_lt r (length nexts));
+  wires = pushed (λ (r : ℕ) (x : NodeId). Wire q x (key_width job (key_at job r))) nexts n (record { 0 = 0 }) (λ r b. wire_kept p q j (node_at nexts r) _ a (h.wires r b)) wire;
+  next = λ c st i k. pushed (λ (r : ℕ) (x : NodeId). NextIs job q outs x c st i (key_at job r)) nexts n (record { 0 = 0 })
+      (λ r b. next_kept job p q j _ outs (node_at nexts r) c st i (key_at job r) a (h.wires r b) (key_had job r (omega (arith, b, l))) says (h.next c st i k r b)) (next c st i k);
 }
 
 -- WRITE PORTS.
@@ -151,21 +149,9 @@ pub ports_more : (job : Job) (p q : Held) (j : ℕ) (ports : List (Option WriteP
     → PortsFrom job q (ports ++ o ∷ [])
 ports_more job p q j ports o k h l fit is = record {
   few = omega (arith, length-append ports (o ∷ []), l);
-  fits = λ t m. ⊎_elim
-      (λ (b : t < length ports). subst (PortFits job q t) (sym (get_or-append ports (o ∷ []) None t b)) (fits_kept job p q j t _ k (h.fits t b)))
-      (λ (b : length ports ≤ t). let z : length ports ≡ t = omega (arith, m, length-append ports (o ∷ [])) in
-      let e : o ≡ get_or (ports ++ o ∷ []) t None = sym (get_or-append_seam ports o [] None) ∙ ap (λ s. get_or (ports ++ o ∷ []) s None) z in
-      subst (PortFits job q t) e (subst (λ s. PortFits job q s o) z fit))
-      (cases_lt t (length ports));
-  port = λ c st i w t m f a. ⊎_elim
-      (λ (b : t < length ports). h.port c st i w t b f a ∙ sym (port_kept job p q j t _ c a (st.visible t a) k (h.fits t b))
-      ∙ ap (λ (x : Option WritePort). port_word c q x a (st.visible t a)) (sym (get_or-append ports (o ∷ []) None t b)))
-      (λ (b : length ports ≤ t). let z : length ports ≡ t = omega (arith, m, length-append ports (o ∷ [])) in
-      let e : o ≡ get_or (ports ++ o ∷ []) t None = sym (get_or-append_seam ports o [] None) ∙ ap (λ s. get_or (ports ++ o ∷ []) s None) z in
-      let g : is_register (target_at job (length ports)) ≡ false = subst (λ s. is_register (target_at job s) ≡ false) (sym z) f in
-      subst (λ s. next_visible (machine_of job) st i s a ≡ port_word c q o a (st.visible s a)) z (is g c st i w a)
-      ∙ ap (λ (x : Option WritePort). port_word c q x a (st.visible t a)) e)
-      (cases_lt t (length ports));
+  fits = pushed (PortFits job q) ports o None (λ t b. fits_kept job p q j t _ k (h.fits t b)) fit;
+  port = λ c st i w t m f a. pushed (λ (t : ℕ) (x : Option WritePort). is_register (target_at job t) ≡ false → next_visible (machine_of job) st i t a ≡ port_word c q x a (st.visible t a)) ports o None
+      (λ t b g. h.port c st i w t b g a ∙ sym (port_kept job p q j t _ c a (st.visible t a) k (h.fits t b))) (λ g. is g c st i w a) t m f;
 }
 
 -- What the loops gave closes the netlist.

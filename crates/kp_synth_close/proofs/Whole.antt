@@ -1,5 +1,5 @@
 -- THE NETLIST SHOWS THE PIPELINE, by induction over the cycles.
-use Rattle.std.proofs.Common.{◌≡◌, ◌∙◌, ℕ, zero, suc, ◌+◌, ◌%◌, ◌^◌, ◌<◌, ◌≤◌, Bool, true, false, cond, ◌&&◌, ◌==◌, List, [], ◌∷◌, map, set, length, get_or, Option, Some, None, refl, sym, ap, subst, arith, ⊎_elim, eqb-true, All}
+use Rattle.std.proofs.Common.{◌≡◌, ◌∙◌, ℕ, zero, suc, ◌%◌, ◌^◌, ◌<◌, ◌≤◌, Bool, true, false, cond, ◌&&◌, ◌==◌, List, [], ◌∷◌, map, set, length, get_or, Option, Some, None, refl, sym, ap, subst, arith, ⊎_elim, eqb-true, All}
 use Rattle.std.proofs.{Math.Nat.mod-eq_of_lt, lemmas.Bool.cases_Bool, lemmas.Bool.cond-true, lemmas.Bool.cond-false, lemmas.Bool.eqb-false}
 use Rattle.std.proofs.lemmas.List.{get_or-map, get_or-set_same, get_or-set_other, length-map, length-set, Elements.All-head, Elements.All-tail}
 use Rattle.std.proofs.lemmas.Slice.Zip.{get_or-zip, length-zip}
@@ -21,7 +21,7 @@ use Rattle.kp_synth_registers.specs.Holding.{Holds, kept_in, optional, own_word,
 use Rattle.kp_synth_tables.proofs.Places.{has_place}
 use Rattle.kp_synth_close.specs.{Nexts.port_word, Nexts.PortFits, inner.After.CellsAfter, Closed.next_in, Closed.port_in, Closed.Closed}
 use Rattle.kp_synth_close.specs.Shows.{shown_word, row_bits, no_state, ShowsOver, HasWords, ShowsAnew, HoldsFrom}
-use Rattle.kp_pipeline.proofs.Trimming.{row-same, cycle-same}
+use Rattle.kp_pipeline.proofs.{Lists.bits-same, Trimming.row-same, Trimming.cycle-same}
 use Rattle.kp_synth_close.proofs.Bare.{Bare, or_zero, zero_trimmed, bare_start, bare_next, bare_trimmed, absent_trimmed, unset_trimmed}
 use Rattle.kp_synth_close.proofs.{Guesses.some_none, Steps.some_each, Closing.wire_fits, Closing.holds_next}
 
@@ -63,13 +63,6 @@ module _ (job : Job) (net : Net) (start : Start) (outs : List Outcome) (p : Held
       ∙ (h.holds quiet).visible t a l m
 
   -- the row
-  bits_same : (f g : ℕ → Bool) (n k : ℕ) → ((j : ℕ) → k ≤ j → j < k + n → f j ≡ g j) → bits f n k ≡ bits g n k
-  bits_same f g zero k e = refl
-  bits_same f g (suc n) k e =
-      let a : f k ≡ g k = e k (omega arith) (omega arith) in
-      let b : bits f n (suc k) ≡ bits g n (suc k) = bits_same f g n (suc k) (λ j l m. e j (omega arith) (omega arith)) in
-      rw (a, b) refl
-
   row_is : (i : Input) (s : State) (st : PipelineState) → Carries job net s st
       → row_bits job.stages.value (row_of net i s) ≡ row (machine_of job) st (inputs_of job i)
   unfolding machine_of
@@ -78,9 +71,9 @@ module _ (job : Job) (net : Net) (start : Start) (outs : List Outcome) (p : Held
       let m = h.holds i in
       let tr : PipelineState = trimmed (is_alive job) st in
       let f : bits (word_bit (at c net.nodes net.parts.full.0)) job.stages.value 0 ≡ bits (λ k. (st.stage k).full) job.stages.value 0
-      = bits_same _ _ job.stages.value 0 (λ j l n. all.outputs.full c tr (inputs_of job i) m j (omega arith)) in
+      = bits-same _ _ job.stages.value 0 (λ j l n. all.outputs.full c tr (inputs_of job i) m j (omega arith)) in
       let u : bits (word_bit (at c net.nodes net.parts.ue.0)) job.stages.value 0 ≡ bits (ue (machine_of job) tr (inputs_of job i)) job.stages.value 0
-      = bits_same _ _ job.stages.value 0 (λ j l n. all.outputs.ue c tr (inputs_of job i) m j (omega arith)) in
+      = bits-same _ _ job.stages.value 0 (λ j l n. all.outputs.ue c tr (inputs_of job i) m j (omega arith)) in
       let b = all.outputs.back c tr (inputs_of job i) m in
       rw (f, u, b) refl ∙ row-same (machine_of job) (is_alive job) all.fits.lasting st (inputs_of job i)
 
@@ -197,24 +190,14 @@ module _ (job : Job) (net : Net) (start : Start) (outs : List Outcome) (p : Held
       let b = rows_along ins (after i s) (cycle (machine_of job) st (inputs_of job i)) (All-tail (λ (x : Input). x.reset ≡ false) i ins q) (carries_next i s st h) in
       rw (e, a, b) refl
 
-  seen_along : (ins : List Input) (s : State) (st : PipelineState) → NeverReset ins → Carries job net s st
-      → (T t a : ℕ) → T ≤ length ins → t < length (targets_of job.decls) → a < 2 ^ (target_at job t).address
-      → shown_word job (get_or (states_from net s ins) T no_state) t a ≡ (pipeline_after (machine_of job) st (map (inputs_of job) ins) T).visible t a
-  seen_along [] s st q h zero t a x l m = shown_is s st h t a l m
-  seen_along [] s st q h (suc T) t a x l m = absurd (omega arith)
-  seen_along (i ∷ ins) s st q h zero t a x l m = shown_is s st h t a l m
-  seen_along (i ∷ ins) s st q h (suc T) t a x l m =
+  carries_along : (ins : List Input) (s : State) (st : PipelineState) → NeverReset ins → Carries job net s st → (T : ℕ) → T ≤ length ins
+      → Carries job net (get_or (states_from net s ins) T no_state) (pipeline_after (machine_of job) st (map (inputs_of job) ins) T)
+  carries_along [] s st q h zero x = h
+  carries_along [] s st q h (suc T) x = absurd (omega arith)
+  carries_along (i ∷ ins) s st q h zero x = h
+  carries_along (i ∷ ins) s st q h (suc T) x =
       let e = not_reset i s (All-head (λ (x : Input). x.reset ≡ false) i ins q) in
-      rw e (seen_along ins (after i s) (cycle (machine_of job) st (inputs_of job i)) (All-tail (λ (x : Input). x.reset ≡ false) i ins q) (carries_next i s st h) T t a (omega arith) l m)
-
-  holds_along : (ins : List Input) (s : State) (st : PipelineState) → NeverReset ins → Carries job net s st → (T : ℕ) (j : Input) → T ≤ length ins
-      → Holds job (cells_of j (get_or (states_from net s ins) T no_state)) (trimmed (is_alive job) (pipeline_after (machine_of job) st (map (inputs_of job) ins) T)) (inputs_of job j)
-  holds_along [] s st q h zero j x = h.holds j
-  holds_along [] s st q h (suc T) j x = absurd (omega arith)
-  holds_along (i ∷ ins) s st q h zero j x = h.holds j
-  holds_along (i ∷ ins) s st q h (suc T) j x =
-      let e = not_reset i s (All-head (λ (x : Input). x.reset ≡ false) i ins q) in
-      rw e (holds_along ins (after i s) (cycle (machine_of job) st (inputs_of job i)) (All-tail (λ (x : Input). x.reset ≡ false) i ins q) (carries_next i s st h) T j (omega arith))
+      rw e (carries_along ins (after i s) (cycle (machine_of job) st (inputs_of job i)) (All-tail (λ (x : Input). x.reset ≡ false) i ins q) (carries_next i s st h) T (omega arith))
 
   -- THE START: the registers have their start values, and the files any words. So it is at the start, and after a reset.
   abbrev begun : List (List ℕ) → State
@@ -334,20 +317,17 @@ module _ (job : Job) (net : Net) (start : Start) (outs : List Outcome) (p : Held
   start_carries : Carries job net (start_of net) (pipeline_start (state_of job start) (start_hints job))
   start_carries = begun_carries (start_of net).files (state_of job start) begins_first
 
+  first_carries : start ≡ job_start job → Carries job net (start_of net) (pipeline_start (state_of job (job_start job)) (start_hints job))
+  first_carries e = subst (λ (x : Start). Carries job net (start_of net) (pipeline_start (state_of job x) (start_hints job))) e start_carries
+
   pub shows_over : start ≡ job_start job → (ins : List Input) → NeverReset ins → ShowsOver net job ins
-  shows_over e ins q =
-      let h : Carries job net (start_of net) (pipeline_start (state_of job (job_start job)) (start_hints job)) =
-      subst (λ (x : Start). Carries job net (start_of net) (pipeline_start (state_of job x) (start_hints job))) e start_carries in
-      record {
-        rows = rows_along ins (start_of net) (pipeline_start (state_of job (job_start job)) (start_hints job)) q h;
-        visible = seen_along ins (start_of net) (pipeline_start (state_of job (job_start job)) (start_hints job)) q h;
-      }
+  shows_over e ins q = record {
+    rows = rows_along ins (start_of net) _ q (first_carries e);
+    visible = λ T t a x l m. shown_is _ _ (carries_along ins (start_of net) _ q (first_carries e) T x) t a l m;
+  }
 
   pub holds_over : start ≡ job_start job → (ins : List Input) → NeverReset ins → HoldsFrom net job (start_of net) (state_of job (job_start job)) ins
-  holds_over e ins q =
-      let h : Carries job net (start_of net) (pipeline_start (state_of job (job_start job)) (start_hints job)) =
-      subst (λ (x : Start). Carries job net (start_of net) (pipeline_start (state_of job x) (start_hints job))) e start_carries in
-      record { keys = all.starts.regs; holds = holds_along ins (start_of net) (pipeline_start (state_of job (job_start job)) (start_hints job)) q h }
+  holds_over e ins q = record { keys = all.starts.regs; holds = λ T j x. (carries_along ins (start_of net) _ q (first_carries e) T x).holds j }
 
   -- AFTER A RESET: the words of the files are unchanged, and the registers may have had any values.
   abbrev left : Start → State → ℕ → ℕ → ℕ
@@ -372,21 +352,19 @@ module _ (job : Job) (net : Net) (start : Start) (outs : List Outcome) (p : Held
       let e : state_after net i s ≡ begun s.files = rw (all.reset, r) refl in
       subst (λ (x : State). Carries job net x (pipeline_start (left start s) (start_hints job))) (sym e) (begun_carries s.files (left start s) (begins_anew s h))
 
+  own_anew : start ≡ job_start job → (s : State) (i : Input) → HasWords net job s → i.reset ≡ true
+      → Carries job net (state_after net i s) (pipeline_start (left (job_start job) s) (start_hints job))
+  own_anew e s i h r = subst (λ (x : Start). Carries job net (state_after net i s) (pipeline_start (left x s) (start_hints job))) e (carries_anew i s r h)
+
   pub shows_anew : start ≡ job_start job → (s : State) (i : Input) (ins : List Input) → HasWords net job s → i.reset ≡ true → NeverReset ins → ShowsAnew net job s i ins
-  shows_anew e s i ins h r q =
-      let own : Carries job net (state_after net i s) (pipeline_start (left (job_start job) s) (start_hints job)) =
-      subst (λ (x : Start). Carries job net (state_after net i s) (pipeline_start (left x s) (start_hints job))) e (carries_anew i s r h) in
-      record {
-        rows = rows_along ins (state_after net i s) (pipeline_start (left (job_start job) s) (start_hints job)) q own;
-        visible = seen_along ins (state_after net i s) (pipeline_start (left (job_start job) s) (start_hints job)) q own;
-      }
+  shows_anew e s i ins h r q = record {
+    rows = rows_along ins (state_after net i s) _ q (own_anew e s i h r);
+    visible = λ T t a x l m. shown_is _ _ (carries_along ins (state_after net i s) _ q (own_anew e s i h r) T x) t a l m;
+  }
 
   pub holds_anew : start ≡ job_start job → (s : State) (i : Input) (ins : List Input) → HasWords net job s → i.reset ≡ true → NeverReset ins
       → HoldsFrom net job (state_after net i s) (left (job_start job) s) ins
-  holds_anew e s i ins h r q =
-      let own : Carries job net (state_after net i s) (pipeline_start (left (job_start job) s) (start_hints job)) =
-      subst (λ (x : Start). Carries job net (state_after net i s) (pipeline_start (left x s) (start_hints job))) e (carries_anew i s r h) in
-      record { keys = all.starts.regs; holds = holds_along ins (state_after net i s) (pipeline_start (left (job_start job) s) (start_hints job)) q own }
+  holds_anew e s i ins h r q = record { keys = all.starts.regs; holds = λ T j x. (carries_along ins (state_after net i s) _ q (own_anew e s i h r) T x).holds j }
 
   -- and each state that it reaches contains all words of the files
   words_of : (s : State) (st : PipelineState) → Carries job net s st → HasWords net job s

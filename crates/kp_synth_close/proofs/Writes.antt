@@ -85,16 +85,16 @@ visible_stays job st i t a e =
     rw h (stays _ (intends (machine_of job) (st.stage ((machine_of job).write_stage t)).instruction t a) _ _)
 
 -- the nodes
+and_true : (b : Bool) → (b && true) ≡ b
+and_true true = refl
+and_true false = refl
+
 pub writes_none : (job : Job) (p : Held) (t : ℕ) (port : Port) (u : NodeId) → port_at job t ≡ Some port → port.enable ≡ None
     → IsTest job p u (λ st i. ue (machine_of job) st i port.write) → IsTest job p u (writes job t port.write)
 unfolding IsTest machine_of
 writes_none job p t port u e f h = λ c st i m.
     let d = (has_port job t port e).enabled (st.stage port.write).instruction.pipes ∙ ap (λ o. enabled_pipe o (st.stage port.write).instruction.pipes) f in
-    h c st i m ∙ rw d (and_true (ue (machine_of job) st i port.write))
-  where
-    and_true : (b : Bool) → b ≡ (b && true)
-    and_true true = refl
-    and_true false = refl
+    h c st i m ∙ rw d (sym (and_true (ue (machine_of job) st i port.write)))
 
 pub writes_some : (job : Job) (p q r : Held) (j t x w : ℕ) (port : Port) (u n b : NodeId) → port_at job t ≡ Some port → port.enable ≡ Some x → Kept p q j → Wire p u w
     → IsTest job p u (λ st i. ue (machine_of job) st i port.write) → Gives job q n (λ st i. (st.stage port.write).instruction.pipes x)
@@ -139,10 +139,6 @@ pub register_none : (job : Job) (p : Held) (t : ℕ) (o : NodeId) → t < length
     → ((c : Cells) → at c p.nodes o.0 ≡ kept_in job c (Visible t)) → Gives job p o (λ st i. next_visible (machine_of job) st i t 0)
 unfolding Gives
 register_none job p t o l e f v = λ c st i h. v c ∙ own_value job c st i t l e h ∙ sym (visible_stays job st i t 0 f)
-
-and_true : (b : Bool) → (b && true) ≡ b
-and_true true = refl
-and_true false = refl
 
 pub register_some : (job : Job) (p q r : Held) (j t w : ℕ) (port : Port) (b v o n : NodeId) → t < length (targets_of job.decls) → is_register (target_at job t) ≡ true
     → port_at job t ≡ Some port → ResultFits job t (Some port) → Kept p q j → Wire p o w → ((c : Cells) → at c p.nodes o.0 ≡ kept_in job c (Visible t))

@@ -1,5 +1,6 @@
 -- What a stage forwards to the reads below it, and what the stage below it sees.
-use Rattle.std.proofs.Common.{◌≡◌, ◌∙◌, ℕ, zero, suc, ◌<◌, ◌^◌, Bool, true, false, cond, not, ◌&&◌, ◌||◌, List, [], ◌∷◌, length, Option, Some, None, refl, sym, ap, arith}
+use Rattle.std.proofs.Common.{◌≡◌, ◌∙◌, ℕ, suc, ◌+◌, ◌<◌, ◌≤◌, ◌^◌, Bool, true, false, cond, not, ◌&&◌, ◌||◌, List, ◌∷◌, length, Option, Some, None, refl, sym, ap, arith, ⊎_elim}
+use Rattle.std.proofs.lemmas.Option.{slice_get_cases}
 use Rattle.std.specs.Prelude.{slice_get}
 use Rattle.kp_ast.specs.declared.tree.Job.{Job}
 use Rattle.kp_pipeline.specs.Pipeline.{PipelineState, Inputs, above, hits, is_candidate, candidate_hits, intent_known, forwarded, ok_value}
@@ -58,14 +59,16 @@ next_view job c p q v w t a b f o o' there there' old near law =
     ∙ ap (cond b f) (sym (ap (λ (x : Option Source). view_of c p x a) there.1) ∙ old)
     ∙ sym law
 
-source_in : (xs : List Source) (t : ℕ) → t < length xs → (s : Source) × (slice_get xs t ≡ Some s)
-source_in [] t h = absurd (omega arith)
-source_in (x ∷ xs) zero h = (x, refl)
-source_in (x ∷ xs) (suc t) h = source_in xs t (omega arith)
+pub source_in : (xs : List Source) (t : ℕ) → t < length xs → (s : Source) × (slice_get xs t ≡ Some s)
+source_in xs t h = ⊎_elim (λ a. (a.0, a.2)) (λ a. absurd (omega (arith, a.0))) (slice_get_cases xs t).1
 
-stages_are : (job : Job) (k : ℕ) → k < job.stages.value → k < (machine_of job).stages
+pub stages_are : (job : Job) (k : ℕ) → k < job.stages.value → k < (machine_of job).stages
 unfolding machine_of
 stages_are job k h = h
+
+pub stages_end : (job : Job) (k : ℕ) → job.stages.value ≡ k + 1 → (machine_of job).stages ≤ suc k
+unfolding machine_of
+stages_end job k e = omega (arith, e)
 
 pub sees_down : (job : Job) (k : ℕ) (p q : Held) (ss ss' : List Source) → suc k < job.stages.value → length ss ≡ length (targets_of job.decls) → length ss' ≡ length (targets_of job.decls)
     → SeesAbove job p ss (suc k)

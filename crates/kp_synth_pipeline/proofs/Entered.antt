@@ -1,6 +1,6 @@
 -- What enters a stage.
 use Rattle.std.proofs.Common.{◌≡◌, ◌∙◌, ℕ, zero, suc, ◌+◌, ◌-◌, ◌<◌, ◌≤◌, ◌^◌, ◌%◌, ◌/◌, Bool, true, false, cond, List, [], ◌∷◌, ◌++◌, take, length, get_or, length-append, Option, Some, refl, sym, ap, subst, arith, ◌⊎◌, inl, inr, ⊎_elim}
-use Rattle.std.proofs.Math.{ListN.get_or-append, Seq.get_or-append_seam}
+use Rattle.std.proofs.{Math.ListN.get_or-append, lemmas.List.get_or_push}
 use Rattle.std.proofs.lemmas.Bool.{cases_lt, cases_Bool, cond-true, cond-false}
 use Rattle.std.specs.{Prelude.slice_get, List.filter}
 use Rattle.kp_bits.specs.Word as bits
@@ -19,7 +19,7 @@ use Rattle.kp_synth_registers.proofs.Growth.{gives_kept}
 use Rattle.kp_synth_stage.specs.declared.row.{Own.TheVariants.Register, Own.TheVariants.File, Row.Row, Source.Source}
 use Rattle.kp_synth_stage.specs.Rows.{Sees, view_of, rows_view, own_value, OwnOk, RowsOk, SourcesOk}
 use Rattle.kp_synth_pipeline.specs.inner.{Seeing.SeesAbove, Whole.Few, Whole.OwnMeans, Whole.Bare}
-use Rattle.kp_synth_pipeline.proofs.Ports.{bit_value}
+use Rattle.kp_synth_pipeline.proofs.{Downward.source_in, Downward.stages_end, Ports.bit_value}
 
 -- the first nodes of a list have these widths and values
 pub record FirstOf (job : Job) (p : Held) (w : ℕ → ℕ) (f : ℕ → PipelineState → Inputs → ℕ) (ns : List NodeId) : Type 0 where
@@ -29,21 +29,20 @@ pub record FirstOf (job : Job) (p : Held) (w : ℕ → ℕ) (f : ℕ → Pipelin
 pub none_first : (job : Job) (p : Held) (w : ℕ → ℕ) (f : ℕ → PipelineState → Inputs → ℕ) → FirstOf job p w f []
 none_first job p w f = record { wires = λ y l. absurd (omega arith); gives = λ y l. absurd (omega arith) }
 
+-- what holds of each node of a list holds with one more
+pushed : (F : ℕ → NodeId → Type 0) (ns : List NodeId) (n : NodeId) → ((y : ℕ) → y < length ns → F y (node_at ns y)) → F (length ns) n
+    → (y : ℕ) → y < length (ns ++ n ∷ []) → F y (node_at (ns ++ n ∷ []) y)
+pushed F ns n old new y l = ⊎_elim
+    (λ (b : y < length ns). subst (F y) (sym (get_or-append ns (n ∷ []) (record { 0 = 0 }) y b)) (old y b))
+    (λ (b : length ns ≤ y). let z : length ns ≡ y = omega (arith, l, length-append ns (n ∷ [])) in
+    subst (F y) (sym (get_or_push ns n (record { 0 = 0 }) y z)) (subst (λ s. F s n) z new))
+    (cases_lt y (length ns))
+
 pub one_first : (job : Job) (p q : Held) (m : ℕ) (w : ℕ → ℕ) (f : ℕ → PipelineState → Inputs → ℕ) (ns : List NodeId) (n : NodeId) → Kept p q m → FirstOf job p w f ns
     → Wire q n (w (length ns)) → Gives job q n (f (length ns)) → FirstOf job q w f (ns ++ n ∷ [])
 one_first job p q m w f ns n g h wire gives = record {
-  wires = λ y l. ⊎_elim
-      (λ (b : y < length ns). subst (λ (x : NodeId). Wire q x (w y)) (sym (get_or-append ns (n ∷ []) (record { 0 = 0 }) y b)) (wire_kept p q m (node_at ns y) _ g (h.wires y b)))
-      (λ (b : length ns ≤ y). let z : length ns ≡ y = omega (arith, l, length-append ns (n ∷ [])) in
-      let e : n ≡ node_at (ns ++ n ∷ []) y = sym (get_or-append_seam ns n [] (record { 0 = 0 })) ∙ ap (node_at (ns ++ n ∷ [])) z in
-      subst (λ (x : NodeId). Wire q x (w y)) e (subst (λ s. Wire q n (w s)) z wire))
-      (cases_lt y (length ns));
-  gives = λ y l. ⊎_elim
-      (λ (b : y < length ns). subst (λ (x : NodeId). Gives job q x (f y)) (sym (get_or-append ns (n ∷ []) (record { 0 = 0 }) y b)) (gives_kept job p q m (w y) (node_at ns y) (f y) g (h.wires y b) (h.gives y b)))
-      (λ (b : length ns ≤ y). let z : length ns ≡ y = omega (arith, l, length-append ns (n ∷ [])) in
-      let e : n ≡ node_at (ns ++ n ∷ []) y = sym (get_or-append_seam ns n [] (record { 0 = 0 })) ∙ ap (node_at (ns ++ n ∷ [])) z in
-      subst (λ (x : NodeId). Gives job q x (f y)) e (subst (λ s. Gives job q n (f s)) z gives))
-      (cases_lt y (length ns));
+  wires = pushed (λ y x. Wire q x (w y)) ns n (λ y b. wire_kept p q m (node_at ns y) _ g (h.wires y b)) wire;
+  gives = pushed (λ y x. Gives job q x (f y)) ns n (λ y b. gives_kept job p q m (w y) (node_at ns y) (f y) g (h.wires y b) (h.gives y b)) gives;
 }
 
 pub hint_gives : (job : Job) (p : Held) (n : NodeId) (h : ℕ) → h < length (hints_of job.decls) → ((c : Cells) → at c p.nodes n.0 ≡ kept_in job c (Hint h)) → Gives job p n (λ st i. st.hints h)
@@ -145,15 +144,6 @@ view_bare : (job : Job) (c : Cells) (st : PipelineState) (i : Inputs) (p : Held)
 unfolding OwnMeans
 view_bare job c st i p t a o h l s e b =
     ap (λ (x : Option Source). view_of c p x a) e ∙ ap (λ (xs : List Row). rows_view c p xs (own_value c p s.width s.own a) a) b.rows ∙ ap (λ (v : ℕ). Some v) (b.own c st i h a l)
-
-source_in : (xs : List Source) (t : ℕ) → t < length xs → (s : Source) × (slice_get xs t ≡ Some s)
-source_in [] t h = absurd (omega arith)
-source_in (x ∷ xs) zero h = (x, refl)
-source_in (x ∷ xs) (suc t) h = source_in xs t (omega arith)
-
-stages_end : (job : Job) (k : ℕ) → job.stages.value ≡ k + 1 → (machine_of job).stages ≤ suc k
-unfolding machine_of
-stages_end job k e = omega (arith, e)
 
 pub bare_sees : (job : Job) (p : Held) (ss : List Source) → length ss ≡ length (targets_of job.decls) → AllBare job p ss → (k : ℕ) → job.stages.value ≡ k + 1 → SeesAbove job p ss k
 unfolding AllBare SeesAbove Sees

@@ -1,6 +1,6 @@
 -- From a stage to the one below it.
-use Rattle.std.proofs.Common.{◌≡◌, ◌∙◌, ℕ, zero, suc, ◌+◌, ◌<◌, ◌≤◌, List, [], ◌∷◌, ◌++◌, take, drop, length, get_or, ◌*◌, false, Some, sym, ap, subst, arith}
-use Rattle.std.proofs.lemmas.List.{drop_all, take_all, append-nil}
+use Rattle.std.proofs.Common.{◌≡◌, ◌∙◌, ℕ, zero, suc, ◌+◌, ◌<◌, ◌≤◌, List, [], ◌++◌, take, drop, length, get_or, ◌*◌, false, Some, sym, ap, subst, arith, ⊎_elim}
+use Rattle.std.proofs.lemmas.{List.drop_all, List.take_all, List.append-nil, Option.slice_get_cases}
 use Rattle.std.specs.Prelude.{slice_get}
 use Rattle.kp_ast.specs.declared.tree.Job.{Job}
 use Rattle.kp_pipeline.specs.Pipeline.{stall}
@@ -14,9 +14,7 @@ use Rattle.kp_synth_pipeline.specs.Stages.{no_outcome, own_room, stage_room, sta
 use Rattle.kp_synth_pipeline.proofs.{Downward.sees_down, Spoken.stall_higher, Spoken.stall_none, Spoken.say_at}
 
 get_small : (ss : List Source) (t : ℕ) (s : Source) → slice_get ss t ≡ Some s → t < length ss
-get_small [] t s e = cc
-get_small (x ∷ ss) zero s e = omega arith
-get_small (x ∷ ss) (suc t) s e = let l = get_small ss t s e in omega (arith, l)
+get_small ss t s e = ⊎_elim (λ a. a.1) (λ a. let n = a.1 in cc) (slice_get_cases ss t).1
 
 pub faces_below : (job : Job) (k j : ℕ) (p q : Held) (ss ss' : List Source) (higher halt : NodeId) → k ≡ suc j → k < job.stages.value → Faces job p ss higher k
     → SourcesOk job q ss' → Few job j ss' → AllNearer job k (length (targets_of job.decls)) p ss q ss' → Wire q halt 1 → IsTest job q halt (λ st i. stall (machine_of job) st i k) → Faces job q ss' halt j

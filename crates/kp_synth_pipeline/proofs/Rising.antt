@@ -1,6 +1,6 @@
 -- The rows of all targets, of which the first are done.
-use Rattle.std.proofs.Common.{◌≡◌, ◌∙◌, ℕ, zero, suc, ◌+◌, ◌<◌, ◌≤◌, cond, List, [], ◌∷◌, length, get_or, slice_set, Option, Some, None, refl, sym, ap, subst, arith, ⊎_elim}
-use Rattle.std.proofs.lemmas.Bool.{cases_lt}
+use Rattle.std.proofs.Common.{◌≡◌, ◌∙◌, ℕ, zero, suc, ◌+◌, ◌<◌, ◌≤◌, cond, List, [], ◌∷◌, length, get_or, slice_set, Option, Some, None, refl, sym, ap, subst, arith, ◌⊎◌, inl, inr, ⊎_elim}
+use Rattle.std.proofs.lemmas.Bool.{cases_eq}
 use Rattle.std.specs.Prelude.{slice_get}
 use Rattle.kp_ast.specs.declared.tree.Job.{Job}
 use Rattle.kp_pipeline.specs.Pipeline.{candidate_hits, forwarded}
@@ -35,6 +35,12 @@ get_set_other (x ∷ xs) zero zero s' d = absurd (d refl)
 get_set_other (x ∷ xs) zero (suc u) s' d = refl
 get_set_other (x ∷ xs) (suc t) zero s' d = refl
 get_set_other (x ∷ xs) (suc t) (suc u) s' d = get_set_other xs t u s' (λ e. d (ap (λ (n : ℕ). suc n) e))
+
+-- An entry after one is set is that one, or another one that was there.
+set_cases : (ss : List Source) (t u : ℕ) (s' x : Source) → slice_get (slice_set ss t s') u ≡ Some x → ((u ≡ t) × (x ≡ s')) ⊎ ((u ≡ t → ⊥) × (slice_get ss u ≡ Some x))
+set_cases ss t u s' x e = ⊎_elim
+    (λ z. inl (z, get_set_same ss t x s' (ap (slice_get (slice_set ss t s')) (sym z) ∙ e)))
+    (λ d. inr (d, sym (get_set_other ss t u s' d) ∙ e)) (cases_eq u t)
 
 set_count : (ss : List Source) (t : ℕ) (s' : Source) → length (slice_set ss t s') ≡ length ss
 set_count [] t s' = refl
@@ -73,28 +79,19 @@ module _ (job : Job) (k t : ℕ) (p q r : Held) (m n : ℕ) (g : Kept p q m) (g'
   ok_set = record {
     count = set_count ss t s' ∙ ok.count;
     each = λ u x e. ⊎_elim
-        (λ (l : u < t). source_kept job q r n u x g' (ok.each u x (sym (get_set_other ss t u s' (λ z. absurd (omega (arith, l, z)))) ∙ e)))
-        (λ (l : t ≤ u). ⊎_elim
-        (λ (b : t < u). source_kept job q r n u x g' (ok.each u x (sym (get_set_other ss t u s' (λ z. absurd (omega (arith, b, z)))) ∙ e)))
-        (λ (b : u ≤ t). (let z : t ≡ u = omega (arith, l, b) in
-        let y : x ≡ s' = get_set_same ss t x s' (ap (slice_get (slice_set ss t s')) z ∙ e) in
-        subst (λ (w : Source). SourceOk job r u w) (sym y) (subst (λ (w : ℕ). SourceOk job r w s') z ok')))
-        (cases_lt t u))
-        (cases_lt u t);
+        (λ z. subst (λ (w : Source). SourceOk job r u w) (sym z.1) (subst (λ (w : ℕ). SourceOk job r w s') (sym z.0) ok'))
+        (λ z. source_kept job q r n u x g' (ok.each u x z.1))
+        (set_cases ss t u s' x e);
   }
 
   pub few_set : FewFrom job k t ss → length s'.rows.items ≤ length s.rows.items + 1 → FewFrom job k (suc t) (slice_set ss t s')
   unfolding FewFrom
   few_set h few = λ u x e. ⊎_elim
-      (λ (l : u < t). (let y = (h u x (sym (get_set_other ss t u s' (λ z. absurd (omega (arith, l, z)))) ∙ e)) in (y.0, λ b. absurd (omega (arith, l, b)))))
-      (λ (l : t ≤ u). ⊎_elim
-      (λ (b : t < u). (let y = (h u x (sym (get_set_other ss t u s' (λ z. absurd (omega (arith, b, z)))) ∙ e)) in (y.0, λ d. y.1 l)))
-      (λ (b : u ≤ t). (let z : t ≡ u = omega (arith, l, b) in
-      let y : x ≡ s' = get_set_same ss t x s' (ap (slice_get (slice_set ss t s')) z ∙ e) in
+      (λ z.
       let w = (h t s at).1 (omega arith) in
-      (subst (λ (v : Source). length v.rows.items + k ≤ job.stages.value) (sym y) (omega (arith, w, few)), λ d. absurd (omega (arith, z, d)))))
-      (cases_lt t u))
-      (cases_lt u t)
+      (subst (λ (v : Source). length v.rows.items + k ≤ job.stages.value) (sym z.1) (omega (arith, w, few)), λ d. absurd (omega (arith, z.0, d))))
+      (λ z. let y = h u x z.1 in (y.0, λ d. y.1 (omega (arith, d))))
+      (set_cases ss t u s' x e)
 
   pub same_set : SameFrom (suc t) os (slice_set ss t s')
   unfolding SameFrom
@@ -103,19 +100,13 @@ module _ (job : Job) (k t : ℕ) (p q r : Held) (m n : ℕ) (g : Kept p q m) (g'
   pub nearer_set : AllNearer job k t p os q ss → Nearer job k t q s r s' → AllNearer job k (suc t) p os r (slice_set ss t s')
   unfolding AllNearer SameFrom
   nearer_set done near = λ u x x' l e f. ⊎_elim
-      (λ (b : u < t). (let f' = sym (get_set_other ss t u s' (λ z. absurd (omega (arith, b, z)))) ∙ f in
-      nearer_kept job k u p q r n x x' g' (ok.each u x' f') (done u x x' b e f')))
-      (λ (b : t ≤ u). (let z : t ≡ u = omega (arith, l, b) in
-      let y : x' ≡ s' = get_set_same ss t x' s' (ap (slice_get (slice_set ss t s')) z ∙ f) in
-      let w : x ≡ s = some_is x s (sym e ∙ sym (same u b) ∙ sym (ap (slice_get ss) z) ∙ at) in
+      (λ z.
+      let b : t ≤ u = omega (arith, z.0) in
+      let w : x ≡ s = some_is x s (sym e ∙ sym (same u b) ∙ ap (slice_get ss) z.0 ∙ at) in
       let here = nearer_before job k t p q r m s s' g (was.each t s (sym (same t (omega arith)) ∙ at)) near in
-      subst (λ (v : Source). Nearer job k u p x r v) (sym y) (subst (λ (v : Source). Nearer job k u p v r s') (sym w) (subst (λ (v : ℕ). Nearer job k v p s r s') z here))))
-      (cases_lt u t)
-
-pub get_there : (ss : List Source) (t : ℕ) (d : Source) → t < length ss → slice_get ss t ≡ Some (get_or ss t d)
-get_there [] t d h = absurd (omega arith)
-get_there (x ∷ xs) zero d h = refl
-get_there (x ∷ xs) (suc t) d h = get_there xs t d (omega arith)
+      subst (λ (v : Source). Nearer job k u p x r v) (sym z.1) (subst (λ (v : Source). Nearer job k u p v r s') (sym w) (subst (λ (v : ℕ). Nearer job k v p s r s') (sym z.0) here)))
+      (λ z. nearer_kept job k u p q r n x x' g' (ok.each u x' z.1) (done u x x' (let d = z.0 in omega (arith, l)) e z.1))
+      (set_cases ss t u s' x' f)
 
 pub set_means_kept : (job : Job) (k t : ℕ) (p q : Held) (m : ℕ) (ss : List (Option Set)) → Kept p q m → t < length (targets_of job.decls) → SetsMean job p k ss → SetMeans job q k t (get_or ss t None)
 unfolding SetMeans

@@ -1,5 +1,5 @@
 -- The outcome of a stage, from what its nodes mean.
-use Rattle.std.proofs.Common.{◌≡◌, ◌∙◌, ℕ, zero, suc, ◌+◌, ◌<◌, ◌≤◌, List, [], ◌∷◌, length, get_or, false, sym, subst, arith}
+use Rattle.std.proofs.Common.{◌≡◌, ◌∙◌, ℕ, zero, suc, ◌+◌, ◌<◌, List, [], ◌∷◌, length, get_or, false, sym, subst, arith}
 use Rattle.kp_ast.specs.declared.tree.Job.{Job}
 use Rattle.kp_pipeline.specs.Pipeline.{above, stall, mismatches}
 use Rattle.kp_pipeline.proofs.Cycle.{stall-above, stall-top}
@@ -13,7 +13,7 @@ use Rattle.kp_synth_stage.specs.{declared.row.Source.Source, declared.work.Work.
 use Rattle.kp_synth_stage.proofs.Nearest.{sources_kept}
 use Rattle.kp_synth_pipeline.specs.{declared.staging.Entered.Entered, inner.Seeing.PipesIn, inner.Seeing.SamplesIn, inner.Seeing.HintsIn, inner.Seeing.Computes}
 use Rattle.kp_synth_pipeline.specs.inner.{Whole.SetMeans, Whole.SetsMean, Descending.EnteredOk, Descending.Faces, Descending.SayFrom}
-use Rattle.kp_synth_pipeline.proofs.Stalling.{sees_above_kept}
+use Rattle.kp_synth_pipeline.proofs.{Downward.stages_are, Downward.stages_end, Stalling.sees_above_kept}
 
 -- an outcome of these nodes
 pub says_by : (job : Job) (p : Held) (k : ℕ) (w : Work) (halt miss : NodeId) → Fits job p (guesses_at job k) w → Computes job p w k
@@ -99,14 +99,6 @@ faces_kept job p q m ss higher k g h = record {
 pub sets_of : (job : Job) (p : Held) (k : ℕ) (o : Outcome) → Says job p k o → SetsMean job p k o.sets
 unfolding SetMeans
 sets_of job p k o h = record { count = h.set_count; wires = h.set_wires; means = λ t l c st i y. h.sets c st i y t l }
-
-stages_are : (job : Job) (k : ℕ) → k < job.stages.value → k < (machine_of job).stages
-unfolding machine_of
-stages_are job k h = h
-
-stages_end : (job : Job) (k : ℕ) → job.stages.value ≡ k + 1 → (machine_of job).stages ≤ suc k
-unfolding machine_of
-stages_end job k e = omega (arith, e)
 
 -- whether the next stage stalls
 pub stall_higher : (job : Job) (p : Held) (k : ℕ) (n : NodeId) → suc k < job.stages.value → IsTest job p n (λ st i. stall (machine_of job) st i (suc k)) → IsTest job p n (λ st i. (above (machine_of job) st i k).stall)

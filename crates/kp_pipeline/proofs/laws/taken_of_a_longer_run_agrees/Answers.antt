@@ -1,6 +1,6 @@
 use Rattle.std.proofs.Common.{arith, length}
-use Rattle.kp_pipeline.specs.{Pipeline.pipeline_start, Rows.passed}
-use Rattle.kp_pipeline.proofs.Taken.{taken-here, taken-never, taken-longer, taken-of_run}
+use Rattle.kp_pipeline.specs.{Rows.passed}
+use Rattle.kp_pipeline.proofs.Taken.{taken-here, taken-never, taken-longer}
 use Rattle.kp_pipeline.proofs.laws.taken_of_a_longer_run_agrees.Goals as goal
 
 pub returns-clause-here : goal.returns-clause-here
@@ -11,6 +11,3 @@ returns-clause-never c m ins rows i x e b = taken-never m (λ k. 0) ins rows i x
 
 pub returns-clause-longer : goal.returns-clause-longer
 returns-clause-longer c m ins more rows rest i x e b = taken-longer m (λ k. 0) ins more rows rest e i x (omega arith)
-
-pub returns-clause-pipeline : goal.returns-clause-pipeline
-returns-clause-pipeline c m s hints ins more i x b = taken-of_run m (pipeline_start s hints) ins more i x b

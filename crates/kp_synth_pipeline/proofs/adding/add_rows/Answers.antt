@@ -5,7 +5,8 @@ use Rattle.kp_net.proofs.Growing.{grown_then, grown_more}
 use Rattle.kp_synth_registers.proofs.Growth.{test_kept, ready_kept}
 use Rattle.kp_synth_stage.specs.declared.row.Source.{Source}
 use Rattle.kp_synth_pipeline.specs.inner.Whole.{AllNearer}
-use Rattle.kp_synth_pipeline.proofs.Rising.{FewFrom, SameFrom, few_begun, few_ended, same_begun, none_nearer, ok_set, few_set, same_set, nearer_set, get_there, set_means_kept}
+use Rattle.std.proofs.lemmas.Option.{slice_get-get_or}
+use Rattle.kp_synth_pipeline.proofs.Rising.{FewFrom, SameFrom, few_begun, few_ended, same_begun, none_nearer, ok_set, few_set, same_set, nearer_set, set_means_kept}
 use Rattle.kp_synth_stage.proofs.Binding.{kept_same}
 use Rattle.kp_synth_pipeline.proofs.adding.add_rows.Goals as goal
 
@@ -19,12 +20,12 @@ loop-t-init c = record {
 }
 
 pub add_row-requires-clause-source : goal.add_row-requires-clause-source
-add_row-requires-clause-source c = c.loop-t.invariant.ok.each c.loop-t.t _ (get_there c.loop-t.sources c.loop-t.t c.index-sources-t.result (omega arith))
+add_row-requires-clause-source c = c.loop-t.invariant.ok.each c.loop-t.t _ (slice_get-get_or c.loop-t.sources c.loop-t.t c.index-sources-t.result (omega arith))
 
 pub add_row-requires-clause-few : goal.add_row-requires-clause-few
 unfolding FewFrom
 add_row-requires-clause-few c =
-    let x = (c.loop-t.invariant.few c.loop-t.t _ (get_there c.loop-t.sources c.loop-t.t c.index-sources-t.result (omega arith))).1 (omega arith) in
+    let x = (c.loop-t.invariant.few c.loop-t.t _ (slice_get-get_or c.loop-t.sources c.loop-t.t c.index-sources-t.result (omega arith))).1 (omega arith) in
     omega (arith, x, c.requires.later)
 
 pub add_row-requires-clause-set_means : goal.add_row-requires-clause-set_means
@@ -52,7 +53,7 @@ loop-t-preserved c =
     let ss : List Source = c.loop-t.sources in
     let s : Source = get_or ss t c.index-sources-t.result in
     let s' : Source = c.add_row.new.source in
-    let at : slice_get ss t ≡ Some s = get_there ss t c.index-sources-t.result (omega arith) in
+    let at : slice_get ss t ≡ Some s = slice_get-get_or ss t c.index-sources-t.result (omega arith) in
     let a : Grown q r 20 = c.in_ok-add_row.ensures.grown in
     let z : suc t ≡ t + 1 = omega arith in
     record {
