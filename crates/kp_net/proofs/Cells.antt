@@ -8,28 +8,18 @@ use Rattle.kp_net.specs.{Growth.Held, Growth.Kept, Growth.Grown, Growth.AddsOnly
 
 -- constants and operations read no cell
 pub plain_ok : (ns : List Node) (p : Parts) (k : ℕ) (o : Kind) → is_cell o ≡ false → CellOk ns p k o
-plain_ok ns p k (Const n) h = tt
 plain_ok ns p k Ext h = absurd (true≢false h)
 plain_ok ns p k (Sample s) h = absurd (true≢false h)
 plain_ok ns p k (Reg r) h = absurd (true≢false h)
 plain_ok ns p k (Word f a) h = absurd (true≢false h)
-plain_ok ns p k (Not a) h = tt
-plain_ok ns p k (Binary op a b) h = tt
-plain_ok ns p k (Mux t a b) h = tt
-plain_ok ns p k (Concat parts) h = tt
-plain_ok ns p k (Slice a hi lo) h = tt
+plain_ok ns p k _ h = tt
 
 cell_stays : (ns ms : List Node) (p : Parts) (m k : ℕ) (o : Kind) → KindOk ns m k o → ((j : ℕ) → j < m → wide ms j ≡ wide ns j) → CellOk ns p k o → CellOk ms p k o
-cell_stays ns ms p m k (Const n) ok e h = tt
 cell_stays ns ms p m k Ext ok e h = h
 cell_stays ns ms p m k (Sample s) ok e h = h
 cell_stays ns ms p m k (Reg r) ok e h = h
 cell_stays ns ms p m k (Word f a) ok e h = (h.0, h.1, e a.0 ok ∙ h.2)
-cell_stays ns ms p m k (Not a) ok e h = tt
-cell_stays ns ms p m k (Binary op a b) ok e h = tt
-cell_stays ns ms p m k (Mux t a b) ok e h = tt
-cell_stays ns ms p m k (Concat parts) ok e h = tt
-cell_stays ns ms p m k (Slice a hi lo) ok e h = tt
+cell_stays ns ms p m k _ ok e h = tt
 
 -- the old nodes of a pool that kept them
 old_cells : (p q : Held) (k : ℕ) (parts : Parts) → AllRight p.nodes → Kept p q k → AllCells p.nodes parts → (i : ℕ) → i < length p.nodes

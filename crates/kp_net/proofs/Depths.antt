@@ -40,16 +40,13 @@ parts_agree d e m (a ∷ parts) h s =
     λ i. x i ∷ y i
 
 pub depth_agrees : (ns : List Node) (m k : ℕ) (o : Kind) (d e : ℕ → ℕ) → KindOk ns m k o → ((j : ℕ) → j < m → d j ≡ e j) → depth_of d o ≡ depth_of e o
-depth_agrees ns m k (Const n) d e h s = refl
-depth_agrees ns m k Ext d e h s = refl
-depth_agrees ns m k (Sample p) d e h s = refl
-depth_agrees ns m k (Reg r) d e h s = refl
 depth_agrees ns m k (Word f a) d e h s = ap (λ x. x + 1) (s a.0 h)
 depth_agrees ns m k (Not a) d e h s = ap (λ x. x + 1) (s a.0 h.0)
 depth_agrees ns m k (Binary op a b) d e h s = let x = s a.0 h.0 in let y = s b.0 h.1 in λ i. max (x i) (y i) + 1
 depth_agrees ns m k (Mux t a b) d e h s = let x = s t.0 h.0 in let y = s a.0 h.1 in let z = s b.0 h.2 in λ i. max (x i) (max (y i) (z i)) + 1
 depth_agrees ns m k (Concat parts) d e h s = ap (λ (xs : List ℕ). fold max 0 xs + 1) (parts_agree d e m parts h.2 s)
 depth_agrees ns m k (Slice a hi lo) d e h s = ap (λ x. x + 1) (s a.0 h.0)
+depth_agrees ns m k _ d e h s = refl
 
 depth_in : (ns : List Node) (k j : ℕ) → j < k → k ≤ length ns → depth (take k ns) j ≡ depth ns j
 depth_in ns k j h l = sym (depth_front (take k ns) (drop k ns) j (omega (arith, length-take-le k ns l))) ∙ ap (λ (ms : List Node). depth ms j) (take-append-drop k ns)

@@ -35,16 +35,11 @@ binary_has BinOp.Shr k x y a b h l ok = has k x _ (shr_word a b h.word) h.width 
 
 -- but for a shift, both operands have one width
 pub operand_widths : (op : BinOp) (k a b : ℕ) → BinaryOk op k a b → is_shift op ≡ false → a ≡ b
-operand_widths BinOp.And k a b ok s = ok.0 ∙ sym ok.1
-operand_widths BinOp.Or k a b ok s = ok.0 ∙ sym ok.1
-operand_widths BinOp.Xor k a b ok s = ok.0 ∙ sym ok.1
-operand_widths BinOp.Add k a b ok s = ok.0 ∙ sym ok.1
-operand_widths BinOp.Sub k a b ok s = ok.0 ∙ sym ok.1
-operand_widths BinOp.Mul k a b ok s = ok.0 ∙ sym ok.1
 operand_widths BinOp.Eq k a b ok s = ok.1
 operand_widths BinOp.Lt k a b ok s = ok.1
 operand_widths BinOp.Shl k a b ok s = absurd (true≢false s)
 operand_widths BinOp.Shr k a b ok s = absurd (true≢false s)
+operand_widths _ k a b ok s = ok.0 ∙ sym ok.1
 
 rest_has : (w : Words) (v : ℕ → ℕ) (m k : ℕ) (a : bits.Word) (rest : List NodeId) → Has k a → All (λ b. b.0 < m) rest → ((j : ℕ) → j < m → Has (v j) (w j))
     → k + sum_by (λ b. v b.0) rest ≤ 64 → Has (k + sum_by (λ b. v b.0) rest) (fold concat_of a (map (λ b. w b.0) rest))
@@ -70,10 +65,6 @@ parts_have w v m (a ∷ rest) some below each fits =
 -- the operands are words of the widths that the list says
 pub kind_has : (c : Cells) (ns : List Node) (m k : ℕ) (o : Kind) (w : Words) → 1 ≤ k → k ≤ 64 → KindOk ns m k o → is_cell o ≡ false → ((j : ℕ) → j < m → Has (wide ns j) (w j)) → Has k (word_of_kind c w k o)
 kind_has c ns m k (Const n) w p q h f each = record { word = record { positive = p; at_most = q; fits = h }; width = refl }
-kind_has c ns m k Ext w p q h f each = absurd (true≢false f)
-kind_has c ns m k (Sample s) w p q h f each = absurd (true≢false f)
-kind_has c ns m k (Reg r) w p q h f each = absurd (true≢false f)
-kind_has c ns m k (Word r a) w p q h f each = absurd (true≢false f)
 kind_has c ns m k (Not a) w p q h f each = let o = each a.0 h.0 in has k _ (not_of (w a.0)) (not_word (w a.0) o.word) o.width h.1
 kind_has c ns m k (Binary op a b) w p q h f each = binary_has op k (wide ns a.0) (wide ns b.0) (w a.0) (w b.0) (each a.0 h.0) (each b.0 h.1) h.2
 kind_has c ns m k (Mux t a b) w p q h f each =
@@ -85,6 +76,7 @@ kind_has c ns m k (Concat parts) w p q h f each =
 kind_has c ns m k (Slice a hi lo) w p q h f each =
     let o = each a.0 h.0 in
     record { word = slice_word (w a.0) hi lo o.word h.1 (omega (arith, h.2, o.width)); width = omega (arith, h.1, h.3) }
+kind_has c ns m k _ w p q h f each = absurd (true≢false f)
 
 cut_none : (k : ℕ) (w : bits.Word) → Has k w → bits.word k (w.value % 2 ^ k) ≡ w
 cut_none k w h =

@@ -1,7 +1,7 @@
 -- The replacement of a foldable node has its word, and is no deeper.
 use Rattle.std.proofs.Common.{◌≡◌, ℕ, Bool, true, false, ◌+◌, ◌-◌, ◌<◌, ◌≤◌, ◌^◌, ◌%◌, ◌/◌, ◌==◌, ◌&&◌, List, [], ◌∷◌, map, length, get_or, refl, sym, subst, ap, ◌∙◌, arith, All, max, cond, bit_and, bit_or, leb, leb-true, ◌||◌}
 use Rattle.std.proofs.Math.Nat.{mod-eq_of_lt, le-max_left, le-max_right, div-one}
-use Rattle.std.proofs.lemmas.{Bool.false≢true, Bool.eqb-true, Bool.eq-eqb, Nat.and_mask, Nat.and_comm, Nat.or_comm}
+use Rattle.std.proofs.lemmas.{Bool.false≢true, Bool.false_from_ne_true, Bool.and_parts, Bool.cond-true, Bool.cond-false, Bool.eqb-true, Bool.eq-eqb, Nat.and_mask, Nat.and_comm, Nat.or_comm}
 use Rattle.std.proofs.lemmas.List.Elements.{All-head, All-tail}
 use Rattle.std.specs.{Int.Bits.or_zero_r, Int.Bits.or_add_and, List.list_all}
 use Rattle.kp_bits.specs.{Word.IsWord, Word.not_of, Word.and_of, Word.or_of, Word.mux_of, Word.slice_of, declared.operator.BinOp.BinOp}
@@ -15,10 +15,6 @@ use Rattle.kp_net.specs.Widths.{wide, no_node, is_cell, BinaryOk, KindOk, NodeOk
 use Rattle.kp_net.specs.{Depth.depth_of, Depth.depth, Folding.is_const, Folding.is_masking, Folding.is_plain, Folding.is_past, Folding.folds}
 use Rattle.kp_net.specs.inner.Folds.{StandsFor, IsWordOf, Masks, number_in, number_at}
 use Rattle.kp_net.proofs.{Values.word_there, Values.word_wide, Exact.Has, Exact.kind_has, Exact.node_exact, Exact.word_has, Depths.depth_there}
-
-both : (a b : Bool) → (a && b) ≡ true → (a ≡ true) × (b ≡ true)
-both true b h = (refl, h)
-both false b h = absurd (false≢true h)
 
 no_cells : Cells
 no_cells = record { ext = 0; sample = λ s. 0; reg = λ r. 0; word = λ f a. 0 }
@@ -140,7 +136,7 @@ zero_fits ns a right h =
 pub shifted_out : (ns : List Node) (k : ℕ) (op : BinOp) (a b : NodeId) (w r : bits.Word) (i : ℕ) → AllRight ns → NodeOk ns (length ns) (record { width = k; kind = Binary op a b })
     → IsNumber ns b w → i ≡ wide ns a.0 → (is_shift op && leb i w.value) ≡ true → r ≡ bits.word i 0 → IsWordOf ns k (Binary op a b) r
 shifted_out ns k op a b w r i right ok n f past e =
-    let p = both (is_shift op) (leb i w.value) past in
+    let p = and_parts (is_shift op) (leb i w.value) past in
     fold_word ns k (Binary op a b) right ok refl r
     (λ c. let x : (word_at c ns a.0).width ≡ i = word_wide c ns a.0 ok.kind.0 ∙ sym f in
     let y : w ≡ word_at c ns b.0 = number_word c ns b w right ok.kind.1 n in
@@ -217,16 +213,6 @@ module _ (w : bits.Word) (h : IsWord w) where
   )
 
 -- choices
-picks : (b : Bool) (x y : bits.Word) → b ≡ true → cond b x y ≡ x
-picks b x y e = ap (λ q. cond q x y) e
-
-skips : (b : Bool) (x y : bits.Word) → b ≡ false → cond b x y ≡ y
-skips b x y e = ap (λ q. cond q x y) e
-
-refused : (b : Bool) → (b ≡ true → ⊥) → b ≡ false
-refused true h = absurd (h refl)
-refused false h = refl
-
 module _ (ns : List Node) (k : ℕ) (t a b : NodeId) (right : AllRight ns) (ok : NodeOk ns (length ns) (record { width = k; kind = Mux t a b })) where
   first_deep : depth ns a.0 ≤ depth_of (depth ns) (Mux t a b)
   first_deep = omega (arith, le-max_left (depth ns a.0) (depth ns b.0), le-max_right (depth ns t.0) (max (depth ns a.0) (depth ns b.0)))
@@ -234,13 +220,13 @@ module _ (ns : List Node) (k : ℕ) (t a b : NodeId) (right : AllRight ns) (ok :
   pub chosen : (w : bits.Word) → IsNumber ns t w → w.value ≡ 1 → StandsFor ns k (Mux t a b) a
   chosen w n e = fold_there ns k (Mux t a b) right ok refl a ok.kind.1
       (λ c. let x : w ≡ word_at c ns t.0 = number_word c ns t w right ok.kind.0 n in
-      sym (picks ((word_at c ns t.0).value == 1) (word_at c ns a.0) (word_at c ns b.0) (eq-eqb _ _ (sym (ap (λ (y : bits.Word). y.value) x) ∙ e))))
+      sym (cond-true ((word_at c ns t.0).value == 1) (word_at c ns a.0) (word_at c ns b.0) (eq-eqb _ _ (sym (ap (λ (y : bits.Word). y.value) x) ∙ e))))
       first_deep
 
   pub other : (w : bits.Word) → IsNumber ns t w → (w.value ≡ 1 → ⊥) → StandsFor ns k (Mux t a b) b
   other w n e = fold_there ns k (Mux t a b) right ok refl b ok.kind.2
       (λ c. let x : w ≡ word_at c ns t.0 = number_word c ns t w right ok.kind.0 n in
-      sym (skips ((word_at c ns t.0).value == 1) (word_at c ns a.0) (word_at c ns b.0) (refused _ (λ q. e (ap (λ (y : bits.Word). y.value) x ∙ eqb-true _ _ q)))))
+      sym (cond-false ((word_at c ns t.0).value == 1) (word_at c ns a.0) (word_at c ns b.0) (false_from_ne_true _ (λ q. e (ap (λ (y : bits.Word). y.value) x ∙ eqb-true _ _ q)))))
       (omega (arith, le-max_right (depth ns a.0) (depth ns b.0), le-max_right (depth ns t.0) (max (depth ns a.0) (depth ns b.0))))
 
   either : (q : Bool) (x y : bits.Word) → x ≡ y → x ≡ cond q x y
@@ -257,7 +243,7 @@ consts_agree : (c : Cells) (ns : List Node) (parts : List NodeId) → AllRight n
     → map (λ a. number_at ns a.0) parts ≡ map (λ a. word_at c ns a.0) parts
 consts_agree c ns [] right h e = refl
 consts_agree c ns (a ∷ parts) right h e =
-    let p = both (is_const (get_or ns a.0 no_node).kind) (list_all (λ x. is_const (get_or ns x.0 no_node).kind) parts) e in
+    let p = and_parts (is_const (get_or ns a.0 no_node).kind) (list_all (λ x. is_const (get_or ns x.0 no_node).kind) parts) e in
     let x = const_word c ns a.0 right (All-head (λ y. y.0 < length ns) a parts h) p.0 in
     let y = consts_agree c ns parts right (All-tail (λ z. z.0 < length ns) a parts h) p.1 in
     λ i. sym x i ∷ y i

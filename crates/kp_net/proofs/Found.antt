@@ -1,6 +1,6 @@
 -- The index of a node in a list, by the test that compares nodes.
 use Rattle.std.proofs.Common.{◌≡◌, ◌⊎◌, ℕ, ◌<◌, ◌≤◌, ◌++◌, ◌∷◌, [], Bool, true, false, List, length, get_or, refl, sym, subst, ap, ◌∙◌, arith, ⊎_elim, Option, None, Some, MatchOption, length-append, if◌then◌else◌, IfOk, OnErr, Result, Ok, Err, inl, inr}
-use Rattle.std.proofs.lemmas.{Bool.cases_lt, Bool.false≢true, Grind.common_steps, List.get_or_default, List.Quantifiers.position-Some}
+use Rattle.std.proofs.lemmas.{Bool.cases_lt, Bool.false≢true, Bool.false_from_ne_true, Grind.common_steps, List.get_or_default, List.Quantifiers.position-Some}
 use Rattle.std.proofs.{lemmas.List.Sums.fails_before_first, lemmas.List.Folds.list_any_none, Math.ListN.get_or-append, Math.Seq.get_or-append_seam}
 use Rattle.std.specs.List.{position, position_or_len, list_any}
 use Rattle.kp_net.specs.{declared.node.Node.Node, Widths.no_node, inner.Lookup.LacksBelow, inner.Lookup.IsFront}
@@ -10,12 +10,8 @@ use Rattle.kp_net.proofs.Same.{node_from_eq, node_eq_itself}
 abbrev pub is : Node → Node → Bool
 is = nodes.eq-value.it
 
-refused : (b : Bool) → (b ≡ true → ⊥) → b ≡ false
-refused true h = absurd (h refl)
-refused false h = refl
-
 fails : (n x : Node) → (x ≡ n → ⊥) → is n x ≡ false
-fails n x h = refused (is n x) (λ e. h (sym (node_from_eq n x e)))
+fails n x h = false_from_ne_true (is n x) (λ e. h (sym (node_from_eq n x e)))
 
 differs : (n x : Node) → is n x ≡ false → x ≡ n → ⊥
 differs n x f e = false≢true (sym f ∙ ap (is n) e ∙ node_eq_itself n)

@@ -1,6 +1,6 @@
 -- A cycle with a reset, and the run from there on.
 use Rattle.std.proofs.Common.{◌≡◌, ℕ, true, cond, suc, List, [], ◌∷◌, length, map, refl, sym, ap, ◌∙◌, arith}
-use Rattle.std.proofs.lemmas.{Bool.cond_both, Slice.Zip.length-zip}
+use Rattle.std.proofs.lemmas.{Bool.cond-true, Bool.cond_both, List.length-map, Slice.Zip.length-zip}
 use Rattle.std.specs.List.{zip}
 use Rattle.kp_base.specs.declared.row.Row.{Row}
 use Rattle.kp_net.specs.Netlist.{Net, Input, State, start_regs, start_of, regs_after, files_after, port_after, resets, cells_of, state_after, row_of, states_from, rows_from, run, last_from, last_of, restarted}
@@ -9,17 +9,13 @@ use Rattle.kp_net.specs.{declared.node.Node.Node, declared.netlist.NetFile.NetFi
 pub reset_state : (net : Net) (i : Input) (st : State) → resets net i ≡ true → state_after net i st ≡ record { regs = start_regs net; files = st.files }
 reset_state net i st e = ap (λ b. cond b (record { regs = start_regs net; files = st.files }) (record { regs = regs_after net (cells_of i st); files = files_after net (cells_of i st) st.files })) e
 
-length_map : {X Y : Type 0} (f : X → Y) (xs : List X) → length (map f xs) ≡ length xs
-length_map f [] = refl
-length_map f (x ∷ xs) = ap (λ n. suc n) (length_map f xs)
-
 -- each state of a run has as many files as the netlist
 files_after_length : (net : Net) (i : Input) (st : State) → length st.files ≡ length net.parts.files → length (state_after net i st).files ≡ length net.parts.files
 files_after_length net i st e =
     cond_both (resets net i) (record { regs = start_regs net; files = st.files }) (record { regs = regs_after net (cells_of i st); files = files_after net (cells_of i st) st.files })
     (λ (s : State). length s.files ≡ length net.parts.files)
     (λ _. e)
-    (λ _. length_map _ (zip net.parts.files st.files) ∙ omega (arith, length-zip net.parts.files st.files, e))
+    (λ _. length-map (zip net.parts.files st.files) _ ∙ omega (arith, length-zip net.parts.files st.files, e))
 
 last_length : (net : Net) (st : State) (inputs : List Input) → length st.files ≡ length net.parts.files → length (last_from net st inputs).files ≡ length net.parts.files
 last_length net st [] e = e
@@ -63,7 +59,7 @@ module _ (net : Net) (before : List Input) (i : Input) (inputs : List Input) (r 
   ws = (last_of net before).files
 
   whole : length ws ≡ length net.parts.files
-  whole = last_length net (start_of net) before (length_map (λ (f : NetFile). f.words) net.parts.files)
+  whole = last_length net (start_of net) before (length-map net.parts.files (λ (f : NetFile). f.words))
 
   anew : state_after net i (last_of net before) ≡ start_of (restarted net ws)
   anew = reset_state net i (last_of net before) r ∙ start_given net ws whole

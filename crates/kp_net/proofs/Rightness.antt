@@ -17,11 +17,6 @@ sums_agree v w m (a ∷ parts) h e =
 
 -- only the widths of the nodes before it count
 kind_stays : (ns ms : List Node) (m k : ℕ) (o : Kind) → ((j : ℕ) → j < m → wide ns j ≡ wide ms j) → KindOk ns m k o → KindOk ms m k o
-kind_stays ns ms m k (Const n) e h = h
-kind_stays ns ms m k Ext e h = h
-kind_stays ns ms m k (Sample s) e h = h
-kind_stays ns ms m k (Reg r) e h = h
-kind_stays ns ms m k (Word f a) e h = h
 kind_stays ns ms m k (Not a) e h = (h.0, sym (e a.0 h.0) ∙ h.1)
 kind_stays ns ms m k (Binary op a b) e h =
     let P : ℕ → Type 0 = λ x. BinaryOk op k x (wide ns b.0) in let Q : ℕ → Type 0 = λ x. BinaryOk op k (wide ms a.0) x in
@@ -29,6 +24,7 @@ kind_stays ns ms m k (Binary op a b) e h =
 kind_stays ns ms m k (Mux t a b) e h = (h.0, h.1, h.2, sym (e t.0 h.0) ∙ h.3, sym (e a.0 h.1) ∙ h.4, sym (e b.0 h.2) ∙ h.5)
 kind_stays ns ms m k (Concat parts) e h = (h.0, h.1, h.2, sym (sums_agree (wide ns) (wide ms) m parts h.2 e) ∙ h.3)
 kind_stays ns ms m k (Slice a hi lo) e h = (h.0, h.1, (let P : ℕ → Type 0 = λ x. hi < x in subst P (e a.0 h.0) h.2), h.3)
+kind_stays ns ms m k _ e h = h
 
 pub node_stays : (ns ms : List Node) (m : ℕ) (n : Node) → ((j : ℕ) → j < m → wide ns j ≡ wide ms j) → NodeOk ns m n → NodeOk ms m n
 node_stays ns ms m n e h = record { positive = h.positive; at_most = h.at_most; kind = kind_stays ns ms m n.width n.kind e h.kind }

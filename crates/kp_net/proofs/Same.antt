@@ -1,5 +1,5 @@
 -- `==` on nodes is equality.
-use Rattle.std.proofs.{Common.◌≡◌, Common.◌&&◌, Common.ℕ, Common.Bool, Common.true, Common.false, Common.refl, Common.ap, Common.eqb, lemmas.Bool.false≢true}
+use Rattle.std.proofs.{Common.◌≡◌, Common.◌&&◌, Common.ℕ, Common.Bool, Common.true, Common.false, Common.refl, Common.ap, Common.eqb, lemmas.Bool.false≢true, lemmas.Bool.and_parts}
 use Rattle.std.proofs.lemmas.{Bool.Decides.Decides-eqb, Slice.Eq.slice_eq-Decides}
 use Rattle.std.specs.{Bool.Decides, Cmp.Derive.both_true}
 use Rattle.kp_bits.specs.declared.operator.BinOp.{BinOp}
@@ -9,10 +9,6 @@ use Rattle.kp_net.specs.declared.node.Kind.TheVariants.{Const, Ext, Sample, Reg,
 use Rattle.kp_net.specs.{declared.node.Node.Node, Operands.same_id}
 use Rattle.kp_net.specs.contracts.node.NodePartialEq.TheImpl as nodes
 use Rattle.kp_net.specs.contracts.node.KindPartialEq.TheImpl as kinds
-
-both : (a b : Bool) → (a && b) ≡ true → (a ≡ true) × (b ≡ true)
-both true b h = (refl, h)
-both false b h = absurd (false≢true h)
 
 number : (n m : ℕ) → eqb n m ≡ true → n ≡ m
 number n m h = (Decides-eqb n m).0 h
@@ -41,32 +37,24 @@ operator o p h = absurd (false≢true h)
 
 operator_itself : (o : BinOp) → operators.eq-value.it o o ≡ true
 operator_itself BinOp.And = refl
-operator_itself BinOp.Or = refl
-operator_itself BinOp.Xor = refl
-operator_itself BinOp.Add = refl
-operator_itself BinOp.Sub = refl
-operator_itself BinOp.Mul = refl
-operator_itself BinOp.Eq = refl
-operator_itself BinOp.Lt = refl
-operator_itself BinOp.Shl = refl
-operator_itself BinOp.Shr = refl
+operator_itself _ = refl
 
 kind : (a b : Kind) → kinds.eq-value.it a b ≡ true → a ≡ b
 kind (Const n) (Const m) h = ap Const (number n m h)
 kind Ext Ext h = refl
 kind (Sample n) (Sample m) h = ap Sample (number n m h)
 kind (Reg n) (Reg m) h = ap Reg (number n m h)
-kind (Word f a) (Word g b) h = let p = both (eqb f g) (eqb a.0 b.0) h in let x = number f g p.0 in let y = id a b p.1 in cc
+kind (Word f a) (Word g b) h = let p = and_parts (eqb f g) (eqb a.0 b.0) h in let x = number f g p.0 in let y = id a b p.1 in cc
 kind (Not a) (Not b) h = ap Not (id a b h)
 kind (Binary o a b) (Binary p u v) h =
-    let p0 = both (operators.eq-value.it o p) (eqb a.0 u.0 && eqb b.0 v.0) h in let p1 = both (eqb a.0 u.0) (eqb b.0 v.0) p0.1 in
+    let p0 = and_parts (operators.eq-value.it o p) (eqb a.0 u.0 && eqb b.0 v.0) h in let p1 = and_parts (eqb a.0 u.0) (eqb b.0 v.0) p0.1 in
     let x = operator o p p0.0 in let y = id a u p1.0 in let z = id b v p1.1 in cc
 kind (Mux t a b) (Mux s u v) h =
-    let p0 = both (eqb t.0 s.0) (eqb a.0 u.0 && eqb b.0 v.0) h in let p1 = both (eqb a.0 u.0) (eqb b.0 v.0) p0.1 in
+    let p0 = and_parts (eqb t.0 s.0) (eqb a.0 u.0 && eqb b.0 v.0) h in let p1 = and_parts (eqb a.0 u.0) (eqb b.0 v.0) p0.1 in
     let x = id t s p0.0 in let y = id a u p1.0 in let z = id b v p1.1 in cc
 kind (Concat a) (Concat b) h = ap Concat ((slice_eq-Decides ids a b _ refl).0 h)
 kind (Slice a m n) (Slice b u v) h =
-    let p0 = both (eqb a.0 b.0) (eqb m u && eqb n v) h in let p1 = both (eqb m u) (eqb n v) p0.1 in
+    let p0 = and_parts (eqb a.0 b.0) (eqb m u && eqb n v) h in let p1 = and_parts (eqb m u) (eqb n v) p0.1 in
     let x = id a b p0.0 in let y = number m u p1.0 in let z = number n v p1.1 in cc
 kind a b h = absurd (false≢true h)
 
@@ -83,7 +71,7 @@ kind_itself (Concat a) = (slice_eq-Decides ids a a _ refl).1 refl
 kind_itself (Slice a m n) = both_true (itself a.0) (both_true (itself m) (itself n))
 
 pub node_from_eq : (a b : Node) → nodes.eq-value.it a b ≡ true → a ≡ b
-node_from_eq a b h = let p = both (eqb a.width b.width) (kinds.eq-value.it a.kind b.kind) h in let x = number a.width b.width p.0 in let y = kind a.kind b.kind p.1 in λ i. record { width = x i; kind = y i }
+node_from_eq a b h = let p = and_parts (eqb a.width b.width) (kinds.eq-value.it a.kind b.kind) h in let x = number a.width b.width p.0 in let y = kind a.kind b.kind p.1 in λ i. record { width = x i; kind = y i }
 
 pub node_eq_itself : (a : Node) → nodes.eq-value.it a a ≡ true
 node_eq_itself a = both_true (itself a.width) (kind_itself a.kind)

@@ -18,11 +18,6 @@ parts_fold v w m (a ∷ parts) h e =
 
 -- only the nodes before it count
 folds_alike : (ns : List Node) (v w : ℕ → Node) (m k : ℕ) (o : Kind) → KindOk ns m k o → ((j : ℕ) → j < m → v j ≡ w j) → folds v k o ≡ folds w k o
-folds_alike ns v w m k (Const n) h e = refl
-folds_alike ns v w m k Ext h e = refl
-folds_alike ns v w m k (Sample s) h e = refl
-folds_alike ns v w m k (Reg r) h e = refl
-folds_alike ns v w m k (Word f a) h e = refl
 folds_alike ns v w m k (Not a) h e = ap (λ (x : Node). is_const x.kind || is_not x.kind) (e a.0 h.0)
 folds_alike ns v w m k (Binary op a b) h e =
     let x = e a.0 h.0 in let y = e b.0 h.1 in
@@ -30,6 +25,7 @@ folds_alike ns v w m k (Binary op a b) h e =
 folds_alike ns v w m k (Mux t a b) h e = ap (λ (x : Node). is_const x.kind || a.0 == b.0) (e t.0 h.0)
 folds_alike ns v w m k (Concat parts) h e = parts_fold v w m parts h.2 e
 folds_alike ns v w m k (Slice a hi lo) h e = ap (λ (x : Node). is_const x.kind || x.width == k) (e a.0 h.0)
+folds_alike ns v w m k _ h e = refl
 
 pub unfolded_more : (ns : List Node) (n : Node) → AllRight ns → NodeOk ns (length ns) n → NoneFoldable ns → foldable ns n ≡ false → NoneFoldable (ns ++ n ∷ [])
 unfolded_more ns n right ok none f i h =

@@ -51,16 +51,13 @@ parts_agree v w m (a ∷ parts) h e =
     λ i. x i ∷ y i
 
 pub kind_agrees : (c : Cells) (ns : List Node) (m k : ℕ) (o : Kind) (v w : Words) → KindOk ns m k o → ((j : ℕ) → j < m → v j ≡ w j) → word_of_kind c v k o ≡ word_of_kind c w k o
-kind_agrees c ns m k (Const n) v w h e = refl
-kind_agrees c ns m k Ext v w h e = refl
-kind_agrees c ns m k (Sample s) v w h e = refl
-kind_agrees c ns m k (Reg r) v w h e = refl
 kind_agrees c ns m k (Word f a) v w h e = ap (λ (x : bits.Word). bits.word k (c.word f x.value)) (e a.0 h)
 kind_agrees c ns m k (Not a) v w h e = ap bits.not_of (e a.0 h.0)
 kind_agrees c ns m k (Binary op a b) v w h e = let x = e a.0 h.0 in let y = e b.0 h.1 in λ i. binary_of op (x i) (y i)
 kind_agrees c ns m k (Mux t a b) v w h e = let x = e t.0 h.0 in let y = e a.0 h.1 in let z = e b.0 h.2 in λ i. bits.mux_of (x i) (y i) (z i)
 kind_agrees c ns m k (Concat parts) v w h e = ap joined_of (parts_agree v w m parts h.2 e)
 kind_agrees c ns m k (Slice a hi lo) v w h e = ap (λ (x : bits.Word). bits.slice_of x hi lo) (e a.0 h.0)
+kind_agrees c ns m k _ v w h e = refl
 
 pub node_agrees : (c : Cells) (ns : List Node) (m : ℕ) (n : Node) (v w : Words) → NodeOk ns m n → ((j : ℕ) → j < m → v j ≡ w j) → word_of_node c v n ≡ word_of_node c w n
 node_agrees c ns m n v w h e = ap (λ (x : bits.Word). bits.word n.width (x.value % 2 ^ n.width)) (kind_agrees c ns m n.width n.kind v w h.kind e)
