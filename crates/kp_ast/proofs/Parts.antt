@@ -30,19 +30,14 @@ module _ (e : Expr) where
 
     pub value_Binary : (op : BinOp) (a b x y : Expr) → e.kind ≡ kind.Binary op a b → x ≡ a → y ≡ b → v e ≡ option_and_then (λ u. option_and_then (λ w. checked_binary op u w) (v y)) (v x)
     value_Binary op a b x y is h k =
-        ap (λ k. v (of_kind k)) is
-        ∙ fold-Binary _ _ (checked_kind known) checked_level e.place op a b
-        ∙ ap (λ z. option_and_then (λ u. option_and_then (λ w. checked_binary op u w) (v b)) (v z)) (sym h)
-        ∙ ap (λ z. option_and_then (λ u. option_and_then (λ w. checked_binary op u w) (v z)) (v x)) (sym k)
+        ap (λ k. v (of_kind k)) is ∙ fold-Binary _ _ (checked_kind known) checked_level e.place op a b
+        ∙ (λ j. option_and_then (λ u. option_and_then (λ w. checked_binary op u w) (v (sym k j))) (v (sym h j)))
 
     pub value_Mux : (t a b s x y : Expr) → e.kind ≡ kind.Mux t a b → s ≡ t → x ≡ a → y ≡ b
         → v e ≡ option_and_then (λ i. option_and_then (λ u. option_and_then (λ w. checked_mux i u w) (v y)) (v x)) (v s)
     value_Mux t a b s x y is g h k =
-        ap (λ k. v (of_kind k)) is
-        ∙ fold-Mux _ _ (checked_kind known) checked_level e.place t a b
-        ∙ ap (λ z. option_and_then (λ i. option_and_then (λ u. option_and_then (λ w. checked_mux i u w) (v b)) (v a)) (v z)) (sym g)
-        ∙ ap (λ z. option_and_then (λ i. option_and_then (λ u. option_and_then (λ w. checked_mux i u w) (v b)) (v z)) (v s)) (sym h)
-        ∙ ap (λ z. option_and_then (λ i. option_and_then (λ u. option_and_then (λ w. checked_mux i u w) (v z)) (v x)) (v s)) (sym k)
+        ap (λ k. v (of_kind k)) is ∙ fold-Mux _ _ (checked_kind known) checked_level e.place t a b
+        ∙ (λ j. option_and_then (λ i. option_and_then (λ u. option_and_then (λ w. checked_mux i u w) (v (sym k j))) (v (sym h j))) (v (sym g j)))
 
     pub value_Concat : (es xs : List Expr) → e.kind ≡ kind.Concat es → xs ≡ es → v e ≡ option_and_then checked_joined (all_there (map v xs))
     value_Concat es xs is h =
@@ -83,15 +78,11 @@ module _ (e : Expr) where
 
     pub size_Binary : (op : BinOp) (a b x y : Expr) → e.kind ≡ kind.Binary op a b → x ≡ a → y ≡ b → s e ≡ 1 + (s x + s y)
     size_Binary op a b x y is h k =
-        ap (λ k. s (of_kind k)) is ∙ fold-Binary _ _ (size_of_kind bodies) size_of_level e.place op a b ∙ ap (λ z. 1 + (s z + s b)) (sym h) ∙ ap (λ z. 1 + (s x + s z)) (sym k)
+        ap (λ k. s (of_kind k)) is ∙ fold-Binary _ _ (size_of_kind bodies) size_of_level e.place op a b ∙ (λ j. 1 + (s (sym h j) + s (sym k j)))
 
     pub size_Mux : (t a b i x y : Expr) → e.kind ≡ kind.Mux t a b → i ≡ t → x ≡ a → y ≡ b → s e ≡ 1 + (s i + (s x + s y))
     size_Mux t a b i x y is g h k =
-        ap (λ k. s (of_kind k)) is
-        ∙ fold-Mux _ _ (size_of_kind bodies) size_of_level e.place t a b
-        ∙ ap (λ z. 1 + (s z + (s a + s b))) (sym g)
-        ∙ ap (λ z. 1 + (s i + (s z + s b))) (sym h)
-        ∙ ap (λ z. 1 + (s i + (s x + s z))) (sym k)
+        ap (λ k. s (of_kind k)) is ∙ fold-Mux _ _ (size_of_kind bodies) size_of_level e.place t a b ∙ (λ j. 1 + (s (sym g j) + (s (sym h j) + s (sym k j))))
 
     pub size_Concat : (es xs : List Expr) → e.kind ≡ kind.Concat es → xs ≡ es → s e ≡ 1 + all xs
     size_Concat es xs is h =

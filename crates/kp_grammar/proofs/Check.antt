@@ -1,17 +1,13 @@
 -- What the test on tables finds.
 use Rattle.std.proofs.Common.{ℕ, ◌≡◌, ◌==◌, List, [], ◌∷◌, Bool, true, false, not, cond, ◌||◌, ◌&&◌, Some, refl, sym, ap, ◌∙◌, subst, inl, inr}
-use Rattle.std.proofs.lemmas.Bool.{eqb-true}
+use Rattle.std.proofs.lemmas.Bool.{eqb-true, or_cases, and_parts, not-true, false_from_ne_true}
 use Rattle.kp_grammar.specs.Tables.{Tables, among, within, apart, first_of, empty_of, after_of, firsts, vanishes, choose, pick, follows_fit, body_fits, all_apart, last_vanishes, bodies_fit, rule_fits, rules_fit}
-use Rattle.kp_grammar.specs.Grammar.{Symbol, Terminal, Nonterminal, Action, Rules, alternatives, Has, here, there}
-use Rattle.kp_grammar.proofs.{Conditions.Follows, Conditions.Decides, Exact.and_true, Exact.or_true}
+use Rattle.kp_grammar.specs.Grammar.{Symbol, Nonterminal, Rules, alternatives, Has, here, there}
+use Rattle.kp_grammar.proofs.Conditions.{Follows, Decides}
 
 pub implied : (a b : Bool) → (not a || b) ≡ true → a ≡ true → b ≡ true
 implied true b h k = h
 implied false b h k = cc
-
-pub not_true : (a : Bool) → not a ≡ true → a ≡ false
-not_true true h = cc
-not_true false h = refl
 
 among-at : (c x : ℕ) (ys : List ℕ) → (c == x) ≡ true → among x ys ≡ among c ys
 among-at c x ys e = ap (λ (z : ℕ). among z ys) (sym (eqb-true c x e))
@@ -19,21 +15,17 @@ among-at c x ys e = ap (λ (z : ℕ). among z ys) (sym (eqb-true c x e))
 within-among : (c : ℕ) (xs ys : List ℕ) → within xs ys ≡ true → among c xs ≡ true → among c ys ≡ true
 within-among c [] ys h k = cc
 within-among c (x ∷ xs) ys h k =
-    let p = and_true (among x ys) (within xs ys) h in
-    elim (or_true (c == x) (among c xs) k) [ inl e ↦ sym (among-at c x ys e) ∙ p.0 | inr e ↦ within-among c xs ys p.1 e ]
+    let p = and_parts (among x ys) (within xs ys) h in
+    elim (or_cases (c == x) (among c xs) k) [ inl e ↦ sym (among-at c x ys e) ∙ p.0 | inr e ↦ within-among c xs ys p.1 e ]
 
 apart-among : (c : ℕ) (xs ys : List ℕ) → apart xs ys ≡ true → among c xs ≡ true → among c ys ≡ false
 apart-among c [] ys h k = cc
 apart-among c (x ∷ xs) ys h k =
-    let p = and_true (not (among x ys)) (apart xs ys) h in
-    elim (or_true (c == x) (among c xs) k) [ inl e ↦ sym (among-at c x ys e) ∙ not_true (among x ys) p.0 | inr e ↦ apart-among c xs ys p.1 e ]
+    let p = and_parts (not (among x ys)) (apart xs ys) h in
+    elim (or_cases (c == x) (among c xs) k) [ inl e ↦ sym (among-at c x ys e) ∙ not-true (among x ys) p.0 | inr e ↦ apart-among c xs ys p.1 e ]
 
 apart-among' : (c : ℕ) (xs ys : List ℕ) → apart xs ys ≡ true → among c ys ≡ true → among c xs ≡ false
-apart-among' c xs ys h k = go (among c xs) refl
-  where
-    go : (a : Bool) → among c xs ≡ a → a ≡ false
-    go true e = cc (apart-among c xs ys h e)
-    go false e = refl
+apart-among' c xs ys h k = false_from_ne_true (among c xs) (λ e. cc (apart-among c xs ys h e))
 
 entry_step : {W B : Type 0} → (t : Tables) (m n : ℕ) (b rest : List (List (Symbol W B))) (a : Bool) → (m == n) ≡ a → rule_fits t m b ≡ true → rule_fits t n rest ≡ true → rule_fits t n (cond a b rest) ≡ true
 entry_step t m n b rest true e p q = subst (λ (k : ℕ). rule_fits t k b ≡ true) (eqb-true m n e) p
@@ -47,7 +39,7 @@ choose_step t c e bs b false h k = there (k h)
 entry-ok : {W B : Type 0} → (t : Tables) (rs : Rules W B) (n : ℕ) → rules_fit t rs ≡ true → rule_fits t n (alternatives rs n) ≡ true
 entry-ok t [] n h = refl
 entry-ok t (r ∷ rs) n h =
-    let p = and_true (rule_fits t r.0 r.1) (rules_fit t rs) h in
+    let p = and_parts (rule_fits t r.0 r.1) (rules_fit t rs) h in
     entry_step t r.0 n r.1 (alternatives rs n) (r.0 == n) refl p.0 (entry-ok t rs n p.1)
 
 record Parts {W B : Type 0} (t : Tables) (n : ℕ) (b d : List (Symbol W B)) (bs : List (List (Symbol W B))) : Type 0 where
@@ -58,10 +50,10 @@ record Parts {W B : Type 0} (t : Tables) (n : ℕ) (b d : List (Symbol W B)) (bs
 
 parts_of : {W B : Type 0} → (t : Tables) (n : ℕ) (b d : List (Symbol W B)) (bs : List (List (Symbol W B))) → bodies_fit t n (b ∷ d ∷ bs) ≡ true → Parts t n b d bs
 parts_of t n b d bs h =
-    let p = and_true (body_fits t n b) (all_apart t (firsts t b) (d ∷ bs) && (not (vanishes t b) && bodies_fit t n (d ∷ bs))) h in
-    let q = and_true (all_apart t (firsts t b) (d ∷ bs)) (not (vanishes t b) && bodies_fit t n (d ∷ bs)) p.1 in
-    let r = and_true (not (vanishes t b)) (bodies_fit t n (d ∷ bs)) q.1 in
-    record { body = p.0; others = q.0; stays = not_true (vanishes t b) r.0; rest = r.1 }
+    let p = and_parts (body_fits t n b) (all_apart t (firsts t b) (d ∷ bs) && (not (vanishes t b) && bodies_fit t n (d ∷ bs))) h in
+    let q = and_parts (all_apart t (firsts t b) (d ∷ bs)) (not (vanishes t b) && bodies_fit t n (d ∷ bs)) p.1 in
+    let r = and_parts (not (vanishes t b)) (bodies_fit t n (d ∷ bs)) q.1 in
+    record { body = p.0; others = q.0; stays = not-true (vanishes t b) r.0; rest = r.1 }
 
 body-ok : {W B : Type 0} → (t : Tables) (n : ℕ) (b : List (Symbol W B)) (bs : List (List (Symbol W B))) → Has b bs → bodies_fit t n bs ≡ true → body_fits t n b ≡ true
 body-ok t n b [] m h = elim m [ ]
@@ -72,8 +64,8 @@ body-ok t n b (c ∷ d ∷ bs) (there m) h = body-ok t n b (d ∷ bs) m (parts_o
 
 all_apart-has : {W B : Type 0} → (t : Tables) (xs : List ℕ) (b : List (Symbol W B)) (bs : List (List (Symbol W B))) → Has b bs → all_apart t xs bs ≡ true → apart xs (firsts t b) ≡ true
 all_apart-has t xs b [] m h = elim m [ ]
-all_apart-has t xs b (c ∷ bs) here h = (and_true (apart xs (firsts t c)) (all_apart t xs bs) h).0
-all_apart-has t xs b (c ∷ bs) (there m) h = all_apart-has t xs b bs m (and_true (apart xs (firsts t c)) (all_apart t xs bs) h).1
+all_apart-has t xs b (c ∷ bs) here h = (and_parts (apart xs (firsts t c)) (all_apart t xs bs) h).0
+all_apart-has t xs b (c ∷ bs) (there m) h = all_apart-has t xs b bs m (and_parts (apart xs (firsts t c)) (all_apart t xs bs) h).1
 
 -- the first body that starts with the class is chosen
 choose-first : {W B : Type 0} → (t : Tables) (n c : ℕ) (b : List (Symbol W B)) (bs : List (List (Symbol W B))) → Has b bs → bodies_fit t n bs ≡ true
@@ -103,20 +95,19 @@ choose-last t n c xs b (e ∷ []) here h v a k = refl
 choose-last t n c xs b (e ∷ []) (there m) h v a k = elim m [ ]
 choose-last t n c xs b (e ∷ d ∷ bs) here h v a k = cc (v, (parts_of t n e d bs h).stays)
 choose-last t n c xs b (e ∷ d ∷ bs) (there m) h v a k =
-    let p = and_true (apart xs (firsts t e)) (all_apart t xs (d ∷ bs)) a in
+    let p = and_parts (apart xs (firsts t e)) (all_apart t xs (d ∷ bs)) a in
     rw (apart-among c xs (firsts t e) p.0 k) (choose-last t n c xs b (d ∷ bs) m (parts_of t n e d bs h).rest v p.1 k)
 
 follows-ok : {W B : Type 0} → (t : Tables) (after : List ℕ) (b : List (Symbol W B)) → follows_fit t after b ≡ true → Follows t after b
 follows-ok t after [] h = tt
-follows-ok t after (Terminal c k ∷ s) h = follows-ok t after s h
-follows-ok t after (Action a ∷ s) h = follows-ok t after s h
 follows-ok t after (Nonterminal n ∷ s) h =
-    let p = and_true (within (firsts t s) (after_of t n)) ((not (vanishes t s) || within after (after_of t n)) && follows_fit t after s) h in
-    let q = and_true (not (vanishes t s) || within after (after_of t n)) (follows_fit t after s) p.1 in (
+    let p = and_parts (within (firsts t s) (after_of t n)) ((not (vanishes t s) || within after (after_of t n)) && follows_fit t after s) h in
+    let q = and_parts (not (vanishes t s) || within after (after_of t n)) (follows_fit t after s) p.1 in (
       (λ c e. within-among c (firsts t s) (after_of t n) p.0 e),
       (λ v c e. within-among c after (after_of t n) (implied (vanishes t s) (within after (after_of t n)) q.0 v) e),
       follows-ok t after s q.1,
     )
+follows-ok t after (x ∷ s) h = follows-ok t after s h
 
 choose-has : {W B : Type 0} → (t : Tables) (c : ℕ) (bs : List (List (Symbol W B))) (b : List (Symbol W B)) → choose t c bs ≡ Some b → Has b bs
 choose-has t c [] b h = cc
@@ -139,10 +130,10 @@ decides {W = W} {B = B} rs t h = record {
 }
   where
     whole : (n : ℕ) → (bodies_fit t n (alternatives rs n) ≡ true) × ((not (last_vanishes t (alternatives rs n)) || all_apart t (after_of t n) (alternatives rs n)) ≡ true)
-    whole n = and_true (bodies_fit t n (alternatives rs n)) (not (last_vanishes t (alternatives rs n)) || all_apart t (after_of t n) (alternatives rs n)) (entry-ok t rs n h)
+    whole n = and_parts (bodies_fit t n (alternatives rs n)) (not (last_vanishes t (alternatives rs n)) || all_apart t (after_of t n) (alternatives rs n)) (entry-ok t rs n h)
 
     parts : (n : ℕ) (b : List (Symbol W B)) → Has b (alternatives rs n) → (within (firsts t b) (first_of t n) ≡ true) × ((not (vanishes t b) || empty_of t n) ≡ true) × (follows_fit t (after_of t n) b ≡ true)
     parts n b m =
-        let p = and_true (within (firsts t b) (first_of t n)) ((not (vanishes t b) || empty_of t n) && follows_fit t (after_of t n) b) (body-ok t n b (alternatives rs n) m (whole n).0) in
-        let q = and_true (not (vanishes t b) || empty_of t n) (follows_fit t (after_of t n) b) p.1 in
+        let p = and_parts (within (firsts t b) (first_of t n)) ((not (vanishes t b) || empty_of t n) && follows_fit t (after_of t n) b) (body-ok t n b (alternatives rs n) m (whole n).0) in
+        let q = and_parts (not (vanishes t b) || empty_of t n) (follows_fit t (after_of t n) b) p.1 in
         (p.0, q.0, q.1)

@@ -1,17 +1,16 @@
 -- What the test on tables says of each name.
 use Rattle.std.proofs.Common.{ℕ, ◌≡◌, List, [], ◌∷◌, true, Some}
-use Rattle.kp_grammar.specs.Grammar.{Symbol, Terminal, Nonterminal, Action, Rules, alternatives, Has}
+use Rattle.kp_grammar.specs.Grammar.{Symbol, Nonterminal, Rules, alternatives, Has}
 use Rattle.kp_grammar.specs.Tables.{Tables, among, first_of, empty_of, after_of, firsts, vanishes, pick}
 
 -- the follow set of each name in a body contains what may follow it there, where `after` follows the body
 abbrev pub Follows : {W B : Type 0} → Tables → List ℕ → List (Symbol W B) → Type 0
 Follows t after [] = Unit {0}
-Follows t after (Terminal c way ∷ s) = Follows t after s
-Follows t after (Action a ∷ s) = Follows t after s
 Follows t after (Nonterminal n ∷ s) =
     ((c : ℕ) → among c (firsts t s) ≡ true → among c (after_of t n) ≡ true)
     × (vanishes t s ≡ true → (c : ℕ) → among c after ≡ true → among c (after_of t n) ≡ true)
     × Follows t after s
+Follows t after (x ∷ s) = Follows t after s
 
 -- a body starts with classes of its name's row and is nullable only if the row says so; it is chosen at each class
 -- that it starts with and, if it is nullable, at each that may follow

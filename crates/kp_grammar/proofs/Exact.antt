@@ -1,38 +1,15 @@
 -- The machine stops at exactly the first wrong token, and accepts with exactly what the sentence builds.
-use Rattle.std.proofs.Common.{ℕ, suc, ◌≡◌, ◌==◌, ◌<◌, ◌≤◌, List, [], ◌∷◌, ◌++◌, length, Bool, true, false, cond, ◌||◌, ◌&&◌, Some, refl, sym, ◌∙◌, subst, arith, ◌⊎◌, inl, inr, eq-eqb}
-use Rattle.std.proofs.Math.Nat.{eq-or-lt_of_le}
+use Rattle.std.proofs.Common.{ℕ, suc, ◌≡◌, ◌==◌, ◌<◌, ◌≤◌, List, [], ◌∷◌, ◌++◌, length, Bool, true, false, cond, ◌||◌, ◌&&◌, Some, refl, sym, ◌∙◌, subst, arith, ◌⊎◌, inl, inr, eq-eqb, ap}
+use Rattle.std.proofs.Math.{Nat.eq-or-lt_of_le, Bool.or_assoc}
+use Rattle.std.proofs.lemmas.Bool.{or_cases, and_parts, and_from, or_left, or_right}
 use Rattle.kp_grammar.specs.Machine.{Outcome, Accepts, Stops, Exceeds, look, Leads, accept, more, goes, take, make, wrong, lost, exceed}
 use Rattle.kp_grammar.specs.Grammar.{Symbol, Terminal, Nonterminal, Action, alternatives, Has, Grammar, Derives, stay, expand, read, build}
 use Rattle.kp_grammar.specs.Tables.{Tables, among, first_of, empty_of, after_of, firsts, vanishes, pick}
 use Rattle.kp_grammar.proofs.Conditions.{Follows, Decides}
 
-pub or_true : (a b : Bool) → (a || b) ≡ true → (a ≡ true) ⊎ (b ≡ true)
-or_true true b h = inl refl
-or_true false b h = inr h
-
-or_left : (a b : Bool) → a ≡ true → (a || b) ≡ true
-or_left true b h = refl
-or_left false b h = cc
-
-pub or_right : (a b : Bool) → b ≡ true → (a || b) ≡ true
-or_right true b h = refl
-or_right false b h = h
-
-pub and_true : (a b : Bool) → (a && b) ≡ true → (a ≡ true) × (b ≡ true)
-and_true true b h = (refl, h)
-and_true false b h = cc
-
-and_both : (a b : Bool) → a ≡ true → b ≡ true → (a && b) ≡ true
-and_both true b h k = k
-and_both false b h k = cc
-
-or_assoc : (a b c d : Bool) → b ≡ (c || d) → (a || b) ≡ ((a || c) || d)
-or_assoc true b c d e = refl
-or_assoc false b c d e = e
-
 among-append : (c : ℕ) (xs ys : List ℕ) → among c (xs ++ ys) ≡ (among c xs || among c ys)
 among-append c [] ys = refl
-among-append c (x ∷ xs) ys = or_assoc (c == x) _ _ _ (among-append c xs ys)
+among-append c (x ∷ xs) ys = ap (λ b. (c == x) || b) (among-append c xs ys) ∙ sym (or_assoc (c == x) (among c xs) (among c ys))
 
 -- the first classes of a stack; the end of the text counts as class 0
 abbrev pub starts : {W B : Type 0} → Tables → List (Symbol W B) → ℕ → Bool
@@ -43,32 +20,30 @@ starts t (Action a ∷ s) c = starts t s c
 
 abbrev pub IsGood : {W B : Type 0} → Tables → List (Symbol W B) → Type 0
 IsGood t [] = Unit {0}
-IsGood t (Terminal d k ∷ s) = IsGood t s
-IsGood t (Action a ∷ s) = IsGood t s
 IsGood t (Nonterminal n ∷ s) = ((c : ℕ) → starts t s c ≡ true → among c (after_of t n) ≡ true) × IsGood t s
+IsGood t (x ∷ s) = IsGood t s
 
 starts-append : {W B : Type 0} → (t : Tables) (b s : List (Symbol W B)) (c : ℕ) → starts t (b ++ s) c ≡ true
     → (among c (firsts t b) ≡ true) ⊎ ((vanishes t b ≡ true) × (starts t s c ≡ true))
 starts-append t [] s c h = inr (refl, h)
 starts-append t (Terminal d k ∷ b) s c h = inl (or_left (c == d) false h)
 starts-append t (Action a ∷ b) s c h = starts-append t b s c h
-starts-append t (Nonterminal n ∷ b) s c h = elim (or_true (among c (first_of t n)) (empty_of t n && starts t (b ++ s) c) h) [
+starts-append t (Nonterminal n ∷ b) s c h = elim (or_cases (among c (first_of t n)) (empty_of t n && starts t (b ++ s) c) h) [
   | inl f ↦ inl (among-append c (first_of t n) (cond (empty_of t n) (firsts t b) []) ∙ or_left (among c (first_of t n)) (among c (cond (empty_of t n) (firsts t b) [])) f)
-  | inr e ↦ let p = and_true (empty_of t n) (starts t (b ++ s) c) e in elim (starts-append t b s c p.1) [
+  | inr e ↦ let p = and_parts (empty_of t n) (starts t (b ++ s) c) e in elim (starts-append t b s c p.1) [
     | inl f ↦ inl (among-append c (first_of t n) (cond (empty_of t n) (firsts t b) []) ∙ or_right (among c (first_of t n)) (among c (cond (empty_of t n) (firsts t b) [])) (rw p.0 f))
-    | inr v ↦ inr (and_both (empty_of t n) (vanishes t b) p.0 v.0, v.1)
+    | inr v ↦ inr (and_from (empty_of t n) (vanishes t b) p.0 v.0, v.1)
   ]
 ]
 
 good-append : {W B : Type 0} → (t : Tables) (after : List ℕ) (b s : List (Symbol W B)) → Follows t after b
     → ((c : ℕ) → starts t s c ≡ true → among c after ≡ true) → IsGood t s → IsGood t (b ++ s)
 good-append t after [] s f h g = g
-good-append t after (Terminal d k ∷ b) s f h g = good-append t after b s f h g
-good-append t after (Action a ∷ b) s f h g = good-append t after b s f h g
 good-append t after (Nonterminal n ∷ b) s f h g = (
   (λ c e. elim (starts-append t b s c e) [ inl i ↦ f.0 c i | inr v ↦ f.1 v.0 c (h c v.1) ]),
   good-append t after b s f.2 h g,
 )
+good-append t after (x ∷ b) s f h g = good-append t after b s f h g
 
 reads_or_not : {a b : ℕ} → a ≤ b → (a ≡ b) ⊎ (a < b)
 reads_or_not {a} {b} h = eq-or-lt_of_le h
@@ -80,7 +55,7 @@ module _ {W B X S : Type 0} (g : Grammar W B X S) (t : Tables) (p : Decides g.ru
   starts-body : (n : ℕ) (b s : List (Symbol W B)) (c : ℕ) → Has b (alternatives g.rules n) → starts t (b ++ s) c ≡ true → starts t (Nonterminal n ∷ s) c ≡ true
   starts-body n b s c m h = elim (starts-append t b s c h) [
     | inl f ↦ or_left (among c (first_of t n)) (empty_of t n && starts t s c) (p.begins n c b m f)
-    | inr v ↦ or_right (among c (first_of t n)) (empty_of t n && starts t s c) (and_both (empty_of t n) (starts t s c) (p.empties n b m v.0) v.1)
+    | inr v ↦ or_right (among c (first_of t n)) (empty_of t n && starts t s c) (and_from (empty_of t n) (starts t s c) (p.empties n b m v.0) v.1)
   ]
 
   picked : (n : ℕ) (b s : List (Symbol W B)) (c : ℕ) → Has b (alternatives g.rules n) → IsGood t (Nonterminal n ∷ s) → starts t (b ++ s) c ≡ true → pick g.rules t n c ≡ Some b
@@ -117,12 +92,10 @@ module _ {W B X S : Type 0} (g : Grammar W B X S) (t : Tables) (p : Decides g.ru
 
   module _ (over : S → Bool) where
     pub fits : {s : List (Symbol W B)} {v : S} {ts : List X} {k : ℕ} → Leads g over t s v ts (Stops k) → k ≤ length ts
-    fits more = omega arith
     fits (goes b e l) = fits l
     fits (take {xs = xs} e f l) = let h = fits l in omega arith
     fits (make l) = fits l
-    fits (wrong e) = omega arith
-    fits (lost e) = omega arith
+    fits x = omega arith
 
     fits_excess : {s : List (Symbol W B)} {v : S} {ts : List X} {k : ℕ} → Leads g over t s v ts (Exceeds k) → k ≤ length ts
     fits_excess (goes b e l) = fits_excess l
@@ -141,12 +114,10 @@ module _ {W B X S : Type 0} (g : Grammar W B X S) (t : Tables) (p : Decides g.ru
       -- A derivation leads to the position where the machine stops.
       pub reached : {s : List (Symbol W B)} {v : S} {ts : List X} {k : ℕ} → Leads g over t s v ts (Stops k)
           → (s' : List (Symbol W B)) × (v' : S) × (r : List X) × (length r ≡ k) × Derives g s v ts s' v' r
-      reached {s = s} {v = v} {ts = ts} more = (s, v, ts, refl, stay)
       reached (goes {n = n} {xs = xs} b e l) = let h = reached l in (h.0, h.1, h.2, h.3, expand b (picks_rule n (look g xs) b e) h.4)
       reached (take e f l) = let h = reached l in (h.0, h.1, h.2, h.3, read e h.4)
       reached (make l) = let h = reached l in (h.0, h.1, h.2, h.3, build h.4)
-      reached {s = s} {v = v} {ts = ts} (wrong e) = (s, v, ts, refl, stay)
-      reached {s = s} {v = v} {ts = ts} (lost e) = (s, v, ts, refl, stay)
+      reached {s = s} {v = v} {ts = ts} x = (s, v, ts, refl, stay)
 
       pub reached_excess : {s : List (Symbol W B)} {v : S} {ts : List X} {k : ℕ} → Leads g over t s v ts (Exceeds k)
           → (s' : List (Symbol W B)) × (v' : S) × (r : List X) × (suc (length r) ≡ k) × (over v' ≡ true) × Derives g s v ts s' v' r
@@ -169,10 +140,9 @@ module _ {W B X S : Type 0} (g : Grammar W B X S) (t : Tables) (p : Decides g.ru
     unreached (take e f l) q (read e' d) h = unreached l q d h
     unreached (make l) q stay h = elim h [ inl i ↦ (let j = fits l in omega arith) | inr i ↦ cc ]
     unreached (make l) q (build d) h = unreached l q d h
-    unreached (wrong e) q stay h = elim h [ inl i ↦ omega arith | inr i ↦ cc ]
     unreached (wrong e) q (read e' d) h = e e'
-    unreached (lost e) q stay h = elim h [ inl i ↦ omega arith | inr i ↦ cc ]
     unreached (lost {n = n} {s = s} {xs = xs} e) q (expand c m d) h = cc (e, picked n c s (look g xs) m q (starts_run d h))
+    unreached x q stay h = elim h [ inl i ↦ omega arith | inr i ↦ cc ]
 
     -- A sentence builds only what was accepted.
     pub only : {s : List (Symbol W B)} {v w : S} {ts : List X} {v' : S} → Leads g over t s v ts (Accepts w) → IsGood t s → Derives g s v ts [] v' [] → v' ≡ w
@@ -210,9 +180,8 @@ module _ {W B X S : Type 0} (g : Grammar W B X S) (t : Tables) (p : Decides g.ru
           ]
       within_before (take e f l) q z (read e' d) h = within_before l q f d h
       within_before (make {a = a} {v = v} l) q z (build d) h = within_before l q (keeps a v ∙ z) d h
-      within_before (wrong e) q z d h = still d h ∙ z
-      within_before (lost e) q z d h = still d h ∙ z
       within_before (exceed {xs = xs} e f) q z (read e' d) h = let j = shorter d in absurd (omega arith)
+      within_before x q z d h = still d h ∙ z
 
       module _ (stays : (k : W) (x : X) (v : S) → over v ≡ true → over (g.reads k x v) ≡ true) where
         -- A count that has passed the limit stays so.

@@ -1,35 +1,18 @@
 -- Declarations that violate no rule: their numbers fit, and a register or file is found under its name.
-use Rattle.std.proofs.Common.{◌≡◌, ◌∙◌, ℕ, zero, suc, ◌+◌, ◌^◌, ◌<◌, ◌≤◌, List, [], ◌∷◌, ◌++◌, map, Option, Some, None, Bool, true, false, cond, refl, ap, sym, subst, arith}
-use Rattle.std.proofs.lemmas.{Bool.leb-true, Bool.ltb-true, Bool.eqb-true, List.map-append, List.append_assoc}
-use Rattle.std.specs.{Prelude.◌&&◌, Prelude.not, Prelude.nat_eq, Prelude.is_some, List.All, Cmp.Lexicographic.pointwise, Cmp.Lexicographic.nat_list_eq_equiv}
+use Rattle.std.proofs.Common.{◌≡◌, ◌∙◌, ℕ, ◌+◌, ◌^◌, ◌<◌, ◌≤◌, List, [], ◌∷◌, ◌++◌, map, Option, Some, None, Bool, true, false, cond, refl, ap, sym, subst}
+use Rattle.std.proofs.lemmas.{Bool.leb-true, Bool.ltb-true, Bool.eqb-true, Bool.and_parts, List.map-append, List.append_assoc}
+use Rattle.std.proofs.lemmas.List.Elements.{All-nil, All-cons}
+use Rattle.std.specs.{Prelude.not, Prelude.nat_eq, Prelude.is_some, List.All, Cmp.Lexicographic.pointwise, Cmp.Lexicographic.nat_list_eq_equiv}
 use Rattle.kp_base.specs.{First.first, Check.ok, Check.◌>>=◌}
 use Rattle.kp_base.proofs.First.{first_append_none}
 use Rattle.kp_bits.specs.Word.{IsWord, word}
-use Rattle.kp_ast.specs.declared.tree.{Lit.Lit, Param.Param, Decl.Decl}
+use Rattle.kp_ast.specs.declared.tree.{Lit.Lit, Decl.Decl}
 use Rattle.kp_ast.specs.declared.tree.Decl.TheVariants as decls
 use Rattle.kp_ast.specs.declared.widths.NameKind.TheVariants as kinds
-use Rattle.kp_width.specs.Names.{Names, Sense, sense, Scoped, look_up, or_else, declared_text, declared_local}
-use Rattle.kp_width.specs.Declarations.{declared, start_of, started_of, function_opened, parameters_of, name_of, after_name, declaration_of, declarations_of, functions_in}
-use Rattle.kp_width.proofs.Unbroken.{Unbroken, bind_unbroken, answer_unbroken}
+use Rattle.kp_width.specs.Names.{Names, Sense, sense, Scoped, look_up, or_else, declared_text}
+use Rattle.kp_width.specs.Declarations.{declared, start_of, started_of, function_opened, name_of, after_name, declaration_of, declarations_of, functions_in}
+use Rattle.kp_width.proofs.{Unbroken.Unbroken, Unbroken.bind_unbroken, Unbroken.answer_unbroken, Calls.parameters_text}
 use Rattle.kp_image.specs.Sections.{storage_in, storage_named, storage_of}
-
-pub all_none : {X : Type 0} (P : X → Type 0) → All P []
-all_none P k d h = absurd (omega arith)
-
-pub all_more : {X : Type 0} (P : X → Type 0) (x : X) (xs : List X) → P x → All P xs → All P (x ∷ xs)
-all_more P x xs here more zero d h = here
-all_more P x xs here more (suc k) d h = more k d (omega arith)
-
-pub all_head : {X : Type 0} (P : X → Type 0) (x : X) (xs : List X) → All P (x ∷ xs) → P x
-all_head P x xs all = all 0 x (omega arith)
-
-pub all_tail : {X : Type 0} (P : X → Type 0) (x : X) (xs : List X) → All P (x ∷ xs) → All P xs
-all_tail P x xs all k d h = all (suc k) d (omega arith)
-
-pub both_true : (a b : Bool) → (a && b) ≡ true → (a ≡ true) × (b ≡ true)
-both_true true true e = (refl, refl)
-both_true true false e = cc
-both_true false b e = cc
 
 -- a literal that is right is a word as wide as what it is given to
 pub record IsFit (l : Lit) (w : ℕ) : Type 0 where
@@ -45,7 +28,7 @@ fits l w e =
     let a = answer_unbroken _ _ _ e in
     let b = answer_unbroken _ _ _ a.1 in
     let c = answer_unbroken _ _ _ b.1 in
-    let wide = both_true _ _ a.0 in
+    let wide = and_parts _ _ a.0 in
     fit_at l w (eqb-true _ _ c.0) (leb-true _ _ wide.0) (leb-true _ _ wide.1) (ltb-true _ _ b.0)
 
 -- what the numbers of a declaration are
@@ -64,22 +47,15 @@ right ds i k s (decls.Reg n width start) e =
 right ds i k s (decls.File n width address) e =
     let a = answer_unbroken _ _ _ e in
     let b = answer_unbroken _ _ _ a.1 in
-    let wide = both_true _ _ a.0 in
-    let few = both_true _ _ b.0 in
+    let wide = and_parts _ _ a.0 in
+    let few = and_parts _ _ b.0 in
     (leb-true _ _ wide.0, leb-true _ _ wide.1, leb-true _ _ few.1)
-right ds i k s (decls.Pipe n width) e = tt
-right ds i k s (decls.Hint n width start) e = tt
 right ds i k s (decls.Sample n width stage) e =
-    let wide = both_true _ _ (answer_unbroken _ _ _ e).0 in
+    let wide = and_parts _ _ (answer_unbroken _ _ _ e).0 in
     (leb-true _ _ wide.0, leb-true _ _ wide.1)
-right ds i k s (decls.Target r) e = tt
-right ds i k s (decls.Func f) e = tt
+right ds i k s x e = tt
 
 -- a declaration brings its name into scope, after those of the text
-parameters_text : (i : ℕ) (s : Scoped) (ps : List Param) → (parameters_of i s ps).value.text ≡ s.text
-parameters_text i s [] = refl
-parameters_text i s (p ∷ ps) = parameters_text i (declared_local s p.name.name (sense kinds.Param p.width.value i)) ps
-
 abbrev Adds : Names → List ℕ → Names → Type 0
 Adds old name new = (m : Sense) × (new ≡ old ++ (name, m) ∷ [])
 
@@ -117,11 +93,8 @@ Hides front text = (q : List ℕ) → look_up text q ≡ None → storage_of fro
 not_named : (d : Decl) (q : List ℕ) → pointwise nat_eq q (name_of d).name ≡ false → storage_named q d ≡ None
 not_named (decls.Reg n width start) q e = rw (nat_list_eq_equiv.symm n.name q ∙ e) refl
 not_named (decls.File n width address) q e = rw (nat_list_eq_equiv.symm n.name q ∙ e) refl
-not_named (decls.Pipe n width) q e = refl
-not_named (decls.Hint n width start) q e = refl
 not_named (decls.Sample n width stage) q e = rw (nat_list_eq_equiv.symm n.name q ∙ e) refl
-not_named (decls.Target r) q e = refl
-not_named (decls.Func f) q e = refl
+not_named x q e = refl
 
 storage_past : (front rest : List Decl) (q : List ℕ) → storage_of front q ≡ None → storage_of (front ++ rest) q ≡ storage_of rest q
 storage_past front rest q none = ap first (map-append (storage_named q) front rest) ∙ first_append_none (map (storage_named q) front) (map (storage_named q) rest) none
@@ -144,20 +117,14 @@ IsFound all _ = Unit {0}
 found_here : (d : Decl) (rest : List Decl) → IsFound (d ∷ rest) d
 found_here (decls.Reg n width start) rest = rw (nat_list_eq_equiv.refl n.name) refl
 found_here (decls.File n width address) rest = rw (nat_list_eq_equiv.refl n.name) refl
-found_here (decls.Pipe n width) rest = tt
-found_here (decls.Hint n width start) rest = tt
 found_here (decls.Sample n width stage) rest = rw (nat_list_eq_equiv.refl n.name) refl
-found_here (decls.Target r) rest = tt
-found_here (decls.Func f) rest = tt
+found_here x rest = tt
 
 found_past : (front rest : List Decl) (d : Decl) → storage_of front (name_of d).name ≡ None → IsFound rest d → IsFound (front ++ rest) d
 found_past front rest (decls.Reg n width start) none found = storage_past front rest n.name none ∙ found
 found_past front rest (decls.File n width address) none found = storage_past front rest n.name none ∙ found
-found_past front rest (decls.Pipe n width) none found = tt
-found_past front rest (decls.Hint n width start) none found = tt
 found_past front rest (decls.Sample n width stage) none found = storage_past front rest n.name none ∙ found
-found_past front rest (decls.Target r) none found = tt
-found_past front rest (decls.Func f) none found = tt
+found_past front rest x none found = tt
 
 text_none : (a b : Option Sense) → not (is_some (or_else a b)) ≡ true → b ≡ None
 text_none None None e = refl
@@ -170,7 +137,7 @@ pub record IsSettled (all : List Decl) (d : Decl) : Type 0 where
   pub found : IsFound all d
 
 settled_from : (ds : List Decl) (i k : ℕ) (s : Scoped) (front rest : List Decl) → Unbroken (declarations_of ds i k s rest) → Hides front s.text → All (IsSettled (front ++ rest)) rest
-settled_from ds i k s front [] e hides = all_none (IsSettled (front ++ []))
+settled_from ds i k s front [] e hides = All-nil (IsSettled (front ++ []))
 settled_from ds i k s front (d ∷ rest) e hides =
     let a = bind_unbroken (declaration_of ds i k s d) (λ t. declarations_of ds (i + 1) (k + functions_in d) t rest) e in
     let b = answer_unbroken _ _ _ a.0 in
@@ -178,7 +145,7 @@ settled_from ds i k s front (d ∷ rest) e hides =
     let t = (after_name ds i k s d).value in
     let more = settled_from ds (i + 1) (k + functions_in d) t (front ++ d ∷ []) rest a.1 (hides_more front d s.text t.text hides (adds ds i k s d)) in
     let all : All (IsSettled (front ++ d ∷ rest)) rest = subst (λ (xs : List Decl). All (IsSettled xs) rest) (append_assoc front (d ∷ []) rest) more in
-    all_more (IsSettled (front ++ d ∷ rest)) d rest
+    All-cons (IsSettled (front ++ d ∷ rest)) d rest
     (record { right = right ds i k s d b.1; found = found_past front (d ∷ rest) d (hides (name_of d).name none) (found_here d rest) })
     all
 

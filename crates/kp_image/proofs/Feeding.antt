@@ -22,12 +22,7 @@ given_same (e ∷ es) name cycle v =
 row_same : (es : List Inputs) (ds : List Decl) (cycle : ℕ) → row_in (feeds_of es ds) cycle ≡ input_row es ds cycle
 row_same es [] cycle = refl
 row_same es (decls.Sample n width stage ∷ ds) cycle = λ i. word width.value (given_same es n.name cycle 0 i) ∷ row_same es ds cycle i
-row_same es (decls.Reg n width start ∷ ds) cycle = row_same es ds cycle
-row_same es (decls.File n width address ∷ ds) cycle = row_same es ds cycle
-row_same es (decls.Pipe n width ∷ ds) cycle = row_same es ds cycle
-row_same es (decls.Hint n width start ∷ ds) cycle = row_same es ds cycle
-row_same es (decls.Target r ∷ ds) cycle = row_same es ds cycle
-row_same es (decls.Func f ∷ ds) cycle = row_same es ds cycle
+row_same es (x ∷ ds) cycle = row_same es ds cycle
 
 -- the rows of a job
 pub rows_of_feeds : (job : Job) → row_in (feeds_of (inputs_of job) job.decls) ≡ input job

@@ -2,6 +2,7 @@
 use Rattle.std.proofs.Common.{◌≡◌, ◌≢◌, ◌∙◌, inl, inr, ℕ, zero, suc, ◌+◌, ◌-◌, ◌<◌, ◌≤◌, List, [], ◌∷◌, length, take, drop, get_or, set, None, Bool, true, false, refl, ap, sym, subst, arith}
 use Rattle.std.proofs.lemmas.Bool.{cases_lt, cases_eq, lt-leb, le-leb, ne_eqb}
 use Rattle.std.proofs.lemmas.List.{drop_more, nil_from_length, get_or-set_same, get_or-set_other, get_or-take, length-take-le}
+use Rattle.std.proofs.Math.Bool.{or-false, or-true, or_assoc}
 use Rattle.std.specs.Prelude.{◌&&◌, ◌||◌, ◌==◌, ◌^◌, nat_le, unwrap_or, if◌then◌else◌, option_map, slice_get}
 use Rattle.std.specs.List.{All}
 use Rattle.kp_ast.specs.declared.tree.{Lit.Lit, Image.Image}
@@ -82,18 +83,6 @@ other_stage s k cycle other =
     let differ : (s.stage == k) ≡ false = ne_eqb s.stage k (λ e. other (sym e)) in
     ap (λ (b : Bool). holds_at b s cycle) differ
 
-or_false : (b : Bool) → (b || false) ≡ b
-or_false true = refl
-or_false false = refl
-
-or_true : (b : Bool) → (b || true) ≡ true
-or_true true = refl
-or_true false = refl
-
-or_assoc : (a b c : Bool) → ((a || b) || c) ≡ (a || (b || c))
-or_assoc true b c = refl
-or_assoc false b c = refl
-
 at_span : (spans : List Span) (i : ℕ) (d : Span) (k cycle : ℕ) → i < length spans → some_stalls (drop i spans) k cycle ≡ (span_stalls (get_or spans i d) k cycle || some_stalls (drop (i + 1) spans) k cycle)
 at_span spans i d k cycle h = ap (λ (ss : List Span). some_stalls ss k cycle) (drop_more spans i d h)
 
@@ -101,9 +90,9 @@ held_at : (stalled : List Bool) (s : Span) (k cycle : ℕ) → s.stage < length 
     → get_or (set stalled s.stage true) k false ≡ (get_or stalled k false || span_stalls s k cycle)
 held_at stalled s k cycle h holds = elim (cases_eq k s.stage) [
   | inl same ↦ subst (λ (j : ℕ). get_or (set stalled s.stage true) j false ≡ (get_or stalled j false || span_stalls s j cycle)) (sym same)
-      (get_or-set_same stalled s.stage true false h ∙ sym (ap (λ (b : Bool). get_or stalled s.stage false || b) holds ∙ or_true (get_or stalled s.stage false)))
+      (get_or-set_same stalled s.stage true false h ∙ sym (ap (λ (b : Bool). get_or stalled s.stage false || b) holds ∙ or-true (get_or stalled s.stage false)))
   | inr other ↦ get_or-set_other stalled s.stage k true false other
-      ∙ sym (ap (λ (b : Bool). get_or stalled k false || b) (other_stage s k cycle other) ∙ or_false (get_or stalled k false))
+      ∙ sym (ap (λ (b : Bool). get_or stalled k false || b) (other_stage s k cycle other) ∙ or-false (get_or stalled k false))
 ]
 
 missed_at : (s : Span) (k cycle : ℕ) → span_stalls s s.stage cycle ≡ false → span_stalls s k cycle ≡ false
