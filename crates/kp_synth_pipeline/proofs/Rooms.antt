@@ -16,7 +16,8 @@ use Rattle.kp_machine.proofs.{Cases.by_test, Stages.stages_inside}
 use Rattle.kp_synth_tables.specs.Keys.{guesses_of}
 use Rattle.kp_synth_tables.proofs.{Fitting.fits, Limits.targets_counted, Limits.pipes_counted, Limits.hints_counted, Limits.guesses_counted}
 use Rattle.kp_synth_stage.specs.Work.{stmts_at, extra_of, cost_of, costs_of}
-use Rattle.kp_synth_stage.proofs.{Scoping.IsRight, Scoping.is_right, Setting.set_right}
+use Rattle.kp_synth_stage.specs.inner.Standing.{StmtRight}
+use Rattle.kp_synth_stage.proofs.{Scoping.is_right, Setting.set_right}
 use Rattle.kp_synth_pipeline.specs.Stages.{guess_room, stages_room}
 use Rattle.kp_synth_pipeline.proofs.Rules.{StandFrom, stand_next, stand_here}
 
@@ -128,7 +129,7 @@ module _ (job : Job) (right : Unbroken (widths_of job)) (kept : broken_of job �
 
   one_more : (k j : ℕ) (s : Stmt) (x : StmtKind) (ss : List Stmt) → s.kind ≡ x → StandFrom job k j (s ∷ ss) → hits ss job.decls + is_set x ≤ hits (s ∷ ss) job.decls
   one_more k j s (stmts.Set n e when) ss is h =
-      let r = set_right job right k j n e when (subst (λ (y : StmtKind). IsRight job k j y) is (is_right job k j s right kept (stand_here job k j s ss h))) in
+      let r = set_right job right k j n e when (subst (λ (y : StmtKind). StmtRight job k j y) is (is_right job k j s right kept (stand_here job k j s ss h))) in
       let here : sets n.name s.kind ≡ true = subst (λ (y : StmtKind). sets n.name y ≡ true) (sym is) ((bytes_decides n.name n.name).1 refl) in
       hits_new s ss n.name job.decls r.result r.named here (set_new k j s ss n.name h here)
   one_more k j s x ss is h = let more = hits_more s ss job.decls in omega (arith, more)

@@ -12,7 +12,9 @@ use Rattle.kp_machine.proofs.Stages.{stages_inside}
 use Rattle.kp_synth_tables.specs.declared.key.GuessSlot.{GuessSlot}
 use Rattle.kp_synth_tables.specs.Keys.{target_at, no_guess, guess_slot, with_read, with_guess, guesses_in, guesses_from, guesses_of}
 use Rattle.kp_synth_stage.specs.Work.{stmts_at}
-use Rattle.kp_synth_stage.proofs.{Scoping.IsRight, Scoping.is_right, Steps.slot_width, Taking.ReadRight, Taking.Asks, Taking.read_right}
+use Rattle.kp_synth_tables.proofs.Fitting.{width_there}
+use Rattle.kp_synth_stage.specs.inner.Standing.{StmtRight}
+use Rattle.kp_synth_stage.proofs.{Scoping.is_right, Taking.ReadRight, Taking.Asks, Taking.read_right}
 use Rattle.kp_synth_pipeline.specs.inner.Whole.{GuessOk, GuessesOk, RulesGive}
 
 -- each entry of a list
@@ -37,7 +39,7 @@ module _ (job : Job) (right : Unbroken (widths_of job)) (kept : broken_of job �
   guess_right k j i r e is read = record {
     target = read.inside;
     register = subst (λ (o : Option Expr). Asks job k j (target_at job (guess_slot job k i r).register).address o) (read.plain e is) read.asks;
-    width = sym (slot_width (targets_of job.decls) r.target.name read.inside);
+    width = sym (width_there r.target.name (targets_of job.decls) read.inside);
   }
 
   guess_in : (k j i : ℕ) (r : ReadStmt) (o : Option Expr) (rest : ℕ → List GuessSlot) → r.guess ≡ o → ReadRight job k j r
@@ -48,7 +50,7 @@ module _ (job : Job) (right : Unbroken (widths_of job)) (kept : broken_of job �
   guess_of : (k j i : ℕ) (s : Stmt) (x : StmtKind) (rest : ℕ → List GuessSlot) → s.kind ≡ x → slice_get (stmts_at job k) j ≡ Some s
       → ((m : ℕ) → AllByRecursion (GuessOk job) (rest m)) → AllByRecursion (GuessOk job) (with_guess job k i x rest)
   guess_of k j i s (stmts.Read r) rest e at more =
-      guess_in k j i r r.guess rest refl (read_right job right k j r (subst (λ (y : StmtKind). IsRight job k j y) e (is_right job k j s right kept at))) more
+      guess_in k j i r r.guess rest refl (read_right job right k j r (subst (λ (y : StmtKind). StmtRight job k j y) e (is_right job k j s right kept at))) more
   guess_of k j i s x rest e at more = more i
 
   guesses_right : (k j i : ℕ) (ss : List Stmt) → StandFrom job k j ss → AllByRecursion (GuessOk job) (guesses_in job k i ss)
