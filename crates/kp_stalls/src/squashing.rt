@@ -74,7 +74,7 @@ fn only(sites: &Sites, occupants: &Occupants<'_>, k: usize) -> Option<usize>
 }
 
 // Whether the instructions in the stages from number `from` on all retire.
-#[tactic(auto, using(crate::proofs::Steps::retire_here, crate::proofs::Steps::retire_end))]
+#[tactic(auto, using(crate::proofs::Steps::retire_here, crate::proofs::Steps::retire_next, crate::proofs::Steps::retire_end))]
 fn all_retire(occupants: &Occupants<'_>, from: usize, stages: usize) -> bool
     ensures { result ≡ all_retire_in occupants.now (stages - from) from }
 {

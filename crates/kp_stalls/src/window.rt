@@ -130,6 +130,7 @@ fn ring_of(alloc: Global, d: &Design, reads: usize) -> Result<Vec<Flight>, NoMem
 }
 
 // The machine executes the next instruction, and what it reports is stored at a place.
+#[tactic(auto, using(crate::proofs::Windows::targets_many))]
 fn run_next(
     machine: &mut SeqMachine<'_>,
     sites: &Sites,

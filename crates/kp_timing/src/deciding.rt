@@ -144,6 +144,7 @@ fn some_unmet(sites: &Sites, held: &Pipeline, blocked: &[bool; 13], k: usize) ->
 }
 
 /// Which stages wait and which are blocked under a stall word with bit k for stage k, decided from the last stage down.
+#[tactic(auto, using(crate::proofs::Stepping::found_next))]
 pub(crate) fn find(sites: &Sites, held: &Pipeline, ext: u16) -> Found
     requires hold { length held.now.hold ≡ 12 }
     requires recorded { sites.now.stages ≤ length held.now.recorded }
@@ -187,6 +188,7 @@ impl Found {
 
 /// Moves the instructions on, from the last stage down: each stage receives the instruction of the one before it if that one moves on, keeps its own
 /// if it is blocked, and is empty otherwise. Stage 0 is left unchanged.
+#[tactic(auto, using(crate::proofs::Moving::taken_count, crate::proofs::Stepping::taken_next))]
 pub(crate) fn move_on(held: &mut Pipeline, blocked: &[bool; 13], stages: usize)
     requires hold { length held.old.hold ≡ 12 }
     requires recorded { stages ≤ length held.old.recorded }

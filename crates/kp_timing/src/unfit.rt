@@ -28,6 +28,7 @@ fn first_sample(decls: &[Decl]) -> Option<Place>
     first
 }
 
+#[tactic(auto, using(crate::proofs::Places::guesses_next))]
 fn first_guess(blocks: &[Block], before: Option<Place>) -> Option<Place>
     ensures { result ≡ first_of before (guesses_at blocks.now) }
 {
