@@ -17,12 +17,6 @@ module _ (a : Word) (n : ℕ) (h : IsWord a) where
   abbrev top : ℕ
   top = a.width - 1
 
-  one_bit : top + 1 - top ≡ 1
-  one_bit = omega arith
-
-  half : 2 ^ a.width ≡ 2 ^ top + 2 ^ top
-  half = let p = h.positive in let e : a.width ≡ suc top = omega arith in ap (λ k. 2 ^ k) e ∙ two-pow-succ top
-
   low : a.value < 2 ^ top → sext_of a (n + a.width) ≡ concat_of (copies n a) a
   low c =
       let bit : a.value / 2 ^ top % 2 ^ (top + 1 - top) ≡ 0 = rw (div-eq_of_lt c) (omega arith) in
@@ -34,7 +28,10 @@ module _ (a : Word) (n : ℕ) (h : IsWord a) where
   high : 2 ^ top ≤ a.value → sext_of a (n + a.width) ≡ concat_of (copies n a) a
   high c =
       let f = h.fits in
-      let m = half in
+      let p = h.positive in
+      let e : a.width ≡ suc top = omega arith in
+      let m = ap (λ k. 2 ^ k) e ∙ two-pow-succ top in
+      let one_bit : top + 1 - top ≡ 1 = omega arith in
       let one : a.value / 2 ^ top ≡ 1 = div-eq_of_lt-le (2 ^ top) (omega arith) (omega arith) in
       let bit : a.value / 2 ^ top % 2 ^ (top + 1 - top) ≡ 1 = rw (one, one_bit) refl in
       let new : copies n a ≡ not_of (word n 0) = ap (λ t. cond (eqb t 1) (not_of (word n 0)) (word n 0)) bit in
