@@ -5,3 +5,4 @@ pub mod Sampled
 pub mod Sampleless
 pub mod Showing
 pub mod WorkedRuns
+pub mod Proved

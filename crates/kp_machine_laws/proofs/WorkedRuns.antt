@@ -254,3 +254,5 @@ odd-x = ap (λ (m : Machine). seq m (state_of odd (start_of odd)) no_samples 4 0
 pub odd-y : sequential odd no_samples 4 1 0 ≡ 12
 unfolding before_stage seq machine_of result_for state_of start_of
 odd-y = ap (λ (m : Machine). seq m (state_of odd (start_of odd)) no_samples 4 1 0) (computed odd odd_body odd_trees) ∙ refl
+
+pub ruleset runs = (late3-two, late3-shown, late3-value, hint3-one, hint3-shown, hint3-value, near-four, near-other, near-shown, odd-x, odd-y)

@@ -1,4 +1,5 @@
 //! Small jobs and their runs, by computation. The values and rows were computed by an independent program.
+#![tactic(auto, using(crate::proofs::WorkedRuns::runs))]
 
 ghost use Rattle.std.specs.Prelude.{◌≡◌};
 ghost use Rattle.kp_pipeline.specs.Timeline.{no_samples};

@@ -1,5 +1,6 @@
 //! The laws of the machine of a design. `s` is a start state by target and address, `hints` are start values of the hints, and
 //! `ins` are the inputs of the cycles: a stall word and the values of the samples for each.
+#![tactic(auto, using(crate::proofs::Proved::laws))]
 
 ghost use Rattle.std.specs.Prelude.{◌≡◌, ℕ, ◌≤◌, List, length, true, false, None};
 ghost use Rattle.kp_base.specs.First.{first};

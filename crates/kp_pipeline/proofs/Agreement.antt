@@ -2,8 +2,7 @@ use Rattle.std.specs.List.{AllByRecursion}
 use Rattle.std.proofs.Common.{◌≡◌, ℕ, ◌+◌, ◌≤◌, true, false, Option, Some, None, refl, ap, ap₂, ◌∙◌, ◌⊎◌, inl, inr, ⊎_elim, arith}
 use Rattle.std.proofs.lemmas.Bool.{true≢false}
 use Rattle.kp_pipeline.specs.Machine.{Ask, Done, Guess, Machine, Tree}
-use Rattle.kp_pipeline.specs.Sequential.{Instruction, PendingGuess, StageOutcome, after_stage, run}
-use Rattle.kp_pipeline.specs.Accepted.{Fits}
+use Rattle.kp_pipeline.specs.{Sequential.Instruction, Sequential.PendingGuess, Sequential.StageOutcome, Sequential.after_stage, Sequential.run, Accepted.Fits}
 
 -- A guess is right if it is the register's value in the state s.
 abbrev pub IsRight : (ℕ → ℕ → ℕ) → PendingGuess → Type 0

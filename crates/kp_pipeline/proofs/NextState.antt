@@ -5,8 +5,8 @@ use Rattle.kp_pipeline.specs.Pipeline.{Inputs, PipelineState, above, back, candi
 use Rattle.kp_pipeline.specs.Machine.{Machine}
 use Rattle.kp_pipeline.specs.Sequential.{PendingGuess, after_stage, first_value, intends, is_written}
 use Rattle.kp_pipeline.specs.Accepted.{Accepted}
-use Rattle.kp_pipeline.proofs.Cycle.{greatest-above, greatest-at, truth-in, ue-from}
-use Rattle.kp_pipeline.proofs.{Sequential.GuessedIn, Sequential.run-guessed, Truths.truth-own, Movement.ue-empty}
+use Rattle.kp_pipeline.proofs.{Cycle.greatest-above, Cycle.greatest-at, Cycle.truth-in, Cycle.ue-from, Sequential.GuessedIn, Sequential.run-guessed}
+use Rattle.kp_pipeline.proofs.{Truths.truth-own, Movement.ue-empty}
 
 -- WHAT THE CYCLE DOES TO THE STATE. No guess of a list that doesn't mismatch differs from its truth.
 pub no_differs : (view : ℕ → ℕ → Option ℕ) (xs : List PendingGuess) → some_differs view xs ≡ false

@@ -1,10 +1,8 @@
 use Rattle.std.proofs.Common.{◌≡◌, ℕ, zero, suc, ◌<◌, Bool, Option, Some, unwrap_or, refl, sym, ap, ◌∙◌, arith}
-use Rattle.kp_pipeline.specs.Sequential.{before_stage, instruction_before, seq}
-use Rattle.kp_pipeline.specs.{Accepted.Accepted, Accepted.Fits, Examples.no_hints, Examples.quiet, Examples.quiets, Examples.zeros}
-use Rattle.kp_pipeline.specs.Timeline.{start_hold}
+use Rattle.kp_pipeline.specs.{Sequential.before_stage, Sequential.instruction_before, Sequential.seq, Accepted.Accepted, Accepted.Fits}
+use Rattle.kp_pipeline.specs.{Examples.no_hints, Examples.quiet, Examples.quiets, Examples.zeros, Timeline.start_hold}
 use Rattle.kp_pipeline.specs.SpeculativeTimeline.{blocked, hints_after, moves_on, next_hold, ready_above, ready_from, setting_stage, waits}
-use Rattle.kp_pipeline.specs.RightPath.{MakesRightGuesses, NoWrongGuess}
-use Rattle.kp_pipeline.specs.SpeculativeExamples.{right3, right3_body}
+use Rattle.kp_pipeline.specs.{RightPath.MakesRightGuesses, RightPath.NoWrongGuess, SpeculativeExamples.right3, SpeculativeExamples.right3_body}
 use Rattle.kp_pipeline.proofs.WorkedRuns.{no_sample-accepted}
 
 -- THE WORKED RUNS, by computation.
