@@ -1,6 +1,6 @@
 -- Registers and files take the values of nodes.
-use Rattle.std.proofs.Common.{◌≡◌, ◌==◌, ℕ, Bool, true, false, cond, suc, ◌+◌, ◌<◌, ◌≤◌, ◌^◌, List, [], ◌∷◌, length, get_or, set, map, refl, sym, subst, ap, ◌∙◌, arith, ⊎_elim, Option, None, Some}
-use Rattle.std.proofs.lemmas.{Bool.cases_lt, List.get_or-set_other, List.length-set, List.get_or-map, List.same_lists, List.get_or_default, Grind.get_or-set_at}
+use Rattle.std.proofs.Common.{◌≡◌, ◌≢◌, ◌==◌, ℕ, Bool, true, false, cond, suc, ◌+◌, ◌<◌, ◌≤◌, ◌^◌, List, [], ◌∷◌, ◌++◌, length, get_or, set, map, refl, sym, subst, ap, ◌∙◌, arith, ⊎_elim, Option, None, Some}
+use Rattle.std.proofs.lemmas.{Bool.cases_lt, Bool.cases_eq, List.get_or-set_other, List.length-set, List.get_or-map, List.ext_get_or, List.length-map, List.get_or_append_left, List.get_or_push, List.length_push, Grind.get_or-set_at}
 use Rattle.std.proofs.lemmas.{List.Elements.All-get_or, Slice.Zip.get_or-zip, Slice.Zip.length-zip}
 use Rattle.std.specs.List.{zip}
 use Rattle.kp_net.specs.declared.{node.Node.Node, netlist.NetReg.NetReg, netlist.NetFile.NetFile, netlist.WritePort.WritePort}
@@ -9,13 +9,30 @@ use Rattle.kp_net.specs.Netlist.{Net, Input, State, start_regs, port_after, file
 use Rattle.kp_net.specs.Parts.{NetOk, FileOk, WriteOk, no_reg, no_file}
 use Rattle.kp_cycle.specs.inner.{Plans.OfPort, Plans.OfRoots, Storage.Stored, Storage.Fits, Storage.FitsBelow, Storage.PortReady, Storage.port_from}
 
-pub length_map : {X Y : Type 0} (f : X → Y) (xs : List X) → length (map f xs) ≡ length xs
-length_map f [] = refl
-length_map f (x ∷ xs) = ap (λ n. suc n) (length_map f xs)
+-- a property of the elements of a list in which one is replaced
+pub set_has : {X : Type 0} (P : ℕ → X → Type 0) (xs : List X) (i : ℕ) (y d : X) (j : ℕ) → i < length xs → (j ≡ i → P j y) → (j ≢ i → P j (get_or xs j d)) → P j (get_or (set xs i y) j d)
+set_has P xs i y d j h here other =
+    ⊎_elim
+    (λ (e : j ≡ i). subst (P j) (sym (get_or-set_at xs i j y d e h)) (here e))
+    (λ (apart : j ≢ i). subst (P j) (sym (get_or-set_other xs i j y d apart)) (other apart))
+    (cases_eq j i)
 
--- lists with the same elements
-pub same_elements : {X : Type 0} (xs ys : List X) (d : X) → length xs ≡ length ys → ((k : ℕ) → k < length xs → get_or xs k d ≡ get_or ys k d) → xs ≡ ys
-same_elements xs ys d e f = same_lists xs ys e (λ k d' l. get_or_default xs k d' d l ∙ f k l ∙ get_or_default ys k d d' (omega (arith, e)))
+-- of the elements of a list and one more
+pub each_more : {X : Type 0} (xs : List X) (x d : X) (P : ℕ → X → Type 0) → ((k : ℕ) → k < length xs → P k (get_or xs k d)) → P (length xs) x
+    → (k : ℕ) → k < length (xs ++ x ∷ []) → P k (get_or (xs ++ x ∷ []) k d)
+each_more xs x d P old new k l =
+    ⊎_elim
+    (λ (low : k < length xs). subst (P k) (sym (get_or_append_left xs (x ∷ []) d k low)) (old k low))
+    (λ (high : length xs ≤ k). let e : length xs ≡ k = omega (arith, l, length_push xs x) in
+    subst (P k) (sym (get_or_push xs x d k e)) (subst (λ n. P n x) e new))
+    (cases_lt k (length xs))
+
+-- and of one of them
+pub some_more : {X : Type 0} (xs : List X) (x d : X) (P : X → Type 0) → (k : ℕ) × (k < length xs) × P (get_or xs k d) → (k : ℕ) × (k < length (xs ++ x ∷ [])) × P (get_or (xs ++ x ∷ []) k d)
+some_more xs x d P m = let l = m.1 in (m.0, omega (arith, l, length_push xs x), subst P (sym (get_or_append_left xs (x ∷ []) d m.0 l)) m.2)
+
+pub some_last : {X : Type 0} (xs : List X) (x d : X) (P : X → Type 0) → P x → (k : ℕ) × (k < length (xs ++ x ∷ [])) × P (get_or (xs ++ x ∷ []) k d)
+some_last xs x d P h = (length xs, omega (arith, length_push xs x), subst P (sym (get_or_push xs x d (length xs) refl)) h)
 
 pub fits_reg : (net : Net) (m : Stored) (i v : ℕ) → Fits net m → Fits net (record m { regs = set m.regs i v })
 fits_reg net m i v h = record { right = h.right; nodes = h.nodes; regs = length-set m.regs i v ∙ h.regs; files = h.files; words = h.words }
@@ -33,13 +50,9 @@ fits_file net m i ws h l e = record {
   nodes = h.nodes;
   regs = h.regs;
   files = length-set m.files i ws ∙ h.files;
-  words = λ f k. ⊎_elim
-      (λ (x : f < i). ap length (get_or-set_other m.files i f ws [] (λ z. omega arith)) ∙ h.words f k)
-      (λ (x : i ≤ f). ⊎_elim
-      (λ (y : i < f). ap length (get_or-set_other m.files i f ws [] (λ z. omega arith)) ∙ h.words f k)
-      (λ (y : f ≤ i). let z : f ≡ i = omega arith in ap length (get_or-set_at m.files i f ws [] z l) ∙ e ∙ ap (λ (j : ℕ). length (get_or m.files j [])) (sym z) ∙ h.words f k)
-      (cases_lt i f))
-      (cases_lt f i);
+  words = λ f k. set_has (λ g xs. length xs ≡ 2 ^ (get_or net.parts.files g no_file).address_width) m.files i ws [] f l
+      (λ z. e ∙ ap (λ (j : ℕ). length (get_or m.files j [])) (sym z) ∙ h.words f k)
+      (λ apart. h.words f k);
 }
 
 -- the files up to here are updated by their ports, and the others are unchanged
@@ -89,11 +102,11 @@ pub state_is : (net : Net) (input : Input) (st : State) (values regs : List ℕ)
 state_is net input st values regs files ok off e l known many r w =
     let c : Cells = cells_of input st in
     let next : NetReg → ℕ = λ x. at c net.nodes x.next.0 in
-    let rs : regs ≡ regs_after net c = same_elements regs (map next net.parts.regs) 0 (many ∙ sym (length_map next net.parts.regs))
+    let rs : regs ≡ regs_after net c = ext_get_or 0 regs (map next net.parts.regs) (many ∙ sym (length-map net.parts.regs next))
     (λ k h. let h' : k < length net.parts.regs = omega (arith, many) in r k h' ∙ sym (get_or-map next net.parts.regs k no_reg 0 h')) in
     let g : NetFile × List ℕ → List ℕ = λ p. port_after c net.nodes p.0.port p.1 in
     let lz : length (zip net.parts.files st.files) ≡ length net.parts.files = omega (arith, length-zip net.parts.files st.files, e) in
-    let fs : files ≡ files_after net c st.files = same_elements _ _ [] (l ∙ sym lz ∙ sym (length_map g (zip net.parts.files st.files)))
+    let fs : files ≡ files_after net c st.files = ext_get_or [] _ _ (l ∙ sym lz ∙ sym (length-map (zip net.parts.files st.files) g))
     (λ k h. let h' : k < length net.parts.files = omega (arith, l) in
     w k h' ∙ port_same c net.nodes values (get_or net.parts.files k no_file).port (get_or st.files k []) (known.files k h')
     ∙ sym (get_or-map g (zip net.parts.files st.files) k (no_file, []) [] (omega (arith, lz)) ∙ ap g (get_or-zip net.parts.files st.files k (no_file, []) h' (omega (arith, e))))) in

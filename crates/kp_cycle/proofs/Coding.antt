@@ -14,9 +14,6 @@ use Rattle.kp_cycle.specs.inner.{Codes.binary_op, Codes.joined_op, Codes.kind_op
 use Rattle.kp_cycle.proofs.Settling.{operands_have, whole}
 
 -- numbers of 64 bits
-ones : (x w : ℕ) → bit_and x (2 ^ w - 1) ≡ x % 2 ^ w
-ones x w = and_mask x w
-
 low_six : (b : ℕ) → b < 64 → bit_and b 63 ≡ b
 low_six b h = and_mask b 6 ∙ mod-eq_of_lt h
 
@@ -31,7 +28,7 @@ not_number w x h f =
     wrapped (2 ^ w - 1) x (2 ^ 64) a b
 
 add_number : (w n : ℕ) → w ≤ 64 → bit_and (n % 2 ^ 64) (2 ^ w - 1) ≡ n % 2 ^ w
-add_number w n h = ones (n % 2 ^ 64) w ∙ low_of n w h
+add_number w n h = and_mask (n % 2 ^ 64) w ∙ low_of n w h
 
 sub_by : (a b m j t : ℕ) → t ≡ m * j + m → b ≤ m → (a + (t - b)) % m ≡ (a + m - b) % m
 sub_by a b m j t e h =
@@ -71,7 +68,7 @@ shr_number w a b h =
     cond_same (nat_lt b w) (a / 2 ^ bit_and b 63) (a / 2 ^ b) 0 (λ t. ap (λ k. a / 2 ^ k) (shift_below b w h t))
 
 slice_number : (x k lo : ℕ) → lo < 64 → bit_and (x / 2 ^ bit_and lo 63) (2 ^ k - 1) ≡ x / 2 ^ lo % 2 ^ k
-slice_number x k lo h = ones (x / 2 ^ bit_and lo 63) k ∙ ap (λ j. x / 2 ^ j % 2 ^ k) (low_six lo h)
+slice_number x k lo h = and_mask (x / 2 ^ bit_and lo 63) k ∙ ap (λ j. x / 2 ^ j % 2 ^ k) (low_six lo h)
 
 pub cond_value : (b : Bool) (x y : Word) → cond b x.value y.value ≡ (cond b x y).value
 cond_value true x y = refl
@@ -82,18 +79,14 @@ module _ (c : Cells) (ns : List Node) (v : List ℕ) (m k plain : ℕ) (small : 
     (have : (j : ℕ) → j < m → Has (wide ns j) (seen ns v j)) where
   binary : (op : BinOp) (a b : NodeId) → KindOk ns m k (Binary op a b) → plain ≡ (word_of_kind c (seen ns v) k (Binary op a b)).value
       → number_of v plain (binary_op op a b k (2 ^ k - 1)) ≡ plain
-  binary BinOp.And a b ok e = sym e
-  binary BinOp.Or a b ok e = sym e
-  binary BinOp.Xor a b ok e = sym e
   binary BinOp.Add a b ok e = add_number k _ small ∙ ap (λ w. (get_or v a.0 0 + get_or v b.0 0) % 2 ^ w) (sym ok.2.0) ∙ sym e
   binary BinOp.Sub a b ok e =
       let f : get_or v b.0 0 < 2 ^ k = subst (λ w. get_or v b.0 0 < 2 ^ w) ok.2.1 (have b.0 ok.1).word.fits in
       sub_number k (get_or v a.0 0) (get_or v b.0 0) small f ∙ ap (λ w. (get_or v a.0 0 + 2 ^ w - get_or v b.0 0) % 2 ^ w) (sym ok.2.0) ∙ sym e
   binary BinOp.Mul a b ok e = add_number k _ small ∙ ap (λ w. get_or v a.0 0 * get_or v b.0 0 % 2 ^ w) (sym ok.2.0) ∙ sym e
-  binary BinOp.Eq a b ok e = sym e
-  binary BinOp.Lt a b ok e = sym e
   binary BinOp.Shl a b ok e = shl_number k (get_or v a.0 0) (get_or v b.0 0) small ∙ ap (λ w. cond (nat_lt (get_or v b.0 0) w) (get_or v a.0 0 * 2 ^ get_or v b.0 0 % 2 ^ w) 0) (sym ok.2) ∙ sym e
   binary BinOp.Shr a b ok e = shr_number k (get_or v a.0 0) (get_or v b.0 0) small ∙ ap (λ w. cond (nat_lt (get_or v b.0 0) w) (get_or v a.0 0 / 2 ^ get_or v b.0 0) 0) (sym ok.2) ∙ sym e
+  binary _ a b ok e = sym e
 
   joined : (parts : List NodeId) → KindOk ns m k (Concat parts) → plain ≡ (word_of_kind c (seen ns v) k (Concat parts)).value
       → number_of v plain (joined_op ns parts) ≡ plain
@@ -117,11 +110,6 @@ module _ (c : Cells) (ns : List Node) (v : List ℕ) (m k plain : ℕ) (small : 
   joined (a ∷ (b ∷ (d ∷ (f ∷ rest)))) ok e = refl
 
   kinds : (o : Kind) → KindOk ns m k o → (is_cell o ≡ false → plain ≡ (word_of_kind c (seen ns v) k o).value) → number_of v plain (kind_op ns k (2 ^ k - 1) o) ≡ plain
-  kinds (Const n) ok e = refl
-  kinds Ext ok e = refl
-  kinds (Sample s) ok e = refl
-  kinds (Reg r) ok e = refl
-  kinds (FileWord g a) ok e = refl
   kinds (Not a) ok e =
       let x : get_or v a.0 0 < 2 ^ k = subst (λ w. get_or v a.0 0 < 2 ^ w) ok.1 (have a.0 ok.0).word.fits in
       not_number k (get_or v a.0 0) small x ∙ ap (λ w. 2 ^ w - 1 - get_or v a.0 0) (sym ok.1) ∙ sym (e refl)
@@ -132,6 +120,7 @@ module _ (c : Cells) (ns : List Node) (v : List ℕ) (m k plain : ℕ) (small : 
       let w : hi + 1 - lo ≡ k = omega (arith, ok.3) in
       let l : lo < 64 = omega (arith, ok.1, ok.2, (have a.0 ok.0).word.at_most) in
       slice_number (get_or v a.0 0) k lo l ∙ ap (λ j. get_or v a.0 0 / 2 ^ lo % 2 ^ j) (sym w) ∙ sym (e refl)
+  kinds _ ok e = refl
 
 -- the operation of node i computes its number
 pub coded : (c : Cells) (ns : List Node) (v : List ℕ) (i : ℕ) → AllRight ns → i < length ns → FitsBelow ns v i
@@ -153,27 +142,15 @@ module _ (ns : List Node) (i m width mask : ℕ) (e : i ≤ m) where
 
   ready_binary : (op : BinOp) (a b : NodeId) → a.0 < m → b.0 < m → IsReady m (binary_op op a b width mask)
   ready_binary BinOp.And a b h k = (h, k)
-  ready_binary BinOp.Or a b h k = (h, k)
-  ready_binary BinOp.Xor a b h k = (h, k)
-  ready_binary BinOp.Add a b h k = (h, k)
-  ready_binary BinOp.Sub a b h k = (h, k)
-  ready_binary BinOp.Mul a b h k = (h, k)
-  ready_binary BinOp.Eq a b h k = (h, k)
-  ready_binary BinOp.Lt a b h k = (h, k)
-  ready_binary BinOp.Shl a b h k = (h, k)
-  ready_binary BinOp.Shr a b h k = (h, k)
+  ready_binary _ a b h k = (h, k)
 
   pub ready_kind : (k : ℕ) (o : Kind) → KindOk ns i k o → IsReady m (kind_op ns width mask o)
-  ready_kind k (Const n) h = tt
-  ready_kind k Ext h = tt
-  ready_kind k (Sample s) h = tt
-  ready_kind k (Reg r) h = tt
-  ready_kind k (FileWord f a) h = tt
   ready_kind k (Not a) h = omega (arith, h.0)
   ready_kind k (Binary op a b) h = ready_binary op a b (omega (arith, h.0)) (omega (arith, h.1))
   ready_kind k (Mux test a b) h = (omega (arith, h.0), omega (arith, h.1), omega (arith, h.2))
   ready_kind k (Concat parts) h = ready_parts parts h.2
   ready_kind k (Slice a hi lo) h = omega (arith, h.0)
+  ready_kind k _ h = tt
 
 -- the operation of node i of a netlist is ready
 pub ready : (net : Net) (m i : ℕ) → NetOk net → m ≡ length net.nodes → i < length net.nodes → IsReady m (op_for net.nodes (get_or net.nodes i no_node))

@@ -1,6 +1,6 @@
 -- Registers take their next values.
-use Rattle.std.proofs.Common.{◌≡◌, ◌==◌, ◌⊎◌, ℕ, Bool, true, false, cond, ◌+◌, ◌<◌, ◌≤◌, List, [], ◌∷◌, ◌++◌, length, get_or, set, inl, inr, sym, subst, ap, refl, ◌∙◌, arith, ⊎_elim}
-use Rattle.std.proofs.lemmas.{Bool.cases_lt, Bool.cond_both, Bool.eqb-true, List.get_or-set_other, List.get_or_append_left, List.get_or_push, List.length_push}
+use Rattle.std.proofs.Common.{◌≡◌, ◌≢◌, ◌==◌, ◌⊎◌, ℕ, Bool, true, false, cond, ◌+◌, ◌<◌, ◌≤◌, List, [], ◌∷◌, ◌++◌, length, get_or, set, inl, inr, sym, subst, ap, refl, ◌∙◌, arith, ⊎_elim}
+use Rattle.std.proofs.lemmas.{Bool.cases_lt, Bool.cases_eq, Bool.cond_both, Bool.eqb-true, List.get_or-set_other}
 use Rattle.std.proofs.lemmas.{List.Elements.All-get_or, Grind.get_or-set_at}
 use Rattle.kp_bits.specs.Word as bits
 use Rattle.kp_net.specs.declared.node.{NodeId.NodeId, Kind.Kind}
@@ -12,34 +12,18 @@ use Rattle.kp_net.proofs.{Exact.node_exact, Exact.word_has, Values.word_there}
 use Rattle.kp_cycle.specs.declared.latches.{Latch.Latch, Latch.TheVariants.Always, Latch.TheVariants.If, Held.Held, Moved.Moved}
 use Rattle.kp_cycle.specs.inner.Latches.{is_reg, latch_in, latch_for, OfLatch, latched, no_moved, no_held, IsMoved, IsHeld, IsLatched}
 use Rattle.kp_cycle.specs.inner.Storage.{Stored, Fits, StateFits}
-use Rattle.kp_cycle.proofs.{Coding.cond_value, Stepping.same_or_not, Stepping.reg_held}
+use Rattle.kp_cycle.proofs.{Clocking.set_has, Clocking.each_more, Clocking.some_more, Clocking.some_last, Coding.cond_value, Stepping.reg_held}
 
 -- a node of this kind is this register
 pub reg_is : (o : Kind) (r : ℕ) → is_reg o r ≡ true → o ≡ Reg r
-reg_is (Const n) r e = absurd (cc)
-reg_is Ext r e = absurd (cc)
-reg_is (Sample s) r e = absurd (cc)
 reg_is (Reg shown) r e = ap (λ (i : ℕ). Reg i) (eqb-true shown r e)
-reg_is (Word f a) r e = absurd (cc)
-reg_is (Not a) r e = absurd (cc)
-reg_is (Binary op a b) r e = absurd (cc)
-reg_is (Mux t a b) r e = absurd (cc)
-reg_is (Concat parts) r e = absurd (cc)
-reg_is (Slice a hi lo) r e = absurd (cc)
+reg_is _ r e = cc
 
 -- what the latch of a register reads are nodes
 latch_inside : (ns : List Node) (r n i k : ℕ) (next : NodeId) (o : Kind) → KindOk ns i k o → i ≤ n → next.0 < n → OfLatch (λ j. j < n) (latch_in ns r next o)
-latch_inside ns r n i k next (Const x) ok l h = h
-latch_inside ns r n i k next Ext ok l h = h
-latch_inside ns r n i k next (Sample s) ok l h = h
-latch_inside ns r n i k next (Reg s) ok l h = h
-latch_inside ns r n i k next (Word f a) ok l h = h
-latch_inside ns r n i k next (Not a) ok l h = h
-latch_inside ns r n i k next (Binary op a b) ok l h = h
 latch_inside ns r n i k next (Mux t a b) ok l h =
     cond_both (is_reg (get_or ns b.0 no_node).kind r) (If t a) (Always next) (OfLatch (λ j. j < n)) (λ _. (omega (arith, ok.0, l), omega (arith, ok.1, l))) (λ _. h)
-latch_inside ns r n i k next (Concat parts) ok l h = h
-latch_inside ns r n i k next (Slice a hi lo) ok l h = h
+latch_inside ns r n i k next _ ok l h = h
 
 pub latch_reads : (net : Net) (n r : ℕ) → NetOk net → n ≡ length net.nodes → r < length net.parts.regs → OfLatch (λ j. j < n) (latch_for net r)
 latch_reads net n r ok e h =
@@ -80,16 +64,8 @@ module _ (c : Cells) (ns : List Node) (values : List ℕ) (r own : ℕ) (next : 
       (λ i. cond (x i == 1) (y i) (kept i)) ∙ sym (mux_value t a b is)
 
   latch_value : (o : Kind) → (get_or ns next.0 no_node).kind ≡ o → OfLatch Known (latch_in ns r next o) → latched values own (latch_in ns r next o) ≡ at c ns next.0
-  latch_value (Const n) is known = known
-  latch_value Ext is known = known
-  latch_value (Sample s) is known = known
-  latch_value (Reg s) is known = known
-  latch_value (Word f a) is known = known
-  latch_value (Not a) is known = known
-  latch_value (Binary op a b) is known = known
   latch_value (Mux t a b) is known = mux_latch t a b (is_reg (get_or ns b.0 no_node).kind r) refl is known
-  latch_value (Concat parts) is known = known
-  latch_value (Slice a hi lo) is known = known
+  latch_value _ is known = known
 
 pub next_value : (net : Net) (input : Input) (st : State) (values : List ℕ) (r : ℕ) → NetOk net → StateFits net st → r < length net.parts.regs
     → OfLatch (λ j. get_or values j 0 ≡ at (cells_of input st) net.nodes j) (latch_for net r)
@@ -115,26 +91,40 @@ module _ (net : Net) (values old new : List ℕ) (i v : ℕ) (h : i < length new
   next_here r e = get_or-set_at new i r v 0 e h ∙ is ∙ ap (λ (x : ℕ). latched values (get_or old x 0) (latch_for net x)) (sym e)
 
   pub next_kept : (r : ℕ) → IsNext net values old new r → IsNext net values old (set new i v) r
-  next_kept r done = same_or_not r i (IsNext net values old (set new i v) r)
-      (λ e. next_here r e)
-      (λ no. get_or-set_other new i r v 0 no ∙ done)
+  next_kept r done = set_has (λ q x. x ≡ latched values (get_or old q 0) (latch_for net q)) new i v 0 r h (λ e. sym (get_or-set_at new i r v 0 e h) ∙ next_here r e) (λ apart. done)
 
   pub partly_more : Partly net values old new → Partly net values old (set new i v)
-  partly_more part r = same_or_not r i ((get_or (set new i v) r 0 ≡ get_or old r 0) ⊎ IsNext net values old (set new i v) r)
-      (λ e. inr (next_here r e))
-      (λ no. ⊎_elim
-      (λ (still : get_or new r 0 ≡ get_or old r 0). inl (get_or-set_other new i r v 0 no ∙ still))
-      (λ (done : IsNext net values old new r). inr (get_or-set_other new i r v 0 no ∙ done))
+  partly_more part r = ⊎_elim
+      (λ (e : r ≡ i). inr (next_here r e))
+      (λ (apart : r ≢ i). ⊎_elim
+      (λ (still : get_or new r 0 ≡ get_or old r 0). inl (get_or-set_other new i r v 0 apart ∙ still))
+      (λ (done : IsNext net values old new r). inr (next_kept r done))
       (part r))
+      (cases_eq r i)
 
 -- the registers of the first entries have their next values, and each other register its old value or its next one
-pub record Moving (net : Net) (values old new : List ℕ) (moved : List Moved) (i : ℕ) : Type 0 where
+pub record Turned {X : Type 0} (net : Net) (values old new : List ℕ) (reg : X → ℕ) (d : X) (xs : List X) (i : ℕ) : Type 0 where
   pub part : Partly net values old new
-  pub done : (q : ℕ) → q < i → IsNext net values old new (get_or moved q no_moved).reg
+  pub done : (q : ℕ) → q < i → IsNext net values old new (reg (get_or xs q d))
 
-pub record Holding (net : Net) (values old new : List ℕ) (held : List Held) (i : ℕ) : Type 0 where
-  pub part : Partly net values old new
-  pub done : (q : ℕ) → q < i → IsNext net values old new (get_or held q no_held).reg
+abbrev pub Moving : Net → List ℕ → List ℕ → List ℕ → List Moved → ℕ → Type 0
+Moving net values old new moved i = Turned net values old new (λ (m : Moved). m.reg) no_moved moved i
+
+abbrev pub Holding : Net → List ℕ → List ℕ → List ℕ → List Held → ℕ → Type 0
+Holding net values old new held i = Turned net values old new (λ (m : Held). m.reg) no_held held i
+
+turned_more : {X : Type 0} (net : Net) (values old new : List ℕ) (reg : X → ℕ) (d : X) (xs : List X) (i v : ℕ) → reg (get_or xs i d) < length new
+    → v ≡ latched values (get_or old (reg (get_or xs i d)) 0) (latch_for net (reg (get_or xs i d))) → Turned net values old new reg d xs i
+    → Turned net values old (set new (reg (get_or xs i d)) v) reg d xs (i + 1)
+turned_more net values old new reg d xs i v there e w =
+    let r : ℕ = reg (get_or xs i d) in
+    record {
+      part = partly_more net values old new r v there e w.part;
+      done = λ q l. ⊎_elim
+          (λ (low : q < i). next_kept net values old new r v there e (reg (get_or xs q d)) (w.done q low))
+          (λ (high : i ≤ q). let z : q ≡ i = omega arith in next_here net values old new r v there e (reg (get_or xs q d)) (ap (λ (k : ℕ). reg (get_or xs k d)) z))
+          (cases_lt q i);
+    }
 
 pub moving_first : (net : Net) (values old : List ℕ) (moved : List Moved) → Moving net values old old moved 0
 moving_first net values old moved = record { part = λ r. inl refl; done = λ q l. absurd (omega arith) }
@@ -146,17 +136,7 @@ pub moving_more : (net : Net) (values old new : List ℕ) (n : ℕ) (moved : Lis
     → (get_or moved i no_moved).reg < length new → Moving net values old new moved i
     → Moving net values old (set new (get_or moved i no_moved).reg (get_or values (get_or moved i no_moved).next.0 0)) moved (i + 1)
 moving_more net values old new n moved held i is h there w =
-    let x : Moved = get_or moved i no_moved in
-    let v : ℕ = get_or values x.next.0 0 in
-    let own : ℕ = get_or old x.reg 0 in
-    let e : v ≡ latched values own (latch_for net x.reg) = ap (latched values own) (sym ((is.moves i h).1)) in
-    record {
-      part = partly_more net values old new x.reg v there e w.part;
-      done = λ q l. ⊎_elim
-          (λ (low : q < i). next_kept net values old new x.reg v there e (get_or moved q no_moved).reg (w.done q low))
-          (λ (high : i ≤ q). let z : q ≡ i = omega arith in next_here net values old new x.reg v there e (get_or moved q no_moved).reg (ap (λ (k : ℕ). (get_or moved k no_moved).reg) z))
-          (cases_lt q i);
-    }
+    turned_more net values old new (λ (m : Moved). m.reg) no_moved moved i _ there (ap (latched values (get_or old (get_or moved i no_moved).reg 0)) (sym ((is.moves i h).1))) w
 
 -- a latch that is used twice
 latched_twice : (values : List ℕ) (own : ℕ) (l : Latch) → latched values (latched values own l) l ≡ latched values own l
@@ -182,16 +162,7 @@ pub holding_more : (net : Net) (values old new : List ℕ) (n : ℕ) (moved : Li
     → (get_or held i no_held).reg < length new → Holding net values old new held i
     → Holding net values old (set new (get_or held i no_held).reg (latched values (get_or new (get_or held i no_held).reg 0) (If (get_or held i no_held).test (get_or held i no_held).value))) held (i + 1)
 holding_more net values old new n moved held i is h there w =
-    let x : Held = get_or held i no_held in
-    let v : ℕ = latched values (get_or new x.reg 0) (If x.test x.value) in
-    let e : v ≡ latched values (get_or old x.reg 0) (latch_for net x.reg) = held_next net n moved held values old new i is h w.part in
-    record {
-      part = partly_more net values old new x.reg v there e w.part;
-      done = λ q l. ⊎_elim
-          (λ (low : q < i). next_kept net values old new x.reg v there e (get_or held q no_held).reg (w.done q low))
-          (λ (high : i ≤ q). let z : q ≡ i = omega arith in next_here net values old new x.reg v there e (get_or held q no_held).reg (ap (λ (k : ℕ). (get_or held k no_held).reg) z))
-          (cases_lt q i);
-    }
+    turned_more net values old new (λ (m : Held). m.reg) no_held held i _ there (held_next net n moved held values old new i is h w.part) w
 
 -- entries that were moved stay so while others are held
 pub moved_still : (net : Net) (values old new : List ℕ) (n : ℕ) (moved : List Moved) (held : List Held) (i : ℕ) → IsLatched net n moved held → i < length held
@@ -207,45 +178,27 @@ moved_still net values old new n moved held i is h there w m =
     }
 
 -- one entry more
-moved_kept : (moved : List Moved) (x : Moved) (r : ℕ) → IsMoved moved r → IsMoved (moved ++ x ∷ []) r
-moved_kept moved x r m = let l = m.1 in (m.0, omega (arith, l, length_push moved x), ap (λ (y : Moved). y.reg) (get_or_append_left moved (x ∷ []) no_moved m.0 (omega (arith, l))) ∙ m.2)
-
-held_kept : (held : List Held) (x : Held) (r : ℕ) → IsHeld held r → IsHeld (held ++ x ∷ []) r
-held_kept held x r m = let l = m.1 in (m.0, omega (arith, l, length_push held x), ap (λ (y : Held). y.reg) (get_or_append_left held (x ∷ []) no_held m.0 (omega (arith, l))) ∙ m.2)
-
 pub latched_moved : (net : Net) (n : ℕ) (moved : List Moved) (held : List Held) (x : Moved) → x.reg ≡ n → n < length net.parts.regs → latch_for net n ≡ Always x.next → IsLatched net n moved held
     → IsLatched net (n + 1) (moved ++ x ∷ []) held
-latched_moved net n moved held x e h latch old =
-    let P : Moved → Type 0 = λ m. (m.reg < length net.parts.regs) × (latch_for net m.reg ≡ Always m.next) in
-    record {
-      moves = λ k l. ⊎_elim
-          (λ (low : k < length moved). subst P (sym (get_or_append_left moved (x ∷ []) no_moved k low)) (old.moves k low))
-          (λ (high : length moved ≤ k). subst P (sym (get_or_push moved x no_moved k (omega (arith, l, high, length_push moved x)))) (omega (arith, e, h), ap (latch_for net) e ∙ latch))
-          (cases_lt k (length moved));
-      holds = old.holds;
-      each = λ r l. ⊎_elim
-          (λ (low : r < n). ⊎_elim (λ (m : IsMoved moved r). inl (moved_kept moved x r m)) (λ (m : IsHeld held r). inr m) (old.each r low))
-          (λ (high : n ≤ r). let z : n ≡ r = omega arith in
-          inl (length moved, omega (arith, length_push moved x), ap (λ (m : Moved). m.reg) (get_or_push moved x no_moved (length moved) refl) ∙ e ∙ z))
-          (cases_lt r n);
-    }
+latched_moved net n moved held x e h latch old = record {
+  moves = each_more moved x no_moved (λ k m. (m.reg < length net.parts.regs) × (latch_for net m.reg ≡ Always m.next)) old.moves (omega (arith, e, h), ap (latch_for net) e ∙ latch);
+  holds = old.holds;
+  each = λ r l. ⊎_elim
+      (λ (low : r < n). ⊎_elim (λ (m : IsMoved moved r). inl (some_more moved x no_moved (λ y. y.reg ≡ r) m)) (λ (m : IsHeld held r). inr m) (old.each r low))
+      (λ (high : n ≤ r). let z : n ≡ r = omega arith in inl (some_last moved x no_moved (λ y. y.reg ≡ r) (e ∙ z)))
+      (cases_lt r n);
+}
 
 pub latched_held : (net : Net) (n : ℕ) (moved : List Moved) (held : List Held) (x : Held) → x.reg ≡ n → n < length net.parts.regs → latch_for net n ≡ If x.test x.value → IsLatched net n moved held
     → IsLatched net (n + 1) moved (held ++ x ∷ [])
-latched_held net n moved held x e h latch old =
-    let P : Held → Type 0 = λ m. (m.reg < length net.parts.regs) × (latch_for net m.reg ≡ If m.test m.value) in
-    record {
-      moves = old.moves;
-      holds = λ k l. ⊎_elim
-          (λ (low : k < length held). subst P (sym (get_or_append_left held (x ∷ []) no_held k low)) (old.holds k low))
-          (λ (high : length held ≤ k). subst P (sym (get_or_push held x no_held k (omega (arith, l, high, length_push held x)))) (omega (arith, e, h), ap (latch_for net) e ∙ latch))
-          (cases_lt k (length held));
-      each = λ r l. ⊎_elim
-          (λ (low : r < n). ⊎_elim (λ (m : IsMoved moved r). inl m) (λ (m : IsHeld held r). inr (held_kept held x r m)) (old.each r low))
-          (λ (high : n ≤ r). let z : n ≡ r = omega arith in
-          inr (length held, omega (arith, length_push held x), ap (λ (m : Held). m.reg) (get_or_push held x no_held (length held) refl) ∙ e ∙ z))
-          (cases_lt r n);
-    }
+latched_held net n moved held x e h latch old = record {
+  moves = old.moves;
+  holds = each_more held x no_held (λ k m. (m.reg < length net.parts.regs) × (latch_for net m.reg ≡ If m.test m.value)) old.holds (omega (arith, e, h), ap (latch_for net) e ∙ latch);
+  each = λ r l. ⊎_elim
+      (λ (low : r < n). ⊎_elim (λ (m : IsMoved moved r). inl m) (λ (m : IsHeld held r). inr (some_more held x no_held (λ y. y.reg ≡ r) m)) (old.each r low))
+      (λ (high : n ≤ r). let z : n ≡ r = omega arith in inr (some_last held x no_held (λ y. y.reg ≡ r) (e ∙ z)))
+      (cases_lt r n);
+}
 
 -- before the first entry
 pub latched_first : (net : Net) → IsLatched net 0 [] []

@@ -1,7 +1,6 @@
 pub mod Clocking
 pub mod Coding
 pub mod Copies
-pub mod Counter
 pub mod Latching
 pub mod Marking
 pub mod Noting
@@ -10,3 +9,4 @@ pub mod Running
 pub mod Settling
 pub mod Spans
 pub mod Stepping
+pub mod Storing

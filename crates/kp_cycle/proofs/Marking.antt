@@ -1,7 +1,7 @@
 -- Marks of nodes, and lists in which operands come first.
-use Rattle.std.proofs.Common.{◌≡◌, ℕ, Bool, true, false, true≢false, ◌+◌, ◌<◌, ◌≤◌, List, [], ◌∷◌, ◌++◌, length, get_or, set, map, take, replicate, ◌-◌, refl, sym, subst, ap, ◌∙◌, arith, ⊎_elim, inl, inr}
-use Rattle.std.proofs.lemmas.Bool.{cases_lt}
-use Rattle.std.proofs.lemmas.List.{get_or-set_other, length-set, get_or_append_left, get_or_push, length_push, get_or_past, get_or-map, get_or-replicate, length-replicate, length-take-le, take_more, map-append}
+use Rattle.std.proofs.Common.{◌≡◌, ◌≢◌, ℕ, zero, suc, Bool, true, false, true≢false, ◌+◌, ◌<◌, ◌≤◌, List, [], ◌∷◌, ◌++◌, length, get_or, set, map, take, replicate, ◌-◌, refl, sym, subst, ap, ◌∙◌, arith, ⊎_elim, inl, inr}
+use Rattle.std.proofs.lemmas.Bool.{cases_lt, cases_eq}
+use Rattle.std.proofs.lemmas.List.{get_or-set_other, length-set, get_or_append_left, get_or_push, length_push, get_or_past, get_or-map, length-map, length-take-le, take_more, map-append}
 use Rattle.std.proofs.{lemmas.Grind.get_or-set_at, Math.Seq.take-length, lemmas.List.Elements.All-nil, lemmas.List.Elements.All-cons}
 use Rattle.std.specs.Prelude.{All}
 use Rattle.kp_net.specs.declared.node.{NodeId.NodeId, Kind.Kind}
@@ -10,17 +10,14 @@ use Rattle.kp_net.specs.{declared.node.Node.Node, declared.netlist.Parts.Parts, 
 use Rattle.kp_net.specs.Widths.{no_node, AllRight, KindOk}
 use Rattle.kp_cycle.specs.inner.Plans.{reads, reads_at, IsMarked, Grows, Among, IsKnown, Leads, IsOrdered, OfPort, OfRoots, Needed, Taken, IsPlan, HasCode, targets, step_for, by_node, no_step}
 use Rattle.kp_cycle.specs.{inner.Latches.latch_for, inner.Latches.OfLatch, declared.codes.Step.Step}
-use Rattle.kp_cycle.proofs.{Clocking.length_map, Stepping.same_or_not, Stepping.port_is, Stepping.latch_is, Stepping.roots_are}
+use Rattle.kp_cycle.proofs.{Clocking.set_has, Clocking.each_more, Clocking.some_more, Clocking.some_last, Stepping.port_is, Stepping.latch_is, Stepping.roots_are}
 
 -- one mark more
 pub marked_here : (marks : List Bool) (a j : ℕ) → j ≡ a → a < length marks → IsMarked (set marks a true) j
 marked_here marks a j e h = get_or-set_at marks a j true false e h
 
 pub marked_still : (marks : List Bool) (a j : ℕ) → a < length marks → IsMarked marks j → IsMarked (set marks a true) j
-marked_still marks a j h m =
-    same_or_not j a (IsMarked (set marks a true) j)
-    (λ e. marked_here marks a j e h)
-    (λ no. get_or-set_other marks a j true false no ∙ m)
+marked_still marks a j h m = set_has (λ i b. b ≡ true) marks a true false j h (λ e. refl) (λ apart. m)
 
 pub grows_more : (old marks : List Bool) (a : ℕ) → a < length marks → Grows old marks → Grows old (set marks a true)
 grows_more old marks a h g = record { count = length-set marks a true ∙ g.count; kept = λ j m. marked_still marks a j h (g.kept j m) }
@@ -37,16 +34,13 @@ all_marked_more marks nodes k a l is known q d m =
 
 -- operands precede their node
 pub reads_below : (ns : List Node) (i k : ℕ) (o : Kind) → KindOk ns i k o → All (λ a. a.0 < i) (reads o)
-reads_below ns i k (Const n) h = λ q d l. absurd (omega arith)
-reads_below ns i k Ext h = λ q d l. absurd (omega arith)
-reads_below ns i k (Sample s) h = λ q d l. absurd (omega arith)
-reads_below ns i k (Reg r) h = λ q d l. absurd (omega arith)
 reads_below ns i k (Word f a) h = All-cons (λ (x : NodeId). x.0 < i) a [] h (All-nil (λ (x : NodeId). x.0 < i))
 reads_below ns i k (Not a) h = All-cons (λ (x : NodeId). x.0 < i) a [] h.0 (All-nil (λ (x : NodeId). x.0 < i))
 reads_below ns i k (Binary op a b) h = All-cons (λ (x : NodeId). x.0 < i) a (b ∷ []) h.0 (All-cons (λ (x : NodeId). x.0 < i) b [] h.1 (All-nil (λ (x : NodeId). x.0 < i)))
 reads_below ns i k (Mux t a b) h = All-cons (λ (x : NodeId). x.0 < i) t (a ∷ b ∷ []) h.0 (All-cons (λ (x : NodeId). x.0 < i) a (b ∷ []) h.1 (All-cons (λ (x : NodeId). x.0 < i) b [] h.2 (All-nil (λ (x : NodeId). x.0 < i))))
 reads_below ns i k (Concat parts) h = h.2
 reads_below ns i k (Slice a hi lo) h = All-cons (λ (x : NodeId). x.0 < i) a [] h.0 (All-nil (λ (x : NodeId). x.0 < i))
+reads_below ns i k _ h = λ q d l. absurd (omega arith)
 
 pub all_below : (ns : List Node) (i : ℕ) → AllRight ns → i < length ns → All (λ a. a.0 < i) (reads_at ns i)
 all_below ns i right h = reads_below ns i (get_or ns i no_node).width (get_or ns i no_node).kind (right i h).kind
@@ -55,45 +49,25 @@ all_below ns i right h = reads_below ns i (get_or ns i no_node).width (get_or ns
 pub among_kept : (ts : List ℕ) (t k j : ℕ) → k ≤ length ts → Among ts k j → Among (ts ++ t ∷ []) k j
 among_kept ts t k j h a = let l = a.1 in (a.0, l, get_or_append_left ts (t ∷ []) 0 a.0 (omega (arith, l)) ∙ a.2)
 
-pub among_more : (ts : List ℕ) (t j : ℕ) → Among ts (length ts) j → Among (ts ++ t ∷ []) (length (ts ++ t ∷ [])) j
-among_more ts t j a =
-    let b = among_kept ts t (length ts) j (omega arith) a in let l = b.1 in
-    (b.0, omega (arith, l, length_push ts t), b.2)
-
-pub among_last : (ts : List ℕ) (t j : ℕ) → j ≡ t → Among (ts ++ t ∷ []) (length (ts ++ t ∷ [])) j
-among_last ts t j e = (length ts, omega (arith, length_push ts t), get_or_push ts t 0 (length ts) refl ∙ sym e)
-
 known_kept : (heads : ℕ) (ts : List ℕ) (t k j : ℕ) → k ≤ length ts → IsKnown heads ts k j → IsKnown heads (ts ++ t ∷ []) k j
 known_kept heads ts t k j h known = ⊎_elim (λ (first : j < heads). inl first) (λ (a : Among ts k j). inr (among_kept ts t k j h a)) known
 
 known_more : (heads : ℕ) (ts : List ℕ) (t j : ℕ) → IsKnown heads ts (length ts) j → IsKnown heads (ts ++ t ∷ []) (length (ts ++ t ∷ [])) j
-known_more heads ts t j known = ⊎_elim (λ (first : j < heads). inl first) (λ (a : Among ts (length ts) j). inr (among_more ts t j a)) known
+known_more heads ts t j known = ⊎_elim (λ (first : j < heads). inl first) (λ (a : Among ts (length ts) j). inr (some_more ts t 0 (λ x. x ≡ j) a)) known
 
 known_last : (heads : ℕ) (ts : List ℕ) (t j : ℕ) → j ≡ t → IsKnown heads (ts ++ t ∷ []) (length (ts ++ t ∷ [])) j
-known_last heads ts t j e = inr (among_last ts t j e)
+known_last heads ts t j e = inr (some_last ts t 0 (λ x. x ≡ j) (sym e))
 
 pub ordered_more : (ns : List Node) (heads : ℕ) (ts : List ℕ) (t : ℕ) → IsOrdered ns heads ts → t < length ns → All (λ a. IsKnown heads ts (length ts) a.0) (reads_at ns t)
     → IsOrdered ns heads (ts ++ t ∷ [])
 ordered_more ns heads ts t o h ready =
-    let new : List ℕ = ts ++ t ∷ [] in
-    let last : (k : ℕ) → length ts ≤ k → k < length new → k ≡ length ts = λ k a b. omega (arith, length_push ts t) in
-    let at_last : (k : ℕ) → k ≡ length ts → get_or new k 0 ≡ t = λ k e. get_or_push ts t 0 k (sym e) in
+    let operands : ℕ → ℕ → Type 0 = λ k x. All (λ a. IsKnown heads (ts ++ t ∷ []) k a.0) (reads_at ns x) in
     record {
       heads = o.heads;
-      inside = λ k l. ⊎_elim
-          (λ (low : k < length ts). omega (arith, o.inside k low, get_or_append_left ts (t ∷ []) 0 k low))
-          (λ (high : length ts ≤ k). omega (arith, h, at_last k (last k high l)))
-          (cases_lt k (length ts));
-      before = λ k l. ⊎_elim
-          (λ (low : k < length ts).
-          let P : ℕ → Type 0 = λ x. All (λ a. IsKnown heads new k a.0) (reads_at ns x) in
-          subst P (sym (get_or_append_left ts (t ∷ []) 0 k low)) (λ i d m. known_kept heads ts t k (get_or (reads_at ns (get_or ts k 0)) i d).0 (omega arith) (o.before k low i d m)))
-          (λ (high : length ts ≤ k).
-          let e : k ≡ length ts = last k high l in
-          let P : ℕ → Type 0 = λ x. All (λ a. IsKnown heads new k a.0) (reads_at ns x) in
-          let Q : ℕ → Type 0 = λ n. All (λ a. IsKnown heads new n a.0) (reads_at ns t) in
-          subst P (sym (at_last k e)) (subst Q (sym e) (λ i d m. known_kept heads ts t (length ts) (get_or (reads_at ns t) i d).0 (omega arith) (ready i d m))))
-          (cases_lt k (length ts));
+      inside = each_more ts t 0 (λ k x. x < length ns) o.inside h;
+      before = each_more ts t 0 operands
+          (λ k l i d m. known_kept heads ts t k (get_or (reads_at ns (get_or ts k 0)) i d).0 (omega arith) (o.before k l i d m))
+          (λ i d m. known_kept heads ts t (length ts) (get_or (reads_at ns t) i d).0 (omega arith) (ready i d m));
     }
 
 -- the list of the marked nodes after the heads, as far as node i
@@ -176,7 +150,7 @@ plan_is net heads ts steps some is leads ordered roots =
     let coded : List Step = map (step_for net.nodes) front in
     let end : Step = by_node (get_or ts n 0) in
     let behind : n + 1 ≡ length ts = omega (arith, some) in
-    let many : length coded ≡ n = length_map (step_for net.nodes) front ∙ length-take-le n ts (omega arith) in
+    let many : length coded ≡ n = length-map front (step_for net.nodes) ∙ length-take-le n ts (omega arith) in
     let all : front ++ get_or ts n 0 ∷ [] ≡ ts = sym (take_more ts n 0 (omega arith)) ∙ ap (λ (m : ℕ). take m ts) behind ∙ take-length ts in
     let same : targets steps ≡ ts = ap targets is ∙ map-append (λ (s : Step). s.target) coded (end ∷ []) ∙ ap (λ (xs : List ℕ). xs ++ get_or ts n 0 ∷ []) (targets_of net.nodes front) ∙ all in
     let size : length ts ≡ length steps = omega (arith, ap length is, length_push coded end, many, some) in
@@ -184,18 +158,12 @@ plan_is net heads ts steps some is leads ordered roots =
     let Q : ℕ → Type 0 = λ m. OfRoots net (IsKnown heads (targets steps) m) in
     let R : List ℕ → Type 0 = λ xs. OfRoots net (IsKnown heads xs (length ts)) in
     let H : Step → Type 0 = HasCode net.nodes in
-    let at_end : (k : ℕ) → k ≡ n → get_or steps k no_step ≡ end = λ k e. ap (λ (ss : List Step). get_or ss k no_step) is ∙ get_or_push coded end no_step k (many ∙ sym e) in
+    let code : (k : ℕ) → k < length coded → H (get_or coded k no_step) =
+    λ k l. subst H (sym (get_or-map (step_for net.nodes) front k 0 no_step (omega (arith, l, length-map front (step_for net.nodes))))) (inl refl) in
     record {
       leads = leads;
-      codes = λ k l. ⊎_elim
-          (λ (low : k < n).
-          let l' : k < length front = omega (arith, low, length-take-le n ts (omega arith)) in
-          let e : get_or steps k no_step ≡ step_for net.nodes (get_or front k 0) =
-          ap (λ (ss : List Step). get_or ss k no_step) is ∙ get_or_append_left coded (end ∷ []) no_step k (omega (arith, low, many)) ∙ get_or-map (step_for net.nodes) front k 0 no_step l' in
-          subst H (sym e) (inl refl))
-          (λ (high : n ≤ k). subst H (sym (at_end k (omega (arith, l, size)))) (inr refl))
-          (cases_lt k n);
-      last = λ k e. ap (λ (s : Step). s.op) (at_end k (omega (arith, e, size)));
+      codes = subst (λ ss. (k : ℕ) → k < length ss → H (get_or ss k no_step)) (sym is) (each_more coded end no_step (λ k s. H s) code (inr refl));
+      last = λ k e. ap (λ (s : Step). s.op) (ap (λ (ss : List Step). get_or ss k no_step) is ∙ get_or_push coded end no_step k (omega (arith, e, size, many)));
       ordered = subst P (sym same) ordered;
       roots = subst Q size (subst R (sym same) roots);
     }
@@ -218,16 +186,16 @@ heads_more marks i h front j l =
 
 pub heads_alone : (marks : List Bool) (i : ℕ) → ((j : ℕ) → IsMarked marks j → j < i) → (j : ℕ) → IsMarked (set marks i true) j → j < i + 1
 heads_alone marks i alone j m =
-    same_or_not j i (j < i + 1)
-    (λ e. omega arith)
-    (λ no. let l = alone j (sym (get_or-set_other marks i j true false no) ∙ m) in omega arith)
+    ⊎_elim
+    (λ (e : j ≡ i). omega arith)
+    (λ (apart : j ≢ i). let l = alone j (sym (get_or-set_other marks i j true false apart) ∙ m) in omega arith)
+    (cases_eq j i)
 
 -- no mark is made yet
 pub none_marked : (n j : ℕ) → get_or (replicate n false) j false ≡ false
-none_marked n j = ⊎_elim
-    (λ (l : j < n). get_or-replicate n j false false l)
-    (λ (l : n ≤ j). get_or_past (replicate n false) j false (omega (arith, length-replicate n false)))
-    (cases_lt j n)
+none_marked zero j = refl
+none_marked (suc n) zero = refl
+none_marked (suc n) (suc j) = none_marked n j
 
 -- at first the heads are taken
 pub taken_first : (ns : List Node) (heads : ℕ) (done : List Bool) → heads ≤ length ns → length done ≡ length ns → ((j : ℕ) → j < heads → IsMarked done j)
@@ -246,9 +214,10 @@ taken_more ns heads done ts t old h operands = record {
   count = length-set done t true ∙ old.count;
   ordered = ordered_more ns heads ts t old.ordered h (λ q d l. old.there (get_or (reads_at ns t) q d).0 (operands q d l));
   front = λ j l. marked_still done t j (omega (arith, h, old.count)) (old.front j l);
-  there = λ j m. same_or_not j t (IsKnown heads (ts ++ t ∷ []) (length (ts ++ t ∷ [])) j)
-      (λ e. known_last heads ts t j e)
-      (λ no. known_more heads ts t j (old.there j (sym (get_or-set_other done t j true false no) ∙ m)));
+  there = λ j m. ⊎_elim
+      (λ (e : j ≡ t). known_last heads ts t j e)
+      (λ (apart : j ≢ t). known_more heads ts t j (old.there j (sym (get_or-set_other done t j true false apart) ∙ m)))
+      (cases_eq j t);
 }
 
 -- an operand in an ordered list is a node

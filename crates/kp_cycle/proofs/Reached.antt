@@ -1,7 +1,7 @@
 -- In every state that a run reaches, registers and words fit their widths.
 use Rattle.std.proofs.Common.{◌≡◌, ℕ, zero, ◌<◌, ◌≤◌, ◌^◌, List, [], length, get_or, set, sym, subst, ap, ◌∙◌, arith, ⊎_elim, All, Option, None, Some}
 use Rattle.std.proofs.{Math.ListN.get_or-eq_default, lemmas.Nat.pow_pos, lemmas.Bool.cases_lt, lemmas.Bool.cond_both}
-use Rattle.std.proofs.lemmas.{List.get_or-set_other, List.get_or-map, List.length-set, Grind.get_or-set_at, List.Elements.All-get_or}
+use Rattle.std.proofs.lemmas.{List.get_or-map, List.set_past, List.Elements.All-get_or}
 use Rattle.std.proofs.lemmas.Slice.Zip.{get_or-zip, length-zip}
 use Rattle.std.specs.List.{zip}
 use Rattle.kp_net.specs.declared.{node.Node.Node, netlist.NetReg.NetReg, netlist.NetFile.NetFile, netlist.WritePort.WritePort}
@@ -10,6 +10,7 @@ use Rattle.kp_net.specs.Netlist.{Net, Input, State, start_of, start_regs, regs_a
 use Rattle.kp_net.specs.Parts.{NetOk, RegOk, FileOk, WriteOk, no_reg, no_file}
 use Rattle.kp_net.proofs.Values.{at_fits}
 use Rattle.kp_cycle.specs.inner.Storage.{Stored, Fits, StateFits, state_of}
+use Rattle.kp_cycle.proofs.Clocking.{set_has}
 
 -- each number of a list is below n, and so is the default past its end
 all_below : (xs : List ℕ) (n a : ℕ) → zero < n → All (λ v. v < n) xs → get_or xs a 0 < n
@@ -18,19 +19,12 @@ all_below xs n a p h = ⊎_elim
     (λ (l : length xs ≤ a). let P : ℕ → Type 0 = λ v. v < n in subst P (sym (get_or-eq_default xs 0 l)) p)
     (cases_lt a (length xs))
 
-set_below : (xs : List ℕ) (n i v a : ℕ) → zero < n → v < n → ((b : ℕ) → get_or xs b 0 < n) → get_or (set xs i v) a 0 < n
-set_below xs n i v a p h each =
-    let P : ℕ → Type 0 = λ x. x < n in
+set_below : (xs : List ℕ) (n i v a : ℕ) → v < n → ((b : ℕ) → get_or xs b 0 < n) → get_or (set xs i v) a 0 < n
+set_below xs n i v a h each =
     ⊎_elim
-    (λ (l : a < i). subst P (sym (get_or-set_other xs i a v 0 (λ z. omega arith))) (each a))
-    (λ (l : i ≤ a). ⊎_elim
-    (λ (m : i < a). subst P (sym (get_or-set_other xs i a v 0 (λ z. omega arith))) (each a))
-    (λ (m : a ≤ i). let z : a ≡ i = omega arith in ⊎_elim
-    (λ (k : i < length xs). subst P (sym (get_or-set_at xs i a v 0 z k)) h)
-    (λ (k : length xs ≤ i). subst P (sym (get_or-eq_default (set xs i v) 0 (omega (arith, length-set xs i v)))) p)
-    (cases_lt i (length xs)))
-    (cases_lt i a))
-    (cases_lt a i)
+    (λ (l : i < length xs). set_has (λ _ x. x < n) xs i v 0 a l (λ _. h) (λ _. each a))
+    (λ (l : length xs ≤ i). subst (λ ys. get_or ys a 0 < n) (sym (set_past xs i v l)) (each a))
+    (cases_lt i (length xs))
 
 below_as : (n w k : ℕ) → n < 2 ^ w → w ≡ k → n < 2 ^ k
 below_as n w k h e = let P : ℕ → Type 0 = λ x. n < 2 ^ x in subst P e h
@@ -54,7 +48,7 @@ port_fits c ns w k (Some p) words a ok each =
     let v : ℕ = at c ns p.value.0 in
     let ws : List ℕ = set words (at c ns p.address.0) v in
     cond_both (on c ns p.enable.0) ws words (λ xs. get_or xs a 0 < 2 ^ w)
-    (λ _. set_below words (2 ^ w) (at c ns p.address.0) v a (pow_pos w) (below_as v (wide ns p.value.0) w (at_fits c ns p.value.0 ok.2.0) ok.2.1) each)
+    (λ _. set_below words (2 ^ w) (at c ns p.address.0) v a (below_as v (wide ns p.value.0) w (at_fits c ns p.value.0 ok.2.0) ok.2.1) each)
     (λ _. each a)
 
 clocked : (net : Net) (c : Cells) (st : State) → NetOk net → length st.files ≡ length net.parts.files → StateFits net st → StateFits net (record { regs = regs_after net c; files = files_after net c st.files })

@@ -1,13 +1,12 @@
 -- Reading and writing words in disjoint spans.
 use Rattle.std.proofs.Common.{◌≡◌, ◌≢◌, ℕ, ◌+◌, ◌-◌, ◌^◌, ◌<◌, ◌≤◌, List, [], ◌∷◌, ◌++◌, length, get_or, set, map, take, drop, replicate, suc, sym, subst, ap, ◌∙◌, arith, ⊎_elim, inl, inr, length-append, length-drop, Option}
-use Rattle.std.proofs.lemmas.List.{get_or-set_other, length-set, get_or-map, drop-set-add, drop-set-lt, take-set-le, get_or_append_left, get_or_default, length-take-le, length-replicate, take_more, drop_more, set-set, get_or-set_same, map-append, append_assoc}
-use Rattle.std.proofs.lemmas.{Bool.cases_lt, Slice.between_is, List.Edits.length-between, Grind.get_or-set_at, List.Elements.All-get_or}
+use Rattle.std.proofs.lemmas.List.{get_or-set_other, length-set, get_or-map, drop-set-add, drop-set-lt, take-set-le, get_or_append_left, get_or_default, length-take-le, length-replicate, length-map, take_more, drop_more, set-set, get_or-set_same, map_push, map_more, append_assoc, ext_get_or}
+use Rattle.std.proofs.lemmas.{Bool.cases_lt, Bool.cases_eq, Slice.between_is, List.Edits.length-between, Grind.get_or-set_at, List.Elements.All-get_or}
 use Rattle.std.proofs.Math.Seq.{take-set-lt, get_or-append_right, set-append_seam}
 use Rattle.kp_region.specs.declared.span.Span.{Span}
 use Rattle.kp_region.specs.Words.{Words, IsSound, IsWithin, IsDisjoint, span_words, next_span, carved, written}
 use Rattle.kp_cycle.specs.inner.{Spans.Apart, Spans.no_span, Storage.Stored, Storage.Fits}
 use Rattle.kp_net.specs.{declared.netlist.NetFile.NetFile, Netlist.Net, Netlist.State, Parts.NetOk, Parts.FileOk, Parts.no_file}
-use Rattle.kp_cycle.proofs.Clocking.{length_map, same_elements}
 
 -- a span holds as many words as its length says
 pub span_length : (r : Words) (s : Span) → IsSound r → IsWithin s r → length (span_words r s) ≡ s.len
@@ -24,33 +23,36 @@ span_stays r s t i v apart h =
     (λ above. ap (take (s.start + s.len - s.start)) (drop-set-lt s.start r.words (t.start + i) v (omega arith)))
     apart
 
+pub other_way : (s t : Span) → IsDisjoint s t → IsDisjoint t s
+other_way s t apart = ⊎_elim (λ below. inr below) (λ above. inl above) apart
+
+-- two of the spans
+pub pieces_apart : (r : Words) (spans : List Span) (j k : ℕ) → Apart r spans → j < length spans → k < length spans → j ≢ k → IsDisjoint (get_or spans j no_span) (get_or spans k no_span)
+pieces_apart r spans j k h lj lk apart =
+    ⊎_elim (λ (x : j < k). h.apart j k x lk) (λ (x : k ≤ j). other_way (get_or spans k no_span) (get_or spans j no_span) (h.apart k j (omega arith) lj)) (cases_lt j k)
+
 -- a write into one of the spans is a write into what that one holds
 pub write_one : (r : Words) (spans : List Span) (k i v : ℕ) → Apart r spans → k < length spans → i < (get_or spans k no_span).len
     → map (span_words (written r (get_or spans k no_span) i v)) spans ≡ set (map (span_words r) spans) k (set (span_words r (get_or spans k no_span)) i v)
 write_one r spans k i v h l m =
     let t : Span = get_or spans k no_span in
-    let r' : Words = written r t i v in
+    let new : Words = written r t i v in
     let old : List (List ℕ) = map (span_words r) spans in
     let ws : List ℕ = set (span_words r t) i v in
-    let other : (j : ℕ) → j < length spans → IsDisjoint (get_or spans j no_span) t → j ≢ k → get_or (map (span_words r') spans) j [] ≡ get_or (set old k ws) j [] =
-    λ j n apart z. get_or-map (span_words r') spans j no_span [] n ∙ span_stays r (get_or spans j no_span) t i v apart m ∙ sym (get_or-map (span_words r) spans j no_span [] n) ∙ sym (get_or-set_other old k j ws [] z) in
-    same_elements (map (span_words r') spans) (set old k ws) []
-    (length_map (span_words r') spans ∙ sym (length_map (span_words r) spans) ∙ sym (length-set old k ws))
-    (λ j n'. let n : j < length spans = omega (arith, length_map (span_words r') spans) in
-    ⊎_elim
-    (λ (x : j < k). other j n (h.apart j k x l) (λ z. omega arith))
-    (λ (x : k ≤ j). ⊎_elim
-    (λ (y : k < j). other j n (⊎_elim (λ a. inr a) (λ b. inl b) (h.apart k j y n)) (λ z. omega arith))
-    (λ (y : j ≤ k). let z : j ≡ k = omega arith in
-    get_or-map (span_words r') spans j no_span [] n ∙ ap (λ x. span_words r' (get_or spans x no_span)) z ∙ span_lands r t i v m ∙ sym (get_or-set_at old k j ws [] z (omega (arith, length_map (span_words r) spans))))
-    (cases_lt k j))
-    (cases_lt j k))
+    ext_get_or [] (map (span_words new) spans) (set old k ws) (length-map spans (span_words new) ∙ sym (length-map spans (span_words r)) ∙ sym (length-set old k ws))
+    (λ j n. let there : j < length spans = omega (arith, n, length-map spans (span_words new)) in
+    get_or-map (span_words new) spans j no_span [] there
+    ∙ ⊎_elim
+    (λ (z : j ≡ k). ap (λ x. span_words new (get_or spans x no_span)) z ∙ span_lands r t i v m ∙ sym (get_or-set_at old k j ws [] z (omega (arith, length-map spans (span_words r)))))
+    (λ (no : j ≢ k). span_stays r (get_or spans j no_span) t i v (pieces_apart r spans j k h there l no) m ∙ sym (get_or-map (span_words r) spans j no_span [] there) ∙ sym (get_or-set_other old k j ws [] no))
+    (cases_eq j k))
 
--- and all spans stay side by side
-pub apart_written : (r : Words) (spans : List Span) (s : Span) (i v : ℕ) → Apart r spans → Apart (written r s i v) spans
-apart_written r spans s i v h = record { sound = omega (arith, h.sound, length-set r.words (s.start + i) v); few = h.few; within = h.within; apart = h.apart }
+-- spans stay side by side when the words of a region change
+pub apart_still : (r new : Words) (spans : List Span) → Apart r spans → new.used ≡ r.used → length new.words ≡ length r.words → Apart new spans
+apart_still r new spans h used many =
+    record { sound = omega (arith, h.sound); few = omega (arith, h.few); within = λ k l. let w = h.within k l in omega (arith, w); apart = h.apart }
 
--- so does the span that is carved next
+-- and with the span that is carved next
 pub apart_carved : (r : Words) (spans : List Span) (n : ℕ) → Apart r spans → IsSound (carved r n) → r.used + n < 2 ^ 32 → Apart (carved r n) (spans ++ next_span r n ∷ [])
 apart_carved r spans n h sound few =
     let s : Span = next_span r n in
@@ -105,12 +107,12 @@ pub fits_laid : (net : Net) (values : List ℕ) (r : Words) (g : Span) (fs : Lis
 fits_laid net values r g fs slots ok a h b e =
     let len : Span → ℕ = λ s. s.len in
     let size : NetFile → ℕ = λ f. length f.words in
-    let same : length fs ≡ length net.parts.files = sym (length_map len fs) ∙ ap length e ∙ length_map size net.parts.files in
+    let same : length fs ≡ length net.parts.files = sym (length-map fs len) ∙ ap length e ∙ length-map net.parts.files size in
     record {
       right = ok;
       nodes = a;
       regs = span_length r g h.sound (h.within 0 (omega arith)) ∙ b;
-      files = length_map (span_words r) fs ∙ same;
+      files = length-map fs (span_words r) ∙ same;
       words = λ f l. let l' : f < length fs = omega (arith, same) in
           let file : FileOk net.nodes (get_or net.parts.files f no_file) = All-get_or (FileOk net.nodes) net.parts.files f no_file l ok.parts.files in
           ap length (file_is r fs f l') ∙ span_length r (get_or fs f no_span) h.sound (h.within (suc f) (omega arith))
@@ -121,7 +123,7 @@ fits_laid net values r g fs slots ok a h b e =
 pub file_span : (values : List ℕ) (r : Words) (g : Span) (fs : List Span) (slots : List (Option State)) (m : Stored) (file address : ℕ) (s : Span) → Apart r (g ∷ fs) → stored_in values g fs slots r ≡ m → file < length m.files → address < length (get_or m.files file []) → s ≡ get_or fs file s
     → IsWithin s r × (address < s.len) × (s ≡ get_or fs file no_span) × (file < length fs)
 file_span values r g fs slots m file address s h v l a e =
-    let l' : file < length fs = omega (arith, l, ap (λ (x : Stored). length x.files) v, length_map (span_words r) fs) in
+    let l' : file < length fs = omega (arith, l, ap (λ (x : Stored). length x.files) v, length-map fs (span_words r)) in
     let i : s ≡ get_or fs file no_span = e ∙ get_or_default fs file s no_span l' in
     let a' : address < length (get_or (map (span_words r) fs) file []) = omega (arith, a, ap (λ (x : Stored). length (get_or x.files file [])) v) in
     let P : Span → Type 0 = λ x. IsWithin x r in
@@ -141,7 +143,7 @@ lens_more files spans i s x h a b e =
     let len : Span → ℕ = λ t. t.len in
     let size : NetFile → ℕ = λ f. length f.words in
     let l : s.len ≡ size (get_or files i x) = a ∙ ap size b in
-    map-append len spans (s ∷ []) ∙ (λ j. e j ++ l j ∷ []) ∙ sym (map-append size (take i files) (get_or files i x ∷ [])) ∙ ap (map size) (sym (take_more files i x h))
+    map_push len spans s ∙ (λ j. e j ++ l j ∷ []) ∙ sym (map_more size files i x h)
 
 -- one more word of a file is filled in
 pub filled_more : (files : List (List ℕ)) (file i : ℕ) (ws : List ℕ) → file < length files → length ws ≡ length (get_or files file []) → i < length ws

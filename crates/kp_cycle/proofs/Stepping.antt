@@ -1,6 +1,6 @@
 -- A step computes the value of its target, provided that its operands have theirs.
 use Rattle.std.proofs.Common.{◌≡◌, ℕ, ◌+◌, ◌-◌, ◌<◌, ◌≤◌, ◌^◌, List, [], ◌∷◌, length, get_or, set, map, Option, None, Some, refl, sym, subst, ap, ◌∙◌, arith, ⊎_elim, ◌%◌}
-use Rattle.std.proofs.{Math.Nat.mod-eq_of_lt, lemmas.Bool.cases_lt, lemmas.List.get_or-set_other, lemmas.List.get_or-map, lemmas.Grind.get_or-set_at}
+use Rattle.std.proofs.{Math.Nat.mod-eq_of_lt, lemmas.Bool.cases_lt, lemmas.List.get_or-map, lemmas.List.length-map}
 use Rattle.std.proofs.lemmas.List.Elements.{All-head, All-tail}
 use Rattle.std.specs.Prelude.{All}
 use Rattle.kp_bits.specs.Word as bits
@@ -16,7 +16,7 @@ use Rattle.kp_cycle.specs.{inner.Codes.op_for, inner.Codes.number_of, inner.Code
 use Rattle.kp_cycle.specs.{declared.latches.Latch.TheVariants.Always, declared.latches.Latch.TheVariants.If, inner.Latches.latch_for, inner.Latches.OfLatch}
 use Rattle.kp_cycle.specs.inner.Plans.{reads, reads_at, Among, IsKnown, OfPort, OfRoots, AreFixed, IsPlan, Settled, no_step, targets}
 use Rattle.kp_cycle.specs.inner.Storage.{Stored, Fits, FitsBelow, StateFits, cells, seen, state_of}
-use Rattle.kp_cycle.proofs.{Clocking.length_map, Coding.coded, Coding.ready}
+use Rattle.kp_cycle.proofs.{Clocking.set_has, Coding.coded, Coding.ready}
 
 -- a node's word depends on the words of its operands alone
 parts_read : (v w : Words) (parts : List NodeId) → All (λ a. v a.0 ≡ w a.0) parts → map (λ a. v a.0) parts ≡ map (λ a. w a.0) parts
@@ -26,16 +26,13 @@ parts_read v w (a ∷ parts) h =
     λ i. x i ∷ y i
 
 kind_read : (c : Cells) (k : ℕ) (o : Kind) (v w : Words) → All (λ a. v a.0 ≡ w a.0) (reads o) → word_of_kind c v k o ≡ word_of_kind c w k o
-kind_read c k (Const n) v w h = refl
-kind_read c k Ext v w h = refl
-kind_read c k (Sample s) v w h = refl
-kind_read c k (Reg r) v w h = refl
 kind_read c k (Word f a) v w h = ap (λ (x : bits.Word). bits.word k (c.word f x.value)) (h 0 a (omega arith))
 kind_read c k (Not a) v w h = ap bits.not_of (h 0 a (omega arith))
 kind_read c k (Binary op a b) v w h = let x = h 0 a (omega arith) in let y = h 1 b (omega arith) in λ i. binary_of op (x i) (y i)
 kind_read c k (Mux t a b) v w h = let x = h 0 t (omega arith) in let y = h 1 a (omega arith) in let z = h 2 b (omega arith) in λ i. bits.mux_of (x i) (y i) (z i)
 kind_read c k (Concat parts) v w h = ap joined_of (parts_read v w parts h)
 kind_read c k (Slice a hi lo) v w h = ap (λ (x : bits.Word). bits.slice_of x hi lo) (h 0 a (omega arith))
+kind_read c k _ v w h = refl
 
 -- an operand that has its value
 abbrev HasValue : Cells → List Node → List ℕ → ℕ → Type 0
@@ -55,20 +52,10 @@ step_value c ns v t right h have =
     ap (λ (x : bits.Word). (bits.word n.width (x.value % 2 ^ n.width)).value) e
     ∙ ap (λ (x : bits.Word). x.value) (sym (word_there c ns t h (right t h)))
 
-pub same_or_not : (i j : ℕ) (A : Type 0) → (i ≡ j → A) → ((i ≡ j → ⊥) → A) → A
-same_or_not i j A same other =
-    ⊎_elim
-    (λ (low : i < j). other (λ z. omega arith))
-    (λ (at_least : j ≤ i). ⊎_elim
-    (λ (high : j < i). other (λ z. omega arith))
-    (λ (at_most : i ≤ j). same (omega arith))
-    (cases_lt j i))
-    (cases_lt i j)
-
 -- what a plan says of its step k
 module _ (net : Net) (heads : ℕ) (steps : List Step) (k : ℕ) (plan : IsPlan net heads steps) (h : k < length steps) where
   length_targets : length (targets steps) ≡ length steps
-  length_targets = length_map (λ (s : Step). s.target) steps
+  length_targets = length-map steps (λ (s : Step). s.target)
 
   pub target_is : get_or (targets steps) k 0 ≡ (get_or steps k no_step).target
   target_is = get_or-map (λ (s : Step). s.target) steps k no_step 0 h
@@ -141,23 +128,15 @@ module _ (net : Net) (heads : ℕ) (steps : List Step) (k : ℕ) (plan : IsPlan 
       let c : Cells = cells input m in
       let ns : List Node = net.nodes in
       let there : t < length m.nodes = omega (arith, target_inside, count) in
-      let new : List ℕ = set m.nodes t x in
-      let other : (j : ℕ) → (j ≡ t → ⊥) → get_or new j 0 ≡ get_or m.nodes j 0 = λ j no. get_or-set_other m.nodes t j x 0 no in
-      let own : (j : ℕ) → j ≡ t → get_or new j 0 ≡ at c ns j = λ j same. get_or-set_at m.nodes t j x 0 same there ∙ value ∙ ap (at c ns) (sym same) in
-      let is_wide : (j : ℕ) → ℕ → Type 0 = λ j y. y < 2 ^ wide ns j in
+      let own : (j : ℕ) → j ≡ t → x ≡ at c ns j = λ j same. value ∙ ap (at c ns) (sym same) in
       record {
-        widths = λ j l. same_or_not j t (get_or new j 0 < 2 ^ wide ns j)
-            (λ same. subst (is_wide j) (sym (own j same)) (at_fits c ns j l))
-            (λ no. subst (is_wide j) (sym (other j no)) (settled.widths j l));
-        leads = λ j l. same_or_not j t (get_or new j 0 ≡ at c ns j)
-            (own j)
-            (λ no. other j no ∙ settled.leads j l);
+        widths = λ j l. set_has (λ i y. y < 2 ^ wide ns i) m.nodes t x 0 j there (λ same. subst (λ y. y < 2 ^ wide ns j) (sym (own j same)) (at_fits c ns j l)) (λ apart. settled.widths j l);
+        leads = λ j l. set_has (λ i y. y ≡ at c ns i) m.nodes t x 0 j there (own j) (λ apart. settled.leads j l);
         known = λ q l. let j : ℕ = get_or (targets steps) q 0 in
-            same_or_not j t (get_or new j 0 ≡ at c ns j)
-            (own j)
-            (λ no. other j no ∙ ⊎_elim
+            set_has (λ i y. y ≡ at c ns i) m.nodes t x 0 j there (own j)
+            (λ apart. ⊎_elim
             (λ (below : q < k). settled.known q below)
-            (λ (above : k ≤ q). let e : q ≡ k = omega arith in absurd (no (ap (λ (i : ℕ). get_or (targets steps) i 0) e ∙ target_is)))
+            (λ (above : k ≤ q). let e : q ≡ k = omega arith in absurd (apart (ap (λ (i : ℕ). get_or (targets steps) i 0) e ∙ target_is)))
             (cases_lt q k));
       }
 
@@ -187,24 +166,22 @@ all_settled net input heads steps m plan settled =
     (λ j known. ⊎_elim (λ (first : j < heads). settled.leads j first) (λ (a : Among (targets steps) (length steps) j). subst Q a.2 (settled.known a.0 a.1)) known)
     plan.roots
 
--- a node that is a register has the register's value
-reg_value : (c : Cells) (ns : List Node) (v : List ℕ) (j r : ℕ) → AllRight ns → j < length ns → (get_or ns j no_node).kind ≡ Reg r → c.reg r < 2 ^ (get_or ns j no_node).width
-    → c.reg r ≡ at c ns j
-reg_value c ns v j r right h is fits =
+-- a node that reads no other
+leaf_value : (c : Cells) (ns : List Node) (j : ℕ) (o : Kind) → AllRight ns → j < length ns → (get_or ns j no_node).kind ≡ o → length (reads o) ≡ 0
+    → (word_of_kind c (seen ns []) (get_or ns j no_node).width o).value % 2 ^ (get_or ns j no_node).width ≡ at c ns j
+leaf_value c ns j o right h is none =
     let n : Node = get_or ns j no_node in
-    let none : All (λ a. HasValue c ns v a.0) (reads_at ns j) =
-    (let P : Kind → Type 0 = λ o. All (λ (a : NodeId). HasValue c ns v a.0) (reads o) in subst P (sym is) (λ q d l. absurd (omega arith))) in
-    sym (mod-eq_of_lt fits)
-    ∙ ap (λ (o : Kind). (word_of_kind c (seen ns v) n.width o).value % 2 ^ n.width) (sym is)
-    ∙ step_value c ns v j right h none
+    ap (λ (k : Kind). (word_of_kind c (seen ns []) n.width k).value % 2 ^ n.width) (sym is)
+    ∙ step_value c ns [] j right h (subst (λ k. All (λ a. HasValue c ns [] a.0) (reads k)) (sym is) (λ q d l. absurd (omega (arith, none))))
 
+-- a node that is a register has the register's value
 pub reg_held : (net : Net) (input : Input) (st : State) (j r : ℕ) → NetOk net → StateFits net st → j < length net.nodes → (get_or net.nodes j no_node).kind ≡ Reg r
     → get_or st.regs r 0 ≡ at (cells_of input st) net.nodes j
 reg_held net input st j r ok fits h is =
     let P : Kind → Type 0 = CellOk net.nodes net.parts (get_or net.nodes j no_node).width in
     let cell = subst P is (ok.parts.cells j h) in
     let Q : ℕ → Type 0 = λ w. get_or st.regs r 0 < 2 ^ w in
-    reg_value (cells_of input st) net.nodes [] j r ok.right h is (subst Q cell.1 (fits.regs r cell.0))
+    sym (mod-eq_of_lt (subst Q cell.1 (fits.regs r cell.0))) ∙ leaf_value (cells_of input st) net.nodes j (Reg r) ok.right h is refl
 
 -- a constant has its value
 pub const_fits : (ns : List Node) (j n : ℕ) → AllRight ns → j < length ns → (get_or ns j no_node).kind ≡ Const n → n < 2 ^ wide ns j
@@ -213,17 +190,11 @@ const_fits ns j n right h is = let P : Kind → Type 0 = KindOk ns j (get_or ns 
 
 const_value : (c : Cells) (ns : List Node) (j n : ℕ) → AllRight ns → j < length ns → (get_or ns j no_node).kind ≡ Const n → n ≡ at c ns j
 unfolding wide
-const_value c ns j n right h is =
-    let x : Node = get_or ns j no_node in
-    let none : All (λ a. HasValue c ns [] a.0) (reads_at ns j) =
-    (let P : Kind → Type 0 = λ o. All (λ (a : NodeId). HasValue c ns [] a.0) (reads o) in subst P (sym is) (λ q d l. absurd (omega arith))) in
-    sym (mod-eq_of_lt (const_fits ns j n right h is))
-    ∙ ap (λ (o : Kind). (word_of_kind c (seen ns []) x.width o).value % 2 ^ x.width) (sym is)
-    ∙ step_value c ns [] j right h none
+const_value c ns j n right h is = sym (mod-eq_of_lt (const_fits ns j n right h is)) ∙ leaf_value c ns j (Const n) right h is refl
 
 -- the target of step q of a plan is a node
 target_there : (net : Net) (heads : ℕ) (steps : List Step) (q : ℕ) → IsPlan net heads steps → q < length steps → get_or (targets steps) q 0 < length net.nodes
-target_there net heads steps q plan h = plan.ordered.inside q (omega (arith, h, length_map (λ (s : Step). s.target) steps))
+target_there net heads steps q plan h = plan.ordered.inside q (omega (arith, h, length-map steps (λ (s : Step). s.target)))
 
 -- the registers were copied to the first nodes, and only the steps of constants have been evaluated
 pub fixed_settled : (net : Net) (input : Input) (heads : ℕ) (steps : List Step) (fixed : ℕ) (old : List ℕ) (m : Stored) → IsPlan net heads steps → Fits net m → StateFits net (state_of m)
@@ -266,30 +237,17 @@ pub fixed_more : (net : Net) (heads : ℕ) (steps : List Step) (k t v : ℕ) (va
 fixed_more net heads steps k t v values plan h e there is old = (
   omega (arith, h),
   λ q l. let j : ℕ = get_or (targets steps) q 0 in
-      same_or_not j t ((get_or net.nodes j no_node).kind ≡ Const (get_or (set values t v) j 0))
-      (λ same. ap (λ (i : ℕ). (get_or net.nodes i no_node).kind) same ∙ is ∙ ap (λ (n : ℕ). Const n) (sym (get_or-set_at values t j v 0 same there)))
-      (λ no. ⊎_elim
-      (λ (below : q < k). old.1 q below ∙ ap (λ (n : ℕ). Const n) (sym (get_or-set_other values t j v 0 no)))
-      (λ (above : k ≤ q). let z : q ≡ k = omega arith in absurd (no (ap (λ (i : ℕ). get_or (targets steps) i 0) z ∙ sym e)))
+      set_has (λ i x. (get_or net.nodes i no_node).kind ≡ Const x) values t v 0 j there
+      (λ same. ap (λ (i : ℕ). (get_or net.nodes i no_node).kind) same ∙ is)
+      (λ apart. ⊎_elim
+      (old.1 q)
+      (λ (above : k ≤ q). let z : q ≡ k = omega arith in absurd (apart (ap (λ (i : ℕ). get_or (targets steps) i 0) z ∙ sym e)))
       (cases_lt q k)),
 )
 
 pub widths_more : (ns : List Node) (values : List ℕ) (t v : ℕ) → t < length values → v < 2 ^ wide ns t → FitsBelow ns values (length ns) → FitsBelow ns (set values t v) (length ns)
 widths_more ns values t v there fits old j l =
-    let P : ℕ → ℕ → Type 0 = λ i x. x < 2 ^ wide ns i in
-    same_or_not j t (P j (get_or (set values t v) j 0))
-    (λ same. subst (P j) (sym (get_or-set_at values t j v 0 same there)) (subst (λ (i : ℕ). P i v) (sym same) fits))
-    (λ no. subst (P j) (sym (get_or-set_other values t j v 0 no)) (old j l))
-
--- the values of nodes by another name
-pub settled_as : (net : Net) (input : Input) (heads : ℕ) (steps : List Step) (k : ℕ) (m : Stored) (values : List ℕ) → values ≡ m.nodes → Settled net input heads steps k m → Settled net input heads steps k (record m { nodes = values })
-settled_as net input heads steps k m values e settled =
-    let P : List ℕ → Type 0 = λ v. FitsBelow net.nodes v (length net.nodes) in
-    record {
-      widths = subst P (sym e) settled.widths;
-      leads = λ j l. ap (λ (v : List ℕ). get_or v j 0) e ∙ settled.leads j l;
-      known = λ q l. ap (λ (v : List ℕ). get_or v (get_or (targets steps) q 0) 0) e ∙ settled.known q l;
-    }
+    set_has (λ i x. x < 2 ^ wide ns i) values t v 0 j there (λ same. subst (λ (i : ℕ). v < 2 ^ wide ns i) (sym same) fits) (λ apart. old j l)
 
 -- there are as many registers
 pub heads_fit : (net : Net) (heads : ℕ) (steps : List Step) (m : Stored) → IsPlan net heads steps → Fits net m → heads ≤ length m.regs

@@ -7,6 +7,7 @@ ghost use Rattle.kp_cycle.specs.Runs.{Steps, IsStep, Fed, Calls};
 
 /// After any calls of `step` and `step_with` the rows and the state, and with it the values of registers and the
 /// words of files, are those of the run of the netlist over the inputs of these calls.
+#[tactic(auto, using(crate::proofs::Running::rows_of_run, crate::proofs::Running::state_of_run, crate::proofs::Running::value_of_run, crate::proofs::Running::word_of_run))]
 pub fn steps_are_the_run()
     ensures rows { (net : Net) (slots : List (Option State)) (inputs : List Input) (rows : List Row) (t : Running) → Steps (record { net = net; state = start_of net; slots = slots }) inputs rows t
         → rows ≡ (run net inputs).rows }
@@ -21,6 +22,7 @@ pub fn steps_are_the_run()
 /// With calls of `save` and `load` among them, in any order, the state, and with it the values of registers and the
 /// words of files, is that of the run of the netlist over the inputs that led to it: a load restores the inputs up to
 /// the time when its slot was saved. And a row is that of the run after these inputs.
+#[tactic(auto, using(crate::proofs::Running::state_of_calls, crate::proofs::Running::slot_of_calls))]
 pub fn calls_are_the_run()
     ensures state { (net : Net) (n : ℕ) (fed : Fed) (s : Running) → Calls net n fed s → s.state ≡ last_of net fed.present }
     ensures rows { (net : Net) (n : ℕ) (fed : Fed) (s : Running) (input : Input) (row : Row) (t : Running) → Calls net n fed s → IsStep s input row t

@@ -39,7 +39,7 @@ impl Model for Memory {
       nodes = m.nodes.items;
       regs = span_words m.region (first_span m.reg_count);
       files = map (span_words m.region) m.files.items;
-      slots = map (held m.region (first_span m.reg_count) m.files.items m.whole) m.slots.items;
+      slots = map (held m.region (first_span m.reg_count) m.files.items) m.slots.items;
     } };
 
     ghost invariant = { λ m. Laid m.region (first_span m.reg_count) m.files.items m.whole m.slots.items };

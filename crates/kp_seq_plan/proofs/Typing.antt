@@ -247,10 +247,9 @@ word_gives w v n h e k = λ ws. record {
 
 suits_at : (ws : List (Option ℕ)) (slots : Slots) (vs : List ℕ) (i : ℕ) → AllSuit ws slots vs → Suits (get_or ws i None) (get_or slots i None) (slice_index vs i)
 suits_at [] slots vs i h = ap (λ s. get_or s i None) h.0
-suits_at (w ∷ ws) [] vs i h = absurd h
-suits_at (w ∷ ws) (s ∷ slots) [] i h = absurd h
 suits_at (w ∷ ws) (s ∷ slots) (v ∷ vs) zero h = h.0
 suits_at (w ∷ ws) (s ∷ slots) (v ∷ vs) (suc i) h = suits_at ws slots vs i h.1
+suits_at _ _ _ i h = absurd h
 
 pub name_gives : (ws : List (Option ℕ)) (o : Option ℕ) (i w : ℕ) → o ≡ Some i → get_or ws i None ≡ Some w → 1 ≤ w → w ≤ 64
     → Gives ws (λ s. at_place s o) 0 (Some (typed (leaf.Name i) w))

@@ -25,16 +25,12 @@ joined_op ns (a ∷ (b ∷ (d ∷ []))) = Join3 a b d (wide ns b.0) (wide ns d.0
 joined_op ns _ = Plain
 
 abbrev pub kind_op : List Node → ℕ → ℕ → Kind → Op
-kind_op ns width mask (kind.Const n) = Plain
-kind_op ns width mask kind.Ext = Plain
-kind_op ns width mask (kind.Sample s) = Plain
-kind_op ns width mask (kind.Reg r) = Plain
-kind_op ns width mask (kind.Word f a) = Plain
 kind_op ns width mask (kind.Not a) = Not a mask
 kind_op ns width mask (kind.Binary op a b) = binary_op op a b width mask
 kind_op ns width mask (kind.Mux test a b) = Mux test a b
 kind_op ns width mask (kind.Concat parts) = joined_op ns parts
 kind_op ns width mask (kind.Slice a hi lo) = Slice a lo mask
+kind_op ns width mask _ = Plain
 
 abbrev pub op_for : List Node → Node → Op
 op_for ns n = kind_op ns n.width (2 ^ n.width - 1) n.kind

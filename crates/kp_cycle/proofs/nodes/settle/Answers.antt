@@ -3,7 +3,7 @@ use Rattle.std.specs.List.{refill}
 use Rattle.kp_net.specs.Netlist.{Net, Input, State}
 use Rattle.kp_cycle.specs.{declared.codes.Step.Step, Steps.given, inner.Plans.Settled}
 use Rattle.kp_cycle.specs.inner.Storage.{Stored, Fits, StateFits, state_of}
-use Rattle.kp_cycle.proofs.Stepping.{all_settled, fixed_settled, still_fixed, heads_fit, settled_as}
+use Rattle.kp_cycle.proofs.Stepping.{all_settled, fixed_settled, still_fixed, heads_fit}
 use Rattle.kp_cycle.proofs.Settling.{fits_as, over_length, over_front, over_rest, refilled}
 use Rattle.kp_cycle.proofs.nodes.settle.Goals as goal
 
@@ -64,7 +64,7 @@ module _ (net : Net) (input : Input) (heads : ℕ) (steps : List Step) (m : Stor
   settled_batch : Settled net input heads steps k m → Settled net input heads steps end (record m { nodes = refill (length m.nodes) m.nodes new })
   settled_batch settled =
       let P : List ℕ → Type 0 = λ v. Settled net input heads steps end (record m { nodes = v }) in
-      subst P (sym (refilled m.nodes new many)) (batch (settled_as net input heads steps k m old value settled))
+      subst P (sym (refilled m.nodes new many)) (batch (subst (λ v. Settled net input heads steps k (record m { nodes = v })) (sym value) settled))
 
 pub take_one-requires-clause-fits : goal.take_one-requires-clause-fits
 take_one-requires-clause-fits c =

@@ -61,7 +61,7 @@ invariant_of-result c =
     let first : c.unwrap-regs.result ≡ first_span c.unwrap-regs.result.len = λ i. record { start = start i; len = c.unwrap-regs.result.len } in
     let P : Span → Type 0 = λ s. Laid c.carve_slots.new.region s c.loop-file.spans.items whole c.in_ok-copies.copies.items in
     subst P first (laid_out c.loop-file.region c.carve_slots.new.region c.unwrap-regs.result c.loop-file.spans.items whole c.in_ok-copies.copies.items c.args.slots
-    inv.0 (all_behind c.unwrap-regs.result c.loop-file.spans.items inv.5) refl (omega (arith, inv.2, inv.6, all, c.words_of-file_words.ensures.sum)) slots.apart c.carve_slots.ensures.used slots.count slots.sizes)
+    inv.0 (all_behind c.unwrap-regs.result c.loop-file.spans.items inv.5) inv.6 refl (omega (arith, inv.2, inv.6, all, c.words_of-file_words.ensures.sum)) slots.apart c.carve_slots.ensures.used slots.count slots.sizes)
 
 pub returns-clause-fits : goal.returns-clause-fits
 returns-clause-fits c =
@@ -87,5 +87,4 @@ returns-clause-nodes c i l =
 
 pub returns-clause-slots : goal.returns-clause-slots
 returns-clause-slots c =
-    unsaved c.carve_slots.new.region (first_span c.unwrap-regs.result.len) c.loop-file.spans.items
-    (record { start = c.unwrap-regs.result.start; len = length c.as_slice.result.now + c.words_of-file_words.result }) c.in_ok-copies.copies.items c.args.slots c.in_ok-copies.ensures.count c.in_ok-copies.ensures.unsaved
+    unsaved c.carve_slots.new.region (first_span c.unwrap-regs.result.len) c.loop-file.spans.items c.in_ok-copies.copies.items c.args.slots c.in_ok-copies.ensures.count c.in_ok-copies.ensures.unsaved

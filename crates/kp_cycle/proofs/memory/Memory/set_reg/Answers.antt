@@ -18,7 +18,7 @@ pub returns : goal.returns
 returns c =
     let m = c.self.inside in
     let h = c.self.invariant in
-    let slots : Words → List (Option State) = λ r. map (held r (first_span m.reg_count) m.files.items m.whole) m.slots.items in
+    let slots : Words → List (Option State) = λ r. map (held r (first_span m.reg_count) m.files.items) m.slots.items in
     let l : c.args.i < (first_span m.reg_count).len = omega (arith, c.requires, ap (λ (x : Stored). length x.regs) c.self.view_is, span_length m.region (first_span m.reg_count) h.apart.sound (h.apart.within 0 (omega arith))) in
     ap (λ (r : Words). stored_in m.nodes.items (first_span m.reg_count) m.files.items (slots r) r) c.put.ensures.written
     ∙ ap (λ (s : List (Option State)). stored_in m.nodes.items (first_span m.reg_count) m.files.items s (written m.region (first_span m.reg_count) c.args.i c.args.value))

@@ -8,13 +8,13 @@ use Rattle.kp_cycle.proofs.memory.Memory.set_word.Goals as goal
 pub overflow_cast-address : goal.overflow_cast-address
 overflow_cast-address c =
     let m = c.self.inside in
-    let p = file_span m.nodes.items m.region (first_span m.reg_count) m.files.items (map (held m.region (first_span m.reg_count) m.files.items m.whole) m.slots.items) c.args.self.now c.args.file c.args.address c.index-span.result.now c.self.invariant.apart c.self.view_is c.requires.file c.requires.address c.index-span.ensures in
+    let p = file_span m.nodes.items m.region (first_span m.reg_count) m.files.items (map (held m.region (first_span m.reg_count) m.files.items) m.slots.items) c.args.self.now c.args.file c.args.address c.index-span.result.now c.self.invariant.apart c.self.view_is c.requires.file c.requires.address c.index-span.ensures in
     omega (arith, p.0, p.1, c.self.invariant.apart.few)
 
 pub put-requires-clause-within : goal.put-requires-clause-within
 put-requires-clause-within c =
     let m = c.self.inside in
-    (file_span m.nodes.items m.region (first_span m.reg_count) m.files.items (map (held m.region (first_span m.reg_count) m.files.items m.whole) m.slots.items) c.args.self.now c.args.file c.args.address c.index-span.result.now c.self.invariant.apart c.self.view_is c.requires.file c.requires.address c.index-span.ensures).0
+    (file_span m.nodes.items m.region (first_span m.reg_count) m.files.items (map (held m.region (first_span m.reg_count) m.files.items) m.slots.items) c.args.self.now c.args.file c.args.address c.index-span.result.now c.self.invariant.apart c.self.view_is c.requires.file c.requires.address c.index-span.ensures).0
 
 pub invariant_of-self : goal.invariant_of-self
 invariant_of-self c =
@@ -26,8 +26,8 @@ pub returns : goal.returns
 returns c =
     let m = c.self.inside in
     let h = c.self.invariant in
-    let slots : Words → List (Option State) = λ r. map (held r (first_span m.reg_count) m.files.items m.whole) m.slots.items in
-    let p = file_span m.nodes.items m.region (first_span m.reg_count) m.files.items (map (held m.region (first_span m.reg_count) m.files.items m.whole) m.slots.items) c.args.self.now c.args.file c.args.address c.index-span.result.now h.apart c.self.view_is c.requires.file c.requires.address c.index-span.ensures in
+    let slots : Words → List (Option State) = λ r. map (held r (first_span m.reg_count) m.files.items) m.slots.items in
+    let p = file_span m.nodes.items m.region (first_span m.reg_count) m.files.items (map (held m.region (first_span m.reg_count) m.files.items) m.slots.items) c.args.self.now c.args.file c.args.address c.index-span.result.now h.apart c.self.view_is c.requires.file c.requires.address c.index-span.ensures in
     let l : c.args.address < (get_or m.files.items c.args.file no_span).len = omega (arith, p.1, ap (λ (s : Span). s.len) p.2) in
     ap (λ (r : Words). stored_in m.nodes.items (first_span m.reg_count) m.files.items (slots r) r) (c.put.ensures.written ∙ ap (λ (s : Span). written m.region s c.args.address c.args.value) p.2)
     ∙ ap (λ (s : List (Option State)). stored_in m.nodes.items (first_span m.reg_count) m.files.items s (written m.region (get_or m.files.items c.args.file no_span) c.args.address c.args.value))

@@ -17,5 +17,5 @@ returns c =
     let front : new ≡ take count (span_words m.region (first_span m.reg_count)) ++ drop count m.nodes.items =
     c.copy_front.ensures ∙ ap (λ (v : List ℕ). take count v ++ drop count c.as_mut_slice.result.now) c.words-regs.ensures
     ∙ ap (λ (v : List ℕ). take count (span_words m.region (first_span m.reg_count)) ++ drop count v) c.as_mut_slice.ensures.value in
-    ap (λ (v : List ℕ). stored_in v (first_span m.reg_count) m.files.items (map (held m.region (first_span m.reg_count) m.files.items m.whole) m.slots.items) m.region) (with_items_is m.nodes new many ∙ front)
+    ap (λ (v : List ℕ). stored_in v (first_span m.reg_count) m.files.items (map (held m.region (first_span m.reg_count) m.files.items) m.slots.items) m.region) (with_items_is m.nodes new many ∙ front)
     ∙ ap (λ (x : Stored). record x { nodes = take count x.regs ++ drop count x.nodes }) c.self.view_is
