@@ -1,4 +1,5 @@
 // The head of a case: words and options.
+use kp_base::{MemSink, MemSource};
 use std::alloc::{AllocError, Global};
 
 /// The default capacity of a sink, in bytes.
@@ -7,26 +8,40 @@ const ROOM: usize = 1 << 20;
 /// The default for the most bytes that a call of a source or a sink transfers.
 const MOST: usize = 4096;
 
-/// The program with its words, and the options of a head.
+/// The options of a head.
 #[derive(Drop)]
-pub struct Head {
-    pub words: Vec<String>,
-    pub most: usize,
-    pub room: usize,
-    pub err_room: usize,
-    pub read_fails: Vec<u64>,
-    pub write_fails: Vec<u64>,
-    pub err_fails: Vec<u64>,
+pub struct Options {
+    most: usize,
+    room: usize,
+    err_room: usize,
+    read_fails: Vec<u64>,
+    write_fails: Vec<u64>,
+    err_fails: Vec<u64>,
     times: usize,
     is_unended: bool,
 }
 
-impl Head {
-    /// Reads a head.
-    pub fn of(alloc: Global, line: &str) -> Result<Head, AllocError> {
-        let mut parts = line.split(" | ");
-        let mut head = Head {
-            words: words_of(alloc, parts.next().unwrap_or(""))?,
+/// The source and the sinks of a call.
+#[derive(Drop)]
+pub struct Streams {
+    pub source: MemSource,
+    pub out: MemSink,
+    pub err: MemSink,
+}
+
+/// The program and its words, the first part of a head.
+pub fn words_in(alloc: Global, head: &str) -> Result<Vec<String>, AllocError> {
+    let words = match head.split_once(" | ") {
+        Some((words, _)) => words,
+        None => head,
+    };
+    words_of(alloc, words)
+}
+
+impl Options {
+    /// Reads the options after the words of a head.
+    pub fn of(alloc: Global, head: &str) -> Result<Options, AllocError> {
+        let mut options = Options {
             most: MOST,
             room: ROOM,
             err_room: ROOM,
@@ -36,10 +51,25 @@ impl Head {
             times: 1,
             is_unended: false,
         };
-        for part in parts {
-            head.add(alloc, part)?;
+        options.add_all(alloc, head)?;
+        Ok(options)
+    }
+
+    fn add_all(&mut self, alloc: Global, head: &str) -> Result<(), AllocError> {
+        for option in head.split(" | ").skip(1) {
+            self.add(alloc, option)?;
         }
-        Ok(head)
+        Ok(())
+    }
+
+    /// The source of this text, and empty sinks.
+    pub fn streams(self, alloc: Global, text: &[u8]) -> Result<Streams, AllocError> {
+        let input = self.input(alloc, text)?;
+        let most = self.most;
+        let source = MemSource::new(input, most, self.read_fails);
+        let out = MemSink::new(alloc, self.room, most, self.write_fails).map_err(|_| AllocError)?;
+        let err = MemSink::new(alloc, self.err_room, most, self.err_fails).map_err(|_| AllocError)?;
+        Ok(Streams { source, out, err })
     }
 
     fn add(&mut self, alloc: Global, option: &str) -> Result<(), AllocError> {
@@ -58,8 +88,8 @@ impl Head {
         Ok(())
     }
 
-    /// The first line as often as the head specifies, then the others.
-    pub fn input(&self, alloc: Global, text: &[u8]) -> Result<Vec<u8>, AllocError> {
+    // The first line as often as the head specifies, then the others.
+    fn input(&self, alloc: Global, text: &[u8]) -> Result<Vec<u8>, AllocError> {
         let first = text
             .split_inclusive(|byte| *byte == b'\n')
             .next()

@@ -19,7 +19,7 @@
 mod head;
 mod programs;
 
-use head::Head;
+use head::{Options, Streams, words_in};
 use programs::run;
 use std::alloc::Global;
 use std::io;
@@ -58,12 +58,21 @@ fn print_case(rt: &impl Print, alloc: Global, line: &[u8], input: &[u8]) -> io::
     if line.starts_with("# ") {
         return println!(rt; "==== {line}\n");
     }
-    let head = Head::of(alloc, line)?;
-    let input = head.input(alloc, input)?;
-    let ended = run(alloc, head, input)?;
-    let out = String::from_utf8_lossy(alloc, ended.out.bytes())?;
-    let err = String::from_utf8_lossy(alloc, ended.err.bytes())?;
-    let status = ended.status;
+    let words = words_in(alloc, line)?;
+    let mut streams = Options::of(alloc, line)?.streams(alloc, input)?;
+    let status = run(alloc, &words, &mut streams)?;
+    print_result(rt, alloc, line, status, &streams)
+}
+
+fn print_result(
+    rt: &impl Print,
+    alloc: Global,
+    line: &str,
+    status: u8,
+    streams: &Streams,
+) -> io::Result<()> {
+    let out = String::from_utf8_lossy(alloc, streams.out.bytes())?;
+    let err = String::from_utf8_lossy(alloc, streams.err.bytes())?;
     println!(rt; "==== {line} gives {status}\n{out}")?;
     if err.is_empty() {
         Ok(())

@@ -1,5 +1,5 @@
 // The top calls of the programs.
-use crate::head::Head;
+use crate::head::Streams;
 use kp_base::{MemSink, MemSource, write_all};
 use kp_core::run_core;
 use kp_core_words::Request as CoreRequest;
@@ -9,41 +9,38 @@ use kp_view_explain::{HELP, Order, asks_help, explain_source};
 use kp_view_words::Request as ViewRequest;
 use std::alloc::{AllocError, Global};
 
-/// The status of a call, and what it wrote.
-#[derive(Drop)]
-pub struct Ended {
-    pub status: u8,
-    pub out: MemSink,
-    pub err: MemSink,
+/// Calls the program that the words begin with. Without one of the four programs nothing is called, and the status is 1.
+pub fn run(alloc: Global, words: &[String], streams: &mut Streams) -> Result<u8, AllocError> {
+    let Some((program, rest)) = words.split_first() else {
+        return Ok(1);
+    };
+    match program.as_str() {
+        "kp" => Ok(tool(alloc, rest, &mut streams.source, &mut streams.out)),
+        "kpview" => run_view(alloc, rest, streams),
+        "kpcore" => {
+            let request = CoreRequest::of(rest);
+            Ok(run_core(
+                alloc,
+                &request,
+                &mut streams.source,
+                &mut streams.out,
+                &mut streams.err,
+            ))
+        }
+        "explain" => Ok(explain(alloc, words, &mut streams.source, &mut streams.out)),
+        _ => Ok(1),
+    }
 }
 
-/// Calls the program of a head. Without one of the four programs nothing is called, and the status is 1.
-pub fn run(alloc: Global, head: Head, input: Vec<u8>) -> Result<Ended, AllocError> {
-    let most = head.most;
-    let mut source = MemSource::new(input, most, head.read_fails);
-    let mut out = MemSink::new(alloc, head.room, most, head.write_fails).map_err(|_| AllocError)?;
-    let mut err = MemSink::new(alloc, head.err_room, most, head.err_fails).map_err(|_| AllocError)?;
-    let Some((program, words)) = head.words.split_first() else {
-        return Ok(Ended {
-            status: 1,
-            out,
-            err,
-        });
-    };
-    let status = match program.as_str() {
-        "kp" => tool(alloc, words, &mut source, &mut out),
-        "kpview" => {
-            let request = ViewRequest::of(alloc, words).map_err(|_| AllocError)?;
-            view(alloc, &request, &mut source, &mut out, &mut err)
-        }
-        "kpcore" => {
-            let request = CoreRequest::of(words);
-            run_core(alloc, &request, &mut source, &mut out, &mut err)
-        }
-        "explain" => explain(alloc, &head.words, &mut source, &mut out),
-        _ => 1,
-    };
-    Ok(Ended { status, out, err })
+fn run_view(alloc: Global, words: &[String], streams: &mut Streams) -> Result<u8, AllocError> {
+    let request = ViewRequest::of(alloc, words).map_err(|_| AllocError)?;
+    Ok(view(
+        alloc,
+        &request,
+        &mut streams.source,
+        &mut streams.out,
+        &mut streams.err,
+    ))
 }
 
 fn explain(alloc: Global, words: &[String], source: &mut MemSource, sink: &mut MemSink) -> u8 {
