@@ -17,15 +17,9 @@ use Rattle.kp_watch.specs.{Watching.own_trace, Watching.own_due, Watching.Agrees
 use Rattle.kp_run.proofs.Prefixes.{rows_many}
 use Rattle.kp_tool_report.specs.{Runs.run_text, Runs.count_line, States.State, Texts.differs_line}
 use Rattle.kp_tool_report.specs.inner.Differing as shown
-use Rattle.kp_tool_report.proofs.Alike.{lines_alike}
+use Rattle.kp_tool_spec.proofs.OwnText.{run_text_alike}
 use Rattle.kp_tool_spec.specs.Watched.{own_text, differing_text, DueOfRun, agrees, differs}
 use Rattle.kp_tool.specs.Watching.{status_by, text_by}
-
--- runs with the same rows, whose states agree in all words of the job, have the same text
-run_alike : (job : Job) (rows : List Row) (s u : State) → ((t a : ℕ) → HasWord job t a → s t a ≡ u t a) → run_text job rows s ≡ run_text job rows u
-unfolding run_text
-run_alike job rows s u same =
-    ap (λ (lines : List ℕ). row_lines 0 rows ++ (count_line job.stages.value rows ++ lines)) (lines_alike job (λ t. Some (passes job rows (length rows) t)) s u same)
 
 rows_taken : (n : ℕ) (rows : List masks.Row) (T : ℕ) → rows_seen n (take T rows) ≡ take T (rows_seen n rows)
 rows_taken n rows T = sym (take-map (row_seen n) T rows)
@@ -54,7 +48,7 @@ module _ (n : ℕ) (job : Job) (net : Net) (rows : List masks.Row) (monitor : Ke
   whole_text : Agrees job net n → run_text job seen (due_behind job rows) ≡ own_text n job net
   whole_text all =
       ap (λ (l : List Row). run_text job l (due_behind job rows)) traced
-      ∙ run_alike job (own_trace job net n).rows (due_behind job rows) ((own_trace job net n).visible n) (shows_due all)
+      ∙ run_text_alike job (own_trace job net n).rows (due_behind job rows) ((own_trace job net n).visible n) (shows_due all)
 
   part_text : (d : Difference) → d.found ≡ word (target job d.target).width ((own_trace job net n).visible d.cycle d.target d.address)
       → d.due ≡ word (target job d.target).width (own_due job net n d.cycle d.target d.address)

@@ -25,12 +25,8 @@ module _ (s : ℕ) (t : List ℕ) where
   timing n job None said = inl said.0
 
   on_job : (command : JobCommand) (job : Job) → DueOfJob command job s t → IsOfCommand s
-  on_job (Seq n) job said = inl said.0
-  on_job Check job said = inl said.0
-  on_job (Sim n) job said = inl said.0
-  on_job (Vcd n) job said = inl said.0
   on_job (Timing n) job said = timing n job (untimed job) said
-  on_job Pipe job said = inl said.0
+  on_job _ job said = inl said.0
 
   program : (found : Result (List ℕ) Refusal) → DueOfProgram found s t → IsOfCommand s
   program (Ok words) said = inl said.0

@@ -24,7 +24,7 @@ use Rattle.kp_frontend.specs.Judging.{Judges, JudgesHead, broken_in}
 use Rattle.kp_frontend.proofs.Verdicts.{one_verdict}
 use Rattle.kp_timing.specs.Unfit.{untimed}
 use Rattle.kp_tool_words.specs.declared.words.JobCommand.{JobCommand}
-use Rattle.kp_tool_words.specs.declared.words.JobCommand.TheVariants.{Seq, Check, Sim, Vcd, Timing, Pipe}
+use Rattle.kp_tool_words.specs.declared.words.JobCommand.TheVariants.{Seq, Check, Sim, Timing, Pipe}
 use Rattle.kp_tool_words.specs.declared.words.Command.TheVariants.{OnJob, Read, Watch}
 use Rattle.kp_tool_report.specs.{States.sequential_text, States.text_after, Runs.run_text, Runs.sim_text, Runs.counts_behind}
 use Rattle.kp_tool_report.proofs.Sims.{rows_many}
@@ -104,12 +104,8 @@ module _ (input : List ℕ) (job : Job) (judged : Judges input (Ok job)) where
   zero_of_timing count other status answer None none said = said.0
 
   zero_of_job : (command : JobCommand) (other : Job) (status : ℕ) (answer : List ℕ) → own_rule command other ≡ None → DueOfJob command other status answer → status ≡ 0
-  zero_of_job (Seq count) other status answer none said = said.0
-  zero_of_job Check other status answer none said = said.0
-  zero_of_job (Sim count) other status answer none said = said.0
-  zero_of_job (Vcd count) other status answer none said = said.0
   zero_of_job (Timing count) other status answer none said = zero_of_timing count other status answer (untimed other) none said
-  zero_of_job Pipe other status answer none said = said.0
+  zero_of_job _ other status answer none said = said.0
 
   zero_for : (command : JobCommand) (status : ℕ) (answer : List ℕ) → own_rule command job ≡ None → DueFor (Some (OnJob command)) input status answer → status ≡ 0
   zero_for command status answer none (Ok other, judged_too, said) =

@@ -59,8 +59,12 @@ accepted_machine job none =
     let stages = first_none _ _ names.1 in
     accepted job names.0 stages.0
 
-legal_pipe : (job : Job) → Accepted (machine_of job) → (ins : List Inputs) → IsLegal job ins (pipe_of job ins)
-legal_pipe job acc ins =
+-- a fact about each accepted pipeline
+abbrev pub HoldsOfPipe : (Job → List Inputs → Trace → Type 0) → Type 0
+HoldsOfPipe Fact = (job : Job) (ins : List Inputs) → Accepted (machine_of job) → Fact job ins (pipe_of job ins)
+
+pub legal_pipe : HoldsOfPipe IsLegal
+legal_pipe job ins acc =
     alike_is_legal job ins _ _ (record { rows = refl; values = λ T t x h w. refl })
     (legal (machine_of job) (state_of job (start_of job)) (start_hints job) ins acc)
 
@@ -76,20 +80,20 @@ printed_run Fact n input text job judged printed holds = record {
 }
 
 -- what is true of each accepted pipeline is true of the run that `sim` prints
-sim_with : (Fact : Job → List Inputs → Trace → Type 0) → ((job : Job) (ins : List Inputs) → Accepted (machine_of job) → Fact job ins (pipe_of job ins))
+pub sim_with : (Fact : Job → List Inputs → Trace → Type 0) → HoldsOfPipe Fact
     → (n : ℕ) (input text : List ℕ) → DueFor (Some (OnJob (Sim n))) input 0 text → IsRunWith Fact n input text
 sim_with Fact law n input text (Ok job, judged, due) =
     printed_run Fact n input text job judged due.1 (law job (inputs_from job 0 n) (accepted_machine job (judged_unbroken input job judged)))
 sim_with Fact law n input text (Err refusal, judged, due) = absurd (omega (arith, due.0))
 
 -- what is true of each trace that shows an accepted pipeline, from any state on,
-abbrev HoldsAlike : (Job → (ℕ → ℕ → ℕ) → List Inputs → Trace → Type 0) → Type 0
+abbrev pub HoldsAlike : (Job → (ℕ → ℕ → ℕ) → List Inputs → Trace → Type 0) → Type 0
 HoldsAlike Fact =
     (job : Job) (s : ℕ → ℕ → ℕ) (ins : List Inputs) (trace : Trace) → Accepted (machine_of job)
     → ShowsAlike job trace (pipe (machine_of job) s (start_hints job) ins) → Fact job s ins trace
 
 -- is true of the netlist that `pipe` prints
-pipe_with : (Fact : Job → (ℕ → ℕ → ℕ) → List Inputs → Trace → Type 0) → HoldsAlike Fact
+pub pipe_with : (Fact : Job → (ℕ → ℕ → ℕ) → List Inputs → Trace → Type 0) → HoldsAlike Fact
     → (input text : List ℕ) → DueFor (Some (OnJob Pipe)) input 0 text → IsVerilogWith Fact input text
 pipe_with Fact law input text (Ok job, judged, (zero, verilog)) =
     let net : Net = verilog.net in
@@ -108,7 +112,7 @@ pipe_with Fact law input text (Ok job, judged, (zero, verilog)) =
     }
 pipe_with Fact law input text (Err refusal, judged, due) = absurd (omega (arith, due.0))
 
-moves_pipe : (job : Job) (ins : List Inputs) → Accepted (machine_of job) → IsMoving job ins (pipe_of job ins)
+pub moves_pipe : HoldsOfPipe IsMoving
 moves_pipe job ins acc =
     let s : ℕ → ℕ → ℕ = state_of job (start_of job) in
     (moves (machine_of job) s (start_hints job) ins acc, never-squashed (machine_of job) s (start_hints job) ins acc)
@@ -127,7 +131,7 @@ waits_with job s ins trace acc same = record {
   plain = λ guesses. same ∙ rows-taking (machine_of job) s (start_hints job) ins acc (without_guess job guesses);
 }
 
-waits_pipe : (job : Job) (ins : List Inputs) → Accepted (machine_of job) → HasNoNeedlessStall job ins (pipe_of job ins)
+pub waits_pipe : HoldsOfPipe HasNoNeedlessStall
 waits_pipe job ins acc = waits_with job (state_of job (start_of job)) ins (pipe_of job ins) acc refl
 
 -- what `timing` prints for a job that it doesn't reject is the timeline of a job without guesses and samples
@@ -149,15 +153,6 @@ pub timing_is_timed : (n : ℕ) (input text : List ℕ) → DueFor (Some (OnJob 
 timing_is_timed n input text (Ok job, judged, said) = timed_job n input text job judged (untimed job) refl said
 timing_is_timed n input text (Err refusal, judged, said) = absurd (omega (arith, said.0))
 
-pub sim_is_legal : (n : ℕ) (input text : List ℕ) → DueFor (Some (OnJob (Sim n))) input 0 text → IsRunWith IsLegal n input text
-sim_is_legal = sim_with IsLegal (λ job ins acc. legal_pipe job acc ins)
-
-pub sim_moves : (n : ℕ) (input text : List ℕ) → DueFor (Some (OnJob (Sim n))) input 0 text → IsRunWith IsMoving n input text
-sim_moves = sim_with IsMoving moves_pipe
-
-pub sim_waits : (n : ℕ) (input text : List ℕ) → DueFor (Some (OnJob (Sim n))) input 0 text → IsRunWith HasNoNeedlessStall n input text
-sim_waits = sim_with HasNoNeedlessStall waits_pipe
-
 -- a dump holds the values of its run
 dump_values : (job : Job) (n T s : ℕ) (w : Word) → T ≤ n → get_or (values_at job (own_run job n) T) s None ≡ Some w → held (vcd_dump n job) s T ≡ Some w
 unfolding vcd_dump
@@ -168,7 +163,7 @@ unfolding vcd_dump
 dump_changes job n = recorded_new (values_at job (own_run job n)) n (run_lasts job n)
 
 -- what is true of each accepted pipeline is true of the run that `vcd` dumps
-vcd_with : (Fact : Job → List Inputs → Trace → Type 0) → ((job : Job) (ins : List Inputs) → Accepted (machine_of job) → Fact job ins (pipe_of job ins))
+pub vcd_with : (Fact : Job → List Inputs → Trace → Type 0) → HoldsOfPipe Fact
     → (n : ℕ) (input text : List ℕ) → DueFor (Some (OnJob (Vcd n))) input 0 text → IsDumpedWith Fact n input text
 vcd_with Fact law n input text (Ok job, judged, due) = record {
   job = job;
@@ -181,17 +176,8 @@ vcd_with Fact law n input text (Ok job, judged, due) = record {
 }
 vcd_with Fact law n input text (Err refusal, judged, due) = absurd (omega (arith, due.0))
 
-pub vcd_is_legal : (n : ℕ) (input text : List ℕ) → DueFor (Some (OnJob (Vcd n))) input 0 text → IsDumpedWith IsLegal n input text
-vcd_is_legal = vcd_with IsLegal (λ job ins acc. legal_pipe job acc ins)
-
-pub vcd_moves : (n : ℕ) (input text : List ℕ) → DueFor (Some (OnJob (Vcd n))) input 0 text → IsDumpedWith IsMoving n input text
-vcd_moves = vcd_with IsMoving moves_pipe
-
-pub vcd_waits : (n : ℕ) (input text : List ℕ) → DueFor (Some (OnJob (Vcd n))) input 0 text → IsDumpedWith HasNoNeedlessStall n input text
-vcd_waits = vcd_with HasNoNeedlessStall waits_pipe
-
 -- and of the run of a generated job that `gen` sums up
-gen_run : (Fact : Job → List Inputs → Trace → Type 0) → ((job : Job) (ins : List Inputs) → Accepted (machine_of job) → Fact job ins (pipe_of job ins))
+gen_run : (Fact : Job → List Inputs → Trace → Type 0) → HoldsOfPipe Fact
     → (number n : ℕ) (text : List ℕ) (job : Job) → job ≡ gen_job number → broken_in job ≡ None
     → text ≡ totals_line number (totals_of job (own_run job n).rows (due_value job (inputs_from job 0 n) (own_run job n).rows n))
     → IsGeneratedWith Fact number n text
@@ -204,40 +190,22 @@ gen_run Fact law number n text job is none printed = record {
   holds = law job (inputs_from job 0 n) (accepted_machine job none);
 }
 
-gen_with : (Fact : Job → List Inputs → Trace → Type 0) → ((job : Job) (ins : List Inputs) → Accepted (machine_of job) → Fact job ins (pipe_of job ins))
+pub gen_with : (Fact : Job → List Inputs → Trace → Type 0) → HoldsOfPipe Fact
     → (number n : ℕ) (input text : List ℕ) → DueFor (Some (Generate number n)) input 0 text → IsGeneratedWith Fact number n text
 unfolding gen_text
 gen_with Fact law number n input text said = gen_run Fact law number n text (gen_job number) refl (generated_unbroken number) said.1
 
-pub gen_is_legal : (number n : ℕ) (input text : List ℕ) → DueFor (Some (Generate number n)) input 0 text → IsGeneratedWith IsLegal number n text
-gen_is_legal = gen_with IsLegal (λ job ins acc. legal_pipe job acc ins)
-
-pub gen_moves : (number n : ℕ) (input text : List ℕ) → DueFor (Some (Generate number n)) input 0 text → IsGeneratedWith IsMoving number n text
-gen_moves = gen_with IsMoving moves_pipe
-
-pub gen_waits : (number n : ℕ) (input text : List ℕ) → DueFor (Some (Generate number n)) input 0 text → IsGeneratedWith HasNoNeedlessStall number n text
-gen_waits = gen_with HasNoNeedlessStall waits_pipe
-
-legal_alike : HoldsAlike IsLegalFrom
+pub legal_alike : HoldsAlike IsLegalFrom
 legal_alike job s ins trace acc alike = alike_is_legal_from job s ins _ _ alike (legal (machine_of job) s (start_hints job) ins acc)
 
-moves_alike : HoldsAlike (λ job s. IsMoving job)
+pub moves_alike : HoldsAlike (λ job s. IsMoving job)
 moves_alike job s ins trace acc alike = (
   alike_moves job ins _ _ alike (moves (machine_of job) s (start_hints job) ins acc),
   alike_stays job _ _ alike (never-squashed (machine_of job) s (start_hints job) ins acc),
 )
 
-waits_alike : HoldsAlike HasNoNeedlessStallFrom
+pub waits_alike : HoldsAlike HasNoNeedlessStallFrom
 waits_alike job s ins trace acc alike = waits_with job s ins trace acc alike.rows
-
-pub pipe_is_legal : (input text : List ℕ) → DueFor (Some (OnJob Pipe)) input 0 text → IsVerilogWith IsLegalFrom input text
-pipe_is_legal = pipe_with IsLegalFrom legal_alike
-
-pub pipe_moves : (input text : List ℕ) → DueFor (Some (OnJob Pipe)) input 0 text → IsVerilogWith (λ job s. IsMoving job) input text
-pipe_moves = pipe_with (λ job s. IsMoving job) moves_alike
-
-pub pipe_waits : (input text : List ℕ) → DueFor (Some (OnJob Pipe)) input 0 text → IsVerilogWith HasNoNeedlessStallFrom input text
-pipe_waits = pipe_with HasNoNeedlessStallFrom waits_alike
 
 module _ (n : ℕ) (input text : List ℕ) (job : Job) (rest : ℕ) (judged : JudgesHead input (Ok (job, rest))) (net : Net) (denotes : ReadsVerilog input rest (Ok net)) where
   legal_netlist : DueOfNetlist n job net 0 text → IsNetlistWith IsLegal n input text
@@ -292,7 +260,7 @@ pair_is_alike input text (Ok (job, rest), head_within short judged, (middle, end
 pair_is_alike input text (Err refusal, judged, said) = absurd (omega (arith, said.0))
 
 -- what is true of each accepted pipeline is true of the run that `debug` prints from
-printed_script : (Fact : Job → List Inputs → Trace → Type 0) → ((job : Job) (ins : List Inputs) → Accepted (machine_of job) → Fact job ins (pipe_of job ins))
+printed_script : (Fact : Job → List Inputs → Trace → Type 0) → HoldsOfPipe Fact
     → (input text : List ℕ) (job : Job) (rest : ℕ) → JudgesHead input (Ok (job, rest)) → (found : Result (List Command) Refusal) → script_of job.decls input rest ≡ found
     → DueOfScript job found 0 text → IsDebuggedWith Fact input text
 unfolding whole_run
@@ -307,19 +275,10 @@ printed_script Fact law input text job rest judged (Ok commands) is said = recor
 }
 printed_script Fact law input text job rest judged (Err refusal) is said = absurd (omega (arith, said.0))
 
-debug_with : (Fact : Job → List Inputs → Trace → Type 0) → ((job : Job) (ins : List Inputs) → Accepted (machine_of job) → Fact job ins (pipe_of job ins))
+pub debug_with : (Fact : Job → List Inputs → Trace → Type 0) → HoldsOfPipe Fact
     → (input text : List ℕ) → DueFor (Some Debug) input 0 text → IsDebuggedWith Fact input text
 debug_with Fact law input text (Ok (job, rest), judged, said) = printed_script Fact law input text job rest judged (script_of job.decls input rest) refl said
 debug_with Fact law input text (Err refusal, judged, said) = absurd (omega (arith, said.0))
-
-pub debug_is_legal : (input text : List ℕ) → DueFor (Some Debug) input 0 text → IsDebuggedWith IsLegal input text
-debug_is_legal = debug_with IsLegal (λ job ins acc. legal_pipe job acc ins)
-
-pub debug_moves : (input text : List ℕ) → DueFor (Some Debug) input 0 text → IsDebuggedWith IsMoving input text
-debug_moves = debug_with IsMoving moves_pipe
-
-pub debug_waits : (input text : List ℕ) → DueFor (Some Debug) input 0 text → IsDebuggedWith HasNoNeedlessStall input text
-debug_waits = debug_with HasNoNeedlessStall waits_pipe
 
 -- a netlist that implements the job implements it whatever the name of its module is
 pub implements : (net : Net) (job : Job) → Shows net job → BeginsAnew net job → Implements net job
@@ -379,7 +338,7 @@ runs_with Fact law net job acc both =
       memory = λ ins. as_before net name (last_of net ins) (both.1.memory ins);
     }
 
-pair_with : (Fact : Job → (ℕ → ℕ → ℕ) → List Inputs → Trace → Type 0) → HoldsAlike Fact
+pub pair_with : (Fact : Job → (ℕ → ℕ → ℕ) → List Inputs → Trace → Type 0) → HoldsAlike Fact
     → (input text : List ℕ) → DueFor (Some Compare) input 0 text → IsPairWith Fact input text
 pair_with Fact law input text due =
     let pair : IsPairAlike input text = pair_is_alike input text due in
@@ -399,12 +358,3 @@ pair_with Fact law input text due =
       by_first = λ both. (first_runs both, second_runs (pair.shows.0 both.0, (pair.begins both.0).0 both.1));
       by_second = λ both. let shown = pair.shows.1 both.0 in (first_runs (shown, (pair.begins shown).1 both.1), second_runs both);
     }
-
-pub pair_is_legal : (input text : List ℕ) → DueFor (Some Compare) input 0 text → IsPairWith IsLegalFrom input text
-pair_is_legal = pair_with IsLegalFrom legal_alike
-
-pub pair_moves : (input text : List ℕ) → DueFor (Some Compare) input 0 text → IsPairWith (λ job s. IsMoving job) input text
-pair_moves = pair_with (λ job s. IsMoving job) moves_alike
-
-pub pair_waits : (input text : List ℕ) → DueFor (Some Compare) input 0 text → IsPairWith HasNoNeedlessStallFrom input text
-pair_waits = pair_with HasNoNeedlessStallFrom waits_alike

@@ -10,6 +10,6 @@ pub mod Agreeing
 pub mod Heads
 pub mod Skips
 mod After
-mod OwnText
+pub mod OwnText
 mod Watches
 pub mod Together

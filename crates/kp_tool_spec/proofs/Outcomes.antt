@@ -45,12 +45,9 @@ said_of_timing count job (Some refusal) s t x y (a, b) (c, d) = (a ∙ sym c, b 
 said_of_timing count job None s t x y (a, b) (c, d) = (a ∙ sym c, b ∙ sym d)
 
 said_of_job : (command : JobCommand) (job : Job) (s t : ℕ) (x y : List ℕ) → DueOfJob command job s x → DueOfJob command job t y → (s ≡ t) × SameText (Some (OnJob command)) x y
-said_of_job (Seq count) job s t x y (a, b) (c, d) = (a ∙ sym c, λ other. b ∙ sym d)
-said_of_job Check job s t x y (a, b) (c, d) = (a ∙ sym c, λ other. b ∙ sym d)
-said_of_job (Sim count) job s t x y (a, b) (c, d) = (a ∙ sym c, λ other. b ∙ sym d)
-said_of_job (Vcd count) job s t x y (a, b) (c, d) = (a ∙ sym c, λ other. b ∙ sym d)
 said_of_job (Timing count) job s t x y a b = let p = said_of_timing count job (untimed job) s t x y a b in (p.0, λ other. p.1)
 said_of_job Pipe job s t x y (a, b) (c, d) = (a ∙ sym c, λ other. absurd (other refl))
+said_of_job _ job s t x y a b = (a.0 ∙ sym b.0, λ other. a.1 ∙ sym b.1)
 
 said_of_verdict : (command : JobCommand) (v : Result Job Refusal) (s t : ℕ) (x y : List ℕ) → DueOfVerdict command v s x → DueOfVerdict command v t y → (s ≡ t) × SameText (Some (OnJob command)) x y
 said_of_verdict command (Ok job) s t x y a b = said_of_job command job s t x y a b
@@ -173,8 +170,8 @@ said_for (Some Read) input s t x y a b = let p = said_of_read input s t x y a b 
 pub one_status : (words : List (List ℕ)) (input : List ℕ) (s t : ℕ) (x y : List ℕ) → Due words input s x → Due words input t y → s ≡ t
 one_status words input s t x y a b = (said_for (command_of words) input s t x y a b).0
 
-pub one_text : (words : List (List ℕ)) (input : List ℕ) (s t : ℕ) (x y : List ℕ) → (command_of words ≡ Some (OnJob Pipe) → ⊥) → Due words input s x → Due words input t y → x ≡ y
-one_text words input s t x y other a b = (said_for (command_of words) input s t x y a b).1 other
+pub one_outcome : (words : List (List ℕ)) (input : List ℕ) (s t : ℕ) (x y : List ℕ) → (command_of words ≡ Some (OnJob Pipe) → ⊥) → Due words input s x → Due words input t y → (s ≡ t) × (x ≡ y)
+one_outcome words input s t x y other a b = let p = said_for (command_of words) input s t x y a b in (p.0, p.1 other)
 
 -- .. and some outcome is specified
 timing_said : (count : ℕ) (job : Job) (found : Option Refusal) → (s : ℕ) × (x : List ℕ) × DueOfTiming count job found s x

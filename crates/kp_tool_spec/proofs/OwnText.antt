@@ -14,7 +14,7 @@ use Rattle.kp_tool_report.proofs.{Alike.lines_alike, Sims.rows_many}
 use Rattle.kp_tool_spec.specs.Watched.{own_text}
 use Rattle.kp_tool_spec.proofs.Agreeing.{shown_agrees, agrees_if_shown}
 
-run_text_alike : (job : Job) (rows : List Row) (s u : State) → ((t a : ℕ) → HasWord job t a → s t a ≡ u t a) → run_text job rows s ≡ run_text job rows u
+pub run_text_alike : (job : Job) (rows : List Row) (s u : State) → ((t a : ℕ) → HasWord job t a → s t a ≡ u t a) → run_text job rows s ≡ run_text job rows u
 unfolding run_text
 run_text_alike job rows s u same =
     ap (λ (lines : List ℕ). row_lines 0 rows ++ (count_line job.stages.value rows ++ lines))

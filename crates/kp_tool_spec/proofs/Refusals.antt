@@ -6,7 +6,7 @@ use Rattle.kp_ast.specs.declared.tree.Job.{Job}
 use Rattle.kp_tool_words.specs.declared.words.Command.{Command}
 use Rattle.kp_tool_words.specs.declared.words.Command.TheVariants.{OnJob, Assemble, Read, Watch, Compare, Debug, Generate}
 use Rattle.kp_tool_words.specs.declared.words.JobCommand.{JobCommand}
-use Rattle.kp_tool_words.specs.declared.words.JobCommand.TheVariants.{Seq, Check, Sim, Pipe, Vcd, Timing}
+use Rattle.kp_tool_words.specs.declared.words.JobCommand.TheVariants.{Timing}
 use Rattle.kp_frontend.proofs.Verdicts.{one_verdict, one_head}
 use Rattle.kp_net.specs.Netlist.{Net}
 use Rattle.kp_tool_report.specs.Texts.{refusal_line}
@@ -26,12 +26,8 @@ of_timing count job text None is said = absurd (omega (arith, said.0))
 
 of_own : (command : JobCommand) (job : Job) (text : List ℕ) → DueOfJob command job 2 text
     → (refusal : Refusal) × (own_rule command job ≡ Some refusal) × (text ≡ refusal_line refusal)
-of_own (Seq count) job text said = absurd (omega (arith, said.0))
-of_own Check job text said = absurd (omega (arith, said.0))
-of_own (Sim count) job text said = absurd (omega (arith, said.0))
-of_own (Vcd count) job text said = absurd (omega (arith, said.0))
 of_own (Timing count) job text said = of_timing count job text (untimed job) refl said
-of_own Pipe job text said = absurd (omega (arith, said.0))
+of_own _ job text said = absurd (omega (arith, said.0))
 
 -- and it always comes then
 two_of_timing : (count : ℕ) (job : Job) (status : ℕ) (text : List ℕ) (refusal : Refusal) (found : Option Refusal) → found ≡ Some refusal → DueOfTiming count job found status text → status ≡ 2
@@ -39,12 +35,8 @@ two_of_timing count job status text refusal (Some broken) is said = said.0
 two_of_timing count job status text refusal None is said = cc is
 
 two_of_own : (command : JobCommand) (job : Job) (status : ℕ) (text : List ℕ) (refusal : Refusal) → own_rule command job ≡ Some refusal → DueOfJob command job status text → status ≡ 2
-two_of_own (Seq count) job status text refusal is said = cc is
-two_of_own Check job status text refusal is said = cc is
-two_of_own (Sim count) job status text refusal is said = cc is
-two_of_own (Vcd count) job status text refusal is said = cc is
 two_of_own (Timing count) job status text refusal is said = two_of_timing count job status text refusal (untimed job) is said
-two_of_own Pipe job status text refusal is said = cc is
+two_of_own _ job status text refusal is said = cc is
 
 -- an accepted netlist has another status
 not_of_verilog : (verdict : Result Net Refusal) (text : List ℕ) → DueOfVerilog verdict 2 text → ⊥

@@ -189,113 +189,52 @@ data Fits : List Sym → List Ty → Type 0 where
   action : {a : Step} {s : List Sym} {ts us : List Ty} → Builds a ts us → Fits s us → Fits (Action a ∷ s) ts
   name : {n : ℕ} {s : List Sym} {ts us : List Ty} → Names n ts us → Fits s us → Fits (Nonterminal n ∷ s) ts
 
--- an alternative does what its name does
-expand : {n : ℕ} {ts us : List Ty} {s b : List Sym} → Names n ts us → Has b (alternatives rules n) → Fits s us → Fits (b ++ s) ts
-expand n_MODULE here f = token r_dropped (token r_as_name (token r_dropped (token r_dropped (name n_WIRE (token r_as_name (token r_dropped (token r_dropped (name n_WIRE (name n_STALLS (action b_no_ports (name n_SAMPLES (token r_dropped (name n_PORT (token r_dropped (token r_dropped (name n_PORT (token r_dropped (token r_dropped (name n_PORT (token r_dropped (token r_dropped (action b_no_items (name n_ITEMS (token r_dropped (token r_dropped (action b_no_inits (name n_INITS (token r_dropped (token r_dropped (token r_dropped (token r_dropped (token r_dropped (token r_as_name (token r_dropped (token r_dropped (name n_BODY (token r_dropped (token r_dropped (action b_make_module f)))))))))))))))))))))))))))))))))))))))
-expand n_MODULE (there m) f = elim m [ ]
-expand n_WIRE here f = token r_dropped f
-expand n_WIRE (there here) f = f
-expand n_WIRE (there (there m)) f = elim m [ ]
-expand n_RANGE here f = token r_dropped (token r_as_number (token r_dropped (token r_as_number (token r_dropped (action b_make_range f)))))
-expand n_RANGE (there m) f = elim m [ ]
-expand n_PORT here f = name n_WIRE (name n_RANGE (token r_as_name (action b_make_port f)))
-expand n_PORT (there m) f = elim m [ ]
-expand n_STALLS here f = token r_as_name (action b_some_reset_port (token r_dropped (token r_dropped (name n_PORT (token r_dropped f)))))
-expand n_STALLS (there here) f = action b_no_reset_port (name n_RANGE (token r_as_name (action b_make_port (token r_dropped f))))
-expand n_STALLS (there (there m)) f = elim m [ ]
-expand n_SAMPLES here f = token r_dropped (name n_PORT (token r_dropped (action b_one_port (name n_SAMPLES f))))
-expand n_SAMPLES (there here) f = f
-expand n_SAMPLES (there (there m)) f = elim m [ ]
-expand n_ITEMS here f = name n_ITEM (action b_one_item (name n_ITEMS f))
-expand n_ITEMS (there here) f = f
-expand n_ITEMS (there (there m)) f = elim m [ ]
-expand n_ITEM here f = token r_dropped (name n_RANGE (token r_as_name (name n_DECLARED f)))
-expand n_ITEM (there here) f = token r_dropped (token r_as_name (token r_dropped (action b_make_integer f)))
-expand n_ITEM (there (there here)) f = token r_dropped (name n_RANGE (token r_as_name (token r_dropped (action b_make_wire f))))
-expand n_ITEM (there (there (there here))) f = token r_dropped (token r_as_name (token r_dropped (name n_RIGHT (token r_dropped (action b_make_assign f)))))
-expand n_ITEM (there (there (there (there m)))) f = elim m [ ]
-expand n_DECLARED here f = name n_RANGE (token r_dropped (action b_make_file f))
-expand n_DECLARED (there here) f = token r_dropped (action b_make_reg f)
-expand n_DECLARED (there (there m)) f = elim m [ ]
-expand n_RIGHT here f = token r_as_literal (action b_make_literal f)
-expand n_RIGHT (there here) f = token r_dropped (token r_as_name (action b_make_not f))
-expand n_RIGHT (there (there here)) f = token r_dropped (token r_as_name (token r_dropped (token r_as_name (action b_two_names (name n_NAMES10 (token r_dropped (action b_make_concat f)))))))
-expand n_RIGHT (there (there (there here))) f = token r_as_name (name n_BEHIND f)
-expand n_RIGHT (there (there (there (there m)))) f = elim m [ ]
-expand n_BEHIND here f = token r_dropped (token r_as_name (action b_make_binary f))
-expand n_BEHIND (there here) f = token r_dropped (token r_as_name (action b_make_binary f))
-expand n_BEHIND (there (there here)) f = token r_dropped (token r_as_name (action b_make_binary f))
-expand n_BEHIND (there (there (there here))) f = token r_dropped (token r_as_name (action b_make_binary f))
-expand n_BEHIND (there (there (there (there here)))) f = token r_dropped (token r_as_name (action b_make_binary f))
-expand n_BEHIND (there (there (there (there (there here))))) f = token r_dropped (token r_as_name (action b_make_binary f))
-expand n_BEHIND (there (there (there (there (there (there here)))))) f = token r_dropped (token r_as_name (action b_make_binary f))
-expand n_BEHIND (there (there (there (there (there (there (there here))))))) f = token r_dropped (token r_as_name (action b_make_binary f))
-expand n_BEHIND (there (there (there (there (there (there (there (there here)))))))) f = token r_dropped (token r_as_name (action b_make_binary f))
-expand n_BEHIND (there (there (there (there (there (there (there (there (there here))))))))) f = token r_dropped (token r_as_name (action b_make_binary f))
-expand n_BEHIND (there (there (there (there (there (there (there (there (there (there here)))))))))) f = token r_dropped (token r_as_name (token r_dropped (token r_as_name (action b_make_choice f))))
-expand n_BEHIND (there (there (there (there (there (there (there (there (there (there (there here))))))))))) f = token r_dropped (name n_INDEX f)
-expand n_BEHIND (there (there (there (there (there (there (there (there (there (there (there (there here)))))))))))) f = action b_make_name f
-expand n_BEHIND (there (there (there (there (there (there (there (there (there (there (there (there (there m))))))))))))) f = elim m [ ]
-expand n_INDEX here f = token r_as_number (token r_dropped (token r_as_number (token r_dropped (action b_make_slice f))))
-expand n_INDEX (there here) f = token r_as_name (token r_dropped (action b_make_word f))
-expand n_INDEX (there (there m)) f = elim m [ ]
-expand n_INITS here f = name n_INIT (action b_one_init (name n_INITS f))
-expand n_INITS (there here) f = f
-expand n_INITS (there (there m)) f = elim m [ ]
-expand n_INIT here f = token r_dropped (token r_dropped (token r_as_name (token r_dropped (token r_as_number (token r_dropped (token r_as_name (token r_dropped (token r_as_number (token r_dropped (token r_as_name (token r_dropped (token r_as_name (token r_dropped (token r_as_number (token r_dropped (token r_as_name (token r_dropped (token r_as_name (token r_dropped (token r_dropped (token r_as_literal (token r_dropped (action b_init_fill f)))))))))))))))))))))))
-expand n_INIT (there here) f = token r_as_name (name n_START f)
-expand n_INIT (there (there m)) f = elim m [ ]
-expand n_START here f = token r_dropped (token r_as_literal (token r_dropped (action b_init_reg f)))
-expand n_START (there here) f = token r_dropped (token r_as_number (token r_dropped (token r_dropped (token r_as_literal (token r_dropped (action b_init_word f))))))
-expand n_START (there (there m)) f = elim m [ ]
-expand n_BODY here f = token r_dropped (token r_dropped (token r_as_name (token r_dropped (name n_CONDITION f))))
-expand n_BODY (there here) f = token r_as_name (token r_dropped (token r_as_name (token r_dropped (action b_update_reg (action b_first_update (name n_UPDATES f))))))
-expand n_BODY (there (there here)) f = action b_no_reset (action b_no_updates f)
-expand n_BODY (there (there (there m))) f = elim m [ ]
-expand n_CONDITION here f = token r_dropped (action b_no_values (name n_VALUES (token r_dropped (action b_some_reset (token r_dropped (token r_dropped (action b_no_updates (name n_UPDATES (token r_dropped f)))))))))
-expand n_CONDITION (there here) f = token r_as_name (token r_dropped (token r_as_name (token r_dropped (token r_dropped (token r_as_name (token r_dropped (action b_update_file (action b_first_update (name n_UPDATES f)))))))))
-expand n_CONDITION (there (there m)) f = elim m [ ]
-expand n_VALUES here f = token r_as_name (token r_dropped (token r_as_literal (token r_dropped (action b_one_value (name n_VALUES f)))))
-expand n_VALUES (there here) f = f
-expand n_VALUES (there (there m)) f = elim m [ ]
-expand n_UPDATES here f = name n_UPDATE (action b_one_update (name n_UPDATES f))
-expand n_UPDATES (there here) f = f
-expand n_UPDATES (there (there m)) f = elim m [ ]
-expand n_UPDATE here f = token r_dropped (token r_dropped (token r_as_name (token r_dropped (token r_as_name (token r_dropped (token r_as_name (token r_dropped (token r_dropped (token r_as_name (token r_dropped (action b_update_file f)))))))))))
-expand n_UPDATE (there here) f = token r_as_name (token r_dropped (token r_as_name (token r_dropped (action b_update_reg f))))
-expand n_UPDATE (there (there m)) f = elim m [ ]
-expand n_NAMES10 here f = token r_dropped (token r_as_name (action b_one_name (name n_NAMES9 f)))
-expand n_NAMES10 (there here) f = f
-expand n_NAMES10 (there (there m)) f = elim m [ ]
-expand n_NAMES9 here f = token r_dropped (token r_as_name (action b_one_name (name n_NAMES8 f)))
-expand n_NAMES9 (there here) f = f
-expand n_NAMES9 (there (there m)) f = elim m [ ]
-expand n_NAMES8 here f = token r_dropped (token r_as_name (action b_one_name (name n_NAMES7 f)))
-expand n_NAMES8 (there here) f = f
-expand n_NAMES8 (there (there m)) f = elim m [ ]
-expand n_NAMES7 here f = token r_dropped (token r_as_name (action b_one_name (name n_NAMES6 f)))
-expand n_NAMES7 (there here) f = f
-expand n_NAMES7 (there (there m)) f = elim m [ ]
-expand n_NAMES6 here f = token r_dropped (token r_as_name (action b_one_name (name n_NAMES5 f)))
-expand n_NAMES6 (there here) f = f
-expand n_NAMES6 (there (there m)) f = elim m [ ]
-expand n_NAMES5 here f = token r_dropped (token r_as_name (action b_one_name (name n_NAMES4 f)))
-expand n_NAMES5 (there here) f = f
-expand n_NAMES5 (there (there m)) f = elim m [ ]
-expand n_NAMES4 here f = token r_dropped (token r_as_name (action b_one_name (name n_NAMES3 f)))
-expand n_NAMES4 (there here) f = f
-expand n_NAMES4 (there (there m)) f = elim m [ ]
-expand n_NAMES3 here f = token r_dropped (token r_as_name (action b_one_name (name n_NAMES2 f)))
-expand n_NAMES3 (there here) f = f
-expand n_NAMES3 (there (there m)) f = elim m [ ]
-expand n_NAMES2 here f = token r_dropped (token r_as_name (action b_one_name (name n_NAMES1 f)))
-expand n_NAMES2 (there here) f = f
-expand n_NAMES2 (there (there m)) f = elim m [ ]
-expand n_NAMES1 here f = token r_dropped (token r_as_name (action b_one_name (name n_NAMES0 f)))
-expand n_NAMES1 (there here) f = f
-expand n_NAMES1 (there (there m)) f = elim m [ ]
-expand n_NAMES0 here f = f
-expand n_NAMES0 (there m) f = elim m [ ]
+-- symbols that each of these leads to, before others
+abbrev EachFits : List (List Sym) → List Sym → List Ty → Type 0
+EachFits [] s ts = Unit {0}
+EachFits (b ∷ bs) s ts = Fits (b ++ s) ts × EachFits bs s ts
+
+one_of : {b : List Sym} {bs : List (List Sym)} (s : List Sym) (ts : List Ty) → Has b bs → EachFits bs s ts → Fits (b ++ s) ts
+one_of s ts here h = h.0
+one_of s ts (there m) h = one_of s ts m h.1
+
+-- the rest of a binary operation
+two : {c d : ℕ} {op : BinOp} {s : List Sym} {ts : List Ty} → Fits s (a_right ∷ ts) → Fits (Terminal c l.dropped ∷ Terminal d l.as_name ∷ Action (l.make_binary op) ∷ s) (a_named ∷ ts)
+two f = token r_dropped (token r_as_name (action b_make_binary f))
+
+-- the alternatives of a name do what the name does
+expand : {n : ℕ} {ts us : List Ty} {s : List Sym} → Names n ts us → Fits s us → EachFits (alternatives rules n) s ts
+expand n_MODULE f = (token r_dropped (token r_as_name (token r_dropped (token r_dropped (name n_WIRE (token r_as_name (token r_dropped (token r_dropped (name n_WIRE (name n_STALLS (action b_no_ports (name n_SAMPLES (token r_dropped (name n_PORT (token r_dropped (token r_dropped (name n_PORT (token r_dropped (token r_dropped (name n_PORT (token r_dropped (token r_dropped (action b_no_items (name n_ITEMS (token r_dropped (token r_dropped (action b_no_inits (name n_INITS (token r_dropped (token r_dropped (token r_dropped (token r_dropped (token r_dropped (token r_as_name (token r_dropped (token r_dropped (name n_BODY (token r_dropped (token r_dropped (action b_make_module f))))))))))))))))))))))))))))))))))))))), tt)
+expand n_WIRE f = (token r_dropped f, (f, tt))
+expand n_RANGE f = (token r_dropped (token r_as_number (token r_dropped (token r_as_number (token r_dropped (action b_make_range f))))), tt)
+expand n_PORT f = (name n_WIRE (name n_RANGE (token r_as_name (action b_make_port f))), tt)
+expand n_STALLS f = (token r_as_name (action b_some_reset_port (token r_dropped (token r_dropped (name n_PORT (token r_dropped f))))), (action b_no_reset_port (name n_RANGE (token r_as_name (action b_make_port (token r_dropped f)))), tt))
+expand n_SAMPLES f = (token r_dropped (name n_PORT (token r_dropped (action b_one_port (name n_SAMPLES f)))), (f, tt))
+expand n_ITEMS f = (name n_ITEM (action b_one_item (name n_ITEMS f)), (f, tt))
+expand n_ITEM f = (token r_dropped (name n_RANGE (token r_as_name (name n_DECLARED f))), (token r_dropped (token r_as_name (token r_dropped (action b_make_integer f))), (token r_dropped (name n_RANGE (token r_as_name (token r_dropped (action b_make_wire f)))), (token r_dropped (token r_as_name (token r_dropped (name n_RIGHT (token r_dropped (action b_make_assign f))))), tt))))
+expand n_DECLARED f = (name n_RANGE (token r_dropped (action b_make_file f)), (token r_dropped (action b_make_reg f), tt))
+expand n_RIGHT f = (token r_as_literal (action b_make_literal f), (token r_dropped (token r_as_name (action b_make_not f)), (token r_dropped (token r_as_name (token r_dropped (token r_as_name (action b_two_names (name n_NAMES10 (token r_dropped (action b_make_concat f))))))), (token r_as_name (name n_BEHIND f), tt))))
+expand n_BEHIND f = (two f, (two f, (two f, (two f, (two f, (two f, (two f, (two f, (two f, (two f, (token r_dropped (token r_as_name (token r_dropped (token r_as_name (action b_make_choice f)))), (token r_dropped (name n_INDEX f), (action b_make_name f, tt)))))))))))))
+expand n_INDEX f = (token r_as_number (token r_dropped (token r_as_number (token r_dropped (action b_make_slice f)))), (token r_as_name (token r_dropped (action b_make_word f)), tt))
+expand n_INITS f = (name n_INIT (action b_one_init (name n_INITS f)), (f, tt))
+expand n_INIT f = (token r_dropped (token r_dropped (token r_as_name (token r_dropped (token r_as_number (token r_dropped (token r_as_name (token r_dropped (token r_as_number (token r_dropped (token r_as_name (token r_dropped (token r_as_name (token r_dropped (token r_as_number (token r_dropped (token r_as_name (token r_dropped (token r_as_name (token r_dropped (token r_dropped (token r_as_literal (token r_dropped (action b_init_fill f))))))))))))))))))))))), (token r_as_name (name n_START f), tt))
+expand n_START f = (token r_dropped (token r_as_literal (token r_dropped (action b_init_reg f))), (token r_dropped (token r_as_number (token r_dropped (token r_dropped (token r_as_literal (token r_dropped (action b_init_word f)))))), tt))
+expand n_BODY f = (token r_dropped (token r_dropped (token r_as_name (token r_dropped (name n_CONDITION f)))), (token r_as_name (token r_dropped (token r_as_name (token r_dropped (action b_update_reg (action b_first_update (name n_UPDATES f)))))), (action b_no_reset (action b_no_updates f), tt)))
+expand n_CONDITION f = (token r_dropped (action b_no_values (name n_VALUES (token r_dropped (action b_some_reset (token r_dropped (token r_dropped (action b_no_updates (name n_UPDATES (token r_dropped f))))))))), (token r_as_name (token r_dropped (token r_as_name (token r_dropped (token r_dropped (token r_as_name (token r_dropped (action b_update_file (action b_first_update (name n_UPDATES f))))))))), tt))
+expand n_VALUES f = (token r_as_name (token r_dropped (token r_as_literal (token r_dropped (action b_one_value (name n_VALUES f))))), (f, tt))
+expand n_UPDATES f = (name n_UPDATE (action b_one_update (name n_UPDATES f)), (f, tt))
+expand n_UPDATE f = (token r_dropped (token r_dropped (token r_as_name (token r_dropped (token r_as_name (token r_dropped (token r_as_name (token r_dropped (token r_dropped (token r_as_name (token r_dropped (action b_update_file f))))))))))), (token r_as_name (token r_dropped (token r_as_name (token r_dropped (action b_update_reg f)))), tt))
+expand n_NAMES10 f = (token r_dropped (token r_as_name (action b_one_name (name n_NAMES9 f))), (f, tt))
+expand n_NAMES9 f = (token r_dropped (token r_as_name (action b_one_name (name n_NAMES8 f))), (f, tt))
+expand n_NAMES8 f = (token r_dropped (token r_as_name (action b_one_name (name n_NAMES7 f))), (f, tt))
+expand n_NAMES7 f = (token r_dropped (token r_as_name (action b_one_name (name n_NAMES6 f))), (f, tt))
+expand n_NAMES6 f = (token r_dropped (token r_as_name (action b_one_name (name n_NAMES5 f))), (f, tt))
+expand n_NAMES5 f = (token r_dropped (token r_as_name (action b_one_name (name n_NAMES4 f))), (f, tt))
+expand n_NAMES4 f = (token r_dropped (token r_as_name (action b_one_name (name n_NAMES3 f))), (f, tt))
+expand n_NAMES3 f = (token r_dropped (token r_as_name (action b_one_name (name n_NAMES2 f))), (f, tt))
+expand n_NAMES2 f = (token r_dropped (token r_as_name (action b_one_name (name n_NAMES1 f))), (f, tt))
+expand n_NAMES1 f = (token r_dropped (token r_as_name (action b_one_name (name n_NAMES0 f))), (f, tt))
+expand n_NAMES0 f = (f, tt)
 
 one_module : {vs : List Value} → Stack (a_whole ∷ []) vs → (m : VModule) × (vs ≡ l.whole m ∷ [])
 one_module (push (is_whole {x = m}) empty) = (m, refl)
@@ -305,7 +244,7 @@ accepts_module : {over : List Value → Bool} {s : List Sym} {v w : List Value} 
     → o ≡ Accepts w → (m : VModule) × (w ≡ l.whole m ∷ [])
 accepts_module {v = v} {w = w} accept done k is = let same : w ≡ v = cc is in let r = one_module k in (r.0, same ∙ r.1)
 accepts_module more f k is = cc is
-accepts_module {xs = xs} (goes {n = n} body p rest) (name nt f) k is = accepts_module rest (expand nt (picks_rule rules tables n _ body p) f) k is
+accepts_module {xs = xs} (goes {n = n} body p rest) (name nt f) k is = accepts_module rest (one_of _ _ (picks_rule rules tables n _ body p) (expand nt f)) k is
 accepts_module (take {x = x} same within rest) (token r f) k is = accepts_module rest f (read_keeps x r k) is
 accepts_module (make rest) (action b f) k is = accepts_module rest f (build_keeps b k) is
 accepts_module (wrong p) f k is = cc is

@@ -1,11 +1,7 @@
-use Rattle.kp_tool_spec.proofs.Headline.{gen_is_legal, gen_moves, gen_waits}
+use Rattle.kp_sched.specs.Runs.{IsLegal}
+use Rattle.kp_tool_spec.specs.Headline.{IsMoving, HasNoNeedlessStall}
+use Rattle.kp_tool_spec.proofs.Headline.{gen_with, legal_pipe, moves_pipe, waits_pipe}
 use Rattle.kp_tool_spec.proofs.laws.gen_sums_up_a_legal_run.Goals as goal
 
-pub returns-clause-legal : goal.returns-clause-legal
-returns-clause-legal c = gen_is_legal
-
-pub returns-clause-moves : goal.returns-clause-moves
-returns-clause-moves c = gen_moves
-
-pub returns-clause-no_needless_stall : goal.returns-clause-no_needless_stall
-returns-clause-no_needless_stall c = gen_waits
+pub returns : goal.returns
+returns c = record { legal = gen_with IsLegal legal_pipe; moves = gen_with IsMoving moves_pipe; no_needless_stall = gen_with HasNoNeedlessStall waits_pipe }
