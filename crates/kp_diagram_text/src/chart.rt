@@ -22,6 +22,7 @@ pub struct Chart<'a> {
 
 impl<'a> Chart<'a> {
     /// The length of the longest name of a stage.
+    #[tactic(auto, using(crate::proofs::Names::longest_next))]
     pub fn longest(&self) -> usize
         requires { IsDrawable self.now }
         ensures value { result ≡ longest (names_of self.now) self.now.stages }
@@ -93,6 +94,7 @@ pub fn are_names(names: &[String], n: u8) -> bool
     (names.is_empty() || names.len() == usize::from(n)) && are_all_names(names)
 }
 
+#[tactic(auto, using(crate::proofs::Names::one_wrong))]
 fn are_all_names(names: &[String]) -> bool
     ensures { result ≡ list_all is_a_name (map string_bytes names.now) }
 {

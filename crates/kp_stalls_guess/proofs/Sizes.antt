@@ -27,10 +27,7 @@ module _ (job : Job) where
 
     kind_sized : (i : ℕ) (x : StmtKind) (rest : ℕ → List GuessSlot) → ((m : ℕ) → AllByRecursion IsSized (rest m)) → AllByRecursion IsSized (with_guess job k i x rest)
     kind_sized i (stmts.Read r) rest more = read_sized i r r.guess rest more
-    kind_sized i (stmts.Let n e) rest more = more i
-    kind_sized i (stmts.Put n e) rest more = more i
-    kind_sized i (stmts.Set n e when) rest more = more i
-    kind_sized i (stmts.Aim n e) rest more = more i
+    kind_sized i _ rest more = more i
 
     block_sized : (i : ℕ) (ss : List Stmt) → AllByRecursion IsSized (guesses_in job k i ss)
     block_sized i [] = tt

@@ -23,7 +23,7 @@ by_test : {G : Type 0} (b : Bool) → (b ≡ true → G) → (b ≡ false → G)
 by_test true then_so else_so = then_so refl
 by_test false then_so else_so = else_so refl
 
-by_or : {X G : Type 0} (a b : Option X) (x : X) → option_or a b ≡ Some x → (a ≡ Some x → G) → (b ≡ Some x → G) → G
+pub by_or : {X G : Type 0} (a b : Option X) (x : X) → option_or a b ≡ Some x → (a ≡ Some x → G) → (b ≡ Some x → G) → G
 by_or None b x e first second = second e
 by_or (Some y) b x e first second = first e
 

@@ -17,11 +17,7 @@ use Rattle.kp_view_operands.specs.Widths.{AreWidthsAt, IsOf, after_decls, after_
 use Rattle.kp_view_operands.specs.Widths.IsOf.{address, read_when, guess, let_value, put_value, set_value, set_when, aim_value}
 use Rattle.kp_view_operands.specs.Widths.Occurs.{in_body, in_stmt}
 use Rattle.kp_view_operands.proofs.Scopes.{Mirrors, decl_same, decls_last, local_same, named_same, opened_same, params_same}
-use Rattle.kp_view_operands.proofs.Expressions.{IsFoundIn, has_width, finds}
-
-by_or : {X G : Type 0} (a b : Option X) (x : X) → option_or a b ≡ Some x → (a ≡ Some x → G) → (b ≡ Some x → G) → G
-by_or None b x e left right = right e
-by_or (Some y) b x e left right = left e
+use Rattle.kp_view_operands.proofs.Expressions.{IsFoundIn, by_or, has_width, finds}
 
 module _ (job : Job) (p : Place) where
   abbrev ds : List Decl
@@ -39,9 +35,7 @@ module _ (job : Job) (p : Place) where
   stmt_same n s (stmts.Let x e) h =
       subst (λ w. Mirrors (with_local n x.name w) (statement_of ds s (stmts.Let x e)).value) (sym (has_width ds all s n h p e))
       (local_same n s x.name (sense kinds.Let (width_of ds all s e).value 0) h)
-  stmt_same n s (stmts.Put x e) h = h
-  stmt_same n s (stmts.Set x e when) h = h
-  stmt_same n s (stmts.Aim x e) h = h
+  stmt_same n s _ h = h
 
   -- what is found of an expression of a statement
   record OfStmt (n : NameWidths) (s : Scoped) (h : Mirrors n s) (k : StmtKind) (t : ExprWidths) : Type 0 where
@@ -105,10 +99,7 @@ module _ (job : Job) (p : Place) where
   -- statements and blocks leave the names of the text
   stmt_text : (s : Scoped) (k : StmtKind) → (statement_of ds s k).value.text ≡ s.text
   stmt_text s (stmts.Read r) = refl
-  stmt_text s (stmts.Let x e) = refl
-  stmt_text s (stmts.Put x e) = refl
-  stmt_text s (stmts.Set x e when) = refl
-  stmt_text s (stmts.Aim x e) = refl
+  stmt_text s _ = refl
 
   stmts_text : (s : Scoped) (xs : List Stmt) → (statements_of ds s xs).value.text ≡ s.text
   stmts_text s [] = refl
@@ -143,12 +134,7 @@ module _ (job : Job) (p : Place) where
         place = o.place;
         widths = o.widths;
       }
-  decl_finds before rest (decls.Reg x width start) is n h t g = cc
-  decl_finds before rest (decls.File x width bits) is n h t g = cc
-  decl_finds before rest (decls.Pipe x width) is n h t g = cc
-  decl_finds before rest (decls.Hint x width start) is n h t g = cc
-  decl_finds before rest (decls.Target r) is n h t g = cc
-  decl_finds before rest (decls.Sample x width stage) is n h t g = cc
+  decl_finds before rest _ is n h t g = cc
 
   decls_find : (before rest : List Decl) → ds ≡ before ++ rest → (n : NameWidths) → Mirrors n (after_decls job before) → (t : ExprWidths) → found_in_decls p n rest ≡ Some t
       → AreWidthsAt job p t
