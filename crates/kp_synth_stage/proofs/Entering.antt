@@ -71,10 +71,6 @@ words_out vs i (s ∷ ss) q e = by_test (is_same_name q s.name)
     (λ y. let f : true ≡ false = sym (ap (λ b. cond b true (has_name ss q)) y) ∙ e in cc)
     (λ y. let r = words_out vs (suc i) ss q (sym (ap (λ b. cond b true (has_name ss q)) y) ∙ e) in rw y r)
 
--- the word of a node of a slot's width
-pub slot_word : (c : Cells) (p : Held) (n : NodeId) (w v : ℕ) → Wire p n w → at c p.nodes n.0 ≡ v → word_at c p.nodes n.0 ≡ word w v
-slot_word c p n w v h e = word_is c p.nodes n.0 h.inside ∙ ap (λ k. word k (at c p.nodes n.0)) h.wide ∙ ap (word w) e
-
 -- A name that a hint has names a hint in the text.
 hint_named : (ds : List Decl) (i k : ℕ) (s : Scoped) (rest : List Decl) → Unbroken (declarations_of ds i k s rest) → (q : List ℕ) → has_name (hints_of rest) q ≡ true
     → IsOfKind is_hint (declarations_of ds i k s rest).value.text q
@@ -119,11 +115,8 @@ module _ (z : Held) (ss : List Slot) (ns : List NodeId) (h : SlotsHave z ss ns) 
       let inside : number_of ss q < length ss = i in
       let count : length ns ≡ length ss = h.count in omega arith
 
-  slot_wire : (w a : ℕ) → IsSlot ss q w a → Wire z node w
-  slot_wire w a at = subst (Wire z node) (width_there q ss at.inside ∙ at.width) (h.wires (number_of ss q) (number_inside at.inside))
-
   slot_binds : (names : Nodes) (w a : ℕ) → IsSlot ss q w a → node_of names q ≡ Some node → Binds z w (node_of names q)
-  slot_binds names w a at e = subst (Binds z w) (sym e) (slot_wire w a at)
+  slot_binds names w a at e = subst (Binds z w) (sym e) (subst (Wire z node) (width_there q ss at.inside ∙ at.width) (h.wires (number_of ss q) (number_inside at.inside)))
 
   slot_inside : (names : Nodes) (n : NodeId) → has_name ss q ≡ true → node_of names q ≡ Some node → node_of names q ≡ Some n → n.0 < length z.nodes
   slot_inside names n has e f =
@@ -138,7 +131,7 @@ module _ (z : Held) (ss : List Slot) (ns : List NodeId) (h : SlotsHave z ss ns) 
       let l = number_inside i in
       let zero_more : 0 + n ≡ n = omega arith in
       ap (option_map (λ (x : NodeId). word_at c z.nodes x.0)) e
-      ∙ ap Some (slot_word c z node (get_or ss n no_slot).width (vs n) (h.wires n l) (has n l))
+      ∙ ap Some (word_is c z.nodes node.0 (h.wires n l).inside ∙ ap (λ k. word k (at c z.nodes node.0)) (h.wires n l).wide ∙ ap (word (get_or ss n no_slot).width) (has n l))
       ∙ sym (words_in vs 0 ss q i ∙ ap (λ x. Some (word (get_or ss n no_slot).width (vs x))) zero_more)
 
 module _ (job : Job) (u : Unbroken (widths_of job)) (k : ℕ) where
@@ -175,9 +168,6 @@ module _ (job : Job) (u : Unbroken (widths_of job)) (k : ℕ) where
 
   none_sample : (q : List ℕ) → look_up (declared job).text q ≡ None → has_name (samples_of job.decls) q ≡ false
   none_sample = none_of (samples_of job.decls) is_sample (sample_named job.decls nothing (declared_right job u))
-
-  none_hint : (q : List ℕ) → look_up (declared job).text q ≡ None → has_name (hints_of job.decls) q ≡ false
-  none_hint = none_of (hints_of job.decls) is_hint (hint_named job.decls 0 0 nothing job.decls (declared_right job u))
 
   -- what the names of the stage are known as
   abbrev known_at_start : (ℕ → ℕ) → (ℕ → ℕ) → values.Values
@@ -252,7 +242,7 @@ module _ (job : Job) (u : Unbroken (widths_of job)) (k : ℕ) where
     enter_bound = record {
       decls = refl;
       bound = λ q m e b. binds_by_kind q m (sym (find_text q) ∙ e) b;
-      only = λ q e. let f = sym (find_text q) ∙ e in no_node q (none_pipe q f) (none_sample q f) (none_hint q f);
+      only = λ q e. let f = sym (find_text q) ∙ e in no_node q (none_pipe q f) (none_sample q f) (none_of (hints_of job.decls) is_hint (hint_named job.decls 0 0 nothing job.decls (declared_right job u)) q f);
       inside = λ q n e. by_test (has_name (pipes_of job.decls) q)
           (λ y. slot_inside z (pipes_of job.decls) pn ps q names n y (pipe_node q (name_in (pipes_of job.decls) q y)) e)
           (λ y. by_test (has_name (samples_of job.decls) q)

@@ -116,9 +116,6 @@ pub record Given (job : Job) (k j : ℕ) (slots : List Slot) (n : List ℕ) (e :
   pub right : statements.IsRight job k j e
   pub width : (width_in job k j e).value ≡ (get_or slots (number_of slots n) no_slot).width
 
-given_slot : (job : Job) (k j : ℕ) (slots : List Slot) (n : List ℕ) (e : Expr) (w a : ℕ) → IsSlot slots n w a → statements.IsRight job k j e → (width_in job k j e).value ≡ w → Given job k j slots n e
-given_slot job k j slots n e w a s r is = record { inside = s.inside; right = r; width = is ∙ sym s.width ∙ sym (width_there n slots s.inside) }
-
 module _ (job : Job) (unbroken : Unbroken (widths_of job)) (k j : ℕ) where
   pub text_sense : (q : List ℕ) (m : Sense) → look_up (scope_at job k j).text q ≡ Some m → Placed job.decls q m
   text_sense q m e = placed_in job unbroken q m (ap (λ (names : Names). look_up names q) (sym (scope_text job k j)) ∙ e)
@@ -134,7 +131,7 @@ module _ (job : Job) (unbroken : Unbroken (widths_of job)) (k j : ℕ) where
       let slot : IsSlot slots n.name f.0.width 0 = found_where s n.name f.0 f.1
       (λ l. local_no takes no_read no_let f.0.kind (scope_locals job k j n.name f.0 l) f.2)
       (λ none z. placed n.name f.0 (text_sense n.name f.0 z) f.2) in
-      given_slot job k j slots n.name e f.0.width 0 slot g.0 (g.1 ∙ sym (ap (λ (m : Sense). m.width) f.3))
+      record { inside = slot.inside; right = g.0; width = g.1 ∙ sym (ap (λ (m : Sense). m.width) f.3) ∙ sym slot.width ∙ sym (width_there n.name slots slot.inside) }
 
   pub put_right : (n : tree.Named) (e : Expr) → StmtRight job k j (stmts.Put n e) → Given job k j (pipes_of job.decls) n.name e
   put_right n e h = given_right is_pipe (pipes_of job.decls) refl refl (λ q m p. p.pipe) n e
