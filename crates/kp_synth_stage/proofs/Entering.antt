@@ -281,36 +281,32 @@ slots_kept p z m ss ns g h = record { count = h.count; wires = λ i l. wire_kept
 module _ (job : Job) (u : Unbroken (widths_of job)) (k : ℕ) (p z : Held) (m : ℕ) (g : Kept p z m) (pn sn hn : List NodeId) (ps : SlotsHave p (pipes_of job.decls) pn) (ts : SlotsHave p (samples_of job.decls) sn) (hs : SlotsHave p (hints_of job.decls) hn)
     (w : Work) (env : w.env ≡ env_of job pn sn hn) (hazard : Wire z w.hazard 1) (puts : w.puts.items ≡ replicate (length (pipes_of job.decls)) None) (sets : w.sets.items ≡ replicate (length (targets_of job.decls)) None)
     (made : w.made.items ≡ []) (aims : w.aims.items ≡ replicate (length (hints_of job.decls)) None) where
-  enter_work : WorkOk job k 0 z w
-  unfolding slots_at
-  enter_work = record {
-    env = subst (Bound job (scope_at job k 0) z) (sym env) (enter_bound job u k z pn sn hn (slots_kept p z m _ pn g ps) (slots_kept p z m _ sn g ts) (slots_kept p z m _ hn g hs));
-    fits = record {
-      hazard = hazard;
-      put_count = ap length puts ∙ length-replicate (length (pipes_of job.decls)) None;
-      puts = λ x. subst (PutFits z (pipe_at job x).width) (sym (none_at w.puts.items _ x puts)) tt;
-      set_count = ap length sets ∙ length-replicate (length (targets_of job.decls)) None;
-      sets = λ x. subst (SetFits z (target_at job x).width) (sym (none_at w.sets.items _ x sets)) tt;
-      made = subst (λ xs. MadeFit z [] xs) (sym made) tt;
-      aim_count = ap length aims ∙ length-replicate (length (hints_of job.decls)) None;
-      aims = λ x. subst (PutFits z (hint_at job x).width) (sym (none_at w.aims.items _ x aims)) tt;
-    };
-  }
-
-  enters : ((c : Cells) → on c z.nodes w.hazard.0 ≡ false) → Enters job k p pn sn hn z w
-  unfolding Enters slots_at
-  enters clear = λ c vs taken hints pv tv hv. record {
-    names = subst (λ e. work.Names job (scope_at job k 0) hints c z e (known_at_start job u k vs taken)) (sym env)
-        (enter_names job u k z pn sn hn (slots_kept p z m _ pn g ps) (slots_kept p z m _ sn g ts) (slots_kept p z m _ hn g hs) c vs taken hints
-        (λ i l. g.same c (node_at pn i).0 (ps.wires i l).inside ∙ pv i l) (λ i l. g.same c (node_at sn i).0 (ts.wires i l).inside ∙ tv i l) (λ i l. g.same c (node_at hn i).0 (hs.wires i l).inside ∙ hv i l));
-    outcome = record {
-      hazard = clear c;
-      puts = λ x l. ap (put_value c z) (none_at w.puts.items _ x puts);
-      sets = λ x l. ap (set_value c z) (none_at w.sets.items _ x sets);
-      made = ap (λ xs. made_values c z [] xs) made;
-      aims = λ x l. ap (put_value c z) (none_at w.aims.items _ x aims);
-    };
-  }
-
   pub entered_with : WorkOk job k 0 z w × (((c : Cells) → on c z.nodes w.hazard.0 ≡ false) → Enters job k p pn sn hn z w)
-  entered_with = (enter_work, enters)
+  unfolding Enters slots_at
+  entered_with = (
+    record {
+      env = subst (Bound job (scope_at job k 0) z) (sym env) (enter_bound job u k z pn sn hn (slots_kept p z m _ pn g ps) (slots_kept p z m _ sn g ts) (slots_kept p z m _ hn g hs));
+      fits = record {
+        hazard = hazard;
+        put_count = ap length puts ∙ length-replicate (length (pipes_of job.decls)) None;
+        puts = λ x. subst (PutFits z (pipe_at job x).width) (sym (none_at w.puts.items _ x puts)) tt;
+        set_count = ap length sets ∙ length-replicate (length (targets_of job.decls)) None;
+        sets = λ x. subst (SetFits z (target_at job x).width) (sym (none_at w.sets.items _ x sets)) tt;
+        made = subst (λ xs. MadeFit z [] xs) (sym made) tt;
+        aim_count = ap length aims ∙ length-replicate (length (hints_of job.decls)) None;
+        aims = λ x. subst (PutFits z (hint_at job x).width) (sym (none_at w.aims.items _ x aims)) tt;
+      };
+    },
+    λ clear c vs taken hints pv tv hv. record {
+      names = subst (λ e. work.Names job (scope_at job k 0) hints c z e (known_at_start job u k vs taken)) (sym env)
+          (enter_names job u k z pn sn hn (slots_kept p z m _ pn g ps) (slots_kept p z m _ sn g ts) (slots_kept p z m _ hn g hs) c vs taken hints
+          (λ i l. g.same c (node_at pn i).0 (ps.wires i l).inside ∙ pv i l) (λ i l. g.same c (node_at sn i).0 (ts.wires i l).inside ∙ tv i l) (λ i l. g.same c (node_at hn i).0 (hs.wires i l).inside ∙ hv i l));
+      outcome = record {
+        hazard = clear c;
+        puts = λ x l. ap (put_value c z) (none_at w.puts.items _ x puts);
+        sets = λ x l. ap (set_value c z) (none_at w.sets.items _ x sets);
+        made = ap (λ xs. made_values c z [] xs) made;
+        aims = λ x l. ap (put_value c z) (none_at w.aims.items _ x aims);
+      };
+    },
+  )
