@@ -28,7 +28,7 @@ use Rattle.kp_synth_close.specs.{declared.control.RowNodes.RowNodes, Nexts.Close
 use Rattle.kp_synth_close.specs.Closed.{Starts, Closed}
 use Rattle.kp_synth_close.specs.Shows.{named_with, reg_slot, file_slot, port_slot, registers_of, files_of, other_names, NamedBy, Shows}
 use Rattle.kp_synth_close.proofs.Whole.{shows_over, words_always, shows_anew, holds_over, holds_anew}
-use Rattle.kp_synth_parts.specs.inner.Built.{no_word, reg_count, file_count, visible_regs, other_reg, other_regs, first_start, net_regs, net_files, net_parts, made_net, SpelledReg, SpelledFile, SpelledPort, Spelled}
+use Rattle.kp_synth_parts.specs.inner.Built.{no_word, reg_count, file_count, visible_regs, other_reg, other_regs, first_start, net_regs, net_parts, made_net, SpelledReg, SpelledFile, SpelledPort, Spelled}
 use Rattle.kp_synth_parts.proofs.Numbers.{is_file, register_place, file_number, file_found}
 use Rattle.kp_synth_parts.proofs.Making.{zero_plus, visible_named, wide, visible_counted, visible_at, others_counted, others_named, other_at, ports_named, port_at, ports_counted, FileIs, file_at, files_counted, files_named}
 use Rattle.kp_synth_parts.proofs.Begins.{hints_fit, first_word, regs_given, files_given, WordsFit, words_given, reg_value, file_word}
@@ -55,16 +55,13 @@ first_is : (job : Job) (start : Start) (key : Key) → is_visible key ≡ false 
 first_is job start (Visible t) e = cc
 first_is job start _ e = refl
 
-one_wide : IsWidth 1
-one_wide = record { positive = omega arith; at_most = omega arith }
-
 key_wide : (job : Job) (key : Key) → Fits job → HasKey job key → IsWidth (key_width job key)
 key_wide job (Visible t) fit h = fit.targets t h.0
 key_wide job (Pipe x k) fit h = fit.pipes x h.0
 key_wide job (Value t k) fit h = fit.targets t h.0
 key_wide job (Guess g k) fit h = fit.guess_widths g h.0
 key_wide job (Hint x) fit h = fit.hints x h
-key_wide job _ fit h = one_wide
+key_wide job _ fit h = record { positive = omega arith; at_most = omega arith }
 
 -- A register that is that of key r.
 record RegIs (job : Job) (start : Start) (nexts : List NodeId) (r : ℕ) (x : NetReg) : Type 0 where
@@ -128,9 +125,6 @@ module _ (job : Job) (p : Held) (outs : List Outcome) (start : Start) (nexts : L
   abbrev back : List NetReg
   back = other_regs job nexts first first (drop first (keys_of job))
 
-  back_count : length back + first ≡ length (keys_of job)
-  back_count = omega (arith, others_counted job nexts first first (drop first (keys_of job)), ap length (keys_rest job fine), keys_count job fine)
-
   -- a register of the job
   front_is : (r : ℕ) → r < first → RegIs job start nexts r (get_or made.regs r no_reg)
   front_is r m =
@@ -176,7 +170,7 @@ module _ (job : Job) (p : Held) (outs : List Outcome) (start : Start) (nexts : L
   reg_is r l = ⊎_elim (λ (m : r < first). front_is r m) (λ (m : first ≤ r). back_is r m l) (cases_lt r first)
 
   pub regs_counted : length (net_regs job start.regs nexts) ≡ length (keys_of job)
-  regs_counted = omega (arith, length-append front back, visible_counted start.regs nexts 0 job.decls, back_count)
+  regs_counted = omega (arith, length-append front back, visible_counted start.regs nexts 0 job.decls, others_counted job nexts first first (drop first (keys_of job)), ap length (keys_rest job fine), keys_count job fine)
 
   -- a file
   file_is : (t : ℕ) → t < length targets → is_register (target_at job t) ≡ false
@@ -245,13 +239,6 @@ module _ (job : Job) (p : Held) (outs : List Outcome) (start : Start) (nexts : L
   cells_ok = λ i l. cell_ok (get_or p.nodes i no_node).width (get_or p.nodes i no_node).kind (s.cells i l)
 
   -- THE PARTS FIT the nodes.
-  reg_ok : (r : ℕ) → r < length made.regs → RegOk p.nodes (get_or made.regs r no_reg)
-  reg_ok r l =
-      let m : r < length (keys_of job) = omega (arith, l, regs_counted) in
-      let x = reg_is r m in
-      let w = s.closes.wires r m in
-      record { start = x.word; next = subst (λ (n : NodeId). NodeIs p.nodes n (get_or made.regs r no_reg).start.width) (sym x.next) (w.inside, w.wide ∙ sym x.width) }
-
   file_fits : (t : ℕ) → t < length targets → is_register (target_at job t) ≡ false → FileOk p.nodes (get_or made.files (files_before targets t) no_file)
   file_fits t l e =
       let x = file_is t l e in
@@ -263,21 +250,6 @@ module _ (job : Job) (p : Held) (outs : List Outcome) (start : Start) (nexts : L
   files_are : map file_slot made.files ≡ map (named_with (codes "f_")) (files_of job)
   files_are = files_named job start.files ports 0 0 job.decls fine (λ i l. ap (target_at job) (zero_plus i))
 
-  files_same : length (net_files job start.files ports 0 0 job.decls) ≡ length (files_of job)
-  files_same = omega (arith, ap length files_are, length-map made.files file_slot, length-map {B = Slot} (files_of job) (named_with (codes "f_")))
-
-  file_ok_at : (f : ℕ) → f < length made.files → FileOk p.nodes (get_or made.files f no_file)
-  file_ok_at f l =
-      let t = file_found job f (omega (arith, l, files_same)) in
-      subst (λ m. FileOk p.nodes (get_or made.files m no_file)) t.3 (file_fits t.0 t.1 t.2)
-
-  port_ok : (x : ℕ) → x < length made.samples → PortOk (get_or made.samples x no_port)
-  port_ok x l =
-      let m : x < length (samples_of job.decls) = omega (arith, l, ports_counted job 0 job.decls) in
-      let e = (sample_is x m).1 in
-      let w = fit.samples x m in
-      record { positive = omega (arith, e, w.positive); at_most = omega (arith, e, w.at_most) }
-
   pub parts_ok : PartsOk p.nodes (net_parts job start nexts ports row)
   parts_ok = record {
     ext_positive = omega (arith, fit.at_least);
@@ -285,9 +257,19 @@ module _ (job : Job) (p : Held) (outs : List Outcome) (start : Start) (nexts : L
     sample_count = omega (arith, ports_counted job 0 job.decls, (few job s.stages).samples);
     reg_count = omega (arith, regs_counted, keys_few job s.stages fit.at_most);
     file_count = omega (arith, files_counted job start.files ports 0 0 job.decls, files_summed job.decls, (limits job s.stages).files);
-    samples = All-from_get_or PortOk made.samples no_port port_ok;
-    regs = All-from_get_or (RegOk p.nodes) made.regs no_reg reg_ok;
-    files = All-from_get_or (FileOk p.nodes) made.files no_file file_ok_at;
+    samples = All-from_get_or PortOk made.samples no_port (λ x l.
+        let m : x < length (samples_of job.decls) = omega (arith, l, ports_counted job 0 job.decls) in
+        let e = (sample_is x m).1 in
+        let w = fit.samples x m in
+        record { positive = omega (arith, e, w.positive); at_most = omega (arith, e, w.at_most) });
+    regs = All-from_get_or (RegOk p.nodes) made.regs no_reg (λ r l.
+        let m : r < length (keys_of job) = omega (arith, l, regs_counted) in
+        let x = reg_is r m in
+        let w = s.closes.wires r m in
+        record { start = x.word; next = subst (λ (n : NodeId). NodeIs p.nodes n (get_or made.regs r no_reg).start.width) (sym x.next) (w.inside, w.wide ∙ sym x.width) });
+    files = All-from_get_or (FileOk p.nodes) made.files no_file (λ f l.
+        let t = file_found job f (omega (arith, l, ap length files_are, length-map made.files file_slot, length-map {B = Slot} (files_of job) (named_with (codes "f_")))) in
+        subst (λ m. FileOk p.nodes (get_or made.files m no_file)) t.3 (file_fits t.0 t.1 t.2));
     cells = cells_ok;
     full = s.shows.full_wire.inside;
     ue = s.shows.ue_wire.inside;
@@ -303,9 +285,6 @@ module _ (job : Job) (p : Held) (outs : List Outcome) (start : Start) (nexts : L
 
   back_named : map (λ (r : NetReg). r.name) back ≡ other_names 0 (length back)
   back_named = others_named job nexts first first 0 (drop first (keys_of job)) (omega arith) ∙ ap (other_names 0) (sym (others_counted job nexts first first (drop first (keys_of job))))
-
-  back_few : length back ≤ 4096
-  back_few = omega (arith, length-append front back, regs_counted, keys_few job s.stages fit.at_most)
 
   samples_are : map port_slot made.samples ≡ map (named_with (codes "s_")) (samples_of job.decls)
   samples_are = ports_named job 0 job.decls (λ i l. ap (sample_at job) (zero_plus i))
@@ -345,7 +324,7 @@ module _ (job : Job) (p : Held) (outs : List Outcome) (start : Start) (nexts : L
       let e : map (λ (r : NetReg). r.name) front ≡ map (led_name 114 95) (registers_of job)
       = sym (names_through reg_slot front) ∙ ap (map (λ (x : Slot). x.name)) front_named ∙ names_through (named_with (codes "r_")) (registers_of job) in
       subst Differ (sym (map-append (λ (r : NetReg). r.name) front back ∙ (λ i. e i ++ back_named i)))
-      (differ_both (registers_of job) 0 (length back) (own_filter is_register (targets_of job.decls) own_targets) (omega (arith, back_few)))
+      (differ_both (registers_of job) 0 (length back) (own_filter is_register (targets_of job.decls) own_targets) (omega (arith, length-append front back, regs_counted, keys_few job s.stages fit.at_most)))
 
   files_differ : Differ (map (λ (f : NetFile). f.name) made.files)
   files_differ = subst Differ

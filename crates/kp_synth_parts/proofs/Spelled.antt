@@ -13,13 +13,10 @@ use Rattle.kp_synth_parts.specs.inner.Built.{SpelledReg, SpelledFile, SpelledPor
 abbrev Passes : ℕ → Type 0
 Passes b = is_in_identifier b ≡ true
 
-word_passes : (b : ℕ) → is_word b ≡ true → Passes b
-word_passes b e = rw e refl
-
 -- a name of the job after a letter and `_`
 led : (letter : ℕ) (name : List ℕ) → Passes letter → IsName name → All Passes (letter ∷ 95 ∷ name)
 led letter name e n =
-    All-cons Passes letter (95 ∷ name) e (All-cons Passes 95 name refl (All-weaker (λ b. is_word b ≡ true) Passes word_passes name n.spelled))
+    All-cons Passes letter (95 ∷ name) e (All-cons Passes 95 name refl (All-weaker (λ b. is_word b ≡ true) Passes (λ b e. rw e refl) name n.spelled))
 
 pub module_spelled : (name : List ℕ) → IsName name → IsSpelled is_module_name (109 ∷ 95 ∷ name)
 module_spelled name n = record { kind = refl; bytes = led 109 name refl n; short = omega (arith, n.within) }

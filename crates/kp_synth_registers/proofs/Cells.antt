@@ -42,19 +42,13 @@ sample_added job p q x k a only l e = asked_added job p q (record { width = k; k
 
 -- ONE NODE MORE, at the end of the first.
 module _ (nodes : List NodeId) (n : NodeId) where
-  before_end : (r : ℕ) → r < length nodes → node_at (nodes ++ n ∷ []) r ≡ node_at nodes r
-  before_end r l = get_or-append nodes (n ∷ []) (record { 0 = 0 }) r l
-
-  at_end : (r : ℕ) → length nodes ≡ r → node_at (nodes ++ n ∷ []) r ≡ n
-  at_end r e = ap (node_at (nodes ++ n ∷ [])) (sym e) ∙ get_or-append_seam nodes n [] (record { 0 = 0 })
-
   -- what holds of the first and of the new one holds of all
   each_then : (P : ℕ → NodeId → Type 0) → ((r : ℕ) → r < length nodes → P r (node_at nodes r)) → P (length nodes) n
       → (r : ℕ) → r < length (nodes ++ n ∷ []) → P r (node_at (nodes ++ n ∷ []) r)
   each_then P first last r m = ⊎_elim
-      (λ (b : r < length nodes). subst (P r) (sym (before_end r b)) (first r b))
+      (λ (b : r < length nodes). subst (P r) (sym (get_or-append nodes (n ∷ []) (record { 0 = 0 }) r b)) (first r b))
       (λ (b : length nodes ≤ r). let z : length nodes ≡ r = omega (arith, m, b, length-append nodes (n ∷ [])) in
-      subst (P r) (sym (at_end r z)) (subst (λ s. P s n) z last))
+      subst (P r) (sym (ap (node_at (nodes ++ n ∷ [])) (sym z) ∙ get_or-append_seam nodes n [] (record { 0 = 0 }))) (subst (λ s. P s n) z last))
       (cases_lt r (length nodes))
 
 -- samples

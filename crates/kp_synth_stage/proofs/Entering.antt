@@ -71,10 +71,6 @@ words_out vs i (s ∷ ss) q e = by_test (is_same_name q s.name)
     (λ y. let f : true ≡ false = sym (ap (λ b. cond b true (has_name ss q)) y) ∙ e in cc)
     (λ y. let r = words_out vs (suc i) ss q (sym (ap (λ b. cond b true (has_name ss q)) y) ∙ e) in rw y r)
 
--- the word of a node of a slot's width
-pub slot_word : (c : Cells) (p : Held) (n : NodeId) (w v : ℕ) → Wire p n w → at c p.nodes n.0 ≡ v → word_at c p.nodes n.0 ≡ word w v
-slot_word c p n w v h e = word_is c p.nodes n.0 h.inside ∙ ap (λ k. word k (at c p.nodes n.0)) h.wide ∙ ap (word w) e
-
 -- A name that a hint has names a hint in the text.
 hint_named : (ds : List Decl) (i k : ℕ) (s : Scoped) (rest : List Decl) → Unbroken (declarations_of ds i k s rest) → (q : List ℕ) → has_name (hints_of rest) q ≡ true
     → IsOfKind is_hint (declarations_of ds i k s rest).value.text q
@@ -119,11 +115,8 @@ module _ (z : Held) (ss : List Slot) (ns : List NodeId) (h : SlotsHave z ss ns) 
       let inside : number_of ss q < length ss = i in
       let count : length ns ≡ length ss = h.count in omega arith
 
-  slot_wire : (w a : ℕ) → IsSlot ss q w a → Wire z node w
-  slot_wire w a at = subst (Wire z node) (width_there q ss at.inside ∙ at.width) (h.wires (number_of ss q) (number_inside at.inside))
-
   slot_binds : (names : Nodes) (w a : ℕ) → IsSlot ss q w a → node_of names q ≡ Some node → Binds z w (node_of names q)
-  slot_binds names w a at e = subst (Binds z w) (sym e) (slot_wire w a at)
+  slot_binds names w a at e = subst (Binds z w) (sym e) (subst (Wire z node) (width_there q ss at.inside ∙ at.width) (h.wires (number_of ss q) (number_inside at.inside)))
 
   slot_inside : (names : Nodes) (n : NodeId) → has_name ss q ≡ true → node_of names q ≡ Some node → node_of names q ≡ Some n → n.0 < length z.nodes
   slot_inside names n has e f =
@@ -138,7 +131,7 @@ module _ (z : Held) (ss : List Slot) (ns : List NodeId) (h : SlotsHave z ss ns) 
       let l = number_inside i in
       let zero_more : 0 + n ≡ n = omega arith in
       ap (option_map (λ (x : NodeId). word_at c z.nodes x.0)) e
-      ∙ ap Some (slot_word c z node (get_or ss n no_slot).width (vs n) (h.wires n l) (has n l))
+      ∙ ap Some (word_is c z.nodes node.0 (h.wires n l).inside ∙ ap (λ k. word k (at c z.nodes node.0)) (h.wires n l).wide ∙ ap (word (get_or ss n no_slot).width) (has n l))
       ∙ sym (words_in vs 0 ss q i ∙ ap (λ x. Some (word (get_or ss n no_slot).width (vs x))) zero_more)
 
 module _ (job : Job) (u : Unbroken (widths_of job)) (k : ℕ) where
@@ -175,9 +168,6 @@ module _ (job : Job) (u : Unbroken (widths_of job)) (k : ℕ) where
 
   none_sample : (q : List ℕ) → look_up (declared job).text q ≡ None → has_name (samples_of job.decls) q ≡ false
   none_sample = none_of (samples_of job.decls) is_sample (sample_named job.decls nothing (declared_right job u))
-
-  none_hint : (q : List ℕ) → look_up (declared job).text q ≡ None → has_name (hints_of job.decls) q ≡ false
-  none_hint = none_of (hints_of job.decls) is_hint (hint_named job.decls 0 0 nothing job.decls (declared_right job u))
 
   -- what the names of the stage are known as
   abbrev known_at_start : (ℕ → ℕ) → (ℕ → ℕ) → values.Values
@@ -252,7 +242,7 @@ module _ (job : Job) (u : Unbroken (widths_of job)) (k : ℕ) where
     enter_bound = record {
       decls = refl;
       bound = λ q m e b. binds_by_kind q m (sym (find_text q) ∙ e) b;
-      only = λ q e. let f = sym (find_text q) ∙ e in no_node q (none_pipe q f) (none_sample q f) (none_hint q f);
+      only = λ q e. let f = sym (find_text q) ∙ e in no_node q (none_pipe q f) (none_sample q f) (none_of (hints_of job.decls) is_hint (hint_named job.decls 0 0 nothing job.decls (declared_right job u)) q f);
       inside = λ q n e. by_test (has_name (pipes_of job.decls) q)
           (λ y. slot_inside z (pipes_of job.decls) pn ps q names n y (pipe_node q (name_in (pipes_of job.decls) q y)) e)
           (λ y. by_test (has_name (samples_of job.decls) q)
@@ -291,36 +281,32 @@ slots_kept p z m ss ns g h = record { count = h.count; wires = λ i l. wire_kept
 module _ (job : Job) (u : Unbroken (widths_of job)) (k : ℕ) (p z : Held) (m : ℕ) (g : Kept p z m) (pn sn hn : List NodeId) (ps : SlotsHave p (pipes_of job.decls) pn) (ts : SlotsHave p (samples_of job.decls) sn) (hs : SlotsHave p (hints_of job.decls) hn)
     (w : Work) (env : w.env ≡ env_of job pn sn hn) (hazard : Wire z w.hazard 1) (puts : w.puts.items ≡ replicate (length (pipes_of job.decls)) None) (sets : w.sets.items ≡ replicate (length (targets_of job.decls)) None)
     (made : w.made.items ≡ []) (aims : w.aims.items ≡ replicate (length (hints_of job.decls)) None) where
-  enter_work : WorkOk job k 0 z w
-  unfolding slots_at
-  enter_work = record {
-    env = subst (Bound job (scope_at job k 0) z) (sym env) (enter_bound job u k z pn sn hn (slots_kept p z m _ pn g ps) (slots_kept p z m _ sn g ts) (slots_kept p z m _ hn g hs));
-    fits = record {
-      hazard = hazard;
-      put_count = ap length puts ∙ length-replicate (length (pipes_of job.decls)) None;
-      puts = λ x. subst (PutFits z (pipe_at job x).width) (sym (none_at w.puts.items _ x puts)) tt;
-      set_count = ap length sets ∙ length-replicate (length (targets_of job.decls)) None;
-      sets = λ x. subst (SetFits z (target_at job x).width) (sym (none_at w.sets.items _ x sets)) tt;
-      made = subst (λ xs. MadeFit z [] xs) (sym made) tt;
-      aim_count = ap length aims ∙ length-replicate (length (hints_of job.decls)) None;
-      aims = λ x. subst (PutFits z (hint_at job x).width) (sym (none_at w.aims.items _ x aims)) tt;
-    };
-  }
-
-  enters : ((c : Cells) → on c z.nodes w.hazard.0 ≡ false) → Enters job k p pn sn hn z w
-  unfolding Enters slots_at
-  enters clear = λ c vs taken hints pv tv hv. record {
-    names = subst (λ e. work.Names job (scope_at job k 0) hints c z e (known_at_start job u k vs taken)) (sym env)
-        (enter_names job u k z pn sn hn (slots_kept p z m _ pn g ps) (slots_kept p z m _ sn g ts) (slots_kept p z m _ hn g hs) c vs taken hints
-        (λ i l. g.same c (node_at pn i).0 (ps.wires i l).inside ∙ pv i l) (λ i l. g.same c (node_at sn i).0 (ts.wires i l).inside ∙ tv i l) (λ i l. g.same c (node_at hn i).0 (hs.wires i l).inside ∙ hv i l));
-    outcome = record {
-      hazard = clear c;
-      puts = λ x l. ap (put_value c z) (none_at w.puts.items _ x puts);
-      sets = λ x l. ap (set_value c z) (none_at w.sets.items _ x sets);
-      made = ap (λ xs. made_values c z [] xs) made;
-      aims = λ x l. ap (put_value c z) (none_at w.aims.items _ x aims);
-    };
-  }
-
   pub entered_with : WorkOk job k 0 z w × (((c : Cells) → on c z.nodes w.hazard.0 ≡ false) → Enters job k p pn sn hn z w)
-  entered_with = (enter_work, enters)
+  unfolding Enters slots_at
+  entered_with = (
+    record {
+      env = subst (Bound job (scope_at job k 0) z) (sym env) (enter_bound job u k z pn sn hn (slots_kept p z m _ pn g ps) (slots_kept p z m _ sn g ts) (slots_kept p z m _ hn g hs));
+      fits = record {
+        hazard = hazard;
+        put_count = ap length puts ∙ length-replicate (length (pipes_of job.decls)) None;
+        puts = λ x. subst (PutFits z (pipe_at job x).width) (sym (none_at w.puts.items _ x puts)) tt;
+        set_count = ap length sets ∙ length-replicate (length (targets_of job.decls)) None;
+        sets = λ x. subst (SetFits z (target_at job x).width) (sym (none_at w.sets.items _ x sets)) tt;
+        made = subst (λ xs. MadeFit z [] xs) (sym made) tt;
+        aim_count = ap length aims ∙ length-replicate (length (hints_of job.decls)) None;
+        aims = λ x. subst (PutFits z (hint_at job x).width) (sym (none_at w.aims.items _ x aims)) tt;
+      };
+    },
+    λ clear c vs taken hints pv tv hv. record {
+      names = subst (λ e. work.Names job (scope_at job k 0) hints c z e (known_at_start job u k vs taken)) (sym env)
+          (enter_names job u k z pn sn hn (slots_kept p z m _ pn g ps) (slots_kept p z m _ sn g ts) (slots_kept p z m _ hn g hs) c vs taken hints
+          (λ i l. g.same c (node_at pn i).0 (ps.wires i l).inside ∙ pv i l) (λ i l. g.same c (node_at sn i).0 (ts.wires i l).inside ∙ tv i l) (λ i l. g.same c (node_at hn i).0 (hs.wires i l).inside ∙ hv i l));
+      outcome = record {
+        hazard = clear c;
+        puts = λ x l. ap (put_value c z) (none_at w.puts.items _ x puts);
+        sets = λ x l. ap (set_value c z) (none_at w.sets.items _ x sets);
+        made = ap (λ xs. made_values c z [] xs) made;
+        aims = λ x l. ap (put_value c z) (none_at w.aims.items _ x aims);
+      };
+    },
+  )

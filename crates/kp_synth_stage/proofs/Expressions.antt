@@ -179,10 +179,7 @@ module _ (job : Job) (unbroken : Unbroken (widths_of job)) (k j : ℕ) (p : Held
   gives_wire q n inside g =
       let f = static_found job unbroken k j p env right bound no_cells e u in
       let same = sym f.there ∙ g no_cells in
-      record { inside = inside; wide = sym (word_wide no_cells q.nodes n.0 inside) ∙ width_of_same _ _ same ∙ f.has.width }
-    where
-      width_of_same : (a b : Word) → Some a ≡ Some b → b.width ≡ a.width
-      width_of_same a b e' = let z : a ≡ b = cc in ap (λ (w : Word). w.width) (sym z)
+      record { inside = inside; wide = sym (word_wide no_cells q.nodes n.0 inside) ∙ ap (λ (o : Option Word). (unwrap_or o no_word).width) (sym same) ∙ f.has.width }
 
 -- the word of a node that has the value
 pub gives_is : (c : Cells) (p : Held) (env : Scope) (e : Expr) (q : Held) (n : NodeId) (v : Word) → Gives p env e q n → checked (known_at c p env) e ≡ Some v → word_at c q.nodes n.0 ≡ v

@@ -84,58 +84,50 @@ module _ (job : Job) (k j : ℕ) (r : ReadStmt) (is : ReadRight job k j r) (p q 
   same_width : (target_at job t).width ≡ width_of_slot (targets_of job.decls) r.target.name
   same_width = width_there r.target.name (targets_of job.decls) is.inside
 
-  read_work : WorkOk job k (suc j) z after
-  read_work =
-      let x = is.slots in
-      let f = fits_kept job p z (m1 + m2) (slots_at job k j) w up old.fits in
-      record {
-        env = subst (λ s. Bound job s z after.env) (sym is.next)
-            (bound_more job (scope_at job k j) z w.env r.name.name (sense kinds.Read (read_of job.decls (scope_at job k j) r).value 0) a.value (bound_kept job (scope_at job k j) p z (m1 + m2) w.env up old.env) is.new
-            (subst (Wire z a.value) (sym is.width) wide_z));
-        fits = record {
-          hazard = hazard;
-          put_count = f.put_count;
-          puts = f.puts;
-          set_count = f.set_count;
-          sets = f.sets;
-          made = subst (λ xs. MadeFit z xs made.items) (sym x.1) (subst (MadeFit z (slots_at job k j ++ own_slots job k (stmts.Read r) x.0)) (sym made_is)
-              (made_fits job k x.0 (target_at job t).width z r r.guess a.guess a.lacks (slots_at job k j) w.made.items same_width (wire_kept q z m2 a.lacks 1 g2 lack) guess_z f.made));
-          aim_count = f.aim_count;
-          aims = f.aims;
-        };
-      }
-
-  read_goes : (ss : List Source) → ReadGives job k j r p w.env ss q a
-      → ((c : Cells) → on c z.nodes h.0 ≡ (on c q.nodes w.hazard.0 || (not (is_some a.guess) && on c q.nodes a.lacks.0)))
-      → GoesBy job k j (stmts.Read r) p w ss z after
-  unfolding GoesBy ReadGives
-  read_goes ss gives hazards = λ c v hints d sees st.
-      let x = is.slots in
-      let ri = gives c v hints d.done sees st.names in
-      let o = means_kept job c p z (m1 + m2) (slots_at job k j) w _ up old.fits st.outcome in
-      let f = fits_kept job p z (m1 + m2) (slots_at job k j) w up old.fits in
-      let value = g2.same c a.value.0 wide.inside ∙ ri.value in
-      let lacks = g2.tests c a.lacks.0 lack.inside ∙ ri.lacks in
-      let miss = orzero_kept c q z m2 (target_at job t).width a.guess g2 (guess_fits q (target_at job t).width r.guess a.guess guess) ∙ ri.guess in
-      let words : word_at c z.nodes a.value.0 ≡ trees.word_read job.decls r (read_value job.decls v hints d.done r) =
-      word_is c z.nodes a.value.0 wide_z.inside ∙ ap (λ n. word n (at c z.nodes a.value.0)) (wide_z.wide ∙ same_width) ∙ ap (word (width_of_slot (targets_of job.decls) r.target.name)) value in
-      let before : on c q.nodes w.hazard.0 ≡ d.hazard = g1.tests c w.hazard.0 old.fits.hazard.inside ∙ st.outcome.hazard in
-      record {
-        names = subst (λ s. work.Names job s hints c z after.env (after_stmt job.decls v hints d (stmts.Read r)).done.names) (sym is.next)
-            (names_more job (scope_at job k j) hints c z w.env d.done.names r.name.name (sense kinds.Read (read_of job.decls (scope_at job k j) r).value 0) a.value _
-            (names_kept job (scope_at job k j) hints c p z (m1 + m2) w.env d.done.names up old.env.inside st.names) is.new refl words);
-        outcome = record {
-          hazard = hazard_means q (target_at job t).width r.guess a.guess (on c z.nodes h.0) d.hazard (on c q.nodes a.lacks.0) (read_lacks job.decls v d.done r) guess
-              (hazards c ∙ ap (λ b. b || (not (is_some a.guess) && on c q.nodes a.lacks.0)) before) ri.lacks;
-          puts = o.puts;
-          sets = o.sets;
-          made = ap (λ xs. made_values c z xs made.items) x.1 ∙ ap (made_values c z (slots_at job k j ++ own_slots job k (stmts.Read r) x.0)) made_is
-              ∙ made_means job k x.0 (target_at job t).width c z r r.guess a.guess a.lacks (slots_at job k j) w.made.items d.guesses (read_lacks job.decls v d.done r) (miss_of job.decls hints d.done r.guess) guess_z f.made o.made lacks miss;
-          aims = o.aims;
-        };
-      }
-
   pub read_step : (ss : List Source) → ReadGives job k j r p w.env ss q a
       → ((c : Cells) → on c z.nodes h.0 ≡ (on c q.nodes w.hazard.0 || (not (is_some a.guess) && on c q.nodes a.lacks.0)))
       → WorkOk job k (suc j) z after × GoesBy job k j (stmts.Read r) p w ss z after
-  read_step ss gives hazards = (read_work, read_goes ss gives hazards)
+  unfolding GoesBy ReadGives
+  read_step ss gives hazards =
+      let x = is.slots in
+      let f = fits_kept job p z (m1 + m2) (slots_at job k j) w up old.fits in (
+        record {
+          env = subst (λ s. Bound job s z after.env) (sym is.next)
+              (bound_more job (scope_at job k j) z w.env r.name.name (sense kinds.Read (read_of job.decls (scope_at job k j) r).value 0) a.value (bound_kept job (scope_at job k j) p z (m1 + m2) w.env up old.env) is.new
+              (subst (Wire z a.value) (sym is.width) wide_z));
+          fits = record {
+            hazard = hazard;
+            put_count = f.put_count;
+            puts = f.puts;
+            set_count = f.set_count;
+            sets = f.sets;
+            made = subst (λ xs. MadeFit z xs made.items) (sym x.1) (subst (MadeFit z (slots_at job k j ++ own_slots job k (stmts.Read r) x.0)) (sym made_is)
+                (made_fits job k x.0 (target_at job t).width z r r.guess a.guess a.lacks (slots_at job k j) w.made.items same_width (wire_kept q z m2 a.lacks 1 g2 lack) guess_z f.made));
+            aim_count = f.aim_count;
+            aims = f.aims;
+          };
+        },
+        λ c v hints d sees st.
+            let ri = gives c v hints d.done sees st.names in
+            let o = means_kept job c p z (m1 + m2) (slots_at job k j) w _ up old.fits st.outcome in
+            let value = g2.same c a.value.0 wide.inside ∙ ri.value in
+            let lacks = g2.tests c a.lacks.0 lack.inside ∙ ri.lacks in
+            let miss = orzero_kept c q z m2 (target_at job t).width a.guess g2 (guess_fits q (target_at job t).width r.guess a.guess guess) ∙ ri.guess in
+            let words : word_at c z.nodes a.value.0 ≡ trees.word_read job.decls r (read_value job.decls v hints d.done r) =
+            word_is c z.nodes a.value.0 wide_z.inside ∙ ap (λ n. word n (at c z.nodes a.value.0)) (wide_z.wide ∙ same_width) ∙ ap (word (width_of_slot (targets_of job.decls) r.target.name)) value in
+            let before : on c q.nodes w.hazard.0 ≡ d.hazard = g1.tests c w.hazard.0 old.fits.hazard.inside ∙ st.outcome.hazard in
+            record {
+              names = subst (λ s. work.Names job s hints c z after.env (after_stmt job.decls v hints d (stmts.Read r)).done.names) (sym is.next)
+                  (names_more job (scope_at job k j) hints c z w.env d.done.names r.name.name (sense kinds.Read (read_of job.decls (scope_at job k j) r).value 0) a.value _
+                  (names_kept job (scope_at job k j) hints c p z (m1 + m2) w.env d.done.names up old.env.inside st.names) is.new refl words);
+              outcome = record {
+                hazard = hazard_means q (target_at job t).width r.guess a.guess (on c z.nodes h.0) d.hazard (on c q.nodes a.lacks.0) (read_lacks job.decls v d.done r) guess
+                    (hazards c ∙ ap (λ b. b || (not (is_some a.guess) && on c q.nodes a.lacks.0)) before) ri.lacks;
+                puts = o.puts;
+                sets = o.sets;
+                made = ap (λ xs. made_values c z xs made.items) x.1 ∙ ap (made_values c z (slots_at job k j ++ own_slots job k (stmts.Read r) x.0)) made_is
+                    ∙ made_means job k x.0 (target_at job t).width c z r r.guess a.guess a.lacks (slots_at job k j) w.made.items d.guesses (read_lacks job.decls v d.done r) (miss_of job.decls hints d.done r.guess) guess_z f.made o.made lacks miss;
+                aims = o.aims;
+              };
+            },
+      )

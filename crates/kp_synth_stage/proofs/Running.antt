@@ -61,11 +61,8 @@ module _ (ds : List Decl) (v : Truths) (hints : ℕ → ℕ) where
   one_runs d (stmts.Set n e when) rest = set_runs d.hazard d.guesses d.done (with_set ds d.done (result_named ds n.name) (value_of ds d.done e)) (holds ds d.done when) rest
   one_runs d _ rest = refl
 
-  end_led : (d : Doing) → led d.hazard d.guesses (record { hazard = false; puts = d.done.puts; sets = d.done.sets; guesses = []; aims = d.done.aims hints }) ≡ outcome_of hints d
-  end_led d = led_same (outcome_of hints d) _ _ _ _ (or-false d.hazard) (append-nil d.guesses)
-
   all_run : (d : Doing) (xs : List Stmt) → led d.hazard d.guesses (outcome (tree_of ds d.done xs)) ≡ outcome_of hints (after_stmts ds v hints d xs)
-  all_run d [] = end_led d
+  all_run d [] = led_same (outcome_of hints d) _ _ _ _ (or-false d.hazard) (append-nil d.guesses)
   all_run d (x ∷ xs) = one_runs d x.kind (λ more. tree_of ds more xs) ∙ all_run (after_stmt ds v hints d x.kind) xs
 
   -- what a stage does is what its statements do

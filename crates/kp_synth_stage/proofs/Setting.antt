@@ -24,7 +24,7 @@ use Rattle.kp_synth_registers.specs.{declared.outcome.Set.Set, Holding.optional,
 use Rattle.kp_synth_tables.proofs.Fitting.{width_there}
 use Rattle.kp_synth_tables.specs.Keys.{target_at}
 use Rattle.kp_synth_registers.proofs.Growth.{set_kept, set_fits}
-use Rattle.kp_synth_stage.specs.{declared.row.Source.Source, declared.work.Work.Work, inner.Scopes.scope_at, inner.Scopes.Bound}
+use Rattle.kp_synth_stage.specs.{declared.work.Work.Work, inner.Scopes.scope_at, inner.Scopes.Bound}
 use Rattle.kp_synth_stage.specs.inner.Standing.{StmtRight, WorkOk, Stands, GoesBy}
 use Rattle.kp_synth_stage.specs.inner.Statements.{width_in, OptionRight, OptionGives, target_named}
 use Rattle.kp_synth_stage.specs.inner.Standing as work
@@ -156,51 +156,47 @@ module _ (job : Job) (k j : ℕ) (n : tree.Named) (e : Expr) (when : Option Expr
 
   module _ (after : Set) (fits : SetFits z (target_at job x).width (Some after))
       (value : (c : Cells) → set_value c z (Some after) ≡ first_value (set_value c q (get_or w.sets.items x None)) (optional (on c q.nodes enabled.0) (at c q.nodes node.0))) where
-    set_work : WorkOk job k (suc j) z (record w { sets = with_item w.sets x (Some after) })
-    set_work =
-        let f = fits_next job k j p z (nodes.up.0 + m) up w old (stmts.Set n e when) w.env right (λ i. refl) in
-        record {
-          env = subst (λ s. Bound job s z w.env) (sym right.next) (bound_kept job (scope_at job k j) p z (nodes.up.0 + m) w.env up old.env);
-          fits = record {
-            hazard = f.hazard;
-            put_count = f.put_count;
-            puts = f.puts;
-            made = f.made;
-            aim_count = f.aim_count;
-            aims = f.aims;
-            set_count = length-set w.sets.items x (Some after) ∙ f.set_count;
-            sets = each_set (λ i o. SetFits z (target_at job i).width o) w.sets.items x after place_fits fits (λ i e'. f.sets i);
-          };
-        }
-
-    set_goes : (ss : List Source) → GoesBy job k j (stmts.Set n e when) p w ss z (record w { sets = with_item w.sets x (Some after) })
-    unfolding GoesBy
-    set_goes ss = λ c v hints d sees h.
-        let o = means_next job k j p z (nodes.up.0 + m) up w old (stmts.Set n e when) w.env c hints d d right (λ i. refl) refl h.outcome in
-        let b = trees.holds job.decls d.done when in
-        let vv = trees.value_of job.decls d.done e in
-        let before : set_value c q (get_or w.sets.items x None) ≡ d.done.sets x = set_kept c p q nodes.up.0 _ _ nodes.up.1 (old.fits.sets x) ∙ h.outcome.sets x nodes.inside in
-        let holds = nodes.holds c hints d.done h.names in
-        let number = nodes.value c hints d.done h.names in
-        let new : set_value c z (Some after) ≡ first_value (d.done.sets x) (optional b vv) = value c ∙ (λ i. first_value (before i) (optional (holds i) (number i))) in
-        let more = trees.with_set job.decls d.done (Some nodes.result) vv in
-        let is_more : trees.with_set job.decls d.done (result_named job.decls n.name) vv ≡ more = ap (λ y. trees.with_set job.decls d.done y vv) nodes.named in
-        let P : trees.Progress → Type 0 = λ y. Stands job k (suc j) hints c z (record w { sets = with_item w.sets x (Some after) }) (record d { done = cond b y d.done }) in
-        subst P (sym is_more)
-        (record {
-          names = subst (λ s. work.Names job s hints c z w.env (cond b more d.done).names) (sym right.next)
-              (subst (λ vs. work.Names job (scope_at job k j) hints c z w.env vs) (done_same (λ y. y.names) b more d.done refl)
-              (names_kept job (scope_at job k j) hints c p z (nodes.up.0 + m) w.env d.done.names up old.env.inside h.names));
-          outcome = record {
-            hazard = o.hazard;
-            puts = λ i l. o.puts i l ∙ done_same (λ y. y.puts i) b more d.done refl;
-            sets = λ i l. set_set_means c z w.sets.items x after b vv d.done.sets _ place_fits new o.sets i l
-                ∙ ap (λ y. cond b (first_value (d.done.sets i) (trees.with_value y vv (λ u. None) i)) (d.done.sets i)) (sym nodes.place)
-                ∙ sym (done_sets b more d.done i);
-            made = o.made;
-            aims = λ i l. o.aims i l ∙ done_same (λ y. y.aims hints i) b more d.done refl;
-          };
-        })
-
     pub set_step : Steps job k j (stmts.Set n e when) p w z (record w { sets = with_item w.sets x (Some after) })
-    set_step = (set_work, set_goes)
+    unfolding GoesBy
+    set_step = (
+      let f = fits_next job k j p z (nodes.up.0 + m) up w old (stmts.Set n e when) w.env right (λ i. refl) in
+          record {
+            env = subst (λ s. Bound job s z w.env) (sym right.next) (bound_kept job (scope_at job k j) p z (nodes.up.0 + m) w.env up old.env);
+            fits = record {
+              hazard = f.hazard;
+              put_count = f.put_count;
+              puts = f.puts;
+              made = f.made;
+              aim_count = f.aim_count;
+              aims = f.aims;
+              set_count = length-set w.sets.items x (Some after) ∙ f.set_count;
+              sets = each_set (λ i o. SetFits z (target_at job i).width o) w.sets.items x after place_fits fits (λ i e'. f.sets i);
+            };
+          },
+      λ ss c v hints d sees h.
+          let o = means_next job k j p z (nodes.up.0 + m) up w old (stmts.Set n e when) w.env c hints d d right (λ i. refl) refl h.outcome in
+          let b = trees.holds job.decls d.done when in
+          let vv = trees.value_of job.decls d.done e in
+          let before : set_value c q (get_or w.sets.items x None) ≡ d.done.sets x = set_kept c p q nodes.up.0 _ _ nodes.up.1 (old.fits.sets x) ∙ h.outcome.sets x nodes.inside in
+          let holds = nodes.holds c hints d.done h.names in
+          let number = nodes.value c hints d.done h.names in
+          let new : set_value c z (Some after) ≡ first_value (d.done.sets x) (optional b vv) = value c ∙ (λ i. first_value (before i) (optional (holds i) (number i))) in
+          let more = trees.with_set job.decls d.done (Some nodes.result) vv in
+          let is_more : trees.with_set job.decls d.done (result_named job.decls n.name) vv ≡ more = ap (λ y. trees.with_set job.decls d.done y vv) nodes.named in
+          let P : trees.Progress → Type 0 = λ y. Stands job k (suc j) hints c z (record w { sets = with_item w.sets x (Some after) }) (record d { done = cond b y d.done }) in
+          subst P (sym is_more)
+          (record {
+            names = subst (λ s. work.Names job s hints c z w.env (cond b more d.done).names) (sym right.next)
+                (subst (λ vs. work.Names job (scope_at job k j) hints c z w.env vs) (done_same (λ y. y.names) b more d.done refl)
+                (names_kept job (scope_at job k j) hints c p z (nodes.up.0 + m) w.env d.done.names up old.env.inside h.names));
+            outcome = record {
+              hazard = o.hazard;
+              puts = λ i l. o.puts i l ∙ done_same (λ y. y.puts i) b more d.done refl;
+              sets = λ i l. set_set_means c z w.sets.items x after b vv d.done.sets _ place_fits new o.sets i l
+                  ∙ ap (λ y. cond b (first_value (d.done.sets i) (trees.with_value y vv (λ u. None) i)) (d.done.sets i)) (sym nodes.place)
+                  ∙ sym (done_sets b more d.done i);
+              made = o.made;
+              aims = λ i l. o.aims i l ∙ done_same (λ y. y.aims hints i) b more d.done refl;
+            };
+          }),
+    )

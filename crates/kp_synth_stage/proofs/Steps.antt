@@ -62,30 +62,25 @@ module _ (job : Job) (k j : ℕ) (p q : Held) (m : ℕ) (g : Kept p q m) (w : Wo
       (record { hazard = f.hazard; puts = f.puts; sets = f.sets; made = f.made; aims = f.aims }))
 
   module _ (unbroken : Unbroken (widths_of job)) (right : AllRight p.nodes) (n : tree.Named) (e : Expr) (node : NodeId) (is : StmtRight job k j (stmts.Let n e)) (wire : Wire q node (width_in job k j e).value) (gives : Gives p w.env e q node) where
-    let_work : WorkOk job k (suc j) q (record w { env = env_with w.env n.name node })
-    let_work =
-        let r = let_right job k j n e is in
-        record {
-          env = subst (λ s. Bound job s q (env_with w.env n.name node)) (sym is.next)
-              (bound_more job (scope_at job k j) q w.env n.name (sense kinds.Let (width_in job k j e).value 0) node (bound_kept job (scope_at job k j) p q m w.env g old.env) r.0 wire);
-          fits = fits_next (stmts.Let n e) (env_with w.env n.name node) is (λ i. refl);
-        }
-
-    let_goes : (ss : List Source) → GoesBy job k j (stmts.Let n e) p w ss q (record w { env = env_with w.env n.name node })
-    unfolding GoesBy
-    let_goes ss = λ c v hints d sees h.
-        let r = let_right job k j n e is in
-        let f = plain_found job unbroken k j p w.env right old.env c hints d.done.names h.names e is.free r.1 in
-        let same = gives_is c p w.env e q node (trees.word_of job.decls d.done e) gives f.there in
-        record {
-          names = subst (λ s. work.Names job s hints c q (env_with w.env n.name node) (d.done.names ++ (n.name, trees.word_of job.decls d.done e) ∷ [])) (sym is.next)
-              (names_more job (scope_at job k j) hints c q w.env d.done.names n.name (sense kinds.Let (width_in job k j e).value 0) node (trees.word_of job.decls d.done e)
-              (names_kept job (scope_at job k j) hints c p q m w.env d.done.names g old.env.inside h.names) r.0 refl same);
-          outcome = means_next (stmts.Let n e) (env_with w.env n.name node) c hints d (after_stmt job.decls v hints d (stmts.Let n e)) is (λ i. refl) refl h.outcome;
-        }
-
     pub let_step : Steps job k j (stmts.Let n e) p w q (record w { env = env_with w.env n.name node })
-    let_step = (let_work, let_goes)
+    unfolding GoesBy
+    let_step =
+        let r = let_right job k j n e is in (
+          record {
+            env = subst (λ s. Bound job s q (env_with w.env n.name node)) (sym is.next)
+                (bound_more job (scope_at job k j) q w.env n.name (sense kinds.Let (width_in job k j e).value 0) node (bound_kept job (scope_at job k j) p q m w.env g old.env) r.0 wire);
+            fits = fits_next (stmts.Let n e) (env_with w.env n.name node) is (λ i. refl);
+          },
+          λ ss c v hints d sees h.
+              let f = plain_found job unbroken k j p w.env right old.env c hints d.done.names h.names e is.free r.1 in
+              let same = gives_is c p w.env e q node (trees.word_of job.decls d.done e) gives f.there in
+              record {
+                names = subst (λ s. work.Names job s hints c q (env_with w.env n.name node) (d.done.names ++ (n.name, trees.word_of job.decls d.done e) ∷ [])) (sym is.next)
+                    (names_more job (scope_at job k j) hints c q w.env d.done.names n.name (sense kinds.Let (width_in job k j e).value 0) node (trees.word_of job.decls d.done e)
+                    (names_kept job (scope_at job k j) hints c p q m w.env d.done.names g old.env.inside h.names) r.0 refl same);
+                outcome = means_next (stmts.Let n e) (env_with w.env n.name node) c hints d (after_stmt job.decls v hints d (stmts.Let n e)) is (λ i. refl) refl h.outcome;
+              },
+        )
 
 -- the value of a node is that of its word
 abbrev pub at_value : Cells → Held → NodeId → ℕ
@@ -116,9 +111,6 @@ pub record Given (job : Job) (k j : ℕ) (slots : List Slot) (n : List ℕ) (e :
   pub right : statements.IsRight job k j e
   pub width : (width_in job k j e).value ≡ (get_or slots (number_of slots n) no_slot).width
 
-given_slot : (job : Job) (k j : ℕ) (slots : List Slot) (n : List ℕ) (e : Expr) (w a : ℕ) → IsSlot slots n w a → statements.IsRight job k j e → (width_in job k j e).value ≡ w → Given job k j slots n e
-given_slot job k j slots n e w a s r is = record { inside = s.inside; right = r; width = is ∙ sym s.width ∙ sym (width_there n slots s.inside) }
-
 module _ (job : Job) (unbroken : Unbroken (widths_of job)) (k j : ℕ) where
   pub text_sense : (q : List ℕ) (m : Sense) → look_up (scope_at job k j).text q ≡ Some m → Placed job.decls q m
   text_sense q m e = placed_in job unbroken q m (ap (λ (names : Names). look_up names q) (sym (scope_text job k j)) ∙ e)
@@ -134,7 +126,7 @@ module _ (job : Job) (unbroken : Unbroken (widths_of job)) (k j : ℕ) where
       let slot : IsSlot slots n.name f.0.width 0 = found_where s n.name f.0 f.1
       (λ l. local_no takes no_read no_let f.0.kind (scope_locals job k j n.name f.0 l) f.2)
       (λ none z. placed n.name f.0 (text_sense n.name f.0 z) f.2) in
-      given_slot job k j slots n.name e f.0.width 0 slot g.0 (g.1 ∙ sym (ap (λ (m : Sense). m.width) f.3))
+      record { inside = slot.inside; right = g.0; width = g.1 ∙ sym (ap (λ (m : Sense). m.width) f.3) ∙ sym slot.width ∙ sym (width_there n.name slots slot.inside) }
 
   pub put_right : (n : tree.Named) (e : Expr) → StmtRight job k j (stmts.Put n e) → Given job k j (pipes_of job.decls) n.name e
   put_right n e h = given_right is_pipe (pipes_of job.decls) refl refl (λ q m p. p.pipe) n e
@@ -149,95 +141,81 @@ module _ (job : Job) (k j : ℕ) (p q : Held) (m : ℕ) (g : Kept p q m) (w : Wo
     puts_are : (with_item w.puts x (Some node)).items ≡ set w.puts.items (number_of (pipes_of job.decls) n.name) (Some node)
     puts_are = ap (λ i. set w.puts.items i (Some node)) x_is
 
-    put_work : WorkOk job k (suc j) q (record w { puts = with_item w.puts x (Some node) })
-    put_work =
-        let r = put_right job unbroken k j n e is in
-        let f = fits_next job k j p q m g w old (stmts.Put n e) w.env is (λ i. refl) in
-        let y = number_of (pipes_of job.decls) n.name in
-        let l : y < length w.puts.items = let a = r.inside in let b = old.fits.put_count in omega arith in
-        record {
-          env = subst (λ s. Bound job s q w.env) (sym is.next) (bound_kept job (scope_at job k j) p q m w.env g old.env);
-          fits = record {
-            hazard = f.hazard;
-            put_count = ap length puts_are ∙ length-set w.puts.items y (Some node) ∙ f.put_count;
-            puts = subst (λ xs. (i : ℕ) → PutFits q (pipe_at job i).width (get_or xs i None)) (sym puts_are)
-                (each_set (λ i o. PutFits q (pipe_at job i).width o) w.puts.items y node l (subst (Wire q node) r.width wire) (λ i e'. f.puts i));
-            set_count = f.set_count;
-            sets = f.sets;
-            made = f.made;
-            aim_count = f.aim_count;
-            aims = f.aims;
-          };
-        }
-
-    put_goes : (ss : List Source) → GoesBy job k j (stmts.Put n e) p w ss q (record w { puts = with_item w.puts x (Some node) })
-    unfolding GoesBy
-    put_goes ss = λ c v hints d sees h.
-        let r = put_right job unbroken k j n e is in
-        let f = plain_found job unbroken k j p w.env right old.env c hints d.done.names h.names e is.free r.right in
-        let same : at_value c q node ≡ trees.value_of job.decls d.done e = ap (λ (y : Word). y.value) (gives_is c p w.env e q node (trees.word_of job.decls d.done e) gives f.there) in
-        let o = means_next job k j p q m g w old (stmts.Put n e) w.env c hints d d is (λ i. refl) refl h.outcome in
-        let y = number_of (pipes_of job.decls) n.name in
-        let l : y < length w.puts.items = let a = r.inside in let b = old.fits.put_count in omega arith in
-        record {
-          names = subst (λ s. work.Names job s hints c q w.env d.done.names) (sym is.next) (names_kept job (scope_at job k j) hints c p q m w.env d.done.names g old.env.inside h.names);
-          outcome = record {
-            hazard = o.hazard;
-            puts = λ i b. ap (λ xs. put_value c q (get_or xs i None)) puts_are ∙ put_set_means c q w.puts.items y node (trees.value_of job.decls d.done e) d.done.puts _ l (at_is c q node ∙ same) o.puts i b;
-            sets = o.sets;
-            made = o.made;
-            aims = o.aims;
-          };
-        }
-
     pub put_step : Steps job k j (stmts.Put n e) p w q (record w { puts = with_item w.puts x (Some node) })
-    put_step = (put_work, put_goes)
+    unfolding GoesBy
+    put_step =
+        let r = put_right job unbroken k j n e is in
+        let y = number_of (pipes_of job.decls) n.name in
+        let l : y < length w.puts.items = let a = r.inside in let b = old.fits.put_count in omega arith in (
+          let f = fits_next job k j p q m g w old (stmts.Put n e) w.env is (λ i. refl) in
+              record {
+                env = subst (λ s. Bound job s q w.env) (sym is.next) (bound_kept job (scope_at job k j) p q m w.env g old.env);
+                fits = record {
+                  hazard = f.hazard;
+                  put_count = ap length puts_are ∙ length-set w.puts.items y (Some node) ∙ f.put_count;
+                  puts = subst (λ xs. (i : ℕ) → PutFits q (pipe_at job i).width (get_or xs i None)) (sym puts_are)
+                      (each_set (λ i o. PutFits q (pipe_at job i).width o) w.puts.items y node l (subst (Wire q node) r.width wire) (λ i e'. f.puts i));
+                  set_count = f.set_count;
+                  sets = f.sets;
+                  made = f.made;
+                  aim_count = f.aim_count;
+                  aims = f.aims;
+                };
+              },
+          λ ss c v hints d sees h.
+              let f = plain_found job unbroken k j p w.env right old.env c hints d.done.names h.names e is.free r.right in
+              let same : at_value c q node ≡ trees.value_of job.decls d.done e = ap (λ (y : Word). y.value) (gives_is c p w.env e q node (trees.word_of job.decls d.done e) gives f.there) in
+              let o = means_next job k j p q m g w old (stmts.Put n e) w.env c hints d d is (λ i. refl) refl h.outcome in
+              record {
+                names = subst (λ s. work.Names job s hints c q w.env d.done.names) (sym is.next) (names_kept job (scope_at job k j) hints c p q m w.env d.done.names g old.env.inside h.names);
+                outcome = record {
+                  hazard = o.hazard;
+                  puts = λ i b. ap (λ xs. put_value c q (get_or xs i None)) puts_are ∙ put_set_means c q w.puts.items y node (trees.value_of job.decls d.done e) d.done.puts _ l (at_is c q node ∙ same) o.puts i b;
+                  sets = o.sets;
+                  made = o.made;
+                  aims = o.aims;
+                };
+              },
+        )
 
   module _ (is : StmtRight job k j (stmts.Aim n e)) (x : ℕ) (x_is : x ≡ number_of (hints_of job.decls) n.name) where
     aims_are : (with_item w.aims x (Some node)).items ≡ set w.aims.items (number_of (hints_of job.decls) n.name) (Some node)
     aims_are = ap (λ i. set w.aims.items i (Some node)) x_is
 
-    aim_work : WorkOk job k (suc j) q (record w { aims = with_item w.aims x (Some node) })
-    aim_work =
-        let r = aim_right job unbroken k j n e is in
-        let f = fits_next job k j p q m g w old (stmts.Aim n e) w.env is (λ i. refl) in
-        let y = number_of (hints_of job.decls) n.name in
-        let l : y < length w.aims.items = let a = r.inside in let b = old.fits.aim_count in omega arith in
-        record {
-          env = subst (λ s. Bound job s q w.env) (sym is.next) (bound_kept job (scope_at job k j) p q m w.env g old.env);
-          fits = record {
-            hazard = f.hazard;
-            put_count = f.put_count;
-            puts = f.puts;
-            set_count = f.set_count;
-            sets = f.sets;
-            made = f.made;
-            aim_count = ap length aims_are ∙ length-set w.aims.items y (Some node) ∙ f.aim_count;
-            aims = subst (λ xs. (i : ℕ) → PutFits q (hint_at job i).width (get_or xs i None)) (sym aims_are)
-                (each_set (λ i o. PutFits q (hint_at job i).width o) w.aims.items y node l (subst (Wire q node) r.width wire) (λ i e'. f.aims i));
-          };
-        }
-
-    aim_goes : (ss : List Source) → GoesBy job k j (stmts.Aim n e) p w ss q (record w { aims = with_item w.aims x (Some node) })
-    unfolding GoesBy
-    aim_goes ss = λ c v hints d sees h.
-        let r = aim_right job unbroken k j n e is in
-        let f = hinted_found job unbroken k j p w.env right old.env c hints d.done.names h.names e r.right in
-        let value = trees.value_with_hints job.decls d.done e hints in
-        let same : at_value c q node ≡ value = ap (λ (y : Word). y.value) (gives_is c p w.env e q node _ gives f.there) in
-        let o = means_next job k j p q m g w old (stmts.Aim n e) w.env c hints d d is (λ i. refl) refl h.outcome in
-        let y = number_of (hints_of job.decls) n.name in
-        let l : y < length w.aims.items = let a = r.inside in let b = old.fits.aim_count in omega arith in
-        record {
-          names = subst (λ s. work.Names job s hints c q w.env d.done.names) (sym is.next) (names_kept job (scope_at job k j) hints c p q m w.env d.done.names g old.env.inside h.names);
-          outcome = record {
-            hazard = o.hazard;
-            puts = o.puts;
-            sets = o.sets;
-            made = o.made;
-            aims = λ i b. ap (λ xs. put_value c q (get_or xs i None)) aims_are ∙ put_set_means c q w.aims.items y node value (d.done.aims hints) _ l (at_is c q node ∙ same) o.aims i b;
-          };
-        }
-
     pub aim_step : Steps job k j (stmts.Aim n e) p w q (record w { aims = with_item w.aims x (Some node) })
-    aim_step = (aim_work, aim_goes)
+    unfolding GoesBy
+    aim_step =
+        let r = aim_right job unbroken k j n e is in
+        let y = number_of (hints_of job.decls) n.name in
+        let l : y < length w.aims.items = let a = r.inside in let b = old.fits.aim_count in omega arith in (
+          let f = fits_next job k j p q m g w old (stmts.Aim n e) w.env is (λ i. refl) in
+              record {
+                env = subst (λ s. Bound job s q w.env) (sym is.next) (bound_kept job (scope_at job k j) p q m w.env g old.env);
+                fits = record {
+                  hazard = f.hazard;
+                  put_count = f.put_count;
+                  puts = f.puts;
+                  set_count = f.set_count;
+                  sets = f.sets;
+                  made = f.made;
+                  aim_count = ap length aims_are ∙ length-set w.aims.items y (Some node) ∙ f.aim_count;
+                  aims = subst (λ xs. (i : ℕ) → PutFits q (hint_at job i).width (get_or xs i None)) (sym aims_are)
+                      (each_set (λ i o. PutFits q (hint_at job i).width o) w.aims.items y node l (subst (Wire q node) r.width wire) (λ i e'. f.aims i));
+                };
+              },
+          λ ss c v hints d sees h.
+              let f = hinted_found job unbroken k j p w.env right old.env c hints d.done.names h.names e r.right in
+              let value = trees.value_with_hints job.decls d.done e hints in
+              let same : at_value c q node ≡ value = ap (λ (y : Word). y.value) (gives_is c p w.env e q node _ gives f.there) in
+              let o = means_next job k j p q m g w old (stmts.Aim n e) w.env c hints d d is (λ i. refl) refl h.outcome in
+              record {
+                names = subst (λ s. work.Names job s hints c q w.env d.done.names) (sym is.next) (names_kept job (scope_at job k j) hints c p q m w.env d.done.names g old.env.inside h.names);
+                outcome = record {
+                  hazard = o.hazard;
+                  puts = o.puts;
+                  sets = o.sets;
+                  made = o.made;
+                  aims = λ i b. ap (λ xs. put_value c q (get_or xs i None)) aims_are ∙ put_set_means c q w.aims.items y node value (d.done.aims hints) _ l (at_is c q node ∙ same) o.aims i b;
+                };
+              },
+        )

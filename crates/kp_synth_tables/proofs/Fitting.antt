@@ -20,13 +20,13 @@ use Rattle.kp_stage.specs.{Rules.holds_of, Rules.may_guess, Rules.ask_stmt, Rule
 use Rattle.kp_stage.proofs.Unbroken.{first_none, answer_none}
 use Rattle.kp_pipeline.proofs.Lists.{all-append}
 use Rattle.kp_machine.specs.Slots.{Slot, targets_of, pipes_of, hints_of, samples_of, number_of, width_of}
-use Rattle.kp_machine.specs.Machine.{machine_of, result_for, write_stage_of}
+use Rattle.kp_machine.specs.Machine.{result_for, write_stage_of}
 use Rattle.kp_machine.proofs.{Aims.aims_inside, Names.IsIn, Apart.Apart, Apart.pipes_apart, Apart.samples_apart, Cases.by_test}
 use Rattle.kp_machine.proofs.{Placing.result_placed, Placing.own, Placing.stands, Results.written_by}
 use Rattle.kp_machine.proofs.Rules.{rules_kept, head_kept, decl_kept, stmts_kept}
 use Rattle.kp_machine.proofs.{Scopes.addresses, Scopes.PipeFits, Scopes.results_fit, Scopes.storage_kind}
 use Rattle.kp_machine.proofs.Text.{text, declared_right, placed}
-use Rattle.kp_synth_tables.specs.Keys.{no_slot, target_at, pipe_at, hint_at, sample_at, no_guess, guess_slot, with_read, with_guess, guesses_in, guesses_from, guesses_of, guess_at}
+use Rattle.kp_synth_tables.specs.Keys.{no_slot, target_at, pipe_at, no_guess, guess_slot, with_read, with_guess, guesses_in, guesses_from, guesses_of, guess_at}
 use Rattle.kp_synth_tables.specs.declared.key.GuessSlot.{GuessSlot}
 use Rattle.kp_synth_tables.specs.Fits.{pipe_number, port_for, IsWidth, EnableFits, AddressFits, ResultFits, Fits}
 use Rattle.kp_synth_tables.proofs.{Apart.rest_right, Lasting.lasting, Quiet.no_put, Quiet.no_set}
@@ -60,29 +60,17 @@ module _ (ds : List Decl) where
       (answer_unbroken (not (is_some (find s (name_of d).name))) (e_rule 5 (name_of d).at) (after_name ds i k s d).asked
       (bind_unbroken (declaration_of ds i k s d) (λ x. declarations_of ds (i + 1) (k + functions_in d) x rest) u).0).1
 
-  reg_right : (i k : ℕ) (s : Scoped) (n : Named) (width : Num) (l : Lit) (rest : List Decl) → Unbroken (declarations_of ds i k s (decls.Reg n width l ∷ rest)) → IsWidth width.value
-  reg_right i k s n width l rest u = started_right width l (bind_unbroken (started_of width l) (λ w. ok (declared_text s n.name (sense kinds.Reg w i))) (here_right i k s (decls.Reg n width l) rest u)).0
-
-  hint_right : (i k : ℕ) (s : Scoped) (n : Named) (width : Num) (l : Lit) (rest : List Decl) → Unbroken (declarations_of ds i k s (decls.Hint n width l ∷ rest)) → IsWidth width.value
-  hint_right i k s n width l rest u = started_right width l (bind_unbroken (started_of width l) (λ w. ok (declared_text s n.name (sense kinds.Hint w i))) (here_right i k s (decls.Hint n width l) rest u)).0
-
-  file_right : (i k : ℕ) (s : Scoped) (n : Named) (width address : Num) (rest : List Decl) → Unbroken (declarations_of ds i k s (decls.File n width address ∷ rest))
-      → IsWidth width.value × (address.value ≤ 16)
-  file_right i k s n width address rest u =
-      let both = bind_unbroken (declared width) (λ w. addresses_of address >>= (λ a. ok (declared_text s n.name (sense (kinds.File a) w i)))) (here_right i k s (decls.File n width address) rest u) in
-      (width_right width both.0, addresses_right address (bind_unbroken (addresses_of address) (λ a. ok (declared_text s n.name (sense (kinds.File a) width.value i))) both.1).0)
-
   targets_right : (i k : ℕ) (s : Scoped) (rest : List Decl) → Unbroken (declarations_of ds i k s rest) → AllByRecursion IsSized (targets_of rest)
   targets_right i k s [] u = tt
-  targets_right i k s (decls.Reg n width l ∷ rest) u = (record { width = reg_right i k s n width l rest u; address = omega arith }, targets_right (i + 1) (k + functions_in (decls.Reg n width l)) (declaration_of ds i k s (decls.Reg n width l)).value rest (rest_right ds i k s (decls.Reg n width l) rest u))
+  targets_right i k s (decls.Reg n width l ∷ rest) u = (record { width = started_right width l (bind_unbroken (started_of width l) (λ w. ok (declared_text s n.name (sense kinds.Reg w i))) (here_right i k s (decls.Reg n width l) rest u)).0; address = omega arith }, targets_right (i + 1) (k + functions_in (decls.Reg n width l)) (declaration_of ds i k s (decls.Reg n width l)).value rest (rest_right ds i k s (decls.Reg n width l) rest u))
   targets_right i k s (decls.File n width address ∷ rest) u =
-      let f = file_right i k s n width address rest u in
-      (record { width = f.0; address = f.1 }, targets_right (i + 1) (k + functions_in (decls.File n width address)) (declaration_of ds i k s (decls.File n width address)).value rest (rest_right ds i k s (decls.File n width address) rest u))
+      let both = bind_unbroken (declared width) (λ w. addresses_of address >>= (λ a. ok (declared_text s n.name (sense (kinds.File a) w i)))) (here_right i k s (decls.File n width address) rest u) in
+      (record { width = width_right width both.0; address = addresses_right address (bind_unbroken (addresses_of address) (λ a. ok (declared_text s n.name (sense (kinds.File a) width.value i))) both.1).0 }, targets_right (i + 1) (k + functions_in (decls.File n width address)) (declaration_of ds i k s (decls.File n width address)).value rest (rest_right ds i k s (decls.File n width address) rest u))
   targets_right i k s (d ∷ rest) u = targets_right (i + 1) (k + functions_in d) (declaration_of ds i k s d).value rest (rest_right ds i k s d rest u)
 
   hints_right : (i k : ℕ) (s : Scoped) (rest : List Decl) → Unbroken (declarations_of ds i k s rest) → AllByRecursion IsSized (hints_of rest)
   hints_right i k s [] u = tt
-  hints_right i k s (decls.Hint n width l ∷ rest) u = (record { width = hint_right i k s n width l rest u; address = omega arith }, hints_right (i + 1) (k + functions_in (decls.Hint n width l)) (declaration_of ds i k s (decls.Hint n width l)).value rest (rest_right ds i k s (decls.Hint n width l) rest u))
+  hints_right i k s (decls.Hint n width l ∷ rest) u = (record { width = started_right width l (bind_unbroken (started_of width l) (λ w. ok (declared_text s n.name (sense kinds.Hint w i))) (here_right i k s (decls.Hint n width l) rest u)).0; address = omega arith }, hints_right (i + 1) (k + functions_in (decls.Hint n width l)) (declaration_of ds i k s (decls.Hint n width l)).value rest (rest_right ds i k s (decls.Hint n width l) rest u))
   hints_right i k s (d ∷ rest) u = hints_right (i + 1) (k + functions_in d) (declaration_of ds i k s d).value rest (rest_right ds i k s d rest u)
 
 -- The pipes and the samples have the widths that they are declared with.
@@ -144,12 +132,6 @@ module _ (job : Job) (right : Unbroken (widths_of job)) (kept : broken_of job �
 
   pipe_wide : (x : ℕ) → x < length pipes → IsWidth (pipe_at job x).width
   pipe_wide = apart_wide pipes (pipes_apart job.decls nothing declarations)
-
-  sample_wide : (x : ℕ) → x < length (samples_of job.decls) → IsWidth (sample_at job x).width
-  sample_wide = apart_wide (samples_of job.decls) (samples_apart job.decls nothing declarations)
-
-  hint_sized : (h : ℕ) → h < length (hints_of job.decls) → IsSized (hint_at job h)
-  hint_sized h l = all_at IsSized (hints_of job.decls) no_slot (hints_right job.decls 0 0 nothing job.decls declarations) h l
 
   -- RESULTS
   enable_fits : (o : Option Named) → PipeFits (text job right) 1 o → EnableFits job (pipe_number job o)
@@ -260,9 +242,6 @@ module _ (job : Job) (right : Unbroken (widths_of job)) (kept : broken_of job �
       let limits = and_parts (nat_le 2 n) (nat_le n 12) both.0 in
       (leb-true 2 n limits.0, leb-true n 12 limits.1)
 
-  aims_right : (h : ℕ) → (machine_of job).hint_stage h < job.stages.value
-  aims_right h = let few : 2 ≤ job.stages.value = stages_right.0 in aims_inside job kept (omega (arith, few)) h
-
   -- A job that violates no rule of names, widths and stages fits.
   pub fits : Fits job
   fits = record {
@@ -271,13 +250,13 @@ module _ (job : Job) (right : Unbroken (widths_of job)) (kept : broken_of job �
     targets = λ t l. (target_sized t l).width;
     addresses = λ t l. (target_sized t l).address;
     pipes = pipe_wide;
-    hints = λ h l. (hint_sized h l).width;
-    samples = sample_wide;
+    hints = λ h l. (all_at IsSized (hints_of job.decls) no_slot (hints_right job.decls 0 0 nothing job.decls declarations) h l).width;
+    samples = apart_wide (samples_of job.decls) (samples_apart job.decls nothing declarations);
     results = λ t l. result_fits t (result_for job t) refl;
     guess_widths = λ g l. (guess_there g l).width;
     guesses = λ g l. (guess_there g l).early;
     lasting = lasting job right;
     no_put = no_put job;
     no_set = no_set job right kept;
-    aims = λ h l. aims_right h;
+    aims = λ h l. let few : 2 ≤ job.stages.value = stages_right.0 in aims_inside job kept (omega (arith, few)) h;
   }

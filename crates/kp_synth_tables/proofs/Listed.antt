@@ -41,9 +41,6 @@ rest_here all n s ss d h =
     let e : n ≡ n + 0 = omega arith in
     (omega (arith, r.0), ap (λ y. get_or all y d) e ∙ r.1)
 
-rest_all : {A : Type 0} (all : List A) (d : A) → Rest all 0 all d
-rest_all all d i l = let e : i ≡ 0 + i = omega arith in (omega (arith, l), ap (λ y. get_or all y d) (sym e))
-
 -- An entry that passes a test has these keys, and another one has none.
 pub record Keyed (A : Type 0) (f : ℕ → List A → List Key) : Type 0 where
   pub test : ℕ → A → Bool
@@ -98,4 +95,4 @@ module _ {A : Type 0} {f : ℕ → List A → List Key} (is : Keyed A f) where
 
     -- what holds of the keys of each entry that passes holds of all keys
     pub each : AllByRecursion P (f 0 all)
-    each = each_of 0 all (rest_all all d)
+    each = each_of 0 all (λ i l. let e : i ≡ 0 + i = omega arith in (omega (arith, l), ap (λ y. get_or all y d) (sym e)))

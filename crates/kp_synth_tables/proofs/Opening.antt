@@ -35,9 +35,6 @@ short_is n l = omega arith
 abbrev bytes_of : List Slot → List ℕ
 bytes_of ss = map (λ (s : Slot). byte s.width) ss
 
-bytes_count : (ss : List Slot) → length (bytes_of ss) ≡ length ss
-bytes_count ss = length-map ss (λ (s : Slot). byte s.width)
-
 byte_at : (ss : List Slot) (x : ℕ) → x < length ss → IsWidth (get_or ss x no_slot).width → get_or (bytes_of ss) x 0 ≡ (get_or ss x no_slot).width
 byte_at ss x l w = get_or-map (λ (s : Slot). byte s.width) ss x no_slot 0 l ∙ byte_is _ (omega (arith, w.at_most))
 
@@ -260,9 +257,6 @@ module _ (job : Job) (right : Unbroken (widths_of job)) (kept : broken_of job �
       let c = use_is (pipe_at job x).name in
       λ i. record { width = a i; from = b i; to = c i }
 
-  pipes_short : map (short_piped job) (pipes_of job.decls) ≡ map (piped_of job) (pipes_of job.decls)
-  pipes_short = maps_same (short_piped job) (piped_of job) (pipes_of job.decls) no_slot pipe_short
-
   aim_is : (h : ℕ) → h < length (hints_of job.decls) → short (aimed_in (hint_at job h).name 0 job.blocks) ≡ (machine_of job).hint_stage h
   unfolding machine_of
   aim_is h l =
@@ -294,9 +288,9 @@ module _ (job : Job) (right : Unbroken (widths_of job)) (kept : broken_of job �
     laid a n b d e s f g =
         let ts = targets_of job.decls in
         let count : length v.targets ≡ length ts = ap length a ∙ length-map ts sized in
-        let ds : v.pipes ≡ map (piped_of job) (pipes_of job.decls) = d ∙ pipes_short in
+        let ds : v.pipes ≡ map (piped_of job) (pipes_of job.decls) = d ∙ maps_same (short_piped job) (piped_of job) (pipes_of job.decls) no_slot pipe_short in
         let pipe_count : length v.pipes ≡ length (pipes_of job.decls) = ap length ds ∙ length-map (pipes_of job.decls) (piped_of job) in
-        let sample_count : length v.samples ≡ length (samples_of job.decls) = ap length s ∙ bytes_count (samples_of job.decls) in
+        let sample_count : length v.samples ≡ length (samples_of job.decls) = ap length s ∙ length-map (samples_of job.decls) (λ (s : Slot). byte s.width) in
         let hs : v.hints ≡ map (aim_of job) (hints_of job.decls) = e ∙ aimed_map job job.decls in
         let hint_count : length v.hints ≡ length (hints_of job.decls) = ap length hs ∙ length-map (hints_of job.decls) (aim_of job) in
         let is : (t : ℕ) → t < length ts → get_or v.ports t None ≡ port_at job t = λ t l. b t l ∙ port_is t (result_for job t) refl (fit.results t l) in
