@@ -1,6 +1,6 @@
 -- Each name that a job declares has an index in its tables.
-use Rattle.std.proofs.Common.{◌≡◌, ◌∙◌, ℕ, zero, suc, ◌+◌, ◌<◌, List, [], ◌∷◌, ◌++◌, map, Some, None, Bool, true, false, cond, not, ◌||◌, nat_eq, length, refl, ap, sym, arith}
-use Rattle.std.proofs.lemmas.{Bool.or_left, Bool.or_right, Bool.lt-ltb, List.Folds.list_any-append}
+use Rattle.std.proofs.Common.{◌≡◌, ◌∙◌, ℕ, zero, suc, ◌+◌, ◌<◌, List, [], ◌∷◌, ◌++◌, map, Some, None, Bool, true, false, cond, not, ◌||◌, nat_eq, length, refl, ap, sym, arith, ⊎_elim}
+use Rattle.std.proofs.lemmas.{Bool.or_cases, Bool.or_left, Bool.or_right, Bool.lt-ltb, List.Folds.list_any-append}
 use Rattle.std.specs.{Prelude.is_some, Prelude.slice_get, List.list_any, List.flat_map, List.position, List.position_or_len}
 use Rattle.std.specs.Cmp.Lexicographic.{pointwise, bytes_decides}
 use Rattle.indexmap.specs.IndexSet.{insert_key}
@@ -20,10 +20,6 @@ use Rattle.kp_machine.proofs.{Cases.by_test, Cases.by_option, Scopes.find_none}
 use Rattle.kp_seq_plan.specs.Names.{keys_of}
 use Rattle.kp_seq.specs.inner.{Tables.Laid, Fits.FitSlots, Ready.AreTables}
 use Rattle.kp_seq.proofs.Blocks.{HasPlace, Keyed}
-
-one_of_two : {G : Type 0} (a b : Bool) → (a || b) ≡ true → (a ≡ true → G) → (b ≡ true → G) → G
-one_of_two true b e left right = left refl
-one_of_two false b e left right = right e
 
 -- a name is one of these, and it is that of one of these entries
 abbrev IsKey : List ℕ → List (List ℕ) → Type 0
@@ -70,9 +66,10 @@ keys_stay keys (e ∷ es) q h = keys_stay (insert_key (pointwise nat_eq) keys e.
 
 entry_is_key : (keys : List (List ℕ)) (es : List Entry) (q : List ℕ) → HasEntry q es → IsKey q (keys_of keys es)
 entry_is_key keys [] q h = cc
-entry_is_key keys (e ∷ es) q h = one_of_two (is_same_name q e.name) (list_any (is_same_name q) (map (λ e. e.name) es)) h
+entry_is_key keys (e ∷ es) q h = ⊎_elim
     (λ y. keys_stay (insert_key (pointwise nat_eq) keys e.name) es q (key_added keys e.name q y))
     (λ y. entry_is_key (insert_key (pointwise nat_eq) keys e.name) es q y)
+    (or_cases (is_same_name q e.name) (list_any (is_same_name q) (map (λ e. e.name) es)) h)
 
 -- the names of pipes and samples, and those of a block, are among the names of the job
 key_after : (q : List ℕ) (xs ys : List (List ℕ)) → IsKey q ys → IsKey q (xs ++ ys)

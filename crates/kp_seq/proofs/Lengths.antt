@@ -1,6 +1,6 @@
 -- No step of an instruction changes how many names, pipes and results there are, or how many words a target has.
 use Rattle.std.proofs.Common.{◌≡◌, ◌∙◌, ℕ, List, [], ◌∷◌, Option, Some, None, Bool, true, false, cond, length, replicate, refl}
-use Rattle.std.proofs.lemmas.List.{length-set, length-replicate}
+use Rattle.std.proofs.lemmas.{Bool.cond_both, List.length-set, List.length-replicate}
 use Rattle.std.specs.List.{position}
 use Rattle.kp_bits.specs.Word.{Word}
 use Rattle.kp_ast.specs.{Expressions.is_same_name, declared.tree.ResultDecl.ResultDecl, declared.tree.Stmt.Stmt, declared.tree.StmtKind.StmtKind}
@@ -36,10 +36,6 @@ module _ (t : Laid) where
   result_same u None v = same u
   result_same u (Some r) v = record { names = refl; pipes = refl; results = length-set u.results (number_of t.targets r.target.name) _ }
 
-  chosen : (b : Bool) (u v w : Under) → SameLengths u v → SameLengths u w → SameLengths u (cond b v w)
-  chosen true u v w h k = h
-  chosen false u v w h k = k
-
   pub row_same : (u : Under) (ss : List Slot) (row : List Word) → SameLengths u (with_row t u ss row)
   row_same u [] row = same u
   row_same u (s ∷ ss) [] = same u
@@ -64,7 +60,7 @@ module _ (t : Laid) where
     stmt_same u (stmts.Read r) = name_same u r.name.name (fitted (width_of t.targets r.target.name) (value_read t words u r))
     stmt_same u (stmts.Let n e) = name_same u n.name (word_in t u e)
     stmt_same u (stmts.Put n e) = pipe_same u (number_of t.pipes n.name) (word_in t u e).value
-    stmt_same u (stmts.Set n e when) = chosen (holds t u when) u _ u (result_same u (result_named t.decls n.name) (word_in t u e).value) (same u)
+    stmt_same u (stmts.Set n e when) = cond_both (holds t u when) (with_result t u (result_named t.decls n.name) (word_in t u e).value) u (SameLengths u) (λ _. result_same u (result_named t.decls n.name) (word_in t u e).value) (λ _. same u)
     stmt_same u (stmts.Aim n e) = same u
 
     pub stmts_same : (u : Under) (ss : List Stmt) → SameLengths u (after_stmts t words u ss)

@@ -1,6 +1,7 @@
 -- Lists whose entries are changed in order, and the resulting lists.
 use Rattle.std.proofs.Common.{◌≡◌, ◌∙◌, ℕ, zero, suc, ◌+◌, ◌^◌, ◌<◌, ◌≤◌, List, [], ◌∷◌, ◌++◌, Option, Some, None, Bool, true, false, cond, length, get_or, set, refl, ap, sym, subst, arith}
-use Rattle.std.proofs.lemmas.{Bool.cond-true, Bool.lt-ltb, List.length-set, List.length-append, List.get_or-set_same, List.get_or-set_other, List.append_assoc}
+use Rattle.std.proofs.lemmas.{Bool.cond-true, Bool.cond_both, Bool.lt-ltb, List.length-set, List.length-append, List.get_or-set_same, List.get_or-set_other, List.append_assoc}
+use Rattle.std.proofs.Math.Seq.{set-append_seam}
 use Rattle.std.specs.Prelude.{slice_get, unwrap_or, nat_lt}
 use Rattle.kp_pipeline.specs.{Sequential.first_value, Timeline.first_stage}
 use Rattle.kp_seq.specs.{Recorded.where_true, inner.Notes.changed_from, inner.Notes.narrowed}
@@ -68,13 +69,9 @@ seen_first p (suc n) d =
     ∙ ap (λ m. first_stage p n 0 (cond (p m) m d)) (sym z) ∙ sym (one_more p n 0 d)
 
 -- and it is one of them, or the other
-cond_below : (b : Bool) (k m n : ℕ) → k < n → m < n → cond b k m < n
-cond_below true k m n h l = h
-cond_below false k m n h l = l
-
 pub first_below : (p : ℕ → Bool) (n k d m : ℕ) → k + n ≤ m → d < m → first_stage p n k d < m
 first_below p zero k d m h l = l
-first_below p (suc n) k d m h l = cond_below (p k) k (first_stage p n (suc k) d) m (omega arith) (first_below p n (suc k) d m (omega arith) l)
+first_below p (suc n) k d m h l = cond_both (p k) k (first_stage p n (suc k) d) (λ x. x < m) (λ _. omega arith) (λ _. first_below p n (suc k) d m (omega arith) l)
 
 pub narrowed_is : (bits a : ℕ) → a < 2 ^ bits → narrowed bits a ≡ a
 narrowed_is bits a h = cond-true (nat_lt a (2 ^ bits)) a 0 (lt-ltb a (2 ^ bits) h)
@@ -95,14 +92,8 @@ pub put_count : (s : List (Option ℕ) × ℕ) (xs : List (Option ℕ)) → leng
 put_count s [] = refl
 put_count s (x ∷ xs) = put_count (put_read s x) xs ∙ length-set s.0 s.1 x
 
-set_there : (zs ys : List (Option ℕ)) (y o : Option ℕ) → set (zs ++ y ∷ ys) (length zs) o ≡ (zs ++ o ∷ []) ++ ys
-set_there [] ys y o = refl
-set_there (z ∷ zs) ys y o = ap (λ l. z ∷ l) (set_there zs ys y o)
-
 put_further : (zs ys os : List (Option ℕ)) → length ys ≡ length os → (put_reads (zs ++ ys, length zs) os).0 ≡ zs ++ os
 put_further zs [] [] e = refl
-put_further zs (y ∷ ys) [] e = absurd (omega arith)
-put_further zs [] (o ∷ os) e = absurd (omega arith)
 put_further zs (y ∷ ys) (o ∷ os) e =
     let n = length-append zs (y ∷ ys) in
     let inside : length zs < length (zs ++ y ∷ ys) = omega (arith, n) in
@@ -110,9 +101,10 @@ put_further zs (y ∷ ys) (o ∷ os) e =
     let next : length zs + 1 ≡ length (zs ++ o ∷ []) = omega (arith, m) in
     let all : length ys ≡ length os = omega arith in
     let there : put_read (zs ++ y ∷ ys, length zs) o ≡ ((zs ++ o ∷ []) ++ ys, length (zs ++ o ∷ [])) =
-    ap (λ l. (l, cond (nat_lt (length zs) (length (zs ++ y ∷ ys))) (length zs + 1) (length zs))) (set_there zs ys y o)
+    ap (λ l. (l, cond (nat_lt (length zs) (length (zs ++ y ∷ ys))) (length zs + 1) (length zs))) (set-append_seam zs y ys o ∙ sym (append_assoc zs (o ∷ []) ys))
     ∙ ap (λ k. ((zs ++ o ∷ []) ++ ys, k)) (cond-true (nat_lt (length zs) (length (zs ++ y ∷ ys))) (length zs + 1) (length zs) (lt-ltb _ _ inside) ∙ next) in
     ap (λ s. (put_reads s os).0) there ∙ put_further (zs ++ o ∷ []) ys os all ∙ append_assoc zs (o ∷ []) os
+put_further zs _ _ e = absurd (omega arith)
 
 -- fill their entries
 pub all_put : (ys os : List (Option ℕ)) → length ys ≡ length os → (put_reads (ys, 0) os).0 ≡ os

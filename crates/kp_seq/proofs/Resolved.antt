@@ -1,6 +1,6 @@
 -- What an instruction does by the resolved job, in numbers, is what it does by the job.
 use Rattle.std.proofs.Common.{◌≡◌, ◌∙◌, ℕ, zero, suc, ◌+◌, ◌^◌, ◌<◌, ◌≤◌, List, [], ◌∷◌, ◌++◌, Option, Some, None, Bool, true, false, cond, length, set, take, get_or, replicate, refl, ap, sym, subst, arith, ⊎_elim}
-use Rattle.std.proofs.lemmas.{Bool.and_parts, Bool.leb-true, Nat.pow_pos, List.take_more, List.Elements.All-nil, List.Elements.All-cons, List.Sums.sum_by-cons, List.Sums.sum_by_push}
+use Rattle.std.proofs.lemmas.{Bool.and_parts, Bool.cond_both, Bool.leb-true, Nat.pow_pos, List.take_more, List.Elements.All-nil, List.Elements.All-cons, List.Sums.sum_by-cons, List.Sums.sum_by_push}
 use Rattle.std.specs.Prelude.{All, sum_by, is_some, nat_le, nat_lt, ◌&&◌, unwrap_or, ◌==◌}
 use Rattle.std.specs.{Option.option_map, List.position}
 use Rattle.kp_bits.specs.Word.{Word, word, IsWord}
@@ -29,10 +29,9 @@ use Rattle.kp_seq.proofs.Start.{fitted_is}
 -- an index that gets a value of a width
 suits_set : (ws : List (Option ℕ)) (slots : Slots) (vs : List ℕ) (i : ℕ) (w : Option ℕ) (s : Option Word) (v : ℕ) → AllSuit ws slots vs → Suits w s v → AllSuit (set ws i w) (set slots i s) (set vs i v)
 suits_set [] slots vs i w s v h one = (ap (λ x. set x i s) h.0, ap (λ x. set x i v) h.1)
-suits_set (x ∷ ws) [] vs i w s v h one = absurd h
-suits_set (x ∷ ws) (y ∷ slots) [] i w s v h one = absurd h
 suits_set (x ∷ ws) (y ∷ slots) (z ∷ vs) zero w s v h one = (one, h.1)
 suits_set (x ∷ ws) (y ∷ slots) (z ∷ vs) (suc i) w s v h one = (h.0, suits_set ws slots vs i w s v h.1 one)
+suits_set _ _ _ i w s v h one = absurd h
 
 suits_place : (ws : List (Option ℕ)) (slots : Slots) (vs : List ℕ) (o : Option ℕ) (w : ℕ) (x : Word) (v : ℕ) → AllSuit ws slots vs → Holds (Some x) w v
     → AllSuit (with_width ws o w) (set_place slots o x) (put_place vs o v)
@@ -41,16 +40,14 @@ suits_place ws slots vs (Some i) w x v h one = suits_set ws slots vs i (Some w) 
 
 pub suits_length : (ws : List (Option ℕ)) (slots : Slots) (vs : List ℕ) → AllSuit ws slots vs → length vs ≡ length slots
 suits_length [] slots vs h = ap length h.1 ∙ sym (ap length h.0)
-suits_length (x ∷ ws) [] vs h = absurd h
-suits_length (x ∷ ws) (y ∷ slots) [] h = absurd h
 suits_length (x ∷ ws) (y ∷ slots) (z ∷ vs) h = ap (λ n. suc n) (suits_length ws slots vs h.1)
+suits_length _ _ _ h = absurd h
 
 -- if no index has a value, all numbers suit
 pub none_suit : (n : ℕ) (vs : List ℕ) → length vs ≡ n → AllSuit (replicate n None) (replicate n None) vs
 none_suit zero [] e = (refl, refl)
-none_suit zero (v ∷ vs) e = absurd (omega (arith, e))
-none_suit (suc n) [] e = absurd (omega (arith, e))
 none_suit (suc n) (v ∷ vs) e = (refl, none_suit n vs (omega (arith, e)))
+none_suit _ _ e = absurd (omega (arith, e))
 
 -- the number of a word that is held
 number : (x : Word) (w v : ℕ) → Holds (Some x) w v → v ≡ x.value
@@ -69,10 +66,6 @@ words_fit (s ∷ ss) [] h q a = absurd h
 words_fit (s ∷ ss) (w ∷ words) h q a = by_test (is_same_name q s.name)
     (λ y. subst (λ b. state_in (w ∷ words) (cond b 0 (suc (number_of ss q))) a < 2 ^ cond b s.width (width_of ss q)) (sym y) (h.0.fits a))
     (λ y. subst (λ b. state_in (w ∷ words) (cond b 0 (suc (number_of ss q))) a < 2 ^ cond b s.width (width_of ss q)) (sym y) (words_fit ss words h.1 q a))
-
-cond_below : (b : Bool) (x m : ℕ) → x < m → 0 < m → cond b x 0 < m
-cond_below true x m h k = h
-cond_below false x m h k = k
 
 -- if a width is invalid, one bit of 0 replaces the word
 no_fit : (w v : ℕ) → (nat_le 1 w && nat_le w 64) ≡ false → fitted w v ≡ zero_bit
@@ -161,8 +154,8 @@ module _ (t : Laid) where
           let high : w ≤ 64 = leb-true w 64 in_range.1 in
           let v : ℕ = value_read t words u r in
           let tw : ℕ = width_of t.targets r.target.name in
-          let small : v < 2 ^ tw = cond_below (holds t u r.when) (state_in words (number_of t.targets r.target.name) (address_read t u r r.guess)) (2 ^ tw)
-          (words_fit t.targets words fit r.target.name (address_read t u r r.guess)) (pow_pos tw) in
+          let small : v < 2 ^ tw = cond_both (holds t u r.when) (state_in words (number_of t.targets r.target.name) (address_read t u r r.guess)) 0 (λ n. n < 2 ^ tw)
+          (λ _. words_fit t.targets words fit r.target.name (address_read t u r r.guess)) (λ _. pow_pos tw) in
           let small_w : v < 2 ^ w = subst (λ n. v < 2 ^ n) (sym width) small in
           let f : fitted tw v ≡ word w v = ap (λ n. fitted n v) (sym width) ∙ fitted_is w v low high small_w in
           let one : Holds (Some (fitted tw v)) w (value_at words x s) =

@@ -1,6 +1,6 @@
 -- The words of a start state are those of its state, and they fit their targets.
 use Rattle.std.proofs.Common.{◌≡◌, ◌∙◌, ℕ, zero, suc, ◌-◌, ◌^◌, ◌<◌, ◌≤◌, List, [], ◌∷◌, Option, Some, None, Bool, true, false, cond, ◌&&◌, length, get_or, take, refl, ap, sym, subst, arith, ⊎_elim}
-use Rattle.std.proofs.lemmas.{Bool.cases_lt, Bool.cond-true, Bool.le-leb, Bool.lt-ltb, List.get_or_past, Nat.pow_pos}
+use Rattle.std.proofs.lemmas.{Bool.cases_lt, Bool.and_from, Bool.ne_eqb, Bool.cond-true, Bool.cond_both, Bool.le-leb, Bool.lt-ltb, List.get_or_past, Nat.pow_pos}
 use Rattle.std.proofs.Math.Dec.{eqb-suc-zero}
 use Rattle.std.specs.{Prelude.slice_index, Prelude.slice_get, Prelude.◌==◌, Prelude.nat_le, Prelude.nat_lt, List.filter}
 use Rattle.kp_bits.specs.Word.{Word, word}
@@ -40,15 +40,9 @@ before_le : (ss : List Slot) (t : ℕ) → registers_before ss t ≤ t
 before_le [] zero = omega arith
 before_le [] (suc t) = omega arith
 before_le (s ∷ ss) zero = omega arith
-before_le (s ∷ ss) (suc t) = counted (is_register s) s (take t ss) t (before_le ss t)
-  where
-    counted : (b : Bool) (s : Slot) (xs : List Slot) (t : ℕ) → length (filter is_register xs) ≤ t → length (cond b (s ∷ filter is_register xs) (filter is_register xs)) ≤ suc t
-    counted true s xs t h = omega arith
-    counted false s xs t h = omega arith
-
-not_zero : (a : ℕ) → 1 ≤ a → (a == 0) ≡ false
-not_zero zero h = absurd (omega arith)
-not_zero (suc a) h = eqb-suc-zero a
+before_le (s ∷ ss) (suc t) =
+    let h : length (filter is_register (take t ss)) ≤ t = before_le ss t in
+    cond_both (is_register s) (s ∷ filter is_register (take t ss)) (filter is_register (take t ss)) (λ (xs : List Slot). length xs ≤ suc t) (λ _. omega arith) (λ _. omega arith)
 
 -- after a register, and after a file
 past_register : (s : Slot) (ss : List Slot) (v : Word) (regs : List Word) (files : List (List ℕ)) (t : ℕ) (o : Option Slot) → is_register s ≡ true
@@ -80,9 +74,9 @@ start_words (decls.Reg n width start ∷ ds) (v ∷ regs) files (suc t) g r f =
     start_words ds regs files t g.2 r.2 f ∙ sym (past_register (slot n width 0) (targets_of ds) v regs files t (slice_get (targets_of ds) t) refl)
 start_words (decls.File n width address ∷ ds) regs [] t g r f = absurd f
 start_words (decls.File n width address ∷ ds) regs (w ∷ files) zero g r f =
-    sym (ap (λ b. cond b (register_words (slice_get regs 0)) w) (not_zero address.value g.2))
+    sym (ap (λ b. cond b (register_words (slice_get regs 0)) w) (ne_eqb address.value 0 (λ z. let l = g.2 in omega arith)))
 start_words (decls.File n width address ∷ ds) regs (w ∷ files) (suc t) g r f =
-    start_words ds regs files t g.3 r f.2 ∙ sym (past_file (slot n width address.value) (targets_of ds) w regs files t (slice_get (targets_of ds) t) (not_zero address.value g.2))
+    start_words ds regs files t g.3 r f.2 ∙ sym (past_file (slot n width address.value) (targets_of ds) w regs files t (slice_get (targets_of ds) t) (ne_eqb address.value 0 (λ z. let l = g.2 in omega arith)))
 start_words (_ ∷ ds) regs files t g r f = start_words ds regs files t g r f
 
 -- the state of a machine that starts
@@ -109,14 +103,10 @@ word_fits (s ∷ ss) [] t a h l = absurd h
 word_fits (s ∷ ss) (w ∷ words) zero a h l = h.0.fits a
 word_fits (s ∷ ss) (w ∷ words) (suc t) a h l = word_fits ss words t a h.1 (omega arith)
 
-both_pass : (a b : Bool) → a ≡ true → b ≡ true → (a && b) ≡ true
-both_pass true b e f = f
-both_pass false b e f = cc
-
 pub fitted_is : (w v : ℕ) → 1 ≤ w → w ≤ 64 → v < 2 ^ w → fitted w v ≡ word w v
 fitted_is w v h k l =
     cond-true ((nat_le 1 w && nat_le w 64) && nat_lt v (2 ^ w)) (word w v) zero_bit
-    (both_pass _ _ (both_pass _ _ (le-leb 1 w h) (le-leb w 64 k)) (lt-ltb v (2 ^ w) l))
+    (and_from _ _ (and_from _ _ (le-leb 1 w h) (le-leb w 64 k)) (lt-ltb v (2 ^ w) l))
 
 -- a value of a target is shown as it is
 pub shown_is : (m : Running) (t a w : ℕ) → Unbroken (widths_of m.job) → FitSlots (targets_of m.job.decls) m.words → HasWord m.job t a → w ≡ (target m.job t).width

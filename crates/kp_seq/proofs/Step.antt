@@ -47,40 +47,19 @@ module _ (u : Under) (names : List (Option Word)) where
   abbrev other : Under
   other = record { names = names; pipes = u.pipes; results = u.results }
 
-  enabled_same : (o : Option ℕ) → is_enabled other o ≡ is_enabled u o
-  enabled_same None = refl
-  enabled_same (Some p) = refl
-
-  address_same : (o : Option ℕ) → address_by other o ≡ address_by u o
-  address_same None = refl
-  address_same (Some p) = refl
-
   port_same : (words : List (List ℕ)) (i : ℕ) (p : Option Port) → written_by other words i p ≡ written_by u words i p
   port_same words i None = refl
-  port_same words i (Some p) =
-      ap (λ b. cond b (with_word words i (address_by other p.address) (unwrap_or (get_or u.results i None) 0)) words) (enabled_same p.enable)
-      ∙ ap (λ a. cond (is_enabled u p.enable) (with_word words i a (unwrap_or (get_or u.results i None) 0)) words) (address_same p.address)
+  port_same words i (Some p) = refl
 
   written_same : (words : List (List ℕ)) (i : ℕ) (ps : List (Option Port)) → written_from other words i ps ≡ written_from u words i ps
   written_same words i [] = refl
   written_same words i (p ∷ ps) = ap (λ ws. written_from other ws (i + 1) ps) (port_same words i p) ∙ written_same (written_by u words i p) (i + 1) ps
 
 -- so is what is noted of the results
-write_same : (u : Under) (names : List (Option Word)) (o : Outlet) → write_noted (record { names = names; pipes = u.pipes; results = u.results }) o ≡ write_noted u o
-write_same u names o =
-    ap (λ b. where_true b (narrowed 32 (address_by (other u names) o.address))) (enabled_same u names o.enable)
-    ∙ ap (λ a. where_true (is_enabled u o.enable) (narrowed 32 a)) (address_same u names o.address)
-
-results_same : (u : Under) (names : List (Option Word)) (n : Noted) → with_results (record { names = names; pipes = u.pipes; results = u.results }) n ≡ with_results u n
-results_same u names n =
-    ap (λ (g : Outlet → Option ℕ). record n { writes = changed_from (λ i o old. g o) None n.writes 0 n.outlets; settings = changed_from (λ i o old. setting_noted (get_or n.set_in i None) o) 0 n.settings 0 n.outlets })
-    (λ i o. write_same u names o i)
-
 results_by_numbers : (t : Laid) (u : Under) (r : Raw) → Follows t u r → (n : Noted) → with_results (outputs r) n ≡ with_results u n
 results_by_numbers t u r h n =
     ap (λ pipes. with_results (record { names = []; pipes = pipes; results = r.results }) n) h.pipes
     ∙ ap (λ results. with_results (record { names = []; pipes = u.pipes; results = results }) n) h.results
-    ∙ results_same u [] n
 
 written_by_numbers : (t : Laid) (u : Under) (r : Raw) → Follows t u r → (words : List (List ℕ)) (ps : List (Option Port)) → written_from (outputs r) words 0 ps ≡ written_from u words 0 ps
 written_by_numbers t u r h words ps =

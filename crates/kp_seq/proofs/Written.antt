@@ -1,6 +1,6 @@
 -- What an instruction writes: the words of the targets after it are the state after it in the abstract machine, and they fit.
 use Rattle.std.proofs.Common.{◌≡◌, ◌≢◌, ◌∙◌, ℕ, zero, suc, ◌+◌, ◌^◌, ◌<◌, ◌≤◌, List, [], ◌∷◌, Option, Some, None, Bool, true, false, cond, eqb, ◌&&◌, length, get_or, set, replicate, refl, ap, sym, subst, arith, ⊎_elim}
-use Rattle.std.proofs.lemmas.{Bool.cases_lt, List.length-set, List.get_or-set_other, Nat.pow_pos}
+use Rattle.std.proofs.lemmas.{Bool.cases_lt, Bool.cond_both, List.length-set, List.get_or-set_other, Nat.pow_pos}
 use Rattle.std.proofs.Math.Dec.{eqb-suc-zero, eqb-zero-suc, eqb-suc-suc}
 use Rattle.std.specs.Prelude.{is_some, slice_get, slice_index, unwrap_or, ◌==◌}
 use Rattle.kp_bits.specs.Word.{Word}
@@ -108,9 +108,8 @@ slot_fits (y ∷ ss) (w ∷ words) (suc x) s h e = slot_fits ss words x s h.1 e
 
 slots_fit : (ss : List Slot) (words : List (List ℕ)) → length words ≡ length ss → ((x : ℕ) (s : Slot) → slice_get ss x ≡ Some s → FitsSlot s (get_or words x [])) → FitSlots ss words
 slots_fit [] [] e h = refl
-slots_fit [] (w ∷ words) e h = absurd (omega arith)
-slots_fit (s ∷ ss) [] e h = absurd (omega arith)
 slots_fit (s ∷ ss) (w ∷ words) e h = (h 0 s refl, slots_fit ss words (omega arith) (λ x y is. h (suc x) y is))
+slots_fit _ _ e h = absurd (omega arith)
 
 slots_count : (ss : List Slot) (words : List (List ℕ)) → FitSlots ss words → length words ≡ length ss
 slots_count [] words h = ap length h
@@ -126,10 +125,6 @@ eqb_turned (suc a) (suc b) = eqb-suc-suc a b ∙ eqb_turned a b ∙ sym (eqb-suc
 one_value : (b : Bool) (row : List ℕ) (p v a : ℕ) → p < length row → slice_index (cond b (set row p v) row) a ≡ cond (b && eqb p a) v (slice_index row a)
 one_value true row p v a h = set_seen row p v 0 a h ∙ ap (λ b. cond b v (slice_index row a)) (eqb_turned a p)
 one_value false row p v a h = refl
-
-either_fits : (b : Bool) (v w n : ℕ) → v < n → w < n → cond b v w < n
-either_fits true v w n h k = h
-either_fits false v w n h k = k
 
 or_zero_fits : (o : Option ℕ) (w : ℕ) → ((v : ℕ) → o ≡ Some v → v < 2 ^ w) → unwrap_or o 0 < 2 ^ w
 or_zero_fits None w h = pow_pos w
@@ -256,9 +251,9 @@ module _ (job : Job) (unbroken : Unbroken (widths_of job)) (t : Laid) (tables : 
           record {
             count = ap length (written_row u words t.ports x) ∙ count_row u (get_or words x []) x (get_or t.ports x None) ∙ old.count;
             fits = λ a. subst (λ y. y < 2 ^ s.width) (sym (written_at x a))
-                (either_fits (is_written (machine_of job) c x a) (unwrap_or (c.results x) 0) (state_in words x a) (2 ^ s.width)
-                (or_zero_fits (c.results x) s.width (λ v is. done.result_fits x s v e (done.results x ∙ is)))
-                (old.fits a));
+                (cond_both (is_written (machine_of job) c x a) (unwrap_or (c.results x) 0) (state_in words x a) (λ y. y < 2 ^ s.width)
+                (λ _. or_zero_fits (c.results x) s.width (λ v is. done.result_fits x s v e (done.results x ∙ is)))
+                (λ _. old.fits a));
           })
 
   -- After the last stage the words that are written are the state after one instruction.

@@ -105,14 +105,20 @@ after_blocks t words row u (b ∷ bs) = after_blocks t words row (after_block t 
 abbrev pub begun : Under → Under
 begun u = record { names = u.names; pipes = replicate (length u.pipes) 0; results = replicate (length u.results) None }
 
--- the value of the optional pipe of a port
+-- the value of the optional pipe of a port, among these values of the pipes
+abbrev pub enabled_in : List ℕ → Option ℕ → Bool
+enabled_in pipes None = true
+enabled_in pipes (Some p) = slice_index pipes p == 1
+
 abbrev pub is_enabled : Under → Option ℕ → Bool
-is_enabled u None = true
-is_enabled u (Some p) = slice_index u.pipes p == 1
+is_enabled u o = enabled_in u.pipes o
+
+abbrev pub address_among : List ℕ → Option ℕ → ℕ
+address_among pipes None = 0
+address_among pipes (Some p) = slice_index pipes p
 
 abbrev pub address_by : Under → Option ℕ → ℕ
-address_by u None = 0
-address_by u (Some p) = slice_index u.pipes p
+address_by u o = address_among u.pipes o
 
 -- a target takes its result, or 0 if that has no value
 abbrev pub with_word : List (List ℕ) → ℕ → ℕ → ℕ → List (List ℕ)
