@@ -1,5 +1,5 @@
 -- The statements of a generated job obey a rule of names if the names in them do.
-use Rattle.std.proofs.Common.{◌≡◌, ◌∙◌, ℕ, ◌+◌, ◌%◌, List, [], ◌∷◌, None, Some, refl}
+use Rattle.std.proofs.Common.{◌≡◌, ◌∙◌, ℕ, ◌+◌, ◌%◌, List, [], ◌∷◌, None, refl}
 use Rattle.std.specs.Prelude.{codes}
 use Rattle.kp_base.specs.{First.first, Check.Answer, declared.place.Place.Place}
 use Rattle.kp_bits.specs.declared.operator.BinOp.{BinOp}
@@ -11,9 +11,7 @@ use Rattle.kp_gen.specs.Generated.{place, name, number, binary, low_byte, read_n
 use Rattle.kp_gen_valid.proofs.Forms.{put}
 
 pub no_pair : (a b : Answer) → a ≡ None → b ≡ None → first (a ∷ b ∷ []) ≡ None
-no_pair None None e f = refl
-no_pair None (Some r) e f = cc
-no_pair (Some r) b e f = cc
+no_pair a b e f = rw (e, f) refl
 
 module _ (facts : Facts) (rule : Rule) (k : ℕ) where
   abbrev Keeps : List ℕ → Type 0

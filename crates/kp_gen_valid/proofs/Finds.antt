@@ -2,11 +2,7 @@
 use Rattle.std.proofs.Common.{◌≡◌, ◌∙◌, ℕ, ◌+◌, ◌<◌, ◌≤◌, List, [], ◌∷◌, ◌++◌, length, Option, None, Some, refl, ap, arith}
 use Rattle.kp_base.specs.First.{first}
 use Rattle.kp_gen.specs.{declared.draws.Route.Route, Generated.for_each}
-use Rattle.kp_gen_valid.proofs.Walks.{AllFrom}
-
-past_none : {X : Type 0} (a : Option X) (more : List (Option X)) → a ≡ None → first (a ∷ more) ≡ first more
-past_none None more e = refl
-past_none (Some x) more e = cc
+use Rattle.kp_gen_valid.proofs.Walks.{AllFrom, past}
 
 at_some : {X : Type 0} (a : Option X) (more : List (Option X)) (x : X) → a ≡ Some x → first (a ∷ more) ≡ Some x
 at_some None more x e = cc
@@ -21,7 +17,7 @@ no_more (Some x) more e = refl
 module _ {D X : Type 0} (ask : List ℕ → ℕ → D → Option X) (asks : List ℕ → ℕ → List D → List (Option X))
     (step : (q : List ℕ) (i : ℕ) (d : D) (ds : List D) → asks q i (d ∷ ds) ≡ ask q i d ∷ asks q (i + 1) ds) where
   pub past_one : (q : List ℕ) (i : ℕ) (d : D) (ds : List D) → ask q i d ≡ None → first (asks q i (d ∷ ds)) ≡ first (asks q (i + 1) ds)
-  past_one q i d ds none = ap first (step q i d ds) ∙ past_none (ask q i d) (asks q (i + 1) ds) none
+  past_one q i d ds none = ap first (step q i d ds) ∙ past (ask q i d) (asks q (i + 1) ds) none
 
   pub here_one : (q : List ℕ) (i : ℕ) (d : D) (ds : List D) (x : X) → ask q i d ≡ Some x → first (asks q i (d ∷ ds)) ≡ Some x
   here_one q i d ds x there = ap first (step q i d ds) ∙ at_some (ask q i d) (asks q (i + 1) ds) x there

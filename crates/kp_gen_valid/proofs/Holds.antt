@@ -9,7 +9,7 @@ use Rattle.kp_gen.specs.{declared.draws.Route.Route, Draws.next, Draws.drawn, Dr
 use Rattle.kp_gen.specs.Generated.{place, job_of, gen_job}
 use Rattle.kp_gen_valid.proofs.{NamesHold.few_registers, Walks.AllFrom, Kept.IsFine, Kept.rules_kept, Totals.sizes_kept, Totals.counts_kept}
 
-three : (a b c : Answer) → a ≡ None → b ≡ None → c ≡ None → first (a ∷ b ∷ c ∷ []) ≡ None
+pub three : (a b c : Answer) → a ≡ None → b ≡ None → c ≡ None → first (a ∷ b ∷ c ∷ []) ≡ None
 three a b c e f g = rw (e, f, g) refl
 
 pub stages_hold : (n : ℕ) (rs : List Route) → 3 ≤ n → n ≤ 12 → length rs ≤ 35 → AllFrom (λ i r. IsFine n r) 0 rs → broken_of (job_of n rs) ≡ None

@@ -1,32 +1,25 @@
 -- A generated job obeys the rules E15 to E25, E34 and E35 of stages.
 use Rattle.std.proofs.Common.{◌≡◌, ◌∙◌, ℕ, ◌+◌, ◌-◌, ◌<◌, ◌≤◌, ◌%◌, List, [], ◌∷◌, length, map, Option, None, Some, Bool, true, false, refl, ap, arith}
-use Rattle.std.proofs.lemmas.{Bool.eq-eqb, Bool.lt-ltb, Bool.le-leb, Bool.ltb-true, List.FromFn.length-map-range_with_len}
+use Rattle.std.proofs.lemmas.Bool.{eq-eqb, lt-ltb, le-leb, ltb-true, and_from, false_from_ne_true}
+use Rattle.std.proofs.lemmas.List.FromFn.{length-map-range_with_len}
 use Rattle.std.specs.Prelude.{◌&&◌, ◌==◌, not, nat_lt, nat_le, codes, is_some}
 use Rattle.kp_base.specs.{First.first, Check.answer, Refusal.e_rule, declared.refusal.Refusal.Refusal}
 use Rattle.kp_ast.specs.declared.tree.Job.{Job}
 use Rattle.kp_stage.specs.{declared.rules.Rule.Rule, Facts.At, Facts.Facts, Facts.facts_of}
 use Rattle.kp_stage.specs.Rules.{ask_head, ask_name, is_at, holds_of, put_before, broken_at, broken_by, all_rules}
 use Rattle.kp_gen.specs.declared.draws.Route.{Route}
-use Rattle.kp_gen.specs.Generated.{place, register_name, pipe_name, result_name, read_name, set, later_block, all_blocks, job_of}
-use Rattle.kp_gen_valid.proofs.{Forms.put, Lookups.false_from}
-use Rattle.kp_gen_valid.proofs.Walks.{AllFrom, all_both, Any, all_any, past, decls_unasked, stmts_unasked, by_sets, rule_kept}
+use Rattle.kp_gen.specs.Generated.{place, register_name, pipe_name, result_name, read_name, later_block, all_blocks, job_of}
+use Rattle.kp_gen_valid.proofs.Walks.{AllFrom, all_both, Any, all_any, past, decls_unasked, stmts_unasked, by_sets, rule_kept, holding}
 use Rattle.kp_gen_valid.proofs.Declared.{no_hint, no_sample, results_found, file_result_found, stages_found, file_stage_found}
 use Rattle.kp_gen_valid.proofs.{Puts.puts_found, Puts.address_found, Puts.value_found, Puts.no_pipe, Puts.used_later, Puts.no_window, Sets.first_sets}
 use Rattle.kp_gen_valid.proofs.Asked.{no_pair, in_file_read, in_put, in_address_put, in_value_put, in_set, in_file_set}
-
-holding : (b : Bool) (r : Refusal) → b ≡ true → answer b r ≡ None
-holding true r e = refl
-holding false r e = cc
-
-both : (a b : Bool) → a ≡ true → b ≡ true → (a && b) ≡ true
-both a b e f = rw (e, f) refl
 
 unless : (b : Bool) (r : Refusal) → b ≡ false → answer (not b) r ≡ None
 unless b r e = rw e refl
 
 none_below : (o : Option ℕ) → holds_of (λ w. nat_lt w 0) o ≡ false
 none_below None = refl
-none_below (Some w) = false_from (nat_lt w 0) (λ e. let h : w < 0 = ltb-true w 0 e in omega (arith, h))
+none_below (Some w) = false_from_ne_true (nat_lt w 0) (λ e. let h : w < 0 = ltb-true w 0 e in omega (arith, h))
 
 -- the bounds of a choice: its result is set no later than it is written, in one of the n stages
 pub record IsFine (n : ℕ) (r : Route) : Type 0 where
@@ -47,17 +40,42 @@ module _ (n : ℕ) (rs : List Route) (least : 3 ≤ n) (most : n ≤ 12) (few : 
   abbrev Kept : Rule → Type 0
   Kept rule = broken_at facts job rule ≡ None
 
-  -- E15: stages exist
   head_kept : ask_head Rule.E15 job ≡ None
   unfolding job_of
   head_kept =
       let blocks : n ≤ length (all_blocks n rs) = rw (length-map-range_with_len (later_block rs) 1 (n - 1)) (omega arith) in
       holding (nat_le 2 n && nat_le n 12 && nat_le n (length (all_blocks n rs))) (e_rule 15 place)
-      (both (nat_le 2 n && nat_le n 12) (nat_le n (length (all_blocks n rs))) (both (nat_le 2 n) (nat_le n 12) (le-leb 2 n (omega (arith, least))) (le-leb n 12 most)) (le-leb n (length (all_blocks n rs)) blocks))
+      (and_from (nat_le 2 n && nat_le n 12) (nat_le n (length (all_blocks n rs))) (and_from (nat_le 2 n) (nat_le n 12) (le-leb 2 n (omega (arith, least))) (le-leb n 12 most)) (le-leb n (length (all_blocks n rs)) blocks))
 
-  stages_kept : Kept Rule.E15
+  here : (o : Option At) (j : ℕ) → o ≡ Some (record { stage = 0; index = j }) → answer (holds_of (is_at 0 j) o) (e_rule 16 place) ≡ None
+  here None j e = cc
+  here (Some at) j e =
+      let s : at.stage ≡ 0 = cc in
+      let i : at.index ≡ j = cc in
+      holding (at.stage == 0 && at.index == j) (e_rule 16 place) (and_from (at.stage == 0) (at.index == j) (eq-eqb at.stage 0 s) (eq-eqb at.index j i))
+
+  there : (o : Option At) (at : At) → o ≡ Some at → answer (is_some o) (e_rule 16 place) ≡ None
+  there o at e = rw e refl
+
+  put_early : (o : Option At) (j w : ℕ) → o ≡ Some (record { stage = 0; index = j }) → 0 < w → holds_of (λ (p : At). nat_lt p.stage w) o ≡ true
+  put_early None j w e h = cc
+  put_early (Some at) j w e h = let s : at.stage ≡ 0 = cc in lt-ltb at.stage w (omega (arith, s, h))
+
+  set_in_time : (o : Option ℕ) (k w : ℕ) → o ≡ Some w → k ≤ w → holds_of (λ x. nat_lt x k) o ≡ false
+  set_in_time None k w e h = cc
+  set_in_time (Some x) k w e h = let s : x ≡ w = cc in false_from_ne_true (nat_lt x k) (λ y. let l : x < k = ltb-true x k y in omega (arith, l, s, h))
+
+  first_result : (o : Option ℕ) (i : ℕ) → o ≡ Some i → answer (holds_of (λ (j : ℕ). j == i) o) (e_rule 22 place) ≡ None
+  first_result None i e = cc
+  first_result (Some j) i e = let p : j ≡ i = cc in holding (j == i) (e_rule 22 place) (eq-eqb j i p)
+
+  no_late : (top w : ℕ) → top ≡ 0 → answer (nat_le top w) (e_rule 24 place) ≡ None
+  no_late top w e = holding (nat_le top w) (e_rule 24 place) (le-leb top w (omega (arith, e)))
+
+  each_rule : (rule : Rule) → Kept rule
   unfolding job_of
-  stages_kept =
+  -- E15: stages exist
+  each_rule Rule.E15 =
       rule_kept facts Rule.E15 (λ i r. IsFine n r) m n rs (omega (arith, least)) refl fine head_kept
       (record {
         registers = λ i r h f. refl;
@@ -69,22 +87,9 @@ module _ (n : ℕ) (rs : List Route) (least : 3 ≤ n) (most : n ≤ 12) (few : 
         file_result_kept = holding (nat_lt (n - 1) n) (e_rule 15 place) (lt-ltb (n - 1) n (omega (arith, least)));
       })
       (stmts_unasked facts Rule.E15 (λ i r. IsFine n r) m n rs
-      (λ k ss h. holding (k == k && nat_lt k n) (e_rule 15 place) (both (k == k) (nat_lt k n) (eq-eqb k k refl) (lt-ltb k n h))) (λ k j s. refl))
-
+      (λ k ss h. holding (k == k && nat_lt k n) (e_rule 15 place) (and_from (k == k) (nat_lt k n) (eq-eqb k k refl) (lt-ltb k n h))) (λ k j s. refl))
   -- E16: each pipe is put once
-  here : (o : Option At) (j : ℕ) → o ≡ Some (record { stage = 0; index = j }) → answer (holds_of (is_at 0 j) o) (e_rule 16 place) ≡ None
-  here None j e = cc
-  here (Some at) j e =
-      let s : at.stage ≡ 0 = cc in
-      let i : at.index ≡ j = cc in
-      holding (at.stage == 0 && at.index == j) (e_rule 16 place) (both (at.stage == 0) (at.index == j) (eq-eqb at.stage 0 s) (eq-eqb at.index j i))
-
-  there : (o : Option At) (at : At) → o ≡ Some at → answer (is_some o) (e_rule 16 place) ≡ None
-  there o at e = rw e refl
-
-  pipes_kept : Kept Rule.E16
-  unfolding job_of
-  pipes_kept =
+  each_rule Rule.E16 =
       rule_kept facts Rule.E16 (λ i r. facts.put (pipe_name i) ≡ Some (record { stage = 0; index = (m + 1) + i })) m n rs (omega (arith, least)) refl (puts_found n rs few) refl
       (record {
         registers = λ i r h f. refl;
@@ -104,11 +109,8 @@ module _ (n : ℕ) (rs : List Route) (least : 3 ≤ n) (most : n ≤ 12) (few : 
         value = here (facts.put (codes "VF")) (((m + 1) + m) + 1) (value_found n rs);
         later = by_sets facts Rule.E16 Any m n rs refl (all_any 0 rs) (λ k i j r s h f e. refl) (λ i. refl);
       })
-
   -- E17: what is used in stage 0 is no pipe, and pipes are put before all later stages
-  pipes_are_put : Kept Rule.E17
-  unfolding job_of
-  pipes_are_put =
+  each_rule Rule.E17 =
       let free : (q : List ℕ) → facts.put q ≡ None → ask_name facts Rule.E17 0 q place ≡ None = (λ q e. ap (λ o. answer (not (holds_of (λ (p : At). nat_le 0 p.stage) o)) (e_rule 17 place)) e) in
       let reads : (i : ℕ) → ask_name facts Rule.E17 0 (read_name i) place ≡ None = (λ i. free (read_name i) (no_pipe n rs (read_name i) (λ j. refl) refl refl)) in
       let f : ask_name facts Rule.E17 0 (codes "f") place ≡ None = free (codes "f") (no_pipe n rs (codes "f") (λ j. refl) refl refl) in
@@ -126,10 +128,8 @@ module _ (n : ℕ) (rs : List Route) (least : 3 ≤ n) (most : n ≤ 12) (few : 
             (λ k i j r s h a e. no_pair _ None (in_set facts Rule.E17 k j r (late k (pipe_name j) s) (late k (pipe_name r.other) s)) refl)
             (λ i. no_pair _ None (in_file_set facts Rule.E17 1 (late 1 (pipe_name 0) (omega arith)) (late 1 (codes "VF") (omega arith))) refl);
       })
-
   -- E18: reads are in stage 0
-  reads_kept : Kept Rule.E18
-  reads_kept =
+  each_rule Rule.E18 =
       rule_kept facts Rule.E18 Any m n rs (omega (arith, least)) refl (all_any 0 rs) refl (decls_unasked facts Rule.E18 Any m (λ i d. refl) n)
       (record {
         numbers = λ k ss h. refl;
@@ -140,15 +140,8 @@ module _ (n : ℕ) (rs : List Route) (least : 3 ≤ n) (most : n ≤ 12) (few : 
         value = refl;
         later = by_sets facts Rule.E18 Any m n rs refl (all_any 0 rs) (λ k i j r s h f e. refl) (λ i. refl);
       })
-
   -- E19: the address of the file's result is put in stage 0
-  put_early : (o : Option At) (j w : ℕ) → o ≡ Some (record { stage = 0; index = j }) → 0 < w → holds_of (λ (p : At). nat_lt p.stage w) o ≡ true
-  put_early None j w e h = cc
-  put_early (Some at) j w e h = let s : at.stage ≡ 0 = cc in lt-ltb at.stage w (omega (arith, s, h))
-
-  addresses_kept : Kept Rule.E19
-  unfolding job_of
-  addresses_kept =
+  each_rule Rule.E19 =
       rule_kept facts Rule.E19 Any m n rs (omega (arith, least)) refl (all_any 0 rs) refl
       (record {
         registers = λ i r h f. refl;
@@ -161,15 +154,8 @@ module _ (n : ℕ) (rs : List Route) (least : 3 ≤ n) (most : n ≤ 12) (few : 
             (put_early (facts.put (codes "AF")) ((m + 1) + m) (n - 1) (address_found n rs) (omega (arith, least)))) refl;
       })
       (stmts_unasked facts Rule.E19 Any m n rs (λ k ss h. refl) (λ k j s. refl))
-
   -- E20: a result is set no later than it is written
-  set_in_time : (o : Option ℕ) (k w : ℕ) → o ≡ Some w → k ≤ w → holds_of (λ x. nat_lt x k) o ≡ false
-  set_in_time None k w e h = cc
-  set_in_time (Some x) k w e h = let s : x ≡ w = cc in false_from (nat_lt x k) (λ y. let l : x < k = ltb-true x k y in omega (arith, l, s, h))
-
-  sets_kept : Kept Rule.E20
-  unfolding job_of
-  sets_kept =
+  each_rule Rule.E20 =
       rule_kept facts Rule.E20 Any m n rs (omega (arith, least)) refl (all_any 0 rs) refl (decls_unasked facts Rule.E20 Any m (λ i d. refl) n)
       (record {
         numbers = λ k ss h. refl;
@@ -185,11 +171,8 @@ module _ (n : ℕ) (rs : List Route) (least : 3 ≤ n) (most : n ≤ 12) (few : 
             (λ i. unless (holds_of (λ w. nat_lt w 1) (facts.stage (codes "CF"))) (e_rule 20 place)
             (set_in_time (facts.stage (codes "CF")) 1 (n - 1) (file_stage_found n rs few) (omega (arith, least))));
       })
-
   -- E21: a result is set once in a stage
-  each_set_kept : Kept Rule.E21
-  unfolding job_of
-  each_set_kept =
+  each_rule Rule.E21 =
       rule_kept facts Rule.E21 Any m n rs (omega (arith, least)) refl (all_any 0 rs) refl (decls_unasked facts Rule.E21 Any m (λ i d. refl) n)
       (record {
         numbers = λ k ss h. refl;
@@ -200,15 +183,8 @@ module _ (n : ℕ) (rs : List Route) (least : 3 ≤ n) (most : n ≤ 12) (few : 
         value = refl;
         later = λ k some within. first_sets facts n k rs refl few some within;
       })
-
   -- E22: a target has one result
-  first_result : (o : Option ℕ) (i : ℕ) → o ≡ Some i → answer (holds_of (λ (j : ℕ). j == i) o) (e_rule 22 place) ≡ None
-  first_result None i e = cc
-  first_result (Some j) i e = let p : j ≡ i = cc in holding (j == i) (e_rule 22 place) (eq-eqb j i p)
-
-  results_kept : Kept Rule.E22
-  unfolding job_of
-  results_kept =
+  each_rule Rule.E22 =
       rule_kept facts Rule.E22 (λ i r. facts.result (register_name i) ≡ Some ((m + m + 3) + i)) m n rs (omega (arith, least)) refl (results_found n rs few) refl
       (record {
         registers = λ i r h f. refl;
@@ -220,10 +196,8 @@ module _ (n : ℕ) (rs : List Route) (least : 3 ≤ n) (most : n ≤ 12) (few : 
         file_result_kept = first_result (facts.result (codes "F")) ((m + m + 3) + m) (file_result_found n rs few);
       })
       (stmts_unasked facts Rule.E22 (λ i r. facts.result (register_name i) ≡ Some ((m + m + 3) + i)) m n rs (λ k ss h. refl) (λ k j s. refl))
-
   -- E23: nothing is guessed
-  guesses_kept : Kept Rule.E23
-  guesses_kept =
+  each_rule Rule.E23 =
       rule_kept facts Rule.E23 Any m n rs (omega (arith, least)) refl (all_any 0 rs) refl (decls_unasked facts Rule.E23 Any m (λ i d. refl) n)
       (record {
         numbers = λ k ss h. refl;
@@ -234,14 +208,8 @@ module _ (n : ℕ) (rs : List Route) (least : 3 ≤ n) (most : n ≤ 12) (few : 
         value = refl;
         later = by_sets facts Rule.E23 Any m n rs refl (all_any 0 rs) (λ k i j r s h f e. refl) (λ i. refl);
       })
-
   -- E24: nothing is guessed, so there is no window
-  no_late : (top w : ℕ) → top ≡ 0 → answer (nat_le top w) (e_rule 24 place) ≡ None
-  no_late top w e = holding (nat_le top w) (e_rule 24 place) (le-leb top w (omega (arith, e)))
-
-  window_kept : Kept Rule.E24
-  unfolding job_of
-  window_kept =
+  each_rule Rule.E24 =
       rule_kept facts Rule.E24 Any m n rs (omega (arith, least)) refl (all_any 0 rs) refl
       (record {
         registers = λ i r h f. refl;
@@ -253,11 +221,8 @@ module _ (n : ℕ) (rs : List Route) (least : 3 ≤ n) (most : n ≤ 12) (few : 
         file_result_kept = no_late facts.top ((n - 1) + 1) (no_window facts.written n rs);
       })
       (stmts_unasked facts Rule.E24 Any m n rs (λ k ss h. refl) (λ k j s. refl))
-
   -- E25: no name is a hint
-  hints_kept : Kept Rule.E25
-  unfolding job_of
-  hints_kept =
+  each_rule Rule.E25 =
       let free : (k : ℕ) (q : List ℕ) → ask_name facts Rule.E25 k q place ≡ None = (λ k q. ap (λ (o : Option ℕ). answer (not (is_some o)) (e_rule 25 place)) (no_hint n rs q)) in
       rule_kept facts Rule.E25 Any m n rs (omega (arith, least)) refl (all_any 0 rs) refl (decls_unasked facts Rule.E25 Any m (λ i d. refl) n)
       (record {
@@ -271,11 +236,8 @@ module _ (n : ℕ) (rs : List Route) (least : 3 ≤ n) (most : n ≤ 12) (few : 
             (λ k i j r s h a e. in_set facts Rule.E25 k j r (free k (pipe_name j)) (free k (pipe_name r.other)))
             (λ i. in_file_set facts Rule.E25 1 (free 1 (pipe_name 0)) (free 1 (codes "VF")));
       })
-
   -- E34, E35: there are no samples
-  samples_kept : Kept Rule.E34
-  unfolding job_of
-  samples_kept =
+  each_rule Rule.E34 =
       let free : (k : ℕ) (q : List ℕ) → ask_name facts Rule.E34 k q place ≡ None =
       (λ k q. ap (λ o. answer (not (holds_of (λ w. not (w == k)) o)) (e_rule 34 place)) (no_sample n rs q)) in
       rule_kept facts Rule.E34 Any m n rs (omega (arith, least)) refl (all_any 0 rs) refl (decls_unasked facts Rule.E34 Any m (λ i d. refl) n)
@@ -290,27 +252,10 @@ module _ (n : ℕ) (rs : List Route) (least : 3 ≤ n) (most : n ≤ 12) (few : 
             (λ k i j r s h a e. no_pair _ None (in_set facts Rule.E34 k j r (free k (pipe_name j)) (free k (pipe_name r.other))) refl)
             (λ i. no_pair _ None (in_file_set facts Rule.E34 1 (free 1 (pipe_name 0)) (free 1 (codes "VF"))) refl);
       })
-
-  sample_stages_kept : Kept Rule.E35
-  sample_stages_kept =
+  each_rule Rule.E35 =
       rule_kept facts Rule.E35 Any m n rs (omega (arith, least)) refl (all_any 0 rs) refl
       (record { registers = λ i r h f. refl; file_kept = refl; pipes = λ i r h f. refl; address = refl; value = refl; results = λ i r h f. refl; file_result_kept = refl })
       (stmts_unasked facts Rule.E35 Any m n rs (λ k ss h. refl) (λ k j s. refl))
-
-  each_rule : (rule : Rule) → Kept rule
-  each_rule Rule.E15 = stages_kept
-  each_rule Rule.E16 = pipes_kept
-  each_rule Rule.E17 = pipes_are_put
-  each_rule Rule.E18 = reads_kept
-  each_rule Rule.E19 = addresses_kept
-  each_rule Rule.E20 = sets_kept
-  each_rule Rule.E21 = each_set_kept
-  each_rule Rule.E22 = results_kept
-  each_rule Rule.E23 = guesses_kept
-  each_rule Rule.E24 = window_kept
-  each_rule Rule.E25 = hints_kept
-  each_rule Rule.E34 = samples_kept
-  each_rule Rule.E35 = sample_stages_kept
 
   none_of : (rules : List Rule) → first (map (broken_at facts job) rules) ≡ None
   none_of [] = refl

@@ -1,15 +1,10 @@
 -- Look-ups among numbered names.
 use Rattle.std.proofs.Common.{◌≡◌, ◌∙◌, ℕ, zero, suc, ◌<◌, ◌≤◌, ◌^◌, ◌+◌, List, [], ◌∷◌, ◌++◌, Option, Some, None, Bool, true, false, cond, refl, ap, sym, arith}
-use Rattle.std.proofs.lemmas.{Bool.eqb-true, Bool.eqb-false, Fmt.decimal_is_IsNumeral}
+use Rattle.std.proofs.lemmas.{Bool.eqb-true, Bool.eqb-false, Bool.false_from_ne_true, Fmt.decimal_is_IsNumeral}
 use Rattle.std.specs.{Prelude.decimal, Prelude.◌==◌, Cmp.Lexicographic.bytes_decides, Str.Parse.digits_value}
 use Rattle.kp_ast.specs.Expressions.{is_same_name}
 use Rattle.kp_width.specs.Names.{Sense, Names, look_up}
 use Rattle.kp_gen.specs.Generated.{numbered}
-
--- a test is false if it can't be true
-pub false_from : (b : Bool) → (b ≡ true → ⊥) → b ≡ false
-false_from true never = absurd (never refl)
-false_from false never = refl
 
 pub either : {G : Type 0} (b : Bool) → (b ≡ true → G) → (b ≡ false → G) → G
 either true here there = here refl
@@ -17,9 +12,6 @@ either false here there = there refl
 
 below : (j k : ℕ) → j ≤ k → (j ≡ k → ⊥) → j + 1 ≤ k
 below j k h other = omega (arith, other)
-
-pub same_names : (a b : List ℕ) → a ≡ b → is_same_name a b ≡ true
-same_names a b e = (bytes_decides a b).1 e
 
 pub same_true : (a : List ℕ) → is_same_name a a ≡ true
 same_true a = (bytes_decides a a).1 refl
@@ -34,7 +26,7 @@ decimal_determines i j h k e = sym (decimal_is_IsNumeral i h).1 ∙ ap (digits_v
 -- names with the same letter and different numbers are different
 pub other_number : (letter i j : ℕ) → i < 2 ^ 64 → j < 2 ^ 64 → (i ≡ j → ⊥) → is_same_name (numbered letter i) (numbered letter j) ≡ false
 other_number letter i j h k other =
-    false_from (is_same_name (numbered letter i) (numbered letter j))
+    false_from_ne_true (is_same_name (numbered letter i) (numbered letter j))
     (λ e. other (decimal_determines i j h k (ap (drop_one) ((bytes_decides (numbered letter i) (numbered letter j)).0 e))))
 
 pub look_here : (name n : List ℕ) (m : Sense) (names : Names) → is_same_name name n ≡ true → look_up ((n, m) ∷ names) name ≡ Some m
@@ -71,7 +63,7 @@ module _ (letter : ℕ) (sense_at : ℕ → Sense) where
   spread_there j (suc n) k h l w =
       either (j == k)
       (λ e. let p : j ≡ k = eqb-true j k e in
-      look_here (numbered letter k) (numbered letter j) (sense_at j) (spread (j + 1) n) (same_names (numbered letter k) (numbered letter j) (ap (numbered letter) (sym p)))
+      look_here (numbered letter k) (numbered letter j) (sense_at j) (spread (j + 1) n) (((bytes_decides (numbered letter k) (numbered letter j)).1 (ap (numbered letter) (sym p))))
       ∙ ap (λ x. Some (sense_at x)) p)
       (λ e. let other : j ≡ k → ⊥ = eqb-false j k e in
       look_past (numbered letter k) (numbered letter j) (sense_at j) (spread (j + 1) n) (other_number letter k j w (omega arith) (λ p. other (sym p)))

@@ -1,14 +1,14 @@
 -- The stage in which the pipes of a generated job are put: stage 0 for all.
 use Rattle.std.proofs.Common.{◌≡◌, ◌∙◌, ℕ, zero, suc, ◌+◌, ◌-◌, ◌<◌, ◌≤◌, List, [], ◌∷◌, ◌++◌, length, map, Option, None, Some, Bool, true, false, cond, refl, ap, arith, append_assoc}
-use Rattle.std.proofs.lemmas.Bool.{leb-true}
+use Rattle.std.proofs.lemmas.Bool.{leb-true, false_from_ne_true}
 use Rattle.std.specs.{Prelude.◌==◌, Prelude.codes, Prelude.nat_le, Prelude.max, List.range_with_len}
 use Rattle.kp_base.specs.First.{first}
 use Rattle.kp_ast.specs.{Expressions.is_same_name, declared.tree.Stmt.Stmt, declared.tree.StmtKind.StmtKind}
 use Rattle.kp_ast.specs.declared.tree.StmtKind.TheVariants as stmts
 use Rattle.kp_stage.specs.{Facts.At, Facts.put_at, Facts.puts_in, Facts.puts_of, Facts.guessed, Facts.largest_in, Facts.largest, Rules.holds_of}
 use Rattle.kp_gen.specs.declared.draws.Route.{Route}
-use Rattle.kp_gen.specs.Generated.{pipe_name, set, file_read, address_put, value_put, file_sets, for_each, sets_from, first_stmts, later_stmts, later_block, all_blocks}
-use Rattle.kp_gen_valid.proofs.{Forms.read, Forms.put, Lookups.either, Lookups.false_from, Lookups.other_number, Lookups.same_true, Walks.AllFrom}
+use Rattle.kp_gen.specs.Generated.{pipe_name, file_read, address_put, value_put, file_sets, for_each, sets_from, first_stmts, later_stmts, later_block, all_blocks}
+use Rattle.kp_gen_valid.proofs.{Forms.read, Forms.put, Lookups.other_number, Lookups.same_true, Lookups.either, Walks.AllFrom}
 use Rattle.kp_gen_valid.proofs.{Finds.past_one, Finds.past_each, Finds.each_found, Finds.no_more, Declared.is_where, Declared.is_nowhere}
 
 -- later stages put nothing
@@ -35,15 +35,12 @@ module _ (q : List ℕ) (k : ℕ) (some : 1 ≤ k) where
   Early o = holds_of (λ (p : At). nat_le k p.stage) o ≡ false
 
   early_or : (b : Bool) (j : ℕ) (more : List (Option At)) → Early (first more) → Early (first (cond b (Some (record { stage = 0; index = j })) None ∷ more))
-  early_or true j more h = false_from (nat_le k 0) (λ e. let l : k ≤ 0 = leb-true k 0 e in omega (arith, l, some))
+  early_or true j more h = false_from_ne_true (nat_le k 0) (λ e. let l : k ≤ 0 = leb-true k 0 e in omega (arith, l, some))
   early_or false j more h = h
 
   early_at : (j : ℕ) (s : StmtKind) (more : List (Option At)) → Early (first more) → Early (first (put_at q 0 j s ∷ more))
   early_at j (stmts.Put name e) more h = early_or (is_same_name q name.name) j more h
-  early_at j (stmts.Read r) more h = h
-  early_at j (stmts.Let name e) more h = h
-  early_at j (stmts.Set name e when) more h = h
-  early_at j (stmts.Aim name e) more h = h
+  early_at j x more h = h
 
   early : (j : ℕ) (ss : List Stmt) → Early (first (asks q j ss))
   early j [] = refl

@@ -8,7 +8,7 @@ use Rattle.kp_stage.specs.{declared.rules.Rule.Rule, Facts.Facts, Facts.sets_in,
 use Rattle.kp_stage.specs.Rules.{ask_stmt, ask_stmts, holds_of}
 use Rattle.kp_gen.specs.declared.draws.Route.{Route}
 use Rattle.kp_gen.specs.Generated.{place, result_name, set, file_set, file_sets, sets_from, later_stmts, later_block, all_blocks}
-use Rattle.kp_gen_valid.proofs.{Lookups.either, Lookups.other_number, Lookups.same_true, Texts.no_number, Walks.past}
+use Rattle.kp_gen_valid.proofs.{Lookups.other_number, Lookups.same_true, Lookups.either, Texts.no_number, Walks.past}
 
 -- the statement at this number is the first
 is_first : (o : Option ℕ) (i : ℕ) → o ≡ Some i → answer (holds_of (λ (j : ℕ). j == i) o) (e_rule 21 place) ≡ None

@@ -26,7 +26,4 @@ generated_few_blocks G =
 
 pub generated_few_decls : (G : ℕ) → length (gen_job G).decls ≤ 109
 unfolding job_of
-generated_few_decls G =
-    let e = length_decls (stages_drawn G) (routes_drawn G) in
-    let few = few_registers G in
-    omega (arith, e, few)
+generated_few_decls G = omega (arith, length_decls (stages_drawn G) (routes_drawn G), few_registers G)

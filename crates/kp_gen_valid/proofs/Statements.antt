@@ -18,7 +18,7 @@ use Rattle.kp_gen.specs.Generated.{place, named, numbered, name, number, binary,
 use Rattle.kp_gen.specs.declared.draws.Route.{Route}
 use Rattle.kp_gen_valid.proofs.Texts.{registers_at, file_at, pipes_at, address_at, value_at, results_at, file_result_at, all_names, free_all, from_value, register_there, file_there, pipe_there, address_there, value_there, result_there, file_result_there}
 use Rattle.kp_gen_valid.proofs.{Forms.read, Forms.put, Steps.then, Steps.holds, Steps.is_fresh}
-use Rattle.kp_gen_valid.proofs.Lookups.{either, spread, spread_there, spread_none, other_number, look_first, look_second, look_past}
+use Rattle.kp_gen_valid.proofs.Lookups.{spread, spread_there, spread_none, other_number, look_first, look_second, look_past, either}
 
 -- in stage k these names are in scope
 abbrev pub inside : ℕ → Names → Names → List Entry → Scoped

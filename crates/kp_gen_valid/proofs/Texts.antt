@@ -1,17 +1,17 @@
 -- The names that a generated job declares, and look-ups among them.
 use Rattle.std.proofs.Common.{◌≡◌, ◌∙◌, ℕ, ◌+◌, ◌<◌, ◌≤◌, ◌^◌, List, [], ◌∷◌, ◌++◌, Some, None, false, refl, ap, sym, subst, arith}
-use Rattle.std.proofs.lemmas.{Str.Parse.tells_digits, Fmt.decimal_is_IsNumeral}
+use Rattle.std.proofs.lemmas.{Str.Parse.tells_digits, Fmt.decimal_is_IsNumeral, Bool.false_from_ne_true}
 use Rattle.std.specs.{Prelude.codes, Prelude.decimal, Cmp.Lexicographic.bytes_decides, Str.Parse.AllDigits}
 use Rattle.kp_ast.specs.Expressions.{is_same_name}
 use Rattle.kp_ast.specs.declared.widths.NameKind.TheVariants as kinds
 use Rattle.kp_width.specs.Names.{Sense, sense, Names, look_up}
 use Rattle.kp_gen.specs.Generated.{numbered}
-use Rattle.kp_gen_valid.proofs.Lookups.{drop_one, false_from, spread, spread_there, spread_none, look_first, look_second, look_past}
+use Rattle.kp_gen_valid.proofs.Lookups.{drop_one, spread, spread_there, spread_none, look_first, look_second, look_past}
 
 -- no number has the text `F`
 pub no_number : (k : ℕ) → k < 2 ^ 64 → is_same_name (codes "CF") (numbered 67 k) ≡ false
 no_number k h =
-    false_from (is_same_name (codes "CF") (numbered 67 k))
+    false_from_ne_true (is_same_name (codes "CF") (numbered 67 k))
     (λ e. let same : codes "F" ≡ decimal k = ap drop_one ((bytes_decides (codes "CF") (numbered 67 k)).0 e) in
     let digits : AllDigits 10 (codes "F") = subst (AllDigits 10) (sym same) (decimal_is_IsNumeral k h).0.1 in
     let most : 70 ≤ 57 = (tells_digits.parts 70 [] digits).0.1 in

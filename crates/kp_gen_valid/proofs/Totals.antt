@@ -1,8 +1,8 @@
 -- The numbers of a generated job are within the limits of E28 and E29.
-use Rattle.std.proofs.Common.{◌≡◌, ◌∙◌, ℕ, zero, suc, ◌+◌, ◌-◌, ◌*◌, ◌≤◌, ◌%◌, List, [], ◌∷◌, ◌++◌, length, map, None, Some, Bool, true, false, refl, ap, arith}
+use Rattle.std.proofs.Common.{◌≡◌, ◌∙◌, ℕ, zero, suc, ◌+◌, ◌-◌, ◌*◌, ◌≤◌, ◌%◌, List, [], ◌∷◌, ◌++◌, length, map, None, true, refl, ap, arith}
 use Rattle.std.proofs.lemmas.{Bool.le-leb, List.length-append, List.Sums.sum_by-cons, List.Sums.sum_by-append}
-use Rattle.std.specs.{Prelude.◌&&◌, Prelude.◌==◌, Prelude.nat_le, Prelude.codes, Prelude.sum_by, List.range_with_len}
-use Rattle.kp_base.specs.{First.first, Check.Check, Check.Answer, Check.answer, Refusal.e_rule, declared.refusal.Refusal.Refusal}
+use Rattle.std.specs.{Prelude.◌==◌, Prelude.nat_le, Prelude.codes, Prelude.sum_by, List.range_with_len}
+use Rattle.kp_base.specs.{First.first, Check.Check, Check.Answer, Check.answer, Refusal.e_rule}
 use Rattle.kp_bits.specs.declared.operator.BinOp.{BinOp}
 use Rattle.kp_ast.specs.{Size.size, Size.size_of_kind as size_of_form, Size.size_of_level, Size.bodies_of, declared.tree.Expr.Expr, declared.tree.Decl.Decl}
 use Rattle.kp_ast.specs.declared.tree.Stmt.{Stmt}
@@ -12,7 +12,9 @@ use Rattle.kp_stage.specs.Counts.{regs_in, files_in, pipes_in, results_in, hints
 use Rattle.kp_stage.specs.Sizes.{size_of_stmt, stmts_sized, blocks_sized, sizes_of}
 use Rattle.kp_gen.specs.Generated.{place, name, number, binary, low_byte, read_name, pipe_name, result_of, set, file_read, address_put, value_put, file_set, file_sets, for_each, sets_from, first_stmts, later_stmts, later_block, all_decls, all_blocks, job_of}
 use Rattle.kp_gen.specs.declared.draws.Route.{Route}
-use Rattle.kp_gen_valid.proofs.{Forms.register, Forms.pipe, Forms.read, Forms.put, Forms.file, Forms.pipe_AF, Forms.pipe_VF, Forms.file_result, Lookups.either}
+use Rattle.kp_gen_valid.proofs.Forms.{register, pipe, read, put, file, pipe_AF, pipe_VF, file_result}
+use Rattle.kp_gen_valid.proofs.{Walks.past, Walks.holding, Lookups.either}
+use Rattle.kp_base.proofs.First.{first_append_none}
 
 -- the counts of kp_stage: their types
 abbrev TypeOf : {X : Type 0} → X → Type 0
@@ -21,22 +23,8 @@ TypeOf {X} x = X
 abbrev Counts : Type 0
 Counts = TypeOf nothing_counted
 
--- what follows a check without a violation
-past : (a : Answer) (more : List Answer) → a ≡ None → first more ≡ None → first (a ∷ more) ≡ None
-past None more e f = f
-past (Some r) more e f = cc
-
 one_list : (xs ys : List Answer) → first xs ≡ None → first ys ≡ None → first (xs ++ ys) ≡ None
-one_list [] ys e f = f
-one_list (None ∷ xs) ys e f = one_list xs ys e f
-one_list (Some r ∷ xs) ys e f = cc
-
-holding : (b : Bool) (r : Refusal) → b ≡ true → answer b r ≡ None
-holding true r e = refl
-holding false r e = cc
-
-both : (a b : Bool) → a ≡ true → b ≡ true → (a && b) ≡ true
-both a b e f = rw (e, f) refl
+one_list xs ys e f = first_append_none xs ys e ∙ f
 
 -- the number of statements
 length_each : {X : Type 0} (make : ℕ → Route → X) (j : ℕ) (rs : List Route) → length (for_each make j rs) ≡ length rs
@@ -49,21 +37,13 @@ length_decls n rs =
     let y : List Decl = file ∷ for_each pipe 0 rs in
     let z : List Decl = pipe_AF ∷ pipe_VF ∷ for_each result_of 0 rs in
     let a = length-append ((x ++ y) ++ z) (file_result n ∷ []) in
-    let b = length-append (x ++ y) z in
-    let c = length-append x y in
-    let d = length_each register 0 rs in
-    let e = length_each pipe 0 rs in
-    let f = length_each result_of 0 rs in
-    omega (arith, a, b, c, d, e, f)
+    omega (arith, a, length-append (x ++ y) z, length-append x y, length_each register 0 rs, length_each pipe 0 rs, length_each result_of 0 rs)
 
 length_first : (rs : List Route) → length (first_stmts rs) ≡ length rs + length rs + 3
 length_first rs =
     let puts : List Stmt = for_each (put (length rs)) 0 rs in
     let a = length-append (for_each read 0 rs ++ file_read ∷ puts) (address_put ∷ value_put ∷ []) in
-    let b = length-append (for_each read 0 rs) (file_read ∷ puts) in
-    let c = length_each read 0 rs in
-    let d = length_each (put (length rs)) 0 rs in
-    omega (arith, a, b, c, d)
+    omega (arith, a, length-append (for_each read 0 rs) (file_read ∷ puts), length_each read 0 rs, length_each (put (length rs)) 0 rs)
 
 length_sets : (k j : ℕ) (rs : List Route) → length (sets_from k j rs) ≤ length rs
 length_sets k j [] = omega arith
@@ -76,11 +56,7 @@ length_last : (k : ℕ) → length (file_sets k) ≤ 1
 length_last k = either (k == 1) (λ e. rw e (omega arith)) (λ e. rw e (omega arith))
 
 length_later : (rs : List Route) (k : ℕ) → length (later_stmts rs k) ≤ length rs + 1
-length_later rs k =
-    let a = length-append (sets_from k 0 rs) (file_sets k) in
-    let b = length_sets k 0 rs in
-    let c = length_last k in
-    omega (arith, a, b, c)
+length_later rs k = omega (arith, length-append (sets_from k 0 rs) (file_sets k), length_sets k 0 rs, length_last k)
 
 -- E28: no statement is larger than 5.
 module _ (ds : List Decl) where
@@ -104,36 +80,16 @@ module _ (ds : List Decl) where
 
   small_put : (m i : ℕ) (r : Route) → Small (put m i r)
   small_put m i r =
-      let e = of_binary BinOp.Add (name (read_name i)) (name (read_name ((i + 1) % m))) in
-      let a = of_name (read_name i) in
-      let b = of_name (read_name ((i + 1) % m)) in
-      omega (arith, e, a, b)
+      omega (arith, of_binary BinOp.Add (name (read_name i)) (name (read_name ((i + 1) % m))), of_name (read_name i), of_name (read_name ((i + 1) % m)))
 
   small_set : (i : ℕ) (r : Route) → Small (set i r)
   small_set i r =
       let shift : Expr = binary BinOp.Shl (name (pipe_name r.other)) (number 1 1) in
       let e = of_binary BinOp.Xor (name (pipe_name i)) shift in
-      let f = of_binary BinOp.Shl (name (pipe_name r.other)) (number 1 1) in
-      let a = of_name (pipe_name i) in
-      let b = of_name (pipe_name r.other) in
-      let c = of_number 1 1 in
-      omega (arith, e, f, a, b, c)
-
-  small_file_read : Small file_read
-  small_file_read = let e = of_byte (read_name 1) in omega (arith, e)
-
-  small_address : Small address_put
-  small_address = let e = of_byte (read_name 0) in omega (arith, e)
-
-  small_value : Small value_put
-  small_value = let e = of_name (codes "f") in omega (arith, e)
+      omega (arith, e, of_binary BinOp.Shl (name (pipe_name r.other)) (number 1 1), of_name (pipe_name i), of_name (pipe_name r.other), of_number 1 1)
 
   small_file_set : Small file_set
-  small_file_set =
-      let e = of_binary BinOp.Add (name (pipe_name 0)) (name (codes "VF")) in
-      let a = of_name (pipe_name 0) in
-      let b = of_name (codes "VF") in
-      omega (arith, e, a, b)
+  small_file_set = omega (arith, of_binary BinOp.Add (name (pipe_name 0)) (name (codes "VF")), of_name (pipe_name 0), of_name (codes "VF"))
 
   -- the sum over these statements is at most `most`, and no check is violated
   record Sized (most : ℕ) (c : Check ℕ) : Type 0 where
@@ -162,8 +118,8 @@ module _ (ds : List Decl) where
   small_first : (rs : List Route) → AllSmall (first_stmts rs)
   small_first rs =
       small_append (for_each read 0 rs ++ file_read ∷ for_each (put (length rs)) 0 rs) (address_put ∷ value_put ∷ [])
-      (small_append (for_each read 0 rs) (file_read ∷ for_each (put (length rs)) 0 rs) (small_each read 0 rs (λ i r. omega arith)) (small_file_read, small_each (put (length rs)) 0 rs (small_put (length rs))))
-      (small_address, (small_value, tt))
+      (small_append (for_each read 0 rs) (file_read ∷ for_each (put (length rs)) 0 rs) (small_each read 0 rs (λ i r. omega arith)) (omega (arith, of_byte (read_name 1)), small_each (put (length rs)) 0 rs (small_put (length rs))))
+      (omega (arith, of_byte (read_name 0)), (omega (arith, of_name (codes "f")), tt))
 
   stmts_fit : (total : ℕ) (ss : List Stmt) → AllSmall ss → total + 5 * length ss ≤ 100000 → Sized (total + 5 * length ss) (stmts_sized ds total ss)
   stmts_fit total [] all h = record { none = refl; bound = omega arith }
@@ -173,7 +129,7 @@ module _ (ds : List Decl) where
       let limit = more.bound in
       record {
         none = past (answer (nat_le (total + size_of_stmt ds s) 100000) (e_rule 28 s.at)) (stmts_sized ds (total + size_of_stmt ds s) ss).asked
-            (holding (nat_le (total + size_of_stmt ds s) 100000) (e_rule 28 s.at) (le-leb (total + size_of_stmt ds s) 100000 (omega (arith, one, h)))) more.none;
+            (holding (nat_le (total + size_of_stmt ds s) 100000) (e_rule 28 s.at) (le-leb (total + size_of_stmt ds s) 100000 (omega (arith, one, h)))) ∙ more.none;
         bound = omega (arith, one, limit);
       }
 
@@ -219,16 +175,9 @@ below f a most ds h = le-leb a most (omega (arith, h))
 
 within : (c : Counts) (ds : List Decl) → Room c ds → is_within c ≡ true
 within c ds h =
-    both (nat_le c.regs 64 && nat_le c.files 16 && nat_le c.pipes 128 && nat_le c.results 64 && nat_le c.hints 16 && nat_le c.functions 64 && nat_le c.reads 256 && nat_le c.guesses 8) (nat_le c.samples 16)
-    (both (nat_le c.regs 64 && nat_le c.files 16 && nat_le c.pipes 128 && nat_le c.results 64 && nat_le c.hints 16 && nat_le c.functions 64 && nat_le c.reads 256) (nat_le c.guesses 8)
-    (both (nat_le c.regs 64 && nat_le c.files 16 && nat_le c.pipes 128 && nat_le c.results 64 && nat_le c.hints 16 && nat_le c.functions 64) (nat_le c.reads 256)
-    (both (nat_le c.regs 64 && nat_le c.files 16 && nat_le c.pipes 128 && nat_le c.results 64 && nat_le c.hints 16) (nat_le c.functions 64)
-    (both (nat_le c.regs 64 && nat_le c.files 16 && nat_le c.pipes 128 && nat_le c.results 64) (nat_le c.hints 16)
-    (both (nat_le c.regs 64 && nat_le c.files 16 && nat_le c.pipes 128) (nat_le c.results 64)
-    (both (nat_le c.regs 64 && nat_le c.files 16) (nat_le c.pipes 128)
-    (both (nat_le c.regs 64) (nat_le c.files 16) (below regs_in c.regs 64 ds h.regs) (below files_in c.files 16 ds h.files))
-    (below pipes_in c.pipes 128 ds h.pipes)) (below results_in c.results 64 ds h.results)) (below hints_in c.hints 16 ds h.hints)) (below functions_in c.functions 64 ds h.functions))
-    (le-leb c.reads 256 h.reads)) (le-leb c.guesses 8 h.guesses)) (below samples_in c.samples 16 ds h.samples)
+    rw (below regs_in c.regs 64 ds h.regs, below files_in c.files 16 ds h.files, below pipes_in c.pipes 128 ds h.pipes, below results_in c.results 64 ds h.results)
+    (rw (below hints_in c.hints 16 ds h.hints, below functions_in c.functions 64 ds h.functions, le-leb c.reads 256 h.reads, le-leb c.guesses 8 h.guesses)
+    (below samples_in c.samples 16 ds h.samples))
 
 shifted : (f : Decl → ℕ) (a most : ℕ) (d : Decl) (ds : List Decl) → a + sum_by f (d ∷ ds) ≤ most → (a + f d) + sum_by f ds ≤ most
 shifted f a most d ds h = let e = sum_by-cons f d ds in omega (arith, e, h)
@@ -258,23 +207,14 @@ decls_fit c (d ∷ ds) h =
     let room = one_more c d ds h in
     let more = decls_fit (with_decl c d) ds room in (
       past (answer (is_within (with_decl c d)) (e_rule 29 (name_of d).at)) (decls_counted (with_decl c d) ds).asked
-          (holding (is_within (with_decl c d)) (e_rule 29 (name_of d).at) (within (with_decl c d) ds room)) more.0,
+          (holding (is_within (with_decl c d)) (e_rule 29 (name_of d).at) (within (with_decl c d) ds room)) ∙ more.0,
       more.1,
     )
 
 -- and with these statements
 with_reads : (c : Counts) (s : Stmt) → Room c [] → c.reads + reads_in s ≤ 256 → c.guesses + guesses_in s ≤ 8 → Room (with_stmt c s) []
-with_reads c s h r g = record {
-  regs = h.regs;
-  files = h.files;
-  pipes = h.pipes;
-  results = h.results;
-  hints = h.hints;
-  functions = h.functions;
-  samples = h.samples;
-  reads = r;
-  guesses = g;
-}
+with_reads c s h r g =
+    record { regs = h.regs; files = h.files; pipes = h.pipes; results = h.results; hints = h.hints; functions = h.functions; samples = h.samples; reads = r; guesses = g }
 
 stmts_fit_counts : (c : Counts) (ss : List Stmt) → Room c [] → c.reads + sum_by reads_in ss ≤ 256 → c.guesses + sum_by guesses_in ss ≤ 8
     → (first (stmts_counted c ss).asked ≡ None) × Counted (stmts_counted c ss).value (c.reads + sum_by reads_in ss) (c.guesses + sum_by guesses_in ss)
@@ -287,7 +227,7 @@ stmts_fit_counts c (s ∷ ss) h r g =
     let a = more.1.reads_counted in
     let b = more.1.guesses_counted in (
       past (answer (is_within (with_stmt c s)) (e_rule 29 (place_of_read s s.kind))) (stmts_counted (with_stmt c s) ss).asked
-          (holding (is_within (with_stmt c s)) (e_rule 29 (place_of_read s s.kind)) (within (with_stmt c s) [] room)) more.0,
+          (holding (is_within (with_stmt c s)) (e_rule 29 (place_of_read s s.kind)) (within (with_stmt c s) [] room)) ∙ more.0,
       record { room = more.1.room; reads_counted = omega (arith, e, a); guesses_counted = omega (arith, f, b) },
     )
 
@@ -312,11 +252,7 @@ no_last : (f : Stmt → ℕ) → f file_set ≡ 0 → (k : ℕ) → sum_by f (fi
 no_last f h k = either (k == 1) (λ e. rw e (sum_by-cons f file_set [] ∙ (rw h refl))) (λ e. rw e refl)
 
 no_later : (f : Stmt → ℕ) → ((i : ℕ) (r : Route) → f (set i r) ≡ 0) → f file_set ≡ 0 → (rs : List Route) (k : ℕ) → sum_by f (later_stmts rs k) ≡ 0
-no_later f h l rs k =
-    let a = sum_by-append f (sets_from k 0 rs) (file_sets k) in
-    let b = no_sets f h k 0 rs in
-    let c = no_last f l k in
-    omega (arith, a, b, c)
+no_later f h l rs k = omega (arith, sum_by-append f (sets_from k 0 rs) (file_sets k), no_sets f h k 0 rs, no_last f l k)
 
 later_counted : (c : Counts) (k x : ℕ) (rs : List Route) → Room c [] → first (blocks_counted c (map (later_block rs) (range_with_len k x))).asked ≡ None
 later_counted c k zero rs h = refl
@@ -338,10 +274,7 @@ sum_first f rs a b reads puts =
     let y = sum_by-append f (for_each read 0 rs) (file_read ∷ m) in
     let z = sum_by-cons f file_read m in
     let u = sum_by-cons f address_put (value_put ∷ []) in
-    let v = sum_by-cons f value_put [] in
-    let p = sum_each f read a 0 rs reads in
-    let q = sum_each f (put (length rs)) b 0 rs puts in
-    omega (arith, x, y, z, u, v, p, q)
+    omega (arith, x, y, z, u, sum_by-cons f value_put [], sum_each f read a 0 rs reads, sum_each f (put (length rs)) b 0 rs puts)
 
 all_counted : (c : Counts) (n : ℕ) (rs : List Route) → length rs ≤ 35 → Counted c 0 0 → first (blocks_counted c (all_blocks n rs)).asked ≡ None
 all_counted c n rs few h =
@@ -368,10 +301,7 @@ sum_decls f n rs a b c registers pipes results =
     let e5 = sum_by-cons f pipe_AF (pipe_VF ∷ for_each result_of 0 rs) in
     let e6 = sum_by-cons f pipe_VF (for_each result_of 0 rs) in
     let e7 = sum_by-cons f (file_result n) [] in
-    let p = sum_each f register a 0 rs registers in
-    let q = sum_each f pipe b 0 rs pipes in
-    let r = sum_each f result_of c 0 rs results in
-    omega (arith, e1, e2, e3, e4, e5, e6, e7, p, q, r)
+    omega (arith, e1, e2, e3, e4, e5, e6, e7, sum_each f register a 0 rs registers, sum_each f pipe b 0 rs pipes, sum_each f result_of c 0 rs results)
 
 decls_room : (n : ℕ) (rs : List Route) → length rs ≤ 35 → Room nothing_counted (all_decls n rs)
 decls_room n rs few =

@@ -1,8 +1,8 @@
 -- A generated job obeys a rule of stages if no form of declaration and of statement in it violates the rule.
-use Rattle.std.proofs.Common.{◌≡◌, ◌∙◌, ℕ, zero, suc, ◌+◌, ◌-◌, ◌<◌, ◌≤◌, List, [], ◌∷◌, ◌++◌, length, map, None, Some, refl, sym, subst, arith, append_assoc}
+use Rattle.std.proofs.Common.{◌≡◌, ◌∙◌, ℕ, zero, suc, ◌+◌, ◌-◌, ◌<◌, ◌≤◌, List, [], ◌∷◌, ◌++◌, length, map, None, Some, refl, sym, subst, arith, append_assoc, Option, Bool, true, false}
 use Rattle.std.proofs.lemmas.Bool.{eqb-true}
 use Rattle.std.specs.{Prelude.◌==◌, List.range_with_len}
-use Rattle.kp_base.specs.{First.first, Check.Answer}
+use Rattle.kp_base.specs.{First.first, Check.answer, declared.refusal.Refusal.Refusal}
 use Rattle.kp_ast.specs.declared.tree.{Decl.Decl, Stmt.Stmt, StmtKind.StmtKind}
 use Rattle.kp_stage.specs.{declared.rules.Rule.Rule, Facts.Facts}
 use Rattle.kp_stage.specs.Rules.{ask_head, ask_decl, ask_decls, ask_block, ask_stmt, ask_stmts, ask_in_block, ask_blocks, broken_at}
@@ -26,9 +26,13 @@ pub all_any : (i : ℕ) (rs : List Route) → AllFrom Any i rs
 all_any i [] = tt
 all_any i (r ∷ rs) = (tt, all_any (i + 1) rs)
 
-pub past : (a : Answer) (more : List Answer) → a ≡ None → first (a ∷ more) ≡ first more
+pub past : {X : Type 0} (a : Option X) (more : List (Option X)) → a ≡ None → first (a ∷ more) ≡ first more
 past None more e = refl
 past (Some r) more e = cc
+
+pub holding : (b : Bool) (r : Refusal) → b ≡ true → answer b r ≡ None
+holding true r e = refl
+holding false r e = cc
 
 module _ (facts : Facts) (rule : Rule) (Fine : ℕ → Route → Type 0) (m : ℕ) where
   -- one declaration for each register

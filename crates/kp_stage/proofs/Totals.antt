@@ -25,15 +25,13 @@ pub size_total : (job : Job) → (sizes_of job).value ≡ size_of_job job
 unfolding sizes_of
 size_total job = blocks_total job.decls 0 job.blocks
 
-decls_total : (c : Counts) (ds : List Decl) → (decls_counted c ds).value ≡ record {
+decls_total : (c : Counts) (ds : List Decl) → (decls_counted c ds).value ≡ record c {
   regs = sum_from regs_in c.regs ds;
   files = sum_from files_in c.files ds;
   pipes = sum_from pipes_in c.pipes ds;
   results = sum_from results_in c.results ds;
   hints = sum_from hints_in c.hints ds;
   functions = sum_from functions_in c.functions ds;
-  reads = c.reads;
-  guesses = c.guesses;
   samples = sum_from samples_in c.samples ds;
 }
 decls_total c [] = refl
@@ -41,17 +39,7 @@ decls_total c (d ∷ ds) = decls_total (with_decl c d) ds
 
 -- the counts with other numbers of reads and guesses
 abbrev with_reads : Counts → ℕ → ℕ → Counts
-with_reads c reads guesses = record {
-  regs = c.regs;
-  files = c.files;
-  pipes = c.pipes;
-  results = c.results;
-  hints = c.hints;
-  functions = c.functions;
-  reads = reads;
-  guesses = guesses;
-  samples = c.samples;
-}
+with_reads c reads guesses = record c { reads = reads; guesses = guesses }
 
 reads_total : (c : Counts) (ss : List Stmt) → (stmts_counted c ss).value ≡ with_reads c (sum_from reads_in c.reads ss) (sum_from guesses_in c.guesses ss)
 reads_total c [] = refl

@@ -13,7 +13,7 @@ use Rattle.kp_vlog.specs.declared.tree.{Named.Named, ResetList.ResetList, ResetV
 use Rattle.kp_vlog.specs.{Canon.wire, Canon.wire_name, Scope.is_wire_name, Rules.name_fits, Rules.learns, Rules.bad_name}
 use Rattle.kp_vwrite_roundtrip.proofs.Sentence.{named_at, ShowsNames, no_name, a_name, ShowsRight, a_const, an_ext, a_sample, a_reg, a_word, a_not, a_binary, a_mux, a_concat, a_slice, ShowsSamples, no_sample, one_sample, ShowsRegs, no_reg_line, reg_line, ShowsFiles, no_file_line, file_line, ShowsInteger, no_integer, an_integer, ShowsNodes, no_node_line, node_line, ShowsStarts, no_start, a_start, ShowsWords, no_words, zero_word, some_word, ShowsFills, no_fill, a_fill, ShowsUpdates, no_update, an_update, ShowsWrites, no_write, not_written, a_write, ShowsReset, no_reset_shown, reset_shown, ShowsValues, no_value, a_value, Shown, outs, whole}
 use Rattle.kp_vwrite_roundtrip.proofs.Distinct.{apart, tag, tag_reg, tag_file, tag_sample, tag_wire, wires_differ, apart_all}
-use Rattle.kp_vwrite_roundtrip.proofs.{Written.RightFrom, Written.all_right, Runs.Each, Runs.Led, Runs.decimal_led, Runs.decimal_names, Denoted.spelled}
+use Rattle.kp_vwrite_roundtrip.proofs.{Written.RightFrom, Written.all_right, Runs.Led, Runs.decimal_led, Runs.decimal_names, Runs.all_of, Denoted.spelled}
 use Rattle.kp_vlog.proofs.Tests.{same_refl}
 
 -- no name is bad
@@ -111,15 +111,11 @@ knows_more net j known few k = record {
   rst = λ e. or_right (same (codes "rst") (wire_name j)) (among known (codes "rst")) (k.rst e);
 }
 
-all_digits : (ds : List ℕ) → Each is_digit ds → list_all is_digit ds ≡ true
-all_digits [] h = refl
-all_digits (d ∷ ds) h = and_from (is_digit d) (list_all is_digit ds) h.0 (all_digits ds h.1)
-
 led_wire : (ds : List ℕ) → Led ds → list_all is_digit ds ≡ true → is_wire_name (110 ∷ ds) ≡ true
 led_wire ds l h = subst (λ (xs : List ℕ). is_wire_name (110 ∷ xs) ≡ true) (sym l.whole) (subst (λ (xs : List ℕ). list_all is_digit xs ≡ true) l.whole h)
 
 wire_spelled : (j : ℕ) → j ≤ 16777216 → is_wire_name (wire_name j) ≡ true
-wire_spelled j h = led_wire (decimal j) (decimal_led j (omega arith)) (all_digits (decimal j) (decimal_names j (omega arith)))
+wire_spelled j h = led_wire (decimal j) (decimal_led j (omega arith)) (all_of is_digit (decimal j) (decimal_names j (omega arith)))
 
 wire_known : (net : Net) (j : ℕ) (known : List (List ℕ)) (a : NodeId) → j ≤ 16777216 → Knows net j known → a.0 < j → (is_wire_name (wire a) && among known (wire a)) ≡ true
 wire_known net j known a few k h = and_from (is_wire_name (wire a)) (among known (wire a)) (wire_spelled a.0 (omega arith)) (k.old a.0 h)

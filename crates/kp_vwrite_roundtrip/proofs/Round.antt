@@ -1,21 +1,11 @@
 -- The round trip.
-use Rattle.std.proofs.Common.{◌≡◌, ◌∙◌, ℕ, ◌+◌, List, [], ◌∷◌, Option, None, ap, subst}
-use Rattle.kp_net.specs.{declared.node.Kind.Kind, declared.node.Node.Node, Names.IsNamed, Netlist.Net, Parts.NetOk, Widths.KindOk}
-use Rattle.kp_net.specs.declared.node.Kind.TheVariants as kinds
+use Rattle.std.proofs.Common.{◌≡◌, ◌∙◌, ℕ, [], ◌∷◌, Option, None, ap, subst}
+use Rattle.kp_net.specs.{Names.IsNamed, Netlist.Net, Parts.NetOk}
 use Rattle.kp_vlog.specs.{declared.tree.VModule.VModule, Canon.canon, Rules.breaks, Rules.broken, Denote.Denotes, Language.MODULE, Language.verilog}
 use Rattle.kp_grammar.specs.Grammar.{Derives, Nonterminal}
-use Rattle.kp_vwrite_roundtrip.proofs.{Lex.placed, Words.net_words, Written.canon_says, Written.RightFrom, Written.all_right}
-use Rattle.kp_vwrite_roundtrip.proofs.{Sentence.Sizes, Sentence.AllSizes, Sentence.sentence, Sentence.Shown, Sentence.whole, NamesHold.names_hold}
-use Rattle.kp_vwrite_roundtrip.proofs.{DriversHold.drivers_hold, WidthsHold.widths_hold, Denoted.same_net}
+use Rattle.kp_vwrite_roundtrip.proofs.{Lex.placed, Words.net_words, Written.canon_says, Written.all_right, Sentence.sentence, Sentence.Shown, Sentence.whole}
+use Rattle.kp_vwrite_roundtrip.proofs.{NamesHold.names_hold, DriversHold.drivers_hold, WidthsHold.widths_hold, Denoted.same_net}
 use Rattle.kp_vlog.specs.Language as lang
-
-size_of : (net : Net) (m k : ℕ) (kind : Kind) → KindOk net.nodes m k kind → Sizes kind
-size_of net m k (kinds.Concat parts) ok = (ok.0, ok.1)
-size_of net m k x ok = tt
-
-all_sizes : (net : Net) (j : ℕ) (ns : List Node) → RightFrom net j ns → AllSizes ns
-all_sizes net j [] k = tt
-all_sizes net j (n ∷ ns) k = (size_of net j n.width n.kind k.0.kind, all_sizes net (j + 1) ns k.2)
 
 none_broken : (a b c : Option ℕ) → a ≡ None → b ≡ None → c ≡ None → breaks 3 a (breaks 4 b (breaks 5 c None)) ≡ None
 none_broken a b c e f g = ap (λ x. breaks 3 x (breaks 4 b (breaks 5 c None))) e ∙ ap (λ x. breaks 4 x (breaks 5 c None)) f ∙ ap (λ x. breaks 5 x None) g
@@ -28,7 +18,7 @@ sound net s k named = none_broken _ _ _ (names_hold net s k named) (widths_hold 
 pub round_from : (at : ℕ) (net : Net) → NetOk net → IsNamed net → Denotes at (canon net) net
 round_from at net k named =
     let says = (canon_says net k named).lexes at in
-    let read = sentence net says.0 (all_sizes net 0 net.nodes (all_right net k)) in
+    let read = sentence net says.0 (all_right net k) in
     let s = read.holds.2.0 in
     let built = read.holds.1 ∙ ap (λ (m : VModule). lang.whole m ∷ []) read.holds.2.1 in
     record {

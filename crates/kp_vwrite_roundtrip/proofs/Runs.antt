@@ -55,7 +55,7 @@ decimal_names = each_decimal is_digit (λ n h. agree_below_at (λ k. is_digit (4
 decimal_tens : (n : ℕ) → n < 2 ^ 64 → Each (λ c. chars.is_digit c 10) (decimal n)
 decimal_tens = each_decimal (λ c. chars.is_digit c 10) (λ n h. agree_below_at (λ k. chars.is_digit (48 + k) 10) (λ _. true) 10 n refl h)
 
-all_of : (p : ℕ → Bool) (xs : List ℕ) → Each p xs → list_all p xs ≡ true
+pub all_of : (p : ℕ → Bool) (xs : List ℕ) → Each p xs → list_all p xs ≡ true
 all_of p [] h = refl
 all_of p (x ∷ xs) h = and_from (p x) (list_all p xs) h.0 (all_of p xs h.1)
 

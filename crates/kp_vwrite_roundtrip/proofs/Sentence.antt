@@ -6,7 +6,8 @@ use Rattle.kp_grammar.specs.{Grammar.Nonterminal, Grammar.Action, Grammar.stay, 
 use Rattle.kp_grammar.proofs.Steps.{Completes, CompletesFrom, went}
 use Rattle.kp_bits.specs.{Word.word, declared.operator.BinOp.BinOp}
 use Rattle.kp_net.specs.declared.{node.NodeId.NodeId, node.Kind.Kind, node.Node.Node, netlist.Port.Port, netlist.WritePort.WritePort, netlist.NetReg.NetReg}
-use Rattle.kp_net.specs.{declared.netlist.NetFile.NetFile, declared.netlist.Parts.Parts, Netlist.Net, Parts.no_port, Parts.no_reg, Parts.no_file, Widths.wide}
+use Rattle.kp_net.specs.{declared.netlist.NetFile.NetFile, declared.netlist.Parts.Parts, Netlist.Net, Parts.no_port, Parts.no_reg, Parts.no_file}
+use Rattle.kp_net.specs.Widths.{wide, KindOk}
 use Rattle.kp_net.specs.declared.node.Kind.TheVariants as kinds
 use Rattle.kp_vlog.specs.declared.token.Keyword.TheVariants as keywords
 use Rattle.kp_vlog.specs.declared.token.Mark.TheVariants as marks
@@ -21,7 +22,7 @@ use Rattle.kp_vlog.specs.declared.tree.Init.TheVariants as starts
 use Rattle.kp_vlog.specs.declared.tree.Update.TheVariants as edges
 use Rattle.kp_vlog.specs.Language as lang
 use Rattle.kp_vwrite_roundtrip.proofs.Words.{port_words, reset_words, sample_words, outs_words, reg_words, file_words, integer_words, sign_mark, more_words, joined_words, right_words, node_words, out_words, start_words, content_words, fill_words, update_words, write_words, writes_words, value_words, body_words, w1, w2, w3, w4, w5, w6, w7, w8, net_words}
-use Rattle.kp_vwrite_roundtrip.proofs.{Lex.placed, Runs.literal_for}
+use Rattle.kp_vwrite_roundtrip.proofs.{Lex.placed, Runs.literal_for, Written.RightFrom}
 
 -- a supply of offsets further on
 abbrev pub shift : ℕ → (ℕ → ℕ) → ℕ → ℕ
@@ -191,15 +192,6 @@ whole {net} s = record {
 abbrev pub IsShown : Net → VModule → Type 0
 IsShown net m = (s : Shown net) × (m ≡ whole s)
 
--- a concatenation has 2 to 12 parts
-abbrev pub Sizes : Kind → Type 0
-Sizes (kinds.Concat parts) = (2 ≤ length parts) × (length parts ≤ 12)
-Sizes _ = Unit {0}
-
-abbrev pub AllSizes : List Node → Type 0
-AllSizes [] = Unit {0}
-AllSizes (n ∷ ns) = Sizes n.kind × AllSizes ns
-
 -- the module at the end, with what it represents
 abbrev pub Built : (VModule → Type 0) → List Value → Type 0
 Built P vs = (m : VModule) × (vs ≡ lang.whole m ∷ []) × P m
@@ -276,31 +268,31 @@ module _ (P : VModule → Type 0) where
   binary_reads p k BinOp.And a b q s vs ws d = goes 6 (d (shift 3 q) _ (a_binary (q 0) (q 2)))
   binary_reads p k x a b q s vs ws d = goes 6 (d (shift 3 q) _ (a_binary (q 0) (q 2)))
 
-  right_reads : (p : Parts) (k : ℕ) (kind : Kind) (q : ℕ → ℕ) (s : List Sym) (vs : List Value) (ws : List Word) → Sizes kind → Continues (ShowsRight p k kind) s vs ws
+  right_reads : (p : Parts) (ns : List Node) (m k : ℕ) (kind : Kind) (q : ℕ → ℕ) (s : List Sym) (vs : List Value) (ws : List Word) → KindOk ns m k kind → Continues (ShowsRight p k kind) s vs ws
       → Reads (N RIGHT ∷ s) vs (placed q (right_words p k kind (mark marks.Semicolon ∷ ws)))
-  right_reads p k (kinds.Const v) q s vs ws z d = goes 3 (d (shift 1 q) _ (a_const (q 0)))
-  right_reads p k kinds.Ext q s vs ws z d = goes 4 (d (shift 1 q) _ (an_ext (q 0)))
-  right_reads p k (kinds.Sample i) q s vs ws z d = goes 4 (d (shift 1 q) _ (a_sample (q 0)))
-  right_reads p k (kinds.Reg i) q s vs ws z d = goes 4 (d (shift 1 q) _ (a_reg (q 0)))
-  right_reads p k (kinds.Word i a) q s vs ws z d = goes 8 (d (shift 4 q) _ (a_word (q 0) (q 2)))
-  right_reads p k (kinds.Not a) q s vs ws z d = goes 4 (d (shift 2 q) _ (a_not (q 1)))
-  right_reads p k (kinds.Binary op a b) q s vs ws z d = binary_reads p k op a b q s vs ws d
-  right_reads p k (kinds.Mux t a b) q s vs ws z d = goes 8 (d (shift 5 q) _ (a_mux (q 0) (q 2) (q 4)))
-  right_reads p k (kinds.Concat parts) q s vs ws z d = concat_reads parts q s vs ws z.0 z.1 (λ q' xs shows. d q' _ (a_concat shows))
-  right_reads p k (kinds.Slice a hi lo) q s vs ws z d = goes 10 (d (shift 6 q) _ (a_slice (q 0) (q 2) (q 4)))
+  right_reads p ns m k (kinds.Const v) q s vs ws z d = goes 3 (d (shift 1 q) _ (a_const (q 0)))
+  right_reads p ns m k kinds.Ext q s vs ws z d = goes 4 (d (shift 1 q) _ (an_ext (q 0)))
+  right_reads p ns m k (kinds.Sample i) q s vs ws z d = goes 4 (d (shift 1 q) _ (a_sample (q 0)))
+  right_reads p ns m k (kinds.Reg i) q s vs ws z d = goes 4 (d (shift 1 q) _ (a_reg (q 0)))
+  right_reads p ns m k (kinds.Word i a) q s vs ws z d = goes 8 (d (shift 4 q) _ (a_word (q 0) (q 2)))
+  right_reads p ns m k (kinds.Not a) q s vs ws z d = goes 4 (d (shift 2 q) _ (a_not (q 1)))
+  right_reads p ns m k (kinds.Binary op a b) q s vs ws z d = binary_reads p k op a b q s vs ws d
+  right_reads p ns m k (kinds.Mux t a b) q s vs ws z d = goes 8 (d (shift 5 q) _ (a_mux (q 0) (q 2) (q 4)))
+  right_reads p ns m k (kinds.Concat parts) q s vs ws z d = concat_reads parts q s vs ws z.0 z.1 (λ q' xs shows. d q' _ (a_concat shows))
+  right_reads p ns m k (kinds.Slice a hi lo) q s vs ws z d = goes 10 (d (shift 6 q) _ (a_slice (q 0) (q 2) (q 4)))
 
   -- more of a list, after what is already there
   abbrev Items : List Sym → List Value → List Word → (ℕ → ℕ) → List Item → Type 0
   Items s vs ws p xs = Reads (N ITEMS ∷ s) (lang.items xs ∷ vs) (placed p ws)
 
-  nodes_read : (pa : Parts) (j : ℕ) (ns : List Node) (p : ℕ → ℕ) (s : List Sym) (vs : List Value) (ws : List Word) (before : List Item) → AllSizes ns
-      → ((p' : ℕ → ℕ) (xs : List Item) → ShowsNodes pa j ns xs → Items s vs ws p' (before ++ xs))
-      → Items s vs (node_words pa j ns ws) p before
-  nodes_read pa j [] p s vs ws before z d = subst (Items s vs ws p) (append-nil before) (d p [] no_node_line)
-  nodes_read pa j (n ∷ ns) p s vs ws before z d =
+  nodes_read : (net : Net) (j : ℕ) (ns : List Node) (p : ℕ → ℕ) (s : List Sym) (vs : List Value) (ws : List Word) (before : List Item) → RightFrom net j ns
+      → ((p' : ℕ → ℕ) (xs : List Item) → ShowsNodes net.parts j ns xs → Items s vs ws p' (before ++ xs))
+      → Items s vs (node_words net.parts j ns ws) p before
+  nodes_read net j [] p s vs ws before z d = subst (Items s vs ws p) (append-nil before) (d p [] no_node_line)
+  nodes_read net j (n ∷ ns) p s vs ws before z d =
       let x = lines.Wire (range_at n.width (p 2) (p 4)) (named_at (wire_name j) (p 6)) in
-      goes 19 (right_reads pa n.width n.kind (shift 11 p) _ _ _ z.0 (λ q r shows. let y = lines.Assign (named_at (wire_name j) (p 9)) r in
-      goes 3 (nodes_read pa (j + 1) ns (shift 1 q) s vs ws ((before ++ x ∷ []) ++ y ∷ []) z.1
+      goes 19 (right_reads net.parts net.nodes j n.width n.kind (shift 11 p) _ _ _ z.0.kind (λ q r shows. let y = lines.Assign (named_at (wire_name j) (p 9)) r in
+      goes 3 (nodes_read net (j + 1) ns (shift 1 q) s vs ws ((before ++ x ∷ []) ++ y ∷ []) z.2
       (λ p' xs h. subst (Items s vs ws p') (sym (append_assoc (before ++ x ∷ []) (y ∷ []) xs ∙ append_assoc before (x ∷ []) (y ∷ xs)))
       (d p' (x ∷ y ∷ xs) (node_line (p 2) (p 4) (p 6) (p 9) shows h))))))
 
@@ -481,8 +473,8 @@ reset_is rs _ _ r (a_reset_port at) (inl h) = absurd (false≢true (sym h.0))
 reset_is rs _ _ r (a_reset_port at) (inr h) = subst (ShowsReset rs true (Some (named_at (codes "rst") at))) (sym h.4) (reset_shown at h.2 h.3)
 
 -- The tokens of a netlist are a sentence, and it builds a module that represents the netlist.
-pub sentence : (net : Net) (p : ℕ → ℕ) → AllSizes net.nodes → Completes verilog tables (Built (IsShown net)) (N MODULE ∷ []) [] (placed p (net_words net))
-sentence net p sizes =
+pub sentence : (net : Net) (p : ℕ → ℕ) → RightFrom net 0 net.nodes → Completes verilog tables (Built (IsShown net)) (N MODULE ∷ []) [] (placed p (net_words net))
+sentence net p right =
     let pa = net.parts in
     let P = IsShown net in
     let full = wide net.nodes pa.full.0 in
@@ -493,7 +485,7 @@ sentence net p sizes =
     goes P 45 (regs_read P pa.regs (shift 28 q1) _ _ (file_words pa.files (integer_words pa.files (w7 net))) [] (λ q2 rs shows_rs.
     files_read P pa.files q2 _ _ (integer_words pa.files (w7 net)) rs (λ q3 fs shows_fs.
     integer_reads P pa.files q3 _ _ (w7 net) (rs ++ fs) (λ q4 is shows_is.
-    nodes_read P pa 0 net.nodes q4 _ _ (w6 pa) ((rs ++ fs) ++ is) sizes (λ q5 ns shows_ns.
+    nodes_read P net 0 net.nodes q4 _ _ (w6 pa) ((rs ++ fs) ++ is) right (λ q5 ns shows_ns.
     out_reads P (codes "full") pa.full q5 _ _ (w5 pa) (((rs ++ fs) ++ is) ++ ns)
     (out_reads P (codes "ue") pa.ue (shift 5 q5) _ _ (w4 pa) _
     (out_reads P (codes "back") pa.back (shift 10 q5) _ _ (w3 pa) _
