@@ -24,64 +24,14 @@ decoded n = find (λ c. number c == n) all_classes
 
 coded : (c : TokenClass) → decoded (number c) ≡ Some c
 coded (classes.Keyword keywords.Machine) = refl
-coded (classes.Keyword keywords.Stages) = refl
-coded (classes.Keyword keywords.Reg) = refl
-coded (classes.Keyword keywords.File) = refl
-coded (classes.Keyword keywords.Pipe) = refl
-coded (classes.Keyword keywords.Result) = refl
-coded (classes.Keyword keywords.Hint) = refl
-coded (classes.Keyword keywords.Fn) = refl
-coded (classes.Keyword keywords.Stage) = refl
-coded (classes.Keyword keywords.Read) = refl
-coded (classes.Keyword keywords.Let) = refl
-coded (classes.Keyword keywords.Put) = refl
-coded (classes.Keyword keywords.Set) = refl
-coded (classes.Keyword keywords.Aim) = refl
-coded (classes.Keyword keywords.Image) = refl
-coded (classes.Keyword keywords.Stalls) = refl
-coded (classes.Keyword keywords.End) = refl
-coded (classes.Keyword keywords.At) = refl
-coded (classes.Keyword keywords.When) = refl
-coded (classes.Keyword keywords.Guess) = refl
-coded (classes.Keyword keywords.From) = refl
-coded (classes.Keyword keywords.To) = refl
-coded (classes.Keyword keywords.Step) = refl
-coded (classes.Keyword keywords.Zext) = refl
-coded (classes.Keyword keywords.Sext) = refl
-coded (classes.Keyword keywords.Sample) = refl
-coded (classes.Keyword keywords.Inputs) = refl
 coded (classes.Mark marks.Semicolon) = refl
-coded (classes.Mark marks.Colon) = refl
-coded (classes.Mark marks.Comma) = refl
-coded (classes.Mark marks.Equals) = refl
-coded (classes.Mark marks.Arrow) = refl
-coded (classes.Mark marks.OpenParenthesis) = refl
-coded (classes.Mark marks.CloseParenthesis) = refl
-coded (classes.Mark marks.OpenBracket) = refl
-coded (classes.Mark marks.CloseBracket) = refl
-coded (classes.Mark marks.OpenBrace) = refl
-coded (classes.Mark marks.CloseBrace) = refl
-coded (classes.Mark marks.Question) = refl
-coded (classes.Mark marks.Tilde) = refl
-coded (classes.Mark marks.Star) = refl
-coded (classes.Mark marks.Plus) = refl
-coded (classes.Mark marks.Minus) = refl
-coded (classes.Mark marks.Ampersand) = refl
-coded (classes.Mark marks.Caret) = refl
-coded (classes.Mark marks.Bar) = refl
-coded (classes.Mark marks.Less) = refl
-coded (classes.Mark marks.ShiftLeft) = refl
-coded (classes.Mark marks.ShiftRight) = refl
-coded (classes.Mark marks.EqualsEquals) = refl
-coded classes.Name = refl
-coded classes.Number = refl
-coded classes.Literal = refl
+coded _ = refl
 
 same_class : (a b : TokenClass) → number a ≡ number b → a ≡ b
 same_class a b e = cc (coded a, coded b, ap decoded e)
 
 -- the index of a class
-indexed : (c : TokenClass) → (k : ℕ) × (slice_get all_classes k ≡ Some c)
+pub indexed : (c : TokenClass) → (k : ℕ) × (slice_get all_classes k ≡ Some c)
 indexed c =
     let test : TokenClass → Bool = λ d. number d == number c in
     (position_or_len test all_classes, sym (find_at test all_classes) ∙ coded c)
@@ -96,10 +46,7 @@ token_of (classes.Mark m) = kinds.Mark m
 
 token_is : (c : TokenClass) → class_of (token_of c) ≡ c
 token_is classes.Name = refl
-token_is classes.Number = refl
-token_is classes.Literal = refl
-token_is (classes.Keyword k) = refl
-token_is (classes.Mark m) = refl
+token_is _ = refl
 
 abbrev lexeme : Place → TokenClass → Lexeme
 lexeme p c = record { kind = token_of c; place = p; bytes = [] }

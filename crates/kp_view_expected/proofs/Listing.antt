@@ -2,7 +2,7 @@
 use Rattle.std.specs.Prelude.{ℕ, zero, suc, ◌+◌, ◌<◌, ◌≤◌, ◌≡◌, ◌==◌, List, [], ◌∷◌, ◌++◌, drop, length, All, Bool, true, false, not, ◌&&◌, ◌||◌, if◌then◌else◌, Option, Some, None, codes, ◌-◌, is_some}
 use Rattle.std.specs.Str.{IsUtf8}
 use Rattle.std.proofs.Common.{refl, sym, ap, subst, ◌∙◌, append_assoc, get_or, inl, inr, arith, rules}
-use Rattle.std.proofs.{Math.Seq.drop-cons, lemmas.Bool.Decides.eqb_tells, lemmas.Str.IsUtf8-from_ascii, lemmas.Str.Ascii.IsAscii-from_all}
+use Rattle.std.proofs.{Math.Seq.drop-cons, lemmas.List.at_drop_all, lemmas.Bool.Decides.eqb_tells, lemmas.Str.IsUtf8-from_ascii, lemmas.Str.Ascii.IsAscii-from_all}
 use Rattle.kp_lex.specs.{Words.spelling, declared.token.Keyword.Keyword}
 use Rattle.kp_lex.specs.declared.token.Keyword.TheVariants as keywords
 use Rattle.kp_view_expected.specs.{declared.token_class.TokenClass.TokenClass, declared.display.Group.Group, declared.display.Thing.Thing, GoesOn.all_classes}
@@ -24,16 +24,10 @@ things_step g cs bs i c b h k =
     (ap (λ (n : ℕ). before_these (if get_or bs i b then thing_of g (get_or cs i c) else None) (things g (drop n cs) (drop n bs))) e)
 
 pub all_of_end : (g : Group) (cs : List TokenClass) (bs : List Bool) (i : ℕ) → length cs ≤ i → all_of g (drop i cs) bs ≡ true
-all_of_end g [] bs zero h = refl
-all_of_end g [] bs (suc i) h = refl
-all_of_end g (c ∷ cs) bs zero h = absurd (omega arith)
-all_of_end g (c ∷ cs) bs (suc i) h = all_of_end g cs bs i (omega arith)
+all_of_end g cs bs i h = at_drop_all (λ xs. all_of g xs bs) cs i h
 
 pub things_end : (g : Option Group) (cs : List TokenClass) (bs : List Bool) (i : ℕ) → length cs ≤ i → things g (drop i cs) bs ≡ []
-things_end g [] bs zero h = refl
-things_end g [] bs (suc i) h = refl
-things_end g (c ∷ cs) bs zero h = absurd (omega arith)
-things_end g (c ∷ cs) bs (suc i) h = things_end g cs bs i (omega arith)
+things_end g cs bs i h = at_drop_all (λ xs. things g xs bs) cs i h
 
 more_than_one : (n : ℕ) → (suc (suc n) == 1) ≡ false
 more_than_one n = elim (eqb_tells (suc (suc n)) 1) [ inl p ↦ absurd (omega (arith, p.1)) | inr q ↦ q.0 ]
@@ -134,29 +128,4 @@ keyword_is_text k = IsUtf8-from_ascii (spelling k) (IsAscii-from_all (spelling k
   where
     small : (k : Keyword) → All (λ (b : ℕ). b < 128) (spelling k)
     small keywords.Machine = search rules
-    small keywords.Stages = search rules
-    small keywords.Reg = search rules
-    small keywords.File = search rules
-    small keywords.Pipe = search rules
-    small keywords.Result = search rules
-    small keywords.Hint = search rules
-    small keywords.Fn = search rules
-    small keywords.Stage = search rules
-    small keywords.Read = search rules
-    small keywords.Let = search rules
-    small keywords.Put = search rules
-    small keywords.Set = search rules
-    small keywords.Aim = search rules
-    small keywords.Image = search rules
-    small keywords.Stalls = search rules
-    small keywords.End = search rules
-    small keywords.At = search rules
-    small keywords.When = search rules
-    small keywords.Guess = search rules
-    small keywords.From = search rules
-    small keywords.To = search rules
-    small keywords.Step = search rules
-    small keywords.Zext = search rules
-    small keywords.Sext = search rules
-    small keywords.Sample = search rules
-    small keywords.Inputs = search rules
+    small _ = search rules

@@ -1,11 +1,12 @@
 -- A class is in a set exactly where the list for the set names it.
 use Rattle.std.specs.Prelude.{ℕ, zero, suc, ◌≡◌, ◌↔◌, List, [], ◌∷◌, length, slice_get, Bool, true, false, not, ◌&&◌, if◌then◌else◌, Option, Some, None}
 use Rattle.std.proofs.Common.{refl, sym, ap, subst, ◌∙◌, arith}
-use Rattle.kp_lex.specs.declared.token.Keyword.TheVariants as keywords
+use Rattle.std.proofs.lemmas.Bool.{and_parts}
 use Rattle.kp_lex.specs.declared.token.Mark.TheVariants as marks
 use Rattle.kp_view_expected.specs.declared.{token_class.TokenClass.TokenClass, set.Expected.Expected, display.Group.Group, display.Thing.Thing}
 use Rattle.kp_view_expected.specs.GoesOn.{all_classes, Lists}
 use Rattle.kp_view_expected.specs.Texts.{in_group, is_last, all_of, has_all, group_of, thing_of, things, before_these, Names, IsNamed}
+use Rattle.kp_view_expected.proofs.Exact.{indexed}
 use Rattle.kp_view_expected.specs.declared.token_class.TokenClass.TheVariants as classes
 use Rattle.kp_view_expected.specs.declared.display.Group.TheVariants as groups
 use Rattle.kp_view_expected.specs.declared.display.Thing.TheVariants as thing
@@ -65,67 +66,7 @@ of_group g (d ∷ cs) (false ∷ bs) zero c size all within p =
     let not_all = subst (λ (x : Bool). (not x && all_of g cs bs) ≡ true) has all in
     absurd (cc)
 of_group g (d ∷ cs) (true ∷ bs) (suc k) c size all within p = of_group g cs bs k c (omega (arith, size)) all within p
-of_group g (d ∷ cs) (false ∷ bs) (suc k) c size all within p = of_group g cs bs k c (omega (arith, size)) (later (not (in_group g d)) (all_of g cs bs) all) within p
-  where
-    later : (a b : Bool) → (a && b) ≡ true → b ≡ true
-    later true b h = h
-    later false b h = absurd (cc)
-
--- where each class is among all classes
-place_of : (c : TokenClass) → (k : ℕ) × (slice_get all_classes k ≡ Some c)
-place_of (classes.Keyword keywords.Machine) = (0, refl)
-place_of (classes.Keyword keywords.Stages) = (1, refl)
-place_of (classes.Keyword keywords.Reg) = (2, refl)
-place_of (classes.Keyword keywords.File) = (3, refl)
-place_of (classes.Keyword keywords.Pipe) = (4, refl)
-place_of (classes.Keyword keywords.Result) = (5, refl)
-place_of (classes.Keyword keywords.Hint) = (6, refl)
-place_of (classes.Keyword keywords.Fn) = (7, refl)
-place_of (classes.Keyword keywords.Stage) = (8, refl)
-place_of (classes.Keyword keywords.Read) = (9, refl)
-place_of (classes.Keyword keywords.Let) = (10, refl)
-place_of (classes.Keyword keywords.Put) = (11, refl)
-place_of (classes.Keyword keywords.Set) = (12, refl)
-place_of (classes.Keyword keywords.Aim) = (13, refl)
-place_of (classes.Keyword keywords.Image) = (14, refl)
-place_of (classes.Keyword keywords.Stalls) = (15, refl)
-place_of (classes.Keyword keywords.End) = (16, refl)
-place_of (classes.Keyword keywords.At) = (17, refl)
-place_of (classes.Keyword keywords.When) = (18, refl)
-place_of (classes.Keyword keywords.Guess) = (19, refl)
-place_of (classes.Keyword keywords.From) = (20, refl)
-place_of (classes.Keyword keywords.To) = (21, refl)
-place_of (classes.Keyword keywords.Step) = (22, refl)
-place_of (classes.Keyword keywords.Zext) = (23, refl)
-place_of (classes.Keyword keywords.Sext) = (24, refl)
-place_of (classes.Keyword keywords.Sample) = (25, refl)
-place_of (classes.Keyword keywords.Inputs) = (26, refl)
-place_of (classes.Mark marks.Semicolon) = (27, refl)
-place_of (classes.Mark marks.Colon) = (28, refl)
-place_of (classes.Mark marks.Comma) = (29, refl)
-place_of (classes.Mark marks.Equals) = (30, refl)
-place_of (classes.Mark marks.Arrow) = (31, refl)
-place_of (classes.Mark marks.OpenParenthesis) = (32, refl)
-place_of (classes.Mark marks.CloseParenthesis) = (33, refl)
-place_of (classes.Mark marks.OpenBracket) = (34, refl)
-place_of (classes.Mark marks.CloseBracket) = (35, refl)
-place_of (classes.Mark marks.OpenBrace) = (36, refl)
-place_of (classes.Mark marks.CloseBrace) = (37, refl)
-place_of (classes.Mark marks.Question) = (38, refl)
-place_of (classes.Mark marks.Tilde) = (39, refl)
-place_of (classes.Mark marks.Star) = (40, refl)
-place_of (classes.Mark marks.Plus) = (41, refl)
-place_of (classes.Mark marks.Minus) = (42, refl)
-place_of (classes.Mark marks.Ampersand) = (43, refl)
-place_of (classes.Mark marks.Caret) = (44, refl)
-place_of (classes.Mark marks.Bar) = (45, refl)
-place_of (classes.Mark marks.Less) = (46, refl)
-place_of (classes.Mark marks.ShiftLeft) = (47, refl)
-place_of (classes.Mark marks.ShiftRight) = (48, refl)
-place_of (classes.Mark marks.EqualsEquals) = (49, refl)
-place_of classes.Name = (50, refl)
-place_of classes.Number = (51, refl)
-place_of classes.Literal = (52, refl)
+of_group g (d ∷ cs) (false ∷ bs) (suc k) c size all within p = of_group g cs bs k c (omega (arith, size)) (and_parts (not (in_group g d)) (all_of g cs bs) all).1 within p
 
 abbrev last : Group → TokenClass
 last groups.Expression = classes.Literal
@@ -134,13 +75,11 @@ last groups.OtherOperator = classes.Mark marks.ShiftRight
 
 last_within : (g : Group) → in_group g (last g) ≡ true
 last_within groups.Expression = refl
-last_within groups.Operator = refl
-last_within groups.OtherOperator = refl
+last_within _ = refl
 
 last_listed : (g : Group) → thing_of (Some g) (last g) ≡ Some (thing.Group g)
 last_listed groups.Expression = refl
-last_listed groups.Operator = refl
-last_listed groups.OtherOperator = refl
+last_listed _ = refl
 
 -- the group that is listed is in the set
 group_has : (e : Expected) (g : Group) → group_of e ≡ Some g → has_all e g ≡ true
@@ -187,7 +126,7 @@ module _ (e : Expected) (size : length e.listed ≡ 53) where
       with_group : (g : Group) → group_of e ≡ Some g → (b : Bool) → in_group g c ≡ b → IsNamed e c
       with_group g is false out = alone_in (Some g) is (alone g c out)
       with_group g is true within =
-          let place = place_of (last g) in
+          let place = indexed (last g) in
           let has = of_group g all_classes e.listed place.0 (last g) size (group_has e g is) (last_within g) place.1 in
           let found = listed_for (Some g) all_classes e.listed (last g) (thing.Group g) (last_listed g) place.0 place.1 has in
           (thing.Group g, subst (λ (h : Option Group). In (things h all_classes e.listed) (thing.Group g)) (sym is) found, within)
@@ -202,7 +141,7 @@ module _ (e : Expected) (size : length e.listed ≡ 53) where
       by : (t : Thing) → Names t c → (d : TokenClass) → At all_classes e.listed d → thing_of (group_of e) d ≡ Some t → Lists e c
       by (thing.Class b) same d at is = subst (λ (x : TokenClass). At all_classes e.listed x) (listed_class (group_of e) d b is ∙ same) at
       by (thing.Group g) within d at is =
-          let place = place_of c in
+          let place = indexed c in
           let has = group_has e g (listed_group (group_of e) d g is) in
           (place.0, place.1, of_group g all_classes e.listed place.0 c size has within place.1)
 

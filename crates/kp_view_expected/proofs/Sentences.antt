@@ -1,7 +1,7 @@
 -- Each list of symbols has a sentence.
 use Rattle.std.specs.Prelude.{⊤, find}
 use Rattle.std.proofs.Common.{ℕ, zero, suc, ◌≡◌, ◌==◌, List, [], ◌∷◌, ◌++◌, map, Bool, true, false, ◌&&◌, Option, Some, None, refl, ap, subst}
-use Rattle.std.proofs.lemmas.{Bool.eqb-true, List.append_assoc}
+use Rattle.std.proofs.lemmas.{Bool.and_parts, Bool.eqb-true, List.append_assoc}
 use Rattle.kp_grammar.specs.Grammar.{Terminal, Nonterminal, Action, alternatives, stay, expand, read, build}
 use Rattle.kp_grammar.specs.Tables.{choose, pick}
 use Rattle.kp_grammar.proofs.Check.{picks_rule}
@@ -11,7 +11,6 @@ use Rattle.kp_view_expected.specs.GoesOn.{all_classes}
 use Rattle.kp_view_expected.specs.inner.Plain.{Plain, number, name, plain, plain_symbol, Steps}
 use Rattle.kp_view_expected.specs.declared.part.Part.TheVariants as parts
 use Rattle.kp_view_expected.specs.declared.part.Symbol.TheVariants as symbols
-use Rattle.kp_view_expected.proofs.Tests.{and_true}
 
 abbrev and_then : {A : Type 0} → Option A → (A → Bool) → Bool
 and_then None go = false
@@ -34,7 +33,7 @@ HasSentence s = (cs : List TokenClass) × Steps s cs [] []
 at_token : (c : ℕ) (way : ⊤) (s : List Plain) (go : Bool) (o : Option TokenClass) → and_then o (λ x. (number x == c) && go) ≡ true → (go ≡ true → HasSentence s) → HasSentence (Terminal c way ∷ s)
 at_token c way s go None h rest = cc h
 at_token c way s go (Some x) h rest =
-    let p = and_true (number x == c) go h in let r = rest p.1 in (x ∷ r.0, read (eqb-true (number x) c p.0) r.1)
+    let p = and_parts (number x == c) go h in let r = rest p.1 in (x ∷ r.0, read (eqb-true (number x) c p.0) r.1)
 
 at_name : (n : ℕ) (s : List Plain) (go : List Plain → Bool) (o : Option (List Plain)) → pick plain.rules tables n LITERAL ≡ o → and_then o go ≡ true
     → ((b : List Plain) → go b ≡ true → HasSentence (b ++ s)) → HasSentence (Nonterminal n ∷ s)
@@ -58,58 +57,7 @@ beside (build {a = a} d) e = elim a [ ]
 
 ends_all : (p : Part) → ends 60 (Nonterminal (name p) ∷ []) ≡ true
 ends_all parts.Job = refl
-ends_all parts.Declarations = refl
-ends_all parts.Declaration = refl
-ends_all parts.Index = refl
-ends_all parts.Enable = refl
-ends_all parts.Parameter = refl
-ends_all parts.MoreParameters = refl
-ends_all parts.Stage = refl
-ends_all parts.MoreStages = refl
-ends_all parts.Statements = refl
-ends_all parts.Statement = refl
-ends_all parts.Binding = refl
-ends_all parts.Address = refl
-ends_all parts.Hedge = refl
-ends_all parts.When = refl
-ends_all parts.Whole = refl
-ends_all parts.Image = refl
-ends_all parts.Entries = refl
-ends_all parts.Entry = refl
-ends_all parts.Numbered = refl
-ends_all parts.MoreLiterals = refl
-ends_all parts.Stalls = refl
-ends_all parts.Spans = refl
-ends_all parts.Span = refl
-ends_all parts.Step = refl
-ends_all parts.Inputs = refl
-ends_all parts.Samples = refl
-ends_all parts.Sample = refl
-ends_all parts.Extended = refl
-ends_all parts.Expression = refl
-ends_all parts.Choice = refl
-ends_all parts.Unary = refl
-ends_all parts.Postfix = refl
-ends_all parts.Slices = refl
-ends_all parts.Low = refl
-ends_all parts.Primary = refl
-ends_all parts.Call = refl
-ends_all parts.Expressions = refl
-ends_all parts.MoreExpressions = refl
-ends_all parts.Or = refl
-ends_all parts.Xor = refl
-ends_all parts.And = refl
-ends_all parts.Compare = refl
-ends_all parts.Shift = refl
-ends_all parts.Sum = refl
-ends_all parts.Product = refl
-ends_all parts.MoreOr = refl
-ends_all parts.MoreXor = refl
-ends_all parts.MoreAnd = refl
-ends_all parts.MoreCompare = refl
-ends_all parts.MoreShift = refl
-ends_all parts.MoreSum = refl
-ends_all parts.MoreProduct = refl
+ends_all _ = refl
 
 no_then : {A : Type 0} (o : Option A) (go : A → Bool) → o ≡ None → and_then o go ≡ true → ⊥
 no_then None go e h = cc h

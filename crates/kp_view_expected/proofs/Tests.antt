@@ -1,6 +1,6 @@
 -- What holds of each alternative of the grammar, by computation.
 use Rattle.std.proofs.Common.{ℕ, suc, ◌≡◌, ◌==◌, ◌≤◌, ◌<◌, ◌+◌, List, [], ◌∷◌, ◌++◌, Bool, true, false, not, cond, ◌||◌, ◌&&◌, Option, Some, refl, subst, arith}
-use Rattle.std.proofs.lemmas.Bool.{eqb-true, ltb-true}
+use Rattle.std.proofs.lemmas.Bool.{and_parts, eqb-true, ltb-true}
 use Rattle.std.specs.Prelude.{nat_lt}
 use Rattle.kp_grammar.specs.Grammar.{Terminal, Nonterminal, Action, alternatives, Has, here, there}
 use Rattle.kp_grammar.specs.Tables.{among, empty_of, firsts, vanishes, choose, pick, IsPredictive}
@@ -8,10 +8,6 @@ use Rattle.kp_grammar.proofs.Check.{picks_rule}
 use Rattle.kp_parse_grammar.specs.{Language.JOB, inner.Follow.tables}
 use Rattle.kp_parse_grammar.proofs.Ranked.{rank}
 use Rattle.kp_view_expected.specs.inner.Plain.{Plain, plain, is_solid}
-
-pub and_true : (a b : Bool) → (a && b) ≡ true → (a ≡ true) × (b ≡ true)
-and_true true b h = (refl, h)
-and_true false b h = cc
 
 pub predictive : IsPredictive plain tables JOB
 predictive = record { fits = refl; ends = refl }
@@ -40,8 +36,8 @@ rules_fit = refl
 
 body_fits : (n : ℕ) (b : List Plain) (bs : List (List Plain)) → Has b bs → bodies_fit n bs ≡ true → fits n b ≡ true
 body_fits n b [] m h = elim m [ ]
-body_fits n b (c ∷ bs) here h = (and_true (fits n c) (bodies_fit n bs) h).0
-body_fits n b (c ∷ bs) (there m) h = body_fits n b bs m (and_true (fits n c) (bodies_fit n bs) h).1
+body_fits n b (c ∷ bs) here h = (and_parts (fits n c) (bodies_fit n bs) h).0
+body_fits n b (c ∷ bs) (there m) h = body_fits n b bs m (and_parts (fits n c) (bodies_fit n bs) h).1
 
 entry_fits : (m n : ℕ) (b rest : List (List Plain)) (a : Bool) → (m == n) ≡ a → bodies_fit m b ≡ true → bodies_fit n rest ≡ true → bodies_fit n (cond a b rest) ≡ true
 entry_fits m n b rest true e p q = subst (λ (k : ℕ). bodies_fit k b ≡ true) (eqb-true m n e) p
@@ -50,7 +46,7 @@ entry_fits m n b rest false e p q = q
 entries_fit : (rs : List (ℕ × List (List Plain))) (n : ℕ) → all_fit rs ≡ true → bodies_fit n (alternatives rs n) ≡ true
 entries_fit [] n h = refl
 entries_fit (r ∷ rs) n h =
-    let p = and_true (bodies_fit r.0 r.1) (all_fit rs) h in
+    let p = and_parts (bodies_fit r.0 r.1) (all_fit rs) h in
     entry_fits r.0 n r.1 (alternatives rs n) (r.0 == n) refl p.0 (entries_fit rs n p.1)
 
 each_fits : (n : ℕ) (b : List Plain) → Has b (alternatives plain.rules n) → fits n b ≡ true
@@ -58,8 +54,8 @@ each_fits n b m = body_fits n b (alternatives plain.rules n) m (entries_fit plai
 
 pub solid : (n : ℕ) (b : List Plain) → Has b (alternatives plain.rules n) → is_solid b ≡ true
 solid n b m =
-    let p = and_true (nat_lt (work b) (suc (rank n))) ((not (vanishes tables b) || empty_of tables n) && is_solid b) (each_fits n b m) in
-    (and_true (not (vanishes tables b) || empty_of tables n) (is_solid b) p.1).1
+    let p = and_parts (nat_lt (work b) (suc (rank n))) ((not (vanishes tables b) || empty_of tables n) && is_solid b) (each_fits n b m) in
+    (and_parts (not (vanishes tables b) || empty_of tables n) (is_solid b) p.1).1
 
 more_work : (e v : Bool) (r x y z : ℕ) → x ≤ y + cond v z 0 → suc r + cond e x 0 ≤ (suc r + cond e y 0) + cond (e && v) z 0
 more_work true v r x y z h = omega (arith, h)
@@ -81,8 +77,8 @@ less false false r x y z f g h = omega (arith, g, h)
 pub lighter : (n c : ℕ) (b s : List Plain) → pick plain.rules tables n c ≡ Some b → work (b ++ s) < work (Nonterminal n ∷ s)
 lighter n c b s e =
     let q = each_fits n b (picks_rule plain.rules tables n c b e) in
-    let p = and_true (nat_lt (work b) (suc (rank n))) ((not (vanishes tables b) || empty_of tables n) && is_solid b) q in
-    let f = (and_true (not (vanishes tables b) || empty_of tables n) (is_solid b) p.1).0 in
+    let p = and_parts (nat_lt (work b) (suc (rank n))) ((not (vanishes tables b) || empty_of tables n) && is_solid b) q in
+    let f = (and_parts (not (vanishes tables b) || empty_of tables n) (is_solid b) p.1).0 in
     less (vanishes tables b) (empty_of tables n) (rank n) (work (b ++ s)) (work b) (work s) f (ltb-true _ _ p.0) (work-append b s)
 
 -- the first alternative that begins with the class, else the last one, or d where there is none

@@ -14,10 +14,7 @@ classes_of ts = map (λ (t : Lexeme). class_of t.kind) ts
 
 pub number_class : (k : TokenKind) → number (class_of k) ≡ kind_class k
 number_class kinds.Ident = refl
-number_class (kinds.Number n) = refl
-number_class (kinds.Literal l) = refl
-number_class (kinds.Keyword k) = refl
-number_class (kinds.Mark m) = refl
+number_class _ = refl
 
 stripped-append : (a b : List Sym) → stripped (a ++ b) ≡ stripped a ++ stripped b
 stripped-append [] b = refl
