@@ -1,5 +1,6 @@
 -- What a port shows or takes exists.
 use Rattle.std.proofs.Common.{◌≡◌, ℕ, suc, ◌+◌, ◌<◌, ◌≤◌, Bool, true, false, cond, ◌&&◌, ◌==◌, not, List, [], ◌∷◌, length, get_or, Option, Some, None, Result, Ok, Err, refl, sym, ap, subst, ◌∙◌, arith}
+use Rattle.std.proofs.lemmas.Bool.{and_parts, not-true}
 use Rattle.std.specs.{Prelude.IfOk, Prelude.IfSome, Str.bytes_eq}
 use Rattle.kp_ast.specs.declared.tree.{Decl.Decl, Job.Job}
 use Rattle.kp_machine.specs.Slots.{Slot, targets_of, pipes_of, is_register}
@@ -13,10 +14,6 @@ use Rattle.kp_core_ports.specs.declared.port.PipeVerb.TheVariants as pipes
 either : {A : Type 0} (b : Bool) → (b ≡ true → A) → (b ≡ false → A) → A
 either true f g = f refl
 either false f g = g refl
-
-right_of : (a b : Bool) → (a && b) ≡ true → b ≡ true
-right_of true b h = h
-right_of false b h = cc h
 
 some_is : (a b : ℕ) → Some a ≡ Some b → a ≡ b
 some_is a b e = cc e
@@ -40,13 +37,9 @@ target_found register n t (s ∷ ss) name e =
     let b : Bool = bytes_eq s.name name && is_of register s.address in
     let rest : Option ℕ = target_from register (n + 1) ss name in
     either b
-    (λ on. target_at_first register n t s ss (right_of (bytes_eq s.name name) (is_of register s.address) on)
+    (λ on. target_at_first register n t s ss (and_parts (bytes_eq s.name name) (is_of register s.address) on).1
     (some_is n t (ap (λ (c : Bool). cond c (Some n) rest) (sym on) ∙ e)))
     (λ off. target_behind register n t s ss (target_found register (n + 1) t ss name (ap (λ (c : Bool). cond c (Some n) rest) (sym off) ∙ e)))
-
-not_true : (b : Bool) → not b ≡ true → b ≡ false
-not_true true h = sym h
-not_true false h = refl
 
 file_exists : (job : Job) (name : List ℕ) (t : ℕ) → target_from false 0 (targets_of job.decls) name ≡ Some t
     → (t < length (targets_of job.decls)) × (is_register (target_at job t) ≡ false)
@@ -54,7 +47,7 @@ file_exists job name t e =
     let f = target_found false 0 t (targets_of job.decls) name e in
     let same : t ≡ f.index = let a = f.number in omega (arith, a) in
     subst (λ (u : ℕ). (u < length (targets_of job.decls)) × (is_register (target_at job u) ≡ false)) (sym same)
-    (f.there, not_true ((get_or (targets_of job.decls) f.index no_slot).address == 0) f.kind)
+    (f.there, not-true ((get_or (targets_of job.decls) f.index no_slot).address == 0) f.kind)
 
 pub target_exists : (job : Job) (verb : TargetVerb) (name : List ℕ) (t : ℕ) → target_from (asks_register verb) 0 (targets_of job.decls) name ≡ Some t
     → Exists job (target_ask verb t)
