@@ -1,5 +1,5 @@
 -- Each name that a job declares has an index in its tables.
-use Rattle.std.proofs.Common.{◌≡◌, ◌∙◌, ℕ, zero, suc, ◌+◌, ◌<◌, List, [], ◌∷◌, ◌++◌, map, Some, None, Bool, true, false, cond, not, ◌||◌, nat_eq, length, refl, ap, sym, arith, ⊎_elim}
+use Rattle.std.proofs.Common.{◌≡◌, ◌∙◌, ℕ, zero, suc, ◌+◌, ◌<◌, List, [], ◌∷◌, ◌++◌, map, Some, None, Bool, true, false, cond, not, ◌||◌, nat_eq, length, ap, sym, arith, ⊎_elim}
 use Rattle.std.proofs.lemmas.{Bool.or_cases, Bool.or_left, Bool.or_right, Bool.lt-ltb, List.Folds.list_any-append}
 use Rattle.std.specs.{Prelude.is_some, Prelude.slice_get, List.list_any, List.flat_map, List.position, List.position_or_len}
 use Rattle.std.specs.Cmp.Lexicographic.{pointwise, bytes_decides}

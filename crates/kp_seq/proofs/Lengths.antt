@@ -1,5 +1,5 @@
 -- No step of an instruction changes how many names, pipes and results there are, or how many words a target has.
-use Rattle.std.proofs.Common.{◌≡◌, ◌∙◌, ℕ, List, [], ◌∷◌, Option, Some, None, Bool, true, false, cond, length, replicate, refl}
+use Rattle.std.proofs.Common.{◌≡◌, ◌∙◌, ℕ, List, [], ◌∷◌, Option, Some, None, length, replicate, refl}
 use Rattle.std.proofs.lemmas.{Bool.cond_both, List.length-set, List.length-replicate}
 use Rattle.std.specs.List.{position}
 use Rattle.kp_bits.specs.Word.{Word}

@@ -3,15 +3,15 @@ use Rattle.std.proofs.Common.{◌≡◌, ◌∙◌, ℕ, zero, suc, ◌+◌, ◌
 use Rattle.std.proofs.lemmas.{Bool.and_parts, Bool.leb-true, Bool.ltb-true, List.length-append, List.length-map, List.length-replicate, List.ext_get_or}
 use Rattle.std.proofs.lemmas.{List.Sums.sum_by-cons, Option.get_or_from_slice_get, Option.slice_get_within}
 use Rattle.std.specs.Prelude.{is_some, slice_get, unwrap_or, sum_by, nat_le, nat_lt}
-use Rattle.kp_base.specs.{First.first, Check.ok, Check.◌>>=◌, Refusal.e_rule}
+use Rattle.kp_base.specs.{First.first, Refusal.e_rule}
 use Rattle.kp_bits.specs.Word.{Word}
 use Rattle.kp_ast.specs.declared.tree.{ResultDecl.ResultDecl, Decl.Decl, Block.Block, Stmt.Stmt, StmtKind.StmtKind, Job.Job}
 use Rattle.kp_ast.specs.declared.tree.Decl.TheVariants as decls
 use Rattle.kp_ast.specs.declared.tree.StmtKind.TheVariants as stmts
 use Rattle.kp_ast.specs.declared.widths.Scope.TheVariants as scopes
-use Rattle.kp_width.specs.{Names.Scoped, Names.nothing, Names.opened, Declarations.declarations_of, Declarations.address_width}
-use Rattle.kp_width.specs.{Statements.statements_of, Statements.blocks_of, Widths.widths_of}
-use Rattle.kp_width.proofs.Unbroken.{Unbroken, bind_unbroken}
+use Rattle.kp_width.specs.{Names.Scoped, Names.nothing, Names.opened, Declarations.address_width}
+use Rattle.kp_width.specs.{Statements.statements_of, Widths.widths_of}
+use Rattle.kp_width.proofs.Unbroken.{Unbroken}
 use Rattle.kp_stage.specs.{Counts.summary_of, Counts.reads_of, Counts.reads_in, Facts.facts_of, Facts.stmts_in, Rules.ask_stmts, Rules.all_rules}
 use Rattle.kp_stage.specs.{Stages.broken_of, Start.AreSamples}
 use Rattle.kp_stage.proofs.Unbroken.{answer_none}
@@ -29,7 +29,7 @@ use Rattle.kp_seq.specs.inner.Steps.{Under, begun, entered, address_by, after_st
 use Rattle.kp_seq.specs.inner.{Ready.AreTables, Ready.HasPlaces, Ready.IsNoted, Fits.FitSlots}
 use Rattle.kp_seq.specs.inner.Steps as steps
 use Rattle.kp_seq.proofs.{Entering.enters, Keys.pipe_placed, Keys.sample_placed, Keys.keyed}
-use Rattle.kp_seq.proofs.{Written.Ended, Written.begun_ended, Written.enabled_same, Written.address_same, Written.address_fits, Lengths.begun_same}
+use Rattle.kp_seq.proofs.{Written.Ended, Written.enabled_same, Written.address_same, Written.address_fits}
 use Rattle.kp_seq.proofs.Step.{Reached, block_end, by_blocks, all_ended}
 use Rattle.kp_seq.proofs.Noted.{put_reads, put_both, put_count, all_put, changed_at, changed_count, seen, seen_first, first_below, narrowed_is}
 use Rattle.kp_seq.proofs.{Low.target_low, Asked.after_reads, Asked.all_asked, Asked.low_fits}

@@ -1,5 +1,5 @@
 -- What an instruction does by the resolved job, in numbers, is what it does by the job.
-use Rattle.std.proofs.Common.{◌≡◌, ◌∙◌, ℕ, zero, suc, ◌+◌, ◌^◌, ◌<◌, ◌≤◌, List, [], ◌∷◌, ◌++◌, Option, Some, None, Bool, true, false, cond, length, set, take, get_or, replicate, refl, ap, sym, subst, arith, ⊎_elim}
+use Rattle.std.proofs.Common.{◌≡◌, ◌∙◌, ℕ, zero, suc, ◌+◌, ◌^◌, ◌<◌, ◌≤◌, List, [], ◌∷◌, ◌++◌, Option, Some, None, Bool, true, false, cond, length, set, take, get_or, replicate, refl, ap, sym, subst, arith}
 use Rattle.std.proofs.lemmas.{Bool.and_parts, Bool.cond_both, Bool.leb-true, Nat.pow_pos, List.take_more, List.Elements.All-nil, List.Elements.All-cons, List.Sums.sum_by-cons, List.Sums.sum_by_push}
 use Rattle.std.specs.Prelude.{All, sum_by, is_some, nat_le, nat_lt, ◌&&◌, unwrap_or, ◌==◌}
 use Rattle.std.specs.{Option.option_map, List.position}

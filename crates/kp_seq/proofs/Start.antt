@@ -1,8 +1,7 @@
 -- The words of a start state are those of its state, and they fit their targets.
-use Rattle.std.proofs.Common.{◌≡◌, ◌∙◌, ℕ, zero, suc, ◌-◌, ◌^◌, ◌<◌, ◌≤◌, List, [], ◌∷◌, Option, Some, None, Bool, true, false, cond, ◌&&◌, length, get_or, take, refl, ap, sym, subst, arith, ⊎_elim}
+use Rattle.std.proofs.Common.{◌≡◌, ◌∙◌, ℕ, zero, suc, ◌-◌, ◌^◌, ◌<◌, ◌≤◌, List, [], ◌∷◌, Option, Some, None, true, false, cond, ◌&&◌, length, get_or, take, refl, ap, sym, subst, arith, ⊎_elim}
 use Rattle.std.proofs.lemmas.{Bool.cases_lt, Bool.and_from, Bool.ne_eqb, Bool.cond-true, Bool.cond_both, Bool.le-leb, Bool.lt-ltb, List.get_or_past, Nat.pow_pos}
-use Rattle.std.proofs.Math.Dec.{eqb-suc-zero}
-use Rattle.std.specs.{Prelude.slice_index, Prelude.slice_get, Prelude.◌==◌, Prelude.nat_le, Prelude.nat_lt, List.filter}
+use Rattle.std.specs.{Prelude.slice_index, Prelude.slice_get, Prelude.nat_le, Prelude.nat_lt, List.filter}
 use Rattle.kp_bits.specs.Word.{Word, word}
 use Rattle.kp_ast.specs.declared.tree.{Decl.Decl, Job.Job}
 use Rattle.kp_ast.specs.declared.tree.Decl.TheVariants as decls

@@ -1,5 +1,5 @@
 -- One instruction, stage by stage: what the steps leave is what the abstract machine has.
-use Rattle.std.proofs.Common.{◌≡◌, ◌∙◌, ℕ, suc, ◌+◌, List, [], ◌∷◌, Some, None, Option, length, replicate, cond, unwrap_or, get_or, refl, ap, sym, subst}
+use Rattle.std.proofs.Common.{◌≡◌, ◌∙◌, ℕ, suc, ◌+◌, List, [], ◌∷◌, Some, None, Option, length, replicate, refl, ap, sym, subst}
 use Rattle.std.proofs.lemmas.List.{length-replicate}
 use Rattle.std.specs.Prelude.{slice_get}
 use Rattle.kp_base.specs.{First.first, Check.ok, Check.◌>>=◌}
@@ -16,10 +16,10 @@ use Rattle.kp_machine.specs.Trees as trees
 use Rattle.kp_machine.proofs.{Rules.rules_kept, Rules.stmts_kept, Stages.stages_inside, Text.text}
 use Rattle.kp_seq.specs.inner.Resolved.{Outline, Raw, Resolves, AllDo, DoesStage, after_steps, entered_at, entry_widths, after_stages, begun_at, outputs, ran, note_steps, note_stages, noted}
 use Rattle.kp_seq.specs.{Running.state_in, Running.after_one, inner.Tables.Laid}
-use Rattle.kp_seq.specs.inner.Steps.{Under, begun, entered, after_block, after_blocks, executed, is_enabled, address_by, with_word, written_by, written_from}
+use Rattle.kp_seq.specs.inner.Steps.{Under, begun, entered, after_block, after_blocks, executed, written_by, written_from}
 use Rattle.kp_seq.specs.{inner.Fits.FitSlots, inner.Ready.AreTables, inner.Ready.HasPlaces, inner.Ready.HasRoom, declared.program.Step.Step}
-use Rattle.kp_seq.specs.{declared.tables.Port.Port, Recorded.where_true, declared.notes.Outlet.Outlet}
-use Rattle.kp_seq.specs.inner.Notes.{Noted, begun_notes, changed_from, narrowed, with_marks, write_noted, setting_noted, with_results, note_stmts, note_blocks}
+use Rattle.kp_seq.specs.{declared.tables.Port.Port}
+use Rattle.kp_seq.specs.inner.Notes.{Noted, begun_notes, with_marks, with_results, note_stmts, note_blocks}
 use Rattle.kp_seq.proofs.{Resolved.suits_length, Lengths.SameLengths, Lengths.begun_same, Lengths.block_same}
 use Rattle.kp_seq.proofs.{Trees.seen, Trees.no_hints, Trees.nexts, Trees.stage_runs, Blocks.all_turn, Entering.enters, Entering.shown}
 use Rattle.kp_seq.proofs.Keys.{pipe_placed, sample_placed, keyed}
