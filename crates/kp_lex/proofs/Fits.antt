@@ -1,6 +1,6 @@
 -- A token or gap at the front is at least one byte long, and no longer than the text.
-use Rattle.std.proofs.Common.{ℕ, suc, ◌+◌, ◌≤◌, ◌<◌, ◌≡◌, List, [], ◌∷◌, length, length-take-le, ◌==◌, nat_lt, Bool, true, false, not, cond, ◌||◌, Option, Some, None, Result, Ok, Err, refl, subst, arith}
-use Rattle.std.proofs.lemmas.Bool.{ltb-true}
+use Rattle.std.proofs.Common.{ℕ, suc, ◌+◌, ◌≤◌, ◌<◌, ◌≡◌, List, [], ◌∷◌, length, length-take-le, ◌==◌, nat_lt, Bool, true, false, not, cond, Option, Some, None, Result, Ok, Err, refl, subst, arith}
+use Rattle.std.proofs.lemmas.Bool.{ltb-true, or_left, or_right}
 use Rattle.kp_base.specs.Characters.{is_digit, is_letter, is_word, run_length}
 use Rattle.kp_bits.specs.{Literals.number_of, Literals.literal_of, declared.literal.Literal.Literal, declared.literal.LiteralFault.LiteralFault}
 use Rattle.kp_lex.specs.Text.{is_layout, begins_comment, gap_length, is_in_run, run_of, keyword_or_name, identifier, literal_or_broken, number_or_literal, number_run, mark_or_broken, mark_or_shorter, mark, token_of, front_of}
@@ -69,14 +69,6 @@ fits_one : (a d : Bool) (n : ℕ) (x y z : Front) → (a ≡ true → Fits n x) 
 fits_one true d n x y z f g h = f refl
 fits_one false true n x y z f g h = g refl
 fits_one false false n x y z f g h = h
-
-or_right : (a b : Bool) → b ≡ true → (a || b) ≡ true
-or_right true b h = refl
-or_right false b h = h
-
-pub or_left : (a b : Bool) → a ≡ true → (a || b) ≡ true
-or_left true b h = refl
-or_left false b h = cc
 
 run_positive : (test : ℕ → Bool) (byte : ℕ) (rest : List ℕ) → test byte ≡ true → 0 < run_length test (byte ∷ rest)
 run_positive test byte rest h = rw h (omega arith)

@@ -1,6 +1,6 @@
 -- A name is an identifier.
 use Rattle.std.proofs.Common.{ℕ, zero, suc, ◌+◌, ◌≤◌, ◌≡◌, List, [], ◌∷◌, length, drop, take, length-take-le, Bool, true, false, cond, nat_lt, Option, Some, None, Result, Ok, Err, All, IfSome, refl, sym, ap, ◌∙◌, subst, arith}
-use Rattle.std.proofs.lemmas.{Bool.ltb-false, List.Elements.All-nil, List.Elements.All-cons}
+use Rattle.std.proofs.lemmas.{Bool.ltb-false, Bool.or_left, List.Elements.All-nil, List.Elements.All-cons}
 use Rattle.std.specs.Prelude.{slice_get}
 use Rattle.kp_base.specs.Characters.{is_digit, is_letter, is_word, run_length}
 use Rattle.kp_bits.specs.{Literals.number_of, Literals.literal_of, declared.literal.Literal.Literal, declared.literal.LiteralFault.LiteralFault}
@@ -9,7 +9,7 @@ use Rattle.kp_lex.specs.declared.{front.Front.Front, token.Keyword.Keyword, toke
 use Rattle.kp_lex.specs.Words.{keyword_of, single_mark, double_mark}
 use Rattle.kp_lex.specs.declared.front.Front.TheVariants as fronts
 use Rattle.kp_lex.specs.declared.token.TokenKind.TheVariants as kinds
-use Rattle.kp_lex.proofs.Fits.{run_within, run_fits, or_left}
+use Rattle.kp_lex.proofs.Fits.{run_within, run_fits}
 
 pass_step : (test : ℕ → Bool) (byte : ℕ) (rest : List ℕ) (b : Bool) (n : ℕ) → test byte ≡ b
     → All (λ c. test c ≡ true) (take n rest) → All (λ c. test c ≡ true) (take (cond b (n + 1) 0) (byte ∷ rest))

@@ -1,5 +1,5 @@
 -- A text has one outcome.
-use Rattle.std.proofs.Common.{ℕ, zero, suc, ◌+◌, ◌-◌, ◌≤◌, ◌<◌, ◌≡◌, List, [], ◌∷◌, ◌++◌, length, drop, take, Bool, true, false, Result, Ok, Err, refl, ap, ◌∙◌, subst, arith}
+use Rattle.std.proofs.Common.{ℕ, zero, suc, ◌+◌, ◌-◌, ◌≤◌, ◌<◌, ◌≡◌, List, [], ◌∷◌, ◌++◌, length, drop, take, Bool, true, false, Result, Ok, Err, refl, ◌∙◌, subst, arith, sym, ◌⊎◌, inl, inr}
 use Rattle.std.proofs.lemmas.List.{length-drop}
 use Rattle.kp_base.specs.{Refusal.e_rule, Place.place_after, declared.refusal.Refusal.Refusal}
 use Rattle.kp_lex.specs.declared.{front.Front.Front, token.TokenKind.TokenKind, token.Token.Token, token.Lexed.Lexed}
@@ -7,41 +7,29 @@ use Rattle.kp_lex.specs.Text.{front_of, is_end, token_at, Lexes, finish, skip, t
 use Rattle.kp_lex.specs.declared.front.Front.TheVariants as fronts
 use Rattle.kp_lex.proofs.Fits.{Fits, fits_front}
 
-abbrev both : List Token → List ℕ → TokenKind → ℕ → Result Lexed Refusal
-both tokens before kind len = Ok (record { tokens = tokens ++ token_at before kind len ∷ []; rest = length before + len })
+-- the outcome, by the front of the text
+abbrev Given : List Token → List ℕ → List ℕ → Front → Result Lexed Refusal → Type 0
+Given tokens before text fronts.End o = o ≡ Ok (record { tokens = tokens; rest = length before })
+Given tokens before text (fronts.Broken number) o = o ≡ Err (e_rule number (place_after before))
+Given tokens before text (fronts.Gap n) o = Lexes tokens (before ++ take n text) (drop n text) o
+Given tokens before text (fronts.Token kind n) o =
+    ((is_end kind ≡ false) × Lexes (tokens ++ token_at before kind n ∷ []) (before ++ take n text) (drop n text) o)
+    ⊎ ((is_end kind ≡ true) × (o ≡ Ok (record { tokens = tokens ++ token_at before kind n ∷ []; rest = length before + n })))
+
+lexed : {tokens : List Token} {before text : List ℕ} {o : Result Lexed Refusal} → Lexes tokens before text o → (f : Front) → front_of text ≡ f → Given tokens before text f o
+lexed {tokens = ts} {before = b} {text = t} (finish e) f g = subst (λ (f : Front). Given ts b t f (Ok (record { tokens = ts; rest = length b }))) (sym e ∙ g) refl
+lexed {tokens = ts} {before = b} {text = t} {o = o} (skip n e d) f g = subst (λ (f : Front). Given ts b t f o) (sym e ∙ g) d
+lexed {tokens = ts} {before = b} {text = t} {o = o} (token k n e z d) f g = subst (λ (f : Front). Given ts b t f o) (sym e ∙ g) (inl (z, d))
+lexed {tokens = ts} {before = b} {text = t} (last k n e z) f g =
+    subst (λ (f : Front). Given ts b t f (Ok (record { tokens = ts ++ token_at b k n ∷ []; rest = length b + n }))) (sym e ∙ g) (inr (z, refl))
+lexed {tokens = ts} {before = b} {text = t} (broken r e) f g = subst (λ (f : Front). Given ts b t f (Err (e_rule r (place_after b)))) (sym e ∙ g) refl
 
 pub one_outcome : {tokens : List Token} {before text : List ℕ} {a b : Result Lexed Refusal} → Lexes tokens before text a → Lexes tokens before text b → a ≡ b
-one_outcome (finish e) (finish e') = refl
-one_outcome (finish e) (skip n' e' d') = cc
-one_outcome (finish e) (token k' n' e' z' d') = cc
-one_outcome (finish e) (last k' n' e' z') = cc
-one_outcome (finish e) (broken r' e') = cc
-one_outcome (skip n e d) (finish e') = cc
-one_outcome {tokens} {before} {text} {a} {b} (skip n e d) (skip n' e' d') =
-    let same : n' ≡ n = cc in one_outcome d (subst (λ (m : ℕ). Lexes tokens (before ++ take m text) (drop m text) b) same d')
-one_outcome (skip n e d) (token k' n' e' z' d') = cc
-one_outcome (skip n e d) (last k' n' e' z') = cc
-one_outcome (skip n e d) (broken r' e') = cc
-one_outcome (token k n e z d) (finish e') = cc
-one_outcome (token k n e z d) (skip n' e' d') = cc
-one_outcome {tokens} {before} {text} {a} {b} (token k n e z d) (token k' n' e' z' d') =
-    let same : n' ≡ n = cc in let kind : k' ≡ k = cc in
-    one_outcome d (subst (λ (j : TokenKind). Lexes (tokens ++ token_at before j n ∷ []) (before ++ take n text) (drop n text) b) kind
-    (subst (λ (m : ℕ). Lexes (tokens ++ token_at before k' m ∷ []) (before ++ take m text) (drop m text) b) same d'))
-one_outcome (token k n e z d) (last k' n' e' z') = let kind : k' ≡ k = cc in cc (z, z', ap is_end kind)
-one_outcome (token k n e z d) (broken r' e') = cc
-one_outcome (last k n e z) (finish e') = cc
-one_outcome (last k n e z) (skip n' e' d') = cc
-one_outcome (last k n e z) (token k' n' e' z' d') = let kind : k' ≡ k = cc in cc (z, z', ap is_end kind)
-one_outcome {tokens} {before} (last k n e z) (last k' n' e' z') =
-    let same : n ≡ n' = cc in let kind : k ≡ k' = cc in
-    ap (both tokens before k) same ∙ ap (λ (j : TokenKind). both tokens before j n') kind
-one_outcome (last k n e z) (broken r' e') = cc
-one_outcome (broken r e) (finish e') = cc
-one_outcome (broken r e) (skip n' e' d') = cc
-one_outcome (broken r e) (token k' n' e' z' d') = cc
-one_outcome (broken r e) (last k' n' e' z') = cc
-one_outcome {before = before} (broken r e) (broken r' e') = let same : r ≡ r' = cc in ap (λ (n : ℕ). Err (e_rule n (place_after before))) same
+one_outcome (finish e) l = sym (lexed l fronts.End e)
+one_outcome (skip n e d) l = one_outcome d (lexed l (fronts.Gap n) e)
+one_outcome (token k n e z d) l = elim (lexed l (fronts.Token k n) e) [ inl x ↦ one_outcome d x.1 | inr x ↦ cc (z, x.0) ]
+one_outcome (last k n e z) l = elim (lexed l (fronts.Token k n) e) [ inl x ↦ cc (z, x.0) | inr x ↦ sym x.1 ]
+one_outcome (broken r e) l = sym (lexed l (fronts.Broken r) e)
 
 -- some outcome from here
 abbrev Some_outcome : List Token → List ℕ → List ℕ → Type 0
