@@ -93,11 +93,6 @@ module _ (job : Job) (unbroken : Unbroken (widths_of job)) (k j : ℕ) (r : Read
   fits_of None w u = (tt, tt)
   fits_of (Some e) w u = given_parts job.decls (length job.decls) s e w u
 
-  target_slot : (m : Sense) → find s r.target.name ≡ Some m → (is_register m.kind || is_file m.kind) ≡ true → IsSlot (targets_of job.decls) r.target.name m.width (address_width m.kind)
-  target_slot m found kind = found_where s r.target.name m found
-      (λ l. local_no (λ y. is_register y || is_file y) refl refl m.kind (scope_locals job k j r.target.name m l) kind)
-      (λ none v. (text_sense job unbroken k j r.target.name m v).target kind)
-
   pub read_right : ReadRight job k j r
   read_right =
       let a = answer_unbroken (not (is_some (find s r.name.name))) (e_rule 5 r.name.at) (read_of job.decls s r >>= (λ w. ok (declared_local s r.name.name (sense kinds.Read w 0)))).asked is.right in
@@ -111,7 +106,9 @@ module _ (job : Job) (unbroken : Unbroken (widths_of job)) (k j : ℕ) (r : Read
       let m : Sense = f.0 in
       let e : m ≡ st.value = f.3 in
       let kind = storage_kind (is_some r.address) m.kind f.2 in
-      let slot = target_slot m f.1 kind in
+      let slot : IsSlot (targets_of job.decls) r.target.name m.width (address_width m.kind) = found_where s r.target.name m f.1
+      (λ l. local_no (λ y. is_register y || is_file y) refl refl m.kind (scope_locals job k j r.target.name m l) kind)
+      (λ none v. (text_sense job unbroken k j r.target.name m v).target kind) in
       let wide : (target_at job (target_of job.decls r)).width ≡ st.value.width = width_there r.target.name (targets_of job.decls) slot.inside ∙ slot.width ∙ ap (λ (v : Sense). v.width) e in
       let far : (target_at job (target_of job.decls r)).address ≡ address_width st.value.kind = address_there r.target.name (targets_of job.decls) slot.inside ∙ slot.address ∙ ap (λ (v : Sense). address_width v.kind) e in
       let asks1 = asks_of r.address st.value.kind (subst (λ (v : Sense). cond (is_some r.address) is_file is_register v.kind ≡ true) e f.2) z.0 in

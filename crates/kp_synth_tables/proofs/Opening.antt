@@ -275,9 +275,6 @@ module _ (job : Job) (right : Unbroken (widths_of job)) (kept : broken_of job �
       let f : short (guess_at job g).write ≡ (guess_at job g).write = short_is _ (omega (arith, h.late, fit.at_most)) in
       λ i. record { stage = a i; index = b i; register = d i; width = e i; write = f i }
 
-  pub guesses_same : map short_guess (guesses_of job) ≡ guesses_of job
-  guesses_same = maps_same short_guess (λ g. g) (guesses_of job) no_guess guess_is ∙ map-id (guesses_of job)
-
   module _ (v : Vectors) where
     -- what is laid out is laid
     pub laid : v.targets ≡ map sized (targets_of job.decls) → length v.ports ≡ length (targets_of job.decls)
@@ -294,7 +291,7 @@ module _ (job : Job) (right : Unbroken (widths_of job)) (kept : broken_of job �
         let hs : v.hints ≡ map (aim_of job) (hints_of job.decls) = e ∙ aimed_map job job.decls in
         let hint_count : length v.hints ≡ length (hints_of job.decls) = ap length hs ∙ length-map (hints_of job.decls) (aim_of job) in
         let is : (t : ℕ) → t < length ts → get_or v.ports t None ≡ port_at job t = λ t l. b t l ∙ port_is t (result_for job t) refl (fit.results t l) in
-        let same : v.guesses ≡ guesses_of job = f ∙ guesses_same in
+        let same : v.guesses ≡ guesses_of job = f ∙ maps_same short_guess (λ g. g) (guesses_of job) no_guess guess_is ∙ map-id (guesses_of job) in
         let all : v.keys ≡ keys_of job =
         g ∙ ap (λ (gs : List GuessSlot). visible_keys 0 ts ++ (stages_by v.pipes v.ports gs (job.stages.value - 1) 1 ++ hint_keys 0 (hints_of job.decls))) same
         ∙ ap (λ (ps : List Piped). visible_keys 0 ts ++ (stages_by ps v.ports (guesses_of job) (job.stages.value - 1) 1 ++ hint_keys 0 (hints_of job.decls))) ds

@@ -13,7 +13,7 @@ use Rattle.kp_ast.proofs.Levels.{fold-Lit, fold-Name, fold-Not, fold-Binary, fol
 use Rattle.kp_ast.proofs.Induction.{Every, induction}
 use Rattle.kp_stage.specs.{Facts.stmts_in, Uses.listed, Uses.exprs_in, Uses.uses_in_kind, Uses.uses_in_level, Uses.uses}
 use Rattle.kp_pipeline.specs.{Machine.Tree, Machine.Done, Machine.Ask, Machine.Guess, Sequential.first_value}
-use Rattle.kp_machine.specs.Trees.{Progress, entered, holds, address_of, value_of, value_with_hints, with_value, with_name, with_put, with_set, with_aim, word_of, word_read, read_of, statement_of, tree_of}
+use Rattle.kp_machine.specs.Trees.{Progress, entered, holds, address_of, value_of, value_with_hints, with_value, with_name, with_set, word_of, word_read, read_of, statement_of, tree_of}
 use Rattle.kp_machine.specs.Slots.{Slot, targets_of, pipes_of, hints_of, samples_of, number_of, words_from, words_of, result_named}
 use Rattle.kp_machine.specs.Machine.{stage_tree}
 use Rattle.kp_machine.proofs.{Cases.by_test, Names.is_same, Names.same_name, LookUp.or_else, LookUp.look_up-append}
@@ -156,9 +156,6 @@ module _ (ds : List Decl) where
       aims = h.aims;
     }
 
-    with_put_matches : (d e : Progress) (p x y : ℕ) → Matches test d e → x ≡ y → Matches test (with_put d p x) (with_put e p y)
-    with_put_matches d e p x y h same = record { names = h.names; puts = λ i. with_value p (same i) (h.puts i); sets = h.sets; aims = h.aims }
-
     with_set_matches : (d e : Progress) (o : Option ResultDecl) (x y : ℕ) → Matches test d e → x ≡ y → Matches test (with_set ds d o x) (with_set ds e o y)
     with_set_matches d e None x y h same = h
     with_set_matches d e (Some r) x y h same = record {
@@ -167,10 +164,6 @@ module _ (ds : List Decl) where
       sets = λ i t. first_value (h.sets i t) (with_value (number_of (targets_of ds) r.target.name) (same i) (λ u. None) t);
       aims = h.aims;
     }
-
-    with_aim_matches : (d e : Progress) (n : ℕ) (x y : (ℕ → ℕ) → ℕ) → Matches test d e → ((hints : ℕ → ℕ) → x hints ≡ y hints) → Matches test (with_aim d n x) (with_aim e n y)
-    with_aim_matches d e n x y h same =
-        record { names = h.names; puts = h.puts; sets = h.sets; aims = λ i hints. with_value n (same hints i) (h.aims i hints) }
 
     module _ (d e : Progress) (h : Matches test d e) where
       word_same : (x : Expr) → Passes x → word_of ds d x ≡ word_of ds e x
@@ -220,7 +213,7 @@ module _ (ds : List Decl) where
           λ i. cond (holds_same r.when when i) (read i) (next 0 i)
       statement_same (stmts.Let n x) rest own go = go _ _ (with_name_matches d e n.name (word_of ds d x) (word_of ds e x) h (word_same x (λ m u. own m (one x m u))))
       statement_same (stmts.Put n x) rest own go =
-          go _ _ (with_put_matches d e (number_of (pipes_of ds) n.name) (value_of ds d x) (value_of ds e x) h (value_same x (λ m u. own m (one x m u))))
+          let same = value_same x (λ m u. own m (one x m u)) in go _ _ (record { names = h.names; puts = λ i. with_value (number_of (pipes_of ds) n.name) (same i) (h.puts i); sets = h.sets; aims = h.aims })
       statement_same (stmts.Set n x when) rest own go =
           let all : (m : List ℕ) → (list_any (uses m) (x ∷ listed when) || false) ≡ true → test m ≡ true =
           λ m u. own m (list_any-append (uses m) (x ∷ listed when) [] ∙ u) in
@@ -229,7 +222,7 @@ module _ (ds : List Decl) where
           let then_so = go _ _ (with_set_matches d e (result_named ds n.name) (value_of ds d x) (value_of ds e x) h (value_same x value)) in
           λ i. cond (holds_same when test_of i) (then_so i) (go d e h i)
       statement_same (stmts.Aim n x) rest own go =
-          go _ _ (with_aim_matches d e (number_of (hints_of ds) n.name) (value_with_hints ds d x) (value_with_hints ds e x) h (hinted_same x (λ m u. own m (one x m u))))
+          let same = hinted_same x (λ m u. own m (one x m u)) in go _ _ (record { names = h.names; puts = h.puts; sets = h.sets; aims = λ i hints. with_value (number_of (hints_of ds) n.name) (same hints i) (h.aims i hints) })
 
     tree_same : (d e : Progress) (ss : List Stmt) → Matches test d e → ((n : List ℕ) → uses_name n ss ≡ true → test n ≡ true) → tree_of ds d ss ≡ tree_of ds e ss
     tree_same d e [] h own = λ i. Done (h.puts i) (h.sets i) (h.aims i)

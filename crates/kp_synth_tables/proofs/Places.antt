@@ -123,13 +123,10 @@ later_had : (job : Job) (n : ℕ) → n ≤ job.stages.value → AllHad job (lat
 later_had job zero l = tt
 later_had job (suc n) l = stages_had job n 1 (omega arith) (omega arith)
 
-all_had : (job : Job) → AllHad job (keys_of job)
-unfolding keys_of
-all_had job = each_both (HasKey job) (visible_keys 0 (targets_of job.decls)) _ (each visible (HasKey job) (targets_of job.decls) no_slot (λ t m r. ((m, r), tt)))
-    (each_both (HasKey job) (later_keys job job.stages.value) _ (later_had job job.stages.value (omega arith)) (each hints (HasKey job) (hints_of job.decls) no_slot (λ h m r. (m, tt))))
-
 pub key_had : (job : Job) (r : ℕ) → r < length (keys_of job) → HasKey job (key_at job r)
-key_had job r l = all_at (HasKey job) (keys_of job) (Full 0) (all_had job) r l
+unfolding keys_of
+key_had job r l = all_at (HasKey job) (keys_of job) (Full 0) (each_both (HasKey job) (visible_keys 0 (targets_of job.decls)) _ (each visible (HasKey job) (targets_of job.decls) no_slot (λ t m r. ((m, r), tt)))
+    (each_both (HasKey job) (later_keys job job.stages.value) _ (later_had job job.stages.value (omega arith)) (each hints (HasKey job) (hints_of job.decls) no_slot (λ h m r. (m, tt))))) r l
 
 -- the index of a key in a list that is that of the keys
 pub place_is : (job : Job) (keys : List Key) (key : Key) → keys ≡ keys_of job → place_in keys key ≡ place_of job key
