@@ -1,7 +1,7 @@
 -- The canonical text of a netlist has one line with its ports, which ends with `);`, and a last line `endmodule`. So the ports and the lines that are added
 -- are before these.
 use Rattle.std.proofs.Common.{◌≡◌, ◌∙◌, ℕ, zero, suc, ◌+◌, ◌-◌, ◌%◌, ◌^◌, ◌<◌, Bool, true, false, cond, ◌==◌, not, List, [], ◌∷◌, ◌++◌, length, take, drop, refl, sym, ap, subst, arith, append_assoc}
-use Rattle.std.proofs.lemmas.{Bool.agree_below_at, Bool.eqb-true, List.Folds.list_all-append, List.length-append, Fmt.decimal_by_steps}
+use Rattle.std.proofs.lemmas.{Bool.agree_below_at, Bool.and_from, Bool.and_parts, Bool.eqb-true, Fmt.decimal_by_steps, List.Folds.list_all-append, List.length-append}
 use Rattle.std.proofs.Math.Seq.{take-append_seam, drop-append_seam, drop-append-add}
 use Rattle.std.specs.{Prelude.codes, Prelude.decimal, Prelude.slice_range, Prelude.All, Prelude.map, Prelude.◌&&◌, List.list_all}
 use Rattle.kp_base.specs.Characters.{run_length}
@@ -16,20 +16,8 @@ use Rattle.kp_core_text.specs.{Core.is_in_line, Core.last_line, Core.header_end,
 abbrev InLine : List ℕ → Type 0
 InLine text = list_all is_in_line text ≡ true
 
-both : (a b : Bool) → a ≡ true → b ≡ true → (a && b) ≡ true
-both true b h k = k
-both false b h k = h
-
-left_of : (a b : Bool) → (a && b) ≡ true → a ≡ true
-left_of true b h = refl
-left_of false b h = h
-
-right_of : (a b : Bool) → (a && b) ≡ true → b ≡ true
-right_of true b h = h
-right_of false b h = absurd (cc h)
-
 joined : (xs ys : List ℕ) → InLine xs → InLine ys → InLine (xs ++ ys)
-joined xs ys h k = list_all-append is_in_line xs ys ∙ both (list_all is_in_line xs) (list_all is_in_line ys) h k
+joined xs ys h k = list_all-append is_in_line xs ys ∙ and_from (list_all is_in_line xs) (list_all is_in_line ys) h k
 
 abbrev AllInLine : Pieces → Type 0
 AllInLine [] = Unit {0}
@@ -45,15 +33,15 @@ pieces_joined (p ∷ ps) qs h k = (h.0, pieces_joined ps qs h.1 k)
 
 each : (xs : List ℕ) → InLine xs → All (λ byte. is_in_line byte ≡ true) xs
 each [] h k d l = absurd (omega (arith, l))
-each (x ∷ xs) h zero d l = left_of (is_in_line x) (list_all is_in_line xs) h
-each (x ∷ xs) h (suc k) d l = each xs (right_of (is_in_line x) (list_all is_in_line xs) h) k d (omega (arith, l))
+each (x ∷ xs) h zero d l = (and_parts (is_in_line x) (list_all is_in_line xs) h).0
+each (x ∷ xs) h (suc k) d l = each xs (and_parts (is_in_line x) (list_all is_in_line xs) h).1 k d (omega (arith, l))
 
 digit : (n : ℕ) → n < 10 → is_in_line (48 + n) ≡ true
 digit n h = agree_below_at (λ k. is_in_line (48 + k)) (λ _. true) 10 n refl h
 
 number : (n : ℕ) → n < 2 ^ 64 → InLine (decimal n)
-number = decimal_by_steps (λ n ds. InLine ds) (λ n low. both (is_in_line (48 + n)) true (digit n low) refl)
-    (λ n ds high done. joined ds _ done (both (is_in_line (48 + n % 10)) true (digit (n % 10) (omega arith)) refl))
+number = decimal_by_steps (λ n ds. InLine ds) (λ n low. and_from (is_in_line (48 + n)) true (digit n low) refl)
+    (λ n ds high done. joined ds _ done (and_from (is_in_line (48 + n % 10)) true (digit (n % 10) (omega arith)) refl))
 
 -- ---- the names of a netlist
 
@@ -66,7 +54,7 @@ in_identifier b h = off_break b (b == 10) refl h
 
 in_name : (bs : List ℕ) → All (λ b. is_in_identifier b ≡ true) bs → InLine bs
 in_name [] h = refl
-in_name (b ∷ bs) h = both (is_in_line b) (list_all is_in_line bs) (in_identifier b (h 0 b (omega arith))) (in_name bs (λ k d l. h (suc k) d (omega (arith, l))))
+in_name (b ∷ bs) h = and_from (is_in_line b) (list_all is_in_line bs) (in_identifier b (h 0 b (omega arith))) (in_name bs (λ k d l. h (suc k) d (omega (arith, l))))
 
 -- ---- the first line
 
@@ -169,8 +157,8 @@ body_closes net =
 run_front : (front rest : List ℕ) → InLine front → run_length is_in_line (front ++ (codes ");\n" ++ rest)) ≡ length front + 2
 run_front [] rest h = refl
 run_front (c ∷ cs) rest h =
-    let on = left_of (is_in_line c) (list_all is_in_line cs) h in
-    let more = run_front cs rest (right_of (is_in_line c) (list_all is_in_line cs) h) in
+    let on = (and_parts (is_in_line c) (list_all is_in_line cs) h).0 in
+    let more = run_front cs rest (and_parts (is_in_line c) (list_all is_in_line cs) h).1 in
     ap (λ (b : Bool). cond b (run_length is_in_line (cs ++ (codes ");\n" ++ rest)) + 1) 0) on ∙ omega (arith, more)
 
 spliced : (front a m e ports lines text : List ℕ) (h n : ℕ) → text ≡ front ++ (a ++ (m ++ e)) → h ≡ length front → n ≡ length front + length (a ++ m)

@@ -1,5 +1,5 @@
 -- What is reported of an instruction has its size.
-use Rattle.std.proofs.Common.{◌≡◌, ◌∙◌, ℕ, zero, suc, ◌+◌, ◌^◌, ◌<◌, ◌≤◌, List, [], ◌∷◌, length, get_or, set, take, drop, ◌++◌, refl, ap, sym, subst, arith, None, ⊎_elim}
+use Rattle.std.proofs.Common.{◌≡◌, ◌∙◌, ℕ, zero, suc, ◌^◌, ◌<◌, ◌≤◌, List, [], ◌∷◌, length, get_or, set, take, drop, ◌++◌, refl, ap, sym, subst, arith, None, ⊎_elim}
 use Rattle.std.proofs.{Math.Seq.take-append_seam, lemmas.Bool.cases_lt}
 use Rattle.std.proofs.lemmas.List.{length-append, length-map, length-set, get_or_append_left, get_or_push, Sums.sum_by-cons}
 use Rattle.std.specs.Prelude.{sum_by}

@@ -1,25 +1,24 @@
 -- A wait has its cause.
-use Rattle.std.proofs.Common.{◌≡◌, ◌∙◌, ℕ, zero, suc, ◌+◌, ◌-◌, ◌<◌, ◌≤◌, List, [], ◌∷◌, ◌++◌, Option, Some, None, Bool, true, false, cond, leb, not, ◌&&◌, ◌||◌, length, get_or, refl, ap, sym, subst, arith, ⊎_elim, eq-eqb}
-use Rattle.std.proofs.lemmas.{Bool.and_parts, Bool.and_right, Bool.cases_lt, Bool.false≢true, List.get_or_append_left, List.get_or_past, List.get_or_push, List.length-append}
+use Rattle.std.proofs.Common.{◌≡◌, ◌∙◌, ℕ, zero, suc, ◌+◌, ◌-◌, ◌<◌, ◌≤◌, List, Option, Some, None, Bool, true, false, cond, leb, not, ◌&&◌, length, get_or, refl, ap, sym, arith, ⊎_elim}
+use Rattle.std.proofs.lemmas.{Bool.and_parts, Bool.and_right, Bool.cases_lt, Bool.false≢true, List.get_or_past}
 use Rattle.std.proofs.lemmas.Option.{same_Some}
-use Rattle.std.specs.Prelude.{is_some, slice_get}
-use Rattle.kp_ast.specs.declared.tree.{Decl.Decl, Stmt.Stmt, StmtKind.StmtKind, Block.Block, Job.Job}
-use Rattle.kp_ast.specs.declared.tree.StmtKind.TheVariants as stmts
+use Rattle.std.specs.Prelude.{is_some}
+use Rattle.kp_ast.specs.declared.tree.{Job.Job}
 use Rattle.kp_base.specs.First.{first}
 use Rattle.kp_width.specs.Widths.{widths_of}
-use Rattle.kp_stage.specs.{Facts.stmts_in, Start.start_of, Stages.broken_of}
+use Rattle.kp_stage.specs.{Start.start_of, Stages.broken_of}
 use Rattle.kp_pipeline.specs.{Accepted.Accepted, Machine.Machine, Pipeline.Inputs, Pipeline.is_candidate, Pipeline.outcome, Rows.Row, Rows.bit}
-use Rattle.kp_pipeline.specs.{Sequential.before_stage, Sequential.instruction_before, Timeline.ReadyAbove, Timeline.some_unmet}
+use Rattle.kp_pipeline.specs.{Sequential.instruction_before, Timeline.ReadyAbove, Timeline.some_unmet}
 use Rattle.kp_pipeline.specs.SpeculativeTimeline.{blocked, blocked_given, moves_on, ready_above, ready_from, waits, waits_given}
 use Rattle.kp_pipeline.specs.RightPath.{IsRightFrom, Moment, WaitsWhereItMust, held}
 use Rattle.kp_pipeline.specs.SpeculativeTimeline as timeline
-use Rattle.kp_machine.specs.{Slots.Slot, Slots.targets_of, Slots.number_of, Slots.result_to, Trees.Progress, Trees.entered}
-use Rattle.kp_machine.specs.Machine.{machine_of, result_for, sequential, stage_tree, state_of}
-use Rattle.kp_machine.proofs.{Cases.by_option, Stages.stages_inside, Text.fits_text, Text.target_slot}
-use Rattle.kp_seq.specs.Recorded.{read_recorded, reads_recorded, done_after, stage_reads, reads_from, record_of}
+use Rattle.kp_machine.specs.{Slots.targets_of}
+use Rattle.kp_machine.specs.Machine.{machine_of, result_for, sequential, state_of}
+use Rattle.kp_machine.proofs.{Stages.stages_inside}
+use Rattle.kp_seq.specs.Recorded.{reads_from, record_of}
 use Rattle.kp_sites.specs.{declared.sites.Site.Site, declared.sites.Writer.Writer}
 use Rattle.kp_stalls.specs.declared.{occupants.Stage.Stage, cause.Wait.Wait}
-use Rattle.kp_sites.specs.Sites.{no_site, result_number, site_of, sited, sites_from, sites_in, writer_at, writer_by, writers_to}
+use Rattle.kp_sites.specs.Sites.{no_site, result_number, sited, writer_at, writer_by}
 use Rattle.kp_stalls.specs.Occupants.{Report, Seen, at, occupants_of, report, no_stage}
 use Rattle.kp_sites.specs.Reports as reports
 use Rattle.kp_sites.specs.Reports.{may_write}

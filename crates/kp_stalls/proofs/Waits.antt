@@ -1,6 +1,6 @@
 -- What a first wait says, and what it means that there is none.
-use Rattle.std.proofs.Common.{◌≡◌, ◌∙◌, ℕ, zero, suc, ◌+◌, ◌<◌, ◌≤◌, List, [], ◌∷◌, ◌++◌, Option, Some, None, Bool, true, false, cond, eqb, not, ◌&&◌, ◌||◌, length, get_or, refl, ap, ap₂, sym, arith, ⊎_elim}
-use Rattle.std.proofs.lemmas.{Bool.and_parts, Bool.cases_lt, Bool.eqb-true, Bool.not-true, List.length-append, Option.same_Some}
+use Rattle.std.proofs.Common.{◌≡◌, ◌∙◌, ℕ, zero, suc, ◌+◌, ◌<◌, ◌≤◌, List, [], ◌∷◌, Option, Some, None, Bool, true, false, cond, eqb, not, ◌&&◌, ◌||◌, length, get_or, refl, ap, ap₂, sym, arith, ⊎_elim}
+use Rattle.std.proofs.lemmas.{Bool.and_parts, Bool.cases_lt, Bool.eqb-true, Bool.not-true, Option.same_Some}
 use Rattle.std.specs.Prelude.{is_some}
 use Rattle.kp_sites.specs.{declared.sites.Site.Site, declared.sites.Writer.Writer, Sites.Sited, Sites.no_site}
 use Rattle.kp_stalls.specs.declared.cause.Wait.{Wait}

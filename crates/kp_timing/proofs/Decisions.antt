@@ -1,20 +1,17 @@
 -- The decisions on lists are those of the timeline of the laws.
-use Rattle.std.proofs.Common.{◌≡◌, ◌∙◌, ℕ, zero, suc, ◌+◌, ◌-◌, ◌<◌, ◌≤◌, List, [], ◌∷◌, ◌++◌, Option, Some, None, Bool, true, false, cond, eqb, leb, not, ◌&&◌, ◌||◌, length, get_or, set, replicate, refl, ap, sym, subst, arith, ⊎_elim}
-use Rattle.std.proofs.lemmas.{List.Sums.sum_by-cons, Bool.and_right, Bool.cases_eq, Bool.cases_lt, Bool.eq-eqb, Bool.eqb-true, Bool.false_from_ne_true}
-use Rattle.std.proofs.lemmas.List.{length-append, length-set, get_or_past, get_or-set_same, get_or-set_other}
-use Rattle.std.specs.Prelude.{is_some, slice_get, sum_by}
-use Rattle.kp_stage.specs.{Counts.summary_of, Counts.guesses_in, Facts.stmts_in}
-use Rattle.kp_ast.specs.declared.tree.{Decl.Decl, Stmt.Stmt, StmtKind.StmtKind, Block.Block, Job.Job}
-use Rattle.kp_ast.specs.declared.tree.StmtKind.TheVariants as stmts
+use Rattle.std.proofs.Common.{◌≡◌, ◌∙◌, ℕ, zero, suc, ◌+◌, ◌-◌, ◌<◌, ◌≤◌, List, Option, Some, None, Bool, true, false, cond, leb, not, ◌&&◌, ◌||◌, length, get_or, set, replicate, refl, ap, sym, arith, ⊎_elim}
+use Rattle.std.proofs.lemmas.{Bool.and_right, Bool.cases_eq, Bool.cases_lt}
+use Rattle.std.proofs.lemmas.List.{length-set, get_or_past, get_or-set_same, get_or-set_other}
+use Rattle.std.specs.Prelude.{is_some}
+use Rattle.kp_ast.specs.declared.tree.{Job.Job}
 use Rattle.kp_width.specs.Widths.{widths_of}
 use Rattle.kp_width.proofs.Unbroken.{Unbroken}
-use Rattle.kp_pipeline.specs.Sequential.{seq, before_stage}
+use Rattle.kp_pipeline.specs.Sequential.{seq}
 use Rattle.kp_pipeline.specs.SpeculativeTimeline as timeline
 use Rattle.kp_pipeline.specs.Timeline.{ReadyAbove, setting_stage, no_samples, may_write, is_ready, waits_given, blocked_given, ready_from, ready_above, waits, blocked, moves_on}
-use Rattle.kp_machine.specs.{Slots.Slot, Slots.targets_of, Slots.number_of, Slots.result_to, Trees.Progress, Trees.entered}
-use Rattle.kp_machine.specs.Machine.{machine_of, stage_tree, result_for}
-use Rattle.kp_machine.proofs.{Cases.by_option, Text.fits_text, Text.target_slot}
-use Rattle.kp_seq.specs.Recorded.{Recorded, read_recorded, reads_recorded, done_after, stage_reads, reads_from, record_of}
+use Rattle.kp_machine.specs.{Slots.targets_of}
+use Rattle.kp_machine.specs.Machine.{machine_of, result_for}
+use Rattle.kp_seq.specs.Recorded.{Recorded, reads_from, record_of}
 use Rattle.kp_sched.specs.Rows.{bit_of}
 use Rattle.kp_sites.specs.{declared.sites.Writer.Writer, Sites.sited, Sites.result_number, Sites.writer_by}
 use Rattle.kp_sites.specs.Reports as reports

@@ -1,5 +1,5 @@
 -- Which stages wait, and which are blocked, by what was reported about the instructions in them.
-use Rattle.std.specs.Prelude.{ℕ, zero, suc, ◌+◌, ◌-◌, List, [], ◌∷◌, Option, Some, None, Bool, true, false, not, ◌&&◌, ◌||◌, ◌==◌, nat_le, nat_lt, if◌then◌else◌, is_some, get_or, set, replicate, unwrap_or}
+use Rattle.std.specs.Prelude.{ℕ, zero, suc, ◌+◌, ◌-◌, List, Option, Some, None, Bool, true, false, not, ◌&&◌, ◌||◌, nat_le, if◌then◌else◌, is_some, get_or, set, replicate, unwrap_or}
 use Rattle.std.specs.List.{swap}
 use Rattle.kp_seq.specs.Recorded.{Recorded}
 use Rattle.kp_sched.specs.Rows.{bit_of}

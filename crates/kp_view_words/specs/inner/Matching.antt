@@ -1,5 +1,5 @@
 -- What `clap` is given of the words, and how the program interprets what it found.
-use Rattle.std.specs.Prelude.{true, false, List, [], ◌∷◌, map, codes, length, nat_lt, if◌then◌else◌, Option, None, Some}
+use Rattle.std.specs.Prelude.{List, [], ◌∷◌, codes, length, nat_lt, if◌then◌else◌, Option, None, Some}
 use Rattle.clap.specs.{Walk.Row, Walk.Rule, Walk.Text, Simple.App, Simple.Shape, Simple.new_rule}
 use Rattle.kp_command_line.specs.Programs as commands
 use Rattle.kp_command_line.specs.Programs.{command_shape}

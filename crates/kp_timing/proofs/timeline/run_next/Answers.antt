@@ -1,4 +1,4 @@
-use Rattle.std.proofs.{Common.length, Common.get_or, Common.sym, Common.subst, Common.arith, lemmas.List.get_or_default}
+use Rattle.std.proofs.{Common.get_or, Common.sym, Common.subst, Common.arith, lemmas.List.get_or_default}
 use Rattle.kp_seq.specs.{Running.state, Recorded.Recorded}
 use Rattle.kp_sites.specs.Reports.{nothing_recorded}
 use Rattle.kp_sites.proofs.Sizes.{FitsIn, record_fits}

@@ -1,4 +1,4 @@
-use Rattle.std.proofs.Common.{◌≡◌, ◌∙◌, ℕ, ◌<◌, ◌^◌, List, ◌++◌, take, drop, length, length-set, set, ap, sym, subst, arith}
+use Rattle.std.proofs.Common.{◌∙◌, ◌<◌, ◌^◌, List, ap, sym, subst, arith}
 use Rattle.kp_stage.specs.declared.counts.Summary.{Summary}
 use Rattle.kp_seq.specs.Recorded.{Recorded}
 use Rattle.kp_sites.proofs.Sizes.{set_back}
