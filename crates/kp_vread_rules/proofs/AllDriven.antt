@@ -61,14 +61,8 @@ wires_drive [] d = refl
 wires_drive (a ∷ parts) d = wires_drive parts d
 
 operands_drive : (r : Right) (d : Driven) → all_by (operands r) d ≡ d
-operands_drive (sides.Literal l) d = refl
-operands_drive (sides.Name n) d = refl
-operands_drive (sides.Not a) d = refl
-operands_drive (sides.Binary op a b) d = refl
-operands_drive (sides.Choice t a b) d = refl
-operands_drive (sides.Slice a high low) d = refl
-operands_drive (sides.Word f a) d = refl
 operands_drive (sides.Concat parts) d = wires_drive parts d
+operands_drive _ d = refl
 
 name_drives : (b : Bool) (n : Named) (d : Driven) → all_by ((if b then occurs uses_wire n else occurs uses_source n) ∷ []) d ≡ d
 name_drives true n d = refl
@@ -80,13 +74,7 @@ others_drive false t r d = operands_drive r d
 
 right_drives : (t : Named) (r : Right) (d : Driven) → all_by (right_names t r) d ≡ d
 right_drives t (sides.Name n) d = name_drives (is_output_name t.name) n d
-right_drives t (sides.Literal l) d = others_drive (is_output_name t.name) t (sides.Literal l) d
-right_drives t (sides.Not a) d = others_drive (is_output_name t.name) t (sides.Not a) d
-right_drives t (sides.Binary op a b) d = others_drive (is_output_name t.name) t (sides.Binary op a b) d
-right_drives t (sides.Choice c a b) d = others_drive (is_output_name t.name) t (sides.Choice c a b) d
-right_drives t (sides.Slice a high low) d = others_drive (is_output_name t.name) t (sides.Slice a high low) d
-right_drives t (sides.Word f a) d = others_drive (is_output_name t.name) t (sides.Word f a) d
-right_drives t (sides.Concat parts) d = others_drive (is_output_name t.name) t (sides.Concat parts) d
+right_drives t r d = others_drive (is_output_name t.name) t r d
 
 items_drive : (xs : List Item) (d : Driven) → all_by (items_names xs) d ≡ record d { given = items_given xs ++ d.given }
 items_drive [] d = refl

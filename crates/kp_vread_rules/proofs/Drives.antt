@@ -7,7 +7,7 @@ use Rattle.kp_vlog.specs.Rules.{Driven, drives, driver_fits, bad_driver}
 use Rattle.kp_vread_rules.specs.{inner.Sets.Adds, inner.Sets.AlikeDriven, inner.Roles.role_of, inner.Says.Says, declared.fault.Fault.Fault}
 use Rattle.kp_vread_rules.specs.{inner.Listed.occurrence_of, declared.names.Occurrence.Occurrence as Listed}
 use Rattle.kp_vread_rules.specs.declared.fault.Fault.TheVariants as faults
-use Rattle.kp_vread_rules.proofs.Turns.{alike_itself, alike_added, one_more}
+use Rattle.kp_vread_rules.proofs.Turns.{alike_itself, alike_added, one_more, when_true}
 
 pub as_before : (d : Driven) → AlikeDriven d d
 as_before d = record {
@@ -64,10 +64,6 @@ module _ (resets : Bool) (all : Driven) where
   same_bad d e (o ∷ os) a =
       ap (λ b. if b then bad_driver resets all (drives d o.role o.named.name) os else Some o.named.at) (same_fit d e o.role o.named.name a)
       ∙ ap (λ r. if driver_fits resets all e o.role o.named.name then r else Some o.named.at) (same_bad (drives d o.role o.named.name) (drives e o.role o.named.name) os (same_drives d e o.role o.named.name a))
-
-  when_true : (p : Bool) (x y : Option ℕ) → p ≡ true → x ≡ (if p then x else y)
-  when_true true x y e = refl
-  when_true false x y e = cc
 
   pub turn : (whole : List Listed) (i : ℕ) (o : Listed) (d e : Driven) (bad : Option ℕ) → i < length whole → o ≡ get_or whole i o
       → driver_fits resets all d (role_of o.role) o.named.now.name ≡ true → AlikeDriven e (drives d (role_of o.role) o.named.now.name)

@@ -39,7 +39,7 @@ alike_added ks js n a = record { same_names = a.names }
 pub alike_itself : (ks : List (List ℕ)) → Alike ks ks
 alike_itself ks = record { same_names = λ q. refl }
 
-when_true : (p : Bool) (x y : Option ℕ) → p ≡ true → x ≡ (if p then x else y)
+pub when_true : (p : Bool) (x y : Option ℕ) → p ≡ true → x ≡ (if p then x else y)
 when_true true x y e = refl
 when_true false x y e = cc
 

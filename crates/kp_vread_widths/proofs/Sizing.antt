@@ -90,18 +90,13 @@ alike_behind [] xs ys a = a
 alike_behind (z ∷ zs) xs ys a = alike_front z (zs ++ xs) (zs ++ ys) (alike_behind zs xs ys a)
 
 with_alike : (x : Item) (xs ys : Sizes) → AlikeSizes xs ys → AlikeSizes (with_item x xs) (with_item x ys)
-with_alike (lines.Reg r n) xs ys a = alike_front _ xs ys a
-with_alike (lines.File r n w) xs ys a = alike_front _ xs ys a
 with_alike (lines.Integer n) xs ys a = a
-with_alike (lines.Wire r n) xs ys a = alike_front _ xs ys a
 with_alike (lines.Assign t r) xs ys a = a
+with_alike _ xs ys a = alike_front _ xs ys a
 
 item_front : (x : Item) (xs : List Item) (ss : Sizes) → with_item x (item_sizes xs ++ ss) ≡ item_sizes (x ∷ xs) ++ ss
 item_front (lines.Reg r n) xs ss = refl
-item_front (lines.File r n w) xs ss = refl
-item_front (lines.Integer n) xs ss = refl
-item_front (lines.Wire r n) xs ss = refl
-item_front (lines.Assign t r) xs ss = refl
+item_front _ xs ss = refl
 
 pub one_item : (all : List Item) (i : ℕ) (x : Item) (old before after : Sizes) → i < length all → x ≡ get_or all i x → AlikeSizes before (item_sizes (drop (i + 1) all) ++ old)
     → AlikeSizes after (with_item x before) → AlikeSizes after (item_sizes (drop i all) ++ old)
