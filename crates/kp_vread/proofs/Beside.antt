@@ -22,24 +22,13 @@ start_same (starts.Reg k l ∷ is) n = step (same n k.name) (start_same is n)
     step : (b : Bool) → start_from (start_in is n) ≡ start_of is n → start_from (if b then Some l.literal else start_in is n) ≡ (if b then word l.literal.width l.literal.value else start_of is n)
     step true h = refl
     step false h = h
-start_same (starts.Word k i l ∷ is) n = start_same is n
-start_same (starts.Fill f ∷ is) n = start_same is n
+start_same (_ ∷ is) n = start_same is n
 
 module _ (wires : Numbered) (ks : List (List ℕ)) (a : AreNumbered wires ks) where
   pub output_same : (out : List ℕ) (xs : List Item) → output_by wires out xs ≡ output_of ks out xs
   output_same out [] = refl
-  output_same out (lines.Reg r n ∷ xs) = output_same out xs
-  output_same out (lines.File r n w ∷ xs) = output_same out xs
-  output_same out (lines.Integer n ∷ xs) = output_same out xs
-  output_same out (lines.Wire r n ∷ xs) = output_same out xs
   output_same out (lines.Assign t (sides.Name n) ∷ xs) = rw (node_same wires ks a n, output_same out xs) refl
-  output_same out (lines.Assign t (sides.Literal l) ∷ xs) = output_same out xs
-  output_same out (lines.Assign t (sides.Not x) ∷ xs) = output_same out xs
-  output_same out (lines.Assign t (sides.Binary op x y) ∷ xs) = output_same out xs
-  output_same out (lines.Assign t (sides.Choice c x y) ∷ xs) = output_same out xs
-  output_same out (lines.Assign t (sides.Slice x high low) ∷ xs) = output_same out xs
-  output_same out (lines.Assign t (sides.Word f x) ∷ xs) = output_same out xs
-  output_same out (lines.Assign t (sides.Concat parts) ∷ xs) = output_same out xs
+  output_same out (_ ∷ xs) = output_same out xs
 
   port_same : (xs : List Update) (n : List ℕ) → port_by wires xs n ≡ port_of ks xs n
   port_same [] n = refl
@@ -51,18 +40,12 @@ module _ (wires : Numbered) (ks : List (List ℕ)) (a : AreNumbered wires ks) wh
         → (xs : List Item) → regs_by es ns xs ≡ regs_of ks m xs
     regs_same es ns e h [] = refl
     regs_same es ns e h (lines.Reg r n ∷ xs) = rw (e n.name, start_same m.inits n.name, h.nexts ks a n.name, regs_same es ns e h xs) refl
-    regs_same es ns e h (lines.File r n w ∷ xs) = regs_same es ns e h xs
-    regs_same es ns e h (lines.Integer n ∷ xs) = regs_same es ns e h xs
-    regs_same es ns e h (lines.Wire r n ∷ xs) = regs_same es ns e h xs
-    regs_same es ns e h (lines.Assign t r ∷ xs) = regs_same es ns e h xs
+    regs_same es ns e h (_ ∷ xs) = regs_same es ns e h xs
 
     pub files_same : (ss : Sizes) → AlikeSizes ss (sizes_of m) → (xs : List Item) → files_by ss wires m.inits m.updates xs ≡ files_of ks m xs
     files_same ss h [] = refl
-    files_same ss h (lines.Reg r n ∷ xs) = files_same ss h xs
     files_same ss h (lines.File r n w ∷ xs) = rw (h.widths n.name, h.addresses n.name, port_same m.updates n.name, files_same ss h xs) refl
-    files_same ss h (lines.Integer n ∷ xs) = files_same ss h xs
-    files_same ss h (lines.Wire r n ∷ xs) = files_same ss h xs
-    files_same ss h (lines.Assign t r ∷ xs) = files_same ss h xs
+    files_same ss h (_ ∷ xs) = files_same ss h xs
 
 -- all parts
 pub parts_same : (m : VModule) (wires : Numbered) (ks : List (List ℕ)) (ss : Sizes) (name : List ℕ) (ext : ℕ) (reset : Bool) (samples : List Port) (regs : List NetReg) (files : List NetFile) (full ue back : NodeId)

@@ -134,10 +134,7 @@ regs_fit m es ks ns e [] a = All-nil (RegFits es)
 regs_fit m es ks ns e (lines.Reg r n ∷ xs) a =
     let first : RegOk ns (reg_of ks m n) = All-head (RegOk ns) (reg_of ks m n) (regs_of ks m xs) a in
     All-cons (RegFits es) (lines.Reg r n) xs (subst IsWord (sym (e n.name)) first.start) (regs_fit m es ks ns e xs (All-tail (RegOk ns) (reg_of ks m n) (regs_of ks m xs) a))
-regs_fit m es ks ns e (lines.File r n w ∷ xs) a = All-cons (RegFits es) _ xs tt (regs_fit m es ks ns e xs a)
-regs_fit m es ks ns e (lines.Integer n ∷ xs) a = All-cons (RegFits es) _ xs tt (regs_fit m es ks ns e xs a)
-regs_fit m es ks ns e (lines.Wire r n ∷ xs) a = All-cons (RegFits es) _ xs tt (regs_fit m es ks ns e xs a)
-regs_fit m es ks ns e (lines.Assign t r ∷ xs) a = All-cons (RegFits es) _ xs tt (regs_fit m es ks ns e xs a)
+regs_fit m es ks ns e (_ ∷ xs) a = All-cons (RegFits es) _ xs tt (regs_fit m es ks ns e xs a)
 
 pub started : (m : VModule) → NetOk (net_of m) → AreStarted m
 unfolding net_of

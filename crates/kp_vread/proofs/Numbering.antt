@@ -7,18 +7,10 @@ use Rattle.kp_vlog.specs.{declared.tree.VPort.VPort, declared.tree.Item.Item, Sc
 use Rattle.kp_vlog.specs.declared.tree.Item.TheVariants as lines
 use Rattle.kp_vlog.proofs.Tests.{apart, same_eq}
 use Rattle.kp_vread.specs.inner.Numbering.{Numbered, number_or, AreNumbered}
+use Rattle.kp_vread_widths.proofs.Starting.{turned}
 
 pub none_numbered : AreNumbered (record { entries = []; count = 0 }) []
 none_numbered = record { count = refl; known = λ n. refl; places = λ n. refl }
-
-nat_same : (a b : ℕ) → nat_eq a b ≡ nat_eq b a
-nat_same a b = grind arith
-
-pub turned : (xs ys : List ℕ) → same xs ys ≡ same ys xs
-turned [] [] = refl
-turned [] (y ∷ ys) = refl
-turned (x ∷ xs) [] = refl
-turned (x ∷ xs) (y ∷ ys) = rw (nat_same x y, turned xs ys) refl
 
 longer : (ks : List (List ℕ)) (n : List ℕ) → length (ks ++ n ∷ []) ≡ length ks + 1
 longer [] n = refl
@@ -120,18 +112,12 @@ append-assoc (x ∷ xs) ys zs = ap (λ os. x ∷ os) (append-assoc xs ys zs)
 regs_append : (xs ys : List Item) → reg_names (xs ++ ys) ≡ reg_names xs ++ reg_names ys
 regs_append [] ys = refl
 regs_append (lines.Reg r n ∷ xs) ys = ap (λ ks. n.name ∷ ks) (regs_append xs ys)
-regs_append (lines.File r n w ∷ xs) ys = regs_append xs ys
-regs_append (lines.Integer n ∷ xs) ys = regs_append xs ys
-regs_append (lines.Wire r n ∷ xs) ys = regs_append xs ys
-regs_append (lines.Assign t r ∷ xs) ys = regs_append xs ys
+regs_append (_ ∷ xs) ys = regs_append xs ys
 
 files_append : (xs ys : List Item) → file_names (xs ++ ys) ≡ file_names xs ++ file_names ys
 files_append [] ys = refl
-files_append (lines.Reg r n ∷ xs) ys = files_append xs ys
 files_append (lines.File r n w ∷ xs) ys = ap (λ ks. n.name ∷ ks) (files_append xs ys)
-files_append (lines.Integer n ∷ xs) ys = files_append xs ys
-files_append (lines.Wire r n ∷ xs) ys = files_append xs ys
-files_append (lines.Assign t r ∷ xs) ys = files_append xs ys
+files_append (_ ∷ xs) ys = files_append xs ys
 
 ports_append : (xs ys : List VPort) → map (λ p. p.port.name) (xs ++ ys) ≡ map (λ p. p.port.name) xs ++ map (λ p. p.port.name) ys
 ports_append [] ys = refl

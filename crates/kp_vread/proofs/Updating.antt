@@ -6,7 +6,8 @@ use Rattle.kp_net.specs.{declared.node.NodeId.NodeId, Names.same}
 use Rattle.kp_vlog.specs.{declared.tree.Named.Named, declared.tree.Update.Update, Denote.node_of, Denote.next_of}
 use Rattle.kp_vlog.specs.declared.tree.Update.TheVariants as edges
 use Rattle.kp_vread.specs.inner.{Numbering.Numbered, Numbering.AreNumbered, Building.node_by, Nexts.node_or_first, Nexts.AreNexts}
-use Rattle.kp_vread.proofs.{Numbering.turned, Making.node_same}
+use Rattle.kp_vread_widths.proofs.Starting.{turned}
+use Rattle.kp_vread.proofs.Making.{node_same}
 
 pub no_nexts : (wires : Numbered) → AreNexts wires [] []
 no_nexts wires = record { nexts = λ ks a n. refl }
