@@ -1,7 +1,7 @@
 -- The value of an expression depends only on the names that occur in it.
 use Rattle.std.proofs.Common.{◌≡◌, ◌∙◌, ℕ, List, [], ◌∷◌, ◌++◌, map, refl, ap, sym, subst, arith}
-use Rattle.std.proofs.lemmas.List.Elements.{Contains-append_left, Contains-append_right}
-use Rattle.std.specs.{Prelude.Contains, List.flat_map}
+use Rattle.std.{proofs.lemmas.List.Elements.Contains-append_left, proofs.lemmas.List.Elements.Contains-append_right, specs.Prelude.Contains}
+use Rattle.std.specs.List.{flat_map}
 use Rattle.kp_bits.specs.{Word.not_of, Word.mux_of, Word.slice_of, Word.zext_of, Word.sext_of, Operators.joined_of, Operators.binary_of}
 use Rattle.kp_ast.specs.declared.tree.Expr.{Expr}
 use Rattle.kp_ast.specs.Expressions.{Env, eval, names_in, names_in_kind, names_in_level, IsSameAt}

@@ -7,9 +7,9 @@ use Rattle.kp_bits.specs.declared.{literal.Literal.Literal, operator.BinOp.BinOp
 use Rattle.kp_ast.specs.declared.tree.{Num.Num, Expr.Expr, ExprKind.ExprKind}
 use Rattle.kp_ast.specs.Checked.{Known, checked, checked_kind, checked_level, all_there}
 use Rattle.kp_ast.specs.Size.{Bodies, size_with, size_of_kind, size_of_level}
+use Rattle.kp_ast.proofs.Levels.{fold-Lit, fold-Name, fold-Not, fold-Binary, fold-Mux, fold-Concat, fold-Slice, fold-Zext, fold-Sext, fold-Call}
 use Rattle.kp_ast.specs.declared.tree.ExprKind.TheVariants as leaf
 use Rattle.kp_ast.specs.declared.tree.ExprKind.TheViews as kind
-use Rattle.kp_ast.proofs.Levels.{fold-Lit, fold-Name, fold-Not, fold-Binary, fold-Mux, fold-Concat, fold-Slice, fold-Zext, fold-Sext, fold-Call}
 
 module _ (e : Expr) where
   abbrev of_kind : ExprKind → Expr

@@ -1,6 +1,5 @@
 -- How much work is in the bodies of functions.
-use Rattle.std.proofs.Common.{ℕ, ◌+◌, List}
-use Rattle.std.specs.Prelude.{sum_by}
+use Rattle.std.{proofs.Common.ℕ, proofs.Common.◌+◌, proofs.Common.List, specs.Prelude.sum_by}
 use Rattle.kp_ast.specs.declared.tree.{Decl.Decl, ExprKind.TheViews.size-Expr}
 use Rattle.kp_ast.specs.declared.tree.Decl.TheVariants as decls
 

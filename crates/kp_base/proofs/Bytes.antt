@@ -1,7 +1,7 @@
 -- Known bytes over several calls.
 use Rattle.std.proofs.Common.{◌∙◌, append_assoc, ℕ, List, ◌+◌, [], ◌++◌, take, drop, sym, subst, refl, arith, Ok, Err}
-use Rattle.std.proofs.{Math.Seq.take-add, KnownBytes.Appends-nil, KnownBytes.Appends-trans}
-use Rattle.std.specs.{declared.option.Option.Option, declared.result.Result.Result, Io.KnownBytes.Appends}
+use Rattle.std.{proofs.Math.Seq.take-add, proofs.KnownBytes.Appends-nil, proofs.KnownBytes.Appends-trans, specs.declared.option.Option.Option}
+use Rattle.std.specs.{declared.result.Result.Result, Io.KnownBytes.Appends}
 use Rattle.kp_base.specs.{Bytes.AppendsPart, Bytes.Writes, inner.Bytes.WrittenUpTo}
 
 -- the next bytes of a piece, after those that were taken

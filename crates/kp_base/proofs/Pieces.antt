@@ -1,7 +1,6 @@
 -- Pieces of a text, in order.
 use Rattle.std.proofs.Common.{◌≡◌, ℕ, suc, ◌<◌, List, ◌++◌, length, get_or, take, drop, sym, ap, ◌∙◌, drop-cons}
-use Rattle.std.proofs.lemmas.{List.take-append-drop, Grind.flat_map-append}
-use Rattle.std.specs.Prelude.{flat_map}
+use Rattle.std.{proofs.lemmas.List.take-append-drop, proofs.lemmas.Grind.flat_map-append, specs.Prelude.flat_map}
 
 -- the text before a piece, the piece, and the text after it
 pub flat_map_split : {X : Type 0} (f : X → List ℕ) (xs : List X) (i : ℕ) (d : X) → i < length xs → flat_map f xs ≡ flat_map f (take i xs) ++ (f (get_or xs i d) ++ flat_map f (drop (suc i) xs))

@@ -1,8 +1,7 @@
 -- Decimal and hexadecimal digits, and lists that are written from the front.
 use Rattle.std.proofs.Common.{◌≡◌, ◌∙◌, refl, sym, ap, ℕ, zero, suc, ◌+◌, ◌-◌, ◌*◌, ◌/◌, ◌%◌, ◌^◌, ◌<◌, ◌≤◌, arith, List, [], ◌∷◌, ◌++◌, length, take, drop, set, ltb}
 use Rattle.std.proofs.{Math.Nat.pow-suc, lemmas.Nat.pow-add, lemmas.List.append_assoc, lemmas.List.take_more_set, lemmas.List.append-nil, lemmas.List.take_all}
-use Rattle.std.proofs.lemmas.{Bool.cond-true, Bool.lt-ltb, Int.Digits.digits_of_step}
-use Rattle.std.specs.Char.{digit_char}
+use Rattle.std.{proofs.lemmas.Bool.cond-true, proofs.lemmas.Bool.lt-ltb, proofs.lemmas.Int.Digits.digits_of_step, specs.Char.digit_char}
 use Rattle.kp_bits.specs.Spelling.{decimal_digits, hex_digits}
 
 -- a hexadecimal digit is four bits

@@ -1,7 +1,7 @@
 -- An expression's checked value, if it has one, is its value.
 use Rattle.std.proofs.Common.{◌≡◌, ◌∙◌, ℕ, Bool, true, false, cond, List, [], ◌∷◌, map, fold, Option, Some, None, Ok, Err, refl, ap, sym}
-use Rattle.std.proofs.lemmas.Option.{same_Some, cond_some}
-use Rattle.std.specs.{Option.option_map, Option.option_and_then, Option.unwrap_or, Result.result_ok}
+use Rattle.std.{proofs.lemmas.Option.same_Some, proofs.lemmas.Option.cond_some, specs.Option.option_map, specs.Option.option_and_then, specs.Option.unwrap_or}
+use Rattle.std.specs.Result.{result_ok}
 use Rattle.kp_bits.specs.Word.{Word, not_of, mux_of, concat_of, slice_of, zext_of, sext_of}
 use Rattle.kp_bits.specs.Operators.{no_word, joined_of, binary_of}
 use Rattle.kp_bits.specs.Checked.{where_so, checked_join, checked_joined, checked_binary, checked_mux, checked_slice, checked_zext, checked_sext}
@@ -9,9 +9,9 @@ use Rattle.kp_bits.specs.declared.literal.LiteralFault.TheVariants.{TooBig, BadW
 use Rattle.kp_ast.specs.declared.tree.{Decl.Decl, Expr.Expr}
 use Rattle.kp_ast.specs.Expressions.{Env, Calls, no_calls, eval, is_function, Values, look_up, names_of, arguments_of, value_of_decl, calls_after, calls_of}
 use Rattle.kp_ast.specs.Checked.{Known, checked, all_there, checked_call, checked_calls_after, checked_calls_of}
-use Rattle.kp_ast.specs.declared.tree.Decl.TheVariants as decls
 use Rattle.kp_ast.proofs.Levels.{fold-Lit, fold-Name, fold-Not, fold-Binary, fold-Mux, fold-Concat, fold-Slice, fold-Zext, fold-Sext, fold-Call}
 use Rattle.kp_ast.proofs.Induction.{Every, induction}
+use Rattle.kp_ast.specs.declared.tree.Decl.TheVariants as decls
 
 -- w is what is found in o, if anything is
 abbrev pub Agrees : {X : Type 0} → Option X → X → Type 0

@@ -1,18 +1,17 @@
 -- Literals, names, and calls of functions.
 use Rattle.std.proofs.Common.{◌≡◌, ◌∙◌, ℕ, ◌==◌, true, false, Bool, cond, List, [], ◌∷◌, Option, Some, None, length, refl, ap, sym, arith}
-use Rattle.std.proofs.lemmas.{Bool.eqb-true, List.length-map, Option.same_Some}
-use Rattle.std.specs.{Prelude.is_some, Option.option_map}
+use Rattle.std.{proofs.lemmas.Bool.eqb-true, proofs.lemmas.List.length-map, proofs.lemmas.Option.same_Some, specs.Prelude.is_some, specs.Option.option_map}
 use Rattle.kp_bits.specs.{Word.Word, Word.not_of, Checked.checked_literal, declared.literal.Literal.Literal}
 use Rattle.kp_ast.specs.declared.tree.{Decl.Decl, FuncDecl.FuncDecl, Param.Param, Expr.Expr}
 use Rattle.kp_ast.specs.Expressions.{look_up, arguments_of, calls_of}
 use Rattle.kp_ast.specs.Checked.{Known, checked, checked_call, checked_calls_of}
+use Rattle.kp_ast.proofs.Parts.{value_Lit, value_Name}
 use Rattle.kp_ast.specs.declared.tree.Decl.TheVariants as decls
 use Rattle.kp_ast.specs.declared.tree.ExprKind.TheVariants as leaf
 use Rattle.kp_net.specs.{declared.node.NodeId.NodeId, Nodes.Cells, Nodes.word_at, Growth.Held}
 use Rattle.kp_build.specs.Names.{Scope, node_of, word_of, known_at, IsSound, Gives, Means}
 use Rattle.kp_build.specs.inner.Showing.{IsThere, Shows, words_at, value_in}
 use Rattle.kp_build.proofs.{Agree.agree, Agree.calls_agree, Fitting.no_cells, Names.given, Names.known_in_call}
-use Rattle.kp_ast.proofs.Parts.{value_Lit, value_Name}
 
 module _ (p : Held) (env : Scope) (e : Expr) where
   pub literal_there : (l : Literal) → e.kind ≡ leaf.Lit l → IsSound p env e → is_some (checked_literal l) ≡ true

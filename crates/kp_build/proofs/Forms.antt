@@ -1,15 +1,11 @@
 -- Each form of expression: its parts are sound if it is, and its value is that of its operation at the nodes of its parts.
 use Rattle.std.proofs.Common.{◌≡◌, ◌∙◌, Option, Some, ap, sym, true}
 use Rattle.std.specs.{Prelude.is_some, Option.option_map, Option.option_and_then}
-use Rattle.kp_bits.specs.Word.{Word, not_of}
-use Rattle.kp_bits.specs.Checked.{checked_binary, checked_mux}
-use Rattle.kp_bits.specs.declared.operator.BinOp.{BinOp}
-use Rattle.kp_ast.specs.declared.tree.Expr.{Expr}
+use Rattle.kp_bits.specs.{Word.Word, Word.not_of, Checked.checked_binary, Checked.checked_mux, declared.operator.BinOp.BinOp}
+use Rattle.kp_ast.{specs.declared.tree.Expr.Expr, proofs.Parts.value_Not, proofs.Parts.value_Binary, proofs.Parts.value_Mux}
 use Rattle.kp_ast.specs.declared.tree.ExprKind.TheViews as kind
 use Rattle.kp_net.specs.{declared.node.NodeId.NodeId, Nodes.Cells, Nodes.word_at, Growth.Held}
-use Rattle.kp_build.specs.Names.{Scope, known_at, IsSound, Gives}
-use Rattle.kp_build.specs.inner.Showing.{value_in}
-use Rattle.kp_ast.proofs.Parts.{value_Not, value_Binary, value_Mux}
+use Rattle.kp_build.specs.{Names.Scope, Names.known_at, Names.IsSound, Names.Gives, inner.Showing.value_in}
 use Rattle.kp_build.proofs.Giving.{first_there, second_there, third_there, mapped_there, sound_by, one_part, two_parts, three_parts}
 
 module _ (p : Held) (env : Scope) (e : Expr) where

@@ -1,7 +1,6 @@
 -- Lists of expressions, and their nodes.
 use Rattle.std.proofs.Common.{◌≡◌, ◌∙◌, ℕ, suc, zero, ◌+◌, ◌<◌, true, List, [], ◌∷◌, ◌++◌, map, Option, Some, None, length, get_or, take, refl, ap, sym, arith}
-use Rattle.std.proofs.lemmas.List.{take_more, map-append}
-use Rattle.std.specs.{Prelude.is_some, Option.option_map, Option.option_and_then}
+use Rattle.std.{proofs.lemmas.List.take_more, proofs.lemmas.List.map-append, specs.Prelude.is_some, specs.Option.option_map, specs.Option.option_and_then}
 use Rattle.kp_bits.specs.Word.{Word}
 use Rattle.kp_ast.specs.{declared.tree.Expr.Expr, Checked.checked, Checked.all_there}
 use Rattle.kp_net.specs.{declared.node.NodeId.NodeId, Nodes.word_at, Growth.Held, Growth.Grown}

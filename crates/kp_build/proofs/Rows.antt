@@ -2,8 +2,7 @@
 use Rattle.std.proofs.Common.{◌≡◌, ◌∙◌, ℕ, ◌+◌, ◌<◌, ◌≤◌, Bool, true, false, cond, List, [], ◌∷◌, ◌++◌, fold, Option, Some, None, length, get_or, drop, refl, ap, sym, subst, arith}
 use Rattle.std.proofs.lemmas.{Bool.leb-true, List.map-append}
 use Rattle.std.proofs.lemmas.List.Elements.{All-head, All-tail, All-weaker, All-drop, All-same, All-cons}
-use Rattle.std.proofs.{lemmas.Option.same_Some, Math.Seq.drop-append_seam, lemmas.List.Sums.sum_by-cons}
-use Rattle.std.specs.{Prelude.is_some, List.sum_by}
+use Rattle.std.{proofs.lemmas.Option.same_Some, proofs.Math.Seq.drop-append_seam, proofs.lemmas.List.Sums.sum_by-cons, specs.Prelude.is_some, specs.List.sum_by}
 use Rattle.kp_bits.specs.{Word.Word, Word.concat_of, Operators.joined_of, Checked.checked_join, Checked.checked_joined}
 use Rattle.kp_net.specs.{declared.node.NodeId.NodeId, Nodes.Cells, Nodes.word_at, Widths.wide, Widths.AllRight, Growth.Held, Growth.Grown}
 use Rattle.kp_net.proofs.Values.{word_wide}

@@ -1,6 +1,5 @@
 -- How much is left of a walk over an expression and the functions that it may call.
-use Rattle.std.proofs.Common.{ℕ, ◌+◌, List}
-use Rattle.std.specs.Prelude.{sum_by}
+use Rattle.std.{proofs.Common.ℕ, proofs.Common.◌+◌, proofs.Common.List, specs.Prelude.sum_by}
 use Rattle.kp_ast.specs.{declared.tree.Decl.Decl, declared.tree.Expr.Expr, Size.size_with, Size.no_bodies}
 use Rattle.kp_ast.specs.declared.tree.Decl.TheVariants as decls
 

@@ -1,7 +1,7 @@
 -- What `clap` returns for arguments none of which begins with `-`.
 use Rattle.std.proofs.Common.{◌≡◌, ◌∙◌, ◌⊎◌, ℕ, Bool, cond, true, false, refl, sym, ap, ap₂, subst, List, [], ◌∷◌, map, fold, ◌&&◌, Option, Some, None, is_some, inl, inr, codes}
-use Rattle.std.proofs.lemmas.Slice.Eq.{bytes_eq-Decides}
-use Rattle.std.specs.{Prelude.⊤, Prelude.find, Prelude.option_map, Str.bytes_eq, Option.option_map_or}
+use Rattle.std.{proofs.lemmas.Slice.Eq.bytes_eq-Decides, specs.Prelude.⊤, specs.Prelude.find, specs.Prelude.option_map, specs.Str.bytes_eq}
+use Rattle.std.specs.Option.{option_map_or}
 use Rattle.clap.specs.Walk.{Held, Names, Row, Rule, Step, Text, Walk, idle, value, answers_to, arg_by_index, subcommand_met, word_met, walked, walk, walk_from, nothing_held, to_positional, after_step, rows_after, subcommand_or_other, settled, finished}
 use Rattle.clap.specs.Lexer.{long_of, short_of}
 use Rattle.clap.specs.Simple.{Shape, built, built_leaf, entered, rows_at, inherited, label_of, marked_built, subcommand_of, with_leaf_noted, with_filled_rules}

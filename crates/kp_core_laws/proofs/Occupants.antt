@@ -1,12 +1,12 @@
 -- What the stages of a pipelined machine hold: in a full stage from which upward no pending guess is wrong, the instruction of the sequential machine that
 -- has the stage's number.
-use Rattle.std.specs.List.{AllByRecursion}
 use Rattle.std.proofs.Common.{◌≡◌, ◌∙◌, ℕ, zero, suc, ◌+◌, ◌<◌, ◌≤◌, true, List, [], ◌∷◌, length, refl, sym, ap, subst, arith}
+use Rattle.std.specs.List.{AllByRecursion}
 use Rattle.kp_pipeline.specs.{Machine.Machine, Accepted.Accepted, Sequential.PendingGuess, Sequential.instruction_before, Sequential.seq}
 use Rattle.kp_pipeline.specs.{Pipeline.Inputs, Pipeline.PipelineState, Pipeline.cycle, Pipeline.pipeline_start, Claims.StandsBefore}
 use Rattle.kp_pipeline.specs.Rows.{bit, one_if, row, rows_from, pipe, taken, counts, counts_from, count_after, state_after}
-use Rattle.kp_pipeline.specs.RightPath.{IsRightIn, HasRightGuesses}
-use Rattle.kp_pipeline.proofs.{Invariant.Inv, Movement.next_count, Counts.AgreeBelow, Counts.counts-row}
+use Rattle.kp_pipeline.{specs.RightPath.IsRightIn, specs.RightPath.HasRightGuesses, proofs.Invariant.Inv, proofs.Movement.next_count}
+use Rattle.kp_pipeline.proofs.Counts.{AgreeBelow, counts-row}
 use Rattle.kp_pipeline.proofs.Legality.{TakesAhead, inv-kept, inv-start, takes_ahead-kept, takes_ahead-met}
 
 module _ (m : Machine) (acc : Accepted m) (s given : ℕ → ℕ → ℕ) where

@@ -1,21 +1,17 @@
 -- What the ports show, by the statements on the netlist.
 use Rattle.std.proofs.Common.{◌≡◌, ◌∙◌, ℕ, zero, suc, ◌^◌, ◌+◌, ◌-◌, ◌<◌, ◌≤◌, zero-add, Bool, true, false, cond, ◌&&◌, List, [], ◌∷◌, length, get_or, refl, sym, ap, subst, arith}
-use Rattle.std.proofs.lemmas.{Bool.cond-false, List.get_or-map, List.length-map}
-use Rattle.std.specs.Prelude.{nat_le}
+use Rattle.std.{proofs.lemmas.Bool.cond-false, proofs.lemmas.List.get_or-map, proofs.lemmas.List.length-map, specs.Prelude.nat_le}
 use Rattle.kp_ast.specs.declared.tree.Job.{Job}
 use Rattle.kp_pipeline.specs.{Accepted.Accepted, Pipeline.PipelineState, RightPath.HasRightGuesses}
 use Rattle.kp_pipeline.specs.Rows.{Row, passed, one_if, bit, bits, counts, pipe, taken}
-use Rattle.kp_pipeline.specs.Sequential.{Instruction, instruction_before}
-use Rattle.kp_pipeline.proofs.Lists.{bit-bits}
-use Rattle.kp_width.specs.Widths.{widths_of}
-use Rattle.kp_width.proofs.Unbroken.{Unbroken}
+use Rattle.kp_pipeline.{specs.Sequential.Instruction, specs.Sequential.instruction_before, proofs.Lists.bit-bits}
+use Rattle.kp_width.{specs.Widths.widths_of, proofs.Unbroken.Unbroken}
 use Rattle.kp_machine.specs.Machine.{machine_of, start_hints}
 use Rattle.kp_net.specs.{declared.netlist.NetReg.NetReg, Nodes.at}
 use Rattle.kp_net.specs.Netlist.{Net, Input, State, cells_of, state_after, regs_after, files_after, start_regs, states_from, rows_from, row_of}
 use Rattle.kp_net.specs.Parts.{no_reg}
 use Rattle.kp_seq.specs.Running.{HasWord}
-use Rattle.kp_sched.specs.Rows.{rows_seen, bit_of}
-use Rattle.kp_sched.proofs.Counting.{seen_length}
+use Rattle.kp_sched.{specs.Rows.rows_seen, specs.Rows.bit_of, proofs.Counting.seen_length}
 use Rattle.kp_synth_spec.specs.{Naming.value_of, Naming.value_shown, Shows.Shows, Legal.value_from, Legal.IsLegalFrom, Anew.trace_from, Anew.BeginsAnew}
 use Rattle.kp_synth_spec.specs.Traces.{input_seen, inputs_seen, no_state, AreQuiet}
 use Rattle.kp_synth_close.specs.Shows.{HoldsFrom}
@@ -25,10 +21,8 @@ use Rattle.kp_synth.specs.Carrying.{Carries}
 use Rattle.kp_core_ports.specs.Ports.{Exists}
 use Rattle.kp_core_ports.specs.declared.port.Ask.TheVariants.{Show, Peek, Probe, Next, Commit}
 use Rattle.kp_core_text.proofs.Registers.{there}
-use Rattle.kp_core_runs.specs.Beginning.{Begins}
-use Rattle.kp_core_laws.specs.Values.{port_value, state_in, moment_in}
-use Rattle.kp_core_runs.proofs.Beginning.{along, shown_along}
-use Rattle.kp_core_laws.proofs.Occupants.{held_instruction, held_late}
+use Rattle.kp_core_runs.{specs.Beginning.Begins, proofs.Beginning.along, proofs.Beginning.shown_along}
+use Rattle.kp_core_laws.{specs.Values.port_value, specs.Values.state_in, specs.Values.moment_in, proofs.Occupants.held_instruction, proofs.Occupants.held_late}
 
 -- ---- registers and files
 

@@ -1,7 +1,6 @@
 -- What a port shows or takes exists.
 use Rattle.std.proofs.Common.{◌≡◌, ℕ, suc, ◌+◌, ◌<◌, ◌≤◌, Bool, true, false, cond, ◌&&◌, ◌==◌, not, List, [], ◌∷◌, length, get_or, Option, Some, None, Result, Ok, Err, refl, sym, ap, subst, ◌∙◌, arith}
-use Rattle.std.proofs.lemmas.Bool.{and_parts, not-true}
-use Rattle.std.specs.{Prelude.IfOk, Prelude.IfSome, Str.bytes_eq}
+use Rattle.std.{proofs.lemmas.Bool.and_parts, proofs.lemmas.Bool.not-true, specs.Prelude.IfOk, specs.Prelude.IfSome, specs.Str.bytes_eq}
 use Rattle.kp_ast.specs.declared.tree.{Decl.Decl, Job.Job}
 use Rattle.kp_machine.specs.Slots.{Slot, targets_of, pipes_of, is_register}
 use Rattle.kp_synth_tables.specs.Keys.{HasKey, no_slot, target_at}

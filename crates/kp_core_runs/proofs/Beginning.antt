@@ -3,15 +3,13 @@ use Rattle.std.proofs.Common.{◌≡◌, ℕ, true, List, inl, inr, sym, subst}
 use Rattle.kp_ast.specs.declared.tree.Job.{Job}
 use Rattle.kp_pipeline.specs.Rows.{pipe}
 use Rattle.kp_stage.specs.Start.{start_of}
-use Rattle.kp_width.specs.Widths.{widths_of}
-use Rattle.kp_width.proofs.Unbroken.{Unbroken}
+use Rattle.kp_width.{specs.Widths.widths_of, proofs.Unbroken.Unbroken}
 use Rattle.kp_machine.specs.Machine.{machine_of, state_of, start_hints, pipe_of}
 use Rattle.kp_net.specs.Netlist.{Net, Input, State, start_of as net_start, state_after}
 use Rattle.kp_sched.specs.Runs.{ShowsAlike}
 use Rattle.kp_synth_spec.specs.{Naming.value_shown, Shows.Shows, Traces.trace_of, Traces.inputs_seen, Traces.AreQuiet}
 use Rattle.kp_synth_spec.specs.Anew.{trace_from, left_by_reset, HasMemory, BeginsAnew}
-use Rattle.kp_core_runs.specs.Beginning.{Begins}
-use Rattle.kp_core_runs.proofs.Loading.{after_loading}
+use Rattle.kp_core_runs.{specs.Beginning.Begins, proofs.Loading.after_loading}
 
 module _ (net : Net) (job : Job) (shows : Shows net job) (names : Unbroken (widths_of job)) where
   pub along : (P : (ℕ → ℕ → ℕ) → State → Type 0) → P (state_of job (start_of job)) (net_start net)

@@ -4,8 +4,7 @@ use Rattle.std.proofs.lemmas.{Bool.cases_lt, Bool.cond-true, Bool.cond-false, Bo
 use Rattle.std.proofs.lemmas.List.{length-map, length-set, get_or-set_other, Elements.All-head, Elements.All-tail}
 use Rattle.std.specs.{Prelude.All, Prelude.set, Prelude.fold, Prelude.if◌then◌else◌, Cmp.Lexicographic.bytes_decides}
 use Rattle.kp_ast.specs.declared.tree.Job.{Job}
-use Rattle.kp_width.specs.Widths.{widths_of}
-use Rattle.kp_width.proofs.Unbroken.{Unbroken}
+use Rattle.kp_width.{specs.Widths.widths_of, proofs.Unbroken.Unbroken}
 use Rattle.kp_machine.specs.Slots.{targets_of, is_register}
 use Rattle.kp_net.specs.Names.{same}
 use Rattle.kp_net.specs.Netlist.{Net, Input, State, start_regs, cells_of, regs_after, files_after, state_after}
@@ -13,8 +12,7 @@ use Rattle.kp_net.specs.Parts.{NetOk, no_file}
 use Rattle.kp_seq.specs.Running.{target}
 use Rattle.kp_synth_tables.proofs.Apart.{targets_apart}
 use Rattle.kp_synth_spec.specs.{Naming.file_name, Naming.file_names, Naming.file_of, Naming.place_among, Naming.value_shown, Shows.Shows}
-use Rattle.kp_synth_spec.specs.Anew.{HasMemory, left_by_reset}
-use Rattle.kp_synth_spec.proofs.Anew.{left_alike}
+use Rattle.kp_synth_spec.{specs.Anew.HasMemory, specs.Anew.left_by_reset, proofs.Anew.left_alike}
 use Rattle.kp_core_runs.specs.Loading.{Load, IsLoad, Cycle, LoadsIn, put_in, after_cycle, after_cycles, with_load, with_loads, all_loaded}
 use Rattle.kp_core_runs.proofs.Memory.{at_set, same_memory, memory_after}
 

@@ -5,8 +5,7 @@ use Rattle.std.proofs.lemmas.{List.Elements.All-get_or, Slice.Zip.get_or-zip, Sl
 use Rattle.std.specs.{Prelude.set, Prelude.Option, Prelude.Some, Prelude.None, Prelude.if◌then◌else◌, List.zip}
 use Rattle.kp_net.specs.{declared.netlist.NetFile.NetFile, declared.netlist.WritePort.WritePort, Nodes.Cells, Nodes.at, Nodes.on}
 use Rattle.kp_net.specs.Netlist.{Net, Input, State, start_of as net_start, start_regs, cells_of, port_after, regs_after, files_after, resets, state_after}
-use Rattle.kp_net.specs.Parts.{NetOk, FileOk, WriteOk, no_file}
-use Rattle.kp_net.proofs.Values.{at_fits}
+use Rattle.kp_net.{specs.Parts.NetOk, specs.Parts.FileOk, specs.Parts.WriteOk, specs.Parts.no_file, proofs.Values.at_fits}
 use Rattle.kp_synth_spec.specs.Anew.{HasMemory}
 
 -- an entry of a list of which another may have been replaced

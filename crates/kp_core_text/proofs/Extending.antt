@@ -1,8 +1,8 @@
 -- The canonical text of a netlist has one line with its ports, which ends with `);`, and a last line `endmodule`. So the ports and the lines that are added
 -- are before these.
 use Rattle.std.proofs.Common.{◌≡◌, ◌∙◌, ℕ, zero, suc, ◌+◌, ◌-◌, ◌%◌, ◌^◌, ◌<◌, Bool, true, false, cond, ◌==◌, not, List, [], ◌∷◌, ◌++◌, length, take, drop, refl, sym, ap, subst, arith, append_assoc}
-use Rattle.std.proofs.lemmas.{Bool.agree_below_at, Bool.and_from, Bool.and_parts, Bool.eqb-true, Fmt.decimal_by_steps, List.Folds.list_all-append, List.length-append}
-use Rattle.std.proofs.Math.Seq.{take-append_seam, drop-append_seam, drop-append-add}
+use Rattle.std.proofs.lemmas.{Bool.agree_below_at, Bool.and_from, Bool.and_parts, Bool.eqb-true, Fmt.decimal_by_steps, List.Folds.list_all-append}
+use Rattle.std.proofs.{lemmas.List.length-append, Math.Seq.take-append_seam, Math.Seq.drop-append_seam, Math.Seq.drop-append-add}
 use Rattle.std.specs.{Prelude.codes, Prelude.decimal, Prelude.slice_range, Prelude.All, Prelude.map, Prelude.◌&&◌, List.list_all}
 use Rattle.kp_base.specs.Characters.{run_length}
 use Rattle.kp_net.specs.declared.{node.Node.Node, netlist.Port.Port, netlist.Parts.Parts}

@@ -1,7 +1,8 @@
 -- Registers and files take the values of nodes.
 use Rattle.std.proofs.Common.{◌≡◌, ◌≢◌, ◌==◌, ℕ, Bool, true, false, cond, suc, ◌+◌, ◌<◌, ◌≤◌, ◌^◌, List, [], ◌∷◌, ◌++◌, length, get_or, set, map, refl, sym, subst, ap, ◌∙◌, arith, ⊎_elim, Option, None, Some}
-use Rattle.std.proofs.lemmas.{Bool.cases_lt, Bool.cases_eq, List.get_or-set_other, List.length-set, List.get_or-map, List.ext_get_or, List.length-map, List.get_or_append_left, List.get_or_push, List.length_push, Grind.get_or-set_at}
-use Rattle.std.proofs.lemmas.{List.Elements.All-get_or, Slice.Zip.get_or-zip, Slice.Zip.length-zip}
+use Rattle.std.proofs.lemmas.Bool.{cases_lt, cases_eq}
+use Rattle.std.proofs.lemmas.List.{get_or-set_other, length-set, get_or-map, ext_get_or, length-map, get_or_append_left, get_or_push, length_push}
+use Rattle.std.proofs.lemmas.{Grind.get_or-set_at, List.Elements.All-get_or, Slice.Zip.get_or-zip, Slice.Zip.length-zip}
 use Rattle.std.specs.List.{zip}
 use Rattle.kp_net.specs.declared.{node.Node.Node, netlist.NetReg.NetReg, netlist.NetFile.NetFile, netlist.WritePort.WritePort}
 use Rattle.kp_net.specs.Nodes.{Cells, at, on}
@@ -34,27 +35,6 @@ some_more xs x d P m = let l = m.1 in (m.0, omega (arith, l, length_push xs x), 
 pub some_last : {X : Type 0} (xs : List X) (x d : X) (P : X → Type 0) → P x → (k : ℕ) × (k < length (xs ++ x ∷ [])) × P (get_or (xs ++ x ∷ []) k d)
 some_last xs x d P h = (length xs, omega (arith, length_push xs x), subst P (sym (get_or_push xs x d (length xs) refl)) h)
 
-pub fits_reg : (net : Net) (m : Stored) (i v : ℕ) → Fits net m → Fits net (record m { regs = set m.regs i v })
-fits_reg net m i v h = record { right = h.right; nodes = h.nodes; regs = length-set m.regs i v ∙ h.regs; files = h.files; words = h.words }
-
--- one more file
-pub port_length : (port : Option WritePort) (values words : List ℕ) → length (port_from port values words) ≡ length words
-port_length None values words = refl
-port_length (Some p) values words =
-    let b : Bool = get_or values p.enable.0 0 == 1 in let ws : List ℕ = set words (get_or values p.address.0 0) (get_or values p.value.0 0) in
-    elim b as (λ x. length (cond x ws words) ≡ length words) [ true ↦ length-set words (get_or values p.address.0 0) (get_or values p.value.0 0) | false ↦ refl ]
-
-pub fits_file : (net : Net) (m : Stored) (i : ℕ) (ws : List ℕ) → Fits net m → i < length m.files → length ws ≡ length (get_or m.files i []) → Fits net (record m { files = set m.files i ws })
-fits_file net m i ws h l e = record {
-  right = h.right;
-  nodes = h.nodes;
-  regs = h.regs;
-  files = length-set m.files i ws ∙ h.files;
-  words = λ f k. set_has (λ g xs. length xs ≡ 2 ^ (get_or net.parts.files g no_file).address_width) m.files i ws [] f l
-      (λ z. e ∙ ap (λ (j : ℕ). length (get_or m.files j [])) (sym z) ∙ h.words f k)
-      (λ apart. h.words f k);
-}
-
 -- the files up to here are updated by their ports, and the others are unchanged
 pub record Written (files : List NetFile) (values : List ℕ) (old new : List (List ℕ)) (i : ℕ) : Type 0 where
   pub done : (f : ℕ) → f < i → get_or new f [] ≡ port_from (get_or files f no_file).port values (get_or old f [])
@@ -79,11 +59,6 @@ ready ns m f w a None e fits l ok = tt
 ready ns m f w a (Some p) e fits l ok =
     let k : get_or m.nodes p.address.0 0 < 2 ^ a = (let P : ℕ → Type 0 = λ x. get_or m.nodes p.address.0 0 < 2 ^ x in subst P ok.1.1 (fits p.address.0 ok.1.0)) in
     (omega (arith, ok.0.0, e), omega (arith, ok.1.0, e), omega (arith, ok.2.0, e), omega (arith, k, l))
-
-pub port_ready : (net : Net) (m : Stored) (f : ℕ) → Fits net m → FitsBelow net.nodes m.nodes (length net.nodes) → f < length net.parts.files → PortReady m f (get_or net.parts.files f no_file).port
-port_ready net m f h fits l =
-    let ok : FileOk net.nodes (get_or net.parts.files f no_file) = All-get_or (FileOk net.nodes) net.parts.files f no_file l h.right.parts.files in
-    ready net.nodes m f _ _ (get_or net.parts.files f no_file).port h.nodes fits (h.words f l) ok.port
 
 port_same : (c : Cells) (ns : List Node) (values : List ℕ) (port : Option WritePort) (words : List ℕ) → OfPort (λ j. get_or values j 0 ≡ at c ns j) port → port_from port values words ≡ port_after c ns port words
 unfolding on

@@ -1,8 +1,7 @@
 -- The operation of a node computes the node's value.
 use Rattle.std.proofs.Common.{◌≡◌, ◌∙◌, ℕ, ◌+◌, ◌-◌, ◌*◌, ◌/◌, ◌%◌, ◌^◌, ◌<◌, ◌≤◌, ◌==◌, Bool, true, false, cond, List, [], ◌∷◌, length, get_or, refl, ap, sym, subst, arith, bit_and, bit_or}
 use Rattle.std.proofs.{lemmas.Bool.ltb-true, Math.Nat.mod-eq_of_lt, Math.Nat.mul-add, Math.Nat.add-mul-mod_self_left}
-use Rattle.std.proofs.lemmas.Nat.{and_mask, pow-add, pow_pos}
-use Rattle.std.specs.Prelude.{All, nat_lt}
+use Rattle.std.{proofs.lemmas.Nat.and_mask, proofs.lemmas.Nat.pow-add, proofs.lemmas.Nat.pow_pos, specs.Prelude.All, specs.Prelude.nat_lt}
 use Rattle.kp_bits.specs.{declared.operator.BinOp.BinOp, Word.Word}
 use Rattle.kp_bits.proofs.Powers.{low_of, concat_value, concat_fits, pow_le, sub_above}
 use Rattle.kp_net.specs.declared.node.{NodeId.NodeId, Kind.Kind}

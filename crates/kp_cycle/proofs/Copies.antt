@@ -1,10 +1,8 @@
 -- Copies of the complete state are disjoint from it.
 use Rattle.std.proofs.Common.{◌≡◌, ◌≢◌, ℕ, ◌+◌, ◌-◌, ◌<◌, ◌≤◌, Bool, true, false, cond, List, [], ◌∷◌, ◌++◌, length, get_or, set, map, take, drop, replicate, zero, suc, refl, sym, subst, ap, ◌∙◌, arith, ⊎_elim, inl, inr, Option, None, Some}
-use Rattle.std.proofs.lemmas.Bool.{cases_lt, cases_eq, cond-true, cond-false}
 use Rattle.std.proofs.lemmas.List.{get_or-set_other, length-set, map-set, length-take-le, length-map, length-append, length-drop, get_or-replicate, get_or_past, length-replicate, take-take, take_at, drop_at, ext_get_or}
-use Rattle.std.proofs.lemmas.{Slice.between_is, Grind.get_or-set_at}
-use Rattle.std.proofs.Math.{ListN.get_or-map, Seq.map-set_same}
-use Rattle.std.specs.Prelude.{IsSome}
+use Rattle.std.proofs.lemmas.{Bool.cases_lt, Bool.cases_eq, Bool.cond-true, Bool.cond-false, Slice.between_is, Grind.get_or-set_at}
+use Rattle.std.{proofs.Math.ListN.get_or-map, proofs.Math.Seq.map-set_same, specs.Prelude.IsSome}
 use Rattle.kp_region.specs.declared.span.Span.{Span}
 use Rattle.kp_region.specs.Words.{Words, IsSound, IsWithin, IsDisjoint, span_words, written, copied}
 use Rattle.kp_region.proofs.Laid.{laid_below, laid_above}

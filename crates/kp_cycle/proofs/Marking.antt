@@ -10,7 +10,8 @@ use Rattle.kp_net.specs.{declared.node.Node.Node, declared.netlist.Parts.Parts, 
 use Rattle.kp_net.specs.Widths.{no_node, AllRight, KindOk}
 use Rattle.kp_cycle.specs.inner.Plans.{reads, reads_at, IsMarked, Grows, Among, IsKnown, Leads, IsOrdered, OfPort, OfRoots, Needed, Taken, IsPlan, HasCode, targets, step_for, by_node, no_step}
 use Rattle.kp_cycle.specs.{inner.Latches.latch_for, inner.Latches.OfLatch, declared.codes.Step.Step}
-use Rattle.kp_cycle.proofs.{Clocking.set_has, Clocking.each_more, Clocking.some_more, Clocking.some_last, Stepping.port_is, Stepping.latch_is, Stepping.roots_are}
+use Rattle.kp_cycle.proofs.Clocking.{set_has, each_more, some_more, some_last}
+use Rattle.kp_cycle.proofs.Stepping.{port_is, latch_is, roots_are}
 
 -- one mark more
 pub marked_here : (marks : List Bool) (a j : ℕ) → j ≡ a → a < length marks → IsMarked (set marks a true) j
@@ -191,22 +192,6 @@ heads_alone marks i alone j m =
     (λ (apart : j ≢ i). let l = alone j (sym (get_or-set_other marks i j true false apart) ∙ m) in omega arith)
     (cases_eq j i)
 
--- no mark is made yet
-pub none_marked : (n j : ℕ) → get_or (replicate n false) j false ≡ false
-none_marked zero j = refl
-none_marked (suc n) zero = refl
-none_marked (suc n) (suc j) = none_marked n j
-
--- at first the heads are taken
-pub taken_first : (ns : List Node) (heads : ℕ) (done : List Bool) → heads ≤ length ns → length done ≡ length ns → ((j : ℕ) → j < heads → IsMarked done j)
-    → ((j : ℕ) → IsMarked done j → j < heads) → Taken ns heads done []
-taken_first ns heads done h count front alone = record {
-  count = count;
-  ordered = record { heads = h; inside = λ k l. absurd (omega arith); before = λ k l. absurd (omega arith) };
-  front = front;
-  there = λ j m. inl (alone j m);
-}
-
 -- one more node is taken
 pub taken_more : (ns : List Node) (heads : ℕ) (done : List Bool) (ts : List ℕ) (t : ℕ) → Taken ns heads done ts → t < length ns → All (λ a. IsMarked done a.0) (reads_at ns t)
     → Taken ns heads (set done t true) (ts ++ t ∷ [])
@@ -239,12 +224,6 @@ operands_taken ns heads ts done k o h front known q d l =
     (λ (first : j < heads). front j first)
     (λ (a : Among ts k j). subst (IsMarked done) a.2 (known a.0 a.1))
     (o.before k h q d l)
-
--- all that is known of a list is taken if the heads and the list are
-pub known_taken : (heads : ℕ) (ts : List ℕ) (done : List Bool) → ((j : ℕ) → j < heads → IsMarked done j) → ((q : ℕ) → q < length ts → IsMarked done (get_or ts q 0))
-    → (j : ℕ) → IsKnown heads ts (length ts) j → IsMarked done j
-known_taken heads ts done front all j known =
-    ⊎_elim (λ (first : j < heads). front j first) (λ (a : Among ts (length ts) j). subst (IsMarked done) a.2 (all a.0 a.1)) known
 
 -- a node after the heads that is known is in the list
 pub known_at : (heads : ℕ) (ts : List ℕ) (j : ℕ) → heads ≤ j → IsKnown heads ts (length ts) j → 1 ≤ length ts

@@ -1,16 +1,14 @@
 -- In every state that a run reaches, registers and words fit their widths.
 use Rattle.std.proofs.Common.{◌≡◌, ℕ, zero, ◌<◌, ◌≤◌, ◌^◌, List, [], length, get_or, set, sym, subst, ap, ◌∙◌, arith, ⊎_elim, All, Option, None, Some}
 use Rattle.std.proofs.{Math.ListN.get_or-eq_default, lemmas.Nat.pow_pos, lemmas.Bool.cases_lt, lemmas.Bool.cond_both}
-use Rattle.std.proofs.lemmas.{List.get_or-map, List.set_past, List.Elements.All-get_or}
-use Rattle.std.proofs.lemmas.Slice.Zip.{get_or-zip, length-zip}
+use Rattle.std.proofs.lemmas.{List.get_or-map, List.set_past, List.Elements.All-get_or, Slice.Zip.get_or-zip, Slice.Zip.length-zip}
 use Rattle.std.specs.List.{zip}
 use Rattle.kp_net.specs.declared.{node.Node.Node, netlist.NetReg.NetReg, netlist.NetFile.NetFile, netlist.WritePort.WritePort}
 use Rattle.kp_net.specs.{Nodes.Cells, Nodes.at, Nodes.on, Widths.wide}
 use Rattle.kp_net.specs.Netlist.{Net, Input, State, start_of, start_regs, regs_after, files_after, port_after, state_after, resets, cells_of}
 use Rattle.kp_net.specs.Parts.{NetOk, RegOk, FileOk, WriteOk, no_reg, no_file}
 use Rattle.kp_net.proofs.Values.{at_fits}
-use Rattle.kp_cycle.specs.inner.Storage.{Stored, Fits, StateFits, state_of}
-use Rattle.kp_cycle.proofs.Clocking.{set_has}
+use Rattle.kp_cycle.{specs.inner.Storage.Stored, specs.inner.Storage.Fits, specs.inner.Storage.StateFits, specs.inner.Storage.state_of, proofs.Clocking.set_has}
 
 -- each number of a list is below n, and so is the default past its end
 all_below : (xs : List ℕ) (n a : ℕ) → zero < n → All (λ v. v < n) xs → get_or xs a 0 < n

@@ -1,7 +1,6 @@
 -- Calls of `step` and `step_with` are the run of the netlist.
 use Rattle.std.proofs.Common.{◌≡◌, ℕ, zero, suc, List, ◌∷◌, map, set, get_or, replicate, Option, None, Some, refl, sym, ap, ◌∙◌}
-use Rattle.std.proofs.{lemmas.List.map-set, Math.ListN.get_or-map}
-use Rattle.std.specs.Prelude.{option_map}
+use Rattle.std.{proofs.lemmas.List.map-set, proofs.Math.ListN.get_or-map, specs.Prelude.option_map}
 use Rattle.kp_base.specs.declared.row.Row.{Row}
 use Rattle.kp_net.specs.Netlist.{Net, Input, State, row_of, rows_from, state_after, last_from, last_of, start_of, run}
 use Rattle.kp_net.proofs.Runs.{last_more}

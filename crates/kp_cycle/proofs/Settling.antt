@@ -1,8 +1,7 @@
 -- Nodes are evaluated in order.
 use Rattle.std.proofs.Common.{◌≡◌, ℕ, ◌+◌, ◌-◌, ◌<◌, ◌≤◌, ◌++◌, List, [], length, get_or, set, take, drop, refl, sym, subst, ap, ◌∙◌, arith, false}
 use Rattle.std.proofs.lemmas.List.{length-set, length-append, length-take-le, length-drop, get_or_append_left, get_or-take, get_or-drop, take_at}
-use Rattle.std.proofs.Math.Seq.{get_or-append_right}
-use Rattle.std.specs.List.{refill}
+use Rattle.std.{proofs.Math.Seq.get_or-append_right, specs.List.refill}
 use Rattle.kp_bits.specs.Word as bits
 use Rattle.kp_net.specs.{declared.node.Kind.Kind, declared.node.Node.Node, Nodes.Cells, Nodes.word_of_kind, Nodes.word_of_node}
 use Rattle.kp_net.specs.{Widths.wide, Widths.no_node, Widths.is_cell, Widths.KindOk, Widths.AllRight, Netlist.Net}

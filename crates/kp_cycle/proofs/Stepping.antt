@@ -1,8 +1,7 @@
 -- A step computes the value of its target, provided that its operands have theirs.
 use Rattle.std.proofs.Common.{◌≡◌, ℕ, ◌+◌, ◌-◌, ◌<◌, ◌≤◌, ◌^◌, List, [], ◌∷◌, length, get_or, set, map, Option, None, Some, refl, sym, subst, ap, ◌∙◌, arith, ⊎_elim, ◌%◌}
 use Rattle.std.proofs.{Math.Nat.mod-eq_of_lt, lemmas.Bool.cases_lt, lemmas.List.get_or-map, lemmas.List.length-map}
-use Rattle.std.proofs.lemmas.List.Elements.{All-head, All-tail}
-use Rattle.std.specs.Prelude.{All}
+use Rattle.std.{proofs.lemmas.List.Elements.All-head, proofs.lemmas.List.Elements.All-tail, specs.Prelude.All}
 use Rattle.kp_bits.specs.Word as bits
 use Rattle.kp_bits.specs.Operators.{binary_of, joined_of}
 use Rattle.kp_net.specs.declared.node.{NodeId.NodeId, Kind.Kind}

@@ -1,7 +1,6 @@
 -- The cycles of a run pass.
 use Rattle.std.proofs.Common.{◌≡◌, ℕ, zero, suc, ◌+◌, ◌<◌, ◌≤◌, List, [], ◌∷◌, length, get_or, take, Option, Some, None, refl, sym, ap, ◌∙◌, arith}
-use Rattle.std.proofs.lemmas.{List.take_more, Option.slice_get-get_or, Option.slice_get_past}
-use Rattle.std.specs.Prelude.{slice_get}
+use Rattle.std.{proofs.lemmas.List.take_more, proofs.lemmas.Option.slice_get-get_or, proofs.lemmas.Option.slice_get_past, specs.Prelude.slice_get}
 use Rattle.kp_base.specs.declared.row.Row.{Row}
 use Rattle.kp_net.specs.Netlist.{Net, Input, State, start_of, state_after, row_of, states_from, rows_from, last_from, last_of, run}
 use Rattle.kp_net.proofs.Runs.{last_more}

@@ -1,7 +1,6 @@
 -- Runs that show the same values are printed alike.
 use Rattle.std.proofs.Common.{◌≡◌, ◌∙◌, ℕ, suc, ◌-◌, ◌<◌, ◌≤◌, List, [], ◌∷◌, ◌++◌, length, Bool, refl, ap, ap₂, sym, subst, arith}
-use Rattle.std.proofs.lemmas.Nat.{pow_pos}
-use Rattle.std.specs.Prelude.{◌==◌, slice_get}
+use Rattle.std.{proofs.lemmas.Nat.pow_pos, specs.Prelude.◌==◌, specs.Prelude.slice_get}
 use Rattle.kp_bits.specs.Word.{Word}
 use Rattle.kp_ast.specs.declared.tree.Job.{Job}
 use Rattle.kp_pipeline.specs.{Pipeline.Inputs, Rows.Row, Rows.Trace}
@@ -13,13 +12,12 @@ use Rattle.kp_sched.specs.Runs.{ShowsAlike}
 use Rattle.kp_debug_script.specs.declared.command.Command.{Command}
 use Rattle.kp_debug_script.specs.declared.command.Command.TheVariants as commands
 use Rattle.kp_seq.specs.Running.{target}
-use Rattle.kp_tool_report.specs.States.{no_counts}
-use Rattle.kp_tool_report.proofs.Alike.{lines_alike}
+use Rattle.kp_tool_report.{specs.States.no_counts, proofs.Alike.lines_alike}
 use Rattle.kp_synth_spec.specs.{Shows.Shows, Traces.inputs_seen, Traces.AreQuiet}
 use Rattle.kp_watch.specs.Watching.{own_trace}
 use Rattle.kp_debug_report.specs.Inspecting.{all_cycles, whole_run, has_value, first_from, ahead, reached, hit_line, at_line, row_or_end, printed_by, printed, ends_in, IsOfTargets, AreOfJob}
-use Rattle.kp_debug_report.specs.inner.Standing.{IsInspection, run_of}
-use Rattle.kp_debug_report.proofs.{Searching.alike, Standing.reached_within, Standing.many}
+use Rattle.kp_debug_report.{specs.inner.Standing.IsInspection, specs.inner.Standing.run_of, proofs.Searching.alike}
+use Rattle.kp_debug_report.proofs.Standing.{reached_within, many}
 
 module _ (job : Job) (a b : Trace) (same : ShowsAlike job a b) where
   value_is : (t : ℕ) (v : Word) (k : ℕ) → t < length (targets_of job.decls) → k ≤ length a.rows → has_value a t v k ≡ has_value b t v k

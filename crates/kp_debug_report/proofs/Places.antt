@@ -1,12 +1,10 @@
 -- The registers and files of a netlist that store the targets of its job, and their values.
 use Rattle.std.proofs.Common.{◌≡◌, ◌∙◌, ℕ, zero, suc, ◌<◌, ◌≤◌, ◌^◌, List, [], ◌∷◌, ◌++◌, length, get_or, All, Bool, true, false, refl, ap, sym, subst, arith}
-use Rattle.std.proofs.lemmas.Bool.{ne_eqb}
-use Rattle.std.specs.Prelude.{◌==◌, if◌then◌else◌, codes}
+use Rattle.std.{proofs.lemmas.Bool.ne_eqb, specs.Prelude.◌==◌, specs.Prelude.if◌then◌else◌, specs.Prelude.codes}
 use Rattle.kp_bits.specs.Word.{word}
 use Rattle.kp_ast.specs.declared.tree.{Decl.Decl, Job.Job, Named.Named, Num.Num}
 use Rattle.kp_ast.specs.declared.tree.Decl.TheVariants as decls
-use Rattle.kp_machine.proofs.Widths.{Fine}
-use Rattle.kp_machine.specs.Slots.{Slot, slot, is_register}
+use Rattle.kp_machine.{proofs.Widths.Fine, specs.Slots.Slot, specs.Slots.slot, specs.Slots.is_register}
 use Rattle.kp_net.specs.{Netlist.Net, Netlist.State, Parts.no_reg, Parts.no_file}
 use Rattle.kp_seq.specs.Running.{HasWord, target}
 use Rattle.kp_synth_spec.specs.Naming.{place_among, register_names, file_names, register_of, file_of, value_shown}

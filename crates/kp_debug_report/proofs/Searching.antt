@@ -1,7 +1,6 @@
 -- A search for the first cycle in which a condition is true.
 use Rattle.std.proofs.Common.{◌≡◌, ◌∙◌, ℕ, zero, suc, ◌+◌, ◌-◌, ◌<◌, ◌≤◌, Bool, true, false, refl, ap, ap₂, sym, arith, ⊎_elim}
-use Rattle.std.proofs.lemmas.Bool.{cases_lt}
-use Rattle.std.specs.Prelude.{if◌then◌else◌}
+use Rattle.std.{proofs.lemmas.Bool.cases_lt, specs.Prelude.if◌then◌else◌}
 use Rattle.kp_debug_report.specs.Inspecting.{first_from}
 
 module _ (holds : ℕ → Bool) where

@@ -1,15 +1,14 @@
 -- The effect of one line more on the complete script.
 use Rattle.std.proofs.Common.{◌≡◌, ℕ, ◌+◌, ◌-◌, ◌<◌, ◌≤◌, true, List, [], ◌∷◌, ◌++◌, length, get_or, take, drop, Option, Some, None, Result, Ok, Err, refl, sym, ap, ◌∙◌, append_assoc, arith}
-use Rattle.std.proofs.lemmas.List.{take_all, length-drop}
-use Rattle.std.specs.Prelude.{OnOk, IfErr}
+use Rattle.std.{proofs.lemmas.List.take_all, proofs.lemmas.List.length-drop, specs.Prelude.OnOk, specs.Prelude.IfErr}
 use Rattle.kp_base.specs.{Place.place_after, Refusal.e_rule, declared.refusal.Refusal.Refusal, declared.refusal.Refused.Refused}
 use Rattle.kp_base.specs.{declared.refusal.Refused.TheVariants.Rule, declared.refusal.Refused.TheVariants.NoMemory, Check.Gives}
 use Rattle.kp_ast.specs.declared.tree.Decl.{Decl}
 use Rattle.kp_lines.specs.Lines.{is_break, pieces, lines_of, words_of, piece_of}
+use Rattle.kp_lines.proofs.Splitting.{Clean, between, first_piece, last_piece, lines_left}
 use Rattle.kp_debug_script.specs.Scripts.{command_in, with_line, commands_of, placed}
 use Rattle.kp_debug_script.specs.{inner.Reading.behind, inner.Reading.IsAdded, inner.Reading.IsBroken, declared.command.Command.Command}
 use Rattle.kp_debug_script.specs.declared.command.Fault.{Fault}
-use Rattle.kp_lines.proofs.Splitting.{Clean, between, first_piece, last_piece, lines_left}
 
 -- ---- one line
 

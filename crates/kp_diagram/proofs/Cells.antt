@@ -1,11 +1,9 @@
-use Rattle.std.specs.List.{AllByRecursion}
 use Rattle.std.proofs.Common.{◌≡◌, ℕ, zero, suc, ◌+◌, ◌<◌, ◌≤◌, Bool, true, false, List, [], ◌∷◌, length, Option, Some, None, refl, sym, ap, ◌∙◌, subst, ◌⊎◌, inl, inr, ⊎_elim, arith}
-use Rattle.std.proofs.lemmas.Bool.{cases_lt, both_ways, false_from_ne_true}
+use Rattle.std.{specs.List.AllByRecursion, proofs.lemmas.Bool.cases_lt, proofs.lemmas.Bool.both_ways, proofs.lemmas.Bool.false_from_ne_true}
 use Rattle.kp_pipeline.specs.Machine.{Machine}
 use Rattle.kp_pipeline.specs.Pipeline.{Inputs, PipelineState, cycle, next_stage, pipeline_start, stall, ue}
 use Rattle.kp_pipeline.specs.Rows.{Row, count_after, counts, counts_from, pipe, row, rows_from, state_after}
-use Rattle.kp_pipeline.specs.Accepted.{Accepted}
-use Rattle.kp_pipeline.proofs.{Lists.all-map, Lists.bit-at, Cycle.ue-parts}
+use Rattle.kp_pipeline.{specs.Accepted.Accepted, proofs.Lists.all-map, proofs.Lists.bit-at, proofs.Cycle.ue-parts}
 use Rattle.kp_pipeline.proofs.Movement.{count-moved, count-stays, kept-full, next-from, next-moved, next_count, stall-full}
 use Rattle.kp_pipeline.proofs.{Invariant.Shape, Pending.shape-kept, Pending.shape-start, Counts.AgreeBelow, Counts.counts-row}
 use Rattle.kp_diagram.specs.Diagram.{Cell, Fetch, cells_from, diagram, fetches_from, fetches_next, mark, next_place}

@@ -5,8 +5,7 @@ use Rattle.kp_sched.specs.Rows.{bit_of, row_seen}
 use Rattle.kp_diagram.specs.Diagram.{Loss, WrongGuess, loss_of_wait, losses_after, lost_to}
 use Rattle.kp_diagram_text.specs.declared.account.Loss as code
 use Rattle.kp_diagram_text.specs.declared.account.Loss.TheVariants as losses
-use Rattle.kp_diagram_text.specs.Losses.{loss_shown, losses_shown}
-use Rattle.kp_diagram_text.proofs.Marks.{full_seen, squashed_seen, ue_seen}
+use Rattle.kp_diagram_text.{specs.Losses.loss_shown, specs.Losses.losses_shown, proofs.Marks.full_seen, proofs.Marks.squashed_seen, proofs.Marks.ue_seen}
 
 -- THE ACCOUNT, for each way through the code.
 pub lost_none : (last word : ℕ) (r : Row) (loss : ℕ → Loss) → bit_of r.ue last ≡ true

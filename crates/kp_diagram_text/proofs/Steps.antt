@@ -4,8 +4,7 @@ use Rattle.std.proofs.lemmas.List.{replicate-append-replicate}
 use Rattle.kp_base.specs.declared.row.Row as masks
 use Rattle.kp_base.specs.inner.Bytes.{WrittenUpTo}
 use Rattle.kp_pipeline.specs.Rows.{counts}
-use Rattle.kp_sched.specs.Rows.{row_seen, rows_seen}
-use Rattle.kp_sched.proofs.Counting.{seen_length}
+use Rattle.kp_sched.{specs.Rows.row_seen, specs.Rows.rows_seen, proofs.Counting.seen_length}
 use Rattle.kp_diagram.specs.Diagram.{Fetch, Mark, account, cells_from, diagram, fetches_from, fetches_next, mark, next_place}
 use Rattle.kp_diagram_text.specs.Text.{account_text, cells_text, column, cycle_numbers, diagram_text, head, in_column, legend, line_at, lines_text, sign, spaces, stage_name}
 use Rattle.kp_diagram_text.proofs.Fetches.{cells_step, fetch_of, fetches_end, fetches_step, last_cells, no_cells, split}
@@ -39,9 +38,6 @@ pub numbers_next : (width count T : ℕ) → T < count
     → cycle_numbers width T (count - T) ≡ in_column width (decimal T) ++ cycle_numbers width (T + 1) (count - (T + 1))
 numbers_next width count T h =
     let one : count - T ≡ suc (count - (T + 1)) = omega arith in ap (λ (m : ℕ). cycle_numbers width T m) one
-
-pub numbers_end : (width count T : ℕ) → count ≤ T → cycle_numbers width T (count - T) ≡ []
-numbers_end width count T h = let none : count - T ≡ 0 = omega arith in ap (λ (m : ℕ). cycle_numbers width T m) none
 
 module _ (n : ℕ) (ext : ℕ → ℕ → Bool) (width : ℕ) (names : List (List ℕ)) (rows : List masks.Row) (T : ℕ) where
   -- CELLS

@@ -1,11 +1,9 @@
 -- The greatest stage that mismatches.
 use Rattle.std.proofs.Common.{◌≡◌, ◌∙◌, ℕ, suc, ◌+◌, ◌<◌, ◌≤◌, Bool, true, false, not, ◌||◌, leb, refl, sym, ap, arith, ⊎_elim, le-leb, eqb, eqb-true, List, length, set, subst, get_or-set_same, get_or-set_other}
 use Rattle.std.proofs.lemmas.Bool.{cases_Bool, cases_lt, eqb-false, lt-leb}
-use Rattle.kp_pipeline.specs.Pipeline.{greatest}
-use Rattle.kp_net.specs.{declared.node.NodeId.NodeId, Growth.Held, Growth.Grown}
-use Rattle.kp_net.proofs.Growing.{wire_grown}
+use Rattle.kp_pipeline.{specs.Pipeline.greatest, proofs.Cycle.greatest-above, proofs.Cycle.greatest-at}
+use Rattle.kp_net.{specs.declared.node.NodeId.NodeId, specs.Growth.Held, specs.Growth.Grown, proofs.Growing.wire_grown}
 use Rattle.kp_engine.specs.Misses.{node_at, BitsOk}
-use Rattle.kp_pipeline.proofs.Cycle.{greatest-above, greatest-at}
 
 pub sweep_step : (p : ℕ → Bool) (n k : ℕ) → k < n → not (leb (greatest p n) k) ≡ (not (leb (greatest p n) (k + 1)) || p k)
 sweep_step p n k h = ⊎_elim

@@ -1,8 +1,7 @@
 -- Two netlists that can be compared have one verdict.
 use Rattle.std.proofs.Common.{◌≡◌, ◌∙◌, ℕ, zero, suc, ◌==◌, ◌&&◌, ◌<◌, ◌≤◌, Bool, true, false, List, [], ◌∷◌, length, get_or, refl, sym, ap, subst, arith, ⊎_elim, Option, None, Some}
 use Rattle.std.proofs.lemmas.Bool.{cases_lt, cases_eq, false≢true, Decides.Decides-and, Decides.Decides-eqb, Decides.Decides-like}
-use Rattle.std.proofs.lemmas.List.Elements.{All-get_or}
-use Rattle.std.specs.{Bool.Decides, Cmp.Lexicographic.bytes_decides}
+use Rattle.std.{proofs.lemmas.List.Elements.All-get_or, specs.Bool.Decides, specs.Cmp.Lexicographic.bytes_decides}
 use Rattle.kp_bits.specs.Word.{Word}
 use Rattle.kp_net.specs.declared.{node.NodeId.NodeId, netlist.NetReg.NetReg, netlist.NetFile.NetFile, netlist.Port.Port, netlist.WritePort.WritePort}
 use Rattle.kp_net.specs.{Names.same, Netlist.Net, Parts.NetOk, Parts.RegOk, Parts.FileOk, Parts.WriteOk, Parts.no_reg, Parts.no_file}

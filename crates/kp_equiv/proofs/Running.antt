@@ -1,19 +1,17 @@
 -- Netlists whose roots agree run alike.
 use Rattle.std.proofs.Common.{◌≡◌, ◌∙◌, ℕ, zero, suc, ◌+◌, ◌<◌, ◌≤◌, ◌&&◌, Bool, true, false, not, List, [], ◌∷◌, ◌++◌, length, map, get_or, set, refl, sym, ap, subst, arith, Option, None, Some, length-append}
 use Rattle.std.proofs.{Math.ListN.get_or-append, Math.Seq.get_or-append-add, lemmas.List.length-map, lemmas.List.get_or-map}
-use Rattle.std.proofs.lemmas.Slice.Zip.{length-zip, get_or-zip}
-use Rattle.std.specs.{Prelude.if◌then◌else◌, List.zip}
+use Rattle.std.{proofs.lemmas.Slice.Zip.length-zip, proofs.lemmas.Slice.Zip.get_or-zip, specs.Prelude.if◌then◌else◌, specs.List.zip}
 use Rattle.kp_bits.specs.Word.{Word}
 use Rattle.kp_net.specs.Netlist.{Net, Input, State, cells_of, start_regs, start_of, regs_after, port_after, files_after, resets, state_after, row_of, states_from, rows_from}
 use Rattle.kp_net.specs.declared.netlist.{Port.Port, NetReg.NetReg, NetFile.NetFile, WritePort.WritePort}
 use Rattle.kp_net.specs.{Names.among, Nodes.Cells, Nodes.at, Parts.NetOk, Parts.no_port, Parts.no_reg, Parts.no_file}
 use Rattle.kp_equiv_trees.specs.Roots.{Root, Ports, Register, File, Full, Ue, Back, names_of_second, roots, RegsAlike, FilesAlike, WritesAlike, PortsAgree, RegisterAgrees, FileAgrees, Agrees, AllAgree}
 use Rattle.kp_equiv_trees.specs.{Alike.Alike, Alike.reg_name, Alike.file_name, Alike.sample_name, Named.reg_names, Named.file_names, Named.sample_names}
-use Rattle.kp_equiv_trees.specs.Sections.{behind_ports}
-use Rattle.kp_equiv.specs.{Roots.IsComparable, Runs.RunAlike, Runs.no_state, inner.Meaning.SameCells, inner.Meaning.SameStates}
-use Rattle.kp_equiv_trees.proofs.Naming.{one_number}
+use Rattle.kp_equiv_trees.{specs.Sections.behind_ports, proofs.Naming.one_number}
 use Rattle.kp_equiv_trees.proofs.Ordered.{reg_root, file_root, filter_some, is_new, among_reg, second_never}
 use Rattle.kp_equiv_trees.proofs.Places.{reg_names_are, file_names_are, sample_names_are, reg_count, file_count, sample_count}
+use Rattle.kp_equiv.specs.{Roots.IsComparable, Runs.RunAlike, Runs.no_state, inner.Meaning.SameCells, inner.Meaning.SameStates}
 use Rattle.kp_equiv.proofs.Meaning.{alike_values, alike_tests}
 
 -- the roots of each section agree

@@ -1,7 +1,6 @@
 -- Netlists that run alike implement the same machines, up to their modules' names.
 use Rattle.std.proofs.Common.{◌≡◌, ◌∙◌, ℕ, zero, suc, ◌<◌, ◌≤◌, Bool, true, false, cond, List, [], ◌∷◌, length, get_or, take, refl, sym, ap, subst, arith}
-use Rattle.std.proofs.lemmas.{Bool.false≢true, List.length-map}
-use Rattle.std.specs.{Prelude.if◌then◌else◌, Cmp.Lexicographic.bytes_decides}
+use Rattle.std.{proofs.lemmas.Bool.false≢true, proofs.lemmas.List.length-map, specs.Prelude.if◌then◌else◌, specs.Cmp.Lexicographic.bytes_decides}
 use Rattle.kp_base.specs.declared.row.Row.{Row}
 use Rattle.kp_bits.specs.Word.{Word}
 use Rattle.kp_ast.specs.declared.tree.Job.{Job}
@@ -15,8 +14,8 @@ use Rattle.kp_synth_spec.specs.Naming.{module_name, register_name, file_name as 
 use Rattle.kp_synth_spec.specs.{Shows.IsOfJob, Traces.trace_of, Traces.inputs_seen, Traces.AreQuiet}
 use Rattle.kp_synth_spec.specs.Traces as traces
 use Rattle.kp_equiv_trees.specs.{Alike.Alike, Alike.AlikeWithin, Alike.reg_name, Alike.file_name, Named.reg_names, Named.file_names, Roots.AllAgree}
-use Rattle.kp_equiv.specs.{Roots.IsComparable, Runs.RunAlike, Showing.renamed, Showing.ShowsButName}
 use Rattle.kp_equiv_trees.proofs.{Naming.one_number, Places.reg_names_are, Places.file_names_are, Places.reg_count, Places.file_count}
+use Rattle.kp_equiv.specs.{Roots.IsComparable, Runs.RunAlike, Showing.renamed, Showing.ShowsButName}
 use Rattle.kp_equiv.proofs.Running.{agreed, regs_alike, theorem}
 
 -- the first index of a name

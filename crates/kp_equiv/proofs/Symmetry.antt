@@ -1,7 +1,6 @@
 -- A netlist agrees with itself, and agreement is symmetric.
 use Rattle.std.proofs.Common.{◌≡◌, ◌∙◌, ℕ, zero, suc, ◌<◌, true, inl, inr, List, [], ◌∷◌, length, get_or, Option, None, Some, refl, sym, subst, arith}
-use Rattle.std.proofs.lemmas.List.Elements.{All-get_or}
-use Rattle.std.specs.Prelude.{All}
+use Rattle.std.{proofs.lemmas.List.Elements.All-get_or, specs.Prelude.All}
 use Rattle.kp_bits.specs.declared.operator.BinOp.{BinOp}
 use Rattle.kp_net.specs.declared.node.{NodeId.NodeId, Kind.Kind}
 use Rattle.kp_net.specs.declared.node.Kind.TheVariants.{Const, Ext, Sample, Reg, Word, Not, Binary, Mux, Concat, Slice}
@@ -10,8 +9,8 @@ use Rattle.kp_net.specs.{Names.among, Netlist.Net, Parts.NetOk, Parts.RegOk, Par
 use Rattle.kp_net.specs.Widths.{KindOk, AllRight, no_node}
 use Rattle.kp_equiv_trees.specs.Roots.{Root, Ports, Full, Ue, Back, roots, names_of_second, RegsAlike, WritesAlike, FilesAlike, PortsAgree, RegisterAgrees, FileAgrees, Agrees, AllAgree}
 use Rattle.kp_equiv_trees.specs.Alike.{Relation, AllRelated, PairRelated, KindAlike, Alike, AlikeWithin, reg_name, file_name}
-use Rattle.kp_equiv_trees.specs.{Named.reg_names, Sections.AgreeUpTo, Sections.behind_ports}
-use Rattle.kp_equiv_trees.proofs.{Naming.among_at, Ordered.all_behind, Ordered.regs_all, Ordered.files_all, Ordered.none_of_second, Ordered.second_agrees}
+use Rattle.kp_equiv_trees.{specs.Named.reg_names, specs.Sections.AgreeUpTo, specs.Sections.behind_ports, proofs.Naming.among_at}
+use Rattle.kp_equiv_trees.proofs.Ordered.{all_behind, regs_all, files_all, none_of_second, second_agrees}
 use Rattle.kp_equiv_trees.proofs.Places.{reg_names_are, reg_count}
 use Rattle.kp_equiv.specs.Roots.{IsComparable}
 use Rattle.kp_equiv.proofs.Running.{Agreed, agreed, regs_alike, files_alike, theorem}

@@ -1,7 +1,6 @@
 -- The nodes of any two well-formed netlists have classes that determine which trees are equivalent.
 use Rattle.std.proofs.Common.{ℕ, zero, suc, ◌≤◌, ◌<◌, ◌++◌, List, [], ◌∷◌, length, get_or, refl, subst, arith}
-use Rattle.std.proofs.lemmas.List.{get_or_default}
-use Rattle.std.specs.List.{position_or_len}
+use Rattle.std.{proofs.lemmas.List.get_or_default, specs.List.position_or_len}
 use Rattle.indexmap.specs.IndexSet.{insert_key}
 use Rattle.kp_net.specs.{declared.node.NodeId.NodeId, declared.node.Node.Node, Netlist.Net, Parts.NetOk, Widths.Distinct, Widths.no_node}
 use Rattle.kp_net.proofs.Found.{is}

@@ -2,9 +2,8 @@
 use Rattle.std.proofs.Common.{◌≡◌, ◌∙◌, ℕ, zero, suc, ◌<◌, ◌≤◌, List, length, get_or, sym, ap, arith, ⊎_elim}
 use Rattle.std.proofs.lemmas.Bool.{cases_lt, cases_eq}
 use Rattle.kp_net.specs.{declared.node.NodeId.NodeId, declared.node.Node.Node, Netlist.Net, Parts.NetOk, Widths.Distinct, Widths.no_node}
-use Rattle.kp_equiv_trees.specs.{Alike.AlikeWithin, Classes.class_in, Classes.Determines}
+use Rattle.kp_equiv_trees.{specs.Alike.AlikeWithin, specs.Classes.class_in, specs.Classes.Determines, proofs.Determined.id_is}
 use Rattle.kp_equiv_classes.specs.inner.Shapes.{known_of, shape, AreClasses}
-use Rattle.kp_equiv_trees.proofs.Determined.{id_is}
 use Rattle.kp_equiv_classes.proofs.Operations.{kinds_from, kinds_to}
 
 -- no shape occurs twice

@@ -6,8 +6,7 @@ use Rattle.std.specs.{Prelude.if◌then◌else◌, Prelude.nat_lt, List.list_any
 use Rattle.indexmap.specs.IndexSet.{insert_key}
 use Rattle.kp_net.specs.{declared.node.Node.Node, Widths.Distinct, Widths.no_node, inner.Lookup.LacksBelow}
 use Rattle.kp_net.proofs.{Found.is, Found.placed, Found.not_any, Same.node_from_eq}
-use Rattle.kp_equiv_classes.specs.inner.Shapes.{Extends}
-use Rattle.kp_equiv_classes.proofs.Naming.{place_within}
+use Rattle.kp_equiv_classes.{specs.inner.Shapes.Extends, proofs.Naming.place_within}
 
 pub record Put (ns : List Node) (n : Node) (new : List Node) (i : ℕ) : Type 0 where
   pub inside : i < length new

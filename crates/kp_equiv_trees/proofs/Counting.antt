@@ -118,11 +118,6 @@ rest_within a b n d l none = let t = d.there in omega (arith, root_count a b)
 pub behind_file : (a : Net) (k : ℕ) → k < length a.parts.files → get_or (behind_regs a) k Ports ≡ File (file_name a k)
 behind_file a k l = get_or-append (map File (file_names a)) (Full ∷ Ue ∷ Back ∷ []) Ports k (omega (arith, length-map (file_names a) File, file_count a)) ∙ file_root a k l
 
-pub behind_output : (a : Net) (k : ℕ) → length a.parts.files ≤ k → get_or (behind_regs a) k Ports ≡ get_or (Full ∷ Ue ∷ Back ∷ []) (k - length a.parts.files) Ports
-behind_output a k l =
-    let m : length (map File (file_names a)) ≡ length a.parts.files = length-map (file_names a) File ∙ file_count a in
-    get_or-append_right (map File (file_names a)) (Full ∷ Ue ∷ Back ∷ []) k Ports (omega (arith, m)) ∙ ap (λ (i : ℕ). get_or (Full ∷ Ue ∷ Back ∷ []) i Ports) (omega (arith, m))
-
 -- a register that only the second has, if one was found, and if none was
 pub new_differs : (a b : Net) (found : Option ℕ) (i : ℕ) → found ≡ Some i → FirstNew (reg_names a) b found → Differing a b (map Register (names_of_second a b)) 0
 new_differs a b found i e h = let n = subst (FirstNew (reg_names a) b) e h in second_differs a b i n.there n.new

@@ -1,7 +1,6 @@
 -- What classes of nodes determine.
 use Rattle.std.proofs.Common.{◌≡◌, ◌∙◌, ℕ, ◌==◌, ◌<◌, Bool, List, length, sym, ap}
-use Rattle.std.proofs.lemmas.Bool.Decides.{Decides-eqb}
-use Rattle.std.specs.Bool.{Decides}
+use Rattle.std.{proofs.lemmas.Bool.Decides.Decides-eqb, specs.Bool.Decides}
 use Rattle.kp_net.specs.{declared.node.NodeId.NodeId, Netlist.Net}
 use Rattle.kp_equiv_trees.specs.{Alike.Alike, Classes.class_in, Classes.Determines}
 

@@ -1,7 +1,6 @@
 -- Lists of distinct names.
 use Rattle.std.proofs.Common.{◌≡◌, ◌∙◌, ℕ, zero, suc, ◌<◌, ◌≤◌, ◌||◌, Bool, true, false, List, [], ◌∷◌, length, get_or, refl, sym, ap, arith, ⊎_elim}
-use Rattle.std.proofs.lemmas.Bool.{cases_lt, cases_eq, false≢true}
-use Rattle.std.specs.Cmp.Lexicographic.{bytes_decides}
+use Rattle.std.{proofs.lemmas.Bool.cases_lt, proofs.lemmas.Bool.cases_eq, proofs.lemmas.Bool.false≢true, specs.Cmp.Lexicographic.bytes_decides}
 use Rattle.kp_net.specs.Names.{same, among, Differ}
 
 or_true : (b : Bool) → (b || true) ≡ true

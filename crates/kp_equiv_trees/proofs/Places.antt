@@ -1,8 +1,7 @@
 -- Names by their indices.
 use Rattle.std.proofs.Common.{◌≡◌, ◌∙◌, ℕ, ◌<◌, ◌≤◌, List, [], length, get_or, sym, ap, arith, ⊎_elim}
 use Rattle.std.proofs.{Math.ListN.get_or-map, lemmas.Bool.cases_lt, lemmas.Bool.false≢true, lemmas.List.length-map}
-use Rattle.std.proofs.lemmas.List.Sums.{fails_before_first, passes_at_first}
-use Rattle.std.specs.Cmp.Lexicographic.{bytes_decides}
+use Rattle.std.{proofs.lemmas.List.Sums.fails_before_first, proofs.lemmas.List.Sums.passes_at_first, specs.Cmp.Lexicographic.bytes_decides}
 use Rattle.kp_net.specs.{Names.same, Netlist.Net}
 use Rattle.kp_equiv_trees.specs.{Alike.reg_name, Alike.file_name, Alike.sample_name, Named.reg_names, Named.file_names, Named.sample_names, Classes.place}
 

@@ -1,8 +1,7 @@
 -- Rows in halves, and while the pool grows.
 use Rattle.std.proofs.Common.{◌≡◌, ◌∙◌, ℕ, Bool, true, false, cond, ◌||◌, List, [], ◌∷◌, ◌++◌, All, refl, sym, ap, arith}
 use Rattle.std.proofs.lemmas.List.Elements.{All-head, All-tail}
-use Rattle.kp_net.specs.{Nodes.Cells, Nodes.at, Nodes.on, Growth.Held, Growth.Grown}
-use Rattle.kp_net.proofs.Growing.{wire_grown}
+use Rattle.kp_net.{specs.Nodes.Cells, specs.Nodes.at, specs.Nodes.on, specs.Growth.Held, specs.Growth.Grown, proofs.Growing.wire_grown}
 use Rattle.kp_fwd.specs.{declared.rows.Candidate.Candidate, Forward.first_of, Forward.CandidateOk, inner.Tree.StandsFor}
 
 -- a call that adds nothing

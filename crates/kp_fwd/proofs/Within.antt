@@ -1,7 +1,6 @@
 -- Depths while the pool grows, and in the halves of a tree.
 use Rattle.std.proofs.Common.{◌≡◌, ℕ, zero, suc, ◌-◌, ◌*◌, ◌/◌, ◌^◌, ◌≤◌, List, All, refl, arith}
-use Rattle.kp_net.specs.Growth.{Held, Grown}
-use Rattle.kp_net.proofs.Depths.{still_no_deeper, deeper_yet}
+use Rattle.kp_net.{specs.Growth.Held, specs.Growth.Grown, proofs.Depths.still_no_deeper, proofs.Depths.deeper_yet}
 use Rattle.kp_fwd.specs.{declared.rows.Candidate.Candidate, declared.rows.Picked.Picked, Forward.CandidateOk, Forward.IsWithin, Forward.IsPickedWithin}
 
 pub within_grown : (p q : Held) (k w d : ℕ) (r : Candidate) → Grown p q k → CandidateOk p w r → IsWithin p d r → IsWithin q d r

@@ -4,8 +4,7 @@ use Rattle.kp_base.specs.declared.row.Row.{Row}
 use Rattle.kp_pipeline.specs.Rows as law
 use Rattle.kp_ast.specs.declared.tree.Job.{Job}
 use Rattle.kp_machine.specs.Machine.{inputs_from, pipe_of}
-use Rattle.kp_sched.specs.{Rows.rows_seen, Runs.due_value}
-use Rattle.kp_sched.proofs.Counting.{seen_length}
+use Rattle.kp_sched.{specs.Rows.rows_seen, specs.Runs.due_value, proofs.Counting.seen_length}
 use Rattle.kp_run.specs.Boards.{due_behind}
 use Rattle.kp_tool_report.proofs.Sims.{rows_many}
 use Rattle.kp_gen.specs.Generated.{gen_job}

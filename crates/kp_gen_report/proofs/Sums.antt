@@ -23,10 +23,3 @@ module _ (ds : List Decl) (i : ℕ) (x : Decl) (h : i < length ds) (is : x ≡ g
       let v : ℕ = summand x (state t 0) in
       let shape : sum + registers_sum t state (drop i ds) ≡ (sum + v) + rest = let n = sum_next in omega (arith, n) in
       mod_in_sum (sum + v) rest (2 ^ 64) ∙ ap (λ (k : ℕ). k % 2 ^ 64) (sym shape) ∙ e
-
--- and none is left
-pub sum_end : (ds : List Decl) (i t : ℕ) (state : State) (sum whole : ℕ) → length ds ≤ i → sum < 2 ^ 64 → (sum + registers_sum t state (drop i ds)) % 2 ^ 64 ≡ whole → sum ≡ whole
-sum_end ds i t state sum whole h fits e =
-    let none : registers_sum t state (drop i ds) ≡ 0 = ap (registers_sum t state) (drop_all i ds h) in
-    let plain : sum + registers_sum t state (drop i ds) ≡ sum = omega (arith, none) in
-    grind (arith, e, plain, fits)

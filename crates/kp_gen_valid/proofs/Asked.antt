@@ -3,8 +3,7 @@ use Rattle.std.proofs.Common.{◌≡◌, ◌∙◌, ℕ, ◌+◌, ◌%◌, List,
 use Rattle.std.specs.Prelude.{codes}
 use Rattle.kp_base.specs.{First.first, Check.Answer, declared.place.Place.Place}
 use Rattle.kp_bits.specs.declared.operator.BinOp.{BinOp}
-use Rattle.kp_ast.specs.declared.tree.Expr.{Expr}
-use Rattle.kp_ast.proofs.Levels.{fold-Lit, fold-Name, fold-Binary, fold-Slice}
+use Rattle.kp_ast.{specs.declared.tree.Expr.Expr, proofs.Levels.fold-Lit, proofs.Levels.fold-Name, proofs.Levels.fold-Binary, proofs.Levels.fold-Slice}
 use Rattle.kp_stage.specs.{declared.rules.Rule.Rule, Facts.Facts, Rules.ask_name, Rules.ask_expr, Rules.ask_kind, Rules.ask_level, Rules.ask_values}
 use Rattle.kp_gen.specs.declared.draws.Route.{Route}
 use Rattle.kp_gen.specs.Generated.{place, name, number, binary, low_byte, read_name, pipe_name, set, file_read, address_put, value_put, file_set}

@@ -1,7 +1,6 @@
 -- The declarations of a generated job violate no rule of names and widths, and declare these names.
 use Rattle.std.proofs.Common.{◌≡◌, ◌∙◌, ℕ, ◌+◌, ◌<◌, ◌≤◌, ◌^◌, List, [], ◌∷◌, ◌++◌, length, ◌-◌, Some, None, Option, Result, Ok, refl, ap, sym, subst, arith, append_assoc}
-use Rattle.std.proofs.lemmas.{Bool.lt-ltb, List.append-nil}
-use Rattle.std.specs.Prelude.{◌==◌, codes}
+use Rattle.std.{proofs.lemmas.Bool.lt-ltb, proofs.lemmas.List.append-nil, specs.Prelude.◌==◌, specs.Prelude.codes}
 use Rattle.kp_base.specs.{Check.Check, Check.bind, Check.unless, Refusal.e_rule, declared.refusal.Refusal.Refusal}
 use Rattle.kp_ast.specs.declared.{tree.Decl.Decl, widths.Entry.Entry, widths.NameKind.NameKind}
 use Rattle.kp_ast.specs.declared.tree.Decl.TheVariants as decls

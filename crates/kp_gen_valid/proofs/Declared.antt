@@ -7,8 +7,7 @@ use Rattle.kp_stage.specs.Facts.{where_same, hint_at, hints_of, result_at, resul
 use Rattle.kp_gen.specs.declared.draws.Route.{Route}
 use Rattle.kp_gen.specs.Generated.{register_name, result_name, result_of, for_each, all_decls}
 use Rattle.kp_gen_valid.proofs.Forms.{register, pipe, file, pipe_AF, pipe_VF, file_result}
-use Rattle.kp_gen_valid.proofs.{Lookups.other_number, Lookups.same_true, Texts.no_number, Walks.AllFrom}
-use Rattle.kp_gen_valid.proofs.Finds.{past_one, past_each, each_found}
+use Rattle.kp_gen_valid.proofs.{Lookups.other_number, Lookups.same_true, Texts.no_number, Walks.AllFrom, Finds.past_one, Finds.past_each, Finds.each_found}
 
 -- names that are equal, and names that are not
 pub is_where : {X : Type 0} (a b : List ℕ) (x : X) → is_same_name a b ≡ true → where_same a b x ≡ Some x

@@ -1,7 +1,6 @@
 -- A generated job violates no rule of stages, and none of the sections.
 use Rattle.std.proofs.Common.{◌≡◌, ℕ, zero, suc, ◌+◌, ◌-◌, ◌<◌, ◌≤◌, ◌/◌, ◌^◌, List, [], ◌∷◌, length, None, true, refl, ap, arith}
-use Rattle.std.proofs.{Math.Nat.mod-lt, lemmas.Bool.lt-ltb}
-use Rattle.std.specs.Prelude.{nat_lt}
+use Rattle.std.{proofs.Math.Nat.mod-lt, proofs.lemmas.Bool.lt-ltb, specs.Prelude.nat_lt}
 use Rattle.kp_base.specs.{First.first, Check.Answer, Check.answer, Refusal.e_rule}
 use Rattle.kp_stage.specs.{Facts.facts_of, Rules.broken_by, Sizes.sizes_of, Counts.counts_of, Stages.broken_of}
 use Rattle.kp_image.specs.Sections.{sections_of}

@@ -1,7 +1,6 @@
 -- A generated job violates no rule of names and widths.
 use Rattle.std.proofs.Common.{◌≡◌, ◌∙◌, ℕ, zero, suc, ◌<◌, ◌≤◌, ◌^◌, ◌/◌, List, length, None, refl, ap, sym, subst, arith}
-use Rattle.std.proofs.Math.Nat.{mod-lt}
-use Rattle.std.specs.List.{AllByRecursion}
+use Rattle.std.{proofs.Math.Nat.mod-lt, specs.List.AllByRecursion}
 use Rattle.kp_base.specs.{First.first, Check.ok, Check.◌>>=◌}
 use Rattle.kp_ast.specs.declared.tree.Decl.{Decl}
 use Rattle.kp_width.specs.{Names.Scoped, Names.nothing, Declarations.declarations_of, Statements.blocks_of, Widths.widths_of}

@@ -1,7 +1,6 @@
 -- E21 in a generated job: each set is the first of its result in its stage.
 use Rattle.std.proofs.Common.{◌≡◌, ◌∙◌, ℕ, zero, suc, ◌+◌, ◌-◌, ◌<◌, ◌≤◌, List, [], ◌∷◌, ◌++◌, length, map, Option, None, Some, Bool, true, false, cond, refl, ap, arith}
-use Rattle.std.proofs.lemmas.Bool.{eq-eqb}
-use Rattle.std.specs.{Prelude.◌==◌, Prelude.codes, Prelude.slice_get, List.range_with_len}
+use Rattle.std.{proofs.lemmas.Bool.eq-eqb, specs.Prelude.◌==◌, specs.Prelude.codes, specs.Prelude.slice_get, specs.List.range_with_len}
 use Rattle.kp_base.specs.{First.first, Check.answer, Refusal.e_rule}
 use Rattle.kp_ast.specs.{Expressions.is_same_name, declared.tree.Stmt.Stmt, declared.tree.Block.Block}
 use Rattle.kp_stage.specs.{declared.rules.Rule.Rule, Facts.Facts, Facts.sets_in, Facts.stmts_in, Facts.first_set}

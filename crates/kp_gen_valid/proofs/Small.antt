@@ -1,7 +1,6 @@
 -- A generated job has no function and few stages.
 use Rattle.std.proofs.Common.{◌≡◌, ℕ, suc, ◌+◌, ◌-◌, ◌*◌, ◌<◌, ◌≤◌, ◌/◌, ◌^◌, List, length, refl, ap, arith}
-use Rattle.std.proofs.{Math.Nat.mod-lt, lemmas.List.FromFn.length-map-range_with_len}
-use Rattle.std.specs.Prelude.{sum_by}
+use Rattle.std.{proofs.Math.Nat.mod-lt, proofs.lemmas.List.FromFn.length-map-range_with_len, specs.Prelude.sum_by}
 use Rattle.kp_width.specs.Declarations.{functions_in}
 use Rattle.kp_gen.specs.{declared.draws.Route.Route, Draws.drawn, Draws.next, Draws.stages_drawn, Draws.routes_drawn}
 use Rattle.kp_gen.specs.Generated.{all_decls, all_blocks, later_block, job_of, gen_job}

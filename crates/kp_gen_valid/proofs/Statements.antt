@@ -1,7 +1,7 @@
 -- The statements of a generated job violate no rule of names and widths.
 use Rattle.std.proofs.Common.{◌≡◌, ◌∙◌, ℕ, zero, suc, ◌+◌, ◌-◌, ◌<◌, ◌≤◌, ◌%◌, List, [], ◌∷◌, ◌++◌, length, map, Some, None, Bool, true, false, Ok, refl, ap, sym, subst, arith, append_assoc}
-use Rattle.std.proofs.{Math.Nat.mod-lt, lemmas.Bool.eq-eqb, lemmas.List.append-nil}
-use Rattle.std.specs.{Prelude.◌==◌, Prelude.codes, List.range_with_len, List.AllByRecursion}
+use Rattle.std.{proofs.Math.Nat.mod-lt, proofs.lemmas.Bool.eq-eqb, proofs.lemmas.List.append-nil, specs.Prelude.◌==◌, specs.Prelude.codes}
+use Rattle.std.specs.List.{range_with_len, AllByRecursion}
 use Rattle.kp_base.specs.{Check.Check, Check.ok, Check.wants, Check.◌>>=◌, Refusal.e_rule, declared.place.Place.Place}
 use Rattle.kp_ast.specs.{Expressions.is_same_name, declared.tree.Named.Named, declared.tree.Expr.Expr, declared.tree.ReadStmt.ReadStmt, declared.tree.Decl.Decl}
 use Rattle.kp_ast.specs.declared.{tree.Stmt.Stmt, widths.Entry.Entry, widths.NameKind.NameKind}

@@ -2,11 +2,10 @@
 use Rattle.std.proofs.Common.{◌≡◌, ◌∙◌, ℕ, zero, suc, ◌+◌, ◌-◌, ◌*◌, ◌≤◌, ◌%◌, List, [], ◌∷◌, ◌++◌, length, map, None, true, refl, ap, arith}
 use Rattle.std.proofs.lemmas.{Bool.le-leb, List.length-append, List.Sums.sum_by-cons, List.Sums.sum_by-append}
 use Rattle.std.specs.{Prelude.◌==◌, Prelude.nat_le, Prelude.codes, Prelude.sum_by, List.range_with_len}
-use Rattle.kp_base.specs.{First.first, Check.Check, Check.Answer, Check.answer, Refusal.e_rule}
+use Rattle.kp_base.{specs.First.first, specs.Check.Check, specs.Check.Answer, specs.Check.answer, specs.Refusal.e_rule, proofs.First.first_append_none}
 use Rattle.kp_bits.specs.declared.operator.BinOp.{BinOp}
 use Rattle.kp_ast.specs.{Size.size, Size.size_of_kind as size_of_form, Size.size_of_level, Size.bodies_of, declared.tree.Expr.Expr, declared.tree.Decl.Decl}
-use Rattle.kp_ast.specs.declared.tree.Stmt.{Stmt}
-use Rattle.kp_ast.proofs.Levels.{fold-Lit, fold-Name, fold-Binary, fold-Slice}
+use Rattle.kp_ast.{specs.declared.tree.Stmt.Stmt, proofs.Levels.fold-Lit, proofs.Levels.fold-Name, proofs.Levels.fold-Binary, proofs.Levels.fold-Slice}
 use Rattle.kp_width.specs.Declarations.{functions_in, name_of}
 use Rattle.kp_stage.specs.Counts.{regs_in, files_in, pipes_in, results_in, hints_in, samples_in, reads_in, guesses_in, is_within, nothing_counted, with_decl, with_stmt, place_of_read, decls_counted, stmts_counted, blocks_counted, counts_of}
 use Rattle.kp_stage.specs.Sizes.{size_of_stmt, stmts_sized, blocks_sized, sizes_of}
@@ -14,7 +13,6 @@ use Rattle.kp_gen.specs.Generated.{place, name, number, binary, low_byte, read_n
 use Rattle.kp_gen.specs.declared.draws.Route.{Route}
 use Rattle.kp_gen_valid.proofs.Forms.{register, pipe, read, put, file, pipe_AF, pipe_VF, file_result}
 use Rattle.kp_gen_valid.proofs.{Walks.past, Walks.holding, Lookups.either}
-use Rattle.kp_base.proofs.First.{first_append_none}
 
 -- the counts of kp_stage: their types
 abbrev TypeOf : {X : Type 0} → X → Type 0

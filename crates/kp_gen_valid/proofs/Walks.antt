@@ -1,7 +1,6 @@
 -- A generated job obeys a rule of stages if no form of declaration and of statement in it violates the rule.
 use Rattle.std.proofs.Common.{◌≡◌, ◌∙◌, ℕ, zero, suc, ◌+◌, ◌-◌, ◌<◌, ◌≤◌, List, [], ◌∷◌, ◌++◌, length, map, None, Some, refl, sym, subst, arith, append_assoc, Option, Bool, true, false}
-use Rattle.std.proofs.lemmas.Bool.{eqb-true}
-use Rattle.std.specs.{Prelude.◌==◌, List.range_with_len}
+use Rattle.std.{proofs.lemmas.Bool.eqb-true, specs.Prelude.◌==◌, specs.List.range_with_len}
 use Rattle.kp_base.specs.{First.first, Check.answer, declared.refusal.Refusal.Refusal}
 use Rattle.kp_ast.specs.declared.tree.{Decl.Decl, Stmt.Stmt, StmtKind.StmtKind}
 use Rattle.kp_stage.specs.{declared.rules.Rule.Rule, Facts.Facts}

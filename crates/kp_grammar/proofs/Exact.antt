@@ -97,12 +97,6 @@ module _ {W B X S : Type 0} (g : Grammar W B X S) (t : Tables) (p : Decides g.ru
     fits (make l) = fits l
     fits x = omega arith
 
-    fits_excess : {s : List (Symbol W B)} {v : S} {ts : List X} {k : ℕ} → Leads g over t s v ts (Exceeds k) → k ≤ length ts
-    fits_excess (goes b e l) = fits_excess l
-    fits_excess (take {xs = xs} e f l) = let h = fits_excess l in omega arith
-    fits_excess (make l) = fits_excess l
-    fits_excess (exceed e f) = omega arith
-
     module _ (picks_rule : (n c : ℕ) (b : List (Symbol W B)) → pick g.rules t n c ≡ Some b → Has b (alternatives g.rules n)) where
       -- What is accepted is a sentence that builds this.
       pub accepted : {s : List (Symbol W B)} {v w : S} {ts : List X} → Leads g over t s v ts (Accepts w) → Derives g s v ts [] w []
@@ -190,15 +184,6 @@ module _ {W B X S : Type 0} (g : Grammar W B X S) (t : Tables) (p : Decides g.ru
         stays_over (expand b m d) z = stays_over d z
         stays_over (read {way = k} {t = x} {v = v} e d) z = stays_over d (stays k x v z)
         stays_over (build {a = a} {v = v} d) z = stays_over d (keeps a v ∙ z)
-
-        -- If it stops because a count exceeds the limit, each sentence exceeds it.
-        pub sunk : {s : List (Symbol W B)} {v w : S} {ts : List X} {k : ℕ} → Leads g over t s v ts (Exceeds k) → IsGood t s → Derives g s v ts [] w [] → over w ≡ true
-        sunk {v = v} {w = w} (goes {n = n} {s = s} {xs = xs} b e l) q (expand c m d) =
-            let same : c ≡ b = cc (e, picked n c s (look g xs) m q (starts_run d (inr (refl, refl)))) in
-            sunk l (good-body n b s (rw same at m) q) (subst (λ (z : List (Symbol W B)). Derives g (z ++ s) v xs [] w []) same d)
-        sunk (take e f l) q (read e' d) = sunk l q d
-        sunk (make l) q (build d) = sunk l q d
-        sunk (exceed e f) q (read e' d) = stays_over d f
 
         not_over : (b : Bool) {w : S} → (b ≡ true → over w ≡ true) → over w ≡ false → b ≡ false
         not_over true h z = sym (h refl) ∙ z

@@ -1,10 +1,9 @@
 -- Declarations that violate no rule: their numbers fit, and a register or file is found under its name.
 use Rattle.std.proofs.Common.{◌≡◌, ◌∙◌, ℕ, ◌+◌, ◌^◌, ◌<◌, ◌≤◌, List, [], ◌∷◌, ◌++◌, map, Option, Some, None, Bool, true, false, cond, refl, ap, sym, subst}
 use Rattle.std.proofs.lemmas.{Bool.leb-true, Bool.ltb-true, Bool.eqb-true, Bool.and_parts, List.map-append, List.append_assoc}
-use Rattle.std.proofs.lemmas.List.Elements.{All-nil, All-cons}
-use Rattle.std.specs.{Prelude.not, Prelude.nat_eq, Prelude.is_some, List.All, Cmp.Lexicographic.pointwise, Cmp.Lexicographic.nat_list_eq_equiv}
-use Rattle.kp_base.specs.{First.first, Check.ok, Check.◌>>=◌}
-use Rattle.kp_base.proofs.First.{first_append_none}
+use Rattle.std.{proofs.lemmas.List.Elements.All-nil, proofs.lemmas.List.Elements.All-cons, specs.Prelude.not, specs.Prelude.nat_eq, specs.Prelude.is_some}
+use Rattle.std.specs.{List.All, Cmp.Lexicographic.pointwise, Cmp.Lexicographic.nat_list_eq_equiv}
+use Rattle.kp_base.{specs.First.first, specs.Check.ok, specs.Check.◌>>=◌, proofs.First.first_append_none}
 use Rattle.kp_bits.specs.Word.{IsWord, word}
 use Rattle.kp_ast.specs.declared.tree.{Lit.Lit, Decl.Decl}
 use Rattle.kp_ast.specs.declared.tree.Decl.TheVariants as decls

@@ -12,9 +12,8 @@ use Rattle.kp_ast.specs.declared.tree.Decl.TheVariants as decls
 use Rattle.kp_width.specs.{Names.nothing, Declarations.start_of, Declarations.declarations_of, Statements.blocks_of, Widths.widths_of}
 use Rattle.kp_width.proofs.Unbroken.{Unbroken, bind_unbroken, answer_unbroken}
 use Rattle.kp_stage.specs.Start.{number_or, first_address, given_by, laid_over, start_regs, words_from, start_files, image_of, stalls_of, inputs_of, input, input_row, input_over, gives_at, AreRegs, AreFiles, AreSamples, IsStartOf}
-use Rattle.kp_stage.specs.{Stages.broken_of, Facts.facts_of}
+use Rattle.kp_stage.{specs.Stages.broken_of, specs.Facts.facts_of, proofs.Unbroken.few_stages, proofs.Kept.rules_kept}
 use Rattle.kp_stage.specs.Start as start
-use Rattle.kp_stage.proofs.{Unbroken.few_stages, Kept.rules_kept}
 use Rattle.kp_image.specs.Sections.{Storage, storage_of, target_of, address_of, values_of, given_of, entry_of, entries_of, stalls_checked, sample_of, step_of, input_of, inputs_checked, sections_of}
 use Rattle.kp_image.specs.{Feeds.FitsFeed, inner.Kept.FitsSample, inner.Kept.InputsFit, inner.Kept.kept_by}
 use Rattle.kp_image.specs.inner.Fits.{HasFewWords, EndsWithin, StartFits}

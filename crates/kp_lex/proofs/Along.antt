@@ -1,30 +1,11 @@
 -- Going along a text.
 use Rattle.std.proofs.Common.{ℕ, suc, ◌+◌, ◌-◌, ◌^◌, ◌≤◌, ◌≡◌, ◌==◌, List, [], ◌∷◌, ◌++◌, length, take, drop, length-take-le, Bool, true, false, not, cond, Result, Ok, Err, refl, sym, ap, ◌∙◌, subst, arith}
 use Rattle.std.proofs.{Math.Seq.take-add, lemmas.List.drop-drop, lemmas.List.length-reverse}
-use Rattle.std.proofs.lemmas.List.Sums.{count_by-le-length, take_while-cons}
-use Rattle.std.specs.{Prelude.reverse, List.take_while}
+use Rattle.std.{proofs.lemmas.List.Sums.count_by-le-length, proofs.lemmas.List.Sums.take_while-cons, specs.Prelude.reverse, specs.List.take_while}
 use Rattle.kp_base.specs.{Place.line_after, Place.column_after, Place.place_after, Refusal.e_rule, declared.place.Place.Place, declared.refusal.Refusal.Refusal}
 use Rattle.kp_lex.specs.declared.front.Front.TheVariants as fronts
 use Rattle.kp_lex.specs.declared.token.{TokenKind.TokenKind, Token.Token, Lexed.Lexed}
 use Rattle.kp_lex.specs.Text.{front_of, is_end, token_at, Lexes, finish, skip, token, last, broken, HasOutcome}
-
-while_step : (b : Bool) (byte : ℕ) (xs ys : List ℕ) → length xs ≤ length ys → length (cond b (byte ∷ xs) []) ≤ suc (length ys)
-while_step true byte xs ys h = omega arith
-while_step false byte xs ys h = omega arith
-
-while_within : (test : ℕ → Bool) (xs : List ℕ) → length (take_while test xs) ≤ length xs
-while_within test [] = omega arith
-while_within test (x ∷ xs) = rw (take_while-cons test x xs) (while_step (test x) x (take_while test xs) xs (while_within test xs))
-
--- The line and column of a position are at most one more than the number of bytes before it.
-pub line_within : (front : List ℕ) → line_after front ≤ length front + 1
-line_within front = let h = count_by-le-length (λ byte. byte == 10) front in omega arith
-
-pub column_within : (front : List ℕ) → column_after front ≤ length front + 1
-column_within front =
-    let h : length (take_while (λ byte. not (byte == 10)) (reverse front)) ≤ length (reverse front) = while_within (λ byte. not (byte == 10)) (reverse front) in
-    let e : length (reverse front) ≡ length front = length-reverse front in
-    omega arith
 
 -- The outcome from here is the outcome from the start of the text.
 pub record Along (text : List ℕ) (tokens : List Token) (start : ℕ) (place : Place) (rest : List ℕ) : Type 0 where
@@ -51,21 +32,6 @@ module _ (text : List ℕ) (tokens : List Token) (start : ℕ) (place : Place) (
 
   rest_is : (len : ℕ) → drop len rest ≡ drop (start + len) text
   rest_is len = ap (drop len) along.remains ∙ drop-drop len start text
-
-  -- Both numbers of the position don't overflow for the remaining bytes.
-  pub line_room : length text ≤ 2 ^ 32 - 2 → place.line + length rest ≤ 2 ^ 32 - 1
-  line_room h =
-      let p : place.line ≡ line_after (take start text) = ap (λ (p : Place). p.line) along.placed in
-      let l = line_within (take start text) in
-      let s = start_is in let w = along.within in
-      omega arith
-
-  pub column_room : length text ≤ 2 ^ 32 - 2 → place.col + length rest ≤ 2 ^ 32 - 1
-  column_room h =
-      let p : place.col ≡ column_after (take start text) = ap (λ (p : Place). p.col) along.placed in
-      let l = column_within (take start text) in
-      let s = start_is in let w = along.within in
-      omega arith
 
   module _ (len : ℕ) (next : Place) (moved : next ≡ place_after (take start text ++ take len rest)) (after : List ℕ) (is_after : after ≡ drop len rest) (short : length after + len ≡ length rest) where
     step : (more : List Token) → ((outcome : Result Lexed Refusal) → Lexes more (take start text ++ take len rest) (drop len rest) outcome → Lexes tokens (take start text) rest outcome)

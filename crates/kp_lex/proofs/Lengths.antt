@@ -1,7 +1,7 @@
 -- A keyword is found among those of its length.
 use Rattle.std.proofs.Common.{◌≡◌, ℕ, List, [], ◌∷◌, length, Bool, true, false, cond, Option, Some, refl, sym, ap, ◌∙◌}
-use Rattle.std.proofs.lemmas.{Slice.Eq.bytes_eq-Decides, Bool.Decides.Decides-eqb}
-use Rattle.std.specs.{Prelude.◌==◌, Prelude.find, Prelude.filter, Str.bytes_eq}
+use Rattle.std.{proofs.lemmas.Slice.Eq.bytes_eq-Decides, proofs.lemmas.Bool.Decides.Decides-eqb, specs.Prelude.◌==◌, specs.Prelude.find, specs.Prelude.filter}
+use Rattle.std.specs.Str.{bytes_eq}
 use Rattle.kp_lex.specs.{declared.token.Keyword.Keyword, Words.spelling, Words.all_keywords, Words.keyword_of, Words.keywords_of_length}
 
 -- a list with one more keyword, which is omitted only if it isn't found

@@ -6,10 +6,9 @@ use Rattle.kp_base.specs.Characters.{is_digit, is_letter, is_word, run_length}
 use Rattle.kp_bits.specs.{Literals.number_of, Literals.literal_of, declared.literal.Literal.Literal, declared.literal.LiteralFault.LiteralFault}
 use Rattle.kp_lex.specs.Text.{gap_length, is_in_run, run_of, keyword_or_name, identifier, literal_or_broken, number_or_literal, number_run, mark_or_broken, mark_or_shorter, mark, token_of, StandsIn, IsIdentifier}
 use Rattle.kp_lex.specs.declared.{front.Front.Front, token.Keyword.Keyword, token.Mark.Mark, token.TokenKind.TokenKind, token.Token.Token}
-use Rattle.kp_lex.specs.Words.{keyword_of, single_mark, double_mark}
+use Rattle.kp_lex.{specs.Words.keyword_of, specs.Words.single_mark, specs.Words.double_mark, proofs.Fits.run_within, proofs.Fits.run_fits}
 use Rattle.kp_lex.specs.declared.front.Front.TheVariants as fronts
 use Rattle.kp_lex.specs.declared.token.TokenKind.TheVariants as kinds
-use Rattle.kp_lex.proofs.Fits.{run_within, run_fits}
 
 pass_step : (test : ℕ → Bool) (byte : ℕ) (rest : List ℕ) (b : Bool) (n : ℕ) → test byte ≡ b
     → All (λ c. test c ≡ true) (take n rest) → All (λ c. test c ≡ true) (take (cond b (n + 1) 0) (byte ∷ rest))

@@ -4,8 +4,8 @@ use Rattle.std.proofs.lemmas.List.{length-drop}
 use Rattle.kp_base.specs.{Refusal.e_rule, Place.place_after, declared.refusal.Refusal.Refusal}
 use Rattle.kp_lex.specs.declared.{front.Front.Front, token.TokenKind.TokenKind, token.Token.Token, token.Lexed.Lexed}
 use Rattle.kp_lex.specs.Text.{front_of, is_end, token_at, Lexes, finish, skip, token, last, broken, HasOutcome}
-use Rattle.kp_lex.specs.declared.front.Front.TheVariants as fronts
 use Rattle.kp_lex.proofs.Fits.{Fits, fits_front}
+use Rattle.kp_lex.specs.declared.front.Front.TheVariants as fronts
 
 -- the outcome, by the front of the text
 abbrev Given : List Token → List ℕ → List ℕ → Front → Result Lexed Refusal → Type 0

@@ -1,8 +1,7 @@
 -- The tokens of a text occur in it.
 use Rattle.std.proofs.Common.{ℕ, ◌+◌, ◌≤◌, ◌≡◌, List, ◌++◌, length, drop, take, length-append, append_assoc, Result, Ok, Err, All, refl, sym, ap, ◌∙◌, arith}
 use Rattle.std.proofs.{Math.Seq.take-append_seam, Math.Seq.drop-append_seam, lemmas.List.take-append-drop}
-use Rattle.std.proofs.lemmas.List.Elements.{All-nil, All-push}
-use Rattle.std.specs.Prelude.{⊤}
+use Rattle.std.{proofs.lemmas.List.Elements.All-nil, proofs.lemmas.List.Elements.All-push, specs.Prelude.⊤}
 use Rattle.kp_base.specs.{Place.place_after, declared.refusal.Refusal.Refusal}
 use Rattle.kp_lex.specs.declared.front.Front.TheVariants as fronts
 use Rattle.kp_lex.specs.declared.token.{TokenKind.TokenKind, Token.Token, Lexed.Lexed}

@@ -1,8 +1,8 @@
 -- The pipes of a job have names of their own and widths from 1 to 64, and a name that a pipe has names a pipe in the text. So it is
 -- with the samples.
 use Rattle.std.proofs.Common.{◌≡◌, ◌∙◌, ℕ, ◌+◌, ◌≤◌, List, [], ◌∷◌, Some, None, Bool, true, false, cond, not, ◌||◌, refl, ap, sym, subst}
-use Rattle.std.proofs.lemmas.Bool.{cond_both, or_left, or_right}
-use Rattle.std.specs.{Prelude.is_some, Cmp.Lexicographic.bytes_decides}
+use Rattle.std.{proofs.lemmas.Bool.cond_both, proofs.lemmas.Bool.or_left, proofs.lemmas.Bool.or_right, specs.Prelude.is_some}
+use Rattle.std.specs.Cmp.Lexicographic.{bytes_decides}
 use Rattle.kp_base.specs.{Refusal.e_rule, Check.ok}
 use Rattle.kp_ast.specs.{Expressions.is_same_name, declared.tree.Decl.Decl, declared.widths.NameKind.NameKind}
 use Rattle.kp_ast.specs.declared.tree.Decl.TheVariants as decls
@@ -11,8 +11,8 @@ use Rattle.kp_width.specs.Names.{Sense, sense, Names, Scoped, look_up, find, is_
 use Rattle.kp_width.specs.Expressions.{is_width}
 use Rattle.kp_width.specs.Declarations.{declared, name_of, after_name, declaration_of, declarations_of, functions_in}
 use Rattle.kp_width.proofs.Unbroken.{Unbroken, bind_unbroken, answer_unbroken}
-use Rattle.kp_machine.specs.Slots.{Slot, slot, pipes_of, samples_of}
-use Rattle.kp_machine.proofs.{Cases.by_test, Scopes.sense_of, Scopes.is_sample, Scopes.new_name, Scopes.text_has, Scopes.stays, Widths.bounds}
+use Rattle.kp_machine.{specs.Slots.Slot, specs.Slots.slot, specs.Slots.pipes_of, specs.Slots.samples_of, proofs.Cases.by_test}
+use Rattle.kp_machine.proofs.{Scopes.sense_of, Scopes.is_sample, Scopes.new_name, Scopes.text_has, Scopes.stays, Widths.bounds}
 
 -- whether an entry has the name
 abbrev pub has_name : List Slot → List ℕ → Bool

@@ -3,13 +3,11 @@ use Rattle.std.proofs.Common.{◌≡◌, ℕ, ◌+◌, List, Option, Some, None,
 use Rattle.kp_base.specs.Refusal.{e_rule}
 use Rattle.kp_ast.specs.declared.tree.{Named.Named, ResultDecl.ResultDecl, Job.Job}
 use Rattle.kp_ast.specs.declared.tree.Decl.TheVariants as decls
-use Rattle.kp_width.specs.{Declarations.address_width, Names.nothing, Widths.widths_of}
-use Rattle.kp_width.proofs.Unbroken.{Unbroken}
-use Rattle.kp_stage.specs.{Facts.Facts, Facts.facts_of, Rules.holds_of, Stages.broken_of}
-use Rattle.kp_stage.proofs.Unbroken.{answer_none}
-use Rattle.kp_machine.specs.{Slots.Slot, Slots.targets_of, Slots.pipes_of, Slots.number_of, Machine.result_for}
-use Rattle.kp_machine.proofs.{Names.IsIn, Results.Stands, Results.to_stands, Results.first_result, Rules.rules_kept, Rules.decl_kept}
-use Rattle.kp_machine.proofs.{Scopes.PipeFits, Scopes.results_fit, Text.text, Text.declared_right, Text.placed, Text.target_slot}
+use Rattle.kp_width.{specs.Declarations.address_width, specs.Names.nothing, specs.Widths.widths_of, proofs.Unbroken.Unbroken}
+use Rattle.kp_stage.{specs.Facts.Facts, specs.Facts.facts_of, specs.Rules.holds_of, specs.Stages.broken_of, proofs.Unbroken.answer_none}
+use Rattle.kp_machine.{specs.Slots.Slot, specs.Slots.targets_of, specs.Slots.pipes_of, specs.Slots.number_of, specs.Machine.result_for, proofs.Names.IsIn}
+use Rattle.kp_machine.proofs.{Results.Stands, Results.to_stands, Results.first_result, Rules.rules_kept, Rules.decl_kept, Scopes.PipeFits, Scopes.results_fit}
+use Rattle.kp_machine.proofs.Text.{text, declared_right, placed, target_slot}
 
 -- a pipe that is named is declared
 abbrev pub IsPipeIn : List Slot → Option Named → Type 0

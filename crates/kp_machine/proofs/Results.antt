@@ -6,8 +6,8 @@ use Rattle.kp_base.specs.First.{first}
 use Rattle.kp_ast.specs.{Expressions.is_same_name, declared.tree.ResultDecl.ResultDecl, declared.tree.Decl.Decl}
 use Rattle.kp_ast.specs.declared.tree.Decl.TheVariants as decls
 use Rattle.kp_stage.specs.{Facts.results_of, Facts.stage_at, Facts.write_at, Facts.less, Facts.least, Facts.written_of, Rules.holds_of}
-use Rattle.kp_machine.specs.Slots.{Slot, number_of, result_named, result_to}
-use Rattle.kp_machine.proofs.{Cases.by_test, Names.IsIn, Names.same_name, Names.is_same, Names.number_determines}
+use Rattle.kp_machine.{specs.Slots.Slot, specs.Slots.number_of, specs.Slots.result_named, specs.Slots.result_to, proofs.Cases.by_test}
+use Rattle.kp_machine.proofs.Names.{IsIn, same_name, is_same, number_determines}
 
 -- a result is among the declarations
 pub record Stands (ds : List Decl) (r : ResultDecl) : Type 0 where

@@ -5,8 +5,7 @@ use Rattle.kp_base.specs.{First.first, Check.Answer}
 use Rattle.kp_ast.specs.declared.tree.{Decl.Decl, Block.Block, Job.Job}
 use Rattle.kp_stage.specs.Facts.{Facts, facts_of, stmts_in}
 use Rattle.kp_stage.specs.Rules.{ask_head, ask_decl, ask_decls, ask_block, ask_stmts, ask_in_block, ask_blocks, broken_at, broken_by, all_rules}
-use Rattle.kp_stage.specs.Stages.{broken_of}
-use Rattle.kp_stage.proofs.Unbroken.{first_none}
+use Rattle.kp_stage.{specs.Stages.broken_of, proofs.Unbroken.first_none}
 
 -- no rule is violated if no check reports one
 pub rules_kept : (job : Job) → broken_of job ≡ None → broken_by (facts_of job) job ≡ None

@@ -11,9 +11,9 @@ use Rattle.kp_width.specs.Names.{Sense, sense, Names, Scoped, look_up, find, use
 use Rattle.kp_width.specs.Declarations.{kept, declared, storage_of, pipe_of, target_of, result_of, address_width, name_of, after_name, declaration_of, declarations_of, functions_in}
 use Rattle.kp_width.proofs.{Unbroken.Unbroken, Unbroken.bind_unbroken, Unbroken.answer_unbroken, Calls.pushed, Calls.parameters_text}
 use Rattle.kp_machine.specs.Slots.{Slot, slot, targets_of, pipes_of, samples_of, number_of, width_of, result_named}
+use Rattle.kp_machine.proofs.{Cases.by_test, Cases.by_option, Names.IsIn}
 use Rattle.kp_machine.specs.Slots as slots
 use Rattle.kp_stage.specs.Facts.{hints_of}
-use Rattle.kp_machine.proofs.{Cases.by_test, Cases.by_option, Names.IsIn}
 
 -- the width of the addresses of a name
 abbrev pub addresses : List Slot → List ℕ → ℕ

@@ -1,13 +1,12 @@
 -- A job that violates no rule of stages has a block for each stage.
 use Rattle.std.proofs.Common.{◌≡◌, ◌∙◌, ℕ, ◌+◌, ◌<◌, ◌≤◌, List, [], ◌∷◌, Some, None, length, refl, ap, arith}
-use Rattle.std.proofs.lemmas.Bool.{and_parts, ltb-true, leb-true}
-use Rattle.std.specs.{Option.option_map, Prelude.◌&&◌, Prelude.◌==◌, Prelude.nat_lt, Prelude.nat_le, Prelude.slice_get, Prelude.unwrap_or}
+use Rattle.std.{proofs.lemmas.Bool.and_parts, proofs.lemmas.Bool.ltb-true, proofs.lemmas.Bool.leb-true, specs.Option.option_map}
+use Rattle.std.specs.Prelude.{◌&&◌, ◌==◌, nat_lt, nat_le, slice_get, unwrap_or}
 use Rattle.kp_base.specs.{First.first, Refusal.e_rule}
 use Rattle.kp_ast.specs.declared.tree.{Block.Block, Job.Job}
 use Rattle.kp_stage.specs.Facts.{facts_of}
 use Rattle.kp_stage.specs.Rules.{ask_head, ask_decls, ask_block, ask_stmts, ask_in_block, ask_blocks, broken_at, broken_by, all_rules}
-use Rattle.kp_stage.specs.Stages.{broken_of}
-use Rattle.kp_stage.proofs.Unbroken.{first_none, answer_none}
+use Rattle.kp_stage.{specs.Stages.broken_of, proofs.Unbroken.first_none, proofs.Unbroken.answer_none}
 use Rattle.kp_machine.proofs.Rules.{rules_kept, head_kept}
 
 -- the first rule requires the number of a block to be one of the stages

@@ -12,10 +12,8 @@ use Rattle.kp_width.specs.Names.{Sense, Names, Scoped, nothing, look_up, find, o
 use Rattle.kp_width.specs.{Declarations.address_width, Declarations.declarations_of, Statements.blocks_of, Widths.widths_of}
 use Rattle.kp_width.proofs.{Unbroken.Unbroken, Unbroken.bind_unbroken, Found.first_name, Found.name_kind, Found.name_level}
 use Rattle.kp_width.proofs.Calls.{Open, declared_calls_fit}
-use Rattle.kp_stage.specs.{Facts.Facts, Rules.ask_name, Rules.ask_kind, Rules.ask_expr, Rules.all_rules}
-use Rattle.kp_stage.proofs.Unbroken.{answer_none}
-use Rattle.kp_machine.specs.Slots.{targets_of, number_of, result_to}
-use Rattle.kp_machine.proofs.{Cases.by_option, Results.to_stands}
+use Rattle.kp_stage.{specs.Facts.Facts, specs.Rules.ask_name, specs.Rules.ask_kind, specs.Rules.ask_expr, specs.Rules.all_rules, proofs.Unbroken.answer_none}
+use Rattle.kp_machine.{specs.Slots.targets_of, specs.Slots.number_of, specs.Slots.result_to, proofs.Cases.by_option, proofs.Results.to_stands}
 use Rattle.kp_machine.proofs.Scopes.{Placed, IsSlot, ResultFits, all_placed, results_fit, storage_kind}
 
 -- the question of a rule to the names in an expression

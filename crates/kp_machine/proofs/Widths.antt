@@ -1,15 +1,13 @@
 -- The widths of the targets of a job whose names and widths are right.
 use Rattle.std.proofs.Common.{◌≡◌, ℕ, ◌+◌, ◌≤◌, List, [], ◌∷◌, true, ◌&&◌}
-use Rattle.std.proofs.lemmas.Bool.{and_parts, leb-true}
-use Rattle.std.specs.Prelude.{nat_le, is_some, not}
+use Rattle.std.{proofs.lemmas.Bool.and_parts, proofs.lemmas.Bool.leb-true, specs.Prelude.nat_le, specs.Prelude.is_some, specs.Prelude.not}
 use Rattle.kp_base.specs.{Refusal.e_rule, Check.ok, Check.◌>>=◌}
 use Rattle.kp_ast.specs.declared.tree.{Decl.Decl, Job.Job}
 use Rattle.kp_ast.specs.declared.tree.Decl.TheVariants as decls
 use Rattle.kp_ast.specs.declared.widths.NameKind.TheVariants as kinds
 use Rattle.kp_width.specs.{Names.Scoped, Names.nothing, Names.sense, Names.find, Names.declared_text, Expressions.is_width}
 use Rattle.kp_width.specs.Declarations.{declared, start_of, started_of, addresses_of, after_name, declaration_of, declarations_of, functions_in}
-use Rattle.kp_width.specs.Widths.{widths_of}
-use Rattle.kp_width.proofs.Unbroken.{Unbroken, bind_unbroken, answer_unbroken}
+use Rattle.kp_width.{specs.Widths.widths_of, proofs.Unbroken.Unbroken, proofs.Unbroken.bind_unbroken, proofs.Unbroken.answer_unbroken}
 use Rattle.kp_machine.proofs.Text.{declared_right}
 
 -- the width of a target is 1 to 64, and that of the addresses of a file is not 0

@@ -5,14 +5,13 @@ use Rattle.std.specs.Prelude.{length, get_or, ◌&&◌, nat_lt, nat_le, is_some}
 use Rattle.kp_base.specs.Refusal.{e_rule}
 use Rattle.kp_ast.specs.declared.tree.{Named.Named, ResultDecl.ResultDecl, Job.Job}
 use Rattle.kp_ast.specs.declared.tree.Decl.TheVariants as decls
-use Rattle.kp_width.specs.Widths.{widths_of}
-use Rattle.kp_width.proofs.Unbroken.{Unbroken}
+use Rattle.kp_width.{specs.Widths.widths_of, proofs.Unbroken.Unbroken}
 use Rattle.kp_stage.specs.{Facts.At, Facts.Facts, Facts.facts_of, Rules.holds_of, Rules.put_before, Rules.ask_pipe, Stages.broken_of}
 use Rattle.kp_stage.proofs.Unbroken.{first_none, answer_none}
 use Rattle.kp_pipeline.specs.Accepted.{Accepted}
 use Rattle.kp_machine.specs.Machine.{machine_of, result_for, write_stage_of, after_put, known_after, known_from_of}
-use Rattle.kp_machine.specs.Slots.{sample_stages}
-use Rattle.kp_machine.proofs.{Aims.aims_inside, Placing.stands, Rules.rules_kept, Rules.head_kept, Rules.decl_kept, Rules.stmts_kept, Results.Stands}
+use Rattle.kp_machine.{specs.Slots.sample_stages, proofs.Aims.aims_inside, proofs.Placing.stands}
+use Rattle.kp_machine.proofs.{Rules.rules_kept, Rules.head_kept, Rules.decl_kept, Rules.stmts_kept, Results.Stands}
 use Rattle.kp_machine_laws.proofs.{Sampled.own_samples, Sampled.sample_stands, Fitting.some_from, Fitting.stage_fits}
 
 put_in_time : (w : ℕ) (o : Option At) → holds_of (λ at. nat_lt at.stage w) o ≡ true → after_put o ≤ w

@@ -5,8 +5,7 @@ use Rattle.std.specs.{Prelude.slice_get, Prelude.is_some, Prelude.unwrap_or, Pre
 use Rattle.kp_base.specs.{First.first, Refusal.e_rule}
 use Rattle.kp_ast.specs.declared.tree.{Expr.Expr, Named.Named, ReadStmt.ReadStmt, ResultDecl.ResultDecl, Stmt.Stmt, StmtKind.StmtKind, Block.Block, Job.Job}
 use Rattle.kp_ast.specs.declared.tree.StmtKind.TheVariants as stmts
-use Rattle.kp_width.specs.Widths.{widths_of}
-use Rattle.kp_width.proofs.Unbroken.{Unbroken}
+use Rattle.kp_width.{specs.Widths.widths_of, proofs.Unbroken.Unbroken}
 use Rattle.kp_stage.specs.Facts.{At, Facts, facts_of, stmts_in, or_zero, guessed, largest_in, largest}
 use Rattle.kp_stage.specs.{Rules.holds_of, Rules.is_at, Rules.may_guess, Rules.ask_stmt, Rules.ask_stmts, Rules.all_rules, Stages.broken_of}
 use Rattle.kp_stage.proofs.Unbroken.{first_none, answer_none}

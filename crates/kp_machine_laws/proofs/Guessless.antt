@@ -1,7 +1,7 @@
 -- Where no read has a guess, no tree has one; and where no sample is declared, no stage looks at one.
 use Rattle.std.proofs.Common.{◌≡◌, ◌<◌, ℕ, zero, suc, List, [], ◌∷◌, Option, Some, None, ap, arith, refl}
-use Rattle.std.proofs.lemmas.{Bool.cond_both, List.Sums.sum_by-cons}
-use Rattle.std.specs.{Prelude.slice_get, Prelude.get_or, Prelude.sum_by, List.AllByRecursion}
+use Rattle.std.{proofs.lemmas.Bool.cond_both, proofs.lemmas.List.Sums.sum_by-cons, specs.Prelude.slice_get, specs.Prelude.get_or, specs.Prelude.sum_by}
+use Rattle.std.specs.List.{AllByRecursion}
 use Rattle.kp_ast.specs.declared.tree.{Expr.Expr, ReadStmt.ReadStmt, Decl.Decl, Stmt.Stmt, StmtKind.StmtKind, Block.Block, Job.Job}
 use Rattle.kp_ast.specs.declared.tree.StmtKind.TheVariants as stmts
 use Rattle.kp_stage.specs.{Counts.guesses_in, Counts.guesses_of, Counts.one_if_some, Counts.summary_of, Facts.stmts_in}

@@ -1,17 +1,16 @@
 -- A stage uses only its own samples: if two input vectors agree on these, its tree is the same.
 use Rattle.std.proofs.Common.{◌≡◌, ◌∙◌, ℕ, zero, suc, ◌+◌, List, [], ◌∷◌, ◌++◌, map, Option, Some, None, Bool, true, false, not, cond, eqb, refl, ap, sym, subst, arith}
-use Rattle.std.proofs.lemmas.Bool.{eqb-true}
-use Rattle.std.specs.{Prelude.slice_get, Prelude.get_or, Prelude.unwrap_or, Option.option_map}
+use Rattle.std.{proofs.lemmas.Bool.eqb-true, specs.Prelude.slice_get, specs.Prelude.get_or, specs.Prelude.unwrap_or, specs.Option.option_map}
 use Rattle.kp_base.specs.{First.first, Refusal.e_rule, declared.place.Place.Place, Check.Answer}
 use Rattle.kp_bits.specs.Word.{Word, word, not_of, mux_of, slice_of, zext_of, sext_of}
 use Rattle.kp_bits.specs.Operators.{no_word, binary_of, joined_of}
 use Rattle.kp_ast.specs.Expressions.{Env, Values, is_same_name, look_up, eval, env_of, value_of_kind, value_of_level}
 use Rattle.kp_ast.specs.declared.tree.{Expr.Expr, Named.Named, Num.Num, ReadStmt.ReadStmt, ResultDecl.ResultDecl, Decl.Decl, Stmt.Stmt, StmtKind.StmtKind}
 use Rattle.kp_ast.specs.declared.tree.Job.{Job}
-use Rattle.kp_ast.specs.declared.tree.Decl.TheVariants as decls
-use Rattle.kp_ast.specs.declared.tree.StmtKind.TheVariants as stmts
 use Rattle.kp_ast.proofs.Levels.{fold-Lit, fold-Name, fold-Not, fold-Binary, fold-Mux, fold-Concat, fold-Slice, fold-Zext, fold-Sext, fold-Call}
 use Rattle.kp_ast.proofs.Induction.{Every, induction}
+use Rattle.kp_ast.specs.declared.tree.Decl.TheVariants as decls
+use Rattle.kp_ast.specs.declared.tree.StmtKind.TheVariants as stmts
 use Rattle.kp_width.proofs.Found.{none_of_two}
 use Rattle.kp_stage.specs.Facts.{Facts, facts_of, sample_at, stmts_in}
 use Rattle.kp_stage.specs.Rules.{holds_of, ask_name, ask_kind, ask_level, ask_expr, ask_option, ask_values, ask_guesses, ask_stmt, ask_stmts, all_rules}
@@ -19,8 +18,7 @@ use Rattle.kp_stage.proofs.Unbroken.{first_none, answer_none}
 use Rattle.kp_pipeline.specs.{Machine.Tree, Machine.Done, Machine.Ask, Machine.Guess, Sequential.first_value}
 use Rattle.kp_machine.specs.Trees.{Progress, entered, holds, address_of, value_of, value_with_hints, with_value, with_name, with_put, with_set, with_aim, word_of, word_read, read_of, statement_of, tree_of}
 use Rattle.kp_machine.specs.Slots.{targets_of, pipes_of, hints_of, samples_of, sample_stages, number_of, words_from, words_of, result_named}
-use Rattle.kp_machine.specs.Machine.{stage_tree}
-use Rattle.kp_machine.proofs.{Cases.by_test, LookUp.or_else, LookUp.look_up-append}
+use Rattle.kp_machine.{specs.Machine.stage_tree, proofs.Cases.by_test, proofs.LookUp.or_else, proofs.LookUp.look_up-append}
 
 none_of_three : (a b c : Answer) → first (a ∷ b ∷ c ∷ []) ≡ None → (a ≡ None) × (b ≡ None) × (c ≡ None)
 none_of_three None b c e = let h = none_of_two b c e in (refl, h.0, h.1)

@@ -1,7 +1,6 @@
 -- The worked runs, by computation: the trees of the stages, with their expressions computed, are those of machines on numbers.
 use Rattle.std.proofs.Common.{◌≡◌, ◌∙◌, ℕ, zero, suc, ◌+◌, ◌/◌, ◌%◌, ◌^◌, cond, eqb, List, [], ◌∷◌, ◌++◌, take, drop, Option, None, refl, ap}
-use Rattle.std.proofs.Math.Path.{fun_ext}
-use Rattle.std.specs.Prelude.{codes}
+use Rattle.std.{proofs.Math.Path.fun_ext, specs.Prelude.codes}
 use Rattle.kp_bits.specs.{Word.Word, Word.word, Word.add_of, Word.slice_of, declared.operator.BinOp.BinOp}
 use Rattle.kp_ast.specs.Expressions.{Env, eval, env_of, names_of, calls_of, value_of_kind, value_of_level}
 use Rattle.kp_ast.specs.declared.tree.{Decl.Decl, Stmt.Stmt, Job.Job}

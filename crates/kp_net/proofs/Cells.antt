@@ -28,13 +28,6 @@ old_cells p q k parts right kept cells i h =
     let P : Node → Type 0 = λ n. CellOk q.nodes parts n.width n.kind in
     subst P (sym (kept.nodes i h)) (cell_stays p.nodes q.nodes parts i _ _ (right i h).kind (λ j l. kept.widths j (omega arith)) (cells i h))
 
-pub cells_grown : (p q : Held) (k : ℕ) (parts : Parts) → AllRight p.nodes → Grown p q k → AllCells p.nodes parts → AllCells q.nodes parts
-cells_grown p q k parts right grown cells i h =
-    ⊎_elim
-    (λ (l : i < length p.nodes). old_cells p q k parts right grown.kept cells i l)
-    (λ (l : length p.nodes ≤ i). plain_ok q.nodes parts _ _ (grown.plain i l h))
-    (cases_lt i (length p.nodes))
-
 pub cells_added : (p q : Held) (k : ℕ) (n : Node) (parts : Parts) → AllRight p.nodes → Kept p q k → AddsOnly n p q → CellOk q.nodes parts n.width n.kind → AllCells p.nodes parts → AllCells q.nodes parts
 cells_added p q k n parts right kept added ok cells i h =
     let P : Node → Type 0 = λ x. CellOk q.nodes parts x.width x.kind in

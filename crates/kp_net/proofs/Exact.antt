@@ -1,12 +1,11 @@
 -- At well-formed widths the result of an operation is exact: nothing is truncated.
 use Rattle.std.proofs.Common.{◌≡◌, ℕ, ◌+◌, ◌<◌, ◌≤◌, ◌^◌, ◌%◌, ◌==◌, false, List, [], ◌∷◌, fold, map, length, refl, sym, subst, ap, ◌∙◌, arith, All}
 use Rattle.std.proofs.{Math.Nat.mod-eq_of_lt, lemmas.Bool.cond_both, lemmas.Bool.true≢false, lemmas.List.Elements.All-head, lemmas.List.Elements.All-tail}
-use Rattle.std.proofs.lemmas.List.Sums.{sum_by-cons}
-use Rattle.std.specs.List.{sum_by}
+use Rattle.std.{proofs.lemmas.List.Sums.sum_by-cons, specs.List.sum_by}
+use Rattle.kp_bits.proofs.Words.{not_word, and_word, or_word, xor_word, add_word, sub_word, mul_word, eq_word, lt_word, shl_word, shr_word, concat_word, slice_word}
 use Rattle.kp_bits.specs.{Word.IsWord, Word.concat_of, Word.slice_of, Word.not_of, declared.operator.BinOp.BinOp}
 use Rattle.kp_bits.specs.Operators.{is_shift, binary_of, joined_of}
 use Rattle.kp_bits.specs.Word as bits
-use Rattle.kp_bits.proofs.Words.{not_word, and_word, or_word, xor_word, add_word, sub_word, mul_word, eq_word, lt_word, shl_word, shr_word, concat_word, slice_word}
 use Rattle.kp_net.specs.declared.node.{NodeId.NodeId, Kind.Kind}
 use Rattle.kp_net.specs.declared.node.Kind.TheVariants.{Const, Ext, Sample, Reg, Word, Not, Binary, Mux, Concat, Slice}
 use Rattle.kp_net.specs.{declared.node.Node.Node, Nodes.Cells, Nodes.Words, Nodes.word_of_kind, Nodes.word_of_node, Nodes.word_at, Nodes.at}

@@ -1,13 +1,13 @@
 -- The replacement of a foldable node has its word, and is no deeper.
 use Rattle.std.proofs.Common.{◌≡◌, ℕ, Bool, true, false, ◌+◌, ◌-◌, ◌<◌, ◌≤◌, ◌^◌, ◌%◌, ◌/◌, ◌==◌, ◌&&◌, List, [], ◌∷◌, map, length, get_or, refl, sym, subst, ap, ◌∙◌, arith, All, max, cond, bit_and, bit_or, leb, leb-true, ◌||◌}
 use Rattle.std.proofs.Math.Nat.{mod-eq_of_lt, le-max_left, le-max_right, div-one}
-use Rattle.std.proofs.lemmas.{Bool.false≢true, Bool.false_from_ne_true, Bool.and_parts, Bool.cond-true, Bool.cond-false, Bool.eqb-true, Bool.eq-eqb, Nat.and_mask, Nat.and_comm, Nat.or_comm}
-use Rattle.std.proofs.lemmas.List.Elements.{All-head, All-tail}
+use Rattle.std.proofs.lemmas.Bool.{false≢true, false_from_ne_true, and_parts, cond-true, cond-false, eqb-true, eq-eqb}
+use Rattle.std.proofs.lemmas.{Nat.and_mask, Nat.and_comm, Nat.or_comm, List.Elements.All-head, List.Elements.All-tail}
 use Rattle.std.specs.{Int.Bits.or_zero_r, Int.Bits.or_add_and, List.list_all}
 use Rattle.kp_bits.specs.{Word.IsWord, Word.not_of, Word.and_of, Word.or_of, Word.mux_of, Word.slice_of, declared.operator.BinOp.BinOp}
 use Rattle.kp_bits.specs.Operators.{binary_of, joined_of, is_shift}
-use Rattle.kp_bits.specs.Word as bits
 use Rattle.kp_bits.proofs.{Arithmetic.not_not, Arithmetic.shl_past, Arithmetic.shr_past, Powers.pow_le}
+use Rattle.kp_bits.specs.Word as bits
 use Rattle.kp_net.specs.declared.node.{NodeId.NodeId, Kind.Kind}
 use Rattle.kp_net.specs.declared.node.Kind.TheVariants.{Const, Not, Binary, Mux, Concat, Slice}
 use Rattle.kp_net.specs.{declared.node.Node.Node, declared.fold.Masking.Masking, Nodes.Cells, Nodes.Words, Nodes.word_of_kind, Nodes.word_at}

@@ -4,8 +4,8 @@ use Rattle.std.proofs.lemmas.{Bool.cases_lt, Bool.false≢true, Bool.false_from_
 use Rattle.std.proofs.{lemmas.List.Sums.fails_before_first, lemmas.List.Folds.list_any_none, Math.ListN.get_or-append, Math.Seq.get_or-append_seam}
 use Rattle.std.specs.List.{position, position_or_len, list_any}
 use Rattle.kp_net.specs.{declared.node.Node.Node, Widths.no_node, inner.Lookup.LacksBelow, inner.Lookup.IsFront}
-use Rattle.kp_net.specs.contracts.node.NodePartialEq.TheImpl as nodes
 use Rattle.kp_net.proofs.Same.{node_from_eq, node_eq_itself}
+use Rattle.kp_net.specs.contracts.node.NodePartialEq.TheImpl as nodes
 
 abbrev pub is : Node → Node → Bool
 is = nodes.eq-value.it
@@ -31,28 +31,6 @@ pub inserted : {A E : Type 0} (n : Node) (old new : List Node) (r : Result A E) 
     → IfOk r (λ x. new ≡ (if list_any (is n) old then old else old ++ n ∷ [])) → OnErr r (new ≡ old) → (new ≡ old) ⊎ (new ≡ old ++ n ∷ [])
 inserted n old new (Ok x) lacks put stays = inr (put ∙ ap (λ (b : Bool). if b then old else old ++ n ∷ []) (not_any n old lacks))
 inserted n old new (Err x) lacks put stays = inl stays
-
--- the first nodes of a list
-pub front_stays : (ks ns : List Node) (n : Node) → IsFront ks ns → IsFront ks (ns ++ n ∷ [])
-front_stays ks ns n h = record {
-  shorter = omega (arith, h.shorter, length-append ns (n ∷ []));
-  same = λ i l. h.same i l ∙ sym (get_or-append ns (n ∷ []) no_node i (omega (arith, h.shorter)));
-}
-
-pub front_more : (ks ns : List Node) (n : Node) → IsFront ks ns → length ks ≡ length ns → IsFront (ks ++ n ∷ []) (ns ++ n ∷ [])
-front_more ks ns n h e = record {
-  shorter = omega (arith, e, length-append ns (n ∷ []), length-append ks (n ∷ []));
-  same = λ i l. ⊎_elim
-      (λ (m : i < length ks). get_or-append ks (n ∷ []) no_node i m ∙ h.same i m ∙ sym (get_or-append ns (n ∷ []) no_node i (omega (arith, e))))
-      (λ (m : length ks ≤ i). let z : i ≡ length ks = omega (arith, length-append ks (n ∷ [])) in
-      ap (λ k. get_or (ks ++ n ∷ []) k no_node) z ∙ get_or-append_seam ks n [] no_node ∙ sym (get_or-append_seam ns n [] no_node) ∙ ap (λ k. get_or (ns ++ n ∷ []) k no_node) (sym e ∙ sym z))
-      (cases_lt i (length ks));
-}
-
-pub front_put : (old new ns : List Node) (n : Node) → IsFront old ns → length old ≡ length ns → (new ≡ old) ⊎ (new ≡ old ++ n ∷ []) → IsFront new (ns ++ n ∷ [])
-front_put old new ns n h e put =
-    let P : List Node → Type 0 = λ ks. IsFront ks (ns ++ n ∷ []) in
-    ⊎_elim (λ same. subst P (sym same) (front_stays old ns n h)) (λ more. subst P (sym more) (front_more old ns n h e)) put
 
 pub lacks_front : (ks ns : List Node) (n : Node) → IsFront ks ns → LacksBelow ks n (length ks) → LacksBelow ns n (length ks)
 lacks_front ks ns n h lacks i l e = lacks i l (h.same i l ∙ e)

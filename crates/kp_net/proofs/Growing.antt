@@ -46,12 +46,6 @@ module _ (p q : Held) (n : Node) (e : q.nodes ≡ p.nodes ++ n ∷ []) where
 pub kept_none : (p : Held) → Kept p p 1
 kept_none p = record { longer = omega arith; total = refl; room = omega arith; words = λ c i l. refl; same = λ c i l. refl; tests = λ c i l. refl; widths = λ i l. refl; nodes = λ i l. refl }
 
-pub grown_none : (p : Held) → Grown p p 1
-grown_none p = record { kept = kept_none p; plain = λ i l m. absurd (omega arith) }
-
-pub added_none : (p : Held) (n : Node) → AddsOnly n p p
-added_none p n i l m = absurd (omega arith)
-
 pub wire_there : (p : Held) (n : Node) (i : NodeId) → i.0 < length p.nodes → get_or p.nodes i.0 no_node ≡ n → Wire p i n.width
 unfolding wide
 wire_there p n i h e = record { inside = h; wide = ap (λ (x : Node). x.width) e }

@@ -1,7 +1,6 @@
 -- A cycle with a reset, and the run from there on.
 use Rattle.std.proofs.Common.{◌≡◌, ℕ, true, cond, suc, List, [], ◌∷◌, length, map, refl, sym, ap, ◌∙◌, arith}
-use Rattle.std.proofs.lemmas.{Bool.cond-true, Bool.cond_both, List.length-map, Slice.Zip.length-zip}
-use Rattle.std.specs.List.{zip}
+use Rattle.std.{proofs.lemmas.Bool.cond-true, proofs.lemmas.Bool.cond_both, proofs.lemmas.List.length-map, proofs.lemmas.Slice.Zip.length-zip, specs.List.zip}
 use Rattle.kp_base.specs.declared.row.Row.{Row}
 use Rattle.kp_net.specs.Netlist.{Net, Input, State, start_regs, start_of, regs_after, files_after, port_after, resets, cells_of, state_after, row_of, states_from, rows_from, run, last_from, last_of, restarted}
 use Rattle.kp_net.specs.{declared.node.Node.Node, declared.netlist.NetFile.NetFile, Nodes.Cells}

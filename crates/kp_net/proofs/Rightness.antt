@@ -1,13 +1,11 @@
 -- A list of well-formed nodes remains one when a well-formed node is added.
 use Rattle.std.proofs.Common.{◌≡◌, ℕ, ◌+◌, ◌<◌, ◌≤◌, List, [], ◌∷◌, ◌++◌, length, get_or, refl, sym, subst, ap, ◌∙◌, arith, length-append, ⊎_elim, All}
 use Rattle.std.proofs.{Math.ListN.get_or-append, Math.Seq.get_or-append_seam, lemmas.Bool.cases_lt}
-use Rattle.std.proofs.lemmas.List.{Elements.All-head, Elements.All-tail, Sums.sum_by-cons}
-use Rattle.std.specs.List.{sum_by}
+use Rattle.std.{proofs.lemmas.List.Elements.All-head, proofs.lemmas.List.Elements.All-tail, proofs.lemmas.List.Sums.sum_by-cons, specs.List.sum_by}
 use Rattle.kp_net.specs.declared.node.{NodeId.NodeId, Kind.Kind}
 use Rattle.kp_net.specs.declared.node.Kind.TheVariants.{Const, Ext, Sample, Reg, Word, Not, Binary, Mux, Concat, Slice}
 use Rattle.kp_net.specs.{declared.node.Node.Node, Widths.wide, Widths.no_node, Widths.BinaryOk, Widths.KindOk, Widths.NodeOk, Widths.AllRight, Widths.Distinct}
-use Rattle.kp_net.specs.inner.Lookup.{LacksBelow}
-use Rattle.kp_net.proofs.Values.{wide_front}
+use Rattle.kp_net.{specs.inner.Lookup.LacksBelow, proofs.Values.wide_front}
 
 sums_agree : (v w : ℕ → ℕ) (m : ℕ) (parts : List NodeId) → All (λ a. a.0 < m) parts → ((j : ℕ) → j < m → v j ≡ w j) → sum_by (λ a. v a.0) parts ≡ sum_by (λ a. w a.0) parts
 sums_agree v w m [] h e = refl

@@ -1,6 +1,6 @@
 -- `==` on nodes is equality.
-use Rattle.std.proofs.{Common.◌≡◌, Common.◌&&◌, Common.ℕ, Common.Bool, Common.true, Common.false, Common.refl, Common.ap, Common.eqb, lemmas.Bool.false≢true, lemmas.Bool.and_parts}
-use Rattle.std.proofs.lemmas.{Bool.Decides.Decides-eqb, Slice.Eq.slice_eq-Decides}
+use Rattle.std.proofs.Common.{◌≡◌, ◌&&◌, ℕ, Bool, true, false, refl, ap, eqb}
+use Rattle.std.proofs.lemmas.{Bool.false≢true, Bool.and_parts, Bool.Decides.Decides-eqb, Slice.Eq.slice_eq-Decides}
 use Rattle.std.specs.{Bool.Decides, Cmp.Derive.both_true}
 use Rattle.kp_bits.specs.declared.operator.BinOp.{BinOp}
 use Rattle.kp_bits.specs.contracts.operator.BinOpPartialEq.TheImpl as operators

@@ -1,7 +1,6 @@
 -- The steps of the loops that write the states.
 use Rattle.std.proofs.Common.{◌≡◌, ◌∙◌, ℕ, suc, ◌+◌, ◌-◌, ◌<◌, ◌≤◌, List, [], ◌∷◌, ◌++◌, length, get_or, drop, ap, ap₂, sym, subst, arith}
-use Rattle.std.proofs.lemmas.List.{drop_more}
-use Rattle.std.specs.{declared.option.Option.Option, declared.result.Result.Result, Io.KnownBytes.Appends}
+use Rattle.std.{proofs.lemmas.List.drop_more, specs.declared.option.Option.Option, specs.declared.result.Result.Result, specs.Io.KnownBytes.Appends}
 use Rattle.kp_base.specs.Bytes.{AppendsPart, Writes}
 use Rattle.kp_ast.specs.declared.tree.{Decl.Decl, Job.Job}
 use Rattle.kp_cycle.specs.Steps.{Running}

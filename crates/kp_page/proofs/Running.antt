@@ -4,13 +4,11 @@ use Rattle.kp_ast.specs.declared.tree.Job.{Job}
 use Rattle.kp_pipeline.specs.Pipeline.{Inputs}
 use Rattle.kp_machine.specs.Machine.{inputs_from, pipe_of}
 use Rattle.kp_net.specs.Netlist.{Net, State, run}
-use Rattle.kp_run.specs.Cycles.{inputs_to}
-use Rattle.kp_run.proofs.Prefixes.{rows_many, state_is}
+use Rattle.kp_run.{specs.Cycles.inputs_to, proofs.Prefixes.rows_many, proofs.Prefixes.state_is}
 use Rattle.kp_sched.proofs.Counting.{seen_length}
 use Rattle.kp_seq.specs.Running.{HasWord}
 use Rattle.kp_synth_spec.specs.{Naming.value_shown, Shows.Shows, Traces.trace_of, Traces.inputs_seen, Traces.AreQuiet}
-use Rattle.kp_page.specs.{States.recorded, States.states_text, inner.Seen.states_of}
-use Rattle.kp_page.proofs.Alike.{recorded_alike}
+use Rattle.kp_page.{specs.States.recorded, specs.States.states_text, specs.inner.Seen.states_of, proofs.Alike.recorded_alike}
 
 module _ (job : Job) (net : Net) (n : ℕ) (shows : Shows net job)
     (seen : inputs_seen job (inputs_to job n) ≡ inputs_from job 0 n) (quiet : AreQuiet (inputs_to job n)) where

@@ -146,9 +146,6 @@ module _ {ts : List Lexeme} {e : Fault} where
   pub all_fail : {xs : List Sym} {b i' n c i : ℕ} → FailsAll ts xs b i' e → ((o : Outcome State) → AtAll ts xs b i' o → AtName ts n c i o) → Fails ts n c i e
   all_fail {xs} {b} {i'} {n} {c} {i} h f = record { ends = mapped ts (AtAll ts xs b i') (AtName ts n c i) e h.ends f }
 
-  pub miss_job : {c i' : ℕ} → Misses ts c i' e → ((o : Outcome State) → AtToken ts c i' o → JobGoes ts o) → FaultIs ts (JobGoes ts) e
-  miss_job {c} {i'} m f = mapped ts (AtToken ts c i') (JobGoes ts) e m.ends f
-
   pub end_job : {y : Sym} {b : List Value} {i' : ℕ} → Ends ts y b i' e → ((o : Outcome State) → AtSymbol ts y b i' o → JobGoes ts o) → FaultIs ts (JobGoes ts) e
   end_job {y} {b} {i'} m f = mapped ts (AtSymbol ts y b i') (JobGoes ts) e m.ends f
 

@@ -1,14 +1,12 @@
 -- The token at an index.
 use Rattle.std.proofs.Common.{ℕ, suc, ◌≡◌, ◌==◌, ◌<◌, ◌≤◌, ◌+◌, ◌-◌, List, [], ◌∷◌, length, drop, take, map, true, false, refl, sym, ap, ◌∙◌, arith}
-use Rattle.std.proofs.lemmas.{Bool.eqb-true, List.drop_more, List.drop-map}
-use Rattle.std.specs.Prelude.{slice_index_or}
-use Rattle.kp_grammar.specs.{Grammar.Terminal, Machine.Stops, Machine.look, Machine.wrong}
+use Rattle.std.{proofs.lemmas.Bool.eqb-true, proofs.lemmas.List.drop_more, proofs.lemmas.List.drop-map, specs.Prelude.slice_index_or}
+use Rattle.kp_grammar.{specs.Grammar.Terminal, specs.Machine.Stops, specs.Machine.look, specs.Machine.wrong, proofs.Ways.took}
 use Rattle.kp_lex.specs.declared.token.{Token.Token, Keyword.Keyword, Mark.Mark, TokenKind.TokenKind}
 use Rattle.kp_lex.specs.declared.token.Keyword.TheVariants as keywords
 use Rattle.kp_lex.specs.declared.token.Mark.TheVariants as marks
 use Rattle.kp_lex.specs.declared.token.TokenKind.TheVariants as kinds
 use Rattle.kp_bits.specs.declared.literal.Literal.{Literal}
-use Rattle.kp_grammar.proofs.Ways.{took}
 use Rattle.kp_parse_grammar.specs.Tokens.{Lexeme, lexeme_of, lexemes, kind_class, keyword_class, mark_class, IDENTIFIER, named_of}
 use Rattle.kp_parse_grammar.specs.inner.Follow.{tables}
 use Rattle.kp_parse_grammar.specs.Language.{Sym, State, Way, NAME, NUM, LIT, named, number, literal, language, is_over}

@@ -1,7 +1,6 @@
 -- The steps of the loops that write the picture.
 use Rattle.std.proofs.Common.{◌≡◌, ◌∙◌, ℕ, suc, ◌+◌, ◌-◌, ◌<◌, ◌≤◌, Bool, true, false, refl, cond, List, ◌∷◌, ◌++◌, length, get_or, drop, Option, ap, sym, subst, arith}
-use Rattle.std.proofs.lemmas.{List.drop_more, List.length-append, Grind.flat_map-append}
-use Rattle.std.specs.List.{flat_map}
+use Rattle.std.{proofs.lemmas.List.drop_more, proofs.lemmas.List.length-append, proofs.lemmas.Grind.flat_map-append, specs.List.flat_map}
 use Rattle.kp_base.specs.inner.Bytes.{WrittenUpTo}
 use Rattle.kp_ast.specs.declared.tree.{Job.Job, ReadStmt.ReadStmt, Stmt.Stmt, Block.Block}
 use Rattle.kp_paths.specs.{declared.cell.Cell.Cell, Table.cell_at}
@@ -15,10 +14,6 @@ left_is whole rest same a b e written = subst (λ (text : List ℕ). WrittenUpTo
 
 pub columns_next : (low count j : ℕ) → j < count → columns_text low j (count - j) ≡ column_text j (middle j) low ++ columns_text low (j + 1) (count - (j + 1))
 columns_next low count j h = let one : count - j ≡ suc (count - (j + 1)) = omega arith in ap (λ (m : ℕ). columns_text low j m) one
-
-pub one_at_most : (b : Bool) → cond b 1 0 ≤ 1
-one_at_most true = omega arith
-one_at_most false = omega arith
 
 -- the arrows of one stage more
 module _ (job : Job) (r : ReadStmt) (k count j : ℕ) (h : j < count) where
@@ -56,6 +51,3 @@ module _ (job : Job) (top : ℕ) (blocks : List Block) (k : ℕ) (x : Block) (b 
 
   pub blocks_next : rows_from job k top (drop k blocks) ≡ rows_in job k top x.stmts ++ rows_from job (k + 1) (rows_end job k top x.stmts) (drop (k + 1) blocks)
   blocks_next = ap (rows_from job k top) one_block
-
-  pub block_ends_next : blocks_end job k top (drop k blocks) ≡ blocks_end job (k + 1) (rows_end job k top x.stmts) (drop (k + 1) blocks)
-  block_ends_next = ap (blocks_end job k top) one_block

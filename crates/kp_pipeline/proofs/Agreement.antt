@@ -1,6 +1,5 @@
-use Rattle.std.specs.List.{AllByRecursion}
 use Rattle.std.proofs.Common.{◌≡◌, ℕ, ◌+◌, ◌≤◌, true, false, Option, Some, None, refl, ap, ap₂, ◌∙◌, ◌⊎◌, inl, inr, ⊎_elim, arith}
-use Rattle.std.proofs.lemmas.Bool.{true≢false}
+use Rattle.std.{specs.List.AllByRecursion, proofs.lemmas.Bool.true≢false}
 use Rattle.kp_pipeline.specs.Machine.{Ask, Done, Guess, Machine, Tree}
 use Rattle.kp_pipeline.specs.{Sequential.Instruction, Sequential.PendingGuess, Sequential.StageOutcome, Sequential.after_stage, Sequential.run, Accepted.Fits}
 

@@ -1,12 +1,12 @@
-use Rattle.std.specs.List.{AllByRecursion}
 use Rattle.std.proofs.Common.{◌≡◌, ℕ, zero, suc, ◌+◌, ◌-◌, ◌<◌, ◌≤◌, min, true, false, cond, leb, List, [], ◌∷◌, length, refl, ap, ap₂, ◌∙◌, ⊎_elim, arith, Option, ◌++◌}
+use Rattle.std.specs.List.{AllByRecursion}
 use Rattle.std.proofs.lemmas.Bool.{cases_Bool, cases_lt, false≢true, cond-true, cond-false}
 use Rattle.kp_pipeline.specs.{Machine.Machine, Sequential.PendingGuess}
 use Rattle.kp_pipeline.specs.Pipeline.{Inputs, PipelineState, above, back, cycle, mismatches, pipeline_start, some_differs, ue}
 use Rattle.kp_pipeline.specs.Rows.{Row, bit, count_after, count_moved, counts, counts_from, one_if, passed, pipe, row, rows_from, state_after}
-use Rattle.kp_pipeline.specs.{Accepted.Accepted, Claims.StandsBefore}
-use Rattle.kp_pipeline.proofs.{Lists.bit-at, Cycle.greatest-bound, Movement.count-one, Movement.count-stays, Movement.count-swept, Movement.next_count}
-use Rattle.kp_pipeline.proofs.{Invariant.Shape, NextState.back-mismatch, Pending.shape-kept, Pending.shape-start}
+use Rattle.kp_pipeline.{specs.Accepted.Accepted, specs.Claims.StandsBefore, proofs.Lists.bit-at, proofs.Cycle.greatest-bound}
+use Rattle.kp_pipeline.proofs.{Movement.count-one, Movement.count-stays, Movement.count-swept, Movement.next_count, Invariant.Shape, NextState.back-mismatch}
+use Rattle.kp_pipeline.proofs.Pending.{shape-kept, shape-start}
 
 -- COUNTS: from the stage on in which no instruction can be squashed any more, the scheduling function counts the update enables.
 

@@ -3,9 +3,9 @@ use Rattle.std.proofs.lemmas.Bool.{false≢true, cond-true, and_from}
 use Rattle.kp_pipeline.specs.{Machine.Machine, Sequential.before_stage, Sequential.seq}
 use Rattle.kp_pipeline.specs.Pipeline.{Inputs, PipelineState, cycle, next_stage, pipeline_start, start_stage, ue}
 use Rattle.kp_pipeline.specs.Rows.{bit, one_if, passed, pipe, row, rows_from, state_after, taken, taken_from}
-use Rattle.kp_pipeline.specs.{Accepted.Accepted, Claims.Legal}
-use Rattle.kp_pipeline.proofs.{Lists.bit-at, Movement.next_count, Invariant.Inv, Invariant.Met, Pending.shape-kept, Pending.shape-start, Counts.passes-kept}
-use Rattle.kp_pipeline.proofs.{Settling.held-kept, Window.fixed-kept, Window.visible-right-kept, Taken.taken-skips}
+use Rattle.kp_pipeline.{specs.Accepted.Accepted, specs.Claims.Legal, proofs.Lists.bit-at, proofs.Movement.next_count}
+use Rattle.kp_pipeline.proofs.{Invariant.Inv, Invariant.Met, Pending.shape-kept, Pending.shape-start, Counts.passes-kept, Settling.held-kept}
+use Rattle.kp_pipeline.proofs.{Window.fixed-kept, Window.visible-right-kept, Taken.taken-skips}
 
 -- At the start part (b) is about stage 0 alone.
 start-held : (m : Machine) (s given : ℕ → ℕ → ℕ) (k : ℕ) → (start_stage k).full ≡ true

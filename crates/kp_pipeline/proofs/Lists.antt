@@ -1,5 +1,5 @@
-use Rattle.std.specs.List.{AllByRecursion}
 use Rattle.std.proofs.Common.{◌≡◌, ℕ, zero, suc, ◌+◌, ◌<◌, ◌≤◌, arith, ap₂, Bool, true, false, cond, List, [], ◌∷◌, ◌++◌, refl, ⊎_elim, filter}
+use Rattle.std.specs.List.{AllByRecursion}
 use Rattle.std.proofs.lemmas.Bool.{cases_Bool, cond-true, cond-false, both_ways}
 use Rattle.kp_pipeline.specs.Rows.{bit, bits}
 

@@ -2,8 +2,7 @@ use Rattle.std.proofs.Common.{refl, ◌≡◌, ℕ, zero, suc, ◌+◌, ◌-◌,
 use Rattle.std.proofs.lemmas.Bool.{and_parts, and_from, or_parts, cases_Bool, cases_lt, both_ways, or_left, or_right, cond-true, cond-false, lt-leb, or_cases, and_left, and_right, or_from, false_from_ne_true}
 use Rattle.kp_pipeline.specs.Machine.{Machine}
 use Rattle.kp_pipeline.specs.Pipeline.{Inputs, PipelineState, above, back, next_stage, outcome, stall, ue}
-use Rattle.kp_pipeline.specs.Rows.{count_moved, one_if}
-use Rattle.kp_pipeline.proofs.Cycle.{stall-above, stall-is, ue-from, ue-parts}
+use Rattle.kp_pipeline.{specs.Rows.count_moved, specs.Rows.one_if, proofs.Cycle.stall-above, proofs.Cycle.stall-is, proofs.Cycle.ue-from, proofs.Cycle.ue-parts}
 
 -- The counts after a cycle as the proofs carry them: `count_after` of the row, with the tests themselves for their bits.
 unfoldable pub next_count : Machine → PipelineState → Inputs → (ℕ → ℕ) → ℕ → ℕ

@@ -1,12 +1,11 @@
-use Rattle.std.specs.{List.AllByRecursion, Prelude.unwrap_or}
 use Rattle.std.proofs.Common.{◌≡◌, ℕ, suc, ◌-◌, ◌<◌, ◌≤◌, Bool, true, false, cond, not, ◌&&◌, ◌||◌, eqb, leb, List, [], ◌∷◌, ◌++◌, Option, Some, None, refl, sym, ap, ap₂, ◌∙◌, ⊎_elim, arith, le-leb, eqb-true, eq-eqb, filter}
+use Rattle.std.specs.{List.AllByRecursion, Prelude.unwrap_or}
 use Rattle.std.proofs.lemmas.Bool.{cases_Bool, cond-true, cond-false, and_parts, and_from, and_left, and_right, or_parts, not-false}
 use Rattle.kp_pipeline.specs.Pipeline.{Inputs, PipelineState, above, back, candidate_hits, differs, forwarded, hits, intent_known, mismatches, next_stage, next_visible, ok_value, outcome, some_differs, stall, ue}
 use Rattle.kp_pipeline.specs.Machine.{Machine}
 use Rattle.kp_pipeline.specs.Sequential.{PendingGuess, after_stage, first_value, intends, is_written}
-use Rattle.kp_pipeline.specs.Accepted.{Accepted}
-use Rattle.kp_pipeline.proofs.{Cycle.greatest-above, Cycle.greatest-at, Cycle.truth-in, Cycle.ue-from, Sequential.GuessedIn, Sequential.run-guessed}
-use Rattle.kp_pipeline.proofs.{Truths.truth-own, Movement.ue-empty}
+use Rattle.kp_pipeline.{specs.Accepted.Accepted, proofs.Cycle.greatest-above, proofs.Cycle.greatest-at, proofs.Cycle.truth-in, proofs.Cycle.ue-from}
+use Rattle.kp_pipeline.proofs.{Sequential.GuessedIn, Sequential.run-guessed, Truths.truth-own, Movement.ue-empty}
 
 -- WHAT THE CYCLE DOES TO THE STATE. No guess of a list that doesn't mismatch differs from its truth.
 pub no_differs : (view : ℕ → ℕ → Option ℕ) (xs : List PendingGuess) → some_differs view xs ≡ false

@@ -1,5 +1,5 @@
-use Rattle.std.specs.List.{AllByRecursion}
 use Rattle.std.proofs.Common.{refl, ◌≡◌, ℕ, zero, suc, ◌+◌, ◌-◌, ◌<◌, ◌≤◌, true, false, not, eqb, List, ◌++◌, Some, None, sym, ◌∙◌, subst, ⊎_elim, arith}
+use Rattle.std.specs.List.{AllByRecursion}
 use Rattle.std.proofs.lemmas.Bool.{cases_Bool, cases_lt, not-true, eqb-false, cond-false, both_ways, false_from_ne_true, and_left, and_right}
 use Rattle.kp_pipeline.specs.Pipeline.{Inputs, PipelineState, above, back, candidate_hits, cycle, differs, is_candidate, next_stage, next_visible, outcome, pipeline_start, stall, start_stage, ue}
 use Rattle.kp_pipeline.specs.{Machine.Machine, Sequential.PendingGuess, Accepted.Accepted, Claims.StandsBefore}

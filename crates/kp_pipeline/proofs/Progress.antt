@@ -1,5 +1,5 @@
-use Rattle.std.specs.List.{AllByRecursion}
 use Rattle.std.proofs.Common.{◌≡◌, ℕ, zero, suc, ◌+◌, ◌-◌, ◌*◌, ◌<◌, ◌≤◌, Bool, true, false, not, List, [], ◌∷◌, length, Option, Some, refl, sym, ap, ◌∙◌, subst, ⊎_elim, arith, eq-eqb, mul-one}
+use Rattle.std.specs.List.{AllByRecursion}
 use Rattle.std.proofs.lemmas.Bool.{cases_Bool, cases_lt, cases_eq, cond-false, both_ways, false_from_ne_true, and_parts, and_left, and_right, or_from, not-true, not_from_true}
 use Rattle.kp_pipeline.specs.Pipeline.{Inputs, PipelineState, StageState, above, back, candidate_hits, cycle, differs, greatest, is_candidate, next_stage, outcome, pipeline_start, some_differs, stage_zero, stall, ue}
 use Rattle.kp_pipeline.specs.{Machine.Ask, Machine.Done, Machine.Guess, Machine.Machine, Machine.Tree, Sequential.PendingGuess, Sequential.run}

@@ -1,6 +1,5 @@
-use Rattle.std.specs.List.{AllByRecursion}
 use Rattle.std.proofs.Common.{◌≡◌, ℕ, ◌+◌, ◌<◌, ◌≤◌, Bool, true, false, not, ◌&&◌, ◌||◌, eqb, List, [], ◌∷◌, Option, Some, None, is_some, refl, sym, ap, ap₂, ◌∙◌, ◌⊎◌, inl, inr, ⊎_elim, arith, eq-eqb}
-use Rattle.std.proofs.lemmas.Bool.{or_from, true≢false}
+use Rattle.std.{specs.List.AllByRecursion, proofs.lemmas.Bool.or_from, proofs.lemmas.Bool.true≢false}
 use Rattle.kp_pipeline.specs.{Machine.Ask, Machine.Done, Machine.Guess, Machine.Machine, Machine.Tree, Sequential.PendingGuess, Sequential.run}
 use Rattle.kp_pipeline.specs.{Pipeline.differs, Pipeline.some_differs, Accepted.Fits, Claims.StandsBefore, Timeline.HasNoGuess, Timeline.some_unmet}
 use Rattle.kp_pipeline.specs.RightPath.{MakesRightGuesses, some_missing, some_shows_wrong}

@@ -1,12 +1,12 @@
-use Rattle.std.specs.List.{AllByRecursion}
 use Rattle.std.proofs.Common.{◌≡◌, ℕ, zero, suc, ◌+◌, ◌-◌, ◌<◌, ◌≤◌, Bool, true, false, cond, List, [], ◌∷◌, Option, Some, None, refl, sym, ap, ap₂, ◌∙◌, subst, ⊎_elim, arith}
+use Rattle.std.specs.List.{AllByRecursion}
 use Rattle.std.proofs.lemmas.Bool.{cases_Bool, cases_lt, and_from, both_ways}
 use Rattle.kp_pipeline.specs.Pipeline.{Inputs, PipelineState, above, back, cycle, mismatches, next_stage, outcome, pipeline_start, some_differs, stall, start_stage, ue}
 use Rattle.kp_pipeline.specs.RightPath.{HasRightGuesses, IsRightFrom, IsRightIn, KeepsRightFrom, MakesRightGuesses, Moment, NoWrongGuess, WaitsOnlyWhereItMust, WaitsWhereItMust, first_moment, held, shows_wrong, some_missing, some_shows_wrong, waits_unguessed}
+use Rattle.kp_pipeline.proofs.Seeing.{Kept, RightHere, calm-at, end-calm, end-had, end-wrong, hints-kept, hold-kept, moves-at, never-early, right-kept, row-here, still-right, wait-at}
 use Rattle.kp_pipeline.specs.{Machine.Machine, Sequential.instruction_before, Sequential.seq}
 use Rattle.kp_pipeline.specs.{Rows.Row, Rows.bit, Rows.count_after, Rows.one_if, Rows.pipe, Rows.row, Rows.rows_from, Rows.taken, Accepted.Accepted}
 use Rattle.kp_pipeline.specs.{Timeline.start_hold, SpeculativeTimeline.next_hold, SpeculativeTimeline.ready_above, SpeculativeTimeline.timeline_rows}
-use Rattle.kp_pipeline.proofs.Seeing.{Kept, RightHere, calm-at, end-calm, end-had, end-wrong, hints-kept, hold-kept, moves-at, never-early, right-kept, row-here, still-right, wait-at}
 use Rattle.kp_pipeline.proofs.{Lists.bit-at, Pending.start-near, Cycle.greatest-above, Cycle.ue-from, Cycle.ue-parts}
 use Rattle.kp_pipeline.proofs.Movement.{count-swept, kept-below, next-swept, next_count}
 use Rattle.kp_pipeline.proofs.{Invariant.Inv, Invariant.Met, Invariant.RightAt, NextState.back-mismatch, Counts.AgreeBelow, Counts.counts-row}

@@ -1,7 +1,6 @@
-use Rattle.std.specs.Prelude.{unwrap_or}
 use Rattle.std.proofs.Common.{◌≡◌, ℕ, zero, suc, ◌+◌, ◌-◌, ◌<◌, ◌≤◌, ◌≢◌, Bool, true, false, cond, not, ◌&&◌, ◌||◌, eqb, ltb, List, ◌++◌, Option, Some, None, is_some, refl, sym, ap, ap₂, ◌∙◌, subst, ⊎_elim, arith, le-leb, leb-true, eqb-true, eq-eqb, lt-ltb, le-ltb}
 use Rattle.std.proofs.lemmas.Bool.{cases_Bool, cases_lt, cond-true, cond-false, and_parts, and_from, and_left, and_right, or_left, or_right, or_from, both_ways, false≢true, ne_eqb, lt-leb}
-use Rattle.std.proofs.Math.Path.{fun_ext}
+use Rattle.std.{specs.Prelude.unwrap_or, proofs.Math.Path.fun_ext}
 use Rattle.kp_pipeline.specs.Pipeline.{Inputs, PipelineState, StageState, above, back, candidate_hits, cycle, forwarded, hits, intent_known, is_candidate, mismatches, next_hints, next_stage, ok_value, outcome, some_differs, stall, ue}
 use Rattle.kp_pipeline.specs.SpeculativeTimeline.{aim_given, blocked, hints_after, is_ready, may_write, moves_on, next_hold, ready_above, ready_below, ready_from, setting_stage, timeline_row, waits}
 use Rattle.kp_pipeline.specs.Machine.{Machine}

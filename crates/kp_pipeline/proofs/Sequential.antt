@@ -1,6 +1,5 @@
-use Rattle.std.specs.List.{AllByRecursion}
 use Rattle.std.proofs.Common.{◌≡◌, ℕ, zero, suc, ◌+◌, ◌-◌, ◌<◌, ◌≤◌, Bool, true, false, ◌&&◌, eqb, Option, Some, None, refl, ap₂, ◌∙◌, arith, ◌∷◌, [], unwrap_or}
-use Rattle.std.proofs.lemmas.Bool.{cond-true, cond-false}
+use Rattle.std.{specs.List.AllByRecursion, proofs.lemmas.Bool.cond-true, proofs.lemmas.Bool.cond-false}
 use Rattle.kp_pipeline.specs.Machine.{Ask, Done, Guess, Machine, Tree}
 use Rattle.kp_pipeline.specs.Sequential.{PendingGuess, StageOutcome, after_guess, after_read, before_stage, instruction_before, is_written, run, seq}
 use Rattle.kp_pipeline.specs.{Accepted.Accepted, Accepted.EndFits, Accepted.Fits, Timeline.HasNoGuess}

@@ -5,9 +5,8 @@ use Rattle.kp_pipeline.specs.{Machine.Machine, Machine.Tree, Sequential.seq}
 use Rattle.kp_pipeline.specs.{Pipeline.Inputs, Pipeline.PipelineState, Pipeline.cycle, Pipeline.pipeline_start, Pipeline.ue, Accepted.Accepted}
 use Rattle.kp_pipeline.specs.Rows.{Row, bit, one_if, pipe, row, rows_from, taken_from}
 use Rattle.kp_pipeline.specs.SpeculativeTimeline.{blocked as path_blocked, hints_after, moves_on as path_moves_on, next_hold as path_next_hold, ready_above as path_ready_above, ready_below as path_ready_below, ready_from as path_ready_from, setting_stage as path_setting_stage, timeline_rows as path_rows, waits_given as path_waits_given}
-use Rattle.kp_pipeline.specs.RightPath.{NoWrongGuess}
-use Rattle.kp_pipeline.proofs.{Lists.bit-past, Lists.bits-same, Legality.inv-start, Reading.no_guess-right, Agreement.IsRight, Pending.start-near}
-use Rattle.kp_pipeline.proofs.Runs.{rows-along, start-tie}
+use Rattle.kp_pipeline.{specs.RightPath.NoWrongGuess, proofs.Lists.bit-past, proofs.Lists.bits-same, proofs.Legality.inv-start, proofs.Reading.no_guess-right}
+use Rattle.kp_pipeline.proofs.{Agreement.IsRight, Pending.start-near, Runs.rows-along, Runs.start-tie}
 
 -- WITHOUT GUESSES AND SAMPLES no wrong guess is made and no sample is taken, and the timeline of any machine is the one that
 -- mentions neither.

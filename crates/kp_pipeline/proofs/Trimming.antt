@@ -1,7 +1,6 @@
 -- PIPES THAT NO STAGE USES DON'T MATTER. If no stage from some stage on uses certain pipes, their values there don't affect the run.
 use Rattle.std.proofs.Common.{◌≡◌, ℕ, zero, suc, ◌-◌, Bool, true, false, cond, not, ◌&&◌, ◌||◌, eqb, leb, ◌++◌, filter, refl, sym, ap, ◌∙◌, ⊎_elim, arith, leb-true}
-use Rattle.std.proofs.lemmas.Bool.{cases_Bool, and_parts}
-use Rattle.std.specs.Prelude.{unwrap_or}
+use Rattle.std.{proofs.lemmas.Bool.cases_Bool, proofs.lemmas.Bool.and_parts, specs.Prelude.unwrap_or}
 use Rattle.kp_pipeline.specs.Pipeline.{PipelineState, Inputs, FromAbove, is_candidate, intent_known, candidate_hits, ok_value, outcome_given, stall_given, pass_down, from_stages, above, outcome, stall, some_differs, mismatches, greatest, back, ue, next_stage, next_visible, next_hints, cycle}
 use Rattle.kp_pipeline.specs.Machine.{Machine}
 use Rattle.kp_pipeline.specs.Sequential.{Instruction, StageOutcome, run, first_value, after_stage, intends, is_written}

@@ -1,11 +1,10 @@
-use Rattle.std.specs.{List.AllByRecursion, Prelude.unwrap_or}
 use Rattle.std.proofs.Common.{◌≡◌, ℕ, zero, suc, ◌+◌, ◌<◌, ◌≤◌, Bool, true, false, not, ◌&&◌, ◌||◌, eqb, leb, Option, Some, None, refl, sym, ap, ap₂, ◌∙◌, subst, inl, inr, ◌⊎◌, ⊎_elim, arith, le-leb, leb-true, eqb-true}
+use Rattle.std.specs.{List.AllByRecursion, Prelude.unwrap_or}
 use Rattle.std.proofs.lemmas.Bool.{cases_Bool, cases_lt, cond-true, cond-false, and_from, and_left, and_right, or_left, both_ways, not_from_false, lt-leb}
 use Rattle.kp_pipeline.specs.Pipeline.{Inputs, PipelineState, above, back, candidate_hits, forwarded, hits, intent_known, is_candidate, ok_value, outcome, stall, ue}
 use Rattle.kp_pipeline.specs.Machine.{Machine, Tree}
 use Rattle.kp_pipeline.specs.Sequential.{Instruction, after_stage, before_stage, first_value, instruction_before, intends, is_written, run, seq}
-use Rattle.kp_pipeline.specs.Accepted.{Accepted}
-use Rattle.kp_pipeline.proofs.Cycle.{truth-in, truth-top, ue-from, ue-parts}
+use Rattle.kp_pipeline.{specs.Accepted.Accepted, proofs.Cycle.truth-in, proofs.Cycle.truth-top, proofs.Cycle.ue-from, proofs.Cycle.ue-parts}
 use Rattle.kp_pipeline.proofs.Movement.{chain-empty, chain-full, no_stall-parts}
 use Rattle.kp_pipeline.proofs.Sequential.{no_result-final, result-final, seq-fixed, seq-other, seq-written, written-from}
 use Rattle.kp_pipeline.proofs.Agreement.{IsRight, SameEffect, after-same, run-agrees}

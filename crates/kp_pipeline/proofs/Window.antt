@@ -1,11 +1,10 @@
 use Rattle.std.proofs.Common.{◌≡◌, ℕ, suc, ◌+◌, ◌<◌, ◌≤◌, Bool, true, false, ◌&&◌, Option, Some, None, sym, ap, ◌∙◌, subst, ⊎_elim, arith}
-use Rattle.std.proofs.lemmas.Bool.{cases_Bool, cases_lt}
-use Rattle.std.specs.Prelude.{unwrap_or}
+use Rattle.std.{proofs.lemmas.Bool.cases_Bool, proofs.lemmas.Bool.cases_lt, specs.Prelude.unwrap_or}
 use Rattle.kp_pipeline.specs.Machine.{Machine}
 use Rattle.kp_pipeline.specs.Sequential.{Instruction, after_stage, before_stage, instruction_before, intends, is_written, seq}
 use Rattle.kp_pipeline.specs.{Pipeline.Inputs, Pipeline.PipelineState, Pipeline.back, Pipeline.next_visible, Pipeline.outcome, Pipeline.ue, Accepted.Accepted}
-use Rattle.kp_pipeline.specs.Claims.{StandsBefore}
-use Rattle.kp_pipeline.proofs.{Lists.all-both, Lists.all-map, Cycle.ue-parts, Movement.count-one, Movement.next_count}
+use Rattle.kp_pipeline.{specs.Claims.StandsBefore, proofs.Lists.all-both, proofs.Lists.all-map, proofs.Cycle.ue-parts}
+use Rattle.kp_pipeline.proofs.Movement.{count-one, next_count}
 use Rattle.kp_pipeline.proofs.Sequential.{GuessedIn, no_result-final, result-final, seq-other, seq-written, written-from}
 use Rattle.kp_pipeline.proofs.{Agreement.IsRight, Invariant.Inv, Invariant.Met, Invariant.RightAt, Truths.MadeRight, Truths.RightAbove, Truths.computes}
 use Rattle.kp_pipeline.proofs.{NextState.guessed-in, NextState.visible-kept, NextState.visible-other, NextState.visible-written, Counts.count-window}

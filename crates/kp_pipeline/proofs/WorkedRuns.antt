@@ -110,23 +110,6 @@ smp3-accepted = record {
   window = λ t h. omega arith;
 }
 
--- THE WINDOW IS NEEDED: the machine `early` keeps all other rules.
-early-late : (p : ℕ → ℕ) (t k : ℕ) → early.has_result t ≡ true → k < 1 → early.write_stage t < suc (suc (suc (suc k))) → only 0 (p 0 + 1) t ≡ None
-early-late p zero k h b c = absurd (omega arith)
-early-late p (suc t) k h b c = cond-false (eqb (suc t) 0) _ _ (ne_eqb (suc t) 0 (λ e. absurd (omega arith)))
-
-early-fits : (k : ℕ) (p : ℕ → ℕ) → k < 5 → Fits early k (early_body k p)
-early-fits zero p b = (refl, omega arith, omega arith, (λ v. ((λ t p h k. (refl, refl)), (λ t h k. absurd (omega arith)))))
-early-fits (suc (suc (suc (suc k)))) p b = ((λ t p h k. (refl, refl)), (λ t h c. early-late p t k h (let x : suc (suc (suc (suc k))) < 5 = b in omega arith) c))
-early-fits _ p b = ((λ t p h k. (refl, refl)), (λ t h k. refl))
-
-early-writes : (t : ℕ) → early.write_stage t < 5
-early-writes zero = omega arith
-early-writes (suc t) = omega arith
-
-pub early-accepted : AcceptedButForWindow early
-early-accepted = no_sample-accepted early (omega arith) early-fits (λ k q r p. refl) (λ x. omega arith) early-writes (λ t. omega arith) (λ x. omega arith)
-
 -- Y has the wrong guess, 7, and in the sequential machine 1.
 early-shows : (pipe early zeros no_hints (quiets 5)).visible 4 1 0 ≡ 7
 unfolding next_stage next_visible next_hints ue back outcome stall above from_stages before_stage seq

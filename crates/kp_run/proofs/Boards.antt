@@ -7,12 +7,11 @@ use Rattle.kp_pipeline.specs.{Accepted.Accepted, Rows.taken}
 use Rattle.kp_pipeline.specs.Rows as law
 use Rattle.kp_stage.specs.Start.{input, AreSamples}
 use Rattle.kp_machine.specs.{Machine.machine_of, Machine.sequential, Machine.inputs_from, Machine.values_in, Slots.Slot, Slots.targets_of}
-use Rattle.kp_sched.specs.{Rows.rows_seen, Runs.passes, Runs.due_value}
-use Rattle.kp_sched.proofs.Counting.{seen_length}
+use Rattle.kp_sched.{specs.Rows.rows_seen, specs.Runs.passes, specs.Runs.due_value, proofs.Counting.seen_length}
 use Rattle.kp_seq.specs.Running.{Running, HasWord, no_slot, state}
 use Rattle.kp_run.specs.{Boards.due_behind, inner.Boards.IsBoard, Columns.Taken, Columns.row_taken, Columns.AreColumns, Homes.AreHomes, Homes.home_of}
-use Rattle.kp_run.specs.inner.Lanes.{HaveRun, lane_state}
-use Rattle.kp_run.proofs.{Gathering.taken_is, Machines.homes_within, Machines.home_passes, Machines.home_shows, Machines.lane_at}
+use Rattle.kp_run.{specs.inner.Lanes.HaveRun, specs.inner.Lanes.lane_state, proofs.Gathering.taken_is}
+use Rattle.kp_run.proofs.Machines.{homes_within, home_passes, home_shows, lane_at}
 
 pub board_is : (job : Job) (rows : List Row) (columns : List Taken) (machines : List Running) (homes : List ℕ) → Accepted (machine_of job)
     → ((cycle : ℕ) → AreSamples job.decls (input job cycle)) → AreColumns job rows columns

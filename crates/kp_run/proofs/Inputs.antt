@@ -4,19 +4,15 @@ use Rattle.std.proofs.{Math.Path.fun_ext, Math.Nat.mod-eq_of_lt, Math.Nat.div-eq
 use Rattle.std.proofs.lemmas.{Nat.pow_pos, List.Elements.All-push}
 use Rattle.std.specs.Prelude.{◌==◌, nat_lt, ◌||◌, ◌&&◌, slice_index}
 use Rattle.kp_base.specs.First.{first}
-use Rattle.kp_bits.specs.{Word.Word, Operators.no_word}
-use Rattle.kp_bits.proofs.Powers.{pow_le}
+use Rattle.kp_bits.{specs.Word.Word, specs.Operators.no_word, proofs.Powers.pow_le}
 use Rattle.kp_ast.specs.declared.tree.{Job.Job, Stalls.Stalls}
-use Rattle.kp_width.proofs.Unbroken.{Unbroken, bind_unbroken, answer_unbroken}
-use Rattle.kp_width.specs.Widths.{widths_of}
+use Rattle.kp_width.{proofs.Unbroken.Unbroken, proofs.Unbroken.bind_unbroken, proofs.Unbroken.answer_unbroken, specs.Widths.widths_of}
 use Rattle.kp_stage.specs.Start.{stall_word, stalls_at, is_stalled, bits_below, stalls_of, input, AreSamples}
-use Rattle.kp_image.specs.Sections.{stall_of, stalls_checked, sections_of}
-use Rattle.kp_image.proofs.Given.{stalls_right, rows_fit}
+use Rattle.kp_image.{specs.Sections.stall_of, specs.Sections.stalls_checked, specs.Sections.sections_of, proofs.Given.stalls_right, proofs.Given.rows_fit}
 use Rattle.kp_pipeline.specs.Pipeline.{Inputs}
 use Rattle.kp_machine.specs.Machine.{inputs_at, inputs_from, values_in}
 use Rattle.kp_net.specs.Netlist.{Input}
-use Rattle.kp_sched.specs.Rows.{bit_of}
-use Rattle.kp_sched.proofs.Bits.{word_fits, bit_below}
+use Rattle.kp_sched.{specs.Rows.bit_of, proofs.Bits.word_fits, proofs.Bits.bit_below}
 use Rattle.kp_synth_spec.specs.Traces.{sample, input_seen, inputs_seen, AreQuiet}
 use Rattle.kp_run.specs.Cycles.{input_at, inputs_to}
 use Rattle.kp_run.proofs.Samples.{width_at, word_at, value_at, value_past}

@@ -4,18 +4,15 @@ use Rattle.kp_base.specs.{First.first, declared.row.Row.Row}
 use Rattle.kp_ast.specs.declared.tree.Job.{Job}
 use Rattle.kp_width.specs.Widths.{widths_of}
 use Rattle.kp_image.specs.Sections.{sections_of}
-use Rattle.kp_pipeline.specs.{Pipeline.Inputs, Pipeline.pipeline_start, Rows.Trace}
+use Rattle.kp_pipeline.{specs.Pipeline.Inputs, specs.Pipeline.pipeline_start, specs.Rows.Trace, proofs.Taken.rows-length}
 use Rattle.kp_pipeline.specs.Rows as law
-use Rattle.kp_pipeline.proofs.Taken.{rows-length}
 use Rattle.kp_stage.specs.Start.{start_of}
 use Rattle.kp_machine.specs.Machine.{machine_of, state_of, start_hints, inputs_from, pipe_of}
 use Rattle.kp_net.specs.Netlist.{Net}
-use Rattle.kp_sched.specs.{Monitors.Kept, Rows.rows_seen, Runs.due_value, Runs.IsLegal, Runs.ShowsAlike}
-use Rattle.kp_sched.proofs.Counting.{seen_length}
+use Rattle.kp_sched.{specs.Monitors.Kept, specs.Rows.rows_seen, specs.Runs.due_value, specs.Runs.IsLegal, specs.Runs.ShowsAlike, proofs.Counting.seen_length}
 use Rattle.kp_seq.specs.Running.{HasWord}
 use Rattle.kp_synth_spec.specs.{Shows.Shows, Traces.trace_of}
-use Rattle.kp_run.specs.{Boards.due_behind, Cycles.inputs_to, Cycles.HasRows}
-use Rattle.kp_run.proofs.Inputs.{seen_to, quiet_to}
+use Rattle.kp_run.{specs.Boards.due_behind, specs.Cycles.inputs_to, specs.Cycles.HasRows, proofs.Inputs.seen_to, proofs.Inputs.quiet_to}
 
 pub inputs_many : (job : Job) (cycle n : ℕ) → length (inputs_from job cycle n) ≡ n
 inputs_many job cycle zero = refl

@@ -5,18 +5,16 @@ use Rattle.std.specs.{Prelude.is_some, Prelude.nat_lt, Prelude.nat_le, Prelude.�
 use Rattle.kp_base.specs.{Refusal.e_rule, declared.row.Row.Row}
 use Rattle.kp_bits.specs.Word.{Word}
 use Rattle.kp_ast.specs.declared.tree.{Job.Job, ResultDecl.ResultDecl}
-use Rattle.kp_stage.specs.{Facts.facts_of, Start.start_of, Stages.broken_of}
-use Rattle.kp_stage.proofs.Unbroken.{first_none, answer_none}
+use Rattle.kp_stage.{specs.Facts.facts_of, specs.Start.start_of, specs.Stages.broken_of, proofs.Unbroken.first_none, proofs.Unbroken.answer_none}
 use Rattle.kp_machine.proofs.Rules.{head_kept}
-use Rattle.kp_pipeline.specs.{Accepted.Accepted, Sequential.exec, Sequential.seq, Rows.passed}
-use Rattle.kp_pipeline.specs.Rows as law
 use Rattle.kp_machine.specs.Machine.{machine_of, result_for, state_of, sequential, values_in, write_stage_of}
 use Rattle.kp_machine.specs.Slots.{targets_of, result_to}
-use Rattle.kp_sched.specs.{Monitors.Kept, Monitors.HasSeen, Rows.rows_seen, Runs.passes}
-use Rattle.kp_sched.proofs.Counting.{seen_length}
+use Rattle.kp_pipeline.specs.{Accepted.Accepted, Sequential.exec, Sequential.seq, Rows.passed}
+use Rattle.kp_pipeline.specs.Rows as law
+use Rattle.kp_sched.{specs.Monitors.Kept, specs.Monitors.HasSeen, specs.Rows.rows_seen, specs.Runs.passes, proofs.Counting.seen_length}
 use Rattle.kp_seq.specs.Running.{Running, state}
-use Rattle.kp_run.specs.{Homes.home_of, inner.Lanes.lane_state, inner.Lanes.passes_after, inner.Lanes.lane_passes, inner.Lanes.lane_count, inner.Lanes.HaveRun, inner.Lanes.HaveRunFrom}
-use Rattle.kp_run.specs.inner.Homes.{home_by}
+use Rattle.kp_run.specs.Homes.{home_of}
+use Rattle.kp_run.specs.inner.{Lanes.lane_state, Lanes.passes_after, Lanes.lane_passes, Lanes.lane_count, Lanes.HaveRun, Lanes.HaveRunFrom, Homes.home_by}
 
 abbrev State : Type 0
 State = ℕ → ℕ → ℕ

@@ -1,8 +1,7 @@
 -- The bits of a stall word.
 use Rattle.std.proofs.Common.{◌≡◌, ◌∙◌, ℕ, zero, suc, ◌+◌, ◌-◌, ◌*◌, ◌/◌, ◌%◌, ◌^◌, ◌<◌, ◌≤◌, Bool, true, false, refl, ap, subst, arith, pow-add}
 use Rattle.std.proofs.{Math.Nat.div-eq_of_lt, Math.Nat.add-mul-div_right, Math.Nat.add-mul-mod_self_right, lemmas.Bool.ltb-true, lemmas.Bool.ltb-false}
-use Rattle.std.proofs.lemmas.Nat.{pow_pos}
-use Rattle.std.specs.Prelude.{◌==◌, nat_lt, if◌then◌else◌}
+use Rattle.std.{proofs.lemmas.Nat.pow_pos, specs.Prelude.◌==◌, specs.Prelude.nat_lt, specs.Prelude.if◌then◌else◌}
 use Rattle.kp_ast.specs.declared.tree.Job.{Job}
 use Rattle.kp_stage.specs.Start.{stall_word, is_stalled, bits_below, stalls_of}
 use Rattle.kp_sched.specs.Rows.{bit_of}

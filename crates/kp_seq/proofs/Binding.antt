@@ -1,7 +1,7 @@
 -- Binding a name to a value, in the list of values by index.
 use Rattle.std.proofs.Common.{◌≡◌, ◌≢◌, ◌∙◌, ℕ, ◌<◌, List, [], Option, Some, None, true, false, cond, get_or, set, length, ap, sym}
-use Rattle.std.proofs.lemmas.List.{get_or-set_same, get_or-set_other, Quantifiers.position-Some}
-use Rattle.std.specs.{List.position, Cmp.Lexicographic.bytes_decides}
+use Rattle.std.{proofs.lemmas.List.get_or-set_same, proofs.lemmas.List.get_or-set_other, proofs.lemmas.List.Quantifiers.position-Some, specs.List.position}
+use Rattle.std.specs.Cmp.Lexicographic.{bytes_decides}
 use Rattle.kp_bits.specs.Word.{Word}
 use Rattle.kp_ast.specs.Expressions.{is_same_name}
 use Rattle.kp_machine.proofs.Cases.{by_test, by_option}

@@ -1,7 +1,7 @@
 -- The statements of a stage, in order.
 use Rattle.std.proofs.Common.{◌≡◌, ◌∙◌, ℕ, ◌+◌, List, [], ◌∷◌, Option, Some, None, Bool, true, false, cond, not, length, refl, ap, sym, subst}
-use Rattle.std.proofs.lemmas.List.Quantifiers.{position-Some}
-use Rattle.std.specs.{Option.option_map, Prelude.is_some, Prelude.slice_get, Prelude.unwrap_or, Prelude.◌<◌, List.position}
+use Rattle.std.{proofs.lemmas.List.Quantifiers.position-Some, specs.Option.option_map}
+use Rattle.std.specs.{Prelude.is_some, Prelude.slice_get, Prelude.unwrap_or, Prelude.◌<◌, List.position}
 use Rattle.kp_base.specs.{Check.ok, Check.◌>>=◌, Refusal.e_rule, First.first}
 use Rattle.kp_ast.specs.{Expressions.is_same_name, declared.tree.StmtKind.StmtKind, declared.tree.ResultDecl.ResultDecl, declared.tree.Job.Job}
 use Rattle.kp_ast.specs.declared.tree.Stmt.{Stmt}
@@ -10,18 +10,18 @@ use Rattle.kp_ast.specs.declared.tree.StmtKind.TheVariants as stmts
 use Rattle.kp_ast.specs.declared.widths.NameKind.TheVariants as kinds
 use Rattle.kp_width.specs.Names.{Sense, sense, Scoped, find, look_up, or_else, is_pipe, is_result, declared_local}
 use Rattle.kp_width.specs.{Expressions.width_of, Statements.when_of, Statements.given, Statements.read_of, Statements.statement_of, Statements.statements_of}
-use Rattle.kp_width.specs.Widths.{widths_of}
-use Rattle.kp_width.proofs.{Unbroken.Unbroken, Unbroken.bind_unbroken, Unbroken.answer_unbroken, Found.Found, Found.none_of_two}
+use Rattle.kp_width.{specs.Widths.widths_of, proofs.Unbroken.Unbroken, proofs.Unbroken.bind_unbroken, proofs.Unbroken.answer_unbroken}
+use Rattle.kp_width.proofs.Found.{Found, none_of_two}
 use Rattle.kp_stage.specs.{Facts.facts_of, Rules.ask_expr, Rules.ask_option, Rules.ask_values, Rules.ask_stmt, Rules.ask_stmts, Rules.all_rules}
 use Rattle.kp_stage.proofs.Unbroken.{first_none}
 use Rattle.kp_pipeline.specs.Sequential.{Instruction}
 use Rattle.kp_machine.specs.{Slots.targets_of, Slots.result_named, Trees.Progress}
+use Rattle.kp_machine.proofs.Scopes.{fresh_none, look_last, find_none}
 use Rattle.kp_machine.specs.Trees as trees
 use Rattle.kp_seq.specs.{Running.state_in, inner.Names.held, inner.Tables.Laid}
 use Rattle.kp_seq.specs.inner.{Steps.Under, Steps.holds, Steps.word_in, Steps.with_result, Steps.after_stmt, Steps.after_stmts, Fits.FitSlots, Ready.AreTables}
 use Rattle.kp_seq.proofs.{Lengths.stmt_same, Stage.Named, Trees.next, Trees.nexts, Turns.holds_same, Turns.let_turn}
 use Rattle.kp_seq.proofs.{Gives.Lists, Gives.put_turn, Gives.set_turn, Reading.read_turn, Plain.within}
-use Rattle.kp_machine.proofs.Scopes.{fresh_none, look_last, find_none}
 
 module _ (job : Job) (unbroken : Unbroken (widths_of job)) (t : Laid) (tables : AreTables job t) (rule : _) (is25 : slice_get all_rules 10 ≡ Some rule) (k : ℕ) (words : List (List ℕ)) (fit : FitSlots (targets_of job.decls) words) (c : Instruction) where
   -- what holds before a statement

@@ -13,19 +13,18 @@ use Rattle.kp_width.proofs.{Unbroken.Unbroken, Calls.is_of_text, Found.Found}
 use Rattle.kp_stage.specs.{Rules.all_rules, Start.AreSamples}
 use Rattle.kp_pipeline.specs.Sequential.{Instruction}
 use Rattle.kp_machine.specs.Slots.{Slot, targets_of, pipes_of, samples_of, number_of, width_of, words_from}
-use Rattle.kp_machine.specs.Machine.{values_in}
+use Rattle.kp_machine.{specs.Machine.values_in, proofs.Names.IsIn, proofs.LookUp.or_else, proofs.LookUp.or_none, proofs.LookUp.look_up-append}
+use Rattle.kp_machine.proofs.{Scopes.is_sample, Apart.has_name, Apart.Apart, Apart.pipes_apart, Apart.samples_apart, Apart.pipe_named, Apart.sample_named}
+use Rattle.kp_machine.proofs.{Cases.by_test, Text.is_bound, Text.text, Text.placed, Text.declared_right, Text.calls_open}
 use Rattle.kp_machine.specs.Trees as trees
-use Rattle.kp_machine.proofs.{Names.IsIn, LookUp.or_else, LookUp.or_none, LookUp.look_up-append, Scopes.is_sample}
-use Rattle.kp_machine.proofs.{Apart.has_name, Apart.Apart, Apart.pipes_apart, Apart.samples_apart, Apart.pipe_named, Apart.sample_named, Cases.by_test}
-use Rattle.kp_machine.proofs.Text.{is_bound, text, placed, declared_right, calls_open}
 use Rattle.kp_seq_plan.specs.{Names.at_place, Lowering.Holds, Lowering.AllSuit}
 use Rattle.kp_seq.specs.inner.{Names.held, Tables.Laid, Steps.Under, Steps.fitted, Steps.pipe_words, Steps.with_name, Steps.with_pipes, Steps.with_row}
 use Rattle.kp_seq.specs.inner.{Fits.FitSlots, Ready.AreTables}
 use Rattle.kp_seq.specs.inner.Resolved.{Outline, Raw, IsShown, with_place, with_row_at, with_carried, entered_at, place_in, places_of, with_width, with_widths, entry_widths}
-use Rattle.kp_seq.specs.inner.Steps as steps
 use Rattle.kp_seq.proofs.{Resolved.named, Resolved.none_suit, Lengths.row_same, Lengths.entered_same, Start.fitted_is, Changes.first_none, Binding.held_bound}
 use Rattle.kp_seq.proofs.{Blocks.Before, Blocks.HasPlace, Written.Ended, Written.all_default}
 use Rattle.kp_seq.proofs.Plain.{after_next, next_first, next_is, none_after, none_before, not_some, same_value, within}
+use Rattle.kp_seq.specs.inner.Steps as steps
 
 -- a row has the words of the entries from the one of number i on, which fit their widths
 abbrev IsRow : (ℕ → ℕ) → ℕ → List Slot → List Word → Type 0

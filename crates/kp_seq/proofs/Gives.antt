@@ -11,10 +11,10 @@ use Rattle.kp_width.proofs.Unbroken.{Unbroken, bind_unbroken}
 use Rattle.kp_stage.specs.{Facts.facts_of, Rules.ask_expr, Rules.all_rules}
 use Rattle.kp_pipeline.specs.Sequential.{Instruction, first_value}
 use Rattle.kp_machine.specs.Slots.{Slot, targets_of, pipes_of, number_of, width_of, result_named}
-use Rattle.kp_machine.specs.Trees.{Progress, with_value, with_put, with_set}
+use Rattle.kp_machine.{specs.Trees.Progress, specs.Trees.with_value, specs.Trees.with_put, specs.Trees.with_set, proofs.Results.named_stands}
+use Rattle.kp_machine.proofs.{Scopes.IsSlot, Scopes.number_slot, Scopes.found_sense, Scopes.results_fit, Scopes.storage_kind, Cases.by_test}
+use Rattle.kp_machine.proofs.Text.{text, placed, declared_right, local_no, found_where}
 use Rattle.kp_machine.specs.Trees as trees
-use Rattle.kp_machine.proofs.{Results.named_stands, Scopes.IsSlot, Scopes.number_slot, Scopes.found_sense, Scopes.results_fit, Scopes.storage_kind}
-use Rattle.kp_machine.proofs.{Cases.by_test, Text.text, Text.placed, Text.declared_right, Text.local_no, Text.found_where}
 use Rattle.kp_seq.specs.inner.{Tables.Laid, Steps.Under, Steps.word_in, Steps.with_pipe, Steps.with_first, Steps.with_result, Ready.AreTables}
 use Rattle.kp_seq.proofs.{Stage.Named, Changes.set_seen, Changes.put_same, Changes.set_same, Turns.given_fits, Plain.within}
 

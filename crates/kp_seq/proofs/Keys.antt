@@ -4,13 +4,13 @@ use Rattle.std.proofs.lemmas.{Bool.or_cases, Bool.or_left, Bool.or_right, Bool.l
 use Rattle.std.specs.{Prelude.is_some, Prelude.slice_get, List.list_any, List.flat_map, List.position, List.position_or_len}
 use Rattle.std.specs.Cmp.Lexicographic.{pointwise, bytes_decides}
 use Rattle.indexmap.specs.IndexSet.{insert_key}
-use Rattle.kp_ast.specs.{Expressions.is_same_name, declared.tree.Decl.Decl, declared.tree.Stmt.Stmt, declared.tree.StmtKind.StmtKind}
-use Rattle.kp_ast.specs.declared.{tree.Block.Block, tree.Job.Job, widths.Entry.Entry}
+use Rattle.kp_ast.specs.{Expressions.is_same_name, declared.tree.Decl.Decl, declared.tree.Stmt.Stmt, declared.tree.StmtKind.StmtKind, declared.tree.Block.Block}
+use Rattle.kp_ast.specs.declared.{tree.Job.Job, widths.Entry.Entry}
 use Rattle.kp_ast.specs.declared.tree.Decl.TheVariants as decls
 use Rattle.kp_ast.specs.declared.tree.StmtKind.TheVariants as stmts
 use Rattle.kp_ast.specs.declared.widths.NameKind.TheVariants as kinds
-use Rattle.kp_width.specs.Names.{Sense, sense, Scoped, look_up, find, or_else, declared_local}
-use Rattle.kp_width.specs.{Expressions.width_of, Statements.read_of, Statements.statement_of}
+use Rattle.kp_width.specs.{Names.Sense, Names.sense, Names.Scoped, Names.look_up, Names.find, Names.or_else, Names.declared_local, Expressions.width_of}
+use Rattle.kp_width.specs.Statements.{read_of, statement_of}
 use Rattle.kp_width.specs.{TextOrder.names_in_decl, TextOrder.names_in_stmt, TextOrder.names_in_block, TextOrder.declared_names, Widths.widths_of}
 use Rattle.kp_width.proofs.{Unbroken.Unbroken, Calls.pushed}
 use Rattle.kp_stage.specs.Rules.{all_rules}
@@ -18,8 +18,7 @@ use Rattle.kp_pipeline.specs.Sequential.{Instruction}
 use Rattle.kp_machine.specs.Slots.{Slot, slot, targets_of, pipes_of, samples_of}
 use Rattle.kp_machine.proofs.{Cases.by_test, Cases.by_option, Scopes.find_none}
 use Rattle.kp_seq_plan.specs.Names.{keys_of}
-use Rattle.kp_seq.specs.inner.{Tables.Laid, Fits.FitSlots, Ready.AreTables}
-use Rattle.kp_seq.proofs.Blocks.{HasPlace, Keyed}
+use Rattle.kp_seq.{specs.inner.Tables.Laid, specs.inner.Fits.FitSlots, specs.inner.Ready.AreTables, proofs.Blocks.HasPlace, proofs.Blocks.Keyed}
 
 -- a name is one of these, and it is that of one of these entries
 abbrev IsKey : List ℕ → List (List ℕ) → Type 0

@@ -1,7 +1,6 @@
 -- No step of an instruction changes how many names, pipes and results there are, or how many words a target has.
 use Rattle.std.proofs.Common.{◌≡◌, ◌∙◌, ℕ, List, [], ◌∷◌, Option, Some, None, length, replicate, refl}
-use Rattle.std.proofs.lemmas.{Bool.cond_both, List.length-set, List.length-replicate}
-use Rattle.std.specs.List.{position}
+use Rattle.std.{proofs.lemmas.Bool.cond_both, proofs.lemmas.List.length-set, proofs.lemmas.List.length-replicate, specs.List.position}
 use Rattle.kp_bits.specs.Word.{Word}
 use Rattle.kp_ast.specs.{Expressions.is_same_name, declared.tree.ResultDecl.ResultDecl, declared.tree.Stmt.Stmt, declared.tree.StmtKind.StmtKind}
 use Rattle.kp_ast.specs.declared.tree.Block.{Block}

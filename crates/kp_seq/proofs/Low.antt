@@ -8,10 +8,8 @@ use Rattle.kp_ast.specs.declared.tree.Decl.TheVariants as decls
 use Rattle.kp_ast.specs.declared.widths.NameKind.TheVariants as kinds
 use Rattle.kp_width.specs.Names.{Scoped, nothing, sense, find, declared_text}
 use Rattle.kp_width.specs.Declarations.{declared, addresses_of, after_name, declaration_of, declarations_of, functions_in}
-use Rattle.kp_width.specs.Widths.{widths_of}
-use Rattle.kp_width.proofs.Unbroken.{Unbroken, bind_unbroken, answer_unbroken}
-use Rattle.kp_machine.specs.Slots.{Slot, slot, targets_of}
-use Rattle.kp_machine.proofs.{Scopes.IsSlot, Scopes.slot_of, Text.declared_right}
+use Rattle.kp_width.{specs.Widths.widths_of, proofs.Unbroken.Unbroken, proofs.Unbroken.bind_unbroken, proofs.Unbroken.answer_unbroken}
+use Rattle.kp_machine.{specs.Slots.Slot, specs.Slots.slot, specs.Slots.targets_of, proofs.Scopes.IsSlot, proofs.Scopes.slot_of, proofs.Text.declared_right}
 
 abbrev pub Low : List Decl → Type 0
 Low [] = Unit {0}

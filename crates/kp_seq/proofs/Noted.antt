@@ -1,8 +1,8 @@
 -- Lists whose entries are changed in order, and the resulting lists.
 use Rattle.std.proofs.Common.{◌≡◌, ◌∙◌, ℕ, zero, suc, ◌+◌, ◌^◌, ◌<◌, ◌≤◌, List, [], ◌∷◌, ◌++◌, Option, Some, None, Bool, true, false, cond, length, get_or, set, refl, ap, sym, subst, arith}
-use Rattle.std.proofs.lemmas.{Bool.cond-true, Bool.cond_both, Bool.lt-ltb, List.length-set, List.length-append, List.get_or-set_same, List.get_or-set_other, List.append_assoc}
-use Rattle.std.proofs.Math.Seq.{set-append_seam}
-use Rattle.std.specs.Prelude.{slice_get, unwrap_or, nat_lt}
+use Rattle.std.proofs.lemmas.Bool.{cond-true, cond_both, lt-ltb}
+use Rattle.std.proofs.lemmas.List.{length-set, length-append, get_or-set_same, get_or-set_other, append_assoc}
+use Rattle.std.{proofs.Math.Seq.set-append_seam, specs.Prelude.slice_get, specs.Prelude.unwrap_or, specs.Prelude.nat_lt}
 use Rattle.kp_pipeline.specs.{Sequential.first_value, Timeline.first_stage}
 use Rattle.kp_seq.specs.{Recorded.where_true, inner.Notes.changed_from, inner.Notes.narrowed}
 

@@ -9,31 +9,28 @@ use Rattle.kp_ast.specs.declared.tree.{ResultDecl.ResultDecl, Decl.Decl, Block.B
 use Rattle.kp_ast.specs.declared.tree.Decl.TheVariants as decls
 use Rattle.kp_ast.specs.declared.tree.StmtKind.TheVariants as stmts
 use Rattle.kp_ast.specs.declared.widths.Scope.TheVariants as scopes
-use Rattle.kp_width.specs.{Names.Scoped, Names.nothing, Names.opened, Declarations.address_width}
-use Rattle.kp_width.specs.{Statements.statements_of, Widths.widths_of}
+use Rattle.kp_width.specs.{Names.Scoped, Names.nothing, Names.opened, Declarations.address_width, Statements.statements_of, Widths.widths_of}
 use Rattle.kp_width.proofs.Unbroken.{Unbroken}
 use Rattle.kp_stage.specs.{Counts.summary_of, Counts.reads_of, Counts.reads_in, Facts.facts_of, Facts.stmts_in, Rules.ask_stmts, Rules.all_rules}
-use Rattle.kp_stage.specs.{Stages.broken_of, Start.AreSamples}
-use Rattle.kp_stage.proofs.Unbroken.{answer_none}
+use Rattle.kp_stage.{specs.Stages.broken_of, specs.Start.AreSamples, proofs.Unbroken.answer_none}
 use Rattle.kp_pipeline.specs.{Sequential.Instruction, Sequential.first_value, Sequential.before_stage, Timeline.first_stage}
 use Rattle.kp_machine.specs.{Slots.Slot, Slots.targets_of, Slots.pipes_of, Slots.number_of, Trees.Progress}
-use Rattle.kp_machine.specs.Machine.{machine_of, values_in, is_enabled_by}
-use Rattle.kp_machine.specs.Trees as trees
-use Rattle.kp_machine.proofs.{Results.Stands, Rules.rules_kept, Rules.head_kept, Rules.decl_kept, Rules.stmts_kept, Scopes.results_fit, Stages.stages_inside}
+use Rattle.kp_machine.{specs.Machine.machine_of, specs.Machine.values_in, specs.Machine.is_enabled_by, proofs.Results.Stands}
+use Rattle.kp_machine.proofs.{Rules.rules_kept, Rules.head_kept, Rules.decl_kept, Rules.stmts_kept, Scopes.results_fit, Stages.stages_inside}
 use Rattle.kp_machine.proofs.Text.{declared_right, target_slot}
+use Rattle.kp_machine.specs.Trees as trees
 use Rattle.kp_seq.specs.inner.Notes.{Noted, record_by, outlet_by, outlets_of, begun_notes, changed_from, narrowed, marked, with_marks, write_noted, setting_noted, with_results, note_stmts, note_blocks}
 use Rattle.kp_seq.specs.declared.notes.Outlet.{Outlet}
 use Rattle.kp_seq.specs.Recorded.{where_true, read_recorded, reads_recorded, stage_reads, reads_from, results_of, write_recorded, setting_recorded, record_of, done_after}
 use Rattle.kp_seq.specs.{Running.state_in, inner.Tables.Laid}
 use Rattle.kp_seq.specs.inner.Steps.{Under, begun, entered, address_by, after_stmts, after_block, after_blocks}
-use Rattle.kp_seq.specs.inner.{Ready.AreTables, Ready.HasPlaces, Ready.IsNoted, Fits.FitSlots}
-use Rattle.kp_seq.specs.inner.Steps as steps
-use Rattle.kp_seq.proofs.{Entering.enters, Keys.pipe_placed, Keys.sample_placed, Keys.keyed}
-use Rattle.kp_seq.proofs.{Written.Ended, Written.enabled_same, Written.address_same, Written.address_fits}
+use Rattle.kp_seq.{specs.inner.Ready.AreTables, specs.inner.Ready.HasPlaces, specs.inner.Ready.IsNoted, specs.inner.Fits.FitSlots, proofs.Entering.enters}
+use Rattle.kp_seq.proofs.{Keys.pipe_placed, Keys.sample_placed, Keys.keyed, Written.Ended, Written.enabled_same, Written.address_same, Written.address_fits}
 use Rattle.kp_seq.proofs.Step.{Reached, block_end, by_blocks, all_ended}
 use Rattle.kp_seq.proofs.Noted.{put_reads, put_both, put_count, all_put, changed_at, changed_count, seen, seen_first, first_below, narrowed_is}
 use Rattle.kp_seq.proofs.{Low.target_low, Asked.after_reads, Asked.all_asked, Asked.low_fits}
 use Rattle.kp_seq.proofs.Plain.{after_next, next_first, next_is, none_after, none_before, within}
+use Rattle.kp_seq.specs.inner.Steps as steps
 
 -- lists, by their entries
 there : {X : Type 0} (xs : List X) (j : ℕ) → j < length xs → (x : X) × (slice_get xs j ≡ Some x)

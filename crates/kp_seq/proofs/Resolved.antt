@@ -1,6 +1,7 @@
 -- What an instruction does by the resolved job, in numbers, is what it does by the job.
 use Rattle.std.proofs.Common.{◌≡◌, ◌∙◌, ℕ, zero, suc, ◌+◌, ◌^◌, ◌<◌, ◌≤◌, List, [], ◌∷◌, ◌++◌, Option, Some, None, Bool, true, false, cond, length, set, take, get_or, replicate, refl, ap, sym, subst, arith}
-use Rattle.std.proofs.lemmas.{Bool.and_parts, Bool.cond_both, Bool.leb-true, Nat.pow_pos, List.take_more, List.Elements.All-nil, List.Elements.All-cons, List.Sums.sum_by-cons, List.Sums.sum_by_push}
+use Rattle.std.proofs.lemmas.{Bool.and_parts, Bool.cond_both, Bool.leb-true, Nat.pow_pos, List.take_more, List.Elements.All-nil, List.Elements.All-cons}
+use Rattle.std.proofs.lemmas.List.Sums.{sum_by-cons, sum_by_push}
 use Rattle.std.specs.Prelude.{All, sum_by, is_some, nat_le, nat_lt, ◌&&◌, unwrap_or, ◌==◌}
 use Rattle.std.specs.{Option.option_map, List.position}
 use Rattle.kp_bits.specs.Word.{Word, word, IsWord}
@@ -10,21 +11,20 @@ use Rattle.kp_ast.specs.declared.tree.Named as tree
 use Rattle.kp_ast.specs.declared.tree.StmtKind.TheVariants as stmts
 use Rattle.kp_stage.specs.Sizes.{size_of_stmt, size_of_block}
 use Rattle.kp_pipeline.specs.Sequential.{first_value}
-use Rattle.kp_machine.specs.Slots.{Slot, number_of, width_of, result_named}
-use Rattle.kp_machine.proofs.Cases.{by_test}
+use Rattle.kp_machine.{specs.Slots.Slot, specs.Slots.number_of, specs.Slots.width_of, specs.Slots.result_named, proofs.Cases.by_test}
 use Rattle.kp_seq_plan.specs.declared.{plan.Plan.Plan, code.Code.Code, code.Typed.Typed, resolve.Scope.Scope}
 use Rattle.kp_seq_plan.specs.{Names.at_place, Names.place_of, Plans.Slots, Plans.Means, Plans.meaning, Plans.space}
 use Rattle.kp_seq_plan.specs.{Codes.value_of, Codes.value_level, Codes.space_level, Lowering.Holds, Lowering.Suits, Lowering.AllSuit, Lowering.Gives}
-use Rattle.kp_seq_plan.specs.declared.code.Code.TheVariants as leaf
 use Rattle.kp_seq_plan.proofs.CodeLevels.{code-Word}
+use Rattle.kp_seq_plan.specs.declared.code.Code.TheVariants as leaf
 use Rattle.kp_seq.specs.inner.Resolved.{Raw, AllDo, DoesAll, DoesStage, Does, DoesRead, IsShown, IsCode, IsOptionCode, IsReading, unnamed, address_at, value_at, note_step, note_steps, put_place, with_place, with_target, with_width, after_step, after_steps, steps_space, step_space}
 use Rattle.kp_seq.specs.{declared.program.Reading.Reading, declared.program.Step.Step, declared.program.Made.Made, Running.state_in, inner.Names.set_place}
 use Rattle.kp_seq.specs.inner.{Fits.FitSlots, Tables.Laid}
 use Rattle.kp_seq.specs.inner.Steps.{Under, zero_bit, fitted, word_in, holds, address_in, address_read, value_read, with_name, with_result, after_stmt, after_stmts}
 use Rattle.kp_seq.specs.Recorded.{where_true}
 use Rattle.kp_seq.specs.inner.Notes.{Noted, narrow_address, with_read, asked_in, note_stmt, note_stmts}
-use Rattle.kp_seq.specs.declared.program.Step.TheVariants as moves
 use Rattle.kp_seq.proofs.Start.{fitted_is}
+use Rattle.kp_seq.specs.declared.program.Step.TheVariants as moves
 
 -- an index that gets a value of a width
 suits_set : (ws : List (Option ℕ)) (slots : Slots) (vs : List ℕ) (i : ℕ) (w : Option ℕ) (s : Option Word) (v : ℕ) → AllSuit ws slots vs → Suits w s v → AllSuit (set ws i w) (set slots i s) (set vs i v)

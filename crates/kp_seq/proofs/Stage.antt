@@ -7,12 +7,11 @@ use Rattle.kp_ast.specs.{Checked.checked, Checked.checked_calls_of, declared.tre
 use Rattle.kp_ast.specs.Expressions as values
 use Rattle.kp_ast.specs.declared.widths.Scope.TheVariants as scopes
 use Rattle.kp_width.specs.Names.{Sense, Names, Scoped, look_up, find, is_value_in, is_callee, is_hint}
-use Rattle.kp_width.specs.{Expressions.width_of, Widths.widths_of}
-use Rattle.kp_width.proofs.{Unbroken.Unbroken, Found.Found, Found.Meets, Found.found}
+use Rattle.kp_width.{specs.Expressions.width_of, specs.Widths.widths_of, proofs.Unbroken.Unbroken, proofs.Found.Found, proofs.Found.Meets, proofs.Found.found}
 use Rattle.kp_stage.specs.{Facts.Facts, Facts.facts_of, Rules.ask_name, Rules.ask_expr, Rules.all_rules}
 use Rattle.kp_machine.specs.Trees.{Progress}
-use Rattle.kp_seq.specs.inner.{Names.held, Tables.Laid, Steps.Under, Steps.known_in, Steps.word_in, Steps.zero_bit, Ready.AreTables}
 use Rattle.kp_machine.proofs.Text.{same_question, is_local, is_bound, value_kind, local_no, found_where, no_hint, text, placed, calls_open}
+use Rattle.kp_seq.specs.inner.{Names.held, Tables.Laid, Steps.Under, Steps.known_in, Steps.word_in, Steps.zero_bit, Ready.AreTables}
 
 module _ (job : Job) (unbroken : Unbroken (widths_of job)) (t : Laid) (tables : AreTables job t) (rule : _) (is25 : slice_get all_rules 10 ≡ Some rule) where
   abbrev pub ds : List Decl

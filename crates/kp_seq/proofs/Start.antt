@@ -1,12 +1,11 @@
 -- The words of a start state are those of its state, and they fit their targets.
 use Rattle.std.proofs.Common.{◌≡◌, ◌∙◌, ℕ, zero, suc, ◌-◌, ◌^◌, ◌<◌, ◌≤◌, List, [], ◌∷◌, Option, Some, None, true, false, cond, ◌&&◌, length, get_or, take, refl, ap, sym, subst, arith, ⊎_elim}
-use Rattle.std.proofs.lemmas.{Bool.cases_lt, Bool.and_from, Bool.ne_eqb, Bool.cond-true, Bool.cond_both, Bool.le-leb, Bool.lt-ltb, List.get_or_past, Nat.pow_pos}
-use Rattle.std.specs.{Prelude.slice_index, Prelude.slice_get, Prelude.nat_le, Prelude.nat_lt, List.filter}
+use Rattle.std.proofs.lemmas.{Bool.cases_lt, Bool.and_from, Bool.ne_eqb, Bool.cond-true, Bool.cond_both, Bool.le-leb, Bool.lt-ltb, List.get_or_past}
+use Rattle.std.{proofs.lemmas.Nat.pow_pos, specs.Prelude.slice_index, specs.Prelude.slice_get, specs.Prelude.nat_le, specs.Prelude.nat_lt, specs.List.filter}
 use Rattle.kp_bits.specs.Word.{Word, word}
 use Rattle.kp_ast.specs.declared.tree.{Decl.Decl, Job.Job}
 use Rattle.kp_ast.specs.declared.tree.Decl.TheVariants as decls
-use Rattle.kp_width.specs.Widths.{widths_of}
-use Rattle.kp_width.proofs.Unbroken.{Unbroken}
+use Rattle.kp_width.{specs.Widths.widths_of, proofs.Unbroken.Unbroken}
 use Rattle.kp_stage.specs.{Start.AreRegs, Start.AreFiles, Start.IsStartOf, declared.start.Start.Start}
 use Rattle.kp_machine.specs.Slots.{Slot, slot, targets_of, is_register}
 use Rattle.kp_machine.specs.Machine.{registers_before, files_before, register_words, file_words, target_words, state_of}

@@ -1,24 +1,22 @@
 -- One instruction, stage by stage: what the steps leave is what the abstract machine has.
 use Rattle.std.proofs.Common.{◌≡◌, ◌∙◌, ℕ, suc, ◌+◌, List, [], ◌∷◌, Some, None, Option, length, replicate, refl, ap, sym, subst}
-use Rattle.std.proofs.lemmas.List.{length-replicate}
-use Rattle.std.specs.Prelude.{slice_get}
+use Rattle.std.{proofs.lemmas.List.length-replicate, specs.Prelude.slice_get}
 use Rattle.kp_base.specs.{First.first, Check.ok, Check.◌>>=◌}
 use Rattle.kp_bits.specs.Word.{Word}
 use Rattle.kp_ast.specs.declared.tree.{Block.Block, Job.Job}
 use Rattle.kp_ast.specs.declared.widths.Scope.TheVariants as scopes
 use Rattle.kp_width.specs.{Names.Scoped, Names.nothing, Names.opened, Declarations.declarations_of, Statements.statements_of, Statements.blocks_of}
-use Rattle.kp_width.specs.Widths.{widths_of}
-use Rattle.kp_width.proofs.Unbroken.{Unbroken, bind_unbroken}
+use Rattle.kp_width.{specs.Widths.widths_of, proofs.Unbroken.Unbroken, proofs.Unbroken.bind_unbroken}
 use Rattle.kp_stage.specs.{Facts.facts_of, Facts.stmts_in, Rules.ask_stmts, Rules.all_rules, Stages.broken_of, Start.AreSamples}
 use Rattle.kp_pipeline.specs.Sequential.{Instruction, after_stage, before_stage, run}
 use Rattle.kp_machine.specs.{Slots.targets_of, Trees.Progress, Trees.tree_of, Machine.machine_of, Machine.stage_tree, Machine.values_in}
-use Rattle.kp_machine.specs.Trees as trees
 use Rattle.kp_machine.proofs.{Rules.rules_kept, Rules.stmts_kept, Stages.stages_inside, Text.text}
+use Rattle.kp_machine.specs.Trees as trees
 use Rattle.kp_seq.specs.inner.Resolved.{Outline, Raw, Resolves, AllDo, DoesStage, after_steps, entered_at, entry_widths, after_stages, begun_at, outputs, ran, note_steps, note_stages, noted}
 use Rattle.kp_seq.specs.{Running.state_in, Running.after_one, inner.Tables.Laid}
 use Rattle.kp_seq.specs.inner.Steps.{Under, begun, entered, after_block, after_blocks, executed, written_by, written_from}
 use Rattle.kp_seq.specs.{inner.Fits.FitSlots, inner.Ready.AreTables, inner.Ready.HasPlaces, inner.Ready.HasRoom, declared.program.Step.Step}
-use Rattle.kp_seq.specs.{declared.tables.Port.Port}
+use Rattle.kp_seq.specs.declared.tables.Port.{Port}
 use Rattle.kp_seq.specs.inner.Notes.{Noted, begun_notes, with_marks, with_results, note_stmts, note_blocks}
 use Rattle.kp_seq.proofs.{Resolved.suits_length, Lengths.SameLengths, Lengths.begun_same, Lengths.block_same}
 use Rattle.kp_seq.proofs.{Trees.seen, Trees.no_hints, Trees.nexts, Trees.stage_runs, Blocks.all_turn, Entering.enters, Entering.shown}

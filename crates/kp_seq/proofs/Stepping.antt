@@ -5,7 +5,8 @@ use Rattle.kp_bits.specs.Word.{Word}
 use Rattle.kp_ast.specs.declared.tree.Job.{Job}
 use Rattle.kp_stage.specs.{Sizes.size_of_block, Sizes.size_of_job, Start.AreSamples}
 use Rattle.kp_machine.specs.{Machine.values_in, Slots.targets_of}
-use Rattle.kp_seq.specs.{declared.machine.Resolved.Resolved, Running.state_in, Running.after_one, Recorded.record_of, inner.Fits.FitSlots, inner.Notes.Noted, inner.Notes.record_by, inner.Notes.with_results, inner.Notes.begun_notes, inner.Notes.note_blocks}
+use Rattle.kp_seq.specs.{declared.machine.Resolved.Resolved, Running.state_in, Running.after_one, Recorded.record_of, inner.Fits.FitSlots}
+use Rattle.kp_seq.specs.inner.Notes.{Noted, record_by, with_results, begun_notes, note_blocks}
 use Rattle.kp_seq.specs.inner.Ready.{HasPlaces, HasRoom, IsNoted, IsReady}
 use Rattle.kp_seq.specs.inner.Resolved.{Outline, Raw, entry_widths, steps_space, ran, after_stages, begun_at, noted}
 use Rattle.kp_seq.specs.inner.{Steps.Under, Steps.begun, Steps.after_blocks, Steps.executed, Tables.Laid}

@@ -1,7 +1,6 @@
 -- Words of targets are written, and their ports are laid out.
 use Rattle.std.proofs.Common.{◌≡◌, ◌∙◌, ℕ, suc, ◌+◌, ◌-◌, ◌<◌, ◌≤◌, List, [], ◌∷◌, ◌++◌, map, Option, length, get_or, set, ap, sym, append_assoc, arith}
-use Rattle.std.proofs.lemmas.List.{set_past, set-get_or, map-set}
-use Rattle.std.specs.{Prelude.Vec, declared.alloc.Global.Global}
+use Rattle.std.{proofs.lemmas.List.set_past, proofs.lemmas.List.set-get_or, proofs.lemmas.List.map-set, specs.Prelude.Vec, specs.declared.alloc.Global.Global}
 use Rattle.kp_ast.specs.declared.tree.Decl.{Decl}
 use Rattle.kp_machine.specs.Slots.{Slot, result_to}
 use Rattle.kp_seq.specs.{declared.tables.Port.Port, inner.Tables.port_of, inner.Tables.ports_from, inner.Steps.with_word}

@@ -10,16 +10,16 @@ use Rattle.kp_ast.specs.declared.tree.StmtKind.TheVariants as stmts
 use Rattle.kp_ast.specs.declared.widths.NameKind.TheVariants as kinds
 use Rattle.kp_width.specs.Names.{Sense, sense, Names, Scoped, look_up, find, or_else, passed, declared_local}
 use Rattle.kp_width.specs.{Expressions.width_of, Expressions.part_of, Expressions.value_of, Declarations.kept, Statements.when_of, Widths.widths_of}
-use Rattle.kp_width.specs.Soundness.{HasWidth}
+use Rattle.kp_width.{specs.Soundness.HasWidth, proofs.Unbroken.Unbroken, proofs.Unbroken.bind_unbroken, proofs.Unbroken.answer_unbroken}
+use Rattle.kp_width.proofs.{Parts.given_parts, Calls.pushed}
 use Rattle.kp_width.specs.Statements as statements
-use Rattle.kp_width.proofs.{Unbroken.Unbroken, Unbroken.bind_unbroken, Unbroken.answer_unbroken, Parts.given_parts, Calls.pushed}
 use Rattle.kp_stage.specs.{Facts.facts_of, Rules.ask_expr, Rules.ask_option, Rules.all_rules}
-use Rattle.kp_machine.specs.Trees.{Progress, with_name}
+use Rattle.kp_machine.{specs.Trees.Progress, specs.Trees.with_name, proofs.Scopes.look_last, proofs.Scopes.fresh_none, proofs.Scopes.find_none}
+use Rattle.kp_machine.proofs.{Cases.by_test, LookUp.look_up_end, Text.is_local}
 use Rattle.kp_machine.specs.Trees as trees
 use Rattle.kp_seq.specs.inner.{Tables.Laid, Steps.Under, Steps.word_in, Steps.holds, Steps.address_in, Ready.AreTables}
-use Rattle.kp_seq.specs.inner.Steps as steps
 use Rattle.kp_seq.proofs.{Stage.Named, Stage.value_found, Stage.word_is, Binding.held_bound}
-use Rattle.kp_machine.proofs.{Scopes.look_last, Scopes.fresh_none, Scopes.find_none, Cases.by_test, LookUp.look_up_end, Text.is_local}
+use Rattle.kp_seq.specs.inner.Steps as steps
 
 look_past : (names : Names) (n q : List ℕ) (m : Sense) → is_same_name q n ≡ false → look_up (names ++ (n, m) ∷ []) q ≡ look_up names q
 look_past [] n q m y = ap (λ b. cond b (Some m) None) y

@@ -5,18 +5,17 @@ use Rattle.std.proofs.Math.Dec.{eqb-suc-zero, eqb-zero-suc, eqb-suc-suc}
 use Rattle.std.specs.Prelude.{is_some, slice_get, slice_index, unwrap_or, ◌==◌}
 use Rattle.kp_bits.specs.Word.{Word}
 use Rattle.kp_ast.specs.declared.tree.{Named.Named, ResultDecl.ResultDecl, Decl.Decl, Job.Job}
-use Rattle.kp_width.specs.{Declarations.address_width, Widths.widths_of}
-use Rattle.kp_width.proofs.Unbroken.{Unbroken}
+use Rattle.kp_width.{specs.Declarations.address_width, specs.Widths.widths_of, proofs.Unbroken.Unbroken}
 use Rattle.kp_pipeline.specs.Sequential.{Instruction, StageOutcome, first_value, fresh_instruction, after_stage, before_stage, is_written}
 use Rattle.kp_machine.specs.{Slots.Slot, Slots.targets_of, Slots.pipes_of, Slots.number_of, Slots.result_to, Trees.Progress}
 use Rattle.kp_machine.specs.Machine.{machine_of, values_in, result_for, is_enabled_by, enabled_of, address_in}
+use Rattle.kp_machine.proofs.{Scopes.PipeFits, Scopes.slot_of, Cases.by_option, Text.text, Text.placed, Text.fits_text, Text.target_slot}
 use Rattle.kp_machine.specs.Machine as machines
 use Rattle.kp_seq.specs.{declared.tables.Port.Port, inner.Tables.Laid, inner.Tables.pipe_number, inner.Tables.port_of, inner.Tables.ports_from}
 use Rattle.kp_seq.specs.Running.{state_in, after_one}
 use Rattle.kp_seq.specs.inner.Steps.{Under, begun, is_enabled, address_by, with_word, written_by, written_from}
-use Rattle.kp_seq.specs.inner.{Fits.FitsSlot, Fits.FitSlots, Ready.AreTables}
-use Rattle.kp_machine.proofs.{Scopes.PipeFits, Scopes.slot_of, Cases.by_option, Text.text, Text.placed, Text.fits_text, Text.target_slot}
-use Rattle.kp_seq.proofs.{Changes.set_seen, Gives.Lists, Plain.after_next, Plain.next_first, Plain.none_after, Plain.none_before}
+use Rattle.kp_seq.{specs.inner.Fits.FitsSlot, specs.inner.Fits.FitSlots, specs.inner.Ready.AreTables, proofs.Changes.set_seen, proofs.Gives.Lists}
+use Rattle.kp_seq.proofs.Plain.{after_next, next_first, none_after, none_before}
 
 -- the words of one target after its port has written
 abbrev pub row_by : Under → List ℕ → ℕ → Option Port → List ℕ

@@ -1,16 +1,15 @@
 -- A plan of each form, by the codes of its parts.
 use Rattle.std.proofs.Common.{◌≡◌, ◌∙◌, ℕ, zero, suc, ◌+◌, ◌<◌, ◌≤◌, List, [], ◌∷◌, Option, Some, None, length, get_or, map, refl, ap, sym, subst, arith}
-use Rattle.std.proofs.lemmas.List.{get_or-map, length-map}
-use Rattle.std.specs.{Prelude.sum_by, Option.option_map, Option.option_and_then}
+use Rattle.std.{proofs.lemmas.List.get_or-map, proofs.lemmas.List.length-map, specs.Prelude.sum_by, specs.Option.option_map, specs.Option.option_and_then}
 use Rattle.kp_bits.specs.{Word.Word, Word.not_of, Checked.checked_slice, Checked.checked_zext, Checked.checked_sext, declared.operator.BinOp.BinOp}
 use Rattle.kp_ast.specs.Checked.{all_there}
 use Rattle.kp_seq_plan.specs.{declared.plan.Plan.Plan, declared.code.Typed.Typed, Names.at_place}
 use Rattle.kp_seq_plan.specs.{Plans.Slots, Plans.meaning, Plans.meaning_level, Plans.space, Plans.space_level, Lowering.Gives}
 use Rattle.kp_seq_plan.specs.inner.Parts.{GivesOne, GivesTwo, GivesMux, GivesAll, GivesWord, binary_found, mux_found, joined_found, call_found, call_space}
-use Rattle.kp_seq_plan.specs.declared.plan.Plan.TheVariants as ends
-use Rattle.kp_seq_plan.specs.declared.plan.Plan.TheViews as plans
 use Rattle.kp_seq_plan.proofs.Levels.{fold-Word, fold-Name, fold-Not, fold-Binary, fold-Mux, fold-Slice, fold-Zext, fold-Sext}
 use Rattle.kp_seq_plan.proofs.{Meaning.V, Meaning.at, Meaning.meaning_parts, Meaning.meaning_call, Meaning.space_parts, Meaning.space_call, Typing.gives_same}
+use Rattle.kp_seq_plan.specs.declared.plan.Plan.TheVariants as ends
+use Rattle.kp_seq_plan.specs.declared.plan.Plan.TheViews as plans
 
 module _ (ws : List (Option ℕ)) (plan : Plan) (c : Option Typed) where
   same : (f : Slots → Option Word) (n : ℕ) (p : Plan) → plan ≡ p → ((s : Slots) → meaning p s ≡ f s) → n ≤ space p → Gives ws f n c → Gives ws (meaning plan) (space plan) c
@@ -18,9 +17,6 @@ module _ (ws : List (Option ℕ)) (plan : Plan) (c : Option Typed) where
 
   pub arm_word : (w : Option Word) → plan ≡ ends.Word w → GivesWord w c → Gives ws (meaning plan) (space plan) c
   arm_word w is h = same (λ s. w) 0 (ends.Word w) is (λ s. at (fold-Word V meaning_level w) s) (omega arith) (h ws)
-
-  pub arm_name : (o : Option ℕ) → plan ≡ ends.Name o → Gives ws (λ s. at_place s o) 0 c → Gives ws (meaning plan) (space plan) c
-  arm_name o is h = same (λ s. at_place s o) 0 (ends.Name o) is (λ s. at (fold-Name V meaning_level o) s) (omega arith) h
 
   module _ (p x : Plan) (a : Option Typed) (seen : x ≡ p) (m : Gives ws (meaning x) (space x) a) where
     here : Gives ws (meaning p) (space p) a
@@ -78,6 +74,3 @@ fills_none f es i e l is h =
 
 pub args_none : (ws : List (Option ℕ)) (ps : List Plan) (i : ℕ) (p : Plan) → i < length ps → p ≡ get_or ps i p → Gives ws (meaning p) (space p) None → GivesAll ws ps None
 args_none ws ps i p l is h = λ s vs suit. fills_none (λ q. meaning q s) ps i p l is (h s vs suit)
-
-pub called_nothing : (ws : List (Option ℕ)) (ps : List Plan) (f : Slots → Option Word) (n : ℕ) → GivesAll ws ps None → Gives ws (call_found ps f) n None
-called_nothing ws ps f n h = λ s vs suit. ap (option_and_then (λ us. f (map Some us))) (h s vs suit)

@@ -12,9 +12,9 @@ use Rattle.kp_ast.specs.Size.{size, size_with, bodies_of, bodies_after, body_siz
 use Rattle.kp_ast.specs.declared.tree.Decl.TheVariants as decls
 use Rattle.kp_seq_plan.specs.{declared.plan.Plan.Plan, declared.resolve.Scope.Scope, Names.at_place, Names.place_of}
 use Rattle.kp_seq_plan.specs.Plans.{Slots, meaning, meaning_level, space, space_level, known_by, Means, AllMean, MeansCall, MeansBody}
+use Rattle.kp_seq_plan.proofs.{Levels.fold-Word, Meaning.V, Meaning.at, Meaning.meaning_call, Meaning.space_call}
 use Rattle.kp_seq_plan.specs.declared.plan.Plan.TheVariants as ends
 use Rattle.kp_seq_plan.specs.declared.plan.Plan.TheViews as plans
-use Rattle.kp_seq_plan.proofs.{Levels.fold-Word, Meaning.V, Meaning.at, Meaning.meaning_call, Meaning.space_call}
 
 -- no value of the arguments helps if there is no function
 abbrev nothing : List Word → Option Word

@@ -1,10 +1,9 @@
 -- The code of a call: its value, and the scratch space that it needs.
 use Rattle.std.proofs.Common.{◌≡◌, ◌∙◌, ℕ, ◌+◌, List, [], ◌∷◌, length, map, refl, ap}
-use Rattle.std.proofs.lemmas.List.{length-map, Sums.sum-map}
-use Rattle.std.specs.Prelude.{sum, sum_by}
+use Rattle.std.{proofs.lemmas.List.length-map, proofs.lemmas.List.Sums.sum-map, specs.Prelude.sum, specs.Prelude.sum_by}
 use Rattle.kp_seq_plan.specs.{declared.code.Code.Code, Codes.value_of, Codes.value_level, Codes.space_of, Codes.space_level}
-use Rattle.kp_seq_plan.specs.declared.code.Code.TheViews as codes
 use Rattle.kp_seq_plan.proofs.CodeLevels.{code-Call}
+use Rattle.kp_seq_plan.specs.declared.code.Code.TheViews as codes
 
 abbrev pub N : Type 0
 N = List ℕ → ℕ

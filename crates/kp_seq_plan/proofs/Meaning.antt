@@ -1,20 +1,20 @@
 -- A plan of each form means an expression of that form, if its parts do.
 use Rattle.std.proofs.Common.{◌≡◌, ◌∙◌, ℕ, ◌+◌, List, [], ◌∷◌, Option, Some, length, map, refl, ap, sym, arith}
-use Rattle.std.proofs.lemmas.List.{length-map, Sums.sum-map}
-use Rattle.std.specs.{Prelude.sum, Prelude.sum_by, Option.option_map, Option.option_and_then}
+use Rattle.std.{proofs.lemmas.List.length-map, proofs.lemmas.List.Sums.sum-map, specs.Prelude.sum, specs.Prelude.sum_by}
+use Rattle.std.specs.Option.{option_map, option_and_then}
 use Rattle.kp_bits.specs.Word.{Word, not_of}
 use Rattle.kp_bits.specs.Checked.{checked_literal, checked_binary, checked_mux, checked_joined, checked_slice, checked_zext, checked_sext}
 use Rattle.kp_bits.specs.declared.{literal.Literal.Literal, operator.BinOp.BinOp}
+use Rattle.kp_ast.proofs.Parts.{value_Lit, value_Name, value_Not, value_Binary, value_Mux, value_Concat, value_Slice, value_Zext, value_Sext, value_Call, size_Lit, size_Name, size_Not, size_Binary, size_Mux, size_Concat, size_Slice, size_Zext, size_Sext, size_Call}
 use Rattle.kp_ast.specs.declared.tree.{Num.Num, Expr.Expr, Decl.Decl}
 use Rattle.kp_ast.specs.{Checked.Known, Checked.checked, Checked.checked_calls_of, Checked.all_there, Size.Bodies, Size.bodies_of}
 use Rattle.kp_ast.specs.declared.tree.ExprKind.TheVariants as leaf
 use Rattle.kp_ast.specs.declared.tree.ExprKind.TheViews as kind
 use Rattle.kp_seq_plan.specs.{declared.plan.Plan.Plan, declared.resolve.Scope.Scope, Names.at_place, Names.place_of}
 use Rattle.kp_seq_plan.specs.Plans.{Slots, meaning, meaning_level, space, space_level, known_by, Means, AllMean, MeansCall}
+use Rattle.kp_seq_plan.proofs.Levels.{fold-Word, fold-Name, fold-Not, fold-Binary, fold-Mux, fold-Concat, fold-Slice, fold-Zext, fold-Sext, fold-Call}
 use Rattle.kp_seq_plan.specs.declared.plan.Plan.TheVariants as ends
 use Rattle.kp_seq_plan.specs.declared.plan.Plan.TheViews as plans
-use Rattle.kp_seq_plan.proofs.Levels.{fold-Word, fold-Name, fold-Not, fold-Binary, fold-Mux, fold-Concat, fold-Slice, fold-Zext, fold-Sext, fold-Call}
-use Rattle.kp_ast.proofs.Parts.{value_Lit, value_Name, value_Not, value_Binary, value_Mux, value_Concat, value_Slice, value_Zext, value_Sext, value_Call, size_Lit, size_Name, size_Not, size_Binary, size_Mux, size_Concat, size_Slice, size_Zext, size_Sext, size_Call}
 
 abbrev pub V : Type 0
 V = Slots → Option Word

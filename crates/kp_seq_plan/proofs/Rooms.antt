@@ -18,7 +18,3 @@ filled_more {X} f es vs i e v l n is h so =
     ∙ ap (λ xs. xs ++ v ∷ []) so
     ∙ ap (λ x. map f (take i es) ++ x ∷ []) (h ∙ ap f is)
     ∙ sym (map_more f es i e l)
-
--- and all of them
-pub filled_all : {X : Type 0} (f : X → ℕ) (es : List X) (vs : List ℕ) (i : ℕ) → length es ≤ i → length es ≡ length vs → take i vs ≡ map f (take i es) → vs ≡ map f es
-filled_all f es vs i h n so = sym (take_all i vs (omega arith)) ∙ so ∙ ap (map f) (take_all i es h)

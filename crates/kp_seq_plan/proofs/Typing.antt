@@ -7,14 +7,14 @@ use Rattle.kp_bits.specs.Checked.{checked_join, checked_joined, checked_slice, c
 use Rattle.kp_bits.specs.declared.operator.BinOp.{BinOp}
 use Rattle.kp_ast.specs.Checked.{all_there}
 use Rattle.kp_seq_plan.specs.inner.Parts.{AreTyped, GivesOne, GivesTwo, GivesMux, GivesJoined, GivesCall, GivesWord, IsMask, binary_found, binary_width, mux_found, join_found, values_in, joined_found, joined_below, call_found}
+use Rattle.kp_seq_plan.proofs.Numbers.{binary_held, binary_fails, mux_held, mux_narrow, mux_other, join_held, join_fails, slice_held, slice_fails, zext_held, zext_fails, sext_held, sext_fails, not_held, top_is, more_is}
 use Rattle.kp_seq_plan.specs.{declared.plan.Plan.Plan, declared.code.Code.Code, declared.code.Typed.Typed, Names.at_place}
 use Rattle.kp_seq_plan.specs.{Plans.Slots, Plans.meaning, Plans.space, Codes.value_of, Codes.value_level, Codes.space_of, Codes.space_level}
 use Rattle.kp_seq_plan.specs.Lowering.{Holds, Suits, AllSuit, IsTyped, Gives}
-use Rattle.kp_seq_plan.specs.declared.code.Code.TheVariants as leaf
-use Rattle.kp_seq_plan.specs.declared.code.Code.TheViews as codes
-use Rattle.kp_seq_plan.proofs.Numbers.{binary_held, binary_fails, mux_held, mux_narrow, mux_other, join_held, join_fails, slice_held, slice_fails, zext_held, zext_fails, sext_held, sext_fails, not_held, top_is, more_is}
 use Rattle.kp_seq_plan.proofs.CodeCalls.{N, at, space_called, value_called}
 use Rattle.kp_seq_plan.proofs.CodeLevels.{code-Word, code-Name, code-Not, code-Binary, code-Mux, code-Join, code-Slice, code-Sext}
+use Rattle.kp_seq_plan.specs.declared.code.Code.TheVariants as leaf
+use Rattle.kp_seq_plan.specs.declared.code.Code.TheViews as codes
 
 abbrev pub typed : Code → ℕ → Typed
 typed c w = record { code = c; width = w }
@@ -312,10 +312,6 @@ none_more : (o : Option Word) → option_and_then (λ (a : Word). Some a) o ≡ 
 none_more None = refl
 none_more (Some a) = refl
 
-pub joined_all : (ws : List (Option ℕ)) (rest : List Plan) (all : Option Typed) → rest ≡ [] → GivesJoined ws rest all all
-joined_all ws rest all e = subst (λ ps. GivesJoined ws ps all all) (sym e)
-    (λ f n h. gives_same ws f (joined_below f []) n (n + 0) all (λ s. none_more (f s)) (omega arith) h)
-
 pub joined_more : (ws : List (Option ℕ)) (ps : List Plan) (p : Plan) (rest : List Plan) (all part next c : Option Typed) → ps ≡ p ∷ rest → Gives ws (meaning p) (space p) part
     → GivesTwo join_found all part next → GivesJoined ws rest next c → GivesJoined ws ps all c
 joined_more ws ps p rest all part next c e h two more = subst (λ xs. GivesJoined ws xs all c) (sym e)
@@ -329,9 +325,6 @@ pub joined_next : (ws : List (Option ℕ)) (rest : List Plan) (i : ℕ) (p : Pla
     → GivesTwo join_found all part next → GivesJoined ws (drop (i + 1) rest) next c → GivesJoined ws (drop i rest) all c
 joined_next ws rest i p all part next c l is h two more = joined_more ws (drop i rest) p (drop (i + 1) rest) all part next c (drop_more rest i p l ∙ ap (λ x. x ∷ drop (i + 1) rest) (sym is)) h two more
 
-pub joined_done : (ws : List (Option ℕ)) (rest : List Plan) (i : ℕ) (all : Option Typed) → length rest ≤ i → GivesJoined ws (drop i rest) all all
-joined_done ws rest i all l = joined_all ws (drop i rest) all (drop_all i rest l)
-
 first_below : (o : Option Word) (os : Option (List Word)) → option_and_then checked_joined (option_and_then (λ x. option_map (λ xs. x ∷ xs) os) o) ≡ option_and_then (λ a. option_and_then (checked_join a) os) o
 first_below None os = refl
 first_below (Some x) None = refl
@@ -341,18 +334,11 @@ first_there : (o : Option Word) (os : List (Option Word)) → option_and_then ch
 first_there None os = refl
 first_there (Some x) os = first_below (Some x) (all_there os)
 
-pub joined_nothing : (ws : List (Option ℕ)) (ps : List Plan) → ps ≡ [] → Gives ws (joined_found ps) (sum_by space ps) None
-joined_nothing ws ps e = subst (λ xs. Gives ws (joined_found xs) (sum_by space xs) None) (sym e) (λ s vs suit. refl)
-
 pub joined_first : (ws : List (Option ℕ)) (ps : List Plan) (p : Plan) (rest : List Plan) (part c : Option Typed) → ps ≡ p ∷ rest → Gives ws (meaning p) (space p) part
     → GivesJoined ws rest part c → Gives ws (joined_found ps) (sum_by space ps) c
 joined_first ws ps p rest part c e h j = subst (λ xs. Gives ws (joined_found xs) (sum_by space xs) c) (sym e)
     (gives_same ws (joined_below (meaning p) rest) (joined_found (p ∷ rest)) (space p + sum_by space rest) (sum_by space (p ∷ rest)) c
     (λ s. first_there (meaning p s) (map (λ q. meaning q s) rest)) (omega (arith, sum_by-cons space p rest)) (j (meaning p) (space p) h))
-
--- arguments
-pub no_typed : (ws : List (Option ℕ)) → AreTyped ws [] [] []
-no_typed ws = (refl, refl)
 
 typed_last : (ws : List (Option ℕ)) (ps : List Plan) (p : Plan) (cs : List Code) (ks : List (Option ℕ)) (c : Typed) → AreTyped ws ps cs ks → IsTyped ws (meaning p) (space p) c
     → AreTyped ws (ps ++ p ∷ []) (cs ++ c.code ∷ []) (ks ++ Some c.width ∷ [])

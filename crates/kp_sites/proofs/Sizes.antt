@@ -6,8 +6,7 @@ use Rattle.std.specs.Prelude.{sum_by}
 use Rattle.kp_ast.specs.declared.tree.{Decl.Decl, Job.Job}
 use Rattle.kp_ast.specs.declared.tree.Decl.TheVariants as decls
 use Rattle.kp_stage.specs.Counts.{summary_of, results_in}
-use Rattle.kp_seq.specs.Recorded.{Recorded, results_of, setting_recorded, record_of}
-use Rattle.kp_seq.proofs.Recording.{all_recorded}
+use Rattle.kp_seq.{specs.Recorded.Recorded, specs.Recorded.results_of, specs.Recorded.setting_recorded, specs.Recorded.record_of, proofs.Recording.all_recorded}
 use Rattle.kp_sites.specs.{Reports.HasRoom, Sites.writer_at, Sites.writers_to}
 
 results_count : (ds : List Decl) → length (results_of ds) ≡ sum_by results_in ds

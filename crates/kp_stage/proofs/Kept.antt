@@ -1,13 +1,11 @@
 -- If no rule of stages is violated, each check of the head, a declaration or a statement passes.
 use Rattle.std.proofs.Common.{◌≡◌, ℕ, zero, suc, ◌+◌, List, [], ◌∷◌, map, Some, None, refl, arith, subst, ◌∙◌, ap}
-use Rattle.std.proofs.lemmas.Option.{slice_get-map}
-use Rattle.std.specs.{Prelude.slice_get, Option.option_map}
+use Rattle.std.{proofs.lemmas.Option.slice_get-map, specs.Prelude.slice_get, specs.Option.option_map}
 use Rattle.kp_base.specs.{First.first, Check.Answer}
 use Rattle.kp_ast.specs.declared.tree.{Decl.Decl, Stmt.Stmt, Block.Block, Job.Job}
 use Rattle.kp_stage.specs.{declared.rules.Rule.Rule, Facts.Facts, Facts.facts_of, Facts.stmts_in}
 use Rattle.kp_stage.specs.Rules.{ask_head, ask_decl, ask_decls, ask_block, ask_stmt, ask_stmts, ask_in_block, ask_blocks, broken_at, broken_by, all_rules}
-use Rattle.kp_stage.specs.{Sizes.sizes_of, Counts.counts_of, Stages.broken_of, Uses.statement_at}
-use Rattle.kp_stage.proofs.Unbroken.{first_none}
+use Rattle.kp_stage.{specs.Sizes.sizes_of, specs.Counts.counts_of, specs.Stages.broken_of, specs.Uses.statement_at, proofs.Unbroken.first_none}
 
 none_at : (xs : List Answer) (n : ℕ) (a : Answer) → first xs ≡ None → slice_get xs n ≡ Some a → a ≡ None
 none_at [] n a e at = cc

@@ -5,9 +5,9 @@ use Rattle.kp_base.specs.{First.first, Check.Answer, declared.place.Place.Place}
 use Rattle.kp_bits.specs.{Word.Word, Word.not_of, Word.mux_of, Word.slice_of, Word.zext_of, Word.sext_of, Operators.binary_of, Operators.joined_of}
 use Rattle.kp_ast.specs.{Expressions.Env, Expressions.eval, Expressions.value_of_kind, Expressions.value_of_level, declared.tree.Expr.Expr}
 use Rattle.kp_ast.specs.declared.tree.StmtKind.{StmtKind}
-use Rattle.kp_ast.specs.declared.tree.StmtKind.TheVariants as stmts
 use Rattle.kp_ast.proofs.Levels.{fold-Lit, fold-Name, fold-Not, fold-Binary, fold-Mux, fold-Concat, fold-Slice, fold-Zext, fold-Sext, fold-Call}
 use Rattle.kp_ast.proofs.Induction.{Every, induction}
+use Rattle.kp_ast.specs.declared.tree.StmtKind.TheVariants as stmts
 use Rattle.kp_width.proofs.Found.{none_of_two}
 use Rattle.kp_stage.specs.{declared.rules.Rule.Rule, Facts.Facts}
 use Rattle.kp_stage.specs.Rules.{ask_name, ask_kind, ask_level, ask_expr, ask_option, ask_values, ask_guesses}

@@ -1,7 +1,6 @@
 -- Properties of a job that violates no rule.
 use Rattle.std.proofs.Common.{◌≡◌, ◌≤◌, List, ◌∷◌, Some, None, Bool, true, false, refl}
-use Rattle.std.proofs.lemmas.Bool.{leb-true}
-use Rattle.std.specs.Prelude.{◌&&◌, nat_le, length}
+use Rattle.std.{proofs.lemmas.Bool.leb-true, specs.Prelude.◌&&◌, specs.Prelude.nat_le, specs.Prelude.length}
 use Rattle.kp_base.specs.{First.first, Check.Answer, Check.answer, declared.refusal.Refusal.Refusal}
 use Rattle.kp_ast.specs.declared.tree.Job.{Job}
 use Rattle.kp_stage.specs.{Facts.Facts, Rules.broken_at, Rules.broken_by}

@@ -1,9 +1,8 @@
 -- A wait has its cause.
 use Rattle.std.proofs.Common.{◌≡◌, ◌∙◌, ℕ, zero, suc, ◌+◌, ◌-◌, ◌<◌, ◌≤◌, List, Option, Some, None, Bool, true, false, cond, leb, not, ◌&&◌, length, get_or, refl, ap, sym, arith, ⊎_elim}
-use Rattle.std.proofs.lemmas.{Bool.and_parts, Bool.and_right, Bool.cases_lt, Bool.false≢true, List.get_or_past}
-use Rattle.std.proofs.lemmas.Option.{same_Some}
+use Rattle.std.proofs.lemmas.{Bool.and_parts, Bool.and_right, Bool.cases_lt, Bool.false≢true, List.get_or_past, Option.same_Some}
 use Rattle.std.specs.Prelude.{is_some}
-use Rattle.kp_ast.specs.declared.tree.{Job.Job}
+use Rattle.kp_ast.specs.declared.tree.Job.{Job}
 use Rattle.kp_base.specs.First.{first}
 use Rattle.kp_width.specs.Widths.{widths_of}
 use Rattle.kp_stage.specs.{Start.start_of, Stages.broken_of}
@@ -12,22 +11,19 @@ use Rattle.kp_pipeline.specs.{Sequential.instruction_before, Timeline.ReadyAbove
 use Rattle.kp_pipeline.specs.SpeculativeTimeline.{blocked, blocked_given, moves_on, ready_above, ready_from, waits, waits_given}
 use Rattle.kp_pipeline.specs.RightPath.{IsRightFrom, Moment, WaitsWhereItMust, held}
 use Rattle.kp_pipeline.specs.SpeculativeTimeline as timeline
-use Rattle.kp_machine.specs.{Slots.targets_of}
-use Rattle.kp_machine.specs.Machine.{machine_of, result_for, sequential, state_of}
-use Rattle.kp_machine.proofs.{Stages.stages_inside}
+use Rattle.kp_machine.specs.{Slots.targets_of, Machine.machine_of, Machine.result_for, Machine.sequential, Machine.state_of}
+use Rattle.kp_machine.proofs.Stages.{stages_inside}
 use Rattle.kp_seq.specs.Recorded.{reads_from, record_of}
-use Rattle.kp_sites.specs.{declared.sites.Site.Site, declared.sites.Writer.Writer}
-use Rattle.kp_stalls.specs.declared.{occupants.Stage.Stage, cause.Wait.Wait}
-use Rattle.kp_sites.specs.Sites.{no_site, result_number, sited, writer_at, writer_by}
-use Rattle.kp_stalls.specs.Occupants.{Report, Seen, at, occupants_of, report, no_stage}
-use Rattle.kp_sites.specs.Reports as reports
-use Rattle.kp_sites.specs.Reports.{may_write}
-use Rattle.kp_stalls.specs.Causes.{first_wait, is_met, is_ready, is_source, nearest, nearest_above}
-use Rattle.kp_stalls.specs.Claims.{IsCause, ShowsMoment, has_ready, is_writer, read_site}
+use Rattle.kp_sites.specs.declared.sites.{Site.Site, Writer.Writer}
+use Rattle.kp_sites.specs.{Sites.no_site, Sites.result_number, Sites.sited, Sites.writer_at, Sites.writer_by, Reports.may_write}
 use Rattle.kp_sites.proofs.{Asking.stage_unmet, Sizes.writer_get, Sizes.writers_many}
 use Rattle.kp_sites.proofs.Results.{IsResult, is_result, no_result, past_targets, ready_same, writes_same}
-use Rattle.kp_stalls.proofs.{OccupantFacts.report_at, OccupantFacts.stage_at}
-use Rattle.kp_stalls.proofs.Waits.{first_is, met_of, near_is, some_waits, wait_is}
+use Rattle.kp_stalls.specs.declared.{occupants.Stage.Stage, cause.Wait.Wait}
+use Rattle.kp_stalls.specs.Occupants.{Report, Seen, at, occupants_of, report, no_stage}
+use Rattle.kp_stalls.specs.Causes.{first_wait, is_met, is_ready, is_source, nearest, nearest_above}
+use Rattle.kp_stalls.specs.Claims.{IsCause, ShowsMoment, has_ready, is_writer, read_site}
+use Rattle.kp_stalls.proofs.{OccupantFacts.report_at, OccupantFacts.stage_at, Waits.first_is, Waits.met_of, Waits.near_is, Waits.some_waits, Waits.wait_is}
+use Rattle.kp_sites.specs.Reports as reports
 
 -- ---- a moment
 module _ (job : Job) (given : ℕ → ℕ → ℕ) (now : Moment) (i : Inputs) (r : Row) (stages : List Stage) (names : first (widths_of job).asked ≡ None) (rules : broken_of job ≡ None)

@@ -2,8 +2,7 @@
 use Rattle.std.proofs.Common.{◌≡◌, ◌∙◌, ℕ, suc, ◌+◌, ◌-◌, ◌<◌, ◌≤◌, List, [], ◌∷◌, Bool, true, false, cond, leb, drop, length, get_or, set, refl, ap, sym, arith, ⊎_elim, le-leb}
 use Rattle.std.proofs.lemmas.{Bool.cases_lt, Bool.lt-leb, List.drop_more, List.get_or-set_same, List.get_or-set_other}
 use Rattle.kp_base.specs.declared.row.Row as masks
-use Rattle.kp_pipeline.specs.Rows.{Row, bit}
-use Rattle.kp_pipeline.proofs.Lists.{bit-at}
+use Rattle.kp_pipeline.{specs.Rows.Row, specs.Rows.bit, proofs.Lists.bit-at}
 use Rattle.kp_sched.specs.Rows.{bit_of, row_seen, rows_seen}
 use Rattle.kp_stalls.specs.declared.fate.Fate.{Fate, TheVariants.Squashed, TheVariants.Retires, TheVariants.Open}
 use Rattle.kp_stalls.specs.Cycles.{fate_in, is_squashed}

@@ -2,14 +2,12 @@
 -- them. `s` has the tables of the job; reads are numbered in text order.
 use Rattle.std.specs.Prelude.{ℕ, zero, suc, ◌+◌, ◌-◌, List, [], ◌∷◌, ◌++◌, Option, Some, None, Bool, true, false, not, ◌&&◌, ◌||◌, ◌==◌, nat_le, nat_lt, if◌then◌else◌, is_some, get_or}
 use Rattle.std.specs.List.{list_any}
-use Rattle.kp_sites.specs.{declared.sites.Site.Site, declared.sites.Writer.Writer, Sites.Sited, Sites.no_site}
+use Rattle.kp_sites.specs.{declared.sites.Site.Site, declared.sites.Writer.Writer, Sites.Sited, Sites.no_site, Reports.may_write, Reports.setting}
 use Rattle.kp_sites.specs.Reports as reports
-use Rattle.kp_sites.specs.Reports.{may_write, setting}
 use Rattle.kp_stalls.specs.declared.{occupants.Stage.Stage, fate.Fate.Fate, cause.Cause.Cause}
 use Rattle.kp_stalls.specs.declared.cause.Cause.TheVariants.{Value, Unsure, Ahead, Held, Later, Squashed}
 use Rattle.kp_stalls.specs.declared.cause.{Wait.Wait, Had.Had, Had.TheVariants.Known, Had.TheVariants.Set, Had.TheVariants.Moved, Wrong.Wrong, Guess.Guess}
-use Rattle.kp_stalls.specs.{declared.cause.Producer.Producer, declared.cause.Line.Line}
-use Rattle.kp_stalls.specs.Occupants.{Seen, at, no_value}
+use Rattle.kp_stalls.specs.{declared.cause.Producer.Producer, declared.cause.Line.Line, Occupants.Seen, Occupants.at, Occupants.no_value}
 use Rattle.kp_stalls.specs.declared.fate.Fate.TheVariants as fates
 
 -- SOURCES. A full stage j, up to the write stage, that may write the target of w at address a.

@@ -7,8 +7,7 @@ use Rattle.kp_pipeline.specs.RightPath.{Moment, first_moment, held, next_moment}
 use Rattle.kp_pipeline.specs.SpeculativeTimeline as timeline
 use Rattle.kp_machine.specs.Machine.{machine_of, state_of}
 use Rattle.kp_sites.specs.{declared.sites.Site.Site, Sites.no_site, Sites.sited}
-use Rattle.kp_stalls.specs.{declared.cause.Wait.Wait, declared.occupants.Stage.Stage}
-use Rattle.kp_stalls.specs.Occupants.{report, no_stage}
+use Rattle.kp_stalls.specs.{declared.cause.Wait.Wait, declared.occupants.Stage.Stage, Occupants.report, Occupants.no_stage}
 
 -- The stages show the row of a moment, and the numbers of the instructions.
 pub record ShowsMoment (m : Machine) (now : Moment) (r : Row) (stages : List Stage) : Type 0 where

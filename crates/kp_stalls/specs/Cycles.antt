@@ -3,7 +3,7 @@ use Rattle.std.specs.Prelude.{ℕ, zero, suc, List, [], ◌∷◌, ◌++◌, Boo
 use Rattle.kp_pipeline.specs.Rows.{Row, bit, count_after}
 use Rattle.kp_sites.specs.Sites.{Sited}
 use Rattle.kp_stalls.specs.declared.{cause.Line.Line, occupants.Stage.Stage, fate.Fate.Fate}
-use Rattle.kp_stalls.specs.{declared.fate.Fate.TheVariants.Squashed, declared.fate.Fate.TheVariants.Retires, declared.fate.Fate.TheVariants.Open}
+use Rattle.kp_stalls.specs.declared.fate.Fate.TheVariants.{Squashed, Retires, Open}
 use Rattle.kp_stalls.specs.{Occupants.Report, Occupants.occupants_of, Causes.lines_down}
 
 -- The stages below `back` are squashed.

@@ -1,7 +1,6 @@
 -- A guess has the width of its register.
 use Rattle.std.proofs.Common.{◌≡◌, ℕ, zero, suc, ◌<◌, List, [], ◌∷◌, ◌++◌, Option, Some, None, true, false, length, get_or, refl, arith, ⊎_elim}
-use Rattle.std.proofs.lemmas.Bool.{cases_Bool}
-use Rattle.std.specs.List.{AllByRecursion}
+use Rattle.std.{proofs.lemmas.Bool.cases_Bool, specs.List.AllByRecursion}
 use Rattle.kp_ast.specs.{Expressions.is_same_name, declared.tree.Block.Block, declared.tree.Expr.Expr, declared.tree.Job.Job, declared.tree.ReadStmt.ReadStmt}
 use Rattle.kp_ast.specs.declared.tree.{Stmt.Stmt, StmtKind.StmtKind}
 use Rattle.kp_ast.specs.declared.tree.StmtKind.TheVariants as stmts

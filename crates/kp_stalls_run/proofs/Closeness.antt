@@ -1,7 +1,6 @@
 -- The numbers in the stages of a run of a machine stay close together.
-use Rattle.std.specs.List.{AllByRecursion}
 use Rattle.std.proofs.Common.{◌≡◌, ℕ, zero, suc, ◌+◌, ◌-◌, ◌<◌, ◌≤◌, List, [], ◌∷◌, Option, take, length, get_or, refl, ap, arith, Bool, true, false, ⊎_elim}
-use Rattle.std.proofs.lemmas.Bool.{cases_Bool, cases_lt, false≢true}
+use Rattle.std.{specs.List.AllByRecursion, proofs.lemmas.Bool.cases_Bool, proofs.lemmas.Bool.cases_lt, proofs.lemmas.Bool.false≢true}
 use Rattle.kp_pipeline.specs.{Accepted.Accepted, Claims.StandsBefore, Machine.Machine, Sequential.PendingGuess}
 use Rattle.kp_pipeline.specs.Pipeline.{Inputs, PipelineState, above, back, cycle, pipeline_start, some_differs, ue}
 use Rattle.kp_pipeline.specs.Rows.{Row, count_after, counts, counts_from, one_if, pipe, row, rows_from, state_after}

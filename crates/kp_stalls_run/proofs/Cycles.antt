@@ -3,11 +3,10 @@ use Rattle.std.proofs.Common.{◌≡◌, ◌∙◌, ℕ, zero, suc, ◌+◌, ◌
 use Rattle.std.proofs.lemmas.List.{get_or-map, get_or_default, length-map, length-take-le, take_more}
 use Rattle.kp_base.specs.declared.row.Row as masks
 use Rattle.kp_ast.specs.declared.tree.Job.{Job}
-use Rattle.kp_pipeline.specs.Rows.{Row, count_after, counts}
-use Rattle.kp_pipeline.proofs.Counts.{counts-bound}
+use Rattle.kp_pipeline.{specs.Rows.Row, specs.Rows.count_after, specs.Rows.counts, proofs.Counts.counts-bound}
 use Rattle.kp_sched.specs.{Monitors.Kept, Monitors.HasSeen, Rows.bit_of, Rows.row_seen, Rows.rows_seen}
 use Rattle.kp_sites.specs.Sites.{sited}
-use Rattle.kp_stalls.specs.{declared.cause.Line.Line, declared.fate.Fate.Fate, declared.fate.Fate.TheVariants.Open}
+use Rattle.kp_stalls.specs.declared.{cause.Line.Line, fate.Fate.Fate, fate.Fate.TheVariants.Open}
 use Rattle.kp_stalls.specs.{Occupants.Seen, Occupants.occupants_of, Occupants.report, Occupants.stored, Causes.lines_down}
 use Rattle.kp_stalls.specs.{Cycles.fate_in, Cycles.lines_from, Cycles.stage_of, Cycles.stages_from, Windows.Windowed, Windows.Follows}
 use Rattle.kp_stalls_run.specs.{Runs.settled, inner.Running.StaysClose, inner.Running.stage_now}

@@ -1,14 +1,13 @@
 -- The guesses that lines name.
 use Rattle.std.proofs.Common.{◌≡◌, ◌∙◌, ℕ, suc, ◌+◌, ◌-◌, ◌<◌, List, [], ◌∷◌, length, get_or, Option, Some, None, Bool, true, false, cond, refl, ap, sym, arith, ◌⊎◌, inl, inr, ⊎_elim}
-use Rattle.std.proofs.lemmas.{Bool.cases_Bool, List.get_or-map, Option.same_Some}
-use Rattle.std.specs.Prelude.{is_some}
+use Rattle.std.{proofs.lemmas.Bool.cases_Bool, proofs.lemmas.List.get_or-map, proofs.lemmas.Option.same_Some, specs.Prelude.is_some}
 use Rattle.kp_ast.specs.declared.tree.Job.{Job}
 use Rattle.kp_machine.specs.Machine.{sequential}
 use Rattle.kp_stalls.specs.declared.cause.Cause.{Cause, TheVariants.Unsure, TheVariants.Ahead, TheVariants.Held, TheVariants.Later, TheVariants.Squashed}
 use Rattle.kp_stalls.specs.declared.{cause.Guess.Guess, cause.Wait.Wait, cause.Wrong.Wrong, occupants.Stage.Stage}
-use Rattle.kp_sites.specs.{declared.sites.Site.Site, Sites.Sited, Sites.no_site, Sites.sited}
 use Rattle.kp_stalls.specs.Occupants.{Seen, at, no_occupant, no_stage, no_value, occupants_of, report, value_before}
 use Rattle.kp_stalls.specs.Causes.{all_retire, cause_at, cause_of_wait, first_wait, guess_of, is_open, is_squashed_by, is_reported, is_waiting, only_open, waiting_cause, wrong_of}
+use Rattle.kp_sites.specs.{declared.sites.Site.Site, Sites.Sited, Sites.no_site, Sites.sited}
 
 -- A WAIT is no squash.
 no_squash : (a b c d : Bool) (o : Option Wait) (w : Wrong) → cond a Later (cond b Held (cond c Ahead (cond d (cause_of_wait o) Unsure))) ≡ Squashed w → ⊥

@@ -1,18 +1,15 @@
 -- What the lines of a run say, cycle by cycle.
 use Rattle.std.proofs.Common.{◌≡◌, ◌∙◌, ℕ, zero, suc, ◌+◌, ◌<◌, ◌≤◌, List, [], ◌∷◌, length, get_or, Option, Some, None, Bool, true, false, cond, refl, ap, sym, subst, arith}
-use Rattle.std.proofs.lemmas.List.Elements.{All-append, All-cons, All-nil}
-use Rattle.std.specs.List.{All}
+use Rattle.std.{proofs.lemmas.List.Elements.All-append, proofs.lemmas.List.Elements.All-cons, proofs.lemmas.List.Elements.All-nil, specs.List.All}
 use Rattle.kp_ast.specs.declared.tree.Job.{Job}
 use Rattle.kp_pipeline.specs.{Machine.Machine, Pipeline.Inputs, Rows.Row, Rows.bit, Rows.count_after, Rows.row, Rows.rows_from}
-use Rattle.kp_pipeline.specs.RightPath.{Moment, held, next_moment}
-use Rattle.kp_pipeline.proofs.Lists.{bit-at}
+use Rattle.kp_pipeline.{specs.RightPath.Moment, specs.RightPath.held, specs.RightPath.next_moment, proofs.Lists.bit-at}
 use Rattle.kp_machine.specs.Machine.{inputs_at, inputs_from}
 use Rattle.kp_sites.specs.Sites.{Sited}
-use Rattle.kp_stalls.specs.{declared.cause.Cause.Cause, declared.cause.Line.Line, declared.occupants.Stage.Stage}
+use Rattle.kp_stalls.specs.declared.{cause.Cause.Cause, cause.Line.Line, occupants.Stage.Stage}
 use Rattle.kp_stalls.specs.Occupants.{Report, Seen, at, occupants_of, no_stage}
 use Rattle.kp_stalls.specs.{Causes.cause_at, Causes.line_of, Causes.lines_down, Claims.ShowsMoment, Claims.moment_at}
-use Rattle.kp_stalls.specs.Cycles.{lines_from, stage_of, stages_from}
-use Rattle.kp_stalls.proofs.OccupantFacts.{stage_at}
+use Rattle.kp_stalls.{specs.Cycles.lines_from, specs.Cycles.stage_of, specs.Cycles.stages_from, proofs.OccupantFacts.stage_at}
 
 -- THE STAGES of a cycle.
 stage_from : (f : ℕ → Stage) (d k j : ℕ) → j < d → get_or (stages_from f d k) j no_stage ≡ f (k + j)

@@ -27,10 +27,6 @@ module _ (job : Job) (given : ℕ → ℕ → ℕ) (T k i x d : ℕ) (stages : L
   pub settles_there : get_or stages x d ≡ k → settles job given T k i x ≡ (values_in (input job T) x == given i x)
   settles_there e = ap (λ c. cond c (values_in (input job T) x == given i x) true) (eq-eqb (get_or (sample_stages job.decls) x job.stages.value) k (stage ∙ e))
 
-  pub settles_elsewhere : (get_or stages x d ≡ k → ⊥) → settles job given T k i x ≡ true
-  settles_elsewhere other =
-      ap (λ c. cond c (values_in (input job T) x == given i x) true) (ne_eqb (get_or (sample_stages job.decls) x job.stages.value) k (λ e. other (sym stage ∙ e)))
-
 -- ALL SAMPLES, one by one.
 pub settled_more : (job : Job) (given : ℕ → ℕ → ℕ) (T k i n : ℕ) → settles_to job given T k i n ≡ true → settles job given T k i n ≡ true
     → settles_to job given T k i (n + 1) ≡ true

@@ -2,8 +2,8 @@
 use Rattle.std.proofs.Common.{◌≡◌, ◌∙◌, ℕ, zero, suc, ◌+◌, ◌<◌, ◌≤◌, List, [], ◌∷◌, map, set, length, length-append, get_or, Option, Some, None, Bool, true, false, ◌||◌, cond, refl, ap, sym, subst, arith, ⊎_elim}
 use Rattle.std.proofs.lemmas.Bool.{cases_Bool, cases_lt, or_parts}
 use Rattle.std.proofs.lemmas.List.{ext_get_or, get_or_default, get_or-map, get_or-set_other, get_or-set_same, length-map}
-use Rattle.std.proofs.lemmas.Option.{same_Some}
-use Rattle.std.specs.{Prelude.◌==◌, Prelude.IsSome, Prelude.is_some, Prelude.replicate, List.All, List.list_any}
+use Rattle.std.{proofs.lemmas.Option.same_Some, specs.Prelude.◌==◌, specs.Prelude.IsSome, specs.Prelude.is_some, specs.Prelude.replicate}
+use Rattle.std.specs.List.{All, list_any}
 use Rattle.kp_bits.specs.Word.{Word}
 use Rattle.kp_ast.specs.declared.tree.Job.{Job}
 use Rattle.kp_pipeline.specs.{Machine.Machine, Pipeline.Inputs, Pipeline.PipelineState, Pipeline.cycle, Pipeline.pipeline_start}
@@ -12,8 +12,7 @@ use Rattle.kp_stage.specs.Start.{start_of}
 use Rattle.kp_machine.specs.Machine.{inputs_at, inputs_from, machine_of, start_hints, state_of}
 use Rattle.kp_net.specs.Netlist.{Net, Input, State, cells_of, last_of, stalled, start_of as net_start, state_after as state_after_net}
 use Rattle.kp_cycle.specs.Steps.{Running, saved_in}
-use Rattle.kp_run.specs.Cycles.{input_at, inputs_to}
-use Rattle.kp_run.proofs.{Steps.state_next, Prefixes.state_is}
+use Rattle.kp_run.{specs.Cycles.input_at, specs.Cycles.inputs_to, proofs.Steps.state_next, proofs.Prefixes.state_is}
 use Rattle.kp_synth.specs.Carrying.{Carries}
 use Rattle.kp_synth_registers.specs.Holding.{Holds, inputs_of}
 use Rattle.kp_synth_spec.specs.Traces.{AreQuiet, inputs_seen}
@@ -21,8 +20,8 @@ use Rattle.kp_synth_tables.specs.Keys.{is_alive, keys_of}
 use Rattle.kp_stalls.specs.declared.cause.Cause.{Cause}
 use Rattle.kp_stalls.specs.declared.cause.Cause.TheVariants.{Value, Unsure, Ahead, Held, Later, Squashed}
 use Rattle.kp_stalls.specs.{declared.cause.Guess.Guess, declared.cause.Line.Line, declared.cause.Wait.Wait, declared.cause.Wrong.Wrong, Claims.moment_at}
-use Rattle.kp_sites.specs.Sites.{sited}
 use Rattle.kp_stalls.specs.Occupants.{report}
+use Rattle.kp_sites.specs.Sites.{sited}
 use Rattle.kp_diagram.specs.Claims.{stalls_of}
 use Rattle.kp_stalls_run.specs.Claims.{moment_in}
 use Rattle.kp_stalls_run.specs.Runs.{cause_with, given_in, guess_with, guessed_in, line_with, run_lines, settled, state_at, wrong_with}

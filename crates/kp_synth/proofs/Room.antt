@@ -2,14 +2,12 @@
 use Rattle.std.proofs.Common.{ap, ◌≡◌, ℕ, zero, suc, ◌+◌, ◌*◌, ◌≤◌, [], length, None, arith}
 use Rattle.std.proofs.Math.Nat.{suc-mul}
 use Rattle.kp_ast.specs.declared.tree.Job.{Job}
-use Rattle.kp_width.specs.Widths.{widths_of}
-use Rattle.kp_width.proofs.Unbroken.{Unbroken}
+use Rattle.kp_width.{specs.Widths.widths_of, proofs.Unbroken.Unbroken}
 use Rattle.kp_stage.specs.{Counts.summary_of, Stages.broken_of}
 use Rattle.kp_net.specs.Growth.{Held}
 use Rattle.kp_synth_tables.proofs.{Fitting.fits, Limits.limits, Limits.samples_counted}
 use Rattle.kp_synth_registers.specs.Meaning.{CellsFit}
-use Rattle.kp_synth_close.specs.Bound.{node_bound}
-use Rattle.kp_synth_close.proofs.Bounding.{closing_few}
+use Rattle.kp_synth_close.{specs.Bound.node_bound, proofs.Bounding.closing_few}
 use Rattle.kp_synth_pipeline.proofs.Rooms.{stages_few}
 use Rattle.kp_synth.specs.inner.Rooms.{reading_room, inside_room, closing_room}
 

@@ -1,8 +1,7 @@
 -- From the statement that identifies parts by their indices to the one that identifies them by their names.
 use Rattle.std.proofs.Common.{◌≡◌, ◌∙◌, ℕ, zero, suc, ◌+◌, ◌-◌, ◌^◌, ◌<◌, ◌≤◌, Bool, true, false, not, List, [], ◌∷◌, ◌++◌, take, drop, length, get_or, map, refl, ap, sym, subst, arith, ⊎_elim}
 use Rattle.std.proofs.lemmas.List.{length-map, get_or-map, get_or-drop, length-drop, take-append-drop, map-append}
-use Rattle.std.proofs.{Math.Seq.take-length, lemmas.Bool.cases_lt, lemmas.Bool.cases_Bool}
-use Rattle.std.specs.Prelude.{codes, decimal}
+use Rattle.std.{proofs.Math.Seq.take-length, proofs.lemmas.Bool.cases_lt, proofs.lemmas.Bool.cases_Bool, specs.Prelude.codes, specs.Prelude.decimal}
 use Rattle.kp_ast.specs.declared.tree.Job.{Job}
 use Rattle.kp_machine.specs.Slots.{Slot, targets_of, samples_of, is_register}
 use Rattle.kp_machine.specs.Machine.{machine_of, start_hints, pipe_of, registers_before, files_before}
@@ -15,8 +14,7 @@ use Rattle.kp_sched.specs.Runs.{ShowsAlike}
 use Rattle.kp_synth_spec.specs.Naming.{register_name, file_name, sample_port, hidden_names, registers_of, files_of, register_names, file_names, register_of, file_of, value_shown, place_among}
 use Rattle.kp_synth_spec.specs.Traces.{trace_of, no_state, inputs_seen, state_at, AreQuiet}
 use Rattle.kp_synth_spec.specs.Shows.{Shows, IsInOrder, HasRegister, HasFile}
-use Rattle.kp_synth_spec.specs.Anew.{trace_from, left_by_reset, HasMemory, BeginsAnew}
-use Rattle.kp_synth_spec.proofs.Anew.{left_alike}
+use Rattle.kp_synth_spec.{specs.Anew.trace_from, specs.Anew.left_by_reset, specs.Anew.HasMemory, specs.Anew.BeginsAnew, proofs.Anew.left_alike}
 use Rattle.kp_synth_close.specs.Shows as place
 use Rattle.kp_synth_close.specs.Shows.{NamedBy, HoldsFrom, reg_slot, file_slot, port_slot, named_with, shown_word}
 use Rattle.kp_synth.specs.Carrying.{Carries}

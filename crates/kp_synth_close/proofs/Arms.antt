@@ -22,13 +22,6 @@ pub chosen_is : (u a b : Bool) (v w : ℕ) → optional (cond u a b) (cond u v w
 chosen_is true a b v w = refl
 chosen_is false a b v w = refl
 
--- a result that is kept in the next stage is kept in this one
-pub kept_before : (job : Job) (t k : ℕ) → is_kept job t (suc k) ≡ true → is_kept job t k ≡ true
-kept_before job t k e =
-    let p = and_parts (is_some (result_for job t)) (nat_le (suc k) (write_stage_of (result_for job t))) e in
-    let l = leb-true (suc k) (write_stage_of (result_for job t)) p.1 in
-    and_from (is_some (result_for job t)) (nat_le k (write_stage_of (result_for job t))) p.0 (le-leb k (write_stage_of (result_for job t)) (omega arith))
-
 -- what is stored is kept
 pub stored_kept : (job : Job) (t k : ℕ) → is_stored job t k ≡ true → is_kept job t k ≡ true
 stored_kept job t k e = (and_parts (nat_le (set_by job (result_for job t)) k) (is_kept job t k) e).1
@@ -94,9 +87,6 @@ put_none job p q k x out n says l e g = λ c st i h.
 
 pub put_wire : (job : Job) (p : Held) (k x : ℕ) (out : Outcome) (n : NodeId) → Says job p k out → get_or out.puts x None ≡ Some n → Wire p n (pipe_at job x).width
 put_wire job p k x out n says e = subst (PutFits p (pipe_at job x).width) e (says.put_wires x)
-
-pub aim_wire : (job : Job) (p : Held) (k x : ℕ) (out : Outcome) (n : NodeId) → Says job p k out → get_or out.aims x None ≡ Some n → Wire p n (hint_at job x).width
-aim_wire job p k x out n says e = subst (PutFits p (hint_at job x).width) e (says.aim_wires x)
 
 same_cond : (b : Bool) (v : ℕ) → cond b v v ≡ v
 same_cond true v = refl

@@ -6,8 +6,7 @@ use Rattle.std.specs.Prelude.{nat_le, unwrap_or}
 use Rattle.kp_ast.specs.declared.tree.Job.{Job}
 use Rattle.kp_pipeline.specs.Sequential.{first_value, after_stage}
 use Rattle.kp_pipeline.specs.Pipeline.{PipelineState, Inputs, outcome, ue, cycle, next_stage, pipeline_start, stage_zero}
-use Rattle.kp_pipeline.specs.Trimming.{trimmed, trimmed_stage}
-use Rattle.kp_pipeline.proofs.Ends.{run-ends}
+use Rattle.kp_pipeline.{specs.Trimming.trimmed, specs.Trimming.trimmed_stage, proofs.Ends.run-ends}
 use Rattle.kp_machine.specs.{Slots.pipes_of, Machine.machine_of, Machine.result_for}
 use Rattle.kp_synth_tables.specs.{Spans.put_after, Keys.pipe_at, Keys.set_by, Keys.is_alive, Keys.is_piped, Keys.is_kept, Keys.is_stored, Fits.Fits}
 

@@ -12,11 +12,10 @@ use Rattle.kp_net.proofs.Values.{at_fits}
 use Rattle.kp_synth_tables.specs.declared.key.Key.{Key}
 use Rattle.kp_synth_tables.specs.declared.key.Key.TheVariants.{Visible, Full, Pipe, Valid, Value, Pending, Guess, Hint}
 use Rattle.kp_synth_tables.specs.Keys.{target_at, is_alive, is_piped, is_stored, HasKey, key_width, place_of, sample_at}
-use Rattle.kp_synth_tables.specs.Fits.{Fits}
+use Rattle.kp_synth_tables.{specs.Fits.Fits, proofs.Places.has_place}
 use Rattle.kp_synth_registers.specs.declared.outcome.Outcome.{Outcome}
 use Rattle.kp_synth_registers.specs.Holding.{Holds, kept_in, optional, own_word, word_bit, some_guess}
 use Rattle.kp_synth_close.proofs.{Bare.Bare, Bare.zero_trimmed, Bare.bare_next, Bare.absent_trimmed, Bare.unset_trimmed, Steps.GuessesNext, Steps.pending_next}
-use Rattle.kp_synth_tables.proofs.Places.{has_place}
 use Rattle.kp_synth_close.specs.{Nexts.NextIs, Nexts.port_word, Nexts.PortFits, Nexts.Closes, Nexts.GuessesFit, inner.After.CellsAfter}
 
 pub wire_fits : (p : Held) (n : NodeId) (w : ℕ) (c : Cells) → Wire p n w → at c p.nodes n.0 < 2 ^ w

@@ -1,9 +1,9 @@
 -- The bits of a word that is joined of single bits.
 use Rattle.std.proofs.Common.{◌≡◌, ◌∙◌, ℕ, zero, suc, ◌+◌, ◌*◌, ◌/◌, ◌%◌, ◌^◌, ◌<◌, ◌==◌, List, [], ◌∷◌, fold, map, length, get_or, refl, sym, ap, subst, arith}
 use Rattle.std.proofs.{Math.Nat.pow-succ', Math.Nat.div-div-eq-div-mul, lemmas.List.get_or-map, lemmas.List.length-map, lemmas.List.Sums.sum_by-cons}
+use Rattle.std.specs.List.{sum_by, All}
 use Rattle.kp_bits.specs.Word as bits
 use Rattle.kp_bits.specs.{Word.word, Word.concat_of, Operators.joined_of, Operators.no_word}
-use Rattle.std.specs.List.{sum_by, All}
 use Rattle.kp_net.specs.{declared.node.NodeId.NodeId, Nodes.Cells, Nodes.word_at, Nodes.at, Nodes.on, Widths.wide, Growth.Held, Growth.Wire}
 use Rattle.kp_net.proofs.Values.{at_fits, word_wide}
 use Rattle.kp_synth_registers.specs.{Holding.word_bit, Meaning.node_at}

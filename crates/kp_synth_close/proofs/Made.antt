@@ -6,8 +6,7 @@ use Rattle.kp_stage.specs.Facts.{stmts_in}
 use Rattle.kp_net.specs.Growth.{Held, Wire}
 use Rattle.kp_synth_tables.specs.{declared.key.GuessSlot.GuessSlot, Keys.no_guess, Keys.guesses_in, Keys.guesses_from, Keys.guesses_of, Keys.guess_at}
 use Rattle.kp_synth_registers.specs.{declared.outcome.Made.Made, declared.outcome.Outcome.Outcome, Meaning.guesses_at, Meaning.MadeFit, Meaning.Says}
-use Rattle.kp_synth_close.specs.Nexts.{no_made, outcome_at, made_at}
-use Rattle.kp_synth_close.proofs.Guesses.{Numbered, numbered}
+use Rattle.kp_synth_close.{specs.Nexts.no_made, specs.Nexts.outcome_at, specs.Nexts.made_at, proofs.Guesses.Numbered, proofs.Guesses.numbered}
 
 abbrev InSlots : GuessSlot → List GuessSlot → Type 0
 InSlots s [] = ⊥

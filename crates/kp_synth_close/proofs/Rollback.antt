@@ -4,12 +4,11 @@ use Rattle.kp_ast.specs.declared.tree.Job.{Job}
 use Rattle.kp_pipeline.specs.Pipeline.{PipelineState, Inputs, back, greatest, mismatches}
 use Rattle.kp_machine.specs.Machine.{machine_of}
 use Rattle.kp_net.specs.{declared.node.NodeId.NodeId, Nodes.Cells, Nodes.at, Nodes.on, Growth.Held, Growth.Wire, Growth.Kept}
+use Rattle.kp_net.proofs.Growing.{wire_kept}
 use Rattle.kp_engine.specs.Misses.{bit_at}
 use Rattle.kp_synth_registers.specs.{declared.outcome.Outcome.Outcome, Holding.Holds, Holding.word_bit, Meaning.IsTest, Meaning.Gives, Meaning.node_at}
-use Rattle.kp_net.proofs.Growing.{wire_kept}
-use Rattle.kp_synth_close.specs.{declared.control.Control.Control, Control.AllSay, Control.Controls, Control.ShowRow}
 use Rattle.kp_synth_registers.proofs.Growth.{says_kept}
-use Rattle.kp_synth_close.proofs.Bits.{back_same}
+use Rattle.kp_synth_close.{specs.declared.control.Control.Control, specs.Control.AllSay, specs.Control.Controls, specs.Control.ShowRow, proofs.Bits.back_same}
 
 pub all_say_kept : (job : Job) (p q : Held) (j : ℕ) (outs : List Outcome) → Kept p q j → AllSay job p outs → AllSay job q outs
 all_say_kept job p q j outs a h = record { count = h.count; says = λ k l. says_kept job p q j k _ a (h.says k l) }

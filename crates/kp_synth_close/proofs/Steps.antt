@@ -5,6 +5,7 @@ use Rattle.std.specs.List.{list_any, filter, AllByRecursion}
 use Rattle.kp_ast.specs.declared.tree.{Block.Block, Job.Job}
 use Rattle.kp_pipeline.specs.Sequential.{PendingGuess}
 use Rattle.kp_pipeline.specs.Pipeline.{PipelineState, StageState, Inputs, ue, cycle, outcome, next_stage}
+use Rattle.kp_pipeline.proofs.Lists.{all-append}
 use Rattle.kp_machine.specs.Machine.{machine_of, result_for, write_stage_of}
 use Rattle.kp_net.specs.{Nodes.Cells, Nodes.at, Nodes.on, Growth.Held}
 use Rattle.kp_synth_tables.specs.declared.key.{Key.TheVariants.Pending, Key.TheVariants.Guess, GuessSlot.GuessSlot}
@@ -13,7 +14,6 @@ use Rattle.kp_synth_registers.specs.declared.outcome.Outcome.{Outcome}
 use Rattle.kp_synth_registers.specs.Holding.{Holds, kept_in, some_of, some_guess, guess_passes, pending_guess}
 use Rattle.kp_synth_registers.specs.Meaning.{Says}
 use Rattle.kp_synth_close.specs.Nexts.{outcome_at, made_at, leaves_pending, leaves_with, GuessesFit}
-use Rattle.kp_pipeline.proofs.Lists.{all-append}
 use Rattle.kp_synth_close.proofs.Guesses.{Numbered, numbered, some_same, some_or, some_none, any_filter, made_passes, made_among, IsGuess, moves, moving}
 
 -- the write stage of each guess

@@ -2,22 +2,20 @@
 use Rattle.std.proofs.Common.{◌≡◌, ◌∙◌, ℕ, ◌<◌, ◌≤◌, Bool, true, false, cond, ◌==◌, List, [], ◌∷◌, ◌++◌, length, length-append, get_or, Option, Some, None, refl, sym, ap, subst, arith, ⊎_elim, eqb-true}
 use Rattle.std.proofs.{lemmas.Bool.cases_Bool, lemmas.Bool.cases_lt, lemmas.List.get_or_push, Math.ListN.get_or-append}
 use Rattle.std.specs.Prelude.{is_some}
-use Rattle.kp_net.proofs.Growing.{wire_kept}
-use Rattle.kp_synth_registers.proofs.Growth.{test_kept, gives_kept}
-use Rattle.kp_synth_tables.proofs.Places.{carried, key_had}
+use Rattle.kp_net.{proofs.Growing.wire_kept, specs.declared.netlist.WritePort.WritePort, specs.declared.node.NodeId.NodeId}
+use Rattle.kp_net.specs.{Nodes.Cells, Nodes.at, Nodes.on, Growth.Held, Growth.Wire, Growth.Kept}
+use Rattle.kp_synth_registers.{proofs.Growth.test_kept, proofs.Growth.gives_kept, specs.declared.outcome.Outcome.Outcome}
+use Rattle.kp_synth_registers.specs.Holding.{Holds, kept_in, optional}
+use Rattle.kp_synth_registers.specs.Meaning.{Says, IsTest, Gives, MayGive, node_at}
+use Rattle.kp_synth_tables.{proofs.Places.carried, proofs.Places.key_had, specs.declared.key.Key.Key}
+use Rattle.kp_synth_tables.specs.declared.key.Key.TheVariants.{Visible, Full, Pipe, Valid, Value, Pending, Guess, Hint}
+use Rattle.kp_synth_tables.specs.Keys.{guesses_of, guess_at, HasKey, keys_of, key_at, key_width, target_at}
 use Rattle.kp_synth_close.specs.{declared.control.Control.Control, Control.AllSay, Control.Updating, Control.Controls, Control.NextsFrom, Control.PortsFrom}
 use Rattle.kp_synth_close.specs.Nexts.{outcome_at, made_at, leaves_pending, leaves_with, NextIs, PortFits, port_word, Closes}
+use Rattle.kp_synth_close.proofs.Made.{made_wires}
 use Rattle.kp_ast.specs.declared.tree.Job.{Job}
 use Rattle.kp_pipeline.specs.Pipeline.{PipelineState, Inputs, ue, next_visible}
 use Rattle.kp_machine.specs.{Slots.targets_of, Slots.is_register, Machine.machine_of}
-use Rattle.kp_net.specs.{declared.netlist.WritePort.WritePort, declared.node.NodeId.NodeId, Nodes.Cells, Nodes.at, Nodes.on}
-use Rattle.kp_net.specs.Growth.{Held, Wire, Kept}
-use Rattle.kp_synth_tables.specs.declared.key.Key.{Key}
-use Rattle.kp_synth_tables.specs.declared.key.Key.TheVariants.{Visible, Full, Pipe, Valid, Value, Pending, Guess, Hint}
-use Rattle.kp_synth_tables.specs.Keys.{guesses_of, guess_at, HasKey, keys_of, key_at, key_width, target_at}
-use Rattle.kp_synth_registers.specs.{declared.outcome.Outcome.Outcome, Holding.Holds, Holding.kept_in, Holding.optional}
-use Rattle.kp_synth_registers.specs.Meaning.{Says, IsTest, Gives, MayGive, node_at}
-use Rattle.kp_synth_close.proofs.Made.{made_wires}
 
 pub pending_kept : (job : Job) (p q : Held) (j k g : ℕ) (outs : List Outcome) (c : Cells) → Kept p q j → g < length (guesses_of job) → Says job p k (outcome_at outs k)
     → leaves_pending job q outs c k g (guess_at job g) ≡ leaves_pending job p outs c k g (guess_at job g)
@@ -103,9 +101,6 @@ controls_kept job p q j d a h = record {
   updating = updating_kept job p q j d.updates a h.updating;
 }
 
-pub nexts_none : (job : Job) (p : Held) (outs : List Outcome) → NextsFrom job p outs []
-nexts_none job p outs = record { few = omega arith; wires = λ r l. absurd (omega arith); next = λ c st i h r l. absurd (omega arith) }
-
 -- what holds of each entry of a list holds with one more
 pushed : {A : Type 0} (F : ℕ → A → Type 0) (xs : List A) (x d : A) → ((r : ℕ) → r < length xs → F r (get_or xs r d)) → F (length xs) x
     → (r : ℕ) → r < length (xs ++ x ∷ []) → F r (get_or (xs ++ x ∷ []) r d)
@@ -138,9 +133,6 @@ port_kept job p q j t (Some o) c a v k h =
     let f = k.same c o.address.0 h.1.inside in
     let g = k.same c o.value.0 h.2.inside in
     rw (e, f, g) refl
-
-pub ports_none : (job : Job) (p : Held) → PortsFrom job p []
-ports_none job p = record { few = omega arith; fits = λ t l. absurd (omega arith); port = λ c st i h t l. absurd (omega arith) }
 
 pub ports_more : (job : Job) (p q : Held) (j : ℕ) (ports : List (Option WritePort)) (o : Option WritePort) → Kept p q j → PortsFrom job p ports
     → length ports < length (targets_of job.decls) → PortFits job q (length ports) o

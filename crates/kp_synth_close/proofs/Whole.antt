@@ -2,12 +2,12 @@
 use Rattle.std.proofs.Common.{◌≡◌, ◌∙◌, ℕ, zero, suc, ◌%◌, ◌^◌, ◌<◌, ◌≤◌, Bool, true, false, cond, ◌&&◌, ◌==◌, List, [], ◌∷◌, map, set, length, get_or, Option, Some, None, refl, sym, ap, subst, arith, ⊎_elim, eqb-true, All}
 use Rattle.std.proofs.{Math.Nat.mod-eq_of_lt, lemmas.Bool.cases_Bool, lemmas.Bool.cond-true, lemmas.Bool.cond-false, lemmas.Bool.eqb-false}
 use Rattle.std.proofs.lemmas.List.{get_or-map, get_or-set_same, get_or-set_other, length-map, length-set, Elements.All-head, Elements.All-tail}
-use Rattle.std.proofs.lemmas.Slice.Zip.{get_or-zip, length-zip}
-use Rattle.std.specs.List.{list_any, zip}
+use Rattle.std.{proofs.lemmas.Slice.Zip.get_or-zip, proofs.lemmas.Slice.Zip.length-zip, specs.List.list_any, specs.List.zip}
 use Rattle.kp_ast.specs.declared.tree.Job.{Job}
 use Rattle.kp_stage.specs.{declared.start.Start.Start, Start.start_of as job_start}
 use Rattle.kp_pipeline.specs.{Sequential.PendingGuess, Pipeline.PipelineState, Pipeline.ue, Pipeline.cycle, Pipeline.pipeline_start}
 use Rattle.kp_pipeline.specs.{Rows.row, Rows.bits, Rows.state_after as pipeline_after, Rows.rows_from as pipeline_rows, Trimming.trimmed}
+use Rattle.kp_pipeline.proofs.{Lists.bits-same, Trimming.row-same, Trimming.cycle-same}
 use Rattle.kp_machine.specs.Slots.{targets_of, pipes_of, is_register}
 use Rattle.kp_machine.specs.Machine.{machine_of, state_of, start_hints, registers_before, files_before}
 use Rattle.kp_net.specs.Netlist.{Net, Input, State, cells_of, start_regs, start_of, port_after, state_after, row_of, states_from, rows_from, last_from, last_of}
@@ -16,12 +16,11 @@ use Rattle.kp_net.specs.{Nodes.Cells, Nodes.at, Nodes.on, Growth.Held, Growth.Wi
 use Rattle.kp_synth_tables.specs.Keys.{target_at, keys_of, key_at, key_width, key_start, place_of, HasKey, guesses_of, guess_at, is_carried, is_alive, is_piped, is_stored}
 use Rattle.kp_synth_tables.specs.declared.key.Key.{Key}
 use Rattle.kp_synth_tables.specs.declared.key.Key.TheVariants.{Visible, Full, Pipe, Valid, Value, Pending, Hint}
+use Rattle.kp_synth_tables.proofs.Places.{has_place}
 use Rattle.kp_synth_registers.specs.declared.outcome.Outcome.{Outcome}
 use Rattle.kp_synth_registers.specs.Holding.{Holds, kept_in, optional, own_word, word_bit, inputs_of, some_guess, guess_passes}
-use Rattle.kp_synth_tables.proofs.Places.{has_place}
 use Rattle.kp_synth_close.specs.{Nexts.port_word, Nexts.PortFits, inner.After.CellsAfter, Closed.next_in, Closed.port_in, Closed.Closed}
 use Rattle.kp_synth_close.specs.Shows.{shown_word, row_bits, no_state, ShowsOver, HasWords, ShowsAnew, HoldsFrom}
-use Rattle.kp_pipeline.proofs.{Lists.bits-same, Trimming.row-same, Trimming.cycle-same}
 use Rattle.kp_synth_close.proofs.Bare.{Bare, or_zero, zero_trimmed, bare_start, bare_next, bare_trimmed, absent_trimmed, unset_trimmed}
 use Rattle.kp_synth_close.proofs.{Guesses.some_none, Steps.some_each, Closing.wire_fits, Closing.holds_next}
 

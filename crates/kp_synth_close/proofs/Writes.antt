@@ -1,7 +1,6 @@
 -- What a target takes, by the tables.
 use Rattle.std.proofs.Common.{◌≡◌, ◌∙◌, ℕ, ◌<◌, Bool, true, false, cond, ◌&&◌, ◌==◌, ◌^◌, eqb-true, length, Option, Some, None, refl, sym, ap, subst, arith}
-use Rattle.std.proofs.lemmas.Bool.{le-leb, cond-true}
-use Rattle.std.specs.Prelude.{unwrap_or, nat_le, is_some}
+use Rattle.std.{proofs.lemmas.Bool.le-leb, proofs.lemmas.Bool.cond-true, specs.Prelude.unwrap_or, specs.Prelude.nat_le, specs.Prelude.is_some}
 use Rattle.kp_ast.specs.declared.tree.{Named.Named, ResultDecl.ResultDecl, Job.Job}
 use Rattle.kp_pipeline.specs.Sequential.{first_value, intends}
 use Rattle.kp_pipeline.specs.Pipeline.{PipelineState, Inputs, ue, outcome, next_visible}
@@ -50,13 +49,6 @@ has_port job t port e = let h = of_result job t port (result_for job t) e in rec
 no_result : (job : Job) (t : ℕ) (o : Option ResultDecl) → port_for job t o ≡ None → is_some o ≡ false
 no_result job t None e = refl
 no_result job t (Some r) e = cc
-
--- the result is kept in its write stage
-pub kept_at_write : (job : Job) (t : ℕ) (port : Port) → port_at job t ≡ Some port → is_kept job t port.write ≡ true
-kept_at_write job t port e =
-    let h = has_port job t port e in
-    let l : nat_le port.write (write_stage_of (result_for job t)) ≡ true = le-leb port.write (write_stage_of (result_for job t)) (omega (arith, h.write)) in
-    rw (h.has, l) refl
 
 -- what a target takes
 and_step : (u e b : Bool) → (u && (true && (e && b))) ≡ ((u && e) && b)

@@ -7,32 +7,31 @@ use Rattle.std.specs.{Prelude.codes, Prelude.not, Prelude.◌==◌, Prelude.sum_
 use Rattle.kp_bits.specs.Word.{Word, IsWord}
 use Rattle.kp_ast.specs.declared.tree.{Decl.Decl, Job.Job}
 use Rattle.kp_ast.specs.declared.tree.Decl.TheVariants as decls
-use Rattle.kp_width.specs.{Names.nothing, Widths.widths_of}
-use Rattle.kp_width.proofs.Unbroken.{Unbroken}
+use Rattle.kp_width.{specs.Names.nothing, specs.Widths.widths_of, proofs.Unbroken.Unbroken}
 use Rattle.kp_stage.specs.{Counts.files_in, Stages.broken_of, Start.start_of, Start.IsStartOf, declared.start.Start.Start}
 use Rattle.kp_machine.specs.{Slots.Slot, Slots.targets_of, Slots.samples_of, Slots.is_register, Machine.files_before, Machine.hint_starts}
 use Rattle.kp_machine.proofs.{Apart.samples_apart, Text.declared_right, Widths.Fine, Widths.job_fine}
-use Rattle.kp_net.specs.declared.{node.Node.Node, node.NodeId.NodeId, node.Kind.Kind, netlist.Port.Port, netlist.WritePort.WritePort, netlist.NetReg.NetReg, netlist.NetFile.NetFile}
-use Rattle.kp_net.specs.{declared.netlist.Parts.Parts, Growth.Held, Growth.Wire, Widths.no_node}
-use Rattle.kp_net.specs.declared.node.Kind.TheVariants as kinds
+use Rattle.kp_net.specs.declared.{node.Node.Node, node.NodeId.NodeId, node.Kind.Kind, netlist.Port.Port, netlist.WritePort.WritePort, netlist.NetReg.NetReg}
+use Rattle.kp_net.specs.{declared.netlist.NetFile.NetFile, declared.netlist.Parts.Parts, Growth.Held, Growth.Wire, Widths.no_node}
 use Rattle.kp_net.specs.Parts.{NodeIs, CellOk, AllCells, PortOk, RegOk, WriteOk, FileOk, PartsOk, no_port, no_reg, no_file}
-use Rattle.kp_net.specs.Netlist.{Net}
-use Rattle.kp_net.specs.Names.{Differ, IsSpelled, is_reg_name, is_file_name, is_sample_name, IsNamed}
+use Rattle.kp_net.specs.{Netlist.Net, Names.Differ, Names.IsSpelled, Names.is_reg_name, Names.is_file_name, Names.is_sample_name, Names.IsNamed}
+use Rattle.kp_net.specs.declared.node.Kind.TheVariants as kinds
 use Rattle.kp_synth_tables.specs.declared.key.Key.{Key}
 use Rattle.kp_synth_tables.specs.declared.key.Key.TheVariants.{Visible, Full, Pipe, Value, Guess, Hint}
 use Rattle.kp_synth_tables.specs.Keys.{target_at, sample_at, HasKey, keys_of, key_at, key_width, key_start}
-use Rattle.kp_synth_tables.specs.Fits.{IsWidth, Fits}
-use Rattle.kp_synth_tables.proofs.{Apart.targets_apart, Fitting.fits, Limits.few, Limits.limits, Counting.keys_few, Places.key_had}
+use Rattle.kp_synth_tables.{specs.Fits.IsWidth, specs.Fits.Fits, proofs.Apart.targets_apart, proofs.Fitting.fits, proofs.Limits.few, proofs.Limits.limits}
+use Rattle.kp_synth_tables.proofs.{Counting.keys_few, Places.key_had}
 use Rattle.kp_synth_registers.specs.{declared.outcome.Outcome.Outcome, Meaning.CellFits, Meaning.CellsFit, Meaning.node_at}
-use Rattle.kp_synth_close.specs.{declared.control.RowNodes.RowNodes, Nexts.Closes, Nexts.NextIs, Nexts.port_word, Nexts.PortFits, Nexts.no_node_id, Control.ShowRow}
-use Rattle.kp_synth_close.specs.Closed.{Starts, Closed}
+use Rattle.kp_synth_close.specs.{declared.control.RowNodes.RowNodes, Nexts.Closes, Nexts.NextIs, Nexts.port_word, Nexts.PortFits, Nexts.no_node_id}
+use Rattle.kp_synth_close.specs.{Control.ShowRow, Closed.Starts, Closed.Closed}
 use Rattle.kp_synth_close.specs.Shows.{named_with, reg_slot, file_slot, port_slot, registers_of, files_of, other_names, NamedBy, Shows}
 use Rattle.kp_synth_close.proofs.Whole.{shows_over, words_always, shows_anew, holds_over, holds_anew}
 use Rattle.kp_synth_parts.specs.inner.Built.{no_word, reg_count, file_count, visible_regs, other_reg, other_regs, first_start, net_regs, net_parts, made_net, SpelledReg, SpelledFile, SpelledPort, Spelled}
-use Rattle.kp_synth_parts.proofs.Numbers.{is_file, register_place, file_number, file_found}
 use Rattle.kp_synth_parts.proofs.Making.{zero_plus, visible_named, wide, visible_counted, visible_at, others_counted, others_named, other_at, ports_named, port_at, ports_counted, FileIs, file_at, files_counted, files_named}
+use Rattle.kp_synth_parts.proofs.Numbers.{is_file, register_place, file_number, file_found}
 use Rattle.kp_synth_parts.proofs.Begins.{hints_fit, first_word, regs_given, files_given, WordsFit, words_given, reg_value, file_word}
-use Rattle.kp_synth_parts.proofs.{Spelled.all_spelled, Named.Own, Named.own_apart, Named.own_from, Named.own_filter, Named.led_name, Named.differ_led, Named.differ_both, Named.names_through}
+use Rattle.kp_synth_parts.proofs.Spelled.{all_spelled}
+use Rattle.kp_synth_parts.proofs.Named.{Own, own_apart, own_from, own_filter, led_name, differ_led, differ_both, names_through}
 use Rattle.kp_synth_parts.proofs.Visible.{is_visible, keys_rest, keys_count, key_seen, key_behind}
 
 -- What the netlist is made of.

@@ -10,8 +10,7 @@ use Rattle.kp_ast.specs.declared.widths.NameKind.TheVariants as kinds
 use Rattle.kp_width.specs.Names.{Scoped, nothing, passed, sense, find, declared_text}
 use Rattle.kp_width.specs.Expressions.{is_width, literal_of}
 use Rattle.kp_width.specs.Declarations.{declared, start_of, started_of, after_name, declaration_of, declarations_of, functions_in}
-use Rattle.kp_width.specs.Widths.{widths_of}
-use Rattle.kp_width.proofs.Unbroken.{Unbroken, bind_unbroken, answer_unbroken}
+use Rattle.kp_width.{specs.Widths.widths_of, proofs.Unbroken.Unbroken, proofs.Unbroken.bind_unbroken, proofs.Unbroken.answer_unbroken}
 use Rattle.kp_stage.specs.{Start.AreRegs, Start.AreFiles, declared.start.Start.Start}
 use Rattle.kp_machine.specs.Slots.{Slot, targets_of, hints_of, is_register}
 use Rattle.kp_machine.specs.Machine.{hint_starts, registers_before, files_before, register_words, file_words, target_words, state_of}

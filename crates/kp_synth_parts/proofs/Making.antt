@@ -1,13 +1,11 @@
 -- The registers and files that are made have the names, the widths and the words of the job.
 use Rattle.std.proofs.Common.{◌≡◌, ◌∙◌, ℕ, zero, suc, ◌+◌, ◌-◌, ◌<◌, ◌≤◌, List, [], ◌∷◌, ◌++◌, map, Option, None, false, length, take, drop, get_or, append_assoc, refl, ap, sym, subst, arith}
-use Rattle.std.proofs.{Math.Dec.eqb-suc-zero, lemmas.List.drop_more}
-use Rattle.std.specs.{Prelude.codes, Prelude.decimal, Prelude.◌==◌, List.filter}
+use Rattle.std.{proofs.Math.Dec.eqb-suc-zero, proofs.lemmas.List.drop_more, specs.Prelude.codes, specs.Prelude.decimal, specs.Prelude.◌==◌, specs.List.filter}
 use Rattle.kp_bits.specs.Word.{Word}
 use Rattle.kp_ast.specs.declared.tree.{Decl.Decl, Job.Job}
 use Rattle.kp_ast.specs.declared.tree.Decl.TheVariants as decls
 use Rattle.kp_stage.specs.Start.{AreRegs}
-use Rattle.kp_machine.specs.Slots.{Slot, slot, targets_of, samples_of, is_register}
-use Rattle.kp_machine.proofs.Widths.{Fine}
+use Rattle.kp_machine.{specs.Slots.Slot, specs.Slots.slot, specs.Slots.targets_of, specs.Slots.samples_of, specs.Slots.is_register, proofs.Widths.Fine}
 use Rattle.kp_net.specs.declared.{node.NodeId.NodeId, netlist.WritePort.WritePort, netlist.NetReg.NetReg, netlist.NetFile.NetFile}
 use Rattle.kp_net.specs.Parts.{no_port, no_reg, no_file}
 use Rattle.kp_synth_tables.specs.{declared.key.Key.Key, declared.key.Key.TheVariants.Full, Keys.no_slot, Keys.target_at, Keys.sample_at}

@@ -1,12 +1,9 @@
 -- THE NAMES of the parts: names of the job and numbers, of which no two are one.
 use Rattle.std.proofs.Common.{◌≡◌, ◌∙◌, ℕ, zero, suc, ◌+◌, ◌^◌, ◌<◌, ◌≤◌, List, [], ◌∷◌, ◌++◌, map, Bool, true, false, cond, length, get_or, refl, ap, sym, arith}
-use Rattle.std.proofs.{lemmas.Bool.eq-eqb, lemmas.Bool.false_from_ne_true}
-use Rattle.std.proofs.lemmas.{Fmt.decimal_injective}
+use Rattle.std.proofs.lemmas.{Bool.eq-eqb, Bool.false_from_ne_true, Fmt.decimal_injective}
 use Rattle.std.specs.{Prelude.decimal, Prelude.◌||◌, List.filter}
-use Rattle.kp_machine.proofs.Cases.{by_test}
+use Rattle.kp_machine.{proofs.Cases.by_test, specs.Slots.Slot, proofs.Apart.has_name, proofs.Apart.Apart, proofs.Names.same_name}
 use Rattle.kp_ast.specs.Expressions.{is_same_name}
-use Rattle.kp_machine.specs.Slots.{Slot}
-use Rattle.kp_machine.proofs.{Apart.has_name, Apart.Apart, Names.same_name}
 use Rattle.kp_net.specs.Names.{same, among, Differ}
 use Rattle.kp_synth_tables.specs.Keys.{no_slot}
 use Rattle.kp_synth_close.specs.Shows.{other_names}

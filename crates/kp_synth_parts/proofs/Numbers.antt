@@ -1,10 +1,9 @@
 -- The numbers of registers and files.
 use Rattle.std.proofs.Common.{◌≡◌, ◌∙◌, ℕ, zero, suc, ◌+◌, ◌<◌, ◌≤◌, Bool, true, false, cond, not, List, [], ◌∷◌, ◌++◌, take, length, get_or, refl, ap, subst, arith}
-use Rattle.std.proofs.lemmas.Bool.{eq-eqb, eqb-true, false_from_ne_true}
-use Rattle.std.specs.{List.filter, Prelude.◌==◌}
-use Rattle.kp_machine.proofs.Cases.{by_test}
+use Rattle.std.{proofs.lemmas.Bool.eq-eqb, proofs.lemmas.Bool.eqb-true, proofs.lemmas.Bool.false_from_ne_true, specs.List.filter, specs.Prelude.◌==◌}
+use Rattle.kp_machine.{proofs.Cases.by_test, specs.Slots.Slot, specs.Slots.targets_of, specs.Slots.hints_of, specs.Slots.is_register}
+use Rattle.kp_machine.specs.Machine.{registers_before, files_before}
 use Rattle.kp_ast.specs.declared.tree.Job.{Job}
-use Rattle.kp_machine.specs.{Slots.Slot, Slots.targets_of, Slots.hints_of, Slots.is_register, Machine.registers_before, Machine.files_before}
 use Rattle.kp_synth_tables.specs.declared.key.Key.{Key, TheVariants.Visible}
 use Rattle.kp_synth_tables.specs.Keys.{no_slot, target_at, visible_keys, later_keys, hint_keys, keys_of, place_in, place_of}
 use Rattle.kp_synth_close.specs.Shows.{files_of}

@@ -1,8 +1,7 @@
 -- The names of parts are valid in a text.
 use Rattle.std.proofs.Common.{◌≡◌, ℕ, Bool, ◌&&◌, ◌==◌, ◌+◌, ◌^◌, ◌<◌, ◌%◌, List, [], ◌∷◌, ◌++◌, All, true, length, refl, subst, sym, arith}
 use Rattle.std.proofs.lemmas.List.Elements.{All-nil, All-cons, All-push, All-weaker}
-use Rattle.std.proofs.lemmas.Bool.{le-leb, or_left, or_right}
-use Rattle.std.proofs.lemmas.Fmt.{decimal_by_steps, length-decimal-le, decimal_nonempty}
+use Rattle.std.proofs.lemmas.{Bool.le-leb, Bool.or_left, Bool.or_right, Fmt.decimal_by_steps, Fmt.length-decimal-le, Fmt.decimal_nonempty}
 use Rattle.std.specs.Prelude.{decimal}
 use Rattle.kp_base.specs.Characters.{is_word, is_letter, is_digit}
 use Rattle.kp_ast.specs.Name.{IsName}

@@ -1,6 +1,6 @@
 -- THE KEYS of a job: those of its registers come first, in the order of declaration, and no other key is one of a register.
 use Rattle.std.proofs.Common.{◌≡◌, ◌∙◌, ℕ, zero, suc, ◌+◌, ◌<◌, List, [], ◌∷◌, ◌++◌, Bool, true, false, drop, length, get_or, length-append, refl, ap, sym, subst, arith}
-use Rattle.std.proofs.{Math.Seq.drop-append_seam, lemmas.List.get_or_append_left}
+use Rattle.std.{proofs.Math.Seq.drop-append_seam, proofs.lemmas.List.get_or_append_left, specs.List.AllByRecursion}
 use Rattle.kp_bits.specs.Word.{Word, IsWord}
 use Rattle.kp_ast.specs.declared.tree.{Decl.Decl, Job.Job}
 use Rattle.kp_ast.specs.declared.tree.Decl.TheVariants as decls
@@ -8,13 +8,9 @@ use Rattle.kp_stage.specs.Start.{AreRegs}
 use Rattle.kp_machine.specs.{Slots.Slot, Slots.targets_of, Slots.pipes_of, Slots.hints_of, Slots.is_register, Machine.registers_before}
 use Rattle.kp_machine.proofs.Widths.{Fine}
 use Rattle.kp_synth_tables.specs.Keys.{no_slot, no_guess, guesses_of, visible_keys, pipe_keys, result_keys, stage_keys, stages_keys, later_keys, hint_keys, keys_of, key_at}
-use Rattle.kp_synth_tables.specs.declared.key.Key.{Key}
-use Rattle.kp_synth_tables.specs.declared.key.Key.TheVariants.{Visible, Full}
-use Rattle.std.specs.List.{AllByRecursion}
-use Rattle.kp_synth_tables.proofs.Fitting.{all_at}
-use Rattle.kp_synth_tables.proofs.Listed.{pipes, results, guesses, hints, each_both, each}
-use Rattle.kp_synth_parts.specs.inner.Built.{no_word, reg_count}
-use Rattle.kp_synth_parts.proofs.Making.{not_zero}
+use Rattle.kp_synth_tables.specs.declared.key.Key.{Key, TheVariants.Visible, TheVariants.Full}
+use Rattle.kp_synth_tables.proofs.{Fitting.all_at, Listed.pipes, Listed.results, Listed.guesses, Listed.hints, Listed.each_both, Listed.each}
+use Rattle.kp_synth_parts.{specs.inner.Built.no_word, specs.inner.Built.reg_count, proofs.Making.not_zero}
 
 visible_count : (t : ℕ) (ds : List Decl) → Fine ds → length (visible_keys t (targets_of ds)) ≡ reg_count ds
 visible_count t [] f = refl

@@ -1,13 +1,11 @@
 -- What a stage forwards to the reads below it, and what the stage below it sees.
 use Rattle.std.proofs.Common.{◌≡◌, ◌∙◌, ℕ, suc, ◌+◌, ◌<◌, ◌≤◌, ◌^◌, Bool, true, false, cond, not, ◌&&◌, ◌||◌, List, ◌∷◌, length, Option, Some, None, refl, sym, ap, arith, ⊎_elim}
-use Rattle.std.proofs.lemmas.Option.{slice_get_cases}
-use Rattle.std.specs.Prelude.{slice_get}
+use Rattle.std.{proofs.lemmas.Option.slice_get_cases, specs.Prelude.slice_get}
 use Rattle.kp_ast.specs.declared.tree.Job.{Job}
 use Rattle.kp_pipeline.specs.Pipeline.{PipelineState, Inputs, above, hits, is_candidate, candidate_hits, intent_known, forwarded, ok_value}
-use Rattle.kp_pipeline.specs.Sequential.{intends}
+use Rattle.kp_pipeline.{specs.Sequential.intends, proofs.Cycle.truth-in}
 use Rattle.kp_fwd.specs.Forward.{enable_on, set_on, set_value as number_of_set}
 use Rattle.kp_synth_registers.specs.{declared.outcome.Set.Set, Meaning.IsTest, Meaning.set_value, Holding.Holds, Holding.optional}
-use Rattle.kp_pipeline.proofs.Cycle.{truth-in}
 use Rattle.kp_machine.specs.{Machine.machine_of, Slots.targets_of}
 use Rattle.kp_net.specs.{declared.node.NodeId.NodeId, Nodes.Cells, Nodes.at, Nodes.on, Growth.Held, Growth.Kept}
 use Rattle.kp_synth_tables.specs.Keys.{target_at}
@@ -15,18 +13,6 @@ use Rattle.kp_synth_stage.specs.declared.row.{Row.Row, Own.Own, Source.Source}
 use Rattle.kp_synth_stage.specs.Rows.{row_hits, address_is, rows_view, own_value, source_view, view_of, SourceOk, Sees}
 use Rattle.kp_synth_stage.proofs.Nearest.{source_view_kept}
 use Rattle.kp_synth_pipeline.specs.inner.Seeing.{SeesAbove, RowMeans, Nearer}
-
--- a value of a hit, by the bits that its node is made of
-pub ok_bits : (known valid now late halt : Bool) (x y : ℕ) → (now ≡ false → y ≡ 0)
-    → optional (known && (valid || ((not valid && (now || late)) && not halt))) (cond valid x y) ≡ ok_value known (optional valid x) halt (optional now y) late
-ok_bits false v n l h x y z = refl
-ok_bits true true n l h x y z = refl
-ok_bits true false true l true x y z = refl
-ok_bits true false true l false x y z = refl
-ok_bits true false false true true x y z = refl
-ok_bits true false false true false x y z = ap (λ (v : ℕ). Some v) (z refl)
-ok_bits true false false false true x y z = refl
-ok_bits true false false false false x y z = refl
 
 -- a row in front of those of the stages above
 pub nearer_row : (job : Job) (k t : ℕ) (p q : Held) (m : ℕ) (s s' : Source) (r : Row) → Kept p q m → SourceOk job p t s → is_candidate (machine_of job) k t ≡ true → RowMeans job q r k t
@@ -81,19 +67,6 @@ sees_down job k p q ss ss' b n n' sees near = λ c st i h t a l m.
     next_view job c p q (above (machine_of job) st i (suc k)).truth (above (machine_of job) st i k).truth t a
     (candidate_hits (machine_of job) st (suc k) t a) (forwarded (machine_of job) st i (suc k) t) (slice_get ss t) (slice_get ss' t) x y
     (sees c st i h t a l m) (near t x.0 y.0 x.1 y.1 c st i h a m) (truth-in (machine_of job) st i k t a (stages_are job (suc k) b))
-
--- a set as a pair of nodes
-abbrev pub pair_in : Option Set → Option (NodeId × NodeId)
-pair_in None = None
-pair_in (Some s) = Some (s.enabled, s.value)
-
-pub pair_value : (c : Cells) (p : Held) (s : Option Set) (r : Option (NodeId × NodeId)) → r ≡ pair_in s → optional (set_on c p r) (number_of_set c p r) ≡ set_value c p s
-pair_value c p None r e = ap (λ (x : Option (NodeId × NodeId)). optional (set_on c p x) (number_of_set c p x)) e
-pair_value c p (Some s) r e = ap (λ (x : Option (NodeId × NodeId)). optional (set_on c p x) (number_of_set c p x)) e ∙ chosen (on c p.nodes s.enabled.0) (at c p.nodes s.value.0)
-  where
-    chosen : (b : Bool) (v : ℕ) → optional b (cond b v 0) ≡ optional b v
-    chosen true v = refl
-    chosen false v = refl
 
 -- a row from its parts
 pub row_means : (job : Job) (k t : ℕ) (q : Held) (r : Row) → r.known ≡ intent_known (machine_of job) k t

@@ -5,8 +5,7 @@ use Rattle.std.proofs.lemmas.Bool.{cases_lt, cases_Bool, cond-true, cond-false}
 use Rattle.std.specs.{Prelude.slice_get, List.filter}
 use Rattle.kp_bits.specs.Word as bits
 use Rattle.kp_ast.specs.declared.tree.Job.{Job}
-use Rattle.kp_pipeline.specs.Pipeline.{PipelineState, Inputs}
-use Rattle.kp_pipeline.proofs.Cycle.{truth-top}
+use Rattle.kp_pipeline.{specs.Pipeline.PipelineState, specs.Pipeline.Inputs, proofs.Cycle.truth-top}
 use Rattle.kp_machine.specs.Slots.{Slot, targets_of, hints_of, is_register}
 use Rattle.kp_machine.specs.Machine.{machine_of, registers_before, files_before}
 use Rattle.kp_net.specs.{declared.node.NodeId.NodeId, Nodes.Cells, Nodes.word_at, Nodes.at, Growth.Held, Growth.Wire, Growth.Kept}
@@ -14,8 +13,7 @@ use Rattle.kp_net.proofs.Growing.{wire_kept}
 use Rattle.kp_synth_tables.specs.{declared.key.Key.TheVariants.Visible, declared.key.Key.TheVariants.Hint, Keys.no_slot, Keys.target_at}
 use Rattle.kp_synth_tables.specs.Fits.{IsWidth, Fits}
 use Rattle.kp_synth_registers.specs.{declared.registers.Reads.Reads, Holding.Holds, Holding.kept_in, Holding.own_word}
-use Rattle.kp_synth_registers.specs.Meaning.{IsTest, Gives, Ready, node_at}
-use Rattle.kp_synth_registers.proofs.Growth.{gives_kept}
+use Rattle.kp_synth_registers.{specs.Meaning.IsTest, specs.Meaning.Gives, specs.Meaning.Ready, specs.Meaning.node_at, proofs.Growth.gives_kept}
 use Rattle.kp_synth_stage.specs.declared.row.{Own.TheVariants.Register, Own.TheVariants.File, Row.Row, Source.Source}
 use Rattle.kp_synth_stage.specs.Rows.{Sees, view_of, rows_view, own_value, OwnOk, RowsOk, SourcesOk}
 use Rattle.kp_synth_pipeline.specs.inner.{Seeing.SeesAbove, Whole.Few, Whole.OwnMeans, Whole.Bare}
@@ -72,44 +70,6 @@ unfolding OwnMeans own_word
 file_means job p t f l r e = λ c st i h a m.
     ap (λ x. c.word x a % 2 ^ (target_at job t).width) e
     ∙ sym (cond-false (is_register (target_at job t)) (kept_in job c (Visible t)) (c.word (files_before (targets_of job.decls) t) a % 2 ^ (target_at job t).width) r) ∙ h.visible t a l m
-
-pub bare_is : (job : Job) (p : Held) (t : ℕ) (s : Source) → Fits job → s.width ≡ (target_at job t).width → IsWidth s.width → OwnOk job p t s.own → OwnMeans job p t (target_at job t).width s.own → s.rows.items ≡ []
-    → Bare job p t s
-bare_is job p t s fits w width own means rows = record {
-  ok = record {
-    width = w;
-    positive = width.positive;
-    at_most = width.at_most;
-    own = own;
-    rows = subst (λ (xs : List Row). RowsOk p (target_at job t).address (target_at job t).width xs) (sym rows) tt;
-    few = subst (λ (xs : List Row). length xs + 1 ≤ job.stages.value) (sym rows) (omega (arith, fits.at_least));
-    stages = fits.at_most;
-  };
-  rows = rows;
-  own = subst (λ v. OwnMeans job p t v s.own) (sym w) means;
-}
-
--- registers are counted
-registers_more : (ss : List Slot) (t : ℕ) → t < length ss → length (filter is_register (take (suc t) ss)) ≡ cond (is_register (get_or ss t no_slot)) (length (filter is_register (take t ss)) + 1) (length (filter is_register (take t ss)))
-registers_more [] t l = absurd (omega arith)
-registers_more (s ∷ ss) zero l = ⊎_elim
-    (λ (b : is_register s ≡ true). rw b refl)
-    (λ (b : is_register s ≡ false). rw b refl)
-    (cases_Bool (is_register s))
-registers_more (s ∷ ss) (suc t) l =
-    let more = registers_more ss t (omega arith) in
-    let z : (n m : ℕ) (b : Bool) → suc (cond b (n + 1) n) ≡ cond b (suc n + 1) (suc n) = λ n m b. ⊎_elim (λ (e : b ≡ true). rw e (omega arith)) (λ (e : b ≡ false). rw e refl) (cases_Bool b) in
-    ⊎_elim
-    (λ (b : is_register s ≡ true). rw b (ap suc more ∙ z (length (filter is_register (take t ss))) 0 (is_register (get_or ss t no_slot))))
-    (λ (b : is_register s ≡ false). rw b more)
-    (cases_Bool (is_register s))
-
-pub registers_then : (job : Job) (t : ℕ) → t < length (targets_of job.decls) → (b : Bool) → is_register (target_at job t) ≡ b
-    → registers_before (targets_of job.decls) (t + 1) ≡ cond b (registers_before (targets_of job.decls) t + 1) (registers_before (targets_of job.decls) t)
-registers_then job t l b e =
-    let z : t + 1 ≡ suc t = omega arith in
-    ap (registers_before (targets_of job.decls)) z ∙ registers_more (targets_of job.decls) t l
-    ∙ ap (λ x. cond x (registers_before (targets_of job.decls) t + 1) (registers_before (targets_of job.decls) t)) e
 
 -- the first targets
 unfoldable pub AllBare : Job → Held → List Source → Type 0

@@ -10,8 +10,8 @@ use Rattle.kp_synth_registers.specs.{Meaning.IsTest, Meaning.Says, Meaning.Added
 use Rattle.kp_synth_registers.proofs.Growth.{added_then, added_more}
 use Rattle.kp_synth_stage.specs.{declared.row.Source.Source, Rows.SourcesOk}
 use Rattle.kp_synth_pipeline.specs.inner.{Seeing.SeesAbove, Seeing.Nearer, Whole.Few, Whole.AllNearer, Descending.Faces, Descending.SayFrom}
-use Rattle.kp_synth_pipeline.specs.Stages.{no_outcome, own_room, stage_room, stages_room}
-use Rattle.kp_synth_pipeline.proofs.{Downward.sees_down, Spoken.stall_higher, Spoken.stall_none, Spoken.say_at}
+use Rattle.kp_synth_pipeline.{specs.Stages.no_outcome, specs.Stages.own_room, specs.Stages.stage_room, specs.Stages.stages_room, proofs.Downward.sees_down}
+use Rattle.kp_synth_pipeline.proofs.Spoken.{stall_higher, stall_none, say_at}
 
 get_small : (ss : List Source) (t : ℕ) (s : Source) → slice_get ss t ≡ Some s → t < length ss
 get_small ss t s e = ⊎_elim (λ a. a.1) (λ a. let n = a.1 in cc) (slice_get_cases ss t).1

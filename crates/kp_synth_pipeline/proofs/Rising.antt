@@ -1,14 +1,12 @@
 -- The rows of all targets, of which the first are done.
 use Rattle.std.proofs.Common.{◌≡◌, ◌∙◌, ℕ, zero, suc, ◌+◌, ◌<◌, ◌≤◌, cond, List, [], ◌∷◌, length, get_or, slice_set, Option, Some, None, refl, sym, ap, subst, arith, ◌⊎◌, inl, inr, ⊎_elim}
-use Rattle.std.proofs.lemmas.Bool.{cases_eq}
-use Rattle.std.specs.Prelude.{slice_get}
+use Rattle.std.{proofs.lemmas.Bool.cases_eq, specs.Prelude.slice_get}
 use Rattle.kp_ast.specs.declared.tree.Job.{Job}
 use Rattle.kp_pipeline.specs.Pipeline.{candidate_hits, forwarded}
 use Rattle.kp_machine.specs.{Machine.machine_of, Slots.targets_of}
 use Rattle.kp_net.specs.Growth.{Held, Kept}
-use Rattle.kp_synth_registers.specs.declared.outcome.Set.{Set}
+use Rattle.kp_synth_registers.{specs.declared.outcome.Set.Set, proofs.Growth.set_kept}
 use Rattle.kp_synth_tables.specs.Keys.{target_at}
-use Rattle.kp_synth_registers.proofs.Growth.{set_kept}
 use Rattle.kp_synth_stage.specs.{declared.row.Source.Source, Rows.SourceOk, Rows.SourcesOk}
 use Rattle.kp_synth_stage.proofs.Nearest.{source_kept, source_view_kept}
 use Rattle.kp_synth_pipeline.specs.inner.{Seeing.Nearer, Whole.Few, Whole.AllNearer, Whole.SetMeans, Whole.SetsMean}

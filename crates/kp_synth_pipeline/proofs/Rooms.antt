@@ -6,20 +6,16 @@ use Rattle.kp_ast.specs.{Expressions.is_same_name, declared.tree.ResultDecl.Resu
 use Rattle.kp_ast.specs.declared.tree.{StmtKind.StmtKind, Block.Block, Job.Job}
 use Rattle.kp_ast.specs.declared.tree.Decl.TheVariants as decls
 use Rattle.kp_ast.specs.declared.tree.StmtKind.TheVariants as stmts
-use Rattle.kp_width.specs.Widths.{widths_of}
-use Rattle.kp_width.proofs.Unbroken.{Unbroken}
+use Rattle.kp_width.{specs.Widths.widths_of, proofs.Unbroken.Unbroken}
 use Rattle.kp_stage.specs.{Facts.stmts_in, Uses.sets, Counts.results_in, Counts.reads_of, Counts.reads_in, Counts.summary_of}
-use Rattle.kp_stage.specs.{Sizes.size_of_stmt, Sizes.size_of_block, Stages.broken_of}
-use Rattle.kp_stage.proofs.Placed.{set_once}
-use Rattle.kp_machine.specs.Slots.{targets_of, pipes_of, hints_of, result_named}
-use Rattle.kp_machine.proofs.{Cases.by_test, Stages.stages_inside}
-use Rattle.kp_synth_tables.specs.Keys.{guesses_of}
-use Rattle.kp_synth_tables.proofs.{Fitting.fits, Limits.targets_counted, Limits.pipes_counted, Limits.hints_counted, Limits.guesses_counted}
-use Rattle.kp_synth_stage.specs.Work.{stmts_at, extra_of, cost_of, costs_of}
-use Rattle.kp_synth_stage.specs.inner.Standing.{StmtRight}
+use Rattle.kp_stage.{specs.Sizes.size_of_stmt, specs.Sizes.size_of_block, specs.Stages.broken_of, proofs.Placed.set_once}
+use Rattle.kp_machine.{specs.Slots.targets_of, specs.Slots.pipes_of, specs.Slots.hints_of, specs.Slots.result_named, proofs.Cases.by_test}
+use Rattle.kp_machine.proofs.Stages.{stages_inside}
+use Rattle.kp_synth_tables.{specs.Keys.guesses_of, proofs.Fitting.fits}
+use Rattle.kp_synth_tables.proofs.Limits.{targets_counted, pipes_counted, hints_counted, guesses_counted}
+use Rattle.kp_synth_stage.specs.{Work.stmts_at, Work.extra_of, Work.cost_of, Work.costs_of, inner.Standing.StmtRight}
 use Rattle.kp_synth_stage.proofs.{Scoping.is_right, Setting.set_right}
-use Rattle.kp_synth_pipeline.specs.Stages.{guess_room, stages_room}
-use Rattle.kp_synth_pipeline.proofs.Rules.{StandFrom, stand_next, stand_here}
+use Rattle.kp_synth_pipeline.{specs.Stages.guess_room, specs.Stages.stages_room, proofs.Rules.StandFrom, proofs.Rules.stand_next, proofs.Rules.stand_here}
 
 -- THE SETS of a stage are no more than the results: no two are of one result
 abbrev one : Bool → ℕ

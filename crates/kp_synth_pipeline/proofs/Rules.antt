@@ -3,18 +3,15 @@ use Rattle.std.proofs.Common.{◌≡◌, ◌∙◌, ℕ, zero, suc, ◌+◌, ◌
 use Rattle.std.specs.{Prelude.slice_get, List.AllByRecursion}
 use Rattle.kp_ast.specs.declared.tree.{ReadStmt.ReadStmt, Expr.Expr, Stmt.Stmt, StmtKind.StmtKind, Block.Block, Job.Job}
 use Rattle.kp_ast.specs.declared.tree.StmtKind.TheVariants as stmts
-use Rattle.kp_width.specs.Widths.{widths_of}
-use Rattle.kp_width.proofs.Unbroken.{Unbroken}
+use Rattle.kp_width.{specs.Widths.widths_of, proofs.Unbroken.Unbroken}
 use Rattle.kp_stage.specs.{Facts.stmts_in, Stages.broken_of, Design.Plan, Design.IsSound}
 use Rattle.kp_pipeline.proofs.Lists.{all-append}
-use Rattle.kp_machine.specs.Slots.{targets_of}
-use Rattle.kp_machine.proofs.Stages.{stages_inside}
+use Rattle.kp_machine.{specs.Slots.targets_of, proofs.Stages.stages_inside}
 use Rattle.kp_synth_tables.specs.declared.key.GuessSlot.{GuessSlot}
 use Rattle.kp_synth_tables.specs.Keys.{target_at, no_guess, guess_slot, with_read, with_guess, guesses_in, guesses_from, guesses_of}
-use Rattle.kp_synth_stage.specs.Work.{stmts_at}
 use Rattle.kp_synth_tables.proofs.Fitting.{width_there}
-use Rattle.kp_synth_stage.specs.inner.Standing.{StmtRight}
-use Rattle.kp_synth_stage.proofs.{Scoping.is_right, Taking.ReadRight, Taking.Asks, Taking.read_right}
+use Rattle.kp_synth_stage.{specs.Work.stmts_at, specs.inner.Standing.StmtRight, proofs.Scoping.is_right}
+use Rattle.kp_synth_stage.proofs.Taking.{ReadRight, Asks, read_right}
 use Rattle.kp_synth_pipeline.specs.inner.Whole.{GuessOk, GuessesOk, RulesGive}
 
 -- each entry of a list

@@ -1,16 +1,12 @@
 -- The outcome of a stage, from what its nodes mean.
 use Rattle.std.proofs.Common.{◌≡◌, ◌∙◌, ℕ, zero, suc, ◌+◌, ◌<◌, List, [], ◌∷◌, length, get_or, false, sym, subst, arith}
 use Rattle.kp_ast.specs.declared.tree.Job.{Job}
-use Rattle.kp_pipeline.specs.Pipeline.{above, stall, mismatches}
-use Rattle.kp_pipeline.proofs.Cycle.{stall-above, stall-top}
+use Rattle.kp_pipeline.{specs.Pipeline.above, specs.Pipeline.stall, specs.Pipeline.mismatches, proofs.Cycle.stall-above, proofs.Cycle.stall-top}
 use Rattle.kp_machine.specs.{Machine.machine_of, Slots.Slot, Slots.pipes_of, Slots.hints_of, Slots.samples_of}
-use Rattle.kp_net.specs.{declared.node.NodeId.NodeId, Growth.Held, Growth.Wire, Growth.Kept}
-use Rattle.kp_net.proofs.Growing.{wire_kept}
+use Rattle.kp_net.{specs.declared.node.NodeId.NodeId, specs.Growth.Held, specs.Growth.Wire, specs.Growth.Kept, proofs.Growing.wire_kept}
 use Rattle.kp_synth_registers.specs.{declared.outcome.Outcome.Outcome, Meaning.Ready, Meaning.IsTest, Meaning.Says, Meaning.guesses_at, Meaning.node_at}
-use Rattle.kp_synth_registers.specs.declared.registers.Reads.{Reads}
-use Rattle.kp_synth_registers.proofs.Growth.{test_kept, gives_kept, says_kept}
-use Rattle.kp_synth_stage.specs.{declared.row.Source.Source, declared.work.Work.Work, Work.Fits, Work.SlotsHave}
-use Rattle.kp_synth_stage.proofs.Nearest.{sources_kept}
+use Rattle.kp_synth_registers.{specs.declared.registers.Reads.Reads, proofs.Growth.test_kept, proofs.Growth.gives_kept, proofs.Growth.says_kept}
+use Rattle.kp_synth_stage.{specs.declared.row.Source.Source, specs.declared.work.Work.Work, specs.Work.Fits, specs.Work.SlotsHave, proofs.Nearest.sources_kept}
 use Rattle.kp_synth_pipeline.specs.{declared.staging.Entered.Entered, inner.Seeing.PipesIn, inner.Seeing.SamplesIn, inner.Seeing.HintsIn, inner.Seeing.Computes}
 use Rattle.kp_synth_pipeline.specs.inner.{Whole.SetMeans, Whole.SetsMean, Descending.EnteredOk, Descending.Faces, Descending.SayFrom}
 use Rattle.kp_synth_pipeline.proofs.{Downward.stages_are, Downward.stages_end, Stalling.sees_above_kept}

@@ -1,15 +1,15 @@
 -- Nodes that read cells.
 use Rattle.std.proofs.Common.{◌≡◌, ◌∙◌, ℕ, ◌+◌, ◌%◌, ◌^◌, ◌<◌, ◌≤◌, List, [], ◌∷◌, ◌++◌, length, length-append, sym, ap, subst, arith, ⊎_elim}
 use Rattle.std.proofs.{Math.ListN.get_or-append, Math.Seq.get_or-append_seam, lemmas.Bool.cases_lt, lemmas.Bool.cond-false}
-use Rattle.kp_bits.specs.Word as bits
 use Rattle.std.specs.Prelude.{false}
+use Rattle.kp_bits.specs.Word as bits
 use Rattle.kp_ast.specs.declared.tree.Job.{Job}
 use Rattle.kp_pipeline.specs.Pipeline.{PipelineState, Inputs}
 use Rattle.kp_machine.specs.{Slots.targets_of, Slots.samples_of, Slots.is_register, Machine.files_before}
 use Rattle.kp_net.specs.{declared.node.NodeId.NodeId, Nodes.Cells, Nodes.word_of_node, Nodes.word_at, Nodes.at}
-use Rattle.kp_net.specs.Growth.{Held, Wire, Kept, AddsOnly}
+use Rattle.kp_net.{specs.Growth.Held, specs.Growth.Wire, specs.Growth.Kept, specs.Growth.AddsOnly, proofs.Growing.wire_kept, proofs.Growing.kept_then}
+use Rattle.kp_net.proofs.Values.{at_fits}
 use Rattle.kp_net.specs.declared.node.Kind.TheVariants as kinds
-use Rattle.kp_net.proofs.{Growing.wire_kept, Growing.kept_then, Values.at_fits}
 use Rattle.kp_synth_tables.specs.{declared.key.Key.TheVariants.Visible, Keys.key_width, Keys.key_at, Keys.keys_of, Keys.target_at, Keys.sample_at}
 use Rattle.kp_synth_registers.specs.{Holding.Holds, Holding.kept_in, Holding.own_word, declared.registers.Reads.Reads}
 use Rattle.kp_synth_registers.specs.{Meaning.Gives, Meaning.node_at, Meaning.Added, Meaning.Ready, inner.First.FirstRead, inner.First.FirstSamples}

@@ -5,8 +5,8 @@ use Rattle.kp_ast.specs.declared.tree.Job.{Job}
 use Rattle.kp_pipeline.specs.Pipeline.{PipelineState, Inputs}
 use Rattle.kp_net.specs.{declared.node.NodeId.NodeId, declared.node.Node.Node, declared.node.Kind.Kind, Nodes.Cells, Nodes.at, Nodes.on}
 use Rattle.kp_net.specs.{Widths.no_node, Widths.is_cell, Growth.Held, Growth.Wire, Growth.Kept, Growth.Grown, Growth.AddsOnly}
-use Rattle.kp_net.specs.declared.node.Kind.TheVariants as kinds
 use Rattle.kp_net.proofs.Growing.{wire_kept, kept_then, kept_more}
+use Rattle.kp_net.specs.declared.node.Kind.TheVariants as kinds
 use Rattle.kp_synth_registers.specs.Meaning.{IsTest, Gives, MayGive, node_at, CellFits, CellsFit, Added, Ready, Says, put_value, set_value, guess_value, made_values, PutFits, SetFits, MadeFit}
 use Rattle.kp_synth_registers.specs.declared.{outcome.Set.Set, outcome.Made.Made, outcome.Outcome.Outcome, registers.Reads.Reads}
 use Rattle.kp_synth_registers.specs.Holding.{optional, pending_guess}

@@ -3,8 +3,7 @@ use Rattle.std.proofs.Common.{◌≡◌, ◌∙◌, ℕ, suc, ◌+◌, ◌<◌, 
 use Rattle.std.proofs.lemmas.Bool.{cases_Bool, cases_lt, cond-true, cond-false, false≢true}
 use Rattle.std.proofs.lemmas.List.{get_or_past, drop-map, length-append, length-drop, length-map, Elements.All-nil, Elements.All-cons}
 use Rattle.kp_ast.specs.declared.tree.Job.{Job}
-use Rattle.kp_pipeline.specs.{Pipeline.pipeline_start, Rows.Row, Rows.pipe}
-use Rattle.kp_pipeline.proofs.Taken.{rows-length}
+use Rattle.kp_pipeline.{specs.Pipeline.pipeline_start, specs.Rows.Row, specs.Rows.pipe, proofs.Taken.rows-length}
 use Rattle.kp_stage.specs.Start.{start_of}
 use Rattle.kp_machine.specs.{Machine.machine_of, Machine.state_of, Machine.start_hints, Slots.targets_of, Slots.is_register}
 use Rattle.kp_net.specs.Netlist.{Net, Input, State, start_of as net_start, state_after, states_from, rows_from, last_of}

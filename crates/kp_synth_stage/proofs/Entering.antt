@@ -1,7 +1,6 @@
 -- A stage as it is entered: the names of the pipes, of the samples and of the hints.
 use Rattle.std.proofs.Common.{◌≡◌, ◌∙◌, ℕ, zero, suc, ◌+◌, ◌<◌, List, [], ◌∷◌, ◌++◌, length, get_or, replicate, Option, Some, None, Bool, true, false, cond, refl, ap, sym, subst, arith}
-use Rattle.std.proofs.lemmas.List.{length-replicate}
-use Rattle.std.specs.{Option.option_map, Cmp.Lexicographic.bytes_decides}
+use Rattle.std.{proofs.lemmas.List.length-replicate, specs.Option.option_map, specs.Cmp.Lexicographic.bytes_decides}
 use Rattle.kp_bits.specs.Word.{word}
 use Rattle.kp_ast.specs.{Expressions.is_same_name, declared.tree.Decl.Decl, declared.tree.Job.Job, declared.widths.NameKind.NameKind}
 use Rattle.kp_ast.specs.Expressions as values
@@ -11,21 +10,19 @@ use Rattle.kp_width.specs.Names.{Sense, Scoped, Names, nothing, look_up, find, i
 use Rattle.kp_width.specs.{Declarations.declaration_of, Declarations.declarations_of, Declarations.functions_in, Widths.widths_of}
 use Rattle.kp_width.proofs.{Unbroken.Unbroken, Unbroken.bind_unbroken, Calls.is_of_text}
 use Rattle.kp_machine.specs.Slots.{Slot, pipes_of, hints_of, samples_of, number_of, words_from, words_of, targets_of}
-use Rattle.kp_machine.proofs.Apart.{has_name, IsOfKind, pipe_named, sample_named}
-use Rattle.kp_machine.proofs.{Names.IsIn, Scopes.IsSlot, Scopes.is_sample, Scopes.sense_of, Scopes.stays, Scopes.text_has, Text.declared_right}
+use Rattle.kp_machine.proofs.{Apart.has_name, Apart.IsOfKind, Apart.pipe_named, Apart.sample_named, Names.IsIn}
+use Rattle.kp_machine.proofs.{Scopes.IsSlot, Scopes.is_sample, Scopes.sense_of, Scopes.stays, Scopes.text_has, Text.declared_right}
 use Rattle.kp_machine.proofs.{LookUp.or_else, LookUp.look_up-append, Cases.by_test}
 use Rattle.kp_net.specs.{declared.node.NodeId.NodeId, Nodes.Cells, Nodes.word_at, Nodes.at, Nodes.on, Growth.Held, Growth.Wire, Growth.Kept}
 use Rattle.kp_net.proofs.{Values.word_is, Growing.wire_kept}
-use Rattle.kp_build.specs.Names.{Nodes, node_of, Scope, word_of}
-use Rattle.kp_synth_tables.proofs.Fitting.{width_there}
-use Rattle.kp_synth_tables.specs.Keys.{no_slot, pipe_at, hint_at, target_at}
+use Rattle.kp_build.{specs.Names.Nodes, specs.Names.node_of, specs.Names.Scope, specs.Names.word_of, proofs.Names.node_with}
+use Rattle.kp_synth_tables.{proofs.Fitting.width_there, specs.Keys.no_slot, specs.Keys.pipe_at, specs.Keys.hint_at, specs.Keys.target_at}
 use Rattle.kp_synth_registers.specs.Meaning.{node_at, PutFits, SetFits, MadeFit, put_value, set_value, made_values}
 use Rattle.kp_synth_stage.specs.inner.Scopes.{declared, scope_at, is_bound, is_value, Binds, Bound}
 use Rattle.kp_synth_stage.specs.inner.Standing.{names_with, env_of, WorkOk, Stands, Enters, slots_at}
-use Rattle.kp_synth_stage.specs.{Work.NodesHave, Work.SlotsHave, declared.work.Work.Work}
+use Rattle.kp_synth_stage.{specs.Work.NodesHave, specs.Work.SlotsHave, specs.declared.work.Work.Work, proofs.Scoping.scope_text, proofs.Scoping.scope_start}
+use Rattle.kp_synth_stage.proofs.Expressions.{placed_in, text_kind}
 use Rattle.kp_synth_stage.specs.inner.Standing as work
-use Rattle.kp_synth_stage.proofs.{Scoping.scope_text, Scoping.scope_start, Expressions.placed_in, Expressions.text_kind}
-use Rattle.kp_build.proofs.Names.{node_with}
 
 -- a name among slots
 pub name_in : (ss : List Slot) (q : List ℕ) → has_name ss q ≡ true → number_of ss q < length ss

@@ -12,15 +12,15 @@ use Rattle.kp_width.specs.Names.{Sense, Names, Scoped, look_up, find, is_value_i
 use Rattle.kp_width.specs.{Expressions.width_of, Expressions.params_of, Widths.widths_of, Soundness.HasWidth, Soundness.AreArguments}
 use Rattle.kp_width.proofs.{Unbroken.Unbroken, Calls.is_of_text, Found.Found, Found.Meets, Found.found, Found.no_answer}
 use Rattle.kp_stage.specs.{Facts.facts_of, declared.rules.Rule.Rule, Rules.ask_name, Rules.ask_expr}
-use Rattle.kp_machine.specs.Slots.{hints_of, words_of}
-use Rattle.kp_machine.proofs.{Scopes.Placed, Text.local_no, Text.found_where, Text.no_hint, Text.same_question, Text.placed, Text.calls_open}
+use Rattle.kp_machine.{specs.Slots.hints_of, specs.Slots.words_of, proofs.Scopes.Placed}
+use Rattle.kp_machine.proofs.Text.{local_no, found_where, no_hint, same_question, placed, calls_open}
 use Rattle.kp_net.specs.{declared.node.NodeId.NodeId, Nodes.Cells, Nodes.word_at, Nodes.at, Widths.wide, Widths.AllRight, Growth.Held, Growth.Wire}
 use Rattle.kp_net.proofs.Values.{word_is, word_wide, at_fits}
 use Rattle.kp_build.proofs.Fitting.{no_cells}
 use Rattle.kp_build.specs.Names.{Scope, node_of, word_of, known_at, IsSound, Gives}
 use Rattle.kp_synth_stage.specs.inner.Scopes.{declared, scope_at, is_bound, is_value, Binds, Bound}
-use Rattle.kp_synth_stage.specs.inner.Standing as work
 use Rattle.kp_synth_stage.proofs.Scoping.{scope_text, scope_here, scope_locals}
+use Rattle.kp_synth_stage.specs.inner.Standing as work
 
 -- what a name of the text names
 pub placed_in : (job : Job) → Unbroken (widths_of job) → (q : List ℕ) (m : Sense) → look_up (declared job).text q ≡ Some m → Placed job.decls q m

@@ -1,7 +1,6 @@
 -- The statements of a stage, in order.
 use Rattle.std.proofs.Common.{◌≡◌, ◌∙◌, ℕ, zero, suc, ◌+◌, List, [], ◌∷◌, ◌++◌, take, length, Some, ap, sym, subst, arith}
-use Rattle.std.proofs.lemmas.List.{Sums.fold-append, take_all}
-use Rattle.std.specs.Prelude.{slice_get}
+use Rattle.std.{proofs.lemmas.List.Sums.fold-append, proofs.lemmas.List.take_all, specs.Prelude.slice_get}
 use Rattle.kp_machine.specs.{Machine.stage_tree, Trees.entered}
 use Rattle.kp_synth_registers.specs.Meaning.{guesses_at}
 use Rattle.kp_synth_tables.specs.Keys.{guesses_in}

@@ -1,7 +1,6 @@
 -- A read: the state of the stage after it.
 use Rattle.std.proofs.Common.{◌≡◌, ◌∙◌, ℕ, zero, suc, ◌+◌, ◌<◌, ◌≤◌, List, [], ◌∷◌, ◌++◌, length, Option, Some, None, Bool, true, false, cond, not, ◌||◌, ◌&&◌, refl, ap, sym, subst, arith}
-use Rattle.std.proofs.lemmas.List.{append-nil}
-use Rattle.std.specs.{Prelude.slice_get, Prelude.is_some, Global.Vec}
+use Rattle.std.{proofs.lemmas.List.append-nil, specs.Prelude.slice_get, specs.Prelude.is_some, specs.Global.Vec}
 use Rattle.kp_bits.specs.Word.{word}
 use Rattle.kp_ast.specs.declared.tree.{Expr.Expr, ReadStmt.ReadStmt, Job.Job}
 use Rattle.kp_ast.specs.declared.tree.StmtKind.TheVariants as stmts
@@ -13,15 +12,15 @@ use Rattle.kp_pipeline.specs.Sequential.{PendingGuess}
 use Rattle.kp_net.specs.{declared.node.NodeId.NodeId, Nodes.Cells, Nodes.word_at, Nodes.at, Nodes.on, Growth.Held, Growth.Wire, Growth.Kept}
 use Rattle.kp_net.proofs.{Growing.wire_kept, Growing.kept_then, Values.word_is}
 use Rattle.kp_synth_registers.specs.{declared.outcome.Made.Made, Holding.pending_guess, Meaning.made_values, Meaning.guess_value, Meaning.MadeFit}
-use Rattle.kp_synth_tables.proofs.Fitting.{width_there}
-use Rattle.kp_synth_tables.specs.{declared.key.GuessSlot.GuessSlot, Keys.target_at, Keys.guess_slot, Keys.with_read}
+use Rattle.kp_synth_tables.{proofs.Fitting.width_there, specs.declared.key.GuessSlot.GuessSlot}
+use Rattle.kp_synth_tables.specs.Keys.{target_at, guess_slot, with_read}
 use Rattle.kp_synth_stage.specs.{declared.row.Source.Source, declared.row.Answer.Answer, declared.work.Work.Work, Rows.SourcesOk}
 use Rattle.kp_synth_stage.specs.inner.Doing.{after_stmt, target_of, miss_of, hazard_of, guess_of, read_value, read_lacks}
 use Rattle.kp_synth_stage.specs.inner.{Scopes.scope_at, Scopes.Bound, Standing.slots_at, Standing.own_slots, Standing.WorkOk, Standing.Stands, Standing.GoesBy}
 use Rattle.kp_synth_stage.specs.inner.{Statements.GuessOk, Statements.ReadGives, Statements.made_of, Reading.value_or_zero}
-use Rattle.kp_synth_stage.specs.inner.Standing as work
 use Rattle.kp_synth_stage.proofs.Binding.{bound_kept, bound_more, names_kept, names_more, fits_kept, means_kept, env_with, made_more, made_values_more}
 use Rattle.kp_synth_stage.proofs.{Taking.ReadRight, Taking.guess_fits, Taking.guess_kept, Nearest.orzero_kept}
+use Rattle.kp_synth_stage.specs.inner.Standing as work
 
 source_in : (xs : List Source) (t : ℕ) → t < length xs → (s : Source) × (slice_get xs t ≡ Some s)
 source_in [] t h = absurd (omega arith)

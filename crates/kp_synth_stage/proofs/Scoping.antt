@@ -8,13 +8,11 @@ use Rattle.kp_ast.specs.declared.widths.Scope.TheVariants as scopes
 use Rattle.kp_width.specs.{Names.Sense, Names.Scoped, Names.nothing, Names.look_up, Names.opened, Declarations.declarations_of}
 use Rattle.kp_width.specs.{Statements.statement_of, Statements.statements_of, Statements.blocks_of, Widths.widths_of}
 use Rattle.kp_width.proofs.{Unbroken.Unbroken, Unbroken.bind_unbroken, Calls.pushed}
-use Rattle.kp_stage.specs.{Facts.Facts, Facts.facts_of, Facts.stmts_in, declared.rules.Rule.Rule}
-use Rattle.kp_stage.specs.{Rules.ask_stmt, Rules.may_guess, Rules.broken_by, Stages.broken_of}
-use Rattle.kp_stage.proofs.{Unbroken.answer_none, Kept.rules_kept, Kept.stmt_kept}
+use Rattle.kp_stage.specs.{Facts.Facts, Facts.facts_of, Facts.stmts_in, declared.rules.Rule.Rule, Rules.ask_stmt, Rules.may_guess, Rules.broken_by}
+use Rattle.kp_stage.{specs.Stages.broken_of, proofs.Unbroken.answer_none, proofs.Kept.rules_kept, proofs.Kept.stmt_kept}
 use Rattle.kp_machine.proofs.Text.{is_local}
 use Rattle.kp_synth_stage.specs.{Work.stmts_at, inner.Scopes.declared, inner.Scopes.opened_at, inner.Scopes.scope_at}
-use Rattle.kp_synth_stage.specs.inner.Standing.{GuessRight, StmtRight}
-use Rattle.kp_synth_stage.proofs.Binding.{slots_next}
+use Rattle.kp_synth_stage.{specs.inner.Standing.GuessRight, specs.inner.Standing.StmtRight, proofs.Binding.slots_next}
 
 -- the statement at an index violates no rule of names and widths, and leads to the scope of the next
 stmt_right : (ds : List Decl) (s : Scoped) (xs : List Stmt) (j : ℕ) (x : Stmt) → Unbroken (statements_of ds s xs) → slice_get xs j ≡ Some x

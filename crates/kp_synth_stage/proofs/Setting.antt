@@ -1,7 +1,7 @@
 -- A set: which rules it satisfies, and the state of the stage after it.
 use Rattle.std.proofs.Common.{◌≡◌, ◌∙◌, ℕ, suc, ◌+◌, ◌<◌, List, length, get_or, set, Option, Some, None, Bool, true, false, cond, refl, ap, sym, subst, arith}
-use Rattle.std.proofs.lemmas.{List.length-set, Bool.eq-eqb, Option.same_Some}
-use Rattle.std.specs.{Prelude.is_some, Vec.with_item, Option.option_map}
+use Rattle.std.{proofs.lemmas.List.length-set, proofs.lemmas.Bool.eq-eqb, proofs.lemmas.Option.same_Some, specs.Prelude.is_some, specs.Vec.with_item}
+use Rattle.std.specs.Option.{option_map}
 use Rattle.kp_base.specs.Check.{ok, ◌>>=◌}
 use Rattle.kp_bits.specs.Word.{Word}
 use Rattle.kp_ast.specs.declared.tree.{Expr.Expr, ResultDecl.ResultDecl, Job.Job}
@@ -11,27 +11,26 @@ use Rattle.kp_width.specs.{Names.Sense, Names.nothing, Names.find, Names.look_up
 use Rattle.kp_width.specs.{Declarations.address_width, Statements.given, Statements.when_of, Widths.widths_of}
 use Rattle.kp_width.proofs.{Unbroken.Unbroken, Unbroken.bind_unbroken, Found.none_of_two, Parts.given_parts}
 use Rattle.kp_stage.specs.{Facts.facts_of, declared.rules.Rule.Rule, Rules.ask_expr, Rules.ask_option}
-use Rattle.kp_machine.specs.Slots.{targets_of, number_of, result_named}
+use Rattle.kp_machine.{specs.Slots.targets_of, specs.Slots.number_of, specs.Slots.result_named, proofs.Results.named_stands}
+use Rattle.kp_machine.proofs.{Scopes.IsSlot, Scopes.results_fit, Scopes.found_sense, Scopes.storage_kind, Text.local_no, Text.found_where, Text.declared_right}
 use Rattle.kp_machine.specs.Trees as trees
-use Rattle.kp_machine.proofs.{Results.named_stands, Scopes.IsSlot, Scopes.results_fit, Scopes.found_sense, Scopes.storage_kind}
-use Rattle.kp_machine.proofs.Text.{local_no, found_where, declared_right}
 use Rattle.kp_pipeline.specs.Sequential.{first_value}
 use Rattle.kp_net.specs.{declared.node.NodeId.NodeId, Nodes.Cells, Nodes.at, Nodes.on, Widths.AllRight, Growth.Held, Growth.Wire, Growth.Kept}
 use Rattle.kp_net.proofs.Growing.{wire_kept, kept_then}
 use Rattle.kp_fwd.specs.Forward.{enable_on}
 use Rattle.kp_build.specs.Names.{Scope, Gives}
 use Rattle.kp_synth_registers.specs.{declared.outcome.Set.Set, Holding.optional, Meaning.SetFits, Meaning.set_value}
-use Rattle.kp_synth_tables.proofs.Fitting.{width_there}
-use Rattle.kp_synth_tables.specs.Keys.{target_at}
 use Rattle.kp_synth_registers.proofs.Growth.{set_kept, set_fits}
+use Rattle.kp_synth_tables.{proofs.Fitting.width_there, specs.Keys.target_at}
 use Rattle.kp_synth_stage.specs.{declared.work.Work.Work, inner.Scopes.scope_at, inner.Scopes.Bound}
 use Rattle.kp_synth_stage.specs.inner.Standing.{StmtRight, WorkOk, Stands, GoesBy}
 use Rattle.kp_synth_stage.specs.inner.Statements.{width_in, OptionRight, OptionGives, target_named}
+use Rattle.kp_synth_stage.proofs.{Scoping.scope_locals, Expressions.plain_found, Expressions.gives_is, Expressions.placed_in}
+use Rattle.kp_synth_stage.proofs.Binding.{bound_kept, names_kept}
+use Rattle.kp_synth_stage.proofs.Steps.{Steps, each_set, fits_next, means_next, text_sense, at_is}
+use Rattle.kp_synth_stage.proofs.Taking.{HasWidths, when_means, when_right}
 use Rattle.kp_synth_stage.specs.inner.Standing as work
 use Rattle.kp_synth_stage.specs.inner.Statements as statements
-use Rattle.kp_synth_stage.proofs.{Scoping.scope_locals, Expressions.plain_found, Expressions.gives_is, Expressions.placed_in}
-use Rattle.kp_synth_stage.proofs.{Binding.bound_kept, Binding.names_kept, Steps.Steps, Steps.each_set, Steps.fits_next, Steps.means_next, Steps.text_sense, Steps.at_is}
-use Rattle.kp_synth_stage.proofs.Taking.{HasWidths, when_means, when_right}
 
 -- the rules that a set keeps
 pub record SetRight (job : Job) (k j : ℕ) (n : tree.Named) (e : Expr) (when : Option Expr) : Type 0 where

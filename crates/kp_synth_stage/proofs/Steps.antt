@@ -4,30 +4,28 @@ use Rattle.std.proofs.lemmas.{List.append-nil, List.length-set, Bool.eqb-true, B
 use Rattle.std.specs.{Prelude.is_some, Prelude.◌==◌, Vec.with_item}
 use Rattle.kp_base.specs.{Check.ok, Check.◌>>=◌, Refusal.e_rule}
 use Rattle.kp_bits.specs.Word.{Word}
-use Rattle.kp_ast.specs.{declared.tree.Expr.Expr, declared.tree.StmtKind.StmtKind, declared.tree.Job.Job}
+use Rattle.kp_ast.specs.declared.{tree.Expr.Expr, tree.StmtKind.StmtKind, tree.Job.Job, widths.NameKind.NameKind}
 use Rattle.kp_ast.specs.declared.tree.Named as tree
 use Rattle.kp_ast.specs.declared.tree.StmtKind.TheVariants as stmts
-use Rattle.kp_ast.specs.declared.widths.NameKind.{NameKind}
 use Rattle.kp_ast.specs.declared.widths.NameKind.TheVariants as kinds
 use Rattle.kp_width.specs.Names.{Sense, sense, Names, find, look_up, used, is_pipe, is_hint, declared_local}
 use Rattle.kp_width.specs.{Expressions.width_of, Expressions.value_of, Expressions.part_of, Statements.given, Widths.widths_of}
 use Rattle.kp_width.proofs.{Parts.given_parts, Unbroken.Unbroken, Unbroken.bind_unbroken, Unbroken.answer_unbroken}
 use Rattle.kp_machine.specs.Slots.{Slot, pipes_of, hints_of, number_of}
-use Rattle.kp_machine.specs.Trees as trees
 use Rattle.kp_machine.proofs.{Scopes.fresh_none, Scopes.found_sense, Scopes.IsSlot, Scopes.Placed, Cases.by_test, Text.local_no, Text.found_where}
+use Rattle.kp_machine.specs.Trees as trees
 use Rattle.kp_net.specs.{declared.node.NodeId.NodeId, Nodes.Cells, Nodes.word_at, Nodes.at, Widths.AllRight, Growth.Held, Growth.Wire, Growth.Kept}
 use Rattle.kp_build.specs.Names.{Scope, Gives}
-use Rattle.kp_synth_tables.proofs.Fitting.{width_there}
-use Rattle.kp_synth_tables.specs.Keys.{no_slot, pipe_at, hint_at}
+use Rattle.kp_synth_tables.{proofs.Fitting.width_there, specs.Keys.no_slot, specs.Keys.pipe_at, specs.Keys.hint_at}
 use Rattle.kp_synth_registers.specs.Meaning.{put_value, PutFits}
 use Rattle.kp_synth_stage.specs.{declared.row.Source.Source, declared.work.Work.Work, inner.Doing.Doing, inner.Doing.after_stmt, inner.Doing.outcome_of}
 use Rattle.kp_synth_stage.specs.{Work.Fits, Work.Means, inner.Scopes.scope_at, inner.Scopes.Bound}
-use Rattle.kp_synth_stage.specs.inner.{Standing.slots_at, Standing.StmtRight, Standing.own_slots, Standing.WorkOk, Standing.Stands, Standing.GoesBy, Statements.width_in}
-use Rattle.kp_synth_stage.specs.inner.Statements as statements
-use Rattle.kp_synth_stage.specs.inner.Standing as work
-use Rattle.kp_synth_stage.proofs.Scoping.{scope_text, scope_locals}
+use Rattle.kp_synth_stage.specs.inner.Standing.{slots_at, StmtRight, own_slots, WorkOk, Stands, GoesBy}
+use Rattle.kp_synth_stage.{specs.inner.Statements.width_in, proofs.Scoping.scope_text, proofs.Scoping.scope_locals}
 use Rattle.kp_synth_stage.proofs.Expressions.{plain_found, hinted_found, gives_is, placed_in}
 use Rattle.kp_synth_stage.proofs.Binding.{bound_kept, bound_more, names_kept, names_more, fits_kept, means_kept, env_with}
+use Rattle.kp_synth_stage.specs.inner.Statements as statements
+use Rattle.kp_synth_stage.specs.inner.Standing as work
 
 -- the state of the stage after a statement, and what it means
 abbrev pub Steps : Job → ℕ → ℕ → StmtKind → Held → Work → Held → Work → Type 0

@@ -1,12 +1,9 @@
 -- A read: which rules it keeps, and what its nodes mean.
 use Rattle.std.proofs.Common.{◌≡◌, ◌∙◌, ℕ, suc, ◌+◌, ◌<◌, ◌^◌, List, [], ◌++◌, length, Option, Some, None, Bool, true, cond, not, ◌||◌, ◌&&◌, refl, ap, sym, subst, arith}
-use Rattle.std.proofs.lemmas.Bool.{eqb-true}
-use Rattle.std.specs.Prelude.{slice_get, is_some, ◌==◌}
+use Rattle.std.{proofs.lemmas.Bool.eqb-true, specs.Prelude.slice_get, specs.Prelude.is_some, specs.Prelude.◌==◌}
 use Rattle.kp_base.specs.{Check.ok, Check.◌>>=◌, Check.wants, Refusal.e_rule}
 use Rattle.kp_bits.specs.Word.{Word}
-use Rattle.kp_ast.specs.{declared.tree.Expr.Expr, declared.tree.ReadStmt.ReadStmt, declared.tree.Job.Job}
-use Rattle.kp_ast.specs.declared.tree.Decl.{Decl}
-use Rattle.kp_ast.specs.declared.widths.NameKind.{NameKind}
+use Rattle.kp_ast.specs.declared.{tree.Expr.Expr, tree.ReadStmt.ReadStmt, tree.Job.Job, tree.Decl.Decl, widths.NameKind.NameKind}
 use Rattle.kp_ast.specs.declared.tree.StmtKind.TheVariants as stmts
 use Rattle.kp_ast.specs.declared.widths.NameKind.TheVariants as kinds
 use Rattle.kp_width.specs.Names.{Sense, sense, Scoped, find, is_register, is_file, passed, declared_local}
@@ -16,27 +13,24 @@ use Rattle.kp_width.specs.{Statements.when_of, Statements.address_of, Statements
 use Rattle.kp_width.proofs.{Unbroken.Unbroken, Unbroken.bind_unbroken, Unbroken.answer_unbroken, Found.none_of_two, Parts.given_parts}
 use Rattle.kp_stage.specs.{Facts.facts_of, declared.rules.Rule.Rule, Rules.ask_option}
 use Rattle.kp_machine.specs.{Slots.targets_of, Trees.Progress}
+use Rattle.kp_machine.proofs.{Scopes.IsSlot, Scopes.fresh_none, Scopes.found_sense, Scopes.storage_kind, Text.local_no, Text.found_where}
 use Rattle.kp_machine.specs.Trees as trees
-use Rattle.kp_machine.proofs.{Scopes.IsSlot, Scopes.fresh_none, Scopes.found_sense, Scopes.storage_kind}
-use Rattle.kp_machine.proofs.Text.{local_no, found_where}
 use Rattle.kp_net.specs.{declared.node.NodeId.NodeId, Nodes.Cells, Nodes.at, Nodes.on, Widths.AllRight, Growth.Held, Growth.Wire, Growth.Kept}
 use Rattle.kp_net.proofs.{Growing.wire_kept, Growing.kept_then, Values.at_fits}
 use Rattle.kp_fwd.specs.Forward.{BitOk, enable_on}
 use Rattle.kp_build.specs.Names.{Scope}
-use Rattle.kp_synth_tables.proofs.Fitting.{width_there, address_there, no_address}
-use Rattle.kp_synth_tables.specs.Keys.{target_at}
+use Rattle.kp_synth_tables.{proofs.Fitting.width_there, proofs.Fitting.address_there, proofs.Fitting.no_address, specs.Keys.target_at}
 use Rattle.kp_synth_registers.specs.Meaning.{PutFits}
 use Rattle.kp_synth_stage.specs.declared.row.{Source.Source, Answer.Answer}
 use Rattle.kp_synth_stage.specs.Rows.{asked, source_view, view_of, SourceOk, SourcesOk, Sees, AskOk}
 use Rattle.kp_synth_stage.specs.inner.{Reading.given, Reading.lacks, Reading.value_or_zero, Doing.target_of, Doing.address_read, Doing.truth_of, Doing.miss_of}
 use Rattle.kp_synth_stage.specs.inner.Scopes.{scope_at, Bound}
 use Rattle.kp_synth_stage.specs.inner.Statements.{width_in, OptionRight, OptionWire, OptionGives, GuessOk, ReadGives}
-use Rattle.kp_synth_stage.specs.inner.Standing.{StmtRight, own_slots, slots_at}
-use Rattle.kp_synth_stage.specs.inner.Standing as work
-use Rattle.kp_synth_stage.proofs.{Scoping.scope_locals, Expressions.plain_found, Expressions.hinted_found, Expressions.gives_is}
-use Rattle.kp_synth_stage.proofs.Binding.{bound_kept, names_kept}
+use Rattle.kp_synth_stage.{specs.inner.Standing.StmtRight, specs.inner.Standing.own_slots, specs.inner.Standing.slots_at, proofs.Scoping.scope_locals}
+use Rattle.kp_synth_stage.proofs.{Expressions.plain_found, Expressions.hinted_found, Expressions.gives_is, Binding.bound_kept, Binding.names_kept}
 use Rattle.kp_synth_stage.proofs.Nearest.{bit_kept, enable_kept, ask_kept, ask_inside, asked_kept, source_kept, sees_kept, orzero_kept}
 use Rattle.kp_synth_stage.proofs.Steps.{text_sense, at_value, at_is}
+use Rattle.kp_synth_stage.specs.inner.Standing as work
 
 -- an expression that may be left out, and its width
 abbrev pub HasWidths : Job → ℕ → ℕ → ℕ → Option Expr → Type 0

@@ -6,8 +6,8 @@ use Rattle.kp_ast.specs.declared.tree.Decl.TheVariants as decls
 use Rattle.kp_width.specs.Names.{Sense, Scoped, nothing, look_up}
 use Rattle.kp_width.specs.{Declarations.name_of, Declarations.declaration_of, Declarations.declarations_of, Declarations.functions_in, Widths.widths_of}
 use Rattle.kp_width.proofs.Unbroken.{Unbroken, bind_unbroken}
-use Rattle.kp_machine.specs.Slots.{targets_of}
-use Rattle.kp_machine.proofs.{Names.same_name, Scopes.sense_of, Scopes.stays, Scopes.new_name, Scopes.text_has, Text.declared_right}
+use Rattle.kp_machine.{specs.Slots.targets_of, proofs.Names.same_name}
+use Rattle.kp_machine.proofs.{Scopes.sense_of, Scopes.stays, Scopes.new_name, Scopes.text_has, Text.declared_right}
 use Rattle.kp_synth_tables.specs.Keys.{no_slot, target_at}
 
 module _ (ds : List Decl) where

@@ -1,21 +1,19 @@
 -- How many registers a job has, by the counts of its declarations and guesses.
 use Rattle.std.proofs.Common.{◌≡◌, ℕ, zero, suc, ◌+◌, ◌*◌, ◌<◌, ◌≤◌, List, [], ◌∷◌, ◌++◌, Option, Some, None, Bool, true, false, cond, ◌&&◌, eqb, length, length-append, refl, arith, ⊎_elim}
-use Rattle.std.proofs.{lemmas.Bool.cond_both, lemmas.Bool.cases_Bool, lemmas.Bool.eqb-true, lemmas.Bool.false_from_ne_true, Math.Nat.suc-mul, Math.Nat.mul-le-mul}
-use Rattle.std.proofs.lemmas.List.Sums.{sum_by-cons}
+use Rattle.std.proofs.lemmas.Bool.{cond_both, cases_Bool, eqb-true, false_from_ne_true}
+use Rattle.std.proofs.{Math.Nat.suc-mul, Math.Nat.mul-le-mul, lemmas.List.Sums.sum_by-cons}
 use Rattle.std.specs.Prelude.{sum_by, is_some, nat_le}
 use Rattle.kp_machine.proofs.Cases.{by_test}
-use Rattle.kp_ast.specs.declared.tree.{ResultDecl.ResultDecl, Decl.Decl, Block.Block, Job.Job}
-use Rattle.kp_ast.specs.declared.tree.Decl.TheVariants as decls
-use Rattle.kp_stage.specs.Counts.{regs_in, files_in, pipes_in, results_in, hints_in}
-use Rattle.kp_stage.specs.Counts as counts
 use Rattle.kp_machine.specs.Slots.{Slot, targets_of, pipes_of, hints_of, number_of, result_to}
 use Rattle.kp_machine.specs.Machine.{result_for, write_stage_of}
+use Rattle.kp_ast.specs.declared.tree.{ResultDecl.ResultDecl, Decl.Decl, Block.Block, Job.Job}
+use Rattle.kp_ast.specs.declared.tree.Decl.TheVariants as decls
+use Rattle.kp_stage.specs.{Counts.regs_in, Counts.files_in, Counts.pipes_in, Counts.results_in, Counts.hints_in, Stages.broken_of}
+use Rattle.kp_stage.specs.Counts as counts
 use Rattle.kp_synth_tables.specs.declared.key.Key.TheVariants.{Valid, Value}
 use Rattle.kp_synth_tables.specs.Keys.{set_by, guesses_of, visible_keys, pipe_keys, result_keys, guess_keys, stage_keys, stages_keys, later_keys, hint_keys, keys_of}
-use Rattle.kp_stage.specs.Stages.{broken_of}
-use Rattle.kp_synth_tables.proofs.Listed.{few}
+use Rattle.kp_synth_tables.proofs.{Listed.few, Limits.limits, Limits.targets_counted, Limits.pipes_counted, Limits.hints_counted, Limits.guesses_counted}
 use Rattle.kp_synth_tables.proofs.Listed as listed
-use Rattle.kp_synth_tables.proofs.Limits.{limits, targets_counted, pipes_counted, hints_counted, guesses_counted}
 
 -- how many of n numbers from t on pass a test
 abbrev one : Bool → ℕ

@@ -12,20 +12,16 @@ use Rattle.kp_ast.specs.declared.widths.NameKind.TheVariants as kinds
 use Rattle.kp_width.specs.Names.{Sense, sense, Names, Scoped, nothing, look_up, find, declared_text}
 use Rattle.kp_width.specs.Expressions.{is_width}
 use Rattle.kp_width.specs.Declarations.{declared, start_of, started_of, addresses_of, address_width, name_of, after_name, declaration_of, declarations_of, functions_in}
-use Rattle.kp_width.specs.Widths.{widths_of}
+use Rattle.kp_width.{specs.Widths.widths_of, proofs.Unbroken.Unbroken, proofs.Unbroken.bind_unbroken, proofs.Unbroken.answer_unbroken}
 use Rattle.kp_width.specs.Names as names
-use Rattle.kp_width.proofs.Unbroken.{Unbroken, bind_unbroken, answer_unbroken}
-use Rattle.kp_stage.specs.Facts.{Facts, facts_of, stmts_in}
-use Rattle.kp_stage.specs.{Rules.holds_of, Rules.may_guess, Rules.ask_stmt, Rules.ask_stmts, Rules.all_rules, Stages.broken_of}
-use Rattle.kp_stage.proofs.Unbroken.{first_none, answer_none}
+use Rattle.kp_stage.specs.{Facts.Facts, Facts.facts_of, Facts.stmts_in, Rules.holds_of, Rules.may_guess, Rules.ask_stmt, Rules.ask_stmts, Rules.all_rules}
+use Rattle.kp_stage.{specs.Stages.broken_of, proofs.Unbroken.first_none, proofs.Unbroken.answer_none}
 use Rattle.kp_pipeline.proofs.Lists.{all-append}
 use Rattle.kp_machine.specs.Slots.{Slot, targets_of, pipes_of, hints_of, samples_of, number_of, width_of}
-use Rattle.kp_machine.specs.Machine.{result_for, write_stage_of}
-use Rattle.kp_machine.proofs.{Aims.aims_inside, Names.IsIn, Apart.Apart, Apart.pipes_apart, Apart.samples_apart, Cases.by_test}
-use Rattle.kp_machine.proofs.{Placing.result_placed, Placing.own, Placing.stands, Results.written_by}
-use Rattle.kp_machine.proofs.Rules.{rules_kept, head_kept, decl_kept, stmts_kept}
-use Rattle.kp_machine.proofs.{Scopes.addresses, Scopes.PipeFits, Scopes.results_fit, Scopes.storage_kind}
-use Rattle.kp_machine.proofs.Text.{text, declared_right, placed}
+use Rattle.kp_machine.{specs.Machine.result_for, specs.Machine.write_stage_of, proofs.Aims.aims_inside, proofs.Names.IsIn}
+use Rattle.kp_machine.proofs.{Apart.Apart, Apart.pipes_apart, Apart.samples_apart, Cases.by_test, Placing.result_placed, Placing.own, Placing.stands}
+use Rattle.kp_machine.proofs.{Results.written_by, Rules.rules_kept, Rules.head_kept, Rules.decl_kept, Rules.stmts_kept}
+use Rattle.kp_machine.proofs.{Scopes.addresses, Scopes.PipeFits, Scopes.results_fit, Scopes.storage_kind, Text.text, Text.declared_right, Text.placed}
 use Rattle.kp_synth_tables.specs.Keys.{no_slot, target_at, pipe_at, no_guess, guess_slot, with_read, with_guess, guesses_in, guesses_from, guesses_of, guess_at}
 use Rattle.kp_synth_tables.specs.declared.key.GuessSlot.{GuessSlot}
 use Rattle.kp_synth_tables.specs.Fits.{pipe_number, port_for, IsWidth, EnableFits, AddressFits, ResultFits, Fits}

@@ -1,22 +1,18 @@
 -- A job that violates no rule has few declarations, and so few registers.
 use Rattle.std.proofs.Common.{◌≡◌, ◌∙◌, ℕ, suc, ◌+◌, ◌≤◌, List, [], ◌∷◌, Option, Some, None, true, length, length-append, refl, ap, subst, arith}
-use Rattle.std.proofs.lemmas.{List.Sums.sum_by-cons}
-use Rattle.std.specs.Prelude.{sum_by}
-use Rattle.kp_base.specs.{Refusal.e_rule}
+use Rattle.std.{proofs.lemmas.List.Sums.sum_by-cons, specs.Prelude.sum_by, proofs.lemmas.Bool.Decides.nat_tests}
+use Rattle.kp_base.specs.Refusal.{e_rule}
 use Rattle.kp_ast.specs.declared.tree.{Expr.Expr, ReadStmt.ReadStmt, Decl.Decl, Stmt.Stmt, StmtKind.StmtKind, Block.Block, Job.Job}
 use Rattle.kp_ast.specs.declared.tree.Decl.TheVariants as decls
 use Rattle.kp_ast.specs.declared.tree.StmtKind.TheVariants as stmts
 use Rattle.kp_width.specs.Declarations.{functions_in, name_of}
 use Rattle.kp_width.proofs.Unbroken.{Unbroken, bind_unbroken, answer_unbroken}
-use Rattle.std.proofs.lemmas.Bool.Decides.{nat_tests}
 use Rattle.kp_stage.specs.Counts.{regs_in, files_in, pipes_in, results_in, hints_in, samples_in, one_if_some, is_within, nothing_counted, with_decl, with_stmt, place_of_read, decls_counted, stmts_counted, blocks_counted, counts_of}
-use Rattle.kp_stage.specs.{Stages.broken_of}
+use Rattle.kp_stage.{specs.Stages.broken_of, proofs.Kept.counts_kept, proofs.Totals.counts_total}
 use Rattle.kp_stage.specs.Counts as counts
-use Rattle.kp_stage.proofs.{Kept.counts_kept, Totals.counts_total}
 use Rattle.kp_machine.specs.Slots.{targets_of, pipes_of, hints_of, samples_of}
 use Rattle.kp_synth_tables.specs.Keys.{guesses_in, guesses_from, guesses_of}
-use Rattle.kp_synth_tables.specs.inner.Tables.{read_here, guess_here, guess_count}
-use Rattle.kp_synth_tables.proofs.Laying.{guess_step}
+use Rattle.kp_synth_tables.{specs.inner.Tables.read_here, specs.inner.Tables.guess_here, specs.inner.Tables.guess_count, proofs.Laying.guess_step}
 
 decls_within : (c : _) (ds : List Decl) → is_within c ≡ true → Unbroken (decls_counted c ds) → is_within (decls_counted c ds).value ≡ true
 decls_within c [] h u = h

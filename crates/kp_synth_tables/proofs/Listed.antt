@@ -1,7 +1,6 @@
 -- Lists of keys that are built entry by entry.
 use Rattle.std.proofs.Common.{◌≡◌, ◌∙◌, ℕ, zero, suc, ◌+◌, ◌*◌, ◌<◌, ◌≤◌, Bool, true, cond, List, [], ◌∷◌, ◌++◌, length, length-append, get_or, refl, ap, sym, subst, arith, ⊎_elim, ◌⊎◌, inl, inr}
-use Rattle.std.proofs.{lemmas.Bool.cond_both, Math.Nat.suc-mul}
-use Rattle.std.specs.List.{AllByRecursion}
+use Rattle.std.{proofs.lemmas.Bool.cond_both, proofs.Math.Nat.suc-mul, specs.List.AllByRecursion}
 use Rattle.kp_ast.specs.declared.tree.Job.{Job}
 use Rattle.kp_pipeline.proofs.Lists.{all-append}
 use Rattle.kp_machine.specs.Slots.{Slot, is_register}

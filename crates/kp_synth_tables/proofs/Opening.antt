@@ -4,17 +4,15 @@ use Rattle.std.proofs.lemmas.{List.get_or-map, List.length-map, List.map-id, Opt
 use Rattle.std.specs.{Prelude.is_some, Prelude.nat_lt, Prelude.nat_le, Prelude.slice_get, List.list_any}
 use Rattle.kp_base.specs.{First.first, Refusal.e_rule}
 use Rattle.kp_stage.proofs.Unbroken.{answer_none}
-use Rattle.kp_machine.proofs.{Rules.rules_kept, Rules.decl_kept, Cases.by_test, Stages.stages_inside}
-use Rattle.kp_ast.specs.declared.tree.{Named.Named, ResultDecl.ResultDecl, Decl.Decl, Stmt.Stmt, StmtKind.StmtKind, Block.Block}
-use Rattle.kp_ast.specs.declared.tree.Job.{Job}
-use Rattle.kp_ast.specs.declared.tree.Decl.TheVariants as decls
-use Rattle.kp_ast.specs.declared.tree.StmtKind.TheVariants as stmts
-use Rattle.kp_width.specs.Widths.{widths_of}
-use Rattle.kp_width.proofs.Unbroken.{Unbroken}
 use Rattle.kp_stage.specs.Facts.{At, Facts, facts_of, put_at, puts_in, puts_of, aim_at, aims_in, aims_of}
 use Rattle.kp_stage.specs.{Stages.broken_of, Design.Plan, Design.IsSound, Uses.puts, Uses.aims}
+use Rattle.kp_machine.proofs.{Rules.rules_kept, Rules.decl_kept, Cases.by_test, Stages.stages_inside}
 use Rattle.kp_machine.specs.Slots.{Slot, targets_of, pipes_of, hints_of, samples_of}
 use Rattle.kp_machine.specs.Machine.{machine_of, result_for, write_stage_of, after_put, stage_or_zero, known_after, known_from_of, aim_stage}
+use Rattle.kp_ast.specs.declared.tree.{Named.Named, ResultDecl.ResultDecl, Decl.Decl, Stmt.Stmt, StmtKind.StmtKind, Block.Block, Job.Job}
+use Rattle.kp_ast.specs.declared.tree.Decl.TheVariants as decls
+use Rattle.kp_ast.specs.declared.tree.StmtKind.TheVariants as stmts
+use Rattle.kp_width.{specs.Widths.widths_of, proofs.Unbroken.Unbroken}
 use Rattle.kp_synth_tables.specs.Keys.{no_slot, pipe_at, hint_at, no_guess, guesses_of, guess_at, piped_at, set_by, is_stored, visible_keys, pipe_keys, result_keys, guess_keys, stage_keys, stages_keys, later_keys, hint_keys, keys_of}
 use Rattle.kp_synth_tables.specs.inner.Tables.{byte, short, sized, has_aim, aimed_in, short_piped, aimed, known_in, short_number, short_port, short_guess, pipes_by, stored_by, result_here, results_by, stage_by, stages_by}
 use Rattle.kp_synth_tables.specs.declared.key.{GuessSlot.GuessSlot, Key.Key}

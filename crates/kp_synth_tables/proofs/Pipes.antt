@@ -5,18 +5,17 @@ use Rattle.std.specs.{Prelude.slice_get, Prelude.unwrap_or, List.list_any}
 use Rattle.kp_bits.specs.Word.{Word, word, not_of, mux_of, slice_of, zext_of, sext_of}
 use Rattle.kp_bits.specs.Operators.{no_word, binary_of, joined_of}
 use Rattle.kp_ast.specs.Expressions.{Env, Values, is_same_name, look_up, eval, env_of, value_of_kind, value_of_level}
-use Rattle.kp_ast.specs.declared.tree.{Expr.Expr, ReadStmt.ReadStmt, ResultDecl.ResultDecl, Decl.Decl, Stmt.Stmt, StmtKind.StmtKind, Block.Block}
-use Rattle.kp_ast.specs.declared.tree.Job.{Job}
-use Rattle.kp_ast.specs.declared.tree.Decl.TheVariants as decls
-use Rattle.kp_ast.specs.declared.tree.StmtKind.TheVariants as stmts
+use Rattle.kp_ast.specs.declared.tree.{Expr.Expr, ReadStmt.ReadStmt, ResultDecl.ResultDecl, Decl.Decl, Stmt.Stmt, StmtKind.StmtKind, Block.Block, Job.Job}
 use Rattle.kp_ast.proofs.Levels.{fold-Lit, fold-Name, fold-Not, fold-Binary, fold-Mux, fold-Concat, fold-Slice, fold-Zext, fold-Sext, fold-Call}
 use Rattle.kp_ast.proofs.Induction.{Every, induction}
+use Rattle.kp_ast.specs.declared.tree.Decl.TheVariants as decls
+use Rattle.kp_ast.specs.declared.tree.StmtKind.TheVariants as stmts
 use Rattle.kp_stage.specs.{Facts.stmts_in, Uses.listed, Uses.exprs_in, Uses.uses_in_kind, Uses.uses_in_level, Uses.uses}
 use Rattle.kp_pipeline.specs.{Machine.Tree, Machine.Done, Machine.Ask, Machine.Guess, Sequential.first_value}
 use Rattle.kp_machine.specs.Trees.{Progress, entered, holds, address_of, value_of, value_with_hints, with_value, with_name, with_set, word_of, word_read, read_of, statement_of, tree_of}
 use Rattle.kp_machine.specs.Slots.{Slot, targets_of, pipes_of, hints_of, samples_of, number_of, words_from, words_of, result_named}
-use Rattle.kp_machine.specs.Machine.{stage_tree}
-use Rattle.kp_machine.proofs.{Cases.by_test, Names.is_same, Names.same_name, LookUp.or_else, LookUp.look_up-append}
+use Rattle.kp_machine.{specs.Machine.stage_tree, proofs.Cases.by_test, proofs.Names.is_same, proofs.Names.same_name}
+use Rattle.kp_machine.proofs.LookUp.{or_else, look_up-append}
 use Rattle.kp_synth_tables.specs.{Spans.uses_name, Spans.last_use_in, Spans.is_called, Spans.last_write, Spans.last_use, Keys.no_slot, Keys.pipe_at}
 
 -- THE LAST USE is no earlier than any use.

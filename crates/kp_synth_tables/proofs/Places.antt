@@ -1,14 +1,15 @@
 -- Each key that a job has is in the list of its keys, and the list has no other.
 use Rattle.std.proofs.Common.{◌≡◌, ◌∙◌, ℕ, zero, suc, ◌+◌, ◌<◌, ◌≤◌, Bool, true, false, cond, ◌&&◌, ◌==◌, List, [], ◌∷◌, length, get_or, refl, sym, ap, subst, arith, ⊎_elim, inl, inr, eqb-true}
-use Rattle.std.proofs.lemmas.Bool.{and_parts, eq-eqb, cases_lt, ltb-true}
-use Rattle.std.specs.{Prelude.nat_lt, List.AllByRecursion}
+use Rattle.std.{proofs.lemmas.Bool.and_parts, proofs.lemmas.Bool.eq-eqb, proofs.lemmas.Bool.cases_lt, proofs.lemmas.Bool.ltb-true, specs.Prelude.nat_lt}
+use Rattle.std.specs.List.{AllByRecursion}
 use Rattle.kp_ast.specs.declared.tree.Job.{Job}
 use Rattle.kp_machine.specs.Slots.{targets_of, pipes_of, hints_of}
 use Rattle.kp_synth_tables.specs.Keys.{no_slot, no_guess, guesses_of, guess_at, is_carried, visible_keys, pipe_keys, result_keys, stage_keys, stages_keys, later_keys, hint_keys, keys_of, HasKey, is_same_key, place_in, place_of, key_at}
 use Rattle.kp_synth_tables.specs.declared.key.Key.{Key}
 use Rattle.kp_synth_tables.specs.declared.key.Key.TheVariants.{Visible, Full, Pipe, Valid, Value, Pending, Guess, Hint}
 use Rattle.kp_synth_tables.specs.declared.key.GuessSlot.{GuessSlot}
-use Rattle.kp_synth_tables.proofs.{Listed.IsIn, Listed.in_left, Listed.in_right, Listed.visible, Listed.pipes, Listed.results, Listed.guesses, Listed.hints, Listed.at_entry, Listed.each_both, Listed.each, Fitting.all_at}
+use Rattle.kp_synth_tables.proofs.Listed.{IsIn, in_left, in_right, visible, pipes, results, guesses, hints, at_entry, each_both, each}
+use Rattle.kp_synth_tables.proofs.Fitting.{all_at}
 
 two : {A : Type 0} (f : ℕ → ℕ → A) (a b x y : ℕ) → ((a == b) && (x == y)) ≡ true → f a x ≡ f b y
 two f a b x y e = let p = and_parts (a == b) (x == y) e in ap (λ (n : ℕ). f n x) (eqb-true a b p.0) ∙ ap (f b) (eqb-true x y p.1)

@@ -1,21 +1,18 @@
 -- A stage puts no pipe that its block doesn't put, and sets no result that its block doesn't set.
 use Rattle.std.proofs.Common.{◌≡◌, ◌∙◌, ℕ, zero, suc, ◌+◌, ◌<◌, List, [], ◌∷◌, Option, Some, None, Bool, true, false, cond, eqb, length, refl, ap, sym, subst, arith}
-use Rattle.std.proofs.lemmas.Bool.{cond_both, eqb-true, or_parts}
-use Rattle.std.specs.{Prelude.slice_get, List.list_any}
+use Rattle.std.{proofs.lemmas.Bool.cond_both, proofs.lemmas.Bool.eqb-true, proofs.lemmas.Bool.or_parts, specs.Prelude.slice_get, specs.List.list_any}
 use Rattle.kp_ast.specs.{Expressions.is_same_name, declared.tree.Expr.Expr, declared.tree.Named.Named, declared.tree.ReadStmt.ReadStmt}
 use Rattle.kp_ast.specs.declared.tree.{ResultDecl.ResultDecl, Decl.Decl, Stmt.Stmt, StmtKind.StmtKind, Block.Block, Job.Job}
 use Rattle.kp_ast.specs.declared.tree.Decl.TheVariants as decls
 use Rattle.kp_ast.specs.declared.tree.StmtKind.TheVariants as stmts
-use Rattle.kp_width.specs.Widths.{widths_of}
-use Rattle.kp_width.proofs.Unbroken.{Unbroken}
+use Rattle.kp_width.{specs.Widths.widths_of, proofs.Unbroken.Unbroken}
 use Rattle.kp_stage.specs.{Facts.stmts_in, Stages.broken_of, Uses.puts as is_put, Uses.sets as is_set}
 use Rattle.kp_pipeline.specs.{Machine.Tree, Ends.Ends}
 use Rattle.kp_machine.specs.Trees.{Progress, entered, holds, value_of, value_with_hints, with_name, with_put, with_set, with_aim, word_of, word_read, read_of, statement_of, tree_of}
 use Rattle.kp_machine.specs.Slots.{Slot, targets_of, pipes_of, hints_of, number_of, result_named}
-use Rattle.kp_machine.specs.Machine.{machine_of, stage_tree, result_for}
-use Rattle.kp_machine.proofs.{Cases.by_test, Names.is_same, Names.same_name, Results.named_stands, Placing.own}
-use Rattle.kp_synth_tables.specs.{Spans.put_after, Spans.set_after, Keys.pipe_at, Keys.set_by}
-use Rattle.kp_synth_tables.proofs.Lasting.{number_there}
+use Rattle.kp_machine.{specs.Machine.machine_of, specs.Machine.stage_tree, specs.Machine.result_for, proofs.Cases.by_test}
+use Rattle.kp_machine.proofs.{Names.is_same, Names.same_name, Results.named_stands, Placing.own}
+use Rattle.kp_synth_tables.{specs.Spans.put_after, specs.Spans.set_after, specs.Keys.pipe_at, specs.Keys.set_by, proofs.Lasting.number_there}
 
 -- a block before the first that has such a statement
 module _ (test : StmtKind → Bool) (after : ℕ → List Block → ℕ) (is : (j : ℕ) (b : Block) (bs : List Block) → after j (b ∷ bs) ≡ cond (list_any (λ (s : Stmt). test s.kind) b.stmts) (j + 1) (after (j + 1) bs)) where

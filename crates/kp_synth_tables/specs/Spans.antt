@@ -1,8 +1,8 @@
 -- WHICH STAGES STORE a pipe and a result: those in which its value may matter.
 use Rattle.std.specs.Prelude.{ℕ, ◌+◌, max, List, [], ◌∷◌, Option, Some, None, Bool, false, ◌||◌, if◌then◌else◌}
 use Rattle.std.specs.List.{list_any}
-use Rattle.kp_ast.specs.{Expressions.is_same_name, declared.tree.Named.Named, declared.tree.Stmt.Stmt}
-use Rattle.kp_ast.specs.declared.tree.{Block.Block, Decl.Decl, Job.Job}
+use Rattle.kp_ast.specs.{Expressions.is_same_name, declared.tree.Named.Named, declared.tree.Stmt.Stmt, declared.tree.Block.Block, declared.tree.Decl.Decl}
+use Rattle.kp_ast.specs.declared.tree.Job.{Job}
 use Rattle.kp_ast.specs.declared.tree.Decl.TheVariants as decls
 use Rattle.kp_stage.specs.Uses.{puts, sets, uses, exprs_in}
 

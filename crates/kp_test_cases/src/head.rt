@@ -65,7 +65,7 @@ impl Options {
     /// The source of this text, and empty sinks.
     pub fn streams(self, alloc: Global, text: &[u8]) -> Result<Streams, AllocError> {
         let input = self.input(alloc, text)?;
-        let most = self.most;
+        let most = self.most.max(1);
         let source = MemSource::new(input, most, self.read_fails);
         let out = MemSink::new(alloc, self.room, most, self.write_fails).map_err(|_| AllocError)?;
         let err = MemSink::new(alloc, self.err_room, most, self.err_fails).map_err(|_| AllocError)?;
@@ -75,7 +75,7 @@ impl Options {
     fn add(&mut self, alloc: Global, option: &str) -> Result<(), AllocError> {
         let (name, value) = option.split_once(" ").unwrap_or((option, ""));
         match name {
-            "most" => self.most = number(value).max(1),
+            "most" => self.most = number(value),
             "room" => self.room = number(value),
             "err-room" => self.err_room = number(value),
             "times" => self.times = number(value),

@@ -39,9 +39,6 @@ next_bits bits m k h (suc j) =
     let z : suc k + j ≡ k + suc j = omega arith in
     bit_above m (one_if b) j (one_small b) ∙ h j ∙ ap (λ i. get_or bits i false) z
 
-no_bits : (j : ℕ) → bit_of 0 j ≡ false
-no_bits j = ap (λ x. eqb x 1) (bit_at-zero j)
-
 -- a mask of d bits with one more bit below
 pub small_next : (m b d : ℕ) → m < 2 ^ d → b < 2 → 2 * m + b < 2 ^ suc d
 small_next m b d l h = let p = two-pow-succ d in omega (arith, p, l, h)

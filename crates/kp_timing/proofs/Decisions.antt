@@ -1,22 +1,19 @@
 -- The decisions on lists are those of the timeline of the laws.
 use Rattle.std.proofs.Common.{◌≡◌, ◌∙◌, ℕ, zero, suc, ◌+◌, ◌-◌, ◌<◌, ◌≤◌, List, Option, Some, None, Bool, true, false, cond, leb, not, ◌&&◌, ◌||◌, length, get_or, set, replicate, refl, ap, sym, arith, ⊎_elim}
-use Rattle.std.proofs.lemmas.{Bool.and_right, Bool.cases_eq, Bool.cases_lt}
-use Rattle.std.proofs.lemmas.List.{length-set, get_or_past, get_or-set_same, get_or-set_other}
+use Rattle.std.proofs.lemmas.{Bool.and_right, Bool.cases_eq, Bool.cases_lt, List.length-set, List.get_or_past, List.get_or-set_same, List.get_or-set_other}
 use Rattle.std.specs.Prelude.{is_some}
-use Rattle.kp_ast.specs.declared.tree.{Job.Job}
-use Rattle.kp_width.specs.Widths.{widths_of}
-use Rattle.kp_width.proofs.Unbroken.{Unbroken}
+use Rattle.kp_ast.specs.declared.tree.Job.{Job}
+use Rattle.kp_width.{specs.Widths.widths_of, proofs.Unbroken.Unbroken}
 use Rattle.kp_pipeline.specs.Sequential.{seq}
-use Rattle.kp_pipeline.specs.SpeculativeTimeline as timeline
 use Rattle.kp_pipeline.specs.Timeline.{ReadyAbove, setting_stage, no_samples, may_write, is_ready, waits_given, blocked_given, ready_from, ready_above, waits, blocked, moves_on}
-use Rattle.kp_machine.specs.{Slots.targets_of}
-use Rattle.kp_machine.specs.Machine.{machine_of, result_for}
+use Rattle.kp_pipeline.specs.SpeculativeTimeline as timeline
+use Rattle.kp_machine.specs.{Slots.targets_of, Machine.machine_of, Machine.result_for}
 use Rattle.kp_seq.specs.Recorded.{Recorded, reads_from, record_of}
 use Rattle.kp_sched.specs.Rows.{bit_of}
-use Rattle.kp_sites.specs.{declared.sites.Writer.Writer, Sites.sited, Sites.result_number, Sites.writer_by}
-use Rattle.kp_sites.specs.Reports as reports
-use Rattle.kp_sites.proofs.{Asking.stage_unmet, Sizes.writer_get, Sizes.writers_many}
+use Rattle.kp_sites.{specs.declared.sites.Writer.Writer, specs.Sites.sited, specs.Sites.result_number, specs.Sites.writer_by, proofs.Asking.stage_unmet}
+use Rattle.kp_sites.proofs.Sizes.{writer_get, writers_many}
 use Rattle.kp_sites.proofs.Results.{IsResult, is_result, no_result, past_targets, ready_same, writes_same}
+use Rattle.kp_sites.specs.Reports as reports
 use Rattle.kp_timing.specs.inner.Deciding.{Held, record_in, is_full, met_from, is_met, some_unmet_from, waits_by, is_blocked_by, found_at, found_down, no_stage_found, moves_by}
 use Rattle.kp_timing.specs.{declared.deciding.Found.Found, Timed.stalled_by}
 

@@ -1,7 +1,6 @@
 -- The step of the loop that writes the instructions in the stages.
 use Rattle.std.proofs.Common.{◌≡◌, ◌∙◌, ℕ, suc, ◌+◌, ◌-◌, ◌<◌, List, ◌++◌, Option, ap, sym, arith}
-use Rattle.std.proofs.lemmas.List.{append_assoc}
-use Rattle.std.specs.Prelude.{codes}
+use Rattle.std.{proofs.lemmas.List.append_assoc, specs.Prelude.codes}
 use Rattle.kp_timing.specs.Lines.{held_text, holds_text}
 
 pub hold_more : (hold : ℕ → Option ℕ) (front more : List ℕ) (n k : ℕ) → k < n → more ≡ front ++ (codes " " ++ held_text (hold k))

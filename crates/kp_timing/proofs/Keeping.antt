@@ -1,29 +1,26 @@
 -- The invariant of a timeline, cycle by cycle.
 use Rattle.std.proofs.Common.{◌≡◌, ◌∙◌, ℕ, zero, suc, ◌+◌, ◌-◌, ◌<◌, ◌≤◌, List, [], ◌∷◌, Option, Some, None, Bool, true, false, cond, not, ◌&&◌, length, get_or, set, replicate, ◌^◌, refl, ap, sym, subst, arith, inr}
 use Rattle.std.proofs.lemmas.{Bool.and_parts, Bool.and_right, Bool.leb-true, List.length-set, List.get_or-set_same, List.get_or-set_other}
-use Rattle.std.proofs.lemmas.List.Sums.{sum_by-cons}
-use Rattle.std.specs.Prelude.{is_some, unwrap_or, sum_by, nat_le}
+use Rattle.std.{proofs.lemmas.List.Sums.sum_by-cons, specs.Prelude.is_some, specs.Prelude.unwrap_or, specs.Prelude.sum_by, specs.Prelude.nat_le}
 use Rattle.kp_base.specs.Refusal.{e_rule}
 use Rattle.kp_stage.specs.{Facts.facts_of, Stages.broken_of, Counts.summary_of, Counts.samples_in, declared.start.Start.Start}
 use Rattle.kp_stage.proofs.Unbroken.{answer_none}
-use Rattle.kp_machine.proofs.{Rules.rules_kept, Rules.head_kept, Cases.by_test, Stages.stages_inside}
+use Rattle.kp_machine.{proofs.Rules.rules_kept, proofs.Rules.head_kept, proofs.Cases.by_test, proofs.Stages.stages_inside, specs.Slots.samples_of}
+use Rattle.kp_machine.specs.Machine.{machine_of, state_of, values_in}
 use Rattle.kp_ast.specs.declared.tree.{Decl.Decl, Job.Job}
 use Rattle.kp_ast.specs.declared.tree.Decl.TheVariants as decls
 use Rattle.kp_pipeline.specs.{Sequential.seq, Machine.Machine}
 use Rattle.kp_pipeline.specs.{Timeline.no_samples, Timeline.waits, Timeline.moves_on, Timeline.next_number, Timeline.next_hold, Timeline.start_hold, Rows.bits}
-use Rattle.kp_machine.specs.{Slots.samples_of, Machine.machine_of, Machine.state_of, Machine.values_in}
-use Rattle.kp_seq.specs.Running.{Running, state, after_one}
-use Rattle.kp_seq.specs.Recorded.{Recorded, record_of}
+use Rattle.kp_pipeline.proofs.Lists.{bits-same}
+use Rattle.kp_seq.specs.{Running.Running, Running.state, Running.after_one, Recorded.Recorded, Recorded.record_of}
 use Rattle.kp_base.specs.declared.row.Row as masks
 use Rattle.kp_sched.specs.Rows.{bit_of, row_seen}
-use Rattle.kp_sites.specs.{Sites.Sited, Reports.HasRoom, Reports.nothing_recorded}
-use Rattle.kp_sites.proofs.Sizes.{record_room}
+use Rattle.kp_sites.{specs.Sites.Sited, specs.Reports.HasRoom, specs.Reports.nothing_recorded, proofs.Sizes.record_room}
 use Rattle.kp_timing.specs.{Timed.IsPlain, Timed.stalled_by, declared.deciding.Found.Found}
 use Rattle.kp_timing.specs.inner.Deciding.{Held, record_in, moves_by, taken_down, found_down, no_stage_found}
 use Rattle.kp_timing.specs.inner.Kept.{AreSites, IsKept, Advances}
 use Rattle.kp_timing.proofs.Decisions.{AllFound, found, moves_is, nothing}
 use Rattle.kp_timing.proofs.Moving.{taken_counts, hold_first, hold_taken, record_up, record_kept, all_came_from}
-use Rattle.kp_pipeline.proofs.Lists.{bits-same}
 
 -- a job that counts no samples has none
 sample_none : (ds : List Decl) → sum_by samples_in ds ≡ 0 → samples_of ds ≡ []
@@ -41,9 +38,6 @@ stages_are sites = ap (λ (s : Sited). s.stages) sites.is
 pub rooms_taken : (job : Job) (b : List Bool) (d : ℕ) (h : Held) → d < length h.recorded → ((k : ℕ) → k < length h.recorded → HasRoom job (record_in h k))
     → (k : ℕ) → k < length h.recorded → HasRoom job (record_in (taken_down b d h) k)
 rooms_taken job b d h l rooms k n = let from = all_came_from b d h k l n in subst (HasRoom job) (sym from.2) (rooms from.0 from.1)
-
-values_none : (x : ℕ) → values_in [] x ≡ 0
-values_none x = refl
 
 module _ (job : Job) (start : Start) (cycles : ℕ) (m : Running) (s : Sited) (h : Held) (ext : ℕ) (k : IsKept job start cycles m s h) where
   abbrev machine : Machine
@@ -253,10 +247,6 @@ few_stages job kept =
 -- after opening, stage 0 contains instruction 0, which the machine has executed
 abbrev pub first_hold : List (Option ℕ)
 first_hold = set (replicate 12 None) 0 (Some 0)
-
-pub opened_hold : (k : ℕ) → get_or first_hold k None ≡ start_hold k
-opened_hold zero = refl
-opened_hold (suc k) = nothing None 11 k
 
 record_only_first : (job : Job) (s : ℕ → ℕ → ℕ) (recorded : List Recorded) → get_or recorded 0 nothing_recorded ≡ record_of job s (λ x. 0) → (k i : ℕ) → get_or first_hold k None ≡ Some i
     → get_or recorded k nothing_recorded ≡ record_of job (seq (machine_of job) s no_samples i) (λ x. 0)

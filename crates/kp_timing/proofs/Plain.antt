@@ -1,7 +1,6 @@
 -- A job that E38 doesn't reject has no guess and no sample.
 use Rattle.std.proofs.Common.{◌≡◌, ◌+◌, List, [], ◌∷◌, ◌++◌, length, length-append, Option, Some, None, option_map, refl, arith}
-use Rattle.std.proofs.lemmas.List.Sums.{sum_by-cons}
-use Rattle.std.specs.Prelude.{sum_by}
+use Rattle.std.{proofs.lemmas.List.Sums.sum_by-cons, specs.Prelude.sum_by}
 use Rattle.kp_base.specs.{Refusal.e_rule, declared.place.Place.Place}
 use Rattle.kp_ast.specs.declared.tree.{Expr.Expr, ReadStmt.ReadStmt, Decl.Decl, Stmt.Stmt, StmtKind.StmtKind, Block.Block, Job.Job}
 use Rattle.kp_ast.specs.declared.tree.Decl.TheVariants as decls

@@ -5,8 +5,7 @@ use Rattle.kp_base.specs.declared.row.Row as masks
 use Rattle.kp_ast.specs.declared.tree.Job.{Job}
 use Rattle.kp_stage.specs.declared.start.Start.{Start}
 use Rattle.kp_pipeline.specs.Timeline.{ReadyAbove, may_write, is_ready, waits_given, blocked_given, ready_below, ready_from, ready_above, waits, blocked, moves_on, next_number, next_hold, start_hold, timeline_rows}
-use Rattle.kp_pipeline.specs.{Machine.Machine, Pipeline.Inputs, Pipeline.is_candidate, Rows.Row, Rows.bits}
-use Rattle.kp_pipeline.proofs.Lists.{bits-same}
+use Rattle.kp_pipeline.{specs.Machine.Machine, specs.Pipeline.Inputs, specs.Pipeline.is_candidate, specs.Rows.Row, specs.Rows.bits, proofs.Lists.bits-same}
 use Rattle.kp_machine.specs.Machine.{machine_of, state_of}
 use Rattle.kp_sched.specs.Rows.{row_seen, rows_seen}
 use Rattle.kp_timing.specs.{Timed.Timed, Timed.IsOpened, Timed.hold_of, Timed.stalled_by, Cycles.Cycles, Cycles.StallAlike}

@@ -1,10 +1,9 @@
 -- The steps of the loops over stages.
 use Rattle.std.proofs.Common.{◌≡◌, ◌∙◌, ℕ, suc, ◌+◌, ◌-◌, ◌<◌, ◌≤◌, List, Option, None, Bool, true, false, cond, leb, not, ◌&&◌, ◌||◌, drop, length, get_or, set, ap, sym, arith}
-use Rattle.std.proofs.lemmas.List.{drop_more}
-use Rattle.std.specs.List.{swap}
+use Rattle.std.{proofs.lemmas.List.drop_more, specs.List.swap}
 use Rattle.kp_timing.specs.inner.Deciding.{Held, record_in, is_full, met_from, is_unmet, some_unmet_from, found_at, found_down, moves_by, taken_by, taken_down}
-use Rattle.kp_sites.specs.{declared.sites.Site.Site, declared.sites.Writer.Writer, Sites.Sited, Reports.is_ready, Reports.may_write}
 use Rattle.kp_timing.specs.declared.deciding.Found.{Found}
+use Rattle.kp_sites.specs.{declared.sites.Site.Site, declared.sites.Writer.Writer, Sites.Sited, Reports.is_ready, Reports.may_write}
 
 -- the stages above a read
 pub met_here : (h : Held) (b : List Bool) (w : Writer) (a n k : ℕ) → k < n → (is_full h k && (leb k w.write && may_write w (record_in h k) k a)) ≡ true
@@ -45,15 +44,3 @@ module _ (b : List Bool) (h : Held) (k : ℕ) (some : 1 ≤ k) where
 
   same : k - 1 + 1 ≡ k
   same = omega arith
-
-  pub taken_moved : moves_by h b (k - 1) ≡ true → taken_by b h (k - 1) ≡ record { hold = set h.hold k (get_or h.hold (k - 1) None); recorded = swap h.recorded (k - 1) k }
-  taken_moved e =
-      ap (λ c. cond c (record { hold = set h.hold (k - 1 + 1) (get_or h.hold (k - 1) None); recorded = swap h.recorded (k - 1) (k - 1 + 1) })
-      (cond (get_or b (k - 1 + 1) false) h (record h { hold = set h.hold (k - 1 + 1) None }))) e
-      ∙ ap (λ i. record { hold = set h.hold i (get_or h.hold (k - 1) None); recorded = swap h.recorded (k - 1) i }) same
-
-  pub taken_other : moves_by h b (k - 1) ≡ false → taken_by b h (k - 1) ≡ cond (get_or b k false) h (record h { hold = set h.hold k None })
-  taken_other e =
-      ap (λ c. cond c (record { hold = set h.hold (k - 1 + 1) (get_or h.hold (k - 1) None); recorded = swap h.recorded (k - 1) (k - 1 + 1) })
-      (cond (get_or b (k - 1 + 1) false) h (record h { hold = set h.hold (k - 1 + 1) None }))) e
-      ∙ ap (λ i. cond (get_or b i false) h (record h { hold = set h.hold i None })) same

@@ -5,10 +5,9 @@ use Rattle.kp_base.specs.{inner.Bytes.WrittenUpTo, declared.row.Row.Row}
 use Rattle.kp_ast.specs.declared.tree.Job.{Job}
 use Rattle.kp_stage.specs.{Start.stall_word, Start.start_of, declared.start.Start.Start}
 use Rattle.kp_pipeline.specs.Rows.{one_if}
-use Rattle.kp_sched.specs.Rows.{bit_of}
+use Rattle.kp_sched.{specs.Rows.bit_of, proofs.Bits.stalled_bit}
 use Rattle.kp_timing.specs.{Lines.timing_line, Lines.timing_text, Lines.total_line, Timed.Timed, Timed.IsCycle, Timed.IsOpened, Timed.hold_of}
 use Rattle.kp_timing.proofs.Texts.{text_left, cycle_text, opening_text}
-use Rattle.kp_sched.proofs.Bits.{stalled_bit}
 
 -- the text that is left is the same
 pub left_is : (whole rest same : List ℕ) (a b : Option (List ℕ)) → rest ≡ same → WrittenUpTo whole rest a b → WrittenUpTo whole same a b

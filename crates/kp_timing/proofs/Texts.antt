@@ -6,8 +6,8 @@ use Rattle.kp_ast.specs.declared.tree.Job.{Job}
 use Rattle.kp_stage.specs.{declared.start.Start.Start, Start.is_stalled, Start.start_of, Start.stalls_of}
 use Rattle.kp_pipeline.specs.{Machine.Machine, Pipeline.Inputs, Rows.bit, Rows.bits, Rows.one_if}
 use Rattle.kp_pipeline.specs.Timeline.{waits, moves_on, next_hold, start_hold}
-use Rattle.kp_pipeline.specs.Rows as law
 use Rattle.kp_pipeline.proofs.Lists.{bit-at, bits-same}
+use Rattle.kp_pipeline.specs.Rows as law
 use Rattle.kp_machine.specs.Machine.{machine_of, state_of, inputs_at}
 use Rattle.kp_sched.specs.{Lines.digits, Rows.bit_of}
 use Rattle.kp_timing.specs.Lines.{held_text, holds_text, timing_line, timing_from, timing_text}

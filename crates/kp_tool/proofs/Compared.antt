@@ -1,7 +1,6 @@
 -- What is written about a netlist that was run and compared is the specified outcome.
 use Rattle.std.proofs.Common.{◌≡◌, ◌∙◌, ℕ, ◌≤◌, ◌<◌, ◌++◌, List, length, take, Option, Some, None, refl, ap, ap₂, sym, subst, arith}
-use Rattle.std.proofs.lemmas.List.{take-map}
-use Rattle.std.specs.Prelude.{MatchOption, IfSome}
+use Rattle.std.{proofs.lemmas.List.take-map, specs.Prelude.MatchOption, specs.Prelude.IfSome}
 use Rattle.kp_base.specs.declared.row.Row as masks
 use Rattle.kp_bits.specs.Word.{word}
 use Rattle.kp_ast.specs.declared.tree.Job.{Job}
@@ -12,9 +11,8 @@ use Rattle.kp_sched.specs.{Lines.row_lines, Monitors.Kept, Rows.row_seen, Rows.r
 use Rattle.kp_sched.proofs.Counting.{seen_length}
 use Rattle.kp_seq.specs.Running.{HasWord, target}
 use Rattle.kp_synth_spec.specs.Traces.{trace_of}
-use Rattle.kp_run.specs.{Boards.due_behind, Cycles.HasRows, declared.board.Board.Board}
+use Rattle.kp_run.{specs.Boards.due_behind, specs.Cycles.HasRows, specs.declared.board.Board.Board, proofs.Prefixes.rows_many}
 use Rattle.kp_watch.specs.{Watching.own_trace, Watching.own_due, Watching.Agrees, Watching.IsFirstDifference, declared.compare.Difference.Difference}
-use Rattle.kp_run.proofs.Prefixes.{rows_many}
 use Rattle.kp_tool_report.specs.{Runs.run_text, Runs.count_line, States.State, Texts.differs_line}
 use Rattle.kp_tool_report.specs.inner.Differing as shown
 use Rattle.kp_tool_spec.proofs.OwnText.{run_text_alike}

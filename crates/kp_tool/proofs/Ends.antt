@@ -9,8 +9,7 @@ use Rattle.kp_frontend.specs.{Judging.JudgesText, Judging.JudgesHeadText, Accept
 use Rattle.kp_vlog.specs.Verdict.{AnswersNet}
 use Rattle.kp_timing.specs.{Unfit.untimed, Lines.timing_text}
 use Rattle.kp_tool_report.specs.Texts.{refusal_line}
-use Rattle.kp_tool_spec.specs.{Saying.Says, Due.DueFor, Due.DueOfJob, Due.DueOfTiming, Read.ReadsVerilog}
-use Rattle.kp_tool_spec.proofs.Dues.{accepted_is_due}
+use Rattle.kp_tool_spec.{specs.Saying.Says, specs.Due.DueFor, specs.Due.DueOfJob, specs.Due.DueOfTiming, specs.Read.ReadsVerilog, proofs.Dues.accepted_is_due}
 use Rattle.kp_tool.specs.{Ends.Ends, Ends.EndsAt, inner.Failures.failure_of, inner.Failures.misread_of, declared.failure.Failure.Failure}
 use Rattle.kp_tool.specs.declared.failure.Stop.{Stop, TheVariants.ReadFault, TheVariants.WriteFault, TheVariants.NoMemory}
 use Rattle.kp_tool.specs.declared.failure.Failure.TheVariants as failure

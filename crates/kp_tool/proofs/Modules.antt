@@ -7,8 +7,7 @@ use Rattle.kp_ast.specs.declared.tree.Job.{Job}
 use Rattle.kp_vread_match.specs.Matching.{IsRefused}
 use Rattle.kp_net.specs.{Names.IsNamed, Netlist.Net}
 use Rattle.kp_synth_spec.specs.Shows.{HasOutputs, IsOfJob}
-use Rattle.kp_vlog.specs.Verdict.{AnswersNet}
-use Rattle.kp_vlog.proofs.Sound.{denoted_named}
+use Rattle.kp_vlog.{specs.Verdict.AnswersNet, proofs.Sound.denoted_named}
 use Rattle.kp_tool_spec.specs.{Watched.wrong_netlist, Compared.ReadsModule, Compared.misread, Compared.not_jobs, Compared.jobs}
 use Rattle.kp_tool_report.specs.Texts.{refusal_line}
 use Rattle.kp_tool.specs.{Ends.Ends, inner.Failures.misread_of, inner.Modules.RefusesModule, inner.Modules.MisreadsModule, declared.failure.Failure.Failure}

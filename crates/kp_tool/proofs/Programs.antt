@@ -1,7 +1,6 @@
 -- The ends of `asm`: from an assembler program to the specified outcome.
 use Rattle.std.proofs.Common.{◌≡◌, ◌∙◌, ℕ, ◌≤◌, List, length, Ok, Err, Some, refl, sym, subst}
-use Rattle.std.proofs.lemmas.Bool.{le-ltb}
-use Rattle.std.specs.declared.{option.Option.Option, result.Result.Result}
+use Rattle.std.{proofs.lemmas.Bool.le-ltb, specs.declared.option.Option.Option, specs.declared.result.Result.Result}
 use Rattle.kp_base.specs.{Check.Gives, declared.refusal.Refusal.Refusal, declared.refusal.Refused.Refused}
 use Rattle.kp_base.specs.declared.refusal.Refused.TheVariants as refused
 use Rattle.kp_asm.specs.{Image.image_text_of, Program.assembled}

@@ -1,7 +1,6 @@
 -- The steps of the loops that write a state.
 use Rattle.std.proofs.Common.{◌≡◌, ◌∙◌, ℕ, zero, suc, ◌+◌, ◌-◌, ◌<◌, ◌≤◌, List, [], ◌∷◌, ◌++◌, length, get_or, drop, ap, sym, subst, arith}
-use Rattle.std.proofs.lemmas.List.{drop_more, drop_all, drop-drop}
-use Rattle.std.specs.{declared.option.Option.Option, List.All}
+use Rattle.std.{proofs.lemmas.List.drop_more, proofs.lemmas.List.drop_all, proofs.lemmas.List.drop-drop, specs.declared.option.Option.Option, specs.List.All}
 use Rattle.kp_base.specs.inner.Bytes.{WrittenUpTo}
 use Rattle.kp_ast.specs.declared.tree.{Decl.Decl, Job.Job}
 use Rattle.kp_ast.specs.declared.tree.Decl.TheVariants as decls
@@ -75,10 +74,6 @@ module _ (ds : List Decl) (i : ℕ) (x : Decl) (h : i < length ds) (is : x ≡ g
   -- and then the next one
   pub past : (t : ℕ) → drop t (targets_of ds) ≡ targets_of (drop i ds) → drop (t + targets_in x) (targets_of ds) ≡ targets_of (drop (i + 1) ds)
   past t e = past_by t x (e ∙ ap targets_of at)
-
--- after the last declaration nothing is left
-pub state_end : (ds : List Decl) (i t : ℕ) (behind : Behind) (state : State) → length ds ≤ i → state_lines t behind state (drop i ds) ≡ []
-state_end ds i t behind state h = ap (state_lines t behind state) (drop_all i ds h)
 
 pub at_most_one : (d : Decl) → targets_in d ≤ 1
 at_most_one (decls.Reg n width start) = omega arith

@@ -2,9 +2,8 @@
 use Rattle.std.proofs.Common.{◌≡◌, ◌∙◌, ℕ, suc, ◌+◌, ◌-◌, ◌<◌, List, ◌++◌, length, get_or, drop, ap, sym, Some, arith}
 use Rattle.std.proofs.lemmas.List.{drop_more}
 use Rattle.kp_base.specs.declared.row.Row.{Row}
-use Rattle.kp_sched.specs.{Lines.row_line, Lines.row_lines, Rows.row_seen, Rows.rows_seen, Runs.passes}
+use Rattle.kp_sched.{specs.Lines.row_line, specs.Lines.row_lines, specs.Rows.row_seen, specs.Rows.rows_seen, specs.Runs.passes, proofs.Counting.seen_length}
 use Rattle.kp_ast.specs.declared.tree.Job.{Job}
-use Rattle.kp_sched.proofs.Counting.{seen_length}
 use Rattle.kp_run.specs.Boards.{due_behind}
 use Rattle.kp_tool_report.specs.{Runs.number_behind, Runs.counts_from, Runs.count_line, Runs.run_text, States.state_lines, inner.Boards.board_text}
 

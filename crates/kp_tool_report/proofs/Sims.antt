@@ -3,14 +3,11 @@ use Rattle.std.proofs.Common.{◌≡◌, ◌∙◌, ℕ, List, length, ap, sym}
 use Rattle.kp_base.specs.declared.row.Row.{Row}
 use Rattle.kp_ast.specs.declared.tree.Job.{Job}
 use Rattle.kp_stage.specs.Start.{start_of}
-use Rattle.kp_pipeline.specs.Pipeline.{pipeline_start}
+use Rattle.kp_pipeline.{specs.Pipeline.pipeline_start, proofs.Taken.rows-length}
 use Rattle.kp_pipeline.specs.Rows as law
-use Rattle.kp_pipeline.proofs.Taken.{rows-length}
 use Rattle.kp_machine.specs.Machine.{machine_of, state_of, start_hints, inputs_from, pipe_of}
-use Rattle.kp_sched.specs.{Rows.rows_seen, Runs.due_value}
-use Rattle.kp_sched.proofs.Counting.{seen_length}
-use Rattle.kp_run.specs.Boards.{due_behind}
-use Rattle.kp_run.proofs.Legal.{inputs_many}
+use Rattle.kp_sched.{specs.Rows.rows_seen, specs.Runs.due_value, proofs.Counting.seen_length}
+use Rattle.kp_run.{specs.Boards.due_behind, proofs.Legal.inputs_many}
 use Rattle.kp_tool_report.specs.Runs.{run_text, sim_text}
 
 -- a row for each cycle

@@ -1,30 +1,24 @@
 -- How the commands agree, derived from the specified outcomes.
 use Rattle.std.proofs.Common.{◌∙◌, ◌≡◌, ℕ, true, List, [], ◌∷◌, length, None, Some, Ok, Err, inl, inr, refl, ap, sym, subst, arith}
-use Rattle.std.proofs.{Math.Path.fun_ext, lemmas.Bool.cond-true}
-use Rattle.std.specs.declared.option.Option.{Option}
+use Rattle.std.{proofs.Math.Path.fun_ext, proofs.lemmas.Bool.cond-true, specs.declared.option.Option.Option}
 use Rattle.kp_base.specs.{First.first, declared.refusal.Refusal.Refusal}
 use Rattle.kp_ast.specs.declared.tree.Job.{Job}
 use Rattle.kp_width.specs.Widths.{widths_of}
 use Rattle.kp_image.specs.Sections.{sections_of}
-use Rattle.kp_stage.specs.{Counts.summary_of, Stages.broken_of, Start.start_of, Start.input as samples_at}
-use Rattle.kp_stage.proofs.Unbroken.{first_none}
+use Rattle.kp_stage.{specs.Counts.summary_of, specs.Stages.broken_of, specs.Start.start_of, specs.Start.input as samples_at, proofs.Unbroken.first_none}
 use Rattle.kp_pipeline.specs.{Accepted.Accepted, Pipeline.Inputs, Rows.Row, Rows.Trace, Rows.counts, Rows.passed, Rows.taken}
 use Rattle.kp_pipeline.proofs.{Counts.counts-passed, Legality.legal}
 use Rattle.kp_machine.specs.Machine.{machine_of, state_of, start_hints, pipe_of, inputs_from, values_in}
 use Rattle.kp_machine_laws.proofs.Sampleless.{same_run}
 use Rattle.kp_net.specs.Netlist.{Net, Input}
-use Rattle.kp_sched.specs.Runs.{passes, due_value, ShowsAlike}
-use Rattle.kp_sched.proofs.Runs.{alike_is_legal}
+use Rattle.kp_sched.{specs.Runs.passes, specs.Runs.due_value, specs.Runs.ShowsAlike, proofs.Runs.alike_is_legal}
 use Rattle.kp_synth_spec.specs.{Naming.module_name, Traces.trace_of, Traces.inputs_seen}
-use Rattle.kp_run.specs.Cycles.{inputs_to}
-use Rattle.kp_run.proofs.Inputs.{seen_to, quiet_to}
+use Rattle.kp_run.{specs.Cycles.inputs_to, proofs.Inputs.seen_to, proofs.Inputs.quiet_to}
 use Rattle.kp_watch.specs.Watching.{own_trace, Agrees}
 use Rattle.kp_equiv.specs.Showing.{ShowsButName}
-use Rattle.kp_frontend.specs.Judging.{Judges, JudgesHead, broken_in}
-use Rattle.kp_frontend.proofs.Verdicts.{one_verdict}
+use Rattle.kp_frontend.{specs.Judging.Judges, specs.Judging.JudgesHead, specs.Judging.broken_in, proofs.Verdicts.one_verdict}
 use Rattle.kp_timing.specs.Unfit.{untimed}
-use Rattle.kp_tool_words.specs.declared.words.JobCommand.{JobCommand}
-use Rattle.kp_tool_words.specs.declared.words.JobCommand.TheVariants.{Seq, Check, Sim, Timing, Pipe}
+use Rattle.kp_tool_words.specs.declared.words.JobCommand.{JobCommand, TheVariants.Seq, TheVariants.Check, TheVariants.Sim, TheVariants.Timing, TheVariants.Pipe}
 use Rattle.kp_tool_words.specs.declared.words.Command.TheVariants.{OnJob, Read, Watch}
 use Rattle.kp_tool_report.specs.{States.sequential_text, States.text_after, Runs.run_text, Runs.sim_text, Runs.counts_behind}
 use Rattle.kp_tool_report.proofs.Sims.{rows_many}

@@ -7,9 +7,8 @@ use Rattle.kp_ast.specs.declared.tree.Job.{Job}
 use Rattle.kp_net.specs.Netlist.{Net, run}
 use Rattle.kp_sched.proofs.Counting.{seen_length}
 use Rattle.kp_synth_spec.specs.Traces.{trace_of}
-use Rattle.kp_run.specs.Cycles.{inputs_to}
+use Rattle.kp_run.{specs.Cycles.inputs_to, proofs.Prefixes.rows_many}
 use Rattle.kp_watch.specs.Watching.{own_trace, own_due, Agrees, IsFirstDifference}
-use Rattle.kp_run.proofs.Prefixes.{rows_many}
 use Rattle.kp_tool_spec.specs.Watched.{own_text, differing_text, DueOfRun, agrees, differs}
 
 -- the first of n numbers that is bad, where each is good or bad

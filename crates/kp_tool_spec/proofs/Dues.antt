@@ -1,7 +1,6 @@
 -- The laws about specified outcomes that the top call needs.
 use Rattle.std.proofs.Common.{true, sym, subst, IfSome, ap, drop, [], ◌++◌, ◌⊎◌, ◌∙◌, inl, None, arith, append-nil, length-append, ◌≡◌, ℕ, ◌<◌, ◌≤◌, List, length, refl, inr, Some, Ok, Err}
-use Rattle.std.proofs.lemmas.Bool.{lt-ltb}
-use Rattle.std.specs.{declared.option.Option.Option, Io.KnownBytes.Consumes, declared.result.Result.Result}
+use Rattle.std.{proofs.lemmas.Bool.lt-ltb, specs.declared.option.Option.Option, specs.Io.KnownBytes.Consumes, specs.declared.result.Result.Result}
 use Rattle.kp_tool_words.specs.declared.words.Command.TheVariants.{OnJob, Assemble, Read, Watch, Compare, Debug, Generate}
 use Rattle.kp_tool_words.specs.{declared.words.Command.Command, declared.words.JobCommand.JobCommand, Words.command_of, Words.reads_input}
 use Rattle.kp_base.specs.declared.refusal.Refusal.{Refusal}

@@ -4,8 +4,7 @@ use Rattle.std.specs.declared.{option.Option.Option, result.Result.Result}
 use Rattle.kp_base.specs.declared.refusal.Refusal.{Refusal}
 use Rattle.kp_bits.specs.Word.{Word}
 use Rattle.kp_ast.specs.declared.tree.Job.{Job}
-use Rattle.kp_stage.specs.Start.{start_of}
-use Rattle.kp_stage.proofs.Unbroken.{first_none}
+use Rattle.kp_stage.{specs.Start.start_of, proofs.Unbroken.first_none}
 use Rattle.kp_pipeline.specs.{Accepted.Accepted, Pipeline.Inputs, Rows.Row, Rows.Trace, Rows.pipe, Rows.taken, Timeline.start_hold}
 use Rattle.kp_pipeline.specs.{SpeculativeTimeline.timeline_rows as path_rows, RightPath.NoWrongGuess, RightPath.WaitsOnlyWhereItMust, RightPath.first_moment}
 use Rattle.kp_pipeline.proofs.{Legality.legal, Progress.moves, Progress.never-squashed, Timeline.same-rows, Runs.rows-right, Runs.waits-only}
@@ -22,28 +21,23 @@ use Rattle.kp_frontend.specs.Judging.{Judges, broken_in, JudgesHead, Judges.with
 use Rattle.kp_frontend.specs.Judging.JudgesHead.{head_within}
 use Rattle.kp_tool_words.specs.declared.words.JobCommand.TheVariants.{Sim, Vcd, Timing, Pipe}
 use Rattle.kp_tool_words.specs.declared.words.Command.TheVariants.{OnJob, Watch, Compare, Debug, Generate}
-use Rattle.kp_tool_report.specs.Runs.{sim_text}
-use Rattle.kp_tool_report.proofs.Sims.{rows_many}
+use Rattle.kp_tool_report.{specs.Runs.sim_text, proofs.Sims.rows_many}
 use Rattle.kp_gen.specs.Generated.{gen_job}
 use Rattle.kp_gen_valid.proofs.Unbroken.{generated_unbroken}
 use Rattle.kp_gen_report.specs.Line.{gen_text, totals_of, totals_line}
-use Rattle.kp_vcd.specs.Held.{held, Changes}
-use Rattle.kp_vcd.proofs.Holding.{recorded_held, recorded_new}
-use Rattle.kp_vcd_run.specs.Dumps.{own_run, values_at, vcd_dump}
-use Rattle.kp_vcd_run.proofs.Lasting.{run_lasts}
-use Rattle.kp_timing.specs.Unfit.{untimed}
-use Rattle.kp_timing.proofs.Plain.{has_timeline}
+use Rattle.kp_vcd.{specs.Held.held, specs.Held.Changes, proofs.Holding.recorded_held, proofs.Holding.recorded_new}
+use Rattle.kp_vcd_run.{specs.Dumps.own_run, specs.Dumps.values_at, specs.Dumps.vcd_dump, proofs.Lasting.run_lasts}
+use Rattle.kp_timing.{specs.Unfit.untimed, proofs.Plain.has_timeline}
 use Rattle.kp_tool_spec.specs.Headline.{IsMoving, HasNoNeedlessStall, HasNoNeedlessStallFrom, IsVerilogWith, IsRunWith, IsDumpedWith, IsGeneratedWith, IsTimed, IsDebuggedWith, IsNetlistWith, IsPairAlike, Implements, IsImplementation, RunsWith, IsPairWith}
 use Rattle.kp_tool_spec.specs.{Due.DueFor, Due.DueOfTiming, Read.ReadsVerilog}
 use Rattle.kp_tool_spec.specs.{Watched.agrees, Watched.differs, Watched.DueOfNetlist, Watched.of_other, Watched.of_job, Compared.jobs, Compared.DueOfModules}
-use Rattle.kp_tool_spec.specs.Scripted.{DueOfScript}
+use Rattle.kp_tool_spec.{specs.Scripted.DueOfScript, proofs.Pairs.first_right, proofs.Pairs.second_right, proofs.Pairs.comparable_pair}
 use Rattle.kp_net.specs.Netlist.{Net, Input, State, start_of as begin_of, state_after, last_of}
 use Rattle.kp_vread_split.specs.Splitting.{FirstEnds}
 use Rattle.kp_equiv.specs.{declared.verdict.Verdict.TheVariants.Same, declared.verdict.Verdict.TheVariants.Differs, Showing.renamed}
 use Rattle.kp_equiv.proofs.{Running.theorem, Shown.states_same, Shown.rows_same, Shown.first_shows, Shown.second_shows, Anew.first_begins, Anew.second_begins}
 use Rattle.kp_debug_script.specs.{declared.command.Command.Command, Scripts.script_of}
 use Rattle.kp_debug_report.specs.Inspecting.{all_cycles, whole_run}
-use Rattle.kp_tool_spec.proofs.Pairs.{first_right, second_right, comparable_pair}
 
 pub judged_unbroken : (input : List ℕ) (job : Job) → Judges input (Ok job) → broken_in job ≡ None
 judged_unbroken input job (within short (no_rule_broken describes none)) = none

@@ -1,9 +1,7 @@
 -- The arguments and an input have exactly one specified outcome: one status with one text.
 use Rattle.std.proofs.Common.{◌≡◌, ◌∙◌, ◌≤◌, ℕ, List, take, drop, Bool, true, false, Result, Ok, Err, Some, None, length, inl, inr, sym, subst, refl, ap, arith}
-use Rattle.std.proofs.lemmas.Bool.{cases_lt, Decides.not_from_Decides}
-use Rattle.kp_vread_match.specs.inner.Whole.{is_of_job}
-use Rattle.kp_vread_match.proofs.Whole.{is_found}
-use Rattle.std.specs.declared.option.Option.{Option}
+use Rattle.std.{proofs.lemmas.Bool.cases_lt, proofs.lemmas.Bool.Decides.not_from_Decides, specs.declared.option.Option.Option}
+use Rattle.kp_vread_match.{specs.inner.Whole.is_of_job, proofs.Whole.is_found}
 use Rattle.kp_base.specs.declared.refusal.Refusal.{Refusal}
 use Rattle.kp_ast.specs.declared.tree.Job.{Job}
 use Rattle.kp_stage.specs.Counts.{summary_of}
@@ -19,22 +17,20 @@ use Rattle.kp_tool_report.specs.{Texts.bad_words, Texts.refusal_line, Texts.acce
 use Rattle.kp_gen_report.specs.Line.{gen_text}
 use Rattle.kp_vcd_run.specs.Dumps.{vcd_text}
 use Rattle.kp_net.specs.Netlist.{Net}
-use Rattle.kp_vlog.specs.{Canon.canon, Rules.Fault, Verdict.refusal_of}
+use Rattle.kp_vlog.{specs.Canon.canon, specs.Rules.Fault, specs.Verdict.refusal_of, proofs.Unique.one_net, proofs.Unique.one_rule, proofs.Unique.no_rule}
 use Rattle.kp_vread_split.proofs.Ends.{one_end, some_end}
 use Rattle.kp_synth_spec.specs.Shows.{IsOfJob}
-use Rattle.kp_equiv.specs.Texts.{verdict_line}
-use Rattle.kp_equiv.proofs.Deciding.{one_verdict as one_comparison, some_verdict as some_comparison}
-use Rattle.kp_vlog.proofs.Unique.{one_net, one_rule, no_rule}
+use Rattle.kp_equiv.{specs.Texts.verdict_line, proofs.Deciding.one_verdict as one_comparison, proofs.Deciding.some_verdict as some_comparison}
 use Rattle.kp_timing.specs.{Unfit.untimed, Lines.timing_text}
 use Rattle.kp_tool_spec.specs.Due.{Due, DueFor, DueOfJob, DueOfTiming, DueOfVerdict, DueOfProgram, program_of}
 use Rattle.kp_tool_spec.specs.Read.{ReadsVerilog, DueOfVerilog, DueOfRead, read_over, read_within}
 use Rattle.kp_tool_spec.specs.Compared.{verdict_status, DueOfPair, ReadsModule, misread, not_jobs, jobs, DueOfSecond, DueOfFirst, DueOfModules, DueOfPairHead, DueOfCompare}
 use Rattle.kp_tool_spec.specs.Scripted.{DueOfScript, DueOfScriptHead, DueOfDebug}
 use Rattle.kp_tool_spec.specs.Watched.{wrong_netlist, DueOfNetlist, of_other, of_job, DueOfText, DueOfHead, DueOfWatch}
-use Rattle.kp_debug_script.specs.{declared.command.Command.Command as Step, Scripts.script_of}
-use Rattle.kp_debug_report.specs.Inspecting.{debug_text}
 use Rattle.kp_tool_spec.proofs.{Pairs.first_right, Pairs.second_right, Pairs.comparable_pair, Readings.some_reading}
 use Rattle.kp_tool_spec.proofs.Differences.{said_of_run, run_said}
+use Rattle.kp_debug_script.specs.{declared.command.Command.Command as Step, Scripts.script_of}
+use Rattle.kp_debug_report.specs.Inspecting.{debug_text}
 
 -- the texts are equal, except for those that `pipe` may print for a job
 abbrev SameText : Option Command → List ℕ → List ℕ → Type 0

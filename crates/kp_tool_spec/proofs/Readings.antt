@@ -1,22 +1,19 @@
 -- A Verilog text has a verdict: a netlist, or a violated rule.
 use Rattle.std.proofs.Common.{ℕ, zero, suc, ◌≡◌, ◌==◌, ◌⊎◌, inl, inr, ◌+◌, ◌-◌, ◌<◌, ◌≤◌, List, [], ◌∷◌, length, drop, Bool, true, false, cond, Result, Ok, Err, Some, None, refl, sym, subst, arith}
-use Rattle.std.proofs.lemmas.List.{length-drop}
-use Rattle.std.specs.declared.option.Option.{Option}
+use Rattle.std.{proofs.lemmas.List.length-drop, specs.declared.option.Option.Option}
 use Rattle.kp_base.specs.declared.refusal.Refusal.{Refusal}
 use Rattle.kp_grammar.specs.Machine.{Outcome, Accepts, Stops, Exceeds, Leads, accept, more, goes, take, make, wrong, lost, exceed}
-use Rattle.kp_grammar.specs.{Grammar.Nonterminal, Ranks.ranks_fit}
-use Rattle.kp_grammar.proofs.{Check.decides, Ends.ends, Laws.sentence, Laws.wrong_at}
+use Rattle.kp_grammar.{specs.Grammar.Nonterminal, specs.Ranks.ranks_fit, proofs.Check.decides, proofs.Ends.ends, proofs.Laws.sentence, proofs.Laws.wrong_at}
 use Rattle.kp_net.specs.Netlist.{Net}
 use Rattle.kp_vlog.specs.declared.{front.Front.Front, tree.VModule.VModule}
 use Rattle.kp_vlog.specs.Tokens.{Token, Lexes, at_end, past, token, LexesTo, here, past_gap, past_token}
 use Rattle.kp_vlog.specs.Language.{Sym, Value, verilog, rules, MODULE, PORT, STALLS, ITEMS, DECLARED, INITS, UPDATES}
 use Rattle.kp_vlog.specs.{inner.Follow.tables, inner.Kinds.front_of, Rules.Fault, Rules.broken, Denote.net_of, Denote.IsModule, Denote.Denotes}
 use Rattle.kp_vlog.specs.{Verdict.Breaks, Verdict.no_token, Verdict.wrong_token, Verdict.broken_rule, Verdict.refusal_of, Fronts.seen, Fronts.Fits}
+use Rattle.kp_vlog.proofs.{Fronts.seen_front, Fronts.fits_front, Predictive.is_predictive}
 use Rattle.kp_vlog.specs.declared.front.Front.TheVariants as fronts
 use Rattle.kp_vlog.specs.Tokens as tokens
-use Rattle.kp_vlog.proofs.{Fronts.seen_front, Fronts.fits_front, Predictive.is_predictive}
-use Rattle.kp_tool_spec.specs.Read.{ReadsVerilog}
-use Rattle.kp_tool_spec.proofs.VerilogShapes.{reads_module}
+use Rattle.kp_tool_spec.{specs.Read.ReadsVerilog, proofs.VerilogShapes.reads_module}
 
 -- Tokens: a text has them, or it has a first position at which none starts.
 abbrev IsLexed : ℕ → List ℕ → Type 0

@@ -2,11 +2,10 @@
 use Rattle.std.proofs.Common.{◌≡◌, ◌∙◌, ℕ, zero, suc, ◌+◌, ◌<◌, ◌==◌, ◌&&◌, Bool, true, false, not, cond, List, [], ◌∷◌, ◌++◌, length, drop, refl, sym, ap, subst, arith}
 use Rattle.std.proofs.lemmas.Bool.{eqb-true, and_parts}
 use Rattle.kp_base.specs.Characters.{run_length}
-use Rattle.kp_lex.specs.Text.{is_layout, gap_length}
-use Rattle.kp_lex.proofs.Fits.{or_left}
+use Rattle.kp_lex.{specs.Text.is_layout, specs.Text.gap_length, proofs.Fits.or_left}
 use Rattle.kp_vlog.specs.Tokens.{Token, is_in_line, front, skips, Lexes, past}
-use Rattle.kp_vlog.specs.Tokens as verilog
 use Rattle.kp_vlog.proofs.Tests.{when_true}
+use Rattle.kp_vlog.specs.Tokens as verilog
 use Rattle.kp_tool_spec.proofs.Heads.{LastIs}
 
 comment_at : (b c : ℕ) (rest : List ℕ) → b ≡ 47 → c ≡ 47 → front (b ∷ c ∷ rest) ≡ skips (run_length is_in_line (c ∷ rest) + 1)

@@ -1,12 +1,11 @@
 -- A job followed by what `pipe` wrote of it: `watch` finds no difference, and writes what `sim` does.
 use Rattle.std.proofs.Common.{◌∙◌, ◌≡◌, ℕ, List, ◌++◌, Some, Ok, Err, ap, sym, subst, arith}
 use Rattle.kp_ast.specs.declared.tree.Job.{Job}
-use Rattle.kp_frontend.specs.Judging.{Judges, JudgesText, Judges.within}
-use Rattle.kp_frontend.proofs.Verdicts.{one_verdict}
+use Rattle.kp_frontend.{specs.Judging.Judges, specs.Judging.JudgesText, specs.Judging.Judges.within, proofs.Verdicts.one_verdict}
 use Rattle.kp_tool_words.specs.declared.words.{JobCommand.TheVariants.Sim, JobCommand.TheVariants.Pipe, Command.TheVariants.OnJob, Command.TheVariants.Watch}
 use Rattle.kp_tool_report.specs.Runs.{sim_text}
-use Rattle.kp_tool_spec.specs.{Due.DueFor, Agreeing.IsWatched}
-use Rattle.kp_tool_spec.proofs.{Headline.judged_unbroken, Heads.EndsLine, Heads.ends_line, Watches.watched}
+use Rattle.kp_tool_spec.{specs.Due.DueFor, specs.Agreeing.IsWatched, proofs.Headline.judged_unbroken, proofs.Heads.EndsLine, proofs.Heads.ends_line}
+use Rattle.kp_tool_spec.proofs.Watches.{watched}
 
 sim_says : (n : ℕ) (input : List ℕ) (job : Job) (answer : List ℕ) → Judges input (Ok job) → DueFor (Some (OnJob (Sim n))) input 0 answer → answer ≡ sim_text n job
 sim_says n input job answer judged (Ok other, judged_too, said) =

@@ -1,16 +1,15 @@
 -- What `clap` returns for arguments none of which begins with `-`.
 use Rattle.std.proofs.Common.{◌≡◌, ◌∙◌, ◌⊎◌, ℕ, Bool, cond, true, false, refl, sym, ap, ap₂, subst, List, [], ◌∷◌, ◌&&◌, ◌||◌, ◌==◌, Option, Some, None, inl, inr, true≢false, codes, option_map, ⊎_elim}
-use Rattle.std.proofs.lemmas.{Bool.or_cases, Bool.or_parts, Slice.Eq.bytes_eq-Decides, Bool.eqb-true}
-use Rattle.std.specs.Prelude.{Box, nat_lt, nat_le, length, option_and_then, unwrap_or}
-use Rattle.std.specs.{Str.bytes_eq, List.list_any, Box.box_value}
+use Rattle.std.proofs.lemmas.{Bool.or_cases, Bool.or_parts, Bool.eqb-true, Slice.Eq.bytes_eq-Decides}
+use Rattle.std.specs.{Prelude.Box, Prelude.nat_lt, Prelude.nat_le, Prelude.length, Prelude.option_and_then, Prelude.unwrap_or, Str.bytes_eq, List.list_any}
+use Rattle.std.specs.Box.{box_value}
 use Rattle.clap.specs.Walk.{Held, Row, Rule, Text, arg_by_index, walked, nothing_held, to_positional}
-use Rattle.clap.specs.Simple.{subcommand_of, subcommand_rows}
-use Rattle.clap.specs.{declared.parser.matches.ArgMatches.TheViews.out-SubCommand, declared.parser.matches.SubCommand.SubCommand, Simple.Shape}
-use Rattle.clap.specs.{Kinds.Kinds, Faults.fault_of, Faults.turn_fault, Faults.walk_fault, Faults.defaults_fault}
+use Rattle.clap.specs.{Simple.subcommand_of, Simple.subcommand_rows, Simple.Shape, declared.parser.matches.ArgMatches.TheViews.out-SubCommand}
+use Rattle.clap.specs.{declared.parser.matches.SubCommand.SubCommand, Kinds.Kinds, Faults.fault_of, Faults.turn_fault, Faults.walk_fault, Faults.defaults_fault}
 use Rattle.kp_bits.specs.Literals.{number_of, number_within, numeral_value}
 use Rattle.kp_command_line.specs.Programs.{begins_with_dash}
-use Rattle.kp_command_line.proofs.Parses as parse
 use Rattle.kp_command_line.proofs.Parses.{IsRefused, named_or, plain_turn, plain_walked, refused_first, refused_second, standing}
+use Rattle.kp_command_line.proofs.Parses as parse
 use Rattle.kp_tool_words.specs.declared.words.Command.{Command}
 use Rattle.kp_tool_words.specs.declared.words.Command.TheVariants.{OnJob, Assemble, Read, Watch, Compare, Debug, Generate}
 use Rattle.kp_tool_words.specs.declared.words.JobCommand.TheVariants.{Seq, Check, Sim, Vcd, Timing, Pipe}

@@ -11,11 +11,11 @@ use Rattle.kp_vcd_read.specs.Reading.{Next, State, Step, step, walk, at, named, 
 use Rattle.kp_vcd_read.specs.Words.{is_layout, words_from}
 use Rattle.kp_vcd_read.specs.Forms.{is_name, same_bytes, name_of, kind_of, code_of, is_next, said_by_short, value_of, are_bits, width_at, change_of, or_wrong}
 use Rattle.kp_vcd_read.specs.{declared.forms.Said.Said, Fitting.IsSignal, Fitting.IsChange, Fitting.RisesAfter, Fitting.Rises, Fitting.FitsForm}
-use Rattle.kp_vcd_read.specs.Reading as reading
-use Rattle.kp_vcd_read.specs.declared.forms.Said.TheVariants as said
 use Rattle.kp_vcd_read.proofs.Spots.{is_part}
 use Rattle.kp_vcd_read.proofs.Numerals.{IsPlain, is_numeral, number_read, index_read, width_read, bits_plain, bits_read, value_read}
 use Rattle.kp_vcd_read.proofs.Leading.{Leads, nothing, both, same_part, one_word, two_words}
+use Rattle.kp_vcd_read.specs.Reading as reading
+use Rattle.kp_vcd_read.specs.declared.forms.Said.TheVariants as said
 
 all_head : {X : Type 0} (P : X → Type 0) (x : X) (xs : List X) → All P (x ∷ xs) → P x
 all_head P x xs h = h zero x (omega arith)

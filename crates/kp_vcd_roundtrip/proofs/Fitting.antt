@@ -1,7 +1,7 @@
 -- The dump of a job that violates no rule is one that a text can denote.
 use Rattle.std.proofs.Common.{◌≡◌, ℕ, zero, suc, ◌+◌, ◌*◌, ◌<◌, ◌≤◌, ◌^◌, List, [], ◌∷◌, ◌++◌, length, get_or, Bool, true, false, ◌&&◌, None, refl, ap, subst, arith}
-use Rattle.std.proofs.{Math.Nat.pow-suc, lemmas.Bool.le-leb, lemmas.List.Sums.list_all-from_AllPass}
-use Rattle.std.specs.{Prelude.codes, Prelude.nat_le, List.AllByRecursion, List.list_all}
+use Rattle.std.{proofs.Math.Nat.pow-suc, proofs.lemmas.Bool.le-leb, proofs.lemmas.List.Sums.list_all-from_AllPass, specs.Prelude.codes, specs.Prelude.nat_le}
+use Rattle.std.specs.List.{AllByRecursion, list_all}
 use Rattle.kp_base.specs.{Characters.is_word, First.first}
 use Rattle.kp_bits.specs.Word.{word, IsWord}
 use Rattle.kp_ast.specs.{Name.IsName, declared.tree.Decl.Decl, declared.tree.Job.Job}

@@ -7,12 +7,11 @@ use Rattle.kp_ast.specs.declared.tree.{Decl.Decl, Job.Job}
 use Rattle.kp_ast.specs.declared.tree.Decl.TheVariants as decls
 use Rattle.kp_width.specs.{Names.nothing, Widths.widths_of}
 use Rattle.kp_stage.specs.{Start.start_of, Start.input, Start.AreSamples, Stages.broken_of}
-use Rattle.kp_image.specs.Sections.{sections_of}
-use Rattle.kp_image.proofs.Given.{starts, rows_fit}
+use Rattle.kp_image.{specs.Sections.sections_of, proofs.Given.starts, proofs.Given.rows_fit}
 use Rattle.kp_pipeline.specs.{Machine.Machine, Pipeline.Inputs, Rows.Row, Rows.bit, Rows.one_if, Rows.taken_from, Rows.passed, Sequential.exec, Sequential.seq}
 use Rattle.kp_machine.specs.Machine.{machine_of, state_of, sequential, pipe_of, taken_of, inputs_from, values_in}
-use Rattle.kp_machine.specs.Slots.{targets_of, pipes_of, samples_of}
-use Rattle.kp_machine.proofs.{Apart.Apart, Apart.samples_apart, Text.declared_right}
+use Rattle.kp_machine.{specs.Slots.targets_of, specs.Slots.pipes_of, specs.Slots.samples_of, proofs.Apart.Apart, proofs.Apart.samples_apart}
+use Rattle.kp_machine.proofs.Text.{declared_right}
 use Rattle.kp_machine_laws.proofs.Accepting as accepting
 use Rattle.kp_machine_laws.proofs.Showing.{shown, stays}
 use Rattle.kp_seq_plan.specs.Names.{keys_of}

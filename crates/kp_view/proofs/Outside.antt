@@ -3,16 +3,15 @@ use Rattle.std.proofs.Common.{true, false, ◌≡◌, ◌≢◌, ◌∙◌, ◌�
 use Rattle.std.specs.{declared.option.Option.Option, declared.result.Result.Result, Io.KnownBytes.Consumes, Io.KnownBytes.IsAtEnd}
 use Rattle.kp_base.specs.{declared.refusal.Refusal.Refusal, Causes.Rose}
 use Rattle.kp_ast.specs.declared.tree.Job.{Job}
-use Rattle.kp_frontend.specs.Judging.{Judges, too_long, Judges.over, Judges.within}
-use Rattle.kp_frontend.proofs.Verdicts.{one_verdict}
+use Rattle.kp_frontend.{specs.Judging.Judges, specs.Judging.too_long, specs.Judging.Judges.over, specs.Judging.Judges.within, proofs.Verdicts.one_verdict}
 use Rattle.kp_view_words.specs.{Words.Asked, Words.Order, Words.Task, Words.bad_words, Words.help, Words.version, Words.show, declared.words.Topic.Topic}
 use Rattle.kp_view_words.specs.Texts.{help_text, version_text}
 use Rattle.kp_view.specs.Due.{Says, DueFor, IsShown, order_text, wrong_names_text, DueOfNames, IsDue, IsFinal, IsWhole, Completes, Begins, Between, Prints, IsDrawn, IsRefusal, IsUnaccepted, IsUnrefused, names_fit, reads_input}
 use Rattle.kp_view.specs.{Texts.refusal_text, Ends.Ends, Ends.EndsAt, inner.Failures.stop_status, inner.Failures.end_status, declared.failure.Failure.Failure}
 use Rattle.kp_view.specs.declared.failure.{Failure.TheVariants.Complained, Stop.Stop}
 use Rattle.kp_view.specs.declared.failure.Stop.TheVariants.{ReadFault, WriteFault, NoMemory}
-use Rattle.kp_view.specs.declared.failure.Complaint.TheVariants as complaints
 use Rattle.kp_view.proofs.Ends.{weaker, said}
+use Rattle.kp_view.specs.declared.failure.Complaint.TheVariants as complaints
 
 nothing_taken : (left : Option (List ℕ)) → Consumes left left []
 nothing_taken None = tt

@@ -5,8 +5,7 @@ use Rattle.std.proofs.lemmas.Option.{get_or_from_slice_get, slice_get-get_or, sl
 use Rattle.std.proofs.lemmas.List.{get_or-set_same, get_or-set_other, get_or_past, length-set, map-append, Elements.All-get_or, Elements.All-replicate}
 use Rattle.std.specs.{Prelude.find, Prelude.slice_get, Prelude.◌↔◌, List.position_or_len}
 use Rattle.kp_base.specs.declared.place.Place.{Place}
-use Rattle.kp_grammar.specs.Grammar.{Nonterminal}
-use Rattle.kp_grammar.proofs.{Laws.is_accepted, Laws.no_limit, Prefix.after}
+use Rattle.kp_grammar.{specs.Grammar.Nonterminal, proofs.Laws.is_accepted, proofs.Laws.no_limit, proofs.Prefix.after}
 use Rattle.kp_lex.specs.declared.token.Keyword.TheVariants as keywords
 use Rattle.kp_lex.specs.declared.token.Mark.TheVariants as marks
 use Rattle.kp_lex.specs.declared.token.{TokenKind.TokenKind, Token.Token}
@@ -15,8 +14,8 @@ use Rattle.kp_parse_grammar.specs.{Tokens.Lexeme, Tokens.lexemes, Language.JOB, 
 use Rattle.kp_view_expected.specs.declared.{token_class.TokenClass.TokenClass, set.Expected.Expected}
 use Rattle.kp_view_expected.specs.GoesOn.{class_of, GoesOn, all_classes, Lists}
 use Rattle.kp_view_expected.specs.inner.Plain.{Plain, number, plain, Steps, Runs, IsAnswer, Follows, Fails, IsListing}
-use Rattle.kp_view_expected.specs.declared.token_class.TokenClass.TheVariants as classes
 use Rattle.kp_view_expected.proofs.{Tests.predictive, Transfer.classes_of, Transfer.to_plain, Transfer.from_plain}
+use Rattle.kp_view_expected.specs.declared.token_class.TokenClass.TheVariants as classes
 
 -- Each class is that of its number.
 abbrev decoded : ℕ → Option TokenClass

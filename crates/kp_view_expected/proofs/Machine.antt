@@ -1,7 +1,7 @@
 -- The steps of the code.
-use Rattle.std.specs.Prelude.{⊤, slice_get, option_map}
 use Rattle.std.proofs.Common.{ℕ, ◌≡◌, ◌==◌, List, [], ◌∷◌, ◌++◌, map, reverse, Bool, true, false, not, cond, ◌||◌, Some, None, Result, Ok, Err, IfOk, Bor, zero, suc, ◌+◌, ◌<◌, ◌≤◌, length, drop, get_or, refl, sym, ap, ◌∙◌, subst, eq-eqb, arith}
-use Rattle.std.proofs.lemmas.{Bool.eqb-true, Option.get_or_from_slice_get, Option.slice_get-get_or, Option.slice_get-map, Option.slice_get_within}
+use Rattle.std.{specs.Prelude.⊤, specs.Prelude.slice_get, specs.Prelude.option_map, proofs.lemmas.Bool.eqb-true}
+use Rattle.std.proofs.lemmas.Option.{get_or_from_slice_get, slice_get-get_or, slice_get-map, slice_get_within}
 use Rattle.std.proofs.lemmas.List.{append-nil, drop_all, drop_more, length-map, map-append, reverse-append, reverse-reverse}
 use Rattle.kp_grammar.specs.Grammar.{Terminal, Nonterminal, Has, here, there, alternatives, stay, expand, read}
 use Rattle.kp_grammar.specs.{Tables.among, Tables.empty_of, Tables.first_of, Tables.firsts, Tables.pick, Machine.goes, Machine.take}
@@ -10,9 +10,9 @@ use Rattle.kp_lex.specs.declared.token.Token.{Token}
 use Rattle.kp_parse_grammar.specs.inner.Follow.{tables}
 use Rattle.kp_view_expected.specs.inner.Plain.{Plain, is_solid, name, number, plain, plain_symbol, stack, Runs, Opens, Refuses, Decides, IsAnswer, Follows, Fails}
 use Rattle.kp_view_expected.specs.declared.{token_class.TokenClass.TokenClass, part.Part.Part, part.Symbol.Symbol as CodeSymbol}
-use Rattle.kp_view_expected.specs.GoesOn.{class_of}
+use Rattle.kp_view_expected.{specs.GoesOn.class_of, proofs.Tests.choose_or, proofs.Tests.chosen, proofs.Tests.lighter, proofs.Tests.solid, proofs.Tests.work}
+use Rattle.kp_view_expected.proofs.Sentences.{completes, some_alternative}
 use Rattle.kp_view_expected.specs.declared.part.Symbol.TheVariants as symbols
-use Rattle.kp_view_expected.proofs.{Tests.choose_or, Tests.chosen, Tests.lighter, Tests.solid, Tests.work, Sentences.completes, Sentences.some_alternative}
 
 pub popped : (xs ys : List CodeSymbol) (x y : CodeSymbol) → xs ≡ ys ++ x ∷ [] → x ≡ y → stack xs ≡ plain_symbol y ∷ stack ys
 popped xs ys x y e f = ap stack e ∙ (ap (map plain_symbol) (reverse-append ys (x ∷ [])) ∙ ap (λ (z : CodeSymbol). plain_symbol z ∷ stack ys) f)
@@ -103,9 +103,6 @@ one_less front i t c h is =
 pub went_on_if : {front rest all : List TokenClass} {s : List Plain} {c : TokenClass} (s' : List Plain) (b : Bool) → Follows front all s → all ≡ c ∷ rest → b ≡ true → Decides b s c s' → Follows front rest s'
 went_on_if {front} {rest} {all} {s} {c} s' b f same is r = went_on s' f same (subst (λ (z : Bool). Decides z s c s') is r)
 
-pub stopped_if : {front rest all : List TokenClass} {s : List Plain} {c : TokenClass} (s' : List Plain) (b : Bool) → Follows front all s → all ≡ c ∷ rest → b ≡ false → Decides b s c s' → Fails front
-stopped_if {front} {rest} {all} {s} {c} s' b f same is r = stopped s' f same (subst (λ (z : Bool). Decides z s c s') is r)
-
 -- The first alternative that begins with a class is found by going through all.
 choose_more : (all : List (List Plain)) (i : ℕ) (b d : List Plain) (c : ℕ) → slice_get all i ≡ Some b → choose_or d c (drop i all) ≡ cond (among c (firsts tables b)) b (choose_or b c (drop (i + 1) all))
 choose_more all i b d c e =
@@ -165,12 +162,6 @@ or_false : (b : Bool) → b ≡ (b || false)
 or_false true = refl
 or_false false = refl
 
-pub begins_token : (xs : List CodeSymbol) (w : TokenClass) (c : ℕ) → slice_get xs 0 ≡ Some (symbols.Token w) → (c == number w) ≡ among c (firsts tables (map plain_symbol xs))
-begins_token [] w c e = cc e
-begins_token (x ∷ xs) w c e =
-    let same : symbols.Token w ≡ x = cc e in
-    subst (λ (z : CodeSymbol). (c == number w) ≡ among c (firsts tables (map plain_symbol (z ∷ xs)))) same (or_false (c == number w))
-
 no_more : (e : Bool) (c : ℕ) (ys zs : List ℕ) → not e ≡ true → among c ys ≡ among c (ys ++ cond e zs [])
 no_more true c ys zs h = cc h
 no_more false c ys zs h = ap (among c) (sym (append-nil ys))
@@ -182,7 +173,3 @@ begins_part (x ∷ xs) p c e h =
     let sound : is_solid (map plain_symbol (symbols.Inner p ∷ xs)) ≡ true = subst (λ (z : CodeSymbol). is_solid (map plain_symbol (z ∷ xs)) ≡ true) (sym same) h in
     subst (λ (z : CodeSymbol). among c (first_of tables (name p)) ≡ among c (firsts tables (map plain_symbol (z ∷ xs)))) same
     (no_more (empty_of tables (name p)) c (first_of tables (name p)) (firsts tables (map plain_symbol xs)) sound)
-
-pub begins_nothing : (xs : List CodeSymbol) (c : ℕ) → slice_get xs 0 ≡ None → false ≡ among c (firsts tables (map plain_symbol xs))
-begins_nothing [] c e = refl
-begins_nothing (x ∷ xs) c e = cc e

@@ -1,17 +1,14 @@
 -- The line of a text whose tokens violate E4, from the readers up.
 use Rattle.std.proofs.Common.{◌≡◌, ◌≤◌, ℕ, Bool, not, List, [], ◌++◌, length, take, Ok, Err, Some, None, refl, ap, subst, ◌∙◌, arith}
-use Rattle.std.proofs.lemmas.{Grind.common_steps, List.Sums.prefix_len-le-length}
-use Rattle.std.specs.{Prelude.◌↔◌, Prelude.slice_get, List.position, List.position_or_len, declared.option.Option.Option}
+use Rattle.std.{proofs.lemmas.Grind.common_steps, proofs.lemmas.List.Sums.prefix_len-le-length, specs.Prelude.◌↔◌, specs.Prelude.slice_get}
+use Rattle.std.specs.{List.position, List.position_or_len, declared.option.Option.Option}
 use Rattle.kp_base.specs.{Refusal.e_rule, declared.place.Place.Place, declared.refusal.Refusal.Refusal}
 use Rattle.kp_ast.specs.declared.tree.Job.{Job}
-use Rattle.kp_lex.specs.{Text.HasOutcome, declared.token.Token.Token, declared.token.Lexed.Lexed}
-use Rattle.kp_lex.proofs.Outcome.{one_outcome}
-use Rattle.kp_parse.specs.Sentence.{Breaks, IsTree, Breaks.wrong_token}
-use Rattle.kp_parse.proofs.Unique.{no_rule}
+use Rattle.kp_lex.{specs.Text.HasOutcome, specs.declared.token.Token.Token, specs.declared.token.Lexed.Lexed, proofs.Outcome.one_outcome}
+use Rattle.kp_parse.{specs.Sentence.Breaks, specs.Sentence.IsTree, specs.Sentence.Breaks.wrong_token, proofs.Unique.no_rule}
 use Rattle.kp_parse_grammar.specs.Tokens.{Lexeme, lexemes}
 use Rattle.kp_frontend.specs.Judging.{JudgesText, JudgesHeadText, most_bytes, JudgesText.no_sentence, Judges.within, JudgesHeadText.no_head_sentence}
-use Rattle.kp_frontend.specs.Judging.JudgesHead.{head_within}
-use Rattle.kp_frontend.proofs.Verdicts.{one_verdict, one_head}
+use Rattle.kp_frontend.{specs.Judging.JudgesHead.head_within, proofs.Verdicts.one_verdict, proofs.Verdicts.one_head}
 use Rattle.kp_view_expected.specs.{GoesOn.class_of, GoesOn.GoesOn, GoesOn.Lists, declared.set.Expected.Expected}
 use Rattle.kp_view_help.specs.{Texts.found_text, declared.found.FoundToken.FoundToken}
 use Rattle.kp_view_message.specs.{Texts.message_text, declared.message.Message.Message}

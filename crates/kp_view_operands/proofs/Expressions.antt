@@ -1,13 +1,12 @@
 -- The result for an expression: its width, and the widths that are found in it.
 use Rattle.std.proofs.Common.{◌≡◌, ◌∙◌, ℕ, ◌+◌, ◌-◌, List, [], ◌∷◌, ◌++◌, Option, Some, None, Bool, true, false, ◌==◌, cond, min, map, refl, ap, sym, subst, arith}
-use Rattle.std.proofs.lemmas.Bool.{and_parts, eqb-true}
-use Rattle.std.specs.Option.{option_or}
+use Rattle.std.{proofs.lemmas.Bool.and_parts, proofs.lemmas.Bool.eqb-true, specs.Option.option_or}
 use Rattle.kp_base.specs.{Check.Check, declared.place.Place.Place}
 use Rattle.kp_ast.specs.declared.tree.{Decl.Decl, Expr.Expr}
-use Rattle.kp_ast.specs.declared.tree.ExprKind.TheVariants as leaf
-use Rattle.kp_ast.specs.declared.tree.ExprKind.TheViews as kind
 use Rattle.kp_ast.proofs.Levels.{fold-Lit, fold-Name, fold-Not, fold-Binary, fold-Mux, fold-Concat, fold-Slice, fold-Zext, fold-Sext, fold-Call}
 use Rattle.kp_ast.proofs.Induction.{Every, induction}
+use Rattle.kp_ast.specs.declared.tree.ExprKind.TheVariants as leaf
+use Rattle.kp_ast.specs.declared.tree.ExprKind.TheViews as kind
 use Rattle.kp_width.specs.{Names.Scoped, Names.is_callee, Names.is_value_in, Expressions.is_test, Expressions.part_of, Expressions.sum_of, Expressions.width_of}
 use Rattle.kp_width.proofs.Unbroken.{width-Lit, width-Name, width-Not, width-Binary, width-Mux, width-Concat, width-Slice, width-Zext, width-Sext, width-Call}
 use Rattle.kp_view_operands.specs.declared.{widths.ExprWidths.ExprWidths, widths.OperandWidths.OperandWidths, expression.Measured.Measured}
@@ -16,8 +15,8 @@ use Rattle.kp_view_operands.specs.Widths.{at, AreWidths, IsIn, IsPartOf, width_w
 use Rattle.kp_view_operands.specs.Widths.AreWidths.{of_slice, of_zext, of_sext, of_two, of_choice, of_other}
 use Rattle.kp_view_operands.specs.Widths.IsIn.{itself, deeper}
 use Rattle.kp_view_operands.specs.Widths.IsPartOf.{of_not, left, right, test, yes, no, piece, sliced, zero_extended, sign_extended, argument}
-use Rattle.kp_view_operands.specs.declared.widths.OperandWidths.TheVariants as operands
 use Rattle.kp_view_operands.proofs.Scopes.{Mirrors, named_same}
+use Rattle.kp_view_operands.specs.declared.widths.OperandWidths.TheVariants as operands
 
 by_test : {G : Type 0} (b : Bool) → (b ≡ true → G) → (b ≡ false → G) → G
 by_test true then_so else_so = then_so refl

@@ -1,7 +1,7 @@
 -- The names in scope here and those of the rules: the same names with the same widths.
 use Rattle.std.proofs.Common.{◌≡◌, ◌∙◌, ℕ, ◌+◌, List, [], ◌∷◌, ◌++◌, Option, Some, None, Bool, true, false, cond, length, nat_eq, refl, ap, sym, arith}
-use Rattle.std.proofs.lemmas.List.Sums.{sum_by-cons}
-use Rattle.std.specs.{Prelude.is_some, Prelude.unwrap_or, Prelude.sum_by, Option.option_or, Cmp.Lexicographic.pointwise, Cmp.Lexicographic.bytes_decides}
+use Rattle.std.{proofs.lemmas.List.Sums.sum_by-cons, specs.Prelude.is_some, specs.Prelude.unwrap_or, specs.Prelude.sum_by, specs.Option.option_or}
+use Rattle.std.specs.Cmp.Lexicographic.{pointwise, bytes_decides}
 use Rattle.kp_base.specs.declared.place.Place.{Place}
 use Rattle.kp_ast.specs.declared.{tree.Param.Param, tree.Decl.Decl, widths.NameKind.NameKind}
 use Rattle.kp_ast.specs.declared.tree.Decl.TheVariants as decls
@@ -18,9 +18,6 @@ by_test false then_so else_so = else_so refl
 by_option : {X G : Type 0} (o : Option X) → (o ≡ None → G) → ((x : X) → o ≡ Some x → G) → G
 by_option None none some = none refl
 by_option (Some x) none some = some x refl
-
-abbrev pub width_of_sense : Sense → ℕ
-width_of_sense m = capped m.width
 
 abbrev pub widths_in : Option Sense → Option ℕ
 widths_in None = None

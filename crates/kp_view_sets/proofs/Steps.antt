@@ -1,7 +1,6 @@
 -- AN INSTRUCTION from statement to statement: what has been set before each.
 use Rattle.std.proofs.Common.{◌≡◌, ◌∙◌, ℕ, zero, suc, Bool, true, false, cond, eqb, List, [], ◌∷◌, length, take, ◌≤◌, Option, Some, None, is_some, refl, ap, sym, arith}
-use Rattle.std.proofs.lemmas.{Bool.cond_both, List.take_all}
-use Rattle.std.specs.Prelude.{slice_get, if◌then◌else◌}
+use Rattle.std.{proofs.lemmas.Bool.cond_both, proofs.lemmas.List.take_all, specs.Prelude.slice_get, specs.Prelude.if◌then◌else◌}
 use Rattle.kp_ast.specs.declared.tree.{Expr.Expr, Named.Named, ReadStmt.ReadStmt, ResultDecl.ResultDecl, Decl.Decl, Stmt.Stmt, StmtKind.StmtKind, Job.Job}
 use Rattle.kp_ast.specs.declared.tree.StmtKind.TheVariants as stmts
 use Rattle.kp_stage.specs.Facts.{stmts_in}

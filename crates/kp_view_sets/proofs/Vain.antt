@@ -1,13 +1,12 @@
 -- A SET IN VAIN: its result has been set before it in every instruction.
-use Rattle.std.specs.{List.AllByRecursion, Prelude.is_none, Prelude.slice_get}
 use Rattle.std.proofs.Common.{◌≡◌, ◌∙◌, ℕ, suc, ◌+◌, true, false, List, [], ◌∷◌, ◌++◌, Option, Some, None, is_some, refl, ap, sym, subst, arith}
-use Rattle.std.proofs.lemmas.{Bool.cond_both, List.Elements.All-from_recursion}
+use Rattle.std.{specs.List.AllByRecursion, specs.Prelude.is_none, specs.Prelude.slice_get, proofs.lemmas.Bool.cond_both}
+use Rattle.std.proofs.lemmas.List.Elements.{All-from_recursion}
 use Rattle.kp_ast.specs.{Expressions.is_same_name, declared.tree.Expr.Expr, declared.tree.Named.Named, declared.tree.Stmt.Stmt, declared.tree.StmtKind.StmtKind}
 use Rattle.kp_ast.specs.declared.tree.{Block.Block, Job.Job}
 use Rattle.kp_ast.specs.declared.tree.StmtKind.TheVariants as stmts
 use Rattle.kp_stage.specs.Facts.{stmts_in}
-use Rattle.kp_machine.specs.Slots.{result_named}
-use Rattle.kp_machine.proofs.{Cases.by_test, Names.same_name}
+use Rattle.kp_machine.{specs.Slots.result_named, proofs.Cases.by_test, proofs.Names.same_name}
 use Rattle.kp_view_sets.specs.{declared.sets.PlacedSet.PlacedSet, Sets.in_vain, Sets.set_here, Sets.sets_from, Sets.sets_in}
 use Rattle.kp_view_sets.specs.Claims.{AreInVain, NeverSets, NeverTakesPlace, instruction_at}
 use Rattle.kp_view_sets.proofs.Steps.{begins, ends, hits, kept, missed, past, sure}

@@ -1,14 +1,12 @@
 -- A RESULT THAT ISN'T SET is 0.
 use Rattle.std.proofs.Common.{◌≡◌, ◌∙◌, ℕ, zero, suc, ◌+◌, true, ◌&&◌, eqb, length, Option, Some, None, unwrap_or, is_some, refl, ap, sym, arith, eq-eqb}
-use Rattle.std.proofs.lemmas.Bool.{cond-true}
-use Rattle.std.specs.Prelude.{slice_get}
+use Rattle.std.{proofs.lemmas.Bool.cond-true, specs.Prelude.slice_get}
 use Rattle.kp_ast.specs.declared.tree.{Named.Named, ResultDecl.ResultDecl, Job.Job}
 use Rattle.kp_stage.specs.Facts.{stmts_in}
 use Rattle.kp_pipeline.specs.Sequential.{before_stage, is_written}
 use Rattle.kp_machine.specs.{Machine.address_in, Machine.enabled_of, Machine.is_enabled_by, Machine.machine_of, Machine.result_for, Slots.pipes_of}
 use Rattle.kp_machine.proofs.Cases.{by_option}
-use Rattle.kp_view_sets.specs.Claims.{Sets, UnsetIsZero, instruction_at}
-use Rattle.kp_view_sets.proofs.Steps.{begins, ends}
+use Rattle.kp_view_sets.{specs.Claims.Sets, specs.Claims.UnsetIsZero, specs.Claims.instruction_at, proofs.Steps.begins, proofs.Steps.ends}
 
 module _ (job : Job) (s : ℕ → ℕ → ℕ) (q : ℕ → ℕ) (t : ℕ) (none : (k j : ℕ) → Sets job s q k j t → ⊥) where
   unset_at : (k j : ℕ) → (before_stage (machine_of job) s q k).results t ≡ None → (instruction_at job s q k j).results t ≡ None

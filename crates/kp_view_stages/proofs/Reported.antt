@@ -1,6 +1,6 @@
 -- Lists of true warnings, and why the warning of a set that never takes place is one.
-use Rattle.std.specs.List.{All, Contains, Sorted.IsPermutation}
 use Rattle.std.proofs.Common.{◌≡◌, ◌∙◌, ◌<◌, ℕ, List, [], ◌∷◌, ◌++◌, length, get_or, Some, ap, sym, subst}
+use Rattle.std.specs.List.{All, Contains, Sorted.IsPermutation}
 use Rattle.std.proofs.lemmas.List.{Elements.All-contains, Elements.All-push, Elements.Contains-get_or, Sorted.All-permutation}
 use Rattle.kp_ast.specs.declared.tree.Job.{Job}
 use Rattle.kp_view_findings.specs.declared.finding.Caution.{Caution}

@@ -1,6 +1,6 @@
 -- The widths in a violation, by two tables that give each name the same.
-use Rattle.std.specs.Prelude.{ℕ, ◌^◌, IfSome, Option}
-use Rattle.std.proofs.{Common.◌∙◌, Common.ap, lemmas.Option.IfSome_then}
+use Rattle.std.{specs.Prelude.ℕ, specs.Prelude.◌^◌, specs.Prelude.IfSome, specs.Prelude.Option, proofs.Common.◌∙◌, proofs.Common.ap}
+use Rattle.std.proofs.lemmas.Option.{IfSome_then}
 use Rattle.kp_vlog.specs.Scope.{Sizes}
 use Rattle.kp_vread_widths.specs.Tables.{AlikeSizes}
 use Rattle.kp_view_verilog_faults.specs.declared.width_fault.{Side.Side, WidthFault.WidthFault}

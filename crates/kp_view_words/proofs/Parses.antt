@@ -3,15 +3,14 @@ use Rattle.std.proofs.Common.{◌≡◌, ◌∙◌, ◌⊎◌, ℕ, Bool, cond, 
 use Rattle.std.proofs.lemmas.Bool.{le-ltb, or_parts}
 use Rattle.std.specs.{Prelude.Box, Prelude.nat_lt, Prelude.length, Prelude.unwrap_or, Prelude.option_map, List.list_any, Box.box_value}
 use Rattle.clap.specs.Walk.{Held, Rule, Step, Text, Walk, positional, value, word_met, walked, walk, walk_from, nothing_held, after_step, settled, finished}
-use Rattle.clap.specs.Simple.{Shape, subcommand_of, subcommand_rows}
-use Rattle.clap.specs.declared.parser.matches.{ArgMatches.TheViews.out-SubCommand, SubCommand.SubCommand}
-use Rattle.clap.specs.Kinds.{Kinds, or_else, range_kinds, values_kinds}
+use Rattle.clap.specs.{Simple.Shape, Simple.subcommand_of, Simple.subcommand_rows, declared.parser.matches.ArgMatches.TheViews.out-SubCommand}
+use Rattle.clap.specs.{declared.parser.matches.SubCommand.SubCommand, Kinds.Kinds, Kinds.or_else, Kinds.range_kinds, Kinds.values_kinds}
 use Rattle.clap.specs.Faults.{fault_of, turn_fault, step_fault, walk_fault, word_fault, defaults_fault, settle_fault, check_fault}
 use Rattle.clap.specs.declared.builder.value_parser.ValueParser.TheVariants as parsers
 use Rattle.clap.specs.declared.error.kind.ErrorKind.TheVariants as kind
 use Rattle.kp_command_line.specs.Programs.{begins_with_dash}
-use Rattle.kp_command_line.proofs.Parses as parse
 use Rattle.kp_command_line.proofs.Parses.{IsRefused, named_or, no_dashes, no_long, no_short, or_else_nothing, plain_turn, plain_walked}
+use Rattle.kp_command_line.proofs.Parses as parse
 use Rattle.kp_view_words.specs.Words.{word_named}
 use Rattle.kp_view_words.specs.inner.Matching.{known_names, program_of, rest_rule, word_of, word_of_rows}
 use Rattle.kp_view_words.specs.declared.words.Word.{Word}

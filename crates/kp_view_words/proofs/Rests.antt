@@ -58,14 +58,6 @@ module _ {X : Type 0} (f : X → Text) (rest names : List X) (last : X) (is : Is
   pub file_none : is_file_after (length names) (f last) ≡ false → None ≡ file_in (map f rest)
   file_none h = sym (ap file_in mapped ∙ file_is (map f names) (f last) ∙ ap (λ b. cond b (Some (f last)) None) (test_is false h))
 
-pub names_of_nothing : {X : Type 0} (f : X → Text) (rest : List X) → length rest ≡ 0 → map f rest ≡ names_in (map f rest)
-names_of_nothing f [] e = refl
-names_of_nothing f (x ∷ xs) e = absurd (omega (arith, e))
-
-pub file_of_nothing : {X : Type 0} (f : X → Text) (rest : List X) → length rest ≡ 0 → None ≡ file_in (map f rest)
-file_of_nothing f [] e = refl
-file_of_nothing f (x ∷ xs) e = absurd (omega (arith, e))
-
 -- the run, where the names are or aren't names of stages
 pub run_none : (count : ℕ) (rest : List Text) → list_all is_name (names_in rest) ≡ false → None ≡ run_with count rest
 run_none count rest h =

@@ -1,6 +1,5 @@
 -- The two examples, by computation: their texts denote them, and are canonical.
-use Rattle.std.proofs.Common.{◌≡◌, refl}
-use Rattle.std.specs.Fmt.{digits}
+use Rattle.std.{proofs.Common.◌≡◌, proofs.Common.refl, specs.Fmt.digits}
 use Rattle.kp_net.specs.Widths.{wide}
 use Rattle.kp_vlog.specs.{Canon.canon, Rules.broken, Denote.net_of, Denote.Denotes}
 use Rattle.kp_vlog.specs.Examples.{counter, counter_text, store, store_text}

@@ -1,7 +1,6 @@
 -- The front that the code computes is that of the text, and it is no longer than the text.
 use Rattle.std.proofs.Common.{ℕ, suc, ◌+◌, ◌≤◌, ◌<◌, ◌≡◌, ◌∙◌, List, [], ◌∷◌, length, length-take-le, take, drop, ◌==◌, nat_lt, Bool, true, false, cond, ◌||◌, ◌&&◌, Option, Some, None, Result, Ok, Err, refl, ap, arith}
-use Rattle.std.proofs.lemmas.Bool.{false≢true, and_parts, or_left, or_right}
-use Rattle.std.specs.Prelude.{IfSome}
+use Rattle.std.{proofs.lemmas.Bool.false≢true, proofs.lemmas.Bool.and_parts, proofs.lemmas.Bool.or_left, proofs.lemmas.Bool.or_right, specs.Prelude.IfSome}
 use Rattle.kp_bits.specs.{Literals.number_of, Literals.literal_of, declared.literal.Literal.Literal, declared.literal.LiteralFault.LiteralFault}
 use Rattle.kp_net.specs.Names.{is_in_identifier}
 use Rattle.kp_base.specs.Characters.{is_letter, is_digit, run_length}
@@ -16,20 +15,6 @@ use Rattle.kp_vlog.specs.Tokens as tokens
 abbrev pub shifted : ℕ → Option ℕ → Option ℕ
 shifted k None = None
 shifted k (Some n) = Some (k + n)
-
-pub shifted_more : (k : ℕ) (o : Option ℕ) → shifted k (one_more o) ≡ shifted (k + 1) o
-shifted_more k None = refl
-shifted_more k (Some n) = ap (λ (m : ℕ). Some m) (omega arith)
-
-pub shifted_none : (o : Option ℕ) → shifted 0 o ≡ o
-shifted_none None = refl
-shifted_none (Some n) = ap (λ (m : ℕ). Some m) (omega arith)
-
-pub close_goes_on : (k b : ℕ) (rest : List ℕ) → (b == 42 && begins_with 47 rest) ≡ false → shifted k (to_close (b ∷ rest)) ≡ shifted (k + 1) (to_close rest)
-close_goes_on k b rest e = ap (λ t. shifted k (cond t (Some 2) (one_more (to_close rest)))) e ∙ shifted_more k (to_close rest)
-
-pub close_here : (k b : ℕ) (rest : List ℕ) → (b == 42 && begins_with 47 rest) ≡ true → shifted k (to_close (b ∷ rest)) ≡ Some (k + 2)
-close_here k b rest e = ap (λ t. shifted k (cond t (Some 2) (one_more (to_close rest)))) e
 
 pub begun : (c : ℕ) (rest : List ℕ) → begins_with c rest ≡ true → 1 ≤ length rest
 begun c [] e = absurd (false≢true e)

@@ -9,18 +9,18 @@ use Rattle.kp_net.specs.declared.{node.NodeId.NodeId, node.Node.Node, netlist.Pa
 use Rattle.kp_net.specs.Names.{same, among, is_reg_name, is_file_name, is_sample_name}
 use Rattle.kp_net.specs.{Widths.wide, Widths.BinaryOk, Widths.KindOk, Widths.NodeOk, Widths.AllRight, Growth.Held}
 use Rattle.kp_net.specs.Parts.{no_port, no_reg, no_file, CellOk, AllCells}
-use Rattle.kp_net.specs.declared.node.Kind.TheVariants as kinds
 use Rattle.kp_net.proofs.{Values.wide_front, Values.wide_new, Rightness.right_more, Growing.kept_new, Growing.added_new, Cells.cells_added}
+use Rattle.kp_net.specs.declared.node.Kind.TheVariants as kinds
+use Rattle.kp_vlog.proofs.Tests.{first_true, second_true, apart, le_of, lt_of, same_eq, output_no_wire, among_append, among_front, among_behind, place_in, place_front, place_new}
+use Rattle.kp_vlog.proofs.Scans.{NamesFit, DriversFit, NoneOf, learnt, learnt_append, driven_by, driven_append, driven_right, names_front, names_behind, drivers_front, drivers_behind, none_front, none_behind}
 use Rattle.kp_vlog.specs.declared.tree.{Named.Named, Right.Right, Item.Item, Item.TheVariants.Assign, VModule.VModule}
 use Rattle.kp_vlog.specs.Scope.{scope_of, sizes_of, width_in, address_in, place_of, is_wire_name, is_output_name, reg_names, file_names}
 use Rattle.kp_vlog.specs.Occurrences.{Occurrence, occurs, uses_wire, uses_source, gives_no_wire, is_given, wires_used, right_names, item_names, items_names}
 use Rattle.kp_vlog.specs.Rules.{name_fits, Driven, op_fits, width_sum, right_fits, right_answers, literal_fits, item_answers, items_answers}
 use Rattle.kp_vlog.specs.Denote.{Made, node_of, kind_of, with_wire, with_item}
-use Rattle.kp_vlog.specs.declared.tree.Right.TheVariants as sides
-use Rattle.kp_vlog.proofs.Tests.{first_true, second_true, apart, le_of, lt_of, same_eq, output_no_wire, among_append, among_front, among_behind, place_in, place_front, place_new}
-use Rattle.kp_vlog.proofs.Scans.{NamesFit, DriversFit, NoneOf, learnt, learnt_append, driven_by, driven_append, driven_right, names_front, names_behind, drivers_front, drivers_behind, none_front, none_behind}
 use Rattle.kp_vlog.proofs.Declared.{want_none, Fits, Entries, width_fits, learnt_assign}
 use Rattle.kp_vlog.proofs.Known.{port_names, AllDeclared, Within, within_rest, item_declared}
+use Rattle.kp_vlog.specs.declared.tree.Right.TheVariants as sides
 
 -- an operator whose operands fit
 op_right : (op : BinOp) (w a b : ℕ) → op_fits op w a b ≡ true → BinaryOk op w a b

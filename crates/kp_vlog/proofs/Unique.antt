@@ -1,15 +1,14 @@
 -- A text has one list of tokens and one module, or violates one rule.
 use Rattle.std.proofs.Common.{◌≡◌, ◌∙◌, ℕ, ◌+◌, ◌≤◌, List, [], ◌∷◌, length, drop, Some, None, refl, sym, ap, subst, arith, inl, inr}
 use Rattle.std.proofs.lemmas.{Bool.cases_lt, List.length-drop, List.drop_all}
-use Rattle.kp_grammar.specs.Grammar.{Nonterminal, Derives}
-use Rattle.kp_grammar.proofs.Laws.{one_state, one_wrong}
+use Rattle.kp_grammar.{specs.Grammar.Nonterminal, specs.Grammar.Derives, proofs.Laws.one_state, proofs.Laws.one_wrong}
 use Rattle.kp_net.specs.Netlist.{Net}
 use Rattle.kp_vlog.specs.Tokens.{Token, Front, finish, skips, takes, broken, front, Lexes, at_end, past, token, LexesTo, here, past_gap, past_token}
 use Rattle.kp_vlog.specs.{declared.tree.VModule.VModule, Language.Value, Language.whole, Language.MODULE, Language.verilog, inner.Follow.tables, Rules.Fault}
 use Rattle.kp_vlog.specs.Denote.{net_of, IsModule, Denotes}
 use Rattle.kp_vlog.specs.Verdict.{fault, offset_of, IsWrong, Breaks, no_token, wrong_token, broken_rule}
-use Rattle.kp_vlog.specs.Rules as rules
 use Rattle.kp_vlog.proofs.Predictive.{is_predictive}
+use Rattle.kp_vlog.specs.Rules as rules
 
 -- The tokens of a text, by its front, and the byte that begins none.
 abbrev Lexed : ℕ → List ℕ → Front → List Token → Type 0

@@ -12,8 +12,7 @@ use Rattle.kp_vlog.specs.declared.tree.Init.TheVariants as starts
 use Rattle.kp_vlog.specs.declared.tree.Update.TheVariants as edges
 use Rattle.kp_vread_widths.specs.Tables.{found, AlikeSizes}
 use Rattle.kp_vread.specs.inner.{Numbering.Numbered, Numbering.AreNumbered, Building.start_from, Nexts.AreNexts}
-use Rattle.kp_vread.specs.inner.Parts.{regs_by, output_by, port_by, files_by}
-use Rattle.kp_vread.proofs.Making.{node_same}
+use Rattle.kp_vread.{specs.inner.Parts.regs_by, specs.inner.Parts.output_by, specs.inner.Parts.port_by, specs.inner.Parts.files_by, proofs.Making.node_same}
 
 pub start_same : (is : List Init) (n : List ℕ) → start_from (start_in is n) ≡ start_of is n
 start_same [] n = refl

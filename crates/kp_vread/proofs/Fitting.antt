@@ -8,14 +8,13 @@ use Rattle.kp_vlog.specs.Rules.{want, range_fits, stall_fits, four_bits, words_f
 use Rattle.kp_vlog.specs.declared.tree.{Range.Range, VPort.VPort, Right.Right, Item.Item, VModule.VModule}
 use Rattle.kp_vlog.specs.Scope.{Scope, Sizes, scope_of, sizes_of, width_in, width_of, port_size, item_sizes}
 use Rattle.kp_vlog.specs.Denote.{start_of, regs_of, reg_of, net_of}
-use Rattle.kp_vlog.specs.declared.tree.Right.TheVariants as sides
-use Rattle.kp_vlog.specs.declared.tree.Item.TheVariants as lines
 use Rattle.kp_vlog.proofs.{Tests.first_true, Tests.second_true, Tests.le_of, Tests.lt_of, Scans.NoneOf, Scans.none_front, Scans.none_behind}
 use Rattle.kp_vlog.proofs.{Declared.want_none, Declared.range_width, Sound.Holds}
+use Rattle.kp_vlog.specs.declared.tree.Right.TheVariants as sides
+use Rattle.kp_vlog.specs.declared.tree.Item.TheVariants as lines
 use Rattle.kp_vread_widths.specs.Tables.{AlikeSizes, found}
 use Rattle.kp_vread.specs.inner.Building.{RightFits, ItemFits, AreNarrow, start_from}
-use Rattle.kp_vread.specs.inner.Parts.{PortFits, RegFits, AreStarted}
-use Rattle.kp_vread.proofs.Beside.{start_same}
+use Rattle.kp_vread.{specs.inner.Parts.PortFits, specs.inner.Parts.RegFits, specs.inner.Parts.AreStarted, proofs.Beside.start_same}
 
 -- No name is wider than 64 bits.
 

@@ -4,9 +4,9 @@ use Rattle.std.proofs.lemmas.List.Sums.{fold_more}
 use Rattle.kp_net.specs.declared.node.{NodeId.NodeId, Kind.Kind, Node.Node}
 use Rattle.kp_vlog.specs.{declared.tree.Named.Named, declared.tree.Right.Right, declared.tree.Item.Item, Scope.Scope, Scope.width_in, Scope.is_output_name}
 use Rattle.kp_vlog.specs.Denote.{node_of, source_of, kind_of, Made, with_wire, with_item, made_by}
+use Rattle.kp_vlog.proofs.Tests.{when_true, when_false}
 use Rattle.kp_vlog.specs.declared.tree.Right.TheVariants as sides
 use Rattle.kp_vlog.specs.declared.tree.Item.TheVariants as lines
-use Rattle.kp_vlog.proofs.Tests.{when_true, when_false}
 use Rattle.kp_vread.specs.inner.Numbering.{Numbered, AreNumbered}
 use Rattle.kp_vread.specs.inner.Building.{Numbers, IsScope, node_by, source_by, kind_by, IsMade}
 use Rattle.kp_vread.proofs.Numbering.{none_numbered}
@@ -54,9 +54,6 @@ module _ (t : Numbers) (s : Scope) (h : IsScope t s) where
 
   pub other_made : (wires : Numbered) (ns : List Node) (n : Named) (r : Right) (made : Made) → is_output_name n.name ≡ false → IsMade wires ns (with_wire s made n r) → IsMade wires ns (with_item s made (lines.Assign n r))
   other_made wires ns n r made e m = subst (λ x. IsMade wires ns x) (sym (when_false (is_output_name n.name) made (with_wire s made n r) e)) m
-
-pub none_made : (s : Scope) → IsMade (record { entries = []; count = 0 }) [] (made_by s [])
-none_made s = record { wires = none_numbered; nodes = refl }
 
 pub one_item : (s : Scope) (all : List Item) (i : ℕ) (x : Item) → i < length all → x ≡ get_or all i x → with_item s (made_by s (take i all)) x ≡ made_by s (take (i + 1) all)
 one_item s all i x h w = ap (λ (y : Item). with_item s (made_by s (take i all)) y) w ∙ sym (fold_more (with_item s) (record { wires = []; nodes = [] }) all i x h)

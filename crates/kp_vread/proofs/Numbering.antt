@@ -1,11 +1,10 @@
 -- Names are numbered one by one.
 use Rattle.std.proofs.Common.{◌≡◌, ◌∙◌, ℕ, ◌+◌, ◌<◌, List, [], ◌∷◌, ◌++◌, length, get_or, take, map, Bool, true, false, cond, Option, Some, None, refl, sym, ap, subst, arith}
-use Rattle.std.proofs.lemmas.List.{take_more}
-use Rattle.std.specs.{Prelude.nat_eq, Prelude.◌||◌, Prelude.if◌then◌else◌, Option.is_some, Map.lookup}
+use Rattle.std.{proofs.lemmas.List.take_more, specs.Prelude.nat_eq, specs.Prelude.◌||◌, specs.Prelude.if◌then◌else◌, specs.Option.is_some, specs.Map.lookup}
 use Rattle.kp_net.specs.Names.{same, among}
 use Rattle.kp_vlog.specs.{declared.tree.VPort.VPort, declared.tree.Item.Item, Scope.place_of, Scope.reg_names, Scope.file_names}
-use Rattle.kp_vlog.specs.declared.tree.Item.TheVariants as lines
 use Rattle.kp_vlog.proofs.Tests.{apart, same_eq}
+use Rattle.kp_vlog.specs.declared.tree.Item.TheVariants as lines
 use Rattle.kp_vread.specs.inner.Numbering.{Numbered, number_or, AreNumbered}
 use Rattle.kp_vread_widths.proofs.Starting.{turned}
 

@@ -34,10 +34,6 @@ module _ (text : List ℕ) (from : ℕ) where
   parsed tokens (Err e) k h a = no_module tokens e k h a
 
 module _ (text : List ℕ) (from : ℕ) where
-  pub not_whole : (e : Refused) → AnswersWhole text from (Err e) → AnswersNet text from (Err e)
-  not_whole (refused.Rule r) h = h
-  not_whole refused.NoMemory h = tt
-
   not_sound : (m : VModule) (e : Refused) → IsModule from (drop from text) m → IsBroken text m e → AnswersNet text from (Err e)
   not_sound m (refused.Rule r) i (f, h, e) = (f, broken_rule m i h, e)
   not_sound m refused.NoMemory i h = tt

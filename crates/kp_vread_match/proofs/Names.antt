@@ -1,8 +1,7 @@
 -- A name with a prefix.
 use Rattle.std.proofs.Common.{◌≡◌, ◌∙◌, ℕ, List, ◌++◌, length, take, drop, true, false, ap, sym}
 use Rattle.std.proofs.{Math.Seq.take-append_seam, Math.Seq.drop-append_seam, lemmas.Bool.false_from_ne_true, lemmas.Bool.false≢true}
-use Rattle.std.proofs.lemmas.{Bool.Decides.same_from_decides, List.take-append-drop}
-use Rattle.std.specs.Cmp.Lexicographic.{bytes_decides}
+use Rattle.std.{proofs.lemmas.Bool.Decides.same_from_decides, proofs.lemmas.List.take-append-drop, specs.Cmp.Lexicographic.bytes_decides}
 use Rattle.kp_net.specs.Names.{same}
 use Rattle.kp_vread_match.proofs.Tests.{as_well}
 

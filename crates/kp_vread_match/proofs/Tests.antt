@@ -1,7 +1,6 @@
 -- Tests and what they decide.
 use Rattle.std.proofs.Common.{◌≡◌, ℕ, zero, suc, ◌<◌, List, ◌∷◌, length, get_or, Bool, true, false, cond, not, ◌&&◌, ◌||◌, refl, sym, arith}
-use Rattle.std.proofs.lemmas.Bool.{false≢true}
-use Rattle.std.specs.Bool.{Decides}
+use Rattle.std.{proofs.lemmas.Bool.false≢true, specs.Bool.Decides}
 
 pub holds : (b : Bool) → Decides b (b ≡ true)
 holds b = (λ e. e, λ e. e)

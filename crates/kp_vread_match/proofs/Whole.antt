@@ -1,7 +1,7 @@
 -- A netlist is accepted as one of the job exactly if it is one.
 use Rattle.std.proofs.Common.{◌≡◌, ◌∙◌, ℕ, ◌<◌, ◌==◌, List, [], ◌∷◌, ◌++◌, length, get_or, map, take, codes, true, false, not, ◌&&◌, ◌||◌, refl, ap, sym, arith}
-use Rattle.std.proofs.{Math.Dec.eqb-suc-zero, lemmas.Bool.false≢true, lemmas.Bool.Decides.Decides-eqb}
-use Rattle.std.specs.{Bool.Decides, Cmp.Lexicographic.bytes_decides}
+use Rattle.std.{proofs.Math.Dec.eqb-suc-zero, proofs.lemmas.Bool.false≢true, proofs.lemmas.Bool.Decides.Decides-eqb, specs.Bool.Decides}
+use Rattle.std.specs.Cmp.Lexicographic.{bytes_decides}
 use Rattle.kp_ast.specs.declared.tree.Job.{Job}
 use Rattle.kp_machine.specs.Slots.{Slot, targets_of, samples_of, is_register}
 use Rattle.kp_net.specs.{Names.same, Netlist.Net, Parts.no_reg, Parts.no_file, declared.netlist.Port.Port, declared.netlist.NetReg.NetReg}

@@ -1,10 +1,8 @@
 -- The token with a given number.
 use Rattle.std.proofs.Common.{ℕ, suc, ◌≡◌, ◌==◌, ◌<◌, ◌≤◌, ◌+◌, ◌-◌, List, [], ◌∷◌, length, drop, take, map, true, false, refl, sym, ap, ◌∙◌, arith}
-use Rattle.std.proofs.lemmas.{Bool.Decides.nat_tests, List.drop_more, List.drop-map}
-use Rattle.std.specs.Prelude.{slice_index_or}
+use Rattle.std.{proofs.lemmas.Bool.Decides.nat_tests, proofs.lemmas.List.drop_more, proofs.lemmas.List.drop-map, specs.Prelude.slice_index_or}
 use Rattle.kp_bits.specs.declared.literal.Literal.{Literal}
-use Rattle.kp_grammar.specs.{Grammar.Terminal, Machine.Stops, Machine.look, Machine.wrong, Tables.among}
-use Rattle.kp_grammar.proofs.Ways.{took}
+use Rattle.kp_grammar.{specs.Grammar.Terminal, specs.Machine.Stops, specs.Machine.look, specs.Machine.wrong, specs.Tables.among, proofs.Ways.took}
 use Rattle.kp_vlog.specs.Language.{Way, Sym, Value, ID, NUM, LIT, dropped, named, number, literal, word_class, keyword_class, mark_class, verilog}
 use Rattle.kp_vlog.specs.{declared.token.Keyword.Keyword, declared.token.Mark.Mark, declared.token.VKind.VKind, declared.token.VToken.VToken, Tokens.Token}
 use Rattle.kp_vlog.specs.{Outcome.token_of, Outcome.word_of, inner.Follow.tables}
@@ -116,9 +114,3 @@ no_literal (kinds.Literal l) h = absurd (h l refl)
 no_literal (kinds.Keyword keywords.Module) h = refl
 no_literal (kinds.Mark marks.Semicolon) h = refl
 no_literal _ h = refl
-
--- what isn't a punctuator is no operator
-pub no_sign : (k : VKind) → ((m : Mark) → k ≡ kinds.Mark m → ⊥) → among (kind_class k) operator_classes ≡ false
-no_sign (kinds.Mark m) h = absurd (h m refl)
-no_sign (kinds.Keyword keywords.Module) h = refl
-no_sign _ h = refl

@@ -2,13 +2,12 @@
 use Rattle.std.proofs.Common.{ℕ, zero, suc, ◌≡◌, ◌≤◌, ◌+◌, ◌<◌, List, [], ◌∷◌, length, drop, take, map, All, refl, ap, sym, subst, ◌∙◌, arith}
 use Rattle.std.proofs.lemmas.List.{length-drop, drop_more, drop_all, drop-map, Elements.All-weaker}
 use Rattle.std.specs.Prelude.{slice_index_or}
-use Rattle.kp_grammar.specs.{Grammar.IsSentence, Machine.Accepts, Machine.Stops}
-use Rattle.kp_grammar.proofs.Laws.{sentence, wrong_at}
+use Rattle.kp_grammar.{specs.Grammar.IsSentence, specs.Machine.Accepts, specs.Machine.Stops, proofs.Laws.sentence, proofs.Laws.wrong_at}
 use Rattle.kp_vlog.specs.declared.token.VKind.TheVariants as kinds
 use Rattle.kp_vlog.specs.{declared.token.VKind.VKind, declared.token.VToken.VToken, declared.tree.VModule.VModule, Tokens.Token, Tokens.takes}
 use Rattle.kp_vlog.specs.{Outcome.StandsIn, Outcome.token_of, Outcome.word_of, Outcome.bytes_of, Language.MODULE, Language.whole, Language.verilog}
-use Rattle.kp_vlog.specs.{inner.Follow.tables, Verdict.IsWrong, Verdict.offset_of}
-use Rattle.kp_vlog.proofs.{Predictive.is_predictive, Lexemes.Fine, Lexemes.front_fine}
+use Rattle.kp_vlog.{specs.inner.Follow.tables, specs.Verdict.IsWrong, specs.Verdict.offset_of, proofs.Predictive.is_predictive}
+use Rattle.kp_vlog.proofs.Lexemes.{Fine, front_fine}
 use Rattle.kp_vread_parse.specs.inner.{Spelled.IsSpelled, Reading.ModuleGoes}
 
 pub is_module : (ts : List Token) (m : VModule) → ModuleGoes ts (Accepts (whole m ∷ [])) → IsSentence verilog MODULE [] ts (whole m ∷ [])
@@ -44,6 +43,3 @@ pub offset_at : (text : List ℕ) (tokens : List VToken) (i : ℕ) (t : VToken) 
 offset_at text tokens i t h e =
     let first : drop i tokens ≡ t ∷ drop (i + 1) tokens = drop_more tokens i t h ∙ ap (λ (x : VToken). x ∷ drop (i + 1) tokens) (sym e) in
     ap (offset_of (length text)) (drop-map (token_of text) i tokens ∙ ap (map (token_of text)) first)
-
-pub offset_end : (text : List ℕ) (tokens : List VToken) (i : ℕ) → length tokens ≤ i → offset_of (length text) (drop i (map (token_of text) tokens)) ≡ length text
-offset_end text tokens i h = ap (offset_of (length text)) (drop-map (token_of text) i tokens ∙ ap (map (token_of text)) (drop_all i tokens h))

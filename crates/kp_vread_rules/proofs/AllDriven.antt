@@ -1,7 +1,6 @@
 -- The names of a module drive what the module drives.
 use Rattle.std.proofs.Common.{◌≡◌, ◌∙◌, ℕ, ◌+◌, ◌<◌, List, [], ◌∷◌, ◌++◌, length, get_or, drop, Bool, true, false, Option, Some, None, refl, sym, ap, subst, map}
-use Rattle.std.proofs.lemmas.List.{drop_more}
-use Rattle.std.specs.{Prelude.not, Prelude.◌||◌, Prelude.codes, Prelude.if◌then◌else◌, Option.is_some}
+use Rattle.std.{proofs.lemmas.List.drop_more, specs.Prelude.not, specs.Prelude.◌||◌, specs.Prelude.codes, specs.Prelude.if◌then◌else◌, specs.Option.is_some}
 use Rattle.kp_vlog.specs.Occurrences.{Occurrence, Role, occurs, declares_port, declares_wire, declares_reg, declares_file, uses_wire, uses_source, gives_no_wire, is_given, wires_used, operands, right_names, items_names, inits_names, values_names, reset_names, updates_names, samples_names, reset_port_names, wide_port_names, header_names, body_names, names}
 use Rattle.kp_vlog.specs.Rules.{Driven, drives, driver_fits, bad_driver, nothing, items_given, inits_started, inits_filled, updates_updated, updates_written, reset_values, all_driven, module_driver}
 use Rattle.kp_vlog.specs.declared.tree.{Named.Named, VPort.VPort, Right.Right, Item.Item, Init.Init, ResetValue.ResetValue, ResetList.ResetList, Update.Update}
@@ -11,8 +10,7 @@ use Rattle.kp_vlog.specs.declared.tree.Item.TheVariants as lines
 use Rattle.kp_vlog.specs.declared.tree.Init.TheVariants as starts
 use Rattle.kp_vlog.specs.declared.tree.Update.TheVariants as edges
 use Rattle.kp_vread_rules.specs.inner.{Sets.Alike, Sets.AlikeDriven, Sets.all_by, Listed.occurrence_of}
-use Rattle.kp_vread_rules.specs.declared.names.Occurrence.{Occurrence as Listed}
-use Rattle.kp_vread_rules.proofs.Drives.{same_drives}
+use Rattle.kp_vread_rules.{specs.declared.names.Occurrence.Occurrence as Listed, proofs.Drives.same_drives}
 
 -- one name more, from the end
 pub one_before : (all : List Listed) (i : ℕ) (o : Listed) (d e z : Driven) → i < length all → o ≡ get_or all i o

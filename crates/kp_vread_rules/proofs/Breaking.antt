@@ -29,10 +29,3 @@ pub not_broken : (m : VModule) → bad_name [] (names m) ≡ None → first (wid
 unfolding broken
 not_broken m n w h =
     ap (λ o. breaks 3 o (breaks 4 (first (width_answers m)) (breaks 5 (module_driver m) None))) n ∙ ap (λ o. breaks 4 o (breaks 5 (module_driver m) None)) w ∙ ap (λ o. breaks 5 o None) h
-
--- an offset past the end of the text counts as its end
-take_far : (n : ℕ) (xs : List ℕ) → length xs ≤ n → take n xs ≡ take (length xs) xs
-take_far n xs h = take_all n xs h ∙ sym (take_all (length xs) xs (omega arith))
-
-pub far_place : (text : List ℕ) (rule at : ℕ) → length text ≤ at → refusal_at text rule (endings.Broken (length text)) ≡ refusal_at text rule (endings.Broken at)
-far_place text rule at h = ap (λ xs. refused.Rule (v_rule rule (place_after xs))) (sym (take_far at text h))

@@ -1,13 +1,12 @@
 -- Continuing past a name whose driver fits.
 use Rattle.std.proofs.Common.{◌≡◌, ◌∙◌, ℕ, ◌+◌, ◌<◌, List, [], ◌∷◌, length, get_or, drop, Bool, true, false, Option, Some, Result, Err, refl, sym, ap, subst, map}
-use Rattle.std.proofs.lemmas.List.{drop_more}
-use Rattle.std.specs.Prelude.{not, if◌then◌else◌}
+use Rattle.std.{proofs.lemmas.List.drop_more, specs.Prelude.not, specs.Prelude.if◌then◌else◌}
 use Rattle.kp_vlog.specs.Occurrences.{Occurrence, Role, gives, uses_wire, starts_reg, starts_word, fills_file, resets_reg, updates_reg, updates_file, is_given}
 use Rattle.kp_vlog.specs.Rules.{Driven, drives, driver_fits, bad_driver}
 use Rattle.kp_vread_rules.specs.{inner.Sets.Adds, inner.Sets.AlikeDriven, inner.Roles.role_of, inner.Says.Says, declared.fault.Fault.Fault}
 use Rattle.kp_vread_rules.specs.{inner.Listed.occurrence_of, declared.names.Occurrence.Occurrence as Listed}
-use Rattle.kp_vread_rules.specs.declared.fault.Fault.TheVariants as faults
 use Rattle.kp_vread_rules.proofs.Turns.{alike_itself, alike_added, one_more, when_true}
+use Rattle.kp_vread_rules.specs.declared.fault.Fault.TheVariants as faults
 
 pub as_before : (d : Driven) → AlikeDriven d d
 as_before d = record {
@@ -74,7 +73,3 @@ module _ (resets : Bool) (all : Driven) where
       ∙ when_true (driver_fits resets all d (role_of o.role) o.named.now.name) (bad_driver resets all (drives d (role_of o.role) o.named.now.name) rest) (Some o.named.now.at) f
       ∙ ap (λ x. bad_driver resets all d (occurrence_of x ∷ rest)) at
       ∙ ap (λ xs. bad_driver resets all d (map occurrence_of xs)) (sym (drop_more whole i o h)) ∙ b
-
--- out of memory, nothing is claimed
-pub says_nothing : {T : Type 0} (r : Result T Fault) (broken : Option ℕ) → r ≡ Err faults.NoMemory → Says r broken
-says_nothing {T} r broken e = subst (λ (x : Result T Fault). Says x broken) (sym e) tt

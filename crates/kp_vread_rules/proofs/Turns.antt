@@ -1,7 +1,6 @@
 -- Continuing past a name that fits.
 use Rattle.std.proofs.Common.{◌≡◌, ◌∙◌, ℕ, ◌+◌, ◌<◌, List, [], ◌∷◌, length, get_or, drop, Bool, true, false, Option, Some, refl, sym, ap, map}
-use Rattle.std.proofs.lemmas.List.{drop_more}
-use Rattle.std.specs.Prelude.{◌||◌, if◌then◌else◌}
+use Rattle.std.{proofs.lemmas.List.drop_more, specs.Prelude.◌||◌, specs.Prelude.if◌then◌else◌}
 use Rattle.kp_net.specs.Names.{same}
 use Rattle.kp_vlog.specs.Occurrences.{Occurrence, Role, names_module, declares_port, declares_sample, declares_reg, declares_file, declares_integer, declares_wire, gives_no_wire, is_given, needs}
 use Rattle.kp_vlog.specs.Rules.{name_fits, learns, bad_name}

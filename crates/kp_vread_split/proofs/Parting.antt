@@ -3,28 +3,14 @@ use Rattle.std.proofs.Common.{ℕ, ◌+◌, ◌≤◌, ◌<◌, ◌≡◌, ◌�
 use Rattle.kp_vlog.specs.Tokens.{Word, Front, front, finish, skips, takes, broken}
 use Rattle.kp_vread_split.specs.Splitting.{FirstEnds, closes, over, faulty, past_gap, past_token}
 use Rattle.kp_vread_split.specs.{declared.lead.Lead.Lead, inner.Leads.is_endmodule, inner.Leads.lead_of}
-use Rattle.kp_vread_split.specs.declared.lead.Lead.TheVariants as leads
 use Rattle.kp_vread_split.proofs.Ends.{endmodule_is, endmodule_not, skips_fit, takes_fit}
+use Rattle.kp_vread_split.specs.declared.lead.Lead.TheVariants as leads
 
 -- What ends the first module from here ends it from the offset where the call started.
 pub record Parting (text : List ℕ) (from start : ℕ) (rest : List ℕ) : Type 0 where
   pub leads : (to : ℕ) → FirstEnds start rest to → FirstEnds from (drop from text) to
   pub within : start + length rest ≡ length text
   pub after : from ≤ start
-
-stops_closes : (n : ℕ) → leads.Stops ≡ leads.Closes n → ⊥
-stops_closes n e = cc
-
-stops_past : (n : ℕ) → leads.Stops ≡ leads.Past n → ⊥
-stops_past n e = cc
-
-closes_past : (n m : ℕ) → leads.Closes n ≡ leads.Past m → ⊥
-closes_past n m e = cc
-
-abbrev length_in : Lead → ℕ
-length_in leads.Stops = 0
-length_in (leads.Closes n) = n
-length_in (leads.Past n) = n
 
 -- what the code computes of the front
 pub data Reported (text : List ℕ) : Lead → Type 0 where

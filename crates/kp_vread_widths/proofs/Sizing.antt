@@ -1,17 +1,16 @@
 -- The sizes of names by a table, and the rules of widths by it.
 use Rattle.std.proofs.Common.{◌≡◌, ◌∙◌, ℕ, ◌+◌, ◌<◌, List, [], ◌∷◌, ◌++◌, length, get_or, drop, map, Bool, true, false, cond, Option, Some, None, refl, sym, ap, subst, arith}
-use Rattle.std.proofs.lemmas.List.{drop_more}
-use Rattle.std.specs.{Prelude.nat_lt, Prelude.◌&&◌, Prelude.if◌then◌else◌, Map.lookup}
+use Rattle.std.{proofs.lemmas.List.drop_more, specs.Prelude.nat_lt, specs.Prelude.◌&&◌, specs.Prelude.if◌then◌else◌, specs.Map.lookup}
 use Rattle.kp_net.specs.Names.{same}
 use Rattle.kp_vlog.specs.Scope.{Scope, Sized, Sizes, scope_of, sizes_of, width_in, address_in, address_width, or_zero, place_of, port_size, item_sizes, file_names}
 use Rattle.kp_vlog.specs.Rules.{want, range_fits, words_fit, width_sum, right_fits, right_answers, items_answers, start_answers, inits_answers, init_answers, reset_values, values_answers, update_answer, updates_answers, width_answers}
 use Rattle.kp_vlog.specs.declared.tree.{Named.Named, Lit.Lit, VPort.VPort, Right.Right, Item.Item, Init.Init, ResetValue.ResetValue, Update.Update}
 use Rattle.kp_vlog.specs.{declared.tree.VModule.VModule, Occurrences.names, Occurrences.header_names, Occurrences.items_names, Occurrences.body_names}
+use Rattle.kp_vlog.proofs.{Scans.NamesFit, Scans.names_front, Scans.names_behind, Known.Fresh, Known.fresh_files, Known.place_at}
 use Rattle.kp_vlog.specs.declared.tree.Right.TheVariants as sides
 use Rattle.kp_vlog.specs.declared.tree.Item.TheVariants as lines
 use Rattle.kp_vlog.specs.declared.tree.Init.TheVariants as starts
 use Rattle.kp_vlog.specs.declared.tree.Update.TheVariants as edges
-use Rattle.kp_vlog.proofs.{Scans.NamesFit, Scans.names_front, Scans.names_behind, Known.Fresh, Known.fresh_files, Known.place_at}
 use Rattle.kp_vread_widths.specs.{declared.sizes.Size.Size, Tables.sized_of, Tables.AlikeSizes}
 use Rattle.kp_vread_widths.specs.inner.Sizing.{with_item, by_sizes, items_by, width_by}
 use Rattle.kp_vread_widths.proofs.Starting.{turned}

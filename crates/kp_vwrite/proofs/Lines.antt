@@ -1,7 +1,6 @@
 -- One more line of each list of lines.
 use Rattle.std.proofs.Common.{◌≡◌, ◌∙◌, ℕ, ◌+◌, ◌-◌, ◌^◌, ◌<◌, ◌≤◌, List, [], ◌∷◌, ◌++◌, length, get_or, take, drop, arith, refl, sym, ap, append_assoc, append-nil}
-use Rattle.std.proofs.lemmas.List.{take_all}
-use Rattle.std.specs.Prelude.{codes, decimal, Option, Some, None}
+use Rattle.std.{proofs.lemmas.List.take_all, specs.Prelude.codes, specs.Prelude.decimal, specs.Prelude.Option, specs.Prelude.Some, specs.Prelude.None}
 use Rattle.kp_bits.specs.{Word.word, Spelling.spelling}
 use Rattle.kp_net.specs.declared.{node.NodeId.NodeId, node.Node.Node, netlist.Port.Port, netlist.WritePort.WritePort, netlist.NetReg.NetReg}
 use Rattle.kp_net.specs.declared.netlist.{NetFile.NetFile, Parts.Parts}

@@ -1,10 +1,9 @@
 -- Texts that pass through a buffer in order.
 use Rattle.std.proofs.Common.{◌≡◌, ◌∙◌, ℕ, ◌+◌, ◌≤◌, ◌<◌, List, [], ◌∷◌, ◌++◌, length, get_or, take, drop, refl, sym, ap, subst, append_assoc, append-nil, Ok, Err}
 use Rattle.std.proofs.lemmas.{List.drop_more, List.drop_all, List.take_more, Grind.flat_map-append}
-use Rattle.std.proofs.KnownBytes.{Appends-nil, Appends-trans}
-use Rattle.std.specs.{Prelude.flat_map, declared.option.Option.Option, declared.result.Result.Result, Io.KnownBytes.Appends}
-use Rattle.kp_base.specs.Bytes.{AppendsPart, Writes}
-use Rattle.kp_base.proofs.Bytes.{writes_next}
+use Rattle.std.{proofs.KnownBytes.Appends-nil, proofs.KnownBytes.Appends-trans, specs.Prelude.flat_map, specs.declared.option.Option.Option}
+use Rattle.std.specs.{declared.result.Result.Result, Io.KnownBytes.Appends}
+use Rattle.kp_base.{specs.Bytes.AppendsPart, specs.Bytes.Writes, proofs.Bytes.writes_next}
 use Rattle.kp_vwrite.specs.inner.Passing.{Passes, Stops, Sends}
 
 -- the sink failed before it had the contents of the buffer
@@ -29,9 +28,6 @@ sends_flushed a b c page kept text (Err error) flushed empty (front, rest, split
   appended = Appends-trans a b c page front flushed part;
   split = ap (λ (t : List ℕ). page ++ t) split ∙ sym (append_assoc page front rest);
 }
-
-pub passes_nothing : (a : Option (List ℕ)) (page : List ℕ) → Passes a page a page []
-passes_nothing a page = record { sent = []; appended = Appends-nil a; split = append-nil page }
 
 join : (p q r s1 s2 t1 t2 : List ℕ) → p ++ t1 ≡ s1 ++ q → q ++ t2 ≡ s2 ++ r → p ++ (t1 ++ t2) ≡ (s1 ++ s2) ++ r
 join p q r s1 s2 t1 t2 e f =
@@ -72,9 +68,6 @@ pub record PassedUpTo (whole rest : List ℕ) (old : Option (List ℕ)) (page : 
   pub done : List ℕ
   pub split : whole ≡ done ++ rest
   pub passed : Passes old page new kept done
-
-pub passed_none : (whole : List ℕ) (a : Option (List ℕ)) (page : List ℕ) → PassedUpTo whole whole a page a page
-passed_none whole a page = record { done = []; split = refl; passed = passes_nothing a page }
 
 -- Lines of a list, written in order.
 module _ {X : Type 0} (f : ℕ → List X → List ℕ) (line : ℕ → X → List ℕ) (more : (j : ℕ) (x : X) (xs : List X) → f j (x ∷ xs) ≡ line j x ++ f (j + 1) xs) (none : (j : ℕ) → f j [] ≡ []) where

@@ -1,7 +1,6 @@
 -- The invariants of a netlist's parts that writing needs.
 use Rattle.std.proofs.Common.{◌≡◌, ◌∙◌, ℕ, zero, suc, ◌≤◌, ◌<◌, List, [], ◌∷◌, length, get_or, refl, sym, ap, subst, arith}
-use Rattle.std.proofs.lemmas.List.Elements.{All-weaker}
-use Rattle.std.specs.Prelude.{All}
+use Rattle.std.{proofs.lemmas.List.Elements.All-weaker, specs.Prelude.All}
 use Rattle.kp_net.specs.declared.node.Kind.{Kind}
 use Rattle.kp_net.specs.declared.node.Kind.TheVariants.{Const, Ext, Sample, Reg, Word, Not, Binary, Mux, Concat, Slice}
 use Rattle.kp_net.specs.{declared.node.Node.Node, declared.netlist.NetFile.NetFile, declared.netlist.Parts.Parts, Netlist.Net}

@@ -5,8 +5,8 @@ use Rattle.std.proofs.{lemmas.Fmt.decimal_injective, lemmas.List.Elements.All-ni
 use Rattle.std.specs.Prelude.{decimal, All, ◌==◌, ◌||◌, if◌then◌else◌}
 use Rattle.kp_net.specs.Names.{same, among, Differ, is_reg_name, is_file_name, is_sample_name}
 use Rattle.kp_vlog.specs.{Scope.place_of, Canon.wire_name}
-use Rattle.kp_vwrite_roundtrip.proofs.Runs.{IsDigit, decimal_led, digit_at}
 use Rattle.kp_vlog.proofs.Tests.{same_refl, differ, same_flip, place_front, place_new, reg_cases, file_cases, sample_cases}
+use Rattle.kp_vwrite_roundtrip.proofs.Runs.{IsDigit, decimal_led, digit_at}
 
 -- The kind of a name: its first byte, and whether `_` follows it.
 abbrev pub tag : List ℕ → ℕ

@@ -10,12 +10,12 @@ use Rattle.kp_vlog.specs.Occurrences.{Occurrence, occurs, declares_port, is_give
 use Rattle.kp_vlog.specs.declared.tree.{Named.Named, ResetList.ResetList, ResetValue.ResetValue, VPort.VPort, Right.Right, Item.Item, Init.Init, Update.Update}
 use Rattle.kp_vlog.specs.Canon.{wire, wire_name}
 use Rattle.kp_vlog.specs.Rules.{Driven, nothing, drives, all_driven, items_given, inits_started, inits_filled, updates_updated, reset_values, driver_fits, bad_driver, module_driver}
+use Rattle.kp_vlog.proofs.Tests.{same_refl}
 use Rattle.kp_vlog.specs.declared.tree.Init.TheVariants as starts
 use Rattle.kp_vwrite_roundtrip.proofs.Sentence.{named_at, ShowsNames, no_name, a_name, ShowsRight, a_const, a_word, a_not, a_binary, a_mux, a_concat, a_slice, ShowsSamples, no_sample, one_sample, ShowsRegs, no_reg_line, reg_line, ShowsFiles, no_file_line, file_line, ShowsInteger, no_integer, an_integer, ShowsNodes, no_node_line, node_line, ShowsStarts, no_start, a_start, ShowsWords, no_words, zero_word, some_word, ShowsFills, no_fill, a_fill, ShowsUpdates, no_update, an_update, ShowsWrites, no_write, not_written, a_write, ShowsReset, no_reset_shown, reset_shown, ShowsValues, no_value, a_value, Shown, outs, whole}
 use Rattle.kp_vwrite_roundtrip.proofs.{Written.RightFrom, Written.all_right, Distinct.wires_differ, Distinct.apart_all}
 use Rattle.kp_vwrite_roundtrip.proofs.{Denoted.past_regs, Denoted.past_files, Denoted.past_integer, NamesHold.AllNew, NamesHold.new_more, Runs.literal_for}
 use Rattle.kp_bits.specs.declared.literal.Literal.{Literal}
-use Rattle.kp_vlog.proofs.Tests.{same_refl}
 
 -- what is driven so far, part by part
 abbrev state : List (List ℕ) → List (List ℕ) → List (List ℕ) → List (List ℕ) → List (List ℕ) → List (List ℕ) → Driven

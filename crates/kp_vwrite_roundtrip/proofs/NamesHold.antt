@@ -11,10 +11,10 @@ use Rattle.kp_base.specs.Characters.{is_digit}
 use Rattle.kp_vlog.specs.Occurrences.{Occurrence, occurs, declares_port, uses_source, uses_port, is_given, wires_used, right_names, items_names, inits_names, values_names, reset_names, updates_names, samples_names, reset_port_names, wide_port_names, body_names, names}
 use Rattle.kp_vlog.specs.declared.tree.{Named.Named, ResetList.ResetList, ResetValue.ResetValue, VPort.VPort, Right.Right, Item.Item, Init.Init, Update.Update}
 use Rattle.kp_vlog.specs.{Canon.wire, Canon.wire_name, Scope.is_wire_name, Rules.name_fits, Rules.learns, Rules.bad_name}
+use Rattle.kp_vlog.proofs.Tests.{same_refl}
 use Rattle.kp_vwrite_roundtrip.proofs.Sentence.{named_at, ShowsNames, no_name, a_name, ShowsRight, a_const, an_ext, a_sample, a_reg, a_word, a_not, a_binary, a_mux, a_concat, a_slice, ShowsSamples, no_sample, one_sample, ShowsRegs, no_reg_line, reg_line, ShowsFiles, no_file_line, file_line, ShowsInteger, no_integer, an_integer, ShowsNodes, no_node_line, node_line, ShowsStarts, no_start, a_start, ShowsWords, no_words, zero_word, some_word, ShowsFills, no_fill, a_fill, ShowsUpdates, no_update, an_update, ShowsWrites, no_write, not_written, a_write, ShowsReset, no_reset_shown, reset_shown, ShowsValues, no_value, a_value, Shown, outs, whole}
 use Rattle.kp_vwrite_roundtrip.proofs.Distinct.{apart, tag, tag_reg, tag_file, tag_sample, tag_wire, wires_differ, apart_all}
 use Rattle.kp_vwrite_roundtrip.proofs.{Written.RightFrom, Written.all_right, Runs.Led, Runs.decimal_led, Runs.decimal_names, Runs.all_of, Denoted.spelled}
-use Rattle.kp_vlog.proofs.Tests.{same_refl}
 
 -- no name is bad
 pub record Good (known : List (List ℕ)) (os : List Occurrence) : Type 0 where

@@ -9,14 +9,13 @@ use Rattle.kp_net.specs.{declared.netlist.Parts.Parts, Names.same, Names.among, 
 use Rattle.kp_net.specs.{Netlist.Net, Parts.FileOk}
 use Rattle.kp_vlog.specs.{declared.tree.VPort.VPort, declared.tree.Item.Item, declared.tree.Init.Init, declared.tree.Update.Update, Canon.wire, Canon.wire_name}
 use Rattle.kp_vlog.specs.Scope.{Sized, Sizes, item_sizes, port_size, width_in, address_in, width_of, place_of, address_width, or_zero, last_of}
-use Rattle.kp_vlog.specs.Denote.{node_of, start_of, next_of, word_init, port_of}
+use Rattle.kp_vlog.{specs.Denote.node_of, specs.Denote.start_of, specs.Denote.next_of, specs.Denote.word_init, specs.Denote.port_of, proofs.Tests.same_refl}
 use Rattle.kp_vlog.specs.declared.tree.Item.TheVariants as lines
 use Rattle.kp_vlog.specs.declared.tree.Init.TheVariants as starts
 use Rattle.kp_vlog.specs.declared.tree.Update.TheVariants as edges
 use Rattle.kp_vwrite_roundtrip.proofs.Sentence.{named_at, fill_at, write_at, ShowsSamples, no_sample, one_sample, ShowsRegs, no_reg_line, reg_line, ShowsFiles, no_file_line, file_line, ShowsInteger, no_integer, an_integer, ShowsNodes, no_node_line, node_line, ShowsStarts, no_start, a_start, ShowsWords, no_words, zero_word, some_word, ShowsFills, no_fill, a_fill, ShowsUpdates, no_update, an_update, ShowsWrites, no_write, not_written, a_write}
 use Rattle.kp_vwrite_roundtrip.proofs.Distinct.{apart, tag, tag_reg, tag_file, tag_sample, wires_differ, apart_all, or_rest}
 use Rattle.kp_vwrite_roundtrip.proofs.Written.{RightFrom}
-use Rattle.kp_vlog.proofs.Tests.{same_refl}
 
 -- The words of a file: the fill, and then each word that is not 0.
 

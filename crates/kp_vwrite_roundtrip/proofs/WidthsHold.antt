@@ -14,6 +14,7 @@ use Rattle.kp_vlog.specs.Rules.{want, range_fits, stall_fits, four_bits, words_f
 use Rattle.kp_vlog.specs.declared.tree.{Named.Named, ResetList.ResetList, ResetValue.ResetValue, VPort.VPort, Right.Right, Item.Item, Init.Init, Update.Update}
 use Rattle.kp_vlog.specs.Canon.{wire, wire_name}
 use Rattle.kp_vlog.specs.Scope.{Scope, scope_of, Sized, Sizes, sizes_of, item_sizes, port_size, width_in, address_in, place_of, address_width}
+use Rattle.kp_vlog.proofs.Tests.{same_refl}
 use Rattle.kp_vwrite_roundtrip.proofs.Sentence.{named_at, number_at, range_at, fill_at, ShowsNames, no_name, a_name, ShowsRight, a_const, an_ext, a_sample, a_reg, a_word, a_not, a_binary, a_mux, a_concat, a_slice, ShowsSamples, no_sample, one_sample, ShowsRegs, no_reg_line, reg_line, ShowsFiles, no_file_line, file_line, ShowsInteger, no_integer, an_integer, ShowsNodes, no_node_line, node_line, ShowsStarts, no_start, a_start, ShowsWords, no_words, zero_word, some_word, ShowsFills, no_fill, a_fill, ShowsUpdates, no_update, an_update, ShowsWrites, no_write, not_written, a_write, ShowsReset, no_reset_shown, reset_shown, ShowsValues, no_value, a_value, Shown, outs, whole}
 use Rattle.kp_vwrite_roundtrip.proofs.Written.{RightFrom, all_right}
 use Rattle.kp_vwrite_roundtrip.proofs.Distinct.{apart, tag_reg, tag_sample, apart_all, place_at, or_rest}
@@ -21,7 +22,6 @@ use Rattle.kp_vwrite_roundtrip.proofs.Denoted.{spelled, widths_are, file_sizes, 
 use Rattle.kp_vwrite_roundtrip.proofs.Runs.{literal_for}
 use Rattle.kp_vwrite_roundtrip.proofs.SameNet.{found, width_found, address_found, found_past, found_here, sized, WidthsAre, samples_past}
 use Rattle.kp_base.specs.First.{first}
-use Rattle.kp_vlog.proofs.Tests.{same_refl}
 
 -- no check yields an offset
 abbrev Clean : List (Option ℕ) → Type 0

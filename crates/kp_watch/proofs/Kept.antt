@@ -11,17 +11,17 @@ use Rattle.kp_machine.specs.Machine.{machine_of, result_for, sequential, state_o
 use Rattle.kp_machine.specs.Slots.{Slot, targets_of, pipes_of, is_register, number_of, result_to}
 use Rattle.kp_net.specs.{declared.node.Node.Node, declared.netlist.NetFile.NetFile, declared.netlist.WritePort.WritePort, Nodes.Cells, Nodes.at, Nodes.on}
 use Rattle.kp_net.specs.Netlist.{Net, Input, State as NetState, start_of, cells_of, port_after, resets, regs_after, files_after, start_regs, state_after, last_of}
-use Rattle.kp_net.specs.Parts.{no_file}
-use Rattle.kp_net.proofs.Runs.{last_more}
+use Rattle.kp_net.{specs.Parts.no_file, proofs.Runs.last_more}
 use Rattle.kp_pipeline.specs.{Accepted.Accepted, Rows.Row, Rows.bit, Rows.bits, Rows.one_if, Rows.passed, Sequential.before_stage, Sequential.exec}
-use Rattle.kp_run.specs.{Cycles.input_at, Cycles.inputs_to, Homes.home_of, Places.place_in, declared.places.Place.TheVariants.Register, declared.places.Place.TheVariants.File}
+use Rattle.kp_run.specs.{Cycles.input_at, Cycles.inputs_to, Homes.home_of, Places.place_in}
+use Rattle.kp_run.specs.declared.places.Place.TheVariants.{Register, File}
+use Rattle.kp_run.proofs.{Machines.home_passes, Machines.next_is, Prefixes.passed_next, Prefixes.passed_before}
 use Rattle.kp_sched.specs.{Monitors.Kept, Monitors.HasSeen, Rows.bit_of, Rows.rows_seen, Runs.passes}
 use Rattle.kp_stage.specs.Start.{start_of as job_start}
 use Rattle.kp_seq.specs.{Running.Running, Running.HasWord, Running.target, Recorded.Recorded, Recorded.results_of, Recorded.write_recorded, Recorded.record_of}
 use Rattle.kp_synth_spec.specs.{Naming.register_of, Naming.file_of, Naming.value_shown, Shows.IsOfJob}
 use Rattle.kp_watch.specs.inner.Changes.{AreNoted, noted_at, last_write, no_record, record_by, wrote_by}
 use Rattle.kp_watch.specs.inner.{Machines.ran, Machines.HaveRun, Results.result_number, Results.result_in}
-use Rattle.kp_run.proofs.{Machines.home_passes, Machines.next_is, Prefixes.passed_next, Prefixes.passed_before}
 
 -- ---- the netlist
 

@@ -11,9 +11,9 @@ use Rattle.kp_sched.specs.{Rows.bit_of, Rows.rows_seen, Runs.passes}
 use Rattle.kp_seq.specs.{Running.Running, Running.state, Recorded.record_of}
 use Rattle.kp_stage.specs.{Start.start_of, declared.start.Start.Start}
 use Rattle.kp_run.specs.Homes.{home_of, AreHomes}
-use Rattle.kp_run.proofs.Machines.{homes_within, home_passes, next_is, opened_is}
-use Rattle.kp_watch.specs.inner.{Changes.no_record, Machines.ran, Machines.IsHome, Machines.AreNeeded, Machines.HasRun, Machines.HaveRun, Machines.HaveRunFirst, Machines.due_by}
-use Rattle.kp_run.proofs.Prefixes.{passed_next}
+use Rattle.kp_run.proofs.{Machines.homes_within, Machines.home_passes, Machines.next_is, Machines.opened_is, Prefixes.passed_next}
+use Rattle.kp_watch.specs.inner.Changes.{no_record}
+use Rattle.kp_watch.specs.inner.Machines.{ran, IsHome, AreNeeded, HasRun, HaveRun, HaveRunFirst, due_by}
 
 abbrev State : Type 0
 State = ℕ → ℕ → ℕ

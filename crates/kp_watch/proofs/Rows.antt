@@ -4,14 +4,12 @@ use Rattle.std.proofs.{Math.Seq.take-append_seam, lemmas.Bool.ltb-true, lemmas.B
 use Rattle.std.specs.Prelude.{nat_lt, if◌then◌else◌}
 use Rattle.kp_base.specs.declared.row.Row as masks
 use Rattle.kp_ast.specs.declared.tree.Job.{Job}
-use Rattle.kp_net.specs.Netlist.{Net, start_of, row_of, last_of, run}
-use Rattle.kp_net.proofs.Runs.{rows_more}
+use Rattle.kp_net.{specs.Netlist.Net, specs.Netlist.start_of, specs.Netlist.row_of, specs.Netlist.last_of, specs.Netlist.run, proofs.Runs.rows_more}
 use Rattle.kp_sched.specs.{Monitors.Kept, Monitors.HasSeen, Rows.rows_seen}
 use Rattle.kp_seq.specs.Running.{Running}
-use Rattle.kp_run.specs.Cycles.{input_at, inputs_to}
+use Rattle.kp_run.{specs.Cycles.input_at, specs.Cycles.inputs_to, proofs.Prefixes.rows_many, proofs.Prefixes.passed_first}
 use Rattle.kp_watch.specs.{declared.beside.Beside.Beside, declared.compare.Tables.Tables, inner.Beside.HaveCome}
 use Rattle.kp_watch.specs.inner.Machines.{given, ran, HasRun, HaveRun}
-use Rattle.kp_run.proofs.Prefixes.{rows_many, passed_first}
 
 pub first_rows : (job : Job) (net : Net) (n T : ℕ) → T ≤ n → take T (run net (inputs_to job n)).rows ≡ (run net (inputs_to job T)).rows
 first_rows job net zero zero h = refl

@@ -9,8 +9,7 @@ use Rattle.kp_seq.specs.{Running.Running, Running.HasWord, Running.state, Runnin
 use Rattle.kp_synth_spec.specs.Naming.{value_shown}
 use Rattle.kp_watch.specs.declared.{beside.Beside.Beside, compare.Tables.Tables}
 use Rattle.kp_watch.specs.inner.{Changes.IsComparable, Changes.noted_at, Changes.last_write, Changes.no_record, Changes.record_by, Machines.due_by}
-use Rattle.kp_watch.specs.inner.Results.{result_in}
-use Rattle.kp_watch.proofs.Lanes.{machine_at}
+use Rattle.kp_watch.{specs.inner.Results.result_in, proofs.Lanes.machine_at}
 
 module _ (job : Job) (tables : Tables) (both : Beside) (t : ℕ) (comparable : IsComparable job tables both) (within : t < length (targets_of job.decls)) where
   abbrev machines : List Running

@@ -1,7 +1,6 @@
 -- From the states of a run to the complete run.
 use Rattle.std.proofs.Common.{◌≡◌, ◌∙◌, ℕ, ◌+◌, ◌<◌, ◌≤◌, List, [], length, Bool, true, false, Option, Some, None, refl, ap, sym, subst, arith, below_more}
-use Rattle.std.proofs.lemmas.Bool.{ltb-true, ltb-false}
-use Rattle.std.specs.Prelude.{nat_lt}
+use Rattle.std.{proofs.lemmas.Bool.ltb-true, proofs.lemmas.Bool.ltb-false, specs.Prelude.nat_lt}
 use Rattle.kp_base.specs.declared.row.Row as masks
 use Rattle.kp_bits.specs.Word.{word}
 use Rattle.kp_ast.specs.declared.tree.Job.{Job}
@@ -11,16 +10,16 @@ use Rattle.kp_pipeline.specs.Rows as law
 use Rattle.kp_stage.specs.Start.{input, AreSamples}
 use Rattle.kp_machine.specs.Machine.{machine_of, sequential, inputs_from}
 use Rattle.kp_net.specs.Netlist.{Net, State as NetState, run, last_of}
-use Rattle.kp_sched.specs.{Rows.rows_seen, Runs.passes, Runs.due_value}
-use Rattle.kp_sched.proofs.Counting.{seen_length}
+use Rattle.kp_sched.{specs.Rows.rows_seen, specs.Runs.passes, specs.Runs.due_value, proofs.Counting.seen_length}
 use Rattle.kp_seq.specs.Running.{Running, HasWord, target}
 use Rattle.kp_synth_spec.specs.{Naming.value_shown, Shows.IsOfJob, Traces.trace_of}
-use Rattle.kp_run.specs.{Boards.due_behind, Cycles.inputs_to, Places.place_in, Places.places_in}
-use Rattle.kp_run.proofs.{Gathering.taken_is, Prefixes.state_is, Prefixes.rows_many}
+use Rattle.kp_run.{specs.Boards.due_behind, specs.Cycles.inputs_to, specs.Places.place_in, specs.Places.places_in, proofs.Gathering.taken_is}
+use Rattle.kp_run.proofs.Prefixes.{state_is, rows_many}
 use Rattle.kp_watch.specs.{Watching.own_trace, Watching.own_due, Watching.Agrees, Watching.IsFirstDifference, declared.compare.Difference.Difference}
-use Rattle.kp_watch.specs.{declared.beside.Beside.Beside, declared.compare.Tables.Tables, inner.Beside.IsRecorded, inner.Beside.AreTables, inner.Beside.HaveCome}
-use Rattle.kp_watch.specs.inner.{Changes.AreNoted, Changes.AgreeElsewhere, Changes.IsComparable, Changes.noted_at}
-use Rattle.kp_watch.specs.inner.{Comparing.IsFirstIn, Comparing.Compares, Machines.given, Machines.HaveRun, Machines.due_by}
+use Rattle.kp_watch.specs.declared.{beside.Beside.Beside, compare.Tables.Tables}
+use Rattle.kp_watch.specs.inner.Beside.{IsRecorded, AreTables, HaveCome}
+use Rattle.kp_watch.specs.inner.{Changes.AreNoted, Changes.AgreeElsewhere, Changes.IsComparable, Changes.noted_at, Comparing.IsFirstIn, Comparing.Compares}
+use Rattle.kp_watch.specs.inner.Machines.{given, HaveRun, due_by}
 use Rattle.kp_watch.proofs.{Kept.value_kept, Kept.record_there, Kept.due_kept, Lanes.due_at, Rows.HaveComeIn, Rows.come_in}
 
 abbrev State : Type 0

@@ -1,7 +1,7 @@
 -- The calls of the functions that are declared are found and keep widths: each function at arguments of its parameters' widths.
 use Rattle.std.proofs.Common.{◌≡◌, ◌∙◌, ℕ, suc, ◌+◌, List, [], ◌∷◌, ◌++◌, Option, Some, None, Bool, true, false, cond, not, length, fold, nat_eq, refl, ap, sym, subst, arith, append-nil, append_assoc}
-use Rattle.std.proofs.lemmas.Bool.{eq-eqb}
-use Rattle.std.specs.{Prelude.slice_get, Prelude.is_some, Prelude.unwrap_or, Cmp.Lexicographic.pointwise, Cmp.Lexicographic.bytes_decides}
+use Rattle.std.{proofs.lemmas.Bool.eq-eqb, specs.Prelude.slice_get, specs.Prelude.is_some, specs.Prelude.unwrap_or}
+use Rattle.std.specs.Cmp.Lexicographic.{pointwise, bytes_decides}
 use Rattle.kp_base.specs.{Check.ok, Check.◌>>=◌, Refusal.e_rule}
 use Rattle.kp_bits.specs.{Word.Word, Operators.no_word}
 use Rattle.kp_ast.specs.Expressions.{Env, Calls, names_of, arguments_of, is_function, calls_after, calls_of, no_calls, value_of_call}

@@ -1,7 +1,6 @@
 -- The entries have the declared names, in text order.
 use Rattle.std.proofs.Common.{◌≡◌, ◌∙◌, ℕ, ◌+◌, List, [], ◌∷◌, ◌++◌, map, length, ap, sym}
-use Rattle.std.proofs.lemmas.List.{map-append, append_assoc, append-nil}
-use Rattle.std.specs.List.{flat_map}
+use Rattle.std.{proofs.lemmas.List.map-append, proofs.lemmas.List.append_assoc, proofs.lemmas.List.append-nil, specs.List.flat_map}
 use Rattle.kp_ast.specs.declared.{tree.Param.Param, tree.Decl.Decl, tree.Stmt.Stmt, tree.StmtKind.StmtKind, tree.Block.Block, tree.Job.Job, widths.Scope.Scope}
 use Rattle.kp_ast.specs.declared.tree.Decl.TheVariants as decls
 use Rattle.kp_ast.specs.declared.tree.StmtKind.TheVariants as stmts

@@ -12,14 +12,14 @@ use Rattle.kp_bits.proofs.Words.{not_word, concat_word, slice_word, zext_word, s
 use Rattle.kp_ast.specs.declared.tree.{Decl.Decl, Expr.Expr, ExprKind.TheOpen.ExprKind-F, ExprKind.TheOpen.Expr-F, ExprKind.TheFolds.fold-Expr}
 use Rattle.kp_ast.specs.{Expressions.Env, Expressions.eval, Checked.Known, Checked.checked, Checked.checked_kind, Checked.checked_level, Checked.all_there}
 use Rattle.kp_ast.specs.declared.tree.Param.{Param}
-use Rattle.kp_ast.specs.declared.tree.ExprKind.TheOpen as level
-use Rattle.kp_bits.specs.Operators as operators
 use Rattle.kp_ast.proofs.Levels.{fold-Lit, fold-Name, fold-Not, fold-Binary, fold-Mux, fold-Concat, fold-Slice, fold-Zext, fold-Sext, fold-Call}
 use Rattle.kp_ast.proofs.Induction.{Every, induction}
+use Rattle.kp_ast.specs.declared.tree.ExprKind.TheOpen as level
+use Rattle.kp_bits.specs.Operators as operators
+use Rattle.kp_width.proofs.Parts.{lit_parts, name_parts, not_parts, binary_parts, mux_parts, concat_parts, sum_parts, sum_grows, slice_parts, zext_parts, sext_parts, argument_parts, call_parts}
 use Rattle.kp_width.specs.Names.{Sense, is_value_in, is_callee, Scoped, find}
 use Rattle.kp_width.specs.Expressions.{Part, is_test, params_of, part_of, width_of, sum_of, arguments_of}
 use Rattle.kp_width.specs.Soundness.{HasWidth, FitFrom, Suits, AreArguments}
-use Rattle.kp_width.proofs.Parts.{lit_parts, name_parts, not_parts, binary_parts, mux_parts, concat_parts, sum_parts, sum_grows, slice_parts, zext_parts, sext_parts, argument_parts, call_parts}
 use Rattle.kp_width.proofs.{Unbroken.Unbroken, Unbroken.width-Lit, Unbroken.width-Not, Sound.binary_width}
 
 -- the first violation of a check of each name that is used as a value, from left to right

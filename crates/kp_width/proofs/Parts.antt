@@ -8,8 +8,8 @@ use Rattle.kp_ast.specs.declared.tree.{Num.Num, Param.Param, Decl.Decl, Expr.Exp
 use Rattle.kp_ast.specs.declared.tree.ExprKind.TheVariants as leaf
 use Rattle.kp_ast.specs.declared.tree.ExprKind.TheViews as kind
 use Rattle.kp_width.specs.Expressions.{Part, is_test, is_width, binary_of, choice_of, slice_of, extension_of, sum_of, concatenation_of, arguments_of, callee_of, called_of, params_of, part_of, width_of, width_at, value_of, is_declared}
-use Rattle.kp_width.specs.Names.{Sense, is_value_in, is_callee, Scoped, find, used, used_as, passed}
 use Rattle.kp_width.proofs.Unbroken.{Unbroken, bind_unbroken, answer_unbroken, at, width-Lit, width-Name, width-Not, width-Binary, width-Mux, width-Concat, width-Slice, width-Zext, width-Sext, width-Call}
+use Rattle.kp_width.specs.Names.{Sense, is_value_in, is_callee, Scoped, find, used, used_as, passed}
 
 -- a test of numbers that passes
 abbrev pub Passes : Bool → Type 0

@@ -4,9 +4,9 @@ use Rattle.kp_base.specs.{First.first, Check.Check, Check.Answer, Check.answer, 
 use Rattle.kp_base.specs.declared.refusal.Refusal.{Refusal}
 use Rattle.kp_bits.specs.declared.{literal.Literal.Literal, operator.BinOp.BinOp}
 use Rattle.kp_ast.specs.declared.tree.{Num.Num, Decl.Decl, Expr.Expr, ExprKind.ExprKind}
+use Rattle.kp_ast.proofs.Levels.{fold-Lit, fold-Name, fold-Not, fold-Binary, fold-Mux, fold-Concat, fold-Slice, fold-Zext, fold-Sext, fold-Call}
 use Rattle.kp_ast.specs.declared.tree.ExprKind.TheVariants as leaf
 use Rattle.kp_ast.specs.declared.tree.ExprKind.TheViews as kind
-use Rattle.kp_ast.proofs.Levels.{fold-Lit, fold-Name, fold-Not, fold-Binary, fold-Mux, fold-Concat, fold-Slice, fold-Zext, fold-Sext, fold-Call}
 use Rattle.kp_width.specs.Expressions.{Part, literal_of, binary_of, choice_of, slice_of, extension_of, sum_of, concatenation_of, call_of, width_of_kind, part_of_level, part_of, width_of}
 use Rattle.kp_width.specs.Names.{is_value_in, Scoped, used}
 

@@ -1,5 +1,4 @@
-use Rattle.std.proofs.Common.{◌≡◌, drop}
-use Rattle.std.specs.List.{list_any}
+use Rattle.std.{proofs.Common.◌≡◌, proofs.Common.drop, specs.List.list_any}
 use Rattle.kp_net.specs.Netlist.{cells_of, stalled}
 use Rattle.kp_synth_tables.specs.Keys.{guesses_of}
 use Rattle.kp_stalls_guess.specs.{Guessed.is_other_guess, inner.Held.held_from}

@@ -1,8 +1,8 @@
 -- The contents of the tables of a job, as numbers of limited width.
 use Rattle.std.specs.Prelude.{ℕ, zero, suc, ◌+◌, min, max, List, [], ◌∷◌, ◌++◌, Option, Some, None, Bool, false, ◌&&◌, if◌then◌else◌, nat_le}
 use Rattle.std.specs.List.{list_any}
-use Rattle.kp_ast.specs.{declared.tree.Named.Named, declared.tree.ResultDecl.ResultDecl, declared.tree.Expr.Expr}
-use Rattle.kp_ast.specs.declared.tree.{ReadStmt.ReadStmt, Stmt.Stmt, StmtKind.StmtKind, Block.Block, Decl.Decl, Job.Job}
+use Rattle.kp_ast.specs.declared.tree.{Named.Named, ResultDecl.ResultDecl, Expr.Expr, ReadStmt.ReadStmt, Stmt.Stmt, StmtKind.StmtKind, Block.Block, Decl.Decl}
+use Rattle.kp_ast.specs.declared.tree.Job.{Job}
 use Rattle.kp_ast.specs.declared.tree.StmtKind.TheVariants as stmts
 use Rattle.kp_ast.specs.declared.tree.Decl.TheVariants as decls
 use Rattle.kp_stage.specs.{Counts.one_if_some, Uses.aims}

@@ -1,8 +1,7 @@
 use Rattle.std.specs.Prelude.{⊤}
 use Rattle.kp_base.specs.Causes.{Rose}
 use Rattle.kp_view_words.specs.Asked.{asked, file_asked}
-use Rattle.kp_view.specs.Due.{IsDue}
-use Rattle.kp_view.proofs.Ends.{complained, finished, stopped}
+use Rattle.kp_view.{specs.Due.IsDue, proofs.Ends.complained, proofs.Ends.finished, proofs.Ends.stopped}
 use Rattle.kp_view.proofs.ended.Goals as goal
 
 pub returns-in-Ok-clause-ends : goal.returns-in-Ok-clause-ends

@@ -8,10 +8,10 @@ use Rattle.kp_net.specs.Netlist.{Net, last_of}
 use Rattle.kp_sched.specs.Monitors.{Kept}
 use Rattle.kp_seq.specs.{Running.Running, Running.HasWord, Running.target, Recorded.Recorded}
 use Rattle.kp_synth_spec.specs.{Naming.value_shown, Shows.IsOfJob}
-use Rattle.kp_run.specs.{Cycles.input_at, Cycles.inputs_to, Homes.home_of, Homes.AreHomes, Places.place_in, Places.places_in}
-use Rattle.kp_run.specs.declared.places.Place.{Place, TheVariants.Register, TheVariants.File}
-use Rattle.kp_watch.specs.declared.{beside.Beside.Beside, compare.Tables.Tables}
-use Rattle.kp_watch.specs.inner.{Machines.due_by, Results.result_in, Results.AreResults}
+use Rattle.kp_run.specs.{Cycles.input_at, Cycles.inputs_to, Homes.home_of, Homes.AreHomes, Places.place_in, Places.places_in, declared.places.Place.Place}
+use Rattle.kp_run.specs.declared.places.Place.TheVariants.{Register, File}
+use Rattle.kp_watch.specs.{declared.beside.Beside.Beside, declared.compare.Tables.Tables, inner.Machines.due_by}
+use Rattle.kp_watch.specs.inner.Results.{result_in, AreResults}
 
 -- the addresses that the write ports of a netlist wrote in cycle T
 pub record AreNoted (job : Job) (net : Net) (T : ℕ) (written : List (Option ℕ)) : Type 0 where

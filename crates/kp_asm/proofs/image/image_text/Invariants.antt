@@ -1,5 +1,4 @@
-use Rattle.std.proofs.Common.{◌≡◌, ◌++◌, drop}
-use Rattle.std.specs.Prelude.{codes}
+use Rattle.std.{proofs.Common.◌≡◌, proofs.Common.◌++◌, proofs.Common.drop, specs.Prelude.codes}
 use Rattle.kp_asm.specs.Image.{lines_from}
 use Rattle.kp_asm.proofs.image.image_text.Given as goal
 

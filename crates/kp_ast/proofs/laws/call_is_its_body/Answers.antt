@@ -1,9 +1,8 @@
 use Rattle.std.proofs.Common.{◌≡◌, ◌∙◌, ◌++◌, [], ◌∷◌, ap, cond, Bool, true, map}
 use Rattle.std.proofs.lemmas.{Cmp.nat_list_eq_equiv, List.Sums.fold-append}
 use Rattle.kp_ast.specs.Expressions.{Calls, env_of, eval, no_calls, calls_after}
-use Rattle.kp_ast.specs.Size.{Bodies, no_bodies, bodies_after}
+use Rattle.kp_ast.{specs.Size.Bodies, specs.Size.no_bodies, specs.Size.bodies_after, proofs.Levels.fold-Call}
 use Rattle.kp_ast.specs.declared.tree.Decl.TheVariants as decls
-use Rattle.kp_ast.proofs.Levels.{fold-Call}
 use Rattle.kp_ast.proofs.laws.call_is_its_body.Goals as goal
 
 here : {X : Type 0} (test : Bool) (x y : X) → test ≡ true → cond test x y ≡ x

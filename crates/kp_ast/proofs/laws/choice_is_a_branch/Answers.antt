@@ -1,7 +1,6 @@
 use Rattle.std.proofs.Common.{◌≡◌, ◌∙◌, Bool, true, false, inl, inr, ap, refl, ◌⊎◌, cond, eqb}
 use Rattle.kp_bits.specs.Word.{Word}
-use Rattle.kp_ast.proofs.Levels.{fold-Mux}
-use Rattle.kp_ast.specs.Expressions.{eval}
+use Rattle.kp_ast.{proofs.Levels.fold-Mux, specs.Expressions.eval}
 use Rattle.kp_ast.proofs.laws.choice_is_a_branch.Goals as goal
 
 either : (b : Bool) (x y : Word) → (cond b x y ≡ x) ⊎ (cond b x y ≡ y)

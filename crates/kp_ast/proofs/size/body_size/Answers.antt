@@ -1,6 +1,5 @@
 use Rattle.std.proofs.Common.{◌≡◌, ◌∙◌, true, false, length, arith, ap, get_or}
-use Rattle.kp_ast.specs.Expressions.{is_function}
-use Rattle.kp_ast.proofs.Bodies.{length-capped_bodies, found_here, found_before}
+use Rattle.kp_ast.{specs.Expressions.is_function, proofs.Bodies.length-capped_bodies, proofs.Bodies.found_here, proofs.Bodies.found_before}
 use Rattle.kp_ast.proofs.size.body_size.Goals.{then-is_function, else-is_function}
 use Rattle.kp_ast.proofs.size.body_size.Goals as goal
 

@@ -1,6 +1,5 @@
 use Rattle.std.proofs.{Common.sym, Common.subst, lemmas.Result.err_from_is_err_and}
-use Rattle.kp_base.specs.Bytes.{AppendsPart}
-use Rattle.kp_base.proofs.{Bytes.part_next, Pieces.flat_map_split}
+use Rattle.kp_base.{specs.Bytes.AppendsPart, proofs.Bytes.part_next, proofs.Pieces.flat_map_split}
 use Rattle.kp_base.proofs.writing.write_pieces.Goals as goal
 
 pub returns-in_err-write_all-clause-text : goal.returns-in_err-write_all-clause-text

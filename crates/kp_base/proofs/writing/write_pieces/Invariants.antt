@@ -1,5 +1,4 @@
-use Rattle.std.proofs.Common.{◌≤◌, take}
-use Rattle.std.specs.{Prelude.flat_map, Io.KnownBytes.Appends}
+use Rattle.std.{proofs.Common.◌≤◌, proofs.Common.take, specs.Prelude.flat_map, specs.Io.KnownBytes.Appends}
 use Rattle.kp_base.proofs.writing.write_pieces.Given as goal
 
 abbrev pub invariant-loop-piece : goal.invariant-loop-piece

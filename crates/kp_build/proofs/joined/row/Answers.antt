@@ -1,7 +1,6 @@
 use Rattle.std.proofs.Common.{◌∙◌, ap, arith}
 use Rattle.kp_bits.specs.Operators.{joined_of}
-use Rattle.kp_build.specs.inner.Showing.{words_at}
-use Rattle.kp_build.proofs.Rows.{row_fits, row_shows}
+use Rattle.kp_build.{specs.inner.Showing.words_at, proofs.Rows.row_fits, proofs.Rows.row_shows}
 use Rattle.kp_build.proofs.joined.row.Goals as goal
 
 pub width_of-width-requires-clause-fits : goal.width_of-width-requires-clause-fits

@@ -1,5 +1,4 @@
-use Rattle.std.proofs.Common.{◌≡◌, ◌≤◌, take}
-use Rattle.std.specs.List.{sum_by}
+use Rattle.std.{proofs.Common.◌≡◌, proofs.Common.◌≤◌, proofs.Common.take, specs.List.sum_by}
 use Rattle.kp_net.specs.Widths.{wide}
 use Rattle.kp_build.proofs.joined.width_of.Given as goal
 

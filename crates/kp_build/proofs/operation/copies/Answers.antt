@@ -1,7 +1,6 @@
 use Rattle.std.proofs.Common.{◌≡◌, ◌∙◌, ◌-◌, ◌<◌, length, ap, sym, arith}
 use Rattle.kp_bits.specs.Word.{Word, word, not_of, mux_of, slice_of}
-use Rattle.kp_net.specs.Nodes.{word_at}
-use Rattle.kp_net.proofs.Values.{word_wide}
+use Rattle.kp_net.{specs.Nodes.word_at, proofs.Values.word_wide}
 use Rattle.kp_build.proofs.operation.copies.Goals as goal
 
 pub returns-clause-word : goal.returns-clause-word

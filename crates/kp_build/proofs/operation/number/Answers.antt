@@ -1,5 +1,4 @@
-use Rattle.std.proofs.Common.{◌∙◌, Some, ap, sym}
-use Rattle.std.specs.Result.{result_ok}
+use Rattle.std.{proofs.Common.◌∙◌, proofs.Common.Some, proofs.Common.ap, proofs.Common.sym, specs.Result.result_ok}
 use Rattle.kp_bits.specs.Word.{word}
 use Rattle.kp_build.specs.inner.Showing.{Shows}
 use Rattle.kp_build.proofs.operation.number.Goals as goal

@@ -1,7 +1,6 @@
 use Rattle.std.proofs.Common.{◌∙◌, ap, sym, subst}
 use Rattle.kp_net.specs.Widths.{wide, BinaryOk}
-use Rattle.kp_build.specs.inner.Showing.{width_after}
-use Rattle.kp_build.proofs.Fitting.{shown, operands_ok}
+use Rattle.kp_build.{specs.inner.Showing.width_after, proofs.Fitting.shown, proofs.Fitting.operands_ok}
 use Rattle.kp_build.proofs.operation.operated.Goals as goal
 
 pub binary-requires-clause-widths : goal.binary-requires-clause-widths

@@ -1,9 +1,8 @@
 use Rattle.std.proofs.Common.{◌≡◌, ◌∙◌, ◌+◌, ◌-◌, ap, sym, arith}
 use Rattle.kp_bits.specs.Word.{Word, IsWord, concat_of, sext_of}
-use Rattle.kp_net.specs.{Nodes.word_at, Widths.wide}
-use Rattle.kp_net.proofs.Values.{word_wide}
-use Rattle.kp_build.specs.inner.Showing.{copies}
-use Rattle.kp_build.proofs.{Fitting.shown, Fitting.extension_ok, Fitting.is_word, Extending.sext_same, Extending.sext_concat}
+use Rattle.kp_net.{specs.Nodes.word_at, specs.Widths.wide, proofs.Values.word_wide}
+use Rattle.kp_build.{specs.inner.Showing.copies, proofs.Fitting.shown, proofs.Fitting.extension_ok, proofs.Fitting.is_word}
+use Rattle.kp_build.proofs.Extending.{sext_same, sext_concat}
 use Rattle.kp_build.proofs.operation.sign_extended.Goals as goal
 
 pub overflow_cast-more : goal.overflow_cast-more

@@ -1,8 +1,6 @@
 use Rattle.std.proofs.Common.{◌≡◌, ◌∙◌, ◌+◌, ◌-◌, ap, sym, arith}
-use Rattle.kp_bits.specs.Word.{Word, word, concat_of, zext_of}
-use Rattle.kp_bits.proofs.Arithmetic.{zext_concat}
-use Rattle.kp_net.specs.{Nodes.word_at, Widths.wide}
-use Rattle.kp_net.proofs.Values.{word_wide}
+use Rattle.kp_bits.{specs.Word.Word, specs.Word.word, specs.Word.concat_of, specs.Word.zext_of, proofs.Arithmetic.zext_concat}
+use Rattle.kp_net.{specs.Nodes.word_at, specs.Widths.wide, proofs.Values.word_wide}
 use Rattle.kp_build.proofs.Fitting.{shown, extension_ok}
 use Rattle.kp_build.proofs.operation.zero_extended.Goals as goal
 

@@ -1,19 +1,19 @@
 use Rattle.std.proofs.Common.{refl, ◌*◌, ◌<◌, ◌≤◌, ◌+◌, ◌++◌, ◌∷◌, [], length, take, Some, ap, sym, subst, arith}
 use Rattle.std.proofs.lemmas.{Result.IfOk-weaker, List.Elements.All-push, List.Elements.All-nil, List.Elements.All-same}
-use Rattle.std.proofs.lemmas.List.Sums.{sum_by_more, sum_by_more_le, get_or-le-sum_by}
+use Rattle.std.{proofs.lemmas.List.Sums.sum_by_more, proofs.lemmas.List.Sums.sum_by_more_le, proofs.lemmas.List.Sums.get_or-le-sum_by, specs.Prelude.sum_by}
+use Rattle.std.specs.Option.{option_and_then}
 use Rattle.kp_bits.specs.Word.{not_of}
 use Rattle.kp_bits.specs.Checked.{checked_literal, checked_binary, checked_mux, checked_joined, checked_slice, checked_zext, checked_sext}
-use Rattle.std.specs.{Prelude.sum_by, Option.option_and_then}
+use Rattle.kp_ast.proofs.Parts.{value_Lit, value_Concat, value_Slice, value_Zext, value_Sext, value_Call, size_Not, size_Binary, size_Mux, size_Concat, size_Slice, size_Zext, size_Sext, size_Call}
 use Rattle.kp_ast.specs.{Size.Bodies, Size.size, Size.bodies_of, Size.body_size_of, Size.no_bodies, Checked.checked_calls_of}
-use Rattle.kp_net.specs.{Nodes.word_at, Growth.Grown}
-use Rattle.kp_net.proofs.Growing.{grown_then, grown_more}
+use Rattle.kp_net.{specs.Nodes.word_at, specs.Growth.Grown, proofs.Growing.grown_then, proofs.Growing.grown_more}
 use Rattle.kp_build.proofs.Forms.{sound_Not, same_Not, sound_left, sound_right, same_Binary, sound_test, sound_yes, sound_no, same_Mux}
 use Rattle.kp_build.proofs.{Lists.grown_same, Lists.element_sound, Lists.none_show, Lists.more_show, Work.steps, Work.work, Work.work_of}
-use Rattle.kp_build.proofs.{Names.still_inside, Names.call_inside, Giving.sound_later, Giving.gives_earlier, Giving.gives_later, Giving.fit_by, Giving.gives_by, Giving.one_sound, Giving.one_part, Giving.all_sound, Giving.all_parts}
+use Rattle.kp_build.proofs.Names.{still_inside, call_inside}
+use Rattle.kp_build.proofs.Giving.{sound_later, gives_earlier, gives_later, fit_by, gives_by, one_sound, one_part, all_sound, all_parts}
 use Rattle.kp_build.proofs.Calls.{literal_there, names_found, name_gives, not_shows, body_sound, body_shows, body_count, last_there, no_function}
 use Rattle.kp_build.specs.{Names.known_at, inner.Showing.IsThere, inner.Showing.Shows, inner.Showing.AllShow, inner.Showing.words_at, inner.Showing.values_in}
 use Rattle.kp_build.proofs.Rows as rows
-use Rattle.kp_ast.proofs.Parts.{value_Lit, value_Concat, value_Slice, value_Zext, value_Sext, value_Call, size_Not, size_Binary, size_Mux, size_Concat, size_Slice, size_Zext, size_Sext, size_Call}
 use Rattle.kp_build.proofs.walk.+walk.Goals as goal
 
 pub node_for-number-requires-clause-right : goal.node_for-number-requires-clause-right

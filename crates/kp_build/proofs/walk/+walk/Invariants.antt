@@ -1,5 +1,4 @@
-use Rattle.std.proofs.Common.{◌+◌, ◌*◌, take}
-use Rattle.std.specs.Prelude.{sum_by}
+use Rattle.std.{proofs.Common.◌+◌, proofs.Common.◌*◌, proofs.Common.take, specs.Prelude.sum_by}
 use Rattle.kp_ast.specs.Size.{size}
 use Rattle.kp_net.specs.Growth.{Grown}
 use Rattle.kp_build.specs.inner.Showing.{AllInside, AllShow, values_in}

@@ -1,6 +1,5 @@
 use Rattle.std.proofs.Common.{◌∙◌, ◌≤◌, ℕ, List, length, ap, subst, arith, Err}
-use Rattle.kp_core.specs.{Answers.text_said, Due.DueOfHead}
-use Rattle.kp_core.proofs.Outcomes.{of_excess, of_input}
+use Rattle.kp_core.{specs.Answers.text_said, specs.Due.DueOfHead, proofs.Outcomes.of_excess, proofs.Outcomes.of_input}
 use Rattle.kp_core.proofs.top.of_source.Goals as goal
 
 pub returns-in_ok-of_excess-in-Err-TooLong-clause-due : goal.returns-in_ok-of_excess-in-Err-TooLong-clause-due

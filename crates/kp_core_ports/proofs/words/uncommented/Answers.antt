@@ -1,8 +1,6 @@
 use Rattle.std.proofs.Common.{◌≡◌, ◌<◌, ◌≤◌, ℕ, List, ap, sym, ◌∙◌, arith, ⊎_elim}
-use Rattle.std.proofs.lemmas.Bool.{cases_lt}
-use Rattle.std.specs.Prelude.{slice_range}
-use Rattle.kp_core_ports.specs.Ports.{begins_comment}
-use Rattle.kp_core_ports.proofs.Comments.{cut, whole_line}
+use Rattle.std.{proofs.lemmas.Bool.cases_lt, specs.Prelude.slice_range}
+use Rattle.kp_core_ports.{specs.Ports.begins_comment, proofs.Comments.cut, proofs.Comments.whole_line}
 use Rattle.kp_core_ports.proofs.words.uncommented.Goals as goal
 
 pub loop-i-preserved : goal.loop-i-preserved

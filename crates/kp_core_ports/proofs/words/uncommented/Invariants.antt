@@ -1,5 +1,4 @@
-use Rattle.std.proofs.Common.{◌≡◌, ◌≤◌, ◌<◌, ℕ, false}
-use Rattle.std.specs.Prelude.{slice_range}
+use Rattle.std.{proofs.Common.◌≡◌, proofs.Common.◌≤◌, proofs.Common.◌<◌, proofs.Common.ℕ, proofs.Common.false, specs.Prelude.slice_range}
 use Rattle.kp_core_ports.specs.Ports.{begins_comment}
 use Rattle.kp_core_ports.proofs.words.uncommented.Given as goal
 

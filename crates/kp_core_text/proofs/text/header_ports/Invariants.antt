@@ -1,5 +1,4 @@
-use Rattle.std.proofs.Common.{◌≡◌, take}
-use Rattle.std.specs.Prelude.{flat_map}
+use Rattle.std.{proofs.Common.◌≡◌, proofs.Common.take, specs.Prelude.flat_map}
 use Rattle.kp_core_text.specs.Ports.{header_text}
 use Rattle.kp_core_text.proofs.text.header_ports.Given as goal
 

@@ -1,5 +1,4 @@
-use Rattle.std.proofs.Common.{◌≡◌, ◌++◌, take}
-use Rattle.std.specs.Prelude.{flat_map}
+use Rattle.std.{proofs.Common.◌≡◌, proofs.Common.◌++◌, proofs.Common.take, specs.Prelude.flat_map}
 use Rattle.kp_core_text.specs.{Ports.line_text, Core.comment}
 use Rattle.kp_core_text.proofs.text.lines.Given as goal
 

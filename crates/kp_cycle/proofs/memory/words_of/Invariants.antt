@@ -1,5 +1,4 @@
-use Rattle.std.proofs.Common.{◌≡◌, length, take}
-use Rattle.std.specs.List.{sum_by}
+use Rattle.std.{proofs.Common.◌≡◌, proofs.Common.length, proofs.Common.take, specs.List.sum_by}
 use Rattle.kp_cycle.proofs.memory.words_of.Given as goal
 
 abbrev pub invariant-loop-file : goal.invariant-loop-file

@@ -1,5 +1,4 @@
-use Rattle.std.proofs.Common.{◌≡◌, map, take}
-use Rattle.std.specs.List.{sum_by}
+use Rattle.std.{proofs.Common.◌≡◌, proofs.Common.map, proofs.Common.take, specs.List.sum_by}
 use Rattle.kp_bits.specs.{Word.IsWord, Operators.joined_of}
 use Rattle.kp_net.specs.Widths.{wide}
 use Rattle.kp_cycle.specs.inner.Storage.{seen}

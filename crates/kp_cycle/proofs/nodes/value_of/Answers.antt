@@ -3,10 +3,8 @@ use Rattle.std.proofs.lemmas.List.{get_or_default}
 use Rattle.kp_bits.specs.Word as bits
 use Rattle.kp_bits.specs.Operators.{joined_of}
 use Rattle.kp_net.specs.declared.node.{NodeId.NodeId, Kind.TheVariants.Binary, Kind.TheVariants.Concat, Kind.TheVariants.Slice, Node.Node}
-use Rattle.kp_net.specs.Widths.{no_node}
-use Rattle.kp_net.proofs.Exact.{operand_widths}
-use Rattle.kp_cycle.specs.{Steps.given, inner.Storage.seen, inner.Storage.cells}
-use Rattle.kp_cycle.proofs.Settling.{whole, kind_ok}
+use Rattle.kp_net.{specs.Widths.no_node, proofs.Exact.operand_widths}
+use Rattle.kp_cycle.{specs.Steps.given, specs.inner.Storage.seen, specs.inner.Storage.cells, proofs.Settling.whole, proofs.Settling.kind_ok}
 use Rattle.kp_cycle.proofs.nodes.value_of.Goals as goal
 
 pub apply-requires : goal.apply-requires

@@ -1,5 +1,4 @@
-use Rattle.std.proofs.Common.{◌≡◌, ◌<◌, ◌≤◌, false, ℕ, get_or}
-use Rattle.std.specs.Prelude.{All}
+use Rattle.std.{proofs.Common.◌≡◌, proofs.Common.◌<◌, proofs.Common.◌≤◌, proofs.Common.false, proofs.Common.ℕ, proofs.Common.get_or, specs.Prelude.All}
 use Rattle.kp_net.specs.declared.node.NodeId.{NodeId}
 use Rattle.kp_cycle.specs.inner.Plans.{IsMarked, Grows}
 use Rattle.kp_cycle.proofs.plan.mark_all.Given as goal

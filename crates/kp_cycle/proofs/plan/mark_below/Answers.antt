@@ -1,9 +1,7 @@
 use Rattle.std.proofs.Common.{◌≡◌, ◌<◌, ◌≤◌, ℕ, List, false, get_or, ap, subst, ◌∙◌}
-use Rattle.std.proofs.lemmas.List.{get_or_default}
-use Rattle.std.specs.Prelude.{All}
+use Rattle.std.{proofs.lemmas.List.get_or_default, specs.Prelude.All}
 use Rattle.kp_net.specs.{declared.node.Node.Node, Widths.no_node}
-use Rattle.kp_cycle.specs.inner.Plans.{reads, IsMarked}
-use Rattle.kp_cycle.proofs.Marking.{needed_more}
+use Rattle.kp_cycle.{specs.inner.Plans.reads, specs.inner.Plans.IsMarked, proofs.Marking.needed_more}
 use Rattle.kp_cycle.proofs.plan.mark_below.Goals as goal
 
 pub returns-then-marks-i : goal.returns-then-marks-i

@@ -1,5 +1,4 @@
-use Rattle.std.proofs.Common.{◌<◌, subst}
-use Rattle.std.specs.Prelude.{All}
+use Rattle.std.{proofs.Common.◌<◌, proofs.Common.subst, specs.Prelude.All}
 use Rattle.kp_net.specs.declared.node.Kind.{Kind}
 use Rattle.kp_cycle.specs.inner.Plans.{reads}
 use Rattle.kp_cycle.proofs.plan.mark_operands.Goals as goal

@@ -1,6 +1,6 @@
 use Rattle.std.proofs.Common.{length, arith}
-use Rattle.kp_cycle.specs.inner.Plans.{IsMarked, IsKnown}
-use Rattle.kp_cycle.proofs.{Marking.plan_is, Marking.marked_inside, Marking.known_at, Stepping.roots_are}
+use Rattle.kp_cycle.{specs.inner.Plans.IsMarked, specs.inner.Plans.IsKnown, proofs.Marking.plan_is, proofs.Marking.marked_inside, proofs.Marking.known_at}
+use Rattle.kp_cycle.proofs.Stepping.{roots_are}
 use Rattle.kp_cycle.proofs.plan.plan.Goals as goal
 
 pub steps_of-requires-clause-some : goal.steps_of-requires-clause-some

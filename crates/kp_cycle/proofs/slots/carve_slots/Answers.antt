@@ -3,8 +3,7 @@ use Rattle.std.proofs.Math.Nat.{mul-le-mul_right}
 use Rattle.std.proofs.lemmas.{List.map-append, List.replicate_more, List.get_or_append_left, List.length-append, List.get_or_at, Bool.cases_lt}
 use Rattle.std.specs.Prelude.{IsOk, IsErr, IfOk, OnOk}
 use Rattle.kp_region.specs.{declared.span.Span.Span, declared.region.Full.Full, Words.Words, Words.IsSound, Words.next_span, Words.carved}
-use Rattle.kp_cycle.specs.{declared.slots.Slot.Slot, inner.Spans.Apart, inner.Spans.no_slot}
-use Rattle.kp_cycle.proofs.Spans.{apart_carved, length_carved}
+use Rattle.kp_cycle.{specs.declared.slots.Slot.Slot, specs.inner.Spans.Apart, specs.inner.Spans.no_slot, proofs.Spans.apart_carved, proofs.Spans.length_carved}
 use Rattle.kp_cycle.proofs.slots.carve_slots.Goals as goal
 
 ok_unless : {T E : Type 0} (r : Result T E) → (IsErr r → ⊥) → IsOk r

@@ -1,8 +1,7 @@
 use Rattle.std.proofs.Common.{◌≡◌, ◌<◌, length, subst, sym, ap, ◌∙◌, arith}
 use Rattle.kp_net.specs.Netlist.{Net}
 use Rattle.kp_cycle.specs.Steps.{Running}
-use Rattle.kp_debug.specs.Sessions.{SamplesFitCycles}
-use Rattle.kp_debug.proofs.Standing.{run_on}
+use Rattle.kp_debug.{specs.Sessions.SamplesFitCycles, proofs.Standing.run_on}
 use Rattle.kp_debug.proofs.cycles.run_between.Goals as goal
 
 pub run_one-requires-clause-fits : goal.run_one-requires-clause-fits

@@ -3,8 +3,7 @@ use Rattle.std.specs.Prelude.{slice_range}
 use Rattle.kp_bits.specs.Word.{Word}
 use Rattle.kp_net.specs.{declared.netlist.Parts.Parts, declared.netlist.Port.Port, Netlist.Net, Netlist.Input, Netlist.row_of, Netlist.state_after}
 use Rattle.kp_cycle.specs.Steps.{Running, given}
-use Rattle.kp_debug.specs.{Sessions.inputs_of, inner.Kept.no_input}
-use Rattle.kp_debug.proofs.Feeding.{input_there}
+use Rattle.kp_debug.{specs.Sessions.inputs_of, specs.inner.Kept.no_input, proofs.Feeding.input_there}
 use Rattle.kp_debug.proofs.cycles.run_one.Goals as goal
 
 -- the input of a cycle, whose samples are sliced by the number of ports

@@ -1,8 +1,7 @@
 use Rattle.std.proofs.Common.{◌∙◌, sym, subst, arith}
 use Rattle.kp_net.specs.Netlist.{Net}
 use Rattle.kp_debug_report.specs.Inspecting.{has_value, first_from, reached, IsOfTargets}
-use Rattle.kp_debug_report.specs.inner.Standing.{IsRegisterOf, run_of}
-use Rattle.kp_debug_report.proofs.Standing.{steps, most_left}
+use Rattle.kp_debug_report.{specs.inner.Standing.IsRegisterOf, specs.inner.Standing.run_of, proofs.Standing.steps, proofs.Standing.most_left}
 use Rattle.kp_debug_report.proofs.commands.go.Goals as goal
 
 pub returns-in-Step : goal.returns-in-Step

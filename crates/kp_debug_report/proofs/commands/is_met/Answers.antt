@@ -1,9 +1,7 @@
-use Rattle.std.proofs.Common.{◌≡◌, ◌∙◌, ap, sym}
-use Rattle.std.specs.Prelude.{◌==◌}
+use Rattle.std.{proofs.Common.◌≡◌, proofs.Common.◌∙◌, proofs.Common.ap, proofs.Common.sym, specs.Prelude.◌==◌}
 use Rattle.kp_bits.specs.Word.{Word}
 use Rattle.kp_tool_report.specs.States.{State}
-use Rattle.kp_debug_report.specs.inner.Standing.{state_seen}
-use Rattle.kp_debug_report.proofs.Standing.{visible_is}
+use Rattle.kp_debug_report.{specs.inner.Standing.state_seen, proofs.Standing.visible_is}
 use Rattle.kp_debug_report.proofs.commands.is_met.Goals as goal
 
 pub returns : goal.returns

@@ -2,8 +2,7 @@ use Rattle.std.proofs.{Common.◌++◌, Common.sym, Common.subst, KnownBytes.App
 use Rattle.kp_base.specs.Bytes.{Writes}
 use Rattle.kp_net.specs.Netlist.{Net}
 use Rattle.kp_tool_report.specs.States.{State, state_lines, no_counts}
-use Rattle.kp_debug_report.specs.{Inspecting.at_line, Inspecting.IsOfTargets, inner.Standing.IsRegisterOf}
-use Rattle.kp_debug_report.proofs.Standing.{visible_is}
+use Rattle.kp_debug_report.{specs.Inspecting.at_line, specs.Inspecting.IsOfTargets, specs.inner.Standing.IsRegisterOf, proofs.Standing.visible_is}
 use Rattle.kp_debug_report.proofs.commands.print_command.Goals as goal
 
 pub register_of-number-requires-clause-there : goal.register_of-number-requires-clause-there

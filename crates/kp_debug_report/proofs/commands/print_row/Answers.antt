@@ -5,8 +5,7 @@ use Rattle.kp_ast.specs.declared.tree.Job.{Job}
 use Rattle.kp_debug.specs.Sessions.{Debugged}
 use Rattle.kp_run.proofs.Machines.{stages_fit}
 use Rattle.kp_sched.specs.Rows.{row_seen}
-use Rattle.kp_debug_report.specs.Inspecting.{row_or_end}
-use Rattle.kp_debug_report.proofs.Standing.{row_is}
+use Rattle.kp_debug_report.{specs.Inspecting.row_or_end, proofs.Standing.row_is}
 use Rattle.kp_debug_report.proofs.commands.print_row.Goals as goal
 
 pub overflow_cast-stages : goal.overflow_cast-stages

@@ -1,5 +1,4 @@
-use Rattle.kp_diagram.specs.Diagram.{Filling}
-use Rattle.kp_diagram.proofs.Causes.{causes, counted}
+use Rattle.kp_diagram.{specs.Diagram.Filling, proofs.Causes.causes, proofs.Causes.counted}
 use Rattle.kp_diagram.proofs.laws.lost_cycles_have_their_causes.Goals as goal
 
 pub returns-clause-causes : goal.returns-clause-causes

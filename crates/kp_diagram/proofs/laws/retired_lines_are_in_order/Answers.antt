@@ -1,5 +1,4 @@
-use Rattle.kp_diagram.specs.Claims.{stalls_of}
-use Rattle.kp_diagram.proofs.Retired.{retired-in_order}
+use Rattle.kp_diagram.{specs.Claims.stalls_of, proofs.Retired.retired-in_order}
 use Rattle.kp_diagram.proofs.laws.retired_lines_are_in_order.Goals as goal
 
 pub returns : goal.returns

@@ -1,5 +1,4 @@
-use Rattle.kp_diagram.specs.Diagram.{Filling}
-use Rattle.kp_diagram.proofs.Adding.{adds-up, retired-passed}
+use Rattle.kp_diagram.{specs.Diagram.Filling, proofs.Adding.adds-up, proofs.Adding.retired-passed}
 use Rattle.kp_diagram.proofs.laws.the_account_adds_up.Goals as goal
 
 pub returns-clause-total : goal.returns-clause-total

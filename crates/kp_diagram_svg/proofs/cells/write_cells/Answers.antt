@@ -1,7 +1,6 @@
 use Rattle.std.proofs.{Common.refl, Common.arith, KnownBytes.Appends-nil, lemmas.Result.err_from_is_err_and}
 use Rattle.kp_base.proofs.Bytes.{written_piece, written_part, rest_whole}
-use Rattle.kp_diagram_text.specs.Charts.{ext_of, names_of}
-use Rattle.kp_diagram_text.proofs.Steps.{left_is}
+use Rattle.kp_diagram_text.{specs.Charts.ext_of, specs.Charts.names_of, proofs.Steps.left_is}
 use Rattle.kp_diagram_svg.proofs.Steps.{cells_end, cells_gone, cells_next}
 use Rattle.kp_diagram_svg.proofs.cells.write_cells.Goals as goal
 

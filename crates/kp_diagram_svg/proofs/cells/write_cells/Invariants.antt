@@ -1,5 +1,4 @@
-use Rattle.std.proofs.Common.{◌<◌, ◌≤◌, drop}
-use Rattle.std.specs.Prelude.{IfSome, Some}
+use Rattle.std.{proofs.Common.◌<◌, proofs.Common.◌≤◌, proofs.Common.drop, specs.Prelude.IfSome, specs.Prelude.Some}
 use Rattle.kp_base.specs.inner.Bytes.{WrittenUpTo}
 use Rattle.kp_sched.specs.Rows.{rows_seen}
 use Rattle.kp_diagram.specs.Diagram.{cells_from}

@@ -1,7 +1,6 @@
 use Rattle.std.proofs.Common.{ℕ, List, ap, subst}
 use Rattle.kp_base.specs.Bytes.{Writes}
-use Rattle.kp_diagram_svg.specs.Sizes.{half_of}
-use Rattle.kp_diagram_svg.proofs.Whole.{whole}
+use Rattle.kp_diagram_svg.{specs.Sizes.half_of, proofs.Whole.whole}
 use Rattle.kp_diagram_svg.proofs.picture.write_svg.Goals as goal
 
 pub returns-clause-text : goal.returns-clause-text

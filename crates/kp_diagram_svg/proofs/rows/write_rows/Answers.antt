@@ -1,13 +1,11 @@
 use Rattle.std.proofs.Common.{◌≡◌, ◌∙◌, ℕ, List, get_or, take, ap, ap₂, refl, subst, arith}
 use Rattle.std.proofs.{KnownBytes.Appends-nil, lemmas.List.length-take-le, lemmas.Result.err_from_is_err_and}
-use Rattle.kp_base.specs.declared.row.Row.{Row}
-use Rattle.kp_base.proofs.Bytes.{written_piece, written_part, rest_whole}
+use Rattle.kp_base.{specs.declared.row.Row.Row, proofs.Bytes.written_piece, proofs.Bytes.written_part, proofs.Bytes.rest_whole}
 use Rattle.kp_pipeline.specs.Rows.{counts}
 use Rattle.kp_sched.specs.{Monitors.HasSeen, Rows.rows_seen}
-use Rattle.kp_diagram_text.specs.Charts.{ext_of, names_of}
-use Rattle.kp_diagram_svg.specs.Rows.{rows_text}
-use Rattle.kp_diagram_text.proofs.{Fetches.fetches_end, Fetches.fetches_step, Fetches.take_next, Steps.left_is}
-use Rattle.kp_diagram_svg.proofs.Steps.{row_after_few, rows_next}
+use Rattle.kp_diagram_text.{specs.Charts.ext_of, specs.Charts.names_of, proofs.Fetches.fetches_end, proofs.Fetches.fetches_step, proofs.Fetches.take_next}
+use Rattle.kp_diagram_text.proofs.Steps.{left_is}
+use Rattle.kp_diagram_svg.{specs.Rows.rows_text, proofs.Steps.row_after_few, proofs.Steps.rows_next}
 use Rattle.kp_diagram_svg.proofs.rows.write_rows.Goals as goal
 
 pub cycle-requires : goal.cycle-requires

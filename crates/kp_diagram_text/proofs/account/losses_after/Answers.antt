@@ -1,8 +1,7 @@
 use Rattle.std.proofs.Common.{rules, ◌+◌}
 use Rattle.kp_sched.specs.Rows.{bit_of, row_seen}
 use Rattle.kp_diagram.specs.Diagram.{losses_after as next_losses}
-use Rattle.kp_diagram_text.specs.Losses.{losses_shown}
-use Rattle.kp_diagram_text.proofs.Losses.{set_above}
+use Rattle.kp_diagram_text.{specs.Losses.losses_shown, proofs.Losses.set_above}
 use Rattle.kp_diagram_text.proofs.account.losses_after.Goals as goal
 
 pub loop-k-preserved : goal.loop-k-preserved

@@ -1,6 +1,5 @@
 use Rattle.std.proofs.Common.{rules}
-use Rattle.kp_diagram_text.specs.Losses.{losses_shown}
-use Rattle.kp_diagram_text.proofs.Losses.{lost_none, lost_waiting, lost_empty}
+use Rattle.kp_diagram_text.{specs.Losses.losses_shown, proofs.Losses.lost_none, proofs.Losses.lost_waiting, proofs.Losses.lost_empty}
 use Rattle.kp_diagram_text.proofs.account.lost_to.Goals as goal
 
 pub returns-then-is_set : goal.returns-then-is_set

@@ -1,5 +1,4 @@
-use Rattle.std.proofs.Common.{◌≡◌, true, map, take}
-use Rattle.std.specs.{Prelude.string_bytes, List.list_all}
+use Rattle.std.{proofs.Common.◌≡◌, proofs.Common.true, proofs.Common.map, proofs.Common.take, specs.Prelude.string_bytes, specs.List.list_all}
 use Rattle.kp_diagram_text.specs.Charts.{is_name}
 use Rattle.kp_diagram_text.proofs.chart.are_all_names.Given as goal
 

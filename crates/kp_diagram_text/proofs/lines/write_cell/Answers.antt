@@ -1,7 +1,6 @@
 use Rattle.std.proofs.Common.{◌≡◌, ◌∙◌, ℕ, ◌+◌, ◌-◌, List, ◌++◌, length, ap, subst, sym, length-append}
 use Rattle.std.proofs.lemmas.Result.{err_from_is_err_and}
-use Rattle.kp_base.specs.Bytes.{Writes}
-use Rattle.kp_base.proofs.Bytes.{part_more, writes_next}
+use Rattle.kp_base.{specs.Bytes.Writes, proofs.Bytes.part_more, proofs.Bytes.writes_next}
 use Rattle.kp_diagram_text.specs.{Charts.names_of, Marks.shown, Text.in_column, Text.sign, Text.spaces, Text.stage_name}
 use Rattle.kp_diagram_text.proofs.lines.write_cell.Goals as goal
 

@@ -1,11 +1,10 @@
 use Rattle.std.proofs.Common.{◌≡◌, ◌∙◌, ℕ, List, get_or, take, ap₂, refl, subst, arith}
 use Rattle.std.proofs.{KnownBytes.Appends-nil, lemmas.List.length-take-le, lemmas.Result.err_from_is_err_and}
-use Rattle.kp_base.specs.declared.row.Row.{Row}
-use Rattle.kp_base.proofs.Bytes.{written_piece, written_part, rest_whole}
+use Rattle.kp_base.{specs.declared.row.Row.Row, proofs.Bytes.written_piece, proofs.Bytes.written_part, proofs.Bytes.rest_whole}
 use Rattle.kp_pipeline.specs.Rows.{counts}
 use Rattle.kp_sched.specs.{Monitors.HasSeen, Rows.rows_seen}
-use Rattle.kp_diagram_text.specs.Charts.{ext_of, names_of}
-use Rattle.kp_diagram_text.proofs.{Fetches.take_next, Steps.left_is, Steps.lines_end, Steps.lines_next}
+use Rattle.kp_diagram_text.{specs.Charts.ext_of, specs.Charts.names_of, proofs.Fetches.take_next}
+use Rattle.kp_diagram_text.proofs.Steps.{left_is, lines_end, lines_next}
 use Rattle.kp_diagram_text.proofs.lines.write_lines.Goals as goal
 
 pub cycle-requires : goal.cycle-requires

@@ -1,7 +1,6 @@
 use Rattle.std.proofs.{Common.◌≡◌, Common.◌≤◌, Common.ℕ, Common.take, Common.arith, lemmas.List.take-replicate, lemmas.Result.err_from_is_err_and}
 use Rattle.kp_base.proofs.Bytes.{written_piece, written_part}
-use Rattle.kp_diagram_text.specs.Text.{spaces}
-use Rattle.kp_diagram_text.proofs.Steps.{left_is, spaces_next}
+use Rattle.kp_diagram_text.{specs.Text.spaces, proofs.Steps.left_is, proofs.Steps.spaces_next}
 use Rattle.kp_diagram_text.proofs.pieces.write_spaces.Goals as goal
 
 front : (here : ℕ) → here ≤ 64 → take here (spaces 64) ≡ spaces here

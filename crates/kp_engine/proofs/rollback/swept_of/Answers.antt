@@ -1,11 +1,8 @@
 use Rattle.std.proofs.Common.{◌≡◌, ◌∙◌, ℕ, ◌+◌, ◌-◌, ◌<◌, not, leb, false, length, refl, arith, le-leb}
 use Rattle.std.proofs.{Math.ListN.length-set, lemmas.List.get_or-replicate}
-use Rattle.kp_net.specs.{Nodes.Cells, Nodes.on, Growth.Wire}
-use Rattle.kp_net.proofs.Growing.{wire_grown, grown_then}
-use Rattle.kp_pipeline.specs.Pipeline.{greatest}
-use Rattle.kp_pipeline.proofs.Cycle.{greatest-bound}
-use Rattle.kp_engine.specs.Misses.{node_at, bit_at}
-use Rattle.kp_engine.proofs.Greatest.{sweep_step, at_set}
+use Rattle.kp_net.{specs.Nodes.Cells, specs.Nodes.on, specs.Growth.Wire, proofs.Growing.wire_grown, proofs.Growing.grown_then}
+use Rattle.kp_pipeline.{specs.Pipeline.greatest, proofs.Cycle.greatest-bound}
+use Rattle.kp_engine.{specs.Misses.node_at, specs.Misses.bit_at, proofs.Greatest.sweep_step, proofs.Greatest.at_set}
 use Rattle.kp_engine.proofs.rollback.swept_of.Goals as goal
 
 pub loop-j-init : goal.loop-j-init

@@ -1,6 +1,5 @@
 use Rattle.std.proofs.Common.{◌+◌, arith}
-use Rattle.kp_net.specs.Depth.{IsNoDeeper}
-use Rattle.kp_net.proofs.{Growing.grown_then, Depths.still_no_deeper, Depths.deeper_yet}
+use Rattle.kp_net.{specs.Depth.IsNoDeeper, proofs.Growing.grown_then, proofs.Depths.still_no_deeper, proofs.Depths.deeper_yet}
 use Rattle.kp_fwd.proofs.tree.picked.Goals as goal
 
 pub returns-clause-depth : goal.returns-clause-depth

@@ -1,6 +1,6 @@
 use Rattle.std.proofs.Common.{◌∙◌, ◌+◌, ◌≤◌, cond, true, length, refl, rules, arith}
-use Rattle.kp_net.specs.{Nodes.at, Nodes.on, Depth.IsNoDeeper}
-use Rattle.kp_net.proofs.{Growing.grown_then, Growing.grown_more, Depths.still_no_deeper, Depths.deeper_yet}
+use Rattle.kp_net.{specs.Nodes.at, specs.Nodes.on, specs.Depth.IsNoDeeper, proofs.Growing.grown_then, proofs.Growing.grown_more}
+use Rattle.kp_net.proofs.Depths.{still_no_deeper, deeper_yet}
 use Rattle.kp_fwd.proofs.{Standing.bit_is, Within.picked_more}
 use Rattle.kp_fwd.proofs.tree.select.Goals as goal
 

@@ -1,6 +1,5 @@
 use Rattle.std.proofs.Common.{◌∙◌}
-use Rattle.kp_gen.specs.Generated.{pipe}
-use Rattle.kp_gen.proofs.Rounds.{each_plain}
+use Rattle.kp_gen.{specs.Generated.pipe, proofs.Rounds.each_plain}
 use Rattle.kp_gen.proofs.declared.add_pipes.Goals as goal
 
 pub loop-i-preserved : goal.loop-i-preserved

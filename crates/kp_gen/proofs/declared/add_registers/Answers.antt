@@ -1,6 +1,5 @@
 use Rattle.std.proofs.Common.{◌∙◌}
-use Rattle.kp_gen.specs.Generated.{register}
-use Rattle.kp_gen.proofs.Rounds.{each_plain}
+use Rattle.kp_gen.{specs.Generated.register, proofs.Rounds.each_plain}
 use Rattle.kp_gen.proofs.declared.add_registers.Goals as goal
 
 pub loop-i-preserved : goal.loop-i-preserved

@@ -1,6 +1,5 @@
 use Rattle.std.proofs.Common.{◌∙◌, length}
-use Rattle.kp_gen.specs.Generated.{put}
-use Rattle.kp_gen.proofs.Rounds.{each_plain}
+use Rattle.kp_gen.{specs.Generated.put, proofs.Rounds.each_plain}
 use Rattle.kp_gen.proofs.stated.add_puts.Goals as goal
 
 pub loop-i-preserved : goal.loop-i-preserved

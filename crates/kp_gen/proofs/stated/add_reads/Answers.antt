@@ -1,6 +1,5 @@
 use Rattle.std.proofs.Common.{◌∙◌}
-use Rattle.kp_gen.specs.Generated.{read}
-use Rattle.kp_gen.proofs.Rounds.{each_plain}
+use Rattle.kp_gen.{specs.Generated.read, proofs.Rounds.each_plain}
 use Rattle.kp_gen.proofs.stated.add_reads.Goals as goal
 
 pub loop-i-preserved : goal.loop-i-preserved

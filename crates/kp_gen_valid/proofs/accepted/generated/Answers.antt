@@ -1,7 +1,7 @@
 use Rattle.std.proofs.Common.{◌≡◌, ◌∙◌, ◌<◌, ◌^◌, None, length, ap, arith, subst, sym}
+use Rattle.std.specs.Prelude.{sum_by}
 use Rattle.kp_base.specs.First.{first}
 use Rattle.kp_ast.specs.declared.tree.Job.{Job}
-use Rattle.std.specs.Prelude.{sum_by}
 use Rattle.kp_width.specs.{Declarations.functions_in, Widths.widths_of}
 use Rattle.kp_stage.specs.{Design.Plan, Stages.broken_of}
 use Rattle.kp_image.specs.Sections.{sections_of}

@@ -1,5 +1,4 @@
-use Rattle.std.proofs.Common.{◌≡◌, ◌++◌, drop}
-use Rattle.std.specs.List.{All}
+use Rattle.std.{proofs.Common.◌≡◌, proofs.Common.◌++◌, proofs.Common.drop, specs.List.All}
 use Rattle.kp_image.specs.{Feeds.FitsFeed, inner.Kept.givens_of}
 use Rattle.kp_image.proofs.inputs.givens.Given as goal
 

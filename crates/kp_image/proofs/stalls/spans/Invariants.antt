@@ -1,5 +1,4 @@
-use Rattle.std.proofs.Common.{◌≡◌, ◌++◌, drop, map, None}
-use Rattle.std.specs.List.{All}
+use Rattle.std.{proofs.Common.◌≡◌, proofs.Common.◌++◌, proofs.Common.drop, proofs.Common.map, proofs.Common.None, specs.List.All}
 use Rattle.kp_base.specs.First.{first}
 use Rattle.kp_image.specs.{Sections.stalls_checked, Spans.IsSpan, inner.Kept.span_of}
 use Rattle.kp_image.proofs.stalls.spans.Given as goal

@@ -1,7 +1,5 @@
-use Rattle.std.proofs.Common.{◌∙◌, ap}
-use Rattle.std.specs.{Prelude.find, Str.bytes_eq}
-use Rattle.kp_lex.specs.Words.{spelling}
-use Rattle.kp_lex.proofs.Lengths.{found_by_length}
+use Rattle.std.{proofs.Common.◌∙◌, proofs.Common.ap, specs.Prelude.find, specs.Str.bytes_eq}
+use Rattle.kp_lex.{specs.Words.spelling, proofs.Lengths.found_by_length}
 use Rattle.kp_lex.proofs.front.keyword.Goals as goal
 
 pub returns : goal.returns

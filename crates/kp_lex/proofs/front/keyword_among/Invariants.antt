@@ -1,5 +1,4 @@
-use Rattle.std.proofs.Common.{◌≡◌, drop}
-use Rattle.std.specs.{Prelude.find, Str.bytes_eq}
+use Rattle.std.{proofs.Common.◌≡◌, proofs.Common.drop, specs.Prelude.find, specs.Str.bytes_eq}
 use Rattle.kp_lex.specs.Words.{spelling}
 use Rattle.kp_lex.proofs.front.keyword_among.Given as goal
 

@@ -1,8 +1,8 @@
 use Rattle.std.proofs.Common.{refl, sym, ap, ◌∙◌}
 use Rattle.kp_bits.specs.Word as bits
 use Rattle.kp_bits.specs.Operators.{binary_of}
-use Rattle.kp_net.specs.declared.node.Kind.TheVariants.{Binary}
-use Rattle.kp_net.proofs.{Exact.operand_widths, Folds.fold_word, Folds.number_word, Folds.left_wins, Folds.left_yields}
+use Rattle.kp_net.{specs.declared.node.Kind.TheVariants.Binary, proofs.Exact.operand_widths}
+use Rattle.kp_net.proofs.Folds.{fold_word, number_word, left_wins, left_yields}
 use Rattle.kp_net.proofs.fold.binary.Goals as goal
 
 pub apply-requires : goal.apply-requires

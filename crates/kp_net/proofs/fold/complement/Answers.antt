@@ -1,7 +1,6 @@
 use Rattle.std.proofs.Common.{refl, ap, ◌∙◌}
 use Rattle.kp_bits.specs.Word.{not_of}
-use Rattle.kp_net.specs.declared.node.Kind.TheVariants.{Not}
-use Rattle.kp_net.proofs.Folds.{fold_word, number_word, not_twice}
+use Rattle.kp_net.{specs.declared.node.Kind.TheVariants.Not, proofs.Folds.fold_word, proofs.Folds.number_word, proofs.Folds.not_twice}
 use Rattle.kp_net.proofs.fold.complement.Goals as goal
 
 pub returns-in-Some : goal.returns-in-Some

@@ -1,9 +1,7 @@
 use Rattle.std.proofs.Common.{◌≡◌, ◌∙◌, List, length, take, subst, ap, map, arith, true, get_or}
-use Rattle.std.proofs.Math.Seq.{take-length}
-use Rattle.std.specs.List.{list_all}
+use Rattle.std.{proofs.Math.Seq.take-length, specs.List.list_all}
 use Rattle.kp_bits.specs.Operators.{joined_of}
-use Rattle.kp_net.specs.{declared.node.NodeId.NodeId, Widths.no_node, Folding.is_const, inner.Folds.number_at}
-use Rattle.kp_net.proofs.Folds.{row_of_consts}
+use Rattle.kp_net.{specs.declared.node.NodeId.NodeId, specs.Widths.no_node, specs.Folding.is_const, specs.inner.Folds.number_at, proofs.Folds.row_of_consts}
 use Rattle.kp_net.proofs.fold.joined.Goals as goal
 
 pub returns : goal.returns

@@ -1,5 +1,4 @@
-use Rattle.std.proofs.Common.{◌≡◌, map, take, true, get_or}
-use Rattle.std.specs.List.{sum_by, list_all}
+use Rattle.std.{proofs.Common.◌≡◌, proofs.Common.map, proofs.Common.take, proofs.Common.true, proofs.Common.get_or, specs.List.sum_by, specs.List.list_all}
 use Rattle.kp_bits.specs.{Word.IsWord, Operators.joined_of}
 use Rattle.kp_net.specs.{Widths.wide, Widths.no_node, Folding.is_const, inner.Folds.number_at}
 use Rattle.kp_net.proofs.fold.joined.Given as goal

@@ -1,8 +1,6 @@
 use Rattle.std.proofs.Common.{◌∙◌, ◌-◌, ◌/◌, ◌^◌, sym, subst, ap}
-use Rattle.kp_bits.proofs.Powers.{mask_of}
-use Rattle.kp_bits.specs.declared.operator.BinOp.{BinOp}
-use Rattle.kp_net.specs.{declared.fold.Masking.Masking, inner.Folds.Masks}
-use Rattle.kp_net.proofs.Folds.{and_ones, or_zero, or_ones}
+use Rattle.kp_bits.{proofs.Powers.mask_of, specs.declared.operator.BinOp.BinOp}
+use Rattle.kp_net.{specs.declared.fold.Masking.Masking, specs.inner.Folds.Masks, proofs.Folds.and_ones, proofs.Folds.or_zero, proofs.Folds.or_ones}
 use Rattle.kp_net.proofs.fold.masks.Goals as goal
 
 pub returns-then-value-ones : goal.returns-then-value-ones

@@ -1,6 +1,5 @@
 use Rattle.std.proofs.Common.{◌∙◌, get_or, arith}
-use Rattle.kp_net.specs.{Nodes.word_at, Widths.wide, Widths.no_node}
-use Rattle.kp_net.proofs.{Values.word_there, Exact.node_exact, Exact.word_has}
+use Rattle.kp_net.{specs.Nodes.word_at, specs.Widths.wide, specs.Widths.no_node, proofs.Values.word_there, proofs.Exact.node_exact, proofs.Exact.word_has}
 use Rattle.kp_net.proofs.laws.operations_are_exact.Goals as goal
 
 pub returns : goal.returns

@@ -1,6 +1,5 @@
 use Rattle.std.proofs.Common.{ℕ, sym, subst}
-use Rattle.kp_net.specs.inner.Lookup.{LacksBelow}
-use Rattle.kp_net.proofs.Found.{lacks_front}
+use Rattle.kp_net.{specs.inner.Lookup.LacksBelow, proofs.Found.lacks_front}
 use Rattle.kp_net.proofs.pool.find.Goals as goal
 
 pub search-requires-clause-lacks : goal.search-requires-clause-lacks

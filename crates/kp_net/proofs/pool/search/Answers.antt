@@ -1,8 +1,7 @@
 use Rattle.std.proofs.Common.{◌≡◌, ◌<◌, ◌≤◌, true, get_or, sym, ap, ◌∙◌, arith, ⊎_elim}
 use Rattle.std.proofs.lemmas.{Bool.cases_lt, Bool.false≢true, List.get_or_default}
-use Rattle.kp_net.specs.{declared.node.Node.Node, Widths.no_node}
+use Rattle.kp_net.{specs.declared.node.Node.Node, specs.Widths.no_node, proofs.Same.node_from_eq, proofs.Same.node_eq_itself}
 use Rattle.kp_net.specs.contracts.node.NodePartialEq.TheImpl as nodes
-use Rattle.kp_net.proofs.Same.{node_from_eq, node_eq_itself}
 use Rattle.kp_net.proofs.pool.search.Goals as goal
 
 pub returns-then-eq : goal.returns-then-eq

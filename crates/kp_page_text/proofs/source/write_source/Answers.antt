@@ -1,6 +1,5 @@
 use Rattle.std.proofs.{Common.sym, Common.subst, lemmas.Result.err_from_is_err_and}
-use Rattle.kp_base.specs.Bytes.{AppendsPart}
-use Rattle.kp_base.proofs.{Bytes.part_next, Pieces.flat_map_split}
+use Rattle.kp_base.{specs.Bytes.AppendsPart, proofs.Bytes.part_next, proofs.Pieces.flat_map_split}
 use Rattle.kp_page_text.specs.Page.{escaped}
 use Rattle.kp_page_text.proofs.source.write_source.Goals as goal
 

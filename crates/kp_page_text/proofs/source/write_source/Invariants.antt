@@ -1,5 +1,4 @@
-use Rattle.std.proofs.Common.{◌≤◌, take}
-use Rattle.std.specs.{Prelude.flat_map, Io.KnownBytes.Appends}
+use Rattle.std.{proofs.Common.◌≤◌, proofs.Common.take, specs.Prelude.flat_map, specs.Io.KnownBytes.Appends}
 use Rattle.kp_page_text.specs.Page.{escaped}
 use Rattle.kp_page_text.proofs.source.write_source.Given as goal
 

@@ -1,7 +1,6 @@
 use Rattle.std.proofs.{Common.arith, Common.length-drop, lemmas.Result.err_from_is_err_and}
 use Rattle.kp_grammar.specs.Machine.{make}
-use Rattle.kp_parse_grammar.specs.Tokens.{Lexeme}
-use Rattle.kp_parse_grammar.proofs.{Steps.stretch_end, Picks.job_all}
+use Rattle.kp_parse_grammar.{specs.Tokens.Lexeme, proofs.Steps.stretch_end, proofs.Picks.job_all}
 use Rattle.kp_parse.proofs.job.machine.Goals as goal
 
 pub returns-in_err-name-clause-goes : goal.returns-in_err-name-clause-goes

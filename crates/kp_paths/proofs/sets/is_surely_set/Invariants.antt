@@ -1,5 +1,4 @@
-use Rattle.std.proofs.Common.{◌≡◌, drop}
-use Rattle.std.specs.List.{list_any}
+use Rattle.std.{proofs.Common.◌≡◌, proofs.Common.drop, specs.List.list_any}
 use Rattle.kp_paths.specs.Table.{is_surely_set_by}
 use Rattle.kp_paths.proofs.sets.is_surely_set.Given as goal
 

@@ -1,7 +1,7 @@
 use Rattle.std.proofs.Common.{◌≡◌, ◌∙◌, true, false, sym, arith}
 use Rattle.kp_paths.specs.Table.{cell_at}
-use Rattle.kp_paths_svg.specs.Arrows.{is_shown}
-use Rattle.kp_paths_svg.proofs.{Steps.count_next, ends.arrow_count.Goals.then-is_shown, ends.arrow_count.Goals.else-is_shown}
+use Rattle.kp_paths_svg.{specs.Arrows.is_shown, proofs.Steps.count_next}
+use Rattle.kp_paths_svg.proofs.ends.arrow_count.Goals.{then-is_shown, else-is_shown}
 use Rattle.kp_paths_svg.proofs.ends.arrow_count.Goals as goal
 
 pub loop-j-preserved : goal.loop-j-preserved

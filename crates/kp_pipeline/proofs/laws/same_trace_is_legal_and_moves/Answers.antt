@@ -1,6 +1,6 @@
 use Rattle.std.proofs.Common.{ℕ, ◌≤◌, List, length, ap, subst, ◌∙◌}
-use Rattle.kp_pipeline.specs.{Pipeline.pipeline_start, Rows.Row, Rows.pipe}
-use Rattle.kp_pipeline.proofs.{Taken.rows-length, SameTrace.same-legal, SameTrace.same-moves, Legality.legal, Progress.moves}
+use Rattle.kp_pipeline.{specs.Pipeline.pipeline_start, specs.Rows.Row, specs.Rows.pipe, proofs.Taken.rows-length}
+use Rattle.kp_pipeline.proofs.{SameTrace.same-legal, SameTrace.same-moves, Legality.legal, Progress.moves}
 use Rattle.kp_pipeline.proofs.laws.same_trace_is_legal_and_moves.Goals as goal
 
 pub returns : goal.returns

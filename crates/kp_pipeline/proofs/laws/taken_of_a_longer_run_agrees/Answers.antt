@@ -1,6 +1,5 @@
 use Rattle.std.proofs.Common.{arith, length}
-use Rattle.kp_pipeline.specs.Rows.{passed}
-use Rattle.kp_pipeline.proofs.Taken.{taken-here, taken-never, taken-longer}
+use Rattle.kp_pipeline.{specs.Rows.passed, proofs.Taken.taken-here, proofs.Taken.taken-never, proofs.Taken.taken-longer}
 use Rattle.kp_pipeline.proofs.laws.taken_of_a_longer_run_agrees.Goals as goal
 
 pub returns-clause-here : goal.returns-clause-here

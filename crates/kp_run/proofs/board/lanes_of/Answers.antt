@@ -1,5 +1,4 @@
-use Rattle.kp_run.specs.Columns.{AreColumns}
-use Rattle.kp_run.proofs.{Boards.board_is, Gathering.rows_fit_taken, Given.rows_given}
+use Rattle.kp_run.{specs.Columns.AreColumns, proofs.Boards.board_is, proofs.Gathering.rows_fit_taken, proofs.Given.rows_given}
 use Rattle.kp_run.proofs.board.lanes_of.Goals as goal
 
 pub machines_after-requires-clause-samples : goal.machines_after-requires-clause-samples

@@ -1,8 +1,8 @@
 use Rattle.std.proofs.Common.{◌∙◌, [], refl, ap, arith}
 use Rattle.kp_image.specs.{Spans.word_in, Feeds.row_in}
 use Rattle.kp_net.specs.Netlist.{State, last_of, row_of, state_after}
-use Rattle.kp_run.specs.Cycles.{inputs_to, input_at}
-use Rattle.kp_run.proofs.{Steps.given_at, Steps.state_next, Given.rows_fed, Given.feeds_few, Samples.fits_ports}
+use Rattle.kp_run.{specs.Cycles.inputs_to, specs.Cycles.input_at, proofs.Steps.given_at, proofs.Steps.state_next, proofs.Given.rows_fed, proofs.Given.feeds_few}
+use Rattle.kp_run.proofs.Samples.{fits_ports}
 use Rattle.kp_run.proofs.cycles.next_cycle.Goals as goal
 
 pub step-requires-clause-few : goal.step-requires-clause-few

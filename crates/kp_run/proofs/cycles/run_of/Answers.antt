@@ -2,8 +2,7 @@ use Rattle.std.proofs.Common.{◌≡◌, ◌∙◌, ap, subst, arith, refl, ℕ,
 use Rattle.std.specs.Prelude.{vec_len}
 use Rattle.kp_bits.specs.Word.{Word}
 use Rattle.kp_net.specs.Netlist.{last_of}
-use Rattle.kp_run.specs.Cycles.{inputs_to, input_at, HasRows}
-use Rattle.kp_run.proofs.{Steps.rows_next, Steps.rows_begin, Given.as_feeds}
+use Rattle.kp_run.{specs.Cycles.inputs_to, specs.Cycles.input_at, specs.Cycles.HasRows, proofs.Steps.rows_next, proofs.Steps.rows_begin, proofs.Given.as_feeds}
 use Rattle.kp_run.proofs.cycles.run_of.Goals as goal
 
 pub open-requires : goal.open-requires

@@ -1,5 +1,4 @@
-use Rattle.std.proofs.Common.{◌≡◌, ◌≤◌, length}
-use Rattle.std.specs.Prelude.{vec_len, vec_capacity}
+use Rattle.std.{proofs.Common.◌≡◌, proofs.Common.◌≤◌, proofs.Common.length, specs.Prelude.vec_len, specs.Prelude.vec_capacity}
 use Rattle.kp_run.specs.Cycles.{HasRows, after_cycles}
 use Rattle.kp_run.proofs.cycles.run_of.Given as goal
 

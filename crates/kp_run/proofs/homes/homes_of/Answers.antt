@@ -1,6 +1,5 @@
 use Rattle.std.proofs.Common.{◌≡◌, ◌≤◌, ◌∙◌, arith, length-append}
-use Rattle.kp_run.specs.Homes.{home_of}
-use Rattle.kp_run.proofs.Machines.{home_is, homes_within, homes_more, stages_fit}
+use Rattle.kp_run.{specs.Homes.home_of, proofs.Machines.home_is, proofs.Machines.homes_within, proofs.Machines.homes_more, proofs.Machines.stages_fit}
 use Rattle.kp_run.proofs.homes.homes_of.Goals as goal
 
 pub overflow_cast-home_of : goal.overflow_cast-home_of

@@ -2,8 +2,7 @@ use Rattle.std.proofs.{Common.◌≡◌, Common.◌∙◌, Common.length, Common
 use Rattle.kp_pipeline.specs.Sequential.{seq}
 use Rattle.kp_machine.specs.Machine.{machine_of, values_in}
 use Rattle.kp_seq.specs.Running.{state}
-use Rattle.kp_run.specs.Columns.{row_taken}
-use Rattle.kp_run.proofs.Machines.{one_step}
+use Rattle.kp_run.{specs.Columns.row_taken, proofs.Machines.one_step}
 use Rattle.kp_run.proofs.lanes.advance.Goals as goal
 
 pub loop-i-init : goal.loop-i-init

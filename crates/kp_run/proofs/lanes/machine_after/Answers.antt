@@ -1,8 +1,7 @@
 use Rattle.std.proofs.Common.{◌∙◌, ℕ, ap}
 use Rattle.kp_machine.specs.Machine.{values_in}
 use Rattle.kp_seq.specs.Running.{Running, state}
-use Rattle.kp_run.specs.Columns.{row_taken}
-use Rattle.kp_run.proofs.Machines.{opened_is, ran_on}
+use Rattle.kp_run.{specs.Columns.row_taken, proofs.Machines.opened_is, proofs.Machines.ran_on}
 use Rattle.kp_run.proofs.lanes.machine_after.Goals as goal
 
 pub returns-in_ok-machine-clause-state : goal.returns-in_ok-machine-clause-state

@@ -1,8 +1,7 @@
 use Rattle.std.proofs.Common.{◌≡◌, ◌<◌, ◌∙◌, sym, ap, arith, length, length-set}
 use Rattle.std.proofs.lemmas.List.{length-map, get_or-map}
 use Rattle.kp_bits.specs.Operators.{no_word}
-use Rattle.kp_run.specs.Columns.{Taken, word_taken, row_taken}
-use Rattle.kp_run.proofs.Samples.{set_next}
+use Rattle.kp_run.{specs.Columns.Taken, specs.Columns.word_taken, specs.Columns.row_taken, proofs.Samples.set_next}
 use Rattle.kp_run.proofs.lanes.take.Goals as goal
 
 pub loop-x-preserved : goal.loop-x-preserved

@@ -1,5 +1,4 @@
-use Rattle.std.proofs.Common.{◌≡◌, length}
-use Rattle.std.specs.Prelude.{take}
+use Rattle.std.{proofs.Common.◌≡◌, proofs.Common.length, specs.Prelude.take}
 use Rattle.kp_run.specs.Columns.{row_taken}
 use Rattle.kp_run.proofs.lanes.take.Given as goal
 

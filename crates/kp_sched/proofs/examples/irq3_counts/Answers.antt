@@ -1,5 +1,4 @@
-use Rattle.std.proofs.Common.{refl}
-use Rattle.std.specs.Fmt.{digits}
+use Rattle.std.{proofs.Common.refl, specs.Fmt.digits}
 use Rattle.kp_sched.specs.Lines.{row_line}
 use Rattle.kp_sched.proofs.examples.irq3_counts.Goals as goal
 

@@ -1,6 +1,5 @@
 use Rattle.std.proofs.Common.{subst, sym, Some, None}
-use Rattle.kp_seq.specs.inner.Resolved.{IsOptionCode}
-use Rattle.kp_seq.proofs.Resolved.{some_is, none_is}
+use Rattle.kp_seq.{specs.inner.Resolved.IsOptionCode, proofs.Resolved.some_is, proofs.Resolved.none_is}
 use Rattle.kp_seq.proofs.program.option_code_for.Goals as goal
 
 pub returns-in_ok-value-in-Some : goal.returns-in_ok-value-in-Some

@@ -1,6 +1,5 @@
 use Rattle.std.proofs.Common.{subst, sym, take, ◌∙◌, ap, ◌++◌, ◌∷◌, []}
-use Rattle.kp_seq.specs.inner.Resolved.{AllDo, DoesStage}
-use Rattle.kp_seq.proofs.Resolved.{more_stages}
+use Rattle.kp_seq.{specs.inner.Resolved.AllDo, specs.inner.Resolved.DoesStage, proofs.Resolved.more_stages}
 use Rattle.kp_seq.proofs.program.stages_of.Goals as goal
 
 pub loop-block-init : goal.loop-block-init

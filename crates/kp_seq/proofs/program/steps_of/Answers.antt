@@ -1,6 +1,5 @@
 use Rattle.std.proofs.{Common.◌+◌, Common.◌++◌, Common.◌∷◌, Common.[], Common.subst, Common.sym, Common.take, lemmas.List.take_all}
-use Rattle.kp_seq.specs.inner.Resolved.{Does, DoesAll}
-use Rattle.kp_seq.proofs.Resolved.{no_steps, more_steps}
+use Rattle.kp_seq.{specs.inner.Resolved.Does, specs.inner.Resolved.DoesAll, proofs.Resolved.no_steps, proofs.Resolved.more_steps}
 use Rattle.kp_seq.proofs.program.steps_of.Goals as goal
 
 pub loop-stmt-init : goal.loop-stmt-init

@@ -1,6 +1,5 @@
 use Rattle.std.proofs.Common.{arith, ap, sym, length-set, map, ◌∙◌}
-use Rattle.kp_seq_plan.specs.Codes.{value_of, space_of}
-use Rattle.kp_seq_plan.proofs.{Rooms.each_fits, Rooms.filled_more, CodeCalls.value_called}
+use Rattle.kp_seq_plan.{specs.Codes.value_of, specs.Codes.space_of, proofs.Rooms.each_fits, proofs.Rooms.filled_more, proofs.CodeCalls.value_called}
 use Rattle.kp_seq_plan.proofs.compute.+compute.Goals as goal
 
 pub called-put_values-requires : goal.called-put_values-requires

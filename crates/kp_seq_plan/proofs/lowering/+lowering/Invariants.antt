@@ -1,5 +1,4 @@
-use Rattle.std.proofs.Common.{◌+◌, ◌*◌, max, take, drop, Option}
-use Rattle.std.specs.Prelude.{sum_by}
+use Rattle.std.{proofs.Common.◌+◌, proofs.Common.◌*◌, proofs.Common.max, proofs.Common.take, proofs.Common.drop, proofs.Common.Option, specs.Prelude.sum_by}
 use Rattle.kp_seq_plan.specs.{declared.plan.Plan.TheViews.size-Plan, declared.code.Typed.Typed, Plans.space, Lowering.Gives}
 use Rattle.kp_seq_plan.specs.inner.Parts.{AreTyped, GivesJoined, joined_found}
 use Rattle.kp_seq_plan.proofs.lowering.+lowering.Given as goal

@@ -1,7 +1,6 @@
 use Rattle.std.proofs.Common.{refl, arith, subst, sym, ◌+◌, Some}
-use Rattle.kp_seq_plan.specs.{declared.code.Code.Code, inner.Parts.GivesTwo, inner.Parts.join_found}
+use Rattle.kp_seq_plan.{specs.declared.code.Code.Code, specs.inner.Parts.GivesTwo, specs.inner.Parts.join_found, proofs.Typing.join_gives}
 use Rattle.kp_seq_plan.specs.declared.code.Code.TheViews as codes
-use Rattle.kp_seq_plan.proofs.Typing.{join_gives}
 use Rattle.kp_seq_plan.proofs.lowering.joined.Goals as goal
 
 pub returns : goal.returns

@@ -1,8 +1,7 @@
 use Rattle.std.proofs.Common.{refl, sym, ◌∙◌, ◌≡◌, ◌||◌, ◌==◌, true, Some}
 use Rattle.kp_bits.specs.Operators.{is_shift}
 use Rattle.kp_seq_plan.specs.declared.code.Code.TheViews as codes
-use Rattle.kp_seq_plan.specs.inner.Parts.{binary_found}
-use Rattle.kp_seq_plan.proofs.{Typing.binary_gives, Replacing.replaced_two}
+use Rattle.kp_seq_plan.{specs.inner.Parts.binary_found, proofs.Typing.binary_gives, proofs.Replacing.replaced_two}
 use Rattle.kp_seq_plan.proofs.lowering.operation.Goals as goal
 
 pub returns : goal.returns

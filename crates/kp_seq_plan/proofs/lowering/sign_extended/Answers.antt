@@ -2,8 +2,7 @@ use Rattle.std.proofs.Common.{refl, arith, subst, sym, ◌+◌, ◌-◌, ◌/◌
 use Rattle.std.specs.Option.{option_and_then}
 use Rattle.kp_bits.specs.Checked.{checked_sext}
 use Rattle.kp_seq_plan.specs.declared.code.Code.TheViews as codes
-use Rattle.kp_seq_plan.specs.inner.Parts.{GivesOne}
-use Rattle.kp_seq_plan.proofs.Typing.{sext_gives}
+use Rattle.kp_seq_plan.{specs.inner.Parts.GivesOne, proofs.Typing.sext_gives}
 use Rattle.kp_seq_plan.proofs.lowering.sign_extended.Goals as goal
 
 pub returns : goal.returns

@@ -1,5 +1,4 @@
-use Rattle.std.proofs.Common.{refl, arith, ◌+◌, ◌-◌}
-use Rattle.std.specs.Option.{option_and_then}
+use Rattle.std.{proofs.Common.refl, proofs.Common.arith, proofs.Common.◌+◌, proofs.Common.◌-◌, specs.Option.option_and_then}
 use Rattle.kp_bits.specs.Checked.{checked_slice}
 use Rattle.kp_seq_plan.specs.declared.code.Code.TheViews as codes
 use Rattle.kp_seq_plan.proofs.{Typing.slice_gives, Replacing.replaced_one}

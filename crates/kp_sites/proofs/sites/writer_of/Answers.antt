@@ -1,8 +1,7 @@
 use Rattle.std.proofs.Common.{◌∙◌, List, ap}
 use Rattle.kp_ast.specs.declared.tree.{Decl.Decl, Job.Job}
 use Rattle.kp_machine.specs.Slots.{targets_of}
-use Rattle.kp_sites.specs.Sites.{result_number}
-use Rattle.kp_sites.proofs.Writers.{written}
+use Rattle.kp_sites.{specs.Sites.result_number, proofs.Writers.written}
 use Rattle.kp_sites.proofs.sites.writer_of.Goals as goal
 
 pub returns : goal.returns

@@ -1,7 +1,6 @@
 use Rattle.std.proofs.Common.{◌≡◌, ◌∙◌, ℕ, ◌+◌, ◌<◌, ◌∷◌, get_or, length, length-set, set, sym, subst, arith}
 use Rattle.kp_sched.specs.Rows.{row_seen}
-use Rattle.kp_stalls.specs.{declared.fate.Fate.TheVariants.Open, Cycles.fate_in}
-use Rattle.kp_stalls.proofs.Fates.{below_set}
+use Rattle.kp_stalls.{specs.declared.fate.Fate.TheVariants.Open, specs.Cycles.fate_in, proofs.Fates.below_set}
 use Rattle.kp_stalls.proofs.fate.fates_before.Goals as goal
 
 pub loop-k-preserved : goal.loop-k-preserved

@@ -1,8 +1,7 @@
 use Rattle.kp_stage.specs.Start.{start_of}
 use Rattle.kp_pipeline.specs.RightPath.{first_moment}
 use Rattle.kp_machine.specs.Machine.{machine_of, state_of}
-use Rattle.kp_stalls.specs.Claims.{run_given, run_moment, run_rows}
-use Rattle.kp_stalls.proofs.{Causing.has_cause, Moments.must_at}
+use Rattle.kp_stalls.{specs.Claims.run_given, specs.Claims.run_moment, specs.Claims.run_rows, proofs.Causing.has_cause, proofs.Moments.must_at}
 use Rattle.kp_stalls.proofs.laws.each_wait_of_a_run_has_its_cause.Goals as goal
 
 pub returns : goal.returns

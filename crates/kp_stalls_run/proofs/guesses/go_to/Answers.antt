@@ -2,10 +2,8 @@ use Rattle.std.proofs.Common.{◌≡◌, ◌∙◌, ℕ, sym, subst, arith, fals
 use Rattle.kp_cycle.specs.Steps.{Running, SamplesFit, given}
 use Rattle.kp_image.specs.{Feeds.row_in, Spans.word_in}
 use Rattle.kp_net.specs.Netlist.{Input}
-use Rattle.kp_run.specs.Cycles.{input_at}
-use Rattle.kp_run.proofs.{Given.feeds_few, Given.rows_fed, Samples.fits_ports}
-use Rattle.kp_stalls_run.specs.inner.Replays.{run_at}
-use Rattle.kp_stalls_run.proofs.Values.{stepped}
+use Rattle.kp_run.{specs.Cycles.input_at, proofs.Given.feeds_few, proofs.Given.rows_fed, proofs.Samples.fits_ports}
+use Rattle.kp_stalls_run.{specs.inner.Replays.run_at, proofs.Values.stepped}
 use Rattle.kp_stalls_run.proofs.guesses.go_to.Goals as goal
 
 pub step-requires-clause-room : goal.step-requires-clause-room

@@ -5,8 +5,7 @@ use Rattle.kp_pipeline.specs.Trimming.{trimmed}
 use Rattle.kp_sites.specs.Sites.{Sited, no_site}
 use Rattle.kp_stalls_guess.specs.Guessed.{guessed_word}
 use Rattle.kp_synth_registers.specs.Holding.{Holds, inputs_of}
-use Rattle.kp_synth_tables.proofs.Limits.{few}
-use Rattle.kp_synth_tables.specs.Keys.{guesses_of, is_alive, keys_of}
+use Rattle.kp_synth_tables.{proofs.Limits.few, specs.Keys.guesses_of, specs.Keys.is_alive, specs.Keys.keys_of}
 use Rattle.kp_stalls_run.specs.Runs.{state_at}
 use Rattle.kp_stalls_run.proofs.guesses.guessed_for.Goals as goal
 

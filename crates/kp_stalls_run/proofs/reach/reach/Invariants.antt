@@ -1,5 +1,4 @@
-use Rattle.std.proofs.Common.{◌≡◌, ◌+◌, ◌-◌, ◌≤◌, length}
-use Rattle.std.specs.Prelude.{max}
+use Rattle.std.{proofs.Common.◌≡◌, proofs.Common.◌+◌, proofs.Common.◌-◌, proofs.Common.◌≤◌, proofs.Common.length, specs.Prelude.max}
 use Rattle.kp_machine.specs.Machine.{values_in}
 use Rattle.kp_run.specs.Columns.{row_taken}
 use Rattle.kp_stalls.specs.Windows.{Follows}

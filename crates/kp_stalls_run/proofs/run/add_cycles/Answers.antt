@@ -1,8 +1,7 @@
 use Rattle.std.proofs.Common.{◌≡◌, ◌∙◌, ℕ, ◌+◌, ◌-◌, ◌<◌, ◌≤◌, take, length, subst, arith}
 use Rattle.kp_machine.specs.Machine.{values_in}
 use Rattle.kp_pipeline.specs.Rows.{counts}
-use Rattle.kp_run.specs.Columns.{row_taken}
-use Rattle.kp_run.proofs.Machines.{stages_fit}
+use Rattle.kp_run.{specs.Columns.row_taken, proofs.Machines.stages_fit}
 use Rattle.kp_sched.specs.Rows.{rows_seen}
 use Rattle.kp_stalls.specs.Windows.{Follows}
 use Rattle.kp_stalls_run.proofs.Cycles.{next_close, numbers_are, numbers_small, one_cycle, seen_more}

@@ -2,8 +2,7 @@ use Rattle.std.proofs.Common.{◌∙◌, ℕ, ◌<◌, List, length, ap, sym, ar
 use Rattle.std.specs.Prelude.{◌==◌}
 use Rattle.kp_bits.specs.Word.{Word}
 use Rattle.kp_machine.specs.Machine.{values_in}
-use Rattle.kp_run.specs.Columns.{Taken, row_taken, word_taken}
-use Rattle.kp_run.proofs.Given.{feeds_few, feeds_many, row_is}
+use Rattle.kp_run.{specs.Columns.Taken, specs.Columns.row_taken, specs.Columns.word_taken, proofs.Given.feeds_few, proofs.Given.feeds_many, proofs.Given.row_is}
 use Rattle.kp_stalls_run.proofs.Settling.{settles_there, value_in, value_taken}
 use Rattle.kp_stalls_run.proofs.samples.settles.Goals as goal
 

@@ -1,7 +1,6 @@
 use Rattle.std.proofs.Common.{◌∙◌, ℕ, List, ap, sym, subst}
 use Rattle.kp_base.specs.Bytes.{Writes}
-use Rattle.kp_stalls_text.specs.Text.{had_text}
-use Rattle.kp_stalls_text.proofs.Joined.{three_pieces}
+use Rattle.kp_stalls_text.{specs.Text.had_text, proofs.Joined.three_pieces}
 use Rattle.kp_stalls_text.proofs.lines.write_had.Goals as goal
 
 pub returns-in-Known-clause-text : goal.returns-in-Known-clause-text

@@ -1,7 +1,6 @@
 use Rattle.std.proofs.Common.{◌∙◌, ℕ, List, subst}
 use Rattle.kp_base.specs.Bytes.{Writes}
-use Rattle.kp_stalls_text.specs.Text.{instruction_text}
-use Rattle.kp_stalls_text.proofs.Joined.{five_pieces}
+use Rattle.kp_stalls_text.{specs.Text.instruction_text, proofs.Joined.five_pieces}
 use Rattle.kp_stalls_text.proofs.pieces.write_instruction.Goals as goal
 
 pub returns-clause-text : goal.returns-clause-text

@@ -1,9 +1,8 @@
 use Rattle.std.proofs.Common.{ℕ, ap, arith}
 use Rattle.kp_pipeline.specs.Pipeline.{cycle}
 use Rattle.kp_machine.specs.Machine.{machine_of}
-use Rattle.kp_synth_registers.specs.Meaning.{Gives, IsTest}
+use Rattle.kp_synth_registers.{specs.Meaning.Gives, specs.Meaning.IsTest, proofs.Growth.ready_kept}
 use Rattle.kp_synth_close.proofs.Arms.{pipes_next}
-use Rattle.kp_synth_registers.proofs.Growth.{ready_kept}
 use Rattle.kp_synth_close.proofs.moving.next_pipe.Goals as goal
 
 pub pipe_in-own-requires-clause-ready : goal.pipe_in-own-requires-clause-ready

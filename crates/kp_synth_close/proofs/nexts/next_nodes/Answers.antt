@@ -1,13 +1,10 @@
 use Rattle.std.proofs.Common.{◌≡◌, ◌∙◌, ◌<◌, [], ◌∷◌, length, length-append, sym, ap, subst, arith}
-use Rattle.kp_net.specs.{Growth.Wire, Nodes.Cells}
-use Rattle.kp_net.proofs.Growing.{grown_then, grown_more}
+use Rattle.kp_net.{specs.Growth.Wire, specs.Nodes.Cells, proofs.Growing.grown_then, proofs.Growing.grown_more}
 use Rattle.kp_pipeline.specs.Pipeline.{PipelineState, Inputs}
-use Rattle.kp_synth_tables.specs.{declared.key.Key.Key, Keys.HasKey, Keys.keys_of, Keys.key_at, Keys.key_width}
-use Rattle.kp_synth_registers.specs.Holding.{Holds}
-use Rattle.kp_synth_tables.proofs.Places.{key_had}
-use Rattle.kp_synth_close.specs.{Nexts.NextIs, Control.NextsFrom}
-use Rattle.kp_synth_close.proofs.{Rollback.all_say_kept, Transport.controls_kept, Transport.nexts_more}
-use Rattle.kp_synth_registers.proofs.Growth.{ready_kept}
+use Rattle.kp_synth_tables.{specs.declared.key.Key.Key, specs.Keys.HasKey, specs.Keys.keys_of, specs.Keys.key_at, specs.Keys.key_width, proofs.Places.key_had}
+use Rattle.kp_synth_registers.{specs.Holding.Holds, proofs.Growth.ready_kept}
+use Rattle.kp_synth_close.{specs.Nexts.NextIs, specs.Control.NextsFrom, proofs.Rollback.all_say_kept}
+use Rattle.kp_synth_close.proofs.Transport.{controls_kept, nexts_more}
 use Rattle.kp_synth_close.proofs.nexts.next_nodes.Goals as goal
 
 pub next_node-requires-clause-ready : goal.next_node-requires-clause-ready

@@ -1,9 +1,8 @@
 use Rattle.std.proofs.Common.{ℕ, ap, arith}
 use Rattle.kp_pipeline.specs.Pipeline.{cycle}
 use Rattle.kp_machine.specs.Machine.{machine_of}
-use Rattle.kp_synth_registers.specs.Meaning.{MayGive, IsTest}
+use Rattle.kp_synth_registers.{specs.Meaning.MayGive, specs.Meaning.IsTest, proofs.Growth.ready_kept}
 use Rattle.kp_synth_close.proofs.Arms.{results_next}
-use Rattle.kp_synth_registers.proofs.Growth.{ready_kept}
 use Rattle.kp_synth_close.proofs.results.next_result.Goals as goal
 
 pub result_in-own-requires-clause-ready : goal.result_in-own-requires-clause-ready

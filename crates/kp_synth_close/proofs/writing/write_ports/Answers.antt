@@ -1,13 +1,11 @@
 use Rattle.std.proofs.Common.{◌≡◌, ◌∙◌, ◌<◌, ℕ, [], ◌∷◌, length, length-append, false, sym, ap, subst, arith}
 use Rattle.kp_pipeline.specs.Pipeline.{PipelineState, Inputs, next_visible}
 use Rattle.kp_machine.specs.{Slots.targets_of, Slots.is_register, Machine.machine_of}
-use Rattle.kp_net.specs.Nodes.{Cells}
-use Rattle.kp_net.proofs.Growing.{grown_then, grown_more}
+use Rattle.kp_net.{specs.Nodes.Cells, proofs.Growing.grown_then, proofs.Growing.grown_more}
 use Rattle.kp_synth_tables.specs.Keys.{target_at}
-use Rattle.kp_synth_registers.specs.Holding.{Holds}
-use Rattle.kp_synth_close.specs.{Nexts.PortFits, Nexts.port_word, Control.PortsFrom}
-use Rattle.kp_synth_close.proofs.{Rollback.all_say_kept, Transport.updating_kept, Transport.ports_more}
-use Rattle.kp_synth_registers.proofs.Growth.{ready_kept}
+use Rattle.kp_synth_registers.{specs.Holding.Holds, proofs.Growth.ready_kept}
+use Rattle.kp_synth_close.{specs.Nexts.PortFits, specs.Nexts.port_word, specs.Control.PortsFrom, proofs.Rollback.all_say_kept}
+use Rattle.kp_synth_close.proofs.Transport.{updating_kept, ports_more}
 use Rattle.kp_synth_close.proofs.writing.write_ports.Goals as goal
 
 pub target_port-requires-clause-ready : goal.target_port-requires-clause-ready

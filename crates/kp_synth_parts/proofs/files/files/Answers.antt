@@ -1,6 +1,5 @@
 use Rattle.std.proofs.{Common.arith, lemmas.Grind.common_steps}
-use Rattle.kp_synth_parts.specs.inner.Built.{SpelledFile}
-use Rattle.kp_synth_parts.proofs.Spelled.{none_spelled, file_more}
+use Rattle.kp_synth_parts.{specs.inner.Built.SpelledFile, proofs.Spelled.none_spelled, proofs.Spelled.file_more}
 use Rattle.kp_synth_parts.proofs.files.files.Goals as goal
 
 pub loop-decl-init : goal.loop-decl-init

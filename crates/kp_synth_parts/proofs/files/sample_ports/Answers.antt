@@ -1,6 +1,5 @@
 use Rattle.std.proofs.{Common.arith, lemmas.Grind.common_steps}
-use Rattle.kp_synth_parts.specs.inner.Built.{SpelledPort}
-use Rattle.kp_synth_parts.proofs.Spelled.{none_spelled, port_more}
+use Rattle.kp_synth_parts.{specs.inner.Built.SpelledPort, proofs.Spelled.none_spelled, proofs.Spelled.port_more}
 use Rattle.kp_synth_parts.proofs.files.sample_ports.Goals as goal
 
 pub loop-decl-init : goal.loop-decl-init

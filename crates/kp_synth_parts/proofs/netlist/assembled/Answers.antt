@@ -1,7 +1,6 @@
 use Rattle.std.proofs.Common.{◌≡◌, None, length, ap, subst, arith}
 use Rattle.kp_ast.specs.declared.tree.Job.{Job}
-use Rattle.kp_width.specs.Widths.{widths_of}
-use Rattle.kp_width.proofs.Unbroken.{Unbroken}
+use Rattle.kp_width.{specs.Widths.widths_of, proofs.Unbroken.Unbroken}
 use Rattle.kp_stage.specs.Stages.{broken_of}
 use Rattle.kp_machine.proofs.Widths.{job_fine}
 use Rattle.kp_synth_parts.proofs.{Begins.hints_fit, Begins.regs_given, Begins.files_given, Visible.keys_count, Assembled.few_decls}

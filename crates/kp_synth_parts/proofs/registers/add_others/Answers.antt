@@ -1,8 +1,7 @@
 use Rattle.std.proofs.Common.{◌<◌, List, length, sym, subst, arith}
 use Rattle.kp_net.specs.declared.netlist.NetReg.{NetReg}
 use Rattle.kp_synth_tables.specs.Keys.{keys_of}
-use Rattle.kp_synth_parts.specs.inner.Built.{AllSpelled, SpelledReg}
-use Rattle.kp_synth_parts.proofs.{Making.others_step, Spelled.one_spelled}
+use Rattle.kp_synth_parts.{specs.inner.Built.AllSpelled, specs.inner.Built.SpelledReg, proofs.Making.others_step, proofs.Spelled.one_spelled}
 use Rattle.kp_synth_parts.proofs.registers.add_others.Goals as goal
 
 pub loop-r-preserved : goal.loop-r-preserved

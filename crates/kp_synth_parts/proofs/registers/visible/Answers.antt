@@ -1,6 +1,5 @@
 use Rattle.std.proofs.{Common.arith, lemmas.Grind.common_steps}
-use Rattle.kp_synth_parts.specs.inner.Built.{SpelledReg}
-use Rattle.kp_synth_parts.proofs.Spelled.{none_spelled, reg_more}
+use Rattle.kp_synth_parts.{specs.inner.Built.SpelledReg, proofs.Spelled.none_spelled, proofs.Spelled.reg_more}
 use Rattle.kp_synth_parts.proofs.registers.visible.Goals as goal
 
 pub loop-decl-init : goal.loop-decl-init

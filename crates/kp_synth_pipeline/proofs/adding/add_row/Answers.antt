@@ -1,6 +1,5 @@
 use Rattle.std.proofs.{Common.◌≡◌, Common.◌∙◌, Common.le-leb, Common.refl, Common.sym, Common.subst, lemmas.Bool.lt-leb}
-use Rattle.kp_net.specs.{Widths.wide, Growth.Kept}
-use Rattle.kp_net.proofs.Growing.{kept_none, kept_then}
+use Rattle.kp_net.{specs.Widths.wide, specs.Growth.Kept, proofs.Growing.kept_none, proofs.Growing.kept_then}
 use Rattle.kp_synth_registers.proofs.Growth.{ready_kept}
 use Rattle.kp_synth_stage.specs.Rows.{RowOk}
 use Rattle.kp_synth_tables.specs.{Keys.target_at, Fits.ResultFits}

@@ -1,13 +1,10 @@
 use Rattle.std.proofs.Common.{◌≡◌, ℕ, suc, ◌+◌, ◌*◌, ◌<◌, List, length, get_or, slice_set, Some, subst, arith}
-use Rattle.std.specs.Prelude.{slice_get}
-use Rattle.kp_net.specs.Growth.{Grown}
-use Rattle.kp_net.proofs.Growing.{grown_then, grown_more}
+use Rattle.std.{specs.Prelude.slice_get, proofs.lemmas.Option.slice_get-get_or}
+use Rattle.kp_net.{specs.Growth.Grown, proofs.Growing.grown_then, proofs.Growing.grown_more}
 use Rattle.kp_synth_registers.proofs.Growth.{test_kept, ready_kept}
-use Rattle.kp_synth_stage.specs.declared.row.Source.{Source}
+use Rattle.kp_synth_stage.{specs.declared.row.Source.Source, proofs.Binding.kept_same}
 use Rattle.kp_synth_pipeline.specs.inner.Whole.{AllNearer}
-use Rattle.std.proofs.lemmas.Option.{slice_get-get_or}
 use Rattle.kp_synth_pipeline.proofs.Rising.{FewFrom, SameFrom, few_begun, few_ended, same_begun, none_nearer, ok_set, few_set, same_set, nearer_set, set_means_kept}
-use Rattle.kp_synth_stage.proofs.Binding.{kept_same}
 use Rattle.kp_synth_pipeline.proofs.adding.add_rows.Goals as goal
 
 pub loop-t-init : goal.loop-t-init

@@ -1,8 +1,7 @@
 use Rattle.std.proofs.Common.{◌*◌}
 use Rattle.kp_net.specs.Growth.{Grown}
 use Rattle.kp_synth_stage.specs.Rows.{SourcesOk}
-use Rattle.kp_synth_pipeline.specs.inner.Whole.{AllNearer}
-use Rattle.kp_synth_pipeline.proofs.Rising.{FewFrom, SameFrom}
+use Rattle.kp_synth_pipeline.{specs.inner.Whole.AllNearer, proofs.Rising.FewFrom, proofs.Rising.SameFrom}
 use Rattle.kp_synth_pipeline.proofs.adding.add_rows.Given as goal
 
 abbrev pub invariant-loop-t : goal.invariant-loop-t

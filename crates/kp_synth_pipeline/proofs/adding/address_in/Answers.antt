@@ -1,5 +1,4 @@
-use Rattle.std.proofs.Common.{◌∙◌, ◌==◌, ℕ, ap, sym}
-use Rattle.std.specs.Prelude.{Option}
+use Rattle.std.{proofs.Common.◌∙◌, proofs.Common.◌==◌, proofs.Common.ℕ, proofs.Common.ap, proofs.Common.sym, specs.Prelude.Option}
 use Rattle.kp_synth_registers.specs.Meaning.{Gives}
 use Rattle.kp_synth_pipeline.specs.inner.Whole.{addressed_by}
 use Rattle.kp_synth_pipeline.proofs.adding.address_in.Goals as goal

@@ -1,7 +1,6 @@
 use Rattle.std.proofs.Common.{◌∙◌, ap, sym}
 use Rattle.kp_synth_registers.specs.Meaning.{Gives}
-use Rattle.kp_synth_pipeline.specs.inner.Whole.{enabled_by}
-use Rattle.kp_synth_pipeline.proofs.Ports.{bit_value}
+use Rattle.kp_synth_pipeline.{specs.inner.Whole.enabled_by, proofs.Ports.bit_value}
 use Rattle.kp_synth_pipeline.proofs.adding.enable_in.Goals as goal
 
 pub returns-in-Some-clause-value : goal.returns-in-Some-clause-value

@@ -1,7 +1,6 @@
 use Rattle.std.proofs.Common.{List, sym, subst}
 use Rattle.kp_synth_registers.specs.declared.outcome.Outcome.{Outcome}
-use Rattle.kp_synth_pipeline.specs.{inner.Descending.SayFrom, Stages.own_room}
-use Rattle.kp_synth_pipeline.proofs.Spoken.{say_from_kept}
+use Rattle.kp_synth_pipeline.{specs.inner.Descending.SayFrom, specs.Stages.own_room, proofs.Spoken.say_from_kept}
 use Rattle.kp_synth_pipeline.proofs.all.first.Goals as goal
 
 pub returns-clause-says : goal.returns-clause-says

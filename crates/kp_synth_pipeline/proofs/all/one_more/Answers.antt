@@ -1,7 +1,6 @@
 use Rattle.std.proofs.Common.{suc, List, sym, subst}
 use Rattle.kp_synth_registers.specs.declared.outcome.Outcome.{Outcome}
-use Rattle.kp_synth_pipeline.specs.{inner.Descending.SayFrom, Stages.stage_room}
-use Rattle.kp_synth_pipeline.proofs.Spoken.{say_from_kept}
+use Rattle.kp_synth_pipeline.{specs.inner.Descending.SayFrom, specs.Stages.stage_room, proofs.Spoken.say_from_kept}
 use Rattle.kp_synth_pipeline.proofs.all.one_more.Goals as goal
 
 pub returns-clause-says : goal.returns-clause-says

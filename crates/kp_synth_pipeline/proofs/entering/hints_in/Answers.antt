@@ -5,8 +5,7 @@ use Rattle.kp_net.specs.{declared.node.NodeId.NodeId, Growth.Wire}
 use Rattle.kp_synth_tables.specs.Keys.{hint_at}
 use Rattle.kp_synth_registers.specs.Meaning.{Gives}
 use Rattle.kp_synth_stage.proofs.Binding.{kept_same}
-use Rattle.kp_synth_pipeline.specs.inner.Seeing.{HintsIn}
-use Rattle.kp_synth_pipeline.proofs.Entered.{FirstOf, one_first, hint_gives}
+use Rattle.kp_synth_pipeline.{specs.inner.Seeing.HintsIn, proofs.Entered.FirstOf, proofs.Entered.one_first, proofs.Entered.hint_gives}
 use Rattle.kp_synth_pipeline.proofs.entering.hints_in.Goals as goal
 
 pub loop-h-preserved : goal.loop-h-preserved

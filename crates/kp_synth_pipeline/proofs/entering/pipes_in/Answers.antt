@@ -1,12 +1,9 @@
 use Rattle.std.proofs.Common.{◌≡◌, ℕ, ◌∷◌, [], List, length, length-append, sym, ap, subst, arith}
 use Rattle.kp_pipeline.specs.Pipeline.{PipelineState, Inputs}
-use Rattle.kp_net.specs.{declared.node.NodeId.NodeId, Growth.Wire}
-use Rattle.kp_net.proofs.Growing.{grown_then}
+use Rattle.kp_net.{specs.declared.node.NodeId.NodeId, specs.Growth.Wire, proofs.Growing.grown_then}
 use Rattle.kp_synth_tables.specs.Keys.{pipe_at}
-use Rattle.kp_synth_registers.specs.Meaning.{Gives}
-use Rattle.kp_synth_pipeline.specs.inner.Seeing.{PipesIn}
-use Rattle.kp_synth_pipeline.proofs.Entered.{FirstOf, one_first}
-use Rattle.kp_synth_registers.proofs.Growth.{ready_kept}
+use Rattle.kp_synth_registers.{specs.Meaning.Gives, proofs.Growth.ready_kept}
+use Rattle.kp_synth_pipeline.{specs.inner.Seeing.PipesIn, proofs.Entered.FirstOf, proofs.Entered.one_first}
 use Rattle.kp_synth_pipeline.proofs.entering.pipes_in.Goals as goal
 
 pub loop-x-preserved : goal.loop-x-preserved

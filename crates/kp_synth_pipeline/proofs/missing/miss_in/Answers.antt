@@ -1,10 +1,9 @@
 use Rattle.std.proofs.Common.{◌≡◌, ℕ, ◌+◌, ◌*◌, ◌≤◌, length, ap, subst, arith}
-use Rattle.kp_synth_registers.specs.Meaning.{Added}
-use Rattle.kp_synth_registers.proofs.Growth.{test_kept, grown_added, added_then, ready_kept}
+use Rattle.kp_synth_registers.{specs.Meaning.Added, proofs.Growth.test_kept, proofs.Growth.grown_added, proofs.Growth.added_then, proofs.Growth.ready_kept}
 use Rattle.kp_synth_stage.proofs.Nearest.{sources_kept}
 use Rattle.kp_synth_pipeline.proofs.{Stalling.sees_above_kept, Wrong.no_misses, Wrong.all_misses, Wrong.guess_step, Wrong.guess_left}
-use Rattle.kp_synth_tables.specs.Keys.{guesses_of}
 use Rattle.kp_synth_pipeline.specs.Stages.{guess_room}
+use Rattle.kp_synth_tables.specs.Keys.{guesses_of}
 use Rattle.kp_synth_pipeline.proofs.missing.miss_in.Goals as goal
 
 pub loop-g-init : goal.loop-g-init

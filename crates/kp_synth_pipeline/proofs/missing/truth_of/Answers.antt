@@ -1,7 +1,6 @@
 use Rattle.std.proofs.Common.{ℕ, ◌+◌, ◌-◌, ◌*◌, length, subst, arith}
 use Rattle.kp_ast.specs.declared.tree.Job.{Job}
-use Rattle.kp_synth_registers.specs.Meaning.{Added}
-use Rattle.kp_synth_registers.proofs.Growth.{added_more}
+use Rattle.kp_synth_registers.{specs.Meaning.Added, proofs.Growth.added_more}
 use Rattle.kp_synth_pipeline.proofs.missing.truth_of.Goals as goal
 
 pub returns-clause-added : goal.returns-clause-added

@@ -1,9 +1,8 @@
 use Rattle.std.proofs.Common.{◌≡◌, ◌∙◌, ℕ, ◌+◌, ◌-◌, ◌*◌, sym, ap, subst, false, ◌&&◌, arith}
 use Rattle.kp_synth_tables.specs.{declared.key.GuessSlot.GuessSlot, Keys.guess_at, Keys.is_carried}
 use Rattle.kp_synth_pipeline.specs.inner.Whole.{is_wrong, GuessesOk, GuessOk}
-use Rattle.kp_synth_registers.specs.Holding.{guess_passes}
-use Rattle.kp_synth_registers.proofs.Growth.{grown_added, added_then, added_more}
 use Rattle.kp_synth_pipeline.proofs.Wrong.{one_miss, not_carried}
+use Rattle.kp_synth_registers.{specs.Holding.guess_passes, proofs.Growth.grown_added, proofs.Growth.added_then, proofs.Growth.added_more}
 use Rattle.kp_synth_pipeline.proofs.missing.with_guess.Goals as goal
 
 pub guess_miss-requires-clause-fits : goal.guess_miss-requires-clause-fits

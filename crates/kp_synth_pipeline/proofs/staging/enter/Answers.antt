@@ -1,7 +1,6 @@
 use Rattle.std.proofs.Common.{ℕ, ◌+◌, length}
 use Rattle.kp_machine.specs.Slots.{pipes_of, hints_of}
-use Rattle.kp_net.specs.Growth.{Kept}
-use Rattle.kp_net.proofs.Growing.{kept_then, wire_kept}
+use Rattle.kp_net.{specs.Growth.Kept, proofs.Growing.kept_then, proofs.Growing.wire_kept}
 use Rattle.kp_synth_registers.proofs.Growth.{test_kept, ready_kept}
 use Rattle.kp_synth_pipeline.proofs.Spoken.{slots_kept, pipes_kept, hints_kept}
 use Rattle.kp_synth_pipeline.proofs.staging.enter.Goals as goal

@@ -1,11 +1,10 @@
 use Rattle.std.proofs.Common.{ℕ, ◌+◌, ◌*◌, List, Option, length, sym, subst, arith}
 use Rattle.kp_machine.specs.Slots.{targets_of}
-use Rattle.kp_net.specs.Growth.{Kept}
-use Rattle.kp_net.proofs.Growing.{kept_then, wire_kept}
+use Rattle.kp_net.{specs.Growth.Kept, proofs.Growing.kept_then, proofs.Growing.wire_kept}
 use Rattle.kp_synth_registers.specs.{declared.outcome.Set.Set, Meaning.Added}
 use Rattle.kp_synth_registers.proofs.Growth.{test_kept, says_kept, grown_added, added_then, added_more, ready_kept}
-use Rattle.kp_synth_pipeline.specs.{inner.Whole.SetsMean, Stages.own_room, Stages.stage_room}
-use Rattle.kp_synth_pipeline.proofs.{Spoken.faces_kept, Spoken.sets_of, Following.faces_below}
+use Rattle.kp_synth_pipeline.{specs.inner.Whole.SetsMean, specs.Stages.own_room, specs.Stages.stage_room, proofs.Spoken.faces_kept, proofs.Spoken.sets_of}
+use Rattle.kp_synth_pipeline.proofs.Following.{faces_below}
 use Rattle.kp_synth_pipeline.proofs.staging.stage_above.Goals as goal
 
 pub add_rows-requires-clause-sources : goal.add_rows-requires-clause-sources

@@ -1,11 +1,10 @@
 use Rattle.std.proofs.Common.{ℕ, ◌+◌, List, length, sym, subst, arith}
 use Rattle.kp_machine.specs.Slots.{pipes_of, samples_of}
-use Rattle.kp_net.proofs.Growing.{kept_then, wire_kept}
+use Rattle.kp_net.{proofs.Growing.kept_then, proofs.Growing.wire_kept, specs.declared.node.NodeId.NodeId}
 use Rattle.kp_synth_tables.specs.Keys.{guesses_of}
 use Rattle.kp_synth_registers.specs.Meaning.{Added}
 use Rattle.kp_synth_registers.proofs.Growth.{test_kept, grown_added, added_then, added_more, ready_kept}
 use Rattle.kp_synth_stage.specs.Work.{stmts_at, SlotsHave, costs_of}
-use Rattle.kp_net.specs.declared.node.NodeId.{NodeId}
 use Rattle.kp_synth_pipeline.specs.{inner.Seeing.SamplesIn, Stages.guess_room, Stages.own_room}
 use Rattle.kp_synth_pipeline.proofs.Spoken.{samples_have, samples_in, entered_kept, faces_kept, says_of}
 use Rattle.kp_synth_pipeline.proofs.staging.stage_in.Goals as goal

@@ -1,6 +1,5 @@
 use Rattle.std.proofs.Common.{◌<◌, length, sym, subst, arith}
-use Rattle.kp_synth_tables.specs.Keys.{HasKey, keys_of}
-use Rattle.kp_synth_tables.proofs.Places.{key_had}
+use Rattle.kp_synth_tables.{specs.Keys.HasKey, specs.Keys.keys_of, proofs.Places.key_had}
 use Rattle.kp_synth_registers.proofs.registers.registers.Goals as goal
 
 pub width_of-width-requires : goal.width_of-width-requires

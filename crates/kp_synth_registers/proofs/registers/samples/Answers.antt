@@ -1,6 +1,5 @@
 use Rattle.std.proofs.Common.{sym, subst, rules}
-use Rattle.kp_synth_registers.specs.inner.First.{FirstSamples}
-use Rattle.kp_synth_registers.proofs.{Growth.added_then, Cells.one_sample}
+use Rattle.kp_synth_registers.{specs.inner.First.FirstSamples, proofs.Growth.added_then, proofs.Cells.one_sample}
 use Rattle.kp_synth_registers.proofs.registers.samples.Goals as goal
 
 pub loop-x-preserved : goal.loop-x-preserved

@@ -1,5 +1,4 @@
-use Rattle.std.proofs.Common.{◌≡◌, ◌+◌, ◌≤◌, ◌++◌, map, drop}
-use Rattle.std.specs.Prelude.{codes}
+use Rattle.std.{proofs.Common.◌≡◌, proofs.Common.◌+◌, proofs.Common.◌≤◌, proofs.Common.◌++◌, proofs.Common.map, proofs.Common.drop, specs.Prelude.codes}
 use Rattle.kp_synth_spec.specs.Naming.{place_among}
 use Rattle.kp_synth_spec.proofs.naming.register_named.Given as goal
 

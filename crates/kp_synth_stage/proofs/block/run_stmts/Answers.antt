@@ -1,9 +1,7 @@
 use Rattle.std.proofs.Common.{◌≡◌, ◌+◌, ◌<◌, ℕ, suc, List, Some, take, length, refl, sym, subst, arith}
-use Rattle.std.proofs.lemmas.Option.{slice_get_read}
-use Rattle.std.specs.Prelude.{slice_get}
+use Rattle.std.{proofs.lemmas.Option.slice_get_read, specs.Prelude.slice_get}
 use Rattle.kp_ast.specs.declared.tree.Stmt.{Stmt}
-use Rattle.kp_synth_registers.specs.Meaning.{Added}
-use Rattle.kp_synth_registers.proofs.Growth.{added_then}
+use Rattle.kp_synth_registers.{specs.Meaning.Added, proofs.Growth.added_then}
 use Rattle.kp_synth_stage.specs.{Work.stmts_at, Work.cost_of, Work.costs_of, inner.Standing.WorkOk, inner.Standing.AllGo}
 use Rattle.kp_synth_stage.proofs.{Binding.kept_same, Nearest.sources_kept, Going.all_none, Going.all_more, Going.costs_more}
 use Rattle.kp_synth_stage.proofs.block.run_stmts.Goals as goal

@@ -1,8 +1,6 @@
 use Rattle.std.proofs.Common.{◌≡◌, subst}
 use Rattle.kp_ast.specs.declared.tree.StmtKind.{StmtKind}
-use Rattle.kp_synth_stage.specs.inner.Standing.{StmtRight}
-use Rattle.kp_synth_stage.proofs.Scoping.{is_right}
-use Rattle.kp_synth_stage.proofs.block.step.Goals.{After-job-job}
+use Rattle.kp_synth_stage.{specs.inner.Standing.StmtRight, proofs.Scoping.is_right, proofs.block.step.Goals.After-job-job}
 use Rattle.kp_synth_stage.proofs.block.step.Goals as goal
 
 right : (c : After-job-job) (x : StmtKind) → c.args.stmt.now.kind ≡ x → StmtRight c.args.d.now.job c.args.k c.args.j x

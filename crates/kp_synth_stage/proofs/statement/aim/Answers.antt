@@ -3,9 +3,7 @@ use Rattle.kp_ast.specs.Size.{size}
 use Rattle.kp_ast.specs.declared.tree.StmtKind.TheVariants as stmts
 use Rattle.kp_machine.specs.Slots.{hints_of, number_of}
 use Rattle.kp_synth_registers.proofs.Growth.{grown_added, added_more}
-use Rattle.kp_synth_stage.specs.Work.{cost_of}
-use Rattle.kp_synth_stage.proofs.Steps.{aim_right, aim_step}
-use Rattle.kp_synth_stage.proofs.statement.aim.Goals.{After-number_of-x}
+use Rattle.kp_synth_stage.{specs.Work.cost_of, proofs.Steps.aim_right, proofs.Steps.aim_step, proofs.statement.aim.Goals.After-number_of-x}
 use Rattle.kp_synth_stage.proofs.statement.aim.Goals as goal
 
 pub value-requires-clause-right : goal.value-requires-clause-right

@@ -3,8 +3,7 @@ use Rattle.kp_ast.specs.Size.{size}
 use Rattle.kp_ast.specs.declared.tree.StmtKind.TheVariants as stmts
 use Rattle.kp_build.specs.Names.{Scope}
 use Rattle.kp_synth_registers.proofs.Growth.{grown_added, added_more}
-use Rattle.kp_synth_stage.specs.{inner.Standing.WorkOk, inner.Standing.GoesBy, Work.cost_of}
-use Rattle.kp_synth_stage.proofs.Steps.{let_right, let_step}
+use Rattle.kp_synth_stage.{specs.inner.Standing.WorkOk, specs.inner.Standing.GoesBy, specs.Work.cost_of, proofs.Steps.let_right, proofs.Steps.let_step}
 use Rattle.kp_synth_stage.proofs.statement.let_name.Goals as goal
 
 pub value-requires-clause-right : goal.value-requires-clause-right

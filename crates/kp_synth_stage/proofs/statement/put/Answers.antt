@@ -3,9 +3,7 @@ use Rattle.kp_ast.specs.Size.{size}
 use Rattle.kp_ast.specs.declared.tree.StmtKind.TheVariants as stmts
 use Rattle.kp_machine.specs.Slots.{pipes_of, number_of}
 use Rattle.kp_synth_registers.proofs.Growth.{grown_added, added_more}
-use Rattle.kp_synth_stage.specs.Work.{cost_of}
-use Rattle.kp_synth_stage.proofs.Steps.{put_right, put_step}
-use Rattle.kp_synth_stage.proofs.statement.put.Goals.{After-number_of-x}
+use Rattle.kp_synth_stage.{specs.Work.cost_of, proofs.Steps.put_right, proofs.Steps.put_step, proofs.statement.put.Goals.After-number_of-x}
 use Rattle.kp_synth_stage.proofs.statement.put.Goals as goal
 
 pub value-requires-clause-right : goal.value-requires-clause-right

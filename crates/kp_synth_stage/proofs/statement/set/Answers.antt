@@ -9,8 +9,7 @@ use Rattle.kp_pipeline.specs.Sequential.{first_value}
 use Rattle.kp_synth_tables.specs.Keys.{target_at}
 use Rattle.kp_synth_registers.specs.{Holding.optional, Meaning.SetFits, Meaning.set_value}
 use Rattle.kp_synth_registers.proofs.Growth.{grown_added, added_then, added_more}
-use Rattle.kp_synth_stage.specs.{Work.cost_of, inner.Statements.target_named}
-use Rattle.kp_synth_stage.proofs.{Binding.kept_same, Taking.bit_of}
+use Rattle.kp_synth_stage.{specs.Work.cost_of, specs.inner.Statements.target_named, proofs.Binding.kept_same, proofs.Taking.bit_of}
 use Rattle.kp_synth_stage.proofs.Setting.{SetRight, SetNodes, set_right, target_there, set_nodes, before_fits, set_step}
 use Rattle.kp_synth_stage.proofs.statement.set.Goals.{After-spare-spare, After-target_named, In-Some}
 use Rattle.kp_synth_stage.proofs.statement.set.Goals as goal

@@ -1,5 +1,4 @@
-use Rattle.std.proofs.Common.{◌≡◌, drop, map}
-use Rattle.std.specs.List.{list_any}
+use Rattle.std.{proofs.Common.◌≡◌, proofs.Common.drop, proofs.Common.map, specs.List.list_any}
 use Rattle.kp_stage.specs.Uses.{uses}
 use Rattle.kp_synth_tables.proofs.uses.+uses.Given as goal
 

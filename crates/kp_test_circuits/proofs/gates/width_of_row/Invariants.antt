@@ -1,5 +1,4 @@
-use Rattle.std.proofs.Common.{◌≡◌, ◌<◌, ◌≤◌, length, take, All}
-use Rattle.std.specs.List.{sum_by}
+use Rattle.std.{proofs.Common.◌≡◌, proofs.Common.◌<◌, proofs.Common.◌≤◌, proofs.Common.length, proofs.Common.take, proofs.Common.All, specs.List.sum_by}
 use Rattle.kp_net.specs.Widths.{wide}
 use Rattle.kp_test_circuits.proofs.gates.width_of_row.Given as goal
 

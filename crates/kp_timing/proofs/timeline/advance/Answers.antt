@@ -1,5 +1,4 @@
-use Rattle.std.proofs.Common.{◌-◌, ◌<◌, ◌^◌, sym, subst}
-use Rattle.std.specs.Prelude.{unwrap_or}
+use Rattle.std.{proofs.Common.◌-◌, proofs.Common.◌<◌, proofs.Common.◌^◌, proofs.Common.sym, proofs.Common.subst, specs.Prelude.unwrap_or}
 use Rattle.kp_timing.proofs.Keeping.{can_fetch}
 use Rattle.kp_timing.proofs.timeline.advance.Goals as goal
 

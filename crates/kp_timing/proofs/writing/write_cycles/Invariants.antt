@@ -1,7 +1,6 @@
 use Rattle.std.proofs.Common.{◌≡◌, ◌-◌, ◌≤◌}
 use Rattle.kp_base.specs.inner.Bytes.{WrittenUpTo}
-use Rattle.kp_timing.specs.{Lines.timing_text, Timed.hold_of}
-use Rattle.kp_timing.proofs.Texts.{text_left}
+use Rattle.kp_timing.{specs.Lines.timing_text, specs.Timed.hold_of, proofs.Texts.text_left}
 use Rattle.kp_timing.proofs.writing.write_cycles.Given as goal
 
 abbrev pub invariant-loop-cycle : goal.invariant-loop-cycle

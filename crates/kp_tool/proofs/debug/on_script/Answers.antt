@@ -1,6 +1,5 @@
 use Rattle.std.proofs.Common.{◌≡◌, ◌∙◌, ℕ, List, Ok, Err, refl, ap, sym, subst}
-use Rattle.std.proofs.lemmas.Result.{err_from_is_err_and}
-use Rattle.std.specs.{declared.option.Option.Option, declared.result.Result.Result, Global.Vec}
+use Rattle.std.{proofs.lemmas.Result.err_from_is_err_and, specs.declared.option.Option.Option, specs.declared.result.Result.Result, specs.Global.Vec}
 use Rattle.kp_base.specs.{Check.Gives, declared.refusal.Refusal.Refusal, declared.refusal.Refused.Refused}
 use Rattle.kp_base.specs.declared.refusal.Refused.TheVariants.{Rule, NoMemory}
 use Rattle.kp_ast.specs.declared.tree.Job.{Job}
@@ -8,8 +7,7 @@ use Rattle.kp_debug_script.specs.{declared.command.Command.Command, Scripts.scri
 use Rattle.kp_debug_report.specs.Inspecting.{Inspected, printed, whole_run}
 use Rattle.kp_tool_report.specs.Texts.{refusal_line}
 use Rattle.kp_tool_spec.specs.Scripted.{DueOfScript, DueOfScriptHead}
-use Rattle.kp_tool.specs.{Ends.Ends, inner.Failures.failure_of, declared.failure.Failure.Failure}
-use Rattle.kp_tool.proofs.Ends.{said}
+use Rattle.kp_tool.{specs.Ends.Ends, specs.inner.Failures.failure_of, specs.declared.failure.Failure.Failure, proofs.Ends.said}
 use Rattle.kp_tool.proofs.debug.on_script.Goals as goal
 
 -- the script violates a rule

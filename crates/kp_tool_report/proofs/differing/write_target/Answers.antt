@@ -1,6 +1,5 @@
 use Rattle.std.proofs.Common.{◌<◌, ◌≤◌, ◌∙◌, sym, arith}
-use Rattle.kp_tool_report.specs.States.{targets_in}
-use Rattle.kp_tool_report.proofs.Numbers.{target_behind, target_there, none_left}
+use Rattle.kp_tool_report.{specs.States.targets_in, proofs.Numbers.target_behind, proofs.Numbers.target_there, proofs.Numbers.none_left}
 use Rattle.kp_tool_report.proofs.differing.write_target.Goals as goal
 
 pub write_name-requires : goal.write_name-requires

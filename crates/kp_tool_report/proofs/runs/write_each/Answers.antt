@@ -1,10 +1,8 @@
 use Rattle.std.proofs.{Common.◌≡◌, Common.◌∙◌, Common.ℕ, Common.ap, Common.sym, Common.arith, lemmas.Result.err_from_is_err_and}
 use Rattle.kp_pipeline.specs.Rows.{counts}
 use Rattle.kp_base.proofs.Bytes.{written_piece, written_part}
-use Rattle.kp_sched.specs.Rows.{rows_seen}
-use Rattle.kp_sched.proofs.Counting.{seen_length}
-use Rattle.kp_tool_report.specs.Runs.{counts_behind}
-use Rattle.kp_tool_report.proofs.{Lines.left_is, Reported.counts_next}
+use Rattle.kp_sched.{specs.Rows.rows_seen, proofs.Counting.seen_length}
+use Rattle.kp_tool_report.{specs.Runs.counts_behind, proofs.Lines.left_is, proofs.Reported.counts_next}
 use Rattle.kp_tool_report.proofs.runs.write_each.Goals as goal
 
 pub returns-in_err-write_one-clause-text : goal.returns-in_err-write_one-clause-text

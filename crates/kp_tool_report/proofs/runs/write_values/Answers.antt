@@ -1,8 +1,7 @@
 use Rattle.std.proofs.{Common.arith, lemmas.Result.err_from_is_err_and}
 use Rattle.kp_base.proofs.Bytes.{written_piece, written_part}
 use Rattle.kp_run.specs.Boards.{due_behind}
-use Rattle.kp_tool_report.specs.inner.Boards.{behind}
-use Rattle.kp_tool_report.proofs.Lines.{left_is, state_next, past, at_most_one}
+use Rattle.kp_tool_report.{specs.inner.Boards.behind, proofs.Lines.left_is, proofs.Lines.state_next, proofs.Lines.past, proofs.Lines.at_most_one}
 use Rattle.kp_tool_report.proofs.runs.write_values.Goals as goal
 
 pub returns-in_err-write_value-clause-text : goal.returns-in_err-write_value-clause-text

@@ -1,8 +1,7 @@
 use Rattle.std.proofs.{Common.arith, lemmas.Result.err_from_is_err_and}
 use Rattle.kp_base.proofs.Bytes.{written_piece, written_part}
 use Rattle.kp_seq.specs.Running.{state}
-use Rattle.kp_tool_report.specs.States.{no_counts}
-use Rattle.kp_tool_report.proofs.Lines.{left_is, state_next, past, at_most_one}
+use Rattle.kp_tool_report.{specs.States.no_counts, proofs.Lines.left_is, proofs.Lines.state_next, proofs.Lines.past, proofs.Lines.at_most_one}
 use Rattle.kp_tool_report.proofs.states.write_state.Goals as goal
 
 pub returns-in_err-write_target-clause-text : goal.returns-in_err-write_target-clause-text

@@ -4,8 +4,8 @@ use Rattle.kp_bits.specs.Word.{Word}
 use Rattle.kp_image.specs.{Spans.word_in, Feeds.row_in}
 use Rattle.kp_net.specs.Netlist.{Input, State, last_of, row_of, state_after}
 use Rattle.kp_cycle.specs.Steps.{Running, SamplesFit, given}
-use Rattle.kp_run.specs.Cycles.{inputs_to, input_at}
-use Rattle.kp_run.proofs.{Steps.state_next, Given.rows_fed, Given.as_feeds, Given.feeds_few, Machines.stages_fit, Samples.fits_ports}
+use Rattle.kp_run.{specs.Cycles.inputs_to, specs.Cycles.input_at, proofs.Steps.state_next, proofs.Given.rows_fed, proofs.Given.as_feeds, proofs.Given.feeds_few}
+use Rattle.kp_run.proofs.{Machines.stages_fit, Samples.fits_ports}
 use Rattle.kp_vcd.specs.Recording.{Values, HasRecorded, moments_before}
 use Rattle.kp_vcd_run.specs.{Dumps.values_at, Dumps.own_run, Dumps.no_row, inner.Shown.shown_at, inner.Shown.mask_values}
 use Rattle.kp_vcd_run.proofs.Whole.{values_in_cycle, values_behind_all, values_few}

@@ -1,7 +1,6 @@
 use Rattle.std.proofs.Common.{◌∙◌, ℕ, List, subst}
 use Rattle.kp_base.specs.Bytes.{Writes}
-use Rattle.kp_view.specs.Texts.{names_text}
-use Rattle.kp_view.proofs.Pieces.{five_pieces}
+use Rattle.kp_view.{specs.Texts.names_text, proofs.Pieces.five_pieces}
 use Rattle.kp_view.proofs.complaint.write_names.Goals as goal
 
 pub returns-clause-text : goal.returns-clause-text

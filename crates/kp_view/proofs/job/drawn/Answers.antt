@@ -10,8 +10,7 @@ use Rattle.kp_stalls_run.specs.Runs.{job_stalls}
 use Rattle.kp_stalls_text.specs.{Labels.labels_from, Text.stalls_text}
 use Rattle.kp_view_words.specs.Asked.{order_seen, run_seen, task_seen}
 use Rattle.kp_view_words.specs.Words.{diagram, svg, page, paths, paths_svg, stalls}
-use Rattle.kp_view.specs.Due.{Draws, figure_drawn, rows_drawn}
-use Rattle.kp_view.proofs.Ends.{drawn_as, said}
+use Rattle.kp_view.{specs.Due.Draws, specs.Due.figure_drawn, specs.Due.rows_drawn, proofs.Ends.drawn_as, proofs.Ends.said}
 use Rattle.kp_view.proofs.job.drawn.Goals as goal
 
 pub returns-in-Diagram : goal.returns-in-Diagram

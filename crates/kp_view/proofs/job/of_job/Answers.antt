@@ -4,8 +4,7 @@ use Rattle.kp_ast.specs.declared.tree.Job.{Job}
 use Rattle.kp_run.proofs.Machines.{stages_fit}
 use Rattle.kp_diagram_text.specs.Charts.{are_names}
 use Rattle.kp_view_words.specs.Asked.{task_seen}
-use Rattle.kp_view.specs.Due.{names_fit}
-use Rattle.kp_view.proofs.Ends.{by_names, names_wrong}
+use Rattle.kp_view.{specs.Due.names_fit, proofs.Ends.by_names, proofs.Ends.names_wrong}
 use Rattle.kp_view.proofs.job.of_job.Goals as goal
 
 pub overflow_cast-stages : goal.overflow_cast-stages

@@ -2,8 +2,7 @@ use Rattle.std.proofs.Common.{◌≡◌, ◌∙◌, List, ℕ, length, None, ap,
 use Rattle.kp_pipeline.specs.Rows.{Row}
 use Rattle.kp_sched.proofs.Counting.{seen_length}
 use Rattle.kp_page.specs.States.{states_text}
-use Rattle.kp_view.specs.{Due.Says, Ends.Ends}
-use Rattle.kp_view.proofs.Pictures.{page_is}
+use Rattle.kp_view.{specs.Due.Says, specs.Ends.Ends, proofs.Pictures.page_is}
 use Rattle.kp_view.proofs.page.page.Goals as goal
 
 pub with_states-end-requires-clause-drawable : goal.with_states-end-requires-clause-drawable

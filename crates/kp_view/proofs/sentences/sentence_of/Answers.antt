@@ -1,6 +1,5 @@
 use Rattle.std.proofs.Common.{refl}
-use Rattle.kp_view.specs.declared.sentences.TheConstants.{SENTENCES}
-use Rattle.kp_view.proofs.Tables.{found, missing}
+use Rattle.kp_view.{specs.declared.sentences.TheConstants.SENTENCES, proofs.Tables.found, proofs.Tables.missing}
 use Rattle.kp_view.proofs.sentences.sentence_of.Goals as goal
 
 pub returns-in-Some : goal.returns-in-Some

@@ -1,7 +1,6 @@
 use Rattle.std.proofs.Common.{rules, List, ℕ, None, refl, subst}
 use Rattle.kp_diagram_svg.specs.Picture.{svg_text}
-use Rattle.kp_view.specs.{Due.Says, Ends.Ends}
-use Rattle.kp_view.proofs.Pictures.{picture_is}
+use Rattle.kp_view.{specs.Due.Says, specs.Ends.Ends, proofs.Pictures.picture_is}
 use Rattle.kp_view.proofs.svg.svg.Goals as goal
 
 -- src/svg.rt:30:8

@@ -1,7 +1,6 @@
 use Rattle.std.proofs.Common.{List, sym, subst}
 use Rattle.kp_view_findings.specs.{Noted.noted, declared.finding.Finding.Finding}
-use Rattle.kp_view_confirmed.specs.{PrintedWidths.FirstIsTrue, inner.Agreeing.IsFilled}
-use Rattle.kp_view_confirmed.proofs.Agreed.{first_kept, still_filled}
+use Rattle.kp_view_confirmed.{specs.PrintedWidths.FirstIsTrue, specs.inner.Agreeing.IsFilled, proofs.Agreed.first_kept, proofs.Agreed.still_filled}
 use Rattle.kp_view_confirmed.proofs.findings.add_all.Goals as goal
 
 pub loop-finding-preserved : goal.loop-finding-preserved

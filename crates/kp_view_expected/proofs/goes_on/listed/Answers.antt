@@ -1,6 +1,5 @@
 use Rattle.std.proofs.{Common.◌∙◌, Common.arith, lemmas.List.length-set}
-use Rattle.kp_view_expected.specs.inner.Plain.{stack, IsAnswer}
-use Rattle.kp_view_expected.proofs.Exact.{answer_more, answer_all}
+use Rattle.kp_view_expected.{specs.inner.Plain.stack, specs.inner.Plain.IsAnswer, proofs.Exact.answer_more, proofs.Exact.answer_all}
 use Rattle.kp_view_expected.proofs.goes_on.listed.Goals as goal
 
 pub loop-i-preserved : goal.loop-i-preserved

@@ -1,5 +1,4 @@
-use Rattle.std.proofs.Common.{ℕ, ◌≡◌, ◌<◌, Bool, Some, length}
-use Rattle.std.specs.Prelude.{slice_get}
+use Rattle.std.{proofs.Common.ℕ, proofs.Common.◌≡◌, proofs.Common.◌<◌, proofs.Common.Bool, proofs.Common.Some, proofs.Common.length, specs.Prelude.slice_get}
 use Rattle.kp_view_expected.specs.{declared.token_class.TokenClass.TokenClass, GoesOn.all_classes, inner.Plain.stack, inner.Plain.IsAnswer}
 use Rattle.kp_view_expected.proofs.goes_on.listed.Given as goal
 

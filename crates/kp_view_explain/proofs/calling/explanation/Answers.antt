@@ -1,6 +1,5 @@
 use Rattle.std.proofs.Common.{◌∙◌, ◌≤◌, ℕ, List, length, ap, subst, arith, Err}
-use Rattle.kp_view_explain.specs.{Explaining.ExplainsText, Listing.ListsNext}
-use Rattle.kp_view_explain.proofs.Inputs.{of_excess, of_input}
+use Rattle.kp_view_explain.{specs.Explaining.ExplainsText, specs.Listing.ListsNext, proofs.Inputs.of_excess, proofs.Inputs.of_input}
 use Rattle.kp_view_explain.proofs.calling.explanation.Goals as goal
 
 pub returns-in_ok-of_excess-in-Err-TooLong-clause-explained : goal.returns-in_ok-of_excess-in-Err-TooLong-clause-explained

@@ -1,5 +1,4 @@
-use Rattle.kp_view_explain.proofs.Next.{none_passes}
-use Rattle.kp_view_explain.specs.Listing.{is_at}
+use Rattle.kp_view_explain.{proofs.Next.none_passes, specs.Listing.is_at}
 use Rattle.kp_view_explain.proofs.reading.index_of.Goals as goal
 
 pub returns-in-None-clause-index : goal.returns-in-None-clause-index

@@ -1,6 +1,5 @@
 use Rattle.std.proofs.{Common.[], Common.ap, Common.sym, Common.◌∙◌, Common.take, Common.rules, Output.has_written_append, Output.has_written_of_eq}
-use Rattle.std.proofs.lemmas.List.{flat_map_more, take_more, take_all}
-use Rattle.std.specs.{Prelude.flat_map, Char.encode_utf8}
+use Rattle.std.{proofs.lemmas.List.flat_map_more, proofs.lemmas.List.take_more, proofs.lemmas.List.take_all, specs.Prelude.flat_map, specs.Char.encode_utf8}
 use Rattle.kp_view_help.proofs.word.write_bytes.Goals as goal
 
 pub loop-byte-preserved : goal.loop-byte-preserved

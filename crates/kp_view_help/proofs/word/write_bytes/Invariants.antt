@@ -1,5 +1,4 @@
-use Rattle.std.proofs.Common.{take}
-use Rattle.std.specs.{Prelude.flat_map, Char.encode_utf8, Fmt.HasWritten, Fmt.IsPlainFormatter}
+use Rattle.std.{proofs.Common.take, specs.Prelude.flat_map, specs.Char.encode_utf8, specs.Fmt.HasWritten, specs.Fmt.IsPlainFormatter}
 use Rattle.kp_view_help.proofs.word.write_bytes.Given as goal
 
 abbrev pub invariant-loop-byte : goal.invariant-loop-byte

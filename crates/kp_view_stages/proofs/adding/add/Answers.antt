@@ -1,7 +1,6 @@
 use Rattle.std.proofs.{Common.◌∷◌, Common.◌++◌, Common.[], Common.IfSome, Common.Option, Common.subst, lemmas.List.Elements.All-same}
 use Rattle.kp_view_findings.specs.declared.finding.Caution.{Caution}
-use Rattle.kp_view_stages.specs.Cautions.{ClaimsNothing, IsTrueOf}
-use Rattle.kp_view_stages.proofs.Reported.{all_pushed}
+use Rattle.kp_view_stages.{specs.Cautions.ClaimsNothing, specs.Cautions.IsTrueOf, proofs.Reported.all_pushed}
 use Rattle.kp_view_stages.proofs.adding.add.Goals as goal
 
 pub returns-in_ok-push : goal.returns-in_ok-push

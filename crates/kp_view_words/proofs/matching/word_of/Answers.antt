@@ -1,10 +1,9 @@
 use Rattle.std.proofs.Common.{◌≡◌, true, ◌∙◌, sym, ap, subst, inl, inr, true≢false, string_bytes}
-use Rattle.clap.specs.{Kinds.IsAmong, Values.kind_of, Simple.App, Simple.subcommand_of, Faults.fault_of, Faults.is_simple_and_free, Words.is_simple}
 use Rattle.std.specs.Prelude.{map}
+use Rattle.clap.specs.{Kinds.IsAmong, Values.kind_of, Simple.App, Simple.subcommand_of, Faults.fault_of, Faults.is_simple_and_free, Words.is_simple}
 use Rattle.clap.proofs.WalkLemmas.{list_any-map}
 use Rattle.kp_command_line.specs.Programs.{begins_with_dash}
-use Rattle.kp_view_words.specs.inner.Matching.{known_names, word_of_rows}
-use Rattle.kp_view_words.proofs.Parses.{matched, unmatched}
+use Rattle.kp_view_words.{specs.inner.Matching.known_names, specs.inner.Matching.word_of_rows, proofs.Parses.matched, proofs.Parses.unmatched}
 use Rattle.kp_view_words.proofs.matching.word_of.Goals as goal
 
 pub returns-in-Ok : goal.returns-in-Ok

@@ -1,7 +1,6 @@
 use Rattle.std.proofs.Common.{◌∙◌, map, string_bytes}
 use Rattle.clap.proofs.WalkLemmas.{list_any-map}
-use Rattle.kp_view_words.specs.Words.{is_help_flag}
-use Rattle.kp_view_words.proofs.Rests.{asks_flag}
+use Rattle.kp_view_words.{specs.Words.is_help_flag, proofs.Rests.asks_flag}
 use Rattle.kp_view_words.proofs.words.asks_help.Goals as goal
 
 pub returns-else-help_place-eq1 : goal.returns-else-help_place-eq1

@@ -1,8 +1,7 @@
 use Rattle.std.proofs.{Common.◌∙◌, Common.sym, Common.ap, Common.map, Common.string_bytes, lemmas.List.drop-map}
 use Rattle.clap.proofs.WalkLemmas.{list_any-map}
 use Rattle.kp_command_line.specs.Programs.{begins_with_dash}
-use Rattle.kp_view_words.specs.Words.{task_with}
-use Rattle.kp_view_words.proofs.Rests.{dash_flagged, rest_is, task_of_word}
+use Rattle.kp_view_words.{specs.Words.task_with, proofs.Rests.dash_flagged, proofs.Rests.rest_is, proofs.Rests.task_of_word}
 use Rattle.kp_view_words.proofs.words.task_of.Goals as goal
 
 pub returns-then-has_dash : goal.returns-then-has_dash

@@ -1,6 +1,5 @@
 use Rattle.std.proofs.Common.{◌∙◌, ap, sym, subst, length}
-use Rattle.kp_vlog.specs.Fronts.{seen, Fits}
-use Rattle.kp_vlog.proofs.Fronts.{seen_front, fits_front}
+use Rattle.kp_vlog.{specs.Fronts.seen, specs.Fronts.Fits, proofs.Fronts.seen_front, proofs.Fronts.fits_front}
 use Rattle.kp_vlog.proofs.front.read_front.Goals as goal
 
 pub returns-clause-reported : goal.returns-clause-reported

@@ -1,7 +1,6 @@
 use Rattle.std.proofs.{Common.◌∙◌, Common.List, Common.All, Common.sym, Common.ap, Common.subst, lemmas.Result.IfOk-weaker}
 use Rattle.kp_vlog.specs.{declared.tree.Item.Item, declared.tree.Init.Init, declared.tree.Update.Update, Occurrences.start_in}
-use Rattle.kp_vread.specs.inner.{Nexts.AreNexts, Parts.RegFits, Parts.regs_by}
-use Rattle.kp_vread.proofs.Beside.{regs_same}
+use Rattle.kp_vread.{specs.inner.Nexts.AreNexts, specs.inner.Parts.RegFits, specs.inner.Parts.regs_by, proofs.Beside.regs_same}
 use Rattle.kp_vread.proofs.build.all_regs.Goals as goal
 
 pub regs-requires : goal.regs-requires

@@ -1,6 +1,5 @@
 use Rattle.std.proofs.Common.{◌∙◌, List, All, refl, sym, subst}
-use Rattle.kp_vlog.specs.{declared.tree.Item.Item, Scope.scope_of, Denote.made_by, Denote.net_of}
-use Rattle.kp_vlog.proofs.Sound.{holds}
+use Rattle.kp_vlog.{specs.declared.tree.Item.Item, specs.Scope.scope_of, specs.Denote.made_by, specs.Denote.net_of, proofs.Sound.holds}
 use Rattle.kp_vread.specs.inner.Building.{ItemFits, IsMade}
 use Rattle.kp_vread.proofs.{Fitting.narrow, Fitting.all_fit, Fitting.ext_fits, Fitting.samples_fit, Fitting.started, Whole.net_same, Whole.net_ok}
 use Rattle.kp_vread.proofs.build.build_by.Goals as goal

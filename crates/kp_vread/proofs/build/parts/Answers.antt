@@ -1,8 +1,6 @@
-use Rattle.std.proofs.Common.{◌∙◌, List, map, refl, ap}
-use Rattle.std.specs.Prelude.{codes}
+use Rattle.std.{proofs.Common.◌∙◌, proofs.Common.List, proofs.Common.map, proofs.Common.refl, proofs.Common.ap, specs.Prelude.codes}
 use Rattle.kp_vlog.specs.{declared.tree.Item.Item, declared.tree.VPort.VPort, Denote.sample_of}
-use Rattle.kp_vread.specs.inner.Parts.{output_by}
-use Rattle.kp_vread.proofs.Beside.{parts_same}
+use Rattle.kp_vread.{specs.inner.Parts.output_by, proofs.Beside.parts_same}
 use Rattle.kp_vread.proofs.build.parts.Goals as goal
 
 pub returns : goal.returns

@@ -1,7 +1,6 @@
 use Rattle.std.proofs.{Common.ℕ, Common.List, Common.subst, Common.arith, lemmas.List.take_all}
 use Rattle.kp_vlog.specs.{declared.tree.Item.Item, Scope.file_names}
-use Rattle.kp_vread.specs.inner.Numbering.{AreNumbered}
-use Rattle.kp_vread.proofs.Numbering.{more_files}
+use Rattle.kp_vread.{specs.inner.Numbering.AreNumbered, proofs.Numbering.more_files}
 use Rattle.kp_vread.proofs.numbers.number_files.Goals as goal
 
 pub loop-item-init : goal.loop-item-init

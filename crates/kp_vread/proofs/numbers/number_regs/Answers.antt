@@ -1,7 +1,6 @@
 use Rattle.std.proofs.{Common.ℕ, Common.List, Common.subst, Common.arith, lemmas.List.take_all}
 use Rattle.kp_vlog.specs.{declared.tree.Item.Item, Scope.reg_names}
-use Rattle.kp_vread.specs.inner.Numbering.{AreNumbered}
-use Rattle.kp_vread.proofs.Numbering.{more_regs}
+use Rattle.kp_vread.{specs.inner.Numbering.AreNumbered, proofs.Numbering.more_regs}
 use Rattle.kp_vread.proofs.numbers.number_regs.Goals as goal
 
 pub loop-item-init : goal.loop-item-init

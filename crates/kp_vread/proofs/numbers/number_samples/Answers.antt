@@ -1,7 +1,6 @@
 use Rattle.std.proofs.{Common.ℕ, Common.List, Common.map, Common.subst, Common.arith, lemmas.List.take_all}
 use Rattle.kp_vlog.specs.declared.tree.VPort.{VPort}
-use Rattle.kp_vread.specs.inner.Numbering.{AreNumbered}
-use Rattle.kp_vread.proofs.Numbering.{more_ports}
+use Rattle.kp_vread.{specs.inner.Numbering.AreNumbered, proofs.Numbering.more_ports}
 use Rattle.kp_vread.proofs.numbers.number_samples.Goals as goal
 
 pub loop-port-init : goal.loop-port-init

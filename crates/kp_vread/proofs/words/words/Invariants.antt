@@ -1,5 +1,4 @@
-use Rattle.std.proofs.Common.{◌≡◌, take, length}
-use Rattle.std.specs.Prelude.{replicate, fold}
+use Rattle.std.{proofs.Common.◌≡◌, proofs.Common.take, proofs.Common.length, specs.Prelude.replicate, specs.Prelude.fold}
 use Rattle.kp_vlog.specs.Denote.{word_init}
 use Rattle.kp_vread.proofs.words.words.Given as goal
 

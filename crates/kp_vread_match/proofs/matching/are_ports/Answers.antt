@@ -1,8 +1,7 @@
 use Rattle.std.proofs.{Common.◌≡◌, Common.◌∙◌, Common.List, Common.[], Common.drop, Common.ap, Common.sym, Common.arith, lemmas.List.drop_all}
 use Rattle.kp_ast.specs.declared.tree.Decl.{Decl}
 use Rattle.kp_machine.specs.Slots.{samples_of}
-use Rattle.kp_vread_match.specs.inner.Whole.{are_ports_of}
-use Rattle.kp_vread_match.proofs.Whole.{none_left}
+use Rattle.kp_vread_match.{specs.inner.Whole.are_ports_of, proofs.Whole.none_left}
 use Rattle.kp_vread_match.proofs.matching.are_ports.Goals as goal
 
 pub returns : goal.returns

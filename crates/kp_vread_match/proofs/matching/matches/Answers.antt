@@ -1,6 +1,5 @@
 use Rattle.std.proofs.{Common.◌≡◌, Common.true, Common.false, lemmas.Bool.Decides.not_from_Decides}
-use Rattle.kp_vread_match.specs.inner.Whole.{is_of_job}
-use Rattle.kp_vread_match.proofs.Whole.{is_found}
+use Rattle.kp_vread_match.{specs.inner.Whole.is_of_job, proofs.Whole.is_found}
 use Rattle.kp_vread_match.proofs.matching.matches.Goals as goal
 
 pub returns-then-is_of_job : goal.returns-then-is_of_job

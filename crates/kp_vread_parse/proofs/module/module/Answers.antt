@@ -1,6 +1,5 @@
 use Rattle.std.proofs.{Common.[], lemmas.Result.err_from_is_err_and}
-use Rattle.kp_vread_parse.specs.inner.Reading.{ModuleGoes}
-use Rattle.kp_vread_parse.proofs.Steps.{mapped, accepted}
+use Rattle.kp_vread_parse.{specs.inner.Reading.ModuleGoes, proofs.Steps.mapped, proofs.Steps.accepted}
 use Rattle.kp_vread_parse.proofs.module.module.Goals as goal
 
 pub returns-in_err-parsed : goal.returns-in_err-parsed

@@ -1,7 +1,6 @@
 use Rattle.std.proofs.Common.{◌≡◌, true}
 use Rattle.kp_vlog.specs.Rules.{driver_fits}
-use Rattle.kp_vread_rules.specs.inner.Roles.{role_of}
-use Rattle.kp_vread_rules.proofs.Drives.{turn}
+use Rattle.kp_vread_rules.{specs.inner.Roles.role_of, proofs.Drives.turn}
 use Rattle.kp_vread_rules.proofs.driver_rule.check_drivers.Goals as goal
 
 pub loop-occurrence-preserved : goal.loop-occurrence-preserved

@@ -1,7 +1,6 @@
 use Rattle.std.proofs.Common.{◌≡◌, true}
 use Rattle.kp_vlog.specs.Rules.{name_fits}
-use Rattle.kp_vread_rules.specs.inner.Roles.{role_of}
-use Rattle.kp_vread_rules.proofs.Turns.{turn}
+use Rattle.kp_vread_rules.{specs.inner.Roles.role_of, proofs.Turns.turn}
 use Rattle.kp_vread_rules.proofs.name_rule.check_list.Goals as goal
 
 pub loop-occurrence-preserved : goal.loop-occurrence-preserved

@@ -1,7 +1,6 @@
 use Rattle.std.proofs.Common.{◌∙◌, [], ap}
 use Rattle.kp_base.specs.First.{first}
-use Rattle.kp_vlog.specs.Occurrences.{names}
-use Rattle.kp_vlog.proofs.Scans.{names_fit}
+use Rattle.kp_vlog.{specs.Occurrences.names, proofs.Scans.names_fit}
 use Rattle.kp_vread_widths.proofs.Sizing.{width_same}
 use Rattle.kp_vread_widths.proofs.width_rule.bad_width.Goals as goal
 

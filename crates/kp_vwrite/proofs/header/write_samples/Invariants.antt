@@ -1,6 +1,5 @@
 use Rattle.std.proofs.Common.{◌≤◌, drop}
-use Rattle.kp_vwrite.specs.inner.Texts.{samples_text}
-use Rattle.kp_vwrite.proofs.Passing.{PassedUpTo}
+use Rattle.kp_vwrite.{specs.inner.Texts.samples_text, proofs.Passing.PassedUpTo}
 use Rattle.kp_vwrite.proofs.header.write_samples.Given as goal
 
 abbrev pub invariant-loop-port : goal.invariant-loop-port

@@ -1,6 +1,5 @@
 use Rattle.std.proofs.lemmas.Result.{err_from_is_err_and}
-use Rattle.kp_vwrite.specs.inner.Texts.{node_text}
-use Rattle.kp_vwrite.proofs.Passing.{sends_next, stops_next, stops_more}
+use Rattle.kp_vwrite.{specs.inner.Texts.node_text, proofs.Passing.sends_next, proofs.Passing.stops_next, proofs.Passing.stops_more}
 use Rattle.kp_vwrite.proofs.nodes.write_node.Goals as goal
 
 pub returns-in_err-write_front-clause-text : goal.returns-in_err-write_front-clause-text

@@ -1,6 +1,5 @@
 use Rattle.std.proofs.Common.{◌≤◌, drop}
-use Rattle.kp_vwrite.specs.inner.Texts.{nodes_text}
-use Rattle.kp_vwrite.proofs.Passing.{PassedUpTo}
+use Rattle.kp_vwrite.{specs.inner.Texts.nodes_text, proofs.Passing.PassedUpTo}
 use Rattle.kp_vwrite.proofs.nodes.write_nodes.Given as goal
 
 abbrev pub invariant-loop-number : goal.invariant-loop-number

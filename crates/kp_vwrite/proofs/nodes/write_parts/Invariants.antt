@@ -1,6 +1,5 @@
 use Rattle.std.proofs.Common.{◌≤◌, drop}
-use Rattle.kp_vwrite.specs.inner.Texts.{parts_text}
-use Rattle.kp_vwrite.proofs.Passing.{PassedUpTo}
+use Rattle.kp_vwrite.{specs.inner.Texts.parts_text, proofs.Passing.PassedUpTo}
 use Rattle.kp_vwrite.proofs.nodes.write_parts.Given as goal
 
 abbrev pub invariant-loop-part : goal.invariant-loop-part

@@ -1,6 +1,5 @@
 use Rattle.std.proofs.lemmas.Result.{err_from_is_err_and}
-use Rattle.kp_vwrite.specs.inner.Texts.{port_text}
-use Rattle.kp_vwrite.proofs.Passing.{sends_next, stops_more}
+use Rattle.kp_vwrite.{specs.inner.Texts.port_text, proofs.Passing.sends_next, proofs.Passing.stops_more}
 use Rattle.kp_vwrite.proofs.state.write_port.Goals as goal
 
 pub returns-in_err-write_enable-in-Some-clause-text : goal.returns-in_err-write_enable-in-Some-clause-text

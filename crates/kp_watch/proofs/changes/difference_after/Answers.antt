@@ -1,9 +1,8 @@
 use Rattle.std.proofs.Common.{◌<◌, arith, length}
 use Rattle.kp_machine.specs.Slots.{targets_of}
 use Rattle.kp_synth_spec.specs.Naming.{value_shown}
-use Rattle.kp_watch.specs.inner.Machines.{due_by}
+use Rattle.kp_watch.{specs.inner.Machines.due_by, proofs.Comparing.target_more, proofs.Comparing.first_in}
 use Rattle.kp_run.proofs.Placing.{few_targets, as_many}
-use Rattle.kp_watch.proofs.Comparing.{target_more, first_in}
 use Rattle.kp_watch.proofs.changes.difference_after.Goals as goal
 
 pub overflow_cast-t : goal.overflow_cast-t

@@ -1,8 +1,7 @@
 use Rattle.std.proofs.Common.{Option, sym, subst}
 use Rattle.kp_seq.specs.Running.{state}
 use Rattle.kp_synth_spec.specs.Naming.{value_shown}
-use Rattle.kp_watch.specs.{declared.compare.Difference.Difference, inner.Comparing.ComparesTarget}
-use Rattle.kp_watch.proofs.Comparing.{lower_first}
+use Rattle.kp_watch.{specs.declared.compare.Difference.Difference, specs.inner.Comparing.ComparesTarget, proofs.Comparing.lower_first}
 use Rattle.kp_watch.proofs.changes.difference_among.Goals as goal
 
 pub returns : goal.returns

@@ -4,8 +4,7 @@ use Rattle.kp_machine.specs.Slots.{targets_of}
 use Rattle.kp_seq.specs.Running.{state, target}
 use Rattle.kp_synth_spec.specs.Shows.{IsOfJob}
 use Rattle.kp_run.specs.Places.{place_in}
-use Rattle.kp_watch.specs.inner.{Changes.noted_at, Machines.due_by}
-use Rattle.kp_watch.proofs.Comparing.{target_alike}
+use Rattle.kp_watch.{specs.inner.Changes.noted_at, specs.inner.Machines.due_by, proofs.Comparing.target_alike}
 use Rattle.kp_watch.proofs.Targets.{place_is, home_is, number_is, machine_is, record_is, file_noted, wrote_fits, agree_here}
 use Rattle.kp_watch.proofs.changes.difference_for.Goals as goal
 

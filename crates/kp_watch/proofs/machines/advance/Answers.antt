@@ -4,12 +4,11 @@ use Rattle.kp_base.specs.declared.row.Row.{Row}
 use Rattle.kp_bits.specs.Word.{Word}
 use Rattle.kp_pipeline.specs.{Rows.bit, Rows.bits, Rows.passed, Sequential.exec}
 use Rattle.kp_machine.specs.Machine.{machine_of, values_in}
-use Rattle.kp_run.specs.Columns.{Taken, word_taken}
-use Rattle.kp_run.proofs.Prefixes.{passed_before}
+use Rattle.kp_run.{specs.Columns.Taken, specs.Columns.word_taken, proofs.Prefixes.passed_before}
 use Rattle.kp_sched.specs.Rows.{bit_of, rows_seen}
 use Rattle.kp_seq.specs.{Running.state, Recorded.record_of}
 use Rattle.kp_watch.specs.inner.Machines.{given, HaveRunFirst}
-use Rattle.kp_watch.proofs.{Lanes.first_begin, Lanes.first_moves, Lanes.first_stays, Lanes.first_end, Lanes.still}
+use Rattle.kp_watch.proofs.Lanes.{first_begin, first_moves, first_stays, first_end, still}
 use Rattle.kp_watch.proofs.machines.advance.Goals.{then-moves, else-moves}
 use Rattle.kp_watch.proofs.machines.advance.Goals as goal
 

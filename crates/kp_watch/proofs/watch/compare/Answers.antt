@@ -2,8 +2,7 @@ use Rattle.std.proofs.Common.{◌≡◌, ◌+◌, ◌<◌, ◌≤◌, ℕ, ap, s
 use Rattle.std.specs.Prelude.{MatchOption}
 use Rattle.kp_cycle.specs.Steps.{Running}
 use Rattle.kp_net.specs.Netlist.{Net, run}
-use Rattle.kp_run.specs.Cycles.{inputs_to}
-use Rattle.kp_run.proofs.{Gathering.rows_fit_taken, Given.rows_given}
+use Rattle.kp_run.{specs.Cycles.inputs_to, proofs.Gathering.rows_fit_taken, proofs.Given.rows_given}
 use Rattle.kp_watch.specs.inner.{Beside.HaveCome, Changes.AreNoted}
 use Rattle.kp_watch.proofs.Whole.{AgreeTo, agrees, comparable, state_agrees, state_differs}
 use Rattle.kp_watch.proofs.watch.compare.Goals as goal

@@ -1,5 +1,4 @@
-use Rattle.std.proofs.Common.{◌≡◌, ◌+◌, ◌<◌, ◌≤◌, ℕ}
-use Rattle.std.specs.Prelude.{vec_capacity}
+use Rattle.std.{proofs.Common.◌≡◌, proofs.Common.◌+◌, proofs.Common.◌<◌, proofs.Common.◌≤◌, proofs.Common.ℕ, specs.Prelude.vec_capacity}
 use Rattle.kp_seq.specs.Running.{HasWord}
 use Rattle.kp_watch.specs.{Watching.own_trace, Watching.own_due, inner.Beside.HaveCome}
 use Rattle.kp_watch.proofs.watch.compare.Given as goal

@@ -1,5 +1,4 @@
-use Rattle.std.proofs.Common.{◌≡◌, ◌+◌, drop}
-use Rattle.std.specs.Prelude.{sum_by}
+use Rattle.std.{proofs.Common.◌≡◌, proofs.Common.◌+◌, proofs.Common.drop, specs.Prelude.sum_by}
 use Rattle.kp_width.specs.Declarations.{declarations_of, functions_in}
 use Rattle.kp_width.proofs.declarations.add_decls.Given as goal
 

@@ -1,6 +1,5 @@
 use Rattle.std.proofs.Common.{◌∙◌, ◌+◌, sym, ap, map, drop, arith}
-use Rattle.kp_width.specs.Expressions.{part_of, sum_of}
-use Rattle.kp_width.proofs.Sums.{sum_turn}
+use Rattle.kp_width.{specs.Expressions.part_of, specs.Expressions.sum_of, proofs.Sums.sum_turn}
 use Rattle.kp_width.proofs.expressions.+width.Goals as goal
 
 pub sum-loop-e-preserved : goal.sum-loop-e-preserved

@@ -1,6 +1,5 @@
 use Rattle.std.proofs.Common.{◌≡◌, ◌∙◌, ℕ, ◌+◌, ◌-◌, List, drop, refl, ap, sym, subst, arith}
-use Rattle.kp_build.specs.Names.{Scope, node_of}
-use Rattle.kp_build.proofs.Names.{bound_more, given}
+use Rattle.kp_build.{specs.Names.Scope, specs.Names.node_of, proofs.Names.bound_more, proofs.Names.given}
 use Rattle.kp_build.proofs.env.Env.of_call.Goals as goal
 
 pub loop-i-preserved : goal.loop-i-preserved

@@ -1,6 +1,5 @@
 use Rattle.std.proofs.Common.{◌≡◌, ℕ, List, drop}
-use Rattle.kp_build.specs.Names.{node_of}
-use Rattle.kp_build.proofs.Names.{given}
+use Rattle.kp_build.{specs.Names.node_of, proofs.Names.given}
 use Rattle.kp_build.proofs.env.Env.of_call.Given as goal
 
 abbrev pub invariant-loop-i : goal.invariant-loop-i

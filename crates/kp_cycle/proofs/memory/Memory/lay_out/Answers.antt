@@ -1,7 +1,7 @@
 use Rattle.std.proofs.Common.{◌≡◌, ◌+◌, ◌^◌, ◌<◌, ◌≤◌, ℕ, List, ◌∷◌, length, get_or, map, take, zero, suc, refl, All, subst, sym, ap, ◌∙◌, arith, Result}
 use Rattle.std.proofs.lemmas.{List.Elements.All-get_or, List.Elements.All-push, List.Sums.sum_by_more, List.Sums.sum_by_more_le, Nat.pow_pos}
-use Rattle.std.proofs.{lemmas.List.length-replicate, lemmas.List.get_or-replicate, Math.Seq.take-length}
-use Rattle.std.specs.{Prelude.IfOk, Prelude.OnOk, List.sum_by}
+use Rattle.std.{proofs.lemmas.List.length-replicate, proofs.lemmas.List.get_or-replicate, proofs.Math.Seq.take-length, specs.Prelude.IfOk, specs.Prelude.OnOk}
+use Rattle.std.specs.List.{sum_by}
 use Rattle.kp_net.specs.{declared.netlist.NetFile.NetFile, declared.netlist.Parts.Parts, Widths.wide}
 use Rattle.kp_region.specs.{declared.span.Span.Span, declared.region.Full.Full, Words.Words, Words.IsSound, Words.next_span, Words.carved}
 use Rattle.kp_cycle.specs.inner.Spans.{Laid, first_span, no_span}

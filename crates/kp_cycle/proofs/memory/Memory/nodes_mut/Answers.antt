@@ -1,7 +1,6 @@
 use Rattle.std.proofs.Common.{ℕ, ◌++◌, length, map, take, drop, refl, ap, ◌∙◌}
 use Rattle.std.specs.List.{refill}
-use Rattle.kp_cycle.specs.inner.{Spans.first_span, Spans.held, Storage.Stored}
-use Rattle.kp_cycle.proofs.Spans.{stored_in}
+use Rattle.kp_cycle.{specs.inner.Spans.first_span, specs.inner.Spans.held, specs.inner.Storage.Stored, proofs.Spans.stored_in}
 use Rattle.kp_cycle.proofs.memory.Memory.nodes_mut.Goals as goal
 
 pub returns : goal.returns

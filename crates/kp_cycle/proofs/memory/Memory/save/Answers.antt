@@ -1,6 +1,6 @@
 use Rattle.std.proofs.Common.{◌<◌, List, Some, length, map, set, sym, ap, ◌∙◌, arith}
-use Rattle.kp_cycle.specs.inner.{Spans.first_span, Storage.Stored, Storage.state_of}
-use Rattle.kp_cycle.proofs.{Spans.other_way, Storing.slot_there, Storing.slot_size, Storing.slot_inside, Storing.slot_beside, Storing.laid_marked, Storing.view_marked}
+use Rattle.kp_cycle.{specs.inner.Spans.first_span, specs.inner.Storage.Stored, specs.inner.Storage.state_of, proofs.Spans.other_way}
+use Rattle.kp_cycle.proofs.Storing.{slot_there, slot_size, slot_inside, slot_beside, laid_marked, view_marked}
 use Rattle.kp_cycle.proofs.memory.Memory.save.Goals as goal
 
 pub copy-requires-clause-same_length : goal.copy-requires-clause-same_length

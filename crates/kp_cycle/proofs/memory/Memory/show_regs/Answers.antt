@@ -1,8 +1,7 @@
 use Rattle.std.proofs.Common.{◌≡◌, ℕ, ◌++◌, List, length, map, take, drop, ap, ◌∙◌, arith}
 use Rattle.std.proofs.lemmas.List.{with_items_is}
 use Rattle.kp_region.specs.Words.{span_words}
-use Rattle.kp_cycle.specs.inner.{Spans.first_span, Spans.held, Storage.Stored}
-use Rattle.kp_cycle.proofs.Spans.{stored_in}
+use Rattle.kp_cycle.{specs.inner.Spans.first_span, specs.inner.Spans.held, specs.inner.Storage.Stored, proofs.Spans.stored_in}
 use Rattle.kp_cycle.proofs.memory.Memory.show_regs.Goals as goal
 
 pub words-regs-requires : goal.words-regs-requires

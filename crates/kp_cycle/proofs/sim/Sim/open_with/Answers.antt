@@ -1,6 +1,5 @@
 use Rattle.std.proofs.Common.{List, subst, ◌∙◌}
-use Rattle.kp_cycle.specs.{declared.codes.Step.Step, inner.Plans.AreFixed}
-use Rattle.kp_cycle.proofs.{Copies.none_saved, Reached.start_fits}
+use Rattle.kp_cycle.{specs.declared.codes.Step.Step, specs.inner.Plans.AreFixed, proofs.Copies.none_saved, proofs.Reached.start_fits}
 use Rattle.kp_cycle.proofs.sim.Sim.open_with.Goals as goal
 
 pub invariant_of-result : goal.invariant_of-result

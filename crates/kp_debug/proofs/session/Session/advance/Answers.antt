@@ -1,7 +1,6 @@
 use Rattle.std.proofs.Common.{◌≡◌, ◌<◌, ℕ, length, ap, ◌∙◌, arith}
 use Rattle.kp_cycle.specs.Steps.{Running}
-use Rattle.kp_debug.specs.Sessions.{Debugged}
-use Rattle.kp_debug.proofs.{Feeding.inputs_many, Standing.gone_on, Standing.session_more, Standing.session_kept}
+use Rattle.kp_debug.{specs.Sessions.Debugged, proofs.Feeding.inputs_many, proofs.Standing.gone_on, proofs.Standing.session_more, proofs.Standing.session_kept}
 use Rattle.kp_debug.proofs.session.Session.advance.Goals as goal
 
 pub run_one-requires-clause-there : goal.run_one-requires-clause-there

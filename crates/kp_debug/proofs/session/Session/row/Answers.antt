@@ -2,8 +2,8 @@ use Rattle.std.proofs.Common.{◌≡◌, ◌<◌, ◌≤◌, ℕ, List, length, 
 use Rattle.kp_base.specs.declared.row.Row.{Row}
 use Rattle.kp_net.specs.Netlist.{Input, State, row_of, last_of}
 use Rattle.kp_cycle.specs.Steps.{Running}
-use Rattle.kp_debug.specs.{Sessions.inputs_of, Sessions.row_there, inner.Kept.no_input}
-use Rattle.kp_debug.proofs.{Feeding.inputs_many, Passing.row_at_cycle, Passing.no_row_at_end, Standing.ins}
+use Rattle.kp_debug.{specs.Sessions.inputs_of, specs.Sessions.row_there, specs.inner.Kept.no_input, proofs.Feeding.inputs_many}
+use Rattle.kp_debug.proofs.{Passing.row_at_cycle, Passing.no_row_at_end, Standing.ins}
 use Rattle.kp_debug.proofs.session.Session.row.Goals as goal
 
 pub returns-then-self-len-clause-row : goal.returns-then-self-len-clause-row

@@ -1,6 +1,5 @@
 use Rattle.std.proofs.Common.{◌≡◌, ◌+◌, ◌≤◌, ℕ, length, min, ap, ◌∙◌, arith}
-use Rattle.kp_debug.specs.Sessions.{Debugged}
-use Rattle.kp_debug.proofs.Feeding.{inputs_many}
+use Rattle.kp_debug.{specs.Sessions.Debugged, proofs.Feeding.inputs_many}
 use Rattle.kp_debug.proofs.session.Session.step.Goals as goal
 
 pub loop-init : goal.loop-init

@@ -1,8 +1,7 @@
 use Rattle.std.proofs.Common.{[], ap, ◌∙◌}
 use Rattle.kp_net.specs.Netlist.{State}
 use Rattle.kp_cycle.specs.Steps.{word_shown}
-use Rattle.kp_debug.specs.Sessions.{Debugged, shown}
-use Rattle.kp_debug.proofs.Standing.{stands}
+use Rattle.kp_debug.{specs.Sessions.Debugged, specs.Sessions.shown, proofs.Standing.stands}
 use Rattle.kp_debug.proofs.session.Session.word.Goals as goal
 
 pub returns : goal.returns

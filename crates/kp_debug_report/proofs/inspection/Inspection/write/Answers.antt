@@ -1,5 +1,4 @@
-use Rattle.std.proofs.Common.{◌≡◌, ℕ, List, sym, subst}
-use Rattle.std.specs.Prelude.{OnOk}
+use Rattle.std.{proofs.Common.◌≡◌, proofs.Common.ℕ, proofs.Common.List, proofs.Common.sym, proofs.Common.subst, specs.Prelude.OnOk}
 use Rattle.kp_base.specs.Bytes.{Writes}
 use Rattle.kp_debug_report.specs.Inspecting.{Inspected, all_cycles, whole_run, printed, ends_in, AreOfJob}
 use Rattle.kp_debug_report.proofs.Alike.{text_is}

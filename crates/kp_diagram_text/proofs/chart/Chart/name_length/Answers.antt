@@ -1,6 +1,5 @@
 use Rattle.std.proofs.Common.{arith}
-use Rattle.kp_diagram_text.specs.Charts.{names_of}
-use Rattle.kp_diagram_text.proofs.Names.{short_name}
+use Rattle.kp_diagram_text.{specs.Charts.names_of, proofs.Names.short_name}
 use Rattle.kp_diagram_text.proofs.chart.Chart.name_length.Goals as goal
 
 pub returns-clause-few : goal.returns-clause-few

@@ -1,5 +1,4 @@
-use Rattle.std.proofs.Common.{List, ℕ, ap, ◌∙◌}
-use Rattle.std.specs.List.{position}
+use Rattle.std.{proofs.Common.List, proofs.Common.ℕ, proofs.Common.ap, proofs.Common.◌∙◌, specs.List.position}
 use Rattle.kp_net.specs.Names.{same}
 use Rattle.kp_equiv_classes.proofs.Naming.{placed}
 use Rattle.kp_equiv_classes.proofs.names.Names.find.Goals as goal

@@ -1,7 +1,6 @@
 use Rattle.std.proofs.Common.{◌≡◌, ◌≤◌, ◌+◌, List, length, subst, ap, arith}
 use Rattle.kp_net.specs.declared.node.Node.{Node}
-use Rattle.kp_equiv_classes.specs.inner.Shapes.{Extends}
-use Rattle.kp_equiv_classes.proofs.Tables.{put}
+use Rattle.kp_equiv_classes.{specs.inner.Shapes.Extends, proofs.Tables.put}
 use Rattle.kp_equiv_classes.proofs.table.Table.number.Goals as goal
 
 pub overflow_cast-result : goal.overflow_cast-result

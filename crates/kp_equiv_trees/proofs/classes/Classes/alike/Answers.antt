@@ -1,7 +1,6 @@
 use Rattle.std.proofs.Common.{List, ap, ◌∙◌}
 use Rattle.kp_net.specs.declared.node.NodeId.{NodeId}
-use Rattle.kp_equiv_trees.specs.Classes.{class_in}
-use Rattle.kp_equiv_trees.proofs.Determined.{alike_found}
+use Rattle.kp_equiv_trees.{specs.Classes.class_in, proofs.Determined.alike_found}
 use Rattle.kp_equiv_trees.proofs.classes.Classes.alike.Goals as goal
 
 pub returns : goal.returns

@@ -1,6 +1,5 @@
 use Rattle.std.proofs.Common.{◌∙◌, arith}
-use Rattle.kp_image.specs.Spans.{some_stalls}
-use Rattle.kp_image.proofs.Loops.{word_same}
+use Rattle.kp_image.{specs.Spans.some_stalls, proofs.Loops.word_same}
 use Rattle.kp_image.proofs.stalls.StallPattern.word.Goals as goal
 
 pub returns : goal.returns

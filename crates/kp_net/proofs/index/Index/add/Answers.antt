@@ -1,6 +1,5 @@
 use Rattle.std.proofs.Common.{◌≡◌, ◌⊎◌, ◌++◌, ◌∷◌, [], List, length, sym, subst}
-use Rattle.kp_net.specs.{declared.node.Node.Node, inner.Lookup.LacksBelow}
-use Rattle.kp_net.proofs.Found.{inserted}
+use Rattle.kp_net.{specs.declared.node.Node.Node, specs.inner.Lookup.LacksBelow, proofs.Found.inserted}
 use Rattle.kp_net.proofs.index.Index.add.Goals as goal
 
 pub returns : goal.returns

@@ -1,7 +1,5 @@
-use Rattle.std.proofs.Common.{List, ap, ◌∙◌}
-use Rattle.std.specs.List.{position}
-use Rattle.kp_net.specs.declared.node.Node.{Node}
-use Rattle.kp_net.proofs.Found.{is, placed}
+use Rattle.std.{proofs.Common.List, proofs.Common.ap, proofs.Common.◌∙◌, specs.List.position}
+use Rattle.kp_net.{specs.declared.node.Node.Node, proofs.Found.is, proofs.Found.placed}
 use Rattle.kp_net.proofs.index.Index.number.Goals as goal
 
 pub returns : goal.returns

@@ -1,6 +1,5 @@
 use Rattle.std.proofs.Common.{◌≡◌, List, ap, sym, subst, ◌∙◌}
-use Rattle.kp_net.specs.{declared.node.Node.Node, Widths.AllRight, Growth.Held, inner.Folds.StandsFor}
-use Rattle.kp_net.proofs.Exact.{node_whole}
+use Rattle.kp_net.{specs.declared.node.Node.Node, specs.Widths.AllRight, specs.Growth.Held, specs.inner.Folds.StandsFor, proofs.Exact.node_whole}
 use Rattle.kp_net.proofs.pool.Pool.node.Goals as goal
 
 pub returns-in-There-clause-value : goal.returns-in-There-clause-value

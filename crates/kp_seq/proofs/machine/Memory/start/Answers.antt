@@ -1,5 +1,4 @@
-use Rattle.std.proofs.Common.{ap, ◌∙◌}
-use Rattle.std.specs.Prelude.{List}
+use Rattle.std.{proofs.Common.ap, proofs.Common.◌∙◌, specs.Prelude.List}
 use Rattle.kp_ast.specs.declared.tree.{Job.Job, Decl.Decl}
 use Rattle.kp_stage.specs.declared.counts.Summary.{Summary}
 use Rattle.kp_machine.specs.Slots.{targets_of, pipes_of}

@@ -1,7 +1,6 @@
 use Rattle.std.proofs.{Common.◌<◌, Common.[], Common.length, Common.refl, Common.ap, Common.sym, Common.◌∙◌, Common.arith, lemmas.List.get_or-map}
 use Rattle.std.specs.{Prelude.ℕ, Prelude.Vec, declared.alloc.Global.Global}
-use Rattle.kp_seq.specs.inner.Steps.{with_word}
-use Rattle.kp_seq.proofs.Stored.{word_stored}
+use Rattle.kp_seq.{specs.inner.Steps.with_word, proofs.Stored.word_stored}
 use Rattle.kp_seq.proofs.words.Words.set_word.Goals as goal
 
 pub returns : goal.returns

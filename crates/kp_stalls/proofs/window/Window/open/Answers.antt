@@ -1,7 +1,6 @@
 use Rattle.std.proofs.Common.{◌∙◌, ap}
 use Rattle.kp_stage.specs.declared.start.Start.{Start}
-use Rattle.kp_machine.specs.Machine.{state_of}
-use Rattle.kp_machine.proofs.Stages.{stages_inside}
+use Rattle.kp_machine.{specs.Machine.state_of, proofs.Stages.stages_inside}
 use Rattle.kp_stalls.proofs.Windows.{follows_first, kept_first}
 use Rattle.kp_stalls.proofs.window.Window.open.Goals as goal
 

@@ -1,6 +1,6 @@
 use Rattle.std.proofs.Common.{◌≡◌, true, ◌∙◌, sym, ap, subst, inl, inr, true≢false, string_bytes}
-use Rattle.clap.specs.{Kinds.IsAmong, Values.kind_of, Simple.App, Simple.subcommand_of, Faults.fault_of, Faults.is_simple_and_free, Words.is_simple}
 use Rattle.std.specs.Prelude.{map}
+use Rattle.clap.specs.{Kinds.IsAmong, Values.kind_of, Simple.App, Simple.subcommand_of, Faults.fault_of, Faults.is_simple_and_free, Words.is_simple}
 use Rattle.clap.proofs.WalkLemmas.{list_any-map}
 use Rattle.kp_tool_words.specs.{Words.is_barred, inner.Matching.command_of_rows, inner.Matching.known_forms}
 use Rattle.kp_tool_words.proofs.Matching.{matched, unmatched, barred_none}

@@ -1,8 +1,6 @@
 use Rattle.std.proofs.Common.{◌∙◌, ap, ap₂, codes}
-use Rattle.clap.specs.Matches.{found_of}
-use Rattle.clap.proofs.WalkLemmas.{first_value-rows}
-use Rattle.kp_tool_words.specs.inner.Matching.{command_by, command_of_rows}
-use Rattle.kp_tool_words.proofs.Matching.{rows_read}
+use Rattle.clap.{specs.Matches.found_of, proofs.WalkLemmas.first_value-rows}
+use Rattle.kp_tool_words.{specs.inner.Matching.command_by, specs.inner.Matching.command_of_rows, proofs.Matching.rows_read}
 use Rattle.kp_tool_words.proofs.words.Command.of_matches.Goals as goal
 
 pub returns : goal.returns

@@ -1,6 +1,5 @@
 use Rattle.std.proofs.Common.{◌∙◌, ◌+◌, Bool, List, ◌++◌, sym, ap, true, false, append-nil, drop, length, arith, rules}
-use Rattle.std.proofs.Output.{has_written_append, has_written_of_eq, has_written_to_eq}
-use Rattle.std.specs.declared.option.Option.{Option}
+use Rattle.std.{proofs.Output.has_written_append, proofs.Output.has_written_of_eq, proofs.Output.has_written_to_eq, specs.declared.option.Option.Option}
 use Rattle.kp_view_expected.specs.{declared.display.Group.Group, declared.display.Thing.Thing, GoesOn.all_classes}
 use Rattle.kp_view_expected.specs.Texts.{before_these, expected_text, joined, thing_text, things, things_of}
 use Rattle.kp_view_expected.proofs.Listing.{listed_from, none_from, one_fewer, written_more}

@@ -1,5 +1,4 @@
-use Rattle.std.proofs.Common.{subst, sym}
-use Rattle.std.specs.Str.{IsUtf8}
+use Rattle.std.{proofs.Common.subst, proofs.Common.sym, specs.Str.IsUtf8}
 use Rattle.kp_view_expected.proofs.Listing.{keyword_is_text}
 use Rattle.kp_view_expected.proofs.display.TokenClassDisplay.fmt.Goals as goal
 

@@ -1,6 +1,5 @@
 use Rattle.std.proofs.Common.{◌≡◌, [], map, drop}
-use Rattle.kp_view_expected.specs.inner.Plain.{number, plain_symbol}
-use Rattle.kp_view_expected.proofs.{Tests.choose_or, Machine.seen}
+use Rattle.kp_view_expected.{specs.inner.Plain.number, specs.inner.Plain.plain_symbol, proofs.Tests.choose_or, proofs.Machine.seen}
 use Rattle.kp_view_expected.proofs.part.Part.body.Given as goal
 
 abbrev pub invariant-loop-one : goal.invariant-loop-one

@@ -1,5 +1,4 @@
-use Rattle.kp_view_expected.specs.inner.Plain.{stack, Opens}
-use Rattle.kp_view_expected.proofs.Tests.{work}
+use Rattle.kp_view_expected.{specs.inner.Plain.stack, specs.inner.Plain.Opens, proofs.Tests.work}
 use Rattle.kp_view_expected.proofs.rest.Rest.read.Given as goal
 
 abbrev pub invariant-parts : goal.invariant-parts

@@ -1,5 +1,4 @@
-use Rattle.std.proofs.Common.{ℕ, ◌≡◌, ◌<◌, Some, true}
-use Rattle.std.specs.Prelude.{slice_get}
+use Rattle.std.{proofs.Common.ℕ, proofs.Common.◌≡◌, proofs.Common.◌<◌, proofs.Common.Some, proofs.Common.true, specs.Prelude.slice_get}
 use Rattle.kp_view_expected.specs.GoesOn.{all_classes}
 use Rattle.kp_view_expected.proofs.set.Expected.has.Given as goal
 

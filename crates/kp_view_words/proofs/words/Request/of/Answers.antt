@@ -1,7 +1,6 @@
 use Rattle.std.proofs.Common.{◌∙◌, sym, ap, map, option_map, Some, None, string_bytes}
 use Rattle.clap.proofs.WalkLemmas.{list_any-map}
-use Rattle.kp_view_words.specs.{Asked.task_seen, Words.bad_words, Words.is_version_flag}
-use Rattle.kp_view_words.proofs.Rests.{asked_task, asked_version}
+use Rattle.kp_view_words.{specs.Asked.task_seen, specs.Words.bad_words, specs.Words.is_version_flag, proofs.Rests.asked_task, proofs.Rests.asked_version}
 use Rattle.kp_view_words.proofs.words.Request.of.Goals as goal
 
 pub returns-then-has_version_flag : goal.returns-then-has_version_flag

@@ -2,8 +2,7 @@ use Rattle.std.proofs.Common.{◌≡◌, ◌+◌, ◌-◌, ℕ, [], List, drop, 
 use Rattle.std.proofs.lemmas.List.{drop_all}
 use Rattle.kp_net.specs.declared.node.NodeId.{NodeId}
 use Rattle.kp_vlog.specs.declared.tree.Update.{Update}
-use Rattle.kp_vread.specs.inner.Nexts.{AreNexts}
-use Rattle.kp_vread.proofs.Updating.{no_nexts, one_before}
+use Rattle.kp_vread.{specs.inner.Nexts.AreNexts, proofs.Updating.no_nexts, proofs.Updating.one_before}
 use Rattle.kp_vread.proofs.nexts.Nexts.new.Goals as goal
 
 pub updates-init : goal.updates-init

@@ -2,8 +2,7 @@ use Rattle.std.proofs.Common.{◌∙◌, ◌∷◌, ℕ, List, cond, Some, sym, 
 use Rattle.std.specs.Map.{lookup}
 use Rattle.kp_net.specs.{declared.node.NodeId.NodeId, Names.same}
 use Rattle.kp_vlog.specs.declared.tree.Update.{Update}
-use Rattle.kp_vread.specs.inner.{Building.node_by, Nexts.AreNexts}
-use Rattle.kp_vread.proofs.Updating.{reg_next}
+use Rattle.kp_vread.{specs.inner.Building.node_by, specs.inner.Nexts.AreNexts, proofs.Updating.reg_next}
 use Rattle.kp_vread.proofs.nexts.Nexts.put.Goals as goal
 
 pub returns-in_ok-insert-in-Reg : goal.returns-in_ok-insert-in-Reg

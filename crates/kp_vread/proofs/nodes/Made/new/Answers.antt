@@ -1,7 +1,6 @@
 use Rattle.std.proofs.{Common.List, Common.subst, Common.arith, lemmas.List.take_all}
 use Rattle.kp_vlog.specs.{declared.tree.Item.Item, Denote.Made, Denote.made_by}
-use Rattle.kp_vread.specs.inner.Building.{IsMade}
-use Rattle.kp_vread.proofs.Making.{one_item}
+use Rattle.kp_vread.{specs.inner.Building.IsMade, proofs.Making.one_item}
 use Rattle.kp_vread.proofs.nodes.Made.new.Goals as goal
 
 pub loop-item-preserved : goal.loop-item-preserved

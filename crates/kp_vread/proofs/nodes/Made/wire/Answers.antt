@@ -1,7 +1,6 @@
 use Rattle.std.proofs.Common.{◌≡◌, ◌∙◌, ap, arith}
 use Rattle.kp_vlog.specs.Scope.{width_in}
-use Rattle.kp_vread.specs.inner.Building.{Numbers}
-use Rattle.kp_vread.proofs.Making.{wire_made}
+use Rattle.kp_vread.{specs.inner.Building.Numbers, proofs.Making.wire_made}
 use Rattle.kp_vread.proofs.nodes.Made.wire.Goals as goal
 
 pub overflow_cast-width : goal.overflow_cast-width

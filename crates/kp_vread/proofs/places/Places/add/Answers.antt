@@ -1,8 +1,7 @@
 use Rattle.std.proofs.Common.{◌≡◌, ◌∙◌, ◌+◌, ℕ, List, cond, Some, None, sym, ap}
 use Rattle.std.specs.{Option.is_some, Map.lookup}
 use Rattle.kp_net.specs.Names.{same}
-use Rattle.kp_vread.specs.inner.Numbering.{Numbered}
-use Rattle.kp_vread.proofs.Numbering.{numbered_again, numbered_new}
+use Rattle.kp_vread.{specs.inner.Numbering.Numbered, proofs.Numbering.numbered_again, proofs.Numbering.numbered_new}
 use Rattle.kp_vread.proofs.places.Places.add.Goals as goal
 
 pub returns-in-Some-clause-numbered : goal.returns-in-Some-clause-numbered

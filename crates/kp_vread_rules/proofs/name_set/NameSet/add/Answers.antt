@@ -1,6 +1,5 @@
 use Rattle.std.proofs.Common.{subst}
-use Rattle.kp_vread_rules.specs.inner.Sets.{Adds}
-use Rattle.kp_vread_rules.proofs.Sets.{adds}
+use Rattle.kp_vread_rules.{specs.inner.Sets.Adds, proofs.Sets.adds}
 use Rattle.kp_vread_rules.proofs.name_set.NameSet.add.Goals as goal
 
 pub returns : goal.returns

@@ -1,8 +1,7 @@
 use Rattle.std.proofs.Common.{◌≡◌, ◌+◌, ◌-◌, ◌++◌, ℕ, List, drop, length, sym, subst, arith}
 use Rattle.std.proofs.lemmas.List.{drop_all}
 use Rattle.kp_vlog.specs.{declared.tree.Item.Item, Scope.item_sizes}
-use Rattle.kp_vread_widths.specs.Tables.{AlikeSizes}
-use Rattle.kp_vread_widths.proofs.Sizing.{sizes_alike, one_item}
+use Rattle.kp_vread_widths.{specs.Tables.AlikeSizes, proofs.Sizing.sizes_alike, proofs.Sizing.one_item}
 use Rattle.kp_vread_widths.proofs.sizes.Sizes.items.Goals as goal
 
 pub items-init : goal.items-init

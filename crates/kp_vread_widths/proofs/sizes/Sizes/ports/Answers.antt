@@ -1,8 +1,7 @@
 use Rattle.std.proofs.Common.{◌≡◌, ◌+◌, ◌-◌, ◌++◌, ℕ, List, drop, map, length, sym, subst, arith}
 use Rattle.std.proofs.lemmas.List.{drop_all}
 use Rattle.kp_vlog.specs.{declared.tree.VPort.VPort, Scope.port_size}
-use Rattle.kp_vread_widths.specs.Tables.{AlikeSizes}
-use Rattle.kp_vread_widths.proofs.Sizing.{sizes_alike, one_port}
+use Rattle.kp_vread_widths.{specs.Tables.AlikeSizes, proofs.Sizing.sizes_alike, proofs.Sizing.one_port}
 use Rattle.kp_vread_widths.proofs.sizes.Sizes.ports.Goals as goal
 
 pub ports-init : goal.ports-init

@@ -8,7 +8,8 @@ use Rattle.kp_net.specs.Netlist.{Input, State, last_of, row_of, state_after}
 use Rattle.kp_sched.specs.{Monitors.HasSeen, Rows.rows_seen}
 use Rattle.kp_seq.specs.Running.{Running as Machine}
 use Rattle.kp_run.specs.{Columns.Taken, Cycles.input_at, Cycles.inputs_to}
-use Rattle.kp_run.proofs.{Given.as_feeds, Given.rows_fed, Given.feeds_many, Given.feeds_few, Samples.fits_ports, Steps.given_at, Steps.state_next, Steps.rows_next, Prefixes.rows_many}
+use Rattle.kp_run.proofs.{Given.as_feeds, Given.rows_fed, Given.feeds_many, Given.feeds_few, Samples.fits_ports}
+use Rattle.kp_run.proofs.{Steps.given_at, Steps.state_next, Steps.rows_next, Prefixes.rows_many}
 use Rattle.kp_watch.specs.inner.{Changes.AreNoted, Machines.HaveRun, Machines.given as given_by}
 use Rattle.kp_watch.proofs.Rows.{run_within, first_of, written_back}
 use Rattle.kp_watch.proofs.beside.Beside.step.Goals as goal
