@@ -1,12 +1,12 @@
 -- The dump of a job that violates no rule is one that a text can denote.
-use Rattle.std.proofs.Common.{◌≡◌, ℕ, zero, suc, ◌+◌, ◌*◌, ◌<◌, ◌≤◌, ◌^◌, List, [], ◌∷◌, ◌++◌, length, get_or, Bool, true, false, ◌&&◌, None, refl, ap, subst, arith}
+use Rattle.std.proofs.Common.{◌≡◌, ℕ, zero, suc, ◌+◌, ◌*◌, ◌<◌, ◌≤◌, ◌^◌, List, [], ◌∷◌, ◌++◌, length, get_or, Bool, true, false, ◌&&◌, None, refl, ap, subst, arith, map}
 use Rattle.std.{proofs.Math.Nat.pow-suc, proofs.lemmas.Bool.le-leb, proofs.lemmas.List.Sums.list_all-from_AllPass, specs.Prelude.codes, specs.Prelude.nat_le}
 use Rattle.std.specs.List.{AllByRecursion, list_all}
 use Rattle.kp_base.specs.{Characters.is_word, First.first}
 use Rattle.kp_bits.specs.Word.{word, IsWord}
 use Rattle.kp_ast.specs.{Name.IsName, declared.tree.Decl.Decl, declared.tree.Job.Job}
 use Rattle.kp_ast.specs.declared.tree.Decl.TheVariants as decls
-use Rattle.kp_width.specs.Widths.{widths_of}
+use Rattle.kp_width.specs.{TextOrder.declared_names, Widths.widths_of}
 use Rattle.kp_stage.specs.{Start.start_of, Stages.broken_of}
 use Rattle.kp_image.specs.Sections.{sections_of}
 use Rattle.kp_pipeline.specs.{Machine.Machine, Pipeline.PipelineState, Pipeline.Inputs, Pipeline.cycle, Pipeline.pipeline_start}
@@ -104,7 +104,7 @@ registers_fit f (_ ∷ ds) t fine h = registers_fit f ds t fine h
 
 -- ---- the dump
 
-module _ (job : Job) (named : JobNamed job) (widths : first (widths_of job).asked ≡ None) (stages : broken_of job ≡ None) (sections : first (sections_of job).asked ≡ None) (n : ℕ) where
+module _ (job : Job) (entries : map (λ e. e.name) (widths_of job).value ≡ declared_names job) (named : JobNamed job) (widths : first (widths_of job).asked ≡ None) (stages : broken_of job ≡ None) (sections : first (sections_of job).asked ≡ None) (n : ℕ) where
   fine : Fine job.decls
   fine = job_fine job widths
 
@@ -122,7 +122,7 @@ module _ (job : Job) (named : JobNamed job) (widths : first (widths_of job).aske
       outputs_fit job.stages.value (own_run job n).rows T (register_signals job.decls) (register_values (λ t. (own_run job n).visible T t 0) 0 job.decls)
       (omega (arith, count.0)) count.1 rows_of rows_below
       (registers_fit (λ t. (own_run job n).visible T t 0) job.decls 0 fine
-      (λ u l. let e : u ≡ 0 + u = omega arith in subst (λ (v : ℕ). (own_run job n).visible T v 0 < 2 ^ (get_or (targets_of job.decls) u no_slot).width) e (visible_fits job widths stages sections n T u h l)))
+      (λ u l. let e : u ≡ 0 + u = omega arith in subst (λ (v : ℕ). (own_run job n).visible T v 0 < 2 ^ (get_or (targets_of job.decls) u no_slot).width) e (visible_fits job entries widths stages sections n T u h l)))
 
   signals_fit : AllByRecursion IsSignal (signals_of job)
   signals_fit =

@@ -1,8 +1,8 @@
 -- The known properties of a job that violates no rule, and that its dump fits the form.
-use Rattle.std.proofs.Common.{◌≡◌, ◌∙◌, ℕ, ◌<◌, ◌^◌, List, [], ◌∷◌, None, Result, Ok, sym}
+use Rattle.std.proofs.Common.{◌≡◌, ◌∙◌, ℕ, ◌<◌, ◌^◌, List, [], ◌∷◌, None, Result, Ok, sym, map}
 use Rattle.kp_base.specs.First.{first}
 use Rattle.kp_ast.specs.declared.tree.Job.{Job}
-use Rattle.kp_width.specs.Widths.{widths_of}
+use Rattle.kp_width.specs.{TextOrder.declared_names, Widths.widths_of}
 use Rattle.kp_stage.{specs.Stages.broken_of, proofs.Unbroken.first_none}
 use Rattle.kp_image.specs.Sections.{sections_of}
 use Rattle.kp_lex.specs.declared.token.Lexed.{Lexed}
@@ -41,8 +41,8 @@ job_kept job (of_head {input = input} {rest = rest} h) = head_kept input job res
 abbrev reported : Dump → Result Dump Fault
 reported d = Ok d
 
-pub job_fits : (job : Job) (n : ℕ) → IsAccepted job → n < 2 ^ 64 → FitsForm (vcd_dump n job)
-job_fits job n h small = let k = job_kept job h in dump_fits job k.named k.widths k.stages k.sections n small
+pub job_fits : ((job : Job) → map (λ e. e.name) (widths_of job).value ≡ declared_names job) → (job : Job) (n : ℕ) → IsAccepted job → n < 2 ^ 64 → FitsForm (vcd_dump n job)
+job_fits entries job n h small = let k = job_kept job h in dump_fits job (entries job) k.named k.widths k.stages k.sections n small
 
 -- a text is read as one dump
 pub same_dump : (text : List ℕ) (a b : Dump) → verdict text ≡ Ok a → verdict text ≡ Ok b → a ≡ b

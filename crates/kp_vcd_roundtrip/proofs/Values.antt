@@ -1,11 +1,11 @@
 -- The values of the registers in a run fit their widths.
-use Rattle.std.proofs.Common.{◌≡◌, ◌∙◌, ℕ, zero, suc, ◌+◌, ◌<◌, ◌≤◌, ◌^◌, List, [], ◌∷◌, length, get_or, Bool, true, false, Option, None, replicate, refl, ap, sym, subst, arith}
+use Rattle.std.proofs.Common.{◌≡◌, ◌∙◌, ℕ, zero, suc, ◌+◌, ◌<◌, ◌≤◌, ◌^◌, List, [], ◌∷◌, length, get_or, Bool, true, false, Option, None, replicate, refl, ap, sym, subst, arith, map}
 use Rattle.std.proofs.lemmas.{Bool.cond_both, List.length-replicate, Nat.pow_pos}
 use Rattle.kp_base.specs.First.{first}
 use Rattle.kp_bits.specs.Word.{Word, word}
 use Rattle.kp_ast.specs.declared.tree.{Decl.Decl, Job.Job}
 use Rattle.kp_ast.specs.declared.tree.Decl.TheVariants as decls
-use Rattle.kp_width.specs.{Names.nothing, Widths.widths_of}
+use Rattle.kp_width.specs.{Names.nothing, TextOrder.declared_names, Widths.widths_of}
 use Rattle.kp_stage.specs.{Start.start_of, Start.input, Start.AreSamples, Stages.broken_of}
 use Rattle.kp_image.{specs.Sections.sections_of, proofs.Given.starts, proofs.Given.rows_fit}
 use Rattle.kp_pipeline.specs.{Machine.Machine, Pipeline.Inputs, Rows.Row, Rows.bit, Rows.one_if, Rows.taken_from, Rows.passed, Sequential.exec, Sequential.seq}
@@ -83,7 +83,8 @@ inputs_many job cycle (suc n) = ap (λ (k : ℕ). suc k) (inputs_many job (suc c
 
 -- ---- the sequential run
 
-module _ (job : Job) (widths : first (widths_of job).asked ≡ None) (stages : broken_of job ≡ None) (sections : first (sections_of job).asked ≡ None) where
+module _ (job : Job) (entries : map (λ e. e.name) (widths_of job).value ≡ declared_names job) (widths : first (widths_of job).asked ≡ None) (stages : broken_of job ≡ None)
+    (sections : first (sections_of job).asked ≡ None) where
   abbrev laid : Laid
   laid = record {
     decls = job.decls;
@@ -95,7 +96,7 @@ module _ (job : Job) (widths : first (widths_of job).asked ≡ None) (stages : b
   }
 
   tables : AreTables job laid
-  tables = record { decls = refl; targets = refl; pipes = refl; samples = refl; ports = refl; names = refl }
+  tables = record { decls = refl; targets = refl; pipes = refl; samples = refl; ports = refl; names = refl; declared = entries }
 
   abbrev no_word : Option Word
   no_word = None

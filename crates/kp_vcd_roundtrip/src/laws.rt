@@ -11,6 +11,7 @@ ghost use Rattle.kp_vcd_roundtrip.specs.Accepted.{IsAccepted};
 
 use kp_vcd_read::laws::the_text_of_a_dump_is_read_as_this_dump;
 use kp_vcd_run::laws::a_dump_holds_its_run;
+use kp_width::laws::one_entry_for_each_name;
 
 /// For each job that violates no rule and each n below 2^64, which is as far as a text counts time, the text of the dump over n cycles violates no
 /// rule of dumps, and is read as this dump (`read`). So in the dump that is read each signal has at each time the value of the run, if that exists
@@ -23,4 +24,5 @@ pub fn the_dump_of_a_job_is_read_back()
 {
     the_text_of_a_dump_is_read_as_this_dump();
     a_dump_holds_its_run();
+    one_entry_for_each_name();
 }
