@@ -5,12 +5,12 @@
 # The large machines have 12 stages, 64 registers, 128 pipes, 256 reads and 8 guesses, and expressions of three sizes.
 set -eu
 . "$(dirname "$0")/common.sh"
-cd "$top/crates/kp_test_synth" && rt run -- < "$top/examples/acc3.kp" > "$work/built" 2>&1 || true
+cd "$top/crates/kp_test_cases" && rt run -- < "$top/examples/acc3.kp" > "$work/built" 2>&1 || true
 
 nodes() {
-    { echo "==== nodes $1"; cat "$2"; } > "$work/case"
+    { echo "==== netlist nodes $1"; cat "$2"; } > "$work/case"
     "$kp" check < "$2"
-    measured "synthesis of $1" "$top/crates/kp_test_synth/out/kp_test_synth" < "$work/case"
+    measured "synthesis of $1" "$top/crates/kp_test_cases/out/kp_test_cases" < "$work/case"
 }
 for name in acc3 near unk4 smp3 dlx5; do
     nodes "$name" "$top/examples/$name.kp"

@@ -2,9 +2,14 @@
 //!
 //! Standard input contains the cases. A case starts with its head, a line `==== PROGRAM WORDS`, where `""` denotes the empty word, and its input is the
 //! text up to the next head. The program is `kp`, `kpview`, `kpcore` or `explain`; the last is what `kpview explain` calls, and its words begin with its
-//! name. For each case its head, its status and the texts of standard output and standard error are printed; the second begins with a line `--`, and is
+//! name. For each case of these its head, its status and the texts of standard output and standard error are printed; the second begins with a line `--`, and is
 //! left out where it is empty. `explain` has one text, that of standard error, or its help, and the status 1 where its words are not accepted. A head of
 //! the words `# ..` is a title: it is printed, and the text below it is no input of any case.
+//!
+//! Two more forms run libraries, and have no status. `==== netlist N TITLE`: the netlist of the job runs N cycles under the job's stalls and inputs, and
+//! the line of each cycle is printed, then the registers of the job in the last state, and the words of its files that are not 0; with `nodes` in place
+//! of N, how many nodes the netlist has. `==== dump TITLE`: the name of the dump's module, how many signals, times and changes it has, and whether the
+//! text of what was read is this text; if it differs, it follows; or the rule that the dump violates.
 //!
 //! After the words, each after ` | `, a head may have options:
 //!
@@ -16,10 +21,16 @@
 //! - `unended`: the line feed that ends the input is not part of it.
 #![tactic(auto)]
 
+mod cycles;
+mod dump;
 mod head;
+mod netlist;
 mod programs;
 
+use anyhow::Result;
+use dump::print_read;
 use head::{Options, Streams, words_in};
+use netlist::print_netlist;
 use programs::run;
 use std::alloc::Global;
 use std::io;
@@ -28,7 +39,7 @@ use std::io::Read;
 /// The start of a head.
 const MARK: &[u8] = b"==== ";
 
-fn main(rt: HostRuntime) -> io::Result<()> {
+fn main(rt: HostRuntime) -> Result<()> {
     let alloc = rt.alloc();
     let mut text = Vec::new(alloc);
     rt.reader().read_to_end(&mut text)?;
@@ -52,12 +63,26 @@ fn main(rt: HostRuntime) -> io::Result<()> {
     }
 }
 
-fn print_case(rt: &impl Print, alloc: Global, line: &[u8], input: &[u8]) -> io::Result<()> {
+fn print_case(rt: &impl Print, alloc: Global, line: &[u8], input: &[u8]) -> Result<()> {
     let line = String::from_utf8_lossy(alloc, line)?;
     let line = line.trim_end();
-    if line.starts_with("# ") {
-        return println!(rt; "==== {line}\n");
+    let (form, rest) = line.split_once(" ").unwrap_or((line, ""));
+    match form {
+        "#" => Ok(println!(rt; "==== {line}\n")?),
+        "netlist" => {
+            println!(rt; "==== {line}")?;
+            let count = rest.split_whitespace().next().unwrap_or("");
+            print_netlist(rt, alloc, count.parse::<u32>().ok(), input)
+        }
+        "dump" => {
+            println!(rt; "==== {line}")?;
+            Ok(print_read(rt, alloc, input)?)
+        }
+        _ => Ok(print_call(rt, alloc, line, input)?),
     }
+}
+
+fn print_call(rt: &impl Print, alloc: Global, line: &str, input: &[u8]) -> io::Result<()> {
     let words = words_in(alloc, line)?;
     let mut streams = Options::of(alloc, line)?.streams(alloc, input)?;
     let status = run(alloc, &words, &mut streams)?;

@@ -1,4 +1,4 @@
-//! The run of a netlist under the stalls and inputs of its job.
+// The run of a netlist under the stalls and inputs of its job.
 ghost use Rattle.std.specs.Prelude.{◌≤◌, length, IsTrue};
 ghost use Rattle.kp_net.specs.Netlist.{Net};
 ghost use Rattle.kp_cycle.specs.Steps.{SamplesFit, ShowsRows};
