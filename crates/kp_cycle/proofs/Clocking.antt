@@ -1,39 +1,15 @@
 -- Registers and files take the values of nodes.
-use Rattle.std.proofs.Common.{◌≡◌, ◌≢◌, ◌==◌, ℕ, Bool, true, false, cond, suc, ◌+◌, ◌<◌, ◌≤◌, ◌^◌, List, [], ◌∷◌, ◌++◌, length, get_or, set, map, refl, sym, subst, ap, ◌∙◌, arith, ⊎_elim, Option, None, Some}
-use Rattle.std.proofs.lemmas.Bool.{cases_lt, cases_eq}
-use Rattle.std.proofs.lemmas.List.{get_or-set_other, length-set, get_or-map, ext_get_or, length-map, get_or_append_left, get_or_push, length_push}
-use Rattle.std.proofs.lemmas.{Grind.get_or-set_at, List.Elements.All-get_or, Slice.Zip.get_or-zip, Slice.Zip.length-zip}
+use Rattle.std.proofs.Common.{◌≡◌, ◌==◌, ℕ, false, cond, ◌+◌, ◌<◌, ◌≤◌, ◌^◌, List, [], length, get_or, set, map, refl, sym, subst, ap, ◌∙◌, arith, ⊎_elim, Option, None, Some}
+use Rattle.std.proofs.lemmas.Bool.{cases_lt}
+use Rattle.std.proofs.lemmas.List.{get_or-set_other, get_or-map, ext_get_or, length-map}
+use Rattle.std.proofs.lemmas.{Grind.get_or-set_at, Slice.Zip.get_or-zip, Slice.Zip.length-zip}
 use Rattle.std.specs.List.{zip}
 use Rattle.kp_net.specs.declared.{node.Node.Node, netlist.NetReg.NetReg, netlist.NetFile.NetFile, netlist.WritePort.WritePort}
 use Rattle.kp_net.specs.Nodes.{Cells, at, on}
 use Rattle.kp_net.specs.Netlist.{Net, Input, State, start_regs, port_after, files_after, regs_after, resets, state_after, cells_of}
-use Rattle.kp_net.specs.Parts.{NetOk, FileOk, WriteOk, no_reg, no_file}
-use Rattle.kp_cycle.specs.inner.{Plans.OfPort, Plans.OfRoots, Storage.Stored, Storage.Fits, Storage.FitsBelow, Storage.PortReady, Storage.port_from}
-
--- a property of the elements of a list in which one is replaced
-pub set_has : {X : Type 0} (P : ℕ → X → Type 0) (xs : List X) (i : ℕ) (y d : X) (j : ℕ) → i < length xs → (j ≡ i → P j y) → (j ≢ i → P j (get_or xs j d)) → P j (get_or (set xs i y) j d)
-set_has P xs i y d j h here other =
-    ⊎_elim
-    (λ (e : j ≡ i). subst (P j) (sym (get_or-set_at xs i j y d e h)) (here e))
-    (λ (apart : j ≢ i). subst (P j) (sym (get_or-set_other xs i j y d apart)) (other apart))
-    (cases_eq j i)
-
--- of the elements of a list and one more
-pub each_more : {X : Type 0} (xs : List X) (x d : X) (P : ℕ → X → Type 0) → ((k : ℕ) → k < length xs → P k (get_or xs k d)) → P (length xs) x
-    → (k : ℕ) → k < length (xs ++ x ∷ []) → P k (get_or (xs ++ x ∷ []) k d)
-each_more xs x d P old new k l =
-    ⊎_elim
-    (λ (low : k < length xs). subst (P k) (sym (get_or_append_left xs (x ∷ []) d k low)) (old k low))
-    (λ (high : length xs ≤ k). let e : length xs ≡ k = omega (arith, l, length_push xs x) in
-    subst (P k) (sym (get_or_push xs x d k e)) (subst (λ n. P n x) e new))
-    (cases_lt k (length xs))
-
--- and of one of them
-pub some_more : {X : Type 0} (xs : List X) (x d : X) (P : X → Type 0) → (k : ℕ) × (k < length xs) × P (get_or xs k d) → (k : ℕ) × (k < length (xs ++ x ∷ [])) × P (get_or (xs ++ x ∷ []) k d)
-some_more xs x d P m = let l = m.1 in (m.0, omega (arith, l, length_push xs x), subst P (sym (get_or_append_left xs (x ∷ []) d m.0 l)) m.2)
-
-pub some_last : {X : Type 0} (xs : List X) (x d : X) (P : X → Type 0) → P x → (k : ℕ) × (k < length (xs ++ x ∷ [])) × P (get_or (xs ++ x ∷ []) k d)
-some_last xs x d P h = (length xs, omega (arith, length_push xs x), subst P (sym (get_or_push xs x d (length xs) refl)) h)
+use Rattle.kp_net.specs.Parts.{NetOk, WriteOk, no_reg, no_file}
+use Rattle.kp_cycle_plan.specs.Plans.{OfPort, OfRoots}
+use Rattle.kp_cycle_memory.specs.Storage.{Stored, FitsBelow, PortReady, port_from}
 
 -- the files up to here are updated by their ports, and the others are unchanged
 pub record Written (files : List NetFile) (values : List ℕ) (old new : List (List ℕ)) (i : ℕ) : Type 0 where

@@ -1,16 +1,17 @@
 -- Registers take their next values.
-use Rattle.std.proofs.Common.{◌≡◌, ◌≢◌, ◌==◌, ◌⊎◌, ℕ, Bool, true, false, cond, ◌+◌, ◌<◌, ◌≤◌, List, [], ◌∷◌, ◌++◌, length, get_or, set, inl, inr, sym, subst, ap, refl, ◌∙◌, arith, ⊎_elim}
-use Rattle.std.proofs.lemmas.{Bool.cases_lt, Bool.cases_eq, Bool.cond_both, Bool.eqb-true, List.get_or-set_other, List.Elements.All-get_or, Grind.get_or-set_at}
+use Rattle.std.proofs.Common.{◌≡◌, ◌==◌, ◌⊎◌, ℕ, Bool, true, false, cond, ◌<◌, List, length, get_or, set, sym, subst, ap, refl, ◌∙◌, arith, ⊎_elim}
+use Rattle.std.proofs.lemmas.{Bool.eqb-true, List.Elements.All-get_or, Grind.get_or-set_at}
 use Rattle.kp_bits.specs.Word as bits
 use Rattle.kp_net.specs.declared.node.{NodeId.NodeId, Kind.Kind}
-use Rattle.kp_net.specs.declared.node.Kind.TheVariants.{Const, Ext, Sample, Reg, Word, Not, Binary, Mux, Concat, Slice}
+use Rattle.kp_net.specs.declared.node.Kind.TheVariants.{Reg, Mux}
 use Rattle.kp_net.specs.{declared.node.Node.Node, Nodes.Cells, Nodes.word_of_kind, Nodes.word_at, Nodes.at}
 use Rattle.kp_net.specs.{Widths.no_node, Widths.is_cell, Widths.KindOk, Widths.AllRight, Netlist.Net, Netlist.Input, Netlist.State, Netlist.cells_of}
 use Rattle.kp_net.{specs.Parts.NetOk, specs.Parts.RegOk, specs.Parts.no_reg, proofs.Exact.node_exact, proofs.Exact.word_has, proofs.Values.word_there}
-use Rattle.kp_cycle.specs.declared.latches.{Latch.Latch, Latch.TheVariants.Always, Latch.TheVariants.If, Held.Held, Moved.Moved}
-use Rattle.kp_cycle.specs.inner.Latches.{is_reg, latch_in, latch_for, OfLatch, latched, no_moved, no_held, IsMoved, IsHeld, IsLatched}
-use Rattle.kp_cycle.specs.inner.Storage.{Stored, Fits, StateFits}
-use Rattle.kp_cycle.proofs.{Clocking.set_has, Clocking.each_more, Clocking.some_more, Clocking.some_last, Coding.cond_value, Stepping.reg_held}
+use Rattle.kp_cycle_plan.specs.declared.latches.{Latch.TheVariants.Always, Latch.TheVariants.If, Held.Held, Moved.Moved}
+use Rattle.kp_cycle_plan.specs.Latches.{is_reg, latch_in, latch_for, OfLatch, latched, no_moved, no_held, IsMoved, IsHeld, IsLatched}
+use Rattle.kp_cycle_plan.proofs.Lists.{set_has}
+use Rattle.kp_cycle_memory.specs.Storage.{StateFits}
+use Rattle.kp_cycle.proofs.{Coding.cond_value, Stepping.reg_held}
 
 -- a node of this kind is this register
 pub reg_is : (o : Kind) (r : ℕ) → is_reg o r ≡ true → o ≡ Reg r
@@ -84,29 +85,6 @@ Moving net values old new moved i = Turned net values old new (λ (m : Moved). m
 
 abbrev pub Holding : Net → List ℕ → List ℕ → List ℕ → List Held → ℕ → Type 0
 Holding net values old new held i = Turned net values old new (λ (m : Held). m.reg) no_held held i
-
--- one entry more
-pub latched_moved : (net : Net) (n : ℕ) (moved : List Moved) (held : List Held) (x : Moved) → x.reg ≡ n → n < length net.parts.regs → latch_for net n ≡ Always x.next → IsLatched net n moved held
-    → IsLatched net (n + 1) (moved ++ x ∷ []) held
-latched_moved net n moved held x e h latch old = record {
-  moves = each_more moved x no_moved (λ k m. (m.reg < length net.parts.regs) × (latch_for net m.reg ≡ Always m.next)) old.moves (omega (arith, e, h), ap (latch_for net) e ∙ latch);
-  holds = old.holds;
-  each = λ r l. ⊎_elim
-      (λ (low : r < n). ⊎_elim (λ (m : IsMoved moved r). inl (some_more moved x no_moved (λ y. y.reg ≡ r) m)) (λ (m : IsHeld held r). inr m) (old.each r low))
-      (λ (high : n ≤ r). let z : n ≡ r = omega arith in inl (some_last moved x no_moved (λ y. y.reg ≡ r) (e ∙ z)))
-      (cases_lt r n);
-}
-
-pub latched_held : (net : Net) (n : ℕ) (moved : List Moved) (held : List Held) (x : Held) → x.reg ≡ n → n < length net.parts.regs → latch_for net n ≡ If x.test x.value → IsLatched net n moved held
-    → IsLatched net (n + 1) moved (held ++ x ∷ [])
-latched_held net n moved held x e h latch old = record {
-  moves = old.moves;
-  holds = each_more held x no_held (λ k m. (m.reg < length net.parts.regs) × (latch_for net m.reg ≡ If m.test m.value)) old.holds (omega (arith, e, h), ap (latch_for net) e ∙ latch);
-  each = λ r l. ⊎_elim
-      (λ (low : r < n). ⊎_elim (λ (m : IsMoved moved r). inl m) (λ (m : IsHeld held r). inr (some_more held x no_held (λ y. y.reg ≡ r) m)) (old.each r low))
-      (λ (high : n ≤ r). let z : n ≡ r = omega arith in inr (some_last held x no_held (λ y. y.reg ≡ r) (e ∙ z)))
-      (cases_lt r n);
-}
 
 -- every register has its next value once all entries have
 pub all_next : (net : Net) (n : ℕ) (moved : List Moved) (held : List Held) (values old new : List ℕ) (r : ℕ) → IsLatched net n moved held

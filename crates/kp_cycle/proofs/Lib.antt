@@ -1,12 +1,8 @@
 pub mod Clocking
 pub mod Coding
-pub mod Copies
 pub mod Latching
-pub mod Marking
 pub mod Noting
 pub mod Reached
 pub mod Running
 pub mod Settling
-pub mod Spans
 pub mod Stepping
-pub mod Storing

@@ -1,21 +1,21 @@
 -- A step computes the value of its target, provided that its operands have theirs.
-use Rattle.std.proofs.Common.{◌≡◌, ℕ, ◌+◌, ◌-◌, ◌<◌, ◌≤◌, ◌^◌, List, [], ◌∷◌, length, get_or, set, map, Option, None, Some, refl, sym, subst, ap, ◌∙◌, arith, ⊎_elim, ◌%◌}
+use Rattle.std.proofs.Common.{◌≡◌, ℕ, ◌+◌, ◌-◌, ◌<◌, ◌≤◌, ◌^◌, List, [], ◌∷◌, length, get_or, set, map, refl, sym, subst, ap, ◌∙◌, arith, ⊎_elim, ◌%◌}
 use Rattle.std.proofs.{Math.Nat.mod-eq_of_lt, lemmas.Bool.cases_lt, lemmas.List.get_or-map, lemmas.List.length-map}
 use Rattle.std.{proofs.lemmas.List.Elements.All-head, proofs.lemmas.List.Elements.All-tail, specs.Prelude.All}
 use Rattle.kp_bits.specs.Word as bits
 use Rattle.kp_bits.specs.Operators.{binary_of, joined_of}
 use Rattle.kp_net.specs.declared.node.{NodeId.NodeId, Kind.Kind}
-use Rattle.kp_net.specs.declared.node.Kind.TheVariants.{Const, Ext, Sample, Reg, Word, Not, Binary, Mux, Concat, Slice}
+use Rattle.kp_net.specs.declared.node.Kind.TheVariants.{Const, Reg, Word, Not, Binary, Mux, Concat, Slice}
 use Rattle.kp_net.specs.{declared.node.Node.Node, Nodes.Cells, Nodes.Words, Nodes.word_of_kind, Nodes.word_of_node, Nodes.word_at, Nodes.at}
-use Rattle.kp_net.specs.{Widths.wide, Widths.no_node, Widths.KindOk, Widths.AllRight, declared.netlist.WritePort.WritePort}
-use Rattle.kp_net.specs.{Netlist.Net, Netlist.Input, Netlist.State, Netlist.cells_of, Parts.CellOk, Parts.NetOk, Parts.no_file}
+use Rattle.kp_net.specs.{Widths.wide, Widths.no_node, Widths.KindOk, Widths.AllRight}
+use Rattle.kp_net.specs.{Netlist.Net, Netlist.Input, Netlist.State, Netlist.cells_of, Parts.CellOk, Parts.NetOk}
 use Rattle.kp_net.proofs.Values.{word_there, word_is, at_fits}
-use Rattle.kp_cycle.specs.declared.codes.{Op.Op, Op.TheVariants.Plain, Step.Step}
-use Rattle.kp_cycle.specs.{inner.Codes.op_for, inner.Codes.number_of, inner.Codes.IsReady, declared.latches.Latch.Latch}
-use Rattle.kp_cycle.specs.{declared.latches.Latch.TheVariants.Always, declared.latches.Latch.TheVariants.If, inner.Latches.latch_for, inner.Latches.OfLatch}
-use Rattle.kp_cycle.specs.inner.Plans.{reads, reads_at, Among, IsKnown, OfPort, OfRoots, AreFixed, IsPlan, Settled, no_step, targets}
-use Rattle.kp_cycle.specs.inner.Storage.{Stored, Fits, FitsBelow, StateFits, cells, seen, state_of}
-use Rattle.kp_cycle.proofs.{Clocking.set_has, Coding.coded, Coding.ready}
+use Rattle.kp_cycle_plan.specs.declared.codes.{Op.Op, Op.TheVariants.Plain, Step.Step}
+use Rattle.kp_cycle_plan.specs.{Codes.op_for, Codes.number_of, Codes.IsReady}
+use Rattle.kp_cycle_plan.specs.Plans.{reads, reads_at, Among, IsKnown, OfRoots, IsPlan, no_step, targets}
+use Rattle.kp_cycle_plan.proofs.{Lists.set_has, Marking.roots_are}
+use Rattle.kp_cycle.{specs.inner.Settling.AreFixed, specs.inner.Settling.Settled, proofs.Coding.coded, proofs.Coding.ready}
+use Rattle.kp_cycle_memory.specs.Storage.{Stored, Fits, FitsBelow, StateFits, cells, seen, state_of}
 
 -- a node's word depends on the words of its operands alone
 parts_read : (v w : Words) (parts : List NodeId) → All (λ a. v a.0 ≡ w a.0) parts → map (λ a. v a.0) parts ≡ map (λ a. w a.0) parts
@@ -140,23 +140,6 @@ module _ (net : Net) (heads : ℕ) (steps : List Step) (k : ℕ) (plan : IsPlan 
       }
 
 -- after all steps each node that is read at the end of the cycle has its value
-pub port_is : (P Q : ℕ → Type 0) (port : Option WritePort) → ((j : ℕ) → P j → Q j) → OfPort P port → OfPort Q port
-port_is P Q None f h = tt
-port_is P Q (Some p) f h = (f p.enable.0 h.0, f p.address.0 h.1, f p.value.0 h.2)
-
-pub latch_is : (P Q : ℕ → Type 0) (latch : Latch) → ((j : ℕ) → P j → Q j) → OfLatch P latch → OfLatch Q latch
-latch_is P Q (Always next) f h = f next.0 h
-latch_is P Q (If test a) f h = (f test.0 h.0, f a.0 h.1)
-
-pub roots_are : (net : Net) (P Q : ℕ → Type 0) → ((j : ℕ) → P j → Q j) → OfRoots net P → OfRoots net Q
-roots_are net P Q f h = record {
-  full = f net.parts.full.0 h.full;
-  ue = f net.parts.ue.0 h.ue;
-  back = f net.parts.back.0 h.back;
-  regs = λ r l. latch_is P Q (latch_for net r) f (h.regs r l);
-  files = λ i l. port_is P Q (get_or net.parts.files i no_file).port f (h.files i l);
-}
-
 pub all_settled : (net : Net) (input : Input) (heads : ℕ) (steps : List Step) (m : Stored) → IsPlan net heads steps → Settled net input heads steps (length steps) m
     → OfRoots net (λ j. get_or m.nodes j 0 ≡ at (cells input m) net.nodes j)
 all_settled net input heads steps m plan settled =

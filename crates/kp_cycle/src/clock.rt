@@ -3,12 +3,12 @@ ghost use Rattle.std.specs.Prelude.{◌≡◌, ◌<◌, ◌≤◌, ◌^◌, ◌&
 ghost use Rattle.kp_net.specs.Netlist.{start_regs};
 ghost use Rattle.kp_net.specs.Parts.{NetOk, no_file};
 ghost use Rattle.kp_net.specs.Widths.{wide};
-ghost use Rattle.kp_cycle.specs.declared.latches.Latch.TheVariants.{If};
-ghost use Rattle.kp_cycle.specs.inner.Latches.{IsLatched, latch_for, latched};
-ghost use Rattle.kp_cycle.specs.inner.Storage.{Fits, FitsBelow, PortReady, port_from, port_noted};
+ghost use Rattle.kp_cycle_plan.specs.declared.latches.Latch.TheVariants.{If};
+ghost use Rattle.kp_cycle_plan.specs.Latches.{IsLatched, latch_for, latched};
+ghost use Rattle.kp_cycle_memory.specs.Storage.{Fits, FitsBelow, PortReady, port_from, port_noted};
 
-use crate::latches::{Held, Latches, Moved};
-use crate::memory::{Memory, fill_regs};
+use kp_cycle_memory::{Memory, fill_regs};
+use kp_cycle_plan::{Held, Latches, Moved};
 use kp_net::{Netlist, WritePort};
 
 /// The end of a cycle: in a netlist with a reset that is raised each register gets its start value; else registers

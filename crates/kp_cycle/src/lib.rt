@@ -3,13 +3,8 @@
 
 mod batches;
 mod clock;
-mod codes;
-mod latches;
 pub mod laws;
-mod memory;
 mod nodes;
-mod plan;
 mod sim;
-mod slots;
 
 pub use sim::Sim;

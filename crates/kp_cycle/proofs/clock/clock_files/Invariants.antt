@@ -1,5 +1,6 @@
 use Rattle.std.proofs.Common.{◌≡◌}
-use Rattle.kp_cycle.{specs.inner.Storage.Fits, proofs.Clocking.Written}
+use Rattle.kp_cycle_memory.specs.Storage.{Fits}
+use Rattle.kp_cycle.proofs.Clocking.{Written}
 use Rattle.kp_cycle.proofs.clock.clock_files.Given as goal
 
 abbrev pub invariant-loop-i : goal.invariant-loop-i

@@ -1,5 +1,6 @@
 use Rattle.std.proofs.Common.{◌≡◌, length}
-use Rattle.kp_cycle.{specs.inner.Storage.Fits, proofs.Latching.Moving, proofs.Latching.Holding}
+use Rattle.kp_cycle_memory.specs.Storage.{Fits}
+use Rattle.kp_cycle.proofs.Latching.{Moving, Holding}
 use Rattle.kp_cycle.proofs.clock.clock_regs.Given as goal
 
 abbrev pub invariant-loop-i : goal.invariant-loop-i

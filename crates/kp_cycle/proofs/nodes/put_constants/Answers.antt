@@ -1,8 +1,8 @@
 use Rattle.std.proofs.Common.{◌≡◌, ◌<◌, ℕ, List, length, get_or, sym, ap, ◌∙◌, arith}
 use Rattle.std.proofs.lemmas.List.{get_or_default}
 use Rattle.kp_net.specs.{declared.node.Kind.TheVariants.Const, declared.node.Node.Node, Widths.no_node}
-use Rattle.kp_cycle.{specs.inner.Plans.no_step, proofs.Settling.fits_more}
-use Rattle.kp_cycle.proofs.Stepping.{target_is, target_inside, const_fits, fixed_more, widths_more}
+use Rattle.kp_cycle_plan.specs.Plans.{no_step}
+use Rattle.kp_cycle.proofs.{Settling.fits_more, Stepping.target_is, Stepping.target_inside, Stepping.const_fits, Stepping.fixed_more, Stepping.widths_more}
 use Rattle.kp_cycle.proofs.nodes.put_constants.Goals as goal
 
 pub bounds-nodes-target : goal.bounds-nodes-target

@@ -1,5 +1,0 @@
-use Rattle.kp_cycle.specs.inner.Latches.{IsLatched}
-use Rattle.kp_cycle.proofs.latches.latches_of.Given as goal
-
-abbrev pub invariant-loop-r : goal.invariant-loop-r
-invariant-loop-r l = IsLatched l.net l.r l.latches.moved.items l.latches.held.items

@@ -1,6 +1,0 @@
-use Rattle.std.proofs.Common.{◌<◌, ℕ, get_or}
-use Rattle.kp_cycle.specs.inner.Plans.{IsMarked, Taken}
-use Rattle.kp_cycle.proofs.plan.take_rest.Given as goal
-
-abbrev pub invariant-loop-k : goal.invariant-loop-k
-invariant-loop-k l = Taken l.nodes l.heads l.done l.batched.items × ((q : ℕ) → q < l.k → IsMarked l.done (get_or l.order q 0))

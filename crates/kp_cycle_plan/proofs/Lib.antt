@@ -1,0 +1,3 @@
+pub mod Latching
+pub mod Lists
+pub mod Marking
