@@ -8,8 +8,8 @@ use Rattle.kp_parse_grammar.specs.Language.{Sym, State, Value, at, rules, counte
 use Rattle.kp_parse_grammar.specs.{declared.level.Level.Level, declared.fault.Fault.Fault, Tokens.Lexeme, Tokens.mark_class}
 use Rattle.kp_parse_grammar.specs.inner.{Operators.operators_of, Operators.operator_at, Follow.tables}
 use Rattle.kp_parse_grammar.specs.Reading.{Goes, class_at, Finds, Reads, Fails, ReadsYet}
-use Rattle.kp_parse_grammar.proofs.{Steps.fail_fail, Steps.by_counted, Steps.one, Picks.unary_else}
 use Rattle.kp_parse_grammar.specs.declared.level.Level.TheVariants as levels
+use Rattle.kp_parse_grammar.proofs.{Steps.passed, Steps.by_counted, Steps.one, Picks.other}
 use Rattle.kp_ast.specs.declared.tree.Expr.{Expr}
 use Rattle.kp_ast.specs.declared.tree.ExprKind.TheViews as expressions
 use Rattle.kp_lex.specs.declared.token.Mark.TheVariants as marks
@@ -61,12 +61,7 @@ more_else levels.Product k h = one_missing _ (k == 53) _ _ h
 
 chain_body : (l : Level) (k : ℕ) → pick rules tables (CHAIN l) k ≡ Some (Nonterminal (OPERAND l) ∷ Nonterminal (MORE l) ∷ [])
 chain_body levels.Or k = refl
-chain_body levels.Xor k = refl
-chain_body levels.And k = refl
-chain_body levels.Compare k = refl
-chain_body levels.Shift k = refl
-chain_body levels.Sum k = refl
-chain_body levels.Product k = refl
+chain_body _ k = refl
 
 pub loops : (l : Level) → (l ≡ levels.Compare → ⊥) → behind l ≡ Nonterminal (MORE l) ∷ []
 loops levels.Compare h = absurd (h refl)
@@ -116,5 +111,5 @@ compare_ends {ts} l {x} {y} {m} {op} {p} {e = e} {n = n} z i a f g r = record {
 -- without a `~` an operand is read with its slices
 pub post_reads : (ts : List Lexeme) (c i : ℕ) → false ≡ (class_at ts i == mark_class marks.Tilde) → (r : Result (Expr × ℕ × ℕ) Fault)
     → MatchResult r (λ x. Reads ts POST c (expr x.0 ∷ []) x.1 i x.2) (Fails ts POST c i) → MatchResult r (λ x. Reads ts UNARY c (expr x.0 ∷ []) x.1 i x.2) (Fails ts UNARY c i)
-post_reads ts c i z (Ok x) h = record { leads = λ s cs vs o g. unary_else z (h.leads _ _ _ _ g); grows = h.grows; limit = h.limit; shrinks = h.shrinks }
-post_reads ts c i z (Err e) h = fail_fail h (λ o g s cs vs. unary_else z (g _ _ _))
+post_reads ts c i z (Ok x) h = record { leads = λ s cs vs o g. goes _ (other _ _ _ _ z refl) (h.leads _ _ _ _ g); grows = h.grows; limit = h.limit; shrinks = h.shrinks }
+post_reads ts c i z (Err e) h = passed h (λ o g s cs vs. goes _ (other _ _ _ _ z refl) (g _ _ _))

@@ -302,164 +302,177 @@ data Fits : List Sym → ℕ → List Ty → Type 0 where
   action : {a : Step} {s : List Sym} {d e : ℕ} {ts us : List Ty} → Builds a d ts e us → Fits s e us → Fits (Action a ∷ s) d ts
   name : {n : ℕ} {s : List Sym} {d : ℕ} {ts us : List Ty} → Names n d ts us → Fits s d us → Fits (Nonterminal n ∷ s) d ts
 
--- an alternative does what its name does
-expand : {n d : ℕ} {ts us : List Ty} {s b : List Sym} → Names n d ts us → Has b (alternatives rules n) → Fits s d us → Fits (b ++ s) d ts
-expand n_JOB here f = token r_dropped (token r_as_name (token r_dropped (token r_dropped (token r_as_number (token r_dropped (action b_no_decls (name n_DECLS (action b_no_blocks (name n_STAGE (action b_one_block (name n_STAGES (name n_IMAGE (name n_STALLS (name n_INPUTS (token r_dropped (action b_make_job f))))))))))))))))
-expand n_JOB (there m) f = elim m [ ]
-expand n_DECLS here f = name n_DECL (action b_one_decl (name n_DECLS f))
-expand n_DECLS (there here) f = f
-expand n_DECLS (there (there m)) f = elim m [ ]
-expand n_DECL here f = token r_dropped (name n_PAR (token r_dropped (token r_as_literal (token r_dropped (action b_make_reg f)))))
-expand n_DECL (there here) f = token r_dropped (name n_PAR (token r_dropped (token r_as_number (token r_dropped (token r_dropped (action b_make_file f))))))
-expand n_DECL (there (there here)) f = token r_dropped (name n_PAR (token r_dropped (action b_make_pipe f)))
-expand n_DECL (there (there (there here))) f = token r_dropped (name n_PAR (token r_dropped (token r_as_name (name n_INDEX (name n_ENABLE (token r_dropped (token r_as_number (token r_dropped (action b_make_result f)))))))))
-expand n_DECL (there (there (there (there here)))) f = token r_dropped (name n_PAR (token r_dropped (token r_as_literal (token r_dropped (action b_make_hint f)))))
-expand n_DECL (there (there (there (there (there here))))) f = token r_dropped (name n_PAR (token r_dropped (token r_as_number (token r_dropped (action b_make_sample f)))))
-expand n_DECL (there (there (there (there (there (there here)))))) f = token r_dropped (token r_as_name (token r_dropped (action b_no_params (name n_PAR (action b_one_param (name n_PARS (token r_dropped (token r_dropped (token r_as_number (token r_dropped (name n_WHOLE (token r_dropped (action b_make_fn f)))))))))))))
-expand n_DECL (there (there (there (there (there (there (there m))))))) f = elim m [ ]
-expand n_INDEX here f = token r_dropped (token r_as_name (token r_dropped (action b_some_name f)))
-expand n_INDEX (there here) f = action b_no_name f
-expand n_INDEX (there (there m)) f = elim m [ ]
-expand n_ENABLE here f = token r_dropped (token r_as_name (action b_some_name f))
-expand n_ENABLE (there here) f = action b_no_name f
-expand n_ENABLE (there (there m)) f = elim m [ ]
-expand n_PAR here f = token r_as_name (token r_dropped (token r_as_number (action b_make_param f)))
-expand n_PAR (there m) f = elim m [ ]
-expand n_PARS here f = token r_dropped (name n_PAR (action b_one_param (name n_PARS f)))
-expand n_PARS (there here) f = f
-expand n_PARS (there (there m)) f = elim m [ ]
-expand n_STAGE here f = token r_dropped (token r_as_number (token r_dropped (action b_no_stmts (name n_STMTS (token r_dropped (action b_make_block f))))))
-expand n_STAGE (there m) f = elim m [ ]
-expand n_STAGES here f = name n_STAGE (action b_one_block (name n_STAGES f))
-expand n_STAGES (there here) f = f
-expand n_STAGES (there (there m)) f = elim m [ ]
-expand n_STMTS here f = name n_STMT (action b_one_stmt (name n_STMTS f))
-expand n_STMTS (there here) f = f
-expand n_STMTS (there (there m)) f = elim m [ ]
-expand n_STMT here f = token r_as_place (token r_as_name (token r_dropped (token r_as_name (name n_ADDRESS (name n_HEDGE (token r_dropped (action b_make_read f)))))))
-expand n_STMT (there here) f = token r_as_place (name n_BINDING (token r_dropped (action b_make_let f)))
-expand n_STMT (there (there here)) f = token r_as_place (name n_BINDING (token r_dropped (action b_make_put f)))
-expand n_STMT (there (there (there here))) f = token r_as_place (name n_BINDING (name n_WHEN (token r_dropped (action b_make_set f))))
-expand n_STMT (there (there (there (there here)))) f = token r_as_place (name n_BINDING (token r_dropped (action b_make_aim f)))
-expand n_STMT (there (there (there (there (there m))))) f = elim m [ ]
-expand n_BINDING here f = token r_as_name (token r_dropped (name n_WHOLE f))
-expand n_BINDING (there m) f = elim m [ ]
-expand n_ADDRESS here f = token r_dropped (name n_WHOLE (token r_dropped (action b_some_expr f)))
-expand n_ADDRESS (there here) f = action b_no_expr f
-expand n_ADDRESS (there (there m)) f = elim m [ ]
-expand n_HEDGE here f = token r_dropped (name n_WHOLE (action b_some_when f))
-expand n_HEDGE (there here) f = token r_dropped (name n_WHOLE (action b_some_guess f))
-expand n_HEDGE (there (there here)) f = action b_no_hedge f
-expand n_HEDGE (there (there (there m))) f = elim m [ ]
-expand n_WHEN here f = token r_dropped (name n_WHOLE (action b_some_expr f))
-expand n_WHEN (there here) f = action b_no_expr f
-expand n_WHEN (there (there m)) f = elim m [ ]
-expand n_WHOLE here f = action b_enter (name n_EXPR (action b_leave f))
-expand n_WHOLE (there m) f = elim m [ ]
-expand n_IMAGE here f = token r_dropped (token r_dropped (action b_no_images (name n_WORDS (token r_dropped (action b_image_section f)))))
-expand n_IMAGE (there here) f = action b_no_image_section f
-expand n_IMAGE (there (there m)) f = elim m [ ]
-expand n_WORDS here f = name n_WORD (action b_one_image (name n_WORDS f))
-expand n_WORDS (there here) f = f
-expand n_WORDS (there (there m)) f = elim m [ ]
-expand n_WORD here f = token r_as_name (name n_NUMBERED (token r_dropped (action b_no_literals (token r_as_literal (action b_one_literal (name n_LITS (token r_dropped (action b_make_image f))))))))
-expand n_WORD (there m) f = elim m [ ]
-expand n_NUMBERED here f = token r_dropped (token r_as_number (token r_dropped (action b_some_number f)))
-expand n_NUMBERED (there here) f = action b_no_number f
-expand n_NUMBERED (there (there m)) f = elim m [ ]
-expand n_LITS here f = token r_dropped (token r_as_literal (action b_one_literal (name n_LITS f)))
-expand n_LITS (there here) f = f
-expand n_LITS (there (there m)) f = elim m [ ]
-expand n_STALLS here f = token r_dropped (token r_dropped (action b_no_stalls (name n_SPANS (token r_dropped (action b_stall_section f)))))
-expand n_STALLS (there here) f = action b_no_stall_section f
-expand n_STALLS (there (there m)) f = elim m [ ]
-expand n_SPANS here f = name n_SPAN (action b_one_stall (name n_SPANS f))
-expand n_SPANS (there here) f = f
-expand n_SPANS (there (there m)) f = elim m [ ]
-expand n_SPAN here f = token r_as_number (token r_dropped (token r_as_number (token r_dropped (token r_as_number (name n_STEP (token r_dropped (action b_make_stall f)))))))
-expand n_SPAN (there m) f = elim m [ ]
-expand n_STEP here f = token r_dropped (token r_as_number (action b_some_number f))
-expand n_STEP (there here) f = action b_no_number f
-expand n_STEP (there (there m)) f = elim m [ ]
-expand n_INPUTS here f = token r_dropped (token r_dropped (action b_no_inputs (name n_ENTRIES (token r_dropped (action b_input_section f)))))
-expand n_INPUTS (there here) f = action b_no_input_section f
-expand n_INPUTS (there (there m)) f = elim m [ ]
-expand n_ENTRIES here f = name n_ENTRY (action b_one_input (name n_ENTRIES f))
-expand n_ENTRIES (there here) f = f
-expand n_ENTRIES (there (there m)) f = elim m [ ]
-expand n_ENTRY here f = token r_as_name (token r_dropped (token r_as_literal (token r_dropped (token r_as_number (token r_dropped (token r_as_number (name n_STEP (token r_dropped (action b_make_input f)))))))))
-expand n_ENTRY (there m) f = elim m [ ]
-expand n_EXPR here f = name n_CHAIN_Or (name n_CHOICE f)
-expand n_EXPR (there m) f = elim m [ ]
-expand n_CHOICE here f = token r_counts_one (name n_EXPR (token r_dropped (name n_EXPR (action b_make_choice f))))
-expand n_CHOICE (there here) f = f
-expand n_CHOICE (there (there m)) f = elim m [ ]
-expand n_CHAIN_Or here f = name n_CHAIN_Xor (name n_MORE_Or f)
-expand n_CHAIN_Or (there m) f = elim m [ ]
-expand n_MORE_Or here f = token r_counts_one (name n_CHAIN_Xor (action b_make_binary (name n_MORE_Or f)))
-expand n_MORE_Or (there here) f = f
-expand n_MORE_Or (there (there m)) f = elim m [ ]
-expand n_CHAIN_Xor here f = name n_CHAIN_And (name n_MORE_Xor f)
-expand n_CHAIN_Xor (there m) f = elim m [ ]
-expand n_MORE_Xor here f = token r_counts_one (name n_CHAIN_And (action b_make_binary (name n_MORE_Xor f)))
-expand n_MORE_Xor (there here) f = f
-expand n_MORE_Xor (there (there m)) f = elim m [ ]
-expand n_CHAIN_And here f = name n_CHAIN_Compare (name n_MORE_And f)
-expand n_CHAIN_And (there m) f = elim m [ ]
-expand n_MORE_And here f = token r_counts_one (name n_CHAIN_Compare (action b_make_binary (name n_MORE_And f)))
-expand n_MORE_And (there here) f = f
-expand n_MORE_And (there (there m)) f = elim m [ ]
-expand n_CHAIN_Compare here f = name n_CHAIN_Shift (name n_MORE_Compare f)
-expand n_CHAIN_Compare (there m) f = elim m [ ]
-expand n_MORE_Compare here f = token r_counts_one (name n_CHAIN_Shift (action b_make_binary f))
-expand n_MORE_Compare (there here) f = token r_counts_one (name n_CHAIN_Shift (action b_make_binary f))
-expand n_MORE_Compare (there (there here)) f = f
-expand n_MORE_Compare (there (there (there m))) f = elim m [ ]
-expand n_CHAIN_Shift here f = name n_CHAIN_Sum (name n_MORE_Shift f)
-expand n_CHAIN_Shift (there m) f = elim m [ ]
-expand n_MORE_Shift here f = token r_counts_one (name n_CHAIN_Sum (action b_make_binary (name n_MORE_Shift f)))
-expand n_MORE_Shift (there here) f = token r_counts_one (name n_CHAIN_Sum (action b_make_binary (name n_MORE_Shift f)))
-expand n_MORE_Shift (there (there here)) f = f
-expand n_MORE_Shift (there (there (there m))) f = elim m [ ]
-expand n_CHAIN_Sum here f = name n_CHAIN_Product (name n_MORE_Sum f)
-expand n_CHAIN_Sum (there m) f = elim m [ ]
-expand n_MORE_Sum here f = token r_counts_one (name n_CHAIN_Product (action b_make_binary (name n_MORE_Sum f)))
-expand n_MORE_Sum (there here) f = token r_counts_one (name n_CHAIN_Product (action b_make_binary (name n_MORE_Sum f)))
-expand n_MORE_Sum (there (there here)) f = f
-expand n_MORE_Sum (there (there (there m))) f = elim m [ ]
-expand n_CHAIN_Product here f = name n_UNARY (name n_MORE_Product f)
-expand n_CHAIN_Product (there m) f = elim m [ ]
-expand n_MORE_Product here f = token r_counts_one (name n_UNARY (action b_make_binary (name n_MORE_Product f)))
-expand n_MORE_Product (there here) f = f
-expand n_MORE_Product (there (there m)) f = elim m [ ]
-expand n_UNARY here f = token r_counts_one (name n_UNARY (action b_make_not f))
-expand n_UNARY (there here) f = name n_POST f
-expand n_UNARY (there (there m)) f = elim m [ ]
-expand n_POST here f = name n_PRIM (name n_SLICES f)
-expand n_POST (there m) f = elim m [ ]
-expand n_SLICES here f = token r_counts_one (token r_as_number (name n_LOW (token r_dropped (action b_make_slice (name n_SLICES f)))))
-expand n_SLICES (there here) f = f
-expand n_SLICES (there (there m)) f = elim m [ ]
-expand n_LOW here f = token r_dropped (token r_as_number f)
-expand n_LOW (there here) f = action b_same_bit f
-expand n_LOW (there (there m)) f = elim m [ ]
-expand n_PRIM here f = token r_as_literal (action b_make_literal f)
-expand n_PRIM (there here) f = token r_as_name (name n_CALL f)
-expand n_PRIM (there (there here)) f = token r_opens (name n_EXPR (token r_closes f))
-expand n_PRIM (there (there (there here))) f = token r_opens_at (name n_EXPRS (token r_closes (action b_make_concat f)))
-expand n_PRIM (there (there (there (there here)))) f = token r_as_place (name n_EXTENDED (action b_make_zext f))
-expand n_PRIM (there (there (there (there (there here))))) f = token r_as_place (name n_EXTENDED (action b_make_sext f))
-expand n_PRIM (there (there (there (there (there (there m)))))) f = elim m [ ]
-expand n_EXTENDED here f = token r_opens (name n_EXPR (token r_separates (token r_as_number (token r_closes f))))
-expand n_EXTENDED (there m) f = elim m [ ]
-expand n_CALL here f = token r_opens (name n_EXPRS (token r_closes (action b_make_call f)))
-expand n_CALL (there here) f = action b_make_name f
-expand n_CALL (there (there m)) f = elim m [ ]
-expand n_EXPRS here f = action b_no_exprs (name n_EXPR (action b_one_expr (name n_PARTS f)))
-expand n_EXPRS (there m) f = elim m [ ]
-expand n_PARTS here f = token r_separates (name n_EXPR (action b_one_expr (name n_PARTS f)))
-expand n_PARTS (there here) f = f
-expand n_PARTS (there (there m)) f = elim m [ ]
+-- Each of the alternatives does what the name does.
+abbrev Each : ℕ → List Ty → List Ty → List (List Sym) → Type 0
+Each d ts us [] = Unit {0}
+Each d ts us (b ∷ bs) = ((s : List Sym) → Fits s d us → Fits (b ++ s) d ts) × Each d ts us bs
+
+each : {n d : ℕ} {ts us : List Ty} → Names n d ts us → Each d ts us (alternatives rules n)
+each n_JOB = ((λ s f. token r_dropped (token r_as_name (token r_dropped (token r_dropped (token r_as_number (token r_dropped (action b_no_decls (name n_DECLS (action b_no_blocks (name n_STAGE (action b_one_block (name n_STAGES (name n_IMAGE (name n_STALLS (name n_INPUTS (token r_dropped (action b_make_job f))))))))))))))))), tt)
+each n_DECLS = ((λ s f. name n_DECL (action b_one_decl (name n_DECLS f))), ((λ s f. f), tt))
+each n_DECL = (
+  (λ s f. token r_dropped (name n_PAR (token r_dropped (token r_as_literal (token r_dropped (action b_make_reg f)))))),
+  (
+    (λ s f. token r_dropped (name n_PAR (token r_dropped (token r_as_number (token r_dropped (token r_dropped (action b_make_file f))))))),
+    (
+      (λ s f. token r_dropped (name n_PAR (token r_dropped (action b_make_pipe f)))),
+      (
+        (λ s f. token r_dropped (name n_PAR (token r_dropped (token r_as_name (name n_INDEX (name n_ENABLE (token r_dropped (token r_as_number (token r_dropped (action b_make_result f)))))))))),
+        (
+          (λ s f. token r_dropped (name n_PAR (token r_dropped (token r_as_literal (token r_dropped (action b_make_hint f)))))),
+          (
+            (λ s f. token r_dropped (name n_PAR (token r_dropped (token r_as_number (token r_dropped (action b_make_sample f)))))),
+            (
+              (λ s f. token r_dropped (token r_as_name (token r_dropped (action b_no_params (name n_PAR (action b_one_param (name n_PARS (token r_dropped (token r_dropped (token r_as_number (token r_dropped (name n_WHOLE (token r_dropped (action b_make_fn f)))))))))))))),
+              tt,
+            ),
+          ),
+        ),
+      ),
+    ),
+  ),
+)
+each n_INDEX = ((λ s f. token r_dropped (token r_as_name (token r_dropped (action b_some_name f)))), ((λ s f. action b_no_name f), tt))
+each n_ENABLE = ((λ s f. token r_dropped (token r_as_name (action b_some_name f))), ((λ s f. action b_no_name f), tt))
+each n_PAR = ((λ s f. token r_as_name (token r_dropped (token r_as_number (action b_make_param f)))), tt)
+each n_PARS = ((λ s f. token r_dropped (name n_PAR (action b_one_param (name n_PARS f)))), ((λ s f. f), tt))
+each n_STAGE = ((λ s f. token r_dropped (token r_as_number (token r_dropped (action b_no_stmts (name n_STMTS (token r_dropped (action b_make_block f))))))), tt)
+each n_STAGES = ((λ s f. name n_STAGE (action b_one_block (name n_STAGES f))), ((λ s f. f), tt))
+each n_STMTS = ((λ s f. name n_STMT (action b_one_stmt (name n_STMTS f))), ((λ s f. f), tt))
+each n_STMT = (
+  (λ s f. token r_as_place (token r_as_name (token r_dropped (token r_as_name (name n_ADDRESS (name n_HEDGE (token r_dropped (action b_make_read f)))))))),
+  (
+    (λ s f. token r_as_place (name n_BINDING (token r_dropped (action b_make_let f)))),
+    (
+      (λ s f. token r_as_place (name n_BINDING (token r_dropped (action b_make_put f)))),
+      (
+        (λ s f. token r_as_place (name n_BINDING (name n_WHEN (token r_dropped (action b_make_set f))))),
+        (
+          (λ s f. token r_as_place (name n_BINDING (token r_dropped (action b_make_aim f)))),
+          tt,
+        ),
+      ),
+    ),
+  ),
+)
+each n_BINDING = ((λ s f. token r_as_name (token r_dropped (name n_WHOLE f))), tt)
+each n_ADDRESS = ((λ s f. token r_dropped (name n_WHOLE (token r_dropped (action b_some_expr f)))), ((λ s f. action b_no_expr f), tt))
+each n_HEDGE = (
+  (λ s f. token r_dropped (name n_WHOLE (action b_some_when f))),
+  (
+    (λ s f. token r_dropped (name n_WHOLE (action b_some_guess f))),
+    (
+      (λ s f. action b_no_hedge f),
+      tt,
+    ),
+  ),
+)
+each n_WHEN = ((λ s f. token r_dropped (name n_WHOLE (action b_some_expr f))), ((λ s f. action b_no_expr f), tt))
+each n_WHOLE = ((λ s f. action b_enter (name n_EXPR (action b_leave f))), tt)
+each n_IMAGE = (
+  (λ s f. token r_dropped (token r_dropped (action b_no_images (name n_WORDS (token r_dropped (action b_image_section f)))))),
+  (
+    (λ s f. action b_no_image_section f),
+    tt,
+  ),
+)
+each n_WORDS = ((λ s f. name n_WORD (action b_one_image (name n_WORDS f))), ((λ s f. f), tt))
+each n_WORD = ((λ s f. token r_as_name (name n_NUMBERED (token r_dropped (action b_no_literals (token r_as_literal (action b_one_literal (name n_LITS (token r_dropped (action b_make_image f))))))))), tt)
+each n_NUMBERED = ((λ s f. token r_dropped (token r_as_number (token r_dropped (action b_some_number f)))), ((λ s f. action b_no_number f), tt))
+each n_LITS = ((λ s f. token r_dropped (token r_as_literal (action b_one_literal (name n_LITS f)))), ((λ s f. f), tt))
+each n_STALLS = (
+  (λ s f. token r_dropped (token r_dropped (action b_no_stalls (name n_SPANS (token r_dropped (action b_stall_section f)))))),
+  (
+    (λ s f. action b_no_stall_section f),
+    tt,
+  ),
+)
+each n_SPANS = ((λ s f. name n_SPAN (action b_one_stall (name n_SPANS f))), ((λ s f. f), tt))
+each n_SPAN = ((λ s f. token r_as_number (token r_dropped (token r_as_number (token r_dropped (token r_as_number (name n_STEP (token r_dropped (action b_make_stall f)))))))), tt)
+each n_STEP = ((λ s f. token r_dropped (token r_as_number (action b_some_number f))), ((λ s f. action b_no_number f), tt))
+each n_INPUTS = (
+  (λ s f. token r_dropped (token r_dropped (action b_no_inputs (name n_ENTRIES (token r_dropped (action b_input_section f)))))),
+  (
+    (λ s f. action b_no_input_section f),
+    tt,
+  ),
+)
+each n_ENTRIES = ((λ s f. name n_ENTRY (action b_one_input (name n_ENTRIES f))), ((λ s f. f), tt))
+each n_ENTRY = ((λ s f. token r_as_name (token r_dropped (token r_as_literal (token r_dropped (token r_as_number (token r_dropped (token r_as_number (name n_STEP (token r_dropped (action b_make_input f)))))))))), tt)
+each n_EXPR = ((λ s f. name n_CHAIN_Or (name n_CHOICE f)), tt)
+each n_CHOICE = ((λ s f. token r_counts_one (name n_EXPR (token r_dropped (name n_EXPR (action b_make_choice f))))), ((λ s f. f), tt))
+each n_CHAIN_Or = ((λ s f. name n_CHAIN_Xor (name n_MORE_Or f)), tt)
+each n_MORE_Or = ((λ s f. token r_counts_one (name n_CHAIN_Xor (action b_make_binary (name n_MORE_Or f)))), ((λ s f. f), tt))
+each n_CHAIN_Xor = ((λ s f. name n_CHAIN_And (name n_MORE_Xor f)), tt)
+each n_MORE_Xor = ((λ s f. token r_counts_one (name n_CHAIN_And (action b_make_binary (name n_MORE_Xor f)))), ((λ s f. f), tt))
+each n_CHAIN_And = ((λ s f. name n_CHAIN_Compare (name n_MORE_And f)), tt)
+each n_MORE_And = ((λ s f. token r_counts_one (name n_CHAIN_Compare (action b_make_binary (name n_MORE_And f)))), ((λ s f. f), tt))
+each n_CHAIN_Compare = ((λ s f. name n_CHAIN_Shift (name n_MORE_Compare f)), tt)
+each n_MORE_Compare = (
+  (λ s f. token r_counts_one (name n_CHAIN_Shift (action b_make_binary f))),
+  (
+    (λ s f. token r_counts_one (name n_CHAIN_Shift (action b_make_binary f))),
+    (
+      (λ s f. f),
+      tt,
+    ),
+  ),
+)
+each n_CHAIN_Shift = ((λ s f. name n_CHAIN_Sum (name n_MORE_Shift f)), tt)
+each n_MORE_Shift = (
+  (λ s f. token r_counts_one (name n_CHAIN_Sum (action b_make_binary (name n_MORE_Shift f)))),
+  (
+    (λ s f. token r_counts_one (name n_CHAIN_Sum (action b_make_binary (name n_MORE_Shift f)))),
+    (
+      (λ s f. f),
+      tt,
+    ),
+  ),
+)
+each n_CHAIN_Sum = ((λ s f. name n_CHAIN_Product (name n_MORE_Sum f)), tt)
+each n_MORE_Sum = (
+  (λ s f. token r_counts_one (name n_CHAIN_Product (action b_make_binary (name n_MORE_Sum f)))),
+  (
+    (λ s f. token r_counts_one (name n_CHAIN_Product (action b_make_binary (name n_MORE_Sum f)))),
+    (
+      (λ s f. f),
+      tt,
+    ),
+  ),
+)
+each n_CHAIN_Product = ((λ s f. name n_UNARY (name n_MORE_Product f)), tt)
+each n_MORE_Product = ((λ s f. token r_counts_one (name n_UNARY (action b_make_binary (name n_MORE_Product f)))), ((λ s f. f), tt))
+each n_UNARY = ((λ s f. token r_counts_one (name n_UNARY (action b_make_not f))), ((λ s f. name n_POST f), tt))
+each n_POST = ((λ s f. name n_PRIM (name n_SLICES f)), tt)
+each n_SLICES = ((λ s f. token r_counts_one (token r_as_number (name n_LOW (token r_dropped (action b_make_slice (name n_SLICES f)))))), ((λ s f. f), tt))
+each n_LOW = ((λ s f. token r_dropped (token r_as_number f)), ((λ s f. action b_same_bit f), tt))
+each n_PRIM = (
+  (λ s f. token r_as_literal (action b_make_literal f)),
+  (
+    (λ s f. token r_as_name (name n_CALL f)),
+    (
+      (λ s f. token r_opens (name n_EXPR (token r_closes f))),
+      (
+        (λ s f. token r_opens_at (name n_EXPRS (token r_closes (action b_make_concat f)))),
+        (
+          (λ s f. token r_as_place (name n_EXTENDED (action b_make_zext f))),
+          (
+            (λ s f. token r_as_place (name n_EXTENDED (action b_make_sext f))),
+            tt,
+          ),
+        ),
+      ),
+    ),
+  ),
+)
+each n_EXTENDED = ((λ s f. token r_opens (name n_EXPR (token r_separates (token r_as_number (token r_closes f))))), tt)
+each n_CALL = ((λ s f. token r_opens (name n_EXPRS (token r_closes (action b_make_call f)))), ((λ s f. action b_make_name f), tt))
+each n_EXPRS = ((λ s f. action b_no_exprs (name n_EXPR (action b_one_expr (name n_PARTS f)))), tt)
+each n_PARTS = ((λ s f. token r_separates (name n_EXPR (action b_one_expr (name n_PARTS f)))), ((λ s f. f), tt))
+
+chosen : {d : ℕ} {ts us : List Ty} {s b : List Sym} {bs : List (List Sym)} → Has b bs → Each d ts us bs → Fits s d us → Fits (b ++ s) d ts
+chosen here e f = e.0 _ f
+chosen (there m) e f = chosen m e.1 f
 
 job_state : {cs : List ℕ} {vs : List Value} {o : Bool} → Deep zero cs → Stack (a_job ∷ []) vs → o ≡ false → (j : Job) × (record { counts = cs; over = o; values = vs } ≡ at [] (l.job j ∷ []))
 job_state none (push (is_job {x = j}) empty) e = (j, ap (λ (b : Bool). record { counts = []; over = b; values = l.job j ∷ [] }) e)
@@ -470,7 +483,7 @@ accepts_job : {s : List Sym} {v w : State} {xs : List Lexeme} {o : Outcome State
 accepts_job {v = v} {w = w} accept done h k e is =
     let same : w ≡ v = cc is in let r = job_state h k e in (r.0, same ∙ r.1)
 accepts_job more f h k e is = cc is
-accepts_job {xs = xs} (goes {n = n} body p rest) (name nt f) h k e is = accepts_job rest (expand nt (picks_rule rules tables n _ body p) f) h k e is
+accepts_job {xs = xs} (goes {n = n} body p rest) (name nt f) h k e is = accepts_job rest (chosen (picks_rule rules tables n _ body p) (each nt) f) h k e is
 accepts_job (take {x = x} same within rest) (token r f) h k e is = let q = read_keeps x r h k in accepts_job rest f q.0 q.1 within is
 accepts_job (make rest) (action b f) h k e is = let q = build_keeps b h k in accepts_job rest f q.0 q.1 e is
 accepts_job (wrong p) f h k e is = cc is

@@ -1,7 +1,9 @@
 -- The token at an index.
 use Rattle.std.proofs.Common.{ℕ, suc, ◌≡◌, ◌==◌, ◌<◌, ◌≤◌, ◌+◌, ◌-◌, List, [], ◌∷◌, length, drop, take, map, true, false, refl, sym, ap, ◌∙◌, arith}
-use Rattle.std.{proofs.lemmas.Bool.eqb-true, proofs.lemmas.List.drop_more, proofs.lemmas.List.drop-map, specs.Prelude.slice_index_or}
-use Rattle.kp_grammar.{specs.Grammar.Terminal, specs.Machine.Stops, specs.Machine.look, specs.Machine.wrong, proofs.Ways.took}
+use Rattle.std.proofs.lemmas.{Bool.eqb-true, List.drop_more, List.drop-map}
+use Rattle.std.specs.Prelude.{slice_index_or}
+use Rattle.kp_grammar.specs.{Grammar.Terminal, Machine.Stops, Machine.look, Machine.wrong}
+use Rattle.kp_grammar.proofs.Ways.{took}
 use Rattle.kp_lex.specs.declared.token.{Token.Token, Keyword.Keyword, Mark.Mark, TokenKind.TokenKind}
 use Rattle.kp_lex.specs.declared.token.Keyword.TheVariants as keywords
 use Rattle.kp_lex.specs.declared.token.Mark.TheVariants as marks
@@ -46,32 +48,26 @@ pub missed_end : (ts : List Lexeme) (i c : ℕ) → drop i ts ≡ [] → false �
     → (way : Way) (s : List Sym) (v : State) → Goes (Terminal c way ∷ s) v (drop i ts) (Stops (length (drop i ts)))
 missed_end ts i c h e = missed ts i c (e ∙ ap (λ (k : ℕ). k == c) (sym (ap (look language) h)))
 
-one_less : (ts : List Lexeme) (i j : ℕ) (t : Lexeme) → drop i ts ≡ t ∷ drop j ts → length (drop j ts) + 1 ≡ length (drop i ts)
-one_less ts i j t h = add_one (length (drop j ts)) ∙ sym (ap length h)
-  where
-    add_one : (n : ℕ) → n + 1 ≡ suc n
-    add_one n = omega arith
-
-at_most : (a b : ℕ) → a ≡ b → a ≤ b
-at_most a b h = omega arith
+shorter : (ts : List Lexeme) (i j : ℕ) (t : Lexeme) → drop i ts ≡ t ∷ drop j ts → length (drop j ts) + 1 ≤ length (drop i ts)
+shorter ts i j t h = let e = ap length h in omega (arith, e)
 
 -- a name, a number and a literal
 pub reads_name : (ts : List Lexeme) (i j : ℕ) (t : Lexeme) → drop i ts ≡ t ∷ drop j ts → kind_class t.kind ≡ IDENTIFIER → Turns ts NAME [] (named (named_of t) ∷ []) i j 1
 reads_name ts i j t h e = record {
   leads = λ s cs vs o g. took language is_over tables h e refl g;
-  shrinks = at_most _ _ (one_less ts i j t h);
+  shrinks = shorter ts i j t h;
 }
 
 pub reads_number : (ts : List Lexeme) (i j : ℕ) (t : Lexeme) (n : ℕ) → drop i ts ≡ t ∷ drop j ts → t.kind ≡ kinds.Number n → Turns ts NUM [] (number (record { value = n; at = t.place }) ∷ []) i j 1
 reads_number ts i j t n h e = record {
   leads = λ s cs vs o g. took language is_over tables h (ap kind_class e) refl (rw e g);
-  shrinks = at_most _ _ (one_less ts i j t h);
+  shrinks = shorter ts i j t h;
 }
 
 pub reads_literal : (ts : List Lexeme) (i j : ℕ) (t : Lexeme) (l : Literal) → drop i ts ≡ t ∷ drop j ts → t.kind ≡ kinds.Literal l → Turns ts LIT [] (literal (record { literal = l; at = t.place }) ∷ []) i j 1
 reads_literal ts i j t l h e = record {
   leads = λ s cs vs o g. took language is_over tables h (ap kind_class e) refl (rw e g);
-  shrinks = at_most _ _ (one_less ts i j t h);
+  shrinks = shorter ts i j t h;
 }
 
 -- keywords and marks are nothing else
@@ -79,37 +75,21 @@ pub keyword_isnt_end : (k : Keyword) → false ≡ (0 == keyword_class k)
 keyword_isnt_end keywords.Machine = refl
 keyword_isnt_end _ = refl
 
-keyword_isnt_number : (k : Keyword) → false ≡ (keyword_class k == 2)
-keyword_isnt_number keywords.Machine = refl
-keyword_isnt_number _ = refl
-
-keyword_isnt_literal : (k : Keyword) → false ≡ (keyword_class k == 3)
-keyword_isnt_literal keywords.Machine = refl
-keyword_isnt_literal _ = refl
-
 pub mark_isnt_end : (k : Mark) → false ≡ (0 == mark_class k)
 mark_isnt_end marks.Semicolon = refl
 mark_isnt_end _ = refl
 
-mark_isnt_number : (k : Mark) → false ≡ (mark_class k == 2)
-mark_isnt_number marks.Semicolon = refl
-mark_isnt_number _ = refl
-
-mark_isnt_literal : (k : Mark) → false ≡ (mark_class k == 3)
-mark_isnt_literal marks.Semicolon = refl
-mark_isnt_literal _ = refl
-
 -- what isn't a number, and what isn't a literal
 pub no_number : (k : TokenKind) → ((n : ℕ) → k ≡ kinds.Number n → ⊥) → false ≡ (kind_class k == 2)
 no_number (kinds.Number n) h = absurd (h n refl)
-no_number (kinds.Keyword k) h = keyword_isnt_number k
-no_number (kinds.Mark m) h = mark_isnt_number m
+no_number (kinds.Keyword keywords.Machine) h = refl
+no_number (kinds.Mark marks.Semicolon) h = refl
 no_number _ h = refl
 
 pub no_literal : (k : TokenKind) → ((l : Literal) → k ≡ kinds.Literal l → ⊥) → false ≡ (kind_class k == 3)
 no_literal (kinds.Literal l) h = absurd (h l refl)
-no_literal (kinds.Keyword k) h = keyword_isnt_literal k
-no_literal (kinds.Mark m) h = mark_isnt_literal m
+no_literal (kinds.Keyword keywords.Machine) h = refl
+no_literal (kinds.Mark marks.Semicolon) h = refl
 no_literal _ h = refl
 
 pub is_identifier : (k : TokenKind) → true ≡ (kind_class k == IDENTIFIER) → kind_class k ≡ IDENTIFIER

@@ -35,13 +35,16 @@ FaultIs ts P faults.NoMemory = Unit {0}
 FaultIs ts P (faults.Wrong i) = P (Stops (length (drop i ts)))
 FaultIs ts P (faults.TooDeep i) = P (Exceeds (length (drop i ts)))
 
+pub record Faults (ts : List Lexeme) (P : Outcome State → Type 0) (e : Fault) : Type 0 where
+  pub ends : FaultIs ts P e
+
 -- Token i is not of the class, whichever way a token of the class is to be read.
-pub record Misses (ts : List Lexeme) (c i : ℕ) (e : Fault) : Type 0 where
-  pub ends : FaultIs ts (λ o. (way : Way) (s : List Sym) (v : State) → Goes (Terminal c way ∷ s) v (drop i ts) o) e
+abbrev pub Misses : List Lexeme → ℕ → ℕ → Fault → Type 0
+Misses ts c i = Faults ts (λ o. (way : Way) (s : List Sym) (v : State) → Goes (Terminal c way ∷ s) v (drop i ts) o)
 
 -- A token follows where the text should end.
-pub record Follows (ts : List Lexeme) (i : ℕ) (e : Fault) : Type 0 where
-  pub ends : FaultIs ts (λ o. (v : State) → Goes [] v (drop i ts) o) e
+abbrev pub Follows : List Lexeme → ℕ → Fault → Type 0
+Follows ts i = Faults ts (λ o. (v : State) → Goes [] v (drop i ts) o)
 
 -- Reading the symbol leads from token i to token j, and from some values on top to others; it consumes at least this many tokens.
 pub record Turns (ts : List Lexeme) (x : Sym) (before after : List Value) (i j least : ℕ) : Type 0 where
@@ -54,8 +57,8 @@ pub record TurnsYet (ts : List Lexeme) (x : Sym) (before after : List Value) (i 
   pub shrinks : length (drop j ts) + least ≤ length (drop i ts)
 
 -- Reading the symbol from token i on ends with this fault.
-pub record Ends (ts : List Lexeme) (x : Sym) (before : List Value) (i : ℕ) (e : Fault) : Type 0 where
-  pub ends : FaultIs ts (λ o. (s : List Sym) (cs : List ℕ) (vs : List Value) → Goes (x ∷ s) (at cs (before ++ vs)) (drop i ts) o) e
+abbrev pub Ends : List Lexeme → Sym → List Value → ℕ → Fault → Type 0
+Ends ts x before i = Faults ts (λ o. (s : List Sym) (cs : List ℕ) (vs : List Value) → Goes (x ∷ s) (at cs (before ++ vs)) (drop i ts) o)
 
 -- In an expression reading the name leads from token i to token j, from one count to another, and pushes values.
 pub record Reads (ts : List Lexeme) (n c : ℕ) (after : List Value) (c' i j : ℕ) : Type 0 where
@@ -71,8 +74,8 @@ pub record ReadsYet (ts : List Lexeme) (n c m : ℕ) (after : List Value) (c' i 
   pub limit : c' ≤ 64
   pub shrinks : length (drop j ts) + 1 ≤ length (drop i ts)
 
-pub record Fails (ts : List Lexeme) (n c i : ℕ) (e : Fault) : Type 0 where
-  pub ends : FaultIs ts (λ o. (s : List Sym) (cs : List ℕ) (vs : List Value) → Goes (Nonterminal n ∷ s) (at (c ∷ cs) vs) (drop i ts) o) e
+abbrev pub Fails : List Lexeme → ℕ → ℕ → ℕ → Fault → Type 0
+Fails ts n c i = Faults ts (λ o. (s : List Sym) (cs : List ℕ) (vs : List Value) → Goes (Nonterminal n ∷ s) (at (c ∷ cs) vs) (drop i ts) o)
 
 -- The same for expressions in a bracket with commas between them: a comma resets what has been counted in the bracket.
 pub record Lists (ts : List Lexeme) (es : List Expr) (d i j : ℕ) : Type 0 where
@@ -85,8 +88,8 @@ pub record ListsYet (ts : List Lexeme) (es : List Expr) (d i j : ℕ) : Type 0 w
       → ((f : ℕ) → Goes (Nonterminal PARTS ∷ s) (at (f ∷ c ∷ cs) (exprs es ∷ vs)) (drop j ts) o) → Goes (Nonterminal EXPRS ∷ s) (at (d ∷ c ∷ cs) vs) (drop i ts) o
   pub shrinks : length (drop j ts) + 1 ≤ length (drop i ts)
 
-pub record FailsList (ts : List Lexeme) (d i : ℕ) (e : Fault) : Type 0 where
-  pub ends : FaultIs ts (λ o. (s : List Sym) (c : ℕ) (cs : List ℕ) (vs : List Value) → d ≡ c + 1 → Goes (Nonterminal EXPRS ∷ s) (at (d ∷ c ∷ cs) vs) (drop i ts) o) e
+abbrev pub FailsList : List Lexeme → ℕ → ℕ → Fault → Type 0
+FailsList ts d i = Faults ts (λ o. (s : List Sym) (c : ℕ) (cs : List ℕ) (vs : List Value) → d ≡ c + 1 → Goes (Nonterminal EXPRS ∷ s) (at (d ∷ c ∷ cs) vs) (drop i ts) o)
 
 -- The complete text, from its first token on, leads to this outcome.
 abbrev pub JobGoes : List Lexeme → Outcome State → Type 0

@@ -4,7 +4,7 @@ use Rattle.kp_grammar.specs.{Grammar.Nonterminal, Machine.Outcome}
 use Rattle.kp_lex.specs.declared.token.Mark.TheVariants as marks
 use Rattle.kp_parse_grammar.specs.{declared.fault.Fault.Fault, Tokens.Lexeme}
 use Rattle.kp_parse_grammar.specs.Language.{Sym, State, Value, at, counted, mark, NUM, EXPR, LOW}
-use Rattle.kp_parse_grammar.specs.Reading.{Goes, FaultIs}
+use Rattle.kp_parse_grammar.specs.Reading.{Goes, Faults}
 
 -- `? yes : no`
 abbrev pub branch_symbols : List Sym
@@ -20,8 +20,8 @@ pub record TurnsAll (ts : List Lexeme) (xs : List Sym) (after : List Value) (i j
   pub shrinks : length (drop j ts) + least ≤ length (drop i ts)
 
 -- Reading them from token i on ends with this fault.
-pub record EndsAll (ts : List Lexeme) (xs : List Sym) (i : ℕ) (e : Fault) : Type 0 where
-  pub ends : FaultIs ts (λ o. (s : List Sym) (cs : List ℕ) (vs : List Value) → Goes (xs ++ s) (at cs vs) (drop i ts) o) e
+abbrev pub EndsAll : List Lexeme → List Sym → ℕ → Fault → Type 0
+EndsAll ts xs i = Faults ts (λ o. (s : List Sym) (cs : List ℕ) (vs : List Value) → Goes (xs ++ s) (at cs vs) (drop i ts) o)
 
 -- In an expression reading the symbols leads from token i to token j, from one count to another, and pushes values.
 pub record ReadsAll (ts : List Lexeme) (xs : List Sym) (c : ℕ) (after : List Value) (c' i j : ℕ) : Type 0 where
@@ -31,5 +31,5 @@ pub record ReadsAll (ts : List Lexeme) (xs : List Sym) (c : ℕ) (after : List V
   pub shrinks : length (drop j ts) + 1 ≤ length (drop i ts)
 
 -- In an expression reading them from token i on ends with this fault.
-pub record FailsAll (ts : List Lexeme) (xs : List Sym) (c i : ℕ) (e : Fault) : Type 0 where
-  pub ends : FaultIs ts (λ o. (s : List Sym) (cs : List ℕ) (vs : List Value) → Goes (xs ++ s) (at (c ∷ cs) vs) (drop i ts) o) e
+abbrev pub FailsAll : List Lexeme → List Sym → ℕ → ℕ → Fault → Type 0
+FailsAll ts xs c i = Faults ts (λ o. (s : List Sym) (cs : List ℕ) (vs : List Value) → Goes (xs ++ s) (at (c ∷ cs) vs) (drop i ts) o)

@@ -1,21 +1,17 @@
-use Rattle.std.proofs.{Common.arith, lemmas.Result.err_from_is_err_and}
-use Rattle.kp_parse_grammar.proofs.Steps.{by_dropped, one, miss_stretch, end_stretch}
+use Rattle.std.proofs.Common.{arith}
+use Rattle.kp_parse_grammar.proofs.Steps.{by_dropped, one, exits}
 use Rattle.kp_parse.proofs.declaration.bracketed.Goals as goal
 
 pub returns-in_err-_open : goal.returns-in_err-_open
-returns-in_err-_open c =
-    let p = err_from_is_err_and c.from_residual.result c.from_residual.ensures.1 in
-    rw (p.1, p.2) (miss_stretch c.in_err-_open.ensures (λ o h s cs vs. h _ _ _))
+returns-in_err-_open c = exits _ _ _ c.from_residual.ensures.1 c.in_err-_open.ensures (λ o h s cs vs. h _ _ _)
 
 pub returns-in_err-number : goal.returns-in_err-number
 returns-in_err-number c =
-    let p = err_from_is_err_and c.from_residual-in_err-number.result c.from_residual-in_err-number.ensures.1 in
-    rw (p.1, p.2) (end_stretch c.in_err-number.ensures (λ o h s cs vs. by_dropped c.in_ok-_open.ensures (h _ _ _)))
+    exits _ _ _ c.from_residual-in_err-number.ensures.1 c.in_err-number.ensures (λ o h s cs vs. by_dropped c.in_ok-_open.ensures (h _ _ _))
 
 pub returns-in_err-_close : goal.returns-in_err-_close
 returns-in_err-_close c =
-    let p = err_from_is_err_and c.from_residual-in_err-_close.result c.from_residual-in_err-_close.ensures.1 in
-    rw (p.1, p.2) (miss_stretch c.in_err-_close.ensures (λ o h s cs vs. by_dropped c.in_ok-_open.ensures (c.in_ok-number.ensures.leads _ _ _ _ (h _ _ _))))
+    exits _ _ _ c.from_residual-in_err-_close.ensures.1 c.in_err-_close.ensures (λ o h s cs vs. by_dropped c.in_ok-_open.ensures (c.in_ok-number.ensures.leads _ _ _ _ (h _ _ _)))
 
 pub returns : goal.returns
 returns c = record {

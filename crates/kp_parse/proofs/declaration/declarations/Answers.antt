@@ -1,13 +1,12 @@
-use Rattle.std.proofs.{Common.arith, lemmas.List.length_push, lemmas.Result.err_from_is_err_and}
+use Rattle.std.proofs.{Common.arith, lemmas.List.length_push}
 use Rattle.kp_ast.specs.declared.tree.Decl.{Decl}
 use Rattle.kp_grammar.specs.Machine.{make}
-use Rattle.kp_parse_grammar.proofs.{Steps.end_end, Picks.decls_1, Picks.decls_else}
+use Rattle.kp_parse_grammar.proofs.{Picks.decls_1, Picks.decls_else, Steps.exits}
 use Rattle.kp_parse.proofs.declaration.declarations.Goals as goal
 
 pub returns-in_err-one : goal.returns-in_err-one
 returns-in_err-one c =
-    let p = err_from_is_err_and c.from_residual.result c.from_residual.ensures.1 in
-    rw (p.1, p.2) (end_end c.in_err-one.ensures (λ o h s cs vs. c.all.invariant.leads _ _ _ _ (decls_1 (cc c.begins_declaration.ensures) (h _ _ _))))
+    exits _ _ _ c.from_residual.ensures.1 c.in_err-one.ensures (λ o h s cs vs. c.all.invariant.leads _ _ _ _ (decls_1 (cc c.begins_declaration.ensures) (h _ _ _)))
 
 pub all-preserved : goal.all-preserved
 all-preserved c = rw c.in_ok-push.ensures.items (record {

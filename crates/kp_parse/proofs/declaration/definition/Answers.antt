@@ -1,31 +1,24 @@
-use Rattle.std.proofs.{Common.arith, lemmas.Result.err_from_is_err_and}
-use Rattle.kp_parse_grammar.proofs.Steps.{by_dropped, one, miss_stretch, end_stretch}
+use Rattle.std.proofs.Common.{arith}
+use Rattle.kp_parse_grammar.proofs.Steps.{by_dropped, one, exits}
 use Rattle.kp_parse.proofs.declaration.definition.Goals as goal
 
 pub returns-in_err-_colon : goal.returns-in_err-_colon
-returns-in_err-_colon c =
-    let p = err_from_is_err_and c.from_residual.result c.from_residual.ensures.1 in
-    rw (p.1, p.2) (miss_stretch c.in_err-_colon.ensures (λ o h s cs vs. h _ _ _))
+returns-in_err-_colon c = exits _ _ _ c.from_residual.ensures.1 c.in_err-_colon.ensures (λ o h s cs vs. h _ _ _)
 
 pub returns-in_err-width : goal.returns-in_err-width
-returns-in_err-width c =
-    let p = err_from_is_err_and c.from_residual-in_err-width.result c.from_residual-in_err-width.ensures.1 in
-    rw (p.1, p.2) (end_stretch c.in_err-width.ensures (λ o h s cs vs. by_dropped c.in_ok-_colon.ensures (h _ _ _)))
+returns-in_err-width c = exits _ _ _ c.from_residual-in_err-width.ensures.1 c.in_err-width.ensures (λ o h s cs vs. by_dropped c.in_ok-_colon.ensures (h _ _ _))
 
 pub returns-in_err-_equals : goal.returns-in_err-_equals
 returns-in_err-_equals c =
-    let p = err_from_is_err_and c.from_residual-in_err-_equals.result c.from_residual-in_err-_equals.ensures.1 in
-    rw (p.1, p.2) (miss_stretch c.in_err-_equals.ensures (λ o h s cs vs. by_dropped c.in_ok-_colon.ensures (c.in_ok-width.ensures.leads _ _ _ _ (h _ _ _))))
+    exits _ _ _ c.from_residual-in_err-_equals.ensures.1 c.in_err-_equals.ensures (λ o h s cs vs. by_dropped c.in_ok-_colon.ensures (c.in_ok-width.ensures.leads _ _ _ _ (h _ _ _)))
 
 pub returns-in_err-body : goal.returns-in_err-body
 returns-in_err-body c =
-    let p = err_from_is_err_and c.from_residual-in_err-body.result c.from_residual-in_err-body.ensures.1 in
-    rw (p.1, p.2) (end_stretch c.in_err-body.ensures (λ o h s cs vs. by_dropped c.in_ok-_colon.ensures (c.in_ok-width.ensures.leads _ _ _ _ (by_dropped c.in_ok-_equals.ensures (h _ _ _)))))
+    exits _ _ _ c.from_residual-in_err-body.ensures.1 c.in_err-body.ensures (λ o h s cs vs. by_dropped c.in_ok-_colon.ensures (c.in_ok-width.ensures.leads _ _ _ _ (by_dropped c.in_ok-_equals.ensures (h _ _ _))))
 
 pub returns-in_err-ended : goal.returns-in_err-ended
 returns-in_err-ended c =
-    let p = err_from_is_err_and c.from_residual-in_err-ended.result c.from_residual-in_err-ended.ensures.1 in
-    rw (p.1, p.2) (miss_stretch (rw c.in_err-ended.ensures at c.mark-end.ensures) (λ o h s cs vs. by_dropped c.in_ok-_colon.ensures (c.in_ok-width.ensures.leads _ _ _ _ (by_dropped c.in_ok-_equals.ensures (c.in_ok-body.ensures.leads _ _ _ _ (h _ _ _))))))
+    exits _ _ _ c.from_residual-in_err-ended.ensures.1 (rw c.in_err-ended.ensures at c.mark-end.ensures) (λ o h s cs vs. by_dropped c.in_ok-_colon.ensures (c.in_ok-width.ensures.leads _ _ _ _ (by_dropped c.in_ok-_equals.ensures (c.in_ok-body.ensures.leads _ _ _ _ (h _ _ _)))))
 
 pub returns : goal.returns
 returns c = record {

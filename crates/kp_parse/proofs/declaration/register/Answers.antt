@@ -1,25 +1,21 @@
-use Rattle.std.proofs.{Common.arith, lemmas.Result.err_from_is_err_and}
+use Rattle.std.proofs.Common.{arith, refl}
 use Rattle.kp_grammar.specs.Machine.{make}
-use Rattle.kp_parse_grammar.proofs.{Steps.by_dropped, Steps.one, Steps.miss_end, Steps.end_end, Steps.stretch_end, Picks.decl_1}
+use Rattle.kp_parse_grammar.proofs.{Steps.by_dropped, Steps.one, Steps.exits, Picks.goes_at}
 use Rattle.kp_parse.proofs.declaration.register.Goals as goal
 
 pub returns-in_err-_reg : goal.returns-in_err-_reg
-returns-in_err-_reg c =
-    let p = err_from_is_err_and c.from_residual.result c.from_residual.ensures.1 in
-    rw (p.1, p.2) (miss_end c.in_err-_reg.ensures (λ o h s cs vs. decl_1 c.requires (h _ _ _)))
+returns-in_err-_reg c = exits _ _ _ c.from_residual.ensures.1 c.in_err-_reg.ensures (λ o h s cs vs. goes_at _ c.requires refl (h _ _ _))
 
 pub returns-in_err-typed : goal.returns-in_err-typed
 returns-in_err-typed c =
-    let p = err_from_is_err_and c.from_residual-in_err-typed.result c.from_residual-in_err-typed.ensures.1 in
-    rw (p.1, p.2) (end_end c.in_err-typed.ensures (λ o h s cs vs. decl_1 c.requires (by_dropped c.in_ok-_reg.ensures (h _ _ _))))
+    exits _ _ _ c.from_residual-in_err-typed.ensures.1 c.in_err-typed.ensures (λ o h s cs vs. goes_at _ c.requires refl (by_dropped c.in_ok-_reg.ensures (h _ _ _)))
 
 pub returns-in_err-start : goal.returns-in_err-start
 returns-in_err-start c =
-    let p = err_from_is_err_and c.from_residual-in_err-start.result c.from_residual-in_err-start.ensures.1 in
-    rw (p.1, p.2) (stretch_end c.in_err-start.ensures (λ o h s cs vs. decl_1 c.requires (by_dropped c.in_ok-_reg.ensures (c.in_ok-typed.ensures.leads _ _ _ _ (h _ _ _)))))
+    exits _ _ _ c.from_residual-in_err-start.ensures.1 c.in_err-start.ensures (λ o h s cs vs. goes_at _ c.requires refl (by_dropped c.in_ok-_reg.ensures (c.in_ok-typed.ensures.leads _ _ _ _ (h _ _ _))))
 
 pub returns : goal.returns
 returns c = record {
-  leads = λ s cs vs o h. decl_1 c.requires (by_dropped c.in_ok-_reg.ensures (c.in_ok-typed.ensures.leads _ _ _ _ (c.in_ok-start.ensures.leads _ _ _ _ (make (h)))));
+  leads = λ s cs vs o h. goes_at _ c.requires refl (by_dropped c.in_ok-_reg.ensures (c.in_ok-typed.ensures.leads _ _ _ _ (c.in_ok-start.ensures.leads _ _ _ _ (make (h)))));
   shrinks = omega (arith, one c.in_ok-_reg.ensures, c.in_ok-typed.ensures.shrinks, c.in_ok-start.ensures.shrinks);
 }

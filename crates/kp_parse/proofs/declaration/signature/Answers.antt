@@ -1,27 +1,22 @@
-use Rattle.std.proofs.{Common.arith, lemmas.Result.err_from_is_err_and}
+use Rattle.std.proofs.Common.{arith}
 use Rattle.kp_grammar.specs.Machine.{make}
-use Rattle.kp_parse_grammar.proofs.Steps.{by_dropped, one, miss_stretch, end_stretch}
+use Rattle.kp_parse_grammar.proofs.Steps.{by_dropped, one, exits}
 use Rattle.kp_parse.proofs.declaration.signature.Goals as goal
 
 pub returns-in_err-_open : goal.returns-in_err-_open
-returns-in_err-_open c =
-    let p = err_from_is_err_and c.from_residual.result c.from_residual.ensures.1 in
-    rw (p.1, p.2) (miss_stretch c.in_err-_open.ensures (λ o h s cs vs. h _ _ _))
+returns-in_err-_open c = exits _ _ _ c.from_residual.ensures.1 c.in_err-_open.ensures (λ o h s cs vs. h _ _ _)
 
 pub returns-in_err-first : goal.returns-in_err-first
 returns-in_err-first c =
-    let p = err_from_is_err_and c.from_residual-in_err-first.result c.from_residual-in_err-first.ensures.1 in
-    rw (p.1, p.2) (end_stretch c.in_err-first.ensures (λ o h s cs vs. by_dropped c.in_ok-_open.ensures (make (h _ _ _))))
+    exits _ _ _ c.from_residual-in_err-first.ensures.1 c.in_err-first.ensures (λ o h s cs vs. by_dropped c.in_ok-_open.ensures (make (h _ _ _)))
 
 pub returns-in_err-params : goal.returns-in_err-params
 returns-in_err-params c =
-    let p = err_from_is_err_and c.from_residual-in_err-params.result c.from_residual-in_err-params.ensures.1 in
-    rw (p.1, p.2) (end_stretch c.in_err-params.ensures (λ o h s cs vs. by_dropped c.in_ok-_open.ensures (make (c.in_ok-first.ensures.leads _ _ _ _ (make (h _ _ _))))))
+    exits _ _ _ c.from_residual-in_err-params.ensures.1 c.in_err-params.ensures (λ o h s cs vs. by_dropped c.in_ok-_open.ensures (make (c.in_ok-first.ensures.leads _ _ _ _ (make (h _ _ _)))))
 
 pub returns-in_err-_close : goal.returns-in_err-_close
 returns-in_err-_close c =
-    let p = err_from_is_err_and c.from_residual-in_err-_close.result c.from_residual-in_err-_close.ensures.1 in
-    rw (p.1, p.2) (miss_stretch c.in_err-_close.ensures (λ o h s cs vs. by_dropped c.in_ok-_open.ensures (make (c.in_ok-first.ensures.leads _ _ _ _ (make (c.in_ok-params.ensures.leads _ _ _ _ (h _ _ _)))))))
+    exits _ _ _ c.from_residual-in_err-_close.ensures.1 c.in_err-_close.ensures (λ o h s cs vs. by_dropped c.in_ok-_open.ensures (make (c.in_ok-first.ensures.leads _ _ _ _ (make (c.in_ok-params.ensures.leads _ _ _ _ (h _ _ _))))))
 
 pub returns : goal.returns
 returns c = record {

@@ -1,21 +1,16 @@
-use Rattle.std.proofs.{Common.arith, lemmas.Result.err_from_is_err_and}
-use Rattle.kp_parse_grammar.proofs.Steps.{by_dropped, one, miss_stretch, end_stretch}
+use Rattle.std.proofs.Common.{arith}
+use Rattle.kp_parse_grammar.proofs.Steps.{by_dropped, one, exits}
 use Rattle.kp_parse.proofs.declaration.start.Goals as goal
 
 pub returns-in_err-_equals : goal.returns-in_err-_equals
-returns-in_err-_equals c =
-    let p = err_from_is_err_and c.from_residual.result c.from_residual.ensures.1 in
-    rw (p.1, p.2) (miss_stretch c.in_err-_equals.ensures (λ o h s cs vs. h _ _ _))
+returns-in_err-_equals c = exits _ _ _ c.from_residual.ensures.1 c.in_err-_equals.ensures (λ o h s cs vs. h _ _ _)
 
 pub returns-in_err-start : goal.returns-in_err-start
-returns-in_err-start c =
-    let p = err_from_is_err_and c.from_residual-in_err-start.result c.from_residual-in_err-start.ensures.1 in
-    rw (p.1, p.2) (end_stretch c.in_err-start.ensures (λ o h s cs vs. by_dropped c.in_ok-_equals.ensures (h _ _ _)))
+returns-in_err-start c = exits _ _ _ c.from_residual-in_err-start.ensures.1 c.in_err-start.ensures (λ o h s cs vs. by_dropped c.in_ok-_equals.ensures (h _ _ _))
 
 pub returns-in_err-_end : goal.returns-in_err-_end
 returns-in_err-_end c =
-    let p = err_from_is_err_and c.from_residual-in_err-_end.result c.from_residual-in_err-_end.ensures.1 in
-    rw (p.1, p.2) (miss_stretch c.in_err-_end.ensures (λ o h s cs vs. by_dropped c.in_ok-_equals.ensures (c.in_ok-start.ensures.leads _ _ _ _ (h _ _ _))))
+    exits _ _ _ c.from_residual-in_err-_end.ensures.1 c.in_err-_end.ensures (λ o h s cs vs. by_dropped c.in_ok-_equals.ensures (c.in_ok-start.ensures.leads _ _ _ _ (h _ _ _)))
 
 pub returns : goal.returns
 returns c = record {

@@ -1,22 +1,18 @@
-use Rattle.std.proofs.{Common.arith, lemmas.Result.err_from_is_err_and}
+use Rattle.std.proofs.Common.{arith}
 use Rattle.kp_grammar.specs.Machine.{make}
-use Rattle.kp_parse_grammar.proofs.Steps.{end_stretch}
+use Rattle.kp_parse_grammar.proofs.Steps.{exits}
 use Rattle.kp_parse.proofs.job.parts.Goals as goal
 
 pub returns-in_err-decls : goal.returns-in_err-decls
-returns-in_err-decls c =
-    let p = err_from_is_err_and c.from_residual.result c.from_residual.ensures.1 in
-    rw (p.1, p.2) (end_stretch c.in_err-decls.ensures (λ o h s cs vs. make (h _ _ _)))
+returns-in_err-decls c = exits _ _ _ c.from_residual.ensures.1 c.in_err-decls.ensures (λ o h s cs vs. make (h _ _ _))
 
 pub returns-in_err-first : goal.returns-in_err-first
 returns-in_err-first c =
-    let p = err_from_is_err_and c.from_residual-in_err-first.result c.from_residual-in_err-first.ensures.1 in
-    rw (p.1, p.2) (end_stretch c.in_err-first.ensures (λ o h s cs vs. make (c.in_ok-decls.ensures.leads _ _ _ _ (make (h _ _ _)))))
+    exits _ _ _ c.from_residual-in_err-first.ensures.1 c.in_err-first.ensures (λ o h s cs vs. make (c.in_ok-decls.ensures.leads _ _ _ _ (make (h _ _ _))))
 
 pub returns-in_err-blocks : goal.returns-in_err-blocks
 returns-in_err-blocks c =
-    let p = err_from_is_err_and c.from_residual-in_err-blocks.result c.from_residual-in_err-blocks.ensures.1 in
-    rw (p.1, p.2) (end_stretch c.in_err-blocks.ensures (λ o h s cs vs. make (c.in_ok-decls.ensures.leads _ _ _ _ (make (c.in_ok-first.ensures.leads _ _ _ _ (make (h _ _ _)))))))
+    exits _ _ _ c.from_residual-in_err-blocks.ensures.1 c.in_err-blocks.ensures (λ o h s cs vs. make (c.in_ok-decls.ensures.leads _ _ _ _ (make (c.in_ok-first.ensures.leads _ _ _ _ (make (h _ _ _))))))
 
 pub returns : goal.returns
 returns c = record {

@@ -1,26 +1,21 @@
-use Rattle.std.proofs.{Common.arith, lemmas.Result.err_from_is_err_and}
-use Rattle.kp_parse_grammar.proofs.Steps.{by_dropped, one, miss_stretch, end_stretch}
+use Rattle.std.proofs.Common.{arith}
+use Rattle.kp_parse_grammar.proofs.Steps.{by_dropped, one, exits}
 use Rattle.kp_parse.proofs.job.sections.Goals as goal
 
 pub returns-in_err-image : goal.returns-in_err-image
-returns-in_err-image c =
-    let p = err_from_is_err_and c.from_residual.result c.from_residual.ensures.1 in
-    rw (p.1, p.2) (end_stretch c.in_err-image.ensures (λ o h s cs vs. h _ _ _))
+returns-in_err-image c = exits _ _ _ c.from_residual.ensures.1 c.in_err-image.ensures (λ o h s cs vs. h _ _ _)
 
 pub returns-in_err-stalls : goal.returns-in_err-stalls
 returns-in_err-stalls c =
-    let p = err_from_is_err_and c.from_residual-in_err-stalls.result c.from_residual-in_err-stalls.ensures.1 in
-    rw (p.1, p.2) (end_stretch c.in_err-stalls.ensures (λ o h s cs vs. c.in_ok-image.ensures.leads _ _ _ _ (h _ _ _)))
+    exits _ _ _ c.from_residual-in_err-stalls.ensures.1 c.in_err-stalls.ensures (λ o h s cs vs. c.in_ok-image.ensures.leads _ _ _ _ (h _ _ _))
 
 pub returns-in_err-inputs : goal.returns-in_err-inputs
 returns-in_err-inputs c =
-    let p = err_from_is_err_and c.from_residual-in_err-inputs.result c.from_residual-in_err-inputs.ensures.1 in
-    rw (p.1, p.2) (end_stretch c.in_err-inputs.ensures (λ o h s cs vs. c.in_ok-image.ensures.leads _ _ _ _ (c.in_ok-stalls.ensures.leads _ _ _ _ (h _ _ _))))
+    exits _ _ _ c.from_residual-in_err-inputs.ensures.1 c.in_err-inputs.ensures (λ o h s cs vs. c.in_ok-image.ensures.leads _ _ _ _ (c.in_ok-stalls.ensures.leads _ _ _ _ (h _ _ _)))
 
 pub returns-in_err-_end : goal.returns-in_err-_end
 returns-in_err-_end c =
-    let p = err_from_is_err_and c.from_residual-in_err-_end.result c.from_residual-in_err-_end.ensures.1 in
-    rw (p.1, p.2) (miss_stretch c.in_err-_end.ensures (λ o h s cs vs. c.in_ok-image.ensures.leads _ _ _ _ (c.in_ok-stalls.ensures.leads _ _ _ _ (c.in_ok-inputs.ensures.leads _ _ _ _ (h _ _ _)))))
+    exits _ _ _ c.from_residual-in_err-_end.ensures.1 c.in_err-_end.ensures (λ o h s cs vs. c.in_ok-image.ensures.leads _ _ _ _ (c.in_ok-stalls.ensures.leads _ _ _ _ (c.in_ok-inputs.ensures.leads _ _ _ _ (h _ _ _))))
 
 pub returns : goal.returns
 returns c = record {

@@ -1,21 +1,21 @@
-use Rattle.std.proofs.{Common.arith, lemmas.Result.err_from_is_err_and}
+use Rattle.std.proofs.Common.{arith, refl}
 use Rattle.kp_grammar.specs.Machine.{make}
-use Rattle.kp_parse_grammar.proofs.{Steps.end_end, Picks.entries_1, Picks.entries_else}
+use Rattle.kp_parse_grammar.proofs.{Steps.exits, Picks.goes_at, Picks.goes_past}
+use Rattle.kp_parse_grammar.specs.Tokens.{IDENTIFIER}
 use Rattle.kp_parse.proofs.sections.entries.Goals as goal
 
 pub returns-in_err-one : goal.returns-in_err-one
 returns-in_err-one c =
-    let p = err_from_is_err_and c.from_residual.result c.from_residual.ensures.1 in
-    rw (p.1, p.2) (end_end c.in_err-one.ensures (λ o h s cs vs. c.all.invariant.leads _ _ _ _ (entries_1 (cc c.is_name.ensures) (h _ _ _))))
+    exits _ _ _ c.from_residual.ensures.1 c.in_err-one.ensures (λ o h s cs vs. c.all.invariant.leads _ _ _ _ (goes_at IDENTIFIER (cc c.is_name.ensures) refl (h _ _ _)))
 
 pub all-preserved : goal.all-preserved
 all-preserved c = rw c.in_ok-push.ensures.items (record {
-  leads = λ s cs vs o h. c.all.invariant.leads _ _ _ _ (entries_1 (cc c.is_name.ensures) (c.in_ok-one.ensures.leads _ _ _ _ (make (h))));
+  leads = λ s cs vs o h. c.all.invariant.leads _ _ _ _ (goes_at IDENTIFIER (cc c.is_name.ensures) refl (c.in_ok-one.ensures.leads _ _ _ _ (make (h))));
   shrinks = omega (arith, c.all.invariant.shrinks, c.in_ok-one.ensures.shrinks);
 })
 
 pub returns : goal.returns
 returns c = record {
-  leads = λ s cs vs o h. c.all.invariant.leads _ _ _ _ (entries_else (cc c.is_name.ensures) h);
+  leads = λ s cs vs o h. c.all.invariant.leads _ _ _ _ (goes_past IDENTIFIER _ _ (cc c.is_name.ensures) refl h);
   shrinks = omega (arith, c.all.invariant.shrinks);
 }

@@ -1,30 +1,25 @@
-use Rattle.std.proofs.{Common.arith, lemmas.Result.err_from_is_err_and}
-use Rattle.kp_grammar.specs.Machine.{make}
-use Rattle.kp_parse_grammar.proofs.{Steps.by_dropped, Steps.one, Steps.miss_end, Steps.end_end, Steps.stretch_end, Picks.entry_all}
+use Rattle.std.proofs.Common.{arith, refl}
+use Rattle.kp_grammar.specs.Machine.{make, goes}
+use Rattle.kp_parse_grammar.proofs.Steps.{by_dropped, one, exits}
 use Rattle.kp_parse.proofs.sections.entry.Goals as goal
 
 pub returns-in_err-name : goal.returns-in_err-name
-returns-in_err-name c =
-    let p = err_from_is_err_and c.from_residual.result c.from_residual.ensures.1 in
-    rw (p.1, p.2) (end_end c.in_err-name.ensures (λ o h s cs vs. entry_all (h _ _ _)))
+returns-in_err-name c = exits _ _ _ c.from_residual.ensures.1 c.in_err-name.ensures (λ o h s cs vs. goes _ refl (h _ _ _))
 
 pub returns-in_err-_equals : goal.returns-in_err-_equals
 returns-in_err-_equals c =
-    let p = err_from_is_err_and c.from_residual-in_err-_equals.result c.from_residual-in_err-_equals.ensures.1 in
-    rw (p.1, p.2) (miss_end c.in_err-_equals.ensures (λ o h s cs vs. entry_all (c.in_ok-name.ensures.leads _ _ _ _ (h _ _ _))))
+    exits _ _ _ c.from_residual-in_err-_equals.ensures.1 c.in_err-_equals.ensures (λ o h s cs vs. goes _ refl (c.in_ok-name.ensures.leads _ _ _ _ (h _ _ _)))
 
 pub returns-in_err-value : goal.returns-in_err-value
 returns-in_err-value c =
-    let p = err_from_is_err_and c.from_residual-in_err-value.result c.from_residual-in_err-value.ensures.1 in
-    rw (p.1, p.2) (end_end c.in_err-value.ensures (λ o h s cs vs. entry_all (c.in_ok-name.ensures.leads _ _ _ _ (by_dropped c.in_ok-_equals.ensures (h _ _ _)))))
+    exits _ _ _ c.from_residual-in_err-value.ensures.1 c.in_err-value.ensures (λ o h s cs vs. goes _ refl (c.in_ok-name.ensures.leads _ _ _ _ (by_dropped c.in_ok-_equals.ensures (h _ _ _))))
 
 pub returns-in_err-from : goal.returns-in_err-from
 returns-in_err-from c =
-    let p = err_from_is_err_and c.from_residual-in_err-from.result c.from_residual-in_err-from.ensures.1 in
-    rw (p.1, p.2) (stretch_end c.in_err-from.ensures (λ o h s cs vs. entry_all (c.in_ok-name.ensures.leads _ _ _ _ (by_dropped c.in_ok-_equals.ensures (c.in_ok-value.ensures.leads _ _ _ _ (h _ _ _))))))
+    exits _ _ _ c.from_residual-in_err-from.ensures.1 c.in_err-from.ensures (λ o h s cs vs. goes _ refl (c.in_ok-name.ensures.leads _ _ _ _ (by_dropped c.in_ok-_equals.ensures (c.in_ok-value.ensures.leads _ _ _ _ (h _ _ _)))))
 
 pub returns : goal.returns
 returns c = record {
-  leads = λ s cs vs o h. entry_all (c.in_ok-name.ensures.leads _ _ _ _ (by_dropped c.in_ok-_equals.ensures (c.in_ok-value.ensures.leads _ _ _ _ (c.in_ok-from.ensures.leads _ _ _ _ (make (h))))));
+  leads = λ s cs vs o h. goes _ refl (c.in_ok-name.ensures.leads _ _ _ _ (by_dropped c.in_ok-_equals.ensures (c.in_ok-value.ensures.leads _ _ _ _ (c.in_ok-from.ensures.leads _ _ _ _ (make (h))))));
   shrinks = omega (arith, c.in_ok-name.ensures.shrinks, one c.in_ok-_equals.ensures, c.in_ok-value.ensures.shrinks, c.in_ok-from.ensures.shrinks);
 }

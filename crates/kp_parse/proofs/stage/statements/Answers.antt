@@ -1,12 +1,11 @@
-use Rattle.std.proofs.{Common.arith, lemmas.Result.err_from_is_err_and}
+use Rattle.std.proofs.Common.{arith}
 use Rattle.kp_grammar.specs.Machine.{make}
-use Rattle.kp_parse_grammar.proofs.{Steps.end_end, Picks.stmts_1, Picks.stmts_else}
+use Rattle.kp_parse_grammar.proofs.{Picks.stmts_1, Picks.stmts_else, Steps.exits}
 use Rattle.kp_parse.proofs.stage.statements.Goals as goal
 
 pub returns-in_err-one : goal.returns-in_err-one
 returns-in_err-one c =
-    let p = err_from_is_err_and c.from_residual.result c.from_residual.ensures.1 in
-    rw (p.1, p.2) (end_end c.in_err-one.ensures (λ o h s cs vs. c.all.invariant.leads _ _ _ _ (stmts_1 (cc c.begins_statement.ensures) (h _ _ _))))
+    exits _ _ _ c.from_residual.ensures.1 c.in_err-one.ensures (λ o h s cs vs. c.all.invariant.leads _ _ _ _ (stmts_1 (cc c.begins_statement.ensures) (h _ _ _)))
 
 pub all-preserved : goal.all-preserved
 all-preserved c = rw c.in_ok-push.ensures.items (record {

@@ -1,31 +1,25 @@
-use Rattle.std.proofs.{Common.arith, lemmas.Result.err_from_is_err_and}
-use Rattle.kp_parse_grammar.proofs.Steps.{by_dropped, by_counted, over_counted, one, miss_all, end_all, deep_all}
+use Rattle.std.proofs.Common.{arith}
+use Rattle.kp_parse_grammar.proofs.Steps.{by_dropped, by_counted, over_counted, one, exits, exceeds}
 use Rattle.kp_parse_grammar.proofs.expression.bounds.Goals as goal
 
 pub returns-in_err-place-clause-bounds : goal.returns-in_err-place-clause-bounds
-returns-in_err-place-clause-bounds c =
-    let p = err_from_is_err_and c.from_residual.result c.from_residual.ensures.1 in
-    rw (p.1, p.2) (miss_all c.in_err-place.ensures (λ o h s cs vs. h _ _ _))
+returns-in_err-place-clause-bounds c = exits _ _ _ c.from_residual.ensures.1 c.in_err-place.ensures (λ o h s cs vs. h _ _ _)
 
 pub returns-in_err-deeper-clause-bounds : goal.returns-in_err-deeper-clause-bounds
 returns-in_err-deeper-clause-bounds c =
-    let p = err_from_is_err_and c.from_residual-in_err-deeper.result c.from_residual-in_err-deeper.ensures.1 in
-    rw (p.1, p.2) (deep_all c.in_err-deeper.ensures (λ s cs vs. over_counted c.in_ok-place.ensures c.in_err-deeper.ensures.1))
+    exceeds _ _ _ _ c.from_residual-in_err-deeper.ensures.1 c.in_err-deeper.ensures (λ s cs vs. over_counted c.in_ok-place.ensures c.in_err-deeper.ensures.1)
 
 pub returns-in_err-hi-clause-bounds : goal.returns-in_err-hi-clause-bounds
 returns-in_err-hi-clause-bounds c =
-    let p = err_from_is_err_and c.from_residual-in_err-hi.result c.from_residual-in_err-hi.ensures.1 in
-    rw (p.1, p.2) (end_all c.in_err-hi.ensures (λ o h s cs vs. by_counted c.in_ok-place.ensures c.in_ok-deeper.ensures (h _ _ _)))
+    exits _ _ _ c.from_residual-in_err-hi.ensures.1 c.in_err-hi.ensures (λ o h s cs vs. by_counted c.in_ok-place.ensures c.in_ok-deeper.ensures (h _ _ _))
 
 pub returns-in_err-lo-clause-bounds : goal.returns-in_err-lo-clause-bounds
 returns-in_err-lo-clause-bounds c =
-    let p = err_from_is_err_and c.from_residual-in_err-lo.result c.from_residual-in_err-lo.ensures.1 in
-    rw (p.1, p.2) (end_all c.in_err-lo.ensures (λ o h s cs vs. by_counted c.in_ok-place.ensures c.in_ok-deeper.ensures (c.in_ok-hi.ensures.leads _ _ _ _ (h _ _ _))))
+    exits _ _ _ c.from_residual-in_err-lo.ensures.1 c.in_err-lo.ensures (λ o h s cs vs. by_counted c.in_ok-place.ensures c.in_ok-deeper.ensures (c.in_ok-hi.ensures.leads _ _ _ _ (h _ _ _)))
 
 pub returns-in_err-_close-clause-bounds : goal.returns-in_err-_close-clause-bounds
 returns-in_err-_close-clause-bounds c =
-    let p = err_from_is_err_and c.from_residual-in_err-_close.result c.from_residual-in_err-_close.ensures.1 in
-    rw (p.1, p.2) (miss_all c.in_err-_close.ensures (λ o h s cs vs. by_counted c.in_ok-place.ensures c.in_ok-deeper.ensures (c.in_ok-hi.ensures.leads _ _ _ _ (c.in_ok-lo.ensures.leads _ _ _ _ (h _ _ _)))))
+    exits _ _ _ c.from_residual-in_err-_close.ensures.1 c.in_err-_close.ensures (λ o h s cs vs. by_counted c.in_ok-place.ensures c.in_ok-deeper.ensures (c.in_ok-hi.ensures.leads _ _ _ _ (c.in_ok-lo.ensures.leads _ _ _ _ (h _ _ _))))
 
 pub returns-clause-bounds : goal.returns-clause-bounds
 returns-clause-bounds c = record {
