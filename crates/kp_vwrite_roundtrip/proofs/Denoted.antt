@@ -15,8 +15,8 @@ use Rattle.kp_vlog.specs.declared.tree.{Range.Range, Named.Named, VPort.VPort, R
 use Rattle.kp_vlog.specs.Canon.{wire, wire_name}
 use Rattle.kp_vlog.specs.declared.tree.Right.TheVariants as sides
 use Rattle.kp_vlog.specs.declared.tree.Item.TheVariants as lines
-use Rattle.kp_vwrite_roundtrip.proofs.Sentence.{named_at, number_at, range_at, port_at, ShowsNames, no_name, a_name, ShowsRight, a_sample, a_reg, a_word, a_not, a_binary, a_mux, a_concat, a_slice, ShowsSamples, no_sample, one_sample, ShowsRegs, no_reg_line, reg_line, ShowsFiles, no_file_line, file_line, ShowsInteger, no_integer, an_integer, ShowsNodes, no_node_line, node_line, ShowsReset, no_reset_shown, reset_shown, Shown, outs, whole}
-use Rattle.kp_vwrite_roundtrip.proofs.SameNet.{words_are, starts_skipped, starts_are, nexts_are, updates_skipped, ported, ports_are, found, width_found, address_found, found_past, sizes_append, sized, samples_past, regs_past, files_past, integer_past, files_sized, WidthsAre, nodes_sized}
+use Rattle.kp_vwrite_roundtrip.proofs.Sentence.{named_at, number_at, range_at, port_at, ShowsNames, no_name, a_name, ShowsRight, a_sample, a_reg, a_word, a_not, a_binary, a_mux, a_concat, a_slice, ShowsSamples, no_sample, one_sample, ShowsRegs, no_reg_line, reg_line, ShowsFiles, no_file_line, file_line, ShowsInteger, no_integer, an_integer, ShowsNodes, no_node_line, node_line, ShowsReset, no_reset_shown, reset_shown, Shown, outs, module_of}
+use Rattle.kp_vwrite_roundtrip.proofs.SameNet.{words_are, starts_skipped, starts_found, nexts_are, updates_skipped, ported, ports_are, found, width_found, address_found, found_past, sized, port_sized, reg_sized, file_sized, range_back, samples_sized, regs_sized, files_sized, each_past, each_found, WidthsAre, nodes_sized}
 use Rattle.kp_vwrite_roundtrip.proofs.Distinct.{apart, tag, tag_reg, tag_file, tag_sample, tag_wire, place_at, wires_to, wire_place}
 use Rattle.kp_vwrite_roundtrip.proofs.Written.{RightFrom, all_right}
 
@@ -61,13 +61,13 @@ file_names_more : (fs : List NetFile) (xs ys : List Item) → ShowsFiles fs xs �
 file_names_more _ _ ys no_file_line = refl
 file_names_more _ _ ys (file_line {f = f} {fs = fs} {xs = xs} a b c d e k) = ap (λ (t : List (List ℕ)). f.name ∷ t) (file_names_more fs xs ys k)
 
-reg_names_are : (net : Net) (s : Shown net) → reg_names (whole s).items ≡ map (λ r. r.name) net.parts.regs
+reg_names_are : (net : Net) (s : Shown net) → reg_names (module_of s).items ≡ map (λ r. r.name) net.parts.regs
 reg_names_are net s =
     reg_names_more net.parts.regs s.regs (s.files ++ (s.integer ++ (s.nodes ++ outs s))) s.shows_regs
     ∙ ap (λ t. map (λ r. r.name) net.parts.regs ++ t) (past_all reg_names net s (outs s) (λ r n w zs. refl) (λ n zs. refl) (λ r n zs. refl) (λ i at r zs. refl))
     ∙ append-nil (map (λ r. r.name) net.parts.regs)
 
-file_names_are : (net : Net) (s : Shown net) → file_names (whole s).items ≡ map (λ f. f.name) net.parts.files
+file_names_are : (net : Net) (s : Shown net) → file_names (module_of s).items ≡ map (λ f. f.name) net.parts.files
 file_names_are net s =
     past_regs file_names net.parts.regs s.regs (s.files ++ (s.integer ++ (s.nodes ++ outs s))) (λ r n zs. refl) s.shows_regs
     ∙ file_names_more net.parts.files s.files (s.integer ++ (s.nodes ++ outs s)) s.shows_files
@@ -90,6 +90,15 @@ pub record Scoped (net : Net) (s : Scope) : Type 0 where
 pub spelled : {X : Type 0} (test : List ℕ → Bool) (f : X → List ℕ) (xs : List X) → All (IsSpelled test) (map f xs) → All (λ x. test (f x) ≡ true) xs
 spelled test f [] h = All-nil (λ x. test (f x) ≡ true)
 spelled test f (x ∷ xs) h = All-cons (λ x. test (f x) ≡ true) x xs (All-head (IsSpelled test) (f x) (map f xs) h).kind (spelled test f xs (All-tail (IsSpelled test) (f x) (map f xs) h))
+
+pub samples_tagged : (net : Net) → IsNamed net → All (λ s. tag s.name ≡ 1115) net.parts.samples
+samples_tagged net named i d l = tag_sample (get_or net.parts.samples i d).name (spelled is_sample_name (λ s. s.name) net.parts.samples named.samples i d l)
+
+pub regs_tagged : (net : Net) → IsNamed net → All (λ r. tag r.name ≡ 1114) net.parts.regs
+regs_tagged net named i d l = tag_reg (get_or net.parts.regs i d).name (spelled is_reg_name (λ r. r.name) net.parts.regs named.regs i d l)
+
+pub files_tagged : (net : Net) → IsNamed net → All (λ f. tag f.name ≡ 1102) net.parts.files
+files_tagged net named i d l = tag_file (get_or net.parts.files i d).name (spelled is_file_name (λ f. f.name) net.parts.files named.files i d l)
 
 node_is : (j : ℕ) (a : NodeId) (at : ℕ) → a.0 < j → j ≤ 16777216 → node_of (wires_to j) (named_at (wire a) at) ≡ a
 node_is j a at h few = ap (λ (k : ℕ). record { 0 = k }) (wire_place j a.0 h few)
@@ -147,69 +156,66 @@ nodes_made net named s j _ done _ sc few (node_line {n = n} {ns = ns} {r = r} {x
 
 -- The table of the complete module.
 
-pub kinds_of : (test : List ℕ → Bool) (ns : List (List ℕ)) → All (IsSpelled test) ns → All (λ n. test n ≡ true) ns
-kinds_of test ns h = All-weaker (IsSpelled test) (λ n. test n ≡ true) (λ n k. k.kind) ns h
+-- what is declared after the ports
+abbrev pub after_ports : {net : Net} → Shown net → Sizes
+after_ports {net} s = map reg_sized net.parts.regs ++ (map file_sized net.parts.files ++ item_sizes (s.nodes ++ outs s))
 
-abbrev pub behind_ports : {net : Net} → Shown net → Sizes
-behind_ports s = item_sizes s.regs ++ (item_sizes s.files ++ (item_sizes s.integer ++ (item_sizes s.nodes ++ [])))
+abbrev pub module_table : {net : Net} → Shown net → Sizes
+module_table {net} s =
+    sized (codes "ext") net.parts.ext 0
+    ∷ (map port_sized net.parts.samples
+    ++ (sized (codes "full") (wide net.nodes net.parts.full.0) 0 ∷ sized (codes "ue") (wide net.nodes net.parts.ue.0) 0 ∷ sized (codes "back") (wide net.nodes net.parts.back.0) 0 ∷ after_ports s))
 
-items_sized : (net : Net) (s : Shown net) → item_sizes (whole s).items ≡ behind_ports s
-items_sized net s =
-    sizes_append s.regs _
-    ∙ ap (λ t. item_sizes s.regs ++ t) (sizes_append s.files _ ∙ ap (λ t. item_sizes s.files ++ t) (sizes_append s.integer _ ∙ ap (λ t. item_sizes s.integer ++ t) (sizes_append s.nodes (outs s))))
-
-abbrev pub port_part : Net → (ℕ → ℕ) → Sizes → Sizes
-port_part net p rest =
-    port_size (port_at (wide net.nodes net.parts.full.0) (codes "full") (p 5) (p 6) (p 7)) ∷ port_size (port_at (wide net.nodes net.parts.ue.0) (codes "ue") (p 8) (p 9) (p 10))
-    ∷ port_size (port_at (wide net.nodes net.parts.back.0) (codes "back") (p 11) (p 12) (p 13)) ∷ rest
-
-abbrev pub whole_table : {net : Net} → Shown net → Sizes
-whole_table {net} s = port_size (port_at net.parts.ext (codes "ext") (s.p 2) (s.p 3) (s.p 4)) ∷ (map port_size s.ports ++ port_part net s.p (behind_ports s))
-
-pub table_is : (net : Net) (s : Shown net) → sizes_of (whole s) ≡ whole_table s
-table_is net s = ap (λ t. port_size (whole s).ext ∷ (map port_size s.ports ++ port_part net s.p t)) (items_sized net s)
+pub table_is : (net : Net) (s : Shown net) → NetOk net → IsNamed net → sizes_of (module_of s) ≡ module_table s
+table_is net s k named =
+    let p = net.parts in
+    let items : item_sizes (module_of s).items ≡ after_ports s =
+    regs_sized net.nodes p.regs s.regs (s.files ++ (s.integer ++ (s.nodes ++ outs s))) s.shows_regs k.parts.regs
+    ∙ ap (λ t. map reg_sized p.regs ++ t) (files_sized net.nodes p.files s.files (s.integer ++ (s.nodes ++ outs s)) s.shows_files k.parts.files
+    ∙ ap (λ t. map file_sized p.files ++ t) (past_integer item_sizes p.files s.integer (s.nodes ++ outs s) (λ n zs. refl) s.shows_integer)) in
+    let samples = samples_sized p.samples s.ports s.samples k.parts.samples in
+    let atleast = named.at_least in let fw = named.full in let uw = named.ue in let bw = named.back in
+    let ext = range_back p.ext k.parts.ext_positive in
+    let full = range_back (wide net.nodes p.full.0) (omega arith) in let ue = range_back (wide net.nodes p.ue.0) (omega arith) in let back = range_back (wide net.nodes p.back.0) (omega arith) in
+    λ i. sized (codes "ext") (ext i) 0 ∷ (samples i ++ (sized (codes "full") (full i) 0 ∷ sized (codes "ue") (ue i) 0 ∷ sized (codes "back") (back i) 0 ∷ items i))
 
 -- a name that is no port's is found after the ports
 pub ports_past : (net : Net) (s : Shown net) (named : IsNamed net) (n : List ℕ) (t : ℕ) → tag n ≡ t → (t == 101) ≡ false → (t == 1115) ≡ false → (t == 102) ≡ false → (t == 117) ≡ false → (t == 98) ≡ false
-    → found (whole_table s) n ≡ found (behind_ports s) n
+    → found (module_table s) n ≡ found (after_ports s) n
 ports_past net s named n t e a b c d f =
     found_past _ _ n (apart n (codes "ext") t 101 e refl a)
-    ∙ samples_past n t net.parts.samples s.ports _ s.samples (kinds_of is_sample_name _ named.samples) e b
+    ∙ each_past port_sized n t 1115 net.parts.samples _ (samples_tagged net named) e b
     ∙ found_past _ _ n (apart n (codes "full") t 102 e refl c) ∙ found_past _ _ n (apart n (codes "ue") t 117 e refl d) ∙ found_past _ _ n (apart n (codes "back") t 98 e refl f)
 
-pub widths_are : (net : Net) (s : Shown net) → NetOk net → IsNamed net → WidthsAre (sizes_of (whole s)) 0 net.nodes
+pub widths_are : (net : Net) (s : Shown net) → NetOk net → IsNamed net → WidthsAre (sizes_of (module_of s)) 0 net.nodes
 widths_are net s k named =
     let few = k.count in
-    nodes_sized net net.parts 0 net.nodes s.nodes (sizes_of (whole s)) [] s.shows_nodes (omega arith) (all_right net k) (λ i l h.
-    ap (λ t. found t (wire_name i)) (table_is net s)
+    nodes_sized net net.parts 0 net.nodes s.nodes (outs s) (sizes_of (module_of s)) s.shows_nodes (omega arith) (all_right net k) (λ i l h.
+    ap (λ t. found t (wire_name i)) (table_is net s k named)
     ∙ ports_past net s named (wire_name i) 110 (tag_wire i h) refl refl refl refl refl
-    ∙ regs_past (wire_name i) 110 net.parts.regs s.regs _ s.shows_regs (kinds_of is_reg_name _ named.regs) (tag_wire i h) refl
-    ∙ files_past (wire_name i) 110 net.parts.files s.files _ s.shows_files (kinds_of is_file_name _ named.files) (tag_wire i h) refl
-    ∙ ap (λ t. found (t ++ (item_sizes s.nodes ++ [])) (wire_name i)) (integer_past net.parts.files s.integer s.shows_integer))
+    ∙ each_past reg_sized (wire_name i) 110 1114 net.parts.regs _ (regs_tagged net named) (tag_wire i h) refl ∙ each_past file_sized (wire_name i) 110 1102 net.parts.files _ (files_tagged net named) (tag_wire i h) refl)
 
-pub file_sizes : (net : Net) (s : Shown net) → NetOk net → IsNamed net → All (λ f. found (sizes_of (whole s)) f.name ≡ sized f.name f.width f.address_width) net.parts.files
+pub file_sizes : (net : Net) (s : Shown net) → NetOk net → IsNamed net → All (λ f. found (sizes_of (module_of s)) f.name ≡ file_sized f) net.parts.files
 file_sizes net s k named i d l =
     let f = get_or net.parts.files i d in
-    let t = tag_file f.name (spelled is_file_name (λ f. f.name) net.parts.files named.files i d l) in
-    ap (λ z. found z f.name) (table_is net s)
-    ∙ ports_past net s named f.name 1102 t refl refl refl refl refl
-    ∙ regs_past f.name 1102 net.parts.regs s.regs _ s.shows_regs (kinds_of is_reg_name _ named.regs) t refl
-    ∙ files_sized net.nodes net.parts.files s.files s.shows_files k.parts.files named.files_differ i d l (item_sizes s.integer ++ (item_sizes s.nodes ++ []))
+    let t = files_tagged net named i d l in
+    ap (λ z. found z f.name) (table_is net s k named) ∙ ports_past net s named f.name 1102 t refl refl refl refl refl
+    ∙ each_past reg_sized f.name 1102 1114 net.parts.regs _ (regs_tagged net named) t refl ∙ each_found file_sized net.parts.files _ named.files_differ i d l
 
-pub scoped : (net : Net) (s : Shown net) → Scoped net (scope_of (whole s))
+pub scoped : (net : Net) (s : Shown net) → Scoped net (scope_of (module_of s))
 scoped net s = record { samples = sample_names_are net.parts.samples s.ports s.samples; regs = reg_names_are net s; files = file_names_are net s }
 
 -- All nodes.
 
-pub made_is : (net : Net) (s : Shown net) → NetOk net → IsNamed net → made_by (scope_of (whole s)) (whole s).items ≡ made (wires_to (length net.nodes)) net.nodes
+pub made_is : (net : Net) (s : Shown net) → NetOk net → IsNamed net → made_by (scope_of (module_of s)) (module_of s).items ≡ made (wires_to (length net.nodes)) net.nodes
 made_is net s k named =
-    let f = with_item (scope_of (whole s)) in
+    let f = with_item (scope_of (module_of s)) in
     let few = k.count in
     past_regs (λ xs. fold f (made [] []) xs) net.parts.regs s.regs (s.files ++ (s.integer ++ (s.nodes ++ outs s))) (λ r n zs. refl) s.shows_regs
     ∙ past_files (λ xs. fold f (made [] []) xs) net.parts.files s.files (s.integer ++ (s.nodes ++ outs s)) (λ r n w zs. refl) s.shows_files
     ∙ past_integer (λ xs. fold f (made [] []) xs) net.parts.files s.integer (s.nodes ++ outs s) (λ n zs. refl) s.shows_integer
     ∙ fold-append f (made [] []) s.nodes (outs s)
-    ∙ ap (λ (x : Made). fold f x (outs s)) (nodes_made net named (scope_of (whole s)) 0 net.nodes [] s.nodes (scoped net s) (omega arith) s.shows_nodes (all_right net k) (widths_are net s k named))
+    ∙ ap (λ (x : Made). fold f x (outs s)) (nodes_made net named (scope_of (module_of s)) 0 net.nodes [] s.nodes (scoped net s) (omega arith) s.shows_nodes (all_right net k) (widths_are net s k named))
     ∙ ap (λ (i : ℕ). made (wires_to i) net.nodes) (let e : 0 + length net.nodes ≡ length net.nodes = omega arith in e)
 
 -- Outputs.
@@ -218,7 +224,7 @@ output_past : (wires : List (List ℕ)) (out : List ℕ) (t : Named) (r : Right)
 output_past wires out t (sides.Name n) zs e = cond-false (same t.name out) (node_of wires n) (output_of wires out zs) e
 output_past wires out t x zs e = refl
 
-output_is : (net : Net) (s : Shown net) (wires : List (List ℕ)) (out : List ℕ) → ((i : ℕ) → same (wire_name i) out ≡ false) → output_of wires out (whole s).items ≡ output_of wires out (outs s)
+output_is : (net : Net) (s : Shown net) (wires : List (List ℕ)) (out : List ℕ) → ((i : ℕ) → same (wire_name i) out ≡ false) → output_of wires out (module_of s).items ≡ output_of wires out (outs s)
 output_is net s wires out e =
     past_regs (output_of wires out) net.parts.regs s.regs (s.files ++ (s.integer ++ (s.nodes ++ outs s))) (λ r n zs. refl) s.shows_regs
     ∙ past_all (output_of wires out) net s (outs s) (λ r n w zs. refl) (λ n zs. refl) (λ r n zs. refl) (λ i at r zs. output_past wires out (named_at (wire_name i) at) r zs (e i))
@@ -233,15 +239,15 @@ regs_more wires m _ _ ys (reg_line {r = r} {rs = rs} {xs = xs} c d e k) a b =
     let rest = regs_more wires m rs xs ys k (All-tail (λ r. start_of m.inits r.name ≡ r.start) r rs a) (All-tail (λ r. next_of wires m.updates r.name ≡ r.next) r rs b) in
     λ i. record { name = r.name; start = start i; next = next i } ∷ rest i
 
-regs_are : (net : Net) (s : Shown net) → NetOk net → IsNamed net → regs_of (wires_to (length net.nodes)) (whole s) (whole s).items ≡ net.parts.regs
+regs_are : (net : Net) (s : Shown net) → NetOk net → IsNamed net → regs_of (wires_to (length net.nodes)) (module_of s) (module_of s).items ≡ net.parts.regs
 regs_are net s k named =
     let wires = wires_to (length net.nodes) in
-    regs_more wires (whole s) net.parts.regs s.regs (s.files ++ (s.integer ++ (s.nodes ++ outs s))) s.shows_regs
-    (λ i d l. starts_are net.parts.regs s.start_part s.shows_starts named.regs_differ i d l s.fill_part)
+    regs_more wires (module_of s) net.parts.regs s.regs (s.files ++ (s.integer ++ (s.nodes ++ outs s))) s.shows_regs
+    (starts_found start_of (λ w. w) (λ r a b xs n. refl) net.parts.regs s.start_part s.fill_part s.shows_starts named.regs_differ)
     (λ i d l. let r = get_or net.parts.regs i d in let ok = (k.parts.regs i d l).next in
     nexts_are wires net.parts.regs s.update_part s.shows_updates named.regs_differ i d l s.write_part
     ∙ ap (λ (a : ℕ). record { 0 = a }) (wire_place (length net.nodes) r.next.0 ok.0 k.count))
-    ∙ ap (λ t. net.parts.regs ++ t) (past_all (regs_of wires (whole s)) net s (outs s) (λ r n w zs. refl) (λ n zs. refl) (λ r n zs. refl) (λ i at r zs. refl))
+    ∙ ap (λ t. net.parts.regs ++ t) (past_all (regs_of wires (module_of s)) net s (outs s) (λ r n w zs. refl) (λ n zs. refl) (λ r n zs. refl) (λ i at r zs. refl))
     ∙ append-nil net.parts.regs
 
 -- Files.
@@ -265,27 +271,27 @@ files_more wires m _ _ ys (file_line {f = f} {fs = fs} {xs = xs} c d e g h k) a 
     let rest = files_more wires m fs xs ys k (All-tail (IsFile wires m) f fs a) in
     λ i. record { name = f.name; width = is.width i; address_width = is.address i; words = is.words i; port = is.port i } ∷ rest i
 
-files_are : (net : Net) (s : Shown net) → NetOk net → IsNamed net → files_of (wires_to (length net.nodes)) (whole s) (whole s).items ≡ net.parts.files
+files_are : (net : Net) (s : Shown net) → NetOk net → IsNamed net → files_of (wires_to (length net.nodes)) (module_of s) (module_of s).items ≡ net.parts.files
 files_are net s k named =
     let wires = wires_to (length net.nodes) in
-    past_regs (files_of wires (whole s)) net.parts.regs s.regs (s.files ++ (s.integer ++ (s.nodes ++ outs s))) (λ r n zs. refl) s.shows_regs
-    ∙ files_more wires (whole s) net.parts.files s.files (s.integer ++ (s.nodes ++ outs s)) s.shows_files (λ i d l.
+    past_regs (files_of wires (module_of s)) net.parts.regs s.regs (s.files ++ (s.integer ++ (s.nodes ++ outs s))) (λ r n zs. refl) s.shows_regs
+    ∙ files_more wires (module_of s) net.parts.files s.files (s.integer ++ (s.nodes ++ outs s)) s.shows_files (λ i d l.
     let f = get_or net.parts.files i d in
     let size = file_sizes net s k named i d l in
     let ok = k.parts.files i d l in
-    let address : address_in (sizes_of (whole s)) f.name ≡ f.address_width = address_found (sizes_of (whole s)) f.name ∙ ap (λ (z : Sized). z.address) size in
+    let address : address_in (sizes_of (module_of s)) f.name ≡ f.address_width = address_found (sizes_of (module_of s)) f.name ∙ ap (λ (z : Sized). z.address) size in
     record {
-      width = width_found (sizes_of (whole s)) f.name ∙ ap (λ (z : Sized). z.width) size;
+      width = width_found (sizes_of (module_of s)) f.name ∙ ap (λ (z : Sized). z.width) size;
       address = address;
-      words = ap (λ (c : ℕ). words_of (whole s).inits (2 ^ c) f.name) address ∙ ap (λ (c : ℕ). words_of (whole s).inits c f.name) (sym ok.full)
+      words = ap (λ (c : ℕ). words_of (module_of s).inits (2 ^ c) f.name) address ∙ ap (λ (c : ℕ). words_of (module_of s).inits c f.name) (sym ok.full)
           ∙ fold-append (word_init (length f.words) f.name) (replicate (length f.words) 0) s.start_part s.fill_part
           ∙ ap (λ us. fold (word_init (length f.words) f.name) us s.fill_part) (starts_skipped f.name (length f.words) net.parts.regs s.start_part (replicate (length f.words) 0) s.shows_starts)
           ∙ words_are net.parts.files s.fill_part s.shows_fills named.files_differ i d l (replicate (length f.words) 0);
       port = updates_skipped wires f.name net.parts.regs s.update_part s.write_part s.shows_updates
           ∙ ports_are wires net.parts.files s.write_part s.shows_writes named.files_differ i d l ∙ port_is net.nodes f.width f.address_width f.port ok.port k.count;
     })
-    ∙ ap (λ t. net.parts.files ++ t) (past_integer (files_of wires (whole s)) net.parts.files s.integer (s.nodes ++ outs s) (λ n zs. refl) s.shows_integer
-    ∙ past_nodes (files_of wires (whole s)) net.parts 0 net.nodes s.nodes (outs s) (λ r n zs. refl) (λ i at r zs. refl) s.shows_nodes)
+    ∙ ap (λ t. net.parts.files ++ t) (past_integer (files_of wires (module_of s)) net.parts.files s.integer (s.nodes ++ outs s) (λ n zs. refl) s.shows_integer
+    ∙ past_nodes (files_of wires (module_of s)) net.parts 0 net.nodes s.nodes (outs s) (λ r n zs. refl) (λ i at r zs. refl) s.shows_nodes)
     ∙ append-nil net.parts.files
 
 samples_are : (ss : List Port) (xs : List VPort) → ShowsSamples ss xs → All PortOk ss → map sample_of xs ≡ ss
@@ -299,7 +305,7 @@ reset_same rs _ _ _ no_reset_shown = refl
 reset_same rs _ _ _ (reset_shown a b h) = refl
 
 -- A module that represents a netlist denotes it.
-pub same_net : (net : Net) (s : Shown net) → NetOk net → IsNamed net → net_of (whole s) ≡ net
+pub same_net : (net : Net) (s : Shown net) → NetOk net → IsNamed net → net_of (module_of s) ≡ net
 unfolding net_of
 same_net net s k named =
     let n = length net.nodes in let p = net.parts in let wires = wires_to n in let low = k.parts.ext_positive in
@@ -310,5 +316,5 @@ same_net net s k named =
     let full = output_is net s wires (codes "full") (λ i. refl) ∙ node_is n p.full (s.q 1) k.parts.full k.count in
     let ue = output_is net s wires (codes "ue") (λ i. refl) ∙ node_is n p.ue (s.q 3) k.parts.ue k.count in
     let back = output_is net s wires (codes "back") (λ i. refl) ∙ node_is n p.back (s.q 5) k.parts.back k.count in
-    ap (λ (x : Made). record { nodes = x.nodes; parts = parts_of x.wires (whole s) }) (made_is net s k named)
+    ap (λ (x : Made). record { nodes = x.nodes; parts = parts_of x.wires (module_of s) }) (made_is net s k named)
     ∙ (λ i. record { nodes = net.nodes; parts = record { name = p.name; ext = ext i; reset = reset i; samples = samples i; regs = regs i; files = files i; full = full i; ue = ue i; back = back i } })

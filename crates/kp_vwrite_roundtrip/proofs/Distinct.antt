@@ -30,7 +30,7 @@ digit_tag : (d : ℕ) (ds : List ℕ) → IsDigit d → tag (110 ∷ d ∷ ds) �
 digit_tag d ds h = cond-false (d == 95) _ 110 (digit_at (λ c. c == 95) false refl d h)
 
 pub tag_wire : (j : ℕ) → j ≤ 16777216 → tag (wire_name j) ≡ 110
-tag_wire j h = let l = decimal_led j (omega arith) in ap (λ (ds : List ℕ). tag (110 ∷ ds)) l.whole ∙ digit_tag l.first l.more l.is
+tag_wire j h = let l = decimal_led j (omega arith) in ap (λ (ds : List ℕ). tag (110 ∷ ds)) l.same ∙ digit_tag l.first l.more l.is
 
 pub wires_differ : (i j : ℕ) → i ≤ 16777216 → j ≤ 16777216 → (i ≡ j → ⊥) → same (wire_name i) (wire_name j) ≡ false
 wires_differ i j a b h = differ (decimal i) (decimal j) (λ e. h (decimal_injective i j (omega arith) (omega arith) e))

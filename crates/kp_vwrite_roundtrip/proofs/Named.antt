@@ -4,7 +4,8 @@ use Rattle.std.proofs.lemmas.Bool.{eqb-true, false≢true, and_parts}
 use Rattle.std.proofs.lemmas.List.Elements.{All-nil, All-cons, All-head, All-tail}
 use Rattle.std.specs.Prelude.{All, ◌==◌, None}
 use Rattle.kp_net.specs.Names.{is_in_identifier, is_module_name, is_reg_name, is_file_name, is_sample_name, IsSpelled}
-use Rattle.kp_vlog.{specs.Words.keyword_of, proofs.Tests.reg_cases, proofs.Tests.file_cases, proofs.Tests.sample_cases}
+use Rattle.kp_vlog.specs.Words.{keyword_of}
+use Rattle.kp_vlog.proofs.Tests.{reg_cases, file_cases, sample_cases}
 use Rattle.kp_vwrite_roundtrip.proofs.Runs.{Each, IsInitial, at_m, at_r, at_q, at_f, at_s, IsWritten}
 
 plain_name : (a : ℕ) (bs : List ℕ) → IsInitial a → keyword_of (a ∷ 95 ∷ bs) ≡ None
@@ -26,7 +27,7 @@ Writes n = All (λ c. is_in_identifier c ≡ true) n → length n ≤ 70 → IsW
 two_written : (a : ℕ) (bs : List ℕ) → IsInitial a → Writes (a ∷ 95 ∷ bs)
 two_written a bs i h short =
     let each = each_of (a ∷ 95 ∷ bs) h in
-    record { first = a; more = 95 ∷ bs; whole = refl; initial = i; bytes = (initial_word a i, (refl, each.1.1)); short = short; plain = plain_name a bs i }
+    record { first = a; more = 95 ∷ bs; same = refl; initial = i; bytes = (initial_word a i, (refl, each.1.1)); short = short; plain = plain_name a bs i }
 
 pub module_written : (n : List ℕ) → IsSpelled is_module_name n → IsWritten n
 module_written (a ∷ b ∷ bs) h =

@@ -1,28 +1,24 @@
--- A module that represents a netlist violates no rule of names.
-use Rattle.std.proofs.Common.{◌≡◌, ◌∙◌, ℕ, suc, ◌+◌, ◌≤◌, ◌<◌, List, [], ◌∷◌, ◌++◌, length, get_or, map, Bool, true, false, Option, Some, None, refl, sym, ap, subst, arith, append_assoc, inl, inr}
-use Rattle.std.proofs.lemmas.Bool.{false≢true, cases_lt, cond-true, and_from, or_from, not_from_false, or_left, or_right}
+-- A module that represents a netlist violates no rule of names, and none of drivers.
+use Rattle.std.proofs.Common.{◌≡◌, ◌∙◌, ℕ, suc, ◌+◌, ◌≤◌, ◌<◌, List, [], ◌∷◌, ◌++◌, length, get_or, map, Bool, true, false, Option, Some, None, refl, sym, ap, subst, arith, append_assoc, inl, inr, ◌-◌, eq-eqb}
+use Rattle.std.proofs.lemmas.Bool.{false≢true, cases_lt, cond-true, and_from, or_from, not_from_false, or_left, or_right, cond-false, and_parts}
 use Rattle.std.proofs.lemmas.List.Elements.{All-nil, All-cons, All-head, All-tail}
-use Rattle.std.specs.{Prelude.codes, Prelude.All, Prelude.◌==◌, Prelude.◌&&◌, Prelude.◌||◌, Prelude.decimal, Option.is_some, List.list_all}
+use Rattle.std.specs.{Prelude.codes, Prelude.All, Prelude.◌==◌, Prelude.◌&&◌, Prelude.◌||◌, Prelude.decimal, Prelude.not, Option.is_some, List.list_all}
 use Rattle.kp_net.specs.declared.{node.NodeId.NodeId, node.Kind.Kind, node.Node.Node, netlist.Port.Port, netlist.NetReg.NetReg, netlist.NetFile.NetFile}
 use Rattle.kp_net.specs.{Names.same, Names.among, Names.Differ, Names.IsNamed, Names.is_reg_name, Names.is_file_name, Names.is_sample_name, Netlist.Net}
 use Rattle.kp_net.specs.Parts.{no_port, no_reg, no_file, NodeIs, WriteOk, RegOk, FileOk, CellOk, NetOk}
-use Rattle.kp_net.specs.Widths.{KindOk}
+use Rattle.kp_net.specs.{Widths.KindOk, Widths.wide, declared.netlist.Parts.Parts}
 use Rattle.kp_base.specs.Characters.{is_digit}
-use Rattle.kp_vlog.specs.Occurrences.{Occurrence, occurs, declares_port, uses_source, uses_port, is_given, wires_used, right_names, items_names, inits_names, values_names, reset_names, updates_names, samples_names, reset_port_names, wide_port_names, body_names, names}
+use Rattle.kp_vlog.specs.Occurrences.{Occurrence, occurs, declares_port, uses_source, uses_wire, uses_port, is_given, wires_used, right_names, items_names, inits_names, values_names, reset_names, updates_names, samples_names, reset_port_names, wide_port_names, body_names, names, start_in, is_literal, declares_reg}
+use Rattle.kp_vlog.specs.Rules.{name_fits, learns, bad_name, Driven, nothing, drives, all_driven, items_given, inits_started, inits_filled, updates_updated, reset_values, driver_fits, bad_driver, module_driver}
 use Rattle.kp_vlog.specs.declared.tree.{Named.Named, ResetList.ResetList, ResetValue.ResetValue, VPort.VPort, Right.Right, Item.Item, Init.Init, Update.Update}
-use Rattle.kp_vlog.specs.{Canon.wire, Canon.wire_name, Scope.is_wire_name, Rules.name_fits, Rules.learns, Rules.bad_name}
+use Rattle.kp_vlog.specs.{Canon.wire, Canon.wire_name, Scope.is_wire_name}
 use Rattle.kp_vlog.proofs.Tests.{same_refl}
-use Rattle.kp_vwrite_roundtrip.proofs.Sentence.{named_at, ShowsNames, no_name, a_name, ShowsRight, a_const, an_ext, a_sample, a_reg, a_word, a_not, a_binary, a_mux, a_concat, a_slice, ShowsSamples, no_sample, one_sample, ShowsRegs, no_reg_line, reg_line, ShowsFiles, no_file_line, file_line, ShowsInteger, no_integer, an_integer, ShowsNodes, no_node_line, node_line, ShowsStarts, no_start, a_start, ShowsWords, no_words, zero_word, some_word, ShowsFills, no_fill, a_fill, ShowsUpdates, no_update, an_update, ShowsWrites, no_write, not_written, a_write, ShowsReset, no_reset_shown, reset_shown, ShowsValues, no_value, a_value, Shown, outs, whole}
+use Rattle.kp_vwrite_roundtrip.proofs.Sentence.{named_at, ShowsNames, no_name, a_name, ShowsRight, a_const, an_ext, a_sample, a_reg, a_word, a_not, a_binary, a_mux, a_concat, a_slice, ShowsSamples, no_sample, one_sample, ShowsRegs, no_reg_line, reg_line, ShowsFiles, no_file_line, file_line, ShowsInteger, no_integer, an_integer, ShowsNodes, no_node_line, node_line, ShowsStarts, no_start, a_start, ShowsWords, no_words, zero_word, some_word, ShowsFills, no_fill, a_fill, ShowsUpdates, no_update, an_update, ShowsWrites, no_write, not_written, a_write, ShowsReset, no_reset_shown, reset_shown, ShowsValues, no_value, a_value, Shown, outs, module_of}
 use Rattle.kp_vwrite_roundtrip.proofs.Distinct.{apart, tag, tag_reg, tag_file, tag_sample, tag_wire, wires_differ, apart_all}
-use Rattle.kp_vwrite_roundtrip.proofs.{Written.RightFrom, Written.all_right, Runs.Led, Runs.decimal_led, Runs.decimal_names, Runs.all_of, Denoted.spelled}
-
--- no name is bad
-pub record Good (known : List (List ℕ)) (os : List Occurrence) : Type 0 where
-  pub none : bad_name known os ≡ None
-
--- one name that fits
-pub fits : (known : List (List ℕ)) (o : Occurrence) (os : List Occurrence) → name_fits known o.role o.named.name ≡ true → Good (learns known o.role o.named.name) os → Good known (o ∷ os)
-fits known o os e h = record { none = cond-true (name_fits known o.role o.named.name) (bad_name (learns known o.role o.named.name) os) (Some o.named.at) e ∙ h.none }
+use Rattle.kp_vwrite_roundtrip.proofs.{Written.RightFrom, Written.all_right, Runs.Led, Runs.decimal_led, Runs.decimal_names, Runs.all_of, Runs.literal_for}
+use Rattle.kp_vwrite_roundtrip.proofs.{Denoted.spelled, Denoted.samples_tagged, Denoted.regs_tagged, Denoted.files_tagged, Drives.DrivesAll, Drives.drives_all, SameNet.starts_found}
+use Rattle.kp_vlog.specs.declared.tree.Init.TheVariants as starts
+use Rattle.kp_bits.specs.declared.literal.Literal.{Literal}
 
 -- no known name is of this kind
 abbrev Free : List (List ℕ) → ℕ → Type 0
@@ -58,261 +54,342 @@ new_more f x xs known d new i e l =
 all_new : {X : Type 0} (f : X → List ℕ) (xs : List X) (t : ℕ) (known : List (List ℕ)) → All (λ x. tag (f x) ≡ t) xs → Free known t → AllNew f known xs
 all_new f xs t known tags free i d l = free (f (get_or xs i d)) (tags i d l)
 
-samples_named : (ss : List Port) (xs : List VPort) (known : List (List ℕ)) (rest : List Occurrence) → ShowsSamples ss xs → All (λ s. is_sample_name s.name ≡ true) ss → Differ (map (λ s. s.name) ss)
-    → AllNew (λ s. s.name) known ss → ((known' : List (List ℕ)) → Grows (λ s. s.name) ss 1115 known known' → Good known' rest) → Good known (samples_names xs ++ rest)
-samples_named _ _ known rest no_sample k d new h = h known (grows_none (λ (s : Port). s.name) 1115 known)
-samples_named _ _ known rest (one_sample {s = s} {ss = ss} {xs = xs} a b c sh) k d new h =
-    let here = All-head (λ s. is_sample_name s.name ≡ true) s ss k in
-    fits known _ _ (and_from (is_sample_name s.name) _ here (not_from_false (among known s.name) (All-head (λ s. among known s.name ≡ false) s ss new)))
-    (samples_named ss xs (s.name ∷ known) rest sh (All-tail (λ s. is_sample_name s.name ≡ true) s ss k) d.1 (new_more (λ s. s.name) s ss known d new)
-    (λ known' g. h known' (grows_more (λ s. s.name) s ss 1115 known known' (tag_sample s.name here) g)))
-
-regs_named : (rs : List NetReg) (xs ys : List Item) (known : List (List ℕ)) (rest : List Occurrence) → ShowsRegs rs xs → All (λ r. is_reg_name r.name ≡ true) rs → Differ (map (λ r. r.name) rs)
-    → AllNew (λ r. r.name) known rs → ((known' : List (List ℕ)) → Grows (λ r. r.name) rs 1114 known known' → Good known' (items_names ys ++ rest)) → Good known (items_names (xs ++ ys) ++ rest)
-regs_named _ _ ys known rest no_reg_line k d new h = h known (grows_none (λ (r : NetReg). r.name) 1114 known)
-regs_named _ _ ys known rest (reg_line {r = r} {rs = rs} {xs = xs} a b c sh) k d new h =
-    let here = All-head (λ r. is_reg_name r.name ≡ true) r rs k in
-    fits known _ _ (and_from (is_reg_name r.name) _ here (not_from_false (among known r.name) (All-head (λ r. among known r.name ≡ false) r rs new)))
-    (regs_named rs xs ys (r.name ∷ known) rest sh (All-tail (λ r. is_reg_name r.name ≡ true) r rs k) d.1 (new_more (λ r. r.name) r rs known d new)
-    (λ known' g. h known' (grows_more (λ r. r.name) r rs 1114 known known' (tag_reg r.name here) g)))
-
-files_named : (fs : List NetFile) (xs ys : List Item) (known : List (List ℕ)) (rest : List Occurrence) → ShowsFiles fs xs → All (λ f. is_file_name f.name ≡ true) fs → Differ (map (λ f. f.name) fs)
-    → AllNew (λ f. f.name) known fs → ((known' : List (List ℕ)) → Grows (λ f. f.name) fs 1102 known known' → Good known' (items_names ys ++ rest)) → Good known (items_names (xs ++ ys) ++ rest)
-files_named _ _ ys known rest no_file_line k d new h = h known (grows_none (λ (f : NetFile). f.name) 1102 known)
-files_named _ _ ys known rest (file_line {f = f} {fs = fs} {xs = xs} a b c e g sh) k d new h =
-    let here = All-head (λ f. is_file_name f.name ≡ true) f fs k in
-    fits known _ _ (and_from (is_file_name f.name) _ here (not_from_false (among known f.name) (All-head (λ f. among known f.name ≡ false) f fs new)))
-    (files_named fs xs ys (f.name ∷ known) rest sh (All-tail (λ f. is_file_name f.name ≡ true) f fs k) d.1 (new_more (λ f. f.name) f fs known d new)
-    (λ known' g. h known' (grows_more (λ f. f.name) f fs 1102 known known' (tag_file f.name here) g)))
-
--- what is known before node j
-record Knows (net : Net) (j : ℕ) (known : List (List ℕ)) : Type 0 where
-  pub samples : All (λ s. among known s.name ≡ true) net.parts.samples
-  pub regs : All (λ r. among known r.name ≡ true) net.parts.regs
-  pub files : All (λ f. among known f.name ≡ true) net.parts.files
-  pub old : (i : ℕ) → i < j → among known (wire_name i) ≡ true
-  pub new : (i : ℕ) → j ≤ i → i ≤ 16777216 → among known (wire_name i) ≡ false
-  pub clk : among known (codes "clk") ≡ true
-  pub integer : 0 < length net.parts.files → among known (codes "i") ≡ true
-  pub rst : net.parts.reset ≡ true → among known (codes "rst") ≡ true
-
-knows_more : (net : Net) (j : ℕ) (known : List (List ℕ)) → j < 16777216 → Knows net j known → Knows net (j + 1) (wire_name j ∷ known)
-knows_more net j known few k = record {
-  samples = λ i d l. or_right (same (get_or net.parts.samples i d).name (wire_name j)) _ (k.samples i d l);
-  regs = λ i d l. or_right (same (get_or net.parts.regs i d).name (wire_name j)) _ (k.regs i d l);
-  files = λ i d l. or_right (same (get_or net.parts.files i d).name (wire_name j)) _ (k.files i d l);
-  old = λ i h. elim (cases_lt i j) [
-    | inl l ↦ or_right (same (wire_name i) (wire_name j)) (among known (wire_name i)) (k.old i l)
-    | inr g ↦ or_left (same (wire_name i) (wire_name j)) (among known (wire_name i)) (ap (λ z. same (wire_name i) (wire_name z)) (let e : j ≡ i = omega arith in e) ∙ same_refl (wire_name i))
-  ];
-  new = λ i h b. or_from (same (wire_name i) (wire_name j)) (among known (wire_name i)) (wires_differ i j b (omega arith) (λ e. omega arith)) (k.new i (omega arith) b);
-  clk = or_right (same (codes "clk") (wire_name j)) (among known (codes "clk")) k.clk;
-  integer = λ l. or_right (same (codes "i") (wire_name j)) (among known (codes "i")) (k.integer l);
-  rst = λ e. or_right (same (codes "rst") (wire_name j)) (among known (codes "rst")) (k.rst e);
-}
-
 led_wire : (ds : List ℕ) → Led ds → list_all is_digit ds ≡ true → is_wire_name (110 ∷ ds) ≡ true
-led_wire ds l h = subst (λ (xs : List ℕ). is_wire_name (110 ∷ xs) ≡ true) (sym l.whole) (subst (λ (xs : List ℕ). list_all is_digit xs ≡ true) l.whole h)
+led_wire ds l h = subst (λ (xs : List ℕ). is_wire_name (110 ∷ xs) ≡ true) (sym l.same) (subst (λ (xs : List ℕ). list_all is_digit xs ≡ true) l.same h)
 
 wire_spelled : (j : ℕ) → j ≤ 16777216 → is_wire_name (wire_name j) ≡ true
 wire_spelled j h = led_wire (decimal j) (decimal_led j (omega arith)) (all_of is_digit (decimal j) (decimal_names j (omega arith)))
 
-wire_known : (net : Net) (j : ℕ) (known : List (List ℕ)) (a : NodeId) → j ≤ 16777216 → Knows net j known → a.0 < j → (is_wire_name (wire a) && among known (wire a)) ≡ true
-wire_known net j known a few k h = and_from (is_wire_name (wire a)) (among known (wire a)) (wire_spelled a.0 (omega arith)) (k.old a.0 h)
-
-wires_named : (net : Net) (m j : ℕ) (known : List (List ℕ)) (parts : List NodeId) (xs : List Named) (os its rest : List Occurrence) → ShowsNames parts xs → All (λ a. a.0 < m) parts → m ≤ j → j ≤ 16777216 → Knows net j known
-    → Good known ((os ++ its) ++ rest) → Good known (((wires_used xs ++ os) ++ its) ++ rest)
-wires_named net m j known _ _ os its rest no_name ok le few k h = h
-wires_named net m j known _ _ os its rest (a_name {a = a} {parts = parts} {xs = xs} at sh) ok le few k h =
-    let low = All-head (λ a. a.0 < m) a parts ok in
-    fits known _ _ (wire_known net j known a few k (omega arith)) (wires_named net m j known parts xs os its rest sh (All-tail (λ a. a.0 < m) a parts ok) le few k h)
-
 source_known : (known : List (List ℕ)) (n : List ℕ) → (is_reg_name n || is_sample_name n) ≡ true → among known n ≡ true → name_fits known uses_source n ≡ true
 source_known known n e f = or_right (same n (codes "ext")) _ (and_from (is_reg_name n || is_sample_name n) (among known n) e f)
-
-right_named : (net : Net) (named : IsNamed net) (m j k at i : ℕ) (kind : Kind) (r : Right) (known : List (List ℕ)) (its rest : List Occurrence) → ShowsRight net.parts k kind r → KindOk net.nodes m k kind → CellOk net.nodes net.parts k kind
-    → m ≤ j → j ≤ 16777216 → Knows net j known → Good known (its ++ rest) → Good known (((right_names (named_at (wire_name i) at) r ++ (occurs is_given (named_at (wire_name i) at) ∷ [])) ++ its) ++ rest)
-right_named net named m j k at i _ _ known its rest (a_const a) ok cell le few kn h = fits known _ _ refl h
-right_named net named m j k at i _ _ known its rest (an_ext a) ok cell le few kn h = fits known _ _ refl (fits known _ _ refl h)
-right_named net named m j k at i _ _ known its rest (a_sample {i = x} a) ok cell le few kn h =
-    let n = (get_or net.parts.samples x no_port).name in
-    fits known _ _ (source_known known n (or_right (is_reg_name n) _ (spelled is_sample_name (λ s. s.name) net.parts.samples named.samples x no_port cell.0)) (kn.samples x no_port cell.0)) (fits known _ _ refl h)
-right_named net named m j k at i _ _ known its rest (a_reg {i = x} a) ok cell le few kn h =
-    let n = (get_or net.parts.regs x no_reg).name in
-    fits known _ _ (source_known known n (or_left (is_reg_name n) _ (spelled is_reg_name (λ s. s.name) net.parts.regs named.regs x no_reg cell.0)) (kn.regs x no_reg cell.0)) (fits known _ _ refl h)
-right_named net named m j k at i _ _ known its rest (a_word {i = x} {n = n} a b) ok cell le few kn h =
-    let f = (get_or net.parts.files x no_file).name in
-    fits known _ _ (and_from (is_file_name f) (among known f) (spelled is_file_name (λ s. s.name) net.parts.files named.files x no_file cell.0) (kn.files x no_file cell.0))
-    (fits known _ _ (wire_known net j known n few kn (omega arith)) (fits known _ _ refl h))
-right_named net named m j k at i _ _ known its rest (a_not {n = n} a) ok cell le few kn h = let l = ok.0 in fits known _ _ (wire_known net j known n few kn (omega arith)) (fits known _ _ refl h)
-right_named net named m j k at i _ _ known its rest (a_binary {n = n} {m = o} a b) ok cell le few kn h =
-    let l = ok.0 in let l' = ok.1 in
-    fits known _ _ (wire_known net j known n few kn (omega arith)) (fits known _ _ (wire_known net j known o few kn (omega arith)) (fits known _ _ refl h))
-right_named net named m j k at i _ _ known its rest (a_mux {t = t} {n = n} {m = o} a b c) ok cell le few kn h =
-    let l = ok.0 in let l' = ok.1 in let l'' = ok.2 in
-    fits known _ _ (wire_known net j known t few kn (omega arith)) (fits known _ _ (wire_known net j known n few kn (omega arith)) (fits known _ _ (wire_known net j known o few kn (omega arith)) (fits known _ _ refl h)))
-right_named net named m j k at i _ _ known its rest (a_concat {parts = parts} {xs = xs} sh) ok cell le few kn h =
-    wires_named net m j known parts xs (occurs is_given (named_at (wire_name i) at) ∷ []) its rest sh ok.2 le few kn (fits known _ _ refl h)
-right_named net named m j k at i _ _ known its rest (a_slice {n = n} a b c) ok cell le few kn h = let l = ok.0 in fits known _ _ (wire_known net j known n few kn (omega arith)) (fits known _ _ refl h)
-
-nodes_named : (net : Net) (named : IsNamed net) (j : ℕ) (ns : List Node) (xs ys : List Item) (known : List (List ℕ)) (rest : List Occurrence) → ShowsNodes net.parts j ns xs → RightFrom net j ns → j + length ns ≤ 16777216
-    → Knows net j known → ((known' : List (List ℕ)) → Knows net (j + length ns) known' → Good known' (items_names ys ++ rest)) → Good known (items_names (xs ++ ys) ++ rest)
-nodes_named net named j _ _ ys known rest no_node_line k few kn h = h known (subst (λ i. Knows net i known) (let e : j ≡ j + 0 = omega arith in e) kn)
-nodes_named net named j _ _ ys known rest (node_line {n = n} {ns = ns} {r = r} {xs = xs} a b c d sh next) k few kn h =
-    let known' = wire_name j ∷ known in
-    let kn' = knows_more net j known (omega arith) kn in
-    fits known _ _ (and_from (is_wire_name (wire_name j)) _ (wire_spelled j (omega arith)) (not_from_false (among known (wire_name j)) (kn.new j (omega arith) (omega arith))))
-    (fits known' _ _ (and_from (is_wire_name (wire_name j)) _ (wire_spelled j (omega arith)) (kn'.old j (omega arith)))
-    (right_named net named j (j + 1) n.width d j n.kind r known' (items_names (xs ++ ys)) rest sh k.0.kind k.1 (omega arith) (omega arith) kn'
-    (nodes_named net named (j + 1) ns xs ys known' rest next k.2 (omega arith) kn'
-    (λ known'' kn''. h known'' (subst (λ i. Knows net i known'') (let e : j + 1 + length ns ≡ j + suc (length ns) = omega arith in e) kn'')))))
-
-starts_named : (known : List (List ℕ)) (rs : List NetReg) (xs ys : List Init) (rest : List Occurrence) → ShowsStarts rs xs → All (λ r. is_reg_name r.name ≡ true) rs → All (λ r. among known r.name ≡ true) rs
-    → Good known (inits_names ys ++ rest) → Good known (inits_names (xs ++ ys) ++ rest)
-starts_named known _ _ ys rest no_start k a h = h
-starts_named known _ _ ys rest (a_start {r = r} {rs = rs} {xs = xs} b c sh) k a h =
-    fits known _ _ (and_from (is_reg_name r.name) (among known r.name) (All-head (λ r. is_reg_name r.name ≡ true) r rs k) (All-head (λ r. among known r.name ≡ true) r rs a))
-    (starts_named known rs xs ys rest sh (All-tail (λ r. is_reg_name r.name ≡ true) r rs k) (All-tail (λ r. among known r.name ≡ true) r rs a) h)
-
-words_named : (known : List (List ℕ)) (n : List ℕ) (w i : ℕ) (us : List ℕ) (xs ys : List Init) (rest : List Occurrence) → ShowsWords n w i us xs → (is_file_name n && among known n) ≡ true
-    → Good known (inits_names ys ++ rest) → Good known (inits_names (xs ++ ys) ++ rest)
-words_named known n w i _ _ ys rest no_words e h = h
-words_named known n w i _ _ ys rest (zero_word {vs = vs} {xs = xs} z sh) e h = words_named known n w (i + 1) vs xs ys rest sh e h
-words_named known n w i _ _ ys rest (some_word {vs = vs} {xs = xs} a b c z sh) e h = fits known _ _ e (words_named known n w (i + 1) vs xs ys rest sh e h)
-
-fills_named : (known : List (List ℕ)) (fs : List NetFile) (xs : List Init) (rest : List Occurrence) → ShowsFills fs xs → All (λ f. is_file_name f.name ≡ true) fs → All (λ f. among known f.name ≡ true) fs
-    → (0 < length fs → among known (codes "i") ≡ true) → Good known rest → Good known (inits_names xs ++ rest)
-fills_named known _ _ rest no_fill k a int h = h
-fills_named known _ _ rest (a_fill {f = f} {fs = fs} {xs = xs} {ys = ys} p sh next) k a int h =
-    let i = int (omega arith) in
-    let file = and_from (is_file_name f.name) (among known f.name) (All-head (λ f. is_file_name f.name ≡ true) f fs k) (All-head (λ f. among known f.name ≡ true) f fs a) in
-    fits known _ _ i (fits known _ _ i (fits known _ _ i (fits known _ _ i (fits known _ _ file (fits known _ _ i
-    (words_named known f.name f.width 0 f.words xs ys rest sh file
-    (fills_named known fs ys rest next (All-tail (λ f. is_file_name f.name ≡ true) f fs k) (All-tail (λ f. among known f.name ≡ true) f fs a) (λ l. i) h)))))))
-
-values_named : (known : List (List ℕ)) (inits : List Init) (rs : List NetReg) (xs : List ResetValue) (rest : List Occurrence) → ShowsValues rs xs → All (λ r. is_reg_name r.name ≡ true) rs → All (λ r. among known r.name ≡ true) rs
-    → Good known rest → Good known (values_names inits xs ++ rest)
-values_named known inits _ _ rest no_value k a h = h
-values_named known inits _ _ rest (a_value {r = r} {rs = rs} {xs = xs} b c sh) k a h =
-    fits known _ _ (and_from (is_reg_name r.name) (among known r.name) (All-head (λ r. is_reg_name r.name ≡ true) r rs k) (All-head (λ r. among known r.name ≡ true) r rs a))
-    (fits known _ _ refl (values_named known inits rs xs rest sh (All-tail (λ r. is_reg_name r.name ≡ true) r rs k) (All-tail (λ r. among known r.name ≡ true) r rs a) h))
-
-reset_named : (known : List (List ℕ)) (inits : List Init) (rs : List NetReg) (b : Bool) (rst : Option Named) (r : Option ResetList) (rest : List Occurrence) → ShowsReset rs b rst r
-    → (b ≡ true → among known (codes "rst") ≡ true) → All (λ r. is_reg_name r.name ≡ true) rs → All (λ r. among known r.name ≡ true) rs → Good known rest → Good known (reset_names inits r ++ rest)
-reset_named known inits rs _ _ _ rest no_reset_shown e k a h = h
-reset_named known inits rs _ _ _ rest (reset_shown {xs = xs} b c sh) e k a h = fits known _ _ (e refl) (values_named known inits rs xs rest sh k a h)
-
-node_known : (net : Net) (known : List (List ℕ)) (a : NodeId) (w : ℕ) → length net.nodes ≤ 16777216 → Knows net (length net.nodes) known → NodeIs net.nodes a w → (is_wire_name (wire a) && among known (wire a)) ≡ true
-node_known net known a w few kn h = wire_known net (length net.nodes) known a few kn h.0
-
-updates_named : (net : Net) (known : List (List ℕ)) (rs : List NetReg) (xs ys : List Update) → ShowsUpdates rs xs → All (RegOk net.nodes) rs → All (λ r. is_reg_name r.name ≡ true) rs → All (λ r. among known r.name ≡ true) rs
-    → length net.nodes ≤ 16777216 → Knows net (length net.nodes) known → Good known (updates_names ys) → Good known (updates_names (xs ++ ys))
-updates_named net known _ _ ys no_update ok k a few kn h = h
-updates_named net known _ _ ys (an_update {r = r} {rs = rs} {xs = xs} b c sh) ok k a few kn h =
-    fits known _ _ (and_from (is_reg_name r.name) (among known r.name) (All-head (λ r. is_reg_name r.name ≡ true) r rs k) (All-head (λ r. among known r.name ≡ true) r rs a))
-    (fits known _ _ (node_known net known r.next r.start.width few kn (All-head (RegOk net.nodes) r rs ok).next)
-    (updates_named net known rs xs ys sh (All-tail (RegOk net.nodes) r rs ok) (All-tail (λ r. is_reg_name r.name ≡ true) r rs k) (All-tail (λ r. among known r.name ≡ true) r rs a) few kn h))
-
-writes_named : (net : Net) (known : List (List ℕ)) (fs : List NetFile) (xs : List Update) → ShowsWrites fs xs → All (FileOk net.nodes) fs → All (λ f. is_file_name f.name ≡ true) fs → All (λ f. among known f.name ≡ true) fs
-    → length net.nodes ≤ 16777216 → Knows net (length net.nodes) known → Good known (updates_names xs)
-writes_named net known _ _ no_write ok k a few kn = record { none = refl }
-writes_named net known _ _ (not_written {f = f} {fs = fs} {xs = xs} z sh) ok k a few kn =
-    writes_named net known fs xs sh (All-tail (FileOk net.nodes) f fs ok) (All-tail (λ f. is_file_name f.name ≡ true) f fs k) (All-tail (λ f. among known f.name ≡ true) f fs a) few kn
-writes_named net known _ _ (a_write {f = f} {fs = fs} {xs = xs} w p z sh) ok k a few kn =
-    let port = subst (WriteOk net.nodes f.width f.address_width) z (All-head (FileOk net.nodes) f fs ok).port in
-    fits known _ _ (node_known net known w.enable 1 few kn port.0)
-    (fits known _ _ (and_from (is_file_name f.name) (among known f.name) (All-head (λ f. is_file_name f.name ≡ true) f fs k) (All-head (λ f. among known f.name ≡ true) f fs a))
-    (fits known _ _ (node_known net known w.address f.address_width few kn port.1) (fits known _ _ (node_known net known w.value f.width few kn port.2)
-    (writes_named net known fs xs sh (All-tail (FileOk net.nodes) f fs ok) (All-tail (λ f. is_file_name f.name ≡ true) f fs k) (All-tail (λ f. among known f.name ≡ true) f fs a) few kn))))
-
-reset_port_named : (known : List (List ℕ)) (rs : List NetReg) (b : Bool) (rst : Option Named) (r : Option ResetList) (os rest : List Occurrence) → ShowsReset rs b rst r → among known (codes "rst") ≡ false
-    → ((known' : List (List ℕ)) → (b ≡ true → among known' (codes "rst") ≡ true) → ((n : List ℕ) → among known n ≡ true → among known' n ≡ true) → ((u : ℕ) → (u == 114) ≡ false → Free known u → Free known' u) → Good known' (os ++ rest))
-    → Good known ((reset_port_names rst (is_some r) ++ os) ++ rest)
-reset_port_named known rs _ _ _ os rest no_reset_shown e h = h known (λ e. absurd (false≢true e)) (λ n e. e) (λ u d f. f)
-reset_port_named known rs _ _ _ os rest (reset_shown a b sh) e h =
-    fits known _ _ (not_from_false (among known (codes "rst")) e)
-    (fits (codes "rst" ∷ known) _ _ refl (h (codes "rst" ∷ known) (λ e. refl) (λ n e. or_right (same n (codes "rst")) (among known n) e) (λ u d f. free_more known (codes "rst") 114 u refl d f)))
-
-integer_named : (known : List (List ℕ)) (fs : List NetFile) (xs ys : List Item) (rest : List Occurrence) → ShowsInteger fs xs → among known (codes "i") ≡ false
-    → ((known' : List (List ℕ)) → (0 < length fs → among known' (codes "i") ≡ true) → ((n : List ℕ) → among known n ≡ true → among known' n ≡ true) → ((u : ℕ) → (u == 105) ≡ false → Free known u → Free known' u) → Good known' (items_names ys ++ rest))
-    → Good known (items_names (xs ++ ys) ++ rest)
-integer_named known _ _ ys rest no_integer e h = h known (λ l. absurd (omega arith)) (λ n e. e) (λ u d f. f)
-integer_named known _ _ ys rest (an_integer a) e h =
-    fits known _ _ (not_from_false (among known (codes "i")) e) (h (codes "i" ∷ known) (λ l. refl) (λ n e. or_right (same n (codes "i")) (among known n) e) (λ u d f. free_more known (codes "i") 105 u refl d f))
 
 keeps_more : (known : List (List ℕ)) (n x : List ℕ) → among known x ≡ true → among (n ∷ known) x ≡ true
 keeps_more known n x e = or_right (same x n) (among known x) e
 
--- the names after the header
-behind_named : (net : Net) (s : Shown net) (known : List (List ℕ)) → NetOk net → IsNamed net → Knows net 0 known
-    → Good known (items_names (s.nodes ++ outs s) ++ body_names (whole s))
-behind_named net s known k named kn =
-    let few = k.count in
-    let p = net.parts in
-    let n = length net.nodes in
-    let regs = spelled is_reg_name (λ r. r.name) p.regs named.regs in
-    let files = spelled is_file_name (λ f. f.name) p.files named.files in
-    nodes_named net named 0 net.nodes s.nodes (outs s) known (body_names (whole s)) s.shows_nodes (all_right net k) (omega arith) kn (λ known1 kn1.
-    let kn' : Knows net n known1 = subst (λ i. Knows net i known1) (let e : 0 + n ≡ n = omega arith in e) kn1 in
-    fits known1 _ _ refl (fits known1 _ _ (wire_known net n known1 p.full few kn' k.parts.full) (fits known1 _ _ refl
-    (fits known1 _ _ refl (fits known1 _ _ (wire_known net n known1 p.ue few kn' k.parts.ue) (fits known1 _ _ refl
-    (fits known1 _ _ refl (fits known1 _ _ (wire_known net n known1 p.back few kn' k.parts.back) (fits known1 _ _ refl
-    (subst (Good known1) (starts_split s)
-    (starts_named known1 p.regs s.start_part s.fill_part _ s.shows_starts regs kn'.regs
-    (fills_named known1 p.files s.fill_part _ s.shows_fills files kn'.files kn'.integer
-    (fits known1 _ _ kn'.clk
-    (reset_named known1 (s.start_part ++ s.fill_part) p.regs p.reset s.rst s.resets _ s.reset kn'.rst regs kn'.regs
-    (updates_named net known1 p.regs s.update_part s.write_part s.shows_updates k.parts.regs regs kn'.regs few kn'
-    (writes_named net known1 p.files s.write_part s.shows_writes k.parts.files files kn'.files few kn'))))))))))))))))
-  where
-    starts_split : (s : Shown net) → inits_names (s.start_part ++ s.fill_part) ++ (occurs (uses_port (codes "clk")) (named_at (codes "clk") (s.p 14)) ∷ (reset_names (s.start_part ++ s.fill_part) s.resets ++ updates_names (s.update_part ++ s.write_part)))
-        ≡ body_names (whole s)
-    starts_split s = refl
+-- a new name
+is_new : {X : Type 0} (f : X → List ℕ) (known : List (List ℕ)) (x : X) (xs : List X) → AllNew f known (x ∷ xs) → not (among known (f x)) ≡ true
+is_new f known x xs new = not_from_false (among known (f x)) (All-head (λ x. among known (f x) ≡ false) x xs new)
 
--- A module that represents a netlist violates no rule of names.
-pub names_hold : (net : Net) (s : Shown net) → NetOk net → IsNamed net → bad_name [] (names (whole s)) ≡ None
-names_hold net s k named =
-    let p = net.parts in
-    let w = whole s in
-    let regs = spelled is_reg_name (λ r. r.name) p.regs named.regs in
-    let files = spelled is_file_name (λ f. f.name) p.files named.files in
-    let samples = spelled is_sample_name (λ x. x.name) p.samples named.samples in
-    let rest = items_names w.items ++ body_names w in
-    let ports = wide_port_names (codes "full") w.ext w.full ++ (wide_port_names (codes "ue") w.ext w.ue ++ (occurs (declares_port (codes "back")) w.back.port ∷ [])) in
-    let first : Free (codes "clk" ∷ []) 0 → Unit {0} = λ f. tt in
-    let all : Good [] (names w) =
-    fits [] _ _ named.name.kind (fits [] _ _ refl
-    (reset_port_named (codes "clk" ∷ []) p.regs p.reset s.rst s.resets (occurs (declares_port (codes "ext")) w.ext.port ∷ (samples_names s.ports ++ ports)) rest s.reset refl (λ k1 rst keep1 free1.
-    let base : (u : ℕ) → (u == 99) ≡ false → (u == 114) ≡ false → Free k1 u = λ u a b. free1 u b (free_more [] (codes "clk") 99 u refl a (λ x e. refl)) in
-    fits k1 _ _ (not_from_false (among k1 (codes "ext")) (base 101 refl refl (codes "ext") refl))
-    (subst (Good (codes "ext" ∷ k1)) (sym (append_assoc (samples_names s.ports) ports rest))
-    (samples_named p.samples s.ports (codes "ext" ∷ k1) (ports ++ rest) s.samples samples named.samples_differ
-    (all_new (λ (x : Port). x.name) p.samples 1115 (codes "ext" ∷ k1) (λ i d l. tag_sample (get_or p.samples i d).name (samples i d l)) (free_more k1 (codes "ext") 101 1115 refl refl (base 1115 refl refl))) (λ k2 g.
-    let free2 : (u : ℕ) → (u == 99) ≡ false → (u == 114) ≡ false → (u == 101) ≡ false → (u == 1115) ≡ false → Free k2 u = λ u a b c d. g.frees u d (free_more k1 (codes "ext") 101 u refl c (base u a b)) in
-    fits k2 _ _ (not_from_false (among k2 (codes "full")) (free2 102 refl refl refl refl (codes "full") refl))
-    (fits (codes "full" ∷ k2) _ _ refl
-    (fits (codes "full" ∷ k2) _ _ (not_from_false (among (codes "full" ∷ k2) (codes "ue")) (free_more k2 (codes "full") 102 117 refl refl (free2 117 refl refl refl refl) (codes "ue") refl))
-    (fits (codes "ue" ∷ codes "full" ∷ k2) _ _ refl
-    (fits (codes "ue" ∷ codes "full" ∷ k2) _ _ (not_from_false (among (codes "ue" ∷ codes "full" ∷ k2) (codes "back"))
-    (free_more (codes "full" ∷ k2) (codes "ue") 117 98 refl refl (free_more k2 (codes "full") 102 98 refl refl (free2 98 refl refl refl refl)) (codes "back") refl))
-    (let k3 = codes "back" ∷ codes "ue" ∷ codes "full" ∷ k2 in
-    let free3 : (u : ℕ) → (u == 99) ≡ false → (u == 114) ≡ false → (u == 101) ≡ false → (u == 1115) ≡ false → (u == 102) ≡ false → (u == 117) ≡ false → (u == 98) ≡ false → Free k3 u = λ u a b c d e f h.
-    free_more (codes "ue" ∷ codes "full" ∷ k2) (codes "back") 98 u refl h (free_more (codes "full" ∷ k2) (codes "ue") 117 u refl f (free_more k2 (codes "full") 102 u refl e (free2 u a b c d))) in
-    let keep3 : (n : List ℕ) → among k1 n ≡ true → among k3 n ≡ true = λ n e. keeps_more (codes "ue" ∷ codes "full" ∷ k2) (codes "back") n (keeps_more (codes "full" ∷ k2) (codes "ue") n (keeps_more k2 (codes "full") n (g.keeps n (keeps_more k1 (codes "ext") n e)))) in
-    regs_named p.regs s.regs (s.files ++ (s.integer ++ (s.nodes ++ outs s))) k3 (body_names w) s.shows_regs regs named.regs_differ
-    (all_new (λ (x : NetReg). x.name) p.regs 1114 k3 (λ i d l. tag_reg (get_or p.regs i d).name (regs i d l)) (free3 1114 refl refl refl refl refl refl refl)) (λ k4 g4.
-    files_named p.files s.files (s.integer ++ (s.nodes ++ outs s)) k4 (body_names w) s.shows_files files named.files_differ
-    (all_new (λ (x : NetFile). x.name) p.files 1102 k4 (λ i d l. tag_file (get_or p.files i d).name (files i d l)) (g4.frees 1102 refl (free3 1102 refl refl refl refl refl refl refl))) (λ k5 g5.
-    integer_named k5 p.files s.integer (s.nodes ++ outs s) (body_names w) s.shows_integer
-    (g5.frees 105 refl (g4.frees 105 refl (free3 105 refl refl refl refl refl refl refl)) (codes "i") refl) (λ k6 int keep6 free6.
-    behind_named net s k6 k named (record {
-      samples = λ i d l. let n = (get_or p.samples i d).name in keep6 n (g5.keeps n (g4.keeps n (keeps_more (codes "ue" ∷ codes "full" ∷ k2) (codes "back") n (keeps_more (codes "full" ∷ k2) (codes "ue") n (keeps_more k2 (codes "full") n (g.has i d l))))));
-      regs = λ i d l. let n = (get_or p.regs i d).name in keep6 n (g5.keeps n (g4.has i d l));
-      files = λ i d l. keep6 (get_or p.files i d).name (g5.has i d l);
-      old = λ i l. absurd (omega arith);
-      new = λ i l b. free6 110 refl (g5.frees 110 refl (g4.frees 110 refl (free3 110 refl refl refl refl refl refl refl))) (wire_name i) (tag_wire i b);
-      clk = keep6 (codes "clk") (g5.keeps (codes "clk") (g4.keeps (codes "clk") (keep3 (codes "clk") (keep1 (codes "clk") refl))));
-      integer = int;
-      rst = λ e. keep6 (codes "rst") (g5.keeps (codes "rst") (g4.keeps (codes "rst") (keep3 (codes "rst") (rst e))));
-    }))))))))))))))) in
-    all.none
+-- a known name of a kind stays known
+still_known : (kind : Bool) (known : List (List ℕ)) (n x : List ℕ) → (kind && among known x) ≡ true → (kind && among (n ∷ known) x) ≡ true
+still_known kind known n x h = let p = and_parts kind (among known x) h in and_from kind _ p.0 (keeps_more known n x p.1)
+
+-- the names of these registers are known, and those of these files
+abbrev RegsKnown : List (List ℕ) → List NetReg → Type 0
+RegsKnown known rs = All (λ r. (is_reg_name r.name && among known r.name) ≡ true) rs
+
+abbrev FilesKnown : List (List ℕ) → List NetFile → Type 0
+FilesKnown known fs = All (λ f. (is_file_name f.name && among known f.name) ≡ true) fs
+
+-- of all wires, those of the first j nodes are in the list
+record Wires (j : ℕ) (ns : List (List ℕ)) : Type 0 where
+  pub old : (i : ℕ) → i < j → among ns (wire_name i) ≡ true
+  pub new : (i : ℕ) → j ≤ i → i ≤ 16777216 → among ns (wire_name i) ≡ false
+
+wires_more : (j : ℕ) (ns : List (List ℕ)) → j < 16777216 → Wires j ns → Wires (j + 1) (wire_name j ∷ ns)
+wires_more j ns few k = record {
+  old = λ i h. elim (cases_lt i j) [
+    | inl l ↦ keeps_more ns (wire_name j) (wire_name i) (k.old i l)
+    | inr g ↦ or_left (same (wire_name i) (wire_name j)) (among ns (wire_name i)) (ap (λ z. same (wire_name i) (wire_name z)) (let e : j ≡ i = omega arith in e) ∙ same_refl (wire_name i))
+  ];
+  new = λ i h b. or_from (same (wire_name i) (wire_name j)) (among ns (wire_name i)) (wires_differ i j b (omega arith) (λ e. omega arith)) (k.new i (omega arith) b);
+}
+
+-- what is known before node j, and what has its value there
+record Knows (net : Net) (j : ℕ) (known given : List (List ℕ)) : Type 0 where
+  pub samples : All (λ s. (is_sample_name s.name && among known s.name) ≡ true) net.parts.samples
+  pub regs : RegsKnown known net.parts.regs
+  pub files : FilesKnown known net.parts.files
+  pub wires : Wires j known
+  pub clk : among known (codes "clk") ≡ true
+  pub integer : 0 < length net.parts.files → among known (codes "i") ≡ true
+  pub rst : net.parts.reset ≡ true → among known (codes "rst") ≡ true
+  pub wires_given : Wires j given
+  pub full : among given (codes "full") ≡ false
+  pub ue : among given (codes "ue") ≡ false
+  pub back : among given (codes "back") ≡ false
+
+knows_more : (net : Net) (j : ℕ) (known given : List (List ℕ)) → j < 16777216 → Knows net j known given → Knows net (j + 1) (wire_name j ∷ known) (wire_name j ∷ given)
+knows_more net j known given few k = record {
+  samples = λ i d l. still_known _ known (wire_name j) (get_or net.parts.samples i d).name (k.samples i d l);
+  regs = λ i d l. still_known _ known (wire_name j) (get_or net.parts.regs i d).name (k.regs i d l);
+  files = λ i d l. still_known _ known (wire_name j) (get_or net.parts.files i d).name (k.files i d l);
+  wires = wires_more j known few k.wires;
+  clk = keeps_more known (wire_name j) (codes "clk") k.clk;
+  integer = λ l. keeps_more known (wire_name j) (codes "i") (k.integer l);
+  rst = λ e. keeps_more known (wire_name j) (codes "rst") (k.rst e);
+  wires_given = wires_more j given few k.wires_given;
+  full = or_from (same (codes "full") (wire_name j)) _ refl k.full;
+  ue = or_from (same (codes "ue") (wire_name j)) _ refl k.ue;
+  back = or_from (same (codes "back") (wire_name j)) _ refl k.back;
+}
+
+-- what is driven so far, part by part
+abbrev state : List (List ℕ) → List (List ℕ) → List (List ℕ) → List (List ℕ) → List (List ℕ) → List (List ℕ) → Driven
+state g s f r u w = record { given = g; started = s; filled = f; reset = r; updated = u; written = w }
+
+abbrev given_only : List (List ℕ) → Driven
+given_only g = state g [] [] [] [] []
+
+module _ (resets : Bool) (all : Driven) where
+  -- no name is bad, and none is badly driven
+  pub record Good (known : List (List ℕ)) (d : Driven) (os : List Occurrence) : Type 0 where
+    pub no_bad_name : bad_name known os ≡ None
+    pub no_bad_driver : bad_driver resets all d os ≡ None
+
+  -- one name that fits
+  fits : (known : List (List ℕ)) (d : Driven) (o : Occurrence) (os : List Occurrence) → name_fits known o.role o.named.name ≡ true → driver_fits resets all d o.role o.named.name ≡ true
+      → Good (learns known o.role o.named.name) (drives d o.role o.named.name) os → Good known d (o ∷ os)
+  fits known d o os e f h = record {
+    no_bad_name = cond-true (name_fits known o.role o.named.name) (bad_name (learns known o.role o.named.name) os) (Some o.named.at) e ∙ h.no_bad_name;
+    no_bad_driver = cond-true (driver_fits resets all d o.role o.named.name) (bad_driver resets all (drives d o.role o.named.name) os) (Some o.named.at) f ∙ h.no_bad_driver;
+  }
+
+  -- a wire is used
+  used : (known : List (List ℕ)) (d : Driven) (a : NodeId) (at : ℕ) (os : List Occurrence) → a.0 ≤ 16777216 → among known (wire a) ≡ true → among d.given (wire a) ≡ true
+      → Good known d os → Good known d (occurs uses_wire (named_at (wire a) at) ∷ os)
+  used known d a at os few k g h = fits known d _ os (and_from (is_wire_name (wire a)) _ (wire_spelled a.0 few) k) g h
+
+  samples_fit : (ss : List Port) (xs : List VPort) (known : List (List ℕ)) (d : Driven) (rest : List Occurrence) → ShowsSamples ss xs → All (λ s. is_sample_name s.name ≡ true) ss → Differ (map (λ s. s.name) ss)
+      → AllNew (λ s. s.name) known ss → ((known' : List (List ℕ)) → Grows (λ s. s.name) ss 1115 known known' → Good known' d rest) → Good known d (samples_names xs ++ rest)
+  samples_fit _ _ known d rest no_sample k e new h = h known (grows_none (λ (s : Port). s.name) 1115 known)
+  samples_fit _ _ known d rest (one_sample {s = s} {ss = ss} {xs = xs} a b c sh) k e new h =
+      let here = All-head (λ s. is_sample_name s.name ≡ true) s ss k in
+      fits known d _ _ (and_from (is_sample_name s.name) _ here (is_new (λ s. s.name) known s ss new)) refl
+      (samples_fit ss xs (s.name ∷ known) d rest sh (All-tail (λ s. is_sample_name s.name ≡ true) s ss k) e.1 (new_more (λ s. s.name) s ss known e new)
+      (λ known' g. h known' (grows_more (λ s. s.name) s ss 1115 known known' (tag_sample s.name here) g)))
+
+  regs_fit : (rs : List NetReg) (xs ys : List Item) (known : List (List ℕ)) (d : Driven) (rest : List Occurrence) → ShowsRegs rs xs → All (λ r. is_reg_name r.name ≡ true) rs
+      → All (λ r. driver_fits resets all d declares_reg r.name ≡ true) rs → Differ (map (λ r. r.name) rs)
+      → AllNew (λ r. r.name) known rs → ((known' : List (List ℕ)) → Grows (λ r. r.name) rs 1114 known known' → Good known' d (items_names ys ++ rest)) → Good known d (items_names (xs ++ ys) ++ rest)
+  regs_fit _ _ ys known d rest no_reg_line k driven e new h = h known (grows_none (λ (r : NetReg). r.name) 1114 known)
+  regs_fit _ _ ys known d rest (reg_line {r = r} {rs = rs} {xs = xs} a b c sh) k driven e new h =
+      let here = All-head (λ r. is_reg_name r.name ≡ true) r rs k in
+      let R : NetReg → Type 0 = λ r. driver_fits resets all d declares_reg r.name ≡ true in
+      fits known d _ _ (and_from (is_reg_name r.name) _ here (is_new (λ r. r.name) known r rs new)) (All-head R r rs driven)
+      (regs_fit rs xs ys (r.name ∷ known) d rest sh (All-tail (λ r. is_reg_name r.name ≡ true) r rs k) (All-tail R r rs driven) e.1 (new_more (λ r. r.name) r rs known e new)
+      (λ known' g. h known' (grows_more (λ r. r.name) r rs 1114 known known' (tag_reg r.name here) g)))
+
+  files_fit : (fs : List NetFile) (xs ys : List Item) (known : List (List ℕ)) (d : Driven) (rest : List Occurrence) → ShowsFiles fs xs → All (λ f. is_file_name f.name ≡ true) fs
+      → All (λ f. among all.filled f.name ≡ true) fs → Differ (map (λ f. f.name) fs)
+      → AllNew (λ f. f.name) known fs → ((known' : List (List ℕ)) → Grows (λ f. f.name) fs 1102 known known' → Good known' d (items_names ys ++ rest)) → Good known d (items_names (xs ++ ys) ++ rest)
+  files_fit _ _ ys known d rest no_file_line k driven e new h = h known (grows_none (λ (f : NetFile). f.name) 1102 known)
+  files_fit _ _ ys known d rest (file_line {f = f} {fs = fs} {xs = xs} a b c i j sh) k driven e new h =
+      let here = All-head (λ f. is_file_name f.name ≡ true) f fs k in
+      let F : NetFile → Type 0 = λ f. among all.filled f.name ≡ true in
+      fits known d _ _ (and_from (is_file_name f.name) _ here (is_new (λ f. f.name) known f fs new)) (All-head F f fs driven)
+      (files_fit fs xs ys (f.name ∷ known) d rest sh (All-tail (λ f. is_file_name f.name ≡ true) f fs k) (All-tail F f fs driven) e.1 (new_more (λ f. f.name) f fs known e new)
+      (λ known' g. h known' (grows_more (λ f. f.name) f fs 1102 known known' (tag_file f.name here) g)))
+
+  -- node j, after its wire is declared
+  module _ (net : Net) (named : IsNamed net) (j : ℕ) (known g : List (List ℕ)) (few : j < 16777216) (kn : Knows net j known g) where
+    abbrev known' : List (List ℕ)
+    known' = wire_name j ∷ known
+
+    operand : (a : NodeId) (at : ℕ) (os : List Occurrence) → a.0 < j → Good known' (given_only g) os → Good known' (given_only g) (occurs uses_wire (named_at (wire a) at) ∷ os)
+    operand a at os l h = used known' (given_only g) a at os (omega arith) (keeps_more known (wire_name j) (wire a) (kn.wires.old a.0 l)) (kn.wires_given.old a.0 l) h
+
+    operands_fit : (parts : List NodeId) (xs : List Named) (os its rest : List Occurrence) → ShowsNames parts xs → All (λ a. a.0 < j) parts
+        → Good known' (given_only g) ((os ++ its) ++ rest) → Good known' (given_only g) (((wires_used xs ++ os) ++ its) ++ rest)
+    operands_fit _ _ os its rest no_name ok h = h
+    operands_fit _ _ os its rest (a_name {a = a} {parts = parts} {xs = xs} at sh) ok h =
+        operand a at _ (All-head (λ a. a.0 < j) a parts ok) (operands_fit parts xs os its rest sh (All-tail (λ a. a.0 < j) a parts ok) h)
+
+    right_fits_here : (k at : ℕ) (kind : Kind) (r : Right) (its rest : List Occurrence) → ShowsRight net.parts k kind r → KindOk net.nodes j k kind → CellOk net.nodes net.parts k kind
+        → Good known' (given_only (wire_name j ∷ g)) (its ++ rest)
+        → Good known' (given_only g) (((right_names (named_at (wire_name j) at) r ++ (occurs is_given (named_at (wire_name j) at) ∷ [])) ++ its) ++ rest)
+    right_fits_here k at _ _ its rest (a_const a) ok cell h = fits known' _ _ _ refl refl h
+    right_fits_here k at _ _ its rest (an_ext a) ok cell h = fits known' _ _ _ refl refl (fits known' _ _ _ refl refl h)
+    right_fits_here k at _ _ its rest (a_sample {i = x} a) ok cell h =
+        let n = (get_or net.parts.samples x no_port).name in
+        let p = and_parts (is_sample_name n) _ (kn.samples x no_port cell.0) in
+        fits known' _ _ _ (source_known known' n (or_right (is_reg_name n) _ p.0) (keeps_more known (wire_name j) n p.1)) refl (fits known' _ _ _ refl refl h)
+    right_fits_here k at _ _ its rest (a_reg {i = x} a) ok cell h =
+        let n = (get_or net.parts.regs x no_reg).name in
+        let p = and_parts (is_reg_name n) _ (kn.regs x no_reg cell.0) in
+        fits known' _ _ _ (source_known known' n (or_left (is_reg_name n) _ p.0) (keeps_more known (wire_name j) n p.1)) refl (fits known' _ _ _ refl refl h)
+    right_fits_here k at _ _ its rest (a_word {i = x} {n = n} a b) ok cell h =
+        fits known' _ _ _ (still_known _ known (wire_name j) (get_or net.parts.files x no_file).name (kn.files x no_file cell.0)) refl (operand n b _ ok (fits known' _ _ _ refl refl h))
+    right_fits_here k at _ _ its rest (a_not {n = n} a) ok cell h = operand n a _ ok.0 (fits known' _ _ _ refl refl h)
+    right_fits_here k at _ _ its rest (a_binary {n = n} {m = o} a b) ok cell h = operand n a _ ok.0 (operand o b _ ok.1 (fits known' _ _ _ refl refl h))
+    right_fits_here k at _ _ its rest (a_mux {t = t} {n = n} {m = o} a b c) ok cell h = operand t a _ ok.0 (operand n b _ ok.1 (operand o c _ ok.2 (fits known' _ _ _ refl refl h)))
+    right_fits_here k at _ _ its rest (a_concat {parts = parts} {xs = xs} sh) ok cell h =
+        operands_fit parts xs (occurs is_given (named_at (wire_name j) at) ∷ []) its rest sh ok.2 (fits known' _ _ _ refl refl h)
+    right_fits_here k at _ _ its rest (a_slice {n = n} a b c) ok cell h = operand n a _ ok.0 (fits known' _ _ _ refl refl h)
+
+  nodes_fit : (net : Net) (named : IsNamed net) (j : ℕ) (ns : List Node) (xs ys : List Item) (known g : List (List ℕ)) (rest : List Occurrence) → ShowsNodes net.parts j ns xs → RightFrom net j ns
+      → j + length ns ≤ 16777216 → ((i : ℕ) → j ≤ i → i < j + length ns → among all.given (wire_name i) ≡ true) → Knows net j known g
+      → ((known' g' : List (List ℕ)) → Knows net (j + length ns) known' g' → Good known' (given_only g') (items_names ys ++ rest)) → Good known (given_only g) (items_names (xs ++ ys) ++ rest)
+  nodes_fit net named j _ _ ys known g rest no_node_line k few a kn h = h known g (subst (λ i. Knows net i known g) (let e : j ≡ j + 0 = omega arith in e) kn)
+  nodes_fit net named j _ _ ys known g rest (node_line {n = n} {ns = ns} {r = r} {xs = xs} b c e f sh next) k few a kn h =
+      let known' = wire_name j ∷ known in
+      fits known (given_only g) _ _ (and_from (is_wire_name (wire_name j)) _ (wire_spelled j (omega arith)) (not_from_false (among known (wire_name j)) (kn.wires.new j (omega arith) (omega arith)))) (a j (omega arith) (omega arith))
+      (fits known' (given_only g) _ _ (and_from (is_wire_name (wire_name j)) _ (wire_spelled j (omega arith)) (or_left _ _ (same_refl (wire_name j)))) (not_from_false (among g (wire_name j)) (kn.wires_given.new j (omega arith) (omega arith)))
+      (right_fits_here net named j known g (omega arith) kn n.width f n.kind r (items_names (xs ++ ys)) rest sh k.0.kind k.1
+      (nodes_fit net named (j + 1) ns xs ys known' (wire_name j ∷ g) rest next k.2 (omega arith) (λ i l m. a i (omega arith) (omega arith)) (knows_more net j known g (omega arith) kn)
+      (λ known'' g' kn'. h known'' g' (subst (λ i. Knows net i known'' g') (let e : j + 1 + length ns ≡ j + suc (length ns) = omega arith in e) kn')))))
+
+  starts_fit : (known g s : List (List ℕ)) (rs : List NetReg) (xs ys : List Init) (rest : List Occurrence) → ShowsStarts rs xs → RegsKnown known rs → Differ (map (λ r. r.name) rs) → AllNew (λ r. r.name) s rs
+      → ((s' : List (List ℕ)) → Good known (state g s' [] [] [] []) (inits_names ys ++ rest)) → Good known (state g s [] [] [] []) (inits_names (xs ++ ys) ++ rest)
+  starts_fit known g s _ _ ys rest no_start k d new h = h s
+  starts_fit known g s _ _ ys rest (a_start {r = r} {rs = rs} {xs = xs} a b sh) k d new h =
+      let K : NetReg → Type 0 = λ r. (is_reg_name r.name && among known r.name) ≡ true in
+      fits known _ _ _ (All-head K r rs k) (is_new (λ r. r.name) s r rs new)
+      (starts_fit known g (r.name ∷ s) rs xs ys rest sh (All-tail K r rs k) d.1 (new_more (λ r. r.name) r rs s d new) h)
+
+  words_fit : (known : List (List ℕ)) (d : Driven) (n : List ℕ) (w i : ℕ) (us : List ℕ) (xs ys : List Init) (rest : List Occurrence) → ShowsWords n w i us xs → (is_file_name n && among known n) ≡ true → among d.filled n ≡ true
+      → Good known d (inits_names ys ++ rest) → Good known d (inits_names (xs ++ ys) ++ rest)
+  words_fit known d n w i _ _ ys rest no_words e f h = h
+  words_fit known d n w i _ _ ys rest (zero_word {vs = vs} {xs = xs} z sh) e f h = words_fit known d n w (i + 1) vs xs ys rest sh e f h
+  words_fit known d n w i _ _ ys rest (some_word {vs = vs} {xs = xs} a b c z sh) e f h = fits known d _ _ e f (words_fit known d n w (i + 1) vs xs ys rest sh e f h)
+
+  fills_fit : (known g s f : List (List ℕ)) (fs : List NetFile) (xs : List Init) (rest : List Occurrence) → ShowsFills fs xs → FilesKnown known fs → Differ (map (λ f. f.name) fs) → AllNew (λ f. f.name) f fs
+      → (0 < length fs → among known (codes "i") ≡ true) → ((f' : List (List ℕ)) → Good known (state g s f' [] [] []) rest) → Good known (state g s f [] [] []) (inits_names xs ++ rest)
+  fills_fit known g s f _ _ rest no_fill k d new int h = h f
+  fills_fit known g s f _ _ rest (a_fill {f = x} {fs = fs} {xs = xs} {ys = ys} p sh next) k d new int h =
+      let K : NetFile → Type 0 = λ f. (is_file_name f.name && among known f.name) ≡ true in
+      let i = int (omega arith) in let file = All-head K x fs k in
+      fits known _ _ _ i refl (fits known _ _ _ i refl (fits known _ _ _ i refl (fits known _ _ _ i refl (fits known _ _ _ file (is_new (λ f. f.name) f x fs new) (fits known _ _ _ i refl
+      (words_fit known (state g s (x.name ∷ f) [] [] []) x.name x.width 0 x.words xs ys rest sh file (or_left _ _ (same_refl x.name))
+      (fills_fit known g s (x.name ∷ f) fs ys rest next (All-tail K x fs k) d.1 (new_more (λ f. f.name) x fs f d new) (λ l. i) h)))))))
+
+  values_fit : (known g s f r : List (List ℕ)) (inits : List Init) (rs : List NetReg) (xs : List ResetValue) (rest : List Occurrence) → ShowsValues rs xs → RegsKnown known rs → Differ (map (λ r. r.name) rs) → AllNew (λ r. r.name) r rs
+      → All (λ r. start_in inits r.name ≡ Some (literal_for r.start)) rs → ((r' : List (List ℕ)) → Good known (state g s f r' [] []) rest) → Good known (state g s f r [] []) (values_names inits xs ++ rest)
+  values_fit known g s f r inits _ _ rest no_value k d new a h = h r
+  values_fit known g s f r inits _ _ rest (a_value {r = x} {rs = rs} {xs = xs} b c sh) k d new a h =
+      let K : NetReg → Type 0 = λ r. (is_reg_name r.name && among known r.name) ≡ true in
+      let S : NetReg → Type 0 = λ r. start_in inits r.name ≡ Some (literal_for r.start) in
+      fits known _ _ _ (All-head K x rs k) (is_new (λ r. r.name) r x rs new)
+      (fits known _ _ _ refl (ap (λ o. is_literal o (literal_for x.start)) (All-head S x rs a) ∙ and_from (x.start.width == x.start.width) _ (eq-eqb x.start.width x.start.width refl) (eq-eqb x.start.value x.start.value refl))
+      (values_fit known g s f (x.name ∷ r) inits rs xs rest sh (All-tail K x rs k) d.1 (new_more (λ r. r.name) x rs r d new) (All-tail S x rs a) h))
+
+  reset_fit : (known g s f : List (List ℕ)) (inits : List Init) (rs : List NetReg) (b : Bool) (rst : Option Named) (r : Option ResetList) (rest : List Occurrence) → ShowsReset rs b rst r
+      → (b ≡ true → among known (codes "rst") ≡ true) → RegsKnown known rs → Differ (map (λ r. r.name) rs) → All (λ r. start_in inits r.name ≡ Some (literal_for r.start)) rs
+      → ((r' : List (List ℕ)) → Good known (state g s f r' [] []) rest) → Good known (state g s f [] [] []) (reset_names inits r ++ rest)
+  reset_fit known g s f inits rs _ _ _ rest no_reset_shown e k d a h = h []
+  reset_fit known g s f inits rs _ _ _ rest (reset_shown {xs = xs} b c sh) e k d a h = fits known _ _ _ (e refl) refl (values_fit known g s f [] inits rs xs rest sh k d (λ i e l. refl) a h)
+
+  -- The nodes are given, and known: these are the updates.
+  module _ (net : Net) (known g s f r : List (List ℕ)) (few : length net.nodes ≤ 16777216) (old : (i : ℕ) → i < length net.nodes → among known (wire_name i) ≡ true)
+      (given : (i : ℕ) → i < length net.nodes → among g (wire_name i) ≡ true) where
+    node_used : (u w : List (List ℕ)) (a : NodeId) (at : ℕ) (os : List Occurrence) → a.0 < length net.nodes → Good known (state g s f r u w) os → Good known (state g s f r u w) (occurs uses_wire (named_at (wire a) at) ∷ os)
+    node_used u w a at os l h = used known (state g s f r u w) a at os (omega arith) (old a.0 l) (given a.0 l) h
+
+    updates_fit : (u : List (List ℕ)) (rs : List NetReg) (xs ys : List Update) → ShowsUpdates rs xs → All (RegOk net.nodes) rs → RegsKnown known rs → Differ (map (λ r. r.name) rs) → AllNew (λ r. r.name) u rs
+        → ((u' : List (List ℕ)) → Good known (state g s f r u' []) (updates_names ys)) → Good known (state g s f r u []) (updates_names (xs ++ ys))
+    updates_fit u _ _ ys no_update ok k d new h = h u
+    updates_fit u _ _ ys (an_update {r = x} {rs = rs} {xs = xs} b c sh) ok k d new h =
+        let K : NetReg → Type 0 = λ r. (is_reg_name r.name && among known r.name) ≡ true in
+        fits known _ _ _ (All-head K x rs k) (is_new (λ r. r.name) u x rs new) (node_used (x.name ∷ u) [] x.next c _ (All-head (RegOk net.nodes) x rs ok).next.0
+        (updates_fit (x.name ∷ u) rs xs ys sh (All-tail (RegOk net.nodes) x rs ok) (All-tail K x rs k) d.1 (new_more (λ r. r.name) x rs u d new) h))
+
+    writes_fit : (u w : List (List ℕ)) (fs : List NetFile) (xs : List Update) → ShowsWrites fs xs → All (FileOk net.nodes) fs → FilesKnown known fs → Differ (map (λ f. f.name) fs) → AllNew (λ f. f.name) w fs
+        → Good known (state g s f r u w) (updates_names xs)
+    writes_fit u w _ _ no_write ok k d new = record { no_bad_name = refl; no_bad_driver = refl }
+    writes_fit u w _ _ (not_written {f = x} {fs = fs} {xs = xs} z sh) ok k d new =
+        writes_fit u w fs xs sh (All-tail (FileOk net.nodes) x fs ok) (All-tail (λ f. (is_file_name f.name && among known f.name) ≡ true) x fs k) d.1 (All-tail (λ z. among w z.name ≡ false) x fs new)
+    writes_fit u w _ _ (a_write {f = x} {fs = fs} {xs = xs} port p z sh) ok k d new =
+        let K : NetFile → Type 0 = λ f. (is_file_name f.name && among known f.name) ≡ true in
+        let port_ok = subst (WriteOk net.nodes x.width x.address_width) z (All-head (FileOk net.nodes) x fs ok).port in
+        node_used u w port.enable (p 2) _ port_ok.0.0 (fits known _ _ _ (All-head K x fs k) (is_new (λ f. f.name) w x fs new)
+        (node_used u (x.name ∷ w) port.address (p 6) _ port_ok.1.0 (node_used u (x.name ∷ w) port.value (p 9) _ port_ok.2.0
+        (writes_fit u (x.name ∷ w) fs xs sh (All-tail (FileOk net.nodes) x fs ok) (All-tail K x fs k) d.1 (new_more (λ f. f.name) x fs w d new)))))
+
+  reset_port_fits : (known : List (List ℕ)) (d : Driven) (rs : List NetReg) (b : Bool) (rst : Option Named) (r : Option ResetList) (os rest : List Occurrence) → ShowsReset rs b rst r → among known (codes "rst") ≡ false
+      → ((known' : List (List ℕ)) → (b ≡ true → among known' (codes "rst") ≡ true) → ((n : List ℕ) → among known n ≡ true → among known' n ≡ true) → ((u : ℕ) → (u == 114) ≡ false → Free known u → Free known' u) → Good known' d (os ++ rest))
+      → Good known d ((reset_port_names rst (is_some r) ++ os) ++ rest)
+  reset_port_fits known d rs _ _ _ os rest no_reset_shown e h = h known (λ e. absurd (false≢true e)) (λ n e. e) (λ u d f. f)
+  reset_port_fits known d rs _ _ _ os rest (reset_shown a b sh) e h =
+      fits known d _ _ (not_from_false (among known (codes "rst")) e) refl
+      (fits (codes "rst" ∷ known) d _ _ refl refl (h (codes "rst" ∷ known) (λ e. refl) (λ n e. keeps_more known (codes "rst") n e) (λ u d f. free_more known (codes "rst") 114 u refl d f)))
+
+  integer_fits : (known : List (List ℕ)) (d : Driven) (fs : List NetFile) (xs ys : List Item) (rest : List Occurrence) → ShowsInteger fs xs → among known (codes "i") ≡ false
+      → ((known' : List (List ℕ)) → (0 < length fs → among known' (codes "i") ≡ true) → ((n : List ℕ) → among known n ≡ true → among known' n ≡ true) → ((u : ℕ) → (u == 105) ≡ false → Free known u → Free known' u)
+      → Good known' d (items_names ys ++ rest))
+      → Good known d (items_names (xs ++ ys) ++ rest)
+  integer_fits known d _ _ ys rest no_integer e h = h known (λ l. absurd (omega arith)) (λ n e. e) (λ u d f. f)
+  integer_fits known d _ _ ys rest (an_integer a) e h =
+      fits known d _ _ (not_from_false (among known (codes "i")) e) refl (h (codes "i" ∷ known) (λ l. refl) (λ n e. keeps_more known (codes "i") n e) (λ u d f. free_more known (codes "i") 105 u refl d f))
+
+  -- the outputs, and what is after the items
+  outs_fit : (net : Net) (s : Shown net) (known g : List (List ℕ)) → NetOk net → IsNamed net → Knows net (length net.nodes) known g → Good known (given_only g) (items_names (outs s) ++ body_names (module_of s))
+  outs_fit net s known g k named kn =
+      let p = net.parts in
+      let few = k.count in
+      let found = starts_found start_in (λ w. Some (literal_for w)) (λ r a b xs n. refl) p.regs s.start_part s.fill_part s.shows_starts named.regs_differ in
+      let g1 = codes "full" ∷ g in let g2 = codes "ue" ∷ g1 in let g3 = codes "back" ∷ g2 in
+      let given = kn.wires_given.old in
+      let old : (i : ℕ) → i < length net.nodes → among g3 (wire_name i) ≡ true = λ i l. keeps_more g2 (codes "back") (wire_name i) (keeps_more g1 (codes "ue") (wire_name i) (keeps_more g (codes "full") (wire_name i) (given i l))) in
+      let out : (g : List (List ℕ)) (a : NodeId) (at : ℕ) (os : List Occurrence) → a.0 < length net.nodes → among g (wire a) ≡ true → Good known (given_only g) os → Good known (given_only g) (occurs uses_wire (named_at (wire a) at) ∷ os)
+      = λ g a at os l e h. used known (given_only g) a at os (omega arith) (kn.wires.old a.0 l) e h in
+      fits known _ _ _ refl (not_from_false (among g (codes "full")) kn.full) (out g p.full (s.q 1) _ k.parts.full (given p.full.0 k.parts.full) (fits known _ _ _ refl refl
+      (fits known _ _ _ refl (not_from_false (among g1 (codes "ue")) (or_from (same (codes "ue") (codes "full")) _ refl kn.ue)) (out g1 p.ue (s.q 3) _ k.parts.ue (keeps_more g (codes "full") (wire p.ue) (given p.ue.0 k.parts.ue)) (fits known _ _ _ refl refl
+      (fits known _ _ _ refl (not_from_false (among g2 (codes "back")) (or_from (same (codes "back") (codes "ue")) _ refl (or_from (same (codes "back") (codes "full")) _ refl kn.back)))
+      (out g2 p.back (s.q 5) _ k.parts.back (keeps_more g1 (codes "ue") (wire p.back) (keeps_more g (codes "full") (wire p.back) (given p.back.0 k.parts.back))) (fits known _ _ _ refl refl
+      (starts_fit known g3 [] p.regs s.start_part s.fill_part _ s.shows_starts kn.regs named.regs_differ (λ i d l. refl) (λ s'.
+      fills_fit known g3 s' [] p.files s.fill_part _ s.shows_fills kn.files named.files_differ (λ i d l. refl) kn.integer (λ f'.
+      fits known _ _ _ kn.clk refl
+      (reset_fit known g3 s' f' (s.start_part ++ s.fill_part) p.regs p.reset s.rst s.resets _ s.reset kn.rst kn.regs named.regs_differ found (λ r'.
+      updates_fit net known g3 s' f' r' few kn.wires.old old [] p.regs s.update_part s.write_part s.shows_updates k.parts.regs kn.regs named.regs_differ (λ i d l. refl) (λ u'.
+      writes_fit net known g3 s' f' r' few kn.wires.old old u' [] p.files s.write_part s.shows_writes k.parts.files kn.files named.files_differ (λ i d l. refl)))))))))))))))
+
+  all_fit : (net : Net) (s : Shown net) → NetOk net → IsNamed net → DrivesAll net resets all → Good [] nothing (names (module_of s))
+  all_fit net s k named driven =
+      let p = net.parts in
+      let w = module_of s in
+      let few = k.count in
+      let regs = spelled is_reg_name (λ r. r.name) p.regs named.regs in
+      let files = spelled is_file_name (λ f. f.name) p.files named.files in
+      let samples = spelled is_sample_name (λ x. x.name) p.samples named.samples in
+      let rest = items_names w.items ++ body_names w in
+      let ports = wide_port_names (codes "full") w.ext w.full ++ (wide_port_names (codes "ue") w.ext w.ue ++ (occurs (declares_port (codes "back")) w.back.port ∷ [])) in
+      fits [] _ _ _ named.name.kind refl (fits [] _ _ _ refl refl
+      (reset_port_fits (codes "clk" ∷ []) nothing p.regs p.reset s.rst s.resets (occurs (declares_port (codes "ext")) w.ext.port ∷ (samples_names s.ports ++ ports)) rest s.reset refl (λ k1 rst keep1 free1.
+      let base : (u : ℕ) → (u == 99) ≡ false → (u == 114) ≡ false → Free k1 u = λ u a b. free1 u b (free_more [] (codes "clk") 99 u refl a (λ x e. refl)) in
+      fits k1 nothing _ _ (not_from_false (among k1 (codes "ext")) (base 101 refl refl (codes "ext") refl)) refl
+      (subst (Good (codes "ext" ∷ k1) nothing) (sym (append_assoc (samples_names s.ports) ports rest))
+      (samples_fit p.samples s.ports (codes "ext" ∷ k1) nothing (ports ++ rest) s.samples samples named.samples_differ
+      (all_new (λ (x : Port). x.name) p.samples 1115 (codes "ext" ∷ k1) (samples_tagged net named) (free_more k1 (codes "ext") 101 1115 refl refl (base 1115 refl refl))) (λ k2 g.
+      let k3 = codes "full" ∷ k2 in let k4 = codes "ue" ∷ k3 in let k5 = codes "back" ∷ k4 in
+      let free2 : (u : ℕ) → (u == 99) ≡ false → (u == 114) ≡ false → (u == 101) ≡ false → (u == 1115) ≡ false → Free k2 u = λ u a b c d. g.frees u d (free_more k1 (codes "ext") 101 u refl c (base u a b)) in
+      fits k2 nothing _ _ (not_from_false (among k2 (codes "full")) (free2 102 refl refl refl refl (codes "full") refl)) driven.full
+      (fits k3 nothing _ _ refl (eq-eqb (wide net.nodes p.full.0 - 1) (p.ext - 1) (ap (λ x. x - 1) named.full))
+      (fits k3 nothing _ _ (not_from_false (among k3 (codes "ue")) (free_more k2 (codes "full") 102 117 refl refl (free2 117 refl refl refl refl) (codes "ue") refl)) driven.ue
+      (fits k4 nothing _ _ refl (eq-eqb (wide net.nodes p.ue.0 - 1) (p.ext - 1) (ap (λ x. x - 1) named.ue))
+      (fits k4 nothing _ _ (not_from_false (among k4 (codes "back")) (free_more k3 (codes "ue") 117 98 refl refl (free_more k2 (codes "full") 102 98 refl refl (free2 98 refl refl refl refl)) (codes "back") refl)) driven.back
+      (let free5 : (u : ℕ) → (u == 99) ≡ false → (u == 114) ≡ false → (u == 101) ≡ false → (u == 1115) ≡ false → (u == 102) ≡ false → (u == 117) ≡ false → (u == 98) ≡ false → Free k5 u = λ u a b c d e f h.
+      free_more k4 (codes "back") 98 u refl h (free_more k3 (codes "ue") 117 u refl f (free_more k2 (codes "full") 102 u refl e (free2 u a b c d))) in
+      let keep2 : (n : List ℕ) → among k2 n ≡ true → among k5 n ≡ true = λ n e. keeps_more k4 (codes "back") n (keeps_more k3 (codes "ue") n (keeps_more k2 (codes "full") n e)) in
+      let keep1' : (n : List ℕ) → among k1 n ≡ true → among k5 n ≡ true = λ n e. keep2 n (g.keeps n (keeps_more k1 (codes "ext") n e)) in
+      regs_fit p.regs s.regs (s.files ++ (s.integer ++ (s.nodes ++ outs s))) k5 nothing (body_names w) s.shows_regs regs driven.regs named.regs_differ
+      (all_new (λ (x : NetReg). x.name) p.regs 1114 k5 (regs_tagged net named) (free5 1114 refl refl refl refl refl refl refl)) (λ k6 g6.
+      files_fit p.files s.files (s.integer ++ (s.nodes ++ outs s)) k6 nothing (body_names w) s.shows_files files driven.filled named.files_differ
+      (all_new (λ (x : NetFile). x.name) p.files 1102 k6 (files_tagged net named) (g6.frees 1102 refl (free5 1102 refl refl refl refl refl refl refl))) (λ k7 g7.
+      integer_fits k7 nothing p.files s.integer (s.nodes ++ outs s) (body_names w) s.shows_integer
+      (g7.frees 105 refl (g6.frees 105 refl (free5 105 refl refl refl refl refl refl refl)) (codes "i") refl) (λ k8 int keep8 free8.
+      let keep5 : (n : List ℕ) → among k5 n ≡ true → among k8 n ≡ true = λ n e. keep8 n (g7.keeps n (g6.keeps n e)) in
+      nodes_fit net named 0 net.nodes s.nodes (outs s) k8 [] (body_names w) s.shows_nodes (all_right net k) (omega arith) (λ i l h. driven.wires i (omega arith))
+      (record {
+        samples = λ i d l. let n = (get_or p.samples i d).name in and_from (is_sample_name n) _ (samples i d l) (keep5 n (keep2 n (g.has i d l)));
+        regs = λ i d l. let n = (get_or p.regs i d).name in and_from (is_reg_name n) _ (regs i d l) (keep8 n (g7.keeps n (g6.has i d l)));
+        files = λ i d l. let n = (get_or p.files i d).name in and_from (is_file_name n) _ (files i d l) (keep8 n (g7.has i d l));
+        wires = record { old = λ i l. absurd (omega arith); new = λ i l b. free8 110 refl (g7.frees 110 refl (g6.frees 110 refl (free5 110 refl refl refl refl refl refl refl))) (wire_name i) (tag_wire i b) };
+        clk = keep5 (codes "clk") (keep1' (codes "clk") (keep1 (codes "clk") refl));
+        integer = int;
+        rst = λ e. keep5 (codes "rst") (keep1' (codes "rst") (rst e));
+        wires_given = record { old = λ i l. absurd (omega arith); new = λ i l b. refl };
+        full = refl;
+        ue = refl;
+        back = refl;
+      })
+      (λ k9 g9 kn. outs_fit net s k9 g9 k named (subst (λ i. Knows net i k9 g9) (let e : 0 + length net.nodes ≡ length net.nodes = omega arith in e) kn))))))))))))))))
+
+-- A module that represents a netlist violates no rule of names, and none of drivers.
+all_hold : (net : Net) (s : Shown net) → NetOk net → IsNamed net → Good (is_some s.resets) (all_driven (module_of s)) [] nothing (names (module_of s))
+all_hold net s k named = all_fit (is_some s.resets) (all_driven (module_of s)) net s k named (drives_all net s)
+
+pub names_hold : (net : Net) (s : Shown net) → NetOk net → IsNamed net → bad_name [] (names (module_of s)) ≡ None
+names_hold net s k named = (all_hold net s k named).no_bad_name
+
+pub drivers_hold : (net : Net) (s : Shown net) → NetOk net → IsNamed net → module_driver (module_of s) ≡ None
+drivers_hold net s k named = (all_hold net s k named).no_bad_driver

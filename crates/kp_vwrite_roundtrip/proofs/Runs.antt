@@ -90,14 +90,14 @@ decimal_is n h =
 pub record Led (ds : List ℕ) : Type 0 where
   pub first : ℕ
   pub more : List ℕ
-  pub whole : ds ≡ first ∷ more
+  pub same : ds ≡ first ∷ more
   pub is : IsDigit first
 
 led_append : (xs ys : List ℕ) → Led xs → Led (xs ++ ys)
-led_append xs ys l = record { first = l.first; more = l.more ++ ys; whole = ap (λ zs. zs ++ ys) l.whole; is = l.is }
+led_append xs ys l = record { first = l.first; more = l.more ++ ys; same = ap (λ zs. zs ++ ys) l.same; is = l.is }
 
 pub decimal_led : (n : ℕ) → n < 2 ^ 64 → Led (decimal n)
-decimal_led = decimal_by_steps (λ n ds. Led ds) (λ n low. record { first = 48 + n; more = []; whole = refl; is = (n, low, refl) }) (λ n ds high l. led_append ds _ l)
+decimal_led = decimal_by_steps (λ n ds. Led ds) (λ n low. record { first = 48 + n; more = []; same = refl; is = (n, low, refl) }) (λ n ds high l. led_append ds _ l)
 
 digit_front : (b : ℕ) (t : List ℕ) → IsDigit b → front (b ∷ t) ≡ number_run (take (run_length is_in_run (b ∷ t)) (b ∷ t))
 digit_front b t d =
@@ -117,9 +117,9 @@ spells_front p f b t rest w ws first each value stop s =
 spells_led : (ds rest : List ℕ) (w : Word) (ws : List Word) → Led ds → Each is_in_run ds → number_run ds ≡ takes w (length ds) → run_length is_in_run rest ≡ 0
     → Spells rest ws → Spells (ds ++ rest) (w ∷ ws)
 spells_led ds rest w ws l each value stop s =
-    subst (λ (xs : List ℕ). Spells (xs ++ rest) (w ∷ ws)) (sym l.whole)
-    (spells_front is_in_run number_run l.first l.more rest w ws (λ u. digit_front l.first u l.is) (subst (Each is_in_run) l.whole each)
-    (subst (λ (xs : List ℕ). number_run xs ≡ takes w (length xs)) l.whole value) stop s)
+    subst (λ (xs : List ℕ). Spells (xs ++ rest) (w ∷ ws)) (sym l.same)
+    (spells_front is_in_run number_run l.first l.more rest w ws (λ u. digit_front l.first u l.is) (subst (Each is_in_run) l.same each)
+    (subst (λ (xs : List ℕ). number_run xs ≡ takes w (length xs)) l.same value) stop s)
 
 pub spells_number : (n : ℕ) (rest : List ℕ) (ws : List Word) → n < 2 ^ 64 → run_length is_in_run rest ≡ 0 → Spells rest ws → Spells (decimal n ++ rest) (number n ∷ ws)
 spells_number n rest ws h stop s =
@@ -180,7 +180,7 @@ letter_front _ t x = refl
 pub record IsWritten (n : List ℕ) : Type 0 where
   pub first : ℕ
   pub more : List ℕ
-  pub whole : n ≡ first ∷ more
+  pub same : n ≡ first ∷ more
   pub initial : IsInitial first
   pub bytes : Each is_in_identifier (first ∷ more)
   pub short : length (first ∷ more) ≤ 70
@@ -191,7 +191,7 @@ name_here run h e = cond-false (nat_lt 70 (length run)) broken _ (le-ltb 70 (len
 
 pub spells_name : (n rest : List ℕ) (ws : List Word) → IsWritten n → run_length is_in_identifier rest ≡ 0 → Spells rest ws → Spells (n ++ rest) (name n ∷ ws)
 spells_name n rest ws h stop s =
-    subst (λ (xs : List ℕ). Spells (xs ++ rest) (name xs ∷ ws)) (sym h.whole)
+    subst (λ (xs : List ℕ). Spells (xs ++ rest) (name xs ∷ ws)) (sym h.same)
     (spells_front is_in_identifier identifier h.first h.more rest (name (h.first ∷ h.more)) ws (λ u. letter_front h.first u h.initial) h.bytes
     (name_here (h.first ∷ h.more) h.short h.plain) stop s)
 
@@ -199,7 +199,7 @@ pub wire_written : (j : ℕ) → j ≤ 16777216 → IsWritten (codes "n" ++ deci
 wire_written j h = record {
   first = 110;
   more = decimal j;
-  whole = refl;
+  same = refl;
   initial = at_n;
   bytes = (refl, decimal_words j (omega arith));
   short = omega (arith, length-decimal-le 8 j (omega arith) (omega arith) (omega arith));

@@ -6,16 +6,18 @@ use Rattle.std.proofs.lemmas.List.Elements.{All-nil, All-cons, All-head, All-tai
 use Rattle.std.specs.Prelude.{All, fold, replicate, ◌==◌, ◌||◌, if◌then◌else◌}
 use Rattle.kp_net.specs.declared.{node.Node.Node, netlist.Port.Port, netlist.WritePort.WritePort, netlist.NetReg.NetReg, netlist.NetFile.NetFile}
 use Rattle.kp_net.specs.{declared.netlist.Parts.Parts, Names.same, Names.among, Names.Differ, Names.is_reg_name, Names.is_file_name, Names.is_sample_name}
-use Rattle.kp_net.specs.{Netlist.Net, Parts.FileOk}
+use Rattle.kp_net.specs.{Netlist.Net, Parts.FileOk, Parts.PortOk, Parts.RegOk}
 use Rattle.kp_vlog.specs.{declared.tree.VPort.VPort, declared.tree.Item.Item, declared.tree.Init.Init, declared.tree.Update.Update, Canon.wire, Canon.wire_name}
 use Rattle.kp_vlog.specs.Scope.{Sized, Sizes, item_sizes, port_size, width_in, address_in, width_of, place_of, address_width, or_zero, last_of}
-use Rattle.kp_vlog.{specs.Denote.node_of, specs.Denote.start_of, specs.Denote.next_of, specs.Denote.word_init, specs.Denote.port_of, proofs.Tests.same_refl}
+use Rattle.kp_vlog.specs.Denote.{node_of, start_of, next_of, word_init, port_of}
+use Rattle.kp_vlog.proofs.Tests.{same_refl}
 use Rattle.kp_vlog.specs.declared.tree.Item.TheVariants as lines
 use Rattle.kp_vlog.specs.declared.tree.Init.TheVariants as starts
 use Rattle.kp_vlog.specs.declared.tree.Update.TheVariants as edges
 use Rattle.kp_vwrite_roundtrip.proofs.Sentence.{named_at, fill_at, write_at, ShowsSamples, no_sample, one_sample, ShowsRegs, no_reg_line, reg_line, ShowsFiles, no_file_line, file_line, ShowsInteger, no_integer, an_integer, ShowsNodes, no_node_line, node_line, ShowsStarts, no_start, a_start, ShowsWords, no_words, zero_word, some_word, ShowsFills, no_fill, a_fill, ShowsUpdates, no_update, an_update, ShowsWrites, no_write, not_written, a_write}
 use Rattle.kp_vwrite_roundtrip.proofs.Distinct.{apart, tag, tag_reg, tag_file, tag_sample, wires_differ, apart_all, or_rest}
-use Rattle.kp_vwrite_roundtrip.proofs.Written.{RightFrom}
+use Rattle.kp_vwrite_roundtrip.proofs.{Written.RightFrom, Runs.literal_for}
+use Rattle.kp_bits.specs.Word.{Word}
 
 -- The words of a file: the fill, and then each word that is not 0.
 
@@ -62,13 +64,13 @@ words_are _ _ no_fill d = All-nil (HasWords [])
 words_are _ _ (a_fill {f = f} {fs = fs} {xs = xs} {ys = ys} p h k) d =
     let rest = words_are fs ys k d.1 in
     let others = apart_all (λ f. f.name) f.name fs d.0 in
-    let whole = starts.Fill (fill_at f p) ∷ (xs ++ ys) in
-    let own : HasWords whole f = λ ws.
+    let entire = starts.Fill (fill_at f p) ∷ (xs ++ ys) in
+    let own : HasWords entire f = λ ws.
     ap (λ us. fold (word_init (length f.words) f.name) us (xs ++ ys)) (cond-true (same f.name f.name) (replicate (length f.words) 0) ws (same_refl f.name))
     ∙ fold-append (word_init (length f.words) f.name) (replicate (length f.words) 0) xs ys
     ∙ ap (λ us. fold (word_init (length f.words) f.name) us ys) (words_filled f.name f.width 0 (length f.words) f.words xs [] h refl)
     ∙ fills_skipped f.name (length f.words) fs ys f.words k d.0 in
-    All-cons (HasWords whole) f fs own (λ i e l ws. let g = get_or fs i e in
+    All-cons (HasWords entire) f fs own (λ i e l ws. let g = get_or fs i e in
     ap (λ us. fold (word_init (length g.words) g.name) us (xs ++ ys)) (cond-false (same g.name f.name) (replicate (length g.words) 0) ws (others i e l))
     ∙ fold-append (word_init (length g.words) g.name) ws xs ys
     ∙ ap (λ us. fold (word_init (length g.words) g.name) us ys) (words_skipped g.name f.name f.width 0 (length g.words) f.words xs ws h (others i e l))
@@ -81,17 +83,16 @@ starts_skipped n count _ _ ws (a_start {rs = rs} {xs = xs} a b h) = starts_skipp
 
 -- Registers.
 
-abbrev pub HasStart : List Init → NetReg → Type 0
-HasStart xs r = (rest : List Init) → start_of (xs ++ rest) r.name ≡ r.start
-
-pub starts_are : (rs : List NetReg) (xs : List Init) → ShowsStarts rs xs → Differ (map (λ r. r.name) rs) → All (HasStart xs) rs
-starts_are _ _ no_start d = All-nil (HasStart [])
-starts_are _ _ (a_start {r = r} {rs = rs} {xs = xs} a b h) d =
-    let rest = starts_are rs xs h d.1 in
-    let others = apart_all (λ r. r.name) r.name rs d.0 in
-    let whole = starts.Reg (named_at r.name a) (record { literal = record { width = r.start.width; value = r.start.value }; at = b }) ∷ xs in
-    All-cons (HasStart whole) r rs (λ more. cond-true (same r.name r.name) r.start (start_of (xs ++ more) r.name) (same_refl r.name))
-    (λ i e l more. let g = get_or rs i e in cond-false (same g.name r.name) r.start (start_of (xs ++ more) g.name) (others i e l) ∙ rest i e l more)
+-- what a look-up finds for each register, if it finds a register's line by its name
+pub starts_found : {V : Type 0} (in_starts : List Init → List ℕ → V) (value : Word → V)
+    → ((r : NetReg) (a b : ℕ) (xs : List Init) (n : List ℕ) → in_starts (starts.Reg (named_at r.name a) (record { literal = literal_for r.start; at = b }) ∷ xs) n ≡ (if same n r.name then value r.start else in_starts xs n))
+    → (rs : List NetReg) (xs rest : List Init) → ShowsStarts rs xs → Differ (map (λ r. r.name) rs) → All (λ r. in_starts (xs ++ rest) r.name ≡ value r.start) rs
+starts_found in_starts value first _ _ rest no_start d = All-nil (λ r. in_starts rest r.name ≡ value r.start)
+starts_found in_starts value first _ _ rest (a_start {r = r} {rs = rs} {xs = xs} a b h) d =
+    All-cons (λ z. in_starts (starts.Reg (named_at r.name a) (record { literal = literal_for r.start; at = b }) ∷ (xs ++ rest)) z.name ≡ value z.start) r rs
+    (first r a b (xs ++ rest) r.name ∙ cond-true (same r.name r.name) (value r.start) (in_starts (xs ++ rest) r.name) (same_refl r.name))
+    (λ i e l. let n = (get_or rs i e).name in
+    first r a b (xs ++ rest) n ∙ cond-false (same n r.name) (value r.start) (in_starts (xs ++ rest) n) (apart_all (λ r. r.name) r.name rs d.0 i e l) ∙ starts_found in_starts value first rs xs rest h d.1 i e l)
 
 abbrev pub HasNext : List (List ℕ) → List Update → NetReg → Type 0
 HasNext wires xs r = (rest : List Update) → next_of wires (xs ++ rest) r.name ≡ record { 0 = place_of wires (wire r.next) }
@@ -101,8 +102,8 @@ nexts_are wires _ _ no_update d = All-nil (HasNext wires [])
 nexts_are wires _ _ (an_update {r = r} {rs = rs} {xs = xs} a b h) d =
     let rest = nexts_are wires rs xs h d.1 in
     let others = apart_all (λ r. r.name) r.name rs d.0 in
-    let whole = edges.Reg (named_at r.name a) (named_at (wire r.next) b) ∷ xs in
-    All-cons (HasNext wires whole) r rs (λ more. cond-true (same r.name r.name) (node_of wires (named_at (wire r.next) b)) (next_of wires (xs ++ more) r.name) (same_refl r.name))
+    let entire = edges.Reg (named_at r.name a) (named_at (wire r.next) b) ∷ xs in
+    All-cons (HasNext wires entire) r rs (λ more. cond-true (same r.name r.name) (node_of wires (named_at (wire r.next) b)) (next_of wires (xs ++ more) r.name) (same_refl r.name))
     (λ i e l more. let g = get_or rs i e in cond-false (same g.name r.name) (node_of wires (named_at (wire r.next) b)) (next_of wires (xs ++ more) g.name) (others i e l) ∙ rest i e l more)
 
 -- Write ports.
@@ -172,38 +173,6 @@ pub found_here : (s : Sized) (ss : Sizes) (n : List ℕ) → same n s.name ≡ t
 unfolding found
 found_here s ss n e = cond-true (same n s.name) s (found ss n) e
 
-pub sizes_append : (xs ys : List Item) → item_sizes (xs ++ ys) ≡ item_sizes xs ++ item_sizes ys
-sizes_append [] ys = refl
-sizes_append (lines.Reg r n ∷ xs) ys = ap (λ (t : Sizes). sized n.name (width_of r) 0 ∷ t) (sizes_append xs ys)
-sizes_append (lines.File r n w ∷ xs) ys = ap (λ (t : Sizes). sized n.name (width_of r) (or_zero (address_width (last_of w))) ∷ t) (sizes_append xs ys)
-sizes_append (lines.Wire r n ∷ xs) ys = ap (λ (t : Sizes). sized n.name (width_of r) 0 ∷ t) (sizes_append xs ys)
-sizes_append (x ∷ xs) ys = sizes_append xs ys
-
-pub samples_past : (n : List ℕ) (t : ℕ) (ss : List Port) (xs : List VPort) (rest : Sizes) → ShowsSamples ss xs → All (λ n. is_sample_name n ≡ true) (map (λ s. s.name) ss) → tag n ≡ t → (t == 1115) ≡ false
-    → found (map port_size xs ++ rest) n ≡ found rest n
-samples_past n t _ _ rest no_sample k e d = refl
-samples_past n t _ _ rest (one_sample {s = s} {ss = ss} {xs = xs} a b c h) k e d =
-    found_past _ (map port_size xs ++ rest) n (apart n s.name t 1115 e (tag_sample s.name (All-head (λ n. is_sample_name n ≡ true) s.name (map (λ s. s.name) ss) k)) d)
-    ∙ samples_past n t ss xs rest h (All-tail (λ n. is_sample_name n ≡ true) s.name (map (λ s. s.name) ss) k) e d
-
-pub regs_past : (n : List ℕ) (t : ℕ) (rs : List NetReg) (xs : List Item) (rest : Sizes) → ShowsRegs rs xs → All (λ n. is_reg_name n ≡ true) (map (λ r. r.name) rs) → tag n ≡ t → (t == 1114) ≡ false
-    → found (item_sizes xs ++ rest) n ≡ found rest n
-regs_past n t _ _ rest no_reg_line k e d = refl
-regs_past n t _ _ rest (reg_line {r = r} {rs = rs} {xs = xs} a b c h) k e d =
-    found_past _ (item_sizes xs ++ rest) n (apart n r.name t 1114 e (tag_reg r.name (All-head (λ n. is_reg_name n ≡ true) r.name (map (λ r. r.name) rs) k)) d)
-    ∙ regs_past n t rs xs rest h (All-tail (λ n. is_reg_name n ≡ true) r.name (map (λ r. r.name) rs) k) e d
-
-pub files_past : (n : List ℕ) (t : ℕ) (fs : List NetFile) (xs : List Item) (rest : Sizes) → ShowsFiles fs xs → All (λ n. is_file_name n ≡ true) (map (λ f. f.name) fs) → tag n ≡ t → (t == 1102) ≡ false
-    → found (item_sizes xs ++ rest) n ≡ found rest n
-files_past n t _ _ rest no_file_line k e d = refl
-files_past n t _ _ rest (file_line {f = f} {fs = fs} {xs = xs} a b c g i h) k e d =
-    found_past _ (item_sizes xs ++ rest) n (apart n f.name t 1102 e (tag_file f.name (All-head (λ n. is_file_name n ≡ true) f.name (map (λ f. f.name) fs) k)) d)
-    ∙ files_past n t fs xs rest h (All-tail (λ n. is_file_name n ≡ true) f.name (map (λ f. f.name) fs) k) e d
-
-pub integer_past : (fs : List NetFile) (xs : List Item) → ShowsInteger fs xs → item_sizes xs ≡ []
-integer_past _ _ no_integer = refl
-integer_past _ _ (an_integer a) = refl
-
 no_zero : (a : ℕ) → 1 ≤ a → (a == 0) ≡ false
 no_zero a h = false_from_ne_true (a == 0) (λ e. let z : a ≡ 0 = eqb-true a 0 e in omega arith)
 
@@ -212,35 +181,59 @@ address_is a low high =
     eqb-true (or_zero (address_width (2 ^ a - 1))) a
     (or_rest (a == 0) _ (agree_below_at (λ k. (k == 0) || (or_zero (address_width (2 ^ k - 1)) == k)) (λ _. true) 17 a refl (omega arith)) (no_zero a low))
 
--- each file has its size
-abbrev pub HasSize : Sizes → NetFile → Type 0
-HasSize ss f = (rest : Sizes) → found (ss ++ rest) f.name ≡ sized f.name f.width f.address_width
+-- the sizes that parts declare
+abbrev pub port_sized : Port → Sized
+port_sized s = sized s.name s.width 0
 
-pub files_sized : (ns : List Node) (fs : List NetFile) (xs : List Item) → ShowsFiles fs xs → All (FileOk ns) fs → Differ (map (λ f. f.name) fs) → All (HasSize (item_sizes xs)) fs
-files_sized ns _ _ no_file_line k d = All-nil (HasSize [])
-files_sized ns _ _ (file_line {f = f} {fs = fs} {xs = xs} a b c g i h) k d =
-    let rest = files_sized ns fs xs h (All-tail (FileOk ns) f fs k) d.1 in
-    let others = apart_all (λ f. f.name) f.name fs d.0 in
-    let file = All-head (FileOk ns) f fs k in let low = file.positive in
-    let s : Sized = sized f.name (f.width - 1 + 1) (or_zero (address_width (2 ^ f.address_width - 1))) in
-    let width : f.width - 1 + 1 ≡ f.width = omega arith in
-    All-cons (HasSize (s ∷ item_sizes xs)) f fs
-    (λ more. found_here s (item_sizes xs ++ more) f.name (same_refl f.name) ∙ ap (λ w. sized f.name w (or_zero (address_width (2 ^ f.address_width - 1)))) width
-    ∙ ap (sized f.name f.width) (address_is f.address_width file.addressed file.addressed_at_most))
-    (λ j e l more. let g = get_or fs j e in found_past s (item_sizes xs ++ more) g.name (others j e l) ∙ rest j e l more)
+abbrev pub reg_sized : NetReg → Sized
+reg_sized r = sized r.name r.start.width 0
+
+abbrev pub file_sized : NetFile → Sized
+file_sized f = sized f.name f.width f.address_width
+
+pub range_back : (w : ℕ) → 1 ≤ w → w - 1 + 1 ≡ w
+range_back w h = omega arith
+
+pub samples_sized : (ss : List Port) (xs : List VPort) → ShowsSamples ss xs → All PortOk ss → map port_size xs ≡ map port_sized ss
+samples_sized _ _ no_sample k = refl
+samples_sized _ _ (one_sample {s = s} {ss = ss} {xs = xs} a b c h) k =
+    let w = range_back s.width (All-head PortOk s ss k).positive in let rest = samples_sized ss xs h (All-tail PortOk s ss k) in λ i. sized s.name (w i) 0 ∷ rest i
+
+pub regs_sized : (ns : List Node) (rs : List NetReg) (xs ys : List Item) → ShowsRegs rs xs → All (RegOk ns) rs → item_sizes (xs ++ ys) ≡ map reg_sized rs ++ item_sizes ys
+regs_sized ns _ _ ys no_reg_line k = refl
+regs_sized ns _ _ ys (reg_line {r = r} {rs = rs} {xs = xs} a b c h) k =
+    let w = range_back r.start.width (All-head (RegOk ns) r rs k).start.positive in let rest = regs_sized ns rs xs ys h (All-tail (RegOk ns) r rs k) in λ i. sized r.name (w i) 0 ∷ rest i
+
+pub files_sized : (ns : List Node) (fs : List NetFile) (xs ys : List Item) → ShowsFiles fs xs → All (FileOk ns) fs → item_sizes (xs ++ ys) ≡ map file_sized fs ++ item_sizes ys
+files_sized ns _ _ ys no_file_line k = refl
+files_sized ns _ _ ys (file_line {f = f} {fs = fs} {xs = xs} a b c d e h) k =
+    let file = All-head (FileOk ns) f fs k in
+    let w = range_back f.width file.positive in let z = address_is f.address_width file.addressed file.addressed_at_most in
+    let rest = files_sized ns fs xs ys h (All-tail (FileOk ns) f fs k) in λ i. sized f.name (w i) (z i) ∷ rest i
+
+-- A name of another kind is found after these; and each of names that differ is found.
+pub each_past : {X : Type 0} (size : X → Sized) (n : List ℕ) (t u : ℕ) (xs : List X) (rest : Sizes) → All (λ x. tag (size x).name ≡ u) xs → tag n ≡ t → (t == u) ≡ false → found (map size xs ++ rest) n ≡ found rest n
+each_past size n t u [] rest k e d = refl
+each_past size n t u (x ∷ xs) rest k e d =
+    found_past (size x) (map size xs ++ rest) n (apart n (size x).name t u e (All-head (λ x. tag (size x).name ≡ u) x xs k) d) ∙ each_past size n t u xs rest (All-tail (λ x. tag (size x).name ≡ u) x xs k) e d
+
+pub each_found : {X : Type 0} (size : X → Sized) (xs : List X) (rest : Sizes) → Differ (map (λ x. (size x).name) xs) → All (λ x. found (map size xs ++ rest) (size x).name ≡ size x) xs
+each_found size [] rest d = All-nil (λ x. found rest (size x).name ≡ size x)
+each_found size (x ∷ xs) rest d =
+    All-cons (λ z. found (size x ∷ (map size xs ++ rest)) (size z).name ≡ size z) x xs (found_here (size x) (map size xs ++ rest) (size x).name (same_refl (size x).name))
+    (λ i e l. found_past (size x) (map size xs ++ rest) (size (get_or xs i e)).name (apart_all (λ x. (size x).name) (size x).name xs d.0 i e l) ∙ each_found size xs rest d.1 i e l)
 
 -- each node has its width
 abbrev pub WidthsAre : Sizes → ℕ → List Node → Type 0
 WidthsAre ss j [] = Unit {0}
 WidthsAre ss j (n ∷ ns) = (width_in ss (wire_name j) ≡ n.width) × WidthsAre ss (j + 1) ns
 
-pub nodes_sized : (net : Net) (p : Parts) (j : ℕ) (ns : List Node) (xs : List Item) (ss rest : Sizes) → ShowsNodes p j ns xs → j + length ns ≤ 16777216 → RightFrom net j ns
-    → ((i : ℕ) → j ≤ i → i ≤ 16777216 → found ss (wire_name i) ≡ found (item_sizes xs ++ rest) (wire_name i)) → WidthsAre ss j ns
-nodes_sized net p j _ _ ss rest no_node_line few k h = tt
-nodes_sized net p j _ _ ss rest (node_line {n = n} {ns = ns} {xs = xs} a b c d r s) few k h =
-    let low = k.0.positive in
+pub nodes_sized : (net : Net) (p : Parts) (j : ℕ) (ns : List Node) (xs ys : List Item) (ss : Sizes) → ShowsNodes p j ns xs → j + length ns ≤ 16777216 → RightFrom net j ns
+    → ((i : ℕ) → j ≤ i → i ≤ 16777216 → found ss (wire_name i) ≡ found (item_sizes (xs ++ ys)) (wire_name i)) → WidthsAre ss j ns
+nodes_sized net p j _ _ ys ss no_node_line few k h = tt
+nodes_sized net p j _ _ ys ss (node_line {n = n} {ns = ns} {xs = xs} a b c d r s) few k h =
     let here : Sized = sized (wire_name j) (n.width - 1 + 1) 0 in (
-      width_found ss (wire_name j) ∙ ap (λ (s : Sized). s.width) (h j (omega arith) (omega arith) ∙ found_here here (item_sizes xs ++ rest) (wire_name j) (same_refl (wire_name j))) ∙ omega arith,
-      nodes_sized net p (j + 1) ns xs ss rest s (omega arith) k.2
-          (λ i l m. h i (omega arith) m ∙ found_past here (item_sizes xs ++ rest) (wire_name i) (wires_differ i j m (omega arith) (λ e. omega arith))),
+      width_found ss (wire_name j) ∙ ap (λ (s : Sized). s.width) (h j (omega arith) (omega arith) ∙ found_here here (item_sizes (xs ++ ys)) (wire_name j) (same_refl (wire_name j))) ∙ range_back n.width k.0.positive,
+      nodes_sized net p (j + 1) ns xs ys ss s (omega arith) k.2
+          (λ i l m. h i (omega arith) m ∙ found_past here (item_sizes (xs ++ ys)) (wire_name i) (wires_differ i j m (omega arith) (λ e. omega arith))),
     )

@@ -1,6 +1,7 @@
 -- The tokens of a netlist are a sentence, and it builds a module that represents the netlist.
 use Rattle.std.proofs.Common.{◌≡◌, ◌∙◌, ℕ, zero, suc, ◌+◌, ◌-◌, ◌^◌, ◌≤◌, List, [], ◌∷◌, ◌++◌, ◌⊎◌, inl, inr, length, get_or, Bool, true, false, cond, Option, Some, None, refl, sym, subst, arith, append_assoc, append-nil}
-use Rattle.std.{proofs.lemmas.Bool.false≢true, specs.Prelude.codes, specs.Prelude.◌==◌}
+use Rattle.std.proofs.lemmas.Bool.{false≢true}
+use Rattle.std.specs.Prelude.{codes, ◌==◌}
 use Rattle.kp_grammar.specs.{Grammar.Nonterminal, Grammar.Action, Grammar.stay, Machine.advance}
 use Rattle.kp_grammar.proofs.Steps.{Completes, CompletesFrom, went}
 use Rattle.kp_bits.specs.{Word.word, declared.operator.BinOp.BinOp}
@@ -170,8 +171,8 @@ abbrev pub outs : {net : Net} → Shown net → List Item
 outs {net} s = out_at (codes "full") net.parts.full (s.q 0) (s.q 1) ∷ out_at (codes "ue") net.parts.ue (s.q 2) (s.q 3) ∷ out_at (codes "back") net.parts.back (s.q 4) (s.q 5) ∷ []
 
 -- The module of these parts.
-abbrev pub whole : {net : Net} → Shown net → VModule
-whole {net} s = record {
+abbrev pub module_of : {net : Net} → Shown net → VModule
+module_of {net} s = record {
   name = named_at net.parts.name (s.p 0);
   clk = named_at (codes "clk") (s.p 1);
   rst = s.rst;
@@ -189,7 +190,7 @@ whole {net} s = record {
 
 -- a module that represents a netlist
 abbrev pub IsShown : Net → VModule → Type 0
-IsShown net m = (s : Shown net) × (m ≡ whole s)
+IsShown net m = (s : Shown net) × (m ≡ module_of s)
 
 -- the module at the end, with what it represents
 abbrev pub Built : (VModule → Type 0) → List Value → Type 0
@@ -517,6 +518,6 @@ sentence net p right =
       shows_writes = shows_xs;
     } in
     let items = (((((rs ++ fs) ++ is) ++ ns) ++ out_at (codes "full") pa.full (q5 1) (q5 3) ∷ []) ++ out_at (codes "ue") pa.ue (q5 6) (q5 8) ∷ []) ++ out_at (codes "back") pa.back (q5 11) (q5 13) ∷ [] in
-    let m : VModule = record (whole s) { items = items } in
-    let same : items ≡ (whole s).items = simp append_assoc in
-    goes P 3 (record { built = lang.whole m ∷ []; holds = (m, refl, (s, λ i. record (whole s) { items = same i })); derives = stay }))))))))))))))))
+    let m : VModule = record (module_of s) { items = items } in
+    let same : items ≡ (module_of s).items = simp append_assoc in
+    goes P 3 (record { built = lang.whole m ∷ []; holds = (m, refl, (s, λ i. record (module_of s) { items = same i })); derives = stay }))))))))))))))))

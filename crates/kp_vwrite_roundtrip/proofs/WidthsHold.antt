@@ -1,5 +1,5 @@
 -- A module that represents a netlist violates no rule of widths.
-use Rattle.std.proofs.Common.{◌≡◌, ◌∙◌, ℕ, zero, suc, ◌+◌, ◌-◌, ◌^◌, ◌≤◌, ◌<◌, List, [], ◌∷◌, ◌++◌, length, get_or, map, Bool, true, Option, Some, None, refl, sym, ap, subst, arith, eq-eqb}
+use Rattle.std.proofs.Common.{◌≡◌, ◌∙◌, ℕ, zero, suc, ◌+◌, ◌-◌, ◌^◌, ◌≤◌, ◌<◌, List, [], ◌∷◌, ◌++◌, length, get_or, map, Bool, true, Option, Some, None, refl, sym, ap, subst, arith, eq-eqb, false}
 use Rattle.std.proofs.lemmas.Bool.{eqb-true, agree_below_at, cond-true, and_from, false_from_ne_true, le-leb, lt-ltb}
 use Rattle.std.proofs.lemmas.List.Elements.{All-nil, All-cons, All-head, All-tail}
 use Rattle.std.proofs.{Math.Nat.pow-le-pow_right, lemmas.List.Sums.sum_by-cons}
@@ -15,12 +15,12 @@ use Rattle.kp_vlog.specs.declared.tree.{Named.Named, ResetList.ResetList, ResetV
 use Rattle.kp_vlog.specs.Canon.{wire, wire_name}
 use Rattle.kp_vlog.specs.Scope.{Scope, scope_of, Sized, Sizes, sizes_of, item_sizes, port_size, width_in, address_in, place_of, address_width}
 use Rattle.kp_vlog.proofs.Tests.{same_refl}
-use Rattle.kp_vwrite_roundtrip.proofs.Sentence.{named_at, number_at, range_at, fill_at, ShowsNames, no_name, a_name, ShowsRight, a_const, an_ext, a_sample, a_reg, a_word, a_not, a_binary, a_mux, a_concat, a_slice, ShowsSamples, no_sample, one_sample, ShowsRegs, no_reg_line, reg_line, ShowsFiles, no_file_line, file_line, ShowsInteger, no_integer, an_integer, ShowsNodes, no_node_line, node_line, ShowsStarts, no_start, a_start, ShowsWords, no_words, zero_word, some_word, ShowsFills, no_fill, a_fill, ShowsUpdates, no_update, an_update, ShowsWrites, no_write, not_written, a_write, ShowsReset, no_reset_shown, reset_shown, ShowsValues, no_value, a_value, Shown, outs, whole}
+use Rattle.kp_vwrite_roundtrip.proofs.Sentence.{named_at, number_at, range_at, fill_at, ShowsNames, no_name, a_name, ShowsRight, a_const, an_ext, a_sample, a_reg, a_word, a_not, a_binary, a_mux, a_concat, a_slice, ShowsSamples, no_sample, one_sample, ShowsRegs, no_reg_line, reg_line, ShowsFiles, no_file_line, file_line, ShowsInteger, no_integer, an_integer, ShowsNodes, no_node_line, node_line, ShowsStarts, no_start, a_start, ShowsWords, no_words, zero_word, some_word, ShowsFills, no_fill, a_fill, ShowsUpdates, no_update, an_update, ShowsWrites, no_write, not_written, a_write, ShowsReset, no_reset_shown, reset_shown, ShowsValues, no_value, a_value, Shown, outs, module_of}
 use Rattle.kp_vwrite_roundtrip.proofs.Written.{RightFrom, all_right}
-use Rattle.kp_vwrite_roundtrip.proofs.Distinct.{apart, tag_reg, tag_sample, apart_all, place_at, or_rest}
-use Rattle.kp_vwrite_roundtrip.proofs.Denoted.{spelled, widths_are, file_sizes, scoped, table_is, ports_past, kinds_of}
+use Rattle.kp_vwrite_roundtrip.proofs.Distinct.{apart, tag, place_at, or_rest}
+use Rattle.kp_vwrite_roundtrip.proofs.Denoted.{samples_tagged, regs_tagged, module_table, widths_are, file_sizes, scoped, table_is, ports_past}
 use Rattle.kp_vwrite_roundtrip.proofs.Runs.{literal_for}
-use Rattle.kp_vwrite_roundtrip.proofs.SameNet.{found, width_found, address_found, found_past, found_here, sized, WidthsAre, samples_past}
+use Rattle.kp_vwrite_roundtrip.proofs.SameNet.{found, width_found, address_found, found_past, found_here, sized, port_sized, reg_sized, each_past, each_found, WidthsAre}
 use Rattle.kp_base.specs.First.{first}
 
 -- no check yields an offset
@@ -79,52 +79,26 @@ wide_is : (ns : List Node) (x : ℕ) → wide ns (0 + x) ≡ (get_or ns x no_nod
 unfolding wide
 wide_is ns x = ap (λ k. (get_or ns k no_node).width) (let e : 0 + x ≡ x = omega arith in e)
 
-samples_sized : (ss : List Port) (xs : List VPort) (rest : Sizes) → ShowsSamples ss xs → All PortOk ss → Differ (map (λ s. s.name) ss) → All (λ x. found (map port_size xs ++ rest) x.name ≡ sized x.name x.width 0) ss
-samples_sized _ _ rest no_sample k d = All-nil (λ (x : Port). found rest x.name ≡ sized x.name x.width 0)
-samples_sized _ _ rest (one_sample {s = s} {ss = ss} {xs = xs} a b c h) k d =
-    let low = (All-head PortOk s ss k).positive in
-    let here : Sized = sized s.name (s.width - 1 + 1) 0 in
-    let width : s.width - 1 + 1 ≡ s.width = omega arith in
-    All-cons (λ x. found (here ∷ (map port_size xs ++ rest)) x.name ≡ sized x.name x.width 0) s ss
-    (found_here here (map port_size xs ++ rest) s.name (same_refl s.name) ∙ ap (λ w. sized s.name w 0) width)
-    (λ i e l. found_past here (map port_size xs ++ rest) (get_or ss i e).name (apart_all (λ s. s.name) s.name ss d.0 i e l) ∙ samples_sized ss xs rest h (All-tail PortOk s ss k) d.1 i e l)
-
-regs_sized : (ns : List Node) (rs : List NetReg) (xs : List Item) (rest : Sizes) → ShowsRegs rs xs → All (RegOk ns) rs → Differ (map (λ r. r.name) rs) → All (λ r. found (item_sizes xs ++ rest) r.name ≡ sized r.name r.start.width 0) rs
-regs_sized ns _ _ rest no_reg_line k d = All-nil (λ (r : NetReg). found rest r.name ≡ sized r.name r.start.width 0)
-regs_sized ns _ _ rest (reg_line {r = r} {rs = rs} {xs = xs} a b c h) k d =
-    let start = (All-head (RegOk ns) r rs k).start in let low = start.positive in
-    let here : Sized = sized r.name (r.start.width - 1 + 1) 0 in
-    let width : r.start.width - 1 + 1 ≡ r.start.width = omega arith in
-    All-cons (λ x. found (here ∷ (item_sizes xs ++ rest)) x.name ≡ sized x.name x.start.width 0) r rs
-    (found_here here (item_sizes xs ++ rest) r.name (same_refl r.name) ∙ ap (λ w. sized r.name w 0) width)
-    (λ i e l. found_past here (item_sizes xs ++ rest) (get_or rs i e).name (apart_all (λ r. r.name) r.name rs d.0 i e l) ∙ regs_sized ns rs xs rest h (All-tail (RegOk ns) r rs k) d.1 i e l)
-
-all_wide : (net : Net) (s : Shown net) → NetOk net → IsNamed net → Wide net (scope_of (whole s))
+all_wide : (net : Net) (s : Shown net) → NetOk net → IsNamed net → Wide net (scope_of (module_of s))
 all_wide net s k named =
     let p = net.parts in
-    let table = table_is net s in
-    let low = k.parts.ext_positive in
-    let atleast = named.at_least in let fw = named.full in let uw = named.ue in let bw = named.back in
-    let samples = kinds_of is_sample_name (map (λ x. x.name) p.samples) named.samples in
-    let port : ℕ → List ℕ → ℕ → Sized = λ w n a. sized n (w - 1 + 1) 0 in
+    let at : (n : List ℕ) (x : Sized) → found (module_table s) n ≡ x → width_in (sizes_of (module_of s)) n ≡ x.width =
+    λ n x e. width_found (sizes_of (module_of s)) n ∙ ap (λ t. (found t n).width) (table_is net s k named) ∙ ap (λ (z : Sized). z.width) e in
+    let past : (n : List ℕ) (t : ℕ) → tag n ≡ t → (t == 1115) ≡ false → (rest : Sizes) → found (map port_sized p.samples ++ rest) n ≡ found rest n =
+    λ n t e d rest. each_past port_sized n t 1115 p.samples rest (samples_tagged net named) e d in
     record {
-      ext = width_found (sizes_of (whole s)) (codes "ext") ∙ ap (λ t. (found t (codes "ext")).width) table ∙ ap (λ (z : Sized). z.width) (found_here _ _ (codes "ext") refl) ∙ omega arith;
-      full = width_found (sizes_of (whole s)) (codes "full") ∙ ap (λ t. (found t (codes "full")).width) table
-          ∙ ap (λ (z : Sized). z.width) (found_past _ _ (codes "full") refl ∙ samples_past (codes "full") 102 p.samples s.ports _ s.samples samples refl refl ∙ found_here _ _ (codes "full") refl) ∙ omega arith;
-      ue = width_found (sizes_of (whole s)) (codes "ue") ∙ ap (λ t. (found t (codes "ue")).width) table
-          ∙ ap (λ (z : Sized). z.width) (found_past _ _ (codes "ue") refl ∙ samples_past (codes "ue") 117 p.samples s.ports _ s.samples samples refl refl ∙ found_past _ _ (codes "ue") refl ∙ found_here _ _ (codes "ue") refl) ∙ omega arith;
-      back = width_found (sizes_of (whole s)) (codes "back") ∙ ap (λ t. (found t (codes "back")).width) table
-          ∙ ap (λ (z : Sized). z.width) (found_past _ _ (codes "back") refl ∙ samples_past (codes "back") 98 p.samples s.ports _ s.samples samples refl refl ∙ found_past _ _ (codes "back") refl ∙ found_past _ _ (codes "back") refl ∙ found_here _ _ (codes "back") refl) ∙ omega arith;
+      ext = at (codes "ext") _ (found_here _ _ (codes "ext") refl);
+      full = at (codes "full") _ (found_past _ _ (codes "full") refl ∙ past (codes "full") 102 refl refl _ ∙ found_here _ _ (codes "full") refl);
+      ue = at (codes "ue") _ (found_past _ _ (codes "ue") refl ∙ past (codes "ue") 117 refl refl _ ∙ found_past _ _ (codes "ue") refl ∙ found_here _ _ (codes "ue") refl);
+      back = at (codes "back") _ (found_past _ _ (codes "back") refl ∙ past (codes "back") 98 refl refl _ ∙ found_past _ _ (codes "back") refl ∙ found_past _ _ (codes "back") refl ∙ found_here _ _ (codes "back") refl);
       samples = λ i d l. let n = (get_or p.samples i d).name in
-          width_found (sizes_of (whole s)) n ∙ ap (λ t. (found t n).width) table
-          ∙ ap (λ (z : Sized). z.width) (found_past _ _ n (apart n (codes "ext") 1115 101 (tag_sample n (spelled is_sample_name (λ x. x.name) p.samples named.samples i d l)) refl refl) ∙ samples_sized p.samples s.ports _ s.samples k.parts.samples named.samples_differ i d l);
+          at n _ (found_past _ _ n (apart n (codes "ext") 1115 101 (samples_tagged net named i d l) refl refl) ∙ each_found port_sized p.samples _ named.samples_differ i d l);
       regs = λ i d l. let n = (get_or p.regs i d).name in
-          width_found (sizes_of (whole s)) n ∙ ap (λ t. (found t n).width) table
-          ∙ ap (λ (z : Sized). z.width) (ports_past net s named n 1114 (tag_reg n (spelled is_reg_name (λ x. x.name) p.regs named.regs i d l)) refl refl refl refl refl ∙ regs_sized net.nodes p.regs s.regs _ s.shows_regs k.parts.regs named.regs_differ i d l);
-      files = λ i d l. width_found (sizes_of (whole s)) (get_or p.files i d).name ∙ ap (λ (z : Sized). z.width) (file_sizes net s k named i d l);
-      addresses = λ i d l. address_found (sizes_of (whole s)) (get_or p.files i d).name ∙ ap (λ (z : Sized). z.address) (file_sizes net s k named i d l);
+          at n _ (ports_past net s named n 1114 (regs_tagged net named i d l) refl refl refl refl refl ∙ each_found reg_sized p.regs _ named.regs_differ i d l);
+      files = λ i d l. width_found (sizes_of (module_of s)) (get_or p.files i d).name ∙ ap (λ (z : Sized). z.width) (file_sizes net s k named i d l);
+      addresses = λ i d l. address_found (sizes_of (module_of s)) (get_or p.files i d).name ∙ ap (λ (z : Sized). z.address) (file_sizes net s k named i d l);
       wires = λ i l. let e : 0 + i ≡ i = omega arith in
-          ap (λ x. width_in (sizes_of (whole s)) (wire_name x)) (sym e) ∙ width_at (sizes_of (whole s)) net.nodes net.nodes 0 i (widths_are net s k named) (λ x h. wide_is net.nodes x) l ∙ ap (wide net.nodes) e;
+          ap (λ x. width_in (sizes_of (module_of s)) (wire_name x)) (sym e) ∙ width_at (sizes_of (module_of s)) net.nodes net.nodes 0 i (widths_are net s k named) (λ x h. wide_is net.nodes x) l ∙ ap (wide net.nodes) e;
     }
 
 -- Right sides.
@@ -276,10 +250,10 @@ ports_clean _ _ no_sample k = tt
 ports_clean _ _ (one_sample {s = s} {ss = ss} {xs = xs} a b c sh) k = (wanted _ c (range_ok s.width a b (All-head PortOk s ss k).at_most), ports_clean ss xs sh (All-tail PortOk s ss k))
 
 -- A module that represents a netlist violates no rule of widths.
-pub widths_hold : (net : Net) (s : Shown net) → NetOk net → IsNamed net → first (width_answers (whole s)) ≡ None
+pub widths_hold : (net : Net) (s : Shown net) → NetOk net → IsNamed net → first (width_answers (module_of s)) ≡ None
 widths_hold net s k named =
     let p = net.parts in
-    let w = whole s in
+    let w = module_of s in
     let sc = scope_of w in
     let wd = all_wide net s k named in
     let named_scope = scoped net s in
