@@ -1,5 +1,5 @@
 -- What is listed for the classes from one on.
-use Rattle.std.specs.Prelude.{ℕ, zero, suc, ◌+◌, ◌<◌, ◌≤◌, ◌≡◌, ◌==◌, List, [], ◌∷◌, ◌++◌, drop, length, All, Bool, true, false, not, ◌&&◌, ◌||◌, if◌then◌else◌, Option, Some, None, codes, ◌-◌, is_some}
+use Rattle.std.specs.Prelude.{ℕ, suc, ◌+◌, ◌<◌, ◌≤◌, ◌≡◌, ◌==◌, List, [], ◌∷◌, ◌++◌, drop, length, All, Bool, true, false, not, ◌&&◌, ◌||◌, if◌then◌else◌, Option, Some, None, codes, ◌-◌, is_some}
 use Rattle.std.specs.Str.{IsUtf8}
 use Rattle.std.proofs.Common.{refl, sym, ap, subst, ◌∙◌, append_assoc, get_or, inl, inr, arith, rules}
 use Rattle.std.proofs.{Math.Seq.drop-cons, lemmas.List.at_drop_all, lemmas.Bool.Decides.eqb_tells, lemmas.Str.IsUtf8-from_ascii}
@@ -23,12 +23,6 @@ things_step g cs bs i c b h k =
     let e : suc i ≡ i + 1 = omega arith in
     rw (drop-cons cs i c h, drop-cons bs i b k)
     (ap (λ (n : ℕ). before_these (if get_or bs i b then thing_of g (get_or cs i c) else None) (things g (drop n cs) (drop n bs))) e)
-
-pub all_of_end : (g : Group) (cs : List TokenClass) (bs : List Bool) (i : ℕ) → length cs ≤ i → all_of g (drop i cs) bs ≡ true
-all_of_end g cs bs i h = at_drop_all (λ xs. all_of g xs bs) cs i h
-
-pub things_end : (g : Option Group) (cs : List TokenClass) (bs : List Bool) (i : ℕ) → length cs ≤ i → things g (drop i cs) bs ≡ []
-things_end g cs bs i h = at_drop_all (λ xs. things g xs bs) cs i h
 
 more_than_one : (n : ℕ) → (suc (suc n) == 1) ≡ false
 more_than_one n = elim (eqb_tells (suc (suc n)) 1) [ inl p ↦ absurd (omega (arith, p.1)) | inr q ↦ q.0 ]
@@ -64,22 +58,22 @@ count_none (Some t) ts h = absurd (cc)
 abbrev pub SoFar : Expected → Group → ℕ → Type 0
 SoFar e g i = has_all e g ≡ all_of g (drop i all_classes) (drop i e.listed)
 
-on : (a b : Bool) → a ≡ true → (a || not b) ≡ true
+pub on : (a b : Bool) → a ≡ true → (a || not b) ≡ true
 on true b h = refl
 on false b h = absurd (cc)
 
-other : (a b : Bool) → b ≡ false → (a || not b) ≡ true
+pub other : (a b : Bool) → b ≡ false → (a || not b) ≡ true
 other true b h = refl
 other false true h = absurd (cc)
 other false false h = refl
 
-off : (a b : Bool) → a ≡ false → b ≡ true → (a || not b) ≡ false
+pub off : (a b : Bool) → a ≡ false → b ≡ true → (a || not b) ≡ false
 off false true h k = refl
 off false false h k = absurd (cc)
 off true b h k = absurd (cc)
 
 -- at a class: by whether it is there, where it is of the group
-step_to : (e : Expected) (g : Group) (all : List TokenClass) (i : ℕ) (d : TokenClass) (b t : Bool) → all ≡ all_classes → i < length all → length e.listed ≡ 53
+pub step_to : (e : Expected) (g : Group) (all : List TokenClass) (i : ℕ) (d : TokenClass) (b t : Bool) → all ≡ all_classes → i < length all → length e.listed ≡ 53
     → (get_or e.listed i b || not (in_group g (get_or all i d))) ≡ t → SoFar e g i → has_all e g ≡ (t && all_of g (drop (i + 1) all_classes) (drop (i + 1) e.listed))
 step_to e g all i d b t same h size has so_far =
     let many : length all ≡ 53 = ap length same in
@@ -89,22 +83,10 @@ step_to e g all i d b t same h size has so_far =
     let here = subst (λ (cs : List TokenClass). (get_or e.listed i b || not (in_group g (get_or cs i d))) ≡ t) same has in
     so_far ∙ step ∙ ap (λ (x : Bool). x && all_of g (drop (i + 1) all_classes) (drop (i + 1) e.listed)) here
 
-pub goes_on_listed : (e : Expected) (g : Group) (all : List TokenClass) (i : ℕ) (d : TokenClass) (b : Bool) → all ≡ all_classes → i < length all → length e.listed ≡ 53
-    → get_or e.listed i b ≡ true → SoFar e g i → SoFar e g (i + 1)
-goes_on_listed e g all i d b same h size has so_far = step_to e g all i d b true same h size (on (get_or e.listed i b) (in_group g (get_or all i d)) has) so_far
-
-pub goes_on_other : (e : Expected) (g : Group) (all : List TokenClass) (i : ℕ) (d : TokenClass) (b : Bool) → all ≡ all_classes → i < length all → length e.listed ≡ 53
-    → in_group g (get_or all i d) ≡ false → SoFar e g i → SoFar e g (i + 1)
-goes_on_other e g all i d b same h size out so_far = step_to e g all i d b true same h size (other (get_or e.listed i b) (in_group g (get_or all i d)) out) so_far
-
-pub is_missing : (e : Expected) (g : Group) (all : List TokenClass) (i : ℕ) (d : TokenClass) (b : Bool) → all ≡ all_classes → i < length all → length e.listed ≡ 53
-    → get_or e.listed i b ≡ false → in_group g (get_or all i d) ≡ true → SoFar e g i → has_all e g ≡ false
-is_missing e g all i d b same h size has within so_far = step_to e g all i d b false same h size (off (get_or e.listed i b) (in_group g (get_or all i d)) has within) so_far
-
 pub is_whole : (e : Expected) (g : Group) (all : List TokenClass) (i : ℕ) → all ≡ all_classes → length all ≤ i → SoFar e g i → has_all e g ≡ true
 is_whole e g all i same h so_far =
     let many : length all ≡ 53 = ap length same in
-    so_far ∙ all_of_end g all_classes (drop i e.listed) i (omega (arith, many, h))
+    so_far ∙ at_drop_all (λ xs. all_of g xs (drop i e.listed)) all_classes i (omega (arith, many, h))
 
 -- what is listed from a class on, by what is listed for that class
 pub listed_from : (e : Expected) (g : Option Group) (all : List TokenClass) (i : ℕ) (d : TokenClass) (b : Bool) (t : Option Thing) → all ≡ all_classes → i < length all → length e.listed ≡ 53
@@ -121,7 +103,7 @@ listed_from e g all i d b t same h size is =
 pub none_from : (e : Expected) (g : Option Group) (all : List TokenClass) (i : ℕ) → all ≡ all_classes → length all ≤ i
     → things g (drop i all_classes) (drop i e.listed) ≡ []
 none_from e g all i same h =
-    let many : length all ≡ 53 = ap length same in things_end g all_classes (drop i e.listed) i (omega (arith, many, h))
+    let many : length all ≡ 53 = ap length same in at_drop_all (λ xs. things g xs (drop i e.listed)) all_classes i (omega (arith, many, h))
 
 -- keywords are ASCII
 pub keyword_is_text : (k : Keyword) → IsUtf8 (spelling k)

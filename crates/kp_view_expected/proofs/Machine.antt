@@ -1,18 +1,17 @@
 -- The steps of the code.
-use Rattle.std.proofs.Common.{ℕ, ◌≡◌, ◌==◌, List, [], ◌∷◌, ◌++◌, map, reverse, Bool, true, false, not, cond, ◌||◌, Some, None, Result, Ok, Err, IfOk, Bor, zero, suc, ◌+◌, ◌<◌, ◌≤◌, length, drop, get_or, refl, sym, ap, ◌∙◌, subst, eq-eqb, arith}
+use Rattle.std.proofs.Common.{ℕ, ◌≡◌, ◌==◌, List, [], ◌∷◌, ◌++◌, map, reverse, Bool, true, false, cond, Some, Result, Ok, Err, IfOk, Bor, zero, suc, ◌+◌, ◌<◌, ◌≤◌, length, drop, get_or, refl, sym, ap, ◌∙◌, subst, eq-eqb, arith}
 use Rattle.std.{specs.Prelude.⊤, specs.Prelude.slice_get, specs.Prelude.option_map, proofs.lemmas.Bool.eqb-true}
 use Rattle.std.proofs.lemmas.Option.{get_or_from_slice_get, slice_get-get_or, slice_get-map, slice_get_within}
-use Rattle.std.proofs.lemmas.List.{append-nil, drop_all, drop_more, length-map, map-append, reverse-append, reverse-reverse}
+use Rattle.std.proofs.lemmas.List.{drop_all, drop_more, length-map, map-append, reverse-append, reverse-reverse}
 use Rattle.kp_grammar.specs.Grammar.{Terminal, Nonterminal, Has, here, there, alternatives, stay, expand, read}
-use Rattle.kp_grammar.specs.{Tables.among, Tables.empty_of, Tables.first_of, Tables.firsts, Tables.pick, Machine.goes, Machine.take}
+use Rattle.kp_grammar.specs.{Tables.among, Tables.firsts, Tables.pick, Machine.goes, Machine.take}
 use Rattle.kp_grammar.proofs.{Check.picks_rule, Prefix.after}
 use Rattle.kp_lex.specs.declared.token.Token.{Token}
 use Rattle.kp_parse_grammar.specs.inner.Follow.{tables}
-use Rattle.kp_view_expected.specs.inner.Plain.{Plain, is_solid, name, number, plain, plain_symbol, stack, Runs, Opens, Refuses, Decides, IsAnswer, Follows, Fails}
+use Rattle.kp_view_expected.specs.inner.Plain.{Plain, is_solid, name, number, plain, plain_symbol, stack, Runs, Opens, Refuses, Decides, IsAnswer, Follows}
 use Rattle.kp_view_expected.specs.declared.{token_class.TokenClass.TokenClass, part.Part.Part, part.Symbol.Symbol as CodeSymbol}
 use Rattle.kp_view_expected.{specs.GoesOn.class_of, proofs.Tests.choose_or, proofs.Tests.chosen, proofs.Tests.lighter, proofs.Tests.solid, proofs.Tests.work}
 use Rattle.kp_view_expected.proofs.Sentences.{completes, some_alternative}
-use Rattle.kp_view_expected.specs.declared.part.Symbol.TheVariants as symbols
 
 pub popped : (xs ys : List CodeSymbol) (x y : CodeSymbol) → xs ≡ ys ++ x ∷ [] → x ≡ y → stack xs ≡ plain_symbol y ∷ stack ys
 popped xs ys x y e f = ap stack e ∙ (ap (map plain_symbol) (reverse-append ys (x ∷ [])) ∙ ap (λ (z : CodeSymbol). plain_symbol z ∷ stack ys) f)
@@ -80,16 +79,6 @@ answered false s c xs r = r
 pub begin : (front : List TokenClass) (s : List Plain) → s ≡ Nonterminal 1 ∷ [] → Follows front front s
 begin front s e = subst (λ (z : List Plain). Follows front front z) (sym e) (record { derives = λ cs. stay; runs = λ cs l. l })
 
-pub went_on : {front rest all : List TokenClass} {s : List Plain} {c : TokenClass} (s' : List Plain) → Follows front all s → all ≡ c ∷ rest → Decides true s c s' → Follows front rest s'
-went_on {front} {rest} {all} {s} {c} s' f' same r =
-    let f : Follows front (c ∷ rest) s = subst (λ (z : List TokenClass). Follows front z s) same f' in
-    record { derives = λ cs. after plain (f.derives cs) (r.derives (rest ++ cs)); runs = λ cs l. r.runs (rest ++ cs) (f.runs cs l) }
-
-pub stopped : {front rest all : List TokenClass} {s : List Plain} {c : TokenClass} (s' : List Plain) → Follows front all s → all ≡ c ∷ rest → Decides false s c s' → Fails front
-stopped {front} {rest} {all} {s} {c} s' f' same r =
-    let f : Follows front (c ∷ rest) s = subst (λ (z : List TokenClass). Follows front z s) same f' in
-    λ cs l. r (rest ++ cs) (f.runs cs l)
-
 pub answer_result : {E : Type 0} (r : Result Bool E) (s t : List Plain) (c : TokenClass) (xs : List CodeSymbol) → s ≡ t → IfOk r (λ b. Decides b s c (stack xs)) → IfOk r (λ b. IsAnswer b t c)
 answer_result (Ok b) s t c xs e h = subst (λ (z : List Plain). IsAnswer b z c) e (answered b s c xs h)
 answer_result (Err x) s t c xs e h = tt
@@ -101,7 +90,10 @@ one_less front i t c h is =
     ap (map (λ (t : Token). class_of t.kind)) (drop_more front i t h) ∙ ap (λ (z : TokenClass). z ∷ map (λ (t : Token). class_of t.kind) (drop (i + 1) front)) (sym is)
 
 pub went_on_if : {front rest all : List TokenClass} {s : List Plain} {c : TokenClass} (s' : List Plain) (b : Bool) → Follows front all s → all ≡ c ∷ rest → b ≡ true → Decides b s c s' → Follows front rest s'
-went_on_if {front} {rest} {all} {s} {c} s' b f same is r = went_on s' f same (subst (λ (z : Bool). Decides z s c s') is r)
+went_on_if {front} {rest} {all} {s} {c} s' b f' same is r' =
+    let f : Follows front (c ∷ rest) s = subst (λ (z : List TokenClass). Follows front z s) same f' in
+    let r : Decides true s c s' = subst (λ (z : Bool). Decides z s c s') is r' in
+    record { derives = λ cs. after plain (f.derives cs) (r.derives (rest ++ cs)); runs = λ cs l. r.runs (rest ++ cs) (f.runs cs l) }
 
 -- The first alternative that begins with a class is found by going through all.
 choose_more : (all : List (List Plain)) (i : ℕ) (b d : List Plain) (c : ℕ) → slice_get all i ≡ Some b → choose_or d c (drop i all) ≡ cond (among c (firsts tables b)) b (choose_or b c (drop (i + 1) all))
@@ -109,21 +101,13 @@ choose_more all i b d c e =
     let within = slice_get_within all i b e in
     ap (choose_or d c) (drop_more all i b within ∙ ap (λ (z : List Plain). z ∷ drop (i + 1) all) (get_or_from_slice_get all i b b e))
 
-on_true : (x : Bool) (a b : List Plain) → x ≡ true → cond x a b ≡ a
-on_true true a b h = refl
-on_true false a b h = cc h
-
-on_false : (x : Bool) (a b : List Plain) → x ≡ false → cond x a b ≡ b
-on_false true a b h = cc h
-on_false false a b h = refl
-
 module _ (p : Part) (c : ℕ) (all : List (List Plain)) (i : ℕ) (same : all ≡ alternatives plain.rules (name p)) where
   picked : (b : List Plain) → choose_or [] c all ≡ b → pick plain.rules tables (name p) c ≡ Some b
   picked b e = chosen [] c (alternatives plain.rules (name p)) (some_alternative p) ∙ ap Some (ap (choose_or [] c) (sym same) ∙ e)
 
   -- this one begins with the class
   pub picked_now : (b ch : List Plain) → slice_get all i ≡ Some b → choose_or ch c (drop i all) ≡ choose_or [] c all → among c (firsts tables b) ≡ true → pick plain.rules tables (name p) c ≡ Some b
-  picked_now b ch e before yes' = picked b (sym before ∙ (choose_more all i b ch c e ∙ on_true (among c (firsts tables b)) b (choose_or b c (drop (i + 1) all)) yes'))
+  picked_now b ch e before yes' = picked b (sym before ∙ rw yes' at (choose_more all i b ch c e))
 
   -- all have been looked at
   pub picked_last : (ch : List Plain) → length all ≤ i → choose_or ch c (drop i all) ≡ choose_or [] c all → pick plain.rules tables (name p) c ≡ Some ch
@@ -132,7 +116,7 @@ module _ (p : Part) (c : ℕ) (all : List (List Plain)) (i : ℕ) (same : all �
 -- this one doesn't
 pub passed : (c : ℕ) (all : List (List Plain)) (i : ℕ) (b ch : List Plain) → slice_get all i ≡ Some b → choose_or ch c (drop i all) ≡ choose_or [] c all → among c (firsts tables b) ≡ false
     → choose_or b c (drop (i + 1) all) ≡ choose_or [] c all
-passed c all i b ch e before no' = sym (choose_more all i b ch c e ∙ on_false (among c (firsts tables b)) b (choose_or b c (drop (i + 1) all)) no') ∙ before
+passed c all i b ch e before no' = sym (rw no' at (choose_more all i b ch c e)) ∙ before
 
 has_at : {A : Type 0} (xs : List A) (i : ℕ) (x : A) → slice_get xs i ≡ Some x → Has x xs
 has_at [] i x e = cc e
@@ -156,20 +140,3 @@ seen_at all i h =
 
 pub seen_all : (all : List (Bor (List CodeSymbol))) (i : ℕ) → length all ≤ i → length (seen all) ≤ i
 seen_all all i h = subst (λ (n : ℕ). n ≤ i) (sym (length-map all (λ (a : Bor (List CodeSymbol)). map plain_symbol a.now))) h
-
--- The first of the symbols determines what they begin with.
-or_false : (b : Bool) → b ≡ (b || false)
-or_false true = refl
-or_false false = refl
-
-no_more : (e : Bool) (c : ℕ) (ys zs : List ℕ) → not e ≡ true → among c ys ≡ among c (ys ++ cond e zs [])
-no_more true c ys zs h = cc h
-no_more false c ys zs h = ap (among c) (sym (append-nil ys))
-
-pub begins_part : (xs : List CodeSymbol) (p : Part) (c : ℕ) → slice_get xs 0 ≡ Some (symbols.Inner p) → is_solid (map plain_symbol xs) ≡ true → among c (first_of tables (name p)) ≡ among c (firsts tables (map plain_symbol xs))
-begins_part [] p c e h = cc e
-begins_part (x ∷ xs) p c e h =
-    let same : symbols.Inner p ≡ x = cc e in
-    let sound : is_solid (map plain_symbol (symbols.Inner p ∷ xs)) ≡ true = subst (λ (z : CodeSymbol). is_solid (map plain_symbol (z ∷ xs)) ≡ true) (sym same) h in
-    subst (λ (z : CodeSymbol). among c (first_of tables (name p)) ≡ among c (firsts tables (map plain_symbol (z ∷ xs)))) same
-    (no_more (empty_of tables (name p)) c (first_of tables (name p)) (firsts tables (map plain_symbol xs)) sound)
