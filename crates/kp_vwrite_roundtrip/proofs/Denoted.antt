@@ -7,29 +7,22 @@ use Rattle.std.specs.{Prelude.codes, Prelude.All, Prelude.fold, Prelude.replicat
 use Rattle.kp_net.specs.declared.{node.NodeId.NodeId, node.Kind.Kind, node.Node.Node, netlist.Port.Port, netlist.WritePort.WritePort, netlist.NetReg.NetReg}
 use Rattle.kp_net.specs.declared.netlist.{NetFile.NetFile, Parts.Parts}
 use Rattle.kp_net.specs.{Names.same, Names.IsNamed, Names.is_reg_name, Names.is_file_name, Names.is_sample_name, Names.IsSpelled, Netlist.Net}
-use Rattle.kp_net.specs.{Parts.no_port, Parts.no_reg, Parts.no_file, Parts.WriteOk, Parts.PortOk, Parts.CellOk, Parts.NetOk, Widths.wide, Widths.KindOk}
+use Rattle.kp_net.specs.Parts.{no_port, no_reg, no_file, WriteOk, PortOk, CellOk, NetOk, RegOk, FileOk}
+use Rattle.kp_net.specs.Widths.{wide, KindOk}
 use Rattle.kp_net.specs.declared.node.Kind.TheVariants as kinds
 use Rattle.kp_vlog.specs.Denote.{node_of, source_of, kind_of, Made, with_item, made_by, output_of, start_of, next_of, word_init, words_of, port_of, regs_of, files_of, sample_of, parts_of, net_of}
-use Rattle.kp_vlog.specs.Scope.{Scope, scope_of, Sized, Sizes, sizes_of, item_sizes, port_size, width_in, address_in, place_of, reg_names, file_names}
+use Rattle.kp_vlog.specs.Scope.{or_zero, address_width, Scope, scope_of, Sized, Sizes, sizes_of, item_sizes, port_size, width_in, address_in, place_of, reg_names, file_names}
 use Rattle.kp_vlog.specs.declared.tree.{Range.Range, Named.Named, VPort.VPort, Right.Right, Item.Item, ResetList.ResetList, VModule.VModule}
 use Rattle.kp_vlog.specs.Canon.{wire, wire_name}
-use Rattle.kp_vlog.specs.declared.tree.Right.TheVariants as sides
-use Rattle.kp_vlog.specs.declared.tree.Item.TheVariants as lines
-use Rattle.kp_vwrite_roundtrip.proofs.Sentence.{named_at, number_at, range_at, port_at, ShowsNames, no_name, a_name, ShowsRight, a_sample, a_reg, a_word, a_not, a_binary, a_mux, a_concat, a_slice, ShowsSamples, no_sample, one_sample, ShowsRegs, no_reg_line, reg_line, ShowsFiles, no_file_line, file_line, ShowsInteger, no_integer, an_integer, ShowsNodes, no_node_line, node_line, ShowsReset, no_reset_shown, reset_shown, Shown, outs, module_of}
-use Rattle.kp_vwrite_roundtrip.proofs.SameNet.{words_are, starts_skipped, starts_found, nexts_are, updates_skipped, ported, ports_are, found, width_found, address_found, found_past, sized, port_sized, reg_sized, file_sized, range_back, samples_sized, regs_sized, files_sized, each_past, each_found, WidthsAre, nodes_sized}
+use Rattle.kp_vwrite_roundtrip.proofs.Sentence.{ShowsEach, none_shown, one_shown, sample_port, reg_item, file_item, reg_start, reg_update, named_at, number_at, range_at, port_at, ShowsNames, no_name, a_name, ShowsRight, a_sample, a_reg, a_word, a_not, a_binary, a_mux, a_concat, a_slice, ShowsInteger, no_integer, an_integer, ShowsNodes, no_node_line, node_line, ShowsReset, no_reset_shown, reset_shown, Shown, outs, module_of}
+use Rattle.kp_vwrite_roundtrip.proofs.SameNet.{words_are, address_is, ported, ports_are, found, width_found, address_found, found_past, sized, port_sized, reg_sized, file_sized, range_back, samples_sized, each_past, each_found, WidthsAre, nodes_sized}
+use Rattle.kp_vwrite_roundtrip.proofs.Each.{past_each, map_each, found_each}
 use Rattle.kp_vwrite_roundtrip.proofs.Distinct.{apart, tag, tag_reg, tag_file, tag_sample, tag_wire, place_at, wires_to, wire_place}
 use Rattle.kp_vwrite_roundtrip.proofs.Written.{RightFrom, all_right}
+use Rattle.kp_vlog.specs.declared.tree.Right.TheVariants as sides
+use Rattle.kp_vlog.specs.declared.tree.Item.TheVariants as lines
 
 -- Look-ups skip lines about other parts.
-
-pub past_regs : {A : Type 0} (g : List Item → A) (rs : List NetReg) (xs ys : List Item) → ((r : Range) (n : Named) (zs : List Item) → g (lines.Reg r n ∷ zs) ≡ g zs) → ShowsRegs rs xs → g (xs ++ ys) ≡ g ys
-past_regs g _ _ ys h no_reg_line = refl
-past_regs g _ _ ys h (reg_line {r = r} {rs = rs} {xs = xs} a b c k) = h (range_at r.start.width a b) (named_at r.name c) (xs ++ ys) ∙ past_regs g rs xs ys h k
-
-pub past_files : {A : Type 0} (g : List Item → A) (fs : List NetFile) (xs ys : List Item) → ((r : Range) (n : Named) (w : Range) (zs : List Item) → g (lines.File r n w ∷ zs) ≡ g zs) → ShowsFiles fs xs → g (xs ++ ys) ≡ g ys
-past_files g _ _ ys h no_file_line = refl
-past_files g _ _ ys h (file_line {f = f} {fs = fs} {xs = xs} a b c d e k) =
-    h (range_at f.width a b) (named_at f.name c) (record { high = number_at 0 d; low = number_at (2 ^ f.address_width - 1) e }) (xs ++ ys) ∙ past_files g fs xs ys h k
 
 pub past_integer : {A : Type 0} (g : List Item → A) (fs : List NetFile) (xs ys : List Item) → ((n : Named) (zs : List Item) → g (lines.Integer n ∷ zs) ≡ g zs) → ShowsInteger fs xs → g (xs ++ ys) ≡ g ys
 past_integer g _ _ ys h no_integer = refl
@@ -42,42 +35,33 @@ past_nodes g p j _ _ ys h k (node_line {n = n} {ns = ns} {r = r} {xs = xs} a b c
     h (range_at n.width a b) (named_at (wire_name j) c) (lines.Assign (named_at (wire_name j) d) r ∷ (xs ++ ys)) ∙ k j d r (xs ++ ys) ∙ past_nodes g p (j + 1) ns xs ys h k rest
 
 -- all lines of declarations and nodes are skipped
-past_all : {A : Type 0} (g : List Item → A) (net : Net) (s : Shown net) (ys : List Item)
-    → ((r : Range) (n : Named) (w : Range) (zs : List Item) → g (lines.File r n w ∷ zs) ≡ g zs) → ((n : Named) (zs : List Item) → g (lines.Integer n ∷ zs) ≡ g zs)
+past_all : {A : Type 0} (g : List Item → A) (net : Net) (s : Shown net) (ys : List Item) → ((f : NetFile) (p : ℕ → ℕ) (zs : List Item) → g (file_item f p ∷ zs) ≡ g zs) → ((n : Named) (zs : List Item) → g (lines.Integer n ∷ zs) ≡ g zs)
     → ((r : Range) (n : Named) (zs : List Item) → g (lines.Wire r n ∷ zs) ≡ g zs) → ((i at : ℕ) (r : Right) (zs : List Item) → g (lines.Assign (named_at (wire_name i) at) r ∷ zs) ≡ g zs)
     → g (s.files ++ (s.integer ++ (s.nodes ++ ys))) ≡ g ys
 past_all g net s ys f i w a =
-    past_files g net.parts.files s.files (s.integer ++ (s.nodes ++ ys)) f s.shows_files
+    past_each file_item g f net.parts.files s.files (s.integer ++ (s.nodes ++ ys)) s.shows_files
     ∙ past_integer g net.parts.files s.integer (s.nodes ++ ys) i s.shows_integer
     ∙ past_nodes g net.parts 0 net.nodes s.nodes ys w a s.shows_nodes
 
 -- Names of registers and files, in the order of declaration.
 
-reg_names_more : (rs : List NetReg) (xs ys : List Item) → ShowsRegs rs xs → reg_names (xs ++ ys) ≡ map (λ r. r.name) rs ++ reg_names ys
-reg_names_more _ _ ys no_reg_line = refl
-reg_names_more _ _ ys (reg_line {r = r} {rs = rs} {xs = xs} a b c k) = ap (λ (t : List (List ℕ)). r.name ∷ t) (reg_names_more rs xs ys k)
-
-file_names_more : (fs : List NetFile) (xs ys : List Item) → ShowsFiles fs xs → file_names (xs ++ ys) ≡ map (λ f. f.name) fs ++ file_names ys
-file_names_more _ _ ys no_file_line = refl
-file_names_more _ _ ys (file_line {f = f} {fs = fs} {xs = xs} a b c d e k) = ap (λ (t : List (List ℕ)). f.name ∷ t) (file_names_more fs xs ys k)
-
 reg_names_are : (net : Net) (s : Shown net) → reg_names (module_of s).items ≡ map (λ r. r.name) net.parts.regs
 reg_names_are net s =
-    reg_names_more net.parts.regs s.regs (s.files ++ (s.integer ++ (s.nodes ++ outs s))) s.shows_regs
-    ∙ ap (λ t. map (λ r. r.name) net.parts.regs ++ t) (past_all reg_names net s (outs s) (λ r n w zs. refl) (λ n zs. refl) (λ r n zs. refl) (λ i at r zs. refl))
+    map_each reg_item reg_names (λ r. r.name) (λ r. Unit {0}) (λ r p zs k. refl) net.parts.regs s.regs (s.files ++ (s.integer ++ (s.nodes ++ outs s))) s.shows_regs (λ i d l. tt)
+    ∙ ap (λ t. map (λ r. r.name) net.parts.regs ++ t) (past_all reg_names net s (outs s) (λ f p zs. refl) (λ n zs. refl) (λ r n zs. refl) (λ i at r zs. refl))
     ∙ append-nil (map (λ r. r.name) net.parts.regs)
 
 file_names_are : (net : Net) (s : Shown net) → file_names (module_of s).items ≡ map (λ f. f.name) net.parts.files
 file_names_are net s =
-    past_regs file_names net.parts.regs s.regs (s.files ++ (s.integer ++ (s.nodes ++ outs s))) (λ r n zs. refl) s.shows_regs
-    ∙ file_names_more net.parts.files s.files (s.integer ++ (s.nodes ++ outs s)) s.shows_files
+    past_each reg_item file_names (λ r p zs. refl) net.parts.regs s.regs (s.files ++ (s.integer ++ (s.nodes ++ outs s))) s.shows_regs
+    ∙ map_each file_item file_names (λ f. f.name) (λ f. Unit {0}) (λ f p zs k. refl) net.parts.files s.files (s.integer ++ (s.nodes ++ outs s)) s.shows_files (λ i d l. tt)
     ∙ ap (λ t. map (λ f. f.name) net.parts.files ++ t) (past_integer file_names net.parts.files s.integer (s.nodes ++ outs s) (λ n zs. refl) s.shows_integer
     ∙ past_nodes file_names net.parts 0 net.nodes s.nodes (outs s) (λ r n zs. refl) (λ i at r zs. refl) s.shows_nodes)
     ∙ append-nil (map (λ f. f.name) net.parts.files)
 
-sample_names_are : (ss : List Port) (xs : List VPort) → ShowsSamples ss xs → map (λ p. p.port.name) xs ≡ map (λ s. s.name) ss
-sample_names_are _ _ no_sample = refl
-sample_names_are _ _ (one_sample {s = s} {ss = ss} {xs = xs} a b c k) = ap (λ (t : List (List ℕ)). s.name ∷ t) (sample_names_are ss xs k)
+sample_names_are : (ss : List Port) (xs : List VPort) → ShowsEach sample_port ss xs → map (λ p. p.port.name) xs ≡ map (λ s. s.name) ss
+sample_names_are _ _ none_shown = refl
+sample_names_are _ _ (one_shown {x = s} {xs = ss} {ys = xs} p k) = ap (λ (t : List (List ℕ)). s.name ∷ t) (sample_names_are ss xs k)
 
 -- Nodes.
 
@@ -170,8 +154,12 @@ pub table_is : (net : Net) (s : Shown net) → NetOk net → IsNamed net → siz
 table_is net s k named =
     let p = net.parts in
     let items : item_sizes (module_of s).items ≡ after_ports s =
-    regs_sized net.nodes p.regs s.regs (s.files ++ (s.integer ++ (s.nodes ++ outs s))) s.shows_regs k.parts.regs
-    ∙ ap (λ t. map reg_sized p.regs ++ t) (files_sized net.nodes p.files s.files (s.integer ++ (s.nodes ++ outs s)) s.shows_files k.parts.files
+    map_each reg_item item_sizes reg_sized (RegOk net.nodes) (λ r p zs k. ap (λ w. sized r.name w 0 ∷ item_sizes zs) (range_back r.start.width k.start.positive))
+    p.regs s.regs (s.files ++ (s.integer ++ (s.nodes ++ outs s))) s.shows_regs k.parts.regs
+    ∙ ap (λ t. map reg_sized p.regs ++ t) (map_each file_item item_sizes file_sized (FileOk net.nodes)
+    (λ f p zs k. ap (λ w. sized f.name w (or_zero (address_width (2 ^ f.address_width - 1))) ∷ item_sizes zs) (range_back f.width k.positive)
+    ∙ ap (λ a. sized f.name f.width a ∷ item_sizes zs) (address_is f.address_width k.addressed k.addressed_at_most))
+    p.files s.files (s.integer ++ (s.nodes ++ outs s)) s.shows_files k.parts.files
     ∙ ap (λ t. map file_sized p.files ++ t) (past_integer item_sizes p.files s.integer (s.nodes ++ outs s) (λ n zs. refl) s.shows_integer)) in
     let samples = samples_sized p.samples s.ports s.samples k.parts.samples in
     let atleast = named.at_least in let fw = named.full in let uw = named.ue in let bw = named.back in
@@ -211,8 +199,8 @@ pub made_is : (net : Net) (s : Shown net) → NetOk net → IsNamed net → made
 made_is net s k named =
     let f = with_item (scope_of (module_of s)) in
     let few = k.count in
-    past_regs (λ xs. fold f (made [] []) xs) net.parts.regs s.regs (s.files ++ (s.integer ++ (s.nodes ++ outs s))) (λ r n zs. refl) s.shows_regs
-    ∙ past_files (λ xs. fold f (made [] []) xs) net.parts.files s.files (s.integer ++ (s.nodes ++ outs s)) (λ r n w zs. refl) s.shows_files
+    past_each reg_item (λ xs. fold f (made [] []) xs) (λ r p zs. refl) net.parts.regs s.regs (s.files ++ (s.integer ++ (s.nodes ++ outs s))) s.shows_regs
+    ∙ past_each file_item (λ xs. fold f (made [] []) xs) (λ f p zs. refl) net.parts.files s.files (s.integer ++ (s.nodes ++ outs s)) s.shows_files
     ∙ past_integer (λ xs. fold f (made [] []) xs) net.parts.files s.integer (s.nodes ++ outs s) (λ n zs. refl) s.shows_integer
     ∙ fold-append f (made [] []) s.nodes (outs s)
     ∙ ap (λ (x : Made). fold f x (outs s)) (nodes_made net named (scope_of (module_of s)) 0 net.nodes [] s.nodes (scoped net s) (omega arith) s.shows_nodes (all_right net k) (widths_are net s k named))
@@ -226,15 +214,15 @@ output_past wires out t x zs e = refl
 
 output_is : (net : Net) (s : Shown net) (wires : List (List ℕ)) (out : List ℕ) → ((i : ℕ) → same (wire_name i) out ≡ false) → output_of wires out (module_of s).items ≡ output_of wires out (outs s)
 output_is net s wires out e =
-    past_regs (output_of wires out) net.parts.regs s.regs (s.files ++ (s.integer ++ (s.nodes ++ outs s))) (λ r n zs. refl) s.shows_regs
-    ∙ past_all (output_of wires out) net s (outs s) (λ r n w zs. refl) (λ n zs. refl) (λ r n zs. refl) (λ i at r zs. output_past wires out (named_at (wire_name i) at) r zs (e i))
+    past_each reg_item (output_of wires out) (λ r p zs. refl) net.parts.regs s.regs (s.files ++ (s.integer ++ (s.nodes ++ outs s))) s.shows_regs
+    ∙ past_all (output_of wires out) net s (outs s) (λ f p zs. refl) (λ n zs. refl) (λ r n zs. refl) (λ i at r zs. output_past wires out (named_at (wire_name i) at) r zs (e i))
 
 -- Registers.
 
-regs_more : (wires : List (List ℕ)) (m : VModule) (rs : List NetReg) (xs ys : List Item) → ShowsRegs rs xs → All (λ r. start_of m.inits r.name ≡ r.start) rs → All (λ r. next_of wires m.updates r.name ≡ r.next) rs
+regs_more : (wires : List (List ℕ)) (m : VModule) (rs : List NetReg) (xs ys : List Item) → ShowsEach reg_item rs xs → All (λ r. start_of m.inits r.name ≡ r.start) rs → All (λ r. next_of wires m.updates r.name ≡ r.next) rs
     → regs_of wires m (xs ++ ys) ≡ rs ++ regs_of wires m ys
-regs_more wires m _ _ ys no_reg_line a b = refl
-regs_more wires m _ _ ys (reg_line {r = r} {rs = rs} {xs = xs} c d e k) a b =
+regs_more wires m _ _ ys none_shown a b = refl
+regs_more wires m _ _ ys (one_shown {x = r} {xs = rs} {ys = xs} p k) a b =
     let start = All-head (λ r. start_of m.inits r.name ≡ r.start) r rs a in let next = All-head (λ r. next_of wires m.updates r.name ≡ r.next) r rs b in
     let rest = regs_more wires m rs xs ys k (All-tail (λ r. start_of m.inits r.name ≡ r.start) r rs a) (All-tail (λ r. next_of wires m.updates r.name ≡ r.next) r rs b) in
     λ i. record { name = r.name; start = start i; next = next i } ∷ rest i
@@ -243,11 +231,11 @@ regs_are : (net : Net) (s : Shown net) → NetOk net → IsNamed net → regs_of
 regs_are net s k named =
     let wires = wires_to (length net.nodes) in
     regs_more wires (module_of s) net.parts.regs s.regs (s.files ++ (s.integer ++ (s.nodes ++ outs s))) s.shows_regs
-    (starts_found start_of (λ w. w) (λ r a b xs n. refl) net.parts.regs s.start_part s.fill_part s.shows_starts named.regs_differ)
+    (found_each reg_start (λ r. r.name) start_of (λ r. r.start) (λ r p zs n. refl) net.parts.regs s.start_part s.fill_part s.shows_starts named.regs_differ)
     (λ i d l. let r = get_or net.parts.regs i d in let ok = (k.parts.regs i d l).next in
-    nexts_are wires net.parts.regs s.update_part s.shows_updates named.regs_differ i d l s.write_part
+    found_each reg_update (λ r. r.name) (next_of wires) (λ r. record { 0 = place_of wires (wire r.next) }) (λ r p zs n. refl) net.parts.regs s.update_part s.write_part s.shows_updates named.regs_differ i d l
     ∙ ap (λ (a : ℕ). record { 0 = a }) (wire_place (length net.nodes) r.next.0 ok.0 k.count))
-    ∙ ap (λ t. net.parts.regs ++ t) (past_all (regs_of wires (module_of s)) net s (outs s) (λ r n w zs. refl) (λ n zs. refl) (λ r n zs. refl) (λ i at r zs. refl))
+    ∙ ap (λ t. net.parts.regs ++ t) (past_all (regs_of wires (module_of s)) net s (outs s) (λ f p zs. refl) (λ n zs. refl) (λ r n zs. refl) (λ i at r zs. refl))
     ∙ append-nil net.parts.regs
 
 -- Files.
@@ -264,9 +252,9 @@ record IsFile (wires : List (List ℕ)) (m : VModule) (f : NetFile) : Type 0 whe
   pub words : words_of m.inits (2 ^ address_in (sizes_of m) f.name) f.name ≡ f.words
   pub port : port_of wires m.updates f.name ≡ f.port
 
-files_more : (wires : List (List ℕ)) (m : VModule) (fs : List NetFile) (xs ys : List Item) → ShowsFiles fs xs → All (IsFile wires m) fs → files_of wires m (xs ++ ys) ≡ fs ++ files_of wires m ys
-files_more wires m _ _ ys no_file_line a = refl
-files_more wires m _ _ ys (file_line {f = f} {fs = fs} {xs = xs} c d e g h k) a =
+files_more : (wires : List (List ℕ)) (m : VModule) (fs : List NetFile) (xs ys : List Item) → ShowsEach file_item fs xs → All (IsFile wires m) fs → files_of wires m (xs ++ ys) ≡ fs ++ files_of wires m ys
+files_more wires m _ _ ys none_shown a = refl
+files_more wires m _ _ ys (one_shown {x = f} {xs = fs} {ys = xs} p k) a =
     let is = All-head (IsFile wires m) f fs a in
     let rest = files_more wires m fs xs ys k (All-tail (IsFile wires m) f fs a) in
     λ i. record { name = f.name; width = is.width i; address_width = is.address i; words = is.words i; port = is.port i } ∷ rest i
@@ -274,7 +262,7 @@ files_more wires m _ _ ys (file_line {f = f} {fs = fs} {xs = xs} c d e g h k) a 
 files_are : (net : Net) (s : Shown net) → NetOk net → IsNamed net → files_of (wires_to (length net.nodes)) (module_of s) (module_of s).items ≡ net.parts.files
 files_are net s k named =
     let wires = wires_to (length net.nodes) in
-    past_regs (files_of wires (module_of s)) net.parts.regs s.regs (s.files ++ (s.integer ++ (s.nodes ++ outs s))) (λ r n zs. refl) s.shows_regs
+    past_each reg_item (files_of wires (module_of s)) (λ r p zs. refl) net.parts.regs s.regs (s.files ++ (s.integer ++ (s.nodes ++ outs s))) s.shows_regs
     ∙ files_more wires (module_of s) net.parts.files s.files (s.integer ++ (s.nodes ++ outs s)) s.shows_files (λ i d l.
     let f = get_or net.parts.files i d in
     let size = file_sizes net s k named i d l in
@@ -284,19 +272,18 @@ files_are net s k named =
       width = width_found (sizes_of (module_of s)) f.name ∙ ap (λ (z : Sized). z.width) size;
       address = address;
       words = ap (λ (c : ℕ). words_of (module_of s).inits (2 ^ c) f.name) address ∙ ap (λ (c : ℕ). words_of (module_of s).inits c f.name) (sym ok.full)
-          ∙ fold-append (word_init (length f.words) f.name) (replicate (length f.words) 0) s.start_part s.fill_part
-          ∙ ap (λ us. fold (word_init (length f.words) f.name) us s.fill_part) (starts_skipped f.name (length f.words) net.parts.regs s.start_part (replicate (length f.words) 0) s.shows_starts)
+          ∙ past_each reg_start (λ xs. fold (word_init (length f.words) f.name) (replicate (length f.words) 0) xs) (λ r p zs. refl) net.parts.regs s.start_part s.fill_part s.shows_starts
           ∙ words_are net.parts.files s.fill_part s.shows_fills named.files_differ i d l (replicate (length f.words) 0);
-      port = updates_skipped wires f.name net.parts.regs s.update_part s.write_part s.shows_updates
+      port = past_each reg_update (λ us. port_of wires us f.name) (λ r p zs. refl) net.parts.regs s.update_part s.write_part s.shows_updates
           ∙ ports_are wires net.parts.files s.write_part s.shows_writes named.files_differ i d l ∙ port_is net.nodes f.width f.address_width f.port ok.port k.count;
     })
     ∙ ap (λ t. net.parts.files ++ t) (past_integer (files_of wires (module_of s)) net.parts.files s.integer (s.nodes ++ outs s) (λ n zs. refl) s.shows_integer
     ∙ past_nodes (files_of wires (module_of s)) net.parts 0 net.nodes s.nodes (outs s) (λ r n zs. refl) (λ i at r zs. refl) s.shows_nodes)
     ∙ append-nil net.parts.files
 
-samples_are : (ss : List Port) (xs : List VPort) → ShowsSamples ss xs → All PortOk ss → map sample_of xs ≡ ss
-samples_are _ _ no_sample k = refl
-samples_are _ _ (one_sample {s = s} {ss = ss} {xs = xs} a b c h) k =
+samples_are : (ss : List Port) (xs : List VPort) → ShowsEach sample_port ss xs → All PortOk ss → map sample_of xs ≡ ss
+samples_are _ _ none_shown k = refl
+samples_are _ _ (one_shown {x = s} {xs = ss} {ys = xs} p h) k =
     let ok = All-head PortOk s ss k in let low = ok.positive in
     ap (λ (w : ℕ). record { name = s.name; width = w } ∷ map sample_of xs) (let e : s.width - 1 + 1 ≡ s.width = omega arith in e) ∙ ap (λ (t : List Port). s ∷ t) (samples_are ss xs h (All-tail PortOk s ss k))
 

@@ -12,32 +12,16 @@ use Rattle.kp_vlog.specs.Canon.{wire, wire_name}
 use Rattle.kp_vlog.specs.Rules.{Driven, nothing, drives, all_driven, items_given, inits_started, inits_filled, updates_updated, reset_values, driver_fits, bad_driver, module_driver}
 use Rattle.kp_vlog.proofs.Tests.{same_refl}
 use Rattle.kp_vlog.specs.declared.tree.Init.TheVariants as starts
-use Rattle.kp_vwrite_roundtrip.proofs.Sentence.{named_at, ShowsNames, no_name, a_name, ShowsRight, a_const, a_word, a_not, a_binary, a_mux, a_concat, a_slice, ShowsSamples, no_sample, one_sample, ShowsRegs, no_reg_line, reg_line, ShowsFiles, no_file_line, file_line, ShowsInteger, no_integer, an_integer, ShowsNodes, no_node_line, node_line, ShowsStarts, no_start, a_start, ShowsWords, no_words, zero_word, some_word, ShowsFills, no_fill, a_fill, ShowsUpdates, no_update, an_update, ShowsWrites, no_write, not_written, a_write, ShowsReset, no_reset_shown, reset_shown, ShowsValues, no_value, a_value, Shown, outs, module_of}
-use Rattle.kp_vwrite_roundtrip.proofs.{Written.RightFrom, Written.all_right, Distinct.wires_differ, Distinct.apart_all}
-use Rattle.kp_vwrite_roundtrip.proofs.{Denoted.past_regs, Denoted.past_files, Denoted.past_integer, Runs.literal_for}
+use Rattle.kp_vwrite_roundtrip.proofs.Sentence.{ShowsEach, none_shown, one_shown, reg_item, file_item, reg_start, reset_value, reg_update, named_at, ShowsNames, no_name, a_name, ShowsRight, a_const, a_word, a_not, a_binary, a_mux, a_concat, a_slice, ShowsInteger, no_integer, an_integer, ShowsNodes, no_node_line, node_line, ShowsWords, no_words, zero_word, some_word, ShowsFills, no_fill, a_fill, ShowsWrites, no_write, not_written, a_write, ShowsReset, no_reset_shown, reset_shown, Shown, outs, module_of}
+use Rattle.kp_vwrite_roundtrip.proofs.{Written.RightFrom, Written.all_right, Distinct.wires_differ, Distinct.apart_all, Each.past_each, Each.among_each}
+use Rattle.kp_vwrite_roundtrip.proofs.{Denoted.past_integer, Runs.literal_for}
 use Rattle.kp_bits.specs.declared.literal.Literal.{Literal}
 
-starts_driven : (rs : List NetReg) (xs ys : List Init) → ShowsStarts rs xs → All (λ r. among (inits_started (xs ++ ys)) r.name ≡ true) rs
-starts_driven _ _ ys no_start = All-nil (λ (r : NetReg). among (inits_started ys) r.name ≡ true)
-starts_driven _ _ ys (a_start {r = r} {rs = rs} {xs = xs} a b h) =
-    All-cons (λ z. among (r.name ∷ inits_started (xs ++ ys)) z.name ≡ true) r rs (or_left _ _ (same_refl r.name))
-    (λ i d l. or_right (same (get_or rs i d).name r.name) _ (starts_driven rs xs ys h i d l))
-
-updates_driven : (rs : List NetReg) (xs ys : List Update) → ShowsUpdates rs xs → All (λ r. among (updates_updated (xs ++ ys)) r.name ≡ true) rs
-updates_driven _ _ ys no_update = All-nil (λ (r : NetReg). among (updates_updated ys) r.name ≡ true)
-updates_driven _ _ ys (an_update {r = r} {rs = rs} {xs = xs} a b h) =
-    All-cons (λ z. among (r.name ∷ updates_updated (xs ++ ys)) z.name ≡ true) r rs (or_left _ _ (same_refl r.name))
-    (λ i d l. or_right (same (get_or rs i d).name r.name) _ (updates_driven rs xs ys h i d l))
-
-values_driven : (rs : List NetReg) (xs : List ResetValue) → ShowsValues rs xs → All (λ r. among (map (λ x. x.name.name) xs) r.name ≡ true) rs
-values_driven _ _ no_value = All-nil (λ (r : NetReg). among [] r.name ≡ true)
-values_driven _ _ (a_value {r = r} {rs = rs} {xs = xs} a b h) =
+values_driven : (rs : List NetReg) (xs : List ResetValue) → ShowsEach reset_value rs xs → All (λ r. among (map (λ x. x.name.name) xs) r.name ≡ true) rs
+values_driven _ _ none_shown = All-nil (λ (r : NetReg). among [] r.name ≡ true)
+values_driven _ _ (one_shown {x = r} {xs = rs} {ys = xs} p h) =
     All-cons (λ z. among (r.name ∷ map (λ x. x.name.name) xs) z.name ≡ true) r rs (or_left _ _ (same_refl r.name))
     (λ i d l. or_right (same (get_or rs i d).name r.name) _ (values_driven rs xs h i d l))
-
-filled_past : (rs : List NetReg) (xs ys : List Init) → ShowsStarts rs xs → inits_filled (xs ++ ys) ≡ inits_filled ys
-filled_past _ _ ys no_start = refl
-filled_past _ _ ys (a_start {rs = rs} {xs = xs} a b h) = filled_past rs xs ys h
 
 words_past : (n : List ℕ) (w i : ℕ) (us : List ℕ) (xs ys : List Init) → ShowsWords n w i us xs → inits_filled (xs ++ ys) ≡ inits_filled ys
 words_past n w i _ _ ys no_words = refl
@@ -71,8 +55,8 @@ pub record DrivesAll (net : Net) (resets : Bool) (all : Driven) : Type 0 where
 
 given_past : (net : Net) (s : Shown net) → items_given (s.regs ++ (s.files ++ (s.integer ++ (s.nodes ++ outs s)))) ≡ items_given (s.nodes ++ outs s)
 given_past net s =
-    past_regs items_given net.parts.regs s.regs (s.files ++ (s.integer ++ (s.nodes ++ outs s))) (λ r n zs. refl) s.shows_regs
-    ∙ past_files items_given net.parts.files s.files (s.integer ++ (s.nodes ++ outs s)) (λ r n w zs. refl) s.shows_files
+    past_each reg_item items_given (λ r p zs. refl) net.parts.regs s.regs (s.files ++ (s.integer ++ (s.nodes ++ outs s))) s.shows_regs
+    ∙ past_each file_item items_given (λ f p zs. refl) net.parts.files s.files (s.integer ++ (s.nodes ++ outs s)) s.shows_files
     ∙ past_integer items_given net.parts.files s.integer (s.nodes ++ outs s) (λ n zs. refl) s.shows_integer
 
 resets_all : (rs : List NetReg) (b : Bool) (rst : Option Named) (r : Option ResetList) → ShowsReset rs b rst r → All (λ x. (not (is_some r) || among (map (λ x. x.name.name) (reset_values r)) x.name) ≡ true) rs
@@ -88,7 +72,7 @@ drives_all net s =
       ue = ap (λ t. among t (codes "ue")) given ∙ outs_given net.parts 0 net.nodes s.nodes (outs s) (codes "ue") s.shows_nodes refl;
       back = ap (λ t. among t (codes "back")) given ∙ outs_given net.parts 0 net.nodes s.nodes (outs s) (codes "back") s.shows_nodes refl;
       regs = λ i d l. let n = (get_or net.parts.regs i d).name in
-          and_from (among (inits_started (s.start_part ++ s.fill_part)) n) _ (starts_driven net.parts.regs s.start_part s.fill_part s.shows_starts i d l)
-          (and_from (among (updates_updated (s.update_part ++ s.write_part)) n) _ (updates_driven net.parts.regs s.update_part s.write_part s.shows_updates i d l) (resets_all net.parts.regs net.parts.reset s.rst s.resets s.reset i d l));
-      filled = λ i d l. ap (λ t. among t (get_or net.parts.files i d).name) (filled_past net.parts.regs s.start_part s.fill_part s.shows_starts) ∙ fills_driven net.parts.files s.fill_part s.shows_fills i d l;
+          and_from (among (inits_started (s.start_part ++ s.fill_part)) n) _ (among_each reg_start (λ r. r.name) inits_started (λ r p zs. refl) net.parts.regs s.start_part s.fill_part s.shows_starts i d l)
+          (and_from (among (updates_updated (s.update_part ++ s.write_part)) n) _ (among_each reg_update (λ r. r.name) updates_updated (λ r p zs. refl) net.parts.regs s.update_part s.write_part s.shows_updates i d l) (resets_all net.parts.regs net.parts.reset s.rst s.resets s.reset i d l));
+      filled = λ i d l. ap (λ t. among t (get_or net.parts.files i d).name) (past_each reg_start inits_filled (λ r p zs. refl) net.parts.regs s.start_part s.fill_part s.shows_starts) ∙ fills_driven net.parts.files s.fill_part s.shows_fills i d l;
     }

@@ -1,5 +1,5 @@
 -- A module that represents a netlist violates no rule of names, and none of drivers.
-use Rattle.std.proofs.Common.{◌≡◌, ◌∙◌, ℕ, suc, ◌+◌, ◌≤◌, ◌<◌, List, [], ◌∷◌, ◌++◌, length, get_or, map, Bool, true, false, Option, Some, None, refl, sym, ap, subst, arith, append_assoc, inl, inr, ◌-◌, eq-eqb}
+use Rattle.std.proofs.Common.{◌≡◌, ◌∙◌, ℕ, suc, ◌+◌, ◌≤◌, ◌<◌, List, [], ◌∷◌, ◌++◌, length, get_or, map, Bool, true, false, Option, Some, None, refl, sym, ap, subst, arith, append_assoc, append-nil, inl, inr, ◌-◌, eq-eqb}
 use Rattle.std.proofs.lemmas.Bool.{false≢true, cases_lt, cond-true, and_from, or_from, not_from_false, or_left, or_right, cond-false, and_parts}
 use Rattle.std.proofs.lemmas.List.Elements.{All-nil, All-cons, All-head, All-tail}
 use Rattle.std.specs.{Prelude.codes, Prelude.All, Prelude.◌==◌, Prelude.◌&&◌, Prelude.◌||◌, Prelude.decimal, Prelude.not, Option.is_some, List.list_all}
@@ -13,10 +13,11 @@ use Rattle.kp_vlog.specs.Rules.{name_fits, learns, bad_name, Driven, nothing, dr
 use Rattle.kp_vlog.specs.declared.tree.{Named.Named, ResetList.ResetList, ResetValue.ResetValue, VPort.VPort, Right.Right, Item.Item, Init.Init, Update.Update}
 use Rattle.kp_vlog.specs.{Canon.wire, Canon.wire_name, Scope.is_wire_name}
 use Rattle.kp_vlog.proofs.Tests.{same_refl}
-use Rattle.kp_vwrite_roundtrip.proofs.Sentence.{named_at, ShowsNames, no_name, a_name, ShowsRight, a_const, an_ext, a_sample, a_reg, a_word, a_not, a_binary, a_mux, a_concat, a_slice, ShowsSamples, no_sample, one_sample, ShowsRegs, no_reg_line, reg_line, ShowsFiles, no_file_line, file_line, ShowsInteger, no_integer, an_integer, ShowsNodes, no_node_line, node_line, ShowsStarts, no_start, a_start, ShowsWords, no_words, zero_word, some_word, ShowsFills, no_fill, a_fill, ShowsUpdates, no_update, an_update, ShowsWrites, no_write, not_written, a_write, ShowsReset, no_reset_shown, reset_shown, ShowsValues, no_value, a_value, Shown, outs, module_of}
+use Rattle.kp_vwrite_roundtrip.proofs.Sentence.{ShowsEach, none_shown, one_shown, sample_port, reg_item, file_item, reg_start, reset_value, reg_update, named_at, ShowsNames, no_name, a_name, ShowsRight, a_const, an_ext, a_sample, a_reg, a_word, a_not, a_binary, a_mux, a_concat, a_slice, ShowsInteger, no_integer, an_integer, ShowsNodes, no_node_line, node_line, ShowsWords, no_words, zero_word, some_word, ShowsFills, no_fill, a_fill, ShowsWrites, no_write, not_written, a_write, ShowsReset, no_reset_shown, reset_shown, Shown, outs, module_of}
 use Rattle.kp_vwrite_roundtrip.proofs.Distinct.{apart, tag, tag_reg, tag_file, tag_sample, tag_wire, wires_differ, apart_all}
 use Rattle.kp_vwrite_roundtrip.proofs.{Written.RightFrom, Written.all_right, Runs.Led, Runs.decimal_led, Runs.decimal_names, Runs.all_of, Runs.literal_for}
-use Rattle.kp_vwrite_roundtrip.proofs.{Denoted.spelled, Denoted.samples_tagged, Denoted.regs_tagged, Denoted.files_tagged, Drives.DrivesAll, Drives.drives_all, SameNet.starts_found}
+use Rattle.kp_vwrite_roundtrip.proofs.{Denoted.spelled, Denoted.samples_tagged, Denoted.regs_tagged, Denoted.files_tagged, Drives.DrivesAll, Drives.drives_all}
+use Rattle.kp_vwrite_roundtrip.proofs.Each.{found_each}
 use Rattle.kp_vlog.specs.declared.tree.Init.TheVariants as starts
 use Rattle.kp_bits.specs.declared.literal.Literal.{Literal}
 
@@ -150,36 +151,23 @@ module _ (resets : Bool) (all : Driven) where
       → Good known d os → Good known d (occurs uses_wire (named_at (wire a) at) ∷ os)
   used known d a at os few k g h = fits known d _ os (and_from (is_wire_name (wire a)) _ (wire_spelled a.0 few) k) g h
 
-  samples_fit : (ss : List Port) (xs : List VPort) (known : List (List ℕ)) (d : Driven) (rest : List Occurrence) → ShowsSamples ss xs → All (λ s. is_sample_name s.name ≡ true) ss → Differ (map (λ s. s.name) ss)
-      → AllNew (λ s. s.name) known ss → ((known' : List (List ℕ)) → Grows (λ s. s.name) ss 1115 known known' → Good known' d rest) → Good known d (samples_names xs ++ rest)
-  samples_fit _ _ known d rest no_sample k e new h = h known (grows_none (λ (s : Port). s.name) 1115 known)
-  samples_fit _ _ known d rest (one_sample {s = s} {ss = ss} {xs = xs} a b c sh) k e new h =
-      let here = All-head (λ s. is_sample_name s.name ≡ true) s ss k in
-      fits known d _ _ (and_from (is_sample_name s.name) _ here (is_new (λ s. s.name) known s ss new)) refl
-      (samples_fit ss xs (s.name ∷ known) d rest sh (All-tail (λ s. is_sample_name s.name ≡ true) s ss k) e.1 (new_more (λ s. s.name) s ss known e new)
-      (λ known' g. h known' (grows_more (λ s. s.name) s ss 1115 known known' (tag_sample s.name here) g)))
+  -- a list of parts, each with a new name, which is added to those so far
+  fit_each : {X Y : Type 0} (make : X → (ℕ → ℕ) → Y) (f : X → List ℕ) (t : ℕ) (names_of : List Y → List Occurrence) (At : List (List ℕ) → List Occurrence → Type 0) (Fine : X → Type 0)
+      → ((x : X) (p : ℕ → ℕ) (zs : List Y) (l : List (List ℕ)) → Fine x → not (among l (f x)) ≡ true → At (f x ∷ l) (names_of zs) → At l (names_of (make x p ∷ zs)))
+      → (xs : List X) (ys zs : List Y) (l : List (List ℕ)) → ShowsEach make xs ys → All Fine xs → All (λ x. tag (f x) ≡ t) xs → Differ (map f xs) → AllNew f l xs
+      → ((l' : List (List ℕ)) → Grows f xs t l l' → At l' (names_of zs)) → At l (names_of (ys ++ zs))
+  fit_each make f t names_of At Fine one _ _ zs l none_shown k tags d new h = h l (grows_none f t l)
+  fit_each make f t names_of At Fine one _ _ zs l (one_shown {x = x} {xs = xs} {ys = ys} p sh) k tags d new h =
+      one x p (ys ++ zs) l (All-head Fine x xs k) (is_new f l x xs new)
+      (fit_each make f t names_of At Fine one xs ys zs (f x ∷ l) sh (All-tail Fine x xs k) (All-tail (λ x. tag (f x) ≡ t) x xs tags) d.1 (new_more f x xs l d new)
+      (λ l' g. h l' (grows_more f x xs t l l' (All-head (λ x. tag (f x) ≡ t) x xs tags) g)))
 
-  regs_fit : (rs : List NetReg) (xs ys : List Item) (known : List (List ℕ)) (d : Driven) (rest : List Occurrence) → ShowsRegs rs xs → All (λ r. is_reg_name r.name ≡ true) rs
-      → All (λ r. driver_fits resets all d declares_reg r.name ≡ true) rs → Differ (map (λ r. r.name) rs)
-      → AllNew (λ r. r.name) known rs → ((known' : List (List ℕ)) → Grows (λ r. r.name) rs 1114 known known' → Good known' d (items_names ys ++ rest)) → Good known d (items_names (xs ++ ys) ++ rest)
-  regs_fit _ _ ys known d rest no_reg_line k driven e new h = h known (grows_none (λ (r : NetReg). r.name) 1114 known)
-  regs_fit _ _ ys known d rest (reg_line {r = r} {rs = rs} {xs = xs} a b c sh) k driven e new h =
-      let here = All-head (λ r. is_reg_name r.name ≡ true) r rs k in
-      let R : NetReg → Type 0 = λ r. driver_fits resets all d declares_reg r.name ≡ true in
-      fits known d _ _ (and_from (is_reg_name r.name) _ here (is_new (λ r. r.name) known r rs new)) (All-head R r rs driven)
-      (regs_fit rs xs ys (r.name ∷ known) d rest sh (All-tail (λ r. is_reg_name r.name ≡ true) r rs k) (All-tail R r rs driven) e.1 (new_more (λ r. r.name) r rs known e new)
-      (λ known' g. h known' (grows_more (λ r. r.name) r rs 1114 known known' (tag_reg r.name here) g)))
-
-  files_fit : (fs : List NetFile) (xs ys : List Item) (known : List (List ℕ)) (d : Driven) (rest : List Occurrence) → ShowsFiles fs xs → All (λ f. is_file_name f.name ≡ true) fs
-      → All (λ f. among all.filled f.name ≡ true) fs → Differ (map (λ f. f.name) fs)
-      → AllNew (λ f. f.name) known fs → ((known' : List (List ℕ)) → Grows (λ f. f.name) fs 1102 known known' → Good known' d (items_names ys ++ rest)) → Good known d (items_names (xs ++ ys) ++ rest)
-  files_fit _ _ ys known d rest no_file_line k driven e new h = h known (grows_none (λ (f : NetFile). f.name) 1102 known)
-  files_fit _ _ ys known d rest (file_line {f = f} {fs = fs} {xs = xs} a b c i j sh) k driven e new h =
-      let here = All-head (λ f. is_file_name f.name ≡ true) f fs k in
-      let F : NetFile → Type 0 = λ f. among all.filled f.name ≡ true in
-      fits known d _ _ (and_from (is_file_name f.name) _ here (is_new (λ f. f.name) known f fs new)) (All-head F f fs driven)
-      (files_fit fs xs ys (f.name ∷ known) d rest sh (All-tail (λ f. is_file_name f.name ≡ true) f fs k) (All-tail F f fs driven) e.1 (new_more (λ f. f.name) f fs known e new)
-      (λ known' g. h known' (grows_more (λ f. f.name) f fs 1102 known known' (tag_file f.name here) g)))
+  samples_fit : (ss : List Port) (xs : List VPort) (known : List (List ℕ)) (d : Driven) (rest : List Occurrence) → ShowsEach sample_port ss xs → All (λ s. is_sample_name s.name ≡ true) ss → All (λ s. tag s.name ≡ 1115) ss
+      → Differ (map (λ s. s.name) ss) → AllNew (λ s. s.name) known ss → ((known' : List (List ℕ)) → Grows (λ s. s.name) ss 1115 known known' → Good known' d rest) → Good known d (samples_names xs ++ rest)
+  samples_fit ss xs known d rest sh k tags e new h =
+      subst (λ ys. Good known d (samples_names ys ++ rest)) (append-nil xs)
+      (fit_each sample_port (λ s. s.name) 1115 (λ xs. samples_names xs ++ rest) (λ l os. Good l d os) (λ s. is_sample_name s.name ≡ true) (λ s p zs l k new h. fits l d _ _ (and_from (is_sample_name s.name) _ k new) refl h)
+      ss xs [] known sh k tags e new h)
 
   -- node j, after its wire is declared
   module _ (net : Net) (named : IsNamed net) (j : ℕ) (known g : List (List ℕ)) (few : j < 16777216) (kn : Knows net j known g) where
@@ -229,14 +217,6 @@ module _ (resets : Bool) (all : Driven) where
       (nodes_fit net named (j + 1) ns xs ys known' (wire_name j ∷ g) rest next k.2 (omega arith) (λ i l m. a i (omega arith) (omega arith)) (knows_more net j known g (omega arith) kn)
       (λ known'' g' kn'. h known'' g' (subst (λ i. Knows net i known'' g') (let e : j + 1 + length ns ≡ j + suc (length ns) = omega arith in e) kn')))))
 
-  starts_fit : (known g s : List (List ℕ)) (rs : List NetReg) (xs ys : List Init) (rest : List Occurrence) → ShowsStarts rs xs → RegsKnown known rs → Differ (map (λ r. r.name) rs) → AllNew (λ r. r.name) s rs
-      → ((s' : List (List ℕ)) → Good known (state g s' [] [] [] []) (inits_names ys ++ rest)) → Good known (state g s [] [] [] []) (inits_names (xs ++ ys) ++ rest)
-  starts_fit known g s _ _ ys rest no_start k d new h = h s
-  starts_fit known g s _ _ ys rest (a_start {r = r} {rs = rs} {xs = xs} a b sh) k d new h =
-      let K : NetReg → Type 0 = λ r. (is_reg_name r.name && among known r.name) ≡ true in
-      fits known _ _ _ (All-head K r rs k) (is_new (λ r. r.name) s r rs new)
-      (starts_fit known g (r.name ∷ s) rs xs ys rest sh (All-tail K r rs k) d.1 (new_more (λ r. r.name) r rs s d new) h)
-
   words_fit : (known : List (List ℕ)) (d : Driven) (n : List ℕ) (w i : ℕ) (us : List ℕ) (xs ys : List Init) (rest : List Occurrence) → ShowsWords n w i us xs → (is_file_name n && among known n) ≡ true → among d.filled n ≡ true
       → Good known d (inits_names ys ++ rest) → Good known d (inits_names (xs ++ ys) ++ rest)
   words_fit known d n w i _ _ ys rest no_words e f h = h
@@ -253,10 +233,10 @@ module _ (resets : Bool) (all : Driven) where
       (words_fit known (state g s (x.name ∷ f) [] [] []) x.name x.width 0 x.words xs ys rest sh file (or_left _ _ (same_refl x.name))
       (fills_fit known g s (x.name ∷ f) fs ys rest next (All-tail K x fs k) d.1 (new_more (λ f. f.name) x fs f d new) (λ l. i) h)))))))
 
-  values_fit : (known g s f r : List (List ℕ)) (inits : List Init) (rs : List NetReg) (xs : List ResetValue) (rest : List Occurrence) → ShowsValues rs xs → RegsKnown known rs → Differ (map (λ r. r.name) rs) → AllNew (λ r. r.name) r rs
+  values_fit : (known g s f r : List (List ℕ)) (inits : List Init) (rs : List NetReg) (xs : List ResetValue) (rest : List Occurrence) → ShowsEach reset_value rs xs → RegsKnown known rs → Differ (map (λ r. r.name) rs) → AllNew (λ r. r.name) r rs
       → All (λ r. start_in inits r.name ≡ Some (literal_for r.start)) rs → ((r' : List (List ℕ)) → Good known (state g s f r' [] []) rest) → Good known (state g s f r [] []) (values_names inits xs ++ rest)
-  values_fit known g s f r inits _ _ rest no_value k d new a h = h r
-  values_fit known g s f r inits _ _ rest (a_value {r = x} {rs = rs} {xs = xs} b c sh) k d new a h =
+  values_fit known g s f r inits _ _ rest none_shown k d new a h = h r
+  values_fit known g s f r inits _ _ rest (one_shown {x = x} {xs = rs} {ys = xs} p sh) k d new a h =
       let K : NetReg → Type 0 = λ r. (is_reg_name r.name && among known r.name) ≡ true in
       let S : NetReg → Type 0 = λ r. start_in inits r.name ≡ Some (literal_for r.start) in
       fits known _ _ _ (All-head K x rs k) (is_new (λ r. r.name) r x rs new)
@@ -274,14 +254,6 @@ module _ (resets : Bool) (all : Driven) where
       (given : (i : ℕ) → i < length net.nodes → among g (wire_name i) ≡ true) where
     node_used : (u w : List (List ℕ)) (a : NodeId) (at : ℕ) (os : List Occurrence) → a.0 < length net.nodes → Good known (state g s f r u w) os → Good known (state g s f r u w) (occurs uses_wire (named_at (wire a) at) ∷ os)
     node_used u w a at os l h = used known (state g s f r u w) a at os (omega arith) (old a.0 l) (given a.0 l) h
-
-    updates_fit : (u : List (List ℕ)) (rs : List NetReg) (xs ys : List Update) → ShowsUpdates rs xs → All (RegOk net.nodes) rs → RegsKnown known rs → Differ (map (λ r. r.name) rs) → AllNew (λ r. r.name) u rs
-        → ((u' : List (List ℕ)) → Good known (state g s f r u' []) (updates_names ys)) → Good known (state g s f r u []) (updates_names (xs ++ ys))
-    updates_fit u _ _ ys no_update ok k d new h = h u
-    updates_fit u _ _ ys (an_update {r = x} {rs = rs} {xs = xs} b c sh) ok k d new h =
-        let K : NetReg → Type 0 = λ r. (is_reg_name r.name && among known r.name) ≡ true in
-        fits known _ _ _ (All-head K x rs k) (is_new (λ r. r.name) u x rs new) (node_used (x.name ∷ u) [] x.next c _ (All-head (RegOk net.nodes) x rs ok).next.0
-        (updates_fit (x.name ∷ u) rs xs ys sh (All-tail (RegOk net.nodes) x rs ok) (All-tail K x rs k) d.1 (new_more (λ r. r.name) x rs u d new) h))
 
     writes_fit : (u w : List (List ℕ)) (fs : List NetFile) (xs : List Update) → ShowsWrites fs xs → All (FileOk net.nodes) fs → FilesKnown known fs → Differ (map (λ f. f.name) fs) → AllNew (λ f. f.name) w fs
         → Good known (state g s f r u w) (updates_names xs)
@@ -316,7 +288,8 @@ module _ (resets : Bool) (all : Driven) where
   outs_fit net s known g k named kn =
       let p = net.parts in
       let few = k.count in
-      let found = starts_found start_in (λ w. Some (literal_for w)) (λ r a b xs n. refl) p.regs s.start_part s.fill_part s.shows_starts named.regs_differ in
+      let found = found_each reg_start (λ r. r.name) start_in (λ r. Some (literal_for r.start)) (λ r p zs n. refl) p.regs s.start_part s.fill_part s.shows_starts named.regs_differ in
+      let rest : List Occurrence = occurs (uses_port (codes "clk")) (module_of s).clock ∷ (reset_names (module_of s).inits s.resets ++ updates_names (module_of s).updates) in
       let g1 = codes "full" ∷ g in let g2 = codes "ue" ∷ g1 in let g3 = codes "back" ∷ g2 in
       let given = kn.wires_given.old in
       let old : (i : ℕ) → i < length net.nodes → among g3 (wire_name i) ≡ true = λ i l. keeps_more g2 (codes "back") (wire_name i) (keeps_more g1 (codes "ue") (wire_name i) (keeps_more g (codes "full") (wire_name i) (given i l))) in
@@ -326,11 +299,14 @@ module _ (resets : Bool) (all : Driven) where
       (fits known _ _ _ refl (not_from_false (among g1 (codes "ue")) (or_from (same (codes "ue") (codes "full")) _ refl kn.ue)) (out g1 p.ue (s.q 3) _ k.parts.ue (keeps_more g (codes "full") (wire p.ue) (given p.ue.0 k.parts.ue)) (fits known _ _ _ refl refl
       (fits known _ _ _ refl (not_from_false (among g2 (codes "back")) (or_from (same (codes "back") (codes "ue")) _ refl (or_from (same (codes "back") (codes "full")) _ refl kn.back)))
       (out g2 p.back (s.q 5) _ k.parts.back (keeps_more g1 (codes "ue") (wire p.back) (keeps_more g (codes "full") (wire p.back) (given p.back.0 k.parts.back))) (fits known _ _ _ refl refl
-      (starts_fit known g3 [] p.regs s.start_part s.fill_part _ s.shows_starts kn.regs named.regs_differ (λ i d l. refl) (λ s'.
+      (fit_each reg_start (λ r. r.name) 1114 (λ xs. inits_names xs ++ rest) (λ s os. Good known (state g3 s [] [] [] []) os) (λ r. (is_reg_name r.name && among known r.name) ≡ true) (λ r p zs s k new h. fits known _ _ _ k new h)
+      p.regs s.start_part s.fill_part [] s.shows_starts kn.regs (regs_tagged net named) named.regs_differ (λ i d l. refl) (λ s' _.
       fills_fit known g3 s' [] p.files s.fill_part _ s.shows_fills kn.files named.files_differ (λ i d l. refl) kn.integer (λ f'.
       fits known _ _ _ kn.clk refl
       (reset_fit known g3 s' f' (s.start_part ++ s.fill_part) p.regs p.reset s.rst s.resets _ s.reset kn.rst kn.regs named.regs_differ found (λ r'.
-      updates_fit net known g3 s' f' r' few kn.wires.old old [] p.regs s.update_part s.write_part s.shows_updates k.parts.regs kn.regs named.regs_differ (λ i d l. refl) (λ u'.
+      fit_each reg_update (λ r. r.name) 1114 updates_names (λ u os. Good known (state g3 s' f' r' u []) os) (λ r. RegOk net.nodes r × ((is_reg_name r.name && among known r.name) ≡ true))
+      (λ r p zs u k new h. fits known _ _ _ k.1 new (node_used net known g3 s' f' r' few kn.wires.old old (r.name ∷ u) [] r.next (p 2) _ k.0.next.0 h))
+      p.regs s.update_part s.write_part [] s.shows_updates (λ i d l. (k.parts.regs i d l, kn.regs i d l)) (regs_tagged net named) named.regs_differ (λ i d l. refl) (λ u' _.
       writes_fit net known g3 s' f' r' few kn.wires.old old u' [] p.files s.write_part s.shows_writes k.parts.files kn.files named.files_differ (λ i d l. refl)))))))))))))))
 
   all_fit : (net : Net) (s : Shown net) → NetOk net → IsNamed net → DrivesAll net resets all → Good [] nothing (names (module_of s))
@@ -348,7 +324,7 @@ module _ (resets : Bool) (all : Driven) where
       let base : (u : ℕ) → (u == 99) ≡ false → (u == 114) ≡ false → Free k1 u = λ u a b. free1 u b (free_more [] (codes "clk") 99 u refl a (λ x e. refl)) in
       fits k1 nothing _ _ (not_from_false (among k1 (codes "ext")) (base 101 refl refl (codes "ext") refl)) refl
       (subst (Good (codes "ext" ∷ k1) nothing) (sym (append_assoc (samples_names s.ports) ports rest))
-      (samples_fit p.samples s.ports (codes "ext" ∷ k1) nothing (ports ++ rest) s.samples samples named.samples_differ
+      (samples_fit p.samples s.ports (codes "ext" ∷ k1) nothing (ports ++ rest) s.samples samples (samples_tagged net named) named.samples_differ
       (all_new (λ (x : Port). x.name) p.samples 1115 (codes "ext" ∷ k1) (samples_tagged net named) (free_more k1 (codes "ext") 101 1115 refl refl (base 1115 refl refl))) (λ k2 g.
       let k3 = codes "full" ∷ k2 in let k4 = codes "ue" ∷ k3 in let k5 = codes "back" ∷ k4 in
       let free2 : (u : ℕ) → (u == 99) ≡ false → (u == 114) ≡ false → (u == 101) ≡ false → (u == 1115) ≡ false → Free k2 u = λ u a b c d. g.frees u d (free_more k1 (codes "ext") 101 u refl c (base u a b)) in
@@ -361,9 +337,13 @@ module _ (resets : Bool) (all : Driven) where
       free_more k4 (codes "back") 98 u refl h (free_more k3 (codes "ue") 117 u refl f (free_more k2 (codes "full") 102 u refl e (free2 u a b c d))) in
       let keep2 : (n : List ℕ) → among k2 n ≡ true → among k5 n ≡ true = λ n e. keeps_more k4 (codes "back") n (keeps_more k3 (codes "ue") n (keeps_more k2 (codes "full") n e)) in
       let keep1' : (n : List ℕ) → among k1 n ≡ true → among k5 n ≡ true = λ n e. keep2 n (g.keeps n (keeps_more k1 (codes "ext") n e)) in
-      regs_fit p.regs s.regs (s.files ++ (s.integer ++ (s.nodes ++ outs s))) k5 nothing (body_names w) s.shows_regs regs driven.regs named.regs_differ
+      fit_each reg_item (λ r. r.name) 1114 (λ xs. items_names xs ++ body_names w) (λ l os. Good l nothing os) (λ r. (is_reg_name r.name ≡ true) × (driver_fits resets all nothing declares_reg r.name ≡ true))
+      (λ r p zs l k new h. fits l nothing _ _ (and_from (is_reg_name r.name) _ k.0 new) k.1 h)
+      p.regs s.regs (s.files ++ (s.integer ++ (s.nodes ++ outs s))) k5 s.shows_regs (λ i d l. (regs i d l, driven.regs i d l)) (regs_tagged net named) named.regs_differ
       (all_new (λ (x : NetReg). x.name) p.regs 1114 k5 (regs_tagged net named) (free5 1114 refl refl refl refl refl refl refl)) (λ k6 g6.
-      files_fit p.files s.files (s.integer ++ (s.nodes ++ outs s)) k6 nothing (body_names w) s.shows_files files driven.filled named.files_differ
+      fit_each file_item (λ f. f.name) 1102 (λ xs. items_names xs ++ body_names w) (λ l os. Good l nothing os) (λ f. (is_file_name f.name ≡ true) × (among all.filled f.name ≡ true))
+      (λ f p zs l k new h. fits l nothing _ _ (and_from (is_file_name f.name) _ k.0 new) k.1 h)
+      p.files s.files (s.integer ++ (s.nodes ++ outs s)) k6 s.shows_files (λ i d l. (files i d l, driven.filled i d l)) (files_tagged net named) named.files_differ
       (all_new (λ (x : NetFile). x.name) p.files 1102 k6 (files_tagged net named) (g6.frees 1102 refl (free5 1102 refl refl refl refl refl refl refl))) (λ k7 g7.
       integer_fits k7 nothing p.files s.integer (s.nodes ++ outs s) (body_names w) s.shows_integer
       (g7.frees 105 refl (g6.frees 105 refl (free5 105 refl refl refl refl refl refl refl)) (codes "i") refl) (λ k8 int keep8 free8.

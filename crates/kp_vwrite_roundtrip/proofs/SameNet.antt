@@ -14,7 +14,7 @@ use Rattle.kp_vlog.proofs.Tests.{same_refl}
 use Rattle.kp_vlog.specs.declared.tree.Item.TheVariants as lines
 use Rattle.kp_vlog.specs.declared.tree.Init.TheVariants as starts
 use Rattle.kp_vlog.specs.declared.tree.Update.TheVariants as edges
-use Rattle.kp_vwrite_roundtrip.proofs.Sentence.{named_at, fill_at, write_at, ShowsSamples, no_sample, one_sample, ShowsRegs, no_reg_line, reg_line, ShowsFiles, no_file_line, file_line, ShowsInteger, no_integer, an_integer, ShowsNodes, no_node_line, node_line, ShowsStarts, no_start, a_start, ShowsWords, no_words, zero_word, some_word, ShowsFills, no_fill, a_fill, ShowsUpdates, no_update, an_update, ShowsWrites, no_write, not_written, a_write}
+use Rattle.kp_vwrite_roundtrip.proofs.Sentence.{ShowsEach, none_shown, one_shown, sample_port, named_at, fill_at, write_at, ShowsInteger, no_integer, an_integer, ShowsNodes, no_node_line, node_line, ShowsWords, no_words, zero_word, some_word, ShowsFills, no_fill, a_fill, ShowsWrites, no_write, not_written, a_write}
 use Rattle.kp_vwrite_roundtrip.proofs.Distinct.{apart, tag, tag_reg, tag_file, tag_sample, wires_differ, apart_all, or_rest}
 use Rattle.kp_vwrite_roundtrip.proofs.{Written.RightFrom, Runs.literal_for}
 use Rattle.kp_bits.specs.Word.{Word}
@@ -76,41 +76,7 @@ words_are _ _ (a_fill {f = f} {fs = fs} {xs = xs} {ys = ys} p h k) d =
     ∙ ap (λ us. fold (word_init (length g.words) g.name) us ys) (words_skipped g.name f.name f.width 0 (length g.words) f.words xs ws h (others i e l))
     ∙ rest i e l ws)
 
--- the start values of registers don't affect files
-pub starts_skipped : (n : List ℕ) (count : ℕ) (rs : List NetReg) (xs : List Init) (ws : List ℕ) → ShowsStarts rs xs → fold (word_init count n) ws xs ≡ ws
-starts_skipped n count _ _ ws no_start = refl
-starts_skipped n count _ _ ws (a_start {rs = rs} {xs = xs} a b h) = starts_skipped n count rs xs ws h
-
--- Registers.
-
--- what a look-up finds for each register, if it finds a register's line by its name
-pub starts_found : {V : Type 0} (in_starts : List Init → List ℕ → V) (value : Word → V)
-    → ((r : NetReg) (a b : ℕ) (xs : List Init) (n : List ℕ) → in_starts (starts.Reg (named_at r.name a) (record { literal = literal_for r.start; at = b }) ∷ xs) n ≡ (if same n r.name then value r.start else in_starts xs n))
-    → (rs : List NetReg) (xs rest : List Init) → ShowsStarts rs xs → Differ (map (λ r. r.name) rs) → All (λ r. in_starts (xs ++ rest) r.name ≡ value r.start) rs
-starts_found in_starts value first _ _ rest no_start d = All-nil (λ r. in_starts rest r.name ≡ value r.start)
-starts_found in_starts value first _ _ rest (a_start {r = r} {rs = rs} {xs = xs} a b h) d =
-    All-cons (λ z. in_starts (starts.Reg (named_at r.name a) (record { literal = literal_for r.start; at = b }) ∷ (xs ++ rest)) z.name ≡ value z.start) r rs
-    (first r a b (xs ++ rest) r.name ∙ cond-true (same r.name r.name) (value r.start) (in_starts (xs ++ rest) r.name) (same_refl r.name))
-    (λ i e l. let n = (get_or rs i e).name in
-    first r a b (xs ++ rest) n ∙ cond-false (same n r.name) (value r.start) (in_starts (xs ++ rest) n) (apart_all (λ r. r.name) r.name rs d.0 i e l) ∙ starts_found in_starts value first rs xs rest h d.1 i e l)
-
-abbrev pub HasNext : List (List ℕ) → List Update → NetReg → Type 0
-HasNext wires xs r = (rest : List Update) → next_of wires (xs ++ rest) r.name ≡ record { 0 = place_of wires (wire r.next) }
-
-pub nexts_are : (wires : List (List ℕ)) (rs : List NetReg) (xs : List Update) → ShowsUpdates rs xs → Differ (map (λ r. r.name) rs) → All (HasNext wires xs) rs
-nexts_are wires _ _ no_update d = All-nil (HasNext wires [])
-nexts_are wires _ _ (an_update {r = r} {rs = rs} {xs = xs} a b h) d =
-    let rest = nexts_are wires rs xs h d.1 in
-    let others = apart_all (λ r. r.name) r.name rs d.0 in
-    let entire = edges.Reg (named_at r.name a) (named_at (wire r.next) b) ∷ xs in
-    All-cons (HasNext wires entire) r rs (λ more. cond-true (same r.name r.name) (node_of wires (named_at (wire r.next) b)) (next_of wires (xs ++ more) r.name) (same_refl r.name))
-    (λ i e l more. let g = get_or rs i e in cond-false (same g.name r.name) (node_of wires (named_at (wire r.next) b)) (next_of wires (xs ++ more) g.name) (others i e l) ∙ rest i e l more)
-
 -- Write ports.
-
-pub updates_skipped : (wires : List (List ℕ)) (n : List ℕ) (rs : List NetReg) (us ws : List Update) → ShowsUpdates rs us → port_of wires (us ++ ws) n ≡ port_of wires ws n
-updates_skipped wires n _ _ ws no_update = refl
-updates_skipped wires n _ _ ws (an_update {rs = rs} {xs = xs} a b h) = updates_skipped wires n rs xs ws h
 
 abbrev pub port_in : List (List ℕ) → WritePort → WritePort
 port_in wires w = record { enable = record { 0 = place_of wires (wire w.enable) }; address = record { 0 = place_of wires (wire w.address) }; value = record { 0 = place_of wires (wire w.value) } }
@@ -176,7 +142,7 @@ found_here s ss n e = cond-true (same n s.name) s (found ss n) e
 no_zero : (a : ℕ) → 1 ≤ a → (a == 0) ≡ false
 no_zero a h = false_from_ne_true (a == 0) (λ e. let z : a ≡ 0 = eqb-true a 0 e in omega arith)
 
-address_is : (a : ℕ) → 1 ≤ a → a ≤ 16 → or_zero (address_width (2 ^ a - 1)) ≡ a
+pub address_is : (a : ℕ) → 1 ≤ a → a ≤ 16 → or_zero (address_width (2 ^ a - 1)) ≡ a
 address_is a low high =
     eqb-true (or_zero (address_width (2 ^ a - 1))) a
     (or_rest (a == 0) _ (agree_below_at (λ k. (k == 0) || (or_zero (address_width (2 ^ k - 1)) == k)) (λ _. true) 17 a refl (omega arith)) (no_zero a low))
@@ -194,22 +160,10 @@ file_sized f = sized f.name f.width f.address_width
 pub range_back : (w : ℕ) → 1 ≤ w → w - 1 + 1 ≡ w
 range_back w h = omega arith
 
-pub samples_sized : (ss : List Port) (xs : List VPort) → ShowsSamples ss xs → All PortOk ss → map port_size xs ≡ map port_sized ss
-samples_sized _ _ no_sample k = refl
-samples_sized _ _ (one_sample {s = s} {ss = ss} {xs = xs} a b c h) k =
+pub samples_sized : (ss : List Port) (xs : List VPort) → ShowsEach sample_port ss xs → All PortOk ss → map port_size xs ≡ map port_sized ss
+samples_sized _ _ none_shown k = refl
+samples_sized _ _ (one_shown {x = s} {xs = ss} {ys = xs} p h) k =
     let w = range_back s.width (All-head PortOk s ss k).positive in let rest = samples_sized ss xs h (All-tail PortOk s ss k) in λ i. sized s.name (w i) 0 ∷ rest i
-
-pub regs_sized : (ns : List Node) (rs : List NetReg) (xs ys : List Item) → ShowsRegs rs xs → All (RegOk ns) rs → item_sizes (xs ++ ys) ≡ map reg_sized rs ++ item_sizes ys
-regs_sized ns _ _ ys no_reg_line k = refl
-regs_sized ns _ _ ys (reg_line {r = r} {rs = rs} {xs = xs} a b c h) k =
-    let w = range_back r.start.width (All-head (RegOk ns) r rs k).start.positive in let rest = regs_sized ns rs xs ys h (All-tail (RegOk ns) r rs k) in λ i. sized r.name (w i) 0 ∷ rest i
-
-pub files_sized : (ns : List Node) (fs : List NetFile) (xs ys : List Item) → ShowsFiles fs xs → All (FileOk ns) fs → item_sizes (xs ++ ys) ≡ map file_sized fs ++ item_sizes ys
-files_sized ns _ _ ys no_file_line k = refl
-files_sized ns _ _ ys (file_line {f = f} {fs = fs} {xs = xs} a b c d e h) k =
-    let file = All-head (FileOk ns) f fs k in
-    let w = range_back f.width file.positive in let z = address_is f.address_width file.addressed file.addressed_at_most in
-    let rest = files_sized ns fs xs ys h (All-tail (FileOk ns) f fs k) in λ i. sized f.name (w i) (z i) ∷ rest i
 
 -- A name of another kind is found after these; and each of names that differ is found.
 pub each_past : {X : Type 0} (size : X → Sized) (n : List ℕ) (t u : ℕ) (xs : List X) (rest : Sizes) → All (λ x. tag (size x).name ≡ u) xs → tag n ≡ t → (t == u) ≡ false → found (map size xs ++ rest) n ≡ found rest n

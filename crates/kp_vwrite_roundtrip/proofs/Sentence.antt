@@ -21,7 +21,7 @@ use Rattle.kp_vlog.specs.declared.tree.Item.TheVariants as lines
 use Rattle.kp_vlog.specs.declared.tree.Init.TheVariants as starts
 use Rattle.kp_vlog.specs.declared.tree.Update.TheVariants as edges
 use Rattle.kp_vlog.specs.Language as lang
-use Rattle.kp_vwrite_roundtrip.proofs.Words.{port_words, reset_words, sample_words, outs_words, reg_words, file_words, integer_words, sign_mark, more_words, joined_words, right_words, node_words, out_words, start_words, content_words, fill_words, update_words, write_words, writes_words, value_words, body_words, w1, w2, w3, w4, w5, w6, w7, w8, net_words}
+use Rattle.kp_vwrite_roundtrip.proofs.Words.{port_words, each_words, reset_words, sample_words, outs_words, reg_words, file_words, integer_words, sign_mark, more_words, joined_words, right_words, node_words, out_words, start_words, content_words, fill_words, update_words, write_words, writes_words, value_words, body_words, w1, w2, w3, w4, w5, w6, w7, w8, net_words}
 use Rattle.kp_vwrite_roundtrip.proofs.{Lex.placed, Runs.literal_for, Written.RightFrom}
 
 -- a supply of offsets further on
@@ -61,18 +61,28 @@ pub data ShowsRight (p : Parts) (k : ℕ) : Kind → Right → Type 0 where
   a_concat : {parts : List NodeId} {xs : List Named} → ShowsNames parts xs → ShowsRight p k (kinds.Concat parts) (sides.Concat xs)
   a_slice : {n : NodeId} {hi lo : ℕ} (a b c : ℕ) → ShowsRight p k (kinds.Slice n hi lo) (sides.Slice (named_at (wire n) a) (number_at hi b) (number_at lo c))
 
-pub data ShowsSamples : List Port → List VPort → Type 0 where
-  no_sample : ShowsSamples [] []
-  one_sample : {s : Port} {ss : List Port} {xs : List VPort} (a b c : ℕ) → ShowsSamples ss xs → ShowsSamples (s ∷ ss) (port_at s.width s.name a b c ∷ xs)
+-- each part is represented by what `make` makes of it, at some offsets
+pub data ShowsEach {X Y : Type 0} (make : X → (ℕ → ℕ) → Y) : List X → List Y → Type 0 where
+  none_shown : ShowsEach make [] []
+  one_shown : {x : X} {xs : List X} {ys : List Y} (p : ℕ → ℕ) → ShowsEach make xs ys → ShowsEach make (x ∷ xs) (make x p ∷ ys)
 
-pub data ShowsRegs : List NetReg → List Item → Type 0 where
-  no_reg_line : ShowsRegs [] []
-  reg_line : {r : NetReg} {rs : List NetReg} {xs : List Item} (a b c : ℕ) → ShowsRegs rs xs → ShowsRegs (r ∷ rs) (lines.Reg (range_at r.start.width a b) (named_at r.name c) ∷ xs)
+abbrev pub sample_port : Port → (ℕ → ℕ) → VPort
+sample_port s p = port_at s.width s.name (p 3) (p 5) (p 7)
 
-pub data ShowsFiles : List NetFile → List Item → Type 0 where
-  no_file_line : ShowsFiles [] []
-  file_line : {f : NetFile} {fs : List NetFile} {xs : List Item} (a b c d e : ℕ) → ShowsFiles fs xs
-      → ShowsFiles (f ∷ fs) (lines.File (range_at f.width a b) (named_at f.name c) (record { high = number_at 0 d; low = number_at (2 ^ f.address_width - 1) e }) ∷ xs)
+abbrev pub reg_item : NetReg → (ℕ → ℕ) → Item
+reg_item r p = lines.Reg (range_at r.start.width (p 2) (p 4)) (named_at r.name (p 6))
+
+abbrev pub file_item : NetFile → (ℕ → ℕ) → Item
+file_item f p = lines.File (range_at f.width (p 2) (p 4)) (named_at f.name (p 6)) (record { high = number_at 0 (p 8); low = number_at (2 ^ f.address_width - 1) (p 10) })
+
+abbrev pub reg_start : NetReg → (ℕ → ℕ) → Init
+reg_start r p = starts.Reg (named_at r.name (p 0)) (record { literal = literal_for r.start; at = p 2 })
+
+abbrev pub reset_value : NetReg → (ℕ → ℕ) → ResetValue
+reset_value r p = record { name = named_at r.name (p 0); value = record { literal = literal_for r.start; at = p 2 } }
+
+abbrev pub reg_update : NetReg → (ℕ → ℕ) → Update
+reg_update r p = edges.Reg (named_at r.name (p 0)) (named_at (wire r.next) (p 2))
 
 pub data ShowsInteger : List NetFile → List Item → Type 0 where
   no_integer : ShowsInteger [] []
@@ -85,10 +95,6 @@ pub data ShowsNodes (p : Parts) : ℕ → List Node → List Item → Type 0 whe
 
 abbrev pub out_at : List ℕ → NodeId → ℕ → ℕ → Item
 out_at out n a b = lines.Assign (named_at out a) (sides.Name (named_at (wire n) b))
-
-pub data ShowsStarts : List NetReg → List Init → Type 0 where
-  no_start : ShowsStarts [] []
-  a_start : {r : NetReg} {rs : List NetReg} {xs : List Init} (a b : ℕ) → ShowsStarts rs xs → ShowsStarts (r ∷ rs) (starts.Reg (named_at r.name a) (record { literal = literal_for r.start; at = b }) ∷ xs)
 
 -- the words from an address on that are not 0
 pub data ShowsWords (n : List ℕ) (w : ℕ) : ℕ → List ℕ → List Init → Type 0 where
@@ -115,15 +121,6 @@ pub data ShowsFills : List NetFile → List Init → Type 0 where
   no_fill : ShowsFills [] []
   a_fill : {f : NetFile} {fs : List NetFile} {xs ys : List Init} (p : ℕ → ℕ) → ShowsWords f.name f.width 0 f.words xs → ShowsFills fs ys → ShowsFills (f ∷ fs) (starts.Fill (fill_at f p) ∷ (xs ++ ys))
 
-pub data ShowsValues : List NetReg → List ResetValue → Type 0 where
-  no_value : ShowsValues [] []
-  a_value : {r : NetReg} {rs : List NetReg} {xs : List ResetValue} (a b : ℕ) → ShowsValues rs xs
-      → ShowsValues (r ∷ rs) (record { name = named_at r.name a; value = record { literal = literal_for r.start; at = b } } ∷ xs)
-
-pub data ShowsUpdates : List NetReg → List Update → Type 0 where
-  no_update : ShowsUpdates [] []
-  an_update : {r : NetReg} {rs : List NetReg} {xs : List Update} (a b : ℕ) → ShowsUpdates rs xs → ShowsUpdates (r ∷ rs) (edges.Reg (named_at r.name a) (named_at (wire r.next) b) ∷ xs)
-
 abbrev pub write_at : List ℕ → WritePort → (ℕ → ℕ) → Update
 write_at n w p = edges.File (named_at (wire w.enable) (p 2)) (named_at n (p 4)) (named_at (wire w.address) (p 6)) (named_at (wire w.value) (p 9))
 
@@ -135,7 +132,7 @@ pub data ShowsWrites : List NetFile → List Update → Type 0 where
 -- the reset port and the reset list
 pub data ShowsReset (rs : List NetReg) : Bool → Option Named → Option ResetList → Type 0 where
   no_reset_shown : ShowsReset rs false None None
-  reset_shown : {xs : List ResetValue} (a b : ℕ) → ShowsValues rs xs → ShowsReset rs true (Some (named_at (codes "rst") a)) (Some (record { reset = named_at (codes "rst") b; values = xs }))
+  reset_shown : {xs : List ResetValue} (a b : ℕ) → ShowsEach reset_value rs xs → ShowsReset rs true (Some (named_at (codes "rst") a)) (Some (record { reset = named_at (codes "rst") b; values = xs }))
 
 pub data IsReset : Bool → Option Named → Type 0 where
   no_reset_port : IsReset false None
@@ -147,24 +144,24 @@ pub record Shown (net : Net) : Type 0 where
   pub q : ℕ → ℕ
   pub rst : Option Named
   pub ports : List VPort
-  pub samples : ShowsSamples net.parts.samples ports
+  pub samples : ShowsEach sample_port net.parts.samples ports
   pub regs : List Item
   pub files : List Item
   pub integer : List Item
   pub nodes : List Item
-  pub shows_regs : ShowsRegs net.parts.regs regs
-  pub shows_files : ShowsFiles net.parts.files files
+  pub shows_regs : ShowsEach reg_item net.parts.regs regs
+  pub shows_files : ShowsEach file_item net.parts.files files
   pub shows_integer : ShowsInteger net.parts.files integer
   pub shows_nodes : ShowsNodes net.parts 0 net.nodes nodes
   pub start_part : List Init
   pub fill_part : List Init
-  pub shows_starts : ShowsStarts net.parts.regs start_part
+  pub shows_starts : ShowsEach reg_start net.parts.regs start_part
   pub shows_fills : ShowsFills net.parts.files fill_part
   pub resets : Option ResetList
   pub reset : ShowsReset net.parts.regs net.parts.reset rst resets
   pub update_part : List Update
   pub write_part : List Update
-  pub shows_updates : ShowsUpdates net.parts.regs update_part
+  pub shows_updates : ShowsEach reg_update net.parts.regs update_part
   pub shows_writes : ShowsWrites net.parts.files write_part
 
 abbrev pub outs : {net : Net} → Shown net → List Item
@@ -198,6 +195,18 @@ Built P vs = (m : VModule) × (vs ≡ lang.whole m ∷ []) × P m
 
 abbrev N : ℕ → Sym
 N n = Nonterminal n
+
+-- Parts of one kind are read, after what is there: each takes n tokens.
+abbrev ReadsEach : {X Y : Type 0} → (X → (ℕ → ℕ) → Y) → (X → List Word → List Word) → (List Word → (ℕ → ℕ) → List Y → Type 0) → Type 0
+ReadsEach {X} {Y} make words At =
+    (xs : List X) (p : ℕ → ℕ) (ws : List Word) (before : List Y) → ((p' : ℕ → ℕ) (ys : List Y) → ShowsEach make xs ys → At ws p' (before ++ ys)) → At (each_words words xs ws) p before
+
+each_read : {X Y : Type 0} (make : X → (ℕ → ℕ) → Y) (words : X → List Word → List Word) (At : List Word → (ℕ → ℕ) → List Y → Type 0) (n : ℕ)
+    → ((x : X) (p : ℕ → ℕ) (ws : List Word) (before : List Y) → At ws (shift n p) (before ++ make x p ∷ []) → At (words x ws) p before) → ReadsEach make words At
+each_read make words At n one [] p ws before d = subst (At ws p) (append-nil before) (d p [] none_shown)
+each_read make words At n one (x ∷ xs) p ws before d =
+    one x p (each_words words xs ws) before (each_read make words At n one xs (shift n p) ws (before ++ make x p ∷ [])
+    (λ p' ys h. subst (At ws p') (sym (append_assoc before (make x p ∷ []) ys)) (d p' (make x p ∷ ys) (one_shown p h))))
 
 module _ (P : VModule → Type 0) where
   abbrev pub Reads : List Sym → List Value → List Token → Type 0
@@ -296,21 +305,11 @@ module _ (P : VModule → Type 0) where
       (λ p' xs h. subst (Items s vs ws p') (sym (append_assoc (before ++ x ∷ []) (y ∷ []) xs ∙ append_assoc before (x ∷ []) (y ∷ xs)))
       (d p' (x ∷ y ∷ xs) (node_line (p 2) (p 4) (p 6) (p 9) shows h))))))
 
-  regs_read : (rs : List NetReg) (p : ℕ → ℕ) (s : List Sym) (vs : List Value) (ws : List Word) (before : List Item)
-      → ((p' : ℕ → ℕ) (xs : List Item) → ShowsRegs rs xs → Items s vs ws p' (before ++ xs)) → Items s vs (reg_words rs ws) p before
-  regs_read [] p s vs ws before d = subst (Items s vs ws p) (append-nil before) (d p [] no_reg_line)
-  regs_read (r ∷ rs) p s vs ws before d =
-      let x = lines.Reg (range_at r.start.width (p 2) (p 4)) (named_at r.name (p 6)) in
-      goes 15 (regs_read rs (shift 8 p) s vs ws (before ++ x ∷ [])
-      (λ p' xs h. subst (Items s vs ws p') (sym (append_assoc before (x ∷ []) xs)) (d p' (x ∷ xs) (reg_line (p 2) (p 4) (p 6) h))))
+  regs_read : (s : List Sym) (vs : List Value) → ReadsEach reg_item reg_words (Items s vs)
+  regs_read s vs = each_read reg_item reg_words (Items s vs) 8 (λ r p ws before d. goes 15 d)
 
-  files_read : (fs : List NetFile) (p : ℕ → ℕ) (s : List Sym) (vs : List Value) (ws : List Word) (before : List Item)
-      → ((p' : ℕ → ℕ) (xs : List Item) → ShowsFiles fs xs → Items s vs ws p' (before ++ xs)) → Items s vs (file_words fs ws) p before
-  files_read [] p s vs ws before d = subst (Items s vs ws p) (append-nil before) (d p [] no_file_line)
-  files_read (f ∷ fs) p s vs ws before d =
-      let x = lines.File (range_at f.width (p 2) (p 4)) (named_at f.name (p 6)) (record { high = number_at 0 (p 8); low = number_at (2 ^ f.address_width - 1) (p 10) }) in
-      goes 22 (files_read fs (shift 13 p) s vs ws (before ++ x ∷ [])
-      (λ p' xs h. subst (Items s vs ws p') (sym (append_assoc before (x ∷ []) xs)) (d p' (x ∷ xs) (file_line (p 2) (p 4) (p 6) (p 8) (p 10) h))))
+  files_read : (s : List Sym) (vs : List Value) → ReadsEach file_item file_words (Items s vs)
+  files_read s vs = each_read file_item file_words (Items s vs) 13 (λ f p ws before d. goes 22 d)
 
   integer_reads : (fs : List NetFile) (p : ℕ → ℕ) (s : List Sym) (vs : List Value) (ws : List Word) (before : List Item)
       → ((p' : ℕ → ℕ) (xs : List Item) → ShowsInteger fs xs → Items s vs ws p' (before ++ xs)) → Items s vs (integer_words fs ws) p before
@@ -321,25 +320,17 @@ module _ (P : VModule → Type 0) where
       → Items s vs ws (shift 5 p) (before ++ out_at out a (p 1) (p 3) ∷ []) → Items s vs (out_words out a ws) p before
   out_reads out a p s vs ws before d = goes 12 d
 
-  samples_read : (ss : List Port) (p : ℕ → ℕ) (s : List Sym) (vs : List Value) (ws : List Word) (before : List VPort)
-      → ((p' : ℕ → ℕ) (xs : List VPort) → ShowsSamples ss xs → Reads (N SAMPLES ∷ s) (lang.ports (before ++ xs) ∷ vs) (placed p' ws))
-      → Reads (N SAMPLES ∷ s) (lang.ports before ∷ vs) (placed p (sample_words ss ws))
-  samples_read [] p s vs ws before d = subst (λ (xs : List VPort). Reads (N SAMPLES ∷ s) (lang.ports xs ∷ vs) (placed p ws)) (append-nil before) (d p [] no_sample)
-  samples_read (x ∷ ss) p s vs ws before d =
-      let y = port_at x.width x.name (p 3) (p 5) (p 7) in
-      goes 16 (samples_read ss (shift 9 p) s vs ws (before ++ y ∷ [])
-      (λ p' xs h. subst (λ (zs : List VPort). Reads (N SAMPLES ∷ s) (lang.ports zs ∷ vs) (placed p' ws)) (sym (append_assoc before (y ∷ []) xs)) (d p' (y ∷ xs) (one_sample (p 3) (p 5) (p 7) h))))
+  abbrev Samples : List Sym → List Value → List Word → (ℕ → ℕ) → List VPort → Type 0
+  Samples s vs ws p xs = Reads (N SAMPLES ∷ s) (lang.ports xs ∷ vs) (placed p ws)
+
+  samples_read : (s : List Sym) (vs : List Value) → ReadsEach sample_port sample_words (Samples s vs)
+  samples_read s vs = each_read sample_port sample_words (Samples s vs) 9 (λ x p ws before d. goes 16 d)
 
   abbrev Inits : List Sym → List Value → List Word → (ℕ → ℕ) → List Init → Type 0
   Inits s vs ws p xs = Reads (N INITS ∷ s) (lang.inits xs ∷ vs) (placed p ws)
 
-  starts_read : (rs : List NetReg) (p : ℕ → ℕ) (s : List Sym) (vs : List Value) (ws : List Word) (before : List Init)
-      → ((p' : ℕ → ℕ) (xs : List Init) → ShowsStarts rs xs → Inits s vs ws p' (before ++ xs)) → Inits s vs (start_words rs ws) p before
-  starts_read [] p s vs ws before d = subst (Inits s vs ws p) (append-nil before) (d p [] no_start)
-  starts_read (r ∷ rs) p s vs ws before d =
-      let x = starts.Reg (named_at r.name (p 0)) (record { literal = literal_for r.start; at = p 2 }) in
-      goes 9 (starts_read rs (shift 4 p) s vs ws (before ++ x ∷ [])
-      (λ p' xs h. subst (Inits s vs ws p') (sym (append_assoc before (x ∷ []) xs)) (d p' (x ∷ xs) (a_start (p 0) (p 2) h))))
+  starts_read : (s : List Sym) (vs : List Value) → ReadsEach reg_start start_words (Inits s vs)
+  starts_read s vs = each_read reg_start start_words (Inits s vs) 4 (λ r p ws before d. goes 9 d)
 
   word_reads : (n : List ℕ) (w i u : ℕ) (us : List ℕ) (t : Bool) → (u == 0) ≡ t → (p : ℕ → ℕ) (s : List Sym) (vs : List Value) (ws : List Word) (before : List Init)
       → ((q : ℕ → ℕ) (so_far : List Init) → ((p' : ℕ → ℕ) (xs : List Init) → ShowsWords n w (i + 1) us xs → Inits s vs ws p' (so_far ++ xs)) → Inits s vs (content_words n w (i + 1) us ws) q so_far)
@@ -365,25 +356,17 @@ module _ (P : VModule → Type 0) where
       fills_read fs p' s vs ws ((before ++ x ∷ []) ++ xs) (λ p'' ys k.
       subst (Inits s vs ws p'') (sym (append_assoc (before ++ x ∷ []) xs ys ∙ append_assoc before (x ∷ []) (xs ++ ys))) (d p'' (x ∷ (xs ++ ys)) (a_fill p h k)))))
 
-  values_read : (rs : List NetReg) (p : ℕ → ℕ) (s : List Sym) (vs : List Value) (ws : List Word) (before : List ResetValue)
-      → ((p' : ℕ → ℕ) (xs : List ResetValue) → ShowsValues rs xs → Reads (N VALUES ∷ s) (lang.values (before ++ xs) ∷ vs) (placed p' ws))
-      → Reads (N VALUES ∷ s) (lang.values before ∷ vs) (placed p (value_words rs ws))
-  values_read [] p s vs ws before d = subst (λ (xs : List ResetValue). Reads (N VALUES ∷ s) (lang.values xs ∷ vs) (placed p ws)) (append-nil before) (d p [] no_value)
-  values_read (r ∷ rs) p s vs ws before d =
-      let x : ResetValue = record { name = named_at r.name (p 0); value = record { literal = literal_for r.start; at = p 2 } } in
-      goes 6 (values_read rs (shift 4 p) s vs ws (before ++ x ∷ [])
-      (λ p' xs h. subst (λ (zs : List ResetValue). Reads (N VALUES ∷ s) (lang.values zs ∷ vs) (placed p' ws)) (sym (append_assoc before (x ∷ []) xs)) (d p' (x ∷ xs) (a_value (p 0) (p 2) h))))
+  abbrev Values : List Sym → List Value → List Word → (ℕ → ℕ) → List ResetValue → Type 0
+  Values s vs ws p xs = Reads (N VALUES ∷ s) (lang.values xs ∷ vs) (placed p ws)
+
+  values_read : (s : List Sym) (vs : List Value) → ReadsEach reset_value value_words (Values s vs)
+  values_read s vs = each_read reset_value value_words (Values s vs) 4 (λ r p ws before d. goes 6 d)
 
   abbrev Updates : List Sym → List Value → List Word → (ℕ → ℕ) → List Update → Type 0
   Updates s vs ws p xs = Reads (N UPDATES ∷ s) (lang.updates xs ∷ vs) (placed p ws)
 
-  updates_read : (rs : List NetReg) (p : ℕ → ℕ) (s : List Sym) (vs : List Value) (ws : List Word) (before : List Update)
-      → ((p' : ℕ → ℕ) (xs : List Update) → ShowsUpdates rs xs → Updates s vs ws p' (before ++ xs)) → Updates s vs (update_words rs ws) p before
-  updates_read [] p s vs ws before d = subst (Updates s vs ws p) (append-nil before) (d p [] no_update)
-  updates_read (r ∷ rs) p s vs ws before d =
-      let x = edges.Reg (named_at r.name (p 0)) (named_at (wire r.next) (p 2)) in
-      goes 8 (updates_read rs (shift 4 p) s vs ws (before ++ x ∷ [])
-      (λ p' xs h. subst (Updates s vs ws p') (sym (append_assoc before (x ∷ []) xs)) (d p' (x ∷ xs) (an_update (p 0) (p 2) h))))
+  updates_read : (s : List Sym) (vs : List Value) → ReadsEach reg_update update_words (Updates s vs)
+  updates_read s vs = each_read reg_update update_words (Updates s vs) 4 (λ r p ws before d. goes 8 d)
 
   write_reads : (f : NetFile) (fs : List NetFile) (o : Option WritePort) → f.port ≡ o → (p : ℕ → ℕ) (s : List Sym) (vs : List Value) (ws : List Word) (before : List Update)
       → ((q : ℕ → ℕ) (so_far : List Update) → ((p' : ℕ → ℕ) (xs : List Update) → ShowsWrites fs xs → Updates s vs ws p' (so_far ++ xs)) → Updates s vs (writes_words fs ws) q so_far)
@@ -404,15 +387,15 @@ module _ (P : VModule → Type 0) where
 
   -- All that is represented after `always`, on top of what was built before.
   abbrev pub Ends : Parts → List Value → Type 0
-  Ends pa vs = (p : ℕ → ℕ) (r : Option ResetList) (us xs : List Update) → ShowsUpdates pa.regs us → ShowsWrites pa.files xs
-      → ((pa.reset ≡ false) × (r ≡ None)) ⊎ ((pa.reset ≡ true) × (values : List ResetValue) × (at : ℕ) × ShowsValues pa.regs values × (r ≡ Some (record { reset = named_at (codes "rst") at; values = values })))
+  Ends pa vs = (p : ℕ → ℕ) (r : Option ResetList) (us xs : List Update) → ShowsEach reg_update pa.regs us → ShowsWrites pa.files xs
+      → ((pa.reset ≡ false) × (r ≡ None)) ⊎ ((pa.reset ≡ true) × (values : List ResetValue) × (at : ℕ) × ShowsEach reset_value pa.regs values × (r ≡ Some (record { reset = named_at (codes "rst") at; values = values })))
       → Reads LAST (lang.updates (us ++ xs) ∷ lang.perhaps_reset r ∷ vs) (placed p w1)
 
   -- the updates of registers and files, after some
   changes_read : (pa : Parts) (rs : List NetReg) (p : ℕ → ℕ) (s : List Sym) (vs : List Value) (ws : List Word) (before : List Update)
-      → ((p' : ℕ → ℕ) (us xs : List Update) → ShowsUpdates rs us → ShowsWrites pa.files xs → Updates s vs ws p' (before ++ (us ++ xs))) → Updates s vs (update_words rs (writes_words pa.files ws)) p before
+      → ((p' : ℕ → ℕ) (us xs : List Update) → ShowsEach reg_update rs us → ShowsWrites pa.files xs → Updates s vs ws p' (before ++ (us ++ xs))) → Updates s vs (each_words update_words rs (writes_words pa.files ws)) p before
   changes_read pa rs p s vs ws before d =
-      updates_read rs p s vs (writes_words pa.files ws) before (λ p' us h. writes_read pa.files p' s vs ws (before ++ us) (λ p'' xs k. subst (Updates s vs ws p'') (sym (append_assoc before us xs)) (d p'' us xs h k)))
+      updates_read s vs rs p (writes_words pa.files ws) before (λ p' us h. writes_read pa.files p' s vs ws (before ++ us) (λ p'' xs k. subst (Updates s vs ws p'') (sym (append_assoc before us xs)) (d p'' us xs h k)))
 
   -- The first update shows that there is no reset; it may come after files that are not written.
   first_write : (f : NetFile) (fs : List NetFile) (o : Option WritePort) → f.port ≡ o → (p : ℕ → ℕ) (vs : List Value)
@@ -429,18 +412,18 @@ module _ (P : VModule → Type 0) where
   first_writes (f ∷ fs) p vs d = first_write f fs f.port refl p vs (λ q k. first_writes fs q vs k) d
 
   first_updates : (rs : List NetReg) (fs : List NetFile) (p : ℕ → ℕ) (vs : List Value)
-      → ((p' : ℕ → ℕ) (us xs : List Update) → ShowsUpdates rs us → ShowsWrites fs xs → Reads LAST (lang.updates (us ++ xs) ∷ lang.perhaps_reset None ∷ vs) (placed p' w1))
-      → Reads (N BODY ∷ LAST) vs (placed p (update_words rs (writes_words fs w1)))
-  first_updates [] fs p vs d = first_writes fs p vs (λ p' xs h. d p' [] xs no_update h)
+      → ((p' : ℕ → ℕ) (us xs : List Update) → ShowsEach reg_update rs us → ShowsWrites fs xs → Reads LAST (lang.updates (us ++ xs) ∷ lang.perhaps_reset None ∷ vs) (placed p' w1))
+      → Reads (N BODY ∷ LAST) vs (placed p (each_words update_words rs (writes_words fs w1)))
+  first_updates [] fs p vs d = first_writes fs p vs (λ p' xs h. d p' [] xs none_shown h)
   first_updates (r ∷ rs) fs p vs d =
-      let x = edges.Reg (named_at r.name (p 0)) (named_at (wire r.next) (p 2)) in
-      goes 7 (updates_read rs (shift 4 p) LAST (lang.perhaps_reset None ∷ vs) (writes_words fs w1) (x ∷ []) (λ p' us h.
-      writes_read fs p' LAST (lang.perhaps_reset None ∷ vs) w1 (x ∷ us) (λ p'' xs k. goes 1 (d p'' (x ∷ us) xs (an_update (p 0) (p 2) h) k))))
+      let x = reg_update r p in
+      goes 7 (updates_read LAST (lang.perhaps_reset None ∷ vs) rs (shift 4 p) (writes_words fs w1) (x ∷ []) (λ p' us h.
+      writes_read fs p' LAST (lang.perhaps_reset None ∷ vs) w1 (x ∷ us) (λ p'' xs k. goes 1 (d p'' (x ∷ us) xs (one_shown p h) k))))
 
   body_reads : (pa : Parts) (b : Bool) → pa.reset ≡ b → (p : ℕ → ℕ) (vs : List Value) → Ends pa vs → Reads (N BODY ∷ LAST) vs (placed p (body_words b pa w1))
   body_reads pa false e p vs d = first_updates pa.regs pa.files p vs (λ p' us xs h k. d p' None us xs h k (inl (e, refl)))
   body_reads pa true e p vs d =
-      goes 8 (values_read pa.regs (shift 5 p) _ _ _ [] (λ p' values shown.
+      goes 8 (values_read _ _ pa.regs (shift 5 p) _ [] (λ p' values shown.
       goes 6 (changes_read pa pa.regs (shift 3 p') (lang.word keywords.End ∷ LAST) _ (keyword keywords.End ∷ w1) [] (λ p'' us xs h k.
       goes 2 (d (shift 1 p'') _ us xs h k (inr (e, values, p 2, shown, refl)))))))
 
@@ -465,7 +448,7 @@ abbrev places : List ℕ → ℕ → ℕ
 places xs i = get_or xs i 0
 
 reset_is : (rs : List NetReg) (b : Bool) (rst : Option Named) (r : Option ResetList) → IsReset b rst
-    → ((b ≡ false) × (r ≡ None)) ⊎ ((b ≡ true) × (values : List ResetValue) × (at : ℕ) × ShowsValues rs values × (r ≡ Some (record { reset = named_at (codes "rst") at; values = values })))
+    → ((b ≡ false) × (r ≡ None)) ⊎ ((b ≡ true) × (values : List ResetValue) × (at : ℕ) × ShowsEach reset_value rs values × (r ≡ Some (record { reset = named_at (codes "rst") at; values = values })))
     → ShowsReset rs b rst r
 reset_is rs _ _ r no_reset_port (inl h) = subst (ShowsReset rs false None) (sym h.1) no_reset_shown
 reset_is rs _ _ r no_reset_port (inr h) = absurd (false≢true h.0)
@@ -481,15 +464,15 @@ sentence net p right =
     let ue = wide net.nodes pa.ue.0 in
     let back = wide net.nodes pa.back.0 in
     header_reads P pa.name pa.ext pa.reset p _ (λ q rst a c e is_rst.
-    samples_read P pa.samples q (REST P) _ (outs_words full ue back (w8 net)) [] (λ q1 ss shows_ss.
-    goes P 45 (regs_read P pa.regs (shift 28 q1) _ _ (file_words pa.files (integer_words pa.files (w7 net))) [] (λ q2 rs shows_rs.
-    files_read P pa.files q2 _ _ (integer_words pa.files (w7 net)) rs (λ q3 fs shows_fs.
+    samples_read P (REST P) _ pa.samples q (outs_words full ue back (w8 net)) [] (λ q1 ss shows_ss.
+    goes P 45 (regs_read P _ _ pa.regs (shift 28 q1) (each_words file_words pa.files (integer_words pa.files (w7 net))) [] (λ q2 rs shows_rs.
+    files_read P _ _ pa.files q2 (integer_words pa.files (w7 net)) rs (λ q3 fs shows_fs.
     integer_reads P pa.files q3 _ _ (w7 net) (rs ++ fs) (λ q4 is shows_is.
     nodes_read P net 0 net.nodes q4 _ _ (w6 pa) ((rs ++ fs) ++ is) right (λ q5 ns shows_ns.
     out_reads P (codes "full") pa.full q5 _ _ (w5 pa) (((rs ++ fs) ++ is) ++ ns)
     (out_reads P (codes "ue") pa.ue (shift 5 q5) _ _ (w4 pa) _
     (out_reads P (codes "back") pa.back (shift 10 q5) _ _ (w3 pa) _
-    (goes P 4 (starts_read P pa.regs (shift 17 q5) _ _ (fill_words pa.files (w2 pa)) [] (λ q6 st shows_st.
+    (goes P 4 (starts_read P _ _ pa.regs (shift 17 q5) (fill_words pa.files (w2 pa)) [] (λ q6 st shows_st.
     fills_read P pa.files q6 _ _ (w2 pa) st (λ q7 fl shows_fl.
     goes P 9 (body_reads P pa pa.reset refl (shift 8 q7) _ (λ q8 r us xs shows_us shows_xs reset.
     let s : Shown net = record {

@@ -15,9 +15,8 @@ use Rattle.kp_vlog.specs.declared.tree.{Named.Named, ResetList.ResetList, ResetV
 use Rattle.kp_vlog.specs.Canon.{wire, wire_name}
 use Rattle.kp_vlog.specs.Scope.{Scope, scope_of, Sized, Sizes, sizes_of, item_sizes, port_size, width_in, address_in, place_of, address_width}
 use Rattle.kp_vlog.proofs.Tests.{same_refl}
-use Rattle.kp_vwrite_roundtrip.proofs.Sentence.{named_at, number_at, range_at, fill_at, ShowsNames, no_name, a_name, ShowsRight, a_const, an_ext, a_sample, a_reg, a_word, a_not, a_binary, a_mux, a_concat, a_slice, ShowsSamples, no_sample, one_sample, ShowsRegs, no_reg_line, reg_line, ShowsFiles, no_file_line, file_line, ShowsInteger, no_integer, an_integer, ShowsNodes, no_node_line, node_line, ShowsStarts, no_start, a_start, ShowsWords, no_words, zero_word, some_word, ShowsFills, no_fill, a_fill, ShowsUpdates, no_update, an_update, ShowsWrites, no_write, not_written, a_write, ShowsReset, no_reset_shown, reset_shown, ShowsValues, no_value, a_value, Shown, outs, module_of}
-use Rattle.kp_vwrite_roundtrip.proofs.Written.{RightFrom, all_right}
-use Rattle.kp_vwrite_roundtrip.proofs.Distinct.{apart, tag, place_at, or_rest}
+use Rattle.kp_vwrite_roundtrip.proofs.Sentence.{ShowsEach, none_shown, one_shown, sample_port, reg_item, file_item, reg_start, reset_value, reg_update, named_at, number_at, range_at, fill_at, ShowsNames, no_name, a_name, ShowsRight, a_const, an_ext, a_sample, a_reg, a_word, a_not, a_binary, a_mux, a_concat, a_slice, ShowsInteger, no_integer, an_integer, ShowsNodes, no_node_line, node_line, ShowsWords, no_words, zero_word, some_word, ShowsFills, no_fill, a_fill, ShowsWrites, no_write, not_written, a_write, ShowsReset, no_reset_shown, reset_shown, Shown, outs, module_of}
+use Rattle.kp_vwrite_roundtrip.proofs.{Written.RightFrom, Written.all_right, Distinct.apart, Distinct.tag, Distinct.place_at, Distinct.or_rest}
 use Rattle.kp_vwrite_roundtrip.proofs.Denoted.{samples_tagged, regs_tagged, module_table, widths_are, file_sizes, scoped, table_is, ports_past}
 use Rattle.kp_vwrite_roundtrip.proofs.Runs.{literal_for}
 use Rattle.kp_vwrite_roundtrip.proofs.SameNet.{found, width_found, address_found, found_past, found_here, sized, port_sized, reg_sized, each_past, each_found, WidthsAre}
@@ -143,22 +142,14 @@ right_wide net s m k _ _ w le low high (a_slice {n = n} {hi = hi} {lo = lo} a b 
 
 -- Items.
 
-regs_clean : (ns : List Node) (s : Scope) (rs : List NetReg) (xs ys : List Item) → ShowsRegs rs xs → All (RegOk ns) rs → Clean (items_answers s ys) → Clean (items_answers s (xs ++ ys))
-regs_clean ns s _ _ ys no_reg_line k h = h
-regs_clean ns s _ _ ys (reg_line {r = r} {rs = rs} {xs = xs} a b c sh) k h =
-    let start = (All-head (RegOk ns) r rs k).start in
-    (wanted _ c (range_ok r.start.width a b start.at_most), regs_clean ns s rs xs ys sh (All-tail (RegOk ns) r rs k) h)
+-- a list of parts with checks that are passed by each
+clean_each : {X Y : Type 0} (make : X → (ℕ → ℕ) → Y) (answers : List Y → List (Option ℕ)) (Fine : X → Type 0) → ((x : X) (p : ℕ → ℕ) (zs : List Y) → Fine x → Clean (answers zs) → Clean (answers (make x p ∷ zs)))
+    → (xs : List X) (ys zs : List Y) → ShowsEach make xs ys → All Fine xs → Clean (answers zs) → Clean (answers (ys ++ zs))
+clean_each make answers Fine one _ _ zs none_shown k h = h
+clean_each make answers Fine one _ _ zs (one_shown {x = x} {xs = xs} {ys = ys} p sh) k h = one x p (ys ++ zs) (All-head Fine x xs k) (clean_each make answers Fine one xs ys zs sh (All-tail Fine x xs k) h)
 
 words_ok : (a d e : ℕ) → 1 ≤ a → a ≤ 16 → words_fit (record { high = number_at 0 d; low = number_at (2 ^ a - 1) e }) ≡ true
 words_ok a d e low high = or_rest (a == 0) _ (agree_below_at (λ k. (k == 0) || is_some (address_width (2 ^ k - 1))) (λ _. true) 17 a refl (omega arith)) (false_from_ne_true (a == 0) (λ t. let z : a ≡ 0 = eqb-true a 0 t in omega arith))
-
-files_clean : (ns : List Node) (s : Scope) (fs : List NetFile) (xs ys : List Item) → ShowsFiles fs xs → All (FileOk ns) fs → All (λ f. file_fits s f.name ≡ true) fs → Clean (items_answers s ys) → Clean (items_answers s (xs ++ ys))
-files_clean ns s _ _ ys no_file_line k few h = h
-files_clean ns s _ _ ys (file_line {f = f} {fs = fs} {xs = xs} a b c d e sh) k few h =
-    let file = All-head (FileOk ns) f fs k in (
-      wanted _ c (and_from _ _ (range_ok f.width a b file.at_most) (and_from _ _ (words_ok f.address_width d e file.addressed file.addressed_at_most) (All-head (λ f. file_fits s f.name ≡ true) f fs few))),
-      files_clean ns s fs xs ys sh (All-tail (FileOk ns) f fs k) (All-tail (λ f. file_fits s f.name ≡ true) f fs few) h,
-    )
 
 integer_clean : (s : Scope) (fs : List NetFile) (xs ys : List Item) → ShowsInteger fs xs → Clean (items_answers s ys) → Clean (items_answers s (xs ++ ys))
 integer_clean s _ _ ys no_integer h = h
@@ -180,12 +171,6 @@ nodes_clean net s j _ _ ys w sizes (node_line {n = n} {ns = ns} {r = r} {xs = xs
 
 start_clean : (s : Scope) (n : List ℕ) (a b : ℕ) (v : bits.Word) (holds : Bool) → width_in s.sizes n ≡ v.width → IsWord v → holds ≡ true → Clean (start_answers s (named_at n a) (record { literal = literal_for v; at = b }) holds)
 start_clean s n a b v holds e ok h = (wanted _ a (and_from (v.width == width_in s.sizes n) holds (eq-eqb v.width _ (sym e)) h), (wanted _ b (literal_ok v ok), tt))
-
-starts_clean : (ns : List Node) (s : Scope) (rs : List NetReg) (xs ys : List Init) → ShowsStarts rs xs → All (RegOk ns) rs → All (λ r. width_in s.sizes r.name ≡ r.start.width) rs → Clean (inits_answers s ys) → Clean (inits_answers s (xs ++ ys))
-starts_clean ns s _ _ ys no_start k w h = h
-starts_clean ns s _ _ ys (a_start {r = r} {rs = rs} {xs = xs} a b sh) k w h =
-    let c = start_clean s r.name a b r.start true (All-head (λ r. width_in s.sizes r.name ≡ r.start.width) r rs w) (All-head (RegOk ns) r rs k).start refl in
-    (c.0, (c.1.0, starts_clean ns s rs xs ys sh (All-tail (RegOk ns) r rs k) (All-tail (λ r. width_in s.sizes r.name ≡ r.start.width) r rs w) h))
 
 words_clean : (s : Scope) (n : List ℕ) (w a i : ℕ) (us : List ℕ) (xs ys : List Init) → ShowsWords n w i us xs → width_in s.sizes n ≡ w → address_in s.sizes n ≡ a → 1 ≤ w → w ≤ 64 → All (λ v. v < 2 ^ w) us → i + length us ≤ 2 ^ a
     → Clean (inits_answers s ys) → Clean (inits_answers s (xs ++ ys))
@@ -215,23 +200,15 @@ fills_clean ns s _ _ (a_fill {f = f} {fs = fs} {xs = xs} {ys = ys} p sh next) k 
       ),
     )
 
-values_clean : (ns : List Node) (s : Scope) (rs : List NetReg) (xs : List ResetValue) → ShowsValues rs xs → All (RegOk ns) rs → All (λ r. width_in s.sizes r.name ≡ r.start.width) rs → Clean (values_answers s xs)
-values_clean ns s _ _ no_value k w = tt
-values_clean ns s _ _ (a_value {r = r} {rs = rs} {xs = xs} a b sh) k w =
-    let c = start_clean s r.name a b r.start true (All-head (λ r. width_in s.sizes r.name ≡ r.start.width) r rs w) (All-head (RegOk ns) r rs k).start refl in
+values_clean : (ns : List Node) (s : Scope) (rs : List NetReg) (xs : List ResetValue) → ShowsEach reset_value rs xs → All (RegOk ns) rs → All (λ r. width_in s.sizes r.name ≡ r.start.width) rs → Clean (values_answers s xs)
+values_clean ns s _ _ none_shown k w = tt
+values_clean ns s _ _ (one_shown {x = r} {xs = rs} {ys = xs} p sh) k w =
+    let c = start_clean s r.name (p 0) (p 2) r.start true (All-head (λ r. width_in s.sizes r.name ≡ r.start.width) r rs w) (All-head (RegOk ns) r rs k).start refl in
     (c.0, (c.1.0, values_clean ns s rs xs sh (All-tail (RegOk ns) r rs k) (All-tail (λ r. width_in s.sizes r.name ≡ r.start.width) r rs w)))
 
 reset_clean : (ns : List Node) (s : Scope) (rs : List NetReg) (b : Bool) (rst : Option Named) (r : Option ResetList) → ShowsReset rs b rst r → All (RegOk ns) rs → All (λ r. width_in s.sizes r.name ≡ r.start.width) rs → Clean (values_answers s (reset_values r))
 reset_clean ns s rs _ _ _ no_reset_shown k w = tt
 reset_clean ns s rs _ _ _ (reset_shown {xs = xs} a b sh) k w = values_clean ns s rs xs sh k w
-
-updates_clean : (net : Net) (s : Scope) (rs : List NetReg) (xs ys : List Update) → Wide net s → ShowsUpdates rs xs → All (RegOk net.nodes) rs → All (λ r. width_in s.sizes r.name ≡ r.start.width) rs → Clean (updates_answers s ys) → Clean (updates_answers s (xs ++ ys))
-updates_clean net s _ _ ys wd no_update k w h = h
-updates_clean net s _ _ ys wd (an_update {r = r} {rs = rs} {xs = xs} a b sh) k w h =
-    let next = (All-head (RegOk net.nodes) r rs k).next in (
-      wanted _ a (eq-eqb _ _ (wd.wires r.next.0 next.0 ∙ next.1 ∙ sym (All-head (λ r. width_in s.sizes r.name ≡ r.start.width) r rs w))),
-      updates_clean net s rs xs ys wd sh (All-tail (RegOk net.nodes) r rs k) (All-tail (λ r. width_in s.sizes r.name ≡ r.start.width) r rs w) h,
-    )
 
 writes_clean : (net : Net) (s : Scope) (fs : List NetFile) (xs : List Update) → Wide net s → ShowsWrites fs xs → All (FileOk net.nodes) fs → All (λ f. width_in s.sizes f.name ≡ f.width) fs → All (λ f. address_in s.sizes f.name ≡ f.address_width) fs → Clean (updates_answers s xs)
 writes_clean net s _ _ wd no_write k w a = tt
@@ -245,9 +222,9 @@ writes_clean net s _ _ wd (a_write {f = f} {fs = fs} {xs = xs} port p z sh) k w 
       writes_clean net s fs xs wd sh (All-tail (FileOk net.nodes) f fs k) (All-tail (λ f. width_in s.sizes f.name ≡ f.width) f fs w) (All-tail (λ f. address_in s.sizes f.name ≡ f.address_width) f fs a),
     )
 
-ports_clean : (ss : List Port) (xs : List VPort) → ShowsSamples ss xs → All PortOk ss → Clean (ports_answers xs)
-ports_clean _ _ no_sample k = tt
-ports_clean _ _ (one_sample {s = s} {ss = ss} {xs = xs} a b c sh) k = (wanted _ c (range_ok s.width a b (All-head PortOk s ss k).at_most), ports_clean ss xs sh (All-tail PortOk s ss k))
+ports_clean : (ss : List Port) (xs : List VPort) → ShowsEach sample_port ss xs → All PortOk ss → Clean (ports_answers xs)
+ports_clean _ _ none_shown k = tt
+ports_clean _ _ (one_shown {x = s} {xs = ss} {ys = xs} p sh) k = (wanted _ (p 7) (range_ok s.width (p 3) (p 5) (All-head PortOk s ss k).at_most), ports_clean ss xs sh (All-tail PortOk s ss k))
 
 -- A module that represents a netlist violates no rule of widths.
 pub widths_hold : (net : Net) (s : Shown net) → NetOk net → IsNamed net → first (width_answers (module_of s)) ≡ None
@@ -265,14 +242,21 @@ widths_hold net s k named =
     ap (λ ns. nat_lt (place_of ns (get_or p.files i d).name) 16) named_scope.files
     ∙ ap (λ x. nat_lt x 16) (place_at (λ f. f.name) p.files i d named.files_differ l) ∙ lt-ltb i 16 (omega arith) in
     let items_ok : Clean (items_answers sc w.items) =
-    regs_clean net.nodes sc p.regs s.regs (s.files ++ (s.integer ++ (s.nodes ++ outs s))) s.shows_regs k.parts.regs
-    (files_clean net.nodes sc p.files s.files (s.integer ++ (s.nodes ++ outs s)) s.shows_files k.parts.files file_few
+    clean_each reg_item (items_answers sc) (RegOk net.nodes) (λ r p zs k h. (wanted _ (p 6) (range_ok r.start.width (p 2) (p 4) k.start.at_most), h))
+    p.regs s.regs (s.files ++ (s.integer ++ (s.nodes ++ outs s))) s.shows_regs k.parts.regs
+    (clean_each file_item (items_answers sc) (λ f. FileOk net.nodes f × (file_fits sc f.name ≡ true))
+    (λ f p zs k h. (wanted _ (p 6) (and_from _ _ (range_ok f.width (p 2) (p 4) k.0.at_most) (and_from _ _ (words_ok f.address_width (p 8) (p 10) k.0.addressed k.0.addressed_at_most) k.1)), h))
+    p.files s.files (s.integer ++ (s.nodes ++ outs s)) s.shows_files (λ i d l. (k.parts.files i d l, file_few i d l))
     (integer_clean sc p.files s.integer (s.nodes ++ outs s) s.shows_integer
     (nodes_clean net sc 0 net.nodes s.nodes (outs s) wd (widths_are net s k named) s.shows_nodes (all_right net k) (omega arith) outs_ok))) in
     let inits_ok : Clean (inits_answers sc w.inits) =
-    starts_clean net.nodes sc p.regs s.start_part s.fill_part s.shows_starts k.parts.regs wd.regs (fills_clean net.nodes sc p.files s.fill_part s.shows_fills k.parts.files wd.files wd.addresses) in
+    clean_each reg_start (inits_answers sc) (λ r. IsWord r.start × (width_in sc.sizes r.name ≡ r.start.width))
+    (λ r p zs k h. let c = start_clean sc r.name (p 0) (p 2) r.start true k.1 k.0 refl in (c.0, (c.1.0, h)))
+    p.regs s.start_part s.fill_part s.shows_starts (λ i d l. ((k.parts.regs i d l).start, wd.regs i d l)) (fills_clean net.nodes sc p.files s.fill_part s.shows_fills k.parts.files wd.files wd.addresses) in
     let updates_ok : Clean (updates_answers sc w.updates) =
-    updates_clean net sc p.regs s.update_part s.write_part wd s.shows_updates k.parts.regs wd.regs (writes_clean net sc p.files s.write_part wd s.shows_writes k.parts.files wd.files wd.addresses) in
+    clean_each reg_update (updates_answers sc) (λ r. RegOk net.nodes r × (width_in sc.sizes r.name ≡ r.start.width))
+    (λ r p zs k h. (wanted _ (p 0) (eq-eqb _ _ (wd.wires r.next.0 k.0.next.0 ∙ k.0.next.1 ∙ sym k.1)), h))
+    p.regs s.update_part s.write_part s.shows_updates (λ i d l. (k.parts.regs i d l, wd.regs i d l)) (writes_clean net sc p.files s.write_part wd s.shows_writes k.parts.files wd.files wd.addresses) in
     let reset_ok = reset_clean net.nodes sc p.regs p.reset s.rst s.resets s.reset k.parts.regs wd.regs in
     let last_ports : Clean (want (stall_fits w.full.range) w.full.port.at ∷ want (stall_fits w.ue.range) w.ue.port.at ∷ want (four_bits w.back.range) w.back.port.at ∷ []) =
     (wanted _ (s.p 7) (stall_ok (wide net.nodes p.full.0) (s.p 5) (s.p 6) (omega arith) (omega arith)), (wanted _ (s.p 10) (stall_ok (wide net.nodes p.ue.0) (s.p 8) (s.p 9) (omega arith) (omega arith)), (wanted _ (s.p 13) (four_ok (wide net.nodes p.back.0) (s.p 11) (s.p 12) bw), tt))) in

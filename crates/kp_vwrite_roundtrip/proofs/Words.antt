@@ -21,9 +21,13 @@ abbrev pub reset_words : Bool → List Word → List Word
 reset_words true ws = keyword keywords.Input ∷ keyword keywords.Wire ∷ name (codes "rst") ∷ mark marks.Comma ∷ ws
 reset_words false ws = ws
 
-abbrev pub sample_words : List Port → List Word → List Word
-sample_words [] ws = ws
-sample_words (s ∷ ss) ws = port_words keywords.Input s.width s.name (mark marks.Comma ∷ sample_words ss ws)
+-- the words of each part
+abbrev pub each_words : {X : Type 0} → (X → List Word → List Word) → List X → List Word → List Word
+each_words word [] ws = ws
+each_words word (x ∷ xs) ws = word x (each_words word xs ws)
+
+abbrev pub sample_words : Port → List Word → List Word
+sample_words s ws = port_words keywords.Input s.width s.name (mark marks.Comma ∷ ws)
 
 abbrev pub outs_words : ℕ → ℕ → ℕ → List Word → List Word
 outs_words full ue back ws =
@@ -33,17 +37,15 @@ outs_words full ue back ws =
 abbrev pub header_words : List Node → Parts → List Word → List Word
 header_words ns p ws =
     keyword keywords.Module ∷ name p.name ∷ mark marks.OpenParenthesis ∷ keyword keywords.Input ∷ keyword keywords.Wire ∷ name (codes "clk") ∷ mark marks.Comma
-    ∷ reset_words p.reset (port_words keywords.Input p.ext (codes "ext") (mark marks.Comma ∷ sample_words p.samples (outs_words (wide ns p.full.0) (wide ns p.ue.0) (wide ns p.back.0) ws)))
+    ∷ reset_words p.reset (port_words keywords.Input p.ext (codes "ext") (mark marks.Comma ∷ each_words sample_words p.samples (outs_words (wide ns p.full.0) (wide ns p.ue.0) (wide ns p.back.0) ws)))
 
-abbrev pub reg_words : List NetReg → List Word → List Word
-reg_words [] ws = ws
-reg_words (r ∷ rs) ws = keyword keywords.Reg ∷ range_words r.start.width (name r.name ∷ mark marks.Semicolon ∷ reg_words rs ws)
+abbrev pub reg_words : NetReg → List Word → List Word
+reg_words r ws = keyword keywords.Reg ∷ range_words r.start.width (name r.name ∷ mark marks.Semicolon ∷ ws)
 
-abbrev pub file_words : List NetFile → List Word → List Word
-file_words [] ws = ws
-file_words (f ∷ fs) ws =
+abbrev pub file_words : NetFile → List Word → List Word
+file_words f ws =
     keyword keywords.Reg ∷ range_words f.width (name f.name ∷ mark marks.OpenBracket ∷ number 0 ∷ mark marks.Colon ∷ number (2 ^ f.address_width - 1) ∷ mark marks.CloseBracket
-    ∷ mark marks.Semicolon ∷ file_words fs ws)
+    ∷ mark marks.Semicolon ∷ ws)
 
 abbrev pub integer_words : List NetFile → List Word → List Word
 integer_words [] ws = ws
@@ -90,9 +92,8 @@ node_words p j (n ∷ ns) ws =
 abbrev pub out_words : List ℕ → NodeId → List Word → List Word
 out_words port a ws = keyword keywords.Assign ∷ name port ∷ mark marks.Equals ∷ name (wire a) ∷ mark marks.Semicolon ∷ ws
 
-abbrev pub start_words : List NetReg → List Word → List Word
-start_words [] ws = ws
-start_words (r ∷ rs) ws = name r.name ∷ mark marks.Equals ∷ literal (literal_for r.start) ∷ mark marks.Semicolon ∷ start_words rs ws
+abbrev pub start_words : NetReg → List Word → List Word
+start_words r ws = name r.name ∷ mark marks.Equals ∷ literal (literal_for r.start) ∷ mark marks.Semicolon ∷ ws
 
 abbrev pub content_word : List ℕ → ℕ → ℕ → ℕ → List Word → List Word
 content_word n k a v ws =
@@ -112,9 +113,8 @@ fill_words (f ∷ fs) ws =
     ∷ name f.name ∷ mark marks.OpenBracket ∷ name (codes "i") ∷ mark marks.CloseBracket ∷ mark marks.Equals ∷ literal (literal_for (word f.width 0)) ∷ mark marks.Semicolon
     ∷ content_words f.name f.width 0 f.words (fill_words fs ws)
 
-abbrev pub update_words : List NetReg → List Word → List Word
-update_words [] ws = ws
-update_words (r ∷ rs) ws = name r.name ∷ mark marks.Arrow ∷ name (wire r.next) ∷ mark marks.Semicolon ∷ update_words rs ws
+abbrev pub update_words : NetReg → List Word → List Word
+update_words r ws = name r.name ∷ mark marks.Arrow ∷ name (wire r.next) ∷ mark marks.Semicolon ∷ ws
 
 abbrev pub write_words : List ℕ → Option WritePort → List Word → List Word
 write_words n None ws = ws
@@ -127,17 +127,16 @@ writes_words [] ws = ws
 writes_words (f ∷ fs) ws = write_words f.name f.port (writes_words fs ws)
 
 abbrev pub change_words : Parts → List Word → List Word
-change_words p ws = update_words p.regs (writes_words p.files ws)
+change_words p ws = each_words update_words p.regs (writes_words p.files ws)
 
-abbrev pub value_words : List NetReg → List Word → List Word
-value_words [] ws = ws
-value_words (r ∷ rs) ws = name r.name ∷ mark marks.Arrow ∷ literal (literal_for r.start) ∷ mark marks.Semicolon ∷ value_words rs ws
+abbrev pub value_words : NetReg → List Word → List Word
+value_words r ws = name r.name ∷ mark marks.Arrow ∷ literal (literal_for r.start) ∷ mark marks.Semicolon ∷ ws
 
 abbrev pub body_words : Bool → Parts → List Word → List Word
 body_words false p ws = change_words p ws
 body_words true p ws =
     keyword keywords.If ∷ mark marks.OpenParenthesis ∷ name (codes "rst") ∷ mark marks.CloseParenthesis ∷ keyword keywords.Begin
-    ∷ value_words p.regs (keyword keywords.End ∷ keyword keywords.Else ∷ keyword keywords.Begin ∷ change_words p (keyword keywords.End ∷ ws))
+    ∷ each_words value_words p.regs (keyword keywords.End ∷ keyword keywords.Else ∷ keyword keywords.Begin ∷ change_words p (keyword keywords.End ∷ ws))
 
 -- ends of the tokens
 abbrev pub w1 : List Word
@@ -149,7 +148,7 @@ w2 p =
     ∷ keyword keywords.Begin ∷ body_words p.reset p w1
 
 abbrev pub w3 : Parts → List Word
-w3 p = keyword keywords.Initial ∷ keyword keywords.Begin ∷ start_words p.regs (fill_words p.files (w2 p))
+w3 p = keyword keywords.Initial ∷ keyword keywords.Begin ∷ each_words start_words p.regs (fill_words p.files (w2 p))
 
 abbrev pub w4 : Parts → List Word
 w4 p = out_words (codes "back") p.back (w3 p)
@@ -164,7 +163,7 @@ abbrev pub w7 : Net → List Word
 w7 net = node_words net.parts 0 net.nodes (w6 net.parts)
 
 abbrev pub w8 : Net → List Word
-w8 net = reg_words net.parts.regs (file_words net.parts.files (integer_words net.parts.files (w7 net)))
+w8 net = each_words reg_words net.parts.regs (each_words file_words net.parts.files (integer_words net.parts.files (w7 net)))
 
 abbrev pub net_words : Net → List Word
 net_words net = header_words net.nodes net.parts (w8 net)

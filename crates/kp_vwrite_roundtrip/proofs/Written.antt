@@ -13,7 +13,7 @@ use Rattle.kp_vlog.specs.Canon.{Pieces, wire, wire_name, sign, more_parts, joine
 use Rattle.kp_vlog.specs.Tokens.{Word, name, number, literal, keyword, mark, front, takes}
 use Rattle.kp_vlog.specs.declared.token.Keyword.TheVariants as keywords
 use Rattle.kp_vlog.specs.declared.token.Mark.TheVariants as marks
-use Rattle.kp_vwrite_roundtrip.proofs.Words.{port_words, reset_words, sample_words, outs_words, header_words, reg_words, file_words, integer_words, sign_mark, more_words, joined_words, right_words, node_words, out_words, start_words, content_word, content_words, fill_words, update_words, write_words, writes_words, change_words, value_words, body_words, w1, w2, w3, w4, w5, w6, w7, w8, net_words}
+use Rattle.kp_vwrite_roundtrip.proofs.Words.{port_words, each_words, reset_words, sample_words, outs_words, header_words, reg_words, file_words, integer_words, sign_mark, more_words, joined_words, right_words, node_words, out_words, start_words, content_word, content_words, fill_words, update_words, write_words, writes_words, change_words, value_words, body_words, w1, w2, w3, w4, w5, w6, w7, w8, net_words}
 use Rattle.kp_vwrite_roundtrip.proofs.Lex.{Spells, Says, ate, spells_nothing, spells_takes}
 use Rattle.kp_vwrite_roundtrip.proofs.Runs.{IsWritten, spells_number, spells_literal, spells_name, wire_written, literal_for}
 use Rattle.kp_vwrite_roundtrip.proofs.Named.{module_written, reg_written, file_written, sample_written, all_written}
@@ -53,7 +53,7 @@ outs_say full ue back ps ws f u b s =
     ate 4 refl (bracket (spells_number (full - 1) _ _ (omega arith) refl (ate 11 refl (bracket (spells_number (ue - 1) _ _ (omega arith) refl (ate 11 refl
     (bracket (spells_number (back - 1) _ _ (omega arith) refl (ate 8 refl s)))))))))
 
-samples_say : (ss : List Port) (ps : Pieces) (ws : List Word) → All PortOk ss → All (λ s. IsWritten s.name) ss → Says ps ws → Says (sample_ports ss ++ ps) (sample_words ss ws)
+samples_say : (ss : List Port) (ps : Pieces) (ws : List Word) → All PortOk ss → All (λ s. IsWritten s.name) ss → Says ps ws → Says (sample_ports ss ++ ps) (each_words sample_words ss ws)
 samples_say [] ps ws ok named s = s
 samples_say (x ∷ ss) ps ws ok named s =
     let port = All-head PortOk x ss ok in let high = port.at_most in
@@ -71,7 +71,7 @@ header_says ns p ps ws named ext short ok names s =
     let outs = out_ports (wide ns p.full.0) (wide ns p.ue.0) (wide ns p.back.0) in
     let inputs = codes "input wire [" ∷ decimal (p.ext - 1) ∷ codes ":0] ext, " ∷ (sample_ports p.samples ++ outs) in
     let v1 = outs_words (wide ns p.full.0) (wide ns p.ue.0) (wide ns p.back.0) ws in
-    let v2 = sample_words p.samples v1 in
+    let v2 = each_words sample_words p.samples v1 in
     let v3 = port_words keywords.Input p.ext (codes "ext") (mark marks.Comma ∷ v2) in
     let says1 : Says (outs ++ ps) v1 = outs_say (wide ns p.full.0) (wide ns p.ue.0) (wide ns p.back.0) ps ws (short p.full.0) (short p.ue.0) (short p.back.0) s in
     let says2 : Says ((sample_ports p.samples ++ outs) ++ ps) v2 =
@@ -80,7 +80,7 @@ header_says ns p ps ws named ext short ok names s =
     ate 2 refl (spells_name p.name _ _ named refl (ate 8 refl
     (subst (λ (qs : Pieces). Says qs (reset_words p.reset v3)) (sym (append_assoc (reset_port p.reset) inputs ps)) (reset_says p.reset (inputs ++ ps) v3 says3))))
 
-regs_say : (ns : List Node) (rs : List NetReg) (ps : Pieces) (ws : List Word) → All (RegOk ns) rs → All (λ r. IsWritten r.name) rs → Says ps ws → Says (reg_lines rs ++ ps) (reg_words rs ws)
+regs_say : (ns : List Node) (rs : List NetReg) (ps : Pieces) (ws : List Word) → All (RegOk ns) rs → All (λ r. IsWritten r.name) rs → Says ps ws → Says (reg_lines rs ++ ps) (each_words reg_words rs ws)
 regs_say ns [] ps ws ok named s = s
 regs_say ns (r ∷ rs) ps ws ok named s =
     let reg = All-head (RegOk ns) r rs ok in let start = reg.start in let high = start.at_most in
@@ -92,7 +92,7 @@ regs_say ns (r ∷ rs) ps ws ok named s =
 few_words : (a : ℕ) → a ≤ 16 → 2 ^ a ≤ 65536
 few_words a h = pow-le-pow_right (omega arith) h
 
-files_say : (ns : List Node) (fs : List NetFile) (ps : Pieces) (ws : List Word) → All (FileOk ns) fs → All (λ f. IsWritten f.name) fs → Says ps ws → Says (file_lines fs ++ ps) (file_words fs ws)
+files_say : (ns : List Node) (fs : List NetFile) (ps : Pieces) (ws : List Word) → All (FileOk ns) fs → All (λ f. IsWritten f.name) fs → Says ps ws → Says (file_lines fs ++ ps) (each_words file_words fs ws)
 files_say ns [] ps ws ok named s = s
 files_say ns (f ∷ fs) ps ws ok named s =
     let file = All-head (FileOk ns) f fs ok in let high = file.at_most in let few = few_words f.address_width file.addressed_at_most in
@@ -182,7 +182,7 @@ out_says : (port : List ℕ) (a : NodeId) (ps : Pieces) (ws : List Word) → a.0
     → Says ps ws → Says (out_line port a ++ ps) (out_words port a ws)
 out_says port a ps ws h front s = front (wire a ∷ codes ";\n" ∷ ps) (name (wire a) ∷ mark marks.Semicolon ∷ ws) (spells_name (wire a) _ _ (wire_written a.0 (omega arith)) refl (ate 2 refl s))
 
-starts_say : (ns : List Node) (rs : List NetReg) (ps : Pieces) (ws : List Word) → All (RegOk ns) rs → All (λ r. IsWritten r.name) rs → Says ps ws → Says (start_lines rs ++ ps) (start_words rs ws)
+starts_say : (ns : List Node) (rs : List NetReg) (ps : Pieces) (ws : List Word) → All (RegOk ns) rs → All (λ r. IsWritten r.name) rs → Says ps ws → Says (start_lines rs ++ ps) (each_words start_words rs ws)
 starts_say ns [] ps ws ok named s = s
 starts_say ns (r ∷ rs) ps ws ok named s =
     let reg = All-head (RegOk ns) r rs ok in
@@ -227,7 +227,7 @@ node_written : (ns : List Node) (a : NodeId) (k : ℕ) → length ns ≤ 1677721
 node_written ns a k few h = wire_ok (length ns) a few h.0
 
 updates_say : (margin : List ℕ) (ns : List Node) (rs : List NetReg) (ps : Pieces) (ws : List Word) → IsMargin margin → length ns ≤ 16777216 → All (RegOk ns) rs → All (λ r. IsWritten r.name) rs
-    → Says ps ws → Says (update_lines margin rs ++ ps) (update_words rs ws)
+    → Says ps ws → Says (update_lines margin rs ++ ps) (each_words update_words rs ws)
 updates_say margin ns [] ps ws pass few ok named s = s
 updates_say margin ns (r ∷ rs) ps ws pass few ok named s =
     let reg = All-head (RegOk ns) r rs ok in
@@ -257,7 +257,7 @@ changes_say margin net ps ws pass k n s =
     subst (λ (qs : Pieces). Says qs (change_words net.parts ws)) (sym (append_assoc (update_lines margin net.parts.regs) (port_lines margin net.parts.files) ps))
     (updates_say margin net.nodes net.parts.regs _ _ pass k.count k.parts.regs n.regs (writes_say margin net.nodes net.parts.files ps ws pass k.count k.parts.files n.files s))
 
-values_say : (ns : List Node) (rs : List NetReg) (ps : Pieces) (ws : List Word) → All (RegOk ns) rs → All (λ r. IsWritten r.name) rs → Says ps ws → Says (reset_lines rs ++ ps) (value_words rs ws)
+values_say : (ns : List Node) (rs : List NetReg) (ps : Pieces) (ws : List Word) → All (RegOk ns) rs → All (λ r. IsWritten r.name) rs → Says ps ws → Says (reset_lines rs ++ ps) (each_words value_words rs ws)
 values_say ns [] ps ws ok named s = s
 values_say ns (r ∷ rs) ps ws ok named s =
     let reg = All-head (RegOk ns) r rs ok in
@@ -284,7 +284,7 @@ body_says true net ps ws k n s =
     subst (λ (qs : Pieces). Says qs v2) (sym (append_assoc (change_lines (codes "      ") p) last ps)) (changes_say (codes "      ") net (last ++ ps) v1 six_pass k n says1) in
     let says3 : Says ((codes "    end else begin\n" ∷ changes) ++ ps) v3 = ate 10 refl says2 in
     ate 12 refl
-    (subst (λ (qs : Pieces). Says qs (value_words p.regs v3)) (sym (append_assoc (reset_lines p.regs) (codes "    end else begin\n" ∷ changes) ps)) (values_say net.nodes p.regs ((codes "    end else begin\n" ∷ changes) ++ ps) v3 k.parts.regs n.regs says3))
+    (subst (λ (qs : Pieces). Says qs (each_words value_words p.regs v3)) (sym (append_assoc (reset_lines p.regs) (codes "    end else begin\n" ∷ changes) ps)) (values_say net.nodes p.regs ((codes "    end else begin\n" ∷ changes) ++ ps) v3 k.parts.regs n.regs says3))
 
 wide_short : (net : Net) → NetOk net → (i : ℕ) → wide net.nodes i ≤ 64
 unfolding wide
@@ -323,6 +323,6 @@ canon_says net k named =
     let v8 = integer_words p.files (w7 net) in
     let s8 : Says p8 v8 = integer_says p.files p7 (w7 net) s7 in
     let p9 : Pieces = file_lines p.files ++ p8 in
-    let v9 = file_words p.files v8 in
+    let v9 = each_words file_words p.files v8 in
     let s9 : Says p9 v9 = files_say net.nodes p.files p8 v8 k.parts.files n.files s8 in
     header_says net.nodes p (reg_lines p.regs ++ p9) (w8 net) n.name k.parts.ext_at_most short k.parts.samples n.samples (regs_say net.nodes p.regs p9 v9 k.parts.regs n.regs s9)
