@@ -19,7 +19,7 @@ abbrev pub words_at : Place → ℕ
 words_at (Register r) = 1
 words_at (File f words) = words
 
--- The netlist has this register, or this file with so many words.
+-- The netlist has this register, or this file with this number of words.
 abbrev pub IsPlace : Net → Place → Type 0
 IsPlace net (Register r) = r < length net.parts.regs
 IsPlace net (File f words) = (f < length net.parts.files) × (words ≡ 2 ^ (get_or net.parts.files f no_file).address_width)
