@@ -138,12 +138,24 @@ module _ (job : Job) (s : ℕ → ℕ → ℕ) (q : ℕ → ℕ) (k : ℕ) (t : 
   abbrev known : ℕ → Option ℕ
   known j = (instruction_at job s q k j).results t
 
-  known_is : (j : ℕ) → known j ≡ first_value ((before_stage (machine_of job) s q k).results t) ((reached job.decls s start (take j block)).sets t)
-  known_is j = ap (first_value ((before_stage (machine_of job) s q k).results t)) (run_sets job.decls s start (take j block) t)
+  -- the result before the stage, and the progress before statement j
+  abbrev earlier : Option ℕ
+  earlier = (before_stage (machine_of job) s q k).results t
+
+  abbrev done : ℕ → Progress
+  done j = reached job.decls s start (take j block)
+
+  known_is : (j : ℕ) → known j ≡ first_value earlier ((done j).sets t)
+  known_is j = ap (first_value earlier) (run_sets job.decls s start (take j block) t)
+
+  known_next : (j : ℕ) (x : Stmt) (kind : StmtKind) → slice_get block j ≡ Some x → x.kind ≡ kind → known (suc j) ≡ first_value earlier ((after job.decls s (done j) kind).sets t)
+  known_next j x kind at is =
+      known_is (suc j) ∙ ap (λ (p : Progress). first_value earlier (p.sets t)) (reached_more job.decls s start block j x at)
+      ∙ ap (λ (kind : StmtKind). first_value earlier ((after job.decls s (done j) kind).sets t)) is
 
   -- from the stage before, and to the next
   pub begins : known 0 ≡ (before_stage (machine_of job) s q k).results t
-  begins = first_alone ((before_stage (machine_of job) s q k).results t)
+  begins = first_alone earlier
 
   pub ends : (j : ℕ) → length block ≤ j → known j ≡ (before_stage (machine_of job) s q (suc k)).results t
   unfolding before_stage machine_of stage_tree
@@ -152,32 +164,20 @@ module _ (job : Job) (s : ℕ → ℕ → ℕ) (q : ℕ → ℕ) (k : ℕ) (t : 
       (take_all j block h)
 
   pub kept : (j : ℕ) (x : Stmt) → slice_get block j ≡ Some x → is_some (known j) ≡ true → is_some (known (suc j)) ≡ true
-  kept j x e h =
-      let o = (before_stage (machine_of job) s q k).results t in
-      let done = reached job.decls s start (take j block) in
-      let more = reached_more job.decls s start block j x e in
-      let g : is_some (first_value o (done.sets t)) ≡ true = sym (ap is_some (known_is j)) ∙ h in
-      ap is_some (known_is (suc j) ∙ ap (λ (p : Progress). first_value o (p.sets t)) more)
-      ∙ both_kept o (done.sets t) ((after job.decls s done x.kind).sets t) (after_keeps job.decls s done x.kind t) g
+  kept j x at h =
+      ap is_some (known_next j x x.kind at refl)
+      ∙ both_kept earlier ((done j).sets t) ((after job.decls s (done j) x.kind).sets t) (after_keeps job.decls s (done j) x.kind t) (sym (ap is_some (known_is j)) ∙ h)
 
   pub sure : (j : ℕ) (x : Stmt) (n : Named) (e : Expr) → slice_get block j ≡ Some x → x.kind ≡ stmts.Set n e None
       → hits job.decls (result_named job.decls n.name) t ≡ true → is_some (known (suc j)) ≡ true
   sure j x n e at is h =
-      let o = (before_stage (machine_of job) s q k).results t in
-      let done = reached job.decls s start (take j block) in
-      let more = reached_more job.decls s start block j x at in
-      ap is_some (known_is (suc j) ∙ ap (λ (p : Progress). first_value o (p.sets t)) more ∙ ap (λ (kind : StmtKind). first_value o ((after job.decls s done kind).sets t)) is)
-      ∙ later_kept o ((with_set job.decls done (result_named job.decls n.name) (value_of job.decls done e)).sets t)
-      (set_hits job.decls s (result_named job.decls n.name) done (value_of job.decls done e) t h)
+      ap is_some (known_next j x (stmts.Set n e None) at is)
+      ∙ later_kept earlier ((with_set job.decls (done j) (result_named job.decls n.name) (value_of job.decls (done j) e)).sets t)
+      (set_hits job.decls s (result_named job.decls n.name) (done j) (value_of job.decls (done j) e) t h)
 
   pub missed : (j : ℕ) (x : Stmt) (n : Named) (e : Expr) (when : Option Expr) → slice_get block j ≡ Some x → x.kind ≡ stmts.Set n e when
       → hits job.decls (result_named job.decls n.name) t ≡ false → known (suc j) ≡ known j
-  missed j x n e when at is h =
-      let o = (before_stage (machine_of job) s q k).results t in
-      let done = reached job.decls s start (take j block) in
-      let more = reached_more job.decls s start block j x at in
-      known_is (suc j) ∙ ap (λ (p : Progress). first_value o (p.sets t)) more ∙ ap (λ (kind : StmtKind). first_value o ((after job.decls s done kind).sets t)) is
-      ∙ ap (first_value o) (after_misses job.decls s done n e when t h) ∙ sym (known_is j)
+  missed j x n e when at is h = known_next j x (stmts.Set n e when) at is ∙ ap (first_value earlier) (after_misses job.decls s (done j) n e when t h) ∙ sym (known_is j)
 
 pub between : (job : Job) → IsBetweenStages job
 between job s q k t = (begins job s q k t, ends job s q k t (length (stmts_in (slice_get job.blocks k))) (omega arith))

@@ -11,6 +11,19 @@ use Rattle.kp_view_sets.specs.{declared.sets.PlacedSet.PlacedSet, Sets.in_vain, 
 use Rattle.kp_view_sets.specs.Claims.{AreInVain, NeverSets, NeverTakesPlace, instruction_at}
 use Rattle.kp_view_sets.proofs.Steps.{begins, ends, hits, kept, missed, past, sure}
 
+-- what a list has from number j on
+abbrev IsRest : {X : Type 0} → List X → ℕ → List X → Type 0
+IsRest all j xs = (i : ℕ) → slice_get all (j + i) ≡ slice_get xs i
+
+rest_head : {X : Type 0} (all : List X) (j : ℕ) (x : X) (xs : List X) → IsRest all j (x ∷ xs) → slice_get all j ≡ Some x
+rest_head all j x xs f = let z : j + 0 ≡ j = omega arith in subst (λ (i : ℕ). slice_get all i ≡ Some x) z (f 0)
+
+rest_tail : {X : Type 0} (all : List X) (j : ℕ) (x : X) (xs : List X) → IsRest all j (x ∷ xs) → IsRest all (j + 1) xs
+rest_tail all j x xs f i = let z : (j + 1) + i ≡ j + suc i = omega arith in rw z (f (suc i))
+
+rest_end : {X : Type 0} (all : List X) (j : ℕ) → IsRest all j [] → slice_get all j ≡ None
+rest_end all j f = let z : j + 0 ≡ j = omega arith in subst (λ (i : ℕ). slice_get all i ≡ None) z (f 0)
+
 module _ (job : Job) (result : List ℕ) where
   -- in every instruction the result has been set before statement j of stage k
   abbrev IsSetBefore : ℕ → ℕ → Type 0
@@ -39,16 +52,7 @@ module _ (job : Job) (result : List ℕ) where
 
   -- the statements of stage k from number j on
   abbrev From : ℕ → ℕ → List Stmt → Type 0
-  From k j ss = (i : ℕ) → slice_get (stmts_in (slice_get job.blocks k)) (j + i) ≡ slice_get ss i
-
-  from_head : (k j : ℕ) (x : Stmt) (ss : List Stmt) → From k j (x ∷ ss) → slice_get (stmts_in (slice_get job.blocks k)) j ≡ Some x
-  from_head k j x ss f = let z : j + 0 ≡ j = omega arith in subst (λ (i : ℕ). slice_get (stmts_in (slice_get job.blocks k)) i ≡ Some x) z (f 0)
-
-  from_tail : (k j : ℕ) (x : Stmt) (ss : List Stmt) → From k j (x ∷ ss) → From k (j + 1) ss
-  from_tail k j x ss f i = let z : (j + 1) + i ≡ j + suc i = omega arith in rw z (f (suc i))
-
-  from_end : (k j : ℕ) → From k j [] → slice_get (stmts_in (slice_get job.blocks k)) j ≡ None
-  from_end k j f = let z : j + 0 ≡ j = omega arith in subst (λ (i : ℕ). slice_get (stmts_in (slice_get job.blocks k)) i ≡ None) z (f 0)
+  From k j ss = IsRest (stmts_in (slice_get job.blocks k)) j ss
 
   next_set : (k j : ℕ) (x : Stmt) → slice_get (stmts_in (slice_get job.blocks k)) j ≡ Some x → IsSetBefore k j → IsSetBefore k (j + 1)
   next_set k j x at h s q t hit = let z : j + 1 ≡ suc j = omega arith in rw z (kept job s q k t j x at (h s q t hit))
@@ -71,29 +75,19 @@ module _ (job : Job) (result : List ℕ) where
 
   all_stmts : (k j : ℕ) (ss : List Stmt) (rest : List PlacedSet) → From k j ss → IsSetBefore k j → (IsSetBefore (k + 1) 0 → AreNever rest)
       → AreNever (sets_in result k j ss ++ rest)
-  all_stmts k j [] rest f h go = go (next_stage k j (from_end k j f) h)
+  all_stmts k j [] rest f h go = go (next_stage k j (rest_end (stmts_in (slice_get job.blocks k)) j f) h)
   all_stmts k j (x ∷ ss) rest f h go =
-      let at = from_head k j x ss f in
+      let at = rest_head (stmts_in (slice_get job.blocks k)) j x ss f in
       all_one k j x x.kind (sets_in result k (j + 1) ss) rest refl at h
-      (all_stmts k (j + 1) ss rest (from_tail k j x ss f) (next_set k j x at h) go)
+      (all_stmts k (j + 1) ss rest (rest_tail (stmts_in (slice_get job.blocks k)) j x ss f) (next_set k j x at h) go)
 
-  abbrev BlocksFrom : ℕ → List Block → Type 0
-  BlocksFrom k bs = (i : ℕ) → slice_get job.blocks (k + i) ≡ slice_get bs i
+  blocks_head : (k : ℕ) (b : Block) (bs : List Block) → IsRest job.blocks k (b ∷ bs) → From k 0 b.stmts
+  blocks_head k b bs f i = let y : 0 + i ≡ i = omega arith in rw y (ap (λ (o : Option Block). slice_get (stmts_in o) i) (rest_head job.blocks k b bs f))
 
-  blocks_head : (k : ℕ) (b : Block) (bs : List Block) → BlocksFrom k (b ∷ bs) → From k 0 b.stmts
-  blocks_head k b bs f i =
-      let z : k + 0 ≡ k = omega arith in
-      let y : 0 + i ≡ i = omega arith in
-      let e : slice_get job.blocks k ≡ Some b = subst (λ (n : ℕ). slice_get job.blocks n ≡ Some b) z (f 0) in
-      rw y (ap (λ (o : Option Block). slice_get (stmts_in o) i) e)
-
-  blocks_tail : (k : ℕ) (b : Block) (bs : List Block) → BlocksFrom k (b ∷ bs) → BlocksFrom (k + 1) bs
-  blocks_tail k b bs f i = let z : (k + 1) + i ≡ k + suc i = omega arith in rw z (f (suc i))
-
-  all_blocks : (k : ℕ) (bs : List Block) → BlocksFrom k bs → IsSetBefore k 0 → AreNever (sets_from result k bs)
+  all_blocks : (k : ℕ) (bs : List Block) → IsRest job.blocks k bs → IsSetBefore k 0 → AreNever (sets_from result k bs)
   all_blocks k [] f h = tt
   all_blocks k (b ∷ bs) f h =
-      all_stmts k 0 b.stmts (sets_from result (k + 1) bs) (blocks_head k b bs f) h (all_blocks (k + 1) bs (blocks_tail k b bs f))
+      all_stmts k 0 b.stmts (sets_from result (k + 1) bs) (blocks_head k b bs f) h (all_blocks (k + 1) bs (rest_tail job.blocks k b bs f))
 
   -- BEFORE it, each set may.
   vain_one : (k j : ℕ) (x : Stmt) (kind : StmtKind) (more rest : List PlacedSet) → x.kind ≡ kind
@@ -112,14 +106,14 @@ module _ (job : Job) (result : List ℕ) where
       → AreNever (in_vain (sets_in result k j ss ++ rest))
   vain_stmts k j [] rest f all go = go
   vain_stmts k j (x ∷ ss) rest f all go =
-      let tail = from_tail k j x ss f in
-      vain_one k j x x.kind (sets_in result k (j + 1) ss) rest refl (from_head k j x ss f)
+      let tail = rest_tail (stmts_in (slice_get job.blocks k)) j x ss f in
+      vain_one k j x x.kind (sets_in result k (j + 1) ss) rest refl (rest_head (stmts_in (slice_get job.blocks k)) j x ss f)
       (λ h. all_stmts k (j + 1) ss rest tail h all) (vain_stmts k (j + 1) ss rest tail all go)
 
-  vain_blocks : (k : ℕ) (bs : List Block) → BlocksFrom k bs → AreNever (in_vain (sets_from result k bs))
+  vain_blocks : (k : ℕ) (bs : List Block) → IsRest job.blocks k bs → AreNever (in_vain (sets_from result k bs))
   vain_blocks k [] f = tt
   vain_blocks k (b ∷ bs) f =
-      let tail = blocks_tail k b bs f in
+      let tail = rest_tail job.blocks k b bs f in
       vain_stmts k 0 b.stmts (sets_from result (k + 1) bs) (blocks_head k b bs f) (all_blocks (k + 1) bs tail) (vain_blocks (k + 1) bs tail)
 
 pub are_in_vain : (job : Job) → AreInVain job
