@@ -1,16 +1,18 @@
 -- Literals, names, and calls of functions.
 use Rattle.std.proofs.Common.{◌≡◌, ◌∙◌, ℕ, ◌==◌, true, false, Bool, cond, List, [], ◌∷◌, Option, Some, None, length, refl, ap, sym, arith}
-use Rattle.std.{proofs.lemmas.Bool.eqb-true, proofs.lemmas.List.length-map, proofs.lemmas.Option.same_Some, specs.Prelude.is_some, specs.Option.option_map}
-use Rattle.kp_bits.specs.{Word.Word, Word.not_of, Checked.checked_literal, declared.literal.Literal.Literal}
+use Rattle.std.{proofs.lemmas.Bool.eqb-true, proofs.lemmas.List.length-map, proofs.lemmas.Option.same_Some, specs.Prelude.is_some}
+use Rattle.std.specs.Option.{option_map, option_and_then}
+use Rattle.kp_bits.specs.{Word.Word, Checked.checked_literal, declared.literal.Literal.Literal}
 use Rattle.kp_ast.specs.declared.tree.{Decl.Decl, FuncDecl.FuncDecl, Param.Param, Expr.Expr}
 use Rattle.kp_ast.specs.Expressions.{look_up, arguments_of, calls_of}
 use Rattle.kp_ast.specs.Checked.{Known, checked, checked_call, checked_calls_of}
-use Rattle.kp_ast.proofs.Parts.{value_Lit, value_Name}
+use Rattle.kp_ast.proofs.Parts.{value_Lit, value_Name, value_Call}
 use Rattle.kp_ast.specs.declared.tree.Decl.TheVariants as decls
 use Rattle.kp_ast.specs.declared.tree.ExprKind.TheVariants as leaf
+use Rattle.kp_ast.specs.declared.tree.ExprKind.TheViews as kind
 use Rattle.kp_net.specs.{declared.node.NodeId.NodeId, Nodes.Cells, Nodes.word_at, Growth.Held}
 use Rattle.kp_build.specs.Names.{Scope, node_of, word_of, known_at, IsSound, Gives, Means}
-use Rattle.kp_build.specs.inner.Showing.{IsThere, Shows, words_at, value_in}
+use Rattle.kp_build.specs.inner.Showing.{IsThere, Shows, words_at, value_in, values_in}
 use Rattle.kp_build.proofs.{Agree.agree, Agree.calls_agree, Fitting.no_cells, Names.given, Names.known_in_call}
 
 module _ (p : Held) (env : Scope) (e : Expr) where
@@ -30,9 +32,10 @@ module _ (p : Held) (env : Scope) (e : Expr) where
   unfolding Gives word_of
   name_gives q is n h = λ c. value_Name e (known_at c p env) q is ∙ ap (option_map (λ m. word_at c p.nodes m.0)) h
 
-pub not_shows : (p q : Held) (a n : NodeId) → ((c : Cells) → word_at c q.nodes n.0 ≡ not_of (word_at c p.nodes a.0)) → Shows q n (λ c. Some (not_of (word_at c p.nodes a.0)))
-unfolding Shows
-not_shows p q a n h = λ c. ap Some (sym (h c))
+  -- a call, of the functions of the environment
+  pub call_value : (ds : List Decl) → ds ≡ env.decls → (q : List ℕ) (es xs : List Expr) → e.kind ≡ kind.Call q es → xs ≡ es
+      → (c : Cells) → value_in p env e c ≡ option_and_then (checked_calls_of ds q) (values_in p env xs c)
+  call_value ds d q es xs is h c = value_Call e (known_at c p env) q es xs is h ∙ ap (λ zs. option_and_then (checked_calls_of zs q) (values_in p env xs c)) (sym d)
 
 -- a call of a function that is there
 pub last_there : (p : Held) (ds : List Decl) (name : List ℕ) (args : List NodeId) → length ds ≡ 0 → IsThere (λ c. checked_calls_of ds name (words_at c p args)) → ⊥

@@ -5,8 +5,8 @@ use Rattle.kp_bits.specs.{Word.Word, Word.not_of, Checked.checked_binary, Checke
 use Rattle.kp_ast.{specs.declared.tree.Expr.Expr, proofs.Parts.value_Not, proofs.Parts.value_Binary, proofs.Parts.value_Mux}
 use Rattle.kp_ast.specs.declared.tree.ExprKind.TheViews as kind
 use Rattle.kp_net.specs.{declared.node.NodeId.NodeId, Nodes.Cells, Nodes.word_at, Growth.Held}
-use Rattle.kp_build.specs.{Names.Scope, Names.known_at, Names.IsSound, Names.Gives, inner.Showing.value_in}
-use Rattle.kp_build.proofs.Giving.{first_there, second_there, third_there, mapped_there, sound_by, one_part, two_parts, three_parts}
+use Rattle.kp_build.specs.{Names.Scope, Names.known_at, Names.IsSound, Names.Gives, inner.Showing.IsThere, inner.Showing.Shows, inner.Showing.value_in}
+use Rattle.kp_build.proofs.Giving.{first_there, second_there, third_there, mapped_there, sound_by, fit_by, gives_by}
 
 module _ (p : Held) (env : Scope) (e : Expr) where
   -- ~a
@@ -17,8 +17,9 @@ module _ (p : Held) (env : Scope) (e : Expr) where
     pub sound_Not : IsSound p env e → IsSound p env x
     sound_Not = sound_by p env e x (λ c s. mapped_there not_of (value_in p env x c) (sym (ap is_some (value_not c)) ∙ s))
 
-    pub same_Not : (q : Held) (n : NodeId) → Gives p env x q n → (c : Cells) → value_in p env e c ≡ Some (not_of (word_at c q.nodes n.0))
-    same_Not q n = one_part p env e (λ c o. option_map not_of o) x q n value_not
+    pub gives_Not : (q r : Held) (n u : NodeId) → Gives p env x q n → ((c : Cells) → word_at c r.nodes u.0 ≡ not_of (word_at c q.nodes n.0)) → Gives p env e r u
+    unfolding Gives
+    gives_Not q r n u g k = λ c. value_not c ∙ ap (option_map not_of) (g c) ∙ ap Some (sym (k c))
 
   -- a + b
   module _ (op : BinOp) (a b x y : Expr) (is : e.kind ≡ kind.Binary op a b) (h : x ≡ a) (k : y ≡ b) where
@@ -34,8 +35,16 @@ module _ (p : Held) (env : Scope) (e : Expr) where
     pub sound_right : IsSound p env e → IsSound p env y
     sound_right = sound_by p env e y (λ c s. second_there (λ u w. checked_binary op u w) (value_in p env x c) (value_in p env y c) (sym (ap is_some (value_binary c)) ∙ s))
 
-    pub same_Binary : (q : Held) (n m : NodeId) → Gives p env x q n → Gives p env y q m → (c : Cells) → value_in p env e c ≡ checked_binary op (word_at c q.nodes n.0) (word_at c q.nodes m.0)
-    same_Binary q n m = two_parts p env e by_two x y q n m value_binary
+    module _ (q : Held) (n m : NodeId) (g : Gives p env x q n × Gives p env y q m) where
+      same_Binary : (c : Cells) → value_in p env e c ≡ checked_binary op (word_at c q.nodes n.0) (word_at c q.nodes m.0)
+      unfolding Gives
+      same_Binary c = value_binary c ∙ (λ i. by_two (g.0 c i) (g.1 c i))
+
+      pub fits_Binary : IsSound p env e → IsThere (λ c. checked_binary op (word_at c q.nodes n.0) (word_at c q.nodes m.0))
+      fits_Binary = fit_by p env e (λ c. checked_binary op (word_at c q.nodes n.0) (word_at c q.nodes m.0)) same_Binary
+
+      pub gives_Binary : (r : Held) (u : NodeId) → Shows r u (λ c. checked_binary op (word_at c q.nodes n.0) (word_at c q.nodes m.0)) → Gives p env e r u
+      gives_Binary = gives_by p env e (λ c. checked_binary op (word_at c q.nodes n.0) (word_at c q.nodes m.0)) same_Binary
 
   -- test ? a : b
   module _ (t a b s x y : Expr) (is : e.kind ≡ kind.Mux t a b) (g : s ≡ t) (h : x ≡ a) (k : y ≡ b) where
@@ -58,6 +67,13 @@ module _ (p : Held) (env : Scope) (e : Expr) where
     pub sound_no : IsSound p env e → IsSound p env y
     sound_no = sound_by p env e y (λ c so. (branches c so).1)
 
-    pub same_Mux : (q : Held) (l n m : NodeId) → Gives p env s q l → Gives p env x q n → Gives p env y q m
-        → (c : Cells) → value_in p env e c ≡ checked_mux (word_at c q.nodes l.0) (word_at c q.nodes n.0) (word_at c q.nodes m.0)
-    same_Mux q l n m = three_parts p env e by_three s x y q l n m value_mux
+    module _ (q : Held) (l n m : NodeId) (test : Gives p env s q l) (yes : Gives p env x q n) (no : Gives p env y q m) where
+      same_Mux : (c : Cells) → value_in p env e c ≡ checked_mux (word_at c q.nodes l.0) (word_at c q.nodes n.0) (word_at c q.nodes m.0)
+      unfolding Gives
+      same_Mux c = value_mux c ∙ (λ i. by_three (test c i) (yes c i) (no c i))
+
+      pub fits_Mux : IsSound p env e → IsThere (λ c. checked_mux (word_at c q.nodes l.0) (word_at c q.nodes n.0) (word_at c q.nodes m.0))
+      fits_Mux = fit_by p env e (λ c. checked_mux (word_at c q.nodes l.0) (word_at c q.nodes n.0) (word_at c q.nodes m.0)) same_Mux
+
+      pub gives_Mux : (r : Held) (u : NodeId) → Shows r u (λ c. checked_mux (word_at c q.nodes l.0) (word_at c q.nodes n.0) (word_at c q.nodes m.0)) → Gives p env e r u
+      gives_Mux = gives_by p env e (λ c. checked_mux (word_at c q.nodes l.0) (word_at c q.nodes n.0) (word_at c q.nodes m.0)) same_Mux

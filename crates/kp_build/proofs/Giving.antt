@@ -42,7 +42,7 @@ pub gives_later : (p : Held) (env : Scope) (e : Expr) (q r : Held) (k : ℕ) (n 
 unfolding Gives
 gives_later p env e q r k n g l h = λ c. h c ∙ ap Some (sym (g.kept.words c n.0 l))
 
--- an expression by its one part, its two and its three
+-- an expression by its parts
 module _ (p : Held) (env : Scope) (e : Expr) where
   module _ (f : Cells → Option Word) (same : (c : Cells) → value_in p env e c ≡ f c) where
     pub fit_by : IsSound p env e → IsThere f
@@ -57,35 +57,35 @@ module _ (p : Held) (env : Scope) (e : Expr) where
   unfolding IsSound
   sound_by x h s = λ c. h c (s c)
 
-  pub one_part : (F : Cells → Option Word → Option Word) (x : Expr) (q : Held) (n : NodeId) → ((c : Cells) → value_in p env e c ≡ F c (value_in p env x c)) → Gives p env x q n
-      → (c : Cells) → value_in p env e c ≡ F c (Some (word_at c q.nodes n.0))
-  unfolding Gives
-  one_part F x q n h g c = h c ∙ ap (F c) (g c)
+  -- of one part, which must be there
+  module _ (f : Word → Option Word) (x : Expr) (value : (c : Cells) → value_in p env e c ≡ option_and_then f (value_in p env x c)) where
+    pub one_sound : IsSound p env e → IsSound p env x
+    one_sound = sound_by x (λ c s. first_there f (value_in p env x c) (sym (ap is_some (value c)) ∙ s))
 
-  -- of a value that must be there
-  pub one_sound : (f : Word → Option Word) (x : Expr) → ((c : Cells) → value_in p env e c ≡ option_and_then f (value_in p env x c)) → IsSound p env e → IsSound p env x
-  one_sound f x h = sound_by x (λ c s. first_there f (value_in p env x c) (sym (ap is_some (h c)) ∙ s))
+    module _ (q : Held) (n : NodeId) (g : Gives p env x q n) where
+      one_same : (c : Cells) → value_in p env e c ≡ f (word_at c q.nodes n.0)
+      unfolding Gives
+      one_same c = value c ∙ ap (option_and_then f) (g c)
 
-  pub two_parts : (F : Option Word → Option Word → Option Word) (x y : Expr) (q : Held) (n m : NodeId) → ((c : Cells) → value_in p env e c ≡ F (value_in p env x c) (value_in p env y c))
-      → Gives p env x q n → Gives p env y q m → (c : Cells) → value_in p env e c ≡ F (Some (word_at c q.nodes n.0)) (Some (word_at c q.nodes m.0))
-  unfolding Gives
-  two_parts F x y q n m h g k c = h c ∙ ap (λ o. F o (value_in p env y c)) (g c) ∙ ap (F (Some (word_at c q.nodes n.0))) (k c)
+      pub one_fits : IsSound p env e → IsThere (λ c. f (word_at c q.nodes n.0))
+      one_fits = fit_by (λ c. f (word_at c q.nodes n.0)) one_same
 
-  pub three_parts : (F : Option Word → Option Word → Option Word → Option Word) (s x y : Expr) (q : Held) (l n m : NodeId)
-      → ((c : Cells) → value_in p env e c ≡ F (value_in p env s c) (value_in p env x c) (value_in p env y c)) → Gives p env s q l → Gives p env x q n → Gives p env y q m
-      → (c : Cells) → value_in p env e c ≡ F (Some (word_at c q.nodes l.0)) (Some (word_at c q.nodes n.0)) (Some (word_at c q.nodes m.0))
-  unfolding Gives
-  three_parts F s x y q l n m h i g k c =
-      h c
-      ∙ ap (λ o. F o (value_in p env x c) (value_in p env y c)) (i c)
-      ∙ ap (λ o. F (Some (word_at c q.nodes l.0)) o (value_in p env y c)) (g c)
-      ∙ ap (F (Some (word_at c q.nodes l.0)) (Some (word_at c q.nodes n.0))) (k c)
+      pub one_gives : (r : Held) (u : NodeId) → Shows r u (λ c. f (word_at c q.nodes n.0)) → Gives p env e r u
+      one_gives = gives_by (λ c. f (word_at c q.nodes n.0)) one_same
 
-  pub all_parts : (F : Option (List Word) → Option Word) (xs : List Expr) (q : Held) (ns : List NodeId) → ((c : Cells) → value_in p env e c ≡ F (values_in p env xs c))
-      → AllShow q ns (values_in p env xs) → (c : Cells) → value_in p env e c ≡ F (Some (words_at c q ns))
-  unfolding AllShow
-  all_parts F xs q ns h g c = h c ∙ ap F (g c)
+  -- of several parts, whose nodes stand in two lists that are equal
+  module _ (F : List Word → Option Word) (xs : List Expr) (value : (c : Cells) → value_in p env e c ≡ option_and_then F (values_in p env xs c)) where
+    pub all_sound : IsSound p env e → IsThere (values_in p env xs)
+    unfolding IsSound IsThere
+    all_sound s = λ c. first_there F (values_in p env xs c) (sym (ap is_some (value c)) ∙ s c)
 
-  pub all_sound : (F : List Word → Option Word) (xs : List Expr) → ((c : Cells) → value_in p env e c ≡ option_and_then F (values_in p env xs c)) → IsSound p env e → IsThere (values_in p env xs)
-  unfolding IsSound IsThere
-  all_sound F xs h s = λ c. first_there F (values_in p env xs c) (sym (ap is_some (h c)) ∙ s c)
+    module _ (q : Held) (ns ms : List NodeId) (is : ms ≡ ns) (g : AllShow q ns (values_in p env xs)) where
+      all_same : (c : Cells) → value_in p env e c ≡ F (words_at c q ms)
+      unfolding AllShow
+      all_same c = value c ∙ ap (option_and_then F) (g c) ∙ ap (λ zs. F (words_at c q zs)) (sym is)
+
+      pub all_fits : IsSound p env e → IsThere (λ c. F (words_at c q ms))
+      all_fits = fit_by (λ c. F (words_at c q ms)) all_same
+
+      pub all_gives : (r : Held) (u : NodeId) → Shows r u (λ c. F (words_at c q ms)) → Gives p env e r u
+      all_gives = gives_by (λ c. F (words_at c q ms)) all_same

@@ -1,5 +1,5 @@
 //! The traversal of an expression: a node for each part of it.
-ghost use Rattle.std.specs.Prelude.{◌≡◌, ◌*◌, ◌<◌, ◌≤◌, length, IfOk};
+ghost use Rattle.std.specs.Prelude.{◌≡◌, ◌+◌, ◌*◌, ◌<◌, ◌≤◌, length, IfOk};
 ghost use Rattle.std.specs.List.{sum_by};
 ghost use Rattle.kp_ast.specs.Size.{size, bodies_of, body_size_of};
 ghost use Rattle.kp_ast.specs.Checked.{checked_calls_of, checked_call};
@@ -38,14 +38,12 @@ pub(crate) fn node_for(
             Ok(inverted(pool, a))
         }
         ExprKind::Binary(op, a, b) => {
-            let a = node_for(alloc, pool, env, a.get())?;
-            let b = node_for(alloc, pool, env, b.get())?;
+            let (a, b) = two_for(alloc, pool, env, a.get(), b.get())?;
             Ok(operated(pool, *op, a, b))
         }
         ExprKind::Mux(test, a, b) => {
             let test = node_for(alloc, pool, env, test.get())?;
-            let a = node_for(alloc, pool, env, a.get())?;
-            let b = node_for(alloc, pool, env, b.get())?;
+            let (a, b) = two_for(alloc, pool, env, a.get(), b.get())?;
             Ok(chosen(pool, test, a, b))
         }
         ExprKind::Concat(parts) => {
@@ -69,6 +67,28 @@ pub(crate) fn node_for(
             called(alloc, pool, env.decls(), name, args.as_slice())
         }
     }
+}
+
+// The nodes of two expressions.
+#[cycle(walk)]
+fn two_for(
+    alloc: Global,
+    pool: &mut Pool,
+    env: &Env,
+    a: &Expr,
+    b: &Expr,
+) -> Result<(NodeId, NodeId), NoMemory>
+    requires room { 8 * (size env.now.decls a.now + size env.now.decls b.now) ≤ pool.old.spare }
+    requires inside { AreInside pool.old env.now }
+    requires left { IsSound pool.old env.now a.now }
+    requires right { IsSound pool.old env.now b.now }
+    ensures inside { IfOk result (λ ns. (ns.0.0 < length pool.new.nodes) × (ns.1.0 < length pool.new.nodes)) }
+    ensures gives { IfOk result (λ ns. Gives pool.old env.now a.now pool.new ns.0 × Gives pool.old env.now b.now pool.new ns.1) }
+    ensures grown { Grown pool.old pool.new (8 * (size env.now.decls a.now + size env.now.decls b.now)) }
+{
+    let a = node_for(alloc, pool, env, a)?;
+    let b = node_for(alloc, pool, env, b)?;
+    Ok((a, b))
 }
 
 // A node for each expression.

@@ -8,6 +8,9 @@ use Rattle.kp_build.proofs.walk.+walk.Given as goal
 abbrev pub decreases-node_for : goal.decreases-node_for
 decreases-node_for l = 4 * steps l.e.now + 4 * work l.env.now.decls
 
+abbrev pub decreases-two_for : goal.decreases-two_for
+decreases-two_for l = (4 * (steps l.a.now + steps l.b.now) + 1) + 4 * work l.env.now.decls
+
 abbrev pub decreases-nodes_for : goal.decreases-nodes_for
 decreases-nodes_for l = (4 * all_steps l.es.now + 1) + 4 * work l.env.now.decls
 
