@@ -1,9 +1,7 @@
 -- Registers and files take the values of nodes.
 use Rattle.std.proofs.Common.{◌≡◌, ◌==◌, ℕ, false, cond, ◌+◌, ◌<◌, ◌≤◌, ◌^◌, List, [], length, get_or, set, map, refl, sym, subst, ap, ◌∙◌, arith, ⊎_elim, Option, None, Some}
-use Rattle.std.proofs.lemmas.Bool.{cases_lt}
-use Rattle.std.proofs.lemmas.List.{get_or-set_other, get_or-map, ext_get_or, length-map}
-use Rattle.std.proofs.lemmas.{Grind.get_or-set_at, Slice.Zip.get_or-zip, Slice.Zip.length-zip}
-use Rattle.std.specs.List.{zip}
+use Rattle.std.proofs.lemmas.{Bool.cases_lt, List.get_or-set_other, List.get_or-map, List.ext_get_or, List.length-map, Grind.get_or-set_at}
+use Rattle.std.{proofs.lemmas.Slice.Zip.get_or-zip, proofs.lemmas.Slice.Zip.length-zip, specs.List.zip}
 use Rattle.kp_net.specs.declared.{node.Node.Node, netlist.NetReg.NetReg, netlist.NetFile.NetFile, netlist.WritePort.WritePort}
 use Rattle.kp_net.specs.Nodes.{Cells, at, on}
 use Rattle.kp_net.specs.Netlist.{Net, Input, State, start_regs, port_after, files_after, regs_after, resets, state_after, cells_of}

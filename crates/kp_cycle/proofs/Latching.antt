@@ -2,11 +2,10 @@
 use Rattle.std.proofs.Common.{◌≡◌, ◌==◌, ◌⊎◌, ℕ, Bool, true, false, cond, ◌<◌, List, length, get_or, set, sym, subst, ap, refl, ◌∙◌, arith, ⊎_elim}
 use Rattle.std.proofs.lemmas.{Bool.eqb-true, List.Elements.All-get_or, Grind.get_or-set_at}
 use Rattle.kp_bits.specs.Word as bits
-use Rattle.kp_net.specs.declared.node.{NodeId.NodeId, Kind.Kind}
-use Rattle.kp_net.specs.declared.node.Kind.TheVariants.{Reg, Mux}
-use Rattle.kp_net.specs.{declared.node.Node.Node, Nodes.Cells, Nodes.word_of_kind, Nodes.word_at, Nodes.at}
-use Rattle.kp_net.specs.{Widths.no_node, Widths.is_cell, Widths.KindOk, Widths.AllRight, Netlist.Net, Netlist.Input, Netlist.State, Netlist.cells_of}
-use Rattle.kp_net.{specs.Parts.NetOk, specs.Parts.RegOk, specs.Parts.no_reg, proofs.Exact.node_exact, proofs.Exact.word_has, proofs.Values.word_there}
+use Rattle.kp_net.specs.declared.node.{NodeId.NodeId, Kind.Kind, Kind.TheVariants.Reg, Kind.TheVariants.Mux, Node.Node}
+use Rattle.kp_net.specs.{Nodes.Cells, Nodes.word_of_kind, Nodes.word_at, Nodes.at, Widths.no_node, Widths.is_cell, Widths.KindOk, Widths.AllRight}
+use Rattle.kp_net.specs.{Netlist.Net, Netlist.Input, Netlist.State, Netlist.cells_of, Parts.NetOk, Parts.RegOk, Parts.no_reg}
+use Rattle.kp_net.proofs.{Exact.node_exact, Exact.word_has, Values.word_there}
 use Rattle.kp_cycle_plan.specs.declared.latches.{Latch.TheVariants.Always, Latch.TheVariants.If, Held.Held, Moved.Moved}
 use Rattle.kp_cycle_plan.specs.Latches.{is_reg, latch_in, latch_for, OfLatch, latched, no_moved, no_held, IsMoved, IsHeld, IsLatched}
 use Rattle.kp_cycle_plan.proofs.Lists.{set_has}

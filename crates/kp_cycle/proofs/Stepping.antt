@@ -7,11 +7,10 @@ use Rattle.kp_bits.specs.Operators.{binary_of, joined_of}
 use Rattle.kp_net.specs.declared.node.{NodeId.NodeId, Kind.Kind}
 use Rattle.kp_net.specs.declared.node.Kind.TheVariants.{Const, Reg, Word, Not, Binary, Mux, Concat, Slice}
 use Rattle.kp_net.specs.{declared.node.Node.Node, Nodes.Cells, Nodes.Words, Nodes.word_of_kind, Nodes.word_of_node, Nodes.word_at, Nodes.at}
-use Rattle.kp_net.specs.{Widths.wide, Widths.no_node, Widths.KindOk, Widths.AllRight}
-use Rattle.kp_net.specs.{Netlist.Net, Netlist.Input, Netlist.State, Netlist.cells_of, Parts.CellOk, Parts.NetOk}
-use Rattle.kp_net.proofs.Values.{word_there, word_is, at_fits}
+use Rattle.kp_net.specs.{Widths.wide, Widths.no_node, Widths.KindOk, Widths.AllRight, Netlist.Net, Netlist.Input, Netlist.State, Netlist.cells_of}
+use Rattle.kp_net.{specs.Parts.CellOk, specs.Parts.NetOk, proofs.Values.word_there, proofs.Values.word_is, proofs.Values.at_fits}
 use Rattle.kp_cycle_plan.specs.declared.codes.{Op.Op, Op.TheVariants.Plain, Step.Step}
-use Rattle.kp_cycle_plan.specs.{Codes.op_for, Codes.number_of, Codes.IsReady}
+use Rattle.kp_cycle_plan.specs.Codes.{op_for, number_of, IsReady}
 use Rattle.kp_cycle_plan.specs.Plans.{reads, reads_at, Among, IsKnown, OfRoots, IsPlan, no_step, targets}
 use Rattle.kp_cycle_plan.proofs.{Lists.set_has, Marking.roots_are}
 use Rattle.kp_cycle.{specs.inner.Settling.AreFixed, specs.inner.Settling.Settled, proofs.Coding.coded, proofs.Coding.ready}

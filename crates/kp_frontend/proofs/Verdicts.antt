@@ -1,13 +1,11 @@
 -- An input has one verdict: one job, or one first violated rule at one position.
 use Rattle.std.proofs.Common.{◌≡◌, ℕ, List, length, Result, Ok, Err, Some, None, inl, inr, ap, subst, refl, sym, ◌∙◌, arith}
-use Rattle.std.proofs.lemmas.Bool.{cases_lt}
-use Rattle.std.specs.declared.option.Option.{Option}
+use Rattle.std.{proofs.lemmas.Bool.cases_lt, specs.declared.option.Option.Option}
 use Rattle.kp_base.specs.{Refusal.e_rule, declared.place.Place.Place, declared.refusal.Refusal.Refusal}
 use Rattle.kp_ast.specs.declared.tree.Job.{Job}
-use Rattle.kp_lex.specs.{Text.HasOutcome, Text.tail_of, declared.token.Lexed.Lexed}
-use Rattle.kp_lex.proofs.Outcome.{one_outcome, some_outcome}
-use Rattle.kp_parse.specs.Sentence.{IsTree, Breaks}
-use Rattle.kp_parse.proofs.{Unique.one_tree, Unique.one_rule, Unique.no_rule, Verdict.has_verdict}
+use Rattle.kp_lex.{specs.Text.HasOutcome, specs.Text.tail_of, specs.declared.token.Lexed.Lexed, proofs.Outcome.one_outcome, proofs.Outcome.some_outcome}
+use Rattle.kp_parse.{specs.Sentence.IsTree, specs.Sentence.Breaks, proofs.Unique.one_tree, proofs.Unique.one_rule, proofs.Unique.no_rule}
+use Rattle.kp_parse.proofs.Verdict.{has_verdict}
 use Rattle.kp_frontend.specs.Judging.{IsSentenceOf, JudgesText, Judges, JudgesHeadText, JudgesHead, broken_in, most_bytes}
 use Rattle.kp_frontend.specs.Judging.JudgesText.{no_tokens, no_sentence, no_end, no_job, accepted}
 use Rattle.kp_frontend.specs.Judging.Judges.{over, within}

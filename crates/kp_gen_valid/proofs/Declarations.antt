@@ -11,7 +11,7 @@ use Rattle.kp_width.specs.Declarations.{address_width, name_of, after_name, decl
 use Rattle.kp_gen.specs.declared.draws.Route.{Route}
 use Rattle.kp_gen.specs.Generated.{place, named, num, numbered, register_name, result_of, target, for_each, all_decls}
 use Rattle.kp_gen_valid.proofs.Texts.{registers_at, file_at, address_at, value_at, results_at, with_registers, with_file, with_pipes, with_address, with_value, with_results, all_names, free_registers, free_file, free_pipes, free_address, free_value, register_there, file_there, address_there, file_result_free}
-use Rattle.kp_gen_valid.proofs.{Forms.register, Forms.pipe, Steps.then, Steps.is_fresh}
+use Rattle.kp_gen_valid.proofs.{Forms.register, Forms.pipe, Forms.file, Forms.pipe_AF, Forms.pipe_VF, Forms.file_result, Steps.then, Steps.is_fresh}
 use Rattle.kp_gen_valid.proofs.Lookups.{spread, other_number, look_first, look_second, look_past}
 
 -- between two declarations these names are in scope, and these are the entries
@@ -139,54 +139,42 @@ module _ (ds : List Decl) (n : ℕ) (rs : List Route) (few : length rs ≤ 35) w
   abbrev HasRegisters : Names → Type 0
   HasRegisters text = (j : ℕ) → j < m → look_up text (numbered 82 j) ≡ Some (registers_at m few j)
 
-  abbrev file_result : Decl
-  file_result = target (codes "CF") (codes "F") (Some (named (codes "AF"))) (n - 1)
-
-  last : (es : List Entry) → Passes (declarations_of ds ((m + m + 3) + m) 0 (between (with_results m few) es) (file_result ∷ [])) (all_names m few)
+  last : (es : List Entry) → Passes (declarations_of ds ((m + m + 3) + m) 0 (between (with_results m few) es) (file_result n ∷ [])) (all_names m few)
   last es =
-      one_more ds ((m + m + 3) + m) (between (with_results m few) es) file_result [] (all_names m few) (all_names m few) refl
+      one_more ds ((m + m + 3) + m) (between (with_results m few) es) (file_result n) [] (all_names m few) (all_names m few) refl
       (file_result_passes ds ((m + m + 3) + m) (with_results m few) es (n - 1) (0 + m) ((m + 1) + m)
       (look_first (with_value m few) (spread 67 (results_at m few) 0 m) (codes "F") (file_at m few) (file_there m few))
       (look_first (with_value m few) (spread 67 (results_at m few) 0 m) (codes "AF") (address_at m few) (address_there m few))
       (file_result_free m few))
       (λ es'. record { entries = es'; found = refl })
 
-  results : (es : List Entry) → Passes (declarations_of ds ((m + m + 3) + 0) 0 (between (with_value m few) es) (for_each result_of 0 rs ++ file_result ∷ [])) (all_names m few)
+  results : (es : List Entry) → Passes (declarations_of ds ((m + m + 3) + 0) 0 (between (with_value m few) es) (for_each result_of 0 rs ++ file_result n ∷ [])) (all_names m few)
   results es =
       each_passes ds 67 (m + m + 3) m kinds.Target result_of HasRegisters
       (λ text es j r h good free. result_passes ds ((m + m + 3) + j) text es j r (0 + j) (good j h) free)
       (λ text j good k h. look_first text ((numbered 67 j, results_at m few j) ∷ []) (numbered 82 k) (registers_at m few k) (good k h))
-      (λ j r. refl) (omega arith) (with_value m few) (all_names m few) es 0 rs (file_result ∷ []) (omega arith) (register_there m few)
+      (λ j r. refl) (omega arith) (with_value m few) (all_names m few) es 0 rs (file_result n ∷ []) (omega arith) (register_there m few)
       (λ j h l. free_value m few (numbered 67 j) (λ k h l. refl) refl (λ k h l. refl) refl refl)
       last
 
-  abbrev pipe_AF : Decl
-  pipe_AF = decls.Pipe (named (codes "AF")) (num 8)
-
-  abbrev pipe_VF : Decl
-  pipe_VF = decls.Pipe (named (codes "VF")) (num 16)
-
-  two_pipes : (es : List Entry) → Passes (declarations_of ds ((m + 1) + m) 0 (between (with_pipes m few) es) (pipe_AF ∷ pipe_VF ∷ for_each result_of 0 rs ++ file_result ∷ [])) (all_names m few)
+  two_pipes : (es : List Entry) → Passes (declarations_of ds ((m + 1) + m) 0 (between (with_pipes m few) es) (pipe_AF ∷ pipe_VF ∷ for_each result_of 0 rs ++ file_result n ∷ [])) (all_names m few)
   two_pipes es =
-      one_more ds ((m + 1) + m) (between (with_pipes m few) es) pipe_AF (pipe_VF ∷ for_each result_of 0 rs ++ file_result ∷ []) (with_address m few) (all_names m few) refl
+      one_more ds ((m + 1) + m) (between (with_pipes m few) es) pipe_AF (pipe_VF ∷ for_each result_of 0 rs ++ file_result n ∷ []) (with_address m few) (all_names m few) refl
       (after_fresh ds ((m + 1) + m) (with_pipes m few) es pipe_AF (address_at m few) (free_pipes m few (codes "AF") (λ k h l. refl) refl (λ k h l. refl)) refl)
-      (λ es'. one_more ds (((m + 1) + m) + 1) (between (with_address m few) es') pipe_VF (for_each result_of 0 rs ++ file_result ∷ []) (with_value m few) (all_names m few) refl
+      (λ es'. one_more ds (((m + 1) + m) + 1) (between (with_address m few) es') pipe_VF (for_each result_of 0 rs ++ file_result n ∷ []) (with_value m few) (all_names m few) refl
       (after_fresh ds (((m + 1) + m) + 1) (with_address m few) es' pipe_VF (value_at m few) (free_address m few (codes "VF") (λ k h l. refl) refl (λ k h l. refl) refl) refl)
-      (λ es''. at_index ds ((m + m + 3) + 0) ((((m + 1) + m) + 1) + 1) (between (with_value m few) es'') (for_each result_of 0 rs ++ file_result ∷ []) (all_names m few) (omega arith) (results es'')))
+      (λ es''. at_index ds ((m + m + 3) + 0) ((((m + 1) + m) + 1) + 1) (between (with_value m few) es'') (for_each result_of 0 rs ++ file_result n ∷ []) (all_names m few) (omega arith) (results es'')))
 
   abbrev behind_file : List Decl
-  behind_file = for_each pipe 0 rs ++ (pipe_AF ∷ pipe_VF ∷ for_each result_of 0 rs ++ file_result ∷ [])
+  behind_file = for_each pipe 0 rs ++ (pipe_AF ∷ pipe_VF ∷ for_each result_of 0 rs ++ file_result n ∷ [])
 
   pipes : (es : List Entry) → Passes (declarations_of ds ((m + 1) + 0) 0 (between (with_file m few) es) behind_file) (all_names m few)
   pipes es =
       each_passes ds 80 (m + 1) m kinds.Pipe pipe Any
       (λ text es j r h good free. pipe_passes ds ((m + 1) + j) text es j r free)
-      (λ text j good. tt) (λ j r. refl) (omega arith) (with_file m few) (all_names m few) es 0 rs (pipe_AF ∷ pipe_VF ∷ for_each result_of 0 rs ++ file_result ∷ []) (omega arith) tt
+      (λ text j good. tt) (λ j r. refl) (omega arith) (with_file m few) (all_names m few) es 0 rs (pipe_AF ∷ pipe_VF ∷ for_each result_of 0 rs ++ file_result n ∷ []) (omega arith) tt
       (λ j h l. free_file m few (numbered 80 j) (λ k h l. refl) refl)
       two_pipes
-
-  abbrev file : Decl
-  file = decls.File (named (codes "F")) (num 16) (num 8)
 
   in_parts : Passes (declarations_of ds 0 0 nothing (for_each register 0 rs ++ (file ∷ behind_file))) (all_names m few)
   in_parts =
@@ -203,6 +191,6 @@ module _ (ds : List Decl) (n : ℕ) (rs : List Route) (few : length rs ≤ 35) w
       let middle : List Decl = pipe_AF ∷ pipe_VF ∷ for_each result_of 0 rs in
       let front : List Decl = file ∷ for_each pipe 0 rs in
       let same : all_decls n rs ≡ for_each register 0 rs ++ (file ∷ behind_file) =
-      append_assoc (for_each register 0 rs ++ front) middle (file_result ∷ [])
-      ∙ append_assoc (for_each register 0 rs) front (middle ++ file_result ∷ []) in
+      append_assoc (for_each register 0 rs ++ front) middle (file_result n ∷ [])
+      ∙ append_assoc (for_each register 0 rs) front (middle ++ file_result n ∷ []) in
       subst (λ x. Passes (declarations_of ds 0 0 nothing x) (all_names m few)) (sym same) in_parts

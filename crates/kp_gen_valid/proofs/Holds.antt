@@ -6,7 +6,7 @@ use Rattle.kp_stage.specs.{Facts.facts_of, Rules.broken_by, Sizes.sizes_of, Coun
 use Rattle.kp_image.specs.Sections.{sections_of}
 use Rattle.kp_gen.specs.{declared.draws.Route.Route, Draws.next, Draws.drawn, Draws.routes_from, Draws.routes_drawn, Draws.stages_drawn, Draws.registers_drawn}
 use Rattle.kp_gen.specs.Generated.{place, job_of, gen_job}
-use Rattle.kp_gen_valid.proofs.{NamesHold.few_registers, Walks.AllFrom, Kept.IsFine, Kept.rules_kept, Totals.sizes_kept, Totals.counts_kept}
+use Rattle.kp_gen_valid.proofs.{NamesHold.few_registers, Finds.AllFrom, Kept.IsFine, Kept.rules_kept, Totals.sizes_kept, Totals.counts_kept}
 
 pub three : (a b c : Answer) → a ≡ None → b ≡ None → c ≡ None → first (a ∷ b ∷ c ∷ []) ≡ None
 three a b c e f g = rw (e, f, g) refl

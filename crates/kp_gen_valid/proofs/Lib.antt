@@ -5,8 +5,9 @@ pub mod Texts
 mod Declarations
 mod Statements
 pub mod NamesHold
-mod Walks
 mod Finds
+mod Items
+mod Walks
 mod Declared
 mod Puts
 mod Sets

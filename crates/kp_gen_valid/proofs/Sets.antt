@@ -7,20 +7,13 @@ use Rattle.kp_stage.specs.{declared.rules.Rule.Rule, Facts.Facts, Facts.sets_in,
 use Rattle.kp_stage.specs.Rules.{ask_stmt, ask_stmts, holds_of}
 use Rattle.kp_gen.specs.declared.draws.Route.{Route}
 use Rattle.kp_gen.specs.Generated.{place, result_name, set, file_set, file_sets, sets_from, later_stmts, later_block, all_blocks}
-use Rattle.kp_gen_valid.proofs.{Lookups.other_number, Lookups.same_true, Lookups.either, Texts.no_number, Walks.past}
+use Rattle.kp_gen_valid.proofs.{Lookups.other_number, Lookups.same_true, Lookups.either, Texts.no_number, Finds.past, Finds.at_some}
+use Rattle.kp_gen_valid.proofs.Declared.{is_where, is_nowhere}
 
--- the statement at this number is the first
-is_first : (o : Option ℕ) (i : ℕ) → o ≡ Some i → answer (holds_of (λ (j : ℕ). j == i) o) (e_rule 21 place) ≡ None
-is_first None i e = cc
-is_first (Some j) i e = let p : j ≡ i = cc in rw (eq-eqb j i p) refl
-
-own_set : (b : Bool) (i : ℕ) (more : List (Option ℕ)) → b ≡ true → first (cond b (Some i) None ∷ more) ≡ Some i
-own_set true i more e = refl
-own_set false i more e = cc
-
-other_set : (b : Bool) (i : ℕ) (more : List (Option ℕ)) → b ≡ false → first (cond b (Some i) None ∷ more) ≡ first more
-other_set true i more e = cc
-other_set false i more e = refl
+-- an entry at its own number, by a rule
+pub first_one : (rule : ℕ) (o : Option ℕ) (i : ℕ) → o ≡ Some i → answer (holds_of (λ (j : ℕ). j == i) o) (e_rule rule place) ≡ None
+first_one rule None i e = cc
+first_one rule (Some j) i e = let p : j ≡ i = cc in rw (eq-eqb j i p) refl
 
 module _ (facts : Facts) (m k : ℕ) (few : m ≤ 35) where
   abbrev behind : List ℕ → ℕ → ℕ → List Route → Option ℕ
@@ -33,19 +26,19 @@ module _ (facts : Facts) (m k : ℕ) (few : m ≤ 35) where
   each i j [] e results file =
       either (k == 1)
       (λ h. let here : facts.set_in k (codes "CF") ≡ Some i = file ∙ (rw h refl) in
-      rw h (past (ask_stmt facts Rule.E21 k i file_set.kind) [] (is_first (facts.set_in k (codes "CF")) i here)))
+      rw h (past (ask_stmt facts Rule.E21 k i file_set.kind) [] (first_one 21 (facts.set_in k (codes "CF")) i here)))
       (λ h. rw h refl)
   each i j (r ∷ rs) e results file =
       either (r.set == k)
       (λ h. let tail : List Stmt = sets_from k (j + 1) rs ++ file_sets k in
       let shape : (q : List ℕ) → behind q i j (r ∷ rs) ≡ first (sets_in q i (set j r ∷ tail)) = (λ q. rw h refl) in
       let here : facts.set_in k (result_name j) ≡ Some i =
-      results j (omega arith) (omega arith) ∙ shape (result_name j) ∙ own_set (is_same_name (result_name j) (result_name j)) i (sets_in (result_name j) (i + 1) tail) (same_true (result_name j)) in
-      rw h (past (ask_stmt facts Rule.E21 k i (set j r).kind) (ask_stmts facts Rule.E21 k (i + 1) tail) (is_first (facts.set_in k (result_name j)) i here)
+      results j (omega arith) (omega arith) ∙ shape (result_name j) ∙ at_some _ (sets_in (result_name j) (i + 1) tail) i (is_where (result_name j) (result_name j) i (same_true (result_name j))) in
+      rw h (past (ask_stmt facts Rule.E21 k i (set j r).kind) (ask_stmts facts Rule.E21 k (i + 1) tail) (first_one 21 (facts.set_in k (result_name j)) i here)
       ∙ each (i + 1) (j + 1) rs (omega arith)
       (λ x a b. results x (omega arith) b ∙ shape (result_name x)
-      ∙ other_set (is_same_name (result_name x) (result_name j)) i (sets_in (result_name x) (i + 1) tail) (other_number 67 x j (omega arith) (omega arith) (λ y. omega (arith, y, a))))
-      (file ∙ shape (codes "CF") ∙ other_set (is_same_name (codes "CF") (result_name j)) i (sets_in (codes "CF") (i + 1) tail) (no_number j (omega arith)))))
+      ∙ past _ (sets_in (result_name x) (i + 1) tail) (is_nowhere (result_name x) (result_name j) i (other_number 67 x j (omega arith) (omega arith) (λ y. omega (arith, y, a)))))
+      (file ∙ shape (codes "CF") ∙ past _ (sets_in (codes "CF") (i + 1) tail) (is_nowhere (codes "CF") (result_name j) i (no_number j (omega arith))))))
       (λ h. let shape : (q : List ℕ) → behind q i j (r ∷ rs) ≡ behind q i (j + 1) rs = (λ q. rw h refl) in
       rw h (each i (j + 1) rs (omega arith) (λ x a b. results x (omega arith) b ∙ shape (result_name x)) (file ∙ shape (codes "CF"))))
 

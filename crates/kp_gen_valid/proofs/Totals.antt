@@ -12,7 +12,7 @@ use Rattle.kp_stage.specs.Sizes.{size_of_stmt, stmts_sized, blocks_sized, sizes_
 use Rattle.kp_gen.specs.Generated.{place, name, number, binary, low_byte, read_name, pipe_name, result_of, set, file_read, address_put, value_put, file_set, file_sets, for_each, sets_from, first_stmts, later_stmts, later_block, all_decls, all_blocks, job_of}
 use Rattle.kp_gen.specs.declared.draws.Route.{Route}
 use Rattle.kp_gen_valid.proofs.Forms.{register, pipe, read, put, file, pipe_AF, pipe_VF, file_result}
-use Rattle.kp_gen_valid.proofs.{Walks.past, Walks.holding, Lookups.either}
+use Rattle.kp_gen_valid.proofs.{Finds.past, Finds.holding, Lookups.either, Items.Each, Items.each_first, Items.each_later}
 
 -- the counts of kp_stage: their types
 abbrev TypeOf : {X : Type 0} → X → Type 0
@@ -94,32 +94,10 @@ module _ (ds : List Decl) where
     pub none : first c.asked ≡ None
     pub bound : c.value ≤ most
 
-  abbrev AllSmall : List Stmt → Type 0
-  AllSmall [] = Unit {0}
-  AllSmall (s ∷ ss) = Small s × AllSmall ss
+  small_first : (rs : List Route) → Each Small (first_stmts rs)
+  small_first rs = each_first Small rs (λ i r. omega arith) (omega (arith, of_byte (read_name 1))) (small_put (length rs)) (omega (arith, of_byte (read_name 0))) (omega (arith, of_name (codes "f")))
 
-  small_append : (xs ys : List Stmt) → AllSmall xs → AllSmall ys → AllSmall (xs ++ ys)
-  small_append [] ys a b = b
-  small_append (x ∷ xs) ys a b = (a.0, small_append xs ys a.1 b)
-
-  small_each : (make : ℕ → Route → Stmt) (j : ℕ) (rs : List Route) → ((i : ℕ) (r : Route) → Small (make i r)) → AllSmall (for_each make j rs)
-  small_each make j [] h = tt
-  small_each make j (r ∷ rs) h = (h j r, small_each make (j + 1) rs h)
-
-  small_sets : (k j : ℕ) (rs : List Route) → AllSmall (sets_from k j rs)
-  small_sets k j [] = tt
-  small_sets k j (r ∷ rs) = either (r.set == k) (λ e. rw e (small_set j r, small_sets k (j + 1) rs)) (λ e. rw e (small_sets k (j + 1) rs))
-
-  small_last : (k : ℕ) → AllSmall (file_sets k)
-  small_last k = either (k == 1) (λ e. rw e (small_file_set, tt)) (λ e. rw e tt)
-
-  small_first : (rs : List Route) → AllSmall (first_stmts rs)
-  small_first rs =
-      small_append (for_each read 0 rs ++ file_read ∷ for_each (put (length rs)) 0 rs) (address_put ∷ value_put ∷ [])
-      (small_append (for_each read 0 rs) (file_read ∷ for_each (put (length rs)) 0 rs) (small_each read 0 rs (λ i r. omega arith)) (omega (arith, of_byte (read_name 1)), small_each (put (length rs)) 0 rs (small_put (length rs))))
-      (omega (arith, of_byte (read_name 0)), (omega (arith, of_name (codes "f")), tt))
-
-  stmts_fit : (total : ℕ) (ss : List Stmt) → AllSmall ss → total + 5 * length ss ≤ 100000 → Sized (total + 5 * length ss) (stmts_sized ds total ss)
+  stmts_fit : (total : ℕ) (ss : List Stmt) → Each Small ss → total + 5 * length ss ≤ 100000 → Sized (total + 5 * length ss) (stmts_sized ds total ss)
   stmts_fit total [] all h = record { none = refl; bound = omega arith }
   stmts_fit total (s ∷ ss) all h =
       let one : size_of_stmt ds s ≤ 5 = all.0 in
@@ -131,15 +109,12 @@ module _ (ds : List Decl) where
         bound = omega (arith, one, limit);
       }
 
-  small_later : (rs : List Route) (k : ℕ) → AllSmall (later_stmts rs k)
-  small_later rs k = small_append (sets_from k 0 rs) (file_sets k) (small_sets k 0 rs) (small_last k)
-
   later_fit : (total k c : ℕ) (rs : List Route) → length rs ≤ 35 → total + 180 * c ≤ 100000
       → first (blocks_sized ds total (map (later_block rs) (range_with_len k c))).asked ≡ None
   later_fit total k zero rs few h = refl
   later_fit total k (suc c) rs few h =
       let l = length_later rs k in
-      let here = stmts_fit total (later_stmts rs k) (small_later rs k) (omega (arith, h, l, few)) in
+      let here = stmts_fit total (later_stmts rs k) (each_later Small small_set small_file_set rs k) (omega (arith, h, l, few)) in
       let b = here.bound in
       one_list (stmts_sized ds total (later_stmts rs k)).asked (blocks_sized ds (stmts_sized ds total (later_stmts rs k)).value (map (later_block rs) (range_with_len (k + 1) c))).asked
       here.none (later_fit (stmts_sized ds total (later_stmts rs k)).value (k + 1) c rs few (omega (arith, h, l, b, few)))
@@ -239,18 +214,12 @@ sum_each f make weight j (r ∷ rs) h =
     let more = sum_each f make weight (j + 1) rs h in
     e ∙ rw (a, more) (grind arith)
 
-no_sets : (f : Stmt → ℕ) → ((i : ℕ) (r : Route) → f (set i r) ≡ 0) → (k j : ℕ) (rs : List Route) → sum_by f (sets_from k j rs) ≡ 0
-no_sets f h k j [] = refl
-no_sets f h k j (r ∷ rs) =
-    either (r.set == k)
-    (λ e. rw e (sum_by-cons f (set j r) (sets_from k (j + 1) rs) ∙ (rw (h j r, no_sets f h k (j + 1) rs) refl)))
-    (λ e. rw e (no_sets f h k (j + 1) rs))
-
-no_last : (f : Stmt → ℕ) → f file_set ≡ 0 → (k : ℕ) → sum_by f (file_sets k) ≡ 0
-no_last f h k = either (k == 1) (λ e. rw e (sum_by-cons f file_set [] ∙ (rw h refl))) (λ e. rw e refl)
+none_in : (f : Stmt → ℕ) (ss : List Stmt) → Each (λ s. f s ≡ 0) ss → sum_by f ss ≡ 0
+none_in f [] all = refl
+none_in f (s ∷ ss) all = sum_by-cons f s ss ∙ (rw (all.0, none_in f ss all.1) refl)
 
 no_later : (f : Stmt → ℕ) → ((i : ℕ) (r : Route) → f (set i r) ≡ 0) → f file_set ≡ 0 → (rs : List Route) (k : ℕ) → sum_by f (later_stmts rs k) ≡ 0
-no_later f h l rs k = omega (arith, sum_by-append f (sets_from k 0 rs) (file_sets k), no_sets f h k 0 rs, no_last f l k)
+no_later f h l rs k = none_in f (later_stmts rs k) (each_later (λ s. f s ≡ 0) h l rs k)
 
 later_counted : (c : Counts) (k x : ℕ) (rs : List Route) → Room c [] → first (blocks_counted c (map (later_block rs) (range_with_len k x))).asked ≡ None
 later_counted c k zero rs h = refl
@@ -302,25 +271,17 @@ sum_decls f n rs a b c registers pipes results =
     omega (arith, e1, e2, e3, e4, e5, e6, e7, sum_each f register a 0 rs registers, sum_each f pipe b 0 rs pipes, sum_each f result_of c 0 rs results)
 
 decls_room : (n : ℕ) (rs : List Route) → length rs ≤ 35 → Room nothing_counted (all_decls n rs)
-decls_room n rs few =
-    let regs : sum_by regs_in (all_decls n rs) ≡ ((length rs * 1 + (0 + length rs * 0)) + (0 + (0 + length rs * 0))) + 0 = sum_decls regs_in n rs 1 0 0 (λ i r. refl) (λ i r. refl) (λ i r. refl) in
-    let files : sum_by files_in (all_decls n rs) ≡ ((length rs * 0 + (1 + length rs * 0)) + (0 + (0 + length rs * 0))) + 0 = sum_decls files_in n rs 0 0 0 (λ i r. refl) (λ i r. refl) (λ i r. refl) in
-    let pipes : sum_by pipes_in (all_decls n rs) ≡ ((length rs * 0 + (0 + length rs * 1)) + (1 + (1 + length rs * 0))) + 0 = sum_decls pipes_in n rs 0 1 0 (λ i r. refl) (λ i r. refl) (λ i r. refl) in
-    let results : sum_by results_in (all_decls n rs) ≡ ((length rs * 0 + (0 + length rs * 0)) + (0 + (0 + length rs * 1))) + 1 = sum_decls results_in n rs 0 0 1 (λ i r. refl) (λ i r. refl) (λ i r. refl) in
-    let hints : sum_by hints_in (all_decls n rs) ≡ ((length rs * 0 + (0 + length rs * 0)) + (0 + (0 + length rs * 0))) + 0 = sum_decls hints_in n rs 0 0 0 (λ i r. refl) (λ i r. refl) (λ i r. refl) in
-    let functions : sum_by functions_in (all_decls n rs) ≡ ((length rs * 0 + (0 + length rs * 0)) + (0 + (0 + length rs * 0))) + 0 = sum_decls functions_in n rs 0 0 0 (λ i r. refl) (λ i r. refl) (λ i r. refl) in
-    let samples : sum_by samples_in (all_decls n rs) ≡ ((length rs * 0 + (0 + length rs * 0)) + (0 + (0 + length rs * 0))) + 0 = sum_decls samples_in n rs 0 0 0 (λ i r. refl) (λ i r. refl) (λ i r. refl) in
-    record {
-      regs = omega (arith, regs, few);
-      files = omega (arith, files, few);
-      pipes = omega (arith, pipes, few);
-      results = omega (arith, results, few);
-      hints = omega (arith, hints, few);
-      functions = omega (arith, functions, few);
-      samples = omega (arith, samples, few);
-      reads = omega arith;
-      guesses = omega arith;
-    }
+decls_room n rs few = record {
+  regs = omega (arith, sum_decls regs_in n rs 1 0 0 (λ i r. refl) (λ i r. refl) (λ i r. refl), few);
+  files = omega (arith, sum_decls files_in n rs 0 0 0 (λ i r. refl) (λ i r. refl) (λ i r. refl), few);
+  pipes = omega (arith, sum_decls pipes_in n rs 0 1 0 (λ i r. refl) (λ i r. refl) (λ i r. refl), few);
+  results = omega (arith, sum_decls results_in n rs 0 0 1 (λ i r. refl) (λ i r. refl) (λ i r. refl), few);
+  hints = omega (arith, sum_decls hints_in n rs 0 0 0 (λ i r. refl) (λ i r. refl) (λ i r. refl), few);
+  functions = omega (arith, sum_decls functions_in n rs 0 0 0 (λ i r. refl) (λ i r. refl) (λ i r. refl), few);
+  samples = omega (arith, sum_decls samples_in n rs 0 0 0 (λ i r. refl) (λ i r. refl) (λ i r. refl), few);
+  reads = omega arith;
+  guesses = omega arith;
+}
 
 pub counts_kept : (n : ℕ) (rs : List Route) → length rs ≤ 35 → first (counts_of (job_of n rs)).asked ≡ None
 unfolding counts_of job_of

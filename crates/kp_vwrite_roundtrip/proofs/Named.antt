@@ -4,8 +4,7 @@ use Rattle.std.proofs.lemmas.Bool.{eqb-true, false≢true, and_parts}
 use Rattle.std.proofs.lemmas.List.Elements.{All-nil, All-cons, All-head, All-tail}
 use Rattle.std.specs.Prelude.{All, ◌==◌, None}
 use Rattle.kp_net.specs.Names.{is_in_identifier, is_module_name, is_reg_name, is_file_name, is_sample_name, IsSpelled}
-use Rattle.kp_vlog.specs.Words.{keyword_of}
-use Rattle.kp_vlog.proofs.Tests.{reg_cases, file_cases, sample_cases}
+use Rattle.kp_vlog.{specs.Words.keyword_of, proofs.Tests.reg_cases, proofs.Tests.file_cases, proofs.Tests.sample_cases}
 use Rattle.kp_vwrite_roundtrip.proofs.Runs.{Each, IsInitial, at_m, at_r, at_q, at_f, at_s, IsWritten}
 
 plain_name : (a : ℕ) (bs : List ℕ) → IsInitial a → keyword_of (a ∷ 95 ∷ bs) ≡ None

@@ -9,8 +9,7 @@ use Rattle.kp_net.specs.{declared.netlist.Parts.Parts, Names.same, Names.among, 
 use Rattle.kp_net.specs.{Netlist.Net, Parts.FileOk, Parts.PortOk, Parts.RegOk}
 use Rattle.kp_vlog.specs.{declared.tree.VPort.VPort, declared.tree.Item.Item, declared.tree.Init.Init, declared.tree.Update.Update, Canon.wire, Canon.wire_name}
 use Rattle.kp_vlog.specs.Scope.{Sized, Sizes, item_sizes, port_size, width_in, address_in, width_of, place_of, address_width, or_zero, last_of}
-use Rattle.kp_vlog.specs.Denote.{node_of, start_of, next_of, word_init, port_of}
-use Rattle.kp_vlog.proofs.Tests.{same_refl}
+use Rattle.kp_vlog.{specs.Denote.node_of, specs.Denote.start_of, specs.Denote.next_of, specs.Denote.word_init, specs.Denote.port_of, proofs.Tests.same_refl}
 use Rattle.kp_vlog.specs.declared.tree.Item.TheVariants as lines
 use Rattle.kp_vlog.specs.declared.tree.Init.TheVariants as starts
 use Rattle.kp_vlog.specs.declared.tree.Update.TheVariants as edges

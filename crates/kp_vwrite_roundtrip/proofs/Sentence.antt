@@ -1,7 +1,6 @@
 -- The tokens of a netlist are a sentence, and it builds a module that represents the netlist.
 use Rattle.std.proofs.Common.{◌≡◌, ◌∙◌, ℕ, zero, suc, ◌+◌, ◌-◌, ◌^◌, ◌≤◌, List, [], ◌∷◌, ◌++◌, ◌⊎◌, inl, inr, length, get_or, Bool, true, false, cond, Option, Some, None, refl, sym, subst, arith, append_assoc, append-nil}
-use Rattle.std.proofs.lemmas.Bool.{false≢true}
-use Rattle.std.specs.Prelude.{codes, ◌==◌}
+use Rattle.std.{proofs.lemmas.Bool.false≢true, specs.Prelude.codes, specs.Prelude.◌==◌}
 use Rattle.kp_grammar.specs.{Grammar.Nonterminal, Grammar.Action, Grammar.stay, Machine.advance}
 use Rattle.kp_grammar.proofs.Steps.{Completes, CompletesFrom, went}
 use Rattle.kp_bits.specs.{Word.word, declared.operator.BinOp.BinOp}

@@ -2,8 +2,8 @@ use Rattle.std.proofs.Common.{◌≡◌, ◌∙◌, ap, arith, refl, ℕ, [], fa
 use Rattle.kp_net.specs.Netlist.{Input, State, last_of, state_after}
 use Rattle.kp_image.specs.{Spans.word_in, Feeds.row_in}
 use Rattle.kp_cycle.specs.Steps.{Running, given}
-use Rattle.kp_run.specs.Cycles.{inputs_to, input_at}
-use Rattle.kp_run.proofs.{Steps.state_next, Given.rows_fed, Given.feeds_few, Samples.fits_ports}
+use Rattle.kp_run.{specs.Cycles.inputs_to, specs.Cycles.input_at, proofs.Steps.state_next, proofs.Given.rows_fed, proofs.Given.feeds_few}
+use Rattle.kp_run.proofs.Samples.{fits_ports}
 use Rattle.kp_page.proofs.cycles.pass.Goals as goal
 
 pub step-requires-clause-few : goal.step-requires-clause-few
