@@ -1,6 +1,6 @@
 -- If one of two netlists that run alike restarts correctly after each reset, so does the other.
-use Rattle.std.proofs.Common.{◌≡◌, ◌∙◌, ℕ, ◌<◌, ◌≤◌, ◌^◌, Bool, true, false, List, [], ◌∷◌, length, get_or, map, refl, sym, ap, subst, arith}
-use Rattle.std.{proofs.lemmas.List.length-map, proofs.lemmas.List.get_or-map, specs.Prelude.if◌then◌else◌}
+use Rattle.std.proofs.Common.{◌≡◌, ◌∙◌, ℕ, ◌<◌, ◌≤◌, ◌^◌, true, false, List, [], ◌∷◌, length, get_or, map, sym, ap, subst, arith}
+use Rattle.std.{proofs.lemmas.List.length-map, proofs.lemmas.List.get_or-map}
 use Rattle.kp_base.specs.declared.row.Row.{Row}
 use Rattle.kp_ast.specs.declared.tree.Job.{Job}
 use Rattle.kp_pipeline.specs.Rows.{pipe}
@@ -14,27 +14,19 @@ use Rattle.kp_synth_spec.specs.Naming.{module_name, place_among, register_of, fi
 use Rattle.kp_synth_spec.specs.{Traces.inputs_seen, Traces.AreQuiet, Anew.trace_from, Anew.left_by_reset, Anew.HasMemory, Anew.BeginsAnew}
 use Rattle.kp_synth_spec.proofs.Anew.{left_alike}
 use Rattle.kp_synth_spec.specs.Traces as traces
-use Rattle.kp_equiv_trees.{specs.Alike.file_name, specs.Named.file_names, specs.Roots.AllAgree, proofs.Naming.one_number}
-use Rattle.kp_equiv_trees.proofs.Places.{file_names_are, file_count}
-use Rattle.kp_equiv.specs.{Roots.IsComparable, Runs.no_state, Showing.renamed, Showing.ShowsButName, inner.Meaning.SameStates}
+use Rattle.kp_equiv_trees.{specs.Alike.file_name, specs.Named.file_names, specs.Roots.AllAgree}
+use Rattle.kp_equiv_trees.proofs.Places.{memories, one_index, file_names_are, file_count}
+use Rattle.kp_equiv.specs.{Roots.IsComparable, Runs.no_state, Showing.renamed, Showing.ShowsButName, inner.Meaning.SameFiles, inner.Meaning.SameStates}
 use Rattle.kp_equiv.proofs.Running.{agreed, starts, steps, run_rows, run_states}
-use Rattle.kp_equiv.proofs.Shown.{Twins, twins, turned, placed_at, placed_there, states_same, rows_same, reg_place, file_place, length_rows}
-
--- the files of two states, by name
-pub record SameFiles (a b : Net) (s t : State) : Type 0 where
-  pub first : length s.files ≡ length a.parts.files
-  pub second : length t.files ≡ length b.parts.files
-  pub files : (f g : ℕ) → f < length a.parts.files → g < length b.parts.files → file_name a f ≡ file_name b g → get_or s.files f [] ≡ get_or t.files g []
+use Rattle.kp_equiv.proofs.Shown.{Twins, twins, turned, chosen_alike, placed_at, placed_there, states_same, rows_same, reg_place, file_place, length_rows}
 
 flipped_files : (a b : Net) (s t : State) → SameFiles a b s t → SameFiles b a t s
 flipped_files a b s t h = record { first = h.second; second = h.first; files = λ g f m l e. sym (h.files f g l m (sym e)) }
 
 flipped_states : (a b : Net) (s t : State) → SameStates a b s t → SameStates b a t s
 flipped_states a b s t h = record {
-  first_files = h.second_files;
-  second_files = h.first_files;
+  words = flipped_files a b s t h.words;
   regs = λ q r m l e. sym (h.regs r q l m (sym e));
-  files = λ g f m l e. sym (h.files f g l m (sym e));
 }
 
 -- what agrees, after a reset, in states with the same files
@@ -57,12 +49,7 @@ module _ (a b : Net) (oka : NetOk a) (okb : NetOk b) (fit : IsComparable a b) (a
   last_along (i ∷ ins) s t same = last_along ins (state_after a i s) (state_after b i t) (steps a b oka okb fit (agreed a b all) i s t same)
 
   after_reset : (s t : State) (i : Input) → i.reset ≡ true → SameFiles a b s t → SameStates a b (state_after a i s) (state_after b i t)
-  after_reset s t i r same = rw (resets, others, r) (record {
-    first_files = same.first;
-    second_files = same.second;
-    regs = (starts a b oka okb fit (agreed a b all)).regs;
-    files = same.files;
-  })
+  after_reset s t i r same = rw (resets, others, r) (record { words = record { first = same.first; second = same.second; files = same.files }; regs = (starts a b oka okb fit (agreed a b all)).regs })
 
   begin_alike : BeginAlike a b
   begin_alike = record {
@@ -115,16 +102,9 @@ module _ (a b : Net) (job : Job) (h : Twins a b) (k : BeginAlike a b)
 
   values_alike : (x y : State) → SameStates a b x y → (t v : ℕ) → t < length (targets_of job.decls) → value_shown job second y t v ≡ value_shown job first x t v
   unfolding value_shown
-  values_alike x y same t v l = by (is_register (target job t)) refl
-    where
-      by : (c : Bool) → is_register (target job t) ≡ c
-          → (if c then get_or y.regs (register_of b (target job t)) 0 else get_or (get_or y.files (file_of b (target job t)) []) v 0)
-          ≡ (if c then get_or x.regs (register_of a (target job t)) 0 else get_or (get_or x.files (file_of a (target job t)) []) v 0)
-      by true e = let p = reg_place a b job h s.of_job t l e in sym (same.regs (register_of a (target job t)) (register_of b (target job t)) p.0 p.1 p.2)
-      by false e = let p = file_place a b job h s.of_job t l e in ap (λ (ws : List ℕ). get_or ws v 0) (sym (same.files (file_of a (target job t)) (file_of b (target job t)) p.0 p.1 p.2))
-
-  states_files : (x y : State) → SameStates a b x y → SameFiles a b x y
-  states_files x y same = record { first = same.first_files; second = same.second_files; files = same.files }
+  values_alike x y same t v l = chosen_alike (is_register (target job t)) _ _ _ _
+      (λ e. let p = reg_place a b job h s.of_job t l e in sym (same.regs (register_of a (target job t)) (register_of b (target job t)) p.0 p.1 p.2))
+      (λ e. let p = file_place a b job h s.of_job t l e in ap (λ (ws : List ℕ). get_or ws v 0) (sym (same.words.files (file_of a (target job t)) (file_of b (target job t)) p.0 p.1 p.2)))
 
   shown_anew : (y : State) (i : Input) (ins : List Input) → HasMemory second y → i.reset ≡ true → AreQuiet ins
       → ShowsAlike job (trace_from job second (state_after second i y) ins) (pipe (machine_of job) (left_by_reset job (value_shown job first (of_first y))) (start_hints job) (inputs_seen job ins))
@@ -148,7 +128,7 @@ module _ (a b : Net) (job : Job) (h : Twins a b) (k : BeginAlike a b)
 
   begins_second : BeginsAnew second job
   begins_second = record {
-    memory = λ ins. memory_moves a b (module_name job) h (last_of a ins) (last_of b ins) (states_files _ _ (k.always ins)) (begins.memory ins);
+    memory = λ ins. memory_moves a b (module_name job) h (last_of a ins) (last_of b ins) (k.always ins).words (begins.memory ins);
     runs = λ y i ins m r q.
         subst (λ (v : ℕ → ℕ → ℕ). ShowsAlike job (trace_from job second (state_after second i y) ins) (pipe (machine_of job) v (start_hints job) (inputs_seen job ins)))
         (left_alike job (value_shown job first (of_first y)) (value_shown job second y) (words_alike (of_first y) y (same_files y m.count)))
@@ -159,8 +139,8 @@ module _ (a b : Net) (job : Job) (h : Twins a b) (k : BeginAlike a b)
 one_place : (a b : Net) → Differ (file_names b) → (f g : ℕ) → f < length a.parts.files → g < length b.parts.files → file_name a f ≡ file_name b g → place_among (file_names b) (file_name a f) ≡ g
 one_place a b apart f g l m e =
     let there : place_among (file_names b) (file_name a f) < length (file_names b) = placed_there (file_names b) (file_name a f) g (omega (arith, file_count b)) (file_names_are b g ∙ sym e) in
-    one_number (file_names b) apart (place_among (file_names b) (file_name a f)) g there (omega (arith, file_count b))
-    (placed_at (file_names b) (file_name a f) there ∙ e ∙ sym (file_names_are b g))
+    one_index memories b.parts.files apart (place_among (file_names b) (file_name a f)) g (omega (arith, there, file_count b)) m
+    (sym (file_names_are b (place_among (file_names b) (file_name a f))) ∙ placed_at (file_names b) (file_name a f) there ∙ e)
 
 module _ (a b : Net) (job : Job) (oka : NetOk a) (okb : NetOk b) (fit : IsComparable a b) (all : AllAgree a b) where
   pub second_begins : ShowsButName a job → BeginsAnew (renamed a (module_name job)) job → BeginsAnew (renamed b (module_name job)) job

@@ -1,18 +1,18 @@
 -- Two netlists that can be compared have one verdict.
-use Rattle.std.proofs.Common.{◌≡◌, ◌∙◌, ℕ, zero, suc, ◌==◌, ◌&&◌, ◌<◌, ◌≤◌, Bool, true, false, List, [], ◌∷◌, length, get_or, refl, sym, ap, subst, arith, ⊎_elim, Option, None, Some}
-use Rattle.std.proofs.lemmas.Bool.{cases_lt, cases_eq, false≢true, Decides.Decides-and, Decides.Decides-eqb, Decides.Decides-like}
-use Rattle.std.{proofs.lemmas.List.Elements.All-get_or, specs.Bool.Decides, specs.Cmp.Lexicographic.bytes_decides}
+use Rattle.std.proofs.Common.{◌≡◌, ◌∙◌, ℕ, suc, ◌==◌, ◌&&◌, ◌<◌, ◌≤◌, Bool, true, false, List, [], ◌∷◌, length, map, get_or, refl, sym, ap, subst, arith, ⊎_elim, Option, None, Some}
+use Rattle.std.proofs.lemmas.Bool.{cases_lt, false≢true, Decides.Decides-and, Decides.Decides-eqb, Decides.Decides-like}
+use Rattle.std.{proofs.lemmas.List.Elements.All-get_or, proofs.lemmas.List.length-map, specs.Bool.Decides, specs.Cmp.Lexicographic.bytes_decides}
 use Rattle.kp_bits.specs.Word.{Word}
 use Rattle.kp_net.specs.declared.{node.NodeId.NodeId, netlist.NetReg.NetReg, netlist.NetFile.NetFile, netlist.Port.Port, netlist.WritePort.WritePort}
 use Rattle.kp_net.specs.{Names.same, Netlist.Net, Parts.NetOk, Parts.RegOk, Parts.FileOk, Parts.WriteOk, Parts.no_reg, Parts.no_file}
 use Rattle.kp_equiv.specs.declared.verdict.Verdict.{Verdict, TheVariants.Same, TheVariants.Differs}
 use Rattle.kp_equiv.specs.Roots.{IsComparable, IsVerdict}
 use Rattle.kp_equiv_trees.specs.Roots.{Root, Ports, Register, File, Full, Ue, Back, roots, RegsAlike, WritesAlike, FilesAlike, PortsAgree, RegisterAgrees, FileAgrees, Agrees}
-use Rattle.kp_equiv_trees.specs.{Alike.Alike, Alike.reg_name, Alike.file_name, Named.reg_names, Named.file_names, Named.HasNames}
-use Rattle.kp_equiv_trees.specs.{Classes.place, Classes.class_in, Sections.AgreeUpTo, Sections.Differing, Sections.FirstOf}
+use Rattle.kp_equiv_trees.specs.{Alike.Alike, Named.HasNames}
+use Rattle.kp_equiv_trees.specs.{Classes.place, Classes.class_in, Sections.Differing, Sections.FirstOf}
 use Rattle.kp_equiv_trees.proofs.{Determined.alike_found, Inputs.port_decides}
-use Rattle.kp_equiv_trees.proofs.Places.{has_place, reg_names_are, file_names_are, reg_count, file_count}
-use Rattle.kp_equiv_trees.proofs.Ordered.{register_found, file_found, namesake, file_namesake}
+use Rattle.kp_equiv_trees.proofs.Places.{Things, registers, memories, namesake, missing}
+use Rattle.kp_equiv_trees.proofs.Ordered.{register_found, file_found, agree_more, differ_more}
 use Rattle.kp_equiv_classes.proofs.Determining.{SomeDetermines, some_determines}
 
 -- a fact that a test decides
@@ -38,24 +38,16 @@ numbers n m = record { test = n == m; decides = Decides-eqb n m }
 truths : (b c : Bool) → Decided (b ≡ c)
 truths true true = always refl
 truths false false = always refl
-truths true false = never (λ e. false≢true (sym e))
-truths false true = never false≢true
-
-one_word : (v w : Word) → (v.width ≡ w.width) × (v.value ≡ w.value) → v ≡ w
-one_word v w h = let x = h.0 in let y = h.1 in λ t. record { width = x t; value = y t }
+truths _ _ = never (λ e. cc)
 
 starts : (v w : Word) → Decided (v ≡ w)
-starts v w = alike (one_word v w) (λ e. (ap (λ (x : Word). x.width) e, ap (λ (x : Word). x.value) e)) (both (numbers v.width w.width) (numbers v.value w.value))
-
-cons_same : {X : Type 0} (x y : X) (xs ys : List X) → x ≡ y → xs ≡ ys → (x ∷ xs) ≡ (y ∷ ys)
-cons_same x y xs ys e f = λ t. e t ∷ f t
+starts v w = alike (λ (h : (v.width ≡ w.width) × (v.value ≡ w.value)). let x = h.0 in let y = h.1 in λ t. record { width = x t; value = y t }) (λ e. (ap (λ (x : Word). x.width) e, ap (λ (x : Word). x.value) e)) (both (numbers v.width w.width) (numbers v.value w.value))
 
 ports : (xs ys : List Port) → Decided (xs ≡ ys)
 ports [] [] = always refl
-ports [] (y ∷ ys) = never (λ e. cc)
-ports (x ∷ xs) [] = never (λ e. cc)
 ports (x ∷ xs) (y ∷ ys) =
-    alike (λ (h : (x ≡ y) × (xs ≡ ys)). cons_same x y xs ys h.0 h.1) (λ e. (cc, cc)) (both (record { test = _; decides = port_decides x y }) (ports xs ys))
+    alike (λ (h : (x ≡ y) × (xs ≡ ys)). let e = h.0 in let f = h.1 in λ t. e t ∷ f t) (λ e. (cc, cc)) (both (record { test = _; decides = port_decides x y }) (ports xs ys))
+ports _ _ = never (λ e. cc)
 
 module _ (a b : Net) (oka : NetOk a) (okb : NetOk b) (na : HasNames a) (nb : HasNames b) (t : SomeDetermines a b) where
   nodes : (i j : NodeId) → i.0 < length a.nodes → j.0 < length b.nodes → Decided (Alike a b i j)
@@ -71,11 +63,10 @@ module _ (a b : Net) (oka : NetOk a) (okb : NetOk b) (na : HasNames a) (nb : Has
 
   writes : (p q : Option WritePort) (v x w y : ℕ) → WriteOk a.nodes v x p → WriteOk b.nodes w y q → Decided (WritesAlike a b p q)
   writes None None v x w y okp okq = always tt
-  writes None (Some q) v x w y okp okq = never (λ h. h)
-  writes (Some p) None v x w y okp okq = never (λ h. h)
   writes (Some p) (Some q) v x w y okp okq =
       alike (λ (h : Alike a b p.enable q.enable × (Alike a b p.address q.address × Alike a b p.value q.value)). (h.0, h.1.0, h.1.1)) (λ h. (h.0, (h.1, h.2)))
       (both (nodes p.enable q.enable okp.0.0 okq.0.0) (both (nodes p.address q.address okp.1.0 okq.1.0) (nodes p.value q.value okp.2.0 okq.2.0)))
+  writes _ _ v x w y okp okq = never (λ h. h)
 
   files : (f g : NetFile) → FileOk a.nodes f → FileOk b.nodes g → Decided (FilesAlike a b f g)
   files f g okf okg =
@@ -83,52 +74,33 @@ module _ (a b : Net) (oka : NetOk a) (okb : NetOk b) (na : HasNames a) (nb : Has
       (both (record { test = same f.words g.words; decides = bytes_decides f.words g.words })
       (writes f.port g.port f.width f.address_width g.width g.address_width okf.port okg.port))
 
+  -- a name that both have, and two of this name
+  named : {X : Type 0} (T : Things X) (xs ys : List X) (Q : List ℕ → Type 0)
+      → ((n : List ℕ) → Q n → ((i : ℕ) × (i < length xs) × (T.name (get_or xs i T.none) ≡ n)) × ((j : ℕ) × (j < length ys) × (T.name (get_or ys j T.none) ≡ n)))
+      → ((i j : ℕ) → i < length xs → j < length ys → T.name (get_or ys j T.none) ≡ T.name (get_or xs i T.none) → Decided (Q (T.name (get_or xs i T.none)))) → (n : List ℕ) → Decided (Q n)
+  named T xs ys Q some two n =
+      let i : ℕ = place (map T.name xs) n in
+      let j : ℕ = place (map T.name ys) n in
+      ⊎_elim
+      (λ (l : i < length xs). ⊎_elim
+      (λ (m : j < length ys). let e = namesake T xs n l in subst (λ (k : List ℕ). Decided (Q k)) e (two i j l m (namesake T ys n m ∙ sym e)))
+      (λ (m : length ys ≤ j). never (λ h. let g = (some n h).1 in missing T ys n g.0 (omega (arith, length-map ys T.name)) g.1 g.2))
+      (cases_lt j (length ys)))
+      (λ (l : length xs ≤ i). never (λ h. let g = (some n h).0 in missing T xs n g.0 (omega (arith, length-map xs T.name)) g.1 g.2))
+      (cases_lt i (length xs))
+
   register : (name : List ℕ) → Decided (RegisterAgrees a b name)
-  register name = ⊎_elim
-      (λ (l : place (reg_names a) name < length (reg_names a)). ⊎_elim
-      (λ (m : place (reg_names b) name < length (reg_names b)). found l m)
-      (λ (m : length (reg_names b) ≤ place (reg_names b) name). never (λ h. absurd (omega (arith, m, has_place (reg_names b) h.second name (let k = h.in_second in omega (arith, reg_count b)) (reg_names_are b h.second ∙ h.named_second)))))
-      (cases_lt (place (reg_names b) name) (length (reg_names b))))
-      (λ (l : length (reg_names a) ≤ place (reg_names a) name). never (λ h. absurd (omega (arith, l, has_place (reg_names a) h.first name (let k = h.in_first in omega (arith, reg_count a)) (reg_names_are a h.first ∙ h.named_first)))))
-      (cases_lt (place (reg_names a) name) (length (reg_names a)))
-    where
-      found : place (reg_names a) name < length (reg_names a) → place (reg_names b) name < length (reg_names b) → Decided (RegisterAgrees a b name)
-      found l m =
-          let r : ℕ = place (reg_names a) name in
-          let q : ℕ = place (reg_names b) name in
-          let lr : r < length a.parts.regs = omega (arith, l, reg_count a) in
-          let lq : q < length b.parts.regs = omega (arith, m, reg_count b) in
-          let er : reg_name a r ≡ name = namesake a name r l refl in
-          let d = regs (get_or a.parts.regs r no_reg) (get_or b.parts.regs q no_reg) (All-get_or (RegOk a.nodes) a.parts.regs r no_reg lr oka.parts.regs) (All-get_or (RegOk b.nodes) b.parts.regs q no_reg lq okb.parts.regs) in
-          record {
-            test = d.test;
-            decides = subst (λ (n : List ℕ). Decides d.test (RegisterAgrees a b n)) er
-                (register_found a b r q na.regs nb.regs lr lq (namesake b name q m refl ∙ sym er) d.test d.decides);
-          }
+  register = named registers a.parts.regs b.parts.regs (RegisterAgrees a b) (λ n h. ((h.first, h.in_first, h.named_first), (h.second, h.in_second, h.named_second)))
+      (λ r q lr lq e.
+      let d = regs (get_or a.parts.regs r no_reg) (get_or b.parts.regs q no_reg) (All-get_or (RegOk a.nodes) a.parts.regs r no_reg lr oka.parts.regs) (All-get_or (RegOk b.nodes) b.parts.regs q no_reg lq okb.parts.regs) in
+      record { test = d.test; decides = register_found a b r q na.regs nb.regs lr lq e d.test d.decides })
 
   file : (name : List ℕ) → Decided (FileAgrees a b name)
-  file name = ⊎_elim
-      (λ (l : place (file_names a) name < length (file_names a)). ⊎_elim
-      (λ (m : place (file_names b) name < length (file_names b)). found l m)
-      (λ (m : length (file_names b) ≤ place (file_names b) name). never (λ h. absurd (omega (arith, m, has_place (file_names b) h.second name (let k = h.in_second in omega (arith, file_count b)) (file_names_are b h.second ∙ h.named_second)))))
-      (cases_lt (place (file_names b) name) (length (file_names b))))
-      (λ (l : length (file_names a) ≤ place (file_names a) name). never (λ h. absurd (omega (arith, l, has_place (file_names a) h.first name (let k = h.in_first in omega (arith, file_count a)) (file_names_are a h.first ∙ h.named_first)))))
-      (cases_lt (place (file_names a) name) (length (file_names a)))
-    where
-      found : place (file_names a) name < length (file_names a) → place (file_names b) name < length (file_names b) → Decided (FileAgrees a b name)
-      found l m =
-          let f : ℕ = place (file_names a) name in
-          let g : ℕ = place (file_names b) name in
-          let lf : f < length a.parts.files = omega (arith, l, file_count a) in
-          let lg : g < length b.parts.files = omega (arith, m, file_count b) in
-          let ef : file_name a f ≡ name = file_namesake a name f l refl in
-          let d = files (get_or a.parts.files f no_file) (get_or b.parts.files g no_file) (All-get_or (FileOk a.nodes) a.parts.files f no_file lf oka.parts.files)
-          (All-get_or (FileOk b.nodes) b.parts.files g no_file lg okb.parts.files) in
-          record {
-            test = d.test;
-            decides = subst (λ (n : List ℕ). Decides d.test (FileAgrees a b n)) ef
-                (file_found a b f g na.files nb.files lf lg (file_namesake b name g m refl ∙ sym ef) d.test d.decides);
-          }
+  file = named memories a.parts.files b.parts.files (FileAgrees a b) (λ n h. ((h.first, h.in_first, h.named_first), (h.second, h.in_second, h.named_second)))
+      (λ f g lf lg e.
+      let d = files (get_or a.parts.files f no_file) (get_or b.parts.files g no_file) (All-get_or (FileOk a.nodes) a.parts.files f no_file lf oka.parts.files)
+      (All-get_or (FileOk b.nodes) b.parts.files g no_file lg okb.parts.files) in
+      record { test = d.test; decides = file_found a b f g na.files nb.files lf lg e d.test d.decides })
 
   inputs : Decided (PortsAgree a b)
   inputs =
@@ -145,22 +117,11 @@ module _ (a b : Net) (oka : NetOk a) (okb : NetOk b) (na : HasNames a) (nb : Has
   root Back = nodes a.parts.back b.parts.back oka.parts.back okb.parts.back
 
 -- the first of a list of roots that doesn't agree
-agree_more : (a b : Net) (r : Root) (rs : List Root) → Agrees a b r → AgreeUpTo a b rs (length rs) → AgreeUpTo a b (r ∷ rs) (suc (length rs))
-agree_more a b r rs p q zero l = p
-agree_more a b r rs p q (suc k) l = q k (omega (arith, l))
-
-differ_more : (a b : Net) (r : Root) (rs : List Root) (n : ℕ) → Agrees a b r → Differing a b rs n → Differing a b (r ∷ rs) (suc n)
-differ_more a b r rs n p d = record { there = (let t = d.there in omega arith); before = before; differs = d.differs }
-  where
-    before : (k : ℕ) → k < suc n → Agrees a b (get_or (r ∷ rs) k Ports)
-    before zero l = p
-    before (suc k) l = d.before k (omega (arith, l))
-
 differ_here : (a b : Net) (r : Root) (rs : List Root) → (Agrees a b r → ⊥) → Differing a b (r ∷ rs) 0
 differ_here a b r rs h = record { there = omega arith; before = λ k l. absurd (omega (arith, l)); differs = h }
 
 behind_one : (a b : Net) (r : Root) (rs : List Root) → Agrees a b r → (f : Option ℕ) → FirstOf a b rs f → (g : Option ℕ) × FirstOf a b (r ∷ rs) g
-behind_one a b r rs p None h = (None, agree_more a b r rs p h)
+behind_one a b r rs p None h = (None, agree_more a b r rs (length rs) p h)
 behind_one a b r rs p (Some n) h = (Some (suc n), differ_more a b r rs n p h)
 
 with_one : (a b : Net) (r : Root) (rs : List Root) (t : Bool) → Decides t (Agrees a b r) → (f : Option ℕ) → FirstOf a b rs f → (g : Option ℕ) × FirstOf a b (r ∷ rs) g
@@ -184,7 +145,6 @@ pub one_verdict : (a b : Net) (v w : Verdict) → IsVerdict a b v → IsVerdict 
 one_verdict a b Same Same p q = refl
 one_verdict a b Same (Differs m) p q = absurd (q.differs (p.agree m q.there))
 one_verdict a b (Differs n) Same p q = absurd (p.differs (q.agree n p.there))
-one_verdict a b (Differs n) (Differs m) p q = ⊎_elim
-    (λ (h : n < m). absurd (p.differs (q.before n h)))
-    (λ (h : m ≤ n). ⊎_elim (λ (e : n ≡ m). ap Differs e) (λ (e : n ≡ m → ⊥). absurd (q.differs (p.before m (omega arith)))) (cases_eq n m))
-    (cases_lt n m)
+one_verdict a b (Differs n) (Differs m) p q =
+    let f : n < m → ⊥ = λ h. p.differs (q.before n h) in let g : m < n → ⊥ = λ h. q.differs (p.before m h) in
+    let e : n ≡ m = omega (arith, f, g) in ap Differs e

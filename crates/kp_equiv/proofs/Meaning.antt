@@ -24,29 +24,21 @@ commuted BinOp.Xor x y c w = λ i. word (w i) (xor_comm x.value y.value i)
 commuted BinOp.Add x y c w = λ i. word (w i) (add_comm x.value y.value i % 2 ^ w i)
 commuted BinOp.Mul x y c w = λ i. word (w i) (mul_comm x.value y.value i % 2 ^ w i)
 commuted BinOp.Eq x y c w = ap (λ (b : Bool). word 1 (if b then 1 else 0)) (test_swaps x.value y.value)
-commuted BinOp.Sub x y c w = absurd (false≢true c)
-commuted BinOp.Lt x y c w = absurd (false≢true c)
-commuted BinOp.Shl x y c w = absurd (false≢true c)
-commuted BinOp.Shr x y c w = absurd (false≢true c)
+commuted _ x y c w = absurd (false≢true c)
 
 -- the operands of such an operator have one width
 one_width : (op : BinOp) (ns : List Node) (m k : ℕ) (x y : NodeId) → commutes op ≡ true → KindOk ns m k (Binary op x y) → wide ns x.0 ≡ wide ns y.0
-one_width BinOp.And ns m k x y c h = h.2.0 ∙ sym h.2.1
-one_width BinOp.Or ns m k x y c h = h.2.0 ∙ sym h.2.1
-one_width BinOp.Xor ns m k x y c h = h.2.0 ∙ sym h.2.1
-one_width BinOp.Add ns m k x y c h = h.2.0 ∙ sym h.2.1
-one_width BinOp.Mul ns m k x y c h = h.2.0 ∙ sym h.2.1
 one_width BinOp.Eq ns m k x y c h = h.2.1
 one_width BinOp.Sub ns m k x y c h = absurd (false≢true c)
 one_width BinOp.Lt ns m k x y c h = absurd (false≢true c)
 one_width BinOp.Shl ns m k x y c h = absurd (false≢true c)
 one_width BinOp.Shr ns m k x y c h = absurd (false≢true c)
+one_width _ ns m k x y c h = h.2.0 ∙ sym h.2.1
 
 parts_alike : (R : Relation) (v w : Words) → ((x y : NodeId) → R x y → v x.0 ≡ w y.0) → (xs ys : List NodeId) → AllRelated R xs ys → map (λ x. v x.0) xs ≡ map (λ y. w y.0) ys
 parts_alike R v w joins [] [] h = refl
-parts_alike R v w joins [] (y ∷ ys) h = absurd h
-parts_alike R v w joins (x ∷ xs) [] h = absurd h
 parts_alike R v w joins (x ∷ xs) (y ∷ ys) h = let p = joins x y h.0 in let q = parts_alike R v w joins xs ys h.1 in λ i. p i ∷ q i
+parts_alike R v w joins _ _ h = absurd h
 
 -- nodes with the same operation return the same words
 module _ (R : Relation) (a b : Net) (c d : Cells) (cells : SameCells a b c d) (m k : ℕ) (v w : Words)

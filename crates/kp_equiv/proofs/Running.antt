@@ -1,16 +1,16 @@
 -- Netlists whose roots agree run alike.
-use Rattle.std.proofs.Common.{◌≡◌, ◌∙◌, ℕ, zero, suc, ◌+◌, ◌<◌, ◌≤◌, ◌&&◌, Bool, true, false, not, List, [], ◌∷◌, ◌++◌, length, map, get_or, set, refl, sym, ap, subst, arith, Option, None, Some, length-append}
-use Rattle.std.proofs.{Math.ListN.get_or-append, Math.Seq.get_or-append-add, lemmas.List.length-map, lemmas.List.get_or-map}
+use Rattle.std.proofs.Common.{◌≡◌, ◌∙◌, ℕ, zero, suc, ◌+◌, ◌<◌, ◌≤◌, ◌&&◌, Bool, true, false, not, List, [], ◌∷◌, length, get_or, set, refl, sym, ap, subst, arith, Option, None, Some}
+use Rattle.std.proofs.{lemmas.List.length-map, lemmas.List.get_or-map}
 use Rattle.std.{proofs.lemmas.Slice.Zip.length-zip, proofs.lemmas.Slice.Zip.get_or-zip, specs.Prelude.if◌then◌else◌, specs.List.zip}
 use Rattle.kp_bits.specs.Word.{Word}
 use Rattle.kp_net.specs.Netlist.{Net, Input, State, cells_of, start_regs, start_of, regs_after, port_after, files_after, resets, state_after, row_of, states_from, rows_from}
 use Rattle.kp_net.specs.declared.netlist.{Port.Port, NetReg.NetReg, NetFile.NetFile, WritePort.WritePort}
 use Rattle.kp_net.specs.{Names.among, Nodes.Cells, Nodes.at, Parts.NetOk, Parts.no_port, Parts.no_reg, Parts.no_file}
-use Rattle.kp_equiv_trees.specs.Roots.{Root, Ports, Register, File, Full, Ue, Back, names_of_second, roots, RegsAlike, FilesAlike, WritesAlike, PortsAgree, RegisterAgrees, FileAgrees, Agrees, AllAgree}
-use Rattle.kp_equiv_trees.specs.{Alike.Alike, Alike.reg_name, Alike.file_name, Alike.sample_name, Named.reg_names, Named.file_names, Named.sample_names}
-use Rattle.kp_equiv_trees.{specs.Sections.behind_ports, proofs.Naming.one_number}
-use Rattle.kp_equiv_trees.proofs.Ordered.{reg_root, file_root, filter_some, is_new, among_reg, second_never}
-use Rattle.kp_equiv_trees.proofs.Places.{reg_names_are, file_names_are, sample_names_are, reg_count, file_count, sample_count}
+use Rattle.kp_equiv_trees.specs.Roots.{Ports, Full, Ue, Back, names_of_second, roots, RegsAlike, FilesAlike, WritesAlike, PortsAgree, RegisterAgrees, FileAgrees, Agrees, AllAgree}
+use Rattle.kp_equiv_trees.specs.{Alike.Alike, Alike.reg_name, Alike.file_name, Alike.sample_name, Named.reg_names}
+use Rattle.kp_equiv_trees.{specs.Sections.behind_regs, proofs.Ordered.filter_some, proofs.Ordered.is_new, proofs.Ordered.among_reg}
+use Rattle.kp_equiv_trees.proofs.Counting.{later_root, root_count, none_second, root_of_ports, root_of_reg, behind_file, behind_output}
+use Rattle.kp_equiv_trees.proofs.Places.{registers, memories, ports, one_index, related, reg_names_are, reg_count}
 use Rattle.kp_equiv.specs.{Roots.IsComparable, Runs.RunAlike, Runs.no_state, inner.Meaning.SameCells, inner.Meaning.SameStates}
 use Rattle.kp_equiv.proofs.Meaning.{alike_values, alike_tests}
 
@@ -18,78 +18,40 @@ use Rattle.kp_equiv.proofs.Meaning.{alike_values, alike_tests}
 pub record Agreed (a b : Net) : Type 0 where
   pub ports : PortsAgree a b
   pub regs : (r : ℕ) → r < length a.parts.regs → RegisterAgrees a b (reg_name a r)
-  pub second : (k : ℕ) → k < length (names_of_second a b) → RegisterAgrees a b (get_or (names_of_second a b) k [])
+  pub none : length (names_of_second a b) ≡ 0
   pub files : (f : ℕ) → f < length a.parts.files → FileAgrees a b (file_name a f)
   pub full : Alike a b a.parts.full b.parts.full
   pub ue : Alike a b a.parts.ue b.parts.ue
   pub back : Alike a b a.parts.back b.parts.back
 
--- a list of roots that all agree, and its parts
-abbrev Each : Net → Net → List Root → Type 0
-Each a b rs = (k : ℕ) → k < length rs → Agrees a b (get_or rs k Ports)
-
-front : (a b : Net) (xs ys : List Root) → Each a b (xs ++ ys) → Each a b xs
-front a b xs ys h k l = subst (Agrees a b) (get_or-append xs ys Ports k l) (h k (omega (arith, length-append xs ys)))
-
-behind : (a b : Net) (xs ys : List Root) → Each a b (xs ++ ys) → Each a b ys
-behind a b xs ys h k l = subst (Agrees a b) (get_or-append-add xs ys k Ports) (h (length xs + k) (omega (arith, length-append xs ys)))
-
-tail : (a b : Net) → AllAgree a b → Each a b (Ports ∷ behind_ports a b)
-unfolding roots
-tail a b h = h.agree
-
 pub agreed : (a b : Net) → AllAgree a b → Agreed a b
 agreed a b h =
-    let all = tail a b h in
-    let rest : Each a b (behind_ports a b) = λ k l. all (suc k) (omega arith) in
-    let s3 : List Root = map File (file_names a) ++ (Full ∷ Ue ∷ Back ∷ []) in
-    let s2 : List Root = map Register (names_of_second a b) ++ s3 in
-    let r1 = front a b (map Register (reg_names a)) s2 rest in
-    let b1 = behind a b (map Register (reg_names a)) s2 rest in
-    let r2 = front a b (map Register (names_of_second a b)) s3 b1 in
-    let b2 = behind a b (map Register (names_of_second a b)) s3 b1 in
-    let r3 = front a b (map File (file_names a)) (Full ∷ Ue ∷ Back ∷ []) b2 in
-    let b3 = behind a b (map File (file_names a)) (Full ∷ Ue ∷ Back ∷ []) b2 in
+    let none = none_second a b h in
+    let behind : (k : ℕ) → k < length a.parts.files + 3 → Agrees a b (get_or (behind_regs a) k Ports)
+    = λ k l. subst (Agrees a b) (later_root a b k none) (h.agree (suc (length a.parts.regs + k)) (omega (arith, root_count a b, l))) in
+    let output : (k : ℕ) → k < 3 → Agrees a b (get_or (Full ∷ Ue ∷ Back ∷ []) k Ports)
+    = λ k l. subst (Agrees a b) (behind_output a k) (behind (length a.parts.files + k) (omega (arith, l))) in
     record {
-      ports = all 0 (omega arith);
-      regs = λ r l. subst (Agrees a b) (reg_root a r l) (r1 r (omega (arith, length-map (reg_names a) Register, reg_count a)));
-      second = λ k l. subst (Agrees a b) (get_or-map Register (names_of_second a b) k [] Ports l) (r2 k (omega (arith, length-map (names_of_second a b) Register)));
-      files = λ f l. subst (Agrees a b) (file_root a f l) (r3 f (omega (arith, length-map (file_names a) File, file_count a)));
-      full = b3 0 (omega arith);
-      ue = b3 1 (omega arith);
-      back = b3 2 (omega arith);
+      ports = subst (Agrees a b) (root_of_ports a b) (h.agree 0 (omega (arith, root_count a b)));
+      regs = λ r l. subst (Agrees a b) (root_of_reg a b r l) (h.agree (suc r) (omega (arith, root_count a b, l)));
+      none = none;
+      files = λ f l. subst (Agrees a b) (behind_file a f l) (behind f (omega (arith, l)));
+      full = output 0 (omega arith);
+      ue = output 1 (omega arith);
+      back = output 2 (omega arith);
     }
 
 module _ (a b : Net) (oka : NetOk a) (okb : NetOk b) (fit : IsComparable a b) (h : Agreed a b) where
-  -- the register with a name in either netlist
-  reg_first : (r q : ℕ) → r < length a.parts.regs → q < length a.parts.regs → reg_name a r ≡ reg_name a q → r ≡ q
-  reg_first r q l m e = one_number (reg_names a) fit.first.regs r q (omega (arith, reg_count a)) (omega (arith, reg_count a)) (reg_names_are a r ∙ e ∙ sym (reg_names_are a q))
-
-  reg_second : (r q : ℕ) → r < length b.parts.regs → q < length b.parts.regs → reg_name b r ≡ reg_name b q → r ≡ q
-  reg_second r q l m e = one_number (reg_names b) fit.second.regs r q (omega (arith, reg_count b)) (omega (arith, reg_count b)) (reg_names_are b r ∙ e ∙ sym (reg_names_are b q))
-
-  file_first : (f g : ℕ) → f < length a.parts.files → g < length a.parts.files → file_name a f ≡ file_name a g → f ≡ g
-  file_first f g l m e = one_number (file_names a) fit.first.files f g (omega (arith, file_count a)) (omega (arith, file_count a)) (file_names_are a f ∙ e ∙ sym (file_names_are a g))
-
-  file_second : (f g : ℕ) → f < length b.parts.files → g < length b.parts.files → file_name b f ≡ file_name b g → f ≡ g
-  file_second f g l m e = one_number (file_names b) fit.second.files f g (omega (arith, file_count b)) (omega (arith, file_count b)) (file_names_are b f ∙ e ∙ sym (file_names_are b g))
-
   -- namesakes are equivalent
   pub regs_alike : (r q : ℕ) → r < length a.parts.regs → q < length b.parts.regs → reg_name a r ≡ reg_name b q → RegsAlike a b (get_or a.parts.regs r no_reg) (get_or b.parts.regs q no_reg)
   regs_alike r q l m e =
       let g = h.regs r l in
-      let er : g.first ≡ r = reg_first g.first r g.in_first l g.named_first in
-      let eq : g.second ≡ q = reg_second g.second q g.in_second m (g.named_second ∙ e) in
-      subst (λ (k : ℕ). RegsAlike a b (get_or a.parts.regs k no_reg) (get_or b.parts.regs q no_reg)) er
-      (subst (λ (k : ℕ). RegsAlike a b (get_or a.parts.regs g.first no_reg) (get_or b.parts.regs k no_reg)) eq g.alike)
+      related registers (RegsAlike a b) a.parts.regs b.parts.regs fit.first.regs fit.second.regs g.first g.second r q g.in_first g.in_second l m g.named_first (g.named_second ∙ e) g.alike
 
   pub files_alike : (f g : ℕ) → f < length a.parts.files → g < length b.parts.files → file_name a f ≡ file_name b g → FilesAlike a b (get_or a.parts.files f no_file) (get_or b.parts.files g no_file)
   files_alike f g l m e =
       let x = h.files f l in
-      let ef : x.first ≡ f = file_first x.first f x.in_first l x.named_first in
-      let eg : x.second ≡ g = file_second x.second g x.in_second m (x.named_second ∙ e) in
-      subst (λ (k : ℕ). FilesAlike a b (get_or a.parts.files k no_file) (get_or b.parts.files g no_file)) ef
-      (subst (λ (k : ℕ). FilesAlike a b (get_or a.parts.files x.first no_file) (get_or b.parts.files k no_file)) eg x.alike)
+      related memories (FilesAlike a b) a.parts.files b.parts.files fit.first.files fit.second.files x.first x.second f g x.in_first x.in_second l m x.named_first (x.named_second ∙ e) x.alike
 
   -- the cells in equal states
   cells : (i : Input) (s t : State) → SameStates a b s t → SameCells a b (cells_of i s) (cells_of i t)
@@ -98,36 +60,33 @@ module _ (a b : Net) (oka : NetOk a) (okb : NetOk b) (fit : IsComparable a b) (h
     sample = λ x y l m e.
         let n : sample_name b y ≡ sample_name a y = ap (λ (ps : List Port). (get_or ps y no_port).name) (sym h.ports.samples) in
         let m2 : y < length a.parts.samples = subst (λ (ps : List Port). y < length ps) (sym h.ports.samples) m in
-        let z : x ≡ y = one_number (sample_names a) fit.first.samples x y (omega (arith, sample_count a)) (omega (arith, sample_count a)) (sample_names_are a x ∙ e ∙ n ∙ sym (sample_names_are a y)) in
-        ap (λ (k : ℕ). get_or i.samples k 0) z;
+        ap (λ (k : ℕ). get_or i.samples k 0) (one_index ports a.parts.samples fit.first.samples x y l m2 (e ∙ n));
     reg = same.regs;
-    word = λ f g x l m e. ap (λ (ws : List ℕ). get_or ws x 0) (same.files f g l m e);
+    word = λ f g x l m e. ap (λ (ws : List ℕ). get_or ws x 0) (same.words.files f g l m e);
   }
 
   -- at the start
   pub starts : SameStates a b (start_of a) (start_of b)
   starts = record {
-    first_files = length-map a.parts.files (λ f. f.words);
-    second_files = length-map b.parts.files (λ f. f.words);
-    regs = start_regs_alike;
-    files = λ f g l m e.
-        get_or-map (λ (x : NetFile). x.words) a.parts.files f no_file [] l ∙ (files_alike f g l m e).words ∙ sym (get_or-map (λ (x : NetFile). x.words) b.parts.files g no_file [] m);
+    words = record {
+      first = length-map a.parts.files (λ f. f.words);
+      second = length-map b.parts.files (λ f. f.words);
+      files = λ f g l m e.
+          get_or-map (λ (x : NetFile). x.words) a.parts.files f no_file [] l ∙ (files_alike f g l m e).words ∙ sym (get_or-map (λ (x : NetFile). x.words) b.parts.files g no_file [] m);
+    };
+    regs = λ r q l m e.
+        get_or-map (λ (x : NetReg). x.start.value) a.parts.regs r no_reg 0 l ∙ ap (λ (w : Word). w.value) (regs_alike r q l m e).start ∙ sym (get_or-map (λ (x : NetReg). x.start.value) b.parts.regs q no_reg 0 m);
   }
-    where
-      start_regs_alike : (r q : ℕ) → r < length a.parts.regs → q < length b.parts.regs → reg_name a r ≡ reg_name b q → get_or (start_regs a) r 0 ≡ get_or (start_regs b) q 0
-      start_regs_alike r q l m e =
-          get_or-map (λ (x : NetReg). x.start.value) a.parts.regs r no_reg 0 l ∙ ap (λ (w : Word). w.value) (regs_alike r q l m e).start ∙ sym (get_or-map (λ (x : NetReg). x.start.value) b.parts.regs q no_reg 0 m)
 
   -- one port
   ports_alike : (c d : Cells) → SameCells a b c d → (p q : Option WritePort) → WritesAlike a b p q → (ws : List ℕ) → port_after c a.nodes p ws ≡ port_after d b.nodes q ws
   ports_alike c d same None None w ws = refl
-  ports_alike c d same None (Some q) w ws = absurd w
-  ports_alike c d same (Some p) None w ws = absurd w
   ports_alike c d same (Some p) (Some q) w ws =
       let e = alike_tests a b oka okb c d same p.enable q.enable w.0 in
       let x = alike_values a b oka okb c d same p.address q.address w.1 in
       let y = alike_values a b oka okb c d same p.value q.value w.2 in
       λ i. if e i then set ws (x i) (y i) else ws
+  ports_alike c d same _ _ w ws = absurd w
 
   file_after : (net : Net) (c : Cells) (files : List (List ℕ)) (f : ℕ) → f < length net.parts.files → length files ≡ length net.parts.files
       → get_or (files_after net c files) f [] ≡ port_after c net.nodes (get_or net.parts.files f no_file).port (get_or files f [])
@@ -147,17 +106,19 @@ module _ (a b : Net) (oka : NetOk a) (okb : NetOk b) (fit : IsComparable a b) (h
       let d : Cells = cells_of i t in
       let cd = cells i s t same in
       record {
-        first_files = files_count a c s.files same.first_files;
-        second_files = files_count b d t.files same.second_files;
         regs = λ r q l m e.
             get_or-map (λ (x : NetReg). at c a.nodes x.next.0) a.parts.regs r no_reg 0 l
             ∙ alike_values a b oka okb c d cd (get_or a.parts.regs r no_reg).next (get_or b.parts.regs q no_reg).next (regs_alike r q l m e).next
             ∙ sym (get_or-map (λ (x : NetReg). at d b.nodes x.next.0) b.parts.regs q no_reg 0 m);
-        files = λ f g l m e.
-            file_after a c s.files f l same.first_files
-            ∙ ports_alike c d cd (get_or a.parts.files f no_file).port (get_or b.parts.files g no_file).port (files_alike f g l m e).port (get_or s.files f [])
-            ∙ ap (port_after d b.nodes (get_or b.parts.files g no_file).port) (same.files f g l m e)
-            ∙ sym (file_after b d t.files g m same.second_files);
+        words = record {
+          first = files_count a c s.files same.words.first;
+          second = files_count b d t.files same.words.second;
+          files = λ f g l m e.
+              file_after a c s.files f l same.words.first
+              ∙ ports_alike c d cd (get_or a.parts.files f no_file).port (get_or b.parts.files g no_file).port (files_alike f g l m e).port (get_or s.files f [])
+              ∙ ap (port_after d b.nodes (get_or b.parts.files g no_file).port) (same.words.files f g l m e)
+              ∙ sym (file_after b d t.files g m same.words.second);
+        };
       }
 
   resets_alike : (i : Input) → resets a i ≡ resets b i
@@ -170,7 +131,7 @@ module _ (a b : Net) (oka : NetOk a) (okb : NetOk b) (fit : IsComparable a b) (h
       after_b r = if r then record { regs = start_regs b; files = t.files } else record { regs = regs_after b (cells_of i t); files = files_after b (cells_of i t) t.files }
 
       by : (r : Bool) → SameStates a b (if r then record { regs = start_regs a; files = s.files } else record { regs = regs_after a (cells_of i s); files = files_after a (cells_of i s) s.files }) (after_b r)
-      by true = record { first_files = same.first_files; second_files = same.second_files; regs = starts.regs; files = same.files }
+      by true = record { words = record { first = same.words.first; second = same.words.second; files = same.words.files }; regs = starts.regs }
       by false = moves i s t same
 
   rows_alike : (i : Input) (s t : State) → SameStates a b s t → row_of a i s ≡ row_of b i t
@@ -201,8 +162,7 @@ module _ (a b : Net) (oka : NetOk a) (okb : NetOk b) (fit : IsComparable a b) (h
       by true e = among_reg a (reg_name b q) e
       by false e =
           let some : 0 < length (names_of_second a b) = filter_some (is_new a) (reg_names b) q (omega (arith, reg_count b)) (ap (is_new a) (reg_names_are b q) ∙ ap not e) in
-          let g = h.second 0 some in
-          absurd (second_never a b g some)
+          absurd (omega (arith, some, h.none))
 
   pub runs_alike : RunAlike a b
   runs_alike = record {
@@ -216,7 +176,7 @@ module _ (a b : Net) (oka : NetOk a) (okb : NetOk b) (fit : IsComparable a b) (h
     };
     rows = λ ins. run_rows ins (start_of a) (start_of b) starts;
     regs = λ ins T r q l lr lq e. (run_states ins (start_of a) (start_of b) starts T l).regs r q lr lq e;
-    files = λ ins T f g x l lf lg e. ap (λ (ws : List ℕ). get_or ws x 0) ((run_states ins (start_of a) (start_of b) starts T l).files f g lf lg e);
+    files = λ ins T f g x l lf lg e. ap (λ (ws : List ℕ). get_or ws x 0) ((run_states ins (start_of a) (start_of b) starts T l).words.files f g lf lg e);
   }
 
 pub theorem : (a b : Net) → NetOk a → NetOk b → IsComparable a b → AllAgree a b → RunAlike a b

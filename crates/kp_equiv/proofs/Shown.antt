@@ -1,6 +1,7 @@
 -- Netlists that run alike implement the same machines, up to their modules' names.
-use Rattle.std.proofs.Common.{◌≡◌, ◌∙◌, ℕ, zero, suc, ◌<◌, ◌≤◌, Bool, true, false, cond, List, [], ◌∷◌, length, get_or, take, refl, sym, ap, subst, arith}
-use Rattle.std.{proofs.lemmas.Bool.false≢true, proofs.lemmas.List.length-map, specs.Prelude.if◌then◌else◌, specs.Cmp.Lexicographic.bytes_decides}
+use Rattle.std.proofs.Common.{◌≡◌, ◌∙◌, ℕ, zero, suc, ◌<◌, ◌≤◌, Bool, true, false, cond, List, [], ◌∷◌, length, get_or, map, take, refl, sym, ap, subst, arith, ⊎_elim}
+use Rattle.std.proofs.lemmas.{Bool.cases_lt, Bool.false≢true, List.length-map, List.Recursion.is_position_or_len, List.Sums.fails_before_first, List.Sums.passes_at_first}
+use Rattle.std.{specs.Prelude.if◌then◌else◌, specs.Cmp.Lexicographic.bytes_decides, specs.List.position_or_len}
 use Rattle.kp_base.specs.declared.row.Row.{Row}
 use Rattle.kp_bits.specs.Word.{Word}
 use Rattle.kp_ast.specs.declared.tree.Job.{Job}
@@ -11,30 +12,26 @@ use Rattle.kp_net.specs.{Parts.NetOk, Parts.no_reg, Parts.no_file, Widths.wide}
 use Rattle.kp_sched.specs.Rows.{rows_seen}
 use Rattle.kp_seq.specs.Running.{target}
 use Rattle.kp_synth_spec.specs.Naming.{module_name, register_name, file_name as target_file_name, place_among, register_of, file_of, value_of, value_shown}
-use Rattle.kp_synth_spec.specs.{Shows.IsOfJob, Traces.trace_of, Traces.inputs_seen, Traces.AreQuiet}
+use Rattle.kp_synth_spec.specs.{Shows.IsOfJob, Traces.trace_of}
 use Rattle.kp_synth_spec.specs.Traces as traces
 use Rattle.kp_equiv_trees.specs.{Alike.Alike, Alike.AlikeWithin, Alike.reg_name, Alike.file_name, Named.reg_names, Named.file_names, Roots.AllAgree}
-use Rattle.kp_equiv_trees.proofs.{Naming.one_number, Places.reg_names_are, Places.file_names_are, Places.reg_count, Places.file_count}
+use Rattle.kp_equiv_trees.proofs.Places.{Things, registers, memories, name_is, one_index, reg_names_are, file_names_are}
 use Rattle.kp_equiv.specs.{Roots.IsComparable, Runs.RunAlike, Showing.renamed, Showing.ShowsButName}
 use Rattle.kp_equiv.proofs.Running.{agreed, regs_alike, theorem}
 
 -- the first index of a name
+placed_is : (ns : List (List ℕ)) (n : List ℕ) → place_among ns n ≡ position_or_len (λ m. same m n) ns
+placed_is ns n = is_position_or_len (λ ms. place_among ms n) (λ m. same m n) refl (λ m ms. ap (cond (same m n) 0) (omega arith)) ns
+
 pub placed_at : (ns : List (List ℕ)) (n : List ℕ) → place_among ns n < length ns → get_or ns (place_among ns n) [] ≡ n
-placed_at [] n l = absurd (omega (arith, l))
-placed_at (m ∷ ns) n l = by (same m n) refl (placed_at ns n) l
-  where
-    by : (b : Bool) → same m n ≡ b → (place_among ns n < length ns → get_or ns (place_among ns n) [] ≡ n) → cond b 0 (suc (place_among ns n)) < suc (length ns) → get_or (m ∷ ns) (cond b 0 (suc (place_among ns n))) [] ≡ n
-    by true e rest k = (bytes_decides m n).0 e
-    by false e rest k = rest (omega (arith, k))
+placed_at ns n l = (bytes_decides (get_or ns (place_among ns n) []) n).0 (rw placed_is (passes_at_first (λ m. same m n) ns [] (rw (← placed_is ns n) l)))
 
 pub placed_there : (ns : List (List ℕ)) (n : List ℕ) (i : ℕ) → i < length ns → get_or ns i [] ≡ n → place_among ns n < length ns
-placed_there [] n i l e = absurd (omega (arith, l))
-placed_there (m ∷ ns) n i l e = by (same m n) refl (placed_there ns n) i l e
-  where
-    by : (b : Bool) → same m n ≡ b → ((j : ℕ) → j < length ns → get_or ns j [] ≡ n → place_among ns n < length ns) → (j : ℕ) → j < suc (length ns) → get_or (m ∷ ns) j [] ≡ n → cond b 0 (suc (place_among ns n)) < suc (length ns)
-    by true f rest j k g = omega arith
-    by false f rest zero k g = absurd (false≢true (sym f ∙ (bytes_decides m n).1 g))
-    by false f rest (suc j) k g = let r = rest j (omega (arith, k)) g in omega (arith, r)
+placed_there ns n i l e = ⊎_elim
+    (λ (h : place_among ns n < length ns). h)
+    (λ (h : length ns ≤ place_among ns n).
+    absurd (false≢true (sym (fails_before_first (λ m. same m n) ns i [] (omega (arith, placed_is ns n))) ∙ (bytes_decides (get_or ns i []) n).1 e)))
+    (cases_lt (place_among ns n) (length ns))
 
 -- the name of the module doesn't affect a run
 pub states_same : (net : Net) (name : List ℕ) (st : State) (ins : List Input) → states_from (renamed net name) st ins ≡ states_from net st ins
@@ -58,33 +55,33 @@ pub record Twins (a b : Net) : Type 0 where
       → ((get_or a.parts.files f no_file).width ≡ (get_or b.parts.files g no_file).width) × ((get_or a.parts.files f no_file).address_width ≡ (get_or b.parts.files g no_file).address_width)
   pub runs : RunAlike a b
 
+-- a name of one, where the other has it too
+both_have : {X : Type 0} (T : Things X) (xs ys : List X) (n : List ℕ) → ((i : ℕ) → i < length xs → (j : ℕ) × (j < length ys) × (T.name (get_or ys j T.none) ≡ T.name (get_or xs i T.none)))
+    → place_among (map T.name xs) n < length xs → (place_among (map T.name xs) n < length xs) × (place_among (map T.name ys) n < length ys)
+    × (T.name (get_or xs (place_among (map T.name xs) n) T.none) ≡ T.name (get_or ys (place_among (map T.name ys) n) T.none))
+both_have T xs ys n there l =
+    let r : ℕ = place_among (map T.name xs) n in
+    let nr : T.name (get_or xs r T.none) ≡ n = sym (name_is T xs r) ∙ placed_at (map T.name xs) n (omega (arith, length-map xs T.name)) in
+    let s = there r l in
+    let lq = placed_there (map T.name ys) n s.0 (let k = s.1 in omega (arith, length-map ys T.name)) (name_is T ys s.0 ∙ s.2 ∙ nr) in
+    (l, omega (arith, lq, length-map ys T.name), nr ∙ sym (placed_at (map T.name ys) n lq) ∙ name_is T ys (place_among (map T.name ys) n))
+
+-- the value of a register, or the word of a file
+pub chosen_alike : (c : Bool) (p q u v : ℕ) → (c ≡ true → p ≡ u) → (c ≡ false → q ≡ v) → (if c then p else q) ≡ (if c then u else v)
+chosen_alike true p q u v f g = f refl
+chosen_alike false p q u v f g = g refl
+
 module _ (a b : Net) (job : Job) (h : Twins a b) (x : IsOfJob (renamed a (module_name job)) job) where
   -- the register of a target
   pub reg_place : (t : ℕ) → t < length (targets_of job.decls) → is_register (target job t) ≡ true
       → (register_of a (target job t) < length a.parts.regs) × (register_of b (target job t) < length b.parts.regs)
       × (reg_name a (register_of a (target job t)) ≡ reg_name b (register_of b (target job t)))
-  reg_place t l e =
-      let n : List ℕ = register_name (target job t) in
-      let r : ℕ = register_of a (target job t) in
-      let lr : r < length a.parts.regs = (x.registers t l e).there in
-      let nr : reg_name a r ≡ n = sym (reg_names_are a r) ∙ placed_at (reg_names a) n (omega (arith, reg_count a)) in
-      let s = h.runs.there.regs r lr in
-      let lq : place_among (reg_names b) n < length (reg_names b) = placed_there (reg_names b) n s.0 (let k = s.1 in omega (arith, reg_count b)) (reg_names_are b s.0 ∙ s.2 ∙ nr) in
-      let nq : reg_name b (place_among (reg_names b) n) ≡ n = sym (reg_names_are b (place_among (reg_names b) n)) ∙ placed_at (reg_names b) n lq in
-      (lr, omega (arith, reg_count b), nr ∙ sym nq)
+  reg_place t l e = both_have registers a.parts.regs b.parts.regs (register_name (target job t)) h.runs.there.regs (x.registers t l e).there
 
   pub file_place : (t : ℕ) → t < length (targets_of job.decls) → is_register (target job t) ≡ false
       → (file_of a (target job t) < length a.parts.files) × (file_of b (target job t) < length b.parts.files)
       × (file_name a (file_of a (target job t)) ≡ file_name b (file_of b (target job t)))
-  file_place t l e =
-      let n : List ℕ = target_file_name (target job t) in
-      let f : ℕ = file_of a (target job t) in
-      let lf : f < length a.parts.files = (x.files t l e).there in
-      let nf : file_name a f ≡ n = sym (file_names_are a f) ∙ placed_at (file_names a) n (omega (arith, file_count a)) in
-      let s = h.runs.there.files f lf in
-      let lg : place_among (file_names b) n < length (file_names b) = placed_there (file_names b) n s.0 (let k = s.1 in omega (arith, file_count b)) (file_names_are b s.0 ∙ s.2 ∙ nf) in
-      let ng : file_name b (place_among (file_names b) n) ≡ n = sym (file_names_are b (place_among (file_names b) n)) ∙ placed_at (file_names b) n lg in
-      (lf, omega (arith, file_count b), nf ∙ sym ng)
+  file_place t l e = both_have memories a.parts.files b.parts.files (target_file_name (target job t)) h.runs.there.files (x.files t l e).there
 
   of_job : IsOfJob (renamed b (module_name job)) job
   of_job = record {
@@ -112,13 +109,9 @@ module _ (a b : Net) (job : Job) (h : Twins a b) (x : IsOfJob (renamed a (module
   -- the values of a target
   values : (ins : List Input) (T t y : ℕ) → T ≤ length ins → t < length (targets_of job.decls)
       → value_of b (get_or (run b ins).states T traces.no_state) (target job t) y ≡ value_of a (get_or (run a ins).states T traces.no_state) (target job t) y
-  values ins T t y l m = by (is_register (target job t)) refl
-    where
-      by : (c : Bool) → is_register (target job t) ≡ c
-          → (if c then get_or (get_or (run b ins).states T traces.no_state).regs (register_of b (target job t)) 0 else get_or (get_or (get_or (run b ins).states T traces.no_state).files (file_of b (target job t)) []) y 0)
-          ≡ (if c then get_or (get_or (run a ins).states T traces.no_state).regs (register_of a (target job t)) 0 else get_or (get_or (get_or (run a ins).states T traces.no_state).files (file_of a (target job t)) []) y 0)
-      by true e = let p = reg_place t m e in sym (h.runs.regs ins T (register_of a (target job t)) (register_of b (target job t)) l p.0 p.1 p.2)
-      by false e = let p = file_place t m e in sym (h.runs.files ins T (file_of a (target job t)) (file_of b (target job t)) y l p.0 p.1 p.2)
+  values ins T t y l m = chosen_alike (is_register (target job t)) _ _ _ _
+      (λ e. let p = reg_place t m e in sym (h.runs.regs ins T (register_of a (target job t)) (register_of b (target job t)) l p.0 p.1 p.2))
+      (λ e. let p = file_place t m e in sym (h.runs.files ins T (file_of a (target job t)) (file_of b (target job t)) y l p.0 p.1 p.2))
 
 pub length_rows : (net : Net) (st : State) (ins : List Input) → length (rows_from net st ins) ≡ length ins
 length_rows net st [] = refl
@@ -182,8 +175,7 @@ twins a b oka okb fit all =
       regs = λ r q l m e. ap (λ (w : Word). w.width) (regs_alike a b oka okb fit h r q l m e).start;
       widths = λ f g l m e.
           let s = fit.there f l in
-          let z : s.0 ≡ g = one_number (file_names b) fit.second.files s.0 g (let k = s.1 in omega (arith, file_count b)) (omega (arith, file_count b))
-          (file_names_are b s.0 ∙ sym s.2.name ∙ e ∙ sym (file_names_are b g)) in
+          let z : s.0 ≡ g = one_index memories b.parts.files fit.second.files s.0 g s.1 m (sym s.2.name ∙ e) in
           (s.2.width ∙ ap (λ (k : ℕ). (get_or b.parts.files k no_file).width) z, s.2.address ∙ ap (λ (k : ℕ). (get_or b.parts.files k no_file).address_width) z);
       runs = theorem a b oka okb fit all;
     }

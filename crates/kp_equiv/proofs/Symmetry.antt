@@ -7,11 +7,11 @@ use Rattle.kp_net.specs.declared.node.Kind.TheVariants.{Const, Ext, Sample, Reg,
 use Rattle.kp_net.specs.declared.{node.Node.Node, netlist.NetReg.NetReg, netlist.NetFile.NetFile, netlist.WritePort.WritePort}
 use Rattle.kp_net.specs.{Names.among, Netlist.Net, Parts.NetOk, Parts.RegOk, Parts.FileOk, Parts.WriteOk, Parts.no_reg, Parts.no_file}
 use Rattle.kp_net.specs.Widths.{KindOk, AllRight, no_node}
-use Rattle.kp_equiv_trees.specs.Roots.{Root, Ports, Full, Ue, Back, roots, names_of_second, RegsAlike, WritesAlike, FilesAlike, PortsAgree, RegisterAgrees, FileAgrees, Agrees, AllAgree}
+use Rattle.kp_equiv_trees.specs.Roots.{Register, File, Full, Ue, Back, names_of_second, RegsAlike, WritesAlike, FilesAlike, PortsAgree, RegisterAgrees, FileAgrees, AllAgree}
 use Rattle.kp_equiv_trees.specs.Alike.{Relation, AllRelated, PairRelated, KindAlike, Alike, AlikeWithin, reg_name, file_name}
-use Rattle.kp_equiv_trees.{specs.Named.reg_names, specs.Sections.AgreeUpTo, specs.Sections.behind_ports, proofs.Naming.among_at}
-use Rattle.kp_equiv_trees.proofs.Ordered.{all_behind, regs_all, files_all, none_of_second, second_agrees}
-use Rattle.kp_equiv_trees.proofs.Places.{reg_names_are, reg_count}
+use Rattle.kp_equiv_trees.{specs.Named.reg_names, specs.Sections.AgreeUpTo, proofs.Naming.among_at}
+use Rattle.kp_equiv_trees.proofs.Ordered.{all_behind, agree_more, all_agree as every, roots_all, none_of_second, second_agrees}
+use Rattle.kp_equiv_trees.proofs.Places.{registers, memories, reg_names_are, reg_count}
 use Rattle.kp_equiv.specs.Roots.{IsComparable}
 use Rattle.kp_equiv.proofs.Running.{Agreed, agreed, regs_alike, files_alike, theorem}
 
@@ -50,9 +50,8 @@ alike_refl a ok i l = record { levels = suc i.0; alike = within_refl a ok.right 
 module _ (a b : Net) (R S : Relation) (turn : (x y : NodeId) → R x y → S y x) where
   list_sym : (xs ys : List NodeId) → AllRelated R xs ys → AllRelated S ys xs
   list_sym [] [] h = tt
-  list_sym [] (y ∷ ys) h = absurd h
-  list_sym (x ∷ xs) [] h = absurd h
   list_sym (x ∷ xs) (y ∷ ys) h = (turn x y h.0, list_sym xs ys h.1)
+  list_sym _ _ h = absurd h
 
   pair_sym : (op : BinOp) (x y u v : NodeId) → PairRelated R op x y u v → PairRelated S op u v x y
   pair_sym op x y u v (inl (p, q)) = inl (turn x u p, turn y v q)
@@ -84,18 +83,13 @@ regs_sym a b r q h = record { start = sym h.start; next = alike_sym a b r.next q
 
 writes_sym : (a b : Net) (p q : Option WritePort) → WritesAlike a b p q → WritesAlike b a q p
 writes_sym a b None None h = tt
-writes_sym a b None (Some q) h = absurd h
-writes_sym a b (Some p) None h = absurd h
 writes_sym a b (Some p) (Some q) h = (alike_sym a b p.enable q.enable h.0, alike_sym a b p.address q.address h.1, alike_sym a b p.value q.value h.2)
+writes_sym a b _ _ h = absurd h
 
 files_sym : (a b : Net) (f g : NetFile) → FilesAlike a b f g → FilesAlike b a g f
 files_sym a b f g h = record { words = sym h.words; port = writes_sym a b f.port g.port h.port }
 
 -- ---- all roots
-
-more : (a b : Net) (r : Root) (rs : List Root) → Agrees a b r → AgreeUpTo a b rs (length rs) → AgreeUpTo a b (r ∷ rs) (suc (length rs))
-more a b r rs p q zero l = p
-more a b r rs p q (suc k) l = q k (omega (arith, l))
 
 none_more : (a b : Net) → AgreeUpTo a b [] 0
 none_more a b k l = absurd (omega (arith, l))
@@ -104,15 +98,12 @@ none_more a b k l = absurd (omega (arith, l))
 all_agree : (a b : Net) → PortsAgree a b → ((r : ℕ) → r < length a.parts.regs → RegisterAgrees a b (reg_name a r))
     → ((q : ℕ) → q < length b.parts.regs → among (reg_names a) (reg_name b q) ≡ true) → ((f : ℕ) → f < length a.parts.files → FileAgrees a b (file_name a f))
     → Alike a b a.parts.full b.parts.full → Alike a b a.parts.ue b.parts.ue → Alike a b a.parts.back b.parts.back → AllAgree a b
-unfolding roots
 all_agree a b ports regs known files full ue back =
     let none : length (names_of_second a b) ≡ 0 = none_of_second a b (length b.parts.regs) (omega arith) (λ k l m. known k l) in
-    let outputs : AgreeUpTo a b (Full ∷ Ue ∷ Back ∷ []) 3 = more a b Full (Ue ∷ Back ∷ []) full (more a b Ue (Back ∷ []) ue (more a b Back [] back (none_more a b))) in
-    record {
-      agree = more a b Ports (behind_ports a b) ports
-          (all_behind a b None None None None None (regs_all a b (length a.parts.regs) refl regs) (second_agrees a b none) (λ _. none)
-          (files_all a b (length a.parts.files) refl files) outputs refl);
-    }
+    let outputs : AgreeUpTo a b (Full ∷ Ue ∷ Back ∷ []) 3 = agree_more a b Full (Ue ∷ Back ∷ []) 2 full (agree_more a b Ue (Back ∷ []) 1 ue (agree_more a b Back [] 0 back (none_more a b))) in
+    every a b ports
+    (all_behind a b None None None None None (roots_all registers Register a.parts.regs a b (length a.parts.regs) refl regs) (second_agrees a b none) (λ _. none)
+    (roots_all memories File a.parts.files a b (length a.parts.files) refl files) outputs refl)
 
 -- the names of all registers of a netlist
 named : (a : Net) (r : ℕ) (name : List ℕ) → r < length a.parts.regs → reg_name a r ≡ name → among (reg_names a) name ≡ true
@@ -145,25 +136,9 @@ agree_turned a b oka okb fit all =
     all_agree b a (record { reset = sym h.ports.reset; ext = sym h.ports.ext; samples = sym h.ports.samples })
     (λ q l.
     let r = back.regs q l in
-    record {
-      first = q;
-      second = r.0;
-      in_first = l;
-      in_second = r.1;
-      named_first = refl;
-      named_second = r.2;
-      alike = regs_sym a b _ _ (regs_alike a b oka okb fit h r.0 q r.1 l r.2);
-    })
+    record { first = q; second = r.0; in_first = l; in_second = r.1; named_first = refl; named_second = r.2; alike = regs_sym a b _ _ (regs_alike a b oka okb fit h r.0 q r.1 l r.2) })
     (λ r l. let g = h.regs r l in named b g.second (reg_name a r) g.in_second g.named_second)
     (λ g l.
     let f = back.files g l in
-    record {
-      first = g;
-      second = f.0;
-      in_first = l;
-      in_second = f.1;
-      named_first = refl;
-      named_second = f.2;
-      alike = files_sym a b _ _ (files_alike a b oka okb fit h f.0 g f.1 l f.2);
-    })
+    record { first = g; second = f.0; in_first = l; in_second = f.1; named_first = refl; named_second = f.2; alike = files_sym a b _ _ (files_alike a b oka okb fit h f.0 g f.1 l f.2) })
     (alike_sym a b a.parts.full b.parts.full h.full) (alike_sym a b a.parts.ue b.parts.ue h.ue) (alike_sym a b a.parts.back b.parts.back h.back)

@@ -1,6 +1,5 @@
 -- Two nodes have the same class exactly if they are equivalent.
-use Rattle.std.proofs.Common.{◌≡◌, ◌∙◌, ℕ, zero, suc, ◌<◌, ◌≤◌, List, length, get_or, sym, ap, arith, ⊎_elim}
-use Rattle.std.proofs.lemmas.Bool.{cases_lt, cases_eq}
+use Rattle.std.proofs.Common.{◌≡◌, ◌∙◌, ℕ, zero, suc, ◌<◌, List, length, get_or, sym, ap, arith}
 use Rattle.kp_net.specs.{declared.node.NodeId.NodeId, declared.node.Node.Node, Netlist.Net, Parts.NetOk, Widths.Distinct, Widths.no_node}
 use Rattle.kp_equiv_trees.{specs.Alike.AlikeWithin, specs.Classes.class_in, specs.Classes.Determines, proofs.Determined.id_is}
 use Rattle.kp_equiv_classes.specs.inner.Shapes.{known_of, shape, AreClasses}
@@ -8,10 +7,9 @@ use Rattle.kp_equiv_classes.proofs.Operations.{kinds_from, kinds_to}
 
 -- no shape occurs twice
 one_shape : (ns : List Node) (p q : ℕ) → Distinct ns → p < length ns → q < length ns → get_or ns p no_node ≡ get_or ns q no_node → p ≡ q
-one_shape ns p q d lp lq e = ⊎_elim
-    (λ (h : p < q). absurd (d p q h lq e))
-    (λ (h : q ≤ p). ⊎_elim (λ (z : p ≡ q). z) (λ (z : p ≡ q → ⊥). absurd (d q p (omega arith) lp (sym e))) (cases_eq p q))
-    (cases_lt p q)
+one_shape ns p q d lp lq e =
+    let f : p < q → ⊥ = λ h. d p q h lq e in let g : q < p → ⊥ = λ h. d q p h lp (sym e) in
+    omega (arith, f, g)
 
 module _ (a b : Net) (ns : List Node) (ca cb : List NodeId) (oka : NetOk a) (okb : NetOk b)
     (fa : AreClasses (known_of a) a ns ca) (fb : AreClasses (known_of a) b ns cb)

@@ -1,9 +1,9 @@
 -- Classes of nodes, node by node.
-use Rattle.std.proofs.Common.{◌≡◌, ◌∙◌, ℕ, ◌+◌, ◌<◌, ◌≤◌, ◌++◌, List, [], ◌∷◌, length, map, get_or, refl, sym, ap, subst, arith, ⊎_elim, All, length-append}
-use Rattle.std.proofs.{Math.ListN.get_or-append, Math.Seq.get_or-append_seam, lemmas.Bool.cases_lt, lemmas.List.get_or_default}
+use Rattle.std.proofs.Common.{◌≡◌, ◌∙◌, ℕ, ◌+◌, ◌<◌, ◌≤◌, ◌++◌, List, [], ◌∷◌, length, map, get_or, refl, sym, ap, subst, arith, below_more, All, length-append}
+use Rattle.std.proofs.{Math.ListN.get_or-append, Math.Seq.get_or-append_seam, lemmas.List.get_or_default}
 use Rattle.std.proofs.lemmas.List.Elements.{All-head, All-tail}
 use Rattle.kp_net.specs.declared.node.{NodeId.NodeId, Kind.Kind}
-use Rattle.kp_net.specs.declared.node.Kind.TheVariants.{Const, Ext, Sample, Reg, Word, Not, Binary, Mux, Concat, Slice}
+use Rattle.kp_net.specs.declared.node.Kind.TheVariants.{Word, Not, Binary, Mux, Concat, Slice}
 use Rattle.kp_net.specs.declared.{node.Node.Node, netlist.NetFile.NetFile, netlist.NetReg.NetReg, netlist.Parts.Parts, netlist.Port.Port}
 use Rattle.kp_net.specs.{Netlist.Net, Parts.NetOk, Parts.CellOk, Parts.no_file, Widths.Distinct, Widths.KindOk, Widths.NodeOk, Widths.no_node}
 use Rattle.kp_equiv_trees.specs.{Alike.commutes, Classes.place, Classes.no_class, Classes.class_in, Classes.Determines}
@@ -20,10 +20,6 @@ all_agree m n i (x ∷ xs) h e =
 
 kinds_agree : (ks : Known) (p : Parts) (ns : List Node) (i w : ℕ) (m n : NodeId → NodeId) (k : Kind) → KindOk ns i w k → ((x : NodeId) → x.0 < i → m x ≡ n x)
     → shape_kind ks p m k ≡ shape_kind ks p n k
-kinds_agree ks p ns i w m n (Const x) h e = refl
-kinds_agree ks p ns i w m n Ext h e = refl
-kinds_agree ks p ns i w m n (Sample s) h e = refl
-kinds_agree ks p ns i w m n (Reg r) h e = refl
 kinds_agree ks p ns i w m n (Word f a) h e = ap (Word (place ks.files (get_or p.files f no_file).name)) (e a h)
 kinds_agree ks p ns i w m n (Not a) h e = ap Not (e a h.0)
 kinds_agree ks p ns i w m n (Binary op a b) h e =
@@ -32,6 +28,7 @@ kinds_agree ks p ns i w m n (Binary op a b) h e =
 kinds_agree ks p ns i w m n (Mux s a b) h e = let x = e s h.0 in let y = e a h.1 in let z = e b h.2 in λ t. Mux (x t) (y t) (z t)
 kinds_agree ks p ns i w m n (Concat xs) h e = ap Concat (all_agree m n i xs h.2 e)
 kinds_agree ks p ns i w m n (Slice a hi lo) h e = ap (λ (x : NodeId). Slice x hi lo) (e a h.0)
+kinds_agree ks p ns i w m n _ h e = refl
 
 -- one more class preserves the existing ones
 kept : (cs : List NodeId) (c x : NodeId) → x.0 < length cs → class_in cs x ≡ class_in (cs ++ c ∷ []) x
@@ -51,30 +48,19 @@ no_classes ks net ns = record { inside = λ i l. absurd (omega (arith, l)); know
 pub more_classes : (ks : Known) (net : Net) (old new : List Node) (cs : List NodeId) (c : NodeId) (n : Node) (i : ℕ) → NetOk net → i < length net.nodes → length cs ≡ i
     → n ≡ get_or net.nodes i n → AreClasses ks net old cs → Extends old new → c.0 < length new → get_or new c.0 no_node ≡ shape ks net.parts (class_in cs) n
     → AreClasses ks net new (cs ++ c ∷ [])
-more_classes ks net old new cs c n i ok l z is h grows within there = record {
-  inside = λ j m. ⊎_elim
-      (λ (q : j < length cs). subst (λ (x : NodeId). x.0 < length new) (sym (get_or-append cs (c ∷ []) no_class j q)) (let o = h.inside j q in let g = grows.longer in omega arith))
-      (λ (q : length cs ≤ j). subst (λ (x : NodeId). x.0 < length new) (sym (last j m q)) within)
-      (cases_lt j (length cs));
-  known = λ j m. ⊎_elim
-      (λ (q : j < length cs).
-      ap (λ (x : NodeId). get_or new x.0 no_node) (get_or-append cs (c ∷ []) no_class j q) ∙ grows.same (get_or cs j no_class).0 (h.inside j q) ∙ h.known j q
-      ∙ shape_kept ks net cs c j ok (omega (arith, z)) (omega arith))
-      (λ (q : length cs ≤ j).
-      let e : j ≡ i = end j m q in
-      ap (λ (x : NodeId). get_or new x.0 no_node) (last j m q) ∙ there ∙ ap (shape ks net.parts (class_in cs)) (is ∙ get_or_at_default ∙ ap (λ (k : ℕ). get_or net.nodes k no_node) (sym e))
-      ∙ shape_kept ks net cs c j ok (omega (arith, z)) (omega (arith, z)))
-      (cases_lt j (length cs));
-}
-  where
-    end : (j : ℕ) → j < length (cs ++ c ∷ []) → length cs ≤ j → j ≡ i
-    end j m q = omega (arith, z, length-append cs (c ∷ []), m)
-
-    last : (j : ℕ) → j < length (cs ++ c ∷ []) → length cs ≤ j → get_or (cs ++ c ∷ []) j no_class ≡ c
-    last j m q = ap (λ (k : ℕ). get_or (cs ++ c ∷ []) k no_class) (end j m q ∙ sym z) ∙ get_or-append_seam cs c [] no_class
-
-    get_or_at_default : get_or net.nodes i n ≡ get_or net.nodes i no_node
-    get_or_at_default = get_or_default net.nodes i n no_node l
+more_classes ks net old new cs c n i ok l z is h grows within there =
+    let last : get_or (cs ++ c ∷ []) (length cs) no_class ≡ c = get_or-append_seam cs c [] no_class in
+    record {
+      inside = λ j m. below_more (λ (k : ℕ). (get_or (cs ++ c ∷ []) k no_class).0 < length new) (length cs)
+          (λ k q. subst (λ (x : NodeId). x.0 < length new) (sym (get_or-append cs (c ∷ []) no_class k q)) (let o = h.inside k q in let g = grows.longer in omega arith))
+          (subst (λ (x : NodeId). x.0 < length new) (sym last) within) j (omega (arith, m, length-append cs (c ∷ [])));
+      known = λ j m. below_more (λ (k : ℕ). get_or new (get_or (cs ++ c ∷ []) k no_class).0 no_node ≡ shape ks net.parts (class_in (cs ++ c ∷ [])) (get_or net.nodes k no_node)) (length cs)
+          (λ k q. ap (λ (x : NodeId). get_or new x.0 no_node) (get_or-append cs (c ∷ []) no_class k q) ∙ grows.same (get_or cs k no_class).0 (h.inside k q) ∙ h.known k q
+          ∙ shape_kept ks net cs c k ok (omega (arith, z)) (omega arith))
+          (ap (λ (x : NodeId). get_or new x.0 no_node) last ∙ there
+          ∙ ap (shape ks net.parts (class_in cs)) (is ∙ get_or_default net.nodes i n no_node l ∙ ap (λ (k : ℕ). get_or net.nodes k no_node) (sym z))
+          ∙ shape_kept ks net cs c (length cs) ok (omega (arith, z)) (omega arith)) j (omega (arith, m, length-append cs (c ∷ [])));
+    }
 
 pub extends_twice : (ns ms ls : List Node) → Extends ns ms → Extends ms ls → Extends ns ls
 extends_twice ns ms ls p q = record {
@@ -146,8 +132,4 @@ listed regs files samples = record { regs = regs; files = files; samples = sampl
 -- the names in the list are those of the netlist
 pub names_known : (net : Net) (p : Parts) (rs : List NetReg) (fs : List NetFile) (ss : List Port) (regs files samples : List (List ℕ)) → p ≡ net.parts → rs ≡ p.regs → fs ≡ p.files → ss ≡ p.samples
     → regs ≡ map (λ (r : NetReg). r.name) rs → files ≡ map (λ (f : NetFile). f.name) fs → samples ≡ map (λ (s : Port). s.name) ss → listed regs files samples ≡ known_of net
-names_known net p rs fs ss regs files samples e er ef es gr gf gs =
-    let r = gr ∙ ap (map (λ (r : NetReg). r.name)) (er ∙ ap (λ (x : Parts). x.regs) e) in
-    let f = gf ∙ ap (map (λ (f : NetFile). f.name)) (ef ∙ ap (λ (x : Parts). x.files) e) in
-    let s = gs ∙ ap (map (λ (s : Port). s.name)) (es ∙ ap (λ (x : Parts). x.samples) e) in
-    λ t. listed (r t) (f t) (s t)
+names_known net p rs fs ss regs files samples e er ef es gr gf gs = cc

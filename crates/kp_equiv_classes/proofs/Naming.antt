@@ -1,7 +1,7 @@
 -- Lists of names, and look-ups in them.
 use Rattle.std.proofs.Common.{◌≡◌, ◌∙◌, ℕ, zero, suc, ◌+◌, ◌<◌, ◌≤◌, ◌++◌, ◌||◌, Bool, true, false, cond, not, List, [], ◌∷◌, length, map, get_or, take, refl, sym, ap, subst, arith, ⊎_elim, Option, None, Some, MatchOption}
 use Rattle.std.proofs.{Math.ListN.get_or-map, lemmas.Bool.cases_lt, lemmas.Bool.false≢true, lemmas.Bool.Decides.Decides-ltb}
-use Rattle.std.proofs.lemmas.List.{take_more, take_all, length-map, get_or_default}
+use Rattle.std.proofs.lemmas.List.{Sums.prefix_len-le-length, take_more, take_all, length-map, get_or_default}
 use Rattle.std.specs.{Prelude.if◌then◌else◌, Prelude.nat_eq, Prelude.nat_lt, Cmp.Lexicographic.pointwise, Cmp.Lexicographic.bytes_decides}
 use Rattle.std.specs.List.{list_any, position, position_or_len}
 use Rattle.indexmap.specs.IndexSet.{insert_key}
@@ -11,9 +11,6 @@ use Rattle.kp_equiv_trees.proofs.Naming.{among_at}
 either : (b c : Bool) → b ≡ false → c ≡ false → (b || c) ≡ false
 either true c e f = absurd (false≢true (sym e))
 either false c e f = f
-
-are_same : (n m : List ℕ) → same n m ≡ true → n ≡ m
-are_same n m e = (bytes_decides n m).0 e
 
 pub not_true : (b : Bool) → (b ≡ true → ⊥) → b ≡ false
 not_true true h = absurd (h refl)
@@ -26,7 +23,7 @@ lacks_front (n ∷ ns) d zero l = refl
 lacks_front (n ∷ ns) d (suc i) l =
     let x = get_or ns i [] in
     either (same x n) (among (take i ns) x)
-    (not_true (same x n) (λ e. false≢true (sym d.0 ∙ among_at ns i n (omega (arith, l)) (are_same x n e))))
+    (not_true (same x n) (λ e. false≢true (sym d.0 ∙ among_at ns i n (omega (arith, l)) ((bytes_decides x n).0 e))))
     (lacks_front ns d.1 i (omega (arith, l)))
 
 -- one more name
@@ -49,15 +46,6 @@ any_among (k ∷ ks) n = ap (λ (b : Bool). same n k || b) (any_among ks n)
 pub added : (ks : List (List ℕ)) (n : List ℕ) → among ks n ≡ false → insert_key (pointwise nat_eq) ks n ≡ ks ++ n ∷ []
 added ks n h = ap (λ (b : Bool). if b then ks else ks ++ n ∷ []) (any_among ks n ∙ h)
 
-step : (b : Bool) (k n : ℕ) → k ≤ n → cond b (1 + k) 0 ≤ suc n
-step true k n h = omega arith
-step false k n h = omega arith
-
--- an index is at most the number of names
-pub place_within : {X : Type 0} (test : X → Bool) (xs : List X) → position_or_len test xs ≤ length xs
-place_within test [] = omega arith
-place_within test (x ∷ xs) = step (not (test x)) (position_or_len test xs) (length xs) (place_within test xs)
-
 abbrev Placed : {X : Type 0} → (X → Bool) → List X → Option ℕ → Type 0
 Placed test xs r = MatchOption r (position_or_len test xs ≡ length xs) (λ i. (i < length xs) × (position_or_len test xs ≡ i))
 
@@ -68,5 +56,5 @@ placed {X} test xs r e = subst (Placed test xs) (sym e) (by (nat_lt (position_or
     by true f = ((Decides-ltb (position_or_len test xs) (length xs)).0 f, refl)
     by false f = ⊎_elim
         (λ (h : position_or_len test xs < length xs). absurd (false≢true (sym f ∙ (Decides-ltb (position_or_len test xs) (length xs)).1 h)))
-        (λ (h : length xs ≤ position_or_len test xs). let w = place_within test xs in omega arith)
+        (λ (h : length xs ≤ position_or_len test xs). let w = prefix_len-le-length (λ x. not (test x)) xs in omega arith)
         (cases_lt (position_or_len test xs) (length xs))

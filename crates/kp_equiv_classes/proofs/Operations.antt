@@ -6,7 +6,7 @@ use Rattle.kp_net.specs.declared.node.{NodeId.NodeId, Kind.Kind}
 use Rattle.kp_net.specs.declared.node.Kind.TheVariants.{Const, Ext, Sample, Reg, Word, Not, Binary, Mux, Concat, Slice}
 use Rattle.kp_net.specs.{Netlist.Net, Parts.CellOk, Widths.KindOk}
 use Rattle.kp_equiv_trees.specs.{Alike.commutes, Alike.Relation, Alike.AllRelated, Alike.PairRelated, Alike.KindAlike, Classes.place}
-use Rattle.kp_equiv_trees.proofs.{Places.one_reg, Places.one_file, Places.one_sample, Determined.id_is}
+use Rattle.kp_equiv_trees.proofs.{Places.registers, Places.memories, Places.ports, Places.one_name, Determined.id_is}
 use Rattle.kp_equiv_classes.specs.inner.Shapes.{Known, known_of, least, greatest, first_of_pair, second_of_pair, shape_kind}
 
 -- two numbers in order are two others in order
@@ -46,21 +46,20 @@ pair_from R m n i j op x y u v links lx ly lu lv = by (commutes op) refl
 
 all_from : (R : Relation) (m n : NodeId → NodeId) (i j : ℕ) (xs ys : List NodeId) → Links R m n i j → All (λ x. x.0 < i) xs → All (λ y. y.0 < j) ys → map m xs ≡ map n ys → AllRelated R xs ys
 all_from R m n i j [] [] links p q e = tt
-all_from R m n i j [] (y ∷ ys) links p q e = cc
-all_from R m n i j (x ∷ xs) [] links p q e = cc
 all_from R m n i j (x ∷ xs) (y ∷ ys) links p q e = (
   links x y (All-head (λ k. k.0 < i) x xs p) (All-head (λ k. k.0 < j) y ys q) cc,
   all_from R m n i j xs ys links (All-tail (λ k. k.0 < i) x xs p) (All-tail (λ k. k.0 < j) y ys q) cc,
 )
+all_from R m n i j _ _ links p q e = cc
 
 module _ (R : Relation) (a b : Net) (m n : NodeId → NodeId) (i j w v : ℕ) (links : Links R m n i j) where
   pub kinds_from : (k l : Kind) → KindOk a.nodes i w k → KindOk b.nodes j v l → CellOk a.nodes a.parts w k
       → shape_kind (known_of a) a.parts m k ≡ shape_kind (known_of a) b.parts n l → KindAlike R a b k l
   kinds_from (Const x) (Const y) p q t e = cc
   kinds_from Ext Ext p q t e = tt
-  kinds_from (Sample s) (Sample u) p q t e = one_sample a b s u t.0 cc
-  kinds_from (Reg r) (Reg u) p q t e = one_reg a b r u t.0 cc
-  kinds_from (Word f x) (Word g y) p q t e = (one_file a b f g t.0 cc, links x y p q cc)
+  kinds_from (Sample s) (Sample u) p q t e = one_name ports a.parts.samples b.parts.samples s u t.0 cc
+  kinds_from (Reg r) (Reg u) p q t e = one_name registers a.parts.regs b.parts.regs r u t.0 cc
+  kinds_from (Word f x) (Word g y) p q t e = (one_name memories a.parts.files b.parts.files f g t.0 cc, links x y p q cc)
   kinds_from (Not x) (Not y) p q t e = links x y p.0 q.0 cc
   kinds_from (Binary op x y) (Binary o u z) p q t e =
       let f : op ≡ o = cc in (
@@ -92,9 +91,8 @@ pair_to R m n op x y u v joins = ⊎_elim
 
 all_to : (R : Relation) (m n : NodeId → NodeId) (xs ys : List NodeId) → Joins R m n → AllRelated R xs ys → map m xs ≡ map n ys
 all_to R m n [] [] joins h = refl
-all_to R m n [] (y ∷ ys) joins h = absurd h
-all_to R m n (x ∷ xs) [] joins h = absurd h
 all_to R m n (x ∷ xs) (y ∷ ys) joins h = let e = joins x y h.0 in let f = all_to R m n xs ys joins h.1 in cc
+all_to R m n _ _ joins h = absurd h
 
 module _ (R : Relation) (a b : Net) (m n : NodeId → NodeId) (ks : Known) (joins : Joins R m n) where
   pub kinds_to : (k l : Kind) → KindAlike R a b k l → shape_kind ks a.parts m k ≡ shape_kind ks b.parts n l

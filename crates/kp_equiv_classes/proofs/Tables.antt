@@ -1,12 +1,12 @@
 -- A table of shapes after one more.
-use Rattle.std.proofs.Common.{◌≡◌, ◌∙◌, ℕ, ◌+◌, ◌<◌, ◌≤◌, ◌++◌, Bool, true, false, cond, List, [], ◌∷◌, length, get_or, refl, sym, ap, subst, arith, ⊎_elim, None, Some, length-append}
+use Rattle.std.proofs.Common.{◌≡◌, ◌∙◌, ℕ, ◌+◌, ◌<◌, ◌≤◌, ◌++◌, Bool, true, false, cond, not, List, [], ◌∷◌, length, get_or, refl, sym, ap, subst, arith, ⊎_elim, None, Some, length-append}
 use Rattle.std.proofs.{Math.ListN.get_or-append, Math.Seq.get_or-append_seam, lemmas.Bool.cases_lt, lemmas.Bool.false≢true, lemmas.Bool.Decides.Decides-ltb}
-use Rattle.std.proofs.lemmas.List.{get_or_default, Folds.list_any-from_Any, Sums.passes_at_first}
+use Rattle.std.proofs.lemmas.List.{Sums.prefix_len-le-length, get_or_default, Folds.list_any-from_Any, Sums.passes_at_first}
 use Rattle.std.specs.{Prelude.if◌then◌else◌, Prelude.nat_lt, List.list_any, List.position_or_len}
 use Rattle.indexmap.specs.IndexSet.{insert_key}
 use Rattle.kp_net.specs.{declared.node.Node.Node, Widths.Distinct, Widths.no_node, inner.Lookup.LacksBelow}
 use Rattle.kp_net.proofs.{Found.is, Found.placed, Found.not_any, Same.node_from_eq}
-use Rattle.kp_equiv_classes.{specs.inner.Shapes.Extends, proofs.Naming.place_within}
+use Rattle.kp_equiv_classes.specs.inner.Shapes.{Extends}
 
 pub record Put (ns : List Node) (n : Node) (new : List Node) (i : ℕ) : Type 0 where
   pub inside : i < length new
@@ -50,7 +50,7 @@ put ns n new i d e f = by (nat_lt (position_or_len (is n) ns) (length ns)) refl
     by false g =
         let past : position_or_len (is n) ns ≡ length ns = ⊎_elim
         (λ (h : position_or_len (is n) ns < length ns). absurd (false≢true (sym g ∙ (Decides-ltb (position_or_len (is n) ns) (length ns)).1 h)))
-        (λ (h : length ns ≤ position_or_len (is n) ns). let w = place_within (is n) ns in omega arith)
+        (λ (h : length ns ≤ position_or_len (is n) ns). let w = prefix_len-le-length (λ x. not (is n x)) ns in omega arith)
         (cases_lt (position_or_len (is n) ns) (length ns)) in
         let lacks : LacksBelow ns n (length ns) = placed n ns None (sym (ap (λ (b : Bool). cond b (Some (position_or_len (is n) ns)) None) g)) in
         let more : new ≡ ns ++ n ∷ [] = e ∙ ap (λ (b : Bool). if b then ns else ns ++ n ∷ []) (not_any n ns lacks) in

@@ -1,13 +1,13 @@
 -- Roots by their numbers, and their number.
 use Rattle.std.proofs.Common.{◌≡◌, ◌∙◌, ℕ, zero, suc, ◌+◌, ◌-◌, ◌<◌, ◌≤◌, ◌++◌, Bool, true, false, cond, not, List, [], ◌∷◌, length, map, get_or, refl, sym, ap, subst, arith, ⊎_elim, Option, None, Some, length-append}
-use Rattle.std.proofs.{Math.ListN.get_or-append, Math.Seq.get_or-append_right, lemmas.Bool.cases_lt, lemmas.List.length-map, lemmas.List.get_or-map}
+use Rattle.std.proofs.{Math.ListN.get_or-append, Math.Seq.get_or-append-add, lemmas.Bool.cases_lt, lemmas.List.length-map, lemmas.List.get_or-map}
 use Rattle.std.specs.List.{filter}
 use Rattle.kp_net.specs.{Names.among, Netlist.Net}
 use Rattle.kp_equiv_trees.specs.Roots.{Root, Ports, Register, File, Full, Ue, Back, names_of_second, roots, root, Agrees, AllAgree, IsFirstDifference}
 use Rattle.kp_equiv_trees.specs.{Alike.reg_name, Alike.file_name, Named.reg_names, Named.file_names}
 use Rattle.kp_equiv_trees.specs.Sections.{Differing, FirstNew, IsFirstNew, behind_regs}
-use Rattle.kp_equiv_trees.proofs.Places.{reg_names_are, reg_count, file_count}
-use Rattle.kp_equiv_trees.proofs.Ordered.{reg_root, file_root, is_new, filter_some, second_never, second_differs, none_of_second}
+use Rattle.kp_equiv_trees.proofs.Places.{registers, memories, reg_names_are, reg_count, file_count}
+use Rattle.kp_equiv_trees.proofs.Ordered.{root_is, roots_count, is_new, filter_some, second_never, second_differs, none_of_second}
 
 -- what was found among the names of the first
 pub new_of : (a b : Net) (names : List (List ℕ)) (i : ℕ) → names ≡ reg_names a → IsFirstNew names b i → IsFirstNew (reg_names a) b i
@@ -26,45 +26,35 @@ filter_first test (x ∷ xs) (suc i) l e before =
     ∙ filter_first test xs i (omega (arith, l)) e (λ k m. before (suc k) (omega (arith, m)))
 
 -- the registers that only the second has come after those of the first
-second_root : (a b : Net) (k : ℕ) → k < length (names_of_second a b) → root a b (suc (length a.parts.regs + k)) ≡ Register (get_or (names_of_second a b) k [])
+after_regs : (a b : Net) (k : ℕ) → root a b (suc (length a.parts.regs + k)) ≡ get_or (map Register (names_of_second a b) ++ behind_regs a) k Ports
 unfolding roots
+after_regs a b k =
+    ap (λ (i : ℕ). get_or (map Register (reg_names a) ++ (map Register (names_of_second a b) ++ behind_regs a)) (i + k) Ports) (sym (roots_count registers Register a.parts.regs))
+    ∙ get_or-append-add (map Register (reg_names a)) (map Register (names_of_second a b) ++ behind_regs a) k Ports
+
+second_root : (a b : Net) (k : ℕ) → k < length (names_of_second a b) → root a b (suc (length a.parts.regs + k)) ≡ Register (get_or (names_of_second a b) k [])
 second_root a b k l =
-    let xs : List Root = map Register (reg_names a) in
-    let ys : List Root = map Register (names_of_second a b) in
-    let z : length xs ≡ length a.parts.regs = length-map (reg_names a) Register ∙ reg_count a in
-    let m : k < length ys = omega (arith, length-map (names_of_second a b) Register) in
-    get_or-append_right xs (ys ++ behind_regs a) (length a.parts.regs + k) Ports (omega (arith, z))
-    ∙ ap (λ (i : ℕ). get_or (ys ++ behind_regs a) i Ports) (omega (arith, z))
-    ∙ get_or-append ys (behind_regs a) Ports k m
+    after_regs a b k ∙ get_or-append (map Register (names_of_second a b)) (behind_regs a) Ports k (omega (arith, length-map (names_of_second a b) Register))
     ∙ get_or-map Register (names_of_second a b) k [] Ports l
 
 -- if there are none, the files and the outputs do
-later_root : (a b : Net) (k : ℕ) → length (names_of_second a b) ≡ 0 → root a b (suc (length a.parts.regs + k)) ≡ get_or (behind_regs a) k Ports
-unfolding roots
+pub later_root : (a b : Net) (k : ℕ) → length (names_of_second a b) ≡ 0 → root a b (suc (length a.parts.regs + k)) ≡ get_or (behind_regs a) k Ports
 later_root a b k none =
-    let xs : List Root = map Register (reg_names a) in
-    let ys : List Root = map Register (names_of_second a b) in
-    let z : length xs ≡ length a.parts.regs = length-map (reg_names a) Register ∙ reg_count a in
-    let y : length ys ≡ 0 = length-map (names_of_second a b) Register ∙ none in
-    get_or-append_right xs (ys ++ behind_regs a) (length a.parts.regs + k) Ports (omega (arith, z))
-    ∙ ap (λ (i : ℕ). get_or (ys ++ behind_regs a) i Ports) (omega (arith, z))
-    ∙ get_or-append_right ys (behind_regs a) k Ports (omega (arith, y))
-    ∙ ap (λ (i : ℕ). get_or (behind_regs a) i Ports) (omega (arith, y))
+    let y : length (map Register (names_of_second a b)) ≡ 0 = length-map (names_of_second a b) Register ∙ none in
+    after_regs a b k ∙ ap (λ (i : ℕ). get_or (map Register (names_of_second a b) ++ behind_regs a) i Ports) (omega (arith, y))
+    ∙ get_or-append-add (map Register (names_of_second a b)) (behind_regs a) k Ports
 
 -- the number of roots
 behind_count : (a : Net) → length (behind_regs a) ≡ length a.parts.files + 3
 behind_count a =
-    let m : length (map File (file_names a)) ≡ length a.parts.files = length-map (file_names a) File ∙ file_count a in
-    omega (arith, m, length-append (map File (file_names a)) (Full ∷ Ue ∷ Back ∷ []))
+    omega (arith, roots_count memories File a.parts.files, length-append (map File (file_names a)) (Full ∷ Ue ∷ Back ∷ []))
 
-root_count : (a b : Net) → length (roots a b) ≡ length a.parts.regs + length (names_of_second a b) + length a.parts.files + 4
+pub root_count : (a b : Net) → length (roots a b) ≡ length a.parts.regs + length (names_of_second a b) + length a.parts.files + 4
 unfolding roots
 root_count a b =
     let xs : List Root = map Register (reg_names a) in
     let ys : List Root = map Register (names_of_second a b) in
-    let x : length xs ≡ length a.parts.regs = length-map (reg_names a) Register ∙ reg_count a in
-    let y : length ys ≡ length (names_of_second a b) = length-map (names_of_second a b) Register in
-    omega (arith, x, y, behind_count a, length-append xs (ys ++ behind_regs a), length-append ys (behind_regs a))
+    omega (arith, roots_count registers Register a.parts.regs, length-map (names_of_second a b) Register, behind_count a, length-append xs (ys ++ behind_regs a), length-append ys (behind_regs a))
 
 -- the first of them never agrees
 never_agrees : (a b : Net) → 0 < length (names_of_second a b) → Agrees a b (root a b (suc (length a.parts.regs))) → ⊥
@@ -72,7 +62,7 @@ never_agrees a b some h =
     let e : root a b (suc (length a.parts.regs)) ≡ Register (get_or (names_of_second a b) 0 []) = ap (λ (k : ℕ). root a b k) (omega arith) ∙ second_root a b 0 some in
     second_never a b (subst (Agrees a b) e h) some
 
-none_second : (a b : Net) → AllAgree a b → length (names_of_second a b) ≡ 0
+pub none_second : (a b : Net) → AllAgree a b → length (names_of_second a b) ≡ 0
 none_second a b h = ⊎_elim
     (λ (l : 0 < length (names_of_second a b)). absurd (never_agrees a b l (h.agree (suc (length a.parts.regs)) (omega (arith, root_count a b)))))
     (λ (l : length (names_of_second a b) ≤ 0). omega arith)
@@ -90,7 +80,7 @@ pub root_of_reg : (a b : Net) (k : ℕ) → k < length a.parts.regs → root a b
 unfolding roots
 root_of_reg a b k l =
     get_or-append (map Register (reg_names a)) (map Register (names_of_second a b) ++ behind_regs a) Ports k (omega (arith, length-map (reg_names a) Register, reg_count a))
-    ∙ reg_root a k l
+    ∙ root_is registers Register a.parts.regs k l
 
 pub root_of_new : (a b : Net) (n i : ℕ) → IsFirstDifference a b n → length a.parts.regs < n → IsFirstNew (reg_names a) b i → root a b n ≡ Register (reg_name b i)
 root_of_new a b n i d l h =
@@ -116,7 +106,11 @@ rest_within a b n d l none = let t = d.there in omega (arith, root_count a b)
 
 -- a file and an output
 pub behind_file : (a : Net) (k : ℕ) → k < length a.parts.files → get_or (behind_regs a) k Ports ≡ File (file_name a k)
-behind_file a k l = get_or-append (map File (file_names a)) (Full ∷ Ue ∷ Back ∷ []) Ports k (omega (arith, length-map (file_names a) File, file_count a)) ∙ file_root a k l
+behind_file a k l = get_or-append (map File (file_names a)) (Full ∷ Ue ∷ Back ∷ []) Ports k (omega (arith, length-map (file_names a) File, file_count a)) ∙ root_is memories File a.parts.files k l
+
+pub behind_output : (a : Net) (k : ℕ) → get_or (behind_regs a) (length a.parts.files + k) Ports ≡ get_or (Full ∷ Ue ∷ Back ∷ []) k Ports
+behind_output a k =
+    ap (λ (i : ℕ). get_or (behind_regs a) (i + k) Ports) (sym (roots_count memories File a.parts.files)) ∙ get_or-append-add (map File (file_names a)) (Full ∷ Ue ∷ Back ∷ []) k Ports
 
 -- a register that only the second has, if one was found, and if none was
 pub new_differs : (a b : Net) (found : Option ℕ) (i : ℕ) → found ≡ Some i → FirstNew (reg_names a) b found → Differing a b (map Register (names_of_second a b)) 0

@@ -2,13 +2,13 @@
 use Rattle.std.proofs.Common.{◌≡◌, ◌∙◌, ℕ, zero, suc, ◌+◌, ◌-◌, ◌<◌, ◌≤◌, ◌++◌, ◌||◌, Bool, true, false, cond, not, List, [], ◌∷◌, length, map, get_or, refl, sym, ap, subst, arith, ⊎_elim, Option, None, Some, length-append}
 use Rattle.std.proofs.{Math.ListN.get_or-append, Math.Seq.get_or-append_right, lemmas.Bool.cases_lt, lemmas.Bool.false≢true}
 use Rattle.std.{proofs.lemmas.List.length-map, proofs.lemmas.List.get_or-map, specs.Bool.Decides, specs.List.filter}
-use Rattle.kp_net.specs.{declared.netlist.NetReg.NetReg, declared.netlist.NetFile.NetFile, declared.netlist.Parts.Parts, Names.same, Names.among, Names.Differ}
+use Rattle.kp_net.specs.{declared.netlist.Parts.Parts, Names.same, Names.among, Names.Differ}
 use Rattle.kp_net.specs.{Netlist.Net, Parts.no_reg, Parts.no_file}
 use Rattle.kp_equiv_trees.specs.Roots.{Root, Ports, Register, File, Full, Ue, Back, names_of_second, roots, RegsAlike, FilesAlike, PortsAgree, RegisterAgrees, FileAgrees, Agrees, AllAgree, IsFirstDifference}
-use Rattle.kp_equiv_trees.specs.{Alike.reg_name, Alike.file_name, Named.reg_names, Named.file_names, Named.HasNames, Classes.place}
+use Rattle.kp_equiv_trees.specs.{Alike.reg_name, Alike.file_name, Named.reg_names, Named.file_names, Classes.place}
 use Rattle.kp_equiv_trees.specs.Sections.{AgreeUpTo, Differing, FirstOf, behind_ports, joined}
-use Rattle.kp_equiv_trees.proofs.Naming.{among_at, one_number}
-use Rattle.kp_equiv_trees.proofs.Places.{at_place, has_place, reg_names_are, file_names_are, reg_count, file_count}
+use Rattle.kp_equiv_trees.proofs.Naming.{among_at}
+use Rattle.kp_equiv_trees.proofs.Places.{Things, registers, memories, name_is, namesake, missing, related, at_place, reg_names_are, reg_count, file_count}
 
 -- one list of roots after another
 before_joins : (a b : Net) (xs ys : List Root) (m : ℕ) → AgreeUpTo a b xs (length xs) → AgreeUpTo a b ys m → AgreeUpTo a b (xs ++ ys) (length xs + m)
@@ -51,76 +51,58 @@ all_behind a b regs more files outputs whole hr hm none hf ho ew =
     let h2 : FirstOf a b s2 front = joins a b (map Register (names_of_second a b)) s3 0 more back (λ e. length-map (names_of_second a b) Register ∙ none e) hm h3 in
     subst (FirstOf a b (behind_ports a b)) (sym ew) (joins a b (map Register (reg_names a)) s2 rc regs front (λ _. length-map (reg_names a) Register ∙ reg_count a) hr h2)
 
--- registers and files by their roots
-pub reg_root : (a : Net) (k : ℕ) → k < length a.parts.regs → get_or (map Register (reg_names a)) k Ports ≡ Register (reg_name a k)
-reg_root a k l = get_or-map Register (reg_names a) k [] Ports (omega (arith, reg_count a)) ∙ ap Register (reg_names_are a k)
+-- the roots of registers, and of files
+module _ {X : Type 0} (T : Things X) (C : List ℕ → Root) (xs : List X) where
+  pub root_is : (k : ℕ) → k < length xs → get_or (map C (map T.name xs)) k Ports ≡ C (T.name (get_or xs k T.none))
+  root_is k l = get_or-map C (map T.name xs) k [] Ports (omega (arith, length-map xs T.name)) ∙ ap C (name_is T xs k)
 
-pub file_root : (a : Net) (k : ℕ) → k < length a.parts.files → get_or (map File (file_names a)) k Ports ≡ File (file_name a k)
-file_root a k l = get_or-map File (file_names a) k [] Ports (omega (arith, file_count a)) ∙ ap File (file_names_are a k)
+  pub roots_count : length (map C (map T.name xs)) ≡ length xs
+  roots_count = length-map (map T.name xs) C ∙ length-map xs T.name
 
-pub regs_upto : (a b : Net) (n : ℕ) → n ≤ length a.parts.regs → ((k : ℕ) → k < n → RegisterAgrees a b (reg_name a k)) → AgreeUpTo a b (map Register (reg_names a)) n
-regs_upto a b n h agree k l = subst (Agrees a b) (sym (reg_root a k (omega arith))) (agree k l)
+  roots_upto : (a b : Net) (n : ℕ) → n ≤ length xs → ((k : ℕ) → k < n → Agrees a b (C (T.name (get_or xs k T.none)))) → AgreeUpTo a b (map C (map T.name xs)) n
+  roots_upto a b n h agree k l = subst (Agrees a b) (sym (root_is k (omega arith))) (agree k l)
 
-pub regs_all : (a b : Net) (n : ℕ) → length a.parts.regs ≡ n → ((k : ℕ) → k < n → RegisterAgrees a b (reg_name a k)) → AgreeUpTo a b (map Register (reg_names a)) (length (map Register (reg_names a)))
-regs_all a b n e agree = subst (AgreeUpTo a b (map Register (reg_names a))) (sym (length-map (reg_names a) Register ∙ reg_count a ∙ e)) (regs_upto a b n (omega (arith, e)) agree)
+  pub roots_all : (a b : Net) (n : ℕ) → length xs ≡ n → ((k : ℕ) → k < n → Agrees a b (C (T.name (get_or xs k T.none)))) → AgreeUpTo a b (map C (map T.name xs)) (length (map C (map T.name xs)))
+  roots_all a b n e agree = subst (AgreeUpTo a b (map C (map T.name xs))) (sym (roots_count ∙ e)) (roots_upto a b n (omega (arith, e)) agree)
 
-pub regs_differ : (a b : Net) (n : ℕ) → n < length a.parts.regs → ((k : ℕ) → k < n → RegisterAgrees a b (reg_name a k)) → (RegisterAgrees a b (reg_name a n) → ⊥) → Differing a b (map Register (reg_names a)) n
-regs_differ a b n l agree never = record {
-  there = omega (arith, length-map (reg_names a) Register, reg_count a);
-  before = regs_upto a b n (omega arith) agree;
-  differs = λ h. never (subst (Agrees a b) (reg_root a n l) h);
-}
+  pub roots_differ : (a b : Net) (n : ℕ) → n < length xs → ((k : ℕ) → k < n → Agrees a b (C (T.name (get_or xs k T.none)))) → (Agrees a b (C (T.name (get_or xs n T.none))) → ⊥)
+      → Differing a b (map C (map T.name xs)) n
+  roots_differ a b n l agree never = record {
+    there = omega (arith, roots_count);
+    before = roots_upto a b n (omega arith) agree;
+    differs = λ h. never (subst (Agrees a b) (root_is n l) h);
+  }
 
-pub files_upto : (a b : Net) (n : ℕ) → n ≤ length a.parts.files → ((k : ℕ) → k < n → FileAgrees a b (file_name a k)) → AgreeUpTo a b (map File (file_names a)) n
-files_upto a b n h agree k l = subst (Agrees a b) (sym (file_root a k (omega arith))) (agree k l)
-
-pub files_all : (a b : Net) (n : ℕ) → length a.parts.files ≡ n → ((k : ℕ) → k < n → FileAgrees a b (file_name a k)) → AgreeUpTo a b (map File (file_names a)) (length (map File (file_names a)))
-files_all a b n e agree = subst (AgreeUpTo a b (map File (file_names a))) (sym (length-map (file_names a) File ∙ file_count a ∙ e)) (files_upto a b n (omega (arith, e)) agree)
-
-pub files_differ : (a b : Net) (n : ℕ) → n < length a.parts.files → ((k : ℕ) → k < n → FileAgrees a b (file_name a k)) → (FileAgrees a b (file_name a n) → ⊥) → Differing a b (map File (file_names a)) n
-files_differ a b n l agree never = record {
-  there = omega (arith, length-map (file_names a) File, file_count a);
-  before = files_upto a b n (omega arith) agree;
-  differs = λ h. never (subst (Agrees a b) (file_root a n l) h);
-}
-
--- a register agrees if its namesake is equivalent
+-- a register, or a file, agrees if its namesake is equivalent
 pub register_found : (a b : Net) (r q : ℕ) → Differ (reg_names a) → Differ (reg_names b) → r < length a.parts.regs → q < length b.parts.regs → reg_name b q ≡ reg_name a r → (t : Bool)
     → Decides t (RegsAlike a b (get_or a.parts.regs r no_reg) (get_or b.parts.regs q no_reg)) → Decides t (RegisterAgrees a b (reg_name a r))
 register_found a b r q da db lr lq e t d = (
   λ x. record { first = r; second = q; in_first = lr; in_second = lq; named_first = refl; named_second = e; alike = d.0 x },
-  λ h.
-      let er : h.first ≡ r = one_number (reg_names a) da h.first r (let l = h.in_first in omega (arith, reg_count a)) (omega (arith, reg_count a)) (reg_names_are a h.first ∙ h.named_first ∙ sym (reg_names_are a r)) in
-      let eq : h.second ≡ q = one_number (reg_names b) db h.second q (let l = h.in_second in omega (arith, reg_count b)) (omega (arith, reg_count b)) (reg_names_are b h.second ∙ h.named_second ∙ sym e ∙ sym (reg_names_are b q)) in
-      d.1 (subst (λ (k : ℕ). RegsAlike a b (get_or a.parts.regs k no_reg) (get_or b.parts.regs q no_reg)) er (subst (λ (k : ℕ). RegsAlike a b (get_or a.parts.regs h.first no_reg) (get_or b.parts.regs k no_reg)) eq h.alike)),
+  λ h. d.1 (related registers (RegsAlike a b) a.parts.regs b.parts.regs da db h.first h.second r q h.in_first h.in_second lr lq h.named_first (h.named_second ∙ sym e) h.alike),
 )
-
-pub register_missing : (a b : Net) (name : List ℕ) → place (reg_names b) name ≡ length (reg_names b) → RegisterAgrees a b name → ⊥
-register_missing a b name e h =
-    let l : place (reg_names b) name < length (reg_names b) = has_place (reg_names b) h.second name (let q = h.in_second in omega (arith, reg_count b)) (reg_names_are b h.second ∙ h.named_second) in
-    omega (arith, e)
 
 pub file_found : (a b : Net) (f g : ℕ) → Differ (file_names a) → Differ (file_names b) → f < length a.parts.files → g < length b.parts.files → file_name b g ≡ file_name a f → (t : Bool)
     → Decides t (FilesAlike a b (get_or a.parts.files f no_file) (get_or b.parts.files g no_file)) → Decides t (FileAgrees a b (file_name a f))
 file_found a b f g da db lf lg e t d = (
   λ x. record { first = f; second = g; in_first = lf; in_second = lg; named_first = refl; named_second = e; alike = d.0 x },
-  λ h.
-      let ef : h.first ≡ f = one_number (file_names a) da h.first f (let l = h.in_first in omega (arith, file_count a)) (omega (arith, file_count a)) (file_names_are a h.first ∙ h.named_first ∙ sym (file_names_are a f)) in
-      let eg : h.second ≡ g = one_number (file_names b) db h.second g (let l = h.in_second in omega (arith, file_count b)) (omega (arith, file_count b)) (file_names_are b h.second ∙ h.named_second ∙ sym e ∙ sym (file_names_are b g)) in
-      d.1 (subst (λ (k : ℕ). FilesAlike a b (get_or a.parts.files k no_file) (get_or b.parts.files g no_file)) ef (subst (λ (k : ℕ). FilesAlike a b (get_or a.parts.files h.first no_file) (get_or b.parts.files k no_file)) eg h.alike)),
+  λ h. d.1 (related memories (FilesAlike a b) a.parts.files b.parts.files da db h.first h.second f g h.in_first h.in_second lf lg h.named_first (h.named_second ∙ sym e) h.alike),
 )
 
-pub file_missing : (a b : Net) (name : List ℕ) → place (file_names b) name ≡ length (file_names b) → FileAgrees a b name → ⊥
-file_missing a b name e h =
-    let l : place (file_names b) name < length (file_names b) = has_place (file_names b) h.second name (let q = h.in_second in omega (arith, file_count b)) (file_names_are b h.second ∙ h.named_second) in
-    omega (arith, e)
+-- what a look-up among the names of the second determines
+pub looked_up : {X : Type 0} (T : Things X) (R : X → X → Type 0) (Q : List ℕ → Type 0) (xs ys : List X) (i q : ℕ) (r s : X) (ns : List (List ℕ))
+    → ((j : ℕ) → j < length ys → T.name (get_or ys j T.none) ≡ T.name (get_or xs i T.none) → (t : Bool) → Decides t (R (get_or xs i T.none) (get_or ys j T.none)) → Decides t (Q (T.name (get_or xs i T.none))))
+    → r ≡ get_or xs i T.none → s ≡ get_or ys q T.none → ns ≡ map T.name ys → (q < length ns) × (place ns (T.name r) ≡ q) → (t : Bool) → Decides t (R r s) → Decides t (Q (T.name (get_or xs i T.none)))
+looked_up {X = X} T R Q xs ys i q r s ns to is at_q names found t d =
+    let lq : q < length ys = let l = subst (λ (ks : List (List ℕ)). q < length ks) names found.0 in omega (arith, length-map ys T.name) in
+    let e : place (map T.name ys) (T.name (get_or xs i T.none)) ≡ q = subst (λ (x : X). place (map T.name ys) (T.name x) ≡ q) is (subst (λ (ks : List (List ℕ)). place ks (T.name r) ≡ q) names found.1) in
+    to q lq (ap (λ (k : ℕ). T.name (get_or ys k T.none)) (sym e) ∙ namesake T ys (T.name (get_or xs i T.none)) (omega (arith, e))) t
+    (subst (λ (x : X). Decides t (R x (get_or ys q T.none))) is (subst (λ (x : X). Decides t (R r x)) at_q d))
 
--- the name at an index of the second is this one
-pub namesake : (b : Net) (name : List ℕ) (q : ℕ) → q < length (reg_names b) → place (reg_names b) name ≡ q → reg_name b q ≡ name
-namesake b name q l e = sym (at_place (reg_names b) name (omega (arith, e)) ∙ ap (λ (k : ℕ). get_or (reg_names b) k []) e ∙ reg_names_are b q)
-
-pub file_namesake : (b : Net) (name : List ℕ) (g : ℕ) → g < length (file_names b) → place (file_names b) name ≡ g → file_name b g ≡ name
-file_namesake b name g l e = sym (at_place (file_names b) name (omega (arith, e)) ∙ ap (λ (k : ℕ). get_or (file_names b) k []) e ∙ file_names_are b g)
+pub not_found : {X : Type 0} (T : Things X) (ys : List X) (n : List ℕ) (r : X) (ns : List (List ℕ)) (Q : Type 0) → (Q → (j : ℕ) × (j < length ys) × (T.name (get_or ys j T.none) ≡ n))
+    → T.name r ≡ n → ns ≡ map T.name ys → place ns (T.name r) ≡ length ns → Decides false Q
+not_found T ys n r ns Q some is names e =
+    let f : place (map T.name ys) n ≡ length (map T.name ys) = subst (λ (m : List ℕ). place (map T.name ys) m ≡ length (map T.name ys)) is (subst (λ (ks : List (List ℕ)). place ks (T.name r) ≡ length ks) names e) in
+    (λ t. absurd (false≢true t), λ h. let g = some h in absurd (missing T ys n g.0 (omega arith) g.1 g.2))
 
 -- what a filter retains
 filter_none : (test : List ℕ → Bool) (xs : List (List ℕ)) → ((k : ℕ) → k < length xs → test (get_or xs k []) ≡ false) → length (filter test xs) ≡ 0
@@ -188,14 +170,18 @@ second_differs a b k l e =
       differs = λ h. second_never a b (subst (Agrees a b) (get_or-map Register (names_of_second a b) 0 [] Ports some) h) some;
     }
 
+-- one root more
+pub agree_more : (a b : Net) (r : Root) (rs : List Root) (n : ℕ) → Agrees a b r → AgreeUpTo a b rs n → AgreeUpTo a b (r ∷ rs) (suc n)
+agree_more a b r rs n p q zero l = p
+agree_more a b r rs n p q (suc k) l = q k (omega (arith, l))
+
+pub differ_more : (a b : Net) (r : Root) (rs : List Root) (n : ℕ) → Agrees a b r → Differing a b rs n → Differing a b (r ∷ rs) (suc n)
+differ_more a b r rs n p d = record { there = (let t = d.there in omega arith); before = agree_more a b r rs n p d.before; differs = d.differs }
+
 -- all of them
 pub all_agree : (a b : Net) → PortsAgree a b → AgreeUpTo a b (behind_ports a b) (length (behind_ports a b)) → AllAgree a b
 unfolding roots
-all_agree a b p h = record { agree = by }
-  where
-    by : (k : ℕ) → k < suc (length (behind_ports a b)) → Agrees a b (get_or (Ports ∷ behind_ports a b) k Ports)
-    by zero l = p
-    by (suc k) l = h k (omega (arith, l))
+all_agree a b p h = record { agree = agree_more a b Ports (behind_ports a b) (length (behind_ports a b)) p h }
 
 pub ports_differ : (a b : Net) → (PortsAgree a b → ⊥) → IsFirstDifference a b 0
 unfolding roots
@@ -203,41 +189,9 @@ ports_differ a b never = record { there = omega arith; before = λ k l. absurd (
 
 pub later_differs : (a b : Net) (n : ℕ) → PortsAgree a b → Differing a b (behind_ports a b) n → IsFirstDifference a b (n + 1)
 unfolding roots
-later_differs a b n p d = subst (IsFirstDifference a b) (omega arith) whole
-  where
-    by : (k : ℕ) → k < suc n → Agrees a b (get_or (Ports ∷ behind_ports a b) k Ports)
-    by zero l = p
-    by (suc k) l = d.before k (omega (arith, l))
-
-    whole : IsFirstDifference a b (suc n)
-    whole = record { there = (let t = d.there in omega arith); before = by; differs = d.differs }
-
--- what a look-up determines about a register, and about a file
-pub missing_reg : (a b : Net) (i : ℕ) (r : NetReg) (ns : List (List ℕ)) → r ≡ get_or a.parts.regs i no_reg → ns ≡ reg_names b → place ns r.name ≡ length ns → Decides false (RegisterAgrees a b (reg_name a i))
-missing_reg a b i r ns is names e =
-    let f : place (reg_names b) (reg_name a i) ≡ length (reg_names b) = subst (λ (x : NetReg). place (reg_names b) x.name ≡ length (reg_names b)) is (subst (λ (ks : List (List ℕ)). place ks r.name ≡ length ks) names e) in
-    (λ t. absurd (false≢true t), λ h. absurd (register_missing a b (reg_name a i) f h))
-
-pub found_reg : (a b : Net) (i q : ℕ) (r s : NetReg) (ns : List (List ℕ)) → r ≡ get_or a.parts.regs i no_reg → s ≡ get_or b.parts.regs q no_reg → ns ≡ reg_names b → HasNames a → HasNames b → i < length a.parts.regs
-    → (q < length ns) × (place ns r.name ≡ q) → (t : Bool) → Decides t (RegsAlike a b r s) → Decides t (RegisterAgrees a b (reg_name a i))
-found_reg a b i q r s ns is at_q names da db l found t d =
-    let lq : q < length (reg_names b) = subst (λ (ks : List (List ℕ)). q < length ks) names found.0 in
-    let e : place (reg_names b) (reg_name a i) ≡ q = subst (λ (x : NetReg). place (reg_names b) x.name ≡ q) is (subst (λ (ks : List (List ℕ)). place ks r.name ≡ q) names found.1) in
-    register_found a b i q da.regs db.regs l (omega (arith, lq, reg_count b)) (namesake b (reg_name a i) q lq e) t
-    (subst (λ (x : NetReg). Decides t (RegsAlike a b x (get_or b.parts.regs q no_reg))) is (subst (λ (x : NetReg). Decides t (RegsAlike a b r x)) at_q d))
-
-pub missing_file : (a b : Net) (i : ℕ) (f : NetFile) (ns : List (List ℕ)) → f ≡ get_or a.parts.files i no_file → ns ≡ file_names b → place ns f.name ≡ length ns → Decides false (FileAgrees a b (file_name a i))
-missing_file a b i f ns is names e =
-    let g : place (file_names b) (file_name a i) ≡ length (file_names b) = subst (λ (x : NetFile). place (file_names b) x.name ≡ length (file_names b)) is (subst (λ (ks : List (List ℕ)). place ks f.name ≡ length ks) names e) in
-    (λ t. absurd (false≢true t), λ h. absurd (file_missing a b (file_name a i) g h))
-
-pub found_file : (a b : Net) (i q : ℕ) (f s : NetFile) (ns : List (List ℕ)) → f ≡ get_or a.parts.files i no_file → s ≡ get_or b.parts.files q no_file → ns ≡ file_names b → HasNames a → HasNames b → i < length a.parts.files
-    → (q < length ns) × (place ns f.name ≡ q) → (t : Bool) → Decides t (FilesAlike a b f s) → Decides t (FileAgrees a b (file_name a i))
-found_file a b i q f s ns is at_q names da db l found t d =
-    let lq : q < length (file_names b) = subst (λ (ks : List (List ℕ)). q < length ks) names found.0 in
-    let e : place (file_names b) (file_name a i) ≡ q = subst (λ (x : NetFile). place (file_names b) x.name ≡ q) is (subst (λ (ks : List (List ℕ)). place ks f.name ≡ q) names found.1) in
-    file_found a b i q da.files db.files l (omega (arith, lq, file_count b)) (file_namesake b (file_name a i) q lq e) t
-    (subst (λ (x : NetFile). Decides t (FilesAlike a b x (get_or b.parts.files q no_file))) is (subst (λ (x : NetFile). Decides t (FilesAlike a b f x)) at_q d))
+later_differs a b n p d =
+    let m = differ_more a b Ports (behind_ports a b) n p d in
+    subst (IsFirstDifference a b) (omega arith) (record { there = m.there; before = m.before; differs = m.differs })
 
 -- what a test of the inputs determines
 abbrev SameInputs : Parts → Parts → Type 0

@@ -1,9 +1,11 @@
 -- Names by their indices.
-use Rattle.std.proofs.Common.{◌≡◌, ◌∙◌, ℕ, ◌<◌, ◌≤◌, List, [], length, get_or, sym, ap, arith, ⊎_elim}
+use Rattle.std.proofs.Common.{◌≡◌, ◌∙◌, ℕ, ◌<◌, ◌≤◌, List, [], length, get_or, map, refl, sym, ap, subst, arith, ⊎_elim}
 use Rattle.std.proofs.{Math.ListN.get_or-map, lemmas.Bool.cases_lt, lemmas.Bool.false≢true, lemmas.List.length-map}
 use Rattle.std.{proofs.lemmas.List.Sums.fails_before_first, proofs.lemmas.List.Sums.passes_at_first, specs.Cmp.Lexicographic.bytes_decides}
-use Rattle.kp_net.specs.{Names.same, Netlist.Net}
-use Rattle.kp_equiv_trees.specs.{Alike.reg_name, Alike.file_name, Alike.sample_name, Named.reg_names, Named.file_names, Named.sample_names, Classes.place}
+use Rattle.kp_net.specs.declared.netlist.{NetFile.NetFile, NetReg.NetReg, Port.Port}
+use Rattle.kp_net.specs.{Names.same, Names.Differ, Netlist.Net, Parts.no_file, Parts.no_port, Parts.no_reg}
+use Rattle.kp_equiv_trees.specs.{Alike.reg_name, Alike.file_name, Named.reg_names, Named.file_names, Named.sample_names, Classes.place}
+use Rattle.kp_equiv_trees.proofs.Naming.{one_number}
 
 -- the name at the index of a name is this one
 pub at_place : (names : List (List ℕ)) (n : List ℕ) → place names n < length names → n ≡ get_or names (place names n) []
@@ -22,15 +24,53 @@ one_place names r n m l e same_place =
     let h : place names n < length names = has_place names r n l e in
     at_place names n h ∙ ap (λ (k : ℕ). get_or names k []) same_place ∙ sym (at_place names m (omega (arith, h)))
 
+-- things that have names: registers, files, and sample ports
+pub record Things (X : Type 0) : Type 0 where
+  pub name : X → List ℕ
+  pub none : X
+  pub nameless : name none ≡ []
+
+abbrev pub registers : Things NetReg
+registers = record { name = λ x. x.name; none = no_reg; nameless = refl }
+
+abbrev pub memories : Things NetFile
+memories = record { name = λ x. x.name; none = no_file; nameless = refl }
+
+abbrev pub ports : Things Port
+ports = record { name = λ x. x.name; none = no_port; nameless = refl }
+
+-- the names of a list of things
+module _ {X : Type 0} (T : Things X) (xs : List X) where
+  pub name_is : (i : ℕ) → get_or (map T.name xs) i [] ≡ T.name (get_or xs i T.none)
+  name_is i = ap (get_or (map T.name xs) i) (sym T.nameless) ∙ get_or-map T.name xs i T.none
+
+  pub one_index : Differ (map T.name xs) → (i j : ℕ) → i < length xs → j < length xs → T.name (get_or xs i T.none) ≡ T.name (get_or xs j T.none) → i ≡ j
+  one_index d i j li lj e = one_number (map T.name xs) d i j (omega (arith, length-map xs T.name)) (omega (arith, length-map xs T.name)) (name_is i ∙ e ∙ sym (name_is j))
+
+  pub one_name : (ys : List X) (i j : ℕ) → i < length xs → place (map T.name xs) (T.name (get_or xs i T.none)) ≡ place (map T.name xs) (T.name (get_or ys j T.none))
+      → T.name (get_or xs i T.none) ≡ T.name (get_or ys j T.none)
+  one_name ys i j l = one_place (map T.name xs) i _ _ (omega (arith, length-map xs T.name)) (name_is i)
+
+  -- one of them has a name, or none has
+  pub namesake : (n : List ℕ) → place (map T.name xs) n < length xs → T.name (get_or xs (place (map T.name xs) n) T.none) ≡ n
+  namesake n l = sym (at_place (map T.name xs) n (omega (arith, length-map xs T.name)) ∙ name_is (place (map T.name xs) n))
+
+  pub missing : (n : List ℕ) (i : ℕ) → length (map T.name xs) ≤ place (map T.name xs) n → i < length xs → T.name (get_or xs i T.none) ≡ n → ⊥
+  missing n i h l e = let p = has_place (map T.name xs) i n (omega (arith, length-map xs T.name)) (name_is i ∙ e) in omega arith
+
+-- what relates two of the same names relates those at other indices
+pub related : {X : Type 0} (T : Things X) (R : X → X → Type 0) (xs ys : List X) → Differ (map T.name xs) → Differ (map T.name ys) → (f s i j : ℕ) → f < length xs → s < length ys → i < length xs → j < length ys
+    → T.name (get_or xs f T.none) ≡ T.name (get_or xs i T.none) → T.name (get_or ys s T.none) ≡ T.name (get_or ys j T.none) → R (get_or xs f T.none) (get_or ys s T.none) → R (get_or xs i T.none) (get_or ys j T.none)
+related T R xs ys da db f s i j lf ls li lj e g r =
+    subst (λ (k : ℕ). R (get_or xs k T.none) (get_or ys j T.none)) (one_index T xs da f i lf li e)
+    (subst (λ (k : ℕ). R (get_or xs f T.none) (get_or ys k T.none)) (one_index T ys db s j ls lj g) r)
+
 -- the names of a netlist
 pub reg_names_are : (net : Net) (r : ℕ) → get_or (reg_names net) r [] ≡ reg_name net r
-reg_names_are net r = get_or-map (λ x. x.name) net.parts.regs r _
+reg_names_are net = name_is registers net.parts.regs
 
 pub file_names_are : (net : Net) (f : ℕ) → get_or (file_names net) f [] ≡ file_name net f
-file_names_are net f = get_or-map (λ x. x.name) net.parts.files f _
-
-pub sample_names_are : (net : Net) (s : ℕ) → get_or (sample_names net) s [] ≡ sample_name net s
-sample_names_are net s = get_or-map (λ x. x.name) net.parts.samples s _
+file_names_are net = name_is memories net.parts.files
 
 pub reg_count : (net : Net) → length (reg_names net) ≡ length net.parts.regs
 reg_count net = length-map net.parts.regs (λ x. x.name)
@@ -40,13 +80,3 @@ file_count net = length-map net.parts.files (λ x. x.name)
 
 pub sample_count : (net : Net) → length (sample_names net) ≡ length net.parts.samples
 sample_count net = length-map net.parts.samples (λ x. x.name)
-
--- so one index is one name
-pub one_reg : (a b : Net) (r q : ℕ) → r < length a.parts.regs → place (reg_names a) (reg_name a r) ≡ place (reg_names a) (reg_name b q) → reg_name a r ≡ reg_name b q
-one_reg a b r q l e = let h : r < length (reg_names a) = omega (arith, reg_count a) in one_place (reg_names a) r (reg_name a r) (reg_name b q) h (reg_names_are a r) e
-
-pub one_file : (a b : Net) (f g : ℕ) → f < length a.parts.files → place (file_names a) (file_name a f) ≡ place (file_names a) (file_name b g) → file_name a f ≡ file_name b g
-one_file a b f g l e = let h : f < length (file_names a) = omega (arith, file_count a) in one_place (file_names a) f (file_name a f) (file_name b g) h (file_names_are a f) e
-
-pub one_sample : (a b : Net) (s t : ℕ) → s < length a.parts.samples → place (sample_names a) (sample_name a s) ≡ place (sample_names a) (sample_name b t) → sample_name a s ≡ sample_name b t
-one_sample a b s t l e = let h : s < length (sample_names a) = omega (arith, sample_count a) in one_place (sample_names a) s (sample_name a s) (sample_name b t) h (sample_names_are a s) e

@@ -9,9 +9,13 @@ pub record SameCells (a b : Net) (c d : Cells) : Type 0 where
   pub reg : (r q : ℕ) → r < length a.parts.regs → q < length b.parts.regs → reg_name a r ≡ reg_name b q → c.reg r ≡ d.reg q
   pub word : (f g x : ℕ) → f < length a.parts.files → g < length b.parts.files → file_name a f ≡ file_name b g → c.word f x ≡ d.word g x
 
--- each register and each file has the value of its namesake
-pub record SameStates (a b : Net) (s t : State) : Type 0 where
-  pub first_files : length s.files ≡ length a.parts.files
-  pub second_files : length t.files ≡ length b.parts.files
-  pub regs : (r q : ℕ) → r < length a.parts.regs → q < length b.parts.regs → reg_name a r ≡ reg_name b q → get_or s.regs r 0 ≡ get_or t.regs q 0
+-- each file has the words of its namesake
+pub record SameFiles (a b : Net) (s t : State) : Type 0 where
+  pub first : length s.files ≡ length a.parts.files
+  pub second : length t.files ≡ length b.parts.files
   pub files : (f g : ℕ) → f < length a.parts.files → g < length b.parts.files → file_name a f ≡ file_name b g → get_or s.files f [] ≡ get_or t.files g []
+
+-- and each register its value
+pub record SameStates (a b : Net) (s t : State) : Type 0 where
+  pub words : SameFiles a b s t
+  pub regs : (r q : ℕ) → r < length a.parts.regs → q < length b.parts.regs → reg_name a r ≡ reg_name b q → get_or s.regs r 0 ≡ get_or t.regs q 0

@@ -1,13 +1,14 @@
 use Rattle.std.proofs.{Common.◌∙◌, Common.sym, Common.arith, lemmas.Bool.false≢true}
-use Rattle.kp_equiv_trees.proofs.Ordered.{files_differ, files_all}
+use Rattle.kp_equiv_trees.specs.Roots.{File}
+use Rattle.kp_equiv_trees.proofs.{Ordered.roots_differ, Ordered.roots_all, Places.memories}
 use Rattle.kp_equiv.proofs.comparing.first_file.Goals as goal
 
 pub returns-then-not-file_agrees-clause-first : goal.returns-then-not-file_agrees-clause-first
 returns-then-not-file_agrees-clause-first c =
-    files_differ c.args.a.now c.args.b.now c.loop-i.i (omega (arith, c.loop-i-test.true, c.file_count-i-end.ensures.value)) c.loop-i.invariant
+    roots_differ memories File c.args.a.now.parts.files c.args.a.now c.args.b.now c.loop-i.i (omega (arith, c.loop-i-test.true, c.file_count-i-end.ensures.value)) c.loop-i.invariant
     (λ h. false≢true (sym c.if-not-file_agrees.true ∙ c.file_agrees.ensures.1 h))
 
 pub returns-clause-first : goal.returns-clause-first
 returns-clause-first c =
-    files_all c.args.a.now c.args.b.now c.file_count-i-end.result (sym c.file_count-i-end.ensures.value)
+    roots_all memories File c.args.a.now.parts.files c.args.a.now c.args.b.now c.file_count-i-end.result (sym c.file_count-i-end.ensures.value)
     (λ k l. c.loop-i.invariant k (omega (arith, l, c.loop-i-test.false)))

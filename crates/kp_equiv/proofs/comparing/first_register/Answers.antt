@@ -1,13 +1,14 @@
 use Rattle.std.proofs.{Common.◌∙◌, Common.sym, Common.arith, lemmas.Bool.false≢true}
-use Rattle.kp_equiv_trees.proofs.Ordered.{regs_differ, regs_all}
+use Rattle.kp_equiv_trees.specs.Roots.{Register}
+use Rattle.kp_equiv_trees.proofs.{Ordered.roots_differ, Ordered.roots_all, Places.registers}
 use Rattle.kp_equiv.proofs.comparing.first_register.Goals as goal
 
 pub returns-then-not-register_agrees-clause-first : goal.returns-then-not-register_agrees-clause-first
 returns-then-not-register_agrees-clause-first c =
-    regs_differ c.args.a.now c.args.b.now c.loop-i.i (omega (arith, c.loop-i-test.true, c.reg_count-i-end.ensures.value)) c.loop-i.invariant
+    roots_differ registers Register c.args.a.now.parts.regs c.args.a.now c.args.b.now c.loop-i.i (omega (arith, c.loop-i-test.true, c.reg_count-i-end.ensures.value)) c.loop-i.invariant
     (λ h. false≢true (sym c.if-not-register_agrees.true ∙ c.register_agrees.ensures.1 h))
 
 pub returns-clause-first : goal.returns-clause-first
 returns-clause-first c =
-    regs_all c.args.a.now c.args.b.now c.reg_count-i-end.result (sym c.reg_count-i-end.ensures.value)
+    roots_all registers Register c.args.a.now.parts.regs c.args.a.now c.args.b.now c.reg_count-i-end.result (sym c.reg_count-i-end.ensures.value)
     (λ k l. c.loop-i.invariant k (omega (arith, l, c.loop-i-test.false)))

@@ -2,25 +2,13 @@ use Rattle.std.proofs.Common.{length, ap, arith}
 use Rattle.kp_equiv_classes.proofs.Growing.{classes_determine}
 use Rattle.kp_equiv_classes.proofs.building.classes_in.Goals as goal
 
-pub classes_of_net-requires-clause-few : goal.classes_of_net-requires-clause-few
-classes_of_net-requires-clause-few c = c.requires.few
-
 pub classes_of_net-requires-clause-room : goal.classes_of_net-requires-clause-room
 classes_of_net-requires-clause-room c = omega (arith, ap length c.requires.empty)
-
-pub classes_of_net-requires-clause-distinct : goal.classes_of_net-requires-clause-distinct
-classes_of_net-requires-clause-distinct c = c.requires.distinct
-
-pub classes_of_net-requires-2-clause-few : goal.classes_of_net-requires-2-clause-few
-classes_of_net-requires-2-clause-few c = c.requires.few
 
 pub classes_of_net-requires-2-clause-room : goal.classes_of_net-requires-2-clause-room
 classes_of_net-requires-2-clause-room c =
     let right = c.in_ok-first.ensures.right in
     omega (arith, c.in_ok-first.ensures.grown, right.count, ap length c.requires.empty)
-
-pub classes_of_net-requires-2-clause-distinct : goal.classes_of_net-requires-2-clause-distinct
-classes_of_net-requires-2-clause-distinct c = c.in_ok-first.ensures.distinct
 
 pub returns : goal.returns
 returns c =

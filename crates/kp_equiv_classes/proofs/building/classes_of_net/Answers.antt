@@ -31,22 +31,10 @@ loop-n-preserved c =
     (c.in_ok-shape.ensures ∙ ap (λ (xs : List NodeId). shape c.args.known.now c.args.net.now.parts (class_in xs) c.n-item.result) c.as_slice.ensures.value)
     c.in_ok-class.ensures.there c.in_ok-class.ensures.inside c.in_ok-class.ensures.extends c.in_ok-class.ensures.count c.in_ok-class.ensures.distinct c.in_ok-push.ensures.items
 
-pub returns-clause-right : goal.returns-clause-right
-returns-clause-right c = c.nodes-n-items.ensures.right
-
 pub returns-clause-count : goal.returns-clause-count
 returns-clause-count c =
     let g = c.loop-n.invariant in
     omega (arith, g.count, g.within, c.loop-n-test.false, ap length c.nodes-n-items.ensures.nodes)
 
-pub returns-clause-classes : goal.returns-clause-classes
-returns-clause-classes c = c.loop-n.invariant.classes_are
-
-pub returns-clause-extends : goal.returns-clause-extends
-returns-clause-extends c = c.loop-n.invariant.extends
-
 pub returns-clause-grown : goal.returns-clause-grown
 returns-clause-grown c = let g = c.loop-n.invariant in omega (arith, g.grown, g.within)
-
-pub returns-clause-distinct : goal.returns-clause-distinct
-returns-clause-distinct c = c.loop-n.invariant.distinct
