@@ -1,6 +1,6 @@
 -- If one of two netlists that run alike restarts correctly after each reset, so does the other.
 use Rattle.std.proofs.Common.{◌≡◌, ◌∙◌, ℕ, ◌<◌, ◌≤◌, ◌^◌, true, false, List, [], ◌∷◌, length, get_or, map, sym, ap, subst, arith}
-use Rattle.std.{proofs.lemmas.List.length-map, proofs.lemmas.List.get_or-map}
+use Rattle.std.proofs.lemmas.List.{length-map, get_or-map}
 use Rattle.kp_base.specs.declared.row.Row.{Row}
 use Rattle.kp_ast.specs.declared.tree.Job.{Job}
 use Rattle.kp_pipeline.specs.Rows.{pipe}
@@ -14,7 +14,7 @@ use Rattle.kp_synth_spec.specs.Naming.{module_name, place_among, register_of, fi
 use Rattle.kp_synth_spec.specs.{Traces.inputs_seen, Traces.AreQuiet, Anew.trace_from, Anew.left_by_reset, Anew.HasMemory, Anew.BeginsAnew}
 use Rattle.kp_synth_spec.proofs.Anew.{left_alike}
 use Rattle.kp_synth_spec.specs.Traces as traces
-use Rattle.kp_equiv_trees.{specs.Alike.file_name, specs.Named.file_names, specs.Roots.AllAgree}
+use Rattle.kp_equiv_trees.specs.{Alike.file_name, Named.file_names, Roots.AllAgree}
 use Rattle.kp_equiv_trees.proofs.Places.{memories, one_index, file_names_are, file_count}
 use Rattle.kp_equiv.specs.{Roots.IsComparable, Runs.no_state, Showing.renamed, Showing.ShowsButName, inner.Meaning.SameFiles, inner.Meaning.SameStates}
 use Rattle.kp_equiv.proofs.Running.{agreed, starts, steps, run_rows, run_states}

@@ -8,8 +8,7 @@ use Rattle.kp_net.specs.{Names.same, Netlist.Net, Parts.NetOk, Parts.RegOk, Part
 use Rattle.kp_equiv.specs.declared.verdict.Verdict.{Verdict, TheVariants.Same, TheVariants.Differs}
 use Rattle.kp_equiv.specs.Roots.{IsComparable, IsVerdict}
 use Rattle.kp_equiv_trees.specs.Roots.{Root, Ports, Register, File, Full, Ue, Back, roots, RegsAlike, WritesAlike, FilesAlike, PortsAgree, RegisterAgrees, FileAgrees, Agrees}
-use Rattle.kp_equiv_trees.specs.{Alike.Alike, Named.HasNames}
-use Rattle.kp_equiv_trees.specs.{Classes.place, Classes.class_in, Sections.Differing, Sections.FirstOf}
+use Rattle.kp_equiv_trees.specs.{Alike.Alike, Named.HasNames, Classes.place, Classes.class_in, Sections.Differing, Sections.FirstOf}
 use Rattle.kp_equiv_trees.proofs.{Determined.alike_found, Inputs.port_decides}
 use Rattle.kp_equiv_trees.proofs.Places.{Things, registers, memories, namesake, missing}
 use Rattle.kp_equiv_trees.proofs.Ordered.{register_found, file_found, agree_more, differ_more}

@@ -1,14 +1,14 @@
 -- Netlists whose roots agree run alike.
 use Rattle.std.proofs.Common.{◌≡◌, ◌∙◌, ℕ, zero, suc, ◌+◌, ◌<◌, ◌≤◌, ◌&&◌, Bool, true, false, not, List, [], ◌∷◌, length, get_or, set, refl, sym, ap, subst, arith, Option, None, Some}
-use Rattle.std.proofs.{lemmas.List.length-map, lemmas.List.get_or-map}
-use Rattle.std.{proofs.lemmas.Slice.Zip.length-zip, proofs.lemmas.Slice.Zip.get_or-zip, specs.Prelude.if◌then◌else◌, specs.List.zip}
+use Rattle.std.proofs.lemmas.{List.length-map, List.get_or-map, Slice.Zip.length-zip, Slice.Zip.get_or-zip}
+use Rattle.std.specs.{Prelude.if◌then◌else◌, List.zip}
 use Rattle.kp_bits.specs.Word.{Word}
 use Rattle.kp_net.specs.Netlist.{Net, Input, State, cells_of, start_regs, start_of, regs_after, port_after, files_after, resets, state_after, row_of, states_from, rows_from}
 use Rattle.kp_net.specs.declared.netlist.{Port.Port, NetReg.NetReg, NetFile.NetFile, WritePort.WritePort}
 use Rattle.kp_net.specs.{Names.among, Nodes.Cells, Nodes.at, Parts.NetOk, Parts.no_port, Parts.no_reg, Parts.no_file}
 use Rattle.kp_equiv_trees.specs.Roots.{Ports, Full, Ue, Back, names_of_second, roots, RegsAlike, FilesAlike, WritesAlike, PortsAgree, RegisterAgrees, FileAgrees, Agrees, AllAgree}
-use Rattle.kp_equiv_trees.specs.{Alike.Alike, Alike.reg_name, Alike.file_name, Alike.sample_name, Named.reg_names}
-use Rattle.kp_equiv_trees.{specs.Sections.behind_regs, proofs.Ordered.filter_some, proofs.Ordered.is_new, proofs.Ordered.among_reg}
+use Rattle.kp_equiv_trees.specs.{Alike.Alike, Alike.reg_name, Alike.file_name, Alike.sample_name, Named.reg_names, Sections.behind_regs}
+use Rattle.kp_equiv_trees.proofs.Ordered.{filter_some, is_new, among_reg}
 use Rattle.kp_equiv_trees.proofs.Counting.{later_root, root_count, none_second, root_of_ports, root_of_reg, behind_file, behind_output}
 use Rattle.kp_equiv_trees.proofs.Places.{registers, memories, ports, one_index, related, reg_names_are, reg_count}
 use Rattle.kp_equiv.specs.{Roots.IsComparable, Runs.RunAlike, Runs.no_state, inner.Meaning.SameCells, inner.Meaning.SameStates}

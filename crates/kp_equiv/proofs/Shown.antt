@@ -1,7 +1,8 @@
 -- Netlists that run alike implement the same machines, up to their modules' names.
 use Rattle.std.proofs.Common.{◌≡◌, ◌∙◌, ℕ, zero, suc, ◌<◌, ◌≤◌, Bool, true, false, cond, List, [], ◌∷◌, length, get_or, map, take, refl, sym, ap, subst, arith, ⊎_elim}
-use Rattle.std.proofs.lemmas.{Bool.cases_lt, Bool.false≢true, List.length-map, List.Recursion.is_position_or_len, List.Sums.fails_before_first, List.Sums.passes_at_first}
-use Rattle.std.{specs.Prelude.if◌then◌else◌, specs.Cmp.Lexicographic.bytes_decides, specs.List.position_or_len}
+use Rattle.std.proofs.lemmas.{Bool.cases_lt, Bool.false≢true, List.length-map, List.Recursion.is_position_or_len}
+use Rattle.std.{proofs.lemmas.List.Sums.fails_before_first, proofs.lemmas.List.Sums.passes_at_first, specs.Prelude.if◌then◌else◌}
+use Rattle.std.specs.{Cmp.Lexicographic.bytes_decides, List.position_or_len}
 use Rattle.kp_base.specs.declared.row.Row.{Row}
 use Rattle.kp_bits.specs.Word.{Word}
 use Rattle.kp_ast.specs.declared.tree.Job.{Job}

@@ -1,7 +1,7 @@
 -- A table of shapes after one more.
 use Rattle.std.proofs.Common.{◌≡◌, ◌∙◌, ℕ, ◌+◌, ◌<◌, ◌≤◌, ◌++◌, Bool, true, false, cond, not, List, [], ◌∷◌, length, get_or, refl, sym, ap, subst, arith, ⊎_elim, None, Some, length-append}
 use Rattle.std.proofs.{Math.ListN.get_or-append, Math.Seq.get_or-append_seam, lemmas.Bool.cases_lt, lemmas.Bool.false≢true, lemmas.Bool.Decides.Decides-ltb}
-use Rattle.std.proofs.lemmas.List.{Sums.prefix_len-le-length, get_or_default, Folds.list_any-from_Any, Sums.passes_at_first}
+use Rattle.std.proofs.lemmas.List.{Sums.prefix_len-le-length, Sums.passes_at_first, get_or_default, Folds.list_any-from_Any}
 use Rattle.std.specs.{Prelude.if◌then◌else◌, Prelude.nat_lt, List.list_any, List.position_or_len}
 use Rattle.indexmap.specs.IndexSet.{insert_key}
 use Rattle.kp_net.specs.{declared.node.Node.Node, Widths.Distinct, Widths.no_node, inner.Lookup.LacksBelow}

@@ -1,7 +1,6 @@
 -- Lists of distinct names.
 use Rattle.std.proofs.Common.{◌≡◌, ◌∙◌, ℕ, zero, suc, ◌<◌, true, List, [], ◌∷◌, length, get_or, sym, arith}
-use Rattle.std.proofs.lemmas.Bool.{or_left, or_right}
-use Rattle.std.{proofs.lemmas.Bool.false≢true, specs.Cmp.Lexicographic.bytes_decides}
+use Rattle.std.{proofs.lemmas.Bool.or_left, proofs.lemmas.Bool.or_right, proofs.lemmas.Bool.false≢true, specs.Cmp.Lexicographic.bytes_decides}
 use Rattle.kp_net.specs.Names.{same, among, Differ}
 
 -- a name in a list is among its names

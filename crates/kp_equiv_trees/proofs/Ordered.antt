@@ -2,8 +2,7 @@
 use Rattle.std.proofs.Common.{◌≡◌, ◌∙◌, ℕ, zero, suc, ◌+◌, ◌-◌, ◌<◌, ◌≤◌, ◌++◌, ◌||◌, Bool, true, false, cond, not, List, [], ◌∷◌, length, map, get_or, refl, sym, ap, subst, arith, ⊎_elim, Option, None, Some, length-append}
 use Rattle.std.proofs.{Math.ListN.get_or-append, Math.Seq.get_or-append_right, lemmas.Bool.cases_lt, lemmas.Bool.false≢true}
 use Rattle.std.{proofs.lemmas.List.length-map, proofs.lemmas.List.get_or-map, specs.Bool.Decides, specs.List.filter}
-use Rattle.kp_net.specs.{declared.netlist.Parts.Parts, Names.same, Names.among, Names.Differ}
-use Rattle.kp_net.specs.{Netlist.Net, Parts.no_reg, Parts.no_file}
+use Rattle.kp_net.specs.{declared.netlist.Parts.Parts, Names.same, Names.among, Names.Differ, Netlist.Net, Parts.no_reg, Parts.no_file}
 use Rattle.kp_equiv_trees.specs.Roots.{Root, Ports, Register, File, Full, Ue, Back, names_of_second, roots, RegsAlike, FilesAlike, PortsAgree, RegisterAgrees, FileAgrees, Agrees, AllAgree, IsFirstDifference}
 use Rattle.kp_equiv_trees.specs.{Alike.reg_name, Alike.file_name, Named.reg_names, Named.file_names, Classes.place}
 use Rattle.kp_equiv_trees.specs.Sections.{AgreeUpTo, Differing, FirstOf, behind_ports, joined}

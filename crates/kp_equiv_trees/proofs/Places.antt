@@ -2,8 +2,8 @@
 use Rattle.std.proofs.Common.{◌≡◌, ◌∙◌, ℕ, ◌<◌, ◌≤◌, List, [], length, get_or, map, refl, sym, ap, subst, arith, ⊎_elim}
 use Rattle.std.proofs.{Math.ListN.get_or-map, lemmas.Bool.cases_lt, lemmas.Bool.false≢true, lemmas.List.length-map}
 use Rattle.std.{proofs.lemmas.List.Sums.fails_before_first, proofs.lemmas.List.Sums.passes_at_first, specs.Cmp.Lexicographic.bytes_decides}
-use Rattle.kp_net.specs.declared.netlist.{NetFile.NetFile, NetReg.NetReg, Port.Port}
-use Rattle.kp_net.specs.{Names.same, Names.Differ, Netlist.Net, Parts.no_file, Parts.no_port, Parts.no_reg}
+use Rattle.kp_net.specs.{declared.netlist.NetFile.NetFile, declared.netlist.NetReg.NetReg, declared.netlist.Port.Port, Names.same, Names.Differ, Netlist.Net}
+use Rattle.kp_net.specs.Parts.{no_file, no_port, no_reg}
 use Rattle.kp_equiv_trees.specs.{Alike.reg_name, Alike.file_name, Named.reg_names, Named.file_names, Named.sample_names, Classes.place}
 use Rattle.kp_equiv_trees.proofs.Naming.{one_number}
 
