@@ -15,12 +15,8 @@ use Rattle.kp_view_operands.specs.Widths.{at, AreWidths, IsIn, IsPartOf, width_w
 use Rattle.kp_view_operands.specs.Widths.AreWidths.{of_slice, of_zext, of_sext, of_two, of_choice, of_other}
 use Rattle.kp_view_operands.specs.Widths.IsIn.{itself, deeper}
 use Rattle.kp_view_operands.specs.Widths.IsPartOf.{of_not, left, right, test, yes, no, piece, sliced, zero_extended, sign_extended, argument}
-use Rattle.kp_view_operands.proofs.Scopes.{Mirrors, named_same}
+use Rattle.kp_view_operands.proofs.Scopes.{Mirrors, named_same, by_test}
 use Rattle.kp_view_operands.specs.declared.widths.OperandWidths.TheVariants as operands
-
-by_test : {G : Type 0} (b : Bool) → (b ≡ true → G) → (b ≡ false → G) → G
-by_test true then_so else_so = then_so refl
-by_test false then_so else_so = else_so refl
 
 pub by_or : {X G : Type 0} (a b : Option X) (x : X) → option_or a b ≡ Some x → (a ≡ Some x → G) → (b ≡ Some x → G) → G
 by_or None b x e first second = second e

@@ -11,13 +11,9 @@ use Rattle.kp_width.specs.Declarations.{declaration_of, declarations_of, functio
 use Rattle.kp_width.specs.Names as rules
 use Rattle.kp_view_operands.specs.Search.{Table, NameWidths, look_up, added, capped, names_after_decl, opened, width_named, with_local, with_params}
 
-by_test : {G : Type 0} (b : Bool) → (b ≡ true → G) → (b ≡ false → G) → G
+pub by_test : {G : Type 0} (b : Bool) → (b ≡ true → G) → (b ≡ false → G) → G
 by_test true then_so else_so = then_so refl
 by_test false then_so else_so = else_so refl
-
-by_option : {X G : Type 0} (o : Option X) → (o ≡ None → G) → ((x : X) → o ≡ Some x → G) → G
-by_option None none some = none refl
-by_option (Some x) none some = some x refl
 
 abbrev pub widths_in : Option Sense → Option ℕ
 widths_in None = None
@@ -34,19 +30,12 @@ pub record Mirrors (n : NameWidths) (s : Scoped) : Type 0 where
 -- a look-up after one more name was added
 last_of_table : (t : Table) (name q : List ℕ) (w : ℕ) → look_up (t ++ (name, w) ∷ []) q ≡ option_or (look_up t q) (cond (pointwise nat_eq q name) (Some w) None)
 last_of_table [] name q w = refl
-last_of_table ((k, v) ∷ t) name q w = by_test (pointwise nat_eq q k)
-    (λ y. ap (λ b. cond b (Some v) (look_up (t ++ (name, w) ∷ []) q)) y ∙ sym (ap (λ b. option_or (cond b (Some v) (look_up t q)) (cond (pointwise nat_eq q name) (Some w) None)) y))
-    (λ y. ap (λ b. cond b (Some v) (look_up (t ++ (name, w) ∷ []) q)) y ∙ last_of_table t name q w
-    ∙ sym (ap (λ b. option_or (cond b (Some v) (look_up t q)) (cond (pointwise nat_eq q name) (Some w) None)) y))
+last_of_table ((k, v) ∷ t) name q w = by_test (pointwise nat_eq q k) (λ y. rw y refl) (λ y. rw y (last_of_table t name q w))
 
 last_of_names : (names : Names) (name q : List ℕ) (m : Sense)
     → rules.look_up (names ++ (name, m) ∷ []) q ≡ option_or (rules.look_up names q) (cond (pointwise nat_eq q name) (Some m) None)
 last_of_names [] name q m = refl
-last_of_names ((k, v) ∷ names) name q m = by_test (pointwise nat_eq q k)
-    (λ y. ap (λ b. cond b (Some v) (rules.look_up (names ++ (name, m) ∷ []) q)) y
-    ∙ sym (ap (λ b. option_or (cond b (Some v) (rules.look_up names q)) (cond (pointwise nat_eq q name) (Some m) None)) y))
-    (λ y. ap (λ b. cond b (Some v) (rules.look_up (names ++ (name, m) ∷ []) q)) y ∙ last_of_names names name q m
-    ∙ sym (ap (λ b. option_or (cond b (Some v) (rules.look_up names q)) (cond (pointwise nat_eq q name) (Some m) None)) y))
+last_of_names ((k, v) ∷ names) name q m = by_test (pointwise nat_eq q k) (λ y. rw y refl) (λ y. rw y (last_of_names names name q m))
 
 widths_or : (o : Option Sense) (b : Bool) (m : Sense) → widths_in (option_or o (cond b (Some m) None)) ≡ option_or (widths_in o) (cond b (Some (capped m.width)) None)
 widths_or None true m = refl
