@@ -1,5 +1,5 @@
 -- Operators of a level.
-use Rattle.std.proofs.Common.{ℕ, ◌≡◌, ◌==◌, ◌<◌, ◌+◌, List, [], ◌∷◌, ◌++◌, drop, Bool, true, false, ◌||◌, cond, Option, Some, None, refl, sym, ap, subst, arith, Result, Ok, Err, MatchResult}
+use Rattle.std.proofs.Common.{ℕ, ◌≡◌, ◌==◌, ◌<◌, ◌+◌, List, [], ◌∷◌, ◌++◌, drop, Bool, true, false, ◌||◌, cond, Option, Some, None, refl, sym, ap, ◌∙◌, subst, arith, Result, Ok, Err, MatchResult}
 use Rattle.kp_base.specs.declared.place.Place.{Place}
 use Rattle.kp_bits.specs.declared.operator.BinOp.{BinOp}
 use Rattle.kp_grammar.specs.{Grammar.Nonterminal, Grammar.Action, Tables.pick, Machine.Outcome, Machine.goes, Machine.make}
@@ -22,42 +22,26 @@ behind l = Nonterminal (MORE l) ∷ []
 abbrev operation_of : Level → Mark × BinOp → List Sym
 operation_of l p = counted p.0 ∷ Nonterminal (OPERAND l) ∷ Action (make_binary p.1) ∷ behind l
 
-one_found : (x y : Mark × BinOp) (f : Mark × BinOp → List Sym) (b : Bool) (z : Option (List Sym)) → cond b (Some x) None ≡ Some y → cond (b || false) (Some (f x)) z ≡ Some (f y)
-one_found x y f true z h = cc h
-one_found x y f false z h = cc h
+-- the alternative that an operator selects, and the empty one without an operator
+abbrev body_of : (Mark × BinOp → List Sym) → Option (Mark × BinOp) → List Sym
+body_of f None = []
+body_of f (Some p) = f p
 
-one_missing : (x : Mark × BinOp) (b : Bool) (w z : Option (List Sym)) → cond b (Some x) None ≡ None → cond (b || false) w z ≡ z
-one_missing x true w z h = cc h
-one_missing x false w z h = refl
+abbrev bodies : (Mark × BinOp → List Sym) → List (Mark × BinOp) → ℕ → Option (List Sym)
+bodies f [] k = Some []
+bodies f (p ∷ ps) k = cond ((k == mark_class p.0) || false) (Some (f p)) (bodies f ps k)
 
-two_found : (x x' y : Mark × BinOp) (f : Mark × BinOp → List Sym) (b b' : Bool) (z : Option (List Sym)) → cond b (Some x) (cond b' (Some x') None) ≡ Some y
-    → cond (b || false) (Some (f x)) (cond (b' || false) (Some (f x')) z) ≡ Some (f y)
-two_found x x' y f true b' z h = cc h
-two_found x x' y f false true z h = cc h
-two_found x x' y f false false z h = cc h
+selected : (f : Mark × BinOp → List Sym) (ps : List (Mark × BinOp)) (k : ℕ) → bodies f ps k ≡ Some (body_of f (operator_at k ps))
+selected f [] k = refl
+selected f (p ∷ ps) k = by (k == mark_class p.0) (selected f ps k)
+  where
+    by : (b : Bool) → bodies f ps k ≡ Some (body_of f (operator_at k ps)) → cond (b || false) (Some (f p)) (bodies f ps k) ≡ Some (body_of f (cond b (Some p) (operator_at k ps)))
+    by true e = refl
+    by false e = e
 
-two_missing : (x x' : Mark × BinOp) (b b' : Bool) (w w' z : Option (List Sym)) → cond b (Some x) (cond b' (Some x') None) ≡ None → cond (b || false) w (cond (b' || false) w' z) ≡ z
-two_missing x x' true b' w w' z h = cc h
-two_missing x x' false true w w' z h = cc h
-two_missing x x' false false w w' z h = refl
-
-more_body : (l : Level) (k : ℕ) (p : Mark × BinOp) → operator_at k (operators_of l) ≡ Some p → pick rules tables (MORE l) k ≡ Some (operation_of l p)
-more_body levels.Or k p h = one_found _ p (operation_of levels.Or) (k == 58) _ h
-more_body levels.Xor k p h = one_found _ p (operation_of levels.Xor) (k == 57) _ h
-more_body levels.And k p h = one_found _ p (operation_of levels.And) (k == 56) _ h
-more_body levels.Compare k p h = two_found _ _ p (operation_of levels.Compare) (k == 62) (k == 59) _ h
-more_body levels.Shift k p h = two_found _ _ p (operation_of levels.Shift) (k == 60) (k == 61) _ h
-more_body levels.Sum k p h = two_found _ _ p (operation_of levels.Sum) (k == 54) (k == 55) _ h
-more_body levels.Product k p h = one_found _ p (operation_of levels.Product) (k == 53) _ h
-
-more_else : (l : Level) (k : ℕ) → operator_at k (operators_of l) ≡ None → pick rules tables (MORE l) k ≡ Some []
-more_else levels.Or k h = one_missing _ (k == 58) _ _ h
-more_else levels.Xor k h = one_missing _ (k == 57) _ _ h
-more_else levels.And k h = one_missing _ (k == 56) _ _ h
-more_else levels.Compare k h = two_missing _ _ (k == 62) (k == 59) _ _ _ h
-more_else levels.Shift k h = two_missing _ _ (k == 60) (k == 61) _ _ _ h
-more_else levels.Sum k h = two_missing _ _ (k == 54) (k == 55) _ _ _ h
-more_else levels.Product k h = one_missing _ (k == 53) _ _ h
+more_body : (l : Level) (k : ℕ) → pick rules tables (MORE l) k ≡ Some (body_of (operation_of l) (operator_at k (operators_of l)))
+more_body levels.Or k = selected (operation_of levels.Or) (operators_of levels.Or) k
+more_body l k = selected (operation_of l) (operators_of l) k
 
 chain_body : (l : Level) (k : ℕ) → pick rules tables (CHAIN l) k ≡ Some (Nonterminal (OPERAND l) ∷ Nonterminal (MORE l) ∷ [])
 chain_body levels.Or k = refl
@@ -73,10 +57,10 @@ module _ {s : List Sym} {v : State} {o : Outcome State} (ts : List Lexeme) (i : 
 
   pub more_start : (p : Mark × BinOp) → operator_at (class_at ts i) (operators_of l) ≡ Some p
       → Goes (counted p.0 ∷ Nonterminal (OPERAND l) ∷ Action (make_binary p.1) ∷ (behind l ++ s)) v (drop i ts) o → Goes (Nonterminal (MORE l) ∷ s) v (drop i ts) o
-  more_start p e h = goes (operation_of l p) (more_body l (class_at ts i) p e) h
+  more_start p e h = goes (operation_of l p) (more_body l (class_at ts i) ∙ ap (λ (o : Option (Mark × BinOp)). Some (body_of (operation_of l) o)) e) h
 
   pub more_none : operator_at (class_at ts i) (operators_of l) ≡ None → Goes s v (drop i ts) o → Goes (Nonterminal (MORE l) ∷ s) v (drop i ts) o
-  more_none e h = goes [] (more_else l (class_at ts i) e) h
+  more_none e h = goes [] (more_body l (class_at ts i) ∙ ap (λ (o : Option (Mark × BinOp)). Some (body_of (operation_of l) o)) e) h
 
 -- one more operator of a level
 operator_step : {ts : List Lexeme} (l : Level) {x y : Expr} {m : Mark} {op : BinOp} {p : Place} {c b d e i j k n : ℕ}

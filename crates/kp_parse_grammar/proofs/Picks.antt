@@ -2,12 +2,8 @@
 use Rattle.std.proofs.Common.{ℕ, ◌≡◌, ◌==◌, List, [], ◌∷◌, ◌++◌, Bool, true, false, cond, ◌||◌, Option, Some, refl, sym, ◌∙◌, subst}
 use Rattle.std.proofs.lemmas.Bool.{eqb-true}
 use Rattle.kp_grammar.specs.{Grammar.Nonterminal, Grammar.Action, Tables.pick, Tables.among, Machine.Outcome, Machine.look, Machine.goes}
-use Rattle.kp_lex.specs.declared.token.Keyword.TheVariants as keywords
-use Rattle.kp_lex.specs.declared.token.Mark.TheVariants as marks
-use Rattle.kp_parse_grammar.specs.declared.level.Level.TheVariants as levels
-use Rattle.kp_parse_grammar.specs.Language.{Sym, State, Step, rules, language, ADDRESS, BINDING, CALL, CHAIN, CHOICE, DECL, DECLS, ENABLE, ENTRIES, ENTRY, EXPR, EXPRS, EXTENDED, HEDGE, IMAGE, INDEX, INPUTS, JOB, LIT, LITS, LOW, NAME, NUM, NUMBERED, PAR, PARS, PARTS, POST, PRIM, SLICES, SPAN, SPANS, STAGE, STAGES, STALLS, STEP, STMT, STMTS, UNARY, WHEN, WHOLE, WORD, WORDS, closing, counted, enter, image_section, input_section, leave, make_aim, make_block, make_call, make_choice, make_concat, make_file, make_fn, make_hint, make_image, make_input, make_job, make_let, make_literal, make_name, make_not, make_param, make_pipe, make_put, make_read, make_reg, make_result, make_sample, make_set, make_sext, make_slice, make_stall, make_zext, mark, no_blocks, no_decls, no_expr, no_exprs, no_hedge, no_image_section, no_images, no_input_section, no_inputs, no_literals, no_name, no_number, no_params, no_stall_section, no_stalls, no_stmts, one_block, one_decl, one_expr, one_image, one_input, one_literal, one_param, one_stall, one_stmt, opening, opening_at, placed, same_bit, separating, some_expr, some_guess, some_name, some_number, some_when, stall_section, word}
-use Rattle.kp_parse_grammar.specs.Tokens.{Lexeme, keyword_class, mark_class, IDENTIFIER, NUMBER, LITERAL}
-use Rattle.kp_parse_grammar.specs.{inner.Follow.tables, inner.Follow.decl_words, inner.Follow.stmt_words, Reading.Goes}
+use Rattle.kp_parse_grammar.specs.Language.{Sym, State, Step, rules, language, DECL, DECLS, STMT, STMTS, one_decl, one_stmt}
+use Rattle.kp_parse_grammar.specs.{Tokens.Lexeme, inner.Follow.tables, inner.Follow.decl_words, inner.Follow.stmt_words, Reading.Goes}
 
 abbrev N : ℕ → Sym
 N n = Nonterminal n

@@ -1,494 +1,369 @@
 -- The contents of the stack while a description is read: each action finds the values that it builds from, and a sentence builds a job.
-use Rattle.std.proofs.Common.{ℕ, zero, suc, ◌≡◌, List, [], ◌∷◌, ◌++◌, Bool, false, Option, refl, ap, ◌∙◌}
+use Rattle.std.proofs.Common.{ℕ, zero, suc, ◌≡◌, ◌==◌, List, [], ◌∷◌, ◌++◌, map, length, Bool, true, false, cond, Option, refl, sym, ap, subst, ◌∙◌, arith}
+use Rattle.std.proofs.lemmas.Bool.{eqb-true}
 use Rattle.kp_base.specs.declared.place.Place.{Place}
-use Rattle.kp_bits.specs.declared.operator.BinOp.{BinOp}
 use Rattle.kp_ast.specs.declared.tree.{Named.Named, Num.Num, Lit.Lit, Expr.Expr, Stmt.Stmt, Block.Block, Param.Param, Decl.Decl, Image.Image, Stalls.Stalls}
 use Rattle.kp_ast.specs.declared.tree.{Inputs.Inputs, Job.Job}
-use Rattle.kp_grammar.specs.Grammar.{Terminal, Nonterminal, Action, alternatives, Has, here, there}
-use Rattle.kp_grammar.specs.Machine.{Outcome, Accepts, Leads, accept, more, goes, take, make, wrong, lost, exceed}
+use Rattle.kp_grammar.specs.Grammar.{Terminal, Nonterminal, Action, Rules, alternatives, Has, here, there}
+use Rattle.kp_grammar.specs.{Tables.among, Machine.Outcome, Machine.Accepts, Machine.Leads, Machine.accept, Machine.goes, Machine.take, Machine.make}
 use Rattle.kp_grammar.proofs.Check.{picks_rule}
-use Rattle.kp_parse_grammar.specs.declared.level.Level.TheVariants as levels
 use Rattle.kp_parse_grammar.specs.Language.{Value, Way, Step, State, Sym, language, rules, counts_read, values_read, counts_built, values_built, at, is_over}
-use Rattle.kp_parse_grammar.specs.{Tokens.Lexeme, inner.Follow.tables}
+use Rattle.kp_parse_grammar.specs.{declared.level.Level.Level, Tokens.Lexeme, inner.Follow.tables}
+use Rattle.kp_parse_grammar.specs.declared.level.Level.TheVariants as levels
 use Rattle.kp_parse_grammar.specs.Language as l
 
 -- the kinds of values
 data Ty : Type 0 where
-  a_place : Ty
-  a_named : Ty
-  a_number : Ty
-  a_literal : Ty
-  a_expr : Ty
-  a_exprs : Ty
-  a_perhaps_expr : Ty
-  a_perhaps_named : Ty
-  a_perhaps_number : Ty
-  a_param : Ty
-  a_params : Ty
-  a_decl : Ty
-  a_decls : Ty
-  a_stmt : Ty
-  a_stmts : Ty
-  a_block : Ty
-  a_blocks : Ty
-  a_literals : Ty
-  a_image : Ty
-  a_images : Ty
-  a_perhaps_images : Ty
-  a_stall : Ty
-  a_stalls : Ty
-  a_perhaps_stalls : Ty
-  a_input : Ty
-  a_inputs : Ty
-  a_perhaps_inputs : Ty
-  a_job : Ty
+  a_place a_named a_number a_literal a_expr a_exprs a_perhaps_expr a_perhaps_named a_perhaps_number a_param : Ty
+  a_params a_decl a_decls a_stmt a_stmts a_block a_blocks a_literals a_image a_images : Ty
+  a_perhaps_images a_stall a_stalls a_perhaps_stalls a_input a_inputs a_perhaps_inputs a_job : Ty
 
-data Is : Ty → Value → Type 0 where
-  is_place : {x : Place} → Is a_place (l.place x)
-  is_named : {x : Named} → Is a_named (l.named x)
-  is_number : {x : Num} → Is a_number (l.number x)
-  is_literal : {x : Lit} → Is a_literal (l.literal x)
-  is_expr : {x : Expr} → Is a_expr (l.expr x)
-  is_exprs : {x : List Expr} → Is a_exprs (l.exprs x)
-  is_perhaps_expr : {x : Option Expr} → Is a_perhaps_expr (l.perhaps_expr x)
-  is_perhaps_named : {x : Option Named} → Is a_perhaps_named (l.perhaps_named x)
-  is_perhaps_number : {x : Option Num} → Is a_perhaps_number (l.perhaps_number x)
-  is_param : {x : Param} → Is a_param (l.param x)
-  is_params : {x : List Param} → Is a_params (l.params x)
-  is_decl : {x : Decl} → Is a_decl (l.decl x)
-  is_decls : {x : List Decl} → Is a_decls (l.decls x)
-  is_stmt : {x : Stmt} → Is a_stmt (l.stmt x)
-  is_stmts : {x : List Stmt} → Is a_stmts (l.stmts x)
-  is_block : {x : Block} → Is a_block (l.block x)
-  is_blocks : {x : List Block} → Is a_blocks (l.blocks x)
-  is_literals : {x : List Lit} → Is a_literals (l.literals x)
-  is_image : {x : Image} → Is a_image (l.image x)
-  is_images : {x : List Image} → Is a_images (l.images x)
-  is_perhaps_images : {x : Option (List Image)} → Is a_perhaps_images (l.perhaps_images x)
-  is_stall : {x : Stalls} → Is a_stall (l.stall x)
-  is_stalls : {x : List Stalls} → Is a_stalls (l.stalls x)
-  is_perhaps_stalls : {x : Option (List Stalls)} → Is a_perhaps_stalls (l.perhaps_stalls x)
-  is_input : {x : Inputs} → Is a_input (l.input x)
-  is_inputs : {x : List Inputs} → Is a_inputs (l.inputs x)
-  is_perhaps_inputs : {x : Option (List Inputs)} → Is a_perhaps_inputs (l.perhaps_inputs x)
-  is_job : {x : Job} → Is a_job (l.job x)
+-- a kind: its values, and each as a value of the stack
+record Kind : Type 1 where
+  Of : Type 0
+  value : Of → Value
 
-data Stack : List Ty → List Value → Type 0 where
-  empty : Stack [] []
-  push : {t : Ty} {ts : List Ty} {x : Value} {xs : List Value} → Is t x → Stack ts xs → Stack (t ∷ ts) (x ∷ xs)
+abbrev kind : Ty → Kind
+kind a_place = record { Of = Place; value = l.place }
+kind a_named = record { Of = Named; value = l.named }
+kind a_number = record { Of = Num; value = l.number }
+kind a_literal = record { Of = Lit; value = l.literal }
+kind a_expr = record { Of = Expr; value = l.expr }
+kind a_exprs = record { Of = List Expr; value = l.exprs }
+kind a_perhaps_expr = record { Of = Option Expr; value = l.perhaps_expr }
+kind a_perhaps_named = record { Of = Option Named; value = l.perhaps_named }
+kind a_perhaps_number = record { Of = Option Num; value = l.perhaps_number }
+kind a_param = record { Of = Param; value = l.param }
+kind a_params = record { Of = List Param; value = l.params }
+kind a_decl = record { Of = Decl; value = l.decl }
+kind a_decls = record { Of = List Decl; value = l.decls }
+kind a_stmt = record { Of = Stmt; value = l.stmt }
+kind a_stmts = record { Of = List Stmt; value = l.stmts }
+kind a_block = record { Of = Block; value = l.block }
+kind a_blocks = record { Of = List Block; value = l.blocks }
+kind a_literals = record { Of = List Lit; value = l.literals }
+kind a_image = record { Of = Image; value = l.image }
+kind a_images = record { Of = List Image; value = l.images }
+kind a_perhaps_images = record { Of = Option (List Image); value = l.perhaps_images }
+kind a_stall = record { Of = Stalls; value = l.stall }
+kind a_stalls = record { Of = List Stalls; value = l.stalls }
+kind a_perhaps_stalls = record { Of = Option (List Stalls); value = l.perhaps_stalls }
+kind a_input = record { Of = Inputs; value = l.input }
+kind a_inputs = record { Of = List Inputs; value = l.inputs }
+kind a_perhaps_inputs = record { Of = Option (List Inputs); value = l.perhaps_inputs }
+kind a_job = record { Of = Job; value = l.job }
 
--- how many counts there are
-data Deep : ℕ → List ℕ → Type 0 where
-  none : Deep zero []
-  one_more : {d c : ℕ} {cs : List ℕ} → Deep d cs → Deep (suc d) (c ∷ cs)
+-- values of some kinds, and how the stack has them
+abbrev Env : List Ty → Type 0
+Env [] = Unit {0}
+Env (t ∷ ts) = (kind t).Of × Env ts
 
--- what a way of reading and a step do to them
-data Reads : Way → ℕ → List Ty → ℕ → List Ty → Type 0 where
-  r_dropped : {d : ℕ} {ts : List Ty} → Reads l.dropped d ts d ts
-  r_as_place : {d : ℕ} {ts : List Ty} → Reads l.as_place d ts d (a_place ∷ ts)
-  r_as_name : {d : ℕ} {ts : List Ty} → Reads l.as_name d ts d (a_named ∷ ts)
-  r_as_number : {d : ℕ} {ts : List Ty} → Reads l.as_number d ts d (a_number ∷ ts)
-  r_as_literal : {d : ℕ} {ts : List Ty} → Reads l.as_literal d ts d (a_literal ∷ ts)
-  r_counts_one : {d : ℕ} {ts : List Ty} → Reads l.counts_one (suc d) ts (suc d) (a_place ∷ ts)
-  r_opens : {d : ℕ} {ts : List Ty} → Reads l.opens (suc d) ts (suc (suc d)) ts
-  r_opens_at : {d : ℕ} {ts : List Ty} → Reads l.opens_at (suc d) ts (suc (suc d)) (a_place ∷ ts)
-  r_closes : {d : ℕ} {ts : List Ty} → Reads l.closes (suc d) ts d ts
-  r_separates : {d : ℕ} {ts : List Ty} → Reads l.separates (suc (suc d)) ts (suc (suc d)) ts
+abbrev values : (ts : List Ty) → Env ts → List Value
+values [] e = []
+values (t ∷ ts) e = (kind t).value e.0 ∷ values ts e.1
 
-data Builds : Step → ℕ → List Ty → ℕ → List Ty → Type 0 where
-  b_enter : {d : ℕ} {ts : List Ty} → Builds l.enter d ts (suc d) ts
-  b_leave : {d : ℕ} {ts : List Ty} → Builds l.leave (suc d) ts d ts
-  b_no_expr : {d : ℕ} {ts : List Ty} → Builds l.no_expr d (ts) d (a_perhaps_expr ∷ ts)
-  b_some_expr : {d : ℕ} {ts : List Ty} → Builds l.some_expr d (a_expr ∷ ts) d (a_perhaps_expr ∷ ts)
-  b_no_hedge : {d : ℕ} {ts : List Ty} → Builds l.no_hedge d (ts) d (a_perhaps_expr ∷ a_perhaps_expr ∷ ts)
-  b_some_when : {d : ℕ} {ts : List Ty} → Builds l.some_when d (a_expr ∷ ts) d (a_perhaps_expr ∷ a_perhaps_expr ∷ ts)
-  b_some_guess : {d : ℕ} {ts : List Ty} → Builds l.some_guess d (a_expr ∷ ts) d (a_perhaps_expr ∷ a_perhaps_expr ∷ ts)
-  b_no_name : {d : ℕ} {ts : List Ty} → Builds l.no_name d (ts) d (a_perhaps_named ∷ ts)
-  b_some_name : {d : ℕ} {ts : List Ty} → Builds l.some_name d (a_named ∷ ts) d (a_perhaps_named ∷ ts)
-  b_no_number : {d : ℕ} {ts : List Ty} → Builds l.no_number d (ts) d (a_perhaps_number ∷ ts)
-  b_some_number : {d : ℕ} {ts : List Ty} → Builds l.some_number d (a_number ∷ ts) d (a_perhaps_number ∷ ts)
-  b_no_exprs : {d : ℕ} {ts : List Ty} → Builds l.no_exprs d (ts) d (a_exprs ∷ ts)
-  b_one_expr : {d : ℕ} {ts : List Ty} → Builds l.one_expr d (a_expr ∷ a_exprs ∷ ts) d (a_exprs ∷ ts)
-  b_make_choice : {d : ℕ} {ts : List Ty} → Builds l.make_choice d (a_expr ∷ a_expr ∷ a_place ∷ a_expr ∷ ts) d (a_expr ∷ ts)
-  b_make_binary : {op : BinOp} {d : ℕ} {ts : List Ty} → Builds (l.make_binary op) d (a_expr ∷ a_place ∷ a_expr ∷ ts) d (a_expr ∷ ts)
-  b_make_not : {d : ℕ} {ts : List Ty} → Builds l.make_not d (a_expr ∷ a_place ∷ ts) d (a_expr ∷ ts)
-  b_same_bit : {d : ℕ} {ts : List Ty} → Builds l.same_bit d (a_number ∷ ts) d (a_number ∷ a_number ∷ ts)
-  b_make_slice : {d : ℕ} {ts : List Ty} → Builds l.make_slice d (a_number ∷ a_number ∷ a_place ∷ a_expr ∷ ts) d (a_expr ∷ ts)
-  b_make_literal : {d : ℕ} {ts : List Ty} → Builds l.make_literal d (a_literal ∷ ts) d (a_expr ∷ ts)
-  b_make_name : {d : ℕ} {ts : List Ty} → Builds l.make_name d (a_named ∷ ts) d (a_expr ∷ ts)
-  b_make_call : {d : ℕ} {ts : List Ty} → Builds l.make_call d (a_exprs ∷ a_named ∷ ts) d (a_expr ∷ ts)
-  b_make_concat : {d : ℕ} {ts : List Ty} → Builds l.make_concat d (a_exprs ∷ a_place ∷ ts) d (a_expr ∷ ts)
-  b_make_zext : {d : ℕ} {ts : List Ty} → Builds l.make_zext d (a_number ∷ a_expr ∷ a_place ∷ ts) d (a_expr ∷ ts)
-  b_make_sext : {d : ℕ} {ts : List Ty} → Builds l.make_sext d (a_number ∷ a_expr ∷ a_place ∷ ts) d (a_expr ∷ ts)
-  b_make_param : {d : ℕ} {ts : List Ty} → Builds l.make_param d (a_number ∷ a_named ∷ ts) d (a_param ∷ ts)
-  b_no_params : {d : ℕ} {ts : List Ty} → Builds l.no_params d (ts) d (a_params ∷ ts)
-  b_one_param : {d : ℕ} {ts : List Ty} → Builds l.one_param d (a_param ∷ a_params ∷ ts) d (a_params ∷ ts)
-  b_make_reg : {d : ℕ} {ts : List Ty} → Builds l.make_reg d (a_literal ∷ a_param ∷ ts) d (a_decl ∷ ts)
-  b_make_file : {d : ℕ} {ts : List Ty} → Builds l.make_file d (a_number ∷ a_param ∷ ts) d (a_decl ∷ ts)
-  b_make_pipe : {d : ℕ} {ts : List Ty} → Builds l.make_pipe d (a_param ∷ ts) d (a_decl ∷ ts)
-  b_make_result : {d : ℕ} {ts : List Ty} → Builds l.make_result d (a_number ∷ a_perhaps_named ∷ a_perhaps_named ∷ a_named ∷ a_param ∷ ts) d (a_decl ∷ ts)
-  b_make_hint : {d : ℕ} {ts : List Ty} → Builds l.make_hint d (a_literal ∷ a_param ∷ ts) d (a_decl ∷ ts)
-  b_make_sample : {d : ℕ} {ts : List Ty} → Builds l.make_sample d (a_number ∷ a_param ∷ ts) d (a_decl ∷ ts)
-  b_make_fn : {d : ℕ} {ts : List Ty} → Builds l.make_fn d (a_expr ∷ a_number ∷ a_params ∷ a_named ∷ ts) d (a_decl ∷ ts)
-  b_no_decls : {d : ℕ} {ts : List Ty} → Builds l.no_decls d (ts) d (a_decls ∷ ts)
-  b_one_decl : {d : ℕ} {ts : List Ty} → Builds l.one_decl d (a_decl ∷ a_decls ∷ ts) d (a_decls ∷ ts)
-  b_make_read : {d : ℕ} {ts : List Ty} → Builds l.make_read d (a_perhaps_expr ∷ a_perhaps_expr ∷ a_perhaps_expr ∷ a_named ∷ a_named ∷ a_place ∷ ts) d (a_stmt ∷ ts)
-  b_make_let : {d : ℕ} {ts : List Ty} → Builds l.make_let d (a_expr ∷ a_named ∷ a_place ∷ ts) d (a_stmt ∷ ts)
-  b_make_put : {d : ℕ} {ts : List Ty} → Builds l.make_put d (a_expr ∷ a_named ∷ a_place ∷ ts) d (a_stmt ∷ ts)
-  b_make_set : {d : ℕ} {ts : List Ty} → Builds l.make_set d (a_perhaps_expr ∷ a_expr ∷ a_named ∷ a_place ∷ ts) d (a_stmt ∷ ts)
-  b_make_aim : {d : ℕ} {ts : List Ty} → Builds l.make_aim d (a_expr ∷ a_named ∷ a_place ∷ ts) d (a_stmt ∷ ts)
-  b_no_stmts : {d : ℕ} {ts : List Ty} → Builds l.no_stmts d (ts) d (a_stmts ∷ ts)
-  b_one_stmt : {d : ℕ} {ts : List Ty} → Builds l.one_stmt d (a_stmt ∷ a_stmts ∷ ts) d (a_stmts ∷ ts)
-  b_make_block : {d : ℕ} {ts : List Ty} → Builds l.make_block d (a_stmts ∷ a_number ∷ ts) d (a_block ∷ ts)
-  b_no_blocks : {d : ℕ} {ts : List Ty} → Builds l.no_blocks d (ts) d (a_blocks ∷ ts)
-  b_one_block : {d : ℕ} {ts : List Ty} → Builds l.one_block d (a_block ∷ a_blocks ∷ ts) d (a_blocks ∷ ts)
-  b_no_literals : {d : ℕ} {ts : List Ty} → Builds l.no_literals d (ts) d (a_literals ∷ ts)
-  b_one_literal : {d : ℕ} {ts : List Ty} → Builds l.one_literal d (a_literal ∷ a_literals ∷ ts) d (a_literals ∷ ts)
-  b_make_image : {d : ℕ} {ts : List Ty} → Builds l.make_image d (a_literals ∷ a_perhaps_number ∷ a_named ∷ ts) d (a_image ∷ ts)
-  b_no_images : {d : ℕ} {ts : List Ty} → Builds l.no_images d (ts) d (a_images ∷ ts)
-  b_one_image : {d : ℕ} {ts : List Ty} → Builds l.one_image d (a_image ∷ a_images ∷ ts) d (a_images ∷ ts)
-  b_no_image_section : {d : ℕ} {ts : List Ty} → Builds l.no_image_section d (ts) d (a_perhaps_images ∷ ts)
-  b_image_section : {d : ℕ} {ts : List Ty} → Builds l.image_section d (a_images ∷ ts) d (a_perhaps_images ∷ ts)
-  b_make_stall : {d : ℕ} {ts : List Ty} → Builds l.make_stall d (a_perhaps_number ∷ a_number ∷ a_number ∷ a_number ∷ ts) d (a_stall ∷ ts)
-  b_no_stalls : {d : ℕ} {ts : List Ty} → Builds l.no_stalls d (ts) d (a_stalls ∷ ts)
-  b_one_stall : {d : ℕ} {ts : List Ty} → Builds l.one_stall d (a_stall ∷ a_stalls ∷ ts) d (a_stalls ∷ ts)
-  b_no_stall_section : {d : ℕ} {ts : List Ty} → Builds l.no_stall_section d (ts) d (a_perhaps_stalls ∷ ts)
-  b_stall_section : {d : ℕ} {ts : List Ty} → Builds l.stall_section d (a_stalls ∷ ts) d (a_perhaps_stalls ∷ ts)
-  b_make_input : {d : ℕ} {ts : List Ty} → Builds l.make_input d (a_perhaps_number ∷ a_number ∷ a_number ∷ a_literal ∷ a_named ∷ ts) d (a_input ∷ ts)
-  b_no_inputs : {d : ℕ} {ts : List Ty} → Builds l.no_inputs d (ts) d (a_inputs ∷ ts)
-  b_one_input : {d : ℕ} {ts : List Ty} → Builds l.one_input d (a_input ∷ a_inputs ∷ ts) d (a_inputs ∷ ts)
-  b_no_input_section : {d : ℕ} {ts : List Ty} → Builds l.no_input_section d (ts) d (a_perhaps_inputs ∷ ts)
-  b_input_section : {d : ℕ} {ts : List Ty} → Builds l.input_section d (a_inputs ∷ ts) d (a_perhaps_inputs ∷ ts)
-  b_make_job : {d : ℕ} {ts : List Ty} → Builds l.make_job d (a_perhaps_inputs ∷ a_perhaps_stalls ∷ a_perhaps_images ∷ a_blocks ∷ a_decls ∷ a_number ∷ a_named ∷ ts) d (a_job ∷ ts)
+abbrev Stack : List Ty → List Value → Type 0
+Stack ts vs = (e : Env ts) × (vs ≡ values ts e)
 
-read_keeps : {way : Way} {d e : ℕ} {ts us : List Ty} {cs : List ℕ} {vs : List Value} (t : Lexeme) → Reads way d ts e us → Deep d cs → Stack ts vs → Deep e (counts_read way cs) × Stack us (values_read way t vs)
-read_keeps t r_dropped h k = (h, k)
-read_keeps t r_as_place h k = (h, push is_place k)
-read_keeps t r_as_name h k = (h, push is_named k)
-read_keeps t r_as_number h k = (h, push is_number k)
-read_keeps t r_as_literal h k = (h, push is_literal k)
-read_keeps t r_counts_one (one_more h) k = (one_more h, push is_place k)
-read_keeps t r_opens (one_more h) k = (one_more (one_more h), k)
-read_keeps t r_opens_at (one_more h) k = (one_more (one_more h), push is_place k)
-read_keeps t r_closes (one_more h) k = (h, k)
-read_keeps t r_separates (one_more (one_more h)) k = (one_more (one_more h), k)
+-- the kinds that an action finds and builds
+abbrev effect : Step → List Ty × List Ty
+effect l.enter = ([], [])
+effect l.leave = ([], [])
+effect l.no_expr = ([], a_perhaps_expr ∷ [])
+effect l.some_expr = (a_expr ∷ [], a_perhaps_expr ∷ [])
+effect l.no_hedge = ([], a_perhaps_expr ∷ a_perhaps_expr ∷ [])
+effect l.some_when = (a_expr ∷ [], a_perhaps_expr ∷ a_perhaps_expr ∷ [])
+effect l.some_guess = (a_expr ∷ [], a_perhaps_expr ∷ a_perhaps_expr ∷ [])
+effect l.no_name = ([], a_perhaps_named ∷ [])
+effect l.some_name = (a_named ∷ [], a_perhaps_named ∷ [])
+effect l.no_number = ([], a_perhaps_number ∷ [])
+effect l.some_number = (a_number ∷ [], a_perhaps_number ∷ [])
+effect l.no_exprs = ([], a_exprs ∷ [])
+effect l.one_expr = (a_expr ∷ a_exprs ∷ [], a_exprs ∷ [])
+effect l.make_choice = (a_expr ∷ a_expr ∷ a_place ∷ a_expr ∷ [], a_expr ∷ [])
+effect (l.make_binary op) = (a_expr ∷ a_place ∷ a_expr ∷ [], a_expr ∷ [])
+effect l.make_not = (a_expr ∷ a_place ∷ [], a_expr ∷ [])
+effect l.same_bit = (a_number ∷ [], a_number ∷ a_number ∷ [])
+effect l.make_slice = (a_number ∷ a_number ∷ a_place ∷ a_expr ∷ [], a_expr ∷ [])
+effect l.make_literal = (a_literal ∷ [], a_expr ∷ [])
+effect l.make_name = (a_named ∷ [], a_expr ∷ [])
+effect l.make_call = (a_exprs ∷ a_named ∷ [], a_expr ∷ [])
+effect l.make_concat = (a_exprs ∷ a_place ∷ [], a_expr ∷ [])
+effect l.make_zext = (a_number ∷ a_expr ∷ a_place ∷ [], a_expr ∷ [])
+effect l.make_sext = (a_number ∷ a_expr ∷ a_place ∷ [], a_expr ∷ [])
+effect l.make_param = (a_number ∷ a_named ∷ [], a_param ∷ [])
+effect l.no_params = ([], a_params ∷ [])
+effect l.one_param = (a_param ∷ a_params ∷ [], a_params ∷ [])
+effect l.make_reg = (a_literal ∷ a_param ∷ [], a_decl ∷ [])
+effect l.make_file = (a_number ∷ a_param ∷ [], a_decl ∷ [])
+effect l.make_pipe = (a_param ∷ [], a_decl ∷ [])
+effect l.make_result = (a_number ∷ a_perhaps_named ∷ a_perhaps_named ∷ a_named ∷ a_param ∷ [], a_decl ∷ [])
+effect l.make_hint = (a_literal ∷ a_param ∷ [], a_decl ∷ [])
+effect l.make_sample = (a_number ∷ a_param ∷ [], a_decl ∷ [])
+effect l.make_fn = (a_expr ∷ a_number ∷ a_params ∷ a_named ∷ [], a_decl ∷ [])
+effect l.no_decls = ([], a_decls ∷ [])
+effect l.one_decl = (a_decl ∷ a_decls ∷ [], a_decls ∷ [])
+effect l.make_read = (a_perhaps_expr ∷ a_perhaps_expr ∷ a_perhaps_expr ∷ a_named ∷ a_named ∷ a_place ∷ [], a_stmt ∷ [])
+effect l.make_let = (a_expr ∷ a_named ∷ a_place ∷ [], a_stmt ∷ [])
+effect l.make_put = (a_expr ∷ a_named ∷ a_place ∷ [], a_stmt ∷ [])
+effect l.make_set = (a_perhaps_expr ∷ a_expr ∷ a_named ∷ a_place ∷ [], a_stmt ∷ [])
+effect l.make_aim = (a_expr ∷ a_named ∷ a_place ∷ [], a_stmt ∷ [])
+effect l.no_stmts = ([], a_stmts ∷ [])
+effect l.one_stmt = (a_stmt ∷ a_stmts ∷ [], a_stmts ∷ [])
+effect l.make_block = (a_stmts ∷ a_number ∷ [], a_block ∷ [])
+effect l.no_blocks = ([], a_blocks ∷ [])
+effect l.one_block = (a_block ∷ a_blocks ∷ [], a_blocks ∷ [])
+effect l.no_literals = ([], a_literals ∷ [])
+effect l.one_literal = (a_literal ∷ a_literals ∷ [], a_literals ∷ [])
+effect l.make_image = (a_literals ∷ a_perhaps_number ∷ a_named ∷ [], a_image ∷ [])
+effect l.no_images = ([], a_images ∷ [])
+effect l.one_image = (a_image ∷ a_images ∷ [], a_images ∷ [])
+effect l.no_image_section = ([], a_perhaps_images ∷ [])
+effect l.image_section = (a_images ∷ [], a_perhaps_images ∷ [])
+effect l.make_stall = (a_perhaps_number ∷ a_number ∷ a_number ∷ a_number ∷ [], a_stall ∷ [])
+effect l.no_stalls = ([], a_stalls ∷ [])
+effect l.one_stall = (a_stall ∷ a_stalls ∷ [], a_stalls ∷ [])
+effect l.no_stall_section = ([], a_perhaps_stalls ∷ [])
+effect l.stall_section = (a_stalls ∷ [], a_perhaps_stalls ∷ [])
+effect l.make_input = (a_perhaps_number ∷ a_number ∷ a_number ∷ a_literal ∷ a_named ∷ [], a_input ∷ [])
+effect l.no_inputs = ([], a_inputs ∷ [])
+effect l.one_input = (a_input ∷ a_inputs ∷ [], a_inputs ∷ [])
+effect l.no_input_section = ([], a_perhaps_inputs ∷ [])
+effect l.input_section = (a_inputs ∷ [], a_perhaps_inputs ∷ [])
+effect l.make_job = (a_perhaps_inputs ∷ a_perhaps_stalls ∷ a_perhaps_images ∷ a_blocks ∷ a_decls ∷ a_number ∷ a_named ∷ [], a_job ∷ [])
 
-build_keeps : {a : Step} {d e : ℕ} {ts us : List Ty} {cs : List ℕ} {vs : List Value} → Builds a d ts e us → Deep d cs → Stack ts vs → Deep e (counts_built a cs) × Stack us (values_built a vs)
-build_keeps b_enter h k = (one_more h, k)
-build_keeps b_leave (one_more h) k = (h, k)
-build_keeps b_no_expr h k = (h, (push is_perhaps_expr k))
-build_keeps b_some_expr h (push is_expr k) = (h, (push is_perhaps_expr k))
-build_keeps b_no_hedge h k = (h, (push is_perhaps_expr (push is_perhaps_expr k)))
-build_keeps b_some_when h (push is_expr k) = (h, (push is_perhaps_expr (push is_perhaps_expr k)))
-build_keeps b_some_guess h (push is_expr k) = (h, (push is_perhaps_expr (push is_perhaps_expr k)))
-build_keeps b_no_name h k = (h, (push is_perhaps_named k))
-build_keeps b_some_name h (push is_named k) = (h, (push is_perhaps_named k))
-build_keeps b_no_number h k = (h, (push is_perhaps_number k))
-build_keeps b_some_number h (push is_number k) = (h, (push is_perhaps_number k))
-build_keeps b_no_exprs h k = (h, (push is_exprs k))
-build_keeps b_one_expr h (push is_expr (push is_exprs k)) = (h, (push is_exprs k))
-build_keeps b_make_choice h (push is_expr (push is_expr (push is_place (push is_expr k)))) = (h, (push is_expr k))
-build_keeps b_make_binary h (push is_expr (push is_place (push is_expr k))) = (h, (push is_expr k))
-build_keeps b_make_not h (push is_expr (push is_place k)) = (h, (push is_expr k))
-build_keeps b_same_bit h (push is_number k) = (h, (push is_number (push is_number k)))
-build_keeps b_make_slice h (push is_number (push is_number (push is_place (push is_expr k)))) = (h, (push is_expr k))
-build_keeps b_make_literal h (push is_literal k) = (h, (push is_expr k))
-build_keeps b_make_name h (push is_named k) = (h, (push is_expr k))
-build_keeps b_make_call h (push is_exprs (push is_named k)) = (h, (push is_expr k))
-build_keeps b_make_concat h (push is_exprs (push is_place k)) = (h, (push is_expr k))
-build_keeps b_make_zext h (push is_number (push is_expr (push is_place k))) = (h, (push is_expr k))
-build_keeps b_make_sext h (push is_number (push is_expr (push is_place k))) = (h, (push is_expr k))
-build_keeps b_make_param h (push is_number (push is_named k)) = (h, (push is_param k))
-build_keeps b_no_params h k = (h, (push is_params k))
-build_keeps b_one_param h (push is_param (push is_params k)) = (h, (push is_params k))
-build_keeps b_make_reg h (push is_literal (push is_param k)) = (h, (push is_decl k))
-build_keeps b_make_file h (push is_number (push is_param k)) = (h, (push is_decl k))
-build_keeps b_make_pipe h (push is_param k) = (h, (push is_decl k))
-build_keeps b_make_result h (push is_number (push is_perhaps_named (push is_perhaps_named (push is_named (push is_param k))))) = (h, (push is_decl k))
-build_keeps b_make_hint h (push is_literal (push is_param k)) = (h, (push is_decl k))
-build_keeps b_make_sample h (push is_number (push is_param k)) = (h, (push is_decl k))
-build_keeps b_make_fn h (push is_expr (push is_number (push is_params (push is_named k)))) = (h, (push is_decl k))
-build_keeps b_no_decls h k = (h, (push is_decls k))
-build_keeps b_one_decl h (push is_decl (push is_decls k)) = (h, (push is_decls k))
-build_keeps b_make_read h (push is_perhaps_expr (push is_perhaps_expr (push is_perhaps_expr (push is_named (push is_named (push is_place k)))))) = (h, (push is_stmt k))
-build_keeps b_make_let h (push is_expr (push is_named (push is_place k))) = (h, (push is_stmt k))
-build_keeps b_make_put h (push is_expr (push is_named (push is_place k))) = (h, (push is_stmt k))
-build_keeps b_make_set h (push is_perhaps_expr (push is_expr (push is_named (push is_place k)))) = (h, (push is_stmt k))
-build_keeps b_make_aim h (push is_expr (push is_named (push is_place k))) = (h, (push is_stmt k))
-build_keeps b_no_stmts h k = (h, (push is_stmts k))
-build_keeps b_one_stmt h (push is_stmt (push is_stmts k)) = (h, (push is_stmts k))
-build_keeps b_make_block h (push is_stmts (push is_number k)) = (h, (push is_block k))
-build_keeps b_no_blocks h k = (h, (push is_blocks k))
-build_keeps b_one_block h (push is_block (push is_blocks k)) = (h, (push is_blocks k))
-build_keeps b_no_literals h k = (h, (push is_literals k))
-build_keeps b_one_literal h (push is_literal (push is_literals k)) = (h, (push is_literals k))
-build_keeps b_make_image h (push is_literals (push is_perhaps_number (push is_named k))) = (h, (push is_image k))
-build_keeps b_no_images h k = (h, (push is_images k))
-build_keeps b_one_image h (push is_image (push is_images k)) = (h, (push is_images k))
-build_keeps b_no_image_section h k = (h, (push is_perhaps_images k))
-build_keeps b_image_section h (push is_images k) = (h, (push is_perhaps_images k))
-build_keeps b_make_stall h (push is_perhaps_number (push is_number (push is_number (push is_number k)))) = (h, (push is_stall k))
-build_keeps b_no_stalls h k = (h, (push is_stalls k))
-build_keeps b_one_stall h (push is_stall (push is_stalls k)) = (h, (push is_stalls k))
-build_keeps b_no_stall_section h k = (h, (push is_perhaps_stalls k))
-build_keeps b_stall_section h (push is_stalls k) = (h, (push is_perhaps_stalls k))
-build_keeps b_make_input h (push is_perhaps_number (push is_number (push is_number (push is_literal (push is_named k))))) = (h, (push is_input k))
-build_keeps b_no_inputs h k = (h, (push is_inputs k))
-build_keeps b_one_input h (push is_input (push is_inputs k)) = (h, (push is_inputs k))
-build_keeps b_no_input_section h k = (h, (push is_perhaps_inputs k))
-build_keeps b_input_section h (push is_inputs k) = (h, (push is_perhaps_inputs k))
-build_keeps b_make_job h (push is_perhaps_inputs (push is_perhaps_stalls (push is_perhaps_images (push is_blocks (push is_decls (push is_number (push is_named k))))))) = (h, (push is_job k))
+abbrev depth_built : Step → ℕ → ℕ
+depth_built l.enter d = suc d
+depth_built l.leave (suc d) = d
+depth_built _ d = d
 
--- what a name finds and leaves
-data Names : ℕ → ℕ → List Ty → List Ty → Type 0 where
-  n_JOB : {d : ℕ} {ts : List Ty} → Names l.JOB d (ts) (a_job ∷ ts)
-  n_DECLS : {d : ℕ} {ts : List Ty} → Names l.DECLS d (a_decls ∷ ts) (a_decls ∷ ts)
-  n_DECL : {d : ℕ} {ts : List Ty} → Names l.DECL d (ts) (a_decl ∷ ts)
-  n_INDEX : {d : ℕ} {ts : List Ty} → Names l.INDEX d (ts) (a_perhaps_named ∷ ts)
-  n_ENABLE : {d : ℕ} {ts : List Ty} → Names l.ENABLE d (ts) (a_perhaps_named ∷ ts)
-  n_PAR : {d : ℕ} {ts : List Ty} → Names l.PAR d (ts) (a_param ∷ ts)
-  n_PARS : {d : ℕ} {ts : List Ty} → Names l.PARS d (a_params ∷ ts) (a_params ∷ ts)
-  n_STAGE : {d : ℕ} {ts : List Ty} → Names l.STAGE d (ts) (a_block ∷ ts)
-  n_STAGES : {d : ℕ} {ts : List Ty} → Names l.STAGES d (a_blocks ∷ ts) (a_blocks ∷ ts)
-  n_STMTS : {d : ℕ} {ts : List Ty} → Names l.STMTS d (a_stmts ∷ ts) (a_stmts ∷ ts)
-  n_STMT : {d : ℕ} {ts : List Ty} → Names l.STMT d (ts) (a_stmt ∷ ts)
-  n_BINDING : {d : ℕ} {ts : List Ty} → Names l.BINDING d (ts) (a_expr ∷ a_named ∷ ts)
-  n_ADDRESS : {d : ℕ} {ts : List Ty} → Names l.ADDRESS d (ts) (a_perhaps_expr ∷ ts)
-  n_HEDGE : {d : ℕ} {ts : List Ty} → Names l.HEDGE d (ts) (a_perhaps_expr ∷ a_perhaps_expr ∷ ts)
-  n_WHEN : {d : ℕ} {ts : List Ty} → Names l.WHEN d (ts) (a_perhaps_expr ∷ ts)
-  n_WHOLE : {d : ℕ} {ts : List Ty} → Names l.WHOLE d (ts) (a_expr ∷ ts)
-  n_IMAGE : {d : ℕ} {ts : List Ty} → Names l.IMAGE d (ts) (a_perhaps_images ∷ ts)
-  n_WORDS : {d : ℕ} {ts : List Ty} → Names l.WORDS d (a_images ∷ ts) (a_images ∷ ts)
-  n_WORD : {d : ℕ} {ts : List Ty} → Names l.WORD d (ts) (a_image ∷ ts)
-  n_NUMBERED : {d : ℕ} {ts : List Ty} → Names l.NUMBERED d (ts) (a_perhaps_number ∷ ts)
-  n_LITS : {d : ℕ} {ts : List Ty} → Names l.LITS d (a_literals ∷ ts) (a_literals ∷ ts)
-  n_STALLS : {d : ℕ} {ts : List Ty} → Names l.STALLS d (ts) (a_perhaps_stalls ∷ ts)
-  n_SPANS : {d : ℕ} {ts : List Ty} → Names l.SPANS d (a_stalls ∷ ts) (a_stalls ∷ ts)
-  n_SPAN : {d : ℕ} {ts : List Ty} → Names l.SPAN d (ts) (a_stall ∷ ts)
-  n_STEP : {d : ℕ} {ts : List Ty} → Names l.STEP d (ts) (a_perhaps_number ∷ ts)
-  n_INPUTS : {d : ℕ} {ts : List Ty} → Names l.INPUTS d (ts) (a_perhaps_inputs ∷ ts)
-  n_ENTRIES : {d : ℕ} {ts : List Ty} → Names l.ENTRIES d (a_inputs ∷ ts) (a_inputs ∷ ts)
-  n_ENTRY : {d : ℕ} {ts : List Ty} → Names l.ENTRY d (ts) (a_input ∷ ts)
-  n_EXPR : {d : ℕ} {ts : List Ty} → Names l.EXPR (suc d) (ts) (a_expr ∷ ts)
-  n_CHOICE : {d : ℕ} {ts : List Ty} → Names l.CHOICE (suc d) (a_expr ∷ ts) (a_expr ∷ ts)
-  n_CHAIN_Or : {d : ℕ} {ts : List Ty} → Names (l.CHAIN levels.Or) (suc d) (ts) (a_expr ∷ ts)
-  n_MORE_Or : {d : ℕ} {ts : List Ty} → Names (l.MORE levels.Or) (suc d) (a_expr ∷ ts) (a_expr ∷ ts)
-  n_CHAIN_Xor : {d : ℕ} {ts : List Ty} → Names (l.CHAIN levels.Xor) (suc d) (ts) (a_expr ∷ ts)
-  n_MORE_Xor : {d : ℕ} {ts : List Ty} → Names (l.MORE levels.Xor) (suc d) (a_expr ∷ ts) (a_expr ∷ ts)
-  n_CHAIN_And : {d : ℕ} {ts : List Ty} → Names (l.CHAIN levels.And) (suc d) (ts) (a_expr ∷ ts)
-  n_MORE_And : {d : ℕ} {ts : List Ty} → Names (l.MORE levels.And) (suc d) (a_expr ∷ ts) (a_expr ∷ ts)
-  n_CHAIN_Compare : {d : ℕ} {ts : List Ty} → Names (l.CHAIN levels.Compare) (suc d) (ts) (a_expr ∷ ts)
-  n_MORE_Compare : {d : ℕ} {ts : List Ty} → Names (l.MORE levels.Compare) (suc d) (a_expr ∷ ts) (a_expr ∷ ts)
-  n_CHAIN_Shift : {d : ℕ} {ts : List Ty} → Names (l.CHAIN levels.Shift) (suc d) (ts) (a_expr ∷ ts)
-  n_MORE_Shift : {d : ℕ} {ts : List Ty} → Names (l.MORE levels.Shift) (suc d) (a_expr ∷ ts) (a_expr ∷ ts)
-  n_CHAIN_Sum : {d : ℕ} {ts : List Ty} → Names (l.CHAIN levels.Sum) (suc d) (ts) (a_expr ∷ ts)
-  n_MORE_Sum : {d : ℕ} {ts : List Ty} → Names (l.MORE levels.Sum) (suc d) (a_expr ∷ ts) (a_expr ∷ ts)
-  n_CHAIN_Product : {d : ℕ} {ts : List Ty} → Names (l.CHAIN levels.Product) (suc d) (ts) (a_expr ∷ ts)
-  n_MORE_Product : {d : ℕ} {ts : List Ty} → Names (l.MORE levels.Product) (suc d) (a_expr ∷ ts) (a_expr ∷ ts)
-  n_UNARY : {d : ℕ} {ts : List Ty} → Names l.UNARY (suc d) (ts) (a_expr ∷ ts)
-  n_POST : {d : ℕ} {ts : List Ty} → Names l.POST (suc d) (ts) (a_expr ∷ ts)
-  n_SLICES : {d : ℕ} {ts : List Ty} → Names l.SLICES (suc d) (a_expr ∷ ts) (a_expr ∷ ts)
-  n_LOW : {d : ℕ} {ts : List Ty} → Names l.LOW (suc d) (a_number ∷ ts) (a_number ∷ a_number ∷ ts)
-  n_PRIM : {d : ℕ} {ts : List Ty} → Names l.PRIM (suc d) (ts) (a_expr ∷ ts)
-  n_EXTENDED : {d : ℕ} {ts : List Ty} → Names l.EXTENDED (suc d) (ts) (a_number ∷ a_expr ∷ ts)
-  n_CALL : {d : ℕ} {ts : List Ty} → Names l.CALL (suc d) (a_named ∷ ts) (a_expr ∷ ts)
-  n_EXPRS : {d : ℕ} {ts : List Ty} → Names l.EXPRS (suc (suc d)) (ts) (a_exprs ∷ ts)
-  n_PARTS : {d : ℕ} {ts : List Ty} → Names l.PARTS (suc (suc d)) (a_exprs ∷ ts) (a_exprs ∷ ts)
+-- the kinds that a token is read as, and how many counts there are then
+abbrev read_as : Way → List Ty
+read_as l.as_place = a_place ∷ []
+read_as l.as_name = a_named ∷ []
+read_as l.as_number = a_number ∷ []
+read_as l.as_literal = a_literal ∷ []
+read_as l.counts_one = a_place ∷ []
+read_as l.opens_at = a_place ∷ []
+read_as _ = []
 
--- symbols that lead to a job
-data Fits : List Sym → ℕ → List Ty → Type 0 where
-  done : Fits [] zero (a_job ∷ [])
-  token : {c : ℕ} {way : Way} {s : List Sym} {d e : ℕ} {ts us : List Ty} → Reads way d ts e us → Fits s e us → Fits (Terminal c way ∷ s) d ts
-  action : {a : Step} {s : List Sym} {d e : ℕ} {ts us : List Ty} → Builds a d ts e us → Fits s e us → Fits (Action a ∷ s) d ts
-  name : {n : ℕ} {s : List Sym} {d : ℕ} {ts us : List Ty} → Names n d ts us → Fits s d us → Fits (Nonterminal n ∷ s) d ts
+abbrev depth_read : Way → ℕ → ℕ
+depth_read l.opens (suc d) = suc (suc d)
+depth_read l.opens_at (suc d) = suc (suc d)
+depth_read l.closes (suc d) = d
+depth_read _ d = d
 
--- Each of the alternatives does what the name does.
-abbrev Each : ℕ → List Ty → List Ty → List (List Sym) → Type 0
-Each d ts us [] = Unit {0}
-Each d ts us (b ∷ bs) = ((s : List Sym) → Fits s d us → Fits (b ++ s) d ts) × Each d ts us bs
+-- for a name: how many counts there are at least, and the kinds that it finds and builds
+record Shape : Type 0 where
+  counts : ℕ
+  found : List Ty
+  built : List Ty
 
-each : {n d : ℕ} {ts us : List Ty} → Names n d ts us → Each d ts us (alternatives rules n)
-each n_JOB = ((λ s f. token r_dropped (token r_as_name (token r_dropped (token r_dropped (token r_as_number (token r_dropped (action b_no_decls (name n_DECLS (action b_no_blocks (name n_STAGE (action b_one_block (name n_STAGES (name n_IMAGE (name n_STALLS (name n_INPUTS (token r_dropped (action b_make_job f))))))))))))))))), tt)
-each n_DECLS = ((λ s f. name n_DECL (action b_one_decl (name n_DECLS f))), ((λ s f. f), tt))
-each n_DECL = (
-  (λ s f. token r_dropped (name n_PAR (token r_dropped (token r_as_literal (token r_dropped (action b_make_reg f)))))),
-  (
-    (λ s f. token r_dropped (name n_PAR (token r_dropped (token r_as_number (token r_dropped (token r_dropped (action b_make_file f))))))),
-    (
-      (λ s f. token r_dropped (name n_PAR (token r_dropped (action b_make_pipe f)))),
-      (
-        (λ s f. token r_dropped (name n_PAR (token r_dropped (token r_as_name (name n_INDEX (name n_ENABLE (token r_dropped (token r_as_number (token r_dropped (action b_make_result f)))))))))),
-        (
-          (λ s f. token r_dropped (name n_PAR (token r_dropped (token r_as_literal (token r_dropped (action b_make_hint f)))))),
-          (
-            (λ s f. token r_dropped (name n_PAR (token r_dropped (token r_as_number (token r_dropped (action b_make_sample f)))))),
-            (
-              (λ s f. token r_dropped (token r_as_name (token r_dropped (action b_no_params (name n_PAR (action b_one_param (name n_PARS (token r_dropped (token r_dropped (token r_as_number (token r_dropped (name n_WHOLE (token r_dropped (action b_make_fn f)))))))))))))),
-              tt,
-            ),
-          ),
-        ),
-      ),
-    ),
-  ),
-)
-each n_INDEX = ((λ s f. token r_dropped (token r_as_name (token r_dropped (action b_some_name f)))), ((λ s f. action b_no_name f), tt))
-each n_ENABLE = ((λ s f. token r_dropped (token r_as_name (action b_some_name f))), ((λ s f. action b_no_name f), tt))
-each n_PAR = ((λ s f. token r_as_name (token r_dropped (token r_as_number (action b_make_param f)))), tt)
-each n_PARS = ((λ s f. token r_dropped (name n_PAR (action b_one_param (name n_PARS f)))), ((λ s f. f), tt))
-each n_STAGE = ((λ s f. token r_dropped (token r_as_number (token r_dropped (action b_no_stmts (name n_STMTS (token r_dropped (action b_make_block f))))))), tt)
-each n_STAGES = ((λ s f. name n_STAGE (action b_one_block (name n_STAGES f))), ((λ s f. f), tt))
-each n_STMTS = ((λ s f. name n_STMT (action b_one_stmt (name n_STMTS f))), ((λ s f. f), tt))
-each n_STMT = (
-  (λ s f. token r_as_place (token r_as_name (token r_dropped (token r_as_name (name n_ADDRESS (name n_HEDGE (token r_dropped (action b_make_read f)))))))),
-  (
-    (λ s f. token r_as_place (name n_BINDING (token r_dropped (action b_make_let f)))),
-    (
-      (λ s f. token r_as_place (name n_BINDING (token r_dropped (action b_make_put f)))),
-      (
-        (λ s f. token r_as_place (name n_BINDING (name n_WHEN (token r_dropped (action b_make_set f))))),
-        (
-          (λ s f. token r_as_place (name n_BINDING (token r_dropped (action b_make_aim f)))),
-          tt,
-        ),
-      ),
-    ),
-  ),
-)
-each n_BINDING = ((λ s f. token r_as_name (token r_dropped (name n_WHOLE f))), tt)
-each n_ADDRESS = ((λ s f. token r_dropped (name n_WHOLE (token r_dropped (action b_some_expr f)))), ((λ s f. action b_no_expr f), tt))
-each n_HEDGE = (
-  (λ s f. token r_dropped (name n_WHOLE (action b_some_when f))),
-  (
-    (λ s f. token r_dropped (name n_WHOLE (action b_some_guess f))),
-    (
-      (λ s f. action b_no_hedge f),
-      tt,
-    ),
-  ),
-)
-each n_WHEN = ((λ s f. token r_dropped (name n_WHOLE (action b_some_expr f))), ((λ s f. action b_no_expr f), tt))
-each n_WHOLE = ((λ s f. action b_enter (name n_EXPR (action b_leave f))), tt)
-each n_IMAGE = (
-  (λ s f. token r_dropped (token r_dropped (action b_no_images (name n_WORDS (token r_dropped (action b_image_section f)))))),
-  (
-    (λ s f. action b_no_image_section f),
-    tt,
-  ),
-)
-each n_WORDS = ((λ s f. name n_WORD (action b_one_image (name n_WORDS f))), ((λ s f. f), tt))
-each n_WORD = ((λ s f. token r_as_name (name n_NUMBERED (token r_dropped (action b_no_literals (token r_as_literal (action b_one_literal (name n_LITS (token r_dropped (action b_make_image f))))))))), tt)
-each n_NUMBERED = ((λ s f. token r_dropped (token r_as_number (token r_dropped (action b_some_number f)))), ((λ s f. action b_no_number f), tt))
-each n_LITS = ((λ s f. token r_dropped (token r_as_literal (action b_one_literal (name n_LITS f)))), ((λ s f. f), tt))
-each n_STALLS = (
-  (λ s f. token r_dropped (token r_dropped (action b_no_stalls (name n_SPANS (token r_dropped (action b_stall_section f)))))),
-  (
-    (λ s f. action b_no_stall_section f),
-    tt,
-  ),
-)
-each n_SPANS = ((λ s f. name n_SPAN (action b_one_stall (name n_SPANS f))), ((λ s f. f), tt))
-each n_SPAN = ((λ s f. token r_as_number (token r_dropped (token r_as_number (token r_dropped (token r_as_number (name n_STEP (token r_dropped (action b_make_stall f)))))))), tt)
-each n_STEP = ((λ s f. token r_dropped (token r_as_number (action b_some_number f))), ((λ s f. action b_no_number f), tt))
-each n_INPUTS = (
-  (λ s f. token r_dropped (token r_dropped (action b_no_inputs (name n_ENTRIES (token r_dropped (action b_input_section f)))))),
-  (
-    (λ s f. action b_no_input_section f),
-    tt,
-  ),
-)
-each n_ENTRIES = ((λ s f. name n_ENTRY (action b_one_input (name n_ENTRIES f))), ((λ s f. f), tt))
-each n_ENTRY = ((λ s f. token r_as_name (token r_dropped (token r_as_literal (token r_dropped (token r_as_number (token r_dropped (token r_as_number (name n_STEP (token r_dropped (action b_make_input f)))))))))), tt)
-each n_EXPR = ((λ s f. name n_CHAIN_Or (name n_CHOICE f)), tt)
-each n_CHOICE = ((λ s f. token r_counts_one (name n_EXPR (token r_dropped (name n_EXPR (action b_make_choice f))))), ((λ s f. f), tt))
-each n_CHAIN_Or = ((λ s f. name n_CHAIN_Xor (name n_MORE_Or f)), tt)
-each n_MORE_Or = ((λ s f. token r_counts_one (name n_CHAIN_Xor (action b_make_binary (name n_MORE_Or f)))), ((λ s f. f), tt))
-each n_CHAIN_Xor = ((λ s f. name n_CHAIN_And (name n_MORE_Xor f)), tt)
-each n_MORE_Xor = ((λ s f. token r_counts_one (name n_CHAIN_And (action b_make_binary (name n_MORE_Xor f)))), ((λ s f. f), tt))
-each n_CHAIN_And = ((λ s f. name n_CHAIN_Compare (name n_MORE_And f)), tt)
-each n_MORE_And = ((λ s f. token r_counts_one (name n_CHAIN_Compare (action b_make_binary (name n_MORE_And f)))), ((λ s f. f), tt))
-each n_CHAIN_Compare = ((λ s f. name n_CHAIN_Shift (name n_MORE_Compare f)), tt)
-each n_MORE_Compare = (
-  (λ s f. token r_counts_one (name n_CHAIN_Shift (action b_make_binary f))),
-  (
-    (λ s f. token r_counts_one (name n_CHAIN_Shift (action b_make_binary f))),
-    (
-      (λ s f. f),
-      tt,
-    ),
-  ),
-)
-each n_CHAIN_Shift = ((λ s f. name n_CHAIN_Sum (name n_MORE_Shift f)), tt)
-each n_MORE_Shift = (
-  (λ s f. token r_counts_one (name n_CHAIN_Sum (action b_make_binary (name n_MORE_Shift f)))),
-  (
-    (λ s f. token r_counts_one (name n_CHAIN_Sum (action b_make_binary (name n_MORE_Shift f)))),
-    (
-      (λ s f. f),
-      tt,
-    ),
-  ),
-)
-each n_CHAIN_Sum = ((λ s f. name n_CHAIN_Product (name n_MORE_Sum f)), tt)
-each n_MORE_Sum = (
-  (λ s f. token r_counts_one (name n_CHAIN_Product (action b_make_binary (name n_MORE_Sum f)))),
-  (
-    (λ s f. token r_counts_one (name n_CHAIN_Product (action b_make_binary (name n_MORE_Sum f)))),
-    (
-      (λ s f. f),
-      tt,
-    ),
-  ),
-)
-each n_CHAIN_Product = ((λ s f. name n_UNARY (name n_MORE_Product f)), tt)
-each n_MORE_Product = ((λ s f. token r_counts_one (name n_UNARY (action b_make_binary (name n_MORE_Product f)))), ((λ s f. f), tt))
-each n_UNARY = ((λ s f. token r_counts_one (name n_UNARY (action b_make_not f))), ((λ s f. name n_POST f), tt))
-each n_POST = ((λ s f. name n_PRIM (name n_SLICES f)), tt)
-each n_SLICES = ((λ s f. token r_counts_one (token r_as_number (name n_LOW (token r_dropped (action b_make_slice (name n_SLICES f)))))), ((λ s f. f), tt))
-each n_LOW = ((λ s f. token r_dropped (token r_as_number f)), ((λ s f. action b_same_bit f), tt))
-each n_PRIM = (
-  (λ s f. token r_as_literal (action b_make_literal f)),
-  (
-    (λ s f. token r_as_name (name n_CALL f)),
-    (
-      (λ s f. token r_opens (name n_EXPR (token r_closes f))),
-      (
-        (λ s f. token r_opens_at (name n_EXPRS (token r_closes (action b_make_concat f)))),
-        (
-          (λ s f. token r_as_place (name n_EXTENDED (action b_make_zext f))),
-          (
-            (λ s f. token r_as_place (name n_EXTENDED (action b_make_sext f))),
-            tt,
-          ),
-        ),
-      ),
-    ),
-  ),
-)
-each n_EXTENDED = ((λ s f. token r_opens (name n_EXPR (token r_separates (token r_as_number (token r_closes f))))), tt)
-each n_CALL = ((λ s f. token r_opens (name n_EXPRS (token r_closes (action b_make_call f)))), ((λ s f. action b_make_name f), tt))
-each n_EXPRS = ((λ s f. action b_no_exprs (name n_EXPR (action b_one_expr (name n_PARTS f)))), tt)
-each n_PARTS = ((λ s f. token r_separates (name n_EXPR (action b_one_expr (name n_PARTS f)))), ((λ s f. f), tt))
+abbrev each_level : (Level → ℕ) → List ℕ
+each_level f = f levels.Or ∷ f levels.Xor ∷ f levels.And ∷ f levels.Compare ∷ f levels.Shift ∷ f levels.Sum ∷ f levels.Product ∷ []
 
-chosen : {d : ℕ} {ts us : List Ty} {s b : List Sym} {bs : List (List Sym)} → Has b bs → Each d ts us bs → Fits s d us → Fits (b ++ s) d ts
-chosen here e f = e.0 _ f
-chosen (there m) e f = chosen m e.1 f
+abbrev shape_in : List (List ℕ × Shape) → ℕ → Shape
+shape_in [] n = record { counts = 0; found = []; built = a_job ∷ [] }
+shape_in (r ∷ rs) n = cond (among n r.0) r.1 (shape_in rs n)
 
-job_state : {cs : List ℕ} {vs : List Value} {o : Bool} → Deep zero cs → Stack (a_job ∷ []) vs → o ≡ false → (j : Job) × (record { counts = cs; over = o; values = vs } ≡ at [] (l.job j ∷ []))
-job_state none (push (is_job {x = j}) empty) e = (j, ap (λ (b : Bool). record { counts = []; over = b; values = l.job j ∷ [] }) e)
+unfoldable shape : ℕ → Shape
+shape = shape_in (
+    (l.DECL ∷ [], record { counts = 0; found = []; built = a_decl ∷ [] })
+    ∷ (l.DECLS ∷ [], record { counts = 0; found = a_decls ∷ []; built = a_decls ∷ [] })
+    ∷ (l.PAR ∷ [], record { counts = 0; found = []; built = a_param ∷ [] })
+    ∷ (l.PARS ∷ [], record { counts = 0; found = a_params ∷ []; built = a_params ∷ [] })
+    ∷ (l.INDEX ∷ l.ENABLE ∷ [], record { counts = 0; found = []; built = a_perhaps_named ∷ [] })
+    ∷ (l.STAGE ∷ [], record { counts = 0; found = []; built = a_block ∷ [] })
+    ∷ (l.STAGES ∷ [], record { counts = 0; found = a_blocks ∷ []; built = a_blocks ∷ [] })
+    ∷ (l.STMT ∷ [], record { counts = 0; found = []; built = a_stmt ∷ [] })
+    ∷ (l.STMTS ∷ [], record { counts = 0; found = a_stmts ∷ []; built = a_stmts ∷ [] })
+    ∷ (l.BINDING ∷ [], record { counts = 0; found = []; built = a_expr ∷ a_named ∷ [] })
+    ∷ (l.ADDRESS ∷ l.WHEN ∷ [], record { counts = 0; found = []; built = a_perhaps_expr ∷ [] })
+    ∷ (l.HEDGE ∷ [], record { counts = 0; found = []; built = a_perhaps_expr ∷ a_perhaps_expr ∷ [] })
+    ∷ (l.WHOLE ∷ [], record { counts = 0; found = []; built = a_expr ∷ [] })
+    ∷ (l.IMAGE ∷ [], record { counts = 0; found = []; built = a_perhaps_images ∷ [] })
+    ∷ (l.WORD ∷ [], record { counts = 0; found = []; built = a_image ∷ [] })
+    ∷ (l.WORDS ∷ [], record { counts = 0; found = a_images ∷ []; built = a_images ∷ [] })
+    ∷ (l.LITS ∷ [], record { counts = 0; found = a_literals ∷ []; built = a_literals ∷ [] })
+    ∷ (l.NUMBERED ∷ l.STEP ∷ [], record { counts = 0; found = []; built = a_perhaps_number ∷ [] })
+    ∷ (l.STALLS ∷ [], record { counts = 0; found = []; built = a_perhaps_stalls ∷ [] })
+    ∷ (l.SPAN ∷ [], record { counts = 0; found = []; built = a_stall ∷ [] })
+    ∷ (l.SPANS ∷ [], record { counts = 0; found = a_stalls ∷ []; built = a_stalls ∷ [] })
+    ∷ (l.INPUTS ∷ [], record { counts = 0; found = []; built = a_perhaps_inputs ∷ [] })
+    ∷ (l.ENTRY ∷ [], record { counts = 0; found = []; built = a_input ∷ [] })
+    ∷ (l.ENTRIES ∷ [], record { counts = 0; found = a_inputs ∷ []; built = a_inputs ∷ [] })
+    ∷ (l.EXPR ∷ l.UNARY ∷ l.POST ∷ l.PRIM ∷ each_level l.CHAIN, record { counts = 1; found = []; built = a_expr ∷ [] })
+    ∷ (l.CHOICE ∷ l.SLICES ∷ each_level l.MORE, record { counts = 1; found = a_expr ∷ []; built = a_expr ∷ [] })
+    ∷ (l.LOW ∷ [], record { counts = 1; found = a_number ∷ []; built = a_number ∷ a_number ∷ [] })
+    ∷ (l.EXTENDED ∷ [], record { counts = 1; found = []; built = a_number ∷ a_expr ∷ [] })
+    ∷ (l.CALL ∷ [], record { counts = 1; found = a_named ∷ []; built = a_expr ∷ [] })
+    ∷ (l.EXPRS ∷ [], record { counts = 2; found = []; built = a_exprs ∷ [] })
+    ∷ (l.PARTS ∷ [], record { counts = 2; found = a_exprs ∷ []; built = a_exprs ∷ [] })
+    ∷ []
+    )
+
+-- A claim is an equation of what there is (how many counts, and the kinds of values) and what is wanted.
+abbrev There : Type 0
+There = ℕ × List Ty
+
+abbrev raised : ℕ → ℕ → ℕ
+raised zero d = d
+raised (suc k) d = suc (raised k d)
+
+abbrev lowered : ℕ → ℕ → ℕ
+lowered zero d = d
+lowered (suc k) zero = zero
+lowered (suc k) (suc d) = lowered k d
+
+abbrev rest : List Ty → List Ty → List Ty
+rest [] us = us
+rest (t ∷ ts) [] = []
+rest (t ∷ ts) (u ∷ us) = rest ts us
+
+-- what symbols claim that lead from d counts and the kinds ts to the goal
+abbrev claims : List Sym → ℕ → List Ty → There → List (There × There)
+claims [] d ts goal = ((d, ts), goal) ∷ []
+claims (Terminal c way ∷ s) d ts goal = claims s (depth_read way d) (read_as way ++ ts) goal
+claims (Action a ∷ s) d ts goal = let left = rest (effect a).0 ts in ((d, ts), (d, (effect a).0 ++ left)) ∷ claims s (depth_built a d) ((effect a).1 ++ left) goal
+claims (Nonterminal n ∷ s) d ts goal =
+    let left = rest (shape n).found ts in
+    ((d, ts), (raised (shape n).counts (lowered (shape n).counts d), (shape n).found ++ left)) ∷ claims s d ((shape n).built ++ left) goal
+
+abbrev Hold : List (There × There) → Type 0
+Hold cs = map (λ (c : There × There). c.0) cs ≡ map (λ (c : There × There). c.1) cs
+
+both : (c : There × There) (cs : List (There × There)) → Hold (c ∷ cs) → (c.0 ≡ c.1) × Hold cs
+both c cs h = (cc h, cc h)
+
+join : (c : There × There) (cs : List (There × There)) → c.0 ≡ c.1 → Hold cs → Hold (c ∷ cs)
+join c cs p h = cc (p, h)
+
+halves : (xs ys : List (There × There)) → Hold (xs ++ ys) → Hold xs × Hold ys
+halves [] ys h = (refl, h)
+halves (x ∷ xs) ys h = let p = both x (xs ++ ys) h in let q = halves xs ys p.1 in (join x xs p.0 q.0, q.1)
+
+follows : (b s : List Sym) (d : ℕ) (ts : List Ty) (e : ℕ) (us : List Ty) (goal : There) → Hold (claims b d ts (e, us)) → Hold (claims s e us goal) → Hold (claims (b ++ s) d ts goal)
+follows [] s d ts e us goal h k = subst (λ (x : There). Hold (claims s x.0 x.1 goal)) (sym (both ((d, ts), (e, us)) [] h).0) k
+follows (Terminal c way ∷ b) s d ts e us goal h k = follows b s (depth_read way d) (read_as way ++ ts) e us goal h k
+follows (Action a ∷ b) s d ts e us goal h k = let p = both _ _ h in join _ _ p.0 (follows b s _ _ e us goal p.1 k)
+follows (Nonterminal n ∷ b) s d ts e us goal h k = let p = both _ _ h in join _ _ p.0 (follows b s _ _ e us goal p.1 k)
+
+-- Each alternative of a name finds and builds what the name does.
+abbrev body_claims : Shape → ℕ → List Ty → List (List Sym) → List (There × There)
+body_claims h d ts [] = []
+body_claims h d ts (b ∷ bs) = claims b (raised h.counts d) (h.found ++ ts) (raised h.counts d, h.built ++ ts) ++ body_claims h d ts bs
+
+abbrev rule_claims : ℕ → List Ty → Rules Way Step → List (There × There)
+rule_claims d ts [] = []
+rule_claims d ts (r ∷ rs) = body_claims (shape r.0) d ts r.1 ++ rule_claims d ts rs
+
+abbrev Fits : Shape → ℕ → List Ty → List Sym → Type 0
+Fits h d ts b = Hold (claims b (raised h.counts d) (h.found ++ ts) (raised h.counts d, h.built ++ ts))
+
+of_body : (h : Shape) (d : ℕ) (ts : List Ty) (b : List Sym) (bs : List (List Sym)) → Has b bs → Hold (body_claims h d ts bs) → Fits h d ts b
+of_body h d ts b [] m k = elim m [ ]
+of_body h d ts b (c ∷ bs) here k = (halves (claims b (raised h.counts d) (h.found ++ ts) (raised h.counts d, h.built ++ ts)) (body_claims h d ts bs) k).0
+of_body h d ts b (c ∷ bs) (there m) k = of_body h d ts b bs m (halves (claims c (raised h.counts d) (h.found ++ ts) (raised h.counts d, h.built ++ ts)) (body_claims h d ts bs) k).1
+
+of_rule : (r : ℕ × List (List Sym)) (rs : Rules Way Step) (n d : ℕ) (ts : List Ty) (b : List Sym) (a : Bool) → (r.0 == n) ≡ a → Has b (cond a r.1 (alternatives rs n)) → Hold (body_claims (shape r.0) d ts r.1)
+    → (Has b (alternatives rs n) → Fits (shape n) d ts b) → Fits (shape n) d ts b
+of_rule r rs n d ts b true e m k f = subst (λ (i : ℕ). Fits (shape i) d ts b) (eqb-true r.0 n e) (of_body (shape r.0) d ts b r.1 m k)
+of_rule r rs n d ts b false e m k f = f m
+
+of_rules : (rs : Rules Way Step) (n d : ℕ) (ts : List Ty) (b : List Sym) → Has b (alternatives rs n) → Hold (rule_claims d ts rs) → Fits (shape n) d ts b
+of_rules [] n d ts b m k = elim m [ ]
+of_rules (r ∷ rs) n d ts b m k =
+    let p = halves (body_claims (shape r.0) d ts r.1) (rule_claims d ts rs) k in
+    of_rule r rs n d ts b (r.0 == n) refl m p.0 (λ i. of_rules rs n d ts b i p.1)
+
+all_hold : (d : ℕ) (ts : List Ty) → Hold (rule_claims d ts rules)
+unfolding shape
+all_hold d ts = refl
+
+-- how a stack is taken apart and put together
+apart : (ts us : List Ty) (e : Env (ts ++ us)) → (f : Env ts) × (g : Env us) × (values (ts ++ us) e ≡ values ts f ++ values us g)
+apart [] us e = (tt, e, refl)
+apart (t ∷ ts) us e = let r = apart ts us e.1 in ((e.0, r.0), r.1, ap (λ (v : List Value). (kind t).value e.0 ∷ v) r.2)
+
+joined : (ts us : List Ty) (f : Env ts) (g : Env us) → Stack (ts ++ us) (values ts f ++ values us g)
+joined [] us f g = (g, refl)
+joined (t ∷ ts) us f g = let r = joined ts us f.1 g in ((f.0, r.0), ap (λ (v : List Value). (kind t).value f.0 ∷ v) r.1)
+
+-- what an action and a token do to the stack and to the counts
+builds : (a : Step) (e : Env (effect a).0) (vs : List Value) → (f : Env (effect a).1) × (values_built a (values (effect a).0 e ++ vs) ≡ values (effect a).1 f ++ vs)
+builds l.enter e vs = (tt, refl)
+builds l.leave e vs = (tt, refl)
+builds l.no_hedge e vs = ((_, (_, tt)), refl)
+builds l.some_when e vs = ((_, (_, tt)), refl)
+builds l.some_guess e vs = ((_, (_, tt)), refl)
+builds l.same_bit e vs = ((_, (_, tt)), refl)
+builds _ e vs = ((_, tt), refl)
+
+built_stack : (a : Step) (us : List Ty) (vs : List Value) → Stack ((effect a).0 ++ us) vs → Stack ((effect a).1 ++ us) (values_built a vs)
+built_stack a us vs s =
+    let p = apart (effect a).0 us s.0 in
+    let q = builds a p.0 (values us p.1) in
+    let r = joined (effect a).1 us q.0 p.1 in
+    (r.0, ap (values_built a) (s.1 ∙ p.2) ∙ q.1 ∙ r.1)
+
+built_deep : (a : Step) (cs : List ℕ) → length (counts_built a cs) ≡ depth_built a (length cs)
+built_deep l.enter cs = refl
+built_deep l.leave (c ∷ cs) = refl
+built_deep _ cs = refl
+
+reads : (way : Way) (t : Lexeme) (vs : List Value) → (f : Env (read_as way)) × (values_read way t vs ≡ values (read_as way) f ++ vs)
+reads l.dropped t vs = (tt, refl)
+reads l.opens t vs = (tt, refl)
+reads l.closes t vs = (tt, refl)
+reads l.separates t vs = (tt, refl)
+reads _ t vs = ((_, tt), refl)
+
+read_stack : (way : Way) (t : Lexeme) (ts : List Ty) (vs : List Value) → Stack ts vs → Stack (read_as way ++ ts) (values_read way t vs)
+read_stack way t ts vs s =
+    let q = reads way t vs in
+    let r = joined (read_as way) ts q.0 s.0 in
+    (r.0, q.1 ∙ ap (λ (v : List Value). values (read_as way) q.0 ++ v) s.1 ∙ r.1)
+
+read_deep : (way : Way) (cs : List ℕ) → length (counts_read way cs) ≡ depth_read way (length cs)
+read_deep l.counts_one (c ∷ cs) = refl
+read_deep l.opens (c ∷ cs) = refl
+read_deep l.opens_at (c ∷ cs) = refl
+read_deep l.closes (c ∷ cs) = refl
+read_deep l.separates (b ∷ c ∷ cs) = refl
+read_deep _ cs = refl
+
+job_state : (cs : List ℕ) (vs : List Value) (o : Bool) → length cs ≡ 0 → Stack (a_job ∷ []) vs → o ≡ false → (j : Job) × (record { counts = cs; over = o; values = vs } ≡ at [] (l.job j ∷ []))
+job_state [] vs o h k e = (k.0.0, rw (e, k.1))
+job_state (c ∷ cs) vs o h k e = absurd (omega arith)
 
 -- what is accepted is a job
-accepts_job : {s : List Sym} {v w : State} {xs : List Lexeme} {o : Outcome State} {d : ℕ} {ts : List Ty} → Leads language is_over tables s v xs o → Fits s d ts → Deep d v.counts → Stack ts v.values → v.over ≡ false
-    → o ≡ Accepts w → (j : Job) × (w ≡ at [] (l.job j ∷ []))
-accepts_job {v = v} {w = w} accept done h k e is =
-    let same : w ≡ v = cc is in let r = job_state h k e in (r.0, same ∙ r.1)
-accepts_job more f h k e is = cc is
-accepts_job {xs = xs} (goes {n = n} body p rest) (name nt f) h k e is = accepts_job rest (chosen (picks_rule rules tables n _ body p) (each nt) f) h k e is
-accepts_job (take {x = x} same within rest) (token r f) h k e is = let q = read_keeps x r h k in accepts_job rest f q.0 q.1 within is
-accepts_job (make rest) (action b f) h k e is = let q = build_keeps b h k in accepts_job rest f q.0 q.1 e is
-accepts_job (wrong p) f h k e is = cc is
-accepts_job (lost p) f h k e is = cc is
-accepts_job (exceed p q) f h k e is = cc is
+abbrev end : There
+end = (0, a_job ∷ [])
+
+accepts_job : {s : List Sym} {v w : State} {xs : List Lexeme} {o : Outcome State} (ts : List Ty) → Leads language is_over tables s v xs o → Hold (claims s (length v.counts) ts end) → Stack ts v.values
+    → v.over ≡ false → o ≡ Accepts w → (j : Job) × (w ≡ at [] (l.job j ∷ []))
+accepts_job {v = v} {w = w} ts accept h k e is =
+    let same : w ≡ v = cc is in
+    let p = (both ((length v.counts, ts), end) [] h).0 in
+    let r = job_state v.counts v.values v.over (ap (λ (x : There). x.0) p) (subst (λ (x : There). Stack x.1 v.values) p k) e in
+    (r.0, same ∙ r.1)
+accepts_job {v = v} ts (goes {n = n} {s = s} body p leads) h k e is =
+    let c = both _ _ h in
+    let left = rest (shape n).found ts in
+    let d = lowered (shape n).counts (length v.counts) in
+    let b = of_rules rules n d left body (picks_rule rules tables n _ body p) (all_hold d left) in
+    let f = subst (λ (x : There). Hold (claims body x.0 x.1 (x.0, (shape n).built ++ left))) (sym c.0) b in
+    accepts_job ts leads (follows body s (length v.counts) ts (length v.counts) ((shape n).built ++ left) end f c.1) k e is
+accepts_job {v = v} ts (take {way = way} {s = s} {x = x} same within leads) h k e is =
+    let f = subst (λ (d : ℕ). Hold (claims s d (read_as way ++ ts) end)) (sym (read_deep way v.counts)) h in
+    accepts_job (read_as way ++ ts) leads f (read_stack way x ts v.values k) within is
+accepts_job {v = v} ts (make {a = a} {s = s} leads) h k e is =
+    let c = both _ _ h in
+    let left = rest (effect a).0 ts in
+    let f = subst (λ (d : ℕ). Hold (claims s d ((effect a).1 ++ left) end)) (sym (built_deep a v.counts)) c.1 in
+    accepts_job ((effect a).1 ++ left) leads f (built_stack a left v.values (subst (λ (x : There). Stack x.1 v.values) c.0 k)) e is
+accepts_job ts leads h k e is = cc is
 
 pub reads_job : {w : State} {xs : List Lexeme} → Leads language is_over tables (Nonterminal l.JOB ∷ []) (at [] []) xs (Accepts w) → (j : Job) × (w ≡ at [] (l.job j ∷ []))
-reads_job leads = accepts_job leads (name n_JOB done) none empty refl refl
+unfolding shape
+reads_job leads = accepts_job [] leads refl (tt, refl) refl refl

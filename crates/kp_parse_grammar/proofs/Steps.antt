@@ -1,11 +1,10 @@
 -- Steps of the machine, in the form in which the readers take them.
-use Rattle.std.proofs.Common.{ℕ, suc, ◌≡◌, ◌<◌, ◌≤◌, ◌+◌, nat_lt, List, [], ◌∷◌, ◌++◌, length, drop, Bool, false, refl, sym, ap, ◌∙◌, subst, arith, Result, Ok, Err, IsErrAnd, MatchResult}
+use Rattle.std.proofs.Common.{ℕ, ◌≡◌, ◌<◌, ◌≤◌, ◌+◌, nat_lt, List, [], ◌∷◌, length, drop, Bool, false, refl, sym, ap, subst, arith, Result, IsErrAnd, MatchResult}
 use Rattle.std.proofs.lemmas.{Bool.le-ltb, Result.err_from_is_err_and}
 use Rattle.kp_base.specs.declared.place.Place.{Place}
-use Rattle.kp_grammar.specs.Grammar.{Terminal, Nonterminal}
-use Rattle.kp_grammar.specs.Machine.{Outcome, Accepts, Stops, Exceeds, accept, more}
+use Rattle.kp_grammar.specs.{Grammar.Terminal, Machine.Outcome, Machine.Accepts, Machine.Stops, Machine.Exceeds, Machine.accept, Machine.more}
 use Rattle.kp_grammar.proofs.Ways.{took, exceeded}
-use Rattle.kp_parse_grammar.specs.Language.{Sym, State, Value, Way, place, dropped, as_place, counts_one, opens, opens_at, closes, separates, language, EXPRS, at, is_over}
+use Rattle.kp_parse_grammar.specs.Language.{Sym, State, Value, place, dropped, as_place, counts_one, opens, opens_at, closes, separates, language, at, is_over}
 use Rattle.kp_parse_grammar.specs.{declared.fault.Fault.Fault, Tokens.Lexeme, inner.Follow.tables, Reading.Goes, Reading.Finds, Reading.FaultIs, Reading.Faults}
 use Rattle.kp_parse_grammar.specs.declared.fault.Fault.TheVariants as faults
 

@@ -1,6 +1,6 @@
 -- The token at an index.
-use Rattle.std.proofs.Common.{ℕ, suc, ◌≡◌, ◌==◌, ◌<◌, ◌≤◌, ◌+◌, ◌-◌, List, [], ◌∷◌, length, drop, take, map, true, false, refl, sym, ap, ◌∙◌, arith}
-use Rattle.std.proofs.lemmas.{Bool.eqb-true, List.drop_more, List.drop-map}
+use Rattle.std.proofs.Common.{ℕ, ◌≡◌, ◌==◌, ◌<◌, ◌≤◌, ◌+◌, ◌-◌, List, [], ◌∷◌, length, drop, take, map, false, refl, sym, ap, ◌∙◌, eq-eqb, arith}
+use Rattle.std.proofs.lemmas.{List.drop_more, List.drop-map}
 use Rattle.std.specs.Prelude.{slice_index_or}
 use Rattle.kp_grammar.specs.{Grammar.Terminal, Machine.Stops, Machine.look, Machine.wrong}
 use Rattle.kp_grammar.proofs.Ways.{took}
@@ -27,22 +27,13 @@ lexeme_at text tokens i t h e =
     let first : drop i tokens ≡ t ∷ drop (i + 1) tokens = drop_more tokens i t h ∙ ap (λ (x : Token). x ∷ drop (i + 1) tokens) (sym e) in
     rw (spans, moved) (drop-map (lexeme_of text) i tokens ∙ ap (map (lexeme_of text)) first)
 
-class_first : (ts : List Lexeme) (t : Lexeme) (rest : List Lexeme) → ts ≡ t ∷ rest → look language ts ≡ kind_class t.kind
-class_first ts t rest h = ap (look language) h
-
-same_number : (n : ℕ) → (n == n) ≡ true
-same_number n = grind arith
-
-differ : (a b : ℕ) → false ≡ (a == b) → a ≡ b → ⊥
-differ a b h e = cc (same_number b, ap (λ (n : ℕ). n == b) e, h)
-
 -- token i isn't of the class
 pub missed : (ts : List Lexeme) (i c : ℕ) → false ≡ (class_at ts i == c) → (way : Way) (s : List Sym) (v : State) → Goes (Terminal c way ∷ s) v (drop i ts) (Stops (length (drop i ts)))
-missed ts i c h way s v = wrong (λ e. differ (class_at ts i) c h e)
+missed ts i c h way s v = wrong (λ e. cc (eq-eqb (class_at ts i) c e, h))
 
 pub missed_kind : (ts : List Lexeme) (i c : ℕ) (t : Lexeme) (rest : List Lexeme) → drop i ts ≡ t ∷ rest → false ≡ (kind_class t.kind == c)
     → (way : Way) (s : List Sym) (v : State) → Goes (Terminal c way ∷ s) v (drop i ts) (Stops (length (drop i ts)))
-missed_kind ts i c t rest h e = missed ts i c (e ∙ ap (λ (k : ℕ). k == c) (sym (class_first (drop i ts) t rest h)))
+missed_kind ts i c t rest h e = missed ts i c (e ∙ ap (λ (k : ℕ). k == c) (sym (ap (look language) h)))
 
 pub missed_end : (ts : List Lexeme) (i c : ℕ) → drop i ts ≡ [] → false ≡ (0 == c)
     → (way : Way) (s : List Sym) (v : State) → Goes (Terminal c way ∷ s) v (drop i ts) (Stops (length (drop i ts)))
@@ -91,6 +82,3 @@ no_literal (kinds.Literal l) h = absurd (h l refl)
 no_literal (kinds.Keyword keywords.Machine) h = refl
 no_literal (kinds.Mark marks.Semicolon) h = refl
 no_literal _ h = refl
-
-pub is_identifier : (k : TokenKind) → true ≡ (kind_class k == IDENTIFIER) → kind_class k ≡ IDENTIFIER
-is_identifier k h = eqb-true (kind_class k) IDENTIFIER (sym h)

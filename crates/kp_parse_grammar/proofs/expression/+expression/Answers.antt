@@ -4,10 +4,9 @@ use Rattle.kp_grammar.specs.Machine.{make, goes}
 use Rattle.kp_parse_grammar.proofs.Steps.{by_dropped, by_placed, by_closed, by_separated, by_counted, by_opened, by_opened_at, over_counted, over_opened, over_opened_at, one, exits, exceeds}
 use Rattle.kp_parse_grammar.proofs.Operators.{chain_start, more_start, more_none, operators_go_on, compare_ends, post_reads}
 use Rattle.kp_parse_grammar.proofs.Picks.{goes_past, goes_at, other}
-use Rattle.kp_parse_grammar.specs.Tokens.{mark_class, IDENTIFIER, keyword_class}
+use Rattle.kp_parse_grammar.specs.Tokens.{mark_class}
 use Rattle.kp_lex.specs.declared.token.Mark.TheVariants as marks
 use Rattle.kp_parse_grammar.proofs.expression.+expression.Goals as goal
-use Rattle.kp_lex.specs.declared.token.Keyword.TheVariants as keywords
 
 pub expression-returns-in_err-test : goal.expression-returns-in_err-test
 expression-returns-in_err-test t c = exits _ _ _ c.from_residual.ensures.1 c.in_err-test.ensures (λ o h s cs vs. goes _ refl (h _ _ _))
@@ -152,52 +151,50 @@ post-returns t c = record {
 }
 
 pub bracket-returns-in_err-_open : goal.bracket-returns-in_err-_open
-bracket-returns-in_err-_open t c =
-    exits _ _ _ c.from_residual.ensures.1 c.in_err-_open.ensures (λ o h s cs vs. goes_at (mark_class marks.OpenParenthesis) c.requires.first refl (h _ _ _))
+bracket-returns-in_err-_open t c = exits _ _ _ c.from_residual.ensures.1 c.in_err-_open.ensures (λ o h s cs vs. goes_at _ c.requires.first refl (h _ _ _))
 
 pub bracket-returns-in_err-deeper : goal.bracket-returns-in_err-deeper
 bracket-returns-in_err-deeper t c =
-    exceeds _ _ _ _ c.from_residual-in_err-deeper.ensures.1 c.in_err-deeper.ensures (λ s cs vs. goes_at (mark_class marks.OpenParenthesis) c.requires.first refl (over_opened c.in_ok-_open.ensures c.in_err-deeper.ensures.1))
+    exceeds _ _ _ _ c.from_residual-in_err-deeper.ensures.1 c.in_err-deeper.ensures (λ s cs vs. goes_at _ c.requires.first refl (over_opened c.in_ok-_open.ensures c.in_err-deeper.ensures.1))
 
 pub bracket-returns-in_err-inner : goal.bracket-returns-in_err-inner
 bracket-returns-in_err-inner t c =
-    exits _ _ _ c.from_residual-in_err-inner.ensures.1 c.in_err-inner.ensures (λ o h s cs vs. goes_at (mark_class marks.OpenParenthesis) c.requires.first refl (by_opened c.in_ok-_open.ensures c.in_ok-deeper.ensures (h _ _ _)))
+    exits _ _ _ c.from_residual-in_err-inner.ensures.1 c.in_err-inner.ensures (λ o h s cs vs. goes_at _ c.requires.first refl (by_opened c.in_ok-_open.ensures c.in_ok-deeper.ensures (h _ _ _)))
 
 pub bracket-returns-in_err-_close : goal.bracket-returns-in_err-_close
 bracket-returns-in_err-_close t c =
-    exits _ _ _ c.from_residual-in_err-_close.ensures.1 c.in_err-_close.ensures (λ o h s cs vs. goes_at (mark_class marks.OpenParenthesis) c.requires.first refl (by_opened c.in_ok-_open.ensures c.in_ok-deeper.ensures (c.in_ok-inner.ensures.leads _ _ _ _ (h _ _ _))))
+    exits _ _ _ c.from_residual-in_err-_close.ensures.1 c.in_err-_close.ensures (λ o h s cs vs. goes_at _ c.requires.first refl (by_opened c.in_ok-_open.ensures c.in_ok-deeper.ensures (c.in_ok-inner.ensures.leads _ _ _ _ (h _ _ _))))
 
 pub bracket-returns : goal.bracket-returns
 bracket-returns t c = record {
-  leads = λ s cs vs o h. goes_at (mark_class marks.OpenParenthesis) c.requires.first refl (by_opened c.in_ok-_open.ensures c.in_ok-deeper.ensures (c.in_ok-inner.ensures.leads _ _ _ _ (by_closed c.in_ok-_close.ensures (h))));
+  leads = λ s cs vs o h. goes_at _ c.requires.first refl (by_opened c.in_ok-_open.ensures c.in_ok-deeper.ensures (c.in_ok-inner.ensures.leads _ _ _ _ (by_closed c.in_ok-_close.ensures (h))));
   grows = omega arith;
   limit = c.requires.limit;
   shrinks = omega (arith, one c.in_ok-_open.ensures, c.in_ok-inner.ensures.shrinks, one c.in_ok-_close.ensures);
 }
 
 pub named-returns-in_err-named : goal.named-returns-in_err-named
-named-returns-in_err-named t c =
-    exits _ _ _ c.from_residual.ensures.1 c.in_err-named.ensures (λ o h s cs vs. goes_at IDENTIFIER c.requires.first refl (h _ _ _))
+named-returns-in_err-named t c = exits _ _ _ c.from_residual.ensures.1 c.in_err-named.ensures (λ o h s cs vs. goes_at _ c.requires.first refl (h _ _ _))
 
 pub named-returns-in_err-_open : goal.named-returns-in_err-_open
 named-returns-in_err-_open t c =
-    exits _ _ _ c.from_residual-in_err-_open.ensures.1 c.in_err-_open.ensures (λ o h s cs vs. goes_at IDENTIFIER c.requires.first refl (c.in_ok-named.ensures.leads _ _ _ _ (goes_at (mark_class marks.OpenParenthesis) (cc c.is_mark.ensures) refl (h _ _ _))))
+    exits _ _ _ c.from_residual-in_err-_open.ensures.1 c.in_err-_open.ensures (λ o h s cs vs. goes_at _ c.requires.first refl (c.in_ok-named.ensures.leads _ _ _ _ (goes_at (mark_class marks.OpenParenthesis) (cc c.is_mark.ensures) refl (h _ _ _))))
 
 pub named-returns-in_err-deeper : goal.named-returns-in_err-deeper
 named-returns-in_err-deeper t c =
-    exceeds _ _ _ _ c.from_residual-in_err-deeper.ensures.1 c.in_err-deeper.ensures (λ s cs vs. goes_at IDENTIFIER c.requires.first refl (c.in_ok-named.ensures.leads _ _ _ _ (goes_at (mark_class marks.OpenParenthesis) (cc c.is_mark.ensures) refl (over_opened c.in_ok-_open.ensures c.in_err-deeper.ensures.1))))
+    exceeds _ _ _ _ c.from_residual-in_err-deeper.ensures.1 c.in_err-deeper.ensures (λ s cs vs. goes_at _ c.requires.first refl (c.in_ok-named.ensures.leads _ _ _ _ (goes_at (mark_class marks.OpenParenthesis) (cc c.is_mark.ensures) refl (over_opened c.in_ok-_open.ensures c.in_err-deeper.ensures.1))))
 
 pub named-returns-in_err-args : goal.named-returns-in_err-args
 named-returns-in_err-args t c =
-    exits _ _ _ c.from_residual-in_err-args.ensures.1 c.in_err-args.ensures (λ o h s cs vs. goes_at IDENTIFIER c.requires.first refl (c.in_ok-named.ensures.leads _ _ _ _ (goes_at (mark_class marks.OpenParenthesis) (cc c.is_mark.ensures) refl (by_opened c.in_ok-_open.ensures c.in_ok-deeper.ensures (h _ _ _ _ c.in_ok-deeper.ensures.1)))))
+    exits _ _ _ c.from_residual-in_err-args.ensures.1 c.in_err-args.ensures (λ o h s cs vs. goes_at _ c.requires.first refl (c.in_ok-named.ensures.leads _ _ _ _ (goes_at (mark_class marks.OpenParenthesis) (cc c.is_mark.ensures) refl (by_opened c.in_ok-_open.ensures c.in_ok-deeper.ensures (h _ _ _ _ c.in_ok-deeper.ensures.1)))))
 
 pub named-returns-in_err-_close : goal.named-returns-in_err-_close
 named-returns-in_err-_close t c =
-    exits _ _ _ c.from_residual-in_err-_close.ensures.1 c.in_err-_close.ensures (λ o h s cs vs. goes_at IDENTIFIER c.requires.first refl (c.in_ok-named.ensures.leads _ _ _ _ (goes_at (mark_class marks.OpenParenthesis) (cc c.is_mark.ensures) refl (by_opened c.in_ok-_open.ensures c.in_ok-deeper.ensures (c.in_ok-args.ensures.leads _ _ _ _ _ c.in_ok-deeper.ensures.1 (λ f. (h _ _ _)))))))
+    exits _ _ _ c.from_residual-in_err-_close.ensures.1 c.in_err-_close.ensures (λ o h s cs vs. goes_at _ c.requires.first refl (c.in_ok-named.ensures.leads _ _ _ _ (goes_at (mark_class marks.OpenParenthesis) (cc c.is_mark.ensures) refl (by_opened c.in_ok-_open.ensures c.in_ok-deeper.ensures (c.in_ok-args.ensures.leads _ _ _ _ _ c.in_ok-deeper.ensures.1 (λ f. (h _ _ _)))))))
 
 pub named-returns-then-not-is_mark : goal.named-returns-then-not-is_mark
 named-returns-then-not-is_mark t c = record {
-  leads = λ s cs vs o h. goes_at IDENTIFIER c.requires.first refl (c.in_ok-named.ensures.leads _ _ _ _ (goes_past (mark_class marks.OpenParenthesis) _ _ (cc c.is_mark.ensures) refl (make h)));
+  leads = λ s cs vs o h. goes_at _ c.requires.first refl (c.in_ok-named.ensures.leads _ _ _ _ (goes_past (mark_class marks.OpenParenthesis) _ _ (cc c.is_mark.ensures) refl (make h)));
   grows = omega arith;
   limit = c.requires.limit;
   shrinks = c.in_ok-named.ensures.shrinks;
@@ -205,31 +202,30 @@ named-returns-then-not-is_mark t c = record {
 
 pub named-returns : goal.named-returns
 named-returns t c = rw (c.new.ensures) (record {
-  leads = λ s cs vs o h. goes_at IDENTIFIER c.requires.first refl (c.in_ok-named.ensures.leads _ _ _ _ (goes_at (mark_class marks.OpenParenthesis) (cc c.is_mark.ensures) refl (by_opened c.in_ok-_open.ensures c.in_ok-deeper.ensures (c.in_ok-args.ensures.leads _ _ _ _ _ c.in_ok-deeper.ensures.1 (λ f. (by_closed c.in_ok-_close.ensures (make (h))))))));
+  leads = λ s cs vs o h. goes_at _ c.requires.first refl (c.in_ok-named.ensures.leads _ _ _ _ (goes_at (mark_class marks.OpenParenthesis) (cc c.is_mark.ensures) refl (by_opened c.in_ok-_open.ensures c.in_ok-deeper.ensures (c.in_ok-args.ensures.leads _ _ _ _ _ c.in_ok-deeper.ensures.1 (λ f. (by_closed c.in_ok-_close.ensures (make (h))))))));
   grows = omega arith;
   limit = c.requires.limit;
   shrinks = omega (arith, c.in_ok-named.ensures.shrinks, one c.in_ok-_open.ensures, c.in_ok-args.ensures.shrinks, one c.in_ok-_close.ensures);
 })
 
 pub concatenation-returns-in_err-place : goal.concatenation-returns-in_err-place
-concatenation-returns-in_err-place t c =
-    exits _ _ _ c.from_residual.ensures.1 c.in_err-place.ensures (λ o h s cs vs. goes_at (mark_class marks.OpenBrace) c.requires.first refl (h _ _ _))
+concatenation-returns-in_err-place t c = exits _ _ _ c.from_residual.ensures.1 c.in_err-place.ensures (λ o h s cs vs. goes_at _ c.requires.first refl (h _ _ _))
 
 pub concatenation-returns-in_err-deeper : goal.concatenation-returns-in_err-deeper
 concatenation-returns-in_err-deeper t c =
-    exceeds _ _ _ _ c.from_residual-in_err-deeper.ensures.1 c.in_err-deeper.ensures (λ s cs vs. goes_at (mark_class marks.OpenBrace) c.requires.first refl (over_opened_at c.in_ok-place.ensures c.in_err-deeper.ensures.1))
+    exceeds _ _ _ _ c.from_residual-in_err-deeper.ensures.1 c.in_err-deeper.ensures (λ s cs vs. goes_at _ c.requires.first refl (over_opened_at c.in_ok-place.ensures c.in_err-deeper.ensures.1))
 
 pub concatenation-returns-in_err-parts : goal.concatenation-returns-in_err-parts
 concatenation-returns-in_err-parts t c =
-    exits _ _ _ c.from_residual-in_err-parts.ensures.1 c.in_err-parts.ensures (λ o h s cs vs. goes_at (mark_class marks.OpenBrace) c.requires.first refl (by_opened_at c.in_ok-place.ensures c.in_ok-deeper.ensures (h _ _ _ _ c.in_ok-deeper.ensures.1)))
+    exits _ _ _ c.from_residual-in_err-parts.ensures.1 c.in_err-parts.ensures (λ o h s cs vs. goes_at _ c.requires.first refl (by_opened_at c.in_ok-place.ensures c.in_ok-deeper.ensures (h _ _ _ _ c.in_ok-deeper.ensures.1)))
 
 pub concatenation-returns-in_err-_close : goal.concatenation-returns-in_err-_close
 concatenation-returns-in_err-_close t c =
-    exits _ _ _ c.from_residual-in_err-_close.ensures.1 c.in_err-_close.ensures (λ o h s cs vs. goes_at (mark_class marks.OpenBrace) c.requires.first refl (by_opened_at c.in_ok-place.ensures c.in_ok-deeper.ensures (c.in_ok-parts.ensures.leads _ _ _ _ _ c.in_ok-deeper.ensures.1 (λ f. (h _ _ _)))))
+    exits _ _ _ c.from_residual-in_err-_close.ensures.1 c.in_err-_close.ensures (λ o h s cs vs. goes_at _ c.requires.first refl (by_opened_at c.in_ok-place.ensures c.in_ok-deeper.ensures (c.in_ok-parts.ensures.leads _ _ _ _ _ c.in_ok-deeper.ensures.1 (λ f. (h _ _ _)))))
 
 pub concatenation-returns : goal.concatenation-returns
 concatenation-returns t c = rw (c.joined.ensures) (record {
-  leads = λ s cs vs o h. goes_at (mark_class marks.OpenBrace) c.requires.first refl (by_opened_at c.in_ok-place.ensures c.in_ok-deeper.ensures (c.in_ok-parts.ensures.leads _ _ _ _ _ c.in_ok-deeper.ensures.1 (λ f. (by_closed c.in_ok-_close.ensures (make (h))))));
+  leads = λ s cs vs o h. goes_at _ c.requires.first refl (by_opened_at c.in_ok-place.ensures c.in_ok-deeper.ensures (c.in_ok-parts.ensures.leads _ _ _ _ _ c.in_ok-deeper.ensures.1 (λ f. (by_closed c.in_ok-_close.ensures (make (h))))));
   grows = omega arith;
   limit = c.requires.limit;
   shrinks = omega (arith, one c.in_ok-place.ensures, c.in_ok-parts.ensures.shrinks, one c.in_ok-_close.ensures);
@@ -265,16 +261,15 @@ expressions-returns t c = record {
 }
 
 pub zext-returns-in_err-place : goal.zext-returns-in_err-place
-zext-returns-in_err-place t c =
-    exits _ _ _ c.from_residual.ensures.1 c.in_err-place.ensures (λ o h s cs vs. goes_at (keyword_class keywords.Zext) c.requires.first refl (h _ _ _))
+zext-returns-in_err-place t c = exits _ _ _ c.from_residual.ensures.1 c.in_err-place.ensures (λ o h s cs vs. goes_at _ c.requires.first refl (h _ _ _))
 
 pub zext-returns-in_err-inner : goal.zext-returns-in_err-inner
 zext-returns-in_err-inner t c =
-    exits _ _ _ c.from_residual-in_err-inner.ensures.1 c.in_err-inner.ensures (λ o h s cs vs. goes_at (keyword_class keywords.Zext) c.requires.first refl (by_placed c.in_ok-place.ensures (h _ _ _)))
+    exits _ _ _ c.from_residual-in_err-inner.ensures.1 c.in_err-inner.ensures (λ o h s cs vs. goes_at _ c.requires.first refl (by_placed c.in_ok-place.ensures (h _ _ _)))
 
 pub zext-returns : goal.zext-returns
 zext-returns t c = rw (c.in_ok-made.ensures) (record {
-  leads = λ s cs vs o h. goes_at (keyword_class keywords.Zext) c.requires.first refl (by_placed c.in_ok-place.ensures (c.in_ok-inner.ensures.leads _ _ _ _ (make (h))));
+  leads = λ s cs vs o h. goes_at _ c.requires.first refl (by_placed c.in_ok-place.ensures (c.in_ok-inner.ensures.leads _ _ _ _ (make (h))));
   grows = omega arith;
   limit = c.requires.limit;
   shrinks = omega (arith, one c.in_ok-place.ensures, c.in_ok-inner.ensures.shrinks);

@@ -1,6 +1,6 @@
-use Rattle.std.proofs.Common.{refl}
+use Rattle.std.proofs.{Common.refl, lemmas.Bool.eqb-true}
 use Rattle.kp_parse_grammar.specs.Language.{as_name, at}
-use Rattle.kp_parse_grammar.proofs.Taking.{missed_end, missed_kind, is_identifier, reads_name}
+use Rattle.kp_parse_grammar.proofs.Taking.{missed_end, missed_kind, reads_name}
 use Rattle.kp_parse_grammar.proofs.tokens.Tokens.name.Goals as goal
 
 pub returns-in_default : goal.returns-in_default
@@ -10,4 +10,4 @@ pub returns-then-not-is_identifier : goal.returns-then-not-is_identifier
 returns-then-not-is_identifier c = record { ends = λ s cs vs. missed_kind c.args.self.now c.args.at 1 _ _ c.in-Some.ensures.token (cc c.is_identifier.ensures) as_name s (at cs vs) }
 
 pub returns : goal.returns
-returns c = rw c.in_ok-name.ensures (reads_name c.args.self.now c.args.at c.in-Some.next _ c.in-Some.ensures.token (is_identifier c.in-Some.token.kind (cc c.is_identifier.ensures)))
+returns c = rw c.in_ok-name.ensures (reads_name c.args.self.now c.args.at c.in-Some.next _ c.in-Some.ensures.token (eqb-true _ _ (cc c.is_identifier.ensures)))
