@@ -2,19 +2,16 @@ use Rattle.std.proofs.Common.{arith, refl}
 use Rattle.kp_grammar.specs.Machine.{make}
 use Rattle.kp_vread_parse.proofs.{Steps.exits, Picks.goes_at}
 use Rattle.kp_vread_parse.proofs.items.integer.Goals as goal
-use Rattle.kp_vlog.specs.Language.{keyword_class}
-use Rattle.kp_vlog.specs.declared.token.Keyword.TheVariants as keywords
 
 pub returns-in_err-next : goal.returns-in_err-next
-returns-in_err-next c =
-    exits _ _ _ c.from_residual.ensures.1 c.in_err-next.ensures (λ o h s vs. goes_at (keyword_class keywords.Integer) c.requires refl (h _ _))
+returns-in_err-next c = exits _ _ _ c.from_residual.ensures.1 c.in_err-next.ensures (λ o h s vs. goes_at _ c.requires refl (h _ _))
 
 pub returns-in_err-name : goal.returns-in_err-name
 returns-in_err-name c =
-    exits _ _ _ c.from_residual-in_err-name.ensures.1 c.in_err-name.ensures (λ o h s vs. goes_at (keyword_class keywords.Integer) c.requires refl (c.in_ok-next.ensures.leads _ _ _ (h _ _)))
+    exits _ _ _ c.from_residual-in_err-name.ensures.1 c.in_err-name.ensures (λ o h s vs. goes_at _ c.requires refl (c.in_ok-next.ensures.leads _ _ _ (h _ _)))
 
 pub returns : goal.returns
 returns c = record {
-  leads = λ s vs o h. goes_at (keyword_class keywords.Integer) c.requires refl (c.in_ok-next.ensures.leads _ _ _ (c.in_ok-name.ensures.leads _ _ _ (make (h))));
+  leads = λ s vs o h. goes_at _ c.requires refl (c.in_ok-next.ensures.leads _ _ _ (c.in_ok-name.ensures.leads _ _ _ (make (h))));
   shrinks = omega (arith, c.in_ok-next.ensures.shrinks, c.in_ok-name.ensures.shrinks);
 }

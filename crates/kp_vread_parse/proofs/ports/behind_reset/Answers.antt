@@ -2,21 +2,20 @@ use Rattle.std.proofs.Common.{arith, refl}
 use Rattle.kp_grammar.specs.Machine.{make}
 use Rattle.kp_vread_parse.proofs.{Steps.exits, Picks.goes_at}
 use Rattle.kp_vread_parse.proofs.ports.behind_reset.Goals as goal
-use Rattle.kp_vlog.specs.Language.{IDENTIFIER}
 
 pub returns-in_err-reset : goal.returns-in_err-reset
-returns-in_err-reset c = exits _ _ _ c.from_residual.ensures.1 c.in_err-reset.ensures (λ o h s vs. goes_at IDENTIFIER c.requires refl (h _ _))
+returns-in_err-reset c = exits _ _ _ c.from_residual.ensures.1 c.in_err-reset.ensures (λ o h s vs. goes_at _ c.requires refl (h _ _))
 
 pub returns-in_err-next : goal.returns-in_err-next
 returns-in_err-next c =
-    exits _ _ _ c.from_residual-in_err-next.ensures.1 c.in_err-next.ensures (λ o h s vs. goes_at IDENTIFIER c.requires refl (c.in_ok-reset.ensures.leads _ _ _ (make (h _ _))))
+    exits _ _ _ c.from_residual-in_err-next.ensures.1 c.in_err-next.ensures (λ o h s vs. goes_at _ c.requires refl (c.in_ok-reset.ensures.leads _ _ _ (make (h _ _))))
 
 pub returns-in_err-ext : goal.returns-in_err-ext
 returns-in_err-ext c =
-    exits _ _ _ c.from_residual-in_err-ext.ensures.1 c.in_err-ext.ensures (λ o h s vs. goes_at IDENTIFIER c.requires refl (c.in_ok-reset.ensures.leads _ _ _ (make (c.in_ok-next.ensures.leads _ _ _ (h _ _)))))
+    exits _ _ _ c.from_residual-in_err-ext.ensures.1 c.in_err-ext.ensures (λ o h s vs. goes_at _ c.requires refl (c.in_ok-reset.ensures.leads _ _ _ (make (c.in_ok-next.ensures.leads _ _ _ (h _ _)))))
 
 pub returns : goal.returns
 returns c = record {
-  leads = λ s vs o h. goes_at IDENTIFIER c.requires refl (c.in_ok-reset.ensures.leads _ _ _ (make (c.in_ok-next.ensures.leads _ _ _ (c.in_ok-ext.ensures.leads _ _ _ (h)))));
+  leads = λ s vs o h. goes_at _ c.requires refl (c.in_ok-reset.ensures.leads _ _ _ (make (c.in_ok-next.ensures.leads _ _ _ (c.in_ok-ext.ensures.leads _ _ _ (h)))));
   shrinks = omega (arith, c.in_ok-reset.ensures.shrinks, c.in_ok-next.ensures.shrinks, c.in_ok-ext.ensures.shrinks);
 }

@@ -2,16 +2,14 @@ use Rattle.std.proofs.Common.{◌∙◌, sym, arith, refl}
 use Rattle.kp_grammar.specs.Machine.{make, goes}
 use Rattle.kp_vread_parse.proofs.{Steps.exits, Picks.goes_at, Picks.other}
 use Rattle.kp_vread_parse.proofs.ports.samples.Goals as goal
-use Rattle.kp_vlog.specs.Language.{keyword_class}
-use Rattle.kp_vlog.specs.declared.token.Keyword.TheVariants as keywords
 
 pub returns-in_err-one : goal.returns-in_err-one
 returns-in_err-one c =
-    exits _ _ _ c.from_residual.ensures.1 c.in_err-one.ensures (λ o h s vs. c.all.invariant.leads _ _ _ (goes_at (keyword_class keywords.Input) (sym c.all-test.true ∙ c.is_keyword.ensures) refl (h _ _)))
+    exits _ _ _ c.from_residual.ensures.1 c.in_err-one.ensures (λ o h s vs. c.all.invariant.leads _ _ _ (goes_at _ (sym c.all-test.true ∙ c.is_keyword.ensures) refl (h _ _)))
 
 pub all-preserved : goal.all-preserved
 all-preserved c = rw c.in_ok-push.ensures.items (record {
-  leads = λ s vs o h. c.all.invariant.leads _ _ _ (goes_at (keyword_class keywords.Input) (sym c.all-test.true ∙ c.is_keyword.ensures) refl (c.in_ok-one.ensures.leads _ _ _ (make (h))));
+  leads = λ s vs o h. c.all.invariant.leads _ _ _ (goes_at _ (sym c.all-test.true ∙ c.is_keyword.ensures) refl (c.in_ok-one.ensures.leads _ _ _ (make (h))));
   shrinks = omega (arith, c.all.invariant.shrinks, c.in_ok-one.ensures.shrinks);
 })
 
