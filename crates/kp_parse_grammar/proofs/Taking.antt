@@ -1,9 +1,7 @@
 -- The token at an index.
 use Rattle.std.proofs.Common.{ℕ, ◌≡◌, ◌==◌, ◌<◌, ◌≤◌, ◌+◌, ◌-◌, List, [], ◌∷◌, length, drop, take, map, false, refl, sym, ap, ◌∙◌, eq-eqb, arith}
-use Rattle.std.proofs.lemmas.{List.drop_more, List.drop-map}
-use Rattle.std.specs.Prelude.{slice_index_or}
-use Rattle.kp_grammar.specs.{Grammar.Terminal, Machine.Stops, Machine.look, Machine.wrong}
-use Rattle.kp_grammar.proofs.Ways.{took}
+use Rattle.std.{proofs.lemmas.List.drop_more, proofs.lemmas.List.drop-map, specs.Prelude.slice_index_or}
+use Rattle.kp_grammar.{specs.Grammar.Terminal, specs.Machine.Stops, specs.Machine.look, specs.Machine.wrong, proofs.Ways.took}
 use Rattle.kp_lex.specs.declared.token.{Token.Token, Keyword.Keyword, Mark.Mark, TokenKind.TokenKind}
 use Rattle.kp_lex.specs.declared.token.Keyword.TheVariants as keywords
 use Rattle.kp_lex.specs.declared.token.Mark.TheVariants as marks

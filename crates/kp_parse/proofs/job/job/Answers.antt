@@ -1,6 +1,5 @@
 use Rattle.std.proofs.lemmas.Result.{err_from_is_err_and}
-use Rattle.kp_parse_grammar.specs.Reading.{JobGoes}
-use Rattle.kp_parse_grammar.proofs.Steps.{mapped, accepted}
+use Rattle.kp_parse_grammar.{specs.Reading.JobGoes, proofs.Steps.mapped, proofs.Steps.accepted}
 use Rattle.kp_parse.proofs.job.job.Goals as goal
 
 pub returns-in_err-job-clause-goes : goal.returns-in_err-job-clause-goes

@@ -1,7 +1,6 @@
 use Rattle.std.proofs.Common.{arith, length-drop, refl}
 use Rattle.kp_grammar.specs.Machine.{make, goes}
-use Rattle.kp_parse_grammar.specs.Tokens.{Lexeme}
-use Rattle.kp_parse_grammar.proofs.Steps.{exits}
+use Rattle.kp_parse_grammar.{specs.Tokens.Lexeme, proofs.Steps.exits}
 use Rattle.kp_parse.proofs.job.machine.Goals as goal
 
 pub returns-in_err-name-clause-goes : goal.returns-in_err-name-clause-goes

@@ -1,7 +1,6 @@
 use Rattle.std.proofs.Common.{arith, refl}
 use Rattle.kp_grammar.specs.Machine.{make}
-use Rattle.kp_parse_grammar.proofs.{Steps.exits, Picks.goes_at, Picks.goes_past}
-use Rattle.kp_parse_grammar.specs.Tokens.{IDENTIFIER}
+use Rattle.kp_parse_grammar.{proofs.Steps.exits, proofs.Picks.goes_at, proofs.Picks.goes_past, specs.Tokens.IDENTIFIER}
 use Rattle.kp_parse.proofs.sections.entries.Goals as goal
 
 pub returns-in_err-one : goal.returns-in_err-one

@@ -1,8 +1,7 @@
 use Rattle.std.proofs.{Common.arith, Common.refl, lemmas.List.length_push}
 use Rattle.kp_ast.specs.declared.tree.Block.{Block}
 use Rattle.kp_grammar.specs.Machine.{make}
-use Rattle.kp_parse_grammar.proofs.{Steps.exits, Picks.goes_at, Picks.goes_past}
-use Rattle.kp_parse_grammar.specs.Tokens.{keyword_class}
+use Rattle.kp_parse_grammar.{proofs.Steps.exits, proofs.Picks.goes_at, proofs.Picks.goes_past, specs.Tokens.keyword_class}
 use Rattle.kp_lex.specs.declared.token.Keyword.TheVariants as keywords
 use Rattle.kp_parse.proofs.stage.stages.Goals as goal
 

@@ -3,8 +3,7 @@ use Rattle.std.proofs.Common.{arith, refl}
 use Rattle.kp_grammar.specs.Machine.{make, goes}
 use Rattle.kp_parse_grammar.proofs.Steps.{by_dropped, by_placed, by_closed, by_separated, by_counted, by_opened, by_opened_at, over_counted, over_opened, over_opened_at, one, exits, exceeds}
 use Rattle.kp_parse_grammar.proofs.Operators.{chain_start, more_start, more_none, operators_go_on, compare_ends, post_reads}
-use Rattle.kp_parse_grammar.proofs.Picks.{goes_past, goes_at, other}
-use Rattle.kp_parse_grammar.specs.Tokens.{mark_class}
+use Rattle.kp_parse_grammar.{proofs.Picks.goes_past, proofs.Picks.goes_at, proofs.Picks.other, specs.Tokens.mark_class}
 use Rattle.kp_lex.specs.declared.token.Mark.TheVariants as marks
 use Rattle.kp_parse_grammar.proofs.expression.+expression.Goals as goal
 

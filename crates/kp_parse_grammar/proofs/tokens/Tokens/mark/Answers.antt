@@ -1,5 +1,4 @@
-use Rattle.kp_parse_grammar.specs.Tokens.{mark_class}
-use Rattle.kp_parse_grammar.proofs.Taking.{mark_isnt_end, missed_end, missed_kind}
+use Rattle.kp_parse_grammar.{specs.Tokens.mark_class, proofs.Taking.mark_isnt_end, proofs.Taking.missed_end, proofs.Taking.missed_kind}
 use Rattle.kp_parse_grammar.proofs.tokens.Tokens.mark.Goals as goal
 
 pub returns-in_default : goal.returns-in_default

@@ -1,6 +1,5 @@
 use Rattle.std.proofs.{Common.refl, lemmas.Bool.eqb-true}
-use Rattle.kp_parse_grammar.specs.Language.{as_name, at}
-use Rattle.kp_parse_grammar.proofs.Taking.{missed_end, missed_kind, reads_name}
+use Rattle.kp_parse_grammar.{specs.Language.as_name, specs.Language.at, proofs.Taking.missed_end, proofs.Taking.missed_kind, proofs.Taking.reads_name}
 use Rattle.kp_parse_grammar.proofs.tokens.Tokens.name.Goals as goal
 
 pub returns-in_default : goal.returns-in_default
