@@ -1,5 +1,5 @@
 -- Steps of the machine, in the form that the readers use.
-use Rattle.std.proofs.Common.{ℕ, ◌≡◌, List, [], ◌∷◌, ◌++◌, length, drop, sym, subst, Result, Ok, Err, IsErrAnd, MatchResult}
+use Rattle.std.proofs.Common.{ℕ, ◌≡◌, List, [], ◌∷◌, length, drop, sym, subst, Result, IsErrAnd, MatchResult}
 use Rattle.std.proofs.lemmas.Result.{err_from_is_err_and}
 use Rattle.kp_grammar.specs.Machine.{Outcome, Accepts, Stops, accept, more}
 use Rattle.kp_vlog.specs.{Tokens.Token, Language.Sym, Language.Value}

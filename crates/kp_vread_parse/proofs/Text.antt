@@ -1,6 +1,6 @@
 -- What the outcome of the machine means for a text.
 use Rattle.std.proofs.Common.{ℕ, zero, suc, ◌≡◌, ◌≤◌, ◌+◌, ◌<◌, List, [], ◌∷◌, length, drop, take, map, All, refl, ap, sym, subst, ◌∙◌, arith}
-use Rattle.std.proofs.lemmas.List.{length-drop, drop_more, drop_all, drop-map, Elements.All-weaker}
+use Rattle.std.proofs.lemmas.List.{length-drop, drop_more, drop-map, Elements.All-weaker}
 use Rattle.std.specs.Prelude.{slice_index_or}
 use Rattle.kp_grammar.{specs.Grammar.IsSentence, specs.Machine.Accepts, specs.Machine.Stops, proofs.Laws.sentence, proofs.Laws.wrong_at}
 use Rattle.kp_vlog.specs.declared.token.VKind.TheVariants as kinds
