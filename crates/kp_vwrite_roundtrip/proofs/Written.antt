@@ -1,6 +1,6 @@
 -- The canonical text has the tokens of the netlist.
 use Rattle.std.proofs.Common.{◌≡◌, ℕ, zero, suc, ◌+◌, ◌-◌, ◌≤◌, ◌<◌, ◌^◌, List, [], ◌∷◌, ◌++◌, length, Bool, true, false, cond, refl, sym, subst, arith, append_assoc, get_or}
-use Rattle.std.proofs.{lemmas.List.Elements.All-head, lemmas.List.Elements.All-tail, lemmas.List.Elements.All-get_or, Math.Nat.pow-le-pow_right}
+use Rattle.std.proofs.{lemmas.List.Elements.All-head, lemmas.List.Elements.All-tail, Math.Nat.pow-le-pow_right}
 use Rattle.std.specs.Prelude.{codes, decimal, All, Option, Some, None, ◌==◌}
 use Rattle.kp_bits.specs.{Word.word, Word.IsWord, Spelling.spelling, declared.operator.BinOp.BinOp}
 use Rattle.kp_net.specs.declared.{node.NodeId.NodeId, node.Kind.Kind, node.Node.Node, netlist.Port.Port, netlist.WritePort.WritePort, netlist.NetReg.NetReg}
