@@ -1,17 +1,16 @@
 -- What the next nodes mean, arm by arm.
-use Rattle.std.proofs.Common.{◌≡◌, ◌∙◌, ℕ, suc, ◌<◌, Bool, true, false, cond, not, ◌&&◌, ◌||◌, leb, length, get_or, Option, Some, None, refl, sym, ap, subst, arith}
-use Rattle.std.proofs.lemmas.Bool.{and_from, and_parts, le-leb, leb-true}
-use Rattle.std.specs.Prelude.{nat_le, is_some, unwrap_or}
+use Rattle.std.proofs.Common.{◌≡◌, ◌∙◌, ℕ, suc, ◌<◌, Bool, true, false, cond, not, ◌&&◌, ◌||◌, leb, length, get_or, Option, Some, None, refl, sym, ap, subst}
+use Rattle.std.proofs.{Math.Bool.not-not, lemmas.Bool.and_parts}
+use Rattle.std.specs.Prelude.{nat_le, unwrap_or}
 use Rattle.kp_ast.specs.declared.tree.Job.{Job}
 use Rattle.kp_pipeline.specs.Sequential.{first_value, after_stage}
 use Rattle.kp_pipeline.specs.Pipeline.{PipelineState, Inputs, outcome, ue, stall, back, cycle, next_stage, next_hints}
-use Rattle.kp_machine.specs.{Slots.targets_of, Slots.pipes_of, Slots.hints_of, Machine.machine_of, Machine.result_for, Machine.write_stage_of}
+use Rattle.kp_machine.specs.{Slots.targets_of, Slots.pipes_of, Slots.hints_of, Machine.machine_of, Machine.result_for}
 use Rattle.kp_net.specs.{declared.node.NodeId.NodeId, Nodes.Cells, Nodes.at, Nodes.on, Growth.Held, Growth.Wire, Growth.Kept}
-use Rattle.kp_synth_tables.specs.{declared.key.Key.TheVariants.Hint, Keys.set_by, Keys.is_kept, Keys.is_stored, Keys.pipe_at, Keys.hint_at}
+use Rattle.kp_synth_tables.specs.{declared.key.Key.TheVariants.Hint, Keys.set_by, Keys.is_kept, Keys.is_stored, Keys.pipe_at}
 use Rattle.kp_synth_registers.specs.{declared.outcome.Set.Set, declared.outcome.Outcome.Outcome, Holding.kept_in, Holding.optional}
 use Rattle.kp_synth_registers.specs.Meaning.{IsTest, Gives, MayGive, Says, set_value, put_value, PutFits}
 use Rattle.kp_synth_registers.proofs.Growth.{says_kept}
-use Rattle.kp_synth_close.proofs.Bits.{not_not}
 
 pub first_is : (a b : Bool) (v w : ℕ) → optional (a || b) (cond a v w) ≡ first_value (optional a v) (optional b w)
 first_is true b v w = refl
@@ -70,7 +69,7 @@ pipes_next job st i x k = elim (ue (machine_of job) st i k) as
 pub full_is : (job : Job) (st : PipelineState) (i : Inputs) (k n : ℕ) (u s w : Bool) → n ≡ suc k → u ≡ ue (machine_of job) st i k → s ≡ stall (machine_of job) st i n
     → w ≡ not (leb (back (machine_of job) st i) n) → (not w && (u || s)) ≡ ((cycle (machine_of job) st i).stage n).full
 unfolding next_stage
-full_is job st i k n u s w e a b d = rw (a, b, d, e, not_not (leb (back (machine_of job) st i) (suc k))) refl
+full_is job st i k n u s w e a b d = rw (a, b, d, e, not-not (leb (back (machine_of job) st i) (suc k))) refl
 
 pub put_some : (job : Job) (p : Held) (k x : ℕ) (out : Outcome) (n : NodeId) → Says job p k out → x < length (pipes_of job.decls) → get_or out.puts x None ≡ Some n
     → Gives job p n (λ st i. unwrap_or ((outcome (machine_of job) st i k).puts x) ((st.stage k).instruction.pipes x))

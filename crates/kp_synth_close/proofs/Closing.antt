@@ -1,12 +1,13 @@
 -- The step of one cycle.
-use Rattle.std.proofs.Common.{◌≡◌, ◌∙◌, ℕ, zero, suc, ◌%◌, ◌^◌, ◌<◌, Bool, true, false, cond, ◌&&◌, ◌==◌, List, length, Option, Some, None, refl, sym, ap, subst, arith, ⊎_elim, eqb-true}
-use Rattle.std.proofs.{Math.Nat.mod-eq_of_lt, lemmas.Bool.cases_Bool, lemmas.Bool.cond-true, lemmas.Bool.cond-false, lemmas.Bool.and_parts}
-use Rattle.std.specs.{Prelude.is_some, List.list_any}
+use Rattle.std.proofs.Common.{◌≡◌, ◌∙◌, ℕ, zero, suc, ◌%◌, ◌^◌, ◌<◌, Bool, true, false, cond, ◌&&◌, ◌==◌, List, length, Option, Some, None, refl, sym, ap, subst, arith, eqb-true}
+use Rattle.std.{proofs.Math.Nat.mod-eq_of_lt, proofs.lemmas.Bool.cond-true, proofs.lemmas.Bool.cond-false, proofs.lemmas.Bool.and_parts, specs.Prelude.is_some}
+use Rattle.std.specs.List.{list_any}
 use Rattle.kp_ast.specs.declared.tree.Job.{Job}
 use Rattle.kp_pipeline.specs.Sequential.{PendingGuess}
 use Rattle.kp_pipeline.specs.Pipeline.{PipelineState, Inputs, ue, cycle, next_stage, next_visible, stage_zero}
 use Rattle.kp_pipeline.specs.Trimming.{trimmed, trimmed_stage}
 use Rattle.kp_machine.specs.{Slots.targets_of, Slots.pipes_of, Slots.hints_of, Slots.is_register, Slots.samples_of, Machine.machine_of, Machine.files_before}
+use Rattle.kp_machine.proofs.Cases.{by_test}
 use Rattle.kp_net.specs.{declared.node.NodeId.NodeId, declared.netlist.WritePort.WritePort, Nodes.Cells, Nodes.at, Nodes.on, Growth.Held, Growth.Wire}
 use Rattle.kp_net.proofs.Values.{at_fits}
 use Rattle.kp_synth_tables.specs.declared.key.Key.{Key}
@@ -99,11 +100,10 @@ module _ (job : Job) (p : Held) (outs : List Outcome) (nexts : ℕ → NodeId) (
 
   visible_next : (t a : ℕ) → t < length (targets_of job.decls) → a < 2 ^ (target_at job t).address → own_word job c' t a ≡ next_visible (machine_of job) st i t a
   unfolding own_word
-  visible_next t a l m = ⊎_elim
-      (λ (e : is_register (target_at job t) ≡ true). cond-true (is_register (target_at job t)) _ _ e ∙ register_next t a l e m)
-      (λ (e : is_register (target_at job t) ≡ false). cond-false (is_register (target_at job t)) _ _ e
+  visible_next t a l m = by_test (is_register (target_at job t))
+      (λ e. cond-true (is_register (target_at job t)) _ _ e ∙ register_next t a l e m)
+      (λ e. cond-false (is_register (target_at job t)) _ _ e
       ∙ word_next t a l e m (sym (cond-false (is_register (target_at job t)) (kept_in job c (Visible t)) _ e) ∙ h.visible t a l m))
-      (cases_Bool (is_register (target_at job t)))
 
   zero_next : (cycle (machine_of job) st i).stage 0 ≡ stage_zero
   unfolding next_stage

@@ -1,12 +1,12 @@
 -- The guesses that are pending after a cycle.
 use Rattle.std.proofs.Common.{◌≡◌, ◌∙◌, ℕ, zero, suc, ◌+◌, ◌<◌, ◌≤◌, Bool, true, false, cond, not, ◌&&◌, ◌||◌, ◌==◌, List, [], ◌∷◌, length, get_or, Option, Some, None, refl, sym, ap, arith, ⊎_elim, eqb-true}
-use Rattle.std.proofs.lemmas.{Bool.cases_Bool, Bool.eq-eqb, Bool.ne_eqb, Bool.cases_lt, Bool.le-ltb, Bool.lt-ltb, Bool.eqb-false, List.Folds.list_any-append}
-use Rattle.std.specs.{Prelude.nat_lt, Prelude.slice_get, List.list_any, List.filter}
+use Rattle.std.proofs.lemmas.{Bool.eq-eqb, Bool.ne_eqb, Bool.cases_lt, Bool.le-ltb, Bool.lt-ltb, Bool.eqb-false, List.Folds.list_any-append}
+use Rattle.std.{proofs.Math.Bool.or-false, proofs.Math.Bool.and-false, specs.Prelude.nat_lt, specs.Prelude.slice_get, specs.List.list_any, specs.List.filter}
 use Rattle.kp_ast.specs.declared.tree.{Expr.Expr, ReadStmt.ReadStmt, Stmt.Stmt, StmtKind.StmtKind, Block.Block, Job.Job}
 use Rattle.kp_ast.specs.declared.tree.StmtKind.TheVariants as stmts
 use Rattle.kp_stage.specs.Facts.{stmts_in}
 use Rattle.kp_pipeline.specs.Sequential.{PendingGuess}
-use Rattle.kp_machine.specs.Machine.{machine_of, result_for, write_stage_of}
+use Rattle.kp_machine.{specs.Machine.machine_of, specs.Machine.result_for, specs.Machine.write_stage_of, proofs.Cases.by_test}
 use Rattle.kp_net.specs.{Nodes.Cells, Nodes.at, Nodes.on, Growth.Held}
 use Rattle.kp_synth_registers.specs.{declared.outcome.Made.Made, declared.outcome.Outcome.Outcome, Holding.some_of, Holding.pending_guess}
 use Rattle.kp_synth_registers.specs.Meaning.{guesses_at, made_values, guess_value, MadeFit}
@@ -43,10 +43,9 @@ some_any f g (s ∷ ss) = ap (λ b. f s || b) (some_any f (suc g) ss)
 
 pub any_filter : {A : Type 0} (keep test : A → Bool) (xs : List A) → list_any test (filter keep xs) ≡ list_any (λ x. keep x && test x) xs
 any_filter keep test [] = refl
-any_filter keep test (x ∷ xs) = ⊎_elim
-    (λ (b : keep x ≡ true). rw b (ap (λ y. test x || y) (any_filter keep test xs)))
-    (λ (b : keep x ≡ false). rw b (any_filter keep test xs))
-    (cases_Bool (keep x))
+any_filter keep test (x ∷ xs) = by_test (keep x)
+    (λ b. rw b (ap (λ y. test x || y) (any_filter keep test xs)))
+    (λ b. rw b (any_filter keep test xs))
 
 -- The guessed reads of a stage have its number, and are numbered in it.
 pub record IsSlot (job : Job) (k i : ℕ) (s : GuessSlot) : Type 0 where
@@ -107,17 +106,13 @@ made_past job p outs c k test b (x ∷ xs) l =
     list_any-append (made_passes p outs c k test) (guesses_in job b 0 x.stmts) (guesses_from job (suc b) xs)
     ∙ rw (elsewhere job p outs c k test b 0 (guesses_in job b 0 x.stmts) (λ e. absurd (omega arith)) (numbered job b 0 x.stmts), made_past job p outs c k test (suc b) xs (omega arith)) refl
 
-or_false : (a : Bool) → (a || false) ≡ a
-or_false true = refl
-or_false false = refl
-
 made_here : (job : Job) (p : Held) (outs : List Outcome) (c : Cells) (k : ℕ) (test : PendingGuess → Bool) (b d : ℕ) (bs : List Block)
     → k ≡ b + d → list_any (made_passes p outs c k test) (guesses_from job b bs) ≡ list_any (made_passes p outs c k test) (guesses_in job k 0 (stmts_in (slice_get bs d)))
 made_here job p outs c k test b d [] e = refl
 made_here job p outs c k test b zero (x ∷ xs) e =
     let f : b ≡ k = omega arith in
     list_any-append (made_passes p outs c k test) (guesses_in job b 0 x.stmts) (guesses_from job (suc b) xs)
-    ∙ rw (made_past job p outs c k test (suc b) xs (omega arith)) (or_false _)
+    ∙ rw (made_past job p outs c k test (suc b) xs (omega arith)) (or-false _)
     ∙ ap (λ y. list_any (made_passes p outs c k test) (guesses_in job y 0 x.stmts)) f
 made_here job p outs c k test b (suc d) (x ∷ xs) e =
     list_any-append (made_passes p outs c k test) (guesses_in job b 0 x.stmts) (guesses_from job (suc b) xs)
@@ -139,16 +134,12 @@ made_among job p outs c k test fit =
 abbrev pub Moving : Bool → Bool → Bool → Bool → Type 0
 Moving a b e q = (e ≡ true → (a ≡ true) × (b ≡ false) × (q ≡ false)) × (e ≡ false → a ≡ (b && not q))
 
-and_no : (a b : Bool) → (a && (false && b)) ≡ false
-and_no true b = refl
-and_no false b = refl
-
 pub moving : (a b e q x y mx my ox oy : Bool) → Moving a b e q → (a ≡ true → x ≡ cond e mx ox) → (a ≡ true → y ≡ cond e my oy)
     → (a && (x && y)) ≡ ((e && (mx && (not q && my))) || (b && (ox && (not q && oy))))
 moving a b true q x y mx my ox oy h f g =
     let p = h.0 refl in
-    rw (f p.0, g p.0, p.0, p.1, p.2) (sym (or_false (mx && my)))
-moving a true false true x y mx my ox oy h f g = rw (h.1 refl) (sym (and_no ox oy))
+    rw (f p.0, g p.0, p.0, p.1, p.2) (sym (or-false (mx && my)))
+moving a true false true x y mx my ox oy h f g = rw (h.1 refl) (sym (and-false ox))
 moving a true false false x y mx my ox oy h f g = let p = h.1 refl in rw (f p, g p, p) refl
 moving a false false q x y mx my ox oy h f g = rw (h.1 refl) refl
 

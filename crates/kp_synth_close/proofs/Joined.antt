@@ -1,13 +1,12 @@
 -- The bits of a word that is joined of single bits.
 use Rattle.std.proofs.Common.{◌≡◌, ◌∙◌, ℕ, zero, suc, ◌+◌, ◌*◌, ◌/◌, ◌%◌, ◌^◌, ◌<◌, ◌==◌, List, [], ◌∷◌, fold, map, length, get_or, refl, sym, ap, subst, arith}
-use Rattle.std.proofs.{Math.Nat.pow-succ', Math.Nat.div-div-eq-div-mul, lemmas.List.get_or-map, lemmas.List.length-map, lemmas.List.Sums.sum_by-cons}
-use Rattle.std.specs.List.{sum_by, All}
+use Rattle.std.proofs.{Math.Nat.pow-succ', Math.Nat.div-div-eq-div-mul, lemmas.List.get_or-map, lemmas.List.length-map, lemmas.List.get_or_default}
+use Rattle.std.{proofs.lemmas.List.Sums.sum_by-cons, specs.List.sum_by, specs.List.All}
 use Rattle.kp_bits.specs.Word as bits
 use Rattle.kp_bits.specs.{Word.word, Word.concat_of, Operators.joined_of, Operators.no_word}
 use Rattle.kp_net.specs.{declared.node.NodeId.NodeId, Nodes.Cells, Nodes.word_at, Nodes.at, Nodes.on, Widths.wide, Growth.Held, Growth.Wire}
 use Rattle.kp_net.proofs.Values.{at_fits, word_wide}
 use Rattle.kp_synth_registers.specs.{Holding.word_bit, Meaning.node_at}
-use Rattle.kp_synth_close.proofs.Bits.{get_any}
 
 -- a word with one more bit at its low end
 low_bit : (a r : ℕ) → r < 2 → (a * 2 + r) % 2 ≡ r
@@ -74,7 +73,7 @@ module _ (p : Held) where
       sum_by-cons (λ (x : NodeId). wide p.nodes x.0) a rest ∙ omega (arith, w, r)
 
   pub all_inside : (parts : List NodeId) → AreOnes parts → All (λ (a : NodeId). a.0 < length p.nodes) parts
-  all_inside parts h = λ i d l. subst (λ (a : NodeId). a.0 < length p.nodes) (get_any parts i (record { 0 = 0 }) d l) (h i l).inside
+  all_inside parts h = λ i d l. subst (λ (a : NodeId). a.0 < length p.nodes) (get_or_default parts i (record { 0 = 0 }) d l) (h i l).inside
 
   pub are_bits : (c : Cells) (parts : List NodeId) → AreOnes parts → AreBits (map (λ (a : NodeId). word_at c p.nodes a.0) parts)
   unfolding word_at at

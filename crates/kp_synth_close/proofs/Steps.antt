@@ -1,14 +1,15 @@
 -- Cells that hold the state hold the next state after a cycle.
-use Rattle.std.proofs.Common.{◌≡◌, ◌∙◌, ℕ, zero, suc, ◌<◌, Bool, true, false, cond, not, ◌&&◌, ◌||◌, ◌==◌, List, [], ◌∷◌, ◌++◌, length, get_or, refl, sym, ap, subst, arith, ⊎_elim}
-use Rattle.std.proofs.lemmas.{Bool.le-ltb, Bool.cases_Bool, Bool.cond-true, Bool.cond-false, List.Folds.list_any-append}
+use Rattle.std.proofs.Common.{◌≡◌, ◌∙◌, ℕ, zero, suc, ◌<◌, Bool, true, false, cond, not, ◌&&◌, ◌||◌, ◌==◌, List, [], ◌∷◌, ◌++◌, length, refl, sym, ap, subst, arith}
+use Rattle.std.proofs.lemmas.{Bool.le-ltb, Bool.cond-true, Bool.cond-false, List.Folds.list_any-append}
 use Rattle.std.specs.List.{list_any, filter, AllByRecursion}
 use Rattle.kp_ast.specs.declared.tree.{Block.Block, Job.Job}
 use Rattle.kp_pipeline.specs.Sequential.{PendingGuess}
 use Rattle.kp_pipeline.specs.Pipeline.{PipelineState, StageState, Inputs, ue, cycle, outcome, next_stage}
 use Rattle.kp_pipeline.proofs.Lists.{all-append}
-use Rattle.kp_machine.specs.Machine.{machine_of, result_for, write_stage_of}
+use Rattle.kp_machine.{specs.Machine.machine_of, specs.Machine.result_for, specs.Machine.write_stage_of, proofs.Cases.by_test}
 use Rattle.kp_net.specs.{Nodes.Cells, Nodes.at, Nodes.on, Growth.Held}
 use Rattle.kp_synth_tables.specs.declared.key.{Key.TheVariants.Pending, Key.TheVariants.Guess, GuessSlot.GuessSlot}
+use Rattle.kp_synth_tables.proofs.Fitting.{all_at}
 use Rattle.kp_synth_tables.specs.Keys.{no_guess, guesses_in, guesses_from, guesses_of, guess_at, is_carried}
 use Rattle.kp_synth_registers.specs.declared.outcome.Outcome.{Outcome}
 use Rattle.kp_synth_registers.specs.Holding.{Holds, kept_in, some_of, some_guess, guess_passes, pending_guess}
@@ -28,14 +29,9 @@ written_from : (job : Job) (k : ℕ) (bs : List Block) → AllWritten job (guess
 written_from job k [] = tt
 written_from job k (b ∷ bs) = all-append _ (guesses_in job k 0 b.stmts) (guesses_from job (suc k) bs) (written_in job k 0 (guesses_in job k 0 b.stmts) (numbered job k 0 b.stmts)) (written_from job (suc k) bs)
 
-written_get : (job : Job) (ss : List GuessSlot) (g : ℕ) → AllWritten job ss → g < length ss → (get_or ss g no_guess).write ≡ write_stage_of (result_for job (get_or ss g no_guess).register)
-written_get job [] g h l = absurd (omega arith)
-written_get job (s ∷ ss) zero h l = h.0
-written_get job (s ∷ ss) (suc g) h l = written_get job ss g h.1 (omega arith)
-
 is_guess : (job : Job) (g : ℕ) → GuessesFit job → g < length (guesses_of job) → IsGuess job (guess_at job g)
 unfolding guesses_of
-is_guess job g fit l = record { write = written_get job (guesses_from job 0 job.blocks) g (written_from job 0 job.blocks) l; fits = fit g l }
+is_guess job g fit l = record { write = all_at _ (guesses_from job 0 job.blocks) no_guess (written_from job 0 job.blocks) g l; fits = fit g l }
 
 pub some_each : (job : Job) (f h : ℕ → GuessSlot → Bool) → ((g : ℕ) → g < length (guesses_of job) → f g (guess_at job g) ≡ h g (guess_at job g))
     → some_of f 0 (guesses_of job) ≡ some_of h 0 (guesses_of job)
@@ -46,9 +42,6 @@ some_each job f h e = some_same f h 0 (guesses_of job) (λ i n l m.
 and_same : (a b d : Bool) → (a ≡ true → b ≡ d) → (a && b) ≡ (a && d)
 and_same true b d e = e refl
 and_same false b d e = refl
-
-both_same : (a b x y : Bool) → a ≡ b → x ≡ y → (a && x) ≡ (b && y)
-both_same a b x y e f = ap (λ z. z && x) e ∙ ap (λ z. b && z) f
 
 -- WHAT THE CELLS HAVE of the guesses after a cycle.
 pub record GuessesNext (job : Job) (p : Held) (outs : List Outcome) (c c' : Cells) (u : Bool) (k : ℕ) : Type 0 where
@@ -62,8 +55,7 @@ guesses_stay : (job : Job) (p : Held) (outs : List Outcome) (c c' : Cells) (k : 
     → GuessesNext job p outs c c' false k → some_guess job c' (suc k) test ≡ some_guess job c (suc k) test
 unfolding some_guess
 guesses_stay job p outs c c' k test h = some_each job (guess_passes job c' (suc k) test) (guess_passes job c (suc k) test) (λ g l.
-    and_same (is_carried (guess_at job g) (suc k)) _ _ (λ e.
-    both_same _ _ _ _ (h.pending g l e) (ap (λ v. test (pending_guess (guess_at job g) v)) (h.value g l e))))
+    and_same (is_carried (guess_at job g) (suc k)) _ _ (λ e. λ i. h.pending g l e i && test (pending_guess (guess_at job g) (h.value g l e i))))
 
 cond_of : {A : Type 0} (f : A → Bool) (b : Bool) (x y : A) → f (cond b x y) ≡ cond b (f x) (f y)
 cond_of f true x y = refl
@@ -112,8 +104,8 @@ pub pending_next : (job : Job) (p : Held) (outs : List Outcome) (c c' : Cells) (
     → GuessesNext job p outs c c' (ue (machine_of job) st i k) k
     → some_guess job c' (suc k) test ≡ list_any test ((cycle (machine_of job) st i).stage (suc k)).pending
 unfolding next_stage
-pending_next job p outs c c' st i k test fit h l says next = ⊎_elim
-    (λ (u : ue (machine_of job) st i k ≡ true).
+pending_next job p outs c c' st i k test fit h l says next = by_test (ue (machine_of job) st i k)
+    (λ u.
     let keep : PendingGuess → Bool = λ q. not ((machine_of job).write_stage q.register == suc k) in
     let more : PendingGuess → Bool = λ q. keep q && test q in
     let n : GuessesNext job p outs c c' true k = subst (λ b. GuessesNext job p outs c c' b k) u next in
@@ -125,8 +117,7 @@ pending_next job p outs c c' st i k test fit h l says next = ⊎_elim
     ∙ sym (list_any-append more (outcome (machine_of job) st i k).guesses (st.stage k).pending)
     ∙ sym (any_filter keep test ((outcome (machine_of job) st i k).guesses ++ (st.stage k).pending))
     ∙ ap (list_any test) (sym (cond-true (ue (machine_of job) st i k) (filter keep ((outcome (machine_of job) st i k).guesses ++ (st.stage k).pending)) (st.stage (suc k)).pending u)))
-    (λ (u : ue (machine_of job) st i k ≡ false).
+    (λ u.
     let n : GuessesNext job p outs c c' false k = subst (λ b. GuessesNext job p outs c c' b k) u next in
     guesses_stay job p outs c c' k test n ∙ h.pending (suc k) (omega arith) l test
     ∙ ap (list_any test) (sym (cond-false (ue (machine_of job) st i k) (filter (λ q. not ((machine_of job).write_stage q.register == suc k)) ((outcome (machine_of job) st i k).guesses ++ (st.stage k).pending)) (st.stage (suc k)).pending u)))
-    (cases_Bool (ue (machine_of job) st i k))

@@ -1,7 +1,6 @@
 -- What the next nodes mean stays while the pool grows.
 use Rattle.std.proofs.Common.{◌≡◌, ◌∙◌, ℕ, ◌<◌, ◌≤◌, Bool, true, false, cond, ◌==◌, List, [], ◌∷◌, ◌++◌, length, length-append, get_or, Option, Some, None, refl, sym, ap, subst, arith, ⊎_elim, eqb-true}
-use Rattle.std.proofs.{lemmas.Bool.cases_Bool, lemmas.Bool.cases_lt, lemmas.List.get_or_push, Math.ListN.get_or-append}
-use Rattle.std.specs.Prelude.{is_some}
+use Rattle.std.{proofs.lemmas.Bool.cases_lt, proofs.lemmas.List.get_or_push, proofs.Math.ListN.get_or-append, specs.Prelude.is_some}
 use Rattle.kp_net.{proofs.Growing.wire_kept, specs.declared.netlist.WritePort.WritePort, specs.declared.node.NodeId.NodeId}
 use Rattle.kp_net.specs.{Nodes.Cells, Nodes.at, Nodes.on, Growth.Held, Growth.Wire, Growth.Kept}
 use Rattle.kp_synth_registers.{proofs.Growth.test_kept, proofs.Growth.gives_kept, specs.declared.outcome.Outcome.Outcome}
@@ -15,25 +14,23 @@ use Rattle.kp_synth_close.specs.Nexts.{outcome_at, made_at, leaves_pending, leav
 use Rattle.kp_synth_close.proofs.Made.{made_wires}
 use Rattle.kp_ast.specs.declared.tree.Job.{Job}
 use Rattle.kp_pipeline.specs.Pipeline.{PipelineState, Inputs, ue, next_visible}
-use Rattle.kp_machine.specs.{Slots.targets_of, Slots.is_register, Machine.machine_of}
+use Rattle.kp_machine.{specs.Slots.targets_of, specs.Slots.is_register, specs.Machine.machine_of, proofs.Cases.by_test}
 
 pub pending_kept : (job : Job) (p q : Held) (j k g : ℕ) (outs : List Outcome) (c : Cells) → Kept p q j → g < length (guesses_of job) → Says job p k (outcome_at outs k)
     → leaves_pending job q outs c k g (guess_at job g) ≡ leaves_pending job p outs c k g (guess_at job g)
-pending_kept job p q j k g outs c a l says = ⊎_elim
-    (λ (e : ((guess_at job g).stage == k) ≡ true).
+pending_kept job p q j k g outs c a l says = by_test ((guess_at job g).stage == k)
+    (λ e.
     let w = made_wires job p outs k g (guess_at job g) refl l (eqb-true (guess_at job g).stage k e) says in
     rw e (a.tests c (made_at outs (guess_at job g)).pending.0 w.0.inside))
-    (λ (e : ((guess_at job g).stage == k) ≡ false). rw e refl)
-    (cases_Bool ((guess_at job g).stage == k))
+    (λ e. rw e refl)
 
 pub guessed_kept : (job : Job) (p q : Held) (j k g : ℕ) (outs : List Outcome) (c : Cells) → Kept p q j → g < length (guesses_of job) → Says job p k (outcome_at outs k)
     → leaves_with job q outs c k g (guess_at job g) ≡ leaves_with job p outs c k g (guess_at job g)
-guessed_kept job p q j k g outs c a l says = ⊎_elim
-    (λ (e : ((guess_at job g).stage == k) ≡ true).
+guessed_kept job p q j k g outs c a l says = by_test ((guess_at job g).stage == k)
+    (λ e.
     let w = made_wires job p outs k g (guess_at job g) refl l (eqb-true (guess_at job g).stage k e) says in
     rw e (a.same c (made_at outs (guess_at job g)).value.0 w.1.inside))
-    (λ (e : ((guess_at job g).stage == k) ≡ false). rw e refl)
-    (cases_Bool ((guess_at job g).stage == k))
+    (λ e. rw e refl)
 
 pub next_kept : (job : Job) (p q : Held) (j w : ℕ) (outs : List Outcome) (n : NodeId) (c : Cells) (st : PipelineState) (i : Inputs) (key : Key) → Kept p q j → Wire p n w
     → HasKey job key → AllSay job p outs → NextIs job p outs n c st i key → NextIs job q outs n c st i key

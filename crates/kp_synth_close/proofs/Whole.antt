@@ -1,6 +1,6 @@
 -- THE NETLIST SHOWS THE PIPELINE, by induction over the cycles.
-use Rattle.std.proofs.Common.{◌≡◌, ◌∙◌, ℕ, zero, suc, ◌%◌, ◌^◌, ◌<◌, ◌≤◌, Bool, true, false, cond, ◌&&◌, ◌==◌, List, [], ◌∷◌, map, set, length, get_or, Option, Some, None, refl, sym, ap, subst, arith, ⊎_elim, eqb-true, All}
-use Rattle.std.proofs.{Math.Nat.mod-eq_of_lt, lemmas.Bool.cases_Bool, lemmas.Bool.cond-true, lemmas.Bool.cond-false, lemmas.Bool.eqb-false}
+use Rattle.std.proofs.Common.{◌≡◌, ◌∙◌, ℕ, zero, suc, ◌%◌, ◌^◌, ◌<◌, ◌≤◌, Bool, true, false, cond, ◌&&◌, ◌==◌, List, [], ◌∷◌, map, set, length, get_or, Option, Some, None, refl, sym, ap, subst, arith, eqb-true, All}
+use Rattle.std.proofs.{Math.Nat.mod-eq_of_lt, lemmas.Bool.cond-true, lemmas.Bool.cond-false, lemmas.Bool.eqb-false}
 use Rattle.std.proofs.lemmas.List.{get_or-map, get_or-set_same, get_or-set_other, length-map, length-set, Elements.All-head, Elements.All-tail}
 use Rattle.std.{proofs.lemmas.Slice.Zip.get_or-zip, proofs.lemmas.Slice.Zip.length-zip, specs.List.list_any, specs.List.zip}
 use Rattle.kp_ast.specs.declared.tree.Job.{Job}
@@ -10,6 +10,7 @@ use Rattle.kp_pipeline.specs.{Rows.row, Rows.bits, Rows.state_after as pipeline_
 use Rattle.kp_pipeline.proofs.{Lists.bits-same, Trimming.row-same, Trimming.cycle-same}
 use Rattle.kp_machine.specs.Slots.{targets_of, pipes_of, is_register}
 use Rattle.kp_machine.specs.Machine.{machine_of, state_of, start_hints, registers_before, files_before}
+use Rattle.kp_machine.proofs.Cases.{by_test}
 use Rattle.kp_net.specs.Netlist.{Net, Input, State, cells_of, start_regs, start_of, port_after, state_after, row_of, states_from, rows_from, last_from, last_of}
 use Rattle.kp_net.specs.declared.{node.Node.Node, netlist.WritePort.WritePort, netlist.NetReg.NetReg, netlist.NetFile.NetFile}
 use Rattle.kp_net.specs.{Nodes.Cells, Nodes.at, Nodes.on, Growth.Held, Growth.Wire, Parts.no_reg, Parts.no_file}
@@ -50,10 +51,9 @@ module _ (job : Job) (net : Net) (start : Start) (outs : List Outcome) (p : Held
   own_shown : (i : Input) (s : State) (t a : ℕ) → t < length (targets_of job.decls) → a < 2 ^ (target_at job t).address
       → own_word job (cells_of i s) t a ≡ shown_word job s t a % 2 ^ (target_at job t).width
   unfolding own_word kept_in
-  own_shown i s t a l m = ⊎_elim
-      (λ (e : is_register (target_at job t) ≡ true). (let q = all.starts.places t l e in rw (e, q) refl))
-      (λ (e : is_register (target_at job t) ≡ false). rw e refl)
-      (cases_Bool (is_register (target_at job t)))
+  own_shown i s t a l m = by_test (is_register (target_at job t))
+      (λ e. (let q = all.starts.places t l e in rw (e, q) refl))
+      (λ e. rw e refl)
 
   pub shown_is : (s : State) (st : PipelineState) → Carries job net s st → (t a : ℕ) → t < length (targets_of job.decls) → a < 2 ^ (target_at job t).address
       → shown_word job s t a ≡ st.visible t a
@@ -100,14 +100,12 @@ module _ (job : Job) (net : Net) (start : Start) (outs : List Outcome) (p : Held
       let e = same_test c q.enable.0 in
       let f = same_nodes c q.address.0 in
       let g = same_nodes c q.value.0 in
-      rw (e, f, g) (⊎_elim
-      (λ (x : on c p.nodes q.enable.0 ≡ true). rw x (⊎_elim
-      (λ (y : (at c p.nodes q.address.0 == a) ≡ true). (let z : at c p.nodes q.address.0 ≡ a = eqb-true (at c p.nodes q.address.0) a y in
+      rw (e, f, g) (by_test (on c p.nodes q.enable.0)
+      (λ x. rw x (by_test (at c p.nodes q.address.0 == a)
+      (λ y. (let z : at c p.nodes q.address.0 ≡ a = eqb-true (at c p.nodes q.address.0) a y in
       rw y (ap (λ j. get_or (set words j (at c p.nodes q.value.0)) a 0) z ∙ get_or-set_same words a (at c p.nodes q.value.0) 0 l)))
-      (λ (y : (at c p.nodes q.address.0 == a) ≡ false). rw y (get_or-set_other words (at c p.nodes q.address.0) a (at c p.nodes q.value.0) 0 (λ z. eqb-false (at c p.nodes q.address.0) a y (sym z))))
-      (cases_Bool (at c p.nodes q.address.0 == a))))
-      (λ (x : on c p.nodes q.enable.0 ≡ false). rw x refl)
-      (cases_Bool (on c p.nodes q.enable.0)))
+      (λ y. rw y (get_or-set_other words (at c p.nodes q.address.0) a (at c p.nodes q.value.0) 0 (λ z. eqb-false (at c p.nodes q.address.0) a y (sym z))))))
+      (λ x. rw x refl))
 
   file_after : (i : Input) (s : State) (f : ℕ) → f < length net.parts.files → length s.files ≡ length net.parts.files
       → get_or (after i s).files f [] ≡ port_after (cells_of i s) net.nodes (get_or net.parts.files f no_file).port (get_or s.files f [])
@@ -134,10 +132,9 @@ module _ (job : Job) (net : Net) (start : Start) (outs : List Outcome) (p : Held
 
   size_kept : (c : Cells) (o : Option WritePort) (words : List ℕ) → length (port_after c net.nodes o words) ≡ length words
   size_kept c None words = refl
-  size_kept c (Some q) words = ⊎_elim
-      (λ (x : on c net.nodes q.enable.0 ≡ true). rw x (length-set words (at c net.nodes q.address.0) (at c net.nodes q.value.0)))
-      (λ (x : on c net.nodes q.enable.0 ≡ false). rw x refl)
-      (cases_Bool (on c net.nodes q.enable.0))
+  size_kept c (Some q) words = by_test (on c net.nodes q.enable.0)
+      (λ x. rw x (length-set words (at c net.nodes q.address.0) (at c net.nodes q.value.0)))
+      (λ x. rw x refl)
 
   port_fits : (c : Cells) (t a v : ℕ) (o : Option WritePort) → PortFits job p t o → v < 2 ^ (target_at job t).width → port_word c p o a v < 2 ^ (target_at job t).width
   port_fits c t a v None fit l = l
@@ -167,10 +164,9 @@ module _ (job : Job) (net : Net) (start : Start) (outs : List Outcome) (p : Held
   carries_next i s st h = record {
     holds = λ j. holds_after i j s st h;
     bare = bare_next job all.fits st h.bare (inputs_of job i);
-    fits = λ t a l m. ⊎_elim
-        (λ (e : is_register (target_at job t) ≡ true). subst (λ n. n < 2 ^ (target_at job t).width) (sym (cond-true (is_register (target_at job t)) _ _ e)) (register_fits i s t l e))
-        (λ (e : is_register (target_at job t) ≡ false). subst (λ n. n < 2 ^ (target_at job t).width) (sym (cond-false (is_register (target_at job t)) _ _ e)) (word_fits i s st t a h l e m))
-        (cases_Bool (is_register (target_at job t)));
+    fits = λ t a l m. by_test (is_register (target_at job t))
+        (λ e. subst (λ n. n < 2 ^ (target_at job t).width) (sym (cond-true (is_register (target_at job t)) _ _ e)) (register_fits i s t l e))
+        (λ e. subst (λ n. n < 2 ^ (target_at job t).width) (sym (cond-false (is_register (target_at job t)) _ _ e)) (word_fits i s st t a h l e m));
     count = length-map (zip net.parts.files s.files) (λ (q : NetFile × List ℕ). port_after (cells_of i s) net.nodes q.0.port q.1) ∙ omega (arith, h.count, length-zip net.parts.files s.files);
     sizes = λ t l e. ap length (file_after i s (number_in job t) (all.starts.files t l e) h.count)
         ∙ size_kept (cells_of i s) (port_in job net t) (get_or s.files (number_in job t) []) ∙ h.sizes t l e;
@@ -225,10 +221,9 @@ module _ (job : Job) (net : Net) (start : Start) (outs : List Outcome) (p : Held
 
   no_guess_passes : (i : Input) (files : List (List ℕ)) (k g : ℕ) (test : PendingGuess → Bool) → k < job.stages.value → g < length (guesses_of job)
       → guess_passes job (cells_of i (begun files)) k test g (guess_at job g) ≡ false
-  no_guess_passes i files k g test l m = ⊎_elim
-      (λ (e : is_carried (guess_at job g) k ≡ true). rw (e, start_kept i files (Pending g k) (m, e, l)) refl)
-      (λ (e : is_carried (guess_at job g) k ≡ false). rw e refl)
-      (cases_Bool (is_carried (guess_at job g) k))
+  no_guess_passes i files k g test l m = by_test (is_carried (guess_at job g) k)
+      (λ e. rw (e, start_kept i files (Pending g k) (m, e, l)) refl)
+      (λ e. rw e refl)
 
   start_guesses : (i : Input) (files : List (List ℕ)) (k : ℕ) (test : PendingGuess → Bool) → k < job.stages.value → some_guess job (cells_of i (begun files)) k test ≡ false
   unfolding some_guess
@@ -239,8 +234,8 @@ module _ (job : Job) (net : Net) (start : Start) (outs : List Outcome) (p : Held
   -- there it carries the pipeline that starts with this state of the targets
   module _ (files : List (List ℕ)) (v : ℕ → ℕ → ℕ) (b : Begins files v) where
     begun_shown : (t a : ℕ) → t < length (targets_of job.decls) → a < 2 ^ (target_at job t).address → shown_word job (begun files) t a ≡ v t a
-    begun_shown t a l m = ⊎_elim
-        (λ (e : is_register (target_at job t) ≡ true).
+    begun_shown t a l m = by_test (is_register (target_at job t))
+        (λ e.
         let k = has_place job (Visible t) (l, e) in
         let z : (target_at job t).address ≡ 0 = eqb-true (target_at job t).address 0 e in
         let n : a < 2 ^ 0 = subst (λ (w : ℕ). a < 2 ^ w) z m in
@@ -248,21 +243,19 @@ module _ (job : Job) (net : Net) (start : Start) (outs : List Outcome) (p : Held
         cond-true (is_register (target_at job t)) _ _ e
         ∙ ap (λ r. get_or (start_regs net) r 0) (sym (all.starts.places t l e))
         ∙ start_reg (place_of job (Visible t)) k.0 ∙ ap (key_start job start) k.1 ∙ b.regs t l e ∙ ap (v t) q)
-        (λ (e : is_register (target_at job t) ≡ false).
+        (λ e.
         cond-false (is_register (target_at job t)) _ _ e ∙ b.words t a l e m)
-        (cases_Bool (is_register (target_at job t)))
 
     begun_fits : (t a : ℕ) → t < length (targets_of job.decls) → a < 2 ^ (target_at job t).address → shown_word job (begun files) t a < 2 ^ (target_at job t).width
-    begun_fits t a l m = ⊎_elim
-        (λ (e : is_register (target_at job t) ≡ true).
+    begun_fits t a l m = by_test (is_register (target_at job t))
+        (λ e.
         let k = has_place job (Visible t) (l, e) in
         let y : (get_or net.parts.regs (place_of job (Visible t)) no_reg).start.value < 2 ^ (target_at job t).width = subst (λ (x : Key). (get_or net.parts.regs (place_of job (Visible t)) no_reg).start.value < 2 ^ key_width job x) k.1 (all.starts.fits (place_of job (Visible t)) k.0) in
         let r : (get_or net.parts.regs (place_of job (Visible t)) no_reg).start.value ≡ get_or (start_regs net) (registers_before (targets_of job.decls) t) 0 =
         sym (get_or-map (λ (x : NetReg). x.start.value) net.parts.regs (place_of job (Visible t)) no_reg 0 (omega (arith, all.starts.regs, k.0)))
         ∙ ap (λ n. get_or (start_regs net) n 0) (all.starts.places t l e) in
         subst (λ n. n < 2 ^ (target_at job t).width) (r ∙ sym (cond-true (is_register (target_at job t)) _ _ e)) y)
-        (λ (e : is_register (target_at job t) ≡ false). subst (λ n. n < 2 ^ (target_at job t).width) (sym (begun_shown t a l m)) (b.fits t a l e m))
-        (cases_Bool (is_register (target_at job t)))
+        (λ e. subst (λ n. n < 2 ^ (target_at job t).width) (sym (begun_shown t a l m)) (b.fits t a l e m))
 
     begun_holds : (i : Input) → Holds job (cells_of i (begun files)) (trimmed (is_alive job) (pipeline_start v (start_hints job))) (inputs_of job i)
     begun_holds i = record {
@@ -374,10 +367,9 @@ module _ (job : Job) (net : Net) (start : Start) (outs : List Outcome) (p : Held
   }
 
   carries_after : (i : Input) (s : State) (st : PipelineState) → Carries job net s st → (p : PipelineState) × Carries job net (state_after net i s) p
-  carries_after i s st h = ⊎_elim
-      (λ (r : i.reset ≡ true). (pipeline_start (left start s) (start_hints job), carries_anew i s r (words_of s st h)))
-      (λ (r : i.reset ≡ false). (cycle (machine_of job) st (inputs_of job i), subst (λ (x : State). Carries job net x (cycle (machine_of job) st (inputs_of job i))) (sym (not_reset i s r)) (carries_next i s st h)))
-      (cases_Bool i.reset)
+  carries_after i s st h = by_test i.reset
+      (λ r. (pipeline_start (left start s) (start_hints job), carries_anew i s r (words_of s st h)))
+      (λ r. (cycle (machine_of job) st (inputs_of job i), subst (λ (x : State). Carries job net x (cycle (machine_of job) st (inputs_of job i))) (sym (not_reset i s r)) (carries_next i s st h)))
 
   words_along : (ins : List Input) (s : State) (st : PipelineState) → Carries job net s st → HasWords net job (last_from net s ins)
   words_along [] s st h = words_of s st h

@@ -1,13 +1,14 @@
 -- What a target takes, by the tables.
 use Rattle.std.proofs.Common.{◌≡◌, ◌∙◌, ℕ, ◌<◌, Bool, true, false, cond, ◌&&◌, ◌==◌, ◌^◌, eqb-true, length, Option, Some, None, refl, sym, ap, subst, arith}
-use Rattle.std.{proofs.lemmas.Bool.le-leb, proofs.lemmas.Bool.cond-true, specs.Prelude.unwrap_or, specs.Prelude.nat_le, specs.Prelude.is_some}
+use Rattle.std.proofs.{Math.Bool.and-true, Math.Bool.and_assoc, lemmas.Bool.cond-true}
+use Rattle.std.specs.Prelude.{unwrap_or, is_some}
 use Rattle.kp_ast.specs.declared.tree.{Named.Named, ResultDecl.ResultDecl, Job.Job}
 use Rattle.kp_pipeline.specs.Sequential.{first_value, intends}
 use Rattle.kp_pipeline.specs.Pipeline.{PipelineState, Inputs, ue, outcome, next_visible}
 use Rattle.kp_machine.specs.Slots.{pipes_of, targets_of, is_register}
 use Rattle.kp_machine.specs.Machine.{machine_of, result_for, write_stage_of, is_enabled_by, address_by, enabled_of, address_in}
 use Rattle.kp_net.specs.{declared.node.NodeId.NodeId, Nodes.Cells, Nodes.at, Nodes.on, Growth.Held, Growth.Wire, Growth.Kept}
-use Rattle.kp_synth_tables.specs.{declared.layout.Port.Port, declared.key.Key.TheVariants.Visible, Keys.is_kept, Keys.target_at}
+use Rattle.kp_synth_tables.specs.{declared.layout.Port.Port, declared.key.Key.TheVariants.Visible, Keys.target_at}
 use Rattle.kp_synth_tables.specs.Fits.{pipe_number, port_for, port_at, ResultFits, AddressFits}
 use Rattle.kp_synth_registers.specs.{Holding.Holds, Holding.optional, Holding.kept_in, Holding.own_word, Meaning.IsTest, Meaning.Gives, Meaning.MayGive}
 use Rattle.kp_synth_close.specs.{Nexts.port_word, inner.Written.writes, inner.Written.written_value, inner.Written.enabled_pipe, inner.Written.address_pipe}
@@ -51,11 +52,6 @@ no_result job t None e = refl
 no_result job t (Some r) e = cc
 
 -- what a target takes
-and_step : (u e b : Bool) → (u && (true && (e && b))) ≡ ((u && e) && b)
-and_step true true b = refl
-and_step true false b = refl
-and_step false e b = refl
-
 pub visible_is : (job : Job) (st : PipelineState) (i : Inputs) (t a : ℕ) (port : Port) → port_at job t ≡ Some port
     → next_visible (machine_of job) st i t a
     ≡ cond (writes job t port.write st i && (address_pipe port.address (st.stage port.write).instruction.pipes == a)) (written_value job t port.write st i) (st.visible t a)
@@ -64,7 +60,7 @@ visible_is job st i t a port e =
     let h = has_port job t port e in
     let d = h.enabled (st.stage port.write).instruction.pipes in
     let f = h.address (st.stage port.write).instruction.pipes in
-    rw (h.write, h.has, f) (ap (λ (b : Bool). cond b (written_value job t port.write st i) (st.visible t a)) (and_step (ue (machine_of job) st i port.write) _ _))
+    rw (h.write, h.has, f) (ap (λ (b : Bool). cond b (written_value job t port.write st i) (st.visible t a)) (sym (and_assoc (ue (machine_of job) st i port.write) _ _)))
 
 stays : (u b : Bool) (v w : ℕ) → cond (u && (false && b)) v w ≡ w
 stays true b v w = refl
@@ -77,16 +73,12 @@ visible_stays job st i t a e =
     rw h (stays _ (intends (machine_of job) (st.stage ((machine_of job).write_stage t)).instruction t a) _ _)
 
 -- the nodes
-and_true : (b : Bool) → (b && true) ≡ b
-and_true true = refl
-and_true false = refl
-
 pub writes_none : (job : Job) (p : Held) (t : ℕ) (port : Port) (u : NodeId) → port_at job t ≡ Some port → port.enable ≡ None
     → IsTest job p u (λ st i. ue (machine_of job) st i port.write) → IsTest job p u (writes job t port.write)
 unfolding IsTest machine_of
 writes_none job p t port u e f h = λ c st i m.
     let d = (has_port job t port e).enabled (st.stage port.write).instruction.pipes ∙ ap (λ o. enabled_pipe o (st.stage port.write).instruction.pipes) f in
-    h c st i m ∙ rw d (sym (and_true (ue (machine_of job) st i port.write)))
+    h c st i m ∙ rw d (sym (and-true (ue (machine_of job) st i port.write)))
 
 pub writes_some : (job : Job) (p q r : Held) (j t x w : ℕ) (port : Port) (u n b : NodeId) → port_at job t ≡ Some port → port.enable ≡ Some x → Kept p q j → Wire p u w
     → IsTest job p u (λ st i. ue (machine_of job) st i port.write) → Gives job q n (λ st i. (st.stage port.write).instruction.pipes x)
@@ -143,7 +135,7 @@ register_some job p q r j t w port b v o n l e f fits a g m x y z = λ c st i h.
     let no = address_none job t port fits e in
     let new : at c r.nodes n.0 ≡ cond (writes job t port.write st i) (written_value job t port.write st i) (st.visible t 0) = z c ∙ rw (x c st i h, y c st i h, own) refl in
     let due : next_visible (machine_of job) st i t 0 ≡ cond (writes job t port.write st i) (written_value job t port.write st i) (st.visible t 0) =
-    visible_is job st i t 0 port f ∙ rw no (ap (λ d. cond d (written_value job t port.write st i) (st.visible t 0)) (and_true (writes job t port.write st i))) in
+    visible_is job st i t 0 port f ∙ rw no (ap (λ d. cond d (written_value job t port.write st i) (st.visible t 0)) (and-true (writes job t port.write st i))) in
     new ∙ sym due
 
 -- a file

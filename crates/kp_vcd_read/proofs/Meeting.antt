@@ -1,6 +1,7 @@
 -- Readers of one token, and the consequences for the complete text.
-use Rattle.std.proofs.Common.{◌≡◌, ◌∙◌, ℕ, suc, ◌+◌, ◌<◌, Bool, true, false, not, map, Option, None, List, [], ◌∷◌, length, drop, get_or, Result, Ok, Err, refl, ap, sym, subst, add-one, drop-cons}
-use Rattle.std.{proofs.lemmas.List.get_or-map, specs.Prelude.if◌then◌else◌}
+use Rattle.std.proofs.Common.{◌≡◌, ◌∙◌, ℕ, suc, ◌+◌, ◌<◌, Bool, true, false, not, map, Option, None, List, [], ◌∷◌, length, drop, get_or, Result, Ok, Err, refl, ap, sym, subst, add-one, drop-cons, IsErrAnd}
+use Rattle.std.proofs.lemmas.{List.get_or-map, Result.err_from_is_err_and}
+use Rattle.std.specs.Prelude.{if◌then◌else◌}
 use Rattle.kp_base.specs.declared.place.Place.{Place}
 use Rattle.kp_vcd.specs.declared.dump.{Change.Change, Moment.Moment, Dump.Dump}
 use Rattle.kp_vcd_read.specs.Reading.{Fault, Next, given, module_name, declaration, signal_kind, signal_width, signal_code, signal_name, first_time, change, begins, goes_on, State, Step, at, named, with_signal, these, end_word, foot_words, begin, verdict, walk, ends, step, says}
@@ -36,19 +37,14 @@ module _ {X : Type 0} (form : List ℕ → Form X) (old new : Left) where
       (said_meets (gives_from s old) new w.place (form w.bytes) on
       (word_on s old new w e f ∙ ap (λ (t : Step). walk t new.words new.end) (wants.word w)))
 
-  -- no token was left
-  pub missed : (rule : ℕ) (place : Place) (result : Result X DumpRefused) → old.words ≡ [] → rule ≡ 1 → place ≡ old.end → result ≡ Err (refused.Rule rule place)
-      → Takes form old new result
-  missed rule place result e one at is s on wants =
-      subst (λ (r : Result X DumpRefused). Meets (gives_from s old) (λ (x : X). gives_from (on x) new) r) (sym is)
-      (none_on s old e ∙ wants.ending old.end
-      ∙ ap (λ (p : Place). Err (record { rule = 1; place = p })) (sym at)
-      ∙ ap (λ (n : ℕ). Err (record { rule = n; place = place })) (sym one))
+fails_so : (whole part : Result Dump Fault) (e : DumpRefused) → whole ≡ part → Fails part e → Fails whole e
+fails_so whole part (refused.Rule rule place) same h = same ∙ h
+fails_so whole part refused.NoMemory same h = tt
 
--- a part fails
-pub stops : (whole part : Result Dump Fault) (e : DumpRefused) → whole ≡ part → Fails part e → Fails whole e
-stops whole part (refused.Rule rule place) same h = same ∙ h
-stops whole part refused.NoMemory same h = tt
+-- a part fails, at the exit of a `?`
+pub stops : {X : Type 0} (e : DumpRefused) (whole part : Result Dump Fault) (on : X → Result Dump Fault) (r : Result X DumpRefused) → IsErrAnd r (λ y. y ≡ e) → whole ≡ part → Fails part e
+    → Meets whole on r
+stops e whole part on r h same f = let p = err_from_is_err_and r h in rw (p.1, p.2) (fails_so whole part e same f)
 
 pub fails : (whole : Result Dump Fault) (e : DumpRefused) (rule : ℕ) (place : Place) → e ≡ refused.Rule rule place → whole ≡ Err (record { rule = rule; place = place }) → Fails whole e
 fails whole e rule place is h = subst (Fails whole) (sym is) h

@@ -1,7 +1,7 @@
 -- The text of a dump that fits the form is read as this dump.
 use Rattle.std.proofs.Common.{◌≡◌, ◌∙◌, refl, sym, ap, subst, arith, ℕ, zero, suc, ◌+◌, ◌/◌, ◌%◌, ◌^◌, ◌<◌, ◌≤◌, Bool, true, false, not, List, [], ◌∷◌, ◌++◌, length, All, Option, Some, Result, Ok, Err, append_assoc, length-append, ◌⊎◌, inl, inr}
 use Rattle.std.proofs.lemmas.Bool.{and_from, and_parts, or_cases, eq-eqb, eqb-true, lt-ltb, leb-true, cond-true, cond-false}
-use Rattle.std.proofs.lemmas.List.{append-nil}
+use Rattle.std.proofs.lemmas.List.{append-nil, Elements.All-head, Elements.All-tail}
 use Rattle.std.specs.{Prelude.codes, Prelude.decimal, Prelude.nat_lt, Prelude.nat_le, Prelude.◌==◌, Prelude.◌&&◌, Prelude.◌||◌, List.list_all}
 use Rattle.kp_base.specs.{Place.place_after, Characters.is_word, declared.place.Place.Place}
 use Rattle.kp_bits.specs.Word.{Word, word}
@@ -16,12 +16,6 @@ use Rattle.kp_vcd_read.proofs.Numerals.{IsPlain, is_numeral, number_read, index_
 use Rattle.kp_vcd_read.proofs.Leading.{Leads, nothing, both, same_part, one_word, two_words}
 use Rattle.kp_vcd_read.specs.Reading as reading
 use Rattle.kp_vcd_read.specs.declared.forms.Said.TheVariants as said
-
-all_head : {X : Type 0} (P : X → Type 0) (x : X) (xs : List X) → All P (x ∷ xs) → P x
-all_head P x xs h = h zero x (omega arith)
-
-all_tail : {X : Type 0} (P : X → Type 0) (x : X) (xs : List X) → All P (x ∷ xs) → All P xs
-all_tail P x xs h = λ k d less. h (suc k) d (omega (arith, less))
 
 -- ---- plain tokens
 
@@ -200,8 +194,8 @@ signals_lead name before [] n count few ok =
 signals_lead name before (s ∷ ss) n count few ok =
     subst (λ (all : List Signal). Leads (at reading.declaration (record { «module» = name; signals = before; moments = [] })) (signal_lines n (s ∷ ss)) (at reading.declaration (record { «module» = name; signals = all; moments = [] }))) (append_assoc before (s ∷ []) ss)
     (both (at reading.declaration (record { «module» = name; signals = before; moments = [] })) (at reading.declaration (record { «module» = name; signals = before ++ s ∷ []; moments = [] })) (at reading.declaration (record { «module» = name; signals = (before ++ s ∷ []) ++ ss; moments = [] })) (signal_line n s) (signal_lines (n + 1) ss)
-    (signal_leads (record { «module» = name; signals = before; moments = [] }) n s count (omega (arith, few)) (all_head IsSignal s ss ok))
-    (signals_lead name (before ++ s ∷ []) ss (n + 1) (let l = length-append before (s ∷ []) in omega (arith, l, count)) (omega (arith, few)) (all_tail IsSignal s ss ok)))
+    (signal_leads (record { «module» = name; signals = before; moments = [] }) n s count (omega (arith, few)) (All-head IsSignal s ss ok))
+    (signals_lead name (before ++ s ∷ []) ss (n + 1) (let l = length-append before (s ∷ []) in omega (arith, l, count)) (omega (arith, few)) (All-tail IsSignal s ss ok)))
 
 -- ---- the changes
 
@@ -278,7 +272,7 @@ changes_lead d time before [] ok =
     subst (λ (all : List Change). Leads (at (reading.change time before) d) [] (at (reading.change time all) d)) (sym (append-nil before)) (nothing (at (reading.change time before) d))
 changes_lead d time before (c ∷ cs) ok =
     subst (λ (all : List Change). Leads (at (reading.change time before) d) (change_lines (c ∷ cs)) (at (reading.change time all) d)) (append_assoc before (c ∷ []) cs)
-    (both (at (reading.change time before) d) (at (reading.change time (before ++ c ∷ [])) d) (at (reading.change time ((before ++ c ∷ []) ++ cs)) d) (change_line c) (change_lines cs) (change_leads d time before c (all_head (IsChange d.signals) c cs ok)) (changes_lead d time (before ++ c ∷ []) cs (all_tail (IsChange d.signals) c cs ok)))
+    (both (at (reading.change time before) d) (at (reading.change time (before ++ c ∷ [])) d) (at (reading.change time ((before ++ c ∷ []) ++ cs)) d) (change_line c) (change_lines cs) (change_leads d time before c (All-head (IsChange d.signals) c cs ok)) (changes_lead d time (before ++ c ∷ []) cs (All-tail (IsChange d.signals) c cs ok)))
 
 -- ---- the times
 
@@ -301,8 +295,8 @@ moments_lead : (d : Dump) (time : ℕ) (cs : List Change) (ms : List Moment) →
 moments_lead d time cs [] rises ok front end = refl
 moments_lead d time cs (m ∷ ms) rises ok front end =
     both (at (reading.change time cs) d) (at (reading.change m.at []) (with_moment d time cs)) (at (reading.change m.at m.changes) (with_moment d time cs)) (time_line m.at) (change_lines m.changes)
-    (later_leads d time m.at cs rises.0 rises.1) (changes_lead (with_moment d time cs) m.at [] m.changes (all_head (λ (m : Moment). All (IsChange d.signals) m.changes) m ms ok)) front (moment_lines ms) end
-    ∙ moments_lead (with_moment d time cs) m.at m.changes ms rises.2 (all_tail (λ (m : Moment). All (IsChange d.signals) m.changes) m ms ok) (front ++ (time_line m.at ++ change_lines m.changes)) end
+    (later_leads d time m.at cs rises.0 rises.1) (changes_lead (with_moment d time cs) m.at [] m.changes (All-head (λ (m : Moment). All (IsChange d.signals) m.changes) m ms ok)) front (moment_lines ms) end
+    ∙ moments_lead (with_moment d time cs) m.at m.changes ms rises.2 (All-tail (λ (m : Moment). All (IsChange d.signals) m.changes) m ms ok) (front ++ (time_line m.at ++ change_lines m.changes)) end
     ∙ ap (λ (all : List Moment). Ok (record d { moments = all })) (append_assoc d.moments (record { at = time; changes = cs } ∷ []) (m ∷ ms))
 
 all_moments : (name : List ℕ) (ss : List Signal) (ms : List Moment) → Rises ms → All (λ m. All (IsChange ss) m.changes) ms → (front : List ℕ) (end : Place)
@@ -310,8 +304,8 @@ all_moments : (name : List ℕ) (ss : List Signal) (ms : List Moment) → Rises 
 all_moments name ss [] rises ok front end = refl
 all_moments name ss (m ∷ ms) rises ok front end =
     both (at reading.first_time (record { «module» = name; signals = ss; moments = [] })) (at (reading.change m.at []) (record { «module» = name; signals = ss; moments = [] })) (at (reading.change m.at m.changes) (record { «module» = name; signals = ss; moments = [] })) (time_line m.at) (change_lines m.changes)
-    (first_leads (record { «module» = name; signals = ss; moments = [] }) m.at rises.0) (changes_lead (record { «module» = name; signals = ss; moments = [] }) m.at [] m.changes (all_head (λ (m : Moment). All (IsChange ss) m.changes) m ms ok)) front (moment_lines ms) end
-    ∙ moments_lead (record { «module» = name; signals = ss; moments = [] }) m.at m.changes ms rises.1 (all_tail (λ (m : Moment). All (IsChange ss) m.changes) m ms ok) (front ++ (time_line m.at ++ change_lines m.changes)) end
+    (first_leads (record { «module» = name; signals = ss; moments = [] }) m.at rises.0) (changes_lead (record { «module» = name; signals = ss; moments = [] }) m.at [] m.changes (All-head (λ (m : Moment). All (IsChange ss) m.changes) m ms ok)) front (moment_lines ms) end
+    ∙ moments_lead (record { «module» = name; signals = ss; moments = [] }) m.at m.changes ms rises.1 (All-tail (λ (m : Moment). All (IsChange ss) m.changes) m ms ok) (front ++ (time_line m.at ++ change_lines m.changes)) end
 
 -- ---- the complete text
 

@@ -1,7 +1,7 @@
 -- A module that represents a netlist denotes it: its nodes, and all its parts.
 use Rattle.std.proofs.Common.{◌≡◌, ◌∙◌, ℕ, suc, ◌+◌, ◌-◌, ◌^◌, ◌≤◌, ◌<◌, List, [], ◌∷◌, ◌++◌, length, get_or, map, Bool, true, false, Option, Some, None, refl, sym, ap, arith, append_assoc, append-nil}
 use Rattle.std.proofs.lemmas.List.Sums.{fold-append}
-use Rattle.std.proofs.lemmas.List.Elements.{All-nil, All-cons, All-head, All-tail, All-get_or, All-weaker}
+use Rattle.std.proofs.lemmas.List.Elements.{All-nil, All-cons, All-head, All-tail, All-get_or}
 use Rattle.std.proofs.lemmas.Bool.{cond-true, cond-false, false_from_ne_true}
 use Rattle.std.specs.{Prelude.codes, Prelude.All, Prelude.fold, Prelude.replicate, Prelude.◌==◌, Option.is_some}
 use Rattle.kp_net.specs.declared.{node.NodeId.NodeId, node.Kind.Kind, node.Node.Node, netlist.Port.Port, netlist.WritePort.WritePort, netlist.NetReg.NetReg}
@@ -11,10 +11,10 @@ use Rattle.kp_net.specs.Parts.{no_port, no_reg, no_file, WriteOk, PortOk, CellOk
 use Rattle.kp_net.specs.Widths.{wide, KindOk}
 use Rattle.kp_net.specs.declared.node.Kind.TheVariants as kinds
 use Rattle.kp_vlog.specs.Denote.{node_of, source_of, kind_of, Made, with_item, made_by, output_of, start_of, next_of, word_init, words_of, port_of, regs_of, files_of, sample_of, parts_of, net_of}
-use Rattle.kp_vlog.specs.Scope.{or_zero, address_width, Scope, scope_of, Sized, Sizes, sizes_of, item_sizes, port_size, width_in, address_in, place_of, reg_names, file_names}
+use Rattle.kp_vlog.specs.Scope.{or_zero, address_width, Scope, scope_of, Sized, Sizes, sizes_of, item_sizes, width_in, address_in, place_of, reg_names, file_names}
 use Rattle.kp_vlog.specs.declared.tree.{Range.Range, Named.Named, VPort.VPort, Right.Right, Item.Item, ResetList.ResetList, VModule.VModule}
 use Rattle.kp_vlog.specs.Canon.{wire, wire_name}
-use Rattle.kp_vwrite_roundtrip.proofs.Sentence.{ShowsEach, none_shown, one_shown, sample_port, reg_item, file_item, reg_start, reg_update, named_at, number_at, range_at, port_at, ShowsNames, no_name, a_name, ShowsRight, a_sample, a_reg, a_word, a_not, a_binary, a_mux, a_concat, a_slice, ShowsInteger, no_integer, an_integer, ShowsNodes, no_node_line, node_line, ShowsReset, no_reset_shown, reset_shown, Shown, outs, module_of}
+use Rattle.kp_vwrite_roundtrip.proofs.Sentence.{ShowsEach, none_shown, one_shown, sample_port, reg_item, file_item, reg_start, reg_update, named_at, range_at, ShowsNames, no_name, a_name, ShowsRight, a_sample, a_reg, a_word, a_not, a_binary, a_mux, a_concat, a_slice, ShowsInteger, no_integer, an_integer, ShowsNodes, no_node_line, node_line, ShowsReset, no_reset_shown, reset_shown, Shown, outs, module_of}
 use Rattle.kp_vwrite_roundtrip.proofs.SameNet.{words_are, address_is, ported, ports_are, found, width_found, address_found, found_past, sized, port_sized, reg_sized, file_sized, range_back, samples_sized, each_past, each_found, WidthsAre, nodes_sized}
 use Rattle.kp_vwrite_roundtrip.proofs.Each.{past_each, map_each, found_each}
 use Rattle.kp_vwrite_roundtrip.proofs.Distinct.{apart, tag, tag_reg, tag_file, tag_sample, tag_wire, place_at, wires_to, wire_place}

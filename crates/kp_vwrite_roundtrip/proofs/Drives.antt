@@ -1,21 +1,18 @@
 -- What a module that represents a netlist drives.
-use Rattle.std.proofs.Common.{◌≡◌, ◌∙◌, ℕ, suc, ◌+◌, ◌-◌, ◌≤◌, ◌<◌, List, [], ◌∷◌, ◌++◌, length, get_or, map, Bool, true, false, Option, Some, None, refl, sym, ap, subst, arith, append_assoc, inl, inr, eq-eqb}
-use Rattle.std.proofs.lemmas.Bool.{cases_lt, cond-true, cond-false, and_from, or_from, not_from_false, or_left, or_right}
-use Rattle.std.proofs.lemmas.List.Elements.{All-nil, All-cons, All-head, All-tail}
-use Rattle.std.specs.{Prelude.codes, Prelude.All, Prelude.◌==◌, Prelude.◌||◌, Prelude.not, Option.is_some}
-use Rattle.kp_net.specs.declared.{node.NodeId.NodeId, node.Kind.Kind, node.Node.Node, netlist.Port.Port, netlist.NetReg.NetReg, netlist.NetFile.NetFile}
-use Rattle.kp_net.specs.{declared.netlist.Parts.Parts, Names.same, Names.among, Names.Differ, Names.IsNamed, Netlist.Net}
-use Rattle.kp_net.specs.{Parts.WriteOk, Parts.RegOk, Parts.FileOk, Parts.NetOk, Widths.wide, Widths.KindOk}
-use Rattle.kp_vlog.specs.Occurrences.{Occurrence, occurs, declares_port, is_given, wires_used, right_names, items_names, inits_names, start_in, is_literal, values_names, reset_names, updates_names, samples_names, reset_port_names, wide_port_names, body_names, names, declares_reg}
-use Rattle.kp_vlog.specs.declared.tree.{Named.Named, ResetList.ResetList, ResetValue.ResetValue, VPort.VPort, Right.Right, Item.Item, Init.Init, Update.Update}
-use Rattle.kp_vlog.specs.Canon.{wire, wire_name}
-use Rattle.kp_vlog.specs.Rules.{Driven, nothing, drives, all_driven, items_given, inits_started, inits_filled, updates_updated, reset_values, driver_fits, bad_driver, module_driver}
+use Rattle.std.proofs.Common.{◌≡◌, ◌∙◌, ℕ, ◌+◌, ◌≤◌, ◌<◌, List, [], ◌∷◌, ◌++◌, length, get_or, map, Bool, true, Option, refl, ap, arith, inl, inr}
+use Rattle.std.proofs.lemmas.Bool.{cases_lt, and_from, or_left, or_right}
+use Rattle.std.proofs.lemmas.List.Elements.{All-nil, All-cons}
+use Rattle.std.specs.{Prelude.codes, Prelude.All, Prelude.◌||◌, Prelude.not, Option.is_some}
+use Rattle.kp_net.specs.declared.{node.Node.Node, netlist.NetReg.NetReg, netlist.NetFile.NetFile}
+use Rattle.kp_net.specs.{declared.netlist.Parts.Parts, Names.same, Names.among, Netlist.Net}
+use Rattle.kp_vlog.specs.Occurrences.{declares_reg}
+use Rattle.kp_vlog.specs.declared.tree.{Named.Named, ResetList.ResetList, ResetValue.ResetValue, Item.Item, Init.Init}
+use Rattle.kp_vlog.specs.Canon.{wire_name}
+use Rattle.kp_vlog.specs.Rules.{Driven, nothing, all_driven, items_given, inits_started, inits_filled, updates_updated, reset_values, driver_fits}
 use Rattle.kp_vlog.proofs.Tests.{same_refl}
-use Rattle.kp_vlog.specs.declared.tree.Init.TheVariants as starts
-use Rattle.kp_vwrite_roundtrip.proofs.Sentence.{ShowsEach, none_shown, one_shown, reg_item, file_item, reg_start, reset_value, reg_update, named_at, ShowsNames, no_name, a_name, ShowsRight, a_const, a_word, a_not, a_binary, a_mux, a_concat, a_slice, ShowsInteger, no_integer, an_integer, ShowsNodes, no_node_line, node_line, ShowsWords, no_words, zero_word, some_word, ShowsFills, no_fill, a_fill, ShowsWrites, no_write, not_written, a_write, ShowsReset, no_reset_shown, reset_shown, Shown, outs, module_of}
-use Rattle.kp_vwrite_roundtrip.proofs.{Written.RightFrom, Written.all_right, Distinct.wires_differ, Distinct.apart_all, Each.past_each, Each.among_each}
-use Rattle.kp_vwrite_roundtrip.proofs.{Denoted.past_integer, Runs.literal_for}
-use Rattle.kp_bits.specs.declared.literal.Literal.{Literal}
+use Rattle.kp_vwrite_roundtrip.proofs.Sentence.{ShowsEach, none_shown, one_shown, reg_item, file_item, reg_start, reset_value, reg_update, ShowsNodes, no_node_line, node_line, ShowsWords, no_words, zero_word, some_word, ShowsFills, no_fill, a_fill, ShowsReset, no_reset_shown, reset_shown, Shown, outs, module_of}
+use Rattle.kp_vwrite_roundtrip.proofs.{Each.past_each, Each.among_each}
+use Rattle.kp_vwrite_roundtrip.proofs.{Denoted.past_integer}
 
 values_driven : (rs : List NetReg) (xs : List ResetValue) → ShowsEach reset_value rs xs → All (λ r. among (map (λ x. x.name.name) xs) r.name ≡ true) rs
 values_driven _ _ none_shown = All-nil (λ (r : NetReg). among [] r.name ≡ true)

@@ -1,24 +1,22 @@
 -- A module that represents a netlist violates no rule of names, and none of drivers.
 use Rattle.std.proofs.Common.{◌≡◌, ◌∙◌, ℕ, suc, ◌+◌, ◌≤◌, ◌<◌, List, [], ◌∷◌, ◌++◌, length, get_or, map, Bool, true, false, Option, Some, None, refl, sym, ap, subst, arith, append_assoc, append-nil, inl, inr, ◌-◌, eq-eqb}
-use Rattle.std.proofs.lemmas.Bool.{false≢true, cases_lt, cond-true, and_from, or_from, not_from_false, or_left, or_right, cond-false, and_parts}
+use Rattle.std.proofs.lemmas.Bool.{false≢true, cases_lt, cond-true, and_from, or_from, not_from_false, or_left, or_right, and_parts}
 use Rattle.std.proofs.lemmas.List.Elements.{All-nil, All-cons, All-head, All-tail}
 use Rattle.std.specs.{Prelude.codes, Prelude.All, Prelude.◌==◌, Prelude.◌&&◌, Prelude.◌||◌, Prelude.decimal, Prelude.not, Option.is_some, List.list_all}
 use Rattle.kp_net.specs.declared.{node.NodeId.NodeId, node.Kind.Kind, node.Node.Node, netlist.Port.Port, netlist.NetReg.NetReg, netlist.NetFile.NetFile}
 use Rattle.kp_net.specs.{Names.same, Names.among, Names.Differ, Names.IsNamed, Names.is_reg_name, Names.is_file_name, Names.is_sample_name, Netlist.Net}
-use Rattle.kp_net.specs.Parts.{no_port, no_reg, no_file, NodeIs, WriteOk, RegOk, FileOk, CellOk, NetOk}
-use Rattle.kp_net.specs.{Widths.KindOk, Widths.wide, declared.netlist.Parts.Parts}
+use Rattle.kp_net.specs.Parts.{no_port, no_reg, no_file, WriteOk, RegOk, FileOk, CellOk, NetOk}
+use Rattle.kp_net.specs.{Widths.KindOk, Widths.wide}
 use Rattle.kp_base.specs.Characters.{is_digit}
 use Rattle.kp_vlog.specs.Occurrences.{Occurrence, occurs, declares_port, uses_source, uses_wire, uses_port, is_given, wires_used, right_names, items_names, inits_names, values_names, reset_names, updates_names, samples_names, reset_port_names, wide_port_names, body_names, names, start_in, is_literal, declares_reg}
-use Rattle.kp_vlog.specs.Rules.{name_fits, learns, bad_name, Driven, nothing, drives, all_driven, items_given, inits_started, inits_filled, updates_updated, reset_values, driver_fits, bad_driver, module_driver}
+use Rattle.kp_vlog.specs.Rules.{name_fits, learns, bad_name, Driven, nothing, drives, all_driven, driver_fits, bad_driver, module_driver}
 use Rattle.kp_vlog.specs.declared.tree.{Named.Named, ResetList.ResetList, ResetValue.ResetValue, VPort.VPort, Right.Right, Item.Item, Init.Init, Update.Update}
 use Rattle.kp_vlog.{specs.Canon.wire, specs.Canon.wire_name, specs.Scope.is_wire_name, proofs.Tests.same_refl}
 use Rattle.kp_vwrite_roundtrip.proofs.Sentence.{ShowsEach, none_shown, one_shown, sample_port, reg_item, file_item, reg_start, reset_value, reg_update, named_at, ShowsNames, no_name, a_name, ShowsRight, a_const, an_ext, a_sample, a_reg, a_word, a_not, a_binary, a_mux, a_concat, a_slice, ShowsInteger, no_integer, an_integer, ShowsNodes, no_node_line, node_line, ShowsWords, no_words, zero_word, some_word, ShowsFills, no_fill, a_fill, ShowsWrites, no_write, not_written, a_write, ShowsReset, no_reset_shown, reset_shown, Shown, outs, module_of}
-use Rattle.kp_vwrite_roundtrip.proofs.Distinct.{apart, tag, tag_reg, tag_file, tag_sample, tag_wire, wires_differ, apart_all}
+use Rattle.kp_vwrite_roundtrip.proofs.Distinct.{apart, tag, tag_wire, wires_differ, apart_all}
 use Rattle.kp_vwrite_roundtrip.proofs.{Written.RightFrom, Written.all_right, Runs.Led, Runs.decimal_led, Runs.decimal_names, Runs.all_of, Runs.literal_for}
 use Rattle.kp_vwrite_roundtrip.proofs.{Denoted.spelled, Denoted.samples_tagged, Denoted.regs_tagged, Denoted.files_tagged, Drives.DrivesAll, Drives.drives_all}
 use Rattle.kp_vwrite_roundtrip.proofs.Each.{found_each}
-use Rattle.kp_vlog.specs.declared.tree.Init.TheVariants as starts
-use Rattle.kp_bits.specs.declared.literal.Literal.{Literal}
 
 -- no known name is of this kind
 abbrev Free : List (List ℕ) → ℕ → Type 0

@@ -1,25 +1,24 @@
 -- A module that represents a netlist violates no rule of widths.
 use Rattle.std.proofs.Common.{◌≡◌, ◌∙◌, ℕ, zero, suc, ◌+◌, ◌-◌, ◌^◌, ◌≤◌, ◌<◌, List, [], ◌∷◌, ◌++◌, length, get_or, map, Bool, true, Option, Some, None, refl, sym, ap, subst, arith, eq-eqb, false}
 use Rattle.std.proofs.lemmas.Bool.{eqb-true, agree_below_at, cond-true, and_from, false_from_ne_true, le-leb, lt-ltb}
-use Rattle.std.proofs.lemmas.List.Elements.{All-nil, All-cons, All-head, All-tail}
+use Rattle.std.proofs.lemmas.List.Elements.{All-head, All-tail}
 use Rattle.std.proofs.{Math.Nat.pow-le-pow_right, lemmas.List.Sums.sum_by-cons}
 use Rattle.std.specs.{Prelude.codes, Prelude.All, Prelude.◌==◌, Prelude.◌||◌, Prelude.nat_lt, Prelude.nat_le, Option.is_some, List.sum_by}
 use Rattle.kp_bits.specs.{Word.word, Word.IsWord, declared.operator.BinOp.BinOp}
 use Rattle.kp_bits.specs.Word as bits
 use Rattle.kp_net.specs.declared.{node.NodeId.NodeId, node.Kind.Kind, node.Node.Node, netlist.Port.Port, netlist.NetReg.NetReg, netlist.NetFile.NetFile}
-use Rattle.kp_net.specs.{Names.Differ, Names.IsNamed, Names.is_reg_name, Names.is_sample_name, Netlist.Net}
+use Rattle.kp_net.specs.{Names.IsNamed, Netlist.Net}
 use Rattle.kp_net.specs.Parts.{no_port, no_reg, no_file, WriteOk, PortOk, RegOk, FileOk, CellOk, NetOk}
 use Rattle.kp_net.specs.Widths.{wide, no_node, KindOk, BinaryOk}
 use Rattle.kp_vlog.specs.Rules.{want, range_fits, stall_fits, four_bits, words_fit, literal_fits, op_fits, width_sum, right_fits, right_answers, file_fits, items_answers, start_answers, loop_fits, inits_answers, reset_values, values_answers, updates_answers, ports_answers, header_answers, width_answers}
 use Rattle.kp_vlog.specs.declared.tree.{Named.Named, ResetList.ResetList, ResetValue.ResetValue, VPort.VPort, Right.Right, Item.Item, Init.Init, Update.Update}
 use Rattle.kp_vlog.specs.Canon.{wire, wire_name}
-use Rattle.kp_vlog.specs.Scope.{Scope, scope_of, Sized, Sizes, sizes_of, item_sizes, port_size, width_in, address_in, place_of, address_width}
-use Rattle.kp_vlog.proofs.Tests.{same_refl}
+use Rattle.kp_vlog.specs.Scope.{Scope, scope_of, Sized, Sizes, sizes_of, width_in, address_in, place_of, address_width}
 use Rattle.kp_vwrite_roundtrip.proofs.Sentence.{ShowsEach, none_shown, one_shown, sample_port, reg_item, file_item, reg_start, reset_value, reg_update, named_at, number_at, range_at, fill_at, ShowsNames, no_name, a_name, ShowsRight, a_const, an_ext, a_sample, a_reg, a_word, a_not, a_binary, a_mux, a_concat, a_slice, ShowsInteger, no_integer, an_integer, ShowsNodes, no_node_line, node_line, ShowsWords, no_words, zero_word, some_word, ShowsFills, no_fill, a_fill, ShowsWrites, no_write, not_written, a_write, ShowsReset, no_reset_shown, reset_shown, Shown, outs, module_of}
 use Rattle.kp_vwrite_roundtrip.proofs.{Written.RightFrom, Written.all_right, Distinct.apart, Distinct.tag, Distinct.place_at, Distinct.or_rest}
 use Rattle.kp_vwrite_roundtrip.proofs.Denoted.{samples_tagged, regs_tagged, module_table, widths_are, file_sizes, scoped, table_is, ports_past}
 use Rattle.kp_vwrite_roundtrip.proofs.Runs.{literal_for}
-use Rattle.kp_vwrite_roundtrip.proofs.SameNet.{found, width_found, address_found, found_past, found_here, sized, port_sized, reg_sized, each_past, each_found, WidthsAre}
+use Rattle.kp_vwrite_roundtrip.proofs.SameNet.{found, width_found, address_found, found_past, found_here, port_sized, reg_sized, each_past, each_found, WidthsAre}
 use Rattle.kp_base.specs.First.{first}
 
 -- no check yields an offset

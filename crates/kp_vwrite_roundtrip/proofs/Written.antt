@@ -1,6 +1,6 @@
 -- The canonical text has the tokens of the netlist.
 use Rattle.std.proofs.Common.{◌≡◌, ℕ, zero, suc, ◌+◌, ◌-◌, ◌≤◌, ◌<◌, ◌^◌, List, [], ◌∷◌, ◌++◌, length, Bool, true, false, cond, refl, sym, subst, arith, append_assoc, get_or}
-use Rattle.std.proofs.{lemmas.List.Elements.All-head, lemmas.List.Elements.All-tail, lemmas.List.Elements.All-get_or, Math.Nat.pow-le-pow_right}
+use Rattle.std.proofs.{lemmas.List.Elements.All-head, lemmas.List.Elements.All-tail, Math.Nat.pow-le-pow_right}
 use Rattle.std.specs.Prelude.{codes, decimal, All, Option, Some, None, ◌==◌}
 use Rattle.kp_bits.specs.{Word.word, Word.IsWord, Spelling.spelling, declared.operator.BinOp.BinOp}
 use Rattle.kp_net.specs.declared.{node.NodeId.NodeId, node.Kind.Kind, node.Node.Node, netlist.Port.Port, netlist.WritePort.WritePort, netlist.NetReg.NetReg}
@@ -21,17 +21,25 @@ use Rattle.kp_vwrite_roundtrip.proofs.Named.{module_written, reg_written, file_w
 -- what the text requires of the parts, with names that can be written
 pub record Writable (net : Net) : Type 0 where
   pub name : IsWritten net.parts.name
-  pub samples : All (λ s. IsWritten s.name) net.parts.samples
-  pub regs : All (λ r. IsWritten r.name) net.parts.regs
-  pub files : All (λ f. IsWritten f.name) net.parts.files
+  pub samples : All (λ s. PortOk s × IsWritten s.name) net.parts.samples
+  pub regs : All (λ r. RegOk net.nodes r × IsWritten r.name) net.parts.regs
+  pub files : All (λ f. FileOk net.nodes f × IsWritten f.name) net.parts.files
 
-pub writable : (net : Net) → IsNamed net → Writable net
-writable net n = record {
+pub writable : (net : Net) → NetOk net → IsNamed net → Writable net
+writable net k n = record {
   name = module_written net.parts.name n.name;
-  samples = all_written is_sample_name (λ s. s.name) sample_written net.parts.samples n.samples;
-  regs = all_written is_reg_name (λ r. r.name) reg_written net.parts.regs n.regs;
-  files = all_written is_file_name (λ f. f.name) file_written net.parts.files n.files;
+  samples = λ i d l. (k.parts.samples i d l, all_written is_sample_name (λ s. s.name) sample_written net.parts.samples n.samples i d l);
+  regs = λ i d l. (k.parts.regs i d l, all_written is_reg_name (λ r. r.name) reg_written net.parts.regs n.regs i d l);
+  files = λ i d l. (k.parts.files i d l, all_written is_file_name (λ f. f.name) file_written net.parts.files n.files i d l);
 }
+
+-- the text of parts of one kind
+each_says : {X : Type 0} (lines : List X → Pieces) (words : X → List Word → List Word) (Fine : X → Type 0) → lines [] ≡ []
+    → ((x : X) (xs : List X) (ps : Pieces) (ws : List Word) → Fine x → Says (lines xs ++ ps) ws → Says (lines (x ∷ xs) ++ ps) (words x ws))
+    → (xs : List X) (ps : Pieces) (ws : List Word) → All Fine xs → Says ps ws → Says (lines xs ++ ps) (each_words words xs ws)
+each_says lines words Fine none one [] ps ws ok s = subst (λ (qs : Pieces). Says (qs ++ ps) ws) (sym none) s
+each_says lines words Fine none one (x ∷ xs) ps ws ok s =
+    one x xs ps (each_words words xs ws) (All-head Fine x xs ok) (each_says lines words Fine none one xs ps ws (All-tail Fine x xs ok) s)
 
 -- A byte that starts no punctuator of two bytes, whatever follows it.
 bracket_front : (text : List ℕ) → front (91 ∷ text) ≡ takes (mark marks.OpenBracket) 1
@@ -53,21 +61,17 @@ outs_say full ue back ps ws f u b s =
     ate 4 refl (bracket (spells_number (full - 1) _ _ (omega arith) refl (ate 11 refl (bracket (spells_number (ue - 1) _ _ (omega arith) refl (ate 11 refl
     (bracket (spells_number (back - 1) _ _ (omega arith) refl (ate 8 refl s)))))))))
 
-samples_say : (ss : List Port) (ps : Pieces) (ws : List Word) → All PortOk ss → All (λ s. IsWritten s.name) ss → Says ps ws → Says (sample_ports ss ++ ps) (each_words sample_words ss ws)
-samples_say [] ps ws ok named s = s
-samples_say (x ∷ ss) ps ws ok named s =
-    let port = All-head PortOk x ss ok in let high = port.at_most in
-    ate 4 refl (bracket (spells_number (x.width - 1) _ _ (omega arith) refl (ate 4 refl
-    (spells_name x.name _ _ (All-head (λ s. IsWritten s.name) x ss named) refl
-    (ate 2 refl (samples_say ss ps ws (All-tail PortOk x ss ok) (All-tail (λ s. IsWritten s.name) x ss named) s))))))
+samples_say : (ss : List Port) (ps : Pieces) (ws : List Word) → All (λ s. PortOk s × IsWritten s.name) ss → Says ps ws → Says (sample_ports ss ++ ps) (each_words sample_words ss ws)
+samples_say = each_says sample_ports sample_words (λ s. PortOk s × IsWritten s.name) refl (λ x ss ps ws ok s.
+    let high = ok.0.at_most in ate 4 refl (bracket (spells_number (x.width - 1) _ _ (omega arith) refl (ate 4 refl (spells_name x.name _ _ ok.1 refl (ate 2 refl s))))))
 
 reset_says : (reset : Bool) (ps : Pieces) (ws : List Word) → Says ps ws → Says (reset_port reset ++ ps) (reset_words reset ws)
 reset_says true ps ws s = ate 7 refl s
 reset_says false ps ws s = s
 
-header_says : (ns : List Node) (p : Parts) (ps : Pieces) (ws : List Word) → IsWritten p.name → p.ext ≤ 64 → ((i : ℕ) → wide ns i ≤ 64) → All PortOk p.samples → All (λ s. IsWritten s.name) p.samples
+header_says : (ns : List Node) (p : Parts) (ps : Pieces) (ws : List Word) → IsWritten p.name → p.ext ≤ 64 → ((i : ℕ) → wide ns i ≤ 64) → All (λ s. PortOk s × IsWritten s.name) p.samples
     → Says ps ws → Says (header ns p ++ ps) (header_words ns p ws)
-header_says ns p ps ws named ext short ok names s =
+header_says ns p ps ws named ext short ok s =
     let outs = out_ports (wide ns p.full.0) (wide ns p.ue.0) (wide ns p.back.0) in
     let inputs = codes "input wire [" ∷ decimal (p.ext - 1) ∷ codes ":0] ext, " ∷ (sample_ports p.samples ++ outs) in
     let v1 = outs_words (wide ns p.full.0) (wide ns p.ue.0) (wide ns p.back.0) ws in
@@ -75,31 +79,24 @@ header_says ns p ps ws named ext short ok names s =
     let v3 = port_words keywords.Input p.ext (codes "ext") (mark marks.Comma ∷ v2) in
     let says1 : Says (outs ++ ps) v1 = outs_say (wide ns p.full.0) (wide ns p.ue.0) (wide ns p.back.0) ps ws (short p.full.0) (short p.ue.0) (short p.back.0) s in
     let says2 : Says ((sample_ports p.samples ++ outs) ++ ps) v2 =
-    subst (λ (qs : Pieces). Says qs v2) (sym (append_assoc (sample_ports p.samples) outs ps)) (samples_say p.samples (outs ++ ps) v1 ok names says1) in
+    subst (λ (qs : Pieces). Says qs v2) (sym (append_assoc (sample_ports p.samples) outs ps)) (samples_say p.samples (outs ++ ps) v1 ok says1) in
     let says3 : Says (inputs ++ ps) v3 = ate 4 refl (bracket (spells_number (p.ext - 1) _ _ (omega arith) refl (ate 7 refl says2))) in
     ate 2 refl (spells_name p.name _ _ named refl (ate 8 refl
     (subst (λ (qs : Pieces). Says qs (reset_words p.reset v3)) (sym (append_assoc (reset_port p.reset) inputs ps)) (reset_says p.reset (inputs ++ ps) v3 says3))))
 
-regs_say : (ns : List Node) (rs : List NetReg) (ps : Pieces) (ws : List Word) → All (RegOk ns) rs → All (λ r. IsWritten r.name) rs → Says ps ws → Says (reg_lines rs ++ ps) (each_words reg_words rs ws)
-regs_say ns [] ps ws ok named s = s
-regs_say ns (r ∷ rs) ps ws ok named s =
-    let reg = All-head (RegOk ns) r rs ok in let start = reg.start in let high = start.at_most in
-    ate 4 refl (bracket (spells_number (r.start.width - 1) _ _ (omega arith) refl (ate 4 refl
-    (spells_name r.name _ _ (All-head (λ r. IsWritten r.name) r rs named) refl
-    (ate 2 refl (regs_say ns rs ps ws (All-tail (RegOk ns) r rs ok) (All-tail (λ r. IsWritten r.name) r rs named) s))))))
+regs_say : (ns : List Node) (rs : List NetReg) (ps : Pieces) (ws : List Word) → All (λ r. RegOk ns r × IsWritten r.name) rs → Says ps ws → Says (reg_lines rs ++ ps) (each_words reg_words rs ws)
+regs_say ns = each_says reg_lines reg_words (λ r. RegOk ns r × IsWritten r.name) refl (λ r rs ps ws ok s.
+    let high = ok.0.start.at_most in ate 4 refl (bracket (spells_number (r.start.width - 1) _ _ (omega arith) refl (ate 4 refl (spells_name r.name _ _ ok.1 refl (ate 2 refl s))))))
 
 -- a file has few words
 few_words : (a : ℕ) → a ≤ 16 → 2 ^ a ≤ 65536
 few_words a h = pow-le-pow_right (omega arith) h
 
-files_say : (ns : List Node) (fs : List NetFile) (ps : Pieces) (ws : List Word) → All (FileOk ns) fs → All (λ f. IsWritten f.name) fs → Says ps ws → Says (file_lines fs ++ ps) (each_words file_words fs ws)
-files_say ns [] ps ws ok named s = s
-files_say ns (f ∷ fs) ps ws ok named s =
-    let file = All-head (FileOk ns) f fs ok in let high = file.at_most in let few = few_words f.address_width file.addressed_at_most in
-    ate 4 refl (bracket (spells_number (f.width - 1) _ _ (omega arith) refl (ate 4 refl
-    (spells_name f.name _ _ (All-head (λ f. IsWritten f.name) f fs named) refl (ate 3 refl (colon
-    (spells_number (2 ^ f.address_width - 1) _ _ (omega arith) refl
-    (ate 3 refl (files_say ns fs ps ws (All-tail (FileOk ns) f fs ok) (All-tail (λ f. IsWritten f.name) f fs named) s)))))))))
+files_say : (ns : List Node) (fs : List NetFile) (ps : Pieces) (ws : List Word) → All (λ f. FileOk ns f × IsWritten f.name) fs → Says ps ws → Says (file_lines fs ++ ps) (each_words file_words fs ws)
+files_say ns = each_says file_lines file_words (λ f. FileOk ns f × IsWritten f.name) refl (λ f fs ps ws ok s.
+    let high = ok.0.at_most in let few = few_words f.address_width ok.0.addressed_at_most in
+    ate 4 refl (bracket (spells_number (f.width - 1) _ _ (omega arith) refl (ate 4 refl (spells_name f.name _ _ ok.1 refl (ate 3 refl (colon
+    (spells_number (2 ^ f.address_width - 1) _ _ (omega arith) refl (ate 3 refl s)))))))))
 
 integer_says : (fs : List NetFile) (ps : Pieces) (ws : List Word) → Says ps ws → Says (integer_line fs ++ ps) (integer_words fs ws)
 integer_says [] ps ws s = s
@@ -134,11 +131,11 @@ right_says : (net : Net) (m k : ℕ) (kind : Kind) (ps : Pieces) (ws : List Word
 right_says net m k (kinds.Const v) ps ws n few low high short ok cell s = spells_literal (word k v) _ _ (record { positive = low; at_most = high; fits = ok }) refl s
 right_says net m k kinds.Ext ps ws n few low high short ok cell s = ate 1 refl s
 right_says net m k (kinds.Sample i) ps ws n few low high short ok cell s =
-    spells_name (get_or net.parts.samples i no_port).name _ _ (All-get_or (λ s. IsWritten s.name) net.parts.samples i no_port cell.0 n.samples) refl s
+    spells_name (get_or net.parts.samples i no_port).name _ _ (n.samples i no_port cell.0).1 refl s
 right_says net m k (kinds.Reg i) ps ws n few low high short ok cell s =
-    spells_name (get_or net.parts.regs i no_reg).name _ _ (All-get_or (λ r. IsWritten r.name) net.parts.regs i no_reg cell.0 n.regs) refl s
+    spells_name (get_or net.parts.regs i no_reg).name _ _ (n.regs i no_reg cell.0).1 refl s
 right_says net m k (kinds.Word i a) ps ws n few low high short ok cell s =
-    spells_name (get_or net.parts.files i no_file).name _ _ (All-get_or (λ f. IsWritten f.name) net.parts.files i no_file cell.0 n.files) refl
+    spells_name (get_or net.parts.files i no_file).name _ _ (n.files i no_file cell.0).1 refl
     (ate 1 refl (spells_name (wire a) _ _ (wire_ok m a few ok) refl (ate 1 refl s)))
 right_says net m k (kinds.Not a) ps ws n few low high short ok cell s = ate 1 refl (spells_name (wire a) _ _ (wire_ok m a few ok.0) refl s)
 right_says net m k (kinds.Binary op a b) ps ws n few low high short ok cell s = sign_says op a b ps ws (wire_ok m a few ok.0) (wire_ok m b few ok.1) s
@@ -182,12 +179,9 @@ out_says : (port : List ℕ) (a : NodeId) (ps : Pieces) (ws : List Word) → a.0
     → Says ps ws → Says (out_line port a ++ ps) (out_words port a ws)
 out_says port a ps ws h front s = front (wire a ∷ codes ";\n" ∷ ps) (name (wire a) ∷ mark marks.Semicolon ∷ ws) (spells_name (wire a) _ _ (wire_written a.0 (omega arith)) refl (ate 2 refl s))
 
-starts_say : (ns : List Node) (rs : List NetReg) (ps : Pieces) (ws : List Word) → All (RegOk ns) rs → All (λ r. IsWritten r.name) rs → Says ps ws → Says (start_lines rs ++ ps) (each_words start_words rs ws)
-starts_say ns [] ps ws ok named s = s
-starts_say ns (r ∷ rs) ps ws ok named s =
-    let reg = All-head (RegOk ns) r rs ok in
-    ate 4 refl (spells_name r.name _ _ (All-head (λ r. IsWritten r.name) r rs named) refl (ate 3 refl (spells_literal r.start _ _ reg.start refl
-    (ate 2 refl (starts_say ns rs ps ws (All-tail (RegOk ns) r rs ok) (All-tail (λ r. IsWritten r.name) r rs named) s)))))
+starts_say : (ns : List Node) (rs : List NetReg) (ps : Pieces) (ws : List Word) → All (λ r. RegOk ns r × IsWritten r.name) rs → Says ps ws → Says (start_lines rs ++ ps) (each_words start_words rs ws)
+starts_say ns = each_says start_lines start_words (λ r. RegOk ns r × IsWritten r.name) refl
+    (λ r rs ps ws ok s. ate 4 refl (spells_name r.name _ _ ok.1 refl (ate 3 refl (spells_literal r.start _ _ ok.0.start refl (ate 2 refl s)))))
 
 word_says : (n : List ℕ) (k a v : ℕ) (ps : Pieces) (ws : List Word) → IsWritten n → IsWord (word k v) → a < 65536 → Says ps ws → (t : Bool) → (v == 0) ≡ t → Says (word_line n k a v ++ ps) (content_word n k a v ws)
 word_says n k a v ps ws named ok low s true e =
@@ -207,17 +201,18 @@ words_say n k a (v ∷ vs) ps ws named low high few fit s =
     (word_says n k a v _ _ named (record { positive = low; at_most = high; fits = All-head (λ v. v < 2 ^ k) v vs fit }) (omega arith)
     (words_say n k (a + 1) vs ps ws named low high (omega arith) (All-tail (λ v. v < 2 ^ k) v vs fit) s) (v == 0) refl)
 
-fills_say : (ns : List Node) (fs : List NetFile) (ps : Pieces) (ws : List Word) → All (FileOk ns) fs → All (λ f. IsWritten f.name) fs → Says ps ws → Says (fill_lines fs ++ ps) (fill_words fs ws)
-fills_say ns [] ps ws ok named s = s
-fills_say ns (f ∷ fs) ps ws ok named s =
-    let file = All-head (FileOk ns) f fs ok in let few = few_words f.address_width file.addressed_at_most in let full = file.full in
-    let n = All-head (λ f. IsWritten f.name) f fs named in
+fills_say : (ns : List Node) (fs : List NetFile) (ps : Pieces) (ws : List Word) → All (λ f. FileOk ns f × IsWritten f.name) fs → Says ps ws → Says (fill_lines fs ++ ps) (fill_words fs ws)
+fills_say ns [] ps ws ok s = s
+fills_say ns (f ∷ fs) ps ws ok s =
+    let F : NetFile → Type 0 = λ f. FileOk ns f × IsWritten f.name in
+    let file = (All-head F f fs ok).0 in let few = few_words f.address_width file.addressed_at_most in let full = file.full in
+    let n = (All-head F f fs ok).1 in
     let zero_fits : 2 ^ 0 ≤ 2 ^ f.width = pow-le-pow_right {n = 2} (omega arith) {i = 0} {j = f.width} (omega arith) in
     ate 18 refl (spells_number (2 ^ f.address_width) _ _ (omega arith) refl (ate 13 refl (spells_name f.name _ _ n refl (ate 6 refl
     (spells_literal (word f.width 0) _ _ (record { positive = file.positive; at_most = file.at_most; fits = omega arith }) refl (ate 2 refl
     (subst (λ (qs : Pieces). Says qs (content_words f.name f.width 0 f.words (fill_words fs ws))) (sym (append_assoc (word_lines f.name f.width 0 f.words) (fill_lines fs) ps))
     (words_say f.name f.width 0 f.words _ _ n file.positive file.at_most (omega arith) file.words
-    (fills_say ns fs ps ws (All-tail (FileOk ns) f fs ok) (All-tail (λ f. IsWritten f.name) f fs named) s)))))))))
+    (fills_say ns fs ps ws (All-tail F f fs ok) s)))))))))
 
 -- a margin of blanks is skipped
 pub record IsMargin (margin : List ℕ) : Type 0 where
@@ -226,14 +221,10 @@ pub record IsMargin (margin : List ℕ) : Type 0 where
 node_written : (ns : List Node) (a : NodeId) (k : ℕ) → length ns ≤ 16777216 → NodeIs ns a k → IsWritten (wire a)
 node_written ns a k few h = wire_ok (length ns) a few h.0
 
-updates_say : (margin : List ℕ) (ns : List Node) (rs : List NetReg) (ps : Pieces) (ws : List Word) → IsMargin margin → length ns ≤ 16777216 → All (RegOk ns) rs → All (λ r. IsWritten r.name) rs
+updates_say : (margin : List ℕ) (ns : List Node) (rs : List NetReg) (ps : Pieces) (ws : List Word) → IsMargin margin → length ns ≤ 16777216 → All (λ r. RegOk ns r × IsWritten r.name) rs
     → Says ps ws → Says (update_lines margin rs ++ ps) (each_words update_words rs ws)
-updates_say margin ns [] ps ws pass few ok named s = s
-updates_say margin ns (r ∷ rs) ps ws pass few ok named s =
-    let reg = All-head (RegOk ns) r rs ok in
-    pass.passes _ _ (spells_name r.name _ _ (All-head (λ r. IsWritten r.name) r rs named) refl
-    (ate 3 refl (spells_name (wire r.next) _ _ (node_written ns r.next r.start.width few reg.next) refl
-    (ate 2 refl (updates_say margin ns rs ps ws pass few (All-tail (RegOk ns) r rs ok) (All-tail (λ r. IsWritten r.name) r rs named) s)))))
+updates_say margin ns rs ps ws pass few = each_says (update_lines margin) update_words (λ r. RegOk ns r × IsWritten r.name) refl (λ r rs ps ws ok s.
+    pass.passes _ _ (spells_name r.name _ _ ok.1 refl (ate 3 refl (spells_name (wire r.next) _ _ (node_written ns r.next r.start.width few ok.0.next) refl (ate 2 refl s))))) rs ps ws
 
 write_says : (margin n : List ℕ) (ns : List Node) (w a : ℕ) (port : Option WritePort) (ps : Pieces) (ws : List Word) → IsMargin margin → length ns ≤ 16777216 → IsWritten n → WriteOk ns w a port
     → Says ps ws → Says (port_line margin n port ++ ps) (write_words n port ws)
@@ -243,26 +234,23 @@ write_says margin n ns w a (Some p) ps ws pass few named ok s =
     (ate 1 refl (spells_name (wire p.address) _ _ (node_written ns p.address a few ok.1) refl (ate 4 refl
     (spells_name (wire p.value) _ _ (node_written ns p.value w few ok.2) refl (ate 2 refl s)))))))))
 
-writes_say : (margin : List ℕ) (ns : List Node) (fs : List NetFile) (ps : Pieces) (ws : List Word) → IsMargin margin → length ns ≤ 16777216 → All (FileOk ns) fs → All (λ f. IsWritten f.name) fs
+writes_say : (margin : List ℕ) (ns : List Node) (fs : List NetFile) (ps : Pieces) (ws : List Word) → IsMargin margin → length ns ≤ 16777216 → All (λ f. FileOk ns f × IsWritten f.name) fs
     → Says ps ws → Says (port_lines margin fs ++ ps) (writes_words fs ws)
-writes_say margin ns [] ps ws pass few ok named s = s
-writes_say margin ns (f ∷ fs) ps ws pass few ok named s =
-    let file = All-head (FileOk ns) f fs ok in
+writes_say margin ns [] ps ws pass few ok s = s
+writes_say margin ns (f ∷ fs) ps ws pass few ok s =
+    let F : NetFile → Type 0 = λ f. FileOk ns f × IsWritten f.name in
+    let file = All-head F f fs ok in
     subst (λ (qs : Pieces). Says qs (writes_words (f ∷ fs) ws)) (sym (append_assoc (port_line margin f.name f.port) (port_lines margin fs) ps))
-    (write_says margin f.name ns f.width f.address_width f.port _ _ pass few (All-head (λ f. IsWritten f.name) f fs named) file.port
-    (writes_say margin ns fs ps ws pass few (All-tail (FileOk ns) f fs ok) (All-tail (λ f. IsWritten f.name) f fs named) s))
+    (write_says margin f.name ns f.width f.address_width f.port _ _ pass few file.1 file.0.port (writes_say margin ns fs ps ws pass few (All-tail F f fs ok) s))
 
 changes_say : (margin : List ℕ) (net : Net) (ps : Pieces) (ws : List Word) → IsMargin margin → NetOk net → Writable net → Says ps ws → Says (change_lines margin net.parts ++ ps) (change_words net.parts ws)
 changes_say margin net ps ws pass k n s =
     subst (λ (qs : Pieces). Says qs (change_words net.parts ws)) (sym (append_assoc (update_lines margin net.parts.regs) (port_lines margin net.parts.files) ps))
-    (updates_say margin net.nodes net.parts.regs _ _ pass k.count k.parts.regs n.regs (writes_say margin net.nodes net.parts.files ps ws pass k.count k.parts.files n.files s))
+    (updates_say margin net.nodes net.parts.regs _ _ pass k.count n.regs (writes_say margin net.nodes net.parts.files ps ws pass k.count n.files s))
 
-values_say : (ns : List Node) (rs : List NetReg) (ps : Pieces) (ws : List Word) → All (RegOk ns) rs → All (λ r. IsWritten r.name) rs → Says ps ws → Says (reset_lines rs ++ ps) (each_words value_words rs ws)
-values_say ns [] ps ws ok named s = s
-values_say ns (r ∷ rs) ps ws ok named s =
-    let reg = All-head (RegOk ns) r rs ok in
-    ate 6 refl (spells_name r.name _ _ (All-head (λ r. IsWritten r.name) r rs named) refl (ate 3 refl (spells_literal r.start _ _ reg.start refl
-    (ate 2 refl (values_say ns rs ps ws (All-tail (RegOk ns) r rs ok) (All-tail (λ r. IsWritten r.name) r rs named) s)))))
+values_say : (ns : List Node) (rs : List NetReg) (ps : Pieces) (ws : List Word) → All (λ r. RegOk ns r × IsWritten r.name) rs → Says ps ws → Says (reset_lines rs ++ ps) (each_words value_words rs ws)
+values_say ns = each_says reset_lines value_words (λ r. RegOk ns r × IsWritten r.name) refl
+    (λ r rs ps ws ok s. ate 6 refl (spells_name r.name _ _ ok.1 refl (ate 3 refl (spells_literal r.start _ _ ok.0.start refl (ate 2 refl s)))))
 
 four_pass : IsMargin (codes "    ")
 four_pass = record { passes = λ text vs s. ate 4 refl s }
@@ -284,7 +272,7 @@ body_says true net ps ws k n s =
     subst (λ (qs : Pieces). Says qs v2) (sym (append_assoc (change_lines (codes "      ") p) last ps)) (changes_say (codes "      ") net (last ++ ps) v1 six_pass k n says1) in
     let says3 : Says ((codes "    end else begin\n" ∷ changes) ++ ps) v3 = ate 10 refl says2 in
     ate 12 refl
-    (subst (λ (qs : Pieces). Says qs (each_words value_words p.regs v3)) (sym (append_assoc (reset_lines p.regs) (codes "    end else begin\n" ∷ changes) ps)) (values_say net.nodes p.regs ((codes "    end else begin\n" ∷ changes) ++ ps) v3 k.parts.regs n.regs says3))
+    (subst (λ (qs : Pieces). Says qs (each_words value_words p.regs v3)) (sym (append_assoc (reset_lines p.regs) (codes "    end else begin\n" ∷ changes) ps)) (values_say net.nodes p.regs ((codes "    end else begin\n" ∷ changes) ++ ps) v3 n.regs says3))
 
 wide_short : (net : Net) → NetOk net → (i : ℕ) → wide net.nodes i ≤ 64
 unfolding wide
@@ -299,7 +287,7 @@ wide_short net k i = go net.nodes i (λ j h. (k.right j h).at_most)
 pub canon_says : (net : Net) → NetOk net → IsNamed net → Spells (canon net) (net_words net)
 unfolding canon
 canon_says net k named =
-    let n = writable net named in
+    let n = writable net k named in
     let p = net.parts in
     let few = k.count in
     let short = wide_short net k in
@@ -309,8 +297,7 @@ canon_says net k named =
     let p3 : Pieces = codes "  initial begin\n" ∷ (start_lines p.regs ++ (fill_lines p.files ++ p2)) in
     let s1 : Says p1 w1 = ate 6 refl spells_nothing in
     let s2 : Says p2 (w2 p) = ate 17 refl (body_says p.reset net p1 w1 k n s1) in
-    let s3 : Says p3 (w3 p) = ate 6 refl (starts_say net.nodes p.regs (fill_lines p.files ++ p2) (fill_words p.files (w2 p)) k.parts.regs n.regs
-    (fills_say net.nodes p.files p2 (w2 p) k.parts.files n.files s2)) in
+    let s3 : Says p3 (w3 p) = ate 6 refl (starts_say net.nodes p.regs (fill_lines p.files ++ p2) (fill_words p.files (w2 p)) n.regs (fills_say net.nodes p.files p2 (w2 p) n.files s2)) in
     let p4 : Pieces = out_line (codes "back") p.back ++ p3 in
     let p5 : Pieces = out_line (codes "ue") p.ue ++ p4 in
     let p6 : Pieces = out_line (codes "full") p.full ++ p5 in
@@ -324,5 +311,5 @@ canon_says net k named =
     let s8 : Says p8 v8 = integer_says p.files p7 (w7 net) s7 in
     let p9 : Pieces = file_lines p.files ++ p8 in
     let v9 = each_words file_words p.files v8 in
-    let s9 : Says p9 v9 = files_say net.nodes p.files p8 v8 k.parts.files n.files s8 in
-    header_says net.nodes p (reg_lines p.regs ++ p9) (w8 net) n.name k.parts.ext_at_most short k.parts.samples n.samples (regs_say net.nodes p.regs p9 v9 k.parts.regs n.regs s9)
+    let s9 : Says p9 v9 = files_say net.nodes p.files p8 v8 n.files s8 in
+    header_says net.nodes p (reg_lines p.regs ++ p9) (w8 net) n.name k.parts.ext_at_most short n.samples (regs_say net.nodes p.regs p9 v9 n.regs s9)

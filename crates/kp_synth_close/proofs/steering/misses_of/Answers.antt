@@ -1,16 +1,17 @@
-use Rattle.std.proofs.{Common.◌≡◌, Common.◌∙◌, Common.ℕ, Common.◌+◌, Common.◌<◌, Common.get_or, Common.sym, Common.subst, Common.arith, lemmas.List.length-set}
+use Rattle.std.proofs.Common.{◌≡◌, ◌∙◌, ℕ, ◌+◌, ◌<◌, get_or, sym, subst, arith}
+use Rattle.std.proofs.lemmas.List.{length-set, get_or_default}
 use Rattle.kp_pipeline.specs.Pipeline.{mismatches}
 use Rattle.kp_machine.specs.Machine.{machine_of}
 use Rattle.kp_net.specs.Growth.{Wire}
 use Rattle.kp_synth_registers.{specs.declared.outcome.Outcome.Outcome, specs.Meaning.IsTest, specs.Meaning.Says, proofs.Growth.says_kept}
-use Rattle.kp_synth_close.{specs.Nexts.outcome_at, specs.Nexts.no_outcome, proofs.Bits.get_any, proofs.Bits.at_set}
+use Rattle.kp_synth_close.{specs.Nexts.outcome_at, specs.Nexts.no_outcome, proofs.Bits.at_set}
 use Rattle.kp_synth_close.proofs.steering.misses_of.Goals as goal
 
 pub loop-k-preserved : goal.loop-k-preserved
 loop-k-preserved c =
     let v = c.loop-k.invariant in
     let l : c.loop-k.k < c.args.layout.now.stages.value = omega (arith, c.loop-k-test.true, c.stages-k-end.ensures.stages) in
-    let e = get_any c.args.outs.now c.loop-k.k c.index-outs-k.result no_outcome (omega (arith, l, c.requires.says.count)) in
+    let e = get_or_default c.args.outs.now c.loop-k.k c.index-outs-k.result no_outcome (omega (arith, l, c.requires.says.count)) in
     let s : Says c.args.layout.now c.bit-zero.new.pool c.loop-k.k (outcome_at c.args.outs.now c.loop-k.k) = says_kept _ _ _ 1 _ _ c.bit-zero.ensures.grown.kept (c.requires.says.says c.loop-k.k l) in
     let b : c.loop-k.k < 12 = omega (arith, l, c.stages-k-end.ensures.fits.at_most) in
     let n = (get_or c.args.outs.now c.loop-k.k c.index-outs-k.result).miss in

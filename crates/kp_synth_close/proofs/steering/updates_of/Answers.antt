@@ -1,10 +1,11 @@
-use Rattle.std.proofs.{Common.◌≡◌, Common.◌∙◌, Common.ℕ, Common.◌+◌, Common.◌<◌, Common.sym, Common.subst, Common.arith, lemmas.List.length-set}
+use Rattle.std.proofs.Common.{◌≡◌, ◌∙◌, ℕ, ◌+◌, ◌<◌, sym, subst, arith}
+use Rattle.std.proofs.lemmas.List.{length-set, get_or_default}
 use Rattle.kp_pipeline.specs.Pipeline.{ue}
 use Rattle.kp_machine.specs.Machine.{machine_of}
 use Rattle.kp_net.{specs.Growth.Wire, proofs.Growing.wire_kept, proofs.Growing.grown_then, proofs.Growing.grown_more}
 use Rattle.kp_synth_registers.specs.{declared.outcome.Outcome.Outcome, Meaning.IsTest, Meaning.Says}
 use Rattle.kp_synth_registers.proofs.Growth.{says_kept, test_kept, ready_kept}
-use Rattle.kp_synth_close.{specs.Nexts.outcome_at, specs.Nexts.no_outcome, proofs.Bits.get_any, proofs.Bits.at_set}
+use Rattle.kp_synth_close.{specs.Nexts.outcome_at, specs.Nexts.no_outcome, proofs.Bits.at_set}
 use Rattle.kp_synth_close.proofs.steering.updates_of.Goals as goal
 
 pub update_in-requires-clause-ready : goal.update_in-requires-clause-ready
@@ -13,7 +14,7 @@ update_in-requires-clause-ready c = ready_kept _ _ _ _ _ c.loop-k.invariant.grow
 pub update_in-requires-clause-says : goal.update_in-requires-clause-says
 update_in-requires-clause-says c =
     let l : c.loop-k.k < c.args.layout.now.stages.value = omega (arith, c.loop-k-test.true, c.stages-k-end.ensures.stages) in
-    let e = get_any c.args.outs.now c.loop-k.k c.index-outs-i.result no_outcome (omega (arith, l, c.requires.says.count)) in
+    let e = get_or_default c.args.outs.now c.loop-k.k c.index-outs-i.result no_outcome (omega (arith, l, c.requires.says.count)) in
     let s : Says c.args.layout.now c.loop-k.pool c.loop-k.k (outcome_at c.args.outs.now c.loop-k.k) = says_kept _ _ _ _ _ _ c.loop-k.invariant.grown.kept (c.requires.says.says c.loop-k.k l) in
     subst (λ (o : Outcome). Says c.args.layout.now c.loop-k.pool c.loop-k.k o) (sym (c.index-outs-i.is ∙ e)) s
 

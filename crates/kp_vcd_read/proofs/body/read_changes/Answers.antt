@@ -1,12 +1,11 @@
-use Rattle.std.proofs.{Common.◌∙◌, lemmas.Result.err_from_is_err_and}
+use Rattle.std.proofs.Common.{◌∙◌}
 use Rattle.kp_vcd_read.proofs.Meeting.{stops, change_on}
 use Rattle.kp_vcd_read.proofs.body.read_changes.Goals as goal
 
 pub returns-in_err-change-clause-meets : goal.returns-in_err-change-clause-meets
 returns-in_err-change-clause-meets c d is =
-    let p = err_from_is_err_and c.from_residual.result c.from_residual.ensures.1 in
-    rw (p.1, p.2) (stops _ _ c.in_err-change.field-0.0
+    stops _ _ _ _ _ c.from_residual.ensures.1
     (c.loop-word.invariant.same d is
     ∙ change_on d c.args.time c.loop-word.changes.items c.loop-word.words c.next.new.self c.in-Some.word c.bytes.result.now c.time_of.result
     c.in-Some.ensures.some c.in-Some.ensures.end c.bytes.ensures c.time_of.ensures c.in_default-time_of.is)
-    (c.in_err-change.ensures.meets d c.args.time c.loop-word.changes.items is))
+    (c.in_err-change.ensures.meets d c.args.time c.loop-word.changes.items is)

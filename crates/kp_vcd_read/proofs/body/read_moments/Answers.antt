@@ -1,6 +1,7 @@
 use Rattle.std.proofs.{Common.◌∙◌, Common.ℕ, Common.Option, Common.sym, Common.ap, lemmas.Result.err_from_is_err_and}
 use Rattle.kp_vcd.specs.declared.dump.Dump.{Dump}
-use Rattle.kp_vcd_read.{specs.inner.Meeting.gives_behind, proofs.Meeting.stops, proofs.Meeting.same_dump}
+use Rattle.kp_vcd_read.specs.inner.Meeting.{gives_behind}
+use Rattle.kp_vcd_read.proofs.Meeting.{stops, same_dump}
 use Rattle.kp_vcd_read.proofs.body.read_moments.Goals as goal
 
 pub returns-in_err-next : goal.returns-in_err-next
@@ -15,8 +16,7 @@ loop-next-init c d is none =
 
 pub returns-in_err-changes : goal.returns-in_err-changes
 returns-in_err-changes c d is none =
-    let p = err_from_is_err_and c.from_residual-in_err-changes.result c.from_residual-in_err-changes.ensures.1 in
-    rw (p.1, p.2) (stops _ _ c.in_err-changes.field-0.0
+    stops _ _ _ _ _ c.from_residual-in_err-changes.ensures.1
     (c.loop-next.invariant d is none
     ∙ ap (λ (o : Option ℕ). gives_behind (record d { moments = c.loop-next.moments.items }) o c.loop-next.words) c.in-Some.is)
-    (c.in_err-changes.ensures.meets (record d { moments = c.loop-next.moments.items }) is))
+    (c.in_err-changes.ensures.meets (record d { moments = c.loop-next.moments.items }) is)

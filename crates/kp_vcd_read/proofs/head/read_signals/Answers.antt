@@ -1,5 +1,4 @@
 use Rattle.std.proofs.Common.{◌∙◌, List, sym, ap, arith, true, false, length}
-use Rattle.std.proofs.lemmas.Result.{err_from_is_err_and}
 use Rattle.kp_vcd.specs.declared.dump.Signal.{Signal}
 use Rattle.kp_vcd_read.specs.{Reading.declaration, Reading.first_time, Reading.at, Reading.named, inner.Meeting.gives_from}
 use Rattle.kp_vcd_read.proofs.Meeting.{stops, more_wanted, more_on}
@@ -7,18 +6,16 @@ use Rattle.kp_vcd_read.proofs.head.read_signals.Goals as goal
 
 pub returns-in_err-read_more-clause-meets : goal.returns-in_err-read_more-clause-meets
 returns-in_err-read_more-clause-meets c name =
-    let p = err_from_is_err_and c.from_residual.result c.from_residual.ensures.1 in
-    rw (p.1, p.2) (stops _ _ c.in_err-read_more.field-0.0 (c.loop-signals.invariant.same name)
-    (c.in_err-read_more.ensures.takes _ _ (more_wanted (record (named name) { signals = c.loop-signals.signals.items }))))
+    stops _ _ _ _ _ c.from_residual.ensures.1 (c.loop-signals.invariant.same name)
+    (c.in_err-read_more.ensures.takes _ _ (more_wanted (record (named name) { signals = c.loop-signals.signals.items })))
 
 pub returns-in_err-signal-clause-meets : goal.returns-in_err-signal-clause-meets
 returns-in_err-signal-clause-meets c name =
-    let p = err_from_is_err_and c.from_residual-in_err-signal.result c.from_residual-in_err-signal.ensures.1 in
-    rw (p.1, p.2) (stops _ _ c.in_err-signal.field-0.0
+    stops _ _ _ _ _ c.from_residual-in_err-signal.ensures.1
     (c.loop-signals.invariant.same name
     ∙ more_on (record (named name) { signals = c.loop-signals.signals.items }) c.loop-signals.words c.read_more.new.words c.in_ok-read_more.field-0 true c.if-branch.true
     (c.in_ok-read_more.ensures.takes _ _ (more_wanted (record (named name) { signals = c.loop-signals.signals.items }))))
-    (c.in_err-signal.ensures.meets (record (named name) { signals = c.loop-signals.signals.items }) (ap length (sym c.as_slice.ensures.value))))
+    (c.in_err-signal.ensures.meets (record (named name) { signals = c.loop-signals.signals.items }) (ap length (sym c.as_slice.ensures.value)))
 
 pub loop-signals-preserved : goal.loop-signals-preserved
 loop-signals-preserved c = record {
@@ -32,12 +29,11 @@ loop-signals-preserved c = record {
 
 pub returns-in_err-expect-clause-meets : goal.returns-in_err-expect-clause-meets
 returns-in_err-expect-clause-meets c name =
-    let p = err_from_is_err_and c.from_residual-in_err-expect.result c.from_residual-in_err-expect.ensures.1 in
-    rw (p.1, p.2) (stops _ _ c.in_err-expect.field-0.0
+    stops _ _ _ _ _ c.from_residual-in_err-expect.ensures.1
     (c.loop-signals.invariant.same name
     ∙ more_on (record (named name) { signals = c.loop-signals.signals.items }) c.loop-signals.words c.read_more.new.words c.in_ok-read_more.field-0 false c.if-branch.false
     (c.in_ok-read_more.ensures.takes _ _ (more_wanted (record (named name) { signals = c.loop-signals.signals.items }))))
-    (c.in_err-expect.ensures.meets first_time (record (named name) { signals = c.loop-signals.signals.items })))
+    (c.in_err-expect.ensures.meets first_time (record (named name) { signals = c.loop-signals.signals.items }))
 
 pub returns-clause-meets : goal.returns-clause-meets
 returns-clause-meets c name =

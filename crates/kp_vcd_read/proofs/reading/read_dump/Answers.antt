@@ -1,20 +1,18 @@
 use Rattle.std.proofs.Common.{◌∙◌, List, sym, ap, ap₂, arith, length, refl, Ok}
-use Rattle.std.proofs.lemmas.Result.{err_from_is_err_and}
 use Rattle.kp_vcd.specs.declared.dump.{Signal.Signal, Moment.Moment}
-use Rattle.kp_vcd_read.{specs.Reading.named, specs.inner.Left.Left, proofs.Counted.left_few, proofs.Meeting.stops, proofs.Meeting.from_start}
+use Rattle.kp_vcd_read.specs.{Reading.named, inner.Left.Left}
+use Rattle.kp_vcd_read.proofs.{Counted.left_few, Meeting.stops, Meeting.from_start}
 use Rattle.kp_vcd_read.proofs.reading.read_dump.Goals as goal
 
 pub returns-in_err-module : goal.returns-in_err-module
 returns-in_err-module c =
-    let p = err_from_is_err_and c.from_residual.result c.from_residual.ensures.1 in
-    rw (p.1, p.2) (stops _ _ c.in_err-module.field-0.0 (from_start c.args.text.now c.of-words.result c.of-words.ensures) c.in_err-module.ensures.meets)
+    stops _ _ _ _ _ c.from_residual.ensures.1 (from_start c.args.text.now c.of-words.result c.of-words.ensures) c.in_err-module.ensures.meets
 
 pub returns-in_err-signals : goal.returns-in_err-signals
 returns-in_err-signals c =
-    let p = err_from_is_err_and c.from_residual-in_err-signals.result c.from_residual-in_err-signals.ensures.1 in
-    rw (p.1, p.2) (stops _ _ c.in_err-signals.field-0.0
+    stops _ _ _ _ _ c.from_residual-in_err-signals.ensures.1
     (from_start c.args.text.now c.of-words.result c.of-words.ensures ∙ c.in_ok-module.ensures.meets)
-    (c.in_err-signals.ensures.meets c.in_ok-module.module))
+    (c.in_err-signals.ensures.meets c.in_ok-module.module)
 
 pub read_moments-requires : goal.read_moments-requires
 read_moments-requires c =
@@ -28,10 +26,9 @@ read_moments-requires c =
 
 pub returns-in_err-moments : goal.returns-in_err-moments
 returns-in_err-moments c =
-    let p = err_from_is_err_and c.from_residual-in_err-moments.result c.from_residual-in_err-moments.ensures.1 in
-    rw (p.1, p.2) (stops _ _ c.in_err-moments.field-0.0
+    stops _ _ _ _ _ c.from_residual-in_err-moments.ensures.1
     (from_start c.args.text.now c.of-words.result c.of-words.ensures ∙ c.in_ok-module.ensures.meets ∙ c.in_ok-signals.ensures.meets c.in_ok-module.module)
-    (c.in_err-moments.ensures (record (named c.in_ok-module.module) { signals = c.in_ok-signals.signals.items }) (sym c.as_slice.ensures.value) refl))
+    (c.in_err-moments.ensures (record (named c.in_ok-module.module) { signals = c.in_ok-signals.signals.items }) (sym c.as_slice.ensures.value) refl)
 
 pub returns : goal.returns
 returns c =
