@@ -1,7 +1,6 @@
 -- What the next nodes mean, arm by arm.
 use Rattle.std.proofs.Common.{◌≡◌, ◌∙◌, ℕ, suc, ◌<◌, Bool, true, false, cond, not, ◌&&◌, ◌||◌, leb, length, get_or, Option, Some, None, refl, sym, ap, subst}
-use Rattle.std.proofs.{Math.Bool.not-not, lemmas.Bool.and_parts}
-use Rattle.std.specs.Prelude.{nat_le, unwrap_or}
+use Rattle.std.{proofs.Math.Bool.not-not, proofs.lemmas.Bool.and_parts, specs.Prelude.nat_le, specs.Prelude.unwrap_or}
 use Rattle.kp_ast.specs.declared.tree.Job.{Job}
 use Rattle.kp_pipeline.specs.Sequential.{first_value, after_stage}
 use Rattle.kp_pipeline.specs.Pipeline.{PipelineState, Inputs, outcome, ue, stall, back, cycle, next_stage, next_hints}

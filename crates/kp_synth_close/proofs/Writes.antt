@@ -1,7 +1,6 @@
 -- What a target takes, by the tables.
 use Rattle.std.proofs.Common.{◌≡◌, ◌∙◌, ℕ, ◌<◌, Bool, true, false, cond, ◌&&◌, ◌==◌, ◌^◌, eqb-true, length, Option, Some, None, refl, sym, ap, subst, arith}
-use Rattle.std.proofs.{Math.Bool.and-true, Math.Bool.and_assoc, lemmas.Bool.cond-true}
-use Rattle.std.specs.Prelude.{unwrap_or, is_some}
+use Rattle.std.{proofs.Math.Bool.and-true, proofs.Math.Bool.and_assoc, proofs.lemmas.Bool.cond-true, specs.Prelude.unwrap_or, specs.Prelude.is_some}
 use Rattle.kp_ast.specs.declared.tree.{Named.Named, ResultDecl.ResultDecl, Job.Job}
 use Rattle.kp_pipeline.specs.Sequential.{first_value, intends}
 use Rattle.kp_pipeline.specs.Pipeline.{PipelineState, Inputs, ue, outcome, next_visible}

@@ -1,7 +1,6 @@
 -- Parts of a text that lead from one state to another.
 use Rattle.std.proofs.Common.{◌≡◌, ◌∙◌, refl, sym, ap, subst, arith, ℕ, Bool, true, false, not, List, [], ◌∷◌, ◌++◌, Ok, append_assoc}
-use Rattle.std.proofs.lemmas.{Bool.and_parts, List.append-nil}
-use Rattle.std.specs.List.{list_all}
+use Rattle.std.{proofs.lemmas.Bool.and_parts, proofs.lemmas.List.append-nil, specs.List.list_all}
 use Rattle.kp_base.specs.{Place.place_after, declared.place.Place.Place}
 use Rattle.kp_vcd_read.specs.{Words.is_layout, Words.Spot, Words.ended, Words.words_from, Reading.State, Reading.Step, Reading.step, Reading.walk}
 use Rattle.kp_vcd_read.proofs.{Spots.is_part, Numerals.IsPlain}

@@ -1,7 +1,6 @@
 -- Readers of one token, and the consequences for the complete text.
 use Rattle.std.proofs.Common.{◌≡◌, ◌∙◌, ℕ, suc, ◌+◌, ◌<◌, Bool, true, false, not, map, Option, None, List, [], ◌∷◌, length, drop, get_or, Result, Ok, Err, refl, ap, sym, subst, add-one, drop-cons, IsErrAnd}
-use Rattle.std.proofs.lemmas.{List.get_or-map, Result.err_from_is_err_and}
-use Rattle.std.specs.Prelude.{if◌then◌else◌}
+use Rattle.std.{proofs.lemmas.List.get_or-map, proofs.lemmas.Result.err_from_is_err_and, specs.Prelude.if◌then◌else◌}
 use Rattle.kp_base.specs.declared.place.Place.{Place}
 use Rattle.kp_vcd.specs.declared.dump.{Change.Change, Moment.Moment, Dump.Dump}
 use Rattle.kp_vcd_read.specs.Reading.{Fault, Next, given, module_name, declaration, signal_kind, signal_width, signal_code, signal_name, first_time, change, begins, goes_on, State, Step, at, named, with_signal, these, end_word, foot_words, begin, verdict, walk, ends, step, says}

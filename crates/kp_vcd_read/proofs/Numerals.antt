@@ -6,8 +6,7 @@ use Rattle.std.proofs.{lemmas.Nat.mod-pow-add, Math.Nat.mod-eq_of_lt, Math.Nat.p
 use Rattle.std.specs.Prelude.{codes, decimal, nat_le, nat_lt, ◌==◌, ◌&&◌, ◌-◌, unwrap_or, if◌then◌else◌}
 use Rattle.std.specs.{Fmt.digits, Char.digit_char, Int.Digits.digits_of, Int.Digits.AllBelowBase, List.list_all}
 use Rattle.kp_bits.specs.Literals.{is_number, numeral_next, numeral_value, number_within, number_of}
-use Rattle.kp_bits.specs.{Spelling.decimal_digits, Word.word}
-use Rattle.kp_bits.proofs.RoundTrips.{decimal_value, decimal_number}
+use Rattle.kp_bits.{specs.Spelling.decimal_digits, specs.Word.word, proofs.RoundTrips.decimal_value, proofs.RoundTrips.decimal_number}
 use Rattle.kp_vcd.specs.Text.{bit_digits}
 use Rattle.kp_vcd_read.specs.Forms.{capped, is_padded, index_in, width_of, is_bit, are_bits, value_of}
 use Rattle.kp_vcd_read.proofs.Spots.{is_part}

@@ -1,7 +1,6 @@
 -- Tokens from the front of a text on.
 use Rattle.std.proofs.Common.{◌≡◌, ◌∙◌, ℕ, ◌+◌, List, [], ◌∷◌, ◌++◌, take, drop, Bool, true, false, refl, ap, sym, subst, add-one, arith, append_assoc}
-use Rattle.std.proofs.lemmas.List.{append-nil}
-use Rattle.std.specs.Prelude.{not}
+use Rattle.std.{proofs.lemmas.List.append-nil, specs.Prelude.not}
 use Rattle.kp_base.specs.Characters.{run_length}
 use Rattle.kp_vcd_read.specs.Words.{is_layout, ended, words_from}
 

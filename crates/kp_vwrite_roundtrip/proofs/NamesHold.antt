@@ -6,7 +6,7 @@ use Rattle.std.specs.{Prelude.codes, Prelude.All, Prelude.◌==◌, Prelude.◌&
 use Rattle.kp_net.specs.declared.{node.NodeId.NodeId, node.Kind.Kind, node.Node.Node, netlist.Port.Port, netlist.NetReg.NetReg, netlist.NetFile.NetFile}
 use Rattle.kp_net.specs.{Names.same, Names.among, Names.Differ, Names.IsNamed, Names.is_reg_name, Names.is_file_name, Names.is_sample_name, Netlist.Net}
 use Rattle.kp_net.specs.Parts.{no_port, no_reg, no_file, WriteOk, RegOk, FileOk, CellOk, NetOk}
-use Rattle.kp_net.specs.{Widths.KindOk, Widths.wide}
+use Rattle.kp_net.specs.Widths.{KindOk, wide}
 use Rattle.kp_base.specs.Characters.{is_digit}
 use Rattle.kp_vlog.specs.Occurrences.{Occurrence, occurs, declares_port, uses_source, uses_wire, uses_port, is_given, wires_used, right_names, items_names, inits_names, values_names, reset_names, updates_names, samples_names, reset_port_names, wide_port_names, body_names, names, start_in, is_literal, declares_reg}
 use Rattle.kp_vlog.specs.Rules.{name_fits, learns, bad_name, Driven, nothing, drives, all_driven, driver_fits, bad_driver, module_driver}

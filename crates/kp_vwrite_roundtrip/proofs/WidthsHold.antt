@@ -1,8 +1,7 @@
 -- A module that represents a netlist violates no rule of widths.
 use Rattle.std.proofs.Common.{◌≡◌, ◌∙◌, ℕ, zero, suc, ◌+◌, ◌-◌, ◌^◌, ◌≤◌, ◌<◌, List, [], ◌∷◌, ◌++◌, length, get_or, map, Bool, true, Option, Some, None, refl, sym, ap, subst, arith, eq-eqb, false}
 use Rattle.std.proofs.lemmas.Bool.{eqb-true, agree_below_at, cond-true, and_from, false_from_ne_true, le-leb, lt-ltb}
-use Rattle.std.proofs.lemmas.List.Elements.{All-head, All-tail}
-use Rattle.std.proofs.{Math.Nat.pow-le-pow_right, lemmas.List.Sums.sum_by-cons}
+use Rattle.std.proofs.{lemmas.List.Elements.All-head, lemmas.List.Elements.All-tail, Math.Nat.pow-le-pow_right, lemmas.List.Sums.sum_by-cons}
 use Rattle.std.specs.{Prelude.codes, Prelude.All, Prelude.◌==◌, Prelude.◌||◌, Prelude.nat_lt, Prelude.nat_le, Option.is_some, List.sum_by}
 use Rattle.kp_bits.specs.{Word.word, Word.IsWord, declared.operator.BinOp.BinOp}
 use Rattle.kp_bits.specs.Word as bits

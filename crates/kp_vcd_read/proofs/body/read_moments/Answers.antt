@@ -1,7 +1,6 @@
 use Rattle.std.proofs.{Common.◌∙◌, Common.ℕ, Common.Option, Common.sym, Common.ap, lemmas.Result.err_from_is_err_and}
 use Rattle.kp_vcd.specs.declared.dump.Dump.{Dump}
-use Rattle.kp_vcd_read.specs.inner.Meeting.{gives_behind}
-use Rattle.kp_vcd_read.proofs.Meeting.{stops, same_dump}
+use Rattle.kp_vcd_read.{specs.inner.Meeting.gives_behind, proofs.Meeting.stops, proofs.Meeting.same_dump}
 use Rattle.kp_vcd_read.proofs.body.read_moments.Goals as goal
 
 pub returns-in_err-next : goal.returns-in_err-next

@@ -1,5 +1,4 @@
-use Rattle.std.proofs.Common.{◌≡◌, ◌+◌, length, []}
-use Rattle.std.specs.Prelude.{is_some, if◌then◌else◌}
+use Rattle.std.{proofs.Common.◌≡◌, proofs.Common.◌+◌, proofs.Common.length, proofs.Common.[], specs.Prelude.is_some, specs.Prelude.if◌then◌else◌}
 use Rattle.kp_vcd.specs.declared.dump.Dump.{Dump}
 use Rattle.kp_vcd_read.specs.{Reading.first_time, Reading.at, inner.Meeting.gives_from, inner.Meeting.gives_behind}
 use Rattle.kp_vcd_read.proofs.body.read_moments.Given as goal

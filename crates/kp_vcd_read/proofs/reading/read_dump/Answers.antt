@@ -1,7 +1,6 @@
 use Rattle.std.proofs.Common.{◌∙◌, List, sym, ap, ap₂, arith, length, refl, Ok}
 use Rattle.kp_vcd.specs.declared.dump.{Signal.Signal, Moment.Moment}
-use Rattle.kp_vcd_read.specs.{Reading.named, inner.Left.Left}
-use Rattle.kp_vcd_read.proofs.{Counted.left_few, Meeting.stops, Meeting.from_start}
+use Rattle.kp_vcd_read.{specs.Reading.named, specs.inner.Left.Left, proofs.Counted.left_few, proofs.Meeting.stops, proofs.Meeting.from_start}
 use Rattle.kp_vcd_read.proofs.reading.read_dump.Goals as goal
 
 pub returns-in_err-module : goal.returns-in_err-module
